@@ -4,7 +4,15 @@
 mod bytes;
 mod fault;
 mod items;
+mod laws;
+mod reader;
+#[cfg(test)]
+mod tests;
+mod writer;
 
 pub use bytes::Bytes;
 pub use fault::{NoMemory, Short, SubmitRefusal};
 pub use items::{Items, Packets};
+pub use laws::reads_what_was_written;
+pub use reader::{BitReader, field};
+pub use writer::BitWriter;

@@ -1,0 +1,2 @@
+pub mod BitFields
+mod FieldsAgain
