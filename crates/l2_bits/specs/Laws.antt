@@ -22,7 +22,8 @@ ahead_of value None = None
 ahead_of value (Some (values, rest)) = Some (value ∷ values, rest)
 
 -- what is read behind a field
-abbrev pub read_on : Option (ℕ × List Bool) → (List Bool → Option (List ℕ × List Bool)) → Option (List ℕ × List Bool)
+abbrev pub read_on : Option (ℕ × List Bool) → (List Bool → Option (List ℕ × List Bool))
+    → Option (List ℕ × List Bool)
 read_on None behind = None
 read_on (Some (value, rest)) behind = ahead_of value (behind rest)
 

@@ -1,4 +1,4 @@
-ghost use Rattle.std.specs.Prelude.{◌≡◌, [], ◌++◌, IfOk, OnOk, OnErr};
+ghost use Rattle.std.specs.Prelude.{◌≡◌, [], ◌++◌, IfOk, OnOk, OnErr, replicate};
 
 use crate::fault::NoMemory;
 use std::alloc::Global;
@@ -28,6 +28,15 @@ impl Bytes {
         }
     }
 
+    /// The empty list with room for so many octets, which are then added without taking memory again.
+    pub fn with_capacity(alloc: Global, capacity: usize) -> Result<Bytes, NoMemory>
+        ensures { IfOk result (λ bytes. bytes ≡ []) }
+    {
+        Ok(Bytes {
+            octets: Vec::with_capacity(alloc, capacity)?,
+        })
+    }
+
     /// A copy of the octets.
     pub fn from_slice(alloc: Global, from: &[u8]) -> Result<Bytes, NoMemory>
         ensures { IfOk result (λ bytes. bytes ≡ from.now) }
@@ -50,6 +59,16 @@ impl Bytes {
         ensures err { OnErr result (self.new ≡ self.old) }
     {
         self.octets.extend_from_slice(from)?;
+        Ok(())
+    }
+
+    /// Adds an octet `n` times at the end. An `Err` changes nothing.
+    pub fn append_times(&mut self, octet: u8, n: u32) -> Result<(), NoMemory>
+        ensures ok { OnOk result (self.new ≡ self.old ++ replicate n octet) }
+        ensures err { OnErr result (self.new ≡ self.old) }
+    {
+        let len = self.octets.len();
+        self.octets.resize(len + n as usize, octet)?;
         Ok(())
     }
 

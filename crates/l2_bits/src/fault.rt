@@ -26,11 +26,11 @@ pub struct Short {
     pub at_bit: u32,
 }
 
-/// Why an entity does not take an SDU that is submitted to it.
+/// Why an entity does not take an SDU that is submitted to it, numbered from 1; `NoMemory` stands apart.
 #[derive(Clone, Copy, Debug, PartialEq, Eq)]
 pub enum SubmitRefusal {
     /// The SDU has no octets.
-    Empty,
+    Empty = 1,
     /// The SDU has more octets than an SDU may have.
     TooLong,
     /// As many SDUs wait as may wait.

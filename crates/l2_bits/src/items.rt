@@ -65,7 +65,9 @@ impl<T> Items<T> {
 
     /// Adds an item at the end. An `Err` gives it back and changes nothing.
     pub fn push_back(&mut self, one: T) -> Result<(), (T, NoMemory)>
-        ensures { MatchResult result (λ _. self.new ≡ self.old ++ one ∷ []) (λ e. (self.new ≡ self.old) × (e.0 ≡ one)) }
+        ensures { MatchResult result
+            (λ _. self.new ≡ self.old ++ one ∷ [])
+            (λ e. (self.new ≡ self.old) × (e.0 ≡ one)) }
     {
         match self.items.push_back(one) {
             Ok(()) => Ok(()),

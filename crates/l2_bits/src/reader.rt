@@ -42,7 +42,8 @@ impl<'a> BitReader<'a> {
     pub fn take(&mut self, n: u32) -> Result<u32, Short>
         requires { n ≤ 32 }
         ensures ok { IfOk result (λ value. take_field n (left self.old) ≡ Some (value, left self.new)) }
-        ensures short { IfErr result (λ e. (take_field n (left self.old) ≡ None) × (e.at_bit ≡ self.old.at) × (self.new ≡ self.old)) }
+        ensures short { IfErr result
+            (λ e. (take_field n (left self.old) ≡ None) × (e.at_bit ≡ self.old.at) × (self.new ≡ self.old)) }
         ensures at { IfOk result (λ _. self.new.at ≡ self.old.at + n) }
         ensures octets { self.new.octets ≡ self.old.octets }
     {

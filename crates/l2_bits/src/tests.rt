@@ -34,6 +34,12 @@ fn writes_and_reads_fields(rt: HostRuntime) -> Result<(), NoMemory> {
     }
     assert_eq!(rt; reader.take(8), Err(Short { at_bit: 57 }));
     assert_eq!(rt; reader.take(7), Ok(0));
+    let mut half = BitReader::new(&STATUS);
+    let Ok(first) = half.take(32) else {
+        return Err(NoMemory);
+    };
+    assert_eq!(rt; first, 0x000e_00a0);
+    assert_eq!(rt; half.rest(), STATUS.split_at(4).1);
     Ok(())
 }
 
@@ -41,6 +47,11 @@ fn writes_and_reads_fields(rt: HostRuntime) -> Result<(), NoMemory> {
 fn keeps_octets_and_items_in_order(rt: HostRuntime) -> Result<(), NoMemory> {
     let mut first = Bytes::from_slice(rt.alloc(), &[1, 2])?;
     first.append(&[3])?;
+    let mut zeros = Bytes::with_capacity(rt.alloc(), 4)?;
+    zeros.append_times(0, 2)?;
+    assert_eq!(rt; zeros.as_slice(), [0, 0].as_slice());
+    zeros.clear();
+    assert!(rt; zeros.as_slice().is_empty());
     let mut packets = Packets::new(rt.alloc());
     packets.push(first)?;
     let mut others = Packets::new(rt.alloc());

@@ -86,7 +86,8 @@ fn settle(octets: &mut Vec<u8>, pending: u64, count: u32) -> (u64, u32)
     requires few { count < 40 }
     requires fits { pending < 2 ^ count }
     requires room { vec_len octets.old + 4 ≤ vec_capacity octets.old }
-    ensures same { bits_of octets.new.items ++ bits result.1 result.0 ≡ bits_of octets.old.items ++ bits count pending }
+    ensures same { bits_of octets.new.items ++ bits result.1 result.0
+        ≡ bits_of octets.old.items ++ bits count pending }
     ensures part { result.1 < 8 }
     ensures below { result.0 < 2 ^ result.1 }
 {
