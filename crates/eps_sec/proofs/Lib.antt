@@ -1,0 +1,5 @@
+pub mod WordLemmas
+pub mod TableLemmas
+pub mod CipherLemmas
+pub mod StreamLemmas
+pub mod CodeLemmas

@@ -1,0 +1,54 @@
+-- A text to which a stream is added, octet by octet.
+use Rattle.std.proofs.Common.{◌≡◌, ◌<◌, ◌≤◌, ℕ, zero, suc, ◌+◌, ◌*◌, ◌/◌, ◌%◌, ◌∙◌, List, [], ◌∷◌, ◌++◌, length, take, drop, slice_index, slice_set, refl, ap, arith, add-one, min, inl, inr, sym}
+use Rattle.std.proofs.lemmas.List.{take_all, drop_all, append-nil}
+use Rattle.std.proofs.lemmas.Bool.{cases_lt}
+use Rattle.std.specs.Int.Bits.{bit_xor, xor_assoc, xor_self, xor_zero_r}
+use Rattle.eps_sec.specs.Aes.{aes}
+use Rattle.eps_sec.specs.Modes.{counter_block, stream_octet, add_stream}
+
+-- the text with its first k octets done
+abbrev pub done_to : (ℕ → ℕ) → ℕ → List ℕ → List ℕ
+done_to f k t = add_stream f 0 (take k t) ++ drop k t
+
+step : (f : ℕ → ℕ) (n k m : ℕ) (t : List ℕ) → m ≡ n + k → k < length t → slice_set (add_stream f n (take k t) ++ drop k t) k (bit_xor (slice_index t k) (f m)) ≡ add_stream f n (take (suc k) t) ++ drop (suc k) t
+step f n k m [] e lt = absurd (omega arith)
+step f n zero m (x ∷ xs) e lt = let same : m ≡ n = omega arith in ap (λ (j : ℕ). bit_xor x (f j) ∷ xs) same
+step f n (suc k) m (x ∷ xs) e lt = ap (λ (ys : List ℕ). bit_xor x (f n) ∷ ys) (step f (n + 1) k m xs (omega arith) (omega arith))
+
+at_seam : (f : ℕ → ℕ) (n k : ℕ) (t : List ℕ) → k < length t → slice_index (add_stream f n (take k t) ++ drop k t) k ≡ slice_index t k
+at_seam f n k [] lt = absurd (omega arith)
+at_seam f n zero (x ∷ xs) lt = refl
+at_seam f n (suc k) (x ∷ xs) lt = at_seam f (n + 1) k xs (omega arith)
+
+-- one more octet
+pub done-more : (f : ℕ → ℕ) (k v : ℕ) (t now : List ℕ) → k < length t → now ≡ done_to f k t → v ≡ bit_xor (slice_index now k) (f k) → slice_set now k v ≡ done_to f (k + 1) t
+done-more f k v t now lt e w =
+    let here : slice_index now k ≡ slice_index t k = rw e (at_seam f 0 k t lt) in
+    rw (e, w, here, add-one) (step f 0 k k t (omega arith) lt)
+
+-- nothing is left behind the end
+pub done-all : (f : ℕ → ℕ) (k : ℕ) (t : List ℕ) → length t ≤ k → done_to f k t ≡ add_stream f 0 t
+done-all f k t le = rw (take_all k t le, drop_all k t le) (append-nil (add_stream f 0 t))
+
+-- as far as the text goes
+pub done-until : (f : ℕ → ℕ) (k m : ℕ) (t : List ℕ) → k ≡ min (length t) m → done_to f k t ≡ done_to f m t
+done-until f k m t e =
+    elim (cases_lt m (length t)) [
+      | inl a ↦ let same : k ≡ m = omega arith in ap (λ (n : ℕ). done_to f n t) same
+      | inr b ↦ done-all f k t (omega arith) ∙ sym (done-all f m t (omega arith))
+    ]
+
+-- the octet of the stream, in the block at hand
+pub stream_octet_is : (key block : List ℕ) (first i j k : ℕ) → block ≡ aes key (counter_block first i) → k ≡ 16 * i + j → j < 16 → slice_index block j ≡ stream_octet key first k
+unfolding stream_octet
+stream_octet_is key block first i j k e at lt =
+    let number : k / 16 ≡ i = omega arith in
+    let place : k % 16 ≡ j = omega arith in
+    rw (number, place) (ap (λ (b : List ℕ). slice_index b j) e)
+
+-- what is added twice is gone
+pub add_stream-twice : (f : ℕ → ℕ) (n : ℕ) (t : List ℕ) → add_stream f n (add_stream f n t) ≡ t
+add_stream-twice f n [] = refl
+add_stream-twice f n (x ∷ xs) =
+    let here : bit_xor (bit_xor x (f n)) (f n) ≡ x = xor_assoc x (f n) (f n) ∙ ap (bit_xor x) (xor_self (f n)) ∙ xor_zero_r x in
+    rw (here, add_stream-twice f (n + 1) xs) refl

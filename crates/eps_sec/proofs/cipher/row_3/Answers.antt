@@ -1,0 +1,7 @@
+use Rattle.std.proofs.lemmas.Nat.{and_mask}
+use Rattle.eps_sec.specs.Words.{column}
+use Rattle.eps_sec.proofs.cipher.row_3.Goals as goal
+
+pub returns : goal.returns
+unfolding column
+returns c = and_mask (c.args.word) 8

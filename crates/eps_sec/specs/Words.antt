@@ -1,0 +1,24 @@
+-- The words of 32 bits that the program computes with: a word is a column, its highest octet in row 0.
+use Rattle.std.specs.Prelude.{◌≡◌, ◌<◌, ℕ, List, [], ◌∷◌, ◌++◌, slice_index, slice_index_or}
+use Rattle.std.specs.Int.{w32, to_be_bytes}
+use Rattle.eps_sec.specs.Aes.{mix_octet, round_key}
+
+-- the four octets of a word
+unfoldable pub column : ℕ → List ℕ
+column w = to_be_bytes w32 w
+
+-- the octet of a word in row r
+abbrev pub row : ℕ → ℕ → ℕ
+row w r = slice_index (column w) r
+
+-- the 16 octets of four words
+unfoldable pub state : List ℕ → List ℕ
+state ws = column (slice_index ws 0) ++ column (slice_index ws 1) ++ column (slice_index ws 2) ++ column (slice_index ws 3)
+
+-- the column p q r s, mixed
+abbrev pub mix_column : ℕ → ℕ → ℕ → ℕ → List ℕ
+mix_column p q r s = mix_octet p q r s ∷ mix_octet q r s p ∷ mix_octet r s p q ∷ mix_octet s p q r ∷ []
+
+-- the round keys ks are those of the first of them
+abbrev pub AreRoundKeys : List (List ℕ) → Type 0
+AreRoundKeys ks = (n : ℕ) → n < 11 → state (slice_index_or ks n []) ≡ round_key (state (slice_index_or ks 0 [])) n

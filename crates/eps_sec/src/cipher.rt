@@ -1,0 +1,183 @@
+//! The block cipher over words.
+//!
+//! A state is four words, one for each column, with row 0 in the highest octet. A round looks up what each octet adds to
+//! its column, so that SubBytes, ShiftRows and MixColumns are four look-ups a column. One table serves all rows, since
+//! what an octet adds turns with its row.
+
+ghost use Rattle.std.specs.Prelude.{◌≡◌, ℕ, [], ◌∷◌};
+ghost use Rattle.eps_sec.specs.Field.{sub_byte};
+ghost use Rattle.eps_sec.specs.Aes.{add_words, sub_word, rot_word, power_of_x, next_key, sub_bytes, shift_rows, mix_columns, add_round_key, aes};
+ghost use Rattle.eps_sec.specs.Words.{column, row, mix_column, state};
+
+use crate::field::times;
+use crate::keys::Key;
+use crate::tables::{column, sub_byte};
+use std::marker::Model;
+
+/// The round keys of a key (FIPS 197, section 5.2). Contracts see the key itself.
+#[derive(Debug, Drop)]
+pub struct Schedule {
+    keys: [[u32; 4]; 11],
+}
+
+impl Model for Schedule {
+    ghost use Rattle.std.specs.Prelude.{ℕ, List, [], slice_index_or};
+    ghost use Rattle.eps_sec.specs.Words.{state, AreRoundKeys};
+
+    ghost Value = { List ℕ };
+
+    ghost view = { λ s. state (slice_index_or s.keys 0 []) };
+
+    ghost invariant = { λ s. AreRoundKeys s.keys };
+}
+
+impl Schedule {
+    /// Expands the key.
+    pub fn new(key: &Key) -> Schedule
+        ensures { result ≡ key.now.octets }
+    {
+        let mut keys = [words_of(&key.octets); 11];
+        let mut power = 1;
+        for n in 0..10 {
+            keys[n + 1] = next_key(&keys[n], power);
+            power = times(2, power);
+        }
+        Schedule { keys }
+    }
+}
+
+/// The block under the key (FIPS 197, section 5.1).
+pub fn encrypt_block(schedule: &Schedule, block: &[u8; 16]) -> [u8; 16]
+    ensures { result ≡ aes schedule.now block.now }
+{
+    let keys = &schedule.keys;
+    let mut state = words_of(block);
+    for n in 0..9 {
+        state = mixed_round(&add_key(&keys[n], &state));
+    }
+    let last = last_round(&add_key(&keys[9], &state));
+    octets_of(&add_key(&keys[10], &last))
+}
+
+// The round key after `k`, with the power of x that its number has.
+fn next_key(k: &[u32; 4], power: u8) -> [u32; 4]
+    ensures { (n : ℕ) → power ≡ power_of_x n → state result ≡ next_key n (state k.now) }
+{
+    let a = k[0] ^ turned(k[3], power);
+    let b = k[1] ^ a;
+    let c = k[2] ^ b;
+    let d = k[3] ^ c;
+    [a, b, c, d]
+}
+
+// The word turned and substituted, with the round constant.
+fn turned(word: u32, power: u8) -> u32
+    ensures { column result ≡ add_words (sub_word (rot_word (column word))) (power ∷ 0 ∷ 0 ∷ 0 ∷ []) }
+{
+    u32::from_be_bytes([
+        sub_byte(row_1(word)) ^ power,
+        sub_byte(row_2(word)),
+        sub_byte(row_3(word)),
+        sub_byte(row_0(word)),
+    ])
+}
+
+fn row_0(word: u32) -> u8
+    ensures { result ≡ row word 0 }
+{
+    (word >> 24) as u8
+}
+
+fn row_1(word: u32) -> u8
+    ensures { result ≡ row word 1 }
+{
+    (word >> 16 & 255) as u8
+}
+
+fn row_2(word: u32) -> u8
+    ensures { result ≡ row word 2 }
+{
+    (word >> 8 & 255) as u8
+}
+
+fn row_3(word: u32) -> u8
+    ensures { result ≡ row word 3 }
+{
+    (word & 255) as u8
+}
+
+fn add_key(k: &[u32; 4], s: &[u32; 4]) -> [u32; 4]
+    ensures { state result ≡ add_round_key (state k.now) (state s.now) }
+{
+    [s[0] ^ k[0], s[1] ^ k[1], s[2] ^ k[2], s[3] ^ k[3]]
+}
+
+// SubBytes, ShiftRows and MixColumns.
+fn mixed_round(s: &[u32; 4]) -> [u32; 4]
+    ensures { state result ≡ mix_columns (shift_rows (sub_bytes (state s.now))) }
+{
+    let [a, b, c, d] = *s;
+    [
+        mixed(a, b, c, d),
+        mixed(b, c, d, a),
+        mixed(c, d, a, b),
+        mixed(d, a, b, c),
+    ]
+}
+
+// The column whose rows come from these words.
+fn mixed(a: u32, b: u32, c: u32, d: u32) -> u32
+    ensures { column result ≡ mix_column (sub_byte (row a 0)) (sub_byte (row b 1)) (sub_byte (row c 2)) (sub_byte (row d 3)) }
+{
+    let from_3 = column(row_3(d)).rotate_right(8);
+    let from_2 = (column(row_2(c)) ^ from_3).rotate_right(8);
+    let from_1 = (column(row_1(b)) ^ from_2).rotate_right(8);
+    column(row_0(a)) ^ from_1
+}
+
+// SubBytes and ShiftRows.
+fn last_round(s: &[u32; 4]) -> [u32; 4]
+    ensures { state result ≡ shift_rows (sub_bytes (state s.now)) }
+{
+    let [a, b, c, d] = *s;
+    [
+        substituted(a, b, c, d),
+        substituted(b, c, d, a),
+        substituted(c, d, a, b),
+        substituted(d, a, b, c),
+    ]
+}
+
+// The column whose rows come from these words, not mixed.
+fn substituted(a: u32, b: u32, c: u32, d: u32) -> u32
+    ensures { column result ≡ sub_byte (row a 0) ∷ sub_byte (row b 1) ∷ sub_byte (row c 2) ∷ sub_byte (row d 3) ∷ [] }
+{
+    u32::from_be_bytes([
+        sub_byte(row_0(a)),
+        sub_byte(row_1(b)),
+        sub_byte(row_2(c)),
+        sub_byte(row_3(d)),
+    ])
+}
+
+fn words_of(block: &[u8; 16]) -> [u32; 4]
+    ensures { state result ≡ block.now }
+{
+    let [a, b, c, d, e, f, g, h, i, j, k, l, m, n, o, p] = *block;
+    [
+        u32::from_be_bytes([a, b, c, d]),
+        u32::from_be_bytes([e, f, g, h]),
+        u32::from_be_bytes([i, j, k, l]),
+        u32::from_be_bytes([m, n, o, p]),
+    ]
+}
+
+fn octets_of(words: &[u32; 4]) -> [u8; 16]
+    ensures { result ≡ state words.now }
+{
+    let [a, b, c, d] = words[0].to_be_bytes();
+    let [e, f, g, h] = words[1].to_be_bytes();
+    let [i, j, k, l] = words[2].to_be_bytes();
+    let [m, n, o, p] = words[3].to_be_bytes();
+    [a, b, c, d, e, f, g, h, i, j, k, l, m, n, o, p]
+}

@@ -1,0 +1,69 @@
+//! 128-EEA2: AES-128 in counter mode (TS 33.401, B.1.3).
+
+ghost use Rattle.std.specs.Prelude.{◌≡◌, ◌<◌};
+ghost use Rattle.eps_sec.specs.Modes.{prefix, first_counter, counter_block, stream_octet, add_stream, ciphered};
+
+use crate::cipher::{Schedule, encrypt_block};
+use crate::keys::Cipher;
+
+/// Ciphers or deciphers `text` in place; both are the same.
+///
+/// `count` is the COUNT of the PDU, `bearer` its radio bearer's identity less 1, and `direction` is 0 on the uplink and
+/// 1 on the downlink. `Eea0` leaves the text as it is.
+pub fn eea_apply(
+    schedule: &Schedule,
+    alg: Cipher,
+    count: u32,
+    bearer: u32,
+    direction: u32,
+    text: &mut [u8],
+)
+    requires bearer { bearer < 32 }
+    requires direction { direction < 2 }
+    ensures text { text.new ≡ ciphered alg schedule.now count bearer direction text.old }
+    ensures back { ciphered alg schedule.now count bearer direction text.new ≡ text.old }
+{
+    match alg {
+        Cipher::Eea0 => {}
+        Cipher::Eea2 => add_stream(schedule, first_counter(count, bearer, direction), text),
+    }
+}
+
+/// COUNT, BEARER and DIRECTION as both algorithms take them, with 26 zero bits.
+pub(crate) fn prefix(count: u32, bearer: u32, direction: u32) -> [u8; 8]
+    requires bearer { bearer < 32 }
+    requires direction { direction < 2 }
+    ensures { result ≡ prefix count bearer direction }
+{
+    let [a, b, c, d] = count.to_be_bytes();
+    [a, b, c, d, (8 * bearer + 4 * direction) as u8, 0, 0, 0]
+}
+
+fn first_counter(count: u32, bearer: u32, direction: u32) -> u128
+    requires bearer { bearer < 32 }
+    requires direction { direction < 2 }
+    ensures { result ≡ first_counter count bearer direction }
+{
+    let [a, b, c, d, e, f, g, h] = prefix(count, bearer, direction);
+    u128::from_be_bytes([a, b, c, d, e, f, g, h, 0, 0, 0, 0, 0, 0, 0, 0])
+}
+
+fn counter_block(first: u128, i: usize) -> [u8; 16]
+    ensures { result ≡ counter_block first i }
+{
+    first.wrapping_add(i as u128).to_be_bytes()
+}
+
+/// Adds the encrypted counter blocks from `first` on to `text`.
+pub(crate) fn add_stream(schedule: &Schedule, first: u128, text: &mut [u8])
+    ensures { text.new ≡ add_stream (stream_octet schedule.now first) 0 text.old }
+{
+    for i in 0..text.len().div_ceil(16) {
+        let block = encrypt_block(schedule, &counter_block(first, i));
+        let start = 16 * i;
+        let end = text.len().min(start + 16);
+        for k in start..end {
+            text[k] ^= block[k - start];
+        }
+    }
+}
