@@ -1,0 +1,9 @@
+pub mod Walk
+pub mod Steps
+pub mod Spell
+pub mod ItemKinds
+pub mod Order
+pub mod HeaderOctets
+pub mod Accepted
+pub mod Found
+pub mod Canonical
