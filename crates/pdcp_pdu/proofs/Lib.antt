@@ -1,0 +1,5 @@
+pub mod UserAccepts
+pub mod UserFound
+pub mod UserRefusals
+pub mod SrbLaws
+pub mod Told

@@ -1,0 +1,5 @@
+pub mod Grammar
+pub mod Laws
+pub mod Pdus
+pub mod Reading
+pub mod Refusals
