@@ -1,0 +1,15 @@
+pub mod Steps
+pub mod Units
+pub mod Bodies
+pub mod Umds
+pub mod Amds
+pub mod Told
+pub mod EntrySteps
+pub mod Statuses
+pub mod StatusFound
+pub mod AmPdus
+pub mod UnitsWritten
+pub mod EntriesWritten
+pub mod Again
+pub mod RunSteps
+pub mod PlaceLaws

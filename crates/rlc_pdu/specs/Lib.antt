@@ -1,0 +1,12 @@
+pub mod Units
+pub mod Pdus
+pub mod Status
+pub mod Grammar
+pub mod Entries
+pub mod Refusals
+pub mod Reading
+pub mod Writing
+pub mod Views
+pub mod Runs
+pub mod Places
+pub mod Laws
