@@ -1,0 +1,3 @@
+pub mod Within
+pub mod Drx
+pub mod DrxHistory

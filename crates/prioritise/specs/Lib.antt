@@ -1,0 +1,4 @@
+pub mod Channels
+pub mod Shares
+pub mod Levels
+pub mod ShareLaws
