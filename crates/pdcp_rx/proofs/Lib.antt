@@ -1,0 +1,5 @@
+pub mod BitmapLemmas
+pub mod EndLemmas
+pub mod HeldLemmas
+pub mod LawLemmas
+pub mod ReadLemmas
