@@ -1,0 +1,70 @@
+-- One step of what goes over what is to be given again.
+use Rattle.std.proofs.Common.{◌≡◌, ◌≤◌, ℕ, ◌+◌, ◌-◌, Bool, true, false, List, [], ◌∷◌, ◌++◌, length, map, length-append, refl, ap, arith}
+use Rattle.pdcp_tx.specs.declared.given.Sent.{Sent}
+use Rattle.pdcp_tx.specs.declared.given.Entry.{Entry}
+use Rattle.pdcp_tx.specs.declared.given.Entry.TheVariants.{Data, Own, Gone}
+use Rattle.pdcp_tx.specs.Given.{heard, tells, untold, data_of, sent_octets}
+
+pub data_more : (es : List Entry) (s : Sent) → data_of (es ++ Data s ∷ []) ≡ data_of es ++ s ∷ []
+data_more [] s = refl
+data_more (Data x ∷ xs) s = ap (λ l. x ∷ l) (data_more xs s)
+data_more (Own ∷ xs) s = data_more xs s
+data_more (Gone ∷ xs) s = data_more xs s
+
+pub octets_more : (ss : List Sent) (s : Sent) → sent_octets (ss ++ s ∷ []) ≡ sent_octets ss + length s.octets
+octets_more [] s = omega arith
+octets_more (x ∷ xs) s = let ih = octets_more xs s in omega arith
+
+pub length_more : (ss : List Sent) (s : Sent) → length (ss ++ s ∷ []) ≡ length ss + 1
+length_more ss s = length-append ss (s ∷ [])
+
+pub ruleset pushes = (data_more, octets_more, length_more)
+
+pub octets_first : (old new : List Sent) (s : Sent) → old ≡ s ∷ new → sent_octets new ≡ sent_octets old - length s.octets
+octets_first old new s e = rw e (omega arith)
+
+pub length_first : (old new : List Sent) (s : Sent) → old ≡ s ∷ new → length new ≡ length old - 1
+length_first old new s e = rw e (omega arith)
+
+pub ruleset pops = (octets_first, length_first)
+
+heard_step : (from : ℕ) (bitmap : List ℕ) (s : Sent) (es : List Entry) (b : Bool) → tells from bitmap s.count ≡ b → data_of (map (heard from bitmap) es) ≡ untold from bitmap (data_of es) → data_of (map (heard from bitmap) (Data s ∷ es)) ≡ untold from bitmap (s ∷ data_of es)
+heard_step from bitmap s es true e h = rw e h
+heard_step from bitmap s es false e h = rw e (ap (λ l. s ∷ l) h)
+
+pub data_heard : (from : ℕ) (bitmap : List ℕ) (es : List Entry) → data_of (map (heard from bitmap) es) ≡ untold from bitmap (data_of es)
+data_heard from bitmap [] = refl
+data_heard from bitmap (Data s ∷ es) = heard_step from bitmap s es (tells from bitmap s.count) refl (data_heard from bitmap es)
+data_heard from bitmap (Own ∷ es) = data_heard from bitmap es
+data_heard from bitmap (Gone ∷ es) = data_heard from bitmap es
+
+octets_step : (from : ℕ) (bitmap : List ℕ) (s : Sent) (ss : List Sent) (b : Bool) → tells from bitmap s.count ≡ b → sent_octets (untold from bitmap ss) ≤ sent_octets ss → sent_octets (untold from bitmap (s ∷ ss)) ≤ sent_octets (s ∷ ss)
+octets_step from bitmap s ss true e h = rw e (omega arith)
+octets_step from bitmap s ss false e h = rw e (omega arith)
+
+pub octets_less : (from : ℕ) (bitmap : List ℕ) (ss : List Sent) → sent_octets (untold from bitmap ss) ≤ sent_octets ss
+octets_less from bitmap [] = omega arith
+octets_less from bitmap (s ∷ ss) = octets_step from bitmap s ss (tells from bitmap s.count) refl (octets_less from bitmap ss)
+
+length_step : (from : ℕ) (bitmap : List ℕ) (s : Sent) (ss : List Sent) (b : Bool) → tells from bitmap s.count ≡ b → length (untold from bitmap ss) ≤ length ss → length (untold from bitmap (s ∷ ss)) ≤ length (s ∷ ss)
+length_step from bitmap s ss true e h = rw e (omega arith)
+length_step from bitmap s ss false e h = rw e (omega arith)
+
+pub length_less : (from : ℕ) (bitmap : List ℕ) (ss : List Sent) → length (untold from bitmap ss) ≤ length ss
+length_less from bitmap [] = omega arith
+length_less from bitmap (s ∷ ss) = length_step from bitmap s ss (tells from bitmap s.count) refl (length_less from bitmap ss)
+
+pub ruleset hears = (data_heard, octets_less, length_less)
+
+-- the sums of a first entry and of the others
+pub octets_split : (e : Entry) (es : List Entry) → sent_octets (data_of (e ∷ es)) ≡ sent_octets (data_of (e ∷ [])) + sent_octets (data_of es)
+octets_split (Data s) es = omega arith
+octets_split Own es = omega arith
+octets_split Gone es = omega arith
+
+pub length_split : (e : Entry) (es : List Entry) → length (data_of (e ∷ es)) ≡ length (data_of (e ∷ [])) + length (data_of es)
+length_split (Data s) es = omega arith
+length_split Own es = omega arith
+length_split Gone es = omega arith
+
+pub ruleset sums = (octets_split, length_split)

@@ -1,0 +1,221 @@
+//! SDUs that are to be given to RLC again.
+
+ghost use Rattle.std.specs.Prelude.{◌≡◌, ◌+◌, ◌≤◌, ◌^◌, [], ◌∷◌, ◌++◌, ◌==◌, length, slice_get, option_map, OnOk, OnErr, MatchOption};
+ghost use Rattle.pdcp_tx.specs.Given.{first_unacked, sent_octets, untold, data_of, kept_on, kept_all};
+
+use crate::given::{Entry, Sent, hear_all};
+use l2_bits::NoMemory;
+use std::alloc::Global;
+use std::collections::VecDeque;
+use std::marker::Model;
+
+/// Fewer octets than this are ever kept.
+const LIMIT: u64 = 1 << 62;
+
+/// SDUs in the order of their COUNTs. One that a report confirmed stays as `Gone` until it comes to the front; a
+/// contract sees only the others.
+#[derive(Drop)]
+pub struct Again {
+    ring: VecDeque<Entry>,
+    count: u64,
+    octets: u64,
+}
+
+impl Model for Again {
+    ghost use Rattle.std.specs.Prelude.{◌≡◌, ◌≤◌, ◌^◌, List, length};
+    ghost use Rattle.pdcp_tx.specs.declared.given.Sent.{Sent as Kept};
+    ghost use Rattle.pdcp_tx.specs.Given.{data_of, sent_octets};
+
+    ghost Value = { List Kept };
+
+    ghost view = { λ a. data_of a.ring.items };
+
+    ghost invariant = { λ a. (a.count ≡ length (data_of a.ring.items)) × (a.octets ≡ sent_octets (data_of a.ring.items)) × (a.count ≤ 2 ^ 32) × (a.octets ≤ 2 ^ 62) };
+}
+
+impl Again {
+    /// No SDU. It takes no memory.
+    pub fn new(alloc: Global) -> Again
+        ensures { result ≡ [] }
+    {
+        Again {
+            ring: VecDeque::new(alloc),
+            count: 0,
+            octets: 0,
+        }
+    }
+
+    /// The number of SDUs.
+    pub fn len(&self) -> u64
+        ensures value { result ≡ length self.now }
+        ensures below { result ≤ 2 ^ 32 }
+    {
+        self.count
+    }
+
+    /// The octets of all SDUs.
+    pub fn octets(&self) -> u64
+        ensures value { result ≡ sent_octets self.now }
+        ensures below { result ≤ 2 ^ 62 }
+    {
+        self.octets
+    }
+
+    /// The first COUNT that isn't confirmed.
+    pub fn first_unacked(&self) -> Option<u32>
+        ensures { result ≡ first_unacked self.now }
+    {
+        first_unacked(&self.ring)
+    }
+
+    /// The first COUNT.
+    pub fn first(&self) -> Option<u32>
+        ensures { result ≡ option_map (λ s. s.count) (slice_get self.now 0) }
+    {
+        first_data(&self.ring)
+    }
+
+    /// Adds an SDU at the end. An `Err` changes nothing.
+    #[tactic(auto, using(crate::proofs::AgainSteps::pushes))]
+    pub fn push(&mut self, sent: Sent) -> Result<(), NoMemory>
+        ensures ok { OnOk result (self.new ≡ self.old ++ sent ∷ []) }
+        ensures err { OnErr result (self.new ≡ self.old) }
+    {
+        let octets = self.octets.saturating_add(u64::from(sent.octets.len()));
+        if octets >= LIMIT || self.count >= 1 << 32 {
+            return Err(NoMemory);
+        }
+        self.ring.push_back(Entry::Data(sent))?;
+        self.octets = octets;
+        self.count += 1;
+        Ok(())
+    }
+
+    /// Takes out the first SDU.
+    #[tactic(auto, using(crate::proofs::AgainSteps::pops))]
+    pub fn pop(&mut self) -> Option<Sent>
+        ensures { MatchOption result ((self.old ≡ []) × (self.new ≡ [])) (λ s. self.old ≡ s ∷ self.new) }
+    {
+        let sent = pop_data(&mut self.ring)?;
+        self.octets = self.octets.saturating_sub(u64::from(sent.octets.len()));
+        self.count = self.count.saturating_sub(1);
+        Some(sent)
+    }
+
+    /// A status report has come: what it confirms isn't taken again.
+    pub fn hear(&mut self, from: u64, bitmap: &[u8])
+        ensures { self.new ≡ untold from bitmap.now self.old }
+    {
+        hear_data(&mut self.ring, from, bitmap);
+        self.octets = octets_all(&self.ring);
+        self.count = count_all(&self.ring);
+    }
+}
+
+fn pop_data(ring: &mut VecDeque<Entry>) -> Option<Sent>
+    ensures { MatchOption result ((data_of ring.old.items ≡ []) × (data_of ring.new.items ≡ [])) (λ s. data_of ring.old.items ≡ s ∷ data_of ring.new.items) }
+{
+    while let Some(entry) = ring.pop_front() {
+        if let Entry::Data(sent) = entry {
+            return Some(sent);
+        }
+    }
+    None
+}
+
+fn first_unacked(ring: &VecDeque<Entry>) -> Option<u32>
+    ensures { result ≡ first_unacked (data_of ring.now.items) }
+{
+    for entry in ring.iter() {
+        if let Entry::Data(sent) = entry {
+            if !sent.acked {
+                return Some(sent.count);
+            }
+        }
+    }
+    None
+}
+
+fn data_octets(entry: &Entry) -> u64
+    ensures { result ≡ sent_octets (data_of (entry.now ∷ [])) }
+{
+    match entry {
+        Entry::Data(sent) => u64::from(sent.octets.len()),
+        Entry::Own => 0,
+        Entry::Gone => 0,
+    }
+}
+
+fn data_count(entry: &Entry) -> u64
+    ensures { result ≡ length (data_of (entry.now ∷ [])) }
+{
+    match entry {
+        Entry::Data(_) => 1,
+        Entry::Own => 0,
+        Entry::Gone => 0,
+    }
+}
+
+#[tactic(auto, using(crate::proofs::AgainSteps::sums))]
+fn octets_all(ring: &VecDeque<Entry>) -> u64
+    requires { sent_octets (data_of ring.now.items) ≤ 2 ^ 62 }
+    ensures { result ≡ sent_octets (data_of ring.now.items) }
+{
+    let mut sum = 0;
+    for entry in ring.iter() {
+        sum += data_octets(entry);
+    }
+    sum
+}
+
+#[tactic(auto, using(crate::proofs::AgainSteps::sums))]
+fn count_all(ring: &VecDeque<Entry>) -> u64
+    requires { length (data_of ring.now.items) ≤ 2 ^ 62 }
+    ensures { result ≡ length (data_of ring.now.items) }
+{
+    let mut sum = 0;
+    for entry in ring.iter() {
+        sum += data_count(entry);
+    }
+    sum
+}
+
+#[tactic(auto, using(crate::proofs::AgainSteps::hears))]
+fn hear_data(ring: &mut VecDeque<Entry>, from: u64, bitmap: &[u8])
+    ensures data { data_of ring.new.items ≡ untold from bitmap.now (data_of ring.old.items) }
+    ensures octets { sent_octets (data_of ring.new.items) ≤ sent_octets (data_of ring.old.items) }
+    ensures count { length (data_of ring.new.items) ≤ length (data_of ring.old.items) }
+{
+    hear_all(ring, from, bitmap);
+}
+
+/// Adds an SDU, unless it is confirmed and would be the first.
+pub(crate) fn keep_on(sent: Sent, out: &mut Again) -> Result<(), NoMemory>
+    ensures { OnOk result (out.new ≡ kept_on out.old sent) }
+{
+    if sent.acked && out.len() == 0 {
+        return Ok(());
+    }
+    out.push(sent)
+}
+
+/// Moves those that were to be given again behind others.
+pub(crate) fn move_again(mut old: Again, out: &mut Again) -> Result<(), NoMemory>
+    ensures { OnOk result (out.new ≡ kept_all out.old old) }
+{
+    while let Some(sent) = old.pop() {
+        keep_on(sent, out)?;
+    }
+    Ok(())
+}
+
+fn first_data(ring: &VecDeque<Entry>) -> Option<u32>
+    ensures { result ≡ option_map (λ s. s.count) (slice_get (data_of ring.now.items) 0) }
+{
+    for entry in ring.iter() {
+        if let Entry::Data(sent) = entry {
+            return Some(sent.count);
+        }
+    }
+    None
+}
