@@ -1,0 +1,9 @@
+use Rattle.std.proofs.Common.{◌≡◌, length}
+use Rattle.air_text.specs.Words.{texts, is_twice}
+use Rattle.air_text.proofs.options.has_twice.Given as goal
+
+abbrev pub invariant-loop-words : goal.invariant-loop-words
+invariant-loop-words l = is_twice (texts l.words) ≡ is_twice (texts l.fn.words)
+
+abbrev pub decreases-loop-words : goal.decreases-loop-words
+decreases-loop-words l = length l.words

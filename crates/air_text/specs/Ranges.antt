@@ -1,0 +1,27 @@
+-- The fields of a line in their ranges.
+use Rattle.std.specs.Prelude.{ℕ, ◌≤◌, List, length}
+use Rattle.air_text.specs.declared.line.Line.{Line}
+use Rattle.air_text.specs.declared.line.Line.TheVariants as lines
+
+-- an SDU of 1 to 8188 octets
+pub record IsSdu (octets : List ℕ) : Type 0 where
+  pub some : 1 ≤ length octets
+  pub short : length octets ≤ 8188
+
+-- a block of 1 to 9422 octets
+pub record IsBlock (octets : List ℕ) : Type 0 where
+  pub some : 1 ≤ length octets
+  pub short : length octets ≤ 9422
+
+-- both grants of a TTI
+pub record AreGrants (upward downward : ℕ) : Type 0 where
+  pub up : upward ≤ 9422
+  pub down : downward ≤ 9422
+
+-- the SDUs, blocks and grants of a line
+abbrev pub IsInRange : Line → Type 0
+IsInRange (lines.Submit side lcid octets) = IsSdu octets
+IsInRange (lines.Tti up_grant up down_grant down) = AreGrants up_grant down_grant
+IsInRange (lines.Drain grant) = grant ≤ 9422
+IsInRange (lines.Forge side octets) = IsBlock octets
+IsInRange line = Unit {0}
