@@ -1,0 +1,41 @@
+use air_text::LineRefusal;
+use thiserror::Error;
+
+/// Why a line of the grammar is not run.
+#[derive(Clone, Copy, Debug, PartialEq, Eq, Error)]
+pub enum RunRefusal {
+    /// There is no bearer on the LCID.
+    #[error("unknown bearer")]
+    UnknownBearer,
+    /// There is a bearer on the LCID already.
+    #[error("bearer twice")]
+    BearerTwice,
+    /// A configuration stands behind a line that is none.
+    #[error("configured late")]
+    ConfiguredLate,
+    /// The program can't play the line as yet.
+    #[error("unbuilt")]
+    Unbuilt,
+}
+
+/// Why a line was not run, or not to its end.
+#[derive(Clone, Copy, Debug, PartialEq, Eq)]
+pub enum StepFault {
+    /// The line breaks a rule of the run; nothing was changed or written.
+    Refused(RunRefusal),
+    /// The sink failed.
+    WriteFault,
+    /// Memory ran out.
+    NoMemory,
+}
+
+/// Why an input was refused at a line.
+#[derive(Clone, Copy, Debug, PartialEq, Eq)]
+pub enum Reason {
+    /// The line is outside the grammar.
+    Line(LineRefusal),
+    /// The line breaks a rule of the run.
+    Run(RunRefusal),
+    /// More than 1,000,000 lines.
+    Lines,
+}

@@ -1,0 +1,5 @@
+pub mod Nothing
+pub mod Turning
+pub mod Parting
+pub mod Gathering
+pub mod Rows

@@ -1,0 +1,17 @@
+use Rattle.std.proofs.Common.{◌≡◌, ◌≤◌}
+use Rattle.std.specs.Prelude.{IsSome}
+use Rattle.l2_io.specs.declared.lines.Stand.TheVariants.{Open}
+use Rattle.air_run.specs.Journal.{script, journal_of}
+use Rattle.l2_top.specs.Plays.{HasGathered}
+use Rattle.l2_top.proofs.playing.play.Given as goal
+
+abbrev pub invariant-loop-number : goal.invariant-loop-number
+invariant-loop-number g l = record {
+  gathers : HasGathered script journal_of (g.S.Source.left l.initial.source) (g.S.Source.left l.source) (g.K.Sink.written l.initial.out) (g.K.Sink.written l.out) l.gathered.octets l.run l.number l.lines.kept;
+  live : IsSome l.run;
+  few : l.number ≤ 1000001;
+  longest : l.lines.longest ≡ 20000;
+  open_ : l.lines.stand ≡ Open;
+  source_count : g.S.Source.faults l.initial.source ≤ g.S.Source.faults l.source;
+  out_count : g.K.Sink.faults l.initial.out ≤ g.K.Sink.faults l.out;
+}

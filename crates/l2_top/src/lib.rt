@@ -1,0 +1,13 @@
+//! The commands of the program, from the words of a command line and the octets of an input to the octets written.
+#![tactic(auto)]
+
+mod playing;
+mod status;
+#[cfg(test)]
+mod tests;
+mod top;
+mod words;
+
+pub use status::Status;
+pub use top::l2_main;
+pub use words::Words;

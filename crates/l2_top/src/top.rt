@@ -1,0 +1,108 @@
+ghost use Rattle.std.specs.Prelude.{◌≡◌, IfOk, true, false, string_bytes};
+ghost use Rattle.l2_io.specs.Known.{HasRisen};
+ghost use Rattle.run_laws.specs.Journals.{EveryJournal};
+ghost use Rattle.l2_top.specs.Words.{is_run};
+ghost use Rattle.l2_top.specs.Main.{reason_text, refused_text, Tells, TellsRefusal, Refuses, Runs};
+
+use crate::playing::{Ending, play};
+use crate::{Status, Words};
+use air_run::{Reason, RunRefusal};
+use air_text::LineRefusal;
+use l2_io::{PutFault, Sink, Source};
+use std::alloc::{AllocError, Global};
+
+fn reason_word(reason: Reason) -> &'static str
+    ensures { result.now ≡ reason_text reason }
+{
+    match reason {
+        Reason::Line(LineRefusal::Word) => "word",
+        Reason::Line(LineRefusal::Number) => "number",
+        Reason::Line(LineRefusal::Range) => "range",
+        Reason::Line(LineRefusal::Hex) => "hex",
+        Reason::Line(LineRefusal::Fields) => "fields",
+        Reason::Line(LineRefusal::Long) => "long",
+        Reason::Run(RunRefusal::UnknownBearer) => "unknown bearer",
+        Reason::Run(RunRefusal::BearerTwice) => "bearer twice",
+        Reason::Run(RunRefusal::ConfiguredLate) => "configured late",
+        Reason::Run(RunRefusal::Unbuilt) => "unbuilt",
+        Reason::Lines => "lines",
+    }
+}
+
+fn refusal_string(alloc: Global, number: u32, reason: Reason) -> Result<String, AllocError>
+    ensures { IfOk result (λ text. string_bytes text ≡ refused_text number reason) }
+{
+    let word = reason_word(reason);
+    format!(in alloc; "line {number}: {word}\n")
+}
+
+// Puts a text to errs, where the answer stays.
+fn say<E: Sink>(errs: &mut E, text: &[u8])
+    ensures told { Tells text.now (E.written errs.old) (E.written errs.new) (HasRisen (E.faults errs.old) (E.faults errs.new)) (HasRisen (E.shortages errs.old) (E.shortages errs.new)) }
+{
+    let _ = errs.put(text);
+}
+
+fn refuse_words<E: Sink>(errs: &mut E) -> Status
+    ensures { Refuses (E.written errs.old) (E.written errs.new) (HasRisen (E.faults errs.old) (E.faults errs.new)) (HasRisen (E.shortages errs.old) (E.shortages errs.new)) result }
+{
+    match errs.put(b"usage: l2 run | l2 decode | l2 generate N\n") {
+        Ok(()) => Status::Usage,
+        Err(PutFault::Failed) => Status::WriteFault,
+        Err(PutFault::NoMemory) => Status::NoMemory,
+    }
+}
+
+fn refuse_line<E: Sink>(alloc: Global, number: u32, reason: Reason, errs: &mut E) -> Status
+    ensures { TellsRefusal number reason (E.written errs.old) (E.written errs.new) (HasRisen (E.faults errs.old) (E.faults errs.new)) (HasRisen (E.shortages errs.old) (E.shortages errs.new)) result }
+{
+    let Ok(text) = refusal_string(alloc, number, reason) else {
+        say(errs, b"out of memory\n");
+        return Status::NoMemory;
+    };
+    match errs.put(text.as_bytes()) {
+        Ok(()) => Status::Refused,
+        Err(PutFault::Failed) => Status::WriteFault,
+        Err(PutFault::NoMemory) => Status::NoMemory,
+    }
+}
+
+/// Runs the command that the words name.
+///
+/// The clause `run` says what is written, and what each answer means; `promises` says what holds of every journal that
+/// can be written.
+#[tactic(auto, using(crate::proofs::Rows::every_journal_is_promised))]
+pub fn l2_main<S: Source, K: Sink, E: Sink>(
+    alloc: Global,
+    words: &Words,
+    source: &mut S,
+    out: &mut K,
+    errs: &mut E,
+) -> Status
+    ensures usage { is_run words.now ≡ false → Refuses (E.written errs.old) (E.written errs.new) (HasRisen (E.faults errs.old) (E.faults errs.new)) (HasRisen (E.shortages errs.old) (E.shortages errs.new)) result
+        × (S.left source.new ≡ S.left source.old) × (K.written out.new ≡ K.written out.old) }
+    ensures run { is_run words.now ≡ true → Runs (S.left source.old) (S.left source.new) (K.written out.old) (K.written out.new)
+        (E.written errs.old) (E.written errs.new) (HasRisen (S.faults source.old) (S.faults source.new)) (HasRisen (K.faults out.old) (K.faults out.new))
+        (HasRisen (E.faults errs.old) (E.faults errs.new)) (HasRisen (E.shortages errs.old) (E.shortages errs.new)) result }
+    ensures promises { EveryJournal }
+{
+    if !words.is_run() {
+        return refuse_words(errs);
+    }
+    match play(alloc, source, out) {
+        Ending::Done => Status::Done,
+        Ending::Refused { number, reason } => refuse_line(alloc, number, reason, errs),
+        Ending::ReadFault => {
+            say(errs, b"read fault\n");
+            Status::ReadFault
+        }
+        Ending::WriteFault => {
+            say(errs, b"write fault\n");
+            Status::WriteFault
+        }
+        Ending::NoMemory => {
+            say(errs, b"out of memory\n");
+            Status::NoMemory
+        }
+    }
+}

@@ -1,0 +1,234 @@
+-- A line that is read has its fields in their ranges.
+use Rattle.std.proofs.Common.{◌≡◌, ◌≤◌, ◌<◌, ◌==◌, nat_lt, ℕ, Bool, true, false, List, [], ◌∷◌, length, refl, arith, subst, cond}
+use Rattle.std.proofs.lemmas.Bool.Decides.{nat_tests}
+use Rattle.std.specs.Prelude.{Option, None, Some, Result, Ok, Err, slice_index}
+use Rattle.hex.specs.Hex.{decode_of}
+use Rattle.hex.specs.declared.error.FromHexError.{FromHexError}
+use Rattle.air_text.specs.declared.line.Line.{Line}
+use Rattle.air_text.specs.declared.line.Line.TheVariants as lines
+use Rattle.air_text.specs.declared.line.LineRefusal.{LineRefusal}
+use Rattle.air_text.specs.declared.line.LineRefusal.TheVariants.{Number, Range, Hex, Fields}
+use Rattle.air_text.specs.Words.{◌>>=◌, words_of, is_twice, joined}
+use Rattle.air_text.specs.Fields.{number_of, is_number, value_behind, octets_of, octets_in, side_of, outcome_of, kind_of, cipher_of}
+use Rattle.air_text.specs.Options.{goes, config_of, options_of}
+use Rattle.air_text.specs.Reading.{read_of, read_words, line_of, key_of, harq_of, bsr_of, keys_of, bearer_of, submit_of, tti_of, expire_of, handover_of, loop_of, loop_off_of, loop_a_of, loop_b_of, drain_of, forge_of, end_of, discard_of, drx_of}
+use Rattle.air_text.specs.Ranges.{IsInRange}
+use Rattle.air_text.proofs.Octets.{some_octets}
+
+-- what holds of a value that was read
+record Behind {B : Type 0} (P : B → Type 0) (x : Result B LineRefusal) : Type 0 where
+  holds : (b : B) → x ≡ Ok b → P b
+
+refused : {B : Type 0} (P : B → Type 0) (e : LineRefusal) → Behind P (Err e)
+refused P e = record { holds = λ b is. cc }
+
+given : {B : Type 0} (P : B → Type 0) (a : B) → P a → Behind P (Ok a)
+given P a h = record { holds = λ b is. let same : a ≡ b = cc in subst P same h }
+
+bind : {A B : Type 0} (P : B → Type 0) (x : Result A LineRefusal) (f : A → Result B LineRefusal) → ((a : A) → x ≡ Ok a → Behind P (f a)) → Behind P (x >>= f)
+bind P (Ok a) f h = h a refl
+bind P (Err e) f h = refused P e
+
+choose : {B : Type 0} (P : B → Type 0) (b : Bool) (x y : Result B LineRefusal) → Behind P x → Behind P y → Behind P (cond b x y)
+choose P true x y p q = p
+choose P false x y p q = q
+
+number-by : (a b c : Bool) (most v n : ℕ) → nat_lt most v ≡ b → cond a (cond b (Err Range) (cond c (Err Range) (Ok v))) (Err Number) ≡ Ok n → n ≤ most
+number-by true false false most v n t e = let same : v ≡ n = cc in grind (arith, nat_tests)
+number-by true false true most v n t e = cc
+number-by true true c most v n t e = cc
+number-by false b c most v n t e = cc
+
+number-most : (least most n : ℕ) (text : List ℕ) → number_of least most text ≡ Ok n → n ≤ most
+unfolding number_of
+number-most least most n text e = number-by (is_number text) (nat_lt most (value_behind 0 text)) (nat_lt (value_behind 0 text) least) most (value_behind 0 text) n refl e
+
+-- octets, at least one and at most so many
+pub record HasOctets (most : ℕ) (octets : List ℕ) : Type 0 where
+  pub some : 1 ≤ length octets
+  pub short : length octets ≤ most
+
+most-by : (b : Bool) (most : ℕ) (found octets : List ℕ) → nat_lt most (length found) ≡ b → cond b (Err Range) (Ok found) ≡ Ok octets → length octets ≤ most
+most-by true most found octets t e = cc
+most-by false most found octets t e = let same : found ≡ octets = cc in subst (λ (o : List ℕ). length o ≤ most) same (grind (arith, nat_tests))
+
+found-by : (b : Bool) (found octets : List ℕ) → cond b (Err Range) (Ok found) ≡ Ok octets → found ≡ octets
+found-by true found octets e = cc
+found-by false found octets e = cc
+
+decoded-fit : (most : ℕ) (text octets : List ℕ) (r : Result (List ℕ) FromHexError) → 0 < length text → decode_of text ≡ r → octets_in most r ≡ Ok octets → HasOctets most octets
+decoded-fit most text octets (Err x) some is e = cc
+decoded-fit most text octets (Ok found) some is e =
+    record {
+      some = subst (λ (o : List ℕ). 1 ≤ length o) (found-by (nat_lt most (length found)) found octets e) (some_octets text found is some);
+      short = most-by (nat_lt most (length found)) most found octets refl e;
+    }
+
+octets-by : (b : Bool) (most : ℕ) (text octets : List ℕ) → (length text == 0) ≡ b → cond b (Err Hex) (octets_in most (decode_of text)) ≡ Ok octets → HasOctets most octets
+octets-by true most text octets t e = cc
+octets-by false most text octets t e = decoded-fit most text octets (decode_of text) (grind (arith, nat_tests)) refl e
+
+octets-fit : (most : ℕ) (text octets : List ℕ) → octets_of most text ≡ Ok octets → HasOctets most octets
+unfolding octets_of
+octets-fit most text octets e = octets-by (length text == 0) most text octets refl e
+
+harq-range : (fields : List (List ℕ)) → Behind IsInRange (harq_of fields)
+unfolding harq_of
+harq-range [] = refused IsInRange _
+harq-range (a ∷ []) = search (bind, given)
+harq-range (a ∷ b ∷ fields) = refused IsInRange _
+
+bsr-range : (fields : List (List ℕ)) → Behind IsInRange (bsr_of fields)
+unfolding bsr_of
+bsr-range [] = refused IsInRange _
+bsr-range (a ∷ []) = search (bind, given)
+bsr-range (a ∷ b ∷ fields) = refused IsInRange _
+
+keys-range : (fields : List (List ℕ)) → Behind IsInRange (keys_of fields)
+unfolding keys_of
+keys-range [] = refused IsInRange _
+keys-range (a ∷ []) = refused IsInRange _
+keys-range (a ∷ b ∷ []) = refused IsInRange _
+keys-range (a ∷ b ∷ c ∷ []) = refused IsInRange _
+keys-range (a ∷ b ∷ b2 ∷ b3 ∷ []) =
+    bind IsInRange (cipher_of a) (λ c. key_of b >>= λ u. key_of b2 >>= λ r. key_of b3 >>= λ i. Ok (lines.Keys (record { alg = c; user = u; rrc = r; integrity = i }))) (λ c c_is. bind IsInRange (key_of b) (λ u. key_of b2 >>= λ r. key_of b3 >>= λ i. Ok (lines.Keys (record { alg = c; user = u; rrc = r; integrity = i }))) (λ u u_is. bind IsInRange (key_of b2) (λ r. key_of b3 >>= λ i. Ok (lines.Keys (record { alg = c; user = u; rrc = r; integrity = i }))) (λ r r_is. bind IsInRange (key_of b3) (λ i. Ok (lines.Keys (record { alg = c; user = u; rrc = r; integrity = i }))) (λ i i_is. given IsInRange (lines.Keys (record { alg = c; user = u; rrc = r; integrity = i })) (tt)))))
+keys-range (a ∷ b ∷ c ∷ d ∷ e ∷ fields) = refused IsInRange _
+
+bearer-range : (fields : List (List ℕ)) → Behind IsInRange (bearer_of fields)
+unfolding bearer_of
+bearer-range [] = refused IsInRange _
+bearer-range (a ∷ []) = refused IsInRange _
+bearer-range (a ∷ b ∷ options) =
+    choose IsInRange (is_twice options) _ _ (refused IsInRange Fields)
+    (bind IsInRange (number_of 0 10 a) (λ n. kind_of b >>= λ k. cond (goes k n) (options_of (config_of n k) options >>= (λ config. Ok (lines.Bearer config (joined options)))) (Err Range)) (λ n e. bind IsInRange (kind_of b) (λ k. cond (goes k n) (options_of (config_of n k) options >>= (λ config. Ok (lines.Bearer config (joined options)))) (Err Range)) (λ k f. choose IsInRange (goes k n) (options_of (config_of n k) options >>= (λ config. Ok (lines.Bearer config (joined options)))) (Err Range) (bind IsInRange (options_of (config_of n k) options) (λ config. Ok (lines.Bearer config (joined options))) (λ config is. given IsInRange (lines.Bearer config (joined options)) tt)) (refused IsInRange Range))))
+
+submit-range : (fields : List (List ℕ)) → Behind IsInRange (submit_of fields)
+unfolding submit_of
+submit-range [] = refused IsInRange _
+submit-range (a ∷ []) = refused IsInRange _
+submit-range (a ∷ b ∷ []) = refused IsInRange _
+submit-range (a ∷ b ∷ c ∷ []) =
+    bind IsInRange (side_of a) (λ side. number_of 0 10 b >>= λ n. octets_of 8188 c >>= λ octets. Ok (lines.Submit side n octets)) (λ side side_is. bind IsInRange (number_of 0 10 b) (λ n. octets_of 8188 c >>= λ octets. Ok (lines.Submit side n octets)) (λ n n_is. bind IsInRange (octets_of 8188 c) (λ octets. Ok (lines.Submit side n octets)) (λ octets octets_is. given IsInRange (lines.Submit side n octets) (let fit = octets-fit 8188 c octets octets_is in record { some = fit.some; short = fit.short }))))
+submit-range (a ∷ b ∷ c ∷ d ∷ fields) = refused IsInRange _
+
+tti-range : (fields : List (List ℕ)) → Behind IsInRange (tti_of fields)
+unfolding tti_of
+tti-range [] = refused IsInRange _
+tti-range (a ∷ []) = refused IsInRange _
+tti-range (a ∷ b ∷ []) = refused IsInRange _
+tti-range (a ∷ b ∷ c ∷ []) = refused IsInRange _
+tti-range (a ∷ b ∷ c ∷ d ∷ []) =
+    bind IsInRange (number_of 0 9422 a) (λ u. outcome_of b >>= λ v. number_of 0 9422 c >>= λ w. outcome_of d >>= λ x. Ok (lines.Tti u v w x)) (λ u u_is. bind IsInRange (outcome_of b) (λ v. number_of 0 9422 c >>= λ w. outcome_of d >>= λ x. Ok (lines.Tti u v w x)) (λ v v_is. bind IsInRange (number_of 0 9422 c) (λ w. outcome_of d >>= λ x. Ok (lines.Tti u v w x)) (λ w w_is. bind IsInRange (outcome_of d) (λ x. Ok (lines.Tti u v w x)) (λ x x_is. given IsInRange (lines.Tti u v w x) (record { up = number-most 0 9422 u a u_is; down = number-most 0 9422 w c w_is })))))
+tti-range (a ∷ b ∷ c ∷ d ∷ e ∷ fields) = refused IsInRange _
+
+expire-range : (fields : List (List ℕ)) → Behind IsInRange (expire_of fields)
+unfolding expire_of
+expire-range [] = refused IsInRange _
+expire-range (a ∷ []) = refused IsInRange _
+expire-range (a ∷ b ∷ []) = refused IsInRange _
+expire-range (a ∷ b ∷ c ∷ []) = search (bind, given)
+expire-range (a ∷ b ∷ c ∷ d ∷ fields) = refused IsInRange _
+
+handover-range : (fields : List (List ℕ)) → Behind IsInRange (handover_of fields)
+unfolding handover_of
+handover-range [] = refused IsInRange _
+handover-range (a ∷ []) = refused IsInRange _
+handover-range (a ∷ b ∷ []) = refused IsInRange _
+handover-range (a ∷ b ∷ c ∷ []) = search (bind, given)
+handover-range (a ∷ b ∷ c ∷ d ∷ fields) = refused IsInRange _
+
+loop-off-range : (fields : List (List ℕ)) → Behind IsInRange (loop_off_of fields)
+unfolding loop_off_of
+loop-off-range [] = given IsInRange _ tt
+loop-off-range (a ∷ fields) = refused IsInRange _
+
+loop-a-range : (fields : List (List ℕ)) → Behind IsInRange (loop_a_of fields)
+unfolding loop_a_of
+loop-a-range [] = refused IsInRange _
+loop-a-range (a ∷ []) = search (bind, given)
+loop-a-range (a ∷ b ∷ fields) = refused IsInRange _
+
+loop-b-range : (fields : List (List ℕ)) → Behind IsInRange (loop_b_of fields)
+unfolding loop_b_of
+loop-b-range [] = refused IsInRange _
+loop-b-range (a ∷ []) = search (bind, given)
+loop-b-range (a ∷ b ∷ fields) = refused IsInRange _
+
+loop-range : (fields : List (List ℕ)) → Behind IsInRange (loop_of fields)
+unfolding loop_of
+loop-range [] = refused IsInRange _
+loop-range (mode ∷ fields) =
+    choose IsInRange _ _ _ (loop-off-range fields) (choose IsInRange _ _ _ (loop-a-range fields) (choose IsInRange _ _ _ (loop-b-range fields) (refused IsInRange _)))
+
+drain-range : (fields : List (List ℕ)) → Behind IsInRange (drain_of fields)
+unfolding drain_of
+drain-range [] = refused IsInRange _
+drain-range (a ∷ []) = bind IsInRange _ _ (λ n e. given IsInRange _ (number-most 0 9422 n a e))
+drain-range (a ∷ b ∷ fields) = refused IsInRange _
+
+forge-range : (fields : List (List ℕ)) → Behind IsInRange (forge_of fields)
+unfolding forge_of
+forge-range [] = refused IsInRange _
+forge-range (a ∷ []) = refused IsInRange _
+forge-range (a ∷ b ∷ []) =
+    bind IsInRange (side_of a) (λ side. octets_of 9422 b >>= λ octets. Ok (lines.Forge side octets)) (λ side side_is. bind IsInRange (octets_of 9422 b) (λ octets. Ok (lines.Forge side octets)) (λ octets octets_is. given IsInRange (lines.Forge side octets) (let fit = octets-fit 9422 b octets octets_is in record { some = fit.some; short = fit.short })))
+forge-range (a ∷ b ∷ c ∷ fields) = refused IsInRange _
+
+end-range : (fields : List (List ℕ)) → Behind IsInRange (end_of fields)
+unfolding end_of
+end-range [] = given IsInRange _ tt
+end-range (a ∷ fields) = refused IsInRange _
+
+discard-range : (fields : List (List ℕ)) → Behind IsInRange (discard_of fields)
+unfolding discard_of
+discard-range [] = refused IsInRange _
+discard-range (a ∷ []) = refused IsInRange _
+discard-range (a ∷ b ∷ []) = search (bind, given)
+discard-range (a ∷ b ∷ c ∷ fields) = refused IsInRange _
+
+drx-range : (fields : List (List ℕ)) → Behind IsInRange (drx_of fields)
+unfolding drx_of
+drx-range [] = refused IsInRange _
+drx-range (a ∷ []) = refused IsInRange _
+drx-range (a ∷ b ∷ []) = refused IsInRange _
+drx-range (a ∷ b ∷ c ∷ []) = refused IsInRange _
+drx-range (a ∷ b ∷ c ∷ d ∷ []) = refused IsInRange _
+drx-range (a ∷ b ∷ c ∷ d ∷ e ∷ []) =
+    bind IsInRange (number_of 1 200 a) (λ v. number_of 0 2560 b >>= λ w. number_of 0 33 c >>= λ x. number_of 1 2560 d >>= λ y. number_of 0 2559 e >>= λ z. Ok (lines.Drx (record { on = v; inactivity = w; retransmit = x; cycle = y; offset = z }))) (λ v v_is. bind IsInRange (number_of 0 2560 b) (λ w. number_of 0 33 c >>= λ x. number_of 1 2560 d >>= λ y. number_of 0 2559 e >>= λ z. Ok (lines.Drx (record { on = v; inactivity = w; retransmit = x; cycle = y; offset = z }))) (λ w w_is. bind IsInRange (number_of 0 33 c) (λ x. number_of 1 2560 d >>= λ y. number_of 0 2559 e >>= λ z. Ok (lines.Drx (record { on = v; inactivity = w; retransmit = x; cycle = y; offset = z }))) (λ x x_is. bind IsInRange (number_of 1 2560 d) (λ y. number_of 0 2559 e >>= λ z. Ok (lines.Drx (record { on = v; inactivity = w; retransmit = x; cycle = y; offset = z }))) (λ y y_is. bind IsInRange (number_of 0 2559 e) (λ z. Ok (lines.Drx (record { on = v; inactivity = w; retransmit = x; cycle = y; offset = z }))) (λ z z_is. given IsInRange (lines.Drx (record { on = v; inactivity = w; retransmit = x; cycle = y; offset = z })) (tt))))))
+drx-range (a ∷ b ∷ c ∷ d ∷ e ∷ f ∷ fields) = refused IsInRange _
+
+line-range : (first : List ℕ) (fields : List (List ℕ)) → Behind IsInRange (line_of first fields)
+line-range first fields =
+    choose IsInRange _ _ _ (harq-range fields)
+    (choose IsInRange _ _ _ (bsr-range fields)
+    (choose IsInRange _ _ _ (keys-range fields)
+    (choose IsInRange _ _ _ (bearer-range fields)
+    (choose IsInRange _ _ _ (submit-range fields)
+    (choose IsInRange _ _ _ (tti-range fields)
+    (choose IsInRange _ _ _ (expire-range fields)
+    (choose IsInRange _ _ _ (handover-range fields)
+    (choose IsInRange _ _ _ (loop-range fields)
+    (choose IsInRange _ _ _ (drain-range fields)
+    (choose IsInRange _ _ _ (forge-range fields)
+    (choose IsInRange _ _ _ (end-range fields)
+    (choose IsInRange _ _ _ (discard-range fields)
+    (choose IsInRange _ _ _ (drx-range fields) (refused IsInRange _))))))))))))))
+
+-- a line, where there is one
+abbrev pub IfLine : Option Line → Type 0
+IfLine None = Unit {0}
+IfLine (Some line) = IsInRange line
+
+words-range : (words : List (List ℕ)) → Behind IfLine (read_words words)
+unfolding read_words
+words-range [] = given IfLine _ tt
+words-range (first ∷ fields) =
+    choose IfLine (slice_index first 0 == 35) _ _ (given IfLine _ tt) (bind IfLine (line_of first fields) _ (λ line e. given IfLine _ ((line-range first fields).holds line e)))
+
+text-range : (text : List ℕ) → Behind IfLine (read_of text)
+unfolding read_of
+text-range text = choose IfLine (nat_lt 20000 (length text)) _ _ (refused IfLine _) (words-range (words_of text))
+
+-- a line that is read has its fields in their ranges
+pub lines-in-range : (text : List ℕ) (line : Line) → read_of text ≡ Ok (Some line) → IsInRange line
+lines-in-range text line e = (text-range text).holds (Some line) e
