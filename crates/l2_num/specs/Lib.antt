@@ -2,3 +2,4 @@ pub mod Numbers
 pub mod Counts
 pub mod Least
 pub mod Timers
+pub mod Ascending

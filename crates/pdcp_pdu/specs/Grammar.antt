@@ -1,5 +1,5 @@
 -- Which octets are which PDU, and how one is written. Reserved bits have any value where a PDU is read, and are written 0.
-use Rattle.std.specs.Prelude.{◌≡◌, ◌≢◌, ◌⊎◌, ℕ, ◌+◌, ◌-◌, ◌*◌, ◌/◌, ◌%◌, ◌<◌, ◌^◌, ◌==◌, List, [], ◌∷◌, ◌++◌, length, slice_index, if◌then◌else◌}
+use Rattle.std.specs.Prelude.{◌≡◌, ◌≢◌, ◌⊎◌, ℕ, ◌+◌, ◌-◌, ◌*◌, ◌/◌, ◌%◌, ◌<◌, ◌^◌, ◌==◌, Bool, List, [], ◌∷◌, ◌++◌, length, slice_index, if◌then◌else◌}
 use Rattle.pdcp_pdu.specs.Pdus.{UserPdu, Sdu, Report, SrbPdu}
 
 -- the header of a data PDU: D/C, which is 1, reserved bits, SN (TS 36.323 6.2.3, 6.2.4)
@@ -64,6 +64,10 @@ user_spelling bits (Report fms bitmap) = report_header bits 0 fms ++ bitmap
 -- how a PDU of a signalling bearer is written
 abbrev pub srb_spelling : SrbPdu → List ℕ
 srb_spelling pdu = srb_header 0 pdu.sn ++ pdu.octets ++ pdu.tag
+
+-- bit k of a bitmap, the highest of its first octet first; 0 past its end (TS 36.323 6.3.10)
+abbrev pub bit_of : List ℕ → ℕ → Bool
+bit_of bitmap k = (slice_index bitmap (k / 8) / 2 ^ (7 - k % 8)) % 2 == 1
 
 -- the bitmap of a status report that is written: none, or its last octet isn't 0
 abbrev pub IsBitmap : List ℕ → Type 0

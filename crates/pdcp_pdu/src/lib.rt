@@ -3,6 +3,7 @@
 //! The layouts with numbers of 15 bits are a profile of this project.
 #![tactic(auto)]
 
+mod kind;
 mod laws;
 mod pdu;
 mod reading;
