@@ -1,8 +1,8 @@
 -- Sets of places before and after runs are added and taken out.
-use Rattle.std.proofs.Common.{◌≡◌, ◌+◌, ◌<◌, ◌≤◌, ℕ, Bool, true, false, not, ◌||◌, ◌&&◌, if◌then◌else◌, cond, List, [], ◌∷◌, ◌++◌, min, max, nat_le, nat_lt, refl, ap, sym, ◌∙◌, arith, ltb, leb}
-use Rattle.std.proofs.lemmas.Bool.{lt-leb, lt-ltb, ltb-true}
+use Rattle.std.proofs.Common.{◌≡◌, ◌+◌, ◌-◌, ◌<◌, ◌≤◌, ℕ, zero, suc, length, slice_index_or, slice_set, Bool, true, false, not, ◌||◌, ◌&&◌, if◌then◌else◌, cond, List, [], ◌∷◌, ◌++◌, min, max, nat_le, nat_lt, refl, ap, sym, ◌∙◌, arith, ltb, leb}
+use Rattle.std.proofs.lemmas.Bool.{lt-leb, lt-ltb, ltb-true, ltb-false, leb-true, le-leb}
 use Rattle.std.proofs.lemmas.Bool.Decides.{nat_tests}
-use Rattle.rlc_pdu.specs.Runs.{Run, run, lies_in, has, AreAscending, covers, ends_below, Moving, passing, passed, merged, added, kept_of, removed}
+use Rattle.rlc_pdu.specs.Runs.{Run, run, lies_in, has, AreAscending, covers, ends_below, last_begins_by, last_ends_below, stretched, Moving, passing, passed, merged, added, kept_of, removed}
 
 or-assoc : (a b c : Bool) → ((a || b) || c) ≡ (a || (b || c))
 or-assoc true b c = refl
@@ -108,7 +108,70 @@ none_covers low from to (r ∷ rs) h e lt =
 pub fresh_end : (runs : List Run) (from to : ℕ) → AreAscending 0 runs → ends_below runs from ≡ true → from < to → true ≡ not (covers runs from to)
 fresh_end runs from to h e lt = rw (none_covers 0 from to runs h e lt) refl
 
-pub ruleset behind_all = (added_end, fresh_end)
+-- ---- at the last run
+
+first_under : (low : ℕ) (r q : Run) (rs : List Run) (from : ℕ) → AreAscending low (r ∷ q ∷ rs) → last_begins_by (q ∷ rs) from ≡ true → r.to < from
+first_under low r q [] from h e = omega (arith, h.2.0, leb-true q.from from e)
+first_under low r q (p ∷ rs) from h e = omega (arith, h.2.0, h.2.1, first_under (r.to + 1) q p rs from h.2 e)
+
+grown_run : (r : Run) (from to : ℕ) → r.from ≤ from → from ≤ r.to → from < to → run r.from (max r.to to) ∷ [] ≡ merged (record { placed = false; from = from; to = to }) (r ∷ [])
+grown_run r from to le ge lt = grind (arith, nat_tests)
+
+merged_last : (low from to : ℕ) (rs : List Run) → AreAscending low rs → ends_below rs from ≡ false → last_begins_by rs from ≡ true → from < to → stretched rs to ≡ merged (record { placed = false; from = from; to = to }) rs
+merged_last low from to [] h e b lt = let no : true ≡ false = e in cc
+merged_last low from to (r ∷ []) h e b lt = grown_run r from to (leb-true r.from from b) (omega (arith, ltb-false r.to from e)) lt
+merged_last low from to (r ∷ q ∷ rs) h e b lt =
+    let below : ltb r.to from ≡ true = lt-ltb r.to from (first_under low r q rs from h b) in
+    rw below (ap (λ (qs : List Run). r ∷ qs) (merged_last (r.to + 1) from to (q ∷ rs) h.2 e b lt))
+
+pub added_last : (runs : List Run) (from to : ℕ) → AreAscending 0 runs → ends_below runs from ≡ false → last_begins_by runs from ≡ true → from < to → stretched runs to ≡ added runs from to
+added_last runs from to h e b lt = merged_last 0 from to runs h e b lt
+
+covered_last : (r : Run) (from to : ℕ) → r.from ≤ from → nat_lt r.to to ≡ not (covers (r ∷ []) from to)
+covered_last r from to le = grind (arith, nat_tests)
+
+new_last : (low from to : ℕ) (rs : List Run) → AreAscending low rs → last_begins_by rs from ≡ true → from < to → last_ends_below rs to ≡ not (covers rs from to)
+new_last low from to [] h b lt = let no : false ≡ true = b in cc
+new_last low from to (r ∷ []) h b lt = covered_last r from to (leb-true r.from from b)
+new_last low from to (r ∷ q ∷ rs) h b lt =
+    let past : leb to r.to ≡ false = lt-leb to r.to (omega (arith, first_under low r q rs from h b, lt)) in
+    rw past (both (leb r.from from) (new_last (r.to + 1) from to (q ∷ rs) h.2 b lt))
+  where
+    both : (a : Bool) → last_ends_below (q ∷ rs) to ≡ not (covers (q ∷ rs) from to) → last_ends_below (q ∷ rs) to ≡ not ((a && false) || covers (q ∷ rs) from to)
+    both true f = f
+    both false f = f
+
+pub fresh_last : (runs : List Run) (from to : ℕ) → AreAscending 0 runs → last_begins_by runs from ≡ true → from < to → last_ends_below runs to ≡ not (covers runs from to)
+fresh_last runs from to h b lt = new_last 0 from to runs h b lt
+
+pub ruleset behind_all = (added_end, fresh_end, added_last, fresh_last)
+
+last-set : (rs : List Run) (n to : ℕ) (x : Run) → n + 1 ≡ length rs → x ≡ slice_index_or rs n x → slice_set rs n (run x.from (max x.to to)) ≡ stretched rs to
+last-set [] n to x e h = absurd (omega (arith, e))
+last-set (r ∷ []) zero to x e h = rw h refl
+last-set (r ∷ []) (suc n) to x e h = absurd (omega (arith, e))
+last-set (r ∷ q ∷ rs) zero to x e h = absurd (omega (arith, e))
+last-set (r ∷ q ∷ rs) (suc n) to x e h = ap (λ (qs : List Run). r ∷ qs) (last-set (q ∷ rs) n to x (omega (arith, e)) h)
+
+last-ends : (rs : List Run) (n to : ℕ) (x : Run) → n + 1 ≡ length rs → x ≡ slice_index_or rs n x → nat_lt x.to to ≡ last_ends_below rs to
+last-ends [] n to x e h = absurd (omega (arith, e))
+last-ends (r ∷ []) zero to x e h = rw h refl
+last-ends (r ∷ []) (suc n) to x e h = absurd (omega (arith, e))
+last-ends (r ∷ q ∷ rs) zero to x e h = absurd (omega (arith, e))
+last-ends (r ∷ q ∷ rs) (suc n) to x e h = last-ends (q ∷ rs) n to x (omega (arith, e)) h
+
+pub stretched_set : (rs : List Run) (n to : ℕ) (x : Run) → n ≡ length rs → 0 < n → x ≡ slice_index_or rs (n - 1) x → slice_set rs (n - 1) (run x.from (max x.to to)) ≡ stretched rs to
+stretched_set rs n to x e some h = last-set rs (n - 1) to x (omega (arith, e, some)) h
+
+pub ends_set : (rs : List Run) (n to : ℕ) (x : Run) → n ≡ length rs → 0 < n → x ≡ slice_index_or rs (n - 1) x → nat_lt x.to to ≡ last_ends_below rs to
+ends_set rs n to x e some h = last-ends rs (n - 1) to x (omega (arith, e, some)) h
+
+pub ruleset at_last = (stretched_set, ends_set)
+
+pub begins_by_last : (rs : List Run) (r : Run) (from : ℕ) → last_begins_by (rs ++ r ∷ []) from ≡ leb r.from from
+begins_by_last [] r from = refl
+begins_by_last (q ∷ []) r from = refl
+begins_by_last (q ∷ p ∷ rs) r from = begins_by_last (p ∷ rs) r from
 
 pub ends_below_last : (rs : List Run) (r : Run) (from : ℕ) → ends_below (rs ++ r ∷ []) from ≡ ltb r.to from
 ends_below_last [] r from = refl

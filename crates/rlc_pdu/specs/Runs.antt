@@ -35,6 +35,24 @@ ends_below [] from = true
 ends_below (r ∷ []) from = nat_lt r.to from
 ends_below (r ∷ q ∷ rs) from = ends_below (q ∷ rs) from
 
+-- the last run begins at a place or below it
+abbrev pub last_begins_by : List Run → ℕ → Bool
+last_begins_by [] from = false
+last_begins_by (r ∷ []) from = nat_le r.from from
+last_begins_by (r ∷ q ∷ rs) from = last_begins_by (q ∷ rs) from
+
+-- the last run ends below a place
+abbrev pub last_ends_below : List Run → ℕ → Bool
+last_ends_below [] to = false
+last_ends_below (r ∷ []) to = nat_lt r.to to
+last_ends_below (r ∷ q ∷ rs) to = last_ends_below (q ∷ rs) to
+
+-- the last run reaches up to a place at least
+abbrev pub stretched : List Run → ℕ → List Run
+stretched [] to = []
+stretched (r ∷ []) to = run r.from (max r.to to) ∷ []
+stretched (r ∷ q ∷ rs) to = r ∷ stretched (q ∷ rs) to
+
 -- ---- adding
 
 -- a run on its way into the list: it has found its place, or has grown so far

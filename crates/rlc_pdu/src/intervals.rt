@@ -1,5 +1,5 @@
-ghost use Rattle.std.specs.Prelude.{◌≡◌, ℕ, ◌<◌, ◌≤◌, ◌++◌, ◌||◌, ◌&&◌, not, nat_lt, [], length, OnOk, OnErr, IfOk};
-ghost use Rattle.rlc_pdu.specs.Runs.{AreAscending, ends_below, run, lies_in, has, added, removed, merged, passing, passed, some_run, kept_of, covers, between, gap_in};
+ghost use Rattle.std.specs.Prelude.{◌≡◌, ℕ, ◌<◌, ◌≤◌, ◌++◌, ◌||◌, ◌&&◌, true, not, nat_le, nat_lt, max, [], length, OnOk, OnErr, IfOk};
+ghost use Rattle.rlc_pdu.specs.Runs.{AreAscending, ends_below, last_begins_by, last_ends_below, stretched, run, lies_in, has, added, removed, merged, passing, passed, some_run, kept_of, covers, between, gap_in};
 
 use crate::pdu::Part;
 use l2_bits::NoMemory;
@@ -56,7 +56,7 @@ impl Intervals {
 
     /// Adds the places from `start` to `end - 1`, and answers whether one of them is new. An `Err` changes nothing.
     ///
-    /// Behind the last run it takes the same time, however many runs there are.
+    /// Where no run but the last meets or touches these places, it takes the same time, however many runs there are.
     #[tactic(auto, using(crate::proofs::RunSteps::adding))]
     pub fn add(&mut self, start: u32, end: u32) -> Result<bool, NoMemory>
         requires some { start < end }
@@ -147,7 +147,46 @@ fn ends_below(runs: &[Span], from: u32) -> bool
     }
 }
 
-// Adds a run, and answers whether one of its places is new: behind the last run by itself, else by going through all.
+// Whether a run begins at a place or below it.
+fn begins_by(one: Span, from: u32) -> bool
+    ensures { result ≡ nat_le one.from from }
+{
+    one.from <= from
+}
+
+// Whether the last run begins at a place or below it.
+fn last_begins_by(runs: &[Span], from: u32) -> bool
+    ensures { result ≡ last_begins_by runs.now from }
+{
+    match runs.split_last() {
+        None => false,
+        Some((last, _)) => begins_by(*last, from),
+    }
+}
+
+// Lets a run reach up to a place, and answers whether it grew.
+fn stretch_one(one: &mut Span, to: u32) -> bool
+    ensures one { one.new ≡ run one.old.from (max one.old.to to) }
+    ensures grew { result ≡ nat_lt one.old.to to }
+{
+    let grew = one.to < to;
+    one.to = one.to.max(to);
+    grew
+}
+
+// Lets the last run reach up to a place, and answers whether it grew.
+#[tactic(auto, using(crate::proofs::RunSteps::at_last))]
+fn stretch(runs: &mut Vec<Span>, to: u32) -> bool
+    ensures runs { runs.new.items ≡ stretched runs.old.items to }
+    ensures grew { result ≡ last_ends_below runs.old.items to }
+{
+    match runs.last_mut() {
+        None => false,
+        Some(last) => stretch_one(last, to),
+    }
+}
+
+// Adds a run, and answers whether one of its places is new: at the last run by itself, else by going through all.
 #[tactic(auto, using(crate::proofs::RunSteps::behind_all))]
 fn add_to(alloc: Global, runs: &mut Vec<Span>, from: u32, to: u32) -> Result<bool, NoMemory>
     requires ascending { AreAscending 0 runs.old.items }
@@ -159,6 +198,9 @@ fn add_to(alloc: Global, runs: &mut Vec<Span>, from: u32, to: u32) -> Result<boo
     if ends_below(runs, from) {
         runs.push(Span { from, to })?;
         return Ok(true);
+    }
+    if last_begins_by(runs, from) {
+        return Ok(stretch(runs, to));
     }
     let fresh = !covers(runs, from, to);
     *runs = merge(alloc, runs, from, to)?;

@@ -145,3 +145,62 @@ fn keeps_places(rt: HostRuntime) -> Result<(), NoMemory> {
     assert_eq!(rt; places.len(), 0);
     Ok(())
 }
+
+#[test]
+fn reads_cut_pdus(rt: HostRuntime) {
+    for (octets, wanted) in [
+        (b"\xac".as_slice(), Err((1, RlcWhy::Short))),
+        (b"\xac\x05", Err((2, RlcWhy::Short))),
+        (b"\xac\x05\x80", Err((3, RlcWhy::Short))),
+        (b"\xac\x05\x80\x20", Err((4, RlcWhy::Short))),
+        (b"\xac\x05\x80\x20\x01", Err((5, RlcWhy::EmptyData))),
+        (b"\xac\x05\x80\x20\x01\x00", Err((2, RlcWhy::LiPast))),
+        (b"\xac\x05\x80\x20\x01\x00\x01", Err((2, RlcWhy::LiPast))),
+        (
+            b"\xac\x05\x80\x20\x01\x00\x01\x02",
+            Err((3, RlcWhy::LiPast)),
+        ),
+        (b"\xac\x05\x80\x20\x01\x00\x01\x02\x03", Ok((true, 5, 3))),
+        (
+            b"\xac\x05\x80\x20\x01\x00\x01\x02\x03\x04",
+            Ok((true, 5, 3)),
+        ),
+        (b"\xd4", Err((1, RlcWhy::Short))),
+        (b"\xd4\x06", Err((2, RlcWhy::Short))),
+        (b"\xd4\x06\x80", Err((3, RlcWhy::Short))),
+        (b"\xd4\x06\x80\x07", Err((4, RlcWhy::Short))),
+        (b"\xd4\x06\x80\x07\x00", Err((5, RlcWhy::Short))),
+        (b"\xd4\x06\x80\x07\x00\x10", Err((6, RlcWhy::EmptyData))),
+        (b"\xd4\x06\x80\x07\x00\x10\xaa", Err((4, RlcWhy::LiPast))),
+        (b"\x00", Err((1, RlcWhy::Short))),
+        (b"\x00\x26", Err((2, RlcWhy::Short))),
+        (b"\x00\x26\x03", Err((3, RlcWhy::Short))),
+        (b"\x00\x26\x03\xc0", Err((4, RlcWhy::Short))),
+        (b"\x00\x26\x03\xc0\x42", Err((5, RlcWhy::Short))),
+        (b"\x00\x26\x03\xc0\x42\x00", Err((6, RlcWhy::Short))),
+        (b"\x00\x26\x03\xc0\x42\x00\x0c", Err((7, RlcWhy::Short))),
+        (b"\x00\x26\x03\xc0\x42\x00\x0c\x00", Err((8, RlcWhy::Short))),
+    ] {
+        assert_eq!(rt; read(octets), wanted);
+    }
+}
+
+#[test]
+fn writes_the_longest_length(rt: HostRuntime) -> Result<(), NoMemory> {
+    let alloc = rt.alloc();
+    let field: Vec<u8> = vec![in alloc; 0x5a; 2050]?;
+    let pdu = write_amd(alloc, 0, true, 0, None, &[2047, 3], &field)?;
+    let octets = pdu.as_slice();
+    assert_eq!(rt; octets.len(), 2054);
+    assert!(rt; octets.starts_with(b"\xa4\x00\x7f\xf0"));
+    match read_am(octets) {
+        Ok(AmPdu::Payload(amd)) => {
+            let mut elements = amd.elements;
+            assert_eq!(rt; elements.next().map(|e| e.len()), Some(2047));
+            assert_eq!(rt; elements.next().map(|e| e.len()), Some(3));
+            assert_eq!(rt; elements.next(), None);
+        }
+        _ => assert!(rt; false),
+    }
+    Ok(())
+}
