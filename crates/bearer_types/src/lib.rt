@@ -1,8 +1,8 @@
-//! A bearer's configuration, and what happens at one.
+//! A bearer's configuration, and what happens at one end of the link.
 #![tactic(auto)]
 
 mod config;
 mod event;
 
 pub use config::BearerConfig;
-pub use event::Event;
+pub use event::{Event, Events};

@@ -1,4 +1,4 @@
-//! Plain types that several parts of the stack name: ends, kinds of bearers, timers and configurations.
+//! Plain types that several parts of the stack name: ends, kinds of bearers, timers, losses and configurations.
 #![tactic(auto)]
 
 mod channel;
@@ -8,5 +8,5 @@ mod side;
 
 pub use channel::{Channel, Kind};
 pub use config::{AmRxConfig, AmTxConfig, DrxConfig};
-pub use event::{Clock, How, Waits};
+pub use event::{Clock, How, Lost, Waits};
 pub use side::Side;
