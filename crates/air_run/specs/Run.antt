@@ -1,6 +1,5 @@
 -- The run of a script: its state, what a line does to it, and the records that it leaves.
 use Rattle.std.specs.Prelude.{ℕ, ◌+◌, ◌%◌, ◌==◌, nat_lt, Bool, true, false, not, if◌then◌else◌, List, [], ◌∷◌, ◌++◌, length, replicate, slice_index_or, slice_set, Option, None, Some, Result, Ok, Err}
-use Rattle.std.specs.List.{flat_map}
 use Rattle.l2_types.specs.declared.side.Side.{Side}
 use Rattle.l2_types.specs.declared.side.Side.TheVariants.{Nb, Ue}
 use Rattle.l2_types.specs.declared.channel.Kind.{Kind}
@@ -11,7 +10,6 @@ use Rattle.bearer_types.specs.declared.event.Event.TheVariants as events
 use Rattle.mac_pdu.specs.declared.item.Direction.TheVariants.{Down, Up}
 use Rattle.mac_pdu.specs.Items.{MacItem, sdu}
 use Rattle.mac_pdu.specs.Writing.{canonical}
-use Rattle.air_text.specs.Text.{text_of}
 use Rattle.air_text.specs.declared.line.Fate.{Fate}
 use Rattle.air_text.specs.declared.line.Fate.TheVariants as fates
 use Rattle.air_text.specs.declared.line.Line.{Line}
@@ -165,7 +163,3 @@ abbrev pub finish : RunState → List Record
 finish r =
     if r.known then records.Sum Down 0 r.submitted r.delivered states.Ok ∷ records.Sum Up 0 0 0 states.Ok ∷ []
     else []
-
--- the texts of records, one after the other
-abbrev pub texts_of : List Record → List ℕ
-texts_of journal = flat_map text_of journal

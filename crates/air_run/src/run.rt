@@ -1,13 +1,13 @@
 ghost use Rattle.std.specs.Prelude.{◌≡◌, ◌≤◌, ◌++◌, ◌∷◌, [], ℕ, List, None, Some, OnOk, IfOk};
 ghost use Rattle.l2_io.specs.Known.{HasRisen};
 ghost use Rattle.air_text.specs.Ranges.{IsInRange};
-ghost use Rattle.air_text.specs.Text.{text_of};
-ghost use Rattle.air_run.specs.Run.{RunState, fresh, step, done, finish, texts_of};
+ghost use Rattle.air_run.specs.Run.{RunState, fresh, step, done, finish};
+ghost use Rattle.air_text.specs.Text.{texts_of};
 ghost use Rattle.air_run.specs.Steps.{Steps, Finishes};
 
 use crate::refusal::StepFault;
 use crate::running::Running;
-use air_text::{Line, Record, print, print_line};
+use air_text::{Line, Record, append_record, print_line};
 use l2_bits::{Bytes, NoMemory};
 use l2_io::{PutFault, Sink};
 use std::alloc::Global;
@@ -31,11 +31,11 @@ impl Model for Run {
 }
 
 // Adds the texts of records to a text.
-fn append_texts(alloc: Global, records: &[Record], text: &mut Bytes) -> Result<(), NoMemory>
+fn append_texts(records: &[Record], text: &mut Bytes) -> Result<(), NoMemory>
     ensures { OnOk result (text.new ≡ text.old ++ texts_of records.now) }
 {
     for record in records {
-        text.append(print(alloc, record)?.as_slice())?;
+        append_record(text, record)?;
     }
     Ok(())
 }
@@ -53,7 +53,7 @@ fn text_of_line(
 {
     let mut text = print_line(alloc, number, line)?;
     running.play(line)?;
-    append_texts(alloc, running.out(), &mut text)?;
+    append_texts(running.out(), &mut text)?;
     running.clear();
     Ok(text)
 }
@@ -64,7 +64,7 @@ fn text_of_sums(alloc: Global, running: &Running) -> Result<Bytes, NoMemory>
 {
     let sums = running.sums()?;
     let mut text = Bytes::new(alloc);
-    append_texts(alloc, sums.as_slice(), &mut text)?;
+    append_texts(sums.as_slice(), &mut text)?;
     Ok(text)
 }
 

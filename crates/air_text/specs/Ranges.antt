@@ -1,5 +1,6 @@
 -- The fields of a line in their ranges.
 use Rattle.std.specs.Prelude.{ℕ, ◌≤◌, List, length}
+use Rattle.bearer_types.specs.Configs.{IsConfig}
 use Rattle.air_text.specs.declared.line.Line.{Line}
 use Rattle.air_text.specs.declared.line.Line.TheVariants as lines
 
@@ -18,10 +19,11 @@ pub record AreGrants (upward downward : ℕ) : Type 0 where
   pub up : upward ≤ 9422
   pub down : downward ≤ 9422
 
--- the SDUs, blocks and grants of a line
+-- the SDUs, blocks, grants and configurations of a line
 abbrev pub IsInRange : Line → Type 0
 IsInRange (lines.Submit side lcid octets) = IsSdu octets
 IsInRange (lines.Tti up_grant up down_grant down) = AreGrants up_grant down_grant
 IsInRange (lines.Drain grant) = grant ≤ 9422
 IsInRange (lines.Forge side octets) = IsBlock octets
+IsInRange (lines.Bearer config options) = IsConfig config
 IsInRange line = Unit {0}

@@ -20,6 +20,11 @@ abbrev pub Gives : {A : Type 0} → Result A LineFault → Result A LineRefusal 
 Gives (Ok x) read = read ≡ Ok x
 Gives (Err e) read = Fails e read
 
+-- what a function answered, and what it left in a list, is what reading gives, unless memory ran out
+abbrev pub HasRead : Result (List ℕ) LineRefusal → List ℕ → Result Unit LineFault → Type 0
+HasRead read octets (Ok _) = read ≡ Ok octets
+HasRead read octets (Err e) = Fails e read
+
 -- the words between the spaces, behind a word that was begun
 abbrev pub words_behind : List ℕ → List ℕ → List (List ℕ)
 words_behind word [] = if length word == 0 then [] else word ∷ []

@@ -1,15 +1,16 @@
-ghost use Rattle.std.specs.Prelude.{◌≡◌, ◌≤◌, ◌<◌, ◌^◌, ◌+◌, ◌*◌, ◌-◌, ℕ, List, length, IfOk, IfSome, MatchOption, IsTrue, codes, map};
-ghost use Rattle.air_text.specs.Words.{Gives, words_of, texts};
+ghost use Rattle.std.specs.Prelude.{◌≡◌, ◌≢◌, ◌⊎◌, [], ◌∷◌, slice_index, ◌≤◌, ◌<◌, ◌^◌, ◌+◌, ◌*◌, ◌-◌, ℕ, List, length, IfOk, IfSome, OnOk, MatchOption, IsTrue, codes, map};
+ghost use Rattle.air_text.specs.Words.{Gives, HasRead, words_of, texts};
 ghost use Rattle.air_text.specs.Fields.{number_of, either_of, limit_of, octets_of, side_of, clock_of, kind_of, outcome_of, outcome, cipher_of, word_of, is_number, is_digit, value_behind};
 ghost use Rattle.air_text.specs.Reading.{key_of};
 ghost use Rattle.std.specs.List.{AllPass, list_all};
 ghost use Rattle.std.specs.Str.{bytes_eq};
 
 use crate::line::{Fate, LineFault, LineRefusal, Outcome};
+use digits::read_hex;
 use eps_sec::{Cipher, Key};
-use hex::FromHexError;
 use l2_bits::Bytes;
 use l2_types::{Clock, Kind, Side};
+use memchr::memchr;
 use std::alloc::{AllocError, Global};
 
 pub fn words<'a>(alloc: Global, text: &'a [u8]) -> Result<Vec<&'a [u8]>, AllocError>
@@ -77,7 +78,7 @@ fn value(text: &[u8], most: u32) -> Option<u32>
 #[tactic(auto, unfolding(crate::specs::Fields::number_of))]
 pub fn number(text: &[u8], least: u32, most: u32) -> Result<u32, LineRefusal>
     ensures value { result ≡ number_of least most text.now }
-    ensures small { IfOk result (λ n. n ≤ most) }
+    ensures within { IfOk result (λ n. (least ≤ n) × (n ≤ most)) }
 {
     if !is_numeral(text) {
         return Err(LineRefusal::Number);
@@ -93,7 +94,8 @@ pub fn number(text: &[u8], least: u32, most: u32) -> Result<u32, LineRefusal>
 
 #[tactic(auto, unfolding(crate::specs::Fields::either_of))]
 pub fn either(text: &[u8], one: u32, other: u32) -> Result<u32, LineRefusal>
-    ensures { result ≡ either_of one other text.now }
+    ensures value { result ≡ either_of one other text.now }
+    ensures within { IfOk result (λ n. (n ≡ one) ⊎ (n ≡ other)) }
 {
     let number = number(text, 0, 100)?;
     if number == one {
@@ -107,7 +109,8 @@ pub fn either(text: &[u8], one: u32, other: u32) -> Result<u32, LineRefusal>
 
 #[tactic(auto, unfolding(crate::specs::Fields::limit_of))]
 pub fn limit(text: &[u8], none: &[u8], least: u32, most: u32) -> Result<Option<u32>, LineRefusal>
-    ensures { result ≡ limit_of none.now least most text.now }
+    ensures value { result ≡ limit_of none.now least most text.now }
+    ensures within { IfOk result (λ limit. IfSome limit (λ n. (least ≤ n) × (n ≤ most))) }
 {
     if text == none {
         return Ok(None);
@@ -122,20 +125,28 @@ pub fn octets(alloc: Global, text: &[u8], most: usize) -> Result<Bytes, LineFaul
     ensures some { IfOk result (λ octets. 1 ≤ length octets) }
     ensures short { IfOk result (λ octets. length octets ≤ most) }
 {
+    let mut octets = Bytes::new(alloc);
+    octets_into(&mut octets, text, most)?;
+    Ok(octets)
+}
+
+/// Reads octets in hexadecimal, at least one and at most so many, into a list in place of what it holds.
+#[tactic(auto, using(crate::proofs::Octets::some_octets), unfolding(crate::specs::Fields::octets_of))]
+pub fn octets_into(octets: &mut Bytes, text: &[u8], most: usize) -> Result<(), LineFault>
+    ensures value { HasRead (octets_of most text.now) octets.new result }
+    ensures some { OnOk result (1 ≤ length octets.new) }
+    ensures short { OnOk result (length octets.new ≤ most) }
+{
     if text.is_empty() {
         return Err(LineFault::Refused(LineRefusal::Hex));
     }
-    match hex::decode(alloc, text) {
-        Ok(octets) => {
-            if octets.len() > most {
-                Err(LineFault::Refused(LineRefusal::Range))
-            } else {
-                Ok(Bytes::from_vec(octets))
-            }
-        }
-        Err(FromHexError::OutOfMemory) => Err(LineFault::NoMemory),
-        Err(_) => Err(LineFault::Refused(LineRefusal::Hex)),
+    if !read_hex(text, octets)? {
+        return Err(LineFault::Refused(LineRefusal::Hex));
     }
+    if octets.as_slice().len() > most {
+        return Err(LineFault::Refused(LineRefusal::Range));
+    }
+    Ok(())
 }
 
 fn key_octets(octets: &[u8]) -> [u8; 16]
@@ -151,22 +162,19 @@ fn key_octets(octets: &[u8]) -> [u8; 16]
 pub fn key(alloc: Global, text: &[u8]) -> Result<Key, LineFault>
     ensures { Gives result (key_of text.now) }
 {
+    let mut octets = Bytes::new(alloc);
     if text.is_empty() {
         return Err(LineFault::Refused(LineRefusal::Hex));
     }
-    match hex::decode(alloc, text) {
-        Ok(octets) => {
-            if octets.len() == 16 {
-                Ok(Key {
-                    octets: key_octets(octets.as_slice()),
-                })
-            } else {
-                Err(LineFault::Refused(LineRefusal::Range))
-            }
-        }
-        Err(FromHexError::OutOfMemory) => Err(LineFault::NoMemory),
-        Err(_) => Err(LineFault::Refused(LineRefusal::Hex)),
+    if !read_hex(text, &mut octets)? {
+        return Err(LineFault::Refused(LineRefusal::Hex));
     }
+    if octets.as_slice().len() != 16 {
+        return Err(LineFault::Refused(LineRefusal::Range));
+    }
+    Ok(Key {
+        octets: key_octets(octets.as_slice()),
+    })
 }
 
 #[tactic(auto, unfolding(crate::specs::Fields::side_of))]
@@ -267,5 +275,31 @@ pub fn word(text: &[u8], wanted: &[u8]) -> Result<(), LineRefusal>
         Ok(())
     } else {
         Err(LineRefusal::Word)
+    }
+}
+
+// A text without the spaces at its beginning.
+fn without_spaces(text: &[u8]) -> &[u8]
+    ensures words { words_of result.now ≡ words_of text.now }
+    ensures begins { slice_index result.now 0 ≢ 32 }
+{
+    let mut text = text;
+    while let [b' ', rest @ ..] = text {
+        text = rest;
+    }
+    text
+}
+
+/// The first word of a text, and what is behind it; `None` where there is no word.
+pub fn split_word(text: &[u8]) -> Option<(&[u8], &[u8])>
+    ensures { MatchOption result (words_of text.now ≡ []) (λ p. words_of text.now ≡ p.0.now ∷ words_of p.1.now) }
+{
+    let text = without_spaces(text);
+    if text.is_empty() {
+        return None;
+    }
+    match memchr(b' ', text) {
+        None => Some((text, &[])),
+        Some(at) => Some(text.split_at(at)),
     }
 }

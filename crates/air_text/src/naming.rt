@@ -1,11 +1,13 @@
 ghost use Rattle.std.specs.Prelude.{◌≡◌};
-ghost use Rattle.air_text.specs.Text.{side_text, kind_text, clock_text, cipher_text, how_text, waits_text, direction_text, arrived_text, place_text, state_text, fate_text, outcome_text, heard_text, fresh_text};
+ghost use Rattle.air_text.specs.Text.{side_text, kind_text, clock_text, cipher_text, how_text, waits_text, direction_text, arrived_text, place_text, state_text, fate_text, outcome_text, heard_text, fresh_text, lost_text, bit_text, framing_text, mac_number, rlc_number, pdcp_number};
 
 use crate::line::{Fate, Outcome};
 use crate::record::{Arrived, NoPlace, State};
 use eps_sec::Cipher;
-use l2_types::{Clock, How, Kind, Side, Waits};
-use mac_pdu::Direction;
+use l2_types::{Clock, How, Kind, Lost, Side, Waits};
+use mac_pdu::{Direction, MacWhy};
+use pdcp_pdu::PdcpWhy;
+use rlc_pdu::RlcWhy;
 
 pub fn side_word(one: Side) -> &'static str
     ensures { result.now ≡ side_text one }
@@ -144,4 +146,77 @@ pub fn outcome_word(outcome: Outcome) -> &'static str
     ensures { result.now ≡ outcome_text outcome }
 {
     fate_word(outcome.fate, outcome.flipped)
+}
+
+pub fn lost_word(one: Lost) -> &'static str
+    ensures { result.now ≡ lost_text one }
+{
+    match one {
+        Lost::NoBearer => "nobearer",
+        Lost::Repeat => "repeat",
+        Lost::Outside => "outside",
+        Lost::Clash => "clash",
+        Lost::Old => "old",
+        Lost::Range => "range",
+        Lost::Ignored => "ignored",
+        Lost::Handover => "handover",
+        Lost::Loop => "loop",
+        Lost::Report => "report",
+    }
+}
+
+pub fn bit_word(one: bool) -> &'static str
+    ensures { result.now ≡ bit_text one }
+{
+    match one {
+        true => "1",
+        false => "0",
+    }
+}
+
+pub fn framing_word(fi: u8) -> &'static str
+    ensures { result.now ≡ framing_text fi }
+{
+    match fi {
+        0 => "00",
+        1 => "01",
+        2 => "10",
+        _ => "11",
+    }
+}
+
+pub fn mac_why(why: MacWhy) -> u64
+    ensures { result ≡ mac_number why }
+{
+    match why {
+        MacWhy::Short => 1,
+        MacWhy::ReservedLcid => 2,
+        MacWhy::LengthPast => 3,
+        MacWhy::ControlAfterSdu => 4,
+        MacWhy::PaddingPlace => 5,
+    }
+}
+
+pub fn rlc_why(why: RlcWhy) -> u64
+    ensures { result ≡ rlc_number why }
+{
+    match why {
+        RlcWhy::Short => 1,
+        RlcWhy::ZeroLi => 2,
+        RlcWhy::LiPast => 3,
+        RlcWhy::EmptyData => 4,
+        RlcWhy::ReservedCpt => 5,
+        RlcWhy::SoBackwards => 6,
+        RlcWhy::Trailing => 7,
+    }
+}
+
+pub fn pdcp_why(why: PdcpWhy) -> u64
+    ensures { result ≡ pdcp_number why }
+{
+    match why {
+        PdcpWhy::Short => 1,
+        PdcpWhy::ReservedType => 2,
+        PdcpWhy::EmptyData => 3,
+    }
 }

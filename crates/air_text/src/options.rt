@@ -1,7 +1,9 @@
-ghost use Rattle.std.specs.Prelude.{◌≡◌, ◌≤◌, ℕ, List, Option, None, Some, IfOk, MatchOption, codes};
+ghost use Rattle.std.specs.Prelude.{◌≡◌, ◌≤◌, true, ℕ, List, Option, None, Some, IfOk, MatchOption, codes};
 ghost use Rattle.air_text.specs.Words.{Gives, texts, joined, spaced, before_equals, behind_equals, is_option, is_named, is_again, is_twice};
 ghost use Rattle.air_text.specs.Options.{goes, priority_of, group_of, rlc_bits_of, pdcp_bits_of, config_of, name_of, has_um, has_srb, has_am, has, psn_of, option_of, word_option, options_of};
 ghost use Rattle.std.specs.Str.{bytes_eq};
+ghost use Rattle.bearer_types.specs.Configs.{IsConfig, AreRlcBits, ArePdcpBits};
+ghost use Rattle.air_text.specs.Fields.{either_of};
 
 use crate::fields::{either, is_word, limit, number};
 use crate::line::{LineFault, LineRefusal};
@@ -206,10 +208,13 @@ fn pdcp_bits(kind: Kind) -> u32
     }
 }
 
-#[tactic(auto, unfolding(crate::specs::Options::config_of))]
 /// A bearer without an option.
+#[tactic(auto, using(crate::proofs::Configs::plain_config), unfolding(crate::specs::Options::config_of))]
 pub fn plain(lcid: u8, kind: Kind) -> BearerConfig
-    ensures { result ≡ config_of lcid kind }
+    requires goes { goes kind lcid ≡ true }
+    requires few { lcid ≤ 10 }
+    ensures config { result ≡ config_of lcid kind }
+    ensures ranges { IsConfig result }
 {
     BearerConfig {
         channel: Channel {
@@ -236,17 +241,34 @@ pub fn plain(lcid: u8, kind: Kind) -> BearerConfig
     }
 }
 
+fn sn(kind: Kind, text: &[u8]) -> Result<u32, LineRefusal>
+    requires { has kind Name.Sn ≡ true }
+    ensures value { result ≡ either_of 5 10 text.now }
+    ensures ranges { IfOk result (AreRlcBits kind) }
+{
+    match kind {
+        Kind::Um => either(text, 5, 10),
+        _ => unreachable!(),
+    }
+}
+
 fn psn(kind: Kind, text: &[u8]) -> Result<u32, LineRefusal>
-    ensures { result ≡ psn_of kind text.now }
+    requires { has kind Name.Psn ≡ true }
+    ensures value { result ≡ psn_of kind text.now }
+    ensures ranges { IfOk result (ArePdcpBits kind) }
 {
     match kind {
         Kind::Um => either(text, 7, 12),
-        _ => either(text, 12, 15),
+        Kind::Am => either(text, 12, 15),
+        _ => unreachable!(),
     }
 }
 
 fn option(config: BearerConfig, name: Name, text: &[u8]) -> Result<BearerConfig, LineRefusal>
-    ensures { result ≡ option_of config name text.now }
+    requires has { has config.kind name ≡ true }
+    requires ranges { IsConfig config }
+    ensures config { result ≡ option_of config name text.now }
+    ensures ranges { IfOk result IsConfig }
 {
     let mut config = config;
     match name {
@@ -271,7 +293,7 @@ fn option(config: BearerConfig, name: Name, text: &[u8]) -> Result<BearerConfig,
             Ok(config)
         }
         Name::Sn => {
-            config.rlc_bits = either(text, 5, 10)?;
+            config.rlc_bits = sn(config.kind, text)?;
             Ok(config)
         }
         Name::Psn => {
@@ -307,7 +329,9 @@ fn option(config: BearerConfig, name: Name, text: &[u8]) -> Result<BearerConfig,
 
 #[tactic(auto, unfolding(crate::specs::Options::word_option))]
 fn option_word(config: BearerConfig, word: &[u8]) -> Result<BearerConfig, LineRefusal>
-    ensures { result ≡ word_option config word.now }
+    requires { IsConfig config }
+    ensures config { result ≡ word_option config word.now }
+    ensures ranges { IfOk result IsConfig }
 {
     let Some((text, value)) = split(word) else {
         return Err(LineRefusal::Word);
@@ -325,7 +349,9 @@ fn option_word(config: BearerConfig, word: &[u8]) -> Result<BearerConfig, LineRe
 #[tactic(auto, unfolding(crate::specs::Options::options_of))]
 /// One word after the other.
 pub fn options(config: BearerConfig, words: &[&[u8]]) -> Result<BearerConfig, LineRefusal>
-    ensures { result ≡ options_of config (texts words.now) }
+    requires { IsConfig config }
+    ensures config { result ≡ options_of config (texts words.now) }
+    ensures ranges { IfOk result IsConfig }
 {
     let mut config = config;
     let mut words = words;

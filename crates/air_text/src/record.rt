@@ -1,8 +1,13 @@
 use crate::line::Line;
 use bearer_types::Event;
-use l2_bits::Bytes;
+use l2_bits::{Bytes, Items};
 use l2_types::Side;
-use mac_pdu::Direction;
+use mac_pdu::{Control, Direction, MacRefusal};
+use pdcp_pdu::PdcpRefusal;
+use rlc_pdu::{Nacks, RlcRefusal};
+
+/// The lengths in octets of the elements of an RLC data PDU.
+pub type Lens = Items<u32>;
 
 /// What arrived of a block.
 #[derive(Clone, Copy, Debug, PartialEq, Eq)]
@@ -39,7 +44,9 @@ pub enum State {
     Long,
 }
 
-/// A record of a journal.
+/// A record: one line of a journal, or of what is shown of a block.
+///
+/// Lengths are in octets, `sn` and `fms` are as the PDU has them, and `fi` is below 4 (TS 36.322 6.2.2.6).
 #[derive(Debug, Drop)]
 pub enum Record {
     /// A line was accepted.
@@ -51,12 +58,14 @@ pub enum Record {
     Tti {
         tti: u64,
     },
+    /// The terminal sleeps in the TTI that began.
+    Sleep,
     /// What happened at one end.
     Of {
         side: Side,
         event: Event,
     },
-    /// A block is sent: a new one where `fresh`, with its redundancy version.
+    /// A block is sent by a HARQ process, 0 to 7: a new one where `fresh`, with its redundancy version, 0 to 3.
     Block {
         direction: Direction,
         process: u32,
@@ -64,7 +73,7 @@ pub enum Record {
         rv: u8,
         octets: Bytes,
     },
-    /// What arrived of a block, and the feedback as its sender reads it.
+    /// What arrived of a block, and the feedback as its sender reads it: `None` where none is awaited.
     Air {
         direction: Direction,
         what: Arrived,
@@ -76,6 +85,19 @@ pub enum Record {
         lcid: u8,
         why: NoPlace,
     },
+    /// The test loop submits an SDU.
+    Looped {
+        lcid: u8,
+        octets: Bytes,
+    },
+    /// A drain ended after so many rounds.
+    Drained {
+        rounds: u64,
+    },
+    /// A drain spent all its rounds.
+    Spent {
+        rounds: u64,
+    },
     /// The SDUs submitted and delivered on one direction of a bearer.
     Sum {
         direction: Direction,
@@ -86,7 +108,7 @@ pub enum Record {
     },
     /// A padding subheader at the front of a block.
     MacFront,
-    /// An SDU of a block, of `len` octets.
+    /// An SDU of a block.
     MacSdu {
         lcid: u8,
         len: u32,
@@ -95,8 +117,73 @@ pub enum Record {
     MacPad {
         octets: u32,
     },
-    /// A transparent RLC PDU of `len` octets.
+    /// A control element of a block.
+    MacControl {
+        element: Control,
+    },
+    /// A transparent PDU.
     RlcTm {
         len: u32,
+    },
+    /// A UMD PDU.
+    RlcUm {
+        sn: u32,
+        fi: u8,
+        lens: Lens,
+    },
+    /// An AMD PDU.
+    RlcAm {
+        sn: u32,
+        poll: bool,
+        fi: u8,
+        lens: Lens,
+    },
+    /// An AMD PDU segment.
+    RlcSeg {
+        sn: u32,
+        poll: bool,
+        fi: u8,
+        last: bool,
+        so: u32,
+        lens: Lens,
+    },
+    /// A STATUS.
+    RlcStatus {
+        ack: u32,
+        nacks: Nacks,
+    },
+    /// A PDCP data PDU of a data bearer, with the length of its data part.
+    PdcpData {
+        sn: u32,
+        len: u32,
+    },
+    /// A PDCP PDU of a signalling bearer, with the length of its data part and its MAC-I.
+    PdcpSrb {
+        sn: u32,
+        len: u32,
+        tag: [u8; 4],
+    },
+    /// A PDCP status report.
+    PdcpReport {
+        fms: u32,
+        bitmap: Bytes,
+    },
+    /// A block is shown: the `number`-th, of `len` octets.
+    Shown {
+        number: u32,
+        direction: Direction,
+        len: u32,
+    },
+    /// A shown block that can't be read.
+    BadMac {
+        fault: MacRefusal,
+    },
+    /// A shown RLC PDU that can't be read.
+    BadRlc {
+        fault: RlcRefusal,
+    },
+    /// A shown PDCP PDU that can't be read.
+    BadPdcp {
+        fault: PdcpRefusal,
     },
 }

@@ -1,19 +1,27 @@
 -- A line that is read has its fields in their ranges.
-use Rattle.std.proofs.Common.{◌≡◌, ◌≤◌, ◌<◌, ◌==◌, nat_lt, ℕ, Bool, true, false, List, [], ◌∷◌, length, refl, arith, subst, cond}
+use Rattle.std.proofs.Common.{◌≡◌, ◌≤◌, ◌<◌, ◌==◌, ◌⊎◌, inl, inr, nat_lt, ℕ, Bool, true, false, List, [], ◌∷◌, length, codes, refl, arith, subst, cond}
 use Rattle.std.proofs.lemmas.Bool.Decides.{nat_tests}
-use Rattle.std.specs.Prelude.{Option, None, Some, Result, Ok, Err, slice_index}
+use Rattle.std.specs.Prelude.{Option, None, Some, IfSome, Result, Ok, Err, slice_index}
+use Rattle.std.specs.Str.{bytes_eq}
 use Rattle.hex.specs.Hex.{decode_of}
 use Rattle.hex.specs.declared.error.FromHexError.{FromHexError}
 use Rattle.air_text.specs.declared.line.Line.{Line}
 use Rattle.air_text.specs.declared.line.Line.TheVariants as lines
 use Rattle.air_text.specs.declared.line.LineRefusal.{LineRefusal}
-use Rattle.air_text.specs.declared.line.LineRefusal.TheVariants.{Number, Range, Hex, Fields}
-use Rattle.air_text.specs.Words.{◌>>=◌, words_of, is_twice, joined}
-use Rattle.air_text.specs.Fields.{number_of, is_number, value_behind, octets_of, octets_in, side_of, outcome_of, kind_of, cipher_of}
-use Rattle.air_text.specs.Options.{goes, config_of, options_of}
+use Rattle.air_text.specs.declared.line.LineRefusal.TheVariants.{Word, Number, Range, Hex, Fields}
+use Rattle.l2_types.specs.declared.channel.Kind.{Kind}
+use Rattle.l2_types.specs.declared.channel.Kind.TheVariants.{Tm, Srb, Um, Am}
+use Rattle.bearer_types.specs.declared.config.BearerConfig.{BearerConfig}
+use Rattle.bearer_types.specs.Configs.{IsConfig, AreRlcBits, ArePdcpBits}
+use Rattle.air_text.specs.declared.options.Name.{Name}
+use Rattle.air_text.specs.declared.options.Name.TheVariants.{Prio, Pbr, Bsd, Lcg, Reorder, Sn, Psn, PollPdu, PollByte, PollRetx, MaxRetx, Prohibit, Count}
+use Rattle.air_text.specs.Words.{◌>>=◌, words_of, is_twice, joined, before_equals, behind_equals}
+use Rattle.air_text.specs.Fields.{either_of, limit_of, number_of, is_number, value_behind, octets_of, octets_in, side_of, outcome_of, kind_of, cipher_of}
+use Rattle.air_text.specs.Options.{goes, config_of, has, name_of, psn_of, option_of, named_option, cut_option, word_option, options_of}
 use Rattle.air_text.specs.Reading.{read_of, read_words, line_of, key_of, harq_of, bsr_of, keys_of, bearer_of, submit_of, tti_of, expire_of, handover_of, loop_of, loop_off_of, loop_a_of, loop_b_of, drain_of, forge_of, end_of, discard_of, drx_of}
 use Rattle.air_text.specs.Ranges.{IsInRange}
 use Rattle.air_text.proofs.Octets.{some_octets}
+use Rattle.air_text.proofs.Configs.{plain_config}
 
 -- what holds of a value that was read
 record Behind {B : Type 0} (P : B → Type 0) (x : Result B LineRefusal) : Type 0 where
@@ -94,13 +102,103 @@ keys-range (a ∷ b ∷ b2 ∷ b3 ∷ []) =
     bind IsInRange (cipher_of a) (λ c. key_of b >>= λ u. key_of b2 >>= λ r. key_of b3 >>= λ i. Ok (lines.Keys (record { alg = c; user = u; rrc = r; integrity = i }))) (λ c c_is. bind IsInRange (key_of b) (λ u. key_of b2 >>= λ r. key_of b3 >>= λ i. Ok (lines.Keys (record { alg = c; user = u; rrc = r; integrity = i }))) (λ u u_is. bind IsInRange (key_of b2) (λ r. key_of b3 >>= λ i. Ok (lines.Keys (record { alg = c; user = u; rrc = r; integrity = i }))) (λ r r_is. bind IsInRange (key_of b3) (λ i. Ok (lines.Keys (record { alg = c; user = u; rrc = r; integrity = i }))) (λ i i_is. given IsInRange (lines.Keys (record { alg = c; user = u; rrc = r; integrity = i })) (tt)))))
 keys-range (a ∷ b ∷ c ∷ d ∷ e ∷ fields) = refused IsInRange _
 
+-- ---- the configuration of a bearer
+
+choose-where : {B : Type 0} (P : B → Type 0) (b : Bool) (x y : Result B LineRefusal) → (b ≡ true → Behind P x) → Behind P y → Behind P (cond b x y)
+choose-where P true x y p q = p refl
+choose-where P false x y p q = q
+
+least-by : (a b c : Bool) (least v n : ℕ) → nat_lt v least ≡ c → cond a (cond b (Err Range) (cond c (Err Range) (Ok v))) (Err Number) ≡ Ok n → least ≤ n
+least-by true false false least v n t e = let same : v ≡ n = cc in grind (arith, nat_tests)
+least-by true false true least v n t e = cc
+least-by true true c least v n t e = cc
+least-by false b c least v n t e = cc
+
+number-least : (least most n : ℕ) (text : List ℕ) → number_of least most text ≡ Ok n → least ≤ n
+unfolding number_of
+number-least least most n text e = least-by (is_number text) (nat_lt most (value_behind 0 text)) (nat_lt (value_behind 0 text) least) least (value_behind 0 text) n refl e
+
+number-range : (least most n : ℕ) (text : List ℕ) → number_of least most text ≡ Ok n → (least ≤ n) × (n ≤ most)
+number-range least most n text e = (number-least least most n text e, number-most least most n text e)
+
+-- a limit that is a number
+abbrev Within : ℕ → ℕ → Option ℕ → Type 0
+Within least most limit = IfSome limit (λ n. (least ≤ n) × (n ≤ most))
+
+limit-behind : (word : List ℕ) (least most : ℕ) (text : List ℕ) → Behind (Within least most) (limit_of word least most text)
+unfolding limit_of
+limit-behind word least most text =
+    choose (Within least most) (bytes_eq text word) _ _ (given (Within least most) None tt)
+    (bind (Within least most) (number_of least most text) (λ n. Ok (Some n)) (λ n e. given (Within least most) (Some n) (number-range least most n text e)))
+
+limit-range : (word : List ℕ) (least most : ℕ) (text : List ℕ) (limit : Option ℕ) → limit_of word least most text ≡ Ok limit → Within least most limit
+limit-range word least most text limit e = (limit-behind word least most text).holds limit e
+
+most-only : (least most : ℕ) (limit : Option ℕ) → Within least most limit → IfSome limit (λ n. n ≤ most)
+most-only least most None is = tt
+most-only least most (Some n) is = is.1
+
+either-behind : (one other : ℕ) (text : List ℕ) → Behind (λ n. (n ≡ one) ⊎ (n ≡ other)) (either_of one other text)
+unfolding either_of
+either-behind one other text =
+    bind (λ n. (n ≡ one) ⊎ (n ≡ other)) (number_of 0 100 text) (λ n. cond (n == one) (Ok n) (cond (n == other) (Ok n) (Err Range)))
+    (λ n e. choose-where (λ n. (n ≡ one) ⊎ (n ≡ other)) (n == one) (Ok n) _ (λ is. given (λ n. (n ≡ one) ⊎ (n ≡ other)) n (inl (grind (arith, nat_tests, is))))
+    (choose-where (λ n. (n ≡ one) ⊎ (n ≡ other)) (n == other) (Ok n) _ (λ is. given (λ n. (n ≡ one) ⊎ (n ≡ other)) n (inr (grind (arith, nat_tests, is)))) (refused (λ n. (n ≡ one) ⊎ (n ≡ other)) Range)))
+
+either-range : (one other : ℕ) (text : List ℕ) (n : ℕ) → either_of one other text ≡ Ok n → (n ≡ one) ⊎ (n ≡ other)
+either-range one other text n e = (either-behind one other text).holds n e
+
+sn-bits : (kind : Kind) (n : ℕ) → has kind Sn ≡ true → (n ≡ 5) ⊎ (n ≡ 10) → AreRlcBits kind n
+sn-bits Tm n has is = cc
+sn-bits Srb n has is = cc
+sn-bits Um n has is = is
+sn-bits Am n has is = cc
+
+psn-bits : (kind : Kind) (text : List ℕ) (n : ℕ) → has kind Psn ≡ true → psn_of kind text ≡ Ok n → ArePdcpBits kind n
+psn-bits Tm text n has e = cc
+psn-bits Srb text n has e = cc
+psn-bits Um text n has e = either-range 7 12 text n e
+psn-bits Am text n has e = either-range 12 15 text n e
+
+option-range : (c : BearerConfig) (name : Name) (text : List ℕ) → has c.kind name ≡ true → IsConfig c → Behind IsConfig (option_of c name text)
+option-range c Prio text has h = bind IsConfig (number_of 1 16 text) (λ n. Ok (record c { channel = record c.channel { priority = n } })) (λ n e. given IsConfig (record c { channel = record c.channel { priority = n } }) (record { lcid = h.lcid; rlc_bits = h.rlc_bits; pdcp_bits = h.pdcp_bits; priority = number-range 1 16 n text e; pbr = h.pbr; bucket = h.bucket; group = h.group; poll_pdu = h.poll_pdu; poll_byte = h.poll_byte; poll_retransmit = h.poll_retransmit; max_retx = h.max_retx; reorder = h.reorder; prohibit = h.prohibit }))
+option-range c Pbr text has h = bind IsConfig (limit_of (codes "inf") 0 65535 text) (λ n. Ok (record c { channel = record c.channel { pbr = n } })) (λ n e. given IsConfig (record c { channel = record c.channel { pbr = n } }) (record { lcid = h.lcid; rlc_bits = h.rlc_bits; pdcp_bits = h.pdcp_bits; priority = h.priority; pbr = most-only 0 65535 n (limit-range (codes "inf") 0 65535 text n e); bucket = h.bucket; group = h.group; poll_pdu = h.poll_pdu; poll_byte = h.poll_byte; poll_retransmit = h.poll_retransmit; max_retx = h.max_retx; reorder = h.reorder; prohibit = h.prohibit }))
+option-range c Bsd text has h = bind IsConfig (number_of 1 1000 text) (λ n. Ok (record c { channel = record c.channel { bucket = n } })) (λ n e. given IsConfig (record c { channel = record c.channel { bucket = n } }) (record { lcid = h.lcid; rlc_bits = h.rlc_bits; pdcp_bits = h.pdcp_bits; priority = h.priority; pbr = h.pbr; bucket = number-range 1 1000 n text e; group = h.group; poll_pdu = h.poll_pdu; poll_byte = h.poll_byte; poll_retransmit = h.poll_retransmit; max_retx = h.max_retx; reorder = h.reorder; prohibit = h.prohibit }))
+option-range c Lcg text has h = bind IsConfig (number_of 0 3 text) (λ n. Ok (record c { channel = record c.channel { group = n } })) (λ n e. given IsConfig (record c { channel = record c.channel { group = n } }) (record { lcid = h.lcid; rlc_bits = h.rlc_bits; pdcp_bits = h.pdcp_bits; priority = h.priority; pbr = h.pbr; bucket = h.bucket; group = number-most 0 3 n text e; poll_pdu = h.poll_pdu; poll_byte = h.poll_byte; poll_retransmit = h.poll_retransmit; max_retx = h.max_retx; reorder = h.reorder; prohibit = h.prohibit }))
+option-range c Reorder text has h = bind IsConfig (number_of 0 65535 text) (λ n. Ok (record c { rx = record c.rx { reorder = n } })) (λ n e. given IsConfig (record c { rx = record c.rx { reorder = n } }) (record { lcid = h.lcid; rlc_bits = h.rlc_bits; pdcp_bits = h.pdcp_bits; priority = h.priority; pbr = h.pbr; bucket = h.bucket; group = h.group; poll_pdu = h.poll_pdu; poll_byte = h.poll_byte; poll_retransmit = h.poll_retransmit; max_retx = h.max_retx; reorder = number-most 0 65535 n text e; prohibit = h.prohibit }))
+option-range c Sn text has h = bind IsConfig (either_of 5 10 text) (λ n. Ok (record c { rlc_bits = n })) (λ n e. given IsConfig (record c { rlc_bits = n }) (record { lcid = h.lcid; rlc_bits = sn-bits c.kind n has (either-range 5 10 text n e); pdcp_bits = h.pdcp_bits; priority = h.priority; pbr = h.pbr; bucket = h.bucket; group = h.group; poll_pdu = h.poll_pdu; poll_byte = h.poll_byte; poll_retransmit = h.poll_retransmit; max_retx = h.max_retx; reorder = h.reorder; prohibit = h.prohibit }))
+option-range c Psn text has h = bind IsConfig (psn_of c.kind text) (λ n. Ok (record c { pdcp_bits = n })) (λ n e. given IsConfig (record c { pdcp_bits = n }) (record { lcid = h.lcid; rlc_bits = h.rlc_bits; pdcp_bits = psn-bits c.kind text n has e; priority = h.priority; pbr = h.pbr; bucket = h.bucket; group = h.group; poll_pdu = h.poll_pdu; poll_byte = h.poll_byte; poll_retransmit = h.poll_retransmit; max_retx = h.max_retx; reorder = h.reorder; prohibit = h.prohibit }))
+option-range c PollPdu text has h = bind IsConfig (limit_of (codes "inf") 1 65535 text) (λ n. Ok (record c { tx = record c.tx { poll_pdu = n } })) (λ n e. given IsConfig (record c { tx = record c.tx { poll_pdu = n } }) (record { lcid = h.lcid; rlc_bits = h.rlc_bits; pdcp_bits = h.pdcp_bits; priority = h.priority; pbr = h.pbr; bucket = h.bucket; group = h.group; poll_pdu = limit-range (codes "inf") 1 65535 text n e; poll_byte = h.poll_byte; poll_retransmit = h.poll_retransmit; max_retx = h.max_retx; reorder = h.reorder; prohibit = h.prohibit }))
+option-range c PollByte text has h = bind IsConfig (limit_of (codes "inf") 1 4000000 text) (λ n. Ok (record c { tx = record c.tx { poll_byte = n } })) (λ n e. given IsConfig (record c { tx = record c.tx { poll_byte = n } }) (record { lcid = h.lcid; rlc_bits = h.rlc_bits; pdcp_bits = h.pdcp_bits; priority = h.priority; pbr = h.pbr; bucket = h.bucket; group = h.group; poll_pdu = h.poll_pdu; poll_byte = limit-range (codes "inf") 1 4000000 text n e; poll_retransmit = h.poll_retransmit; max_retx = h.max_retx; reorder = h.reorder; prohibit = h.prohibit }))
+option-range c PollRetx text has h = bind IsConfig (number_of 0 65535 text) (λ n. Ok (record c { tx = record c.tx { poll_retransmit = n } })) (λ n e. given IsConfig (record c { tx = record c.tx { poll_retransmit = n } }) (record { lcid = h.lcid; rlc_bits = h.rlc_bits; pdcp_bits = h.pdcp_bits; priority = h.priority; pbr = h.pbr; bucket = h.bucket; group = h.group; poll_pdu = h.poll_pdu; poll_byte = h.poll_byte; poll_retransmit = number-most 0 65535 n text e; max_retx = h.max_retx; reorder = h.reorder; prohibit = h.prohibit }))
+option-range c MaxRetx text has h = bind IsConfig (number_of 1 32 text) (λ n. Ok (record c { tx = record c.tx { max_retx = n } })) (λ n e. given IsConfig (record c { tx = record c.tx { max_retx = n } }) (record { lcid = h.lcid; rlc_bits = h.rlc_bits; pdcp_bits = h.pdcp_bits; priority = h.priority; pbr = h.pbr; bucket = h.bucket; group = h.group; poll_pdu = h.poll_pdu; poll_byte = h.poll_byte; poll_retransmit = h.poll_retransmit; max_retx = number-range 1 32 n text e; reorder = h.reorder; prohibit = h.prohibit }))
+option-range c Prohibit text has h = bind IsConfig (limit_of (codes "off") 0 65535 text) (λ n. Ok (record c { rx = record c.rx { prohibit = n } })) (λ n e. given IsConfig (record c { rx = record c.rx { prohibit = n } }) (record { lcid = h.lcid; rlc_bits = h.rlc_bits; pdcp_bits = h.pdcp_bits; priority = h.priority; pbr = h.pbr; bucket = h.bucket; group = h.group; poll_pdu = h.poll_pdu; poll_byte = h.poll_byte; poll_retransmit = h.poll_retransmit; max_retx = h.max_retx; reorder = h.reorder; prohibit = most-only 0 65535 n (limit-range (codes "off") 0 65535 text n e) }))
+option-range c Count text has h = bind IsConfig (number_of 0 4294967295 text) (λ n. Ok (record c { first = n })) (λ n e. given IsConfig (record c { first = n }) (record { lcid = h.lcid; rlc_bits = h.rlc_bits; pdcp_bits = h.pdcp_bits; priority = h.priority; pbr = h.pbr; bucket = h.bucket; group = h.group; poll_pdu = h.poll_pdu; poll_byte = h.poll_byte; poll_retransmit = h.poll_retransmit; max_retx = h.max_retx; reorder = h.reorder; prohibit = h.prohibit }))
+
+named-range : (c : BearerConfig) (name : Option Name) (value : List ℕ) → IsConfig c → Behind IsConfig (named_option c name value)
+named-range c None value h = refused IsConfig _
+named-range c (Some name) value h = choose-where IsConfig (has c.kind name) (option_of c name value) (Err Word) (λ is. option-range c name value is h) (refused IsConfig Word)
+
+cut-range : (c : BearerConfig) (name : List ℕ) (value : Option (List ℕ)) → IsConfig c → Behind IsConfig (cut_option c name value)
+cut-range c name None h = refused IsConfig _
+cut-range c name (Some value) h = named-range c (name_of name) value h
+
+word-range : (c : BearerConfig) (word : List ℕ) → IsConfig c → Behind IsConfig (word_option c word)
+unfolding word_option
+word-range c word h = cut-range c (before_equals word) (behind_equals word) h
+
+options-range : (c : BearerConfig) (words : List (List ℕ)) → IsConfig c → Behind IsConfig (options_of c words)
+unfolding options_of
+options-range c [] h = given IsConfig c h
+options-range c (w ∷ ws) h = bind IsConfig (word_option c w) (λ d. options_of d ws) (λ d e. options-range d ws ((word-range c w h).holds d e))
+
 bearer-range : (fields : List (List ℕ)) → Behind IsInRange (bearer_of fields)
 unfolding bearer_of
 bearer-range [] = refused IsInRange _
 bearer-range (a ∷ []) = refused IsInRange _
 bearer-range (a ∷ b ∷ options) =
     choose IsInRange (is_twice options) _ _ (refused IsInRange Fields)
-    (bind IsInRange (number_of 0 10 a) (λ n. kind_of b >>= λ k. cond (goes k n) (options_of (config_of n k) options >>= (λ config. Ok (lines.Bearer config (joined options)))) (Err Range)) (λ n e. bind IsInRange (kind_of b) (λ k. cond (goes k n) (options_of (config_of n k) options >>= (λ config. Ok (lines.Bearer config (joined options)))) (Err Range)) (λ k f. choose IsInRange (goes k n) (options_of (config_of n k) options >>= (λ config. Ok (lines.Bearer config (joined options)))) (Err Range) (bind IsInRange (options_of (config_of n k) options) (λ config. Ok (lines.Bearer config (joined options))) (λ config is. given IsInRange (lines.Bearer config (joined options)) tt)) (refused IsInRange Range))))
+    (bind IsInRange (number_of 0 10 a) (λ n. kind_of b >>= λ k. cond (goes k n) (options_of (config_of n k) options >>= (λ config. Ok (lines.Bearer config (joined options)))) (Err Range)) (λ n e. bind IsInRange (kind_of b) (λ k. cond (goes k n) (options_of (config_of n k) options >>= (λ config. Ok (lines.Bearer config (joined options)))) (Err Range)) (λ k f. choose-where IsInRange (goes k n) (options_of (config_of n k) options >>= (λ config. Ok (lines.Bearer config (joined options)))) (Err Range) (λ fits. bind IsInRange (options_of (config_of n k) options) (λ config. Ok (lines.Bearer config (joined options))) (λ config is. given IsInRange (lines.Bearer config (joined options)) ((options-range (config_of n k) options (plain_config n k fits (number-most 0 10 n a e))).holds config is))) (refused IsInRange Range))))
 
 submit-range : (fields : List (List ℕ)) → Behind IsInRange (submit_of fields)
 unfolding submit_of

@@ -1,0 +1,8 @@
+-- What stands from a place of a list on.
+use Rattle.std.proofs.Common.{◌≡◌, ◌+◌, ℕ, List, [], ◌∷◌, zero, suc, drop, slice_get, Option, Some, None, ap, add-one, arith}
+
+pub drop-get : {A : Type 0} (xs : List A) (i : ℕ) (x : A) → slice_get xs i ≡ Some x → drop i xs ≡ x ∷ drop (i + 1) xs
+drop-get [] i x e = cc
+drop-get (y ∷ ys) zero x e = cc
+drop-get (y ∷ ys) (suc i) x e =
+    let next : suc i + 1 ≡ suc (i + 1) = omega arith in rw next (drop-get ys i x e)

@@ -1,0 +1,9 @@
+use Rattle.std.proofs.Common.{◌≡◌, ◌++◌, length}
+use Rattle.hex.specs.Hex.{encode_lower}
+use Rattle.digits.proofs.hexadecimal.append_hex.Given as goal
+
+abbrev pub invariant-loop-rest : goal.invariant-loop-rest
+invariant-loop-rest l = record { written : l.text ++ encode_lower l.rest ≡ l.fn.text ++ encode_lower l.fn.octets }
+
+abbrev pub decreases-loop-rest : goal.decreases-loop-rest
+decreases-loop-rest l = length l.rest

@@ -1,0 +1,81 @@
+ghost use Rattle.std.specs.Prelude.{◌≡◌, ◌≤◌, ◌<◌, ◌++◌, ◌%◌, length, OnOk, IfOk, true, false, Some, None, MatchOption, MatchResult, max};
+ghost use Rattle.hex.specs.Hex.{decode_of};
+ghost use Rattle.digits.specs.Pairs.{value, worst, joined, pairs};
+
+use l2_bits::{Bytes, NoMemory};
+
+/// The digits that are read at a time.
+const BLOCK: usize = 64;
+
+// The value of a digit of either case, and 255 for anything else.
+#[inline(always)]
+fn value(digit: u8) -> u8
+    ensures exact { result ≡ value digit }
+    ensures fits { result < 256 }
+{
+    match digit {
+        b'0'..=b'9' => digit - b'0',
+        b'a'..=b'f' => digit - (b'a' - 10),
+        b'A'..=b'F' => digit - (b'A' - 10),
+        _ => 255,
+    }
+}
+
+#[inline(always)]
+fn greatest(a: u8, b: u8, c: u8) -> u8
+    ensures { result ≡ max (max a b) c }
+{
+    a.max(b).max(c)
+}
+
+// The octets that a block of digits says, or none where it isn't digits alone.
+fn read_block(digits: &[u8]) -> Option<[u8; BLOCK / 2]>
+    requires { length digits.now ≡ BLOCK }
+    ensures { MatchOption result (pairs digits.now ≡ None) (λ octets. pairs digits.now ≡ Some octets) }
+{
+    let mut octets = [0u8; BLOCK / 2];
+    let mut worst = 0;
+    for i in 0..BLOCK / 2 {
+        let high = value(digits[2 * i]);
+        let low = value(digits[2 * i + 1]);
+        worst = greatest(worst, high, low);
+        octets[i] = (high % 16) * 16 + low % 16;
+    }
+    if worst < 16 { Some(octets) } else { None }
+}
+
+// Adds the octets that fewer digits than a block say; `false` where they aren't pairs of digits alone.
+fn append_few(octets: &mut Bytes, digits: &[u8]) -> Result<bool, NoMemory>
+    requires { length digits.now < BLOCK }
+    ensures { IfOk result (λ good. MatchOption (pairs digits.now) (good ≡ false) (λ few. (good ≡ true) × (octets.new ≡ octets.old ++ few))) }
+{
+    let mut few = [0u8; BLOCK / 2];
+    let part = &mut few[..digits.len() / 2];
+    match hex::decode_to_slice(digits, part) {
+        Ok(()) => {
+            octets.append(part)?;
+            Ok(true)
+        }
+        Err(_) => Ok(false),
+    }
+}
+
+/// Reads hexadecimal digits of either case, two for each octet, into a list in place of what it holds.
+///
+/// `false` exactly where the text is anything else.
+pub fn read_hex(text: &[u8], octets: &mut Bytes) -> Result<bool, NoMemory>
+    ensures { IfOk result (λ good. MatchResult (decode_of text.now) (λ read. (good ≡ true) × (octets.new ≡ read)) (λ _. good ≡ false)) }
+{
+    octets.clear();
+    let mut rest = text;
+    while rest.len() >= BLOCK {
+        let (block, behind) = rest.split_at(BLOCK);
+        let Some(read) = read_block(block) else {
+            return Ok(false);
+        };
+        octets.append(&read)?;
+        rest = behind;
+    }
+    let good = append_few(octets, rest)?;
+    Ok(good)
+}
