@@ -1,0 +1,9 @@
+pub mod Cuts
+pub mod Parts
+pub mod Clear
+pub mod LensBack
+pub mod NacksBack
+pub mod LinesBack
+pub mod Events
+pub mod Records
+pub mod Texts

@@ -1,0 +1,4 @@
+pub mod Back
+pub mod Lens
+pub mod Lines
+pub mod Records
