@@ -1,4 +1,5 @@
 pub mod Nothing
+pub mod Engines
 pub mod Turning
 pub mod Parting
 pub mod Gathering

@@ -1,13 +1,14 @@
--- The row of a refused line.
-use Rattle.std.proofs.Common.{◌≡◌, ℕ, List, [], sym, append-nil, inr}
+-- The rows of the answers.
+use Rattle.std.proofs.Common.{◌≡◌, ℕ, Bool, List, [], sym, append-nil, inl, inr}
 use Rattle.std.specs.Prelude.{Option}
-use Rattle.air_run.specs.Run.{texts_of}
-use Rattle.air_run.specs.Journal.{Played, Refused, journal_of}
+use Rattle.air_text.specs.Text.{texts_of}
+use Rattle.air_run.specs.Journal.{Played, Refused}
 use Rattle.run_laws.specs.Journals.{EveryJournal}
 use Rattle.run_laws.proofs.Everything.{every-journal}
-use Rattle.l2_top.specs.Plays.{HasPlayed}
-use Rattle.l2_top.specs.Main.{HasAll, HasFront, Row, Runs, TellsRefusal}
+use Rattle.l2_top.specs.Plays.{Plays, HasPlayed}
+use Rattle.l2_top.specs.Main.{HasAll, HasFront, Row, Runs, TellsRefusal, TellsEnding}
 use Rattle.air_run.specs.declared.refusal.Reason.{Reason}
+use Rattle.l2_top.specs.declared.playing.Ending.{Ending}
 use Rattle.l2_top.specs.declared.playing.Ending.TheVariants as endings
 use Rattle.l2_top.specs.declared.status.Status.{Status}
 use Rattle.l2_top.specs.declared.status.Status.TheVariants as statuses
@@ -24,15 +25,23 @@ row-refused played out out' errs errs' i o f q number reason statuses.ReadFault 
 row-refused played out out' errs errs' i o f q number reason statuses.WriteFault close all told = inr (record { number = number; reason = reason; close = close; journal = all }, told.0, told.1)
 row-refused played out out' errs errs' i o f q number reason statuses.NoMemory close all told = (all-front played out out' all, told)
 
-pub runs-refused : (left left' out out' errs errs' : Option (List ℕ)) (i o f q : Type 0) (number : ℕ) (reason : Reason) (status : Status)
-    → HasPlayed journal_of left left' out out' i o (endings.Refused number reason) → TellsRefusal number reason errs errs' f q status
-    → Runs left left' out out' errs errs' i o f q status
-runs-refused left left' out out' errs errs' i o f q number reason status p told = record {
+row-of : (played : Played) (out out' errs errs' : Option (List ℕ)) (i o f q : Type 0) (ending : Ending) (status : Status)
+    → Plays played out out' i o ending → TellsEnding ending errs errs' f q status → Row played out out' errs errs' i o f q status
+row-of played out out' errs errs' i o f q endings.Done status p told = rw told.0 (p.0, p.1, told.1)
+row-of played out out' errs errs' i o f q (endings.Refused number reason) status p told = row-refused played out out' errs errs' i o f q number reason status p.0 p.1 told
+row-of played out out' errs errs' i o f q endings.ReadFault status p told = rw told.0 (p.0, p.1, p.2, told.1)
+row-of played out out' errs errs' i o f q endings.WriteFault status p told = rw told.0 (inl (p.0, p.1, told.1))
+row-of played out out' errs errs' i o f q endings.NoMemory status p told = rw told.0 (p, told.1)
+
+-- an input was played, and how that ended was told
+pub runs-ended : (journal : Bool → List ℕ → Played) (left left' out out' errs errs' : Option (List ℕ)) (i o f q : Type 0) (ending : Ending) (status : Status)
+    → HasPlayed journal left left' out out' i o ending → TellsEnding ending errs errs' f q status → Runs journal left left' out out' errs errs' i o f q status
+runs-ended journal left left' out out' errs errs' i o f q ending status p told = record {
   given = p.given;
   left_is = p.left_is;
   whole = p.whole;
   end = p.end;
-  row = row-refused (journal_of p.whole p.given) out out' errs errs' i o f q number reason status p.plays.0 p.plays.1 told;
+  row = row-of (journal p.whole p.given) out out' errs errs' i o f q ending status p.plays told;
 }
 
 -- what is promised of every journal

@@ -1,6 +1,6 @@
 -- What a turn leaves, by what was cut and what the line did.
 use Rattle.std.proofs.Common.{◌≡◌, ◌<◌, ◌≤◌, ◌+◌, ◌∙◌, Bool, true, false, ℕ, List, [], ◌∷◌, ◌++◌, length, refl, ap, sym, arith, inl, inr, append_assoc, subst}
-use Rattle.std.specs.Prelude.{Option, None, Some, IsSome}
+use Rattle.std.specs.Prelude.{Option, Some}
 use Rattle.std.proofs.lemmas.Grind.{flat_map-append}
 use Rattle.l2_io.specs.Known.{before, IsAtEnd}
 use Rattle.l2_io.specs.Feeds.{until_feed, from_feed}
@@ -11,7 +11,7 @@ use Rattle.l2_io.specs.declared.lines.Turn.{Turn}
 use Rattle.l2_io.specs.declared.lines.Turn.TheVariants as cuts
 use Rattle.air_text.specs.declared.record.Record.{Record}
 use Rattle.air_text.specs.declared.line.LineRefusal.TheVariants.{Long}
-use Rattle.air_run.specs.Run.{texts_of}
+use Rattle.air_text.specs.Text.{texts_of}
 use Rattle.air_run.specs.Steps.{WritesFront}
 use Rattle.air_run.specs.declared.refusal.Reason.{Reason}
 use Rattle.air_run.specs.declared.refusal.Reason.TheVariants as reasons
@@ -313,7 +313,3 @@ pub line-last : {S : Type 0} (m : Player S) (s : S) (number : ℕ) (old new : Cu
     → (new.stand ≡ stands.Open → ⊥) → HasGone (m.line s number new.line) run' written written' → IsOver m (onwards m s number old.kept) left left' written written' run'
 line-last m s number old new left left' written written' in_fault run' next few longest is has =
     last-cut m s number old.kept next.given left left' written written' in_fault run' new next.left_is next.cuts few longest is has
-
-pub live-state : {S : Type 0} (m : Player S) (run : Option S) → IsSome run → run ≡ Some (state_of m run)
-live-state m None live = cc
-live-state m (Some s) live = refl

@@ -1,3 +1,4 @@
 pub mod Plays
 pub mod Words
+pub mod Engines
 pub mod Main

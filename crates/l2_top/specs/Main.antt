@@ -4,11 +4,13 @@ use Rattle.std.specs.Fmt.{decimal}
 use Rattle.l2_io.specs.Known.{before, after, IsFront, IsAtEnd}
 use Rattle.air_text.specs.declared.line.LineRefusal.TheVariants.{Word, Number, Range, Hex, Fields, Long}
 use Rattle.air_run.specs.declared.refusal.RunRefusal.TheVariants.{UnknownBearer, BearerTwice, ConfiguredLate, Unbuilt}
-use Rattle.air_run.specs.Run.{texts_of}
+use Rattle.air_text.specs.Text.{texts_of}
 use Rattle.air_run.specs.Steps.{WritesFront}
-use Rattle.air_run.specs.Journal.{Finished, Refused, Waiting, Played, journal_of}
+use Rattle.air_run.specs.Journal.{Finished, Refused, Waiting, Played}
 use Rattle.air_run.specs.declared.refusal.Reason.{Reason}
 use Rattle.air_run.specs.declared.refusal.Reason.TheVariants as reasons
+use Rattle.l2_top.specs.declared.playing.Ending.{Ending}
+use Rattle.l2_top.specs.declared.playing.Ending.TheVariants as endings
 use Rattle.l2_top.specs.declared.status.Status.{Status}
 use Rattle.l2_top.specs.declared.status.Status.TheVariants as statuses
 
@@ -85,14 +87,14 @@ Row played out out' errs errs' in_fault out_fault errs_fault shortage statuses.W
 Row played out out' errs errs' in_fault out_fault errs_fault shortage statuses.NoMemory =
     HasFront played out out' × Tells no_memory_text errs errs' errs_fault shortage
 
--- what the command did with the octets that the source gave
-pub record Runs (left left' out out' errs errs' : Option (List ℕ)) (in_fault out_fault errs_fault shortage : Type 0) (status : Status) : Type 0 where
+-- what a command did with the octets that the source gave, by the journal that it makes of octets
+pub record Runs (journal : Bool → List ℕ → Played) (left left' out out' errs errs' : Option (List ℕ)) (in_fault out_fault errs_fault shortage : Type 0) (status : Status) : Type 0 where
   pub given : List ℕ
   pub left_is : left ≡ before given left'
   -- whether these were all
   pub whole : Bool
   pub end : whole ≡ true → IsAtEnd left'
-  pub row : Row (journal_of whole given) out out' errs errs' in_fault out_fault errs_fault shortage status
+  pub row : Row (journal whole given) out out' errs errs' in_fault out_fault errs_fault shortage status
 
 -- the words are no command
 abbrev pub Refuses : Option (List ℕ) → Option (List ℕ) → Type 0 → Type 0 → Status → Type 0
@@ -107,3 +109,11 @@ TellsRefusal number reason errs errs' errs_fault shortage statuses.Refused = err
 TellsRefusal number reason errs errs' errs_fault shortage statuses.WriteFault = WritesFront (refused_text number reason) errs errs' × errs_fault
 TellsRefusal number reason errs errs' errs_fault shortage statuses.NoMemory = Tells no_memory_text errs errs' errs_fault shortage
 TellsRefusal number reason errs errs' errs_fault shortage status = ⊥
+
+-- an ending is told: the text of its cause, or none where all is done
+abbrev pub TellsEnding : Ending → Option (List ℕ) → Option (List ℕ) → Type 0 → Type 0 → Status → Type 0
+TellsEnding endings.Done errs errs' errs_fault shortage status = (status ≡ statuses.Done) × (errs' ≡ errs)
+TellsEnding (endings.Refused number reason) errs errs' errs_fault shortage status = TellsRefusal number reason errs errs' errs_fault shortage status
+TellsEnding endings.ReadFault errs errs' errs_fault shortage status = (status ≡ statuses.ReadFault) × Tells read_fault_text errs errs' errs_fault shortage
+TellsEnding endings.WriteFault errs errs' errs_fault shortage status = (status ≡ statuses.WriteFault) × Tells write_fault_text errs errs' errs_fault shortage
+TellsEnding endings.NoMemory errs errs' errs_fault shortage status = (status ≡ statuses.NoMemory) × Tells no_memory_text errs errs' errs_fault shortage

@@ -4,11 +4,11 @@ use Rattle.l2_io.specs.Known.{before, after, IsAtEnd}
 use Rattle.l2_io.specs.declared.sink.PutFault.{PutFault}
 use Rattle.l2_io.specs.declared.sink.PutFault.TheVariants.{Failed, NoMemory}
 use Rattle.air_text.specs.declared.record.Record.{Record}
-use Rattle.air_run.specs.Run.{texts_of}
+use Rattle.air_text.specs.Text.{texts_of}
 use Rattle.air_run.specs.Steps.{WritesFront}
 use Rattle.air_run.specs.Journal.{Player, Outcome, Goes, Ends, Refuses, Finished, Refused, Waiting, Played, onto, finished, journal_from}
-use Rattle.l2_top.specs.declared.playing.LineEnd.{LineEnd}
-use Rattle.l2_top.specs.declared.playing.LineEnd.TheVariants as ends
+use Rattle.l2_top.specs.declared.engine.LineEnd.{LineEnd}
+use Rattle.l2_top.specs.declared.engine.LineEnd.TheVariants as ends
 use Rattle.l2_top.specs.declared.playing.TurnEnd.{TurnEnd}
 use Rattle.l2_top.specs.declared.playing.TurnEnd.TheVariants as turns
 use Rattle.l2_top.specs.declared.playing.Ending.{Ending}

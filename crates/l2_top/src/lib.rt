@@ -1,6 +1,7 @@
 //! The commands of the program, from the words of a command line and the octets of an input to the octets written.
 #![tactic(auto)]
 
+mod engine;
 mod playing;
 mod status;
 #[cfg(test)]
@@ -10,4 +11,4 @@ mod words;
 
 pub use status::Status;
 pub use top::l2_main;
-pub use words::Words;
+pub use words::{Command, Words};

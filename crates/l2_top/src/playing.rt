@@ -1,10 +1,12 @@
-ghost use Rattle.std.specs.Prelude.{◌≡◌, ◌≤◌, ◌<◌, ◌^◌, ◌+◌, ◌++◌, ℕ, List, [], Some, IsSome};
+ghost use Rattle.std.specs.Prelude.{◌≡◌, ◌≤◌, ◌<◌, ◌^◌, ◌+◌, ◌++◌, ℕ, List, [], Some};
 ghost use Rattle.l2_io.specs.Known.{HasRisen};
-ghost use Rattle.air_run.specs.Journal.{script, script_line, journal_from, journal_of, finished};
-ghost use Rattle.l2_top.specs.Plays.{RunsLine, Turns, Plays, HasPlayed, PutsRest, PutsSome, state_of};
+ghost use Rattle.air_run.specs.Journal.{journal_from, journal_by, journal_of};
+ghost use Rattle.l2_top.specs.Plays.{Turns, HasPlayed, PutsRest, PutsSome};
+ghost use Rattle.l2_top.specs.Engines.{Between, played_from, now_in, blocks_of};
 
-use air_run::{Reason, Run, StepFault};
-use air_text::{Line, LineFault, LineRefusal, read_line};
+use crate::engine::{Engine, LineEnd};
+use air_run::Reason;
+use air_text::LineRefusal;
 use l2_io::{GatherSink, Lines, PutFault, Sink, Source, Stand, Turn};
 use std::alloc::Global;
 
@@ -25,61 +27,27 @@ pub enum Ending {
 }
 
 #[derive(Clone, Copy, Debug, PartialEq, Eq)]
-enum LineEnd {
-    Next,
-    Ended,
-    Refused(Reason),
-    WriteFault,
-    NoMemory,
-}
-
-#[derive(Clone, Copy, Debug, PartialEq, Eq)]
 enum TurnEnd {
     Next,
     Over,
     Stop(Ending),
 }
 
-// Runs one line.
-#[tactic(auto, using(crate::proofs::Nothing::part_nothing))]
-fn run_line<K: Sink>(alloc: Global, run: &mut Run, number: u32, text: &[u8], out: &mut K) -> LineEnd
-    requires live { IsSome run.old }
-    ensures line { RunsLine (script_line (state_of script run.old) number text.now) run.new (K.written out.old) (K.written out.new) (HasRisen (K.faults out.old) (K.faults out.new)) result }
-    ensures count { K.faults out.old ≤ K.faults out.new }
-{
-    match read_line(alloc, text) {
-        Ok(None) => LineEnd::Next,
-        Ok(Some(line)) => {
-            let is_end = matches!(&line, Line::End);
-            match run.step(number, &line, out) {
-                Ok(()) if is_end => LineEnd::Ended,
-                Ok(()) => LineEnd::Next,
-                Err(StepFault::Refused(refusal)) => LineEnd::Refused(Reason::Run(refusal)),
-                Err(StepFault::WriteFault) => LineEnd::WriteFault,
-                Err(StepFault::NoMemory) => LineEnd::NoMemory,
-            }
-        }
-        Err(LineFault::Refused(refusal)) => LineEnd::Refused(Reason::Line(refusal)),
-        Err(LineFault::NoMemory) => LineEnd::NoMemory,
-    }
-}
-
-// Reads and runs one line.
+// Reads and plays one line.
 fn turn<S: Source, K: Sink>(
     alloc: Global,
     lines: &mut Lines,
-    run: &mut Run,
+    engine: &mut Engine,
     number: u32,
     source: &mut S,
     out: &mut K,
 ) -> TurnEnd
-    requires live { IsSome run.old }
     requires number { number ≤ 1000001 }
     requires longest { lines.old.longest ≡ 20000 }
     requires open { lines.old.stand ≡ Stand.Open }
-    ensures turn { Turns script (λ whole given. journal_from script whole (state_of script run.old) number (lines.old.kept ++ given)) (S.left source.old) (S.left source.new)
-        (K.written out.old) (K.written out.new) (HasRisen (S.faults source.old) (S.faults source.new)) (HasRisen (K.faults out.old) (K.faults out.new))
-        run.new (number + 1) lines.new.kept result }
+    ensures turn { (first : Between) → Turns (played_from first) (λ whole given. journal_from (played_from first) whole (now_in engine.old) number (lines.old.kept ++ given))
+        (S.left source.old) (S.left source.new) (K.written out.old) (K.written out.new) (HasRisen (S.faults source.old) (S.faults source.new)) (HasRisen (K.faults out.old) (K.faults out.new))
+        (Some (now_in engine.new)) (number + 1) lines.new.kept result }
     ensures open { result ≡ TurnEnd.Next → lines.new.stand ≡ Stand.Open }
     ensures longest { lines.new.longest ≡ 20000 }
     ensures few { result ≡ TurnEnd.Next → number ≤ 1000000 }
@@ -94,7 +62,7 @@ fn turn<S: Source, K: Sink>(
                     reason: Reason::Lines,
                 });
             }
-            match run_line(alloc, run, number, lines.line(), out) {
+            match engine.line(alloc, number, lines.line(), out) {
                 LineEnd::Next => {
                     if lines.stand() == Stand::Open {
                         TurnEnd::Next
@@ -133,19 +101,6 @@ fn turn<S: Source, K: Sink>(
     }
 }
 
-// Writes the records at the end.
-fn over<K: Sink>(run: Run, out: &mut K) -> Ending
-    requires { IsSome run }
-    ensures over { Plays (finished script (state_of script run)) (K.written out.old) (K.written out.new) ⊥ (HasRisen (K.faults out.old) (K.faults out.new)) result }
-    ensures count { K.faults out.old ≤ K.faults out.new }
-{
-    match run.finish(out) {
-        Ok(()) => Ending::Done,
-        Err(StepFault::WriteFault) => Ending::WriteFault,
-        Err(_) => Ending::NoMemory,
-    }
-}
-
 // Puts what is gathered, where there is much of it or the next line has to be waited for.
 #[tactic(auto, using(crate::proofs::Nothing::after_none, crate::proofs::Nothing::front_all))]
 fn make_room<K: Sink>(gathered: &mut GatherSink, lines: &Lines, out: &mut K) -> Result<(), PutFault>
@@ -173,11 +128,9 @@ fn put_rest<K: Sink>(gathered: &mut GatherSink, out: &mut K, ending: Ending) -> 
     }
 }
 
-/// Plays the script that a source gives, line by line.
-///
-/// The output is gathered, and put before the program waits for more input.
-pub fn play<S: Source, K: Sink>(alloc: Global, source: &mut S, out: &mut K) -> Ending
-    ensures played { HasPlayed journal_of (S.left source.old) (S.left source.new) (K.written out.old) (K.written out.new)
+// Plays the lines that a source gives.
+fn play<S: Source, K: Sink>(alloc: Global, engine: Engine, source: &mut S, out: &mut K) -> Ending
+    ensures played { HasPlayed (journal_by (played_from (now_in engine))) (S.left source.old) (S.left source.new) (K.written out.old) (K.written out.new)
         (HasRisen (S.faults source.old) (S.faults source.new)) (HasRisen (K.faults out.old) (K.faults out.new)) result }
     ensures source_count { S.faults source.old ≤ S.faults source.new }
     ensures out_count { K.faults out.old ≤ K.faults out.new }
@@ -185,7 +138,7 @@ pub fn play<S: Source, K: Sink>(alloc: Global, source: &mut S, out: &mut K) -> E
     let Ok(mut lines) = Lines::new(alloc, LONGEST) else {
         return Ending::NoMemory;
     };
-    let mut run = Run::new(alloc);
+    let mut engine = engine;
     let mut gathered = GatherSink::new(alloc);
     for number in 1..LIMIT + 2 {
         match make_room(&mut gathered, &lines, out) {
@@ -193,14 +146,43 @@ pub fn play<S: Source, K: Sink>(alloc: Global, source: &mut S, out: &mut K) -> E
             Err(PutFault::Failed) => return Ending::WriteFault,
             Err(PutFault::NoMemory) => return Ending::NoMemory,
         }
-        match turn(alloc, &mut lines, &mut run, number, source, &mut gathered) {
+        match turn(
+            alloc,
+            &mut lines,
+            &mut engine,
+            number,
+            source,
+            &mut gathered,
+        ) {
             TurnEnd::Next => {}
             TurnEnd::Over => {
-                let ending = over(run, &mut gathered);
+                let ending = engine.over(&mut gathered);
                 return put_rest(&mut gathered, out, ending);
             }
             TurnEnd::Stop(ending) => return put_rest(&mut gathered, out, ending),
         }
     }
     unreachable!()
+}
+
+/// Plays the script that a source gives, line by line.
+///
+/// The output is gathered, and put before the program waits for more input.
+pub fn play_script<S: Source, K: Sink>(alloc: Global, source: &mut S, out: &mut K) -> Ending
+    ensures played { HasPlayed journal_of (S.left source.old) (S.left source.new) (K.written out.old) (K.written out.new)
+        (HasRisen (S.faults source.old) (S.faults source.new)) (HasRisen (K.faults out.old) (K.faults out.new)) result }
+    ensures source_count { S.faults source.old ≤ S.faults source.new }
+    ensures out_count { K.faults out.old ≤ K.faults out.new }
+{
+    play(alloc, Engine::script(alloc), source, out)
+}
+
+/// Shows the blocks that a source gives, line by line, with the same reading and gathering.
+pub fn show_blocks<S: Source, K: Sink>(alloc: Global, source: &mut S, out: &mut K) -> Ending
+    ensures played { HasPlayed blocks_of (S.left source.old) (S.left source.new) (K.written out.old) (K.written out.new)
+        (HasRisen (S.faults source.old) (S.faults source.new)) (HasRisen (K.faults out.old) (K.faults out.new)) result }
+    ensures source_count { S.faults source.old ≤ S.faults source.new }
+    ensures out_count { K.faults out.old ≤ K.faults out.new }
+{
+    play(alloc, Engine::blocks(alloc), source, out)
 }

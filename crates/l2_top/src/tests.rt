@@ -162,3 +162,22 @@ fn a_refused_line_is_told(rt: HostRuntime) -> Result<(), std::test::Fail> {
     }
     Ok(())
 }
+
+#[test]
+fn blocks_are_shown(rt: HostRuntime) -> Result<(), std::test::Fail> {
+    let script = b"bearer 3 am\ndl 0b\ndl 03a4000050aabbcc\ndl 03a0008000aabb\n";
+    let played = play(
+        rt.alloc(),
+        &Case {
+            word: "decode",
+            script,
+            ..PLAIN
+        },
+    )?;
+    assert_eq!(rt; played.status, Status::Done);
+    assert_eq!(rt;
+        played.out.written(),
+        b"record 1 dl 1\nbad mac 0 2\nrecord 2 dl 8\nmac sdu 3 7\nbad rlc 2 3\nrecord 3 dl 7\nmac sdu 3 6\nrlc am 0 1 00 4\npdcp data 0 2\n".as_slice()
+    );
+    Ok(())
+}

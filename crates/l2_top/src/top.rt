@@ -1,11 +1,13 @@
-ghost use Rattle.std.specs.Prelude.{◌≡◌, IfOk, true, false, string_bytes};
+ghost use Rattle.std.specs.Prelude.{◌≡◌, IfOk, None, Some, string_bytes};
 ghost use Rattle.l2_io.specs.Known.{HasRisen};
 ghost use Rattle.run_laws.specs.Journals.{EveryJournal};
-ghost use Rattle.l2_top.specs.Words.{is_run};
-ghost use Rattle.l2_top.specs.Main.{reason_text, refused_text, Tells, TellsRefusal, Refuses, Runs};
+ghost use Rattle.air_run.specs.Journal.{journal_of};
+ghost use Rattle.l2_top.specs.Words.{command_of};
+ghost use Rattle.l2_top.specs.Engines.{blocks_of};
+ghost use Rattle.l2_top.specs.Main.{reason_text, refused_text, Tells, TellsRefusal, TellsEnding, Refuses, Runs};
 
-use crate::playing::{Ending, play};
-use crate::{Status, Words};
+use crate::playing::{Ending, play_script, show_blocks};
+use crate::{Command, Status, Words};
 use air_run::{Reason, RunRefusal};
 use air_text::LineRefusal;
 use l2_io::{PutFault, Sink, Source};
@@ -67,29 +69,10 @@ fn refuse_line<E: Sink>(alloc: Global, number: u32, reason: Reason, errs: &mut E
     }
 }
 
-/// Runs the command that the words name.
-///
-/// The clause `run` says what is written, and what each answer means; `promises` says what holds of every journal that
-/// can be written.
-#[tactic(auto, using(crate::proofs::Rows::every_journal_is_promised))]
-pub fn l2_main<S: Source, K: Sink, E: Sink>(
-    alloc: Global,
-    words: &Words,
-    source: &mut S,
-    out: &mut K,
-    errs: &mut E,
-) -> Status
-    ensures usage { is_run words.now ≡ false → Refuses (E.written errs.old) (E.written errs.new) (HasRisen (E.faults errs.old) (E.faults errs.new)) (HasRisen (E.shortages errs.old) (E.shortages errs.new)) result
-        × (S.left source.new ≡ S.left source.old) × (K.written out.new ≡ K.written out.old) }
-    ensures run { is_run words.now ≡ true → Runs (S.left source.old) (S.left source.new) (K.written out.old) (K.written out.new)
-        (E.written errs.old) (E.written errs.new) (HasRisen (S.faults source.old) (S.faults source.new)) (HasRisen (K.faults out.old) (K.faults out.new))
-        (HasRisen (E.faults errs.old) (E.faults errs.new)) (HasRisen (E.shortages errs.old) (E.shortages errs.new)) result }
-    ensures promises { EveryJournal }
+fn finish<E: Sink>(alloc: Global, ending: Ending, errs: &mut E) -> Status
+    ensures { TellsEnding ending (E.written errs.old) (E.written errs.new) (HasRisen (E.faults errs.old) (E.faults errs.new)) (HasRisen (E.shortages errs.old) (E.shortages errs.new)) result }
 {
-    if !words.is_run() {
-        return refuse_words(errs);
-    }
-    match play(alloc, source, out) {
+    match ending {
         Ending::Done => Status::Done,
         Ending::Refused { number, reason } => refuse_line(alloc, number, reason, errs),
         Ending::ReadFault => {
@@ -103,6 +86,41 @@ pub fn l2_main<S: Source, K: Sink, E: Sink>(
         Ending::NoMemory => {
             say(errs, b"out of memory\n");
             Status::NoMemory
+        }
+    }
+}
+
+/// Runs the command that the words name.
+///
+/// The clauses `run` and `decode` say what is written, and what each answer means; `promises` says what holds of every
+/// journal of a script that can be written.
+#[tactic(auto, using(crate::proofs::Rows::every_journal_is_promised))]
+pub fn l2_main<S: Source, K: Sink, E: Sink>(
+    alloc: Global,
+    words: &Words,
+    source: &mut S,
+    out: &mut K,
+    errs: &mut E,
+) -> Status
+    ensures usage { command_of words.now ≡ None → Refuses (E.written errs.old) (E.written errs.new) (HasRisen (E.faults errs.old) (E.faults errs.new)) (HasRisen (E.shortages errs.old) (E.shortages errs.new)) result
+        × (S.left source.new ≡ S.left source.old) × (K.written out.new ≡ K.written out.old) }
+    ensures run { command_of words.now ≡ Some Command.Run → Runs journal_of (S.left source.old) (S.left source.new) (K.written out.old) (K.written out.new)
+        (E.written errs.old) (E.written errs.new) (HasRisen (S.faults source.old) (S.faults source.new)) (HasRisen (K.faults out.old) (K.faults out.new))
+        (HasRisen (E.faults errs.old) (E.faults errs.new)) (HasRisen (E.shortages errs.old) (E.shortages errs.new)) result }
+    ensures decode { command_of words.now ≡ Some Command.Decode → Runs blocks_of (S.left source.old) (S.left source.new) (K.written out.old) (K.written out.new)
+        (E.written errs.old) (E.written errs.new) (HasRisen (S.faults source.old) (S.faults source.new)) (HasRisen (K.faults out.old) (K.faults out.new))
+        (HasRisen (E.faults errs.old) (E.faults errs.new)) (HasRisen (E.shortages errs.old) (E.shortages errs.new)) result }
+    ensures promises { EveryJournal }
+{
+    match words.command() {
+        None => refuse_words(errs),
+        Some(Command::Run) => {
+            let ending = play_script(alloc, source, out);
+            finish(alloc, ending, errs)
+        }
+        Some(Command::Decode) => {
+            let ending = show_blocks(alloc, source, out);
+            finish(alloc, ending, errs)
         }
     }
 }

@@ -1,14 +1,15 @@
 use Rattle.std.proofs.Common.{◌≡◌, ◌≤◌}
-use Rattle.std.specs.Prelude.{IsSome}
+use Rattle.std.specs.Prelude.{Some}
 use Rattle.l2_io.specs.declared.lines.Stand.TheVariants.{Open}
-use Rattle.air_run.specs.Journal.{script, journal_of}
+use Rattle.air_run.specs.Journal.{journal_by}
 use Rattle.l2_top.specs.Plays.{HasGathered}
+use Rattle.l2_top.specs.Engines.{played_from, now_in}
 use Rattle.l2_top.proofs.playing.play.Given as goal
 
 abbrev pub invariant-loop-number : goal.invariant-loop-number
 invariant-loop-number g l = record {
-  gathers : HasGathered script journal_of (g.S.Source.left l.initial.source) (g.S.Source.left l.source) (g.K.Sink.written l.initial.out) (g.K.Sink.written l.out) l.gathered.octets l.run l.number l.lines.kept;
-  live : IsSome l.run;
+  gathers : HasGathered (played_from (now_in l.fn.engine)) (journal_by (played_from (now_in l.fn.engine))) (g.S.Source.left l.initial.source) (g.S.Source.left l.source)
+      (g.K.Sink.written l.initial.out) (g.K.Sink.written l.out) l.gathered.octets (Some (now_in l.engine)) l.number l.lines.kept;
   few : l.number ≤ 1000001;
   longest : l.lines.longest ≡ 20000;
   open_ : l.lines.stand ≡ Open;

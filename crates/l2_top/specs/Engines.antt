@@ -1,0 +1,59 @@
+-- What plays the lines of an input: the run of a script, or the showing of blocks.
+use Rattle.std.specs.Prelude.{ℕ, Bool, List, [], Option, None, Some, Result, Ok, Err}
+use Rattle.air_text.specs.declared.record.Record.{Record}
+use Rattle.air_text.specs.declared.line.LineRefusal.{LineRefusal}
+use Rattle.air_run.specs.Run.{RunState, finish}
+use Rattle.air_run.specs.Journal.{Player, Outcome, Goes, Ends, Refuses, Played, script, script_line, journal_by}
+use Rattle.air_run.specs.declared.refusal.Reason.TheVariants as reasons
+use Rattle.pdu_show.specs.Decoding.{Decoding, Decoded, undecoded, decode_line}
+use Rattle.l2_top.specs.Plays.{state_of}
+use Rattle.l2_top.specs.declared.engine.Engine.{Engine}
+use Rattle.l2_top.specs.declared.engine.Engine.TheVariants as engines
+
+-- ---- blocks are shown
+
+abbrev pub shown_by : Result Decoded LineRefusal → Outcome Decoding
+shown_by (Err refusal) = Refuses (reasons.Line refusal)
+shown_by (Ok left) = Goes left.state left.journal
+
+-- what a text does as a line whose block is shown
+abbrev pub shown_line : Decoding → ℕ → List ℕ → Outcome Decoding
+shown_line d number text = shown_by (decode_line d text)
+
+-- the showing of an input's blocks; nothing stands at its end
+abbrev pub showing : Player Decoding
+showing = record { first = undecoded; line = shown_line; last = λ d. [] }
+
+-- the records that show the blocks of an input, whose octets are all there are, or of which more may come
+abbrev pub blocks_of : Bool → List ℕ → Played
+blocks_of whole octets = journal_by showing whole octets
+
+-- ---- either
+
+-- what is known between two lines
+pub data Between : Type 0 where
+  Running : RunState → Between
+  Showing : Decoding → Between
+
+-- an outcome over other states
+abbrev pub lifted : {S T : Type 0} → (S → T) → Outcome S → Outcome T
+lifted f (Goes t journal) = Goes (f t) journal
+lifted f (Ends t journal) = Ends (f t) journal
+lifted f (Refuses reason) = Refuses reason
+
+abbrev pub line_by : Between → ℕ → List ℕ → Outcome Between
+line_by (Running r) number text = lifted Running (script_line r number text)
+line_by (Showing d) number text = lifted Showing (shown_line d number text)
+
+abbrev pub last_by : Between → List Record
+last_by (Running r) = finish r
+last_by (Showing d) = []
+
+-- what plays, from a state on
+abbrev pub played_from : Between → Player Between
+played_from first = record { first = first; line = line_by; last = last_by }
+
+-- what an engine knows
+abbrev pub now_in : Engine → Between
+now_in (engines.Run run) = Running (state_of script run)
+now_in (engines.Decode d) = Showing d

@@ -1,0 +1,4 @@
+pub mod Kinds
+pub mod Show
+pub mod Entries
+pub mod Decoding
