@@ -1,9 +1,10 @@
 -- A bitmap says which COUNTs are held.
-use Rattle.std.proofs.Common.{◌≡◌, ◌≢◌, ◌<◌, ◌≤◌, ℕ, suc, zero, ◌+◌, ◌-◌, ◌*◌, ◌/◌, ◌%◌, ◌^◌, Bool, true, false, ◌==◌, if◌then◌else◌, List, Option, slice_index, length, nat_lt, inl, inr, subst, refl, ap, ◌∙◌, arith}
+use Rattle.std.proofs.Common.{◌≡◌, ◌≢◌, ◌<◌, ◌≤◌, ℕ, suc, zero, ◌+◌, ◌-◌, ◌*◌, ◌/◌, ◌%◌, ◌^◌, Bool, true, false, ◌==◌, if◌then◌else◌, List, [], ◌∷◌, Option, slice_index, length, nat_lt, inl, inr, subst, refl, ap, ◌∙◌, arith, length-append}
 use Rattle.std.proofs.lemmas.Bool.Decides.{nat_tests}
 use Rattle.pdcp_rx.specs.Held.{octet, bitmap, bit, is_held, Ends}
-use Rattle.pdcp_rx.specs.Laws.{bit_of}
-use Rattle.pdcp_pdu.specs.Grammar.{IsBitmap}
+use Rattle.pdcp_pdu.specs.Grammar.{bit_of, IsBitmap, report_header}
+use Rattle.pdcp_pdu.specs.Kinds.{bits_of}
+use Rattle.pdcp_rx.specs.State.{State, report}
 
 few_step : (b : Bool) → (if b then 1 else 0) ≤ 1
 few_step true = omega arith
@@ -93,3 +94,22 @@ ends_step held true e ends =
 -- the bitmap of a report ends with an octet that isn't 0
 pub report_ends : (held : List (Option (List ℕ))) → Ends held → IsBitmap (bitmap held 1 ((length held + 6) / 8))
 report_ends held = ends_step held (nat_lt 1 (length held)) refl
+
+header_few : (b : Bool) (fms : ℕ) → length (if b then (fms / 256) ∷ (fms % 256) ∷ [] else 0 / 2 ∷ (0 % 2 * 128 + fms / 256) ∷ (fms % 256) ∷ []) ≤ 3
+header_few true fms = omega arith
+header_few false fms = omega arith
+
+header_some : (b : Bool) (fms : ℕ) → 2 ≤ length (if b then (fms / 256) ∷ (fms % 256) ∷ [] else 0 / 2 ∷ (0 % 2 * 128 + fms / 256) ∷ (fms % 256) ∷ [])
+header_some true fms = omega arith
+header_some false fms = omega arith
+
+-- a report is short
+pub report_few : (s : State) → length s.held ≤ 2 ^ 15 → length (report s) ≤ 8193
+unfolding report
+report_few s le = omega (arith, length-append (report_header (bits_of s.kind) 0 (s.next % 2 ^ bits_of s.kind)) (bitmap s.held 1 ((length s.held + 6) / 8)), bitmap_length s.held 1 ((length s.held + 6) / 8), header_few (bits_of s.kind == 12) (s.next % 2 ^ bits_of s.kind))
+
+pub report_some : (s : State) → 1 ≤ length (report s)
+unfolding report
+report_some s = omega (arith, length-append (report_header (bits_of s.kind) 0 (s.next % 2 ^ bits_of s.kind)) (bitmap s.held 1 ((length s.held + 6) / 8)), header_some (bits_of s.kind == 12) (s.next % 2 ^ bits_of s.kind))
+
+pub ruleset report_lengths = (report_few, report_some)

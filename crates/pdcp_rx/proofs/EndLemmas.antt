@@ -7,8 +7,9 @@ use Rattle.pdcp_rx.specs.declared.got.Cause.{Cause}
 use Rattle.pdcp_rx.specs.declared.got.Got.{Got}
 use Rattle.pdcp_rx.specs.declared.security.Opened.{Opened}
 use Rattle.pdcp_rx.specs.declared.security.Opened.TheVariants.{Sdu, Differs}
-use Rattle.pdcp_rx.specs.Heard.{Heard, Bad, Told, Data, heard, is_am}
-use Rattle.pdcp_rx.specs.Opening.{Protection}
+use Rattle.pdcp_pdu.specs.Kinds.{is_am}
+use Rattle.pdcp_sec.specs.Protection.{Protection}
+use Rattle.pdcp_rx.specs.Heard.{Heard, Bad, Told, Data, heard}
 use Rattle.pdcp_pdu.specs.declared.PdcpKind.{PdcpKind}
 use Rattle.eps_sec.specs.declared.Keys.{Keys}
 use Rattle.pdcp_rx.specs.Held.{Ends, widened, stored, rising}

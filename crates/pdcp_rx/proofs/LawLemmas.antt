@@ -1,5 +1,6 @@
 -- SDUs go up in ascending order.
 use Rattle.std.proofs.Common.{◌≤◌, ℕ, ◌+◌, Bool, true, false, if◌then◌else◌, List, [], ◌∷◌, ◌++◌, length, take, Option, Some, None, arith, length-take}
+use Rattle.l2_num.specs.Ascending.{IsAscending}
 use Rattle.pdcp_rx.specs.declared.got.Cause.{Cause}
 use Rattle.pdcp_rx.specs.declared.got.Got.{Got}
 use Rattle.pdcp_rx.specs.declared.security.Opened.{Opened}
@@ -7,7 +8,7 @@ use Rattle.pdcp_rx.specs.declared.security.Opened.TheVariants.{Sdu, Differs}
 use Rattle.pdcp_rx.specs.Heard.{Heard, Bad, Told, Data, heard}
 use Rattle.pdcp_rx.specs.Held.{stored, rising}
 use Rattle.pdcp_rx.specs.State.{State, above, passed_over, opened_at, waits, raised, left_opened, left_data, left_heard, arrived}
-use Rattle.pdcp_rx.specs.Laws.{counts_of, ups_raised, ups_placed, ups_opened, ups_data, ups_heard, Call, Arrive, Take, happens, ups, gone_up, IsAscending}
+use Rattle.pdcp_rx.specs.Laws.{counts_of, ups_raised, ups_placed, ups_opened, ups_data, ups_heard, Call, Arrive, Take, happens, ups, gone_up}
 
 lower : (a b : ℕ) (ns : List ℕ) → a ≤ b → IsAscending b ns → IsAscending a ns
 lower a b [] le h = tt
@@ -40,7 +41,7 @@ heard_step (Bad refusal) s cause rest h = h
 heard_step (Told fms bits) s cause rest h = h
 heard_step (Data sn body) s cause rest h = data_step (passed_over s (above s sn)) s cause (above s sn) (opened_at s (above s sn) body) rest h
 
-call_step : (c : Call) (s : State) (rest : List ℕ) → IsAscending (happens s c).next rest → IsAscending s.next (ups s c ++ rest)
+pub call_step : (c : Call) (s : State) (rest : List ℕ) → IsAscending (happens s c).next rest → IsAscending s.next (ups s c ++ rest)
 unfolding happens ups arrived
 call_step (Arrive pdu cause) s rest h = heard_step (heard s.kind pdu) s cause rest h
 call_step Take s rest h = h

@@ -1,5 +1,5 @@
 -- What a PDU says to the bearer that it comes to.
-use Rattle.std.specs.Prelude.{◌≡◌, ◌⊎◌, ◌<◌, ℕ, ◌^◌, Bool, true, false, List, Result, Ok, Err}
+use Rattle.std.specs.Prelude.{◌<◌, ℕ, ◌^◌, List, Result, Ok, Err}
 use Rattle.pdcp_pdu.specs.declared.PdcpKind.{PdcpKind}
 use Rattle.pdcp_pdu.specs.declared.PdcpKind.TheVariants.{Srb, Um, Am}
 use Rattle.pdcp_pdu.specs.declared.PdcpRefusal.{PdcpRefusal}
@@ -8,23 +8,6 @@ use Rattle.pdcp_pdu.specs.Reading.{user_at, srb_at}
 use Rattle.pdcp_rx.specs.declared.reading.Read.{Read}
 use Rattle.pdcp_rx.specs.declared.reading.Read.TheVariants as reads
 use Rattle.pdcp_rx.specs.Opening.{IsLong}
-
--- the lengths of the SN that a bearer may have (TS 36.323 6.3.2; 15 is this project's profile)
-abbrev pub IsKind : PdcpKind → Type 0
-IsKind Srb = Unit {0}
-IsKind (Um bits) = (bits ≡ 7) ⊎ (bits ≡ 12)
-IsKind (Am bits) = (bits ≡ 12) ⊎ (bits ≡ 15)
-
--- the bits of the SN (TS 36.323 6.3.2)
-abbrev pub bits_of : PdcpKind → ℕ
-bits_of Srb = 5
-bits_of (Um bits) = bits
-bits_of (Am bits) = bits
-
-abbrev pub is_am : PdcpKind → Bool
-is_am Srb = false
-is_am (Um bits) = false
-is_am (Am bits) = true
 
 -- What a PDU says.
 pub data Heard : Type 0 where

@@ -1,5 +1,5 @@
 -- Runs of a receiver over any calls, and the COUNTs that go up in one.
-use Rattle.std.specs.Prelude.{ℕ, ◌+◌, ◌-◌, ◌/◌, ◌%◌, ◌≤◌, ◌^◌, ◌==◌, Bool, true, false, List, [], ◌∷◌, ◌++◌, take, drop, Option, Some, None, slice_index}
+use Rattle.std.specs.Prelude.{ℕ, ◌+◌, Bool, true, false, List, [], ◌∷◌, ◌++◌, take, drop, Option, Some, None}
 use Rattle.pdcp_rx.specs.declared.got.Cause.{Cause}
 use Rattle.pdcp_rx.specs.declared.got.Got.{Got}
 use Rattle.pdcp_rx.specs.declared.security.Opened.{Opened}
@@ -7,10 +7,6 @@ use Rattle.pdcp_rx.specs.declared.security.Opened.TheVariants.{Sdu, Differs}
 use Rattle.pdcp_rx.specs.Heard.{Heard, Bad, Told, Data, heard}
 use Rattle.pdcp_rx.specs.Held.{stored, rising}
 use Rattle.pdcp_rx.specs.State.{State, above, passed_over, opened_at, waits, arrived}
-
--- bit k of a bitmap, the first octet's highest first (TS 36.323 6.3.10)
-abbrev pub bit_of : List ℕ → ℕ → Bool
-bit_of bits k = (slice_index bits (k / 8) / 2 ^ (7 - k % 8)) % 2 == 1
 
 -- the COUNTs from one on at which an SDU is held
 abbrev pub counts_of : ℕ → List (Option (List ℕ)) → List ℕ
@@ -56,8 +52,3 @@ ups s Take = []
 abbrev pub gone_up : State → List Call → List ℕ
 gone_up s [] = []
 gone_up s (c ∷ cs) = ups s c ++ gone_up (happens s c) cs
-
--- each is above the one before it, and none lies below a bound
-abbrev pub IsAscending : ℕ → List ℕ → Type 0
-IsAscending low [] = Unit {0}
-IsAscending low (n ∷ ns) = (low ≤ n) × IsAscending (n + 1) ns

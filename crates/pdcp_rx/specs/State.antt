@@ -6,6 +6,8 @@ use Rattle.pdcp_pdu.specs.declared.PdcpKind.{PdcpKind}
 use Rattle.pdcp_pdu.specs.declared.PdcpKind.TheVariants.{Srb, Um, Am}
 use Rattle.pdcp_pdu.specs.Grammar.{user_spelling}
 use Rattle.pdcp_pdu.specs.Pdus.{Report}
+use Rattle.pdcp_pdu.specs.Kinds.{bits_of, is_am}
+use Rattle.pdcp_sec.specs.Protection.{Protection, protection_of}
 use Rattle.pdcp_rx.specs.declared.got.Cause.{Cause}
 use Rattle.pdcp_rx.specs.declared.got.Cause.TheVariants.{Arrived, Reestablished}
 use Rattle.pdcp_rx.specs.declared.got.Got.{Got}
@@ -13,8 +15,8 @@ use Rattle.pdcp_rx.specs.declared.got.Got.TheVariants as answers
 use Rattle.pdcp_rx.specs.declared.security.Opened.{Opened}
 use Rattle.pdcp_rx.specs.declared.security.Opened.TheVariants as inside
 use Rattle.pdcp_rx.specs.Held.{is_held, stored, present, rising, bitmap}
-use Rattle.pdcp_rx.specs.Heard.{Heard, Bad, Told, Data, bits_of, is_am, heard}
-use Rattle.pdcp_rx.specs.Opening.{Protection, protection_of, opened}
+use Rattle.pdcp_rx.specs.Heard.{Heard, Bad, Told, Data, heard}
+use Rattle.pdcp_rx.specs.Opening.{opened}
 
 -- next is the COUNT after the last that was handed up, held what is kept of each COUNT from it on up to the greatest
 -- that is kept, ready what is to go up (TS 36.323 7.1: Next_PDCP_RX_SN and RX_HFN, as one COUNT)

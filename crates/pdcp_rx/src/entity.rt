@@ -1,7 +1,7 @@
-ghost use Rattle.std.specs.Prelude.{◌≡◌, ◌<◌, true, false, drop, slice_get, OnOk, OnErr, IfOk, IsErr, IsTrue, MatchResult};
+ghost use Rattle.std.specs.Prelude.{◌≡◌, ◌<◌, ◌≤◌, ◌^◌, length, true, false, drop, slice_get, OnOk, OnErr, IfOk, IsErr, IsTrue, MatchResult};
 ghost use Rattle.pdcp_rx.specs.Entity.{alive};
-ghost use Rattle.pdcp_rx.specs.Opening.{protection_of};
-ghost use Rattle.pdcp_rx.specs.Heard.{IsKind, is_am};
+ghost use Rattle.pdcp_sec.specs.Protection.{protection_of};
+ghost use Rattle.pdcp_pdu.specs.Kinds.{IsKind, is_am};
 ghost use Rattle.pdcp_rx.specs.State.{fresh, got, arrived, report, restarted};
 
 use crate::got::{Cause, Got};
@@ -47,6 +47,15 @@ impl Model for Held {
     ghost view = { λ h. record { state = h.receiver; dead = h.dead } };
 
     ghost invariant = { λ h. IsWhole h.dead h.receiver.held };
+}
+
+impl Held {
+    /// Whether memory ran out, so that `PdcpRx::restart` fails.
+    pub fn is_dead(&self) -> bool
+        ensures { result ≡ self.now.dead }
+    {
+        self.dead
+    }
 }
 
 impl PdcpRx {
@@ -109,6 +118,8 @@ impl PdcpRx {
     pub fn make_report(&self) -> Result<Bytes, NoMemory>
         requires { IsTrue (is_am self.now.state.kind) }
         ensures pdu { IfOk result (λ pdu. pdu ≡ report self.now.state) }
+        ensures some { IfOk result (λ pdu. 1 ≤ length pdu) }
+        ensures few { IfOk result (λ pdu. length pdu ≤ 8193) }
         ensures dead { IsTrue self.now.dead → IsErr result }
     {
         if self.dead {

@@ -1,7 +1,9 @@
 //! What the words of `specs/` promise, each proved as the contract of a function that does nothing.
 ghost use Rattle.std.specs.Prelude.{◌≡◌, ℕ, ◌+◌, ◌*◌, ◌<◌, List, Option};
+ghost use Rattle.l2_num.specs.Ascending.{IsAscending};
+ghost use Rattle.pdcp_pdu.specs.Grammar.{bit_of};
 ghost use Rattle.pdcp_rx.specs.Held.{is_held, bitmap};
-ghost use Rattle.pdcp_rx.specs.Laws.{Call, bit_of, gone_up, IsAscending};
+ghost use Rattle.pdcp_rx.specs.Laws.{Call, gone_up};
 ghost use Rattle.pdcp_rx.specs.State.{State};
 
 /// Whatever calls come in a life, the SDUs go up in ascending order of their COUNTs, each COUNT once, and none below

@@ -3,7 +3,8 @@ ghost use Rattle.std.specs.Prelude.{◌≡◌, ◌≤◌, length, IfOk, MatchRes
 ghost use Rattle.pdcp_pdu.specs.Pdus.{IsUserBits};
 ghost use Rattle.pdcp_pdu.specs.Reading.{user_at, srb_at};
 ghost use Rattle.pdcp_pdu.specs.declared.PdcpKind.TheVariants.{Srb};
-ghost use Rattle.pdcp_rx.specs.Heard.{IsKind, Bad, bits_of, heard, heard_user, heard_srb, heard_as, IsBelow, IsReadLong};
+ghost use Rattle.pdcp_pdu.specs.Kinds.{IsKind, bits_of};
+ghost use Rattle.pdcp_rx.specs.Heard.{Bad, heard, heard_user, heard_srb, heard_as, IsBelow, IsReadLong};
 
 use pdcp_pdu::{PdcpKind, PdcpRefusal, User, read_srb, read_user};
 

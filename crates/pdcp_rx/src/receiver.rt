@@ -1,20 +1,22 @@
 //! The receiver, but for its end by want of memory.
-ghost use Rattle.std.specs.Prelude.{◌≡◌, ◌+◌, ◌<◌, ◌≤◌, ◌^◌, if◌then◌else◌, length, drop, slice_get, OnOk, IfOk, IfNone, IsTrue};
+ghost use Rattle.std.specs.Prelude.{◌≡◌, ◌+◌, ◌/◌, ◌<◌, ◌≤◌, ◌^◌, if◌then◌else◌, length, drop, slice_get, OnOk, IfOk, IfNone, IsTrue};
 ghost use Rattle.pdcp_rx.specs.declared.got.Got.TheVariants.{Stored, Up};
 ghost use Rattle.pdcp_rx.specs.Held.{Ends};
-ghost use Rattle.pdcp_rx.specs.Opening.{IsLong, protection_of};
-ghost use Rattle.pdcp_rx.specs.Heard.{IsKind, bits_of, is_am};
+ghost use Rattle.pdcp_rx.specs.Opening.{IsLong};
+ghost use Rattle.pdcp_pdu.specs.Kinds.{IsKind, bits_of, is_am};
+ghost use Rattle.pdcp_sec.specs.Protection.{protection_of};
 ghost use Rattle.pdcp_rx.specs.State.{above, passed_over, opened_at, got_data, left_data, got_opened, left_opened, placed, raised, got, arrived, report, restarted, fresh, waits};
 
 use crate::got::{Cause, Got};
 use crate::held::{bitmap, first_gap, hand_up, is_held, store};
-use crate::kind::{bits, is_am, waits, width};
+use crate::kind::{waits, width};
 use crate::reading::{Read, read_pdu};
-use crate::security::{Opened, Security};
+use crate::security::{Opened, open};
 use eps_sec::Keys;
 use l2_bits::{Bytes, NoMemory, Packets};
 use l2_num::ahead;
 use pdcp_pdu::{PdcpKind, write_long_report, write_report};
+use pdcp_sec::Security;
 use std::alloc::Global;
 use std::collections::VecDeque;
 use std::marker::Model;
@@ -36,14 +38,14 @@ pub struct Receiver {
 
 impl Model for Receiver {
     ghost use Rattle.std.specs.Prelude.{◌+◌, ◌≤◌, ◌^◌, length};
-    ghost use Rattle.pdcp_rx.specs.Heard.{IsKind};
+    ghost use Rattle.pdcp_pdu.specs.Kinds.{IsKind};
     ghost use Rattle.pdcp_rx.specs.State.{State};
 
     ghost Value = { State };
 
     ghost view = { λ r. record { kind = r.kind; protection = r.security; next = r.next; held = r.held.items; ready = r.ready } };
 
-    ghost invariant = { λ r. (r.next + length r.held.items ≤ 2 ^ 32) × IsKind r.kind };
+    ghost invariant = { λ r. (r.next + length r.held.items ≤ 2 ^ 32) × (length r.held.items ≤ 2 ^ 15) × IsKind r.kind };
 }
 
 impl Receiver {
@@ -109,7 +111,7 @@ impl Receiver {
         ensures value { result ≡ above self.now sn }
         ensures below { result < 2 ^ 15 }
     {
-        let size = 1u32 << bits(self.kind);
+        let size = 1u32 << self.kind.bits();
         ahead(sn, (self.next % u64::from(size)) as u32, size) as usize
     }
 
@@ -133,11 +135,12 @@ impl Receiver {
         ensures { IfOk result (λ o. o ≡ opened_at self.now at body.now) }
     {
         let count = (self.next + at as u64) as u32;
-        self.security.open(self.alloc, self.kind, count, body)
+        open(&self.security, self.alloc, self.kind, count, body)
     }
 
     fn land(&mut self, cause: Cause, at: usize, opened: Opened) -> Result<Got, NoMemory>
-        requires { self.old.next + at < 2 ^ 32 }
+        requires count { self.old.next + at < 2 ^ 32 }
+        requires within { at < 2 ^ 15 }
         ensures got { IfOk result (λ g. g ≡ got_opened self.old cause at opened) }
         ensures state { OnOk result (self.new ≡ left_opened self.old cause at opened) }
         ensures kind { self.new.kind ≡ self.old.kind }
@@ -149,7 +152,8 @@ impl Receiver {
     }
 
     fn place(&mut self, cause: Cause, at: usize, sdu: Bytes) -> Result<Got, NoMemory>
-        requires { self.old.next + at < 2 ^ 32 }
+        requires count { self.old.next + at < 2 ^ 32 }
+        requires within { at < 2 ^ 15 }
         ensures got { IfOk result (λ g. g ≡ (if waits self.old.kind cause at then Stored else Up)) }
         ensures state { OnOk result (self.new ≡ placed self.old cause at sdu) }
         ensures kind { self.new.kind ≡ self.old.kind }
@@ -181,15 +185,27 @@ impl Receiver {
         self.ready.pop_front()
     }
 
-    #[tactic(auto, using(crate::proofs::BitmapLemmas::report_ends), unfolding(crate::specs::State::report))]
+    #[tactic(auto, using(crate::proofs::BitmapLemmas::report_lengths))]
     pub fn make_report(&self) -> Result<Bytes, NoMemory>
         requires kind { IsTrue (is_am self.now.kind) }
         requires ends { Ends self.now.held }
+        ensures pdu { IfOk result (λ pdu. pdu ≡ report self.now) }
+        ensures some { IfOk result (λ pdu. 1 ≤ length pdu) }
+        ensures few { IfOk result (λ pdu. length pdu ≤ 8193) }
+    {
+        self.write_report((self.held.len() + 6) / 8)
+    }
+
+    #[tactic(auto, using(crate::proofs::BitmapLemmas::report_ends), unfolding(crate::specs::State::report))]
+    fn write_report(&self, size: usize) -> Result<Bytes, NoMemory>
+        requires kind { IsTrue (is_am self.now.kind) }
+        requires ends { Ends self.now.held }
+        requires size { size ≡ (length self.now.held + 6) / 8 }
         ensures { IfOk result (λ pdu. pdu ≡ report self.now) }
     {
-        let bits = bits(self.kind);
+        let bits = self.kind.bits();
         let fms = (self.next % (1 << bits)) as u32;
-        let bitmap = bitmap(self.alloc, &self.held, (self.held.len() + 6) / 8)?;
+        let bitmap = bitmap(self.alloc, &self.held, size)?;
         if bits == 12 {
             return write_report(self.alloc, fms, &bitmap);
         }
@@ -202,7 +218,7 @@ impl Receiver {
         ensures kind { self.new.kind ≡ self.old.kind }
     {
         self.security.renew(self.kind, keys);
-        if !is_am(self.kind) {
+        if !self.kind.is_am() {
             self.next = 0;
             self.held.clear();
         }

@@ -1,24 +1,54 @@
 -- One step of what goes over what is to be given again.
-use Rattle.std.proofs.Common.{◌≡◌, ◌≤◌, ℕ, ◌+◌, ◌-◌, Bool, true, false, List, [], ◌∷◌, ◌++◌, length, map, length-append, refl, ap, arith}
+use Rattle.std.proofs.Common.{◌≡◌, ◌≤◌, ℕ, ◌+◌, ◌-◌, Bool, true, false, List, [], ◌∷◌, ◌++◌, length, map, Some, slice_get, refl, ap, arith}
 use Rattle.pdcp_tx.specs.declared.given.Sent.{Sent}
 use Rattle.pdcp_tx.specs.declared.given.Entry.{Entry}
 use Rattle.pdcp_tx.specs.declared.given.Entry.TheVariants.{Data, Own, Gone}
-use Rattle.pdcp_tx.specs.Given.{heard, tells, untold, data_of, sent_octets}
+use Rattle.pdcp_tx.specs.Given.{heard, tells, untold, data_of, is_unacked, from_unacked, sent_octets}
 
-pub data_more : (es : List Entry) (s : Sent) → data_of (es ++ Data s ∷ []) ≡ data_of es ++ s ∷ []
-data_more [] s = refl
-data_more (Data x ∷ xs) s = ap (λ l. x ∷ l) (data_more xs s)
-data_more (Own ∷ xs) s = data_more xs s
-data_more (Gone ∷ xs) s = data_more xs s
+-- what was given, then what is to be given again
 
-pub octets_more : (ss : List Sent) (s : Sent) → sent_octets (ss ++ s ∷ []) ≡ sent_octets ss + length s.octets
-octets_more [] s = omega arith
-octets_more (x ∷ xs) s = let ih = octets_more xs s in omega arith
+pub data_join : (es fs : List Entry) → data_of (es ++ fs) ≡ data_of es ++ data_of fs
+data_join [] fs = refl
+data_join (Data x ∷ xs) fs = ap (λ l. x ∷ l) (data_join xs fs)
+data_join (Own ∷ xs) fs = data_join xs fs
+data_join (Gone ∷ xs) fs = data_join xs fs
 
-pub length_more : (ss : List Sent) (s : Sent) → length (ss ++ s ∷ []) ≡ length ss + 1
-length_more ss s = length-append ss (s ∷ [])
+pub octets_join : (es fs : List Entry) → sent_octets (data_of (es ++ fs)) ≡ sent_octets (data_of es) + sent_octets (data_of fs)
+octets_join [] fs = omega arith
+octets_join (Data x ∷ xs) fs = let ih = octets_join xs fs in omega arith
+octets_join (Own ∷ xs) fs = octets_join xs fs
+octets_join (Gone ∷ xs) fs = octets_join xs fs
 
-pub ruleset pushes = (data_more, octets_more, length_more)
+pub length_join : (es fs : List Entry) → length (data_of (es ++ fs)) ≡ length (data_of es) + length (data_of fs)
+length_join [] fs = omega arith
+length_join (Data x ∷ xs) fs = let ih = length_join xs fs in omega arith
+length_join (Own ∷ xs) fs = length_join xs fs
+length_join (Gone ∷ xs) fs = length_join xs fs
+
+pub ruleset joins = (data_join, octets_join, length_join)
+
+-- what RLC has acknowledged leaves the front
+
+pub unacked_stop : (es : List Entry) (e : Entry) → slice_get es 0 ≡ Some e → is_unacked e ≡ true → from_unacked (data_of es) ≡ data_of es
+unacked_stop [] e g h = cc
+unacked_stop (x ∷ xs) e g h = grind arith
+
+pub unacked_more : (es rest : List Entry) (e : Entry) → es ≡ e ∷ rest → is_unacked e ≡ false → from_unacked (data_of rest) ≡ from_unacked (data_of es)
+unacked_more es rest (Data s) q h = rw q (grind arith)
+unacked_more es rest Own q h = rw q refl
+unacked_more es rest Gone q h = rw q refl
+
+pub octets_rest : (e : Entry) (es : List Entry) → sent_octets (data_of es) ≤ sent_octets (data_of (e ∷ es))
+octets_rest (Data s) es = omega arith
+octets_rest Own es = omega arith
+octets_rest Gone es = omega arith
+
+pub length_rest : (e : Entry) (es : List Entry) → length (data_of es) ≤ length (data_of (e ∷ es))
+length_rest (Data s) es = omega arith
+length_rest Own es = omega arith
+length_rest Gone es = omega arith
+
+pub ruleset trims = (unacked_stop, unacked_more, octets_rest, length_rest)
 
 pub octets_first : (old new : List Sent) (s : Sent) → old ≡ s ∷ new → sent_octets new ≡ sent_octets old - length s.octets
 octets_first old new s e = rw e (omega arith)

@@ -1,23 +1,24 @@
--- Lengths of what is ciphered, and the number of bits of a kind.
-use Rattle.std.proofs.Common.{◌≡◌, ◌≢◌, ◌≤◌, ℕ, suc, ◌+◌, List, [], ◌∷◌, length, refl, ap, arith}
-use Rattle.eps_sec.specs.declared.keys.Cipher.{Cipher}
-use Rattle.eps_sec.specs.declared.keys.Cipher.TheVariants.{Eea0, Eea2}
-use Rattle.eps_sec.specs.Modes.{add_stream, ciphered, stream_octet, first_counter}
-use Rattle.pdcp_tx.specs.Pdus.{Secure, enciphered}
-
-length_stream : (f : ℕ → ℕ) (n : ℕ) (text : List ℕ) → length (add_stream f n text) ≡ length text
-length_stream f n [] = refl
-length_stream f n (x ∷ xs) = ap suc (length_stream f (n + 1) xs)
-
-pub length_ciphered : (alg : Cipher) (key : List ℕ) (count bearer direction : ℕ) (text : List ℕ) → length (ciphered alg key count bearer direction text) ≡ length text
-length_ciphered Eea0 key count bearer direction text = refl
-length_ciphered Eea2 key count bearer direction text = length_stream (stream_octet key (first_counter count bearer direction)) 0 text
-
-pub length_enciphered : (s : Secure) (count : ℕ) (text : List ℕ) → length (enciphered s count text) ≡ length text
-unfolding enciphered
-length_enciphered s count text = length_ciphered s.alg s.ciphering count s.bearer s.direction text
+-- How long the PDUs of SDUs are.
+use Rattle.std.proofs.Common.{◌≡◌, ◌≢◌, ◌≤◌, ℕ, ◌+◌, ◌*◌, ◌/◌, ◌%◌, ◌==◌, Bool, true, false, if◌then◌else◌, List, [], ◌∷◌, ◌++◌, length, length-append, arith}
+use Rattle.pdcp_pdu.specs.Pdus.{Sdu}
+use Rattle.pdcp_pdu.specs.Grammar.{user_spelling, data_header, srb_header}
+use Rattle.pdcp_tx.specs.State.{IsShort}
 
 -- what has octets isn't empty
 pub some_octets : (octets : List ℕ) → 1 ≤ length octets → octets ≢ []
 some_octets [] le = absurd (omega arith)
 some_octets (x ∷ xs) le = λ e. cc
+
+header_few : (a b : Bool) (sn : ℕ) → length (if a then (128 + sn) ∷ [] else if b then (128 + 0 * 16 + sn / 256) ∷ (sn % 256) ∷ [] else (128 + sn / 256) ∷ (sn % 256) ∷ []) ≤ 2
+header_few true b sn = omega arith
+header_few false true sn = omega arith
+header_few false false sn = omega arith
+
+pub user_short : (bits sn : ℕ) (text : List ℕ) → 1 ≤ length text → length text ≤ 8188 → IsShort (user_spelling bits (Sdu sn text))
+user_short bits sn text some few =
+    let all : length (data_header bits 0 sn ++ text) ≡ length (data_header bits 0 sn) + length text = length-append (data_header bits 0 sn) text in
+    let head : length (data_header bits 0 sn) ≤ 2 = header_few (bits == 7) (bits == 12) sn in
+    (omega (arith, all, some), omega (arith, all, head, few))
+
+pub srb_short : (sn : ℕ) (text : List ℕ) → length text ≤ 8192 → IsShort (srb_header 0 sn ++ text)
+srb_short sn text few = (omega arith, omega (arith, few))

@@ -1,5 +1,6 @@
 -- What was given to RLC in a life, what of it is confirmed, and what is to be given again.
-use Rattle.std.specs.Prelude.{ℕ, ◌+◌, ◌-◌, ◌/◌, ◌%◌, ◌^◌, Bool, true, false, not, ◌&&◌, ◌||◌, if◌then◌else◌, List, [], ◌∷◌, ◌++◌, map, length, Option, Some, None, slice_get, slice_set, slice_index, nat_lt, ◌==◌}
+use Rattle.std.specs.Prelude.{ℕ, ◌+◌, ◌-◌, Bool, true, false, not, ◌&&◌, ◌||◌, if◌then◌else◌, List, [], ◌∷◌, ◌++◌, map, length, Option, Some, None, slice_get, slice_set, nat_lt}
+use Rattle.pdcp_pdu.specs.Grammar.{bit_of}
 use Rattle.pdcp_tx.specs.declared.given.Sent.{Sent}
 use Rattle.pdcp_tx.specs.declared.given.Entry.{Entry}
 use Rattle.pdcp_tx.specs.declared.given.Entry.TheVariants.{Data, Own, Gone}
@@ -83,13 +84,9 @@ abbrev pub sent_octets : List Sent → ℕ
 sent_octets [] = 0
 sent_octets (s ∷ ss) = length s.octets + sent_octets ss
 
--- bit k of a bitmap, the highest of the first octet first; 0 past its end (TS 36.323 6.3.10)
-abbrev pub bit : List ℕ → ℕ → Bool
-bit bitmap k = (slice_index bitmap (k / 8) / 2 ^ (7 - k % 8)) % 2 == 1
-
 -- whether a report confirms the COUNT n, `from` being the COUNT of its FMS: all below it, and those whose bit is 1 (TS 36.323 5.9.1)
 abbrev pub tells : ℕ → List ℕ → ℕ → Bool
-tells from bitmap n = nat_lt n from || (nat_lt from n && bit bitmap (n - from - 1))
+tells from bitmap n = nat_lt n from || (nat_lt from n && bit_of bitmap (n - from - 1))
 
 -- what a report leaves of an entry
 abbrev pub heard : ℕ → List ℕ → Entry → Entry
@@ -105,13 +102,16 @@ abbrev pub untold : ℕ → List ℕ → List Sent → List Sent
 untold from bitmap [] = []
 untold from bitmap (s ∷ ss) = if tells from bitmap s.count then untold from bitmap ss else s ∷ untold from bitmap ss
 
--- what the next life takes again: SDUs in order, from the first that RLC hasn't acknowledged (TS 36.323 5.2.1.1)
-abbrev pub kept_on : List Sent → Sent → List Sent
-kept_on out s = if s.acked && (length out == 0) then out else out ++ s ∷ []
+-- an SDU that RLC hasn't acknowledged
+abbrev pub is_unacked : Entry → Bool
+is_unacked (Data s) = not s.acked
+is_unacked Own = false
+is_unacked Gone = false
 
-abbrev pub kept_all : List Sent → List Sent → List Sent
-kept_all out [] = out
-kept_all out (s ∷ ss) = kept_all (kept_on out s) ss
+-- what the next life takes again: SDUs in order, from the first that RLC hasn't acknowledged (TS 36.323 5.2.1.1)
+abbrev pub from_unacked : List Sent → List Sent
+from_unacked [] = []
+from_unacked (s ∷ ss) = if s.acked then from_unacked ss else s ∷ ss
 
 -- the SDUs among the entries that no report has confirmed
 abbrev pub data_of : List Entry → List Sent

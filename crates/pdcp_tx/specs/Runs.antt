@@ -1,5 +1,6 @@
 -- Runs of calls of one sender, through lives.
-use Rattle.std.specs.Prelude.{ℕ, ◌+◌, ◌≤◌, List, [], ◌∷◌, ◌++◌, Option, Some, None, slice_get, map}
+use Rattle.std.specs.Prelude.{ℕ, List, [], ◌∷◌, ◌++◌, Option, Some, None, slice_get, map}
+use Rattle.l2_num.specs.Ascending.{AreBetween}
 use Rattle.pdcp_tx.specs.State.{State, Offer, offers, submitted, took, confirmed, reported, owing, ticked, after_late}
 
 -- a call of a life that changes the sender
@@ -45,16 +46,6 @@ takes s Late = []
 abbrev pub taken : State → List Call → List ℕ
 taken s [] = []
 taken s (c ∷ cs) = takes s c ++ taken (after s c) cs
-
--- each is above the one before it, the first at least `low`: so none comes twice
-abbrev pub IsAscending : ℕ → List ℕ → Type 0
-IsAscending low [] = Unit {0}
-IsAscending low (n ∷ ns) = (low ≤ n) × IsAscending (n + 1) ns
-
--- they ascend from `low` on, and lie below `end`
-abbrev pub AreBetween : ℕ → List ℕ → ℕ → Type 0
-AreBetween low [] end = low ≤ end
-AreBetween low (n ∷ ns) end = (low ≤ n) × AreBetween (n + 1) ns end
 
 -- the COUNTs to be given again ascend below that of the next new SDU
 abbrev pub IsOrdered : State → Type 0

@@ -1,5 +1,5 @@
 -- The sender as a machine: its state, and what each call answers and makes of it (TS 36.323 5.1.1, 5.2, 5.4, 5.9).
-use Rattle.std.specs.Prelude.{◌≡◌, ℕ, ◌+◌, ◌-◌, ◌%◌, ◌^◌, Bool, true, false, not, ◌&&◌, if◌then◌else◌, List, [], ◌∷◌, ◌++◌, map, length, take, drop, min, Option, Some, None, option_map, slice_get, nat_lt, nat_le, ◌==◌}
+use Rattle.std.specs.Prelude.{◌≡◌, ℕ, ◌+◌, ◌-◌, ◌%◌, ◌^◌, ◌≤◌, Bool, true, false, not, ◌&&◌, if◌then◌else◌, List, [], ◌∷◌, ◌++◌, map, length, take, drop, min, Option, Some, None, option_map, slice_get, nat_lt, nat_le, ◌==◌}
 use Rattle.pdcp_pdu.specs.declared.pdu.PdcpKind.{PdcpKind}
 use Rattle.pdcp_pdu.specs.declared.pdu.PdcpKind.TheVariants.{Srb, Um, Am}
 use Rattle.eps_sec.specs.declared.keys.Keys.{Keys}
@@ -8,9 +8,11 @@ use Rattle.l2_bits.specs.declared.fault.SubmitRefusal.TheVariants.{Empty, TooLon
 use Rattle.pdcp_tx.specs.declared.given.Sent.{Sent}
 use Rattle.pdcp_tx.specs.declared.given.Entry.TheVariants.{Data, Own}
 use Rattle.pdcp_tx.specs.declared.sender.Next.{Next}
-use Rattle.pdcp_tx.specs.Pdus.{Secure, secure_with, is_am, modulus, extra, width, pdu}
+use Rattle.pdcp_pdu.specs.Kinds.{is_am}
+use Rattle.pdcp_sec.specs.Protection.{Protection, protection_of}
+use Rattle.pdcp_tx.specs.Pdus.{modulus, extra, width, pdu}
 use Rattle.pdcp_tx.specs.Waiting.{Waits, length_all}
-use Rattle.pdcp_tx.specs.Given.{Given, settled, with_entry, with_ack, with_report, entry_at, is_own, first_open, first_unacked, open_octets, sent_octets, untold, kept_all, data_of}
+use Rattle.pdcp_tx.specs.Given.{Given, settled, with_entry, with_ack, with_report, entry_at, is_own, first_open, first_unacked, open_octets, sent_octets, untold, from_unacked, data_of}
 
 -- COUNTs are whole numbers, HFN and SN together (TS 36.323 6.3.5).
 -- `next` is the COUNT of the next SDU that is taken for the first time, `base` the first unconfirmed COUNT as the life
@@ -20,7 +22,7 @@ use Rattle.pdcp_tx.specs.Given.{Given, settled, with_entry, with_ack, with_repor
 -- discard timer in TTIs.
 pub record State : Type 0 where
   pub kind : PdcpKind
-  pub secure : Secure
+  pub protection : Protection
   pub next : ℕ
   pub base : ℕ
   pub bound : ℕ
@@ -33,8 +35,8 @@ pub record State : Type 0 where
   pub discard : Option ℕ
 
 -- a sender whose first COUNT is `first`
-unfoldable pub start : PdcpKind → Secure → ℕ → State
-start kind secure first = record { kind = kind; secure = secure; next = first; base = first; bound = first + width kind; owed = None; reporting = false; given = record { gone = 0; entries = [] }; again = []; waiting = []; clock = 0; discard = None }
+unfoldable pub start : PdcpKind → Protection → ℕ → State
+start kind protection first = record { kind = kind; protection = protection; next = first; base = first; bound = first + width kind; owed = None; reporting = false; given = record { gone = 0; entries = [] }; again = []; waiting = []; clock = 0; discard = None }
 
 -- Submitting.
 
@@ -95,13 +97,20 @@ left s = open_octets s.given.entries + sent_octets s.again + length_all s.waitin
 -- Taking.
 
 -- the PDU of an offer
-abbrev pub written : PdcpKind → Secure → Option ℕ → List ℕ → Next
-written kind secure None text = record { count = None; len = 0; octets = text }
-written kind secure (Some count) text = record { count = Some count; len = length text; octets = pdu kind secure count text }
+abbrev pub written : PdcpKind → Protection → Option ℕ → List ℕ → Next
+written kind protection None text = record { count = None; len = 0; octets = text }
+written kind protection (Some count) text = record { count = Some count; len = length text; octets = pdu kind protection count text }
+
+-- RLC takes PDUs of 1 to 8193 octets
+abbrev pub IsShort : List ℕ → Type 0
+IsShort pdu = (1 ≤ length pdu) × (length pdu ≤ 8193)
+
+abbrev pub HasSize : Next → Type 0
+HasSize next = IsShort next.octets
 
 -- the first of what may be taken
 unfoldable pub taking : State → Option Next
-taking s = option_map (λ o. written s.kind s.secure o.count o.text) (slice_get (offers s) 0)
+taking s = option_map (λ o. written s.kind s.protection o.count o.text) (slice_get (offers s) 0)
 
 abbrev pub sent : ℕ → List ℕ → Bool → Sent
 sent count sdu acked = record { count = count; octets = sdu; acked = acked }
@@ -187,9 +196,9 @@ late_length s = if is_overdue s then option_map (λ w. length w.sdu) (slice_get 
 
 -- A new life (TS 36.323 5.2.1).
 
--- the SDUs that it takes again: from the first unconfirmed one on, without those that a report confirmed
+-- the SDUs that it takes again: of those that no report confirmed, from the first on that RLC hasn't acknowledged
 abbrev pub kept_again : State → List Sent
-kept_again s = kept_all (kept_all [] (data_of s.given.entries)) s.again
+kept_again s = from_unacked (data_of s.given.entries ++ s.again)
 
 -- on other than acknowledged data bearers COUNT begins at 0 again
 abbrev pub next_from : PdcpKind → ℕ → ℕ
@@ -207,9 +216,9 @@ abbrev pub first_again : List Sent → ℕ → ℕ
 first_again ss next = or_else (option_map (λ s. s.count) (slice_get ss 0)) next
 
 -- a life begins with the first COUNT that is to be taken
-abbrev pub begun : State → Secure → State
-begun s secure = record s {
-  secure = secure;
+abbrev pub begun : State → Protection → State
+begun s protection = record s {
+  protection = protection;
   base = first_again s.again s.next;
   bound = first_again s.again s.next + width s.kind;
   owed = None;
@@ -219,4 +228,4 @@ begun s secure = record s {
 
 -- the next life, under other keys
 unfoldable pub restarted : State → Keys → State
-restarted s keys = begun (record s { again = kept_again s; next = next_from s.kind s.next; waiting = waiting_on s.kind s.waiting }) (secure_with s.kind keys s.secure.bearer s.secure.direction)
+restarted s keys = begun (record s { again = kept_again s; next = next_from s.kind s.next; waiting = waiting_on s.kind s.waiting }) (protection_of s.kind keys s.protection.bearer s.protection.direction)

@@ -1,13 +1,14 @@
 //! SDUs that are to be given to RLC again.
 
-ghost use Rattle.std.specs.Prelude.{◌≡◌, ◌+◌, ◌≤◌, ◌^◌, [], ◌∷◌, ◌++◌, ◌==◌, length, slice_get, option_map, OnOk, OnErr, MatchOption};
-ghost use Rattle.pdcp_tx.specs.Given.{first_unacked, sent_octets, untold, data_of, kept_on, kept_all};
+ghost use Rattle.std.specs.Prelude.{◌≡◌, ◌+◌, ◌≤◌, ◌^◌, [], ◌∷◌, ◌++◌, ◌==◌, length, slice_get, option_map, true, OnOk, OnErr, IfSome, MatchOption};
+ghost use Rattle.pdcp_tx.specs.Given.{first_unacked, sent_octets, untold, data_of, is_unacked, from_unacked};
 
 use crate::given::{Entry, Sent, hear_all};
 use l2_bits::NoMemory;
 use std::alloc::Global;
 use std::collections::VecDeque;
 use std::marker::Model;
+use std::mem;
 
 /// Fewer octets than this are ever kept.
 const LIMIT: u64 = 1 << 62;
@@ -75,19 +76,24 @@ impl Again {
         first_data(&self.ring)
     }
 
-    /// Adds an SDU at the end. An `Err` changes nothing.
-    #[tactic(auto, using(crate::proofs::AgainSteps::pushes))]
-    pub fn push(&mut self, sent: Sent) -> Result<(), NoMemory>
-        ensures ok { OnOk result (self.new ≡ self.old ++ sent ∷ []) }
+    /// Puts what was given before these SDUs, and keeps all from the first on that RLC hasn't acknowledged. Nothing is
+    /// left in `given`. An `Err` changes nothing.
+    #[tactic(auto, using(crate::proofs::AgainSteps::joins))]
+    pub fn put_behind(&mut self, given: &mut VecDeque<Entry>) -> Result<(), NoMemory>
+        ensures ok { OnOk result (self.new ≡ from_unacked (data_of given.old.items ++ self.old)) }
+        ensures rest { OnOk result (given.new.items ≡ []) }
         ensures err { OnErr result (self.new ≡ self.old) }
+        ensures same { OnErr result (given.new.items ≡ given.old.items) }
     {
-        let octets = self.octets.saturating_add(u64::from(sent.octets.len()));
-        if octets >= LIMIT || self.count >= 1 << 32 {
+        let room = has_room(given, self.count, self.octets);
+        if !room {
             return Err(NoMemory);
         }
-        self.ring.push_back(Entry::Data(sent))?;
-        self.octets = octets;
-        self.count += 1;
+        given.append(&mut self.ring)?;
+        mem::swap(given, &mut self.ring);
+        trim(&mut self.ring);
+        self.octets = octets_all(&self.ring);
+        self.count = count_all(&self.ring);
         Ok(())
     }
 
@@ -137,7 +143,8 @@ fn first_unacked(ring: &VecDeque<Entry>) -> Option<u32>
 }
 
 fn data_octets(entry: &Entry) -> u64
-    ensures { result ≡ sent_octets (data_of (entry.now ∷ [])) }
+    ensures value { result ≡ sent_octets (data_of (entry.now ∷ [])) }
+    ensures few { result ≤ 8188 }
 {
     match entry {
         Entry::Data(sent) => u64::from(sent.octets.len()),
@@ -147,7 +154,8 @@ fn data_octets(entry: &Entry) -> u64
 }
 
 fn data_count(entry: &Entry) -> u64
-    ensures { result ≡ length (data_of (entry.now ∷ [])) }
+    ensures value { result ≡ length (data_of (entry.now ∷ [])) }
+    ensures few { result ≤ 1 }
 {
     match entry {
         Entry::Data(_) => 1,
@@ -189,24 +197,72 @@ fn hear_data(ring: &mut VecDeque<Entry>, from: u64, bitmap: &[u8])
     hear_all(ring, from, bitmap);
 }
 
-/// Adds an SDU, unless it is confirmed and would be the first.
-pub(crate) fn keep_on(sent: Sent, out: &mut Again) -> Result<(), NoMemory>
-    ensures { OnOk result (out.new ≡ kept_on out.old sent) }
+// Whether so many more SDUs and octets than a ring has stay within what may be kept.
+fn has_room(ring: &VecDeque<Entry>, count: u64, octets: u64) -> bool
+    requires count { count ≤ 2 ^ 32 }
+    requires octets { octets ≤ 2 ^ 62 }
+    ensures count { result ≡ true → length (data_of ring.now.items) + count ≤ 2 ^ 32 }
+    ensures octets { result ≡ true → sent_octets (data_of ring.now.items) + octets ≤ 2 ^ 62 }
 {
-    if sent.acked && out.len() == 0 {
-        return Ok(());
+    match (count_within(ring), octets_within(ring)) {
+        (Some(more), Some(further)) => more <= (1 << 32) - count && further <= LIMIT - octets,
+        _ => false,
     }
-    out.push(sent)
 }
 
-/// Moves those that were to be given again behind others.
-pub(crate) fn move_again(mut old: Again, out: &mut Again) -> Result<(), NoMemory>
-    ensures { OnOk result (out.new ≡ kept_all out.old old) }
+// The octets of the SDUs, if they are few enough to be told.
+#[tactic(auto, using(crate::proofs::AgainSteps::sums))]
+fn octets_within(ring: &VecDeque<Entry>) -> Option<u64>
+    ensures { IfSome result (λ n. n ≡ sent_octets (data_of ring.now.items)) }
 {
-    while let Some(sent) = old.pop() {
-        keep_on(sent, out)?;
+    let mut sum = 0;
+    for entry in ring.iter() {
+        if sum > LIMIT {
+            return None;
+        }
+        sum += data_octets(entry);
     }
-    Ok(())
+    Some(sum)
+}
+
+// The number of the SDUs, if they are few enough to be told.
+#[tactic(auto, using(crate::proofs::AgainSteps::sums))]
+fn count_within(ring: &VecDeque<Entry>) -> Option<u64>
+    ensures { IfSome result (λ n. n ≡ length (data_of ring.now.items)) }
+{
+    let mut sum = 0;
+    for entry in ring.iter() {
+        if sum > LIMIT {
+            return None;
+        }
+        sum += data_count(entry);
+    }
+    Some(sum)
+}
+
+// Drops all before the first SDU that RLC hasn't acknowledged.
+#[tactic(auto, using(crate::proofs::AgainSteps::trims))]
+fn trim(ring: &mut VecDeque<Entry>)
+    ensures data { data_of ring.new.items ≡ from_unacked (data_of ring.old.items) }
+    ensures octets { sent_octets (data_of ring.new.items) ≤ sent_octets (data_of ring.old.items) }
+    ensures count { length (data_of ring.new.items) ≤ length (data_of ring.old.items) }
+{
+    while let Some(entry) = ring.front() {
+        if is_unacked(entry) {
+            break;
+        }
+        ring.pop_front();
+    }
+}
+
+fn is_unacked(entry: &Entry) -> bool
+    ensures { result ≡ is_unacked entry.now }
+{
+    match entry {
+        Entry::Data(sent) => !sent.acked,
+        Entry::Own => false,
+        Entry::Gone => false,
+    }
 }
 
 fn first_data(ring: &VecDeque<Entry>) -> Option<u32>

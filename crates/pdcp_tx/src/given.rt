@@ -1,10 +1,11 @@
 //! What was given to RLC in a life, and what is to be given again.
 
 ghost use Rattle.std.specs.Prelude.{◌≡◌, ◌+◌, ◌-◌, ◌<◌, ◌≤◌, ◌^◌, ◌/◌, ◌%◌, ◌*◌, ◌==◌, [], ◌∷◌, ◌++◌, length, take, drop, map, slice_get, slice_set, slice_index, slice_index_or, is_some, Some, OnOk, OnErr, IfOk, IsTrue, IsFalse, MatchOption};
+ghost use Rattle.pdcp_pdu.specs.Grammar.{bit_of};
 ghost use Rattle.pdcp_tx.specs.declared.given.Entry.TheVariants.{Gone, Own};
-ghost use Rattle.pdcp_tx.specs.Given.{is_open, trimmed, closed, settled, with_entry, acked, acked_at, entry_at, with_ack, is_own, open_length, open_octets, first_open, first_unacked, sent_octets, bit, tells, heard, with_report, untold, kept_on, kept_all, data_of};
+ghost use Rattle.pdcp_tx.specs.Given.{is_open, trimmed, closed, settled, with_entry, acked, acked_at, entry_at, with_ack, is_own, open_length, open_octets, first_open, first_unacked, sent_octets, tells, heard, with_report, untold, from_unacked, data_of};
 
-use crate::again::{Again, keep_on};
+use crate::again::Again;
 use crate::sdu::Sdu;
 use l2_bits::NoMemory;
 use std::alloc::Global;
@@ -100,7 +101,7 @@ impl Entry {
 
 // A bit of a report's bitmap; 0 past its end.
 fn bit(bitmap: &[u8], at: usize) -> bool
-    ensures { result ≡ bit bitmap.now at }
+    ensures { result ≡ bit_of bitmap.now at }
 {
     if at / 8 >= bitmap.len() {
         return false;
@@ -217,18 +218,15 @@ impl Ledger {
         self.unacked = open_sum(&self.entries);
     }
 
-    /// Moves the SDUs, from the first that isn't confirmed, to those that are to be given again.
-    pub fn move_into(self, out: &mut Again) -> Result<(), NoMemory>
-        ensures { OnOk result (out.new ≡ kept_all out.old (data_of self.entries)) }
+    /// Puts all that was given before those SDUs that are to be given again, from the first on that RLC hasn't
+    /// acknowledged. An `Err` changes nothing.
+    pub fn move_before(&mut self, again: &mut Again) -> Result<(), NoMemory>
+        ensures ok { OnOk result (again.new ≡ from_unacked (data_of self.old.entries ++ again.old)) }
+        ensures err { OnErr result (again.new ≡ again.old) }
+        ensures same { OnErr result (self.new ≡ self.old) }
     {
-        let Ledger {
-            gone: _,
-            mut entries,
-            unacked: _,
-        } = self;
-        while let Some(entry) = entries.pop_front() {
-            keep_entry(entry, out)?;
-        }
+        again.put_behind(&mut self.entries)?;
+        self.unacked = 0;
         Ok(())
     }
 
@@ -334,14 +332,4 @@ fn hear_open(entries: &mut VecDeque<Entry>, from: u64, bitmap: &[u8])
     ensures octets { open_octets entries.new.items ≤ open_octets entries.old.items }
 {
     hear_all(entries, from, bitmap);
-}
-
-fn keep_entry(entry: Entry, out: &mut Again) -> Result<(), NoMemory>
-    ensures { OnOk result (out.new ≡ kept_all out.old (data_of (entry ∷ []))) }
-{
-    match entry {
-        Entry::Data(sent) => keep_on(sent, out),
-        Entry::Own => Ok(()),
-        Entry::Gone => Ok(()),
-    }
 }

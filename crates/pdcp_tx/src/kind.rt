@@ -1,20 +1,10 @@
 //! What the kind of an entity settles.
 
 ghost use Rattle.std.specs.Prelude.{◌≡◌, ◌-◌, ◌<◌, ◌≤◌, ◌^◌};
-ghost use Rattle.pdcp_tx.specs.Pdus.{IsKind, bits_of, is_am, modulus, extra, width};
+ghost use Rattle.pdcp_pdu.specs.Kinds.{IsKind};
+ghost use Rattle.pdcp_tx.specs.Pdus.{modulus, extra, width};
 
 use pdcp_pdu::PdcpKind;
-
-/// Whether what was taken is kept until it is confirmed.
-pub(crate) fn is_am(kind: PdcpKind) -> bool
-    ensures { result ≡ is_am kind }
-{
-    match kind {
-        PdcpKind::Srb => false,
-        PdcpKind::Um { bits: _ } => false,
-        PdcpKind::Am { bits: _ } => true,
-    }
-}
 
 /// The octets of a PDU beside those of its SDU.
 pub(crate) fn extra(kind: PdcpKind) -> u64
@@ -28,24 +18,12 @@ pub(crate) fn extra(kind: PdcpKind) -> u64
     }
 }
 
-fn bits_of(kind: PdcpKind) -> u32
-    requires { IsKind kind }
-    ensures value { result ≡ bits_of kind }
-    ensures below { result < 16 }
-{
-    match kind {
-        PdcpKind::Srb => 5,
-        PdcpKind::Um { bits } => bits,
-        PdcpKind::Am { bits } => bits,
-    }
-}
-
 /// How many sequence numbers there are.
 pub(crate) fn modulus(kind: PdcpKind) -> u64
     requires { IsKind kind }
     ensures { result ≡ modulus kind }
 {
-    1 << bits_of(kind)
+    1 << kind.bits()
 }
 
 /// How far above the first unconfirmed COUNT an SDU is taken.

@@ -1,8 +1,9 @@
 //! Laws of the machine that the calls meet. The functions do nothing.
 
 ghost use Rattle.std.specs.Prelude.{◌≡◌, List, drop};
+ghost use Rattle.l2_num.specs.Ascending.{IsAscending};
 ghost use Rattle.pdcp_tx.specs.State.{State, offers, took};
-ghost use Rattle.pdcp_tx.specs.Runs.{Call, taken, IsAscending, IsOrdered};
+ghost use Rattle.pdcp_tx.specs.Runs.{Call, taken, IsOrdered};
 
 /// The law that each take is the head of what may be taken, and leaves the rest of it.
 pub fn takes_the_head()

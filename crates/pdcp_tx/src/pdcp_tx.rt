@@ -1,16 +1,17 @@
 //! The sender, and what of it is kept between two lives.
 
-ghost use Rattle.std.specs.Prelude.{◌≡◌, ◌+◌, ◌*◌, ◌<◌, ◌≤◌, ◌^◌, Some, None, Err, is_some, length, slice_get, OnOk, OnErr, IfOk, IfErr, IsTrue, IsFalse, IsErr, false};
+ghost use Rattle.std.specs.Prelude.{◌≡◌, ◌+◌, ◌*◌, ◌<◌, ◌≤◌, ◌^◌, Some, None, Err, is_some, length, slice_get, OnOk, OnErr, IfOk, IfErr, IfSome, IsTrue, IsFalse, IsErr, false};
 ghost use Rattle.l2_bits.specs.declared.fault.SubmitRefusal.TheVariants as refusals;
-ghost use Rattle.pdcp_tx.specs.Pdus.{IsKind, secure_with};
-ghost use Rattle.pdcp_tx.specs.State.{start, refusal, IsAnswer, submitted, offers, sizes, left, taking, took, confirmed, fms_count, reported, owing, ticked, late_length, after_late, restarted};
+ghost use Rattle.pdcp_pdu.specs.Kinds.{IsKind};
+ghost use Rattle.pdcp_sec.specs.Protection.{protection_of};
+ghost use Rattle.pdcp_tx.specs.State.{HasSize, start, refusal, IsAnswer, submitted, offers, sizes, left, taking, took, confirmed, fms_count, reported, owing, ticked, late_length, after_late, restarted};
 ghost use Rattle.pdcp_tx.specs.Entity.{alive, KeepsOrDies};
 
-use crate::security::Security;
 use crate::sender::{Next, Sender};
 use eps_sec::Keys;
 use l2_bits::{Bytes, NoMemory, SubmitRefusal};
 use pdcp_pdu::PdcpKind;
+use pdcp_sec::Security;
 use std::alloc::Global;
 use std::marker::Model;
 
@@ -61,7 +62,7 @@ impl PdcpTx {
         requires kind { IsKind kind }
         requires bearer { bearer < 32 }
         requires direction { direction < 2 }
-        ensures { result ≡ alive (start kind (secure_with kind keys.now bearer direction) first) }
+        ensures { result ≡ alive (start kind (protection_of kind keys.now bearer direction) first) }
     {
         let security = Security::new(kind, keys, bearer, direction);
         PdcpTx {
@@ -119,9 +120,10 @@ impl PdcpTx {
         self.sender.left()
     }
 
-    /// Takes the first of what may be taken; `None` exactly where nothing may be.
+    /// Takes the first of what may be taken; `None` exactly where nothing may be. A PDU has 1 to 8193 octets.
     pub fn next_pdu(&mut self) -> Result<Option<Next>, NoMemory>
         ensures answer { IfOk result (λ next. next ≡ taking self.old.state) }
+        ensures size { IfOk result (λ next. IfSome next HasSize) }
         ensures state { OnOk result (self.new ≡ alive (took self.old.state)) }
         ensures dead { IsTrue self.old.dead → IsErr result }
         ensures err { OnErr result (IsTrue self.new.dead) }
@@ -153,7 +155,8 @@ impl PdcpTx {
 
     /// The own status report is to be taken, before any SDU. It replaces one that isn't taken yet.
     pub fn owe(&mut self, report: Bytes)
-        requires { length report ≤ 2 ^ 16 }
+        requires some { 1 ≤ length report }
+        requires few { length report ≤ 8193 }
         ensures { self.new ≡ record self.old { state = owing self.old.state report } }
     {
         self.sender.owe(report)
@@ -194,21 +197,20 @@ impl PdcpTx {
     ///
     /// An acknowledged data bearer keeps its COUNTs, what waits, and the SDUs from the first unconfirmed one on, which
     /// are taken again. Others begin with COUNT 0, and a signalling bearer drops what waits.
+    ///
+    /// An `Err` gives back what was kept as it was.
     pub fn restart(kept: Kept, keys: &Keys) -> Result<PdcpTx, (Kept, NoMemory)>
         ensures state { IfOk result (λ p. p ≡ alive (restarted kept.state keys.now)) }
         ensures dead { IsTrue kept.dead → IsErr result }
-        ensures err { IfErr result (λ e. IsTrue e.0.dead) }
+        ensures err { IfErr result (λ e. e.0 ≡ kept) }
     {
         let Kept { mut sender, dead } = kept;
         if dead {
-            return Err((Kept { sender, dead: true }, NoMemory));
+            return Err((Kept { sender, dead }, NoMemory));
         }
         match sender.restart(keys) {
-            Ok(()) => Ok(PdcpTx {
-                sender,
-                dead: false,
-            }),
-            Err(no_memory) => Err((Kept { sender, dead: true }, no_memory)),
+            Ok(()) => Ok(PdcpTx { sender, dead }),
+            Err(no_memory) => Err((Kept { sender, dead }, no_memory)),
         }
     }
 }

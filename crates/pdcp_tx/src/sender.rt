@@ -1,24 +1,26 @@
 //! The sender, as long as memory is there.
 
 ghost use Rattle.std.specs.Prelude.{◌≡◌, ◌+◌, ◌-◌, ◌*◌, ◌<◌, ◌≤◌, ◌^◌, [], ◌∷◌, ◌++◌, length, take, drop, slice_get, Some, None, is_some, option_map, OnOk, OnErr, map, min, IfOk, IfErr, IfSome, IsNone, MatchOption, true, false, if◌then◌else◌};
-ghost use Rattle.pdcp_tx.specs.Pdus.{IsKind, modulus, width, secure_with};
-ghost use Rattle.pdcp_tx.specs.Given.{kept_all, data_of, first_open, first_unacked, with_entry, settled};
+ghost use Rattle.pdcp_pdu.specs.Kinds.{IsKind};
+ghost use Rattle.pdcp_sec.specs.Protection.{protection_of};
+ghost use Rattle.pdcp_tx.specs.Pdus.{modulus, width};
+ghost use Rattle.pdcp_tx.specs.Given.{from_unacked, data_of, first_open, first_unacked, with_entry, settled};
 ghost use Rattle.pdcp_tx.specs.Waiting.{length_all};
 ghost use Rattle.pdcp_tx.specs.declared.given.Entry.TheVariants.{Data, Own};
-ghost use Rattle.pdcp_tx.specs.State.{start, refusal, IsAnswer, submitted, offers, again_offer, new_offers, sizes, size, taking, took, took_owed, took_again, took_new, given_new, written, sent, confirmed, moved, low, or_else, fms_count, ahead, reported, reported_from, left, after_late, late_length, is_overdue, restarted, begun, next_from, waiting_on, first_again, owing, ticked};
+ghost use Rattle.pdcp_tx.specs.State.{HasSize, IsShort, start, refusal, IsAnswer, submitted, offers, again_offer, new_offers, sizes, size, taking, took, took_owed, took_again, took_new, given_new, written, sent, confirmed, moved, low, or_else, fms_count, ahead, reported, reported_from, left, after_late, late_length, is_overdue, restarted, begun, next_from, waiting_on, first_again, owing, ticked};
 
-use crate::again::{Again, move_again};
+use crate::again::Again;
 use crate::given::{Entry, Ledger, Sent};
-use crate::kind::{extra, is_am, modulus, width};
+use crate::kind::{extra, modulus, width};
 use crate::sdu::Sdu;
-use crate::security::Security;
+use crate::security::write_pdu;
 use crate::waiting::Queue;
 use eps_sec::Keys;
 use l2_bits::{Bytes, NoMemory, SubmitRefusal};
 use pdcp_pdu::PdcpKind;
+use pdcp_sec::Security;
 use std::alloc::Global;
 use std::marker::Model;
-use std::mem;
 
 /// A PDU for RLC. A status report has no COUNT.
 #[derive(Drop)]
@@ -46,15 +48,15 @@ pub struct Sender {
 }
 
 impl Model for Sender {
-    ghost use Rattle.std.specs.Prelude.{◌+◌, ◌≤◌, ◌^◌, length, option_map};
-    ghost use Rattle.pdcp_tx.specs.Pdus.{IsKind};
-    ghost use Rattle.pdcp_tx.specs.State.{State, or_else};
+    ghost use Rattle.std.specs.Prelude.{◌+◌, ◌≤◌, ◌^◌, length, IfSome};
+    ghost use Rattle.pdcp_pdu.specs.Kinds.{IsKind};
+    ghost use Rattle.pdcp_tx.specs.State.{State, IsShort};
 
     ghost Value = { State };
 
-    ghost view = { λ s. record { kind = s.kind; secure = s.security; next = s.next; base = s.base; bound = s.bound; owed = s.owed; reporting = s.reporting; given = s.given; again = s.again; waiting = s.waiting; clock = s.clock; discard = s.discard } };
+    ghost view = { λ s. record { kind = s.kind; protection = s.security; next = s.next; base = s.base; bound = s.bound; owed = s.owed; reporting = s.reporting; given = s.given; again = s.again; waiting = s.waiting; clock = s.clock; discard = s.discard } };
 
-    ghost invariant = { λ s. (s.next + length s.waiting ≤ 2 ^ 32) × (s.base ≤ 2 ^ 32) × IsKind s.kind × (or_else (option_map length s.owed) 0 ≤ 2 ^ 16) };
+    ghost invariant = { λ s. (s.next + length s.waiting ≤ 2 ^ 32) × (s.base ≤ 2 ^ 32) × IsKind s.kind × IfSome s.owed IsShort };
 }
 
 impl Sender {
@@ -180,7 +182,7 @@ impl Sender {
 
     fn owed_octets(&self) -> u64
         ensures value { result ≡ or_else (option_map length self.now.owed) 0 }
-        ensures below { result ≤ 2 ^ 16 }
+        ensures below { result ≤ 8193 }
     {
         match &self.owed {
             Some(report) => report.as_slice().len() as u64,
@@ -192,6 +194,7 @@ impl Sender {
     #[tactic(auto, unfolding(crate::specs::State::took, crate::specs::State::taking, crate::specs::State::offers))]
     pub fn next_pdu(&mut self) -> Result<Option<Next>, NoMemory>
         ensures answer { IfOk result (λ next. next ≡ taking self.old) }
+        ensures size { IfOk result (λ next. IfSome next HasSize) }
         ensures state { OnOk result (self.new ≡ took self.old) }
     {
         match self.owed.take() {
@@ -201,8 +204,10 @@ impl Sender {
     }
 
     fn take_report(&mut self, report: Bytes) -> Result<Option<Next>, NoMemory>
-        requires { self.old.owed ≡ None }
-        ensures answer { IfOk result (λ next. next ≡ Some (written self.old.kind self.old.secure None report)) }
+        requires owed { self.old.owed ≡ None }
+        requires short { IsShort report }
+        ensures answer { IfOk result (λ next. next ≡ Some (written self.old.kind self.old.protection None report)) }
+        ensures size { IfOk result (λ next. IfSome next HasSize) }
         ensures state { OnOk result (self.new ≡ record self.old { given = with_entry self.old.given Own }) }
     {
         self.given.push(Entry::Own)?;
@@ -215,7 +220,8 @@ impl Sender {
 
     fn take_sdu(&mut self) -> Result<Option<Next>, NoMemory>
         requires { self.old.owed ≡ None }
-        ensures answer { IfOk result (λ next. next ≡ option_map (λ o. written self.old.kind self.old.secure o.count o.text) (slice_get (map again_offer self.old.again ++ new_offers self.old.next (take (self.old.bound - self.old.next) self.old.waiting)) 0)) }
+        ensures answer { IfOk result (λ next. next ≡ option_map (λ o. written self.old.kind self.old.protection o.count o.text) (slice_get (map again_offer self.old.again ++ new_offers self.old.next (take (self.old.bound - self.old.next) self.old.waiting)) 0)) }
+        ensures size { IfOk result (λ next. IfSome next HasSize) }
         ensures state { OnOk result (self.new ≡ took_again self.old.again self.old) }
     {
         match self.again.pop() {
@@ -225,7 +231,8 @@ impl Sender {
     }
 
     fn take_again(&mut self, sent: Sent) -> Result<Option<Next>, NoMemory>
-        ensures answer { IfOk result (λ next. next ≡ Some (written self.old.kind self.old.secure (Some sent.count) sent.octets)) }
+        ensures answer { IfOk result (λ next. next ≡ Some (written self.old.kind self.old.protection (Some sent.count) sent.octets)) }
+        ensures size { IfOk result (λ next. IfSome next HasSize) }
         ensures state { OnOk result (self.new ≡ record self.old { given = settled (with_entry self.old.given (Data sent)) }) }
     {
         let next = self.write(sent.count, &sent.octets)?;
@@ -236,7 +243,8 @@ impl Sender {
 
     #[tactic(auto, using(crate::proofs::Offers::firsts))]
     fn take_new(&mut self) -> Result<Option<Next>, NoMemory>
-        ensures answer { IfOk result (λ next. next ≡ option_map (λ o. written self.old.kind self.old.secure o.count o.text) (slice_get (new_offers self.old.next (take (self.old.bound - self.old.next) self.old.waiting)) 0)) }
+        ensures answer { IfOk result (λ next. next ≡ option_map (λ o. written self.old.kind self.old.protection o.count o.text) (slice_get (new_offers self.old.next (take (self.old.bound - self.old.next) self.old.waiting)) 0)) }
+        ensures size { IfOk result (λ next. IfSome next HasSize) }
         ensures state { OnOk result (self.new ≡ took_new (take (self.old.bound - self.old.next) self.old.waiting) self.old) }
     {
         if self.bound <= self.next {
@@ -250,7 +258,8 @@ impl Sender {
 
     fn give_new(&mut self, octets: Sdu) -> Result<Option<Next>, NoMemory>
         requires { self.old.next + length self.old.waiting < 2 ^ 32 }
-        ensures answer { IfOk result (λ next. next ≡ Some (written self.old.kind self.old.secure (Some self.old.next) octets)) }
+        ensures answer { IfOk result (λ next. next ≡ Some (written self.old.kind self.old.protection (Some self.old.next) octets)) }
+        ensures size { IfOk result (λ next. IfSome next HasSize) }
         ensures state { OnOk result (self.new ≡ record self.old { next = self.old.next + 1; given = given_new self.old.kind self.old.given self.old.next octets }) }
     {
         let count = self.next as u32;
@@ -261,12 +270,13 @@ impl Sender {
     }
 
     fn write(&self, count: u32, sdu: &Sdu) -> Result<Next, NoMemory>
-        ensures { IfOk result (λ next. next ≡ written self.now.kind self.now.secure (Some count) sdu.now) }
+        ensures answer { IfOk result (λ next. next ≡ written self.now.kind self.now.protection (Some count) sdu.now) }
+        ensures size { IfOk result HasSize }
     {
         Ok(Next {
             count: Some(count),
             len: sdu.len(),
-            octets: self.security.write_pdu(self.alloc, self.kind, count, sdu)?,
+            octets: write_pdu(&self.security, self.alloc, self.kind, count, sdu)?,
         })
     }
 
@@ -330,7 +340,8 @@ impl Sender {
 
     /// A status report is to be sent.
     pub fn owe(&mut self, report: Bytes)
-        requires { length report ≤ 2 ^ 16 }
+        requires some { 1 ≤ length report }
+        requires few { length report ≤ 8193 }
         ensures { self.new ≡ owing self.old report }
     {
         self.owed = Some(report);
@@ -373,18 +384,13 @@ impl Sender {
         Some(one.octets.len())
     }
 
-    /// Begins a new life under other keys.
+    /// Begins a new life under other keys. An `Err` changes nothing.
     #[tactic(auto, unfolding(crate::specs::State::restarted))]
     pub fn restart(&mut self, keys: &Keys) -> Result<(), NoMemory>
-        ensures { OnOk result (self.new ≡ restarted self.old keys.now) }
+        ensures ok { OnOk result (self.new ≡ restarted self.old keys.now) }
+        ensures err { OnErr result (self.new ≡ self.old) }
     {
-        let mut again = Again::new(self.alloc);
-        mem::replace(&mut self.given, Ledger::new(self.alloc)).move_into(&mut again)?;
-        move_again(
-            mem::replace(&mut self.again, Again::new(self.alloc)),
-            &mut again,
-        )?;
-        self.again = again;
+        self.given.move_before(&mut self.again)?;
         self.reset();
         self.begin_life(keys);
         Ok(())
@@ -407,13 +413,13 @@ impl Sender {
     }
 
     fn begin_life(&mut self, keys: &Keys)
-        ensures { self.new ≡ begun self.old (secure_with self.old.kind keys.now self.old.secure.bearer self.old.secure.direction) }
+        ensures { self.new ≡ begun self.old (protection_of self.old.kind keys.now self.old.protection.bearer self.old.protection.direction) }
     {
         let first = match self.again.first() {
             Some(count) => u64::from(count),
             None => self.next,
         };
-        self.security = self.security.with_keys(self.kind, keys);
+        self.security.renew(self.kind, keys);
         self.base = first;
         self.bound = first + width(self.kind);
         self.owed = None;
@@ -425,7 +431,7 @@ impl Sender {
 fn keep_new(given: &mut Ledger, kind: PdcpKind, count: u32, octets: Sdu) -> Result<(), NoMemory>
     ensures { OnOk result (given.new ≡ given_new kind given.old count octets) }
 {
-    if !is_am(kind) {
+    if !kind.is_am() {
         return Ok(());
     }
     given.push(Entry::Data(Sent {

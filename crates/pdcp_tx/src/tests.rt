@@ -1,6 +1,6 @@
 //! PDUs, refusals, lives and discards by hand. The ciphered PDUs come from an independent implementation.
 
-ghost use Rattle.pdcp_tx.specs.Pdus.{IsKind};
+ghost use Rattle.pdcp_pdu.specs.Kinds.{IsKind};
 
 use crate::{Next, PdcpTx};
 use eps_sec::{Cipher, Key, Keys};

@@ -1,0 +1,96 @@
+//! The keys of a PDCP entity at work: ciphering and integrity by COUNT (TS 36.323 5.6, 5.7), for both ends alike.
+#![tactic(auto)]
+
+ghost use Rattle.std.specs.Prelude.{◌≡◌, ◌<◌, ℕ, List, length};
+ghost use Rattle.pdcp_sec.specs.Protection.{Protection, protection_of, key_of, ciphered_with, tag_of};
+
+use eps_sec::{Cipher, Key, Keys, Schedule, eea_apply, eia_tag};
+use pdcp_pdu::PdcpKind;
+use std::marker::Model;
+
+/// The keys of a bearer in one direction and one life, expanded, with what else both algorithms take: BEARER, below 32,
+/// and DIRECTION, 0 on the uplink and 1 on the downlink. No call takes memory.
+#[derive(Debug, Drop)]
+pub struct Security {
+    cipher: Cipher,
+    key: Schedule,
+    integrity: Schedule,
+    bearer: u32,
+    direction: u32,
+}
+
+impl Model for Security {
+    ghost use Rattle.std.specs.Prelude.{◌<◌};
+    ghost use Rattle.pdcp_sec.specs.Protection.{Protection};
+
+    ghost Value = { Protection };
+
+    ghost view = { λ s. record { cipher = s.cipher; key = s.key; integrity = s.integrity; bearer = s.bearer; direction = s.direction } };
+
+    ghost invariant = { λ s. (s.bearer < 32) × (s.direction < 2) };
+}
+
+impl Security {
+    /// Expands the keys of a bearer.
+    pub fn new(kind: PdcpKind, keys: &Keys, bearer: u32, direction: u32) -> Security
+        requires bearer { bearer < 32 }
+        requires direction { direction < 2 }
+        ensures { result ≡ protection_of kind keys.now bearer direction }
+    {
+        Security {
+            cipher: keys.alg,
+            key: Schedule::new(key_of(kind, keys)),
+            integrity: Schedule::new(&keys.integrity),
+            bearer,
+            direction,
+        }
+    }
+
+    /// The same bearer under other keys.
+    pub fn renew(&mut self, kind: PdcpKind, keys: &Keys)
+        ensures { self.new ≡ protection_of kind keys.now self.old.bearer self.old.direction }
+    {
+        *self = Security::new(kind, keys, self.bearer, self.direction);
+    }
+
+    /// Ciphers a text under a COUNT, or deciphers it.
+    #[tactic(auto, unfolding(crate::specs::Protection::ciphered_with), using(crate::proofs::Lengths::length_ciphered))]
+    pub fn apply(&self, count: u32, text: &mut [u8])
+        ensures text { text.new ≡ ciphered_with self.now count text.old }
+        ensures len { length text.new ≡ length text.old }
+    {
+        eea_apply(
+            &self.key,
+            self.cipher,
+            count,
+            self.bearer,
+            self.direction,
+            text,
+        );
+    }
+
+    /// The MAC-I of a message: the header and the plain data of its PDU.
+    #[tactic(auto, unfolding(crate::specs::Protection::tag_of))]
+    pub fn tag(&self, count: u32, message: &[u8]) -> [u8; 4]
+        ensures value { result ≡ tag_of self.now count message.now }
+        ensures len { length result ≡ 4 }
+    {
+        eia_tag(&self.integrity, count, self.bearer, self.direction, message)
+    }
+}
+
+fn key_of<'a>(kind: PdcpKind, keys: &'a Keys) -> &'a Key
+    ensures { result.now ≡ key_of kind keys.now }
+{
+    match kind {
+        PdcpKind::Srb => &keys.rrc,
+        PdcpKind::Um { bits: _ } => &keys.user,
+        PdcpKind::Am { bits: _ } => &keys.user,
+    }
+}
+
+/// The law that deciphering a ciphered text gives the text.
+#[tactic(auto, using(crate::proofs::Lengths::ciphered_twice))]
+pub fn deciphers_what_was_ciphered()
+    ensures { (p : Protection) (count : ℕ) (text : List ℕ) → ciphered_with p count (ciphered_with p count text) ≡ text }
+{}
