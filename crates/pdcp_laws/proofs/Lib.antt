@@ -1,0 +1,9 @@
+pub mod Thinning
+pub mod Lives
+pub mod KindStays
+pub mod Naming
+pub mod Queue
+pub mod Bounding
+pub mod Hearings
+pub mod Openings
+pub mod Told

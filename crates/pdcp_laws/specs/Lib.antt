@@ -1,0 +1,4 @@
+pub mod Lives
+pub mod Bounds
+pub mod Receiving
+pub mod Again
