@@ -1,0 +1,9 @@
+pub mod Joins
+pub mod Places
+pub mod Edge
+pub mod Whole
+pub mod Read
+pub mod Air
+pub mod Search
+pub mod Loss
+pub mod Timed

@@ -1,0 +1,10 @@
+-- The number that a sequence number is read as.
+use Rattle.std.specs.Prelude.{◌≡◌, ℕ, ◌+◌, ◌*◌, ◌%◌, ◌<◌, ◌≤◌}
+use Rattle.rlc_um.specs.Window.{Window, top_of, number_of}
+
+-- it has that sequence number and lies in the window around the top, and no other number does
+pub record IsRead (w : Window) (sn : ℕ) : Type 0 where
+  pub same : number_of w sn % (2 * w.width) ≡ sn
+  pub low : top_of w ≤ number_of w sn + w.width
+  pub below : number_of w sn < top_of w + w.width
+  pub only : (n : ℕ) → n % (2 * w.width) ≡ sn → top_of w ≤ n + w.width → n < top_of w + w.width → n ≡ number_of w sn
