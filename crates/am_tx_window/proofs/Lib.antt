@@ -1,0 +1,6 @@
+pub mod NumberSteps
+pub mod LedgerSteps
+pub mod SlotSteps
+pub mod CutSteps
+pub mod RingSteps
+pub mod WaitingSteps

@@ -1,0 +1,40 @@
+-- What is kept of a PDU that was just sent.
+use Rattle.std.proofs.Common.{◌≡◌, ◌<◌, ◌≤◌, ℕ, suc, zero, ◌+◌, Bool, true, false, List, [], ◌∷◌, ◌++◌, length, slice_set, slice_index_or, refl, ap, sym, ◌∙◌, arith, nat_lt, add-one, if◌then◌else◌}
+use Rattle.std.proofs.lemmas.Bool.Decides.{nat_tests}
+use Rattle.am_tx_window.specs.Sent.{Sent, is_waiting, rested, sent_part, fresh}
+use Rattle.am_tx_window.specs.Written.{whole_octets, part_octets}
+use Rattle.am_tx_window.specs.Window.{slot_at, leading_idle}
+use Rattle.am_tx_window.proofs.WaitingSteps.{slot-set, fresh-idle, within}
+
+-- the place of the first that waits holds one that waits
+pub first-waits : (slots : List Sent) → leading_idle slots < length slots → is_waiting (slot_at slots (leading_idle slots)) ≡ true
+first-waits [] h = absurd (omega arith)
+first-waits (s ∷ slots) h = step (is_waiting s) refl h (first-waits slots)
+  where
+    step : (b : Bool) → is_waiting s ≡ b → (if b then 0 else leading_idle slots + 1) < suc (length slots) → (leading_idle slots < length slots → is_waiting (slot_at slots (leading_idle slots)) ≡ true) → is_waiting (slot_at (s ∷ slots) (if b then 0 else leading_idle slots + 1)) ≡ true
+    step true e h ih = e
+    step false e h ih = rw (add-one (leading_idle slots)) (ih (omega arith))
+
+-- the octets that were sent again
+pub whole-again : (slots : List Sent) (at number : ℕ) (poll : Bool) → at < length slots → whole_octets (slot_at (slice_set slots at (rested (slot_at slots at))) at) number poll ≡ whole_octets (slot_at slots at) number poll
+whole-again slots at number poll h = ap (λ (x : Sent). whole_octets x number poll) (slot-set slots at (rested (slot_at slots at)) h)
+
+-- a PDU that is added
+slot-last : (slots : List Sent) (x : Sent) → slot_at (slots ++ x ∷ []) (length slots) ≡ x
+slot-last [] x = refl
+slot-last (s ∷ slots) x = slot-last slots x
+
+pub new-last : (slots : List Sent) (x : Sent) (number : ℕ) (poll : Bool) → whole_octets (slot_at (slots ++ x ∷ []) (length slots)) number poll ≡ whole_octets x number poll
+new-last slots x number poll = ap (λ (y : Sent). whole_octets y number poll) (slot-last slots x)
+
+pub ruleset whole = (whole-again)
+
+pub ruleset parts = (first-waits)
+
+pub ruleset news = (new-last, fresh-idle)
+
+-- nothing waits
+pub none-waits : (slots : List Sent) → nat_lt (leading_idle slots) (length slots) ≡ false → leading_idle slots ≡ length slots
+none-waits slots e = let h = within slots in grind (arith, nat_tests)
+
+pub ruleset quiet = (none-waits)

@@ -1,0 +1,10 @@
+-- A sender, and whether it ran out of memory.
+use Rattle.std.specs.Prelude.{Bool, false}
+use Rattle.rlc_am_tx.specs.Machine.{State}
+
+pub record Entity : Type 0 where
+  pub state : State
+  pub dead : Bool
+
+abbrev pub alive : State → Entity
+alive s = record { state = s; dead = false }
