@@ -1,0 +1,16 @@
+pub mod Longest
+pub mod Slots
+pub mod Least
+pub mod Carried
+pub mod Places
+pub mod Named
+pub mod Marked
+pub mod Limits
+pub mod Resends
+pub mod Polls
+pub mod Watches
+pub mod SegmentLens
+pub mod Credits
+pub mod Keys
+pub mod Books
+pub mod Confirms

@@ -1,0 +1,10 @@
+pub mod Run
+pub mod Acked
+pub mod Cutting
+pub mod Stream
+pub mod Namings
+pub mod Limit
+pub mod Resent
+pub mod Polled
+pub mod Watched
+pub mod Confirmed
