@@ -1,0 +1,15 @@
+use Rattle.std.proofs.Common.{◌≡◌, ◌+◌, ◌≤◌, length}
+use Rattle.rlc_pdu.specs.Views.{elements_of}
+use Rattle.am_window.specs.Cells.{laid}
+use Rattle.am_window.specs.Piece.{octets_in, so_of, data_cells, begins_in, ends_in}
+use Rattle.am_window.proofs.slot.lay_data.Given as goal
+
+abbrev pub invariant-loop-element : goal.invariant-loop-element
+invariant-loop-element l = record {
+  count : l.at + octets_in l.walk ≡ so_of l.pdu.segment + octets_in (elements_of l.pdu.elements);
+  room : l.at ≤ length l.field;
+  rest : laid l.field l.at (data_cells l.begins l.ends l.walk) ≡ laid l.fn.field (so_of l.pdu.segment) (data_cells (begins_in l.pdu.fi) (ends_in l.pdu.fi) (elements_of l.pdu.elements));
+}
+
+abbrev pub decreases-loop-element : goal.decreases-loop-element
+decreases-loop-element l = length l.walk

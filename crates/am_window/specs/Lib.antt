@@ -1,0 +1,6 @@
+pub mod Cells
+pub mod Piece
+pub mod Held
+pub mod Joined
+pub mod Window
+pub mod Missing

@@ -1,0 +1,4 @@
+pub mod State
+pub mod Status
+pub mod Machine
+pub mod Entity
