@@ -1,0 +1,14 @@
+pub mod Places
+pub mod Order
+pub mod Least
+pub mod Bound
+pub mod Offset
+pub mod InSequence
+pub mod Clash
+pub mod Gaps
+pub mod Well
+pub mod TrueStatus
+pub mod Due
+pub mod Joins
+pub mod Finish
+pub mod Timer
