@@ -1,0 +1,4 @@
+pub mod Feeds
+pub mod StatusOctets
+pub mod Hears
+pub mod Timings

@@ -1,0 +1,2 @@
+pub mod LateSteps
+pub mod Offered

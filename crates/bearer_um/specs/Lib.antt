@@ -1,0 +1,4 @@
+pub mod State
+pub mod Taking
+pub mod Hearing
+pub mod Lives
