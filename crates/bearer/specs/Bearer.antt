@@ -1,0 +1,40 @@
+-- A bearer at one end: of one of three kinds, in a life or between two lives.
+use Rattle.std.specs.Prelude.{ℕ, Bool, false}
+use Rattle.bearer_types.specs.declared.BearerConfig.{BearerConfig}
+use Rattle.eps_sec.specs.declared.Keys.{Keys}
+use Rattle.l2_types.specs.declared.Kind.{Kind}
+use Rattle.l2_types.specs.declared.Kind.TheVariants as kinds
+use Rattle.l2_types.specs.declared.Side.{Side}
+use Rattle.pdcp_pdu.specs.declared.PdcpKind.TheVariants as pdcp
+use Rattle.rlc_um.specs.Transparent.{nothing_submitted}
+use Rattle.bearer_um.specs.State.{fresh as fresh_um}
+use Rattle.bearer_am.specs.State.{fresh as fresh_am}
+use Rattle.bearer.specs.declared.flow.Flow.{Flow}
+use Rattle.bearer.specs.declared.flow.Flow.TheVariants.{Tm, Um, Am}
+
+-- a bearer in some state
+pub record Of (S : Type 0) : Type 0 where
+  pub lcid : ℕ
+  pub state : S
+
+module _ {S : Type 0} where
+  abbrev pub of : ℕ → S → Of S
+  of lcid state = record { lcid = lcid; state = state }
+
+-- a bearer in a life; one that ran out of memory answers so from then on to each call that can
+pub record Life : Type 0 where
+  pub flow : Flow
+  pub dead : Bool
+
+abbrev pub alive : Flow → Life
+alive flow = record { flow = flow; dead = false }
+
+abbrev pub flow_of : Kind → BearerConfig → Keys → Side → Flow
+flow_of kinds.Tm c keys side = Tm nothing_submitted
+flow_of kinds.Srb c keys side = Am (fresh_am c pdcp.Srb keys side)
+flow_of kinds.Um c keys side = Um (fresh_um c keys side)
+flow_of kinds.Am c keys side = Am (fresh_am c (pdcp.Am c.pdcp_bits) keys side)
+
+-- a bearer as both ends are configured with it
+unfoldable pub begun : BearerConfig → Keys → Side → Of Life
+begun c keys side = of c.channel.lcid (alive (flow_of c.kind c keys side))
