@@ -95,6 +95,10 @@ pub record Stretch : Type 0 where
   pub to : ℕ
   pub lens : List ℕ
 
+-- its octets with the header
+abbrev pub stretch_size : Stretch → ℕ
+stretch_size s = header_len 4 (length s.lens) + sum s.lens
+
 abbrev pub stretch_of : ℕ → List ℕ → Stretch
 stretch_of from lens = record { from = from; to = from + sum lens; lens = lens }
 

@@ -1,9 +1,10 @@
 ghost use Rattle.std.specs.Prelude.{◌≡◌, ◌+◌, ◌-◌, ◌*◌, ◌<◌, ◌≤◌, ◌^◌, ◌==◌, ◌&&◌, not, OnOk, OnErr, IfOk, IfSome, MatchOption, min, [], ◌∷◌, length, false, true};
 ghost use Rattle.std.specs.List.{sum};
-ghost use Rattle.rlc_pdu.specs.Pdus.{AreLens};
+ghost use Rattle.rlc_pdu.specs.Pdus.{AreLens, IsSegment};
+ghost use Rattle.rlc_pdu.specs.Grammar.{has_segment};
 ghost use Rattle.rlc_pdu.specs.Runs.{gap_in, removed, run};
-ghost use Rattle.rlc_pdu.specs.Writing.{header_len};
-ghost use Rattle.am_tx_window.specs.Sent.{fresh, first_waiting, is_waiting, is_all, all_wait, waiting_octets, whole_size, segment_size, resend_size, stretch_in, next_stretch, rested, sent_part, named_range, start_of, stop_of, with_name, counted, considered, gets_acked, acknowledged, recalled, is_spent, woken, waiting_between, Lies};
+ghost use Rattle.rlc_pdu.specs.Writing.{amd_written, header_len};
+ghost use Rattle.am_tx_window.specs.Sent.{fresh, first_waiting, is_waiting, is_all, all_wait, waiting_octets, whole_size, segment_size, resend_size, stretch_in, stretch_size, next_stretch, rested, sent_part, named_range, start_of, stop_of, with_name, counted, considered, gets_acked, acknowledged, recalled, is_spent, woken, waiting_between, Lies};
 ghost use Rattle.am_tx_window.specs.Written.{begins_at, ends_at, whole_octets, part_octets};
 
 use crate::cut::{clip, clip_count, cut, is_cut, total};
@@ -250,11 +251,12 @@ impl Slot {
 
     /// Writes the PDU.
     pub fn write_whole(&self, alloc: Global, number: u64, poll: bool) -> Result<Bytes, NoMemory>
-        ensures { IfOk result (λ pdu. pdu ≡ whole_octets self.now number poll) }
+        ensures value { IfOk result (λ pdu. pdu ≡ whole_octets self.now number poll) }
+        ensures len { IfOk result (λ pdu. length pdu ≡ whole_size self.now) }
     {
         let sn = (number % 1024) as u32;
         let fi = framing(self.begins, self.ends);
-        write_amd(alloc, sn, poll, fi, None, &self.lens, self.field.as_slice())
+        written(alloc, sn, poll, fi, None, &self.lens, self.field.as_slice())
     }
 
     /// Writes a segment of the PDU.
@@ -265,7 +267,8 @@ impl Slot {
         poll: bool,
         stretch: &Stretch,
     ) -> Result<Bytes, NoMemory>
-        ensures { IfOk result (λ pdu. pdu ≡ part_octets self.now number poll stretch.now) }
+        ensures value { IfOk result (λ pdu. pdu ≡ part_octets self.now number poll stretch.now) }
+        ensures len { IfOk result (λ pdu. length pdu ≡ stretch_size stretch.now) }
     {
         if self.size() < stretch.to {
             return Err(NoMemory);
@@ -277,7 +280,7 @@ impl Slot {
             so: stretch.from,
         };
         let octets = &self.field.as_slice()[stretch.from as usize..stretch.to as usize];
-        write_amd(alloc, sn, poll, fi, Some(segment), &stretch.lens, octets)
+        written(alloc, sn, poll, fi, Some(segment), &stretch.lens, octets)
     }
 
     /// The longest segment of at most so many octets with the first octets that wait. It isn't asked for where none
@@ -287,6 +290,7 @@ impl Slot {
         ensures value { IfOk result (λ s. s ≡ next_stretch self.now size) }
         ensures some { IfOk result (λ s. s.from < s.to) }
         ensures within { IfOk result (λ s. s.to ≤ length self.now.field) }
+        ensures fits { IfOk result (λ s. stretch_size s ≤ size) }
     {
         match self.first_waiting() {
             Some(part) => self.stretch_in(size, part),
@@ -295,7 +299,7 @@ impl Slot {
     }
 
     // The longest segment of at most so many octets that begins with a part and lies in it.
-    #[tactic(auto, using(crate::proofs::CutSteps::stretches))]
+    #[tactic(auto, using(crate::proofs::CutSteps::stretches, crate::proofs::CutFits::fits))]
     fn stretch_in(&self, size: u32, part: Part) -> Result<Stretch, NoMemory>
         requires some { part.start ≤ part.end }
         requires within { part.end < length self.now.field }
@@ -303,6 +307,7 @@ impl Slot {
         ensures value { IfOk result (λ s. s ≡ stretch_in self.now size part) }
         ensures some { IfOk result (λ s. s.from < s.to) }
         ensures within { IfOk result (λ s. s.to ≤ length self.now.field) }
+        ensures fits { IfOk result (λ s. stretch_size s ≤ size) }
     {
         let all = clip(self.alloc, &self.lens, part.start, part.end + 1)?;
         let lens = cut(self.alloc, &all, size - 4)?;
@@ -429,6 +434,28 @@ impl Slot {
         }
         Ok(())
     }
+}
+
+// The octets of a PDU, or of a segment of one.
+fn written(
+    alloc: Global,
+    sn: u32,
+    poll: bool,
+    fi: u8,
+    segment: Option<Segment>,
+    lens: &[u32],
+    field: &[u8],
+) -> Result<Bytes, NoMemory>
+    requires number { sn < 2 ^ 10 }
+    requires framing { fi < 4 }
+    requires segment { IsSegment segment }
+    requires lens { AreLens lens.now }
+    requires whole { sum lens.now ≡ length field.now }
+    ensures value { IfOk result (λ octets. octets ≡ amd_written sn poll fi segment lens.now field.now) }
+    ensures len { IfOk result (λ octets. length octets ≡ header_len (2 + 2 * has_segment segment) (length lens.now) + sum lens.now) }
+{
+    let octets = write_amd(alloc, sn, poll, fi, segment, lens, field)?;
+    Ok(octets)
 }
 
 // The set of all octets of a field but those from a place below another.

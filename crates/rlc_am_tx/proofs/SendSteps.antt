@@ -1,8 +1,8 @@
 -- What is kept of a PDU that was just sent.
-use Rattle.std.proofs.Common.{◌≡◌, ◌<◌, ◌≤◌, ℕ, suc, zero, ◌+◌, Bool, true, false, List, [], ◌∷◌, ◌++◌, length, slice_set, slice_index_or, refl, ap, sym, ◌∙◌, arith, nat_lt, add-one, if◌then◌else◌}
+use Rattle.std.proofs.Common.{◌≡◌, ◌<◌, ℕ, suc, ◌+◌, Bool, true, false, List, [], ◌∷◌, ◌++◌, length, slice_set, refl, ap, arith, nat_lt, add-one, if◌then◌else◌}
 use Rattle.std.proofs.lemmas.Bool.Decides.{nat_tests}
-use Rattle.am_tx_window.specs.Sent.{Sent, is_waiting, rested, sent_part, fresh}
-use Rattle.am_tx_window.specs.Written.{whole_octets, part_octets}
+use Rattle.am_tx_window.specs.Sent.{Sent, is_waiting, whole_size, rested}
+use Rattle.am_tx_window.specs.Written.{whole_octets}
 use Rattle.am_tx_window.specs.Window.{slot_at, leading_idle}
 use Rattle.am_tx_window.proofs.WaitingSteps.{slot-set, fresh-idle, within}
 
@@ -19,6 +19,10 @@ first-waits (s ∷ slots) h = step (is_waiting s) refl h (first-waits slots)
 pub whole-again : (slots : List Sent) (at number : ℕ) (poll : Bool) → at < length slots → whole_octets (slot_at (slice_set slots at (rested (slot_at slots at))) at) number poll ≡ whole_octets (slot_at slots at) number poll
 whole-again slots at number poll h = ap (λ (x : Sent). whole_octets x number poll) (slot-set slots at (rested (slot_at slots at)) h)
 
+-- and how many they are
+pub again-size : (slots : List Sent) (at : ℕ) → at < length slots → whole_size (slot_at (slice_set slots at (rested (slot_at slots at))) at) ≡ whole_size (slot_at slots at)
+again-size slots at h = ap (λ (x : Sent). whole_size x) (slot-set slots at (rested (slot_at slots at)) h)
+
 -- a PDU that is added
 slot-last : (slots : List Sent) (x : Sent) → slot_at (slots ++ x ∷ []) (length slots) ≡ x
 slot-last [] x = refl
@@ -27,11 +31,14 @@ slot-last (s ∷ slots) x = slot-last slots x
 pub new-last : (slots : List Sent) (x : Sent) (number : ℕ) (poll : Bool) → whole_octets (slot_at (slots ++ x ∷ []) (length slots)) number poll ≡ whole_octets x number poll
 new-last slots x number poll = ap (λ (y : Sent). whole_octets y number poll) (slot-last slots x)
 
-pub ruleset whole = (whole-again)
+pub new-size : (slots : List Sent) (x : Sent) → whole_size (slot_at (slots ++ x ∷ []) (length slots)) ≡ whole_size x
+new-size slots x = ap (λ (y : Sent). whole_size y) (slot-last slots x)
+
+pub ruleset whole = (whole-again, again-size)
 
 pub ruleset parts = (first-waits)
 
-pub ruleset news = (new-last, fresh-idle)
+pub ruleset news = (new-last, new-size, fresh-idle)
 
 -- nothing waits
 pub none-waits : (slots : List Sent) → nat_lt (leading_idle slots) (length slots) ≡ false → leading_idle slots ≡ length slots

@@ -1,6 +1,6 @@
 -- An acknowledged sender as a machine (TS 36.322 5.1.3.1, 5.2.1, 5.2.2, 5.3.2): its state, and what each call makes of it. Numbers are true
 -- numbers, counted from 0.
-use Rattle.std.specs.Prelude.{◌≡◌, ◌≤◌, ◌<◌, ℕ, ◌+◌, ◌-◌, ◌%◌, Bool, true, false, not, ◌||◌, ◌&&◌, ◌==◌, if◌then◌else◌, List, [], ◌∷◌, ◌++◌, length, map, drop, slice_get, Option, Some, None, nat_le, nat_lt}
+use Rattle.std.specs.Prelude.{◌≡◌, ◌≤◌, ◌<◌, ℕ, ◌+◌, ◌-◌, ◌%◌, Bool, true, false, not, ◌||◌, ◌&&◌, ◌==◌, if◌then◌else◌, List, [], ◌∷◌, ◌++◌, length, map, drop, Option, Some, None, nat_le, nat_lt}
 use Rattle.std.specs.List.{concat}
 use Rattle.l2_num.specs.Timers.{Clock, stopped, begun, ceased, runs, ticked}
 use Rattle.l2_types.specs.declared.config.AmTxConfig.{AmTxConfig}
@@ -108,18 +108,18 @@ turn s size held more =
     else new_turn s size held
 
 -- what is there where a PDU is sent again, and where a new one is
-abbrev pub IsAgain : ℕ → Turn → Type 0
-IsAgain size turns.Part = 5 ≤ size
-IsAgain size turns.Whole = Unit {0}
-IsAgain size turns.Small = Unit {0}
-IsAgain size turns.New = ⊥
-IsAgain size turns.Idle = ⊥
-IsAgain size turns.Stopped = ⊥
-IsAgain size turns.Shut = ⊥
-IsAgain size turns.Held = ⊥
+abbrev pub IsAgain : Sent → ℕ → Turn → Type 0
+IsAgain h size turns.Part = 5 ≤ size
+IsAgain h size turns.Whole = whole_size h ≤ size
+IsAgain h size turns.Small = Unit {0}
+IsAgain h size turns.New = ⊥
+IsAgain h size turns.Idle = ⊥
+IsAgain h size turns.Stopped = ⊥
+IsAgain h size turns.Shut = ⊥
+IsAgain h size turns.Held = ⊥
 
 abbrev pub IsAble : State → ℕ → Turn → Type 0
-IsAble s size turns.Whole = waits s ≡ true
+IsAble s size turns.Whole = (waits s ≡ true) × (whole_size (again s) ≤ size)
 IsAble s size turns.Part = (waits s ≡ true) × (5 ≤ size)
 IsAble s size turns.New = (0 < length s.queue.sdus) × (3 ≤ size)
 IsAble s size turns.Idle = Unit {0}

@@ -1,5 +1,5 @@
 -- What a sender needs and has, in octets.
-use Rattle.std.specs.Prelude.{ℕ, ◌+◌, Bool, true, false, not, ◌||◌, ◌&&◌, ◌==◌, if◌then◌else◌, Option}
+use Rattle.std.specs.Prelude.{ℕ, ◌+◌, Bool, not, ◌||◌, ◌&&◌, ◌==◌, if◌then◌else◌, Option}
 use Rattle.rlc_queue.specs.Waiting.{total, wanted}
 use Rattle.rlc_queue.specs.NewPdu.{fits_more}
 use Rattle.am_tx_window.specs.Sent.{resend_size}

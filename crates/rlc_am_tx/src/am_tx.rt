@@ -1,4 +1,5 @@
 ghost use Rattle.std.specs.Prelude.{◌≡◌, ◌-◌, ◌≤◌, ◌^◌, min, length, OnOk, OnErr, IfOk, IfErr, IsTrue, IsErr, slice_get};
+ghost use Rattle.rlc_queue.specs.NewPdu.{IsWithin};
 ghost use Rattle.l2_num.specs.Timers.{ends};
 ghost use Rattle.rlc_am_tx.specs.Machine.{start, offered, confirmed, after_take, answer, after_status, heard, after_tick, after_expiry, expiry, settled, settles};
 ghost use Rattle.rlc_am_tx.specs.Need.{data_need, hungry, backlog, left};
@@ -82,6 +83,7 @@ impl AmTx {
         requires { size ≤ 9421 }
         ensures state { OnOk result (self.new ≡ alive (after_take self.old.state size held more)) }
         ensures taken { IfOk result (λ t. t ≡ answer self.old.state size held more) }
+        ensures within { IfOk result (λ t. IsWithin size t) }
         ensures dead { IsTrue self.old.dead → IsErr result }
         ensures err { OnErr result (IsTrue self.new.dead) }
     {

@@ -8,6 +8,7 @@ mod am_tx;
 mod answers;
 mod polls;
 mod sender;
+mod taking;
 #[cfg(test)]
 mod tests;
 mod turn;

@@ -1,43 +1,36 @@
-ghost use Rattle.std.specs.Prelude.{◌≡◌, ◌++◌, ◌+◌, ◌-◌, ◌*◌, ◌<◌, ◌≤◌, ◌^◌, ◌==◌, OnOk, OnErr, IfOk, IfErr, IfSome, [], ◌∷◌, length, None, Some, false, true, slice_get, min, option_copied};
-ghost use Rattle.std.specs.List.{sum};
-ghost use Rattle.rlc_pdu.specs.Pdus.{AreLens};
-ghost use Rattle.l2_num.specs.Timers.{runs, ends};
+ghost use Rattle.std.specs.Prelude.{◌≡◌, ◌+◌, ◌-◌, ◌<◌, ◌≤◌, ◌^◌, OnOk, IfOk, IfErr, IfSome, length, Some, true, slice_get, min};
+ghost use Rattle.l2_num.specs.Timers.{ends};
 ghost use Rattle.rlc_pdu.specs.Views.{nacks_of, status_of};
-ghost use Rattle.am_tx_window.specs.Sent.{all_wait, whole_size, resend_size, next_stretch, fresh};
-ghost use Rattle.am_tx_window.specs.Written.{whole_octets, part_octets};
-ghost use Rattle.am_tx_window.specs.Window.{next, slot_at, leading_idle};
-ghost use Rattle.rlc_am_tx.specs.Machine.{State, start, offered, confirmed, waits, is_empty, is_shut, is_held, first_place, again, resend_turn, new_turn, turn, IsAgain, IsAble, is_quiet, is_wanted, polled, sent_whole, sent_segment, whole_taken, part_taken, new_slot, sent_new, new_taken, after_take, answer, read, limit_in, limit_of, stops, ended, heard_of, after_status, heard, after_tick, with_owed, recalled_place, with_recalled, expired, spent_at, expiry_limit, expiry_of, after_expiry, expiry, settled, settles};
+ghost use Rattle.am_tx_window.specs.Sent.{resend_size};
+ghost use Rattle.am_tx_window.specs.Window.{next, leading_idle};
+ghost use Rattle.rlc_am_tx.specs.Machine.{State, start, offered, confirmed, waits, is_shut, is_held, again, is_quiet, read, limit_in, limit_of, stops, ended, heard_of, after_status, heard, after_tick, recalled_place, with_recalled, expired, spent_at, expiry_limit, expiry_of, after_expiry, expiry, settled, settles};
 ghost use Rattle.rlc_am_tx.specs.Need.{new_need, data_need, hungry, backlog, left};
 
 use crate::answers::{Heard, PollExpired};
 use crate::polls::Polling;
-use crate::turn::Turn;
-use am_tx_window::{Accounts, Slot, Stretch, WINDOW, Window, is_named};
+use am_tx_window::{Accounts, WINDOW, Window, is_named};
 use l2_bits::{Bytes, NoMemory};
 use l2_types::AmTxConfig;
-use rlc_pdu::{NackReader, StatusRead, Taken};
-use rlc_queue::{NewPdu, Queue, has_room, new_pdu};
+use rlc_pdu::{NackReader, StatusRead};
+use rlc_queue::{Queue, has_room};
 use std::alloc::Global;
 use std::marker::Model;
 
 // The fixed part of an AMD PDU's header.
-const HEAD: usize = 2;
-
-// From so many SDUs on that were wholly sent nothing more is sent.
-const LIMIT: u64 = 1 << 62;
+pub(crate) const HEAD: usize = 2;
 
 /// A sender, apart from its want of memory.
 #[derive(Drop)]
 pub(crate) struct Sender {
-    alloc: Global,
-    window: Window,
-    queue: Queue,
+    pub(crate) alloc: Global,
+    pub(crate) window: Window,
+    pub(crate) queue: Queue,
     // The place of the first SDU of the queue among those offered.
-    place: u64,
-    accounts: Accounts,
-    polls: Polling,
-    config: AmTxConfig,
-    failed: bool,
+    pub(crate) place: u64,
+    pub(crate) accounts: Accounts,
+    pub(crate) polls: Polling,
+    pub(crate) config: AmTxConfig,
+    pub(crate) failed: bool,
 }
 
 impl Model for Sender {
@@ -91,19 +84,19 @@ impl Sender {
     }
 
     // Whether octets wait to be resent.
-    fn waits(&self) -> bool
+    pub(crate) fn waits(&self) -> bool
         ensures { result ≡ waits self.now }
     {
         self.window.first_waiting() < self.window.len()
     }
 
-    fn is_shut(&self) -> bool
+    pub(crate) fn is_shut(&self) -> bool
         ensures { result ≡ is_shut self.now }
     {
         self.window.len() == WINDOW
     }
 
-    fn is_held(&self, held: Option<u64>) -> bool
+    pub(crate) fn is_held(&self, held: Option<u64>) -> bool
         ensures { result ≡ is_held held (next self.now.window) }
     {
         match held {
@@ -112,217 +105,11 @@ impl Sender {
         }
     }
 
-    fn resend_turn(&self, size: u32) -> Turn
-        requires { waits self.now ≡ true }
-        ensures value { result ≡ resend_turn (again self.now) size }
-        ensures able { IsAble self.now size result }
-    {
-        match self.window.get(self.window.first_waiting()) {
-            Some(slot) => resend_turn(slot, size),
-            None => Turn::Small,
-        }
-    }
-
-    fn new_turn(&self, size: u32, held: Option<u64>) -> Turn
-        ensures value { result ≡ new_turn self.now size held }
-        ensures able { IsAble self.now size result }
-    {
-        if self.is_shut() {
-            Turn::Shut
-        } else if self.is_held(held) {
-            Turn::Held
-        } else if size < 3 {
-            Turn::Small
-        } else if self.queue.is_empty() {
-            Turn::Idle
-        } else {
-            Turn::New
-        }
-    }
-
-    #[tactic(auto, unfolding(crate::specs::Machine::turn))]
-    fn turn(&self, size: u32, held: Option<u64>, more: bool) -> Turn
-        ensures value { result ≡ turn self.now size held more }
-        ensures able { IsAble self.now size result }
-    {
-        let waits = self.waits();
-        if !waits && self.queue.is_empty() && !more {
-            Turn::Idle
-        } else if self.failed {
-            Turn::Stopped
-        } else if waits {
-            self.resend_turn(size)
-        } else {
-            self.new_turn(size, held)
-        }
-    }
-
     // Whether nothing waits to be resent, and nothing is left to send or to take or the window is shut.
-    fn is_quiet(&self, more: bool) -> bool
+    pub(crate) fn is_quiet(&self, more: bool) -> bool
         ensures { result ≡ is_quiet self.now more }
     {
         !self.waits() && (self.queue.is_empty() && !more || self.is_shut())
-    }
-
-    fn is_wanted(&self, more: bool) -> bool
-        ensures { result ≡ is_wanted self.now more }
-    {
-        self.polls
-            .is_due(self.config.poll_pdu, self.config.poll_byte)
-            || self.is_quiet(more)
-    }
-
-    // Polls with the PDU that is being written, where a poll is wanted.
-    fn poll(&mut self, more: bool) -> bool
-        ensures wanted { result ≡ is_wanted self.old more }
-        ensures state { self.new ≡ polled self.old more }
-    {
-        let wanted = self.is_wanted(more);
-        if wanted {
-            self.polls.poll(self.window.next().saturating_sub(1));
-        }
-        wanted
-    }
-
-    // Writes the PDU that lies so far above VT(A).
-    fn write_whole(&self, at: usize, number: u64, poll: bool) -> Result<Bytes, NoMemory>
-        ensures { IfOk result (λ pdu. pdu ≡ whole_octets (slot_at self.now.window.slots at) number poll) }
-    {
-        match self.window.get(at) {
-            Some(slot) => slot.write_whole(self.alloc, number, poll),
-            None => Err(NoMemory),
-        }
-    }
-
-    // Writes a segment of it.
-    fn write_part(
-        &self,
-        at: usize,
-        number: u64,
-        poll: bool,
-        stretch: &Stretch,
-    ) -> Result<Bytes, NoMemory>
-        ensures { IfOk result (λ pdu. pdu ≡ part_octets (slot_at self.now.window.slots at) number poll stretch.now) }
-    {
-        match self.window.get(at) {
-            Some(slot) => slot.write_part(self.alloc, number, poll, stretch),
-            None => Err(NoMemory),
-        }
-    }
-
-    #[tactic(auto, using(crate::proofs::SendSteps::whole))]
-    fn send_whole(&mut self, more: bool) -> Result<Taken, NoMemory>
-        requires { waits self.old ≡ true }
-        ensures state { OnOk result (self.new ≡ polled (sent_whole self.old) more) }
-        ensures taken { IfOk result (λ t. t ≡ whole_taken self.old (is_wanted (sent_whole self.old) more)) }
-    {
-        let at = self.window.first_waiting();
-        let number = self.window.base() + at as u64;
-        self.window.rest(at);
-        let polled = self.poll(more);
-        let octets = self.write_whole(at, number, polled)?;
-        Ok(Taken::Piece {
-            number,
-            fresh: false,
-            polled,
-            octets,
-        })
-    }
-
-    // The longest segment of what waits first.
-    fn next_stretch(&self, at: usize, size: u32) -> Result<Stretch, NoMemory>
-        requires { 5 ≤ size }
-        ensures value { IfOk result (λ s. s ≡ next_stretch (slot_at self.now.window.slots at) size) }
-        ensures some { IfOk result (λ s. s.from < s.to) }
-        ensures within { IfOk result (λ s. s.to ≤ length (slot_at self.now.window.slots at).field) }
-    {
-        match self.window.get(at) {
-            Some(slot) => slot.next_stretch(size),
-            None => Err(NoMemory),
-        }
-    }
-
-    #[tactic(auto, using(crate::proofs::SendSteps::parts))]
-    fn send_part(&mut self, size: u32, more: bool) -> Result<Taken, NoMemory>
-        requires waits { waits self.old ≡ true }
-        requires room { 5 ≤ size }
-        ensures state { OnOk result (self.new ≡ polled (sent_segment self.old size) more) }
-        ensures taken { IfOk result (λ t. t ≡ part_taken self.old size (is_wanted (sent_segment self.old size) more)) }
-    {
-        let at = self.window.first_waiting();
-        let number = self.window.base() + at as u64;
-        let stretch = self.next_stretch(at, size)?;
-        self.window.rest_part(at, stretch.from(), stretch.to())?;
-        let polled = self.poll(more);
-        let octets = self.write_part(at, number, polled, &stretch)?;
-        Ok(Taken::Piece {
-            number,
-            fresh: false,
-            polled,
-            octets,
-        })
-    }
-
-    // Adds a new PDU to the window.
-    #[tactic(auto, using(crate::proofs::SendSteps::news))]
-    fn add_new(&mut self, size: u32) -> Result<(), NoMemory>
-        requires some { 0 < length self.old.queue.sdus }
-        requires room { 3 ≤ size }
-        requires short { size ≤ 9421 }
-        ensures { OnOk result (self.new ≡ sent_new self.old size) }
-    {
-        if self.place >= LIMIT || self.window.len() >= WINDOW {
-            return Err(NoMemory);
-        }
-        let pdu = new_pdu(&mut self.queue, self.alloc, HEAD, size as usize)?;
-        self.polls.count(pdu.field.as_slice().len())?;
-        let place = self.place;
-        self.place += pdu.ended() as u64;
-        self.window.add(slot_of(self.alloc, pdu, place))
-    }
-
-    #[tactic(auto, using(crate::proofs::SendSteps::news))]
-    fn send_new(&mut self, size: u32, more: bool) -> Result<Taken, NoMemory>
-        requires some { 0 < length self.old.queue.sdus }
-        requires room { 3 ≤ size }
-        requires short { size ≤ 9421 }
-        ensures state { OnOk result (self.new ≡ polled (sent_new self.old size) more) }
-        ensures taken { IfOk result (λ t. t ≡ new_taken self.old size (is_wanted (sent_new self.old size) more)) }
-    {
-        let at = self.window.len();
-        let number = self.window.next();
-        self.add_new(size)?;
-        let polled = self.poll(more);
-        let octets = self.write_whole(at, number, polled)?;
-        Ok(Taken::Piece {
-            number,
-            fresh: true,
-            polled,
-            octets,
-        })
-    }
-
-    #[tactic(auto, unfolding(crate::specs::Machine::after_turn, crate::specs::Machine::answer_of))]
-    pub(crate) fn take(
-        &mut self,
-        size: u32,
-        held: Option<u64>,
-        more: bool,
-    ) -> Result<Taken, NoMemory>
-        requires { size ≤ 9421 }
-        ensures state { OnOk result (self.new ≡ after_take self.old size held more) }
-        ensures taken { IfOk result (λ t. t ≡ answer self.old size held more) }
-    {
-        match self.turn(size, held, more) {
-            Turn::Whole => self.send_whole(more),
-            Turn::Part => self.send_part(size, more),
-            Turn::New => self.send_new(size, more),
-            Turn::Idle => Ok(Taken::Idle),
-            Turn::Stopped => Ok(Taken::Stopped),
-            Turn::Small => Ok(Taken::Small),
-            Turn::Shut => Ok(Taken::Shut),
-            Turn::Held => Ok(Taken::Held),
-        }
     }
 
     // Reads the entries of a STATUS, and answers the sequence number at which the limit comes.
@@ -529,16 +316,6 @@ impl Sender {
     }
 }
 
-fn slot_of(alloc: Global, pdu: NewPdu, place: u64) -> Slot
-    requires lens { AreLens pdu.lens.items }
-    requires whole { sum pdu.lens.items ≡ length pdu.field }
-    requires short { length pdu.field < 2 ^ 15 }
-    requires place { place < 2 ^ 63 }
-    ensures { result ≡ fresh pdu.field pdu.lens.items pdu.begins pdu.ends place }
-{
-    Slot::new(alloc, pdu.field, pdu.lens, pdu.begins, pdu.ends, place)
-}
-
 // The sequence number at which the limit comes, at a place above a number.
 fn limit_in(failed: bool, base: u64, place: Option<usize>) -> Option<u32>
     requires base { base ≤ 2 ^ 62 + 512 }
@@ -592,17 +369,4 @@ fn is_held(held: u64, next: u64) -> bool
     ensures { result ≡ is_held (Some held) next }
 {
     512 <= next && held <= next - 512
-}
-
-fn resend_turn(slot: &Slot, size: u32) -> Turn
-    ensures value { result ≡ resend_turn slot.now size }
-    ensures able { IsAgain size result }
-{
-    if slot.all_wait() && slot.whole_size() <= size {
-        Turn::Whole
-    } else if 5 <= size {
-        Turn::Part
-    } else {
-        Turn::Small
-    }
 }
