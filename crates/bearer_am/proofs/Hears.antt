@@ -1,5 +1,5 @@
 -- SDUs that RLC hands up, one after the other.
-use Rattle.std.proofs.Common.{◌≡◌, ℕ, List, [], ◌∷◌, drop, Option, Some, None, slice_get, refl, ap, ◌∙◌}
+use Rattle.std.proofs.Common.{◌≡◌, ℕ, List, [], ◌∷◌, drop, Some, None, slice_get, refl, ap, ◌∙◌}
 use Rattle.bearer_am.specs.State.{Work}
 use Rattle.bearer_am.specs.Hearing.{hears, hears_all}
 

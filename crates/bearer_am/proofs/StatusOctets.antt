@@ -1,11 +1,11 @@
 -- The octets of a STATUS from its bits.
-use Rattle.std.proofs.Common.{◌≡◌, ◌<◌, ◌≤◌, ℕ, suc, zero, ◌+◌, ◌*◌, ◌/◌, ◌%◌, ◌^◌, Bool, List, [], ◌∷◌, ◌++◌, length, take, drop, slice_index, subst, refl, ap, sym, ◌∙◌, arith}
+use Rattle.std.proofs.Common.{◌≡◌, ◌<◌, ◌≤◌, ℕ, suc, zero, ◌/◌, ◌%◌, Bool, List, [], ◌∷◌, ◌++◌, length, take, drop, slice_index, refl, ap, sym, ◌∙◌, arith}
 use Rattle.l2_bits.specs.Bits.{number, bits, bits_of, digit, filling}
 use Rattle.l2_bits.proofs.BitFields.{length-bits, length-bits_of, number-bits}
 use Rattle.rlc_pdu.specs.declared.Nack.{Nack}
 use Rattle.rlc_pdu.specs.Status.{status_size, status_bits, nacks_bits, has_more}
 use Rattle.rlc_pdu.specs.Writing.{status_written}
-use Rattle.bearer_am.specs.Reports.{octets_in, octets_of, status_octets}
+use Rattle.bearer_am.specs.Reports.{octets_in, octets_of}
 
 first_bits : (xs ys : List Bool) (n : ℕ) → length xs ≡ n → take n (xs ++ ys) ≡ xs
 first_bits [] ys zero e = refl

@@ -1,10 +1,10 @@
 -- Discards behind what was told before, and lists joined item by item.
-use Rattle.std.proofs.Common.{◌≡◌, ◌<◌, ◌≤◌, ℕ, ◌+◌, Bool, true, false, List, [], ◌∷◌, ◌++◌, length, nat_lt, length-append, append_assoc, subst, refl, ap, sym, ◌∙◌, arith}
+use Rattle.std.proofs.Common.{◌≡◌, Bool, true, false, List, [], ◌∷◌, ◌++◌, length, nat_lt, length-append, append_assoc, ap, sym, ◌∙◌, arith}
 use Rattle.std.proofs.lemmas.Bool.Decides.{nat_tests}
 use Rattle.std.proofs.lemmas.List.{append-nil}
 use Rattle.bearer_types.specs.declared.Event.{Event}
 use Rattle.bearer_parts.specs.Discarding.{after_tick, tick_told}
-use Rattle.bearer_am.specs.State.{State, Work, work}
+use Rattle.bearer_am.specs.State.{State, work}
 use Rattle.bearer_am.specs.Hearing.{settled_work, settled_if}
 use Rattle.bearer_am.specs.Timing.{discard_work}
 

@@ -10,7 +10,7 @@ use Rattle.rlc_pdu.specs.Pdus.{AcknowledgedPdu, Payload, Status, AmdPdu, StatusP
 use Rattle.rlc_pdu.specs.Reading.{am_at}
 use Rattle.rlc_am_tx.specs.declared.answers.Heard.{Heard}
 use Rattle.rlc_am_tx.specs.declared.answers.Heard.TheVariants as heard_as
-use Rattle.rlc_am_tx.specs.Machine.{State as Sender, after_status, heard, confirmed as taken_news, settled, settles}
+use Rattle.rlc_am_tx.specs.Machine.{State as Sender, after_status, heard, settled, settles}
 use Rattle.rlc_am_rx.specs.State.{State as Receiver}
 use Rattle.rlc_am_rx.specs.Machine.{landed, turned, arrived}
 use Rattle.pdcp_tx.specs.State.{confirmed}

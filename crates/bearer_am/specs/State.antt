@@ -1,5 +1,5 @@
 -- A bearer over acknowledged RLC at one end: of data, or of signalling (TS 36.300 6).
-use Rattle.std.specs.Prelude.{ℕ, Bool, is_some, slice_get, List}
+use Rattle.std.specs.Prelude.{Bool, is_some, slice_get, List}
 use Rattle.bearer_types.specs.declared.BearerConfig.{BearerConfig}
 use Rattle.bearer_types.specs.declared.Event.{Event}
 use Rattle.eps_sec.specs.declared.Keys.{Keys}

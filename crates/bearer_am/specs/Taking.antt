@@ -1,5 +1,5 @@
 -- A bearer writes within its share of a grant (TS 36.321 5.4.3.1): a STATUS that is due, and then at most one data PDU.
-use Rattle.std.specs.Prelude.{ℕ, ◌+◌, ◌-◌, ◌%◌, Bool, true, false, ◌&&◌, if◌then◌else◌, List, [], ◌∷◌, ◌++◌, Option, Some, None, is_some, length, nat_le}
+use Rattle.std.specs.Prelude.{ℕ, ◌+◌, ◌-◌, ◌%◌, Bool, ◌&&◌, if◌then◌else◌, List, [], ◌∷◌, ◌++◌, Option, Some, None, is_some, length, nat_le}
 use Rattle.bearer_types.specs.declared.Event.{Event}
 use Rattle.bearer_types.specs.declared.Event.TheVariants as events
 use Rattle.l2_types.specs.declared.Clock.TheVariants.{Poll, Prohibit}
@@ -14,9 +14,8 @@ use Rattle.rlc_am_rx.specs.Machine.{written}
 use Rattle.rlc_am_tx.specs.Machine.{State as Sender, offered, answer as rlc_answer, after_take}
 use Rattle.rlc_am_tx.specs.Need.{hungry}
 use Rattle.pdcp_tx.specs.State.{Offer, offers}
-use Rattle.bearer_parts.specs.Ends.{Ends}
 use Rattle.bearer_parts.specs.Taking.{taken, taking_told, after_taking as after_pdcp}
-use Rattle.bearer_parts.specs.Telling.{pdus_of, number_of}
+use Rattle.bearer_parts.specs.Telling.{pdus_of}
 use Rattle.bearer_am.specs.State.{State, has_more, Work, work, with_work}
 use Rattle.bearer_am.specs.Reports.{status_octets}
 

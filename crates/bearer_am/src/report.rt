@@ -17,6 +17,7 @@ pub(crate) fn write_status(rx: &mut AmRx, size: u32) -> Result<(Bytes, u32), NoM
     requires high { size ≤ 9421 }
     ensures pdu { IfOk result (λ r. r.0 ≡ status_octets (ack rx.old.state size % 1024) (nacks rx.old.state size)) }
     ensures ack { IfOk result (λ r. r.1 ≡ ack rx.old.state size % 1024) }
+    ensures some { IfOk result (λ r. 1 ≤ length r.0) }
     ensures within { IfOk result (λ r. length r.0 ≤ size) }
     ensures state { OnOk result (rx.new.state ≡ written rx.old.state) }
 {

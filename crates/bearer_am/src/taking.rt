@@ -1,7 +1,8 @@
 //! A bearer writes within its share of a grant.
 
-ghost use Rattle.std.specs.Prelude.{◌≡◌, ◌≤◌, ◌++◌, ◌%◌, ◌∷◌, None, OnOk, IfOk};
+ghost use Rattle.std.specs.Prelude.{◌≡◌, ◌≤◌, ◌-◌, ◌++◌, ◌%◌, ◌∷◌, None, OnOk, IfOk};
 ghost use Rattle.bearer_types.specs.declared.Event.TheVariants as events_of;
+ghost use Rattle.bearer_parts.specs.Shares.{FitsShare};
 ghost use Rattle.bearer_parts.specs.Telling.{pdus_of, number_of};
 ghost use Rattle.bearer_am.specs.Taking.{writes_status, status_pdus, status_told, status_left, share_left, has_prohibit, prohibit_told, how_of, poll_told, data_told, answer, pdus, taking, after_taking};
 
@@ -17,12 +18,13 @@ use rlc_pdu::Taken;
 impl AmBearer {
     /// Writes within a share of a grant, of at most 9424 octets: a STATUS that is due, and then at most one data PDU in what
     /// is left, each with 3 octets for its subheader. Where data waits and none is written, the reason is told.
-    #[tactic(auto, unfolding(crate::specs::Taking::answer, crate::specs::Taking::pdus, crate::specs::Taking::taking, crate::specs::Taking::after_taking))]
+    #[tactic(auto, using(bearer_parts::proofs::Fitting::both), unfolding(crate::specs::Taking::answer, crate::specs::Taking::pdus, crate::specs::Taking::taking, crate::specs::Taking::after_taking))]
     pub fn take(&mut self, share: u32, held: Option<u64>) -> Result<Written, NoMemory>
         requires { share ≤ 9424 }
         ensures pdus { IfOk result (λ w. w.pdus ≡ pdus self.old share held) }
         ensures number { IfOk result (λ w. w.number ≡ number_of (answer self.old share held)) }
         ensures told { IfOk result (λ w. w.events ≡ taking self.old share held) }
+        ensures fits { IfOk result (λ w. FitsShare share w.pdus) }
         ensures state { OnOk result (self.new ≡ after_taking self.old share held) }
     {
         let mut written = Written {
@@ -46,10 +48,13 @@ impl AmBearer {
     }
 
     // Writes a STATUS where it is due, may be sent and fits, and answers what it leaves of the share.
+    #[tactic(auto, using(bearer_parts::proofs::Fitting::few))]
     fn report(&mut self, share: u32, written: &mut Written) -> Result<u32, NoMemory>
         requires { share ≤ 9424 }
         ensures left { IfOk result (λ left. left ≡ share_left self.old.rx share) }
         ensures few { IfOk result (λ left. left ≤ 9424) }
+        ensures less { IfOk result (λ left. left ≤ share) }
+        ensures fits { IfOk result (λ left. FitsShare (share - left) (status_pdus self.old.rx share)) }
         ensures pdus { OnOk result (written.new.pdus ≡ written.old.pdus ++ status_pdus self.old.rx share) }
         ensures told { OnOk result (written.new.events ≡ written.old.events ++ status_told self.old.pdcp.lcid (has_prohibit self.old) self.old.rx share) }
         ensures number { OnOk result (written.new.number ≡ written.old.number) }

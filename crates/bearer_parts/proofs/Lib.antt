@@ -1,2 +1,3 @@
 pub mod LateSteps
 pub mod Offered
+pub mod Fitting

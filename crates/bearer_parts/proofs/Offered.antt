@@ -1,6 +1,5 @@
 -- What may be taken, before and after the first of it is.
 use Rattle.std.proofs.Common.{◌≡◌, ◌<◌, ℕ, ◌+◌, ◌-◌, List, [], ◌∷◌, ◌++◌, length, drop, take, map, Option, Some, None, option_map, slice_get, subst, refl, ap, sym, ◌∙◌, arith}
-use Rattle.std.proofs.lemmas.List.{append-nil}
 use Rattle.pdcp_pdu.specs.declared.PdcpKind.{PdcpKind}
 use Rattle.pdcp_tx.specs.declared.given.Sent.{Sent}
 use Rattle.pdcp_tx.specs.declared.Next.{Next}

@@ -5,3 +5,4 @@ pub mod Discarding
 pub mod Lives
 pub mod Submitting
 pub mod Telling
+pub mod Shares

@@ -7,6 +7,7 @@ ghost use Rattle.pdcp_rx.specs.declared.Cause.TheVariants.{Reestablished};
 ghost use Rattle.rlc_pdu.specs.Views.{umd_of};
 ghost use Rattle.rlc_um.specs.Sender.{need, width_of};
 ghost use Rattle.rlc_um.specs.Receiver.{arrival, landing, turning, expiring, all_joined};
+ghost use Rattle.bearer_parts.specs.Shares.{FitsShare};
 ghost use Rattle.bearer_parts.specs.Submitting.{Answers, StaysOrDies};
 ghost use Rattle.bearer_parts.specs.Telling.{pdus_of, number_of, landed_told};
 ghost use Rattle.bearer_um.specs.State.{fresh};
@@ -118,11 +119,12 @@ impl UmBearer {
 
     /// Writes at most one data PDU within a share of a grant, of which 3 octets are for its subheader. Where data waits and
     /// none is written, the reason is told.
-    #[tactic(auto, unfolding(crate::specs::Taking::answer, crate::specs::Taking::taking, crate::specs::Taking::after_taking))]
+    #[tactic(auto, using(bearer_parts::proofs::Fitting::fits), unfolding(crate::specs::Taking::answer, crate::specs::Taking::taking, crate::specs::Taking::after_taking))]
     pub fn take(&mut self, share: u32, held: Option<u64>) -> Result<Written, NoMemory>
         ensures pdus { IfOk result (λ w. w.pdus ≡ pdus_of (answer self.old share held)) }
         ensures number { IfOk result (λ w. w.number ≡ number_of (answer self.old share held)) }
         ensures told { IfOk result (λ w. w.events ≡ taking self.old share held) }
+        ensures fits { IfOk result (λ w. FitsShare share w.pdus) }
         ensures state { OnOk result (self.new ≡ after_taking self.old share held) }
     {
         let size = share.saturating_sub(3);
