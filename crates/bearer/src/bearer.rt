@@ -1,5 +1,6 @@
 ghost use Rattle.std.specs.Prelude.{◌≡◌, ◌≤◌, ◌<◌, ◌^◌, None, Err, length, OnOk, OnErr, IfOk, IfErr, IsTrue, IsFalse, IsErr};
 ghost use Rattle.l2_bits.specs.declared.SubmitRefusal.TheVariants as refusals;
+ghost use Rattle.bearer_parts.specs.Shares.{FitsShare};
 ghost use Rattle.bearer_parts.specs.Submitting.{Answers, StaysOrDies};
 ghost use Rattle.bearer_types.specs.Configs.{IsConfig};
 ghost use Rattle.bearer.specs.Bearer.{of, alive, begun};
@@ -157,6 +158,7 @@ impl Bearer<Running> {
         ensures pdus { IfOk result (λ w. w.pdus ≡ pdus self.old.state.flow share held) }
         ensures number { IfOk result (λ w. w.number ≡ number self.old.state.flow share held) }
         ensures told { IfOk result (λ w. w.events ≡ told self.old.lcid self.old.state.flow share held) }
+        ensures fits { IfOk result (λ w. FitsShare share w.pdus) }
         ensures state { OnOk result (self.new ≡ of self.old.lcid (alive (after self.old.state.flow share held))) }
         ensures dead { IsTrue self.old.state.dead → IsErr result }
         ensures err { OnErr result (IsTrue self.new.state.dead) }

@@ -1,6 +1,7 @@
 //! The kinds of bearers, by one name for each call.
 
 ghost use Rattle.std.specs.Prelude.{◌≡◌, ◌≤◌, ◌<◌, ◌^◌, None, length, IfOk, IfErr, OnOk};
+ghost use Rattle.bearer_parts.specs.Shares.{FitsShare};
 ghost use Rattle.bearer_parts.specs.Submitting.{Answers, StaysOrDies};
 ghost use Rattle.bearer_types.specs.Configs.{IsConfig};
 ghost use Rattle.bearer.specs.Bearer.{flow_of};
@@ -123,6 +124,7 @@ impl Flow {
         ensures pdus { IfOk result (λ w. w.pdus ≡ pdus self.old share held) }
         ensures number { IfOk result (λ w. w.number ≡ number self.old share held) }
         ensures told { IfOk result (λ w. w.events ≡ told lcid self.old share held) }
+        ensures fits { IfOk result (λ w. FitsShare share w.pdus) }
         ensures state { OnOk result (self.new ≡ after self.old share held) }
     {
         match self {

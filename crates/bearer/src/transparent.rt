@@ -3,6 +3,7 @@ ghost use Rattle.bearer_types.specs.declared.Event.TheVariants as events_of;
 ghost use Rattle.l2_types.specs.declared.How.TheVariants as hows;
 ghost use Rattle.rlc_queue.specs.NewPdu.{IsWithin};
 ghost use Rattle.rlc_um.specs.Transparent.{nothing_submitted, taken, after_take};
+ghost use Rattle.bearer_parts.specs.Shares.{FitsShare};
 ghost use Rattle.bearer_parts.specs.Telling.{pdus_of};
 ghost use Rattle.bearer.specs.Transparent.{data_told, arrived_told};
 
@@ -40,11 +41,12 @@ impl TmBearer {
         }
     }
 
-    #[tactic(auto, using(crate::proofs::Wider::wider))]
+    #[tactic(auto, using(crate::proofs::Wider::wider, bearer_parts::proofs::Fitting::fits))]
     pub fn take(&mut self, lcid: u8, share: u32) -> Result<Written, NoMemory>
         ensures pdus { IfOk result (λ w. w.pdus ≡ pdus_of (taken self.old (share - 3))) }
         ensures number { IfOk result (λ w. w.number ≡ None) }
         ensures told { IfOk result (λ w. w.events ≡ data_told lcid (taken self.old (share - 3))) }
+        ensures fits { IfOk result (λ w. FitsShare share w.pdus) }
         ensures state { OnOk result (self.new ≡ after_take self.old (share - 3)) }
     {
         let mut written = Written {
