@@ -1,5 +1,5 @@
 -- The cut is the longest stretch that fits.
-use Rattle.std.proofs.Common.{◌≡◌, ◌<◌, ◌≤◌, inl, inr, ℕ, suc, zero, ◌+◌, ◌-◌, ◌*◌, ◌/◌, Bool, true, false, not, if◌then◌else◌, List, [], ◌∷◌, ◌++◌, length, min, refl, ap, sym, subst, ◌∙◌, arith}
+use Rattle.std.proofs.Common.{◌≡◌, ◌<◌, ◌≤◌, inl, inr, ℕ, suc, zero, ◌+◌, ◌-◌, Bool, true, false, not, if◌then◌else◌, List, [], ◌∷◌, ◌++◌, length, min, refl, ap, sym, subst, ◌∙◌, arith}
 use Rattle.std.proofs.lemmas.Grind.{common_steps}
 use Rattle.std.proofs.lemmas.Bool.Decides.{nat_tests}
 use Rattle.std.proofs.lemmas.Bool.{cases_lt}
@@ -8,6 +8,7 @@ use Rattle.std.specs.List.{sum}
 use Rattle.rlc_pdu.specs.Pdus.{AreLens}
 use Rattle.rlc_pdu.specs.Writing.{header_len}
 use Rattle.am_tx_window.proofs.CutSteps.{sum-first}
+use Rattle.am_tx_window.proofs.CutFits.{costs, costs-is, cut-goes, fits-in}
 use Rattle.am_tx_laws.specs.Cutting.{IsLongest}
 
 -- every element holds an octet, and each but the last at most 2047
@@ -20,16 +21,6 @@ pub elements-of : (ls : List ℕ) → AreLens ls → AreElements ls
 elements-of [] h = absurd h
 elements-of (l ∷ []) h = omega (arith, h)
 elements-of (l ∷ k ∷ ls) h = (omega (arith, h.0), omega (arith, h.1), elements-of (k ∷ ls) h.2)
-
--- what so many elements behind the first cost
-abbrev costs : Bool → ℕ → ℕ
-costs half zero = 0
-costs half (suc n) = cost half + costs (not half) n
-
-costs-is : (n : ℕ) → costs false n ≡ (12 * n + 7) / 8
-costs-is zero = refl
-costs-is (suc zero) = refl
-costs-is (suc (suc n)) = let rest = costs-is n in let step : costs false (suc (suc n)) ≡ 3 + costs false n = omega arith in step ∙ omega (arith, rest)
 
 clip-none : (ls : List ℕ) → clip 0 0 ls ≡ []
 clip-none [] = refl
@@ -85,9 +76,6 @@ costs-more half (suc n) h = let e : suc n - 1 ≡ n = omega arith in rw e refl
 goes : (half : Bool) (room l : ℕ) → l ≤ 2047 → l + cost half < room → goes_on half room l ≡ true
 goes half room l a b = grind (arith, nat_tests)
 
-cut-goes : (half : Bool) (room l : ℕ) (ls : List ℕ) → goes_on half room l ≡ true → cut half room (l ∷ ls) ≡ min l room ∷ cut (not half) (room - (l + cost half)) ls
-cut-goes half room l ls e = rw e refl
-
 cut-first : (half : Bool) (room l : ℕ) (ls : List ℕ) → min l room ≤ sum (cut half room (l ∷ ls))
 cut-first half room l ls = rw (sum-first (min l room) (if goes_on half room l then cut (not half) (room - (l + cost half)) ls else [])) (omega arith)
 
@@ -139,30 +127,6 @@ clip-all half room (l ∷ ls) some h = by (goes_on half room l) refl (λ e. clip
               let e0 : l + n ≡ l = omega arith in
               ap (λ (k : ℕ). clip 0 k (l ∷ ls)) e0 ∙ clip-short l ls l (head-some l ls h) (omega arith) ∙ ap (λ (xs : List ℕ). l ∷ xs) (sym (clip-none ls) ∙ ap (λ (k : ℕ). clip 0 k ls) (sym z) ∙ r)
         ]
-
-fits-in : (half : Bool) (room : ℕ) (ls : List ℕ) → sum (cut half room ls) + costs half (length (cut half room ls) - 1) ≤ room
-fits-in half room [] = omega arith
-fits-in half room (l ∷ ls) = by (goes_on half room l) refl (fits-in (not half) (room - (l + cost half)) ls)
-  where
-    by : (b : Bool) → goes_on half room l ≡ b → sum (cut (not half) (room - (l + cost half)) ls) + costs (not half) (length (cut (not half) (room - (l + cost half)) ls) - 1) ≤ room - (l + cost half) → sum (cut half room (l ∷ ls)) + costs half (length (cut half room (l ∷ ls)) - 1) ≤ room
-    by false e rest =
-        let is : cut half room (l ∷ ls) ≡ min l room ∷ [] = rw e refl in
-        subst (λ (xs : List ℕ). sum xs + costs half (length xs - 1) ≤ room) (sym is) (one (min l room) (omega arith))
-      where
-        one : (n : ℕ) → n ≤ room → sum (n ∷ []) + costs half (length (n ∷ []) - 1) ≤ room
-        one n le = omega (arith, sum-first n [])
-    by true e rest =
-        let fit : l + cost half < room = grind (arith, nat_tests) in
-        subst (λ (xs : List ℕ). sum xs + costs half (length xs - 1) ≤ room) (sym (cut-goes half room l ls e))
-        (subst (λ (n : ℕ). n + costs half (length (min l room ∷ cut (not half) (room - (l + cost half)) ls) - 1) ≤ room) (sym (sum-first (min l room) (cut (not half) (room - (l + cost half)) ls))) (count (cut (not half) (room - (l + cost half)) ls) rest fit))
-      where
-        count : (xs : List ℕ) → sum xs + costs (not half) (length xs - 1) ≤ room - (l + cost half) → l + cost half < room → min l room + sum xs + costs half (length (min l room ∷ xs) - 1) ≤ room
-        count [] r f = omega arith
-        count (x ∷ xs) r f =
-            let n : length (min l room ∷ x ∷ xs) - 1 ≡ suc (length xs) = omega arith in
-            let k : length (x ∷ xs) - 1 ≡ length xs = omega arith in
-            let r' : sum (x ∷ xs) + costs (not half) (length xs) ≤ room - (l + cost half) = subst (λ (m : ℕ). sum (x ∷ xs) + costs (not half) m ≤ room - (l + cost half)) k r in
-            rw n (omega arith)
 
 longest-of : (size : ℕ) (ls : List ℕ) → AreElements ls → IsLongest size ls
 longest-of size ls h = record {
