@@ -1,3 +1,4 @@
+pub mod Lists
 pub mod Thinning
 pub mod Lives
 pub mod KindStays

@@ -13,7 +13,9 @@ use Rattle.pdcp_tx.specs.Given.{acked_at, entry_at, heard, untold, trimmed, data
 use Rattle.pdcp_tx.specs.State.{State, start, sent, submitted, took, took_owed, took_again, took_new, confirmed, reported, reported_from, fms_count, after_late, restarted, next_from, kept_again}
 use Rattle.pdcp_tx.specs.Runs.{Submit, Take, Confirm, Report, Owe, Tick, Late, IsOrdered}
 use Rattle.pdcp_laws.specs.Lives.{Step, Calls, Restart, goes, run}
-use Rattle.pdcp_laws.proofs.Thinning.{named, names, IsThin, thinner, In, thin_in, lower, higher, grows, of, of_again, of_new, of_own, trims, of_acked, hears, unackeds}
+use Rattle.pdcp_laws.specs.Lists.{IsSubsequence}
+use Rattle.pdcp_laws.proofs.Lists.{thinner}
+use Rattle.pdcp_laws.proofs.Thinning.{named, names, In, thin_in, lower, higher, grows, of, of_again, of_new, of_own, trims, of_acked, hears, unackeds}
 
 -- ---- order
 
@@ -53,7 +55,7 @@ reported_in (Some c) s bitmap h =
     (trims (map (heard c bitmap) s.given.entries) (untold c bitmap s.again)) (hears c bitmap s.given.entries s.again)) h
 
 -- what a life takes again is left of what was taken and may be taken again
-pub again_thin : (s : State) → IsThin (names (kept_again s)) (of s.given.entries s.again)
+pub again_thin : (s : State) → IsSubsequence (names (kept_again s)) (of s.given.entries s.again)
 again_thin s = unackeds (data_of s.given.entries ++ s.again)
 
 next_end : (kind : PdcpKind) (next : ℕ) → end_of (is_am kind) (next_from kind next) ≡ end_of (is_am kind) next

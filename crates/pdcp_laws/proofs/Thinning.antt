@@ -1,11 +1,13 @@
 -- What was taken and may be taken again: a call or a new life only leaves some of it out, or adds a new SDU behind.
-use Rattle.std.proofs.Common.{◌≡◌, ◌⊎◌, ◌≤◌, ℕ, suc, zero, ◌+◌, ◌-◌, Bool, true, false, if◌then◌else◌, List, [], ◌∷◌, ◌++◌, map, Option, Some, None, slice_get, nat_lt, inl, inr, append_assoc, subst, refl, ap, sym, ◌∙◌, arith}
+use Rattle.std.proofs.Common.{◌≡◌, ◌≤◌, ℕ, suc, zero, ◌+◌, ◌-◌, Bool, true, false, if◌then◌else◌, List, [], ◌∷◌, ◌++◌, map, Option, Some, None, slice_get, nat_lt, inl, inr, append_assoc, subst, refl, ap, sym, ◌∙◌, arith}
 use Rattle.std.proofs.lemmas.List.{append-nil}
 use Rattle.l2_num.specs.Ascending.{AreBetween}
 use Rattle.pdcp_tx.specs.declared.given.Sent.{Sent}
 use Rattle.pdcp_tx.specs.declared.given.Entry.{Entry}
 use Rattle.pdcp_tx.specs.declared.given.Entry.TheVariants.{Data, Own, Gone}
 use Rattle.pdcp_tx.specs.Given.{Given, trimmed, acked, acked_at, entry_at, tells, heard, untold, from_unacked, data_of}
+use Rattle.pdcp_laws.specs.Lists.{IsSubsequence}
+use Rattle.pdcp_laws.proofs.Lists.{same, without_first, mapped}
 
 -- an SDU with its COUNT
 pub record Named : Type 0 where
@@ -18,53 +20,6 @@ named s = record { count = s.count; sdu = s.octets }
 abbrev pub names : List Sent → List Named
 names ss = map named ss
 
--- the first list is the second with some left out
-abbrev pub IsThin : List Named → List Named → Type 0
-IsThin [] xs = Unit {0}
-IsThin (y ∷ ys) [] = y ∷ ys ≡ []
-IsThin (y ∷ ys) (x ∷ xs) = ((y ≡ x) × IsThin ys xs) ⊎ IsThin (y ∷ ys) xs
-
-pub same : (xs : List Named) → IsThin xs xs
-same [] = tt
-same (x ∷ xs) = inl (refl, same xs)
-
-pub without_first : (ys : List Named) (x : Named) (xs : List Named) → IsThin ys xs → IsThin ys (x ∷ xs)
-without_first [] x xs h = tt
-without_first (y ∷ ys) x xs h = inr h
-
-pub less : (y : Named) (ys xs : List Named) → IsThin (y ∷ ys) xs → IsThin ys xs
-less y ys [] h = let no : y ∷ ys ≡ [] = h in cc
-less y ys (x ∷ xs) (inl h) = without_first ys x xs h.1
-less y ys (x ∷ xs) (inr h) = without_first ys x xs (less y ys xs h)
-
-pub thinner : (zs ys xs : List Named) → IsThin zs ys → IsThin ys xs → IsThin zs xs
-thinner [] ys xs g h = tt
-thinner (z ∷ zs) [] xs g h = let no : z ∷ zs ≡ [] = g in cc
-thinner (z ∷ zs) (y ∷ ys) [] g h = let no : y ∷ ys ≡ [] = h in cc
-thinner (z ∷ zs) (y ∷ ys) (x ∷ xs) (inl g) (inl h) = inl (g.0 ∙ h.0, thinner zs ys xs g.1 h.1)
-thinner (z ∷ zs) (y ∷ ys) (x ∷ xs) (inr g) (inl h) = inr (thinner (z ∷ zs) ys xs g h.1)
-thinner (z ∷ zs) (y ∷ ys) (x ∷ xs) g (inr h) = inr (thinner (z ∷ zs) (y ∷ ys) xs g h)
-
--- what holds of each, and order, stay
-
-abbrev pub Each : (Named → Type 0) → List Named → Type 0
-Each P [] = Unit {0}
-Each P (x ∷ xs) = P x × Each P xs
-
-pub thin_each : (P : Named → Type 0) (ys xs : List Named) → IsThin ys xs → Each P xs → Each P ys
-thin_each P [] xs t h = tt
-thin_each P (y ∷ ys) [] t h = let no : y ∷ ys ≡ [] = t in cc
-thin_each P (y ∷ ys) (x ∷ xs) (inl t) h = (subst P (sym t.0) h.0, thin_each P ys xs t.1 h.1)
-thin_each P (y ∷ ys) (x ∷ xs) (inr t) h = thin_each P (y ∷ ys) xs t h.1
-
-pub each_more : (P : Named → Type 0) (xs : List Named) (x : Named) → Each P xs → P x → Each P (xs ++ x ∷ [])
-each_more P [] x h p = (p, tt)
-each_more P (n ∷ ns) x h p = (h.0, each_more P ns x h.1 p)
-
-pub each_with : (P Q : Named → Type 0) → ((x : Named) → P x → Q x) → (xs : List Named) → Each P xs → Each Q xs
-each_with P Q f [] h = tt
-each_with P Q f (x ∷ xs) h = (f x h.0, each_with P Q f xs h.1)
-
 abbrev pub In : ℕ → List Named → ℕ → Type 0
 In low xs end = AreBetween low (map (λ x. x.count) xs) end
 
@@ -76,9 +31,9 @@ ends_above : (low : ℕ) (xs : List Named) (end : ℕ) → In low xs end → low
 ends_above low [] end h = h
 ends_above low (x ∷ xs) end h = omega (arith, h.0, ends_above (x.count + 1) xs end h.1)
 
-pub thin_in : (low : ℕ) (ys xs : List Named) (end : ℕ) → IsThin ys xs → In low xs end → In low ys end
+pub thin_in : (low : ℕ) (ys xs : List Named) (end : ℕ) → IsSubsequence ys xs → In low xs end → In low ys end
 thin_in low [] xs end t h = ends_above low xs end h
-thin_in low (y ∷ ys) [] end t h = let no : y ∷ ys ≡ [] = t in cc
+thin_in low (y ∷ ys) [] end t h = absurd t
 thin_in low (y ∷ ys) (x ∷ xs) end (inl t) h = subst (λ (n : Named). (low ≤ n.count) × In (n.count + 1) ys end) (sym t.0) (h.0, thin_in (x.count + 1) ys xs end t.1 h.1)
 thin_in low (y ∷ ys) (x ∷ xs) end (inr t) h = lower low (x.count + 1) (y ∷ ys) end (omega (arith, h.0)) (thin_in (x.count + 1) (y ∷ ys) xs end t h.1)
 
@@ -122,11 +77,11 @@ of_new es x = of_more es (Data x) [] ∙ ap names (append_assoc (data_of es) (x 
 pub of_own : (es : List Entry) (ss : List Sent) → of (es ++ Own ∷ []) ss ≡ of es ss
 of_own es ss = of_more es Own ss ∙ ap (λ l. names (l ++ ss)) (append-nil (data_of es))
 
-trim_step : (s : Sent) (es : List Entry) (ss : List Sent) (b : Bool) → s.acked ≡ b → IsThin (of (trimmed es) ss) (of es ss) → IsThin (of (trimmed (Data s ∷ es)) ss) (of (Data s ∷ es) ss)
+trim_step : (s : Sent) (es : List Entry) (ss : List Sent) (b : Bool) → s.acked ≡ b → IsSubsequence (of (trimmed es) ss) (of es ss) → IsSubsequence (of (trimmed (Data s ∷ es)) ss) (of (Data s ∷ es) ss)
 trim_step s es ss false e h = rw e (same (of (Data s ∷ es) ss))
 trim_step s es ss true e h = rw e (without_first (of (trimmed es) ss) (named s) (of es ss) h)
 
-pub trims : (es : List Entry) (ss : List Sent) → IsThin (of (trimmed es) ss) (of es ss)
+pub trims : (es : List Entry) (ss : List Sent) → IsSubsequence (of (trimmed es) ss) (of es ss)
 trims [] ss = same (names ss)
 trims (Data s ∷ es) ss = trim_step s es ss s.acked refl (trims es ss)
 trims (Own ∷ es) ss = same (of es ss)
@@ -153,30 +108,31 @@ entry_is g place false e b q = subst (λ (t : Bool). (if t then None else slice_
 pub of_acked : (g : Given) (place : ℕ) (ss : List Sent) → of (acked_at (entry_at g place) g.entries (place - g.gone)) ss ≡ of g.entries ss
 of_acked g place ss = acks (entry_at g place) g.entries (place - g.gone) ss (λ e q. entry_is g place (nat_lt place g.gone) e refl q)
 
-untold_step : (from : ℕ) (bitmap : List ℕ) (s : Sent) (ss : List Sent) (b : Bool) → tells from bitmap s.count ≡ b → IsThin (names (untold from bitmap ss)) (names ss) → IsThin (names (untold from bitmap (s ∷ ss))) (names (s ∷ ss))
-untold_step from bitmap s ss true e h = rw e (without_first (names (untold from bitmap ss)) (named s) (names ss) h)
+untold_step : (from : ℕ) (bitmap : List ℕ) (s : Sent) (ss : List Sent) (b : Bool) → tells from bitmap s.count ≡ b → IsSubsequence (untold from bitmap ss) ss → IsSubsequence (untold from bitmap (s ∷ ss)) (s ∷ ss)
+untold_step from bitmap s ss true e h = rw e (without_first (untold from bitmap ss) s ss h)
 untold_step from bitmap s ss false e h = rw e (inl (refl, h))
 
-untolds : (from : ℕ) (bitmap : List ℕ) (ss : List Sent) → IsThin (names (untold from bitmap ss)) (names ss)
+-- what a report leaves
+pub untolds : (from : ℕ) (bitmap : List ℕ) (ss : List Sent) → IsSubsequence (untold from bitmap ss) ss
 untolds from bitmap [] = tt
 untolds from bitmap (s ∷ ss) = untold_step from bitmap s ss (tells from bitmap s.count) refl (untolds from bitmap ss)
 
-hear_step : (from : ℕ) (bitmap : List ℕ) (s : Sent) (es : List Entry) (rest ss : List Sent) (b : Bool) → tells from bitmap s.count ≡ b → IsThin (of (map (heard from bitmap) es) rest) (of es ss) → IsThin (of (map (heard from bitmap) (Data s ∷ es)) rest) (of (Data s ∷ es) ss)
+hear_step : (from : ℕ) (bitmap : List ℕ) (s : Sent) (es : List Entry) (rest ss : List Sent) (b : Bool) → tells from bitmap s.count ≡ b → IsSubsequence (of (map (heard from bitmap) es) rest) (of es ss) → IsSubsequence (of (map (heard from bitmap) (Data s ∷ es)) rest) (of (Data s ∷ es) ss)
 hear_step from bitmap s es rest ss true e h = rw e (without_first (of (map (heard from bitmap) es) rest) (named s) (of es ss) h)
 hear_step from bitmap s es rest ss false e h = rw e (inl (refl, h))
 
 -- a report has come
-pub hears : (from : ℕ) (bitmap : List ℕ) (es : List Entry) (ss : List Sent) → IsThin (of (map (heard from bitmap) es) (untold from bitmap ss)) (of es ss)
-hears from bitmap [] ss = untolds from bitmap ss
+pub hears : (from : ℕ) (bitmap : List ℕ) (es : List Entry) (ss : List Sent) → IsSubsequence (of (map (heard from bitmap) es) (untold from bitmap ss)) (of es ss)
+hears from bitmap [] ss = mapped named (untold from bitmap ss) ss (untolds from bitmap ss)
 hears from bitmap (Data s ∷ es) ss = hear_step from bitmap s es (untold from bitmap ss) ss (tells from bitmap s.count) refl (hears from bitmap es ss)
 hears from bitmap (Own ∷ es) ss = hears from bitmap es ss
 hears from bitmap (Gone ∷ es) ss = hears from bitmap es ss
 
 -- a new life begins
-unacked_step : (s : Sent) (ss : List Sent) (b : Bool) → s.acked ≡ b → IsThin (names (from_unacked ss)) (names ss) → IsThin (names (from_unacked (s ∷ ss))) (names (s ∷ ss))
+unacked_step : (s : Sent) (ss : List Sent) (b : Bool) → s.acked ≡ b → IsSubsequence (names (from_unacked ss)) (names ss) → IsSubsequence (names (from_unacked (s ∷ ss))) (names (s ∷ ss))
 unacked_step s ss true e h = rw e (without_first (names (from_unacked ss)) (named s) (names ss) h)
 unacked_step s ss false e h = rw e (same (names (s ∷ ss)))
 
-pub unackeds : (ss : List Sent) → IsThin (names (from_unacked ss)) (names ss)
+pub unackeds : (ss : List Sent) → IsSubsequence (names (from_unacked ss)) (names ss)
 unackeds [] = tt
 unackeds (s ∷ ss) = unacked_step s ss s.acked refl (unackeds ss)

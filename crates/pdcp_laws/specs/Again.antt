@@ -1,16 +1,13 @@
 -- What a life takes again, and what a status report leaves out of it (TS 36.323 5.2.1.1, 5.3.2).
-use Rattle.std.specs.Prelude.{◌≡◌, ◌⊎◌, ℕ, Bool, true, false, ◌||◌, List, [], ◌∷◌, ◌++◌, Option, Some, None, slice_get}
+use Rattle.std.specs.Prelude.{◌≡◌, ◌⊎◌, ℕ, Bool, true, false, ◌||◌, List, [], ◌∷◌, ◌++◌, Option, Some, None, take, All, Contains}
 use Rattle.pdcp_tx.specs.declared.given.Sent.{Sent}
 use Rattle.pdcp_tx.specs.Given.{tells}
 use Rattle.pdcp_tx.specs.State.{State, fms_count, reported}
 use Rattle.pdcp_tx.specs.Runs.{Call, Submit, Take, Confirm, Report, Owe, Tick, Late, after}
-
-abbrev pub first_sent : List Sent → List Sent
-first_sent [] = []
-first_sent (x ∷ xs) = x ∷ []
+use Rattle.pdcp_laws.specs.Lists.{IsSubsequence}
 
 abbrev pub again_behind : Option (List ℕ) → List Sent → List Sent
-again_behind None xs = first_sent xs
+again_behind None xs = take 1 xs
 again_behind (Some report) xs = []
 
 -- the SDU that a call takes again
@@ -35,12 +32,6 @@ after_all s (c ∷ cs) = after_all (after s c) cs
 abbrev pub all_again : State → List Call → List Sent
 all_again s cs = taken_again s cs ++ (after_all s cs).again
 
--- the first list is the second with some left out
-abbrev pub IsPart : List Sent → List Sent → Type 0
-IsPart [] xs = Unit {0}
-IsPart (y ∷ ys) [] = y ∷ ys ≡ []
-IsPart (y ∷ ys) (x ∷ xs) = ((y ≡ x) × IsPart ys xs) ⊎ IsPart (y ∷ ys) xs
-
 -- a report tells that an SDU was received
 abbrev pub told_from : Option ℕ → List ℕ → Sent → Bool
 told_from None bitmap x = false
@@ -59,19 +50,15 @@ abbrev pub told_in : State → List Call → Sent → Bool
 told_in s [] x = false
 told_in s (c ∷ cs) x = told_by s c x || told_in (after s c) cs x
 
-pub record IsIn (x : Sent) (xs : List Sent) : Type 0 where
-  pub at : ℕ
-  pub is : slice_get xs at ≡ Some x
-
 -- of the SDUs that were to be taken again, in order and each once, only those are left out that a report told
 pub record LeavesOutWhatIsTold (s : State) (cs : List Call) : Type 0 where
-  pub order : IsPart (all_again s cs) s.again
-  pub others : (x : Sent) → IsIn x s.again → IsIn x (all_again s cs) ⊎ (told_in s cs x ≡ true)
+  pub order : IsSubsequence (all_again s cs) s.again
+  pub others : (x : Sent) → Contains s.again x → Contains (all_again s cs) x ⊎ (told_in s cs x ≡ true)
 
--- and what a report told before it was reached isn't taken again
-abbrev pub NoneTold : Option ℕ → List ℕ → List Sent → Type 0
-NoneTold from bitmap [] = Unit {0}
-NoneTold from bitmap (x ∷ xs) = (told_from from bitmap x ≡ false) × NoneTold from bitmap xs
+-- a report doesn't tell that an SDU was received
+abbrev pub IsUntold : Option ℕ → List ℕ → Sent → Type 0
+IsUntold from bitmap x = told_from from bitmap x ≡ false
 
+-- what a report told before it was reached isn't taken again
 abbrev pub LeavesOutTheTold : State → ℕ → List ℕ → List Call → Type 0
-LeavesOutTheTold s fms bitmap cs = NoneTold (fms_count s.kind s.base fms) bitmap (all_again (reported s fms bitmap) cs)
+LeavesOutTheTold s fms bitmap cs = All (IsUntold (fms_count s.kind s.base fms) bitmap) (all_again (reported s fms bitmap) cs)

@@ -1,3 +1,4 @@
+pub mod Lists
 pub mod Lives
 pub mod Bounds
 pub mod Receiving

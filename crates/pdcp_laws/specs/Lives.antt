@@ -1,5 +1,5 @@
 -- A sender through lives: calls, and re-establishments under other keys (TS 36.323 5.2).
-use Rattle.std.specs.Prelude.{◌≡◌, ℕ, ◌-◌, ◌≤◌, if◌then◌else◌, List, [], ◌∷◌, ◌++◌, map, take, Option, Some, None, slice_get}
+use Rattle.std.specs.Prelude.{◌≡◌, ℕ, ◌-◌, ◌≤◌, if◌then◌else◌, List, [], ◌∷◌, ◌++◌, map, take, Option, Some, None, slice_get, All}
 use Rattle.eps_sec.specs.declared.Keys.{Keys}
 use Rattle.pdcp_sec.specs.Protection.{Protection}
 use Rattle.pdcp_tx.specs.declared.given.Sent.{Sent}
@@ -94,8 +94,7 @@ Names first sdus count sdu = (first ≤ count) × (slice_get sdus (count - first
 
 -- what is ciphered under a COUNT is the SDU of its place
 abbrev pub AreNamed : ℕ → List (List ℕ) → List Ciphering → Type 0
-AreNamed first sdus [] = Unit {0}
-AreNamed first sdus (c ∷ cs) = Names first sdus c.count c.sdu × AreNamed first sdus cs
+AreNamed first sdus cs = All (λ c. Names first sdus c.count c.sdu) cs
 
 -- ---- the queue of SDUs without a COUNT
 
