@@ -12,7 +12,7 @@ use Rattle.pdcp_tx.specs.Pdus.{width}
 use Rattle.pdcp_tx.specs.Given.{with_ack, entry_at, is_own, settled, with_report, untold, trimmed, first_open, first_unacked, from_unacked, data_of}
 use Rattle.pdcp_tx.specs.State.{State, start, sent, or_else, low, moved, submitted, took, took_owed, took_again, took_new, confirmed, reported, reported_from, fms_count, after_late, restarted, first_again, kept_again, next_from}
 use Rattle.pdcp_tx.specs.Runs.{Call, Submit, Take, Confirm, Report, Owe, Tick, Late}
-use Rattle.pdcp_laws.specs.Lives.{Step, Calls, Restart, goes, run}
+use Rattle.pdcp_laws.specs.Lives.{Step, Calls, SetDiscard, Restart, goes, run}
 use Rattle.pdcp_laws.specs.Bounds.{IsBounded, StandsStill}
 use Rattle.pdcp_laws.proofs.KindStays.{kind_stays}
 
@@ -117,6 +117,7 @@ goes_bounded s (Calls (Report fms bitmap)) am h = report_bounded s (fms_count s.
 goes_bounded s (Calls (Owe report)) am h = λ r. let no : true ≡ false = r in cc
 goes_bounded s (Calls Tick) am h = h
 goes_bounded s (Calls Late) am h = h
+goes_bounded s (SetDiscard ttis) am h = h
 goes_bounded s (Restart keys) am h = restart_bounded s keys
 
 run_bounded : (xs : List Step) (s : State) → is_am s.kind ≡ true → IsBounded s → IsBounded (run xs s)

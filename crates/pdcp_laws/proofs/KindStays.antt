@@ -4,7 +4,7 @@ use Rattle.pdcp_tx.specs.declared.given.Sent.{Sent}
 use Rattle.pdcp_tx.specs.Waiting.{Waits}
 use Rattle.pdcp_tx.specs.State.{State, submitted, took, took_owed, took_again, took_new, confirmed, reported, reported_from, fms_count, after_late, restarted}
 use Rattle.pdcp_tx.specs.Runs.{Submit, Take, Confirm, Report, Owe, Tick, Late}
-use Rattle.pdcp_laws.specs.Lives.{Step, Calls, Restart, goes}
+use Rattle.pdcp_laws.specs.Lives.{Step, Calls, SetDiscard, Restart, goes}
 
 new_kind : (s : State) (ws : List Waits) → (took_new ws s).kind ≡ s.kind
 new_kind s [] = refl
@@ -31,4 +31,5 @@ kind_stays s (Calls (Report fms bitmap)) = report_kind s (fms_count s.kind s.bas
 kind_stays s (Calls (Owe report)) = refl
 kind_stays s (Calls Tick) = refl
 kind_stays s (Calls Late) = refl
+kind_stays s (SetDiscard ttis) = refl
 kind_stays s (Restart keys) = refl

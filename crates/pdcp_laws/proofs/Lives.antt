@@ -12,7 +12,7 @@ use Rattle.pdcp_tx.specs.Waiting.{Waits}
 use Rattle.pdcp_tx.specs.Given.{acked_at, entry_at, heard, untold, trimmed, data_of}
 use Rattle.pdcp_tx.specs.State.{State, start, sent, submitted, took, took_owed, took_again, took_new, confirmed, reported, reported_from, fms_count, after_late, restarted, next_from, kept_again}
 use Rattle.pdcp_tx.specs.Runs.{Submit, Take, Confirm, Report, Owe, Tick, Late, IsOrdered}
-use Rattle.pdcp_laws.specs.Lives.{Step, Calls, Restart, goes, run}
+use Rattle.pdcp_laws.specs.Lives.{Step, Calls, SetDiscard, Restart, goes, run}
 use Rattle.pdcp_laws.specs.Lists.{IsSubsequence}
 use Rattle.pdcp_laws.proofs.Lists.{thinner}
 use Rattle.pdcp_laws.proofs.Thinning.{named, names, In, thin_in, lower, higher, grows, of, of_again, of_new, of_own, trims, of_acked, hears, unackeds}
@@ -79,6 +79,7 @@ goes_in s (Calls (Report fms bitmap)) h = reported_in (fms_count s.kind s.base f
 goes_in s (Calls (Owe report)) h = h
 goes_in s (Calls Tick) h = h
 goes_in s (Calls Late) h = h
+goes_in s (SetDiscard ttis) h = h
 goes_in s (Restart keys) h = restarted_in s keys h
 
 stays : (xs : List Step) (s : State) → Stays s → Stays (run xs s)

@@ -13,7 +13,7 @@ use Rattle.pdcp_tx.specs.Waiting.{Waits}
 use Rattle.pdcp_tx.specs.Given.{acked_at, entry_at, heard, untold, trimmed, data_of}
 use Rattle.pdcp_tx.specs.State.{State, start, sent, offers, owed_offers, again_offer, new_offers, submitted, took, took_owed, took_again, took_new, confirmed, reported, reported_from, fms_count, after_late, restarted, next_from, kept_again}
 use Rattle.pdcp_tx.specs.Runs.{Submit, Take, Confirm, Report, Owe, Tick, Late}
-use Rattle.pdcp_laws.specs.Lives.{Step, Calls, Restart, goes, Ciphering, ciphering_of, ciphers, cipherings, new_behind, new_of, first_sdu, takes_first, first_taken, Names, AreNamed}
+use Rattle.pdcp_laws.specs.Lives.{Step, Calls, SetDiscard, Restart, goes, Ciphering, ciphering_of, ciphers, cipherings, new_behind, new_of, first_sdu, takes_first, first_taken, Names, AreNamed}
 use Rattle.pdcp_laws.proofs.Lives.{again_thin}
 use Rattle.pdcp_laws.proofs.Lists.{thinner, all_left}
 use Rattle.pdcp_laws.proofs.Thinning.{Named, named, names, of, of_again, of_new, of_own, trims, of_acked, hears}
@@ -134,6 +134,7 @@ step first h s (Calls (Report fms bitmap)) k = nothing_new first h (reported s f
 step first h s (Calls (Owe report)) k = nothing_new first h (goes s (Calls (Owe report))) [] (record { am = k.am; next = k.next; each = k.each }) (none_named first h)
 step first h s (Calls Tick) k = nothing_new first h (goes s (Calls Tick)) [] (record { am = k.am; next = k.next; each = k.each }) (none_named first h)
 step first h s (Calls Late) k = nothing_new first h (after_late s) [] (record { am = k.am; next = k.next; each = k.each }) (none_named first h)
+step first h s (SetDiscard ttis) k = nothing_new first h (goes s (SetDiscard ttis)) [] (record { am = k.am; next = k.next; each = k.each }) (none_named first h)
 step first h s (Restart keys) k = nothing_new first h (restarted s keys) [] (restart_goes first h s keys k) (none_named first h)
 
 all_named : (first : ℕ) (h : List (List ℕ)) (s : State) (xs : List Step) → Kept first h s → AreNamed first (h ++ first_taken s xs) (cipherings s xs)

@@ -7,7 +7,7 @@ use Rattle.pdcp_tx.specs.declared.given.Sent.{Sent}
 use Rattle.pdcp_tx.specs.Waiting.{Waits}
 use Rattle.pdcp_tx.specs.State.{State, submitted, took, took_owed, took_again, took_new, confirmed, reported, reported_from, fms_count, after_late, is_overdue, restarted, waiting_on}
 use Rattle.pdcp_tx.specs.Runs.{Submit, Take, Confirm, Report, Owe, Tick, Late}
-use Rattle.pdcp_laws.specs.Lives.{Step, Calls, Restart, goes, run, first_sdu, new_behind, new_of, submits, submitted_in, leaves, left_in, queue}
+use Rattle.pdcp_laws.specs.Lives.{Step, Calls, SetDiscard, Restart, goes, run, first_sdu, new_behind, new_of, submits, submitted_in, leaves, left_in, queue}
 use Rattle.pdcp_laws.proofs.KindStays.{kind_stays}
 
 abbrev sdus : List Waits → List (List ℕ)
@@ -57,6 +57,7 @@ step s (Calls (Report fms bitmap)) h = report_any s (fms_count s.kind s.base fms
 step s (Calls (Owe report)) h = sym (append-nil (queue s))
 step s (Calls Tick) h = sym (append-nil (queue s))
 step s (Calls Late) h = late_any (is_overdue s) s.waiting ∙ sym (append-nil (queue s))
+step s (SetDiscard ttis) h = sym (append-nil (queue s))
 step s (Restart keys) h = ap sdus (kept_waiting s.kind s.waiting h) ∙ sym (append-nil (queue s))
 
 pub in_order : (s : State) (xs : List Step) → s.kind ≢ Srb → left_in s xs ++ queue (run xs s) ≡ queue s ++ submitted_in xs

@@ -7,13 +7,15 @@ use Rattle.pdcp_tx.specs.Waiting.{Waits}
 use Rattle.pdcp_tx.specs.State.{State, Offer, offers, is_overdue, restarted}
 use Rattle.pdcp_tx.specs.Runs.{Call, Submit, Take, Confirm, Report, Owe, Tick, Late, after}
 
--- a call, or the end of a life and the beginning of the next
+-- a call, another length of the discard timer, or the end of a life and the beginning of the next
 pub data Step : Type 0 where
   Calls : Call → Step
+  SetDiscard : ℕ → Step
   Restart : Keys → Step
 
 abbrev pub goes : State → Step → State
 goes s (Calls c) = after s c
+goes s (SetDiscard ttis) = record s { discard = Some ttis }
 goes s (Restart keys) = restarted s keys
 
 abbrev pub run : List Step → State → State
@@ -48,6 +50,7 @@ ciphers_in s Late = []
 
 abbrev pub ciphers : State → Step → List Ciphering
 ciphers s (Calls c) = ciphers_in s c
+ciphers s (SetDiscard ttis) = []
 ciphers s (Restart keys) = []
 
 -- all that is ciphered, in order
@@ -81,6 +84,7 @@ takes_new s Late = []
 
 abbrev pub takes_first : State → Step → List (List ℕ)
 takes_first s (Calls c) = takes_new s c
+takes_first s (SetDiscard ttis) = []
 takes_first s (Restart keys) = []
 
 -- the SDUs that were taken for the first time, in order
@@ -106,6 +110,7 @@ submits (Calls (Report fms bitmap)) = []
 submits (Calls (Owe report)) = []
 submits (Calls Tick) = []
 submits (Calls Late) = []
+submits (SetDiscard ttis) = []
 submits (Restart keys) = []
 
 abbrev pub submitted_in : List Step → List (List ℕ)
@@ -121,6 +126,7 @@ leaves s (Calls (Report fms bitmap)) = []
 leaves s (Calls (Owe report)) = []
 leaves s (Calls Tick) = []
 leaves s (Calls Late) = if is_overdue s then first_sdu s.waiting else []
+leaves s (SetDiscard ttis) = []
 leaves s (Restart keys) = []
 
 abbrev pub left_in : State → List Step → List (List ℕ)
