@@ -1,0 +1,12 @@
+pub mod Sender
+pub mod Orders
+pub mod Parts
+pub mod Acknowledged
+pub mod Unacknowledged
+pub mod Flows
+pub mod Streams
+pub mod Texts
+pub mod Names
+pub mod Queues
+pub mod Keyed
+pub mod Keeping

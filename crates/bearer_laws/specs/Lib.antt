@@ -1,0 +1,5 @@
+pub mod Calls
+pub mod Stream
+pub mod Queue
+pub mod Texts
+pub mod Keeping
