@@ -5,7 +5,7 @@ use Rattle.l2_types.specs.declared.Clock.TheVariants.{Poll, Reorder, Prohibit}
 use Rattle.eps_sec.specs.declared.Keys.{Keys}
 use Rattle.pdcp_pdu.specs.Kinds.{is_am}
 use Rattle.pdcp_rx.specs.declared.Cause.TheVariants.{Arrived, Reestablished}
-use Rattle.pdcp_tx.specs.State.{Offer, offers, took, taking, confirmed}
+use Rattle.pdcp_tx.specs.State.{Offer, offers, took, confirmed}
 use Rattle.rlc_pdu.specs.declared.RlcRefusal.{RlcRefusal}
 use Rattle.rlc_pdu.specs.Pdus.{AcknowledgedPdu, Payload, Status}
 use Rattle.rlc_pdu.specs.Reading.{am_at}
@@ -19,7 +19,7 @@ use Rattle.bearer_parts.specs.Hearing.{applies, heard_told, after_hearing}
 use Rattle.bearer_parts.specs.Lives.{restarted as restarted_pdcp}
 use Rattle.bearer_parts.specs.Discarding.{after_tick as after_discards, tick_told}
 use Rattle.bearer_parts.specs.Telling.{landed_told}
-use Rattle.bearer_parts.specs.Taking.{taken, after_taking as after_pdcp}
+use Rattle.bearer_parts.specs.Taking.{after_taking as after_pdcp}
 use Rattle.bearer_am.specs.State.{State, Work, work}
 use Rattle.bearer_am.specs.Taking.{given_to, fed, feeds, feeding, data_size, status_told, has_prohibit, after_taking}
 use Rattle.bearer_am.specs.Hearing.{settled_if, heard_work, hears, hears_all, confirms, status_work, arrived_left, after_arrival, all_confirmed}
@@ -27,7 +27,7 @@ use Rattle.bearer_am.specs.Lives.{Ending, hears_last, ends_with, stopped, restar
 use Rattle.bearer_am.specs.Timing.{Ticking, expires_if, clock_left, counts, has_ended, ticks, discards, after_expiry, ticked}
 use Rattle.bearer_laws.specs.Stream.{pdu_of, am_offered}
 use Rattle.bearer_laws.proofs.Sender.{nothing, took_all, left_of, took_same, same_pdus, confirms_one}
-use Rattle.bearer_laws.proofs.Parts.{Passed, rests, by_tx, passed_then, hearing_moves, Ended, ends_as, ended_then, last_one}
+use Rattle.bearer_laws.proofs.Parts.{first_taken, pdcp_took, pdcp_rest, Passed, rests, by_tx, passed_then, hearing_moves, Ended, ends_as, ended_then, last_one}
 
 -- ---- RLC takes PDUs
 
@@ -42,18 +42,6 @@ pub record Fed (os : List Offer) (w v : Work) : Type 0 where
 
 none_fed : (os : List Offer) (w : Work) → Fed os w w
 none_fed os w = record { n = zero; few = omega arith; left = refl; kind = refl; rx = refl; offered = refl }
-
-first_taken : (e : Ends) (o : Offer) (os : List Offer) → offers e.tx ≡ o ∷ os → taken e ≡ Some (pdu_of e.tx o)
-unfolding taken taking
-first_taken e o os q = rw q refl
-
-pdcp_took : (e : Ends) → (after_pdcp e).tx ≡ took e.tx
-unfolding after_pdcp
-pdcp_took e = refl
-
-pdcp_rest : (e : Ends) → ((after_pdcp e).kind ≡ e.kind) × ((after_pdcp e).rx.kind ≡ e.rx.kind)
-unfolding after_pdcp
-pdcp_rest e = (refl, refl)
 
 one_fed : (o : Offer) (os : List Offer) (w v : Work) → offers w.pdcp.tx ≡ o ∷ os → Fed os (fed w) v → Fed (o ∷ os) w v
 one_fed o os w v q f = record {

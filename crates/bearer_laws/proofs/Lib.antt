@@ -10,3 +10,4 @@ pub mod Names
 pub mod Queues
 pub mod Keyed
 pub mod Keeping
+pub mod Sendings

@@ -13,15 +13,14 @@ use Rattle.pdcp_tx.specs.Runs.{Submit, Take, Confirm, Report, Owe, Tick, Late}
 use Rattle.pdcp_laws.specs.Lives.{Step, Calls, SetDiscard, Restart, goes, Ciphering, ciphering_under, ciphering_of, ciphers, cipherings, takes_first, first_taken, Names, AreNamed}
 use Rattle.pdcp_laws.proofs.Naming.{counts_are_named}
 use Rattle.bearer_parts.specs.Ends.{begun, bearer_of, sends}
-use Rattle.bearer_am.specs.State.{fresh as fresh_am}
 use Rattle.bearer.specs.Bearer.{flow_of}
-use Rattle.bearer_laws.specs.Calls.{Step as BearerStep, ends}
+use Rattle.bearer_laws.specs.Calls.{Step as BearerStep}
 use Rattle.bearer_laws.specs.Stream.{all_taken}
 use Rattle.bearer_laws.specs.Queue.{IsNamed, all_news}
 use Rattle.bearer_laws.specs.Texts.{AreOneText}
 use Rattle.bearer_laws.proofs.Sender.{Doings, takes_at, doings}
 use Rattle.bearer_laws.proofs.Flows.{all_doings, lives_taken, lives_news, history}
-use Rattle.bearer_laws.proofs.Streams.{begun_tx}
+use Rattle.bearer_laws.proofs.Streams.{begun_tx, am_begins}
 
 abbrev AllNamed : ℕ → List (List ℕ) → List Offer → Type 0
 AllNamed first sdus [] = Unit {0}
@@ -73,10 +72,6 @@ named_at : (first : ℕ) (sdus : List (List ℕ)) (os : List Offer) (i : ℕ) (o
 named_at first sdus [] i o h g = let no : None ≡ Some o = g in cc
 named_at first sdus (x ∷ os) zero o h g = let some : Some x ≡ Some o = g in let same : x ≡ o = cc in subst (IsNamed first sdus) same h.0
 named_at first sdus (x ∷ os) (suc i) o h g = named_at first sdus os i o h.1 g
-
-am_begins : (c : BearerConfig) (keys : Keys) (side : Side) → ends (flow_of kinds.Am c keys side) ≡ Some (begun c.channel.lcid (pdcp.Am c.pdcp_bits) c.first keys side)
-unfolding fresh_am
-am_begins c keys side = refl
 
 am_named : (c : BearerConfig) (keys : Keys) (side : Side) (xs : List BearerStep) → AllNamed c.first (all_news (flow_of kinds.Am c keys side) xs) (all_taken (flow_of kinds.Am c keys side) xs)
 am_named c keys side xs =

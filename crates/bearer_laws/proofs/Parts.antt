@@ -10,7 +10,7 @@ use Rattle.pdcp_rx.specs.declared.Got.TheVariants as got_as
 use Rattle.pdcp_rx.specs.Laws.{Arrive, happens}
 use Rattle.pdcp_rx.specs.State.{State as Receiving, got, arrived, restarted as restarted_receiving}
 use Rattle.pdcp_tx.specs.Waiting.{Waits}
-use Rattle.pdcp_tx.specs.State.{State, is_overdue, after_late, reported, ticked, restarted as restarted_sending}
+use Rattle.pdcp_tx.specs.State.{State, Offer, offers, took, taking, is_overdue, after_late, reported, ticked, restarted as restarted_sending}
 use Rattle.pdcp_laws.specs.Lives.{Step, Calls as Calling, goes, run, leaves}
 use Rattle.pdcp_tx.specs.Runs.{Late}
 use Rattle.pdcp_laws.proofs.KindStays.{kind_stays as sending_kind}
@@ -20,6 +20,8 @@ use Rattle.bearer_parts.specs.Ends.{Ends}
 use Rattle.bearer_parts.specs.Hearing.{is_for_sender, got_left, with_arrived, after_hearing}
 use Rattle.bearer_parts.specs.Discarding.{without_late, after_tick}
 use Rattle.bearer_parts.specs.Lives.{report_of, owing_report, restarted}
+use Rattle.bearer_parts.specs.Taking.{taken, after_taking}
+use Rattle.bearer_laws.specs.Stream.{pdu_of}
 use Rattle.bearer_laws.proofs.Sender.{Doings, nothing, also, leaving, Moved, Lived, still, moved_then, lived, lived_then, reports, ticks_once, drops_one, restarts, owes}
 
 -- ---- PDCP of a bearer comes from one state to another, and PDUs are taken: within a life, or through lives
@@ -48,6 +50,20 @@ passed_lives d e a m = record { tx = lived d.tx e.tx a m.tx; kind = m.kind; rx =
 
 pub lives_then : (d e g : Ends) (a b : Doings) → PassedLives d e a → PassedLives e g b → PassedLives d g (also a b)
 lives_then d e g a b m n = record { tx = lived_then d.tx e.tx g.tx a b m.tx n.tx; kind = n.kind ∙ m.kind; rx = n.rx ∙ m.rx }
+
+-- ---- a PDU is taken
+
+pub first_taken : (e : Ends) (o : Offer) (os : List Offer) → offers e.tx ≡ o ∷ os → taken e ≡ Some (pdu_of e.tx o)
+unfolding taken taking
+first_taken e o os q = rw q refl
+
+pub pdcp_took : (e : Ends) → (after_taking e).tx ≡ took e.tx
+unfolding after_taking
+pdcp_took e = refl
+
+pub pdcp_rest : (e : Ends) → ((after_taking e).kind ≡ e.kind) × ((after_taking e).rx.kind ≡ e.rx.kind)
+unfolding after_taking
+pdcp_rest e = (refl, refl)
 
 -- ---- a PDU is heard
 

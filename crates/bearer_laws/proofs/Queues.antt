@@ -12,15 +12,13 @@ use Rattle.pdcp_tx.specs.State.{State, start}
 use Rattle.pdcp_laws.specs.Lives.{Step as SenderStep, goes as sender_goes, submits, submitted_in, leaves, left_in}
 use Rattle.pdcp_laws.proofs.Queue.{in_order}
 use Rattle.bearer_parts.specs.Ends.{Ends, begun, bearer_of, sends}
-use Rattle.bearer_um.specs.State.{fresh as fresh_um}
-use Rattle.bearer_am.specs.State.{fresh as fresh_am}
 use Rattle.bearer.specs.declared.flow.Flow.{Flow}
 use Rattle.bearer.specs.Bearer.{flow_of}
 use Rattle.bearer_laws.specs.Calls.{Step, run, reached, ends}
 use Rattle.bearer_laws.specs.Queue.{queue, all_submitted, all_left}
 use Rattle.bearer_laws.proofs.Sender.{Doings, doings}
 use Rattle.bearer_laws.proofs.Flows.{lives_left, lives_submitted, history}
-use Rattle.bearer_laws.proofs.Streams.{begun_tx}
+use Rattle.bearer_laws.proofs.Streams.{begun_tx, um_begins, am_begins}
 
 left_is : (s : State) (xs : List SenderStep) → (doings s xs).left ≡ left_in s xs
 left_is s [] = refl
@@ -58,14 +56,6 @@ flow_order f kind lcid first keys side xs data' q =
     ∙ law
     ∙ ap (λ ws. map (λ w. w.sdu) ws ++ submitted_in steps) waits
     ∙ given
-
-um_begins : (c : BearerConfig) (keys : Keys) (side : Side) → ends (flow_of kinds.Um c keys side) ≡ Some (begun c.channel.lcid (pdcp.Um c.pdcp_bits) c.first keys side)
-unfolding fresh_um
-um_begins c keys side = refl
-
-am_begins : (c : BearerConfig) (keys : Keys) (side : Side) → ends (flow_of kinds.Am c keys side) ≡ Some (begun c.channel.lcid (pdcp.Am c.pdcp_bits) c.first keys side)
-unfolding fresh_am
-am_begins c keys side = refl
 
 abbrev Leaves : Kind → BearerConfig → Keys → Side → List Step → Type 0
 Leaves kind c keys side xs = all_left (flow_of kind c keys side) xs ++ queue (ends (run xs (flow_of kind c keys side))) ≡ all_submitted xs

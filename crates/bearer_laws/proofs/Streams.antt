@@ -32,12 +32,23 @@ pub record Begun (c : BearerConfig) (keys : Keys) (side : Side) (o : Option Ends
   pub kind : PdcpKind
   pub is : o ≡ Some (begun c.channel.lcid kind c.first keys side)
 
+pub um_begins : (c : BearerConfig) (keys : Keys) (side : Side) → ends (flow_of kinds.Um c keys side) ≡ Some (begun c.channel.lcid (pdcp.Um c.pdcp_bits) c.first keys side)
+unfolding fresh_um
+um_begins c keys side = refl
+
+pub am_begins : (c : BearerConfig) (keys : Keys) (side : Side) → ends (flow_of kinds.Am c keys side) ≡ Some (begun c.channel.lcid (pdcp.Am c.pdcp_bits) c.first keys side)
+unfolding fresh_am
+am_begins c keys side = refl
+
+srb_begins : (c : BearerConfig) (keys : Keys) (side : Side) → ends (flow_of kinds.Srb c keys side) ≡ Some (begun c.channel.lcid pdcp.Srb c.first keys side)
+unfolding fresh_am
+srb_begins c keys side = refl
+
 pub begins : (k : Kind) (c : BearerConfig) (keys : Keys) (side : Side) → (ends (flow_of k c keys side) ≡ None) ⊎ Begun c keys side (ends (flow_of k c keys side))
-unfolding fresh_um fresh_am
 begins kinds.Tm c keys side = inl refl
-begins kinds.Srb c keys side = inr (record { kind = pdcp.Srb; is = refl })
-begins kinds.Um c keys side = inr (record { kind = pdcp.Um c.pdcp_bits; is = refl })
-begins kinds.Am c keys side = inr (record { kind = pdcp.Am c.pdcp_bits; is = refl })
+begins kinds.Srb c keys side = inr (record { kind = pdcp.Srb; is = srb_begins c keys side })
+begins kinds.Um c keys side = inr (record { kind = pdcp.Um c.pdcp_bits; is = um_begins c keys side })
+begins kinds.Am c keys side = inr (record { kind = pdcp.Am c.pdcp_bits; is = am_begins c keys side })
 
 pub begun_tx : (lcid : ℕ) (kind : PdcpKind) (first : ℕ) (keys : Keys) (side : Side) → (begun lcid kind first keys side).tx ≡ start kind (protection_of kind keys (bearer_of lcid) (sends side)) first
 unfolding begun

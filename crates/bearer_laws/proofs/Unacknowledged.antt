@@ -7,7 +7,7 @@ use Rattle.l2_types.specs.declared.Clock.TheVariants.{Poll, Reorder, Prohibit}
 use Rattle.pdcp_rx.specs.declared.Cause.{Cause}
 use Rattle.eps_sec.specs.declared.Keys.{Keys}
 use Rattle.pdcp_rx.specs.declared.Cause.TheVariants.{Arrived, Reestablished}
-use Rattle.pdcp_tx.specs.State.{Offer, offers, took, taking}
+use Rattle.pdcp_tx.specs.State.{Offer, offers, took}
 use Rattle.rlc_pdu.specs.declared.Expired.{Expired}
 use Rattle.rlc_pdu.specs.declared.Expired.TheVariants.{Done, NotRunning}
 use Rattle.rlc_pdu.specs.declared.RlcRefusal.{RlcRefusal}
@@ -15,10 +15,9 @@ use Rattle.rlc_pdu.specs.Pdus.{UmdPdu}
 use Rattle.rlc_pdu.specs.Reading.{umd_at}
 use Rattle.rlc_um.specs.Sender.{is_hungry}
 use Rattle.rlc_um.specs.Receiver.{State as Receiver, landing, turning, arrival, expiring, expired, all_joined}
-use Rattle.bearer_parts.specs.Ends.{Ends}
 use Rattle.bearer_parts.specs.Lives.{restarted as restarted_pdcp}
 use Rattle.bearer_parts.specs.Discarding.{after_tick}
-use Rattle.bearer_parts.specs.Taking.{taken, after_taking as after_pdcp}
+use Rattle.bearer_parts.specs.Taking.{after_taking as after_pdcp}
 use Rattle.bearer_parts.specs.Telling.{landed_told, expired_told}
 use Rattle.bearer_um.specs.State.{State}
 use Rattle.bearer_um.specs.Taking.{Feeding, given_to, fed, feeds, feeding, size_in, after_taking}
@@ -26,7 +25,7 @@ use Rattle.bearer_um.specs.Hearing.{Hearing, hears, hears_all, up_left, arrived_
 use Rattle.bearer_um.specs.Lives.{stopped, restarted}
 use Rattle.bearer_laws.specs.Stream.{pdu_of, um_offered}
 use Rattle.bearer_laws.proofs.Sender.{nothing, took_all, left_of, took_same, same_pdus}
-use Rattle.bearer_laws.proofs.Parts.{Passed, rests, passed_then, hearing_moves, Ended, ends_as, ended_then, last_one}
+use Rattle.bearer_laws.proofs.Parts.{first_taken, pdcp_took, pdcp_rest, Passed, rests, passed_then, hearing_moves, Ended, ends_as, ended_then, last_one}
 
 -- ---- RLC takes PDUs
 
@@ -41,18 +40,6 @@ pub record Fed (os : List Offer) (w v : Feeding) : Type 0 where
 
 none_fed : (os : List Offer) (w : Feeding) → Fed os w w
 none_fed os w = record { n = zero; few = omega arith; left = refl; kind = refl; rx = refl; offered = refl }
-
-first_taken : (e : Ends) (o : Offer) (os : List Offer) → offers e.tx ≡ o ∷ os → taken e ≡ Some (pdu_of e.tx o)
-unfolding taken taking
-first_taken e o os q = rw q refl
-
-pdcp_took : (e : Ends) → (after_pdcp e).tx ≡ took e.tx
-unfolding after_pdcp
-pdcp_took e = refl
-
-pdcp_rest : (e : Ends) → ((after_pdcp e).kind ≡ e.kind) × ((after_pdcp e).rx.kind ≡ e.rx.kind)
-unfolding after_pdcp
-pdcp_rest e = (refl, refl)
 
 one_fed : (o : Offer) (os : List Offer) (w v : Feeding) → offers w.pdcp.tx ≡ o ∷ os → Fed os (fed w) v → Fed (o ∷ os) w v
 one_fed o os w v q f = record {

@@ -3,3 +3,4 @@ pub mod Stream
 pub mod Queue
 pub mod Texts
 pub mod Keeping
+pub mod Sending

@@ -3,6 +3,7 @@
 
 ghost use Rattle.bearer_laws.specs.Keeping.{RestartKeeps};
 ghost use Rattle.bearer_laws.specs.Queue.{LeavesInOrder, NamesByPlace};
+ghost use Rattle.bearer_laws.specs.Sending.{OffersTheStream, BeginsAnew};
 ghost use Rattle.bearer_laws.specs.Stream.{OffersInOrder, TakesOnce};
 ghost use Rattle.bearer_laws.specs.Texts.{InALife, ThroughLives, UnderItsKeys};
 
@@ -10,6 +11,14 @@ ghost use Rattle.bearer_laws.specs.Texts.{InALife, ThroughLives, UnderItsKeys};
 /// ascending COUNTs, each as its PDU under the life's keys.
 pub fn offers_in_order()
     ensures { OffersInOrder }
+{}
+
+/// In a life, what calls make of an acknowledged bearer is to RLC's sender what calls of its own are, and those offer it that
+/// stream; each life begins with a sender that begins.
+#[tactic(auto, using(crate::proofs::Sendings::offers_the_stream, crate::proofs::Sendings::begins_anew))]
+pub fn offers_the_stream()
+    ensures stream { OffersTheStream }
+    ensures anew { BeginsAnew }
 {}
 
 /// In a life no COUNT is taken twice.
