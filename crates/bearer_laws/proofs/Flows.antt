@@ -22,7 +22,7 @@ use Rattle.bearer.specs.Submitting.{submitted}
 use Rattle.bearer.specs.Taking.{after as taken_from}
 use Rattle.bearer.specs.Hearing.{arrived, expired, ticked, with_discard}
 use Rattle.bearer.specs.Lives.{stopped, restarted}
-use Rattle.bearer_laws.specs.Calls.{Call, Submit, Take, Arrive, Expire, Tick, SetDiscard, after, Step, Calls, Restart, goes, run, ends, ends_between}
+use Rattle.bearer_laws.specs.Calls.{Call, Submit, Take, Arrive, Expire, Tick, SetDiscard, after, after_all, Step, Calls, Restart, goes, run, ends, ends_between}
 use Rattle.bearer_laws.specs.Stream.{offers_of, takes, taken, all_taken, pdu_of, IsOffered, um_offered, am_offered}
 use Rattle.bearer_laws.specs.Queue.{submits, off, news, drops, all_news, all_left, all_submitted}
 use Rattle.bearer_laws.proofs.Sender.{Doings, nothing, also, Moved, submitting, submits_one, sets, took_all, firsts, takings, takes_all, none_of, left_of, sdus, moved_queue, leaving}
@@ -165,12 +165,12 @@ called (Am b) e c q = let one : b.pdcp ≡ e = cc in subst (λ (d : Ends). Calle
 
 -- ---- behind all calls of a life
 
-pub life : (f : Flow) (e : Ends) (cs : List Call) → ends f ≡ Some e → (d : Ends) × Passed e d (life_doings f cs)
-life f e [] q = (e, rests e)
+pub life : (f : Flow) (e : Ends) (cs : List Call) → ends f ≡ Some e → Called e (after_all f cs) (life_doings f cs)
+life f e [] q = record { next = e; is = q; passed = rests e }
 life f e (c ∷ cs) q =
     let one = called f e c q in
     let more = life (after f c) one.next cs one.is in
-    (more.0, passed_then e one.next more.0 (doing f c) (life_doings (after f c) cs) one.passed more.1)
+    record { next = more.next; is = more.is; passed = passed_then e one.next more.next (doing f c) (life_doings (after f c) cs) one.passed more.passed }
 
 -- ---- the next life
 
@@ -195,6 +195,10 @@ restarts_as (Um b) e keys q = let one : b.pdcp ≡ e = cc in subst (λ (d : Ends
 restarts_as (Am b) e keys q = let one : b.pdcp ≡ e = cc in subst (λ (d : Ends). Restarted d (ends_between (stopped (Am b))) (goes (Am b) (Restart keys)) keys) one (am_restarts b keys)
 
 -- ---- through lives
+
+pub run_more : (f : Flow) (xs ys : List Step) → run (xs ++ ys) f ≡ run ys (run xs f)
+run_more f [] ys = refl
+run_more f (x ∷ xs) ys = run_more (goes f x) xs ys
 
 pub record Lives (d : Ends) (g : Flow) (a : Doings) : Type 0 where
   pub next : Ends

@@ -18,10 +18,10 @@ use Rattle.bearer_parts.specs.Lives.{restarted}
 use Rattle.bearer.specs.declared.flow.Flow.{Flow}
 use Rattle.bearer.specs.Bearer.{flow_of}
 use Rattle.bearer.specs.Lives.{stopped}
-use Rattle.bearer_laws.specs.Calls.{Step, Restart, goes, run, reached, ends, ends_between}
+use Rattle.bearer_laws.specs.Calls.{Step, Restart, goes, reached, ends, ends_between}
 use Rattle.bearer_laws.specs.Keeping.{Continues, KeepsWaiting, Forgets, Keeps}
 use Rattle.bearer_laws.proofs.Parts.{Ended, AreOfKind}
-use Rattle.bearer_laws.proofs.Flows.{restarts_as}
+use Rattle.bearer_laws.proofs.Flows.{restarts_as, run_more}
 use Rattle.bearer_laws.proofs.Streams.{Arrived, arrives}
 
 -- ---- what is taken again begins at the first unconfirmed COUNT
@@ -126,10 +126,6 @@ by_kind (Um bits) d e keys h k ordered = um_keeps d e keys bits h k ordered
 by_kind (Am bits) d e keys h k ordered = am_continues d e keys bits h k
 
 -- ---- the law
-
-run_more : (f : Flow) (xs ys : List Step) → run (xs ++ ys) f ≡ run ys (run xs f)
-run_more f [] ys = refl
-run_more f (x ∷ xs) ys = run_more (goes f x) xs ys
 
 ordered_by : (f : Flow) (e : Ends) → ends f ≡ Some e → (ends f ≡ None) ⊎ Arrived f → IsOrdered e.tx
 ordered_by f e q (inl n) = let no : None ≡ Some e = sym n ∙ q in cc

@@ -11,3 +11,4 @@ pub mod Queues
 pub mod Keyed
 pub mod Keeping
 pub mod Sendings
+pub mod Placing

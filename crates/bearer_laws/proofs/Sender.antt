@@ -195,7 +195,7 @@ takes_all (suc n) s =
     let same : also (takings 1 s) (takings n (took s)) ≡ takings (suc n) s = rw (one, two) refl in
     subst (Moved s (took_all n (took s))) same (moved_then s (took s) (took_all n (took s)) (takings 1 s) (takings n (took s)) (take_one s) (takes_all n (took s)))
 
-none_left : (n : ℕ) (os : List Offer) → os ≡ [] → drop n os ≡ []
+pub none_left : (n : ℕ) (os : List Offer) → os ≡ [] → drop n os ≡ []
 none_left zero os q = q
 none_left (suc n) [] q = refl
 none_left (suc n) (o ∷ os) q = let no : o ∷ os ≡ [] = q in cc

@@ -28,9 +28,9 @@ use Rattle.bearer.specs.Submitting.{submitted}
 use Rattle.bearer.specs.Taking.{after as taken_from}
 use Rattle.bearer.specs.Hearing.{arrived as flow_arrived, expired, ticked as flow_ticked, with_discard}
 use Rattle.bearer.specs.Lives.{stopped, restarted}
-use Rattle.bearer_laws.specs.Calls.{Call, Submit, Take, Arrive, Expire, Tick, SetDiscard, after, Restart, goes, ends}
+use Rattle.bearer_laws.specs.Calls.{Call, Submit, Take, Arrive, Expire, Tick, SetDiscard, after, after_all, Restart, goes, ends}
 use Rattle.bearer_laws.specs.Stream.{takes, pdus_of, pdu_of, stream, am_offered}
-use Rattle.bearer_laws.specs.Sending.{sends_on, offered_by, ComesBy, after_all}
+use Rattle.bearer_laws.specs.Sending.{sends_on, offered_by, ComesBy}
 use Rattle.bearer_laws.proofs.Flows.{is_offered}
 
 -- ---- calls of a sender, one behind the other

@@ -61,7 +61,7 @@ pub record Arrived (f : Flow) : Type 0 where
   pub ordered : IsOrdered now.tx
   pub kinds : AreOfKind now.kind now
 
-begun_kind : (lcid : ℕ) (kind : PdcpKind) (first : ℕ) (keys : Keys) (side : Side) → AreOfKind (begun lcid kind first keys side).kind (begun lcid kind first keys side)
+pub begun_kind : (lcid : ℕ) (kind : PdcpKind) (first : ℕ) (keys : Keys) (side : Side) → AreOfKind (begun lcid kind first keys side).kind (begun lcid kind first keys side)
 unfolding begun start fresh
 begun_kind lcid kind first keys side = record { here = refl; tx = refl; rx = refl }
 
@@ -111,7 +111,7 @@ none_law f cs q =
 pub life_order : (f : Flow) (e : Ends) (cs : List Call) → ends f ≡ Some e → IsOrdered e.tx → AreInOrder e.tx.owed (taken f cs)
 life_order f e cs q ordered =
     let l = life f e cs q in
-    subst (AreInOrder e.tx.owed) (sym (ap (λ (a : Doings). a.taken) l.1.tx.did) ∙ life_taken f cs) (in_order e.tx l.1.tx.steps l.1.tx.life ordered)
+    subst (AreInOrder e.tx.owed) (sym (ap (λ (a : Doings). a.taken) l.passed.tx.did) ∙ life_taken f cs) (in_order e.tx l.passed.tx.steps l.passed.tx.life ordered)
 
 some_law : (f : Flow) (e : Ends) (cs : List Call) → ends f ≡ Some e → IsOrdered e.tx → IsStream f cs
 some_law f e cs q ordered = record {

@@ -33,6 +33,10 @@ after f (Expire clock) = expired f clock
 after f Tick = ticked f
 after f (SetDiscard ttis) = with_discard f ttis
 
+abbrev pub after_all : Flow → List Call → Flow
+after_all f [] = f
+after_all f (c ∷ cs) = after_all (after f c) cs
+
 -- a call, or the end of a life and the beginning of the next
 pub data Step : Type 0 where
   Calls : Call → Step

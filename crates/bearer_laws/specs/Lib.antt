@@ -4,3 +4,4 @@ pub mod Queue
 pub mod Texts
 pub mod Keeping
 pub mod Sending
+pub mod Places

@@ -4,9 +4,8 @@ use Rattle.rlc_am_tx.specs.Machine.{State as Sender, start}
 use Rattle.am_tx_laws.specs.Run.{Call as SenderCall, Offer, Take, Status, Tick, Expire, Settle, Confirm, after as sender_after}
 use Rattle.eps_sec.specs.declared.Keys.{Keys}
 use Rattle.bearer_am.specs.State.{State}
-use Rattle.bearer.specs.declared.flow.Flow.{Flow}
 use Rattle.bearer.specs.declared.flow.Flow.TheVariants.{Am}
-use Rattle.bearer_laws.specs.Calls.{Call, after, Restart, goes}
+use Rattle.bearer_laws.specs.Calls.{Call, after_all, Restart, goes}
 use Rattle.bearer_laws.specs.Stream.{stream}
 
 abbrev pub sends_on : List SenderCall → Sender → Sender
@@ -29,10 +28,6 @@ pub record ComesBy (s t : Sender) (sdus : List (List ℕ)) : Type 0 where
   pub calls : List SenderCall
   pub offers : offered_by calls ≡ sdus
   pub left : t ≡ sends_on calls s
-
-abbrev pub after_all : Flow → List Call → Flow
-after_all f [] = f
-after_all f (c ∷ cs) = after_all (after f c) cs
 
 -- whatever calls of a life come, they make of RLC's sender what calls of its own make of it, and those offer it the stream
 abbrev pub OffersTheStream : Type 0

@@ -2,6 +2,7 @@
 #![tactic(auto)]
 
 ghost use Rattle.bearer_laws.specs.Keeping.{RestartKeeps};
+ghost use Rattle.bearer_laws.specs.Places.{InTheFirst, InTheOthers};
 ghost use Rattle.bearer_laws.specs.Queue.{LeavesInOrder, NamesByPlace};
 ghost use Rattle.bearer_laws.specs.Sending.{OffersTheStream, BeginsAnew};
 ghost use Rattle.bearer_laws.specs.Stream.{OffersInOrder, TakesOnce};
@@ -19,6 +20,13 @@ pub fn offers_in_order()
 pub fn offers_the_stream()
     ensures stream { OffersTheStream }
     ensures anew { BeginsAnew }
+{}
+
+/// In each life of an acknowledged data bearer, what PDCP keeps at a place is of the PDU at that place of the stream: so a place
+/// means to RLC's sender, which counts what it was offered, and to PDCP the same SDU.
+pub fn keeps_places()
+    ensures first { InTheFirst }
+    ensures others { InTheOthers }
 {}
 
 /// In a life no COUNT is taken twice.
