@@ -22,8 +22,8 @@ pub fn offers_the_stream()
     ensures anew { BeginsAnew }
 {}
 
-/// In each life of an acknowledged data bearer, what PDCP keeps at a place is of the PDU at that place of the stream: so a place
-/// means to RLC's sender, which counts what it was offered, and to PDCP the same SDU.
+/// In each life of an acknowledged data bearer, what PDCP keeps at a place is of the PDU at that place of the stream. RLC's
+/// sender confirms by the places of what it was offered, which is the same stream.
 pub fn keeps_places()
     ensures first { InTheFirst }
     ensures others { InTheOthers }
