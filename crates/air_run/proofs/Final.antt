@@ -1,7 +1,7 @@
 -- What octets show is shown whatever follows them.
 use Rattle.std.proofs.Common.{◌≡◌, ◌≢◌, ◌<◌, ◌≤◌, ◌+◌, ◌==◌, ◌∙◌, nat_lt, Bool, true, false, ℕ, List, [], ◌∷◌, ◌++◌, length, refl, ap, sym, arith, inl, inr, cond, suc, zero, length-append}
 use Rattle.l2_io.specs.Feeds.{until_feed, from_feed, without_return}
-use Rattle.air_text.specs.declared.line.LineRefusal.TheVariants.{Long}
+use Rattle.air_text.specs.declared.fault.LineRefusal.TheVariants.{Long}
 use Rattle.air_run.specs.declared.refusal.Reason.TheVariants as reasons
 use Rattle.air_run.specs.Journal.{Player, Outcome, Goes, Ends, Refuses, Waiting, Played, onto, refused, waiting, on_line, close_by, journal_from, follow}
 use Rattle.air_run.proofs.Cutting.{feed-cases}

@@ -3,7 +3,7 @@ use Rattle.std.proofs.Common.{◌≡◌, ◌<◌, ◌≤◌, ◌+◌, ◌==◌, 
 use Rattle.l2_io.proofs.Feeds.{until_feed_whole}
 use Rattle.l2_io.specs.Feeds.{until_feed, from_feed, without_return}
 use Rattle.air_run.specs.declared.refusal.Reason.TheVariants as reasons
-use Rattle.air_text.specs.declared.line.LineRefusal.TheVariants.{Long}
+use Rattle.air_text.specs.declared.fault.LineRefusal.TheVariants.{Long}
 use Rattle.air_run.specs.Lines.{lines_ended, tail_of}
 use Rattle.air_run.specs.Journal.{Player, Played, on_line, on_last, close_by, play, journal_from, finished, refused, waiting, follow}
 use Rattle.air_run.proofs.Cutting.{from-append, until-append, lines-line, tail-line, lines-none, tail-none, feed-cases}

@@ -2,11 +2,11 @@
 use Rattle.std.specs.Prelude.{ℕ, ◌+◌, ◌==◌, nat_lt, Bool, true, false, if◌then◌else◌, List, [], ◌∷◌, ◌++◌, length, Option, None, Some, Result, Ok, Err}
 use Rattle.l2_io.specs.Feeds.{without_return}
 use Rattle.air_text.specs.Reading.{read_of}
-use Rattle.air_text.specs.declared.line.Line.{Line}
-use Rattle.air_text.specs.declared.line.Line.TheVariants as lines
-use Rattle.air_text.specs.declared.line.LineRefusal.{LineRefusal}
-use Rattle.air_text.specs.declared.line.LineRefusal.TheVariants.{Long}
-use Rattle.air_text.specs.declared.record.Record.{Record}
+use Rattle.air_record.specs.declared.line.Line.{Line}
+use Rattle.air_record.specs.declared.line.Line.TheVariants as lines
+use Rattle.air_text.specs.declared.fault.LineRefusal.{LineRefusal}
+use Rattle.air_text.specs.declared.fault.LineRefusal.TheVariants.{Long}
+use Rattle.air_record.specs.declared.record.Record.{Record}
 use Rattle.air_run.specs.declared.refusal.RunRefusal.{RunRefusal}
 use Rattle.air_run.specs.declared.refusal.Reason.{Reason}
 use Rattle.air_run.specs.declared.refusal.Reason.TheVariants as reasons

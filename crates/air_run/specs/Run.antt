@@ -10,15 +10,15 @@ use Rattle.bearer_types.specs.declared.event.Event.TheVariants as events
 use Rattle.mac_pdu.specs.declared.item.Direction.TheVariants.{Down, Up}
 use Rattle.mac_pdu.specs.Items.{MacItem, sdu}
 use Rattle.mac_pdu.specs.Writing.{canonical}
-use Rattle.air_text.specs.declared.line.Fate.{Fate}
-use Rattle.air_text.specs.declared.line.Fate.TheVariants as fates
-use Rattle.air_text.specs.declared.line.Line.{Line}
-use Rattle.air_text.specs.declared.line.Line.TheVariants as lines
-use Rattle.air_text.specs.declared.record.Arrived.TheVariants as arriveds
-use Rattle.air_text.specs.declared.record.NoPlace.TheVariants as places
-use Rattle.air_text.specs.declared.record.State.TheVariants as states
-use Rattle.air_text.specs.declared.record.Record.{Record}
-use Rattle.air_text.specs.declared.record.Record.TheVariants as records
+use Rattle.air_record.specs.declared.line.Fate.{Fate}
+use Rattle.air_record.specs.declared.line.Fate.TheVariants as fates
+use Rattle.air_record.specs.declared.line.Line.{Line}
+use Rattle.air_record.specs.declared.line.Line.TheVariants as lines
+use Rattle.air_record.specs.declared.record.Arrived.TheVariants as arriveds
+use Rattle.air_record.specs.declared.record.NoPlace.TheVariants as places
+use Rattle.air_record.specs.declared.record.State.TheVariants as states
+use Rattle.air_record.specs.declared.record.Record.{Record}
+use Rattle.air_record.specs.declared.record.Record.TheVariants as records
 use Rattle.air_run.specs.declared.refusal.RunRefusal.{RunRefusal}
 use Rattle.air_run.specs.declared.refusal.RunRefusal.TheVariants.{UnknownBearer, BearerTwice, ConfiguredLate, Unbuilt}
 use Rattle.air_text.specs.Notions.{carried}

@@ -6,8 +6,8 @@ use Rattle.mac_pdu.specs.declared.item.Direction.TheVariants.{Down}
 use Rattle.mac_pdu.specs.declared.fault.MacRefusal.{MacRefusal}
 use Rattle.mac_pdu.specs.Items.{MacItem, front, element, sdu, padding}
 use Rattle.mac_pdu.specs.Reading.{reading}
-use Rattle.air_text.specs.declared.record.Record.{Record}
-use Rattle.air_text.specs.declared.record.Record.TheVariants as records
+use Rattle.air_record.specs.declared.record.Record.{Record}
+use Rattle.air_record.specs.declared.record.Record.TheVariants as records
 
 -- an item of a block: its subheader, and the transparent PDU of an SDU on LCID 0
 abbrev pub shown_item : MacItem → List Record

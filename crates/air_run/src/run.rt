@@ -2,7 +2,7 @@ ghost use Rattle.std.specs.Prelude.{◌≡◌, ◌≤◌, ◌++◌, ◌∷◌, [
 ghost use Rattle.l2_io.specs.Known.{HasRisen};
 ghost use Rattle.air_text.specs.Ranges.{IsInRange};
 ghost use Rattle.air_run.specs.Run.{RunState, fresh, step, done, finish};
-ghost use Rattle.air_text.specs.Text.{texts_of};
+ghost use Rattle.air_record.specs.Text.{texts_of};
 ghost use Rattle.air_run.specs.Steps.{Steps, Finishes};
 
 use crate::refusal::StepFault;

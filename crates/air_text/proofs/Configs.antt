@@ -1,5 +1,5 @@
 -- A bearer without an option is in its ranges.
-use Rattle.std.proofs.Common.{◌≡◌, ◌≤◌, ◌==◌, ◌||◌, ℕ, true, arith, refl, rules, inl, inr}
+use Rattle.std.proofs.Common.{◌≡◌, ◌≤◌, ℕ, true, arith, refl, inl, inr}
 use Rattle.l2_types.specs.declared.channel.Kind.{Kind}
 use Rattle.l2_types.specs.declared.channel.Kind.TheVariants.{Tm, Srb, Um, Am}
 use Rattle.bearer_types.specs.Configs.{IsConfig, IsChannelOf}

@@ -2,7 +2,6 @@ pub mod Words
 pub mod Fields
 pub mod Options
 pub mod Reading
-pub mod Text
 pub mod Ranges
 pub mod Groups
 pub mod Notions

@@ -6,8 +6,8 @@ use Rattle.l2_types.specs.declared.channel.Kind.TheVariants.{Tm, Srb, Um, Am}
 use Rattle.bearer_types.specs.declared.config.BearerConfig.{BearerConfig}
 use Rattle.air_text.specs.declared.options.Name.{Name}
 use Rattle.air_text.specs.declared.options.Name.TheVariants.{Prio, Pbr, Bsd, Lcg, Reorder, Sn, Psn, PollPdu, PollByte, PollRetx, MaxRetx, Prohibit, Count}
-use Rattle.air_text.specs.declared.line.LineRefusal.{LineRefusal}
-use Rattle.air_text.specs.declared.line.LineRefusal.TheVariants.{Word}
+use Rattle.air_text.specs.declared.fault.LineRefusal.{LineRefusal}
+use Rattle.air_text.specs.declared.fault.LineRefusal.TheVariants.{Word}
 use Rattle.air_text.specs.Words.{◌>>=◌, before_equals, behind_equals}
 use Rattle.air_text.specs.Fields.{number_of, limit_of, either_of}
 

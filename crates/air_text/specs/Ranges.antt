@@ -1,8 +1,8 @@
 -- The fields of a line in their ranges.
 use Rattle.std.specs.Prelude.{ℕ, ◌≤◌, List, length}
 use Rattle.bearer_types.specs.Configs.{IsConfig}
-use Rattle.air_text.specs.declared.line.Line.{Line}
-use Rattle.air_text.specs.declared.line.Line.TheVariants as lines
+use Rattle.air_record.specs.declared.line.Line.{Line}
+use Rattle.air_record.specs.declared.line.Line.TheVariants as lines
 
 -- an SDU of 1 to 8188 octets
 pub record IsSdu (octets : List ℕ) : Type 0 where

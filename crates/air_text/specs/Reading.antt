@@ -4,10 +4,10 @@ use Rattle.std.specs.Str.{bytes_eq}
 use Rattle.hex.specs.Hex.{decode_of}
 use Rattle.hex.specs.declared.error.FromHexError.{FromHexError}
 use Rattle.eps_sec.specs.declared.keys.Key.{Key}
-use Rattle.air_text.specs.declared.line.Line.{Line}
-use Rattle.air_text.specs.declared.line.Line.TheVariants.{Harq, Bsr, Keys as KeysLine, Bearer, Submit, Tti, Expire, Handover, LoopOff, LoopA, LoopB, Drain, Forge, End, Discard, Drx}
-use Rattle.air_text.specs.declared.line.LineRefusal.{LineRefusal}
-use Rattle.air_text.specs.declared.line.LineRefusal.TheVariants.{Word, Range, Hex, Fields, Long}
+use Rattle.air_record.specs.declared.line.Line.{Line}
+use Rattle.air_record.specs.declared.line.Line.TheVariants.{Harq, Bsr, Keys as KeysLine, Bearer, Submit, Tti, Expire, Handover, LoopOff, LoopA, LoopB, Drain, Forge, End, Discard, Drx}
+use Rattle.air_text.specs.declared.fault.LineRefusal.{LineRefusal}
+use Rattle.air_text.specs.declared.fault.LineRefusal.TheVariants.{Word, Range, Hex, Fields, Long}
 use Rattle.air_text.specs.Words.{◌>>=◌, words_of, is_twice, joined}
 use Rattle.air_text.specs.Fields.{number_of, octets_of, side_of, clock_of, kind_of, outcome_of, cipher_of, word_of}
 use Rattle.air_text.specs.Options.{goes, config_of, options_of}

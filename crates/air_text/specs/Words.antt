@@ -2,9 +2,9 @@
 use Rattle.std.specs.Prelude.{◌≡◌, ℕ, ◌==◌, Bool, true, false, if◌then◌else◌, List, [], ◌∷◌, ◌++◌, length, map, Option, None, Some, Result, Ok, Err}
 use Rattle.std.specs.Borrow.{Bor}
 use Rattle.std.specs.Str.{bytes_eq}
-use Rattle.air_text.specs.declared.line.LineRefusal.{LineRefusal}
-use Rattle.air_text.specs.declared.line.LineFault.{LineFault}
-use Rattle.air_text.specs.declared.line.LineFault.TheVariants as faults
+use Rattle.air_text.specs.declared.fault.LineRefusal.{LineRefusal}
+use Rattle.air_text.specs.declared.fault.LineFault.{LineFault}
+use Rattle.air_text.specs.declared.fault.LineFault.TheVariants as faults
 
 infixl 10 ◌>>=◌
 abbrev pub ◌>>=◌ : {A B : Type 0} → Result A LineRefusal → (A → Result B LineRefusal) → Result B LineRefusal

@@ -5,7 +5,8 @@ ghost use Rattle.air_text.specs.Reading.{key_of};
 ghost use Rattle.std.specs.List.{AllPass, list_all};
 ghost use Rattle.std.specs.Str.{bytes_eq};
 
-use crate::line::{Fate, LineFault, LineRefusal, Outcome};
+use crate::fault::{LineFault, LineRefusal};
+use air_record::{Fate, Outcome};
 use digits::read_hex;
 use eps_sec::{Cipher, Key};
 use l2_bits::Bytes;

@@ -1,19 +1,14 @@
-//! The lines of a script and the records of a journal, and their texts.
+//! The language of scripts and journals: lines read, records printed.
 #![tactic(auto)]
 
-mod events;
+mod fault;
 mod fields;
-mod line;
-mod lines;
-mod naming;
 mod options;
-mod printing;
 mod reading;
-mod record;
-mod word;
 
+pub use air_record::{
+    Arrived, Fate, Lens, Line, NoPlace, Outcome, Record, State, append_record, print, print_line,
+};
+pub use fault::{LineFault, LineRefusal};
 pub use fields::{octets_into, split_word};
-pub use line::{Fate, Line, LineFault, LineRefusal, Outcome};
-pub use printing::{append_record, print, print_line};
 pub use reading::read_line;
-pub use record::{Arrived, Lens, NoPlace, Record, State};

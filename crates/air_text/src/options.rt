@@ -5,8 +5,8 @@ ghost use Rattle.std.specs.Str.{bytes_eq};
 ghost use Rattle.bearer_types.specs.Configs.{IsConfig, AreRlcBits, ArePdcpBits};
 ghost use Rattle.air_text.specs.Fields.{either_of};
 
+use crate::fault::{LineFault, LineRefusal};
 use crate::fields::{either, is_word, limit, number};
-use crate::line::{LineFault, LineRefusal};
 use bearer_types::BearerConfig;
 use l2_bits::{Bytes, NoMemory};
 use l2_types::{AmRxConfig, AmTxConfig, Channel, Kind};

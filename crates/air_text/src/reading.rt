@@ -5,11 +5,12 @@ ghost use Rattle.air_text.specs.Options.{config_of, options_of, goes};
 ghost use Rattle.air_text.specs.Reading.{harq_of, bsr_of, keys_of, bearer_of, submit_of, tti_of, expire_of, handover_of, loop_off_of, loop_a_of, loop_b_of, loop_of, drain_of, forge_of, end_of, discard_of, drx_of, line_of, read_words, read_of};
 ghost use Rattle.std.specs.Str.{bytes_eq};
 
+use crate::fault::{LineFault, LineRefusal};
 use crate::fields::{
     cipher, clock, is_word, key, kind, number, octets, outcome, side, word, words,
 };
-use crate::line::{Line, LineFault, LineRefusal};
 use crate::options::{fits, has_twice, join, options, plain};
+use air_record::Line;
 use eps_sec::Keys;
 use l2_types::DrxConfig;
 use std::alloc::Global;

@@ -6,7 +6,7 @@ use Rattle.air_run.specs.Lines.{lines_ended, tail_of}
 use Rattle.air_run.specs.Journal.{Player, Outcome, Goes, Ends, Refuses, Played, onto, finished, refused, waiting, follow, on_line, on_last, close_by, play, journal_from, journal_by, script, journal_of}
 use Rattle.air_run.specs.Run.{RunState, fresh}
 use Rattle.air_run.specs.declared.refusal.Reason.TheVariants as reasons
-use Rattle.air_text.specs.declared.line.LineRefusal.TheVariants.{Long}
+use Rattle.air_text.specs.declared.fault.LineRefusal.TheVariants.{Long}
 use Rattle.pdu_show.specs.Decoding.{Decoding, undecoded}
 use Rattle.l2_top.specs.declared.engine.LineEnd.{LineEnd}
 use Rattle.l2_top.specs.declared.engine.LineEnd.TheVariants as ends

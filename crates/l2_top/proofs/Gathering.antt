@@ -6,7 +6,7 @@ use Rattle.l2_io.specs.Known.{after, IsFront, HasRisen}
 use Rattle.l2_io.proofs.Written.{after_after}
 use Rattle.l2_io.specs.declared.sink.PutFault.{PutFault}
 use Rattle.l2_io.specs.declared.sink.PutFault.TheVariants.{Failed, NoMemory}
-use Rattle.air_text.specs.Text.{texts_of}
+use Rattle.air_record.specs.Text.{texts_of}
 use Rattle.air_run.specs.Steps.{WritesFront}
 use Rattle.air_run.specs.Journal.{Player, Played, onto, finished, journal_from, journal_by}
 use Rattle.l2_top.specs.declared.playing.Ending.{Ending}

@@ -1,7 +1,7 @@
 use Rattle.std.proofs.Common.{◌≡◌, List, ℕ, [], refl, ap, sym, append-nil}
 use Rattle.std.specs.Prelude.{Option, None, Some}
 use Rattle.l2_io.specs.Known.{after}
-use Rattle.air_text.specs.Text.{texts_of}
+use Rattle.air_record.specs.Text.{texts_of}
 use Rattle.air_run.specs.Steps.{WritesFront}
 use Rattle.air_run.specs.Journal.{Outcome, Goes, Ends, Refuses}
 use Rattle.l2_top.specs.Plays.{HasPart}

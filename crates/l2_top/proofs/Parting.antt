@@ -5,8 +5,8 @@ use Rattle.std.proofs.lemmas.Grind.{flat_map-append}
 use Rattle.l2_io.specs.Known.{before, after}
 use Rattle.l2_io.proofs.Written.{after_after}
 use Rattle.l2_io.proofs.Reading.{before-before, before-nothing}
-use Rattle.air_text.specs.declared.record.Record.{Record}
-use Rattle.air_text.specs.Text.{texts_of}
+use Rattle.air_record.specs.declared.record.Record.{Record}
+use Rattle.air_record.specs.Text.{texts_of}
 use Rattle.air_run.specs.Steps.{WritesFront}
 use Rattle.l2_top.specs.declared.playing.Ending.{Ending}
 use Rattle.l2_top.specs.declared.playing.Ending.TheVariants as endings

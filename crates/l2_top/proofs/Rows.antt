@@ -1,7 +1,7 @@
 -- The rows of the answers.
 use Rattle.std.proofs.Common.{◌≡◌, ℕ, Bool, List, [], sym, append-nil, inl, inr}
 use Rattle.std.specs.Prelude.{Option}
-use Rattle.air_text.specs.Text.{texts_of}
+use Rattle.air_record.specs.Text.{texts_of}
 use Rattle.air_run.specs.Journal.{Played, Refused}
 use Rattle.run_laws.specs.Journals.{EveryJournal}
 use Rattle.run_laws.proofs.Everything.{every-journal}

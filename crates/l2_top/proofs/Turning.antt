@@ -9,9 +9,9 @@ use Rattle.l2_io.specs.declared.lines.Stand.{Stand}
 use Rattle.l2_io.specs.declared.lines.Stand.TheVariants as stands
 use Rattle.l2_io.specs.declared.lines.Turn.{Turn}
 use Rattle.l2_io.specs.declared.lines.Turn.TheVariants as cuts
-use Rattle.air_text.specs.declared.record.Record.{Record}
-use Rattle.air_text.specs.declared.line.LineRefusal.TheVariants.{Long}
-use Rattle.air_text.specs.Text.{texts_of}
+use Rattle.air_record.specs.declared.record.Record.{Record}
+use Rattle.air_text.specs.declared.fault.LineRefusal.TheVariants.{Long}
+use Rattle.air_record.specs.Text.{texts_of}
 use Rattle.air_run.specs.Steps.{WritesFront}
 use Rattle.air_run.specs.declared.refusal.Reason.{Reason}
 use Rattle.air_run.specs.declared.refusal.Reason.TheVariants as reasons

@@ -1,7 +1,7 @@
 -- What plays the lines of an input: the run of a script, or the showing of blocks.
 use Rattle.std.specs.Prelude.{ℕ, Bool, List, [], Option, None, Some, Result, Ok, Err}
-use Rattle.air_text.specs.declared.record.Record.{Record}
-use Rattle.air_text.specs.declared.line.LineRefusal.{LineRefusal}
+use Rattle.air_record.specs.declared.record.Record.{Record}
+use Rattle.air_text.specs.declared.fault.LineRefusal.{LineRefusal}
 use Rattle.air_run.specs.Run.{RunState, finish}
 use Rattle.air_run.specs.Journal.{Player, Outcome, Goes, Ends, Refuses, Played, script, script_line, journal_by}
 use Rattle.air_run.specs.declared.refusal.Reason.TheVariants as reasons

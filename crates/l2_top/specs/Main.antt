@@ -2,9 +2,9 @@
 use Rattle.std.specs.Prelude.{◌≡◌, ◌⊎◌, ℕ, Bool, true, List, [], ◌∷◌, ◌++◌, codes, Option}
 use Rattle.std.specs.Fmt.{decimal}
 use Rattle.l2_io.specs.Known.{before, after, IsFront, IsAtEnd}
-use Rattle.air_text.specs.declared.line.LineRefusal.TheVariants.{Word, Number, Range, Hex, Fields, Long}
+use Rattle.air_text.specs.declared.fault.LineRefusal.TheVariants.{Word, Number, Range, Hex, Fields, Long}
 use Rattle.air_run.specs.declared.refusal.RunRefusal.TheVariants.{UnknownBearer, BearerTwice, ConfiguredLate, Unbuilt}
-use Rattle.air_text.specs.Text.{texts_of}
+use Rattle.air_record.specs.Text.{texts_of}
 use Rattle.air_run.specs.Steps.{WritesFront}
 use Rattle.air_run.specs.Journal.{Finished, Refused, Waiting, Played}
 use Rattle.air_run.specs.declared.refusal.Reason.{Reason}

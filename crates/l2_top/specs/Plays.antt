@@ -3,8 +3,8 @@ use Rattle.std.specs.Prelude.{◌≡◌, ◌⊎◌, ℕ, Bool, true, List, [], O
 use Rattle.l2_io.specs.Known.{before, after, IsAtEnd}
 use Rattle.l2_io.specs.declared.sink.PutFault.{PutFault}
 use Rattle.l2_io.specs.declared.sink.PutFault.TheVariants.{Failed, NoMemory}
-use Rattle.air_text.specs.declared.record.Record.{Record}
-use Rattle.air_text.specs.Text.{texts_of}
+use Rattle.air_record.specs.declared.record.Record.{Record}
+use Rattle.air_record.specs.Text.{texts_of}
 use Rattle.air_run.specs.Steps.{WritesFront}
 use Rattle.air_run.specs.Journal.{Player, Outcome, Goes, Ends, Refuses, Finished, Refused, Waiting, Played, onto, finished, journal_from}
 use Rattle.l2_top.specs.declared.engine.LineEnd.{LineEnd}

@@ -4,10 +4,10 @@ use Rattle.std.specs.Str.{bytes_eq}
 use Rattle.std.proofs.lemmas.Slice.Eq.{bytes_eq-Decides}
 use Rattle.air_text.specs.Words.{words_of, ◌>>=◌}
 use Rattle.air_text.specs.Reading.{read_of, read_words, bearer_of}
-use Rattle.air_text.specs.declared.line.Line.{Line}
-use Rattle.air_text.specs.declared.line.LineRefusal.{LineRefusal}
-use Rattle.air_text.specs.declared.line.LineRefusal.TheVariants.{Long}
-use Rattle.air_text.specs.declared.line.LineFault.{LineFault}
+use Rattle.air_record.specs.declared.line.Line.{Line}
+use Rattle.air_text.specs.declared.fault.LineRefusal.{LineRefusal}
+use Rattle.air_text.specs.declared.fault.LineRefusal.TheVariants.{Long}
+use Rattle.air_text.specs.declared.fault.LineFault.{LineFault}
 use Rattle.pdu_show.specs.declared.entry.Entry.{Entry}
 use Rattle.pdu_show.specs.declared.entry.Head.{Head}
 use Rattle.pdu_show.specs.Entries.{HasEntry, as_entry, bearer_in, entry_of, entry_words}

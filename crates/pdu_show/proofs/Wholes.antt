@@ -3,7 +3,7 @@ use Rattle.std.proofs.Common.{◌≡◌, ◌∙◌, ℕ, Bool, true, false, List
 use Rattle.std.specs.Prelude.{is_some}
 use Rattle.std.specs.Borrow.{Bor}
 use Rattle.std.proofs.lemmas.List.{map-append}
-use Rattle.air_text.specs.declared.record.Record.{Record}
+use Rattle.air_record.specs.declared.record.Record.{Record}
 use Rattle.pdu_show.specs.Show.{whole, whole_by, one_where, listed}
 
 -- the first element, and then the others, of which each begins an SDU

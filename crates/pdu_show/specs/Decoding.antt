@@ -1,13 +1,13 @@
 -- The showing of an input: what it knows between two lines, and what a line does.
 use Rattle.std.specs.Prelude.{◌≡◌, ℕ, ◌+◌, List, [], ◌∷◌, ◌++◌, length, Option, None, Some, Result, Ok, Err}
 use Rattle.bearer_types.specs.declared.config.BearerConfig.{BearerConfig}
-use Rattle.air_text.specs.Text.{texts_of}
+use Rattle.air_record.specs.Text.{texts_of}
 use Rattle.air_text.specs.Words.{◌>>=◌, Fails}
-use Rattle.air_text.specs.declared.line.LineRefusal.{LineRefusal}
-use Rattle.air_text.specs.declared.line.LineFault.{LineFault}
-use Rattle.air_text.specs.declared.line.LineFault.TheVariants as faults
-use Rattle.air_text.specs.declared.record.Record.{Record}
-use Rattle.air_text.specs.declared.record.Record.TheVariants as records
+use Rattle.air_text.specs.declared.fault.LineRefusal.{LineRefusal}
+use Rattle.air_text.specs.declared.fault.LineFault.{LineFault}
+use Rattle.air_text.specs.declared.fault.LineFault.TheVariants as faults
+use Rattle.air_record.specs.declared.record.Record.{Record}
+use Rattle.air_record.specs.declared.record.Record.TheVariants as records
 use Rattle.pdu_show.specs.declared.kinds.Layout.{Layout}
 use Rattle.pdu_show.specs.declared.entry.Entry.{Entry}
 use Rattle.pdu_show.specs.declared.entry.Entry.TheVariants as entries

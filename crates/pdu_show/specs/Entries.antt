@@ -8,11 +8,11 @@ use Rattle.bearer_types.specs.Configs.{IsConfig}
 use Rattle.air_text.specs.Words.{◌>>=◌, words_of, Fails}
 use Rattle.air_text.specs.Fields.{octets_of}
 use Rattle.air_text.specs.Reading.{bearer_of}
-use Rattle.air_text.specs.declared.line.Line.{Line}
-use Rattle.air_text.specs.declared.line.Line.TheVariants.{Bearer}
-use Rattle.air_text.specs.declared.line.LineFault.{LineFault}
-use Rattle.air_text.specs.declared.line.LineRefusal.{LineRefusal}
-use Rattle.air_text.specs.declared.line.LineRefusal.TheVariants.{Word, Fields, Long}
+use Rattle.air_record.specs.declared.line.Line.{Line}
+use Rattle.air_record.specs.declared.line.Line.TheVariants.{Bearer}
+use Rattle.air_text.specs.declared.fault.LineFault.{LineFault}
+use Rattle.air_text.specs.declared.fault.LineRefusal.{LineRefusal}
+use Rattle.air_text.specs.declared.fault.LineRefusal.TheVariants.{Word, Fields, Long}
 use Rattle.pdu_show.specs.declared.entry.Entry.{Entry}
 use Rattle.pdu_show.specs.declared.entry.Entry.TheVariants as entries
 use Rattle.pdu_show.specs.declared.entry.Head.{Head}

@@ -15,8 +15,8 @@ use Rattle.pdcp_pdu.specs.declared.pdu.PdcpKind.{PdcpKind}
 use Rattle.pdcp_pdu.specs.declared.pdu.PdcpKind.TheVariants as pdcp
 use Rattle.pdcp_pdu.specs.Pdus.{UserPdu, Sdu, Report, SrbPdu}
 use Rattle.pdcp_pdu.specs.Reading.{user_at, srb_at}
-use Rattle.air_text.specs.declared.record.Record.{Record}
-use Rattle.air_text.specs.declared.record.Record.TheVariants as records
+use Rattle.air_record.specs.declared.record.Record.{Record}
+use Rattle.air_record.specs.declared.record.Record.TheVariants as records
 use Rattle.pdu_show.specs.declared.kinds.Layout.{Layout}
 use Rattle.pdu_show.specs.declared.kinds.Layout.TheVariants as layouts
 

@@ -1,5 +1,5 @@
 ghost use Rattle.std.specs.Prelude.{◌≡◌, ◌≤◌, ◌<◌, ◌^◌, ◌+◌, ◌++◌, ◌∷◌, [], OnOk, length};
-ghost use Rattle.air_text.specs.Text.{texts_of};
+ghost use Rattle.air_record.specs.Text.{texts_of};
 ghost use Rattle.pdu_show.specs.Show.{block_shown};
 ghost use Rattle.pdu_show.specs.Decoding.{Decodes, undecoded};
 

@@ -7,11 +7,11 @@ use Rattle.l2_types.specs.declared.event.How.TheVariants as hows
 use Rattle.l2_types.specs.declared.event.Waits.TheVariants as waits
 use Rattle.bearer_types.specs.declared.event.Event.TheVariants as events
 use Rattle.mac_pdu.specs.declared.item.Direction.TheVariants.{Down}
-use Rattle.air_text.specs.declared.line.Fate.{Fate}
-use Rattle.air_text.specs.declared.line.Fate.TheVariants as fates
-use Rattle.air_text.specs.declared.record.Arrived.TheVariants as arriveds
-use Rattle.air_text.specs.declared.record.Record.{Record}
-use Rattle.air_text.specs.declared.record.Record.TheVariants as records
+use Rattle.air_record.specs.declared.line.Fate.{Fate}
+use Rattle.air_record.specs.declared.line.Fate.TheVariants as fates
+use Rattle.air_record.specs.declared.record.Arrived.TheVariants as arriveds
+use Rattle.air_record.specs.declared.record.Record.{Record}
+use Rattle.air_record.specs.declared.record.Record.TheVariants as records
 use Rattle.air_text.specs.Notions.{carried}
 use Rattle.air_run.specs.Show.{ups}
 use Rattle.air_run.specs.Run.{fitting, block_of}

@@ -2,11 +2,11 @@
 use Rattle.std.proofs.Common.{◌≡◌, ◌+◌, ◌%◌, ◌==◌, nat_lt, ℕ, Bool, true, false, List, [], ◌∷◌, ◌++◌, length, refl, cond}
 use Rattle.std.specs.Prelude.{slice_set, if◌then◌else◌}
 use Rattle.l2_types.specs.declared.side.Side.TheVariants.{Nb}
-use Rattle.air_text.specs.declared.line.Fate.{Fate}
-use Rattle.air_text.specs.declared.line.Fate.TheVariants as fates
-use Rattle.air_text.specs.declared.record.NoPlace.TheVariants as places
-use Rattle.air_text.specs.declared.record.Record.{Record}
-use Rattle.air_text.specs.declared.record.Record.TheVariants as records
+use Rattle.air_record.specs.declared.line.Fate.{Fate}
+use Rattle.air_record.specs.declared.line.Fate.TheVariants as fates
+use Rattle.air_record.specs.declared.record.NoPlace.TheVariants as places
+use Rattle.air_record.specs.declared.record.Record.{Record}
+use Rattle.air_record.specs.declared.record.Record.TheVariants as records
 use Rattle.air_text.specs.Notions.{carried}
 use Rattle.air_run.specs.Run.{RunState, submits, begins, fitting, block_of, writes, sends, lands, downlink, tti}
 use Rattle.run_laws.specs.Order.{flight}

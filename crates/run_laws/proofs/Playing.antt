@@ -1,8 +1,8 @@
 -- The journal of a script is the history of groups that the notions expect, and the sums at its end.
 use Rattle.std.proofs.Common.{◌≡◌, ◌+◌, ◌==◌, ◌∙◌, nat_lt, ℕ, Bool, true, false, List, [], ◌∷◌, ◌++◌, length, refl, ap, sym, cond, append-nil, append_assoc}
 use Rattle.l2_io.specs.Feeds.{without_return}
-use Rattle.air_text.specs.declared.line.LineRefusal.TheVariants.{Long}
-use Rattle.air_text.specs.declared.record.Record.{Record}
+use Rattle.air_text.specs.declared.fault.LineRefusal.TheVariants.{Long}
+use Rattle.air_record.specs.declared.record.Record.{Record}
 use Rattle.air_run.specs.declared.refusal.Reason.TheVariants as reasons
 use Rattle.air_run.specs.Lines.{lines_ended, tail_of}
 use Rattle.air_run.specs.Run.{RunState, fresh, finish}

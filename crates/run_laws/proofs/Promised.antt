@@ -15,14 +15,14 @@ use Rattle.mac_pdu.specs.declared.fault.MacRefusal.{MacRefusal}
 use Rattle.mac_pdu.specs.Items.{MacItem, front, element, sdu, padding}
 use Rattle.mac_pdu.specs.Reading.{reading}
 use Rattle.air_text.specs.Ranges.{IsInRange, IsSdu}
-use Rattle.air_text.specs.declared.line.Fate.{Fate}
-use Rattle.air_text.specs.declared.line.Fate.TheVariants as fates
-use Rattle.air_text.specs.declared.line.Outcome.{Outcome}
-use Rattle.air_text.specs.declared.line.Line.{Line}
-use Rattle.air_text.specs.declared.line.Line.TheVariants as lines
-use Rattle.air_text.specs.declared.record.NoPlace.TheVariants as places
-use Rattle.air_text.specs.declared.record.Record.{Record}
-use Rattle.air_text.specs.declared.record.Record.TheVariants as records
+use Rattle.air_record.specs.declared.line.Fate.{Fate}
+use Rattle.air_record.specs.declared.line.Fate.TheVariants as fates
+use Rattle.air_record.specs.declared.line.Outcome.{Outcome}
+use Rattle.air_record.specs.declared.line.Line.{Line}
+use Rattle.air_record.specs.declared.line.Line.TheVariants as lines
+use Rattle.air_record.specs.declared.record.NoPlace.TheVariants as places
+use Rattle.air_record.specs.declared.record.Record.{Record}
+use Rattle.air_record.specs.declared.record.Record.TheVariants as records
 use Rattle.air_text.specs.Notions.{carried}
 use Rattle.air_run.specs.Show.{shown, shown_by, shown_items, ups}
 use Rattle.air_run.specs.Run.{fitting, block_of}

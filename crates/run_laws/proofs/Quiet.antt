@@ -9,9 +9,9 @@ use Rattle.mac_pdu.specs.declared.item.Direction.TheVariants.{Down}
 use Rattle.mac_pdu.specs.declared.fault.MacRefusal.{MacRefusal}
 use Rattle.mac_pdu.specs.Items.{MacItem, front, element, sdu, padding}
 use Rattle.mac_pdu.specs.Reading.{reading}
-use Rattle.air_text.specs.declared.line.Fate.{Fate}
-use Rattle.air_text.specs.declared.record.Record.{Record}
-use Rattle.air_text.specs.declared.record.Record.TheVariants as records
+use Rattle.air_record.specs.declared.line.Fate.{Fate}
+use Rattle.air_record.specs.declared.record.Record.{Record}
+use Rattle.air_record.specs.declared.record.Record.TheVariants as records
 use Rattle.air_run.specs.Show.{shown, shown_by, shown_items, shown_item, ups}
 use Rattle.air_run.specs.Run.{fitting, block_of}
 use Rattle.run_laws.specs.Order.{sending, landing, flight}

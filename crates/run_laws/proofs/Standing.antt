@@ -8,11 +8,11 @@ use Rattle.std.proofs.lemmas.Grind.{common_steps}
 use Rattle.l2_types.specs.declared.side.Side.TheVariants.{Nb, Ue}
 use Rattle.bearer_types.specs.declared.config.BearerConfig.{BearerConfig}
 use Rattle.air_text.specs.Ranges.{IsSdu}
-use Rattle.air_text.specs.declared.line.Fate.{Fate}
-use Rattle.air_text.specs.declared.line.Fate.TheVariants as fates
-use Rattle.air_text.specs.declared.line.Outcome.{Outcome}
-use Rattle.air_text.specs.declared.line.Line.{Line}
-use Rattle.air_text.specs.declared.line.Line.TheVariants as lines
+use Rattle.air_record.specs.declared.line.Fate.{Fate}
+use Rattle.air_record.specs.declared.line.Fate.TheVariants as fates
+use Rattle.air_record.specs.declared.line.Outcome.{Outcome}
+use Rattle.air_record.specs.declared.line.Line.{Line}
+use Rattle.air_record.specs.declared.line.Line.TheVariants as lines
 use Rattle.air_text.specs.Notions.{carried}
 use Rattle.air_run.specs.Run.{RunState, fresh, fitting, block_of}
 use Rattle.air_text.specs.Groups.{Group}

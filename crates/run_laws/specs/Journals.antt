@@ -4,7 +4,7 @@ use Rattle.air_run.specs.Journal.{journal_of}
 use Rattle.run_laws.specs.Promises.{IsPromised}
 use Rattle.air_text.specs.Reading.{read_of}
 use Rattle.air_text.specs.Ranges.{IsInRange}
-use Rattle.air_text.specs.declared.line.Line.{Line}
+use Rattle.air_record.specs.declared.line.Line.{Line}
 
 -- the fields of a line that is read are in their ranges
 abbrev pub LinesAreInRange : Type 0

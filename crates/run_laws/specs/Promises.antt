@@ -5,12 +5,12 @@ use Rattle.mac_pdu.specs.declared.item.Direction.TheVariants.{Down}
 use Rattle.mac_pdu.specs.Grammar.{MacPdu}
 use Rattle.mac_pdu.specs.Items.{MacItem}
 use Rattle.mac_pdu.specs.Writing.{canonical}
-use Rattle.air_text.specs.declared.line.Fate.{Fate}
-use Rattle.air_text.specs.declared.line.Fate.TheVariants as fates
-use Rattle.air_text.specs.declared.line.Line.{Line}
-use Rattle.air_text.specs.declared.line.Line.TheVariants as lines
-use Rattle.air_text.specs.declared.record.Arrived.TheVariants as arriveds
-use Rattle.air_text.specs.declared.record.Record.{Record}
+use Rattle.air_record.specs.declared.line.Fate.{Fate}
+use Rattle.air_record.specs.declared.line.Fate.TheVariants as fates
+use Rattle.air_record.specs.declared.line.Line.{Line}
+use Rattle.air_record.specs.declared.line.Line.TheVariants as lines
+use Rattle.air_record.specs.declared.record.Arrived.TheVariants as arriveds
+use Rattle.air_record.specs.declared.record.Record.{Record}
 use Rattle.air_run.specs.Show.{shown, shown_items}
 use Rattle.air_run.specs.Run.{fitting, items_by}
 use Rattle.air_run.specs.Journal.{Played}

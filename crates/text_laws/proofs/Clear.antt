@@ -5,7 +5,7 @@ use Rattle.std.specs.Fmt.{decimal}
 use Rattle.std.proofs.lemmas.Fmt.{digits_decimal}
 use Rattle.std.proofs.lemmas.Bool.{and_parts}
 use Rattle.hex.specs.Hex.{encode_lower, encode_with, lower_digits}
-use Rattle.air_text.specs.Text.{count_text, bitmap_text}
+use Rattle.air_record.specs.Text.{count_text, bitmap_text}
 use Rattle.text_laws.specs.Back.{is_clear, IsCount}
 use Rattle.text_laws.proofs.Parts.{own}
 

@@ -1,7 +1,7 @@
 use Rattle.std.proofs.Common.{◌≡◌, ℕ, List, refl}
 use Rattle.bearer_types.specs.declared.event.Event.{Event}
 use Rattle.bearer_types.specs.declared.event.Event.TheVariants.{Take, Report, Send, Wait, Start, Stop, Expired, Up, Fail, Discard, Drop, Integrity, BadMac, BadRlc, BadPdcp}
-use Rattle.air_text.specs.Text.{event_words, mac_number, rlc_number, pdcp_number}
+use Rattle.air_record.specs.Text.{event_words, mac_number, rlc_number, pdcp_number}
 use Rattle.text_laws.specs.Back.{event_back, IsGoodEvent}
 use Rattle.text_laws.proofs.Parts.{back-number, back-octets, back-clock, back-how, back-waits, back-lost, back-count, back-bitmap, back-mac, back-rlc, back-pdcp, small-mac, small-rlc, small-pdcp}
 

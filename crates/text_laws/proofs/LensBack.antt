@@ -4,7 +4,7 @@ use Rattle.std.specs.Str.{all_ascii_digits}
 use Rattle.std.specs.Fmt.{decimal}
 use Rattle.std.proofs.lemmas.Fmt.{digits_decimal}
 use Rattle.std.proofs.lemmas.Bool.{and_parts}
-use Rattle.air_text.specs.Text.{comma_before, lens_text, framing_text}
+use Rattle.air_record.specs.Text.{comma_before, lens_text, framing_text}
 use Rattle.text_laws.specs.Back.{number_back, is_clear}
 use Rattle.text_laws.specs.Lens.{cut_by, is_free, lens_back, AreNumbers, AreLens, framing_back}
 use Rattle.text_laws.proofs.Parts.{own, back-number}

@@ -11,10 +11,10 @@ use Rattle.l2_types.specs.declared.side.Side.{Side}
 use Rattle.l2_types.specs.declared.side.Side.TheVariants.{Ue, Nb}
 use Rattle.l2_types.specs.declared.event.Clock.{Clock}
 use Rattle.l2_types.specs.declared.event.Clock.TheVariants as clocks
-use Rattle.air_text.specs.declared.line.Fate.{Fate}
-use Rattle.air_text.specs.declared.line.Fate.TheVariants as fates
-use Rattle.air_text.specs.declared.line.Line.{Line}
-use Rattle.air_text.specs.declared.line.Line.TheVariants as lines
+use Rattle.air_record.specs.declared.line.Fate.{Fate}
+use Rattle.air_record.specs.declared.line.Fate.TheVariants as fates
+use Rattle.air_record.specs.declared.line.Line.{Line}
+use Rattle.air_record.specs.declared.line.Line.TheVariants as lines
 use Rattle.l2_types.specs.declared.channel.Kind.{Kind}
 use Rattle.l2_types.specs.declared.channel.Kind.TheVariants as kinds
 use Rattle.eps_sec.specs.declared.keys.Cipher.{Cipher}
@@ -24,7 +24,7 @@ use Rattle.bearer_types.specs.declared.config.BearerConfig.{BearerConfig}
 use Rattle.air_text.specs.Fields.{cipher_of, kind_of, is_digit, is_number, value_behind, number_of, octets_of, side_of, clock_of, outcome_of, word_of}
 use Rattle.air_text.specs.Reading.{key_of, keys_of, handover_of, bearer_of, read_words, harq_of, bsr_of, submit_of, tti_of, expire_of, loop_of, loop_off_of, loop_a_of, loop_b_of, drain_of, forge_of, end_of, discard_of, drx_of}
 use Rattle.text_laws.specs.Lines.{IsGoodBearer, IsGoodLine, spoken}
-use Rattle.air_text.specs.Text.{cipher_text, kind_text, side_text, clock_text, fate_text}
+use Rattle.air_record.specs.Text.{cipher_text, kind_text, side_text, clock_text, fate_text}
 
 own-line : IsNumeralModel (λ ds. list_all is_digit ds ≡ true) (value_behind 0)
 own-line = numerals_by_fold _ (search rules) value_behind (search (rules, arith))

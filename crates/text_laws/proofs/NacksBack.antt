@@ -5,7 +5,7 @@ use Rattle.std.specs.Fmt.{decimal}
 use Rattle.std.proofs.lemmas.Fmt.{digits_decimal}
 use Rattle.rlc_pdu.specs.declared.pdu.Part.{Part}
 use Rattle.rlc_pdu.specs.declared.pdu.Nack.{Nack}
-use Rattle.air_text.specs.Text.{comma_before, part_text, nack_text, nacks_text}
+use Rattle.air_record.specs.Text.{comma_before, part_text, nack_text, nacks_text}
 use Rattle.text_laws.specs.Back.{is_clear}
 use Rattle.text_laws.specs.Lens.{cut_by, is_free, part_of, nack_back, nacks_back, IsGoodPart, IsGoodNack, AreGoodNacks}
 use Rattle.text_laws.proofs.Parts.{own, back-number, no-dash, two-dash}

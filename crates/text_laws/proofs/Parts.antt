@@ -19,7 +19,7 @@ use Rattle.rlc_pdu.specs.declared.fault.RlcWhy.{RlcWhy}
 use Rattle.rlc_pdu.specs.declared.fault.RlcWhy.TheVariants as rlcs
 use Rattle.pdcp_pdu.specs.declared.pdu.PdcpWhy.{PdcpWhy}
 use Rattle.pdcp_pdu.specs.declared.pdu.PdcpWhy.TheVariants as pdcps
-use Rattle.air_text.specs.Text.{mac_number, rlc_number, pdcp_number, lost_text, clock_text, how_text, waits_text, bitmap_text, count_text}
+use Rattle.air_record.specs.Text.{mac_number, rlc_number, pdcp_number, lost_text, clock_text, how_text, waits_text, bitmap_text, count_text}
 use Rattle.text_laws.specs.Back.{digits_on, number_back, octets_in, octets_back, bitmap_back, count_back, clock_back, how_back, waits_back, lost_back, mac_back, rlc_back, pdcp_back, IsCount}
 
 pub own : IsNumeralModel (λ ds. all_ascii_digits ds ≡ true) (digits_on 0)

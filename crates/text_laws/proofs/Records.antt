@@ -10,19 +10,19 @@ use Rattle.mac_pdu.specs.declared.item.Control.TheVariants as controls
 use Rattle.hex.specs.Hex.{IsBytes}
 use Rattle.bearer_types.specs.declared.event.Event.{Event}
 use Rattle.bearer_types.specs.declared.event.Event.TheVariants as events
-use Rattle.air_text.specs.declared.record.Arrived.{Arrived}
-use Rattle.air_text.specs.declared.record.Arrived.TheVariants as arriveds
-use Rattle.air_text.specs.declared.record.NoPlace.{NoPlace}
-use Rattle.air_text.specs.declared.record.NoPlace.TheVariants as places
-use Rattle.air_text.specs.declared.record.State.{State}
-use Rattle.air_text.specs.declared.record.State.TheVariants as states
+use Rattle.air_record.specs.declared.record.Arrived.{Arrived}
+use Rattle.air_record.specs.declared.record.Arrived.TheVariants as arriveds
+use Rattle.air_record.specs.declared.record.NoPlace.{NoPlace}
+use Rattle.air_record.specs.declared.record.NoPlace.TheVariants as places
+use Rattle.air_record.specs.declared.record.State.{State}
+use Rattle.air_record.specs.declared.record.State.TheVariants as states
 use Rattle.std.specs.Fmt.{decimal}
-use Rattle.air_text.specs.declared.line.Line.{Line as Lines}
+use Rattle.air_record.specs.declared.line.Line.{Line as Lines}
 use Rattle.text_laws.specs.Lines.{IsGoodLine, spoken, line_back}
 use Rattle.text_laws.proofs.LinesBack.{back-line}
-use Rattle.air_text.specs.declared.record.Record.{Record}
-use Rattle.air_text.specs.declared.record.Record.TheVariants.{Line, Tti, Of, Block, Air, Refused, Looped, Drained, Spent, Sum, MacFront, MacSdu, MacPad, MacControl, RlcTm, RlcUm, RlcAm, RlcSeg, RlcStatus, PdcpData, PdcpSrb, PdcpReport, Shown, BadMac, BadRlc, BadPdcp, Sleep}
-use Rattle.air_text.specs.Text.{side_text, direction_text, fresh_text, arrived_text, heard_text, place_text, state_text, bit_text, mac_number, rlc_number, pdcp_number, event_words, bsr_words, control_words, record_words}
+use Rattle.air_record.specs.declared.record.Record.{Record}
+use Rattle.air_record.specs.declared.record.Record.TheVariants.{Line, Tti, Of, Block, Air, Refused, Looped, Drained, Spent, Sum, MacFront, MacSdu, MacPad, MacControl, RlcTm, RlcUm, RlcAm, RlcSeg, RlcStatus, PdcpData, PdcpSrb, PdcpReport, Shown, BadMac, BadRlc, BadPdcp, Sleep}
+use Rattle.air_record.specs.Text.{side_text, direction_text, fresh_text, arrived_text, heard_text, place_text, state_text, bit_text, mac_number, rlc_number, pdcp_number, event_words, bsr_words, control_words, record_words}
 use Rattle.text_laws.specs.Back.{event_back, IsGoodEvent}
 use Rattle.text_laws.specs.Records.{side_back, direction_back, fresh_back, arrived_back, heard_back, place_back, state_back, bit_back, record_back, IsGoodReport, IsGoodControl, IsGood}
 use Rattle.text_laws.proofs.Parts.{back-number, back-octets, back-bitmap, back-mac, back-rlc, back-pdcp, small-mac, small-rlc, small-pdcp}

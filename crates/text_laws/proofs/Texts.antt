@@ -17,15 +17,15 @@ use Rattle.l2_types.specs.declared.event.Lost.{Lost}
 use Rattle.l2_types.specs.declared.event.Lost.TheVariants as losts
 use Rattle.bearer_types.specs.declared.event.Event.{Event}
 use Rattle.bearer_types.specs.declared.event.Event.TheVariants as events
-use Rattle.air_text.specs.declared.record.Arrived.{Arrived}
-use Rattle.air_text.specs.declared.record.Arrived.TheVariants as arriveds
-use Rattle.air_text.specs.declared.record.NoPlace.{NoPlace}
-use Rattle.air_text.specs.declared.record.NoPlace.TheVariants as places
-use Rattle.air_text.specs.declared.record.State.{State}
-use Rattle.air_text.specs.declared.record.State.TheVariants as states
-use Rattle.air_text.specs.declared.record.Record.{Record}
-use Rattle.air_text.specs.declared.record.Record.TheVariants.{Line, Tti, Of, Block, Air, Refused, Looped, Drained, Spent, Sum, MacFront, MacSdu, MacPad, MacControl, RlcTm, RlcUm, RlcAm, RlcSeg, RlcStatus, PdcpData, PdcpSrb, PdcpReport, Shown, BadMac, BadRlc, BadPdcp, Sleep}
-use Rattle.air_text.specs.Text.{worded, ended, text_of, accepted_text, line_words, bearer_words, kind_text, cipher_text, fate_text, side_text, clock_text, how_text, waits_text, lost_text, direction_text, fresh_text, arrived_text, heard_text, place_text, state_text, bit_text, mac_number, rlc_number, pdcp_number, event_words, bsr_words, control_words}
+use Rattle.air_record.specs.declared.record.Arrived.{Arrived}
+use Rattle.air_record.specs.declared.record.Arrived.TheVariants as arriveds
+use Rattle.air_record.specs.declared.record.NoPlace.{NoPlace}
+use Rattle.air_record.specs.declared.record.NoPlace.TheVariants as places
+use Rattle.air_record.specs.declared.record.State.{State}
+use Rattle.air_record.specs.declared.record.State.TheVariants as states
+use Rattle.air_record.specs.declared.record.Record.{Record}
+use Rattle.air_record.specs.declared.record.Record.TheVariants.{Line, Tti, Of, Block, Air, Refused, Looped, Drained, Spent, Sum, MacFront, MacSdu, MacPad, MacControl, RlcTm, RlcUm, RlcAm, RlcSeg, RlcStatus, PdcpData, PdcpSrb, PdcpReport, Shown, BadMac, BadRlc, BadPdcp, Sleep}
+use Rattle.air_record.specs.Text.{worded, ended, text_of, accepted_text, line_words, bearer_words, kind_text, cipher_text, fate_text, side_text, clock_text, how_text, waits_text, lost_text, direction_text, fresh_text, arrived_text, heard_text, place_text, state_text, bit_text, mac_number, rlc_number, pdcp_number, event_words, bsr_words, control_words}
 use Rattle.text_laws.specs.Back.{is_clear, are_clear, cut, IsGoodEvent}
 use Rattle.text_laws.specs.Records.{record_back, IsGoodReport, IsGoodControl, IsGood}
 use Rattle.text_laws.proofs.Cuts.{cut-text}
@@ -37,10 +37,10 @@ use Rattle.l2_types.specs.declared.channel.Kind.{Kind}
 use Rattle.l2_types.specs.declared.channel.Kind.TheVariants as kinds
 use Rattle.eps_sec.specs.declared.keys.Cipher.{Cipher}
 use Rattle.eps_sec.specs.declared.keys.Cipher.TheVariants as ciphers
-use Rattle.air_text.specs.declared.line.Fate.{Fate}
-use Rattle.air_text.specs.declared.line.Fate.TheVariants as fates
-use Rattle.air_text.specs.declared.line.Line.{Line as Lines}
-use Rattle.air_text.specs.declared.line.Line.TheVariants as lines
+use Rattle.air_record.specs.declared.line.Fate.{Fate}
+use Rattle.air_record.specs.declared.line.Fate.TheVariants as fates
+use Rattle.air_record.specs.declared.line.Line.{Line as Lines}
+use Rattle.air_record.specs.declared.line.Line.TheVariants as lines
 use Rattle.air_text.specs.Words.{joined, spaced}
 use Rattle.text_laws.proofs.Parts.{small-mac, small-rlc, small-pdcp}
 use Rattle.text_laws.proofs.LensBack.{clear-lens, clear-framing}

@@ -5,13 +5,13 @@ use Rattle.hex.specs.Hex.{IsBytes}
 use Rattle.eps_sec.specs.declared.keys.Key.{Key}
 use Rattle.l2_types.specs.declared.config.DrxConfig.{DrxConfig}
 use Rattle.bearer_types.specs.declared.config.BearerConfig.{BearerConfig}
-use Rattle.air_text.specs.declared.line.Line.{Line}
-use Rattle.air_text.specs.declared.line.Line.TheVariants as lines
-use Rattle.air_text.specs.declared.line.LineRefusal.{LineRefusal}
+use Rattle.air_record.specs.declared.line.Line.{Line}
+use Rattle.air_record.specs.declared.line.Line.TheVariants as lines
+use Rattle.air_text.specs.declared.fault.LineRefusal.{LineRefusal}
 use Rattle.air_text.specs.Words.{is_twice, joined}
 use Rattle.air_text.specs.Options.{goes, config_of, options_of}
 use Rattle.air_text.specs.Reading.{read_words}
-use Rattle.air_text.specs.Text.{kind_text, line_words}
+use Rattle.air_record.specs.Text.{kind_text, line_words}
 use Rattle.text_laws.specs.Back.{are_clear}
 
 abbrev pub IsGoodKey : Key → Type 0

@@ -10,14 +10,14 @@ use Rattle.mac_pdu.specs.declared.item.Bsr.{Bsr}
 use Rattle.mac_pdu.specs.declared.item.Bsr.TheVariants as bsrs
 use Rattle.mac_pdu.specs.declared.item.Control.{Control}
 use Rattle.mac_pdu.specs.declared.item.Control.TheVariants as controls
-use Rattle.air_text.specs.declared.record.Arrived.{Arrived}
-use Rattle.air_text.specs.declared.record.Arrived.TheVariants as arriveds
-use Rattle.air_text.specs.declared.record.NoPlace.{NoPlace}
-use Rattle.air_text.specs.declared.record.NoPlace.TheVariants as places
-use Rattle.air_text.specs.declared.record.State.{State}
-use Rattle.air_text.specs.declared.record.State.TheVariants as states
-use Rattle.air_text.specs.declared.record.Record.{Record}
-use Rattle.air_text.specs.declared.record.Record.TheVariants.{Line, Tti, Of, Block, Air, Refused, Looped, Drained, Spent, Sum, MacFront, MacSdu, MacPad, MacControl, RlcTm, RlcUm, RlcAm, RlcSeg, RlcStatus, PdcpData, PdcpSrb, PdcpReport, Shown, BadMac, BadRlc, BadPdcp, Sleep}
+use Rattle.air_record.specs.declared.record.Arrived.{Arrived}
+use Rattle.air_record.specs.declared.record.Arrived.TheVariants as arriveds
+use Rattle.air_record.specs.declared.record.NoPlace.{NoPlace}
+use Rattle.air_record.specs.declared.record.NoPlace.TheVariants as places
+use Rattle.air_record.specs.declared.record.State.{State}
+use Rattle.air_record.specs.declared.record.State.TheVariants as states
+use Rattle.air_record.specs.declared.record.Record.{Record}
+use Rattle.air_record.specs.declared.record.Record.TheVariants.{Line, Tti, Of, Block, Air, Refused, Looped, Drained, Spent, Sum, MacFront, MacSdu, MacPad, MacControl, RlcTm, RlcUm, RlcAm, RlcSeg, RlcStatus, PdcpData, PdcpSrb, PdcpReport, Shown, BadMac, BadRlc, BadPdcp, Sleep}
 use Rattle.text_laws.specs.Back.{cut, number_back, octets_back, bitmap_back, event_back, mac_back, rlc_back, pdcp_back, IsGoodEvent}
 use Rattle.text_laws.specs.Lines.{IsGoodLine, line_back}
 use Rattle.text_laws.specs.Lens.{lens_back, nacks_back, framing_back, AreLens, AreGoodNacks}

@@ -1,7 +1,7 @@
 ghost use Rattle.std.specs.Prelude.{◌≡◌, List, ℕ, [], ◌∷◌, true};
 ghost use Rattle.bearer_types.specs.declared.event.Event.{Event};
-ghost use Rattle.air_text.specs.Text.{worded, text_of, event_words};
-ghost use Rattle.air_text.specs.declared.record.Record.{Record};
+ghost use Rattle.air_record.specs.Text.{worded, text_of, event_words};
+ghost use Rattle.air_record.specs.declared.record.Record.{Record};
 ghost use Rattle.text_laws.specs.Records.{read_text, IsGood};
 ghost use Rattle.text_laws.specs.Back.{event_back, IsGoodEvent, cut, are_clear};
 

@@ -1,5 +1,5 @@
 use Rattle.std.proofs.Common.{◌≡◌, ◌++◌, take}
-use Rattle.air_text.specs.Text.{texts_of}
+use Rattle.air_record.specs.Text.{texts_of}
 use Rattle.air_run.proofs.run.append_texts.Given as goal
 
 abbrev pub invariant-loop-record : goal.invariant-loop-record

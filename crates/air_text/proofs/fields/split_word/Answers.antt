@@ -1,5 +1,5 @@
-use Rattle.std.proofs.Common.{◌≡◌, ◌∙◌, sym, ap, arith, rules, refl}
-use Rattle.air_text.proofs.Splits.{no-word, one-word, first-word}
+use Rattle.std.proofs.Common.{◌∙◌, sym, rules}
+use Rattle.air_text.proofs.Splits.{one-word, first-word}
 use Rattle.air_text.proofs.fields.split_word.Goals as goal
 
 pub returns-in-None : goal.returns-in-None

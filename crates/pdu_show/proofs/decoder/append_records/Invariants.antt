@@ -1,5 +1,5 @@
 use Rattle.std.proofs.Common.{◌≡◌, ◌++◌, length}
-use Rattle.air_text.specs.Text.{texts_of}
+use Rattle.air_record.specs.Text.{texts_of}
 use Rattle.pdu_show.proofs.decoder.append_records.Given as goal
 
 abbrev pub invariant-loop-one : goal.invariant-loop-one

@@ -1,6 +1,6 @@
 use Rattle.std.proofs.Common.{◌≡◌, ◌++◌, map, drop}
-use Rattle.air_text.specs.Text.{ended, word_text}
-use Rattle.air_text.proofs.word.append_words.Given as goal
+use Rattle.air_record.specs.Text.{ended, word_text}
+use Rattle.air_record.proofs.word.append_words.Given as goal
 
 abbrev pub invariant-loop-word : goal.invariant-loop-word
 invariant-loop-word l = l.text ++ ended (map word_text (drop l.word-index l.more)) ≡ l.initial.text ++ ended (map word_text l.initial.more)

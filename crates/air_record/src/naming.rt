@@ -1,5 +1,5 @@
 ghost use Rattle.std.specs.Prelude.{◌≡◌};
-ghost use Rattle.air_text.specs.Text.{side_text, kind_text, clock_text, cipher_text, how_text, waits_text, direction_text, arrived_text, place_text, state_text, fate_text, outcome_text, heard_text, fresh_text, lost_text, bit_text, framing_text, mac_number, rlc_number, pdcp_number};
+ghost use Rattle.air_record.specs.Text.{side_text, kind_text, clock_text, cipher_text, how_text, waits_text, direction_text, arrived_text, place_text, state_text, fate_text, outcome_text, heard_text, fresh_text, lost_text, bit_text, framing_text, mac_number, rlc_number, pdcp_number};
 
 use crate::line::{Fate, Outcome};
 use crate::record::{Arrived, NoPlace, State};

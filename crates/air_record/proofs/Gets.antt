@@ -1,5 +1,5 @@
 -- What stands from a place of a list on.
-use Rattle.std.proofs.Common.{◌≡◌, ◌+◌, ℕ, List, [], ◌∷◌, zero, suc, drop, slice_get, Option, Some, None, ap, add-one, arith}
+use Rattle.std.proofs.Common.{◌≡◌, ◌+◌, ℕ, List, [], ◌∷◌, zero, suc, drop, slice_get, Some, arith}
 
 pub drop-get : {A : Type 0} (xs : List A) (i : ℕ) (x : A) → slice_get xs i ≡ Some x → drop i xs ≡ x ∷ drop (i + 1) xs
 drop-get [] i x e = cc

@@ -33,21 +33,21 @@ use Rattle.pdcp_pdu.specs.declared.pdu.PdcpWhy.{PdcpWhy}
 use Rattle.pdcp_pdu.specs.declared.pdu.PdcpWhy.TheVariants as pdcps
 use Rattle.bearer_types.specs.declared.event.Event.{Event}
 use Rattle.bearer_types.specs.declared.event.Event.TheVariants as events
-use Rattle.air_text.specs.declared.line.Fate.{Fate}
-use Rattle.air_text.specs.declared.line.Fate.TheVariants as fates
-use Rattle.air_text.specs.declared.line.Outcome.{Outcome}
-use Rattle.air_text.specs.declared.line.Line.{Line}
-use Rattle.air_text.specs.declared.line.Line.TheVariants as lines
-use Rattle.air_text.specs.declared.record.Arrived.{Arrived}
-use Rattle.air_text.specs.declared.record.Arrived.TheVariants as arriveds
-use Rattle.air_text.specs.declared.record.NoPlace.{NoPlace}
-use Rattle.air_text.specs.declared.record.NoPlace.TheVariants as places
-use Rattle.air_text.specs.declared.record.State.{State}
-use Rattle.air_text.specs.declared.record.State.TheVariants as states
-use Rattle.air_text.specs.declared.record.Record.{Record}
-use Rattle.air_text.specs.declared.record.Record.TheVariants as records
-use Rattle.air_text.specs.declared.word.Word.{Word}
-use Rattle.air_text.specs.declared.word.Word.TheVariants as words
+use Rattle.air_record.specs.declared.line.Fate.{Fate}
+use Rattle.air_record.specs.declared.line.Fate.TheVariants as fates
+use Rattle.air_record.specs.declared.line.Outcome.{Outcome}
+use Rattle.air_record.specs.declared.line.Line.{Line}
+use Rattle.air_record.specs.declared.line.Line.TheVariants as lines
+use Rattle.air_record.specs.declared.record.Arrived.{Arrived}
+use Rattle.air_record.specs.declared.record.Arrived.TheVariants as arriveds
+use Rattle.air_record.specs.declared.record.NoPlace.{NoPlace}
+use Rattle.air_record.specs.declared.record.NoPlace.TheVariants as places
+use Rattle.air_record.specs.declared.record.State.{State}
+use Rattle.air_record.specs.declared.record.State.TheVariants as states
+use Rattle.air_record.specs.declared.record.Record.{Record}
+use Rattle.air_record.specs.declared.record.Record.TheVariants as records
+use Rattle.air_record.specs.declared.word.Word.{Word}
+use Rattle.air_record.specs.declared.word.Word.TheVariants as words
 
 -- words with a space before each, and a line feed at the end
 abbrev pub ended : List (List ℕ) → List ℕ

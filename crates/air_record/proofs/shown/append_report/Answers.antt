@@ -1,4 +1,4 @@
-use Rattle.air_text.proofs.printing.append_status.Goals as goal
+use Rattle.air_record.proofs.shown.append_report.Goals as goal
 
 pub returns : goal.returns
 returns c = rw c.number.ensures at c.append_words.ensures

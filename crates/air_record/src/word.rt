@@ -1,5 +1,5 @@
-ghost use Rattle.std.specs.Prelude.{◌≡◌, ◌<◌, ◌+◌, ◌++◌, ◌∷◌, OnOk, map, drop, length};
-ghost use Rattle.air_text.specs.Text.{worded, ended, word_text, lens_text, nacks_text, nack_text, comma_before, count_text, bitmap_text};
+ghost use Rattle.std.specs.Prelude.{◌≡◌, ◌<◌, ◌+◌, ◌++◌, ◌∷◌, [], OnOk, map, drop, length};
+ghost use Rattle.air_record.specs.Text.{worded, ended, word_text, lens_text, nacks_text, nack_text, comma_before, count_text, bitmap_text};
 ghost use Rattle.std.specs.Fmt.{decimal};
 
 use crate::record::Lens;
@@ -148,4 +148,11 @@ pub fn append_words(text: &mut Bytes, words: &[Word<'_>]) -> Result<(), NoMemory
         append_word(text, *word)?;
     }
     text.append(b"\n")
+}
+
+/// A name and a number, and a line feed.
+pub fn append_counted(text: &mut Bytes, name: &'static str, count: u64) -> Result<(), NoMemory>
+    ensures { OnOk result (text.new ≡ text.old ++ worded (name.now ∷ decimal count ∷ [])) }
+{
+    append_words(text, &[Word::Plain(name), Word::Number(count)])
 }

@@ -1,0 +1,245 @@
+ghost use Rattle.std.specs.Prelude.{◌≡◌, ◌++◌, ◌∷◌, [], ℕ, List, OnOk, map, codes};
+ghost use Rattle.air_record.specs.Text.{worded, event_words, side_text, count_text, bitmap_text, how_text, mac_number};
+ghost use Rattle.hex.specs.Hex.{encode_lower};
+ghost use Rattle.std.specs.Fmt.{decimal};
+
+use crate::naming::{
+    clock_word, how_word, lost_word, mac_why, pdcp_why, rlc_why, side_word, waits_word,
+};
+use crate::word::{Word, append_words, number, octet};
+use bearer_types::Event;
+use l2_bits::{Bytes, NoMemory};
+use l2_types::{How, Side};
+use mac_pdu::MacRefusal;
+
+fn append_take(
+    text: &mut Bytes,
+    side: Side,
+    lcid: u8,
+    count: Option<u32>,
+    len: u32,
+) -> Result<(), NoMemory>
+    ensures { OnOk result (text.new ≡ text.old ++ worded (event_words (side_text side) (Event.Take lcid count len))) }
+{
+    append_words(
+        text,
+        &[
+            Word::Plain("take"),
+            Word::Plain(side_word(side)),
+            octet(lcid),
+            Word::Count(count),
+            number(len),
+        ],
+    )
+}
+
+fn append_send(text: &mut Bytes, side: Side, lcid: u8, how: How, sn: u32) -> Result<(), NoMemory>
+    ensures { OnOk result (text.new ≡ text.old ++ worded (event_words (side_text side) (Event.Send lcid how sn))) }
+{
+    append_words(
+        text,
+        &[
+            Word::Plain("send"),
+            Word::Plain(side_word(side)),
+            octet(lcid),
+            Word::Plain(how_word(how)),
+            number(sn),
+        ],
+    )
+}
+
+fn append_up(text: &mut Bytes, side: Side, lcid: u8, octets: &[u8]) -> Result<(), NoMemory>
+    ensures { OnOk result (text.new ≡ text.old ++ worded (event_words (side_text side) (Event.Up lcid octets.now))) }
+{
+    append_words(
+        text,
+        &[
+            Word::Plain("up"),
+            Word::Plain(side_word(side)),
+            octet(lcid),
+            Word::Hex(octets),
+        ],
+    )
+}
+
+fn append_report(
+    text: &mut Bytes,
+    side: Side,
+    lcid: u8,
+    fms: u32,
+    bitmap: &[u8],
+) -> Result<(), NoMemory>
+    ensures { OnOk result (text.new ≡ text.old ++ worded (event_words (side_text side) (Event.Report lcid fms bitmap.now))) }
+{
+    append_words(
+        text,
+        &[
+            Word::Plain("report"),
+            Word::Plain(side_word(side)),
+            octet(lcid),
+            number(fms),
+            Word::Bitmap(bitmap),
+        ],
+    )
+}
+
+fn append_integrity<'a>(
+    text: &mut Bytes,
+    side: Side,
+    lcid: u8,
+    found: &'a [u8],
+    wanted: &'a [u8],
+) -> Result<(), NoMemory>
+    ensures { OnOk result (text.new ≡ text.old ++ worded (event_words (side_text side) (Event.Integrity lcid found.now wanted.now))) }
+{
+    append_words(
+        text,
+        &[
+            Word::Plain("integrity"),
+            Word::Plain(side_word(side)),
+            octet(lcid),
+            Word::Hex(found),
+            Word::Hex(wanted),
+        ],
+    )
+}
+
+fn append_bad_block(text: &mut Bytes, side: Side, fault: &MacRefusal) -> Result<(), NoMemory>
+    ensures { OnOk result (text.new ≡ text.old ++ worded (event_words (side_text side) (Event.BadMac fault.now))) }
+{
+    append_words(
+        text,
+        &[
+            Word::Plain("bad"),
+            Word::Plain(side_word(side)),
+            Word::Plain("mac"),
+            number(fault.at),
+            Word::Number(mac_why(fault.why)),
+        ],
+    )
+}
+
+// A PDU of a layer above MAC can't be read.
+fn append_bad_pdu(
+    text: &mut Bytes,
+    side: Side,
+    layer: &'static str,
+    lcid: u8,
+    at: u32,
+    why: u64,
+) -> Result<(), NoMemory>
+    ensures { OnOk result (text.new ≡ text.old ++ worded (codes "bad" ∷ side_text side ∷ layer.now ∷ decimal lcid ∷ decimal at ∷ decimal why ∷ [])) }
+{
+    append_words(
+        text,
+        &[
+            Word::Plain("bad"),
+            Word::Plain(side_word(side)),
+            Word::Plain(layer),
+            octet(lcid),
+            number(at),
+            Word::Number(why),
+        ],
+    )
+}
+
+// What happens to a bearer, and which timer or why.
+fn append_named(
+    text: &mut Bytes,
+    what: &'static str,
+    side: Side,
+    lcid: u8,
+    which: &'static str,
+) -> Result<(), NoMemory>
+    ensures { OnOk result (text.new ≡ text.old ++ worded (what.now ∷ side_text side ∷ decimal lcid ∷ which.now ∷ [])) }
+{
+    append_words(
+        text,
+        &[
+            Word::Plain(what),
+            Word::Plain(side_word(side)),
+            octet(lcid),
+            Word::Plain(which),
+        ],
+    )
+}
+
+// What happens to a bearer, with a number or a length.
+fn append_numbered(
+    text: &mut Bytes,
+    what: &'static str,
+    side: Side,
+    lcid: u8,
+    which: u32,
+) -> Result<(), NoMemory>
+    ensures { OnOk result (text.new ≡ text.old ++ worded (what.now ∷ side_text side ∷ decimal lcid ∷ decimal which ∷ [])) }
+{
+    append_words(
+        text,
+        &[
+            Word::Plain(what),
+            Word::Plain(side_word(side)),
+            octet(lcid),
+            number(which),
+        ],
+    )
+}
+
+/// Adds the text of what happens at one end, and a line feed.
+pub fn append_event(text: &mut Bytes, side: Side, event: &Event) -> Result<(), NoMemory>
+    ensures { OnOk result (text.new ≡ text.old ++ worded (event_words (side_text side) event.now)) }
+{
+    match event {
+        Event::Take { lcid, count, len } => append_take(text, side, *lcid, *count, *len),
+        Event::Report { lcid, fms, bitmap } => append_report(
+            text,
+            side,
+            *lcid,
+            *fms,
+            bitmap.as_slice(),
+        ),
+        Event::Send { lcid, how, sn } => append_send(text, side, *lcid, *how, *sn),
+        Event::Wait { lcid, why } => append_named(text, "wait", side, *lcid, waits_word(*why)),
+        Event::Start { lcid, clock } => append_named(
+            text,
+            "start",
+            side,
+            *lcid,
+            clock_word(*clock),
+        ),
+        Event::Stop { lcid, clock } => append_named(text, "stop", side, *lcid, clock_word(*clock)),
+        Event::Expired { lcid, clock } => append_named(
+            text,
+            "expired",
+            side,
+            *lcid,
+            clock_word(*clock),
+        ),
+        Event::Up { lcid, octets } => append_up(text, side, *lcid, octets.as_slice()),
+        Event::Fail { lcid, sn } => append_numbered(text, "fail", side, *lcid, *sn),
+        Event::Drop { lcid, why } => append_named(text, "drop", side, *lcid, lost_word(*why)),
+        Event::Integrity {
+            lcid,
+            found,
+            wanted,
+        } => append_integrity(text, side, *lcid, found, wanted),
+        Event::BadMac(fault) => append_bad_block(text, side, fault),
+        Event::BadRlc { lcid, fault } => append_bad_pdu(
+            text,
+            side,
+            "rlc",
+            *lcid,
+            fault.at,
+            rlc_why(fault.why),
+        ),
+        Event::BadPdcp { lcid, fault } => append_bad_pdu(
+            text,
+            side,
+            "pdcp",
+            *lcid,
+            fault.at,
+            pdcp_why(fault.why),
+        ),
+        Event::Discard { lcid, len } => append_numbered(text, "discard", side, *lcid, *len),
+    }
+}

@@ -1,0 +1,15 @@
+//! The lines of a script and the records of a journal, and the text of each.
+#![tactic(auto)]
+
+mod events;
+mod line;
+mod lines;
+mod naming;
+mod printing;
+mod record;
+mod shown;
+mod word;
+
+pub use line::{Fate, Line, Outcome};
+pub use printing::{append_record, print, print_line};
+pub use record::{Arrived, Lens, NoPlace, Record, State};
