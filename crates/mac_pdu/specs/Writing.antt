@@ -103,6 +103,10 @@ pub record Parts : Type 0 where
 abbrev pub items_of : Parts → List MacItem
 items_of b = map element b.controls ++ map sdu_item b.sdus
 
+-- a control element more
+abbrev pub with_control : Control → Parts → Parts
+with_control c b = record b { controls = b.controls ++ c ∷ [] }
+
 -- what a builder holds may stand in a block
 pub record IsBuilder (b : Parts) : Type 0 where
   pub controls : All (IsControl b.direction) b.controls

@@ -1,7 +1,7 @@
 ghost use Rattle.std.specs.Prelude.{◌≡◌, ◌+◌, ◌<◌, ◌≤◌, ◌^◌, [], ◌∷◌, ◌++◌, length, OnOk, OnErr, IfOk, IfErr};
-ghost use Rattle.mac_pdu.specs.Items.{element as control_item, sdu, IsControl};
+ghost use Rattle.mac_pdu.specs.Items.{sdu, IsControl};
 ghost use Rattle.mac_pdu.specs.Grammar.{MacPdu};
-ghost use Rattle.mac_pdu.specs.Writing.{full_size, saved, writing, padded, canonical, items_of};
+ghost use Rattle.mac_pdu.specs.Writing.{full_size, saved, writing, padded, canonical, items_of, with_control};
 
 use crate::item::{Control, Direction};
 use crate::octets::{put_fronted, put_padded};
@@ -50,14 +50,13 @@ impl MacBuilder {
         }
     }
 
-    /// Adds a control element of the direction, with its fields in range, before any SDU.
+    /// Adds a control element of the direction, with its fields in range. It stands behind the control elements that were
+    /// added and before all SDUs.
     /// An `Err` changes nothing.
     pub fn control(&mut self, element: &Control) -> Result<(), NoMemory>
-        requires before { self.old.sdus ≡ [] }
         requires fields { IsControl self.old.direction element.now }
-        requires fits { length (writing (items_of self.old ++ control_item element.now ∷ [])) < 2 ^ 28 }
-        ensures ok { OnOk result
-            (self.new ≡ record self.old { controls = self.old.controls ++ element.now ∷ [] }) }
+        requires fits { length (writing (items_of (with_control element.now self.old))) < 2 ^ 28 }
+        ensures ok { OnOk result (self.new ≡ with_control element.now self.old) }
         ensures err { OnErr result (self.new ≡ self.old) }
     {
         self.controls.push(*element)?;
@@ -75,7 +74,19 @@ impl MacBuilder {
             (self.new ≡ record self.old { sdus = self.old.sdus ++ record { lcid = lcid; octets = octets.now } ∷ [] }) }
         ensures err { OnErr result (self.new ≡ self.old) }
     {
-        let octets = Bytes::from_slice(self.alloc, octets)?;
+        self.move_sdu(lcid, Bytes::from_slice(self.alloc, octets)?)
+    }
+
+    /// Adds an SDU as `sdu` does, without a copy. An `Err` changes nothing, and the SDU is dropped.
+    pub fn move_sdu(&mut self, lcid: u8, octets: Bytes) -> Result<(), NoMemory>
+        requires channel { lcid ≤ 10 }
+        requires some { 1 ≤ length octets }
+        requires short { length octets < 2 ^ 15 }
+        requires fits { length (writing (items_of self.old ++ sdu lcid octets ∷ [])) < 2 ^ 28 }
+        ensures ok { OnOk result
+            (self.new ≡ record self.old { sdus = self.old.sdus ++ record { lcid = lcid; octets = octets } ∷ [] }) }
+        ensures err { OnErr result (self.new ≡ self.old) }
+    {
         self.sdus.push(Sdu { lcid, octets })?;
         Ok(())
     }
