@@ -50,16 +50,17 @@ flips : (x y : ℕ) → (x == y) ≡ (y == x)
 flips x y = grind (arith, nat_tests)
 
 -- a new channel in whatever place
-pub sound_more : (c : Channel) (cs : List Channel) (at : ℕ) → AreSound cs → c.lcid < 11 → has c.lcid cs ≡ false → AreSound (insert cs at c)
-sound_more c cs at s lt e = record {
-  within = All-permutation (λ d. d.lcid < 11) (c ∷ cs) (insert cs at c) (IsPermutation-insert cs at c) (first lt s.within);
+pub sound_more : (c : Channel) (cs : List Channel) (at : ℕ) → AreSound cs → c.lcid < 11 → c.group < 4 → has c.lcid cs ≡ false → AreSound (insert cs at c)
+sound_more c cs at s lt four e = record {
+  within = All-permutation (λ d. d.lcid < 11) (c ∷ cs) (insert cs at c) (IsPermutation-insert cs at c) (first (λ d. d.lcid < 11) lt s.within);
+  groups = All-permutation (λ d. d.group < 4) (c ∷ cs) (insert cs at c) (IsPermutation-insert cs at c) (first (λ d. d.group < 4) four s.groups);
   distinct = IsDistinct-IsPermutation ◌==◌ flips (lcids (c ∷ cs)) (lcids (insert cs at c)) (IsPermutation-map (λ (d : Channel). d.lcid) (c ∷ cs) (insert cs at c) (IsPermutation-insert cs at c)) (distinct_more c.lcid cs e s.distinct);
 }
   where
-    first : c.lcid < 11 → All (λ d. d.lcid < 11) cs → All (λ d. d.lcid < 11) (c ∷ cs)
-    first here there zero d h = here
-    first here there (suc k) d h = there k d (omega arith)
+    first : (Is : Channel → Type 0) → Is c → All Is cs → All Is (c ∷ cs)
+    first Is here there zero d h = here
+    first Is here there (suc k) d h = there k d (omega arith)
 
 pub sound_none : AreSound []
 unfolding IsDistinct
-sound_none = record { within = λ k d h. absurd (omega arith); distinct = tt }
+sound_none = record { within = λ k d h. absurd (omega arith); groups = λ k d h. absurd (omega arith); distinct = tt }

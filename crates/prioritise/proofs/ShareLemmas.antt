@@ -5,9 +5,9 @@ use Rattle.std.proofs.lemmas.List.Sums.{sum_by-cons}
 use Rattle.std.proofs.lemmas.Bool.Decides.{nat_tests}
 use Rattle.std.proofs.Math.ListN.{length-set}
 use Rattle.l2_types.specs.declared.channel.Channel.{Channel}
-use Rattle.prioritise.specs.Channels.{lcids, has}
-use Rattle.prioritise.specs.Shares.{Bucketed, Giving, bounded, fallen, first_part, first_given, round_one, second_part, second_given, round_two, ungiven, first_shared, shared, allotted, after_allot}
-use Rattle.prioritise.specs.ShareLaws.{IsSound, IsOneOf, need_of, FallsBy, IsShared}
+use Rattle.prioritise.specs.Channels.{lcids, AreSound, has}
+use Rattle.prioritise.specs.Shares.{Bucketed, Giving, over, bounded, fallen, first_part, first_given, round_one, second_part, second_given, round_two, ungiven, first_shared, shared, allotted, after_allot}
+use Rattle.prioritise.specs.ShareLaws.{IsSound, IsOneOf, FallsBy, IsShared}
 use Rattle.prioritise.proofs.ChannelLemmas.{both_false, apart_has}
 
 -- ---- the sum
@@ -198,9 +198,28 @@ abbrev all_of : List Channel → List ℕ → ℕ
 all_of [] needs = 0
 all_of (c ∷ cs) needs = get_or needs c.lcid 0 + all_of cs needs
 
-all_is : (cs : List Channel) (needs : List ℕ) → need_of cs needs ≡ all_of cs needs
+all_is : (cs : List Channel) (needs : List ℕ) → over cs needs ≡ all_of cs needs
 all_is [] needs = refl
 all_is (c ∷ cs) needs = sum_by-cons (λ (d : Channel). get_or needs d.lcid 0) c cs ∙ ap (λ (n : ℕ). get_or needs c.lcid 0 + n) (all_is cs needs)
+
+all_same : (cs : List Channel) (xs : List ℕ) (lcid v : ℕ) → has lcid cs ≡ false → all_of cs (set xs lcid v) ≡ all_of cs xs
+all_same [] xs lcid v e = refl
+all_same (c ∷ cs) xs lcid v e =
+    let b = both_false (lcid == c.lcid) (has lcid cs) e in
+    let apart : c.lcid ≡ lcid → ⊥ = grind (arith, nat_tests) in
+    rw (get_or-set_other xs lcid c.lcid v 0 apart, all_same cs xs lcid v b.1) refl
+
+sum_without : (xs : List ℕ) (at : ℕ) → sum (set xs at 0) + get_or xs at 0 ≡ sum xs
+sum_without [] at = refl
+sum_without (x ∷ xs) zero = omega (arith, sum_cons x xs, sum_cons 0 xs)
+sum_without (x ∷ xs) (suc at) = let one : sum (set (x ∷ xs) (suc at) 0) ≡ x + sum (set xs at 0) = sum_cons x (set xs at 0) in omega (arith, one, sum_cons x xs, sum_without xs at)
+
+-- channels of different LCIDs have no more together than all LCIDs
+all_le : (cs : List Channel) (xs : List ℕ) → Apart cs → all_of cs xs ≤ sum xs
+all_le [] xs a = omega arith
+all_le (c ∷ cs) xs a =
+    let ih = all_le cs (set xs c.lcid 0) a.2 in
+    omega (arith, ih, all_same cs xs c.lcid 0 a.1, sum_without xs c.lcid)
 
 rest_same : (cs : List Channel) (needs shares : List ℕ) (lcid v : ℕ) → has lcid cs ≡ false → rest_of cs needs (set shares lcid v) ≡ rest_of cs needs shares
 rest_same [] needs shares lcid v e = refl
@@ -241,6 +260,14 @@ none_given : (n p : ℕ) → get_or (replicate n nought) p nought ≡ nought
 none_given zero p = refl
 none_given (suc n) zero = refl
 none_given (suc n) (suc p) = none_given n p
+
+pub within_grant : (b : Bucketed) (needs : List ℕ) (grant : ℕ) → AreSound b.channels → over b.channels (allotted b needs grant) ≤ grant
+unfolding allotted shared first_shared
+within_grant b needs grant s =
+    let g = ungiven b grant in
+    let one = round_one b.channels needs g in
+    let shares = (round_two b.channels needs one).shares in
+    omega (arith, all_is b.channels shares, all_le b.channels shares (sound_apart b.channels s.within s.distinct), one_sum b.channels needs g, two_sum b.channels needs one, sum_none 11)
 
 pub shared_by : (b : Bucketed) (needs : List ℕ) (grant : ℕ) → IsSound b → IsShared b needs grant
 unfolding allotted after_allot shared first_shared

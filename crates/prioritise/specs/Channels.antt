@@ -7,9 +7,10 @@ use Rattle.l2_types.specs.declared.channel.Channel.{Channel}
 abbrev pub lcids : List Channel → List ℕ
 lcids channels = map (λ c. c.lcid) channels
 
--- LCIDs are 0 to 10, and no two channels have the same
+-- LCIDs are 0 to 10, no two channels have the same, and groups are 0 to 3
 pub record AreSound (channels : List Channel) : Type 0 where
   pub within : All (λ c. c.lcid < 11) channels
+  pub groups : All (λ c. c.group < 4) channels
   pub distinct : IsDistinct ◌==◌ (lcids channels)
 
 -- a channel has this LCID

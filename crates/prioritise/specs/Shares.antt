@@ -1,5 +1,5 @@
 -- Shares of a grant by two rounds over the channels (TS 36.321 5.4.3.1).
-use Rattle.std.specs.Prelude.{ℕ, ◌+◌, ◌-◌, ◌*◌, min, Option, Some, None, List, [], ◌∷◌, slice_index, slice_set, replicate}
+use Rattle.std.specs.Prelude.{ℕ, ◌+◌, ◌-◌, ◌*◌, min, Option, Some, None, List, [], ◌∷◌, slice_index, slice_set, replicate, sum_by}
 use Rattle.l2_types.specs.declared.channel.Channel.{Channel}
 use Rattle.prioritise.specs.Channels.{put}
 
@@ -20,6 +20,10 @@ added c b = bucketed (put c b.channels) b.levels
 
 unfoldable pub emptied : Bucketed → Bucketed
 emptied b = bucketed b.channels (replicate 11 0)
+
+-- amounts by LCID, added up over the channels
+abbrev pub over : List Channel → List ℕ → ℕ
+over channels amounts = sum_by (λ c. slice_index amounts c.lcid) channels
 
 -- ---- a TTI begins
 

@@ -2,7 +2,7 @@
 ghost use Rattle.std.specs.Prelude.{◌≡◌, ◌<◌, ◌≤◌, length, false};
 ghost use Rattle.std.specs.List.{All};
 ghost use Rattle.prioritise.specs.Channels.{place};
-ghost use Rattle.prioritise.specs.Shares.{round_one, round_two, all_grown, grown, bounded, fallen};
+ghost use Rattle.prioritise.specs.Shares.{bucketed, shared, round_one, round_two, all_grown, grown, bounded, fallen};
 
 use crate::channel::is_before;
 use arrayvec::ArrayVec;
@@ -72,7 +72,7 @@ impl Model for Buckets {
 
 impl Buckets {
     ghost use Rattle.prioritise.specs.Channels.{AreSound, has};
-    ghost use Rattle.prioritise.specs.Shares.{no_channels, added, emptied, ticked, allotted, after_allot};
+    ghost use Rattle.prioritise.specs.Shares.{over, no_channels, added, emptied, ticked, allotted, after_allot};
 
     /// No channels.
     #[tactic(auto, unfolding(crate::specs::Shares::no_channels))]
@@ -95,10 +95,11 @@ impl Buckets {
             .any(|channel| lcid == channel.lcid)
     }
 
-    /// Adds a channel with an empty bucket, whose LCID is 0 to 10 and isn't there.
+    /// Adds a channel with an empty bucket, whose LCID is 0 to 10 and isn't there, and whose group is 0 to 3.
     #[tactic(auto, unfolding(crate::specs::Shares::added))]
     pub fn add(&mut self, channel: Channel)
         requires lcid { channel.lcid < 11 }
+        requires group { channel.group < 4 }
         requires new { has channel.lcid self.old.channels ≡ false }
         ensures { self.new ≡ added channel self.old }
     {
@@ -132,20 +133,20 @@ impl Buckets {
 
     /// The shares of a grant, in octets by LCID, for what each channel needs: 0 for an LCID that isn't
     /// there. The buckets fall by what round one gave.
-    #[tactic(auto, unfolding(crate::specs::Shares::allotted, crate::specs::Shares::after_allot, crate::specs::Shares::shared, crate::specs::Shares::first_shared))]
+    #[tactic(auto, unfolding(crate::specs::Shares::allotted, crate::specs::Shares::after_allot))]
     pub fn allot(&mut self, needs: &[u32; 11], grant: u32) -> [u32; 11]
         ensures shares { result ≡ allotted self.old needs.now grant }
+        ensures within { over self.old.channels result ≤ grant }
         ensures buckets { self.new ≡ after_allot self.old needs.now grant }
     {
-        let mut gifts = Gifts {
-            levels: self.levels,
-            shares: [0; 11],
-            left: grant,
-        };
-        give_all_first(self.channels.as_slice(), needs, &mut gifts);
-        give_all_second(self.channels.as_slice(), needs, &mut gifts);
-        self.levels = gifts.levels;
-        gifts.shares
+        let before = self.levels;
+        let Gifts {
+            levels,
+            shares,
+            left: _,
+        } = give(self.channels.as_slice(), before, needs, grant);
+        self.levels = levels;
+        shares
     }
 }
 
@@ -159,6 +160,22 @@ fn place_of(channel: &Channel, channels: &[Channel]) -> usize
         at += 1;
     }
     at
+}
+
+// A grant goes through the channels in two rounds.
+#[tactic(auto, unfolding(crate::specs::Shares::shared, crate::specs::Shares::first_shared))]
+fn give(channels: &[Channel], levels: [u64; 11], needs: &[u32; 11], grant: u32) -> Gifts
+    requires { All (λ c. c.lcid < 11) channels.now }
+    ensures { result ≡ shared (bucketed channels.now levels) needs.now grant }
+{
+    let mut gifts = Gifts {
+        levels,
+        shares: [0; 11],
+        left: grant,
+    };
+    give_all_first(channels, needs, &mut gifts);
+    give_all_second(channels, needs, &mut gifts);
+    gifts
 }
 
 fn give_all_first(channels: &[Channel], needs: &[u32; 11], gifts: &mut Gifts)

@@ -1,5 +1,7 @@
 // Buffer Size levels and the report that fits into padding.
-ghost use Rattle.std.specs.Prelude.{◌≡◌, ◌<◌, position, nat_lt, nat_le, IfSome, length};
+ghost use Rattle.std.specs.Prelude.{◌≡◌, ◌<◌, ◌≤◌, ◌+◌, position, nat_lt, nat_le, IfSome, length};
+ghost use Rattle.mac_pdu.specs.Items.{IsReport};
+ghost use Rattle.mac_pdu.specs.Writing.{report_size};
 ghost use Rattle.prioritise.specs.Levels.{level_of, groups, first_group, report};
 
 use mac_pdu::Bsr;
@@ -20,7 +22,8 @@ const EDGES: [u32; 63] = [
 /// last edge.
 #[tactic(auto, unfolding(crate::specs::Levels::level_of))]
 pub fn level(octets: u64) -> u8
-    ensures { result ≡ level_of octets }
+    ensures level { result ≡ level_of octets }
+    ensures within { result < 64 }
 {
     match first_reaching(&EDGES, octets) {
         Some(at) => at as u8,
@@ -41,7 +44,10 @@ fn first_reaching(edges: &[u32], octets: u64) -> Option<usize>
 #[tactic(auto, unfolding(crate::specs::Levels::report))]
 pub fn choose(waiting: &[u64; 4], top: u8, padding: u32) -> Option<Bsr>
     requires { top < 4 }
-    ensures { result ≡ report waiting.now top padding }
+    ensures report { result ≡ report waiting.now top padding }
+    ensures fields { IfSome result IsReport }
+    // With its subheader it has no more octets than the padding.
+    ensures fits { IfSome result (λ r. 1 + report_size r ≤ padding) }
 {
     if padding < 2 {
         return None;
