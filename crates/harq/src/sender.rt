@@ -1,5 +1,5 @@
 // The processes of one direction, at its sender.
-ghost use Rattle.std.specs.Prelude.{◌≡◌, ◌<◌, ◌==◌, option_copied, option_map};
+ghost use Rattle.std.specs.Prelude.{◌≡◌, ◌<◌, ◌^◌, ◌==◌, length, option_copied, option_map, IfSome};
 
 use arrayvec::ArrayVec;
 use l2_bits::Bytes;
@@ -43,14 +43,14 @@ struct Load {
 }
 
 impl Model for Load {
-    ghost use Rattle.std.specs.Prelude.{◌<◌};
+    ghost use Rattle.std.specs.Prelude.{◌<◌, ◌^◌, length};
     ghost use Rattle.harq.specs.Sending.{Block, block};
 
     ghost Value = { Block };
 
     ghost view = { λ l. block l.octets l.left l.sent };
 
-    ghost invariant = { λ l. l.sent < 4 };
+    ghost invariant = { λ l. (l.sent < 4) × (length l.octets < 2 ^ 28) };
 }
 
 impl Load {
@@ -133,6 +133,7 @@ impl Process {
     }
 
     fn load(&mut self, maximum: u32, octets: Bytes)
+        requires { length octets < 2 ^ 28 }
         ensures { self.new ≡ loaded maximum octets self.old }
     {
         self.held = Some(Load {
@@ -205,7 +206,8 @@ impl Process {
     }
 
     fn octets(&self) -> Option<&[u8]>
-        ensures { option_copied result ≡ option_map (λ b. b.octets) self.now.held }
+        ensures short { IfSome result (λ octets. length octets.now < 2 ^ 28) }
+        ensures octets { option_copied result ≡ option_map (λ b. b.octets) self.now.held }
     {
         match &self.held {
             Some(load) => Some(load.octets.as_slice()),
@@ -257,9 +259,10 @@ impl Sender {
         process.visit(order)
     }
 
-    /// Brings the new block of the TTI's visit, which is its first.
+    /// Brings the new block of the TTI's visit, which is its first. It has fewer than 2^28 octets.
     #[tactic(auto, unfolding(crate::specs::Sending::after_load))]
     pub fn load(&mut self, tti: u64, block: Bytes)
+        requires { length block < 2 ^ 28 }
         ensures { self.new ≡ after_load self.old tti block }
     {
         let maximum = self.maximum;
@@ -291,7 +294,8 @@ impl Sender {
     #[tactic(auto, unfolding(crate::specs::Sending::held_of))]
     pub fn held(&self, process: u32) -> Option<&[u8]>
         requires { process < 8 }
-        ensures { option_copied result ≡ held_of self.now process }
+        ensures short { IfSome result (λ block. length block.now < 2 ^ 28) }
+        ensures block { option_copied result ≡ held_of self.now process }
     {
         let process = &self.processes[process as usize];
         process.octets()

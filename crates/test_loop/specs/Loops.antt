@@ -1,5 +1,5 @@
 -- One step of a test loop (TS 36.509).
-use Rattle.std.specs.Prelude.{ℕ, ◌-◌, ◌==◌, nat_le, Bool, if◌then◌else◌, Option, None, List, [], ◌∷◌, ◌++◌, length, drop, slice_get}
+use Rattle.std.specs.Prelude.{ℕ, ◌-◌, ◌==◌, nat_le, Bool, true, false, not, if◌then◌else◌, Option, None, List, [], ◌∷◌, ◌++◌, length, drop, slice_get}
 use Rattle.test_loop.specs.declared.Mode.{Mode}
 use Rattle.test_loop.specs.declared.Mode.TheVariants.{Off, A, B}
 use Rattle.test_loop.specs.declared.Kept.{Kept}
@@ -15,10 +15,17 @@ pub record State : Type 0 where
 abbrev pub state : Mode → List Item → ℕ → State
 state mode kept left = record { mode = mode; kept = kept; left = left }
 
-abbrev pub is_on : Mode → Type 0
-is_on Off = ⊥
-is_on (A size) = Unit {0}
-is_on (B delay) = Unit {0}
+-- a mode by which SDUs come back
+abbrev pub is_on : Mode → Bool
+is_on Off = false
+is_on (A size) = true
+is_on (B delay) = true
+
+-- a mode by which they are kept for a while
+abbrev pub is_keeping : Mode → Bool
+is_keeping Off = false
+is_keeping (A size) = false
+is_keeping (B delay) = not (delay == 0)
 
 unfoldable pub fresh : State
 fresh = state Off [] 0

@@ -4,7 +4,7 @@
 //! together, so many TTIs after the first one was kept.
 #![tactic(auto)]
 
-ghost use Rattle.std.specs.Prelude.{◌≡◌, ◌<◌, ◌↔◌, length, IsTrue, IfOk, OnOk, OnErr, MatchOption, Some, None};
+ghost use Rattle.std.specs.Prelude.{◌≡◌, ◌<◌, true, length, IfOk, OnOk, OnErr, MatchOption, Some, None};
 
 mod cut;
 pub mod laws;
@@ -73,7 +73,7 @@ impl Model for Loop {
 
 impl Loop {
     ghost use Rattle.test_loop.specs.Items.{item};
-    ghost use Rattle.test_loop.specs.Loops.{fresh, after_set, is_on, taken_answer, after_taken, after_tick, due_answer, after_due, kept_answer, after_kept};
+    ghost use Rattle.test_loop.specs.Loops.{fresh, after_set, is_on, is_keeping, taken_answer, after_taken, after_tick, due_answer, after_due, kept_answer, after_kept};
 
     /// A loop in mode off that keeps nothing.
     #[tactic(auto, unfolding(crate::specs::Loops::fresh))]
@@ -99,7 +99,7 @@ impl Loop {
 
     /// Whether the mode is another than off.
     pub fn is_on(&self) -> bool
-        ensures { IsTrue result ↔ is_on self.now.mode }
+        ensures { result ≡ is_on self.now.mode }
     {
         match self.mode {
             Mode::Off => false,
@@ -107,11 +107,21 @@ impl Loop {
         }
     }
 
+    /// Whether SDUs are kept for a while: in mode B with a delay.
+    pub fn is_keeping(&self) -> bool
+        ensures { result ≡ is_keeping self.now.mode }
+    {
+        match self.mode {
+            Mode::Off | Mode::A { .. } => false,
+            Mode::B { delay } => delay != 0,
+        }
+    }
+
     /// An SDU of 1 octet or more was handed up, in a mode other than off. `Full` comes exactly where
     /// 1024 SDUs are kept and this one was to be, and changes nothing; nor does an `Err`.
     #[tactic(auto, unfolding(crate::specs::Loops::taken_answer, crate::specs::Loops::after_taken))]
     pub fn taken(&mut self, lcid: u8, sdu: &[u8]) -> Result<Kept, NoMemory>
-        requires on { is_on self.old.mode }
+        requires on { is_on self.old.mode ≡ true }
         requires sdu { 0 < length sdu.now }
         ensures answer { IfOk result (λ kept. kept ≡ taken_answer self.old sdu.now) }
         ensures ok { OnOk result (self.new ≡ after_taken self.old (item lcid sdu.now)) }
