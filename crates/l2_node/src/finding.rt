@@ -1,0 +1,81 @@
+// Bearers by their LCID, and the numbers that HARQ processes hold.
+ghost use Rattle.std.specs.Prelude.{◌≡◌, ◌<◌, ◌≤◌, ℕ, None, length, All};
+ghost use Rattle.l2_node.specs.Finding.{find, has, place, lower, number_at, lowest_of, lowest};
+
+use bearer::{Bearer, Running};
+use harq::Sender;
+
+// The numbers of the data PDUs in the last block of each process, by LCID.
+pub(crate) type Numbers = [[Option<u64>; 11]; 8];
+
+// The place of a bearer, or the length where there is none.
+pub(crate) fn find(lcid: u8, bearers: &[Bearer<Running>]) -> usize
+    ensures find { result ≡ find lcid bearers.now }
+    ensures within { result ≤ length bearers.now }
+{
+    let mut at = 0;
+    while at < bearers.len() && bearers[at].lcid() != lcid {
+        at += 1;
+    }
+    at
+}
+
+pub(crate) fn has(lcid: u8, bearers: &[Bearer<Running>]) -> bool
+    ensures { result ≡ has lcid bearers.now }
+{
+    find(lcid, bearers) < bearers.len()
+}
+
+// The place of a new bearer.
+pub(crate) fn place_of(lcid: u8, bearers: &[Bearer<Running>]) -> usize
+    ensures place { result ≡ place lcid bearers.now }
+    ensures within { result ≤ length bearers.now }
+{
+    let mut at = 0;
+    while at < bearers.len() && bearers[at].lcid() < lcid {
+        at += 1;
+    }
+    at
+}
+
+// The lowest number of a bearer that a process holds.
+#[tactic(auto, unfolding(crate::specs::Finding::lowest))]
+pub(crate) fn lowest_held(sender: &Sender, numbers: &Numbers, lcid: u8) -> Option<u64>
+    requires { lcid < 11 }
+    ensures { result ≡ lowest sender.now numbers.now lcid }
+{
+    lowest_in(sender, numbers, lcid, &[0, 1, 2, 3, 4, 5, 6, 7])
+}
+
+fn lowest_in(sender: &Sender, numbers: &Numbers, lcid: u8, processes: &[u32]) -> Option<u64>
+    requires lcid { lcid < 11 }
+    requires processes { All (λ p. p < 8) processes.now }
+    ensures { result ≡ lowest_of sender.now numbers.now lcid processes.now None }
+{
+    let mut found = None;
+    for process in processes {
+        found = lower_of(found, number_of(sender, numbers, lcid, *process));
+    }
+    found
+}
+
+fn number_of(sender: &Sender, numbers: &Numbers, lcid: u8, process: u32) -> Option<u64>
+    requires lcid { lcid < 11 }
+    requires process { process < 8 }
+    ensures { result ≡ number_at sender.now numbers.now lcid process }
+{
+    match sender.held(process) {
+        None => None,
+        Some(_) => numbers[process as usize][lcid as usize],
+    }
+}
+
+fn lower_of(one: Option<u64>, other: Option<u64>) -> Option<u64>
+    ensures { result ≡ lower one other }
+{
+    match (one, other) {
+        (None, other) => other,
+        (Some(x), None) => Some(x),
+        (Some(x), Some(y)) => Some(if y < x { y } else { x }),
+    }
+}
