@@ -1,6 +1,7 @@
 //! Blocks of a terminal that reports its buffers, and two nodes face to face, by hand.
 
 ghost use Rattle.std.specs.Prelude.{◌≡◌, ◌≤◌, true};
+ghost use Rattle.bearer_types.specs.Configs.{IsConfig};
 
 use crate::{Attached, Node};
 use bearer::{BearerConfig, Event, Events, Kind, Side};
@@ -67,13 +68,28 @@ fn keys(octet: u8) -> Keys {
     }
 }
 
+// A node with one bearer.
+fn begun(
+    alloc: Global,
+    side: Side,
+    reports: bool,
+    config: &BearerConfig,
+) -> Result<Node<Attached>, NoMemory>
+    requires { IsConfig config.now }
+{
+    let mut node = Node::new(alloc, side, 4, reports);
+    if !node.has(config.channel.lcid) {
+        node.add(config, &keys(1))?;
+    }
+    Ok(node)
+}
+
 // Whether a terminal with these SDUs on the transparent bearer fills a grant with this block.
 fn fills(alloc: Global, sdus: &[&[u8]], grant: u32, block: &[u8]) -> Result<bool, NoMemory>
     requires some { 1 ≤ grant }
     requires most { grant ≤ 9422 }
 {
-    let mut terminal = Node::new(alloc, Side::Ue, 4, true);
-    terminal.add(&TRANSPARENT, &keys(1))?;
+    let mut terminal = begun(alloc, Side::Ue, true, &TRANSPARENT)?;
     for sdu in sdus {
         if terminal.has(0) && terminal.submit(0, sdu).is_err() {
             return Ok(false);
@@ -143,10 +159,8 @@ fn tti(
 #[test]
 fn losses_are_made_good(rt: HostRuntime) -> Result<(), Fail> {
     let alloc = rt.alloc();
-    let mut station = Node::new(alloc, Side::Nb, 4, false);
-    let mut terminal = Node::new(alloc, Side::Ue, 4, false);
-    station.add(&DATA, &keys(1))?;
-    terminal.add(&DATA, &keys(1))?;
+    let mut station = begun(alloc, Side::Nb, false, &DATA)?;
+    let mut terminal = begun(alloc, Side::Ue, false, &DATA)?;
     assert!(rt; station.has(3) && !station.has(4));
     for _i in 0..6u32 {
         assert!(rt; station.has(3) && station.submit(3, &[7; 100]).is_ok());
@@ -167,10 +181,8 @@ fn losses_are_made_good(rt: HostRuntime) -> Result<(), Fail> {
 #[test]
 fn a_handover_keeps_what_is_there(rt: HostRuntime) -> Result<(), Fail> {
     let alloc = rt.alloc();
-    let mut station = Node::new(alloc, Side::Nb, 4, false);
-    let mut terminal = Node::new(alloc, Side::Ue, 4, false);
-    station.add(&DATA, &keys(1))?;
-    terminal.add(&DATA, &keys(1))?;
+    let mut station = begun(alloc, Side::Nb, false, &DATA)?;
+    let mut terminal = begun(alloc, Side::Ue, false, &DATA)?;
     for _i in 0..3u32 {
         assert!(rt; station.has(3) && station.submit(3, &[7; 50]).is_ok());
     }
