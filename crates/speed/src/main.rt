@@ -5,6 +5,8 @@
 //! error. A line that names no part is told as such.
 #![tactic(auto)]
 
+mod air;
+mod entities;
 mod measure;
 mod security;
 
@@ -21,7 +23,11 @@ fn main(rt: HostRuntime) -> io::Result<()> {
         };
         let mut octets = measure.octets(rt.alloc())?;
         let start = Instant::now(&rt)?;
-        let made = measure.run(&mut octets);
+        let made = measure.run(rt.alloc(), &mut octets);
+        let Ok(made) = made else {
+            println!(rt; "{line}: out of memory")?;
+            continue;
+        };
         let micros = start.elapsed(&rt)?.as_micros();
         println!(rt; "{line} {made:016x}")?;
         eprintln!(rt; "{line}: {micros} us")?;

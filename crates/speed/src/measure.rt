@@ -1,6 +1,8 @@
 //! What a line of the input asks for.
 
-use crate::security;
+use crate::air::{self, Air};
+use crate::{entities, security};
+use l2_bits::NoMemory;
 use std::alloc::{AllocError, Global};
 
 /// A part and how much it is to do.
@@ -12,6 +14,12 @@ pub enum Measure {
     Eea2(u32),
     /// `eia2 N`: the code of one message of N octets.
     Eia2(u32),
+    /// `pdcp100 N`, `pdcp1500 N`: N SDUs through a PDCP sender and a receiver.
+    Pdcp { is_long: bool, sdus: u32 },
+    /// `window4 N`, `window64 N`, `window500 N`: N PDUs of an acknowledged sender, of which so many stay unacknowledged.
+    Window { window: u64, pdus: u32 },
+    /// `build100 N`, `um100 N`, `am100 N`, and with 1500: N blocks of so many octets over the air.
+    Air(Air, u32),
 }
 
 impl Measure {
@@ -23,24 +31,47 @@ impl Measure {
             "aes" => Some(Measure::Aes(amount)),
             "eea2" => Some(Measure::Eea2(amount)),
             "eia2" => Some(Measure::Eia2(amount)),
-            _ => None,
+            "pdcp100" => Some(Measure::Pdcp {
+                is_long: false,
+                sdus: amount,
+            }),
+            "pdcp1500" => Some(Measure::Pdcp {
+                is_long: true,
+                sdus: amount,
+            }),
+            "window4" => Some(Measure::Window {
+                window: 4,
+                pdus: amount,
+            }),
+            "window64" => Some(Measure::Window {
+                window: 64,
+                pdus: amount,
+            }),
+            "window500" => Some(Measure::Window {
+                window: 500,
+                pdus: amount,
+            }),
+            _ => Some(Measure::Air(Air::read(name)?, amount)),
         }
     }
 
     /// The octets that it works on, which take no part in its time.
     pub fn octets(self, alloc: Global) -> Result<Vec<u8>, AllocError> {
         match self {
-            Measure::Aes(_) => Ok(Vec::new(alloc)),
             Measure::Eea2(len) | Measure::Eia2(len) => Ok(vec![in alloc; 0; len as usize]?),
+            _ => Ok(Vec::new(alloc)),
         }
     }
 
     /// Does it, and gives a number of what it made.
-    pub fn run(self, octets: &mut [u8]) -> u64 {
+    pub fn run(self, alloc: Global, octets: &mut [u8]) -> Result<u64, NoMemory> {
         match self {
-            Measure::Aes(blocks) => security::aes(blocks),
-            Measure::Eea2(_) => security::eea2(octets),
-            Measure::Eia2(_) => security::eia2(octets),
+            Measure::Aes(blocks) => Ok(security::aes(blocks)),
+            Measure::Eea2(_) => Ok(security::eea2(octets)),
+            Measure::Eia2(_) => Ok(security::eia2(octets)),
+            Measure::Pdcp { is_long, sdus } => entities::pdcp(alloc, is_long, sdus),
+            Measure::Window { window, pdus } => entities::sender(alloc, window, pdus),
+            Measure::Air(air, blocks) => air::run(alloc, air, blocks),
         }
     }
 }
