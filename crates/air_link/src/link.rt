@@ -1,0 +1,137 @@
+ghost use Rattle.std.specs.Prelude.{◌≡◌, ◌++◌, ◌∷◌, [], replicate, false, OnOk};
+ghost use Rattle.l2_node.specs.End.{attached};
+ghost use Rattle.air_link.specs.Link.{fresh, says, no_flows};
+
+use air_record::Record;
+use bearer::Side;
+use drx::Drx;
+use l2_bits::{Bytes, Items, NoMemory};
+use l2_node::{Attached, Node};
+use pdu_show::{Kinds, Records};
+use std::alloc::Global;
+use std::marker::Model;
+use std::mem;
+use test_loop::Loop;
+
+// An SDU that the terminal handed up.
+#[derive(Drop)]
+pub(crate) struct Handed {
+    pub lcid: u8,
+    pub octets: Bytes,
+}
+
+impl Model for Handed {
+    ghost use Rattle.std.specs.Prelude.{◌≤◌, length};
+    ghost use Rattle.test_loop.specs.Items.{Item, item};
+
+    ghost Value = { Item };
+
+    ghost view = { λ h. item h.lcid h.octets };
+
+    ghost invariant = { λ h. 1 ≤ length h.octets };
+}
+
+// The flows of a direction, by LCID.
+#[derive(Drop)]
+pub(crate) struct Flows {
+    pub submitted: [u64; 11],
+    pub delivered: [u64; 11],
+    pub failed: [bool; 11],
+}
+
+pub(crate) fn no_flows() -> Flows
+    ensures { result ≡ no_flows }
+{
+    Flows {
+        submitted: [0; 11],
+        delivered: [0; 11],
+        failed: [false; 11],
+    }
+}
+
+impl Model for Flows {
+    ghost use Rattle.air_link.specs.Link.{Flows as Machine};
+
+    ghost Value = { Machine };
+
+    ghost view = { λ f. record { submitted = f.submitted; delivered = f.delivered; failed = f.failed } };
+}
+
+/// The base station and the terminal, and the air between them.
+///
+/// After want of memory nothing is said of it.
+#[derive(Drop)]
+pub struct Link {
+    pub(crate) alloc: Global,
+    pub(crate) nb: Node<Attached>,
+    pub(crate) ue: Node<Attached>,
+    pub(crate) ttis: u64,
+    pub(crate) down: Flows,
+    pub(crate) up: Flows,
+    pub(crate) looping: Loop,
+    // The SDUs that the terminal handed up and that the loop has still to take.
+    pub(crate) ups: Items<Handed>,
+    pub(crate) drx: Option<Drx>,
+    // For each downlink process, whether the terminal saw its block.
+    pub(crate) seen: [bool; 8],
+    pub(crate) kinds: Kinds,
+    // The records of this line so far.
+    pub(crate) out: Records,
+}
+
+impl Model for Link {
+    ghost use Rattle.air_link.specs.Link.{Link as Machine};
+
+    ghost Value = { Machine };
+
+    ghost view = { λ l. record {
+      nb = l.nb.end;
+      ue = l.ue.end;
+      ttis = l.ttis;
+      down = l.down;
+      up = l.up;
+      looping = l.looping;
+      ups = l.ups;
+      drx = l.drx;
+      seen = l.seen;
+      kinds = l.kinds;
+      out = l.out;
+    } };
+}
+
+impl Link {
+    /// Both ends before the first line, with 4 visits of a block and no reports. It takes no memory.
+    #[tactic(auto, unfolding(crate::specs::Link::fresh))]
+    pub fn new(alloc: Global) -> Link
+        ensures { result ≡ fresh }
+    {
+        Link {
+            alloc,
+            nb: Node::new(alloc, Side::Nb, 4, false),
+            ue: Node::new(alloc, Side::Ue, 4, false),
+            ttis: 0,
+            down: no_flows(),
+            up: no_flows(),
+            looping: Loop::new(alloc),
+            ups: Items::new(alloc),
+            drx: None,
+            seen: [false; 8],
+            kinds: Kinds::new(),
+            out: Records::new(alloc),
+        }
+    }
+
+    /// Takes the records of this line so far.
+    pub fn take_out(&mut self) -> Records
+        ensures records { result ≡ self.old.out }
+        ensures link { self.new ≡ record self.old { out = [] } }
+    {
+        mem::replace(&mut self.out, Records::new(self.alloc))
+    }
+
+    pub(crate) fn say(&mut self, one: Record) -> Result<(), NoMemory>
+        ensures { OnOk result (self.new ≡ says one self.old) }
+    {
+        self.out.push(one)
+    }
+}
