@@ -1,0 +1,14 @@
+pub mod Sound
+pub mod Sharing
+pub mod Processes
+pub mod Places
+pub mod Reports
+pub mod Writers
+pub mod Telling
+pub mod Blocks
+pub mod Waiting
+pub mod Ages
+pub mod Takings
+pub mod Holders
+pub mod Holding
+pub mod Noting

@@ -1,0 +1,7 @@
+pub mod Calls
+pub mod Watching
+pub mod Sharing
+pub mod Processes
+pub mod Blocks
+pub mod Waiting
+pub mod Holding

@@ -1,0 +1,42 @@
+//! What one end of the link promises over any calls. A law is the contract of a function that does nothing.
+#![tactic(auto)]
+
+ghost use Rattle.node_laws.specs.Blocks.{BlockHasWhatWasWritten};
+ghost use Rattle.node_laws.specs.Holding.{HoldsNoOldNumber};
+ghost use Rattle.node_laws.specs.Processes.{ResendsWhatWasBuilt};
+ghost use Rattle.node_laws.specs.Sharing.{SharesAreWithinTheGrant};
+ghost use Rattle.node_laws.specs.Waiting.{TellsInOrder, TellsWhyItWaits};
+
+/// A new block has the grant's size. It is read back as padding or none, at most one report, exactly the PDUs that the bearers
+/// write, in the order of the channels and each on its own, and padding or none; where each bearer's PDUs fit its share, as
+/// `Bearer::take` promises.
+pub fn block_has_what_was_written()
+    ensures { BlockHasWhatWasWritten }
+{}
+
+/// A HARQ process holds the block that it built last until a good feedback or the last of its visits, of which it has at most the
+/// number that is set. Each time it is sent, it has the same octets, and the redundancy versions are 0, 2, 3 and 1 in turn.
+#[tactic(auto, using(crate::proofs::Processes::resends))]
+pub fn resends_what_was_built()
+    ensures { ResendsWhatWasBuilt }
+{}
+
+/// The shares of a new block add up to at most its grant and 2 octets; none is more than the bearer needs, and where the grant is
+/// enough for all, each is what it needs.
+pub fn shares_are_within_the_grant()
+    ensures { SharesAreWithinTheGrant }
+{}
+
+/// A bearer with data writes one data PDU into a block, or else tells once why not: the first that is true of the retransmission
+/// limit, a shut window, a number that HARQ holds, and too small a share. One without data writes none and tells nothing of it. What
+/// is told of a new block is what its bearers tell, in the order of the channels.
+pub fn tells_why_it_waits()
+    ensures bearer { TellsWhyItWaits }
+    ensures block { TellsInOrder }
+{}
+
+/// While a HARQ process holds a block, each number that a bearer gave a data PDU in it lies at most a window below the next number
+/// of that bearer, so that it can't be misread: 512, or 16 for numbers of 5 bits.
+pub fn holds_no_old_number()
+    ensures { HoldsNoOldNumber }
+{}
