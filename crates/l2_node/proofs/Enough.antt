@@ -2,8 +2,7 @@
 use Rattle.std.proofs.Common.{◌≡◌, ◌≤◌, ℕ, Option, Some, None}
 use Rattle.harq.specs.declared.sender.Order.{Order}
 use Rattle.harq.specs.declared.sender.Order.TheVariants.{Silent, Unseen, Free, Grant}
-use Rattle.harq.specs.declared.sender.Visit.{Visit}
-use Rattle.harq.specs.declared.sender.Visit.TheVariants.{New, Resend, Silent as Nothing}
+use Rattle.harq.specs.declared.sender.Visit.TheVariants.{New, Silent as Nothing}
 use Rattle.harq.specs.Sending.{Block, Sending, SendProcess, process_at, resend_or, answered, visit_answer}
 use Rattle.l2_node.specs.Building.{IsEnough}
 

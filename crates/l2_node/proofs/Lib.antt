@@ -1,3 +1,4 @@
 pub mod Enough
+pub mod Idle
 pub mod Rooms
 pub mod Ticks

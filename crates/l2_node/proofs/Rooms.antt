@@ -1,6 +1,5 @@
 -- A block of SDUs has 2 octets fewer than the SDUs with 3 octets for each subheader, and so room for what fits behind them.
-use Rattle.std.proofs.Common.{◌≡◌, ◌≤◌, ◌<◌, ◌^◌, ℕ, zero, suc, ◌+◌, ◌-◌, ◌/◌, ◌%◌, nat_lt, Bool, true, false, if◌then◌else◌, List, [], ◌∷◌, ◌++◌, length, map, refl, ap, sym, ◌∙◌, subst, arith, length-append, append_assoc}
-use Rattle.std.specs.List.{flat_map}
+use Rattle.std.proofs.Common.{◌≡◌, ◌≤◌, ◌<◌, ◌^◌, ℕ, ◌+◌, ◌-◌, ◌/◌, ◌%◌, nat_lt, Bool, true, false, if◌then◌else◌, List, [], ◌∷◌, ◌++◌, length, map, refl, ap, ◌∙◌, subst, arith, length-append, append_assoc}
 use Rattle.std.proofs.lemmas.List.Sums.{sum_by-cons}
 use Rattle.mac_pdu.specs.declared.builder.Sdu.{Sdu}
 use Rattle.mac_pdu.specs.declared.item.Bsr.{Bsr}
@@ -8,7 +7,7 @@ use Rattle.mac_pdu.specs.declared.item.Bsr.TheVariants.{Truncated, Short, Long}
 use Rattle.mac_pdu.specs.declared.item.Control.{Control}
 use Rattle.mac_pdu.specs.declared.item.Control.TheVariants.{Report}
 use Rattle.mac_pdu.specs.Items.{MacItem, element, sdu, sdu_item, report_octets, control_octets}
-use Rattle.mac_pdu.specs.Writing.{Parts, items_of, writing, headers, inner, payload, length_field, report_size, with_control}
+use Rattle.mac_pdu.specs.Writing.{Parts, items_of, writing, inner, payload, length_field, report_size, with_control}
 use Rattle.bearer_parts.specs.Shares.{in_block}
 use Rattle.l2_node.specs.Writing.{taken_up, sdus_of, with_sdus}
 

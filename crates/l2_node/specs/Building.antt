@@ -5,7 +5,7 @@ use Rattle.harq.specs.declared.sender.Order.{Order}
 use Rattle.harq.specs.declared.sender.Order.TheVariants as orders
 use Rattle.harq.specs.declared.sender.Visit.{Visit}
 use Rattle.harq.specs.declared.sender.Visit.TheVariants.{New, Resend, Silent}
-use Rattle.harq.specs.Sending.{visit_answer, after_visit, after_load, ndi_of}
+use Rattle.harq.specs.Sending.{visit_answer, after_visit, after_load}
 use Rattle.prioritise.specs.Shares.{after_allot}
 use Rattle.l2_node.specs.End.{End}
 use Rattle.l2_node.specs.Writing.{needs, written, new_block}

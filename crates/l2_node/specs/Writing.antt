@@ -1,5 +1,5 @@
 -- A new block: what each bearer writes into its share of a grant, a buffer report, padding (TS 36.321 5.4.3.1, 5.4.5).
-use Rattle.std.specs.Prelude.{ℕ, ◌+◌, ◌-◌, ◌^◌, min, Bool, true, false, nat_lt, if◌then◌else◌, Option, Some, None, List, [], ◌∷◌, ◌++◌, length, replicate, slice_index, slice_set}
+use Rattle.std.specs.Prelude.{ℕ, ◌+◌, ◌-◌, ◌^◌, min, Bool, false, nat_lt, if◌then◌else◌, Option, Some, None, List, [], ◌∷◌, ◌++◌, length, replicate, slice_index, slice_set}
 use Rattle.bearer.specs.Bearer.{Of, of, Life, alive}
 use Rattle.bearer.specs.Sums.{need, backlog}
 use Rattle.bearer.specs.Taking.{pdus, number, told, after}

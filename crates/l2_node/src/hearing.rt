@@ -45,6 +45,7 @@ impl End {
         requires { has lcid self.old.bearers ≡ true }
         ensures end { OnOk result (self.new ≡ expired lcid clock self.old) }
         ensures events { IfOk result (λ events. events ≡ expiry lcid clock self.old) }
+        ensures idle { IfOk result (λ events. events ≡ None → self.new ≡ self.old) }
     {
         let at = find(lcid, self.bearers.as_slice());
         let bearer = &mut self.bearers[at];

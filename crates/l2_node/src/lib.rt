@@ -17,3 +17,4 @@ mod tests;
 mod writing;
 
 pub use node::{Attached, Built, Moving, Node};
+pub use writing::sent_by;

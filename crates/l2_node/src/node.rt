@@ -30,7 +30,7 @@ use std::marker::Model;
 pub struct Built {
     /// Whether a new block was built, the held one is sent again, or nothing is sent.
     pub visit: Visit,
-    /// The NDI of the process then.
+    /// The NDI of the process then: of its last block on the downlink, the last one seen on the uplink.
     pub ndi: bool,
     /// What the bearers tell of a new block, in the order in which they write.
     pub events: Events,
@@ -136,6 +136,13 @@ impl Node<Attached> {
         has(lcid, self.state.end.bearers.as_slice())
     }
 
+    /// How many bearers there are.
+    pub fn count(&self) -> u64
+        ensures { result ≡ length self.now.end.bearers }
+    {
+        self.state.end.bearers.len() as u64
+    }
+
     /// Submits a copy of an SDU of 1 to 8188 octets to a bearer that is there.
     ///
     /// Refused are, in this order: no octets, more than 8188 octets, any SDU where 1024 wait, and any where its COUNT would
@@ -220,13 +227,6 @@ impl Node<Attached> {
         self.state.end.sender.held(process)
     }
 
-    /// The NDI of the sending process of a TTI: of its last block on the downlink, the last one seen on the uplink.
-    pub fn ndi(&self, tti: u64) -> bool
-        ensures { result ≡ ndi_of self.now.end.sender tti }
-    {
-        self.state.end.sender.ndi(tti)
-    }
-
     /// Feedback on what was sent in a TTI, as the sender reads it.
     pub fn feedback(&mut self, tti: u64, good: bool)
         ensures { self.new ≡ record self.old { end = record self.old.end { sender = after_feedback self.old.end.sender tti good } } }
@@ -287,6 +287,7 @@ impl Node<Attached> {
         requires { has lcid self.old.end.bearers ≡ true }
         ensures node { OnOk result (self.new ≡ attached (expired lcid clock self.old.end)) }
         ensures told { IfOk result (λ events. events ≡ expiry lcid clock self.old.end) }
+        ensures idle { IfOk result (λ events. events ≡ None → self.new ≡ self.old) }
         ensures dead { IsTrue self.old.dead → IsErr result }
         ensures err { OnErr result (IsTrue self.new.dead) }
     {

@@ -65,7 +65,8 @@ impl NewBlock {
     }
 }
 
-pub(crate) fn sent_by(side: Side) -> Direction
+/// The direction in which an end sends: the base station on the downlink, the terminal on the uplink.
+pub fn sent_by(side: Side) -> Direction
     ensures { result ≡ sent_by side }
 {
     match side {

@@ -1,8 +1,7 @@
-use Rattle.std.proofs.Common.{◌≡◌, ◌≤◌, ◌<◌, ℕ, ◌+◌, List, ◌∷◌, length, subst, sym, ap, ◌∙◌, arith}
+use Rattle.std.proofs.Common.{◌≤◌, ℕ, ◌+◌, List, length, subst, ap, ◌∙◌, arith}
 use Rattle.std.specs.List.{All}
 use Rattle.std.proofs.lemmas.List.Elements.{All-tail}
 use Rattle.mac_pdu.specs.Writing.{Parts}
-use Rattle.bearer_parts.specs.Shares.{in_block}
 use Rattle.l2_node.specs.Writing.{taken_up}
 use Rattle.l2_node.proofs.Rooms.{sdu_fits, first_in_block, sdus_behind, taken_up_behind}
 use Rattle.l2_node.proofs.writing.add_sdus.Goals as goal

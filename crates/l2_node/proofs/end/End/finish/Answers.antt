@@ -1,4 +1,4 @@
-use Rattle.std.proofs.Common.{◌≡◌, ◌≤◌, ◌+◌, ◌-◌, length, subst, sym, ◌∙◌, arith}
+use Rattle.std.proofs.Common.{◌≤◌, ◌+◌, ◌-◌, length, subst, sym, ◌∙◌, arith}
 use Rattle.mac_pdu.specs.Writing.{Parts, items_of, writing, report_size}
 use Rattle.l2_node.proofs.Rooms.{sdus_fit, report_fits}
 use Rattle.l2_node.proofs.end.End.finish.Goals.{in-Some+in_ok-control, in_default}
