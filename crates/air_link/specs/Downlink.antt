@@ -35,6 +35,10 @@ visits side t grant order l = with_end side (built t grant order (end_of side l)
 abbrev pub builds : Side → ℕ → ℕ → Order → Link → Link
 builds side t grant order l = tells_all side (building t grant order (end_of side l)) (visits side t grant order l)
 
+-- the NDI of the process then
+abbrev pub built_ndi : Side → ℕ → ℕ → Order → Link → Bool
+built_ndi side t grant order l = ndi_of (built t grant order (end_of side l)).sender t
+
 -- the block that a process of a TTI holds
 abbrev pub block_at : ℕ → End → List ℕ
 block_at t e = unwrap_or (held_of e.sender (t % 8)) []
@@ -129,17 +133,17 @@ unseen New t l = record l { seen = slice_set l.seen (t % 8) false }
 unseen (Resend rv) t l = l
 unseen Quiet t l = l
 
--- the block of a visit goes over the air
-abbrev pub goes_down : Visit → ℕ → Outcome → List ℕ → Link → Link
-goes_down v t o block l = lands t o (ndi_of l.nb.sender t) block (sends v Nb t block (unseen v t l))
+-- the block of a visit goes over the air, with the NDI of its process
+abbrev pub goes_down : Visit → ℕ → Outcome → Bool → List ℕ → Link → Link
+goes_down v t o ndi block l = lands t o ndi block (sends v Nb t block (unseen v t l))
 
 abbrev pub down_order : ℕ → Order
 down_order grant = if grant == 0 then Silent else Free
 
-abbrev pub down_by : Visit → ℕ → Outcome → Link → Link
-down_by New t o l = goes_down New t o (block_at t l.nb) l
-down_by (Resend rv) t o l = goes_down (Resend rv) t o (block_at t l.nb) l
-down_by Quiet t o l = l
+abbrev pub down_by : Visit → ℕ → Outcome → Bool → Link → Link
+down_by New t o ndi l = goes_down New t o ndi (block_at t l.nb) l
+down_by (Resend rv) t o ndi l = goes_down (Resend rv) t o ndi (block_at t l.nb) l
+down_by Quiet t o ndi l = l
 
 unfoldable pub downlink : ℕ → ℕ → Outcome → Link → Link
-downlink t grant o l = down_by (visit t (down_order grant) l.nb) t o (builds Nb t grant (down_order grant) l)
+downlink t grant o l = down_by (visit t (down_order grant) l.nb) t o (built_ndi Nb t grant (down_order grant) l) (builds Nb t grant (down_order grant) l)

@@ -5,3 +5,5 @@ pub mod Downlink
 pub mod Uplink
 pub mod Ttis
 pub mod Lines
+pub mod Draining
+pub mod Sums

@@ -51,10 +51,7 @@ listens c l = record l { drx = Some (fresh_listening c) }
 -- a refusal that leaves a record: of an SDU of a script's line only those of room and COUNT come
 abbrev pub no_place : SubmitRefusal → NoPlace
 no_place refusals.CountEnd = Count
-no_place refusals.Full = Full
-no_place refusals.Empty = Full
-no_place refusals.TooLong = Full
-no_place refusals.NoMemory = Full
+no_place other = Full
 
 abbrev pub hands_in : Side → ℕ → List ℕ → Link → Link
 hands_in side lcid sdu l = with_end side (submitted lcid sdu (end_of side l)) l

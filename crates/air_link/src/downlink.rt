@@ -5,14 +5,14 @@ ghost use Rattle.l2_node.specs.Building.{IsEnough, visit, building};
 ghost use Rattle.l2_node.specs.Hearing.{received};
 ghost use Rattle.l2_node.specs.End.{sent_by};
 ghost use Rattle.air_link.specs.Link.{says, end_of, with_end};
-ghost use Rattle.air_link.specs.Downlink.{visits, builds, receives, block_at, shows, sends, hears, turned, feeds, told_as, is_good, saw_new, first_seen, decoded, damaged, sees, assigned, answer, comes, hears_by, aired, lands, unseen, goes_down, down_order, down_by, downlink};
+ghost use Rattle.air_link.specs.Downlink.{visits, builds, built_ndi, receives, block_at, shows, sends, hears, turned, feeds, told_as, is_good, saw_new, first_seen, decoded, damaged, sees, assigned, answer, comes, hears_by, aired, lands, unseen, goes_down, down_order, down_by, downlink};
 
 use crate::link::Link;
 use air_record::{Arrived, Fate, Outcome, Record};
 use bearer::{Events, Side};
 use harq::{Answer, Order, Visit};
 use l2_bits::{Bytes, NoMemory};
-use l2_node::{Attached, Built, Node};
+use l2_node::{Attached, Built, Node, sent_by};
 use mac_pdu::Direction;
 use pdu_show::show_onto;
 use std::alloc::Global;
@@ -34,19 +34,24 @@ impl Link {
         } else {
             Order::Free
         };
-        let visit = self.build(Side::Nb, tti, grant, order)?;
+        let (visit, ndi) = self.build(Side::Nb, tti, grant, order)?;
         match visit {
-            Visit::New => self.go_down(visit, tti, outcome),
-            Visit::Resend { .. } => self.go_down(visit, tti, outcome),
+            Visit::New => self.go_down(visit, tti, outcome, ndi),
+            Visit::Resend { .. } => self.go_down(visit, tti, outcome, ndi),
             Visit::Silent => Ok(()),
         }
     }
 
-    fn go_down(&mut self, visit: Visit, tti: u64, outcome: Outcome) -> Result<(), NoMemory>
-        ensures { OnOk result (self.new ≡ goes_down visit tti outcome (block_at tti self.old.nb) self.old) }
+    fn go_down(
+        &mut self,
+        visit: Visit,
+        tti: u64,
+        outcome: Outcome,
+        ndi: bool,
+    ) -> Result<(), NoMemory>
+        ensures { OnOk result (self.new ≡ goes_down visit tti outcome ndi (block_at tti self.old.nb) self.old) }
     {
         let block = block_at(self.alloc, tti, &self.nb)?;
-        let ndi = self.nb.ndi(tti);
         self.unsee(visit, tti);
         self.send(visit, Side::Nb, tti, block.as_slice())?;
         self.land(tti, outcome, ndi, block.as_slice())
@@ -133,26 +138,23 @@ impl Link {
 
     // ---- both directions
 
-    // An end visits its process, and tells what its bearers do.
+    // An end visits its process, and tells what its bearers do: what the visit was, and the NDI of the process then.
     pub(crate) fn build(
         &mut self,
         side: Side,
         tti: u64,
         grant: u32,
         order: Order,
-    ) -> Result<Visit, NoMemory>
+    ) -> Result<(Visit, bool), NoMemory>
         requires grant { grant ≤ 9422 }
         requires some { IsEnough order grant }
         ensures link { OnOk result (self.new ≡ builds side tti grant order self.old) }
-        ensures visit { IfOk result (λ v. v ≡ visit tti order (end_of side self.old)) }
+        ensures visit { IfOk result (λ r. r.0 ≡ visit tti order (end_of side self.old)) }
+        ensures ndi { IfOk result (λ r. r.1 ≡ built_ndi side tti grant order self.old) }
     {
-        let Built {
-            visit,
-            ndi: _,
-            events,
-        } = self.visit(side, tti, grant, order)?;
+        let Built { visit, ndi, events } = self.visit(side, tti, grant, order)?;
         self.tell_all(side, events)?;
-        Ok(visit)
+        Ok((visit, ndi))
     }
 
     fn visit(&mut self, side: Side, tti: u64, grant: u32, order: Order) -> Result<Built, NoMemory>
@@ -160,6 +162,7 @@ impl Link {
         requires some { IsEnough order grant }
         ensures link { OnOk result (self.new ≡ visits side tti grant order self.old) }
         ensures visit { IfOk result (λ b. b.visit ≡ visit tti order (end_of side self.old)) }
+        ensures ndi { IfOk result (λ b. b.ndi ≡ built_ndi side tti grant order self.old) }
         ensures told { IfOk result (λ b. b.events ≡ building tti grant order (end_of side self.old)) }
     {
         match side {
@@ -247,15 +250,6 @@ pub(crate) fn turned(flipped: bool, good: bool) -> bool
     ensures { result ≡ turned flipped good }
 {
     if flipped { !good } else { good }
-}
-
-pub(crate) fn sent_by(side: Side) -> Direction
-    ensures { result ≡ sent_by side }
-{
-    match side {
-        Side::Nb => Direction::Down,
-        Side::Ue => Direction::Up,
-    }
 }
 
 fn is_good(answer: Answer) -> bool

@@ -5,13 +5,14 @@
 #![tactic(auto)]
 
 mod downlink;
+mod draining;
 mod lines;
 mod link;
 mod loops;
+mod sums;
 mod telling;
-#[cfg(test)]
-mod tests;
 mod ttis;
 mod uplink;
 
 pub use link::Link;
+pub use sums::Sums;

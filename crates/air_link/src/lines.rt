@@ -103,12 +103,13 @@ impl Link {
         }
     }
 
-    /// A timer of a bearer that is there expires; `false` exactly where it doesn't run.
+    /// A timer of a bearer that is there expires; `false` exactly where it doesn't run, and nothing then changes.
     #[tactic(auto, unfolding(crate::specs::Lines::expires))]
     pub fn expire(&mut self, side: Side, lcid: u8, clock: Clock) -> Result<bool, NoMemory>
         requires { has lcid (end_of side self.old).bearers ≡ true }
         ensures ran { IfOk result (λ ran. ran ≡ is_some (expiring side lcid clock self.old)) }
         ensures link { OnOk result (self.new ≡ expires side lcid clock self.old) }
+        ensures idle { IfOk result (λ ran. ran ≡ false → self.new ≡ self.old) }
     {
         match self.expire_end(side, lcid, clock)? {
             None => Ok(false),
@@ -124,6 +125,7 @@ impl Link {
         requires { has lcid (end_of side self.old).bearers ≡ true }
         ensures told { IfOk result (λ events. events ≡ expiring side lcid clock self.old) }
         ensures link { OnOk result (self.new ≡ expires_alone side lcid clock self.old) }
+        ensures idle { IfOk result (λ events. events ≡ None → self.new ≡ self.old) }
     {
         match side {
             Side::Nb => self.nb.expire(lcid, clock),

@@ -38,7 +38,7 @@ impl Link {
         self.uplink(tti, up_grant, missed(asleep, up))
     }
 
-    fn begin(&mut self) -> Result<(), NoMemory>
+    pub(crate) fn begin(&mut self) -> Result<(), NoMemory>
         ensures { OnOk result (self.new ≡ begins self.old) }
     {
         let tti = self.ttis;
@@ -87,7 +87,7 @@ impl Link {
         }
     }
 
-    fn grow(&mut self, side: Side)
+    pub(crate) fn grow(&mut self, side: Side)
         ensures { self.new ≡ grows side self.old }
     {
         match side {

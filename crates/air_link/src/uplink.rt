@@ -41,7 +41,7 @@ impl Link {
         requires some { IsEnough order grant }
         ensures { OnOk result (self.new ≡ answers tti grant order outcome self.old) }
     {
-        let visit = self.build(Side::Ue, tti, grant, order)?;
+        let (visit, _ndi) = self.build(Side::Ue, tti, grant, order)?;
         match visit {
             Visit::New => self.go_up(visit, tti, outcome),
             Visit::Resend { .. } => self.go_up(visit, tti, outcome),

@@ -1,0 +1,94 @@
+-- The steps of a drain: TTIs in which everything arrives and no timer counts down, and timers that expire between them.
+use Rattle.std.specs.Prelude.{ℕ, ◌+◌, ◌-◌, ◌^◌, min, Bool, true, false, ◌&&◌, if◌then◌else◌, List, [], ◌∷◌, length, Option, Some, None, slice_index_or}
+use Rattle.std.specs.List.{list_any}
+use Rattle.air_record.specs.declared.line.Fate.TheVariants.{Ok}
+use Rattle.air_record.specs.declared.line.Outcome.{Outcome}
+use Rattle.air_record.specs.declared.record.Record.{Record}
+use Rattle.air_record.specs.declared.record.Record.TheVariants as records
+use Rattle.bearer_types.specs.declared.event.Event.{Event}
+use Rattle.bearer_types.specs.declared.event.Event.TheVariants.{Send}
+use Rattle.l2_node.specs.Finding.{has}
+use Rattle.l2_node.specs.Sums.{is_drained as end_drained, left as end_left}
+use Rattle.l2_types.specs.declared.event.Clock.{Clock}
+use Rattle.l2_types.specs.declared.event.Clock.TheVariants.{Poll, Reorder, Prohibit}
+use Rattle.l2_types.specs.declared.side.Side.{Side}
+use Rattle.l2_types.specs.declared.side.Side.TheVariants.{Nb, Ue}
+use Rattle.pdu_show.specs.declared.kinds.Layout.{Layout}
+use Rattle.pdu_show.specs.declared.kinds.Layout.TheVariants.{Am}
+use Rattle.air_link.specs.Link.{Link, end_of}
+use Rattle.air_link.specs.Loops.{loops}
+use Rattle.air_link.specs.Downlink.{downlink}
+use Rattle.air_link.specs.Uplink.{uplink}
+use Rattle.air_link.specs.Ttis.{begins, grows}
+use Rattle.air_link.specs.Lines.{expires}
+
+-- ---- a TTI: buckets grow, the terminal is awake, and both blocks arrive
+
+abbrev pub intact : Outcome
+intact = record { fate = Ok; flipped = false }
+
+abbrev pub drain_by : ℕ → ℕ → Link → Link
+drain_by t grant l = uplink t grant intact (loops (downlink t grant intact (grows Ue (grows Nb l))))
+
+unfoldable pub drain_tti : ℕ → Link → Link
+drain_tti grant l = drain_by l.ttis grant (begins l)
+
+-- ---- whether the records so far hold a data PDU or a STATUS of an acknowledged bearer
+
+abbrev pub is_acknowledged : Option Layout → Bool
+is_acknowledged (Some (Am kind)) = true
+is_acknowledged layout = false
+
+abbrev pub sends_on : List (Option Layout) → Event → Bool
+sends_on kinds (Send lcid how sn) = is_acknowledged (slice_index_or kinds lcid None)
+sends_on kinds event = false
+
+abbrev pub is_carried : List (Option Layout) → Record → Bool
+is_carried kinds (records.Of side event) = sends_on kinds event
+is_carried kinds one = false
+
+abbrev pub is_carried_by : List (Option Layout) → Option Record → Bool
+is_carried_by kinds None = false
+is_carried_by kinds (Some one) = is_carried kinds one
+
+abbrev pub carried : Link → Bool
+carried l = list_any (is_carried l.kinds) l.out
+
+-- ---- timers expire where they run, bearer by bearer
+
+abbrev pub all_lcids : List ℕ
+all_lcids = 0 ∷ 1 ∷ 2 ∷ 3 ∷ 4 ∷ 5 ∷ 6 ∷ 7 ∷ 8 ∷ 9 ∷ 10 ∷ []
+
+unfoldable pub clock_ends : Side → Clock → ℕ → Link → Link
+clock_ends side clock lcid l = if has lcid (end_of side l).bearers then expires side lcid clock l else l
+
+abbrev pub waits_end : Side → ℕ → Link → Link
+waits_end side lcid l = clock_ends side Prohibit lcid (clock_ends side Reorder lcid l)
+
+abbrev pub all_waits_end : Side → List ℕ → Link → Link
+all_waits_end side [] l = l
+all_waits_end side (lcid ∷ lcids) l = all_waits_end side lcids (waits_end side lcid l)
+
+-- of each bearer the reordering timer, then the prohibit timer; the base station's first
+unfoldable pub waits_expire : Link → Link
+waits_expire l = all_waits_end Ue all_lcids (all_waits_end Nb all_lcids l)
+
+abbrev pub all_polls_end : Side → List ℕ → Link → Link
+all_polls_end side [] l = l
+all_polls_end side (lcid ∷ lcids) l = all_polls_end side lcids (clock_ends side Poll lcid l)
+
+unfoldable pub polls_expire : Link → Link
+polls_expire l = all_polls_end Ue all_lcids (all_polls_end Nb all_lcids l)
+
+-- ---- what is left
+
+abbrev pub is_drained : Link → Bool
+is_drained l = end_drained l.nb && end_drained l.ue
+
+-- the octets that both ends have still to bring over, up to what 64 bits hold
+abbrev pub left : Link → ℕ
+left l = min (end_left l.nb + end_left l.ue) (2 ^ 64 - 1)
+
+-- the bearers
+abbrev pub count : Link → ℕ
+count l = length l.nb.bearers

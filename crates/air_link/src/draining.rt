@@ -1,0 +1,140 @@
+// The steps of a drain.
+ghost use Rattle.std.specs.Prelude.{◌≡◌, ◌≤◌, OnOk, option_copied};
+ghost use Rattle.air_link.specs.Link.{end_of};
+ghost use Rattle.air_link.specs.Draining.{drain_tti, is_acknowledged, is_carried_by, carried, clock_ends, waits_end, all_waits_end, waits_expire, all_polls_end, polls_expire, is_drained, left, count};
+
+use crate::link::Link;
+use air_record::{Fate, Outcome, Record};
+use bearer::{Clock, Event, Side};
+use l2_bits::NoMemory;
+use pdu_show::{Kinds, Layout};
+
+const INTACT: Outcome = Outcome {
+    fate: Fate::Ok,
+    flipped: false,
+};
+
+const ALL_LCIDS: [u8; 11] = [0, 1, 2, 3, 4, 5, 6, 7, 8, 9, 10];
+
+impl Link {
+    /// A TTI of a drain: buckets grow, no timer counts down, the terminal doesn't sleep, and both blocks arrive. The grant of
+    /// both directions is in octets, up to 9422.
+    #[tactic(auto, unfolding(crate::specs::Draining::drain_tti))]
+    pub fn drain_tti(&mut self, grant: u32) -> Result<(), NoMemory>
+        requires { grant ≤ 9422 }
+        ensures { OnOk result (self.new ≡ drain_tti grant self.old) }
+    {
+        let tti = self.ttis;
+        self.begin()?;
+        self.grow(Side::Nb);
+        self.grow(Side::Ue);
+        self.downlink(tti, grant, INTACT)?;
+        self.loop_back()?;
+        self.uplink(tti, grant, INTACT)
+    }
+
+    /// Whether the records of this line so far hold a data PDU or a STATUS that an acknowledged bearer sends.
+    #[tactic(auto, using(crate::proofs::Carrying::any_at, crate::proofs::Carrying::none_past))]
+    pub fn carried(&self) -> bool
+        ensures { result ≡ carried self.now }
+    {
+        for at in 0..self.out.len() {
+            if is_carried_by(&self.kinds, self.out.get(at)) {
+                return true;
+            }
+        }
+        false
+    }
+
+    /// All reordering and prohibit timers that run expire: those of the base station first, bearers by ascending LCID, and of
+    /// each the reordering timer first.
+    #[tactic(auto, unfolding(crate::specs::Draining::waits_expire))]
+    pub fn expire_waits(&mut self) -> Result<(), NoMemory>
+        ensures { OnOk result (self.new ≡ waits_expire self.old) }
+    {
+        self.end_waits(Side::Nb, &ALL_LCIDS)?;
+        self.end_waits(Side::Ue, &ALL_LCIDS)
+    }
+
+    /// All poll timers that run expire, in the same order.
+    #[tactic(auto, unfolding(crate::specs::Draining::polls_expire))]
+    pub fn expire_polls(&mut self) -> Result<(), NoMemory>
+        ensures { OnOk result (self.new ≡ polls_expire self.old) }
+    {
+        self.end_polls(Side::Nb, &ALL_LCIDS)?;
+        self.end_polls(Side::Ue, &ALL_LCIDS)
+    }
+
+    fn end_waits(&mut self, side: Side, lcids: &[u8]) -> Result<(), NoMemory>
+        ensures { OnOk result (self.new ≡ all_waits_end side lcids.now self.old) }
+    {
+        for lcid in lcids {
+            self.end_clock(side, Clock::Reorder, *lcid)?;
+            self.end_clock(side, Clock::Prohibit, *lcid)?;
+        }
+        Ok(())
+    }
+
+    fn end_polls(&mut self, side: Side, lcids: &[u8]) -> Result<(), NoMemory>
+        ensures { OnOk result (self.new ≡ all_polls_end side lcids.now self.old) }
+    {
+        for lcid in lcids {
+            self.end_clock(side, Clock::Poll, *lcid)?;
+        }
+        Ok(())
+    }
+
+    #[tactic(auto, unfolding(crate::specs::Draining::clock_ends))]
+    fn end_clock(&mut self, side: Side, clock: Clock, lcid: u8) -> Result<(), NoMemory>
+        ensures { OnOk result (self.new ≡ clock_ends side clock lcid self.old) }
+    {
+        if self.has(side, lcid) {
+            self.expire(side, lcid, clock)?;
+        }
+        Ok(())
+    }
+
+    /// Whether both ends are drained: each acknowledged sender has failed or has nothing left.
+    pub fn is_drained(&self) -> bool
+        ensures { result ≡ is_drained self.now }
+    {
+        self.nb.drained() && self.ue.drained()
+    }
+
+    /// The octets that both ends have still to bring over, up to 2^64 - 1.
+    pub fn left(&self) -> u64
+        ensures { result ≡ left self.now }
+    {
+        self.nb.left().saturating_add(self.ue.left())
+    }
+
+    /// How many bearers there are.
+    pub fn count(&self) -> u64
+        ensures { result ≡ count self.now }
+    {
+        self.nb.count()
+    }
+}
+
+fn is_carried_by(kinds: &Kinds, one: Option<&Record>) -> bool
+    ensures { result ≡ is_carried_by kinds.now (option_copied one.entry) }
+{
+    match one {
+        Some(
+            Record::Of {
+                event: Event::Send { lcid, .. },
+                ..
+            },
+        ) => is_acknowledged(kinds.of(*lcid)),
+        _ => false,
+    }
+}
+
+fn is_acknowledged(layout: Option<Layout>) -> bool
+    ensures { result ≡ is_acknowledged layout }
+{
+    match layout {
+        Some(Layout::Am { .. }) => true,
+        _ => false,
+    }
+}
