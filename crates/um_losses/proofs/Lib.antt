@@ -1,0 +1,5 @@
+pub mod TagLemmas
+pub mod Processes
+pub mod Again
+pub mod Alike
+pub mod LastTag

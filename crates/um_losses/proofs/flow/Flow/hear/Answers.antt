@@ -1,0 +1,10 @@
+use Rattle.std.proofs.Common.{rules, ◌≡◌, ◌∙◌}
+use Rattle.rlc_pdu.specs.Views.{umd_of}
+use Rattle.um_losses.specs.Tags.{tagged}
+use Rattle.um_losses.proofs.Again.{read_is}
+use Rattle.um_losses.proofs.flow.Flow.hear.Goals as goal
+
+pub returns : goal.returns
+returns c =
+    let same : umd_of c.in-Ok.umd ≡ tagged c.args.first c.args.pdu = read_is c.reads_umd_again.ensures _ _ _ _ _ c.self.invariant.0 (search rules) (c.as_slice.ensures ∙ c.in_ok-octets.ensures.octets) c.in-Ok.ensures.exact in
+    search rules

@@ -1,0 +1,30 @@
+// UMD PDUs as records show them.
+ghost use Rattle.std.specs.Prelude.{◌≡◌};
+ghost use Rattle.rlc_pdu.specs.Pdus.{IsUmBits};
+ghost use Rattle.um_losses.specs.Pdus.{is_pdu, ends_in};
+
+// A UMD PDU without its octets: its number, framing info and count of elements (TS 36.322 6.2.1.3).
+#[derive(Clone, Copy)]
+pub(crate) struct Pdu {
+    pub(crate) sn: u32,
+    pub(crate) fi: u8,
+    pub(crate) elements: usize,
+}
+
+impl Pdu {
+    // Whether there is such a PDU, with a number of so many bits.
+    pub(crate) fn is_pdu(self, bits: u32) -> bool
+        requires { IsUmBits bits }
+        ensures { result ≡ is_pdu bits self }
+    {
+        let numbers = if bits == 5 { 32 } else { 1024 };
+        self.sn < numbers && self.fi < 4 && self.elements > 0
+    }
+
+    // The SDUs that end in it.
+    pub(crate) fn ends(self) -> usize
+        ensures { result ≡ ends_in self }
+    {
+        self.elements.saturating_sub((self.fi % 2) as usize)
+    }
+}
