@@ -1,0 +1,11 @@
+//! The words of a command line, and the command that they are.
+#![tactic(auto)]
+
+mod command;
+mod line;
+#[cfg(test)]
+mod tests;
+mod words;
+
+pub use command::Command;
+pub use words::Words;
