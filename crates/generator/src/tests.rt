@@ -1,0 +1,110 @@
+use super::Script;
+use l2_io::Source;
+use std::alloc::{AllocError, Global};
+
+/// What the model says of a script: how its first 1000 octets go, with the digits of its first SDUs and how often they
+/// come, how many octets it has, and their checksum.
+#[derive(Clone, Copy)]
+struct Case {
+    number: u32,
+    first: [(&'static [u8], &'static [u8], usize); 2],
+    length: u64,
+    checksum: u32,
+}
+
+const OPENING: &[u8] =
+    b"harq 4\nkeys 2 00000000000000000000000000000001 00000000000000000000000000000002 00000000000000000000000000000003\nbearer 3 am maxretx=32\nbearer 4 um\n";
+
+const CASES: [Case; 2] = [
+    Case {
+        number: 1,
+        first: [
+            (b"tti 1500 ok 1500 ok\nsubmit nb 4 ", b"01", 252),
+            (b"\ntti 1500 ok 1500 bad\nsubmit nb 4 ", b"02", 141),
+        ],
+        length: 1_443_511,
+        checksum: 853_578_953,
+    },
+    Case {
+        number: 7,
+        first: [
+            (b"tti 1500 ok 1500 ok\nsubmit ue 3 ", b"01", 332),
+            (
+                b"\ntti 1500 ok 1500 ok\ntti 1500 ok 1500 ok\ntti 1500 ok 1500 bad\nsubmit ue 3 ",
+                b"04",
+                41,
+            ),
+        ],
+        length: 1_438_202,
+        checksum: 1_237_187_946,
+    },
+];
+
+#[derive(Drop)]
+struct Tally {
+    first: Vec<u8>,
+    length: u64,
+    checksum: u32,
+}
+
+impl Tally {
+    fn add(&mut self, octets: &[u8]) -> Result<(), AllocError> {
+        for octet in octets {
+            if self.first.len() < 1000 {
+                self.first.push(*octet)?;
+            }
+            self.length = self.length.saturating_add(1);
+            self.checksum = self
+                .checksum
+                .wrapping_mul(31)
+                .wrapping_add(u32::from(*octet));
+        }
+        Ok(())
+    }
+}
+
+fn read_all(alloc: Global, number: u32, chunk: usize) -> Result<Tally, AllocError> {
+    let mut script = Script::new(number);
+    let mut tally = Tally {
+        first: Vec::new(alloc),
+        length: 0,
+        checksum: 0,
+    };
+    let mut buffer = [0u8; 4096];
+    let part = &mut buffer[..chunk.clamp(1, 4096)];
+    for _ in 0..u64::MAX {
+        let Ok(count) = script.read(part) else {
+            break;
+        };
+        if count == 0 {
+            break;
+        }
+        tally.add(&part[..count])?;
+    }
+    Ok(tally)
+}
+
+fn first_of(alloc: Global, case: &Case) -> Result<Vec<u8>, AllocError> {
+    let mut first = Vec::from_slice(alloc, OPENING)?;
+    for (lines, digits, times) in case.first {
+        first.extend_from_slice(lines)?;
+        for _ in 0..times {
+            first.extend_from_slice(digits)?;
+        }
+    }
+    Ok(first)
+}
+
+#[test]
+fn scripts_are_those_of_the_model(rt: HostRuntime) -> Result<(), AllocError> {
+    for case in CASES {
+        let first = first_of(rt.alloc(), &case)?;
+        for chunk in [1, 20, 4096] {
+            let tally = read_all(rt.alloc(), case.number, chunk)?;
+            assert_eq!(rt; tally.first.as_slice(), first.as_slice());
+            assert_eq!(rt; tally.length, case.length);
+            assert_eq!(rt; tally.checksum, case.checksum);
+        }
+    }
+    Ok(())
+}
