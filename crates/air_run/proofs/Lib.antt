@@ -1,3 +1,6 @@
 pub mod Cutting
 pub mod Parts
 pub mod Final
+pub mod Allowed
+pub mod Telling
+pub mod Rounds

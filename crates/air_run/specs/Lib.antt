@@ -1,4 +1,8 @@
-pub mod Show
+pub mod Rules
+pub mod Draining
+pub mod Written
+pub mod Playing
+pub mod Sums
 pub mod Run
 pub mod Steps
 pub mod Lines

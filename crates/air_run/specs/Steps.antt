@@ -35,12 +35,13 @@ abbrev pub Steps : Option RunState → ℕ → Line → Option RunState → Opti
 Steps None number line new written written' fault result = (result ≡ Err faults.NoMemory) × (new ≡ None) × (written' ≡ written)
 Steps (Some r) number line new written written' fault result = StepsFrom r number line new written written' fault result
 
-abbrev pub FinishesFrom : RunState → Option (List ℕ) → Option (List ℕ) → Type 0 → Result Unit StepFault → Type 0
-FinishesFrom r written written' fault (Ok _) = written' ≡ after written (texts_of (finish r))
-FinishesFrom r written written' fault (Err (faults.Refused broken)) = ⊥
-FinishesFrom r written written' fault (Err faults.WriteFault) = fault × WritesFront (texts_of (finish r)) written written'
-FinishesFrom r written written' fault (Err faults.NoMemory) = WritesFront (texts_of (finish r)) written written'
+-- a text is put, or a front of it
+abbrev pub Puts : List ℕ → Option (List ℕ) → Option (List ℕ) → Type 0 → Result Unit StepFault → Type 0
+Puts text written written' fault (Ok _) = written' ≡ after written text
+Puts text written written' fault (Err (faults.Refused broken)) = ⊥
+Puts text written written' fault (Err faults.WriteFault) = fault × WritesFront text written written'
+Puts text written written' fault (Err faults.NoMemory) = WritesFront text written written'
 
 abbrev pub Finishes : Option RunState → Option (List ℕ) → Option (List ℕ) → Type 0 → Result Unit StepFault → Type 0
 Finishes None written written' fault result = (result ≡ Err faults.NoMemory) × (written' ≡ written)
-Finishes (Some r) written written' fault result = FinishesFrom r written written' fault result
+Finishes (Some r) written written' fault result = Puts (texts_of (finish r)) written written' fault result

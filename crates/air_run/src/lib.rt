@@ -1,10 +1,17 @@
 //! The run of a script: both ends over the air, and the journal of what happens.
+//!
+//! Contracts speak of an exact machine, which stands in `specs/`.
 #![tactic(auto)]
 
+mod draining;
+mod journal;
+mod keys;
 mod laws;
+mod playing;
 mod refusal;
+mod rules;
 mod run;
-mod running;
+mod sums;
 
 pub use laws::shown_is_final;
 pub use refusal::{Reason, RunRefusal, StepFault};

@@ -13,9 +13,33 @@ pub enum RunRefusal {
     /// A configuration stands behind a line that is none.
     #[error("configured late")]
     ConfiguredLate,
-    /// The program can't play the line as yet.
-    #[error("unbuilt")]
-    Unbuilt,
+    /// A key was used before, or stands twice in the line.
+    #[error("key used")]
+    KeyUsed,
+    /// The timer doesn't run.
+    #[error("timer idle")]
+    TimerIdle,
+    /// The grant of a drain is below 200 octets.
+    #[error("small drain")]
+    SmallDrain,
+    /// There are no keys as yet.
+    #[error("no keys")]
+    NoKeys,
+    /// There was such a line already.
+    #[error("set twice")]
+    SetTwice,
+    /// A test loop is on.
+    #[error("loop on")]
+    LoopOn,
+    /// The bearer has no discard timer.
+    #[error("no discard")]
+    NoDiscard,
+    /// A block was forged.
+    #[error("forged")]
+    Forged,
+    /// The on duration or the offset doesn't fit into the cycle.
+    #[error("drx fields")]
+    DrxFields,
 }
 
 /// Why a line was not run, or not to its end.

@@ -1,24 +1,35 @@
-ghost use Rattle.std.specs.Prelude.{◌≡◌, ◌≤◌, ◌++◌, ◌∷◌, [], ℕ, List, None, Some, OnOk, IfOk};
+ghost use Rattle.std.specs.Prelude.{◌≡◌, ◌≤◌, ◌∷◌, true, false, ℕ, List, None, Some, IfOk};
 ghost use Rattle.l2_io.specs.Known.{HasRisen};
 ghost use Rattle.air_text.specs.Ranges.{IsInRange};
-ghost use Rattle.air_run.specs.Run.{RunState, fresh, step, done, finish};
+ghost use Rattle.air_run.specs.Playing.{played};
+ghost use Rattle.air_run.specs.Rules.{rule_broken, refusal, accepted};
+ghost use Rattle.air_run.specs.Draining.{shown};
+ghost use Rattle.air_run.specs.Written.{all_seen, noticed};
+ghost use Rattle.air_run.specs.Run.{RunState, fresh};
 ghost use Rattle.air_record.specs.Text.{texts_of};
-ghost use Rattle.air_run.specs.Steps.{Steps, Finishes};
+ghost use Rattle.air_run.specs.Steps.{Steps, Puts, Finishes};
 
-use crate::refusal::StepFault;
-use crate::running::Running;
-use air_text::{Line, Record, append_record, print_line};
-use l2_bits::{Bytes, NoMemory};
+use crate::journal::Journal;
+use crate::playing::play;
+use crate::refusal::{RunRefusal, StepFault};
+use crate::rules::Rules;
+use crate::sums::text_of_sums;
+use air_link::Link;
+use air_text::{Line, Record};
+use l2_bits::NoMemory;
 use l2_io::{PutFault, Sink};
 use std::alloc::Global;
 use std::marker::Model;
 
-/// The run of a script. Once memory has run out it answers so to every call.
+/// The run of a script: both ends over the air, what the lines so far rule out, and the journal. Once memory has run out it
+/// answers so to every call.
 #[derive(Drop)]
 pub struct Run {
     alloc: Global,
     dead: bool,
-    running: Running,
+    link: Link,
+    rules: Rules,
+    journal: Journal,
 }
 
 impl Model for Run {
@@ -27,56 +38,21 @@ impl Model for Run {
 
     ghost Value = { Option RunState };
 
-    ghost view = { λ m. if m.dead then None else Some m.running };
-}
-
-// Adds the texts of records to a text.
-fn append_texts(records: &[Record], text: &mut Bytes) -> Result<(), NoMemory>
-    ensures { OnOk result (text.new ≡ text.old ++ texts_of records.now) }
-{
-    for record in records {
-        append_record(text, record)?;
-    }
-    Ok(())
-}
-
-// Runs a line that isn't refused, and gives the text of its records.
-fn text_of_line(
-    alloc: Global,
-    running: &mut Running,
-    number: u32,
-    line: &Line,
-) -> Result<Bytes, NoMemory>
-    requires { IsInRange line.now }
-    ensures state { OnOk result (running.new ≡ record (done line.now running.old) { out = [] }) }
-    ensures text { IfOk result (λ text. text ≡ texts_of (Record.Line number line.now ∷ (done line.now running.old).out)) }
-{
-    let mut text = print_line(alloc, number, line)?;
-    running.play(line)?;
-    append_texts(running.out(), &mut text)?;
-    running.clear();
-    Ok(text)
-}
-
-// The text of the records at the end.
-fn text_of_sums(alloc: Global, running: &Running) -> Result<Bytes, NoMemory>
-    ensures { IfOk result (λ text. text ≡ texts_of (finish running.now)) }
-{
-    let sums = running.sums()?;
-    let mut text = Bytes::new(alloc);
-    append_texts(sums.as_slice(), &mut text)?;
-    Ok(text)
+    ghost view = { λ m. if m.dead then None else Some (record { link = m.link; rules = m.rules; losses = m.journal.losses }) };
 }
 
 impl Run {
     /// A run before the first line. It takes no memory.
+    #[tactic(auto, unfolding(crate::specs::Run::fresh))]
     pub fn new(alloc: Global) -> Run
         ensures { result ≡ Some fresh }
     {
         Run {
             alloc,
             dead: false,
-            running: Running::new(alloc),
+            link: Link::new(alloc),
+            rules: Rules::new(alloc),
+            journal: Journal::new(alloc),
         }
     }
 
@@ -89,17 +65,23 @@ impl Run {
         if self.dead {
             return Err(StepFault::NoMemory);
         }
-        if let Some(refusal) = self.running.refusal(line) {
+        if let Some(refusal) = self.rules.broken(line, &self.link) {
             return Err(StepFault::Refused(refusal));
         }
-        let Ok(text) = text_of_line(self.alloc, &mut self.running, number, line) else {
-            self.dead = true;
-            return Err(StepFault::NoMemory);
-        };
-        match out.put(text.as_slice()) {
-            Ok(()) => Ok(()),
-            Err(PutFault::Failed) => Err(StepFault::WriteFault),
-            Err(PutFault::NoMemory) => {
+        match run_line(
+            &mut self.link,
+            &mut self.rules,
+            &mut self.journal,
+            number,
+            line,
+        ) {
+            Ok(true) => {
+                let answer = put(self.journal.text(), out);
+                self.dead = answer == Err(StepFault::NoMemory);
+                answer
+            }
+            Ok(false) => Err(StepFault::Refused(RunRefusal::TimerIdle)),
+            Err(NoMemory) => {
                 self.dead = true;
                 Err(StepFault::NoMemory)
             }
@@ -114,13 +96,49 @@ impl Run {
         if self.dead {
             return Err(StepFault::NoMemory);
         }
-        let Ok(text) = text_of_sums(self.alloc, &self.running) else {
+        let Ok(text) = text_of_sums(self.alloc, &self.link, &self.journal) else {
             return Err(StepFault::NoMemory);
         };
-        match out.put(text.as_slice()) {
-            Ok(()) => Ok(()),
-            Err(PutFault::Failed) => Err(StepFault::WriteFault),
-            Err(PutFault::NoMemory) => Err(StepFault::NoMemory),
-        }
+        put(text.as_slice(), out)
+    }
+}
+
+// Runs a line that breaks no rule; its text is in the journal. `false` where it asks for the expiry of a timer that doesn't
+// run; then nothing but that text has changed.
+fn run_line(
+    link: &mut Link,
+    rules: &mut Rules,
+    journal: &mut Journal,
+    number: u32,
+    line: &Line,
+) -> Result<bool, NoMemory>
+    requires range { IsInRange line.now }
+    requires allowed { rule_broken line.now rules.old link.old ≡ None }
+    ensures idle { IfOk result (λ ran. ran ≡ false → refusal line.now rules.old link.old ≡ Some RunRefusal.TimerIdle) }
+    ensures link_stays { IfOk result (λ ran. ran ≡ false → link.new ≡ link.old) }
+    ensures rules_stay { IfOk result (λ ran. ran ≡ false → rules.new ≡ rules.old) }
+    ensures losses_stay { IfOk result (λ ran. ran ≡ false → journal.new.losses ≡ journal.old.losses) }
+    ensures allowed { IfOk result (λ ran. ran ≡ true → refusal line.now rules.old link.old ≡ None) }
+    ensures link { IfOk result (λ ran. ran ≡ true → link.new ≡ shown (played line.now rules.old.keys link.old)) }
+    ensures rules { IfOk result (λ ran. ran ≡ true → rules.new ≡ accepted line.now rules.old) }
+    ensures losses { IfOk result (λ ran. ran ≡ true → journal.new.losses ≡ all_seen (played line.now rules.old.keys link.old).out (noticed line.now (played line.now rules.old.keys link.old) journal.old.losses)) }
+    ensures text { IfOk result (λ ran. ran ≡ true → journal.new.text ≡ texts_of (Record.Line number line.now ∷ (played line.now rules.old.keys link.old).out)) }
+{
+    journal.begin(number, line)?;
+    if !play(link, rules, line, journal)? {
+        return Ok(false);
+    }
+    rules.accept(line)?;
+    Ok(true)
+}
+
+fn put<K: Sink>(text: &[u8], out: &mut K) -> Result<(), StepFault>
+    ensures put { Puts text.now (K.written out.old) (K.written out.new) (HasRisen (K.faults out.old) (K.faults out.new)) result }
+    ensures count { K.faults out.old ≤ K.faults out.new }
+{
+    match out.put(text) {
+        Ok(()) => Ok(()),
+        Err(PutFault::Failed) => Err(StepFault::WriteFault),
+        Err(PutFault::NoMemory) => Err(StepFault::NoMemory),
     }
 }

@@ -3,9 +3,8 @@ use Rattle.std.proofs.Common.{Bool, ℕ, List}
 use Rattle.run_laws.specs.Promises.{IsPromised}
 use Rattle.air_run.specs.Journal.{journal_of}
 use Rattle.run_laws.proofs.Playing.{tells-all}
-use Rattle.run_laws.proofs.Promised.{promised}
 
 pub every-journal : (whole : Bool) (octets : List ℕ) → IsPromised (journal_of whole octets)
 every-journal whole octets =
     let t = tells-all whole octets in
-    record { past = t.later; journal_is = rw t.history_is t.journal_is; promises = promised t.later t.order }
+    record { past = t.later; journal_is = rw t.history_is t.journal_is; order = t.order }

@@ -1,10 +1,4 @@
 pub mod Ranges
-pub mod Quiet
-pub mod Machine
-pub mod Flights
-pub mod Standing
 pub mod Growing
 pub mod Playing
-pub mod Forming
-pub mod Promised
 pub mod Everything

@@ -5,8 +5,7 @@ pub fn lines_are_in_range()
     ensures { LinesAreInRange }
 {}
 
-/// The journal of every script keeps the promises: what PDUs carry, which blocks are sent and arrive, that they are well
-/// formed, what is delivered, and the order and cause of each record.
+/// The journal of every script is the records of its accepted lines, each run where it stands, and the sums at its end.
 pub fn every_journal()
     ensures { EveryJournal }
 {}

@@ -1,0 +1,26 @@
+-- Records are told one part after the other.
+use Rattle.std.proofs.Common.{◌≡◌, ◌∙◌, List, [], ◌∷◌, ◌++◌, refl, ap, sym, append-nil, append_assoc}
+use Rattle.air_record.specs.declared.record.Record.{Record}
+use Rattle.air_record.specs.Text.{text_of, texts_of}
+use Rattle.air_run.specs.Written.{Journal, all_seen, told}
+use Rattle.um_losses.specs.Losses.{Losses, seen}
+
+pub texts_both : (a b : List Record) → texts_of (a ++ b) ≡ texts_of a ++ texts_of b
+texts_both [] b = refl
+texts_both (r ∷ rs) b = ap (λ t. text_of r ++ t) (texts_both rs b) ∙ sym (append_assoc (text_of r) (texts_of rs) (texts_of b))
+
+seen-both : (a b : List Record) (w : Losses) → all_seen (a ++ b) w ≡ all_seen b (all_seen a w)
+seen-both [] b w = refl
+seen-both (r ∷ rs) b w = seen-both rs b (seen r w)
+
+pub told_both : (a b : List Record) (j : Journal) → told (a ++ b) j ≡ told b (told a j)
+told_both a b j = rw (texts_both a b, seen-both a b j.losses, append_assoc j.text (texts_of a) (texts_of b)) refl
+
+pub told_none : (j : Journal) → told [] j ≡ j
+told_none j = rw (append-nil j.text) refl
+
+pub told_one : (r : Record) (rs : List Record) (j : Journal) → told rs (told (r ∷ []) j) ≡ told (r ∷ rs) j
+told_one r rs j = sym (told_both (r ∷ []) rs j)
+
+pub told_thrice : (a b c : List Record) (j : Journal) → told c (told b (told a j)) ≡ told ((a ++ b) ++ c) j
+told_thrice a b c j = sym (told_both (a ++ b) c j ∙ ap (told c) (told_both a b j))

@@ -1,0 +1,53 @@
+-- What a line that isn't refused does to both ends.
+use Rattle.std.specs.Prelude.{ℕ, Option, Some, None, replicate}
+use Rattle.air_link.specs.Lines.{bears, discards, visits, reports, listens, submitting, expires, forges, hands_over}
+use Rattle.air_link.specs.Link.{Link}
+use Rattle.air_link.specs.Loops.{loop_set}
+use Rattle.air_link.specs.Ttis.{tti}
+use Rattle.air_record.specs.declared.line.Line.{Line}
+use Rattle.air_record.specs.declared.line.Line.TheVariants as lines
+use Rattle.air_run.specs.Draining.{drained}
+use Rattle.eps_sec.specs.declared.Cipher.TheVariants.{Eea0}
+use Rattle.eps_sec.specs.declared.Key.{Key}
+use Rattle.eps_sec.specs.declared.Keys.{Keys}
+use Rattle.test_loop.specs.declared.Mode.TheVariants.{Off, A, B}
+
+-- keys where there are none as yet, which no bearer uses
+abbrev pub no_key : Key
+no_key = record { octets = replicate 16 0 }
+
+abbrev pub no_keys : Keys
+no_keys = record { alg = Eea0; user = no_key; rrc = no_key; integrity = no_key }
+
+abbrev pub keys_or_none : Option Keys → Keys
+keys_or_none (Some keys) = keys
+keys_or_none None = no_keys
+
+-- the keys of the next cell: the cipher stays
+abbrev pub next_keys : Key → Key → Key → Keys → Keys
+next_keys user rrc integrity keys = record { alg = keys.alg; user = user; rrc = rrc; integrity = integrity }
+
+-- a line other than a drain
+unfoldable pub acted : Line → Option Keys → Link → Link
+acted (lines.Harq maximum) keys l = visits maximum l
+acted lines.Bsr keys l = reports l
+acted (lines.Bearer config options) keys l = bears config (keys_or_none keys) l
+acted (lines.Submit side lcid octets) keys l = submitting side lcid octets l
+acted (lines.Tti up_grant up down_grant down) keys l = tti up_grant up down_grant down l
+acted (lines.Expire side lcid clock) keys l = expires side lcid clock l
+acted (lines.Handover user rrc integrity) keys l = hands_over (next_keys user rrc integrity (keys_or_none keys)) l
+acted lines.LoopOff keys l = loop_set Off l
+acted (lines.LoopA size) keys l = loop_set (A size) l
+acted (lines.LoopB delay) keys l = loop_set (B delay) l
+acted (lines.Forge side octets) keys l = forges side octets l
+acted (lines.Discard lcid ttis) keys l = discards lcid ttis l
+acted (lines.Drx config) keys l = listens config l
+acted line keys l = l
+
+-- a drain, with all its records
+abbrev pub drains : ℕ → Link → Link
+drains grant l = record (drained grant l).link { out = (drained grant l).journal }
+
+abbrev pub played : Line → Option Keys → Link → Link
+played (lines.Drain grant) keys l = drains grant l
+played line keys l = acted line keys l

@@ -1,0 +1,135 @@
+ghost use Rattle.std.specs.Prelude.{◌≡◌, ◌<◌, ◌^◌, ◌++◌, ◌∷◌, [], length, OnOk, IfOk};
+ghost use Rattle.air_record.specs.Text.{texts_of};
+ghost use Rattle.air_run.specs.Written.{Journal as Machine, all_seen, all_forged, with_um, noticed, told, noted};
+ghost use Rattle.air_text.specs.Ranges.{IsInRange};
+ghost use Rattle.l2_node.specs.End.{heard_by};
+ghost use Rattle.pdu_show.specs.Show.{block_shown};
+ghost use Rattle.um_losses.specs.Losses.{none_seen, is_long};
+
+use air_link::Link;
+use air_text::{Line, Record, append_record, print_line};
+use bearer_types::BearerConfig;
+use l2_bits::{Bytes, NoMemory};
+use l2_types::{Kind, Side};
+use mac_pdu::Direction;
+use pdu_show::{Records, show_block};
+use std::alloc::Global;
+use std::marker::Model;
+use um_losses::Losses;
+
+/// The text of a line's records, and what the records so far tell of losses.
+#[derive(Drop)]
+pub(crate) struct Journal {
+    alloc: Global,
+    text: Bytes,
+    losses: Losses,
+}
+
+impl Model for Journal {
+    ghost use Rattle.air_run.specs.Written.{Journal as Machine};
+
+    ghost Value = { Machine };
+
+    ghost view = { λ j. record { text = j.text; losses = j.losses } };
+}
+
+impl Journal {
+    pub fn new(alloc: Global) -> Journal
+        ensures { result ≡ record { text = []; losses = none_seen } }
+    {
+        Journal {
+            alloc,
+            text: Bytes::new(alloc),
+            losses: Losses::new(alloc),
+        }
+    }
+
+    pub fn text(&self) -> &[u8]
+        ensures { result.now ≡ self.now.text }
+    {
+        self.text.as_slice()
+    }
+
+    /// Whether the losses of an unacknowledged flow were long; `None` for any other.
+    pub fn is_long(&self, direction: Direction, lcid: u8) -> Option<bool>
+        ensures { result ≡ is_long direction lcid self.now.losses.flows }
+    {
+        self.losses.is_long(direction, lcid)
+    }
+
+    /// Begins the text of a line, with its own record.
+    pub fn begin(&mut self, number: u32, line: &Line) -> Result<(), NoMemory>
+        ensures { OnOk result (self.new ≡ record self.old { text = texts_of (Record.Line number line.now ∷ []) }) }
+    {
+        self.text = print_line(self.alloc, number, line)?;
+        Ok(())
+    }
+
+    pub fn put(&mut self, one: &Record) -> Result<(), NoMemory>
+        ensures { OnOk result (self.new ≡ told (one.now ∷ []) self.old) }
+    {
+        self.losses.see(one)?;
+        append_record(&mut self.text, one)
+    }
+
+    #[tactic(auto, using(crate::proofs::Telling::told_one, crate::proofs::Telling::told_none))]
+    pub fn put_all(&mut self, mut records: Records) -> Result<(), NoMemory>
+        ensures { OnOk result (self.new ≡ told records self.old) }
+    {
+        while let Some(one) = records.pop_front() {
+            self.put(&one)?;
+        }
+        Ok(())
+    }
+
+    /// What a line tells of losses itself, behind what it did and before its records.
+    pub fn note(&mut self, line: &Line, link: &Link) -> Result<(), NoMemory>
+        requires { IsInRange line.now }
+        ensures { OnOk result (self.new ≡ noted line.now link.now self.old) }
+    {
+        match line {
+            Line::Bearer { config, .. } => self.note_bearer(config),
+            Line::Handover { .. } => self.losses.hand_over(),
+            Line::Forge { side, octets } => self.note_forged(*side, octets.as_slice(), link),
+            _ => Ok(()),
+        }
+    }
+
+    fn note_bearer(&mut self, config: &BearerConfig) -> Result<(), NoMemory>
+        ensures { OnOk result (self.new ≡ record self.old { losses = with_um config.now.kind config.now self.old.losses }) }
+    {
+        match config.kind {
+            Kind::Um => self
+                .losses
+                .add(config.channel.lcid, config.rlc_bits, config.pdcp_bits),
+            _ => Ok(()),
+        }
+    }
+
+    fn note_forged(&mut self, side: Side, block: &[u8], link: &Link) -> Result<(), NoMemory>
+        requires { length block.now < 2 ^ 28 }
+        ensures { OnOk result (self.new ≡ record self.old { losses = all_forged side (block_shown (heard_by side) link.now.kinds block.now) self.old.losses }) }
+    {
+        let records = show_block(self.alloc, heard_by(side), link.kinds(), block)?;
+        see_all_forged(&mut self.losses, side, records)
+    }
+}
+
+// The records of a block that is forged at a side.
+fn see_all_forged(losses: &mut Losses, side: Side, mut records: Records) -> Result<(), NoMemory>
+    ensures { OnOk result (losses.new ≡ all_forged side records losses.old) }
+{
+    while let Some(one) = records.pop_front() {
+        losses.see_forged(side, &one)?;
+    }
+    Ok(())
+}
+
+fn heard_by(side: Side) -> Direction
+    ensures { result ≡ heard_by side }
+{
+    match side {
+        Side::Nb => Direction::Up,
+        Side::Ue => Direction::Down,
+    }
+}
