@@ -1,12 +1,16 @@
 -- The rows of the answers.
-use Rattle.std.proofs.Common.{◌≡◌, ℕ, Bool, List, [], sym, append-nil, inl, inr}
-use Rattle.std.specs.Prelude.{Option}
+use Rattle.std.proofs.Common.{◌≡◌, ℕ, Bool, List, [], refl, sym, append-nil, inl, inr}
+use Rattle.std.specs.Prelude.{Option, Some}
+use Rattle.generator.specs.Script.{script}
+use Rattle.l2_io.specs.Known.{HasRisen}
 use Rattle.air_record.specs.Text.{texts_of}
 use Rattle.air_run.specs.Journal.{Played, Refused}
 use Rattle.run_laws.specs.Journals.{EveryJournal}
 use Rattle.run_laws.proofs.Everything.{every-journal}
 use Rattle.l2_top.specs.Plays.{Plays, HasPlayed}
-use Rattle.l2_top.specs.Main.{HasAll, HasFront, Row, Runs, TellsRefusal, TellsEnding}
+use Rattle.l2_top.specs.Main.{HasAll, HasFront, Row, Runs, Generates, Tells, TellsRefusal, TellsEnding, no_memory_text}
+use Rattle.l2_top.specs.Engines.{sums_of}
+use Rattle.l2_top.proofs.Parting.{unplayed}
 use Rattle.air_run.specs.declared.refusal.Reason.{Reason}
 use Rattle.l2_top.specs.declared.playing.Ending.{Ending}
 use Rattle.l2_top.specs.declared.playing.Ending.TheVariants as endings
@@ -43,6 +47,15 @@ runs-ended journal left left' out out' errs errs' i o f q ending status p told =
   end = p.end;
   row = row-of (journal p.whole p.given) out out' errs errs' i o f q ending status p.plays told;
 }
+
+-- nothing was run
+pub unrun : (journal : Bool → List ℕ → Played) (left out errs errs' : Option (List ℕ)) (i o f q : Type 0) → Tells no_memory_text errs errs' f q
+    → Runs journal left left out out errs errs' i o f q statuses.NoMemory
+unrun journal left out errs errs' i o f q told =
+    runs-ended journal left left out out errs errs' i o f q endings.NoMemory statuses.NoMemory (unplayed journal left out i o) (refl, told)
+
+pub ungenerated : (number : ℕ) (out errs errs' : Option (List ℕ)) (o f q : Type 0) → Tells no_memory_text errs errs' f q → Generates number out out errs errs' o f q statuses.NoMemory
+ungenerated number out errs errs' o f q told = (Some (script number), unrun sums_of (Some (script number)) out errs errs' (HasRisen 0 0) o f q told)
 
 -- what is promised of every journal
 pub every_journal_is_promised : EveryJournal

@@ -1,8 +1,8 @@
--- What plays the lines of an input: the run of a script, or the showing of blocks.
+-- What plays the lines of an input: the run of a script, the showing of blocks, or a run for its sums alone.
 use Rattle.std.specs.Prelude.{ℕ, Bool, List, [], Option, None, Some, Result, Ok, Err}
 use Rattle.air_record.specs.declared.record.Record.{Record}
 use Rattle.air_text.specs.declared.fault.LineRefusal.{LineRefusal}
-use Rattle.air_run.specs.Run.{RunState, finish}
+use Rattle.air_run.specs.Run.{RunState, fresh, finish}
 use Rattle.air_run.specs.Journal.{Player, Outcome, Goes, Ends, Refuses, Played, script, script_line, journal_by}
 use Rattle.air_run.specs.declared.refusal.Reason.TheVariants as reasons
 use Rattle.pdu_show.specs.Decoding.{Decoding, Decoded, undecoded, decode_line}
@@ -28,12 +28,31 @@ showing = record { first = undecoded; line = shown_line; last = λ d. [] }
 abbrev pub blocks_of : Bool → List ℕ → Played
 blocks_of whole octets = journal_by showing whole octets
 
--- ---- either
+-- ---- a script is run, and only what stands at its end is written
+
+abbrev pub muted : {S : Type 0} → Outcome S → Outcome S
+muted (Goes t journal) = Goes t []
+muted (Ends t journal) = Ends t []
+muted (Refuses reason) = Refuses reason
+
+abbrev pub muted_line : RunState → ℕ → List ℕ → Outcome RunState
+muted_line r number text = muted (script_line r number text)
+
+-- the run of a script without the records of its lines
+abbrev pub summing : Player RunState
+summing = record { first = fresh; line = muted_line; last = finish }
+
+-- the sums of a script, whose octets are all there are, or of which more may come
+abbrev pub sums_of : Bool → List ℕ → Played
+sums_of whole octets = journal_by summing whole octets
+
+-- ---- each of them
 
 -- what is known between two lines
 pub data Between : Type 0 where
   Running : RunState → Between
   Showing : Decoding → Between
+  Summing : RunState → Between
 
 -- an outcome over other states
 abbrev pub lifted : {S T : Type 0} → (S → T) → Outcome S → Outcome T
@@ -44,10 +63,12 @@ lifted f (Refuses reason) = Refuses reason
 abbrev pub line_by : Between → ℕ → List ℕ → Outcome Between
 line_by (Running r) number text = lifted Running (script_line r number text)
 line_by (Showing d) number text = lifted Showing (shown_line d number text)
+line_by (Summing r) number text = lifted Summing (muted_line r number text)
 
 abbrev pub last_by : Between → List Record
 last_by (Running r) = finish r
 last_by (Showing d) = []
+last_by (Summing r) = finish r
 
 -- what plays, from a state on
 abbrev pub played_from : Between → Player Between
@@ -57,3 +78,4 @@ played_from first = record { first = first; line = line_by; last = last_by }
 abbrev pub now_in : Engine → Between
 now_in (engines.Run run) = Running (state_of script run)
 now_in (engines.Decode d) = Showing d
+now_in (engines.Sums run) = Summing (state_of script run)

@@ -1,4 +1,3 @@
 pub mod Plays
-pub mod Words
 pub mod Engines
 pub mod Main

@@ -1,14 +1,16 @@
 -- The answers of the program.
-use Rattle.std.specs.Prelude.{◌≡◌, ◌⊎◌, ℕ, Bool, true, List, [], ◌∷◌, ◌++◌, codes, Option}
+use Rattle.std.specs.Prelude.{◌≡◌, ◌⊎◌, ℕ, Bool, true, List, [], ◌∷◌, ◌++◌, codes, Option, Some}
 use Rattle.std.specs.Fmt.{decimal}
-use Rattle.l2_io.specs.Known.{before, after, IsFront, IsAtEnd}
+use Rattle.generator.specs.Script.{script}
+use Rattle.l2_io.specs.Known.{before, after, IsFront, IsAtEnd, HasRisen}
 use Rattle.air_text.specs.declared.fault.LineRefusal.TheVariants.{Word, Number, Range, Hex, Fields, Long}
-use Rattle.air_run.specs.declared.refusal.RunRefusal.TheVariants.{UnknownBearer, BearerTwice, ConfiguredLate, Unbuilt}
+use Rattle.air_run.specs.declared.refusal.RunRefusal.TheVariants.{UnknownBearer, BearerTwice, ConfiguredLate, KeyUsed, TimerIdle, SmallDrain, NoKeys, SetTwice, LoopOn, NoDiscard, Forged, DrxFields}
 use Rattle.air_record.specs.Text.{texts_of}
 use Rattle.air_run.specs.Steps.{WritesFront}
 use Rattle.air_run.specs.Journal.{Finished, Refused, Waiting, Played}
 use Rattle.air_run.specs.declared.refusal.Reason.{Reason}
 use Rattle.air_run.specs.declared.refusal.Reason.TheVariants as reasons
+use Rattle.l2_top.specs.Engines.{sums_of}
 use Rattle.l2_top.specs.declared.playing.Ending.{Ending}
 use Rattle.l2_top.specs.declared.playing.Ending.TheVariants as endings
 use Rattle.l2_top.specs.declared.status.Status.{Status}
@@ -33,7 +35,15 @@ reason_text (reasons.Line Long) = codes "long"
 reason_text (reasons.Run UnknownBearer) = codes "unknown bearer"
 reason_text (reasons.Run BearerTwice) = codes "bearer twice"
 reason_text (reasons.Run ConfiguredLate) = codes "configured late"
-reason_text (reasons.Run Unbuilt) = codes "unbuilt"
+reason_text (reasons.Run KeyUsed) = codes "key used"
+reason_text (reasons.Run TimerIdle) = codes "timer idle"
+reason_text (reasons.Run SmallDrain) = codes "small drain"
+reason_text (reasons.Run NoKeys) = codes "no keys"
+reason_text (reasons.Run SetTwice) = codes "set twice"
+reason_text (reasons.Run LoopOn) = codes "loop on"
+reason_text (reasons.Run NoDiscard) = codes "no discard"
+reason_text (reasons.Run Forged) = codes "forged"
+reason_text (reasons.Run DrxFields) = codes "drx fields"
 reason_text reasons.Lines = codes "lines"
 
 -- the text of a refused line
@@ -96,11 +106,16 @@ pub record Runs (journal : Bool → List ℕ → Played) (left left' out out' er
   pub end : whole ≡ true → IsAtEnd left'
   pub row : Row (journal whole given) out out' errs errs' in_fault out_fault errs_fault shortage status
 
+-- what `generate` did: what a run of its script does, which writes the sums alone
+abbrev pub Generates : ℕ → Option (List ℕ) → Option (List ℕ) → Option (List ℕ) → Option (List ℕ) → Type 0 → Type 0 → Type 0 → Status → Type 0
+Generates number out out' errs errs' out_fault errs_fault shortage status =
+    (left : Option (List ℕ)) × Runs sums_of (Some (script number)) left out out' errs errs' (HasRisen 0 0) out_fault errs_fault shortage status
+
 -- the words are no command
 abbrev pub Refuses : Option (List ℕ) → Option (List ℕ) → Type 0 → Type 0 → Status → Type 0
 Refuses errs errs' errs_fault shortage statuses.Usage = errs' ≡ after errs usage_text
 Refuses errs errs' errs_fault shortage statuses.WriteFault = WritesFront usage_text errs errs' × errs_fault
-Refuses errs errs' errs_fault shortage statuses.NoMemory = (errs' ≡ errs) × shortage
+Refuses errs errs' errs_fault shortage statuses.NoMemory = Tells no_memory_text errs errs' errs_fault shortage
 Refuses errs errs' errs_fault shortage status = ⊥
 
 -- a refused line is told

@@ -1,11 +1,12 @@
-ghost use Rattle.std.specs.Prelude.{◌≡◌, ◌≤◌, Some};
+ghost use Rattle.std.specs.Prelude.{◌≡◌, ◌≤◌, None, Some};
 ghost use Rattle.l2_io.specs.Known.{HasRisen};
 ghost use Rattle.air_run.specs.Journal.{script, script_line, finished};
 ghost use Rattle.air_run.specs.Run.{fresh};
 ghost use Rattle.pdu_show.specs.Decoding.{undecoded};
 ghost use Rattle.l2_top.specs.Plays.{RunsLine, Plays, state_of};
-ghost use Rattle.l2_top.specs.Engines.{Running, Showing, shown_line, line_by, last_by, played_from, now_in};
+ghost use Rattle.l2_top.specs.Engines.{Running, Showing, Summing, muted_line, shown_line, line_by, last_by, played_from, now_in};
 
+use crate::nowhere::Nowhere;
 use crate::playing::Ending;
 use air_run::{Reason, Run, StepFault};
 use air_text::{Line, LineFault, read_line};
@@ -49,6 +50,8 @@ pub enum Engine {
     Run(Run),
     /// Blocks are shown.
     Decode(Decode),
+    /// A script is run, and only what stands at its end is written.
+    Sums(Run),
 }
 
 // Runs one line of a script.
@@ -72,6 +75,14 @@ fn run_line<K: Sink>(alloc: Global, run: &mut Run, number: u32, text: &[u8], out
         Err(LineFault::Refused(refusal)) => LineEnd::Refused(Reason::Line(refusal)),
         Err(LineFault::NoMemory) => LineEnd::NoMemory,
     }
+}
+
+// Runs one line of a script, and forgets its records.
+#[tactic(auto, using(crate::proofs::Muting::passes))]
+fn pass_line(alloc: Global, run: &mut Run, number: u32, text: &[u8]) -> LineEnd
+    ensures { RunsLine (muted_line (state_of script run.old) number text.now) (Some (state_of script run.new)) None None ⊥ result }
+{
+    run_line(alloc, run, number, text, &mut Nowhere)
 }
 
 impl Decode {
@@ -118,8 +129,15 @@ impl Engine {
         Engine::Decode(Decode::new(alloc))
     }
 
+    /// The run of a script for its sums, before its first line.
+    pub fn sums(alloc: Global) -> Engine
+        ensures { now_in result ≡ Summing fresh }
+    {
+        Engine::Sums(Run::new(alloc))
+    }
+
     /// Plays one line.
-    #[tactic(auto, using(crate::proofs::Engines::runs_lifted))]
+    #[tactic(auto, using(crate::proofs::Engines::runs_lifted, crate::proofs::Muting::passes_anywhere))]
     pub fn line<K: Sink>(&mut self, alloc: Global, number: u32, text: &[u8], out: &mut K) -> LineEnd
         ensures line { RunsLine (line_by (now_in self.old) number text.now) (Some (now_in self.new)) (K.written out.old) (K.written out.new) (HasRisen (K.faults out.old) (K.faults out.new)) result }
         ensures count { K.faults out.old ≤ K.faults out.new }
@@ -127,6 +145,7 @@ impl Engine {
         match self {
             Engine::Run(run) => run_line(alloc, run, number, text, out),
             Engine::Decode(decode) => decode.line(number, text, out),
+            Engine::Sums(run) => pass_line(alloc, run, number, text),
         }
     }
 
@@ -137,12 +156,22 @@ impl Engine {
         ensures count { K.faults out.old ≤ K.faults out.new }
     {
         match self {
-            Engine::Run(run) => match run.finish(out) {
-                Ok(()) => Ending::Done,
-                Err(StepFault::WriteFault) => Ending::WriteFault,
-                Err(_) => Ending::NoMemory,
-            },
+            Engine::Run(run) => finish(run, out),
             Engine::Decode(_) => Ending::Done,
+            Engine::Sums(run) => finish(run, out),
         }
+    }
+}
+
+// Writes what stands at the end of a script.
+fn finish<K: Sink>(run: Run, out: &mut K) -> Ending
+    ensures over { Plays (finished script (state_of script run)) (K.written out.old) (K.written out.new) ⊥ (HasRisen (K.faults out.old) (K.faults out.new)) result }
+    ensures count { K.faults out.old ≤ K.faults out.new }
+{
+    match run.finish(out) {
+        Ok(()) => Ending::Done,
+        Err(StepFault::WriteFault) => Ending::WriteFault,
+        Err(StepFault::NoMemory) => Ending::NoMemory,
+        Err(StepFault::Refused(_)) => Ending::NoMemory,
     }
 }

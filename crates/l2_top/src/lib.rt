@@ -2,12 +2,12 @@
 #![tactic(auto)]
 
 mod engine;
+mod nowhere;
 mod playing;
 mod status;
 #[cfg(test)]
 mod tests;
 mod top;
-mod words;
 
 pub use status::Status;
 pub use top::l2_main;

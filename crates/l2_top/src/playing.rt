@@ -2,7 +2,7 @@ ghost use Rattle.std.specs.Prelude.{◌≡◌, ◌≤◌, ◌<◌, ◌^◌, ◌+
 ghost use Rattle.l2_io.specs.Known.{HasRisen};
 ghost use Rattle.air_run.specs.Journal.{journal_from, journal_by, journal_of};
 ghost use Rattle.l2_top.specs.Plays.{Turns, HasPlayed, PutsRest, PutsSome};
-ghost use Rattle.l2_top.specs.Engines.{Between, played_from, now_in, blocks_of};
+ghost use Rattle.l2_top.specs.Engines.{Between, played_from, now_in, blocks_of, sums_of};
 
 use crate::engine::{Engine, LineEnd};
 use air_run::Reason;
@@ -185,4 +185,14 @@ pub fn show_blocks<S: Source, K: Sink>(alloc: Global, source: &mut S, out: &mut 
     ensures out_count { K.faults out.old ≤ K.faults out.new }
 {
     play(alloc, Engine::blocks(alloc), source, out)
+}
+
+/// Plays the script that a source gives, line by line, and writes only what stands at its end.
+pub fn sum_script<S: Source, K: Sink>(alloc: Global, source: &mut S, out: &mut K) -> Ending
+    ensures played { HasPlayed sums_of (S.left source.old) (S.left source.new) (K.written out.old) (K.written out.new)
+        (HasRisen (S.faults source.old) (S.faults source.new)) (HasRisen (K.faults out.old) (K.faults out.new)) result }
+    ensures source_count { S.faults source.old ≤ S.faults source.new }
+    ensures out_count { K.faults out.old ≤ K.faults out.new }
+{
+    play(alloc, Engine::sums(alloc), source, out)
 }

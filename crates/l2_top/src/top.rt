@@ -1,15 +1,16 @@
-ghost use Rattle.std.specs.Prelude.{◌≡◌, IfOk, None, Some, string_bytes};
+ghost use Rattle.std.specs.Prelude.{◌≡◌, ℕ, IfOk, None, Some, string_bytes};
 ghost use Rattle.l2_io.specs.Known.{HasRisen};
 ghost use Rattle.run_laws.specs.Journals.{EveryJournal};
 ghost use Rattle.air_run.specs.Journal.{journal_of};
-ghost use Rattle.l2_top.specs.Words.{command_of};
+ghost use Rattle.words.specs.Commands.{command_of};
 ghost use Rattle.l2_top.specs.Engines.{blocks_of};
-ghost use Rattle.l2_top.specs.Main.{reason_text, refused_text, Tells, TellsRefusal, TellsEnding, Refuses, Runs};
+ghost use Rattle.l2_top.specs.Main.{reason_text, refused_text, Tells, TellsRefusal, TellsEnding, Refuses, Runs, Generates};
 
-use crate::playing::{Ending, play_script, show_blocks};
+use crate::playing::{Ending, play_script, show_blocks, sum_script};
 use crate::{Command, Status, Words};
 use air_run::{Reason, RunRefusal};
 use air_text::LineRefusal;
+use generator::Script;
 use l2_io::{PutFault, Sink, Source};
 use std::alloc::{AllocError, Global};
 
@@ -26,7 +27,15 @@ fn reason_word(reason: Reason) -> &'static str
         Reason::Run(RunRefusal::UnknownBearer) => "unknown bearer",
         Reason::Run(RunRefusal::BearerTwice) => "bearer twice",
         Reason::Run(RunRefusal::ConfiguredLate) => "configured late",
-        Reason::Run(RunRefusal::Unbuilt) => "unbuilt",
+        Reason::Run(RunRefusal::KeyUsed) => "key used",
+        Reason::Run(RunRefusal::TimerIdle) => "timer idle",
+        Reason::Run(RunRefusal::SmallDrain) => "small drain",
+        Reason::Run(RunRefusal::NoKeys) => "no keys",
+        Reason::Run(RunRefusal::SetTwice) => "set twice",
+        Reason::Run(RunRefusal::LoopOn) => "loop on",
+        Reason::Run(RunRefusal::NoDiscard) => "no discard",
+        Reason::Run(RunRefusal::Forged) => "forged",
+        Reason::Run(RunRefusal::DrxFields) => "drx fields",
         Reason::Lines => "lines",
     }
 }
@@ -90,11 +99,21 @@ fn finish<E: Sink>(alloc: Global, ending: Ending, errs: &mut E) -> Status
     }
 }
 
+// Plays the script of a number, and writes its sums.
+fn generate<K: Sink, E: Sink>(alloc: Global, number: u32, out: &mut K, errs: &mut E) -> Status
+    ensures { Generates number (K.written out.old) (K.written out.new) (E.written errs.old) (E.written errs.new) (HasRisen (K.faults out.old) (K.faults out.new))
+        (HasRisen (E.faults errs.old) (E.faults errs.new)) (HasRisen (E.shortages errs.old) (E.shortages errs.new)) result }
+{
+    let mut script = Script::new(number);
+    let ending = sum_script(alloc, &mut script, out);
+    finish(alloc, ending, errs)
+}
+
 /// Runs the command that the words name.
 ///
-/// The clauses `run` and `decode` say what is written, and what each answer means; `promises` says what holds of every
-/// journal of a script that can be written.
-#[tactic(auto, using(crate::proofs::Rows::every_journal_is_promised))]
+/// The clauses `run`, `decode` and `generate` say what is written, and what each answer means; `promises` says what holds of
+/// every journal of a script.
+#[tactic(auto, using(crate::proofs::Rows::every_journal_is_promised, crate::proofs::Rows::ungenerated))]
 pub fn l2_main<S: Source, K: Sink, E: Sink>(
     alloc: Global,
     words: &Words,
@@ -110,9 +129,17 @@ pub fn l2_main<S: Source, K: Sink, E: Sink>(
     ensures decode { command_of words.now ≡ Some Command.Decode → Runs blocks_of (S.left source.old) (S.left source.new) (K.written out.old) (K.written out.new)
         (E.written errs.old) (E.written errs.new) (HasRisen (S.faults source.old) (S.faults source.new)) (HasRisen (K.faults out.old) (K.faults out.new))
         (HasRisen (E.faults errs.old) (E.faults errs.new)) (HasRisen (E.shortages errs.old) (E.shortages errs.new)) result }
+    ensures generate { (number : ℕ) → command_of words.now ≡ Some (Command.Generate number) → Generates number (K.written out.old) (K.written out.new)
+        (E.written errs.old) (E.written errs.new) (HasRisen (K.faults out.old) (K.faults out.new))
+        (HasRisen (E.faults errs.old) (E.faults errs.new)) (HasRisen (E.shortages errs.old) (E.shortages errs.new)) result }
+    ensures unread { (number : ℕ) → command_of words.now ≡ Some (Command.Generate number) → S.left source.new ≡ S.left source.old }
     ensures promises { EveryJournal }
 {
-    match words.command() {
+    let Ok(command) = words.command() else {
+        say(errs, b"out of memory\n");
+        return Status::NoMemory;
+    };
+    match command {
         None => refuse_words(errs),
         Some(Command::Run) => {
             let ending = play_script(alloc, source, out);
@@ -122,5 +149,6 @@ pub fn l2_main<S: Source, K: Sink, E: Sink>(
             let ending = show_blocks(alloc, source, out);
             finish(alloc, ending, errs)
         }
+        Some(Command::Generate { number }) => generate(alloc, number, out, errs),
     }
 }
