@@ -1,0 +1,118 @@
+-- What a TTI adds.
+use Rattle.std.proofs.Common.{ℕ, Bool, true, false, if◌then◌else◌, [], ◌∷◌, ◌++◌, append_assoc, refl, ◌∙◌}
+use Rattle.air_record.specs.declared.line.Outcome.{Outcome}
+use Rattle.air_record.specs.declared.record.Record.TheVariants as records
+use Rattle.l2_node.specs.Hearing.{ticked}
+use Rattle.l2_types.specs.declared.side.Side.{Side}
+use Rattle.l2_types.specs.declared.side.Side.TheVariants.{Nb, Ue}
+use Rattle.prioritise.specs.Shares.{ticked as grown}
+use Rattle.test_loop.specs.Loops.{is_keeping, after_tick}
+use Rattle.air_link.specs.Link.{Link, end_of}
+use Rattle.air_link.specs.Telling.{tells_all}
+use Rattle.air_link.specs.Loops.{loops, pays}
+use Rattle.air_link.specs.Downlink.{downlink}
+use Rattle.air_link.specs.Uplink.{uplink}
+use Rattle.air_link.specs.Draining.{intact, drain_tti}
+use Rattle.air_link.specs.Ttis.{begins, sleeps, tells_sleep, grows, ticks, times, keeps_first, timed, tti_by, tti}
+use Rattle.link_laws.specs.Told.{heard, Adds, AddsTti}
+use Rattle.link_laws.proofs.Adding.{stays, adds_then, then_still, says_plain}
+use Rattle.link_laws.proofs.Telling.{end_stays, end_tells}
+use Rattle.link_laws.proofs.Looping.{loops_adds, pays_adds}
+use Rattle.link_laws.proofs.Flying.{Downs, downlink_adds, Ups, uplink_adds}
+
+-- ---- timers
+
+pub grows_adds : (side : Side) (l : Link) → Adds [] l (grows side l)
+grows_adds side l = end_stays side (record (end_of side l) { buckets = grown (end_of side l).buckets }) l
+
+pub times_adds : (side : Side) (l : Link) → Adds [] l (times side l)
+times_adds side l =
+    let r = ticked (end_of side l) in
+    let m = tells_all side r.events (ticks side l) in
+    adds_then [] [] l m (grows side m) (end_tells side (record (end_of side l) { bearers = r.bearers }) r.events l) (grows_adds side m)
+
+keeps_if : (b : Bool) (l : Link) → Adds [] l (if b then loops l else l)
+keeps_if true l = loops_adds l
+keeps_if false l = stays l l refl
+
+keeps_first_adds : (l : Link) → Adds [] l (keeps_first l)
+keeps_first_adds l = keeps_if (is_keeping l.looping.mode) l
+
+pub timed_adds : (l : Link) → Adds [] l (timed l)
+unfolding timed
+timed_adds l =
+    let j : Link = record l { looping = after_tick l.looping } in
+    let m = times Nb j in
+    let n = times Ue m in
+    let o = keeps_first n in
+    let to_m = adds_then [] [] l j m (stays l j refl) (times_adds Nb j) in
+    let to_n = adds_then [] [] l m n to_m (times_adds Ue m) in
+    let to_o = adds_then [] [] l n o to_n (keeps_first_adds n) in
+    adds_then [] [] l o (pays o) to_o (pays_adds o)
+
+-- ---- the whole
+
+sleep_adds : (asleep : Bool) (l : Link) → Adds [] l (tells_sleep asleep l)
+sleep_adds true l = says_plain records.Sleep l (record { no_up = λ s k. refl; no_loop = λ k. refl; no_run = refl })
+sleep_adds false l = stays l l refl
+
+-- the downlink, the loop and the uplink
+pub record Passes (t up_grant : ℕ) (up : Outcome) (down_grant : ℕ) (down : Outcome) (l m : Link) : Type 0 where
+  pub downward : Downs t down_grant down l (downlink t down_grant down l)
+  pub upward : Ups t up_grant up (loops (downlink t down_grant down l)) m
+  pub adds : Adds (downward.flown ++ upward.flown) l m
+
+pub passes_adds : (t up_grant : ℕ) (up : Outcome) (down_grant : ℕ) (down : Outcome) (l : Link)
+    → Passes t up_grant up down_grant down l (uplink t up_grant up (loops (downlink t down_grant down l)))
+passes_adds t up_grant up down_grant down l =
+    let m = downlink t down_grant down l in
+    let n = loops m in
+    let d = downlink_adds t down_grant down l in
+    let u = uplink_adds t up_grant up n in
+    let to_n = then_still d.flown l m n d.adds (loops_adds m) in
+    record { downward = d; upward = u; adds = adds_then d.flown u.flown l n (uplink t up_grant up n) to_n u.adds }
+
+-- from the number of a TTI on
+begun : (up_grant : ℕ) (up : Outcome) (down_grant : ℕ) (down : Outcome) (l r m : Link)
+    → Adds [] (begins l) r → Passes l.ttis up_grant up down_grant down r m → AddsTti up_grant up down_grant down l m
+begun up_grant up down_grant down l r m to_r p =
+    let b = begins l in
+    let flown = p.downward.flown ++ p.upward.flown in
+    let all = adds_then [] flown b r m to_r p.adds in
+    record {
+      more = all.more;
+      downward = p.downward.flown;
+      upward = p.upward.flown;
+      out_is = all.out_is ∙ append_assoc l.out (records.Tti l.ttis ∷ []) all.more;
+      ttis_is = all.ttis_is;
+      told = record {
+        nb_delivered = all.told.nb_delivered;
+        ue_delivered = all.told.ue_delivered;
+        nb_submitted = all.told.nb_submitted;
+        ue_submitted = all.told.ue_submitted;
+        flown_is = all.told.flown_is;
+        none_of_run = all.told.none_of_run;
+      };
+      down_is = p.downward.is_down;
+      up_is = p.upward.is_up;
+    }
+
+pub tti_adds : (up_grant : ℕ) (up : Outcome) (down_grant : ℕ) (down : Outcome) (l : Link)
+    → AddsTti up_grant (heard up l) down_grant (heard down l) l (tti up_grant up down_grant down l)
+unfolding tti tti_by
+tti_adds up_grant up down_grant down l =
+    let asleep = sleeps l.ttis l in
+    let b = begins l in
+    let s = tells_sleep asleep b in
+    let r = timed s in
+    let to_r = adds_then [] [] b s r (sleep_adds asleep b) (timed_adds s) in
+    begun up_grant (heard up l) down_grant (heard down l) l r (tti up_grant up down_grant down l) to_r (passes_adds l.ttis up_grant (heard up l) down_grant (heard down l) r)
+
+pub drain_adds : (grant : ℕ) (l : Link) → AddsTti grant intact grant intact l (drain_tti grant l)
+unfolding drain_tti
+drain_adds grant l =
+    let b = begins l in
+    let m = grows Nb b in
+    let r = grows Ue m in
+    let to_r = adds_then [] [] b m r (grows_adds Nb b) (grows_adds Ue m) in
+    begun grant intact grant intact l r (drain_tti grant l) to_r (passes_adds l.ttis grant intact grant intact r)

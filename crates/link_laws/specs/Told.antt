@@ -1,0 +1,95 @@
+-- What each call of a link adds to the records, and that these tell which SDUs were submitted and delivered.
+use Rattle.std.specs.Prelude.{◌≡◌, ℕ, ◌+◌, ◌==◌, if◌then◌else◌, Option, Some, None, option_map, List, [], ◌∷◌, ◌++◌}
+use Rattle.std.specs.List.{filter}
+use Rattle.air_record.specs.declared.line.Outcome.{Outcome}
+use Rattle.air_record.specs.declared.record.NoPlace.{NoPlace}
+use Rattle.air_record.specs.declared.record.Record.{Record}
+use Rattle.air_record.specs.declared.record.Record.TheVariants as records
+use Rattle.l2_node.specs.Submitting.{refusal}
+use Rattle.l2_types.specs.declared.side.Side.{Side}
+use Rattle.l2_types.specs.declared.side.Side.TheVariants.{Nb, Ue}
+use Rattle.air_link.specs.Link.{Link, end_of, sent_flows, other}
+use Rattle.air_link.specs.Draining.{intact, drain_tti}
+use Rattle.air_link.specs.Lines.{no_place, submitting}
+use Rattle.air_link.specs.Ttis.{sleeps, missed, tti}
+use Rattle.link_laws.specs.Counts.{ups, loopeds, is_of_run, is_flight, Grows}
+use Rattle.link_laws.specs.Flights.{IsDown, IsUp}
+use Rattle.link_laws.specs.Calls.{Call, after}
+
+-- the SDUs submitted at a side, and those delivered there, by LCID
+abbrev pub submitted_at : Side → Link → List ℕ
+submitted_at side l = (sent_flows side l).submitted
+
+abbrev pub delivered_at : Side → Link → List ℕ
+delivered_at side l = (sent_flows (other side) l).delivered
+
+-- from one link to another each `up` is an SDU delivered, and each `loop` one that the terminal submits; these blocks fly, and
+-- nothing is told that only a run tells
+pub record Tells (more flown : List Record) (l m : Link) : Type 0 where
+  pub nb_delivered : Grows (λ lcid. ups Nb lcid more) (delivered_at Nb l) (delivered_at Nb m)
+  pub ue_delivered : Grows (λ lcid. ups Ue lcid more) (delivered_at Ue l) (delivered_at Ue m)
+  pub nb_submitted : submitted_at Nb m ≡ submitted_at Nb l
+  pub ue_submitted : Grows (λ lcid. loopeds lcid more) (submitted_at Ue l) (submitted_at Ue m)
+  pub flown_is : filter is_flight more ≡ flown
+  pub none_of_run : filter is_of_run more ≡ []
+
+-- records are added to those that are there
+pub record Adds (flown : List Record) (l m : Link) : Type 0 where
+  pub more : List Record
+  pub out_is : m.out ≡ l.out ++ more
+  pub ttis_is : m.ttis ≡ l.ttis
+  pub told : Tells more flown l m
+
+-- ---- the laws
+
+-- no block flies but in a TTI
+abbrev pub CallsAreTold : Type 0
+CallsAreTold = (c : Call) (l : Link) → Adds [] l (after c l)
+
+-- a TTI adds its number first; the block of the downlink flies before that of the uplink
+pub record AddsTti (up_grant : ℕ) (up : Outcome) (down_grant : ℕ) (down : Outcome) (l m : Link) : Type 0 where
+  pub more : List Record
+  pub downward : List Record
+  pub upward : List Record
+  pub out_is : m.out ≡ l.out ++ records.Tti l.ttis ∷ more
+  pub ttis_is : m.ttis ≡ l.ttis + 1
+  pub told : Tells more (downward ++ upward) l m
+  pub down_is : IsDown l.ttis down_grant down downward
+  pub up_is : IsUp l.ttis up_grant up upward
+
+-- a terminal that sleeps misses both
+abbrev pub heard : Outcome → Link → Outcome
+heard o l = missed (sleeps l.ttis l) o
+
+abbrev pub TtisAreTold : Type 0
+TtisAreTold = (up_grant : ℕ) (up : Outcome) (down_grant : ℕ) (down : Outcome) (l : Link)
+    → AddsTti up_grant (heard up l) down_grant (heard down l) l (tti up_grant up down_grant down l)
+
+-- in a drain nobody sleeps, and nothing is damaged
+abbrev pub DrainsAreTold : Type 0
+DrainsAreTold = (grant : ℕ) (l : Link) → AddsTti grant intact grant intact l (drain_tti grant l)
+
+-- why an SDU is refused, if it is
+abbrev pub why_refused : Side → ℕ → List ℕ → Link → Option NoPlace
+why_refused side lcid sdu l = option_map no_place (refusal lcid sdu (end_of side l))
+
+-- an accepted SDU is counted and leaves no record; a refused one leaves one and is not counted
+abbrev pub refusals : Side → ℕ → Option NoPlace → List Record
+refusals side lcid None = []
+refusals side lcid (Some why) = records.Refused side lcid why ∷ []
+
+abbrev pub accepted : ℕ → Option NoPlace → ℕ → ℕ
+accepted lcid None k = if lcid == k then 1 else 0
+accepted lcid (Some why) k = 0
+
+pub record AddsSubmitted (side : Side) (lcid : ℕ) (why : Option NoPlace) (l m : Link) : Type 0 where
+  pub out_is : m.out ≡ l.out ++ refusals side lcid why
+  pub ttis_is : m.ttis ≡ l.ttis
+  pub submitted : Grows (accepted lcid why) (submitted_at side l) (submitted_at side m)
+  pub other_submitted : submitted_at (other side) m ≡ submitted_at (other side) l
+  pub nb_delivered : delivered_at Nb m ≡ delivered_at Nb l
+  pub ue_delivered : delivered_at Ue m ≡ delivered_at Ue l
+
+abbrev pub SubmissionsAreTold : Type 0
+SubmissionsAreTold = (side : Side) (lcid : ℕ) (sdu : List ℕ) (l : Link)
+    → AddsSubmitted side lcid (why_refused side lcid sdu l) l (submitting side lcid sdu l)
