@@ -6,3 +6,4 @@ pub mod SlotLemmas
 pub mod MissingLemmas
 pub mod RingLemmas
 pub mod InnerLemmas
+pub mod WholeLemmas

@@ -5,6 +5,7 @@
 #![tactic(auto)]
 
 mod field;
+mod holding;
 mod laying;
 mod mark;
 mod missing;
@@ -12,6 +13,7 @@ mod output;
 mod piece;
 mod ring;
 mod slot;
+mod whole;
 mod window;
 
 pub use field::Field;

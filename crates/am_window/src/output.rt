@@ -1,10 +1,12 @@
 //! SDUs put together in sequence.
-ghost use Rattle.std.specs.Prelude.{◌≡◌, ℕ, [], ◌∷◌, ◌++◌, ◌+◌, ◌<◌, ◌≤◌, length, drop, slice_get, slice_range, slice_index_or, is_some, if◌then◌else◌, true, OnOk, IfOk, Some, None};
+ghost use Rattle.std.specs.Prelude.{◌≡◌, ℕ, [], ◌∷◌, ◌++◌, ◌+◌, ◌<◌, ◌≤◌, length, map, drop, slice_get, slice_range, slice_index_or, is_some, if◌then◌else◌, true, OnOk, IfOk, Some, None};
 ghost use Rattle.am_window.specs.Cells.{cell_of, is_there, begins_with, ends_with};
+ghost use Rattle.am_window.specs.Piece.{element_cells, data_cells};
 ghost use Rattle.am_window.specs.Joined.{Joined, empty, opened, extended, closed, with_place, joined, broken, pending};
 
 use crate::field::Field;
 use crate::mark::Mark;
+use crate::piece::ends_with;
 use l2_bits::{Bytes, NoMemory, Packets};
 use std::alloc::Global;
 use std::marker::Model;
@@ -76,6 +78,56 @@ impl Output {
             }
         }
         Ok(())
+    }
+
+    /// Goes on with the elements of a field, which are taken.
+    #[tactic(auto, using(crate::proofs::WholeLemmas::taking))]
+    pub(crate) fn take_all(
+        &mut self,
+        elements: Packets,
+        begins: bool,
+        ends: bool,
+    ) -> Result<(), NoMemory>
+        ensures { OnOk result (self.new ≡ joined self.old (map (λ c. Some c) (data_cells begins ends elements))) }
+    {
+        let mut elements = elements;
+        let mut begun = begins;
+        while let Some(element) = elements.pop_front() {
+            let last = elements.is_empty();
+            self.take(element, begun, ends_with(last, ends))?;
+            begun = true;
+        }
+        Ok(())
+    }
+
+    /// Goes on with an element, which isn't copied where an SDU begins with it.
+    #[tactic(auto, using(crate::proofs::WholeLemmas::elements))]
+    fn take(&mut self, element: Bytes, begins: bool, ends: bool) -> Result<(), NoMemory>
+        ensures { OnOk result (self.new ≡ joined self.old (map (λ c. Some c) (element_cells begins ends element))) }
+    {
+        if element.as_slice().is_empty() {
+            return Ok(());
+        }
+        self.open(begins);
+        self.extend_by(element)?;
+        if ends {
+            return self.close(&[]);
+        }
+        Ok(())
+    }
+
+    /// Adds octets to the part, which they become where it is empty.
+    #[tactic(auto, using(crate::proofs::WholeLemmas::parts))]
+    fn extend_by(&mut self, octets: Bytes) -> Result<(), NoMemory>
+        ensures { OnOk result (self.new ≡ pending self.old octets) }
+    {
+        match &self.part {
+            Some(part) if part.as_slice().is_empty() => {
+                self.part = Some(octets);
+                Ok(())
+            }
+            _ => self.extend(octets.as_slice()),
+        }
     }
 
     /// Passes the places from one on that lie inside an SDU, up to another, and returns the place behind them.

@@ -3,6 +3,7 @@ ghost use Rattle.rlc_pdu.specs.Views.{amd_of, elements_of};
 ghost use Rattle.am_window.specs.Cells.{laid, holds, differ, ends_otherwise, begins_otherwise};
 ghost use Rattle.am_window.specs.Piece.{begins_in, ends_in, so_of, data_cells, piece_of, end_of};
 ghost use Rattle.am_window.specs.Held.{nothing, with_piece, is_complete, has_end, clashes, size_differs};
+ghost use Rattle.am_window.specs.Whole.{is_unheld};
 ghost use Rattle.am_window.specs.Window.{landing};
 
 use crate::field::{Field, denies};
@@ -40,6 +41,24 @@ impl Slot {
             size: None,
             polled: false,
         }
+    }
+
+    /// A number of whose field, so long, these octets have arrived.
+    pub(crate) fn of(field: Field, size: usize, polled: bool) -> Slot
+        ensures { result ≡ record { cells = field; size = Some size; polled = polled } }
+    {
+        Slot {
+            field,
+            size: Some(size),
+            polled,
+        }
+    }
+
+    /// Whether no octet has arrived, and the field's length isn't told.
+    pub(crate) fn is_unheld(&self) -> bool
+        ensures { result ≡ is_unheld self.now }
+    {
+        self.field.len() == 0 && self.size.is_none()
     }
 
     /// The octets that have arrived.
