@@ -8,6 +8,7 @@ pub mod Clash
 pub mod Gaps
 pub mod Well
 pub mod TrueStatus
+pub mod Reading
 pub mod Due
 pub mod Joins
 pub mod Finish

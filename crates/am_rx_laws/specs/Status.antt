@@ -2,13 +2,15 @@
 use Rattle.std.specs.Prelude.{◌≡◌, ◌⊎◌, ℕ, suc, zero, ◌+◌, ◌-◌, ◌==◌, ◌<◌, ◌≤◌, Bool, true, false, List, [], ◌∷◌, ◌++◌, length, map, Option, Some, None}
 use Rattle.std.specs.List.{list_any}
 use Rattle.rlc_pdu.specs.declared.Part.{Part}
+use Rattle.rlc_pdu.specs.Pdus.{AmdPdu}
+use Rattle.rlc_pdu.specs.Grammar.{IsAmdPdu}
 use Rattle.am_window.specs.declared.Missing.{Missing}
 use Rattle.am_window.specs.Piece.{piece_of}
 use Rattle.am_window.specs.Missing.{whole, of_part, entry_bits, entries_bits}
 use Rattle.rlc_am_rx.specs.Status.{listed, chosen, room_in, ack}
 use Rattle.am_rx_laws.specs.Run.{Call, Arrive, Up, Write, ExpireReorder, ExpireProhibit, TickReorder, TickProhibit, World, Came, has_come, told, IsComplete}
 
--- each PDU brings an octet, as each one does that was read
+-- each PDU brings an octet
 abbrev pub BringsSome : Call → Type 0
 BringsSome (Arrive p) = 1 ≤ length (piece_of p).cells
 BringsSome Up = Unit {0}
@@ -21,6 +23,10 @@ BringsSome TickProhibit = Unit {0}
 abbrev pub BringSome : List Call → Type 0
 BringSome [] = Unit {0}
 BringSome (c ∷ cs) = BringsSome c × BringSome cs
+
+-- as each one does that was read
+abbrev pub ReadBringSome : Type 0
+ReadBringSome = (pdu : AmdPdu) (octets : List ℕ) → IsAmdPdu pdu octets → BringsSome (Arrive pdu)
 
 -- ---- what is missing of a number
 

@@ -8,7 +8,7 @@ ghost use Rattle.am_window.specs.Cells.{Cell};
 ghost use Rattle.l2_types.specs.declared.AmRxConfig.{AmRxConfig};
 ghost use Rattle.am_rx_laws.specs.Run.{Call, run, begin, IsFirst, IsOrdered};
 ghost use Rattle.am_rx_laws.specs.Bound.{go, outset, IsBound};
-ghost use Rattle.am_rx_laws.specs.Status.{BringSome, IsTrueStatus};
+ghost use Rattle.am_rx_laws.specs.Status.{BringSome, ReadBringSome, IsTrueStatus};
 ghost use Rattle.am_rx_laws.specs.Due.{ask, unasked};
 ghost use Rattle.am_rx_laws.specs.Finish.{IsStream, IsFinished};
 ghost use Rattle.am_rx_laws.specs.Stream.{IsField, AreHonest, flow, initial, IsInSequence, NoneClashes};
@@ -41,9 +41,11 @@ pub fn timer_runs_with_mark()
 {}
 
 /// Whatever PDUs come, a STATUS has the longest beginning that fits of all that is missing from VR(R) on below VR(MS),
-/// and its ACK is the least number from VR(R) on that isn't complete and has no entry.
+/// and its ACK is the least number from VR(R) on that isn't complete and has no entry. This holds where each PDU brings
+/// an octet, as each one does that was read.
 pub fn status_is_true()
-    ensures { (config : AmRxConfig) (calls : List Call) (size : ℕ) → BringSome calls → IsTrueStatus (run calls (begin config)) size }
+    ensures read { ReadBringSome }
+    ensures status { (config : AmRxConfig) (calls : List Call) (size : ℕ) → BringSome calls → IsTrueStatus (run calls (begin config)) size }
 {}
 
 /// A STATUS is due exactly where since the last one the reordering timer expired, a polled PDU was dropped as outside
