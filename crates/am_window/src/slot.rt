@@ -13,7 +13,7 @@ use rlc_pdu::{Amd, Landed};
 use std::alloc::Global;
 use std::marker::Model;
 
-/// What is held of one number.
+/// What is held of one number, with a mark of each octet.
 #[derive(Drop)]
 pub struct Slot {
     field: Field,
