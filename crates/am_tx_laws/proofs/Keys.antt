@@ -1,20 +1,23 @@
--- Which SDUs the PDUs of a window have octets of.
-use Rattle.std.proofs.Common.{◌≡◌, ◌≤◌, ℕ, suc, zero, ◌+◌, ◌-◌, Bool, true, false, if◌then◌else◌, List, [], ◌∷◌, ◌++◌, length, map, drop, Option, Some, None, refl, ap, ◌∙◌, arith, set, nat_lt}
+-- What the PDUs of a window carry, whatever is resent or acknowledged.
+use Rattle.std.proofs.Common.{◌≡◌, ◌≤◌, ℕ, suc, zero, ◌+◌, ◌-◌, Bool, true, false, if◌then◌else◌, List, [], ◌∷◌, ◌++◌, length, map, drop, slice_index_or, Option, Some, None, refl, ap, sym, ◌∙◌, arith, set, nat_lt}
 use Rattle.std.proofs.lemmas.Grind.{common_steps}
 use Rattle.rlc_pdu.specs.declared.pdu.Nack.{Nack}
 use Rattle.rlc_pdu.specs.declared.pdu.Part.{Part}
 use Rattle.am_tx_window.specs.Sent.{Sent, with_name, considered, considered_by, acknowledged}
-use Rattle.am_tx_window.specs.Window.{Kept, slot_at, offset_of, named_one, named_all, acked_from, considered_one, considered_all}
+use Rattle.am_tx_window.specs.Window.{Kept, nothing, slot_at, offset_of, named_one, named_all, acked_from, considered_one, considered_all}
 use Rattle.am_tx_laws.proofs.Slots.{set_one}
 use Rattle.am_tx_laws.proofs.Least.{heard_slots}
 
--- the place of the first element's SDU, and the lengths of the elements
+-- the place of the first element's SDU, the data field, the lengths of the elements, and whether the first begins and the last ends an SDU
 pub record Key : Type 0 where
   pub place : ℕ
+  pub field : List ℕ
   pub lens : List ℕ
+  pub begins : Bool
+  pub ends : Bool
 
 abbrev pub key : Sent → Key
-key h = record { place = h.place; lens = h.lens }
+key h = record { place = h.place; field = h.field; lens = h.lens; begins = h.begins; ends = h.ends }
 
 abbrev pub keys : List Sent → List Key
 keys slots = map key slots
@@ -62,6 +65,19 @@ heard-keys w below most ns = considered-keys w.base most (acked_from 0 below (na
 pub append-keys : (slots : List Sent) (h : Sent) → keys (slots ++ h ∷ []) ≡ keys slots ++ key h ∷ []
 append-keys [] h = refl
 append-keys (x ∷ xs) h = ap (λ (ys : List Key). key x ∷ ys) (append-keys xs h)
+
+pub keys-length : (slots : List Sent) → length (keys slots) ≡ length slots
+keys-length [] = refl
+keys-length (x ∷ xs) = ap suc (keys-length xs)
+
+key-at : (slots : List Sent) (k : ℕ) → key (slot_at slots k) ≡ slice_index_or (keys slots) k (key nothing)
+key-at [] k = refl
+key-at (x ∷ xs) zero = refl
+key-at (x ∷ xs) (suc k) = key-at xs k
+
+-- slots with the same keys
+pub same-keys : (xs ys : List Sent) → keys xs ≡ keys ys → (k : ℕ) → key (slot_at xs k) ≡ key (slot_at ys k)
+same-keys xs ys e k = key-at xs k ∙ (ap (λ (ks : List Key). slice_index_or ks k (key nothing)) e ∙ sym (key-at ys k))
 
 -- a PDU begins with the SDU that the one before ends in, or a later one
 abbrev pub Chained : ℕ → List Key → ℕ → Type 0

@@ -14,3 +14,6 @@ pub mod Credits
 pub mod Keys
 pub mod Books
 pub mod Confirms
+pub mod Stretches
+pub mod Dealing
+pub mod Writes

@@ -65,10 +65,10 @@ wait-all h f n most s e i lt = by (first_waiting h) (gaps_are_first h.resting 0 
     by None g e = let no' : false ≡ true = e in cc
     by (Some p) g e = let w = ends p e in let a = w.0 in let b = w.1 in not-false (f i) (sym (g.missing i (omega arith) (omega arith)) ∙ s.rests i lt)
 
-abbrev IsFront : Sent → (ℕ → Bool) → ℕ → ℕ → Type 0
+abbrev pub IsFront : Sent → (ℕ → Bool) → ℕ → ℕ → Type 0
 IsFront h f from to = (to ≤ length h.field) × ((i : ℕ) → from ≤ i → i < to → f i ≡ true) × ((i : ℕ) → i < from → f i ≡ false)
 
-wait-front : (h : Sent) (f : ℕ → Bool) (n most size : ℕ) → IsSlot h f n most → is_waiting h ≡ true → IsFront h f (next_stretch h size).from (next_stretch h size).to
+pub wait-front : (h : Sent) (f : ℕ → Bool) (n most size : ℕ) → IsSlot h f n most → is_waiting h ≡ true → IsFront h f (next_stretch h size).from (next_stretch h size).to
 wait-front h f n most size s w = by (first_waiting h) (gap-lies h.resting 0 (length h.field)) (λ some. gaps_are_first h.resting 0 (length h.field) (s.ascends some)) w
   where
     here : (p : Part) → IsGap h.resting 0 (length h.field) p → IsFront h f p.start (p.start + sum (stretch_in h size p).lens)
@@ -86,7 +86,7 @@ wait-front h f n most size s w = by (first_waiting h) (gap-lies h.resting 0 (len
 
 -- ---- what a call of `take` sends again
 
-whole-waits : (s : State) (size : ℕ) (held : Option ℕ) (more : Bool) → turn s size held more ≡ turns.Whole → (waits s ≡ true) × (all_wait (again s) ≡ true)
+pub whole-waits : (s : State) (size : ℕ) (held : Option ℕ) (more : Bool) → turn s size held more ≡ turns.Whole → (waits s ≡ true) × (all_wait (again s) ≡ true)
 unfolding turn
 whole-waits s size held more e = (grind (arith, common_steps, nat_tests), grind (arith, common_steps, nat_tests))
 
@@ -102,7 +102,7 @@ lowest s m h n i le lt i_in =
 pub is-below : (s : State) → waits s ≡ true → first_place s < length s.window.slots
 is-below s e = grind (arith, nat_tests)
 
-resent-of : (t : Turn) (s : State) (size : ℕ) (m : Marks) → Stands s m → (t ≡ turns.Whole → (waits s ≡ true) × (all_wait (again s) ≡ true)) → (t ≡ turns.Part → (waits s ≡ true) × (5 ≤ size)) → IsResent t s size m
+pub resent-of : (t : Turn) (s : State) (size : ℕ) (m : Marks) → Stands s m → (t ≡ turns.Whole → (waits s ≡ true) × (all_wait (again s) ≡ true)) → (t ≡ turns.Part → (waits s ≡ true) × (5 ≤ size)) → IsResent t s size m
 resent-of turns.Whole s size m h whole part =
     let w = whole refl in
     record {

@@ -8,3 +8,4 @@ pub mod Resent
 pub mod Polled
 pub mod Watched
 pub mod Confirmed
+pub mod Octets

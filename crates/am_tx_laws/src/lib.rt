@@ -6,6 +6,7 @@ ghost use Rattle.am_tx_laws.specs.Confirmed.{ConfirmsEachOnce};
 ghost use Rattle.am_tx_laws.specs.Cutting.{CutIsLongest, CutsElements};
 ghost use Rattle.am_tx_laws.specs.Limit.{FailsAtLimit};
 ghost use Rattle.am_tx_laws.specs.Namings.{CountsNamings};
+ghost use Rattle.am_tx_laws.specs.Octets.{WritesTheStream};
 ghost use Rattle.am_tx_laws.specs.Polled.{PollsByCauses};
 ghost use Rattle.am_tx_laws.specs.Resent.{ResendsTheFirst};
 ghost use Rattle.am_tx_laws.specs.Stream.{CarriesTheStream};
@@ -29,6 +30,13 @@ pub fn cuts_elements()
 /// New PDUs carry the octets of the SDUs offered, in their order, each once, and VT(S) is the number of the next.
 pub fn carries_the_stream()
     ensures { CarriesTheStream }
+{}
+
+/// Each SDU having an octet, a new PDU carries the next octets of the SDUs offered, with the FI and the LIs of their
+/// boundaries. What is sent again is a PDU, or a segment of it, with octets of its number that wait: those that its new
+/// PDU carried, with the SO, the LSF, the FI and the LIs of the stretch.
+pub fn writes_the_stream()
+    ensures { WritesTheStream }
 {}
 
 /// An octet waits to be resent exactly from its naming until it is sent again or its number is acknowledged, and
