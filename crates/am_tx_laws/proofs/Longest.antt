@@ -7,9 +7,9 @@ use Rattle.am_tx_window.specs.Cut.{cut, clip, cost, goes_on, some_length}
 use Rattle.std.specs.List.{sum}
 use Rattle.rlc_pdu.specs.Pdus.{AreLens}
 use Rattle.rlc_pdu.specs.Writing.{header_len}
-use Rattle.am_tx_window.proofs.CutSteps.{sum-first}
+use Rattle.am_tx_window.proofs.CutSteps.{sum-first, cut-sum}
 use Rattle.am_tx_window.proofs.CutFits.{costs, costs-is, cut-goes, fits-in}
-use Rattle.am_tx_laws.specs.Cutting.{IsLongest}
+use Rattle.am_tx_laws.specs.Cutting.{size_of, IsLongest}
 
 -- every element holds an octet, and each but the last at most 2047
 abbrev pub AreElements : List ℕ → Type 0
@@ -128,16 +128,24 @@ clip-all half room (l ∷ ls) some h = by (goes_on half room l) refl (λ e. clip
               ap (λ (k : ℕ). clip 0 k (l ∷ ls)) e0 ∙ clip-short l ls l (head-some l ls h) (omega arith) ∙ ap (λ (xs : List ℕ). l ∷ xs) (sym (clip-none ls) ∙ ap (λ (k : ℕ). clip 0 k ls) (sym z) ∙ r)
         ]
 
+fits-of : (size : ℕ) (ls : List ℕ) → AreElements ls → 5 ≤ size → size_of ls (sum (cut false (size - 4) ls)) ≤ size
+fits-of size ls h five =
+    let few : length (clip 0 (sum (cut false (size - 4) ls)) ls) ≡ length (cut false (size - 4) ls) = ap length (clip-all false (size - 4) ls (omega arith) h) in
+    let all = fits-in false (size - 4) ls in
+    let c = costs-is (length (cut false (size - 4) ls) - 1) in
+    subst (λ (n : ℕ). header_len 4 n + sum (cut false (size - 4) ls) ≤ size) (sym few) (omega (arith, all, c))
+
+most-of : (size : ℕ) (ls : List ℕ) → AreElements ls → (k : ℕ) → k ≤ sum ls → size_of ls k ≤ size → k ≤ sum (cut false (size - 4) ls)
+most-of size ls h k within fit = let c = costs-is (length (clip 0 k ls) - 1) in most false (size - 4) ls k h within (omega (arith, fit, c))
+
 longest-of : (size : ℕ) (ls : List ℕ) → AreElements ls → IsLongest size ls
 longest-of size ls h = record {
-  fits = λ five.
-      let few : length (clip 0 (sum (cut false (size - 4) ls)) ls) ≡ length (cut false (size - 4) ls) = ap length (clip-all false (size - 4) ls (omega arith) h) in
-      let all = fits-in false (size - 4) ls in
-      let c = costs-is (length (cut false (size - 4) ls) - 1) in
-      subst (λ (n : ℕ). header_len 4 n + sum (cut false (size - 4) ls) ≤ size) (sym few) (omega (arith, all, c));
-  most = λ k within fit.
-      let c = costs-is (length (clip 0 k ls) - 1) in
-      most false (size - 4) ls k h within (omega (arith, fit, c));
+  fits = fits-of size ls h;
+  most = most-of size ls h;
+  only = λ k five within fit longest.
+      let a = most-of size ls h k within fit in
+      let b = longest (sum (cut false (size - 4) ls)) (cut-sum false (size - 4) ls) (fits-of size ls h five) in
+      omega (arith, a, b);
 }
 
 pub longest : (size : ℕ) (ls : List ℕ) → AreLens ls → IsLongest size ls

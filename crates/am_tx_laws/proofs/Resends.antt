@@ -39,7 +39,7 @@ leading-few (x ∷ xs) = step (is_waiting x) (leading-few xs)
     step true h = omega arith
     step false h = omega arith
 
-not-true : (b : Bool) → true ≡ not b → b ≡ false
+pub not-true : (b : Bool) → true ≡ not b → b ≡ false
 not-true true e = let no' : true ≡ false = e in cc
 not-true false e = refl
 
@@ -65,10 +65,10 @@ wait-all h f n most s e i lt = by (first_waiting h) (gaps_are_first h.resting 0 
     by None g e = let no' : false ≡ true = e in cc
     by (Some p) g e = let w = ends p e in let a = w.0 in let b = w.1 in not-false (f i) (sym (g.missing i (omega arith) (omega arith)) ∙ s.rests i lt)
 
-abbrev pub IsFront : Sent → (ℕ → Bool) → ℕ → ℕ → Type 0
+abbrev IsFront : Sent → (ℕ → Bool) → ℕ → ℕ → Type 0
 IsFront h f from to = (to ≤ length h.field) × ((i : ℕ) → from ≤ i → i < to → f i ≡ true) × ((i : ℕ) → i < from → f i ≡ false)
 
-pub wait-front : (h : Sent) (f : ℕ → Bool) (n most size : ℕ) → IsSlot h f n most → is_waiting h ≡ true → IsFront h f (next_stretch h size).from (next_stretch h size).to
+wait-front : (h : Sent) (f : ℕ → Bool) (n most size : ℕ) → IsSlot h f n most → is_waiting h ≡ true → IsFront h f (next_stretch h size).from (next_stretch h size).to
 wait-front h f n most size s w = by (first_waiting h) (gap-lies h.resting 0 (length h.field)) (λ some. gaps_are_first h.resting 0 (length h.field) (s.ascends some)) w
   where
     here : (p : Part) → IsGap h.resting 0 (length h.field) p → IsFront h f p.start (p.start + sum (stretch_in h size p).lens)

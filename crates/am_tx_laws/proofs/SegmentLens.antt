@@ -21,7 +21,7 @@ clip-at : (a b a' b' : ℕ) (ls : List ℕ) → a ≡ a' → b ≡ b' → clip a
 clip-at a b a' b' ls e f = ap (λ (x : ℕ). clip x b ls) e ∙ ap (λ (y : ℕ). clip a' y ls) f
 
 -- of what lies from a place below another, the first k octets
-clip-clip : (a b k : ℕ) (ls : List ℕ) → a + k ≤ b → clip 0 k (clip a b ls) ≡ clip a (a + k) ls
+pub clip-clip : (a b k : ℕ) (ls : List ℕ) → a + k ≤ b → clip 0 k (clip a b ls) ≡ clip a (a + k) ls
 clip-clip a b k [] h = refl
 clip-clip a b k (l ∷ ls) h = step (min b l - a == 0) (none-test (min b l - a)) (some-test (min b l - a)) (λ a' k' le. clip-clip a' (b - l) k' ls le)
   where

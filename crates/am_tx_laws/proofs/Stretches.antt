@@ -36,9 +36,6 @@ range-all (x ∷ xs) b e = range-first x xs 0 b 0 (length xs) refl (omega arith)
 
 -- ---- the lengths of the elements of a stretch
 
-abbrev octets : List Place → List ℕ
-octets ps = map (λ (p : Place). p.octet) ps
-
 pub range-octets : (ps : List Place) (a b : ℕ) → slice_range (map (λ (p : Place). p.octet) ps) a b ≡ map (λ (p : Place). p.octet) (slice_range ps a b)
 range-octets ps a b = ap (λ (xs : List ℕ). take (b - a) xs) (drop-map (λ (p : Place). p.octet) a ps) ∙ take-map (λ (p : Place). p.octet) (b - a) (drop a ps)
 

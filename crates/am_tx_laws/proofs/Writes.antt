@@ -1,6 +1,6 @@
 -- What data PDUs carry, along every run.
 use Rattle.std.proofs.Common.{◌≡◌, ◌<◌, ◌≤◌, inl, inr, ℕ, ◌+◌, ◌-◌, ◌%◌, Bool, true, false, ◌&&◌, ◌==◌, if◌then◌else◌, List, [], ◌∷◌, ◌++◌, length, map, take, drop, slice_range, slice_index_or, Option, Some, None, is_some, refl, ap, sym, subst, ◌∙◌, arith, nat_lt, nat_le, length-append, length-drop}
-use Rattle.std.specs.Prelude.{IfSome}
+use Rattle.std.specs.Prelude.{IfSome, MatchOption}
 use Rattle.std.specs.List.{AllByRecursion, sum}
 use Rattle.std.proofs.lemmas.Grind.{common_steps}
 use Rattle.std.proofs.lemmas.Bool.Decides.{nat_tests}
@@ -12,6 +12,9 @@ use Rattle.rlc_pdu.specs.declared.pdu.Nack.{Nack}
 use Rattle.rlc_pdu.specs.declared.pdu.Part.{Part}
 use Rattle.rlc_pdu.specs.declared.pdu.Segment.{Segment}
 use Rattle.rlc_pdu.specs.Pdus.{StatusPdu, AreLens}
+use Rattle.rlc_pdu.specs.Runs.{has}
+use Rattle.rlc_pdu.specs.Places.{IsGap}
+use Rattle.rlc_pdu.proofs.PlaceLaws.{gaps_are_first}
 use Rattle.rlc_pdu.specs.Writing.{header_len, amd_written}
 use Rattle.rlc_queue.specs.NewPdu.{rest, framing}
 use Rattle.rlc_queue.specs.Waiting.{HaveOctets}
@@ -20,8 +23,8 @@ use Rattle.am_tx_window.specs.Cut.{clip, is_cut}
 use Rattle.am_tx_window.specs.Sent.{Sent, Stretch, Lies, first_waiting, is_waiting, is_all, all_wait, whole_size, next_stretch, stretch_from, stretch_in, rested, sent_part, recalled}
 use Rattle.am_tx_window.specs.Window.{next, slot_at, offset_of, leading_acked}
 use Rattle.am_tx_window.specs.Written.{begins_at, ends_at, whole_octets, part_octets}
-use Rattle.am_tx_window.proofs.CutFits.{cut-fits}
-use Rattle.am_tx_window.proofs.CutSteps.{lens-some, stretch-sum}
+use Rattle.am_tx_window.proofs.CutFits.{cut-fits, written-len}
+use Rattle.am_tx_window.proofs.CutSteps.{lens-some, clip-sum, clip-lens}
 use Rattle.am_tx_window.proofs.SlotSteps.{gap-lies}
 use Rattle.rlc_am_tx.specs.declared.turn.Turn.{Turn}
 use Rattle.rlc_am_tx.specs.declared.turn.Turn.TheVariants as turns
@@ -29,19 +32,20 @@ use Rattle.rlc_am_tx.specs.Machine.{State, turn, waits, answer_of, after_turn, a
 use Rattle.rlc_am_tx.proofs.SendSteps.{first-waits}
 use Rattle.am_tx_laws.specs.Run.{Call, Offer, Take, Status, Tick, Expire, Settle, Confirm, World, after, run as run_all, begun}
 use Rattle.am_tx_laws.specs.Resent.{IsResent, IsSegment, IsWhole}
-use Rattle.am_tx_laws.specs.Octets.{Place, places, first_begins, last_ends, lengths, written, segment_of, Octets, nothing_sent, sent_with, new_count, octets_by, moved, octets_after, IsAgain, IsWritten, HasOctets, WritesTheStream}
+use Rattle.am_tx_laws.specs.Octets.{Place, places, first_begins, last_ends, lengths, written, segment_of, again_octets, Octets, nothing_sent, sent_with, new_count, octets_by, moved, octets_after, IsAgain, IsWritten, HasOctets, WritesTheStream}
 use Rattle.am_tx_laws.proofs.Slots.{leading-length, slot-drop}
 use Rattle.am_tx_laws.proofs.Least.{heard_slots, heard-length, at-old, at-new}
 use Rattle.am_tx_laws.proofs.Keys.{Key, key, keys, set-keys, heard-keys, keys-length, same-keys}
-use Rattle.am_tx_laws.proofs.Marked.{Stands, after-stands, start-stands, is-part}
-use Rattle.am_tx_laws.proofs.Resends.{whole-waits, resent-of, is-below}
-use Rattle.am_tx_laws.proofs.SegmentLens.{cuts}
+use Rattle.am_tx_laws.proofs.Marked.{IsSlot, Stands, after-stands, start-stands, is-part}
+use Rattle.am_tx_laws.proofs.Resends.{whole-waits, resent-of, is-below, not-true}
+use Rattle.am_tx_laws.proofs.Longest.{longest}
+use Rattle.am_tx_laws.proofs.SegmentLens.{cuts, clip-clip}
 use Rattle.am_tx_laws.proofs.Stretches.{place_at, Joined, joined-at, joined-front, first-at, last-at, cut-of, clip-range, range-at, range-all, range-length, range-octets, nowhere}
 use Rattle.am_tx_laws.proofs.Dealing.{IsTaken, stream, stream-end, stream-joined, taken as dealt}
 
 -- ---- a PDU by what it carries
 
-pub record IsFace (k : Key) (ps : List Place) : Type 0 where
+record IsFace (k : Key) (ps : List Place) : Type 0 where
   field : k.field ≡ map (λ (p : Place). p.octet) ps
   lens : k.lens ≡ lengths 0 ps
   begins : k.begins ≡ first_begins ps
@@ -107,7 +111,7 @@ ends-is h ps from to f lt le = by (to == length h.field) refl ∙ sym (last-of p
         let l = face-length (key h) ps f in
         is-cut h ps to f (omega arith) (omega (arith, n, l))
 
-pub part-is : (h : Sent) (ps : List Place) (number : ℕ) (poll : Bool) (t : Stretch) → IsFace (key h) ps → t.from < t.to → t.to ≤ length ps → t.lens ≡ clip t.from t.to h.lens
+part-is : (h : Sent) (ps : List Place) (number : ℕ) (poll : Bool) (t : Stretch) → IsFace (key h) ps → t.from < t.to → t.to ≤ length ps → t.lens ≡ clip t.from t.to h.lens
     → part_octets h number poll t ≡ written number poll (Some (record { last = t.to == length ps; so = t.from })) (slice_range ps t.from t.to)
 part-is h ps number poll t f lt le lens =
     ap (λ (n : ℕ). amd_written (number % 1024) poll (framing (begins_at h t.from) (ends_at h t.to)) (Some (record { last = t.to == n; so = t.from })) t.lens (slice_range h.field t.from t.to)) (face-length (key h) ps f)
@@ -117,38 +121,111 @@ part-is h ps number poll t f lt le lens =
     (lens ∙ (ap (λ (ls : List ℕ). clip t.from t.to ls) f.lens ∙ clip-range t.from t.to ps le))
     (ap (λ (xs : List ℕ). slice_range xs t.from t.to) f.field ∙ range-octets ps t.from t.to)
 
+-- ---- how long it is
+
+whole-len : (h : Sent) (ps : List Place) (number : ℕ) (poll : Bool) → IsFace (key h) ps → length (written number poll None ps) ≡ whole_size h
+whole-len h ps number poll f =
+    let w = f.whole in
+    ap (λ (xs : List ℕ). length xs) (sym (whole-is h ps number poll f)) ∙ (written-len (number % 1024) poll (framing h.begins h.ends) None h.lens h.field f.written f.whole ∙ omega (arith, w))
+
+part-len : (h : Sent) (ps : List Place) (number : ℕ) (poll : Bool) (segment : Segment) (from to : ℕ) → IsFace (key h) ps → from < to → to ≤ length ps
+    → length (written number poll (Some segment) (slice_range ps from to)) ≡ header_len 4 (length (clip from to h.lens)) + (to - from)
+part-len h ps number poll segment from to f lt le =
+    written-len (number % 1024) poll (framing (first_begins (slice_range ps from to)) (last_ends (slice_range ps from to))) (Some segment) (lengths 0 (slice_range ps from to)) (map (λ (p : Place). p.octet) (slice_range ps from to))
+    (subst (λ (ls : List ℕ). AreLens ls) lens (clip-lens from to h.lens f.written lt (omega (arith, le, w, l))))
+    (omega (arith, total, many, long))
+    ∙ (ap (λ (ls : List ℕ). header_len 4 (length ls) + sum (lengths 0 (slice_range ps from to))) (sym lens) ∙ ap (λ (n : ℕ). header_len 4 (length (clip from to h.lens)) + n) total)
+  where
+    w : sum h.lens ≡ length h.field
+    w = f.whole
+
+    l : length h.field ≡ length ps
+    l = face-length (key h) ps f
+
+    lens : clip from to h.lens ≡ lengths 0 (slice_range ps from to)
+    lens = ap (λ (ls : List ℕ). clip from to ls) f.lens ∙ clip-range from to ps le
+
+    total : sum (lengths 0 (slice_range ps from to)) ≡ to - from
+    total = let c = clip-sum from to h.lens in ap (λ (ls : List ℕ). sum ls) (sym lens) ∙ omega (arith, c, w, l, le)
+
+    long : length (slice_range ps from to) ≡ to - from
+    long = range-length ps from to le
+
+    many : length (map (λ (p : Place). p.octet) (slice_range ps from to)) ≡ length (slice_range ps from to)
+    many = length-map (slice_range ps from to) (λ (p : Place). p.octet)
+
 -- ---- a segment of it
 
-abbrev pub IsShare : Sent → ℕ → Stretch → Bool → Type 0
-IsShare h size t all = (t.lens ≡ clip t.from t.to h.lens) × (t.from ≡ 0 → t.to ≡ length h.field → (all ≡ true) × (header_len 4 (length t.lens) + sum t.lens ≤ size))
+-- its lengths; it fits; where it begins the PDU and all octets wait, so they do; and it is the longest that waits
+record IsShare (h : Sent) (size : ℕ) (t : Stretch) (all : Bool) (waiting : ℕ → Bool) : Type 0 where
+  lens : t.lens ≡ clip t.from t.to h.lens
+  fits : header_len 4 (length t.lens) + sum t.lens ≤ size
+  all' : t.from ≡ 0 → ((i : ℕ) → i < length h.field → waiting i ≡ true) → all ≡ true
+  most : (k : ℕ) → t.from < k → k ≤ length h.field → ((i : ℕ) → t.from ≤ i → i < k → waiting i ≡ true) → header_len 4 (length (clip t.from k h.lens)) + (k - t.from) ≤ size → k ≤ t.to
 
-pub share : (h : Sent) (size : ℕ) → AreLens h.lens → sum h.lens ≡ length h.field → is_waiting h ≡ true → 5 ≤ size → IsShare h size (next_stretch h size) (all_wait h)
-share h size lens total w five = by (first_waiting h) (gap-lies h.resting 0 (length h.field)) w
+-- octets that wait from the first on don't pass the first that does not
+gap-most : (h : Sent) (f : ℕ → Bool) (n most : ℕ) → IsSlot h f n most → (p : Part) → IsGap h.resting 0 (length h.field) p → (k : ℕ) → p.start < k → k ≤ length h.field → ((i : ℕ) → p.start ≤ i → i < k → f i ≡ true) → k ≤ p.end + 1
+gap-most h f n most s p g k lt le all = elim (cases_lt (p.end + 1) k) [
+  | inl beyond ↦
+      let a = g.some in
+      let in' : p.end + 1 < length h.field = omega (arith, beyond, le) in
+      let rests : f (p.end + 1) ≡ false = not-true (f (p.end + 1)) (sym (g.largest in') ∙ s.rests (p.end + 1) in') in
+      let no' : true ≡ false = sym (all (p.end + 1) (omega (arith, a)) beyond) ∙ rests in cc
+  | inr within ↦ within
+]
+
+share : (h : Sent) (size : ℕ) (f : ℕ → Bool) (n most : ℕ) → IsSlot h f n most → AreLens h.lens → is_waiting h ≡ true → 5 ≤ size → IsShare h size (next_stretch h size) (all_wait h) f
+share h size f n most s lens w five = by (first_waiting h) (gap-lies h.resting 0 (length h.field)) (λ some. gaps_are_first h.resting 0 (length h.field) (s.ascends some)) w
   where
-    clip-most : (size : ℕ) (p : Part) → p.start ≤ p.end → p.end < sum h.lens → (stretch_in h size p).to ≤ p.end + 1
-    clip-most size p le lt = stretch-sum size p.start p.end h.lens le lt
+    total : sum h.lens ≡ length h.field
+    total = s.whole
 
-    some : (p : Part) → Lies 0 (length h.field) p → IsShare h size (stretch_in h size p) ((p.start == 0) && (p.end + 1 == length h.field))
-    some p l =
-        let a = l.some in let b = l.below in (
-          cuts size p.start (p.end + 1) h.lens lens (omega arith) (omega (arith, b, total)) five,
-          λ z e. (
-            (let s = clip-most size p a (omega (arith, b, total)) in grind (arith, nat_tests, z, e, s, b)),
-            cut-fits size (clip p.start (p.end + 1) h.lens) five,
-          ),
-        )
+    ends : (p : Part) → p.start ≡ 0 → p.end + 1 ≡ length h.field → ((p.start == 0) && (p.end + 1 == length h.field)) ≡ true
+    ends p a b = grind (arith, nat_tests, a, b)
 
-    by : (o : Option Part) → IfSome o (Lies 0 (length h.field)) → is_some o ≡ true → IsShare h size (stretch_from o h size) (is_all o 0 (length h.field))
-    by None l w = let no' : false ≡ true = w in cc
-    by (Some p) l w = some p l
+    longest-from : (p : Part) → IsGap h.resting 0 (length h.field) p → (k : ℕ) → p.start < k → k ≤ p.end + 1 → header_len 4 (length (clip p.start k h.lens)) + (k - p.start) ≤ size → k ≤ (stretch_in h size p).to
+    longest-from p g k lt le fit =
+        let a = g.some in let b = g.below in
+        let q : p.start + (k - p.start) ≡ k = omega (arith, lt) in
+        let c = clip-sum p.start (p.end + 1) h.lens in
+        let e : clip 0 (k - p.start) (clip p.start (p.end + 1) h.lens) ≡ clip p.start k h.lens = clip-clip p.start (p.end + 1) (k - p.start) h.lens (omega (arith, lt, le)) ∙ ap (λ (j : ℕ). clip p.start j h.lens) q in
+        let small : header_len 4 (length (clip 0 (k - p.start) (clip p.start (p.end + 1) h.lens))) + (k - p.start) ≤ size = subst (λ (ls : List ℕ). header_len 4 (length ls) + (k - p.start) ≤ size) (sym e) fit in
+        let m = (longest size (clip p.start (p.end + 1) h.lens) (clip-lens p.start (p.end + 1) h.lens lens (omega (arith, a)) (omega (arith, b, total)))).most (k - p.start) (omega (arith, c, lt, le, b, total)) small in
+        omega (arith, m, lt)
+
+    here : (p : Part) → IsGap h.resting 0 (length h.field) p → IsShare h size (stretch_in h size p) ((p.start == 0) && (p.end + 1 == length h.field)) f
+    here p g =
+        let a = g.some in let b = g.below in
+        record {
+          lens = cuts size p.start (p.end + 1) h.lens lens (omega (arith, a)) (omega (arith, b, total)) five;
+          fits = cut-fits size (clip p.start (p.end + 1) h.lens) five;
+          all' = λ z all.
+              let m = gap-most h f n most s p g (length h.field) (omega (arith, a, b)) (omega arith) (λ i lo hi. all i hi) in
+              ends p z (omega (arith, m, b));
+          most = λ k lt le all fit. longest-from p g k lt (gap-most h f n most s p g k lt le all) fit;
+        }
+
+    by : (o : Option Part) → IfSome o (Lies 0 (length h.field)) → (0 < length h.field → MatchOption o ((j : ℕ) → 0 ≤ j → j < length h.field → has h.resting j ≡ true) (IsGap h.resting 0 (length h.field))) → is_some o ≡ true → IsShare h size (stretch_from o h size) (is_all o 0 (length h.field)) f
+    by None l g w = let no' : false ≡ true = w in cc
+    by (Some p) l g w = here p (g (let b = l.below in omega arith))
 
 -- where all octets wait, a segment has room for less
 part-case : (s : State) (size : ℕ) (held : Option ℕ) (more : Bool) → turn s size held more ≡ turns.Part → (all_wait (again s) && nat_le (whole_size (again s)) size) ≡ false
 unfolding turn
 part-case s size held more e = grind (arith, common_steps, nat_tests)
 
-less : (h : Sent) (ps : List Place) (size : ℕ) (t : Stretch) → IsFace (key h) ps → IsShare h size t (all_wait h) → t.from < t.to → t.to ≤ length ps → (all_wait h && nat_le (whole_size h) size) ≡ false → (t.to - t.from == length ps) ≡ false
-less h ps size t f share lt le part = by (t.to - t.from == length ps) refl
+whole-fits : (s : State) (size : ℕ) (held : Option ℕ) (more : Bool) → turn s size held more ≡ turns.Whole → whole_size (again s) ≤ size
+unfolding turn
+whole-fits s size held more e = grind (arith, common_steps, nat_tests)
+
+clash : (h : Sent) (size : ℕ) → all_wait h ≡ true → whole_size h ≤ size → (all_wait h && nat_le (whole_size h) size) ≡ false → ⊥
+clash h size all small part =
+    let fits : nat_le (whole_size h) size ≡ true = grind (arith, nat_tests) in
+    let no' : true ≡ false = sym (ap (λ (c : Bool). c && nat_le (whole_size h) size) all ∙ fits) ∙ part in cc
+
+less : (h : Sent) (ps : List Place) (size : ℕ) (t : Stretch) (f : ℕ → Bool) → IsFace (key h) ps → IsShare h size t (all_wait h) f → t.from < t.to → t.to ≤ length ps → ((i : ℕ) → t.from ≤ i → i < t.to → f i ≡ true)
+    → (all_wait h && nat_le (whole_size h) size) ≡ false → (t.to - t.from == length ps) ≡ false
+less h ps size t waiting f sh lt le all part = by (t.to - t.from == length ps) refl
   where
     by : (b : Bool) → (t.to - t.from == length ps) ≡ b → (t.to - t.from == length ps) ≡ false
     by false e = e
@@ -157,16 +234,10 @@ less h ps size t f share lt le part = by (t.to - t.from == length ps) refl
         let l = face-length (key h) ps f in
         let z : t.from ≡ 0 = omega arith in
         let m : t.to ≡ length ps = omega arith in
-        let a = share.1 z (omega (arith, m, l)) in
-        let lens : t.lens ≡ h.lens = share.0 ∙ (ap (λ (ls : List ℕ). clip t.from t.to ls) f.lens ∙ (clip-range t.from t.to ps le ∙ (ap (λ (qs : List Place). lengths 0 qs) (ap (λ (k : ℕ). slice_range ps k t.to) z ∙ range-all ps t.to m) ∙ sym f.lens))) in
-        let fits : header_len 4 (length h.lens) + sum h.lens ≤ size = subst (λ (ls : List ℕ). header_len 4 (length ls) + sum ls ≤ size) lens a.1 in
+        let lens : t.lens ≡ h.lens = sh.lens ∙ (ap (λ (ls : List ℕ). clip t.from t.to ls) f.lens ∙ (clip-range t.from t.to ps le ∙ (ap (λ (qs : List Place). lengths 0 qs) (ap (λ (k : ℕ). slice_range ps k t.to) z ∙ range-all ps t.to m) ∙ sym f.lens))) in
+        let fits : header_len 4 (length h.lens) + sum h.lens ≤ size = subst (λ (ls : List ℕ). header_len 4 (length ls) + sum ls ≤ size) lens sh.fits in
         let w = f.whole in
-        let small : whole_size h ≤ size = omega (arith, fits, w) in
-        let yes : (all_wait h && nat_le (whole_size h) size) ≡ true = ap (λ (c : Bool). c && nat_le (whole_size h) size) a.0 ∙ is-most small in
-        let no' : true ≡ false = sym yes ∙ part in cc
-      where
-        is-most : whole_size h ≤ size → nat_le (whole_size h) size ≡ true
-        is-most le = grind (arith, nat_tests)
+        absurd (clash h size (sh.all' z (λ i i_in. all i (omega (arith, z)) (omega (arith, i_in, m, l)))) (omega (arith, fits, w)) part)
 
 -- ---- any call
 
@@ -365,41 +436,55 @@ after-keeps s c o has k = record { faces = after-faces s c o has k.faces; stands
 again-known : (s : State) (o : Octets) → Keeps s o → waits s ≡ true → number_again s < length o.sent
 again-known s o k w = let n = k.faces.number in let b = is-below s w in omega (arith, n, b)
 
-whole-again : (s : State) (o : Octets) (poll : Bool) → Keeps s o → waits s ≡ true → IsWhole s o.marks → IsAgain s 0 (length (sent_with o (number_again s))) o (taken.Piece (number_again s) false poll (whole_octets (again s) (number_again s) poll))
-whole-again s o poll k w r = record {
+all-of : (n : ℕ) → (n - 0 == n) ≡ true
+all-of n = grind (arith, nat_tests)
+
+-- all octets of a PDU
+again-whole : (o : Octets) (number : ℕ) (poll : Bool) → again_octets o number 0 (length (sent_with o number)) poll ≡ written number poll None (sent_with o number)
+again-whole o number poll =
+    ap (λ (qs : List Place). written number poll (segment_of 0 (length (sent_with o number)) (length (sent_with o number))) qs) (range-all (sent_with o number) (length (sent_with o number)) refl)
+    ∙ ap (λ (c : Bool). written number poll (if c then None else Some (record { last = length (sent_with o number) == length (sent_with o number); so = 0 })) (sent_with o number)) (all-of (length (sent_with o number)))
+
+-- those of a segment
+again-part : (o : Octets) (number from to : ℕ) (poll : Bool) → (to - from == length (sent_with o number)) ≡ false
+    → again_octets o number from to poll ≡ written number poll (Some (record { last = to == length (sent_with o number); so = from })) (slice_range (sent_with o number) from to)
+again-part o number from to poll e = ap (λ (c : Bool). written number poll (if c then None else Some (record { last = to == length (sent_with o number); so = from })) (slice_range (sent_with o number) from to)) e
+
+whole-again : (s : State) (size : ℕ) (o : Octets) (poll : Bool) → Keeps s o → waits s ≡ true → whole_size (again s) ≤ size → IsWhole s o.marks
+    → IsAgain s size 0 (length (sent_with o (number_again s))) o (taken.Piece (number_again s) false poll (whole_octets (again s) (number_again s) poll))
+whole-again s size o poll k w small r = record {
   sent = again-known s o k w;
-  some = face-some (key (again s)) ps f;
+  some = face-some (key (again s)) (sent_with o (number_again s)) f;
   within = omega arith;
   waits = λ i lo lt. r.waits i (omega (arith, lt, l));
-  is = ap (λ (xs : List ℕ). taken.Piece (number_again s) false poll xs)
-      (whole-is (again s) ps (number_again s) poll f
-      ∙ (ap (λ (c : Bool). written (number_again s) poll (if c then None else Some (record { last = length ps == length ps; so = 0 })) ps) (sym (all (length ps)))
-      ∙ ap (λ (qs : List Place). written (number_again s) poll (segment_of 0 (length ps) (length ps)) qs) (sym (range-all ps (length ps) refl))));
+  is = ap (λ (xs : List ℕ). taken.Piece (number_again s) false poll xs) (whole-is (again s) (sent_with o (number_again s)) (number_again s) poll f ∙ sym (again-whole o (number_again s) poll));
+  fits = let e = ap (λ (xs : List ℕ). length xs) (again-whole o (number_again s) poll) in let n = whole-len (again s) (sent_with o (number_again s)) (number_again s) poll f in omega (arith, e, n, small);
+  most = λ j lt le all fit. le;
 }
   where
-    ps : List Place
-    ps = sent_with o (number_again s)
-
-    f : IsFace (key (again s)) ps
+    f : IsFace (key (again s)) (sent_with o (number_again s))
     f = k.faces.slots (first_place s) (is-below s w)
 
-    l : length (again s).field ≡ length ps
-    l = face-length (key (again s)) ps f
-
-    all : (n : ℕ) → (n - 0 == n) ≡ true
-    all n = grind (arith, nat_tests)
+    l : length (again s).field ≡ length (sent_with o (number_again s))
+    l = face-length (key (again s)) (sent_with o (number_again s)) f
 
 part-again : (s : State) (size : ℕ) (o : Octets) (poll : Bool) → Keeps s o → (waits s ≡ true) × (5 ≤ size) → (all_wait (again s) && nat_le (whole_size (again s)) size) ≡ false → IsSegment s size o.marks
-    → IsAgain s (next_stretch (again s) size).from (next_stretch (again s) size).to o (taken.Piece (number_again s) false poll (part_octets (again s) (number_again s) poll (next_stretch (again s) size)))
+    → IsAgain s size (next_stretch (again s) size).from (next_stretch (again s) size).to o (taken.Piece (number_again s) false poll (part_octets (again s) (number_again s) poll (next_stretch (again s) size)))
 part-again s size o poll k w part r = record {
   sent = again-known s o k w.0;
   some = r.some;
   within = within;
   waits = r.waits;
   is = ap (λ (xs : List ℕ). taken.Piece (number_again s) false poll xs)
-      (part-is (again s) ps (number_again s) poll t f r.some within sh.0
-      ∙ ap (λ (c : Bool). written (number_again s) poll (if c then None else Some (record { last = t.to == length ps; so = t.from })) (slice_range ps t.from t.to))
-      (sym (less (again s) ps size t f sh r.some within part)));
+      (part-is (again s) ps (number_again s) poll t f r.some within sh.lens ∙ sym (again-part o (number_again s) t.from t.to poll short));
+  fits =
+      let e = ap (λ (xs : List ℕ). length xs) (again-part o (number_again s) t.from t.to poll short) in
+      let n = part-len (again s) ps (number_again s) poll (record { last = t.to == length ps; so = t.from }) t.from t.to f r.some within in
+      let c = ap (λ (ls : List ℕ). header_len 4 (length ls) + sum ls) sh.lens in
+      let d = clip-sum t.from t.to (again s).lens in
+      let x = sh.fits in let v = f.whole in let lt = r.some in
+      omega (arith, e, n, c, d, x, v, l, lt, within);
+  most = λ j lt le all fit. by j lt le all fit (j - t.from == length ps) refl;
 }
   where
     t : Stretch
@@ -411,13 +496,34 @@ part-again s size o poll k w part r = record {
     f : IsFace (key (again s)) ps
     f = k.faces.slots (first_place s) (is-below s w.0)
 
+    l : length (again s).field ≡ length ps
+    l = face-length (key (again s)) ps f
+
     within : t.to ≤ length ps
-    within = let l = face-length (key (again s)) ps f in let i = r.within in omega (arith, l, i)
+    within = let i = r.within in omega (arith, l, i)
 
-    sh : IsShare (again s) size t (all_wait (again s))
-    sh = share (again s) size f.written f.whole (first-waits s.window.slots (is-below s w.0)) w.1
+    sh : IsShare (again s) size t (all_wait (again s)) (o.marks.waits (number_again s))
+    sh = share (again s) size (o.marks.waits (number_again s)) (o.marks.namings (number_again s)) s.config.max_retx (k.stands.slots (first_place s) (is-below s w.0)) f.written (first-waits s.window.slots (is-below s w.0)) w.1
 
-written-of : (t : Turn) (s : State) (size : ℕ) (more : Bool) (o : Octets) → Keeps s o → (t ≡ turns.New → (0 < length s.queue.sdus) × (3 ≤ size)) → (t ≡ turns.Whole → waits s ≡ true) → (t ≡ turns.Part → (waits s ≡ true) × (5 ≤ size))
+    short : (t.to - t.from == length ps) ≡ false
+    short = less (again s) ps size t (o.marks.waits (number_again s)) f sh r.some within r.waits part
+
+    by : (j : ℕ) → t.from < j → j ≤ length ps → ((i : ℕ) → t.from ≤ i → i < j → o.marks.waits (number_again s) i ≡ true) → length (again_octets o (number_again s) t.from j poll) ≤ size → (b : Bool) → (j - t.from == length ps) ≡ b → j ≤ t.to
+    by j lt le all fit false e =
+        let p = ap (λ (xs : List ℕ). length xs) (again-part o (number_again s) t.from j poll e) in
+        let n = part-len (again s) ps (number_again s) poll (record { last = j == length ps; so = t.from }) t.from j f lt le in
+        sh.most j lt (omega (arith, le, l)) all (omega (arith, p, n, fit))
+    by j lt le all fit true e =
+        let m : j - t.from ≡ length ps = grind (arith, nat_tests) in
+        let z : t.from ≡ 0 = omega arith in
+        let y : j ≡ length ps = omega arith in
+        let p = ap (λ (i : ℕ). length (again_octets o (number_again s) i j poll)) z in
+        let q = ap (λ (i : ℕ). length (again_octets o (number_again s) 0 i poll)) y in
+        let v = ap (λ (xs : List ℕ). length xs) (again-whole o (number_again s) poll) in
+        let n = whole-len (again s) ps (number_again s) poll f in
+        absurd (clash (again s) size (sh.all' z (λ i i_in. all i (omega (arith, z)) (omega (arith, i_in, y, l)))) (omega (arith, p, q, v, n, fit)) part)
+
+written-of : (t : Turn) (s : State) (size : ℕ) (more : Bool) (o : Octets) → Keeps s o → (t ≡ turns.New → (0 < length s.queue.sdus) × (3 ≤ size)) → (t ≡ turns.Whole → (waits s ≡ true) × (whole_size (again s) ≤ size)) → (t ≡ turns.Part → (waits s ≡ true) × (5 ≤ size))
     → (t ≡ turns.Part → (all_wait (again s) && nat_le (whole_size (again s)) size) ≡ false) → IsResent t s size o.marks → IsWritten t s size o (answer_of t s size more)
 unfolding answer_of
 written-of turns.New s size more o k new whole' part' short r =
@@ -429,7 +535,7 @@ written-of turns.New s size more o k new whole' part' short r =
           ∙ ap (λ (xs : List ℕ). taken.Piece (length o.sent) true (is_wanted (sent_new s size) more) xs)
           (whole-is (new_slot s size) (take (new_count s size) o.unsent) (length o.sent) (is_wanted (sent_new s size) more) (new-face s size o.unsent o.sent f (new refl)));
     }
-written-of turns.Whole s size more o k new whole' part' short r = whole-again s o (is_wanted (sent_whole s) more) k (whole' refl) r
+written-of turns.Whole s size more o k new whole' part' short r = whole-again s size o (is_wanted (sent_whole s) more) k (whole' refl).0 (whole' refl).1 r
 written-of turns.Part s size more o k new whole' part' short r = part-again s size o (is_wanted (sent_segment s size) more) k (part' refl) (short refl) r
 written-of turns.Idle s size more o k new whole' part' short r = tt
 written-of turns.Stopped s size more o k new whole' part' short r = tt
@@ -442,7 +548,7 @@ run-keeps [] w h k = k
 run-keeps (c ∷ cs) w h k = run-keeps cs (record { state = after w.state c; past = octets_after w.state c w.past }) h.1 (after-keeps w.state c w.past h.0 k)
 
 taking : (s : State) (size : ℕ) (held : Option ℕ) (more : Bool) (o : Octets) → Keeps s o → IsWritten (turn s size held more) s size o (answer_of (turn s size held more) s size more)
-taking s size held more o k = written-of (turn s size held more) s size more o k (new-able s size held more) (λ e. (whole-waits s size held more e).0) (is-part s size held more) (part-case s size held more)
+taking s size held more o k = written-of (turn s size held more) s size more o k (new-able s size held more) (λ e. ((whole-waits s size held more e).0, whole-fits s size held more e)) (is-part s size held more) (part-case s size held more)
     (resent-of (turn s size held more) s size o.marks k.stands (whole-waits s size held more) (is-part s size held more))
 
 pub writes : WritesTheStream

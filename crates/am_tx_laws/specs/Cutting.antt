@@ -9,10 +9,11 @@ use Rattle.am_tx_window.specs.Cut.{cut, clip}
 abbrev pub size_of : List ℕ → ℕ → ℕ
 size_of ls k = header_len 4 (length (clip 0 k ls)) + k
 
--- the cut is the longest stretch from the first octet that fits
+-- the cut is the longest stretch from the first octet that fits, and the only one
 pub record IsLongest (size : ℕ) (ls : List ℕ) : Type 0 where
   pub fits : 5 ≤ size → size_of ls (sum (cut false (size - 4) ls)) ≤ size
   pub most : (k : ℕ) → k ≤ sum ls → size_of ls k ≤ size → k ≤ sum (cut false (size - 4) ls)
+  pub only : (k : ℕ) → 5 ≤ size → k ≤ sum ls → size_of ls k ≤ size → ((j : ℕ) → j ≤ sum ls → size_of ls j ≤ size → j ≤ k) → k ≡ sum (cut false (size - 4) ls)
 
 abbrev pub CutIsLongest : Type 0
 CutIsLongest = (size : ℕ) (ls : List ℕ) → AreLens ls → IsLongest size ls

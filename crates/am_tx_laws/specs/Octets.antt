@@ -97,14 +97,20 @@ pub record IsNew (s : State) (size : ℕ) (o : Octets) (t : Taken) : Type 0 wher
   pub there : new_count s size ≤ length o.unsent
   pub is : t ≡ taken.Piece (length o.sent) true (poll_of t) (written (length o.sent) (poll_of t) None (take (new_count s size) o.unsent))
 
--- a PDU that is sent again, or a segment of it, carries octets of its number from a place below another, one or more, which all wait
-pub record IsAgain (s : State) (from to : ℕ) (o : Octets) (t : Taken) : Type 0 where
+-- a PDU of a number, or a segment of it, with the octets from a place below another
+abbrev pub again_octets : Octets → ℕ → ℕ → ℕ → Bool → List ℕ
+again_octets o number from to poll = written number poll (segment_of from to (length (sent_with o number))) (slice_range (sent_with o number) from to)
+
+-- octets of its number are sent again, one or more, from a place below another, which all wait; and no more of those that wait from there on fit
+pub record IsAgain (s : State) (size from to : ℕ) (o : Octets) (t : Taken) : Type 0 where
   pub sent : number_again s < length o.sent
   pub some : from < to
   pub within : to ≤ length (sent_with o (number_again s))
   pub waits : (i : ℕ) → from ≤ i → i < to → o.marks.waits (number_again s) i ≡ true
-  pub is : t ≡ taken.Piece (number_again s) false (poll_of t)
-      (written (number_again s) (poll_of t) (segment_of from to (length (sent_with o (number_again s)))) (slice_range (sent_with o (number_again s)) from to))
+  pub is : t ≡ taken.Piece (number_again s) false (poll_of t) (again_octets o (number_again s) from to (poll_of t))
+  pub fits : length (again_octets o (number_again s) from to (poll_of t)) ≤ size
+  pub most : (k : ℕ) → from < k → k ≤ length (sent_with o (number_again s)) → ((i : ℕ) → from ≤ i → i < k → o.marks.waits (number_again s) i ≡ true)
+      → length (again_octets o (number_again s) from k (poll_of t)) ≤ size → k ≤ to
 
 -- no data PDU
 abbrev pub IsNone : Taken → Type 0
@@ -117,8 +123,8 @@ IsNone taken.Stopped = Unit {0}
 
 abbrev pub IsWritten : Turn → State → ℕ → Octets → Taken → Type 0
 IsWritten turns.New s size o t = IsNew s size o t
-IsWritten turns.Whole s size o t = IsAgain s 0 (length (sent_with o (number_again s))) o t
-IsWritten turns.Part s size o t = IsAgain s (next_stretch (again s) size).from (next_stretch (again s) size).to o t
+IsWritten turns.Whole s size o t = IsAgain s size 0 (length (sent_with o (number_again s))) o t
+IsWritten turns.Part s size o t = IsAgain s size (next_stretch (again s) size).from (next_stretch (again s) size).to o t
 IsWritten turns.Idle s size o t = IsNone t
 IsWritten turns.Stopped s size o t = IsNone t
 IsWritten turns.Small s size o t = IsNone t
@@ -129,8 +135,8 @@ abbrev pub HasOctets : Call → Type 0
 HasOctets (Offer sdu) = 0 < length sdu
 HasOctets call = Unit {0}
 
--- each SDU offered has an octet: what `take` answers is a new PDU with the next octets of the stream, or a PDU or a segment with octets of its
--- number that wait, or no data PDU
+-- each SDU offered has an octet: what `take` answers is a new PDU with the next octets of the stream, or a PDU or a largest segment with octets of
+-- its number that wait, or no data PDU
 abbrev pub WritesTheStream : Type 0
 WritesTheStream = (config : AmTxConfig) (calls : List Call) (size : ℕ) (held : Option ℕ) (more : Bool) → AllByRecursion HasOctets calls
     → IsWritten (turn (run octets_after calls (begun config nothing_sent)).state size held more) (run octets_after calls (begun config nothing_sent)).state size

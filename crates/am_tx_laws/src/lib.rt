@@ -17,7 +17,8 @@ pub fn base_is_least()
     ensures { BaseIsLeast }
 {}
 
-/// Of the octets that wait, a segment has the longest stretch from the first that fits with its header and lengths.
+/// Of the octets that wait, a segment has the longest stretch from the first that fits with its header and lengths, which
+/// is the only one so long.
 pub fn cut_is_longest()
     ensures { CutIsLongest }
 {}
@@ -33,8 +34,8 @@ pub fn carries_the_stream()
 {}
 
 /// Each SDU having an octet, a new PDU carries the next octets of the SDUs offered, with the FI and the LIs of their
-/// boundaries. What is sent again is a PDU, or a segment of it, with octets of its number that wait: those that its new
-/// PDU carried, with the SO, the LSF, the FI and the LIs of the stretch.
+/// boundaries. What is sent again is a PDU, or the largest segment of it that fits, with octets of its number that wait:
+/// those that its new PDU carried, with the SO, the LSF, the FI and the LIs of the stretch.
 pub fn writes_the_stream()
     ensures { WritesTheStream }
 {}
