@@ -150,6 +150,44 @@ fn resends_in_segments(rt: HostRuntime) -> Result<(), NoMemory> {
     Ok(())
 }
 
+// A range that goes up to the last octet, whichever that is.
+#[test]
+fn resends_the_tail(rt: HostRuntime) -> Result<(), NoMemory> {
+    let Some(mut tx) = expired(rt.alloc())? else {
+        panic!(rt; "the timer didn't expire");
+    };
+    assert!(rt; resends(&mut tx)?);
+    assert!(rt; applies(&mut tx, &[0, 6, 0, 0x20, 1, 0x3f, 0xff, 0x80], true)?);
+    assert!(rt; tx.need(0, None) == 15 && tx.backlog() == 8);
+    assert!(rt; sends(&mut tx, 11, &[0xd8, 0, 0, 4, 2, 3, 4, 5, 6, 7, 8])?);
+    assert!(rt; sends(&mut tx, 11, &[0xf0, 0, 0x80, 11, 9])?);
+    Ok(())
+}
+
+// Once more in segments, which a larger size cuts elsewhere.
+#[test]
+fn resends_by_other_cuts(rt: HostRuntime) -> Result<(), NoMemory> {
+    let Some(mut tx) = expired(rt.alloc())? else {
+        panic!(rt; "the timer didn't expire");
+    };
+    assert!(rt; resends(&mut tx)? && expires(&mut tx));
+    assert!(rt; sends(&mut tx, 10, &[0xe8, 0, 0, 0, 0x80, 0, 0, 1, 2, 3])?);
+    assert!(rt; sends(&mut tx, 10, &[0xf0, 0, 0x80, 6, 4, 5, 6, 7, 8, 9])?);
+    Ok(())
+}
+
+// A range past the field names no octet. Still the PDU isn't acknowledged, and its RETX_COUNT begins.
+#[test]
+fn considers_past_the_field(rt: HostRuntime) -> Result<(), NoMemory> {
+    let mut tx = sender(rt.alloc(), None, None, 1)?;
+    offer(&mut tx, rt.alloc(), &[0x80, 0, 0xa0])?;
+    assert!(rt; sends(&mut tx, 5, &[0xa0, 0, 0x80, 0, 0xa0])?);
+    assert!(rt; applies(&mut tx, &[0, 6, 0, 0x20, 2, 0x80, 10, 0], true)?);
+    assert!(rt; tx.backlog() == 0 && tx.left() == 3);
+    assert!(rt; tx.settle(false) && tx.expire_poll(false) == PollExpired::Limit(0));
+    Ok(())
+}
+
 // Each segment has the lengths of its own elements.
 #[test]
 fn resends_elements(rt: HostRuntime) -> Result<(), NoMemory> {
