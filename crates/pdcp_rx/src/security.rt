@@ -1,5 +1,5 @@
 //! Deciphering, and the MAC-I of signalling (TS 36.323 5.6, 5.7).
-ghost use Rattle.std.specs.Prelude.{◌≡◌, ◌≤◌, length, bytes_eq, IfOk};
+ghost use Rattle.std.specs.Prelude.{◌≡◌, ◌-◌, ◌≤◌, length, take, drop, bytes_eq, IfOk};
 ghost use Rattle.pdcp_sec.specs.Protection.{ciphered_with};
 ghost use Rattle.pdcp_rx.specs.Opening.{plain_srb, checked, opened, IsLong};
 ghost use Rattle.pdcp_rx.specs.declared.security.Opened.TheVariants.{Sdu};
@@ -53,38 +53,39 @@ fn open_user(
     Ok(Opened::Sdu(Bytes::from_vec(sdu)))
 }
 
+#[tactic(auto, unfolding(crate::specs::Opening::plain_srb))]
 fn open_srb(security: &Security, alloc: Global, count: u32, pdu: &[u8]) -> Result<Opened, NoMemory>
     requires { 6 ≤ length pdu.now }
     ensures { IfOk result (λ o. o ≡ checked security.now count (plain_srb security.now count pdu.now)) }
 {
     let mut plain = Vec::from_slice(alloc, pdu)?;
-    decipher_srb(security, count, &mut plain);
-    check(security, alloc, count, &plain)
-}
-
-#[tactic(auto, unfolding(crate::specs::Opening::plain_srb))]
-fn decipher_srb(security: &Security, count: u32, pdu: &mut [u8])
-    requires { 1 ≤ length pdu.old }
-    ensures text { pdu.new ≡ plain_srb security.now count pdu.old }
-    ensures len { length pdu.new ≡ length pdu.old }
-{
-    let (_header, text) = pdu.split_at_mut(1);
-    security.apply(count, text);
+    security.apply_behind(count, 1, &mut plain);
+    Ok(check(security, count, plain))
 }
 
 #[tactic(auto, unfolding(crate::specs::Opening::checked))]
-fn check(security: &Security, alloc: Global, count: u32, plain: &[u8]) -> Result<Opened, NoMemory>
-    requires { 6 ≤ length plain.now }
-    ensures { IfOk result (λ o. o ≡ checked security.now count plain.now) }
+fn check(security: &Security, count: u32, plain: Vec<u8>) -> Opened
+    requires { 6 ≤ length plain.items }
+    ensures { result ≡ checked security.now count plain.items }
 {
     let (message, tag) = plain.split_at(plain.len() - TAG);
     let wanted = security.tag(count, message);
     if !is_same(tag, &wanted) {
         let found = [tag[0], tag[1], tag[2], tag[3]];
-        return Ok(Opened::Differs { found, wanted });
+        return Opened::Differs { found, wanted };
     }
-    let (_header, sdu) = message.split_at(1);
-    Ok(Opened::Sdu(Bytes::from_slice(alloc, sdu)?))
+    Opened::Sdu(without_ends(plain))
+}
+
+// What stands between the header and the MAC-I, in the buffer that it is in.
+#[tactic(auto, using(crate::proofs::ReadLemmas::drop_first))]
+fn without_ends(mut plain: Vec<u8>) -> Bytes
+    requires { 6 ≤ length plain.items }
+    ensures { result ≡ drop 1 (take (length plain.items - 4) plain.items) }
+{
+    plain.truncate(plain.len() - TAG);
+    plain.remove(0);
+    Bytes::from_vec(plain)
 }
 
 fn is_same(found: &[u8], wanted: &[u8]) -> bool

@@ -1,7 +1,7 @@
 //! The keys of a PDCP entity at work: ciphering and integrity by COUNT (TS 36.323 5.6, 5.7), for both ends alike.
 #![tactic(auto)]
 
-ghost use Rattle.std.specs.Prelude.{◌≡◌, ◌<◌, ℕ, List, length};
+ghost use Rattle.std.specs.Prelude.{◌≡◌, ◌<◌, ◌≤◌, ◌++◌, ℕ, List, length, take, drop};
 ghost use Rattle.pdcp_sec.specs.Protection.{Protection, protection_of, key_of, ciphered_with, tag_of};
 
 use eps_sec::{Cipher, Key, Keys, Schedule, eea_apply, eia_tag};
@@ -67,6 +67,16 @@ impl Security {
             self.direction,
             text,
         );
+    }
+
+    /// Ciphers what stands behind the first `header` octets of a PDU, or deciphers it, in its place.
+    pub fn apply_behind(&self, count: u32, header: usize, pdu: &mut [u8])
+        requires { header ≤ length pdu.old }
+        ensures text { pdu.new ≡ take header pdu.old ++ ciphered_with self.now count (drop header pdu.old) }
+        ensures len { length pdu.new ≡ length pdu.old }
+    {
+        let (_header, text) = pdu.split_at_mut(header);
+        self.apply(count, text);
     }
 
     /// The MAC-I of a message: the header and the plain data of its PDU.

@@ -10,9 +10,12 @@ ghost use Rattle.pdcp_tx.specs.State.{IsShort};
 
 use crate::sdu::Sdu;
 use l2_bits::{Bytes, NoMemory};
-use pdcp_pdu::{PdcpKind, write_srb, write_user};
+use pdcp_pdu::PdcpKind;
 use pdcp_sec::Security;
 use std::alloc::Global;
+
+/// The octets of a MAC-I.
+const TAG: usize = 4;
 
 /// Writes the PDU of an SDU with its COUNT.
 #[tactic(auto, unfolding(crate::specs::Pdus::pdu))]
@@ -34,7 +37,6 @@ pub(crate) fn write_pdu(
     }
 }
 
-#[tactic(auto, using(crate::proofs::PduSteps::user_short))]
 fn write_data(
     security: &Security,
     alloc: Global,
@@ -48,12 +50,38 @@ fn write_data(
     ensures pdu { IfOk result (λ written. written ≡ user_spelling bits (Data (count % 2 ^ bits) (ciphered_with security.now count sdu.now))) }
     ensures short { IfOk result IsShort }
 {
-    let mut text = Vec::from_slice(alloc, sdu)?;
-    security.apply(count, &mut text);
-    write_user(alloc, bits, count % (1 << bits), &text)
+    let sn = count % (1 << bits);
+    if bits == 7 {
+        return write_behind(security, alloc, count, &[0x80 | (sn & 0xff) as u8], sdu);
+    }
+    let header = [0x80 | (sn >> 8) as u8, (sn & 0xff) as u8];
+    write_behind(security, alloc, count, &header, sdu)
 }
 
-#[tactic(auto, using(crate::proofs::PduSteps::srb_short))]
+// Copies the SDU behind a header, into a buffer of just that size, and ciphers it there.
+#[tactic(auto, using(crate::proofs::PduSteps::behind))]
+fn write_behind(
+    security: &Security,
+    alloc: Global,
+    count: u32,
+    header: &[u8],
+    sdu: &[u8],
+) -> Result<Bytes, NoMemory>
+    requires header { length header.now ≤ 2 }
+    requires some { 1 ≤ length sdu.now }
+    requires few { length sdu.now ≤ 8188 }
+    ensures pdu { IfOk result (λ written. written ≡ header.now ++ ciphered_with security.now count sdu.now) }
+    ensures short { IfOk result IsShort }
+{
+    let mut pdu = Vec::with_capacity(alloc, header.len() + sdu.len())?;
+    pdu.extend_from_slice(header)?;
+    pdu.extend_from_slice(sdu)?;
+    security.apply_behind(count, header.len(), &mut pdu);
+    Ok(Bytes::from_vec(pdu))
+}
+
+// The MAC-I goes over the header and the plain SDU, and is ciphered with the SDU.
+#[tactic(auto, unfolding(crate::specs::Pdus::mac_i), using(crate::proofs::PduSteps::srb_short))]
 fn write_signalling(
     security: &Security,
     alloc: Global,
@@ -65,22 +93,11 @@ fn write_signalling(
     ensures pdu { IfOk result (λ written. written ≡ srb_header 0 (count % 32) ++ ciphered_with security.now count (sdu.now ++ mac_i security.now count sdu.now)) }
     ensures short { IfOk result IsShort }
 {
-    let mut text = Vec::with_capacity(alloc, sdu.len() + 4)?;
-    text.extend_from_slice(sdu)?;
-    text.extend_from_slice(&tag_of(security, alloc, count, sdu)?)?;
-    security.apply(count, &mut text);
-    let (octets, tag) = text.split_at(sdu.len());
-    write_srb(alloc, count % 32, octets, &[tag[0], tag[1], tag[2], tag[3]])
-}
-
-#[tactic(auto, unfolding(crate::specs::Pdus::mac_i))]
-fn tag_of(security: &Security, alloc: Global, count: u32, sdu: &[u8]) -> Result<[u8; 4], NoMemory>
-    requires few { length sdu.now ≤ 8188 }
-    ensures value { IfOk result (λ tag. tag ≡ mac_i security.now count sdu.now) }
-    ensures len { IfOk result (λ tag. length tag ≡ 4) }
-{
-    let mut message = Vec::with_capacity(alloc, 1 + sdu.len())?;
-    message.push((count % 32) as u8)?;
-    message.extend_from_slice(sdu)?;
-    Ok(security.tag(count, &message))
+    let mut pdu = Vec::with_capacity(alloc, 1 + sdu.len() + TAG)?;
+    pdu.push((count % 32) as u8)?;
+    pdu.extend_from_slice(sdu)?;
+    let tag = security.tag(count, &pdu);
+    pdu.extend_from_slice(&tag)?;
+    security.apply_behind(count, 1, &mut pdu);
+    Ok(Bytes::from_vec(pdu))
 }
