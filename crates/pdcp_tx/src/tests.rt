@@ -49,6 +49,46 @@ fn writes_each_kind(rt: HostRuntime) -> Result<(), NoMemory> {
     Ok(())
 }
 
+// The SN begins again behind the last one, and COUNT goes on.
+#[test]
+fn counts_past_the_last_number(rt: HostRuntime) -> Result<(), NoMemory> {
+    for (kind, first, last) in [
+        (AM, 4095, [0x8f, 0xff, 1]),
+        (PdcpKind::Am { bits: 15 }, 32767, [0xff, 0xff, 1]),
+    ] {
+        let mut sender = PdcpTx::new(rt.alloc(), kind, first, &keys(Cipher::Eea0), 0, 1);
+        assert_eq!(rt; sender.submit(&[1]), Ok(()));
+        assert_eq!(rt; sender.submit(&[1]), Ok(()));
+        assert!(rt; is_pdu(&sender.next_pdu()?, Some(first), &last));
+        assert!(rt; is_pdu(&sender.next_pdu()?, Some(first + 1), &[0x80, 0, 1]));
+    }
+    Ok(())
+}
+
+// The own report goes first; what RLC alone has confirmed behind an open SDU is taken again, what a report has told isn't.
+#[test]
+fn takes_again_after_a_restart(rt: HostRuntime) -> Result<(), NoMemory> {
+    let mut sender = PdcpTx::new(rt.alloc(), AM, 0, &keys(Cipher::Eea2), 0, 1);
+    for octet in 0xa0..0xa4 {
+        assert_eq!(rt; sender.submit(&[octet]), Ok(()));
+        sender.next_pdu()?;
+    }
+    sender.confirm(0);
+    sender.confirm(2);
+    let Ok(mut sender) = PdcpTx::restart(sender.stop(), &keys(Cipher::Eea0)) else {
+        return Err(NoMemory);
+    };
+    sender.owe(Bytes::from_slice(rt.alloc(), &[0, 0])?);
+    assert_eq!(rt; sender.octets(), 2 + 3 * 3);
+    assert!(rt; is_pdu(&sender.next_pdu()?, None, &[0, 0]));
+    assert!(rt; is_pdu(&sender.next_pdu()?, Some(1), &[0x80, 1, 0xa1]));
+    assert!(rt; sender.report(2, &[0x80]));
+    assert!(rt; is_pdu(&sender.next_pdu()?, Some(2), &[0x80, 2, 0xa2]));
+    assert!(rt; !sender.may_take());
+    assert_eq!(rt; sender.left(), 0);
+    Ok(())
+}
+
 #[test]
 fn refuses_the_1025th(rt: HostRuntime) {
     let mut sender = PdcpTx::new(rt.alloc(), AM, 0, &keys(Cipher::Eea0), 0, 1);
@@ -72,8 +112,12 @@ fn discards_what_waits(rt: HostRuntime) -> Result<(), NoMemory> {
     assert_eq!(rt; sender.submit(&[0xa1]), Ok(()));
     sender.tick();
     assert!(rt; is_pdu(&sender.next_pdu()?, Some(0), &[0x80, 0, 0xa1]));
+    assert_eq!(rt; sender.submit(&[0xa2]), Ok(()));
     sender.tick();
+    sender.tick();
+    assert_eq!(rt; sender.late(), Some(1));
     assert_eq!(rt; sender.late(), None);
+    assert_eq!(rt; sender.left(), 1);
     Ok(())
 }
 
