@@ -68,6 +68,25 @@ fn finds_the_count(rt: HostRuntime) -> Result<(), NoMemory> {
     Ok(())
 }
 
+// The SN begins again behind the last one, and a COUNT that went up is old.
+#[test]
+fn counts_past_the_last_number(rt: HostRuntime) -> Result<(), NoMemory> {
+    for (kind, first, last) in [
+        (AM, 4095, b"\x8f\xff\x01".as_slice()),
+        (LONG, 32767, b"\xff\xff\x01"),
+    ] {
+        let mut receiver = PdcpRx::new(rt.alloc(), kind, first, &keys(Cipher::Eea0, 1), 0, 1);
+        for (pdu, wanted) in [
+            (last, b'u'),
+            (b"\x80\x00\x01".as_slice(), b'u'),
+            (last, b'o'),
+        ] {
+            assert_eq!(rt; letter(&receiver.arrive(pdu, Cause::Arrived)?), wanted);
+        }
+    }
+    Ok(())
+}
+
 #[test]
 fn hands_up_in_order(rt: HostRuntime) -> Result<(), NoMemory> {
     let mut receiver = PdcpRx::new(rt.alloc(), AM, 0, &keys(Cipher::Eea0, 1), 0, 1);
