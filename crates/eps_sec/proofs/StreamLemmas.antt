@@ -1,7 +1,6 @@
 -- A text to which a stream is added, octet by octet.
-use Rattle.std.proofs.Common.{◌≡◌, ◌<◌, ◌≤◌, ℕ, zero, suc, ◌+◌, ◌*◌, ◌/◌, ◌%◌, ◌∙◌, List, [], ◌∷◌, ◌++◌, length, take, drop, slice_index, slice_set, refl, ap, arith, add-one, min, inl, inr, sym}
+use Rattle.std.proofs.Common.{◌≡◌, ◌<◌, ◌≤◌, ℕ, zero, suc, ◌+◌, ◌*◌, ◌/◌, ◌%◌, ◌∙◌, List, [], ◌∷◌, ◌++◌, length, take, drop, slice_index, slice_set, refl, ap, arith, add-one}
 use Rattle.std.proofs.lemmas.List.{take_all, drop_all, append-nil}
-use Rattle.std.proofs.lemmas.Bool.{cases_lt}
 use Rattle.std.specs.Int.Bits.{bit_xor, xor_assoc, xor_self, xor_zero_r}
 use Rattle.eps_sec.specs.Aes.{aes}
 use Rattle.eps_sec.specs.Modes.{counter_block, stream_octet, add_stream}
@@ -29,14 +28,6 @@ done-more f k v t now lt e w =
 -- nothing is left behind the end
 pub done-all : (f : ℕ → ℕ) (k : ℕ) (t : List ℕ) → length t ≤ k → done_to f k t ≡ add_stream f 0 t
 done-all f k t le = rw (take_all k t le, drop_all k t le) (append-nil (add_stream f 0 t))
-
--- as far as the text goes
-pub done-until : (f : ℕ → ℕ) (k m : ℕ) (t : List ℕ) → k ≡ min (length t) m → done_to f k t ≡ done_to f m t
-done-until f k m t e =
-    elim (cases_lt m (length t)) [
-      | inl a ↦ let same : k ≡ m = omega arith in ap (λ (n : ℕ). done_to f n t) same
-      | inr b ↦ done-all f k t (omega arith) ∙ sym (done-all f m t (omega arith))
-    ]
 
 -- the octet of the stream, in the block at hand
 pub stream_octet_is : (key block : List ℕ) (first i j k : ℕ) → block ≡ aes key (counter_block first i) → k ≡ 16 * i + j → j < 16 → slice_index block j ≡ stream_octet key first k

@@ -3,7 +3,7 @@ use Rattle.std.proofs.Common.{◌≡◌, ◌<◌, ℕ, zero, suc, ◌∙◌, Boo
 use Rattle.std.proofs.lemmas.Bool.Decides.{Decides-below_and, Decides-eqb}
 use Rattle.std.proofs.lemmas.Slice.Eq.{bytes_eq-Decides}
 use Rattle.std.specs.Str.{bytes_eq}
-use Rattle.eps_sec.specs.declared.tables.TheConstants.{S_BOX, COLUMN}
+use Rattle.eps_sec.specs.declared.tables.TheConstants.{S_BOX, FROM_ROW_0, FROM_ROW_1, FROM_ROW_2, FROM_ROW_3}
 use Rattle.eps_sec.specs.Field.{times, first_inverse, inverse, sub_byte}
 use Rattle.eps_sec.specs.Words.{column}
 
@@ -20,19 +20,53 @@ s_box_is a lt =
     let here = Decides-below_and (λ k. eqb (slice_index S_BOX k) (sub_byte k)) (λ k. slice_index S_BOX k ≡ sub_byte k) same_below (λ k. Decides-eqb (slice_index S_BOX k) (sub_byte k)) refl (λ _. refl) 256 in
     here.0 computed a lt
 
--- what an octet of row 0 whose value by the S-box is s adds to its column
-abbrev pub of_octet : ℕ → List ℕ
-of_octet s = times 2 s ∷ s ∷ s ∷ times 3 s ∷ []
+-- what an octet of row r whose value by the S-box is s adds to its column
+abbrev pub of_row_0 : ℕ → List ℕ
+of_row_0 s = times 2 s ∷ s ∷ s ∷ times 3 s ∷ []
 
-abbrev columns_below : ℕ → Bool
-columns_below zero = true
-columns_below (suc n) = bytes_eq (column (slice_index COLUMN n)) (of_octet (slice_index S_BOX n)) && columns_below n
+abbrev pub of_row_1 : ℕ → List ℕ
+of_row_1 s = times 3 s ∷ times 2 s ∷ s ∷ s ∷ []
 
-columns_computed : columns_below 256 ≡ true
+abbrev pub of_row_2 : ℕ → List ℕ
+of_row_2 s = s ∷ times 3 s ∷ times 2 s ∷ s ∷ []
+
+abbrev pub of_row_3 : ℕ → List ℕ
+of_row_3 s = s ∷ s ∷ times 3 s ∷ times 2 s ∷ []
+
+-- whether the first n words of a table are so
+abbrev are_below : List ℕ → (ℕ → List ℕ) → ℕ → Bool
+are_below table of zero = true
+are_below table of (suc n) = bytes_eq (column (slice_index table n)) (of (slice_index S_BOX n)) && are_below table of n
+
+are_so : (table : List ℕ) (of : ℕ → List ℕ) → are_below table of 256 ≡ true → (a : ℕ) → a < 256 → column (slice_index table a) ≡ of (sub_byte a)
+are_so table of computed a lt =
+    let here = Decides-below_and (λ k. bytes_eq (column (slice_index table k)) (of (slice_index S_BOX k))) (λ k. column (slice_index table k) ≡ of (slice_index S_BOX k)) (are_below table of) (λ k. bytes_eq-Decides (column (slice_index table k)) (of (slice_index S_BOX k))) refl (λ _. refl) 256 in
+    here.0 computed a lt ∙ ap of (s_box_is a lt)
+
+row_0_computed : are_below FROM_ROW_0 of_row_0 256 ≡ true
 unfolding times column
-columns_computed = refl
+row_0_computed = refl
 
-pub column_is : (a : ℕ) → a < 256 → column (slice_index COLUMN a) ≡ of_octet (sub_byte a)
-column_is a lt =
-    let here = Decides-below_and (λ k. bytes_eq (column (slice_index COLUMN k)) (of_octet (slice_index S_BOX k))) (λ k. column (slice_index COLUMN k) ≡ of_octet (slice_index S_BOX k)) columns_below (λ k. bytes_eq-Decides (column (slice_index COLUMN k)) (of_octet (slice_index S_BOX k))) refl (λ _. refl) 256 in
-    here.0 columns_computed a lt ∙ ap of_octet (s_box_is a lt)
+row_1_computed : are_below FROM_ROW_1 of_row_1 256 ≡ true
+unfolding times column
+row_1_computed = refl
+
+row_2_computed : are_below FROM_ROW_2 of_row_2 256 ≡ true
+unfolding times column
+row_2_computed = refl
+
+row_3_computed : are_below FROM_ROW_3 of_row_3 256 ≡ true
+unfolding times column
+row_3_computed = refl
+
+pub row_0_is : (a : ℕ) → a < 256 → column (slice_index FROM_ROW_0 a) ≡ of_row_0 (sub_byte a)
+row_0_is = are_so FROM_ROW_0 of_row_0 row_0_computed
+
+pub row_1_is : (a : ℕ) → a < 256 → column (slice_index FROM_ROW_1 a) ≡ of_row_1 (sub_byte a)
+row_1_is = are_so FROM_ROW_1 of_row_1 row_1_computed
+
+pub row_2_is : (a : ℕ) → a < 256 → column (slice_index FROM_ROW_2 a) ≡ of_row_2 (sub_byte a)
+row_2_is = are_so FROM_ROW_2 of_row_2 row_2_computed
+
+pub row_3_is : (a : ℕ) → a < 256 → column (slice_index FROM_ROW_3 a) ≡ of_row_3 (sub_byte a)
+row_3_is = are_so FROM_ROW_3 of_row_3 row_3_computed

@@ -1,14 +1,13 @@
 -- Words as columns of four octets.
-use Rattle.std.proofs.Common.{◌≡◌, ◌<◌, ℕ, zero, suc, ◌+◌, ◌*◌, ◌/◌, ◌%◌, ◌^◌, ◌∙◌, List, [], ◌∷◌, ◌++◌, length, slice_index, refl, sym, ap, arith}
-use Rattle.std.proofs.lemmas.Nat.{xor_shr, xor_mod, xor_comm, xor_of_32, or_comm, or_shifted, be_bytes_4}
+use Rattle.std.proofs.Common.{◌≡◌, ◌<◌, ℕ, zero, suc, ◌/◌, ◌%◌, ◌^◌, ◌∙◌, List, [], ◌∷◌, ◌++◌, length, slice_index, refl, sym, ap, arith}
+use Rattle.std.proofs.lemmas.Nat.{xor_shr, xor_mod, xor_comm, be_bytes_4}
 use Rattle.std.proofs.lemmas.List.FromFn.{fill_by_all}
-use Rattle.std.specs.Int.{w32, from_be_bytes, rotate_right}
-use Rattle.std.specs.Prelude.{bit_or}
+use Rattle.std.specs.Int.{w32, from_be_bytes}
 use Rattle.std.specs.Int.Bits.{bit_xor, xor_assoc, xor_zero_r}
 use Rattle.eps_sec.specs.Field.{times, sub_byte}
 use Rattle.eps_sec.specs.Aes.{octets, sub_bytes, shift_rows, mix_octet, mix_columns, add_round_key, add_words, sub_word, rot_word, power_of_x, next_key, word}
 use Rattle.eps_sec.specs.Words.{column, row, mix_column, state}
-use Rattle.eps_sec.proofs.TableLemmas.{of_octet}
+use Rattle.eps_sec.proofs.TableLemmas.{of_row_0, of_row_1, of_row_2, of_row_3}
 
 pub four : (a b c d p q r s : ℕ) → a ≡ p → b ≡ q → c ≡ r → d ≡ s → a ∷ b ∷ c ∷ d ∷ [] ≡ p ∷ q ∷ r ∷ s ∷ []
 four a b c d p q r s e f g h = rw (e, f, g, h) refl
@@ -42,42 +41,22 @@ turn : (p q r s : ℕ) → bit_xor (bit_xor (bit_xor p q) r) s ≡ bit_xor (bit_
 turn p q r s =
     ap (λ (m : ℕ). bit_xor m s) (xor_assoc p q r) ∙ xor_assoc p (bit_xor q r) s ∙ xor_comm p (bit_xor (bit_xor q r) s)
 
--- a word of four octets turned down by a row
-pub turned_down : (n p q r s : ℕ) → n < 2 ^ 32 → column n ≡ p ∷ q ∷ r ∷ s ∷ [] → column (rotate_right w32 n 8) ≡ s ∷ p ∷ q ∷ r ∷ []
-unfolding column
-turned_down n p q r s lt e =
-    let low : (n * 2 ^ 24) % 2 ^ 32 ≡ (n % 256) * 2 ^ 24 = omega arith in
-    let small : n / 256 < 2 ^ 24 = omega arith in
-    let whole : rotate_right w32 n 8 ≡ (n % 256) * 2 ^ 24 + n / 256 =
-    ap (bit_or (n / 256)) low ∙ or_comm (n / 256) ((n % 256) * 2 ^ 24) ∙ or_shifted (n % 256) 24 (n / 256) small in
-    ap column whole ∙ four _ _ _ _ _ _ _ _ (omega arith) (omega arith) (omega arith) (omega arith) ∙ ap (λ (w : List ℕ). slice_index w 3 ∷ slice_index w 0 ∷ slice_index w 1 ∷ slice_index w 2 ∷ []) e
-
--- four terms, summed from the left and from the right
-left : (p q r s : ℕ) → bit_xor p (bit_xor q (bit_xor r s)) ≡ bit_xor (bit_xor (bit_xor p q) r) s
-left p q r s = sym (xor_assoc (bit_xor p q) r s ∙ xor_assoc p q (bit_xor r s))
-
 -- the sum of two words by their octets
 sum_is : (x y a b c d p q r s : ℕ) → column x ≡ a ∷ b ∷ c ∷ d ∷ [] → column y ≡ p ∷ q ∷ r ∷ s ∷ [] → column (bit_xor x y) ≡ bit_xor a p ∷ bit_xor b q ∷ bit_xor c r ∷ bit_xor d s ∷ []
 sum_is x y a b c d p q r s e f = column_xor x y ∙ ap (λ (v : List ℕ). add_words v (column y)) e ∙ ap (add_words (a ∷ b ∷ c ∷ d ∷ [])) f
 
--- the sum of two words, turned down by a row
-sum_down : (x y t a b c d p q r s : ℕ) → x < 2 ^ 32 → y < 2 ^ 32 → t ≡ rotate_right w32 (bit_xor x y) 8 → column x ≡ a ∷ b ∷ c ∷ d ∷ [] → column y ≡ p ∷ q ∷ r ∷ s ∷ [] → column t ≡ bit_xor d s ∷ bit_xor a p ∷ bit_xor b q ∷ bit_xor c r ∷ []
-sum_down x y t a b c d p q r s lx ly e f g =
-    ap column e ∙ turned_down (bit_xor x y) _ _ _ _ (xor_of_32 x y lx ly) (sum_is x y a b c d p q r s f g)
-
 -- the sum of what the four octets add to their column
-pub mixed_is : (x y z w t u v p q r s : ℕ) → w < 2 ^ 32 → z < 2 ^ 32 → y < 2 ^ 32 → t < 2 ^ 32 → u < 2 ^ 32 → t ≡ rotate_right w32 w 8 → u ≡ rotate_right w32 (bit_xor z t) 8 → v ≡ rotate_right w32 (bit_xor y u) 8 → column x ≡ of_octet p → column y ≡ of_octet q → column z ≡ of_octet r → column w ≡ of_octet s → column (bit_xor x v) ≡ mix_column p q r s
+pub mixed_is : (x y z w p q r s : ℕ) → column x ≡ of_row_0 p → column y ≡ of_row_1 q → column z ≡ of_row_2 r → column w ≡ of_row_3 s → column (bit_xor (bit_xor (bit_xor x y) z) w) ≡ mix_column p q r s
 unfolding mix_octet
-mixed_is x y z w t u v p q r s lw lz ly lt lu ft fu fv ex ey ez ew =
-    let from_3 = ap column ft ∙ turned_down w _ _ _ _ lw ew in
-    let from_2 = sum_down z t u _ _ _ _ _ _ _ _ lz lt fu ez from_3 in
-    let from_1 = sum_down y u v _ _ _ _ _ _ _ _ ly lu fv ey from_2 in
-    sum_is x v _ _ _ _ _ _ _ _ ex from_1
+mixed_is x y z w p q r s ex ey ez ew =
+    let two = sum_is x y _ _ _ _ _ _ _ _ ex ey in
+    let three = sum_is (bit_xor x y) z _ _ _ _ _ _ _ _ two ez in
+    sum_is (bit_xor (bit_xor x y) z) w _ _ _ _ _ _ _ _ three ew
     ∙ four _ _ _ _ _ _ _ _
-    (left (times 2 p) (times 3 q) r s)
-    (left p (times 2 q) (times 3 r) s ∙ turn p (times 2 q) (times 3 r) s)
-    (left p q (times 2 r) (times 3 s) ∙ turn p q (times 2 r) (times 3 s) ∙ turn q (times 2 r) (times 3 s) p)
-    (left (times 3 p) q r (times 2 s) ∙ turn (times 3 p) q r (times 2 s) ∙ turn q r (times 2 s) (times 3 p) ∙ turn r (times 2 s) (times 3 p) q)
+    refl
+    (turn p (times 2 q) (times 3 r) s)
+    (turn p q (times 2 r) (times 3 s) ∙ turn q (times 2 r) (times 3 s) p)
+    (turn (times 3 p) q r (times 2 s) ∙ turn q r (times 2 s) (times 3 p) ∙ turn r (times 2 s) (times 3 p) q)
 
 joined : (a b c d p q r s : List ℕ) → a ≡ p → b ≡ q → c ≡ r → d ≡ s → a ++ b ++ c ++ d ≡ p ++ q ++ r ++ s
 joined a b c d p q r s e f g h = rw (e, f, g, h) refl

@@ -1,8 +1,7 @@
 //! The block cipher over words.
 //!
 //! A state is four words, one for each column, with row 0 in the highest octet. A round looks up what each octet adds to
-//! its column, so that SubBytes, ShiftRows and MixColumns are four look-ups a column. One table serves all rows, since
-//! what an octet adds turns with its row.
+//! its column, so that SubBytes, ShiftRows and MixColumns are four look-ups a column, with a table for each row.
 
 ghost use Rattle.std.specs.Prelude.{◌≡◌, ℕ, [], ◌∷◌};
 ghost use Rattle.eps_sec.specs.Field.{sub_byte};
@@ -11,7 +10,7 @@ ghost use Rattle.eps_sec.specs.Words.{column, row, mix_column, state};
 
 use crate::field::times;
 use crate::keys::Key;
-use crate::tables::{column, sub_byte};
+use crate::tables::{from_row_0, from_row_1, from_row_2, from_row_3, sub_byte};
 use std::marker::Model;
 
 /// The round keys of a key (FIPS 197, section 5.2). Contracts see the key itself.
@@ -129,10 +128,7 @@ fn mixed_round(s: &[u32; 4]) -> [u32; 4]
 fn mixed(a: u32, b: u32, c: u32, d: u32) -> u32
     ensures { column result ≡ mix_column (sub_byte (row a 0)) (sub_byte (row b 1)) (sub_byte (row c 2)) (sub_byte (row d 3)) }
 {
-    let from_3 = column(row_3(d)).rotate_right(8);
-    let from_2 = (column(row_2(c)) ^ from_3).rotate_right(8);
-    let from_1 = (column(row_1(b)) ^ from_2).rotate_right(8);
-    column(row_0(a)) ^ from_1
+    from_row_0(row_0(a)) ^ from_row_1(row_1(b)) ^ from_row_2(row_2(c)) ^ from_row_3(row_3(d))
 }
 
 // SubBytes and ShiftRows.

@@ -58,12 +58,19 @@ fn counter_block(first: u128, i: usize) -> [u8; 16]
 pub(crate) fn add_stream(schedule: &Schedule, first: u128, text: &mut [u8])
     ensures { text.new ≡ add_stream (stream_octet schedule.now first) 0 text.old }
 {
-    for i in 0..text.len().div_ceil(16) {
+    let whole = text.len() / 16;
+    for i in 0..whole {
         let block = encrypt_block(schedule, &counter_block(first, i));
-        let start = 16 * i;
-        let end = text.len().min(start + 16);
-        for k in start..end {
-            text[k] ^= block[k - start];
+        for j in 0..16 {
+            text[16 * i + j] ^= block[j];
         }
+    }
+    let start = 16 * whole;
+    if start == text.len() {
+        return;
+    }
+    let block = encrypt_block(schedule, &counter_block(first, whole));
+    for k in start..text.len() {
+        text[k] ^= block[k - start];
     }
 }

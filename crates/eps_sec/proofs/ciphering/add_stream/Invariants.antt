@@ -1,10 +1,13 @@
-use Rattle.std.proofs.Common.{◌≡◌, ◌*◌}
+use Rattle.std.proofs.Common.{◌≡◌, ◌*◌, ◌+◌}
 use Rattle.eps_sec.specs.Modes.{stream_octet}
 use Rattle.eps_sec.proofs.StreamLemmas.{done_to}
 use Rattle.eps_sec.proofs.ciphering.add_stream.Given as goal
 
 abbrev pub invariant-loop-i : goal.invariant-loop-i
 invariant-loop-i l = l.text ≡ done_to (stream_octet l.schedule l.first) (16 * l.i) l.fn.text
+
+abbrev pub invariant-loop-j : goal.invariant-loop-j
+invariant-loop-j l = l.text ≡ done_to (stream_octet l.schedule l.first) (16 * l.i + l.j) l.fn.text
 
 abbrev pub invariant-loop-k : goal.invariant-loop-k
 invariant-loop-k l = l.text ≡ done_to (stream_octet l.schedule l.first) l.k l.fn.text

@@ -1,0 +1,6 @@
+use Rattle.std.proofs.Common.{arith}
+use Rattle.eps_sec.proofs.TableLemmas.{row_3_is}
+use Rattle.eps_sec.proofs.tables.from_row_3.Goals as goal
+
+pub returns : goal.returns
+returns c = row_3_is c.args.octet (omega arith)
