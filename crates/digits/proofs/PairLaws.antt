@@ -1,29 +1,31 @@
 -- Octets by pairs of digits: as far as they are digits, and where they aren't.
-use Rattle.std.proofs.Common.{◌≡◌, ◌≤◌, ◌<◌, ◌+◌, ◌*◌, ◌%◌, ◌∙◌, ℕ, List, [], ◌∷◌, ◌++◌, length, take, drop, set, get_or, suc, drop-cons, append_assoc, append-nil, Option, Some, None, refl, sym, ap, arith, ◌⊎◌, inl, inr}
+use Rattle.std.proofs.Common.{◌≡◌, ◌≤◌, ◌<◌, ◌+◌, ◌*◌, ◌%◌, ◌∙◌, ℕ, List, [], ◌∷◌, ◌++◌, length, take, drop, set, get_or, suc, drop-cons, append_assoc, append-nil, Option, Some, None, map, refl, sym, ap, arith, ◌⊎◌, inl, inr}
 use Rattle.std.specs.Prelude.{unwrap_or, max}
 use Rattle.std.proofs.Math.Nat.{le-max_left, le-max_right, max-zero}
 use Rattle.hex.specs.Hex.{hex_digit_value}
 use Rattle.std.proofs.lemmas.Bool.{cases_lt}
 use Rattle.std.proofs.lemmas.List.{take_more_set, take_all, drop_all}
-use Rattle.digits.specs.Pairs.{value, worst, joined, with_pair, pairs}
+use Rattle.digits.specs.Pairs.{value, greatest, joined, with_pair, pairs}
 
 some-value : (o : Option ℕ) → unwrap_or o 255 < 16 → o ≡ Some (unwrap_or o 255)
 some-value (Some v) less = refl
 some-value None less = absurd (omega (arith, less))
 
 -- digits alone say the octets of their values
-pub pairs-good : (xs : List ℕ) → length xs % 2 ≡ 0 → worst xs < 16 → pairs xs ≡ Some (joined xs)
+pub pairs-good : (xs : List ℕ) → length xs % 2 ≡ 0 → greatest (map value xs) < 16 → pairs xs ≡ Some (joined (map value xs))
 pairs-good [] even less = refl
 pairs-good (x ∷ []) even less = absurd (omega (arith, even))
 pairs-good (x ∷ y ∷ rest) even less =
-    let a : value x ≤ worst (x ∷ y ∷ rest) = le-max_left (value x) (worst (y ∷ rest)) in
-    let b : worst (y ∷ rest) ≤ worst (x ∷ y ∷ rest) = le-max_right (value x) (worst (y ∷ rest)) in
-    let c : value y ≤ worst (y ∷ rest) = le-max_left (value y) (worst rest) in
-    let d : worst rest ≤ worst (y ∷ rest) = le-max_right (value y) (worst rest) in
+    let behind_y : ℕ = greatest (map value rest) in
+    let behind_x : ℕ = max (value y) behind_y in
+    let a : value x ≤ max (value x) behind_x = le-max_left (value x) behind_x in
+    let b : behind_x ≤ max (value x) behind_x = le-max_right (value x) behind_x in
+    let c : value y ≤ behind_x = le-max_left (value y) behind_y in
+    let d : behind_y ≤ behind_x = le-max_right (value y) behind_y in
     let high : value x < 16 = omega (arith, a, less) in
     let low : value y < 16 = omega (arith, b, c, less) in
-    let behind : worst rest < 16 = omega (arith, b, d, less) in
-    let ih : pairs rest ≡ Some (joined rest) = pairs-good rest (omega (arith, even)) behind in
+    let behind : behind_y < 16 = omega (arith, b, d, less) in
+    let ih : pairs rest ≡ Some (joined (map value rest)) = pairs-good rest (omega (arith, even)) behind in
     let first : value x % 16 ≡ value x = omega (arith, high) in
     let second : value y % 16 ≡ value y = omega (arith, low) in
     rw (first, second, some-value (hex_digit_value x) high, some-value (hex_digit_value y) low, ih) refl
@@ -51,18 +53,23 @@ max-cases : (a b : ℕ) → 16 ≤ max a b → (16 ≤ a) ⊎ (16 ≤ b)
 max-cases a b more = elim (cases_lt a 16) [ inl less ↦ inr (max-right a b less more) | inr is ↦ inl is ]
 
 -- anything else says none
-pub pairs-bad : (xs : List ℕ) → length xs % 2 ≡ 0 → 16 ≤ worst xs → pairs xs ≡ None
+pub pairs-bad : (xs : List ℕ) → length xs % 2 ≡ 0 → 16 ≤ greatest (map value xs) → pairs xs ≡ None
 pairs-bad [] even more = absurd (omega (arith, more))
 pairs-bad (x ∷ []) even more = refl
-pairs-bad (x ∷ y ∷ rest) even more = elim (max-cases (value x) (max (value y) (worst rest)) more) [
+pairs-bad (x ∷ y ∷ rest) even more = elim (max-cases (value x) (max (value y) (greatest (map value rest))) more) [
   | inl high ↦ rw (none-value x (hex_digit_value x) refl high) refl
-  | inr behind ↦ elim (max-cases (value y) (worst rest) behind) [
+  | inr behind ↦ elim (max-cases (value y) (greatest (map value rest)) behind) [
     | inl low ↦ rw (none-value y (hex_digit_value y) refl low) (with-none (hex_digit_value x) (pairs rest))
     | inr last ↦ rw (pairs-bad rest (omega (arith, even)) last) (with-nothing (hex_digit_value x) (hex_digit_value y))
   ]
 ]
 
--- the digits from an even place on
+-- ---- the loops
+
+pub mapped-all : (f : ℕ → ℕ) (xs ys : List ℕ) (k : ℕ) → length xs ≤ k → ys ≡ map f (take k xs) ++ drop k xs → ys ≡ map f xs
+mapped-all f xs ys k le is = is ∙ rw (take_all k xs le, drop_all k xs le) (append-nil (map f xs))
+
+-- the values from an even place on
 pub from-pair : (xs : List ℕ) (i : ℕ) → 2 * i + 1 < length xs
     → drop (2 * i) xs ≡ get_or xs (2 * i) 0 ∷ get_or xs (2 * i + 1) 0 ∷ drop (2 * (i + 1)) xs
 from-pair xs i inside =
@@ -71,40 +78,38 @@ from-pair xs i inside =
     drop-cons xs (2 * i) 0 (omega (arith, inside)) ∙ ap (λ (n : ℕ). get_or xs (2 * i) 0 ∷ drop n xs) next
     ∙ ap (λ (rest : List ℕ). get_or xs (2 * i) 0 ∷ rest) (drop-cons xs (2 * i + 1) 0 inside ∙ ap (λ (n : ℕ). get_or xs (2 * i + 1) 0 ∷ drop n xs) last)
 
-regroup : (a b c d : ℕ) → max a (max b (max c d)) ≡ max (max (max a b) c) d
-regroup a b c d = grind (arith)
-
 -- one more octet of a block is read
-pub joined-more : (xs octets : List ℕ) (i : ℕ) → length xs ≡ 64 → length octets ≡ 32 → i < 32 → joined xs ≡ take i octets ++ joined (drop (2 * i) xs)
-    → joined xs ≡ take (i + 1) (set octets i (value (get_or xs (2 * i) 0) % 16 * 16 + value (get_or xs (2 * i + 1) 0) % 16)) ++ joined (drop (2 * (i + 1)) xs)
-joined-more xs octets i long half inside so-far =
-    let v : ℕ = value (get_or xs (2 * i) 0) % 16 * 16 + value (get_or xs (2 * i + 1) 0) % 16 in
-    so-far ∙ ap (λ (rest : List ℕ). take i octets ++ joined rest) (from-pair xs i (omega (arith, long, inside)))
-    ∙ sym (append_assoc (take i octets) (v ∷ []) (joined (drop (2 * (i + 1)) xs)))
-    ∙ ap (λ (done : List ℕ). done ++ joined (drop (2 * (i + 1)) xs)) (sym (take_more_set octets i v (omega (arith, half, inside))))
+pub joined-more : (vs octets : List ℕ) (i : ℕ) → length vs ≡ 64 → length octets ≡ 32 → i < 32 → joined vs ≡ take i octets ++ joined (drop (2 * i) vs)
+    → joined vs ≡ take (i + 1) (set octets i (get_or vs (2 * i) 0 % 16 * 16 + get_or vs (2 * i + 1) 0 % 16)) ++ joined (drop (2 * (i + 1)) vs)
+joined-more vs octets i long half inside so-far =
+    let v : ℕ = get_or vs (2 * i) 0 % 16 * 16 + get_or vs (2 * i + 1) 0 % 16 in
+    so-far ∙ ap (λ (rest : List ℕ). take i octets ++ joined rest) (from-pair vs i (omega (arith, long, inside)))
+    ∙ sym (append_assoc (take i octets) (v ∷ []) (joined (drop (2 * (i + 1)) vs)))
+    ∙ ap (λ (done : List ℕ). done ++ joined (drop (2 * (i + 1)) vs)) (sym (take_more_set octets i v (omega (arith, half, inside))))
 
-pub worst-more : (xs : List ℕ) (w i : ℕ) → length xs ≡ 64 → i < 32 → worst xs ≡ max w (worst (drop (2 * i) xs))
-    → worst xs ≡ max (max (max w (value (get_or xs (2 * i) 0))) (value (get_or xs (2 * i + 1) 0))) (worst (drop (2 * (i + 1)) xs))
-worst-more xs w i long inside so-far =
-    so-far ∙ ap (λ (rest : List ℕ). max w (worst rest)) (from-pair xs i (omega (arith, long, inside)))
-    ∙ regroup w (value (get_or xs (2 * i) 0)) (value (get_or xs (2 * i + 1) 0)) (worst (drop (2 * (i + 1)) xs))
-
-all-joined : (xs octets : List ℕ) (i : ℕ) → length xs ≡ 64 → length octets ≡ 32 → i ≡ 32 → joined xs ≡ take i octets ++ joined (drop (2 * i) xs) → joined xs ≡ octets
-all-joined xs octets i long half last so-far =
-    let none : drop (2 * i) xs ≡ [] = drop_all (2 * i) xs (omega (arith, long, last)) in
+pub all-joined : (vs octets : List ℕ) (i : ℕ) → length vs ≡ 64 → length octets ≡ 32 → i ≡ 32 → joined vs ≡ take i octets ++ joined (drop (2 * i) vs) → joined vs ≡ octets
+all-joined vs octets i long half last so-far =
+    let none : drop (2 * i) vs ≡ [] = drop_all (2 * i) vs (omega (arith, long, last)) in
     let all : take i octets ≡ octets = take_all i octets (omega (arith, half, last)) in
     so-far ∙ (rw (none, all) (append-nil octets))
 
-all-worst : (xs : List ℕ) (w i : ℕ) → length xs ≡ 64 → i ≡ 32 → worst xs ≡ max w (worst (drop (2 * i) xs)) → worst xs ≡ w
-all-worst xs w i long last so-far =
-    let none : drop (2 * i) xs ≡ [] = drop_all (2 * i) xs (omega (arith, long, last)) in
-    so-far ∙ ap (λ (rest : List ℕ). max w (worst rest)) none ∙ max-zero w
+regroup : (a b c : ℕ) → max a (max b c) ≡ max (max a b) c
+regroup a b c = grind (arith)
 
-pub block-good : (xs octets : List ℕ) (w i : ℕ) → length xs ≡ 64 → length octets ≡ 32 → i ≡ 32 → joined xs ≡ take i octets ++ joined (drop (2 * i) xs)
-    → worst xs ≡ max w (worst (drop (2 * i) xs)) → w < 16 → pairs xs ≡ Some octets
-block-good xs octets w i long half last so-far most less =
-    let whole : worst xs ≡ w = all-worst xs w i long last most in
-    pairs-good xs (omega (arith, long)) (omega (arith, whole, less)) ∙ ap Some (all-joined xs octets i long half last so-far)
+pub greatest-more : (vs : List ℕ) (w k : ℕ) → k < length vs → greatest vs ≡ max w (greatest (drop k vs)) → greatest vs ≡ max (max w (get_or vs k 0)) (greatest (drop (k + 1) vs))
+greatest-more vs w k inside so-far =
+    let next : suc k ≡ k + 1 = omega arith in
+    so-far ∙ ap (λ (rest : List ℕ). max w (greatest rest)) (drop-cons vs k 0 inside)
+    ∙ regroup w (get_or vs k 0) (greatest (drop (suc k) vs))
+    ∙ ap (λ (n : ℕ). max (max w (get_or vs k 0)) (greatest (drop n vs))) next
 
-pub block-bad : (xs : List ℕ) (w i : ℕ) → length xs ≡ 64 → i ≡ 32 → worst xs ≡ max w (worst (drop (2 * i) xs)) → 16 ≤ w → pairs xs ≡ None
-block-bad xs w i long last most more = let whole : worst xs ≡ w = all-worst xs w i long last most in pairs-bad xs (omega (arith, long)) (omega (arith, whole, more))
+pub greatest-all : (vs : List ℕ) (w k : ℕ) → length vs ≤ k → greatest vs ≡ max w (greatest (drop k vs)) → greatest vs ≡ w
+greatest-all vs w k le so-far = so-far ∙ ap (λ (rest : List ℕ). max w (greatest rest)) (drop_all k vs le) ∙ max-zero w
+
+pub block-good : (xs vs octets : List ℕ) (w : ℕ) → length xs ≡ 64 → vs ≡ map value xs → w ≡ greatest vs → w < 16 → octets ≡ joined vs → pairs xs ≡ Some octets
+block-good xs vs octets w long values most less is =
+    let small : greatest (map value xs) < 16 = rw (most, values) at less in
+    pairs-good xs (omega (arith, long)) small ∙ ap Some (sym (is ∙ ap joined values))
+
+pub block-bad : (xs vs : List ℕ) (w : ℕ) → length xs ≡ 64 → vs ≡ map value xs → w ≡ greatest vs → 16 ≤ w → pairs xs ≡ None
+block-bad xs vs w long values most more = let large : 16 ≤ greatest (map value xs) = rw (most, values) at more in pairs-bad xs (omega (arith, long)) large

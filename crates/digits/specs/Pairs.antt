@@ -1,21 +1,25 @@
 -- Octets by pairs of hexadecimal digits, each of either case.
-use Rattle.std.specs.Prelude.{ℕ, ◌+◌, ◌*◌, ◌%◌, List, [], ◌∷◌, ◌++◌, Option, Some, None, unwrap_or, max}
-use Rattle.hex.specs.Hex.{hex_digit_value}
+use Rattle.std.specs.Prelude.{ℕ, ◌+◌, ◌*◌, ◌%◌, List, [], ◌∷◌, ◌++◌, Option, Some, None, unwrap_or, max, slice_index}
+use Rattle.hex.specs.Hex.{hex_digit_value, lower_digits}
 
 -- the value of a digit, and 255 for anything else
 abbrev pub value : ℕ → ℕ
 value digit = unwrap_or (hex_digit_value digit) 255
 
--- the greatest value
-abbrev pub worst : List ℕ → ℕ
-worst [] = 0
-worst (x ∷ xs) = max (value x) (worst xs)
+-- the greatest of some values
+abbrev pub greatest : List ℕ → ℕ
+greatest [] = 0
+greatest (v ∷ vs) = max v (greatest vs)
 
--- the octets by the values of the digits, as far as they are digits
+-- the octets by the values of their digits, as far as they are digits
 abbrev pub joined : List ℕ → List ℕ
 joined [] = []
-joined (x ∷ []) = []
-joined (x ∷ y ∷ rest) = (value x % 16 * 16 + value y % 16) ∷ joined rest
+joined (v ∷ []) = []
+joined (v ∷ w ∷ rest) = (v % 16 * 16 + w % 16) ∷ joined rest
+
+-- the lower case digit of the low half of an octet
+abbrev pub digit : ℕ → ℕ
+digit x = slice_index lower_digits (x % 16)
 
 abbrev pub with_pair : Option ℕ → Option ℕ → Option (List ℕ) → Option (List ℕ)
 with_pair (Some high) (Some low) (Some octets) = Some ((high * 16 + low) ∷ octets)

@@ -1,6 +1,6 @@
-ghost use Rattle.std.specs.Prelude.{◌≡◌, ◌≤◌, ◌<◌, ◌++◌, ◌%◌, length, OnOk, IfOk, true, false, Some, None, MatchOption, MatchResult, max};
+ghost use Rattle.std.specs.Prelude.{◌≡◌, ◌≤◌, ◌<◌, ◌++◌, ◌%◌, length, OnOk, IfOk, true, false, Some, None, MatchOption, MatchResult, map};
 ghost use Rattle.hex.specs.Hex.{decode_of};
-ghost use Rattle.digits.specs.Pairs.{value, worst, joined, pairs};
+ghost use Rattle.digits.specs.Pairs.{value, greatest, joined, pairs};
 
 use l2_bits::{Bytes, NoMemory};
 
@@ -21,27 +21,55 @@ fn value(digit: u8) -> u8
     }
 }
 
+// The values of a block of digits.
 #[inline(always)]
-fn greatest(a: u8, b: u8, c: u8) -> u8
-    ensures { result ≡ max (max a b) c }
+fn values(digits: &[u8]) -> [u8; BLOCK]
+    requires { length digits.now ≡ BLOCK }
+    ensures { result ≡ map value digits.now }
 {
-    a.max(b).max(c)
+    let mut values = [0u8; BLOCK];
+    values.copy_from_slice(digits);
+    for k in 0..BLOCK {
+        values[k] = value(values[k]);
+    }
+    values
+}
+
+#[inline(always)]
+fn greatest(values: &[u8; BLOCK]) -> u8
+    ensures { result ≡ greatest values.now }
+{
+    let mut so_far = 0u8;
+    for k in 0..BLOCK {
+        so_far = so_far.max(values[k]);
+    }
+    so_far
+}
+
+// The octets by the values of their digits.
+#[inline(always)]
+fn joined(values: &[u8; BLOCK]) -> [u8; BLOCK / 2]
+    ensures { result ≡ joined values.now }
+{
+    let mut octets = [0u8; BLOCK / 2];
+    for i in 0..BLOCK / 2 {
+        octets[i] = values[2 * i] % 16 * 16 + values[2 * i + 1] % 16;
+    }
+    octets
 }
 
 // The octets that a block of digits says, or none where it isn't digits alone.
+#[inline(always)]
 fn read_block(digits: &[u8]) -> Option<[u8; BLOCK / 2]>
     requires { length digits.now ≡ BLOCK }
     ensures { MatchOption result (pairs digits.now ≡ None) (λ octets. pairs digits.now ≡ Some octets) }
 {
-    let mut octets = [0u8; BLOCK / 2];
-    let mut worst = 0;
-    for i in 0..BLOCK / 2 {
-        let high = value(digits[2 * i]);
-        let low = value(digits[2 * i + 1]);
-        worst = greatest(worst, high, low);
-        octets[i] = (high % 16) * 16 + low % 16;
+    let values = values(digits);
+    if greatest(&values) < 16 {
+        Some(joined(&values))
+    } else {
+        None
     }
-    if worst < 16 { Some(octets) } else { None }
 }
 
 // Adds the octets that fewer digits than a block say; `false` where they aren't pairs of digits alone.
