@@ -183,11 +183,14 @@ pub fn append_record(text: &mut Bytes, one: &Record) -> Result<(), NoMemory>
     }
 }
 
-/// The text of the record of an accepted line.
+/// Room for the records that mostly follow that of a line, so that their text seldom has to be moved as it grows.
+const ROOM: usize = 16_384;
+
+/// The text of the record of an accepted line, with room for the records that follow.
 pub fn print_line(alloc: Global, number: u32, line: &Line) -> Result<Bytes, NoMemory>
     ensures { IfOk result (λ bytes. bytes ≡ accepted_text number line.now) }
 {
-    let mut text = Bytes::new(alloc);
+    let mut text = Bytes::with_capacity(alloc, ROOM)?;
     append_accepted(&mut text, number, line)?;
     Ok(text)
 }
