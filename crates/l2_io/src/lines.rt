@@ -234,7 +234,7 @@ impl Lines {
         ensures count { S.faults source.old ≤ S.faults source.new }
     {
         let shift = self.start;
-        self.buffer.rotate_left(shift);
+        self.buffer.copy_within(shift..self.end, 0);
         self.line_start = 0;
         self.line_end = 0;
         self.start = 0;
