@@ -18,17 +18,10 @@ pub fn words<'a>(alloc: Global, text: &'a [u8]) -> Result<Vec<&'a [u8]>, AllocEr
     ensures { IfOk result (λ words. texts words.items ≡ words_of text.now) }
 {
     let mut words = Vec::new(alloc);
-    let mut start = 0;
-    for (i, x) in text.iter().enumerate() {
-        if *x == b' ' {
-            if start < i {
-                words.push(&text[start..i])?;
-            }
-            start = i + 1;
-        }
-    }
-    if start < text.len() {
-        words.push(&text[start..text.len()])?;
+    let mut rest = text;
+    while let Some((word, behind)) = split_word(rest) {
+        words.push(word)?;
+        rest = behind;
     }
     Ok(words)
 }
@@ -126,7 +119,7 @@ pub fn octets(alloc: Global, text: &[u8], most: usize) -> Result<Bytes, LineFaul
     ensures some { IfOk result (λ octets. 1 ≤ length octets) }
     ensures short { IfOk result (λ octets. length octets ≤ most) }
 {
-    let mut octets = Bytes::new(alloc);
+    let mut octets = Bytes::with_capacity(alloc, text.len() / 2)?;
     octets_into(&mut octets, text, most)?;
     Ok(octets)
 }
