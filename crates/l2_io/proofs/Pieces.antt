@@ -36,7 +36,7 @@ range-more xs bs s e n le inside same =
     let fits : e - s ≤ length (drop s xs) = omega (arith, length-drop s xs) in
     let zero : e - s ≡ 0 + (e - s) = omega arith in
     let moved : take (e - s) (paste xs 0 (drop s xs) (e - s)) ≡ take (e - s) (drop s xs) =
-        ap (λ (k : ℕ). take k (paste xs 0 (drop s xs) (e - s))) zero ∙ take-paste xs 0 (drop s xs) (e - s) (omega arith) fits in
+    ap (λ (k : ℕ). take k (paste xs 0 (drop s xs) (e - s))) zero ∙ take-paste xs 0 (drop s xs) (e - s) (omega arith) fits in
     range-behind _ bs (e - s) n (same ∙ moved)
 
 pub length-range : (xs : List ℕ) (k n : ℕ) → k + n ≤ length xs → length (slice_range xs k (k + n)) ≡ n
