@@ -7,7 +7,7 @@ use bearer::{Bearer, Running};
 use bearer_types::{BearerConfig, Event, Events};
 use eps_sec::{Cipher, Key, Keys};
 use l2_bits::NoMemory;
-use l2_types::{AmRxConfig, AmTxConfig, Channel, Kind, Lost, Side};
+use l2_types::{AmRxConfig, AmTxConfig, Channel, Clock, Kind, Lost, Side};
 
 // A grant of so many octets, with the length that the last subheader doesn't have.
 const GRANT: u32 = 2;
@@ -122,6 +122,42 @@ fn takes_again_what_was_lost(rt: HostRuntime) -> Result<(), NoMemory> {
     assert!(rt; writes(&mut nb, 15, &[0, 4], Some(&again))?);
     assert!(rt; hands_up(&ue.arrive(&[0, 4])?, &[]));
     assert!(rt; hands_up(&ue.arrive(&again)?, &[0xa1, 0xa2]));
+    Ok(())
+}
+
+// Whether the poll timer of the bearer starts.
+fn starts_poll(events: &Events) -> bool {
+    for at in 0..events.len() {
+        if let Some(
+            Event::Start {
+                lcid: 3,
+                clock: Clock::Poll,
+            },
+        ) = events.get(at)
+        {
+            return true;
+        }
+    }
+    false
+}
+
+// A report confirms what was to be taken again: nothing is left, and the poll timer starts for the report that was sent.
+#[test]
+fn leaves_out_what_a_report_confirms(rt: HostRuntime) -> Result<(), NoMemory> {
+    let mut nb = Bearer::new(rt.alloc(), &DATA, &keys(1), Side::Nb)?;
+    let mut ue = Bearer::new(rt.alloc(), &DATA, &keys(1), Side::Ue)?;
+    assert_eq!(rt; nb.submit(&[0xa0]), Ok(()));
+    assert!(rt; writes(&mut nb, 6, &[0xa0, 0, 0x80, 0, 0xa0], None)?);
+    assert!(rt; hands_up(&ue.arrive(&[0xa0, 0, 0x80, 0, 0xa0])?, &[0xa0]));
+
+    let mut nb = hand_over(nb, &keys(2))?;
+    let mut ue = hand_over(ue, &keys(2))?;
+    assert!(rt; writes(&mut nb, 5, &[0x80, 0, 0, 0], None)?);
+    assert!(rt; hands_up(&ue.arrive(&[0x80, 0, 0, 0])?, &[]));
+    let report = [0xa0, 0, 0, 1];
+    assert!(rt; writes(&mut ue, 5, &report, None)?);
+    assert!(rt; starts_poll(&nb.arrive(&report)?));
+    assert_eq!(rt; nb.take(20, None)?.pdus.len(), 0);
     Ok(())
 }
 
