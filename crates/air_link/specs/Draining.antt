@@ -15,7 +15,7 @@ use Rattle.l2_types.specs.declared.side.Side.{Side}
 use Rattle.l2_types.specs.declared.side.Side.TheVariants.{Nb, Ue}
 use Rattle.pdu_show.specs.declared.kinds.Layout.{Layout}
 use Rattle.pdu_show.specs.declared.kinds.Layout.TheVariants.{Am}
-use Rattle.air_link.specs.Link.{Link, end_of}
+use Rattle.air_link.specs.Link.{Link, all_lcids, end_of}
 use Rattle.air_link.specs.Loops.{loops}
 use Rattle.air_link.specs.Downlink.{downlink}
 use Rattle.air_link.specs.Uplink.{uplink}
@@ -56,29 +56,27 @@ carried l = list_any (is_carried l.kinds) l.out
 
 -- ---- timers expire where they run, bearer by bearer
 
-abbrev pub all_lcids : List ℕ
-all_lcids = 0 ∷ 1 ∷ 2 ∷ 3 ∷ 4 ∷ 5 ∷ 6 ∷ 7 ∷ 8 ∷ 9 ∷ 10 ∷ []
+unfoldable pub timer_expires : Side → Clock → ℕ → Link → Link
+timer_expires side clock lcid l = if has lcid (end_of side l).bearers then expires side lcid clock l else l
 
-unfoldable pub clock_ends : Side → Clock → ℕ → Link → Link
-clock_ends side clock lcid l = if has lcid (end_of side l).bearers then expires side lcid clock l else l
+abbrev pub receiver_expires : Side → ℕ → Link → Link
+receiver_expires side lcid l = timer_expires side Prohibit lcid (timer_expires side Reorder lcid l)
 
-abbrev pub waits_end : Side → ℕ → Link → Link
-waits_end side lcid l = clock_ends side Prohibit lcid (clock_ends side Reorder lcid l)
+abbrev pub all_receivers_expire : Side → List ℕ → Link → Link
+all_receivers_expire side [] l = l
+all_receivers_expire side (lcid ∷ lcids) l = all_receivers_expire side lcids (receiver_expires side lcid l)
 
-abbrev pub all_waits_end : Side → List ℕ → Link → Link
-all_waits_end side [] l = l
-all_waits_end side (lcid ∷ lcids) l = all_waits_end side lcids (waits_end side lcid l)
+-- of each bearer t-Reordering, then t-StatusProhibit (TS 36.322 7.3); the base station's first
+unfoldable pub receivers_expire : Link → Link
+receivers_expire l = all_receivers_expire Ue all_lcids (all_receivers_expire Nb all_lcids l)
 
--- of each bearer the reordering timer, then the prohibit timer; the base station's first
-unfoldable pub waits_expire : Link → Link
-waits_expire l = all_waits_end Ue all_lcids (all_waits_end Nb all_lcids l)
+abbrev pub all_senders_expire : Side → List ℕ → Link → Link
+all_senders_expire side [] l = l
+all_senders_expire side (lcid ∷ lcids) l = all_senders_expire side lcids (timer_expires side Poll lcid l)
 
-abbrev pub all_polls_end : Side → List ℕ → Link → Link
-all_polls_end side [] l = l
-all_polls_end side (lcid ∷ lcids) l = all_polls_end side lcids (clock_ends side Poll lcid l)
-
-unfoldable pub polls_expire : Link → Link
-polls_expire l = all_polls_end Ue all_lcids (all_polls_end Nb all_lcids l)
+-- t-PollRetransmit of each bearer (TS 36.322 7.3), in the same order
+unfoldable pub senders_expire : Link → Link
+senders_expire l = all_senders_expire Ue all_lcids (all_senders_expire Nb all_lcids l)
 
 -- ---- what is left
 

@@ -1,9 +1,9 @@
 // The steps of a drain.
 ghost use Rattle.std.specs.Prelude.{◌≡◌, ◌≤◌, OnOk, option_copied};
 ghost use Rattle.air_link.specs.Link.{end_of};
-ghost use Rattle.air_link.specs.Draining.{drain_tti, is_acknowledged, is_carried_by, carried, clock_ends, waits_end, all_waits_end, waits_expire, all_polls_end, polls_expire, is_drained, left, count};
+ghost use Rattle.air_link.specs.Draining.{drain_tti, is_acknowledged, is_carried_by, carried, timer_expires, receiver_expires, all_receivers_expire, receivers_expire, all_senders_expire, senders_expire, is_drained, left, count};
 
-use crate::link::Link;
+use crate::link::{ALL_LCIDS, Link};
 use air_record::{Fate, Outcome, Record};
 use bearer::{Clock, Event, Side};
 use l2_bits::NoMemory;
@@ -13,8 +13,6 @@ const INTACT: Outcome = Outcome {
     fate: Fate::Ok,
     flipped: false,
 };
-
-const ALL_LCIDS: [u8; 11] = [0, 1, 2, 3, 4, 5, 6, 7, 8, 9, 10];
 
 impl Link {
     /// A TTI of a drain: buckets grow, no timer counts down, the terminal doesn't sleep, and both blocks arrive. The grant of
@@ -46,47 +44,47 @@ impl Link {
         false
     }
 
-    /// All reordering and prohibit timers that run expire: those of the base station first, bearers by ascending LCID, and of
-    /// each the reordering timer first.
-    #[tactic(auto, unfolding(crate::specs::Draining::waits_expire))]
-    pub fn expire_waits(&mut self) -> Result<(), NoMemory>
-        ensures { OnOk result (self.new ≡ waits_expire self.old) }
+    /// Every t-Reordering and t-StatusProhibit (TS 36.322 7.3) that runs expires: those of the base station first, bearers by
+    /// ascending LCID, and of each t-Reordering first.
+    #[tactic(auto, unfolding(crate::specs::Draining::receivers_expire))]
+    pub fn expire_receivers(&mut self) -> Result<(), NoMemory>
+        ensures { OnOk result (self.new ≡ receivers_expire self.old) }
     {
-        self.end_waits(Side::Nb, &ALL_LCIDS)?;
-        self.end_waits(Side::Ue, &ALL_LCIDS)
+        self.end_receivers(Side::Nb, &ALL_LCIDS)?;
+        self.end_receivers(Side::Ue, &ALL_LCIDS)
     }
 
-    /// All poll timers that run expire, in the same order.
-    #[tactic(auto, unfolding(crate::specs::Draining::polls_expire))]
-    pub fn expire_polls(&mut self) -> Result<(), NoMemory>
-        ensures { OnOk result (self.new ≡ polls_expire self.old) }
+    /// Every t-PollRetransmit (TS 36.322 7.3) that runs expires, in the same order.
+    #[tactic(auto, unfolding(crate::specs::Draining::senders_expire))]
+    pub fn expire_senders(&mut self) -> Result<(), NoMemory>
+        ensures { OnOk result (self.new ≡ senders_expire self.old) }
     {
-        self.end_polls(Side::Nb, &ALL_LCIDS)?;
-        self.end_polls(Side::Ue, &ALL_LCIDS)
+        self.end_senders(Side::Nb, &ALL_LCIDS)?;
+        self.end_senders(Side::Ue, &ALL_LCIDS)
     }
 
-    fn end_waits(&mut self, side: Side, lcids: &[u8]) -> Result<(), NoMemory>
-        ensures { OnOk result (self.new ≡ all_waits_end side lcids.now self.old) }
+    fn end_receivers(&mut self, side: Side, lcids: &[u8]) -> Result<(), NoMemory>
+        ensures { OnOk result (self.new ≡ all_receivers_expire side lcids.now self.old) }
     {
         for lcid in lcids {
-            self.end_clock(side, Clock::Reorder, *lcid)?;
-            self.end_clock(side, Clock::Prohibit, *lcid)?;
+            self.end_timer(side, Clock::Reorder, *lcid)?;
+            self.end_timer(side, Clock::Prohibit, *lcid)?;
         }
         Ok(())
     }
 
-    fn end_polls(&mut self, side: Side, lcids: &[u8]) -> Result<(), NoMemory>
-        ensures { OnOk result (self.new ≡ all_polls_end side lcids.now self.old) }
+    fn end_senders(&mut self, side: Side, lcids: &[u8]) -> Result<(), NoMemory>
+        ensures { OnOk result (self.new ≡ all_senders_expire side lcids.now self.old) }
     {
         for lcid in lcids {
-            self.end_clock(side, Clock::Poll, *lcid)?;
+            self.end_timer(side, Clock::Poll, *lcid)?;
         }
         Ok(())
     }
 
-    #[tactic(auto, unfolding(crate::specs::Draining::clock_ends))]
-    fn end_clock(&mut self, side: Side, clock: Clock, lcid: u8) -> Result<(), NoMemory>
-        ensures { OnOk result (self.new ≡ clock_ends side clock lcid self.old) }
+    #[tactic(auto, unfolding(crate::specs::Draining::timer_expires))]
+    fn end_timer(&mut self, side: Side, clock: Clock, lcid: u8) -> Result<(), NoMemory>
+        ensures { OnOk result (self.new ≡ timer_expires side clock lcid self.old) }
     {
         if self.has(side, lcid) {
             self.expire(side, lcid, clock)?;

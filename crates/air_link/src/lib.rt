@@ -14,5 +14,5 @@ mod telling;
 mod ttis;
 mod uplink;
 
-pub use link::Link;
+pub use link::{ALL_LCIDS, Link};
 pub use sums::Sums;

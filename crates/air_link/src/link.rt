@@ -13,6 +13,9 @@ use std::marker::Model;
 use std::mem;
 use test_loop::Loop;
 
+/// The logical channels that a bearer may have, in ascending order.
+pub const ALL_LCIDS: [u8; 11] = [0, 1, 2, 3, 4, 5, 6, 7, 8, 9, 10];
+
 // An SDU that the terminal handed up.
 #[derive(Drop)]
 pub(crate) struct Handed {
@@ -119,6 +122,13 @@ impl Link {
             kinds: Kinds::new(),
             out: Records::new(alloc),
         }
+    }
+
+    /// How PDUs are shown, by the bearers that came.
+    pub fn kinds(&self) -> &Kinds
+        ensures { result.now ≡ self.now.kinds }
+    {
+        &self.kinds
     }
 
     /// Takes the records of this line so far.

@@ -1,5 +1,6 @@
 // The test loop returns SDUs to the terminal's bearers.
 ghost use Rattle.std.specs.Prelude.{◌≡◌, ◌<◌, OnOk, length, [], All};
+ghost use Rattle.test_loop.specs.Loops.{is_on};
 ghost use Rattle.air_link.specs.Loops.{loses, returns, returns_all, takes, takes_all, kept_by, loops, owed, paid, pays, loop_set};
 
 use crate::link::{Handed, Link};
@@ -17,6 +18,13 @@ impl Link {
     {
         self.looping.set(mode);
         self.pay()
+    }
+
+    /// Whether a test loop is on at the terminal.
+    pub fn is_looping(&self) -> bool
+        ensures { result ≡ is_on self.now.looping.mode }
+    {
+        self.looping.is_on()
     }
 
     // SDUs that are owed are submitted.

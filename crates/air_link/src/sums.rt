@@ -1,10 +1,8 @@
 ghost use Rattle.std.specs.Prelude.{◌≡◌};
 ghost use Rattle.air_link.specs.Sums.{sums_of, sums};
-ghost use Rattle.test_loop.specs.Loops.{is_on};
 
 use crate::link::{Flows, Link};
 use bearer::Side;
-use pdu_show::Kinds;
 
 /// What became of the flow of a logical channel that one side sends.
 #[derive(Clone, Copy, Debug, PartialEq, Eq)]
@@ -27,20 +25,6 @@ impl Link {
             Side::Nb => sums_of(&self.down, lcid),
             Side::Ue => sums_of(&self.up, lcid),
         }
-    }
-
-    /// Whether a test loop is on at the terminal.
-    pub fn is_looping(&self) -> bool
-        ensures { result ≡ is_on self.now.looping.mode }
-    {
-        self.looping.is_on()
-    }
-
-    /// How PDUs are shown, by the bearers that came.
-    pub fn kinds(&self) -> &Kinds
-        ensures { result.now ≡ self.now.kinds }
-    {
-        &self.kinds
     }
 }
 

@@ -1,6 +1,6 @@
 -- A drain: TTIs with the same grants until nothing is left of what acknowledged bearers have to bring over.
 use Rattle.std.specs.Prelude.{ℕ, ◌+◌, ◌-◌, ◌*◌, ◌^◌, zero, suc, min, Bool, true, false, List, [], ◌∷◌, ◌++◌}
-use Rattle.air_link.specs.Draining.{drain_tti, carried, waits_expire, polls_expire, is_drained, left, count}
+use Rattle.air_link.specs.Draining.{drain_tti, carried, receivers_expire, senders_expire, is_drained, left, count}
 use Rattle.air_link.specs.Link.{Link}
 use Rattle.air_record.specs.declared.record.Record.{Record}
 use Rattle.air_record.specs.declared.record.Record.TheVariants as records
@@ -31,13 +31,13 @@ ttis (suc n) grant l = behind (drain_tti grant l).out 0 (ttis n grant (shown (dr
 -- ---- rounds
 
 -- polls expire only where the TTI carried nothing of an acknowledged bearer
-abbrev pub polls_unless : Bool → Link → Link
-polls_unless true l = l
-polls_unless false l = polls_expire l
+abbrev pub senders_unless : Bool → Link → Link
+senders_unless true l = l
+senders_unless false l = senders_expire l
 
 -- a TTI, and the timers that run behind it
 abbrev pub round : ℕ → Link → Link
-round grant l = polls_unless (carried (drain_tti grant l)) (waits_expire (drain_tti grant l))
+round grant l = senders_unless (carried (drain_tti grant l)) (receivers_expire (drain_tti grant l))
 
 -- where both ends are drained nothing more is done
 abbrev pub left_by : Bool → ℕ → Link → Link

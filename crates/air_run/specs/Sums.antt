@@ -1,7 +1,7 @@
 -- The records at the end: for each bearer the SDUs submitted and delivered, downlink first.
 use Rattle.std.specs.Prelude.{ℕ, Bool, if◌then◌else◌, List, [], ◌∷◌, ◌++◌, Option, None, Some}
 use Rattle.air_link.specs.declared.sums.Sums.{Sums}
-use Rattle.air_link.specs.Link.{Link}
+use Rattle.air_link.specs.Link.{Link, all_lcids}
 use Rattle.air_link.specs.Sums.{sums}
 use Rattle.air_record.specs.declared.record.Record.{Record}
 use Rattle.air_record.specs.declared.record.Record.TheVariants as records
@@ -33,4 +33,4 @@ all_sums l w [] = []
 all_sums l w (lcid ∷ lcids) = sums_of l w lcid ++ all_sums l w lcids
 
 unfoldable pub finishing : Link → Losses → List Record
-finishing l w = all_sums l w (0 ∷ 1 ∷ 2 ∷ 3 ∷ 4 ∷ 5 ∷ 6 ∷ 7 ∷ 8 ∷ 9 ∷ 10 ∷ [])
+finishing l w = all_sums l w all_lcids

@@ -79,9 +79,9 @@ fn round(link: &mut Link, grant: u32, journal: &mut Journal) -> Result<(), NoMem
 {
     link.drain_tti(grant)?;
     let carried = link.carried();
-    link.expire_waits()?;
+    link.expire_receivers()?;
     if !carried {
-        link.expire_polls()?;
+        link.expire_senders()?;
     }
     journal.put_all(link.take_out())
 }

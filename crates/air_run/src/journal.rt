@@ -10,6 +10,7 @@ use air_link::Link;
 use air_text::{Line, Record, append_record, print_line};
 use bearer_types::BearerConfig;
 use l2_bits::{Bytes, NoMemory};
+use l2_node::heard_by;
 use l2_types::{Kind, Side};
 use mac_pdu::Direction;
 use pdu_show::{Records, show_block};
@@ -123,13 +124,4 @@ fn see_all_forged(losses: &mut Losses, side: Side, mut records: Records) -> Resu
         losses.see_forged(side, &one)?;
     }
     Ok(())
-}
-
-fn heard_by(side: Side) -> Direction
-    ensures { result ≡ heard_by side }
-{
-    match side {
-        Side::Nb => Direction::Up,
-        Side::Ue => Direction::Down,
-    }
 }

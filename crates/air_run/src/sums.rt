@@ -6,7 +6,7 @@ ghost use Rattle.l2_node.specs.End.{sent_by};
 
 use crate::journal::Journal;
 use crate::rules::is_known;
-use air_link::{Link, Sums};
+use air_link::{ALL_LCIDS, Link, Sums};
 use air_text::{Record, State, append_record};
 use l2_bits::{Bytes, NoMemory};
 use l2_node::sent_by;
@@ -19,12 +19,7 @@ pub(crate) fn text_of_sums(alloc: Global, link: &Link, journal: &Journal) -> Res
     ensures { IfOk result (λ text. text ≡ texts_of (finishing link.now journal.now.losses)) }
 {
     let mut text = Bytes::new(alloc);
-    append_all(
-        link,
-        journal,
-        &[0, 1, 2, 3, 4, 5, 6, 7, 8, 9, 10],
-        &mut text,
-    )?;
+    append_all(link, journal, &ALL_LCIDS, &mut text)?;
     Ok(text)
 }
 

@@ -2,6 +2,7 @@
 use Rattle.std.specs.Prelude.{ℕ, ◌+◌, ◌*◌, ◌-◌, ◌==◌, ◌&&◌, nat_lt, nat_le, Bool, true, false, if◌then◌else◌, List, [], ◌∷◌, length, slice_index, codes, Option, None, Some, Result, Ok, Err}
 use Rattle.std.specs.List.{list_all}
 use Rattle.std.specs.Str.{bytes_eq}
+use Rattle.digits.specs.Numerals.{is_digit, value_behind}
 use Rattle.hex.specs.Hex.{decode_of}
 use Rattle.hex.specs.declared.error.FromHexError.{FromHexError}
 use Rattle.l2_types.specs.declared.side.Side.{Side}
@@ -19,20 +20,12 @@ use Rattle.air_text.specs.declared.fault.LineRefusal.{LineRefusal}
 use Rattle.air_text.specs.declared.fault.LineRefusal.TheVariants.{Word, Number, Range, Hex}
 use Rattle.air_text.specs.Words.{◌>>=◌}
 
-abbrev pub is_digit : ℕ → Bool
-is_digit x = nat_le 48 x && nat_le x 57
-
 -- decimal digits, without a needless 0 in front
 unfoldable pub is_number : List ℕ → Bool
 is_number text =
     if length text == 0 then false
     else if nat_lt 1 (length text) then (if slice_index text 0 == 48 then false else list_all is_digit text)
     else list_all is_digit text
-
--- the number that digits say, behind a number that was read
-abbrev pub value_behind : ℕ → List ℕ → ℕ
-value_behind n [] = n
-value_behind n (x ∷ xs) = value_behind (n * 10 + (x - 48)) xs
 
 -- a number from a least to a most
 unfoldable pub number_of : ℕ → ℕ → List ℕ → Result ℕ LineRefusal

@@ -4,4 +4,3 @@ pub mod Options
 pub mod Reading
 pub mod Ranges
 pub mod Groups
-pub mod Notions

@@ -19,11 +19,17 @@ pub record AreGrants (upward downward : ℕ) : Type 0 where
   pub up : upward ≤ 9422
   pub down : downward ≤ 9422
 
--- the SDUs, blocks, grants and configurations of a line
+-- 1 to 28 visits of a block
+pub record AreVisits (visits : ℕ) : Type 0 where
+  pub some : 1 ≤ visits
+  pub few : visits ≤ 28
+
+-- the SDUs, blocks, grants, visits and configurations of a line
 abbrev pub IsInRange : Line → Type 0
 IsInRange (lines.Submit side lcid octets) = IsSdu octets
 IsInRange (lines.Tti up_grant up down_grant down) = AreGrants up_grant down_grant
 IsInRange (lines.Drain grant) = grant ≤ 9422
 IsInRange (lines.Forge side octets) = IsBlock octets
 IsInRange (lines.Bearer config options) = IsConfig config
+IsInRange (lines.Harq visits) = AreVisits visits
 IsInRange line = Unit {0}

@@ -53,7 +53,8 @@ impl End {
     }
 }
 
-fn heard_by(side: Side) -> Direction
+/// The direction in which an end hears: the base station the uplink, the terminal the downlink.
+pub fn heard_by(side: Side) -> Direction
     ensures { result ≡ heard_by side }
 {
     match side {

@@ -16,5 +16,6 @@ mod submitting;
 mod tests;
 mod writing;
 
+pub use hearing::heard_by;
 pub use node::{Attached, Built, Moving, Node};
 pub use writing::sent_by;

@@ -11,7 +11,7 @@ use Rattle.l2_types.specs.declared.side.Side.{Side}
 use Rattle.l2_types.specs.declared.side.Side.TheVariants.{Nb, Ue}
 use Rattle.air_link.specs.Link.{Link, says}
 use Rattle.air_link.specs.Telling.{one_more}
-use Rattle.link_laws.specs.Counts.{is_up, is_looped, is_of_run, is_flight, ups, loopeds, Grows}
+use Rattle.link_laws.specs.Counts.{is_up, is_looped, is_of_run, is_of_air, ups, loopeds, Grows}
 use Rattle.link_laws.specs.Told.{Tells, Adds}
 
 -- ---- tables
@@ -67,13 +67,13 @@ kept_none b one e = rw e refl
 pub count_then : (test : Record → Bool) (a b : List Record) → length (filter test (a ++ b)) ≡ length (filter test a) + length (filter test b)
 count_then test a b = ap length (filter-append test a b) ∙ length-append (filter test a) (filter test b)
 
-tells_then : (a b f g : List Record) (l m n : Link) → Tells a f l m → Tells b g m n → Tells (a ++ b) (f ++ g) l n
+pub tells_then : (a b f g : List Record) (l m n : Link) → Tells a f l m → Tells b g m n → Tells (a ++ b) (f ++ g) l n
 tells_then a b f g l m n p q = record {
   nb_delivered = grows_then (λ k. ups Nb k a) (λ k. ups Nb k b) (λ k. ups Nb k (a ++ b)) l.up.delivered m.up.delivered n.up.delivered (λ k. count_then (is_up Nb k) a b) p.nb_delivered q.nb_delivered;
   ue_delivered = grows_then (λ k. ups Ue k a) (λ k. ups Ue k b) (λ k. ups Ue k (a ++ b)) l.down.delivered m.down.delivered n.down.delivered (λ k. count_then (is_up Ue k) a b) p.ue_delivered q.ue_delivered;
   nb_submitted = q.nb_submitted ∙ p.nb_submitted;
   ue_submitted = grows_then (λ k. loopeds k a) (λ k. loopeds k b) (λ k. loopeds k (a ++ b)) l.up.submitted m.up.submitted n.up.submitted (λ k. count_then (is_looped k) a b) p.ue_submitted q.ue_submitted;
-  flown_is = filter-append is_flight a b ∙ ap (λ (x : List Record). x ++ filter is_flight b) p.flown_is ∙ ap (λ (x : List Record). f ++ x) q.flown_is;
+  flown_is = filter-append is_of_air a b ∙ ap (λ (x : List Record). x ++ filter is_of_air b) p.flown_is ∙ ap (λ (x : List Record). f ++ x) q.flown_is;
   none_of_run = filter-append is_of_run a b ∙ ap (λ (x : List Record). x ++ filter is_of_run b) p.none_of_run ∙ q.none_of_run;
 }
 
@@ -131,7 +131,7 @@ pub record IsPlain (one : Record) : Type 0 where
   pub no_loop : (lcid : ℕ) → is_looped lcid one ≡ false
   pub no_run : is_of_run one ≡ false
 
-pub says_plain : (one : Record) (l : Link) → IsPlain one → Adds (filter is_flight (one ∷ [])) l (says one l)
+pub says_plain : (one : Record) (l : Link) → IsPlain one → Adds (filter is_of_air (one ∷ [])) l (says one l)
 says_plain one l p = record {
   more = one ∷ [];
   out_is = refl;

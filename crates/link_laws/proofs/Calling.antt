@@ -12,13 +12,13 @@ use Rattle.l2_types.specs.declared.event.Clock.{Clock}
 use Rattle.l2_types.specs.declared.event.Clock.TheVariants.{Poll, Reorder, Prohibit}
 use Rattle.l2_types.specs.declared.side.Side.{Side}
 use Rattle.l2_types.specs.declared.side.Side.TheVariants.{Nb, Ue}
-use Rattle.air_link.specs.Link.{Link, end_of}
+use Rattle.air_link.specs.Link.{Link, end_of, all_lcids}
 use Rattle.air_link.specs.Telling.{one_more, tells_all}
 use Rattle.air_link.specs.Loops.{loops}
 use Rattle.air_link.specs.Downlink.{hears}
-use Rattle.air_link.specs.Draining.{all_lcids, clock_ends, waits_end, all_waits_end, waits_expire, all_polls_end, polls_expire}
+use Rattle.air_link.specs.Draining.{timer_expires, receiver_expires, all_receivers_expire, receivers_expire, all_senders_expire, senders_expire}
 use Rattle.air_link.specs.Lines.{bears, discards, visits, reports, listens, no_place, submits_by, submitting, expires_by, expiring, expires_alone, expires, forges, moves, hands_over}
-use Rattle.link_laws.specs.Calls.{Call, Bears, Discards, Visits, Reports, Listens, Loops, Expires, Forges, HandsOver, WaitsExpire, PollsExpire, after}
+use Rattle.link_laws.specs.Calls.{Call, Bears, Discards, Visits, Reports, Listens, Loops, Expires, Forges, HandsOver, ReceiversExpire, SendersExpire, after}
 use Rattle.link_laws.specs.Counts.{Grows}
 use Rattle.link_laws.specs.Told.{why_refused, accepted, Adds, AddsSubmitted}
 use Rattle.link_laws.proofs.Adding.{stays, adds_then, same_grows, one_grows}
@@ -60,38 +60,38 @@ ends_if : (b : Bool) (side : Side) (clock : Clock) (lcid : ℕ) (l : Link) → A
 ends_if true side clock lcid l = expires_adds side lcid clock l
 ends_if false side clock lcid l = stays l l refl
 
-clock_adds : (side : Side) (clock : Clock) (lcid : ℕ) (l : Link) → Adds [] l (clock_ends side clock lcid l)
-unfolding clock_ends
-clock_adds side clock lcid l = ends_if (has lcid (end_of side l).bearers) side clock lcid l
+timer_adds : (side : Side) (clock : Clock) (lcid : ℕ) (l : Link) → Adds [] l (timer_expires side clock lcid l)
+unfolding timer_expires
+timer_adds side clock lcid l = ends_if (has lcid (end_of side l).bearers) side clock lcid l
 
-wait_adds : (side : Side) (lcid : ℕ) (l : Link) → Adds [] l (waits_end side lcid l)
-wait_adds side lcid l =
-    let m = clock_ends side Reorder lcid l in
-    adds_then [] [] l m (clock_ends side Prohibit lcid m) (clock_adds side Reorder lcid l) (clock_adds side Prohibit lcid m)
+receiver_adds : (side : Side) (lcid : ℕ) (l : Link) → Adds [] l (receiver_expires side lcid l)
+receiver_adds side lcid l =
+    let m = timer_expires side Reorder lcid l in
+    adds_then [] [] l m (timer_expires side Prohibit lcid m) (timer_adds side Reorder lcid l) (timer_adds side Prohibit lcid m)
 
-all_waits_adds : (side : Side) (lcids : List ℕ) (l : Link) → Adds [] l (all_waits_end side lcids l)
-all_waits_adds side [] l = stays l l refl
-all_waits_adds side (lcid ∷ lcids) l =
-    let m = waits_end side lcid l in
-    adds_then [] [] l m (all_waits_end side lcids m) (wait_adds side lcid l) (all_waits_adds side lcids m)
+all_receivers_add : (side : Side) (lcids : List ℕ) (l : Link) → Adds [] l (all_receivers_expire side lcids l)
+all_receivers_add side [] l = stays l l refl
+all_receivers_add side (lcid ∷ lcids) l =
+    let m = receiver_expires side lcid l in
+    adds_then [] [] l m (all_receivers_expire side lcids m) (receiver_adds side lcid l) (all_receivers_add side lcids m)
 
-all_polls_adds : (side : Side) (lcids : List ℕ) (l : Link) → Adds [] l (all_polls_end side lcids l)
-all_polls_adds side [] l = stays l l refl
-all_polls_adds side (lcid ∷ lcids) l =
-    let m = clock_ends side Poll lcid l in
-    adds_then [] [] l m (all_polls_end side lcids m) (clock_adds side Poll lcid l) (all_polls_adds side lcids m)
+all_senders_add : (side : Side) (lcids : List ℕ) (l : Link) → Adds [] l (all_senders_expire side lcids l)
+all_senders_add side [] l = stays l l refl
+all_senders_add side (lcid ∷ lcids) l =
+    let m = timer_expires side Poll lcid l in
+    adds_then [] [] l m (all_senders_expire side lcids m) (timer_adds side Poll lcid l) (all_senders_add side lcids m)
 
-waits_adds : (l : Link) → Adds [] l (waits_expire l)
-unfolding waits_expire
-waits_adds l =
-    let m = all_waits_end Nb all_lcids l in
-    adds_then [] [] l m (all_waits_end Ue all_lcids m) (all_waits_adds Nb all_lcids l) (all_waits_adds Ue all_lcids m)
+receivers_add : (l : Link) → Adds [] l (receivers_expire l)
+unfolding receivers_expire
+receivers_add l =
+    let m = all_receivers_expire Nb all_lcids l in
+    adds_then [] [] l m (all_receivers_expire Ue all_lcids m) (all_receivers_add Nb all_lcids l) (all_receivers_add Ue all_lcids m)
 
-polls_adds : (l : Link) → Adds [] l (polls_expire l)
-unfolding polls_expire
-polls_adds l =
-    let m = all_polls_end Nb all_lcids l in
-    adds_then [] [] l m (all_polls_end Ue all_lcids m) (all_polls_adds Nb all_lcids l) (all_polls_adds Ue all_lcids m)
+senders_add : (l : Link) → Adds [] l (senders_expire l)
+unfolding senders_expire
+senders_add l =
+    let m = all_senders_expire Nb all_lcids l in
+    adds_then [] [] l m (all_senders_expire Ue all_lcids m) (all_senders_add Nb all_lcids l) (all_senders_add Ue all_lcids m)
 
 -- ---- any call
 
@@ -106,8 +106,8 @@ calls_adds (Loops mode) l = loop_set_adds mode l
 calls_adds (Expires side lcid clock) l = expires_adds side lcid clock l
 calls_adds (Forges side block) l = forges_adds side block l
 calls_adds (HandsOver keys) l = hands_over_adds keys l
-calls_adds WaitsExpire l = waits_adds l
-calls_adds PollsExpire l = polls_adds l
+calls_adds ReceiversExpire l = receivers_add l
+calls_adds SendersExpire l = senders_add l
 
 -- ---- a submission
 

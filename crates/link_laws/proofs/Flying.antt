@@ -25,7 +25,7 @@ use Rattle.air_link.specs.Link.{Link, says, end_of}
 use Rattle.air_link.specs.Downlink.{builds, built_ndi, block_at, shows, sends, hears, turned, feeds, told_as, is_good, saw_new, sees, answer, comes, hears_by, aired, lands, unseen, down_order, down_by, downlink}
 use Rattle.air_link.specs.Uplink.{up_order, is_intact, told_as as up_told_as, granted, hears_if, aired as up_aired, awake, up_by, grants, passes, uplink}
 use Rattle.link_laws.specs.Flights.{CanCome, feedback, FliesDown, IsDown, heard_as, FliesUp, IsUp}
-use Rattle.link_laws.specs.Counts.{is_flight}
+use Rattle.link_laws.specs.Counts.{is_of_air}
 use Rattle.link_laws.specs.Told.{Adds}
 use Rattle.link_laws.proofs.Adding.{books, stays, adds_then, IsPlain, says_plain}
 use Rattle.link_laws.proofs.Showing.{shows_adds}
@@ -50,15 +50,15 @@ sent_block New side t block = records.Block (sent_by side) (t % 8) true 0 block 
 sent_block (Resend rv) side t block = records.Block (sent_by side) (t % 8) false rv block ∷ []
 sent_block Quiet side t block = []
 
-says_flight : (one : Record) (l : Link) → IsPlain one → is_flight one ≡ true → Adds (one ∷ []) l (says one l)
-says_flight one l p e = subst (λ (b : Bool). Adds (cond b (one ∷ []) []) l (says one l)) e (says_plain one l p)
+pub says_of_air : (one : Record) (l : Link) → IsPlain one → is_of_air one ≡ true → Adds (one ∷ []) l (says one l)
+says_of_air one l p e = subst (λ (b : Bool). Adds (cond b (one ∷ []) []) l (says one l)) e (says_plain one l p)
 
 sends_adds : (v : Visit) (side : Side) (t : ℕ) (block : List ℕ) (l : Link) → Adds (sent_block v side t block) l (sends v side t block l)
 sends_adds New side t block l =
     let one = records.Block (sent_by side) (t % 8) true 0 block in
     adds_then (one ∷ []) [] l (says one l) (shows (sent_by side) block (says one l))
-    (says_flight one l (record { no_up = λ s k. refl; no_loop = λ k. refl; no_run = refl }) refl) (shows_adds (sent_by side) block (says one l))
-sends_adds (Resend rv) side t block l = says_flight (records.Block (sent_by side) (t % 8) false rv block) l (record { no_up = λ s k. refl; no_loop = λ k. refl; no_run = refl }) refl
+    (says_of_air one l (record { no_up = λ s k. refl; no_loop = λ k. refl; no_run = refl }) refl) (shows_adds (sent_by side) block (says one l))
+sends_adds (Resend rv) side t block l = says_of_air (records.Block (sent_by side) (t % 8) false rv block) l (record { no_up = λ s k. refl; no_loop = λ k. refl; no_run = refl }) refl
 sends_adds Quiet side t block l = stays l l refl
 
 -- ---- what comes of a downlink block
@@ -77,7 +77,7 @@ aired_adds t flipped a block l =
     let one = down_air flipped a in
     let m = feeds Nb t (turned flipped (is_good a)) l in
     let n = says one m in
-    let told = adds_then [] (one ∷ []) l m n (feeds_adds Nb t (turned flipped (is_good a)) l) (says_flight one m (record { no_up = λ s k. refl; no_loop = λ k. refl; no_run = refl }) refl) in
+    let told = adds_then [] (one ∷ []) l m n (feeds_adds Nb t (turned flipped (is_good a)) l) (says_of_air one m (record { no_up = λ s k. refl; no_loop = λ k. refl; no_run = refl }) refl) in
     adds_then (one ∷ []) [] l n (hears_by a block n) told (hears_by_adds a block n)
 
 first_books : (b : Bool) (t : ℕ) (l : Link) → books (if b then l else saw_new t (record l { seen = slice_set l.seen (t % 8) true })) ≡ books l
@@ -111,7 +111,7 @@ way_down v t o ndi block l = lands t o ndi block (sends v Nb t block (unseen v t
 abbrev down_answer : Visit → ℕ → Outcome → Bool → List ℕ → Link → Answer
 down_answer v t o ndi block l = answer o.fate t ndi (sends v Nb t block (unseen v t l))
 
-way_down_adds : (v : Visit) (t : ℕ) (o : Outcome) (ndi : Bool) (block : List ℕ) (l : Link)
+pub way_down_adds : (v : Visit) (t : ℕ) (o : Outcome) (ndi : Bool) (block : List ℕ) (l : Link)
     → Adds (sent_block v Nb t block ++ down_air o.flipped (down_answer v t o ndi block l) ∷ []) l (way_down v t o ndi block l)
 way_down_adds v t o ndi block l =
     let m = unseen v t l in
@@ -142,7 +142,7 @@ pub record Downs (t grant : ℕ) (o : Outcome) (l m : Link) : Type 0 where
   pub adds : Adds flown l m
   pub is_down : IsDown t grant o flown
 
-flies_down : (fresh : Bool) (version t : ℕ) (o : Outcome) (ndi : Bool) (block : List ℕ) (l : Link)
+pub flies_down : (fresh : Bool) (version t : ℕ) (o : Outcome) (ndi : Bool) (block : List ℕ) (l : Link)
     → FliesDown t o (records.Block directions.Down (t % 8) fresh version block ∷ down_air o.flipped (answer o.fate t ndi l) ∷ [])
 flies_down fresh version t o ndi block l =
     let a = answer o.fate t ndi l in
@@ -155,27 +155,27 @@ flies_down fresh version t o ndi block l =
       flown_is = ap (λ (b : Bool). records.Block directions.Down (t % 8) fresh version block ∷ records.Air directions.Down (told_as a) (Some (turned o.flipped b)) ∷ []) (feedback_is a);
     }
 
-new_down : (t grant : ℕ) (o : Outcome) (ndi : Bool) (block : List ℕ) (l : Link) → (grant ≡ 0 → ⊥) → Downs t grant o l (way_down New t o ndi block l)
+unfoldable pub new_down : (t grant : ℕ) (o : Outcome) (ndi : Bool) (block : List ℕ) (l : Link) → (grant ≡ 0 → ⊥) → Downs t grant o l (way_down New t o ndi block l)
 new_down t grant o ndi block l some = record {
   flown = sent_block New Nb t block ++ down_air o.flipped (down_answer New t o ndi block l) ∷ [];
   adds = way_down_adds New t o ndi block l;
   is_down = record { none = λ e. absurd (some e); one = λ h. flies_down true 0 t o ndi block (sends New Nb t block (unseen New t l)) };
 }
 
-resent_down : (rv t grant : ℕ) (o : Outcome) (ndi : Bool) (block : List ℕ) (l : Link) → (grant ≡ 0 → ⊥) → Downs t grant o l (way_down (Resend rv) t o ndi block l)
+unfoldable pub resent_down : (rv t grant : ℕ) (o : Outcome) (ndi : Bool) (block : List ℕ) (l : Link) → (grant ≡ 0 → ⊥) → Downs t grant o l (way_down (Resend rv) t o ndi block l)
 resent_down rv t grant o ndi block l some = record {
   flown = sent_block (Resend rv) Nb t block ++ down_air o.flipped (down_answer (Resend rv) t o ndi block l) ∷ [];
   adds = way_down_adds (Resend rv) t o ndi block l;
   is_down = record { none = λ e. absurd (some e); one = λ h. flies_down false rv t o ndi block (sends (Resend rv) Nb t block (unseen (Resend rv) t l)) };
 }
 
-not_new : New ≡ Quiet → ⊥
+pub not_new : New ≡ Quiet → ⊥
 not_new e = cc
 
-not_resent : (rv : ℕ) → Resend rv ≡ Quiet → ⊥
+pub not_resent : (rv : ℕ) → Resend rv ≡ Quiet → ⊥
 not_resent rv e = cc
 
-down_by_adds : (v : Visit) (t grant : ℕ) (o : Outcome) (ndi : Bool) (l : Link) → (grant ≡ 0 → v ≡ Quiet) → (1 ≤ grant → v ≡ Quiet → ⊥) → Downs t grant o l (down_by v t o ndi l)
+unfoldable pub down_by_adds : (v : Visit) (t grant : ℕ) (o : Outcome) (ndi : Bool) (l : Link) → (grant ≡ 0 → v ≡ Quiet) → (1 ≤ grant → v ≡ Quiet → ⊥) → Downs t grant o l (down_by v t o ndi l)
 down_by_adds New t grant o ndi l quiet loud = new_down t grant o ndi (block_at t l.nb) l (λ e. not_new (quiet e))
 down_by_adds (Resend rv) t grant o ndi l quiet loud = resent_down rv t grant o ndi (block_at t l.nb) l (λ e. not_resent rv (quiet e))
 down_by_adds Quiet t grant o ndi l quiet loud = record {
@@ -188,20 +188,20 @@ loud_or : (held : Option Block) → resend_or New held ≡ Quiet → ⊥
 loud_or None e = not_new e
 loud_or (Some b) e = not_resent (version_of b.sent) e
 
-down_quiet : (t grant : ℕ) (e : End) → grant ≡ 0 → visit t (down_order grant) e ≡ Quiet
+pub down_quiet : (t grant : ℕ) (e : End) → grant ≡ 0 → visit t (down_order grant) e ≡ Quiet
 unfolding visit_answer
 down_quiet t grant e h = rw (none_is grant h) refl
 
-down_loud : (t grant : ℕ) (e : End) → 1 ≤ grant → visit t (down_order grant) e ≡ Quiet → ⊥
+pub down_loud : (t grant : ℕ) (e : End) → 1 ≤ grant → visit t (down_order grant) e ≡ Quiet → ⊥
 unfolding visit_answer
 down_loud t grant e h q =
     let free : down_order grant ≡ Free = rw (some_is grant h) refl in
     loud_or (process_at e.sender t).held (subst (λ (o : Order). visit t o e ≡ Quiet) free q)
 
-downs_then : (t grant : ℕ) (o : Outcome) (l m n : Link) → Adds [] l m → Downs t grant o m n → Downs t grant o l n
+unfoldable pub downs_then : (t grant : ℕ) (o : Outcome) (l m n : Link) → Adds [] l m → Downs t grant o m n → Downs t grant o l n
 downs_then t grant o l m n p d = record { flown = d.flown; adds = adds_then [] d.flown l m n p d.adds; is_down = d.is_down }
 
-pub downlink_adds : (t grant : ℕ) (o : Outcome) (l : Link) → Downs t grant o l (downlink t grant o l)
+unfoldable pub downlink_adds : (t grant : ℕ) (o : Outcome) (l : Link) → Downs t grant o l (downlink t grant o l)
 unfolding downlink
 downlink_adds t grant o l =
     let order = down_order grant in
@@ -217,7 +217,7 @@ pub record Ups (t grant : ℕ) (o : Outcome) (l m : Link) : Type 0 where
   pub adds : Adds flown l m
   pub is_up : IsUp t grant o flown
 
-ups_then : (t grant : ℕ) (o : Outcome) (l m n : Link) → Adds [] l m → Ups t grant o m n → Ups t grant o l n
+unfoldable pub ups_then : (t grant : ℕ) (o : Outcome) (l m n : Link) → Adds [] l m → Ups t grant o m n → Ups t grant o l n
 ups_then t grant o l m n p d = record { flown = d.flown; adds = adds_then [] d.flown l m n p d.adds; is_up = d.is_up }
 
 abbrev up_air : Bool → Bool → Record
@@ -234,7 +234,7 @@ up_aired_adds t flipped good block l =
     let m = feeds Ue t (turned flipped good) j in
     let n = says one m in
     let fed = adds_then [] [] l j m (stays l j refl) (feeds_adds Ue t (turned flipped good) j) in
-    let told = adds_then [] (one ∷ []) l m n fed (says_flight one m (record { no_up = λ s k. refl; no_loop = λ k. refl; no_run = refl }) refl) in
+    let told = adds_then [] (one ∷ []) l m n fed (says_of_air one m (record { no_up = λ s k. refl; no_loop = λ k. refl; no_run = refl }) refl) in
     adds_then (one ∷ []) [] l n (hears_if good block n) told (hears_if_adds good block n)
 
 awake_books : (v : Visit) (t : ℕ) (l : Link) → books (awake v t l) ≡ books l
@@ -245,7 +245,7 @@ awake_books Quiet t l = refl
 abbrev way_up : Visit → ℕ → Outcome → List ℕ → Link → Link
 way_up v t o block l = up_aired t o.flipped (is_intact o.fate) block (sends v Ue t block (awake v t l))
 
-way_up_adds : (v : Visit) (t : ℕ) (o : Outcome) (block : List ℕ) (l : Link) → Adds (sent_block v Ue t block ++ up_air o.flipped (is_intact o.fate) ∷ []) l (way_up v t o block l)
+pub way_up_adds : (v : Visit) (t : ℕ) (o : Outcome) (block : List ℕ) (l : Link) → Adds (sent_block v Ue t block ++ up_air o.flipped (is_intact o.fate) ∷ []) l (way_up v t o block l)
 way_up_adds v t o block l =
     let m = awake v t l in
     let n = sends v Ue t block m in
@@ -258,10 +258,10 @@ heard_is Ok flipped one = refl
 heard_is Bad flipped one = refl
 heard_is Miss flipped one = refl
 
-flies_up : (fresh : Bool) (version t : ℕ) (o : Outcome) (block : List ℕ) → FliesUp t o (records.Block directions.Up (t % 8) fresh version block ∷ up_air o.flipped (is_intact o.fate) ∷ [])
+pub flies_up : (fresh : Bool) (version t : ℕ) (o : Outcome) (block : List ℕ) → FliesUp t o (records.Block directions.Up (t % 8) fresh version block ∷ up_air o.flipped (is_intact o.fate) ∷ [])
 flies_up fresh version t o block = record { fresh = fresh; version = version; octets = block; flown_is = heard_is o.fate o.flipped (records.Block directions.Up (t % 8) fresh version block) }
 
-up_by_adds : (v : Visit) (t grant : ℕ) (o : Outcome) (l : Link) → 1 ≤ grant → (v ≡ Quiet → o.fate ≡ Miss) → Ups t grant o l (up_by v t o l)
+unfoldable pub up_by_adds : (v : Visit) (t grant : ℕ) (o : Outcome) (l : Link) → 1 ≤ grant → (v ≡ Quiet → o.fate ≡ Miss) → Ups t grant o l (up_by v t o l)
 up_by_adds New t grant o l some quiet =
     let block = block_at t l.ue in
     record {
@@ -281,17 +281,17 @@ up_by_adds Quiet t grant o l some quiet =
     let m = granted t None l in
     record {
       flown = one ∷ [];
-      adds = adds_then [] (one ∷ []) l m (says one m) (stays l m refl) (says_flight one m (record { no_up = λ s k. refl; no_loop = λ k. refl; no_run = refl }) refl);
+      adds = adds_then [] (one ∷ []) l m (says one m) (stays l m refl) (says_of_air one m (record { no_up = λ s k. refl; no_loop = λ k. refl; no_run = refl }) refl);
       is_up = record { none = λ e. absurd (omega arith); one = λ h. inr (record { missed = quiet refl; flown_is = refl }) };
     }
 
-up_missed : (t : ℕ) (f : Fate) (ndi : Bool) (e : End) → visit t (up_order f ndi) e ≡ Quiet → f ≡ Miss
+pub up_missed : (t : ℕ) (f : Fate) (ndi : Bool) (e : End) → visit t (up_order f ndi) e ≡ Quiet → f ≡ Miss
 unfolding visit_answer
 up_missed t Ok ndi e q = absurd (loud_or (seen ndi (process_at e.sender t)).held q)
 up_missed t Bad ndi e q = absurd (loud_or (seen ndi (process_at e.sender t)).held q)
 up_missed t Miss ndi e q = refl
 
-grants_adds : (t grant : ℕ) (o : Outcome) (l : Link) → 1 ≤ grant → Ups t grant o l (grants t grant o l)
+unfoldable pub grants_adds : (t grant : ℕ) (o : Outcome) (l : Link) → 1 ≤ grant → Ups t grant o l (grants t grant o l)
 grants_adds t grant o l some =
     let ndi = grant_ndi l.nb.receiver t in
     let order = up_order o.fate ndi in
@@ -301,7 +301,7 @@ grants_adds t grant o l some =
     let built' = adds_then [] [] l m n (stays l m refl) (builds_adds Ue t grant order m) in
     ups_then t grant o l n (up_by v t o n) built' (up_by_adds v t grant o n some (up_missed t o.fate ndi m.ue))
 
-passes_adds : (t grant : ℕ) (o : Outcome) (l : Link) → grant ≡ 0 → Ups t grant o l (passes t l)
+unfoldable pub passes_adds : (t grant : ℕ) (o : Outcome) (l : Link) → grant ≡ 0 → Ups t grant o l (passes t l)
 passes_adds t grant o l nothing =
     let m = builds Ue t 0 Silent l in
     record {
@@ -310,10 +310,10 @@ passes_adds t grant o l nothing =
       is_up = record { none = λ e. refl; one = λ h. absurd (omega arith) };
     }
 
-uplink_if : (b : Bool) (t grant : ℕ) (o : Outcome) (l : Link) → (grant == 0) ≡ b → Ups t grant o l (if b then passes t l else grants t grant o l)
+unfoldable pub uplink_if : (b : Bool) (t grant : ℕ) (o : Outcome) (l : Link) → (grant == 0) ≡ b → Ups t grant o l (if b then passes t l else grants t grant o l)
 uplink_if true t grant o l e = passes_adds t grant o l (none_from grant e)
 uplink_if false t grant o l e = grants_adds t grant o l (some_from grant e)
 
-pub uplink_adds : (t grant : ℕ) (o : Outcome) (l : Link) → Ups t grant o l (uplink t grant o l)
+unfoldable pub uplink_adds : (t grant : ℕ) (o : Outcome) (l : Link) → Ups t grant o l (uplink t grant o l)
 unfolding uplink
 uplink_adds t grant o l = uplink_if (grant == 0) t grant o l refl

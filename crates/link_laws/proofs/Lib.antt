@@ -3,6 +3,9 @@ pub mod Showing
 pub mod Telling
 pub mod Looping
 pub mod Flying
+pub mod Resting
+pub mod Sending
 pub mod Passing
 pub mod Calling
+pub mod Leaving
 pub mod Running

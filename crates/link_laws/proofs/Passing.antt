@@ -1,5 +1,5 @@
 -- What a TTI adds.
-use Rattle.std.proofs.Common.{ℕ, Bool, true, false, if◌then◌else◌, [], ◌∷◌, ◌++◌, append_assoc, refl, ◌∙◌}
+use Rattle.std.proofs.Common.{ℕ, Bool, true, false, if◌then◌else◌, [], ◌∷◌, ◌++◌, append_assoc, refl, ap, sym, subst, ◌∙◌, ◌≡◌}
 use Rattle.air_record.specs.declared.line.Outcome.{Outcome}
 use Rattle.air_record.specs.declared.record.Record.TheVariants as records
 use Rattle.l2_node.specs.Hearing.{ticked}
@@ -10,14 +10,19 @@ use Rattle.test_loop.specs.Loops.{is_keeping, after_tick}
 use Rattle.air_link.specs.Link.{Link, end_of}
 use Rattle.air_link.specs.Telling.{tells_all}
 use Rattle.air_link.specs.Loops.{loops, pays}
-use Rattle.air_link.specs.Downlink.{downlink}
 use Rattle.air_link.specs.Uplink.{uplink}
 use Rattle.air_link.specs.Draining.{intact, drain_tti}
-use Rattle.air_link.specs.Ttis.{begins, sleeps, tells_sleep, grows, ticks, times, keeps_first, timed, tti_by, tti}
-use Rattle.link_laws.specs.Told.{heard, Adds, AddsTti}
+use Rattle.air_link.specs.Ttis.{begins, sleeps, missed, tells_sleep, grows, ticks, times, keeps_first, timed, tti_by, tti}
+use Rattle.air_link.specs.Downlink.{down_order, downlink}
+use Rattle.harq.specs.declared.sender.Order.{Order}
+use Rattle.harq.specs.Sending.{Sending}
+use Rattle.link_laws.specs.Deeds.{TakesTurn, Senders, senders}
+use Rattle.link_laws.specs.Told.{sleeping, Adds, AddsTti}
 use Rattle.link_laws.proofs.Adding.{stays, adds_then, then_still, says_plain}
 use Rattle.link_laws.proofs.Telling.{end_stays, end_tells}
 use Rattle.link_laws.proofs.Looping.{loops_adds, pays_adds}
+use Rattle.link_laws.proofs.Resting.{loops_rests, woken_rests, grown_rests}
+use Rattle.link_laws.proofs.Sending.{downlink_turn, uplink_turn}
 use Rattle.link_laws.proofs.Flying.{Downs, downlink_adds, Ups, uplink_adds}
 
 -- ---- timers
@@ -52,7 +57,7 @@ timed_adds l =
 
 -- ---- the whole
 
-sleep_adds : (asleep : Bool) (l : Link) → Adds [] l (tells_sleep asleep l)
+sleep_adds : (asleep : Bool) (l : Link) → Adds (sleeping asleep) l (tells_sleep asleep l)
 sleep_adds true l = says_plain records.Sleep l (record { no_up = λ s k. refl; no_loop = λ k. refl; no_run = refl })
 sleep_adds false l = stays l l refl
 
@@ -61,6 +66,9 @@ pub record Passes (t up_grant : ℕ) (up : Outcome) (down_grant : ℕ) (down : O
   pub downward : Downs t down_grant down l (downlink t down_grant down l)
   pub upward : Ups t up_grant up (loops (downlink t down_grant down l)) m
   pub adds : Adds (downward.flown ++ upward.flown) l m
+  pub down_turn : TakesTurn t (down_order down_grant) l.nb.sender m.nb.sender downward.flown
+  pub up_order : Order
+  pub up_turn : TakesTurn t up_order l.ue.sender m.ue.sender upward.flown
 
 pub passes_adds : (t up_grant : ℕ) (up : Outcome) (down_grant : ℕ) (down : Outcome) (l : Link)
     → Passes t up_grant up down_grant down l (uplink t up_grant up (loops (downlink t down_grant down l)))
@@ -70,15 +78,28 @@ passes_adds t up_grant up down_grant down l =
     let d = downlink_adds t down_grant down l in
     let u = uplink_adds t up_grant up n in
     let to_n = then_still d.flown l m n d.adds (loops_adds m) in
-    record { downward = d; upward = u; adds = adds_then d.flown u.flown l n (uplink t up_grant up n) to_n u.adds }
+    let last = uplink t up_grant up n in
+    let down' = downlink_turn t down_grant down l in
+    let up' = uplink_turn t up_grant up n in
+    let nb : last.nb.sender ≡ m.nb.sender = up'.nb_rests ∙ ap (λ (s : Senders). s.nb) (loops_rests m) in
+    let ue : n.ue.sender ≡ l.ue.sender = ap (λ (s : Senders). s.ue) (loops_rests m) ∙ down'.1 in
+    record {
+      downward = d;
+      upward = u;
+      adds = adds_then d.flown u.flown l n last to_n u.adds;
+      down_turn = subst (λ (s : Sending). TakesTurn t (down_order down_grant) l.nb.sender s d.flown) (sym nb) down'.0;
+      up_order = up'.order;
+      up_turn = subst (λ (s : Sending). TakesTurn t up'.order s last.ue.sender u.flown) ue up'.ue_turn;
+    }
 
 -- from the number of a TTI on
-begun : (up_grant : ℕ) (up : Outcome) (down_grant : ℕ) (down : Outcome) (l r m : Link)
-    → Adds [] (begins l) r → Passes l.ttis up_grant up down_grant down r m → AddsTti up_grant up down_grant down l m
-begun up_grant up down_grant down l r m to_r p =
+begun : (asleep : Bool) (up_grant : ℕ) (up : Outcome) (down_grant : ℕ) (down : Outcome) (l r m : Link)
+    → Adds (sleeping asleep) (begins l) r → senders r ≡ senders l → Passes l.ttis up_grant (missed asleep up) down_grant (missed asleep down) r m
+    → AddsTti asleep up_grant up down_grant down l m
+begun asleep up_grant up down_grant down l r m to_r rests p =
     let b = begins l in
     let flown = p.downward.flown ++ p.upward.flown in
-    let all = adds_then [] flown b r m to_r p.adds in
+    let all = adds_then (sleeping asleep) flown b r m to_r p.adds in
     record {
       more = all.more;
       downward = p.downward.flown;
@@ -95,24 +116,27 @@ begun up_grant up down_grant down l r m to_r p =
       };
       down_is = p.downward.is_down;
       up_is = p.upward.is_up;
+      down_turn = subst (λ (s : Sending). TakesTurn l.ttis (down_order down_grant) s m.nb.sender p.downward.flown) (ap (λ (s : Senders). s.nb) rests) p.down_turn;
+      up_order = p.up_order;
+      up_turn = subst (λ (s : Sending). TakesTurn l.ttis p.up_order s m.ue.sender p.upward.flown) (ap (λ (s : Senders). s.ue) rests) p.up_turn;
     }
 
 pub tti_adds : (up_grant : ℕ) (up : Outcome) (down_grant : ℕ) (down : Outcome) (l : Link)
-    → AddsTti up_grant (heard up l) down_grant (heard down l) l (tti up_grant up down_grant down l)
+    → AddsTti (sleeps l.ttis l) up_grant up down_grant down l (tti up_grant up down_grant down l)
 unfolding tti tti_by
 tti_adds up_grant up down_grant down l =
     let asleep = sleeps l.ttis l in
     let b = begins l in
     let s = tells_sleep asleep b in
     let r = timed s in
-    let to_r = adds_then [] [] b s r (sleep_adds asleep b) (timed_adds s) in
-    begun up_grant (heard up l) down_grant (heard down l) l r (tti up_grant up down_grant down l) to_r (passes_adds l.ttis up_grant (heard up l) down_grant (heard down l) r)
+    let to_r = then_still (sleeping asleep) b s r (sleep_adds asleep b) (timed_adds s) in
+    begun asleep up_grant up down_grant down l r (tti up_grant up down_grant down l) to_r (woken_rests asleep l) (passes_adds l.ttis up_grant (missed asleep up) down_grant (missed asleep down) r)
 
-pub drain_adds : (grant : ℕ) (l : Link) → AddsTti grant intact grant intact l (drain_tti grant l)
+pub drain_adds : (grant : ℕ) (l : Link) → AddsTti false grant intact grant intact l (drain_tti grant l)
 unfolding drain_tti
 drain_adds grant l =
     let b = begins l in
     let m = grows Nb b in
     let r = grows Ue m in
     let to_r = adds_then [] [] b m r (grows_adds Nb b) (grows_adds Ue m) in
-    begun grant intact grant intact l r (drain_tti grant l) to_r (passes_adds l.ttis grant intact grant intact r)
+    begun false grant intact grant intact l r (drain_tti grant l) to_r (grown_rests l) (passes_adds l.ttis grant intact grant intact r)

@@ -1,5 +1,5 @@
 -- Counts through a run.
-use Rattle.std.proofs.Common.{◌≡◌, ◌<◌, ℕ, ◌+◌, Option, Some, None, List, [], ◌∷◌, ◌++◌, length, map, replicate, append-nil, refl, ap, sym, ◌∙◌, arith}
+use Rattle.std.proofs.Common.{◌≡◌, ◌<◌, ℕ, ◌+◌, false, Option, Some, None, List, [], ◌∷◌, ◌++◌, length, map, replicate, append-nil, refl, ap, sym, ◌∙◌, arith}
 use Rattle.std.specs.Prelude.{slice_index}
 use Rattle.std.specs.List.{filter, range_with_len}
 use Rattle.std.proofs.lemmas.List.{get_or-replicate}
@@ -13,9 +13,10 @@ use Rattle.l2_types.specs.declared.side.Side.{Side}
 use Rattle.l2_types.specs.declared.side.Side.TheVariants.{Nb, Ue}
 use Rattle.air_link.specs.Draining.{intact}
 use Rattle.air_link.specs.Link.{Link, fresh}
+use Rattle.air_link.specs.Ttis.{sleeps}
 use Rattle.link_laws.specs.Counts.{is_up, is_looped, is_of_run, ups, loopeds, Grows}
 use Rattle.link_laws.specs.Calls.{Call}
-use Rattle.link_laws.specs.Told.{heard, why_refused, refusals, accepted, Adds, AddsTti, AddsSubmitted}
+use Rattle.link_laws.specs.Told.{why_refused, refusals, accepted, Adds, AddsTti, AddsSubmitted}
 use Rattle.link_laws.specs.Runs.{Step, Tti, Drains, Submit, Calls, step, handed, Run, goes, goes_on, run, IsTable, IsCounted}
 use Rattle.link_laws.proofs.Adding.{same_grows, count_then}
 use Rattle.link_laws.proofs.Calling.{calls_adds, submitting_adds}
@@ -23,10 +24,10 @@ use Rattle.link_laws.proofs.Passing.{tti_adds, drain_adds}
 
 -- ---- tables
 
-grows_as : (f g : ℕ → ℕ) (xs ys : List ℕ) → ((k : ℕ) → g k ≡ f k) → Grows f xs ys → Grows g xs ys
+pub grows_as : (f g : ℕ → ℕ) (xs ys : List ℕ) → ((k : ℕ) → g k ≡ f k) → Grows f xs ys → Grows g xs ys
 grows_as f g xs ys e p = record { same_length = p.same_length; grown = λ k lt. let now = p.grown k lt in omega (arith, now, e k) }
 
-table_grows : (f g h : ℕ → ℕ) (xs ys : List ℕ) → ((k : ℕ) → h k ≡ f k + g k) → IsTable f xs → Grows g xs ys → IsTable h ys
+pub table_grows : (f g h : ℕ → ℕ) (xs ys : List ℕ) → ((k : ℕ) → h k ≡ f k + g k) → IsTable f xs → Grows g xs ys → IsTable h ys
 table_grows f g h xs ys e t p = record {
   size = p.same_length ∙ t.size;
   each = λ k lt.
@@ -74,7 +75,7 @@ call_adds c l m a = record {
 }
 
 tti_step : (up_grant : ℕ) (up : Outcome) (down_grant : ℕ) (down : Outcome) (l m : Link)
-    → AddsTti up_grant (heard up l) down_grant (heard down l) l m → StepAdds (Tti up_grant up down_grant down) l m
+    → AddsTti (sleeps l.ttis l) up_grant up down_grant down l m → StepAdds (Tti up_grant up down_grant down) l m
 tti_step up_grant up down_grant down l m a = record {
   more = records.Tti l.ttis ∷ a.more;
   out_is = a.out_is;
@@ -85,7 +86,7 @@ tti_step up_grant up down_grant down l m a = record {
   numbered = λ j e. next_numbered j a.more l.ttis m.ttis a.told.none_of_run a.ttis_is e;
 }
 
-drain_step : (grant : ℕ) (l m : Link) → AddsTti grant intact grant intact l m → StepAdds (Drains grant) l m
+drain_step : (grant : ℕ) (l m : Link) → AddsTti false grant intact grant intact l m → StepAdds (Drains grant) l m
 drain_step grant l m a = record {
   more = records.Tti l.ttis ∷ a.more;
   out_is = a.out_is;
@@ -96,15 +97,15 @@ drain_step grant l m a = record {
   numbered = λ j e. next_numbered j a.more l.ttis m.ttis a.told.none_of_run a.ttis_is e;
 }
 
-no_ups : (why : Option NoPlace) (side s : Side) (lcid k : ℕ) → ups s k (refusals side lcid why) ≡ 0
+pub no_ups : (why : Option NoPlace) (side s : Side) (lcid k : ℕ) → ups s k (refusals side lcid why) ≡ 0
 no_ups None side s lcid k = refl
 no_ups (Some why) side s lcid k = refl
 
-no_loops : (why : Option NoPlace) (side : Side) (lcid k : ℕ) → loopeds k (refusals side lcid why) ≡ 0
+pub no_loops : (why : Option NoPlace) (side : Side) (lcid k : ℕ) → loopeds k (refusals side lcid why) ≡ 0
 no_loops None side lcid k = refl
 no_loops (Some why) side lcid k = refl
 
-no_runs : (why : Option NoPlace) (side : Side) (lcid : ℕ) → filter is_of_run (refusals side lcid why) ≡ []
+pub no_runs : (why : Option NoPlace) (side : Side) (lcid : ℕ) → filter is_of_run (refusals side lcid why) ≡ []
 no_runs None side lcid = refl
 no_runs (Some why) side lcid = refl
 

@@ -25,7 +25,7 @@ use Rattle.pdu_show.specs.declared.kinds.Layout.TheVariants as layouts
 use Rattle.pdu_show.specs.Show.{user_shown, srb_shown, pdcp_shown, begins, ends, whole, wholes_shown, tm_shown, um_shown, amd_shown, am_shown, rlc_shown, item_shown, items_shown, shown_by, block_shown}
 use Rattle.air_link.specs.Link.{Link}
 use Rattle.air_link.specs.Downlink.{shows}
-use Rattle.link_laws.specs.Counts.{is_up, is_looped, is_of_run, is_flight, ups, loopeds}
+use Rattle.link_laws.specs.Counts.{is_up, is_looped, is_of_run, is_of_air, ups, loopeds}
 use Rattle.link_laws.specs.Told.{Adds}
 use Rattle.link_laws.proofs.Adding.{same_grows}
 
@@ -52,24 +52,24 @@ record IsStill (one : Record) : Type 0 where
   no_up : (side : Side) (lcid : ℕ) → is_up side lcid one ≡ false
   no_loop : (lcid : ℕ) → is_looped lcid one ≡ false
   no_run : is_of_run one ≡ false
-  no_flight : is_flight one ≡ false
+  not_of_air : is_of_air one ≡ false
 
 still : (one : Record) → is_shown one ≡ true → IsStill one
-still records.MacFront h = record { no_up = λ s k. refl; no_loop = λ k. refl; no_run = refl; no_flight = refl }
-still (records.MacSdu lcid len) h = record { no_up = λ s k. refl; no_loop = λ k. refl; no_run = refl; no_flight = refl }
-still (records.MacPad octets) h = record { no_up = λ s k. refl; no_loop = λ k. refl; no_run = refl; no_flight = refl }
-still (records.MacControl control) h = record { no_up = λ s k. refl; no_loop = λ k. refl; no_run = refl; no_flight = refl }
-still (records.RlcTm len) h = record { no_up = λ s k. refl; no_loop = λ k. refl; no_run = refl; no_flight = refl }
-still (records.RlcUm sn fi lens) h = record { no_up = λ s k. refl; no_loop = λ k. refl; no_run = refl; no_flight = refl }
-still (records.RlcAm sn poll fi lens) h = record { no_up = λ s k. refl; no_loop = λ k. refl; no_run = refl; no_flight = refl }
-still (records.RlcSeg sn poll fi last so lens) h = record { no_up = λ s k. refl; no_loop = λ k. refl; no_run = refl; no_flight = refl }
-still (records.RlcStatus ack nacks) h = record { no_up = λ s k. refl; no_loop = λ k. refl; no_run = refl; no_flight = refl }
-still (records.PdcpData sn len) h = record { no_up = λ s k. refl; no_loop = λ k. refl; no_run = refl; no_flight = refl }
-still (records.PdcpSrb sn len tag) h = record { no_up = λ s k. refl; no_loop = λ k. refl; no_run = refl; no_flight = refl }
-still (records.PdcpReport fms bitmap) h = record { no_up = λ s k. refl; no_loop = λ k. refl; no_run = refl; no_flight = refl }
-still (records.BadMac fault) h = record { no_up = λ s k. refl; no_loop = λ k. refl; no_run = refl; no_flight = refl }
-still (records.BadRlc fault) h = record { no_up = λ s k. refl; no_loop = λ k. refl; no_run = refl; no_flight = refl }
-still (records.BadPdcp fault) h = record { no_up = λ s k. refl; no_loop = λ k. refl; no_run = refl; no_flight = refl }
+still records.MacFront h = record { no_up = λ s k. refl; no_loop = λ k. refl; no_run = refl; not_of_air = refl }
+still (records.MacSdu lcid len) h = record { no_up = λ s k. refl; no_loop = λ k. refl; no_run = refl; not_of_air = refl }
+still (records.MacPad octets) h = record { no_up = λ s k. refl; no_loop = λ k. refl; no_run = refl; not_of_air = refl }
+still (records.MacControl control) h = record { no_up = λ s k. refl; no_loop = λ k. refl; no_run = refl; not_of_air = refl }
+still (records.RlcTm len) h = record { no_up = λ s k. refl; no_loop = λ k. refl; no_run = refl; not_of_air = refl }
+still (records.RlcUm sn fi lens) h = record { no_up = λ s k. refl; no_loop = λ k. refl; no_run = refl; not_of_air = refl }
+still (records.RlcAm sn poll fi lens) h = record { no_up = λ s k. refl; no_loop = λ k. refl; no_run = refl; not_of_air = refl }
+still (records.RlcSeg sn poll fi last so lens) h = record { no_up = λ s k. refl; no_loop = λ k. refl; no_run = refl; not_of_air = refl }
+still (records.RlcStatus ack nacks) h = record { no_up = λ s k. refl; no_loop = λ k. refl; no_run = refl; not_of_air = refl }
+still (records.PdcpData sn len) h = record { no_up = λ s k. refl; no_loop = λ k. refl; no_run = refl; not_of_air = refl }
+still (records.PdcpSrb sn len tag) h = record { no_up = λ s k. refl; no_loop = λ k. refl; no_run = refl; not_of_air = refl }
+still (records.PdcpReport fms bitmap) h = record { no_up = λ s k. refl; no_loop = λ k. refl; no_run = refl; not_of_air = refl }
+still (records.BadMac fault) h = record { no_up = λ s k. refl; no_loop = λ k. refl; no_run = refl; not_of_air = refl }
+still (records.BadRlc fault) h = record { no_up = λ s k. refl; no_loop = λ k. refl; no_run = refl; not_of_air = refl }
+still (records.BadPdcp fault) h = record { no_up = λ s k. refl; no_loop = λ k. refl; no_run = refl; not_of_air = refl }
 still (records.Line number line) h = absurd (false≢true h)
 still (records.Tti tti) h = absurd (false≢true h)
 still records.Sleep h = absurd (false≢true h)
@@ -175,7 +175,7 @@ shows_adds direction block l =
         ue_delivered = same_grows (λ k. ups Ue k rs) l.down.delivered l.down.delivered refl (λ k. none_counted (is_up Ue k) rs (λ one h. (still one h).no_up Ue k) a);
         nb_submitted = refl;
         ue_submitted = same_grows (λ k. loopeds k rs) l.up.submitted l.up.submitted refl (λ k. none_counted (is_looped k) rs (λ one h. (still one h).no_loop k) a);
-        flown_is = none_kept is_flight (λ one h. (still one h).no_flight) rs a;
+        flown_is = none_kept is_of_air (λ one h. (still one h).not_of_air) rs a;
         none_of_run = none_kept is_of_run (λ one h. (still one h).no_run) rs a;
       };
     }

@@ -8,7 +8,7 @@ use Rattle.l2_types.specs.declared.side.Side.{Side}
 use Rattle.test_loop.specs.declared.Mode.{Mode}
 use Rattle.air_link.specs.Link.{Link}
 use Rattle.air_link.specs.Loops.{loop_set}
-use Rattle.air_link.specs.Draining.{waits_expire, polls_expire}
+use Rattle.air_link.specs.Draining.{receivers_expire, senders_expire}
 use Rattle.air_link.specs.Lines.{bears, discards, visits, reports, listens, expires, forges, hands_over}
 
 pub data Call : Type 0 where
@@ -21,8 +21,8 @@ pub data Call : Type 0 where
   Expires : Side → ℕ → Clock → Call
   Forges : Side → List ℕ → Call
   HandsOver : Keys → Call
-  WaitsExpire : Call  -- in a drain
-  PollsExpire : Call
+  ReceiversExpire : Call  -- in a drain
+  SendersExpire : Call
 
 abbrev pub after : Call → Link → Link
 after (Bears c keys) l = bears c keys l
@@ -34,5 +34,5 @@ after (Loops mode) l = loop_set mode l
 after (Expires side lcid clock) l = expires side lcid clock l
 after (Forges side block) l = forges side block l
 after (HandsOver keys) l = hands_over keys l
-after WaitsExpire l = waits_expire l
-after PollsExpire l = polls_expire l
+after ReceiversExpire l = receivers_expire l
+after SendersExpire l = senders_expire l

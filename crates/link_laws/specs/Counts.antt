@@ -39,11 +39,12 @@ is_of_run (records.Sum direction lcid submitted delivered state) = true
 is_of_run (records.Shown number direction len) = true
 is_of_run one = false
 
--- a block that is sent, or what comes of one
-abbrev pub is_flight : Record → Bool
-is_flight (records.Block direction process fresh rv octets) = true
-is_flight (records.Air direction what heard) = true
-is_flight one = false
+-- what is told of the air: that the terminal sleeps, a block that is sent, or what comes of one
+abbrev pub is_of_air : Record → Bool
+is_of_air records.Sleep = true
+is_of_air (records.Block direction process fresh rv octets) = true
+is_of_air (records.Air direction what heard) = true
+is_of_air one = false
 
 -- a table of counts by LCID grows in each place by so much
 pub record Grows (by : ℕ → ℕ) (before after : List ℕ) : Type 0 where

@@ -1,5 +1,6 @@
 pub mod Counts
 pub mod Flights
 pub mod Calls
+pub mod Deeds
 pub mod Told
 pub mod Runs

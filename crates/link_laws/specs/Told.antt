@@ -1,5 +1,5 @@
 -- What each call of a link adds to the records, and that these tell which SDUs were submitted and delivered.
-use Rattle.std.specs.Prelude.{◌≡◌, ℕ, ◌+◌, ◌==◌, if◌then◌else◌, Option, Some, None, option_map, List, [], ◌∷◌, ◌++◌}
+use Rattle.std.specs.Prelude.{◌≡◌, ℕ, ◌+◌, ◌==◌, Bool, true, false, if◌then◌else◌, Option, Some, None, option_map, List, [], ◌∷◌, ◌++◌}
 use Rattle.std.specs.List.{filter}
 use Rattle.air_record.specs.declared.line.Outcome.{Outcome}
 use Rattle.air_record.specs.declared.record.NoPlace.{NoPlace}
@@ -12,7 +12,10 @@ use Rattle.air_link.specs.Link.{Link, end_of, sent_flows, other}
 use Rattle.air_link.specs.Draining.{intact, drain_tti}
 use Rattle.air_link.specs.Lines.{no_place, submitting}
 use Rattle.air_link.specs.Ttis.{sleeps, missed, tti}
-use Rattle.link_laws.specs.Counts.{ups, loopeds, is_of_run, is_flight, Grows}
+use Rattle.link_laws.specs.Counts.{ups, loopeds, is_of_run, is_of_air, Grows}
+use Rattle.air_link.specs.Downlink.{down_order}
+use Rattle.harq.specs.declared.sender.Order.{Order}
+use Rattle.link_laws.specs.Deeds.{TakesTurn}
 use Rattle.link_laws.specs.Flights.{IsDown, IsUp}
 use Rattle.link_laws.specs.Calls.{Call, after}
 
@@ -23,14 +26,14 @@ submitted_at side l = (sent_flows side l).submitted
 abbrev pub delivered_at : Side → Link → List ℕ
 delivered_at side l = (sent_flows (other side) l).delivered
 
--- from one link to another each `up` is an SDU delivered, and each `loop` one that the terminal submits; these blocks fly, and
--- nothing is told that only a run tells
+-- from one link to another each `up` is an SDU delivered, and each `loop` one that the terminal submits; this is told of the
+-- air, and nothing that only a run tells
 pub record Tells (more flown : List Record) (l m : Link) : Type 0 where
   pub nb_delivered : Grows (λ lcid. ups Nb lcid more) (delivered_at Nb l) (delivered_at Nb m)
   pub ue_delivered : Grows (λ lcid. ups Ue lcid more) (delivered_at Ue l) (delivered_at Ue m)
   pub nb_submitted : submitted_at Nb m ≡ submitted_at Nb l
   pub ue_submitted : Grows (λ lcid. loopeds lcid more) (submitted_at Ue l) (submitted_at Ue m)
-  pub flown_is : filter is_flight more ≡ flown
+  pub flown_is : filter is_of_air more ≡ flown
   pub none_of_run : filter is_of_run more ≡ []
 
 -- records are added to those that are there
@@ -42,32 +45,35 @@ pub record Adds (flown : List Record) (l m : Link) : Type 0 where
 
 -- ---- the laws
 
--- no block flies but in a TTI
+-- nothing is told of the air but in a TTI
 abbrev pub CallsAreTold : Type 0
 CallsAreTold = (c : Call) (l : Link) → Adds [] l (after c l)
 
--- a TTI adds its number first; the block of the downlink flies before that of the uplink
-pub record AddsTti (up_grant : ℕ) (up : Outcome) (down_grant : ℕ) (down : Outcome) (l m : Link) : Type 0 where
+abbrev pub sleeping : Bool → List Record
+sleeping true = records.Sleep ∷ []
+sleeping false = []
+
+-- a TTI adds its number first; a terminal that sleeps misses both blocks; that of the downlink flies before that of the uplink
+pub record AddsTti (asleep : Bool) (up_grant : ℕ) (up : Outcome) (down_grant : ℕ) (down : Outcome) (l m : Link) : Type 0 where
   pub more : List Record
   pub downward : List Record
   pub upward : List Record
   pub out_is : m.out ≡ l.out ++ records.Tti l.ttis ∷ more
   pub ttis_is : m.ttis ≡ l.ttis + 1
-  pub told : Tells more (downward ++ upward) l m
-  pub down_is : IsDown l.ttis down_grant down downward
-  pub up_is : IsUp l.ttis up_grant up upward
-
--- a terminal that sleeps misses both
-abbrev pub heard : Outcome → Link → Outcome
-heard o l = missed (sleeps l.ttis l) o
+  pub told : Tells more (sleeping asleep ++ (downward ++ upward)) l m
+  pub down_is : IsDown l.ttis down_grant (missed asleep down) downward
+  pub up_is : IsUp l.ttis up_grant (missed asleep up) upward
+  pub down_turn : TakesTurn l.ttis (down_order down_grant) l.nb.sender m.nb.sender downward
+  pub up_order : Order
+  pub up_turn : TakesTurn l.ttis up_order l.ue.sender m.ue.sender upward
 
 abbrev pub TtisAreTold : Type 0
 TtisAreTold = (up_grant : ℕ) (up : Outcome) (down_grant : ℕ) (down : Outcome) (l : Link)
-    → AddsTti up_grant (heard up l) down_grant (heard down l) l (tti up_grant up down_grant down l)
+    → AddsTti (sleeps l.ttis l) up_grant up down_grant down l (tti up_grant up down_grant down l)
 
 -- in a drain nobody sleeps, and nothing is damaged
 abbrev pub DrainsAreTold : Type 0
-DrainsAreTold = (grant : ℕ) (l : Link) → AddsTti grant intact grant intact l (drain_tti grant l)
+DrainsAreTold = (grant : ℕ) (l : Link) → AddsTti false grant intact grant intact l (drain_tti grant l)
 
 -- why an SDU is refused, if it is
 abbrev pub why_refused : Side → ℕ → List ℕ → Link → Option NoPlace

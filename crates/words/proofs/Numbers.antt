@@ -8,7 +8,8 @@ use Rattle.std.specs.Str.Parse.{IsNumeral, ParsesUnsigned, digits_value, without
 use Rattle.clap.specs.Words.{first_of, first_value, rows_of}
 use Rattle.clap.specs.declared.parser.matches.Found.{Found}
 use Rattle.clap.proofs.WalkLemmas.{first_value-rows}
-use Rattle.words.specs.Commands.{is_digit, is_number, number_in, value_behind}
+use Rattle.digits.specs.Numerals.{is_digit, value_behind}
+use Rattle.words.specs.Commands.{is_number, number_in}
 
 both : (a b : Bool) → (a && b) ≡ true → (a ≡ true) × (b ≡ true)
 both true b h = (refl, h)

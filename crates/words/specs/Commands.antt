@@ -3,16 +3,9 @@ use Rattle.std.specs.Prelude.{ℕ, ◌+◌, ◌-◌, ◌*◌, Bool, ◌&&◌, if
 use Rattle.std.specs.List.{list_all}
 use Rattle.std.specs.Str.{bytes_eq}
 use Rattle.std.specs.Str.Parse.{without_leading_plus}
+use Rattle.digits.specs.Numerals.{is_digit, value_behind}
 use Rattle.words.specs.declared.command.Command.{Command}
 use Rattle.words.specs.declared.command.Command.TheVariants.{Run, Decode, Generate}
-
-abbrev pub is_digit : ℕ → Bool
-is_digit x = nat_le 48 x && nat_le x 57
-
--- the number that digits say, behind a number that was read
-abbrev pub value_behind : ℕ → List ℕ → ℕ
-value_behind n [] = n
-value_behind n (x ∷ xs) = value_behind (n * 10 + (x - 48)) xs
 
 -- digits alone, one or more, of a number of 32 bits
 abbrev pub is_number : List ℕ → Bool

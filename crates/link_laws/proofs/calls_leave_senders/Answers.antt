@@ -1,0 +1,5 @@
+use Rattle.link_laws.proofs.Leaving.{calls_leave}
+use Rattle.link_laws.proofs.calls_leave_senders.Goals as goal
+
+pub returns : goal.returns
+returns c = calls_leave
