@@ -2,9 +2,11 @@
 use Rattle.std.proofs.Common.{Bool, ℕ, List}
 use Rattle.run_laws.specs.Promises.{IsPromised}
 use Rattle.air_run.specs.Journal.{journal_of}
+use Rattle.run_laws.proofs.Past.{behind}
+use Rattle.run_laws.proofs.Processes.{are_carried}
 use Rattle.run_laws.proofs.Playing.{tells-all}
 
 pub every-journal : (whole : Bool) (octets : List ℕ) → IsPromised (journal_of whole octets)
 every-journal whole octets =
     let t = tells-all whole octets in
-    record { past = t.later; journal_is = rw t.history_is t.journal_is; order = t.order }
+    record { past = t.later; journal_is = rw t.history_is t.journal_is; order = t.order; in_turn = (behind t.later t.order).in_turn; carried = are_carried t.later _ (behind t.later t.order).processes }

@@ -1,5 +1,5 @@
 -- A line adds a group.
-use Rattle.std.proofs.Common.{◌≡◌, ◌∙◌, ℕ, List, [], ◌∷◌, ◌++◌, refl, ap, sym, append-nil}
+use Rattle.std.proofs.Common.{◌≡◌, ℕ, List, [], ◌∷◌, ◌++◌, refl, sym, append-nil}
 use Rattle.std.specs.Prelude.{Option, Some, None, Result, Ok, Err}
 use Rattle.air_record.specs.declared.line.Line.{Line}
 use Rattle.air_record.specs.declared.line.Line.TheVariants as lines
@@ -13,7 +13,8 @@ use Rattle.air_run.specs.declared.refusal.RunRefusal.{RunRefusal}
 use Rattle.air_run.specs.Journal.{Outcome, Goes, Ends, Refuses, left_by, read_by, script_line}
 use Rattle.air_run.specs.Rules.{refusal}
 use Rattle.air_run.specs.Run.{RunState, Left, behind_line, done, step_by}
-use Rattle.run_laws.specs.Order.{state_behind, IsRight, KeepsOrder}
+use Rattle.run_laws.specs.Order.{state_behind, KeepsOrder}
+use Rattle.run_laws.proofs.Past.{behind, of_their_time}
 use Rattle.run_laws.proofs.Ranges.{lines-in-range}
 
 -- the groups behind a line, and the state that they give
@@ -32,7 +33,7 @@ adds : (past : List Group) (number : ℕ) (line : Line) → KeepsOrder past → 
 adds past number line order fits allowed = record {
   later = group number line (behind_line line (state_behind past)).out ∷ past;
   state_is = refl;
-  order = (record { in_range = fits; allowed = allowed; events_are = refl }, order);
+  order = (record { in_range = fits; allowed = allowed; events_are = refl; of_its_time = of_their_time past line (behind past order) }, order);
   history_is = refl;
 }
 

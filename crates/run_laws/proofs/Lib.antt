@@ -1,4 +1,13 @@
 pub mod Ranges
+pub mod Records
+pub mod Hearing
+pub mod Building
+pub mod Carrying
+pub mod Ttis
+pub mod Lines
+pub mod Processes
+pub mod Past
+pub mod Ending
 pub mod Growing
 pub mod Playing
 pub mod Everything

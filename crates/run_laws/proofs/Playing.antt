@@ -8,7 +8,10 @@ use Rattle.air_run.specs.Lines.{lines_ended, tail_of}
 use Rattle.air_run.specs.Run.{RunState, fresh, finish}
 use Rattle.air_run.specs.Journal.{Outcome, Goes, Ends, Refuses, Close, Refused, Waiting, Played, onto, finished, refused, waiting, follow, on_line, on_last, close_by, play, journal_from, journal_of, script, script_line}
 use Rattle.air_text.specs.Groups.{Group, history}
-use Rattle.run_laws.specs.Order.{state_behind, KeepsOrder, sums_at}
+use Rattle.run_laws.specs.Order.{state_behind, KeepsOrder}
+use Rattle.run_laws.specs.Sums.{sums_at}
+use Rattle.run_laws.proofs.Ending.{finish_told}
+use Rattle.run_laws.proofs.Past.{behind}
 use Rattle.run_laws.proofs.Growing.{Grows, LineTo, line-to}
 
 -- what is played behind groups: further ones, and the sums
@@ -25,7 +28,7 @@ tells-end past r h order = record {
   part = [];
   order = order;
   history_is = sym (append-nil (history past));
-  journal_is = ap finish h;
+  journal_is = ap finish h ∙ finish_told past (behind past order);
 }
 
 tells-nothing : (past : List Group) (close : Close) → sums_at close past ≡ [] → KeepsOrder past → Tells past (record { journal = []; close = close })

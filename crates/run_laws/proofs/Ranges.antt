@@ -3,6 +3,7 @@ use Rattle.std.proofs.Common.{◌≡◌, ◌≤◌, ◌<◌, ◌==◌, ◌⊎◌
 use Rattle.std.proofs.lemmas.Bool.Decides.{nat_tests}
 use Rattle.std.specs.Prelude.{Option, None, Some, IfSome, Result, Ok, Err, slice_index}
 use Rattle.std.specs.Str.{bytes_eq}
+use Rattle.digits.specs.Numerals.{value_behind}
 use Rattle.hex.specs.Hex.{decode_of}
 use Rattle.hex.specs.declared.error.FromHexError.{FromHexError}
 use Rattle.air_record.specs.declared.line.Line.{Line}
@@ -16,7 +17,7 @@ use Rattle.bearer_types.specs.Configs.{IsConfig, AreRlcBits, ArePdcpBits}
 use Rattle.air_text.specs.declared.options.Name.{Name}
 use Rattle.air_text.specs.declared.options.Name.TheVariants.{Prio, Pbr, Bsd, Lcg, Reorder, Sn, Psn, PollPdu, PollByte, PollRetx, MaxRetx, Prohibit, Count}
 use Rattle.air_text.specs.Words.{◌>>=◌, words_of, is_twice, joined, before_equals, behind_equals}
-use Rattle.air_text.specs.Fields.{either_of, limit_of, number_of, is_number, value_behind, octets_of, octets_in, side_of, outcome_of, kind_of, cipher_of}
+use Rattle.air_text.specs.Fields.{either_of, limit_of, number_of, is_number, octets_of, octets_in, side_of, outcome_of, kind_of, cipher_of}
 use Rattle.air_text.specs.Options.{goes, config_of, has, name_of, psn_of, option_of, named_option, cut_option, word_option, options_of}
 use Rattle.air_text.specs.Reading.{read_of, read_words, line_of, key_of, harq_of, bsr_of, keys_of, bearer_of, submit_of, tti_of, expire_of, handover_of, loop_of, loop_off_of, loop_a_of, loop_b_of, drain_of, forge_of, end_of, discard_of, drx_of}
 use Rattle.air_text.specs.Ranges.{IsInRange}
@@ -80,12 +81,6 @@ octets-fit : (most : ℕ) (text octets : List ℕ) → octets_of most text ≡ O
 unfolding octets_of
 octets-fit most text octets e = octets-by (length text == 0) most text octets refl e
 
-harq-range : (fields : List (List ℕ)) → Behind IsInRange (harq_of fields)
-unfolding harq_of
-harq-range [] = refused IsInRange _
-harq-range (a ∷ []) = search (bind, given)
-harq-range (a ∷ b ∷ fields) = refused IsInRange _
-
 bsr-range : (fields : List (List ℕ)) → Behind IsInRange (bsr_of fields)
 unfolding bsr_of
 bsr-range [] = refused IsInRange _
@@ -120,6 +115,13 @@ number-least least most n text e = least-by (is_number text) (nat_lt most (value
 
 number-range : (least most n : ℕ) (text : List ℕ) → number_of least most text ≡ Ok n → (least ≤ n) × (n ≤ most)
 number-range least most n text e = (number-least least most n text e, number-most least most n text e)
+
+harq-range : (fields : List (List ℕ)) → Behind IsInRange (harq_of fields)
+unfolding harq_of
+harq-range [] = refused IsInRange _
+harq-range (a ∷ []) =
+    bind IsInRange (number_of 1 28 a) (λ n. Ok (lines.Harq n)) (λ n e. given IsInRange (lines.Harq n) (let r = number-range 1 28 n a e in record { some = r.0; few = r.1 }))
+harq-range (a ∷ b ∷ fields) = refused IsInRange _
 
 -- a limit that is a number
 abbrev Within : ℕ → ℕ → Option ℕ → Type 0

@@ -1,0 +1,50 @@
+-- The SDUs of a flow as the journal tells them: those submitted and those delivered, in order.
+use Rattle.std.specs.Prelude.{ℕ, ◌==◌, Bool, true, false, not, ◌&&◌, if◌then◌else◌, List, [], ◌∷◌, ◌++◌, map}
+use Rattle.std.specs.List.{filter, list_any}
+use Rattle.air_record.specs.declared.record.Record.{Record}
+use Rattle.air_record.specs.declared.record.Record.TheVariants as records
+use Rattle.air_text.specs.Groups.{Group}
+use Rattle.bearer_types.specs.declared.event.Event.TheVariants.{Up}
+use Rattle.l2_types.specs.declared.side.Side.{Side}
+use Rattle.l2_types.specs.declared.side.Side.TheVariants.{Nb, Ue}
+use Rattle.link_laws.specs.Counts.{is_same, is_up, is_looped}
+use Rattle.run_laws.specs.Parts.{Part, Submits, part}
+
+-- the SDU of an `up` or of a `loop` record
+abbrev pub sdu_of : Record → List ℕ
+sdu_of (records.Of side (Up lcid octets)) = octets
+sdu_of (records.Looped lcid octets) = octets
+sdu_of one = []
+
+-- the SDUs that go up at a side, on a channel, and those that the test loop submits
+abbrev pub ups_in : Side → ℕ → List Record → List (List ℕ)
+ups_in side lcid told = map sdu_of (filter (is_up side lcid) told)
+
+abbrev pub loops_in : ℕ → List Record → List (List ℕ)
+loops_in lcid told = map sdu_of (filter (is_looped lcid) told)
+
+-- the SDU of a `submit` line, where no record tells that it is refused
+abbrev pub is_refused : Record → Bool
+is_refused (records.Refused side lcid why) = true
+is_refused one = false
+
+abbrev pub handed_in : Side → ℕ → Part → List Record → List (List ℕ)
+handed_in side lcid (Submits s l octets) told = if is_same s side && (not (list_any is_refused told) && l == lcid) then octets ∷ [] else []
+handed_in side lcid other told = []
+
+-- the test loop stands at the terminal
+abbrev pub looped_at : Side → ℕ → List Record → List (List ℕ)
+looped_at Nb lcid told = []
+looped_at Ue lcid told = loops_in lcid told
+
+-- ---- of a journal in groups, of which the newest stands first
+
+-- the SDUs that a side submitted on a channel
+abbrev pub submitted : Side → ℕ → List Group → List (List ℕ)
+submitted side lcid [] = []
+submitted side lcid (g ∷ past) = submitted side lcid past ++ (handed_in side lcid (part g.line) g.events ++ looped_at side lcid g.events)
+
+-- those that were handed up there
+abbrev pub delivered : Side → ℕ → List Group → List (List ℕ)
+delivered side lcid [] = []
+delivered side lcid (g ∷ past) = delivered side lcid past ++ ups_in side lcid g.events

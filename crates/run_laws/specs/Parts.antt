@@ -1,0 +1,18 @@
+-- What a line is to flows and to time.
+use Rattle.std.specs.Prelude.{ℕ, List}
+use Rattle.air_record.specs.declared.line.Line.{Line}
+use Rattle.air_record.specs.declared.line.Line.TheVariants as lines
+use Rattle.air_record.specs.declared.line.Outcome.{Outcome}
+use Rattle.l2_types.specs.declared.side.Side.{Side}
+
+pub data Part : Type 0 where
+  Submits : Side → ℕ → List ℕ → Part
+  Passes : ℕ → Outcome → ℕ → Outcome → Part
+  Drains : ℕ → Part
+  Rests : Part
+
+abbrev pub part : Line → Part
+part (lines.Submit side lcid octets) = Submits side lcid octets
+part (lines.Tti up_grant up down_grant down) = Passes up_grant up down_grant down
+part (lines.Drain grant) = Drains grant
+part line = Rests
