@@ -6,10 +6,10 @@ use Rattle.l2_num.specs.Ascending.{AreBetween}
 use Rattle.l2_types.specs.declared.Side.{Side}
 use Rattle.pdcp_pdu.specs.declared.PdcpKind.{PdcpKind}
 use Rattle.pdcp_pdu.specs.declared.PdcpKind.TheVariants.{Srb, Um, Am}
-use Rattle.pdcp_tx.specs.declared.given.Sent.{Sent}
-use Rattle.pdcp_tx.specs.declared.given.Entry.{Entry}
-use Rattle.pdcp_tx.specs.declared.given.Entry.TheVariants.{Data, Own, Gone}
-use Rattle.pdcp_tx.specs.Given.{first_open, first_unacked, from_unacked, data_of}
+use Rattle.pdcp_kept.specs.declared.given.Sent.{Sent}
+use Rattle.pdcp_kept.specs.declared.given.Entry.{Entry}
+use Rattle.pdcp_kept.specs.declared.given.Entry.TheVariants.{Data, Own, Gone}
+use Rattle.pdcp_kept.specs.Given.{first_open, first_unacked, from_unacked, data_of}
 use Rattle.pdcp_tx.specs.State.{State, or_else, low, kept_again, first_again, restarted as restarted_sending}
 use Rattle.pdcp_tx.specs.Runs.{IsOrdered}
 use Rattle.pdcp_rx.specs.State.{restarted as restarted_receiving}

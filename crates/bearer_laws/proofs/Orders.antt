@@ -1,9 +1,9 @@
 -- In a life the report is taken first, and then SDUs by ascending COUNTs.
 use Rattle.std.proofs.Common.{◌≡◌, ◌≤◌, ℕ, ◌+◌, ◌-◌, Bool, true, false, List, [], ◌∷◌, ◌++◌, map, take, Option, Some, None, subst, refl, arith}
 use Rattle.l2_num.specs.Ascending.{AreBetween}
-use Rattle.pdcp_tx.specs.declared.given.Sent.{Sent}
-use Rattle.pdcp_tx.specs.Waiting.{Waits}
-use Rattle.pdcp_tx.specs.Given.{tells, untold}
+use Rattle.pdcp_kept.specs.declared.given.Sent.{Sent}
+use Rattle.pdcp_kept.specs.Waiting.{Waits}
+use Rattle.pdcp_kept.specs.Given.{tells, untold}
 use Rattle.pdcp_tx.specs.State.{State, Offer, offers, owed_offers, again_offer, new_offers, submitted, took, took_owed, took_again, took_new, confirmed, reported, reported_from, fms_count, after_late}
 use Rattle.pdcp_tx.specs.Runs.{Submit, Take, Confirm, Report, Owe, Tick, Late, IsOrdered}
 use Rattle.pdcp_laws.specs.Lives.{Step, Calls, SetDiscard, Restart, goes}

@@ -9,7 +9,7 @@ use Rattle.pdcp_rx.specs.declared.Got.{Got}
 use Rattle.pdcp_rx.specs.declared.Got.TheVariants as got_as
 use Rattle.pdcp_rx.specs.Laws.{Arrive, happens}
 use Rattle.pdcp_rx.specs.State.{State as Receiving, got, arrived, restarted as restarted_receiving}
-use Rattle.pdcp_tx.specs.Waiting.{Waits}
+use Rattle.pdcp_kept.specs.Waiting.{Waits}
 use Rattle.pdcp_tx.specs.State.{State, Offer, offers, took, taking, is_overdue, after_late, reported, ticked, restarted as restarted_sending}
 use Rattle.pdcp_laws.specs.Lives.{Step, Calls as Calling, goes, run, leaves}
 use Rattle.pdcp_tx.specs.Runs.{Late}

@@ -9,11 +9,11 @@ use Rattle.l2_types.specs.declared.Side.{Side}
 use Rattle.pdcp_pdu.specs.declared.PdcpKind.{PdcpKind}
 use Rattle.pdcp_pdu.specs.declared.PdcpKind.TheVariants as pdcp
 use Rattle.pdcp_pdu.specs.Kinds.{is_am}
-use Rattle.pdcp_tx.specs.declared.given.Sent.{Sent}
-use Rattle.pdcp_tx.specs.declared.given.Entry.{Entry}
-use Rattle.pdcp_tx.specs.declared.given.Entry.TheVariants.{Data, Own, Gone}
-use Rattle.pdcp_tx.specs.Waiting.{Waits}
-use Rattle.pdcp_tx.specs.Given.{Given, is_open, trimmed, closed, settled, with_entry, acked, acked_at, entry_at, with_ack, tells, heard, with_report}
+use Rattle.pdcp_kept.specs.declared.given.Sent.{Sent}
+use Rattle.pdcp_kept.specs.declared.given.Entry.{Entry}
+use Rattle.pdcp_kept.specs.declared.given.Entry.TheVariants.{Data, Own, Gone}
+use Rattle.pdcp_kept.specs.Waiting.{Waits}
+use Rattle.pdcp_kept.specs.Given.{Given, is_open, trimmed, closed, settled, with_entry, acked, acked_at, entry_at, with_ack, tells, heard, with_report}
 use Rattle.pdcp_tx.specs.State.{State, Offer, offers, owed_offers, again_offer, new_offers, start, submitted, took, took_owed, took_again, took_new, confirmed, reported, reported_from, fms_count, after_late, restarted as restarted_sending}
 use Rattle.pdcp_tx.specs.Runs.{Submit, Take, Confirm, Report, Owe, Tick, Late}
 use Rattle.pdcp_laws.specs.Lives.{Step, Calls, SetDiscard, Restart, goes, run}

@@ -4,9 +4,9 @@ use Rattle.bearer_types.specs.declared.BearerConfig.{BearerConfig}
 use Rattle.eps_sec.specs.declared.Keys.{Keys}
 use Rattle.l2_types.specs.declared.Kind.TheVariants as kinds
 use Rattle.l2_types.specs.declared.Side.{Side}
-use Rattle.pdcp_tx.specs.declared.given.Entry.{Entry}
-use Rattle.pdcp_tx.specs.declared.given.Entry.TheVariants.{Data, Own, Gone}
-use Rattle.pdcp_tx.specs.Given.{Given}
+use Rattle.pdcp_kept.specs.declared.given.Entry.{Entry}
+use Rattle.pdcp_kept.specs.declared.given.Entry.TheVariants.{Data, Own, Gone}
+use Rattle.pdcp_kept.specs.Given.{Given}
 use Rattle.pdcp_tx.specs.State.{Offer}
 use Rattle.bearer_parts.specs.Ends.{Ends}
 use Rattle.bearer.specs.declared.flow.Flow.{Flow}

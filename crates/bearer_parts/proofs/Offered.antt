@@ -1,9 +1,9 @@
 -- What may be taken, before and after the first of it is.
 use Rattle.std.proofs.Common.{◌≡◌, ◌<◌, ℕ, ◌+◌, ◌-◌, List, [], ◌∷◌, ◌++◌, length, drop, take, map, Option, Some, None, option_map, slice_get, subst, refl, ap, sym, ◌∙◌, arith}
 use Rattle.pdcp_pdu.specs.declared.PdcpKind.{PdcpKind}
-use Rattle.pdcp_tx.specs.declared.given.Sent.{Sent}
+use Rattle.pdcp_kept.specs.declared.given.Sent.{Sent}
 use Rattle.pdcp_tx.specs.declared.Next.{Next}
-use Rattle.pdcp_tx.specs.Waiting.{Waits}
+use Rattle.pdcp_kept.specs.Waiting.{Waits}
 use Rattle.pdcp_tx.specs.State.{State as Sending, Offer, offers, owed_offers, again_offer, new_offers, written, taking, took, took_owed, took_again, took_new}
 use Rattle.pdcp_tx.proofs.Head.{heads}
 use Rattle.bearer_parts.specs.Ends.{Ends}

@@ -2,7 +2,7 @@
 use Rattle.std.specs.Prelude.{ℕ, if◌then◌else◌, List, [], ◌∷◌, length}
 use Rattle.bearer_types.specs.declared.Event.{Event}
 use Rattle.bearer_types.specs.declared.Event.TheVariants as events
-use Rattle.pdcp_tx.specs.Waiting.{Waits}
+use Rattle.pdcp_kept.specs.Waiting.{Waits}
 use Rattle.pdcp_tx.specs.State.{State as Sending, is_overdue, after_late, ticked}
 use Rattle.bearer_parts.specs.Ends.{Ends}
 

@@ -4,12 +4,12 @@ use Rattle.eps_sec.specs.declared.Keys.{Keys}
 use Rattle.pdcp_pdu.specs.declared.PdcpKind.{PdcpKind}
 use Rattle.pdcp_pdu.specs.Kinds.{is_am}
 use Rattle.pdcp_sec.specs.Protection.{Protection}
-use Rattle.pdcp_tx.specs.declared.given.Sent.{Sent}
-use Rattle.pdcp_tx.specs.declared.given.Entry.{Entry}
-use Rattle.pdcp_tx.specs.declared.given.Entry.TheVariants.{Data, Own, Gone}
-use Rattle.pdcp_tx.specs.Waiting.{Waits}
+use Rattle.pdcp_kept.specs.declared.given.Sent.{Sent}
+use Rattle.pdcp_kept.specs.declared.given.Entry.{Entry}
+use Rattle.pdcp_kept.specs.declared.given.Entry.TheVariants.{Data, Own, Gone}
+use Rattle.pdcp_kept.specs.Waiting.{Waits}
 use Rattle.pdcp_tx.specs.Pdus.{width}
-use Rattle.pdcp_tx.specs.Given.{with_ack, entry_at, is_own, settled, with_report, untold, trimmed, first_open, first_unacked, from_unacked, data_of}
+use Rattle.pdcp_kept.specs.Given.{with_ack, entry_at, is_own, settled, with_report, untold, trimmed, first_open, first_unacked, from_unacked, data_of}
 use Rattle.pdcp_tx.specs.State.{State, start, sent, or_else, low, moved, submitted, took, took_owed, took_again, took_new, confirmed, reported, reported_from, fms_count, after_late, restarted, first_again, kept_again, next_from}
 use Rattle.pdcp_tx.specs.Runs.{Call, Submit, Take, Confirm, Report, Owe, Tick, Late}
 use Rattle.pdcp_laws.specs.Lives.{Step, Calls, SetDiscard, Restart, goes, run}

@@ -6,10 +6,10 @@ use Rattle.pdcp_pdu.specs.declared.PdcpKind.{PdcpKind}
 use Rattle.pdcp_pdu.specs.declared.PdcpKind.TheVariants.{Srb, Um, Am}
 use Rattle.pdcp_pdu.specs.Kinds.{is_am}
 use Rattle.pdcp_sec.specs.Protection.{Protection}
-use Rattle.pdcp_tx.specs.declared.given.Sent.{Sent}
-use Rattle.pdcp_tx.specs.declared.given.Entry.TheVariants.{Data}
-use Rattle.pdcp_tx.specs.Waiting.{Waits}
-use Rattle.pdcp_tx.specs.Given.{acked_at, entry_at, heard, untold, trimmed, data_of}
+use Rattle.pdcp_kept.specs.declared.given.Sent.{Sent}
+use Rattle.pdcp_kept.specs.declared.given.Entry.TheVariants.{Data}
+use Rattle.pdcp_kept.specs.Waiting.{Waits}
+use Rattle.pdcp_kept.specs.Given.{acked_at, entry_at, heard, untold, trimmed, data_of}
 use Rattle.pdcp_tx.specs.State.{State, start, sent, submitted, took, took_owed, took_again, took_new, confirmed, reported, reported_from, fms_count, after_late, restarted, next_from, kept_again}
 use Rattle.pdcp_tx.specs.Runs.{Submit, Take, Confirm, Report, Owe, Tick, Late, IsOrdered}
 use Rattle.pdcp_laws.specs.Lives.{Step, Calls, SetDiscard, Restart, goes, run}

@@ -3,8 +3,8 @@ use Rattle.std.proofs.Common.{◌≡◌, ◌≢◌, ℕ, zero, suc, ◌-◌, Boo
 use Rattle.std.proofs.lemmas.List.{append-nil}
 use Rattle.pdcp_pdu.specs.declared.PdcpKind.{PdcpKind}
 use Rattle.pdcp_pdu.specs.declared.PdcpKind.TheVariants.{Srb, Um, Am}
-use Rattle.pdcp_tx.specs.declared.given.Sent.{Sent}
-use Rattle.pdcp_tx.specs.Waiting.{Waits}
+use Rattle.pdcp_kept.specs.declared.given.Sent.{Sent}
+use Rattle.pdcp_kept.specs.Waiting.{Waits}
 use Rattle.pdcp_tx.specs.State.{State, submitted, took, took_owed, took_again, took_new, confirmed, reported, reported_from, fms_count, after_late, is_overdue, restarted, waiting_on}
 use Rattle.pdcp_tx.specs.Runs.{Submit, Take, Confirm, Report, Owe, Tick, Late}
 use Rattle.pdcp_laws.specs.Lives.{Step, Calls, SetDiscard, Restart, goes, run, first_sdu, new_behind, new_of, submits, submitted_in, leaves, left_in, queue}

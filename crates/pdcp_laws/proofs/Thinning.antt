@@ -2,10 +2,10 @@
 use Rattle.std.proofs.Common.{◌≡◌, ◌≤◌, ℕ, suc, zero, ◌+◌, ◌-◌, Bool, true, false, if◌then◌else◌, List, [], ◌∷◌, ◌++◌, map, Option, Some, None, slice_get, nat_lt, inl, inr, append_assoc, subst, refl, ap, sym, ◌∙◌, arith}
 use Rattle.std.proofs.lemmas.List.{append-nil}
 use Rattle.l2_num.specs.Ascending.{AreBetween}
-use Rattle.pdcp_tx.specs.declared.given.Sent.{Sent}
-use Rattle.pdcp_tx.specs.declared.given.Entry.{Entry}
-use Rattle.pdcp_tx.specs.declared.given.Entry.TheVariants.{Data, Own, Gone}
-use Rattle.pdcp_tx.specs.Given.{Given, trimmed, acked, acked_at, entry_at, tells, heard, untold, from_unacked, data_of}
+use Rattle.pdcp_kept.specs.declared.given.Sent.{Sent}
+use Rattle.pdcp_kept.specs.declared.given.Entry.{Entry}
+use Rattle.pdcp_kept.specs.declared.given.Entry.TheVariants.{Data, Own, Gone}
+use Rattle.pdcp_kept.specs.Given.{Given, trimmed, acked, acked_at, entry_at, tells, heard, untold, from_unacked, data_of}
 use Rattle.pdcp_laws.specs.Lists.{IsSubsequence}
 use Rattle.pdcp_laws.proofs.Lists.{same, without_first, mapped}
 

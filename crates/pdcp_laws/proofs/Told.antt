@@ -2,9 +2,9 @@
 use Rattle.std.proofs.Common.{◌≡◌, ◌⊎◌, ℕ, suc, zero, ◌-◌, Bool, true, false, List, [], ◌∷◌, ◌++◌, take, Option, Some, None, length, get_or, All, Contains, ◌<◌, ⊎_elim, inl, inr, append_assoc, subst, refl, sym, ◌∙◌, arith}
 use Rattle.std.proofs.lemmas.Bool.{or_left, or_right}
 use Rattle.std.proofs.lemmas.List.Elements.{All-nil, All-cons, Contains-append_left, Contains-append_right, Contains-append_cases}
-use Rattle.pdcp_tx.specs.declared.given.Sent.{Sent}
-use Rattle.pdcp_tx.specs.Waiting.{Waits}
-use Rattle.pdcp_tx.specs.Given.{tells, untold}
+use Rattle.pdcp_kept.specs.declared.given.Sent.{Sent}
+use Rattle.pdcp_kept.specs.Waiting.{Waits}
+use Rattle.pdcp_kept.specs.Given.{tells, untold}
 use Rattle.pdcp_tx.specs.State.{State, submitted, took, took_owed, took_again, took_new, confirmed, reported, reported_from, fms_count, after_late}
 use Rattle.pdcp_tx.specs.Runs.{Call, Submit, Take, Confirm, Report, Owe, Tick, Late, after}
 use Rattle.pdcp_laws.specs.Lists.{IsSubsequence}

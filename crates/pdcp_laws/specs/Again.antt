@@ -1,7 +1,7 @@
 -- What a life takes again, and what a status report leaves out of it (TS 36.323 5.2.1.1, 5.3.2).
 use Rattle.std.specs.Prelude.{◌≡◌, ◌⊎◌, ℕ, Bool, true, false, ◌||◌, List, [], ◌∷◌, ◌++◌, Option, Some, None, take, All, Contains}
-use Rattle.pdcp_tx.specs.declared.given.Sent.{Sent}
-use Rattle.pdcp_tx.specs.Given.{tells}
+use Rattle.pdcp_kept.specs.declared.given.Sent.{Sent}
+use Rattle.pdcp_kept.specs.Given.{tells}
 use Rattle.pdcp_tx.specs.State.{State, fms_count, reported}
 use Rattle.pdcp_tx.specs.Runs.{Call, Submit, Take, Confirm, Report, Owe, Tick, Late, after}
 use Rattle.pdcp_laws.specs.Lists.{IsSubsequence}

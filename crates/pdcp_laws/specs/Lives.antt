@@ -2,8 +2,8 @@
 use Rattle.std.specs.Prelude.{◌≡◌, ℕ, ◌-◌, ◌≤◌, if◌then◌else◌, List, [], ◌∷◌, ◌++◌, map, take, Option, Some, None, slice_get, All}
 use Rattle.eps_sec.specs.declared.Keys.{Keys}
 use Rattle.pdcp_sec.specs.Protection.{Protection}
-use Rattle.pdcp_tx.specs.declared.given.Sent.{Sent}
-use Rattle.pdcp_tx.specs.Waiting.{Waits}
+use Rattle.pdcp_kept.specs.declared.given.Sent.{Sent}
+use Rattle.pdcp_kept.specs.Waiting.{Waits}
 use Rattle.pdcp_tx.specs.State.{State, Offer, offers, is_overdue, restarted}
 use Rattle.pdcp_tx.specs.Runs.{Call, Submit, Take, Confirm, Report, Owe, Tick, Late, after}
 

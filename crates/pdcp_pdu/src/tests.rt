@@ -86,20 +86,27 @@ fn reads_signalling(rt: HostRuntime) {
 }
 
 #[test]
-fn writes_the_layouts(rt: HostRuntime) -> Result<(), NoMemory> {
+fn writes_data(rt: HostRuntime) -> Result<(), NoMemory> {
     let alloc = rt.alloc();
     for (pdu, wanted) in [
         (write_user(alloc, 7, 127, &[1])?, b"\xff\x01".as_slice()),
         (write_user(alloc, 12, 4095, &[1])?, b"\x8f\xff\x01"),
         (write_user(alloc, 12, 0, &[0xaa])?, b"\x80\x00\xaa"),
         (write_user(alloc, 15, 32767, &[1])?, b"\xff\xff\x01"),
-        (write_report(alloc, 0, &[])?, b"\x00\x00"),
+        (write_srb_message(alloc, 5, &[0xaa])?, b"\x05\xaa"),
+    ] {
+        assert_eq!(rt; pdu.as_slice(), wanted);
+    }
+    Ok(())
+}
+
+#[test]
+fn writes_reports(rt: HostRuntime) -> Result<(), NoMemory> {
+    let alloc = rt.alloc();
+    for (pdu, wanted) in [
+        (write_report(alloc, 0, &[])?, b"\x00\x00".as_slice()),
         (write_report(alloc, 1, &[0x80])?, b"\x00\x01\x80"),
         (write_long_report(alloc, 1, &[0x80])?, b"\x00\x00\x01\x80"),
-        (
-            write_srb(alloc, 5, &[0xaa], &[1, 2, 3, 4])?,
-            b"\x05\xaa\x01\x02\x03\x04",
-        ),
     ] {
         assert_eq!(rt; pdu.as_slice(), wanted);
     }

@@ -1,6 +1,4 @@
 pub mod Pdus
-pub mod Waiting
-pub mod Given
 pub mod State
 pub mod Entity
 pub mod Runs

@@ -4,17 +4,13 @@
 //! Contracts speak of an exact machine over whole COUNTs, which stands in `specs/State.antt`.
 #![tactic(auto)]
 
-mod again;
-mod given;
 mod kind;
 mod laws;
 mod pdcp_tx;
-mod sdu;
 mod security;
 mod sender;
 #[cfg(test)]
 mod tests;
-mod waiting;
 
 pub use laws::{takes_in_order, takes_the_head};
 pub use pdcp_tx::{Kept, PdcpTx};

@@ -1,4 +1,4 @@
-//! How an SDU is ciphered and protected, and its PDU is written (TS 36.323 5.6, 5.7).
+//! How an SDU is ciphered and protected in its PDU (TS 36.323 5.6, 5.7). It is copied once, as its PDU is written.
 
 ghost use Rattle.std.specs.Prelude.{◌≡◌, ◌≢◌, ◌<◌, ◌≤◌, ◌^◌, ◌%◌, ◌++◌, [], length, IfOk};
 ghost use Rattle.pdcp_pdu.specs.Kinds.{IsKind};
@@ -8,14 +8,11 @@ ghost use Rattle.pdcp_sec.specs.Protection.{ciphered_with};
 ghost use Rattle.pdcp_tx.specs.Pdus.{mac_i, pdu};
 ghost use Rattle.pdcp_tx.specs.State.{IsShort};
 
-use crate::sdu::Sdu;
 use l2_bits::{Bytes, NoMemory};
-use pdcp_pdu::PdcpKind;
+use pdcp_kept::Sdu;
+use pdcp_pdu::{PdcpKind, write_srb_message, write_user};
 use pdcp_sec::Security;
 use std::alloc::Global;
-
-/// The octets of a MAC-I.
-const TAG: usize = 4;
 
 /// Writes the PDU of an SDU with its COUNT.
 #[tactic(auto, unfolding(crate::specs::Pdus::pdu))]
@@ -37,6 +34,7 @@ pub(crate) fn write_pdu(
     }
 }
 
+#[tactic(auto, using(crate::proofs::PduSteps::data_steps))]
 fn write_data(
     security: &Security,
     alloc: Global,
@@ -50,33 +48,9 @@ fn write_data(
     ensures pdu { IfOk result (λ written. written ≡ user_spelling bits (Data (count % 2 ^ bits) (ciphered_with security.now count sdu.now))) }
     ensures short { IfOk result IsShort }
 {
-    let sn = count % (1 << bits);
-    if bits == 7 {
-        return write_behind(security, alloc, count, &[0x80 | (sn & 0xff) as u8], sdu);
-    }
-    let header = [0x80 | (sn >> 8) as u8, (sn & 0xff) as u8];
-    write_behind(security, alloc, count, &header, sdu)
-}
-
-// Copies the SDU behind a header, into a buffer of just that size, and ciphers it there.
-#[tactic(auto, using(crate::proofs::PduSteps::behind))]
-fn write_behind(
-    security: &Security,
-    alloc: Global,
-    count: u32,
-    header: &[u8],
-    sdu: &[u8],
-) -> Result<Bytes, NoMemory>
-    requires header { length header.now ≤ 2 }
-    requires some { 1 ≤ length sdu.now }
-    requires few { length sdu.now ≤ 8188 }
-    ensures pdu { IfOk result (λ written. written ≡ header.now ++ ciphered_with security.now count sdu.now) }
-    ensures short { IfOk result IsShort }
-{
-    let mut pdu = Vec::with_capacity(alloc, header.len() + sdu.len())?;
-    pdu.extend_from_slice(header)?;
-    pdu.extend_from_slice(sdu)?;
-    security.apply_behind(count, header.len(), &mut pdu);
+    let mut pdu = write_user(alloc, bits, count % (1 << bits), sdu)?;
+    let header = pdu.len() - sdu.len();
+    security.apply_behind(count, header, &mut pdu);
     Ok(Bytes::from_vec(pdu))
 }
 
@@ -93,9 +67,7 @@ fn write_signalling(
     ensures pdu { IfOk result (λ written. written ≡ srb_header 0 (count % 32) ++ ciphered_with security.now count (sdu.now ++ mac_i security.now count sdu.now)) }
     ensures short { IfOk result IsShort }
 {
-    let mut pdu = Vec::with_capacity(alloc, 1 + sdu.len() + TAG)?;
-    pdu.push((count % 32) as u8)?;
-    pdu.extend_from_slice(sdu)?;
+    let mut pdu = write_srb_message(alloc, count % 32, sdu)?;
     let tag = security.tag(count, &pdu);
     pdu.extend_from_slice(&tag)?;
     security.apply_behind(count, 1, &mut pdu);

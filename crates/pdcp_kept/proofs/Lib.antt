@@ -1,0 +1,3 @@
+pub mod AgainSteps
+pub mod GivenSteps
+pub mod WaitingSums
