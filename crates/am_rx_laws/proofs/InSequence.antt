@@ -16,9 +16,8 @@ use Rattle.rlc_am_rx.specs.Machine.{landed, after_landing, after_reorder, window
 use Rattle.am_rx_laws.specs.Run.{Call, Arrive, Up, Write, ExpireReorder, ExpireProhibit, TickReorder, TickProhibit}
 use Rattle.am_rx_laws.specs.Stream.{IsField, IsPart, IsSent, IsHonest, AreHonest, Flow, flows, flow, initial, stream, stream_to, somes, IsInSequence}
 use Rattle.am_rx_laws.proofs.Offset.{offset-in, offset-below}
-use Rattle.am_rx_laws.proofs.Places.{there, over_at, placed_before, placed_behind, holds-each}
+use Rattle.am_rx_laws.proofs.Places.{there, length_laid, over_at, placed_before, placed_behind, holds-each}
 use Rattle.am_rx_laws.proofs.Least.{kept-same, kept-other}
-use Rattle.am_window.proofs.FieldLemmas.{length_laid}
 
 -- ---- SDUs of a list of places
 

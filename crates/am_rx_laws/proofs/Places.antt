@@ -1,5 +1,5 @@
 -- Which places are held, after cells are laid.
-use Rattle.std.proofs.Common.{◌≡◌, ◌<◌, ◌≤◌, inl, inr, ℕ, suc, zero, ◌+◌, ◌-◌, Bool, true, ◌||◌, ◌&&◌, List, [], ◌∷◌, ◌++◌, length, take, map, replicate, Option, Some, None, is_some, slice_get, refl, ap, sym, ◌∙◌, arith, get_or, nat_le, nat_lt}
+use Rattle.std.proofs.Common.{◌≡◌, ◌<◌, ◌≤◌, inl, inr, ℕ, suc, zero, ◌+◌, ◌-◌, Bool, true, ◌||◌, ◌&&◌, List, [], ◌∷◌, ◌++◌, length, take, map, replicate, Option, Some, None, is_some, slice_get, refl, ap, sym, ◌∙◌, arith, get_or, nat_le, nat_lt, max, length-append}
 use Rattle.std.proofs.lemmas.Bool.Decides.{nat_tests}
 use Rattle.std.proofs.lemmas.Bool.{cases_lt, and_parts, and_from, leb-true, le-leb, lt-leb, lt-ltb, le-ltb}
 use Rattle.std.proofs.lemmas.List.{get_or-replicate, get_or_past}
@@ -16,6 +16,18 @@ pub get_or-padded : {X : Type 0} (xs : List X) (n i : ℕ) (d : X) → get_or (x
 get_or-padded [] n i d = elim (cases_lt i n) [ inl below ↦ get_or-replicate n i d d below | inr past ↦ get_or_past (replicate n d) i d (omega (arith, length-replicate n d)) ]
 get_or-padded (x ∷ xs) n zero d = refl
 get_or-padded (x ∷ xs) n (suc i) d = get_or-padded xs n i d
+
+length_over : (cs ns : List (Option Cell)) → length (over cs ns) ≡ max (length cs) (length ns)
+length_over [] ns = omega arith
+length_over (c ∷ cs) [] = omega arith
+length_over (c ∷ cs) (n ∷ ns) = omega (arith, length_over cs ns)
+
+length_new : (xs : List Cell) → length (map (λ c. Some c) xs) ≡ length xs
+length_new [] = refl
+length_new (x ∷ xs) = ap suc (length_new xs)
+
+pub length_laid : (cs : List (Option Cell)) (so : ℕ) (new : List Cell) → length (laid cs so new) ≡ max (length cs) (so + length new)
+length_laid cs so new = omega (arith, length_over cs (placed so new), length-append (replicate {A = Option Cell} so None) (map (λ c. Some c) new), length-replicate {A = Option Cell} so None, length_new new)
 
 pub over_at : (cs ns : List (Option Cell)) (i : ℕ) → get_or (over cs ns) i None ≡ first_of (get_or cs i None) (get_or ns i None)
 over_at [] ns i = refl

@@ -13,9 +13,8 @@ use Rattle.rlc_am_rx.specs.State.{State}
 use Rattle.rlc_am_rx.specs.Machine.{landed, after_landing, after_reorder, window_with}
 use Rattle.am_rx_laws.specs.Run.{Call, Arrive, Up, Write, ExpireReorder, ExpireProhibit, TickReorder, TickProhibit, state_after}
 use Rattle.am_rx_laws.specs.Status.{BringsSome}
-use Rattle.am_rx_laws.proofs.Places.{there, laid_there}
+use Rattle.am_rx_laws.proofs.Places.{there, length_laid, laid_there}
 use Rattle.am_rx_laws.proofs.Least.{kept-same, kept-other}
-use Rattle.am_window.proofs.FieldLemmas.{length_laid}
 
 pub record SlotWell (h : Held) : Type 0 where
   pub sized : (n : ℕ) → h.size ≡ Some n → n ≡ length h.cells

@@ -1,102 +1,73 @@
--- SDUs put together place by place.
-use Rattle.std.proofs.Common.{◌≡◌, ◌<◌, ◌≤◌, ℕ, suc, zero, ◌+◌, ◌-◌, true, false, List, [], ◌∷◌, ◌++◌, length, drop, Option, Some, None, refl, ap, sym, ◌∙◌, arith, drop-cons, append_assoc, get_or}
-use Rattle.std.proofs.lemmas.List.{append-nil}
-use Rattle.std.proofs.lemmas.Grind.{common_steps}
-use Rattle.std.specs.Prelude.{slice_range}
-use Rattle.am_window.specs.declared.mark.Mark.{Mark}
-use Rattle.am_window.specs.declared.mark.Mark.TheVariants.{Absent, Inner, First, Last, Only}
-use Rattle.am_window.specs.Cells.{Cell, cell_of, is_there, begins_with, ends_with, inner_cells}
-use Rattle.am_window.specs.Joined.{Joined, opened, extended, closed, with_place, joined, broken, pending}
+-- SDUs put together element by element.
+use Rattle.std.proofs.Common.{◌≡◌, ◌<◌, ◌≤◌, ℕ, suc, zero, Bool, true, false, List, [], ◌∷◌, ◌++◌, length, drop, map, replicate, Option, Some, None, refl, ap, sym, ◌∙◌, arith, append_assoc}
+use Rattle.std.proofs.lemmas.List.{append-nil, drop_all}
+use Rattle.am_window.specs.Cells.{Cell}
+use Rattle.am_window.specs.Piece.{element_cells}
+use Rattle.am_window.specs.Joined.{Joined, opened, extended, closed, joined, broken, pending, with_place}
+use Rattle.am_window.proofs.CellLemmas.{length_somes, length_element}
 
--- ---- one place
-
-there_place : (j : Joined) (o : ℕ) (m : Mark) → is_there m ≡ true → with_place j (cell_of o m) ≡ closed (ends_with m) j.ready (extended (opened j.part (begins_with m)) (o ∷ []))
-there_place j o Absent h = cc
-there_place j o Inner h = refl
-there_place j o First h = refl
-there_place j o Last h = refl
-there_place j o Only h = refl
-
-pub pass_gap : (j k : Joined) (o : ℕ) (m : Mark) → is_there m ≡ false → k ≡ broken j → k ≡ with_place j (cell_of o m)
-pass_gap j k o Absent h e = e
-pass_gap j k o Inner h e = cc
-pass_gap j k o First h e = cc
-pass_gap j k o Last h e = cc
-pass_gap j k o Only h e = cc
-
-pub pass_on : (j k : Joined) (o : ℕ) (m : Mark) → is_there m ≡ true → ends_with m ≡ false → k ≡ record { ready = j.ready; part = opened j.part (begins_with m) }
-    → pending k (o ∷ []) ≡ with_place j (cell_of o m)
-pass_on j k o m t e is = rw (there_place j o m t, e, is) refl
-
-pub pass_end : (j k : Joined) (o : ℕ) (m : Mark) → is_there m ≡ true → ends_with m ≡ true → k ≡ record { ready = j.ready; part = opened j.part (begins_with m) }
-    → closed true k.ready (extended k.part (o ∷ [])) ≡ with_place j (cell_of o m)
-pass_end j k o m t e is = rw (there_place j o m t, e, is) refl
-
-pub ruleset passes = (pass_gap, pass_on, pass_end)
-
--- ---- octets inside an SDU
-
-extend_more : (p : Option (List ℕ)) (o : ℕ) (os : List ℕ) → extended (extended (opened p false) (o ∷ [])) os ≡ extended p (o ∷ os)
-extend_more None o os = refl
-extend_more (Some xs) o os = ap (λ (ys : List ℕ). Some ys) (append_assoc xs (o ∷ []) os)
-
-extend_nil : (p : Option (List ℕ)) → p ≡ extended p []
-extend_nil None = refl
-extend_nil (Some os) = ap (λ (xs : List ℕ). Some xs) (sym (append-nil os))
-
-joined_inner : (j : Joined) (os : List ℕ) → joined j (inner_cells os) ≡ pending j os
-joined_inner j [] = ap (λ (p : Option (List ℕ)). record { ready = j.ready; part = p }) (extend_nil j.part)
-joined_inner j (o ∷ os) =
-    joined_inner (record { ready = j.ready; part = extended (opened j.part false) (o ∷ []) }) os
-    ∙ ap (λ (p : Option (List ℕ)). record { ready = j.ready; part = p }) (extend_more j.part o os)
-
-joined_append : (j : Joined) (xs ys : List (Option Cell)) → joined j (xs ++ ys) ≡ joined (joined j xs) ys
+pub joined_append : (j : Joined) (xs ys : List (Option Cell)) → joined j (xs ++ ys) ≡ joined (joined j xs) ys
 joined_append j [] ys = refl
 joined_append j (x ∷ xs) ys = joined_append (with_place j x) xs ys
 
-range_parts : (cs : List (Option Cell)) (from mid to : ℕ) → from ≤ mid → mid ≤ to → slice_range cs from to ≡ slice_range cs from mid ++ slice_range cs mid to
-range_parts cs zero mid to h g = start cs mid to g
-  where
-    start : (cs : List (Option Cell)) (mid to : ℕ) → mid ≤ to → slice_range cs 0 to ≡ slice_range cs 0 mid ++ slice_range cs mid to
-    start cs zero to g = refl
-    start [] (suc mid) zero g = absurd (omega (arith, g))
-    start [] (suc mid) (suc to) g = grind (arith, common_steps)
-    start (c ∷ cs) (suc mid) zero g = absurd (omega (arith, g))
-    start (c ∷ cs) (suc mid) (suc to) g =
-        let a : suc to - 0 ≡ suc (to - 0) = omega arith in
-        let b : suc mid - 0 ≡ suc (mid - 0) = omega arith in
-        let d : suc to - suc mid ≡ to - mid = omega arith in
-        rw (a, b, d) (ap (λ (xs : List (Option Cell)). c ∷ xs) (start cs mid to (omega (arith, g))))
-range_parts [] (suc from) mid to h g = grind (arith, common_steps)
-range_parts (c ∷ cs) (suc from) zero to h g = absurd (omega (arith, h))
-range_parts (c ∷ cs) (suc from) (suc mid) zero h g = absurd (omega (arith, g))
-range_parts (c ∷ cs) (suc from) (suc mid) (suc to) h g =
-    let a : suc to - suc from ≡ to - from = omega arith in
-    let b : suc mid - suc from ≡ mid - from = omega arith in
-    let d : suc to - suc mid ≡ to - mid = omega arith in
-    rw (a, b, d) (range_parts cs from mid to (omega (arith, h)) (omega (arith, g)))
+pub joined_gap : (j : Joined) (n : ℕ) (xs : List (Option Cell)) → 0 < n → joined j (replicate n None ++ xs) ≡ joined (broken j) xs
+joined_gap j zero xs h = absurd (omega (arith, h))
+joined_gap j (suc zero) xs h = refl
+joined_gap j (suc (suc n)) xs h = joined_gap (broken j) (suc n) xs (omega arith)
 
-pub joined_on : (j k : Joined) (cs : List (Option Cell)) (at to : ℕ) (os : List ℕ) → at + length os ≤ to → slice_range cs at (at + length os) ≡ inner_cells os → k ≡ pending j os
-    → joined k (slice_range cs (at + length os) to) ≡ joined j (slice_range cs at to)
-joined_on j k cs at to os h is e =
-    rw (e, range_parts cs at (at + length os) to (omega arith) h, is)
-    (ap (λ (i : Joined). joined i (slice_range cs (at + length os) to)) (sym (joined_inner j os)) ∙ sym (joined_append j (inner_cells os) (slice_range cs (at + length os) to)))
+-- ---- an element
 
-pub ruleset inner = (joined_on)
+extend_twice : (p : Option (List ℕ)) (o : ℕ) (os : List ℕ) → extended (opened (extended p (o ∷ [])) false) os ≡ extended p (o ∷ os)
+extend_twice None o os = refl
+extend_twice (Some xs) o os = ap (λ (ys : List ℕ). Some ys) (append_assoc xs (o ∷ []) os)
 
--- ---- all places
+element_is : (j : Joined) (b e : Bool) (o : ℕ) (os : List ℕ) → joined j (map (λ c. Some c) (element_cells b e (o ∷ os))) ≡ closed e j.ready (extended (opened j.part b) (o ∷ os))
+element_is j b e o [] = refl
+element_is j b e o (p ∷ os) =
+    element_is (record { ready = j.ready; part = extended (opened j.part b) (o ∷ []) }) false e p os
+    ∙ ap (λ (q : Option (List ℕ)). closed e j.ready q) (extend_twice (opened j.part b) o (p ∷ os))
 
-range_none : (cs : List (Option Cell)) (from : ℕ) → slice_range cs from from ≡ []
-range_none cs from = let e : from - from ≡ 0 = omega arith in rw e refl
+extend_nil : (p : Option (List ℕ)) → extended p [] ≡ p
+extend_nil None = refl
+extend_nil (Some os) = ap (λ (xs : List ℕ). Some xs) (append-nil os)
 
-pub join_step : (j : Joined) (cs : List (Option Cell)) (at to : ℕ) → at < to → to ≤ length cs → joined (with_place j (get_or cs at None)) (slice_range cs (at + 1) to) ≡ joined j (slice_range cs at to)
-join_step j cs at to h g =
-    let here : drop at cs ≡ get_or cs at None ∷ drop (suc at) cs = drop-cons cs at None (omega (arith, h, g)) in
-    let count : to - at ≡ suc (to - (at + 1)) = omega (arith, h) in
-    let one : at + 1 ≡ suc at = omega arith in
-    rw (here, count, one) refl
+pub element_goes_on : (j k : Joined) (b : Bool) (os : List ℕ) → 0 < length os → k ≡ record { ready = j.ready; part = opened j.part b } → pending k os ≡ joined j (map (λ c. Some c) (element_cells b false os))
+element_goes_on j k b [] h is = absurd (omega (arith, h))
+element_goes_on j k b (o ∷ os) h is = rw is (sym (element_is j b false o os))
 
-pub join_end : (j : Joined) (cs : List (Option Cell)) (at : ℕ) → joined j (slice_range cs at at) ≡ j
-join_end j cs at = rw (range_none cs at) refl
+pub element_closes : (j k : Joined) (b : Bool) (os : List ℕ) → 0 < length os → k ≡ record { ready = j.ready; part = opened j.part b } → closed true k.ready (extended k.part os) ≡ joined j (map (λ c. Some c) (element_cells b true os))
+element_closes j k b [] h is = absurd (omega (arith, h))
+element_closes j k b (o ∷ os) h is = rw is (sym (element_is j b true o os))
 
-pub ruleset joins = (join_step, join_end)
+pub element_ends : (j k : Joined) (b : Bool) (os : List ℕ) → 0 < length os → k ≡ record { ready = j.ready; part = opened j.part b } → closed true k.ready (extended (extended k.part os) []) ≡ joined j (map (λ c. Some c) (element_cells b true os))
+element_ends j k b [] h is = absurd (omega (arith, h))
+element_ends j k b (o ∷ os) h is = rw (is, extend_nil (extended (opened j.part b) (o ∷ os))) (sym (element_is j b true o os))
+
+pub ruleset elements = (element_goes_on, element_closes, element_ends)
+
+pub part_begins : (p : List ℕ) (os : List ℕ) → length p ≡ 0 → os ≡ p ++ os
+part_begins [] os h = refl
+part_begins (o ∷ p) os h = absurd (omega (arith, h))
+
+pub ruleset beginning = (part_begins)
+
+-- ---- an element from one of its octets on
+
+pub element_from : (b e : Bool) (n : ℕ) (os : List ℕ) → 0 < n → drop n (map (λ c. Some c) (element_cells b e os)) ≡ map (λ c. Some c) (element_cells false e (drop n os))
+element_from b e zero os h = absurd (omega (arith, h))
+element_from b e (suc n) [] h = refl
+element_from b e (suc zero) (o ∷ []) h = refl
+element_from b e (suc (suc n)) (o ∷ []) h = refl
+element_from b e (suc zero) (o ∷ p ∷ os) h = refl
+element_from b e (suc (suc n)) (o ∷ p ∷ os) h = element_from false e (suc n) (p ∷ os) (omega arith)
+
+pub join_first : (j : Joined) (n : ℕ) (cs : List (Option Cell)) → n ≡ 0 → joined j cs ≡ joined j (drop n cs)
+join_first j n cs h = rw h refl
+
+pub join_from : (j : Joined) (b e : Bool) (n : ℕ) (os : List ℕ) → 0 < n → joined j (map (λ c. Some c) (element_cells false e (drop n os))) ≡ joined j (drop n (map (λ c. Some c) (element_cells b e os)))
+join_from j b e n os h = ap (λ (cs : List (Option Cell)). joined j cs) (sym (element_from b e n os h))
+
+pub join_past : (j : Joined) (b e : Bool) (n : ℕ) (os : List ℕ) → length os ≤ n → j ≡ joined j (drop n (map (λ c. Some c) (element_cells b e os)))
+join_past j b e n os h = rw (drop_all n (map (λ c. Some c) (element_cells b e os)) (omega (arith, length_somes (element_cells b e os), length_element b e os, h))) refl
+
+pub ruleset parts = (join_first, join_from, join_past)

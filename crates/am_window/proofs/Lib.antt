@@ -1,9 +1,10 @@
-pub mod LayLemmas
-pub mod FieldLemmas
-pub mod PieceLemmas
+pub mod CellLemmas
 pub mod JoinLemmas
+pub mod SpreadLemmas
+pub mod TailLemmas
+pub mod EdgeLemmas
+pub mod LayLemmas
+pub mod PieceLemmas
 pub mod SlotLemmas
 pub mod MissingLemmas
 pub mod RingLemmas
-pub mod InnerLemmas
-pub mod WholeLemmas

@@ -1,7 +1,7 @@
 -- How many octets a PDU brings.
 use Rattle.std.proofs.Common.{◌≡◌, ℕ, Bool, true, List, [], ◌∷◌, length, refl, arith, length-append}
 use Rattle.am_window.specs.Piece.{element_cells, data_cells, octets_in}
-use Rattle.am_window.proofs.LayLemmas.{length_element}
+use Rattle.am_window.proofs.CellLemmas.{length_element}
 
 pub length_data : (b e : Bool) (es : List (List ℕ)) → length (data_cells b e es) ≡ octets_in es
 length_data b e [] = refl

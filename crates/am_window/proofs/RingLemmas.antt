@@ -1,12 +1,11 @@
 -- One step of what goes over the numbers of the window.
-use Rattle.std.proofs.Common.{◌≡◌, ◌<◌, ◌≤◌, ℕ, suc, zero, ◌+◌, ◌-◌, Bool, true, false, ◌||◌, List, [], ◌∷◌, ◌++◌, length, drop, take, replicate, Option, Some, None, is_some, slice_get, append_assoc, length-append, length-drop, refl, ap, sym, ◌∙◌, arith, drop-cons, add-one, get_or, min, ltb, inl, inr, ◌⊎◌}
+use Rattle.std.proofs.Common.{◌≡◌, ◌<◌, ◌≤◌, ℕ, suc, ◌+◌, ◌-◌, true, false, ◌||◌, List, [], ◌∷◌, ◌++◌, length, drop, take, replicate, Some, slice_get, append_assoc, length-append, refl, ap, sym, ◌∙◌, arith, drop-cons, add-one, ltb}
 use Rattle.std.proofs.lemmas.Grind.{common_steps}
-use Rattle.std.proofs.lemmas.List.{append-nil, drop_all, take_all}
-use Rattle.std.proofs.lemmas.Bool.{cases_lt, lt-ltb}
+use Rattle.std.proofs.lemmas.List.{append-nil, drop_all}
+use Rattle.std.proofs.lemmas.Bool.{lt-ltb}
 use Rattle.std.specs.List.{list_any}
-use Rattle.std.specs.Prelude.{slice_range}
 use Rattle.am_window.specs.declared.missing.Missing.{Missing}
-use Rattle.am_window.specs.Cells.{Cell, leading}
+use Rattle.am_window.specs.Cells.{leading}
 use Rattle.am_window.specs.Held.{Held, nothing, is_complete}
 use Rattle.am_window.specs.Joined.{Joined, joined}
 use Rattle.am_window.specs.Window.{polled_in, slot_at, widened, handed_on, given_after}
@@ -50,34 +49,6 @@ given-stop [] h given e f = cc
 given-stop (x ∷ xs) h given e f = grind arith
 
 pub ruleset stops = (handed-stop, given-stop)
-
--- ---- octets in sequence
-
-lead_take : (cs : List (Option Cell)) → take (length (leading cs)) cs ≡ leading cs
-lead_take [] = refl
-lead_take (None ∷ cs) = refl
-lead_take (Some c ∷ cs) = ap (λ (ds : List (Option Cell)). Some c ∷ ds) (lead_take cs)
-
-pub lead_range : (cs : List (Option Cell)) (from : ℕ) → slice_range cs from (from + length (leading (drop from cs))) ≡ leading (drop from cs)
-lead_range cs from = let e : from + length (leading (drop from cs)) - from ≡ length (leading (drop from cs)) = omega arith in rw e (lead_take (drop from cs))
-
-pub lead_none : (cs : List (Option Cell)) (from : ℕ) → length cs ≤ from → from ≡ from + length (leading (drop from cs))
-lead_none cs from h = rw (drop_all from cs h) (omega arith)
-
-pub join_none : (j : Joined) (cs : List (Option Cell)) (from : ℕ) → length cs ≤ from → j ≡ joined j (leading (drop from cs))
-join_none j cs from h = rw (drop_all from cs h) refl
-
-pub ruleset leads = (lead_range, lead_none, join_none)
-
-pub range_rest : (cs : List (Option Cell)) (from : ℕ) → slice_range cs (min from (length cs)) (length cs) ≡ drop from cs
-range_rest cs from = elim (cases_lt from (length cs)) [
-  | inl below ↦ let e : min from (length cs) ≡ from = omega (arith, below) in rw e (take_all (length cs - from) (drop from cs) (omega (arith, length-drop from cs)))
-  | inr past ↦ let e : min from (length cs) ≡ length cs = omega (arith, past) in
-      let n : length cs - length cs ≡ 0 = omega arith in
-      rw (e, n) (sym (drop_all from cs past))
-]
-
-pub ruleset rests = (range_rest, length-drop)
 
 -- ---- what a STATUS may say
 

@@ -1,7 +1,7 @@
 pub mod Cells
 pub mod Piece
+pub mod Spread
 pub mod Held
-pub mod Whole
 pub mod Joined
 pub mod Window
 pub mod Missing

@@ -1,151 +1,143 @@
 //! New octets laid beside those that are held.
-ghost use Rattle.std.specs.Prelude.{◌≡◌, ℕ, [], ◌∷◌, ◌++◌, ◌+◌, ◌-◌, ◌<◌, ◌≤◌, ◌^◌, ◌&&◌, ◌==◌, length, map, replicate, is_some, OnOk, Some, None};
-ghost use Rattle.am_window.specs.Cells.{laid, over, put, placed, cells_of, cell_of, mark, element_marks};
+ghost use Rattle.std.specs.Prelude.{◌≡◌, ℕ, [], ◌∷◌, ◌++◌, ◌+◌, ◌-◌, ◌<◌, ◌≤◌, List, Option, length, map, replicate, OnOk, IfOk, Some, None};
+ghost use Rattle.am_window.specs.Cells.{Cell};
 ghost use Rattle.am_window.specs.Piece.{element_cells};
+ghost use Rattle.am_window.specs.Spread.{laid_on};
 
-use crate::mark::Mark;
+use crate::field::Field;
 use l2_bits::NoMemory;
+use std::alloc::Global;
+use std::mem;
 
-/// Lays an element's octets from a place on. What is held stays.
-#[tactic(auto, using(crate::proofs::LayLemmas::laying))]
-pub(crate) fn lay(
-    octets: &mut Vec<u8>,
-    marks: &mut Vec<Mark>,
-    at: usize,
-    element: &[u8],
-    begins: bool,
-    ends: bool,
-) -> Result<(), NoMemory>
-    requires marked { length octets.old.items ≤ length marks.old.items }
-    requires within { at + length element.now ≤ 32767 }
-    ensures marked { OnOk result (length octets.new.items ≤ length marks.new.items) }
-    ensures cells { OnOk result (cells_of octets.new.items marks.new.items ≡ laid (cells_of octets.old.items marks.old.items) at (element_cells begins ends element.now)) }
-{
-    let top = octets.len();
-    if top <= at {
-        pad(octets, marks, at)?;
-        return append(octets, marks, element, begins, ends);
+/// Elements that are laid one after the other beside what is held. What is held stays.
+#[derive(Drop)]
+pub(crate) struct Laying {
+    alloc: Global,
+    /// The places that nothing is laid to any more.
+    done: Field,
+    /// The places that follow.
+    rest: Field,
+    /// So many of the next octets were passed with what is done, since they are held.
+    passed: usize,
+}
+
+impl Laying {
+    /// Takes out what a field holds, and begins before its first place.
+    pub(crate) fn new(field: &mut Field) -> Laying
+        ensures done { result.done ≡ [] }
+        ensures rest { result.rest ≡ field.old }
+        ensures passed { result.passed ≡ 0 }
+    {
+        let alloc = field.alloc();
+        Laying {
+            alloc,
+            done: Field::absent(alloc, 0),
+            rest: mem::replace(field, Field::absent(alloc, 0)),
+            passed: 0,
+        }
     }
-    let held = top - at;
-    if element.len() <= held {
-        fill(octets, marks, at, element, begins, ends);
-        return Ok(());
+
+    /// Goes past so many places.
+    #[tactic(auto, using(crate::proofs::LayLemmas::skipping))]
+    pub(crate) fn skip(&mut self, places: usize) -> Result<(), NoMemory>
+        requires start { self.old.passed ≡ 0 }
+        requires held { length self.old.done + length self.old.rest ≤ 32767 }
+        requires within { length self.old.done + places ≤ 32767 }
+        ensures held { OnOk result (length self.new.done + length self.new.rest ≤ 32767) }
+        ensures place { OnOk result (length self.new.done ≡ length self.old.done + places + self.new.passed) }
+        ensures cells { OnOk result ((xs : List (Option Cell)) → laid_on self.new.done self.new.rest self.new.passed xs ≡ laid_on self.old.done self.old.rest 0 (replicate places None ++ xs)) }
+    {
+        let mut left = places;
+        while let Some(first) = self.rest.pop() {
+            let gap = first.gap();
+            let end = gap + first.len();
+            if left < gap {
+                self.rest.put_back(first.behind(gap - left))?;
+                self.done.widen(left);
+                return Ok(());
+            }
+            self.done.keep(first)?;
+            if left <= end {
+                self.passed = end - left;
+                return Ok(());
+            }
+            left -= end;
+        }
+        self.rest = Field::absent(self.alloc, self.rest.len().saturating_sub(left));
+        self.done.widen(left);
+        Ok(())
     }
-    straddle(octets, marks, at, element, begins, ends)
-}
 
-/// Lays an element's octets that begin among those that are held, and go on behind them.
-#[tactic(auto, using(crate::proofs::LayLemmas::straddling))]
-fn straddle(
-    octets: &mut Vec<u8>,
-    marks: &mut Vec<Mark>,
-    at: usize,
-    element: &[u8],
-    begins: bool,
-    ends: bool,
-) -> Result<(), NoMemory>
-    requires marked { length octets.old.items ≤ length marks.old.items }
-    requires within { at + length element.now ≤ 32767 }
-    requires begun { at < length octets.old.items }
-    requires on { length octets.old.items < at + length element.now }
-    ensures marked { OnOk result (length octets.new.items ≤ length marks.new.items) }
-    ensures cells { OnOk result (cells_of octets.new.items marks.new.items ≡ laid (cells_of octets.old.items marks.old.items) at (element_cells begins ends element.now)) }
-{
-    let (old, new) = element.split_at(octets.len() - at);
-    fill(octets, marks, at, old, begins, false);
-    append(octets, marks, new, false, ends)?;
-    Ok(())
-}
-
-/// Adds places that aren't held, up to so many.
-#[tactic(auto, using(crate::proofs::LayLemmas::padding))]
-fn pad(octets: &mut Vec<u8>, marks: &mut Vec<Mark>, size: usize) -> Result<(), NoMemory>
-    requires marked { length octets.old.items ≤ length marks.old.items }
-    requires more { length octets.old.items ≤ size }
-    ensures marked { OnOk result (length octets.new.items ≤ length marks.new.items) }
-    ensures size { OnOk result (length octets.new.items ≡ size) }
-    ensures cells { OnOk result (cells_of octets.new.items marks.new.items ≡ cells_of octets.old.items marks.old.items ++ replicate (size - length octets.old.items) None) }
-{
-    marks.truncate(octets.len());
-    marks.resize(size, Mark::Absent)?;
-    octets.resize(size, 0)?;
-    Ok(())
-}
-
-/// Adds an element's octets at the end.
-#[tactic(auto, using(crate::proofs::LayLemmas::appending))]
-fn append(
-    octets: &mut Vec<u8>,
-    marks: &mut Vec<Mark>,
-    element: &[u8],
-    begins: bool,
-    ends: bool,
-) -> Result<(), NoMemory>
-    requires marked { length octets.old.items ≤ length marks.old.items }
-    requires within { length octets.old.items + length element.now ≤ 32767 }
-    ensures marked { OnOk result (length octets.new.items ≤ length marks.new.items) }
-    ensures cells { OnOk result (cells_of octets.new.items marks.new.items ≡ cells_of octets.old.items marks.old.items ++ map (λ c. Some c) (element_cells begins ends element.now)) }
-{
-    marks.truncate(octets.len());
-    append_marks(marks, element.len(), begins, ends)?;
-    octets.extend_from_slice(element)?;
-    Ok(())
-}
-
-/// Adds the marks of an element of so many octets.
-#[tactic(auto, using(crate::proofs::LayLemmas::marking))]
-fn append_marks(marks: &mut Vec<Mark>, len: usize, begins: bool, ends: bool) -> Result<(), NoMemory>
-    requires { length marks.old.items + len < 2 ^ 63 }
-    ensures { OnOk result (marks.new.items ≡ marks.old.items ++ element_marks begins ends len) }
-{
-    if len == 0 {
-        return Ok(());
+    /// Lays the next element.
+    #[tactic(auto, using(crate::proofs::LayLemmas::passing))]
+    pub(crate) fn lay(&mut self, element: &[u8], begins: bool, ends: bool) -> Result<(), NoMemory>
+        requires held { length self.old.done + length self.old.rest ≤ 32767 }
+        requires within { length self.old.done + length element.now ≤ 32767 + self.old.passed }
+        ensures held { OnOk result (length self.new.done + length self.new.rest ≤ 32767) }
+        ensures place { OnOk result (length self.new.done + self.old.passed ≡ length self.old.done + length element.now + self.new.passed) }
+        ensures cells { OnOk result ((xs : List (Option Cell)) → laid_on self.new.done self.new.rest self.new.passed xs ≡ laid_on self.old.done self.old.rest self.old.passed (map (λ c. Some c) (element_cells begins ends element.now) ++ xs)) }
+    {
+        let passed = self.passed;
+        if passed == 0 {
+            return self.lay_here(element, begins, ends);
+        }
+        if element.len() <= passed {
+            self.passed = passed - element.len();
+            return Ok(());
+        }
+        self.passed = 0;
+        self.lay_here(element.split_at(passed).1, false, ends)
     }
-    if len == 1 {
-        marks.push(Mark::new(begins, ends))?;
-        return Ok(());
+
+    /// Lays octets of one element, of which none was passed.
+    #[tactic(auto, using(crate::proofs::LayLemmas::laying))]
+    fn lay_here(&mut self, octets: &[u8], begins: bool, ends: bool) -> Result<(), NoMemory>
+        requires start { self.old.passed ≡ 0 }
+        requires held { length self.old.done + length self.old.rest ≤ 32767 }
+        requires within { length self.old.done + length octets.now ≤ 32767 }
+        ensures held { OnOk result (length self.new.done + length self.new.rest ≤ 32767) }
+        ensures place { OnOk result (length self.new.done ≡ length self.old.done + length octets.now + self.new.passed) }
+        ensures cells { OnOk result ((xs : List (Option Cell)) → laid_on self.new.done self.new.rest self.new.passed xs ≡ laid_on self.old.done self.old.rest 0 (map (λ c. Some c) (element_cells begins ends octets.now) ++ xs)) }
+    {
+        let mut octets = octets;
+        let mut begins = begins;
+        while let Some(first) = self.rest.pop() {
+            let gap = first.gap();
+            if octets.len() <= gap {
+                self.rest.put_back(first.behind(gap - octets.len()))?;
+                return self.done.push(octets, begins, ends);
+            }
+            let (before, behind) = octets.split_at(gap);
+            let held = first.len();
+            self.done.push(before, begins, false)?;
+            self.done.keep(first.behind(0))?;
+            if behind.len() <= held {
+                self.passed = held - behind.len();
+                return Ok(());
+            }
+            octets = behind.split_at(held).1;
+            begins = false;
+        }
+        let left = self.rest.len().saturating_sub(octets.len());
+        self.rest = Field::absent(self.alloc, left);
+        self.done.push(octets, begins, ends)
     }
-    marks.push(Mark::new(begins, false))?;
-    let size = marks.len() + len - 2;
-    marks.resize(size, Mark::Inner)?;
-    marks.push(Mark::new(false, ends))?;
-    Ok(())
-}
 
-/// Puts an element's octets at places that aren't held.
-#[tactic(auto, using(crate::proofs::LayLemmas::filling))]
-fn fill(octets: &mut [u8], marks: &mut [Mark], at: usize, element: &[u8], begins: bool, ends: bool)
-    requires marked { length octets.old ≤ length marks.old }
-    requires within { at + length element.now ≤ length octets.old }
-    ensures octets { length octets.new ≡ length octets.old }
-    ensures marks { length marks.new ≡ length marks.old }
-    ensures cells { cells_of octets.new marks.new ≡ laid (cells_of octets.old marks.old) at (element_cells begins ends element.now) }
-{
-    for (i, octet) in element.iter().enumerate() {
-        let mark = mark_at(i, element.len(), begins, ends);
-        put(octets, marks, at + i, *octet, mark);
-    }
-}
-
-/// The mark of an element's octet.
-fn mark_at(i: usize, len: usize, begins: bool, ends: bool) -> Mark
-    requires { i < len }
-    ensures { result ≡ mark (begins && (i == 0)) (ends && (i + 1 == len)) }
-{
-    Mark::new(begins && i == 0, ends && i + 1 == len)
-}
-
-/// Puts an octet at a place that isn't held.
-#[tactic(auto, using(crate::proofs::LayLemmas::putting))]
-fn put(octets: &mut [u8], marks: &mut [Mark], at: usize, octet: u8, mark: Mark)
-    requires octets { at < length octets.old }
-    requires marks { at < length marks.old }
-    ensures octets { length octets.new ≡ length octets.old }
-    ensures marks { length marks.new ≡ length marks.old }
-    ensures cells { cells_of octets.new marks.new ≡ put (cells_of octets.old marks.old) at (cell_of octet mark) }
-{
-    if !marks[at].is_there() {
-        octets[at] = octet;
-        marks[at] = mark;
+    /// All that is held once nothing more is laid.
+    #[tactic(auto, using(crate::proofs::LayLemmas::finishing))]
+    pub(crate) fn finish(self) -> Result<Field, NoMemory>
+        requires { length self.done + length self.rest ≤ 32767 }
+        ensures { IfOk result (λ field. field ≡ self.done ++ self.rest) }
+    {
+        let Laying {
+            mut done,
+            mut rest,
+            ..
+        } = self;
+        while let Some(first) = rest.pop() {
+            done.keep(first)?;
+        }
+        done.widen(rest.len());
+        Ok(done)
     }
 }

@@ -1,7 +1,7 @@
 //! What a STATUS may say of the numbers of a window.
-ghost use Rattle.std.specs.Prelude.{◌≡◌, ℕ, [], ◌∷◌, ◌++◌, ◌+◌, ◌*◌, ◌-◌, ◌<◌, ◌≤◌, ◌^◌, map, length, drop, OnOk, IfOk, IfSome, Some, None};
+ghost use Rattle.std.specs.Prelude.{◌≡◌, if◌then◌else◌, ℕ, [], ◌∷◌, ◌++◌, ◌+◌, ◌*◌, ◌-◌, ◌<◌, ◌≤◌, ◌^◌, map, length, drop, OnOk, IfOk, IfSome, Some, None};
 ghost use Rattle.am_window.specs.Held.{is_complete};
-ghost use Rattle.am_window.specs.Missing.{range, run_ended, run_open, run_last, runs, of_part, some_part, missing_of, AreRanges, entries_bits};
+ghost use Rattle.am_window.specs.Missing.{runs, of_part, missing_of, AreRanges, entries_bits};
 
 use crate::field::Field;
 use crate::slot::Slot;
@@ -33,59 +33,46 @@ pub(crate) fn add(number: u64, slot: &Slot, out: &mut Vec<Missing>) -> Result<()
     add_runs(number, slot.field(), slot.has_end(), out)
 }
 
-#[tactic(auto, using(crate::proofs::MissingLemmas::runs_on))]
+#[tactic(auto, using(crate::proofs::MissingLemmas::adding))]
 fn add_runs(number: u64, field: &Field, ended: bool, out: &mut Vec<Missing>) -> Result<(), NoMemory>
     ensures { OnOk result (out.new.items ≡ out.old.items ++ map (of_part number) (runs field.now 0 None ended)) }
 {
-    let mut gap = None;
-    for at in 0..field.len() as u32 {
-        let there = field.mark(at as usize).is_there();
-        add_some(number, ended_run(there, at, gap), out)?;
-        gap = open_run(there, at, gap);
+    let (stretches, tail) = field.parts();
+    let mut at = 0;
+    for stretch in stretches.iter() {
+        let behind = at + stretch.gap();
+        add_run(number, at, behind.saturating_sub(1), stretch.gap() > 0, out)?;
+        at = behind + stretch.len();
     }
-    add_some(number, last_run(field.len() as u32, gap, ended), out)
+    if tail > 0 {
+        return add_run(number, at, 32767, true, out);
+    }
+    add_run(number, at, 32767, !ended, out)
 }
 
-fn add_some(number: u64, part: Option<Part>, out: &mut Vec<Missing>) -> Result<(), NoMemory>
-    ensures { OnOk result (out.new.items ≡ out.old.items ++ map (of_part number) (some_part part)) }
+/// Adds a run of missing places, if there is one.
+fn add_run(
+    number: u64,
+    start: usize,
+    end: usize,
+    is_missing: bool,
+    out: &mut Vec<Missing>,
+) -> Result<(), NoMemory>
+    requires start { start ≤ 32767 }
+    requires end { end ≤ 32767 }
+    ensures { OnOk result (out.new.items ≡ out.old.items ++ (if is_missing then of_part number (record { start = start; end = end }) ∷ [] else [])) }
 {
-    if part.is_some() {
-        out.push(Missing { number, part })?;
+    if is_missing {
+        let part = Part {
+            start: start as u32,
+            end: end as u32,
+        };
+        out.push(Missing {
+            number,
+            part: Some(part),
+        })?;
     }
     Ok(())
-}
-
-/// The run of missing places that ends where an octet has arrived.
-fn ended_run(there: bool, at: u32, gap: Option<u32>) -> Option<Part>
-    ensures { some_part result ≡ run_ended there at gap }
-{
-    match gap {
-        Some(start) if there => Some(Part {
-            start,
-            end: at.saturating_sub(1),
-        }),
-        _ => None,
-    }
-}
-
-/// Where the run that is open behind a place began.
-fn open_run(there: bool, at: u32, gap: Option<u32>) -> Option<u32>
-    ensures { result ≡ run_open there at gap }
-{
-    if there { None } else { Some(gap.unwrap_or(at)) }
-}
-
-/// The run that reaches the field's end.
-fn last_run(at: u32, gap: Option<u32>, ended: bool) -> Option<Part>
-    ensures { some_part result ≡ run_last at gap ended }
-{
-    if gap.is_none() && ended {
-        return None;
-    }
-    Some(Part {
-        start: gap.unwrap_or(at),
-        end: 32767,
-    })
 }
 
 /// How many bits the entries of a number take.
@@ -103,17 +90,20 @@ pub(crate) fn bits(number: u64, slot: &Slot) -> u32
     42 * count_runs(slot.field(), slot.has_end())
 }
 
-#[tactic(auto, using(crate::proofs::MissingLemmas::runs_on))]
+#[tactic(auto, using(crate::proofs::MissingLemmas::counting))]
 fn count_runs(field: &Field, ended: bool) -> u32
     ensures value { result ≡ length (runs field.now 0 None ended) }
     ensures few { result ≤ 32768 }
 {
-    let mut gap = None;
+    let (stretches, tail) = field.parts();
+    let mut at = 0;
     let mut count = 0;
-    for at in 0..field.len() as u32 {
-        let there = field.mark(at as usize).is_there();
-        count += ended_run(there, at, gap).is_some() as u32;
-        gap = open_run(there, at, gap);
+    for stretch in stretches.iter() {
+        count += (stretch.gap() > 0) as u32;
+        at += stretch.gap() + stretch.len();
     }
-    count + last_run(field.len() as u32, gap, ended).is_some() as u32
+    if tail > 0 {
+        return count + 1;
+    }
+    if ended { count } else { count + 1 }
 }

@@ -1,12 +1,8 @@
 //! SDUs put together in sequence.
-ghost use Rattle.std.specs.Prelude.{◌≡◌, ℕ, [], ◌∷◌, ◌++◌, ◌+◌, ◌<◌, ◌≤◌, length, map, drop, slice_get, slice_range, slice_index_or, is_some, if◌then◌else◌, true, OnOk, IfOk, Some, None};
-ghost use Rattle.am_window.specs.Cells.{cell_of, is_there, begins_with, ends_with};
-ghost use Rattle.am_window.specs.Piece.{element_cells, data_cells};
-ghost use Rattle.am_window.specs.Joined.{Joined, empty, opened, extended, closed, with_place, joined, broken, pending};
+ghost use Rattle.std.specs.Prelude.{◌≡◌, ℕ, [], ◌++◌, ◌<◌, length, map, drop, slice_get, true, OnOk, Some, None};
+ghost use Rattle.am_window.specs.Piece.{element_cells};
+ghost use Rattle.am_window.specs.Joined.{Joined, empty, opened, extended, closed, joined, broken, pending};
 
-use crate::field::Field;
-use crate::mark::Mark;
-use crate::piece::ends_with;
 use l2_bits::{Bytes, NoMemory, Packets};
 use std::alloc::Global;
 use std::marker::Model;
@@ -62,54 +58,28 @@ impl Output {
         self.part = None;
     }
 
-    /// Goes on with the places of a field from one on below another.
-    #[tactic(auto, using(crate::proofs::JoinLemmas::joins))]
-    pub(crate) fn join(&mut self, field: &Field, from: usize, to: usize) -> Result<(), NoMemory>
-        requires order { from ≤ to }
-        requires within { to ≤ length field.now }
-        ensures { OnOk result (self.new ≡ joined self.old (slice_range field.now from to)) }
+    /// Goes on with octets of one element.
+    #[tactic(auto, using(crate::proofs::JoinLemmas::elements))]
+    pub(crate) fn add(&mut self, octets: &[u8], begins: bool, ends: bool) -> Result<(), NoMemory>
+        requires { 0 < length octets.now }
+        ensures { OnOk result (self.new ≡ joined self.old (map (λ c. Some c) (element_cells begins ends octets.now))) }
     {
-        let mut at = from;
-        while at < to {
-            at = self.pass_inner(field, at, to)?;
-            if at < to {
-                self.pass(field.octet(at), field.mark(at))?;
-                at += 1;
-            }
-        }
-        Ok(())
-    }
-
-    /// Goes on with the elements of a field, which are taken.
-    #[tactic(auto, using(crate::proofs::WholeLemmas::taking))]
-    pub(crate) fn take_all(
-        &mut self,
-        elements: Packets,
-        begins: bool,
-        ends: bool,
-    ) -> Result<(), NoMemory>
-        ensures { OnOk result (self.new ≡ joined self.old (map (λ c. Some c) (data_cells begins ends elements))) }
-    {
-        let mut elements = elements;
-        let mut begun = begins;
-        while let Some(element) = elements.pop_front() {
-            let last = elements.is_empty();
-            self.take(element, begun, ends_with(last, ends))?;
-            begun = true;
-        }
-        Ok(())
-    }
-
-    /// Goes on with an element, which isn't copied where an SDU begins with it.
-    #[tactic(auto, using(crate::proofs::WholeLemmas::elements))]
-    fn take(&mut self, element: Bytes, begins: bool, ends: bool) -> Result<(), NoMemory>
-        ensures { OnOk result (self.new ≡ joined self.old (map (λ c. Some c) (element_cells begins ends element))) }
-    {
-        if element.as_slice().is_empty() {
-            return Ok(());
-        }
         self.open(begins);
-        self.extend_by(element)?;
+        if ends {
+            self.close(octets)
+        } else {
+            self.extend(octets)
+        }
+    }
+
+    /// Goes on with octets of one element, which aren't copied where an SDU begins with them.
+    #[tactic(auto, using(crate::proofs::JoinLemmas::elements))]
+    pub(crate) fn take(&mut self, octets: Bytes, begins: bool, ends: bool) -> Result<(), NoMemory>
+        requires { 0 < length octets }
+        ensures { OnOk result (self.new ≡ joined self.old (map (λ c. Some c) (element_cells begins ends octets))) }
+    {
+        self.open(begins);
+        self.extend_by(octets)?;
         if ends {
             return self.close(&[]);
         }
@@ -117,7 +87,7 @@ impl Output {
     }
 
     /// Adds octets to the part, which they become where it is empty.
-    #[tactic(auto, using(crate::proofs::WholeLemmas::parts))]
+    #[tactic(auto, using(crate::proofs::JoinLemmas::beginning))]
     fn extend_by(&mut self, octets: Bytes) -> Result<(), NoMemory>
         ensures { OnOk result (self.new ≡ pending self.old octets) }
     {
@@ -127,36 +97,6 @@ impl Output {
                 Ok(())
             }
             _ => self.extend(octets.as_slice()),
-        }
-    }
-
-    /// Passes the places from one on that lie inside an SDU, up to another, and returns the place behind them.
-    #[tactic(auto, using(crate::proofs::JoinLemmas::inner))]
-    fn pass_inner(&mut self, field: &Field, at: usize, to: usize) -> Result<usize, NoMemory>
-        requires order { at ≤ to }
-        requires within { to ≤ length field.now }
-        ensures order { IfOk result (λ next. (at ≤ next) × (next ≤ to)) }
-        ensures joined { IfOk result (λ next. joined self.new (slice_range field.now next to) ≡ joined self.old (slice_range field.now at to)) }
-    {
-        let octets = field.inner(at, to);
-        self.extend(octets)?;
-        Ok(at + octets.len())
-    }
-
-    /// Passes a place.
-    #[tactic(auto, using(crate::proofs::JoinLemmas::passes))]
-    fn pass(&mut self, octet: u8, mark: Mark) -> Result<(), NoMemory>
-        ensures { OnOk result (self.new ≡ with_place self.old (cell_of octet mark)) }
-    {
-        if !mark.is_there() {
-            self.break_off();
-            return Ok(());
-        }
-        self.open(mark.begins());
-        if mark.ends() {
-            self.close(&[octet])
-        } else {
-            self.extend(&[octet])
         }
     }
 

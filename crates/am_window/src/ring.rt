@@ -7,15 +7,15 @@ ghost use Rattle.am_window.specs.Cells.{leading};
 ghost use Rattle.am_window.specs.Window.{first_incomplete, polled_in, widened, slot_at, handed_on, complete_first, given_after, salvaged, broken_unless};
 ghost use Rattle.am_window.specs.Missing.{missing_of, missing_below, AreRanges, entries_bits};
 
-use crate::holding::Holding;
 use crate::missing::{self, Missing};
 use crate::output::Output;
+use crate::slot::Slot;
 use circular_buffer::HeapCircularBuffer;
 use l2_bits::NoMemory;
 use std::alloc::Global;
 
 /// The first place at or above another whose number isn't complete.
-pub(crate) fn first_incomplete(ring: &HeapCircularBuffer<Holding>, from: usize) -> usize
+pub(crate) fn first_incomplete(ring: &HeapCircularBuffer<Slot>, from: usize) -> usize
     ensures value { result ≡ first_incomplete ring.now.items from }
     ensures within { result ≤ max from (length ring.now.items) }
 {
@@ -26,7 +26,7 @@ pub(crate) fn first_incomplete(ring: &HeapCircularBuffer<Holding>, from: usize) 
     at
 }
 
-fn is_complete_at(ring: &HeapCircularBuffer<Holding>, at: usize) -> bool
+fn is_complete_at(ring: &HeapCircularBuffer<Slot>, at: usize) -> bool
     requires { at < length ring.now.items }
     ensures { result ≡ is_complete (slot_at ring.now.items at) }
 {
@@ -38,7 +38,7 @@ fn is_complete_at(ring: &HeapCircularBuffer<Holding>, at: usize) -> bool
 
 /// Whether a poll came with one of the numbers from a place on below another.
 #[tactic(auto, using(crate::proofs::RingLemmas::polls))]
-pub(crate) fn has_poll(ring: &HeapCircularBuffer<Holding>, from: usize, to: usize) -> bool
+pub(crate) fn has_poll(ring: &HeapCircularBuffer<Slot>, from: usize, to: usize) -> bool
     ensures { result ≡ polled_in ring.now.items from to }
 {
     for at in from..to.min(ring.len()) {
@@ -49,7 +49,7 @@ pub(crate) fn has_poll(ring: &HeapCircularBuffer<Holding>, from: usize, to: usiz
     false
 }
 
-fn is_polled_at(ring: &HeapCircularBuffer<Holding>, at: usize) -> bool
+fn is_polled_at(ring: &HeapCircularBuffer<Slot>, at: usize) -> bool
     requires { at < length ring.now.items }
     ensures { result ≡ (slot_at ring.now.items at).polled }
 {
@@ -61,7 +61,7 @@ fn is_polled_at(ring: &HeapCircularBuffer<Holding>, at: usize) -> bool
 
 /// Adds numbers of which nothing has arrived, up to so many.
 #[tactic(auto, using(crate::proofs::RingLemmas::grows))]
-pub(crate) fn widen(alloc: Global, ring: &mut HeapCircularBuffer<Holding>, size: usize)
+pub(crate) fn widen(alloc: Global, ring: &mut HeapCircularBuffer<Slot>, size: usize)
     requires { size ≤ ring.old.capacity }
     ensures { ring.new ≡ buffer (widened ring.old.items size) ring.old.capacity }
 {
@@ -70,17 +70,17 @@ pub(crate) fn widen(alloc: Global, ring: &mut HeapCircularBuffer<Holding>, size:
     }
 }
 
-fn add_empty(alloc: Global, ring: &mut HeapCircularBuffer<Holding>)
+fn add_empty(alloc: Global, ring: &mut HeapCircularBuffer<Slot>)
     requires { length ring.old.items < ring.old.capacity }
     ensures { ring.new ≡ buffer (ring.old.items ++ nothing ∷ []) ring.old.capacity }
 {
-    let _ = ring.try_push_back(Holding::new(alloc));
+    let _ = ring.try_push_back(Slot::new(alloc));
 }
 
 /// Hands on the octets that are in sequence, and takes out the complete numbers that stand first.
 #[tactic(auto, using(crate::proofs::RingLemmas::stops))]
 pub(crate) fn hand_on(
-    ring: &mut HeapCircularBuffer<Holding>,
+    ring: &mut HeapCircularBuffer<Slot>,
     front: &mut u64,
     given: &mut usize,
     out: &mut Output,
@@ -109,7 +109,7 @@ pub(crate) fn hand_on(
 
 /// Takes out the first number, and hands on its octets from a place on up to the first that hasn't arrived.
 fn pass_front(
-    ring: &mut HeapCircularBuffer<Holding>,
+    ring: &mut HeapCircularBuffer<Slot>,
     given: usize,
     out: &mut Output,
 ) -> Result<(), NoMemory>
@@ -124,7 +124,7 @@ fn pass_front(
 
 /// Goes on with all octets that are held, from a place of the first number on, and leaves out gaps.
 pub(crate) fn salvage(
-    ring: &HeapCircularBuffer<Holding>,
+    ring: &HeapCircularBuffer<Slot>,
     given: usize,
     out: &mut Output,
 ) -> Result<(), NoMemory>
@@ -142,7 +142,7 @@ pub(crate) fn salvage(
 #[tactic(auto, using(crate::proofs::RingLemmas::adding))]
 pub(crate) fn missing(
     alloc: Global,
-    ring: &HeapCircularBuffer<Holding>,
+    ring: &HeapCircularBuffer<Slot>,
     front: u64,
     bound: u64,
 ) -> Result<Vec<Missing>, NoMemory>
@@ -160,7 +160,7 @@ pub(crate) fn missing(
 }
 
 fn add_missing_at(
-    ring: &HeapCircularBuffer<Holding>,
+    ring: &HeapCircularBuffer<Slot>,
     at: usize,
     number: u64,
     out: &mut Vec<Missing>,
@@ -170,25 +170,14 @@ fn add_missing_at(
     ensures ranges { AreRanges (missing_of number (slot_at ring.now.items at)) }
 {
     match ring.get(at) {
-        Some(slot) => add_missing(slot, number, out),
+        Some(slot) => missing::add(number, slot, out),
         None => Err(NoMemory),
-    }
-}
-
-#[tactic(auto, using(crate::proofs::MissingLemmas::complete_in))]
-fn add_missing(slot: &Holding, number: u64, out: &mut Vec<Missing>) -> Result<(), NoMemory>
-    ensures added { OnOk result (out.new.items ≡ out.old.items ++ missing_of number slot.now) }
-    ensures ranges { AreRanges (missing_of number slot.now) }
-{
-    match slot.pieces() {
-        Some(pieces) => missing::add(number, pieces, out),
-        None => Ok(()),
     }
 }
 
 /// How many bits the entries of the numbers from the front on below a bound take.
 #[tactic(auto, using(crate::proofs::RingLemmas::bits_stop))]
-pub(crate) fn missing_bits(ring: &HeapCircularBuffer<Holding>, front: u64, bound: u64) -> u32
+pub(crate) fn missing_bits(ring: &HeapCircularBuffer<Slot>, front: u64, bound: u64) -> u32
     requires fits { front + length ring.now.items < 2 ^ 64 }
     requires few { length ring.now.items ≤ 512 }
     ensures value { result ≡ entries_bits (missing_below ring.now.items front bound) }
@@ -203,23 +192,13 @@ pub(crate) fn missing_bits(ring: &HeapCircularBuffer<Holding>, front: u64, bound
     bits
 }
 
-fn missing_bits_at(ring: &HeapCircularBuffer<Holding>, at: usize, number: u64) -> u32
+fn missing_bits_at(ring: &HeapCircularBuffer<Slot>, at: usize, number: u64) -> u32
     requires { at < length ring.now.items }
     ensures value { result ≡ entries_bits (missing_of number (slot_at ring.now.items at)) }
     ensures few { result < 2 ^ 22 }
 {
     match ring.get(at) {
-        Some(slot) => bits_of(slot, number),
-        None => 0,
-    }
-}
-
-fn bits_of(slot: &Holding, number: u64) -> u32
-    ensures value { result ≡ entries_bits (missing_of number slot.now) }
-    ensures few { result < 2 ^ 22 }
-{
-    match slot.pieces() {
-        Some(pieces) => missing::bits(number, pieces),
+        Some(slot) => missing::bits(number, slot),
         None => 0,
     }
 }

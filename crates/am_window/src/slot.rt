@@ -1,22 +1,26 @@
-ghost use Rattle.std.specs.Prelude.{◌≡◌, ℕ, ◌+◌, ◌<◌, ◌≤◌, ◌^◌, ◌||◌, length, OnOk, IfOk, Some, None};
+ghost use Rattle.std.specs.Prelude.{◌≡◌, ℕ, ◌+◌, ◌<◌, ◌≤◌, ◌^◌, ◌||◌, length, drop, OnOk, IfOk, Some, None};
 ghost use Rattle.rlc_pdu.specs.Views.{amd_of, elements_of};
-ghost use Rattle.am_window.specs.Cells.{laid, holds, differ, ends_otherwise, begins_otherwise};
+ghost use Rattle.am_window.specs.Cells.{laid, holds, leading, differ, ends_otherwise, begins_otherwise};
 ghost use Rattle.am_window.specs.Piece.{begins_in, ends_in, so_of, data_cells, piece_of, end_of};
 ghost use Rattle.am_window.specs.Held.{nothing, with_piece, is_complete, has_end, clashes, size_differs};
-ghost use Rattle.am_window.specs.Whole.{is_unheld};
-ghost use Rattle.am_window.specs.Window.{landing};
+ghost use Rattle.am_window.specs.Joined.{joined};
+ghost use Rattle.am_window.specs.Window.{landing, broken_unless};
 
 use crate::field::{Field, denies};
+use crate::laying::Laying;
+use crate::output::Output;
 use crate::piece::{LONGEST, Walk, begins_in, end_of, ends_in, ends_with, is_last, so_of};
 use l2_bits::NoMemory;
 use rlc_pdu::{Amd, Landed};
 use std::alloc::Global;
 use std::marker::Model;
 
-/// What is held of one number, with a mark of each octet.
+/// What is held of one number.
 #[derive(Drop)]
-pub struct Slot {
+pub(crate) struct Slot {
     field: Field,
+    /// So many octets from the first on have arrived.
+    lead: usize,
     /// The length of the data field, once that is told.
     size: Option<usize>,
     /// Whether a poll came with a PDU that was kept.
@@ -24,69 +28,57 @@ pub struct Slot {
 }
 
 impl Model for Slot {
+    ghost use Rattle.std.specs.Prelude.{◌≡◌, length};
+    ghost use Rattle.am_window.specs.Cells.{leading};
     ghost use Rattle.am_window.specs.Held.{Held};
 
     ghost Value = { Held };
 
     ghost view = { λ s. record { cells = s.field; size = s.size; polled = s.polled } };
+
+    ghost invariant = { λ s. s.lead ≡ length (leading s.field) };
 }
 
 impl Slot {
     /// A number of which nothing has arrived. It takes no memory.
-    pub fn new(alloc: Global) -> Slot
+    pub(crate) fn new(alloc: Global) -> Slot
         ensures { result ≡ nothing }
     {
         Slot {
-            field: Field::new(alloc),
+            field: Field::absent(alloc, 0),
+            lead: 0,
             size: None,
             polled: false,
         }
     }
 
-    /// A number of whose field, so long, these octets have arrived.
-    pub(crate) fn of(field: Field, size: usize, polled: bool) -> Slot
-        ensures { result ≡ record { cells = field; size = Some size; polled = polled } }
-    {
-        Slot {
-            field,
-            size: Some(size),
-            polled,
-        }
-    }
-
-    /// Whether no octet has arrived, and the field's length isn't told.
-    pub(crate) fn is_unheld(&self) -> bool
-        ensures { result ≡ is_unheld self.now }
-    {
-        self.field.len() == 0 && self.size.is_none()
-    }
-
     /// The octets that have arrived.
-    pub fn field(&self) -> &Field
+    pub(crate) fn field(&self) -> &Field
         ensures { result.now ≡ self.now.cells }
     {
         &self.field
     }
 
     /// Whether a poll came with a PDU that was kept.
-    pub fn is_polled(&self) -> bool
+    pub(crate) fn is_polled(&self) -> bool
         ensures { result ≡ self.now.polled }
     {
         self.polled
     }
 
     /// Whether each octet of the field has arrived.
-    pub fn is_complete(&self) -> bool
+    #[tactic(auto, using(crate::proofs::CellLemmas::leads))]
+    pub(crate) fn is_complete(&self) -> bool
         ensures { result ≡ is_complete self.now }
     {
         match self.size {
             None => false,
-            Some(size) => self.field.has_first(size),
+            Some(size) => size <= self.lead,
         }
     }
 
     /// Whether the field's last octet has arrived.
-    pub fn has_end(&self) -> bool
+    pub(crate) fn has_end(&self) -> bool
         ensures { result ≡ has_end self.now }
     {
         match self.size {
@@ -96,8 +88,7 @@ impl Slot {
     }
 
     /// What comes of a PDU of this number.
-
-    pub fn landing(&self, pdu: &Amd<'_>) -> Landed
+    pub(crate) fn landing(&self, pdu: &Amd<'_>) -> Landed
         ensures { result ≡ landing (Some self.now) (piece_of (amd_of pdu.now)) }
     {
         let so = so_of(pdu.segment);
@@ -115,7 +106,6 @@ impl Slot {
     }
 
     /// Whether what is held speaks against a PDU that ends at a place.
-
     fn clashes(&self, pdu: &Amd<'_>, end: usize) -> bool
         requires end { end ≡ end_of (piece_of (amd_of pdu.now)) }
         requires within { end ≤ 32767 }
@@ -136,7 +126,6 @@ impl Slot {
     }
 
     /// Whether the boundary in front of a PDU's octets is known otherwise.
-
     fn begins_otherwise(&self, pdu: &Amd<'_>) -> bool
         ensures { result ≡ begins_otherwise self.now.cells (so_of pdu.now.segment) (begins_in pdu.now.fi) }
     {
@@ -166,17 +155,45 @@ impl Slot {
     }
 
     /// Keeps a PDU's octets that are new, and what it tells.
-
-    pub fn keep(&mut self, pdu: &Amd<'_>) -> Result<(), NoMemory>
+    pub(crate) fn keep(&mut self, pdu: &Amd<'_>) -> Result<(), NoMemory>
         requires { end_of (piece_of (amd_of pdu.now)) ≤ 32767 }
         ensures { OnOk result (self.new ≡ with_piece self.old (piece_of (amd_of pdu.now)) pdu.now.poll) }
     {
-        let end = lay_data(&mut self.field, pdu)?;
-        self.field.settle();
+        let laid = lay_data(&mut self.field, pdu);
+        self.lead = self.field.reach(0);
+        let end = laid?;
         if self.size.is_none() && is_last(pdu.segment) {
             self.size = Some(end);
         }
         self.polled = self.polled || pdu.poll;
+        Ok(())
+    }
+
+    /// Hands on the octets from a place on up to the first that hasn't arrived, and returns its place.
+    pub(crate) fn give(&self, given: usize, out: &mut Output) -> Result<usize, NoMemory>
+        ensures place { IfOk result (λ n. n ≡ given + length (leading (drop given self.now.cells))) }
+        ensures out { OnOk result (out.new ≡ joined out.old (leading (drop given self.now.cells))) }
+    {
+        self.field.give(given, out)?;
+        Ok(self.field.reach(given))
+    }
+
+    /// Hands on the same at the end of what is held of the number.
+    pub(crate) fn hand_on(self, given: usize, out: &mut Output) -> Result<(), NoMemory>
+        ensures { OnOk result (out.new ≡ joined out.old (leading (drop given self.cells))) }
+    {
+        let Slot { field, .. } = self;
+        field.hand_on(given, out)
+    }
+
+    /// Goes on with all octets that are held from a place on, and leaves out gaps.
+    pub(crate) fn salvage(&self, from: usize, out: &mut Output) -> Result<(), NoMemory>
+        ensures { OnOk result (out.new ≡ broken_unless (has_end self.now) (joined out.old (drop from self.now.cells))) }
+    {
+        self.field.salvage(from, out)?;
+        if !self.has_end() {
+            out.break_off();
+        }
         Ok(())
     }
 }
@@ -191,12 +208,14 @@ fn lay_data(field: &mut Field, pdu: &Amd<'_>) -> Result<usize, NoMemory>
     let ends = ends_in(pdu.fi);
     let mut begins = begins_in(pdu.fi);
     let mut at = so_of(pdu.segment);
-    field.lay(at, &[], false, false)?;
+    let mut laying = Laying::new(field);
+    laying.skip(at)?;
     let mut walk = Walk::new(&pdu.elements);
     while let Some((element, last)) = walk.next() {
-        field.lay(at, element, begins, ends_with(last, ends))?;
+        laying.lay(element, begins, ends_with(last, ends))?;
         at += element.len();
         begins = true;
     }
+    *field = laying.finish()?;
     Ok(at)
 }

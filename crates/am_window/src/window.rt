@@ -4,11 +4,11 @@ ghost use Rattle.am_window.specs.Piece.{piece_of, end_of};
 ghost use Rattle.am_window.specs.Window.{no_numbers, top, offset_of, first_incomplete, polled_in, landed, landing, with_kept, handed_on, advanced, salvaged};
 ghost use Rattle.am_window.specs.Missing.{missing, AreRanges, entries_bits};
 
-use crate::holding::Holding;
 use crate::missing::Missing;
 use crate::output::Output;
 use crate::piece::end_of;
 use crate::ring;
+use crate::slot::Slot;
 use circular_buffer::HeapCircularBuffer;
 use l2_bits::NoMemory;
 use rlc_pdu::{Amd, Landed};
@@ -25,7 +25,7 @@ const LIMIT: u64 = 1 << 63;
 #[derive(Drop)]
 pub struct Window {
     alloc: Global,
-    ring: HeapCircularBuffer<Holding>,
+    ring: HeapCircularBuffer<Slot>,
     front: u64,
     given: usize,
 }

@@ -314,3 +314,42 @@ fn keeps_what_is_held_and_salvages(rt: HostRuntime) -> Result<(), NoMemory> {
         }
     }
 }
+
+// A segment that begins and ends among octets that are held fills the two gaps between them.
+#[test]
+fn fills_two_gaps_at_once(rt: HostRuntime) -> Result<(), NoMemory> {
+    let mut rx = AmRx::new(rt.alloc(), UNTIMED)?;
+    assert_eq!(rt; arrive(&mut rx, b"\xd8\x00\x00\x04\xa4\xa5")?, Landed::Kept);
+    assert_eq!(rt; arrive(&mut rx, b"\xd0\x00\x80\x08\xa8\xa9")?, Landed::Kept);
+    assert_eq!(rt; arrive(&mut rx, b"\xc8\x00\x00\x00\xa0\xa1")?, Landed::Kept);
+    assert_eq!(rt;
+        arrive(&mut rx, b"\xd8\x00\x00\x01\xb1\xb2\xb3\xb4\xb5\xb6\xb7\xb8")?,
+        Landed::Kept
+    );
+    assert!(rt; goes_up(&mut rx, b"\xa0\xa1\xb2\xb3\xa4\xa5\xb6\xb7\xa8\xa9"));
+    assert!(rt; rx.up().is_none());
+    Ok(())
+}
+
+// An SDU that begins behind a gap tells where the one before it ends.
+#[test]
+fn knows_a_boundary_behind_a_gap(rt: HostRuntime) -> Result<(), NoMemory> {
+    let mut rx = AmRx::new(rt.alloc(), UNTIMED)?;
+    assert_eq!(rt; arrive(&mut rx, b"\xc8\x00\x00\x02\x12\x13")?, Landed::Kept);
+    assert_eq!(rt;
+        arrive(&mut rx, b"\xd8\x00\x00\x00\x20\x21")?,
+        Landed::Clash
+    );
+    assert_eq!(rt;
+        arrive(&mut rx, b"\xd8\x00\x00\x00\x20\x21\x22\x23")?,
+        Landed::Clash
+    );
+    assert_eq!(rt;
+        arrive(&mut rx, b"\xdc\x00\x00\x00\x00\x20\x30\x31\x32\x33")?,
+        Landed::Kept
+    );
+    assert!(rt; goes_up(&mut rx, b"\x30\x31") && rx.up().is_none());
+    assert_eq!(rt; arrive(&mut rx, b"\xd0\x00\x80\x04\x14")?, Landed::Kept);
+    assert!(rt; goes_up(&mut rx, b"\x12\x13\x14"));
+    Ok(())
+}

@@ -1,6 +1,11 @@
-use Rattle.std.proofs.Common.{◌≡◌, ◌++◌, map, None, drop}
+use Rattle.std.proofs.Common.{◌≡◌, ◌+◌, ◌++◌, length, map, None}
+use Rattle.std.specs.VecDeque.Iter.{deque_iter_rest}
 use Rattle.am_window.specs.Missing.{runs, of_part}
+use Rattle.am_window.specs.Spread.{spread}
 use Rattle.am_window.proofs.missing.add_runs.Given as goal
 
-abbrev pub invariant-loop-at : goal.invariant-loop-at
-invariant-loop-at l = l.out.items ++ map (of_part l.number) (runs (drop l.at l.field) l.at l.gap l.ended) ≡ l.fn.out.items ++ map (of_part l.number) (runs l.field 0 None l.ended)
+abbrev pub invariant-loop-stretch : goal.invariant-loop-stretch
+invariant-loop-stretch l = record {
+  place : l.at + length (spread (deque_iter_rest l.stretch-iterator) l.tail) ≡ length l.field;
+  rest : l.out.items ++ map (of_part l.number) (runs (spread (deque_iter_rest l.stretch-iterator) l.tail) l.at None l.ended) ≡ l.fn.out.items ++ map (of_part l.number) (runs l.field 0 None l.ended);
+}

@@ -1,9 +1,12 @@
-use Rattle.std.proofs.Common.{◌≡◌, ◌+◌, ◌≤◌, length, None, drop}
+use Rattle.std.proofs.Common.{◌≡◌, ◌+◌, ◌≤◌, length, None}
+use Rattle.std.specs.VecDeque.Iter.{deque_iter_rest}
 use Rattle.am_window.specs.Missing.{runs}
+use Rattle.am_window.specs.Spread.{spread}
 use Rattle.am_window.proofs.missing.count_runs.Given as goal
 
-abbrev pub invariant-loop-at : goal.invariant-loop-at
-invariant-loop-at l = record {
+abbrev pub invariant-loop-stretch : goal.invariant-loop-stretch
+invariant-loop-stretch l = record {
+  place : l.at + length (spread (deque_iter_rest l.stretch-iterator) l.tail) ≡ length l.field;
   few : l.count ≤ l.at;
-  rest : l.count + length (runs (drop l.at l.field) l.at l.gap l.ended) ≡ length (runs l.field 0 None l.ended);
+  rest : l.count + length (runs (spread (deque_iter_rest l.stretch-iterator) l.tail) l.at None l.ended) ≡ length (runs l.field 0 None l.ended);
 }
