@@ -56,6 +56,38 @@ const DATA: BearerConfig = BearerConfig {
     rx: RX,
 };
 
+const SIGNALLING: BearerConfig = BearerConfig {
+    channel: Channel {
+        lcid: 1,
+        priority: 1,
+        pbr: None,
+        bucket: 100,
+        group: 0,
+    },
+    kind: Kind::Srb,
+    rlc_bits: 10,
+    pdcp_bits: 5,
+    first: 0,
+    tx: TX,
+    rx: RX,
+};
+
+const UNACKNOWLEDGED: BearerConfig = BearerConfig {
+    channel: Channel {
+        lcid: 4,
+        priority: 2,
+        pbr: None,
+        bucket: 100,
+        group: 3,
+    },
+    kind: Kind::Um,
+    rlc_bits: 10,
+    pdcp_bits: 12,
+    first: 0,
+    tx: TX,
+    rx: RX,
+};
+
 fn keys(octet: u8) -> Keys {
     let key = Key {
         octets: [octet; 16],
@@ -124,7 +156,50 @@ fn ups(events: Events) -> usize {
     count
 }
 
-// One TTI of the downlink and one of the uplink, each block intact or damaged; what goes up at the terminal.
+// The downlink of a TTI, its block intact or damaged; what the terminal tells where it hears it.
+fn downlink(
+    station: &mut Node<Attached>,
+    terminal: &mut Node<Attached>,
+    tti: u64,
+    grant: u32,
+    good: bool,
+) -> Result<Option<Events>, NoMemory>
+    requires some { 1 ≤ grant }
+    requires most { grant ≤ 9422 }
+{
+    let built = station.build(tti, grant, Order::Free)?;
+    let heard = terminal.assigned(tti, built.ndi, good);
+    let told = match station.held((tti % 8) as u32) {
+        Some(block) if heard == Answer::Up => Some(terminal.receive(block)?),
+        _ => None,
+    };
+    station.feedback(tti, good);
+    Ok(told)
+}
+
+// The uplink, likewise.
+fn uplink(
+    station: &mut Node<Attached>,
+    terminal: &mut Node<Attached>,
+    tti: u64,
+    grant: u32,
+    good: bool,
+) -> Result<Option<Events>, NoMemory>
+    requires some { 1 ≤ grant }
+    requires most { grant ≤ 9422 }
+{
+    let ndi = station.grant(tti);
+    terminal.build(tti, grant, Order::Grant { ndi })?;
+    station.granted(tti, Some(good));
+    let told = match terminal.held((tti % 8) as u32) {
+        Some(block) if good => Some(station.receive(block)?),
+        _ => None,
+    };
+    terminal.feedback(tti, good);
+    Ok(told)
+}
+
+// One TTI of both with grants of 60 octets; what goes up at the terminal.
 fn tti(
     station: &mut Node<Attached>,
     terminal: &mut Node<Attached>,
@@ -135,24 +210,9 @@ fn tti(
     terminal.tick()?;
     station.tick_buckets();
     terminal.tick_buckets();
-    let built = station.build(tti, 60, Order::Free)?;
-    let heard = terminal.assigned(tti, built.ndi, good);
-    let process = (tti % 8) as u32;
-    let count = match station.held(process) {
-        Some(block) if heard == Answer::Up => ups(terminal.receive(block)?),
-        _ => 0,
-    };
-    station.feedback(tti, good);
-    let ndi = station.grant(tti);
-    terminal.build(tti, 60, Order::Grant { ndi })?;
-    station.granted(tti, Some(good));
-    if let Some(block) = terminal.held(process) {
-        if good {
-            station.receive(block)?;
-        }
-    }
-    terminal.feedback(tti, good);
-    Ok(count)
+    let told = downlink(station, terminal, tti, 60, good)?;
+    uplink(station, terminal, tti, 60, good)?;
+    Ok(told.map_or(0, ups))
 }
 
 // Six SDUs of 100 octets go down in blocks of 60, of which each fifth is damaged, and all arrive.
@@ -192,8 +252,8 @@ fn a_handover_keeps_what_is_there(rt: HostRuntime) -> Result<(), Fail> {
         arrived = arrived.saturating_add(count);
     }
     assert_eq!(rt; arrived, 1);
-    let mut station = hand_over(station)?;
-    let mut terminal = hand_over(terminal)?;
+    let (mut station, _) = hand_over(station)?;
+    let (mut terminal, _) = hand_over(terminal)?;
     for at in 3..20u64 {
         let count = tti(&mut station, &mut terminal, at, true)?;
         arrived = arrived.saturating_add(count);
@@ -203,16 +263,154 @@ fn a_handover_keeps_what_is_there(rt: HostRuntime) -> Result<(), Fail> {
     Ok(())
 }
 
-fn hand_over(node: Node<Attached>) -> Result<Node<Attached>, NoMemory> {
-    let moving = match node.leave() {
-        Ok((moving, _)) => moving,
+fn hand_over(node: Node<Attached>) -> Result<(Node<Attached>, Events), NoMemory> {
+    let (moving, told) = match node.leave() {
+        Ok(left) => left,
         Err((_, no_memory)) => return Err(no_memory),
     };
     match moving.join(&keys(4)) {
-        Ok(node) => Ok(node),
+        Ok(node) => Ok((node, told)),
         Err((moving, no_memory)) => {
             moving.abandon();
             Err(no_memory)
         }
     }
+}
+
+// An end with a bearer of signalling and one of data in each mode.
+fn with_three(alloc: Global, side: Side) -> Result<Node<Attached>, NoMemory> {
+    let mut node = begun(alloc, side, true, &SIGNALLING)?;
+    if !node.has(3) {
+        node.add(&DATA, &keys(1))?;
+    }
+    if !node.has(4) {
+        node.add(&UNACKNOWLEDGED, &keys(1))?;
+    }
+    Ok(node)
+}
+
+// Submits an SDU where its bearer is there.
+fn submit(node: &mut Node<Attached>, lcid: u8, sdu: &[u8]) -> Result<(), NoMemory> {
+    if !node.has(lcid) || node.submit(lcid, sdu).is_err() {
+        return Err(NoMemory);
+    }
+    Ok(())
+}
+
+// How many SDUs went up, by LCID.
+#[derive(Drop)]
+struct Counts {
+    signalling: u32,
+    acknowledged: u32,
+    unacknowledged: u32,
+}
+
+impl Counts {
+    fn new() -> Counts {
+        Counts {
+            signalling: 0,
+            acknowledged: 0,
+            unacknowledged: 0,
+        }
+    }
+
+    fn add(&mut self, lcid: u8) {
+        let count = match lcid {
+            1 => &mut self.signalling,
+            3 => &mut self.acknowledged,
+            _ => &mut self.unacknowledged,
+        };
+        *count = count.saturating_add(1);
+    }
+
+    fn are(&self, signalling: u32, acknowledged: u32, unacknowledged: u32) -> bool {
+        self.signalling == signalling
+            && self.acknowledged == acknowledged
+            && self.unacknowledged == unacknowledged
+    }
+}
+
+// Counts what goes up. The terminal submits it again where its test loop is on.
+fn count(
+    told: Events,
+    counts: &mut Counts,
+    looping: Option<&mut Node<Attached>>,
+) -> Result<(), NoMemory> {
+    let mut told = told;
+    let mut looping = looping;
+    for _i in 0..told.len() {
+        if let Some(Event::Up { lcid, octets }) = told.pop_front() {
+            counts.add(lcid);
+            if let Some(terminal) = &mut looping {
+                if lcid >= 3 {
+                    submit(terminal, lcid, octets.as_slice())?;
+                }
+            }
+        }
+    }
+    Ok(())
+}
+
+// One TTI with grants of 1500 octets, of which a tenth of the blocks are damaged while the test loop is on.
+fn looped_tti(
+    station: &mut Node<Attached>,
+    terminal: &mut Node<Attached>,
+    tti: u64,
+    looping: bool,
+    down: &mut Counts,
+    up: &mut Counts,
+) -> Result<(), NoMemory> {
+    let good = !looping || tti % 10 != 9;
+    count(station.tick()?, up, None)?;
+    let told = terminal.tick()?;
+    count(told, down, looped(terminal, looping))?;
+    station.tick_buckets();
+    terminal.tick_buckets();
+    if let Some(told) = downlink(station, terminal, tti, 1500, good)? {
+        count(told, down, looped(terminal, looping))?;
+    }
+    if let Some(told) = uplink(station, terminal, tti, 1500, good)? {
+        count(told, up, None)?;
+    }
+    Ok(())
+}
+
+fn looped(terminal: &mut Node<Attached>, looping: bool) -> Option<&mut Node<Attached>> {
+    if looping { Some(terminal) } else { None }
+}
+
+// Through damaged blocks and a handover all arrives, and what a test loop at the terminal returns.
+#[test]
+fn a_test_loop_returns_what_arrives(rt: HostRuntime) -> Result<(), Fail> {
+    let alloc = rt.alloc();
+    let mut station = with_three(alloc, Side::Nb)?;
+    let mut terminal = with_three(alloc, Side::Ue)?;
+    let mut down = Counts::new();
+    let mut up = Counts::new();
+    submit(&mut station, 1, &[1; 30])?;
+    submit(&mut terminal, 1, &[2; 30])?;
+    for tti in 0..200u64 {
+        if tti % 2 == 1 {
+            submit(&mut station, 3, &[3; 1400])?;
+        }
+        if tti % 20 == 0 {
+            submit(&mut station, 4, &[4; 40])?;
+        }
+        if tti == 100 {
+            let (moved, told) = hand_over(station)?;
+            station = moved;
+            count(told, &mut up, None)?;
+            let (moved, told) = hand_over(terminal)?;
+            terminal = moved;
+            count(told, &mut down, Some(&mut terminal))?;
+        }
+        looped_tti(&mut station, &mut terminal, tti, true, &mut down, &mut up)?;
+    }
+    for tti in 200..400u64 {
+        looped_tti(&mut station, &mut terminal, tti, false, &mut down, &mut up)?;
+    }
+    assert!(rt; station.drained() && terminal.drained());
+    assert!(rt; down.are(1, 100, 10));
+    assert!(rt; up.are(1, 99, 10));
+    Ok(())
 }

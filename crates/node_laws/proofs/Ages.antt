@@ -1,5 +1,6 @@
 -- No call of a bearer but a take uses a number.
-use Rattle.std.proofs.Common.{◌≡◌, ◌≤◌, ℕ, ◌+◌, nat_lt, Bool, true, false, if◌then◌else◌, Option, Some, None, Result, Ok, Err, List, [], ◌∷◌, ◌++◌, length, length-drop, refl, ap, ◌∙◌, arith}
+use Rattle.std.proofs.Common.{◌≡◌, ◌≤◌, ◌<◌, ℕ, ◌+◌, ◌==◌, nat_lt, Bool, true, false, if◌then◌else◌, Option, Some, None, Result, Ok, Err, List, [], ◌∷◌, ◌++◌, length, length-drop, refl, ap, sym, ◌∙◌, arith}
+use Rattle.std.proofs.lemmas.Bool.Decides.{nat_tests}
 use Rattle.std.proofs.Math.ListN.{length-set}
 use Rattle.bearer.specs.declared.flow.Flow.{Flow}
 use Rattle.bearer.specs.declared.flow.Flow.TheVariants.{Tm, Um, Am}
@@ -8,7 +9,7 @@ use Rattle.bearer.specs.declared.flow.StoppedFlow.TheVariants as stops
 use Rattle.bearer.specs.Bearer.{flow_of}
 use Rattle.bearer.specs.Hearing.{arrived, expired, ticked, with_discard}
 use Rattle.bearer.specs.Lives.{restarted}
-use Rattle.bearer.specs.Submitting.{submitted}
+use Rattle.bearer.specs.Submitting.{refusal, submitted}
 use Rattle.bearer_am.specs.State.{State as AmState, Work, work, has_more, fresh as fresh_am}
 use Rattle.bearer_am.specs.Hearing.{settled_if, heard_work, hears, hears_all, status_work, arrived_left as am_arrived_left, after_arrival as am_after_arrival, confirms, all_confirmed}
 use Rattle.bearer_am.specs.Lives.{restarted as am_restarted}
@@ -20,6 +21,7 @@ use Rattle.bearer_types.specs.declared.config.BearerConfig.{BearerConfig}
 use Rattle.bearer_um.specs.State.{State as UmState, fresh as fresh_um}
 use Rattle.bearer_um.specs.Hearing.{arrived_left as um_arrived_left, after_arrival as um_after_arrival, expiry_left, clock_left as um_clock_left, after_expiry as um_after_expiry, timed_left, counted_down, after_ticking}
 use Rattle.eps_sec.specs.declared.Keys.{Keys}
+use Rattle.l2_bits.specs.declared.fault.SubmitRefusal.TheVariants.{Empty}
 use Rattle.l2_num.specs.Timers.{ends, runs}
 use Rattle.l2_types.specs.declared.channel.Kind.{Kind}
 use Rattle.l2_types.specs.declared.channel.Kind.TheVariants as kinds
@@ -40,30 +42,32 @@ use Rattle.rlc_pdu.specs.declared.Expired.TheVariants.{Done, NotRunning}
 use Rattle.rlc_pdu.specs.declared.RlcRefusal.{RlcRefusal}
 use Rattle.rlc_pdu.specs.Pdus.{AcknowledgedPdu, Payload, Status, StatusPdu, UmdPdu}
 use Rattle.rlc_pdu.specs.Reading.{am_at, umd_at}
+use Rattle.rlc_queue.specs.Waiting.{HaveOctets}
 use Rattle.rlc_um.specs.Receiver.{expiring}
+use Rattle.rlc_um.specs.Transparent.{Transparent, refusal as tm_refusal}
 use Rattle.node_laws.specs.Holding.{next_number, width}
 
--- an acknowledged sender has at most a window of numbers that aren't acknowledged
-abbrev pub IsFew : Flow → Type 0
-IsFew (Tm b) = Unit {0}
-IsFew (Um b) = Unit {0}
-IsFew (Am b) = length b.tx.window.slots ≤ 512
+-- an SDU that waits at a transparent bearer has an octet; an acknowledged sender has at most a window of numbers that aren't acknowledged
+abbrev pub Stands : Flow → Type 0
+Stands (Tm b) = HaveOctets b.waiting
+Stands (Um b) = Unit {0}
+Stands (Am b) = length b.tx.window.slots ≤ 512
 
 -- what isn't too old before a call isn't behind it
 pub record Ages (f g : Flow) : Type 0 where
   pub young : (n : ℕ) → next_number f ≤ n + width f → next_number g ≤ n + width g
-  pub few : IsFew f → IsFew g
+  pub stands : Stands f → Stands g
 
 pub stays : (f : Flow) → Ages f f
-stays f = record { young = λ n le. le; few = λ h. h }
+stays f = record { young = λ n le. le; stands = λ h. h }
 
 pub ages_then : (f g h : Flow) → Ages f g → Ages g h → Ages f h
-ages_then f g h a b = record { young = λ n le. b.young n (a.young n le); few = λ k. b.few (a.few k) }
+ages_then f g h a b = record { young = λ n le. b.young n (a.young n le); stands = λ k. b.stands (a.stands k) }
 
 -- ---- an unacknowledged bearer
 
 um_ages : (b d : UmState) → d.tx ≡ b.tx → Ages (Um b) (Um d)
-um_ages b d e = record { young = λ n le. rw e le; few = λ h. h }
+um_ages b d e = record { young = λ n le. rw e le; stands = λ h. h }
 
 um_arrives : (r : Result UmdPdu RlcRefusal) (b : UmState) → (um_arrived_left r b).tx ≡ b.tx
 um_arrives (Err fault) b = refl
@@ -93,7 +97,7 @@ pub record Keeps (s t : AmSender) : Type 0 where
   pub few : length s.window.slots ≤ 512 → length t.window.slots ≤ 512
 
 am_ages : (b d : AmState) → Keeps b.tx d.tx → Ages (Am b) (Am d)
-am_ages b d k = record { young = λ n le. omega (arith, k.next_is, le); few = k.few }
+am_ages b d k = record { young = λ n le. omega (arith, k.next_is, le); stands = k.few }
 
 by_window : (s t : AmSender) → t.window ≡ s.window → Keeps s t
 by_window s t e = record { next_is = ap (λ (w : Kept). next w) e; few = λ h. rw e h }
@@ -193,17 +197,27 @@ am_ticks b =
 
 -- ---- any bearer
 
-pub submitted_ages : (f : Flow) (sdu : List ℕ) → Ages f (submitted f sdu)
-unfolding submitted
-submitted_ages (Tm b) sdu = record { young = λ n le. le; few = λ h. h }
-submitted_ages (Um b) sdu = record { young = λ n le. le; few = λ h. h }
-submitted_ages (Am b) sdu = record { young = λ n le. le; few = λ h. h }
+more_octets : (xs : List (List ℕ)) (x : List ℕ) → 0 < length x → HaveOctets xs → HaveOctets (xs ++ x ∷ [])
+more_octets [] x some h = (some, tt)
+more_octets (y ∷ ys) x some h = (h.0, more_octets ys x some h.1)
+
+-- an SDU without octets is refused
+taken_by : (t : Bool) (s : Transparent) (sdu : List ℕ) → (length sdu == 0) ≡ t → tm_refusal s sdu ≡ None → 0 < length sdu
+unfolding tm_refusal
+taken_by true s sdu e h = let no : Some Empty ≡ None = sym (rw e refl) ∙ h in cc
+taken_by false s sdu e h = grind (arith, nat_tests)
+
+pub submitted_ages : (f : Flow) (sdu : List ℕ) → refusal f sdu ≡ None → Ages f (submitted f sdu)
+unfolding submitted refusal
+submitted_ages (Tm b) sdu e = record { young = λ n le. le; stands = λ h. more_octets b.waiting sdu (taken_by (length sdu == 0) b sdu refl e) h }
+submitted_ages (Um b) sdu e = record { young = λ n le. le; stands = λ h. h }
+submitted_ages (Am b) sdu e = record { young = λ n le. le; stands = λ h. h }
 
 pub discard_ages : (f : Flow) (ttis : ℕ) → Ages f (with_discard f ttis)
 unfolding with_discard
-discard_ages (Tm b) ttis = record { young = λ n le. le; few = λ h. h }
-discard_ages (Um b) ttis = record { young = λ n le. le; few = λ h. h }
-discard_ages (Am b) ttis = record { young = λ n le. le; few = λ h. h }
+discard_ages (Tm b) ttis = record { young = λ n le. le; stands = λ h. h }
+discard_ages (Um b) ttis = record { young = λ n le. le; stands = λ h. h }
+discard_ages (Am b) ttis = record { young = λ n le. le; stands = λ h. h }
 
 pub arrived_ages : (f : Flow) (pdu : List ℕ) → Ages f (arrived f pdu)
 unfolding arrived um_after_arrival am_after_arrival
@@ -227,16 +241,16 @@ ticked_ages (Am b) = am_ages b (am_ticked b).bearer (am_ticks b)
 
 begun_by : (k : Kind) (c : BearerConfig) (keys : Keys) (side : Side) (f : Flow) → Ages f (flow_of k c keys side)
 unfolding fresh_am fresh_um
-begun_by kinds.Tm c keys side f = record { young = λ n le. omega arith; few = λ h. tt }
-begun_by kinds.Srb c keys side f = record { young = λ n le. omega arith; few = λ h. omega arith }
-begun_by kinds.Um c keys side f = record { young = λ n le. omega arith; few = λ h. tt }
-begun_by kinds.Am c keys side f = record { young = λ n le. omega arith; few = λ h. omega arith }
+begun_by kinds.Tm c keys side f = record { young = λ n le. omega arith; stands = λ h. tt }
+begun_by kinds.Srb c keys side f = record { young = λ n le. omega arith; stands = λ h. omega arith }
+begun_by kinds.Um c keys side f = record { young = λ n le. omega arith; stands = λ h. tt }
+begun_by kinds.Am c keys side f = record { young = λ n le. omega arith; stands = λ h. omega arith }
 
 pub begun_ages : (c : BearerConfig) (keys : Keys) (side : Side) (f : Flow) → Ages f (flow_of c.kind c keys side)
 begun_ages c keys side f = begun_by c.kind c keys side f
 
-pub restarted_few : (s : StoppedFlow) (keys : Keys) → IsFew (restarted s keys)
+pub restarted_stands : (s : StoppedFlow) (keys : Keys) → Stands (restarted s keys)
 unfolding restarted am_restarted
-restarted_few stops.Tm keys = tt
-restarted_few (stops.Um b) keys = tt
-restarted_few (stops.Am b) keys = omega arith
+restarted_stands stops.Tm keys = tt
+restarted_stands (stops.Um b) keys = tt
+restarted_stands (stops.Am b) keys = omega arith

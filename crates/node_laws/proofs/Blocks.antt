@@ -33,6 +33,7 @@ use Rattle.l2_node.specs.Writing.{needs, shares, Work, work, nothing_written, ta
 use Rattle.node_laws.specs.Blocks.{pdus_by, sdus_by, all_sdus, EachFits, report, reported, IsBlockOf}
 use Rattle.node_laws.specs.Calls.{Call, AreGiven, reached}
 use Rattle.node_laws.specs.Sharing.{share}
+use Rattle.node_laws.proofs.Fitting.{pdus_fit}
 use Rattle.node_laws.proofs.Reports.{FitsIn, IsUp, report_fits_in, only_up}
 use Rattle.node_laws.proofs.Sharing.{Apart, sound_apart}
 use Rattle.node_laws.proofs.Writers.{one_by, all_by, all_same}
@@ -188,9 +189,8 @@ block_by e grant s w some most f =
     }
 
 pub has_what_was_written : (side : Side) (maximum : ℕ) (reports : Bool) (calls : List Call) → AreGiven calls
-    → (tti : ℕ) (order : Order) (grant : ℕ) → 1 ≤ grant → grant ≤ 9422
-    → EachFits (visited tti order (reached side maximum reports calls)) grant → IsBlockOf (visited tti order (reached side maximum reports calls)) grant
-has_what_was_written side maximum reports calls g tti order grant some most f =
+    → (tti : ℕ) (order : Order) (grant : ℕ) → 1 ≤ grant → grant ≤ 9422 → IsBlockOf (visited tti order (reached side maximum reports calls)) grant
+has_what_was_written side maximum reports calls g tti order grant some most =
     let e = visited tti order (reached side maximum reports calls) in
     let s = visiting_sound side maximum reports calls tti order g in
-    block_by e grant s (written_is e grant s) some most f
+    block_by e grant s (written_is e grant s) some most (pdus_fit side maximum reports calls tti order grant)

@@ -17,6 +17,7 @@ use Rattle.harq.specs.declared.sender.Order.{Order}
 use Rattle.harq.specs.declared.sender.Visit.{Visit}
 use Rattle.harq.specs.declared.sender.Visit.TheVariants.{New, Resend, Silent}
 use Rattle.harq.specs.Sending.{Sending, fresh as fresh_sender, after_visit, after_load, after_feedback, held_of}
+use Rattle.l2_bits.specs.declared.fault.SubmitRefusal.{SubmitRefusal}
 use Rattle.l2_types.specs.declared.channel.Channel.{Channel}
 use Rattle.l2_types.specs.declared.side.Side.{Side}
 use Rattle.mac_pdu.specs.declared.fault.MacRefusal.{MacRefusal}
@@ -28,11 +29,11 @@ use Rattle.l2_node.specs.End.{End, fresh, heard_by, no_numbers, with_bearer, res
 use Rattle.l2_node.specs.Finding.{Numbers, find, has, place, bearer_at, number_at, counted, lowest}
 use Rattle.l2_node.specs.Hearing.{Heard, heard, hears_sdu, hears, hears_all, heard_items, received, ticks_at, ticks_over, ticked, bearer_of, expired}
 use Rattle.l2_node.specs.Moving.{all_stopped, all_restarted, left_cell, joined}
-use Rattle.l2_node.specs.Submitting.{submitted, discarding}
+use Rattle.l2_node.specs.Submitting.{refusal, submitted, discarding}
 use Rattle.l2_node.specs.Writing.{shares, Work, work, nothing_written, noted, writes, all_write, written, new_block}
-use Rattle.node_laws.specs.Calls.{Turn, Call, SetVisits, SetReports, Add, Submit, SetDiscard, Tick, TickBuckets, Visits, Grants, Granted, Assigned, Pass, Receive, Expire, Move, answered, after}
+use Rattle.node_laws.specs.Calls.{Turn, Call, SetVisits, SetReports, Add, Submit, SetDiscard, Tick, TickBuckets, Visits, Grants, Granted, Assigned, Pass, Receive, Expire, Move, answered, after_submit, after, run, reached}
 use Rattle.node_laws.specs.Holding.{next_number, width}
-use Rattle.node_laws.proofs.Ages.{IsFew, Ages, stays, ages_then, submitted_ages, discard_ages, arrived_ages, expired_ages, ticked_ages, begun_ages, restarted_few}
+use Rattle.node_laws.proofs.Ages.{Stands, Ages, stays, ages_then, submitted_ages, discard_ages, arrived_ages, expired_ages, ticked_ages, begun_ages, restarted_stands}
 use Rattle.node_laws.proofs.Holders.{set_cases, Fewer, visit_fewer, feedback_fewer, load_other, fresh_none, fewer_numbers, noted_number, none_counted, lowest_least}
 use Rattle.node_laws.proofs.Places.{find_set, found}
 use Rattle.node_laws.proofs.Takings.{Took, takes}
@@ -119,17 +120,17 @@ block_all (Err refusal) h = λ l. stays (flow_at l h.bearers)
 
 pub record Young (bs : List (Of Life)) (s : Sending) (numbers : Numbers) : Type 0 where
   pub young : (l p n : ℕ) → p < 8 → number_at s numbers l p ≡ Some n → next_number (flow_at l bs) ≤ n + width (flow_at l bs)
-  pub few : (l : ℕ) → IsFew (flow_at l bs)
+  pub stands : (l : ℕ) → Stands (flow_at l bs)
   pub rows : length numbers ≡ 8
 
 aged : (bs ds : List (Of Life)) (s : Sending) (numbers : Numbers) → AllAge bs ds → Young bs s numbers → Young ds s numbers
-aged bs ds s numbers a y = record { young = λ l p n lt e. (a l).young n (y.young l p n lt e); few = λ l. (a l).few (y.few l); rows = y.rows }
+aged bs ds s numbers a y = record { young = λ l p n lt e. (a l).young n (y.young l p n lt e); stands = λ l. (a l).stands (y.stands l); rows = y.rows }
 
 fewer : (bs : List (Of Life)) (s t : Sending) (numbers : Numbers) → Fewer s t → Young bs s numbers → Young bs t numbers
-fewer bs s t numbers f y = record { young = λ l p n lt e. y.young l p n lt (fewer_numbers s t numbers l p n f e); few = y.few; rows = y.rows }
+fewer bs s t numbers f y = record { young = λ l p n lt e. y.young l p n lt (fewer_numbers s t numbers l p n f e); stands = y.stands; rows = y.rows }
 
-emptied : (bs : List (Of Life)) (maximum : ℕ) → ((l : ℕ) → IsFew (flow_at l bs)) → Young bs (fresh_sender maximum) no_numbers
-emptied bs maximum few = record { young = λ l p n lt e. absurd (none_counted (fresh_sender maximum) no_numbers l p n (fresh_none maximum p) e); few = few; rows = refl }
+emptied : (bs : List (Of Life)) (maximum : ℕ) → ((l : ℕ) → Stands (flow_at l bs)) → Young bs (fresh_sender maximum) no_numbers
+emptied bs maximum stands = record { young = λ l p n lt e. absurd (none_counted (fresh_sender maximum) no_numbers l p n (fresh_none maximum p) e); stands = stands; rows = refl }
 
 -- ---- a new block
 
@@ -137,7 +138,7 @@ emptied bs maximum few = record { young = λ l p n lt e. absurd (none_counted (f
 record Writes (s : Sending) (numbers : Numbers) (w : Work) : Type 0 where
   held : (l p n : ℕ) → p < 8 → number_at s numbers l p ≡ Some n → next_number (flow_at l w.bearers) ≤ n + width (flow_at l w.bearers)
   row : (l n : ℕ) → get_or w.block.numbers l None ≡ Some n → next_number (flow_at l w.bearers) ≤ n + width (flow_at l w.bearers)
-  few : (l : ℕ) → IsFew (flow_at l w.bearers)
+  stands : (l : ℕ) → Stands (flow_at l w.bearers)
 
 -- the bearers once that of a channel has taken
 abbrev taken_from : ℕ → ℕ → Option ℕ → List (Of Life) → List (Of Life)
@@ -167,11 +168,11 @@ abbrev IsYoung : Flow → ℕ → Type 0
 IsYoung f n = next_number f ≤ n + width f
 
 -- the number that is noted, and one that was
-row_here : (f g : Flow) (numbers : List (Option ℕ)) (m n : ℕ) (held given : Option ℕ) → Took f held given g → IsFew f
+row_here : (f g : Flow) (numbers : List (Option ℕ)) (m n : ℕ) (held given : Option ℕ) → Took f held given g → Stands f
     → ((n : ℕ) → get_or numbers m None ≡ Some n → IsYoung f n) → get_or (noted numbers m given) m None ≡ Some n → IsYoung g n
-row_here f g numbers m n held None t few old e = t.none refl n (old n e)
-row_here f g numbers m n held (Some k) t few old e = elim (cases_lt m (length numbers)) [
-  | inl lt ↦ t.new n (sym (get_or-set_same numbers m (Some k) None lt) ∙ e) few
+row_here f g numbers m n held None t stands old e = t.none refl n (old n e)
+row_here f g numbers m n held (Some k) t stands old e = elim (cases_lt m (length numbers)) [
+  | inl lt ↦ t.new n (sym (get_or-set_same numbers m (Some k) None lt) ∙ e) stands
   | inr ge ↦ let no : None ≡ Some n = sym (get_or_past (set numbers m (Some k)) m None (omega (arith, length-set numbers m (Some k), ge))) ∙ e in cc
 ]
 
@@ -199,16 +200,16 @@ writes_by true m share s numbers w h v =
         | inl same ↦
             let at = subst (λ (k : ℕ). get_or (noted w.block.numbers m (number f share held)) k None ≡ Some n) same e in
             subst (λ (k : ℕ). IsYoung (flow_at k (taken_from m share held w.bearers)) n) (sym same)
-            (subst (λ (x : Flow). IsYoung x n) (sym here) (row_here f g w.block.numbers m n held (number f share held) t (v.few m) (v.row m) at))
+            (subst (λ (x : Flow). IsYoung x n) (sym here) (row_here f g w.block.numbers m n held (number f share held) t (v.stands m) (v.row m) at))
         | inr apart ↦
             subst (λ (x : Flow). IsYoung x n) (sym (wrote_other m share held w.bearers l h apart))
             (v.row l n (sym (row_other w.block.numbers m l (number f share held) apart) ∙ e))
       ];
-      few = λ l. elim (cases_eq l m) [
+      stands = λ l. elim (cases_eq l m) [
         | inl same ↦
-            subst (λ (k : ℕ). IsFew (flow_at k (taken_from m share held w.bearers))) (sym same)
-            (subst IsFew (sym here) (t.few (v.few m)))
-        | inr apart ↦ subst IsFew (sym (wrote_other m share held w.bearers l h apart)) (v.few l)
+            subst (λ (k : ℕ). Stands (flow_at k (taken_from m share held w.bearers))) (sym same)
+            (subst Stands (sym here) (t.stands (v.stands m)))
+        | inr apart ↦ subst Stands (sym (wrote_other m share held w.bearers l h apart)) (v.stands l)
       ];
     })
 
@@ -227,7 +228,7 @@ written_young : (e : End) (grant : ℕ) → Young e.bearers e.sender e.numbers �
 unfolding written
 written_young e grant y =
     writes_all e.sender e.numbers (shares e grant) e.buckets.channels (work e.bearers (nothing_written e.side))
-    (record { held = y.young; row = λ l n h. absurd (none_at 11 l n h); few = y.few })
+    (record { held = y.young; row = λ l n h. absurd (none_at 11 l n h); stands = y.stands })
 
 -- ---- each call
 
@@ -249,7 +250,7 @@ loaded_young tti grant e y =
             let there : get_or (set e.numbers at row) p [] ≡ get_or e.numbers p [] = get_or-set_other e.numbers at p row [] apart in
             w.held l p n lt (ap (λ (r : List (Option ℕ)). counted (held_of e.sender p) (get_or r l None)) (sym there) ∙ ap (λ (o : Option (List ℕ)). counted o (get_or (get_or (set e.numbers at row) p []) l None)) (sym holds) ∙ h)
       ];
-      few = w.few;
+      stands = w.stands;
       rows = length-set e.numbers at row ∙ y.rows;
     }
 
@@ -272,9 +273,9 @@ one_young lcid b e a y =
     let ds = set e.bearers (find lcid e.bearers) (of (bearer_of lcid e).lcid b) in
     aged e.bearers ds e.sender e.numbers (set_all e.bearers (find lcid e.bearers) (of (bearer_of lcid e).lcid b) refl a) y
 
-restarted_at : (ps : List (Of StoppedFlow)) (keys : Keys) (k : ℕ) → IsFew (bearer_at (all_restarted ps keys) k).state.flow
+restarted_at : (ps : List (Of StoppedFlow)) (keys : Keys) (k : ℕ) → Stands (bearer_at (all_restarted ps keys) k).state.flow
 restarted_at [] keys k = tt
-restarted_at (p ∷ ps) keys zero = restarted_few p.state keys
+restarted_at (p ∷ ps) keys zero = restarted_stands p.state keys
 restarted_at (p ∷ ps) keys (suc k) = restarted_at ps keys k
 
 begun_young : (c : BearerConfig) (keys : Keys) (e : End) → Young e.bearers e.sender e.numbers → Young (insert e.bearers (place c.channel.lcid e.bearers) (begun c keys e.side)) e.sender e.numbers
@@ -283,12 +284,18 @@ begun_young c keys e y =
     let x = begun c keys e.side in
     aged e.bearers (insert e.bearers (place c.channel.lcid e.bearers) x) e.sender e.numbers (insert_all e.bearers x c.channel.lcid (λ f. begun_ages c keys e.side f)) y
 
+submit_young : (r : Option SubmitRefusal) (lcid : ℕ) (octets : List ℕ) (e : End) → refusal lcid octets e ≡ r → Young e.bearers e.sender e.numbers
+    → Young (after_submit r lcid octets e).bearers e.sender e.numbers
+unfolding refusal submitted
+submit_young None lcid octets e h y = one_young lcid (alive (flow_submitted (bearer_of lcid e).state.flow octets)) e (submitted_ages (bearer_of lcid e).state.flow octets h) y
+submit_young (Some why) lcid octets e h y = y
+
 pub call_young : (e : End) (c : Call) → Young e.bearers e.sender e.numbers → Young (after e c).bearers (after e c).sender (after e c).numbers
 unfolding with_visits with_bearer submitted discarding expired ticked received built joined left_cell reset
-call_young e (SetVisits maximum) y = emptied e.bearers maximum y.few
+call_young e (SetVisits maximum) y = emptied e.bearers maximum y.stands
 call_young e (SetReports reports) y = y
 call_young e (Add c keys) y = begun_young c keys e y
-call_young e (Submit lcid octets) y = one_young lcid (alive (flow_submitted (bearer_of lcid e).state.flow octets)) e (submitted_ages (bearer_of lcid e).state.flow octets) y
+call_young e (Submit lcid octets) y = submit_young (refusal lcid octets e) lcid octets e refl y
 call_young e (SetDiscard lcid ttis) y = one_young lcid (record (bearer_of lcid e).state { flow = with_discard (bearer_of lcid e).state.flow ttis }) e (discard_ages (bearer_of lcid e).state.flow ttis) y
 call_young e Tick y = aged e.bearers (ticks_over e.bearers 0 (heard e.bearers [])).bearers e.sender e.numbers (ticks_all e.bearers 0 (heard e.bearers [])) y
 call_young e TickBuckets y = y
@@ -306,3 +313,12 @@ call_young e (Move keys) y =
 pub fresh_young : (side : Side) (maximum : ℕ) (reports : Bool) → Young (fresh side maximum reports).bearers (fresh side maximum reports).sender (fresh side maximum reports).numbers
 unfolding fresh
 fresh_young side maximum reports = emptied [] maximum (λ l. tt)
+
+run_young : (cs : List Call) (e : End) → Young e.bearers e.sender e.numbers → Young (run cs e).bearers (run cs e).sender (run cs e).numbers
+run_young [] e y = y
+run_young (c ∷ cs) e y = run_young cs (after e c) (call_young e c y)
+
+-- an end that has visited a process
+pub visiting_young : (side : Side) (maximum : ℕ) (reports : Bool) (calls : List Call) (tti : ℕ) (order : Order)
+    → Young (visited tti order (reached side maximum reports calls)).bearers (visited tti order (reached side maximum reports calls)).sender (visited tti order (reached side maximum reports calls)).numbers
+visiting_young side maximum reports calls tti order = visited_young tti order (reached side maximum reports calls) (run_young calls (fresh side maximum reports) (fresh_young side maximum reports))

@@ -5,6 +5,10 @@ pub mod Places
 pub mod Reports
 pub mod Writers
 pub mod Telling
+pub mod Sizes
+pub mod Within
+pub mod AmWithin
+pub mod Fitting
 pub mod Blocks
 pub mod Waiting
 pub mod Ages
@@ -12,3 +16,6 @@ pub mod Takings
 pub mod Holders
 pub mod Holding
 pub mod Noting
+pub mod Silences
+pub mod Owning
+pub mod Sends

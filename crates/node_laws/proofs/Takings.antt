@@ -1,5 +1,5 @@
 -- A take uses a new number only where none that HARQ holds is too far back.
-use Rattle.std.proofs.Common.{◌≡◌, ◌≤◌, ◌<◌, ℕ, ◌+◌, nat_le, nat_lt, Bool, true, false, not, ◌&&◌, if◌then◌else◌, Option, Some, None, [], ◌∷◌, length, length-append, refl, ap, ◌∙◌, arith}
+use Rattle.std.proofs.Common.{◌≡◌, ◌≤◌, ◌<◌, ℕ, ◌+◌, ◌-◌, nat_le, nat_lt, Bool, true, false, not, ◌&&◌, if◌then◌else◌, Option, Some, None, List, [], ◌∷◌, length, length-append, refl, ap, ◌∙◌, arith}
 use Rattle.std.proofs.lemmas.Bool.Decides.{nat_tests}
 use Rattle.std.proofs.lemmas.Grind.{common_steps}
 use Rattle.std.proofs.Math.ListN.{length-set}
@@ -19,9 +19,11 @@ use Rattle.am_tx_laws.proofs.Carried.{polled-next}
 use Rattle.am_tx_laws.proofs.Least.{polled-window, new-room}
 use Rattle.am_tx_window.specs.Sent.{all_wait, whole_size, rested, sent_part, next_stretch}
 use Rattle.am_tx_window.specs.Window.{Kept, next}
+use Rattle.rlc_queue.specs.Waiting.{HaveOctets}
+use Rattle.rlc_um.specs.Transparent.{behind_first, after_take as tm_after}
 use Rattle.rlc_um.specs.Sender.{Sender as UmSender, Turn as UmTurn, Gives, IsIdle, IsHeld, IsSmall, turn as um_turn, answer as um_answer_of, after_turn as um_after_turn, taken as um_taken, after_take as um_after_take, is_held as um_is_held, width_of}
 use Rattle.node_laws.specs.Holding.{next_number, width}
-use Rattle.node_laws.proofs.Ages.{IsFew}
+use Rattle.node_laws.proofs.Ages.{Stands}
 use Rattle.node_laws.proofs.Waiting.{turn_by, all_grown, um_grown}
 
 -- at least the lowest number that is held
@@ -32,9 +34,9 @@ IsAtLeast (Some low) n = low ≤ n
 -- a take: what HARQ holds isn't too old behind it, nor is the number that it gives; without a number none is used
 pub record Took (f : Flow) (held given : Option ℕ) (g : Flow) : Type 0 where
   pub young : (n : ℕ) → IsAtLeast held n → next_number f ≤ n + width f → next_number g ≤ n + width g
-  pub new : (n : ℕ) → given ≡ Some n → IsFew f → next_number g ≤ n + width g
+  pub new : (n : ℕ) → given ≡ Some n → Stands f → next_number g ≤ n + width g
   pub none : given ≡ None → (n : ℕ) → next_number f ≤ n + width f → next_number g ≤ n + width g
-  pub few : IsFew f → IsFew g
+  pub stands : Stands f → Stands g
 
 -- ---- an acknowledged sender
 
@@ -123,7 +125,7 @@ am_takes b share held =
       young = λ n low le. k.young n low (omega (arith, n', le));
       new = λ n is few. k.new n is (omega (arith, l, few));
       none = λ is n le. omega (arith, k.none is, n', le);
-      few = λ few. k.few (omega (arith, l, few));
+      stands = λ few. k.few (omega (arith, l, few));
     }
 
 -- ---- an unacknowledged sender
@@ -173,11 +175,21 @@ um_takes b share held =
       young = λ n low le. omega (arith, v, k.young n low (omega (arith, w, g.next', le)));
       new = λ n is few. omega (arith, v, k.new n is);
       none = λ is n le. omega (arith, v, w, g.next', k.none is, le);
-      few = λ few. tt;
+      stands = λ few. tt;
     }
 
+-- ---- a transparent sender: what waits is the others, or all
+
+behind_by : (next size : ℕ) (sdu : List ℕ) (more : List (List ℕ)) (t : Bool) → nat_lt size (length sdu) ≡ t → HaveOctets (sdu ∷ more) → HaveOctets (behind_first next size (sdu ∷ more)).waiting
+behind_by next size sdu more true e h = rw e h
+behind_by next size sdu more false e h = rw e h.1
+
+behind_octets : (next size : ℕ) (sdus : List (List ℕ)) → HaveOctets sdus → HaveOctets (behind_first next size sdus).waiting
+behind_octets next size [] h = tt
+behind_octets next size (sdu ∷ more) h = behind_by next size sdu more (nat_lt size (length sdu)) refl h
+
 pub takes : (f : Flow) (share : ℕ) (held : Option ℕ) → Took f held (number f share held) (after f share held)
-unfolding number after
-takes (Tm b) share held = record { young = λ n low le. omega arith; new = λ n is few. omega arith; none = λ is n le. omega arith; few = λ few. tt }
+unfolding number after tm_after
+takes (Tm b) share held = record { young = λ n low le. omega arith; new = λ n is few. omega arith; none = λ is n le. omega arith; stands = λ h. behind_octets b.next (share - 3) b.waiting h }
 takes (Um b) share held = um_takes b share held
 takes (Am b) share held = am_takes b share held

@@ -57,5 +57,9 @@ pub record IsBlockOf (e : End) (grant : ℕ) : Type 0 where
 -- of any end, as it has visited a process
 abbrev pub BlockHasWhatWasWritten : Type 0
 BlockHasWhatWasWritten = (side : Side) (maximum : ℕ) (reports : Bool) (calls : List Call) → AreGiven calls
-    → (tti : ℕ) (order : Order) (grant : ℕ) → 1 ≤ grant → grant ≤ 9422
-    → EachFits (visited tti order (reached side maximum reports calls)) grant → IsBlockOf (visited tti order (reached side maximum reports calls)) grant
+    → (tti : ℕ) (order : Order) (grant : ℕ) → 1 ≤ grant → grant ≤ 9422 → IsBlockOf (visited tti order (reached side maximum reports calls)) grant
+
+-- of any end, likewise, and by any grant
+abbrev pub PdusFitTheirShares : Type 0
+PdusFitTheirShares = (side : Side) (maximum : ℕ) (reports : Bool) (calls : List Call)
+    → (tti : ℕ) (order : Order) (grant : ℕ) → EachFits (visited tti order (reached side maximum reports calls)) grant

@@ -1,5 +1,5 @@
 -- One end of the link through any calls, from cell to cell.
-use Rattle.std.specs.Prelude.{ℕ, ◌≤◌, Bool, Option, List, [], ◌∷◌}
+use Rattle.std.specs.Prelude.{ℕ, ◌≤◌, Bool, Option, Some, None, List, [], ◌∷◌}
 use Rattle.bearer_types.specs.Configs.{IsConfig}
 use Rattle.bearer_types.specs.declared.config.BearerConfig.{BearerConfig}
 use Rattle.eps_sec.specs.declared.Keys.{Keys}
@@ -8,6 +8,7 @@ use Rattle.harq.specs.declared.sender.Visit.{Visit}
 use Rattle.harq.specs.declared.sender.Visit.TheVariants.{New, Resend, Silent}
 use Rattle.harq.specs.Sending.{after_feedback}
 use Rattle.harq.specs.Receiving.{after_assigned, after_grant, after_granted, after_pass}
+use Rattle.l2_bits.specs.declared.fault.SubmitRefusal.{SubmitRefusal}
 use Rattle.l2_types.specs.declared.event.Clock.{Clock}
 use Rattle.l2_types.specs.declared.side.Side.{Side}
 use Rattle.prioritise.specs.Shares.{ticked as grown}
@@ -15,7 +16,7 @@ use Rattle.l2_node.specs.Building.{IsEnough, visit, built}
 use Rattle.l2_node.specs.End.{End, fresh, with_bearer, with_visits}
 use Rattle.l2_node.specs.Hearing.{received, ticked, expired}
 use Rattle.l2_node.specs.Moving.{left_cell, joined}
-use Rattle.l2_node.specs.Submitting.{submitted, discarding}
+use Rattle.l2_node.specs.Submitting.{refusal, submitted, discarding}
 
 -- the visit of a sending process in a TTI: its grant, and the feedback that is read on what it sends
 pub record Turn : Type 0 where
@@ -48,11 +49,16 @@ answered New t e = record e { sender = after_feedback e.sender t.tti t.good }
 answered (Resend rv) t e = record e { sender = after_feedback e.sender t.tti t.good }
 answered Silent t e = e
 
+-- an SDU that is refused changes nothing
+abbrev pub after_submit : Option SubmitRefusal → ℕ → List ℕ → End → End
+after_submit None lcid sdu e = submitted lcid sdu e
+after_submit (Some why) lcid sdu e = e
+
 abbrev pub after : End → Call → End
 after e (SetVisits maximum) = with_visits maximum e
 after e (SetReports reports) = record e { reports = reports }
 after e (Add c keys) = with_bearer c keys e
-after e (Submit lcid sdu) = submitted lcid sdu e
+after e (Submit lcid sdu) = record e { bearers = (after_submit (refusal lcid sdu e) lcid sdu e).bearers }
 after e (SetDiscard lcid ttis) = discarding lcid ttis e
 after e Tick = record e { bearers = (ticked e).bearers }
 after e TickBuckets = record e { buckets = grown e.buckets }

@@ -4,4 +4,5 @@ pub mod Sharing
 pub mod Processes
 pub mod Blocks
 pub mod Waiting
+pub mod Writing
 pub mod Holding

@@ -1,17 +1,23 @@
 //! What one end of the link promises over any calls. A law is the contract of a function that does nothing.
 #![tactic(auto)]
 
-ghost use Rattle.node_laws.specs.Blocks.{BlockHasWhatWasWritten};
+ghost use Rattle.node_laws.specs.Blocks.{BlockHasWhatWasWritten, PdusFitTheirShares};
 ghost use Rattle.node_laws.specs.Holding.{HoldsNoOldNumber};
 ghost use Rattle.node_laws.specs.Processes.{ResendsWhatWasBuilt};
 ghost use Rattle.node_laws.specs.Sharing.{SharesAreWithinTheGrant};
 ghost use Rattle.node_laws.specs.Waiting.{TellsInOrder, TellsWhyItWaits};
+ghost use Rattle.node_laws.specs.Writing.{TellsWhatItSends, WritesOnlyAsItBuilds};
 
 /// A new block has the grant's size. It is read back as padding or none, at most one report, exactly the PDUs that the bearers
-/// write, in the order of the channels and each on its own, and padding or none; where each bearer's PDUs fit its share, as
-/// `Bearer::take` promises.
+/// write, in the order of the channels and each on its own, and padding or none.
 pub fn block_has_what_was_written()
     ensures { BlockHasWhatWasWritten }
+{}
+
+/// Whatever its calls were, an end's bearers write PDUs of an octet or more each, and with 3 octets for the subheader of each
+/// those of a bearer fit its share.
+pub fn pdus_fit_their_shares()
+    ensures { PdusFitTheirShares }
 {}
 
 /// A HARQ process holds the block that it built last until a good feedback or the last of its visits, of which it has at most the
@@ -39,4 +45,15 @@ pub fn tells_why_it_waits()
 /// of that bearer, so that it can't be misread: 512, or 16 for numbers of 5 bits.
 pub fn holds_no_old_number()
     ensures { HoldsNoOldNumber }
+{}
+
+/// What RLC takes and writes, and why data waits, is told only as a block is built: never as one comes, as a TTI begins, as a timer
+/// expires or as the end leaves its cell.
+pub fn writes_only_as_it_builds()
+    ensures { WritesOnlyAsItBuilds }
+{}
+
+/// The PDUs that are told of as sent while a block is built are those in it: as many on each channel, and in that order.
+pub fn tells_what_it_sends()
+    ensures { TellsWhatItSends }
 {}
