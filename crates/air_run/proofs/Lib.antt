@@ -4,3 +4,4 @@ pub mod Final
 pub mod Allowed
 pub mod Telling
 pub mod Rounds
+pub mod Beginning

@@ -1,5 +1,6 @@
 -- Records are told one part after the other.
-use Rattle.std.proofs.Common.{◌≡◌, ◌∙◌, List, [], ◌∷◌, ◌++◌, refl, ap, sym, append-nil, append_assoc}
+use Rattle.std.proofs.Common.{◌≡◌, ◌∙◌, List, [], ◌∷◌, ◌++◌, refl, ap, sym, append_assoc}
+use Rattle.l2_io.proofs.Written.{after_after, after_nothing}
 use Rattle.air_record.specs.declared.record.Record.{Record}
 use Rattle.air_record.specs.Text.{text_of, texts_of}
 use Rattle.air_run.specs.Written.{Journal, all_seen, told}
@@ -14,10 +15,10 @@ seen-both [] b w = refl
 seen-both (r ∷ rs) b w = seen-both rs b (seen r w)
 
 pub told_both : (a b : List Record) (j : Journal) → told (a ++ b) j ≡ told b (told a j)
-told_both a b j = rw (texts_both a b, seen-both a b j.losses, append_assoc j.text (texts_of a) (texts_of b)) refl
+told_both a b j = rw (texts_both a b, seen-both a b j.losses, after_after (texts_of a) (texts_of b) j.text) refl
 
 pub told_none : (j : Journal) → told [] j ≡ j
-told_none j = rw (append-nil j.text) refl
+told_none j = rw (after_nothing j.text) refl
 
 pub told_one : (r : Record) (rs : List Record) (j : Journal) → told rs (told (r ∷ []) j) ≡ told (r ∷ rs) j
 told_one r rs j = sym (told_both (r ∷ []) rs j)

@@ -30,7 +30,7 @@ ttis (suc n) grant l = behind (drain_tti grant l).out 0 (ttis n grant (shown (dr
 
 -- ---- rounds
 
--- polls expire only where the TTI carried nothing of an acknowledged bearer
+-- t-PollRetransmit expires only where the TTI carried nothing of an acknowledged bearer
 abbrev pub senders_unless : Bool → Link → Link
 senders_unless true l = l
 senders_unless false l = senders_expire l

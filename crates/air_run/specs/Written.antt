@@ -1,5 +1,6 @@
 -- The text of a line's records, and what they tell of losses on unacknowledged bearers.
-use Rattle.std.specs.Prelude.{ℕ, List, [], ◌∷◌, ◌++◌}
+use Rattle.std.specs.Prelude.{ℕ, List, [], ◌∷◌, Option}
+use Rattle.l2_io.specs.Known.{after}
 use Rattle.air_link.specs.Link.{Link}
 use Rattle.air_record.specs.declared.line.Line.{Line}
 use Rattle.air_record.specs.declared.line.Line.TheVariants as lines
@@ -36,13 +37,14 @@ noticed line l w = w
 
 -- ---- with the text
 
+-- there may be none
 pub record Journal : Type 0 where
-  pub text : List ℕ
+  pub text : Option (List ℕ)
   pub losses : Losses
 
 -- records follow
 abbrev pub told : List Record → Journal → Journal
-told records j = record { text = j.text ++ texts_of records; losses = all_seen records j.losses }
+told records j = record { text = after j.text (texts_of records); losses = all_seen records j.losses }
 
 abbrev pub noted : Line → Link → Journal → Journal
 noted line l j = record j { losses = noticed line l j.losses }

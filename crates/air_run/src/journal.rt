@@ -1,5 +1,5 @@
-ghost use Rattle.std.specs.Prelude.{◌≡◌, ◌<◌, ◌^◌, ◌++◌, ◌∷◌, [], length, OnOk, IfOk};
-ghost use Rattle.air_record.specs.Text.{texts_of};
+ghost use Rattle.std.specs.Prelude.{◌≡◌, ◌<◌, ◌^◌, ◌++◌, ◌∷◌, [], true, None, Some, length, is_some, OnOk, IfOk};
+ghost use Rattle.air_record.specs.Text.{accepted_text};
 ghost use Rattle.air_run.specs.Written.{Journal as Machine, all_seen, all_forged, with_um, noticed, told, noted};
 ghost use Rattle.air_text.specs.Ranges.{IsInRange};
 ghost use Rattle.l2_node.specs.End.{heard_by};
@@ -18,35 +18,40 @@ use std::alloc::Global;
 use std::marker::Model;
 use um_losses::Losses;
 
-/// The text of a line's records, and what the records so far tell of losses.
+/// The text of a line's records, where it is wanted, and what the records so far tell of losses.
 #[derive(Drop)]
 pub(crate) struct Journal {
     alloc: Global,
     text: Bytes,
+    is_muted: bool,
     losses: Losses,
 }
 
 impl Model for Journal {
+    ghost use Rattle.std.specs.Prelude.{if◌then◌else◌, None, Some};
     ghost use Rattle.air_run.specs.Written.{Journal as Machine};
 
     ghost Value = { Machine };
 
-    ghost view = { λ j. record { text = j.text; losses = j.losses } };
+    ghost view = { λ j. record { text = if j.is_muted then None else Some j.text; losses = j.losses } };
 }
 
 impl Journal {
     pub fn new(alloc: Global) -> Journal
-        ensures { result ≡ record { text = []; losses = none_seen } }
+        ensures { result ≡ record { text = None; losses = none_seen } }
     {
         Journal {
             alloc,
             text: Bytes::new(alloc),
+            is_muted: true,
             losses: Losses::new(alloc),
         }
     }
 
+    /// The text of the line that was begun last.
     pub fn text(&self) -> &[u8]
-        ensures { result.now ≡ self.now.text }
+        requires { is_some self.now.text ≡ true }
+        ensures { self.now.text ≡ Some result.now }
     {
         self.text.as_slice()
     }
@@ -60,16 +65,27 @@ impl Journal {
 
     /// Begins the text of a line, with its own record.
     pub fn begin(&mut self, number: u32, line: &Line) -> Result<(), NoMemory>
-        ensures { OnOk result (self.new ≡ record self.old { text = texts_of (Record.Line number line.now ∷ []) }) }
+        ensures { OnOk result (self.new ≡ record self.old { text = Some (accepted_text number line.now) }) }
     {
+        self.is_muted = false;
         self.text = print_line(self.alloc, number, line)?;
         Ok(())
+    }
+
+    /// Begins a line of which no text is made.
+    pub fn begin_muted(&mut self)
+        ensures { self.new ≡ record self.old { text = None } }
+    {
+        self.is_muted = true;
     }
 
     pub fn put(&mut self, one: &Record) -> Result<(), NoMemory>
         ensures { OnOk result (self.new ≡ told (one.now ∷ []) self.old) }
     {
         self.losses.see(one)?;
+        if self.is_muted {
+            return Ok(());
+        }
         append_record(&mut self.text, one)
     }
 

@@ -1,5 +1,5 @@
-ghost use Rattle.std.specs.Prelude.{◌≡◌, ◌≤◌, ◌∷◌, true, false, ℕ, List, None, Some, IfOk};
-ghost use Rattle.l2_io.specs.Known.{HasRisen};
+ghost use Rattle.std.specs.Prelude.{◌≡◌, ◌≤◌, true, false, ℕ, List, None, Some, IfOk};
+ghost use Rattle.l2_io.specs.Known.{after, HasRisen};
 ghost use Rattle.air_text.specs.Ranges.{IsInRange};
 ghost use Rattle.air_run.specs.Playing.{played};
 ghost use Rattle.air_run.specs.Rules.{rule_broken, refusal, accepted};
@@ -15,7 +15,7 @@ use crate::refusal::{RunRefusal, StepFault};
 use crate::rules::Rules;
 use crate::sums::text_of_sums;
 use air_link::Link;
-use air_text::{Line, Record};
+use air_text::Line;
 use l2_bits::NoMemory;
 use l2_io::{PutFault, Sink};
 use std::alloc::Global;
@@ -57,6 +57,7 @@ impl Run {
     }
 
     /// Runs a line and writes its records. A refused line changes nothing and writes nothing.
+    #[tactic(auto, using(crate::proofs::Beginning::begun_nothing))]
     pub fn step<K: Sink>(&mut self, number: u32, line: &Line, out: &mut K) -> Result<(), StepFault>
         requires { IsInRange line.now }
         ensures step { Steps self.old number line.now self.new (K.written out.old) (K.written out.new) (HasRisen (K.faults out.old) (K.faults out.new)) result }
@@ -68,18 +69,38 @@ impl Run {
         if let Some(refusal) = self.rules.broken(line, &self.link) {
             return Err(StepFault::Refused(refusal));
         }
-        match run_line(
-            &mut self.link,
-            &mut self.rules,
-            &mut self.journal,
-            number,
-            line,
-        ) {
+        if self.journal.begin(number, line).is_err() {
+            self.dead = true;
+            return Err(StepFault::NoMemory);
+        }
+        match run_line(&mut self.link, &mut self.rules, &mut self.journal, line) {
             Ok(true) => {
                 let answer = put(self.journal.text(), out);
                 self.dead = answer == Err(StepFault::NoMemory);
                 answer
             }
+            Ok(false) => Err(StepFault::Refused(RunRefusal::TimerIdle)),
+            Err(NoMemory) => {
+                self.dead = true;
+                Err(StepFault::NoMemory)
+            }
+        }
+    }
+
+    /// Runs a line as `step` does, whatever its number, and makes no text of its records.
+    pub fn pass(&mut self, line: &Line) -> Result<(), StepFault>
+        requires { IsInRange line.now }
+        ensures { (number : ℕ) → Steps self.old number line.now self.new None None ⊥ result }
+    {
+        if self.dead {
+            return Err(StepFault::NoMemory);
+        }
+        if let Some(refusal) = self.rules.broken(line, &self.link) {
+            return Err(StepFault::Refused(refusal));
+        }
+        self.journal.begin_muted();
+        match run_line(&mut self.link, &mut self.rules, &mut self.journal, line) {
+            Ok(true) => Ok(()),
             Ok(false) => Err(StepFault::Refused(RunRefusal::TimerIdle)),
             Err(NoMemory) => {
                 self.dead = true;
@@ -103,13 +124,12 @@ impl Run {
     }
 }
 
-// Runs a line that breaks no rule; its text is in the journal. `false` where it asks for the expiry of a timer that doesn't
-// run; then nothing but that text has changed.
+// Runs a line that breaks no rule, and tells the journal. `false` where it asks for the expiry of a timer that doesn't run; then
+// nothing but the journal's text has changed.
 fn run_line(
     link: &mut Link,
     rules: &mut Rules,
     journal: &mut Journal,
-    number: u32,
     line: &Line,
 ) -> Result<bool, NoMemory>
     requires range { IsInRange line.now }
@@ -122,9 +142,8 @@ fn run_line(
     ensures link { IfOk result (λ ran. ran ≡ true → link.new ≡ shown (played line.now rules.old.keys link.old)) }
     ensures rules { IfOk result (λ ran. ran ≡ true → rules.new ≡ accepted line.now rules.old) }
     ensures losses { IfOk result (λ ran. ran ≡ true → journal.new.losses ≡ all_seen (played line.now rules.old.keys link.old).out (noticed line.now (played line.now rules.old.keys link.old) journal.old.losses)) }
-    ensures text { IfOk result (λ ran. ran ≡ true → journal.new.text ≡ texts_of (Record.Line number line.now ∷ (played line.now rules.old.keys link.old).out)) }
+    ensures text { IfOk result (λ ran. ran ≡ true → journal.new.text ≡ after journal.old.text (texts_of (played line.now rules.old.keys link.old).out)) }
 {
-    journal.begin(number, line)?;
     if !play(link, rules, line, journal)? {
         return Ok(false);
     }

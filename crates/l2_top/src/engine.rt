@@ -4,9 +4,8 @@ ghost use Rattle.air_run.specs.Journal.{script, script_line, finished};
 ghost use Rattle.air_run.specs.Run.{fresh};
 ghost use Rattle.pdu_show.specs.Decoding.{undecoded};
 ghost use Rattle.l2_top.specs.Plays.{RunsLine, Plays, state_of};
-ghost use Rattle.l2_top.specs.Engines.{Running, Showing, Summing, muted_line, shown_line, line_by, last_by, played_from, now_in};
+ghost use Rattle.l2_top.specs.Engines.{Running, Showing, Summing, shown_line, line_by, last_by, played_from, now_in};
 
-use crate::nowhere::Nowhere;
 use crate::playing::Ending;
 use air_run::{Reason, Run, StepFault};
 use air_text::{Line, LineFault, read_line};
@@ -77,12 +76,26 @@ fn run_line<K: Sink>(alloc: Global, run: &mut Run, number: u32, text: &[u8], out
     }
 }
 
-// Runs one line of a script, and forgets its records.
-#[tactic(auto, using(crate::proofs::Muting::passes))]
+// Runs one line of a script without its records.
+#[tactic(auto, using(crate::proofs::Nothing::part_nothing))]
 fn pass_line(alloc: Global, run: &mut Run, number: u32, text: &[u8]) -> LineEnd
-    ensures { RunsLine (muted_line (state_of script run.old) number text.now) (Some (state_of script run.new)) None None ⊥ result }
+    ensures { RunsLine (script_line (state_of script run.old) number text.now) (Some (state_of script run.new)) None None ⊥ result }
 {
-    run_line(alloc, run, number, text, &mut Nowhere)
+    match read_line(alloc, text) {
+        Ok(None) => LineEnd::Next,
+        Ok(Some(line)) => {
+            let is_end = matches!(&line, Line::End);
+            match run.pass(&line) {
+                Ok(()) if is_end => LineEnd::Ended,
+                Ok(()) => LineEnd::Next,
+                Err(StepFault::Refused(refusal)) => LineEnd::Refused(Reason::Run(refusal)),
+                Err(StepFault::WriteFault) => LineEnd::WriteFault,
+                Err(StepFault::NoMemory) => LineEnd::NoMemory,
+            }
+        }
+        Err(LineFault::Refused(refusal)) => LineEnd::Refused(Reason::Line(refusal)),
+        Err(LineFault::NoMemory) => LineEnd::NoMemory,
+    }
 }
 
 impl Decode {
@@ -137,7 +150,7 @@ impl Engine {
     }
 
     /// Plays one line.
-    #[tactic(auto, using(crate::proofs::Engines::runs_lifted, crate::proofs::Muting::passes_anywhere))]
+    #[tactic(auto, using(crate::proofs::Engines::runs_lifted, crate::proofs::Muting::passes))]
     pub fn line<K: Sink>(&mut self, alloc: Global, number: u32, text: &[u8], out: &mut K) -> LineEnd
         ensures line { RunsLine (line_by (now_in self.old) number text.now) (Some (now_in self.new)) (K.written out.old) (K.written out.new) (HasRisen (K.faults out.old) (K.faults out.new)) result }
         ensures count { K.faults out.old ≤ K.faults out.new }
@@ -164,6 +177,7 @@ impl Engine {
 }
 
 // Writes what stands at the end of a script.
+#[tactic(auto, using(crate::proofs::Nothing::front_none))]
 fn finish<K: Sink>(run: Run, out: &mut K) -> Ending
     ensures over { Plays (finished script (state_of script run)) (K.written out.old) (K.written out.new) ⊥ (HasRisen (K.faults out.old) (K.faults out.new)) result }
     ensures count { K.faults out.old ≤ K.faults out.new }

@@ -2,7 +2,6 @@
 #![tactic(auto)]
 
 mod engine;
-mod nowhere;
 mod playing;
 mod status;
 #[cfg(test)]
