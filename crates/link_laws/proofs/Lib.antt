@@ -9,3 +9,7 @@ pub mod Passing
 pub mod Calling
 pub mod Leaving
 pub mod Running
+pub mod Going
+pub mod Visiting
+pub mod Advancing
+pub mod Blocks

@@ -1,7 +1,6 @@
 -- What the blocks of a TTI are to the HARQ senders.
-use Rattle.std.proofs.Common.{◌≡◌, ◌<◌, ◌≤◌, ℕ, ◌%◌, ◌==◌, Bool, true, false, if◌then◌else◌, None, List, [], ◌∷◌, length, refl, ap, sym, arith, ◌∙◌}
+use Rattle.std.proofs.Common.{◌≡◌, ◌<◌, ◌≤◌, ℕ, ◌%◌, ◌==◌, Bool, true, false, if◌then◌else◌, None, List, [], ◌∷◌, length, get_or-set_same, refl, ap, sym, arith, ◌∙◌}
 use Rattle.std.specs.Prelude.{slice_index_or, slice_set, unwrap_or}
-use Rattle.std.proofs.Common.{get_or-set_same}
 use Rattle.std.proofs.Math.ListN.{length-set}
 use Rattle.air_record.specs.declared.line.Fate.{Fate}
 use Rattle.air_record.specs.declared.line.Fate.TheVariants.{Ok, Bad, Miss}
@@ -52,11 +51,11 @@ deed_told Quiet octets good = Waited
 abbrev held_in : Sending → ℕ → List ℕ
 held_in s t = unwrap_or (held_of s (t % 8)) []
 
-still_eight : (s : Sending) (t : ℕ) (order : Order) → length s.processes ≡ 8 → length (after_visit s t order).processes ≡ 8
+pub still_eight : (s : Sending) (t : ℕ) (order : Order) → length s.processes ≡ 8 → length (after_visit s t order).processes ≡ 8
 unfolding after_visit
 still_eight s t order e = length-set s.processes (t % 8) _ ∙ e
 
-holds_loaded : (s : Sending) (t : ℕ) (octets : List ℕ) → length s.processes ≡ 8 → held_in (after_load s t octets) t ≡ octets
+pub holds_loaded : (s : Sending) (t : ℕ) (octets : List ℕ) → length s.processes ≡ 8 → held_in (after_load s t octets) t ≡ octets
 unfolding held_of after_load
 holds_loaded s t octets e =
     let within : t % 8 < length s.processes = omega (arith, e) in

@@ -26,26 +26,9 @@ use Rattle.pdu_show.specs.Show.{user_shown, srb_shown, pdcp_shown, begins, ends,
 use Rattle.air_link.specs.Link.{Link}
 use Rattle.air_link.specs.Downlink.{shows}
 use Rattle.link_laws.specs.Counts.{is_up, is_looped, is_of_run, is_of_air, ups, loopeds}
+use Rattle.link_laws.specs.Ends.{is_shown, is_of_building}
 use Rattle.link_laws.specs.Told.{Adds}
 use Rattle.link_laws.proofs.Adding.{same_grows}
-
-abbrev is_shown : Record → Bool
-is_shown records.MacFront = true
-is_shown (records.MacSdu lcid len) = true
-is_shown (records.MacPad octets) = true
-is_shown (records.MacControl control) = true
-is_shown (records.RlcTm len) = true
-is_shown (records.RlcUm sn fi lens) = true
-is_shown (records.RlcAm sn poll fi lens) = true
-is_shown (records.RlcSeg sn poll fi last so lens) = true
-is_shown (records.RlcStatus ack nacks) = true
-is_shown (records.PdcpData sn len) = true
-is_shown (records.PdcpSrb sn len tag) = true
-is_shown (records.PdcpReport fms bitmap) = true
-is_shown (records.BadMac fault) = true
-is_shown (records.BadRlc fault) = true
-is_shown (records.BadPdcp fault) = true
-is_shown one = false
 
 -- a record that is counted nowhere
 record IsStill (one : Record) : Type 0 where
@@ -179,3 +162,39 @@ shows_adds direction block l =
         none_of_run = none_kept is_of_run (λ one h. (still one h).no_run) rs a;
       };
     }
+
+shown_is_built : (one : Record) → is_shown one ≡ true → is_of_building one ≡ true
+shown_is_built records.MacFront h = refl
+shown_is_built (records.MacSdu lcid len) h = refl
+shown_is_built (records.MacPad octets) h = refl
+shown_is_built (records.MacControl control) h = refl
+shown_is_built (records.RlcTm len) h = refl
+shown_is_built (records.RlcUm sn fi lens) h = refl
+shown_is_built (records.RlcAm sn poll fi lens) h = refl
+shown_is_built (records.RlcSeg sn poll fi last so lens) h = refl
+shown_is_built (records.RlcStatus ack nacks) h = refl
+shown_is_built (records.PdcpData sn len) h = refl
+shown_is_built (records.PdcpSrb sn len tag) h = refl
+shown_is_built (records.PdcpReport fms bitmap) h = refl
+shown_is_built (records.BadMac fault) h = refl
+shown_is_built (records.BadRlc fault) h = refl
+shown_is_built (records.BadPdcp fault) h = refl
+shown_is_built (records.Line number line) h = absurd (false≢true h)
+shown_is_built (records.Tti tti) h = absurd (false≢true h)
+shown_is_built records.Sleep h = absurd (false≢true h)
+shown_is_built (records.Of side event) h = absurd (false≢true h)
+shown_is_built (records.Block direction process fresh rv octets) h = absurd (false≢true h)
+shown_is_built (records.Air direction what heard) h = absurd (false≢true h)
+shown_is_built (records.Refused side lcid why) h = absurd (false≢true h)
+shown_is_built (records.Looped lcid octets) h = absurd (false≢true h)
+shown_is_built (records.Drained rounds) h = absurd (false≢true h)
+shown_is_built (records.Spent rounds) h = absurd (false≢true h)
+shown_is_built (records.Sum direction lcid submitted delivered state) h = absurd (false≢true h)
+shown_is_built (records.Shown number direction len) h = absurd (false≢true h)
+
+all_kept : (rs : List Record) → AllShown rs → filter is_of_building rs ≡ rs
+all_kept [] a = refl
+all_kept (one ∷ more) a = rw (shown_is_built one a.0) (ap (λ (x : List Record). one ∷ x) (all_kept more a.1))
+
+pub block_is_shown : (direction : Direction) (kinds : List (Option Layout)) (block : List ℕ) → filter is_of_building (block_shown direction kinds block) ≡ block_shown direction kinds block
+block_is_shown direction kinds block = all_kept (block_shown direction kinds block) (block_shows kinds (reading direction block))

@@ -3,6 +3,8 @@
 #![tactic(auto)]
 
 ghost use Rattle.link_laws.specs.Deeds.{CallsLeaveSenders};
+ghost use Rattle.link_laws.specs.Blocks.{BlocksAreTold};
+ghost use Rattle.link_laws.specs.Ends.{CallsGoOn, DrainsGoOn, SubmissionsGoOn, TtisGoOn};
 ghost use Rattle.link_laws.specs.Runs.{RunsAreCounted};
 ghost use Rattle.link_laws.specs.Told.{CallsAreTold, DrainsAreTold, SubmissionsAreTold, TtisAreTold};
 
@@ -38,6 +40,23 @@ pub fn drains_are_told()
 /// both ends; the others leave them as they are.
 pub fn calls_leave_senders()
     ensures { CallsLeaveSenders }
+{}
+
+/// In each call both ends go on by calls of their own, so that what holds of an end over any calls holds of both over any
+/// script. What their bearers take and write, and why data waits, is told only in a TTI as its processes are visited: of a new
+/// downlink block and then of a new uplink block, each with what its end tells before it and with no other.
+#[tactic(auto, using(crate::proofs::Advancing::call_goes_on, crate::proofs::Advancing::submitting_goes, crate::proofs::Advancing::tti_goes, crate::proofs::Advancing::drain_goes))]
+pub fn ends_go_on_by_calls()
+    ensures calls { CallsGoOn }
+    ensures submissions { SubmissionsGoOn }
+    ensures ttis { TtisGoOn }
+    ensures drains { DrainsGoOn }
+{}
+
+/// What an end that has come so far by any calls tells as it builds a block is what the block has: it has the grant's size, and
+/// is read as padding, at most one report, the PDUs that are told of as sent, in that order, and padding.
+pub fn blocks_are_told()
+    ensures { BlocksAreTold }
 {}
 
 /// Through any calls from the beginning on, each count of SDUs delivered is the count of `up` records of that end and

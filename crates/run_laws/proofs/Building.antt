@@ -60,11 +60,11 @@ visited_built false p t maximum w here lt same d keeps b = b
 abbrev AllBuilt : ℕ → World → Type 0
 AllBuilt maximum w = (p : ℕ) → p < 8 → AreBuilt maximum (w.past p)
 
-down_first : (b : Bool) (xs : List Step) → (if b then are_down xs else false) ≡ true → b ≡ true
+pub down_first : (b : Bool) (xs : List Step) → (if b then are_down xs else false) ≡ true → b ≡ true
 down_first true xs e = refl
 down_first false xs e = e
 
-down_rest : (b : Bool) (xs : List Step) → (if b then are_down xs else false) ≡ true → are_down xs ≡ true
+pub down_rest : (b : Bool) (xs : List Step) → (if b then are_down xs else false) ≡ true → are_down xs ≡ true
 down_rest true xs e = e
 down_rest false xs e = cc
 

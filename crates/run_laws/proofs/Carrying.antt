@@ -19,6 +19,7 @@ use Rattle.link_laws.specs.Told.{AddsTti}
 use Rattle.mac_pdu.specs.declared.item.Direction.{Direction}
 use Rattle.mac_pdu.specs.declared.item.Direction.TheVariants.{Down, Up}
 use Rattle.run_laws.specs.Carried.{Heard, hears, heard}
+use Rattle.run_laws.proofs.Building.{down_rest}
 use Rattle.run_laws.proofs.Hearing.{with_deed, of_air_alone, heard_then, tti_down, tti_up}
 
 -- ---- steps
@@ -30,14 +31,6 @@ run_then (x ∷ xs) ys w = run_then xs ys (stepped w x)
 down_if : (b : Bool) (xs ys : List Step) → are_down (xs ++ ys) ≡ true → (if b then are_down xs else false) ≡ true → (if b then are_down (xs ++ ys) else false) ≡ true
 down_if true xs ys e f = e
 down_if false xs ys e f = f
-
-down_first : (b : Bool) (xs : List Step) → (if b then are_down xs else false) ≡ true → b ≡ true
-down_first true xs e = refl
-down_first false xs e = e
-
-down_rest : (b : Bool) (xs : List Step) → (if b then are_down xs else false) ≡ true → are_down xs ≡ true
-down_rest true xs e = e
-down_rest false xs e = cc
 
 down_then : (xs ys : List Step) → are_down xs ≡ true → are_down ys ≡ true → are_down (xs ++ ys) ≡ true
 down_then [] ys e f = f

@@ -16,6 +16,7 @@ use Rattle.air_run.specs.Run.{RunState, Left, behind_line, done, step_by}
 use Rattle.run_laws.specs.Order.{state_behind, KeepsOrder}
 use Rattle.run_laws.proofs.Past.{behind, of_their_time}
 use Rattle.run_laws.proofs.Ranges.{lines-in-range}
+use Rattle.run_laws.proofs.Reaching.{line_is_told}
 
 -- the groups behind a line, and the state that they give
 pub record Grows (past : List Group) (t : RunState) (part : List Record) : Type 0 where
@@ -33,7 +34,7 @@ adds : (past : List Group) (number : ℕ) (line : Line) → KeepsOrder past → 
 adds past number line order fits allowed = record {
   later = group number line (behind_line line (state_behind past)).out ∷ past;
   state_is = refl;
-  order = (record { in_range = fits; allowed = allowed; events_are = refl; of_its_time = of_their_time past line (behind past order) }, order);
+  order = (record { in_range = fits; allowed = allowed; events_are = refl; of_its_time = of_their_time past line (behind past order); blocks = line_is_told past line order fits }, order);
   history_is = refl;
 }
 

@@ -8,6 +8,7 @@ pub mod Lines
 pub mod Processes
 pub mod Past
 pub mod Ending
+pub mod Reaching
 pub mod Growing
 pub mod Playing
 pub mod Everything

@@ -166,7 +166,7 @@ no_loops_end : (is_done : Bool) (rounds k : ℕ) → loopeds k (ending is_done r
 no_loops_end true rounds k = refl
 no_loops_end false rounds k = refl
 
-drains_add : (grant : ℕ) (l : Link) (d : Drained) → WholeDrain grant l d → PartAdds (Drains grant) l (record d.link { out = d.journal })
+pub drains_add : (grant : ℕ) (l : Link) (d : Drained) → WholeDrain grant l d → PartAdds (Drains grant) l (record d.link { out = d.journal })
 drains_add grant l d w =
     let last = ending w.is_done w.rounds ∷ [] in
     let n = 8 + w.rounds in

@@ -23,7 +23,7 @@ use Rattle.run_laws.proofs.Records.{count_numbered, numbered_then}
 use Rattle.run_laws.proofs.Lines.{PartAdds, line_adds}
 use Rattle.run_laws.proofs.Processes.{Both, grows, first as none_yet}
 
-abbrev link_behind : List Group → Link
+abbrev pub link_behind : List Group → Link
 link_behind past = (state_behind past).link
 
 pub record Behind (past : List Group) : Type 0 where

@@ -51,7 +51,7 @@ senders_rest : (b : Bool) (l : Link) → senders (senders_unless b l) ≡ sender
 senders_rest true l = refl
 senders_rest false l = calls_leave SendersExpire l
 
-round_adds : (grant : ℕ) (l : Link) → AddsTti false grant intact grant intact l (round grant l)
+pub round_adds : (grant : ℕ) (l : Link) → AddsTti false grant intact grant intact l (round grant l)
 round_adds grant l =
     let m = drain_tti grant l in
     let n = receivers_expire m in

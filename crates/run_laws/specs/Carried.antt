@@ -8,6 +8,7 @@ use Rattle.air_text.specs.Groups.{Group, history}
 use Rattle.harq.specs.SendHistory.{Deed, Waited, Built, Resent, held_by, IsRight as AreResent}
 use Rattle.mac_pdu.specs.declared.item.Direction.{Direction}
 use Rattle.mac_pdu.specs.declared.item.Direction.TheVariants.{Down, Up}
+use Rattle.um_losses.specs.Flow.{is_same}
 
 -- of a process: whether the running TTI is its own, and what it did at its visits since it was last emptied, the latest first
 pub record Heard : Type 0 where
@@ -16,12 +17,6 @@ pub record Heard : Type 0 where
 
 abbrev pub nothing_heard : Heard
 nothing_heard = record { here = false; deeds = [] }
-
-abbrev pub is_way : Direction → Direction → Bool
-is_way Down Down = true
-is_way Down Up = false
-is_way Up Down = false
-is_way Up Up = true
 
 abbrev pub sent : Bool → ℕ → List ℕ → Deed
 sent true version octets = Built octets false
@@ -46,8 +41,8 @@ empties line = false
 -- a record, to a process of a direction
 abbrev pub hears : Direction → ℕ → Record → Heard → Heard
 hears way p (records.Tti tti) h = if p == tti % 8 then record { here = true; deeds = Waited ∷ h.deeds } else record { here = false; deeds = h.deeds }
-hears way p (records.Block d process fresh version octets) h = if h.here && is_way way d then record h { deeds = with_last (sent fresh version octets) h.deeds } else h
-hears way p (records.Air d what (Some good)) h = if h.here && is_way way d then record h { deeds = answered good h.deeds } else h
+hears way p (records.Block d process fresh version octets) h = if h.here && is_same way d then record h { deeds = with_last (sent fresh version octets) h.deeds } else h
+hears way p (records.Air d what (Some good)) h = if h.here && is_same way d then record h { deeds = answered good h.deeds } else h
 hears way p (records.Line number line) h = if empties line then nothing_heard else h
 hears way p one h = h
 

@@ -1,6 +1,7 @@
 pub mod Parts
 pub mod Flows
 pub mod Air
+pub mod Blocks
 pub mod Carried
 pub mod Order
 pub mod Sums

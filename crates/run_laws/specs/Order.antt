@@ -5,6 +5,7 @@ use Rattle.air_text.specs.Ranges.{IsInRange}
 use Rattle.air_run.specs.Rules.{refusal}
 use Rattle.air_run.specs.Run.{RunState, fresh, behind_line, done}
 use Rattle.run_laws.specs.Air.{ttis, IsOfItsTime}
+use Rattle.run_laws.specs.Blocks.{kinds, AreTold}
 use Rattle.run_laws.specs.Parts.{part}
 
 -- the state behind the lines of groups, of which the newest stands first
@@ -12,12 +13,14 @@ abbrev pub state_behind : List Group → RunState
 state_behind [] = fresh
 state_behind (g ∷ past) = done g.line (state_behind past)
 
--- a line that is read and breaks no rule, with exactly the records that it leaves where it stands; they are those of its TTIs
+-- a line that is read and breaks no rule, with exactly the records that it leaves where it stands; they are those of its TTIs, and
+-- of its new blocks
 pub record IsRight (past : List Group) (g : Group) : Type 0 where
   pub in_range : IsInRange g.line
   pub allowed : refusal g.line (state_behind past).rules (state_behind past).link ≡ None
   pub events_are : g.events ≡ (behind_line g.line (state_behind past)).out
   pub of_its_time : IsOfItsTime (ttis past) (part g.line) g.events
+  pub blocks : AreTold (ttis past) (kinds past) (part g.line) g.events
 
 abbrev pub KeepsOrder : List Group → Type 0
 KeepsOrder [] = Unit {0}

@@ -1,0 +1,116 @@
+-- The ends of a link: each goes on by calls of its own, and tells of what it writes only as it builds a block.
+use Rattle.std.specs.Prelude.{◌≡◌, ℕ, ◌%◌, ◌≤◌, Bool, true, false, Option, List, [], ◌∷◌, ◌++◌, map}
+use Rattle.std.specs.List.{filter}
+use Rattle.air_link.specs.Downlink.{block_at, down_order}
+use Rattle.air_link.specs.Draining.{drain_tti}
+use Rattle.air_link.specs.Lines.{submitting}
+use Rattle.air_link.specs.Link.{Link}
+use Rattle.air_link.specs.Ttis.{tti}
+use Rattle.air_record.specs.declared.line.Outcome.{Outcome}
+use Rattle.air_record.specs.declared.record.Record.{Record}
+use Rattle.air_record.specs.declared.record.Record.TheVariants as records
+use Rattle.bearer_types.specs.Configs.{IsConfig}
+use Rattle.harq.specs.declared.sender.Order.{Order}
+use Rattle.harq.specs.declared.sender.Visit.{Visit}
+use Rattle.harq.specs.declared.sender.Visit.TheVariants.{New, Resend, Silent}
+use Rattle.l2_node.specs.Building.{IsEnough, visit, built, building}
+use Rattle.l2_node.specs.End.{End, sent_by}
+use Rattle.l2_types.specs.declared.side.Side.{Side}
+use Rattle.l2_types.specs.declared.side.Side.TheVariants.{Nb, Ue}
+use Rattle.node_laws.specs.Calls.{Call as EndCall, AreGiven, run as run_end}
+use Rattle.node_laws.specs.Writing.{is_of_writing}
+use Rattle.pdu_show.specs.Kinds.{with_kind}
+use Rattle.pdu_show.specs.Show.{block_shown}
+use Rattle.pdu_show.specs.declared.kinds.Layout.{Layout}
+use Rattle.link_laws.specs.Calls.{Call, Bears, Visits, after}
+
+-- an end goes on by calls
+pub record ByCalls (before after' : End) : Type 0 where
+  pub calls : List EndCall
+  pub given : AreGiven calls
+  pub end_is : after' ≡ run_end calls before
+
+-- a record that shows a part of a block
+abbrev pub is_shown : Record → Bool
+is_shown records.MacFront = true
+is_shown (records.MacSdu lcid len) = true
+is_shown (records.MacPad octets) = true
+is_shown (records.MacControl control) = true
+is_shown (records.RlcTm len) = true
+is_shown (records.RlcUm sn fi lens) = true
+is_shown (records.RlcAm sn poll fi lens) = true
+is_shown (records.RlcSeg sn poll fi last so lens) = true
+is_shown (records.RlcStatus ack nacks) = true
+is_shown (records.PdcpData sn len) = true
+is_shown (records.PdcpSrb sn len tag) = true
+is_shown (records.PdcpReport fms bitmap) = true
+is_shown (records.BadMac fault) = true
+is_shown (records.BadRlc fault) = true
+is_shown (records.BadPdcp fault) = true
+is_shown one = false
+
+-- what is told of a new block: what the bearers take and write, why some write nothing, the block, and what shows it
+abbrev pub is_of_building : Record → Bool
+is_of_building (records.Of side event) = is_of_writing event
+is_of_building (records.Block direction process fresh version octets) = fresh
+is_of_building one = is_shown one
+
+-- both ends go on by calls, records are added, and of these are told of new blocks; how PDUs are shown stays
+pub record GoesOn (blocks : List Record) (l m : Link) : Type 0 where
+  pub nb : ByCalls l.nb m.nb
+  pub ue : ByCalls l.ue m.ue
+  pub more : List Record
+  pub out_is : m.out ≡ l.out ++ more
+  pub blocks_are : filter is_of_building more ≡ blocks
+  pub kinds_are : m.kinds ≡ l.kinds
+
+-- ---- the visit of a process, by an order and a grant
+
+-- a new block, and what shows it
+abbrev pub block_told : Side → ℕ → List (Option Layout) → List ℕ → List Record
+block_told side t kinds octets = records.Block (sent_by side) (t % 8) true 0 octets ∷ block_shown (sent_by side) kinds octets
+
+abbrev pub built_told : Visit → Side → ℕ → ℕ → Order → List (Option Layout) → End → List Record
+built_told New side t grant order kinds e = map (records.Of side) (filter is_of_writing (building t grant order e)) ++ block_told side t kinds (block_at t (built t grant order e))
+built_told (Resend rv) side t grant order kinds e = []
+built_told Silent side t grant order kinds e = []
+
+abbrev pub visit_told : Side → ℕ → ℕ → Order → List (Option Layout) → End → List Record
+visit_told side t grant order kinds e = built_told (visit t order e) side t grant order kinds e
+
+-- in a TTI the base station visits its process and then the terminal, each as it has come to that by calls
+pub record GoesOnByVisits (t up_grant down_grant : ℕ) (l m : Link) : Type 0 where
+  pub nb : End
+  pub nb_by : ByCalls l.nb nb
+  pub ue : End
+  pub ue_by : ByCalls l.ue ue
+  pub up_order : Order
+  pub enough : IsEnough up_order up_grant
+  pub goes : GoesOn (visit_told Nb t down_grant (down_order down_grant) l.kinds nb ++ visit_told Ue t up_grant up_order l.kinds ue) l m
+
+-- ---- the laws
+
+-- a configuration in its ranges, some visits of a block
+abbrev pub IsGiven : Call → Type 0
+IsGiven (Bears config keys) = IsConfig config
+IsGiven (Visits maximum) = 1 ≤ maximum
+IsGiven call = Unit {0}
+
+-- how PDUs of a new bearer are shown
+abbrev pub known : Call → Link → Link
+known (Bears config keys) l = record l { kinds = with_kind l.kinds config.channel.lcid config.kind config.rlc_bits config.pdcp_bits }
+known call l = l
+
+abbrev pub CallsGoOn : Type 0
+CallsGoOn = (c : Call) (l : Link) → IsGiven c → GoesOn [] (known c l) (after c l)
+
+abbrev pub SubmissionsGoOn : Type 0
+SubmissionsGoOn = (side : Side) (lcid : ℕ) (sdu : List ℕ) (l : Link) → GoesOn [] l (submitting side lcid sdu l)
+
+-- grants are those of transport blocks
+abbrev pub TtisGoOn : Type 0
+TtisGoOn = (up_grant : ℕ) (up : Outcome) (down_grant : ℕ) (down : Outcome) (l : Link) → up_grant ≤ 9422 → down_grant ≤ 9422
+    → GoesOnByVisits l.ttis up_grant down_grant l (tti up_grant up down_grant down l)
+
+abbrev pub DrainsGoOn : Type 0
+DrainsGoOn = (grant : ℕ) (l : Link) → grant ≤ 9422 → GoesOnByVisits l.ttis grant grant l (drain_tti grant l)
