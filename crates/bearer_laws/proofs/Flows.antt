@@ -32,7 +32,7 @@ use Rattle.bearer_laws.proofs.Unacknowledged as um
 
 -- ---- takes
 
-taken_off : (n : ℕ) (os left : List Offer) → n ≤ length os → left ≡ drop n os → take (length os - length left) os ≡ take n os
+pub taken_off : (n : ℕ) (os left : List Offer) → n ≤ length os → left ≡ drop n os → take (length os - length left) os ≡ take n os
 taken_off n os left few q =
     let k : length left ≡ length os - n = ap length q ∙ length-drop n os in
     let m : length os - length left ≡ n = omega (arith, k, few) in

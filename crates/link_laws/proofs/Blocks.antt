@@ -1,5 +1,5 @@
 -- What is told of a new block is what it has.
-use Rattle.std.proofs.Common.{◌≡◌, ◌≤◌, ℕ, ◌%◌, Bool, Option, Some, None, List, [], ◌∷◌, ◌++◌, length, map, refl, ap, sym, inl, inr, ◌∙◌}
+use Rattle.std.proofs.Common.{◌≡◌, ◌≤◌, ℕ, ◌%◌, Bool, Option, Some, None, List, [], ◌∷◌, ◌++◌, length, map, refl, ap, sym, subst, inl, inr, ◌∙◌}
 use Rattle.std.specs.List.{filter}
 use Rattle.std.proofs.Math.ListN.{length-set}
 use Rattle.air_link.specs.Downlink.{block_at}
@@ -21,9 +21,10 @@ use Rattle.l2_types.specs.declared.side.Side.{Side}
 use Rattle.mac_pdu.specs.Reading.{reading}
 use Rattle.node_laws.specs.Blocks.{report, all_sdus}
 use Rattle.node_laws.specs.Calls.{Turn, Call as EndCall, SetVisits, SetReports, Add, Submit, SetDiscard, Tick, TickBuckets, Visits, Grants, Granted, Assigned, Pass, Receive, Expire, Move, AreGiven, answered, after as after_call, run as run_end, reached}
-use Rattle.node_laws.specs.Writing.{is_of_writing, sent_on}
+use Rattle.node_laws.specs.Names.{Sent, sends, AreNamed, modes_of}
+use Rattle.node_laws.specs.Writing.{is_of_writing}
 use Rattle.node_laws.proofs.Blocks.{has_what_was_written}
-use Rattle.node_laws.proofs.Sends.{tells_what_it_sends}
+use Rattle.node_laws.proofs.Naming.{names_what_it_sends, tells_what_it_sends}
 use Rattle.link_laws.specs.Blocks.{IsTold, MayBuild}
 use Rattle.pdu_show.specs.declared.kinds.Layout.{Layout}
 use Rattle.link_laws.specs.Ends.{block_told, built_told, visit_told}
@@ -31,9 +32,9 @@ use Rattle.link_laws.proofs.Sending.{still_eight, holds_loaded}
 
 -- ---- what every end keeps: its side, and its eight processes
 
-record IsWhole (side : Side) (e : End) : Type 0 where
-  side_is : e.side ≡ side
-  eight : length e.sender.processes ≡ 8
+pub record IsWhole (side : Side) (e : End) : Type 0 where
+  pub side_is : e.side ≡ side
+  pub eight : length e.sender.processes ≡ 8
 
 fed_eight : (s : Sending) (t : ℕ) (good : Bool) → length s.processes ≡ 8 → length (after_feedback s t good).processes ≡ 8
 unfolding after_feedback
@@ -43,7 +44,7 @@ loaded_whole : (side : Side) (t grant : ℕ) (e : End) → IsWhole side e → Is
 unfolding loaded Rattle.harq.specs.Sending.after_load
 loaded_whole side t grant e w = record { side_is = w.side_is; eight = length-set e.sender.processes (t % 8) _ ∙ w.eight }
 
-visited_whole : (side : Side) (t : ℕ) (order : Order) (e : End) → IsWhole side e → IsWhole side (visited t order e)
+pub visited_whole : (side : Side) (t : ℕ) (order : Order) (e : End) → IsWhole side e → IsWhole side (visited t order e)
 unfolding visited
 visited_whole side t order e w = record { side_is = w.side_is; eight = still_eight e.sender t order w.eight }
 
@@ -76,7 +77,7 @@ run_whole : (side : Side) (cs : List EndCall) (e : End) → IsWhole side e → I
 run_whole side [] e w = w
 run_whole side (c ∷ cs) e w = run_whole side cs (after_call e c) (call_whole side e c w)
 
-reached_whole : (side : Side) (maximum : ℕ) (reports : Bool) (calls : List EndCall) → IsWhole side (reached side maximum reports calls)
+pub reached_whole : (side : Side) (maximum : ℕ) (reports : Bool) (calls : List EndCall) → IsWhole side (reached side maximum reports calls)
 unfolding fresh fresh_sender
 reached_whole side maximum reports calls = run_whole side calls (fresh side maximum reports) (record { side_is = refl; eight = refl })
 
@@ -86,7 +87,7 @@ not_new : (held : Option Block) → resend_or Silent held ≡ New → ⊥
 not_new None e = cc
 not_new (Some b) e = cc
 
-some_by : (t grant : ℕ) (order : Order) (e : End) → IsEnough order grant → visit t order e ≡ New → 1 ≤ grant
+pub some_by : (t grant : ℕ) (order : Order) (e : End) → IsEnough order grant → visit t order e ≡ New → 1 ≤ grant
 unfolding visit_answer
 some_by t grant orders.Silent e enough new = let no : Silent ≡ New = new in absurd cc
 some_by t grant orders.Unseen e enough new = absurd (not_new (process_at e.sender t).held new)
@@ -95,26 +96,26 @@ some_by t grant (orders.Grant ndi) e enough new = enough
 
 -- ---- what is told
 
-sent_kept : (es : List Event) → sent_on (filter is_of_writing es) ≡ sent_on es
-sent_kept [] = refl
-sent_kept (events.Send lcid how sn ∷ es) = ap (λ (l : List ℕ). lcid ∷ l) (sent_kept es)
-sent_kept (events.Take lcid count len ∷ es) = sent_kept es
-sent_kept (events.Report lcid fms bitmap ∷ es) = sent_kept es
-sent_kept (events.Wait lcid why ∷ es) = sent_kept es
-sent_kept (events.Start lcid clock ∷ es) = sent_kept es
-sent_kept (events.Stop lcid clock ∷ es) = sent_kept es
-sent_kept (events.Expired lcid clock ∷ es) = sent_kept es
-sent_kept (events.Up lcid octets ∷ es) = sent_kept es
-sent_kept (events.Fail lcid sn ∷ es) = sent_kept es
-sent_kept (events.Drop lcid why ∷ es) = sent_kept es
-sent_kept (events.Integrity lcid found wanted ∷ es) = sent_kept es
-sent_kept (events.BadMac fault ∷ es) = sent_kept es
-sent_kept (events.BadRlc lcid fault ∷ es) = sent_kept es
-sent_kept (events.BadPdcp lcid fault ∷ es) = sent_kept es
-sent_kept (events.Discard lcid len ∷ es) = sent_kept es
+pub sends_kept : (es : List Event) → sends (filter is_of_writing es) ≡ sends es
+sends_kept [] = refl
+sends_kept (events.Send lcid how sn ∷ es) = ap (λ (l : List Sent). record { lcid = lcid; how = how; sn = sn } ∷ l) (sends_kept es)
+sends_kept (events.Take lcid count len ∷ es) = sends_kept es
+sends_kept (events.Report lcid fms bitmap ∷ es) = sends_kept es
+sends_kept (events.Wait lcid why ∷ es) = sends_kept es
+sends_kept (events.Start lcid clock ∷ es) = sends_kept es
+sends_kept (events.Stop lcid clock ∷ es) = sends_kept es
+sends_kept (events.Expired lcid clock ∷ es) = sends_kept es
+sends_kept (events.Up lcid octets ∷ es) = sends_kept es
+sends_kept (events.Fail lcid sn ∷ es) = sends_kept es
+sends_kept (events.Drop lcid why ∷ es) = sends_kept es
+sends_kept (events.Integrity lcid found wanted ∷ es) = sends_kept es
+sends_kept (events.BadMac fault ∷ es) = sends_kept es
+sends_kept (events.BadRlc lcid fault ∷ es) = sends_kept es
+sends_kept (events.BadPdcp lcid fault ∷ es) = sends_kept es
+sends_kept (events.Discard lcid len ∷ es) = sends_kept es
 
 -- the block that the process holds then
-block_is : (t grant : ℕ) (order : Order) (e : End) → length e.sender.processes ≡ 8 → visit t order e ≡ New → block_at t (built t grant order e) ≡ new_block (visited t order e) grant
+pub block_is : (t grant : ℕ) (order : Order) (e : End) → length e.sender.processes ≡ 8 → visit t order e ≡ New → block_at t (built t grant order e) ≡ new_block (visited t order e) grant
 unfolding built loaded visited
 block_is t grant order e eight new =
     ap (λ (v : Visit). block_at t (built_by v t grant (visited t order e))) new
@@ -126,6 +127,7 @@ is_told side maximum reports calls g t grant order within some new =
     let e = reached side maximum reports calls in
     let v = visited t order e in
     let b = has_what_was_written side maximum reports calls g t order grant some within in
+    let kept = sends_kept (building t grant order e) in
     let s : v.side ≡ side = (visited_whole side t order e (reached_whole side maximum reports calls)).side_is in
     record {
       size_is = b.size_is;
@@ -136,7 +138,9 @@ is_told side maximum reports calls g t grant order within some new =
       two = b.two;
       one = b.one;
       read = ap (λ (x : Side). reading (sent_by x) (new_block v grant)) (sym s) ∙ b.read;
-      sent = sent_kept (building t grant order e) ∙ tells_what_it_sends side maximum reports calls g t grant order new;
+      sent = ap (λ (l : List Sent). map (λ (x : Sent). x.lcid) l) kept ∙ tells_what_it_sends side maximum reports calls g t grant order new;
+      modes = modes_of v;
+      named = subst (λ (l : List Sent). AreNamed (modes_of v) l (all_sdus v grant v.buckets.channels)) (sym kept) (names_what_it_sends side maximum reports calls g t grant order new);
     }
 
 visit_builds : (w : Visit) (side : Side) (maximum : ℕ) (reports : Bool) (calls : List EndCall) → AreGiven calls → (t grant : ℕ) (order : Order) (kinds : List (Option Layout)) → grant ≤ 9422 → IsEnough order grant

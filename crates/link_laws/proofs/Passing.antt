@@ -1,5 +1,5 @@
 -- What a TTI adds.
-use Rattle.std.proofs.Common.{ℕ, Bool, true, false, if◌then◌else◌, [], ◌∷◌, ◌++◌, append_assoc, refl, ap, sym, subst, ◌∙◌, ◌≡◌}
+use Rattle.std.proofs.Common.{ℕ, Bool, true, false, if◌then◌else◌, [], ◌∷◌, ◌++◌, length, append_assoc, refl, ap, sym, subst, ◌∙◌, ◌≡◌}
 use Rattle.air_record.specs.declared.line.Outcome.{Outcome}
 use Rattle.air_record.specs.declared.record.Record.TheVariants as records
 use Rattle.l2_node.specs.Hearing.{ticked}
@@ -14,14 +14,14 @@ use Rattle.air_link.specs.Uplink.{uplink}
 use Rattle.air_link.specs.Draining.{intact, drain_tti}
 use Rattle.air_link.specs.Ttis.{begins, sleeps, missed, tells_sleep, grows, ticks, times, keeps_first, timed, tti_by, tti}
 use Rattle.air_link.specs.Downlink.{down_order, downlink}
-use Rattle.harq.specs.declared.sender.Order.{Order}
-use Rattle.harq.specs.Sending.{Sending}
-use Rattle.link_laws.specs.Deeds.{TakesTurn, Senders, senders}
+use Rattle.harq.specs.Receiving.{Receiving, grant_ndi}
+use Rattle.harq.specs.Sending.{Sending, ndi_of}
+use Rattle.link_laws.specs.Deeds.{TakesTurn, came_of, Answers, heard_up, up_ordered, Entities, entities}
 use Rattle.link_laws.specs.Told.{sleeping, Adds, AddsTti}
 use Rattle.link_laws.proofs.Adding.{stays, adds_then, then_still, says_plain}
 use Rattle.link_laws.proofs.Telling.{end_stays, end_tells}
 use Rattle.link_laws.proofs.Looping.{loops_adds, pays_adds}
-use Rattle.link_laws.proofs.Resting.{loops_rests, woken_rests, grown_rests}
+use Rattle.link_laws.proofs.Going.{loops_rests, woken_rests, grown_rests}
 use Rattle.link_laws.proofs.Sending.{downlink_turn, uplink_turn}
 use Rattle.link_laws.proofs.Flying.{Downs, downlink_adds, Ups, uplink_adds}
 
@@ -67,8 +67,9 @@ pub record Passes (t up_grant : ℕ) (up : Outcome) (down_grant : ℕ) (down : O
   pub upward : Ups t up_grant up (loops (downlink t down_grant down l)) m
   pub adds : Adds (downward.flown ++ upward.flown) l m
   pub down_turn : TakesTurn t (down_order down_grant) l.nb.sender m.nb.sender downward.flown
-  pub up_order : Order
-  pub up_turn : TakesTurn t up_order l.ue.sender m.ue.sender upward.flown
+  pub down_answer : length l.nb.sender.processes ≡ 8 → Answers t (ndi_of m.nb.sender t) (came_of downward.flown) l.ue.receiver m.ue.receiver
+  pub up_turn : TakesTurn t (up_ordered up_grant up (grant_ndi l.nb.receiver t)) l.ue.sender m.ue.sender upward.flown
+  pub up_heard : m.nb.receiver ≡ heard_up t (came_of upward.flown) l.nb.receiver
 
 pub passes_adds : (t up_grant : ℕ) (up : Outcome) (down_grant : ℕ) (down : Outcome) (l : Link)
     → Passes t up_grant up down_grant down l (uplink t up_grant up (loops (downlink t down_grant down l)))
@@ -81,20 +82,26 @@ passes_adds t up_grant up down_grant down l =
     let last = uplink t up_grant up n in
     let down' = downlink_turn t down_grant down l in
     let up' = uplink_turn t up_grant up n in
-    let nb : last.nb.sender ≡ m.nb.sender = up'.nb_rests ∙ ap (λ (s : Senders). s.nb) (loops_rests m) in
-    let ue : n.ue.sender ≡ l.ue.sender = ap (λ (s : Senders). s.ue) (loops_rests m) ∙ down'.1 in
+    let nb : last.nb.sender ≡ m.nb.sender = up'.nb_rests ∙ ap (λ (e : Entities). e.nb.sender) (loops_rests m).entities_are in
+    let ue : n.ue.sender ≡ l.ue.sender = ap (λ (e : Entities). e.ue.sender) (loops_rests m).entities_are ∙ down'.ue_rests in
+    let nb_hears : n.nb.receiver ≡ l.nb.receiver = ap (λ (e : Entities). e.nb.receiver) (loops_rests m).entities_are ∙ down'.nb_rests in
+    let ue_hears : last.ue.receiver ≡ m.ue.receiver = up'.ue_rests ∙ ap (λ (e : Entities). e.ue.receiver) (loops_rests m).entities_are in
     record {
       downward = d;
       upward = u;
       adds = adds_then d.flown u.flown l n last to_n u.adds;
-      down_turn = subst (λ (s : Sending). TakesTurn t (down_order down_grant) l.nb.sender s d.flown) (sym nb) down'.0;
-      up_order = up'.order;
-      up_turn = subst (λ (s : Sending). TakesTurn t up'.order s last.ue.sender u.flown) ue up'.ue_turn;
+      down_turn = subst (λ (s : Sending). TakesTurn t (down_order down_grant) l.nb.sender s d.flown) (sym nb) down'.nb_turn;
+      down_answer = λ eight.
+          subst (λ (s : Sending). Answers t (ndi_of s t) (came_of d.flown) l.ue.receiver last.ue.receiver) (sym nb)
+          (subst (λ (r : Receiving). Answers t (ndi_of m.nb.sender t) (came_of d.flown) l.ue.receiver r) (sym ue_hears) (down'.ue_answer eight));
+      up_turn = subst (λ (r : Receiving). TakesTurn t (up_ordered up_grant up (grant_ndi r t)) l.ue.sender last.ue.sender u.flown) nb_hears
+          (subst (λ (s : Sending). TakesTurn t (up_ordered up_grant up (grant_ndi n.nb.receiver t)) s last.ue.sender u.flown) ue up'.ue_turn);
+      up_heard = up'.nb_heard ∙ ap (heard_up t (came_of u.flown)) nb_hears;
     }
 
 -- from the number of a TTI on
 begun : (asleep : Bool) (up_grant : ℕ) (up : Outcome) (down_grant : ℕ) (down : Outcome) (l r m : Link)
-    → Adds (sleeping asleep) (begins l) r → senders r ≡ senders l → Passes l.ttis up_grant (missed asleep up) down_grant (missed asleep down) r m
+    → Adds (sleeping asleep) (begins l) r → entities r ≡ entities l → Passes l.ttis up_grant (missed asleep up) down_grant (missed asleep down) r m
     → AddsTti asleep up_grant up down_grant down l m
 begun asleep up_grant up down_grant down l r m to_r rests p =
     let b = begins l in
@@ -116,9 +123,11 @@ begun asleep up_grant up down_grant down l r m to_r rests p =
       };
       down_is = p.downward.is_down;
       up_is = p.upward.is_up;
-      down_turn = subst (λ (s : Sending). TakesTurn l.ttis (down_order down_grant) s m.nb.sender p.downward.flown) (ap (λ (s : Senders). s.nb) rests) p.down_turn;
-      up_order = p.up_order;
-      up_turn = subst (λ (s : Sending). TakesTurn l.ttis p.up_order s m.ue.sender p.upward.flown) (ap (λ (s : Senders). s.ue) rests) p.up_turn;
+      down_turn = subst (λ (e : Entities). TakesTurn l.ttis (down_order down_grant) e.nb.sender m.nb.sender p.downward.flown) rests p.down_turn;
+      down_answer = λ eight.
+          subst (λ (e : Entities). Answers l.ttis (ndi_of m.nb.sender l.ttis) (came_of p.downward.flown) e.ue.receiver m.ue.receiver) rests (p.down_answer (ap (λ (e : Entities). length e.nb.sender.processes) rests ∙ eight));
+      up_turn = subst (λ (e : Entities). TakesTurn l.ttis (up_ordered up_grant (missed asleep up) (grant_ndi e.nb.receiver l.ttis)) e.ue.sender m.ue.sender p.upward.flown) rests p.up_turn;
+      up_heard = p.up_heard ∙ ap (λ (e : Entities). heard_up l.ttis (came_of p.upward.flown) e.nb.receiver) rests;
     }
 
 pub tti_adds : (up_grant : ℕ) (up : Outcome) (down_grant : ℕ) (down : Outcome) (l : Link)
@@ -130,7 +139,7 @@ tti_adds up_grant up down_grant down l =
     let s = tells_sleep asleep b in
     let r = timed s in
     let to_r = then_still (sleeping asleep) b s r (sleep_adds asleep b) (timed_adds s) in
-    begun asleep up_grant up down_grant down l r (tti up_grant up down_grant down l) to_r (woken_rests asleep l) (passes_adds l.ttis up_grant (missed asleep up) down_grant (missed asleep down) r)
+    begun asleep up_grant up down_grant down l r (tti up_grant up down_grant down l) to_r (woken_rests asleep l).entities_are (passes_adds l.ttis up_grant (missed asleep up) down_grant (missed asleep down) r)
 
 pub drain_adds : (grant : ℕ) (l : Link) → AddsTti false grant intact grant intact l (drain_tti grant l)
 unfolding drain_tti
@@ -139,4 +148,4 @@ drain_adds grant l =
     let m = grows Nb b in
     let r = grows Ue m in
     let to_r = adds_then [] [] b m r (grows_adds Nb b) (grows_adds Ue m) in
-    begun false grant intact grant intact l r (drain_tti grant l) to_r (grown_rests l) (passes_adds l.ttis grant intact grant intact r)
+    begun false grant intact grant intact l r (drain_tti grant l) to_r (grown_rests l).entities_are (passes_adds l.ttis grant intact grant intact r)

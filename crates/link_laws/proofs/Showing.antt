@@ -1,7 +1,7 @@
 -- What is shown of a block tells of no SDU, no flight and no run.
 use Rattle.std.proofs.Common.{◌≡◌, ℕ, Bool, true, false, Option, Some, None, Result, Ok, Err, List, [], ◌∷◌, ◌++◌, length, map, refl, ap}
 use Rattle.std.specs.Prelude.{slice_index_or}
-use Rattle.std.specs.List.{filter}
+use Rattle.std.specs.List.{filter, AllByRecursion}
 use Rattle.std.proofs.lemmas.Bool.{false≢true}
 use Rattle.air_record.specs.declared.record.Record.{Record}
 use Rattle.air_record.specs.declared.record.Record.TheVariants as records
@@ -26,33 +26,35 @@ use Rattle.pdu_show.specs.Show.{user_shown, srb_shown, pdcp_shown, begins, ends,
 use Rattle.air_link.specs.Link.{Link}
 use Rattle.air_link.specs.Downlink.{shows}
 use Rattle.link_laws.specs.Counts.{is_up, is_looped, is_of_run, is_of_air, ups, loopeds}
-use Rattle.link_laws.specs.Ends.{is_shown, is_of_building}
+use Rattle.link_laws.specs.Ends.{event_of, told_by, is_shown, is_of_building}
 use Rattle.link_laws.specs.Told.{Adds}
 use Rattle.link_laws.proofs.Adding.{same_grows}
+use Rattle.link_laws.proofs.Returning.{IsSilent}
 
--- a record that is counted nowhere
+-- a record that is counted nowhere, and tells of no end
 record IsStill (one : Record) : Type 0 where
   no_up : (side : Side) (lcid : ℕ) → is_up side lcid one ≡ false
   no_loop : (lcid : ℕ) → is_looped lcid one ≡ false
   no_run : is_of_run one ≡ false
   not_of_air : is_of_air one ≡ false
+  no_event : (side : Side) → event_of side one ≡ []
 
 still : (one : Record) → is_shown one ≡ true → IsStill one
-still records.MacFront h = record { no_up = λ s k. refl; no_loop = λ k. refl; no_run = refl; not_of_air = refl }
-still (records.MacSdu lcid len) h = record { no_up = λ s k. refl; no_loop = λ k. refl; no_run = refl; not_of_air = refl }
-still (records.MacPad octets) h = record { no_up = λ s k. refl; no_loop = λ k. refl; no_run = refl; not_of_air = refl }
-still (records.MacControl control) h = record { no_up = λ s k. refl; no_loop = λ k. refl; no_run = refl; not_of_air = refl }
-still (records.RlcTm len) h = record { no_up = λ s k. refl; no_loop = λ k. refl; no_run = refl; not_of_air = refl }
-still (records.RlcUm sn fi lens) h = record { no_up = λ s k. refl; no_loop = λ k. refl; no_run = refl; not_of_air = refl }
-still (records.RlcAm sn poll fi lens) h = record { no_up = λ s k. refl; no_loop = λ k. refl; no_run = refl; not_of_air = refl }
-still (records.RlcSeg sn poll fi last so lens) h = record { no_up = λ s k. refl; no_loop = λ k. refl; no_run = refl; not_of_air = refl }
-still (records.RlcStatus ack nacks) h = record { no_up = λ s k. refl; no_loop = λ k. refl; no_run = refl; not_of_air = refl }
-still (records.PdcpData sn len) h = record { no_up = λ s k. refl; no_loop = λ k. refl; no_run = refl; not_of_air = refl }
-still (records.PdcpSrb sn len tag) h = record { no_up = λ s k. refl; no_loop = λ k. refl; no_run = refl; not_of_air = refl }
-still (records.PdcpReport fms bitmap) h = record { no_up = λ s k. refl; no_loop = λ k. refl; no_run = refl; not_of_air = refl }
-still (records.BadMac fault) h = record { no_up = λ s k. refl; no_loop = λ k. refl; no_run = refl; not_of_air = refl }
-still (records.BadRlc fault) h = record { no_up = λ s k. refl; no_loop = λ k. refl; no_run = refl; not_of_air = refl }
-still (records.BadPdcp fault) h = record { no_up = λ s k. refl; no_loop = λ k. refl; no_run = refl; not_of_air = refl }
+still records.MacFront h = record { no_up = λ s k. refl; no_loop = λ k. refl; no_run = refl; not_of_air = refl; no_event = λ s. refl }
+still (records.MacSdu lcid len) h = record { no_up = λ s k. refl; no_loop = λ k. refl; no_run = refl; not_of_air = refl; no_event = λ s. refl }
+still (records.MacPad octets) h = record { no_up = λ s k. refl; no_loop = λ k. refl; no_run = refl; not_of_air = refl; no_event = λ s. refl }
+still (records.MacControl control) h = record { no_up = λ s k. refl; no_loop = λ k. refl; no_run = refl; not_of_air = refl; no_event = λ s. refl }
+still (records.RlcTm len) h = record { no_up = λ s k. refl; no_loop = λ k. refl; no_run = refl; not_of_air = refl; no_event = λ s. refl }
+still (records.RlcUm sn fi lens) h = record { no_up = λ s k. refl; no_loop = λ k. refl; no_run = refl; not_of_air = refl; no_event = λ s. refl }
+still (records.RlcAm sn poll fi lens) h = record { no_up = λ s k. refl; no_loop = λ k. refl; no_run = refl; not_of_air = refl; no_event = λ s. refl }
+still (records.RlcSeg sn poll fi last so lens) h = record { no_up = λ s k. refl; no_loop = λ k. refl; no_run = refl; not_of_air = refl; no_event = λ s. refl }
+still (records.RlcStatus ack nacks) h = record { no_up = λ s k. refl; no_loop = λ k. refl; no_run = refl; not_of_air = refl; no_event = λ s. refl }
+still (records.PdcpData sn len) h = record { no_up = λ s k. refl; no_loop = λ k. refl; no_run = refl; not_of_air = refl; no_event = λ s. refl }
+still (records.PdcpSrb sn len tag) h = record { no_up = λ s k. refl; no_loop = λ k. refl; no_run = refl; not_of_air = refl; no_event = λ s. refl }
+still (records.PdcpReport fms bitmap) h = record { no_up = λ s k. refl; no_loop = λ k. refl; no_run = refl; not_of_air = refl; no_event = λ s. refl }
+still (records.BadMac fault) h = record { no_up = λ s k. refl; no_loop = λ k. refl; no_run = refl; not_of_air = refl; no_event = λ s. refl }
+still (records.BadRlc fault) h = record { no_up = λ s k. refl; no_loop = λ k. refl; no_run = refl; not_of_air = refl; no_event = λ s. refl }
+still (records.BadPdcp fault) h = record { no_up = λ s k. refl; no_loop = λ k. refl; no_run = refl; not_of_air = refl; no_event = λ s. refl }
 still (records.Line number line) h = absurd (false≢true h)
 still (records.Tti tti) h = absurd (false≢true h)
 still records.Sleep h = absurd (false≢true h)
@@ -198,3 +200,30 @@ all_kept (one ∷ more) a = rw (shown_is_built one a.0) (ap (λ (x : List Record
 
 pub block_is_shown : (direction : Direction) (kinds : List (Option Layout)) (block : List ℕ) → filter is_of_building (block_shown direction kinds block) ≡ block_shown direction kinds block
 block_is_shown direction kinds block = all_kept (block_shown direction kinds block) (block_shows kinds (reading direction block))
+
+none_told : (side : Side) (rs : List Record) → AllShown rs → told_by side rs ≡ []
+none_told side [] a = refl
+none_told side (one ∷ more) a = rw ((still one a.0).no_event side) (none_told side more a.1)
+
+pub shown_untold : (side : Side) (direction : Direction) (kinds : List (Option Layout)) (block : List ℕ) → told_by side (block_shown direction kinds block) ≡ []
+shown_untold side direction kinds block = none_told side (block_shown direction kinds block) (block_shows kinds (reading direction block))
+
+-- ---- nothing that is shown tells of an SDU of the test loop
+
+shown_is_silent : (one : Record) → is_shown one ≡ true → IsSilent one
+shown_is_silent (records.Of side event) h = absurd (false≢true h)
+shown_is_silent (records.Looped lcid octets) h = absurd (false≢true h)
+shown_is_silent one h = (refl, λ mode. refl)
+
+all_silent : (rs : List Record) → AllShown rs → AllByRecursion IsSilent rs
+all_silent [] a = tt
+all_silent (one ∷ more) a = (shown_is_silent one a.0, all_silent more a.1)
+
+pub block_is_silent : (direction : Direction) (kinds : List (Option Layout)) (block : List ℕ) → AllByRecursion IsSilent (block_shown direction kinds block)
+block_is_silent direction kinds block = all_silent (block_shown direction kinds block) (block_shows kinds (reading direction block))
+
+pub block_hands_up_none : (direction : Direction) (kinds : List (Option Layout)) (block : List ℕ) (side : Side) (lcid : ℕ) → filter (is_up side lcid) (block_shown direction kinds block) ≡ []
+block_hands_up_none direction kinds block side lcid = none_kept (is_up side lcid) (λ one h. (still one h).no_up side lcid) (block_shown direction kinds block) (block_shows kinds (reading direction block))
+
+pub block_is_of_no_air : (direction : Direction) (kinds : List (Option Layout)) (block : List ℕ) → filter is_of_air (block_shown direction kinds block) ≡ []
+block_is_of_no_air direction kinds block = none_kept is_of_air (λ one h. (still one h).not_of_air) (block_shown direction kinds block) (block_shows kinds (reading direction block))

@@ -1,7 +1,8 @@
 -- How the ends of a link go on as their processes are visited.
-use Rattle.std.proofs.Common.{◌≡◌, ◌≤◌, ℕ, ◌%◌, ◌==◌, Bool, true, false, if◌then◌else◌, Option, Some, None, List, [], ◌∷◌, ◌++◌, map, refl, ap, sym, subst, arith, ◌∙◌}
+use Rattle.std.proofs.Common.{◌≡◌, ◌≤◌, ℕ, ◌%◌, ◌==◌, Bool, true, false, if◌then◌else◌, Option, Some, None, List, [], ◌∷◌, ◌++◌, map, append_assoc, append-nil, refl, ap, sym, subst, arith, ◌∙◌}
 use Rattle.std.specs.Prelude.{slice_index_or, slice_set}
 use Rattle.std.specs.List.{filter}
+use Rattle.std.proofs.lemmas.List.Elements.{filter-append}
 use Rattle.air_record.specs.declared.line.Fate.{Fate}
 use Rattle.air_record.specs.declared.line.Fate.TheVariants.{Ok, Bad, Miss}
 use Rattle.air_record.specs.declared.line.Outcome.{Outcome}
@@ -20,18 +21,18 @@ use Rattle.l2_node.specs.Building.{IsEnough, visit, visited, built, building, to
 use Rattle.l2_node.specs.End.{End, sent_by}
 use Rattle.l2_types.specs.declared.side.Side.{Side}
 use Rattle.l2_types.specs.declared.side.Side.TheVariants.{Nb, Ue}
-use Rattle.mac_pdu.specs.declared.item.Direction.{Direction}
 use Rattle.mac_pdu.specs.declared.item.Direction.TheVariants as directions
 use Rattle.node_laws.specs.Calls.{Turn, Visits, Grants, Granted, Assigned, Pass, answered, after as after_call}
 use Rattle.node_laws.specs.Writing.{is_of_writing}
+use Rattle.node_laws.proofs.Looping.{tells_no_loop}
 use Rattle.pdu_show.specs.Show.{block_shown}
 use Rattle.pdu_show.specs.declared.kinds.Layout.{Layout}
-use Rattle.air_link.specs.Link.{Link, says, with_end}
-use Rattle.air_link.specs.Downlink.{builds, built_ndi, block_at, shows, sends, turned, feeds, told_as, is_good, saw_new, sees, answer, comes, hears_by, lands, unseen, down_order, down_by, downlink}
+use Rattle.air_link.specs.Link.{Link, says, with_end, other}
+use Rattle.air_link.specs.Downlink.{builds, built_ndi, block_at, sends, turned, feeds, told_as, is_good, saw_new, sees, answer, comes, hears_by, lands, unseen, down_order, down_by, downlink}
 use Rattle.air_link.specs.Uplink.{up_order, is_intact, told_as as up_told_as, granted, hears_if, aired as up_aired, awake, up_by, answers, grants, passes, uplink}
-use Rattle.link_laws.specs.Ends.{ByCalls, GoesOn, block_told, built_told, visit_told}
-use Rattle.link_laws.proofs.Going.{by_none, by_same, by_then, goes_then, goes_by, Seen, seen, told_seen, goes_unseen, says_goes, call_goes, tells_goes, hears_goes}
-use Rattle.link_laws.proofs.Showing.{block_is_shown}
+use Rattle.link_laws.specs.Ends.{told_by, is_of_building, GoesOn, block_told, built_told, visit_told}
+use Rattle.link_laws.proofs.Going.{KeepsOn, own_told, other_told, told_both, by_same, by_one, goes_then, goes_by, Seen, seen, behind, blocks_of, told_seen, goes_seen, Rests, unseen_rests, says_rests, call_goes, hears_rests}
+use Rattle.link_laws.proofs.Showing.{block_is_shown, shown_untold}
 use Rattle.link_laws.proofs.Telling.{some_from}
 
 -- ---- a visit, with the feedback on what is sent
@@ -42,26 +43,20 @@ turn_of t grant order good = record { tti = t; grant = grant; order = order; goo
 abbrev fed : ℕ → Bool → End → End
 fed t good e = record e { sender = after_feedback e.sender t good }
 
--- something is sent: the end reads feedback
-fed_by : (v : Visit) (t grant : ℕ) (order : Order) (good : Bool) (e : End) → visit t order e ≡ v → ((x : End) → answered v (turn_of t grant order good) x ≡ fed t good x) → grant ≤ 9422 → IsEnough order grant
-    → ByCalls e (fed t good (built t grant order e))
-fed_by v t grant order good e is loud within enough = record {
-  calls = Visits (turn_of t grant order good) ∷ [];
-  given = ((within, enough), tt);
-  end_is = sym (ap (λ (w : Visit). answered w (turn_of t grant order good) (built t grant order e)) is ∙ loud (built t grant order e));
-}
+-- the turns of a visit in which something is sent, and of one in which nothing is
+abbrev IsLoud : Visit → ℕ → ℕ → Order → Type 0
+IsLoud v t grant order = (good : Bool) (x : End) → answered v (turn_of t grant order good) x ≡ fed t good x
 
--- nothing is sent
-quiet_by : (t grant : ℕ) (order : Order) (e : End) → visit t order e ≡ Quiet → grant ≤ 9422 → IsEnough order grant → ByCalls e (built t grant order e)
-quiet_by t grant order e is within enough = record {
-  calls = Visits (turn_of t grant order true) ∷ [];
-  given = ((within, enough), tt);
-  end_is = sym (ap (λ (w : Visit). answered w (turn_of t grant order true) (built t grant order e)) is);
-}
+visited_by : (side : Side) (told : List Record) (t grant : ℕ) (order : Order) (good : Bool) (e f : End) → grant ≤ 9422 → IsEnough order grant
+    → f ≡ answered (visit t order e) (turn_of t grant order good) (built t grant order e) → told_by side told ≡ building t grant order e → KeepsOn side told e f
+visited_by side told t grant order good e f within enough same is = by_one side told (Visits (turn_of t grant order good)) e f (within, enough) refl same is
 
 -- what the bearers tell
 abbrev events_told : Side → ℕ → ℕ → Order → End → List Record
 events_told side t grant order e = map (records.Of side) (filter is_of_writing (building t grant order e))
+
+building_own : (side : Side) (t grant : ℕ) (order : Order) (e : End) → told_by side (map (records.Of side) (building t grant order e)) ≡ building t grant order e
+building_own side t grant order e = own_told side (building t grant order e) (tells_no_loop e (Visits (turn_of t grant order true)))
 
 -- without a new block they tell nothing
 abbrev IsSilent : Visit → Type 0
@@ -75,46 +70,53 @@ untold v side t grant order e is silent =
 
 -- ---- a block goes out
 
--- what is told of it as a new one
+-- the records of a block that is sent, and what is told of it as a new one
+abbrev sent : Visit → Side → ℕ → List (Option Layout) → List ℕ → List Record
+sent New side t kinds octets = block_told side t kinds octets
+sent (Resend rv) side t kinds octets = records.Block (sent_by side) (t % 8) false rv octets ∷ []
+sent Quiet side t kinds octets = []
+
 abbrev sent_told : Visit → Side → ℕ → List (Option Layout) → List ℕ → List Record
 sent_told New side t kinds octets = block_told side t kinds octets
 sent_told (Resend rv) side t kinds octets = []
 sent_told Quiet side t kinds octets = []
 
-shows_goes : (direction : Direction) (octets : List ℕ) (l : Link) → GoesOn (block_shown direction l.kinds octets) l (shows direction octets l)
-shows_goes direction octets l = record {
-  nb = by_none l.nb;
-  ue = by_none l.ue;
-  more = block_shown direction l.kinds octets;
-  out_is = refl;
-  blocks_are = block_is_shown direction l.kinds octets;
-  kinds_are = refl;
-}
+sent_blocks : (v : Visit) (side : Side) (t : ℕ) (kinds : List (Option Layout)) (octets : List ℕ) → filter is_of_building (sent v side t kinds octets) ≡ sent_told v side t kinds octets
+sent_blocks New side t kinds octets = ap (λ (x : List Record). records.Block (sent_by side) (t % 8) true 0 octets ∷ x) (block_is_shown (sent_by side) kinds octets)
+sent_blocks (Resend rv) side t kinds octets = refl
+sent_blocks Quiet side t kinds octets = refl
 
-new_goes : (side : Side) (t : ℕ) (octets : List ℕ) (l : Link) → GoesOn (records.Block (sent_by side) (t % 8) true 0 octets ∷ []) l (says (records.Block (sent_by side) (t % 8) true 0 octets) l)
-new_goes side t octets l = record {
-  nb = by_none l.nb;
-  ue = by_none l.ue;
-  more = records.Block (sent_by side) (t % 8) true 0 octets ∷ [];
-  out_is = refl;
-  blocks_are = refl;
-  kinds_are = refl;
-}
+-- no event of an end
+sent_untold : (v : Visit) (side by : Side) (t : ℕ) (kinds : List (Option Layout)) (octets : List ℕ) → told_by side (sent v by t kinds octets) ≡ []
+sent_untold New side by t kinds octets = shown_untold side (sent_by by) kinds octets
+sent_untold (Resend rv) side by t kinds octets = refl
+sent_untold Quiet side by t kinds octets = refl
 
-sends_goes : (v : Visit) (side : Side) (t : ℕ) (octets : List ℕ) (l : Link) → GoesOn (sent_told v side t l.kinds octets) l (sends v side t octets l)
-sends_goes New side t octets l =
-    let m = says (records.Block (sent_by side) (t % 8) true 0 octets) l in
-    goes_then (records.Block (sent_by side) (t % 8) true 0 octets ∷ []) (block_shown (sent_by side) l.kinds octets) l m (shows (sent_by side) octets m) (new_goes side t octets l) (shows_goes (sent_by side) octets m)
-sends_goes (Resend rv) side t octets l = says_goes (records.Block (sent_by side) (t % 8) false rv octets) l refl
-sends_goes Quiet side t octets l = goes_unseen l l refl
+sends_seen : (v : Visit) (side : Side) (t : ℕ) (octets : List ℕ) (l : Link) → seen (sends v side t octets l) ≡ behind l l.nb l.ue (sent v side t l.kinds octets)
+sends_seen New side t octets l =
+    ap (λ (x : List Record). record { nb = l.nb; ue = l.ue; out = x; kinds = l.kinds }) (append_assoc l.out (records.Block (sent_by side) (t % 8) true 0 octets ∷ []) (block_shown (sent_by side) l.kinds octets))
+sends_seen (Resend rv) side t octets l = refl
+sends_seen Quiet side t octets l = ap (λ (x : List Record). record { nb = l.nb; ue = l.ue; out = x; kinds = l.kinds }) (sym (append-nil l.out))
 
-sends_known : (v : Visit) (side : Side) (t : ℕ) (octets : List ℕ) (kinds : List (Option Layout)) (l : Link) → l.kinds ≡ kinds → GoesOn (sent_told v side t kinds octets) l (sends v side t octets l)
-sends_known v side t octets kinds l e = subst (λ (x : List (Option Layout)). GoesOn (sent_told v side t x octets) l (sends v side t octets l)) e (sends_goes v side t octets l)
+-- the records of a visit, what they tell of its end and of the other, and of a new block
+abbrev visit_records : Visit → Side → ℕ → ℕ → Order → List (Option Layout) → List ℕ → End → List Record
+visit_records v side t grant order kinds octets e = map (records.Of side) (building t grant order e) ++ sent v side t kinds octets
 
-sends_ends : (v : Visit) (side : Side) (t : ℕ) (octets : List ℕ) (l : Link) → ((sends v side t octets l).nb ≡ l.nb) × ((sends v side t octets l).ue ≡ l.ue)
-sends_ends New side t octets l = (refl, refl)
-sends_ends (Resend rv) side t octets l = (refl, refl)
-sends_ends Quiet side t octets l = (refl, refl)
+visit_own : (v : Visit) (side : Side) (t grant : ℕ) (order : Order) (kinds : List (Option Layout)) (octets : List ℕ) (e : End) → told_by side (visit_records v side t grant order kinds octets e) ≡ building t grant order e
+visit_own v side t grant order kinds octets e =
+    told_both side (map (records.Of side) (building t grant order e)) (sent v side t kinds octets) (building t grant order e) [] (building_own side t grant order e) (sent_untold v side side t kinds octets)
+    ∙ append-nil (building t grant order e)
+
+visit_other : (v : Visit) (side : Side) (t grant : ℕ) (order : Order) (kinds : List (Option Layout)) (octets : List ℕ) (e : End) → told_by (other side) (visit_records v side t grant order kinds octets e) ≡ []
+visit_other v side t grant order kinds octets e =
+    told_both (other side) (map (records.Of side) (building t grant order e)) (sent v side t kinds octets) [] [] (other_told side (building t grant order e)) (sent_untold v (other side) side t kinds octets)
+
+visit_blocks : (v : Visit) (side : Side) (t grant : ℕ) (order : Order) (kinds : List (Option Layout)) (octets : List ℕ) (e : End)
+    → filter is_of_building (visit_records v side t grant order kinds octets e) ≡ events_told side t grant order e ++ sent_told v side t kinds octets
+visit_blocks v side t grant order kinds octets e =
+    filter-append is_of_building (map (records.Of side) (building t grant order e)) (sent v side t kinds octets)
+    ∙ ap (λ (x : List Record). x ++ filter is_of_building (sent v side t kinds octets)) (blocks_of side (building t grant order e))
+    ∙ ap (λ (x : List Record). events_told side t grant order e ++ x) (sent_blocks v side t kinds octets)
 
 -- ---- the downlink
 
@@ -132,86 +134,76 @@ sees_seen t true l = first_if (slice_index_or l.seen (t % 8) false) t l
 sees_seen t false l = first_if (slice_index_or l.seen (t % 8) false) t l
 
 -- what comes to the terminal's receiver
-assigned_goes : (t : ℕ) (ndi good : Bool) (l : Link) → GoesOn [] l (sees t good (record l { ue = record l.ue { receiver = after_assigned l.ue.receiver t ndi good } }))
-assigned_goes t ndi good l =
-    let m = with_end Ue (after_call l.ue (Assigned t ndi good)) l in
-    goes_then [] [] l m (sees t good m) (call_goes Ue (Assigned t ndi good) l tt) (goes_unseen m (sees t good m) (sees_seen t good m))
+abbrev came : Fate → ℕ → Bool → End → End
+came Miss t ndi e = e
+came Ok t ndi e = after_call e (Assigned t ndi true)
+came Bad t ndi e = after_call e (Assigned t ndi false)
 
-comes_goes : (f : Fate) (t : ℕ) (ndi : Bool) (l : Link) → GoesOn [] l (comes f t ndi l)
-comes_goes Miss t ndi l = goes_unseen l l refl
-comes_goes Ok t ndi l = assigned_goes t ndi true l
-comes_goes Bad t ndi l = assigned_goes t ndi false l
+came_by : (f : Fate) (told : List Record) (t : ℕ) (ndi : Bool) (e : End) → told_by Ue told ≡ [] → KeepsOn Ue told e (came f t ndi e)
+came_by Miss told t ndi e none = by_same Ue told e e refl none
+came_by Ok told t ndi e none = by_one Ue told (Assigned t ndi true) e (after_call e (Assigned t ndi true)) tt refl refl none
+came_by Bad told t ndi e none = by_one Ue told (Assigned t ndi false) e (after_call e (Assigned t ndi false)) tt refl refl none
 
-comes_nb : (f : Fate) (t : ℕ) (ndi : Bool) (l : Link) → (comes f t ndi l).nb ≡ l.nb
-comes_nb Miss t ndi l = refl
-comes_nb Ok t ndi l = ap (λ (s : Seen). s.nb) (sees_seen t true (record l { ue = record l.ue { receiver = after_assigned l.ue.receiver t ndi true } }))
-comes_nb Bad t ndi l = ap (λ (s : Seen). s.nb) (sees_seen t false (record l { ue = record l.ue { receiver = after_assigned l.ue.receiver t ndi false } }))
+comes_seen : (f : Fate) (t : ℕ) (ndi : Bool) (l : Link) → seen (comes f t ndi l) ≡ record { nb = l.nb; ue = came f t ndi l.ue; out = l.out; kinds = l.kinds }
+comes_seen Miss t ndi l = refl
+comes_seen Ok t ndi l = sees_seen t true (record l { ue = record l.ue { receiver = after_assigned l.ue.receiver t ndi true } })
+comes_seen Bad t ndi l = sees_seen t false (record l { ue = record l.ue { receiver = after_assigned l.ue.receiver t ndi false } })
 
-hears_by_goes : (a : Answer) (octets : List ℕ) (l : Link) → GoesOn [] l (hears_by a octets l)
-hears_by_goes Up octets l = hears_goes Ue octets l
-hears_by_goes Again octets l = goes_unseen l l refl
-hears_by_goes Damaged octets l = goes_unseen l l refl
-hears_by_goes Nothing octets l = goes_unseen l l refl
+hears_by_rests : (a : Answer) (octets : List ℕ) (l : Link) → Rests l (hears_by a octets l)
+hears_by_rests Up octets l = hears_rests Ue octets l
+hears_by_rests Again octets l = unseen_rests l l refl
+hears_by_rests Damaged octets l = unseen_rests l l refl
+hears_by_rests Nothing octets l = unseen_rests l l refl
 
-builds_nb : (t grant : ℕ) (order : Order) (l : Link) → (builds Nb t grant order l).nb ≡ built t grant order l.nb
-builds_nb t grant order l = ap (λ (s : Seen). s.nb) (told_seen Nb (building t grant order l.nb) (with_end Nb (built t grant order l.nb) l))
+builds_down : (t grant : ℕ) (order : Order) (l : Link) → seen (builds Nb t grant order l) ≡ behind l (built t grant order l.nb) l.ue (map (records.Of Nb) (building t grant order l.nb))
+builds_down t grant order l = told_seen Nb (building t grant order l.nb) (with_end Nb (built t grant order l.nb) l)
 
--- from the end that has built on, up to the feedback
-sent_down : (v : Visit) (t grant : ℕ) (order : Order) (o : Outcome) (ndi : Bool) (octets : List ℕ) (l : Link)
-    → GoesOn (events_told Nb t grant order l.nb ++ sent_told v Nb t l.kinds octets) (with_end Nb (built t grant order l.nb) l) (comes o.fate t ndi (sends v Nb t octets (unseen v t (builds Nb t grant order l))))
-sent_down v t grant order o ndi octets l =
-    let told = events_told Nb t grant order l.nb in
-    let k = with_end Nb (built t grant order l.nb) l in
+-- as the block goes out
+sent_down : (v : Visit) (t grant : ℕ) (order : Order) (octets : List ℕ) (l : Link)
+    → seen (sends v Nb t octets (unseen v t (builds Nb t grant order l))) ≡ behind l (built t grant order l.nb) l.ue (visit_records v Nb t grant order l.kinds octets l.nb)
+sent_down v t grant order octets l =
     let m = builds Nb t grant order l in
-    let n = unseen v t m in
-    let p = sends v Nb t octets n in
-    let first = goes_by told k m n (tells_goes Nb (building t grant order l.nb) k) (goes_unseen m n (unseen_seen v t m)) in
-    goes_by (told ++ sent_told v Nb t l.kinds octets) k p (comes o.fate t ndi p) (goes_then told (sent_told v Nb t l.kinds octets) k n p first (sends_known v Nb t octets l.kinds n first.kinds_are)) (comes_goes o.fate t ndi p)
-
-sent_down_nb : (v : Visit) (t grant : ℕ) (order : Order) (o : Outcome) (ndi : Bool) (octets : List ℕ) (l : Link)
-    → (comes o.fate t ndi (sends v Nb t octets (unseen v t (builds Nb t grant order l)))).nb ≡ built t grant order l.nb
-sent_down_nb v t grant order o ndi octets l =
-    let m = builds Nb t grant order l in
-    let n = unseen v t m in
-    comes_nb o.fate t ndi (sends v Nb t octets n) ∙ (sends_ends v Nb t octets n).0 ∙ ap (λ (s : Seen). s.nb) (unseen_seen v t m) ∙ builds_nb t grant order l
+    let es = map (records.Of Nb) (building t grant order l.nb) in
+    sends_seen v Nb t octets (unseen v t m)
+    ∙ ap (λ (s : Seen). record { nb = s.nb; ue = s.ue; out = s.out ++ sent v Nb t s.kinds octets; kinds = s.kinds }) (unseen_seen v t m ∙ builds_down t grant order l)
+    ∙ ap (λ (x : List Record). record { nb = built t grant order l.nb; ue = l.ue; out = x; kinds = l.kinds }) (append_assoc l.out es (sent v Nb t l.kinds octets))
 
 -- something is sent
-goes_down : (v : Visit) (t grant : ℕ) (order : Order) (o : Outcome) (ndi : Bool) (octets : List ℕ) (l : Link) → visit t order l.nb ≡ v
-    → ((good : Bool) (x : End) → answered v (turn_of t grant order good) x ≡ fed t good x) → grant ≤ 9422 → IsEnough order grant
+goes_down : (v : Visit) (t grant : ℕ) (order : Order) (o : Outcome) (ndi : Bool) (octets : List ℕ) (l : Link) → visit t order l.nb ≡ v → IsLoud v t grant order → grant ≤ 9422 → IsEnough order grant
     → GoesOn (events_told Nb t grant order l.nb ++ sent_told v Nb t l.kinds octets) l (lands t o ndi octets (sends v Nb t octets (unseen v t (builds Nb t grant order l))))
 goes_down v t grant order o ndi octets l is loud within enough =
     let told = events_told Nb t grant order l.nb ++ sent_told v Nb t l.kinds octets in
     let n = sends v Nb t octets (unseen v t (builds Nb t grant order l)) in
-    let p = comes o.fate t ndi n in
     let a = answer o.fate t ndi n in
     let good = turned o.flipped (is_good a) in
-    let q = feeds Nb t good p in
+    let q = feeds Nb t good (comes o.fate t ndi n) in
     let one = records.Air (sent_by Nb) (told_as a) (Some good) in
-    let g = sent_down v t grant order o ndi octets l in
-    let visited' = fed_by v t grant order good l.nb is (loud good) within enough in
-    let by : ByCalls l.nb q.nb = by_then l.nb (fed t good (built t grant order l.nb)) q.nb visited' (by_same (fed t good (built t grant order l.nb)) q.nb (ap (fed t good) (sent_down_nb v t grant order o ndi octets l))) in
-    let first : GoesOn told l q = record { nb = by; ue = g.ue; more = g.more; out_is = g.out_is; blocks_are = g.blocks_are; kinds_are = g.kinds_are } in
-    goes_by told l (says one q) (hears_by a octets (says one q)) (goes_by told l q (says one q) first (says_goes one q refl)) (hears_by_goes a octets (says one q))
+    let more = visit_records v Nb t grant order l.kinds octets l.nb in
+    let nb = fed t good (built t grant order l.nb) in
+    let ue = came o.fate t ndi l.ue in
+    let q_seen : seen q ≡ behind l nb ue more =
+    ap (λ (s : Seen). record { nb = fed t good s.nb; ue = s.ue; out = s.out; kinds = s.kinds }) (comes_seen o.fate t ndi n)
+    ∙ ap (λ (s : Seen). record { nb = fed t good s.nb; ue = came o.fate t ndi s.ue; out = s.out; kinds = s.kinds }) (sent_down v t grant order octets l) in
+    let same : nb ≡ answered (visit t order l.nb) (turn_of t grant order good) (built t grant order l.nb) =
+    sym (ap (λ (w : Visit). answered w (turn_of t grant order good) (built t grant order l.nb)) is ∙ loud good (built t grant order l.nb)) in
+    let first = goes_seen told more l q nb ue q_seen (visit_blocks v Nb t grant order l.kinds octets l.nb)
+    (visited_by Nb more t grant order good l.nb nb within enough same (visit_own v Nb t grant order l.kinds octets l.nb))
+    (came_by o.fate more t ndi l.ue (visit_other v Nb t grant order l.kinds octets l.nb)) in
+    goes_by told l (says one q) (hears_by a octets (says one q)) (goes_by told l q (says one q) first (says_rests one q refl refl refl).goes) (hears_by_rests a octets (says one q)).goes
 
 quiet_down : (t grant : ℕ) (order : Order) (l : Link) → visit t order l.nb ≡ Quiet → grant ≤ 9422 → IsEnough order grant → GoesOn (events_told Nb t grant order l.nb) l (builds Nb t grant order l)
 quiet_down t grant order l is within enough =
-    let k = with_end Nb (built t grant order l.nb) l in
-    let g = tells_goes Nb (building t grant order l.nb) k in
-    let m = builds Nb t grant order l in
-    record {
-      nb = by_then l.nb (built t grant order l.nb) m.nb (quiet_by t grant order l.nb is within enough) (by_same (built t grant order l.nb) m.nb (builds_nb t grant order l));
-      ue = g.ue;
-      more = g.more;
-      out_is = g.out_is;
-      blocks_are = g.blocks_are;
-      kinds_are = g.kinds_are;
-    }
+    let es = building t grant order l.nb in
+    let e = built t grant order l.nb in
+    goes_seen (events_told Nb t grant order l.nb) (map (records.Of Nb) es) l (builds Nb t grant order l) e l.ue (builds_down t grant order l) (blocks_of Nb es)
+    (visited_by Nb (map (records.Of Nb) es) t grant order true l.nb e within enough (sym (ap (λ (w : Visit). answered w (turn_of t grant order true) e) is)) (building_own Nb t grant order l.nb))
+    (by_same Ue (map (records.Of Nb) es) l.ue l.ue refl (other_told Nb es))
 
 down_by_goes : (v : Visit) (t grant : ℕ) (order : Order) (o : Outcome) (ndi : Bool) (l : Link) → visit t order l.nb ≡ v → grant ≤ 9422 → IsEnough order grant
     → GoesOn (built_told v Nb t grant order l.kinds l.nb) l (down_by v t o ndi (builds Nb t grant order l))
 down_by_goes New t grant order o ndi l is within enough =
     let m = builds Nb t grant order l in
-    subst (λ (e : End). GoesOn (events_told Nb t grant order l.nb ++ block_told Nb t l.kinds (block_at t e)) l (down_by New t o ndi m)) (builds_nb t grant order l)
+    subst (λ (e : End). GoesOn (events_told Nb t grant order l.nb ++ block_told Nb t l.kinds (block_at t e)) l (down_by New t o ndi m)) (ap (λ (s : Seen). s.nb) (builds_down t grant order l))
     (goes_down New t grant order o ndi (block_at t m.nb) l is (λ good x. refl) within enough)
 down_by_goes (Resend rv) t grant order o ndi l is within enough =
     let m = builds Nb t grant order l in
@@ -240,66 +232,57 @@ awake_seen New t l = refl
 awake_seen (Resend rv) t l = refl
 awake_seen Quiet t l = refl
 
-hears_if_goes : (good : Bool) (octets : List ℕ) (l : Link) → GoesOn [] l (hears_if good octets l)
-hears_if_goes true octets l = hears_goes Nb octets l
-hears_if_goes false octets l = goes_unseen l l refl
+hears_if_rests : (good : Bool) (octets : List ℕ) (l : Link) → Rests l (hears_if good octets l)
+hears_if_rests true octets l = hears_rests Nb octets l
+hears_if_rests false octets l = unseen_rests l l refl
 
-builds_ue : (t grant : ℕ) (order : Order) (l : Link) → (builds Ue t grant order l).ue ≡ built t grant order l.ue
-builds_ue t grant order l = ap (λ (s : Seen). s.ue) (told_seen Ue (building t grant order l.ue) (with_end Ue (built t grant order l.ue) l))
+builds_up : (t grant : ℕ) (order : Order) (l : Link) → seen (builds Ue t grant order l) ≡ behind l l.nb (built t grant order l.ue) (map (records.Of Ue) (building t grant order l.ue))
+builds_up t grant order l = told_seen Ue (building t grant order l.ue) (with_end Ue (built t grant order l.ue) l)
 
-sent_up : (v : Visit) (t grant : ℕ) (order : Order) (good : Bool) (octets : List ℕ) (l : Link)
-    → GoesOn (events_told Ue t grant order l.ue ++ sent_told v Ue t l.kinds octets) (with_end Ue (built t grant order l.ue) l) (granted t (Some good) (sends v Ue t octets (awake v t (builds Ue t grant order l))))
-sent_up v t grant order good octets l =
-    let told = events_told Ue t grant order l.ue in
-    let k = with_end Ue (built t grant order l.ue) l in
+sent_up : (v : Visit) (t grant : ℕ) (order : Order) (octets : List ℕ) (l : Link)
+    → seen (sends v Ue t octets (awake v t (builds Ue t grant order l))) ≡ behind l l.nb (built t grant order l.ue) (visit_records v Ue t grant order l.kinds octets l.ue)
+sent_up v t grant order octets l =
     let m = builds Ue t grant order l in
-    let n = awake v t m in
-    let p = sends v Ue t octets n in
-    let first = goes_by told k m n (tells_goes Ue (building t grant order l.ue) k) (goes_unseen m n (awake_seen v t m)) in
-    goes_by (told ++ sent_told v Ue t l.kinds octets) k p (granted t (Some good) p) (goes_then told (sent_told v Ue t l.kinds octets) k n p first (sends_known v Ue t octets l.kinds n first.kinds_are)) (call_goes Nb (Granted t (Some good)) p tt)
+    let es = map (records.Of Ue) (building t grant order l.ue) in
+    sends_seen v Ue t octets (awake v t m)
+    ∙ ap (λ (s : Seen). record { nb = s.nb; ue = s.ue; out = s.out ++ sent v Ue t s.kinds octets; kinds = s.kinds }) (awake_seen v t m ∙ builds_up t grant order l)
+    ∙ ap (λ (x : List Record). record { nb = l.nb; ue = built t grant order l.ue; out = x; kinds = l.kinds }) (append_assoc l.out es (sent v Ue t l.kinds octets))
 
-sent_up_ue : (v : Visit) (t grant : ℕ) (order : Order) (octets : List ℕ) (l : Link) → (sends v Ue t octets (awake v t (builds Ue t grant order l))).ue ≡ built t grant order l.ue
-sent_up_ue v t grant order octets l =
-    let m = builds Ue t grant order l in
-    (sends_ends v Ue t octets (awake v t m)).1 ∙ ap (λ (s : Seen). s.ue) (awake_seen v t m) ∙ builds_ue t grant order l
-
-goes_up : (v : Visit) (t grant : ℕ) (order : Order) (o : Outcome) (octets : List ℕ) (l : Link) → visit t order l.ue ≡ v
-    → ((good : Bool) (x : End) → answered v (turn_of t grant order good) x ≡ fed t good x) → grant ≤ 9422 → IsEnough order grant
+goes_up : (v : Visit) (t grant : ℕ) (order : Order) (o : Outcome) (octets : List ℕ) (l : Link) → visit t order l.ue ≡ v → IsLoud v t grant order → grant ≤ 9422 → IsEnough order grant
     → GoesOn (events_told Ue t grant order l.ue ++ sent_told v Ue t l.kinds octets) l (up_aired t o.flipped (is_intact o.fate) octets (sends v Ue t octets (awake v t (builds Ue t grant order l))))
 goes_up v t grant order o octets l is loud within enough =
     let told = events_told Ue t grant order l.ue ++ sent_told v Ue t l.kinds octets in
     let intact = is_intact o.fate in
     let good = turned o.flipped intact in
     let n = sends v Ue t octets (awake v t (builds Ue t grant order l)) in
-    let p = granted t (Some intact) n in
-    let q = feeds Ue t good p in
+    let q = feeds Ue t good (granted t (Some intact) n) in
     let one = records.Air directions.Up (up_told_as intact) (Some good) in
-    let g = sent_up v t grant order intact octets l in
-    let visited' = fed_by v t grant order good l.ue is (loud good) within enough in
-    let by : ByCalls l.ue q.ue = by_then l.ue (fed t good (built t grant order l.ue)) q.ue visited' (by_same (fed t good (built t grant order l.ue)) q.ue (ap (fed t good) (sent_up_ue v t grant order octets l))) in
-    let first : GoesOn told l q = record { nb = g.nb; ue = by; more = g.more; out_is = g.out_is; blocks_are = g.blocks_are; kinds_are = g.kinds_are } in
-    goes_by told l (says one q) (hears_if intact octets (says one q)) (goes_by told l q (says one q) first (says_goes one q refl)) (hears_if_goes intact octets (says one q))
+    let more = visit_records v Ue t grant order l.kinds octets l.ue in
+    let nb = after_call l.nb (Granted t (Some intact)) in
+    let ue = fed t good (built t grant order l.ue) in
+    let q_seen : seen q ≡ behind l nb ue more =
+    ap (λ (s : Seen). record { nb = after_call s.nb (Granted t (Some intact)); ue = fed t good s.ue; out = s.out; kinds = s.kinds }) (sent_up v t grant order octets l) in
+    let same : ue ≡ answered (visit t order l.ue) (turn_of t grant order good) (built t grant order l.ue) =
+    sym (ap (λ (w : Visit). answered w (turn_of t grant order good) (built t grant order l.ue)) is ∙ loud good (built t grant order l.ue)) in
+    let first = goes_seen told more l q nb ue q_seen (visit_blocks v Ue t grant order l.kinds octets l.ue)
+    (by_one Nb more (Granted t (Some intact)) l.nb nb tt refl refl (visit_other v Ue t grant order l.kinds octets l.ue))
+    (visited_by Ue more t grant order good l.ue ue within enough same (visit_own v Ue t grant order l.kinds octets l.ue)) in
+    goes_by told l (says one q) (hears_if intact octets (says one q)) (goes_by told l q (says one q) first (says_rests one q refl refl refl).goes) (hears_if_rests intact octets (says one q)).goes
 
 quiet_up : (t grant : ℕ) (order : Order) (l : Link) → visit t order l.ue ≡ Quiet → grant ≤ 9422 → IsEnough order grant → GoesOn [] l (builds Ue t grant order l)
 quiet_up t grant order l is within enough =
-    let k = with_end Ue (built t grant order l.ue) l in
-    let g = tells_goes Ue (building t grant order l.ue) k in
-    let m = builds Ue t grant order l in
-    subst (λ (told : List Record). GoesOn told l m) (untold Quiet Ue t grant order l.ue is (λ x e. refl))
-    (record {
-      nb = g.nb;
-      ue = by_then l.ue (built t grant order l.ue) m.ue (quiet_by t grant order l.ue is within enough) (by_same (built t grant order l.ue) m.ue (builds_ue t grant order l));
-      more = g.more;
-      out_is = g.out_is;
-      blocks_are = g.blocks_are;
-      kinds_are = g.kinds_are;
-    })
+    let es = building t grant order l.ue in
+    let e = built t grant order l.ue in
+    subst (λ (told : List Record). GoesOn told l (builds Ue t grant order l)) (untold Quiet Ue t grant order l.ue is (λ x y. refl))
+    (goes_seen (events_told Ue t grant order l.ue) (map (records.Of Ue) es) l (builds Ue t grant order l) l.nb e (builds_up t grant order l) (blocks_of Ue es)
+    (by_same Nb (map (records.Of Ue) es) l.nb l.nb refl (other_told Ue es))
+    (visited_by Ue (map (records.Of Ue) es) t grant order true l.ue e within enough (sym (ap (λ (w : Visit). answered w (turn_of t grant order true) e) is)) (building_own Ue t grant order l.ue)))
 
 up_by_goes : (v : Visit) (t grant : ℕ) (order : Order) (o : Outcome) (l : Link) → visit t order l.ue ≡ v → grant ≤ 9422 → IsEnough order grant
     → GoesOn (built_told v Ue t grant order l.kinds l.ue) l (up_by v t o (builds Ue t grant order l))
 up_by_goes New t grant order o l is within enough =
     let m = builds Ue t grant order l in
-    subst (λ (e : End). GoesOn (events_told Ue t grant order l.ue ++ block_told Ue t l.kinds (block_at t e)) l (up_by New t o m)) (builds_ue t grant order l)
+    subst (λ (e : End). GoesOn (events_told Ue t grant order l.ue ++ block_told Ue t l.kinds (block_at t e)) l (up_by New t o m)) (ap (λ (s : Seen). s.ue) (builds_up t grant order l))
     (goes_up New t grant order o (block_at t m.ue) l is (λ good x. refl) within enough)
 up_by_goes (Resend rv) t grant order o l is within enough =
     let m = builds Ue t grant order l in
@@ -308,8 +291,8 @@ up_by_goes (Resend rv) t grant order o l is within enough =
 up_by_goes Quiet t grant order o l is within enough =
     let m = builds Ue t grant order l in
     let n = granted t None m in
-    let first = goes_then [] [] l m n (quiet_up t grant order l is within enough) (call_goes Nb (Granted t None) m tt) in
-    goes_then [] [] l n (says (records.Air directions.Up arriveds.Nothing None) n) first (says_goes (records.Air directions.Up arriveds.Nothing None) n refl)
+    let first = goes_by [] l m n (quiet_up t grant order l is within enough) (call_goes Nb (Granted t None) m tt refl refl) in
+    goes_by [] l n (says (records.Air directions.Up arriveds.Nothing None) n) first (says_rests (records.Air directions.Up arriveds.Nothing None) n refl refl refl).goes
 
 -- the terminal is visited by some order
 pub record GoesUp (t grant : ℕ) (l m : Link) : Type 0 where
@@ -331,7 +314,7 @@ grants_goes t grant o l some within =
     record {
       order = order;
       enough = enough;
-      goes = goes_then [] told l m (answers t grant order o m) (call_goes Nb (Grants t) l tt) (up_by_goes (visit t order l.ue) t grant order o m refl within enough);
+      goes = goes_then [] told l m (answers t grant order o m) (call_goes Nb (Grants t) l tt refl refl) (up_by_goes (visit t order l.ue) t grant order o m refl within enough);
     }
 
 passes_goes : (t grant : ℕ) (l : Link) → GoesUp t grant l (passes t l)
@@ -341,7 +324,7 @@ passes_goes t grant l =
     record {
       order = orders.Silent;
       enough = tt;
-      goes = goes_then [] [] l m (passes t l) (quiet_up t 0 orders.Silent l refl (omega arith) tt) (call_goes Nb (Pass t) m tt);
+      goes = goes_then [] [] l m (passes t l) (quiet_up t 0 orders.Silent l refl (omega arith) tt) (call_goes Nb (Pass t) m tt refl refl);
     }
 
 goes_if : (b : Bool) (t grant : ℕ) (o : Outcome) (l : Link) → (grant == 0) ≡ b → grant ≤ 9422 → GoesUp t grant l (if b then passes t l else grants t grant o l)

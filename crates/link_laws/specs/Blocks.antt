@@ -13,12 +13,13 @@ use Rattle.mac_pdu.specs.Items.{front, padding, sdu_item}
 use Rattle.mac_pdu.specs.Reading.{reading}
 use Rattle.node_laws.specs.Blocks.{reported}
 use Rattle.node_laws.specs.Calls.{Call as EndCall, AreGiven, reached}
+use Rattle.node_laws.specs.Names.{sends, Mode, AreNamed}
 use Rattle.node_laws.specs.Writing.{sent_on}
 use Rattle.pdu_show.specs.declared.kinds.Layout.{Layout}
 use Rattle.link_laws.specs.Ends.{block_told, visit_told}
 
 -- a block of the grant's size, which is read as padding of one or two octets or none, at most one report, the PDUs that are told of as
--- sent, channel by channel and in that order, and the other padding
+-- sent, channel by channel and in that order, and the other padding; each PDU is the one that is told, in the mode of its channel
 pub record IsTold (side : Side) (grant : ℕ) (events : List Event) (octets : List ℕ) : Type 0 where
   pub size_is : length octets ≡ grant
   pub fronts : ℕ
@@ -29,6 +30,8 @@ pub record IsTold (side : Side) (grant : ℕ) (events : List Event) (octets : Li
   pub one : length ends ≤ 1
   pub read : reading (sent_by side) octets ≡ Ok (replicate fronts front ++ ((reported report ++ map sdu_item sdus) ++ map padding ends))
   pub sent : sent_on events ≡ map (λ s. s.lcid) sdus
+  pub modes : ℕ → Option Mode
+  pub named : AreNamed modes (sends events) sdus
 
 -- what an end tells, then the block, and what shows it
 pub record IsNewBlock (side : Side) (t grant : ℕ) (kinds : List (Option Layout)) (told : List Record) : Type 0 where

@@ -1,5 +1,6 @@
--- The ends of a link: each goes on by calls of its own, and tells of what it writes only as it builds a block.
-use Rattle.std.specs.Prelude.{◌≡◌, ℕ, ◌%◌, ◌≤◌, Bool, true, false, Option, List, [], ◌∷◌, ◌++◌, map}
+-- The ends of a link: each goes on by calls of its own, what records tell of it is what it tells in these, lives of its bearers begin
+-- only as one is added and in a handover, and it tells of what it writes only as it builds a block.
+use Rattle.std.specs.Prelude.{◌≡◌, ℕ, ◌%◌, ◌≤◌, Bool, true, false, not, ◌&&◌, if◌then◌else◌, Option, List, [], ◌∷◌, ◌++◌, map}
 use Rattle.std.specs.List.{filter}
 use Rattle.air_link.specs.Downlink.{block_at, down_order}
 use Rattle.air_link.specs.Draining.{drain_tti}
@@ -10,6 +11,8 @@ use Rattle.air_record.specs.declared.line.Outcome.{Outcome}
 use Rattle.air_record.specs.declared.record.Record.{Record}
 use Rattle.air_record.specs.declared.record.Record.TheVariants as records
 use Rattle.bearer_types.specs.Configs.{IsConfig}
+use Rattle.bearer_types.specs.declared.config.BearerConfig.{BearerConfig}
+use Rattle.bearer_types.specs.declared.event.Event.{Event}
 use Rattle.harq.specs.declared.sender.Order.{Order}
 use Rattle.harq.specs.declared.sender.Visit.{Visit}
 use Rattle.harq.specs.declared.sender.Visit.TheVariants.{New, Resend, Silent}
@@ -17,18 +20,49 @@ use Rattle.l2_node.specs.Building.{IsEnough, visit, built, building}
 use Rattle.l2_node.specs.End.{End, sent_by}
 use Rattle.l2_types.specs.declared.side.Side.{Side}
 use Rattle.l2_types.specs.declared.side.Side.TheVariants.{Nb, Ue}
-use Rattle.node_laws.specs.Calls.{Call as EndCall, AreGiven, run as run_end}
+use Rattle.node_laws.specs.Calls.{Call as EndCall, Add, Move, AreGiven, run as run_end}
+use Rattle.node_laws.specs.Loops.{is_of_loop}
+use Rattle.node_laws.specs.Telling.{told_over}
 use Rattle.node_laws.specs.Writing.{is_of_writing}
 use Rattle.pdu_show.specs.Kinds.{with_kind}
 use Rattle.pdu_show.specs.Show.{block_shown}
 use Rattle.pdu_show.specs.declared.kinds.Layout.{Layout}
-use Rattle.link_laws.specs.Calls.{Call, Bears, Visits, after}
+use Rattle.link_laws.specs.Calls.{Call, Bears, Visits, HandsOver, after}
+use Rattle.link_laws.specs.Counts.{is_same}
 
--- an end goes on by calls
-pub record ByCalls (before after' : End) : Type 0 where
+-- ---- what records tell of an end
+
+-- the event of a side's end; what the test loop drops is told in the terminal's name, and is none of its end
+abbrev pub event_of : Side → Record → List Event
+event_of side (records.Of s event) = if is_same side s && not (is_of_loop event) then event ∷ [] else []
+event_of side one = []
+
+-- the events of a side's end, in order
+abbrev pub told_by : Side → List Record → List Event
+told_by side [] = []
+told_by side (one ∷ told) = event_of side one ++ told_by side told
+
+-- an end goes on by calls, and the records tell of it exactly what it tells in these
+pub record ByCalls (side : Side) (told : List Record) (before after' : End) : Type 0 where
   pub calls : List EndCall
   pub given : AreGiven calls
   pub end_is : after' ≡ run_end calls before
+  pub told_is : told_by side told ≡ told_over calls before
+
+-- ---- the lives of its bearers
+
+-- a call with which lives begin: a bearer is added, or the end moves
+abbrev pub begins_life : EndCall → Bool
+begins_life (Add config keys) = true
+begins_life (Move keys) = true
+begins_life call = false
+
+-- an end goes on by calls, and these of them begin lives
+pub record LivesOn (lives : List EndCall) (side : Side) (told : List Record) (before after' : End) : Type 0 where
+  pub by : ByCalls side told before after'
+  pub lives_are : filter begins_life by.calls ≡ lives
+
+-- ---- what is told of new blocks
 
 -- a record that shows a part of a block
 abbrev pub is_shown : Record → Bool
@@ -55,14 +89,19 @@ is_of_building (records.Of side event) = is_of_writing event
 is_of_building (records.Block direction process fresh version octets) = fresh
 is_of_building one = is_shown one
 
--- both ends go on by calls, records are added, and of these are told of new blocks; how PDUs are shown stays
-pub record GoesOn (blocks : List Record) (l m : Link) : Type 0 where
-  pub nb : ByCalls l.nb m.nb
-  pub ue : ByCalls l.ue m.ue
+-- records are added, both ends go on by calls of which these tell, with lives that begin in both alike, and some of these records are
+-- told of new blocks; how PDUs are shown stays
+pub record GoesThrough (lives : List EndCall) (blocks : List Record) (l m : Link) : Type 0 where
   pub more : List Record
   pub out_is : m.out ≡ l.out ++ more
+  pub nb : LivesOn lives Nb more l.nb m.nb
+  pub ue : LivesOn lives Ue more l.ue m.ue
   pub blocks_are : filter is_of_building more ≡ blocks
   pub kinds_are : m.kinds ≡ l.kinds
+
+-- no life begins
+abbrev pub GoesOn : List Record → Link → Link → Type 0
+GoesOn blocks l m = GoesThrough [] blocks l m
 
 -- ---- the visit of a process, by an order and a grant
 
@@ -78,12 +117,15 @@ built_told Silent side t grant order kinds e = []
 abbrev pub visit_told : Side → ℕ → ℕ → Order → List (Option Layout) → End → List Record
 visit_told side t grant order kinds e = built_told (visit t order e) side t grant order kinds e
 
--- in a TTI the base station visits its process and then the terminal, each as it has come to that by calls
+-- in a TTI the base station visits its process and then the terminal, each as it has come to that by calls in which no life begins,
+-- with records of both
 pub record GoesOnByVisits (t up_grant down_grant : ℕ) (l m : Link) : Type 0 where
   pub nb : End
-  pub nb_by : ByCalls l.nb nb
+  pub nb_told : List Record
+  pub nb_by : LivesOn [] Nb nb_told l.nb nb
   pub ue : End
-  pub ue_by : ByCalls l.ue ue
+  pub ue_told : List Record
+  pub ue_by : LivesOn [] Ue ue_told l.ue ue
   pub up_order : Order
   pub enough : IsEnough up_order up_grant
   pub goes : GoesOn (visit_told Nb t down_grant (down_order down_grant) l.kinds nb ++ visit_told Ue t up_grant up_order l.kinds ue) l m
@@ -97,12 +139,21 @@ IsGiven (Visits maximum) = 1 ≤ maximum
 IsGiven call = Unit {0}
 
 -- how PDUs of a new bearer are shown
+abbrev pub with_bearer : BearerConfig → List (Option Layout) → List (Option Layout)
+with_bearer config kinds = with_kind kinds config.channel.lcid config.kind config.rlc_bits config.pdcp_bits
+
 abbrev pub known : Call → Link → Link
-known (Bears config keys) l = record l { kinds = with_kind l.kinds config.channel.lcid config.kind config.rlc_bits config.pdcp_bits }
+known (Bears config keys) l = record l { kinds = with_bearer config l.kinds }
 known call l = l
 
+-- a bearer's life begins as it is added, and another one of each bearer in a handover
+abbrev pub lives_in : Call → List EndCall
+lives_in (Bears config keys) = Add config keys ∷ []
+lives_in (HandsOver keys) = Move keys ∷ []
+lives_in call = []
+
 abbrev pub CallsGoOn : Type 0
-CallsGoOn = (c : Call) (l : Link) → IsGiven c → GoesOn [] (known c l) (after c l)
+CallsGoOn = (c : Call) (l : Link) → IsGiven c → GoesThrough (lives_in c) [] (known c l) (after c l)
 
 abbrev pub SubmissionsGoOn : Type 0
 SubmissionsGoOn = (side : Side) (lcid : ℕ) (sdu : List ℕ) (l : Link) → GoesOn [] l (submitting side lcid sdu l)

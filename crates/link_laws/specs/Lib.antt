@@ -1,8 +1,11 @@
 pub mod Counts
 pub mod Flights
 pub mod Calls
+pub mod Loops
 pub mod Ends
 pub mod Blocks
+pub mod Shown
 pub mod Deeds
 pub mod Told
 pub mod Runs
+pub mod Zero

@@ -1,5 +1,5 @@
 -- What each call of a link adds to the records, and that these tell which SDUs were submitted and delivered.
-use Rattle.std.specs.Prelude.{◌≡◌, ℕ, ◌+◌, ◌==◌, Bool, true, false, if◌then◌else◌, Option, Some, None, option_map, List, [], ◌∷◌, ◌++◌}
+use Rattle.std.specs.Prelude.{◌≡◌, ℕ, ◌+◌, ◌==◌, Bool, true, false, if◌then◌else◌, Option, Some, None, option_map, List, [], ◌∷◌, ◌++◌, length}
 use Rattle.std.specs.List.{filter}
 use Rattle.air_record.specs.declared.line.Outcome.{Outcome}
 use Rattle.air_record.specs.declared.record.NoPlace.{NoPlace}
@@ -14,8 +14,9 @@ use Rattle.air_link.specs.Lines.{no_place, submitting}
 use Rattle.air_link.specs.Ttis.{sleeps, missed, tti}
 use Rattle.link_laws.specs.Counts.{ups, loopeds, is_of_run, is_of_air, Grows}
 use Rattle.air_link.specs.Downlink.{down_order}
-use Rattle.harq.specs.declared.sender.Order.{Order}
-use Rattle.link_laws.specs.Deeds.{TakesTurn}
+use Rattle.harq.specs.Receiving.{grant_ndi}
+use Rattle.harq.specs.Sending.{ndi_of}
+use Rattle.link_laws.specs.Deeds.{TakesTurn, came_of, Answers, heard_up, up_ordered}
 use Rattle.link_laws.specs.Flights.{IsDown, IsUp}
 use Rattle.link_laws.specs.Calls.{Call, after}
 
@@ -53,7 +54,8 @@ abbrev pub sleeping : Bool → List Record
 sleeping true = records.Sleep ∷ []
 sleeping false = []
 
--- a TTI adds its number first; a terminal that sleeps misses both blocks; that of the downlink flies before that of the uplink
+-- a TTI adds its number first; a terminal that sleeps misses both blocks; that of the downlink flies before that of the uplink;
+-- each is as the processes of its sender and of its receiver have it
 pub record AddsTti (asleep : Bool) (up_grant : ℕ) (up : Outcome) (down_grant : ℕ) (down : Outcome) (l m : Link) : Type 0 where
   pub more : List Record
   pub downward : List Record
@@ -64,8 +66,9 @@ pub record AddsTti (asleep : Bool) (up_grant : ℕ) (up : Outcome) (down_grant :
   pub down_is : IsDown l.ttis down_grant (missed asleep down) downward
   pub up_is : IsUp l.ttis up_grant (missed asleep up) upward
   pub down_turn : TakesTurn l.ttis (down_order down_grant) l.nb.sender m.nb.sender downward
-  pub up_order : Order
-  pub up_turn : TakesTurn l.ttis up_order l.ue.sender m.ue.sender upward
+  pub down_answer : length l.nb.sender.processes ≡ 8 → Answers l.ttis (ndi_of m.nb.sender l.ttis) (came_of downward) l.ue.receiver m.ue.receiver
+  pub up_turn : TakesTurn l.ttis (up_ordered up_grant (missed asleep up) (grant_ndi l.nb.receiver l.ttis)) l.ue.sender m.ue.sender upward
+  pub up_heard : m.nb.receiver ≡ heard_up l.ttis (came_of upward) l.nb.receiver
 
 abbrev pub TtisAreTold : Type 0
 TtisAreTold = (up_grant : ℕ) (up : Outcome) (down_grant : ℕ) (down : Outcome) (l : Link)

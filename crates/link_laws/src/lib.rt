@@ -2,11 +2,14 @@
 //! law is the contract of a function that does nothing.
 #![tactic(auto)]
 
-ghost use Rattle.link_laws.specs.Deeds.{CallsLeaveSenders};
+ghost use Rattle.link_laws.specs.Deeds.{CallsLeaveProcesses};
 ghost use Rattle.link_laws.specs.Blocks.{BlocksAreTold};
 ghost use Rattle.link_laws.specs.Ends.{CallsGoOn, DrainsGoOn, SubmissionsGoOn, TtisGoOn};
+ghost use Rattle.link_laws.specs.Loops.{CallsLoopBack, DrainsLoopBack, FirstIsAtRest, SubmissionsLoopBack, TtisLoopBack};
+ghost use Rattle.link_laws.specs.Shown.{BlocksAreShown};
 ghost use Rattle.link_laws.specs.Runs.{RunsAreCounted};
 ghost use Rattle.link_laws.specs.Told.{CallsAreTold, DrainsAreTold, SubmissionsAreTold, TtisAreTold};
+ghost use Rattle.link_laws.specs.Zero.{CallsBring, DrainsBring, SubmissionsBring, TtisBring};
 
 /// A call that is neither a TTI nor a submission leaves the records that are there, and the count of TTIs. At each end and on
 /// each channel the SDUs delivered grow by the `up` records that it adds, and the SDUs that the terminal submits by the
@@ -26,7 +29,8 @@ pub fn submissions_are_told()
 /// block flies on the downlink where it has a grant, by the process of the TTI, with what comes of it by its outcome, and
 /// none where it has none; then the same on the uplink, where a terminal that missed the grant may send nothing. A terminal
 /// that sleeps misses both. What is told of a block is what the HARQ process of its sender does in that turn, with the
-/// feedback that it reads.
+/// feedback that it reads: on the uplink by the grant, with the NDI that the base station's process gives it. What is told to
+/// have come of it is what the process of its receiver makes of it, on the downlink by the NDI of the sender's.
 pub fn ttis_are_told()
     ensures { TtisAreTold }
 {}
@@ -38,13 +42,15 @@ pub fn drains_are_told()
 
 /// Of the calls that are neither a TTI nor a submission, another number of visits and a handover empty the HARQ processes of
 /// both ends; the others leave them as they are.
-pub fn calls_leave_senders()
-    ensures { CallsLeaveSenders }
+pub fn calls_leave_processes()
+    ensures { CallsLeaveProcesses }
 {}
 
 /// In each call both ends go on by calls of their own, so that what holds of an end over any calls holds of both over any
-/// script. What their bearers take and write, and why data waits, is told only in a TTI as its processes are visited: of a new
-/// downlink block and then of a new uplink block, each with what its end tells before it and with no other.
+/// script. A bearer's life begins only as the bearer is added, and in a handover, which begins one of each. The records that are
+/// added tell of each end exactly what it tells in these calls. What their bearers take and write, and why data waits, is told
+/// only in a TTI as its processes are visited: of a new downlink block and then of a new uplink block, each with what its end
+/// tells before it and with no other.
 #[tactic(auto, using(crate::proofs::Advancing::call_goes_on, crate::proofs::Advancing::submitting_goes, crate::proofs::Advancing::tti_goes, crate::proofs::Advancing::drain_goes))]
 pub fn ends_go_on_by_calls()
     ensures calls { CallsGoOn }
@@ -54,9 +60,16 @@ pub fn ends_go_on_by_calls()
 {}
 
 /// What an end that has come so far by any calls tells as it builds a block is what the block has: it has the grant's size, and
-/// is read as padding, at most one report, the PDUs that are told of as sent, in that order, and padding.
+/// is read as padding, at most one report, the PDUs that are told of as sent, in that order, and padding. Each PDU is the one that
+/// is told: by the mode of its channel it is read as a PDU of that kind and number, and is its canonical writing.
 pub fn blocks_are_told()
     ensures { BlocksAreTold }
+{}
+
+/// Where each bearer of the end is known as what it is, the records behind its new block show the PDUs that are told of as sent, in
+/// that order: of each its channel, its kind and its number.
+pub fn blocks_are_shown()
+    ensures { BlocksAreShown }
 {}
 
 /// Through any calls from the beginning on, each count of SDUs delivered is the count of `up` records of that end and
@@ -64,4 +77,31 @@ pub fn blocks_are_told()
 /// the TTIs are numbered 0, 1 and so on, each once and in order.
 pub fn runs_are_counted()
     ensures { RunsAreCounted }
+{}
+
+/// What the test loop returns are SDUs that went up at the terminal before, on data bearers with a loop on: on their channels and
+/// in their order, each at most once, cut or repeated to the size of mode A, or whole in mode B (TS 36.509 5.4). At each record
+/// that a call adds, those that have come back are part of those that the loop kept as the call began and of those that have
+/// gone up since; those that it keeps in the end come behind, and of each of the others a record tells that it finds no place.
+/// This holds of a link at rest, as it is at first and after each call.
+#[tactic(auto, using(crate::proofs::Settling::first_rests, crate::proofs::Settling::calls_loop_back, crate::proofs::Settling::submissions_loop_back, crate::proofs::Settling::ttis_loop_back, crate::proofs::Settling::drains_loop_back))]
+pub fn loops_return_in_order()
+    ensures first { FirstIsAtRest }
+    ensures calls { CallsLoopBack }
+    ensures submissions { SubmissionsLoopBack }
+    ensures ttis { TtisLoopBack }
+    ensures drains { DrainsLoopBack }
+{}
+
+/// On LCID 0, whose bearer is transparent, the SDUs go up that blocks carry which arrive, block by block and in order (TS 36.321
+/// 5.3.3, TS 36.322 5.1.1.2). At each side they are those of the blocks that are told to be got there, as the side reads them, and
+/// of the block that is forged there; a block that can't be read carries none, and where the end has no bearer of LCID 0 none goes
+/// up. This holds in each call of a link whose ends have come so far by any calls, whatever was told before: nothing else goes up
+/// there, at no timer and in no handover.
+#[tactic(auto, using(crate::proofs::Arriving::calls_bring, crate::proofs::Arriving::submissions_bring, crate::proofs::Arriving::ttis_bring, crate::proofs::Arriving::drains_bring))]
+pub fn blocks_bring_what_goes_up()
+    ensures calls { CallsBring }
+    ensures submissions { SubmissionsBring }
+    ensures ttis { TtisBring }
+    ensures drains { DrainsBring }
 {}

@@ -197,12 +197,12 @@ am_ticks b =
 
 -- ---- any bearer
 
-more_octets : (xs : List (List ℕ)) (x : List ℕ) → 0 < length x → HaveOctets xs → HaveOctets (xs ++ x ∷ [])
+pub more_octets : (xs : List (List ℕ)) (x : List ℕ) → 0 < length x → HaveOctets xs → HaveOctets (xs ++ x ∷ [])
 more_octets [] x some h = (some, tt)
 more_octets (y ∷ ys) x some h = (h.0, more_octets ys x some h.1)
 
 -- an SDU without octets is refused
-taken_by : (t : Bool) (s : Transparent) (sdu : List ℕ) → (length sdu == 0) ≡ t → tm_refusal s sdu ≡ None → 0 < length sdu
+pub taken_by : (t : Bool) (s : Transparent) (sdu : List ℕ) → (length sdu == 0) ≡ t → tm_refusal s sdu ≡ None → 0 < length sdu
 unfolding tm_refusal
 taken_by true s sdu e h = let no : Some Empty ≡ None = sym (rw e refl) ∙ h in cc
 taken_by false s sdu e h = grind (arith, nat_tests)

@@ -66,7 +66,7 @@ able_by s size false false false whole part false false true empty w t = tt
 able_by s size false false false whole part false false false true w t = tt
 able_by s size false false false whole part false false false false w t = (t.empty' refl, t.small' refl)
 
-able : (s : State) (size : ℕ) (held : Option ℕ) (more : Bool) → IsAble s size (turn s size held more)
+pub able : (s : State) (size : ℕ) (held : Option ℕ) (more : Bool) → IsAble s size (turn s size held more)
 unfolding turn
 able s size held more =
     able_by s size (not (waits s) && is_empty s && not more) s.failed (waits s) (all_wait (again s) && nat_le (whole_size (again s)) size) (nat_le 5 size) (is_shut s) (is_held held (next s.window)) (nat_lt size 3) (is_empty s) refl

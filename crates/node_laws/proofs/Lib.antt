@@ -17,5 +17,16 @@ pub mod Holders
 pub mod Holding
 pub mod Noting
 pub mod Silences
+pub mod Looping
+pub mod Keeping
+pub mod Pdcp
 pub mod Owning
-pub mod Sends
+pub mod Counted
+pub mod Steps
+pub mod Going
+pub mod Living
+pub mod Offers
+pub mod Receiving
+pub mod Ready
+pub mod Reading
+pub mod Naming

@@ -184,7 +184,7 @@ behind_by : (next size : ℕ) (sdu : List ℕ) (more : List (List ℕ)) (t : Boo
 behind_by next size sdu more true e h = rw e h
 behind_by next size sdu more false e h = rw e h.1
 
-behind_octets : (next size : ℕ) (sdus : List (List ℕ)) → HaveOctets sdus → HaveOctets (behind_first next size sdus).waiting
+pub behind_octets : (next size : ℕ) (sdus : List (List ℕ)) → HaveOctets sdus → HaveOctets (behind_first next size sdus).waiting
 behind_octets next size [] h = tt
 behind_octets next size (sdu ∷ more) h = behind_by next size sdu more (nat_lt size (length sdu)) refl h
 

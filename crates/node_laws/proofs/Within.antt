@@ -40,11 +40,11 @@ new_size head size sdus some fit =
 
 -- ---- an unacknowledged sender
 
-record IsAbleUm (s : UmSender) (size : ℕ) : Type 0 where
-  some : 0 < length s.waiting.sdus
-  fits : head_of s.bits + 1 ≤ size
+pub record IsAbleUm (s : UmSender) (size : ℕ) : Type 0 where
+  pub some : 0 < length s.waiting.sdus
+  pub fits : head_of s.bits + 1 ≤ size
 
-able : (s : UmSender) (size : ℕ) (held : Option ℕ) → um_turn s size held ≡ Gives → IsAbleUm s size
+pub able : (s : UmSender) (size : ℕ) (held : Option ℕ) → um_turn s size held ≡ Gives → IsAbleUm s size
 able s size held e = record { some = grind (arith, common_steps, nat_tests); fits = grind (arith, common_steps, nat_tests) }
 
 some_head : (bits : ℕ) (b : Bool) → (bits == 5) ≡ b → 1 ≤ head_of bits

@@ -5,4 +5,9 @@ pub mod Processes
 pub mod Blocks
 pub mod Waiting
 pub mod Writing
+pub mod Telling
+pub mod Loops
 pub mod Holding
+pub mod Bearers
+pub mod Counts
+pub mod Names

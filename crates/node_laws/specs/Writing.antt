@@ -1,5 +1,5 @@
 -- An end tells of what it writes, and of data that waits, only as it builds a block (TS 36.321 5.4.3, TS 36.322 5.1).
-use Rattle.std.specs.Prelude.{◌≡◌, ℕ, Bool, true, false, IfSome, List, [], ◌∷◌, map}
+use Rattle.std.specs.Prelude.{◌≡◌, ℕ, Bool, true, false, IfSome, List, [], map}
 use Rattle.std.specs.List.{filter}
 use Rattle.bearer_types.specs.declared.event.Event.{Event}
 use Rattle.bearer_types.specs.declared.event.Event.TheVariants.{Take, Report, Send, Wait}
@@ -13,6 +13,7 @@ use Rattle.l2_types.specs.declared.event.Clock.{Clock}
 use Rattle.l2_types.specs.declared.side.Side.{Side}
 use Rattle.node_laws.specs.Blocks.{all_sdus}
 use Rattle.node_laws.specs.Calls.{Call, AreGiven, reached}
+use Rattle.node_laws.specs.Names.{Sent, sends}
 
 -- what RLC takes and writes, and why it writes nothing
 abbrev pub is_of_writing : Event → Bool
@@ -39,9 +40,7 @@ WritesOnlyAsItBuilds = (e : End) → WritesNothing e
 
 -- the channels of the PDUs that are told of
 abbrev pub sent_on : List Event → List ℕ
-sent_on [] = []
-sent_on (Send lcid how sn ∷ events) = lcid ∷ sent_on events
-sent_on (event ∷ events) = sent_on events
+sent_on events = map (λ (s : Sent). s.lcid) (sends events)
 
 -- of any end that builds one
 abbrev pub TellsWhatItSends : Type 0

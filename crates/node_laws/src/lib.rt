@@ -1,8 +1,12 @@
 //! What one end of the link promises over any calls. A law is the contract of a function that does nothing.
 #![tactic(auto)]
 
+ghost use Rattle.node_laws.specs.Bearers.{BearersAreAdded, BearersGoOn};
 ghost use Rattle.node_laws.specs.Blocks.{BlockHasWhatWasWritten, PdusFitTheirShares};
+ghost use Rattle.node_laws.specs.Counts.{CountsAscend};
 ghost use Rattle.node_laws.specs.Holding.{HoldsNoOldNumber};
+ghost use Rattle.node_laws.specs.Loops.{TellsNoLoop};
+ghost use Rattle.node_laws.specs.Names.{NamesWhatItSends};
 ghost use Rattle.node_laws.specs.Processes.{ResendsWhatWasBuilt};
 ghost use Rattle.node_laws.specs.Sharing.{SharesAreWithinTheGrant};
 ghost use Rattle.node_laws.specs.Waiting.{TellsInOrder, TellsWhyItWaits};
@@ -53,7 +57,29 @@ pub fn writes_only_as_it_builds()
     ensures { WritesOnlyAsItBuilds }
 {}
 
-/// The PDUs that are told of as sent while a block is built are those in it: as many on each channel, and in that order.
+/// The PDUs that are told of as sent while a block is built are those in it: as many on each channel, and in that order. Each is
+/// the one that is told: a transparent one, a UMD PDU, a new AMD PDU, one that is sent again or a segment of it, or a STATUS, with
+/// that number, in the canonical writing, and the reader of its kind reads it so.
 pub fn tells_what_it_sends()
-    ensures { TellsWhatItSends }
+    ensures channels { TellsWhatItSends }
+    ensures names { NamesWhatItSends }
+{}
+
+/// An end's bearer of a channel is the one that was added last, and goes on through any calls by calls of its own, in lives that
+/// begin as the end moves. What is told of the channel as taken is what it takes.
+pub fn bearers_go_on()
+    ensures added { BearersAreAdded }
+    ensures on { BearersGoOn }
+{}
+
+/// The COUNTs that are told of as taken on a channel ascend as long as no life of its bearer begins, so that under the keys of a life
+/// none is taken twice.
+pub fn counts_ascend()
+    ensures { CountsAscend }
+{}
+
+/// In none of its calls does an end tell that the test loop drops an SDU: what the loop drops is told by the link alone.
+#[tactic(auto, using(crate::proofs::Looping::tells_no_loop))]
+pub fn tells_no_loop()
+    ensures { TellsNoLoop }
 {}

@@ -68,7 +68,7 @@ pub down_rest : (b : Bool) (xs : List Step) → (if b then are_down xs else fals
 down_rest true xs e = e
 down_rest false xs e = cc
 
-is_here : (p q : ℕ) → (p == q) ≡ true → p ≡ q
+pub is_here : (p q : ℕ) → (p == q) ≡ true → p ≡ q
 is_here p q e = grind (arith, nat_tests)
 
 run_more : (xs : List Step) (s : Step) (w : World) → run (xs ++ s ∷ []) w ≡ stepped (run xs w) s

@@ -2,11 +2,27 @@
 use Rattle.std.proofs.Common.{Bool, ℕ, List}
 use Rattle.run_laws.specs.Promises.{IsPromised}
 use Rattle.air_run.specs.Journal.{journal_of}
+use Rattle.run_laws.proofs.Counts.{counts_behind}
+use Rattle.run_laws.proofs.Keys.{keys_behind}
+use Rattle.run_laws.proofs.Looping.{return_in_order}
 use Rattle.run_laws.proofs.Past.{behind}
 use Rattle.run_laws.proofs.Processes.{are_carried}
 use Rattle.run_laws.proofs.Playing.{tells-all}
+use Rattle.run_laws.proofs.Reaching.{come_by_calls}
+use Rattle.run_laws.proofs.Zero.{bring_in_order}
 
 pub every-journal : (whole : Bool) (octets : List ℕ) → IsPromised (journal_of whole octets)
 every-journal whole octets =
     let t = tells-all whole octets in
-    record { past = t.later; journal_is = rw t.history_is t.journal_is; order = t.order; in_turn = (behind t.later t.order).in_turn; carried = are_carried t.later _ (behind t.later t.order).processes }
+    record {
+      past = t.later;
+      journal_is = rw t.history_is t.journal_is;
+      order = t.order;
+      in_turn = (behind t.later t.order).in_turn;
+      carried = are_carried t.later _ (behind t.later t.order).processes;
+      keys = (keys_behind t.later t.order).distinct;
+      counts = counts_behind t.later t.order;
+      ends = come_by_calls t.later t.order;
+      loops = return_in_order t.later t.order;
+      brought = bring_in_order t.later t.order;
+    }

@@ -1,26 +1,25 @@
 -- What the records of a TTI are to a HARQ process.
-use Rattle.std.proofs.Common.{◌≡◌, ◌≤◌, ℕ, zero, suc, ◌%◌, ◌==◌, ◌⊎◌, arith, Bool, true, false, cond, None, List, [], ◌∷◌, ◌++◌, refl, ap, ◌∙◌, inl, inr}
+use Rattle.std.proofs.Common.{◌≡◌, ◌≤◌, ℕ, zero, suc, ◌%◌, ◌==◌, ◌⊎◌, arith, Bool, true, false, ◌||◌, cond, None, List, [], ◌∷◌, ◌++◌, refl, ap, ◌∙◌, inl, inr}
 use Rattle.std.specs.List.{filter}
 use Rattle.air_record.specs.declared.line.Outcome.{Outcome}
 use Rattle.air_record.specs.declared.record.Arrived.{Arrived}
 use Rattle.air_record.specs.declared.record.Arrived.TheVariants as arriveds
 use Rattle.air_record.specs.declared.record.Record.{Record}
 use Rattle.air_record.specs.declared.record.Record.TheVariants as records
-use Rattle.harq.specs.SendHistory.{Deed, Waited}
 use Rattle.mac_pdu.specs.declared.item.Direction.{Direction}
 use Rattle.mac_pdu.specs.declared.item.Direction.TheVariants.{Down, Up}
 use Rattle.link_laws.specs.Counts.{is_of_run, is_of_air}
-use Rattle.link_laws.specs.Deeds.{deed_of}
+use Rattle.link_laws.specs.Deeds.{deed_of, came_of}
 use Rattle.link_laws.specs.Flights.{came, IsDown, FliesUp, IsUnanswered, IsUp}
 use Rattle.link_laws.specs.Told.{sleeping}
-use Rattle.run_laws.specs.Carried.{Heard, hears, heard}
+use Rattle.run_laws.specs.Heard.{Flight, idle, Heard, hears, heard}
 
 -- ---- records that tell a process nothing
 
 ignored : (way : Direction) (p : ℕ) (one : Record) (h : Heard) → is_of_air one ≡ false → is_of_run one ≡ false → hears way p one h ≡ h
 ignored way p (records.Line number line) h a r = cc
 ignored way p (records.Tti tti) h a r = cc
-ignored way p records.Sleep h a r = refl
+ignored way p records.Sleep h a r = cc
 ignored way p (records.Of side event) h a r = refl
 ignored way p (records.Block direction process fresh rv octets) h a r = cc
 ignored way p (records.Air direction what good) h a r = cc
@@ -72,138 +71,158 @@ heard_then way p (one ∷ a) b h = heard_then way p a b (hears way p one h)
 
 -- ---- what flies
 
-abbrev begun : Bool → List Deed → Heard
-begun true past = record { here = true; deeds = Waited ∷ past }
-begun false past = record { here = false; deeds = past }
+-- a process in a TTI, its own or another: before and behind what is told of its visit
+abbrev begun : Bool → Bool → Bool → List Flight → Heard
+begun true lost missed past = record { lost = lost; here = true; flights = idle missed ∷ past }
+begun false lost missed past = record { lost = lost; here = false; flights = past }
 
-abbrev done : Bool → Deed → List Deed → Heard
-done true deed past = record { here = true; deeds = deed ∷ past }
-done false deed past = record { here = false; deeds = past }
+abbrev done : Bool → Bool → Flight → List Flight → Heard
+done true lost f past = record { lost = lost; here = true; flights = f ∷ past }
+done false lost f past = record { lost = lost; here = false; flights = past }
 
-sleep_ignored : (way : Direction) (p : ℕ) (asleep : Bool) (h : Heard) → heard way p (sleeping asleep) h ≡ h
-sleep_ignored way p true h = refl
-sleep_ignored way p false h = refl
+-- a visit as it is told
+abbrev pub flown : Bool → List Record → Flight
+flown missed told = record { deed = deed_of told; came = came_of told; missed = missed }
+
+sleeps_first : (way : Direction) (p : ℕ) (b asleep lost : Bool) (past : List Flight) → heard way p (sleeping asleep) (begun b lost lost past) ≡ begun b lost (asleep || lost) past
+sleeps_first way p true true lost past = refl
+sleeps_first way p false true lost past = refl
+sleeps_first way p true false lost past = refl
+sleeps_first way p false false lost past = refl
 
 -- a block and what comes of it
 abbrev flight : Direction → ℕ → Bool → ℕ → List ℕ → Arrived → Outcome → List Record
 flight d process fresh version octets what o = records.Block d process fresh version octets ∷ came d what o ∷ []
 
-down_own : (b fresh : Bool) (p process version : ℕ) (octets : List ℕ) (what : Arrived) (o : Outcome) (past : List Deed)
-    → heard Down p (flight Down process fresh version octets what o) (begun b past) ≡ done b (deed_of (flight Down process fresh version octets what o)) past
-down_own true true p process version octets what o past = refl
-down_own true false p process version octets what o past = refl
-down_own false true p process version octets what o past = refl
-down_own false false p process version octets what o past = refl
+down_own : (b fresh lost missed : Bool) (p process version : ℕ) (octets : List ℕ) (what : Arrived) (o : Outcome) (past : List Flight)
+    → heard Down p (flight Down process fresh version octets what o) (begun b lost missed past) ≡ done b lost (flown missed (flight Down process fresh version octets what o)) past
+down_own true true lost missed p process version octets what o past = refl
+down_own true false lost missed p process version octets what o past = refl
+down_own false true lost missed p process version octets what o past = refl
+down_own false false lost missed p process version octets what o past = refl
 
-up_own : (b fresh : Bool) (p process version : ℕ) (octets : List ℕ) (what : Arrived) (o : Outcome) (past : List Deed)
-    → heard Up p (flight Up process fresh version octets what o) (begun b past) ≡ done b (deed_of (flight Up process fresh version octets what o)) past
-up_own true true p process version octets what o past = refl
-up_own true false p process version octets what o past = refl
-up_own false true p process version octets what o past = refl
-up_own false false p process version octets what o past = refl
+up_own : (b fresh lost missed : Bool) (p process version : ℕ) (octets : List ℕ) (what : Arrived) (o : Outcome) (past : List Flight)
+    → heard Up p (flight Up process fresh version octets what o) (begun b lost missed past) ≡ done b lost (flown missed (flight Up process fresh version octets what o)) past
+up_own true true lost missed p process version octets what o past = refl
+up_own true false lost missed p process version octets what o past = refl
+up_own false true lost missed p process version octets what o past = refl
+up_own false false lost missed p process version octets what o past = refl
 
-down_other : (b : Bool) (p process : ℕ) (fresh : Bool) (version : ℕ) (octets : List ℕ) (what : Arrived) (o : Outcome) (past : List Deed)
-    → heard Up p (flight Down process fresh version octets what o) (begun b past) ≡ begun b past
-down_other true p process fresh version octets what o past = refl
-down_other false p process fresh version octets what o past = refl
+down_other : (b lost missed : Bool) (p process : ℕ) (fresh : Bool) (version : ℕ) (octets : List ℕ) (what : Arrived) (o : Outcome) (past : List Flight)
+    → heard Up p (flight Down process fresh version octets what o) (begun b lost missed past) ≡ begun b lost missed past
+down_other true lost missed p process fresh version octets what o past = refl
+down_other false lost missed p process fresh version octets what o past = refl
 
-up_other : (b : Bool) (d : Deed) (p process : ℕ) (fresh : Bool) (version : ℕ) (octets : List ℕ) (what : Arrived) (o : Outcome) (past : List Deed)
-    → heard Down p (flight Up process fresh version octets what o) (done b d past) ≡ done b d past
-up_other true d p process fresh version octets what o past = refl
-up_other false d p process fresh version octets what o past = refl
+up_other : (b lost : Bool) (f : Flight) (p process : ℕ) (fresh : Bool) (version : ℕ) (octets : List ℕ) (what : Arrived) (o : Outcome) (past : List Flight)
+    → heard Down p (flight Up process fresh version octets what o) (done b lost f past) ≡ done b lost f past
+up_other true lost f p process fresh version octets what o past = refl
+up_other false lost f p process fresh version octets what o past = refl
 
-silent : (b : Bool) (past : List Deed) → begun b past ≡ done b Waited past
-silent true past = refl
-silent false past = refl
+silent : (b lost missed : Bool) (past : List Flight) → begun b lost missed past ≡ done b lost (flown missed []) past
+silent true lost missed past = refl
+silent false lost missed past = refl
 
 -- by whether there is a grant
-none_or_some : (grant : ℕ) → (grant ≡ 0) ⊎ (1 ≤ grant)
+pub none_or_some : (grant : ℕ) → (grant ≡ 0) ⊎ (1 ≤ grant)
 none_or_some zero = inl refl
 none_or_some (suc n) = inr (omega arith)
 
 -- the downlink's block, to both directions
-pub down_is : (t grant : ℕ) (o : Outcome) (told : List Record) (p : ℕ) (b : Bool) (past : List Deed) → IsDown t grant o told → heard Down p told (begun b past) ≡ done b (deed_of told) past
-down_is t grant o told p b past d = elim (none_or_some grant) [
-  | inl e ↦ rw (d.none e) (silent b past)
-  | inr h ↦ let f = d.one h in rw f.flown_is (down_own b f.fresh p (t % 8) f.version f.octets f.what o past)
+down_is : (t grant : ℕ) (o : Outcome) (told : List Record) (p : ℕ) (b lost missed : Bool) (past : List Flight) → IsDown t grant o told
+    → heard Down p told (begun b lost missed past) ≡ done b lost (flown missed told) past
+down_is t grant o told p b lost missed past d = elim (none_or_some grant) [
+  | inl e ↦ rw (d.none e) (silent b lost missed past)
+  | inr h ↦ let f = d.one h in rw f.flown_is (down_own b f.fresh lost missed p (t % 8) f.version f.octets f.what o past)
 ]
 
-pub down_is_not_up : (t grant : ℕ) (o : Outcome) (told : List Record) (p : ℕ) (b : Bool) (past : List Deed) → IsDown t grant o told → heard Up p told (begun b past) ≡ begun b past
-down_is_not_up t grant o told p b past d = elim (none_or_some grant) [
+down_is_not_up : (t grant : ℕ) (o : Outcome) (told : List Record) (p : ℕ) (b lost missed : Bool) (past : List Flight) → IsDown t grant o told
+    → heard Up p told (begun b lost missed past) ≡ begun b lost missed past
+down_is_not_up t grant o told p b lost missed past d = elim (none_or_some grant) [
   | inl e ↦ rw (d.none e) refl
-  | inr h ↦ let f = d.one h in rw f.flown_is (down_other b p (t % 8) f.fresh f.version f.octets f.what o past)
+  | inr h ↦ let f = d.one h in rw f.flown_is (down_other b lost missed p (t % 8) f.fresh f.version f.octets f.what o past)
 ]
 
-unanswered : (p : ℕ) (b : Bool) (past : List Deed) → heard Up p (records.Air Up arriveds.Nothing None ∷ []) (begun b past) ≡ done b Waited past
-unanswered p true past = refl
-unanswered p false past = refl
+unanswered : (p : ℕ) (b lost missed : Bool) (past : List Flight)
+    → heard Up p (records.Air Up arriveds.Nothing None ∷ []) (begun b lost missed past) ≡ done b lost (flown missed (records.Air Up arriveds.Nothing None ∷ [])) past
+unanswered p true lost missed past = refl
+unanswered p false lost missed past = refl
 
-unanswered_down : (p : ℕ) (b : Bool) (d : Deed) (past : List Deed) → heard Down p (records.Air Up arriveds.Nothing None ∷ []) (done b d past) ≡ done b d past
-unanswered_down p true d past = refl
-unanswered_down p false d past = refl
+unanswered_down : (p : ℕ) (b lost : Bool) (f : Flight) (past : List Flight) → heard Down p (records.Air Up arriveds.Nothing None ∷ []) (done b lost f past) ≡ done b lost f past
+unanswered_down p true lost f past = refl
+unanswered_down p false lost f past = refl
 
-some_up : (t : ℕ) (o : Outcome) (told : List Record) (p : ℕ) (b : Bool) (past : List Deed) → FliesUp t o told ⊎ IsUnanswered o told → heard Up p told (begun b past) ≡ done b (deed_of told) past
-some_up t o told p b past (inl f) = rw f.flown_is (up_own b f.fresh p (t % 8) f.version f.octets _ o past)
-some_up t o told p b past (inr u) = rw u.flown_is (unanswered p b past)
+some_up : (t : ℕ) (o : Outcome) (told : List Record) (p : ℕ) (b lost missed : Bool) (past : List Flight) → FliesUp t o told ⊎ IsUnanswered o told
+    → heard Up p told (begun b lost missed past) ≡ done b lost (flown missed told) past
+some_up t o told p b lost missed past (inl f) = rw f.flown_is (up_own b f.fresh lost missed p (t % 8) f.version f.octets _ o past)
+some_up t o told p b lost missed past (inr u) = rw u.flown_is (unanswered p b lost missed past)
 
-pub up_is : (t grant : ℕ) (o : Outcome) (told : List Record) (p : ℕ) (b : Bool) (past : List Deed) → IsUp t grant o told → heard Up p told (begun b past) ≡ done b (deed_of told) past
-up_is t grant o told p b past u = elim (none_or_some grant) [
-  | inl e ↦ rw (u.none e) (silent b past)
-  | inr h ↦ some_up t o told p b past (u.one h)
+up_is : (t grant : ℕ) (o : Outcome) (told : List Record) (p : ℕ) (b lost missed : Bool) (past : List Flight) → IsUp t grant o told
+    → heard Up p told (begun b lost missed past) ≡ done b lost (flown missed told) past
+up_is t grant o told p b lost missed past u = elim (none_or_some grant) [
+  | inl e ↦ rw (u.none e) (silent b lost missed past)
+  | inr h ↦ some_up t o told p b lost missed past (u.one h)
 ]
 
-some_not_down : (t : ℕ) (o : Outcome) (told : List Record) (p : ℕ) (b : Bool) (d : Deed) (past : List Deed) → FliesUp t o told ⊎ IsUnanswered o told → heard Down p told (done b d past) ≡ done b d past
-some_not_down t o told p b d past (inl f) = rw f.flown_is (up_other b d p (t % 8) f.fresh f.version f.octets _ o past)
-some_not_down t o told p b d past (inr u) = rw u.flown_is (unanswered_down p b d past)
+some_not_down : (t : ℕ) (o : Outcome) (told : List Record) (p : ℕ) (b lost : Bool) (f : Flight) (past : List Flight) → FliesUp t o told ⊎ IsUnanswered o told
+    → heard Down p told (done b lost f past) ≡ done b lost f past
+some_not_down t o told p b lost f past (inl u) = rw u.flown_is (up_other b lost f p (t % 8) u.fresh u.version u.octets _ o past)
+some_not_down t o told p b lost f past (inr u) = rw u.flown_is (unanswered_down p b lost f past)
 
-pub up_is_not_down : (t grant : ℕ) (o : Outcome) (told : List Record) (p : ℕ) (b : Bool) (d : Deed) (past : List Deed) → IsUp t grant o told → heard Down p told (done b d past) ≡ done b d past
-up_is_not_down t grant o told p b d past u = elim (none_or_some grant) [
+up_is_not_down : (t grant : ℕ) (o : Outcome) (told : List Record) (p : ℕ) (b lost : Bool) (f : Flight) (past : List Flight) → IsUp t grant o told
+    → heard Down p told (done b lost f past) ≡ done b lost f past
+up_is_not_down t grant o told p b lost f past u = elim (none_or_some grant) [
   | inl e ↦ rw (u.none e) refl
-  | inr h ↦ some_not_down t o told p b d past (u.one h)
+  | inr h ↦ some_not_down t o told p b lost f past (u.one h)
 ]
 
 -- ---- a TTI
 
-abbrev pub with_deed : Bool → Deed → List Deed → List Deed
-with_deed true d past = d ∷ past
-with_deed false d past = past
+abbrev pub with_flight : Bool → Flight → List Flight → List Flight
+with_flight true f past = f ∷ past
+with_flight false f past = past
 
-begins : (way : Direction) (p t : ℕ) (h : Heard) (b : Bool) → (p == t % 8) ≡ b → hears way p (records.Tti t) h ≡ begun b h.deeds
+-- a process goes on by a visit, where it is its own; the line stays the same
+pub record Visits (own : Bool) (f : Flight) (before after : Heard) : Type 0 where
+  pub flights_are : after.flights ≡ with_flight own f before.flights
+  pub lost_is : after.lost ≡ before.lost
+
+begins : (way : Direction) (p t : ℕ) (h : Heard) (b : Bool) → (p == t % 8) ≡ b → hears way p (records.Tti t) h ≡ begun b h.lost h.lost h.flights
 begins way p t h true e = rw e refl
 begins way p t h false e = rw e refl
 
-done_deeds : (b : Bool) (d : Deed) (past : List Deed) → (done b d past).deeds ≡ with_deed b d past
-done_deeds true d past = refl
-done_deeds false d past = refl
+visited : (b : Bool) (f : Flight) (h q : Heard) → q ≡ done b h.lost f h.flights → Visits b f h q
+visited true f h q e = record { flights_are = ap (λ (x : Heard). x.flights) e; lost_is = ap (λ (x : Heard). x.lost) e }
+visited false f h q e = record { flights_are = ap (λ (x : Heard). x.flights) e; lost_is = ap (λ (x : Heard). x.lost) e }
 
 parts : (way : Direction) (p t : ℕ) (asleep : Bool) (downward upward more : List Record) (h : Heard) → filter is_of_run more ≡ [] → filter is_of_air more ≡ sleeping asleep ++ (downward ++ upward)
-    → heard way p (records.Tti t ∷ more) h ≡ heard way p upward (heard way p downward (begun (p == t % 8) h.deeds))
+    → heard way p (records.Tti t ∷ more) h ≡ heard way p upward (heard way p downward (begun (p == t % 8) h.lost (asleep || h.lost) h.flights))
 parts way p t asleep downward upward more h none air =
+    let b = p == t % 8 in
     of_air_alone way p more none (hears way p (records.Tti t) h)
     ∙ ap (λ (x : List Record). heard way p x (hears way p (records.Tti t) h)) air
     ∙ heard_then way p (sleeping asleep) (downward ++ upward) (hears way p (records.Tti t) h)
-    ∙ ap (λ (x : Heard). heard way p (downward ++ upward) x) (sleep_ignored way p asleep (hears way p (records.Tti t) h))
-    ∙ heard_then way p downward upward (hears way p (records.Tti t) h)
-    ∙ ap (λ (x : Heard). heard way p upward (heard way p downward x)) (begins way p t h (p == t % 8) refl)
+    ∙ ap (λ (x : Heard). heard way p (downward ++ upward) (heard way p (sleeping asleep) x)) (begins way p t h b refl)
+    ∙ ap (λ (x : Heard). heard way p (downward ++ upward) x) (sleeps_first way p b asleep h.lost h.flights)
+    ∙ heard_then way p downward upward (begun b h.lost (asleep || h.lost) h.flights)
 
 pub tti_down : (p t up_grant : ℕ) (up : Outcome) (down_grant : ℕ) (down : Outcome) (asleep : Bool) (downward upward more : List Record) (h : Heard)
     → filter is_of_run more ≡ [] → filter is_of_air more ≡ sleeping asleep ++ (downward ++ upward) → IsDown t down_grant down downward → IsUp t up_grant up upward
-    → (heard Down p (records.Tti t ∷ more) h).deeds ≡ with_deed (p == t % 8) (deed_of downward) h.deeds
+    → Visits (p == t % 8) (flown (asleep || h.lost) downward) h (heard Down p (records.Tti t ∷ more) h)
 tti_down p t up_grant up down_grant down asleep downward upward more h none air d u =
     let b = p == t % 8 in
-    ap (λ (x : Heard). x.deeds)
+    let f = flown (asleep || h.lost) downward in
+    visited b f h (heard Down p (records.Tti t ∷ more) h)
     (parts Down p t asleep downward upward more h none air
-    ∙ ap (λ (x : Heard). heard Down p upward x) (down_is t down_grant down downward p b h.deeds d)
-    ∙ up_is_not_down t up_grant up upward p b (deed_of downward) h.deeds u)
-    ∙ done_deeds b (deed_of downward) h.deeds
+    ∙ ap (λ (x : Heard). heard Down p upward x) (down_is t down_grant down downward p b h.lost (asleep || h.lost) h.flights d)
+    ∙ up_is_not_down t up_grant up upward p b h.lost f h.flights u)
 
 pub tti_up : (p t up_grant : ℕ) (up : Outcome) (down_grant : ℕ) (down : Outcome) (asleep : Bool) (downward upward more : List Record) (h : Heard)
     → filter is_of_run more ≡ [] → filter is_of_air more ≡ sleeping asleep ++ (downward ++ upward) → IsDown t down_grant down downward → IsUp t up_grant up upward
-    → (heard Up p (records.Tti t ∷ more) h).deeds ≡ with_deed (p == t % 8) (deed_of upward) h.deeds
+    → Visits (p == t % 8) (flown (asleep || h.lost) upward) h (heard Up p (records.Tti t ∷ more) h)
 tti_up p t up_grant up down_grant down asleep downward upward more h none air d u =
     let b = p == t % 8 in
-    ap (λ (x : Heard). x.deeds)
+    let missed = asleep || h.lost in
+    visited b (flown missed upward) h (heard Up p (records.Tti t ∷ more) h)
     (parts Up p t asleep downward upward more h none air
-    ∙ ap (λ (x : Heard). heard Up p upward x) (down_is_not_up t down_grant down downward p b h.deeds d)
-    ∙ up_is t up_grant up upward p b h.deeds u)
-    ∙ done_deeds b (deed_of upward) h.deeds
+    ∙ ap (λ (x : Heard). heard Up p upward x) (down_is_not_up t down_grant down downward p b h.lost missed h.flights d)
+    ∙ up_is t up_grant up upward p b h.lost missed h.flights u)

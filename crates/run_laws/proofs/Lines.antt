@@ -25,7 +25,7 @@ use Rattle.link_laws.proofs.Calling.{calls_adds, submitting_adds}
 use Rattle.link_laws.proofs.Passing.{tti_adds}
 use Rattle.link_laws.proofs.Running.{grows_as, no_ups, no_loops, no_runs}
 use Rattle.test_loop.specs.declared.Mode.TheVariants.{Off, A, B}
-use Rattle.run_laws.specs.Air.{is_tti, numbered, IsOfItsTime, AllFly}
+use Rattle.run_laws.specs.Air.{is_tti, numbered, IsOfItsTime, FliesIntact, InTurn}
 use Rattle.run_laws.specs.Flows.{handed_in}
 use Rattle.run_laws.specs.Parts.{Part, Submits, Passes, Drains, Rests, part}
 use Rattle.run_laws.proofs.Records.{of_run_alone, count_numbered, ttis_of_drain}
@@ -193,8 +193,8 @@ drains_add grant l d w =
       numbers = numbers;
       of_its_time = record {
         timed = record { rounds = w.rounds; is_done = w.is_done; told_is = run };
-        flown = subst (λ (m : ℕ). AllFly l.ttis grant m (filter is_of_air d.journal)) (sym count)
-            (subst (λ (x : List Record). AllFly l.ttis grant n x) (sym air) w.adds.flown);
+        flown = subst (λ (m : ℕ). InTurn (λ k. FliesIntact k grant) l.ttis m (filter is_of_air d.journal)) (sym count)
+            (subst (λ (x : List Record). InTurn (λ k. FliesIntact k grant) l.ttis n x) (sym air) w.adds.flown);
       };
     }
 

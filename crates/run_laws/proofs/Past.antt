@@ -14,9 +14,10 @@ use Rattle.l2_types.specs.declared.side.Side.{Side}
 use Rattle.l2_types.specs.declared.side.Side.TheVariants.{Nb, Ue}
 use Rattle.link_laws.specs.Counts.{is_up, is_looped, ups, loopeds}
 use Rattle.link_laws.specs.Runs.{IsTable}
+use Rattle.link_laws.specs.Zero.{sdu_of, ups_in}
 use Rattle.link_laws.proofs.Running.{table_grows}
 use Rattle.run_laws.specs.Air.{is_tti, ttis, numbered, IsOfItsTime}
-use Rattle.run_laws.specs.Flows.{sdu_of, ups_in, loops_in, handed_in, submitted, delivered}
+use Rattle.run_laws.specs.Flows.{loops_in, handed_in, submitted, delivered}
 use Rattle.run_laws.specs.Order.{state_behind, KeepsOrder}
 use Rattle.run_laws.specs.Parts.{part}
 use Rattle.run_laws.proofs.Records.{count_numbered, numbered_then}
@@ -110,7 +111,7 @@ grown past g fits b a e =
     zero_first n = omega arith
 
     shown_too : Both (g ∷ past) (behind_line g.line (state_behind past)) → Both (g ∷ past) (link_behind (g ∷ past))
-    shown_too both = record { down = both.down; up = both.up }
+    shown_too both = record { some = both.some; down = both.down; up = both.up }
 
 pub behind : (past : List Group) → KeepsOrder past → Behind past
 behind [] order = first

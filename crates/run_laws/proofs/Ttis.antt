@@ -12,21 +12,23 @@ use Rattle.l2_types.specs.declared.side.Side.TheVariants.{Nb, Ue}
 use Rattle.link_laws.specs.Calls.{ReceiversExpire, SendersExpire}
 use Rattle.link_laws.specs.Counts.{is_up, is_looped, is_of_run, is_of_air, ups, loopeds, Grows}
 use Rattle.air_link.specs.Downlink.{down_order}
-use Rattle.harq.specs.Sending.{Sending}
-use Rattle.link_laws.specs.Deeds.{TakesTurn, Senders, senders}
+use Rattle.air_link.specs.Ttis.{missed}
+use Rattle.harq.specs.Receiving.{grant_ndi}
+use Rattle.harq.specs.Sending.{ndi_of}
+use Rattle.link_laws.specs.Deeds.{TakesTurn, came_of, Answers, up_ordered, Entities, entities}
 use Rattle.link_laws.specs.Told.{sleeping, Tells, Adds, AddsTti}
 use Rattle.link_laws.proofs.Adding.{stays, tells_then, same_grows, grows_then, count_then}
 use Rattle.link_laws.proofs.Calling.{calls_adds}
 use Rattle.link_laws.proofs.Leaving.{calls_leave}
 use Rattle.link_laws.proofs.Passing.{drain_adds}
-use Rattle.run_laws.specs.Air.{numbered, AllFly}
+use Rattle.run_laws.specs.Air.{numbered, FliesIntact, InTurn}
 use Rattle.run_laws.proofs.Records.{numbered_then}
 use Rattle.run_laws.proofs.Carrying.{KeepsBoth, both_then, both_still, both_turn}
 
 -- ---- a TTI, and what stands behind it in the same line
 
 tti_then : (asleep : Bool) (up_grant : ℕ) (up : Outcome) (down_grant : ℕ) (down : Outcome) (l m n : Link)
-    → AddsTti asleep up_grant up down_grant down l m → Adds [] m n → senders n ≡ senders m → AddsTti asleep up_grant up down_grant down l n
+    → AddsTti asleep up_grant up down_grant down l m → Adds [] m n → entities n ≡ entities m → AddsTti asleep up_grant up down_grant down l n
 tti_then asleep up_grant up down_grant down l m n a b rests =
     let flown = sleeping asleep ++ (a.downward ++ a.upward) in
     record {
@@ -38,16 +40,17 @@ tti_then asleep up_grant up down_grant down l m n a b rests =
       told = subst (λ (x : List Record). Tells (a.more ++ b.more) x l n) (append-nil flown) (tells_then a.more b.more flown [] l m n a.told b.told);
       down_is = a.down_is;
       up_is = a.up_is;
-      down_turn = subst (λ (s : Sending). TakesTurn l.ttis (down_order down_grant) l.nb.sender s a.downward) (sym (ap (λ (s : Senders). s.nb) rests)) a.down_turn;
-      up_order = a.up_order;
-      up_turn = subst (λ (s : Sending). TakesTurn l.ttis a.up_order l.ue.sender s a.upward) (sym (ap (λ (s : Senders). s.ue) rests)) a.up_turn;
+      down_turn = subst (λ (e : Entities). TakesTurn l.ttis (down_order down_grant) l.nb.sender e.nb.sender a.downward) (sym rests) a.down_turn;
+      down_answer = λ eight. subst (λ (e : Entities). Answers l.ttis (ndi_of e.nb.sender l.ttis) (came_of a.downward) l.ue.receiver e.ue.receiver) (sym rests) (a.down_answer eight);
+      up_turn = subst (λ (e : Entities). TakesTurn l.ttis (up_ordered up_grant (missed asleep up) (grant_ndi l.nb.receiver l.ttis)) l.ue.sender e.ue.sender a.upward) (sym rests) a.up_turn;
+      up_heard = ap (λ (e : Entities). e.nb.receiver) rests ∙ a.up_heard;
     }
 
 senders_add : (b : Bool) (l : Link) → Adds [] l (senders_unless b l)
 senders_add true l = stays l l refl
 senders_add false l = calls_adds SendersExpire l
 
-senders_rest : (b : Bool) (l : Link) → senders (senders_unless b l) ≡ senders l
+senders_rest : (b : Bool) (l : Link) → entities (senders_unless b l) ≡ entities l
 senders_rest true l = refl
 senders_rest false l = calls_leave SendersExpire l
 
@@ -69,8 +72,8 @@ pub record DrainAdds (count grant : ℕ) (l : Link) (d : Drained) : Type 0 where
   pub ue_submitted : Grows (λ k. loopeds k d.journal) l.up.submitted d.link.up.submitted
   pub ttis_is : d.link.ttis ≡ l.ttis + count
   pub numbers : filter is_of_run d.journal ≡ numbered l.ttis count
-  pub flown : AllFly l.ttis grant count (filter is_of_air d.journal)
-  pub kept : KeepsBoth (senders l) (senders d.link) d.journal
+  pub flown : InTurn (λ n. FliesIntact n grant) l.ttis count (filter is_of_air d.journal)
+  pub kept : KeepsBoth false (entities l) (entities d.link) d.journal
 
 none_adds : (grant : ℕ) (l : Link) → l.out ≡ [] → DrainAdds 0 grant l (at_once l)
 none_adds grant l nothing = record {
@@ -82,7 +85,7 @@ none_adds grant l nothing = record {
   ttis_is = omega arith;
   numbers = refl;
   flown = refl;
-  kept = both_still (senders l) [] refl refl;
+  kept = both_still false (entities l) [] refl refl;
 }
 
 -- a TTI before others
@@ -110,10 +113,10 @@ first_adds n done grant l m d nothing a q =
         rest = filter is_of_air d.journal;
         told_is = filter-append is_of_air m.out d.journal ∙ ap (λ (x : List Record). filter is_of_air x ++ filter is_of_air d.journal) out;
         first_is = record { downward = a.downward; upward = a.upward; told_is = a.told.flown_is; down_is = a.down_is; up_is = a.up_is };
-        rest_is = subst (λ (t : ℕ). AllFly t grant n (filter is_of_air d.journal)) a.ttis_is q.flown;
+        rest_is = subst (λ (t : ℕ). InTurn (λ k. FliesIntact k grant) t n (filter is_of_air d.journal)) a.ttis_is q.flown;
       };
-      kept = both_then (senders l) (senders m) (senders d.link) m.out d.journal
-          (subst (λ (x : List Record). KeepsBoth (senders l) (senders m) x) (sym out) (both_turn false grant intact grant intact l m a)) q.kept;
+      kept = both_then false (entities l) (entities m) (entities d.link) m.out d.journal
+          (subst (λ (x : List Record). KeepsBoth false (entities l) (entities m) x) (sym out) (both_turn false grant intact grant intact l m a)) q.kept;
     }
 
 ttis_add : (n grant : ℕ) (l : Link) → l.out ≡ [] → DrainAdds n grant l (ttis n grant l)
@@ -151,13 +154,13 @@ rounds_add (suc n) grant l nothing = round_by n grant l nothing (is_drained l) (
 
 -- ---- the whole
 
-all_fly_then : (t grant a b : ℕ) (x y : List Record) → AllFly t grant a x → AllFly (t + a) grant b y → AllFly t grant (a + b) (x ++ y)
-all_fly_then t grant zero b x y p q =
+pub in_turn_then : (Each : ℕ → List Record → Type 0) (t a b : ℕ) (x y : List Record) → InTurn Each t a x → InTurn Each (t + a) b y → InTurn Each t (a + b) (x ++ y)
+in_turn_then Each t zero b x y p q =
     let none : zero + b ≡ b = omega arith in
     let same : t + zero ≡ t = omega arith in
     let nothing : x ++ y ≡ y = ap (λ (z : List Record). z ++ y) p in
-    rw none (rw nothing (subst (λ (n : ℕ). AllFly n grant b y) same q))
-all_fly_then t grant (suc a) b x y p q =
+    rw none (rw nothing (subst (λ (n : ℕ). InTurn Each n b y) same q))
+in_turn_then Each t (suc a) b x y p q =
     let more : suc a + b ≡ suc (a + b) = omega arith in
     let same : t + suc a ≡ (t + 1) + a = omega arith in
     rw more (record {
@@ -165,7 +168,7 @@ all_fly_then t grant (suc a) b x y p q =
       rest = p.rest ++ y;
       told_is = ap (λ (z : List Record). z ++ y) p.told_is ∙ append_assoc p.first p.rest y;
       first_is = p.first_is;
-      rest_is = all_fly_then (t + 1) grant a b p.rest y p.rest_is (subst (λ (n : ℕ). AllFly n grant b y) same q);
+      rest_is = in_turn_then Each (t + 1) a b p.rest y p.rest_is (subst (λ (n : ℕ). InTurn Each n b y) same q);
     })
 
 both_add : (a b done grant : ℕ) (l : Link) (d e : Drained) → DrainAdds a grant l d → DrainAdds b grant d.link e → DrainAdds (a + b) grant l (behind d.journal done e)
@@ -182,10 +185,10 @@ both_add a b done grant l d e p q = record {
   numbers =
       filter-append is_of_run d.journal e.journal ∙ ap (λ (x : List Record). x ++ filter is_of_run e.journal) p.numbers
       ∙ ap (λ (x : List Record). numbered l.ttis a ++ x) (q.numbers ∙ ap (λ (t : ℕ). numbered t b) p.ttis_is) ∙ sym (numbered_then l.ttis a b);
-  flown = subst (λ (x : List Record). AllFly l.ttis grant (a + b) x) (sym (filter-append is_of_air d.journal e.journal))
-      (all_fly_then l.ttis grant a b (filter is_of_air d.journal) (filter is_of_air e.journal) p.flown
-      (subst (λ (t : ℕ). AllFly t grant b (filter is_of_air e.journal)) p.ttis_is q.flown));
-  kept = both_then (senders l) (senders d.link) (senders e.link) d.journal e.journal p.kept q.kept;
+  flown = subst (λ (x : List Record). InTurn (λ n. FliesIntact n grant) l.ttis (a + b) x) (sym (filter-append is_of_air d.journal e.journal))
+      (in_turn_then (λ n. FliesIntact n grant) l.ttis a b (filter is_of_air d.journal) (filter is_of_air e.journal) p.flown
+      (subst (λ (t : ℕ). InTurn (λ n. FliesIntact n grant) t b (filter is_of_air e.journal)) p.ttis_is q.flown));
+  kept = both_then false (entities l) (entities d.link) (entities e.link) d.journal e.journal p.kept q.kept;
 }
 
 -- a drain, and what it tells before its last record

@@ -57,7 +57,7 @@ pub record MayFly (t up_grant : ℕ) (up : Outcome) (down_grant : ℕ) (down : O
 abbrev pub FliesIntact : ℕ → ℕ → List Record → Type 0
 FliesIntact t grant told = Flies false t grant intact grant intact told
 
--- so many TTIs, one behind the other
+-- a TTI, and those behind it
 pub record Parts (First Rest : List Record → Type 0) (told : List Record) : Type 0 where
   pub first : List Record
   pub rest : List Record
@@ -65,14 +65,15 @@ pub record Parts (First Rest : List Record → Type 0) (told : List Record) : Ty
   pub first_is : First first
   pub rest_is : Rest rest
 
-abbrev pub AllFly : ℕ → ℕ → ℕ → List Record → Type 0
-AllFly t grant zero told = told ≡ []
-AllFly t grant (suc n) told = Parts (FliesIntact t grant) (AllFly (t + 1) grant n) told
+-- so many TTIs from a number on, one behind the other: what is told of each is as its number has it
+abbrev pub InTurn : (ℕ → List Record → Type 0) → ℕ → ℕ → List Record → Type 0
+InTurn Each t zero told = told ≡ []
+InTurn Each t (suc n) told = Parts (Each t) (InTurn Each (t + 1) n) told
 
 abbrev pub AreFlown : ℕ → Part → List Record → Type 0
 AreFlown t (Submits side lcid octets) events = filter is_of_air events ≡ []
 AreFlown t (Passes up_grant up down_grant down) events = MayFly t up_grant up down_grant down (filter is_of_air events)
-AreFlown t (Drains grant) events = AllFly t grant (length (filter is_tti events)) (filter is_of_air events)
+AreFlown t (Drains grant) events = InTurn (λ n. FliesIntact n grant) t (length (filter is_tti events)) (filter is_of_air events)
 AreFlown t Rests events = filter is_of_air events ≡ []
 
 -- both, of the records of a line behind so many TTIs

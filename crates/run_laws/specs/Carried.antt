@@ -1,67 +1,14 @@
 -- What the HARQ processes did, as the journal tells it, and when that is right (TS 36.321 5.3.2, 5.4.2).
-use Rattle.std.specs.Prelude.{◌≡◌, ℕ, ◌%◌, ◌==◌, ◌<◌, Bool, true, false, ◌&&◌, if◌then◌else◌, Some, None, List, [], ◌∷◌}
-use Rattle.air_record.specs.declared.line.Line.{Line}
-use Rattle.air_record.specs.declared.line.Line.TheVariants as lines
-use Rattle.air_record.specs.declared.record.Record.{Record}
-use Rattle.air_record.specs.declared.record.Record.TheVariants as records
-use Rattle.air_text.specs.Groups.{Group, history}
-use Rattle.harq.specs.SendHistory.{Deed, Waited, Built, Resent, held_by, IsRight as AreResent}
-use Rattle.mac_pdu.specs.declared.item.Direction.{Direction}
+use Rattle.std.specs.Prelude.{◌≡◌, ℕ, ◌<◌, Bool, true, false, Option, Some, None, List, [], ◌∷◌}
+use Rattle.air_record.specs.declared.record.Arrived.{Arrived}
+use Rattle.air_record.specs.declared.record.Arrived.TheVariants as arriveds
+use Rattle.air_text.specs.Groups.{Group}
+use Rattle.harq.specs.declared.receiver.Answer.TheVariants as answers
+use Rattle.harq.specs.SendHistory.{Deed, Waited, Built, Resent, held_by, blocks, is_odd, IsRight as AreResent}
+use Rattle.harq.specs.ReceiveHistory.{Heard as Seen, AreAnsweredRight}
 use Rattle.mac_pdu.specs.declared.item.Direction.TheVariants.{Down, Up}
-use Rattle.um_losses.specs.Flow.{is_same}
-
--- of a process: whether the running TTI is its own, and what it did at its visits since it was last emptied, the latest first
-pub record Heard : Type 0 where
-  pub here : Bool
-  pub deeds : List Deed
-
-abbrev pub nothing_heard : Heard
-nothing_heard = record { here = false; deeds = [] }
-
-abbrev pub sent : Bool → ℕ → List ℕ → Deed
-sent true version octets = Built octets false
-sent false version octets = Resent version octets false
-
-abbrev pub with_last : Deed → List Deed → List Deed
-with_last d [] = []
-with_last d (last ∷ past) = d ∷ past
-
-abbrev pub answered : Bool → List Deed → List Deed
-answered good [] = []
-answered good (Waited ∷ past) = Waited ∷ past
-answered good (Built octets before ∷ past) = Built octets good ∷ past
-answered good (Resent version octets before ∷ past) = Resent version octets good ∷ past
-
--- a line that empties all processes
-abbrev pub empties : Line → Bool
-empties (lines.Handover user rrc integrity) = true
-empties (lines.Harq visits) = true
-empties line = false
-
--- a record, to a process of a direction
-abbrev pub hears : Direction → ℕ → Record → Heard → Heard
-hears way p (records.Tti tti) h = if p == tti % 8 then record { here = true; deeds = Waited ∷ h.deeds } else record { here = false; deeds = h.deeds }
-hears way p (records.Block d process fresh version octets) h = if h.here && is_same way d then record h { deeds = with_last (sent fresh version octets) h.deeds } else h
-hears way p (records.Air d what (Some good)) h = if h.here && is_same way d then record h { deeds = answered good h.deeds } else h
-hears way p (records.Line number line) h = if empties line then nothing_heard else h
-hears way p one h = h
-
-abbrev pub heard : Direction → ℕ → List Record → Heard → Heard
-heard way p [] h = h
-heard way p (one ∷ told) h = heard way p told (hears way p one h)
-
-abbrev pub deeds : Direction → ℕ → List Group → List Deed
-deeds way p past = (heard way p (history past) nothing_heard).deeds
-
--- ---- the most visits of a block: 4, or those of the `harq` line
-
-abbrev pub visits_by : Line → ℕ → ℕ
-visits_by (lines.Harq visits) before = visits
-visits_by line before = before
-
-abbrev pub visits : List Group → ℕ
-visits [] = 4
-visits (g ∷ past) = visits_by g.line (visits past)
+use Rattle.run_laws.specs.Heard.{Flight, flights, deeds_of, deeds, visits}
+use Rattle.run_laws.specs.Awards.{AreVisits}
 
 -- ---- right deeds
 
@@ -72,8 +19,27 @@ AreBuilt maximum (Waited ∷ past) = AreBuilt maximum past
 AreBuilt maximum (Built octets good ∷ past) = (held_by maximum past ≡ None) × AreBuilt maximum past
 AreBuilt maximum (Resent version octets good ∷ past) = AreBuilt maximum past
 
--- what is sent again has the octets of the last new block, and the versions 0, 2, 3 and 1 in turn
+-- ---- right answers
+
+-- what the terminal saw: a block with this NDI, with its answer; one that it missed it didn't see
+abbrev pub seen_as : Option Arrived → Bool → List Seen → List Seen
+seen_as (Some arriveds.Got) ndi past = record { ndi = ndi; good = true; answer = answers.Up } ∷ past
+seen_as (Some arriveds.Dup) ndi past = record { ndi = ndi; good = true; answer = answers.Again } ∷ past
+seen_as (Some arriveds.Bad) ndi past = record { ndi = ndi; good = false; answer = answers.Damaged } ∷ past
+seen_as (Some arriveds.Nothing) ndi past = past
+seen_as None ndi past = past
+
+-- the NDI of a block is the parity of the new blocks up to it
+abbrev pub seen : List Flight → List Seen
+seen [] = []
+seen (f ∷ past) = seen_as f.came (is_odd (blocks (f.deed ∷ deeds_of past))) (seen past)
+
+-- what is sent again has the octets of the last new block, and the versions 0, 2, 3 and 1 in turn; an intact downlink block is a
+-- `dup` exactly where one with its NDI was `got` and the terminal saw none with the other NDI since; on the uplink the terminal
+-- builds or sends again exactly where it should
 pub record AreCarried (past : List Group) : Type 0 where
   pub down_resent : (p : ℕ) → p < 8 → AreResent (visits past) (deeds Down p past)
   pub down_built : (p : ℕ) → p < 8 → AreBuilt (visits past) (deeds Down p past)
+  pub down_answered : (p : ℕ) → p < 8 → AreAnsweredRight (seen (flights Down p past))
   pub up_resent : (p : ℕ) → p < 8 → AreResent (visits past) (deeds Up p past)
+  pub up_visits : (p : ℕ) → p < 8 → AreVisits (visits past) (flights Up p past)

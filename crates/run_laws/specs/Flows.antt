@@ -4,22 +4,13 @@ use Rattle.std.specs.List.{filter, list_any}
 use Rattle.air_record.specs.declared.record.Record.{Record}
 use Rattle.air_record.specs.declared.record.Record.TheVariants as records
 use Rattle.air_text.specs.Groups.{Group}
-use Rattle.bearer_types.specs.declared.event.Event.TheVariants.{Up}
 use Rattle.l2_types.specs.declared.side.Side.{Side}
 use Rattle.l2_types.specs.declared.side.Side.TheVariants.{Nb, Ue}
-use Rattle.link_laws.specs.Counts.{is_same, is_up, is_looped}
+use Rattle.link_laws.specs.Counts.{is_same, is_looped}
+use Rattle.link_laws.specs.Zero.{sdu_of, ups_in}
 use Rattle.run_laws.specs.Parts.{Part, Submits, part}
 
--- the SDU of an `up` or of a `loop` record
-abbrev pub sdu_of : Record → List ℕ
-sdu_of (records.Of side (Up lcid octets)) = octets
-sdu_of (records.Looped lcid octets) = octets
-sdu_of one = []
-
--- the SDUs that go up at a side, on a channel, and those that the test loop submits
-abbrev pub ups_in : Side → ℕ → List Record → List (List ℕ)
-ups_in side lcid told = map sdu_of (filter (is_up side lcid) told)
-
+-- the SDUs that the test loop submits, on a channel
 abbrev pub loops_in : ℕ → List Record → List (List ℕ)
 loops_in lcid told = map sdu_of (filter (is_looped lcid) told)
 

@@ -2,8 +2,15 @@ pub mod Parts
 pub mod Flows
 pub mod Air
 pub mod Blocks
+pub mod Heard
+pub mod Awards
 pub mod Carried
+pub mod Loops
 pub mod Order
+pub mod Ends
 pub mod Sums
+pub mod Keys
+pub mod Counts
+pub mod Zero
 pub mod Promises
 pub mod Journals

@@ -5,8 +5,13 @@ use Rattle.air_run.specs.Journal.{Played}
 use Rattle.air_text.specs.Groups.{Group, history}
 use Rattle.run_laws.specs.Air.{is_tti, ttis, numbered}
 use Rattle.run_laws.specs.Carried.{AreCarried}
+use Rattle.run_laws.specs.Counts.{CountsAscend}
+use Rattle.run_laws.specs.Ends.{ComeByCalls}
+use Rattle.run_laws.specs.Keys.{all_keys, AreDistinct}
+use Rattle.run_laws.specs.Loops.{ReturnInOrder}
 use Rattle.run_laws.specs.Order.{KeepsOrder}
 use Rattle.run_laws.specs.Sums.{sums_at}
+use Rattle.run_laws.specs.Zero.{BringInOrder}
 
 -- a journal with its promises: its groups, and at its end the sums where it is finished
 pub record IsPromised (played : Played) : Type 0 where
@@ -17,3 +22,13 @@ pub record IsPromised (played : Played) : Type 0 where
   pub in_turn : filter is_tti (history past) ≡ numbered 0 (ttis past)
   -- its blocks are those of HARQ's processes
   pub carried : AreCarried past
+  -- no key is given twice
+  pub keys : AreDistinct (all_keys past)
+  -- and from one handover to the next the COUNTs ascend that a side takes on a channel
+  pub counts : CountsAscend past
+  -- both ends have come by calls of their own, and what is told of each is what it tells in these
+  pub ends : ComeByCalls past
+  -- what the test loop returns went up before, and what it loses is told
+  pub loops : ReturnInOrder past
+  -- what goes up on LCID 0 is what the blocks carry that arrive
+  pub brought : BringInOrder past

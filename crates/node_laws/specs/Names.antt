@@ -1,0 +1,94 @@
+-- A PDU in a new block is the one that its `send` names, by what it is and its number (TS 36.322 6.2.1).
+use Rattle.std.specs.Prelude.{◌≡◌, ℕ, ◌<◌, Bool, true, false, if◌then◌else◌, Ok, List, [], ◌∷◌, length, Option, Some, None}
+use Rattle.bearer.specs.declared.flow.Flow.{Flow}
+use Rattle.bearer.specs.declared.flow.Flow.TheVariants.{Tm, Um, Am}
+use Rattle.bearer_types.specs.declared.event.Event.{Event}
+use Rattle.bearer_types.specs.declared.event.Event.TheVariants.{Send}
+use Rattle.harq.specs.declared.sender.Order.{Order}
+use Rattle.harq.specs.declared.sender.Visit.TheVariants.{New}
+use Rattle.l2_bits.specs.Bits.{bits_of}
+use Rattle.l2_node.specs.Building.{visited, visit, building}
+use Rattle.l2_node.specs.End.{End}
+use Rattle.l2_node.specs.Finding.{has}
+use Rattle.l2_types.specs.declared.event.How.{How}
+use Rattle.l2_types.specs.declared.event.How.TheVariants as how
+use Rattle.l2_types.specs.declared.side.Side.{Side}
+use Rattle.mac_pdu.specs.declared.builder.Sdu.{Sdu}
+use Rattle.rlc_pdu.specs.declared.pdu.Nack.{Nack}
+use Rattle.rlc_pdu.specs.Pdus.{UmdPdu, AmdPdu, Payload, Status}
+use Rattle.rlc_pdu.specs.Reading.{umd_at, am_at}
+use Rattle.rlc_pdu.specs.Writing.{umd_canonical, amd_canonical, status_written}
+use Rattle.node_laws.specs.Blocks.{all_sdus}
+use Rattle.node_laws.specs.Calls.{Call, AreGiven, reached}
+use Rattle.node_laws.specs.Holding.{flow}
+
+-- ---- what is told of the PDUs that are sent
+
+pub record Sent : Type 0 where
+  pub lcid : ℕ
+  pub how : How
+  pub sn : ℕ
+
+abbrev pub sends : List Event → List Sent
+sends [] = []
+sends (Send lcid how sn ∷ events) = record { lcid = lcid; how = how; sn = sn } ∷ sends events
+sends (event ∷ events) = sends events
+
+-- ---- a PDU of a number, as senders write it and as it is read
+
+pub record IsUmd (bits sn : ℕ) (octets : List ℕ) : Type 0 where
+  pub pdu : UmdPdu
+  pub number : pdu.sn ≡ sn
+  pub canonical : octets ≡ umd_canonical bits pdu
+  pub read : umd_at bits octets ≡ Ok pdu
+
+-- a segment only where it is sent again
+pub record IsAmd (again : Bool) (sn : ℕ) (octets : List ℕ) : Type 0 where
+  pub pdu : AmdPdu
+  pub number : pdu.sn ≡ sn
+  pub whole : again ≡ false → pdu.segment ≡ None
+  pub canonical : octets ≡ amd_canonical pdu
+  pub read : am_at octets ≡ Ok (Payload pdu)
+
+pub record IsStatus (ack : ℕ) (octets : List ℕ) : Type 0 where
+  pub nacks : List Nack
+  pub canonical : bits_of octets ≡ status_written ack nacks
+  pub read : am_at octets ≡ Ok (Status (record { ack = ack; nacks = nacks }))
+
+-- the mode of a bearer's RLC (TS 36.322 4.2.1); the numbers of UMD PDUs have so many bits
+pub data Mode : Type 0 where
+  Transparent : Mode
+  Unacknowledged : ℕ → Mode
+  Acknowledged : Mode
+
+abbrev pub mode : Flow → Mode
+mode (Tm b) = Transparent
+mode (Um b) = Unacknowledged b.bits
+mode (Am b) = Acknowledged
+
+-- the modes of an end's bearers, by their channels
+abbrev pub modes_of : End → ℕ → Option Mode
+modes_of e lcid = if has lcid e.bearers then Some (mode (flow lcid e)) else None
+
+-- a PDU as it is told of, on a channel of a mode
+abbrev pub IsNamed : Option Mode → How → ℕ → List ℕ → Type 0
+IsNamed (Some Transparent) how.Tm sn octets = (sn ≡ 0) × (0 < length octets)
+IsNamed (Some (Unacknowledged bits)) how.New sn octets = IsUmd bits sn octets
+IsNamed (Some Acknowledged) how.New sn octets = IsAmd false sn octets
+IsNamed (Some Acknowledged) how.Re sn octets = IsAmd true sn octets
+IsNamed (Some Acknowledged) how.Status sn octets = IsStatus sn octets
+IsNamed channel how sn octets = ⊥
+
+-- ---- the law: PDUs and what is told of them, each of its place, by the modes of the channels
+
+abbrev pub AreNamed : (ℕ → Option Mode) → List Sent → List Sdu → Type 0
+AreNamed modes [] [] = Unit {0}
+AreNamed modes (s ∷ sent) (d ∷ sdus) = (d.lcid ≡ s.lcid) × IsNamed (modes s.lcid) s.how s.sn d.octets × AreNamed modes sent sdus
+AreNamed modes sent sdus = ⊥
+
+-- of any end that builds a new block
+abbrev pub NamesWhatItSends : Type 0
+NamesWhatItSends = (side : Side) (maximum : ℕ) (reports : Bool) (calls : List Call) → AreGiven calls → (tti grant : ℕ) (order : Order)
+    → visit tti order (reached side maximum reports calls) ≡ New
+    → AreNamed (modes_of (visited tti order (reached side maximum reports calls))) (sends (building tti grant order (reached side maximum reports calls)))
+    (all_sdus (visited tti order (reached side maximum reports calls)) grant (visited tti order (reached side maximum reports calls)).buckets.channels)
