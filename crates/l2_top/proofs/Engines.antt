@@ -1,18 +1,18 @@
 -- What an engine plays is what its part plays.
-use Rattle.std.proofs.Common.{◌≡◌, ◌∙◌, ◌+◌, ◌==◌, nat_lt, Bool, true, false, ℕ, List, [], ◌∷◌, length, refl, ap, sym, if◌then◌else◌}
+use Rattle.std.proofs.Common.{◌≡◌, ◌∙◌, ◌+◌, ◌==◌, nat_lt, Bool, true, false, ℕ, List, [], ◌∷◌, length, refl, ap, if◌then◌else◌}
 use Rattle.std.specs.Prelude.{Option, Some}
 use Rattle.l2_io.specs.Feeds.{without_return}
 use Rattle.air_run.specs.Lines.{lines_ended, tail_of}
-use Rattle.air_run.specs.Journal.{Player, Outcome, Goes, Ends, Refuses, Played, onto, finished, refused, waiting, follow, on_line, on_last, close_by, play, journal_from, journal_by, script, journal_of}
-use Rattle.air_run.specs.Run.{RunState, fresh}
+use Rattle.air_run.specs.Journal.{Player, Outcome, Goes, Ends, Refuses, Played, onto, finished, refused, follow, on_line, on_last, close_by, play, journal_from, journal_by, script, journal_of}
+use Rattle.air_run.specs.Run.{fresh}
 use Rattle.air_run.specs.declared.refusal.Reason.TheVariants as reasons
 use Rattle.air_text.specs.declared.fault.LineRefusal.TheVariants.{Long}
-use Rattle.pdu_show.specs.Decoding.{Decoding, undecoded}
+use Rattle.pdu_show.specs.Decoding.{undecoded}
 use Rattle.l2_top.specs.declared.engine.LineEnd.{LineEnd}
 use Rattle.l2_top.specs.declared.engine.LineEnd.TheVariants as ends
 use Rattle.l2_top.specs.declared.playing.Ending.{Ending}
 use Rattle.l2_top.specs.Plays.{RunsLine, Plays, HasPlayed}
-use Rattle.l2_top.specs.Engines.{Between, Running, Showing, Summing, lifted, line_by, last_by, played_from, showing, blocks_of, summing, sums_of}
+use Rattle.l2_top.specs.Engines.{Between, Running, Showing, Summing, lifted, played_from, showing, blocks_of, summing, sums_of}
 
 some-of : {S T : Type 0} (f : S → T) (a b : S) → Some a ≡ Some b → Some (f a) ≡ Some (f b)
 some-of f a b e = let same : a ≡ b = cc in ap (λ s. Some (f s)) same

@@ -11,7 +11,7 @@ use Rattle.air_run.specs.Steps.{WritesFront}
 use Rattle.air_run.specs.Journal.{Player, Played, onto, finished, journal_from, journal_by}
 use Rattle.l2_top.specs.declared.playing.Ending.{Ending}
 use Rattle.l2_top.specs.declared.playing.Ending.TheVariants as endings
-use Rattle.l2_top.specs.Plays.{state_of, Plays, HasPlayed, GoesOn, IsOver, HasGathered, PutsRest, PutsSome}
+use Rattle.l2_top.specs.Plays.{state_of, Plays, HasPlayed, GoesOn, IsOver, HasGathered, IsGathered, PutsRest, PutsSome}
 use Rattle.l2_top.proofs.Turning.{onwards}
 use Rattle.l2_top.proofs.Nothing.{after_none}
 use Rattle.l2_top.proofs.Parting.{begins, goes-on, goes-over, goes-played, over-played}
@@ -191,22 +191,30 @@ stops m journal l0 l1 l2 w w' w'' held held' run n kept i i' o o' ending result 
     (goes-played m journal l0 l1 l2 (Some []) (Some (g.done ++ held)) (Some (g.done ++ held')) run n kept i o i' o ending g.goes f (λ x. x) q) put
 
 -- the last line was run
-pub ends : {S : Type 0} (m : Player S) (journal : Bool → List ℕ → Played) (l0 l1 l2 w w' w'' : Option (List ℕ)) (held held' held'' : List ℕ) (run run' : Option S) (n : ℕ) (kept : List ℕ) (i o o' : Type 0) (ending result : Ending)
-    → HasGathered m journal l0 l1 w w' held run n kept → (o → ⊥) → IsOver m (onwards m (state_of m run) n kept) l1 l2 (Some held) (Some held') run'
-    → Plays (finished m (state_of m run')) (Some held') (Some held'') ⊥ o ending → PutsRest ending held'' w' w'' o' result → HasPlayed journal l0 l2 w w'' i o' result
-ends m journal l0 l1 l2 w w' w'' held held' held'' run run' n kept i o o' ending result g never b p put =
-    let c : IsOver m (onwards m (state_of m run) n kept) l1 l2 (Some (g.done ++ held)) (Some (g.done ++ held')) run' =
-    record {
-      given = b.given;
-      left_is = b.left_is;
-      whole = b.whole;
-      end = b.end;
-      part = b.part;
-      written_is = moved g.done held held' (texts_of b.part) b.written_is;
-      state = b.state;
-      run_is = b.run_is;
-      rest = b.rest;
-    } in
-    let q = over-played m journal l0 l2 (Some []) (Some (g.done ++ held')) (Some (g.done ++ held'')) run' i o o ending
-    (goes-over m journal l0 l1 l2 (Some []) (Some (g.done ++ held)) (Some (g.done ++ held')) run run' n kept g.goes c) (λ x. x) (moved-plays g.done held' held'' _ ⊥ o ending p) in
-    rest-put journal l0 l2 g.done held'' w w' w'' i o o' ending result never g.written_is q put
+pub gathers-over : {S : Type 0} (m : Player S) (journal : Bool → List ℕ → Played) (l0 l1 l2 w w' : Option (List ℕ)) (held held' : List ℕ) (run run' : Option S) (n : ℕ) (kept : List ℕ)
+    → HasGathered m journal l0 l1 w w' held run n kept → IsOver m (onwards m (state_of m run) n kept) l1 l2 (Some held) (Some held') run'
+    → IsGathered m journal l0 l2 w w' held' run'
+gathers-over m journal l0 l1 l2 w w' held held' run run' n kept g b = record {
+  done = g.done;
+  written_is = g.written_is;
+  over = goes-over m journal l0 l1 l2 (Some []) (Some (g.done ++ held)) (Some (g.done ++ held')) run run' n kept g.goes
+      (record {
+        given = b.given;
+        left_is = b.left_is;
+        whole = b.whole;
+        end = b.end;
+        part = b.part;
+        written_is = moved g.done held held' (texts_of b.part) b.written_is;
+        state = b.state;
+        run_is = b.run_is;
+        rest = b.rest;
+      });
+}
+
+-- what stands at the end was gathered, and all that was gathered was put
+pub ends : {S : Type 0} (m : Player S) (journal : Bool → List ℕ → Played) (l0 l1 w w' w'' : Option (List ℕ)) (held held' : List ℕ) (run : Option S) (i o o' : Type 0) (ending result : Ending)
+    → IsGathered m journal l0 l1 w w' held run → (o → ⊥) → Plays (finished m (state_of m run)) (Some held) (Some held') ⊥ o ending → PutsRest ending held' w' w'' o' result
+    → HasPlayed journal l0 l1 w w'' i o' result
+ends m journal l0 l1 w w' w'' held held' run i o o' ending result g never p put =
+    let q = over-played m journal l0 l1 (Some []) (Some (g.done ++ held)) (Some (g.done ++ held')) run i o o ending g.over (λ x. x) (moved-plays g.done held held' _ ⊥ o ending p) in
+    rest-put journal l0 l1 g.done held' w w' w'' i o o' ending result never g.written_is q put

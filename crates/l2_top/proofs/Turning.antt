@@ -17,7 +17,7 @@ use Rattle.air_run.specs.declared.refusal.Reason.{Reason}
 use Rattle.air_run.specs.declared.refusal.Reason.TheVariants as reasons
 use Rattle.l2_top.specs.declared.playing.Ending.TheVariants as endings
 use Rattle.air_run.specs.Journal.{Player, Outcome, Goes, Ends, Refuses, Played, onto, finished, refused, waiting, follow, journal_from}
-use Rattle.l2_top.specs.Plays.{state_of, HasGone, HasEnded, HasPart, HasPlayed, GoesOn, IsOver}
+use Rattle.l2_top.specs.Plays.{HasGone, HasEnded, HasPart, HasPlayed, GoesOn, IsOver}
 use Rattle.air_run.proofs.Parts.{journal-line, journal-line-more, journal-last, journal-end, journal-waits, journal-long, journal-many, line-runs, last-runs}
 use Rattle.l2_top.proofs.Nothing.{after_none}
 

@@ -1,5 +1,5 @@
 -- What plays the lines of an input: the run of a script, the showing of blocks, or a run for its sums alone.
-use Rattle.std.specs.Prelude.{ℕ, Bool, List, [], Option, None, Some, Result, Ok, Err}
+use Rattle.std.specs.Prelude.{ℕ, Bool, List, [], Result, Ok, Err}
 use Rattle.air_record.specs.declared.record.Record.{Record}
 use Rattle.air_text.specs.declared.fault.LineRefusal.{LineRefusal}
 use Rattle.air_run.specs.Run.{RunState, fresh, finish}

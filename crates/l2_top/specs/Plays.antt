@@ -6,7 +6,7 @@ use Rattle.l2_io.specs.declared.sink.PutFault.TheVariants.{Failed, NoMemory}
 use Rattle.air_record.specs.declared.record.Record.{Record}
 use Rattle.air_record.specs.Text.{texts_of}
 use Rattle.air_run.specs.Steps.{WritesFront}
-use Rattle.air_run.specs.Journal.{Player, Outcome, Goes, Ends, Refuses, Finished, Refused, Waiting, Played, onto, finished, journal_from}
+use Rattle.air_run.specs.Journal.{Player, Outcome, Goes, Ends, Refuses, Finished, Refused, Waiting, Played, onto, finished, journal_from, journal_by}
 use Rattle.l2_top.specs.declared.engine.LineEnd.{LineEnd}
 use Rattle.l2_top.specs.declared.engine.LineEnd.TheVariants as ends
 use Rattle.l2_top.specs.declared.playing.TurnEnd.{TurnEnd}
@@ -91,6 +91,17 @@ pub record HasGathered {S : Type 0} (m : Player S) (journal : Bool → List ℕ 
   pub done : List ℕ
   pub written_is : written' ≡ after written done
   pub goes : GoesOn m journal left left' (Some []) (Some (done ++ held)) run number kept
+
+-- all lines were played: a front of what they write is written, and the rest of it is gathered
+pub record IsGathered {S : Type 0} (m : Player S) (journal : Bool → List ℕ → Played) (left left' written written' : Option (List ℕ)) (held : List ℕ) (run : Option S) : Type 0 where
+  pub done : List ℕ
+  pub written_is : written' ≡ after written done
+  pub over : IsOver m journal left left' (Some []) (Some (done ++ held)) run
+
+-- what the lines of an input leave: all were played, or the reading stopped with an ending
+abbrev pub PlaysLines : {S : Type 0} → Player S → Option (List ℕ) → Option (List ℕ) → Option (List ℕ) → Option (List ℕ) → Type 0 → Type 0 → List ℕ → Option S → Option Ending → Type 0
+PlaysLines m left left' written written' in_fault out_fault held run None = IsGathered m (journal_by m) left left' written written' held run
+PlaysLines m left left' written written' in_fault out_fault held run (Some ending) = HasPlayed (journal_by m) left left' written written' in_fault out_fault ending
 
 -- a front of what is gathered was put, before the next line is read
 abbrev pub PutsSome : List ℕ → List ℕ → Option (List ℕ) → Option (List ℕ) → Type 0 → Result Unit PutFault → Type 0

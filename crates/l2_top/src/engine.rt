@@ -177,7 +177,6 @@ impl Engine {
 }
 
 // Writes what stands at the end of a script.
-#[tactic(auto, using(crate::proofs::Nothing::front_none))]
 fn finish<K: Sink>(run: Run, out: &mut K) -> Ending
     ensures over { Plays (finished script (state_of script run)) (K.written out.old) (K.written out.new) ⊥ (HasRisen (K.faults out.old) (K.faults out.new)) result }
     ensures count { K.faults out.old ≤ K.faults out.new }

@@ -1,12 +1,14 @@
-ghost use Rattle.std.specs.Prelude.{◌≡◌, ◌≤◌, ◌<◌, ◌^◌, ◌+◌, ◌++◌, ℕ, List, [], Some};
+ghost use Rattle.std.specs.Prelude.{◌≡◌, ◌≤◌, ◌<◌, ◌^◌, ◌+◌, ◌++◌, ℕ, List, [], Some, IfOk};
 ghost use Rattle.l2_io.specs.Known.{HasRisen};
-ghost use Rattle.air_run.specs.Journal.{journal_from, journal_by, journal_of};
-ghost use Rattle.l2_top.specs.Plays.{Turns, HasPlayed, PutsRest, PutsSome};
+ghost use Rattle.air_run.specs.Journal.{journal_from, journal_by, journal_of, finished};
+ghost use Rattle.l2_top.specs.Plays.{Turns, Plays, HasPlayed, PlaysLines, PutsRest, PutsSome};
+ghost use Rattle.l2_top.specs.declared.playing.Ending.{Ending};
 ghost use Rattle.l2_top.specs.Engines.{Between, played_from, now_in, blocks_of, sums_of};
 
 use crate::engine::{Engine, LineEnd};
 use air_run::Reason;
 use air_text::LineRefusal;
+use l2_bits::NoMemory;
 use l2_io::{GatherSink, Lines, PutFault, Sink, Source, Stand, Turn};
 use std::alloc::Global;
 
@@ -128,41 +130,72 @@ fn put_rest<K: Sink>(gathered: &mut GatherSink, out: &mut K, ending: Ending) -> 
     }
 }
 
-// Plays the lines that a source gives.
+// Plays the lines that a source gives, to their end or to what stops the reading: then with its ending.
+fn play_lines<S: Source, K: Sink>(
+    alloc: Global,
+    lines: &mut Lines,
+    engine: &mut Engine,
+    gathered: &mut GatherSink,
+    source: &mut S,
+    out: &mut K,
+) -> Option<Ending>
+    requires kept { lines.old.kept ≡ [] }
+    requires longest { lines.old.longest ≡ 20000 }
+    requires open { lines.old.stand ≡ Stand.Open }
+    requires empty { gathered.old.octets ≡ [] }
+    ensures played { PlaysLines (played_from (now_in engine.old)) (S.left source.old) (S.left source.new) (K.written out.old) (K.written out.new)
+        (HasRisen (S.faults source.old) (S.faults source.new)) (HasRisen (K.faults out.old) (K.faults out.new)) gathered.new.octets (Some (now_in engine.new)) result }
+    ensures source_count { S.faults source.old ≤ S.faults source.new }
+    ensures out_count { K.faults out.old ≤ K.faults out.new }
+{
+    for number in 1..LIMIT + 2 {
+        match make_room(gathered, lines, out) {
+            Ok(()) => {}
+            Err(PutFault::Failed) => return Some(Ending::WriteFault),
+            Err(PutFault::NoMemory) => return Some(Ending::NoMemory),
+        }
+        match turn(alloc, lines, engine, number, source, gathered) {
+            TurnEnd::Next => {}
+            TurnEnd::Over => return None,
+            TurnEnd::Stop(ending) => return Some(put_rest(gathered, out, ending)),
+        }
+    }
+    unreachable!()
+}
+
+// The lines of an input, before the first.
+fn open_lines(alloc: Global) -> Result<Lines, NoMemory>
+    ensures { IfOk result (λ m. (m.kept ≡ []) × (m.longest ≡ 20000) × (m.stand ≡ Stand.Open)) }
+{
+    Lines::new(alloc, LONGEST)
+}
+
+// Writes what stands at the end of an input, after what is gathered of it.
+fn play_end<K: Sink>(engine: Engine, gathered: &mut GatherSink, out: &mut K) -> Ending
+    ensures over { (held : List ℕ) × (ending : Ending) × Plays (finished (played_from (now_in engine)) (now_in engine)) (Some gathered.old.octets) (Some held) ⊥ (HasRisen 0 0) ending
+        × PutsRest ending held (K.written out.old) (K.written out.new) (HasRisen (K.faults out.old) (K.faults out.new)) result }
+    ensures count { K.faults out.old ≤ K.faults out.new }
+{
+    let ending = engine.over(gathered);
+    put_rest(gathered, out, ending)
+}
+
+// Plays the lines that a source gives, and writes what stands at their end.
 fn play<S: Source, K: Sink>(alloc: Global, engine: Engine, source: &mut S, out: &mut K) -> Ending
     ensures played { HasPlayed (journal_by (played_from (now_in engine))) (S.left source.old) (S.left source.new) (K.written out.old) (K.written out.new)
         (HasRisen (S.faults source.old) (S.faults source.new)) (HasRisen (K.faults out.old) (K.faults out.new)) result }
     ensures source_count { S.faults source.old ≤ S.faults source.new }
     ensures out_count { K.faults out.old ≤ K.faults out.new }
 {
-    let Ok(mut lines) = Lines::new(alloc, LONGEST) else {
+    let Ok(mut lines) = open_lines(alloc) else {
         return Ending::NoMemory;
     };
     let mut engine = engine;
     let mut gathered = GatherSink::new(alloc);
-    for number in 1..LIMIT + 2 {
-        match make_room(&mut gathered, &lines, out) {
-            Ok(()) => {}
-            Err(PutFault::Failed) => return Ending::WriteFault,
-            Err(PutFault::NoMemory) => return Ending::NoMemory,
-        }
-        match turn(
-            alloc,
-            &mut lines,
-            &mut engine,
-            number,
-            source,
-            &mut gathered,
-        ) {
-            TurnEnd::Next => {}
-            TurnEnd::Over => {
-                let ending = engine.over(&mut gathered);
-                return put_rest(&mut gathered, out, ending);
-            }
-            TurnEnd::Stop(ending) => return put_rest(&mut gathered, out, ending),
-        }
+    if let Some(ending) = play_lines(alloc, &mut lines, &mut engine, &mut gathered, source, out) {
+        return ending;
     }
-    unreachable!()
+    play_end(engine, &mut gathered, out)
 }
 
 /// Plays the script that a source gives, line by line.
