@@ -1,6 +1,6 @@
 -- From one handover to the next an end is called on by calls with which no life of a channel's bearer begins but its first, before which
 -- nothing is taken: so the COUNTs that it tells of as taken ascend.
-use Rattle.std.proofs.Common.{◌≡◌, ℕ, ◌==◌, Bool, true, false, cond, ◌&&◌, not, if◌then◌else◌, Option, Some, None, List, [], ◌∷◌, ◌++◌, arith, refl, ap, sym, ◌∙◌, subst}
+use Rattle.std.proofs.Common.{◌≡◌, ℕ, ◌==◌, Bool, true, false, cond, ◌&&◌, not, if◌then◌else◌, Option, None, List, [], ◌∷◌, ◌++◌, arith, refl, ap, sym, ◌∙◌, subst}
 use Rattle.std.proofs.lemmas.Bool.Decides.{nat_tests}
 use Rattle.std.specs.List.{AllByRecursion, filter}
 use Rattle.air_link.specs.Link.{Link, end_of}
@@ -23,17 +23,17 @@ use Rattle.l2_types.specs.declared.side.Side.TheVariants.{Nb, Ue}
 use Rattle.link_laws.specs.Counts.{is_same}
 use Rattle.link_laws.specs.Ends.{event_of, told_by, ByCalls, begins_life, LivesOn, is_of_building}
 use Rattle.link_laws.proofs.Going.{run_on, given_on, over_on}
-use Rattle.node_laws.specs.Bearers.{count_on, counts_on}
+use Rattle.node_laws.specs.Bearers.{counts_on}
 use Rattle.node_laws.specs.Calls.{Call, Add, Move, AreGiven, run, reached}
 use Rattle.node_laws.specs.Counts.{begins as call_begins}
 use Rattle.node_laws.specs.Loops.{is_of_loop}
 use Rattle.node_laws.specs.Telling.{told_over}
+use Rattle.node_laws.specs.Writing.{is_of_writing}
 use Rattle.node_laws.proofs.Counted.{counts_then}
 use Rattle.node_laws.proofs.Living.{counts_ascend, none_taken as none_without}
-use Rattle.pdcp_tx.specs.Runs.{counts_in}
 use Rattle.pdu_show.specs.declared.kinds.Layout.{Layout}
 use Rattle.run_laws.specs.Blocks.{AreTold}
-use Rattle.run_laws.specs.Counts.{count_taken, counts_taken, moves, counts_since, CountsAscend}
+use Rattle.run_laws.specs.Counts.{counts_taken, moves, counts_since, CountsAscend}
 use Rattle.run_laws.specs.Order.{state_behind, IsRight, KeepsOrder}
 use Rattle.run_laws.specs.Parts.{part}
 use Rattle.run_laws.proofs.Keys.{not_first, not_second, no_cause}
@@ -41,59 +41,22 @@ use Rattle.run_laws.proofs.Past.{link_behind}
 use Rattle.prioritise.proofs.ChannelLemmas.{both_false}
 use Rattle.run_laws.proofs.Reaching.{lives_by, group_goes, come_by_calls}
 
--- ---- the COUNTs of records are those of an end's events
-
-own_take : (c : Bool) (count : ℕ) → (if c then count ∷ [] else []) ≡ (if c then counts_in (Some count) else []) ++ []
-own_take true count = refl
-own_take false count = refl
-
-no_count : (c : Bool) → [] ≡ (if c then counts_in None else []) ++ []
-no_count true = refl
-no_count false = refl
-
-take_counts : (side s : Side) (lcid l : ℕ) (count : Option ℕ) (len : ℕ) → count_taken side lcid (records.Of s (events.Take l count len)) ≡ counts_on lcid (event_of side (records.Of s (events.Take l count len)))
-take_counts Nb Nb lcid l (Some count) len = own_take (l == lcid) count
-take_counts Ue Ue lcid l (Some count) len = own_take (l == lcid) count
-take_counts Nb Ue lcid l (Some count) len = refl
-take_counts Ue Nb lcid l (Some count) len = refl
-take_counts Nb Nb lcid l None len = no_count (l == lcid)
-take_counts Ue Ue lcid l None len = no_count (l == lcid)
-take_counts Nb Ue lcid l None len = refl
-take_counts Ue Nb lcid l None len = refl
-
-none_if : (b : Bool) (lcid : ℕ) (e : Event) → count_on lcid e ≡ [] → [] ≡ counts_on lcid (if b then e ∷ [] else [])
-none_if true lcid e none = sym (ap (λ (ns : List ℕ). ns ++ []) none)
-none_if false lcid e none = refl
-
-event_counts : (side s : Side) (lcid : ℕ) (e : Event) → count_taken side lcid (records.Of s e) ≡ counts_on lcid (event_of side (records.Of s e))
-event_counts side s lcid (events.Take l count len) = take_counts side s lcid l count len
-event_counts side s lcid e = none_if (is_same side s && not (is_of_loop e)) lcid e refl
-
-one_counts : (side : Side) (lcid : ℕ) (one : Record) → count_taken side lcid one ≡ counts_on lcid (event_of side one)
-one_counts side lcid (records.Of s e) = event_counts side s lcid e
-one_counts side lcid one = refl
-
-told_counts : (side : Side) (lcid : ℕ) (told : List Record) → counts_taken side lcid told ≡ counts_on lcid (told_by side told)
-told_counts side lcid [] = refl
-told_counts side lcid (one ∷ told) =
-    ap (λ (ns : List ℕ). ns ++ counts_taken side lcid told) (one_counts side lcid one)
-    ∙ ap (λ (ns : List ℕ). counts_on lcid (event_of side one) ++ ns) (told_counts side lcid told)
-    ∙ sym (counts_then lcid (event_of side one) (told_by side told))
-
 -- ---- where no block is built, none is told of
 
-event_none : (side s : Side) (lcid : ℕ) (e : Event) → is_of_building (records.Of s e) ≡ false → count_taken side lcid (records.Of s e) ≡ []
-event_none side s lcid (events.Take l count len) free = absurd cc
-event_none side s lcid e free = refl
+event_none : (b : Bool) (lcid : ℕ) (e : Event) → is_of_writing e ≡ false → counts_on lcid (if b then e ∷ [] else []) ≡ []
+event_none true lcid (events.Take l count len) free = absurd cc
+event_none true lcid e free = refl
+event_none false lcid e free = refl
 
-one_none : (side : Side) (lcid : ℕ) (one : Record) → is_of_building one ≡ false → count_taken side lcid one ≡ []
-one_none side lcid (records.Of s e) free = event_none side s lcid e free
+one_none : (side : Side) (lcid : ℕ) (one : Record) → is_of_building one ≡ false → counts_on lcid (event_of side one) ≡ []
+one_none side lcid (records.Of s e) free = event_none (is_same side s && not (is_of_loop e)) lcid e free
 one_none side lcid one free = refl
 
 none_by : (b : Bool) (side : Side) (lcid : ℕ) (one : Record) (told : List Record) → is_of_building one ≡ b → cond b (one ∷ filter is_of_building told) (filter is_of_building told) ≡ [] → (filter is_of_building told ≡ [] → counts_taken side lcid told ≡ [])
     → counts_taken side lcid (one ∷ told) ≡ []
 none_by true side lcid one told is none rest = absurd cc
-none_by false side lcid one told is none rest = ap (λ (ns : List ℕ). ns ++ counts_taken side lcid told) (one_none side lcid one is) ∙ rest none
+none_by false side lcid one told is none rest =
+    counts_then lcid (event_of side one) (told_by side told) ∙ ap (λ (ns : List ℕ). ns ++ counts_taken side lcid told) (one_none side lcid one is) ∙ rest none
 
 none_taken : (side : Side) (lcid : ℕ) (told : List Record) → filter is_of_building told ≡ [] → counts_taken side lcid told ≡ []
 none_taken side lcid [] none = refl
@@ -200,7 +163,7 @@ life_goes side lcid past g right order free f =
     let e = reached side 4 false f.before in
     let calls = k.by.calls in
     let told : counts_on lcid (told_over calls (run f.since e)) ≡ counts_taken side lcid g.events =
-    ap (λ (x : End). counts_on lcid (told_over calls x)) (sym f.end_is) ∙ ap (counts_on lcid) (sym k.by.told_is) ∙ sym (told_counts side lcid g.events) in
+    ap (λ (x : End). counts_on lcid (told_over calls x)) (sym f.end_is) ∙ ap (counts_on lcid) (sym k.by.told_is) in
     record {
       before = f.before;
       since = f.since ++ calls;

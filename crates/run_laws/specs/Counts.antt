@@ -1,24 +1,18 @@
 -- The COUNTs with which a side takes SDUs on a channel: from one handover to the next they ascend. A handover gives other keys, and no
 -- key is given twice, so that under one key no COUNT is taken twice on a bearer in a direction (TS 36.323 5.6, TS 33.401 B.1).
-use Rattle.std.specs.Prelude.{ℕ, ◌==◌, Bool, true, false, ◌&&◌, if◌then◌else◌, Some, List, [], ◌∷◌, ◌++◌}
+use Rattle.std.specs.Prelude.{ℕ, Bool, true, false, if◌then◌else◌, List, [], ◌∷◌, ◌++◌}
 use Rattle.air_record.specs.declared.line.Line.{Line}
 use Rattle.air_record.specs.declared.line.Line.TheVariants as lines
 use Rattle.air_record.specs.declared.record.Record.{Record}
-use Rattle.air_record.specs.declared.record.Record.TheVariants as records
 use Rattle.air_text.specs.Groups.{Group}
-use Rattle.bearer_types.specs.declared.event.Event.TheVariants.{Take}
 use Rattle.l2_num.specs.Ascending.{IsAscending}
 use Rattle.l2_types.specs.declared.side.Side.{Side}
-use Rattle.link_laws.specs.Counts.{is_same}
+use Rattle.link_laws.specs.Ends.{told_by}
+use Rattle.node_laws.specs.Bearers.{counts_on}
 
--- the COUNT of an SDU that a side takes on a channel; a transparent bearer has none
-abbrev pub count_taken : Side → ℕ → Record → List ℕ
-count_taken side lcid (records.Of s (Take l (Some count) len)) = if is_same side s && l == lcid then count ∷ [] else []
-count_taken side lcid one = []
-
+-- those of the SDUs that records tell of as taken at a side, on a channel
 abbrev pub counts_taken : Side → ℕ → List Record → List ℕ
-counts_taken side lcid [] = []
-counts_taken side lcid (one ∷ told) = count_taken side lcid one ++ counts_taken side lcid told
+counts_taken side lcid told = counts_on lcid (told_by side told)
 
 -- both ends move, under other keys
 abbrev pub moves : Line → Bool
