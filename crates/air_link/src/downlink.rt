@@ -15,7 +15,6 @@ use l2_bits::{Bytes, NoMemory};
 use l2_node::{Attached, Built, Node, sent_by};
 use mac_pdu::Direction;
 use pdu_show::show_onto;
-use std::alloc::Global;
 
 impl Link {
     // The base station visits the process of a TTI, and its block goes over the air.
@@ -51,10 +50,12 @@ impl Link {
     ) -> Result<(), NoMemory>
         ensures { OnOk result (self.new ≡ goes_down visit tti outcome ndi (block_at tti self.old.nb) self.old) }
     {
-        let block = block_at(self.alloc, tti, &self.nb)?;
+        let block = block_at(self.take_memory(), tti, &self.nb)?;
         self.unsee(visit, tti);
         self.send(visit, Side::Nb, tti, block.as_slice())?;
-        self.land(tti, outcome, ndi, block.as_slice())
+        self.land(tti, outcome, ndi, block.as_slice())?;
+        self.keep_memory(block);
+        Ok(())
     }
 
     // A new block wasn't seen.
@@ -203,7 +204,9 @@ impl Link {
     ) -> Result<(), NoMemory>
         ensures { OnOk result (self.new ≡ says (Record.Block direction (tti % 8) fresh rv block.now) self.old) }
     {
-        let octets = Bytes::from_slice(self.alloc, block)?;
+        let mut octets = self.take_memory();
+        octets.clear();
+        octets.append(block)?;
         self.say(Record::Block {
             direction,
             process: (tti % 8) as u32,
@@ -234,15 +237,17 @@ impl Link {
     }
 }
 
-// A copy of the block that a process of a TTI holds.
-pub(crate) fn block_at(alloc: Global, tti: u64, node: &Node<Attached>) -> Result<Bytes, NoMemory>
+// A copy of the block that a process of a TTI holds, in place of what the memory for it holds.
+pub(crate) fn block_at(memory: Bytes, tti: u64, node: &Node<Attached>) -> Result<Bytes, NoMemory>
     ensures block { IfOk result (λ block. block ≡ block_at tti node.now.end) }
     ensures short { IfOk result (λ block. length block < 2 ^ 28) }
 {
-    match node.held((tti % 8) as u32) {
-        Some(block) => Bytes::from_slice(alloc, block),
-        None => Ok(Bytes::new(alloc)),
+    let mut block = memory;
+    block.clear();
+    if let Some(held) = node.held((tti % 8) as u32) {
+        block.append(held)?;
     }
+    Ok(block)
 }
 
 // Feedback as the sender reads it.

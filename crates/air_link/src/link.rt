@@ -80,6 +80,8 @@ pub struct Link {
     pub(crate) kinds: Kinds,
     // The records of this line so far.
     pub(crate) out: Records,
+    // The memory of blocks that were let go, for later ones.
+    pub(crate) spares: Vec<Bytes>,
 }
 
 impl Model for Link {
@@ -121,6 +123,7 @@ impl Link {
             seen: [false; 8],
             kinds: Kinds::new(),
             out: Records::new(alloc),
+            spares: Vec::new(alloc),
         }
     }
 
@@ -137,6 +140,41 @@ impl Link {
         ensures link { self.new ≡ record self.old { out = [] } }
     {
         mem::replace(&mut self.out, Records::new(self.alloc))
+    }
+
+    /// Goes on with the memory of records that were taken and are let go, where no more have come since.
+    pub fn reuse(&mut self, records: Records)
+        requires gone { records ≡ [] }
+        requires none { self.old.out ≡ [] }
+        ensures { self.new ≡ self.old }
+    {
+        self.out = records;
+    }
+
+    /// Goes on with the memory of a record that is let go.
+    pub fn recycle(&mut self, one: Record)
+        ensures { self.new ≡ self.old }
+    {
+        if let Record::Block { octets, .. } = one {
+            self.keep_memory(octets);
+        }
+    }
+
+    // Keeps the memory of a block that is let go.
+    pub(crate) fn keep_memory(&mut self, octets: Bytes)
+        ensures { self.new ≡ self.old }
+    {
+        let _ = self.spares.push(octets);
+    }
+
+    // Takes the memory of a block that was let go, where there is some.
+    pub(crate) fn take_memory(&mut self) -> Bytes
+        ensures { self.new ≡ self.old }
+    {
+        match self.spares.pop() {
+            Some(octets) => octets,
+            None => Bytes::new(self.alloc),
+        }
     }
 
     pub(crate) fn say(&mut self, one: Record) -> Result<(), NoMemory>

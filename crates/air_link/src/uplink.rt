@@ -59,7 +59,7 @@ impl Link {
     fn go_up(&mut self, visit: Visit, tti: u64, outcome: Outcome) -> Result<(), NoMemory>
         ensures { OnOk result (self.new ≡ goes_up visit tti outcome (block_at tti self.old.ue) self.old) }
     {
-        let block = block_at(self.alloc, tti, &self.ue)?;
+        let block = block_at(self.take_memory(), tti, &self.ue)?;
         self.wake(visit, tti);
         self.send(visit, Side::Ue, tti, block.as_slice())?;
         self.come(
@@ -67,7 +67,9 @@ impl Link {
             outcome.flipped,
             is_intact(outcome.fate),
             block.as_slice(),
-        )
+        )?;
+        self.keep_memory(block);
+        Ok(())
     }
 
     // A new block keeps the terminal awake.

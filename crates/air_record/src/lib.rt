@@ -11,5 +11,5 @@ mod shown;
 mod word;
 
 pub use line::{Fate, Line, Outcome};
-pub use printing::{append_record, print, print_line};
+pub use printing::{append_accepted, append_record, print, print_line};
 pub use record::{Arrived, Lens, NoPlace, Record, State};

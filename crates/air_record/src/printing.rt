@@ -22,7 +22,8 @@ use l2_types::Side;
 use mac_pdu::Direction;
 use std::alloc::Global;
 
-fn append_accepted(text: &mut Bytes, place: u32, line: &Line) -> Result<(), NoMemory>
+/// Adds the text of the record of an accepted line.
+pub fn append_accepted(text: &mut Bytes, place: u32, line: &Line) -> Result<(), NoMemory>
     ensures { OnOk result (text.new ≡ text.old ++ accepted_text place line.now) }
 {
     text.append(b"line ")?;

@@ -1,9 +1,12 @@
-ghost use Rattle.std.specs.Prelude.{◌≡◌, ◌<◌, ◌+◌, ◌++◌, ◌∷◌, [], OnOk, map, drop, length};
+ghost use Rattle.std.specs.Prelude.{◌≡◌, ◌<◌, ◌+◌, ◌++◌, ◌∷◌, [], OnOk, map, drop, length, if◌then◌else◌};
+ghost use Rattle.arrayvec.specs.ArrayVec.{array_vec_len};
 ghost use Rattle.air_record.specs.Text.{worded, ended, word_text, lens_text, nacks_text, nack_text, comma_before, count_text, bitmap_text};
 ghost use Rattle.std.specs.Fmt.{decimal};
 
 use crate::record::Lens;
+use arrayvec::ArrayVec;
 use digits::{append_hex, append_number};
+use itoa::Buffer;
 use l2_bits::{Bytes, Items, NoMemory};
 use rlc_pdu::{Nack, Nacks};
 
@@ -135,6 +138,78 @@ fn append_word(text: &mut Bytes, word: Word<'_>) -> Result<(), NoMemory>
     }
 }
 
+/// The octets of words that are gathered before they are added to a text.
+const ROOM: usize = 96;
+
+// Words at the end of a text that are still to be added to it.
+type Gathered = ArrayVec<u8, ROOM>;
+
+// Adds what was gathered.
+#[inline(never)]
+fn flush(text: &mut Bytes, gathered: &mut Gathered) -> Result<(), NoMemory>
+    ensures text { OnOk result (text.new ≡ text.old ++ gathered.old.items) }
+    ensures none { gathered.new.items ≡ [] }
+    ensures len { array_vec_len gathered.new ≡ 0 }
+{
+    let answer = text.append(gathered.as_slice());
+    gathered.clear();
+    answer
+}
+
+// Gathers an octet.
+#[inline(always)]
+fn gather_octet(text: &mut Bytes, gathered: &mut Gathered, octet: u8) -> Result<(), NoMemory>
+    ensures { OnOk result (text.new ++ gathered.new.items ≡ (text.old ++ gathered.old.items) ++ octet ∷ []) }
+{
+    if gathered.is_full() {
+        flush(text, gathered)?;
+    }
+    gathered.push(octet);
+    Ok(())
+}
+
+// Gathers a number, where there is room for it; `false` where nothing was done.
+#[inline(never)]
+fn gather_number(gathered: &mut Gathered, number: u64) -> bool
+    ensures { gathered.new.items ≡ (if result then gathered.old.items ++ decimal number else gathered.old.items) }
+{
+    let mut buffer = Buffer::new();
+    let digits = buffer.format(number);
+    gathered.try_extend_from_slice(digits.as_bytes()).is_ok()
+}
+
+// Gathers a short word, where there is room for it; `false` where nothing was done.
+#[inline(always)]
+fn gather(gathered: &mut Gathered, word: Word<'_>) -> bool
+    ensures { gathered.new.items ≡ (if result then gathered.old.items ++ word_text word.entry else gathered.old.items) }
+{
+    match word {
+        Word::Plain(plain) => gathered.try_extend_from_slice(plain.as_bytes()).is_ok(),
+        Word::Number(number) => gather_number(gathered, number),
+        _ => false,
+    }
+}
+
+// Adds a word behind what was gathered.
+#[inline(never)]
+fn add_long(text: &mut Bytes, gathered: &mut Gathered, word: Word<'_>) -> Result<(), NoMemory>
+    ensures { OnOk result (text.new ++ gathered.new.items ≡ (text.old ++ gathered.old.items) ++ word_text word.entry) }
+{
+    flush(text, gathered)?;
+    append_word(text, word)
+}
+
+// Gathers a word, or adds it behind what was gathered.
+#[inline(always)]
+fn add_word(text: &mut Bytes, gathered: &mut Gathered, word: Word<'_>) -> Result<(), NoMemory>
+    ensures { OnOk result (text.new ++ gathered.new.items ≡ (text.old ++ gathered.old.items) ++ word_text word.entry) }
+{
+    if gather(gathered, word) {
+        return Ok(());
+    }
+    add_long(text, gathered, word)
+}
+
 /// Adds words to a text, with a space between two and a line feed at the end.
 pub fn append_words(text: &mut Bytes, words: &[Word<'_>]) -> Result<(), NoMemory>
     ensures { OnOk result (text.new ≡ text.old ++ worded (map word_text words.now)) }
@@ -142,12 +217,14 @@ pub fn append_words(text: &mut Bytes, words: &[Word<'_>]) -> Result<(), NoMemory
     let [first, more @ ..] = words else {
         return text.append(b"\n");
     };
-    append_word(text, *first)?;
+    let mut gathered = Gathered::new();
+    add_word(text, &mut gathered, *first)?;
     for word in more {
-        text.append(b" ")?;
-        append_word(text, *word)?;
+        gather_octet(text, &mut gathered, b' ')?;
+        add_word(text, &mut gathered, *word)?;
     }
-    text.append(b"\n")
+    gather_octet(text, &mut gathered, b'\n')?;
+    text.append(gathered.as_slice())
 }
 
 /// A name and a number, and a line feed.

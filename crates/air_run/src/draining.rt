@@ -51,7 +51,7 @@ fn tti(link: &mut Link, grant: u32, journal: &mut Journal) -> Result<(), NoMemor
     ensures journal { OnOk result (journal.new ≡ told (drain_tti grant link.old).out journal.old) }
 {
     link.drain_tti(grant)?;
-    journal.put_all(link.take_out())
+    journal.put_out(link)
 }
 
 // As few rounds as it takes, and at most so many; how many were done.
@@ -83,7 +83,7 @@ fn round(link: &mut Link, grant: u32, journal: &mut Journal) -> Result<(), NoMem
     if !carried {
         link.expire_senders()?;
     }
-    journal.put_all(link.take_out())
+    journal.put_out(link)
 }
 
 fn ending(is_drained: bool, done: u64) -> Record

@@ -1,5 +1,6 @@
 ghost use Rattle.std.specs.Prelude.{◌≡◌, ◌<◌, ◌^◌, ◌++◌, ◌∷◌, [], true, None, Some, length, is_some, OnOk, IfOk};
 ghost use Rattle.air_record.specs.Text.{accepted_text};
+ghost use Rattle.air_run.specs.Draining.{shown};
 ghost use Rattle.air_run.specs.Written.{Journal as Machine, all_seen, all_forged, with_um, noticed, told, noted};
 ghost use Rattle.air_text.specs.Ranges.{IsInRange};
 ghost use Rattle.l2_node.specs.End.{heard_by};
@@ -7,7 +8,7 @@ ghost use Rattle.pdu_show.specs.Show.{block_shown};
 ghost use Rattle.um_losses.specs.Losses.{none_seen, is_long};
 
 use air_link::Link;
-use air_text::{Line, Record, append_record, print_line};
+use air_text::{Line, Record, append_accepted, append_record};
 use bearer_types::BearerConfig;
 use l2_bits::{Bytes, NoMemory};
 use l2_node::heard_by;
@@ -68,8 +69,8 @@ impl Journal {
         ensures { OnOk result (self.new ≡ record self.old { text = Some (accepted_text number line.now) }) }
     {
         self.is_muted = false;
-        self.text = print_line(self.alloc, number, line)?;
-        Ok(())
+        self.text.clear();
+        append_accepted(&mut self.text, number, line)
     }
 
     /// Begins a line of which no text is made.
@@ -90,12 +91,26 @@ impl Journal {
     }
 
     #[tactic(auto, using(crate::proofs::Telling::told_one, crate::proofs::Telling::told_none))]
-    pub fn put_all(&mut self, mut records: Records) -> Result<(), NoMemory>
-        ensures { OnOk result (self.new ≡ told records self.old) }
+    fn put_all(&mut self, records: &mut Records, link: &mut Link) -> Result<(), NoMemory>
+        ensures journal { OnOk result (self.new ≡ told records.old self.old) }
+        ensures gone { OnOk result (records.new ≡ []) }
+        ensures link { OnOk result (link.new ≡ link.old) }
     {
         while let Some(one) = records.pop_front() {
             self.put(&one)?;
+            link.recycle(one);
         }
+        Ok(())
+    }
+
+    /// Puts the records that both ends left so far.
+    pub fn put_out(&mut self, link: &mut Link) -> Result<(), NoMemory>
+        ensures journal { OnOk result (self.new ≡ told link.old.out self.old) }
+        ensures link { OnOk result (link.new ≡ shown link.old) }
+    {
+        let mut records = link.take_out();
+        self.put_all(&mut records, link)?;
+        link.reuse(records);
         Ok(())
     }
 

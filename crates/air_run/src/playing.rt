@@ -50,7 +50,7 @@ pub(crate) fn play(
         return Ok(false);
     }
     journal.note(line, link)?;
-    journal.put_all(link.take_out())?;
+    journal.put_out(link)?;
     Ok(true)
 }
 

@@ -18,7 +18,7 @@ use std::alloc::{AllocError, Global};
 pub fn words<'a>(alloc: Global, text: &'a [u8]) -> Result<Vec<&'a [u8]>, AllocError>
     ensures { IfOk result (λ words. texts words.items ≡ words_of text.now) }
 {
-    let mut words = Vec::new(alloc);
+    let mut words = Vec::with_capacity(alloc, 8)?;
     let mut rest = text;
     while let Some((word, behind)) = split_word(rest) {
         words.push(word)?;

@@ -7,7 +7,8 @@ mod options;
 mod reading;
 
 pub use air_record::{
-    Arrived, Fate, Lens, Line, NoPlace, Outcome, Record, State, append_record, print, print_line,
+    Arrived, Fate, Lens, Line, NoPlace, Outcome, Record, State, append_accepted, append_record,
+    print, print_line,
 };
 pub use fault::{LineFault, LineRefusal};
 pub use fields::{octets_into, split_word};

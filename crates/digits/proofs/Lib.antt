@@ -1,3 +1,4 @@
 pub mod Blocks
 pub mod PairLaws
 pub mod DecodeLaws
+mod Letters

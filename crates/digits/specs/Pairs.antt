@@ -1,10 +1,18 @@
 -- Octets by pairs of hexadecimal digits, each of either case.
-use Rattle.std.specs.Prelude.{ℕ, ◌+◌, ◌*◌, ◌%◌, List, [], ◌∷◌, ◌++◌, Option, Some, None, unwrap_or, max, slice_index}
+use Rattle.std.specs.Prelude.{ℕ, ◌+◌, ◌-◌, ◌*◌, ◌/◌, ◌%◌, List, [], ◌∷◌, ◌++◌, Option, Some, None, unwrap_or, max, slice_index, nat_le, ◌&&◌, if◌then◌else◌}
 use Rattle.hex.specs.Hex.{hex_digit_value, lower_digits}
 
 -- the value of a digit, and 255 for anything else
 abbrev pub value : ℕ → ℕ
 value digit = unwrap_or (hex_digit_value digit) 255
+
+-- that of a decimal digit alone
+abbrev pub number_value : ℕ → ℕ
+number_value digit = if nat_le 48 digit && nat_le digit 57 then digit - 48 else 255
+
+-- that of a letter alone
+abbrev pub letter_value : ℕ → ℕ
+letter_value digit = if nat_le 65 digit && nat_le digit 70 then digit - 55 else if nat_le 97 digit && nat_le digit 102 then digit - 87 else 255
 
 -- the greatest of some values
 abbrev pub greatest : List ℕ → ℕ
@@ -20,6 +28,10 @@ joined (v ∷ w ∷ rest) = (v % 16 * 16 + w % 16) ∷ joined rest
 -- the lower case digit of the low half of an octet
 abbrev pub digit : ℕ → ℕ
 digit x = slice_index lower_digits (x % 16)
+
+-- the halves of an octet as the two octets of a word, the high half in the lower one
+abbrev pub halves : ℕ → ℕ
+halves x = x / 16 + x % 16 * 256
 
 abbrev pub with_pair : Option ℕ → Option ℕ → Option (List ℕ) → Option (List ℕ)
 with_pair (Some high) (Some low) (Some octets) = Some ((high * 16 + low) ∷ octets)

@@ -1,11 +1,34 @@
 ghost use Rattle.std.specs.Prelude.{◌≡◌, ◌≤◌, ◌<◌, ◌++◌, ◌%◌, length, OnOk, IfOk, true, false, Some, None, MatchOption, MatchResult, map};
 ghost use Rattle.hex.specs.Hex.{decode_of};
-ghost use Rattle.digits.specs.Pairs.{value, greatest, joined, pairs};
+ghost use Rattle.digits.specs.Pairs.{number_value, letter_value, value, greatest, joined, pairs};
 
 use l2_bits::{Bytes, NoMemory};
 
 /// The digits that are read at a time.
 const BLOCK: usize = 64;
+
+// The value of a decimal digit, and 255 for anything else.
+#[inline(always)]
+fn from_number(digit: u8) -> u8
+    ensures { result ≡ number_value digit }
+{
+    match digit {
+        b'0'..=b'9' => digit - b'0',
+        _ => 255,
+    }
+}
+
+// The value of a letter of either case, and 255 for anything else: the cases differ in one bit.
+#[inline(always)]
+fn from_letter(digit: u8) -> u8
+    ensures { result ≡ letter_value digit }
+{
+    let lower = digit | 32;
+    match lower {
+        b'a'..=b'f' => lower - (b'a' - 10),
+        _ => 255,
+    }
+}
 
 // The value of a digit of either case, and 255 for anything else.
 #[inline(always)]
@@ -13,12 +36,7 @@ fn value(digit: u8) -> u8
     ensures exact { result ≡ value digit }
     ensures fits { result < 256 }
 {
-    match digit {
-        b'0'..=b'9' => digit - b'0',
-        b'a'..=b'f' => digit - (b'a' - 10),
-        b'A'..=b'F' => digit - (b'A' - 10),
-        _ => 255,
-    }
+    from_number(digit).min(from_letter(digit))
 }
 
 // The values of a block of digits.

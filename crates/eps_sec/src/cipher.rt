@@ -49,13 +49,23 @@ impl Schedule {
 pub fn encrypt_block(schedule: &Schedule, block: &[u8; 16]) -> [u8; 16]
     ensures { result ≡ aes schedule.now block.now }
 {
+    octets_of(&encrypt_words(schedule, &words_of(block)))
+}
+
+/// A block under the key, both as words.
+///
+/// It stays a function of its own: where it is inlined, its loop has fewer registers and is slower.
+#[inline(never)]
+pub(crate) fn encrypt_words(schedule: &Schedule, block: &[u32; 4]) -> [u32; 4]
+    ensures { state result ≡ aes schedule.now (state block.now) }
+{
     let keys = &schedule.keys;
-    let mut state = words_of(block);
+    let mut state = *block;
     for n in 0..9 {
         state = mixed_round(&add_key(&keys[n], &state));
     }
     let last = last_round(&add_key(&keys[9], &state));
-    octets_of(&add_key(&keys[10], &last))
+    add_key(&keys[10], &last)
 }
 
 // The round key after `k`, with the power of x that its number has.
@@ -105,7 +115,7 @@ fn row_3(word: u32) -> u8
     (word & 255) as u8
 }
 
-fn add_key(k: &[u32; 4], s: &[u32; 4]) -> [u32; 4]
+pub(crate) fn add_key(k: &[u32; 4], s: &[u32; 4]) -> [u32; 4]
     ensures { state result ≡ add_round_key (state k.now) (state s.now) }
 {
     [s[0] ^ k[0], s[1] ^ k[1], s[2] ^ k[2], s[3] ^ k[3]]
@@ -156,7 +166,7 @@ fn substituted(a: u32, b: u32, c: u32, d: u32) -> u32
     ])
 }
 
-fn words_of(block: &[u8; 16]) -> [u32; 4]
+pub(crate) fn words_of(block: &[u8; 16]) -> [u32; 4]
     ensures { state result ≡ block.now }
 {
     let [a, b, c, d, e, f, g, h, i, j, k, l, m, n, o, p] = *block;
@@ -168,7 +178,7 @@ fn words_of(block: &[u8; 16]) -> [u32; 4]
     ]
 }
 
-fn octets_of(words: &[u32; 4]) -> [u8; 16]
+pub(crate) fn octets_of(words: &[u32; 4]) -> [u8; 16]
     ensures { result ≡ state words.now }
 {
     let [a, b, c, d] = words[0].to_be_bytes();

@@ -1,9 +1,12 @@
 //! 128-EEA2: AES-128 in counter mode (TS 33.401, B.1.3).
 
 ghost use Rattle.std.specs.Prelude.{◌≡◌, ◌<◌};
+ghost use Rattle.eps_sec.specs.Aes.{aes, add_round_key};
+ghost use Rattle.eps_sec.specs.Words.{state};
 ghost use Rattle.eps_sec.specs.Modes.{prefix, first_counter, counter_block, stream_octet, add_stream, ciphered};
 
-use crate::cipher::{Schedule, encrypt_block};
+use crate::cipher::{Schedule, add_key, encrypt_words, octets_of, words_of};
+use crate::integrity::octets_at;
 use crate::keys::Cipher;
 
 /// Ciphers or deciphers `text` in place; both are the same.
@@ -54,22 +57,39 @@ fn counter_block(first: u128, i: usize) -> [u8; 16]
     first.wrapping_add(i as u128).to_be_bytes()
 }
 
+// The words of the encrypted counter block `i`.
+#[inline(always)]
+fn stream_words(schedule: &Schedule, first: u128, i: usize) -> [u32; 4]
+    ensures { state result ≡ aes schedule.now (counter_block first i) }
+{
+    encrypt_words(schedule, &words_of(&counter_block(first, i)))
+}
+
+// 16 octets of a text with as many of the stream added, by words: by octets, the compiler gathers those of the stream first.
+#[inline(always)]
+fn with_stream(stream: &[u32; 4], part: &[u8; 16]) -> [u8; 16]
+    ensures { result ≡ add_round_key (state stream.now) part.now }
+{
+    octets_of(&add_key(stream, &words_of(part)))
+}
+
 /// Adds the encrypted counter blocks from `first` on to `text`.
 pub(crate) fn add_stream(schedule: &Schedule, first: u128, text: &mut [u8])
     ensures { text.new ≡ add_stream (stream_octet schedule.now first) 0 text.old }
 {
     let whole = text.len() / 16;
     for i in 0..whole {
-        let block = encrypt_block(schedule, &counter_block(first, i));
+        let stream = stream_words(schedule, first, i);
+        let sum = with_stream(&stream, &octets_at(text, 16 * i));
         for j in 0..16 {
-            text[16 * i + j] ^= block[j];
+            text[16 * i + j] = sum[j];
         }
     }
     let start = 16 * whole;
     if start == text.len() {
         return;
     }
-    let block = encrypt_block(schedule, &counter_block(first, whole));
+    let block = octets_of(&stream_words(schedule, first, whole));
     for k in start..text.len() {
         text[k] ^= block[k - start];
     }

@@ -2,20 +2,17 @@
 use Rattle.std.proofs.Common.{◌≡◌, ◌≢◌, ℕ, zero, suc, ◌+◌, ◌-◌, ◌%◌, ◌≤◌, ◌∙◌, List, [], ◌++◌, ap, sym, length, take, replicate, arith, append_assoc, append-nil, length-append}
 use Rattle.std.specs.Prelude.{codes, Option, Some}
 use Rattle.std.proofs.Math.Seq.{take-append-add}
-use Rattle.std.proofs.lemmas.List.{take-replicate}
 use Rattle.hex.specs.Hex.{encode_lower}
 use Rattle.generator.specs.Draws.{next, drawn}
 use Rattle.generator.specs.Script.{sdu, step, after_step, steps, ending}
 use Rattle.generator.specs.Fields.{to_come}
 
 -- the line of an SDU, of which its front, its digits and its end were added
-pub sdu_made : (old front : List ℕ) (i x size most : ℕ) → size ≡ 1 + drawn 1400 (next x) → size ≤ most
-    → ((old ++ front) ++ encode_lower (take size (replicate most (i % 256)))) ++ codes "\n" ≡ old ++ sdu (Some front) i x
-sdu_made old front i x size most is fits =
+pub sdu_made : (old front : List ℕ) (i x size : ℕ) → size ≡ 1 + drawn 1400 (next x)
+    → ((old ++ front) ++ encode_lower (replicate size (i % 256))) ++ codes "\n" ≡ old ++ sdu (Some front) i x
+sdu_made old front i x size is =
     let digits : List ℕ = encode_lower (replicate (1 + drawn 1400 (next x)) (i % 256)) in
-    let same : take size (replicate most (i % 256)) ≡ replicate (1 + drawn 1400 (next x)) (i % 256) =
-    take-replicate size most (i % 256) fits ∙ ap (λ (n : ℕ). replicate n (i % 256)) is in
-    ap (λ (octets : List ℕ). ((old ++ front) ++ encode_lower octets) ++ codes "\n") same
+    ap (λ (n : ℕ). ((old ++ front) ++ encode_lower (replicate n (i % 256))) ++ codes "\n") is
     ∙ ap (λ (t : List ℕ). t ++ codes "\n") (append_assoc old front digits) ∙ append_assoc old (front ++ digits) (codes "\n")
 
 -- a step, and those behind it

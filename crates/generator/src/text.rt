@@ -1,4 +1,4 @@
-ghost use Rattle.std.specs.Prelude.{◌≡◌, ◌≤◌, ◌<◌, ◌+◌, ◌*◌, ◌++◌, [], length, IfSome, option_copied};
+ghost use Rattle.std.specs.Prelude.{◌≡◌, ◌≤◌, ◌<◌, ◌+◌, ◌*◌, ◌++◌, ◌∷◌, [], length, replicate, IfSome, option_copied};
 ghost use Rattle.hex.specs.Hex.{encode_lower};
 ghost use Rattle.arrayvec.specs.ArrayVec.{array_vec_len};
 ghost use Rattle.generator.specs.Draws.{next, drawn};
@@ -38,6 +38,33 @@ fn put_hex(text: &mut Text, octets: &[u8])
         unreachable!()
     };
     put(text, part);
+}
+
+// The two digits of an octet.
+fn pair_of(octet: u8) -> [u8; 2]
+    ensures { result ≡ encode_lower (octet ∷ []) }
+{
+    let mut pair = [0u8; 2];
+    let Ok(()) = hex::encode_to_slice(&[octet], &mut pair) else {
+        unreachable!()
+    };
+    pair
+}
+
+// Adds the digits of so many same octets.
+fn put_same(text: &mut Text, octet: u8, count: usize)
+    requires few { count ≤ LONGEST }
+    requires room { array_vec_len text.old + 2 * count ≤ ROOM }
+    ensures items { text.new.items ≡ text.old.items ++ encode_lower (replicate count octet) }
+    ensures len { array_vec_len text.new ≡ array_vec_len text.old + 2 * count }
+{
+    let pair = pair_of(octet);
+    let mut digits = [0u8; 2 * LONGEST];
+    for i in 0..count {
+        digits[2 * i] = pair[0];
+        digits[2 * i + 1] = pair[1];
+    }
+    put(text, &digits[..2 * count]);
 }
 
 fn put_key(text: &mut Text, number: u32)
@@ -107,9 +134,8 @@ fn put_sdu(text: &mut Text, i: u32, draws: &mut Draws)
         return;
     };
     let size = 1 + draws.draw(1400) as usize;
-    let octets = [(i % 256) as u8; LONGEST];
     put(text, front);
-    put_hex(text, &octets[..size]);
+    put_same(text, (i % 256) as u8, size);
     put(text, b"\n");
 }
 

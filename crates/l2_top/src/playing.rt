@@ -112,7 +112,7 @@ fn make_room<K: Sink>(gathered: &mut GatherSink, lines: &Lines, out: &mut K) -> 
     if gathered.is_full() {
         return gathered.flush(out);
     }
-    if lines.has_line() {
+    if gathered.held().is_empty() || lines.has_line() {
         return Ok(());
     }
     gathered.flush(out)

@@ -5,7 +5,8 @@ ghost use Rattle.pdu_show.specs.Decoding.{Decodes, undecoded};
 
 use crate::entry::{Head, read_entry};
 use crate::kinds::Kinds;
-use crate::show::{Records, show_onto};
+use crate::show::{Records, show_with};
+use crate::spares::Spares;
 use air_text::{LineFault, Record, append_record};
 use l2_bits::{Bytes, NoMemory};
 use mac_pdu::Direction;
@@ -21,6 +22,7 @@ pub struct Decoder {
     // A line's block, and what is shown of it.
     octets: Bytes,
     records: Records,
+    spares: Spares,
 }
 
 impl Model for Decoder {
@@ -31,12 +33,17 @@ impl Model for Decoder {
     ghost view = { λ d. record { kinds = d.kinds; blocks = d.blocks } };
 }
 
-// Adds the texts of records, which are taken out of their list.
-fn append_records(text: &mut Bytes, records: &mut Records) -> Result<(), NoMemory>
+// Adds the texts of records, which are taken out of their list. Their memory is spare then.
+fn append_records(
+    text: &mut Bytes,
+    records: &mut Records,
+    spares: &mut Spares,
+) -> Result<(), NoMemory>
     ensures { OnOk result (text.new ≡ text.old ++ texts_of records.old) }
 {
     while let Some(one) = records.pop_front() {
         append_record(text, &one)?;
+        spares.keep(one);
     }
     Ok(())
 }
@@ -50,9 +57,9 @@ fn clear(records: &mut Records)
 
 // Adds the texts that a block is shown by.
 fn append_block(
-    alloc: Global,
     text: &mut Bytes,
     records: &mut Records,
+    spares: &mut Spares,
     number: u32,
     direction: Direction,
     kinds: &Kinds,
@@ -67,8 +74,8 @@ fn append_block(
         direction,
         len: block.len() as u32,
     })?;
-    show_onto(alloc, records, direction, kinds, block)?;
-    append_records(text, records)
+    show_with(spares, records, direction, kinds, block)?;
+    append_records(text, records, spares)
 }
 
 impl Decoder {
@@ -82,6 +89,7 @@ impl Decoder {
             blocks: 0,
             octets: Bytes::new(alloc),
             records: Records::new(alloc),
+            spares: Spares::new(alloc),
         }
     }
 
@@ -100,9 +108,9 @@ impl Decoder {
             Some(Head::Block(direction)) => {
                 let number = self.blocks.checked_add(1).ok_or(NoMemory)?;
                 append_block(
-                    self.alloc,
                     out,
                     &mut self.records,
+                    &mut self.spares,
                     number,
                     direction,
                     &self.kinds,

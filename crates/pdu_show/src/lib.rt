@@ -7,6 +7,7 @@ mod kinds;
 mod pdcp;
 mod rlc;
 mod show;
+mod spares;
 
 pub use decoder::Decoder;
 pub use entry::{Entry, read_record};

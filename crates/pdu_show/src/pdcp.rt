@@ -4,12 +4,12 @@ ghost use Rattle.pdcp_pdu.specs.Reading.{user_at, srb_at};
 ghost use Rattle.pdu_show.specs.Kinds.{IsPdcp};
 ghost use Rattle.pdu_show.specs.Show.{user_shown, srb_shown, pdcp_shown};
 
+use crate::spares::Spares;
 use air_text::Record;
-use l2_bits::{Bytes, NoMemory};
+use l2_bits::NoMemory;
 use pdcp_pdu::{PdcpKind, User, read_srb, read_user};
-use std::alloc::Global;
 
-fn user(alloc: Global, bits: u32, octets: &[u8]) -> Result<Record, NoMemory>
+fn user(spares: &mut Spares, bits: u32, octets: &[u8]) -> Result<Record, NoMemory>
     requires bits { IsUserBits bits }
     requires short { length octets.now < 2 ^ 28 }
     ensures { IfOk result (λ one. one ≡ user_shown (user_at bits octets.now)) }
@@ -21,7 +21,7 @@ fn user(alloc: Global, bits: u32, octets: &[u8]) -> Result<Record, NoMemory>
         }),
         Ok(User::Report { fms, bitmap }) => Ok(Record::PdcpReport {
             fms,
-            bitmap: Bytes::from_slice(alloc, bitmap)?,
+            bitmap: spares.bitmap(bitmap)?,
         }),
         Err(fault) => Ok(Record::BadPdcp { fault }),
     }
@@ -42,14 +42,14 @@ fn signalling(octets: &[u8]) -> Record
 }
 
 /// Shows a PDCP PDU of fewer than 2^28 octets.
-pub fn show_pdcp(alloc: Global, kind: PdcpKind, octets: &[u8]) -> Result<Record, NoMemory>
+pub fn show_pdcp(spares: &mut Spares, kind: PdcpKind, octets: &[u8]) -> Result<Record, NoMemory>
     requires kind { IsPdcp kind }
     requires short { length octets.now < 2 ^ 28 }
     ensures { IfOk result (λ one. one ≡ pdcp_shown kind octets.now) }
 {
     match kind {
         PdcpKind::Srb => Ok(signalling(octets)),
-        PdcpKind::Um { bits } => user(alloc, bits, octets),
-        PdcpKind::Am { bits } => user(alloc, bits, octets),
+        PdcpKind::Um { bits } => user(spares, bits, octets),
+        PdcpKind::Am { bits } => user(spares, bits, octets),
     }
 }

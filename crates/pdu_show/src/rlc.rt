@@ -8,18 +8,18 @@ ghost use Rattle.pdu_show.specs.Show.{whole, whole_by, one_where, listed, begins
 use crate::kinds::Layout;
 use crate::pdcp::show_pdcp;
 use crate::show::Records;
+use crate::spares::Spares;
 use air_text::{Lens, Record};
 use l2_bits::NoMemory;
 use pdcp_pdu::PdcpKind;
 use rlc_pdu::{AmPdu, Amd, Elements, NackReader, Nacks, RlcRefusal, RlcWhy, read_am, read_umd};
-use std::alloc::Global;
 
 // The lengths of elements.
-fn lens(alloc: Global, elements: Elements<'_>) -> Result<Lens, NoMemory>
+fn lens(spares: &mut Spares, elements: Elements<'_>) -> Result<Lens, NoMemory>
     ensures { IfOk result (λ lens. lens ≡ map length (elements_of elements.entry)) }
 {
     let mut elements = elements;
-    let mut lens = Lens::new(alloc);
+    let mut lens = spares.lens();
     while let Some(element) = elements.next() {
         lens.push(element.len() as u32)?;
     }
@@ -27,11 +27,11 @@ fn lens(alloc: Global, elements: Elements<'_>) -> Result<Lens, NoMemory>
 }
 
 // The entries of a STATUS.
-fn nacks(alloc: Global, entries: NackReader<'_>) -> Result<Nacks, NoMemory>
+fn nacks(spares: &mut Spares, entries: NackReader<'_>) -> Result<Nacks, NoMemory>
     ensures { IfOk result (λ nacks. nacks ≡ nacks_of entries.entry) }
 {
     let mut entries = entries;
-    let mut nacks = Nacks::new(alloc);
+    let mut nacks = spares.nacks();
     while let Some(nack) = entries.next() {
         nacks.push(nack)?;
     }
@@ -55,7 +55,7 @@ fn is_whole(first: bool, last: bool, next: Option<&[u8]>) -> bool
 
 // Shows an element where it is a whole SDU.
 fn show_one(
-    alloc: Global,
+    spares: &mut Spares,
     records: &mut Records,
     kind: PdcpKind,
     is_whole: bool,
@@ -66,14 +66,14 @@ fn show_one(
     ensures { OnOk result (records.new ≡ records.old ++ map (pdcp_shown kind) (one_where is_whole element.now)) }
 {
     if is_whole {
-        records.push(show_pdcp(alloc, kind, element)?)?;
+        records.push(show_pdcp(spares, kind, element)?)?;
     }
     Ok(())
 }
 
 // Shows the elements that are whole SDUs.
 fn show_wholes(
-    alloc: Global,
+    spares: &mut Spares,
     records: &mut Records,
     kind: PdcpKind,
     fi: u8,
@@ -88,7 +88,7 @@ fn show_wholes(
     let mut next = take(&mut elements);
     while let Some(element) = next {
         next = take(&mut elements);
-        show_one(alloc, records, kind, is_whole(first, last, next), element)?;
+        show_one(spares, records, kind, is_whole(first, last, next), element)?;
         first = true;
     }
     Ok(())
@@ -112,7 +112,7 @@ fn show_tm(octets: &[u8]) -> Record
 }
 
 fn show_um(
-    alloc: Global,
+    spares: &mut Spares,
     records: &mut Records,
     bits: u32,
     kind: PdcpKind,
@@ -128,16 +128,16 @@ fn show_um(
             records.push(Record::RlcUm {
                 sn: umd.sn,
                 fi: umd.fi,
-                lens: lens(alloc, umd.elements)?,
+                lens: lens(spares, umd.elements)?,
             })?;
-            show_wholes(alloc, records, kind, umd.fi, umd.elements)
+            show_wholes(spares, records, kind, umd.fi, umd.elements)
         }
         Err(fault) => records.push(Record::BadRlc { fault }),
     }
 }
 
 fn show_amd(
-    alloc: Global,
+    spares: &mut Spares,
     records: &mut Records,
     kind: PdcpKind,
     amd: Amd<'_>,
@@ -145,7 +145,7 @@ fn show_amd(
     requires { IsPdcp kind }
     ensures { OnOk result (records.new ≡ records.old ++ amd_shown kind (amd_of amd.entry) amd.entry.segment) }
 {
-    let lens = lens(alloc, amd.elements)?;
+    let lens = lens(spares, amd.elements)?;
     if let Some(segment) = amd.segment {
         return records.push(Record::RlcSeg {
             sn: amd.sn,
@@ -162,11 +162,11 @@ fn show_amd(
         fi: amd.fi,
         lens,
     })?;
-    show_wholes(alloc, records, kind, amd.fi, amd.elements)
+    show_wholes(spares, records, kind, amd.fi, amd.elements)
 }
 
 fn show_am(
-    alloc: Global,
+    spares: &mut Spares,
     records: &mut Records,
     kind: PdcpKind,
     octets: &[u8],
@@ -176,10 +176,10 @@ fn show_am(
     ensures { OnOk result (records.new ≡ records.old ++ am_shown kind (am_at octets.now)) }
 {
     match read_am(octets) {
-        Ok(AmPdu::Payload(amd)) => show_amd(alloc, records, kind, amd),
+        Ok(AmPdu::Payload(amd)) => show_amd(spares, records, kind, amd),
         Ok(AmPdu::Status(status)) => records.push(Record::RlcStatus {
             ack: status.ack,
-            nacks: nacks(alloc, status.nacks)?,
+            nacks: nacks(spares, status.nacks)?,
         }),
         Err(fault) => records.push(Record::BadRlc { fault }),
     }
@@ -188,7 +188,7 @@ fn show_am(
 /// Shows an RLC PDU of fewer than 2^28 octets by its layout, behind other records: nothing where no bearer is known.
 #[tactic(auto, unfolding(crate::specs::Show::rlc_shown))]
 pub fn show_rlc(
-    alloc: Global,
+    spares: &mut Spares,
     records: &mut Records,
     layout: Option<Layout>,
     octets: &[u8],
@@ -200,7 +200,7 @@ pub fn show_rlc(
     match layout {
         None => Ok(()),
         Some(Layout::Tm) => records.push(show_tm(octets)),
-        Some(Layout::Um { rlc_bits, pdcp }) => show_um(alloc, records, rlc_bits, pdcp, octets),
-        Some(Layout::Am { pdcp }) => show_am(alloc, records, pdcp, octets),
+        Some(Layout::Um { rlc_bits, pdcp }) => show_um(spares, records, rlc_bits, pdcp, octets),
+        Some(Layout::Am { pdcp }) => show_am(spares, records, pdcp, octets),
     }
 }

@@ -4,6 +4,7 @@ ghost use Rattle.pdu_show.specs.Show.{item_shown, items_shown, block_shown};
 
 use crate::kinds::Kinds;
 use crate::rlc::show_rlc;
+use crate::spares::Spares;
 use air_text::Record;
 use l2_bits::{Items, NoMemory};
 use mac_pdu::{Direction, Item, MacReader};
@@ -14,7 +15,7 @@ pub type Records = Items<Record>;
 
 #[tactic(auto, unfolding(crate::specs::Show::item_shown))]
 fn show_item(
-    alloc: Global,
+    spares: &mut Spares,
     records: &mut Records,
     kinds: &Kinds,
     item: Item<'_>,
@@ -30,7 +31,7 @@ fn show_item(
                 lcid,
                 len: octets.len() as u32,
             })?;
-            show_rlc(alloc, records, kinds.of(lcid), octets)
+            show_rlc(spares, records, kinds.of(lcid), octets)
         }
         Item::Padding(octets) => records.push(Record::MacPad { octets }),
     }
@@ -50,10 +51,24 @@ pub fn show_onto(
     requires { length block.now < 2 ^ 28 }
     ensures { OnOk result (records.new ≡ records.old ++ block_shown direction kinds.now block.now) }
 {
+    show_with(&mut Spares::new(alloc), records, direction, kinds, block)
+}
+
+/// Shows a block as `show_onto` does, with the memory that is spare.
+pub(crate) fn show_with(
+    spares: &mut Spares,
+    records: &mut Records,
+    direction: Direction,
+    kinds: &Kinds,
+    block: &[u8],
+) -> Result<(), NoMemory>
+    requires { length block.now < 2 ^ 28 }
+    ensures { OnOk result (records.new ≡ records.old ++ block_shown direction kinds.now block.now) }
+{
     match MacReader::parse(direction, block) {
         Ok(mut reader) => {
             while let Some(item) = reader.next() {
-                show_item(alloc, records, kinds, item)?;
+                show_item(spares, records, kinds, item)?;
             }
             Ok(())
         }

@@ -214,25 +214,31 @@ fn fills_gaps_from_overlaps(rt: HostRuntime) -> Result<(), NoMemory> {
     Ok(())
 }
 
+/// The numbers come, each with one octet and with a poll or none, and are kept.
+fn all_are_kept(rx: &mut AmRx, numbers: &[(u32, bool)]) -> Result<bool, NoMemory> {
+    for (sn, poll) in numbers {
+        if one_octet(rx, *sn, *poll)? != Landed::Kept {
+            return Ok(false);
+        }
+    }
+    Ok(true)
+}
+
 // A poll above VR(MS) makes a STATUS due once VR(MS) has passed its number, by an arrival or an expiry.
 #[test]
 fn remembers_polls_above_the_bound(rt: HostRuntime) -> Result<(), NoMemory> {
     let mut rx = AmRx::new(rt.alloc(), UNTIMED)?;
-    assert_eq!(rt; one_octet(&mut rx, 3, true)?, Landed::Kept);
-    assert_eq!(rt; one_octet(&mut rx, 1, false)?, Landed::Kept);
-    assert_eq!(rt; one_octet(&mut rx, 0, false)?, Landed::Kept);
+    assert!(rt; all_are_kept(&mut rx, &[(3, true), (1, false), (0, false)])?);
     assert!(rt; !rx.status_due() && rx.status_size() == 0);
-    assert_eq!(rt; one_octet(&mut rx, 2, false)?, Landed::Kept);
+    assert!(rt; all_are_kept(&mut rx, &[(2, false)])?);
     assert!(rt; reports(&mut rx, 20, b"\x00\x10")?);
-    assert_eq!(rt; one_octet(&mut rx, 7, true)?, Landed::Kept);
-    assert_eq!(rt; one_octet(&mut rx, 4, false)?, Landed::Kept);
+    assert!(rt; all_are_kept(&mut rx, &[(7, true), (4, false)])?);
     assert!(rt; !rx.status_due());
     assert_eq!(rt; rx.expire_reorder(), Expired::Done { again: false });
     assert!(rt; reports(&mut rx, 20, b"\x00\x22\x02\xc0\x30")?);
-    assert_eq!(rt; one_octet(&mut rx, 9, true)?, Landed::Kept);
-    assert_eq!(rt; one_octet(&mut rx, 6, false)?, Landed::Kept);
+    assert!(rt; all_are_kept(&mut rx, &[(9, true), (6, false)])?);
     assert!(rt; !rx.status_due());
-    assert_eq!(rt; one_octet(&mut rx, 8, false)?, Landed::Kept);
+    assert!(rt; all_are_kept(&mut rx, &[(8, false)])?);
     assert!(rt; reports(&mut rx, 20, b"\x00\x2a\x02\x80")?);
     Ok(())
 }

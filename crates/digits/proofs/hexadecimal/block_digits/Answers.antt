@@ -7,7 +7,7 @@ use Rattle.digits.proofs.hexadecimal.block_digits.Goals as goal
 
 pub loop-i-preserved : goal.loop-i-preserved
 loop-i-preserved c = record {
-  halves = halves-more c.args.block.now c.loop-i.digits c.loop-i.i c.requires c.loop-i.invariant.size (search rules) (omega arith) c.loop-i.invariant.halves;
+  halves = halves-more c.args.block.now c.all_halves-words.result c.loop-i.digits c.loop-i.i c.requires c.loop-i.invariant.size c.all_halves-words.ensures (search rules) (omega (arith, c.type_inv.block c.loop-i.i)) c.loop-i.invariant.halves;
   size = search rules;
 }
 

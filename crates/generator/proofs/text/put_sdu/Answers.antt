@@ -1,4 +1,4 @@
-use Rattle.std.proofs.Common.{◌≡◌, ◌+◌, ◌%◌, ◌≤◌, ◌∙◌, ◌++◌, ap, arith, List, ℕ, take, replicate}
+use Rattle.std.proofs.Common.{◌≡◌, ◌+◌, ◌%◌, ◌∙◌, ◌++◌, ap, List, ℕ, replicate}
 use Rattle.std.specs.Prelude.{codes, Option}
 use Rattle.hex.specs.Hex.{encode_lower}
 use Rattle.generator.specs.Draws.{drawn, next}
@@ -16,10 +16,9 @@ returns-clause-items c =
     let kind : c.draw.result ≡ drawn 8 (next x) = c.draw.ensures.drawn ∙ ap (drawn 8) c.draw.ensures.next in
     let is : size ≡ 1 + drawn 1400 (next behind) =
     ap (λ (n : ℕ). 1 + n) (c.draw-2.ensures.drawn ∙ ap (drawn 1400) c.draw-2.ensures.next) in
-    let fits : size ≤ 1400 = omega (arith, c.draw-2.ensures.less) in
     c.put-2.ensures.items
-    ∙ ap (λ (t : List ℕ). t ++ codes "\n") (c.put_hex.ensures.items
-    ∙ ap (λ (t : List ℕ). t ++ encode_lower (take size (replicate 1400 (i % 256)))) c.put.ensures.items)
-    ∙ sdu_made old c.in-Some.front.now i behind size 1400 is fits
+    ∙ ap (λ (t : List ℕ). t ++ codes "\n") (c.put_same.ensures.items
+    ∙ ap (λ (t : List ℕ). t ++ encode_lower (replicate size (i % 256))) c.put.ensures.items)
+    ∙ sdu_made old c.in-Some.front.now i behind size is
     ∙ ap (λ (front : Option (List ℕ)). old ++ sdu front i behind) (c.in-Some.ensures.front ∙ ap sdu_front kind)
     ∙ ap (λ (y : ℕ). old ++ sdu (sdu_front (drawn 8 (next x))) i y) c.draw.ensures.next
