@@ -222,7 +222,7 @@ finished_by field is w gone k f = record {
         (somes_append (stream field front) (take given (field front)) ∙ ap (λ (cs : List (Option Cell)). cs ++ somes (take given (field front))) (sym (before_front field come front below_front))
         ∙ ap (λ (cs : List (Option Cell)). map held (places field come front) ++ cs) lead)
 
-same_state : (calls : List Call) (f : Flow) (w : World) → f.state ≡ w.state → (flow calls f).state ≡ (run calls w).state
+pub same_state : (calls : List Call) (f : Flow) (w : World) → f.state ≡ w.state → (flow calls f).state ≡ (run calls w).state
 same_state [] f w e = e
 same_state (c ∷ cs) f w e = same_state cs (flows f c) (happens w c) (ap (λ (s : State). state_after s c) e)
 

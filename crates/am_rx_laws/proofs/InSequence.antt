@@ -264,7 +264,7 @@ number-sent field s p n sent below = elim (cases_lt n s.window.front) [
       subst (λ (m : ℕ). IsPart (field m) (piece_of p)) (sym number) sent.part
 ]
 
-kept-in : (s : State) (p : AmdPdu) → landed s p ≡ Fresh → ltb (offset_of s.window.front p.sn) 512 ≡ true
+pub kept-in : (s : State) (p : AmdPdu) → landed s p ≡ Fresh → ltb (offset_of s.window.front p.sn) 512 ≡ true
 kept-in s p e = go (leb 512 (offset_of s.window.front p.sn)) refl
   where
     go : (b : Bool) → leb 512 (offset_of s.window.front p.sn) ≡ b → ltb (offset_of s.window.front p.sn) 512 ≡ true

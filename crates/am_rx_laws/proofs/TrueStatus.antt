@@ -69,7 +69,7 @@ abbrev pub AllAre : ℕ → List Missing → Type 0
 AllAre n [] = Unit {0}
 AllAre n (m ∷ ms) = (m.number ≡ n) × AllAre n ms
 
-has_append : (xs ys : List Missing) (n : ℕ) → has_entry (xs ++ ys) n ≡ (has_entry xs n || has_entry ys n)
+pub has_append : (xs ys : List Missing) (n : ℕ) → has_entry (xs ++ ys) n ≡ (has_entry xs n || has_entry ys n)
 has_append [] ys n = refl
 has_append (x ∷ xs) ys n = ap (λ (b : Bool). (x.number == n) || b) (has_append xs ys n) ∙ sym (or_assoc (x.number == n) (has_entry xs n) (has_entry ys n))
   where
@@ -118,7 +118,7 @@ all_are n k (m ∷ ms) a h = go (m.number == k) refl (λ g. all_are n k ms a.1 g
     go false e rest h = rest h
 
 -- a number with an entry isn't complete
-entry_in : (slots : List Held) (front bound n : ℕ) → has_entry (missing_below slots front bound) n ≡ true → (front ≤ n) × (n < bound) × (is_complete (slot_at slots (n - front)) ≡ false)
+pub entry_in : (slots : List Held) (front bound n : ℕ) → has_entry (missing_below slots front bound) n ≡ true → (front ≤ n) × (n < bound) × (is_complete (slot_at slots (n - front)) ≡ false)
 entry_in [] front bound n h = cc
 entry_in (s ∷ ss) front bound n h = elim (cases_lt front bound) [
   | inr past ↦ let none : has_entry (missing_below (s ∷ ss) front bound) n ≡ false = rw (le-ltb front bound past) refl in let wrong : true ≡ false = sym h ∙ none in cc
@@ -405,7 +405,7 @@ true_by m size b well = record {
         go true full = subst (λ (k : ℕ). IsComplete m.world.kept k) (omega (arith, from)) (full-complete m.world.kept front slots b.keeps.agrees (n - front) full)
         go false part = absurd (none (entry_of slots front bound n well from below (omega (arith, below, b.order.bound)) part))
 
-go_world : (calls : List Call) (m : Marked) → (go calls m).world ≡ run calls m.world
+pub go_world : (calls : List Call) (m : Marked) → (go calls m).world ≡ run calls m.world
 go_world [] m = refl
 go_world (c ∷ cs) m = go_world cs (goes m c)
 

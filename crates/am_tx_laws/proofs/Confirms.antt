@@ -289,7 +289,7 @@ sent-acked turns.Small s size g = refl
 sent-acked turns.Shut s size g = refl
 sent-acked turns.Held s size g = refl
 
-after-acked : (s : State) (c : Call) (g : Confirmations) → (confirmations_after s c g).acked ≡ acked_after s c g.acked
+pub after-acked : (s : State) (c : Call) (g : Confirmations) → (confirmations_after s c g).acked ≡ acked_after s c g.acked
 after-acked s (Offer sdu) g = refl
 after-acked s (Take size held more) g = sent-acked (turn s size held more) s size g
 after-acked s (Status status) g = refl

@@ -76,7 +76,7 @@ cut-places c (suc n) (x ∷ []) some lt = absurd (omega arith)
 cut-places c (suc zero) (x ∷ y ∷ ys) some lt = refl
 cut-places c (suc (suc n)) (x ∷ y ∷ ys) some lt = ap (λ (ps : List Place). record { octet = x; begins = c; ends = false } ∷ ps) (cut-places false (suc n) (y ∷ ys) (omega arith) (omega arith))
 
-last-append : (ps qs : List Place) → 0 < length qs → last_ends (ps ++ qs) ≡ last_ends qs
+pub last-append : (ps qs : List Place) → 0 < length qs → last_ends (ps ++ qs) ≡ last_ends qs
 last-append [] qs some = refl
 last-append (p ∷ []) [] some = absurd (omega arith)
 last-append (p ∷ []) (q ∷ qs) some = refl
@@ -84,7 +84,7 @@ last-append (p ∷ r ∷ ps) qs some = last-append (r ∷ ps) qs some
 
 -- ---- the stream
 
-abbrev StartsNew : List Place → Type 0
+abbrev pub StartsNew : List Place → Type 0
 StartsNew [] = Unit {0}
 StartsNew (p ∷ ps) = p.begins ≡ true
 
@@ -95,7 +95,7 @@ places-joined c (x ∷ []) (p ∷ ps) s j = (sym s, j)
 places-joined c (x ∷ y ∷ []) ps s j = (refl, places-joined false (y ∷ []) ps s j)
 places-joined c (x ∷ y ∷ z ∷ zs) ps s j = (refl, places-joined false (y ∷ z ∷ zs) ps s j)
 
-stream-starts : (xs : List (List ℕ)) → HaveOctets xs → StartsNew (stream false xs)
+pub stream-starts : (xs : List (List ℕ)) → HaveOctets xs → StartsNew (stream false xs)
 stream-starts [] h = tt
 stream-starts ([] ∷ xs) h = absurd (let a = h.0 in omega arith)
 stream-starts ((x ∷ []) ∷ xs) h = refl

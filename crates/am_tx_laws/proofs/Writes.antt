@@ -7,6 +7,7 @@ use Rattle.std.proofs.lemmas.Bool.Decides.{nat_tests}
 use Rattle.std.proofs.lemmas.Bool.{cases_lt}
 use Rattle.std.proofs.lemmas.List.{length-map, take_at, drop_at, get_or_append_left, get_or_push}
 use Rattle.l2_num.specs.Timers.{runs}
+use Rattle.l2_types.specs.declared.config.AmTxConfig.{AmTxConfig}
 use Rattle.rlc_pdu.specs.declared.outcome.Taken.TheVariants as taken
 use Rattle.rlc_pdu.specs.declared.pdu.Nack.{Nack}
 use Rattle.rlc_pdu.specs.declared.pdu.Part.{Part}
@@ -45,19 +46,19 @@ use Rattle.am_tx_laws.proofs.Dealing.{IsTaken, stream, stream-end, stream-joined
 
 -- ---- a PDU by what it carries
 
-record IsFace (k : Key) (ps : List Place) : Type 0 where
-  field : k.field ≡ map (λ (p : Place). p.octet) ps
-  lens : k.lens ≡ lengths 0 ps
-  begins : k.begins ≡ first_begins ps
-  ends : k.ends ≡ last_ends ps
-  joined : Joined ps
-  written : AreLens k.lens
-  whole : sum k.lens ≡ length k.field
+pub record IsFace (k : Key) (ps : List Place) : Type 0 where
+  pub field : k.field ≡ map (λ (p : Place). p.octet) ps
+  pub lens : k.lens ≡ lengths 0 ps
+  pub begins : k.begins ≡ first_begins ps
+  pub ends : k.ends ≡ last_ends ps
+  pub joined : Joined ps
+  pub written : AreLens k.lens
+  pub whole : sum k.lens ≡ length k.field
 
-face-length : (k : Key) (ps : List Place) → IsFace k ps → length k.field ≡ length ps
+pub face-length : (k : Key) (ps : List Place) → IsFace k ps → length k.field ≡ length ps
 face-length k ps f = ap (λ (xs : List ℕ). length xs) f.field ∙ length-map ps (λ (p : Place). p.octet)
 
-face-some : (k : Key) (ps : List Place) → IsFace k ps → 0 < length ps
+pub face-some : (k : Key) (ps : List Place) → IsFace k ps → 0 < length ps
 face-some k ps f = let a = lens-some k.lens f.written in let b = f.whole in let c = face-length k ps f in omega (arith, a, b, c)
 
 same-written : (sn : ℕ) (poll b b' e e' : Bool) (segment : Option Segment) (ls ls' xs xs' : List ℕ) → b ≡ b' → e ≡ e' → ls ≡ ls' → xs ≡ xs'
@@ -242,12 +243,12 @@ less h ps size t waiting f sh lt le all part = by (t.to - t.from == length ps) r
 -- ---- any call
 
 -- what isn't sent is what waits, and what was sent with each number is what its PDU in the window has
-record Faces (s : State) (unsent : List Place) (sent : List (List Place)) : Type 0 where
-  unsent' : unsent ≡ stream s.queue.begun s.queue.sdus
-  octets : HaveOctets s.queue.sdus
-  idle : length s.queue.sdus ≡ 0 → s.queue.begun ≡ false
-  number : length sent ≡ next s.window
-  slots : (k : ℕ) → k < length s.window.slots → IsFace (key (slot_at s.window.slots k)) (slice_index_or sent (s.window.base + k) [])
+pub record Faces (s : State) (unsent : List Place) (sent : List (List Place)) : Type 0 where
+  pub unsent' : unsent ≡ stream s.queue.begun s.queue.sdus
+  pub octets : HaveOctets s.queue.sdus
+  pub idle : length s.queue.sdus ≡ 0 → s.queue.begun ≡ false
+  pub number : length sent ≡ next s.window
+  pub slots : (k : ℕ) → k < length s.window.slots → IsFace (key (slot_at s.window.slots k)) (slice_index_or sent (s.window.base + k) [])
 
 -- a step that leaves what waits and what PDUs carry alone
 same-faces : (s t : State) (u : List Place) (p : List (List Place)) → t.queue ≡ s.queue → t.window.base ≡ s.window.base → keys t.window.slots ≡ keys s.window.slots → Faces s u p → Faces t u p
@@ -288,10 +289,10 @@ new-front s size u p f = (ap (λ (ps : List Place). take (new_count s size) ps) 
 new-lens-are : (s : State) (size : ℕ) (u : List Place) (p : List (List Place)) → Faces s u p → (0 < length s.queue.sdus) × (3 ≤ size) → AreLens (new_slot s size).lens
 new-lens-are s size u p f able = new-lens 2 size s.queue.sdus f.octets able.0 (let a = able.1 in omega (arith, a))
 
-new-some : (s : State) (size : ℕ) (u : List Place) (p : List (List Place)) → Faces s u p → (0 < length s.queue.sdus) × (3 ≤ size) → 0 < new_count s size
+pub new-some : (s : State) (size : ℕ) (u : List Place) (p : List (List Place)) → Faces s u p → (0 < length s.queue.sdus) × (3 ≤ size) → 0 < new_count s size
 new-some s size u p f able = let a = lens-some (new_slot s size).lens (new-lens-are s size u p f able) in let b = whole (new_elements s size) in omega (arith, a, b)
 
-new-there : (s : State) (size : ℕ) (u : List Place) (p : List (List Place)) → Faces s u p → new_count s size ≤ length u
+pub new-there : (s : State) (size : ℕ) (u : List Place) (p : List (List Place)) → Faces s u p → new_count s size ≤ length u
 new-there s size u p f =
     let d = dealt size 0 0 s.queue.begun s.queue.sdus f.octets f.idle in
     let a = ap (λ (ps : List Place). length ps) (f.unsent' ∙ d.split) in
@@ -300,7 +301,7 @@ new-there s size u p f =
     let e = ap (λ (xs : List ℕ). length xs) d.octets in
     omega (arith, a, b, c, e)
 
-new-face : (s : State) (size : ℕ) (u : List Place) (p : List (List Place)) → Faces s u p → (0 < length s.queue.sdus) × (3 ≤ size) → IsFace (key (new_slot s size)) (take (new_count s size) u)
+pub new-face : (s : State) (size : ℕ) (u : List Place) (p : List (List Place)) → Faces s u p → (0 < length s.queue.sdus) × (3 ≤ size) → IsFace (key (new_slot s size)) (take (new_count s size) u)
 new-face s size u p f able = subst (λ (ps : List Place). IsFace (key (new_slot s size)) ps) (sym (new-front s size u p f).0) (record {
   field = sym d.octets;
   lens = sym d.lens;
@@ -335,7 +336,7 @@ new-faces s size u p f able = record {
   ];
 }
 
-new-able : (s : State) (size : ℕ) (held : Option ℕ) (more : Bool) → turn s size held more ≡ turns.New → (0 < length s.queue.sdus) × (3 ≤ size)
+pub new-able : (s : State) (size : ℕ) (held : Option ℕ) (more : Bool) → turn s size held more ≡ turns.New → (0 < length s.queue.sdus) × (3 ≤ size)
 unfolding turn
 new-able s size held more e = (grind (arith, common_steps, nat_tests), grind (arith, common_steps, nat_tests))
 
@@ -424,11 +425,11 @@ after-faces s (Expire more) o has f = expiry-faces (runs s.polls.timer) s more o
 after-faces s (Settle more) o has f = settled-faces (settles s more) s o.unsent o.sent f
 after-faces s Confirm o has f = same-faces s (after s Confirm) o.unsent o.sent refl refl refl f
 
-record Keeps (s : State) (o : Octets) : Type 0 where
-  faces : Faces s o.unsent o.sent
-  stands : Stands s o.marks
+pub record Keeps (s : State) (o : Octets) : Type 0 where
+  pub faces : Faces s o.unsent o.sent
+  pub stands : Stands s o.marks
 
-after-keeps : (s : State) (c : Call) (o : Octets) → HasOctets c → Keeps s o → Keeps (after s c) (octets_after s c o)
+pub after-keeps : (s : State) (c : Call) (o : Octets) → HasOctets c → Keeps s o → Keeps (after s c) (octets_after s c o)
 after-keeps s c o has k = record { faces = after-faces s c o has k.faces; stands = after-stands s c o.marks k.stands }
 
 -- ---- what `take` answers
@@ -440,7 +441,7 @@ all-of : (n : ℕ) → (n - 0 == n) ≡ true
 all-of n = grind (arith, nat_tests)
 
 -- all octets of a PDU
-again-whole : (o : Octets) (number : ℕ) (poll : Bool) → again_octets o number 0 (length (sent_with o number)) poll ≡ written number poll None (sent_with o number)
+pub again-whole : (o : Octets) (number : ℕ) (poll : Bool) → again_octets o number 0 (length (sent_with o number)) poll ≡ written number poll None (sent_with o number)
 again-whole o number poll =
     ap (λ (qs : List Place). written number poll (segment_of 0 (length (sent_with o number)) (length (sent_with o number))) qs) (range-all (sent_with o number) (length (sent_with o number)) refl)
     ∙ ap (λ (c : Bool). written number poll (if c then None else Some (record { last = length (sent_with o number) == length (sent_with o number); so = 0 })) (sent_with o number)) (all-of (length (sent_with o number)))
@@ -543,7 +544,7 @@ written-of turns.Small s size more o k new whole' part' short r = tt
 written-of turns.Shut s size more o k new whole' part' short r = tt
 written-of turns.Held s size more o k new whole' part' short r = tt
 
-run-keeps : (calls : List Call) (w : World Octets) → AllByRecursion HasOctets calls → Keeps w.state w.past → Keeps (run_all octets_after calls w).state (run_all octets_after calls w).past
+pub run-keeps : (calls : List Call) (w : World Octets) → AllByRecursion HasOctets calls → Keeps w.state w.past → Keeps (run_all octets_after calls w).state (run_all octets_after calls w).past
 run-keeps [] w h k = k
 run-keeps (c ∷ cs) w h k = run-keeps cs (record { state = after w.state c; past = octets_after w.state c w.past }) h.1 (after-keeps w.state c w.past h.0 k)
 
@@ -551,10 +552,13 @@ taking : (s : State) (size : ℕ) (held : Option ℕ) (more : Bool) (o : Octets)
 taking s size held more o k = written-of (turn s size held more) s size more o k (new-able s size held more) (λ e. ((whole-waits s size held more e).0, whole-fits s size held more e)) (is-part s size held more) (part-case s size held more)
     (resent-of (turn s size held more) s size o.marks k.stands (whole-waits s size held more) (is-part s size held more))
 
+pub start-keeps : (config : AmTxConfig) → Keeps (begun config nothing_sent).state (begun config nothing_sent).past
+start-keeps config = record {
+  faces = record { unsent' = refl; octets = tt; idle = λ e. refl; number = refl; slots = λ k lt. absurd (omega arith) };
+  stands = start-stands config;
+}
+
 pub writes : WritesTheStream
 writes config calls size held more h =
     taking (run_all octets_after calls (begun config nothing_sent)).state size held more (run_all octets_after calls (begun config nothing_sent)).past
-    (run-keeps calls (begun config nothing_sent) h (record {
-      faces = record { unsent' = refl; octets = tt; idle = λ e. refl; number = refl; slots = λ k lt. absurd (omega arith) };
-      stands = start-stands config;
-    }))
+    (run-keeps calls (begun config nothing_sent) h (start-keeps config))

@@ -12,3 +12,12 @@ pub mod Keyed
 pub mod Keeping
 pub mod Sendings
 pub mod Placing
+pub mod Ciphering
+pub mod Sequences
+pub mod Heard
+pub mod AmHeard
+pub mod InBlock
+pub mod Between
+pub mod Told
+pub mod SenderCalls
+pub mod ReceiverCalls

@@ -40,7 +40,7 @@ pub am_begins : (c : BearerConfig) (keys : Keys) (side : Side) → ends (flow_of
 unfolding fresh_am
 am_begins c keys side = refl
 
-srb_begins : (c : BearerConfig) (keys : Keys) (side : Side) → ends (flow_of kinds.Srb c keys side) ≡ Some (begun c.channel.lcid pdcp.Srb c.first keys side)
+pub srb_begins : (c : BearerConfig) (keys : Keys) (side : Side) → ends (flow_of kinds.Srb c keys side) ≡ Some (begun c.channel.lcid pdcp.Srb c.first keys side)
 unfolding fresh_am
 srb_begins c keys side = refl
 

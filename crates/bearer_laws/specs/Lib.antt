@@ -5,3 +5,7 @@ pub mod Texts
 pub mod Keeping
 pub mod Sending
 pub mod Places
+pub mod Ciphering
+pub mod Sequences
+pub mod Order
+pub mod Acknowledged

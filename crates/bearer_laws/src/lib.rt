@@ -1,7 +1,10 @@
 //! What a bearer promises over any calls and through lives. A law is the contract of a function that does nothing.
 #![tactic(auto)]
 
+ghost use Rattle.bearer_laws.specs.Acknowledged.{SenderGoesOn, ReceiverGoesOn, WritesWhatRlcGives, HearsAnew};
+ghost use Rattle.bearer_laws.specs.Ciphering.{CiphersAsItself, OneTextAKey};
 ghost use Rattle.bearer_laws.specs.Keeping.{RestartKeeps};
+ghost use Rattle.bearer_laws.specs.Order.{BearersTellInOrder};
 ghost use Rattle.bearer_laws.specs.Places.{InTheFirst, InTheOthers};
 ghost use Rattle.bearer_laws.specs.Queue.{LeavesInOrder, NamesByPlace};
 ghost use Rattle.bearer_laws.specs.Sending.{OffersTheStream, BeginsAnew};
@@ -20,6 +23,17 @@ pub fn offers_in_order()
 pub fn offers_the_stream()
     ensures stream { OffersTheStream }
     ensures anew { BeginsAnew }
+{}
+
+/// Each call of an acknowledged bearer is to RLC's sender and to its receiver what calls of their own are: PDCP's PDUs and a
+/// `take` as it writes, and a STATUS where one is due, the data PDU or the STATUS that arrives, and else only their timers, and
+/// what goes up and is confirmed. It writes the PDUs that these give; each life begins with a receiver that begins.
+#[tactic(auto, using(crate::proofs::SenderCalls::sender_goes_on, crate::proofs::ReceiverCalls::receiver_goes_on, crate::proofs::SenderCalls::writes_what_rlc_gives, crate::proofs::ReceiverCalls::hears_anew))]
+pub fn calls_both_ends_of_rlc()
+    ensures sender { SenderGoesOn }
+    ensures receiver { ReceiverGoesOn }
+    ensures writes { WritesWhatRlcGives }
+    ensures anew { HearsAnew }
 {}
 
 /// In each life of an acknowledged data bearer, what PDCP keeps at a place is of the PDU at that place of the stream. RLC's
@@ -60,4 +74,20 @@ pub fn one_text_a_count()
     ensures life { InALife }
     ensures lives { ThroughLives }
     ensures keys { UnderItsKeys }
+{}
+
+/// Through all lives, what a bearer ciphers goes under the keys of its lives, with its own BEARER and with the DIRECTION of its side.
+/// Where no two lives have the same key, no two texts meet under one key at one COUNT.
+#[tactic(auto, using(crate::proofs::Ciphering::ciphers_as_itself, crate::proofs::Ciphering::one_text_a_key))]
+pub fn ciphers_one_text_a_key()
+    ensures own { CiphersAsItself }
+    ensures key { OneTextAKey }
+{}
+
+/// What a bearer tells in each of its calls stands in one order, and names its channel: in a new block a STATUS and the start of
+/// prohibit, the status report and the SDUs that RLC takes, and one data PDU and the start of poll, or why there is none; of a PDU
+/// that comes why it is dropped, or what it does to a timer and then what becomes of each SDU; an expiry, what it starts or that the
+/// limit is reached, and what becomes of each SDU; as a TTI begins poll, reorder, prohibit and the discards.
+pub fn tells_in_its_order()
+    ensures { BearersTellInOrder }
 {}

@@ -102,18 +102,18 @@ timer_if : (b : Bool) (side : Side) (clock : Clock) (lcid : ℕ) (l : Link) → 
 timer_if true side clock lcid l = expires_rests side lcid clock l
 timer_if false side clock lcid l = unseen_rests l l refl
 
-timer_rests : (side : Side) (clock : Clock) (lcid : ℕ) (l : Link) → Rests l (timer_expires side clock lcid l)
+pub timer_rests : (side : Side) (clock : Clock) (lcid : ℕ) (l : Link) → Rests l (timer_expires side clock lcid l)
 unfolding timer_expires
 timer_rests side clock lcid l = timer_if (has lcid (end_of side l).bearers) side clock lcid l
 
-all_receivers_rest : (side : Side) (lcids : List ℕ) (l : Link) → Rests l (all_receivers_expire side lcids l)
+pub all_receivers_rest : (side : Side) (lcids : List ℕ) (l : Link) → Rests l (all_receivers_expire side lcids l)
 all_receivers_rest side [] l = unseen_rests l l refl
 all_receivers_rest side (lcid ∷ lcids) l =
     let m = timer_expires side Reorder lcid l in
     let n = receiver_expires side lcid l in
     rests_then l n (all_receivers_expire side lcids n) (rests_then l m n (timer_rests side Reorder lcid l) (timer_rests side Prohibit lcid m)) (all_receivers_rest side lcids n)
 
-all_senders_rest : (side : Side) (lcids : List ℕ) (l : Link) → Rests l (all_senders_expire side lcids l)
+pub all_senders_rest : (side : Side) (lcids : List ℕ) (l : Link) → Rests l (all_senders_expire side lcids l)
 all_senders_rest side [] l = unseen_rests l l refl
 all_senders_rest side (lcid ∷ lcids) l =
     let m = timer_expires side Poll lcid l in

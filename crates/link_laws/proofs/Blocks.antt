@@ -121,7 +121,7 @@ block_is t grant order e eight new =
     ap (λ (v : Visit). block_at t (built_by v t grant (visited t order e))) new
     ∙ holds_loaded (after_visit e.sender t order) t (new_block (visited t order e) grant) (still_eight e.sender t order eight)
 
-is_told : (side : Side) (maximum : ℕ) (reports : Bool) (calls : List EndCall) → AreGiven calls → (t grant : ℕ) (order : Order) → grant ≤ 9422 → 1 ≤ grant → visit t order (reached side maximum reports calls) ≡ New
+unfoldable pub is_told : (side : Side) (maximum : ℕ) (reports : Bool) (calls : List EndCall) → AreGiven calls → (t grant : ℕ) (order : Order) → grant ≤ 9422 → 1 ≤ grant → visit t order (reached side maximum reports calls) ≡ New
     → IsTold side grant (filter is_of_writing (building t grant order (reached side maximum reports calls))) (new_block (visited t order (reached side maximum reports calls)) grant)
 is_told side maximum reports calls g t grant order within some new =
     let e = reached side maximum reports calls in

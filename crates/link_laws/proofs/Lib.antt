@@ -21,3 +21,7 @@ pub mod Others
 pub mod Bringing
 pub mod Stilling
 pub mod Arriving
+pub mod Channels
+pub mod Orders
+pub mod Ordering
+pub mod Standing

@@ -71,7 +71,7 @@ untold v side t grant order e is silent =
 -- ---- a block goes out
 
 -- the records of a block that is sent, and what is told of it as a new one
-abbrev sent : Visit → Side → ℕ → List (Option Layout) → List ℕ → List Record
+abbrev pub sent : Visit → Side → ℕ → List (Option Layout) → List ℕ → List Record
 sent New side t kinds octets = block_told side t kinds octets
 sent (Resend rv) side t kinds octets = records.Block (sent_by side) (t % 8) false rv octets ∷ []
 sent Quiet side t kinds octets = []
@@ -99,7 +99,7 @@ sends_seen (Resend rv) side t octets l = refl
 sends_seen Quiet side t octets l = ap (λ (x : List Record). record { nb = l.nb; ue = l.ue; out = x; kinds = l.kinds }) (sym (append-nil l.out))
 
 -- the records of a visit, what they tell of its end and of the other, and of a new block
-abbrev visit_records : Visit → Side → ℕ → ℕ → Order → List (Option Layout) → List ℕ → End → List Record
+abbrev pub visit_records : Visit → Side → ℕ → ℕ → Order → List (Option Layout) → List ℕ → End → List Record
 visit_records v side t grant order kinds octets e = map (records.Of side) (building t grant order e) ++ sent v side t kinds octets
 
 visit_own : (v : Visit) (side : Side) (t grant : ℕ) (order : Order) (kinds : List (Option Layout)) (octets : List ℕ) (e : End) → told_by side (visit_records v side t grant order kinds octets e) ≡ building t grant order e
@@ -134,17 +134,17 @@ sees_seen t true l = first_if (slice_index_or l.seen (t % 8) false) t l
 sees_seen t false l = first_if (slice_index_or l.seen (t % 8) false) t l
 
 -- what comes to the terminal's receiver
-abbrev came : Fate → ℕ → Bool → End → End
+abbrev pub came : Fate → ℕ → Bool → End → End
 came Miss t ndi e = e
 came Ok t ndi e = after_call e (Assigned t ndi true)
 came Bad t ndi e = after_call e (Assigned t ndi false)
 
-came_by : (f : Fate) (told : List Record) (t : ℕ) (ndi : Bool) (e : End) → told_by Ue told ≡ [] → KeepsOn Ue told e (came f t ndi e)
+pub came_by : (f : Fate) (told : List Record) (t : ℕ) (ndi : Bool) (e : End) → told_by Ue told ≡ [] → KeepsOn Ue told e (came f t ndi e)
 came_by Miss told t ndi e none = by_same Ue told e e refl none
 came_by Ok told t ndi e none = by_one Ue told (Assigned t ndi true) e (after_call e (Assigned t ndi true)) tt refl refl none
 came_by Bad told t ndi e none = by_one Ue told (Assigned t ndi false) e (after_call e (Assigned t ndi false)) tt refl refl none
 
-comes_seen : (f : Fate) (t : ℕ) (ndi : Bool) (l : Link) → seen (comes f t ndi l) ≡ record { nb = l.nb; ue = came f t ndi l.ue; out = l.out; kinds = l.kinds }
+pub comes_seen : (f : Fate) (t : ℕ) (ndi : Bool) (l : Link) → seen (comes f t ndi l) ≡ record { nb = l.nb; ue = came f t ndi l.ue; out = l.out; kinds = l.kinds }
 comes_seen Miss t ndi l = refl
 comes_seen Ok t ndi l = sees_seen t true (record l { ue = record l.ue { receiver = after_assigned l.ue.receiver t ndi true } })
 comes_seen Bad t ndi l = sees_seen t false (record l { ue = record l.ue { receiver = after_assigned l.ue.receiver t ndi false } })
@@ -155,11 +155,11 @@ hears_by_rests Again octets l = unseen_rests l l refl
 hears_by_rests Damaged octets l = unseen_rests l l refl
 hears_by_rests Nothing octets l = unseen_rests l l refl
 
-builds_down : (t grant : ℕ) (order : Order) (l : Link) → seen (builds Nb t grant order l) ≡ behind l (built t grant order l.nb) l.ue (map (records.Of Nb) (building t grant order l.nb))
+pub builds_down : (t grant : ℕ) (order : Order) (l : Link) → seen (builds Nb t grant order l) ≡ behind l (built t grant order l.nb) l.ue (map (records.Of Nb) (building t grant order l.nb))
 builds_down t grant order l = told_seen Nb (building t grant order l.nb) (with_end Nb (built t grant order l.nb) l)
 
 -- as the block goes out
-sent_down : (v : Visit) (t grant : ℕ) (order : Order) (octets : List ℕ) (l : Link)
+pub sent_down : (v : Visit) (t grant : ℕ) (order : Order) (octets : List ℕ) (l : Link)
     → seen (sends v Nb t octets (unseen v t (builds Nb t grant order l))) ≡ behind l (built t grant order l.nb) l.ue (visit_records v Nb t grant order l.kinds octets l.nb)
 sent_down v t grant order octets l =
     let m = builds Nb t grant order l in
@@ -236,10 +236,10 @@ hears_if_rests : (good : Bool) (octets : List ℕ) (l : Link) → Rests l (hears
 hears_if_rests true octets l = hears_rests Nb octets l
 hears_if_rests false octets l = unseen_rests l l refl
 
-builds_up : (t grant : ℕ) (order : Order) (l : Link) → seen (builds Ue t grant order l) ≡ behind l l.nb (built t grant order l.ue) (map (records.Of Ue) (building t grant order l.ue))
+pub builds_up : (t grant : ℕ) (order : Order) (l : Link) → seen (builds Ue t grant order l) ≡ behind l l.nb (built t grant order l.ue) (map (records.Of Ue) (building t grant order l.ue))
 builds_up t grant order l = told_seen Ue (building t grant order l.ue) (with_end Ue (built t grant order l.ue) l)
 
-sent_up : (v : Visit) (t grant : ℕ) (order : Order) (octets : List ℕ) (l : Link)
+pub sent_up : (v : Visit) (t grant : ℕ) (order : Order) (octets : List ℕ) (l : Link)
     → seen (sends v Ue t octets (awake v t (builds Ue t grant order l))) ≡ behind l l.nb (built t grant order l.ue) (visit_records v Ue t grant order l.kinds octets l.ue)
 sent_up v t grant order octets l =
     let m = builds Ue t grant order l in

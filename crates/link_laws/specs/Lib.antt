@@ -9,3 +9,4 @@ pub mod Deeds
 pub mod Told
 pub mod Runs
 pub mod Zero
+pub mod Order

@@ -6,6 +6,7 @@ ghost use Rattle.link_laws.specs.Deeds.{CallsLeaveProcesses};
 ghost use Rattle.link_laws.specs.Blocks.{BlocksAreTold};
 ghost use Rattle.link_laws.specs.Ends.{CallsGoOn, DrainsGoOn, SubmissionsGoOn, TtisGoOn};
 ghost use Rattle.link_laws.specs.Loops.{CallsLoopBack, DrainsLoopBack, FirstIsAtRest, SubmissionsLoopBack, TtisLoopBack};
+ghost use Rattle.link_laws.specs.Order.{CallsTellInOrder, DrainsTellInOrder, SubmissionsTellInOrder, TtisTellInOrder};
 ghost use Rattle.link_laws.specs.Shown.{BlocksAreShown};
 ghost use Rattle.link_laws.specs.Runs.{RunsAreCounted};
 ghost use Rattle.link_laws.specs.Told.{CallsAreTold, DrainsAreTold, SubmissionsAreTold, TtisAreTold};
@@ -61,13 +62,15 @@ pub fn ends_go_on_by_calls()
 
 /// What an end that has come so far by any calls tells as it builds a block is what the block has: it has the grant's size, and
 /// is read as padding, at most one report, the PDUs that are told of as sent, in that order, and padding. Each PDU is the one that
-/// is told: by the mode of its channel it is read as a PDU of that kind and number, and is its canonical writing.
+/// is told: by the mode of its channel it is read as a PDU of that kind and number, and is its canonical writing; and so is each
+/// SDU that is whole in it, as a PDU of PDCP.
 pub fn blocks_are_told()
     ensures { BlocksAreTold }
 {}
 
 /// Where each bearer of the end is known as what it is, the records behind its new block show the PDUs that are told of as sent, in
-/// that order: of each its channel, its kind and its number.
+/// that order: of each its channel, its kind, its number and its other fields, and, where it is no segment, the SDUs that are whole
+/// in it, in their order, by the fields of their PDUs of PDCP. None of these records tells of what can't be read.
 pub fn blocks_are_shown()
     ensures { BlocksAreShown }
 {}
@@ -104,4 +107,19 @@ pub fn blocks_bring_what_goes_up()
     ensures submissions { SubmissionsBring }
     ensures ttis { TtisBring }
     ensures drains { DrainsBring }
+{}
+
+/// Each call of a link whose ends have come so far by any calls adds its records in one order, and nothing else. A TTI adds its
+/// number, whether the terminal sleeps, what the timers of the base station tell and then those of the terminal, what the test loop
+/// owes, the downlink, what the loop returns of it, and the uplink. In each direction a new block stands behind what its end tells as
+/// it builds it, and what shows it stands behind it; then comes what became of the block, and where it is got, what the other end
+/// tells of it. In a drain timers expire channel by channel, the base station's first. What expires or is forged, and a handover, in
+/// which the base station leaves first, stand before what the loop returns of them. Each end tells in its own order: of a new block
+/// by the priority of the channels, of one that comes PDU by PDU, of timers and in a handover by ascending LCID.
+#[tactic(auto, using(crate::proofs::Standing::calls_tell, crate::proofs::Standing::submissions_tell, crate::proofs::Standing::ttis_tell, crate::proofs::Standing::drains_tell))]
+pub fn records_stand_in_order()
+    ensures calls { CallsTellInOrder }
+    ensures submissions { SubmissionsTellInOrder }
+    ensures ttis { TtisTellInOrder }
+    ensures drains { DrainsTellInOrder }
 {}

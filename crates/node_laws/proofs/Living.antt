@@ -77,7 +77,7 @@ run_side : (cs : List Call) (e : End) → (run cs e).side ≡ e.side
 run_side [] e = refl
 run_side (c ∷ cs) e = run_side cs (after e c) ∙ call_side e c
 
-reached_side : (side : Side) (maximum : ℕ) (reports : Bool) (calls : List Call) → (reached side maximum reports calls).side ≡ side
+pub reached_side : (side : Side) (maximum : ℕ) (reports : Bool) (calls : List Call) → (reached side maximum reports calls).side ≡ side
 unfolding fresh
 reached_side side maximum reports calls = run_side calls (fresh side maximum reports)
 
@@ -132,7 +132,7 @@ find_last lcid (c ∷ cs) = elim (find_last lcid cs) [
 
 -- ---- a bearer comes, and lives on
 
-added : (e : End) (config : BearerConfig) (keys : Keys) → Stands config.channel.lcid (after e (Add config keys)).bearers (flow_of config.kind config keys e.side)
+pub added : (e : End) (config : BearerConfig) (keys : Keys) → Stands config.channel.lcid (after e (Add config keys)).bearers (flow_of config.kind config keys e.side)
 unfolding with_bearer begun
 added e config keys = insert_stands (of config.channel.lcid (alive (flow_of config.kind config keys e.side))) e.bearers
 

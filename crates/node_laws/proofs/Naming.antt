@@ -30,6 +30,7 @@ use Rattle.pdcp_pdu.specs.declared.PdcpKind.{PdcpKind}
 use Rattle.pdcp_pdu.specs.declared.PdcpKind.TheVariants as pdcp
 use Rattle.pdcp_pdu.specs.declared.PdcpRefusal.{PdcpRefusal}
 use Rattle.pdcp_pdu.specs.Pdus.{UserPdu, Sdu as DataSdu, Report}
+use Rattle.pdcp_pdu.specs.Kinds.{IsKind}
 use Rattle.pdcp_pdu.specs.Reading.{user_at}
 use Rattle.pdcp_tx.specs.State.{Offer, offers, taking}
 use Rattle.pdcp_tx.specs.declared.sender.Next.{Next}
@@ -52,17 +53,18 @@ use Rattle.rlc_pdu.specs.Writing.{umd_canonical}
 use Rattle.node_laws.specs.Blocks.{pdus_by, sdus_by, all_sdus}
 use Rattle.node_laws.specs.Calls.{Call, AreGiven, reached}
 use Rattle.node_laws.specs.Holding.{flow}
-use Rattle.node_laws.specs.Names.{Sent, sends, IsUmd, Mode, mode, IsNamed, AreNamed, modes_of}
+use Rattle.node_laws.specs.Names.{Sent, sends, IsPdcp, IsUmd, Mode, mode, IsNamed, AreNamed, modes_of}
 use Rattle.node_laws.specs.Sharing.{share, held}
 use Rattle.node_laws.specs.Waiting.{told_by, all_told}
 use Rattle.node_laws.specs.Writing.{sent_on}
 use Rattle.node_laws.proofs.AmWithin.{able}
 use Rattle.node_laws.proofs.Keeping.{AllAre, at_is, visiting_are}
-use Rattle.node_laws.proofs.Offers.{Owes}
+use Rattle.node_laws.proofs.Offers.{Offers}
 use Rattle.node_laws.proofs.Owning.{IsOwn, own_kept}
+use Rattle.node_laws.proofs.Pieces.{AreWhole}
 use Rattle.node_laws.proofs.Places.{found}
 use Rattle.node_laws.proofs.Reading.{um_reads, whole_reads, part_reads, report_reads, at_spelled}
-use Rattle.node_laws.proofs.Ready.{UmReady, AmReady, CanSend, WritesWell, ready_kept, um_fed_ready, am_fed_can}
+use Rattle.node_laws.proofs.Ready.{UmReady, AmReady, CanSend, WritesWell, ready_kept, um_fed_ready, am_fed_can, new_sdus}
 use Rattle.node_laws.proofs.Receiving.{AreShort}
 use Rattle.node_laws.proofs.Telling.{tells_in_order}
 use Rattle.node_laws.proofs.Within.{IsAbleUm, able as able_um}
@@ -158,21 +160,21 @@ head_fits : (s : UmSender) (size : ℕ) → IsAbleUm s size → head_of s.bits <
 head_fits s size a = omega (arith, a.fits)
 
 um_data_named : (t : UmTurn) (s : UmSender) (size lcid : ℕ) (b : UmBearer) (more : Bool) (why : Waits) → (t ≡ Gives → IsAbleUm s size) → s.bits ≡ b.bits → IsUmBits b.bits → HaveOctets s.waiting.sdus
-    → AreOf lcid (Um b) (sends (um_data_told lcid b.bits more why (um_answer_of t s size))) (pdus_of (um_answer_of t s size))
-um_data_named Gives s size lcid b more why a e i h =
+    → AreWhole (IsPdcp b.pdcp.kind) s.waiting.begun s.waiting.sdus → AreOf lcid (Um b) (sends (um_data_told lcid b.bits more why (um_answer_of t s size))) (pdus_of (um_answer_of t s size))
+um_data_named Gives s size lcid b more why a e i h q =
     let able' = a refl in
-    (refl, subst (λ (n : ℕ). IsUmd n (s.next % 2 ^ n) (umd_canonical s.bits (pdu_of s size))) e (um_reads s size (subst (λ (n : ℕ). IsUmBits n) (sym e) i) h able'.some (head_fits s size able')), tt)
-um_data_named IsIdle s size lcid b more why a e i h = of_none lcid (Um b) _ (none_if more (events.Wait lcid why) refl)
-um_data_named IsHeld s size lcid b more why a e i h = tt
-um_data_named IsSmall s size lcid b more why a e i h = tt
+    (refl, subst (λ (n : ℕ). IsUmd b.pdcp.kind n (s.next % 2 ^ n) (umd_canonical s.bits (pdu_of s size))) e (um_reads b.pdcp.kind s size (subst (λ (n : ℕ). IsUmBits n) (sym e) i) h q able'.some (head_fits s size able')), tt)
+um_data_named IsIdle s size lcid b more why a e i h q = of_none lcid (Um b) _ (none_if more (events.Wait lcid why) refl)
+um_data_named IsHeld s size lcid b more why a e i h q = tt
+um_data_named IsSmall s size lcid b more why a e i h q = tt
 
-um_named : (b : UmBearer) (size : ℕ) (held' : Option ℕ) → Owes b.pdcp → UmReady b → AreOf b.pdcp.lcid (Um b) (sends (um_taking b size held')) (pdus_of (um_answer b size held'))
+um_named : (b : UmBearer) (size : ℕ) (held' : Option ℕ) → IsKind b.pdcp.kind → Offers b.pdcp.kind b.pdcp → UmReady b.pdcp.kind b → AreOf b.pdcp.lcid (Um b) (sends (um_taking b size held')) (pdus_of (um_answer b size held'))
 unfolding um_taking um_answer um_taken
-um_named b size held' o r =
+um_named b size held' known o r =
     let begin : Feeding = record { pdcp = b.pdcp; tx = b.tx; events = [] } in
     let f = um_feeding b size held' in
     let k = um_all_feed (offers b.pdcp.tx) (size_in size) held' begin in
-    let fed = um_fed_ready b size held' o in
+    let fed = um_fed_ready b.pdcp.kind b size held' known o in
     let t = um_turn f.tx (size_in size) held' in
     let more = um_has_more f.pdcp in
     let why = why_idle f.tx held' in
@@ -182,7 +184,7 @@ um_named b size held' o r =
     ∙ ap (λ (l : List Sent). l ++ sends (um_data_told f.pdcp.lcid b.bits more why given)) k.sent_is
     ∙ ap (λ (l : ℕ). sends (um_data_told l b.bits more why given)) k.lcid_is in
     subst (λ (ss : List Sent). AreOf b.pdcp.lcid (Um b) ss (pdus_of given)) (sym is)
-    (um_data_named t f.tx (size_in size) b.pdcp.lcid b more why (able_um f.tx (size_in size) held') (fed.bits ∙ r.same) r.bits (fed.octets r.octets))
+    (um_data_named t f.tx (size_in size) b.pdcp.lcid b more why (able_um f.tx (size_in size) held') (fed.bits ∙ r.same) r.bits (fed.octets r.octets) (fed.queue r.queue))
 
 -- ---- an acknowledged bearer
 
@@ -208,22 +210,22 @@ am_all_work (o ∷ os) size held' w = works_if (hungry w.tx size held') w (am_fe
 there : (s : AmSender) → waits s ≡ true → leading_idle s.window.slots < length s.window.slots
 there s e = grind (arith, nat_tests)
 
-am_data_named : (t : Turn) (s : AmSender) (size lcid : ℕ) (more : Bool) (b : AmBearer) → IsAble s size t → CanSend s
+am_data_named : (t : Turn) (s : AmSender) (size lcid : ℕ) (more : Bool) (b : AmBearer) → IsAble s size t → CanSend b.pdcp.kind s
     → AreOf lcid (Am b) (sends (am_data_told lcid (am_answer_of t s size more))) (pdus_of (am_answer_of t s size more))
 unfolding am_answer_of
 am_data_named turns.Whole s size lcid more b a c =
     let poll = is_wanted (sent_whole s) more in
-    let spelled = at_spelled s.window.slots (first_place s) (there s a.0) c.slots in
+    let spelled = at_spelled b.pdcp.kind s.window.slots (first_place s) (there s a.0) c.slots in
     of_one lcid (Am b) (record { lcid = lcid; how = how.Re; sn = number_again s % 1024 }) (sends (poll_told lcid poll)) (whole_octets (again s) (number_again s) poll) (none_if poll (events.Start lcid Poll) refl) refl
-    (whole_reads true (again s) (number_again s) poll spelled.lens spelled.whole)
+    (whole_reads b.pdcp.kind true (again s) (number_again s) poll spelled.lens spelled.whole spelled.sdus)
 am_data_named turns.Part s size lcid more b a c =
     let poll = is_wanted (sent_segment s size) more in
     of_one lcid (Am b) (record { lcid = lcid; how = how.Re; sn = number_again s % 1024 }) (sends (poll_told lcid poll)) (part_octets (again s) (number_again s) poll (next_stretch (again s) size)) (none_if poll (events.Start lcid Poll) refl) refl
-    (part_reads (again s) (number_again s) size poll (first-waits s.window.slots (there s a.0)) (at_spelled s.window.slots (first_place s) (there s a.0) c.slots) a.1)
+    (part_reads b.pdcp.kind (again s) (number_again s) size poll (first-waits s.window.slots (there s a.0)) (at_spelled b.pdcp.kind s.window.slots (first_place s) (there s a.0) c.slots) a.1)
 am_data_named turns.New s size lcid more b a c =
     let poll = is_wanted (sent_new s size) more in
     of_one lcid (Am b) (record { lcid = lcid; how = how.New; sn = next s.window % 1024 }) (sends (poll_told lcid poll)) (whole_octets (new_slot s size) (next s.window) poll) (none_if poll (events.Start lcid Poll) refl) refl
-    (whole_reads false (new_slot s size) (next s.window) poll (new-lens 2 size s.queue.sdus c.octets a.0 (omega (arith, a.1))) (whole (new_elements s size)))
+    (whole_reads b.pdcp.kind false (new_slot s size) (next s.window) poll (new-lens 2 size s.queue.sdus c.octets a.0 (omega (arith, a.1))) (whole (new_elements s size)) (new_sdus b.pdcp.kind s size a.0 a.1 c))
 am_data_named turns.Idle s size lcid more b a c = tt
 am_data_named turns.Stopped s size lcid more b a c = tt
 am_data_named turns.Small s size lcid more b a c = tt
@@ -237,9 +239,9 @@ status_by true b size a =
     (report_reads b.rx (size - 3) (ack b.rx (size - 3)) a)
 status_by false b size a = tt
 
-am_named : (b : AmBearer) (size : ℕ) (held' : Option ℕ) → Owes b.pdcp → AmReady b → AreOf b.pdcp.lcid (Am b) (sends (am_taking b size held')) (am_pdus b size held')
+am_named : (b : AmBearer) (size : ℕ) (held' : Option ℕ) → IsKind b.pdcp.kind → Offers b.pdcp.kind b.pdcp → AmReady b.pdcp.kind b → AreOf b.pdcp.lcid (Am b) (sends (am_taking b size held')) (am_pdus b size held')
 unfolding am_taking am_pdus am_answer
-am_named b size held' o r =
+am_named b size held' known o r =
     let lcid = b.pdcp.lcid in
     let status = status_told lcid (has_prohibit b) b.rx size in
     let room = data_size b size in
@@ -255,7 +257,7 @@ am_named b size held' o r =
     subst (λ (ss : List Sent). AreOf lcid (Am b) ss (status_pdus b.rx size ++ pdus_of given)) (sym is)
     (of_then lcid (Am b) (sends status) (sends (am_data_told lcid given)) (status_pdus b.rx size) (pdus_of given)
     (status_by (writes_status b.rx size) b size r.cells)
-    (am_data_named t w.tx room lcid more b (able w.tx room held' more) (am_fed_can b size held' o r.can)))
+    (am_data_named t w.tx room lcid more b (able w.tx room held' more) (am_fed_can b.pdcp.kind b size held' known o r.can)))
 
 -- ---- a bearer of any kind
 
@@ -269,9 +271,13 @@ tm_named lcid b n size (sdu ∷ more) h = tm_by (nat_lt size (length sdu)) lcid 
 
 flow_named : (lcid : ℕ) (f : Flow) (size : ℕ) (held' : Option ℕ) → IsOwn lcid f → WritesWell lcid f → AreOf lcid f (sends (told lcid f size held')) (pdus f size held')
 unfolding told pdus tm_taken
-flow_named lcid (Tm b) size held' own w = tm_named lcid b b.next (size - 3) b.waiting w.1
-flow_named lcid (Um b) size held' own w = subst (λ (l : ℕ). AreOf l (Um b) (sends (um_taking b size held')) (pdus_of (um_answer b size held'))) own (um_named b size held' w.0 w.1)
-flow_named lcid (Am b) size held' own w = subst (λ (l : ℕ). AreOf l (Am b) (sends (am_taking b size held')) (am_pdus b size held')) own (am_named b size held' w.0 w.1)
+flow_named lcid (Tm b) size held' own w = tm_named lcid b b.next (size - 3) b.waiting w.ready
+flow_named lcid (Um b) size held' own w =
+    let r = subst (λ (k : PdcpKind). IsKind k × Offers k b.pdcp × UmReady k b) (sym w.offers'.kind_is) (w.known, w.offers', w.ready) in
+    subst (λ (l : ℕ). AreOf l (Um b) (sends (um_taking b size held')) (pdus_of (um_answer b size held'))) own (um_named b size held' r.0 r.1 r.2)
+flow_named lcid (Am b) size held' own w =
+    let r = subst (λ (k : PdcpKind). IsKind k × Offers k b.pdcp × AmReady k b) (sym w.offers'.kind_is) (w.known, w.offers', w.ready) in
+    subst (λ (l : ℕ). AreOf l (Am b) (sends (am_taking b size held')) (am_pdus b size held')) own (am_named b size held' r.0 r.1 r.2)
 
 -- ---- a block
 

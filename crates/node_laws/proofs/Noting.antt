@@ -105,7 +105,7 @@ row_by true e grant l h s =
     rw h (all_row e.sender e.numbers (shares e grant) cs (work e.bearers (nothing_written e.side)) l (sound_apart cs s.channels.within s.channels.distinct) refl (nothing_at 11 l) h)
 row_by false e grant l h s = rw h (others_row e.sender e.numbers (shares e grant) e.buckets.channels (work e.bearers (nothing_written e.side)) l h ∙ nothing_at 11 l)
 
-row_is : (e : End) (grant l : ℕ) → IsSound e.buckets → get_or (written e grant).block.numbers l None ≡ given_by e grant l
+pub row_is : (e : End) (grant l : ℕ) → IsSound e.buckets → get_or (written e grant).block.numbers l None ≡ given_by e grant l
 row_is e grant l s = row_by (has_channel l e.buckets.channels) e grant l refl s
 
 -- ---- through any calls

@@ -50,7 +50,7 @@ tells_own lcid = record {
   ticked = λ e p. p;
   taken = λ e p. p;
   confirms = λ e place p. p;
-  submits = λ e octets p. p;
+  submits = λ e octets r p. p;
   discards = λ e ttis p. p;
   restarts = λ e keys p. p;
 }

@@ -1,11 +1,11 @@
 -- What each step of PDCP keeps, each call of a bearer keeps of its PDCP.
-use Rattle.std.proofs.Common.{ℕ, nat_lt, Bool, true, false, if◌then◌else◌, Option, Some, Result, Ok, Err, List, [], ◌∷◌, ◌++◌, length}
+use Rattle.std.proofs.Common.{◌≡◌, ℕ, nat_lt, Bool, true, false, if◌then◌else◌, Option, Some, Result, Ok, Err, List, [], ◌∷◌, ◌++◌, length, None}
 use Rattle.bearer.specs.Bearer.{flow_of}
 use Rattle.bearer.specs.declared.flow.Flow.{Flow}
 use Rattle.bearer.specs.declared.flow.Flow.TheVariants.{Tm, Um, Am}
 use Rattle.bearer.specs.Hearing.{arrived as flow_arrived, expired as flow_expired, ticked as flow_ticked, with_discard}
 use Rattle.bearer.specs.Lives.{stopped, restarted}
-use Rattle.bearer.specs.Submitting.{submitted as flow_submitted}
+use Rattle.bearer.specs.Submitting.{refusal as flow_refusal, submitted as flow_submitted}
 use Rattle.bearer.specs.Taking.{after as flow_after}
 use Rattle.bearer_am.specs.Hearing.{settled_if, heard_work, hears as am_hears, hears_all as am_hears_all, status_work, confirms, all_confirmed, arrived_left as am_arrived_left, after_arrival as am_after_arrival}
 use Rattle.bearer_am.specs.Lives.{Ending, hears_last, ends_with, stopped as am_stopped, restarted as am_restarted}
@@ -35,7 +35,7 @@ use Rattle.pdcp_pdu.specs.declared.pdu.PdcpKind.{PdcpKind}
 use Rattle.pdcp_pdu.specs.Kinds.{is_am}
 use Rattle.pdcp_rx.specs.declared.Cause.{Cause}
 use Rattle.pdcp_rx.specs.declared.Cause.TheVariants.{Arrived, Reestablished}
-use Rattle.pdcp_tx.specs.State.{Offer, offers, submitted as pdcp_submitted, confirmed}
+use Rattle.pdcp_tx.specs.State.{Offer, offers, refusal as pdcp_refusal, submitted as pdcp_submitted, confirmed}
 use Rattle.rlc_am_rx.specs.Machine.{arrived as rx_arrived, finished, landed, turned}
 use Rattle.rlc_am_tx.specs.declared.answers.Heard.{Heard as HeardStatus}
 use Rattle.rlc_am_tx.specs.declared.answers.Heard.TheVariants as heard_as
@@ -56,7 +56,7 @@ pub record Passes (P : Ends → Type 0) : Type 0 where
   pub ticked : (e : Ends) → P e → P (after_tick e)
   pub taken : (e : Ends) → P e → P (after_pdcp e)
   pub confirms : (e : Ends) (place : ℕ) → P e → P (record e { tx = confirmed e.tx place })
-  pub submits : (e : Ends) (octets : List ℕ) → P e → P (record e { tx = pdcp_submitted e.tx octets })
+  pub submits : (e : Ends) (octets : List ℕ) → pdcp_refusal e.tx octets ≡ None → P e → P (record e { tx = pdcp_submitted e.tx octets })
   pub discards : (e : Ends) (ttis : ℕ) → P e → P (record e { tx = record e.tx { discard = Some ttis } })
   pub restarts : (e : Ends) (keys : Keys) → P e → P (restarted_pdcp e keys)
 
@@ -182,43 +182,43 @@ am_feeding P k (o ∷ os) size held w p = am_feeds_if P (hungry w.tx size held) 
 
 -- ---- a bearer of any kind
 
-arrives : (P : Ends → Type 0) (k : Passes P) (f : Flow) (pdu : List ℕ) → OfPdcp P f → OfPdcp P (flow_arrived f pdu)
+pub arrives : (P : Ends → Type 0) (k : Passes P) (f : Flow) (pdu : List ℕ) → OfPdcp P f → OfPdcp P (flow_arrived f pdu)
 unfolding flow_arrived um_after_arrival am_after_arrival
 arrives P k (Tm b) pdu p = p
 arrives P k (Um b) pdu p = um_arrives P k (umd_at b.bits pdu) b p
 arrives P k (Am b) pdu p = am_arrives P k (am_at pdu) b p
 
-expires : (P : Ends → Type 0) (k : Passes P) (f : Flow) (clock : Clock) → OfPdcp P f → OfPdcp P (flow_expired f clock)
+pub expires : (P : Ends → Type 0) (k : Passes P) (f : Flow) (clock : Clock) → OfPdcp P f → OfPdcp P (flow_expired f clock)
 unfolding flow_expired
 expires P k (Tm b) clock p = p
 expires P k (Um b) clock p = um_expires P k clock b p
 expires P k (Am b) clock p = am_expires P clock b p
 
-ticks_of : (P : Ends → Type 0) (k : Passes P) (f : Flow) → OfPdcp P f → OfPdcp P (flow_ticked f)
+pub ticks_of : (P : Ends → Type 0) (k : Passes P) (f : Flow) → OfPdcp P f → OfPdcp P (flow_ticked f)
 unfolding flow_ticked after_ticking
 ticks_of P k (Tm b) p = p
 ticks_of P k (Um b) p = let t = ends b.rx.clock in k.ticked (timed_left t (counted_down b)).pdcp (um_timed P k t (counted_down b) p)
 ticks_of P k (Am b) p = am_ticked_of P k b p
 
-submits_of : (P : Ends → Type 0) (k : Passes P) (f : Flow) (octets : List ℕ) → OfPdcp P f → OfPdcp P (flow_submitted f octets)
-unfolding flow_submitted
-submits_of P k (Tm b) octets p = p
-submits_of P k (Um b) octets p = k.submits b.pdcp octets p
-submits_of P k (Am b) octets p = k.submits b.pdcp octets p
+pub submits_of : (P : Ends → Type 0) (k : Passes P) (f : Flow) (octets : List ℕ) → flow_refusal f octets ≡ None → OfPdcp P f → OfPdcp P (flow_submitted f octets)
+unfolding flow_submitted flow_refusal
+submits_of P k (Tm b) octets r p = p
+submits_of P k (Um b) octets r p = k.submits b.pdcp octets r p
+submits_of P k (Am b) octets r p = k.submits b.pdcp octets r p
 
-discards_of : (P : Ends → Type 0) (k : Passes P) (f : Flow) (ttis : ℕ) → OfPdcp P f → OfPdcp P (with_discard f ttis)
+pub discards_of : (P : Ends → Type 0) (k : Passes P) (f : Flow) (ttis : ℕ) → OfPdcp P f → OfPdcp P (with_discard f ttis)
 unfolding with_discard
 discards_of P k (Tm b) ttis p = p
 discards_of P k (Um b) ttis p = k.discards b.pdcp ttis p
 discards_of P k (Am b) ttis p = k.discards b.pdcp ttis p
 
-takes_of : (P : Ends → Type 0) (k : Passes P) (f : Flow) (share : ℕ) (held : Option ℕ) → OfPdcp P f → OfPdcp P (flow_after f share held)
+pub takes_of : (P : Ends → Type 0) (k : Passes P) (f : Flow) (share : ℕ) (held : Option ℕ) → OfPdcp P f → OfPdcp P (flow_after f share held)
 unfolding flow_after um_after_taking am_after_taking
 takes_of P k (Tm b) share held p = p
 takes_of P k (Um b) share held p = um_feeding P k (offers b.pdcp.tx) (size_in share) held (record { pdcp = b.pdcp; tx = b.tx; events = [] }) p
 takes_of P k (Am b) share held p = am_feeding P k (offers b.pdcp.tx) (data_size b share) held (work b.pdcp b.tx (status_told b.pdcp.lcid (has_prohibit b) b.rx share)) p
 
-moves_of : (P : Ends → Type 0) (k : Passes P) (f : Flow) (keys : Keys) → OfPdcp P f → OfPdcp P (restarted (stopped f) keys)
+pub moves_of : (P : Ends → Type 0) (k : Passes P) (f : Flow) (keys : Keys) → OfPdcp P f → OfPdcp P (restarted (stopped f) keys)
 unfolding restarted stopped um_restarted um_stopped am_restarted am_stopped
 moves_of P k (Tm b) keys p = p
 moves_of P k (Um b) keys p = k.restarts (um_stopped b).pdcp keys (um_hear P k (all_joined b.rx) Reestablished (record { pdcp = b.pdcp; events = [] }) p)
@@ -237,7 +237,7 @@ pub pdcp_kept : (P : ℕ → Ends → Type 0) → ((lcid : ℕ) → Passes (P lc
 pdcp_kept P k b = record {
   idle = tt;
   begins = λ c keys side g. begins_of P b c.kind c keys side;
-  submits = λ lcid f octets r p. submits_of (P lcid) (k lcid) f octets p;
+  submits = λ lcid f octets r p. submits_of (P lcid) (k lcid) f octets r p;
   discards = λ lcid f ttis p. discards_of (P lcid) (k lcid) f ttis p;
   takes = λ lcid f share held most p. takes_of (P lcid) (k lcid) f share held p;
   arrives = λ lcid f pdu p. arrives (P lcid) (k lcid) f pdu p;

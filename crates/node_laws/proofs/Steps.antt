@@ -43,7 +43,7 @@ taken_more : (f : Flow) (xs ys : List Step) → all_taken f (xs ++ ys) ≡ all_t
 taken_more f [] ys = refl
 taken_more f (x ∷ xs) ys = ap (λ (os : List Offer). takes_in f x ++ os) (taken_more (goes f x) xs ys) ∙ sym (append_assoc (takes_in f x) (all_taken (goes f x) xs) (all_taken (go xs (goes f x)) ys))
 
-then_takes : (f g h : Flow) (ks ls : List Keys) (ns ms : List ℕ) → Takes f g ks ns → Takes g h ls ms → Takes f h (ks ++ ls) (ns ++ ms)
+pub then_takes : (f g h : Flow) (ks ls : List Keys) (ns ms : List ℕ) → Takes f g ks ns → Takes g h ls ms → Takes f h (ks ++ ls) (ns ++ ms)
 then_takes f g h ks ls ns ms a b = record {
   steps = a.steps ++ b.steps;
   flow_is = b.flow_is ∙ ap (go b.steps) a.flow_is ∙ sym (run_more f a.steps b.steps);
@@ -117,15 +117,15 @@ quiet l at bs c none = record { here = λ h q. sym (ap counts (none (flow_at l b
 
 -- ---- all go on into another life
 
-restarted_find : (l : ℕ) (bs : List (Of Life)) (keys : Keys) → find l (all_restarted (all_stopped bs) keys) ≡ find l bs
+pub restarted_find : (l : ℕ) (bs : List (Of Life)) (keys : Keys) → find l (all_restarted (all_stopped bs) keys) ≡ find l bs
 restarted_find l [] keys = refl
 restarted_find l (b ∷ bs) keys = ap (λ (n : ℕ). if b.lcid == l then 0 else n + 1) (restarted_find l bs keys)
 
-restarted_length : (bs : List (Of Life)) (keys : Keys) → length (all_restarted (all_stopped bs) keys) ≡ length bs
+pub restarted_length : (bs : List (Of Life)) (keys : Keys) → length (all_restarted (all_stopped bs) keys) ≡ length bs
 restarted_length [] keys = refl
 restarted_length (b ∷ bs) keys = ap suc (restarted_length bs keys)
 
-restarted_at : (bs : List (Of Life)) (keys : Keys) (at : ℕ) → at < length bs → (bearer_at (all_restarted (all_stopped bs) keys) at).state.flow ≡ restarted (stopped (bearer_at bs at).state.flow) keys
+pub restarted_at : (bs : List (Of Life)) (keys : Keys) (at : ℕ) → at < length bs → (bearer_at (all_restarted (all_stopped bs) keys) at).state.flow ≡ restarted (stopped (bearer_at bs at).state.flow) keys
 restarted_at [] keys at lt = absurd (omega arith)
 restarted_at (b ∷ bs) keys zero lt = refl
 restarted_at (b ∷ bs) keys (suc at) lt = restarted_at bs keys at (omega arith)

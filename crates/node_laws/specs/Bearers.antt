@@ -3,7 +3,8 @@ use Rattle.std.specs.Prelude.{◌≡◌, ℕ, ◌==◌, if◌then◌else◌, Boo
 use Rattle.std.specs.List.{AllByRecursion}
 use Rattle.bearer.specs.Bearer.{flow_of}
 use Rattle.bearer.specs.declared.flow.Flow.{Flow}
-use Rattle.bearer_laws.specs.Calls.{Step, Calls, Restart, run as go}
+use Rattle.bearer_laws.specs.Calls.{Step, run as go}
+pub use Rattle.bearer_laws.specs.Ciphering.{restarts}
 use Rattle.bearer_laws.specs.Stream.{all_taken, counts}
 use Rattle.bearer_types.specs.declared.config.BearerConfig.{BearerConfig}
 use Rattle.bearer_types.specs.declared.event.Event.{Event}
@@ -27,7 +28,7 @@ abbrev pub counts_on : ℕ → List Event → List ℕ
 counts_on lcid [] = []
 counts_on lcid (event ∷ events) = count_on lcid event ++ counts_on lcid events
 
--- ---- the lives of bearers: under which keys one begins in a call of the end, and in a step of a bearer
+-- ---- the lives of bearers: under which keys one begins in a call of the end
 
 abbrev pub keys_in : Call → List Keys
 keys_in (Move keys) = keys ∷ []
@@ -36,11 +37,6 @@ keys_in _ = []
 abbrev pub moves : List Call → List Keys
 moves [] = []
 moves (c ∷ cs) = keys_in c ++ moves cs
-
-abbrev pub restarts : List Step → List Keys
-restarts [] = []
-restarts (Calls c ∷ steps) = restarts steps
-restarts (Restart keys ∷ steps) = keys ∷ restarts steps
 
 -- a bearer has come by steps of its own to what it is, while an end was called: a life began in each move and under its keys, and
 -- SDUs were taken with these COUNTs

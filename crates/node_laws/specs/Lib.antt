@@ -11,3 +11,4 @@ pub mod Holding
 pub mod Bearers
 pub mod Counts
 pub mod Names
+pub mod Order

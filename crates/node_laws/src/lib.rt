@@ -7,6 +7,7 @@ ghost use Rattle.node_laws.specs.Counts.{CountsAscend};
 ghost use Rattle.node_laws.specs.Holding.{HoldsNoOldNumber};
 ghost use Rattle.node_laws.specs.Loops.{TellsNoLoop};
 ghost use Rattle.node_laws.specs.Names.{NamesWhatItSends};
+ghost use Rattle.node_laws.specs.Order.{EndsStandInOrder, TellsInItsOrder};
 ghost use Rattle.node_laws.specs.Processes.{ResendsWhatWasBuilt};
 ghost use Rattle.node_laws.specs.Sharing.{SharesAreWithinTheGrant};
 ghost use Rattle.node_laws.specs.Waiting.{TellsInOrder, TellsWhyItWaits};
@@ -59,7 +60,9 @@ pub fn writes_only_as_it_builds()
 
 /// The PDUs that are told of as sent while a block is built are those in it: as many on each channel, and in that order. Each is
 /// the one that is told: a transparent one, a UMD PDU, a new AMD PDU, one that is sent again or a segment of it, or a STATUS, with
-/// that number, in the canonical writing, and the reader of its kind reads it so.
+/// that number, in the canonical writing, and the reader of its kind reads it so. Each SDU that is whole in a UMD or AMD PDU, or in
+/// a segment, is a PDU of PDCP of the bearer's kind in the canonical writing, and is read so: a data PDU, on a signalling bearer
+/// with its MAC-I, or on an acknowledged data bearer a status report.
 pub fn tells_what_it_sends()
     ensures channels { TellsWhatItSends }
     ensures names { NamesWhatItSends }
@@ -82,4 +85,12 @@ pub fn counts_ascend()
 #[tactic(auto, using(crate::proofs::Looping::tells_no_loop))]
 pub fn tells_no_loop()
     ensures { TellsNoLoop }
+{}
+
+/// In each of its calls an end tells bearer by bearer, and each bearer in its own order: of a new block in the order of the
+/// channels, of a block that comes PDU by PDU, as a TTI begins and as the end leaves its cell by LCID. The channels stand by
+/// priority number and then LCID.
+pub fn tells_in_its_order()
+    ensures calls { TellsInItsOrder }
+    ensures places { EndsStandInOrder }
 {}

@@ -19,15 +19,15 @@ use Rattle.pdcp_laws.proofs.Thinning.{named, names, In, thin_in, lower, higher, 
 
 -- ---- order
 
-abbrev end_of : Bool → ℕ → ℕ
+abbrev pub end_of : Bool → ℕ → ℕ
 end_of b next = if b then next else 0
 
 -- the COUNTs of a state, below an end
-abbrev Holds : State → ℕ → Type 0
+abbrev pub Holds : State → ℕ → Type 0
 Holds s end = In 0 (of s.given.entries s.again) end
 
 -- what a step has to keep
-abbrev Stays : State → Type 0
+abbrev pub Stays : State → Type 0
 Stays s = Holds s (end_of (is_am s.kind) s.next)
 
 new_in : (s : State) (ws : List Waits) (b : Bool) → is_am s.kind ≡ b → s.again ≡ [] → Holds s (end_of b s.next) → Stays (took_new ws s)
@@ -67,7 +67,7 @@ restarted_in : (s : State) (keys : Keys) → Stays s → Stays (restarted s keys
 unfolding restarted
 restarted_in s keys h = rw (next_end s.kind s.next) (thin_in 0 (names (kept_again s)) (of s.given.entries s.again) (end_of (is_am s.kind) s.next) (again_thin s) h)
 
-goes_in : (s : State) (x : Step) → Stays s → Stays (goes s x)
+pub goes_in : (s : State) (x : Step) → Stays s → Stays (goes s x)
 unfolding submitted took confirmed reported after_late
 goes_in s (Calls (Submit sdu)) h = h
 goes_in s (Calls Take) h = took_in s s.owed h
@@ -94,7 +94,7 @@ behind : (low : ℕ) (ss rest : List Sent) (end : ℕ) → In low (names (ss ++ 
 behind low [] rest end h = h
 behind low (n ∷ ns) rest end h = lower low (n.count + 1) (names rest) end (omega (arith, h.0)) (behind (n.count + 1) ns rest end h.1)
 
-counts_of_names : (ss : List Sent) → map (λ x. x.count) (names ss) ≡ map (λ x. x.count) ss
+pub counts_of_names : (ss : List Sent) → map (λ x. x.count) (names ss) ≡ map (λ x. x.count) ss
 counts_of_names [] = refl
 counts_of_names (s ∷ ss) = ap (λ (l : List ℕ). s.count ∷ l) (counts_of_names ss)
 
@@ -103,7 +103,7 @@ orders s h =
     subst (λ l. AreBetween 0 l s.next) (counts_of_names s.again)
     (behind 0 (data_of s.given.entries) s.again s.next (higher 0 (of s.given.entries s.again) (end_of (is_am s.kind) s.next) s.next (few (is_am s.kind) s.next) h))
 
-begins : (kind : PdcpKind) (p : Protection) (first : ℕ) → Stays (start kind p first)
+pub begins : (kind : PdcpKind) (p : Protection) (first : ℕ) → Stays (start kind p first)
 unfolding start
 begins kind p first = omega arith
 

@@ -18,34 +18,34 @@ use Rattle.pdcp_laws.proofs.Lives.{again_thin}
 use Rattle.pdcp_laws.proofs.Lists.{thinner, all_left}
 use Rattle.pdcp_laws.proofs.Thinning.{Named, named, names, of, of_again, of_new, of_own, trims, of_acked, hears}
 
-get_more : {A : Type 0} (xs ys : List A) (k : ℕ) (x : A) → slice_get xs k ≡ Some x → slice_get (xs ++ ys) k ≡ Some x
+pub get_more : {A : Type 0} (xs ys : List A) (k : ℕ) (x : A) → slice_get xs k ≡ Some x → slice_get (xs ++ ys) k ≡ Some x
 get_more [] ys k x e = let no : None ≡ Some x = e in cc
 get_more (y ∷ xs) ys zero x e = e
 get_more (y ∷ xs) ys (suc k) x e = get_more xs ys k x e
 
-get_behind : {A : Type 0} (xs : List A) (k : ℕ) (x : A) → k ≡ length xs → slice_get (xs ++ x ∷ []) k ≡ Some x
+pub get_behind : {A : Type 0} (xs : List A) (k : ℕ) (x : A) → k ≡ length xs → slice_get (xs ++ x ∷ []) k ≡ Some x
 get_behind [] zero x e = refl
 get_behind [] (suc k) x e = absurd (omega (arith, e))
 get_behind (y ∷ xs) zero x e = absurd (omega (arith, e))
 get_behind (y ∷ xs) (suc k) x e = get_behind xs k x (omega (arith, e))
 
-more : (first : ℕ) (h g : List (List ℕ)) (count : ℕ) (sdu : List ℕ) → Names first h count sdu → Names first (h ++ g) count sdu
+pub more : (first : ℕ) (h g : List (List ℕ)) (count : ℕ) (sdu : List ℕ) → Names first h count sdu → Names first (h ++ g) count sdu
 more first h g count sdu n = (n.0, get_more h g (count - first) sdu n.1)
 
-abbrev Is : ℕ → List (List ℕ) → Named → Type 0
+abbrev pub Is : ℕ → List (List ℕ) → Named → Type 0
 Is first h x = Names first h x.count x.sdu
 
-abbrev IsCiphered : ℕ → List (List ℕ) → Ciphering → Type 0
+abbrev pub IsCiphered : ℕ → List (List ℕ) → Ciphering → Type 0
 IsCiphered first h c = Names first h c.count c.sdu
 
 -- the SDUs that were taken so far, and what each COUNT of them names
-record Kept (first : ℕ) (h : List (List ℕ)) (s : State) : Type 0 where
-  am : is_am s.kind ≡ true
-  next : first + length h ≡ s.next
-  each : All (Is first h) (of s.given.entries s.again)
+pub record Kept (first : ℕ) (h : List (List ℕ)) (s : State) : Type 0 where
+  pub am : is_am s.kind ≡ true
+  pub next : first + length h ≡ s.next
+  pub each : All (Is first h) (of s.given.entries s.again)
 
 -- what a step has to keep, and to name
-abbrev Goes : ℕ → List (List ℕ) → List (List ℕ) → State → List Ciphering → Type 0
+abbrev pub Goes : ℕ → List (List ℕ) → List (List ℕ) → State → List Ciphering → Type 0
 Goes first h g s cs = Kept first (h ++ g) s × AreNamed first (h ++ g) cs
 
 none_named : (first : ℕ) (h : List (List ℕ)) → AreNamed first h []
@@ -57,7 +57,7 @@ one_named first h c n = All-cons (IsCiphered first h) c [] n (none_named first h
 nothing_new : (first : ℕ) (h : List (List ℕ)) (s : State) (cs : List Ciphering) → Kept first h s → AreNamed first h cs → Goes first h [] s cs
 nothing_new first h s cs k n = rw (append-nil h) (k, n)
 
-each_behind : (P : Named → Type 0) (ss : List Sent) (x : Sent) (xs : List Sent) → All P (names (ss ++ x ∷ xs)) → P (named x)
+pub each_behind : (P : Named → Type 0) (ss : List Sent) (x : Sent) (xs : List Sent) → All P (names (ss ++ x ∷ xs)) → P (named x)
 each_behind P [] x xs h = All-head P (named x) (names xs) h
 each_behind P (s ∷ ss) x xs h = each_behind P ss x xs (All-tail P (named s) (names (ss ++ x ∷ xs)) h)
 
@@ -125,7 +125,7 @@ restart_goes first h s keys k = record {
   each = all_left (Is first h) (names (kept_again s)) (of s.given.entries s.again) (again_thin s) k.each;
 }
 
-step : (first : ℕ) (h : List (List ℕ)) (s : State) (x : Step) → Kept first h s → Goes first h (takes_first s x) (goes s x) (ciphers s x)
+pub step : (first : ℕ) (h : List (List ℕ)) (s : State) (x : Step) → Kept first h s → Goes first h (takes_first s x) (goes s x) (ciphers s x)
 unfolding submitted took reported after_late offers
 step first h s (Calls (Submit sdu)) k = nothing_new first h (submitted s sdu) [] (record { am = k.am; next = k.next; each = k.each }) (none_named first h)
 step first h s (Calls Take) k = owed_goes first h s s.owed k
@@ -147,7 +147,7 @@ all_named first h s (x ∷ xs) k =
     (All-weaker (IsCiphered first (h ++ takes_first s x)) (IsCiphered first whole) (λ c n. more first (h ++ takes_first s x) (first_taken (goes s x) xs) c.count c.sdu n) (ciphers s x) here.1)
     (all_named first (h ++ takes_first s x) (goes s x) xs here.0))
 
-begins : (kind : PdcpKind) (p : Protection) (first : ℕ) → is_am kind ≡ true → Kept first [] (start kind p first)
+pub begins : (kind : PdcpKind) (p : Protection) (first : ℕ) → is_am kind ≡ true → Kept first [] (start kind p first)
 unfolding start
 begins kind p first am = record { am = am; next = omega arith; each = All-nil (Is first []) }
 

@@ -58,7 +58,7 @@ none_by true side lcid one told is none rest = absurd cc
 none_by false side lcid one told is none rest =
     counts_then lcid (event_of side one) (told_by side told) ∙ ap (λ (ns : List ℕ). ns ++ counts_taken side lcid told) (one_none side lcid one is) ∙ rest none
 
-none_taken : (side : Side) (lcid : ℕ) (told : List Record) → filter is_of_building told ≡ [] → counts_taken side lcid told ≡ []
+pub none_taken : (side : Side) (lcid : ℕ) (told : List Record) → filter is_of_building told ≡ [] → counts_taken side lcid told ≡ []
 none_taken side lcid [] none = refl
 none_taken side lcid (one ∷ told) none = none_by (is_of_building one) side lcid one told refl none (none_taken side lcid told)
 
@@ -79,7 +79,7 @@ begins_unbuilt lcid (lines.Bearer config options) t kinds told e none = none
 begins_unbuilt lcid (lines.Handover user rrc integrity) t kinds told e none = none
 begins_unbuilt lcid line t kinds told e none = absurd cc
 
-same_lcid : (a b : ℕ) → (a == b) ≡ true → a ≡ b
+pub same_lcid : (a b : ℕ) → (a == b) ≡ true → a ≡ b
 same_lcid a b e = grind (arith, nat_tests)
 
 absent_at : (side : Side) (lcid : ℕ) (l : Link) → is_taken lcid l ≡ false → has lcid (end_of side l).bearers ≡ false

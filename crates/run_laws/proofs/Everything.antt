@@ -9,6 +9,8 @@ use Rattle.run_laws.proofs.Past.{behind}
 use Rattle.run_laws.proofs.Processes.{are_carried}
 use Rattle.run_laws.proofs.Playing.{tells-all}
 use Rattle.run_laws.proofs.Reaching.{come_by_calls}
+use Rattle.run_laws.proofs.Texts.{none_meet}
+use Rattle.run_laws.proofs.Standing.{lines_tell}
 use Rattle.run_laws.proofs.Zero.{bring_in_order}
 
 pub every-journal : (whole : Bool) (octets : List ℕ) → IsPromised (journal_of whole octets)
@@ -22,7 +24,9 @@ every-journal whole octets =
       carried = are_carried t.later _ (behind t.later t.order).processes;
       keys = (keys_behind t.later t.order).distinct;
       counts = counts_behind t.later t.order;
+      texts = none_meet t.later t.order;
       ends = come_by_calls t.later t.order;
       loops = return_in_order t.later t.order;
       brought = bring_in_order t.later t.order;
+      in_order = lines_tell t.later t.order;
     }

@@ -1,45 +1,39 @@
 -- Each bearer of an end is known as what it is, so that what shows a new block shows the PDUs that are told of.
-use Rattle.std.proofs.Common.{◌≡◌, ◌<◌, ◌≤◌, ℕ, ◌==◌, Bool, true, false, if◌then◌else◌, Option, Some, None, List, [], ◌∷◌, ◌++◌, length, map, append-nil, get_or-set_same, get_or-set_other, refl, ap, sym, subst, ◌∙◌, arith}
+use Rattle.std.proofs.Common.{◌≡◌, ◌<◌, ◌≤◌, ℕ, ◌==◌, Bool, true, false, if◌then◌else◌, Option, Some, None, List, [], ◌∷◌, ◌++◌, length, get_or-set_same, get_or-set_other, refl, ap, sym, subst, ◌∙◌, arith, inl, inr}
 use Rattle.std.specs.Prelude.{slice_index_or, unwrap_or}
 use Rattle.std.specs.List.{filter}
 use Rattle.std.proofs.Math.ListN.{length-set}
 use Rattle.std.proofs.lemmas.Bool.Decides.{nat_tests}
 use Rattle.air_record.specs.declared.record.Record.{Record}
-use Rattle.air_record.specs.declared.record.Record.TheVariants as records
 use Rattle.bearer.specs.Bearer.{flow_of}
 use Rattle.bearer_types.specs.Configs.{IsChannelOf, IsConfig}
 use Rattle.bearer_types.specs.declared.config.BearerConfig.{BearerConfig}
-use Rattle.bearer_types.specs.declared.event.Event.{Event}
-use Rattle.bearer_types.specs.declared.event.Event.TheVariants as events
+use Rattle.bearer_am.specs.State.{fresh as fresh_am}
+use Rattle.bearer_parts.specs.Ends.{begun as begun_pdcp}
 use Rattle.bearer_um.specs.State.{fresh as fresh_um}
 use Rattle.eps_sec.specs.declared.Keys.{Keys}
 use Rattle.harq.specs.declared.sender.Order.{Order}
 use Rattle.harq.specs.declared.sender.Visit.{Visit}
 use Rattle.harq.specs.declared.sender.Visit.TheVariants.{New, Resend, Silent}
-use Rattle.l2_node.specs.Building.{IsEnough, visit, visited, building}
-use Rattle.l2_node.specs.End.{End, fresh as fresh_end, sent_by}
+use Rattle.l2_node.specs.Building.{IsEnough, visit, visited}
+use Rattle.l2_node.specs.End.{End, fresh as fresh_end}
 use Rattle.l2_node.specs.Finding.{has}
-use Rattle.l2_node.specs.Writing.{new_block}
 use Rattle.l2_types.specs.declared.channel.Kind.{Kind}
 use Rattle.l2_types.specs.declared.channel.Kind.TheVariants as kinds
 use Rattle.l2_types.specs.declared.side.Side.{Side}
-use Rattle.link_laws.specs.Ends.{told_by, begins_life, LivesOn, block_told, built_told, visit_told, with_bearer}
-use Rattle.link_laws.specs.Shown.{Shown, pdus_shown, AreShown, mode_in, IsKnownAs, AreKnown}
-use Rattle.link_laws.proofs.Blocks.{reached_whole, some_by, sends_kept, block_is}
-use Rattle.link_laws.proofs.Going.{own_told, told_both, lives_then}
+use Rattle.link_laws.specs.Ends.{begins_life, LivesOn, built_told, visit_told, with_bearer}
+use Rattle.link_laws.specs.Shown.{mode_in, IsKnownAs, AreKnown}
+use Rattle.link_laws.proofs.Blocks.{some_by}
+use Rattle.link_laws.proofs.Going.{lives_then}
 use Rattle.link_laws.proofs.Named.{blocks_are_shown}
-use Rattle.link_laws.proofs.Showing.{shown_untold}
 use Rattle.node_laws.specs.Bearers.{adds, AddNone, IsAdded}
 use Rattle.node_laws.specs.Calls.{Call, SetVisits, SetReports, Add, Submit, SetDiscard, Tick, TickBuckets, Visits, Grants, Granted, Assigned, Pass, Receive, Expire, Move, IsGiven, AreGiven, reached}
 use Rattle.node_laws.specs.Holding.{flow}
-use Rattle.node_laws.specs.Loops.{TellNoLoop}
-use Rattle.node_laws.specs.Names.{Sent, sends, Mode, mode, modes_of}
-use Rattle.node_laws.specs.Writing.{is_of_writing}
+use Rattle.node_laws.specs.Names.{Mode, mode, modes_of}
 use Rattle.node_laws.proofs.Living.{are_added}
 use Rattle.pdu_show.specs.Kinds.{layout_of, none_known}
-use Rattle.pdu_show.specs.Show.{block_shown}
 use Rattle.pdu_show.specs.declared.kinds.Layout.{Layout}
-use Rattle.run_laws.specs.Blocks.{IsShown}
+use Rattle.run_laws.specs.Blocks.{MayShow}
 use Rattle.run_laws.proofs.Modes.{keeps_mode}
 
 -- ---- how PDUs are shown behind calls of an end: by the bearers that they add
@@ -128,7 +122,7 @@ has_place kinds.Am lcid i = omega (arith, i.1)
 
 -- as it is configured
 known_first : (kind : Kind) (config : BearerConfig) (keys : Keys) (side : Side) → mode_in (layout_of kind config.rlc_bits config.pdcp_bits) ≡ mode (flow_of kind config keys side)
-unfolding fresh_um
+unfolding fresh_um fresh_am begun_pdcp
 known_first kinds.Tm config keys side = refl
 known_first kinds.Srb config keys side = refl
 known_first kinds.Um config keys side = refl
@@ -181,53 +175,14 @@ visiting_known ks t order e known = known
 
 -- ---- what is told of a visit
 
--- what is written is none of the test loop
-no_loop : (es : List Event) → TellNoLoop (filter is_of_writing es)
-no_loop [] = refl
-no_loop (events.Take lcid count len ∷ es) = no_loop es
-no_loop (events.Report lcid fms bitmap ∷ es) = no_loop es
-no_loop (events.Send lcid how sn ∷ es) = no_loop es
-no_loop (events.Wait lcid why ∷ es) = no_loop es
-no_loop (events.Start lcid clock ∷ es) = no_loop es
-no_loop (events.Stop lcid clock ∷ es) = no_loop es
-no_loop (events.Expired lcid clock ∷ es) = no_loop es
-no_loop (events.Up lcid octets ∷ es) = no_loop es
-no_loop (events.Fail lcid sn ∷ es) = no_loop es
-no_loop (events.Drop lcid why ∷ es) = no_loop es
-no_loop (events.Integrity lcid found wanted ∷ es) = no_loop es
-no_loop (events.BadMac fault ∷ es) = no_loop es
-no_loop (events.BadRlc lcid fault ∷ es) = no_loop es
-no_loop (events.BadPdcp lcid fault ∷ es) = no_loop es
-no_loop (events.Discard lcid len ∷ es) = no_loop es
-
-events_skip : (side : Side) (es : List Event) (rest : List Record) → pdus_shown (map (records.Of side) es ++ rest) ≡ pdus_shown rest
-events_skip side [] rest = refl
-events_skip side (e ∷ es) rest = events_skip side es rest
-
--- before a new block its events, and behind it what shows it
-shown_if : (side : Side) (t : ℕ) (ks : List (Option Layout)) (octets : List ℕ) (es : List Event) → TellNoLoop es → AreShown (sends es) (pdus_shown (block_shown (sent_by side) ks octets))
-    → IsShown side (map (records.Of side) es ++ block_told side t ks octets)
-shown_if side t ks octets es none shown =
-    let xs = map (records.Of side) es in
-    let ys = block_told side t ks octets in
-    let told : told_by side (xs ++ ys) ≡ es = told_both side xs ys es [] (own_told side es none) (shown_untold side (sent_by side) ks octets) ∙ append-nil es in
-    subst (λ (x : List Event). AreShown (sends x) (pdus_shown (xs ++ ys))) (sym told)
-    (subst (λ (x : List Shown). AreShown (sends es) x) (sym (events_skip side es ys)) shown)
-
 visit_shows : (w : Visit) (side : Side) (maximum : ℕ) (reports : Bool) (calls : List Call) → AreGiven calls → (t grant : ℕ) (order : Order) → grant ≤ 9422 → IsEnough order grant → visit t order (reached side maximum reports calls) ≡ w
-    → IsShown side (built_told w side t grant order (kinds_over calls none_known) (reached side maximum reports calls))
+    → MayShow side t grant (kinds_over calls none_known) (built_told w side t grant order (kinds_over calls none_known) (reached side maximum reports calls))
 visit_shows New side maximum reports calls g t grant order within enough is =
     let ks = kinds_over calls none_known in
     let e = reached side maximum reports calls in
-    let all = building t grant order e in
-    let octets = new_block (visited t order e) grant in
-    let shown = blocks_are_shown side maximum reports calls g t grant order ks (some_by t grant order e enough is) within is (visiting_known ks t order e (all_known side maximum reports calls g)) in
-    let kept : AreShown (sends (filter is_of_writing all)) (pdus_shown (block_shown (sent_by side) ks octets)) =
-    subst (λ (x : List Sent). AreShown x (pdus_shown (block_shown (sent_by side) ks octets))) (sym (sends_kept all)) shown in
-    subst (λ (x : List ℕ). IsShown side (map (records.Of side) (filter is_of_writing all) ++ block_told side t ks x)) (sym (block_is t grant order e (reached_whole side maximum reports calls).eight is))
-    (shown_if side t ks octets (filter is_of_writing all) (no_loop all) kept)
-visit_shows (Resend rv) side maximum reports calls g t grant order within enough is = tt
-visit_shows Silent side maximum reports calls g t grant order within enough is = tt
+    inr (blocks_are_shown side maximum reports calls g t grant order ks (some_by t grant order e enough is) within is (visiting_known ks t order e (all_known side maximum reports calls g)))
+visit_shows (Resend rv) side maximum reports calls g t grant order within enough is = inl refl
+visit_shows Silent side maximum reports calls g t grant order within enough is = inl refl
 
 -- ---- an end as it comes from the beginning on
 
@@ -245,10 +200,10 @@ come_then lives side told more ks e f c o = record {
 }
 
 pub come_shows : (side : Side) (told : List Record) (ks : List (Option Layout)) (e : End) → IsCome side told ks e → (t grant : ℕ) (order : Order) → grant ≤ 9422 → IsEnough order grant
-    → IsShown side (visit_told side t grant order ks e)
+    → MayShow side t grant ks (visit_told side t grant order ks e)
 come_shows side told ks e c t grant order within enough =
     let calls = c.on.by.calls in
     let are : kinds_over calls none_known ≡ ks = sym (over_lives calls none_known) ∙ ap (λ (cs : List Call). kinds_over cs none_known) c.on.lives_are ∙ c.kinds_are in
-    subst (λ (x : End). IsShown side (visit_told side t grant order ks x)) (sym c.on.by.end_is)
-    (subst (λ (x : List (Option Layout)). IsShown side (visit_told side t grant order x (reached side 4 false calls))) are
+    subst (λ (x : End). MayShow side t grant ks (visit_told side t grant order ks x)) (sym c.on.by.end_is)
+    (subst (λ (x : List (Option Layout)). MayShow side t grant x (visit_told side t grant order x (reached side 4 false calls))) are
     (visit_shows (visit t order (reached side 4 false calls)) side 4 false calls c.on.by.given t grant order within enough refl))

@@ -19,5 +19,8 @@ pub mod Looping
 pub mod Playing
 pub mod Keys
 pub mod Counts
+pub mod Distinct
+pub mod Texts
 pub mod Zero
+pub mod Standing
 pub mod Everything

@@ -17,19 +17,15 @@ use Rattle.air_run.specs.Run.{fresh, behind_line}
 use Rattle.air_text.specs.Groups.{Group, history}
 use Rattle.air_text.specs.Ranges.{IsInRange}
 use Rattle.eps_sec.specs.declared.Keys.{Keys}
-use Rattle.l2_node.specs.End.{End, fresh as fresh_end}
+use Rattle.l2_node.specs.End.{fresh as fresh_end}
 use Rattle.l2_types.specs.declared.side.Side.{Side}
 use Rattle.l2_types.specs.declared.side.Side.TheVariants.{Nb, Ue}
-use Rattle.link_laws.specs.Blocks.{MayBuild}
 use Rattle.link_laws.specs.Calls as calls
-use Rattle.link_laws.specs.Ends.{told_by as told_of, ByCalls, LivesOn, is_of_building, GoesThrough, GoesOn, GoesOnByVisits, visit_told, known, lives_in}
+use Rattle.link_laws.specs.Ends.{told_by as told_of, LivesOn, is_of_building, GoesThrough, GoesOn, GoesOnByVisits, visit_told, known, lives_in}
 use Rattle.link_laws.proofs.Advancing.{call_goes_on, submitting_goes, tti_goes, drain_goes}
-use Rattle.link_laws.proofs.Blocks.{blocks_are_told}
 use Rattle.link_laws.proofs.Going.{by_none, by_same, lives_then, goes_by, unseen_rests}
 use Rattle.node_laws.specs.Calls.{Call as EndCall}
 use Rattle.link_laws.proofs.Visiting.{enough_by_grant}
-use Rattle.harq.specs.declared.sender.Order.{Order}
-use Rattle.l2_node.specs.Building.{IsEnough}
 use Rattle.pdu_show.specs.declared.kinds.Layout.{Layout}
 use Rattle.test_loop.specs.declared.Mode.TheVariants.{Off, A, B}
 use Rattle.run_laws.specs.Air.{is_tti, ttis as ttis_behind, InTurn}
@@ -57,12 +53,6 @@ reached_then lives told more l m r nb ue e = record {
 
 -- ---- a TTI
 
--- an end that has come by calls visits its process
-visit_may_build : (side : Side) (told : List Record) (e : End) → ByCalls side told (fresh_end side 4 false) e → (t grant : ℕ) (order : Order) (kinds' : List (Option Layout)) → grant ≤ 9422 → IsEnough order grant
-    → MayBuild side t grant kinds' (visit_told side t grant order kinds' e)
-visit_may_build side told e by t grant order kinds' within enough =
-    subst (λ (x : End). MayBuild side t grant kinds' (visit_told side t grant order kinds' x)) (sym by.end_is) (blocks_are_told side 4 false by.calls by.given t grant order kinds' within enough)
-
 both_may_build : (told : List Record) (t up_grant down_grant : ℕ) (l m : Link) → IsReached told l → up_grant ≤ 9422 → down_grant ≤ 9422 → (g : GoesOnByVisits t up_grant down_grant l m) → MayBuildBoth t up_grant down_grant l.kinds (filter is_of_building g.goes.more)
 both_may_build told t up_grant down_grant l m r up_within down_within g =
     let nb = come_then [] Nb told g.nb_told l.kinds l.nb g.nb r.nb g.nb_by in
@@ -71,10 +61,8 @@ both_may_build told t up_grant down_grant l m r up_within down_within g =
       downward = visit_told Nb t down_grant (down_order down_grant) l.kinds g.nb;
       upward = visit_told Ue t up_grant g.up_order l.kinds g.ue;
       told_is = g.goes.blocks_are;
-      down = visit_may_build Nb (told ++ g.nb_told) g.nb nb.on.by t down_grant (down_order down_grant) l.kinds down_within (enough_by_grant down_grant);
-      up = visit_may_build Ue (told ++ g.ue_told) g.ue ue.on.by t up_grant g.up_order l.kinds up_within g.enough;
-      down_shown = come_shows Nb (told ++ g.nb_told) l.kinds g.nb nb t down_grant (down_order down_grant) down_within (enough_by_grant down_grant);
-      up_shown = come_shows Ue (told ++ g.ue_told) l.kinds g.ue ue t up_grant g.up_order up_within g.enough;
+      down = come_shows Nb (told ++ g.nb_told) l.kinds g.nb nb t down_grant (down_order down_grant) down_within (enough_by_grant down_grant);
+      up = come_shows Ue (told ++ g.ue_told) l.kinds g.ue ue t up_grant g.up_order up_within g.enough;
     }
 
 -- ---- what a line leaves
@@ -142,10 +130,10 @@ first_goes told n done grant l m d nothing r within g next q = record {
   ttis_is = omega (arith, q.ttis_is, next);
   blocks = record {
     first = filter is_of_building g.goes.more;
-    rest = filter is_of_building d.journal;
-    told_is = filter-append is_of_building m.out d.journal ∙ ap (λ (x : List Record). filter is_of_building x ++ filter is_of_building d.journal) (more_only l m g.goes.more nothing g.goes.out_is);
-    first_is = both_may_build told l.ttis grant grant l m r within within g;
-    rest_is = subst (λ (t : ℕ). AllMayBuild grant l.kinds t n (filter is_of_building d.journal)) next
+    second = filter is_of_building d.journal;
+    told_are = filter-append is_of_building m.out d.journal ∙ ap (λ (x : List Record). filter is_of_building x ++ filter is_of_building d.journal) (more_only l m g.goes.more nothing g.goes.out_is);
+    is_first = both_may_build told l.ttis grant grant l m r within within g;
+    is_second = subst (λ (t : ℕ). AllMayBuild grant l.kinds t n (filter is_of_building d.journal)) next
         (subst (λ (x : List (Option Layout)). AllMayBuild grant x m.ttis n (filter is_of_building d.journal)) g.goes.kinds_are q.blocks);
   };
   kinds_are = q.kinds_are ∙ g.goes.kinds_are;
@@ -346,7 +334,7 @@ group_goes past g order fits = line_goes (history past) g.line (state_behind pas
 pub come_by_calls : (past : List Group) → KeepsOrder past → ComeByCalls past
 come_by_calls past order = let r = reached_behind past order in record { nb = r.nb.on.by; ue = r.ue.on.by }
 
-kinds_behind : (past : List Group) → KeepsOrder past → (link_behind past).kinds ≡ kinds past
+pub kinds_behind : (past : List Group) → KeepsOrder past → (link_behind past).kinds ≡ kinds past
 unfolding fresh fresh_link
 kinds_behind [] order = refl
 kinds_behind (g ∷ past) (right, order) =

@@ -110,10 +110,10 @@ first_adds n done grant l m d nothing a q =
           ∙ ap (λ (x : List Record). records.Tti l.ttis ∷ x) (q.numbers ∙ ap (λ (t : ℕ). numbered t n) a.ttis_is);
       flown = record {
         first = filter is_of_air a.more;
-        rest = filter is_of_air d.journal;
-        told_is = filter-append is_of_air m.out d.journal ∙ ap (λ (x : List Record). filter is_of_air x ++ filter is_of_air d.journal) out;
-        first_is = record { downward = a.downward; upward = a.upward; told_is = a.told.flown_is; down_is = a.down_is; up_is = a.up_is };
-        rest_is = subst (λ (t : ℕ). InTurn (λ k. FliesIntact k grant) t n (filter is_of_air d.journal)) a.ttis_is q.flown;
+        second = filter is_of_air d.journal;
+        told_are = filter-append is_of_air m.out d.journal ∙ ap (λ (x : List Record). filter is_of_air x ++ filter is_of_air d.journal) out;
+        is_first = record { downward = a.downward; upward = a.upward; told_is = a.told.flown_is; down_is = a.down_is; up_is = a.up_is };
+        is_second = subst (λ (t : ℕ). InTurn (λ k. FliesIntact k grant) t n (filter is_of_air d.journal)) a.ttis_is q.flown;
       };
       kept = both_then false (entities l) (entities m) (entities d.link) m.out d.journal
           (subst (λ (x : List Record). KeepsBoth false (entities l) (entities m) x) (sym out) (both_turn false grant intact grant intact l m a)) q.kept;
@@ -165,10 +165,10 @@ in_turn_then Each t (suc a) b x y p q =
     let same : t + suc a ≡ (t + 1) + a = omega arith in
     rw more (record {
       first = p.first;
-      rest = p.rest ++ y;
-      told_is = ap (λ (z : List Record). z ++ y) p.told_is ∙ append_assoc p.first p.rest y;
-      first_is = p.first_is;
-      rest_is = in_turn_then Each (t + 1) a b p.rest y p.rest_is (subst (λ (n : ℕ). InTurn Each n b y) same q);
+      second = p.second ++ y;
+      told_are = ap (λ (z : List Record). z ++ y) p.told_are ∙ append_assoc p.first p.second y;
+      is_first = p.is_first;
+      is_second = in_turn_then Each (t + 1) a b p.second y p.is_second (subst (λ (n : ℕ). InTurn Each n b y) same q);
     })
 
 both_add : (a b done grant : ℕ) (l : Link) (d e : Drained) → DrainAdds a grant l d → DrainAdds b grant d.link e → DrainAdds (a + b) grant l (behind d.journal done e)

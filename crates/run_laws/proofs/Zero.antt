@@ -194,7 +194,7 @@ adds_none line keys e = tt
 has_come : (side : Side) (past : List Group) → KeepsOrder past → HasCome side (end_of side (link_behind past))
 has_come side past order = let by = come side past order in record { maximum = 4; reports = false; calls = by.calls; given = by.given; end_is = by.end_is }
 
-have_come : (past : List Group) → KeepsOrder past → HaveCome (link_behind past)
+pub have_come : (past : List Group) → KeepsOrder past → HaveCome (link_behind past)
 have_come past order = record { nb = has_come Nb past order; ue = has_come Ue past order }
 
 shown_has : (side : Side) (g : Group) (past : List Group) → has_zero side (link_behind (g ∷ past)) ≡ has_zero side (behind_line g.line (state_behind past))

@@ -8,6 +8,7 @@ use Rattle.air_record.specs.declared.record.Record.{Record}
 use Rattle.air_record.specs.declared.record.Record.TheVariants as records
 use Rattle.air_run.specs.Draining.{ending}
 use Rattle.air_text.specs.Groups.{Group, history}
+use Rattle.bearer_laws.specs.Sequences.{◌then◌}
 use Rattle.link_laws.specs.Counts.{is_of_run, is_of_air}
 use Rattle.link_laws.specs.Flights.{IsDown, IsUp}
 use Rattle.link_laws.specs.Told.{sleeping}
@@ -57,18 +58,10 @@ pub record MayFly (t up_grant : ℕ) (up : Outcome) (down_grant : ℕ) (down : O
 abbrev pub FliesIntact : ℕ → ℕ → List Record → Type 0
 FliesIntact t grant told = Flies false t grant intact grant intact told
 
--- a TTI, and those behind it
-pub record Parts (First Rest : List Record → Type 0) (told : List Record) : Type 0 where
-  pub first : List Record
-  pub rest : List Record
-  pub told_is : told ≡ first ++ rest
-  pub first_is : First first
-  pub rest_is : Rest rest
-
 -- so many TTIs from a number on, one behind the other: what is told of each is as its number has it
 abbrev pub InTurn : (ℕ → List Record → Type 0) → ℕ → ℕ → List Record → Type 0
 InTurn Each t zero told = told ≡ []
-InTurn Each t (suc n) told = Parts (Each t) (InTurn Each (t + 1) n) told
+InTurn Each t (suc n) told = (Each t then InTurn Each (t + 1) n) told
 
 abbrev pub AreFlown : ℕ → Part → List Record → Type 0
 AreFlown t (Submits side lcid octets) events = filter is_of_air events ≡ []

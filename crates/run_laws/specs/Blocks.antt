@@ -1,5 +1,5 @@
 -- The new blocks of a line: each has what its end tells before it, and that is shown behind it (TS 36.321 5.4.3.1, 6.1.2).
-use Rattle.std.specs.Prelude.{◌≡◌, ℕ, Option, List, [], ◌∷◌, ◌++◌, length}
+use Rattle.std.specs.Prelude.{◌≡◌, ◌⊎◌, ℕ, Option, List, [], ◌∷◌, ◌++◌, length}
 use Rattle.std.specs.List.{filter}
 use Rattle.air_record.specs.declared.line.Line.{Line}
 use Rattle.air_record.specs.declared.line.Line.TheVariants as lines
@@ -7,10 +7,8 @@ use Rattle.air_record.specs.declared.record.Record.{Record}
 use Rattle.air_text.specs.Groups.{Group}
 use Rattle.l2_types.specs.declared.side.Side.{Side}
 use Rattle.l2_types.specs.declared.side.Side.TheVariants.{Nb, Ue}
-use Rattle.link_laws.specs.Blocks.{MayBuild}
-use Rattle.link_laws.specs.Ends.{told_by, is_of_building, with_bearer}
-use Rattle.link_laws.specs.Shown.{pdus_shown, AreShown}
-use Rattle.node_laws.specs.Names.{sends}
+use Rattle.link_laws.specs.Ends.{is_of_building, with_bearer}
+use Rattle.link_laws.specs.Shown.{IsShownBlock}
 use Rattle.pdu_show.specs.Kinds.{none_known}
 use Rattle.pdu_show.specs.declared.kinds.Layout.{Layout}
 use Rattle.run_laws.specs.Air.{is_tti, InTurn}
@@ -25,20 +23,19 @@ abbrev pub kinds : List Group → List (Option Layout)
 kinds [] = none_known
 kinds (g ∷ past) = kinds_by g.line (kinds past)
 
--- the RLC records behind a new block show exactly the PDUs that the `send` records before it name, in that order: the channel, the
--- kind and the number of each (TS 36.322 6.2.1)
-abbrev pub IsShown : Side → List Record → Type 0
-IsShown side told = AreShown (sends (told_by side told)) (pdus_shown told)
+-- a visit builds a block, or nothing is told of one; the records behind it show exactly the PDUs that the `send` records before it name,
+-- in that order: the channel, the kind, the number and the other fields of each, and, where it is no segment, the SDUs that are whole in
+-- it by the fields of their PDUs of PDCP, as the `bearer` lines tell how (TS 36.322 6.2.1, TS 36.323 6.2)
+abbrev pub MayShow : Side → ℕ → ℕ → List (Option Layout) → List Record → Type 0
+MayShow side t grant kinds' told = (told ≡ []) ⊎ IsShownBlock side t grant kinds' told
 
 -- in a TTI the base station may build a block, and then the terminal
 pub record MayBuildBoth (t up_grant down_grant : ℕ) (kinds' : List (Option Layout)) (told : List Record) : Type 0 where
   pub downward : List Record
   pub upward : List Record
   pub told_is : told ≡ downward ++ upward
-  pub down : MayBuild Nb t down_grant kinds' downward
-  pub up : MayBuild Ue t up_grant kinds' upward
-  pub down_shown : IsShown Nb downward
-  pub up_shown : IsShown Ue upward
+  pub down : MayShow Nb t down_grant kinds' downward
+  pub up : MayShow Ue t up_grant kinds' upward
 
 -- what RLC takes and writes, why data waits, and what shows a block is told nowhere else
 abbrev pub AreTold : ℕ → List (Option Layout) → Part → List Record → Type 0

@@ -1,9 +1,9 @@
 -- The keys of a journal's lines: none is given twice, so that a COUNT that begins again never meets a key that was in use (TS 33.401 B.1).
-use Rattle.std.specs.Prelude.{◌≡◌, ℕ, List, [], ◌∷◌, ◌++◌}
-use Rattle.std.specs.List.{AllByRecursion}
+use Rattle.std.specs.Prelude.{ℕ, List, [], ◌∷◌, ◌++◌}
 use Rattle.air_record.specs.declared.line.Line.{Line}
 use Rattle.air_record.specs.declared.line.Line.TheVariants as lines
 use Rattle.air_text.specs.Groups.{Group}
+pub use Rattle.bearer_laws.specs.Ciphering.{AreDistinct}
 
 -- those that a line gives: for user data, for signalling, and for its integrity
 abbrev pub keys_of : Line → List (List ℕ)
@@ -14,8 +14,3 @@ keys_of line = []
 abbrev pub all_keys : List Group → List (List ℕ)
 all_keys [] = []
 all_keys (g ∷ past) = keys_of g.line ++ all_keys past
-
--- no two are the same
-abbrev pub AreDistinct : List (List ℕ) → Type 0
-AreDistinct [] = Unit {0}
-AreDistinct (key ∷ keys) = AllByRecursion (λ other. key ≡ other → ⊥) keys × AreDistinct keys

@@ -6,11 +6,13 @@ pub mod Heard
 pub mod Awards
 pub mod Carried
 pub mod Loops
+pub mod Telling
 pub mod Order
 pub mod Ends
 pub mod Sums
 pub mod Keys
 pub mod Counts
+pub mod Texts
 pub mod Zero
 pub mod Promises
 pub mod Journals

@@ -11,6 +11,8 @@ use Rattle.run_laws.specs.Keys.{all_keys, AreDistinct}
 use Rattle.run_laws.specs.Loops.{ReturnInOrder}
 use Rattle.run_laws.specs.Order.{KeepsOrder}
 use Rattle.run_laws.specs.Sums.{sums_at}
+use Rattle.run_laws.specs.Texts.{NoneMeet}
+use Rattle.run_laws.specs.Telling.{LinesTell}
 use Rattle.run_laws.specs.Zero.{BringInOrder}
 
 -- a journal with its promises: its groups, and at its end the sums where it is finished
@@ -26,9 +28,13 @@ pub record IsPromised (played : Played) : Type 0 where
   pub keys : AreDistinct (all_keys past)
   -- and from one handover to the next the COUNTs ascend that a side takes on a channel
   pub counts : CountsAscend past
+  -- under one key no two texts meet at one COUNT, BEARER and DIRECTION
+  pub texts : NoneMeet past
   -- both ends have come by calls of their own, and what is told of each is what it tells in these
   pub ends : ComeByCalls past
   -- what the test loop returns went up before, and what it loses is told
   pub loops : ReturnInOrder past
   -- what goes up on LCID 0 is what the blocks carry that arrive
   pub brought : BringInOrder past
+  -- the records of each line stand in the order in which both ends, the blocks and the loop come to their turns
+  pub in_order : LinesTell past

@@ -6,7 +6,8 @@ pub fn lines_are_in_range()
 {}
 
 /// The journal of every script is the records of its accepted lines, each run where it stands, and the sums at its end. Said without
-/// the machine: its TTIs, its blocks, its keys and COUNTs, what is told of each end and what the test loop returns are as promised.
+/// the machine: its TTIs, its blocks, its keys and COUNTs, what is told of each end, what the test loop returns and the order in which
+/// the records of each line stand are as promised.
 pub fn every_journal()
     ensures { EveryJournal }
 {}
