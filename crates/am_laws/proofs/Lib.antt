@@ -1,0 +1,17 @@
+pub mod Cells
+pub mod Reading
+pub mod Parts
+pub mod Runs
+pub mod Sound
+pub mod Sending
+pub mod Hearing
+pub mod Fields
+pub mod Statuses
+pub mod Arrived
+pub mod Whole
+pub mod Sdus
+pub mod Finished
+pub mod Owners
+pub mod Covered
+pub mod Sequence
+pub mod Laws

@@ -1,0 +1,59 @@
+//! Laws of an acknowledged flow: a sender, a receiver, and what is under way between them, over any steps of one life.
+//! They speak of the definitions that `rlc_am_tx` and `rlc_am_rx` meet, and do nothing.
+#![tactic(auto)]
+
+ghost use Rattle.am_laws.specs.Confirmed.{ConfirmedArrives};
+ghost use Rattle.am_laws.specs.Fields.{HearsWhatWasSent, NothingClashes};
+ghost use Rattle.am_laws.specs.Seen.{HandsUpInSequence, FinishGivesTheWhole};
+ghost use Rattle.am_laws.specs.Numbers.{KeepsOrder, AckedHasArrived};
+ghost use Rattle.am_laws.specs.Sdus.{HandsUpTheFront};
+ghost use Rattle.am_laws.specs.Statuses.{ReadsEachNumber};
+
+/// Whatever is lost, repeated and delayed, VT(A) ≤ VR(R) ≤ VR(MS) ≤ VR(H) ≤ VT(S) ≤ VT(A) + 512.
+pub fn keeps_order()
+    ensures { KeepsOrder }
+{}
+
+/// Of each number that the sender has heard to be acknowledged, all octets have arrived.
+pub fn acked_has_arrived()
+    ensures { AckedHasArrived }
+{}
+
+/// A STATUS is ignored exactly where its ACK lies below VT(A), and its ACK_SN and each NACK_SN are read as the numbers
+/// that they were written for.
+pub fn reads_each_number()
+    ensures { ReadsEachNumber }
+{}
+
+/// The fields of the numbers are one stream of SDUs, and each data PDU that comes carries a part of the field that its
+/// number was sent with, which is at most 512 away from VR(R): so none is misread.
+pub fn hears_what_was_sent()
+    ensures { HearsWhatWasSent }
+{}
+
+/// No data PDU that comes clashes with what the receiver holds.
+pub fn nothing_clashes()
+    ensures { NothingClashes }
+{}
+
+/// The SDUs that the receiver handed up, with those that are ready to go up, are the first that the sender was offered:
+/// in their order, each once and unchanged.
+pub fn hands_up_the_front()
+    ensures { HandsUpTheFront }
+{}
+
+/// They are exactly those SDUs whose octets and all before them have arrived.
+pub fn hands_up_in_sequence()
+    ensures { HandsUpInSequence }
+{}
+
+/// What went up with what `finish` gives are exactly those SDUs that were offered of which all octets have arrived: in
+/// their order, each once and unchanged.
+pub fn finish_gives_the_whole()
+    ensures { FinishGivesTheWhole }
+{}
+
+/// Each SDU that the sender confirms is one of which all octets have arrived, so one that went up or that `finish` gives.
+pub fn confirmed_arrives()
+    ensures { ConfirmedArrives }
+{}

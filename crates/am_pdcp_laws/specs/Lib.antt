@@ -1,0 +1,4 @@
+pub mod Flow
+pub mod Expected
+pub mod Reading
+pub mod Between

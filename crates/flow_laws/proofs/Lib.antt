@@ -1,0 +1,14 @@
+pub mod Standing
+pub mod Sending
+pub mod Hearing
+pub mod Flows
+pub mod Places
+pub mod Channels
+pub mod Runs
+pub mod Octets
+pub mod Loads
+pub mod Stations
+pub mod Visiting
+pub mod Air
+pub mod Links
+pub mod Lives
