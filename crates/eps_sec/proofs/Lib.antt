@@ -3,3 +3,4 @@ pub mod TableLemmas
 pub mod CipherLemmas
 pub mod StreamLemmas
 pub mod CodeLemmas
+pub mod FrontLemmas

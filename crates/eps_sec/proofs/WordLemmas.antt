@@ -37,12 +37,12 @@ pub sixteen : (p : List ℕ) → length p ≡ 16 → octets (λ k. slice_index p
 sixteen p e = sym (fill_by_all (λ k. slice_index p k) p 16 0 e (λ k lt. refl))
 
 -- the first of four terms put last
-turn : (p q r s : ℕ) → bit_xor (bit_xor (bit_xor p q) r) s ≡ bit_xor (bit_xor (bit_xor q r) s) p
+pub turn : (p q r s : ℕ) → bit_xor (bit_xor (bit_xor p q) r) s ≡ bit_xor (bit_xor (bit_xor q r) s) p
 turn p q r s =
     ap (λ (m : ℕ). bit_xor m s) (xor_assoc p q r) ∙ xor_assoc p (bit_xor q r) s ∙ xor_comm p (bit_xor (bit_xor q r) s)
 
 -- the sum of two words by their octets
-sum_is : (x y a b c d p q r s : ℕ) → column x ≡ a ∷ b ∷ c ∷ d ∷ [] → column y ≡ p ∷ q ∷ r ∷ s ∷ [] → column (bit_xor x y) ≡ bit_xor a p ∷ bit_xor b q ∷ bit_xor c r ∷ bit_xor d s ∷ []
+pub sum_is : (x y a b c d p q r s : ℕ) → column x ≡ a ∷ b ∷ c ∷ d ∷ [] → column y ≡ p ∷ q ∷ r ∷ s ∷ [] → column (bit_xor x y) ≡ bit_xor a p ∷ bit_xor b q ∷ bit_xor c r ∷ bit_xor d s ∷ []
 sum_is x y a b c d p q r s e f = column_xor x y ∙ ap (λ (v : List ℕ). add_words v (column y)) e ∙ ap (add_words (a ∷ b ∷ c ∷ d ∷ [])) f
 
 -- the sum of what the four octets add to their column
@@ -58,7 +58,7 @@ mixed_is x y z w p q r s ex ey ez ew =
     (turn p q (times 2 r) (times 3 s) ∙ turn q (times 2 r) (times 3 s) p)
     (turn (times 3 p) q r (times 2 s) ∙ turn q r (times 2 s) (times 3 p) ∙ turn r (times 2 s) (times 3 p) q)
 
-joined : (a b c d p q r s : List ℕ) → a ≡ p → b ≡ q → c ≡ r → d ≡ s → a ++ b ++ c ++ d ≡ p ++ q ++ r ++ s
+pub joined : (a b c d p q r s : List ℕ) → a ≡ p → b ≡ q → c ≡ r → d ≡ s → a ++ b ++ c ++ d ≡ p ++ q ++ r ++ s
 joined a b c d p q r s e f g h = rw (e, f, g, h) refl
 
 -- four words that were made of 16 octets

@@ -3,10 +3,10 @@
 //! A state is four words, one for each column, with row 0 in the highest octet. A round looks up what each octet adds to
 //! its column, so that SubBytes, ShiftRows and MixColumns are four look-ups a column, with a table for each row.
 
-ghost use Rattle.std.specs.Prelude.{◌≡◌, ℕ, [], ◌∷◌};
+ghost use Rattle.std.specs.Prelude.{◌≡◌, ◌≤◌, ℕ, List, [], ◌∷◌, take};
 ghost use Rattle.eps_sec.specs.Field.{sub_byte};
-ghost use Rattle.eps_sec.specs.Aes.{add_words, sub_word, rot_word, power_of_x, next_key, sub_bytes, shift_rows, mix_columns, add_round_key, aes};
-ghost use Rattle.eps_sec.specs.Words.{column, row, mix_column, state};
+ghost use Rattle.eps_sec.specs.Aes.{add_words, sub_word, rot_word, power_of_x, next_key, sub_bytes, shift_rows, mix_columns, add_round_key, round_key, rounds, aes};
+ghost use Rattle.eps_sec.specs.Words.{column, row, mix_column, state, IsFront};
 
 use crate::field::times;
 use crate::keys::Key;
@@ -53,19 +53,73 @@ pub fn encrypt_block(schedule: &Schedule, block: &[u8; 16]) -> [u8; 16]
 }
 
 /// A block under the key, both as words.
-///
-/// It stays a function of its own: where it is inlined, its loop has fewer registers and is slower.
-#[inline(never)]
 pub(crate) fn encrypt_words(schedule: &Schedule, block: &[u32; 4]) -> [u32; 4]
     ensures { state result ≡ aes schedule.now (state block.now) }
 {
+    encrypt_from(schedule, 0, block)
+}
+
+// The block under the key, from its state before round key `start` is added.
+//
+// It stays a function of its own: where it is inlined, its loop has fewer registers and is slower.
+#[inline(never)]
+fn encrypt_from(schedule: &Schedule, start: usize, before: &[u32; 4]) -> [u32; 4]
+    requires { start ≤ 9 }
+    ensures { (block : List ℕ) → add_round_key (round_key schedule.now start) (state before.now) ≡ rounds schedule.now block start → state result ≡ aes schedule.now block }
+{
     let keys = &schedule.keys;
-    let mut state = *block;
-    for n in 0..9 {
+    let mut state = *before;
+    for n in start..9 {
         state = mixed_round(&add_key(&keys[n], &state));
     }
     let last = last_round(&add_key(&keys[9], &state));
     add_key(&keys[10], &last)
+}
+
+// The octet that the S-box takes to 0, so that a round adds nothing for it.
+const NOTHING: u8 = 0x52;
+
+/// What the first two rounds make of all the blocks that differ in their last octet alone.
+///
+/// That octet goes into one word in the first round, and that word into one octet of each in the second.
+#[derive(Debug, Drop)]
+pub(crate) struct Front {
+    word: u32,
+    words: [u32; 4],
+}
+
+impl Front {
+    /// Prepares the blocks that are as `block` but for its last octet.
+    #[inline(never)]
+    pub(crate) fn new(schedule: &Schedule, block: &[u32; 4]) -> Front
+        ensures { IsFront result.word result.words schedule.now (take 15 (state block.now)) }
+    {
+        let [a, b, c, d] = add_key(&schedule.keys[0], block);
+        let d = u32::from_be_bytes([row_0(d), row_1(d), row_2(d), NOTHING]);
+        let [w, x, y, z] = add_key(&schedule.keys[1], &mixed_round(&[a, b, c, d]));
+        let nothing = u32::from_be_bytes([NOTHING; 4]);
+        Front {
+            word: w,
+            words: mixed_round(&[nothing, x, y, z]),
+        }
+    }
+
+    /// One of them under the key.
+    #[inline(always)]
+    pub(crate) fn encrypt(&self, schedule: &Schedule, block: &[u32; 4]) -> [u32; 4]
+        requires { IsFront self.now.word self.now.words schedule.now (take 15 (state block.now)) }
+        ensures { state result ≡ aes schedule.now (state block.now) }
+    {
+        let word = self.word ^ from_row_3(row_3(block[3] ^ schedule.keys[0][3]));
+        let [a, b, c, d] = self.words;
+        let state = [
+            a ^ from_row_0(row_0(word)),
+            b ^ from_row_3(row_3(word)),
+            c ^ from_row_2(row_2(word)),
+            d ^ from_row_1(row_1(word)),
+        ];
+        encrypt_from(schedule, 2, &state)
+    }
 }
 
 // The round key after `k`, with the power of x that its number has.

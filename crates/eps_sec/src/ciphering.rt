@@ -1,11 +1,11 @@
 //! 128-EEA2: AES-128 in counter mode (TS 33.401, B.1.3).
 
-ghost use Rattle.std.specs.Prelude.{◌≡◌, ◌<◌};
+ghost use Rattle.std.specs.Prelude.{◌≡◌, ◌<◌, ◌≤◌, ◌+◌, ◌==◌, false, length, take, slice_index};
 ghost use Rattle.eps_sec.specs.Aes.{aes, add_round_key};
-ghost use Rattle.eps_sec.specs.Words.{state};
+ghost use Rattle.eps_sec.specs.Words.{state, IsFront};
 ghost use Rattle.eps_sec.specs.Modes.{prefix, first_counter, counter_block, stream_octet, add_stream, ciphered};
 
-use crate::cipher::{Schedule, add_key, encrypt_words, octets_of, words_of};
+use crate::cipher::{Front, Schedule, add_key, encrypt_words, octets_of, words_of};
 use crate::integrity::octets_at;
 use crate::keys::Cipher;
 
@@ -57,12 +57,28 @@ fn counter_block(first: u128, i: usize) -> [u8; 16]
     first.wrapping_add(i as u128).to_be_bytes()
 }
 
+// What the counter blocks have in common that differ from block `i` in their last octet alone.
+fn front_at(schedule: &Schedule, first: u128, i: usize) -> Front
+    ensures { IsFront result.word result.words schedule.now (take 15 (counter_block first i)) }
+{
+    Front::new(schedule, &words_of(&counter_block(first, i)))
+}
+
+// Whether the step from counter block `i` to the next carries out of the last octet.
+fn has_carry(first: u128, i: usize) -> bool
+    ensures octet { result ≡ (slice_index (counter_block first i) 15 == 255) }
+    ensures head { result ≡ false → take 15 (counter_block first (i + 1)) ≡ take 15 (counter_block first i) }
+{
+    counter_block(first, i)[15] == 255
+}
+
 // The words of the encrypted counter block `i`.
 #[inline(always)]
-fn stream_words(schedule: &Schedule, first: u128, i: usize) -> [u32; 4]
+fn stream_words(schedule: &Schedule, front: &Front, first: u128, i: usize) -> [u32; 4]
+    requires { IsFront front.now.word front.now.words schedule.now (take 15 (counter_block first i)) }
     ensures { state result ≡ aes schedule.now (counter_block first i) }
 {
-    encrypt_words(schedule, &words_of(&counter_block(first, i)))
+    front.encrypt(schedule, &words_of(&counter_block(first, i)))
 }
 
 // 16 octets of a text with as many of the stream added, by words: by octets, the compiler gathers those of the stream first.
@@ -77,20 +93,42 @@ fn with_stream(stream: &[u32; 4], part: &[u8; 16]) -> [u8; 16]
 pub(crate) fn add_stream(schedule: &Schedule, first: u128, text: &mut [u8])
     ensures { text.new ≡ add_stream (stream_octet schedule.now first) 0 text.old }
 {
+    if text.len() <= 16 {
+        add_block(schedule, first, text);
+        return;
+    }
     let whole = text.len() / 16;
+    let mut front = front_at(schedule, first, 0);
     for i in 0..whole {
-        let stream = stream_words(schedule, first, i);
+        let stream = stream_words(schedule, &front, first, i);
         let sum = with_stream(&stream, &octets_at(text, 16 * i));
         for j in 0..16 {
             text[16 * i + j] = sum[j];
+        }
+        if has_carry(first, i) {
+            front = front_at(schedule, first, i + 1);
         }
     }
     let start = 16 * whole;
     if start == text.len() {
         return;
     }
-    let block = octets_of(&stream_words(schedule, first, whole));
+    let block = octets_of(&stream_words(schedule, &front, first, whole));
     for k in start..text.len() {
         text[k] ^= block[k - start];
+    }
+}
+
+// Adds the first counter block to a text no longer than it, for which preparing would cost more than it saves.
+fn add_block(schedule: &Schedule, first: u128, text: &mut [u8])
+    requires { length text.now ≤ 16 }
+    ensures { text.new ≡ add_stream (stream_octet schedule.now first) 0 text.old }
+{
+    if text.is_empty() {
+        return;
+    }
+    let block = octets_of(&encrypt_words(schedule, &words_of(&counter_block(first, 0))));
+    for k in 0..text.len() {
+        text[k] ^= block[k];
     }
 }

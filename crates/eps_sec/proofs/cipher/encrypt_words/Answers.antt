@@ -1,16 +1,7 @@
-use Rattle.std.proofs.Common.{◌≡◌, refl, arith}
+use Rattle.std.proofs.Common.{refl}
 use Rattle.eps_sec.specs.Words.{state}
-use Rattle.eps_sec.proofs.CipherLemmas.{rounds_first, rounds_more, aes_last}
+use Rattle.eps_sec.proofs.CipherLemmas.{rounds_first}
 use Rattle.eps_sec.proofs.cipher.encrypt_words.Goals as goal
 
-pub loop-n-init : goal.loop-n-init
-loop-n-init c = rounds_first c.args.schedule.now _ _ refl
-
-pub loop-n-preserved : goal.loop-n-preserved
-loop-n-preserved c =
-    rounds_more c.args.schedule.now (state c.args.block.now) _ _ _ _ c.loop-n.n (rw c.schedule.view_is at (c.schedule.invariant c.loop-n.n (omega arith))) c.add_key.ensures c.loop-n.invariant c.mixed_round-state.ensures
-
 pub returns : goal.returns
-returns c =
-    let nine : c.loop-n.n ≡ 9 = omega arith in
-    aes_last c.args.schedule.now (state c.args.block.now) _ _ _ _ _ _ (rw c.schedule.view_is at (c.schedule.invariant 9 (omega arith))) (rw c.schedule.view_is at (c.schedule.invariant 10 (omega arith))) c.add_key-2.ensures (rw nine at c.loop-n.invariant) c.last_round-last.ensures c.add_key-3.ensures
+returns c = c.encrypt_from.ensures (state c.args.block.now) (rounds_first c.args.schedule.now _ _ refl)

@@ -15,7 +15,7 @@ loop-j-preserved c =
     let at = stream_octet_is key (state c.stream_words-stream.result) first c.loop-i.i c.loop-j.j k c.stream_words-stream.ensures (omega arith) (omega arith) in
     done-more f k _ c.args.text.now c.loop-j.text (omega arith) c.loop-j.invariant
     (block-octet f c.loop-i.i c.loop-j.j c.args.text.now c.loop-i.text c.loop-j.text c.octets_at.result (state c.stream_words-stream.result) c.with_stream-sum.result
-    (omega arith) (omega arith) c.loop-i.invariant c.loop-j.invariant c.octets_at.ensures.places c.with_stream-sum.ensures at)
+    (omega arith) (omega arith) c.loop-i.invariant.text c.loop-j.invariant c.octets_at.ensures.places c.with_stream-sum.ensures at)
     ∙ ap (λ (n : ℕ). done_to f n c.args.text.now) next
 
 pub loop-k-preserved : goal.loop-k-preserved
