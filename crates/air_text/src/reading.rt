@@ -16,6 +16,7 @@ use l2_types::DrxConfig;
 use std::alloc::Global;
 
 #[tactic(auto, unfolding(crate::specs::Reading::harq_of))]
+#[inline(never)]
 fn harq(fields: &[&[u8]]) -> Result<Line, LineRefusal>
     ensures line { result ≡ harq_of (texts fields.now) }
     ensures ranges { IfOk result IsInRange }
@@ -28,6 +29,7 @@ fn harq(fields: &[&[u8]]) -> Result<Line, LineRefusal>
 }
 
 #[tactic(auto, unfolding(crate::specs::Reading::bsr_of))]
+#[inline(never)]
 fn bsr(fields: &[&[u8]]) -> Result<Line, LineRefusal>
     ensures line { result ≡ bsr_of (texts fields.now) }
     ensures ranges { IfOk result IsInRange }
@@ -40,6 +42,7 @@ fn bsr(fields: &[&[u8]]) -> Result<Line, LineRefusal>
 }
 
 #[tactic(auto, unfolding(crate::specs::Reading::keys_of))]
+#[inline(never)]
 fn keys(alloc: Global, fields: &[&[u8]]) -> Result<Line, LineFault>
     ensures line { Gives result (keys_of (texts fields.now)) }
     ensures ranges { IfOk result IsInRange }
@@ -62,6 +65,7 @@ fn keys(alloc: Global, fields: &[&[u8]]) -> Result<Line, LineFault>
 }
 
 #[tactic(auto, unfolding(crate::specs::Reading::bearer_of))]
+#[inline(never)]
 fn bearer(alloc: Global, fields: &[&[u8]]) -> Result<Line, LineFault>
     ensures line { Gives result (bearer_of (texts fields.now)) }
     ensures ranges { IfOk result IsInRange }
@@ -117,6 +121,7 @@ fn tti(fields: &[&[u8]]) -> Result<Line, LineRefusal>
 }
 
 #[tactic(auto, unfolding(crate::specs::Reading::expire_of))]
+#[inline(never)]
 fn expire(fields: &[&[u8]]) -> Result<Line, LineRefusal>
     ensures line { result ≡ expire_of (texts fields.now) }
     ensures ranges { IfOk result IsInRange }
@@ -131,6 +136,7 @@ fn expire(fields: &[&[u8]]) -> Result<Line, LineRefusal>
 }
 
 #[tactic(auto, unfolding(crate::specs::Reading::handover_of))]
+#[inline(never)]
 fn handover(alloc: Global, fields: &[&[u8]]) -> Result<Line, LineFault>
     ensures line { Gives result (handover_of (texts fields.now)) }
     ensures ranges { IfOk result IsInRange }
@@ -185,6 +191,7 @@ fn loop_b(fields: &[&[u8]]) -> Result<Line, LineRefusal>
 }
 
 #[tactic(auto, unfolding(crate::specs::Reading::loop_of))]
+#[inline(never)]
 fn loop_line(fields: &[&[u8]]) -> Result<Line, LineRefusal>
     ensures line { result ≡ loop_of (texts fields.now) }
     ensures ranges { IfOk result IsInRange }
@@ -204,6 +211,7 @@ fn loop_line(fields: &[&[u8]]) -> Result<Line, LineRefusal>
 }
 
 #[tactic(auto, unfolding(crate::specs::Reading::drain_of))]
+#[inline(never)]
 fn drain(fields: &[&[u8]]) -> Result<Line, LineRefusal>
     ensures line { result ≡ drain_of (texts fields.now) }
     ensures ranges { IfOk result IsInRange }
@@ -216,6 +224,7 @@ fn drain(fields: &[&[u8]]) -> Result<Line, LineRefusal>
 }
 
 #[tactic(auto, unfolding(crate::specs::Reading::forge_of))]
+#[inline(never)]
 fn forge(alloc: Global, fields: &[&[u8]]) -> Result<Line, LineFault>
     ensures line { Gives result (forge_of (texts fields.now)) }
     ensures ranges { IfOk result IsInRange }
@@ -229,6 +238,7 @@ fn forge(alloc: Global, fields: &[&[u8]]) -> Result<Line, LineFault>
 }
 
 #[tactic(auto, unfolding(crate::specs::Reading::end_of))]
+#[inline(never)]
 fn end(fields: &[&[u8]]) -> Result<Line, LineRefusal>
     ensures line { result ≡ end_of (texts fields.now) }
     ensures ranges { IfOk result IsInRange }
@@ -241,6 +251,7 @@ fn end(fields: &[&[u8]]) -> Result<Line, LineRefusal>
 }
 
 #[tactic(auto, unfolding(crate::specs::Reading::discard_of))]
+#[inline(never)]
 fn discard(fields: &[&[u8]]) -> Result<Line, LineRefusal>
     ensures line { result ≡ discard_of (texts fields.now) }
     ensures ranges { IfOk result IsInRange }
@@ -254,6 +265,7 @@ fn discard(fields: &[&[u8]]) -> Result<Line, LineRefusal>
 }
 
 #[tactic(auto, unfolding(crate::specs::Reading::drx_of))]
+#[inline(never)]
 fn drx(fields: &[&[u8]]) -> Result<Line, LineRefusal>
     ensures line { result ≡ drx_of (texts fields.now) }
     ensures ranges { IfOk result IsInRange }

@@ -17,5 +17,5 @@ pub use lines::{Cut, Lines, Stand, Turn};
 pub use mem::{MemSink, MemSource};
 pub use sink::{PutFault, Sink};
 pub use source::{Failed, Source};
-pub use streams::{StdSink, StdSource};
+pub use streams::{AheadSource, StdSink, StdSource};
 pub use sure::{SureSink, SureSource};

@@ -22,4 +22,9 @@ pub trait Source {
         ensures kept { OnErr result (left self.new ≡ left self.old) }
         ensures cause { OnErr result (HasRisen (faults self.old) (faults self.new)) }
         ensures count { faults self.old ≤ faults self.new };
+
+    /// Whether octets are at hand, so that the next read waits for nothing. A source that doesn't know says no.
+    fn is_ready(&self) -> bool {
+        false
+    }
 }

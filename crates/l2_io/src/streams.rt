@@ -1,7 +1,9 @@
-ghost use Rattle.std.specs.Prelude.{◌≡◌, ◌≤◌, ℕ, None, IfSome, length};
+ghost use Rattle.std.specs.Prelude.{◌≡◌, ◌≤◌, ℕ, None, IfOk, IfSome, length};
 
 use super::{Failed, PutFault, Sink, Source};
-use std::io::{ErrorKind, Read, Write};
+use l2_bits::NoMemory;
+use std::alloc::Global;
+use std::io::{BufReader, ErrorKind, Read, Write};
 use std::marker::Model;
 
 /// A source over a reader, of whose octets nothing is known. Contracts see its count of faults.
@@ -39,6 +41,49 @@ impl<R: Read + Drop> Source for StdSource<R> {
             return Err(Failed);
         };
         Ok(count)
+    }
+}
+
+/// A source over a reader that is read ahead, in pieces of a fixed size. Of its octets nothing is known, but whether some
+/// are at hand.
+#[derive(Drop)]
+pub struct AheadSource<R> {
+    source: StdSource<BufReader<R>>,
+}
+
+impl<R> Model for AheadSource<R> {
+    ghost use Rattle.std.specs.Prelude.{ℕ};
+
+    ghost Value = { ℕ };
+
+    ghost view = { λ s. s.source };
+}
+
+impl<R: Read + Drop> AheadSource<R> {
+    /// A source that reads at most `piece` octets of the reader at a time, into a buffer of that size.
+    pub fn new(alloc: Global, piece: usize, inner: R) -> Result<AheadSource<R>, NoMemory>
+        ensures { IfOk result (λ s. s ≡ 0) }
+    {
+        let Ok(reader) = BufReader::with_capacity(alloc, piece, inner) else {
+            return Err(NoMemory);
+        };
+        Ok(AheadSource {
+            source: StdSource::new(reader),
+        })
+    }
+}
+
+impl<R: Read + Drop> Source for AheadSource<R> {
+    ghost left = { λ _. None };
+
+    ghost faults = { λ s. s };
+
+    fn read(&mut self, into: &mut [u8]) -> Result<usize, Failed> {
+        self.source.read(into)
+    }
+
+    fn is_ready(&self) -> bool {
+        !self.source.inner.buffer().is_empty()
     }
 }
 

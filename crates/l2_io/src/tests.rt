@@ -83,6 +83,21 @@ fn puts_what_was_gathered_once(rt: HostRuntime) -> Result<(), NoMemory> {
 }
 
 #[test]
+fn reads_ahead(rt: HostRuntime) -> Result<(), NoMemory> {
+    let octets: &[u8] = b"abc";
+    let mut source = AheadSource::new(rt.alloc(), 2, octets)?;
+    let mut room = [0];
+    for (octet, is_ready) in [(b'a', true), (b'b', false), (b'c', false)] {
+        assert_eq!(rt; source.read(&mut room), Ok(1));
+        assert_eq!(rt; room, [octet]);
+        assert_eq!(rt; source.is_ready(), is_ready);
+    }
+    assert_eq!(rt; source.read(&mut room), Ok(0));
+    assert!(rt; !StdSource::new(octets).is_ready());
+    Ok(())
+}
+
+#[test]
 fn reads_and_writes_streams(rt: HostRuntime) -> Result<(), NoMemory> {
     let octets: &[u8] = b"ab\n";
     let mut source = StdSource::new(octets);

@@ -64,9 +64,10 @@ fn number_of(sender: &Sender, numbers: &Numbers, lcid: u8, process: u32) -> Opti
     requires process { process < 8 }
     ensures { result ≡ number_at sender.now numbers.now lcid process }
 {
+    let number = numbers[process as usize][lcid as usize]?;
     match sender.held(process) {
         None => None,
-        Some(_) => numbers[process as usize][lcid as usize],
+        Some(_) => Some(number),
     }
 }
 
