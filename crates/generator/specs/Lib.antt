@@ -1,3 +1,4 @@
 pub mod Draws
 pub mod Script
+pub mod Lines
 pub mod Fields

@@ -1,4 +1,6 @@
-use super::Script;
+use super::{Script, ScriptLines};
+use air_text::Line;
+use l2_bits::NoMemory;
 use l2_io::Source;
 use std::alloc::{AllocError, Global};
 
@@ -105,6 +107,60 @@ fn scripts_are_those_of_the_model(rt: HostRuntime) -> Result<(), AllocError> {
             assert_eq!(rt; tally.length, case.length);
             assert_eq!(rt; tally.checksum, case.checksum);
         }
+    }
+    Ok(())
+}
+
+/// The lines of each kind, and all of them.
+#[derive(Clone, Copy, Debug, Default, PartialEq, Eq)]
+struct Count {
+    first: u32,
+    handovers: u32,
+    sdus: u32,
+    octets: usize,
+    ttis: u32,
+    last: u32,
+}
+
+impl Count {
+    fn add(&mut self, line: &Line) {
+        match line {
+            Line::Handover { .. } => self.handovers = self.handovers.saturating_add(1),
+            Line::Submit { octets, .. } => {
+                self.sdus = self.sdus.saturating_add(1);
+                self.octets = self.octets.saturating_add(octets.as_slice().len());
+            }
+            Line::Tti { .. } => self.ttis = self.ttis.saturating_add(1),
+            Line::Drain { .. } | Line::End => self.last = self.last.saturating_add(1),
+            _ => self.first = self.first.saturating_add(1),
+        }
+    }
+}
+
+fn count_lines(alloc: Global, number: u32) -> Result<Count, NoMemory> {
+    let mut lines = ScriptLines::new(alloc, number);
+    let mut count = Count::default();
+    for _ in 0..u64::MAX {
+        let Some(line) = lines.next()? else {
+            break;
+        };
+        count.add(&line);
+    }
+    Ok(count)
+}
+
+#[test]
+fn lines_are_those_of_the_model(rt: HostRuntime) -> Result<(), NoMemory> {
+    for (number, sdus, octets) in [(1, 968, 694_820), (7, 1010, 691_901)] {
+        let expected = Count {
+            first: 4,
+            handovers: 3,
+            sdus,
+            octets,
+            ttis: 2000,
+            last: 2,
+        };
+        assert_eq!(rt; count_lines(rt.alloc(), number)?, expected);
     }
     Ok(())
 }

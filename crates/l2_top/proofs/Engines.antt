@@ -12,7 +12,7 @@ use Rattle.l2_top.specs.declared.engine.LineEnd.{LineEnd}
 use Rattle.l2_top.specs.declared.engine.LineEnd.TheVariants as ends
 use Rattle.l2_top.specs.declared.playing.Ending.{Ending}
 use Rattle.l2_top.specs.Plays.{RunsLine, Plays, HasPlayed}
-use Rattle.l2_top.specs.Engines.{Between, Running, Showing, Summing, lifted, played_from, showing, blocks_of, summing, sums_of}
+use Rattle.l2_top.specs.Engines.{Between, Running, Showing, lifted, played_from, showing, blocks_of}
 
 some-of : {S T : Type 0} (f : S → T) (a b : S) → Some a ≡ Some b → Some (f a) ≡ Some (f b)
 some-of f a b e = let same : a ≡ b = cc in ap (λ s. Some (f s)) same
@@ -93,9 +93,6 @@ running first = record { line = λ r number text. refl; last = λ r. refl }
 showing-blocks : (first : Between) → StandsFor Showing showing (played_from first)
 showing-blocks first = record { line = λ d number text. refl; last = λ d. refl }
 
-summing-up : (first : Between) → StandsFor Summing summing (played_from first)
-summing-up first = record { line = λ r number text. refl; last = λ r. refl }
-
 plays-same : {p q : Played} → p ≡ q → (w w' : Option (List ℕ)) (i o : Type 0) (ending : Ending) → Plays p w w' i o ending → Plays q w w' i o ending
 plays-same e w w' i o ending h = rw (← e) h
 
@@ -119,8 +116,3 @@ pub blocks-played : (left left' w w' : Option (List ℕ)) (i o : Type 0) (ending
     → HasPlayed (journal_by (played_from (Showing undecoded))) left left' w w' i o ending → HasPlayed blocks_of left left' w w' i o ending
 blocks-played left left' w w' i o ending p =
     has-same _ blocks_of (λ whole octets. journal-same Showing showing (played_from (Showing undecoded)) (showing-blocks (Showing undecoded)) whole undecoded 1 octets) left left' w w' i o ending p
-
-pub sums-played : (left left' w w' : Option (List ℕ)) (i o : Type 0) (ending : Ending)
-    → HasPlayed (journal_by (played_from (Summing fresh))) left left' w w' i o ending → HasPlayed sums_of left left' w w' i o ending
-sums-played left left' w w' i o ending p =
-    has-same _ sums_of (λ whole octets. journal-same Summing summing (played_from (Summing fresh)) (summing-up (Summing fresh)) whole fresh 1 octets) left left' w w' i o ending p

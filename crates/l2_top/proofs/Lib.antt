@@ -4,5 +4,5 @@ pub mod Turning
 pub mod Parting
 pub mod Gathering
 pub mod Rows
-pub mod Muting
+pub mod Passing
 pub mod Finishing

@@ -1,12 +1,13 @@
--- What plays the lines of an input: the run of a script, the showing of blocks, or a run for its sums alone.
-use Rattle.std.specs.Prelude.{ℕ, Bool, List, [], Result, Ok, Err}
+-- What plays the lines of an input: the run of a script or the showing of blocks; and the run of a script for its sums alone.
+use Rattle.std.specs.Prelude.{◌≡◌, ℕ, Bool, List, [], Option, None, Some, Result, Ok, Err}
 use Rattle.air_record.specs.declared.record.Record.{Record}
 use Rattle.air_text.specs.declared.fault.LineRefusal.{LineRefusal}
 use Rattle.air_run.specs.Run.{RunState, fresh, finish}
-use Rattle.air_run.specs.Journal.{Player, Outcome, Goes, Ends, Refuses, Played, script, script_line, journal_by}
+use Rattle.air_run.specs.Journal.{Player, Outcome, Goes, Ends, Refuses, Played, script, script_line, finished, journal_by}
 use Rattle.air_run.specs.declared.refusal.Reason.TheVariants as reasons
 use Rattle.pdu_show.specs.Decoding.{Decoding, Decoded, undecoded, decode_line}
-use Rattle.l2_top.specs.Plays.{state_of}
+use Rattle.l2_top.specs.Plays.{state_of, Plays}
+use Rattle.l2_top.specs.declared.playing.Ending.{Ending}
 use Rattle.l2_top.specs.declared.engine.Engine.{Engine}
 use Rattle.l2_top.specs.declared.engine.Engine.TheVariants as engines
 
@@ -46,13 +47,17 @@ summing = record { first = fresh; line = muted_line; last = finish }
 abbrev pub sums_of : Bool → List ℕ → Played
 sums_of whole octets = journal_by summing whole octets
 
--- ---- each of them
+-- what running lines leaves where nothing is written before their end: all were run, or the run stopped with an ending
+abbrev pub PassesLines : Played → RunState → Option Ending → Type 0
+PassesLines played state None = played ≡ finished summing state
+PassesLines played state (Some ending) = (written : Option (List ℕ)) → Plays played written written ⊥ ⊥ ending
+
+-- ---- what plays an input
 
 -- what is known between two lines
 pub data Between : Type 0 where
   Running : RunState → Between
   Showing : Decoding → Between
-  Summing : RunState → Between
 
 -- an outcome over other states
 abbrev pub lifted : {S T : Type 0} → (S → T) → Outcome S → Outcome T
@@ -63,12 +68,10 @@ lifted f (Refuses reason) = Refuses reason
 abbrev pub line_by : Between → ℕ → List ℕ → Outcome Between
 line_by (Running r) number text = lifted Running (script_line r number text)
 line_by (Showing d) number text = lifted Showing (shown_line d number text)
-line_by (Summing r) number text = lifted Summing (muted_line r number text)
 
 abbrev pub last_by : Between → List Record
 last_by (Running r) = finish r
 last_by (Showing d) = []
-last_by (Summing r) = finish r
 
 -- what plays, from a state on
 abbrev pub played_from : Between → Player Between
@@ -78,4 +81,3 @@ played_from first = record { first = first; line = line_by; last = last_by }
 abbrev pub now_in : Engine → Between
 now_in (engines.Run run) = Running (state_of script run)
 now_in (engines.Decode d) = Showing d
-now_in (engines.Sums run) = Summing (state_of script run)

@@ -4,7 +4,7 @@ ghost use Rattle.air_run.specs.Journal.{script, script_line, finished};
 ghost use Rattle.air_run.specs.Run.{fresh};
 ghost use Rattle.pdu_show.specs.Decoding.{undecoded};
 ghost use Rattle.l2_top.specs.Plays.{RunsLine, Plays, state_of};
-ghost use Rattle.l2_top.specs.Engines.{Running, Showing, Summing, shown_line, line_by, last_by, played_from, now_in};
+ghost use Rattle.l2_top.specs.Engines.{Running, Showing, shown_line, line_by, last_by, played_from, now_in};
 
 use crate::playing::Ending;
 use air_run::{Reason, Run, StepFault};
@@ -49,8 +49,6 @@ pub enum Engine {
     Run(Run),
     /// Blocks are shown.
     Decode(Decode),
-    /// A script is run, and only what stands at its end is written.
-    Sums(Run),
 }
 
 // Runs one line of a script.
@@ -64,28 +62,6 @@ fn run_line<K: Sink>(alloc: Global, run: &mut Run, number: u32, text: &[u8], out
         Ok(Some(line)) => {
             let is_end = matches!(&line, Line::End);
             match run.step(number, &line, out) {
-                Ok(()) if is_end => LineEnd::Ended,
-                Ok(()) => LineEnd::Next,
-                Err(StepFault::Refused(refusal)) => LineEnd::Refused(Reason::Run(refusal)),
-                Err(StepFault::WriteFault) => LineEnd::WriteFault,
-                Err(StepFault::NoMemory) => LineEnd::NoMemory,
-            }
-        }
-        Err(LineFault::Refused(refusal)) => LineEnd::Refused(Reason::Line(refusal)),
-        Err(LineFault::NoMemory) => LineEnd::NoMemory,
-    }
-}
-
-// Runs one line of a script without its records.
-#[tactic(auto, using(crate::proofs::Nothing::part_nothing))]
-fn pass_line(alloc: Global, run: &mut Run, number: u32, text: &[u8]) -> LineEnd
-    ensures { RunsLine (script_line (state_of script run.old) number text.now) (Some (state_of script run.new)) None None ⊥ result }
-{
-    match read_line(alloc, text) {
-        Ok(None) => LineEnd::Next,
-        Ok(Some(line)) => {
-            let is_end = matches!(&line, Line::End);
-            match run.pass(&line) {
                 Ok(()) if is_end => LineEnd::Ended,
                 Ok(()) => LineEnd::Next,
                 Err(StepFault::Refused(refusal)) => LineEnd::Refused(Reason::Run(refusal)),
@@ -142,15 +118,8 @@ impl Engine {
         Engine::Decode(Decode::new(alloc))
     }
 
-    /// The run of a script for its sums, before its first line.
-    pub fn sums(alloc: Global) -> Engine
-        ensures { now_in result ≡ Summing fresh }
-    {
-        Engine::Sums(Run::new(alloc))
-    }
-
     /// Plays one line.
-    #[tactic(auto, using(crate::proofs::Engines::runs_lifted, crate::proofs::Muting::passes))]
+    #[tactic(auto, using(crate::proofs::Engines::runs_lifted))]
     pub fn line<K: Sink>(&mut self, alloc: Global, number: u32, text: &[u8], out: &mut K) -> LineEnd
         ensures line { RunsLine (line_by (now_in self.old) number text.now) (Some (now_in self.new)) (K.written out.old) (K.written out.new) (HasRisen (K.faults out.old) (K.faults out.new)) result }
         ensures count { K.faults out.old ≤ K.faults out.new }
@@ -158,7 +127,6 @@ impl Engine {
         match self {
             Engine::Run(run) => run_line(alloc, run, number, text, out),
             Engine::Decode(decode) => decode.line(number, text, out),
-            Engine::Sums(run) => pass_line(alloc, run, number, text),
         }
     }
 
@@ -171,13 +139,12 @@ impl Engine {
         match self {
             Engine::Run(run) => finish(run, out),
             Engine::Decode(_) => Ending::Done,
-            Engine::Sums(run) => finish(run, out),
         }
     }
 }
 
-// Writes what stands at the end of a script.
-fn finish<K: Sink>(run: Run, out: &mut K) -> Ending
+/// Writes what stands at the end of a script.
+pub fn finish<K: Sink>(run: Run, out: &mut K) -> Ending
     ensures over { Plays (finished script (state_of script run)) (K.written out.old) (K.written out.new) ⊥ (HasRisen (K.faults out.old) (K.faults out.new)) result }
     ensures count { K.faults out.old ≤ K.faults out.new }
 {

@@ -4,6 +4,7 @@
 mod engine;
 mod playing;
 mod status;
+mod summing;
 #[cfg(test)]
 mod tests;
 mod top;

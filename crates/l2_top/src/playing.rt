@@ -3,7 +3,7 @@ ghost use Rattle.l2_io.specs.Known.{HasRisen};
 ghost use Rattle.air_run.specs.Journal.{journal_from, journal_by, journal_of, finished};
 ghost use Rattle.l2_top.specs.Plays.{Turns, Plays, HasPlayed, PlaysLines, PutsRest, PutsSome};
 ghost use Rattle.l2_top.specs.declared.playing.Ending.{Ending};
-ghost use Rattle.l2_top.specs.Engines.{Between, played_from, now_in, blocks_of, sums_of};
+ghost use Rattle.l2_top.specs.Engines.{Between, played_from, now_in, blocks_of};
 
 use crate::engine::{Engine, LineEnd};
 use air_run::Reason;
@@ -16,7 +16,7 @@ use std::alloc::Global;
 const LONGEST: u32 = 20_000;
 
 /// The most lines of an input.
-const LIMIT: u32 = 1_000_000;
+pub const LIMIT: u32 = 1_000_000;
 
 /// How the reading of an input ended.
 #[derive(Clone, Copy, Debug, PartialEq, Eq)]
@@ -105,14 +105,19 @@ fn turn<S: Source, K: Sink>(
 
 // Puts what is gathered, where there is much of it or the next line has to be waited for.
 #[tactic(auto, using(crate::proofs::Nothing::after_none, crate::proofs::Nothing::front_all))]
-fn make_room<K: Sink>(gathered: &mut GatherSink, lines: &Lines, out: &mut K) -> Result<(), PutFault>
+fn make_room<S: Source, K: Sink>(
+    gathered: &mut GatherSink,
+    lines: &Lines,
+    source: &S,
+    out: &mut K,
+) -> Result<(), PutFault>
     ensures put { PutsSome gathered.old.octets gathered.new.octets (K.written out.old) (K.written out.new) (HasRisen (K.faults out.old) (K.faults out.new)) result }
     ensures count { K.faults out.old ≤ K.faults out.new }
 {
     if gathered.is_full() {
         return gathered.flush(out);
     }
-    if gathered.held().is_empty() || lines.has_line() {
+    if gathered.held().is_empty() || lines.has_line() || source.is_ready() {
         return Ok(());
     }
     gathered.flush(out)
@@ -149,7 +154,7 @@ fn play_lines<S: Source, K: Sink>(
     ensures out_count { K.faults out.old ≤ K.faults out.new }
 {
     for number in 1..LIMIT + 2 {
-        match make_room(gathered, lines, out) {
+        match make_room(gathered, lines, source, out) {
             Ok(()) => {}
             Err(PutFault::Failed) => return Some(Ending::WriteFault),
             Err(PutFault::NoMemory) => return Some(Ending::NoMemory),
@@ -218,14 +223,4 @@ pub fn show_blocks<S: Source, K: Sink>(alloc: Global, source: &mut S, out: &mut 
     ensures out_count { K.faults out.old ≤ K.faults out.new }
 {
     play(alloc, Engine::blocks(alloc), source, out)
-}
-
-/// Plays the script that a source gives, line by line, and writes only what stands at its end.
-pub fn sum_script<S: Source, K: Sink>(alloc: Global, source: &mut S, out: &mut K) -> Ending
-    ensures played { HasPlayed sums_of (S.left source.old) (S.left source.new) (K.written out.old) (K.written out.new)
-        (HasRisen (S.faults source.old) (S.faults source.new)) (HasRisen (K.faults out.old) (K.faults out.new)) result }
-    ensures source_count { S.faults source.old ≤ S.faults source.new }
-    ensures out_count { K.faults out.old ≤ K.faults out.new }
-{
-    play(alloc, Engine::sums(alloc), source, out)
 }

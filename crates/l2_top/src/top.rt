@@ -6,11 +6,11 @@ ghost use Rattle.words.specs.Commands.{command_of};
 ghost use Rattle.l2_top.specs.Engines.{blocks_of};
 ghost use Rattle.l2_top.specs.Main.{reason_text, refused_text, Tells, TellsRefusal, TellsEnding, Refuses, Runs, Generates};
 
-use crate::playing::{Ending, play_script, show_blocks, sum_script};
+use crate::playing::{Ending, play_script, show_blocks};
+use crate::summing::sum_script;
 use crate::{Command, Status, Words};
 use air_run::{Reason, RunRefusal};
 use air_text::LineRefusal;
-use generator::Script;
 use l2_io::{PutFault, Sink, Source};
 use std::alloc::{AllocError, Global};
 
@@ -104,8 +104,7 @@ fn generate<K: Sink, E: Sink>(alloc: Global, number: u32, out: &mut K, errs: &mu
     ensures { Generates number (K.written out.old) (K.written out.new) (E.written errs.old) (E.written errs.new) (HasRisen (K.faults out.old) (K.faults out.new))
         (HasRisen (E.faults errs.old) (E.faults errs.new)) (HasRisen (E.shortages errs.old) (E.shortages errs.new)) result }
 {
-    let mut script = Script::new(number);
-    let ending = sum_script(alloc, &mut script, out);
+    let ending = sum_script(alloc, number, out);
     finish(alloc, ending, errs)
 }
 
