@@ -58,9 +58,9 @@ share_both xs ys p q r =
 
 -- ---- COUNTs that ascend
 
-counts_at : (os ps : List Offer) → counts (os ++ ps) ≡ counts os ++ counts ps
-counts_at [] ps = refl
-counts_at (o ∷ os) ps = ap (λ (ns : List ℕ). counts_in o.count ++ ns) (counts_at os ps) ∙ sym (append_assoc (counts_in o.count) (counts os) (counts ps))
+pub counts_more : (os ps : List Offer) → counts (os ++ ps) ≡ counts os ++ counts ps
+counts_more [] ps = refl
+counts_more (o ∷ os) ps = ap (λ (ns : List ℕ). counts_in o.count ++ ns) (counts_more os ps) ∙ sym (append_assoc (counts_in o.count) (counts os) (counts ps))
 
 abbrev count_of : Ciphering → ℕ
 count_of x = x.count
@@ -114,7 +114,7 @@ alone low (x ∷ xs) h =
 
 -- ---- keys
 
-none_of_them : (key : List ℕ) (keys : List (List ℕ)) → IsOneOf key keys → AllByRecursion (λ other. key ≡ other → ⊥) keys → ⊥
+pub none_of_them : (key : List ℕ) (keys : List (List ℕ)) → IsOneOf key keys → AllByRecursion (λ other. key ≡ other → ⊥) keys → ⊥
 none_of_them key [] (is) h = is
 none_of_them key (other ∷ keys) (inl same) h = h.0 same
 none_of_them key (other ∷ keys) (inr more) h = none_of_them key keys more h.1
@@ -265,8 +265,8 @@ now_later c keys side xs d ds e =
     let later = ciphered_by (ends g) (takes g e) in
     let between = counts (taken (after f d) ds) in
     let are : counts (taken f (d ∷ (ds ++ e ∷ []))) ≡ counts (takes f d) ++ (between ++ counts (takes g e)) =
-    ap (λ (os : List Offer). counts (takes f d ++ os)) (taken_then (after f d) ds e) ∙ counts_at (takes f d) (taken (after f d) ds ++ takes g e)
-    ∙ ap (λ (ns : List ℕ). counts (takes f d) ++ ns) (counts_at (taken (after f d) ds) (takes g e)) in
+    ap (λ (os : List Offer). counts (takes f d ++ os)) (taken_then (after f d) ds e) ∙ counts_more (takes f d) (taken (after f d) ds ++ takes g e)
+    ∙ ap (λ (ns : List ℕ). counts (takes f d) ++ ns) (counts_more (taken (after f d) ds) (takes g e)) in
     let up : IsAscending 0 (counts (takes f d) ++ (between ++ counts (takes g e))) = subst (IsAscending 0) are (takes_once c keys side xs (d ∷ (ds ++ e ∷ []))) in
     elim (counts_by (ends f) (takes f d)) [
       | inl none ↦ nothing_shares now later none

@@ -96,7 +96,7 @@ run_on : (xs ys : List Call) (e : End) → run (xs ++ ys) e ≡ run ys (run xs e
 run_on [] ys e = refl
 run_on (x ∷ xs) ys e = run_on xs ys (after e x)
 
-given_parts : (xs ys : List Call) → AreGiven (xs ++ ys) → AreGiven xs × AreGiven ys
+pub given_parts : (xs ys : List Call) → AreGiven (xs ++ ys) → AreGiven xs × AreGiven ys
 given_parts [] ys g = (tt, g)
 given_parts (x ∷ xs) ys g = let more = given_parts xs ys g.1 in ((g.0, more.0), more.1)
 

@@ -12,7 +12,7 @@ use Rattle.bearer_laws.specs.Stream.{takes, takes_in, all_taken, counts}
 use Rattle.eps_sec.specs.declared.Keys.{Keys}
 use Rattle.l2_node.specs.Finding.{find, has, place, bearer_at}
 use Rattle.l2_node.specs.Moving.{all_stopped, all_restarted}
-use Rattle.pdcp_tx.specs.Runs.{counts_in}
+use Rattle.bearer_laws.proofs.Ciphering.{counts_more}
 use Rattle.pdcp_tx.specs.State.{Offer}
 use Rattle.rlc_um.specs.Transparent.{nothing_submitted}
 use Rattle.node_laws.specs.Bearers.{restarts}
@@ -29,10 +29,6 @@ pub record Takes (f g : Flow) (lives : List Keys) (taken : List ℕ) : Type 0 wh
 
 stays : (f : Flow) → Takes f f [] []
 stays f = record { steps = []; flow_is = refl; lives_are = refl; counts_are = refl }
-
-pub counts_more : (xs ys : List Offer) → counts (xs ++ ys) ≡ counts xs ++ counts ys
-counts_more [] ys = refl
-counts_more (x ∷ xs) ys = ap (λ (ns : List ℕ). counts_in x.count ++ ns) (counts_more xs ys) ∙ sym (append_assoc (counts_in x.count) (counts xs) (counts ys))
 
 restarts_more : (xs ys : List Step) → restarts (xs ++ ys) ≡ restarts xs ++ restarts ys
 restarts_more [] ys = refl
