@@ -99,7 +99,7 @@ hears-sound f c reports h some honest high kept all = heard-sound f c reports (r
 pub old-reports : (f : Flow) (c : Call) → IsSound f → AllByRecursion (IsTrueReport (kept_with (receiver f) c) (length (sender f).past.sent) f.busy) f.reports
 old-reports f c h = each (IsTrueReport (receiver f).kept (length (sender f).past.sent) f.busy) (IsTrueReport (kept_with (receiver f) c) (length (sender f).past.sent) f.busy) (report-more f c) f.reports h.reports
 
-expiry-window : (m : Option ℕ) (s : State) → (after_reorder m s).window ≡ s.window
+pub expiry-window : (m : Option ℕ) (s : State) → (after_reorder m s).window ≡ s.window
 expiry-window None s = refl
 expiry-window (Some x) s = refl
 

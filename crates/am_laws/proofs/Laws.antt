@@ -15,6 +15,9 @@ use Rattle.am_laws.specs.Statuses.{IsReadRight, ReadsEachNumber}
 use Rattle.am_laws.specs.Confirmed.{ConfirmedArrives}
 use Rattle.am_laws.specs.Sdus.{HandsUpTheFront}
 use Rattle.am_laws.specs.Seen.{HandsUpInSequence, FinishGivesTheWhole}
+use Rattle.am_laws.specs.Arrives.{ArrivedWasOffered, ArrivalsStay, OnlyDataArrives, NextIsReady, FinishGivesByPlaces, ConfirmsWhatArrived}
+use Rattle.am_laws.specs.Steps.{OffersAreSent}
+use Rattle.am_laws.specs.Left.{HandsUpAll}
 use Rattle.am_laws.proofs.Sound.{IsTrueCopy, one, IsTrueReport, IsSound, each}
 use Rattle.am_laws.proofs.Sending.{sends-sound}
 use Rattle.am_laws.proofs.Hearing.{receives-sound, comes-sound, in-order}
@@ -25,6 +28,9 @@ use Rattle.am_laws.proofs.Finished.{gives-the-whole}
 use Rattle.am_laws.proofs.Covered.{arrives}
 use Rattle.am_laws.proofs.Sequence.{goes-up-in-sequence}
 use Rattle.am_laws.proofs.Arrived.{has-arrived}
+use Rattle.am_laws.proofs.Later.{arrivals-stay, arrivals-same}
+use Rattle.am_laws.proofs.ByPlace.{arrived-offered, has-ready, finish-places, confirms-arrived, is-offered}
+use Rattle.am_laws.proofs.Left.{has-all-up}
 use Rattle.am_laws.proofs.Statuses.{read-right, reports-sound, status-sound}
 
 -- ---- what is under way
@@ -176,3 +182,27 @@ confirmed-arrives sending receiving steps place g some = arrives (goes steps (ou
 
 pub hands-up-in-sequence : HandsUpInSequence
 hands-up-in-sequence sending receiving steps g = goes-up-in-sequence (goes steps (outset sending receiving)) (sound sending receiving steps g)
+
+pub arrived-was-offered : ArrivedWasOffered
+arrived-was-offered sending receiving steps g = λ place e. arrived-offered (goes steps (outset sending receiving)) place (sound sending receiving steps g) e
+
+pub arrived-stays : ArrivalsStay
+arrived-stays sending receiving steps g = λ s place given e. arrivals-stay (goes steps (outset sending receiving)) s place (sound sending receiving steps g) given e
+
+pub only-data-arrives : OnlyDataArrives
+only-data-arrives sending receiving steps g = λ s place given e. arrivals-same (goes steps (outset sending receiving)) s place (sound sending receiving steps g) given e
+
+pub next-is-ready : NextIsReady
+next-is-ready sending receiving steps g = has-ready (goes steps (outset sending receiving)) (sound sending receiving steps g)
+
+pub finish-gives-by-places : FinishGivesByPlaces
+finish-gives-by-places sending receiving steps g = finish-places (goes steps (outset sending receiving)) (sound sending receiving steps g)
+
+pub confirms-what-arrived : ConfirmsWhatArrived
+confirms-what-arrived sending receiving steps g = λ k place e. confirms-arrived (goes steps (outset sending receiving)) k place (sound sending receiving steps g) e
+
+pub offers-are-sent : OffersAreSent
+offers-are-sent sending receiving steps g = is-offered (goes steps (outset sending receiving)) (sound sending receiving steps g)
+
+pub hands-up-all : HandsUpAll
+hands-up-all sending receiving steps g = has-all-up (goes steps (outset sending receiving)) (sound sending receiving steps g)

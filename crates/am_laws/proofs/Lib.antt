@@ -14,4 +14,8 @@ pub mod Finished
 pub mod Owners
 pub mod Covered
 pub mod Sequence
+pub mod Later
+pub mod Steps
+pub mod ByPlace
+pub mod Left
 pub mod Laws

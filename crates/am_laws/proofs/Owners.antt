@@ -111,7 +111,7 @@ marks-end : (xs : List (List ℕ)) (x : List ℕ) → joined_marks (xs ++ x ∷ 
 marks-end [] x = append-nil x
 marks-end (y ∷ ys) x = ap (λ (ms : List ℕ). y ++ ms) (marks-end ys x) ∙ sym (append_assoc y (joined_marks ys) x)
 
-turn-marks : (t : Turn) (s : State) (size : ℕ) (g : Confirmations) → (all_marks (sent_by t s size g) ≡ all_marks g) × ((sent_by t s size g).offered ≡ g.offered)
+pub turn-marks : (t : Turn) (s : State) (size : ℕ) (g : Confirmations) → (all_marks (sent_by t s size g) ≡ all_marks g) × ((sent_by t s size g).offered ≡ g.offered)
 turn-marks turns.New s size g = (
   ap (λ (ms : List ℕ). ms ++ drop (new_count s size) g.unsent) (marks-end g.sent (take (new_count s size) g.unsent))
       ∙ (append_assoc (joined_marks g.sent) (take (new_count s size) g.unsent) (drop (new_count s size) g.unsent)

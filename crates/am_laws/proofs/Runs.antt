@@ -25,7 +25,7 @@ pub sender-more : (f : Flow) (c : SenderCall) → run_sender octets_after (f.sen
 sender-more f c = run-more octets_after f.sent c (begun f.sending nothing_sent)
 
 -- the state is the same whatever of the past is kept
-same-state : {G : Type 0} {H : Type 0} (f : State → SenderCall → G → G) (g : State → SenderCall → H → H) (cs : List SenderCall) (v : SenderWorld G) (w : SenderWorld H) → v.state ≡ w.state → (run_sender f cs v).state ≡ (run_sender g cs w).state
+pub same-state : {G : Type 0} {H : Type 0} (f : State → SenderCall → G → G) (g : State → SenderCall → H → H) (cs : List SenderCall) (v : SenderWorld G) (w : SenderWorld H) → v.state ≡ w.state → (run_sender f cs v).state ≡ (run_sender g cs w).state
 same-state f g [] v w e = e
 same-state f g (c ∷ cs) v w e = same-state f g cs (called f v c) (called g w c) (ap (λ (s : State). after s c) e)
 

@@ -30,7 +30,7 @@ abbrev Stops : List Place → Type 0
 Stops [] = Unit {0}
 Stops (q ∷ qs) = q.come ≡ false
 
-come-push : (ps : List Place) (p : Place) → all_come (ps ++ p ∷ []) ≡ (all_come ps && p.come)
+pub come-push : (ps : List Place) (p : Place) → all_come (ps ++ p ∷ []) ≡ (all_come ps && p.come)
 come-push [] p = and-true p.come
   where
     and-true : (b : Bool) → (b && true) ≡ b

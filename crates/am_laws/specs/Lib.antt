@@ -6,3 +6,6 @@ pub mod Statuses
 pub mod Sdus
 pub mod Seen
 pub mod Confirmed
+pub mod Arrives
+pub mod Steps
+pub mod Left

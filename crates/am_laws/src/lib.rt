@@ -2,11 +2,14 @@
 //! They speak of the definitions that `rlc_am_tx` and `rlc_am_rx` meet, and do nothing.
 #![tactic(auto)]
 
+ghost use Rattle.am_laws.specs.Arrives.{ArrivedWasOffered, ArrivalsStay, OnlyDataArrives, NextIsReady, FinishGivesByPlaces, ConfirmsWhatArrived};
 ghost use Rattle.am_laws.specs.Confirmed.{ConfirmedArrives};
 ghost use Rattle.am_laws.specs.Fields.{HearsWhatWasSent, NothingClashes};
 ghost use Rattle.am_laws.specs.Seen.{HandsUpInSequence, FinishGivesTheWhole};
+ghost use Rattle.am_laws.specs.Left.{HandsUpAll};
 ghost use Rattle.am_laws.specs.Numbers.{KeepsOrder, AckedHasArrived};
 ghost use Rattle.am_laws.specs.Sdus.{HandsUpTheFront};
+ghost use Rattle.am_laws.specs.Steps.{GoesUpOneByOne, OffersAreSent};
 ghost use Rattle.am_laws.specs.Statuses.{ReadsEachNumber};
 
 /// Whatever is lost, repeated and delayed, VT(A) ≤ VR(R) ≤ VR(MS) ≤ VR(H) ≤ VT(S) ≤ VT(A) + 512.
@@ -56,4 +59,51 @@ pub fn finish_gives_the_whole()
 /// Each SDU that the sender confirms is one of which all octets have arrived, so one that went up or that `finish` gives.
 pub fn confirmed_arrives()
     ensures { ConfirmedArrives }
+{}
+
+/// An SDU that has arrived is one that was offered.
+pub fn arrived_was_offered()
+    ensures { ArrivedWasOffered }
+{}
+
+/// What has arrived stays so.
+pub fn arrivals_stay()
+    ensures { ArrivalsStay }
+{}
+
+/// No step but a data PDU that comes makes an SDU arrive.
+pub fn only_data_arrives()
+    ensures { OnlyDataArrives }
+{}
+
+/// What is ready to go up are the SDUs that were offered at the places behind those that went up: each has arrived, and
+/// the one behind them hasn't.
+pub fn next_is_ready()
+    ensures { NextIsReady }
+{}
+
+/// `Up` takes the first that is ready. No other step changes what went up, and only a data PDU that comes adds to what is
+/// ready, behind it.
+pub fn goes_up_one_by_one()
+    ensures { GoesUpOneByOne }
+{}
+
+/// `finish` gives those SDUs that have arrived and weren't handed up, by their places.
+pub fn finish_gives_by_places()
+    ensures { FinishGivesByPlaces }
+{}
+
+/// Each place that the sender is about to confirm is one of an SDU that was offered and has arrived.
+pub fn confirms_what_arrived()
+    ensures { ConfirmsWhatArrived }
+{}
+
+/// An SDU that is offered stands behind those before and hasn't arrived; no other step changes what was offered.
+pub fn offers_are_sent()
+    ensures { OffersAreSent }
+{}
+
+/// Where nothing is left at the sender, what went up and what is ready to are all SDUs that it was offered.
+pub fn hands_up_all()
+    ensures { HandsUpAll }
 {}

@@ -438,7 +438,7 @@ polled-accounts : (b : Bool) (s : State) → (with_poll b s).accounts ≡ s.acco
 polled-accounts true s = refl
 polled-accounts false s = refl
 
-turn-accounts : (t : Turn) (s : State) (size : ℕ) (more : Bool) → (after_turn t s size more).accounts ≡ s.accounts
+pub turn-accounts : (t : Turn) (s : State) (size : ℕ) (more : Bool) → (after_turn t s size more).accounts ≡ s.accounts
 unfolding after_turn
 turn-accounts turns.Whole s size more = polled-accounts (is_wanted (sent_whole s) more) (sent_whole s)
 turn-accounts turns.Part s size more = polled-accounts (is_wanted (sent_segment s size) more) (sent_segment s size)
@@ -449,7 +449,7 @@ turn-accounts turns.Small s size more = refl
 turn-accounts turns.Shut s size more = refl
 turn-accounts turns.Held s size more = refl
 
-ended-accounts : (l : Option ℕ) (b : Bool) (s : State) → (ended l b s).accounts ≡ s.accounts
+pub ended-accounts : (l : Option ℕ) (b : Bool) (s : State) → (ended l b s).accounts ≡ s.accounts
 ended-accounts (Some n) b s = refl
 ended-accounts None true s = refl
 ended-accounts None false s = refl
@@ -466,11 +466,11 @@ status-later true s status c = later-same s s refl
 status-later false s status c = subst (λ (l : Ledger). Grows 0 s.place s.accounts l) (sym (ended-accounts (limit_of s (offset_of s.window.base status.ack) status.nacks) (stops s (offset_of s.window.base status.ack) status.nacks) (read s (offset_of s.window.base status.ack) status.nacks)))
     (from-grows 0 s.place s.accounts 0 (offset_of s.window.base status.ack) (named_all s.window.base s.window.slots status.nacks) (subst (λ (ks : List Key). Chained 0 ks s.place) (sym (named-keys s.window.base s.window.slots status.nacks)) c))
 
-expiry-accounts : (b : Bool) (s : State) (more : Bool) → (if b then ended (expiry_limit s more) false (expired s more) else s).accounts ≡ s.accounts
+pub expiry-accounts : (b : Bool) (s : State) (more : Bool) → (if b then ended (expiry_limit s more) false (expired s more) else s).accounts ≡ s.accounts
 expiry-accounts false s more = refl
 expiry-accounts true s more = ended-accounts (expiry_limit s more) false (expired s more) ∙ recalled-accounts (recalled_place s more) (with_owed s)
 
-settled-accounts : (b : Bool) (s : State) → (settled_by b s).accounts ≡ s.accounts
+pub settled-accounts : (b : Bool) (s : State) → (settled_by b s).accounts ≡ s.accounts
 settled-accounts true s = refl
 settled-accounts false s = refl
 

@@ -4,6 +4,7 @@ use Rattle.std.proofs.lemmas.Grind.{common_steps}
 use Rattle.std.proofs.lemmas.Bool.Decides.{nat_tests}
 use Rattle.std.proofs.lemmas.List.{append-nil, take_at, drop_at, drop-drop, drop-append-le, take-append-drop, length-replicate}
 use Rattle.l2_num.specs.Timers.{runs}
+use Rattle.l2_types.specs.declared.config.AmTxConfig.{AmTxConfig}
 use Rattle.rlc_pdu.specs.declared.pdu.Nack.{Nack}
 use Rattle.rlc_pdu.specs.Pdus.{StatusPdu}
 use Rattle.rlc_queue.proofs.Lens.{whole}
@@ -130,13 +131,13 @@ carried-length (x ∷ xs) = ap suc (carried-length xs)
 
 -- the marks of what isn't sent are those of what waits, and those of the PDUs in the window are those of their elements; all marks together are
 -- as many as octets were offered
-record Owns (s : State) (count : ℕ) (waiting : List ℕ) (pdus : List (List ℕ)) (sizes : List ℕ) : Type 0 where
-  offered : count ≡ length sizes
-  unsent : waiting ≡ marks s.place (map length s.queue.sdus)
-  sent : drop s.window.base pdus ≡ carried s.window.slots
-  number : length pdus ≡ next s.window
-  total : (p : ℕ) → all_in pdus p + times p waiting ≡ octets_at 0 sizes p
-  chain : Chained 0 (keys s.window.slots) s.place
+pub record Owns (s : State) (count : ℕ) (waiting : List ℕ) (pdus : List (List ℕ)) (sizes : List ℕ) : Type 0 where
+  pub offered : count ≡ length sizes
+  pub unsent : waiting ≡ marks s.place (map length s.queue.sdus)
+  pub sent : drop s.window.base pdus ≡ carried s.window.slots
+  pub number : length pdus ≡ next s.window
+  pub total : (p : ℕ) → all_in pdus p + times p waiting ≡ octets_at 0 sizes p
+  pub chain : Chained 0 (keys s.window.slots) s.place
 
 abbrev Owners : State → Confirmations → Books → Type 0
 Owners s g b = Owns s g.offered g.unsent g.sent b.sizes
@@ -317,13 +318,13 @@ after-given s (Expire more) g b e = e
 after-given s (Settle more) g b e = e
 after-given s Confirm g b e = ap (λ (xs : List ℕ). with_given (slice_get s.accounts.news 0) xs) e
 
-record Keeps (s : State) (g : Confirmations) (b : Books) : Type 0 where
-  follows : Follows s b
-  fits : Fits s.window g.acked
-  owns : Owners s g b
-  given : b.given ≡ g.given
+pub record Keeps (s : State) (g : Confirmations) (b : Books) : Type 0 where
+  pub follows : Follows s b
+  pub fits : Fits s.window g.acked
+  pub owns : Owners s g b
+  pub given : b.given ≡ g.given
 
-after-keeps : (s : State) (c : Call) (g : Confirmations) (b : Books) → Keeps s g b → Keeps (after s c) (confirmations_after s c g) (books_after s c b)
+pub after-keeps : (s : State) (c : Call) (g : Confirmations) (b : Books) → Keeps s g b → Keeps (after s c) (confirmations_after s c g) (books_after s c b)
 after-keeps s c g b k = record {
   follows = after-follows s c b k.follows;
   fits = subst (λ (f : ℕ → Bool). Fits (after s c).window f) (sym (after-acked s c g)) (after-fits s c g.acked k.fits);
@@ -386,10 +387,14 @@ run-confirmed : (calls : List Call) (w : World Confirmations) (b : Books) → Ke
 run-confirmed [] w b k = confirmed-of w b k
 run-confirmed (c ∷ cs) w b k = run-confirmed cs (record { state = after w.state c; past = confirmations_after w.state c w.past }) (books_after w.state c b) (after-keeps w.state c w.past b k)
 
-pub confirms : ConfirmsEachOnce
-confirms config calls = run-confirmed calls (begun config unconfirmed) (record { sizes = []; given = [] }) (record {
+-- as a life begins
+pub begun-keeps : (config : AmTxConfig) → Keeps (begun config unconfirmed).state unconfirmed (record { sizes = []; given = [] })
+begun-keeps config = record {
   follows = record { aligned = refl; many = refl; owed = λ p. refl; tells = λ p. record { count = refl; bound = omega arith } };
   fits = fresh-fits config;
   owns = record { offered = refl; unsent = refl; sent = refl; number = refl; total = λ p. refl; chain = omega arith };
   given = refl;
-})
+}
+
+pub confirms : ConfirmsEachOnce
+confirms config calls = run-confirmed calls (begun config unconfirmed) (record { sizes = []; given = [] }) (begun-keeps config)

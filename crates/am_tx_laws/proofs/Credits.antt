@@ -55,13 +55,13 @@ owed-below from (x ∷ xs) p lt = let ih = owed-below (from + 1) xs p (omega ari
 
 -- octets are acknowledged
 
-paid-zero : (o : Owed) (os : List Owed) (n : ℕ) → paid_at (slice_get (o ∷ os) 0) (o ∷ os) 0 n ≡ record { size = o.size; owed = o.owed - n } ∷ os
+pub paid-zero : (o : Owed) (os : List Owed) (n : ℕ) → paid_at (slice_get (o ∷ os) 0) (o ∷ os) 0 n ≡ record { size = o.size; owed = o.owed - n } ∷ os
 paid-zero o os n = grind (arith, common_steps)
 
-paid-suc : (o : Owed) (os : List Owed) (at n : ℕ) → paid_at (slice_get (o ∷ os) (suc at)) (o ∷ os) (suc at) n ≡ o ∷ paid_at (slice_get os at) os at n
+pub paid-suc : (o : Owed) (os : List Owed) (at n : ℕ) → paid_at (slice_get (o ∷ os) (suc at)) (o ∷ os) (suc at) n ≡ o ∷ paid_at (slice_get os at) os at n
 paid-suc o os at n = grind (arith, common_steps)
 
-paid-none : (at n : ℕ) → paid_at (slice_get [] at) [] at n ≡ []
+pub paid-none : (at n : ℕ) → paid_at (slice_get [] at) [] at n ≡ []
 paid-none at n = grind (arith, common_steps)
 
 owed-paid : (from : ℕ) (os : List Owed) (at n p : ℕ) → owed_in from (paid_at (slice_get os at) os at n) p ≡ owed_in from os p - one (from + at) n p

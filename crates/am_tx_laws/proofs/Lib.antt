@@ -14,6 +14,7 @@ pub mod Credits
 pub mod Keys
 pub mod Books
 pub mod Confirms
+pub mod Left
 pub mod Stretches
 pub mod Dealing
 pub mod Writes

@@ -9,3 +9,4 @@ pub mod Polled
 pub mod Watched
 pub mod Confirmed
 pub mod Octets
+pub mod Left

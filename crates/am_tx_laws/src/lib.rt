@@ -4,6 +4,7 @@
 ghost use Rattle.am_tx_laws.specs.Acked.{BaseIsLeast};
 ghost use Rattle.am_tx_laws.specs.Confirmed.{ConfirmsEachOnce};
 ghost use Rattle.am_tx_laws.specs.Cutting.{CutIsLongest, CutsElements};
+ghost use Rattle.am_tx_laws.specs.Left.{LeavesOnlyUnconfirmed};
 ghost use Rattle.am_tx_laws.specs.Limit.{FailsAtLimit};
 ghost use Rattle.am_tx_laws.specs.Namings.{CountsNamings};
 ghost use Rattle.am_tx_laws.specs.Octets.{WritesTheStream};
@@ -75,4 +76,9 @@ pub fn runs_the_poll_timer()
 /// of the calls that acknowledged the last of them, and ascending where one call did.
 pub fn confirms_each_once()
     ensures { ConfirmsEachOnce }
+{}
+
+/// Each SDU having an octet, once nothing is left each one that was offered is confirmed.
+pub fn leaves_only_unconfirmed()
+    ensures { LeavesOnlyUnconfirmed }
 {}

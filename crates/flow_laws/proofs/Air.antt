@@ -2,20 +2,27 @@
 use Rattle.std.proofs.Common.{◌≡◌, ℕ, List, [], ◌∷◌, ◌++◌, map, slice_get, refl, ap, sym, subst, ◌∙◌}
 use Rattle.std.specs.List.{AllByRecursion}
 use Rattle.bearer_am.specs.State.{State}
+use Rattle.bearer_laws.specs.Calls.{Call as BearerCall}
 use Rattle.l2_node.specs.End.{End, heard_by, sent_by}
 use Rattle.l2_types.specs.declared.side.Side.{Side}
 use Rattle.l2_types.specs.declared.side.Side.TheVariants.{Nb, Ue}
 use Rattle.node_laws.specs.Calls.{SetVisits, SetReports, Add, Submit, SetDiscard, Tick, TickBuckets, Visits, Grants, Granted, Assigned, Pass, Receive, Expire, Move}
 use Rattle.flow_laws.specs.Air.{Station, Air, Act, Calls, Comes, Goes, Step, AtNb, AtUe, Passes, does, passed, older, happens, goes, begins, outset, IsYoung, IsDone, IsGiven, AreGiven, Begins, IsPair}
+use Rattle.flow_laws.specs.Channels.{calls_of}
 use Rattle.flow_laws.specs.Pair.{BearerEnd, Pair, Step as PairStep, Passes as PairPasses, goes as pair_goes, outset as pair_outset, begins as pair_begins, passed as pair_passed, older as older_sent, AreGiven as AreGivenPair, IsYoung as IsYoungSent}
 use Rattle.flow_laws.proofs.Loads.{aged_load, aged_copies, aged_reports, aged_blocks, aged_all, young_all}
 use Rattle.flow_laws.proofs.Runs.{near_steps, far_steps, near_goes, far_goes, near_given, far_given, goes_more, given_more}
-use Rattle.flow_laws.proofs.Stations.{Matches, Acts, hears, lets_go, plain_call}
+use Rattle.flow_laws.proofs.Stations.{Matches, Acts, calls_by, hears, lets_go, plain_call}
 use Rattle.flow_laws.proofs.Visiting.{visits}
 
 -- ---- an act at an end
 
-acts : (side oside : Side) (l : ℕ) (s o : Station) (n m : BearerEnd) (x : Act) → heard_by side ≡ sent_by oside → Matches side l s n → Matches oside l o m → IsDone l s x → Acts side l (does o s x) m n
+abbrev pub calls_in : ℕ → Station → Station → Act → List BearerCall
+calls_in l other s (Calls c) = calls_of l s.end c
+calls_in l other s (Comes k) = calls_by l s.end (slice_get other.blocks k)
+calls_in l other s (Goes k) = []
+
+pub acts : (side oside : Side) (l : ℕ) (s o : Station) (n m : BearerEnd) (x : Act) → heard_by side ≡ sent_by oside → Matches side l s n → Matches oside l o m → IsDone l s x → Acts side l (does o s x) m n (calls_in l o s x)
 acts side oside l s o n m (Calls (SetVisits maximum)) dir h k g = plain_call side l s n m (SetVisits maximum) h g.0 g.1 (λ t q. cc) (λ b q. cc)
 acts side oside l s o n m (Calls (SetReports reports)) dir h k g = plain_call side l s n m (SetReports reports) h g.0 g.1 (λ t q. cc) (λ b q. cc)
 acts side oside l s o n m (Calls (Add c keys)) dir h k g = plain_call side l s n m (Add c keys) h g.0 g.1 (λ t q. cc) (λ b q. cc)
@@ -36,7 +43,7 @@ acts side oside l s o n m (Goes k) dir h g d = lets_go side l k s n m h (slice_g
 
 -- ---- a TTI passes
 
-passes : (side : Side) (l : ℕ) (s : Station) (n : BearerEnd) → Matches side l s n → Matches side l (passed s) (pair_passed n)
+pub passes : (side : Side) (l : ℕ) (s : Station) (n : BearerEnd) → Matches side l s n → Matches side l (passed s) (pair_passed n)
 passes side l s n h = record {
   come = h.come;
   there = h.there;
@@ -49,7 +56,7 @@ passes side l s n h = record {
   busy = λ q. q;
 }
 
-young : (side : Side) (l : ℕ) (s : Station) (n : BearerEnd) → Matches side l s n → AllByRecursion IsYoung s.blocks → AllByRecursion IsYoungSent n.reports
+pub young : (side : Side) (l : ℕ) (s : Station) (n : BearerEnd) → Matches side l s n → AllByRecursion IsYoung s.blocks → AllByRecursion IsYoungSent n.reports
 young side l s n h y =
     subst (λ rs. AllByRecursion IsYoungSent rs) (sym h.reports_are)
     (young_all l (sent_by side) s.end.sender s.end.numbers h.loads (subst (λ bs. AllByRecursion IsYoung bs) (sym h.blocks_are) y) h.are)
@@ -75,14 +82,14 @@ more_match l b d a c h ts g x y = record {
 happens_on : (l : ℕ) (b d : State) (a : Air) (s : Step) → IsGiven l a s → BothMatch l b d a → BothMatch l b d (happens a s)
 happens_on l b d a (AtNb x) g h =
     let p : Pair = pair_goes h.steps (pair_outset b d) in
-    let r : Acts Nb l (does a.ue a.nb x) p.far p.near = acts Nb Ue l a.nb a.ue p.near p.far x refl h.nb h.ue g in
+    let r : Acts Nb l (does a.ue a.nb x) p.far p.near (calls_in l a.ue a.nb x) = acts Nb Ue l a.nb a.ue p.near p.far x refl h.nb h.ue g in
     let same = near_goes p r.deeds in
     more_match l b d a (happens a (AtNb x)) h (near_steps r.deeds) (near_given p r.deeds r.done)
     (subst (λ (q : Pair). Matches Nb l (does a.ue a.nb x) q.near) (sym same) r.matches)
     (subst (λ (q : Pair). Matches Ue l a.ue q.far) (sym same) h.ue)
 happens_on l b d a (AtUe x) g h =
     let p : Pair = pair_goes h.steps (pair_outset b d) in
-    let r : Acts Ue l (does a.nb a.ue x) p.near p.far = acts Ue Nb l a.ue a.nb p.far p.near x refl h.ue h.nb g in
+    let r : Acts Ue l (does a.nb a.ue x) p.near p.far (calls_in l a.nb a.ue x) = acts Ue Nb l a.ue a.nb p.far p.near x refl h.ue h.nb g in
     let same = far_goes p r.deeds in
     more_match l b d a (happens a (AtUe x)) h (far_steps r.deeds) (far_given p r.deeds r.done)
     (subst (λ (q : Pair). Matches Nb l a.nb q.near) (sym same) h.nb)
@@ -96,7 +103,7 @@ goes_on : (l : ℕ) (b d : State) (steps : List Step) (a : Air) → AreGiven l a
 goes_on l b d [] a g h = h
 goes_on l b d (s ∷ ss) a g h = goes_on l b d ss (happens a s) g.1 (happens_on l b d a s g.0 h)
 
-begins_so : (side : Side) (l : ℕ) (e : End) (b : State) → Begins side l e b → Matches side l (begins e) (pair_begins b)
+pub begins_so : (side : Side) (l : ℕ) (e : End) (b : State) → Begins side l e b → Matches side l (begins e) (pair_begins b)
 begins_so side l e b h = record {
   come = h.come;
   there = h.there;

@@ -44,11 +44,11 @@ use Rattle.flow_laws.proofs.Places.{GoesBy, rests, goes_then, set_here, set_apar
 arrives : List (List ℕ) → List BearerCall
 arrives pdus = map (λ pdu. Arrives pdu) pdus
 
-arrive_if : (here : Bool) (pdu : List ℕ) → only here (Arrives pdu) ≡ map (λ p. Arrives p) (if here then pdu ∷ [] else [])
+pub arrive_if : (here : Bool) (pdu : List ℕ) → only here (Arrives pdu) ≡ map (λ p. Arrives p) (if here then pdu ∷ [] else [])
 arrive_if true pdu = refl
 arrive_if false pdu = refl
 
-arrive_more : (xs ys : List (List ℕ)) → map (λ p. Arrives p) (xs ++ ys) ≡ map (λ p. Arrives p) xs ++ map (λ p. Arrives p) ys
+pub arrive_more : (xs ys : List (List ℕ)) → map (λ p. Arrives p) (xs ++ ys) ≡ map (λ p. Arrives p) xs ++ map (λ p. Arrives p) ys
 arrive_more [] ys = refl
 arrive_more (x ∷ xs) ys = ap (λ (cs : List BearerCall). Arrives x ∷ cs) (arrive_more xs ys)
 
@@ -58,7 +58,7 @@ sdu_by true l m pdu h e =
     rw e (on_by (m == l) true l m h.bearers (of b.lcid (alive (flow_arrived b.state.flow pdu))) (Arrives pdu) refl e refl refl)
 sdu_by false l m pdu h e = rw e (absent_by (m == l) l m h.bearers (Arrives pdu) refl e)
 
-item_by : (l : ℕ) (i : MacItem) (h : Heard) → GoesBy l h.bearers (hears i h).bearers (map (λ p. Arrives p) (pdus_in l i))
+pub item_by : (l : ℕ) (i : MacItem) (h : Heard) → GoesBy l h.bearers (hears i h).bearers (map (λ p. Arrives p) (pdus_in l i))
 item_by l front h = rests l h.bearers
 item_by l (element c) h = rests l h.bearers
 item_by l (sdu lcid octets) h = subst (GoesBy l h.bearers (hears_sdu lcid octets h).bearers) (arrive_if (lcid == l) octets) (sdu_by (has lcid h.bearers) l lcid octets h refl)
@@ -114,11 +114,11 @@ write_by true l m share held w e =
     rw e (on_by (m == l) true l m w.bearers (of b.lcid (alive (flow_after b.state.flow share held))) (Takes share held) refl e refl refl)
 write_by false l m share held w e = rw e (absent_by (m == l) l m w.bearers (Takes share held) refl e)
 
-flips : (l m : ℕ) (t : Bool) → (l == m) ≡ t → (m == l) ≡ t
+pub flips : (l m : ℕ) (t : Bool) → (l == m) ≡ t → (m == l) ≡ t
 flips l m true e = grind (arith, nat_tests)
 flips l m false e = grind (arith, nat_tests)
 
-channel_same : (l m : ℕ) → (l == m) ≡ true → m ≡ l
+pub channel_same : (l m : ℕ) → (l == m) ≡ true → m ≡ l
 channel_same l m e = grind (arith, nat_tests)
 
 -- the channel is the first one, or among the others

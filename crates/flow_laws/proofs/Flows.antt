@@ -22,10 +22,10 @@ use Rattle.flow_laws.proofs.Hearing.{calls_hear, data_hears, status_hears}
 
 -- ---- a flow that stands at both ends
 
-stands_as : (e o : BearerEnd) (f : Flow) → IsFlow e o f → Stands e.bearer.tx o.bearer.rx e.copies o.reports e.busy f
+pub stands_as : (e o : BearerEnd) (f : Flow) → IsFlow e o f → Stands e.bearer.tx o.bearer.rx e.copies o.reports e.busy f
 stands_as e o f h = record { sender_is = h.sender_is; receiver_is = h.receiver_is; copies_are = h.copies_are; reports_are = h.reports_are; busy_is = h.busy_is }
 
-is_flow : (e o : BearerEnd) (f : Flow) → Stands e.bearer.tx o.bearer.rx e.copies o.reports e.busy f → IsFlow e o f
+pub is_flow : (e o : BearerEnd) (f : Flow) → Stands e.bearer.tx o.bearer.rx e.copies o.reports e.busy f → IsFlow e o f
 is_flow e o f h = record { sender_is = h.sender_is; receiver_is = h.receiver_is; copies_are = h.copies_are; reports_are = h.reports_are; busy_is = h.busy_is }
 
 -- steps more
@@ -37,7 +37,7 @@ brings a b e o d p m n = record {
 }
 
 -- what it has come to
-abbrev reached : (a : AmTxConfig) (b : AmRxConfig) (e o : BearerEnd) → HasFlow a b e o → Flow
+abbrev pub reached : (a : AmTxConfig) (b : AmRxConfig) (e o : BearerEnd) → HasFlow a b e o → Flow
 reached a b e o m = flow_goes m.steps (flow_outset a b)
 
 stands_so : (a : AmTxConfig) (b : AmRxConfig) (e o : BearerEnd) (m : HasFlow a b e o) → Stands e.bearer.tx o.bearer.rx e.copies o.reports e.busy (reached a b e o m)
@@ -45,17 +45,17 @@ stands_so a b e o m = stands_as e o (reached a b e o m) m.is
 
 -- ---- what is under way is read as what it is
 
-all_at : {A : Type 0} (P : A → Type 0) (xs : List A) (k : ℕ) (x : A) → AllByRecursion P xs → slice_get xs k ≡ Some x → P x
+pub all_at : {A : Type 0} (P : A → Type 0) (xs : List A) (k : ℕ) (x : A) → AllByRecursion P xs → slice_get xs k ≡ Some x → P x
 all_at P [] k x h e = let no : None ≡ Some x = e in absurd cc
 all_at P (y ∷ ys) zero x h e = let same : Some y ≡ Some x = e in let is : y ≡ x = cc in subst P is h.0
 all_at P (y ∷ ys) (suc k) x h e = all_at P ys k x h.1 e
 
-record ReadsData (f : Flow) (k : ℕ) (c : Copy) : Type 0 where
-  at : slice_get f.copies k ≡ Some c
-  pdu : AmdPdu
-  read : am_at c.octets ≡ Ok (Payload pdu)
+pub record ReadsData (f : Flow) (k : ℕ) (c : Copy) : Type 0 where
+  pub at : slice_get f.copies k ≡ Some c
+  pub pdu : AmdPdu
+  pub read : am_at c.octets ≡ Ok (Payload pdu)
 
-data_read : (a : AmTxConfig) (b : AmRxConfig) (e o : BearerEnd) (m : HasFlow a b e o) (k : ℕ) (c : Copy) → slice_get e.copies k ≡ Some c → ReadsData (reached a b e o m) k c
+pub data_read : (a : AmTxConfig) (b : AmRxConfig) (e o : BearerEnd) (m : HasFlow a b e o) (k : ℕ) (c : Copy) → slice_get e.copies k ≡ Some c → ReadsData (reached a b e o m) k c
 data_read a b e o m k c q =
     let f = reached a b e o m in
     let h : IsSound f = sound a b m.steps m.given in
@@ -68,13 +68,13 @@ data_read a b e o m k c q =
       read = ap am_at t.is ∙ stretch-read c.number t.poll ps t.from t.to (h.aired c.number t.known) t.some t.within;
     }
 
-record ReadsStatus (f : Flow) (k : ℕ) (s : Sent) : Type 0 where
-  report : Report
-  at : slice_get f.reports k ≡ Some report
-  same : report.octets ≡ s.octets
-  read : am_at report.octets ≡ Ok (Control (reduced report))
+pub record ReadsStatus (f : Flow) (k : ℕ) (s : Sent) : Type 0 where
+  pub report : Report
+  pub at : slice_get f.reports k ≡ Some report
+  pub same : report.octets ≡ s.octets
+  pub read : am_at report.octets ≡ Ok (Control (reduced report))
 
-status_read : (a : AmTxConfig) (b : AmRxConfig) (e o : BearerEnd) (m : HasFlow a b e o) (k : ℕ) (s : Sent) → slice_get o.reports k ≡ Some s → ReadsStatus (reached a b e o m) k s
+pub status_read : (a : AmTxConfig) (b : AmRxConfig) (e o : BearerEnd) (m : HasFlow a b e o) (k : ℕ) (s : Sent) → slice_get o.reports k ≡ Some s → ReadsStatus (reached a b e o m) k s
 status_read a b e o m k s q =
     let f = reached a b e o m in
     let here = at_place sent_as f.reports k s (ap (λ (l : List Sent). slice_get l k) m.is.reports_are ∙ q) in
@@ -127,7 +127,7 @@ hears_status a c b d e o k m n (Some s) q =
     subst (λ (octets : List ℕ). HasFlow c d o (arrives e octets)) r.same
     (brings c d o e o (arrives e r.report.octets) n (status_hears e r.report.octets (reached c d o e n) o.bearer.tx o.copies o.busy (ap data_heard r.read) (stands_so c d o e n)))
 
-let_go : (k : ℕ) (rs : List Report) → map sent_as (except k rs) ≡ except k (map sent_as rs)
+pub let_go : (k : ℕ) (rs : List Report) → map sent_as (except k rs) ≡ except k (map sent_as rs)
 let_go k [] = refl
 let_go zero (r ∷ rs) = refl
 let_go (suc k) (r ∷ rs) = ap (λ (l : List Sent). sent_as r ∷ l) (let_go k rs)
@@ -150,11 +150,11 @@ hears_on a c b d e o (StatusGoes k) g m n =
 
 -- ---- a TTI passes
 
-ages : (rs : List Report) → map sent_as (older_reports rs) ≡ map older (map sent_as rs)
+pub ages : (rs : List Report) → map sent_as (older_reports rs) ≡ map older (map sent_as rs)
 ages [] = refl
 ages (r ∷ rs) = ap (λ (l : List Sent). older (sent_as r) ∷ l) (ages rs)
 
-are_young : (rs : List Report) → AllByRecursion IsYoung (map sent_as rs) → AllByRecursion IsYoungReport rs
+pub are_young : (rs : List Report) → AllByRecursion IsYoung (map sent_as rs) → AllByRecursion IsYoungReport rs
 are_young [] h = tt
 are_young (r ∷ rs) h = (h.0, are_young rs h.1)
 

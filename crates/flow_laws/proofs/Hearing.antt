@@ -25,7 +25,7 @@ use Rattle.flow_laws.proofs.Sending.{is_called}
 
 -- ---- one call of the receiver
 
-receives_one : (f : Flow) (c : ReceiverCall) (tx : Sender) (rx : Receiver) (cs : List Copy) (rs : List Sent) (b : Bool)
+pub receives_one : (f : Flow) (c : ReceiverCall) (tx : Sender) (rx : Receiver) (cs : List Copy) (rs : List Sent) (b : Bool)
     → Stands tx rx cs rs b f → Stands tx (state_after rx c) cs rs b (receives f c)
 receives_one f c tx rx cs rs b h = record {
   sender_is = h.sender_is;
@@ -62,7 +62,7 @@ keeps_to_itself f tx rx ry cs rs b m h =
 -- ---- a STATUS is written
 
 -- its octets have the bits that it writes
-is_reported : (f : Flow) (r : Receiver) (share : ℕ) → (receiver f).state ≡ r → IsReporting f (share - 3) (status_pdu r share)
+pub is_reported : (f : Flow) (r : Receiver) (share : ℕ) → (receiver f).state ≡ r → IsReporting f (share - 3) (status_pdu r share)
 is_reported f r share q =
     let w : List Bool = status_written (ack r (share - 3) % 1024) (nacks r (share - 3)) in
     let n : length w ≡ 8 * (length w / 8) = whole_octets_of (ack r (share - 3) % 1024) (nacks r (share - 3)) in

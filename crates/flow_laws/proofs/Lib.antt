@@ -12,3 +12,6 @@ pub mod Visiting
 pub mod Air
 pub mod Links
 pub mod Lives
+pub mod Events
+pub mod Alone
+pub mod Ups

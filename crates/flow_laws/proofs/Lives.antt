@@ -54,7 +54,7 @@ restarted_begins (Am x) keys b q = begins_as (am_restarted (am_stopped x) keys) 
 
 -- ---- an end
 
-come_so : (side : Side) (maximum : ℕ) (reports : Bool) (past : List Call) → AreGiven past → HasCome side (reached side maximum reports past)
+pub come_so : (side : Side) (maximum : ℕ) (reports : Bool) (past : List Call) → AreGiven past → HasCome side (reached side maximum reports past)
 come_so side maximum reports past g = record { maximum = maximum; reports = reports; past = past; given = g; end_is = refl }
 
 pub adds_begin : (side : Side) (maximum : ℕ) (reports : Bool) (past : List Call) (config : BearerConfig) (keys : Keys) (b : State) → AreGiven past → IsConfig config
@@ -70,18 +70,18 @@ adds_begin side maximum reports past config keys b g is q =
       life = added_begins config.kind config keys e.side b (sym a.flow_is ∙ q);
     }
 
-moved_has : (l : ℕ) (bs : List (Of Life)) (keys : Keys) → has l (all_restarted (all_stopped bs) keys) ≡ has l bs
+pub moved_has : (l : ℕ) (bs : List (Of Life)) (keys : Keys) → has l (all_restarted (all_stopped bs) keys) ≡ has l bs
 moved_has l bs keys =
     let ds = all_restarted (all_stopped bs) keys in
     ap (λ (n : ℕ). nat_lt n (length ds)) (restarted_find l bs keys) ∙ ap (λ (n : ℕ). nat_lt (find l bs) n) (restarted_length bs keys)
 
-moved_flow : (l : ℕ) (bs : List (Of Life)) (keys : Keys) → has l bs ≡ true → flow_at l (all_restarted (all_stopped bs) keys) ≡ restarted (stopped (flow_at l bs)) keys
+pub moved_flow : (l : ℕ) (bs : List (Of Life)) (keys : Keys) → has l bs ≡ true → flow_at l (all_restarted (all_stopped bs) keys) ≡ restarted (stopped (flow_at l bs)) keys
 moved_flow l bs keys h =
     let ds = all_restarted (all_stopped bs) keys in
     let lt : find l bs < length bs = grind (arith, nat_tests) in
     ap (λ (k : ℕ). (bearer_at ds k).state.flow) (restarted_find l bs keys) ∙ restarted_at bs keys (find l bs) lt
 
-moved_bearers : (e : End) (keys : Keys) → (after e (Move keys)).bearers ≡ all_restarted (all_stopped e.bearers) keys
+pub moved_bearers : (e : End) (keys : Keys) → (after e (Move keys)).bearers ≡ all_restarted (all_stopped e.bearers) keys
 unfolding joined left_cell
 moved_bearers e keys = refl
 

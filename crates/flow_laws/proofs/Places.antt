@@ -15,7 +15,7 @@ use Rattle.flow_laws.specs.Channels.{only}
 abbrev nobody : Of Life
 nobody = of 0 (alive (Tm nothing_submitted))
 
-after_more : (f : Flow) (cs ds : List BearerCall) → after_all f (cs ++ ds) ≡ after_all (after_all f cs) ds
+pub after_more : (f : Flow) (cs ds : List BearerCall) → after_all f (cs ++ ds) ≡ after_all (after_all f cs) ds
 after_more f [] ds = refl
 after_more f (c ∷ cs) ds = after_more (called f c) cs ds
 
@@ -57,10 +57,10 @@ set_apart l at bs x same apart = record {
 
 -- ---- the bearer of a channel is called
 
-same_lcid : (m l : ℕ) → (m == l) ≡ true → m ≡ l
+pub same_lcid : (m l : ℕ) → (m == l) ≡ true → m ≡ l
 same_lcid m l e = grind (arith, nat_tests)
 
-other_lcid : (m l : ℕ) → (m == l) ≡ false → m ≡ l → ⊥
+pub other_lcid : (m l : ℕ) → (m == l) ≡ false → m ≡ l → ⊥
 other_lcid m l e q = grind (arith, nat_tests)
 
 -- where there is none, nothing changes
@@ -88,10 +88,10 @@ lt_more n m = grind (arith, nat_tests)
 has_first : (l : ℕ) (b : Of Life) (bs : List (Of Life)) → (b.lcid == l) ≡ true → has l (b ∷ bs) ≡ true
 has_first l b bs e = rw e (grind (arith, nat_tests))
 
-has_behind : (l : ℕ) (b : Of Life) (bs : List (Of Life)) → (b.lcid == l) ≡ false → has l (b ∷ bs) ≡ has l bs
+pub has_behind : (l : ℕ) (b : Of Life) (bs : List (Of Life)) → (b.lcid == l) ≡ false → has l (b ∷ bs) ≡ has l bs
 has_behind l b bs e = rw e (lt_more (find l bs) (length bs))
 
-flow_behind : (l : ℕ) (b : Of Life) (bs : List (Of Life)) → (b.lcid == l) ≡ false → flow_at l (b ∷ bs) ≡ flow_at l bs
+pub flow_behind : (l : ℕ) (b : Of Life) (bs : List (Of Life)) → (b.lcid == l) ≡ false → flow_at l (b ∷ bs) ≡ flow_at l bs
 flow_behind l b bs e =
     let next : find l bs + 1 ≡ suc (find l bs) = omega arith in
     rw (flow_at, e, next) refl

@@ -1,11 +1,11 @@
 -- What an end of a pair does in several deeds, one after the other.
-use Rattle.std.proofs.Common.{◌≡◌, ℕ, List, [], ◌∷◌, ◌++◌, map, length, Option, Some, slice_get, append_assoc, refl, ap, sym, subst, ◌∙◌}
+use Rattle.std.proofs.Common.{◌≡◌, ℕ, List, [], ◌∷◌, ◌++◌, map, length, Option, Some, None, slice_get, append_assoc, refl, ap, sym, subst, ◌∙◌}
 use Rattle.am_laws.specs.Flow.{Copy, except}
 use Rattle.bearer.specs.declared.flow.Flow.{Flow}
 use Rattle.bearer.specs.declared.flow.Flow.TheVariants.{Am}
 use Rattle.bearer_am.specs.State.{State}
-use Rattle.bearer_laws.specs.Calls.{Arrive, after_all}
-use Rattle.flow_laws.specs.Pair.{Sent, BearerEnd, Pair, Deed, DataComes, StatusComes, DataGoes, StatusGoes, Step, Near, Far, arrives, data_comes, status_comes, does, happens, goes, IsDone, AreGiven}
+use Rattle.bearer_laws.specs.Calls.{Call, Arrive, after_all}
+use Rattle.flow_laws.specs.Pair.{Sent, BearerEnd, Pair, Deed, Calls, DataComes, StatusComes, DataGoes, StatusGoes, Step, Near, Far, arrives, data_comes, status_comes, does, happens, goes, IsDone, AreGiven}
 use Rattle.flow_laws.proofs.Sending.{is_called}
 
 -- ---- deeds at one end
@@ -48,6 +48,27 @@ pub given_more : (p : Pair) (ss ts : List Step) → AreGiven p ss → AreGiven (
 given_more p [] ts g h = h
 given_more p (s ∷ ss) ts g h = (g.0, given_more (happens p s) ss ts g.1 h)
 
+-- ---- the calls of its bearer that they are, by what the other end has under way
+
+abbrev pub data_call : Option Copy → List Call
+data_call None = []
+data_call (Some c) = Arrive c.octets ∷ []
+
+abbrev pub status_call : Option Sent → List Call
+status_call None = []
+status_call (Some s) = Arrive s.octets ∷ []
+
+abbrev pub calls_in : BearerEnd → Deed → List Call
+calls_in other (Calls c) = c ∷ []
+calls_in other (DataComes k) = data_call (slice_get other.copies k)
+calls_in other (StatusComes k) = status_call (slice_get other.reports k)
+calls_in other (DataGoes k) = []
+calls_in other (StatusGoes k) = []
+
+abbrev pub all_calls_in : BearerEnd → List Deed → List Call
+all_calls_in other [] = []
+all_calls_in other (d ∷ ds) = calls_in other d ++ all_calls_in other ds
+
 -- ---- several PDUs come
 
 pub at_front : {A : Type 0} (pre : List A) (x : A) (post : List A) → slice_get (pre ++ x ∷ post) (length pre) ≡ Some x
@@ -61,17 +82,20 @@ pub record Hears (other e : BearerEnd) (pdus : List (List ℕ)) : Type 0 where
   pub bearer : State
   pub is : does_all other e deeds ≡ record e { bearer = bearer }
   pub flow_is : after_all (Am e.bearer) (map (λ p. Arrive p) pdus) ≡ Am bearer
+  pub calls_are : all_calls_in other deeds ≡ map (λ p. Arrive p) pdus
 
 none_hears : (other e : BearerEnd) → Hears other e []
-none_hears other e = record { deeds = []; done = tt; bearer = e.bearer; is = refl; flow_is = refl }
+none_hears other e = record { deeds = []; done = tt; bearer = e.bearer; is = refl; flow_is = refl; calls_are = refl }
 
-one_hears : (other e : BearerEnd) (d : Deed) (pdu : List ℕ) (pdus : List (List ℕ)) → IsDone e d → does other e d ≡ arrives e pdu → Hears other (arrives e pdu) pdus → Hears other e (pdu ∷ pdus)
-one_hears other e d pdu pdus g q h = record {
+one_hears : (other e : BearerEnd) (d : Deed) (pdu : List ℕ) (pdus : List (List ℕ)) → IsDone e d → does other e d ≡ arrives e pdu → calls_in other d ≡ Arrive pdu ∷ [] → Hears other (arrives e pdu) pdus
+    → Hears other e (pdu ∷ pdus)
+one_hears other e d pdu pdus g q i h = record {
   deeds = d ∷ h.deeds;
   done = (g, subst (λ (x : BearerEnd). AreDone other x h.deeds) (sym q) h.done);
   bearer = h.bearer;
   is = ap (λ (x : BearerEnd). does_all other x h.deeds) q ∙ h.is;
   flow_is = ap (λ (f : Flow). after_all f (map (λ p. Arrive p) pdus)) (is_called e.bearer (Arrive pdu)) ∙ h.flow_is;
+  calls_are = ap (λ (cs : List Call). cs ++ all_calls_in other h.deeds) i ∙ ap (λ (cs : List Call). Arrive pdu ∷ cs) h.calls_are;
 }
 
 abbrev pub octets_of : List Copy → List (List ℕ)
@@ -84,14 +108,14 @@ pub data_hears : (other e : BearerEnd) (pre cs post : List Copy) → other.copie
 data_hears other e pre [] post q = none_hears other e
 data_hears other e pre (c ∷ cs) post q =
     let at : slice_get other.copies (length pre) ≡ Some c = ap (λ (l : List Copy). slice_get l (length pre)) q ∙ at_front pre c (cs ++ post) in
-    one_hears other e (DataComes (length pre)) c.octets (octets_of cs) tt (ap (λ (o : Option Copy). data_comes e o) at)
+    one_hears other e (DataComes (length pre)) c.octets (octets_of cs) tt (ap (λ (o : Option Copy). data_comes e o) at) (ap data_call at)
     (data_hears other (arrives e c.octets) (pre ++ c ∷ []) cs post (q ∙ sym (append_assoc pre (c ∷ []) (cs ++ post))))
 
 pub all_hears : (other e : BearerEnd) (pre rs post : List Sent) (before cs behind : List Copy) → other.reports ≡ pre ++ (rs ++ post) → other.copies ≡ before ++ (cs ++ behind) → Hears other e (texts_of rs ++ octets_of cs)
 all_hears other e pre [] post before cs behind q p = data_hears other e before cs behind p
 all_hears other e pre (r ∷ rs) post before cs behind q p =
     let at : slice_get other.reports (length pre) ≡ Some r = ap (λ (l : List Sent). slice_get l (length pre)) q ∙ at_front pre r (rs ++ post) in
-    one_hears other e (StatusComes (length pre)) r.octets (texts_of rs ++ octets_of cs) tt (ap (λ (o : Option Sent). status_comes e o) at)
+    one_hears other e (StatusComes (length pre)) r.octets (texts_of rs ++ octets_of cs) tt (ap (λ (o : Option Sent). status_comes e o) at) (ap status_call at)
     (all_hears other (arrives e r.octets) (pre ++ r ∷ []) rs post before cs behind (q ∙ sym (append_assoc pre (r ∷ []) (rs ++ post))) p)
 
 -- ---- several PDUs are let go
@@ -104,20 +128,22 @@ pub record Drops (other e : BearerEnd) (copies : List Copy) (reports : List Sent
   pub deeds : List Deed
   pub done : AreDone other e deeds
   pub is : does_all other e deeds ≡ record e { copies = copies; reports = reports }
+  pub calls_none : all_calls_in other deeds ≡ []
 
-one_drops : (other e : BearerEnd) (d : Deed) (x : BearerEnd) (copies : List Copy) (reports : List Sent) → IsDone e d → does other e d ≡ x → record x { copies = copies; reports = reports } ≡ record e { copies = copies; reports = reports }
+one_drops : (other e : BearerEnd) (d : Deed) (x : BearerEnd) (copies : List Copy) (reports : List Sent) → IsDone e d → calls_in other d ≡ [] → does other e d ≡ x → record x { copies = copies; reports = reports } ≡ record e { copies = copies; reports = reports }
     → Drops other x copies reports → Drops other e copies reports
-one_drops other e d x copies reports g q same h = record {
+one_drops other e d x copies reports g i q same h = record {
   deeds = d ∷ h.deeds;
   done = (g, subst (λ (y : BearerEnd). AreDone other y h.deeds) (sym q) h.done);
   is = ap (λ (y : BearerEnd). does_all other y h.deeds) q ∙ h.is ∙ same;
+  calls_none = ap (λ (cs : List Call). cs ++ all_calls_in other h.deeds) i ∙ h.calls_none;
 }
 
 pub data_drops : (other e : BearerEnd) (before cs behind : List Copy) → e.copies ≡ before ++ (cs ++ behind) → Drops other e (before ++ behind) e.reports
-data_drops other e before [] behind p = record { deeds = []; done = tt; is = ap (λ (l : List Copy). record e { copies = l }) p }
+data_drops other e before [] behind p = record { deeds = []; done = tt; is = ap (λ (l : List Copy). record e { copies = l }) p; calls_none = refl }
 data_drops other e before (c ∷ cs) behind p =
     let x : BearerEnd = record e { copies = before ++ (cs ++ behind) } in
-    one_drops other e (DataGoes (length before)) x (before ++ behind) e.reports tt
+    one_drops other e (DataGoes (length before)) x (before ++ behind) e.reports tt refl
     (ap (λ (l : List Copy). record e { copies = l }) (ap (except (length before)) p ∙ except_front before c (cs ++ behind))) refl
     (data_drops other x before cs behind refl)
 
@@ -125,6 +151,6 @@ pub all_drops : (other e : BearerEnd) (pre rs post : List Sent) (before cs behin
 all_drops other e pre [] post before cs behind q p = subst (λ (l : List Sent). Drops other e (before ++ behind) l) q (data_drops other e before cs behind p)
 all_drops other e pre (r ∷ rs) post before cs behind q p =
     let x : BearerEnd = record e { reports = pre ++ (rs ++ post) } in
-    one_drops other e (StatusGoes (length pre)) x (before ++ behind) (pre ++ post) tt
+    one_drops other e (StatusGoes (length pre)) x (before ++ behind) (pre ++ post) tt refl
     (ap (λ (l : List Sent). record e { reports = l }) (ap (except (length pre)) q ∙ except_front pre r (rs ++ post))) refl
     (all_drops other x pre rs post before cs behind refl p)

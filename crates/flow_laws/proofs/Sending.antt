@@ -37,7 +37,7 @@ is_called b (SetDiscard ttis) = refl
 
 -- ---- one call of the sender
 
-sent_one : (f : Flow) (c : SenderCall) (tx : Sender) (rx : Receiver) (cs : List Copy) (rs : List Sent) (b : Bool)
+pub sent_one : (f : Flow) (c : SenderCall) (tx : Sender) (rx : Receiver) (cs : List Copy) (rs : List Sent) (b : Bool)
     → Stands tx rx cs rs b f → Stands (sender_after tx c) rx (copies_with (given_by tx c) cs) rs (b || is_new (given_by tx c)) (sends f c)
 sent_one f c tx rx cs rs b h = record {
   sender_is = ap (λ (w : SenderWorld Octets). w.state) (sender-more f c) ∙ ap (λ (s : Sender). sender_after s c) h.sender_is;

@@ -26,7 +26,7 @@ use Rattle.flow_laws.specs.Pair.{BearerEnd, Deed, Calls, called, calls, IsDone}
 use Rattle.flow_laws.proofs.Channels.{receive_by, plain_by}
 use Rattle.flow_laws.proofs.Loads.{Load, all_copies, all_reports, blocks_in, IsLoad, Split, split_at, except_blocks, except_all, all_at}
 use Rattle.flow_laws.proofs.Places.{GoesBy}
-use Rattle.flow_laws.proofs.Runs.{does_all, AreDone, all_hears, all_drops, Drops}
+use Rattle.flow_laws.proofs.Runs.{does_all, AreDone, all_calls_in, all_hears, all_drops, Drops}
 use Rattle.flow_laws.proofs.Sending.{is_called}
 use Rattle.flow_laws.proofs.Standing.{or_none, at_place}
 
@@ -42,18 +42,20 @@ pub record Matches (side : Side) (l : ℕ) (s : Station) (n : BearerEnd) : Type 
   pub are : AllByRecursion (IsLoad l (sent_by side) s.end.sender s.end.numbers) loads
   pub busy : n.busy ≡ true → s.busy ≡ true
 
-pub record Acts (side : Side) (l : ℕ) (s : Station) (m n : BearerEnd) : Type 0 where
+-- by these calls of the bearer
+pub record Acts (side : Side) (l : ℕ) (s : Station) (m n : BearerEnd) (cs : List BearerCall) : Type 0 where
   pub deeds : List Deed
   pub done : AreDone m n deeds
+  pub calls_are : all_calls_in m deeds ≡ cs
   pub matches : Matches side l s (does_all m n deeds)
 
 -- ---- an end goes on
 
-run_on : (cs ds : List Call) (e : End) → run (cs ++ ds) e ≡ run ds (run cs e)
+pub run_on : (cs ds : List Call) (e : End) → run (cs ++ ds) e ≡ run ds (run cs e)
 run_on [] ds e = refl
 run_on (c ∷ cs) ds e = run_on cs ds (after e c)
 
-given_on : (cs : List Call) (c : Call) → AreGivenCalls cs → IsGivenCall c → AreGivenCalls (cs ++ c ∷ [])
+pub given_on : (cs : List Call) (c : Call) → AreGivenCalls cs → IsGivenCall c → AreGivenCalls (cs ++ c ∷ [])
 given_on [] c h g = (g, tt)
 given_on (x ∷ xs) c h g = (h.0, given_on xs c h.1 g)
 
@@ -74,9 +76,13 @@ come_sound side e h = subst (λ (x : End). IsSound x.buckets) (sym h.end_is) (re
 
 -- ---- a block comes
 
+abbrev pub calls_by : ℕ → End → Option Block → List BearerCall
+calls_by l e None = []
+calls_by l e (Some b) = calls_of l e (Receive b.octets)
+
 pub hears : (side oside : Side) (l k : ℕ) (s o : Station) (n m : BearerEnd) (x : Option Block) → heard_by side ≡ sent_by oside → Matches side l s n → Matches oside l o m → slice_get o.blocks k ≡ x
-    → Acts side l (comes s x) m n
-hears side oside l k s o n m None dir h g q = record { deeds = []; done = tt; matches = h }
+    → Acts side l (comes s x) m n (calls_by l s.end x)
+hears side oside l k s o n m None dir h g q = record { deeds = []; done = tt; calls_are = refl; matches = h }
 hears side oside l k s o n m (Some b) dir h g q =
     let e = s.end in
     let at = at_place (λ (x : Load). x.block) g.loads k b (ap (λ (bs : List Block). slice_get bs k) g.blocks_are ∙ q) in
@@ -106,7 +112,7 @@ hears side oside l k s o n m (Some b) dir h g q =
       are = h.are;
       busy = h.busy;
     } in
-    record { deeds = hr.deeds; done = hr.done; matches = subst (Matches side l t) (sym hr.is) now }
+    record { deeds = hr.deeds; done = hr.done; calls_are = hr.calls_are ∙ ap (λ (ps : List (List ℕ)). map (λ p. Arrives p) ps) (sym carries); matches = subst (Matches side l t) (sym hr.is) now }
 
 -- ---- a block is let go
 
@@ -115,10 +121,10 @@ except_none [] k q = refl
 except_none (x ∷ xs) zero q = let no : Some x ≡ None = q in absurd cc
 except_none (x ∷ xs) (suc k) q = ap (λ l. x ∷ l) (except_none xs k q)
 
-pub lets_go : (side : Side) (l k : ℕ) (s : Station) (n m : BearerEnd) (h : Matches side l s n) (o : Option Load) → slice_get h.loads k ≡ o → Acts side l (record s { blocks = except k s.blocks }) m n
+pub lets_go : (side : Side) (l k : ℕ) (s : Station) (n m : BearerEnd) (h : Matches side l s n) (o : Option Load) → slice_get h.loads k ≡ o → Acts side l (record s { blocks = except k s.blocks }) m n []
 lets_go side l k s n m h None q =
     let same : except k s.blocks ≡ s.blocks = ap (except k) (sym h.blocks_are) ∙ sym (except_blocks h.loads k) ∙ ap blocks_in (except_none h.loads k q) ∙ h.blocks_are in
-    record { deeds = []; done = tt; matches = subst (λ (bs : List Block). Matches side l (record s { blocks = bs }) n) (sym same) h }
+    record { deeds = []; done = tt; calls_are = refl; matches = subst (λ (bs : List Block). Matches side l (record s { blocks = bs }) n) (sym same) h }
 lets_go side l k s n m h (Some x) q =
     let sp : Split h.loads k x = split_at h.loads k x q in
     let d : Drops m n (sp.before ++ sp.behind) (sp.pre ++ sp.post) = all_drops m n sp.pre x.reports sp.post sp.before x.copies sp.behind (h.reports_are ∙ sp.reports_are) (h.copies_are ∙ sp.copies_are) in
@@ -134,7 +140,7 @@ lets_go side l k s n m h (Some x) q =
       are = except_all (IsLoad l (sent_by side) s.end.sender s.end.numbers) k h.loads h.are;
       busy = h.busy;
     } in
-    record { deeds = d.deeds; done = d.done; matches = subst (Matches side l t) (sym d.is) now }
+    record { deeds = d.deeds; done = d.done; calls_are = d.calls_none; matches = subst (Matches side l t) (sym d.is) now }
 
 -- ---- calls that write nothing and bring no PDU
 
@@ -168,9 +174,10 @@ record Runs (m n : BearerEnd) (cs : List BearerCall) : Type 0 where
   bearer : State
   is : does_all m n deeds ≡ record n { bearer = bearer }
   flow_is : after_all (Am n.bearer) cs ≡ Am bearer
+  calls_are : all_calls_in m deeds ≡ cs
 
 plain_runs : (m n : BearerEnd) (cs : List BearerCall) → AllByRecursion IsPlain cs → Runs m n cs
-plain_runs m n [] p = record { deeds = []; done = tt; bearer = n.bearer; is = refl; flow_is = refl }
+plain_runs m n [] p = record { deeds = []; done = tt; bearer = n.bearer; is = refl; flow_is = refl; calls_are = refl }
 plain_runs m n (c ∷ cs) p =
     let x : BearerEnd = record n { bearer = called n.bearer c } in
     let q : calls n c ≡ x = plain_is n c p.0 in
@@ -181,10 +188,11 @@ plain_runs m n (c ∷ cs) p =
       bearer = h.bearer;
       is = ap (λ (y : BearerEnd). does_all m y h.deeds) q ∙ h.is;
       flow_is = ap (λ (f : Flow). after_all f cs) (is_called n.bearer c) ∙ h.flow_is;
+      calls_are = ap (λ (ds : List BearerCall). c ∷ ds) h.calls_are;
     }
 
 pub plain_acts : (side : Side) (l : ℕ) (s : Station) (n m : BearerEnd) (e : End) (cs : List BearerCall) (h : Matches side l s n) → HasCome side e → GoesBy l s.end.bearers e.bearers cs → AllByRecursion IsPlain cs
-    → AllByRecursion (IsLoad l (sent_by side) e.sender e.numbers) h.loads → Acts side l (record s { end = e }) m n
+    → AllByRecursion (IsLoad l (sent_by side) e.sender e.numbers) h.loads → Acts side l (record s { end = e }) m n cs
 plain_acts side l s n m e cs h come by p are =
     let r : Runs m n cs = plain_runs m n cs p in
     let t : Station = record s { end = e } in
@@ -199,7 +207,7 @@ plain_acts side l s n m e cs h come by p are =
       are = are;
       busy = h.busy;
     } in
-    record { deeds = r.deeds; done = r.done; matches = subst (Matches side l t) (sym r.is) now }
+    record { deeds = r.deeds; done = r.done; calls_are = r.calls_are; matches = subst (Matches side l t) (sym r.is) now }
 
 plain_only : (t : Bool) (c : BearerCall) → IsPlain c → AllByRecursion IsPlain (only t c)
 plain_only true c p = (p, tt)
@@ -261,7 +269,7 @@ plain_keep l d e (Expire lcid clock) xs g v h = h
 plain_keep l d e (Move keys) xs g v h = let no : keys ∷ [] ≡ [] = g.moves_none in absurd cc
 
 pub plain_call : (side : Side) (l : ℕ) (s : Station) (n m : BearerEnd) (c : Call) → Matches side l s n → IsGivenCall c → GoesOnInLife l c → ((t : Turn) → c ≡ Visits t → ⊥) → ((block : List ℕ) → c ≡ Receive block → ⊥)
-    → Acts side l (record s { end = after s.end c }) m n
+    → Acts side l (record s { end = after s.end c }) m n (calls_of l s.end c)
 plain_call side l s n m c h g life v r =
     plain_acts side l s n m (after s.end c) (calls_of l s.end c) h (come_more side s.end c h.come g) (plain_by l s.end c life v r) (plain_calls l s.end c life v r)
     (plain_keep l (sent_by side) s.end c h.loads life v h.are)

@@ -37,7 +37,7 @@ use Rattle.prioritise.specs.Channels.{has as has_channel}
 use Rattle.rlc_pdu.specs.declared.outcome.Taken.{Taken}
 use Rattle.rlc_pdu.specs.declared.outcome.Taken.TheVariants as taken
 use Rattle.flow_laws.specs.Air.{Block, Station, built_at, is_new as is_new_visit, calls as station_calls, HasCome, IsHeld, IsBuilding, IsVisiting}
-use Rattle.flow_laws.specs.Channels.{carried, only, share_of, held_of as told_held, written_by}
+use Rattle.flow_laws.specs.Channels.{carried, only, share_of, held_of as told_held, takes_of, calls_of, written_by}
 use Rattle.flow_laws.specs.Pair.{Sent, BearerEnd, Calls, written_now, HasOctet, IsTaking}
 use Rattle.flow_laws.proofs.Channels.{turn_by, blocks_carry_pdus}
 use Rattle.flow_laws.proofs.Loads.{Load, blocks_in, noted_of, IsNoted, HasAge, IsLoad, lowest_all, IsHeldBy, held_by}
@@ -241,7 +241,8 @@ module _ (side : Side) (l : ℕ) (s : Station) (n m : BearerEnd) (t : Turn) wher
       ∙ ap (λ (x : List (List ℕ)). x ++ pdus_of (data_given n.bearer part low)) (texts_written (status_pdus n.bearer.rx part))
       ∙ ap (λ (x : List (List ℕ)). texts_of (map written_now (status_pdus n.bearer.rx part)) ++ x) (octets_given (data_given n.bearer part low))
 
-  builds_by : (here : Bool) → visit t.tti t.order s.end ≡ New → has_channel l (visited t.tti t.order s.end).buckets.channels ≡ here → Matches side l s n → HasCome side built_end → IsBuilding s t → t.grant ≤ 9422 → Acts side l built_station m n
+  builds_by : (here : Bool) → visit t.tti t.order s.end ≡ New → has_channel l (visited t.tti t.order s.end).buckets.channels ≡ here → Matches side l s n → HasCome side built_end → IsBuilding s t → t.grant ≤ 9422
+      → Acts side l built_station m n (only here (Takes part low))
   unfolding visited
   builds_by true v q h come b most =
       let by : GoesBy l s.end.bearers built_end.bearers (Takes part low ∷ []) =
@@ -252,6 +253,7 @@ module _ (side : Side) (l : ℕ) (s : Station) (n m : BearerEnd) (t : Turn) wher
       record {
         deeds = Calls (Takes part low) ∷ [];
         done = (is_taking v h b most, tt);
+        calls_are = refl;
         matches = record {
           come = come;
           there = by.has_is ∙ h.there;
@@ -280,6 +282,7 @@ module _ (side : Side) (l : ℕ) (s : Station) (n m : BearerEnd) (t : Turn) wher
       record {
         deeds = [];
         done = tt;
+        calls_are = refl;
         matches = record {
           come = come;
           there = by.has_is ∙ h.there;
@@ -296,12 +299,13 @@ module _ (side : Side) (l : ℕ) (s : Station) (n m : BearerEnd) (t : Turn) wher
 -- ---- any visit
 
 visits_by : (side : Side) (l : ℕ) (s : Station) (n m : BearerEnd) (t : Turn) (v : Visit) → visit t.tti t.order s.end ≡ v → Matches side l s n → HasCome side (answered v t (built_by v t.tti t.grant (visited t.tti t.order s.end))) → IsVisiting v s t → t.grant ≤ 9422
-    → Acts side l (record { end = answered v t (built_by v t.tti t.grant (visited t.tti t.order s.end)); blocks = built_at v t (visited t.tti t.order s.end) ++ s.blocks; busy = s.busy || is_new_visit v }) m n
+    → Acts side l (record { end = answered v t (built_by v t.tti t.grant (visited t.tti t.order s.end)); blocks = built_at v t (visited t.tti t.order s.end) ++ s.blocks; busy = s.busy || is_new_visit v }) m n (takes_of v t (visited t.tti t.order s.end) l)
 unfolding visited
 visits_by side l s n m t New v h come b most = builds_by side l s n m t (has_channel l (visited t.tti t.order s.end).buckets.channels) v refl h come b most
 visits_by side l s n m t (Resend rv) v h come b most = record {
   deeds = [];
   done = tt;
+  calls_are = refl;
   matches = record {
     come = come;
     there = h.there;
@@ -318,6 +322,7 @@ visits_by side l s n m t (Resend rv) v h come b most = record {
 visits_by side l s n m t Silent v h come b most = record {
   deeds = [];
   done = tt;
+  calls_are = refl;
   matches = record {
     come = come;
     there = h.there;
@@ -331,6 +336,6 @@ visits_by side l s n m t Silent v h come b most = record {
   };
 }
 
-pub visits : (side : Side) (l : ℕ) (s : Station) (n m : BearerEnd) (t : Turn) → Matches side l s n → IsGivenCall (Visits t) → IsVisiting (visit t.tti t.order s.end) s t → Acts side l (station_calls s (Visits t)) m n
+pub visits : (side : Side) (l : ℕ) (s : Station) (n m : BearerEnd) (t : Turn) → Matches side l s n → IsGivenCall (Visits t) → IsVisiting (visit t.tti t.order s.end) s t → Acts side l (station_calls s (Visits t)) m n (calls_of l s.end (Visits t))
 unfolding built
 visits side l s n m t h g b = visits_by side l s n m t (visit t.tti t.order s.end) refl h (come_more side s.end (Visits t) h.come g) b g.0

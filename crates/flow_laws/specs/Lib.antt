@@ -4,3 +4,4 @@ pub mod Channels
 pub mod Air
 pub mod Links
 pub mod Lives
+pub mod Ups

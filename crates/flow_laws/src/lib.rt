@@ -7,6 +7,7 @@ ghost use Rattle.flow_laws.specs.Channels.{CallsReachBearers, BlocksCarryPdus};
 ghost use Rattle.flow_laws.specs.Flows.{BearersAreFlows};
 ghost use Rattle.flow_laws.specs.Links.{ChannelsAreFlows, NumbersAreOrdered};
 ghost use Rattle.flow_laws.specs.Lives.{AddsBegin, MovesBegin};
+ghost use Rattle.flow_laws.specs.Ups.{EndsTellWhatGoesUp, EndsTellOver, MovesTellTheEnd};
 
 /// Whatever calls both ends of an acknowledged bearer get, where only PDUs come that the other end wrote, what RLC's sender at one
 /// end and RLC's receiver at the other come to is what the steps of a flow make of them, in each direction.
@@ -52,4 +53,23 @@ pub fn lives_begin()
 /// VT(A) ≤ VR(R) ≤ VR(MS) ≤ VR(H) ≤ VT(S) ≤ VT(A) + 512.
 pub fn numbers_are_ordered()
     ensures { NumbersAreOrdered }
+{}
+
+/// In each call of a life an end tells of a channel just what its bearer tells in calls of its own. So the SDUs that go up on the
+/// channel are those that these hand up: as PDUs come, as a timer expires and as a TTI begins, none as blocks are built, and none of
+/// another channel.
+#[tactic(auto, using(crate::proofs::Ups::ends_tell_what_goes_up))]
+pub fn ends_tell_what_goes_up()
+    ensures { EndsTellWhatGoesUp }
+{}
+
+/// So through all calls of a life, in which the bearer comes to what its own calls make of it.
+#[tactic(auto, using(crate::proofs::Ups::ends_tell_over))]
+pub fn ends_tell_over()
+    ensures { EndsTellOver }
+{}
+
+/// As an end moves it tells of a channel just what its bearer tells at the end of its life, and the bearer begins another.
+pub fn moves_tell_the_end()
+    ensures { MovesTellTheEnd }
 {}

@@ -1,0 +1,319 @@
+-- Steps of two ends that tell what records tell, and in which each is submitted so much: by no step, by one, and one behind the other.
+use Rattle.std.proofs.Common.{◌≡◌, ◌≤◌, ℕ, Bool, false, Option, Some, None, List, [], ◌∷◌, ◌++◌, append_assoc, append-nil, refl, ap, sym, subst, arith, ◌∙◌}
+use Rattle.std.specs.Prelude.{slice_get}
+use Rattle.std.specs.List.{AllByRecursion, filter}
+use Rattle.air_link.specs.Link.{other}
+use Rattle.air_record.specs.declared.record.Record.{Record}
+use Rattle.eps_sec.specs.declared.Keys.{Keys}
+use Rattle.harq.specs.Sending.{Sending}
+use Rattle.l2_node.specs.End.{End}
+use Rattle.l2_node.specs.Moving.{leaving}
+use Rattle.l2_types.specs.declared.side.Side.{Side}
+use Rattle.l2_types.specs.declared.side.Side.TheVariants.{Nb, Ue}
+use Rattle.node_laws.specs.Bearers.{adds, keys_in}
+use Rattle.node_laws.specs.Calls.{Call as EndCall, SetVisits, SetReports, Add, Submit, SetDiscard, Tick, TickBuckets, Visits, Grants, Granted, Assigned, Pass, Receive, Expire, Move, IsGiven as IsGivenTo, after as after_call, run as run_end}
+use Rattle.node_laws.specs.Telling.{told_of, told_over}
+use Rattle.link_laws.specs.Ends.{told_by}
+use Rattle.link_laws.proofs.Going.{told_both, run_on, over_on}
+use Rattle.flow_laws.specs.Air.{Block, Station, Air, Act, Calls, Comes, Goes as LetsGo, AtNb, AtUe, Passes, calls, comes, does, passed, outset, IsCalling, IsYoung}
+use Rattle.flow_laws.specs.Channels.{GoesOnInLife}
+use Rattle.channel_laws.specs.Delivery.{submitted_in, was_submitted, sets_discard, SetNone}
+use Rattle.channel_laws.specs.Lives.{AirStep, InLife, Moves, AreLiving, lives_on, lives, end_at, brought, calls_by, calls_at, all_calls}
+use Rattle.am_laws.specs.Flow.{except}
+use Rattle.air_laws.specs.On.{IsHeld, IsStation}
+use Rattle.air_laws.proofs.Flying.{gone, without, without_gone}
+use Rattle.air_laws.proofs.Stations.{Done, wait}
+
+-- ---- the end of a side
+
+abbrev pub station : Side → Air → Station
+station Nb a = a.nb
+station Ue a = a.ue
+
+abbrev pub with_station : Side → Station → Air → Air
+with_station Nb s a = record a { nb = s }
+with_station Ue s a = record a { ue = s }
+
+-- ---- an end runs through its calls
+
+pub call_end : (s : Station) (c : EndCall) → (calls s c).end ≡ after_call s.end c
+call_end s (SetVisits maximum) = refl
+call_end s (SetReports reports) = refl
+call_end s (Add c keys) = refl
+call_end s (Submit lcid octets) = refl
+call_end s (SetDiscard lcid ttis) = refl
+call_end s Tick = refl
+call_end s TickBuckets = refl
+call_end s (Visits t) = refl
+call_end s (Grants tti) = refl
+call_end s (Granted tti good) = refl
+call_end s (Assigned tti ndi good) = refl
+call_end s (Pass tti) = refl
+call_end s (Receive block) = refl
+call_end s (Expire lcid clock) = refl
+call_end s (Move keys) = refl
+
+come_end : (s : Station) (o : Option Block) → (comes s o).end ≡ run_end (brought o) s.end
+come_end s None = refl
+come_end s (Some b) = refl
+
+act_end : (o s : Station) (x : Act) → (does o s x).end ≡ run_end (calls_by o x) s.end
+act_end o s (Calls c) = call_end s c
+act_end o s (Comes k) = come_end s (slice_get o.blocks k)
+act_end o s (LetsGo k) = refl
+
+step_end : (side : Side) (a : Air) (x : AirStep) → end_at side (lives_on a x) ≡ run_end (calls_at side a x) (end_at side a)
+step_end Nb a (InLife (AtNb x)) = act_end a.ue a.nb x
+step_end Nb a (InLife (AtUe x)) = refl
+step_end Nb a (InLife Passes) = refl
+step_end Nb a (Moves keys) = refl
+step_end Ue a (InLife (AtNb x)) = refl
+step_end Ue a (InLife (AtUe x)) = act_end a.nb a.ue x
+step_end Ue a (InLife Passes) = refl
+step_end Ue a (Moves keys) = refl
+
+steps_end : (side : Side) (xs : List AirStep) (a : Air) → end_at side (lives xs a) ≡ run_end (all_calls side xs a) (end_at side a)
+steps_end side [] a = refl
+steps_end side (x ∷ xs) a =
+    steps_end side xs (lives_on a x) ∙ ap (run_end (all_calls side xs (lives_on a x))) (step_end side a x)
+    ∙ sym (run_on (calls_at side a x) (all_calls side xs (lives_on a x)) (end_at side a))
+
+-- ---- steps, and then others
+
+pub lives_more : (a : Air) (xs ys : List AirStep) → lives (xs ++ ys) a ≡ lives ys (lives xs a)
+lives_more a [] ys = refl
+lives_more a (x ∷ xs) ys = lives_more (lives_on a x) xs ys
+
+living_more : (l : ℕ) (a : Air) (xs ys : List AirStep) → AreLiving l a xs → AreLiving l (lives xs a) ys → AreLiving l a (xs ++ ys)
+living_more l a [] ys g h = h
+living_more l a (x ∷ xs) ys g h = (g.0, living_more l (lives_on a x) xs ys g.1 h)
+
+calls_more : (side : Side) (a : Air) (xs ys : List AirStep) → all_calls side (xs ++ ys) a ≡ all_calls side xs a ++ all_calls side ys (lives xs a)
+calls_more side a [] ys = refl
+calls_more side a (x ∷ xs) ys =
+    ap (λ (cs : List EndCall). calls_at side a x ++ cs) (calls_more side (lives_on a x) xs ys)
+    ∙ sym (append_assoc (calls_at side a x) (all_calls side xs (lives_on a x)) (all_calls side ys (lives xs (lives_on a x))))
+
+-- what an end tells in steps and then in others
+over_more : (side : Side) (a : Air) (xs ys : List AirStep)
+    → told_over (all_calls side (xs ++ ys) a) (end_at side a) ≡ told_over (all_calls side xs a) (end_at side a) ++ told_over (all_calls side ys (lives xs a)) (end_at side (lives xs a))
+over_more side a xs ys =
+    let e = end_at side a in
+    let cs = all_calls side xs a in
+    let ds = all_calls side ys (lives xs a) in
+    ap (λ (all : List EndCall). told_over all e) (calls_more side a xs ys) ∙ over_on cs ds e
+    ∙ ap (λ (x : End). told_over cs e ++ told_over ds x) (sym (steps_end side xs a))
+
+-- and what it is submitted
+submitted_on : (n : ℕ) (cs ds : List EndCall) (e : End) → was_submitted n (cs ++ ds) e ≡ was_submitted n cs e ++ was_submitted n ds (run_end cs e)
+submitted_on n [] ds e = refl
+submitted_on n (c ∷ cs) ds e =
+    ap (λ (x : List (List ℕ)). submitted_in n e c ++ x) (submitted_on n cs ds (after_call e c))
+    ∙ sym (append_assoc (submitted_in n e c) (was_submitted n cs (after_call e c)) (was_submitted n ds (run_end cs (after_call e c))))
+
+submitted_more : (side : Side) (n : ℕ) (a : Air) (xs ys : List AirStep)
+    → was_submitted n (all_calls side (xs ++ ys) a) (end_at side a)
+    ≡ was_submitted n (all_calls side xs a) (end_at side a) ++ was_submitted n (all_calls side ys (lives xs a)) (end_at side (lives xs a))
+submitted_more side n a xs ys =
+    let e = end_at side a in
+    let cs = all_calls side xs a in
+    let ds = all_calls side ys (lives xs a) in
+    ap (λ (all : List EndCall). was_submitted n all e) (calls_more side a xs ys) ∙ submitted_on n cs ds e
+    ∙ ap (λ (x : End). was_submitted n cs e ++ was_submitted n ds x) (sym (steps_end side xs a))
+
+-- ---- steps that tell what records tell, in which each side is submitted so much
+
+abbrev Tells : List Record → List AirStep → Air → Side → Type 0
+Tells told steps a side = told_by side told ≡ told_over (all_calls side steps a) (end_at side a)
+
+abbrev Submits : (Side → ℕ → List (List ℕ)) → List AirStep → Air → Side → Type 0
+Submits given steps a side = (n : ℕ) → was_submitted n (all_calls side steps a) (end_at side a) ≡ given side n
+
+-- no discard timer is set on the channel
+abbrev Unset : ℕ → List AirStep → Air → Side → Type 0
+Unset l steps a side = SetNone l (all_calls side steps a)
+
+-- where `set` is false
+pub record Goes (l : ℕ) (set : Bool) (told : List Record) (given : Side → ℕ → List (List ℕ)) (a b : Air) : Type 0 where
+  pub steps : List AirStep
+  pub living : AreLiving l a steps
+  pub told_is : (side : Side) → Tells told steps a side
+  pub submitted_is : (side : Side) → Submits given steps a side
+  pub sets_none : set ≡ false → (side : Side) → Unset l steps a side
+  pub air_is : lives steps a ≡ b
+
+unset_more : (l : ℕ) (cs ds : List EndCall) → SetNone l cs → SetNone l ds → SetNone l (cs ++ ds)
+unset_more l [] ds p q = q
+unset_more l (c ∷ cs) ds p q = (p.0, unset_more l cs ds p.1 q)
+
+pub goes_then : (l : ℕ) (set : Bool) (f g : List Record) (x y : Side → ℕ → List (List ℕ)) (a b c : Air) → Goes l set f x a b → Goes l set g y b c → Goes l set (f ++ g) (λ side n. x side n ++ y side n) a c
+goes_then l set f g x y a b c p q =
+    let ss = p.steps in
+    let ts = q.steps in
+    let d = lives ss a in
+    record {
+      steps = ss ++ ts;
+      living = living_more l a ss ts p.living (subst (λ (z : Air). AreLiving l z ts) (sym p.air_is) q.living);
+      told_is = λ side.
+          let second = q.told_is side ∙ ap (λ (z : Air). told_over (all_calls side ts z) (end_at side z)) (sym p.air_is) in
+          told_both side f g (told_over (all_calls side ss a) (end_at side a)) (told_over (all_calls side ts d) (end_at side d)) (p.told_is side) second ∙ sym (over_more side a ss ts);
+      submitted_is = λ side n.
+          let second = ap (λ (z : Air). was_submitted n (all_calls side ts z) (end_at side z)) p.air_is ∙ q.submitted_is side n in
+          submitted_more side n a ss ts ∙ ap (λ (s : List (List ℕ)). s ++ was_submitted n (all_calls side ts d) (end_at side d)) (p.submitted_is side n)
+          ∙ ap (λ (s : List (List ℕ)). x side n ++ s) second;
+      sets_none = λ off side.
+          let second = subst (λ (z : Air). SetNone l (all_calls side ts z)) (sym p.air_is) (q.sets_none off side) in
+          subst (SetNone l) (sym (calls_more side a ss ts)) (unset_more l (all_calls side ss a) (all_calls side ts d) (p.sets_none off side) second);
+      air_is = lives_more a ss ts ∙ ap (lives ts) p.air_is ∙ q.air_is;
+    }
+
+-- the same SDUs in another form
+pub goes_as : (l : ℕ) (set : Bool) (told : List Record) (x y : Side → ℕ → List (List ℕ)) (a b : Air) → ((side : Side) (n : ℕ) → x side n ≡ y side n) → Goes l set told x a b → Goes l set told y a b
+goes_as l set told x y a b same p = record { steps = p.steps; living = p.living; told_is = p.told_is; submitted_is = λ side n. p.submitted_is side n ∙ same side n; sets_none = p.sets_none; air_is = p.air_is }
+
+abbrev pub none : Side → ℕ → List (List ℕ)
+none side n = []
+
+-- records that tell nothing of an end
+pub goes_none : (l : ℕ) (set : Bool) (told : List Record) (a : Air) → ((side : Side) → told_by side told ≡ []) → Goes l set told none a a
+goes_none l set told a untold = record { steps = []; living = tt; told_is = untold; submitted_is = λ side n. refl; sets_none = λ off side. tt; air_is = refl }
+
+-- ---- one step
+
+pub by_sides : (P : Side → Type 0) → P Nb → P Ue → (side : Side) → P side
+by_sides P nb ue Nb = nb
+by_sides P nb ue Ue = ue
+
+-- what an end tells in a call, and what it is submitted, as records and SDUs have it; the other end tells nothing, and is submitted none
+pub record Says (side : Side) (told : List Record) (given : Side → ℕ → List (List ℕ)) (e : End) (c : EndCall) : Type 0 where
+  pub told_is : told_by side told ≡ told_of e c
+  pub other_told : told_by (other side) told ≡ []
+  pub submitted_is : (n : ℕ) → submitted_in n e c ≡ given side n
+  pub other_submitted : (n : ℕ) → [] ≡ given (other side) n
+
+-- a call in a life, in which it sets no discard timer on the channel where `set` is false
+pub record IsPlayed (l : ℕ) (set : Bool) (c : EndCall) : Type 0 where
+  pub adds_none : adds l c ≡ false
+  pub moves_none : keys_in c ≡ []
+  pub unset : set ≡ false → sets_discard l c ≡ false
+
+in_life : (l : ℕ) (set : Bool) (c : EndCall) → IsPlayed l set c → GoesOnInLife l c
+in_life l set c x = record { adds_none = x.adds_none; moves_none = x.moves_none }
+
+pub goes_call : (l : ℕ) (set : Bool) (side : Side) (told : List Record) (given : Side → ℕ → List (List ℕ)) (c : EndCall) (a : Air) → IsGivenTo c → IsPlayed l set c → IsCalling (station side a) c → Says side told given (station side a).end c
+    → Goes l set told given a (with_station side (calls (station side a) c) a)
+goes_call l set Nb told given c a g life calling x =
+    let xs : List AirStep = InLife (AtNb (Calls c)) ∷ [] in
+    record {
+      steps = xs;
+      living = ((g, in_life l set c life, calling), tt);
+      told_is = by_sides (Tells told xs a) (x.told_is ∙ sym (append-nil (told_of a.nb.end c))) x.other_told;
+      submitted_is = by_sides (Submits given xs a) (λ n. append-nil (submitted_in n a.nb.end c) ∙ x.submitted_is n) x.other_submitted;
+      sets_none = λ off. by_sides (Unset l xs a) (life.unset off, tt) tt;
+      air_is = refl;
+    }
+goes_call l set Ue told given c a g life calling x =
+    let xs : List AirStep = InLife (AtUe (Calls c)) ∷ [] in
+    record {
+      steps = xs;
+      living = ((g, in_life l set c life, calling), tt);
+      told_is = by_sides (Tells told xs a) x.other_told (x.told_is ∙ sym (append-nil (told_of a.ue.end c)));
+      submitted_is = by_sides (Submits given xs a) x.other_submitted (λ n. append-nil (submitted_in n a.ue.end c) ∙ x.submitted_is n);
+      sets_none = λ off. by_sides (Unset l xs a) tt (life.unset off, tt);
+      air_is = refl;
+    }
+
+-- a block of the other end comes
+
+come_unset : (l : ℕ) (o : Option Block) → SetNone l (brought o ++ [])
+come_unset l None = tt
+come_unset l (Some b) = (refl, tt)
+
+pub goes_come : (l : ℕ) (set : Bool) (side : Side) (told : List Record) (k : ℕ) (b : Block) (a : Air) → slice_get (station (other side) a).blocks k ≡ Some b → told_by side told ≡ told_of (station side a).end (Receive b.octets) → told_by (other side) told ≡ []
+    → Goes l set told none a (with_station side (record (station side a) { end = after_call (station side a).end (Receive b.octets) }) a)
+goes_come l set Nb told k b a there is untold =
+    let xs : List AirStep = InLife (AtNb (Comes k)) ∷ [] in
+    let e = a.nb.end in
+    record {
+      steps = xs;
+      living = (tt, tt);
+      told_is = by_sides (Tells told xs a) (is ∙ sym (append-nil (told_of e (Receive b.octets))) ∙ ap (λ (o : Option Block). told_over (brought o ++ []) e) (sym there)) untold;
+      submitted_is = by_sides (Submits none xs a) (λ n. ap (λ (o : Option Block). was_submitted n (brought o ++ []) e) there) (λ n. refl);
+      sets_none = λ off. by_sides (Unset l xs a) (come_unset l (slice_get a.ue.blocks k)) tt;
+      air_is = ap (λ (o : Option Block). record a { nb = comes a.nb o }) there;
+    }
+goes_come l set Ue told k b a there is untold =
+    let xs : List AirStep = InLife (AtUe (Comes k)) ∷ [] in
+    let e = a.ue.end in
+    record {
+      steps = xs;
+      living = (tt, tt);
+      told_is = by_sides (Tells told xs a) untold (is ∙ sym (append-nil (told_of e (Receive b.octets))) ∙ ap (λ (o : Option Block). told_over (brought o ++ []) e) (sym there));
+      submitted_is = by_sides (Submits none xs a) (λ n. refl) (λ n. ap (λ (o : Option Block). was_submitted n (brought o ++ []) e) there);
+      sets_none = λ off. by_sides (Unset l xs a) tt (come_unset l (slice_get a.nb.blocks k));
+      air_is = ap (λ (o : Option Block). record a { ue = comes a.ue o }) there;
+    }
+
+-- both ends move
+
+pub goes_move : (l : ℕ) (set : Bool) (told : List Record) (keys : Keys) (a : Air) → told_by Nb told ≡ leaving a.nb.end → told_by Ue told ≡ leaving a.ue.end
+    → Goes l set told none a (outset (after_call a.nb.end (Move keys)) (after_call a.ue.end (Move keys)))
+goes_move l set told keys a nb ue =
+    let xs : List AirStep = Moves keys ∷ [] in
+    record {
+      steps = xs;
+      living = (tt, tt);
+      told_is = by_sides (Tells told xs a) (nb ∙ sym (append-nil (leaving a.nb.end))) (ue ∙ sym (append-nil (leaving a.ue.end)));
+      submitted_is = by_sides (Submits none xs a) (λ n. refl) (λ n. refl);
+      sets_none = λ off. by_sides (Unset l xs a) (refl, tt) (refl, tt);
+      air_is = refl;
+    }
+
+-- blocks are let go
+
+goes_one : (l : ℕ) (set : Bool) (side : Side) (k : ℕ) (a : Air) → Goes l set [] none a (with_station side (record (station side a) { blocks = except k (station side a).blocks }) a)
+goes_one l set Nb k a =
+    let xs : List AirStep = InLife (AtNb (LetsGo k)) ∷ [] in
+    record { steps = xs; living = (tt, tt); told_is = by_sides (Tells [] xs a) refl refl; submitted_is = by_sides (Submits none xs a) (λ n. refl) (λ n. refl); sets_none = λ off. by_sides (Unset l xs a) tt tt; air_is = refl }
+goes_one l set Ue k a =
+    let xs : List AirStep = InLife (AtUe (LetsGo k)) ∷ [] in
+    record { steps = xs; living = (tt, tt); told_is = by_sides (Tells [] xs a) refl refl; submitted_is = by_sides (Submits none xs a) (λ n. refl) (λ n. refl); sets_none = λ off. by_sides (Unset l xs a) tt tt; air_is = refl }
+
+goes_all : (l : ℕ) (set : Bool) (side : Side) (ks : List ℕ) (a : Air) → Goes l set [] none a (with_station side (record (station side a) { blocks = without ks (station side a).blocks }) a)
+goes_all l set Nb [] a = goes_none l set [] a (λ side. refl)
+goes_all l set Ue [] a = goes_none l set [] a (λ side. refl)
+goes_all l set Nb (k ∷ ks) a =
+    let b : Air = record a { nb = record a.nb { blocks = except k a.nb.blocks } } in
+    goes_then l set [] [] none none a b (record a { nb = record a.nb { blocks = without (k ∷ ks) a.nb.blocks } }) (goes_one l set Nb k a) (goes_all l set Nb ks b)
+goes_all l set Ue (k ∷ ks) a =
+    let b : Air = record a { ue = record a.ue { blocks = except k a.ue.blocks } } in
+    goes_then l set [] [] none none a b (record a { ue = record a.ue { blocks = without (k ∷ ks) a.ue.blocks } }) (goes_one l set Ue k a) (goes_all l set Ue ks b)
+
+pub goes_off : (l : ℕ) (set : Bool) (side : Side) (stays : Block → Bool) (a : Air) → Goes l set [] none a (with_station side (record (station side a) { blocks = filter stays (station side a).blocks }) a)
+goes_off l set side stays a =
+    subst (λ (bs : List Block). Goes l set [] none a (with_station side (record (station side a) { blocks = bs }) a)) (without_gone stays (station side a).blocks)
+    (goes_all l set side (gone stays (station side a).blocks) a)
+
+-- a TTI ends
+
+young : (t : ℕ) (s : Sending) (b : Block) → s.maximum ≤ 28 → IsHeld (wait (Done t)) s b → IsYoung b
+young t s b few h =
+    let age = h.age_is in
+    let some = h.some in
+    omega (arith, age, some, few)
+
+all_young : (t : ℕ) (s : Sending) → s.maximum ≤ 28 → (bs : List Block) → AllByRecursion (IsHeld (wait (Done t)) s) bs → AllByRecursion IsYoung bs
+all_young t s few [] h = tt
+all_young t s few (b ∷ bs) h = (young t s b few h.0, all_young t s few bs h.1)
+
+pub goes_pass : (l : ℕ) (set : Bool) (t : ℕ) (a : Air) → IsStation Nb (wait (Done t)) a.nb → IsStation Ue (wait (Done t)) a.ue → Goes l set [] none a (record { nb = passed a.nb; ue = passed a.ue })
+goes_pass l set t a nb ue =
+    let xs : List AirStep = InLife Passes ∷ [] in
+    record {
+      steps = xs;
+      living = ((all_young t a.nb.end.sender nb.few a.nb.blocks nb.held, all_young t a.ue.end.sender ue.few a.ue.blocks ue.held), tt);
+      told_is = by_sides (Tells [] xs a) refl refl;
+      submitted_is = by_sides (Submits none xs a) (λ n. refl) (λ n. refl);
+      sets_none = λ off. by_sides (Unset l xs a) tt tt;
+      air_is = refl;
+    }

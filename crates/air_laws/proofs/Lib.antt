@@ -1,0 +1,13 @@
+pub mod Processes
+pub mod Flying
+pub mod Stations
+pub mod Going
+pub mod Stages
+pub mod Resting
+pub mod Visiting
+pub mod Moving
+pub mod Advancing
+pub mod Lives
+pub mod Keeping
+pub mod Lived
+pub mod Links

@@ -1,0 +1,183 @@
+-- A channel's bearers live through any steps of a link.
+use Rattle.std.proofs.Common.{◌≡◌, ℕ, Bool, true, false, ◌||◌, List, [], ◌∷◌, ◌++◌, append_assoc, append-nil, refl, ap, sym, subst, ◌∙◌}
+use Rattle.air_link.specs.Lines.{bears}
+use Rattle.air_link.specs.Link.{Link, end_of}
+use Rattle.air_record.specs.declared.record.Record.{Record}
+use Rattle.bearer.specs.Bearer.{flow_of}
+use Rattle.bearer.specs.declared.flow.Flow.TheVariants.{Am}
+use Rattle.bearer_am.specs.State.{State}
+use Rattle.bearer_types.specs.Configs.{IsConfig}
+use Rattle.bearer_types.specs.declared.config.BearerConfig.{BearerConfig}
+use Rattle.eps_sec.specs.declared.Keys.{Keys}
+use Rattle.l2_node.specs.End.{End}
+use Rattle.l2_types.specs.declared.Kind.{Kind}
+use Rattle.l2_types.specs.declared.Kind.TheVariants as kinds
+use Rattle.l2_types.specs.declared.side.Side.{Side}
+use Rattle.l2_types.specs.declared.side.Side.TheVariants.{Nb, Ue}
+use Rattle.node_laws.specs.Calls.{Add, after as after_call}
+use Rattle.node_laws.proofs.Living.{added}
+use Rattle.link_laws.specs.Calls.{Bears}
+use Rattle.link_laws.specs.Ends.{told_by}
+use Rattle.link_laws.specs.Runs.{Step, Run, step, emptied, goes as run_goes, goes_on as run_on}
+use Rattle.flow_laws.specs.Air.{Air, outset, HasCome}
+use Rattle.channel_laws.specs.Lives.{lives, end_at}
+use Rattle.air_laws.specs.Going.{handed_in, looped_at, sets, GoesByAir, IsStepSince}
+use Rattle.air_laws.specs.Lived.{HasBearer, Lived, IsAcknowledged, none_yet, BearersCome, LivesOn, AreStepsSince, submitted_in, sets_in, RunsOn}
+use Rattle.air_laws.specs.Lives.{IsAtRest}
+use Rattle.air_laws.specs.On.{until, IsStation, IsOn}
+use Rattle.air_laws.proofs.Advancing.{steps_go}
+use Rattle.air_laws.proofs.Going.{Goes, goes_then}
+use Rattle.air_laws.proofs.Keeping.{Keeps, steps_keep}
+use Rattle.air_laws.proofs.Lives.{calls_rest}
+
+-- ---- what else is of a link
+
+pub same_on : (k m : Link) (a : Air) → m.nb ≡ k.nb → m.ue ≡ k.ue → m.ttis ≡ k.ttis → IsOn k a → IsOn m a
+same_on k m a nb ue ttis h = record {
+  nb_is = h.nb_is ∙ sym nb;
+  ue_is = h.ue_is ∙ sym ue;
+  nb = subst (λ (t : ℕ). IsStation Nb (until t) a.nb) (sym ttis) h.nb;
+  ue = subst (λ (t : ℕ). IsStation Ue (until t) a.ue) (sym ttis) h.ue;
+  nb_idle = h.nb_idle;
+  ue_idle = h.ue_idle;
+}
+
+both_have : (l : ℕ) (k : Link) → HasBearer l k.nb → HasBearer l k.ue → (side : Side) → HasBearer l (end_of side k)
+both_have l k nb ue Nb = nb
+both_have l k nb ue Ue = ue
+
+pub ends_live : (l : ℕ) (nb ue : End) (told : List Record) (submitted : Side → ℕ → List (List ℕ)) (set : Bool) (k m : Link)
+    → m.nb ≡ k.nb → m.ue ≡ k.ue → m.ttis ≡ k.ttis → Lived l nb ue told submitted set k → Lived l nb ue told submitted set m
+ends_live l nb ue told submitted set k m nb_is ue_is ttis_is h =
+    let x = h.by in
+    let a = lives x.steps (outset nb ue) in
+    record {
+      by = record { steps = x.steps; living = x.living; told_is = x.told_is; submitted_is = x.submitted_is; sets_none = x.sets_none; on = same_on k m a nb_is ue_is ttis_is x.on };
+      bearers = both_have l m (subst (HasBearer l) (sym nb_is) (h.bearers Nb)) (subst (HasBearer l) (sym ue_is) (h.bearers Ue));
+    }
+
+-- ---- the bearers come
+
+abbrev Acknowledged : Kind → BearerConfig → Keys → Side → Type 0
+Acknowledged kind config keys side = (b : State) × (flow_of kind config keys side ≡ Am b)
+
+pub acknowledged : (kind : Kind) (config : BearerConfig) (keys : Keys) (side : Side) → IsAcknowledged kind → Acknowledged kind config keys side
+acknowledged kinds.Tm config keys side h = absurd h
+acknowledged kinds.Srb config keys side h = (_, refl)
+acknowledged kinds.Um config keys side h = absurd h
+acknowledged kinds.Am config keys side h = (_, refl)
+
+pub added_bearer : (e : End) (config : BearerConfig) (keys : Keys) → IsAcknowledged config.kind → HasBearer config.channel.lcid (after_call e (Add config keys))
+added_bearer e config keys kind =
+    let b = acknowledged config.kind config keys e.side kind in
+    let x = added e config keys in
+    record { there = x.there; bearer = b.0; bearer_is = x.flow_is ∙ b.1 }
+
+pub bearers_live : (config : BearerConfig) (keys : Keys) (k : Link) → IsConfig config → IsAcknowledged config.kind → IsAtRest k → BearersCome config keys k
+unfolding bears
+bearers_live config keys k g kind h =
+    let m = bears config keys k in
+    record {
+      out_is = refl;
+      lived = record {
+        by = record { steps = []; living = tt; told_is = λ side. refl; submitted_is = λ side n. refl; sets_none = λ off side. tt; on = calls_rest (Bears config keys) k g tt h };
+        bearers = both_have config.channel.lcid m (added_bearer k.nb config keys kind) (added_bearer k.ue config keys kind);
+      };
+    }
+
+-- ---- a step since
+
+on_end : (side : Side) (k : Link) (a : Air) → IsOn k a → end_at side a ≡ end_of side k
+on_end Nb k a h = h.nb_is
+on_end Ue k a h = h.ue_is
+
+on_come : (side : Side) (k : Link) (a : Air) → IsOn k a → HasCome side (end_at side a)
+on_come Nb k a h = h.nb.come
+on_come Ue k a h = h.ue.come
+
+pub keeps_at : (l : ℕ) (side : Side) (k : Link) (a : Air) → IsOn k a → HasBearer l (end_of side k) → Keeps l side (end_at side a)
+keeps_at l side k a h b = record { come = on_come side k a h; bearer = subst (HasBearer l) (sym (on_end side k a h)) b }
+
+-- each of two steps sets none where both do
+either_off : (x y : Bool) → (x || y) ≡ false → (x ≡ false) × (y ≡ false)
+either_off true y e = absurd cc
+either_off false y e = (refl, e)
+
+by_goes : (l : ℕ) (told : List Record) (submitted : Side → ℕ → List (List ℕ)) (set whole : Bool) (m : Link) (a : Air) (x : GoesByAir l told submitted set m a) → (whole ≡ false → set ≡ false) → Goes l whole told submitted a (lives x.steps a)
+by_goes l told submitted set whole m a x off = record { steps = x.steps; living = x.living; told_is = x.told_is; submitted_is = x.submitted_is; sets_none = λ e. x.sets_none (off e); air_is = refl }
+
+goes_by : (l : ℕ) (told : List Record) (submitted : Side → ℕ → List (List ℕ)) (set : Bool) (m : Link) (a b : Air) → Goes l set told submitted a b → IsOn m b → GoesByAir l told submitted set m a
+goes_by l told submitted set m a b x on = record { steps = x.steps; living = x.living; told_is = x.told_is; submitted_is = x.submitted_is; sets_none = x.sets_none; on = subst (IsOn m) (sym x.air_is) on }
+
+pub steps_live : (l : ℕ) (nb ue : End) (told : List Record) (submitted : Side → ℕ → List (List ℕ)) (set : Bool) (s : Step) (k : Link) → IsStepSince l s → Lived l nb ue told submitted set k
+    → LivesOn l nb ue told submitted set s k
+steps_live l nb ue told submitted set s k g h =
+    let a = outset nb ue in
+    let b = lives h.by.steps a in
+    let m = step s k in
+    let x = steps_go l s k b g h.by.on in
+    let y = x.by in
+    let sets_any = set || sets l s in
+    let more : Side → ℕ → List (List ℕ) = λ side n. handed_in side n s k ++ looped_at side n x.more in
+    let before = by_goes l told submitted set sets_any k a h.by (λ e. (either_off set (sets l s) e).0) in
+    let behind = by_goes l x.more more (sets l s) sets_any m b y (λ e. (either_off set (sets l s) e).1) in
+    let whole = goes_then l sets_any told x.more submitted more a b (lives y.steps b) before behind in
+    record {
+      more = x.more;
+      out_is = x.out_is;
+      lived = record {
+        by = goes_by l (told ++ x.more) (λ side n. submitted side n ++ more side n) sets_any m a (lives y.steps b) whole y.on;
+        bearers = λ side. subst (HasBearer l) (on_end side m (lives y.steps b) y.on) (steps_keep l side b y.steps y.living (keeps_at l side k b h.by.on (h.bearers side))).bearer;
+      };
+    }
+
+-- ---- any steps since
+
+-- the same records and SDUs in another form
+lived_as : (l : ℕ) (nb ue : End) (f g : List Record) (x y : Side → ℕ → List (List ℕ)) (b c : Bool) (k : Link) → f ≡ g → ((side : Side) (n : ℕ) → x side n ≡ y side n) → b ≡ c → Lived l nb ue f x b k → Lived l nb ue g y c k
+lived_as l nb ue f g x y b c k told same on h = record {
+  by = record {
+    steps = h.by.steps;
+    living = h.by.living;
+    told_is = λ side. ap (told_by side) (sym told) ∙ h.by.told_is side;
+    submitted_is = λ side n. h.by.submitted_is side n ∙ same side n;
+    sets_none = λ off. h.by.sets_none (on ∙ off);
+    on = h.by.on;
+  };
+  bearers = h.bearers;
+}
+
+any_none : (x : Bool) → x ≡ (x || false)
+any_none true = refl
+any_none false = refl
+
+any_more : (x y z : Bool) → ((x || y) || z) ≡ (x || (y || z))
+any_more true y z = refl
+any_more false y z = refl
+
+pub runs_live : (l : ℕ) (nb ue : End) (told : List Record) (submitted : Side → ℕ → List (List ℕ)) (set : Bool) (ss : List Step) (r : Run)
+    → AreStepsSince l ss → r.link.out ≡ [] → Lived l nb ue told submitted set r.link → RunsOn l nb ue told submitted set ss r
+runs_live l nb ue told submitted set [] r g none_yet h = record {
+  more = [];
+  journal_is = sym (append-nil r.journal);
+  lived = lived_as l nb ue told (told ++ []) submitted (λ side n. submitted side n ++ []) set (set || false) r.link (sym (append-nil told)) (λ side n. sym (append-nil (submitted side n))) (any_none set) h;
+}
+runs_live l nb ue told submitted set (s ∷ ss) r g none_yet h =
+    let k = r.link in
+    let m = step s k in
+    let x = steps_live l nb ue told submitted set s k g.0 h in
+    let all : m.out ≡ x.more = x.out_is ∙ ap (λ (o : List Record). o ++ x.more) none_yet in
+    let before : Side → ℕ → List (List ℕ) = λ side n. submitted side n ++ (handed_in side n s k ++ looped_at side n x.more) in
+    let sets_yet = set || sets l s in
+    let q = run_goes s r in
+    let rest = runs_live l nb ue (told ++ x.more) before sets_yet ss q g.1 refl (ends_live l nb ue (told ++ x.more) before sets_yet m (emptied m) refl refl refl x.lived) in
+    record {
+      more = x.more ++ rest.more;
+      journal_is = rest.journal_is ∙ ap (λ (o : List Record). (r.journal ++ o) ++ rest.more) all ∙ append_assoc r.journal x.more rest.more;
+      lived = lived_as l nb ue ((told ++ x.more) ++ rest.more) (told ++ (x.more ++ rest.more)) (λ side n. before side n ++ submitted_in side n ss q) (λ side n. submitted side n ++ submitted_in side n (s ∷ ss) r)
+          (sets_yet || sets_in l ss) (set || sets_in l (s ∷ ss)) (run_on ss q).link (append_assoc told x.more rest.more)
+          (λ side n.
+          append_assoc (submitted side n) (handed_in side n s k ++ looped_at side n x.more) (submitted_in side n ss q)
+          ∙ ap (λ (o : List Record). submitted side n ++ ((handed_in side n s k ++ looped_at side n o) ++ submitted_in side n ss q)) (sym all))
+          (any_more set (sets l s) (sets_in l ss)) rest.lived;
+    }

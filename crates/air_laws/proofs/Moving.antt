@@ -1,0 +1,96 @@
+-- A handover: both ends move, and nothing is under way behind it.
+use Rattle.std.proofs.Common.{◌≡◌, ◌≤◌, ℕ, zero, suc, Bool, None, List, [], ◌++◌, map, get_or, replicate, append_assoc, append-nil, refl, ap, sym, ◌∙◌}
+use Rattle.air_link.specs.Lines.{moves, hands_over}
+use Rattle.air_link.specs.Link.{Link}
+use Rattle.air_link.specs.Loops.{loops}
+use Rattle.air_link.specs.Telling.{tells_all}
+use Rattle.air_record.specs.declared.record.Record.{Record}
+use Rattle.air_record.specs.declared.record.Record.TheVariants as records
+use Rattle.eps_sec.specs.declared.Keys.{Keys}
+use Rattle.harq.specs.Sending.{Sending, SendProcess, empty, fresh}
+use Rattle.l2_node.specs.End.{End, reset}
+use Rattle.l2_node.specs.Moving.{left_cell, joined, leaving}
+use Rattle.l2_types.specs.declared.side.Side.{Side}
+use Rattle.l2_types.specs.declared.side.Side.TheVariants.{Nb, Ue}
+use Rattle.node_laws.specs.Calls.{Move, after as after_call}
+use Rattle.node_laws.proofs.Looping.{tells_no_loop}
+use Rattle.link_laws.proofs.Going.{told_both, own_told, other_told, Seen, seen, behind, told_seen}
+use Rattle.flow_laws.specs.Air.{Station, begins, outset, HasCome}
+use Rattle.flow_laws.proofs.Stations.{come_more}
+use Rattle.air_laws.specs.Going.{loops_in}
+use Rattle.air_laws.specs.On.{until, block_at, IsStation}
+use Rattle.air_laws.proofs.Going.{goes_move}
+use Rattle.air_laws.proofs.Resting.{loops_rests}
+use Rattle.air_laws.proofs.Stages.{Stands, Stage, stage_then, events_unlooped, looped_more, unlooped_goes}
+use Rattle.air_laws.proofs.Stations.{Waits}
+
+-- ---- processes that hold nothing, with 1 to 28 visits of a block
+
+empty_at : (n p : ℕ) → get_or (replicate n empty) p empty ≡ empty
+empty_at zero p = refl
+empty_at (suc n) zero = refl
+empty_at (suc n) (suc p) = empty_at n p
+
+pub fresh_at : (maximum p : ℕ) → block_at (fresh maximum) p ≡ None
+unfolding fresh
+fresh_at maximum p = ap (λ (x : SendProcess). x.held) (empty_at 8 p)
+
+pub record IsEmpty (s : Sending) : Type 0 where
+  pub some : 1 ≤ s.maximum
+  pub few : s.maximum ≤ 28
+  pub none : (p : ℕ) → block_at s p ≡ None
+
+pub fresh_empty : (maximum : ℕ) → 1 ≤ maximum → maximum ≤ 28 → IsEmpty (fresh maximum)
+unfolding fresh
+fresh_empty maximum some few = record { some = some; few = few; none = λ p. fresh_at maximum p }
+
+pub begun : (side : Side) (w : ℕ → ℕ) (e : End) → HasCome side e → IsEmpty e.sender → IsStation side w (begins e)
+begun side w e come h = record { come = come; some = h.some; few = h.few; held = tt; flying = λ p n. absurd (n (h.none p)) }
+
+-- ---- both ends move
+
+moved_empty : (e : End) (keys : Keys) → 1 ≤ e.sender.maximum → e.sender.maximum ≤ 28 → IsEmpty (after_call e (Move keys)).sender
+unfolding joined left_cell reset
+moved_empty e keys some few = fresh_empty e.sender.maximum some few
+
+moved_stands : (side : Side) (w : ℕ → ℕ) (t : ℕ) (s : Station) (keys : Keys) → IsStation side w s → Stands side (Waits t) (begins (after_call s.end (Move keys)))
+moved_stands side w t s keys h = record { is = begun side (until t) (after_call s.end (Move keys)) (come_more side s.end (Move keys) h.come tt) (moved_empty s.end keys h.some h.few); idle = refl }
+
+-- what they hand up as they leave is told
+move_stage : (l : ℕ) (set : Bool) (keys : Keys) (k : Link) (t : ℕ)
+    → Stage l set (Stands Nb (Waits t)) (Stands Ue (Waits t)) (Stands Nb (Waits t)) (Stands Ue (Waits t)) k (tells_all Ue (leaving k.ue) (tells_all Nb (leaving k.nb) (moves keys k)))
+move_stage l set keys k t a h =
+    let j = moves keys k in
+    let xs = map (records.Of Nb) (leaving k.nb) in
+    let ys = map (records.Of Ue) (leaving k.ue) in
+    let m = tells_all Nb (leaving k.nb) j in
+    let n = tells_all Ue (leaving k.ue) m in
+    let nb = after_call k.nb (Move keys) in
+    let ue = after_call k.ue (Move keys) in
+    let n_seen : seen n ≡ behind k nb ue (xs ++ ys) =
+    told_seen Ue (leaving k.ue) m ∙ ap (λ (s : Seen). record { nb = s.nb; ue = s.ue; out = s.out ++ ys; kinds = s.kinds }) (told_seen Nb (leaving k.nb) j)
+    ∙ ap (λ (o : List Record). record { nb = nb; ue = ue; out = o; kinds = k.kinds }) (append_assoc k.out xs ys) in
+    let nb_told = told_both Nb xs ys (leaving k.nb) [] (own_told Nb (leaving k.nb) (tells_no_loop k.nb (Move keys))) (other_told Ue (leaving k.ue)) ∙ append-nil (leaving k.nb) ∙ ap leaving (sym h.nb_is) in
+    let ue_told = told_both Ue xs ys [] (leaving k.ue) (other_told Nb (leaving k.nb)) (own_told Ue (leaving k.ue) (tells_no_loop k.ue (Move keys))) ∙ ap leaving (sym h.ue_is) in
+    let b = outset (after_call a.nb.end (Move keys)) (after_call a.ue.end (Move keys)) in
+    record {
+      air = b;
+      more = xs ++ ys;
+      out_is = ap (λ (s : Seen). s.out) n_seen;
+      goes = unlooped_goes l set (xs ++ ys) a b (λ i. sym (looped_more Ue i xs ys) ∙ ap (λ (x : List (List ℕ)). x ++ loops_in i ys) (events_unlooped i Nb (leaving k.nb)) ∙ events_unlooped i Ue (leaving k.ue))
+          (goes_move l set (xs ++ ys) keys a nb_told ue_told);
+      both = record {
+        nb_is = ap (λ (e : End). after_call e (Move keys)) h.nb_is ∙ sym (ap (λ (s : Seen). s.nb) n_seen);
+        ue_is = ap (λ (e : End). after_call e (Move keys)) h.ue_is ∙ sym (ap (λ (s : Seen). s.ue) n_seen);
+        nb = moved_stands Nb (until t) t a.nb keys h.nb.is;
+        ue = moved_stands Ue (until t) t a.ue keys h.ue.is;
+      };
+    }
+
+pub handover_stage : (l : ℕ) (set : Bool) (keys : Keys) (k : Link) (t : ℕ) → Stage l set (Stands Nb (Waits t)) (Stands Ue (Waits t)) (Stands Nb (Waits t)) (Stands Ue (Waits t)) k (hands_over keys k)
+unfolding hands_over
+handover_stage l set keys k t =
+    let n = tells_all Ue (leaving k.ue) (tells_all Nb (leaving k.nb) (moves keys k)) in
+    let P = Stands Nb (Waits t) in
+    let Q = Stands Ue (Waits t) in
+    stage_then l set P Q P Q P Q k n (loops n) (move_stage l set keys k t) (loops_rests l set n (Waits t) (Waits t))

@@ -1,0 +1,352 @@
+-- The downlink and the uplink of a TTI as steps of both ends.
+use Rattle.std.proofs.Common.{◌≡◌, ◌≤◌, ℕ, ◌==◌, Bool, true, false, if◌then◌else◌, Option, Some, None, List, [], ◌∷◌, ◌++◌, map, append-nil, refl, ap, sym, subst, arith, ◌∙◌}
+use Rattle.std.specs.Prelude.{slice_get}
+use Rattle.std.specs.List.{AllByRecursion}
+use Rattle.air_record.specs.declared.line.Fate.{Fate}
+use Rattle.air_record.specs.declared.line.Fate.TheVariants.{Ok, Bad, Miss}
+use Rattle.air_record.specs.declared.line.Outcome.{Outcome}
+use Rattle.air_record.specs.declared.record.Arrived.TheVariants as arriveds
+use Rattle.air_record.specs.declared.record.Record.{Record}
+use Rattle.air_record.specs.declared.record.Record.TheVariants as records
+use Rattle.harq.specs.declared.receiver.Answer.{Answer}
+use Rattle.harq.specs.declared.receiver.Answer.TheVariants.{Up, Again, Damaged, Nothing}
+use Rattle.harq.specs.declared.sender.Order.{Order}
+use Rattle.harq.specs.declared.sender.Order.TheVariants as orders
+use Rattle.harq.specs.declared.sender.Visit.{Visit}
+use Rattle.harq.specs.declared.sender.Visit.TheVariants.{New, Resend, Silent as Quiet}
+use Rattle.harq.specs.Receiving.{grant_ndi}
+use Rattle.harq.specs.Sending.{visit_answer, after_feedback}
+use Rattle.l2_node.specs.Building.{IsEnough, visit, visited, built, building}
+use Rattle.l2_node.specs.End.{End, sent_by}
+use Rattle.l2_types.specs.declared.side.Side.{Side}
+use Rattle.l2_types.specs.declared.side.Side.TheVariants.{Nb, Ue}
+use Rattle.mac_pdu.specs.declared.item.Direction.TheVariants as directions
+use Rattle.node_laws.specs.Calls.{Turn, Visits, Grants, Granted, Assigned, Pass, answered, after as after_call}
+use Rattle.node_laws.proofs.Looping.{tells_no_loop}
+use Rattle.pdu_show.specs.Show.{block_shown}
+use Rattle.pdu_show.specs.declared.kinds.Layout.{Layout}
+use Rattle.air_link.specs.Link.{Link, says, with_end, other}
+use Rattle.air_link.specs.Downlink.{builds, built_ndi, block_at, sends, turned, feeds, told_as, is_good, answer, comes, hears_by, lands, unseen, down_order, down_by, downlink}
+use Rattle.air_link.specs.Uplink.{up_order, is_intact, told_as as up_told_as, granted, hears_if, aired as up_aired, awake, up_by, answers, grants, passes, uplink}
+use Rattle.link_laws.specs.Counts.{is_looped}
+use Rattle.link_laws.specs.Ends.{told_by}
+use Rattle.link_laws.specs.Loops.{looped}
+use Rattle.link_laws.proofs.Going.{own_told, other_told, told_both, Seen}
+use Rattle.link_laws.proofs.Returning.{IsSilent}
+use Rattle.link_laws.proofs.Showing.{shown_untold, block_is_silent}
+use Rattle.link_laws.proofs.Telling.{some_from}
+use Rattle.link_laws.proofs.Visiting.{sent, visit_records, comes_seen, builds_down, sent_down, enough_by_grant, builds_up, sent_up}
+use Rattle.flow_laws.specs.Air.{Station, built_at}
+use Rattle.air_laws.specs.Going.{loops_in}
+use Rattle.air_laws.proofs.Going.{none}
+use Rattle.air_laws.proofs.Resting.{call_rests}
+use Rattle.air_laws.proofs.Stages.{unlooped_by, events_unlooped, looped_more, Stands, Stage, stage_then, says_stage, still_stage, says_nothing, called_nb, called_ue, Flown, hears_ue, hears_nb, Visiting, visit_nb, visit_ue, done_nb, done_ue, answer_to}
+use Rattle.air_laws.proofs.Stations.{Moment, Waits, Done, left_by, Sends, sends_new, sends_again}
+
+-- ---- a visit, with the feedback on what is sent
+
+abbrev turn_of : ℕ → ℕ → Order → Bool → Turn
+turn_of t grant order good = record { tti = t; grant = grant; order = order; good = good }
+
+abbrev fed : ℕ → Bool → End → End
+fed t good e = record e { sender = after_feedback e.sender t good }
+
+-- a visit in which something is sent
+abbrev IsLoud : Visit → Type 0
+IsLoud v = (t : Turn) (e : End) → answered v t e ≡ fed t.tti t.good e
+
+-- the block that is sent is under way
+abbrev IsSent : Visit → Side → Turn → End → Type 0
+IsSent v side t e = (s : Station) → Visiting side t e s → Flown (block_at t.tti (built t.tti t.grant t.order e)) s
+
+flown_by : (v : Visit) (side : Side) (t : Turn) (e : End) (s : Station) (h : Visiting side t e s) → answer_to t h.was.end ≡ v → Sends side t h.was h.stands v → Flown (block_at t.tti (built t.tti t.grant t.order e)) s
+flown_by v side t e s h is x = record {
+  place = x.place;
+  block = x.block;
+  there = ap (λ (y : Station). slice_get y.blocks x.place) h.is
+      ∙ ap (λ (w : Visit). slice_get (built_at w t (visited t.tti t.order h.was.end) ++ left_by w t.tti h.was) x.place) is ∙ x.there;
+  octets_are = x.octets_are ∙ ap (λ (y : End). block_at t.tti (built t.tti t.grant t.order y)) h.end_is;
+}
+
+flown_new : (side : Side) (t : Turn) (e : End) → visit t.tti t.order e ≡ New → IsSent New side t e
+flown_new side t e is s h =
+    let new = ap (answer_to t) h.end_is ∙ is in
+    flown_by New side t e s h new (sends_new side t h.was h.stands new)
+
+flown_again : (rv : ℕ) (side : Side) (t : Turn) (e : End) → visit t.tti t.order e ≡ Resend rv → IsSent (Resend rv) side t e
+flown_again rv side t e is s h =
+    let again = ap (answer_to t) h.end_is ∙ is in
+    flown_by (Resend rv) side t e s h again (sends_again side t h.was h.stands rv again)
+
+-- ---- what the records of a visit tell
+
+building_own : (side : Side) (t : Turn) (e : End) → told_by side (map (records.Of side) (building t.tti t.grant t.order e)) ≡ building t.tti t.grant t.order e
+building_own side t e = own_told side (building t.tti t.grant t.order e) (tells_no_loop e (Visits t))
+
+sent_untold : (v : Visit) (side by : Side) (t : ℕ) (kinds : List (Option Layout)) (octets : List ℕ) → told_by side (sent v by t kinds octets) ≡ []
+sent_untold New side by t kinds octets = shown_untold side (sent_by by) kinds octets
+sent_untold (Resend rv) side by t kinds octets = refl
+sent_untold Quiet side by t kinds octets = refl
+
+visit_own : (v : Visit) (side : Side) (t : Turn) (kinds : List (Option Layout)) (octets : List ℕ) (e : End) → told_by side (visit_records v side t.tti t.grant t.order kinds octets e) ≡ building t.tti t.grant t.order e
+visit_own v side t kinds octets e =
+    let es = building t.tti t.grant t.order e in
+    told_both side (map (records.Of side) es) (sent v side t.tti kinds octets) es [] (building_own side t e) (sent_untold v side side t.tti kinds octets) ∙ append-nil es
+
+visit_other : (v : Visit) (side : Side) (t : Turn) (kinds : List (Option Layout)) (octets : List ℕ) (e : End) → told_by (other side) (visit_records v side t.tti t.grant t.order kinds octets e) ≡ []
+visit_other v side t kinds octets e =
+    let es = building t.tti t.grant t.order e in
+    told_both (other side) (map (records.Of side) es) (sent v side t.tti kinds octets) [] [] (other_told side es) (sent_untold v (other side) side t.tti kinds octets)
+
+-- and of no SDU of the test loop
+not_looped : (n : ℕ) (one : Record) → looped one ≡ [] → is_looped n one ≡ false
+not_looped n (records.Looped lcid octets) e = absurd cc
+not_looped n one e = refl
+
+silent_unlooped : (n : ℕ) (told : List Record) → AllByRecursion IsSilent told → loops_in n told ≡ []
+silent_unlooped n [] a = refl
+silent_unlooped n (one ∷ more) a = unlooped_by n one more (not_looped n one a.0.0) (silent_unlooped n more a.1)
+
+sent_unlooped : (v : Visit) (side : Side) (t : ℕ) (kinds : List (Option Layout)) (octets : List ℕ) (n : ℕ) → loops_in n (sent v side t kinds octets) ≡ []
+sent_unlooped New side t kinds octets n = silent_unlooped n (block_shown (sent_by side) kinds octets) (block_is_silent (sent_by side) kinds octets)
+sent_unlooped (Resend rv) side t kinds octets n = refl
+sent_unlooped Quiet side t kinds octets n = refl
+
+visit_unlooped : (v : Visit) (side : Side) (t : Turn) (kinds : List (Option Layout)) (octets : List ℕ) (e : End) (n : ℕ) → loops_in n (visit_records v side t.tti t.grant t.order kinds octets e) ≡ []
+visit_unlooped v side t kinds octets e n =
+    let xs = map (records.Of side) (building t.tti t.grant t.order e) in
+    let ys = sent v side t.tti kinds octets in
+    sym (looped_more Ue n xs ys) ∙ ap (λ (x : List (List ℕ)). x ++ loops_in n ys) (events_unlooped n side (building t.tti t.grant t.order e)) ∙ sent_unlooped v side t.tti kinds octets n
+
+-- the end behind a visit and the feedback
+fed_is : (v : Visit) (t : Turn) (e : End) → visit t.tti t.order e ≡ v → IsLoud v → fed t.tti t.good (built t.tti t.grant t.order e) ≡ after_call e (Visits t)
+fed_is v t e is loud =
+    let f = built t.tti t.grant t.order e in
+    sym (ap (λ (w : Visit). answered w t f) is ∙ loud t f)
+
+quiet_is : (t : Turn) (e : End) → visit t.tti t.order e ≡ Quiet → built t.tti t.grant t.order e ≡ after_call e (Visits t)
+quiet_is t e is = sym (ap (λ (w : Visit). answered w t (built t.tti t.grant t.order e)) is)
+
+module _ (l : ℕ) (set : Bool) where
+  -- ---- the downlink
+
+  -- what comes to the terminal's receiver
+  came_stage : (f : Fate) (t : ℕ) (ndi good : Bool) (n : Link) (P : Station → Type 0) (u : Moment) → Stage l set P (Stands Ue u) P (Stands Ue u) (feeds Nb t good n) (feeds Nb t good (comes f t ndi n))
+  came_stage Miss t ndi good n P u = still_stage l set (feeds Nb t good n) (feeds Nb t good n) P (Stands Ue u) refl refl refl
+  came_stage Ok t ndi good n P u =
+      let same = comes_seen Ok t ndi n in
+      called_ue l set (Assigned t ndi true) [] none (feeds Nb t good n) (feeds Nb t good (comes Ok t ndi n)) P u (record { adds_none = refl; moves_none = refl; unset = λ off. refl })
+      (record {
+        plain = tt;
+        given = tt;
+        keeps = λ e. refl;
+        end_is = ap (λ (s : Seen). s.ue) same;
+        other_is = ap (λ (s : Seen). fed t good s.nb) same;
+        out_is = ap (λ (s : Seen). s.out) same ∙ sym (append-nil n.out);
+        says = says_nothing Ue n.ue (Assigned t ndi true) refl (λ i. refl);
+      })
+  came_stage Bad t ndi good n P u =
+      let same = comes_seen Bad t ndi n in
+      called_ue l set (Assigned t ndi false) [] none (feeds Nb t good n) (feeds Nb t good (comes Bad t ndi n)) P u (record { adds_none = refl; moves_none = refl; unset = λ off. refl })
+      (record {
+        plain = tt;
+        given = tt;
+        keeps = λ e. refl;
+        end_is = ap (λ (s : Seen). s.ue) same;
+        other_is = ap (λ (s : Seen). fed t good s.nb) same;
+        out_is = ap (λ (s : Seen). s.out) same ∙ sym (append-nil n.out);
+        says = says_nothing Ue n.ue (Assigned t ndi false) refl (λ i. refl);
+      })
+
+  hears_by_stage : (a : Answer) (octets : List ℕ) (k : Link) (P : Station → Type 0) (u : Moment) → ((s : Station) → P s → Flown octets s) → Stage l set P (Stands Ue u) P (Stands Ue u) k (hears_by a octets k)
+  hears_by_stage Up octets k P u flown = hears_ue l set octets k P u flown
+  hears_by_stage Again octets k P u flown = still_stage l set k k P (Stands Ue u) refl refl refl
+  hears_by_stage Damaged octets k P u flown = still_stage l set k k P (Stands Ue u) refl refl refl
+  hears_by_stage Nothing octets k P u flown = still_stage l set k k P (Stands Ue u) refl refl refl
+
+  goes_down : (v : Visit) (t grant : ℕ) (order : Order) (o : Outcome) (ndi : Bool) (octets : List ℕ) (k : Link) (u : Moment) → visit t order k.nb ≡ v → IsLoud v → ((good : Bool) → IsSent v Nb (turn_of t grant order good) k.nb)
+      → octets ≡ block_at t (built t grant order k.nb) → grant ≤ 9422 → IsEnough order grant
+      → Stage l set (Stands Nb (Waits t)) (Stands Ue u) (Stands Nb (Done t)) (Stands Ue u) k (lands t o ndi octets (sends v Nb t octets (unseen v t (builds Nb t grant order k))))
+  goes_down v t grant order o ndi octets k u is loud flown octets_are within enough =
+      let n = sends v Nb t octets (unseen v t (builds Nb t grant order k)) in
+      let a = answer o.fate t ndi n in
+      let good = turned o.flipped (is_good a) in
+      let turn = turn_of t grant order good in
+      let f = feeds Nb t good n in
+      let q = feeds Nb t good (comes o.fate t ndi n) in
+      let one = records.Air (sent_by Nb) (told_as a) (Some good) in
+      let w = says one q in
+      let z = hears_by a octets w in
+      let same = sent_down v t grant order octets k in
+      let more = visit_records v Nb t grant order k.kinds octets k.nb in
+      let P = Visiting Nb turn k.nb in
+      let Q = Stands Ue u in
+      let W = Stands Nb (Waits t) in
+      let D = Stands Nb (Done t) in
+      let first : Stage l set W Q P Q k f = visit_nb l set turn more k f Q (record {
+        given = (within, enough);
+        end_is = ap (λ (s : Seen). fed t good s.nb) same ∙ fed_is v turn k.nb is loud;
+        other_is = ap (λ (s : Seen). s.ue) same;
+        out_is = ap (λ (s : Seen). s.out) same;
+        told_is = visit_own v Nb turn k.kinds octets k.nb;
+        other_told = visit_other v Nb turn k.kinds octets k.nb;
+        unlooped = λ n. visit_unlooped v Nb turn k.kinds octets k.nb n;
+      }) in
+      let heard : Stage l set P Q P Q w z = hears_by_stage a octets w P u (λ s h. subst (λ (x : List ℕ). Flown x s) (sym octets_are) (flown good s h)) in
+      let to_q = stage_then l set W Q P Q P Q k f q first (came_stage o.fate t ndi good n P u) in
+      let to_w = stage_then l set W Q P Q P Q k q w to_q (says_stage l set one q P Q refl refl (λ n. refl)) in
+      let to_z = stage_then l set W Q P Q P Q k w z to_w heard in
+      stage_then l set W Q P Q D Q k z z to_z (done_nb l set turn k.nb z Q)
+
+  quiet_down : (t grant : ℕ) (order : Order) (k : Link) (u : Moment) → visit t order k.nb ≡ Quiet → grant ≤ 9422 → IsEnough order grant
+      → Stage l set (Stands Nb (Waits t)) (Stands Ue u) (Stands Nb (Done t)) (Stands Ue u) k (builds Nb t grant order k)
+  quiet_down t grant order k u is within enough =
+      let turn = turn_of t grant order true in
+      let m = builds Nb t grant order k in
+      let same = builds_down t grant order k in
+      let es = building t grant order k.nb in
+      let Q = Stands Ue u in
+      stage_then l set (Stands Nb (Waits t)) Q (Visiting Nb turn k.nb) Q (Stands Nb (Done t)) Q k m m
+      (visit_nb l set turn (map (records.Of Nb) es) k m Q (record {
+        given = (within, enough);
+        end_is = ap (λ (s : Seen). s.nb) same ∙ quiet_is turn k.nb is;
+        other_is = ap (λ (s : Seen). s.ue) same;
+        out_is = ap (λ (s : Seen). s.out) same;
+        told_is = building_own Nb turn k.nb;
+        other_told = other_told Nb es;
+        unlooped = λ n. events_unlooped n Nb es;
+      }))
+      (done_nb l set turn k.nb m Q)
+
+  down_by_stage : (v : Visit) (t grant : ℕ) (order : Order) (o : Outcome) (ndi : Bool) (k : Link) (u : Moment) → visit t order k.nb ≡ v → grant ≤ 9422 → IsEnough order grant
+      → Stage l set (Stands Nb (Waits t)) (Stands Ue u) (Stands Nb (Done t)) (Stands Ue u) k (down_by v t o ndi (builds Nb t grant order k))
+  down_by_stage New t grant order o ndi k u is within enough =
+      let m = builds Nb t grant order k in
+      goes_down New t grant order o ndi (block_at t m.nb) k u is (λ x e. refl) (λ good. flown_new Nb (turn_of t grant order good) k.nb is)
+      (ap (λ (s : Seen). block_at t s.nb) (builds_down t grant order k)) within enough
+  down_by_stage (Resend rv) t grant order o ndi k u is within enough =
+      let m = builds Nb t grant order k in
+      goes_down (Resend rv) t grant order o ndi (block_at t m.nb) k u is (λ x e. refl) (λ good. flown_again rv Nb (turn_of t grant order good) k.nb is)
+      (ap (λ (s : Seen). block_at t s.nb) (builds_down t grant order k)) within enough
+  down_by_stage Quiet t grant order o ndi k u is within enough = quiet_down t grant order k u is within enough
+
+  pub downlink_stage : (t grant : ℕ) (o : Outcome) (k : Link) (u : Moment) → grant ≤ 9422 → Stage l set (Stands Nb (Waits t)) (Stands Ue u) (Stands Nb (Done t)) (Stands Ue u) k (downlink t grant o k)
+  unfolding downlink
+  downlink_stage t grant o k u within =
+      let order = down_order grant in
+      down_by_stage (visit t order k.nb) t grant order o (built_ndi Nb t grant order k) k u refl within (enough_by_grant grant)
+
+  -- ---- the uplink
+
+  hears_if_stage : (good : Bool) (octets : List ℕ) (k : Link) (n : Moment) (Q : Station → Type 0) → ((s : Station) → Q s → Flown octets s) → Stage l set (Stands Nb n) Q (Stands Nb n) Q k (hears_if good octets k)
+  hears_if_stage true octets k n Q flown = hears_nb l set octets k n Q flown
+  hears_if_stage false octets k n Q flown = still_stage l set k k (Stands Nb n) Q refl refl refl
+
+  goes_up : (v : Visit) (t grant : ℕ) (order : Order) (o : Outcome) (octets : List ℕ) (k : Link) (m : Moment) → visit t order k.ue ≡ v → IsLoud v → ((good : Bool) → IsSent v Ue (turn_of t grant order good) k.ue)
+      → octets ≡ block_at t (built t grant order k.ue) → grant ≤ 9422 → IsEnough order grant
+      → Stage l set (Stands Nb m) (Stands Ue (Waits t)) (Stands Nb m) (Stands Ue (Done t)) k (up_aired t o.flipped (is_intact o.fate) octets (sends v Ue t octets (awake v t (builds Ue t grant order k))))
+  goes_up v t grant order o octets k m is loud flown octets_are within enough =
+      let n = sends v Ue t octets (awake v t (builds Ue t grant order k)) in
+      let intact = is_intact o.fate in
+      let good = turned o.flipped intact in
+      let turn = turn_of t grant order good in
+      let f = feeds Ue t good n in
+      let q = feeds Ue t good (granted t (Some intact) n) in
+      let one = records.Air directions.Up (up_told_as intact) (Some good) in
+      let w = says one q in
+      let z = hears_if intact octets w in
+      let same = sent_up v t grant order octets k in
+      let more = visit_records v Ue t grant order k.kinds octets k.ue in
+      let P = Stands Nb m in
+      let Q = Visiting Ue turn k.ue in
+      let W = Stands Ue (Waits t) in
+      let D = Stands Ue (Done t) in
+      let first : Stage l set P W P Q k f = visit_ue l set turn more k f P (record {
+        given = (within, enough);
+        end_is = ap (λ (s : Seen). fed t good s.ue) same ∙ fed_is v turn k.ue is loud;
+        other_is = ap (λ (s : Seen). s.nb) same;
+        out_is = ap (λ (s : Seen). s.out) same;
+        told_is = visit_own v Ue turn k.kinds octets k.ue;
+        other_told = visit_other v Ue turn k.kinds octets k.ue;
+        unlooped = λ n. visit_unlooped v Ue turn k.kinds octets k.ue n;
+      }) in
+      let brought : Stage l set P Q P Q f q = called_nb l set (Granted t (Some intact)) [] none f q m Q (record { adds_none = refl; moves_none = refl; unset = λ off. refl })
+      (record { plain = tt; given = tt; keeps = λ e. refl; end_is = refl; other_is = refl; out_is = sym (append-nil n.out); says = says_nothing Nb f.nb (Granted t (Some intact)) refl (λ i. refl) }) in
+      let heard : Stage l set P Q P Q w z = hears_if_stage intact octets w m Q (λ s h. subst (λ (x : List ℕ). Flown x s) (sym octets_are) (flown good s h)) in
+      let to_q = stage_then l set P W P Q P Q k f q first brought in
+      let to_w = stage_then l set P W P Q P Q k q w to_q (says_stage l set one q P Q refl refl (λ n. refl)) in
+      let to_z = stage_then l set P W P Q P Q k w z to_w heard in
+      stage_then l set P W P Q P D k z z to_z (done_ue l set turn k.ue z P)
+
+  quiet_up : (t grant : ℕ) (order : Order) (k : Link) (m : Moment) → visit t order k.ue ≡ Quiet → grant ≤ 9422 → IsEnough order grant
+      → Stage l set (Stands Nb m) (Stands Ue (Waits t)) (Stands Nb m) (Stands Ue (Done t)) k (builds Ue t grant order k)
+  quiet_up t grant order k m is within enough =
+      let turn = turn_of t grant order true in
+      let n = builds Ue t grant order k in
+      let same = builds_up t grant order k in
+      let es = building t grant order k.ue in
+      let P = Stands Nb m in
+      stage_then l set P (Stands Ue (Waits t)) P (Visiting Ue turn k.ue) P (Stands Ue (Done t)) k n n
+      (visit_ue l set turn (map (records.Of Ue) es) k n P (record {
+        given = (within, enough);
+        end_is = ap (λ (s : Seen). s.ue) same ∙ quiet_is turn k.ue is;
+        other_is = ap (λ (s : Seen). s.nb) same;
+        out_is = ap (λ (s : Seen). s.out) same;
+        told_is = building_own Ue turn k.ue;
+        other_told = other_told Ue es;
+        unlooped = λ n. events_unlooped n Ue es;
+      }))
+      (done_ue l set turn k.ue n P)
+
+  up_by_stage : (v : Visit) (t grant : ℕ) (order : Order) (o : Outcome) (k : Link) (m : Moment) → visit t order k.ue ≡ v → grant ≤ 9422 → IsEnough order grant
+      → Stage l set (Stands Nb m) (Stands Ue (Waits t)) (Stands Nb m) (Stands Ue (Done t)) k (up_by v t o (builds Ue t grant order k))
+  up_by_stage New t grant order o k m is within enough =
+      let n = builds Ue t grant order k in
+      goes_up New t grant order o (block_at t n.ue) k m is (λ x e. refl) (λ good. flown_new Ue (turn_of t grant order good) k.ue is)
+      (ap (λ (s : Seen). block_at t s.ue) (builds_up t grant order k)) within enough
+  up_by_stage (Resend rv) t grant order o k m is within enough =
+      let n = builds Ue t grant order k in
+      goes_up (Resend rv) t grant order o (block_at t n.ue) k m is (λ x e. refl) (λ good. flown_again rv Ue (turn_of t grant order good) k.ue is)
+      (ap (λ (s : Seen). block_at t s.ue) (builds_up t grant order k)) within enough
+  up_by_stage Quiet t grant order o k m is within enough =
+      let n = builds Ue t grant order k in
+      let q = granted t None n in
+      let P = Stands Nb m in
+      let W = Stands Ue (Waits t) in
+      let D = Stands Ue (Done t) in
+      let one = records.Air directions.Up arriveds.Nothing None in
+      let to_q = stage_then l set P W P D P D k n q (quiet_up t grant order k m is within enough)
+      (call_rests l set Nb (Granted t None) n tt tt (record { adds_none = refl; moves_none = refl; unset = λ off. refl }) (λ e. refl) refl (λ n. refl) m (Done t)) in
+      stage_then l set P W P D P D k q (says one q) to_q (says_stage l set one q P D refl refl (λ n. refl))
+
+  enough_up : (f : Fate) (ndi : Bool) (grant : ℕ) → 1 ≤ grant → IsEnough (up_order f ndi) grant
+  enough_up Ok ndi grant some = some
+  enough_up Bad ndi grant some = some
+  enough_up Miss ndi grant some = tt
+
+  grants_stage : (t grant : ℕ) (o : Outcome) (k : Link) (m : Moment) → 1 ≤ grant → grant ≤ 9422 → Stage l set (Stands Nb m) (Stands Ue (Waits t)) (Stands Nb m) (Stands Ue (Done t)) k (grants t grant o k)
+  grants_stage t grant o k m some within =
+      let order = up_order o.fate (grant_ndi k.nb.receiver t) in
+      let n = with_end Nb (after_call k.nb (Grants t)) k in
+      let P = Stands Nb m in
+      let W = Stands Ue (Waits t) in
+      stage_then l set P W P W P (Stands Ue (Done t)) k n (answers t grant order o n) (call_rests l set Nb (Grants t) k tt tt (record { adds_none = refl; moves_none = refl; unset = λ off. refl }) (λ e. refl) refl (λ n. refl) m (Waits t))
+      (up_by_stage (visit t order k.ue) t grant order o n m refl within (enough_up o.fate (grant_ndi k.nb.receiver t) grant some))
+
+  passes_stage : (t : ℕ) (k : Link) (m : Moment) → Stage l set (Stands Nb m) (Stands Ue (Waits t)) (Stands Nb m) (Stands Ue (Done t)) k (passes t k)
+  unfolding visit_answer
+  passes_stage t k m =
+      let n = builds Ue t 0 orders.Silent k in
+      let P = Stands Nb m in
+      let D = Stands Ue (Done t) in
+      stage_then l set P (Stands Ue (Waits t)) P D P D k n (passes t k) (quiet_up t 0 orders.Silent k m refl (omega arith) tt)
+      (call_rests l set Nb (Pass t) n tt tt (record { adds_none = refl; moves_none = refl; unset = λ off. refl }) (λ e. refl) refl (λ n. refl) m (Done t))
+
+  up_if : (b : Bool) (t grant : ℕ) (o : Outcome) (k : Link) (m : Moment) → (grant == 0) ≡ b → grant ≤ 9422
+      → Stage l set (Stands Nb m) (Stands Ue (Waits t)) (Stands Nb m) (Stands Ue (Done t)) k (if b then passes t k else grants t grant o k)
+  up_if true t grant o k m e within = passes_stage t k m
+  up_if false t grant o k m e within = grants_stage t grant o k m (some_from grant e) within
+
+  pub uplink_stage : (t grant : ℕ) (o : Outcome) (k : Link) (m : Moment) → grant ≤ 9422 → Stage l set (Stands Nb m) (Stands Ue (Waits t)) (Stands Nb m) (Stands Ue (Done t)) k (uplink t grant o k)
+  unfolding uplink
+  uplink_stage t grant o k m within = up_if (grant == 0) t grant o k m refl within

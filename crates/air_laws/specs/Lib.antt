@@ -1,0 +1,5 @@
+pub mod On
+pub mod Going
+pub mod Lives
+pub mod Lived
+pub mod Links

@@ -1,0 +1,9 @@
+pub mod Ups
+pub mod Hearing
+pub mod Keeping
+pub mod Taking
+pub mod Sending
+pub mod Arriving
+pub mod Timing
+pub mod Calls
+pub mod Lives

@@ -1,0 +1,4 @@
+pub mod Deeds
+pub mod Calls
+pub mod Sending
+pub mod Lives

@@ -1,0 +1,10 @@
+pub mod Ends
+pub mod Bearers
+pub mod Pairs
+pub mod Acting
+pub mod Walk
+pub mod Waiting
+pub mod Unset
+pub mod Submitted
+pub mod Delivery
+pub mod Drained

@@ -1,0 +1,328 @@
+-- What an end takes and writes: a STATUS, the PDUs of PDCP that RLC takes, and a data PDU.
+use Rattle.std.proofs.Common.{◌≡◌, ℕ, ◌-◌, Bool, true, false, ◌||◌, if◌then◌else◌, List, [], ◌∷◌, ◌++◌, take, drop, map, length, Option, Some, None, option_map, slice_get, refl, ap, sym, subst, ◌∙◌, append_assoc}
+use Rattle.std.proofs.lemmas.List.{append-nil, take-append-drop}
+use Rattle.std.specs.List.{AllByRecursion}
+use Rattle.pdcp_kept.specs.declared.given.Sent.{Sent as Kept}
+use Rattle.pdcp_kept.specs.Waiting.{Waits}
+use Rattle.pdcp_tx.specs.declared.sender.Next.{Next}
+use Rattle.pdcp_tx.specs.Runs.{Take as TakePdcp}
+use Rattle.pdcp_tx.specs.State.{State as Sending, Offer as Offering, offers as offers_of, owed_offers, again_offer, new_offers, taking, took, took_owed, took_again, took_new, written}
+use Rattle.pdcp_tx.proofs.Head.{heads}
+use Rattle.pdcp_laws.specs.Lives.{takes_new}
+use Rattle.rlc_am_rx.specs.Machine.{written as written_by}
+use Rattle.rlc_am_tx.specs.Machine.{State as Sender, answer}
+use Rattle.am_tx_laws.specs.Run.{Offer, Take}
+use Rattle.am_rx_laws.specs.Run.{Write, World as ReceiverWorld}
+use Rattle.am_bearer_laws.specs.Deeds.{Deed, Feeds, Sends, Receives, does, does_all, offered_next}
+use Rattle.am_bearer_laws.specs.Calls.{only_if, takes, IsOfData, IsIdle}
+use Rattle.am_bearer_laws.proofs.Calls.{calls_are_deeds}
+use Rattle.am_bearer_laws.proofs.Ups.{does_then}
+use Rattle.am_laws.specs.Flow.{Copy, Flow as Rlc, Sends as SendsOn, Reports as ReportsOn, Step as RlcStep, happens as rlc_happens, is_new, copies_with}
+use Rattle.am_laws.specs.Given.{IsTaking as IsTakingStep, IsHeld}
+use Rattle.am_laws.proofs.Runs.{receiver-more}
+use Rattle.am_laws.proofs.Steps.{step-offers}
+use Rattle.am_pdcp_laws.specs.Flow.{Flow as Pdcp, Sends as SendsEvent, one, run as run_pdcp}
+use Rattle.bearer_am.specs.State.{State}
+use Rattle.bearer_am.specs.Taking.{writes_status, status_pdu, status_pdus, data_size}
+use Rattle.bearer_laws.specs.Acknowledged.{offers_in, offered_to, has_more_behind, data_given}
+use Rattle.bearer_laws.specs.Sending.{sends_on as sends_all}
+use Rattle.bearer_laws.specs.Stream.{takes as taken_in, offers_of as offers_behind, pdu_of}
+use Rattle.bearer_laws.proofs.Flows.{taken_front}
+use Rattle.bearer_laws.proofs.Sender.{took_same, same_pdus, sdus, moved_queue, takings, takes_all}
+use Rattle.bearer.specs.declared.flow.Flow.TheVariants.{Am}
+use Rattle.bearer.specs.declared.flow.Flow.{Flow}
+use Rattle.rlc_pdu.specs.declared.Taken.{Taken}
+use Rattle.bearer_laws.specs.Calls.{Take as TakeCall, after, ends}
+use Rattle.bearer_laws.specs.Queue.{news, off, queue}
+use Rattle.flow_laws.specs.Pair.{Sent, written_now, HasOctet, IsTaking, BearerEnd, acknowledged, called, calls}
+use Rattle.flow_laws.specs.Flows.{IsFlow}
+use Rattle.flow_laws.proofs.Hearing.{is_reported}
+use Rattle.flow_laws.proofs.Standing.{or_none}
+use Rattle.delivery_laws.proofs.Joined.{Way, IsWay, Joins, IsReportOf, rlc, pdcp}
+use Rattle.delivery_laws.proofs.Ends.{JoinedEnds, EndsGoOn}
+use Rattle.delivery_laws.proofs.Moving.{Moves, rests, rlc_moves}
+use Rattle.delivery_laws.proofs.Doing.{Tells, tells, out_goes_on, inn_goes_on, stays_joined, ends_then}
+use Rattle.delivery_laws.proofs.Timers.{with_bearer, stays_between, sent_by, sends_flow, sends_on}
+
+-- ---- PDCP's sender gives a PDU
+
+-- one without a COUNT is the report that is owed
+abbrev IsOwed : Option (List ℕ) → Option Next → Type 0
+IsOwed owed None = Unit {0}
+IsOwed owed (Some n) = n.count ≡ None → owed ≡ Some n.octets
+
+abbrev next_of : Sending → List Offering → Option Next
+next_of s os = option_map (λ o. written s.kind s.protection o.count o.text) (slice_get os 0)
+
+new_owed : (s : Sending) (owed : Option (List ℕ)) (n : ℕ) (ws : List Waits) → IsOwed owed (next_of s (new_offers n ws))
+new_owed s owed n [] = tt
+new_owed s owed n (w ∷ ws) = λ q. let no : Some n ≡ None = q in absurd cc
+
+again_owed : (s : Sending) (owed : Option (List ℕ)) (ss : List Kept) (n : ℕ) (ws : List Waits) → IsOwed owed (next_of s (map again_offer ss ++ new_offers n ws))
+again_owed s owed [] n ws = new_owed s owed n ws
+again_owed s owed (x ∷ xs) n ws = λ q. let no : Some x.count ≡ None = q in absurd cc
+
+first_owed : (s : Sending) (owed : Option (List ℕ)) (ss : List Kept) (n : ℕ) (ws : List Waits) → IsOwed owed (next_of s (owed_offers owed ++ map again_offer ss ++ new_offers n ws))
+first_owed s None ss n ws = again_owed s None ss n ws
+first_owed s (Some r) ss n ws = λ q. refl
+
+taking_owed : (s : Sending) → IsOwed s.owed (taking s)
+unfolding taking offers_of
+taking_owed s = first_owed s s.owed s.again s.next (take (s.bound - s.next) s.waiting)
+
+-- behind it nothing is owed
+new_left : (s : Sending) (ws : List Waits) → (took_new ws s).owed ≡ s.owed
+new_left s [] = refl
+new_left s (w ∷ ws) = refl
+
+again_left : (s : Sending) (ss : List Kept) → (took_again ss s).owed ≡ s.owed
+again_left s [] = new_left s (take (s.bound - s.next) s.waiting)
+again_left s (x ∷ xs) = refl
+
+owed_left : (s : Sending) (owed : Option (List ℕ)) (r : List ℕ) → (took_owed owed s).owed ≡ Some r → s.owed ≡ Some r
+owed_left s None r q = sym (again_left s s.again) ∙ q
+owed_left s (Some own) r q = let no : None ≡ Some r = q in absurd cc
+
+took_left : (s : Sending) (r : List ℕ) → (took s).owed ≡ Some r → s.owed ≡ Some r
+unfolding took
+took_left s r q = owed_left s s.owed r q
+
+taking_is : (s : Sending) (o : Offering) (os : List Offering) → offers_of s ≡ o ∷ os → taking s ≡ Some (written s.kind s.protection o.count o.text)
+unfolding taking
+taking_is s o os q = rw q refl
+
+-- ---- RLC takes it
+
+reports_more : (report : Option (List ℕ)) (xs ys : List Next) → AllByRecursion (IsReportOf report) xs → AllByRecursion (IsReportOf report) ys → AllByRecursion (IsReportOf report) (xs ++ ys)
+reports_more report [] ys h k = k
+reports_more report (x ∷ xs) ys h k = (h.0, reports_more report xs ys h.1 k)
+
+octets_more : (xs : List Next) (n : Next) → map (λ (m : Next). m.octets) (xs ++ n ∷ []) ≡ map (λ (m : Next). m.octets) xs ++ n.octets ∷ []
+octets_more [] n = refl
+octets_more (x ∷ xs) n = ap (λ l. x.octets ∷ l) (octets_more xs n)
+
+-- PDCP's flow behind it
+abbrev behind : Pdcp → Pdcp
+behind g = run_pdcp (SendsEvent TakePdcp ∷ []) g
+
+feeds_tell : (report : Option (List ℕ)) (g : Pdcp) (n : Next) → taking g.sender ≡ Some n → Tells report g → Tells report (behind g)
+feeds_tell report g n is t =
+    let first : IsOwed g.sender.owed (Some n) = subst (IsOwed g.sender.owed) is (taking_owed g.sender) in
+    let more : AllByRecursion (IsReportOf report) (n ∷ []) = (λ q. t.owed n.octets (first q), tt) in
+    record {
+      owed = λ r q. t.owed r (took_left g.sender r q);
+      sent = subst (λ (o : Option Next). AllByRecursion (IsReportOf report) (g.stream ++ one o)) (sym is) (reports_more report g.stream (n ∷ []) t.sent more);
+    }
+
+feeds_flow : (e o : BearerEnd) (f : Rlc) (n : Next) → taking e.bearer.pdcp.tx ≡ Some n → IsFlow e o f → IsFlow (with_bearer (Feeds ∷ []) e) o (rlc_happens f (SendsOn (Offer n.octets)))
+feeds_flow e o f n is h =
+    let k = sends_flow e o f (Offer n.octets) h in
+    record {
+      sender_is = k.sender_is ∙ ap (λ (x : Option Next). offered_next x e.bearer.tx) (sym is);
+      receiver_is = k.receiver_is;
+      copies_are = k.copies_are;
+      reports_are = k.reports_are;
+      busy_is = k.busy_is ∙ sym (or_none e.busy);
+    }
+
+feeds_move : (w : Way) (e o : BearerEnd) (n : Next) → IsWay w → Joins w e o → taking e.bearer.pdcp.tx ≡ Some n → HasOctet n.octets
+    → Moves w (SendsEvent TakePdcp ∷ []) (SendsOn (Offer n.octets) ∷ []) (with_bearer (Feeds ∷ []) e) o (takes_new e.bearer.pdcp.tx TakePdcp) []
+feeds_move w e o n h joins is some =
+    let g = pdcp w in
+    let f = rlc w in
+    let s : RlcStep = SendsOn (Offer n.octets) in
+    let r = rests w s h some (record { stays = refl; none = refl }) in
+    let gives : taking g.sender ≡ Some n = ap taking joins.sender_is ∙ is in
+    record {
+      events = (tt, tt);
+      steps = (some, tt);
+      meets = record {
+        rlc_is = feeds_flow e o f n is joins.rlc_is;
+        sender_is = ap took joins.sender_is;
+        receiver_is = joins.receiver_is;
+        stream_is =
+            ap (λ (x : Option Next). map (λ (m : Next). m.octets) (g.stream ++ one x)) gives
+            ∙ octets_more g.stream n
+            ∙ ap (λ l. l ++ n.octets ∷ []) joins.stream_is
+            ∙ sym (step-offers f s);
+        passed_is = joins.passed_is ∙ ap length (sym r.handed);
+        whole_is = λ k. joins.whole_is k ∙ sym (r.arrived k);
+      };
+      sdus_are = ap (λ (x : Sending). g.sdus ++ takes_new x TakePdcp) joins.sender_is;
+      ups_are = sym (append-nil g.up);
+    }
+
+feeds_go_on : (bits : ℕ) (out inn : Way) (e o : BearerEnd) (n : Next) → JoinedEnds bits out inn e o → taking e.bearer.pdcp.tx ≡ Some n → HasOctet n.octets
+    → EndsGoOn bits out inn (with_bearer (Feeds ∷ []) e) o (takes_new e.bearer.pdcp.tx TakePdcp) []
+feeds_go_on bits out inn e o n h is some =
+    out_goes_on bits out inn e o (with_bearer (Feeds ∷ []) e) (SendsEvent TakePdcp ∷ []) (SendsOn (Offer n.octets) ∷ []) (takes_new e.bearer.pdcp.tx TakePdcp) h
+    (feeds_move out e o n h.out_is h.out_joins is some) (record { rx = refl; reports = refl; pdcp = refl }) (stays_between bits out inn e o Feeds h tt)
+    refl (feeds_tell (pdcp inn).report (pdcp out) n (ap taking h.out_joins.sender_is ∙ is) (tells inn out h.inn_reports))
+
+-- ---- PDUs, one behind the other
+
+-- a PDU leaves the queue at its front, where it is taken for the first time
+queue_left : (s : Sending) → takes_new s TakePdcp ++ sdus (took s).waiting ≡ sdus s.waiting
+queue_left s =
+    ap (λ l. l ++ sdus (took s).waiting) (sym (append-nil (takes_new s TakePdcp)))
+    ∙ moved_queue s (took s) (takings 1 s) (takes_all 1 s)
+    ∙ append-nil (sdus s.waiting)
+
+abbrev feeds_all : List (List ℕ) → BearerEnd → BearerEnd
+feeds_all pdus e = with_bearer (map (λ pdu. Feeds) pdus) e
+
+record Fed (bits : ℕ) (out inn : Way) (e o : BearerEnd) (pdus : List (List ℕ)) : Type 0 where
+  news : List (List ℕ)
+  goes : EndsGoOn bits out inn (feeds_all pdus e) o news []
+  left : news ++ sdus (feeds_all pdus e).bearer.pdcp.tx.waiting ≡ sdus e.bearer.pdcp.tx.waiting
+  tx : (feeds_all pdus e).bearer.tx ≡ sends_all (map (λ sdu. Offer sdu) pdus) e.bearer.tx
+
+none_fed : (bits : ℕ) (out inn : Way) (e o : BearerEnd) → JoinedEnds bits out inn e o → Fed bits out inn e o []
+none_fed bits out inn e o h = record { news = []; goes = stays_joined bits out inn e o h; left = refl; tx = refl }
+
+one_fed : (bits : ℕ) (out inn : Way) (e o : BearerEnd) (n : Next) (pdus : List (List ℕ)) → taking e.bearer.pdcp.tx ≡ Some n
+    → (m : EndsGoOn bits out inn (with_bearer (Feeds ∷ []) e) o (takes_new e.bearer.pdcp.tx TakePdcp) []) → Fed bits m.out_after m.inn_after (with_bearer (Feeds ∷ []) e) o pdus
+    → Fed bits out inn e o (n.octets ∷ pdus)
+one_fed bits out inn e o n pdus is m more =
+    let s = e.bearer.pdcp.tx in
+    let d = with_bearer (Feeds ∷ []) e in
+    let last = (feeds_all pdus d).bearer.pdcp.tx.waiting in
+    record {
+      news = takes_new s TakePdcp ++ more.news;
+      goes = ends_then bits out inn d o (feeds_all pdus d) o (takes_new s TakePdcp) more.news [] [] m more.goes;
+      left = append_assoc (takes_new s TakePdcp) more.news (sdus last) ∙ ap (λ l. takes_new s TakePdcp ++ l) more.left ∙ queue_left s;
+      tx = more.tx ∙ ap (λ (x : Option Next). sends_all (map (λ sdu. Offer sdu) pdus) (offered_next x e.bearer.tx)) is;
+    }
+
+all_fed : (bits : ℕ) (out inn : Way) (e o : BearerEnd) (os rest : List Offering) → JoinedEnds bits out inn e o → offers_of e.bearer.pdcp.tx ≡ os ++ rest
+    → AllByRecursion HasOctet (map (pdu_of e.bearer.pdcp.tx) os) → Fed bits out inn e o (map (pdu_of e.bearer.pdcp.tx) os)
+all_fed bits out inn e o [] rest h q some = none_fed bits out inn e o h
+all_fed bits out inn e o (x ∷ os) rest h q some =
+    let s = e.bearer.pdcp.tx in
+    let d = with_bearer (Feeds ∷ []) e in
+    let n = written s.kind s.protection x.count x.text in
+    let is : taking s ≡ Some n = taking_is s x (os ++ rest) q in
+    let m = feeds_go_on bits out inn e o n h is some.0 in
+    let left : offers_of (took s) ≡ os ++ rest = heads s ∙ ap (drop 1) q in
+    let same : map (pdu_of (took s)) os ≡ map (pdu_of s) os = same_pdus s (took s) os (took_same s) in
+    let more : Fed bits m.out_after m.inn_after d o (map (pdu_of (took s)) os) =
+    all_fed bits m.out_after m.inn_after d o os rest m.joined left (subst (λ (l : List (List ℕ)). AllByRecursion HasOctet l) (sym same) some.1) in
+    one_fed bits out inn e o n (map (pdu_of s) os) is m (subst (λ (l : List (List ℕ)). Fed bits m.out_after m.inn_after d o l) same more)
+
+-- ---- a STATUS where one is written
+
+abbrev writes : Bool → ℕ → BearerEnd → BearerEnd
+writes due share e = record e {
+  bearer = record e.bearer { rx = if due then written_by e.bearer.rx else e.bearer.rx };
+  reports = map written_now (if due then status_pdu e.bearer.rx share ∷ [] else []) ++ e.reports;
+}
+
+status_flow : (e o : BearerEnd) (f : Rlc) (share : ℕ) → IsFlow o e f → IsFlow o (writes true share e) (rlc_happens f (ReportsOn (share - 3) (status_pdu e.bearer.rx share)))
+status_flow e o f share h = record {
+  sender_is = h.sender_is;
+  receiver_is = ap (λ (w : ReceiverWorld). w.state) (receiver-more f Write) ∙ ap written_by h.receiver_is;
+  copies_are = h.copies_are;
+  reports_are = ap (λ (l : List Sent). written_now (status_pdu e.bearer.rx share) ∷ l) h.reports_are;
+  busy_is = h.busy_is;
+}
+
+writes_go_on : (bits : ℕ) (out inn : Way) (e o : BearerEnd) (due : Bool) (share : ℕ) → JoinedEnds bits out inn e o → EndsGoOn bits out inn (writes due share e) o [] []
+writes_go_on bits out inn e o true share h =
+    let f = rlc inn in
+    let s : RlcStep = ReportsOn (share - 3) (status_pdu e.bearer.rx share) in
+    let d = writes true share e in
+    let between = stays_between bits out inn e o (Receives Write) h tt in
+    inn_goes_on bits out inn e o d (s ∷ []) h
+    (rlc_moves inn s o e o d h.inn_is h.inn_joins (is_reported f e.bearer.rx share h.inn_joins.rlc_is.receiver_is) (record { stays = refl; none = refl }) refl
+    (status_flow e o f share h.inn_joins.rlc_is) refl refl)
+    (record { tx = refl; copies = refl; busy = refl; pdcp = refl }) (record { of_data = between.of_data; idle = between.idle })
+writes_go_on bits out inn e o false share h = stays_joined bits out inn e o h
+
+-- ---- a data PDU
+
+abbrev gives_data : ℕ → Option ℕ → Bool → BearerEnd → BearerEnd
+gives_data size held more e = sent_by (Take size held more) e
+
+data_goes_on : (bits : ℕ) (out inn : Way) (e d o : BearerEnd) (share : ℕ) (held : Option ℕ) → JoinedEnds bits out inn d o → IsTaking e share held
+    → d.bearer.tx ≡ offered_to e.bearer share held → d.copies ≡ e.copies → d.busy ≡ e.busy
+    → EndsGoOn bits out inn (gives_data (data_size e.bearer share) held (has_more_behind e.bearer share held) d) o [] []
+data_goes_on bits out inn e d o share held h t tx copies busy =
+    let size = data_size e.bearer share in
+    let more = has_more_behind e.bearer share held in
+    let flow = h.out_joins.rlc_is in
+    let can : IsTakingStep (rlc out) size held more = record {
+      few = t.few;
+      lowest = subst (λ (cs : List Copy). AllByRecursion (IsHeld held) cs) (sym (flow.copies_are ∙ copies)) t.lowest;
+      one = λ q. ap (λ (x : Sender). is_new (answer x size held more)) (flow.sender_is ∙ tx) ∙ t.one (sym (flow.busy_is ∙ busy) ∙ q);
+    } in
+    sends_on bits out inn d o (Take size held more) h can refl tt
+
+-- ---- the whole
+
+write_as : (due : Bool) (b : State) → does_all (only_if due (Receives Write)) b ≡ record b { rx = if due then written_by b.rx else b.rx }
+write_as true b = refl
+write_as false b = refl
+
+-- the bearer behind it
+abbrev fed : State → ℕ → Option ℕ → State
+fed b share held = does_all (map (λ pdu. Feeds) (offers_in b share held)) (record b { rx = if writes_status b.rx share then written_by b.rx else b.rx })
+
+abbrev sends_last : State → ℕ → Option ℕ → Deed
+sends_last b share held = Sends (Take (data_size b share) held (has_more_behind b share held))
+
+taken_as : (b : State) (share : ℕ) (held : Option ℕ) → does_all (takes b share held) b ≡ does (fed b share held) (sends_last b share held)
+taken_as b share held =
+    let status : List Deed = only_if (writes_status b.rx share) (Receives Write) in
+    let fill : List Deed = map (λ pdu. Feeds) (offers_in b share held) in
+    does_then (status ++ fill) (sends_last b share held ∷ []) b
+    ∙ ap (λ (d : State). does d (sends_last b share held)) (does_then status fill b ∙ ap (does_all fill) (write_as (writes_status b.rx share) b))
+
+-- all of it, at the end that takes
+abbrev taken_by : ℕ → Option ℕ → BearerEnd → BearerEnd
+taken_by share held e =
+    gives_data (data_size e.bearer share) held (has_more_behind e.bearer share held) (feeds_all (offers_in e.bearer share held) (writes (writes_status e.bearer.rx share) share e))
+
+after_is : (bits : ℕ) (b : State) (share : ℕ) (held : Option ℕ) → IsOfData bits b → IsIdle b → after (Am b) (TakeCall share held) ≡ Am (does (fed b share held) (sends_last b share held))
+after_is bits b share held h idle = (calls_are_deeds bits b (TakeCall share held) h idle).left ∙ ap (λ (d : State). Am d) (taken_as b share held)
+
+taken_is : (bits : ℕ) (e : BearerEnd) (share : ℕ) (held : Option ℕ) → IsOfData bits e.bearer → IsIdle e.bearer
+    → (fed e.bearer share held).tx ≡ offered_to e.bearer share held → taken_by share held e ≡ calls e (TakeCall share held)
+taken_is bits e share held h idle tx =
+    let b = e.bearer in
+    let reports = map written_now (status_pdus b.rx share) ++ e.reports in
+    let d = does (fed b share held) (sends_last b share held) in
+    let given : answer (fed b share held).tx (data_size b share) held (has_more_behind b share held) ≡ data_given b share held =
+    ap (λ (x : Sender). answer x (data_size b share) held (has_more_behind b share held)) tx in
+    let left : d ≡ called b (TakeCall share held) = ap (acknowledged b) (sym (after_is bits b share held h idle)) in
+    ap (λ (x : Taken). the_end d (copies_with x e.copies) reports (e.busy || is_new x)) given
+    ∙ ap (λ (x : State). the_end x (copies_with (data_given b share held) e.copies) reports (e.busy || is_new (data_given b share held))) left
+  where
+    the_end : State → List Copy → List Sent → Bool → BearerEnd
+    the_end bearer copies reports busy = record { bearer = bearer; copies = copies; reports = reports; busy = busy }
+
+news_are : (bits : ℕ) (b : State) (share : ℕ) (held : Option ℕ) (taken : List (List ℕ)) → IsOfData bits b → IsIdle b
+    → taken ++ sdus (fed b share held).pdcp.tx.waiting ≡ sdus b.pdcp.tx.waiting → taken ≡ news (Am b) (TakeCall share held)
+news_are bits b share held taken h idle q =
+    sym (taken_front taken (sdus (fed b share held).pdcp.tx.waiting) (sdus b.pdcp.tx.waiting) q)
+    ∙ ap (λ (f : Flow). off (sdus b.pdcp.tx.waiting) (queue (ends f))) (sym (after_is bits b share held h idle))
+
+pub takes_go_on : (bits : ℕ) (out inn : Way) (e o : BearerEnd) (share : ℕ) (held : Option ℕ) → JoinedEnds bits out inn e o → IsTaking e share held
+    → EndsGoOn bits out inn (calls e (TakeCall share held)) o (news (Am e.bearer) (TakeCall share held)) []
+takes_go_on bits out inn e o share held h t =
+    let b = e.bearer in
+    let os = taken_in (Am b) (TakeCall share held) in
+    let k = length (offers_of b.pdcp.tx) - length (offers_behind (ends (after (Am b) (TakeCall share held)))) in
+    let pdus = offers_in b share held in
+    let e1 = writes (writes_status b.rx share) share e in
+    let e2 = feeds_all pdus e1 in
+    let e3 = taken_by share held e in
+    let m1 = writes_go_on bits out inn e o (writes_status b.rx share) share h in
+    let v = m1.out_after in
+    let u = m1.inn_after in
+    let m2 : Fed bits v u e1 o pdus = all_fed bits v u e1 o os (drop k (offers_of b.pdcp.tx)) m1.joined (sym (take-append-drop k (offers_of b.pdcp.tx))) t.some in
+    let m3 = data_goes_on bits m2.goes.out_after m2.goes.inn_after e e2 o share held m2.goes.joined t m2.tx refl refl in
+    let m4 : EndsGoOn bits v u e3 o (m2.news ++ []) [] = ends_then bits v u e2 o e3 o m2.news [] [] [] m2.goes m3 in
+    let m5 : EndsGoOn bits out inn e3 o (m2.news ++ []) [] = ends_then bits out inn e1 o e3 o [] (m2.news ++ []) [] [] m1 m4 in
+    let are : m2.news ++ [] ≡ news (Am b) (TakeCall share held) = append-nil m2.news ∙ news_are bits b share held m2.news h.of_data h.idle m2.left in
+    subst (λ (d : BearerEnd). EndsGoOn bits out inn d o (news (Am b) (TakeCall share held)) []) (taken_is bits e share held h.of_data h.idle m2.tx)
+    (subst (λ (l : List (List ℕ)). EndsGoOn bits out inn e3 o l []) are m5)

@@ -1,0 +1,4 @@
+pub mod Lives
+pub mod Delivery
+pub mod Ends
+pub mod Drained
