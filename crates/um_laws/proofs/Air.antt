@@ -19,7 +19,7 @@ use Rattle.um_laws.proofs.Places.{found-else}
 use Rattle.um_laws.proofs.Whole.{whole}
 
 -- each accepted PDU is that of its number
-abbrev Agrees : List (Option Parts) → ℕ → List Accepted → Type 0
+abbrev pub Agrees : List (Option Parts) → ℕ → List Accepted → Type 0
 Agrees made first log = (i : ℕ) (p : Parts) → found log (first + i) ≡ Some p → slice_index_or made i None ≡ Some p
 
 grows-numbers : (ss : List (Option Parts)) (zs : List (List ℕ)) (j : Joined) → IsSome zs j.ready → IsSome zs (with_numbers ss j).ready
@@ -27,7 +27,7 @@ grows-numbers [] zs j r = r
 grows-numbers (None ∷ ss) zs j r = grows-numbers ss zs (with_number None j) r
 grows-numbers (Some p ∷ ss) zs j r = grows-numbers ss zs (with_number (Some p) j) (grows-elements p.elements zs j p.begins p.ends r)
 
-shifted : (s : Option Parts) (ss : List (Option Parts)) (from : ℕ) (log : List Accepted) → Agrees (s ∷ ss) from log → Agrees ss (from + 1) log
+pub shifted : (s : Option Parts) (ss : List (Option Parts)) (from : ℕ) (log : List Accepted) → Agrees (s ∷ ss) from log → Agrees ss (from + 1) log
 shifted s ss from log a i p e = a (suc i) p (ap (found log) (omega arith) ∙ e)
 
 lags-step : (o : Option Parts) (s : Option Parts) (ss : List (Option Parts)) (log : List Accepted) (from m : ℕ) (k j : Joined) → found log from ≡ o → Agrees (s ∷ ss) from log → Lags k j → Lags (with_number o k) (with_number s j)
@@ -163,10 +163,10 @@ made-by bits steps h = record {
   sn_is = λ k pdu e. numbered-at bits 0 (flow steps (at_first bits)).made k pdu (whole bits steps).numbered e ∙ ap (λ (j : ℕ). j % 2 ^ bits) (omega arith) ∙ ap (λ (m : ℕ). k % m) (size-of bits h);
 }
 
-some-numbers : (bits : ℕ) → IsUmBits bits → 0 < width_of bits
+pub some-numbers : (bits : ℕ) → IsUmBits bits → 0 < width_of bits
 some-numbers bits h = ⊎_elim (λ (e : width_of bits ≡ 16). omega arith) (λ (e : width_of bits ≡ 512). omega arith) (wide-of bits h)
 
-met : (bits reorder : ℕ) (steps : List Step) (calls : List Call) → IsUmBits bits → AreSent (flow steps (at_first bits)).made (width_of bits) calls (fresh (width_of bits) reorder)
+pub met : (bits reorder : ℕ) (steps : List Step) (calls : List Call) → IsUmBits bits → AreSent (flow steps (at_first bits)).made (width_of bits) calls (fresh (width_of bits) reorder)
     → Meets (flow steps (at_first bits)).made (width_of bits) (run calls (fresh (width_of bits) reorder))
 met bits reorder steps calls h s =
     meets-run (flow steps (at_first bits)).made (width_of bits) calls (fresh (width_of bits) reorder) (made-by bits steps h) s (record { keeps = at-start (width_of bits) reorder (some-numbers bits h); width_is = refl; agrees = λ i p e. absurd cc })

@@ -3,6 +3,8 @@ pub mod Places
 pub mod Edge
 pub mod Whole
 pub mod Read
+pub mod Which
+pub mod Later
 pub mod Air
 pub mod Search
 pub mod Loss

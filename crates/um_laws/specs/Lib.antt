@@ -4,3 +4,4 @@ pub mod Air
 pub mod Search
 pub mod Loss
 pub mod Read
+pub mod Which

@@ -12,6 +12,7 @@ ghost use Rattle.um_laws.specs.Loss.{IsOrdered};
 ghost use Rattle.um_laws.specs.Search.{IsSearch};
 ghost use Rattle.um_laws.specs.Air.{AreSent, IsDelivered, IsReadTruly};
 ghost use Rattle.um_laws.specs.Read.{IsRead};
+ghost use Rattle.um_laws.specs.Which.{HandsUpWhatCame, MoreGoUpLater};
 
 /// Whatever calls come, VR(UR) is the least number at or above the base that isn't accepted, and VR(UH) is one above the
 /// greatest number that was read.
@@ -71,4 +72,15 @@ pub fn delivered_in_order()
 /// Over such an air each PDU is read as the number that it has.
 pub fn reads_true_numbers()
     ensures { (bits reorder : ℕ) (steps : List Step) (calls : List Call) → IsUmBits bits → AreSent (flow steps (at_first bits)).made (width_of bits) calls (fresh (width_of bits) reorder) → (pdu : UmdPdu) → IsReadTruly (flow steps (at_first bits)).made (width_of bits) (run calls (fresh (width_of bits) reorder)) pdu }
+{}
+
+/// Over such an air the SDUs that go up are just those all of whose elements came in numbers below VR(UR), and as the receiver ends
+/// those all of whose elements came.
+pub fn hands_up_what_came()
+    ensures { HandsUpWhatCame }
+{}
+
+/// Whatever is offered, taken and called later, the SDUs that came whole so far stay those, and others only follow them.
+pub fn more_go_up_later()
+    ensures { MoreGoUpLater }
 {}

@@ -1,0 +1,9 @@
+pub mod Numbers
+pub mod Standing
+pub mod Sending
+pub mod Hearing
+pub mod Calls
+pub mod Flows
+pub mod Handing
+pub mod Lives
+pub mod Later
