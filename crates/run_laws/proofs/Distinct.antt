@@ -7,6 +7,7 @@ use Rattle.air_record.specs.declared.line.Line.TheVariants as lines
 use Rattle.air_run.specs.Playing.{next_keys}
 use Rattle.air_text.specs.Groups.{Group}
 use Rattle.bearer_laws.specs.Ciphering.{AreDistinct, IsOneOf}
+use Rattle.bearer_laws.proofs.Ciphering.{none_of_them}
 use Rattle.eps_sec.specs.declared.Keys.{Keys}
 use Rattle.run_laws.specs.Keys.{keys_of, all_keys}
 use Rattle.run_laws.specs.Texts.{in_force_by, in_force, gives, given}
@@ -19,11 +20,6 @@ one_of_either x (z ∷ xs) y (inr more) = elim (one_of_either x xs y more) [
   | inl there ↦ inl (inr there)
   | inr here ↦ inr here
 ]
-
-not_one : (x : List ℕ) (xs : List (List ℕ)) → AllByRecursion (λ other. x ≡ other → ⊥) xs → IsOneOf x xs → ⊥
-not_one x [] h wrong = wrong
-not_one x (y ∷ xs) h (inl e) = h.0 e
-not_one x (y ∷ xs) h (inr more) = not_one x xs h.1 more
 
 distinct_last : (xs : List (List ℕ)) (y : List ℕ) → AreDistinct xs → (IsOneOf y xs → ⊥) → AreDistinct (xs ++ y ∷ [])
 distinct_last [] y d h = (tt, tt)
@@ -72,8 +68,8 @@ three_more past k d h =
     let rs = map rrc_key (given past) in
     let users_are = map-append user_key (given past) (k ∷ []) in
     let rrcs_are = map-append rrc_key (given past) (k ∷ []) in
-    let user_new : (x : List ℕ) → IsOneOf x (all_keys past) → user_key k ≡ x → ⊥ = λ x is same. not_one (user_key k) (all_keys past) d.0.1.1 (subst (λ (y : List ℕ). IsOneOf y (all_keys past)) (sym same) is) in
-    let rrc_new : (x : List ℕ) → IsOneOf x (all_keys past) → rrc_key k ≡ x → ⊥ = λ x is same. not_one (rrc_key k) (all_keys past) d.1.0.1 (subst (λ (y : List ℕ). IsOneOf y (all_keys past)) (sym same) is) in
+    let user_new : (x : List ℕ) → IsOneOf x (all_keys past) → user_key k ≡ x → ⊥ = λ x is same. none_of_them (user_key k) (all_keys past) (subst (λ (y : List ℕ). IsOneOf y (all_keys past)) (sym same) is) d.0.1.1 in
+    let rrc_new : (x : List ℕ) → IsOneOf x (all_keys past) → rrc_key k ≡ x → ⊥ = λ x is same. none_of_them (rrc_key k) (all_keys past) (subst (λ (y : List ℕ). IsOneOf y (all_keys past)) (sym same) is) d.1.0.1 in
     record {
       users = λ x is. elim (one_of_either x us (user_key k) (subst (IsOneOf x) users_are is)) [
         | inl there ↦ inr (inr (inr (h.users x there)))

@@ -3,6 +3,8 @@ use Rattle.std.proofs.Common.{Bool, ℕ, List}
 use Rattle.run_laws.specs.Promises.{IsPromised}
 use Rattle.air_run.specs.Journal.{journal_of}
 use Rattle.run_laws.proofs.Counts.{counts_behind}
+use Rattle.run_laws.proofs.Delivering.{delivers_in_order}
+use Rattle.run_laws.proofs.Drains.{drains_leave_nothing}
 use Rattle.run_laws.proofs.Keys.{keys_behind}
 use Rattle.run_laws.proofs.Looping.{return_in_order}
 use Rattle.run_laws.proofs.Past.{behind}
@@ -28,5 +30,7 @@ every-journal whole octets =
       ends = come_by_calls t.later t.order;
       loops = return_in_order t.later t.order;
       brought = bring_in_order t.later t.order;
+      delivered = delivers_in_order t.later t.order;
+      drained = drains_leave_nothing t.later t.order;
       in_order = lines_tell t.later t.order;
     }

@@ -6,7 +6,6 @@ use Rattle.air_record.specs.declared.line.Line.TheVariants as lines
 use Rattle.air_record.specs.declared.record.Record.{Record}
 use Rattle.air_record.specs.declared.record.Record.TheVariants as records
 use Rattle.air_text.specs.Groups.{Group, history}
-use Rattle.air_text.specs.Ranges.{IsInRange}
 use Rattle.air_text.specs.Reading.{read_of}
 use Rattle.air_text.specs.declared.fault.LineRefusal.{LineRefusal}
 use Rattle.air_run.specs.declared.refusal.RunRefusal.{RunRefusal}
@@ -15,7 +14,7 @@ use Rattle.air_run.specs.Rules.{refusal}
 use Rattle.air_run.specs.Run.{RunState, Left, behind_line, done, step_by}
 use Rattle.run_laws.specs.Order.{state_behind, KeepsOrder}
 use Rattle.run_laws.proofs.Past.{behind, of_their_time}
-use Rattle.run_laws.proofs.Ranges.{lines-in-range}
+use Rattle.run_laws.proofs.Ranges.{IsWithin, in-range, has-count, read-within}
 use Rattle.run_laws.proofs.Reaching.{line_is_told}
 
 -- the groups behind a line, and the state that they give
@@ -29,12 +28,12 @@ abbrev group : ℕ → Line → List Record → Group
 group number line events = record { number = number; line = line; events = events }
 
 -- a group is added
-adds : (past : List Group) (number : ℕ) (line : Line) → KeepsOrder past → IsInRange line → refusal line (state_behind past).rules (state_behind past).link ≡ None
+adds : (past : List Group) (number : ℕ) (line : Line) → KeepsOrder past → IsWithin line → refusal line (state_behind past).rules (state_behind past).link ≡ None
     → Grows past (done line (state_behind past)) (records.Line number line ∷ (behind_line line (state_behind past)).out)
 adds past number line order fits allowed = record {
   later = group number line (behind_line line (state_behind past)).out ∷ past;
   state_is = refl;
-  order = (record { in_range = fits; allowed = allowed; events_are = refl; of_its_time = of_their_time past line (behind past order); blocks = line_is_told past line order fits }, order);
+  order = (record { in_range = in-range line fits; count = has-count line fits; allowed = allowed; events_are = refl; of_its_time = of_their_time past line (behind past order); blocks = line_is_told past line order (in-range line fits) }, order);
   history_is = refl;
 }
 
@@ -62,7 +61,7 @@ left-to past (lines.Forge side octets) left g = g
 left-to past (lines.Discard lcid count) left g = g
 left-to past (lines.Drx config) left g = g
 
-step-to : (past : List Group) (number : ℕ) (line : Line) (broken : Option RunRefusal) → refusal line (state_behind past).rules (state_behind past).link ≡ broken → KeepsOrder past → IsInRange line
+step-to : (past : List Group) (number : ℕ) (line : Line) (broken : Option RunRefusal) → refusal line (state_behind past).rules (state_behind past).link ≡ broken → KeepsOrder past → IsWithin line
     → LineTo past (left_by line (step_by broken (state_behind past) number line))
 step-to past number line (Some why) e order fits = tt
 step-to past number line None e order fits = left-to past line _ (adds past number line order fits e)
@@ -74,7 +73,7 @@ stays past order = record { later = past; state_is = refl; order = order; histor
 read-to : (past : List Group) (number : ℕ) (text : List ℕ) (read : Result (Option Line) LineRefusal) → read_of text ≡ read → KeepsOrder past → LineTo past (read_by (state_behind past) number read)
 read-to past number text (Err refused) e order = tt
 read-to past number text (Ok None) e order = stays past order
-read-to past number text (Ok (Some line)) e order = step-to past number line _ refl order (lines-in-range text line e)
+read-to past number text (Ok (Some line)) e order = step-to past number line _ refl order (read-within text line e)
 
 pub line-to : (past : List Group) (number : ℕ) (text : List ℕ) → KeepsOrder past → LineTo past (script_line (state_behind past) number text)
 line-to past number text order = read-to past number text (read_of text) refl order

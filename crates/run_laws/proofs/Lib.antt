@@ -21,6 +21,12 @@ pub mod Keys
 pub mod Counts
 pub mod Distinct
 pub mod Texts
+pub mod Early
+pub mod Failing
+pub mod Failed
+pub mod Flowing
+pub mod Delivering
+pub mod Drains
 pub mod Zero
 pub mod Standing
 pub mod Everything

@@ -23,6 +23,16 @@ use Rattle.air_text.specs.Reading.{read_of, read_words, line_of, key_of, harq_of
 use Rattle.air_text.specs.Ranges.{IsInRange}
 use Rattle.air_text.proofs.Octets.{some_octets}
 use Rattle.air_text.proofs.Configs.{plain_config}
+use Rattle.run_laws.specs.Order.{HasCount}
+
+-- a configuration in its ranges, with a first COUNT of at most 32 bits
+abbrev IsCounted : BearerConfig → Type 0
+IsCounted c = IsConfig c × (c.first ≤ 4294967295)
+
+-- a line likewise
+abbrev pub IsWithin : Line → Type 0
+IsWithin (lines.Bearer config options) = IsCounted config
+IsWithin line = IsInRange line
 
 -- what holds of a value that was read
 record Behind {B : Type 0} (P : B → Type 0) (x : Result B LineRefusal) : Type 0 where
@@ -81,21 +91,21 @@ octets-fit : (most : ℕ) (text octets : List ℕ) → octets_of most text ≡ O
 unfolding octets_of
 octets-fit most text octets e = octets-by (length text == 0) most text octets refl e
 
-bsr-range : (fields : List (List ℕ)) → Behind IsInRange (bsr_of fields)
+bsr-range : (fields : List (List ℕ)) → Behind IsWithin (bsr_of fields)
 unfolding bsr_of
-bsr-range [] = refused IsInRange _
+bsr-range [] = refused IsWithin _
 bsr-range (a ∷ []) = search (bind, given)
-bsr-range (a ∷ b ∷ fields) = refused IsInRange _
+bsr-range (a ∷ b ∷ fields) = refused IsWithin _
 
-keys-range : (fields : List (List ℕ)) → Behind IsInRange (keys_of fields)
+keys-range : (fields : List (List ℕ)) → Behind IsWithin (keys_of fields)
 unfolding keys_of
-keys-range [] = refused IsInRange _
-keys-range (a ∷ []) = refused IsInRange _
-keys-range (a ∷ b ∷ []) = refused IsInRange _
-keys-range (a ∷ b ∷ c ∷ []) = refused IsInRange _
+keys-range [] = refused IsWithin _
+keys-range (a ∷ []) = refused IsWithin _
+keys-range (a ∷ b ∷ []) = refused IsWithin _
+keys-range (a ∷ b ∷ c ∷ []) = refused IsWithin _
 keys-range (a ∷ b ∷ b2 ∷ b3 ∷ []) =
-    bind IsInRange (cipher_of a) (λ c. key_of b >>= λ u. key_of b2 >>= λ r. key_of b3 >>= λ i. Ok (lines.Keys (record { alg = c; user = u; rrc = r; integrity = i }))) (λ c c_is. bind IsInRange (key_of b) (λ u. key_of b2 >>= λ r. key_of b3 >>= λ i. Ok (lines.Keys (record { alg = c; user = u; rrc = r; integrity = i }))) (λ u u_is. bind IsInRange (key_of b2) (λ r. key_of b3 >>= λ i. Ok (lines.Keys (record { alg = c; user = u; rrc = r; integrity = i }))) (λ r r_is. bind IsInRange (key_of b3) (λ i. Ok (lines.Keys (record { alg = c; user = u; rrc = r; integrity = i }))) (λ i i_is. given IsInRange (lines.Keys (record { alg = c; user = u; rrc = r; integrity = i })) (tt)))))
-keys-range (a ∷ b ∷ c ∷ d ∷ e ∷ fields) = refused IsInRange _
+    bind IsWithin (cipher_of a) (λ c. key_of b >>= λ u. key_of b2 >>= λ r. key_of b3 >>= λ i. Ok (lines.Keys (record { alg = c; user = u; rrc = r; integrity = i }))) (λ c c_is. bind IsWithin (key_of b) (λ u. key_of b2 >>= λ r. key_of b3 >>= λ i. Ok (lines.Keys (record { alg = c; user = u; rrc = r; integrity = i }))) (λ u u_is. bind IsWithin (key_of b2) (λ r. key_of b3 >>= λ i. Ok (lines.Keys (record { alg = c; user = u; rrc = r; integrity = i }))) (λ r r_is. bind IsWithin (key_of b3) (λ i. Ok (lines.Keys (record { alg = c; user = u; rrc = r; integrity = i }))) (λ i i_is. given IsWithin (lines.Keys (record { alg = c; user = u; rrc = r; integrity = i })) (tt)))))
+keys-range (a ∷ b ∷ c ∷ d ∷ e ∷ fields) = refused IsWithin _
 
 -- ---- the configuration of a bearer
 
@@ -116,12 +126,12 @@ number-least least most n text e = least-by (is_number text) (nat_lt most (value
 number-range : (least most n : ℕ) (text : List ℕ) → number_of least most text ≡ Ok n → (least ≤ n) × (n ≤ most)
 number-range least most n text e = (number-least least most n text e, number-most least most n text e)
 
-harq-range : (fields : List (List ℕ)) → Behind IsInRange (harq_of fields)
+harq-range : (fields : List (List ℕ)) → Behind IsWithin (harq_of fields)
 unfolding harq_of
-harq-range [] = refused IsInRange _
+harq-range [] = refused IsWithin _
 harq-range (a ∷ []) =
-    bind IsInRange (number_of 1 28 a) (λ n. Ok (lines.Harq n)) (λ n e. given IsInRange (lines.Harq n) (let r = number-range 1 28 n a e in record { some = r.0; few = r.1 }))
-harq-range (a ∷ b ∷ fields) = refused IsInRange _
+    bind IsWithin (number_of 1 28 a) (λ n. Ok (lines.Harq n)) (λ n e. given IsWithin (lines.Harq n) (let r = number-range 1 28 n a e in record { some = r.0; few = r.1 }))
+harq-range (a ∷ b ∷ fields) = refused IsWithin _
 
 -- a limit that is a number
 abbrev Within : ℕ → ℕ → Option ℕ → Type 0
@@ -162,162 +172,166 @@ psn-bits Srb text n has e = cc
 psn-bits Um text n has e = either-range 7 12 text n e
 psn-bits Am text n has e = either-range 12 15 text n e
 
-option-range : (c : BearerConfig) (name : Name) (text : List ℕ) → has c.kind name ≡ true → IsConfig c → Behind IsConfig (option_of c name text)
-option-range c Prio text has h = bind IsConfig (number_of 1 16 text) (λ n. Ok (record c { channel = record c.channel { priority = n } })) (λ n e. given IsConfig (record c { channel = record c.channel { priority = n } }) (record { lcid = h.lcid; rlc_bits = h.rlc_bits; pdcp_bits = h.pdcp_bits; priority = number-range 1 16 n text e; pbr = h.pbr; bucket = h.bucket; group = h.group; poll_pdu = h.poll_pdu; poll_byte = h.poll_byte; poll_retransmit = h.poll_retransmit; max_retx = h.max_retx; reorder = h.reorder; prohibit = h.prohibit }))
-option-range c Pbr text has h = bind IsConfig (limit_of (codes "inf") 0 65535 text) (λ n. Ok (record c { channel = record c.channel { pbr = n } })) (λ n e. given IsConfig (record c { channel = record c.channel { pbr = n } }) (record { lcid = h.lcid; rlc_bits = h.rlc_bits; pdcp_bits = h.pdcp_bits; priority = h.priority; pbr = most-only 0 65535 n (limit-range (codes "inf") 0 65535 text n e); bucket = h.bucket; group = h.group; poll_pdu = h.poll_pdu; poll_byte = h.poll_byte; poll_retransmit = h.poll_retransmit; max_retx = h.max_retx; reorder = h.reorder; prohibit = h.prohibit }))
-option-range c Bsd text has h = bind IsConfig (number_of 1 1000 text) (λ n. Ok (record c { channel = record c.channel { bucket = n } })) (λ n e. given IsConfig (record c { channel = record c.channel { bucket = n } }) (record { lcid = h.lcid; rlc_bits = h.rlc_bits; pdcp_bits = h.pdcp_bits; priority = h.priority; pbr = h.pbr; bucket = number-range 1 1000 n text e; group = h.group; poll_pdu = h.poll_pdu; poll_byte = h.poll_byte; poll_retransmit = h.poll_retransmit; max_retx = h.max_retx; reorder = h.reorder; prohibit = h.prohibit }))
-option-range c Lcg text has h = bind IsConfig (number_of 0 3 text) (λ n. Ok (record c { channel = record c.channel { group = n } })) (λ n e. given IsConfig (record c { channel = record c.channel { group = n } }) (record { lcid = h.lcid; rlc_bits = h.rlc_bits; pdcp_bits = h.pdcp_bits; priority = h.priority; pbr = h.pbr; bucket = h.bucket; group = number-most 0 3 n text e; poll_pdu = h.poll_pdu; poll_byte = h.poll_byte; poll_retransmit = h.poll_retransmit; max_retx = h.max_retx; reorder = h.reorder; prohibit = h.prohibit }))
-option-range c Reorder text has h = bind IsConfig (number_of 0 65535 text) (λ n. Ok (record c { rx = record c.rx { reorder = n } })) (λ n e. given IsConfig (record c { rx = record c.rx { reorder = n } }) (record { lcid = h.lcid; rlc_bits = h.rlc_bits; pdcp_bits = h.pdcp_bits; priority = h.priority; pbr = h.pbr; bucket = h.bucket; group = h.group; poll_pdu = h.poll_pdu; poll_byte = h.poll_byte; poll_retransmit = h.poll_retransmit; max_retx = h.max_retx; reorder = number-most 0 65535 n text e; prohibit = h.prohibit }))
-option-range c Sn text has h = bind IsConfig (either_of 5 10 text) (λ n. Ok (record c { rlc_bits = n })) (λ n e. given IsConfig (record c { rlc_bits = n }) (record { lcid = h.lcid; rlc_bits = sn-bits c.kind n has (either-range 5 10 text n e); pdcp_bits = h.pdcp_bits; priority = h.priority; pbr = h.pbr; bucket = h.bucket; group = h.group; poll_pdu = h.poll_pdu; poll_byte = h.poll_byte; poll_retransmit = h.poll_retransmit; max_retx = h.max_retx; reorder = h.reorder; prohibit = h.prohibit }))
-option-range c Psn text has h = bind IsConfig (psn_of c.kind text) (λ n. Ok (record c { pdcp_bits = n })) (λ n e. given IsConfig (record c { pdcp_bits = n }) (record { lcid = h.lcid; rlc_bits = h.rlc_bits; pdcp_bits = psn-bits c.kind text n has e; priority = h.priority; pbr = h.pbr; bucket = h.bucket; group = h.group; poll_pdu = h.poll_pdu; poll_byte = h.poll_byte; poll_retransmit = h.poll_retransmit; max_retx = h.max_retx; reorder = h.reorder; prohibit = h.prohibit }))
-option-range c PollPdu text has h = bind IsConfig (limit_of (codes "inf") 1 65535 text) (λ n. Ok (record c { tx = record c.tx { poll_pdu = n } })) (λ n e. given IsConfig (record c { tx = record c.tx { poll_pdu = n } }) (record { lcid = h.lcid; rlc_bits = h.rlc_bits; pdcp_bits = h.pdcp_bits; priority = h.priority; pbr = h.pbr; bucket = h.bucket; group = h.group; poll_pdu = limit-range (codes "inf") 1 65535 text n e; poll_byte = h.poll_byte; poll_retransmit = h.poll_retransmit; max_retx = h.max_retx; reorder = h.reorder; prohibit = h.prohibit }))
-option-range c PollByte text has h = bind IsConfig (limit_of (codes "inf") 1 4000000 text) (λ n. Ok (record c { tx = record c.tx { poll_byte = n } })) (λ n e. given IsConfig (record c { tx = record c.tx { poll_byte = n } }) (record { lcid = h.lcid; rlc_bits = h.rlc_bits; pdcp_bits = h.pdcp_bits; priority = h.priority; pbr = h.pbr; bucket = h.bucket; group = h.group; poll_pdu = h.poll_pdu; poll_byte = limit-range (codes "inf") 1 4000000 text n e; poll_retransmit = h.poll_retransmit; max_retx = h.max_retx; reorder = h.reorder; prohibit = h.prohibit }))
-option-range c PollRetx text has h = bind IsConfig (number_of 0 65535 text) (λ n. Ok (record c { tx = record c.tx { poll_retransmit = n } })) (λ n e. given IsConfig (record c { tx = record c.tx { poll_retransmit = n } }) (record { lcid = h.lcid; rlc_bits = h.rlc_bits; pdcp_bits = h.pdcp_bits; priority = h.priority; pbr = h.pbr; bucket = h.bucket; group = h.group; poll_pdu = h.poll_pdu; poll_byte = h.poll_byte; poll_retransmit = number-most 0 65535 n text e; max_retx = h.max_retx; reorder = h.reorder; prohibit = h.prohibit }))
-option-range c MaxRetx text has h = bind IsConfig (number_of 1 32 text) (λ n. Ok (record c { tx = record c.tx { max_retx = n } })) (λ n e. given IsConfig (record c { tx = record c.tx { max_retx = n } }) (record { lcid = h.lcid; rlc_bits = h.rlc_bits; pdcp_bits = h.pdcp_bits; priority = h.priority; pbr = h.pbr; bucket = h.bucket; group = h.group; poll_pdu = h.poll_pdu; poll_byte = h.poll_byte; poll_retransmit = h.poll_retransmit; max_retx = number-range 1 32 n text e; reorder = h.reorder; prohibit = h.prohibit }))
-option-range c Prohibit text has h = bind IsConfig (limit_of (codes "off") 0 65535 text) (λ n. Ok (record c { rx = record c.rx { prohibit = n } })) (λ n e. given IsConfig (record c { rx = record c.rx { prohibit = n } }) (record { lcid = h.lcid; rlc_bits = h.rlc_bits; pdcp_bits = h.pdcp_bits; priority = h.priority; pbr = h.pbr; bucket = h.bucket; group = h.group; poll_pdu = h.poll_pdu; poll_byte = h.poll_byte; poll_retransmit = h.poll_retransmit; max_retx = h.max_retx; reorder = h.reorder; prohibit = most-only 0 65535 n (limit-range (codes "off") 0 65535 text n e) }))
-option-range c Count text has h = bind IsConfig (number_of 0 4294967295 text) (λ n. Ok (record c { first = n })) (λ n e. given IsConfig (record c { first = n }) (record { lcid = h.lcid; rlc_bits = h.rlc_bits; pdcp_bits = h.pdcp_bits; priority = h.priority; pbr = h.pbr; bucket = h.bucket; group = h.group; poll_pdu = h.poll_pdu; poll_byte = h.poll_byte; poll_retransmit = h.poll_retransmit; max_retx = h.max_retx; reorder = h.reorder; prohibit = h.prohibit }))
+option-range : (c : BearerConfig) (name : Name) (text : List ℕ) → has c.kind name ≡ true → IsCounted c → Behind IsCounted (option_of c name text)
+option-range c Prio text has h = bind IsCounted (number_of 1 16 text) (λ n. Ok (record c { channel = record c.channel { priority = n } })) (λ n e. given IsCounted (record c { channel = record c.channel { priority = n } }) (record { lcid = h.0.lcid; rlc_bits = h.0.rlc_bits; pdcp_bits = h.0.pdcp_bits; priority = number-range 1 16 n text e; pbr = h.0.pbr; bucket = h.0.bucket; group = h.0.group; poll_pdu = h.0.poll_pdu; poll_byte = h.0.poll_byte; poll_retransmit = h.0.poll_retransmit; max_retx = h.0.max_retx; reorder = h.0.reorder; prohibit = h.0.prohibit }, h.1))
+option-range c Pbr text has h = bind IsCounted (limit_of (codes "inf") 0 65535 text) (λ n. Ok (record c { channel = record c.channel { pbr = n } })) (λ n e. given IsCounted (record c { channel = record c.channel { pbr = n } }) (record { lcid = h.0.lcid; rlc_bits = h.0.rlc_bits; pdcp_bits = h.0.pdcp_bits; priority = h.0.priority; pbr = most-only 0 65535 n (limit-range (codes "inf") 0 65535 text n e); bucket = h.0.bucket; group = h.0.group; poll_pdu = h.0.poll_pdu; poll_byte = h.0.poll_byte; poll_retransmit = h.0.poll_retransmit; max_retx = h.0.max_retx; reorder = h.0.reorder; prohibit = h.0.prohibit }, h.1))
+option-range c Bsd text has h = bind IsCounted (number_of 1 1000 text) (λ n. Ok (record c { channel = record c.channel { bucket = n } })) (λ n e. given IsCounted (record c { channel = record c.channel { bucket = n } }) (record { lcid = h.0.lcid; rlc_bits = h.0.rlc_bits; pdcp_bits = h.0.pdcp_bits; priority = h.0.priority; pbr = h.0.pbr; bucket = number-range 1 1000 n text e; group = h.0.group; poll_pdu = h.0.poll_pdu; poll_byte = h.0.poll_byte; poll_retransmit = h.0.poll_retransmit; max_retx = h.0.max_retx; reorder = h.0.reorder; prohibit = h.0.prohibit }, h.1))
+option-range c Lcg text has h = bind IsCounted (number_of 0 3 text) (λ n. Ok (record c { channel = record c.channel { group = n } })) (λ n e. given IsCounted (record c { channel = record c.channel { group = n } }) (record { lcid = h.0.lcid; rlc_bits = h.0.rlc_bits; pdcp_bits = h.0.pdcp_bits; priority = h.0.priority; pbr = h.0.pbr; bucket = h.0.bucket; group = number-most 0 3 n text e; poll_pdu = h.0.poll_pdu; poll_byte = h.0.poll_byte; poll_retransmit = h.0.poll_retransmit; max_retx = h.0.max_retx; reorder = h.0.reorder; prohibit = h.0.prohibit }, h.1))
+option-range c Reorder text has h = bind IsCounted (number_of 0 65535 text) (λ n. Ok (record c { rx = record c.rx { reorder = n } })) (λ n e. given IsCounted (record c { rx = record c.rx { reorder = n } }) (record { lcid = h.0.lcid; rlc_bits = h.0.rlc_bits; pdcp_bits = h.0.pdcp_bits; priority = h.0.priority; pbr = h.0.pbr; bucket = h.0.bucket; group = h.0.group; poll_pdu = h.0.poll_pdu; poll_byte = h.0.poll_byte; poll_retransmit = h.0.poll_retransmit; max_retx = h.0.max_retx; reorder = number-most 0 65535 n text e; prohibit = h.0.prohibit }, h.1))
+option-range c Sn text has h = bind IsCounted (either_of 5 10 text) (λ n. Ok (record c { rlc_bits = n })) (λ n e. given IsCounted (record c { rlc_bits = n }) (record { lcid = h.0.lcid; rlc_bits = sn-bits c.kind n has (either-range 5 10 text n e); pdcp_bits = h.0.pdcp_bits; priority = h.0.priority; pbr = h.0.pbr; bucket = h.0.bucket; group = h.0.group; poll_pdu = h.0.poll_pdu; poll_byte = h.0.poll_byte; poll_retransmit = h.0.poll_retransmit; max_retx = h.0.max_retx; reorder = h.0.reorder; prohibit = h.0.prohibit }, h.1))
+option-range c Psn text has h = bind IsCounted (psn_of c.kind text) (λ n. Ok (record c { pdcp_bits = n })) (λ n e. given IsCounted (record c { pdcp_bits = n }) (record { lcid = h.0.lcid; rlc_bits = h.0.rlc_bits; pdcp_bits = psn-bits c.kind text n has e; priority = h.0.priority; pbr = h.0.pbr; bucket = h.0.bucket; group = h.0.group; poll_pdu = h.0.poll_pdu; poll_byte = h.0.poll_byte; poll_retransmit = h.0.poll_retransmit; max_retx = h.0.max_retx; reorder = h.0.reorder; prohibit = h.0.prohibit }, h.1))
+option-range c PollPdu text has h = bind IsCounted (limit_of (codes "inf") 1 65535 text) (λ n. Ok (record c { tx = record c.tx { poll_pdu = n } })) (λ n e. given IsCounted (record c { tx = record c.tx { poll_pdu = n } }) (record { lcid = h.0.lcid; rlc_bits = h.0.rlc_bits; pdcp_bits = h.0.pdcp_bits; priority = h.0.priority; pbr = h.0.pbr; bucket = h.0.bucket; group = h.0.group; poll_pdu = limit-range (codes "inf") 1 65535 text n e; poll_byte = h.0.poll_byte; poll_retransmit = h.0.poll_retransmit; max_retx = h.0.max_retx; reorder = h.0.reorder; prohibit = h.0.prohibit }, h.1))
+option-range c PollByte text has h = bind IsCounted (limit_of (codes "inf") 1 4000000 text) (λ n. Ok (record c { tx = record c.tx { poll_byte = n } })) (λ n e. given IsCounted (record c { tx = record c.tx { poll_byte = n } }) (record { lcid = h.0.lcid; rlc_bits = h.0.rlc_bits; pdcp_bits = h.0.pdcp_bits; priority = h.0.priority; pbr = h.0.pbr; bucket = h.0.bucket; group = h.0.group; poll_pdu = h.0.poll_pdu; poll_byte = limit-range (codes "inf") 1 4000000 text n e; poll_retransmit = h.0.poll_retransmit; max_retx = h.0.max_retx; reorder = h.0.reorder; prohibit = h.0.prohibit }, h.1))
+option-range c PollRetx text has h = bind IsCounted (number_of 0 65535 text) (λ n. Ok (record c { tx = record c.tx { poll_retransmit = n } })) (λ n e. given IsCounted (record c { tx = record c.tx { poll_retransmit = n } }) (record { lcid = h.0.lcid; rlc_bits = h.0.rlc_bits; pdcp_bits = h.0.pdcp_bits; priority = h.0.priority; pbr = h.0.pbr; bucket = h.0.bucket; group = h.0.group; poll_pdu = h.0.poll_pdu; poll_byte = h.0.poll_byte; poll_retransmit = number-most 0 65535 n text e; max_retx = h.0.max_retx; reorder = h.0.reorder; prohibit = h.0.prohibit }, h.1))
+option-range c MaxRetx text has h = bind IsCounted (number_of 1 32 text) (λ n. Ok (record c { tx = record c.tx { max_retx = n } })) (λ n e. given IsCounted (record c { tx = record c.tx { max_retx = n } }) (record { lcid = h.0.lcid; rlc_bits = h.0.rlc_bits; pdcp_bits = h.0.pdcp_bits; priority = h.0.priority; pbr = h.0.pbr; bucket = h.0.bucket; group = h.0.group; poll_pdu = h.0.poll_pdu; poll_byte = h.0.poll_byte; poll_retransmit = h.0.poll_retransmit; max_retx = number-range 1 32 n text e; reorder = h.0.reorder; prohibit = h.0.prohibit }, h.1))
+option-range c Prohibit text has h = bind IsCounted (limit_of (codes "off") 0 65535 text) (λ n. Ok (record c { rx = record c.rx { prohibit = n } })) (λ n e. given IsCounted (record c { rx = record c.rx { prohibit = n } }) (record { lcid = h.0.lcid; rlc_bits = h.0.rlc_bits; pdcp_bits = h.0.pdcp_bits; priority = h.0.priority; pbr = h.0.pbr; bucket = h.0.bucket; group = h.0.group; poll_pdu = h.0.poll_pdu; poll_byte = h.0.poll_byte; poll_retransmit = h.0.poll_retransmit; max_retx = h.0.max_retx; reorder = h.0.reorder; prohibit = most-only 0 65535 n (limit-range (codes "off") 0 65535 text n e) }, h.1))
+option-range c Count text has h = bind IsCounted (number_of 0 4294967295 text) (λ n. Ok (record c { first = n })) (λ n e. given IsCounted (record c { first = n }) (record { lcid = h.0.lcid; rlc_bits = h.0.rlc_bits; pdcp_bits = h.0.pdcp_bits; priority = h.0.priority; pbr = h.0.pbr; bucket = h.0.bucket; group = h.0.group; poll_pdu = h.0.poll_pdu; poll_byte = h.0.poll_byte; poll_retransmit = h.0.poll_retransmit; max_retx = h.0.max_retx; reorder = h.0.reorder; prohibit = h.0.prohibit }, number-most 0 4294967295 n text e))
 
-named-range : (c : BearerConfig) (name : Option Name) (value : List ℕ) → IsConfig c → Behind IsConfig (named_option c name value)
-named-range c None value h = refused IsConfig _
-named-range c (Some name) value h = choose-where IsConfig (has c.kind name) (option_of c name value) (Err Word) (λ is. option-range c name value is h) (refused IsConfig Word)
+named-range : (c : BearerConfig) (name : Option Name) (value : List ℕ) → IsCounted c → Behind IsCounted (named_option c name value)
+named-range c None value h = refused IsCounted _
+named-range c (Some name) value h = choose-where IsCounted (has c.kind name) (option_of c name value) (Err Word) (λ is. option-range c name value is h) (refused IsCounted Word)
 
-cut-range : (c : BearerConfig) (name : List ℕ) (value : Option (List ℕ)) → IsConfig c → Behind IsConfig (cut_option c name value)
-cut-range c name None h = refused IsConfig _
+cut-range : (c : BearerConfig) (name : List ℕ) (value : Option (List ℕ)) → IsCounted c → Behind IsCounted (cut_option c name value)
+cut-range c name None h = refused IsCounted _
 cut-range c name (Some value) h = named-range c (name_of name) value h
 
-word-range : (c : BearerConfig) (word : List ℕ) → IsConfig c → Behind IsConfig (word_option c word)
+word-range : (c : BearerConfig) (word : List ℕ) → IsCounted c → Behind IsCounted (word_option c word)
 unfolding word_option
 word-range c word h = cut-range c (before_equals word) (behind_equals word) h
 
-options-range : (c : BearerConfig) (words : List (List ℕ)) → IsConfig c → Behind IsConfig (options_of c words)
+options-range : (c : BearerConfig) (words : List (List ℕ)) → IsCounted c → Behind IsCounted (options_of c words)
 unfolding options_of
-options-range c [] h = given IsConfig c h
-options-range c (w ∷ ws) h = bind IsConfig (word_option c w) (λ d. options_of d ws) (λ d e. options-range d ws ((word-range c w h).holds d e))
+options-range c [] h = given IsCounted c h
+options-range c (w ∷ ws) h = bind IsCounted (word_option c w) (λ d. options_of d ws) (λ d e. options-range d ws ((word-range c w h).holds d e))
 
-bearer-range : (fields : List (List ℕ)) → Behind IsInRange (bearer_of fields)
+plain-count : (n : ℕ) (k : Kind) → (config_of n k).first ≤ 4294967295
+unfolding config_of
+plain-count n k = omega arith
+
+bearer-range : (fields : List (List ℕ)) → Behind IsWithin (bearer_of fields)
 unfolding bearer_of
-bearer-range [] = refused IsInRange _
-bearer-range (a ∷ []) = refused IsInRange _
+bearer-range [] = refused IsWithin _
+bearer-range (a ∷ []) = refused IsWithin _
 bearer-range (a ∷ b ∷ options) =
-    choose IsInRange (is_twice options) _ _ (refused IsInRange Fields)
-    (bind IsInRange (number_of 0 10 a) (λ n. kind_of b >>= λ k. cond (goes k n) (options_of (config_of n k) options >>= (λ config. Ok (lines.Bearer config (joined options)))) (Err Range)) (λ n e. bind IsInRange (kind_of b) (λ k. cond (goes k n) (options_of (config_of n k) options >>= (λ config. Ok (lines.Bearer config (joined options)))) (Err Range)) (λ k f. choose-where IsInRange (goes k n) (options_of (config_of n k) options >>= (λ config. Ok (lines.Bearer config (joined options)))) (Err Range) (λ fits. bind IsInRange (options_of (config_of n k) options) (λ config. Ok (lines.Bearer config (joined options))) (λ config is. given IsInRange (lines.Bearer config (joined options)) ((options-range (config_of n k) options (plain_config n k fits (number-most 0 10 n a e))).holds config is))) (refused IsInRange Range))))
+    choose IsWithin (is_twice options) _ _ (refused IsWithin Fields)
+    (bind IsWithin (number_of 0 10 a) (λ n. kind_of b >>= λ k. cond (goes k n) (options_of (config_of n k) options >>= (λ config. Ok (lines.Bearer config (joined options)))) (Err Range)) (λ n e. bind IsWithin (kind_of b) (λ k. cond (goes k n) (options_of (config_of n k) options >>= (λ config. Ok (lines.Bearer config (joined options)))) (Err Range)) (λ k f. choose-where IsWithin (goes k n) (options_of (config_of n k) options >>= (λ config. Ok (lines.Bearer config (joined options)))) (Err Range) (λ fits. bind IsWithin (options_of (config_of n k) options) (λ config. Ok (lines.Bearer config (joined options))) (λ config is. given IsWithin (lines.Bearer config (joined options)) ((options-range (config_of n k) options (plain_config n k fits (number-most 0 10 n a e), plain-count n k)).holds config is))) (refused IsWithin Range))))
 
-submit-range : (fields : List (List ℕ)) → Behind IsInRange (submit_of fields)
+submit-range : (fields : List (List ℕ)) → Behind IsWithin (submit_of fields)
 unfolding submit_of
-submit-range [] = refused IsInRange _
-submit-range (a ∷ []) = refused IsInRange _
-submit-range (a ∷ b ∷ []) = refused IsInRange _
+submit-range [] = refused IsWithin _
+submit-range (a ∷ []) = refused IsWithin _
+submit-range (a ∷ b ∷ []) = refused IsWithin _
 submit-range (a ∷ b ∷ c ∷ []) =
-    bind IsInRange (side_of a) (λ side. number_of 0 10 b >>= λ n. octets_of 8188 c >>= λ octets. Ok (lines.Submit side n octets)) (λ side side_is. bind IsInRange (number_of 0 10 b) (λ n. octets_of 8188 c >>= λ octets. Ok (lines.Submit side n octets)) (λ n n_is. bind IsInRange (octets_of 8188 c) (λ octets. Ok (lines.Submit side n octets)) (λ octets octets_is. given IsInRange (lines.Submit side n octets) (let fit = octets-fit 8188 c octets octets_is in record { some = fit.some; short = fit.short }))))
-submit-range (a ∷ b ∷ c ∷ d ∷ fields) = refused IsInRange _
+    bind IsWithin (side_of a) (λ side. number_of 0 10 b >>= λ n. octets_of 8188 c >>= λ octets. Ok (lines.Submit side n octets)) (λ side side_is. bind IsWithin (number_of 0 10 b) (λ n. octets_of 8188 c >>= λ octets. Ok (lines.Submit side n octets)) (λ n n_is. bind IsWithin (octets_of 8188 c) (λ octets. Ok (lines.Submit side n octets)) (λ octets octets_is. given IsWithin (lines.Submit side n octets) (let fit = octets-fit 8188 c octets octets_is in record { some = fit.some; short = fit.short }))))
+submit-range (a ∷ b ∷ c ∷ d ∷ fields) = refused IsWithin _
 
-tti-range : (fields : List (List ℕ)) → Behind IsInRange (tti_of fields)
+tti-range : (fields : List (List ℕ)) → Behind IsWithin (tti_of fields)
 unfolding tti_of
-tti-range [] = refused IsInRange _
-tti-range (a ∷ []) = refused IsInRange _
-tti-range (a ∷ b ∷ []) = refused IsInRange _
-tti-range (a ∷ b ∷ c ∷ []) = refused IsInRange _
+tti-range [] = refused IsWithin _
+tti-range (a ∷ []) = refused IsWithin _
+tti-range (a ∷ b ∷ []) = refused IsWithin _
+tti-range (a ∷ b ∷ c ∷ []) = refused IsWithin _
 tti-range (a ∷ b ∷ c ∷ d ∷ []) =
-    bind IsInRange (number_of 0 9422 a) (λ u. outcome_of b >>= λ v. number_of 0 9422 c >>= λ w. outcome_of d >>= λ x. Ok (lines.Tti u v w x)) (λ u u_is. bind IsInRange (outcome_of b) (λ v. number_of 0 9422 c >>= λ w. outcome_of d >>= λ x. Ok (lines.Tti u v w x)) (λ v v_is. bind IsInRange (number_of 0 9422 c) (λ w. outcome_of d >>= λ x. Ok (lines.Tti u v w x)) (λ w w_is. bind IsInRange (outcome_of d) (λ x. Ok (lines.Tti u v w x)) (λ x x_is. given IsInRange (lines.Tti u v w x) (record { up = number-most 0 9422 u a u_is; down = number-most 0 9422 w c w_is })))))
-tti-range (a ∷ b ∷ c ∷ d ∷ e ∷ fields) = refused IsInRange _
+    bind IsWithin (number_of 0 9422 a) (λ u. outcome_of b >>= λ v. number_of 0 9422 c >>= λ w. outcome_of d >>= λ x. Ok (lines.Tti u v w x)) (λ u u_is. bind IsWithin (outcome_of b) (λ v. number_of 0 9422 c >>= λ w. outcome_of d >>= λ x. Ok (lines.Tti u v w x)) (λ v v_is. bind IsWithin (number_of 0 9422 c) (λ w. outcome_of d >>= λ x. Ok (lines.Tti u v w x)) (λ w w_is. bind IsWithin (outcome_of d) (λ x. Ok (lines.Tti u v w x)) (λ x x_is. given IsWithin (lines.Tti u v w x) (record { up = number-most 0 9422 u a u_is; down = number-most 0 9422 w c w_is })))))
+tti-range (a ∷ b ∷ c ∷ d ∷ e ∷ fields) = refused IsWithin _
 
-expire-range : (fields : List (List ℕ)) → Behind IsInRange (expire_of fields)
+expire-range : (fields : List (List ℕ)) → Behind IsWithin (expire_of fields)
 unfolding expire_of
-expire-range [] = refused IsInRange _
-expire-range (a ∷ []) = refused IsInRange _
-expire-range (a ∷ b ∷ []) = refused IsInRange _
+expire-range [] = refused IsWithin _
+expire-range (a ∷ []) = refused IsWithin _
+expire-range (a ∷ b ∷ []) = refused IsWithin _
 expire-range (a ∷ b ∷ c ∷ []) = search (bind, given)
-expire-range (a ∷ b ∷ c ∷ d ∷ fields) = refused IsInRange _
+expire-range (a ∷ b ∷ c ∷ d ∷ fields) = refused IsWithin _
 
-handover-range : (fields : List (List ℕ)) → Behind IsInRange (handover_of fields)
+handover-range : (fields : List (List ℕ)) → Behind IsWithin (handover_of fields)
 unfolding handover_of
-handover-range [] = refused IsInRange _
-handover-range (a ∷ []) = refused IsInRange _
-handover-range (a ∷ b ∷ []) = refused IsInRange _
+handover-range [] = refused IsWithin _
+handover-range (a ∷ []) = refused IsWithin _
+handover-range (a ∷ b ∷ []) = refused IsWithin _
 handover-range (a ∷ b ∷ c ∷ []) = search (bind, given)
-handover-range (a ∷ b ∷ c ∷ d ∷ fields) = refused IsInRange _
+handover-range (a ∷ b ∷ c ∷ d ∷ fields) = refused IsWithin _
 
-loop-off-range : (fields : List (List ℕ)) → Behind IsInRange (loop_off_of fields)
+loop-off-range : (fields : List (List ℕ)) → Behind IsWithin (loop_off_of fields)
 unfolding loop_off_of
-loop-off-range [] = given IsInRange _ tt
-loop-off-range (a ∷ fields) = refused IsInRange _
+loop-off-range [] = given IsWithin _ tt
+loop-off-range (a ∷ fields) = refused IsWithin _
 
-loop-a-range : (fields : List (List ℕ)) → Behind IsInRange (loop_a_of fields)
+loop-a-range : (fields : List (List ℕ)) → Behind IsWithin (loop_a_of fields)
 unfolding loop_a_of
-loop-a-range [] = refused IsInRange _
+loop-a-range [] = refused IsWithin _
 loop-a-range (a ∷ []) = search (bind, given)
-loop-a-range (a ∷ b ∷ fields) = refused IsInRange _
+loop-a-range (a ∷ b ∷ fields) = refused IsWithin _
 
-loop-b-range : (fields : List (List ℕ)) → Behind IsInRange (loop_b_of fields)
+loop-b-range : (fields : List (List ℕ)) → Behind IsWithin (loop_b_of fields)
 unfolding loop_b_of
-loop-b-range [] = refused IsInRange _
+loop-b-range [] = refused IsWithin _
 loop-b-range (a ∷ []) = search (bind, given)
-loop-b-range (a ∷ b ∷ fields) = refused IsInRange _
+loop-b-range (a ∷ b ∷ fields) = refused IsWithin _
 
-loop-range : (fields : List (List ℕ)) → Behind IsInRange (loop_of fields)
+loop-range : (fields : List (List ℕ)) → Behind IsWithin (loop_of fields)
 unfolding loop_of
-loop-range [] = refused IsInRange _
+loop-range [] = refused IsWithin _
 loop-range (mode ∷ fields) =
-    choose IsInRange _ _ _ (loop-off-range fields) (choose IsInRange _ _ _ (loop-a-range fields) (choose IsInRange _ _ _ (loop-b-range fields) (refused IsInRange _)))
+    choose IsWithin _ _ _ (loop-off-range fields) (choose IsWithin _ _ _ (loop-a-range fields) (choose IsWithin _ _ _ (loop-b-range fields) (refused IsWithin _)))
 
-drain-range : (fields : List (List ℕ)) → Behind IsInRange (drain_of fields)
+drain-range : (fields : List (List ℕ)) → Behind IsWithin (drain_of fields)
 unfolding drain_of
-drain-range [] = refused IsInRange _
-drain-range (a ∷ []) = bind IsInRange _ _ (λ n e. given IsInRange _ (number-most 0 9422 n a e))
-drain-range (a ∷ b ∷ fields) = refused IsInRange _
+drain-range [] = refused IsWithin _
+drain-range (a ∷ []) = bind IsWithin _ _ (λ n e. given IsWithin _ (number-most 0 9422 n a e))
+drain-range (a ∷ b ∷ fields) = refused IsWithin _
 
-forge-range : (fields : List (List ℕ)) → Behind IsInRange (forge_of fields)
+forge-range : (fields : List (List ℕ)) → Behind IsWithin (forge_of fields)
 unfolding forge_of
-forge-range [] = refused IsInRange _
-forge-range (a ∷ []) = refused IsInRange _
+forge-range [] = refused IsWithin _
+forge-range (a ∷ []) = refused IsWithin _
 forge-range (a ∷ b ∷ []) =
-    bind IsInRange (side_of a) (λ side. octets_of 9422 b >>= λ octets. Ok (lines.Forge side octets)) (λ side side_is. bind IsInRange (octets_of 9422 b) (λ octets. Ok (lines.Forge side octets)) (λ octets octets_is. given IsInRange (lines.Forge side octets) (let fit = octets-fit 9422 b octets octets_is in record { some = fit.some; short = fit.short })))
-forge-range (a ∷ b ∷ c ∷ fields) = refused IsInRange _
+    bind IsWithin (side_of a) (λ side. octets_of 9422 b >>= λ octets. Ok (lines.Forge side octets)) (λ side side_is. bind IsWithin (octets_of 9422 b) (λ octets. Ok (lines.Forge side octets)) (λ octets octets_is. given IsWithin (lines.Forge side octets) (let fit = octets-fit 9422 b octets octets_is in record { some = fit.some; short = fit.short })))
+forge-range (a ∷ b ∷ c ∷ fields) = refused IsWithin _
 
-end-range : (fields : List (List ℕ)) → Behind IsInRange (end_of fields)
+end-range : (fields : List (List ℕ)) → Behind IsWithin (end_of fields)
 unfolding end_of
-end-range [] = given IsInRange _ tt
-end-range (a ∷ fields) = refused IsInRange _
+end-range [] = given IsWithin _ tt
+end-range (a ∷ fields) = refused IsWithin _
 
-discard-range : (fields : List (List ℕ)) → Behind IsInRange (discard_of fields)
+discard-range : (fields : List (List ℕ)) → Behind IsWithin (discard_of fields)
 unfolding discard_of
-discard-range [] = refused IsInRange _
-discard-range (a ∷ []) = refused IsInRange _
+discard-range [] = refused IsWithin _
+discard-range (a ∷ []) = refused IsWithin _
 discard-range (a ∷ b ∷ []) = search (bind, given)
-discard-range (a ∷ b ∷ c ∷ fields) = refused IsInRange _
+discard-range (a ∷ b ∷ c ∷ fields) = refused IsWithin _
 
-drx-range : (fields : List (List ℕ)) → Behind IsInRange (drx_of fields)
+drx-range : (fields : List (List ℕ)) → Behind IsWithin (drx_of fields)
 unfolding drx_of
-drx-range [] = refused IsInRange _
-drx-range (a ∷ []) = refused IsInRange _
-drx-range (a ∷ b ∷ []) = refused IsInRange _
-drx-range (a ∷ b ∷ c ∷ []) = refused IsInRange _
-drx-range (a ∷ b ∷ c ∷ d ∷ []) = refused IsInRange _
+drx-range [] = refused IsWithin _
+drx-range (a ∷ []) = refused IsWithin _
+drx-range (a ∷ b ∷ []) = refused IsWithin _
+drx-range (a ∷ b ∷ c ∷ []) = refused IsWithin _
+drx-range (a ∷ b ∷ c ∷ d ∷ []) = refused IsWithin _
 drx-range (a ∷ b ∷ c ∷ d ∷ e ∷ []) =
-    bind IsInRange (number_of 1 200 a) (λ v. number_of 0 2560 b >>= λ w. number_of 0 33 c >>= λ x. number_of 1 2560 d >>= λ y. number_of 0 2559 e >>= λ z. Ok (lines.Drx (record { on = v; inactivity = w; retransmit = x; cycle = y; offset = z }))) (λ v v_is. bind IsInRange (number_of 0 2560 b) (λ w. number_of 0 33 c >>= λ x. number_of 1 2560 d >>= λ y. number_of 0 2559 e >>= λ z. Ok (lines.Drx (record { on = v; inactivity = w; retransmit = x; cycle = y; offset = z }))) (λ w w_is. bind IsInRange (number_of 0 33 c) (λ x. number_of 1 2560 d >>= λ y. number_of 0 2559 e >>= λ z. Ok (lines.Drx (record { on = v; inactivity = w; retransmit = x; cycle = y; offset = z }))) (λ x x_is. bind IsInRange (number_of 1 2560 d) (λ y. number_of 0 2559 e >>= λ z. Ok (lines.Drx (record { on = v; inactivity = w; retransmit = x; cycle = y; offset = z }))) (λ y y_is. bind IsInRange (number_of 0 2559 e) (λ z. Ok (lines.Drx (record { on = v; inactivity = w; retransmit = x; cycle = y; offset = z }))) (λ z z_is. given IsInRange (lines.Drx (record { on = v; inactivity = w; retransmit = x; cycle = y; offset = z })) (tt))))))
-drx-range (a ∷ b ∷ c ∷ d ∷ e ∷ f ∷ fields) = refused IsInRange _
+    bind IsWithin (number_of 1 200 a) (λ v. number_of 0 2560 b >>= λ w. number_of 0 33 c >>= λ x. number_of 1 2560 d >>= λ y. number_of 0 2559 e >>= λ z. Ok (lines.Drx (record { on = v; inactivity = w; retransmit = x; cycle = y; offset = z }))) (λ v v_is. bind IsWithin (number_of 0 2560 b) (λ w. number_of 0 33 c >>= λ x. number_of 1 2560 d >>= λ y. number_of 0 2559 e >>= λ z. Ok (lines.Drx (record { on = v; inactivity = w; retransmit = x; cycle = y; offset = z }))) (λ w w_is. bind IsWithin (number_of 0 33 c) (λ x. number_of 1 2560 d >>= λ y. number_of 0 2559 e >>= λ z. Ok (lines.Drx (record { on = v; inactivity = w; retransmit = x; cycle = y; offset = z }))) (λ x x_is. bind IsWithin (number_of 1 2560 d) (λ y. number_of 0 2559 e >>= λ z. Ok (lines.Drx (record { on = v; inactivity = w; retransmit = x; cycle = y; offset = z }))) (λ y y_is. bind IsWithin (number_of 0 2559 e) (λ z. Ok (lines.Drx (record { on = v; inactivity = w; retransmit = x; cycle = y; offset = z }))) (λ z z_is. given IsWithin (lines.Drx (record { on = v; inactivity = w; retransmit = x; cycle = y; offset = z })) (tt))))))
+drx-range (a ∷ b ∷ c ∷ d ∷ e ∷ f ∷ fields) = refused IsWithin _
 
-line-range : (first : List ℕ) (fields : List (List ℕ)) → Behind IsInRange (line_of first fields)
+line-range : (first : List ℕ) (fields : List (List ℕ)) → Behind IsWithin (line_of first fields)
 line-range first fields =
-    choose IsInRange _ _ _ (harq-range fields)
-    (choose IsInRange _ _ _ (bsr-range fields)
-    (choose IsInRange _ _ _ (keys-range fields)
-    (choose IsInRange _ _ _ (bearer-range fields)
-    (choose IsInRange _ _ _ (submit-range fields)
-    (choose IsInRange _ _ _ (tti-range fields)
-    (choose IsInRange _ _ _ (expire-range fields)
-    (choose IsInRange _ _ _ (handover-range fields)
-    (choose IsInRange _ _ _ (loop-range fields)
-    (choose IsInRange _ _ _ (drain-range fields)
-    (choose IsInRange _ _ _ (forge-range fields)
-    (choose IsInRange _ _ _ (end-range fields)
-    (choose IsInRange _ _ _ (discard-range fields)
-    (choose IsInRange _ _ _ (drx-range fields) (refused IsInRange _))))))))))))))
+    choose IsWithin _ _ _ (harq-range fields)
+    (choose IsWithin _ _ _ (bsr-range fields)
+    (choose IsWithin _ _ _ (keys-range fields)
+    (choose IsWithin _ _ _ (bearer-range fields)
+    (choose IsWithin _ _ _ (submit-range fields)
+    (choose IsWithin _ _ _ (tti-range fields)
+    (choose IsWithin _ _ _ (expire-range fields)
+    (choose IsWithin _ _ _ (handover-range fields)
+    (choose IsWithin _ _ _ (loop-range fields)
+    (choose IsWithin _ _ _ (drain-range fields)
+    (choose IsWithin _ _ _ (forge-range fields)
+    (choose IsWithin _ _ _ (end-range fields)
+    (choose IsWithin _ _ _ (discard-range fields)
+    (choose IsWithin _ _ _ (drx-range fields) (refused IsWithin _))))))))))))))
 
 -- a line, where there is one
 abbrev pub IfLine : Option Line → Type 0
 IfLine None = Unit {0}
-IfLine (Some line) = IsInRange line
+IfLine (Some line) = IsWithin line
 
 words-range : (words : List (List ℕ)) → Behind IfLine (read_words words)
 unfolding read_words
@@ -329,6 +343,45 @@ text-range : (text : List ℕ) → Behind IfLine (read_of text)
 unfolding read_of
 text-range text = choose IfLine (nat_lt 20000 (length text)) _ _ (refused IfLine _) (words-range (words_of text))
 
+pub read-within : (text : List ℕ) (line : Line) → read_of text ≡ Ok (Some line) → IsWithin line
+read-within text line e = (text-range text).holds (Some line) e
+
+pub in-range : (line : Line) → IsWithin line → IsInRange line
+in-range (lines.Bearer config options) h = h.0
+in-range (lines.Harq visits) h = h
+in-range lines.Bsr h = h
+in-range (lines.Keys keys) h = h
+in-range (lines.Submit side lcid octets) h = h
+in-range (lines.Tti up_grant up down_grant down) h = h
+in-range (lines.Expire side lcid clock) h = h
+in-range (lines.Handover user rrc integrity) h = h
+in-range lines.LoopOff h = h
+in-range (lines.LoopA size) h = h
+in-range (lines.LoopB delay) h = h
+in-range (lines.Drain grant) h = h
+in-range (lines.Forge side octets) h = h
+in-range lines.End h = h
+in-range (lines.Discard lcid count) h = h
+in-range (lines.Drx config) h = h
+
+pub has-count : (line : Line) → IsWithin line → HasCount line
+has-count (lines.Bearer config options) h = h.1
+has-count (lines.Harq visits) h = tt
+has-count lines.Bsr h = tt
+has-count (lines.Keys keys) h = tt
+has-count (lines.Submit side lcid octets) h = tt
+has-count (lines.Tti up_grant up down_grant down) h = tt
+has-count (lines.Expire side lcid clock) h = tt
+has-count (lines.Handover user rrc integrity) h = tt
+has-count lines.LoopOff h = tt
+has-count (lines.LoopA size) h = tt
+has-count (lines.LoopB delay) h = tt
+has-count (lines.Drain grant) h = tt
+has-count (lines.Forge side octets) h = tt
+has-count lines.End h = tt
+has-count (lines.Discard lcid count) h = tt
+has-count (lines.Drx config) h = tt
+
 -- a line that is read has its fields in their ranges
 pub lines-in-range : (text : List ℕ) (line : Line) → read_of text ≡ Ok (Some line) → IsInRange line
-lines-in-range text line e = (text-range text).holds (Some line) e
+lines-in-range text line e = in-range line (read-within text line e)

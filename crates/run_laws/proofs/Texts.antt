@@ -37,7 +37,7 @@ use Rattle.node_laws.specs.Calls.{Call, Add, Move, AreGiven, after, run, reached
 use Rattle.node_laws.specs.Holding.{flow}
 use Rattle.node_laws.specs.Telling.{told_over}
 use Rattle.node_laws.proofs.Counted.{counts_then}
-use Rattle.node_laws.proofs.Living.{go_on, added, reached_side}
+use Rattle.node_laws.proofs.Living.{go_on, added, reached_side, given_parts}
 use Rattle.node_laws.proofs.Steps.{Takes, then_takes}
 use Rattle.run_laws.specs.Air.{ttis}
 use Rattle.pdcp_laws.specs.Lives.{Ciphering}
@@ -145,7 +145,7 @@ moves_by : (b : Bool) (c : Call) (calls : List Call) → begins_life c ≡ b →
 moves_by true c calls is e = ap (λ (ks : List Keys). keys_in c ++ ks) e
 moves_by false c calls is e = ap (λ (ks : List Keys). ks ++ moves calls) (sym (append-nil _) ∙ (quiet c is).0) ∙ e
 
-moves_are : (calls : List Call) → moves calls ≡ moves (filter begins_life calls)
+pub moves_are : (calls : List Call) → moves calls ≡ moves (filter begins_life calls)
 moves_are [] = refl
 moves_are (c ∷ calls) = moves_by (begins_life c) c calls refl (moves_are calls)
 
@@ -153,7 +153,7 @@ adds_by : (b : Bool) (lcid : ℕ) (c : Call) (calls : List Call) → begins_life
 adds_by true lcid c calls is none rest = (none.0, rest none.1)
 adds_by false lcid c calls is none rest = ((quiet c is).1 lcid, rest none)
 
-adds_are : (lcid : ℕ) (calls : List Call) → AddNone lcid (filter begins_life calls) → AddNone lcid calls
+pub adds_are : (lcid : ℕ) (calls : List Call) → AddNone lcid (filter begins_life calls) → AddNone lcid calls
 adds_are lcid [] none = tt
 adds_are lcid (c ∷ calls) none = adds_by (begins_life c) lcid c calls refl none (adds_are lcid calls)
 
@@ -176,10 +176,6 @@ split_by false x c calls is e rest =
 split : (x : Call) (calls : List Call) → filter begins_life calls ≡ x ∷ [] → Split x calls
 split x [] e = absurd cc
 split x (c ∷ calls) e = split_by (begins_life c) x c calls refl e (split x calls)
-
-given_parts : (xs ys : List Call) → AreGiven (xs ++ ys) → AreGiven xs × AreGiven ys
-given_parts [] ys g = (tt, g)
-given_parts (x ∷ xs) ys g = let more = given_parts xs ys g.1 in ((g.0, more.0), more.1)
 
 none_last : (xs ys : List ℕ) → xs ++ ys ≡ [] → ys ≡ []
 none_last [] ys e = e
@@ -213,11 +209,11 @@ moved_by (lines.Keys keys) r l past allowed keyed e =
 moved_by (lines.Handover user rrc integrity) r l past allowed keyed e = ap (λ alg. record { alg = alg; user = user; rrc = rrc; integrity = integrity } ∷ []) (sym e)
 moved_by line r l past allowed keyed e = refl
 
-abbrev adds_one : ℕ → Line → Bool
+abbrev pub adds_one : ℕ → Line → Bool
 adds_one lcid (lines.Bearer config options) = config.channel.lcid == lcid
 adds_one lcid line = false
 
-adds_none : (lcid : ℕ) (line : Line) (keys : Option Keys) → adds_one lcid line ≡ false → AddNone lcid (lives_by line keys)
+pub adds_none : (lcid : ℕ) (line : Line) (keys : Option Keys) → adds_one lcid line ≡ false → AddNone lcid (lives_by line keys)
 adds_none lcid (lines.Bearer config options) keys free = (free, tt)
 adds_none lcid (lines.Handover user rrc integrity) keys free = (refl, tt)
 adds_none lcid line keys free = tt
@@ -330,22 +326,21 @@ begin_there side past g config options line_is right order wants =
 
 -- ---- each bearer that has keys
 
+pub unchanged : (lcid : ℕ) (line : Line) (before : Option BearerConfig) (config : BearerConfig) → adds_one lcid line ≡ false → config_by lcid line before ≡ Some config → before ≡ Some config
+unchanged lcid (lines.Bearer c options) before config free e = sym (ap (λ (b : Bool). if b then Some c else before) free) ∙ e
+unchanged lcid line before config free e = e
+
 stays_there : (side : Side) (lcid : ℕ) (past : List Group) (g : Group) (config : BearerConfig) → IsRight past g → KeepsOrder past → adds_one lcid g.line ≡ false → config_of lcid (g ∷ past) ≡ Some config
     → (config_of lcid past ≡ Some config → IsThere side lcid past config) → IsThere side lcid (g ∷ past) config
-stays_there side lcid past g config right order free e rest =
-    goes_there side lcid past g config right order free (rest (unchanged g.line (config_of lcid past) free e))
-  where
-    unchanged : (line : Line) (before : Option BearerConfig) → adds_one lcid line ≡ false → config_by lcid line before ≡ Some config → before ≡ Some config
-    unchanged (lines.Bearer c options) before free' e' = sym (ap (λ (b : Bool). if b then Some c else before) free') ∙ e'
-    unchanged line before free' e' = e'
+stays_there side lcid past g config right order free e rest = goes_there side lcid past g config right order free (rest (unchanged lcid g.line (config_of lcid past) config free e))
 
-record AddsOne (lcid : ℕ) (line : Line) : Type 0 where
-  config : BearerConfig
-  options : _
-  line_is : line ≡ lines.Bearer config options
-  lcid_is : config.channel.lcid ≡ lcid
+pub record AddsOne (lcid : ℕ) (line : Line) : Type 0 where
+  pub config : BearerConfig
+  pub options : _
+  pub line_is : line ≡ lines.Bearer config options
+  pub lcid_is : config.channel.lcid ≡ lcid
 
-adds_it : (lcid : ℕ) (line : Line) → adds_one lcid line ≡ true → AddsOne lcid line
+pub adds_it : (lcid : ℕ) (line : Line) → adds_one lcid line ≡ true → AddsOne lcid line
 adds_it lcid (lines.Bearer config options) e = record { config = config; options = options; line_is = refl; lcid_is = same_lcid config.channel.lcid lcid e }
 adds_it lcid line e = absurd cc
 

@@ -14,5 +14,7 @@ pub mod Keys
 pub mod Counts
 pub mod Texts
 pub mod Zero
+pub mod Delivery
+pub mod Drained
 pub mod Promises
 pub mod Journals

@@ -6,6 +6,8 @@ use Rattle.air_text.specs.Groups.{Group, history}
 use Rattle.run_laws.specs.Air.{is_tti, ttis, numbered}
 use Rattle.run_laws.specs.Carried.{AreCarried}
 use Rattle.run_laws.specs.Counts.{CountsAscend}
+use Rattle.run_laws.specs.Delivery.{DeliversInOrder}
+use Rattle.run_laws.specs.Drained.{DrainsLeaveNothing}
 use Rattle.run_laws.specs.Ends.{ComeByCalls}
 use Rattle.run_laws.specs.Keys.{all_keys, AreDistinct}
 use Rattle.run_laws.specs.Loops.{ReturnInOrder}
@@ -36,5 +38,9 @@ pub record IsPromised (played : Played) : Type 0 where
   pub loops : ReturnInOrder past
   -- what goes up on LCID 0 is what the blocks carry that arrive
   pub brought : BringInOrder past
+  -- each acknowledged data bearer hands up what was submitted at the other end, in order
+  pub delivered : DeliversInOrder past
+  -- and all of it once a drain tells that it is drained, but where the sender gave up
+  pub drained : DrainsLeaveNothing past
   -- the records of each line stand in the order in which both ends, the blocks and the loop come to their turns
   pub in_order : LinesTell past

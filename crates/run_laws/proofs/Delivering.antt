@@ -1,0 +1,257 @@
+-- Each acknowledged data bearer of a journal hands up the first SDUs of those submitted at the other end.
+use Rattle.std.proofs.Common.{◌≡◌, ◌≤◌, ◌<◌, ◌^◌, arith, ℕ, ◌==◌, Bool, true, false, ◌||◌, ◌&&◌, if◌then◌else◌, cond, Some, None, List, [], ◌∷◌, ◌++◌, map, refl, ap, sym, subst, ◌∙◌}
+use Rattle.std.specs.List.{filter}
+use Rattle.std.proofs.lemmas.List.Concat.{flat_map-append}
+use Rattle.am_bearer_laws.specs.Lives.{other as other_end}
+use Rattle.am_laws.specs.Sdus.{IsFront}
+use Rattle.air_link.specs.Lines.{bears}
+use Rattle.air_link.specs.Link.{Link, other}
+use Rattle.air_record.specs.declared.line.Line.{Line}
+use Rattle.air_record.specs.declared.line.Line.TheVariants as lines
+use Rattle.air_record.specs.declared.record.Record.{Record}
+use Rattle.air_record.specs.declared.record.Record.TheVariants as records
+use Rattle.air_run.specs.Playing.{keys_or_none, acted}
+use Rattle.air_run.specs.Rules.{Rules, is_taken, late, refused_if, rule_broken, refusal, accepted}
+use Rattle.air_run.specs.Run.{behind_line}
+use Rattle.air_run.specs.declared.refusal.RunRefusal.TheVariants.{ConfiguredLate, BearerTwice}
+use Rattle.air_text.specs.Groups.{Group, history}
+use Rattle.bearer_types.specs.declared.config.BearerConfig.{BearerConfig}
+use Rattle.bearer_types.specs.declared.event.Event.{Event}
+use Rattle.bearer_types.specs.declared.event.Event.TheVariants as events
+use Rattle.channel_laws.specs.Delivery.{BeginAlike, SetNone, went_up, was_submitted}
+use Rattle.channel_laws.proofs.Delivery.{channels_deliver_in_order, channels_deliver_undiscarded, unset_discards_none}
+use Rattle.channel_laws.specs.Lives.{AirStep, end_at, all_calls}
+use Rattle.eps_sec.specs.declared.Keys.{Keys}
+use Rattle.flow_laws.specs.Air.{Air, outset}
+use Rattle.flow_laws.specs.Ups.{ups_on, discards_on, ups_in as event_ups}
+use Rattle.l2_node.specs.End.{End}
+use Rattle.l2_types.specs.declared.channel.Kind.{Kind}
+use Rattle.l2_types.specs.declared.channel.Kind.TheVariants.{Am}
+use Rattle.l2_types.specs.declared.side.Side.{Side}
+use Rattle.l2_types.specs.declared.side.Side.TheVariants.{Nb, Ue}
+use Rattle.node_laws.specs.Telling.{told_over}
+use Rattle.link_laws.specs.Counts.{is_up}
+use Rattle.link_laws.specs.Ends.{event_of, told_by}
+use Rattle.link_laws.proofs.Going.{told_both}
+use Rattle.link_laws.specs.Zero.{sdu_of, ups_in}
+use Rattle.pdcp_laws.specs.Lists.{IsSubsequence}
+use Rattle.prioritise.proofs.ChannelLemmas.{both_false}
+use Rattle.air_laws.specs.Lived.{IsAcknowledged, Lived}
+use Rattle.air_laws.proofs.Lived.{bearers_live}
+use Rattle.air_laws.proofs.Lives.{channels_begin}
+use Rattle.run_laws.specs.Delivery.{forges, is_forged, sets_timer, is_timed, discarded, DeliverAll, DeliversInOrder}
+use Rattle.run_laws.specs.Flows.{handed_in, looped_at, submitted, delivered}
+use Rattle.run_laws.specs.Order.{state_behind, IsRight, KeepsOrder}
+use Rattle.run_laws.specs.Parts.{part}
+use Rattle.run_laws.specs.Texts.{config_by, config_of}
+use Rattle.run_laws.proofs.Early.{is_early}
+use Rattle.run_laws.proofs.Failed.{HasSender, sender_goes, sender_begins}
+use Rattle.run_laws.proofs.Flowing.{Sdus, unseen, LineLives, line_lives}
+use Rattle.run_laws.proofs.Keys.{not_first, not_second, no_cause}
+use Rattle.run_laws.proofs.Past.{behind, link_behind}
+use Rattle.run_laws.proofs.Texts.{adds_one, adds_it, unchanged}
+
+-- ---- what goes up at an end, as records tell it and as the end does
+
+up_by : (here on : Bool) (l : ℕ) (s : Side) (lcid : ℕ) (octets : List ℕ) (told : List Record) (up : List (List ℕ)) → (lcid == l) ≡ on → map sdu_of told ≡ up
+    → ups_on l (if here && true then events.Up lcid octets ∷ [] else []) ++ up ≡ map sdu_of (cond (here && on) (records.Of s (events.Up lcid octets) ∷ told) told)
+up_by true true l s lcid octets told up e h = rw e (ap (λ (xs : List (List ℕ)). octets ∷ xs) (sym h))
+up_by true false l s lcid octets told up e h = rw e (sym h)
+up_by false on l s lcid octets told up e h = sym h
+
+none_up : (b : Bool) (l : ℕ) (e : Event) → event_ups l e ≡ [] → ups_on l (if b then e ∷ [] else []) ≡ []
+none_up true l e none = ap (λ (xs : List (List ℕ)). xs ++ []) none
+none_up false l e none = refl
+
+one_told : (side : Side) (l : ℕ) (one : Record) (told : List Record) (up : List (List ℕ)) → ups_in side l told ≡ up → ups_on l (event_of side one) ++ up ≡ ups_in side l (one ∷ told)
+one_told side l (records.Of s (events.Up lcid octets)) told up h = up_by _ (lcid == l) l s lcid octets (filter (is_up side l) told) up refl h
+one_told side l (records.Of s e) told up h = ap (λ (xs : List (List ℕ)). xs ++ up) (none_up _ l e refl) ∙ sym h
+one_told side l one told up h = sym h
+
+ups_are_told : (side : Side) (l : ℕ) (told : List Record) → ups_on l (told_by side told) ≡ ups_in side l told
+ups_are_told side l [] = refl
+ups_are_told side l (one ∷ told) =
+    flat_map-append (event_ups l) (event_of side one) (told_by side told) ∙ ap (λ (xs : List (List ℕ)). ups_on l (event_of side one) ++ xs) (ups_are_told side l told)
+    ∙ one_told side l one told (ups_in side l told) refl
+
+ups_told : (side : Side) (l : ℕ) (past : List Group) → delivered side l past ≡ ups_on l (told_by side (history past))
+ups_told side l [] = refl
+ups_told side l (g ∷ past) =
+    ap (λ (xs : List (List ℕ)). xs ++ ups_in side l g.events) (ups_told side l past) ∙ ap (λ (xs : List (List ℕ)). ups_on l (told_by side (history past)) ++ xs) (sym (ups_are_told side l g.events))
+    ∙ sym (flat_map-append (event_ups l) (told_by side (history past)) (told_by side g.events))
+    ∙ ap (ups_on l) (sym (told_both side (history past) (records.Line g.number g.line ∷ g.events) (told_by side (history past)) (told_by side g.events) refl refl))
+
+other_is : (side : Side) → other_end side ≡ other side
+other_is Nb = refl
+other_is Ue = refl
+
+as_told : (P : List (List ℕ) → List (List ℕ) → Type 0) {xs ys xs' ys' : List (List ℕ)} → xs ≡ xs' → ys ≡ ys' → P xs ys → P xs' ys'
+as_told P {xs} {ys} {xs'} {ys'} e f p = subst (λ (zs : List (List ℕ)). P zs ys') e (subst (λ (zs : List (List ℕ)). P xs zs) f p)
+
+-- ---- a channel, behind groups
+
+pub record IsDelivering (l : ℕ) (c : BearerConfig) (past : List Group) : Type 0 where
+  pub keys : Keys
+  pub nb : End
+  pub ue : End
+  pub alike : BeginAlike l c keys nb ue
+  pub told : List Record
+  pub handed : Sdus
+  pub set : Bool
+  pub lived : Lived l nb ue told handed set (link_behind past)
+  pub unset : is_timed l past ≡ false → set ≡ false
+  pub told_is : (side : Side) → told_by side (history past) ≡ told_by side told
+  pub submitted_is : (side : Side) → submitted side l past ≡ handed side l
+  pub senders : (side : Side) → HasSender side l past
+
+-- ---- a line since
+
+goes_on : (l : ℕ) (c : BearerConfig) (past : List Group) (g : Group) → IsRight past g → KeepsOrder past → adds_one l g.line ≡ false → forges g.line ≡ false → IsDelivering l c past → IsDelivering l c (g ∷ past)
+goes_on l c past g right order other own d =
+    let k = link_behind past in
+    let m = behind_line g.line (state_behind past) in
+    let p = part g.line in
+    let set = d.set || sets_timer l g.line in
+    let x : LineLives l d.nb d.ue d.told d.handed set p m =
+    line_lives l d.nb d.ue d.told d.handed d.set g.line (state_behind past).rules.keys k (behind past order).nothing right.in_range other own d.lived in
+    record {
+      keys = d.keys;
+      nb = d.nb;
+      ue = d.ue;
+      alike = d.alike;
+      told = d.told ++ x.more;
+      handed = λ side n. d.handed side n ++ (handed_in side n p m.out ++ looped_at side n m.out);
+      set = set;
+      lived = unseen l d.nb d.ue _ _ set m [] x.lived;
+      unset = λ off. let apart = both_false (sets_timer l g.line) (is_timed l past) off in ap (λ (b : Bool). b || sets_timer l g.line) (d.unset apart.1) ∙ apart.0;
+      told_is = λ side.
+          told_both side (history past) (records.Line g.number g.line ∷ g.events) (told_by side d.told) (told_by side x.more) (d.told_is side) (ap (told_by side) right.events_are ∙ x.told_are side)
+          ∙ sym (told_both side d.told x.more (told_by side d.told) (told_by side x.more) refl refl);
+      submitted_is = λ side.
+          ap (λ (xs : List (List ℕ)). xs ++ (handed_in side l p g.events ++ looped_at side l g.events)) (d.submitted_is side)
+          ∙ ap (λ (ys : List Record). d.handed side l ++ (handed_in side l p ys ++ looped_at side l ys)) right.events_are;
+      senders = λ side. sender_goes side l past g right order other (d.senders side);
+    }
+
+-- ---- the line in which its bearers come
+
+record IsFirst (c : BearerConfig) (r : Rules) (k : Link) : Type 0 where
+  early : r.begun ≡ false
+  none : is_taken c.channel.lcid k ≡ false
+
+is_first : (c : BearerConfig) (options : _) (r : Rules) (k : Link) → refusal (lines.Bearer c options) r k ≡ None → IsFirst c r k
+unfolding rule_broken
+is_first c options r k allowed =
+    let taken = refused_if (is_taken c.channel.lcid k) BearerTwice in
+    let all = not_first (rule_broken (lines.Bearer c options) r k) _ allowed in
+    record {
+      early = no_cause r.begun ConfiguredLate (not_first (late r) _ all);
+      none = no_cause (is_taken c.channel.lcid k) BearerTwice (not_first taken _ (not_second (late r) _ all));
+    }
+
+has_bits : (count : ℕ) → count ≤ 4294967295 → count < 2 ^ 32
+has_bits count within = omega (arith, within)
+
+is_acknowledged : (kind : Kind) → kind ≡ Am → IsAcknowledged kind
+is_acknowledged kind e = subst IsAcknowledged (sym e) tt
+
+at_each : (P : Side → Type 0) → P Nb → P Ue → (side : Side) → P side
+at_each P nb ue Nb = nb
+at_each P nb ue Ue = ue
+
+begin_by : (past : List Group) (g : Group) (c : BearerConfig) (options : _) → IsRight past (record g { line = lines.Bearer c options }) → KeepsOrder past → c.kind ≡ Am
+    → IsDelivering c.channel.lcid c (record g { line = lines.Bearer c options } ∷ past)
+unfolding acted accepted bears
+begin_by past g c options right order kind =
+    let l = c.channel.lcid in
+    let r = (state_behind past).rules in
+    let k = link_behind past in
+    let keys = keys_or_none r.keys in
+    let f = is_first c options r k right.allowed in
+    let here = both_false _ _ f.none in
+    let now = is_early (record g { line = lines.Bearer c options } ∷ past) (right, order) f.early in
+    let rest = (is_early past order f.early).rest in
+    let b = bearers_live c keys k right.in_range (is_acknowledged c.kind kind) rest in
+    record {
+      keys = keys;
+      nb = _;
+      ue = _;
+      alike = record {
+        kind = kind;
+        config = right.in_range;
+        first = has_bits c.first right.count;
+        nb_begun = channels_begin c keys k right.in_range rest Nb here.0;
+        ue_begun = channels_begin c keys k right.in_range rest Ue here.1;
+      };
+      told = [];
+      handed = λ side n. [];
+      set = false;
+      lived = unseen l _ _ [] _ false (bears c keys k) [] b.lived;
+      unset = λ off. refl;
+      told_is = now.none_told;
+      submitted_is = λ side. now.none_submitted side l;
+      senders = at_each (λ side. HasSender side l _)
+          (sender_begins Nb l c keys _ kind (channels_begin c keys k right.in_range rest Nb here.0))
+          (sender_begins Ue l c keys _ kind (channels_begin c keys k right.in_range rest Ue here.1));
+    }
+
+-- ---- behind all groups
+
+begins : (past : List Group) (g : Group) (c : BearerConfig) (options : _) → g.line ≡ lines.Bearer c options → IsRight past g → KeepsOrder past → c.kind ≡ Am → IsDelivering c.channel.lcid c (g ∷ past)
+begins past g c options is right order kind =
+    subst (λ (line : Line). IsDelivering c.channel.lcid c (record g { line = line } ∷ past)) (sym is)
+    (begin_by past g c options (subst (λ (line : Line). IsRight past (record g { line = line })) is right) order kind)
+
+delivering_by : (b : Bool) (l : ℕ) (past : List Group) (g : Group) (c : BearerConfig) → adds_one l g.line ≡ b → IsRight past g → KeepsOrder past → c.kind ≡ Am → config_of l (g ∷ past) ≡ Some c → forges g.line ≡ false
+    → (config_of l past ≡ Some c → IsDelivering l c past) → IsDelivering l c (g ∷ past)
+delivering_by false l past g c is right order kind e own rest = goes_on l c past g right order is own (rest (unchanged l g.line (config_of l past) c is e))
+delivering_by true l past g c is right order kind e own rest =
+    let a = adds_it l g.line is in
+    let taken : config_by l (lines.Bearer a.config a.options) (config_of l past) ≡ Some a.config =
+    ap (λ (b : Bool). if b then Some a.config else config_of l past) (sym (ap (adds_one l) a.line_is) ∙ is) in
+    let some : Some a.config ≡ Some c = sym taken ∙ ap (λ (line : Line). config_by l line (config_of l past)) (sym a.line_is) ∙ e in
+    let same : a.config ≡ c = cc in
+    subst (λ (d : BearerConfig). IsDelivering l d (g ∷ past)) same
+    (subst (λ (n : ℕ). IsDelivering n a.config (g ∷ past)) a.lcid_is (begins past g a.config a.options a.line_is right order (ap (λ (d : BearerConfig). d.kind) same ∙ kind)))
+
+pub is_delivering : (l : ℕ) (past : List Group) (c : BearerConfig) → KeepsOrder past → c.kind ≡ Am → config_of l past ≡ Some c → is_forged past ≡ false → IsDelivering l c past
+is_delivering l [] c order kind e own = absurd cc
+is_delivering l (g ∷ past) c (right, order) kind e own =
+    let apart = both_false (forges g.line) (is_forged past) own in
+    delivering_by (adds_one l g.line) l past g c refl right order kind e apart.0 (λ is. is_delivering l past c order kind is apart.1)
+
+-- ---- of the journal's own words
+
+module _ (l : ℕ) (c : BearerConfig) (past : List Group) (d : IsDelivering l c past) where
+  abbrev pub steps : List AirStep
+  steps = d.lived.by.steps
+
+  abbrev pub start : Air
+  start = outset d.nb d.ue
+
+  pub tells : (side : Side) → told_over (all_calls side steps start) (end_at side start) ≡ told_by side (history past)
+  tells side = sym (d.told_is side ∙ d.lived.by.told_is side)
+
+  pub went_up_is : (from : Side) → went_up l (all_calls (other_end from) steps start) (end_at (other_end from) start) ≡ delivered (other from) l past
+  went_up_is from = ap (ups_on l) (tells (other_end from)) ∙ sym (ups_told (other_end from) l past) ∙ ap (λ (s : Side). delivered s l past) (other_is from)
+
+  pub was_submitted_is : (from : Side) → was_submitted l (all_calls from steps start) (end_at from start) ≡ submitted from l past
+  was_submitted_is from = d.lived.by.submitted_is from l ∙ sym (d.submitted_is from)
+
+delivers : (past : List Group) → KeepsOrder past → DeliverAll past
+delivers past order from l c e kind own =
+    let d = is_delivering l past c order kind e own in
+    let h = d.lived in
+    let ups = went_up_is l c past d from in
+    let all = was_submitted_is l c past d from in
+    let none : SetNone l (all_calls from h.by.steps (outset d.nb d.ue)) → discarded from l past ≡ [] = λ unset.
+    ap (discards_on l) (sym (tells l c past d from)) ∙ unset_discards_none l c d.keys d.nb d.ue from h.by.steps d.alike h.by.living unset in
+    record {
+      in_order = as_told (λ xs ys. IsSubsequence xs ys) ups all (channels_deliver_in_order l c d.keys d.nb d.ue from h.by.steps d.alike h.by.living);
+      none_left_out = λ none. as_told IsFront ups all (channels_deliver_undiscarded l c d.keys d.nb d.ue from h.by.steps d.alike h.by.living (ap (discards_on l) (tells l c past d from) ∙ none));
+      none_discarded = λ off. none (h.by.sets_none (d.unset off) from);
+    }
+
+pub delivers_in_order : (past : List Group) → KeepsOrder past → DeliversInOrder past
+delivers_in_order [] order = tt
+delivers_in_order (g ∷ past) (right, order) = (delivers (g ∷ past) (right, order), delivers_in_order past order)
