@@ -15,6 +15,8 @@ use eps_sec::Keys;
 use l2_types::DrxConfig;
 use std::alloc::Global;
 
+// Lines that come seldom are read by functions of their own: inlined, each would take its room in the reading of every line.
+
 #[tactic(auto, unfolding(crate::specs::Reading::harq_of))]
 #[inline(never)]
 fn harq(fields: &[&[u8]]) -> Result<Line, LineRefusal>
