@@ -1,4 +1,5 @@
 pub mod WordLemmas
+pub mod LaneLemmas
 pub mod TableLemmas
 pub mod CipherLemmas
 pub mod StreamLemmas

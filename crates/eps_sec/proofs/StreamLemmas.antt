@@ -1,9 +1,9 @@
 -- A text to which a stream is added, octet by octet.
-use Rattle.std.proofs.Common.{◌≡◌, ◌<◌, ◌≤◌, ℕ, zero, suc, ◌+◌, ◌*◌, ◌/◌, ◌%◌, ◌∙◌, List, [], ◌∷◌, ◌++◌, length, take, drop, slice_index, slice_set, refl, sym, ap, arith, add-one}
+use Rattle.std.proofs.Common.{◌≡◌, ◌<◌, ◌≤◌, ℕ, zero, suc, ◌+◌, ◌*◌, ◌/◌, ◌%◌, ◌∙◌, List, [], ◌∷◌, ◌++◌, length, take, drop, slice_index, slice_set, refl, ap, arith, add-one}
 use Rattle.std.proofs.lemmas.List.{take_all, drop_all, append-nil}
 use Rattle.std.specs.Int.Bits.{bit_xor, xor_assoc, xor_self, xor_zero_r}
-use Rattle.std.proofs.lemmas.List.FromFn.{get_or-map-range_with_len}
-use Rattle.eps_sec.specs.Aes.{aes, add_round_key}
+use Rattle.std.specs.Simd.Lanes.{zip2, chunk, put_chunk}
+use Rattle.eps_sec.specs.Aes.{aes}
 use Rattle.eps_sec.specs.Modes.{counter_block, stream_octet, add_stream}
 
 -- the text with its first k octets done
@@ -20,26 +20,30 @@ at_seam f n k [] lt = absurd (omega arith)
 at_seam f n zero (x ∷ xs) lt = refl
 at_seam f n (suc k) (x ∷ xs) lt = at_seam f (n + 1) k xs (omega arith)
 
-behind_seam : (f : ℕ → ℕ) (n k m : ℕ) (t : List ℕ) → k + m < length t → slice_index (add_stream f n (take k t) ++ drop k t) (k + m) ≡ slice_index t (k + m)
-behind_seam f n k m [] lt = absurd (omega arith)
-behind_seam f n zero m (x ∷ xs) lt = refl
-behind_seam f n (suc k) m (x ∷ xs) lt = let next : suc k + m ≡ suc (k + m) = omega arith in rw next (behind_seam f (n + 1) k m xs (omega arith))
+-- the first octets of a text, with a block added
+front-done : (f : ℕ → ℕ) (n m : ℕ) (t block : List ℕ) → m ≤ length t → length block ≡ m → ((j : ℕ) → j < m → slice_index block j ≡ f (n + j))
+    → put_chunk 0 t (zip2 bit_xor (take m t) block) ≡ add_stream f n (take m t) ++ drop m t
+front-done f n zero [] block room len at = refl
+front-done f n zero (x ∷ xs) block room len at = refl
+front-done f n (suc m) [] block room len at = absurd (omega (arith, room))
+front-done f n (suc m) (x ∷ xs) [] room len at = absurd (omega (arith, len))
+front-done f n (suc m) (x ∷ xs) (y ∷ ys) room len at =
+    let here : y ≡ f n = at 0 (omega arith) ∙ ap f (omega arith) in
+    let more = front-done f (n + 1) m xs ys (omega (arith, room)) (omega (arith, len)) (λ j low. at (suc j) (omega (arith, low)) ∙ ap f (omega arith)) in
+    rw here (ap (λ (rest : List ℕ). bit_xor x (f n) ∷ rest) more)
 
-sum-octet : (key part : List ℕ) (j : ℕ) → j < 16 → slice_index (add_round_key key part) j ≡ bit_xor (slice_index part j) (slice_index key j)
-unfolding add_round_key
-sum-octet key part j lt =
-    let same : 0 + j ≡ j = omega arith in
-    get_or-map-range_with_len (λ (i : ℕ). bit_xor (slice_index part i) (slice_index key i)) 0 16 j j 0 lt same
+block-done : (f : ℕ → ℕ) (n k : ℕ) (t block : List ℕ) → k + 16 ≤ length t → length block ≡ 16 → ((j : ℕ) → j < 16 → slice_index block j ≡ f (n + k + j))
+    → put_chunk k (add_stream f n (take k t) ++ drop k t) (zip2 bit_xor (chunk k 16 (add_stream f n (take k t) ++ drop k t)) block) ≡ add_stream f n (take (k + 16) t) ++ drop (k + 16) t
+block-done f n zero t block room len at = front-done f n 16 t block room len (λ j low. at j low ∙ ap f (omega arith))
+block-done f n (suc k) [] block room len at = absurd (omega (arith, room))
+block-done f n (suc k) (x ∷ xs) block room len at =
+    let next : suc k + 16 ≡ suc (k + 16) = omega arith in
+    rw next (ap (λ (rest : List ℕ). bit_xor x (f n) ∷ rest) (block-done f (n + 1) k xs block (omega (arith, room)) len (λ j low. at j low ∙ ap f (omega arith))))
 
--- an octet of a block to which the stream was added by words
-pub block-octet : (f : ℕ → ℕ) (i j : ℕ) (t now here part stream sum : List ℕ) → 16 * i + j < length t → j < 16 → now ≡ done_to f (16 * i) t → here ≡ done_to f (16 * i + j) t
-    → ((k : ℕ) → k < 16 → slice_index part k ≡ slice_index now (16 * i + k)) → sum ≡ add_round_key stream part → slice_index stream j ≡ f (16 * i + j)
-    → slice_index sum j ≡ bit_xor (slice_index here (16 * i + j)) (f (16 * i + j))
-block-octet f i j t now here part stream sum within lt was is places added at =
-    let before : slice_index now (16 * i + j) ≡ slice_index t (16 * i + j) = rw was (behind_seam f 0 (16 * i) j t within) in
-    let after : slice_index here (16 * i + j) ≡ slice_index t (16 * i + j) = rw is (at_seam f 0 (16 * i + j) t within) in
-    ap (λ (l : List ℕ). slice_index l j) added ∙ sum-octet stream part j lt
-    ∙ ap (λ (x : ℕ). bit_xor x (slice_index stream j)) (places j lt ∙ before ∙ sym after) ∙ ap (bit_xor (slice_index here (16 * i + j))) at
+-- one more block, added at once
+pub block-more : (f : ℕ → ℕ) (k : ℕ) (t now block : List ℕ) → k + 16 ≤ length t → now ≡ done_to f k t → length block ≡ 16 → ((j : ℕ) → j < 16 → slice_index block j ≡ f (k + j))
+    → put_chunk k now (zip2 bit_xor (chunk k 16 now) block) ≡ done_to f (k + 16) t
+block-more f k t now block room was len at = rw was (block-done f 0 k t block room len (λ j low. at j low ∙ ap f (omega arith)))
 
 -- one more octet
 pub done-more : (f : ℕ → ℕ) (k v : ℕ) (t now : List ℕ) → k < length t → now ≡ done_to f k t → v ≡ bit_xor (slice_index now k) (f k) → slice_set now k v ≡ done_to f (k + 1) t

@@ -1,13 +1,14 @@
 //! 128-EEA2: AES-128 in counter mode (TS 33.401, B.1.3).
 
-ghost use Rattle.std.specs.Prelude.{◌≡◌, ◌<◌, ◌≤◌, ◌+◌, ◌==◌, false, length, take, slice_index};
-ghost use Rattle.eps_sec.specs.Aes.{aes, add_round_key};
+ghost use Rattle.std.specs.Prelude.{◌≡◌, ◌<◌, ◌≤◌, ◌+◌, ◌==◌, false, length, take, slice_index, bit_xor};
+ghost use Rattle.std.specs.Simd.Lanes.{zip2, chunk, put_chunk};
+ghost use Rattle.eps_sec.specs.Aes.{aes};
 ghost use Rattle.eps_sec.specs.Words.{state, IsFront};
 ghost use Rattle.eps_sec.specs.Modes.{prefix, first_counter, counter_block, stream_octet, add_stream, ciphered};
 
-use crate::cipher::{Front, Schedule, add_key, encrypt_words, octets_of, words_of};
-use crate::integrity::octets_at;
+use crate::cipher::{Front, Schedule, encrypt_words, octets_of, words_of};
 use crate::keys::Cipher;
+use std::simd::prelude::*;
 
 /// Ciphers or deciphers `text` in place; both are the same.
 ///
@@ -81,12 +82,24 @@ fn stream_words(schedule: &Schedule, front: &Front, first: u128, i: usize) -> [u
     front.encrypt(schedule, &words_of(&counter_block(first, i)))
 }
 
-// 16 octets of a text with as many of the stream added, by words: by octets, the compiler gathers those of the stream first.
+// The octets of words, each word's highest first.
 #[inline(always)]
-fn with_stream(stream: &[u32; 4], part: &[u8; 16]) -> [u8; 16]
-    ensures { result ≡ add_round_key (state stream.now) part.now }
+fn octets_in(words: u32x4) -> u8x16
+    ensures { result ≡ state words }
 {
-    octets_of(&add_key(stream, &words_of(part)))
+    words
+        .to_le_bytes()
+        .swizzle([3, 2, 1, 0, 7, 6, 5, 4, 11, 10, 9, 8, 15, 14, 13, 12])
+}
+
+// Adds 16 octets of the stream to those of a text from `start` on, all at once.
+#[inline(always)]
+fn add_words(stream: &[u32; 4], text: &mut [u8], start: usize)
+    requires { start + 16 ≤ length text.old }
+    ensures { text.new ≡ put_chunk start text.old (zip2 bit_xor (chunk start 16 text.old) (state stream.now)) }
+{
+    let sum = u8x16::from_slice(&text[start..]) ^ octets_in(u32x4::from_array(*stream));
+    sum.copy_to_slice(&mut text[start..]);
 }
 
 /// Adds the encrypted counter blocks from `first` on to `text`.
@@ -101,10 +114,7 @@ pub(crate) fn add_stream(schedule: &Schedule, first: u128, text: &mut [u8])
     let mut front = front_at(schedule, first, 0);
     for i in 0..whole {
         let stream = stream_words(schedule, &front, first, i);
-        let sum = with_stream(&stream, &octets_at(text, 16 * i));
-        for j in 0..16 {
-            text[16 * i + j] = sum[j];
-        }
+        add_words(&stream, text, 16 * i);
         if has_carry(first, i) {
             front = front_at(schedule, first, i + 1);
         }

@@ -92,8 +92,8 @@ fn block_of(head: &[u8], body: &[u8], tail: &[u8], i: usize) -> [u8; 16]
     }
 }
 
-/// The 16 octets of `body` from `start` on.
-pub(crate) fn octets_at(body: &[u8], start: usize) -> [u8; 16]
+// The 16 octets of `body` from `start` on.
+fn octets_at(body: &[u8], start: usize) -> [u8; 16]
     requires { start + 16 ≤ length body.now }
     ensures len { length result ≡ 16 }
     ensures places { (j : ℕ) → j < 16 → slice_index result j ≡ slice_index body.now (start + j) }

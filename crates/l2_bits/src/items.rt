@@ -5,6 +5,7 @@ use crate::fault::NoMemory;
 use std::alloc::Global;
 use std::collections::VecDeque;
 use std::marker::Model;
+use std::mem;
 
 /// A list that grows at its end and is taken from its front, which contracts see as a list.
 ///
@@ -75,13 +76,17 @@ impl<T> Items<T> {
         }
     }
 
-    /// Moves the other list's items to the end of this one. An `Err` changes nothing.
+    /// Moves the other list's items to the end of this one, or all of it where this one is empty. An `Err` changes nothing.
     pub fn append(&mut self, other: &mut Items<T>) -> Result<(), NoMemory>
         ensures ok { OnOk result (self.new ≡ self.old ++ other.old) }
         ensures moved { OnOk result (other.new ≡ []) }
         ensures err { OnErr result (self.new ≡ self.old) }
         ensures kept { OnErr result (other.new ≡ other.old) }
     {
+        if self.is_empty() {
+            mem::swap(self, other);
+            return Ok(());
+        }
         self.items.append(&mut other.items)?;
         Ok(())
     }

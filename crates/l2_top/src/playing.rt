@@ -117,7 +117,7 @@ fn make_room<S: Source, K: Sink>(
     if gathered.is_full() {
         return gathered.flush(out);
     }
-    if gathered.held().is_empty() || lines.has_line() || source.is_ready() {
+    if gathered.held().is_empty() || source.is_ready() || lines.has_line() {
         return Ok(());
     }
     gathered.flush(out)

@@ -1,4 +1,4 @@
-use Rattle.std.proofs.Common.{◌≡◌, ◌*◌, ◌+◌, take}
+use Rattle.std.proofs.Common.{◌≡◌, ◌*◌, take}
 use Rattle.eps_sec.specs.Words.{IsFront}
 use Rattle.eps_sec.specs.Modes.{counter_block, stream_octet}
 use Rattle.eps_sec.proofs.StreamLemmas.{done_to}
@@ -9,9 +9,6 @@ invariant-loop-i l = record {
   text : l.text ≡ done_to (stream_octet l.schedule l.first) (16 * l.i) l.fn.text;
   front : IsFront l.front.word l.front.words l.schedule (take 15 (counter_block l.first l.i));
 }
-
-abbrev pub invariant-loop-j : goal.invariant-loop-j
-invariant-loop-j l = l.text ≡ done_to (stream_octet l.schedule l.first) (16 * l.i + l.j) l.fn.text
 
 abbrev pub invariant-loop-k : goal.invariant-loop-k
 invariant-loop-k l = l.text ≡ done_to (stream_octet l.schedule l.first) l.k l.fn.text
