@@ -1,10 +1,10 @@
 -- Pairs of digits, part by part, and as `hex` decodes them.
-use Rattle.std.proofs.Common.{◌≡◌, ◌+◌, ◌*◌, ◌/◌, ◌%◌, ◌==◌, ◌∙◌, ℕ, Bool, true, false, List, [], ◌∷◌, ◌++◌, length, take, drop, Option, Some, None, Result, Ok, Err, refl, sym, ap, arith, append_assoc, if◌then◌else◌}
+use Rattle.std.proofs.Common.{◌≡◌, ◌+◌, ◌*◌, ◌/◌, ◌%◌, ◌==◌, ◌∙◌, ℕ, Bool, true, false, List, [], ◌∷◌, ◌++◌, length, take, drop, Option, Some, None, Result, Ok, Err, refl, sym, ap, arith, append_assoc, if◌then◌else◌, zero, suc, replicate}
 use Rattle.std.specs.Prelude.{MatchResult, MatchOption}
-use Rattle.std.proofs.lemmas.List.{take-append-drop}
-use Rattle.hex.specs.Hex.{hex_digit_value, decode_of, decode_sized, decode_pairs, digit_or_error, ◌>>=◌}
+use Rattle.std.proofs.lemmas.List.{take-append-drop, take_at}
+use Rattle.hex.specs.Hex.{hex_digit_value, decode_of, decode_pairs, digit_or_error, ◌>>=◌}
 use Rattle.hex.specs.declared.error.FromHexError.{FromHexError}
-use Rattle.hex.specs.declared.error.FromHexError.TheVariants.{OddLength, InvalidStringLength}
+use Rattle.hex.specs.declared.error.FromHexError.TheVariants.{OddLength}
 use Rattle.digits.specs.Pairs.{with_pair, pairs, onto, both}
 
 with-both : (o p : Option ℕ) (a b : Option (List ℕ)) → with_pair o p (both a b) ≡ both (with_pair o p a) b
@@ -73,33 +73,50 @@ says-decoded xs = elim (length xs % 2 == 1) as (λ (b : Bool). (length xs % 2 ==
   | false ↦ λ even. says-pairs 0 xs
 ] refl
 
-pub says-sized : (xs : List ℕ) (n : ℕ) → n ≡ length xs / 2 → Says (decode_sized xs n) (pairs xs)
-says-sized xs n is = rw is (elim (length xs % 2 == 1) as (λ (b : Bool). (length xs % 2 == 1) ≡ b → Says (if b then Err OddLength else (if length xs / 2 == length xs / 2 then decode_pairs 0 xs else Err InvalidStringLength)) (pairs xs)) [
-  | true ↦ λ odd. odd-none xs (grind (arith, odd))
-  | false ↦ λ even. rw (same (length xs / 2)) (says-pairs 0 xs)
-] refl)
-  where
-    same : (k : ℕ) → (k == k) ≡ true
-    same k = grind (arith)
+-- ---- digits with zeros behind
 
-few-by : (xs out : List ℕ) (decoded : Result (List ℕ) FromHexError) (result : Result Unit FromHexError) → Says decoded (pairs xs)
-    → MatchResult decoded (λ bytes. (result ≡ Ok tt) × (out ≡ bytes)) (λ e. result ≡ Err e) → result ≡ Ok tt → pairs xs ≡ Some out
-few-by xs out (Ok read) result says gave good = says ∙ ap Some (sym gave.1)
-few-by xs out (Err e) result says gave good = cc
+length-with : (p q : Option ℕ) (r : Option (List ℕ)) (octets : List ℕ) (n : ℕ) → ((rest : List ℕ) → r ≡ Some rest → length rest ≡ n) → with_pair p q r ≡ Some octets → length octets ≡ suc n
+length-with (Some v) (Some w) (Some rest) octets n behind is = let same : (v * 16 + w) ∷ rest ≡ octets = cc in ap length (sym same) ∙ ap suc (behind rest refl)
+length-with (Some v) (Some w) None octets n behind is = cc
+length-with (Some v) None r octets n behind is = cc
+length-with None q r octets n behind is = cc
 
--- the answer of decoding into room for half as many octets
-pub few-good : (xs out : List ℕ) (n : ℕ) (result : Result Unit FromHexError) → n ≡ length xs / 2
-    → MatchResult (decode_sized xs n) (λ bytes. (result ≡ Ok tt) × (out ≡ bytes)) (λ e. result ≡ Err e) → result ≡ Ok tt → pairs xs ≡ Some out
-few-good xs out n result is gave good = few-by xs out (decode_sized xs n) result (says-sized xs n is) gave good
+length-pairs : (xs octets : List ℕ) → pairs xs ≡ Some octets → length octets ≡ length xs / 2
+length-pairs [] octets is = let same : [] ≡ octets = cc in ap length (sym same)
+length-pairs (x ∷ []) octets is = cc
+length-pairs (x ∷ y ∷ rest) octets is =
+    length-with (hex_digit_value x) (hex_digit_value y) (pairs rest) octets (length rest / 2) (λ read here. length-pairs rest read here) is ∙ (omega arith)
 
-few-not : (xs out : List ℕ) (decoded : Result (List ℕ) FromHexError) (result : Result Unit FromHexError) (e : FromHexError) → Says decoded (pairs xs)
-    → MatchResult decoded (λ bytes. (result ≡ Ok tt) × (out ≡ bytes)) (λ e. result ≡ Err e) → result ≡ Err e → pairs xs ≡ None
-few-not xs out (Ok read) result e says gave bad = let good = gave.0 in cc
-few-not xs out (Err f) result e says gave bad = says
+first-read : (a b : Option (List ℕ)) (n : ℕ) (read : List ℕ) → ((octets : List ℕ) → a ≡ Some octets → length octets ≡ n) → both a b ≡ Some read → a ≡ Some (take n read)
+first-read None b n read long is = cc
+first-read (Some octets) None n read long is = cc
+first-read (Some octets) (Some more) n read long is = let same : octets ++ more ≡ read = cc in ap Some (sym (take_at octets more n (long octets refl)) ∙ ap (take n) same)
 
-pub few-bad : (xs out : List ℕ) (n : ℕ) (result : Result Unit FromHexError) (e : FromHexError) → n ≡ length xs / 2
-    → MatchResult (decode_sized xs n) (λ bytes. (result ≡ Ok tt) × (out ≡ bytes)) (λ e. result ≡ Err e) → result ≡ Err e → pairs xs ≡ None
-few-bad xs out n result e is gave bad = few-not xs out (decode_sized xs n) result e (says-sized xs n is) gave bad
+zeros-read : (m : ℕ) → pairs (replicate (2 * m) 48) ≡ Some (replicate m 0)
+zeros-read zero = refl
+zeros-read (suc m) = let next : 2 * suc m ≡ suc (suc (2 * m)) = omega arith in rw (next, zeros-read m) refl
+
+none-first : (a b : Option (List ℕ)) (more : List ℕ) → b ≡ Some more → both a b ≡ None → a ≡ None
+none-first None b more some is = refl
+none-first (Some octets) b more some is = let none : onto octets (Some more) ≡ None = rw some at is in cc
+
+-- the answer for fewer digits, by that for a block that goes on with zeros
+pub few-good : (xs block octets read new : List ℕ) (k : ℕ) → length xs % 2 ≡ 0 → block ≡ xs ++ replicate k 48 → pairs block ≡ Some read → new ≡ octets ++ take (length xs / 2) read
+    → MatchOption (pairs xs) (true ≡ false) (λ few. (true ≡ true) × (new ≡ octets ++ few))
+few-good xs block octets read new k even is some added =
+    let whole : both (pairs xs) (pairs (replicate k 48)) ≡ Some read = sym (pairs-append xs (replicate k 48) even) ∙ ap pairs (sym is) ∙ some in
+    rw (first-read (pairs xs) (pairs (replicate k 48)) (length xs / 2) read (length-pairs xs) whole) (refl, added)
+
+pub few-bad : (xs block octets new : List ℕ) (k : ℕ) → length xs % 2 ≡ 0 → k % 2 ≡ 0 → block ≡ xs ++ replicate k 48 → pairs block ≡ None
+    → MatchOption (pairs xs) (false ≡ false) (λ few. (false ≡ true) × (new ≡ octets ++ few))
+few-bad xs block octets new k even rest is none =
+    let half : k ≡ 2 * (k / 2) = omega (arith, rest) in
+    let zeros : pairs (replicate k 48) ≡ Some (replicate (k / 2) 0) = ap (λ (n : ℕ). pairs (replicate n 48)) half ∙ zeros-read (k / 2) in
+    let whole : both (pairs xs) (pairs (replicate k 48)) ≡ None = sym (pairs-append xs (replicate k 48) even) ∙ ap pairs (sym is) ∙ none in
+    rw (none-first (pairs xs) (pairs (replicate k 48)) (replicate (k / 2) 0) zeros whole) refl
+
+pub few-odd : (xs octets new : List ℕ) → length xs % 2 ≡ 1 → MatchOption (pairs xs) (false ≡ false) (λ few. (false ≡ true) × (new ≡ octets ++ few))
+few-odd xs octets new odd = rw (odd-none xs odd) refl
 
 -- ---- the whole text
 

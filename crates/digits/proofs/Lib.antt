@@ -1,4 +1,6 @@
+mod Lanes
+mod Written
 pub mod Blocks
 pub mod PairLaws
 pub mod DecodeLaws
-mod Letters
+mod Values

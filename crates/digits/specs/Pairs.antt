@@ -1,37 +1,37 @@
 -- Octets by pairs of hexadecimal digits, each of either case.
-use Rattle.std.specs.Prelude.{ℕ, ◌+◌, ◌-◌, ◌*◌, ◌/◌, ◌%◌, List, [], ◌∷◌, ◌++◌, Option, Some, None, unwrap_or, max, slice_index, nat_le, ◌&&◌, if◌then◌else◌}
+use Rattle.std.specs.Prelude.{ℕ, ◌+◌, ◌-◌, ◌*◌, ◌/◌, ◌%◌, List, [], ◌∷◌, ◌++◌, Bool, true, ◌&&◌, nat_lt, Option, Some, None, min, bit_and, slice_index}
 use Rattle.hex.specs.Hex.{hex_digit_value, lower_digits}
 
--- the value of a digit, and 255 for anything else
-abbrev pub value : ℕ → ℕ
-value digit = unwrap_or (hex_digit_value digit) 255
-
--- that of a decimal digit alone
+-- the value of a decimal digit, and 16 or more for any other octet
 abbrev pub number_value : ℕ → ℕ
-number_value digit = if nat_le 48 digit && nat_le digit 57 then digit - 48 else 255
+number_value digit = ((digit + 198) % 256 - 6 + 16) % 256
 
--- that of a letter alone
+-- that of a letter of either case
 abbrev pub letter_value : ℕ → ℕ
-letter_value digit = if nat_le 65 digit && nat_le digit 70 then digit - 55 else if nat_le 97 digit && nat_le digit 102 then digit - 87 else 255
+letter_value digit = min ((bit_and digit 223 + 191) % 256) 245 + 10
 
--- the greatest of some values
-abbrev pub greatest : List ℕ → ℕ
-greatest [] = 0
-greatest (v ∷ vs) = max v (greatest vs)
+-- that of a digit of either case
+abbrev pub value : ℕ → ℕ
+value digit = min (number_value digit) (letter_value digit)
 
--- the octets by the values of their digits, as far as they are digits
+-- whether values are those of digits alone
+abbrev pub all_digits : List ℕ → Bool
+all_digits [] = true
+all_digits (v ∷ vs) = nat_lt v 16 && all_digits vs
+
+-- the octets by the values of their digits
 abbrev pub joined : List ℕ → List ℕ
 joined [] = []
 joined (v ∷ []) = []
-joined (v ∷ w ∷ rest) = (v % 16 * 16 + w % 16) ∷ joined rest
+joined (v ∷ w ∷ rest) = ((v * 16) % 256 + w) % 256 ∷ joined rest
 
--- the lower case digit of the low half of an octet
-abbrev pub digit : ℕ → ℕ
-digit x = slice_index lower_digits (x % 16)
+-- the lower case digit of the high half of an octet
+abbrev pub high_digit : ℕ → ℕ
+high_digit x = slice_index lower_digits (x / 16)
 
--- the halves of an octet as the two octets of a word, the high half in the lower one
-abbrev pub halves : ℕ → ℕ
-halves x = x / 16 + x % 16 * 256
+-- that of the low half
+abbrev pub low_digit : ℕ → ℕ
+low_digit x = slice_index lower_digits (x % 16)
 
 abbrev pub with_pair : Option ℕ → Option ℕ → Option (List ℕ) → Option (List ℕ)
 with_pair (Some high) (Some low) (Some octets) = Some ((high * 16 + low) ∷ octets)

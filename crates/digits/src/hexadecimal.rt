@@ -1,62 +1,52 @@
-ghost use Rattle.std.specs.Prelude.{◌≡◌, ◌<◌, ◌+◌, ◌*◌, ◌/◌, ◌%◌, ◌++◌, length, map, take, OnOk};
+ghost use Rattle.std.specs.Prelude.{◌≡◌, ◌<◌, ◌++◌, length, map, take, OnOk};
 ghost use Rattle.hex.specs.Hex.{encode_lower};
-ghost use Rattle.digits.specs.Pairs.{digit, halves};
+ghost use Rattle.digits.specs.Pairs.{high_digit, low_digit};
 
 use l2_bits::{Bytes, NoMemory};
+use std::simd::prelude::*;
 
 /// The octets whose digits are written at a time.
 const BLOCK: usize = 64;
 
-// The lower case digit of the low half of an octet.
+/// The lower case digits, once for each sixteen lanes of a vector.
+const DIGITS: [u8; BLOCK] = *b"0123456789abcdef0123456789abcdef0123456789abcdef0123456789abcdef";
+
+// The digit of the high half of each octet.
 #[inline(always)]
-fn digit(octet: u8) -> u8
-    ensures { result ≡ digit octet }
+fn high_digits(octets: u8x64) -> u8x64
+    ensures { result ≡ map high_digit octets }
 {
-    let nibble = octet % 16;
-    let letters = if nibble < 10 { 0 } else { b'a' - b'0' - 10 };
-    nibble + b'0' + letters
+    u8x64::from_array(DIGITS).swizzle_dyn_within::<16>(octets >> u8x64::splat(4))
 }
 
-// The halves of an octet as two octets, the high half first.
+// The digit of the low half of each octet.
 #[inline(always)]
-fn halves(octet: u8) -> u16
-    ensures { result ≡ halves octet }
+fn low_digits(octets: u8x64) -> u8x64
+    ensures { result ≡ map low_digit octets }
 {
-    let wide = u16::from(octet);
-    wide / 16 + wide % 16 * 256
+    u8x64::from_array(DIGITS).swizzle_dyn_within::<16>(octets & u8x64::splat(15))
 }
 
-// The halves of the octets of a block. They lie in words, since the compiler does this loop by vectors and takes the words
-// apart for nothing.
+// The lanes of two vectors.
 #[inline(always)]
-fn all_halves(block: &[u8]) -> [u16; BLOCK]
-    requires { length block.now ≡ BLOCK }
-    ensures { result ≡ map halves block.now }
+fn lanes(first: u8x64, second: u8x64) -> [u8; 2 * BLOCK]
+    ensures { result ≡ first ++ second }
 {
-    let mut words = [0u16; BLOCK];
-    for i in 0..BLOCK {
-        words[i] = halves(block[i]);
-    }
-    words
+    let mut lanes = [0u8; 2 * BLOCK];
+    first.copy_to_slice(&mut lanes[..BLOCK]);
+    second.copy_to_slice(&mut lanes[BLOCK..]);
+    lanes
 }
 
-// The digits of a block: first the halves of its octets, then the digits of all of them, so that each loop is done by
-// vectors.
+// The digits of a block: those of the high halves and of the low halves, by turns.
 #[inline(always)]
 fn block_digits(block: &[u8]) -> [u8; 2 * BLOCK]
     requires { length block.now ≡ BLOCK }
     ensures { result ≡ encode_lower block.now }
 {
-    let words = all_halves(block);
-    let mut digits = [0u8; 2 * BLOCK];
-    for i in 0..BLOCK {
-        digits[2 * i] = (words[i] % 256) as u8;
-        digits[2 * i + 1] = (words[i] / 256) as u8;
-    }
-    for k in 0..2 * BLOCK {
-        digits[k] = digit(digits[k]);
-    }
-    digits
+    let octets = u8x64::from_slice(block);
+    let (first, second) = high_digits(octets).interleave(low_digits(octets));
+    lanes(first, second)
 }
 
 // A block that begins with fewer octets.

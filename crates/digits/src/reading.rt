@@ -1,93 +1,85 @@
-ghost use Rattle.std.specs.Prelude.{◌≡◌, ◌≤◌, ◌<◌, ◌++◌, ◌%◌, length, OnOk, IfOk, true, false, Some, None, MatchOption, MatchResult, map};
+ghost use Rattle.std.specs.Prelude.{◌≡◌, ◌<◌, ◌-◌, ◌++◌, length, replicate, OnOk, IfOk, true, false, Some, None, MatchOption, MatchResult, map};
 ghost use Rattle.hex.specs.Hex.{decode_of};
-ghost use Rattle.digits.specs.Pairs.{number_value, letter_value, value, greatest, joined, pairs};
+ghost use Rattle.digits.specs.Pairs.{number_value, letter_value, value, all_digits, joined, pairs};
 
 use l2_bits::{Bytes, NoMemory};
+use std::simd::prelude::*;
 
 /// The digits that are read at a time.
 const BLOCK: usize = 64;
 
-// The value of a decimal digit, and 255 for anything else.
+/// The lanes of a vector: a block is two vectors of digits, and one of octets.
+const LANES: usize = BLOCK / 2;
+
+// The value of each decimal digit, and 16 or more for anything else: behind the digits are 246 places, and 6 are left out.
 #[inline(always)]
-fn from_number(digit: u8) -> u8
-    ensures { result ≡ number_value digit }
+fn number_values(digits: u8x32) -> u8x32
+    ensures { result ≡ map number_value digits }
 {
-    match digit {
-        b'0'..=b'9' => digit - b'0',
-        _ => 255,
-    }
+    (digits - u8x32::splat(b'9' + 1)).saturating_sub(u8x32::splat(6)) - u8x32::splat(240)
 }
 
-// The value of a letter of either case, and 255 for anything else: the cases differ in one bit.
+// The value of each letter of either case, and 16 or more for anything else: the cases differ in one bit.
 #[inline(always)]
-fn from_letter(digit: u8) -> u8
-    ensures { result ≡ letter_value digit }
+fn letter_values(digits: u8x32) -> u8x32
+    ensures { result ≡ map letter_value digits }
 {
-    let lower = digit | 32;
-    match lower {
-        b'a'..=b'f' => lower - (b'a' - 10),
-        _ => 255,
-    }
+    let upper = digits & u8x32::splat(255 - 32);
+    (upper - u8x32::splat(b'A')).simd_min(u8x32::splat(245)) + u8x32::splat(10)
 }
 
-// The value of a digit of either case, and 255 for anything else.
+// The value of each digit of either case, and 16 or more for anything else.
 #[inline(always)]
-fn value(digit: u8) -> u8
-    ensures exact { result ≡ value digit }
-    ensures fits { result < 256 }
+fn values(digits: u8x32) -> u8x32
+    ensures { result ≡ map value digits }
 {
-    from_number(digit).min(from_letter(digit))
-}
-
-// The values of a block of digits.
-#[inline(always)]
-fn values(digits: &[u8]) -> [u8; BLOCK]
-    requires { length digits.now ≡ BLOCK }
-    ensures { result ≡ map value digits.now }
-{
-    let mut values = [0u8; BLOCK];
-    values.copy_from_slice(digits);
-    for k in 0..BLOCK {
-        values[k] = value(values[k]);
-    }
-    values
+    number_values(digits).simd_min(letter_values(digits))
 }
 
 #[inline(always)]
-fn greatest(values: &[u8; BLOCK]) -> u8
-    ensures { result ≡ greatest values.now }
+fn are_digits(first: u8x32, second: u8x32) -> bool
+    ensures { result ≡ all_digits (first ++ second) }
 {
-    let mut so_far = 0u8;
-    for k in 0..BLOCK {
-        so_far = so_far.max(values[k]);
-    }
-    so_far
+    first
+        .simd_max(second)
+        .simd_ge(u8x32::splat(16))
+        .to_bitmask()
+        == 0
 }
 
 // The octets by the values of their digits.
 #[inline(always)]
-fn joined(values: &[u8; BLOCK]) -> [u8; BLOCK / 2]
-    ensures { result ≡ joined values.now }
+fn joined(first: u8x32, second: u8x32) -> u8x32
+    ensures { result ≡ joined (first ++ second) }
 {
-    let mut octets = [0u8; BLOCK / 2];
-    for i in 0..BLOCK / 2 {
-        octets[i] = values[2 * i] % 16 * 16 + values[2 * i + 1] % 16;
-    }
-    octets
+    let (high, low) = first.deinterleave(second);
+    (high << u8x32::splat(4)) + low
 }
 
 // The octets that a block of digits says, or none where it isn't digits alone.
 #[inline(always)]
-fn read_block(digits: &[u8]) -> Option<[u8; BLOCK / 2]>
+fn read_block(digits: &[u8]) -> Option<[u8; LANES]>
     requires { length digits.now ≡ BLOCK }
     ensures { MatchOption result (pairs digits.now ≡ None) (λ octets. pairs digits.now ≡ Some octets) }
 {
-    let values = values(digits);
-    if greatest(&values) < 16 {
-        Some(joined(&values))
+    let first = values(u8x32::from_slice(digits));
+    let second = values(u8x32::from_slice(&digits[LANES..]));
+    if are_digits(first, second) {
+        Some(joined(first, second).to_array())
     } else {
         None
     }
+}
+
+// A block that begins with fewer digits, and goes on with zeros.
+#[inline(always)]
+fn filled(few: &[u8]) -> [u8; BLOCK]
+    requires { length few.now < BLOCK }
+    ensures { result ≡ few.now ++ replicate (BLOCK - length few.now) 48 }
+{
+    let mut block = [b'0'; BLOCK];
+    block[..few.len()].copy_from_slice(few);
+    block
 }
 
 // Adds the octets that fewer digits than a block say; `false` where they aren't pairs of digits alone.
@@ -95,15 +87,14 @@ fn append_few(octets: &mut Bytes, digits: &[u8]) -> Result<bool, NoMemory>
     requires { length digits.now < BLOCK }
     ensures { IfOk result (λ good. MatchOption (pairs digits.now) (good ≡ false) (λ few. (good ≡ true) × (octets.new ≡ octets.old ++ few))) }
 {
-    let mut few = [0u8; BLOCK / 2];
-    let part = &mut few[..digits.len() / 2];
-    match hex::decode_to_slice(digits, part) {
-        Ok(()) => {
-            octets.append(part)?;
-            Ok(true)
-        }
-        Err(_) => Ok(false),
+    if digits.len() % 2 != 0 {
+        return Ok(false);
     }
+    let Some(read) = read_block(&filled(digits)) else {
+        return Ok(false);
+    };
+    octets.append(&read[..digits.len() / 2])?;
+    Ok(true)
 }
 
 /// Reads hexadecimal digits of either case, two for each octet, into a list in place of what it holds.

@@ -1,8 +1,13 @@
-use Rattle.digits.proofs.PairLaws.{block-good, block-bad}
+use Rattle.std.proofs.Common.{arith}
+use Rattle.digits.proofs.PairLaws.{block-values, block-good, block-bad}
 use Rattle.digits.proofs.reading.read_block.Goals as goal
 
-pub returns-then-greatest-lt16 : goal.returns-then-greatest-lt16
-returns-then-greatest-lt16 c = block-good c.args.digits.now _ _ _ c.requires c.values-values.ensures c.greatest.ensures c.if-greatest-lt16.true c.joined.ensures
+pub returns-then-are_digits : goal.returns-then-are_digits
+returns-then-are_digits c =
+    let values = block-values 32 c.args.digits.now _ _ c.requires c.values-first.ensures c.values-second.ensures in
+    block-good c.args.digits.now _ _ _ c.type_inv.digits (omega (arith, c.requires)) values c.are_digits.ensures c.if-are_digits.true c.joined.ensures
 
-pub returns-else-greatest-lt16 : goal.returns-else-greatest-lt16
-returns-else-greatest-lt16 c = block-bad c.args.digits.now _ _ c.requires c.values-values.ensures c.greatest.ensures c.if-greatest-lt16.false
+pub returns-else-are_digits : goal.returns-else-are_digits
+returns-else-are_digits c =
+    let values = block-values 32 c.args.digits.now _ _ c.requires c.values-first.ensures c.values-second.ensures in
+    block-bad c.args.digits.now _ _ c.type_inv.digits (omega (arith, c.requires)) values c.are_digits.ensures c.if-are_digits.false
