@@ -168,11 +168,24 @@ fn gather_octet(text: &mut Bytes, gathered: &mut Gathered, octet: u8) -> Result<
     Ok(())
 }
 
-// Gathers a number, where there is room for it; `false` where nothing was done.
+// Gathers a number of one digit, where there is room for it; `false` where nothing was done.
+#[inline(always)]
+#[tactic(auto, using(std::proofs::lemmas::Fmt::decimal_digit))]
+fn gather_digit(gathered: &mut Gathered, number: u64) -> bool
+    requires { number < 10 }
+    ensures { gathered.new.items ≡ (if result then gathered.old.items ++ decimal number else gathered.old.items) }
+{
+    gathered.try_push(b'0' + number as u8).is_ok()
+}
+
+// Gathers a number, where there is room for it; `false` where nothing was done. Most are of one digit.
 #[inline(never)]
 fn gather_number(gathered: &mut Gathered, number: u64) -> bool
     ensures { gathered.new.items ≡ (if result then gathered.old.items ++ decimal number else gathered.old.items) }
 {
+    if number < 10 {
+        return gather_digit(gathered, number);
+    }
     let mut buffer = Buffer::new();
     let digits = buffer.format(number);
     gathered.try_extend_from_slice(digits.as_bytes()).is_ok()

@@ -84,9 +84,6 @@ goes-on m journal l0 l1 l2 w0 w1 w2 run run' n n' kept kept' a b = record {
       ∙ ap (λ j. let p : Played = record { journal = j; close = (journal_from m whole b.state n' (kept' ++ more)).close } in p) (sym (append_assoc a.part b.part _));
 }
 
-nothing-more : (a b : List ℕ) → a ++ b ≡ a ++ (b ++ [])
-nothing-more a b = ap (λ t. a ++ t) (sym (append-nil b))
-
 -- what a journal has after a part, where no more octets come
 then-all : {S : Type 0} (m : Player S) (journal : Bool → List ℕ → Played) (l0 l1 w0 w1 : Option (List ℕ)) (run : Option S) (n : ℕ) (kept : List ℕ) (a : GoesOn m journal l0 l1 w0 w1 run n kept) (whole : Bool) (given : List ℕ)
     → journal whole (a.given ++ given) ≡ onto a.part (onwards m (state_of m run) n kept whole given)
