@@ -1,8 +1,8 @@
 -- Octets by pairs of digits: as far as they are digits, and where they aren't.
-use Rattle.std.proofs.Common.{◌≡◌, ◌<◌, ◌+◌, ◌*◌, ◌%◌, ◌∙◌, ℕ, zero, suc, List, [], ◌∷◌, ◌++◌, length, take, drop, get_or, drop-cons, Option, Some, None, map, refl, sym, ap, arith, Bool, true, false, cond, ltb, ◌&&◌, w8, Fits}
+use Rattle.std.proofs.Common.{◌≡◌, ◌<◌, ◌+◌, ◌*◌, ◌/◌, ◌%◌, ◌∙◌, ℕ, zero, suc, List, [], ◌∷◌, length, get_or, Option, Some, None, map, refl, sym, ap, arith, Bool, true, false, cond, ltb, ◌&&◌, w8, Fits}
 use Rattle.std.specs.Prelude.{unwrap_or, nat_lt}
 use Rattle.std.proofs.lemmas.Bool.Decides.{nat_tests}
-use Rattle.std.proofs.lemmas.List.{take_all, drop_all, take-append-drop, length-drop, map-append}
+use lib.Lanes.{Each1, number_l}
 use Rattle.hex.specs.Hex.{hex_digit_value}
 use Rattle.digits.specs.Pairs.{value, all_digits, joined, with_pair, pairs}
 use Rattle.digits.proofs.Values.{value_is}
@@ -31,7 +31,7 @@ and-second : (a b : Bool) → (a && b) ≡ true → b ≡ true
 and-second true b is = is
 and-second false b is = cc
 
-joined-small : (v w : ℕ) → nat_lt v 16 ≡ true → nat_lt w 16 ≡ true → (v * 16 % 256 + w) % 256 ≡ v * 16 + w
+joined-small : (v w : ℕ) → nat_lt v 16 ≡ true → nat_lt w 16 ≡ true → (v * 16 + w) % 256 ≡ v * 16 + w
 joined-small v w high low = grind (arith, nat_tests, high, low)
 
 -- digits alone say the octets of their values
@@ -70,35 +70,30 @@ pairs-bad (x ∷ y ∷ rest) octets even some = by (nat_lt (value x) 16) (nat_lt
 
 -- ---- lane by lane
 
--- the values from an even place on
-from-pair : (xs : List ℕ) (i : ℕ) → 2 * i + 1 < length xs
-    → drop (2 * i) xs ≡ get_or xs (2 * i) 0 ∷ get_or xs (2 * i + 1) 0 ∷ drop (2 * (i + 1)) xs
-from-pair xs i inside =
-    let next : suc (2 * i) ≡ 2 * i + 1 = omega arith in
-    let last : suc (2 * i + 1) ≡ 2 * (i + 1) = omega arith in
-    drop-cons xs (2 * i) 0 (omega (arith, inside)) ∙ ap (λ (n : ℕ). get_or xs (2 * i) 0 ∷ drop n xs) next
-    ∙ ap (λ (rest : List ℕ). get_or xs (2 * i) 0 ∷ rest) (drop-cons xs (2 * i + 1) 0 inside ∙ ap (λ (n : ℕ). get_or xs (2 * i + 1) 0 ∷ drop n xs) last)
+-- the words of pairs of octets, the first octet the low one
+word-joined : (v w : ℕ) → v < 256 → w < 256 → (v + 256 * w) * 4097 % 65536 / 256 ≡ (v * 16 + w) % 256
+word-joined v w first second = omega (arith, first, second)
 
--- the octets of k pairs of values from pair i on
-abbrev pub pairs_from : List ℕ → ℕ → ℕ → List ℕ
-pairs_from vs i zero = []
-pairs_from vs i (suc k) = (get_or vs (2 * i) 0 * 16 % 256 + get_or vs (2 * i + 1) 0) % 256 ∷ pairs_from vs (suc i) k
+first-word : (v w rest : ℕ) → v < 256 → w < 256 → (v + 256 * (w + 256 * rest)) % 65536 ≡ v + 256 * w
+first-word v w rest first second = omega (arith, first, second)
 
-joined-from : (vs : List ℕ) (i k : ℕ) → length vs ≡ 2 * (i + k) → joined (drop (2 * i) vs) ≡ pairs_from vs i k
-joined-from vs i zero long = ap joined (drop_all (2 * i) vs (omega (arith, long)))
-joined-from vs i (suc k) long =
-    let v : ℕ = (get_or vs (2 * i) 0 * 16 % 256 + get_or vs (2 * i + 1) 0) % 256 in
-    let next : i + 1 ≡ suc i = omega arith in
-    ap joined (from-pair vs i (omega (arith, long))) ∙ ap (λ (m : ℕ). v ∷ joined (drop (2 * m) vs)) next ∙ ap (λ (rest : List ℕ). v ∷ rest) (joined-from vs (suc i) k (omega (arith, long)))
+other-words : (v w rest : ℕ) → v < 256 → w < 256 → (v + 256 * (w + 256 * rest)) / 65536 ≡ rest
+other-words v w rest first second = omega (arith, first, second)
 
-pub joined-all : (k : ℕ) (vs : List ℕ) → length vs ≡ 2 * k → pairs_from vs 0 k ≡ joined vs
-joined-all k vs long = sym (joined-from vs 0 k (omega (arith, long)))
+-- the high octets of n words of a number by 4097
+abbrev pub products : ℕ → ℕ → List ℕ
+products zero m = []
+products (suc n) m = m % 65536 * 4097 % 65536 / 256 ∷ products n (m / 65536)
 
--- a block by its halves
-pub block-values : (n : ℕ) (xs first second : List ℕ) → length xs ≡ 2 * n → first ≡ map value (take n xs) → second ≡ map value (take n (drop n xs)) → first ++ second ≡ map value xs
-block-values n xs first second long one two =
-    let rest : take n (drop n xs) ≡ drop n xs = take_all n (drop n xs) (omega (arith, length-drop n xs, long)) in
-    rw (one, two, rest) (sym (map-append value (take n xs) (drop n xs)) ∙ ap (map value) (take-append-drop n xs))
+pub joined-lanes : (n : ℕ) (vs : List ℕ) → length vs ≡ 2 * n → Each1 (Fits w8) vs → products n (number_l 256 vs) ≡ joined vs
+joined-lanes zero [] long fits = refl
+joined-lanes zero (v ∷ vs) long fits = absurd (omega (arith, long))
+joined-lanes (suc n) [] long fits = absurd (omega (arith, long))
+joined-lanes (suc n) (v ∷ []) long fits = absurd (omega (arith, long))
+joined-lanes (suc n) (v ∷ w ∷ vs) long fits =
+    let high = fits.0.fits in
+    let low = fits.1.0.fits in
+    rw (first-word v w (number_l 256 vs) high low, other-words v w (number_l 256 vs) high low, word-joined v w high low, joined-lanes n vs (omega (arith, long)) fits.1.1) refl
 
 pub block-good : (xs vs octets : List ℕ) (good : Bool) → AreOctets xs → length xs % 2 ≡ 0 → vs ≡ map value xs → good ≡ all_digits vs → good ≡ true → octets ≡ joined vs → pairs xs ≡ Some octets
 block-good xs vs octets good bytes even values all is read = pairs-good xs bytes even (sym (all ∙ ap all_digits values) ∙ is) ∙ ap Some (sym (read ∙ ap joined values))

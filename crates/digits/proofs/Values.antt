@@ -1,8 +1,9 @@
 -- The values of digits, lane by lane.
-use Rattle.std.proofs.Common.{◌≡◌, ◌<◌, ◌+◌, ◌-◌, ◌*◌, ◌%◌, ◌^◌, ℕ, zero, suc, Bool, true, false, not, cond, ltb, leb, List, [], ◌∷◌, ◌++◌, length, map, replicate, bit_and, refl, sym, ap, ◌∙◌, arith, w8, Fits, ◌&&◌}
+use Rattle.std.proofs.Common.{◌≡◌, ◌<◌, ◌+◌, ◌-◌, ◌*◌, ◌%◌, ◌^◌, ℕ, zero, suc, Bool, true, false, not, cond, ltb, leb, List, [], ◌∷◌, length, map, replicate, bit_and, refl, sym, ap, ◌∙◌, arith, w8, Fits, ◌&&◌}
 use Rattle.std.specs.Prelude.{nat_eq, nat_lt, unwrap_or}
-use Rattle.std.proofs.lemmas.Simd.{mask_l-mod}
+use Rattle.std.proofs.lemmas.Simd.{length-zip2, length-replicate, mask_l-mod}
 use Rattle.std.proofs.lemmas.Bool.Decides.{nat_tests}
+use Rattle.std.proofs.lemmas.List.{length-map}
 use lib.Lanes.{zip2, sel_l, mask_l, top, Each1}
 use Rattle.hex.specs.Hex.{hex_digit_value}
 use Rattle.digits.specs.Pairs.{number_value, letter_value, value, all_digits}
@@ -58,44 +59,25 @@ value_is = agree (λ x. unwrap_or (hex_digit_value x) 255) (λ x. cond (ltb (val
 
 -- ---- whether all are digits
 
-large-is : (x y : ℕ) → top 7 (at_most 16 (cond (top 7 (below x y)) y x)) ≡ not (nat_lt x 16 && nat_lt y 16)
-large-is x y = grind (arith, nat_tests)
+large-is : (x : ℕ) → top 7 (at_most 16 x) ≡ not (nat_lt x 16)
+large-is x = grind (arith, nat_tests)
 
-twice : (m : ℕ) → nat_eq (2 * m) 0 ≡ nat_eq m 0
-twice m = grind (arith, nat_tests)
-
-step : (a b as_far bs_far : Bool) (m : ℕ) → nat_eq m 0 ≡ (as_far && bs_far) → nat_eq (cond (not (a && b)) 1 0 + 2 * m) 0 ≡ ((a && as_far) && (b && bs_far))
-step false b as_far bs_far m is = grind (arith, nat_tests)
-step true false true bs_far m is = grind (arith, nat_tests)
-step true false false bs_far m is = grind (arith, nat_tests)
-step true true as_far bs_far m is = let same : 0 + 2 * m ≡ 2 * m = omega arith in ap (λ (k : ℕ). nat_eq k 0) same ∙ twice m ∙ is
-
-none-large : (n : ℕ) (xs ys : List ℕ) → length xs ≡ n → length ys ≡ n
-    → nat_eq (mask_l (map (top 7) (zip2 at_most (replicate n 16) (sel_l (map (top 7) (zip2 below xs ys)) ys xs)))) 0 ≡ (all_digits xs && all_digits ys)
-none-large zero [] [] long same = refl
-none-large zero (x ∷ xs) ys long same = absurd (omega (arith, long))
-none-large zero [] (y ∷ ys) long same = absurd (omega (arith, same))
-none-large (suc n) [] ys long same = absurd (omega (arith, long))
-none-large (suc n) (x ∷ xs) [] long same = absurd (omega (arith, same))
-none-large (suc n) (x ∷ xs) (y ∷ ys) long same =
-    rw (large-is x y) (step (nat_lt x 16) (nat_lt y 16) (all_digits xs) (all_digits ys) _ (none-large n xs ys (omega (arith, long)) (omega (arith, same))))
-
-all-append : (xs ys : List ℕ) → all_digits (xs ++ ys) ≡ (all_digits xs && all_digits ys)
-all-append [] ys = refl
-all-append (x ∷ xs) ys = ap (λ (b : Bool). nat_lt x 16 && b) (all-append xs ys) ∙ regroup (nat_lt x 16) (all_digits xs) (all_digits ys)
+step : (a : Bool) (all : Bool) (m : ℕ) → nat_eq m 0 ≡ all → nat_eq (cond (not a) 1 0 + 2 * m) 0 ≡ (a && all)
+step false all m is = grind (arith, nat_tests)
+step true all m is =
+    let same : 0 + 2 * m ≡ 2 * m = omega arith in
+    ap (λ (k : ℕ). nat_eq k 0) same ∙ twice m ∙ is
   where
-    regroup : (a b c : Bool) → (a && (b && c)) ≡ ((a && b) && c)
-    regroup true b c = refl
-    regroup false b c = refl
+    twice : (m : ℕ) → nat_eq (2 * m) 0 ≡ nat_eq m 0
+    twice m = grind (arith, nat_tests)
 
-length-mask : (n : ℕ) (xs ys : List ℕ) → length xs ≡ n → length ys ≡ n
-    → length (map (top 7) (zip2 at_most (replicate n 16) (sel_l (map (top 7) (zip2 below xs ys)) ys xs))) ≡ n
-length-mask zero xs ys long same = refl
-length-mask (suc n) [] ys long same = absurd (omega (arith, long))
-length-mask (suc n) (x ∷ xs) [] long same = absurd (omega (arith, same))
-length-mask (suc n) (x ∷ xs) (y ∷ ys) long same = ap suc (length-mask n xs ys (omega (arith, long)) (omega (arith, same)))
+none-large : (n : ℕ) (v : List ℕ) → length v ≡ n → nat_eq (mask_l (map (top 7) (zip2 at_most (replicate n 16) v))) 0 ≡ all_digits v
+none-large zero [] long = refl
+none-large zero (x ∷ v) long = absurd (omega (arith, long))
+none-large (suc n) [] long = absurd (omega (arith, long))
+none-large (suc n) (x ∷ v) long = rw (large-is x) (step (nat_lt x 16) (all_digits v) _ (none-large n v (omega (arith, long))))
 
-pub are-digits : (n : ℕ) (xs ys : List ℕ) → length xs ≡ n → length ys ≡ n → n < 65
-    → nat_eq (mask_l (map (top 7) (zip2 at_most (replicate n 16) (sel_l (map (top 7) (zip2 below xs ys)) ys xs))) % 2 ^ 64) 0 ≡ all_digits (xs ++ ys)
-are-digits n xs ys long same fits =
-    ap (λ m. nat_eq m 0) (mask_l-mod _ 64 (omega (arith, length-mask n xs ys long same, fits))) ∙ none-large n xs ys long same ∙ sym (all-append xs ys)
+pub are-digits : (n : ℕ) (v : List ℕ) → length v ≡ n → n < 65 → nat_eq (mask_l (map (top 7) (zip2 at_most (replicate n 16) v)) % 2 ^ 64) 0 ≡ all_digits v
+are-digits n v long fits =
+    let long_mask : length (map (top 7) (zip2 at_most (replicate n 16) v)) ≡ n = length-map (zip2 at_most (replicate n 16) v) (top 7) ∙ length-zip2 at_most (replicate n 16) v (length-replicate {A = ℕ} n 16 ∙ sym long) ∙ length-replicate {A = ℕ} n 16 in
+    ap (λ m. nat_eq m 0) (mask_l-mod _ 64 (omega (arith, long_mask, fits))) ∙ none-large n v long

@@ -23,7 +23,7 @@ all_digits (v ∷ vs) = nat_lt v 16 && all_digits vs
 abbrev pub joined : List ℕ → List ℕ
 joined [] = []
 joined (v ∷ []) = []
-joined (v ∷ w ∷ rest) = ((v * 16) % 256 + w) % 256 ∷ joined rest
+joined (v ∷ w ∷ rest) = ((v * 16 + w) % 256) ∷ joined rest
 
 -- the lower case digit of the high half of an octet
 abbrev pub high_digit : ℕ → ℕ

@@ -8,64 +8,57 @@ use std::simd::prelude::*;
 /// The digits that are read at a time.
 const BLOCK: usize = 64;
 
-/// The lanes of a vector: a block is two vectors of digits, and one of octets.
-const LANES: usize = BLOCK / 2;
-
 // The value of each decimal digit, and 16 or more for anything else: behind the digits are 246 places, and 6 are left out.
 #[inline(always)]
-fn number_values(digits: u8x32) -> u8x32
+fn number_values(digits: u8x64) -> u8x64
     ensures { result ≡ map number_value digits }
 {
-    (digits - u8x32::splat(b'9' + 1)).saturating_sub(u8x32::splat(6)) - u8x32::splat(240)
+    (digits - u8x64::splat(b'9' + 1)).saturating_sub(u8x64::splat(6)) - u8x64::splat(240)
 }
 
 // The value of each letter of either case, and 16 or more for anything else: the cases differ in one bit.
 #[inline(always)]
-fn letter_values(digits: u8x32) -> u8x32
+fn letter_values(digits: u8x64) -> u8x64
     ensures { result ≡ map letter_value digits }
 {
-    let upper = digits & u8x32::splat(255 - 32);
-    (upper - u8x32::splat(b'A')).simd_min(u8x32::splat(245)) + u8x32::splat(10)
+    let upper = digits & u8x64::splat(255 - 32);
+    (upper - u8x64::splat(b'A')).simd_min(u8x64::splat(245)) + u8x64::splat(10)
 }
 
 // The value of each digit of either case, and 16 or more for anything else.
 #[inline(always)]
-fn values(digits: u8x32) -> u8x32
+fn values(digits: u8x64) -> u8x64
     ensures { result ≡ map value digits }
 {
     number_values(digits).simd_min(letter_values(digits))
 }
 
 #[inline(always)]
-fn are_digits(first: u8x32, second: u8x32) -> bool
-    ensures { result ≡ all_digits (first ++ second) }
+fn are_digits(values: u8x64) -> bool
+    ensures { result ≡ all_digits values }
 {
-    first
-        .simd_max(second)
-        .simd_ge(u8x32::splat(16))
-        .to_bitmask()
-        == 0
+    values.simd_ge(u8x64::splat(16)).to_bitmask() == 0
 }
 
-// The octets by the values of their digits.
+// The octets by the values of their digits. The first of two digits is the low octet of a word, so that 4096 times it and
+// the other are the high one.
 #[inline(always)]
-fn joined(first: u8x32, second: u8x32) -> u8x32
-    ensures { result ≡ joined (first ++ second) }
+fn joined(values: u8x64) -> u8x32
+    ensures { result ≡ joined values }
 {
-    let (high, low) = first.deinterleave(second);
-    (high << u8x32::splat(4)) + low
+    let words = u16x32::from_le_bytes(values);
+    ((words * u16x32::splat(4096 + 1)) >> u16x32::splat(8)).cast::<u8>()
 }
 
 // The octets that a block of digits says, or none where it isn't digits alone.
 #[inline(always)]
-fn read_block(digits: &[u8]) -> Option<[u8; LANES]>
+fn read_block(digits: &[u8]) -> Option<[u8; BLOCK / 2]>
     requires { length digits.now ≡ BLOCK }
     ensures { MatchOption result (pairs digits.now ≡ None) (λ octets. pairs digits.now ≡ Some octets) }
 {
-    let first = values(u8x32::from_slice(digits));
-    let second = values(u8x32::from_slice(&digits[LANES..]));
-    if are_digits(first, second) {
-        Some(joined(first, second).to_array())
+    let values = values(u8x64::from_slice(digits));
+    if are_digits(values) {
+        Some(joined(values).to_array())
     } else {
         None
     }

@@ -2,4 +2,4 @@ use Rattle.digits.proofs.Values.{numbers}
 use Rattle.digits.proofs.reading.number_values.Goals as goal
 
 pub returns : goal.returns
-returns c = numbers 32 c.args.digits c.fits-digits.0 c.fits-digits.1
+returns c = numbers 64 c.args.digits c.fits-digits.0 c.fits-digits.1
