@@ -8,6 +8,9 @@ use std::simd::prelude::*;
 /// The octets whose digits are written at a time.
 const BLOCK: usize = 64;
 
+/// Those of what is left behind the last block.
+const PIECE: usize = 16;
+
 /// The lower case digits, once for each sixteen lanes of a vector.
 const DIGITS: [u8; BLOCK] = *b"0123456789abcdef0123456789abcdef0123456789abcdef0123456789abcdef";
 
@@ -49,23 +52,42 @@ fn block_digits(block: &[u8]) -> [u8; 2 * BLOCK]
     lanes(first, second)
 }
 
-// A block that begins with fewer octets.
+/// The places of two vectors by turns.
+const TURNS: [usize; 2 * PIECE] = [
+    0, 16, 1, 17, 2, 18, 3, 19, 4, 20, 5, 21, 6, 22, 7, 23, 8, 24, 9, 25, 10, 26, 11, 27, 12, 28,
+    13, 29, 14, 30, 15, 31,
+];
+
+// The digits of a piece, as those of a block.
 #[inline(always)]
-fn filled(few: &[u8]) -> [u8; BLOCK]
-    requires { length few.now < BLOCK }
-    ensures { take (length few.now) result ≡ few.now }
+fn piece_digits(piece: &[u8]) -> [u8; 2 * PIECE]
+    requires { length piece.now ≡ PIECE }
+    ensures { result ≡ encode_lower piece.now }
 {
-    let mut block = [0u8; BLOCK];
-    block[..few.len()].copy_from_slice(few);
-    block
+    let octets = u8x16::from_slice(piece);
+    let digits = u8x16::from_slice(&DIGITS);
+    let high = digits.swizzle_dyn(octets >> u8x16::splat(4));
+    let low = digits.swizzle_dyn(octets & u8x16::splat(15));
+    high.shuffle::<32>(low, TURNS).to_array()
 }
 
-// Adds the digits of fewer octets than a block.
+// A piece that begins with fewer octets.
+#[inline(always)]
+fn filled(few: &[u8]) -> [u8; PIECE]
+    requires { length few.now < PIECE }
+    ensures { take (length few.now) result ≡ few.now }
+{
+    let mut piece = [0u8; PIECE];
+    piece[..few.len()].copy_from_slice(few);
+    piece
+}
+
+// Adds the digits of fewer octets than a piece.
 fn append_few(text: &mut Bytes, few: &[u8]) -> Result<(), NoMemory>
-    requires { length few.now < BLOCK }
+    requires { length few.now < PIECE }
     ensures { OnOk result (text.new ≡ text.old ++ encode_lower few.now) }
 {
-    let digits = block_digits(&filled(few));
+    let digits = piece_digits(&filled(few));
     text.append(&digits[..2 * few.len()])
 }
 
@@ -77,6 +99,11 @@ pub fn append_hex(text: &mut Bytes, octets: &[u8]) -> Result<(), NoMemory>
     while rest.len() >= BLOCK {
         let (block, behind) = rest.split_at(BLOCK);
         text.append(&block_digits(block))?;
+        rest = behind;
+    }
+    while rest.len() >= PIECE {
+        let (piece, behind) = rest.split_at(PIECE);
+        text.append(&piece_digits(piece))?;
         rest = behind;
     }
     append_few(text, rest)

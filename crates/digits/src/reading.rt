@@ -8,7 +8,8 @@ use std::simd::prelude::*;
 /// The digits that are read at a time.
 const BLOCK: usize = 64;
 
-// The value of each decimal digit, and 16 or more for anything else: behind the digits are 246 places, and 6 are left out.
+// The value of each decimal digit, and 16 or more for anything else: less the octet behind `9` the digits are 246 to 255 and
+// all else is below, so that 6 less and 240 less they are 0 to 9, and all else is 16 to 255.
 #[inline(always)]
 fn number_values(digits: u8x64) -> u8x64
     ensures { result ≡ map number_value digits }
@@ -16,7 +17,8 @@ fn number_values(digits: u8x64) -> u8x64
     (digits - u8x64::splat(b'9' + 1)).saturating_sub(u8x64::splat(6)) - u8x64::splat(240)
 }
 
-// The value of each letter of either case, and 16 or more for anything else: the cases differ in one bit.
+// The value of each letter, and 16 or more for anything else: the cases differ in one bit, and less `A` the letters are 0
+// to 5, so that with 10 more they are 10 to 15, and all else is 16 to 255.
 #[inline(always)]
 fn letter_values(digits: u8x64) -> u8x64
     ensures { result ≡ map letter_value digits }
@@ -40,8 +42,8 @@ fn are_digits(values: u8x64) -> bool
     values.simd_ge(u8x64::splat(16)).to_bitmask() == 0
 }
 
-// The octets by the values of their digits. The first of two digits is the low octet of a word, so that 4096 times it and
-// the other are the high one.
+// The octets by the values of their digits. Of two digits the first is the low octet of a word, and 4096 times the word and
+// the word itself have the octet that the two say as their high one.
 #[inline(always)]
 fn joined(values: u8x64) -> u8x32
     ensures { result ≡ joined values }
