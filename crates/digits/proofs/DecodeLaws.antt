@@ -75,7 +75,8 @@ says-decoded xs = elim (length xs % 2 == 1) as (λ (b : Bool). (length xs % 2 ==
 
 -- ---- digits with zeros behind
 
-length-with : (p q : Option ℕ) (r : Option (List ℕ)) (octets : List ℕ) (n : ℕ) → ((rest : List ℕ) → r ≡ Some rest → length rest ≡ n) → with_pair p q r ≡ Some octets → length octets ≡ suc n
+length-with : (p q : Option ℕ) (r : Option (List ℕ)) (octets : List ℕ) (n : ℕ) → ((rest : List ℕ) → r ≡ Some rest → length rest ≡ n)
+    → with_pair p q r ≡ Some octets → length octets ≡ suc n
 length-with (Some v) (Some w) (Some rest) octets n behind is = let same : (v * 16 + w) ∷ rest ≡ octets = cc in ap length (sym same) ∙ ap suc (behind rest refl)
 length-with (Some v) (Some w) None octets n behind is = cc
 length-with (Some v) None r octets n behind is = cc
@@ -87,7 +88,8 @@ length-pairs (x ∷ []) octets is = cc
 length-pairs (x ∷ y ∷ rest) octets is =
     length-with (hex_digit_value x) (hex_digit_value y) (pairs rest) octets (length rest / 2) (λ read here. length-pairs rest read here) is ∙ (omega arith)
 
-first-read : (a b : Option (List ℕ)) (n : ℕ) (read : List ℕ) → ((octets : List ℕ) → a ≡ Some octets → length octets ≡ n) → both a b ≡ Some read → a ≡ Some (take n read)
+first-read : (a b : Option (List ℕ)) (n : ℕ) (read : List ℕ) → ((octets : List ℕ) → a ≡ Some octets → length octets ≡ n) → both a b ≡ Some read
+    → a ≡ Some (take n read)
 first-read None b n read long is = cc
 first-read (Some octets) None n read long is = cc
 first-read (Some octets) (Some more) n read long is = let same : octets ++ more ≡ read = cc in ap Some (sym (take_at octets more n (long octets refl)) ∙ ap (take n) same)
@@ -101,7 +103,8 @@ none-first None b more some is = refl
 none-first (Some octets) b more some is = let none : onto octets (Some more) ≡ None = rw some at is in cc
 
 -- the answer for fewer digits, by that for a block that goes on with zeros
-pub few-good : (xs block octets read new : List ℕ) (k : ℕ) → length xs % 2 ≡ 0 → block ≡ xs ++ replicate k 48 → pairs block ≡ Some read → new ≡ octets ++ take (length xs / 2) read
+pub few-good : (xs block octets read new : List ℕ) (k : ℕ) → length xs % 2 ≡ 0 → block ≡ xs ++ replicate k 48 → pairs block ≡ Some read
+    → new ≡ octets ++ take (length xs / 2) read
     → MatchOption (pairs xs) (true ≡ false) (λ few. (true ≡ true) × (new ≡ octets ++ few))
 few-good xs block octets read new k even is some added =
     let whole : both (pairs xs) (pairs (replicate k 48)) ≡ Some read = sym (pairs-append xs (replicate k 48) even) ∙ ap pairs (sym is) ∙ some in
@@ -133,7 +136,8 @@ pub bad-text : (xs : List ℕ) (good : Bool) (octets : List ℕ) → pairs xs �
     → MatchResult (decode_of xs) (λ read. (good ≡ true) × (octets ≡ read)) (λ _. good ≡ false)
 bad-text xs good octets none is = not-decoded xs (decode_of xs) good octets (says-decoded xs) none is
 
-is-decoded : (xs : List ℕ) (decoded : Result (List ℕ) FromHexError) (good : Bool) (octets : List ℕ) → Says decoded (pairs xs) → pairs xs ≡ Some octets → good ≡ true
+is-decoded : (xs : List ℕ) (decoded : Result (List ℕ) FromHexError) (good : Bool) (octets : List ℕ) → Says decoded (pairs xs)
+    → pairs xs ≡ Some octets → good ≡ true
     → MatchResult decoded (λ read. (good ≡ true) × (octets ≡ read)) (λ _. good ≡ false)
 is-decoded xs (Ok read) good octets says some is = (is, some-same octets read (sym some ∙ says))
   where
@@ -145,12 +149,14 @@ is-decoded xs (Err e) good octets says some is = cc
 pub block-read : (xs rest block behind octets read : List ℕ) → block ≡ take 64 rest → behind ≡ drop 64 rest → length block ≡ 64 → pairs block ≡ Some read
     → pairs xs ≡ onto octets (pairs rest) → pairs xs ≡ onto (octets ++ read) (pairs behind)
 block-read xs rest block behind octets read front back long some so-far =
-    so-far ∙ ap (onto octets) (pairs-split 64 rest (rw (← front) (omega (arith, long)))) ∙ rw (← front, ← back) (onto-more octets (pairs block) (pairs behind) read some)
+    so-far ∙ ap (onto octets) (pairs-split 64 rest (rw (← front) (omega (arith, long))))
+    ∙ rw (← front, ← back) (onto-more octets (pairs block) (pairs behind) read some)
 
 pub block-none : (xs rest block behind octets : List ℕ) → block ≡ take 64 rest → behind ≡ drop 64 rest → length block ≡ 64 → pairs block ≡ None
     → pairs xs ≡ onto octets (pairs rest) → pairs xs ≡ None
 block-none xs rest block behind octets front back long none so-far =
-    so-far ∙ ap (onto octets) (pairs-split 64 rest (rw (← front) (omega (arith, long)))) ∙ rw (← front, ← back) (onto-none octets (pairs block) (pairs behind) none)
+    so-far ∙ ap (onto octets) (pairs-split 64 rest (rw (← front) (omega (arith, long))))
+    ∙ rw (← front, ← back) (onto-none octets (pairs block) (pairs behind) none)
 
 -- the last digits were read behind the octets of those before
 pub last-read : (xs rest before octets : List ℕ) (good : Bool) → pairs xs ≡ onto before (pairs rest)

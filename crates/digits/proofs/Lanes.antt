@@ -33,7 +33,8 @@ low_ok b n v is long =
     (Each1-zip2 bit_and (λ j. j < 16) v (replicate n 15) (Each2-splat (λ a b. bit_and a b < 16) v n 15 small))
 
 -- a table t that repeats s, read at places g x below 16, where s has h x
-pub looked_up : (b n : ℕ) (t s : List ℕ) (g h : ℕ → ℕ) (v js : List ℕ) → n ≡ b * 16 → length v ≡ n → Each1 (Fits w8) v → js ≡ map g v → ((x : ℕ) → x < 256 → g x < 16)
+pub looked_up : (b n : ℕ) (t s : List ℕ) (g h : ℕ → ℕ) (v js : List ℕ) → n ≡ b * 16 → length v ≡ n → Each1 (Fits w8) v → js ≡ map g v
+    → ((x : ℕ) → x < 256 → g x < 16)
     → ((k : ℕ) → k < n → get_or t k 0 ≡ get_or s (k % 16) 0) → ((x : ℕ) → x < 256 → get_or s (g x) 0 ≡ h x) → swz_l w8 16 t 0 js ≡ map h v
 looked_up b n t s g h v js whole long fits e small repeats has =
     let len : length js ≡ n = ap length e ∙ length-map v g ∙ long in
@@ -46,4 +47,5 @@ looked_up b n t s g h v js whole long fits e small repeats has =
     let below : get_or js i 0 < 16 = omega (arith, is, small x byte) in
     let at : (16 * ((0 + i) / 16) + get_or js i 0) % 16 ≡ g x = omega (arith, is, below) in
     get_or-swz_l_below w8 16 t 0 js i (omega (arith, len, lt)) below
-    ∙ repeats (16 * ((0 + i) / 16) + get_or js i 0) (omega (arith, whole, lt, below)) ∙ ap (λ k. get_or s k 0) at ∙ has x byte ∙ sym (get_or-map h v i 0 0 within))
+    ∙ repeats (16 * ((0 + i) / 16) + get_or js i 0) (omega (arith, whole, lt, below)) ∙ ap (λ k. get_or s k 0) at ∙ has x byte
+    ∙ sym (get_or-map h v i 0 0 within))

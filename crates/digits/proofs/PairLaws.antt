@@ -95,8 +95,10 @@ joined-lanes (suc n) (v ∷ w ∷ vs) long fits =
     let low = fits.1.0.fits in
     rw (first-word v w (number_l 256 vs) high low, other-words v w (number_l 256 vs) high low, word-joined v w high low, joined-lanes n vs (omega (arith, long)) fits.1.1) refl
 
-pub block-good : (xs vs octets : List ℕ) (good : Bool) → AreOctets xs → length xs % 2 ≡ 0 → vs ≡ map value xs → good ≡ all_digits vs → good ≡ true → octets ≡ joined vs → pairs xs ≡ Some octets
-block-good xs vs octets good bytes even values all is read = pairs-good xs bytes even (sym (all ∙ ap all_digits values) ∙ is) ∙ ap Some (sym (read ∙ ap joined values))
+pub block-good : (xs vs octets : List ℕ) (good : Bool) → AreOctets xs → length xs % 2 ≡ 0 → vs ≡ map value xs → good ≡ all_digits vs → good ≡ true
+    → octets ≡ joined vs → pairs xs ≡ Some octets
+block-good xs vs octets good bytes even values all is read =
+    pairs-good xs bytes even (sym (all ∙ ap all_digits values) ∙ is) ∙ ap Some (sym (read ∙ ap joined values))
 
 pub block-bad : (xs vs : List ℕ) (good : Bool) → AreOctets xs → length xs % 2 ≡ 0 → vs ≡ map value xs → good ≡ all_digits vs → good ≡ false → pairs xs ≡ None
 block-bad xs vs good bytes even values all is = pairs-bad xs bytes even (sym (all ∙ ap all_digits values) ∙ is)

@@ -28,8 +28,15 @@ excess a b = less (cond (top 7 (below a b)) b a) b
 abbrev least : ℕ → ℕ → ℕ
 least a b = cond (top 7 (below a b)) a b
 
+-- digits less `:`, and letters less `A`
+abbrev from_colon : ℕ → List ℕ → List ℕ
+from_colon n v = zip2 less v (replicate n 58)
+
+abbrev from_a : ℕ → List ℕ → List ℕ
+from_a n v = zip2 less (zip2 bit_and v (replicate n 223)) (replicate n 65)
+
 pub numbers : (n : ℕ) (v : List ℕ) → length v ≡ n → Each1 (Fits w8) v
-    → zip2 less (zip2 less (sel_l (map (top 7) (zip2 below (zip2 less v (replicate n 58)) (replicate n 6))) (replicate n 6) (zip2 less v (replicate n 58))) (replicate n 6)) (replicate n 240) ≡ map number_value v
+    → zip2 less (zip2 less (sel_l (map (top 7) (zip2 below (from_colon n v) (replicate n 6))) (replicate n 6) (from_colon n v)) (replicate n 6)) (replicate n 240) ≡ map number_value v
 numbers zero [] long fits = refl
 numbers (suc n) [] long fits = absurd (omega (arith, long))
 numbers zero (x ∷ v) long fits = absurd (omega (arith, long))
@@ -38,7 +45,7 @@ numbers (suc n) (x ∷ v) long fits =
     rw (here, numbers n v (omega (arith, long)) fits.1) refl
 
 pub letters : (n : ℕ) (v : List ℕ) → length v ≡ n → Each1 (Fits w8) v
-    → zip2 add (sel_l (map (top 7) (zip2 below (zip2 less (zip2 bit_and v (replicate n 223)) (replicate n 65)) (replicate n 245))) (zip2 less (zip2 bit_and v (replicate n 223)) (replicate n 65)) (replicate n 245)) (replicate n 10) ≡ map letter_value v
+    → zip2 add (sel_l (map (top 7) (zip2 below (from_a n v) (replicate n 245))) (from_a n v) (replicate n 245)) (replicate n 10) ≡ map letter_value v
 letters zero [] long fits = refl
 letters (suc n) [] long fits = absurd (omega (arith, long))
 letters zero (x ∷ v) long fits = absurd (omega (arith, long))
@@ -79,5 +86,6 @@ none-large (suc n) (x ∷ v) long = rw (large-is x) (step (nat_lt x 16) (all_dig
 
 pub are-digits : (n : ℕ) (v : List ℕ) → length v ≡ n → n < 65 → nat_eq (mask_l (map (top 7) (zip2 at_most (replicate n 16) v)) % 2 ^ 64) 0 ≡ all_digits v
 are-digits n v long fits =
-    let long_mask : length (map (top 7) (zip2 at_most (replicate n 16) v)) ≡ n = length-map (zip2 at_most (replicate n 16) v) (top 7) ∙ length-zip2 at_most (replicate n 16) v (length-replicate {A = ℕ} n 16 ∙ sym long) ∙ length-replicate {A = ℕ} n 16 in
+    let long_mask : length (map (top 7) (zip2 at_most (replicate n 16) v)) ≡ n = length-map (zip2 at_most (replicate n 16) v) (top 7)
+    ∙ length-zip2 at_most (replicate n 16) v (length-replicate {A = ℕ} n 16 ∙ sym long) ∙ length-replicate {A = ℕ} n 16 in
     ap (λ m. nat_eq m 0) (mask_l-mod _ 64 (omega (arith, long_mask, fits))) ∙ none-large n v long

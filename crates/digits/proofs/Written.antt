@@ -50,11 +50,14 @@ by-turns n xs hs ls js ks long high low whole even odd =
     let first = agree (λ i. get_or at (2 * i) 0) (λ i. i) n even in
     let second = agree (λ i. get_or at (2 * i + 1) 0) (λ i. n + i) n odd in
     let halves : length hs ≡ n = ap length high ∙ length-map xs high_digit ∙ long in
-    sym (map-append (λ k. get_or all k 0) js ks) ∙ by_pairs n (pick_l 0 all at) (encode_lower xs) (length-map at (λ k. get_or all k 0) ∙ whole) (length-encode xs ∙ ap (λ m. 2 * m) long)
+    sym (map-append (λ k. get_or all k 0) js ks)
+    ∙ by_pairs n (pick_l 0 all at) (encode_lower xs) (length-map at (λ k. get_or all k 0) ∙ whole) (length-encode xs ∙ ap (λ m. 2 * m) long)
     (λ i less. get_or-map (λ k. get_or all k 0) at (2 * i) 0 0 (omega (arith, whole, less)) ∙ ap (λ k. get_or all k 0) (first i less)
-    ∙ get_or_append_left hs ls 0 i (omega (arith, halves, less)) ∙ ap (λ l. get_or l i 0) high ∙ get_or-map high_digit xs i 0 0 (omega (arith, long, less)) ∙ sym (high-written xs i (omega (arith, long, less))))
+    ∙ get_or_append_left hs ls 0 i (omega (arith, halves, less)) ∙ ap (λ l. get_or l i 0) high
+    ∙ get_or-map high_digit xs i 0 0 (omega (arith, long, less)) ∙ sym (high-written xs i (omega (arith, long, less))))
     (λ i less. get_or-map (λ k. get_or all k 0) at (2 * i + 1) 0 0 (omega (arith, whole, less)) ∙ ap (λ k. get_or all k 0) (second i less ∙ ap (λ m. m + i) (sym halves))
-    ∙ get_or-append-add hs ls i 0 ∙ ap (λ l. get_or l i 0) low ∙ get_or-map low_digit xs i 0 0 (omega (arith, long, less)) ∙ sym (low-written xs i (omega (arith, long, less))))
+    ∙ get_or-append-add hs ls i 0 ∙ ap (λ l. get_or l i 0) low ∙ get_or-map low_digit xs i 0 0 (omega (arith, long, less))
+    ∙ sym (low-written xs i (omega (arith, long, less))))
 
 -- two vectors are stored one behind the other
 pub both-stored : (n : ℕ) (zs xs ys : List ℕ) → length zs ≡ 2 * n → length xs ≡ n → length ys ≡ n
