@@ -1,0 +1,11 @@
+pub mod Going
+pub mod Sending
+pub mod Hearing
+pub mod Quiet
+pub mod Taking
+pub mod Arriving
+pub mod Joined
+pub mod Doing
+pub mod Laws
+pub mod Renewing
+pub mod Lives

@@ -1,0 +1,32 @@
+//! Laws of delivery of signalling: both ends of a signalling bearer in a life, and from life to life, with what is under way between them. They
+//! speak of the definitions that `bearer_am` meets, and do nothing.
+#![tactic(auto)]
+
+ghost use Rattle.srb_delivery_laws.specs.Delivery.{DeliversTheFront, DrainedHasDelivered};
+ghost use Rattle.srb_delivery_laws.specs.Lives.{FirstLifeBegins, NextLifeBegins, DeliversInEachLife};
+
+/// What has gone up at an end in a life are the SDUs that the other end submitted first in it, whatever is lost, repeated and delayed:
+/// in their order, each once and unchanged, and none left out.
+#[tactic(auto, using(crate::proofs::Laws::delivers_front))]
+pub fn delivers_the_front()
+    ensures { DeliversTheFront }
+{}
+
+/// Once an end is drained, and its sender hasn't failed, they are all that it submitted in the life.
+#[tactic(auto, using(crate::proofs::Laws::drained_delivers))]
+pub fn drained_has_delivered()
+    ensures { DrainedHasDelivered }
+{}
+
+/// As both ends are configured the first life begins so at both; and as a life ends at both under the same keys, nothing goes up, what
+/// waits is dropped, and the next life begins so with COUNT 0.
+pub fn lives_begin()
+    ensures first { FirstLifeBegins }
+    ensures next { NextLifeBegins }
+{}
+
+/// So in each life, however many went before, what has gone up at an end are the SDUs that the other submitted first in it, and once it
+/// is drained all of them.
+pub fn delivers_in_each_life()
+    ensures { DeliversInEachLife }
+{}
