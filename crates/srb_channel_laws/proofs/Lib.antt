@@ -1,0 +1,4 @@
+pub mod Sums
+pub mod Walk
+pub mod Running
+pub mod Laws

@@ -1,0 +1,58 @@
+-- What a channel of signalling delivers in each life, in each direction (TS 36.323 5.1, 5.2).
+use Rattle.std.specs.Prelude.{◌≡◌, ℕ, ◌≤◌, ◌^◌, List, []}
+use Rattle.bearer_types.specs.declared.config.BearerConfig.{BearerConfig}
+use Rattle.eps_sec.specs.declared.Keys.{Keys}
+use Rattle.l2_node.specs.End.{End}
+use Rattle.l2_types.specs.declared.Kind.TheVariants as kinds
+use Rattle.l2_types.specs.declared.side.Side.{Side}
+use Rattle.l2_types.specs.declared.side.Side.TheVariants.{Nb, Ue}
+use Rattle.node_laws.specs.Calls.{Move}
+use Rattle.node_laws.specs.Telling.{told_of}
+use Rattle.am_bearer_laws.specs.Lives.{other}
+use Rattle.am_laws.specs.Sdus.{IsFront}
+use Rattle.channel_laws.specs.Delivery.{HasBegun, SetNoneAt, ups_at, submitted_at}
+use Rattle.channel_laws.specs.Drained.{IsDrained}
+use Rattle.channel_laws.specs.Lives.{AirStep, AreLiving, lives, end_at}
+use Rattle.flow_laws.specs.Air.{outset}
+use Rattle.flow_laws.specs.Ups.{ups_on}
+use Rattle.srb_channel_laws.specs.Running.{Life, start, running, first_life}
+
+-- two ends that begin the channel under one configuration of signalling and the same keys; a COUNT has 32 bits
+pub record BeginAlike (l : ℕ) (c : BearerConfig) (keys : Keys) (nb ue : End) : Type 0 where
+  pub kind : c.kind ≡ kinds.Srb
+  pub first : c.first ≤ 2 ^ 32
+  pub nb_begun : HasBegun Nb l c keys nb
+  pub ue_begun : HasBegun Ue l c keys ue
+
+-- no discard timers are set on signalling
+abbrev pub NoneSet : ℕ → List AirStep → End → End → Type 0
+NoneSet l steps nb ue = (side : Side) → SetNoneAt l side steps (outset nb ue)
+
+-- in the running life
+abbrev pub life_of : List AirStep → End → End → Life
+life_of steps nb ue = running steps (first_life nb ue)
+
+abbrev pub ups_in_life : ℕ → Side → Life → List (List ℕ)
+ups_in_life l side life = ups_at l side life.steps (start life)
+
+abbrev pub submitted_in_life : ℕ → Side → Life → List (List ℕ)
+submitted_in_life l side life = submitted_at l side life.steps (start life)
+
+-- from an end to the other: what has gone up at the other are the SDUs that were submitted first at the one: in their order, each once and
+-- unchanged, with none left out
+abbrev pub ChannelsDeliverTheFront : Type 0
+ChannelsDeliverTheFront = (l : ℕ) (c : BearerConfig) (keys : Keys) (nb ue : End) (from : Side) (steps : List AirStep)
+    → BeginAlike l c keys nb ue → AreLiving l (outset nb ue) steps → NoneSet l steps nb ue
+    → IsFront (ups_in_life l (other from) (life_of steps nb ue)) (submitted_in_life l from (life_of steps nb ue))
+
+-- and all of them, once the channel is drained at the one, and its sender there hasn't failed
+abbrev pub DrainedChannelsHaveDelivered : Type 0
+DrainedChannelsHaveDelivered = (l : ℕ) (c : BearerConfig) (keys : Keys) (nb ue : End) (from : Side) (steps : List AirStep)
+    → BeginAlike l c keys nb ue → AreLiving l (outset nb ue) steps → NoneSet l steps nb ue → IsDrained l (end_at from (lives steps (outset nb ue)))
+    → ups_in_life l (other from) (life_of steps nb ue) ≡ submitted_in_life l from (life_of steps nb ue)
+
+-- as a life ends nothing goes up
+abbrev pub NothingGoesUpBetween : Type 0
+NothingGoesUpBetween = (l : ℕ) (c : BearerConfig) (keys next : Keys) (nb ue : End) (side : Side) (steps : List AirStep)
+    → BeginAlike l c keys nb ue → AreLiving l (outset nb ue) steps → NoneSet l steps nb ue
+    → ups_on l (told_of (end_at side (lives steps (outset nb ue))) (Move next)) ≡ []
