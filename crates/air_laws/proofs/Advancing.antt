@@ -1,14 +1,15 @@
 -- What a link plays goes by air: a TTI, a submission, and any other call.
-use Rattle.std.proofs.Common.{◌≡◌, ◌≤◌, ℕ, ◌+◌, ◌==◌, Bool, false, List, [], ◌∷◌, map, append-nil, refl, ap, sym, subst, arith, inl, inr}
+use Rattle.std.proofs.Common.{◌≡◌, ◌≤◌, ℕ, ◌+◌, ◌==◌, Bool, false, List, [], ◌∷◌, ◌++◌, map, append-nil, append_assoc, refl, ap, sym, subst, ◌∙◌, arith, inl, inr}
 use Rattle.std.specs.List.{AllByRecursion, filter}
 use Rattle.air_link.specs.Downlink.{downlink}
 use Rattle.air_link.specs.Draining.{intact, drain_tti}
-use Rattle.air_link.specs.Lines.{bears, visits}
+use Rattle.air_link.specs.Lines.{bears, visits, hands_over as hands_over_link}
 use Rattle.air_link.specs.Link.{Link, with_end}
 use Rattle.air_link.specs.Loops.{loops}
 use Rattle.air_link.specs.Ttis.{begins, grows, sleeps, tells_sleep, missed, timed, tti_by, tti}
 use Rattle.air_link.specs.Uplink.{uplink}
 use Rattle.air_record.specs.declared.line.Outcome.{Outcome}
+use Rattle.air_record.specs.declared.record.Record.{Record}
 use Rattle.bearer_types.specs.Configs.{IsConfig}
 use Rattle.bearer_types.specs.declared.config.BearerConfig.{BearerConfig}
 use Rattle.eps_sec.specs.declared.Keys.{Keys}
@@ -16,18 +17,22 @@ use Rattle.harq.specs.Sending.{Sending, fresh}
 use Rattle.l2_node.specs.End.{End, with_bearer, with_visits}
 use Rattle.l2_types.specs.declared.side.Side.{Side}
 use Rattle.l2_types.specs.declared.side.Side.TheVariants.{Nb, Ue}
-use Rattle.node_laws.specs.Calls.{SetVisits, Add, after as after_call}
+use Rattle.node_laws.specs.Calls.{SetVisits, Add, Move, after as after_call}
+use Rattle.node_laws.specs.Telling.{told_of}
+use Rattle.link_laws.specs.Ends.{told_by}
 use Rattle.link_laws.specs.Calls.{Call, Bears, Discards, Visits, Reports, Listens, Loops, Expires, Forges, HandsOver, ReceiversExpire, SendersExpire, after}
 use Rattle.link_laws.specs.Runs.{Step as LinkStep, Tti, Drains, Submit, Calls as LinkCalls, step}
 use Rattle.link_laws.proofs.Calling.{calls_adds, submitting_adds}
 use Rattle.link_laws.proofs.Passing.{tti_adds, drain_adds}
-use Rattle.flow_laws.specs.Air.{Block, Station, Air, older, passed}
+use Rattle.flow_laws.specs.Air.{Block, Station, Air, outset, older, passed}
 use Rattle.flow_laws.proofs.Stations.{come_more}
-use Rattle.air_laws.specs.Going.{handed_in, sets, GoesOn, IsCallSince, IsStepSince}
+use Rattle.channel_laws.specs.Lives.{end_at}
+use Rattle.air_laws.specs.Staying.{hands_over, Stays, MovesOn}
+use Rattle.air_laws.specs.Going.{handed_in, looped_at, sets, GoesOn, IsCallSince, IsStepSince}
 use Rattle.air_laws.specs.On.{until, IsHeld, IsFlying, IsStation, IsOn}
 use Rattle.air_laws.proofs.Flying.{keep_all}
-use Rattle.air_laws.proofs.Going.{none, goes_then, goes_off, goes_pass}
-use Rattle.air_laws.proofs.Moving.{fresh_at, handover_stage}
+use Rattle.air_laws.proofs.Going.{Marks, calm, setting, none, by_sides, goes_then, goes_off, goes_pass}
+use Rattle.air_laws.proofs.Moving.{fresh_at, left_told, moved_link, moved_so, handover_stage}
 use Rattle.air_laws.proofs.Resting.{call_rests, loops_rests, loop_set_rests, woken_rests, grown_rests, expires_rests, receivers_rest, senders_rest, discards_rests, reports_rests, listens_rests, submitting_hands}
 use Rattle.air_laws.proofs.Stages.{Both, Stands, Reaches, Stage, unlooped_goes, stage_then, Rests, rests_then, still_rests, goes_plain}
 use Rattle.air_laws.proofs.Stations.{Moment, Waits, Done, wait}
@@ -48,18 +53,25 @@ both_on t m a same h = record {
   ue_idle = h.ue.idle;
 }
 
-goes_so : (l t : ℕ) (s : LinkStep) (k : Link) (a : Air) → Reaches l (sets l s) (λ side n. handed_in side n s k) (Stands Nb (Waits t)) (Stands Ue (Waits t)) k (step s k) a → (step s k).ttis ≡ t → GoesOn l s k a
+-- what a step may do
+abbrev marks : ℕ → LinkStep → Marks
+marks l s = record { sets = sets l s; moves = hands_over s }
+
+goes_so : (l t : ℕ) (s : LinkStep) (k : Link) (a : Air) → Reaches l (marks l s) (λ side n. handed_in side n s k) (Stands Nb (Waits t)) (Stands Ue (Waits t)) k (step s k) a → (step s k).ttis ≡ t → Stays l s k a
 goes_so l t s k a r same = record {
-  more = r.more;
-  out_is = r.out_is;
-  by = record {
-    steps = r.goes.steps;
-    living = r.goes.living;
-    told_is = r.goes.told_is;
-    submitted_is = r.goes.submitted_is;
-    sets_none = r.goes.sets_none;
-    on = subst (IsOn (step s k)) (sym r.goes.air_is) (both_on t (step s k) r.air same r.both);
+  goes = record {
+    more = r.more;
+    out_is = r.out_is;
+    by = record {
+      steps = r.goes.steps;
+      living = r.goes.living;
+      told_is = r.goes.told_is;
+      submitted_is = r.goes.submitted_is;
+      sets_none = r.goes.sets_none;
+      on = subst (IsOn (step s k)) (sym r.goes.air_is) (both_on t (step s k) r.air same r.both);
+    };
   };
+  in_life = r.goes.stays;
 }
 
 -- ---- a TTI ends
@@ -88,7 +100,7 @@ aged side t s h = record {
   idle = refl;
 }
 
-pass_stage : (l : ℕ) (set : Bool) (t : ℕ) (k : Link) → Stage l set (Stands Nb (Done t)) (Stands Ue (Done t)) (Stands Nb (Waits (t + 1))) (Stands Ue (Waits (t + 1))) k k
+pass_stage : (l : ℕ) (set : Marks) (t : ℕ) (k : Link) → Stage l set (Stands Nb (Done t)) (Stands Ue (Done t)) (Stands Nb (Waits (t + 1))) (Stands Ue (Waits (t + 1))) k k
 pass_stage l set t k a h = record {
   air = record { nb = passed a.nb; ue = passed a.ue };
   more = [];
@@ -98,7 +110,7 @@ pass_stage l set t k a h = record {
 }
 
 -- what comes before the blocks, the downlink, the loop, the uplink
-by_visits : (l : ℕ) (set : Bool) (t up_grant : ℕ) (up : Outcome) (down_grant : ℕ) (down : Outcome) (k m : Link) → Rests l set k m → up_grant ≤ 9422 → down_grant ≤ 9422
+by_visits : (l : ℕ) (set : Marks) (t up_grant : ℕ) (up : Outcome) (down_grant : ℕ) (down : Outcome) (k m : Link) → Rests l set k m → up_grant ≤ 9422 → down_grant ≤ 9422
     → Stage l set (Stands Nb (Waits t)) (Stands Ue (Waits t)) (Stands Nb (Waits (t + 1))) (Stands Ue (Waits (t + 1))) k (uplink t up_grant up (loops (downlink t down_grant down m)))
 by_visits l set t up_grant up down_grant down k m first up_within down_within =
     let n = downlink t down_grant down m in
@@ -113,20 +125,20 @@ by_visits l set t up_grant up down_grant down k m first up_within down_within =
     let to_q = stage_then l set W V D V D E k p q to_p (uplink_stage l set t up_grant up p (Done t) up_within) in
     stage_then l set W V D E (Stands Nb (Waits (t + 1))) (Stands Ue (Waits (t + 1))) k q q to_q (pass_stage l set t q)
 
-ttis_go : (l up_grant : ℕ) (up : Outcome) (down_grant : ℕ) (down : Outcome) (k : Link) (a : Air) → up_grant ≤ 9422 → down_grant ≤ 9422 → IsOn k a → GoesOn l (Tti up_grant up down_grant down) k a
+ttis_go : (l up_grant : ℕ) (up : Outcome) (down_grant : ℕ) (down : Outcome) (k : Link) (a : Air) → up_grant ≤ 9422 → down_grant ≤ 9422 → IsOn k a → Stays l (Tti up_grant up down_grant down) k a
 unfolding tti tti_by
 ttis_go l up_grant up down_grant down k a up_within down_within h =
     let asleep = sleeps k.ttis k in
     let m = timed (tells_sleep asleep (begins k)) in
     goes_so l (k.ttis + 1) (Tti up_grant up down_grant down) k a
-    (by_visits l false k.ttis up_grant (missed asleep up) down_grant (missed asleep down) k m (woken_rests l false asleep k) up_within down_within a (on_both k a h))
+    (by_visits l calm k.ttis up_grant (missed asleep up) down_grant (missed asleep down) k m (woken_rests l calm asleep k) up_within down_within a (on_both k a h))
     (tti_adds up_grant up down_grant down k).ttis_is
 
-drains_go : (l grant : ℕ) (k : Link) (a : Air) → grant ≤ 9422 → IsOn k a → GoesOn l (Drains grant) k a
+drains_go : (l grant : ℕ) (k : Link) (a : Air) → grant ≤ 9422 → IsOn k a → Stays l (Drains grant) k a
 unfolding drain_tti
 drains_go l grant k a within h =
     let m = grows Ue (grows Nb (begins k)) in
-    goes_so l (k.ttis + 1) (Drains grant) k a (by_visits l false k.ttis grant intact grant intact k m (grown_rests l false k) within within a (on_both k a h)) (drain_adds grant k).ttis_is
+    goes_so l (k.ttis + 1) (Drains grant) k a (by_visits l calm k.ttis grant intact grant intact k m (grown_rests l calm k) within within a (on_both k a h)) (drain_adds grant k).ttis_is
 
 -- ---- another number of visits empties the processes
 
@@ -154,7 +166,7 @@ emptied_stands : (side : Side) (n : Moment) (s : Station) (maximum : ℕ) → St
 emptied_stands side (Waits t) s maximum h some few = record { is = emptied_station side (wait (Waits t)) s maximum h.is some few; idle = h.idle }
 emptied_stands side (Done t) s maximum h some few = record { is = emptied_station side (wait (Done t)) s maximum h.is some few; idle = tt }
 
-visits_nb : (l : ℕ) (set : Bool) (maximum : ℕ) (k : Link) → 1 ≤ maximum → maximum ≤ 28 → Rests l set k (with_end Nb (after_call k.nb (SetVisits maximum)) k)
+visits_nb : (l : ℕ) (set : Marks) (maximum : ℕ) (k : Link) → 1 ≤ maximum → maximum ≤ 28 → Rests l set k (with_end Nb (after_call k.nb (SetVisits maximum)) k)
 visits_nb l set maximum k some few n u a h =
     let b : Air = record a { nb = record a.nb { blocks = filter keeps_none a.nb.blocks } } in
     let c : Air = record a { nb = record { end = after_call a.nb.end (SetVisits maximum); blocks = filter keeps_none a.nb.blocks; busy = a.nb.busy } } in
@@ -168,7 +180,7 @@ visits_nb l set maximum k some few n u a h =
       both = record { nb_is = ap (λ (e : End). after_call e (SetVisits maximum)) h.nb_is; ue_is = h.ue_is; nb = emptied_stands Nb n a.nb maximum h.nb some few; ue = h.ue };
     }
 
-visits_ue : (l : ℕ) (set : Bool) (maximum : ℕ) (k : Link) → 1 ≤ maximum → maximum ≤ 28 → Rests l set k (with_end Ue (after_call k.ue (SetVisits maximum)) k)
+visits_ue : (l : ℕ) (set : Marks) (maximum : ℕ) (k : Link) → 1 ≤ maximum → maximum ≤ 28 → Rests l set k (with_end Ue (after_call k.ue (SetVisits maximum)) k)
 visits_ue l set maximum k some few n u a h =
     let b : Air = record a { ue = record a.ue { blocks = filter keeps_none a.ue.blocks } } in
     let c : Air = record a { ue = record { end = after_call a.ue.end (SetVisits maximum); blocks = filter keeps_none a.ue.blocks; busy = a.ue.busy } } in
@@ -182,7 +194,7 @@ visits_ue l set maximum k some few n u a h =
       both = record { nb_is = h.nb_is; ue_is = ap (λ (e : End). after_call e (SetVisits maximum)) h.ue_is; nb = h.nb; ue = emptied_stands Ue u a.ue maximum h.ue some few };
     }
 
-visits_rests : (l : ℕ) (set : Bool) (maximum : ℕ) (k : Link) → 1 ≤ maximum → maximum ≤ 28 → Rests l set k (visits maximum k)
+visits_rests : (l : ℕ) (set : Marks) (maximum : ℕ) (k : Link) → 1 ≤ maximum → maximum ≤ 28 → Rests l set k (visits maximum k)
 unfolding visits
 visits_rests l set maximum k some few =
     let m = with_end Nb (after_call k.nb (SetVisits maximum)) k in
@@ -190,7 +202,7 @@ visits_rests l set maximum k some few =
 
 -- ---- a bearer of another channel comes
 
-bears_rests : (l : ℕ) (set : Bool) (config : BearerConfig) (keys : Keys) (k : Link) → IsConfig config → (config.channel.lcid == l) ≡ false → Rests l set k (bears config keys k)
+bears_rests : (l : ℕ) (set : Marks) (config : BearerConfig) (keys : Keys) (k : Link) → IsConfig config → (config.channel.lcid == l) ≡ false → Rests l set k (bears config keys k)
 unfolding bears with_bearer
 bears_rests l set config keys k g apart =
     let c = Add config keys in
@@ -203,27 +215,57 @@ bears_rests l set config keys k g apart =
 -- ---- any call
 
 -- in which both ends stay in their cell
-stays_by : (l : ℕ) (c : Call) (k : Link) (a : Air) → Rests l (sets l (LinkCalls c)) k (after c k) → IsOn k a → GoesOn l (LinkCalls c) k a
+stays_by : (l : ℕ) (c : Call) (k : Link) (a : Air) → Rests l (marks l (LinkCalls c)) k (after c k) → IsOn k a → Stays l (LinkCalls c) k a
 stays_by l c k a f h = goes_so l k.ttis (LinkCalls c) k a (f (Waits k.ttis) (Waits k.ttis) a (on_both k a h)) (calls_adds c k).ttis_is
 
-calls_go : (l : ℕ) (c : Call) (k : Link) (a : Air) → IsCallSince l c → IsOn k a → GoesOn l (LinkCalls c) k a
-calls_go l (Bears config keys) k a g h = stays_by l (Bears config keys) k a (bears_rests l false config keys k g.0 g.1) h
-calls_go l (Discards lcid ttis) k a g h = stays_by l (Discards lcid ttis) k a (discards_rests l (lcid == l) lcid ttis k (λ off. off)) h
-calls_go l (Visits maximum) k a g h = stays_by l (Visits maximum) k a (visits_rests l false maximum k g.0 g.1) h
-calls_go l Reports k a g h = stays_by l Reports k a (reports_rests l false k) h
-calls_go l (Listens c) k a g h = stays_by l (Listens c) k a (listens_rests l false c k) h
-calls_go l (Loops mode) k a g h = stays_by l (Loops mode) k a (loop_set_rests l false mode k) h
-calls_go l (Expires side lcid clock) k a g h = stays_by l (Expires side lcid clock) k a (expires_rests l false side lcid clock k) h
+calls_go : (l : ℕ) (c : Call) (k : Link) (a : Air) → IsCallSince l c → IsOn k a → Stays l (LinkCalls c) k a
+calls_go l (Bears config keys) k a g h = stays_by l (Bears config keys) k a (bears_rests l calm config keys k g.0 g.1) h
+calls_go l (Discards lcid ttis) k a g h = stays_by l (Discards lcid ttis) k a (discards_rests l (setting (lcid == l)) lcid ttis k (λ off. off)) h
+calls_go l (Visits maximum) k a g h = stays_by l (Visits maximum) k a (visits_rests l calm maximum k g.0 g.1) h
+calls_go l Reports k a g h = stays_by l Reports k a (reports_rests l calm k) h
+calls_go l (Listens c) k a g h = stays_by l (Listens c) k a (listens_rests l calm c k) h
+calls_go l (Loops mode) k a g h = stays_by l (Loops mode) k a (loop_set_rests l calm mode k) h
+calls_go l (Expires side lcid clock) k a g h = stays_by l (Expires side lcid clock) k a (expires_rests l calm side lcid clock k) h
 calls_go l (Forges side block) k a g h = absurd g
 calls_go l (HandsOver keys) k a g h = goes_so l k.ttis (LinkCalls (HandsOver keys)) k a (handover_stage l false keys k k.ttis a (on_both k a h)) (calls_adds (HandsOver keys) k).ttis_is
-calls_go l ReceiversExpire k a g h = stays_by l ReceiversExpire k a (receivers_rest l false k) h
-calls_go l SendersExpire k a g h = stays_by l SendersExpire k a (senders_rest l false k) h
+calls_go l ReceiversExpire k a g h = stays_by l ReceiversExpire k a (receivers_rest l calm k) h
+calls_go l SendersExpire k a g h = stays_by l SendersExpire k a (senders_rest l calm k) h
 
 -- ---- any step
 
+pub steps_stay : (l : ℕ) (s : LinkStep) (k : Link) (a : Air) → IsStepSince l s → IsOn k a → Stays l s k a
+steps_stay l (Tti up_grant up down_grant down) k a g h = ttis_go l up_grant up down_grant down k a g.0 g.1 h
+steps_stay l (Drains grant) k a g h = drains_go l grant k a g h
+steps_stay l (Submit side lcid sdu) k a g h =
+    goes_so l k.ttis (Submit side lcid sdu) k a (submitting_hands l calm side lcid sdu k (Waits k.ttis) (Waits k.ttis) a (on_both k a h)) (submitting_adds side lcid sdu k).ttis_is
+steps_stay l (LinkCalls c) k a g h = calls_go l c k a g h
+
 pub steps_go : (l : ℕ) (s : LinkStep) (k : Link) (a : Air) → IsStepSince l s → IsOn k a → GoesOn l s k a
-steps_go l (Tti up_grant up down_grant down) k a g h = ttis_go l up_grant up down_grant down k a g.0 g.1 h
-steps_go l (Drains grant) k a g h = drains_go l grant k a g h
-steps_go l (Submit side lcid sdu) k a g h =
-    goes_so l k.ttis (Submit side lcid sdu) k a (submitting_hands l false side lcid sdu k (Waits k.ttis) (Waits k.ttis) a (on_both k a h)) (submitting_adds side lcid sdu k).ttis_is
-steps_go l (LinkCalls c) k a g h = calls_go l c k a g h
+steps_go l s k a g h = (steps_stay l s k a g h).goes
+
+-- ---- a handover, in two parts
+
+pub handovers_move : (l : ℕ) (keys : Keys) (k : Link) (a : Air) → IsOn k a → MovesOn l keys k a
+unfolding hands_over_link
+handovers_move l keys k a h =
+    let t = k.ttis in
+    let n = moved_link keys k in
+    let m = moved_so keys k t a (on_both k a h) in
+    let b = outset (after_call a.nb.end (Move keys)) (after_call a.ue.end (Move keys)) in
+    let r = loops_rests l calm n (Waits t) (Waits t) b m.both in
+    record {
+      leaving = left_told k;
+      behind = r.more;
+      out_is = r.out_is ∙ ap (λ (o : List Record). o ++ r.more) m.out_is ∙ append_assoc k.out (left_told k) r.more;
+      told_is = by_sides (λ side. told_by side (left_told k) ≡ told_of (end_at side a) (Move keys)) m.nb_told m.ue_told;
+      none_looped = by_sides (λ side. (i : ℕ) → looped_at side i (left_told k) ≡ []) (λ i. refl) m.unlooped;
+      by = record {
+        steps = r.goes.steps;
+        living = r.goes.living;
+        told_is = r.goes.told_is;
+        submitted_is = r.goes.submitted_is;
+        sets_none = r.goes.sets_none;
+        on = subst (IsOn (loops n)) (sym r.goes.air_is) (both_on t (loops n) r.air (calls_adds (HandsOver keys) k).ttis_is r.both);
+      };
+      in_life = r.goes.stays refl;
+    }

@@ -1,5 +1,5 @@
 -- Steps of two ends that tell what records tell, and in which each is submitted so much: by no step, by one, and one behind the other.
-use Rattle.std.proofs.Common.{◌≡◌, ◌≤◌, ℕ, Bool, false, Option, Some, None, List, [], ◌∷◌, ◌++◌, append_assoc, append-nil, refl, ap, sym, subst, arith, ◌∙◌}
+use Rattle.std.proofs.Common.{◌≡◌, ◌≤◌, ℕ, Bool, true, false, Option, Some, None, List, [], ◌∷◌, ◌++◌, append_assoc, append-nil, refl, ap, sym, subst, arith, ◌∙◌}
 use Rattle.std.specs.Prelude.{slice_get}
 use Rattle.std.specs.List.{AllByRecursion, filter}
 use Rattle.air_link.specs.Link.{other}
@@ -21,6 +21,7 @@ use Rattle.channel_laws.specs.Delivery.{submitted_in, was_submitted, sets_discar
 use Rattle.channel_laws.specs.Lives.{AirStep, InLife, Moves, AreLiving, lives_on, lives, end_at, brought, calls_by, calls_at, all_calls}
 use Rattle.am_laws.specs.Flow.{except}
 use Rattle.air_laws.specs.On.{IsHeld, IsStation}
+use Rattle.air_laws.specs.Staying.{AreInLife}
 use Rattle.air_laws.proofs.Flying.{gone, without, without_gone}
 use Rattle.air_laws.proofs.Stations.{Done, wait}
 
@@ -133,20 +134,40 @@ Submits given steps a side = (n : ℕ) → was_submitted n (all_calls side steps
 abbrev Unset : ℕ → List AirStep → Air → Side → Type 0
 Unset l steps a side = SetNone l (all_calls side steps a)
 
--- where `set` is false
-pub record Goes (l : ℕ) (set : Bool) (told : List Record) (given : Side → ℕ → List (List ℕ)) (a b : Air) : Type 0 where
+-- whether they may set one, and whether both ends may move
+pub record Marks : Type 0 where
+  pub sets : Bool
+  pub moves : Bool
+
+abbrev pub calm : Marks
+calm = record { sets = false; moves = false }
+
+abbrev pub setting : Bool → Marks
+setting set = record { sets = set; moves = false }
+
+abbrev pub moving : Bool → Marks
+moving set = record { sets = set; moves = true }
+
+in_life_more : (xs ys : List AirStep) → AreInLife xs → AreInLife ys → AreInLife (xs ++ ys)
+in_life_more [] ys h k = k
+in_life_more (InLife s ∷ xs) ys h k = in_life_more xs ys h k
+in_life_more (Moves keys ∷ xs) ys h k = absurd h
+
+-- where the marks say no
+pub record Goes (l : ℕ) (set : Marks) (told : List Record) (given : Side → ℕ → List (List ℕ)) (a b : Air) : Type 0 where
   pub steps : List AirStep
   pub living : AreLiving l a steps
   pub told_is : (side : Side) → Tells told steps a side
   pub submitted_is : (side : Side) → Submits given steps a side
-  pub sets_none : set ≡ false → (side : Side) → Unset l steps a side
+  pub sets_none : set.sets ≡ false → (side : Side) → Unset l steps a side
+  pub stays : set.moves ≡ false → AreInLife steps
   pub air_is : lives steps a ≡ b
 
 unset_more : (l : ℕ) (cs ds : List EndCall) → SetNone l cs → SetNone l ds → SetNone l (cs ++ ds)
 unset_more l [] ds p q = q
 unset_more l (c ∷ cs) ds p q = (p.0, unset_more l cs ds p.1 q)
 
-pub goes_then : (l : ℕ) (set : Bool) (f g : List Record) (x y : Side → ℕ → List (List ℕ)) (a b c : Air) → Goes l set f x a b → Goes l set g y b c → Goes l set (f ++ g) (λ side n. x side n ++ y side n) a c
+pub goes_then : (l : ℕ) (set : Marks) (f g : List Record) (x y : Side → ℕ → List (List ℕ)) (a b c : Air) → Goes l set f x a b → Goes l set g y b c → Goes l set (f ++ g) (λ side n. x side n ++ y side n) a c
 goes_then l set f g x y a b c p q =
     let ss = p.steps in
     let ts = q.steps in
@@ -164,19 +185,20 @@ goes_then l set f g x y a b c p q =
       sets_none = λ off side.
           let second = subst (λ (z : Air). SetNone l (all_calls side ts z)) (sym p.air_is) (q.sets_none off side) in
           subst (SetNone l) (sym (calls_more side a ss ts)) (unset_more l (all_calls side ss a) (all_calls side ts d) (p.sets_none off side) second);
+      stays = λ off. in_life_more ss ts (p.stays off) (q.stays off);
       air_is = lives_more a ss ts ∙ ap (lives ts) p.air_is ∙ q.air_is;
     }
 
 -- the same SDUs in another form
-pub goes_as : (l : ℕ) (set : Bool) (told : List Record) (x y : Side → ℕ → List (List ℕ)) (a b : Air) → ((side : Side) (n : ℕ) → x side n ≡ y side n) → Goes l set told x a b → Goes l set told y a b
-goes_as l set told x y a b same p = record { steps = p.steps; living = p.living; told_is = p.told_is; submitted_is = λ side n. p.submitted_is side n ∙ same side n; sets_none = p.sets_none; air_is = p.air_is }
+pub goes_as : (l : ℕ) (set : Marks) (told : List Record) (x y : Side → ℕ → List (List ℕ)) (a b : Air) → ((side : Side) (n : ℕ) → x side n ≡ y side n) → Goes l set told x a b → Goes l set told y a b
+goes_as l set told x y a b same p = record { steps = p.steps; living = p.living; told_is = p.told_is; submitted_is = λ side n. p.submitted_is side n ∙ same side n; sets_none = p.sets_none; stays = p.stays; air_is = p.air_is }
 
 abbrev pub none : Side → ℕ → List (List ℕ)
 none side n = []
 
 -- records that tell nothing of an end
-pub goes_none : (l : ℕ) (set : Bool) (told : List Record) (a : Air) → ((side : Side) → told_by side told ≡ []) → Goes l set told none a a
-goes_none l set told a untold = record { steps = []; living = tt; told_is = untold; submitted_is = λ side n. refl; sets_none = λ off side. tt; air_is = refl }
+pub goes_none : (l : ℕ) (set : Marks) (told : List Record) (a : Air) → ((side : Side) → told_by side told ≡ []) → Goes l set told none a a
+goes_none l set told a untold = record { steps = []; living = tt; told_is = untold; submitted_is = λ side n. refl; sets_none = λ off side. tt; stays = λ off. tt; air_is = refl }
 
 -- ---- one step
 
@@ -192,15 +214,15 @@ pub record Says (side : Side) (told : List Record) (given : Side → ℕ → Lis
   pub other_submitted : (n : ℕ) → [] ≡ given (other side) n
 
 -- a call in a life, in which it sets no discard timer on the channel where `set` is false
-pub record IsPlayed (l : ℕ) (set : Bool) (c : EndCall) : Type 0 where
+pub record IsPlayed (l : ℕ) (set : Marks) (c : EndCall) : Type 0 where
   pub adds_none : adds l c ≡ false
   pub moves_none : keys_in c ≡ []
-  pub unset : set ≡ false → sets_discard l c ≡ false
+  pub unset : set.sets ≡ false → sets_discard l c ≡ false
 
-in_life : (l : ℕ) (set : Bool) (c : EndCall) → IsPlayed l set c → GoesOnInLife l c
+in_life : (l : ℕ) (set : Marks) (c : EndCall) → IsPlayed l set c → GoesOnInLife l c
 in_life l set c x = record { adds_none = x.adds_none; moves_none = x.moves_none }
 
-pub goes_call : (l : ℕ) (set : Bool) (side : Side) (told : List Record) (given : Side → ℕ → List (List ℕ)) (c : EndCall) (a : Air) → IsGivenTo c → IsPlayed l set c → IsCalling (station side a) c → Says side told given (station side a).end c
+pub goes_call : (l : ℕ) (set : Marks) (side : Side) (told : List Record) (given : Side → ℕ → List (List ℕ)) (c : EndCall) (a : Air) → IsGivenTo c → IsPlayed l set c → IsCalling (station side a) c → Says side told given (station side a).end c
     → Goes l set told given a (with_station side (calls (station side a) c) a)
 goes_call l set Nb told given c a g life calling x =
     let xs : List AirStep = InLife (AtNb (Calls c)) ∷ [] in
@@ -210,6 +232,7 @@ goes_call l set Nb told given c a g life calling x =
       told_is = by_sides (Tells told xs a) (x.told_is ∙ sym (append-nil (told_of a.nb.end c))) x.other_told;
       submitted_is = by_sides (Submits given xs a) (λ n. append-nil (submitted_in n a.nb.end c) ∙ x.submitted_is n) x.other_submitted;
       sets_none = λ off. by_sides (Unset l xs a) (life.unset off, tt) tt;
+      stays = λ off. tt;
       air_is = refl;
     }
 goes_call l set Ue told given c a g life calling x =
@@ -220,6 +243,7 @@ goes_call l set Ue told given c a g life calling x =
       told_is = by_sides (Tells told xs a) x.other_told (x.told_is ∙ sym (append-nil (told_of a.ue.end c)));
       submitted_is = by_sides (Submits given xs a) x.other_submitted (λ n. append-nil (submitted_in n a.ue.end c) ∙ x.submitted_is n);
       sets_none = λ off. by_sides (Unset l xs a) tt (life.unset off, tt);
+      stays = λ off. tt;
       air_is = refl;
     }
 
@@ -229,7 +253,7 @@ come_unset : (l : ℕ) (o : Option Block) → SetNone l (brought o ++ [])
 come_unset l None = tt
 come_unset l (Some b) = (refl, tt)
 
-pub goes_come : (l : ℕ) (set : Bool) (side : Side) (told : List Record) (k : ℕ) (b : Block) (a : Air) → slice_get (station (other side) a).blocks k ≡ Some b → told_by side told ≡ told_of (station side a).end (Receive b.octets) → told_by (other side) told ≡ []
+pub goes_come : (l : ℕ) (set : Marks) (side : Side) (told : List Record) (k : ℕ) (b : Block) (a : Air) → slice_get (station (other side) a).blocks k ≡ Some b → told_by side told ≡ told_of (station side a).end (Receive b.octets) → told_by (other side) told ≡ []
     → Goes l set told none a (with_station side (record (station side a) { end = after_call (station side a).end (Receive b.octets) }) a)
 goes_come l set Nb told k b a there is untold =
     let xs : List AirStep = InLife (AtNb (Comes k)) ∷ [] in
@@ -240,6 +264,7 @@ goes_come l set Nb told k b a there is untold =
       told_is = by_sides (Tells told xs a) (is ∙ sym (append-nil (told_of e (Receive b.octets))) ∙ ap (λ (o : Option Block). told_over (brought o ++ []) e) (sym there)) untold;
       submitted_is = by_sides (Submits none xs a) (λ n. ap (λ (o : Option Block). was_submitted n (brought o ++ []) e) there) (λ n. refl);
       sets_none = λ off. by_sides (Unset l xs a) (come_unset l (slice_get a.ue.blocks k)) tt;
+      stays = λ off. tt;
       air_is = ap (λ (o : Option Block). record a { nb = comes a.nb o }) there;
     }
 goes_come l set Ue told k b a there is untold =
@@ -251,13 +276,14 @@ goes_come l set Ue told k b a there is untold =
       told_is = by_sides (Tells told xs a) untold (is ∙ sym (append-nil (told_of e (Receive b.octets))) ∙ ap (λ (o : Option Block). told_over (brought o ++ []) e) (sym there));
       submitted_is = by_sides (Submits none xs a) (λ n. refl) (λ n. ap (λ (o : Option Block). was_submitted n (brought o ++ []) e) there);
       sets_none = λ off. by_sides (Unset l xs a) tt (come_unset l (slice_get a.nb.blocks k));
+      stays = λ off. tt;
       air_is = ap (λ (o : Option Block). record a { ue = comes a.ue o }) there;
     }
 
 -- both ends move
 
 pub goes_move : (l : ℕ) (set : Bool) (told : List Record) (keys : Keys) (a : Air) → told_by Nb told ≡ leaving a.nb.end → told_by Ue told ≡ leaving a.ue.end
-    → Goes l set told none a (outset (after_call a.nb.end (Move keys)) (after_call a.ue.end (Move keys)))
+    → Goes l (moving set) told none a (outset (after_call a.nb.end (Move keys)) (after_call a.ue.end (Move keys)))
 goes_move l set told keys a nb ue =
     let xs : List AirStep = Moves keys ∷ [] in
     record {
@@ -266,20 +292,21 @@ goes_move l set told keys a nb ue =
       told_is = by_sides (Tells told xs a) (nb ∙ sym (append-nil (leaving a.nb.end))) (ue ∙ sym (append-nil (leaving a.ue.end)));
       submitted_is = by_sides (Submits none xs a) (λ n. refl) (λ n. refl);
       sets_none = λ off. by_sides (Unset l xs a) (refl, tt) (refl, tt);
+      stays = λ off. absurd cc;
       air_is = refl;
     }
 
 -- blocks are let go
 
-goes_one : (l : ℕ) (set : Bool) (side : Side) (k : ℕ) (a : Air) → Goes l set [] none a (with_station side (record (station side a) { blocks = except k (station side a).blocks }) a)
+goes_one : (l : ℕ) (set : Marks) (side : Side) (k : ℕ) (a : Air) → Goes l set [] none a (with_station side (record (station side a) { blocks = except k (station side a).blocks }) a)
 goes_one l set Nb k a =
     let xs : List AirStep = InLife (AtNb (LetsGo k)) ∷ [] in
-    record { steps = xs; living = (tt, tt); told_is = by_sides (Tells [] xs a) refl refl; submitted_is = by_sides (Submits none xs a) (λ n. refl) (λ n. refl); sets_none = λ off. by_sides (Unset l xs a) tt tt; air_is = refl }
+    record { steps = xs; living = (tt, tt); told_is = by_sides (Tells [] xs a) refl refl; submitted_is = by_sides (Submits none xs a) (λ n. refl) (λ n. refl); sets_none = λ off. by_sides (Unset l xs a) tt tt; stays = λ off. tt; air_is = refl }
 goes_one l set Ue k a =
     let xs : List AirStep = InLife (AtUe (LetsGo k)) ∷ [] in
-    record { steps = xs; living = (tt, tt); told_is = by_sides (Tells [] xs a) refl refl; submitted_is = by_sides (Submits none xs a) (λ n. refl) (λ n. refl); sets_none = λ off. by_sides (Unset l xs a) tt tt; air_is = refl }
+    record { steps = xs; living = (tt, tt); told_is = by_sides (Tells [] xs a) refl refl; submitted_is = by_sides (Submits none xs a) (λ n. refl) (λ n. refl); sets_none = λ off. by_sides (Unset l xs a) tt tt; stays = λ off. tt; air_is = refl }
 
-goes_all : (l : ℕ) (set : Bool) (side : Side) (ks : List ℕ) (a : Air) → Goes l set [] none a (with_station side (record (station side a) { blocks = without ks (station side a).blocks }) a)
+goes_all : (l : ℕ) (set : Marks) (side : Side) (ks : List ℕ) (a : Air) → Goes l set [] none a (with_station side (record (station side a) { blocks = without ks (station side a).blocks }) a)
 goes_all l set Nb [] a = goes_none l set [] a (λ side. refl)
 goes_all l set Ue [] a = goes_none l set [] a (λ side. refl)
 goes_all l set Nb (k ∷ ks) a =
@@ -289,7 +316,7 @@ goes_all l set Ue (k ∷ ks) a =
     let b : Air = record a { ue = record a.ue { blocks = except k a.ue.blocks } } in
     goes_then l set [] [] none none a b (record a { ue = record a.ue { blocks = without (k ∷ ks) a.ue.blocks } }) (goes_one l set Ue k a) (goes_all l set Ue ks b)
 
-pub goes_off : (l : ℕ) (set : Bool) (side : Side) (stays : Block → Bool) (a : Air) → Goes l set [] none a (with_station side (record (station side a) { blocks = filter stays (station side a).blocks }) a)
+pub goes_off : (l : ℕ) (set : Marks) (side : Side) (stays : Block → Bool) (a : Air) → Goes l set [] none a (with_station side (record (station side a) { blocks = filter stays (station side a).blocks }) a)
 goes_off l set side stays a =
     subst (λ (bs : List Block). Goes l set [] none a (with_station side (record (station side a) { blocks = bs }) a)) (without_gone stays (station side a).blocks)
     (goes_all l set side (gone stays (station side a).blocks) a)
@@ -306,7 +333,7 @@ all_young : (t : ℕ) (s : Sending) → s.maximum ≤ 28 → (bs : List Block) �
 all_young t s few [] h = tt
 all_young t s few (b ∷ bs) h = (young t s b few h.0, all_young t s few bs h.1)
 
-pub goes_pass : (l : ℕ) (set : Bool) (t : ℕ) (a : Air) → IsStation Nb (wait (Done t)) a.nb → IsStation Ue (wait (Done t)) a.ue → Goes l set [] none a (record { nb = passed a.nb; ue = passed a.ue })
+pub goes_pass : (l : ℕ) (set : Marks) (t : ℕ) (a : Air) → IsStation Nb (wait (Done t)) a.nb → IsStation Ue (wait (Done t)) a.ue → Goes l set [] none a (record { nb = passed a.nb; ue = passed a.ue })
 goes_pass l set t a nb ue =
     let xs : List AirStep = InLife Passes ∷ [] in
     record {
@@ -315,5 +342,6 @@ goes_pass l set t a nb ue =
       told_is = by_sides (Tells [] xs a) refl refl;
       submitted_is = by_sides (Submits none xs a) (λ n. refl) (λ n. refl);
       sets_none = λ off. by_sides (Unset l xs a) tt tt;
+      stays = λ off. tt;
       air_is = refl;
     }

@@ -11,3 +11,4 @@ pub mod Lives
 pub mod Keeping
 pub mod Lived
 pub mod Links
+pub mod Staying

@@ -26,7 +26,7 @@ use Rattle.air_laws.specs.Lived.{HasBearer, Lived, IsAcknowledged, none_yet, Bea
 use Rattle.air_laws.specs.Lives.{IsAtRest}
 use Rattle.air_laws.specs.On.{until, IsStation, IsOn}
 use Rattle.air_laws.proofs.Advancing.{steps_go}
-use Rattle.air_laws.proofs.Going.{Goes, goes_then}
+use Rattle.air_laws.proofs.Going.{moving, Goes, goes_then}
 use Rattle.air_laws.proofs.Keeping.{Keeps, steps_keep}
 use Rattle.air_laws.proofs.Lives.{calls_rest}
 
@@ -99,14 +99,14 @@ pub keeps_at : (l : ℕ) (side : Side) (k : Link) (a : Air) → IsOn k a → Has
 keeps_at l side k a h b = record { come = on_come side k a h; bearer = subst (HasBearer l) (sym (on_end side k a h)) b }
 
 -- each of two steps sets none where both do
-either_off : (x y : Bool) → (x || y) ≡ false → (x ≡ false) × (y ≡ false)
+pub either_off : (x y : Bool) → (x || y) ≡ false → (x ≡ false) × (y ≡ false)
 either_off true y e = absurd cc
 either_off false y e = (refl, e)
 
-by_goes : (l : ℕ) (told : List Record) (submitted : Side → ℕ → List (List ℕ)) (set whole : Bool) (m : Link) (a : Air) (x : GoesByAir l told submitted set m a) → (whole ≡ false → set ≡ false) → Goes l whole told submitted a (lives x.steps a)
-by_goes l told submitted set whole m a x off = record { steps = x.steps; living = x.living; told_is = x.told_is; submitted_is = x.submitted_is; sets_none = λ e. x.sets_none (off e); air_is = refl }
+by_goes : (l : ℕ) (told : List Record) (submitted : Side → ℕ → List (List ℕ)) (set whole : Bool) (m : Link) (a : Air) (x : GoesByAir l told submitted set m a) → (whole ≡ false → set ≡ false) → Goes l (moving whole) told submitted a (lives x.steps a)
+by_goes l told submitted set whole m a x off = record { steps = x.steps; living = x.living; told_is = x.told_is; submitted_is = x.submitted_is; sets_none = λ e. x.sets_none (off e); stays = λ e. absurd cc; air_is = refl }
 
-goes_by : (l : ℕ) (told : List Record) (submitted : Side → ℕ → List (List ℕ)) (set : Bool) (m : Link) (a b : Air) → Goes l set told submitted a b → IsOn m b → GoesByAir l told submitted set m a
+goes_by : (l : ℕ) (told : List Record) (submitted : Side → ℕ → List (List ℕ)) (set : Bool) (m : Link) (a b : Air) → Goes l (moving set) told submitted a b → IsOn m b → GoesByAir l told submitted set m a
 goes_by l told submitted set m a b x on = record { steps = x.steps; living = x.living; told_is = x.told_is; submitted_is = x.submitted_is; sets_none = x.sets_none; on = subst (IsOn m) (sym x.air_is) on }
 
 pub steps_live : (l : ℕ) (nb ue : End) (told : List Record) (submitted : Side → ℕ → List (List ℕ)) (set : Bool) (s : Step) (k : Link) → IsStepSince l s → Lived l nb ue told submitted set k
@@ -121,7 +121,7 @@ steps_live l nb ue told submitted set s k g h =
     let more : Side → ℕ → List (List ℕ) = λ side n. handed_in side n s k ++ looped_at side n x.more in
     let before = by_goes l told submitted set sets_any k a h.by (λ e. (either_off set (sets l s) e).0) in
     let behind = by_goes l x.more more (sets l s) sets_any m b y (λ e. (either_off set (sets l s) e).1) in
-    let whole = goes_then l sets_any told x.more submitted more a b (lives y.steps b) before behind in
+    let whole = goes_then l (moving sets_any) told x.more submitted more a b (lives y.steps b) before behind in
     record {
       more = x.more;
       out_is = x.out_is;

@@ -14,14 +14,15 @@ use Rattle.l2_types.specs.declared.side.Side.{Side}
 use Rattle.l2_types.specs.declared.side.Side.TheVariants.{Nb, Ue}
 use Rattle.node_laws.specs.Calls.{Move, after as after_call}
 use Rattle.node_laws.proofs.Looping.{tells_no_loop}
+use Rattle.link_laws.specs.Ends.{told_by}
 use Rattle.link_laws.proofs.Going.{told_both, own_told, other_told, Seen, seen, behind, told_seen}
-use Rattle.flow_laws.specs.Air.{Station, begins, outset, HasCome}
+use Rattle.flow_laws.specs.Air.{Station, Air, begins, outset, HasCome}
 use Rattle.flow_laws.proofs.Stations.{come_more}
 use Rattle.air_laws.specs.Going.{loops_in}
 use Rattle.air_laws.specs.On.{until, block_at, IsStation}
-use Rattle.air_laws.proofs.Going.{goes_move}
+use Rattle.air_laws.proofs.Going.{moving, goes_move}
 use Rattle.air_laws.proofs.Resting.{loops_rests}
-use Rattle.air_laws.proofs.Stages.{Stands, Stage, stage_then, events_unlooped, looped_more, unlooped_goes}
+use Rattle.air_laws.proofs.Stages.{Both, Stands, Stage, stage_then, events_unlooped, looped_more, unlooped_goes}
 use Rattle.air_laws.proofs.Stations.{Waits}
 
 -- ---- processes that hold nothing, with 1 to 28 visits of a block
@@ -57,9 +58,21 @@ moved_stands : (side : Side) (w : ℕ → ℕ) (t : ℕ) (s : Station) (keys : K
 moved_stands side w t s keys h = record { is = begun side (until t) (after_call s.end (Move keys)) (come_more side s.end (Move keys) h.come tt) (moved_empty s.end keys h.some h.few); idle = refl }
 
 -- what they hand up as they leave is told
-move_stage : (l : ℕ) (set : Bool) (keys : Keys) (k : Link) (t : ℕ)
-    → Stage l set (Stands Nb (Waits t)) (Stands Ue (Waits t)) (Stands Nb (Waits t)) (Stands Ue (Waits t)) k (tells_all Ue (leaving k.ue) (tells_all Nb (leaving k.nb) (moves keys k)))
-move_stage l set keys k t a h =
+abbrev pub left_told : Link → List Record
+left_told k = map (records.Of Nb) (leaving k.nb) ++ map (records.Of Ue) (leaving k.ue)
+
+abbrev pub moved_link : Keys → Link → Link
+moved_link keys k = tells_all Ue (leaving k.ue) (tells_all Nb (leaving k.nb) (moves keys k))
+
+pub record Moved (keys : Keys) (k : Link) (t : ℕ) (a : Air) : Type 0 where
+  pub out_is : (moved_link keys k).out ≡ k.out ++ left_told k
+  pub nb_told : told_by Nb (left_told k) ≡ leaving a.nb.end
+  pub ue_told : told_by Ue (left_told k) ≡ leaving a.ue.end
+  pub unlooped : (i : ℕ) → loops_in i (left_told k) ≡ []
+  pub both : Both (Stands Nb (Waits t)) (Stands Ue (Waits t)) (moved_link keys k) (outset (after_call a.nb.end (Move keys)) (after_call a.ue.end (Move keys)))
+
+pub moved_so : (keys : Keys) (k : Link) (t : ℕ) (a : Air) → Both (Stands Nb (Waits t)) (Stands Ue (Waits t)) k a → Moved keys k t a
+moved_so keys k t a h =
     let j = moves keys k in
     let xs = map (records.Of Nb) (leaving k.nb) in
     let ys = map (records.Of Ue) (leaving k.ue) in
@@ -70,15 +83,11 @@ move_stage l set keys k t a h =
     let n_seen : seen n ≡ behind k nb ue (xs ++ ys) =
     told_seen Ue (leaving k.ue) m ∙ ap (λ (s : Seen). record { nb = s.nb; ue = s.ue; out = s.out ++ ys; kinds = s.kinds }) (told_seen Nb (leaving k.nb) j)
     ∙ ap (λ (o : List Record). record { nb = nb; ue = ue; out = o; kinds = k.kinds }) (append_assoc k.out xs ys) in
-    let nb_told = told_both Nb xs ys (leaving k.nb) [] (own_told Nb (leaving k.nb) (tells_no_loop k.nb (Move keys))) (other_told Ue (leaving k.ue)) ∙ append-nil (leaving k.nb) ∙ ap leaving (sym h.nb_is) in
-    let ue_told = told_both Ue xs ys [] (leaving k.ue) (other_told Nb (leaving k.nb)) (own_told Ue (leaving k.ue) (tells_no_loop k.ue (Move keys))) ∙ ap leaving (sym h.ue_is) in
-    let b = outset (after_call a.nb.end (Move keys)) (after_call a.ue.end (Move keys)) in
     record {
-      air = b;
-      more = xs ++ ys;
       out_is = ap (λ (s : Seen). s.out) n_seen;
-      goes = unlooped_goes l set (xs ++ ys) a b (λ i. sym (looped_more Ue i xs ys) ∙ ap (λ (x : List (List ℕ)). x ++ loops_in i ys) (events_unlooped i Nb (leaving k.nb)) ∙ events_unlooped i Ue (leaving k.ue))
-          (goes_move l set (xs ++ ys) keys a nb_told ue_told);
+      nb_told = told_both Nb xs ys (leaving k.nb) [] (own_told Nb (leaving k.nb) (tells_no_loop k.nb (Move keys))) (other_told Ue (leaving k.ue)) ∙ append-nil (leaving k.nb) ∙ ap leaving (sym h.nb_is);
+      ue_told = told_both Ue xs ys [] (leaving k.ue) (other_told Nb (leaving k.nb)) (own_told Ue (leaving k.ue) (tells_no_loop k.ue (Move keys))) ∙ ap leaving (sym h.ue_is);
+      unlooped = λ i. sym (looped_more Ue i xs ys) ∙ ap (λ (x : List (List ℕ)). x ++ loops_in i ys) (events_unlooped i Nb (leaving k.nb)) ∙ events_unlooped i Ue (leaving k.ue);
       both = record {
         nb_is = ap (λ (e : End). after_call e (Move keys)) h.nb_is ∙ sym (ap (λ (s : Seen). s.nb) n_seen);
         ue_is = ap (λ (e : End). after_call e (Move keys)) h.ue_is ∙ sym (ap (λ (s : Seen). s.ue) n_seen);
@@ -87,10 +96,23 @@ move_stage l set keys k t a h =
       };
     }
 
-pub handover_stage : (l : ℕ) (set : Bool) (keys : Keys) (k : Link) (t : ℕ) → Stage l set (Stands Nb (Waits t)) (Stands Ue (Waits t)) (Stands Nb (Waits t)) (Stands Ue (Waits t)) k (hands_over keys k)
+move_stage : (l : ℕ) (set : Bool) (keys : Keys) (k : Link) (t : ℕ)
+    → Stage l (moving set) (Stands Nb (Waits t)) (Stands Ue (Waits t)) (Stands Nb (Waits t)) (Stands Ue (Waits t)) k (moved_link keys k)
+move_stage l set keys k t a h =
+    let m = moved_so keys k t a h in
+    let b = outset (after_call a.nb.end (Move keys)) (after_call a.ue.end (Move keys)) in
+    record {
+      air = b;
+      more = left_told k;
+      out_is = m.out_is;
+      goes = unlooped_goes l (moving set) (left_told k) a b m.unlooped (goes_move l set (left_told k) keys a m.nb_told m.ue_told);
+      both = m.both;
+    }
+
+pub handover_stage : (l : ℕ) (set : Bool) (keys : Keys) (k : Link) (t : ℕ) → Stage l (moving set) (Stands Nb (Waits t)) (Stands Ue (Waits t)) (Stands Nb (Waits t)) (Stands Ue (Waits t)) k (hands_over keys k)
 unfolding hands_over
 handover_stage l set keys k t =
-    let n = tells_all Ue (leaving k.ue) (tells_all Nb (leaving k.nb) (moves keys k)) in
+    let n = moved_link keys k in
     let P = Stands Nb (Waits t) in
     let Q = Stands Ue (Waits t) in
-    stage_then l set P Q P Q P Q k n (loops n) (move_stage l set keys k t) (loops_rests l set n (Waits t) (Waits t))
+    stage_then l (moving set) P Q P Q P Q k n (loops n) (move_stage l set keys k t) (loops_rests l (moving set) n (Waits t) (Waits t))

@@ -33,14 +33,14 @@ use Rattle.link_laws.specs.Zero.{sdu_of}
 use Rattle.link_laws.proofs.Going.{own_told, other_told, Seen, told_seen}
 use Rattle.channel_laws.specs.Delivery.{accepted, submitted_in}
 use Rattle.air_laws.specs.Going.{handed_in, looped_at}
-use Rattle.air_laws.proofs.Going.{Says, IsPlayed, none}
+use Rattle.air_laws.proofs.Going.{Marks, Says, IsPlayed, none}
 use Rattle.air_laws.proofs.Stages.{Stands, Hands, hands_none, Rests, rests_then, events_unlooped, says_stage, says_rests, still_rests, IsPlain, says_nothing, called_nb, called_ue, called_rests}
 use Rattle.air_laws.proofs.Stations.{Moment}
 
 -- ---- an end's call
 
 -- in which it tells nothing, and is submitted nothing
-pub call_rests : (l : ℕ) (set : Bool) (side : Side) (c : EndCall) (k : Link) → IsPlain c → IsGivenTo c → IsPlayed l set c → ((e : End) → (after_call e c).sender ≡ e.sender) → told_of (end_of side k) c ≡ [] → ((n : ℕ) → submitted_in n (end_of side k) c ≡ [])
+pub call_rests : (l : ℕ) (set : Marks) (side : Side) (c : EndCall) (k : Link) → IsPlain c → IsGivenTo c → IsPlayed l set c → ((e : End) → (after_call e c).sender ≡ e.sender) → told_of (end_of side k) c ≡ [] → ((n : ℕ) → submitted_in n (end_of side k) c ≡ [])
     → Rests l set k (with_end side (after_call (end_of side k) c) k)
 call_rests l set Nb c k plain g life keeps untold unsaid =
     called_rests l set Nb c [] none k (with_end Nb (after_call k.nb c) k) life
@@ -50,7 +50,7 @@ call_rests l set Ue c k plain g life keeps untold unsaid =
     (record { plain = plain; given = g; keeps = keeps; end_is = refl; other_is = refl; out_is = sym (append-nil k.out); says = says_nothing Ue k.ue c untold unsaid })
 
 -- and in which it tells what it tells
-tells_rests : (l : ℕ) (set : Bool) (side : Side) (c : EndCall) (k : Link) → IsPlain c → IsGivenTo c → IsPlayed l set c → ((e : End) → (after_call e c).sender ≡ e.sender) → ((n : ℕ) → submitted_in n (end_of side k) c ≡ [])
+tells_rests : (l : ℕ) (set : Marks) (side : Side) (c : EndCall) (k : Link) → IsPlain c → IsGivenTo c → IsPlayed l set c → ((e : End) → (after_call e c).sender ≡ e.sender) → ((n : ℕ) → submitted_in n (end_of side k) c ≡ [])
     → Rests l set k (tells_all side (told_of (end_of side k) c) (with_end side (after_call (end_of side k) c) k))
 tells_rests l set Nb c k plain g life keeps unsaid =
     let es = told_of k.nb c in
@@ -89,7 +89,7 @@ none_if false sdus e = refl
 refused_none : (side : Side) (lcid : ℕ) (sdu : List ℕ) (k : Link) (broken : SubmitRefusal) → refusal lcid sdu (end_of side k) ≡ Some broken → (s : Side) (n : ℕ) → [] ≡ handed_by side lcid sdu k s n
 refused_none side lcid sdu k broken e s n = none_if (is_same side s) (accepted (refusal lcid sdu (end_of side k)) (lcid == n) sdu) (sym (ap (λ (r : Option SubmitRefusal). accepted r (lcid == n) sdu) e))
 
-module _ (l : ℕ) (set : Bool) where
+module _ (l : ℕ) (set : Marks) where
   -- ---- the test loop
 
   loses_rests : (lcid : ℕ) (k : Link) → Rests l set k (loses lcid k)
@@ -256,7 +256,7 @@ module _ (l : ℕ) (set : Bool) where
 
   -- ---- lines
 
-  pub discards_rests : (lcid ttis : ℕ) (k : Link) → (set ≡ false → (lcid == l) ≡ false) → Rests l set k (discards lcid ttis k)
+  pub discards_rests : (lcid ttis : ℕ) (k : Link) → (set.sets ≡ false → (lcid == l) ≡ false) → Rests l set k (discards lcid ttis k)
   unfolding discards discarding
   discards_rests lcid ttis k unset =
       let c = SetDiscard lcid ttis in

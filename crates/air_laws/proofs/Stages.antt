@@ -26,7 +26,7 @@ use Rattle.flow_laws.specs.Air.{Block, Station, Air, built_at, is_new, calls, Is
 use Rattle.channel_laws.specs.Delivery.{submitted_in}
 use Rattle.air_laws.specs.Going.{loops_in, looped_at}
 use Rattle.air_laws.specs.On.{until, IsStation}
-use Rattle.air_laws.proofs.Going.{station, with_station, Goes, Says, IsPlayed, none, by_sides, goes_then, goes_as, goes_none, goes_call, goes_come, goes_off}
+use Rattle.air_laws.proofs.Going.{Marks, station, with_station, Goes, Says, IsPlayed, none, by_sides, goes_then, goes_as, goes_none, goes_call, goes_come, goes_off}
 use Rattle.air_laws.proofs.Stations.{Moment, Waits, Done, wait, IsIdle, station_goes, stays_by, left_by, lasts, turned_station, is_visiting}
 
 -- ---- a link on its way, and its air
@@ -67,7 +67,7 @@ none_looped told h Ue n = sym (h n)
 -- ---- stages
 
 -- with SDUs that are handed in, besides those that the test loop returns
-pub record Reaches (l : ℕ) (set : Bool) (handed : Side → ℕ → List (List ℕ)) (P Q : Station → Type 0) (k m : Link) (a : Air) : Type 0 where
+pub record Reaches (l : ℕ) (set : Marks) (handed : Side → ℕ → List (List ℕ)) (P Q : Station → Type 0) (k m : Link) (a : Air) : Type 0 where
   pub air : Air
   pub more : List Record
   pub out_is : m.out ≡ k.out ++ more
@@ -75,13 +75,13 @@ pub record Reaches (l : ℕ) (set : Bool) (handed : Side → ℕ → List (List 
   pub both : Both P Q m air
 
 -- from what is known of them to what is known then
-abbrev pub Hands : ℕ → Bool → (Side → ℕ → List (List ℕ)) → (Station → Type 0) → (Station → Type 0) → (Station → Type 0) → (Station → Type 0) → Link → Link → Type 0
+abbrev pub Hands : ℕ → Marks → (Side → ℕ → List (List ℕ)) → (Station → Type 0) → (Station → Type 0) → (Station → Type 0) → (Station → Type 0) → Link → Link → Type 0
 Hands l set handed P Q R S k m = (a : Air) → Both P Q k a → Reaches l set handed R S k m a
 
-abbrev pub Stage : ℕ → Bool → (Station → Type 0) → (Station → Type 0) → (Station → Type 0) → (Station → Type 0) → Link → Link → Type 0
+abbrev pub Stage : ℕ → Marks → (Station → Type 0) → (Station → Type 0) → (Station → Type 0) → (Station → Type 0) → Link → Link → Type 0
 Stage l set P Q R S k m = Hands l set none P Q R S k m
 
-pub stage_then : (l : ℕ) (set : Bool) (P Q R S T U : Station → Type 0) (k m p : Link) → Stage l set P Q R S k m → Stage l set R S T U m p → Stage l set P Q T U k p
+pub stage_then : (l : ℕ) (set : Marks) (P Q R S T U : Station → Type 0) (k m p : Link) → Stage l set P Q R S k m → Stage l set R S T U m p → Stage l set P Q T U k p
 stage_then l set P Q R S T U k m p f g a h =
     let r = f a h in
     let q = g r.air r.both in
@@ -97,7 +97,7 @@ stage_then l set P Q R S T U k m p f g a h =
     }
 
 -- SDUs that are none
-pub hands_none : (l : ℕ) (set : Bool) (handed : Side → ℕ → List (List ℕ)) (P Q R S : Station → Type 0) (k m : Link) → ((side : Side) (n : ℕ) → [] ≡ handed side n) → Stage l set P Q R S k m → Hands l set handed P Q R S k m
+pub hands_none : (l : ℕ) (set : Marks) (handed : Side → ℕ → List (List ℕ)) (P Q R S : Station → Type 0) (k m : Link) → ((side : Side) (n : ℕ) → [] ≡ handed side n) → Stage l set P Q R S k m → Hands l set handed P Q R S k m
 hands_none l set handed P Q R S k m same f a h =
     let r = f a h in
     record {
@@ -109,20 +109,20 @@ hands_none l set handed P Q R S k m same f a h =
     }
 
 -- records that tell of no SDU of the loop
-pub unlooped_goes : (l : ℕ) (set : Bool) (told : List Record) (a b : Air) → ((n : ℕ) → loops_in n told ≡ []) → Goes l set told none a b → Goes l set told (λ side n. looped_at side n told) a b
+pub unlooped_goes : (l : ℕ) (set : Marks) (told : List Record) (a b : Air) → ((n : ℕ) → loops_in n told ≡ []) → Goes l set told none a b → Goes l set told (λ side n. looped_at side n told) a b
 unlooped_goes l set told a b h g = goes_as l set told none (λ side n. looped_at side n told) a b (none_looped told h) g
 
 -- a stage in which no process is visited
-abbrev pub Rests : ℕ → Bool → Link → Link → Type 0
+abbrev pub Rests : ℕ → Marks → Link → Link → Type 0
 Rests l set k m = (n u : Moment) → Stage l set (Stands Nb n) (Stands Ue u) (Stands Nb n) (Stands Ue u) k m
 
-pub rests_then : (l : ℕ) (set : Bool) (k m p : Link) → Rests l set k m → Rests l set m p → Rests l set k p
+pub rests_then : (l : ℕ) (set : Marks) (k m p : Link) → Rests l set k m → Rests l set m p → Rests l set k p
 rests_then l set k m p f g n u = stage_then l set (Stands Nb n) (Stands Ue u) (Stands Nb n) (Stands Ue u) (Stands Nb n) (Stands Ue u) k m p (f n u) (g n u)
 
 -- ---- no call
 
 -- records that tell nothing of an end, and of no SDU of the loop
-told_stage : (l : ℕ) (set : Bool) (told : List Record) (k m : Link) (P Q : Station → Type 0) → m.nb ≡ k.nb → m.ue ≡ k.ue → m.out ≡ k.out ++ told → ((side : Side) → told_by side told ≡ []) → ((n : ℕ) → loops_in n told ≡ [])
+told_stage : (l : ℕ) (set : Marks) (told : List Record) (k m : Link) (P Q : Station → Type 0) → m.nb ≡ k.nb → m.ue ≡ k.ue → m.out ≡ k.out ++ told → ((side : Side) → told_by side told ≡ []) → ((n : ℕ) → loops_in n told ≡ [])
     → Stage l set P Q P Q k m
 told_stage l set told k m P Q nb ue out untold unlooped a h = record {
   air = a;
@@ -132,19 +132,19 @@ told_stage l set told k m P Q nb ue out untold unlooped a h = record {
   both = record { nb_is = h.nb_is ∙ sym nb; ue_is = h.ue_is ∙ sym ue; nb = h.nb; ue = h.ue };
 }
 
-pub says_stage : (l : ℕ) (set : Bool) (one : Record) (k : Link) (P Q : Station → Type 0) → event_of Nb one ≡ [] → event_of Ue one ≡ [] → ((n : ℕ) → is_looped n one ≡ false) → Stage l set P Q P Q k (says one k)
+pub says_stage : (l : ℕ) (set : Marks) (one : Record) (k : Link) (P Q : Station → Type 0) → event_of Nb one ≡ [] → event_of Ue one ≡ [] → ((n : ℕ) → is_looped n one ≡ false) → Stage l set P Q P Q k (says one k)
 says_stage l set one k P Q nb ue unlooped =
     told_stage l set (one ∷ []) k (says one k) P Q refl refl refl (by_sides (λ side. told_by side (one ∷ []) ≡ []) (ap (λ (es : List Event). es ++ []) nb) (ap (λ (es : List Event). es ++ []) ue))
     (λ n. unlooped_by n one [] (unlooped n) refl)
 
-pub says_rests : (l : ℕ) (set : Bool) (one : Record) (k : Link) → event_of Nb one ≡ [] → event_of Ue one ≡ [] → ((n : ℕ) → is_looped n one ≡ false) → Rests l set k (says one k)
+pub says_rests : (l : ℕ) (set : Marks) (one : Record) (k : Link) → event_of Nb one ≡ [] → event_of Ue one ≡ [] → ((n : ℕ) → is_looped n one ≡ false) → Rests l set k (says one k)
 says_rests l set one k nb ue unlooped n u = says_stage l set one k (Stands Nb n) (Stands Ue u) nb ue unlooped
 
 -- neither an end nor a record
-pub still_stage : (l : ℕ) (set : Bool) (k m : Link) (P Q : Station → Type 0) → m.nb ≡ k.nb → m.ue ≡ k.ue → m.out ≡ k.out → Stage l set P Q P Q k m
+pub still_stage : (l : ℕ) (set : Marks) (k m : Link) (P Q : Station → Type 0) → m.nb ≡ k.nb → m.ue ≡ k.ue → m.out ≡ k.out → Stage l set P Q P Q k m
 still_stage l set k m P Q nb ue out = told_stage l set [] k m P Q nb ue (out ∙ sym (append-nil k.out)) (λ side. refl) (λ n. refl)
 
-pub still_rests : (l : ℕ) (set : Bool) (k m : Link) → m.nb ≡ k.nb → m.ue ≡ k.ue → m.out ≡ k.out → Rests l set k m
+pub still_rests : (l : ℕ) (set : Marks) (k m : Link) → m.nb ≡ k.nb → m.ue ≡ k.ue → m.out ≡ k.out → Rests l set k m
 still_rests l set k m nb ue out n u = still_stage l set k m (Stands Nb n) (Stands Ue u) nb ue out
 
 -- ---- a call that visits no process and brings no block
@@ -188,7 +188,7 @@ plain_calling s (Receive block) p = absurd p
 plain_calling s (Expire lcid clock) p = tt
 plain_calling s (Move keys) p = tt
 
-pub goes_plain : (l : ℕ) (set : Bool) (side : Side) (told : List Record) (given : Side → ℕ → List (List ℕ)) (c : EndCall) (a : Air) → IsPlain c → IsGivenTo c → IsPlayed l set c → Says side told given (station side a).end c
+pub goes_plain : (l : ℕ) (set : Marks) (side : Side) (told : List Record) (given : Side → ℕ → List (List ℕ)) (c : EndCall) (a : Air) → IsPlain c → IsGivenTo c → IsPlayed l set c → Says side told given (station side a).end c
     → Goes l set told given a (with_station side (record (station side a) { end = after_call (station side a).end c }) a)
 goes_plain l set side told given c a p g life x =
     subst (λ (s : Station). Goes l set told given a (with_station side s a)) (plain_calls (station side a) c p) (goes_call l set side told given c a g life (plain_calling (station side a) c p) x)
@@ -218,7 +218,7 @@ stands_on side n s c g keeps h = record { is = station_goes side (wait n) s c h.
 says_at : (side : Side) (told : List Record) (given : Side → ℕ → List (List ℕ)) (c : EndCall) (e f : End) → e ≡ f → Says side told given f c → Says side told given e c
 says_at side told given c e f is x = subst (λ (y : End). Says side told given y c) (sym is) x
 
-pub called_nb : (l : ℕ) (set : Bool) (c : EndCall) (told : List Record) (handed : Side → ℕ → List (List ℕ)) (k m : Link) (n : Moment) (Q : Station → Type 0) → IsPlayed l set c → Called Nb c told handed k m
+pub called_nb : (l : ℕ) (set : Marks) (c : EndCall) (told : List Record) (handed : Side → ℕ → List (List ℕ)) (k m : Link) (n : Moment) (Q : Station → Type 0) → IsPlayed l set c → Called Nb c told handed k m
     → Hands l set handed (Stands Nb n) Q (Stands Nb n) Q k m
 called_nb l set c told handed k m n Q life x a h = record {
   air = record a { nb = record a.nb { end = after_call a.nb.end c } };
@@ -233,7 +233,7 @@ called_nb l set c told handed k m n Q life x a h = record {
   };
 }
 
-pub called_ue : (l : ℕ) (set : Bool) (c : EndCall) (told : List Record) (handed : Side → ℕ → List (List ℕ)) (k m : Link) (P : Station → Type 0) (u : Moment) → IsPlayed l set c → Called Ue c told handed k m
+pub called_ue : (l : ℕ) (set : Marks) (c : EndCall) (told : List Record) (handed : Side → ℕ → List (List ℕ)) (k m : Link) (P : Station → Type 0) (u : Moment) → IsPlayed l set c → Called Ue c told handed k m
     → Hands l set handed P (Stands Ue u) P (Stands Ue u) k m
 called_ue l set c told handed k m P u life x a h = record {
   air = record a { ue = record a.ue { end = after_call a.ue.end c } };
@@ -248,7 +248,7 @@ called_ue l set c told handed k m P u life x a h = record {
   };
 }
 
-pub called_rests : (l : ℕ) (set : Bool) (side : Side) (c : EndCall) (told : List Record) (handed : Side → ℕ → List (List ℕ)) (k m : Link) → IsPlayed l set c → Called side c told handed k m
+pub called_rests : (l : ℕ) (set : Marks) (side : Side) (c : EndCall) (told : List Record) (handed : Side → ℕ → List (List ℕ)) (k m : Link) → IsPlayed l set c → Called side c told handed k m
     → (n u : Moment) → Hands l set handed (Stands Nb n) (Stands Ue u) (Stands Nb n) (Stands Ue u) k m
 called_rests l set Nb c told handed k m life x n u = called_nb l set c told handed k m n (Stands Ue u) life x
 called_rests l set Ue c told handed k m life x n u = called_ue l set c told handed k m (Stands Nb n) u life x
@@ -261,7 +261,7 @@ pub record Flown (octets : List ℕ) (s : Station) : Type 0 where
   pub there : slice_get s.blocks place ≡ Some block
   pub octets_are : block.octets ≡ octets
 
-pub hears_ue : (l : ℕ) (set : Bool) (octets : List ℕ) (k : Link) (P : Station → Type 0) (u : Moment) → ((s : Station) → P s → Flown octets s) → Stage l set P (Stands Ue u) P (Stands Ue u) k (hears Ue octets k)
+pub hears_ue : (l : ℕ) (set : Marks) (octets : List ℕ) (k : Link) (P : Station → Type 0) (u : Moment) → ((s : Station) → P s → Flown octets s) → Stage l set P (Stands Ue u) P (Stands Ue u) k (hears Ue octets k)
 hears_ue l set octets k P u flown a h =
     let f = flown a.nb h.nb in
     let es = (received k.ue octets).events in
@@ -284,7 +284,7 @@ hears_ue l set octets k P u flown a h =
       };
     }
 
-pub hears_nb : (l : ℕ) (set : Bool) (octets : List ℕ) (k : Link) (n : Moment) (Q : Station → Type 0) → ((s : Station) → Q s → Flown octets s) → Stage l set (Stands Nb n) Q (Stands Nb n) Q k (hears Nb octets k)
+pub hears_nb : (l : ℕ) (set : Marks) (octets : List ℕ) (k : Link) (n : Moment) (Q : Station → Type 0) → ((s : Station) → Q s → Flown octets s) → Stage l set (Stands Nb n) Q (Stands Nb n) Q k (hears Nb octets k)
 hears_nb l set octets k n Q flown a h =
     let f = flown a.ue h.ue in
     let es = (received k.nb octets).events in
@@ -327,7 +327,7 @@ pub record Visiting (side : Side) (t : Turn) (e : End) (s : Station) : Type 0 wh
   pub given : IsGivenTo (Visits t)
   pub is : s ≡ visiting t was
 
-played : (l : ℕ) (set : Bool) (t : Turn) → IsPlayed l set (Visits t)
+played : (l : ℕ) (set : Marks) (t : Turn) → IsPlayed l set (Visits t)
 played l set t = record { adds_none = refl; moves_none = refl; unset = λ off. refl }
 
 -- what the visit leaves of a link
@@ -340,7 +340,7 @@ pub record Visited (side : Side) (t : Turn) (told : List Record) (k m : Link) : 
   pub other_told : told_by (other side) told ≡ []
   pub unlooped : (n : ℕ) → loops_in n told ≡ []
 
-pub visit_nb : (l : ℕ) (set : Bool) (t : Turn) (told : List Record) (k m : Link) (Q : Station → Type 0) → Visited Nb t told k m → Stage l set (Stands Nb (Waits t.tti)) Q (Visiting Nb t k.nb) Q k m
+pub visit_nb : (l : ℕ) (set : Marks) (t : Turn) (told : List Record) (k m : Link) (Q : Station → Type 0) → Visited Nb t told k m → Stage l set (Stands Nb (Waits t.tti)) Q (Visiting Nb t k.nb) Q k m
 visit_nb l set t told k m Q x a h =
     let v = answer_to t a.nb.end in
     let b : Air = record a { nb = record a.nb { blocks = left_by v t.tti a.nb } } in
@@ -361,7 +361,7 @@ visit_nb l set t told k m Q x a h =
       };
     }
 
-pub visit_ue : (l : ℕ) (set : Bool) (t : Turn) (told : List Record) (k m : Link) (P : Station → Type 0) → Visited Ue t told k m → Stage l set P (Stands Ue (Waits t.tti)) P (Visiting Ue t k.ue) k m
+pub visit_ue : (l : ℕ) (set : Marks) (t : Turn) (told : List Record) (k m : Link) (P : Station → Type 0) → Visited Ue t told k m → Stage l set P (Stands Ue (Waits t.tti)) P (Visiting Ue t k.ue) k m
 visit_ue l set t told k m P x a h =
     let v = answer_to t a.ue.end in
     let b : Air = record a { ue = record a.ue { blocks = left_by v t.tti a.ue } } in
@@ -389,7 +389,7 @@ let_go side t e s h =
     subst (λ (x : Station). Stands side (Done t.tti) (record x { blocks = filter (lasts x.end.sender) x.blocks })) (sym h.is)
     (record { is = turned_station side t h.was h.stands (answer_to t h.was.end) (h.was.busy || is_new (answer_to t h.was.end)) refl h.given; idle = tt })
 
-pub done_nb : (l : ℕ) (set : Bool) (t : Turn) (e : End) (k : Link) (Q : Station → Type 0) → Stage l set (Visiting Nb t e) Q (Stands Nb (Done t.tti)) Q k k
+pub done_nb : (l : ℕ) (set : Marks) (t : Turn) (e : End) (k : Link) (Q : Station → Type 0) → Stage l set (Visiting Nb t e) Q (Stands Nb (Done t.tti)) Q k k
 done_nb l set t e k Q a h = record {
   air = record a { nb = record a.nb { blocks = filter (lasts a.nb.end.sender) a.nb.blocks } };
   more = [];
@@ -398,7 +398,7 @@ done_nb l set t e k Q a h = record {
   both = record { nb_is = h.nb_is; ue_is = h.ue_is; nb = let_go Nb t e a.nb h.nb; ue = h.ue };
 }
 
-pub done_ue : (l : ℕ) (set : Bool) (t : Turn) (e : End) (k : Link) (P : Station → Type 0) → Stage l set P (Visiting Ue t e) P (Stands Ue (Done t.tti)) k k
+pub done_ue : (l : ℕ) (set : Marks) (t : Turn) (e : End) (k : Link) (P : Station → Type 0) → Stage l set P (Visiting Ue t e) P (Stands Ue (Done t.tti)) k k
 done_ue l set t e k P a h = record {
   air = record a { ue = record a.ue { blocks = filter (lasts a.ue.end.sender) a.ue.blocks } };
   more = [];

@@ -38,7 +38,7 @@ use Rattle.link_laws.proofs.Telling.{some_from}
 use Rattle.link_laws.proofs.Visiting.{sent, visit_records, comes_seen, builds_down, sent_down, enough_by_grant, builds_up, sent_up}
 use Rattle.flow_laws.specs.Air.{Station, built_at}
 use Rattle.air_laws.specs.Going.{loops_in}
-use Rattle.air_laws.proofs.Going.{none}
+use Rattle.air_laws.proofs.Going.{Marks, none}
 use Rattle.air_laws.proofs.Resting.{call_rests}
 use Rattle.air_laws.proofs.Stages.{unlooped_by, events_unlooped, looped_more, Stands, Stage, stage_then, says_stage, still_stage, says_nothing, called_nb, called_ue, Flown, hears_ue, hears_nb, Visiting, visit_nb, visit_ue, done_nb, done_ue, answer_to}
 use Rattle.air_laws.proofs.Stations.{Moment, Waits, Done, left_by, Sends, sends_new, sends_again}
@@ -127,7 +127,7 @@ fed_is v t e is loud =
 quiet_is : (t : Turn) (e : End) → visit t.tti t.order e ≡ Quiet → built t.tti t.grant t.order e ≡ after_call e (Visits t)
 quiet_is t e is = sym (ap (λ (w : Visit). answered w t (built t.tti t.grant t.order e)) is)
 
-module _ (l : ℕ) (set : Bool) where
+module _ (l : ℕ) (set : Marks) where
   -- ---- the downlink
 
   -- what comes to the terminal's receiver

@@ -1,5 +1,6 @@
 pub mod On
 pub mod Going
+pub mod Staying
 pub mod Lives
 pub mod Lived
 pub mod Links

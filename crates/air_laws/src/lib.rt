@@ -3,6 +3,7 @@
 #![tactic(auto)]
 
 ghost use Rattle.air_laws.specs.Going.{StepsGoByAir};
+ghost use Rattle.air_laws.specs.Staying.{StepsStay, HandoversMove};
 ghost use Rattle.air_laws.specs.Lives.{FirstIsAtRest, CallsRest, SubmissionsRest, ChannelsBegin};
 ghost use Rattle.air_laws.specs.Lived.{EndsLive, BearersLive, StepsLive, RunsLive};
 ghost use Rattle.air_laws.specs.Links.{LinksAreFlows, LinksAreOrdered};
@@ -47,4 +48,11 @@ pub fn links_are_flows()
 /// VT(A) ≤ VR(R) ≤ VR(MS) ≤ VR(H) ≤ VT(S) ≤ VT(A) + 512.
 pub fn links_are_ordered()
     ensures { LinksAreOrdered }
+{}
+
+/// In all of them but a handover both ends stay in their cell, so that no life ends. In a handover both move under the same keys, and then
+/// only steps of the next life come, by which the test loop may return SDUs; first the records tell what the ends tell as they move.
+pub fn lines_are_of_lives()
+    ensures steps { StepsStay }
+    ensures handovers { HandoversMove }
 {}
