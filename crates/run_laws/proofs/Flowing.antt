@@ -30,9 +30,12 @@ use Rattle.link_laws.proofs.Calling.{submitting_adds}
 use Rattle.l2_node.specs.End.{End}
 use Rattle.air_laws.specs.Going.{sets, handed_in as handed_by, looped_at as looped_by, IsStepSince}
 use Rattle.air_laws.specs.Lived.{Lived}
+use Rattle.air_laws.specs.Staying.{hands_over as moves}
 use Rattle.air_laws.proofs.Lived.{ends_live, steps_live}
+use Rattle.air_laws.proofs.Staying.{LivedIn, ends_live_in, lived_in_as, steps_live_in}
 use Rattle.test_loop.specs.declared.Mode.TheVariants.{Off, A, B}
 use Rattle.run_laws.specs.Delivery.{forges, sets_timer}
+use Rattle.run_laws.specs.Drained.{hands_over}
 use Rattle.run_laws.specs.Flows.{handed_in, looped_at}
 use Rattle.run_laws.specs.Parts.{Part, Submits, Rests, part}
 use Rattle.run_laws.proofs.Early.{none_looped}
@@ -83,7 +86,7 @@ untold_end side said is_done done = told_both side said (ending is_done done ∷
     none true = refl
     none false = refl
 
--- ---- the lives of a channel
+-- ---- what holds through any steps
 
 air_looped : (side : Side) (n : ℕ) (told : List Record) → looped_by side n told ≡ looped_at side n told
 air_looped Nb n told = refl
@@ -92,6 +95,221 @@ air_looped Ue n told = refl
 or_false : (b : Bool) → (b || false) ≡ b
 or_false true = refl
 or_false false = refl
+
+-- of what is known of a link by what was told, submitted and set since it began: a step goes on with it
+pub record StepLives (l : ℕ) (Live : List Record → Sdus → Bool → Link → Type 0) (told : List Record) (handed : Sdus) (set : Bool) (s : Step) (k : Link) : Type 0 where
+  pub more : List Record
+  pub out_is : (step s k).out ≡ k.out ++ more
+  pub lived : Live (told ++ more) (λ side n. handed side n ++ (handed_by side n s k ++ looped_by side n more)) (set || sets l s) (step s k)
+
+-- and so does each but a handover
+pub record GoesThrough (l : ℕ) (Live : List Record → Sdus → Bool → Link → Type 0) : Type 0 where
+  pub same : (told told' : List Record) (handed handed' : Sdus) (set set' : Bool) (k : Link) → told ≡ told' → ((side : Side) (n : ℕ) → handed side n ≡ handed' side n) → set ≡ set' → Live told handed set k → Live told' handed' set' k
+  pub unseen : (told : List Record) (handed : Sdus) (set : Bool) (k : Link) (out : List Record) → Live told handed set k → Live told handed set (record k { out = out })
+  pub steps : (told : List Record) (handed : Sdus) (set : Bool) (s : Step) (k : Link) → IsStepSince l s → moves s ≡ false → Live told handed set k → StepLives l Live told handed set s k
+
+module _ (l : ℕ) (Live : List Record → Sdus → Bool → Link → Type 0) (through : GoesThrough l Live) where
+  -- steps that hand in nothing
+  record GoesOn (told : List Record) (handed : Sdus) (set : Bool) (k m : Link) : Type 0 where
+    more : List Record
+    out_is : m.out ≡ k.out ++ more
+    lived : Live (told ++ more) (λ side n. handed side n ++ looped_at side n more) set m
+
+  goes_by : (told : List Record) (handed : Sdus) (set : Bool) (s : Step) (k : Link) → IsStepSince l s → moves s ≡ false → sets l s ≡ false → ((side : Side) (n : ℕ) → handed_by side n s k ≡ []) → Live told handed set k
+      → GoesOn told handed set k (step s k)
+  goes_by told handed set s k g own unset none h =
+      let x = through.steps told handed set s k g own h in
+      record {
+        more = x.more;
+        out_is = x.out_is;
+        lived = through.same _ _ _ _ (set || sets l s) set (step s k) refl
+            (λ side n. ap (λ (ys : List (List ℕ)). handed side n ++ (ys ++ looped_by side n x.more)) (none side n) ∙ ap (λ (ys : List (List ℕ)). handed side n ++ ys) (air_looped side n x.more))
+            (ap (λ (b : Bool). set || b) unset ∙ or_false set) x.lived;
+      }
+
+  still : (told : List Record) (handed : Sdus) (set : Bool) (k m : Link) → m.out ≡ k.out → Live told handed set m → GoesOn told handed set k m
+  still told handed set k m out h = record {
+    more = [];
+    out_is = out ∙ sym (append-nil k.out);
+    lived = through.same told (told ++ []) handed _ set set m (sym (append-nil told)) (λ side n. sym (no_more side n (handed side n))) refl h;
+  }
+
+  then_goes : (told : List Record) (handed : Sdus) (set : Bool) (k m o : Link) (g : GoesOn told handed set k m)
+      → GoesOn (told ++ g.more) (λ side n. handed side n ++ looped_at side n g.more) set m o → GoesOn told handed set k o
+  then_goes told handed set k m o g q = record {
+    more = g.more ++ q.more;
+    out_is = q.out_is ∙ ap (λ (x : List Record). x ++ q.more) g.out_is ∙ append_assoc k.out g.more q.more;
+    lived = through.same _ (told ++ (g.more ++ q.more)) _ _ set set o (append_assoc told g.more q.more) (λ side n. both_looped side n (handed side n) g.more q.more) refl q.lived;
+  }
+
+  tti_goes : (told : List Record) (handed : Sdus) (set : Bool) (grant : ℕ) (k : Link) → grant ≤ 9422 → Live told handed set k → GoesOn told handed set k (drain_tti grant k)
+  tti_goes told handed set grant k within h = goes_by told handed set (Drains grant) k within refl refl (λ side n. refl) h
+
+  receivers_go : (told : List Record) (handed : Sdus) (set : Bool) (k : Link) → Live told handed set k → GoesOn told handed set k (receivers_expire k)
+  receivers_go told handed set k h = goes_by told handed set (Calls calls.ReceiversExpire) k tt refl refl (λ side n. refl) h
+
+  senders_go : (b : Bool) (told : List Record) (handed : Sdus) (set : Bool) (k : Link) → Live told handed set k → GoesOn told handed set k (senders_unless b k)
+  senders_go true told handed set k h = still told handed set k k refl h
+  senders_go false told handed set k h = goes_by told handed set (Calls calls.SendersExpire) k tt refl refl (λ side n. refl) h
+
+  round_goes : (told : List Record) (handed : Sdus) (set : Bool) (grant : ℕ) (k : Link) → grant ≤ 9422 → Live told handed set k → GoesOn told handed set k (round grant k)
+  round_goes told handed set grant k within h =
+      let m = drain_tti grant k in
+      let n = receivers_expire m in
+      let to_m = tti_goes told handed set grant k within h in
+      let to_n = then_goes told handed set k m n to_m (receivers_go (told ++ to_m.more) _ set m to_m.lived) in
+      then_goes told handed set k n (senders_unless (carried m) n) to_n (senders_go (carried m) (told ++ to_n.more) _ set n to_n.lived)
+
+  -- ---- a part of a drain
+
+  record DrainLives (told : List Record) (handed : Sdus) (set : Bool) (d : Drained) : Type 0 where
+    nothing : d.link.out ≡ []
+    lived : Live (told ++ d.journal) (λ side n. handed side n ++ looped_at side n d.journal) set d.link
+
+  none_drained : (told : List Record) (handed : Sdus) (set : Bool) (k : Link) → k.out ≡ [] → Live told handed set k → DrainLives told handed set (at_once k)
+  none_drained told handed set k nothing h = record {
+    nothing = nothing;
+    lived = through.same told (told ++ []) handed _ set set k (sym (append-nil told)) (λ side n. sym (no_more side n (handed side n))) refl h;
+  }
+
+  first_drained : (told : List Record) (handed : Sdus) (set : Bool) (done : ℕ) (first : List Record) (d : Drained)
+      → DrainLives (told ++ first) (λ side n. handed side n ++ looped_at side n first) set d → DrainLives told handed set (behind first done d)
+  first_drained told handed set done first d q = record {
+    nothing = q.nothing;
+    lived = through.same _ (told ++ (first ++ d.journal)) _ _ set set d.link (append_assoc told first d.journal) (λ side n. both_looped side n (handed side n) first d.journal) refl q.lived;
+  }
+
+  -- where nothing was told before
+  alone : (told : List Record) (handed : Sdus) (set : Bool) (k m : Link) → k.out ≡ [] → GoesOn told handed set k m → Live (told ++ m.out) (λ side n. handed side n ++ looped_at side n m.out) set m
+  alone told handed set k m nothing g =
+      let same : m.out ≡ g.more = g.out_is ∙ ap (λ (x : List Record). x ++ g.more) nothing in
+      through.same _ _ _ _ set set m (ap (λ (x : List Record). told ++ x) (sym same)) (λ side n. ap (λ (x : List Record). handed side n ++ looped_at side n x) (sym same)) refl g.lived
+
+  ttis_go : (n grant : ℕ) (told : List Record) (handed : Sdus) (set : Bool) (k : Link) → grant ≤ 9422 → k.out ≡ [] → Live told handed set k → DrainLives told handed set (ttis n grant k)
+  ttis_go zero grant told handed set k within nothing h = none_drained told handed set k nothing h
+  ttis_go (suc n) grant told handed set k within nothing h =
+      let m = drain_tti grant k in
+      first_drained told handed set 0 m.out (ttis n grant (shown m))
+      (ttis_go n grant (told ++ m.out) _ set (shown m) within refl (through.unseen (told ++ m.out) _ set m [] (alone told handed set k m nothing (tti_goes told handed set grant k within h))))
+
+  round_by : (n grant : ℕ) (told : List Record) (handed : Sdus) (set : Bool) (k : Link) → grant ≤ 9422 → k.out ≡ [] → Live told handed set k → (b : Bool)
+      → ((said : List Record) (given : Sdus) (m : Link) → m.out ≡ [] → Live said given set m → DrainLives said given set (rounds n grant m))
+      → DrainLives told handed set (behind (told_by b grant k) (done_by b) (rounds n grant (left_by b grant k)))
+  round_by n grant told handed set k within nothing h true rest = let q = rest told handed k nothing h in record { nothing = q.nothing; lived = q.lived }
+  round_by n grant told handed set k within nothing h false rest =
+      let m = round grant k in
+      first_drained told handed set 1 m.out (rounds n grant (shown m))
+      (rest (told ++ m.out) _ (shown m) refl (through.unseen (told ++ m.out) _ set m [] (alone told handed set k m nothing (round_goes told handed set grant k within h))))
+
+  rounds_go : (n grant : ℕ) (told : List Record) (handed : Sdus) (set : Bool) (k : Link) → grant ≤ 9422 → k.out ≡ [] → Live told handed set k → DrainLives told handed set (rounds n grant k)
+  rounds_go zero grant told handed set k within nothing h = none_drained told handed set k nothing h
+  rounds_go (suc n) grant told handed set k within nothing h =
+      round_by n grant told handed set k within nothing h (is_drained k) (λ said given m none q. rounds_go n grant said given set m within none q)
+
+  -- the records of a whole drain end with how it ends
+  record WholeLives (told : List Record) (handed : Sdus) (set : Bool) (d : Drained) : Type 0 where
+    said : List Record
+    lived : Live (told ++ said) (λ side n. handed side n ++ looped_at side n said) set d.link
+    is_done : Bool
+    done : ℕ
+    journal_is : d.journal ≡ said ++ ending is_done done ∷ []
+
+  drained_lives : (told : List Record) (handed : Sdus) (set : Bool) (grant : ℕ) (k : Link) → grant ≤ 9422 → k.out ≡ [] → Live told handed set k → WholeLives told handed set (drained grant k)
+  unfolding drained
+  drained_lives told handed set grant k within nothing h =
+      let d = ttis 8 grant k in
+      let e = rounds (budget k) grant d.link in
+      let p = ttis_go 8 grant told handed set k within nothing h in
+      let whole = behind d.journal 0 e in
+      record {
+        said = whole.journal;
+        lived = (first_drained told handed set 0 d.journal e (rounds_go (budget k) grant (told ++ d.journal) _ set d.link within p.nothing p.lived)).lived;
+        is_done = is_drained whole.link;
+        done = whole.done;
+        journal_is = refl;
+      }
+
+  -- ---- a line
+
+  pub record PartLives (told : List Record) (handed : Sdus) (set : Bool) (p : Part) (m : Link) : Type 0 where
+    pub more : List Record
+    pub lived : Live (told ++ more) (λ side n. handed side n ++ (handed_in side n p m.out ++ looped_at side n m.out)) set m
+    pub told_are : (side : Side) → told_of side m.out ≡ told_of side more
+
+  pub step_plays : (told : List Record) (handed : Sdus) (set : Bool) (s : Step) (k : Link) (p : Part) → k.out ≡ [] → ((side : Side) (n : ℕ) → handed_by side n s k ≡ handed_in side n p (step s k).out)
+      → StepLives l Live told handed set s k → PartLives told handed (set || sets l s) p (step s k)
+  step_plays told handed set s k p nothing given x =
+      let m = step s k in
+      let same : m.out ≡ x.more = x.out_is ∙ ap (λ (y : List Record). y ++ x.more) nothing in
+      record {
+        more = m.out;
+        lived = through.same _ _ _ _ (set || sets l s) (set || sets l s) m (ap (λ (y : List Record). told ++ y) (sym same))
+            (λ side n.
+            ap (λ (ys : List (List ℕ)). handed side n ++ (handed_by side n s k ++ ys)) (air_looped side n x.more ∙ ap (looped_at side n) (sym same))
+            ∙ ap (λ (ys : List (List ℕ)). handed side n ++ (ys ++ looped_at side n m.out)) (given side n))
+            refl x.lived;
+        told_are = λ side. refl;
+      }
+
+  line_by : (told : List Record) (handed : Sdus) (set : Bool) (s : Step) (k : Link) (p : Part) → k.out ≡ [] → ((side : Side) (n : ℕ) → handed_by side n s k ≡ handed_in side n p (step s k).out)
+      → IsStepSince l s → moves s ≡ false → Live told handed set k → PartLives told handed (set || sets l s) p (step s k)
+  line_by told handed set s k p nothing given g own h = step_plays told handed set s k p nothing given (through.steps told handed set s k g own h)
+
+  rests_by : (told : List Record) (handed : Sdus) (set : Bool) (c : calls.Call) (k : Link) → k.out ≡ [] → IsStepSince l (Calls c) → moves (Calls c) ≡ false → Live told handed set k
+      → PartLives told handed (set || sets l (Calls c)) Rests (calls.after c k)
+  rests_by told handed set c k nothing g own h = line_by told handed set (Calls c) k Rests nothing (λ side n. refl) g own h
+
+  none_lives : (told : List Record) (handed : Sdus) (set : Bool) (k : Link) → k.out ≡ [] → Live told handed set k → PartLives told handed (set || false) Rests k
+  none_lives told handed set k nothing h = record {
+    more = [];
+    lived = through.same told (told ++ []) handed _ set (set || false) k (sym (append-nil told)) (λ side n. sym (no_more side n (handed side n)) ∙ ap (λ (y : List Record). handed side n ++ looped_at side n y) (sym nothing)) (sym (or_false set)) h;
+    told_are = λ side. ap (told_of side) nothing;
+  }
+
+  submit_lives : (told : List Record) (handed : Sdus) (set : Bool) (side : Side) (lcid : ℕ) (octets : List ℕ) (k : Link) → k.out ≡ [] → Live told handed set k
+      → PartLives told handed (set || false) (Submits side lcid octets) (submitting side lcid octets k)
+  submit_lives told handed set side lcid octets k nothing h =
+      let why = option_map no_place (refusal lcid octets (end_of side k)) in
+      let out : (submitting side lcid octets k).out ≡ refusals side lcid why = (submitting_adds side lcid octets k).out_is ∙ ap (λ (x : List Record). x ++ refusals side lcid why) nothing in
+      line_by told handed set (Submit side lcid octets) k (Submits side lcid octets) nothing
+      (λ s n. sym (ap (λ (x : List Record). handed_in s n (Submits side lcid octets) x) out ∙ submit_handed (refusal lcid octets (end_of side k)) s side n lcid octets))
+      tt refl h
+
+  drain_lives : (told : List Record) (handed : Sdus) (set : Bool) (grant : ℕ) (k : Link) → grant ≤ 9422 → k.out ≡ [] → Live told handed set k → PartLives told handed (set || false) (part (lines.Drain grant)) (record (drained grant k).link { out = (drained grant k).journal })
+  drain_lives told handed set grant k within nothing h =
+      let w = drained_lives told handed set grant k within nothing h in
+      let d = drained grant k in
+      record {
+        more = w.said;
+        lived = through.same _ _ _ _ set (set || false) (record d.link { out = d.journal }) refl
+            (λ side n. ap (λ (ys : List (List ℕ)). handed side n ++ ys) (sym (ap (looped_at side n) w.journal_is ∙ unlooped_end side n w.said w.is_done w.done)))
+            (sym (or_false set)) (through.unseen _ _ set d.link d.journal w.lived);
+        told_are = λ side. ap (told_of side) w.journal_is ∙ untold_end side w.said w.is_done w.done;
+      }
+
+  -- any line but a handover
+  pub line_stays : (told : List Record) (handed : Sdus) (set : Bool) (line : Line) (keys : Option Keys) (k : Link) → k.out ≡ [] → IsInRange line → adds_one l line ≡ false → forges line ≡ false → hands_over line ≡ false → Live told handed set k
+      → PartLives told handed (set || sets_timer l line) (part line) (played line keys k)
+  unfolding acted
+  line_stays told handed set (lines.Harq maximum) keys k nothing fits other own here h = rests_by told handed set (calls.Visits maximum) k nothing (fits.some, fits.few) refl h
+  line_stays told handed set lines.Bsr keys k nothing fits other own here h = rests_by told handed set calls.Reports k nothing tt refl h
+  line_stays told handed set (lines.Keys ks) keys k nothing fits other own here h = none_lives told handed set k nothing h
+  line_stays told handed set (lines.Bearer config options) keys k nothing fits other own here h = rests_by told handed set (calls.Bears config (keys_or_none keys)) k nothing (fits, other) refl h
+  line_stays told handed set (lines.Submit side lcid octets) keys k nothing fits other own here h = submit_lives told handed set side lcid octets k nothing h
+  line_stays told handed set (lines.Tti up_grant up down_grant down) keys k nothing fits other own here h =
+      line_by told handed set (Tti up_grant up down_grant down) k _ nothing (λ side n. refl) (fits.up, fits.down) refl h
+  line_stays told handed set (lines.Expire side lcid clock) keys k nothing fits other own here h = rests_by told handed set (calls.Expires side lcid clock) k nothing tt refl h
+  line_stays told handed set (lines.Handover user rrc integrity) keys k nothing fits other own here h = absurd cc
+  line_stays told handed set lines.LoopOff keys k nothing fits other own here h = rests_by told handed set (calls.Loops Off) k nothing tt refl h
+  line_stays told handed set (lines.LoopA size) keys k nothing fits other own here h = rests_by told handed set (calls.Loops (A size)) k nothing tt refl h
+  line_stays told handed set (lines.LoopB delay) keys k nothing fits other own here h = rests_by told handed set (calls.Loops (B delay)) k nothing tt refl h
+  line_stays told handed set (lines.Drain grant) keys k nothing fits other own here h = drain_lives told handed set grant k fits nothing h
+  line_stays told handed set (lines.Forge side octets) keys k nothing fits other own here h = absurd cc
+  line_stays told handed set (lines.Discard lcid count) keys k nothing fits other own here h = rests_by told handed set (calls.Discards lcid count) k nothing tt refl h
+  line_stays told handed set (lines.Drx config) keys k nothing fits other own here h = rests_by told handed set (calls.Listens config) k nothing tt refl h
+  line_stays told handed set lines.End keys k nothing fits other own here h = none_lives told handed set k nothing h
+
+-- ---- of all lives
 
 module _ (l : ℕ) (nb ue : End) where
   same_lived : (told told' : List Record) (handed handed' : Sdus) (set set' : Bool) (k : Link) → told ≡ told' → ((side : Side) (n : ℕ) → handed side n ≡ handed' side n) → set ≡ set'
@@ -112,197 +330,33 @@ module _ (l : ℕ) (nb ue : End) where
   pub unseen : (told : List Record) (handed : Sdus) (set : Bool) (k : Link) (out : List Record) → Lived l nb ue told handed set k → Lived l nb ue told handed set (record k { out = out })
   unseen told handed set k out h = ends_live l nb ue told handed set k (record k { out = out }) refl refl refl h
 
-  -- steps that hand in nothing
-  record GoesOn (told : List Record) (handed : Sdus) (set : Bool) (k m : Link) : Type 0 where
-    more : List Record
-    out_is : m.out ≡ k.out ++ more
-    lived : Lived l nb ue (told ++ more) (λ side n. handed side n ++ looped_at side n more) set m
 
-  goes_by : (told : List Record) (handed : Sdus) (set : Bool) (s : Step) (k : Link) → IsStepSince l s → sets l s ≡ false → ((side : Side) (n : ℕ) → handed_by side n s k ≡ []) → Lived l nb ue told handed set k
-      → GoesOn told handed set k (step s k)
-  goes_by told handed set s k g unset none h =
-      let x = steps_live l nb ue told handed set s k g h in
-      record {
-        more = x.more;
-        out_is = x.out_is;
-        lived = same_lived _ _ _ _ (set || sets l s) set (step s k) refl
-            (λ side n. ap (λ (ys : List (List ℕ)). handed side n ++ (ys ++ looped_by side n x.more)) (none side n) ∙ ap (λ (ys : List (List ℕ)). handed side n ++ ys) (air_looped side n x.more))
-            (ap (λ (b : Bool). set || b) unset ∙ or_false set) x.lived;
-      }
+  each_goes : (told : List Record) (handed : Sdus) (set : Bool) (s : Step) (k : Link) → IsStepSince l s → Lived l nb ue told handed set k → StepLives l (Lived l nb ue) told handed set s k
+  each_goes told handed set s k g h = let x = steps_live l nb ue told handed set s k g h in record { more = x.more; out_is = x.out_is; lived = x.lived }
 
-  still : (told : List Record) (handed : Sdus) (set : Bool) (k m : Link) → m.out ≡ k.out → Lived l nb ue told handed set m → GoesOn told handed set k m
-  still told handed set k m out h = record {
-    more = [];
-    out_is = out ∙ sym (append-nil k.out);
-    lived = same_lived told (told ++ []) handed _ set set m (sym (append-nil told)) (λ side n. sym (no_more side n (handed side n))) refl h;
-  }
+  pub through : GoesThrough l (Lived l nb ue)
+  through = record { same = same_lived; unseen = unseen; steps = λ told handed set s k g own h. each_goes told handed set s k g h }
 
-  then_goes : (told : List Record) (handed : Sdus) (set : Bool) (k m o : Link) (g : GoesOn told handed set k m)
-      → GoesOn (told ++ g.more) (λ side n. handed side n ++ looped_at side n g.more) set m o → GoesOn told handed set k o
-  then_goes told handed set k m o g q = record {
-    more = g.more ++ q.more;
-    out_is = q.out_is ∙ ap (λ (x : List Record). x ++ q.more) g.out_is ∙ append_assoc k.out g.more q.more;
-    lived = same_lived _ (told ++ (g.more ++ q.more)) _ _ set set o (append_assoc told g.more q.more) (λ side n. both_looped side n (handed side n) g.more q.more) refl q.lived;
-  }
-
-  tti_goes : (told : List Record) (handed : Sdus) (set : Bool) (grant : ℕ) (k : Link) → grant ≤ 9422 → Lived l nb ue told handed set k → GoesOn told handed set k (drain_tti grant k)
-  tti_goes told handed set grant k within h = goes_by told handed set (Drains grant) k within refl (λ side n. refl) h
-
-  receivers_go : (told : List Record) (handed : Sdus) (set : Bool) (k : Link) → Lived l nb ue told handed set k → GoesOn told handed set k (receivers_expire k)
-  receivers_go told handed set k h = goes_by told handed set (Calls calls.ReceiversExpire) k tt refl (λ side n. refl) h
-
-  senders_go : (b : Bool) (told : List Record) (handed : Sdus) (set : Bool) (k : Link) → Lived l nb ue told handed set k → GoesOn told handed set k (senders_unless b k)
-  senders_go true told handed set k h = still told handed set k k refl h
-  senders_go false told handed set k h = goes_by told handed set (Calls calls.SendersExpire) k tt refl (λ side n. refl) h
-
-  round_goes : (told : List Record) (handed : Sdus) (set : Bool) (grant : ℕ) (k : Link) → grant ≤ 9422 → Lived l nb ue told handed set k → GoesOn told handed set k (round grant k)
-  round_goes told handed set grant k within h =
-      let m = drain_tti grant k in
-      let n = receivers_expire m in
-      let to_m = tti_goes told handed set grant k within h in
-      let to_n = then_goes told handed set k m n to_m (receivers_go (told ++ to_m.more) _ set m to_m.lived) in
-      then_goes told handed set k n (senders_unless (carried m) n) to_n (senders_go (carried m) (told ++ to_n.more) _ set n to_n.lived)
-
-  -- ---- a part of a drain
-
-  record DrainLives (told : List Record) (handed : Sdus) (set : Bool) (d : Drained) : Type 0 where
-    nothing : d.link.out ≡ []
-    lived : Lived l nb ue (told ++ d.journal) (λ side n. handed side n ++ looped_at side n d.journal) set d.link
-
-  none_drained : (told : List Record) (handed : Sdus) (set : Bool) (k : Link) → k.out ≡ [] → Lived l nb ue told handed set k → DrainLives told handed set (at_once k)
-  none_drained told handed set k nothing h = record {
-    nothing = nothing;
-    lived = same_lived told (told ++ []) handed _ set set k (sym (append-nil told)) (λ side n. sym (no_more side n (handed side n))) refl h;
-  }
-
-  first_drained : (told : List Record) (handed : Sdus) (set : Bool) (done : ℕ) (first : List Record) (d : Drained)
-      → DrainLives (told ++ first) (λ side n. handed side n ++ looped_at side n first) set d → DrainLives told handed set (behind first done d)
-  first_drained told handed set done first d q = record {
-    nothing = q.nothing;
-    lived = same_lived _ (told ++ (first ++ d.journal)) _ _ set set d.link (append_assoc told first d.journal) (λ side n. both_looped side n (handed side n) first d.journal) refl q.lived;
-  }
-
-  -- where nothing was told before
-  alone : (told : List Record) (handed : Sdus) (set : Bool) (k m : Link) → k.out ≡ [] → GoesOn told handed set k m → Lived l nb ue (told ++ m.out) (λ side n. handed side n ++ looped_at side n m.out) set m
-  alone told handed set k m nothing g =
-      let same : m.out ≡ g.more = g.out_is ∙ ap (λ (x : List Record). x ++ g.more) nothing in
-      same_lived _ _ _ _ set set m (ap (λ (x : List Record). told ++ x) (sym same)) (λ side n. ap (λ (x : List Record). handed side n ++ looped_at side n x) (sym same)) refl g.lived
-
-  ttis_go : (n grant : ℕ) (told : List Record) (handed : Sdus) (set : Bool) (k : Link) → grant ≤ 9422 → k.out ≡ [] → Lived l nb ue told handed set k → DrainLives told handed set (ttis n grant k)
-  ttis_go zero grant told handed set k within nothing h = none_drained told handed set k nothing h
-  ttis_go (suc n) grant told handed set k within nothing h =
-      let m = drain_tti grant k in
-      first_drained told handed set 0 m.out (ttis n grant (shown m))
-      (ttis_go n grant (told ++ m.out) _ set (shown m) within refl (unseen (told ++ m.out) _ set m [] (alone told handed set k m nothing (tti_goes told handed set grant k within h))))
-
-  round_by : (n grant : ℕ) (told : List Record) (handed : Sdus) (set : Bool) (k : Link) → grant ≤ 9422 → k.out ≡ [] → Lived l nb ue told handed set k → (b : Bool)
-      → ((said : List Record) (given : Sdus) (m : Link) → m.out ≡ [] → Lived l nb ue said given set m → DrainLives said given set (rounds n grant m))
-      → DrainLives told handed set (behind (told_by b grant k) (done_by b) (rounds n grant (left_by b grant k)))
-  round_by n grant told handed set k within nothing h true rest = let q = rest told handed k nothing h in record { nothing = q.nothing; lived = q.lived }
-  round_by n grant told handed set k within nothing h false rest =
-      let m = round grant k in
-      first_drained told handed set 1 m.out (rounds n grant (shown m))
-      (rest (told ++ m.out) _ (shown m) refl (unseen (told ++ m.out) _ set m [] (alone told handed set k m nothing (round_goes told handed set grant k within h))))
-
-  rounds_go : (n grant : ℕ) (told : List Record) (handed : Sdus) (set : Bool) (k : Link) → grant ≤ 9422 → k.out ≡ [] → Lived l nb ue told handed set k → DrainLives told handed set (rounds n grant k)
-  rounds_go zero grant told handed set k within nothing h = none_drained told handed set k nothing h
-  rounds_go (suc n) grant told handed set k within nothing h =
-      round_by n grant told handed set k within nothing h (is_drained k) (λ said given m none q. rounds_go n grant said given set m within none q)
-
-  -- the records of a whole drain end with how it ends
-  record WholeLives (told : List Record) (handed : Sdus) (set : Bool) (d : Drained) : Type 0 where
-    said : List Record
-    lived : Lived l nb ue (told ++ said) (λ side n. handed side n ++ looped_at side n said) set d.link
-    is_done : Bool
-    done : ℕ
-    journal_is : d.journal ≡ said ++ ending is_done done ∷ []
-
-  drained_lives : (told : List Record) (handed : Sdus) (set : Bool) (grant : ℕ) (k : Link) → grant ≤ 9422 → k.out ≡ [] → Lived l nb ue told handed set k → WholeLives told handed set (drained grant k)
-  unfolding drained
-  drained_lives told handed set grant k within nothing h =
-      let d = ttis 8 grant k in
-      let e = rounds (budget k) grant d.link in
-      let p = ttis_go 8 grant told handed set k within nothing h in
-      let whole = behind d.journal 0 e in
-      record {
-        said = whole.journal;
-        lived = (first_drained told handed set 0 d.journal e (rounds_go (budget k) grant (told ++ d.journal) _ set d.link within p.nothing p.lived)).lived;
-        is_done = is_drained whole.link;
-        done = whole.done;
-        journal_is = refl;
-      }
-
-  -- ---- a line
-
-  pub record LineLives (told : List Record) (handed : Sdus) (set : Bool) (p : Part) (m : Link) : Type 0 where
-    pub more : List Record
-    pub lived : Lived l nb ue (told ++ more) (λ side n. handed side n ++ (handed_in side n p m.out ++ looped_at side n m.out)) set m
-    pub told_are : (side : Side) → told_of side m.out ≡ told_of side more
-
-  line_by : (told : List Record) (handed : Sdus) (set : Bool) (s : Step) (k : Link) (p : Part) → k.out ≡ [] → ((side : Side) (n : ℕ) → handed_by side n s k ≡ handed_in side n p (step s k).out)
-      → IsStepSince l s → Lived l nb ue told handed set k → LineLives told handed (set || sets l s) p (step s k)
-  line_by told handed set s k p nothing given g h =
-      let x = steps_live l nb ue told handed set s k g h in
-      let m = step s k in
-      let same : m.out ≡ x.more = x.out_is ∙ ap (λ (y : List Record). y ++ x.more) nothing in
-      record {
-        more = m.out;
-        lived = same_lived _ _ _ _ (set || sets l s) (set || sets l s) m (ap (λ (y : List Record). told ++ y) (sym same))
-            (λ side n.
-            ap (λ (ys : List (List ℕ)). handed side n ++ (handed_by side n s k ++ ys)) (air_looped side n x.more ∙ ap (looped_at side n) (sym same))
-            ∙ ap (λ (ys : List (List ℕ)). handed side n ++ (ys ++ looped_at side n m.out)) (given side n))
-            refl x.lived;
-        told_are = λ side. refl;
-      }
-
-  rests_by : (told : List Record) (handed : Sdus) (set : Bool) (c : calls.Call) (k : Link) → k.out ≡ [] → IsStepSince l (Calls c) → Lived l nb ue told handed set k → LineLives told handed (set || sets l (Calls c)) Rests (calls.after c k)
-  rests_by told handed set c k nothing g h = line_by told handed set (Calls c) k Rests nothing (λ side n. refl) g h
-
-  none_lives : (told : List Record) (handed : Sdus) (set : Bool) (k : Link) → k.out ≡ [] → Lived l nb ue told handed set k → LineLives told handed (set || false) Rests k
-  none_lives told handed set k nothing h = record {
-    more = [];
-    lived = same_lived told (told ++ []) handed _ set (set || false) k (sym (append-nil told)) (λ side n. sym (no_more side n (handed side n)) ∙ ap (λ (y : List Record). handed side n ++ looped_at side n y) (sym nothing)) (sym (or_false set)) h;
-    told_are = λ side. ap (told_of side) nothing;
-  }
-
-  submit_lives : (told : List Record) (handed : Sdus) (set : Bool) (side : Side) (lcid : ℕ) (octets : List ℕ) (k : Link) → k.out ≡ [] → Lived l nb ue told handed set k
-      → LineLives told handed (set || false) (Submits side lcid octets) (submitting side lcid octets k)
-  submit_lives told handed set side lcid octets k nothing h =
-      let why = option_map no_place (refusal lcid octets (end_of side k)) in
-      let out : (submitting side lcid octets k).out ≡ refusals side lcid why = (submitting_adds side lcid octets k).out_is ∙ ap (λ (x : List Record). x ++ refusals side lcid why) nothing in
-      line_by told handed set (Submit side lcid octets) k (Submits side lcid octets) nothing
-      (λ s n. sym (ap (λ (x : List Record). handed_in s n (Submits side lcid octets) x) out ∙ submit_handed (refusal lcid octets (end_of side k)) s side n lcid octets))
-      tt h
-
-  drain_lives : (told : List Record) (handed : Sdus) (set : Bool) (grant : ℕ) (k : Link) → grant ≤ 9422 → k.out ≡ [] → Lived l nb ue told handed set k → LineLives told handed (set || false) (part (lines.Drain grant)) (record (drained grant k).link { out = (drained grant k).journal })
-  drain_lives told handed set grant k within nothing h =
-      let w = drained_lives told handed set grant k within nothing h in
-      let d = drained grant k in
-      record {
-        more = w.said;
-        lived = same_lived _ _ _ _ set (set || false) (record d.link { out = d.journal }) refl
-            (λ side n. ap (λ (ys : List (List ℕ)). handed side n ++ ys) (sym (ap (looped_at side n) w.journal_is ∙ unlooped_end side n w.said w.is_done w.done)))
-            (sym (or_false set)) (unseen _ _ set d.link d.journal w.lived);
-        told_are = λ side. ap (told_of side) w.journal_is ∙ untold_end side w.said w.is_done w.done;
-      }
+  abbrev pub LineLives : List Record → Sdus → Bool → Part → Link → Type 0
+  LineLives = PartLives l (Lived l nb ue) through
 
   pub line_lives : (told : List Record) (handed : Sdus) (set : Bool) (line : Line) (keys : Option Keys) (k : Link) → k.out ≡ [] → IsInRange line → adds_one l line ≡ false → forges line ≡ false → Lived l nb ue told handed set k
       → LineLives told handed (set || sets_timer l line) (part line) (played line keys k)
   unfolding acted
-  line_lives told handed set (lines.Harq maximum) keys k nothing fits other own h = rests_by told handed set (calls.Visits maximum) k nothing (fits.some, fits.few) h
-  line_lives told handed set lines.Bsr keys k nothing fits other own h = rests_by told handed set calls.Reports k nothing tt h
-  line_lives told handed set (lines.Keys ks) keys k nothing fits other own h = none_lives told handed set k nothing h
-  line_lives told handed set (lines.Bearer config options) keys k nothing fits other own h = rests_by told handed set (calls.Bears config (keys_or_none keys)) k nothing (fits, other) h
-  line_lives told handed set (lines.Submit side lcid octets) keys k nothing fits other own h = submit_lives told handed set side lcid octets k nothing h
-  line_lives told handed set (lines.Tti up_grant up down_grant down) keys k nothing fits other own h =
-      line_by told handed set (Tti up_grant up down_grant down) k _ nothing (λ side n. refl) (fits.up, fits.down) h
-  line_lives told handed set (lines.Expire side lcid clock) keys k nothing fits other own h = rests_by told handed set (calls.Expires side lcid clock) k nothing tt h
-  line_lives told handed set (lines.Handover user rrc integrity) keys k nothing fits other own h = rests_by told handed set (calls.HandsOver (next_keys user rrc integrity (keys_or_none keys))) k nothing tt h
-  line_lives told handed set lines.LoopOff keys k nothing fits other own h = rests_by told handed set (calls.Loops Off) k nothing tt h
-  line_lives told handed set (lines.LoopA size) keys k nothing fits other own h = rests_by told handed set (calls.Loops (A size)) k nothing tt h
-  line_lives told handed set (lines.LoopB delay) keys k nothing fits other own h = rests_by told handed set (calls.Loops (B delay)) k nothing tt h
-  line_lives told handed set (lines.Drain grant) keys k nothing fits other own h = drain_lives told handed set grant k fits nothing h
-  line_lives told handed set (lines.Forge side octets) keys k nothing fits other own h = absurd cc
-  line_lives told handed set (lines.Discard lcid count) keys k nothing fits other own h = rests_by told handed set (calls.Discards lcid count) k nothing tt h
-  line_lives told handed set (lines.Drx config) keys k nothing fits other own h = rests_by told handed set (calls.Listens config) k nothing tt h
-  line_lives told handed set lines.End keys k nothing fits other own h = none_lives told handed set k nothing h
+  line_lives told handed set (lines.Handover user rrc integrity) keys k nothing fits other own h =
+      let s = Calls (calls.HandsOver (next_keys user rrc integrity (keys_or_none keys))) in
+      step_plays l (Lived l nb ue) through told handed set s k Rests nothing (λ side n. refl) (each_goes told handed set s k tt h)
+  line_lives told handed set line keys k nothing fits other own h = line_stays l (Lived l nb ue) through told handed set line keys k nothing fits other own refl h
+
+-- ---- of one life
+
+module _ (l : ℕ) (nb ue : End) where
+  life_steps : (told : List Record) (handed : Sdus) (set : Bool) (s : Step) (k : Link) → IsStepSince l s → moves s ≡ false → LivedIn l nb ue told handed set k → StepLives l (LivedIn l nb ue) told handed set s k
+  life_steps told handed set s k g own h = let x = steps_live_in l nb ue told handed set s k g own h in record { more = x.more; out_is = x.out_is; lived = x.lived }
+
+  pub through_life : GoesThrough l (LivedIn l nb ue)
+  through_life = record {
+    same = λ told told' handed handed' set set' k e f g h. lived_in_as l nb ue told told' handed handed' set set' k e f g h;
+    unseen = λ told handed set k out h. ends_live_in l nb ue told handed set k (record k { out = out }) refl refl refl h;
+    steps = life_steps;
+  }
