@@ -107,7 +107,7 @@ all_drained [] at q = refl
 all_drained (b ∷ bs) zero q = (and_parts (is_drained b.state.flow) (list_all (λ b. is_drained b.state.flow) bs) q).0
 all_drained (b ∷ bs) (suc at) q = all_drained bs at (and_parts (is_drained b.state.flow) (list_all (λ b. is_drained b.state.flow) bs) q).1
 
-channel_drained : (l : ℕ) (e : End) → end_drained e ≡ true → is_drained (flow l e) ≡ true
+pub channel_drained : (l : ℕ) (e : End) → end_drained e ≡ true → is_drained (flow l e) ≡ true
 unfolding end_drained
 channel_drained l e q = all_drained e.bearers (find l e.bearers) q
 

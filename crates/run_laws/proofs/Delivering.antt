@@ -68,20 +68,20 @@ one_told side l (records.Of s (events.Up lcid octets)) told up h = up_by _ (lcid
 one_told side l (records.Of s e) told up h = ap (λ (xs : List (List ℕ)). xs ++ up) (none_up _ l e refl) ∙ sym h
 one_told side l one told up h = sym h
 
-ups_are_told : (side : Side) (l : ℕ) (told : List Record) → ups_on l (told_by side told) ≡ ups_in side l told
+pub ups_are_told : (side : Side) (l : ℕ) (told : List Record) → ups_on l (told_by side told) ≡ ups_in side l told
 ups_are_told side l [] = refl
 ups_are_told side l (one ∷ told) =
     flat_map-append (event_ups l) (event_of side one) (told_by side told) ∙ ap (λ (xs : List (List ℕ)). ups_on l (event_of side one) ++ xs) (ups_are_told side l told)
     ∙ one_told side l one told (ups_in side l told) refl
 
-ups_told : (side : Side) (l : ℕ) (past : List Group) → delivered side l past ≡ ups_on l (told_by side (history past))
+pub ups_told : (side : Side) (l : ℕ) (past : List Group) → delivered side l past ≡ ups_on l (told_by side (history past))
 ups_told side l [] = refl
 ups_told side l (g ∷ past) =
     ap (λ (xs : List (List ℕ)). xs ++ ups_in side l g.events) (ups_told side l past) ∙ ap (λ (xs : List (List ℕ)). ups_on l (told_by side (history past)) ++ xs) (sym (ups_are_told side l g.events))
     ∙ sym (flat_map-append (event_ups l) (told_by side (history past)) (told_by side g.events))
     ∙ ap (ups_on l) (sym (told_both side (history past) (records.Line g.number g.line ∷ g.events) (told_by side (history past)) (told_by side g.events) refl refl))
 
-other_is : (side : Side) → other_end side ≡ other side
+pub other_is : (side : Side) → other_end side ≡ other side
 other_is Nb = refl
 other_is Ue = refl
 
@@ -135,11 +135,11 @@ goes_on l c past g right order other own d =
 
 -- ---- the line in which its bearers come
 
-record IsFirst (c : BearerConfig) (r : Rules) (k : Link) : Type 0 where
-  early : r.begun ≡ false
-  none : is_taken c.channel.lcid k ≡ false
+pub record IsFirst (c : BearerConfig) (r : Rules) (k : Link) : Type 0 where
+  pub early : r.begun ≡ false
+  pub none : is_taken c.channel.lcid k ≡ false
 
-is_first : (c : BearerConfig) (options : _) (r : Rules) (k : Link) → refusal (lines.Bearer c options) r k ≡ None → IsFirst c r k
+pub is_first : (c : BearerConfig) (options : _) (r : Rules) (k : Link) → refusal (lines.Bearer c options) r k ≡ None → IsFirst c r k
 unfolding rule_broken
 is_first c options r k allowed =
     let taken = refused_if (is_taken c.channel.lcid k) BearerTwice in
@@ -155,7 +155,7 @@ has_bits count within = omega (arith, within)
 is_acknowledged : (kind : Kind) → kind ≡ Am → IsAcknowledged kind
 is_acknowledged kind e = subst IsAcknowledged (sym e) tt
 
-at_each : (P : Side → Type 0) → P Nb → P Ue → (side : Side) → P side
+pub at_each : (P : Side → Type 0) → P Nb → P Ue → (side : Side) → P side
 at_each P nb ue Nb = nb
 at_each P nb ue Ue = ue
 

@@ -64,16 +64,16 @@ drained_by : (past : List Group) (g : Group) (grant told : ℕ) (before : List R
 unfolding acted
 drained_by past g grant told before right e = drain_ends grant told (link_behind past) before (sym right.events_are ∙ e)
 
-link_drained : (past : List Group) (g : Group) → IsRight past g → EndsDrained g → is_drained (link_behind (g ∷ past)) ≡ true
+pub link_drained : (past : List Group) (g : Group) → IsRight past g → EndsDrained g → is_drained (link_behind (g ∷ past)) ≡ true
 link_drained past g right d =
     subst (λ (line : Line). is_drained (link_behind (record g { line = line } ∷ past)) ≡ true) (sym d.line_is)
     (drained_by past g d.grant d.rounds d.before (subst (λ (line : Line). IsRight past (record g { line = line })) d.line_is right) d.events_are)
 
-side_drained : (side : Side) (k : Link) → is_drained k ≡ true → end_drained (end_of side k) ≡ true
+pub side_drained : (side : Side) (k : Link) → is_drained k ≡ true → end_drained (end_of side k) ≡ true
 side_drained Nb k e = (and_parts (end_drained k.nb) (end_drained k.ue) e).0
 side_drained Ue k e = (and_parts (end_drained k.nb) (end_drained k.ue) e).1
 
-end_is : (side : Side) (k : Link) (a : Air) → IsOn k a → end_at side a ≡ end_of side k
+pub end_is : (side : Side) (k : Link) (a : Air) → IsOn k a → end_at side a ≡ end_of side k
 end_is Nb k a on = on.nb_is
 end_is Ue k a on = on.ue_is
 
@@ -95,7 +95,7 @@ drain_unforged grant r k allowed =
     let broken = not_first (rule_broken (lines.Drain grant) r k) _ allowed in
     no_cause r.forged Forged (not_second (refused_if (is_on k.looping.mode) LoopOn) _ (not_second (refused_if (nat_lt grant 200) SmallDrain) _ broken))
 
-none_forged : (past : List Group) (g : Group) → IsRight past g → EndsDrained g → is_forged (g ∷ past) ≡ false
+pub none_forged : (past : List Group) (g : Group) → IsRight past g → EndsDrained g → is_forged (g ∷ past) ≡ false
 none_forged past g right d =
     let r = (state_behind past).rules in
     let here : r.forged ≡ false = drain_unforged d.grant r (link_behind past) (subst (λ (line : Line). refusal line r (link_behind past) ≡ None) d.line_is right.allowed) in

@@ -12,6 +12,7 @@ use Rattle.run_laws.proofs.Processes.{are_carried}
 use Rattle.run_laws.proofs.Playing.{tells-all}
 use Rattle.run_laws.proofs.Reaching.{come_by_calls}
 use Rattle.run_laws.proofs.Texts.{none_meet}
+use Rattle.run_laws.proofs.Signalling.{delivers_each_life, drains_leave_no_signal}
 use Rattle.run_laws.proofs.Standing.{lines_tell}
 use Rattle.run_laws.proofs.Zero.{bring_in_order}
 
@@ -32,5 +33,7 @@ every-journal whole octets =
       brought = bring_in_order t.later t.order;
       delivered = delivers_in_order t.later t.order;
       drained = drains_leave_nothing t.later t.order;
+      signalled = delivers_each_life t.later t.order;
+      signals_drained = drains_leave_no_signal t.later t.order;
       in_order = lines_tell t.later t.order;
     }

@@ -22,7 +22,7 @@ use Rattle.flow_laws.proofs.Stations.{come_sound}
 use Rattle.flow_laws.proofs.Ups.{Stands, stands_more, tells_of, the_end}
 use Rattle.l2_node.specs.End.{End}
 use Rattle.l2_types.specs.declared.channel.Kind.{Kind}
-use Rattle.l2_types.specs.declared.channel.Kind.TheVariants.{Am}
+use Rattle.l2_types.specs.declared.channel.Kind.TheVariants.{Am, Srb}
 use Rattle.l2_types.specs.declared.side.Side.{Side}
 use Rattle.link_laws.specs.Ends.{told_by}
 use Rattle.node_laws.specs.Bearers.{adds, moves, AddNone}
@@ -157,4 +157,15 @@ pub sender_begins : (side : Side) (l : ℕ) (c : BearerConfig) (keys : Keys) (pa
 sender_begins side l c keys past kind h = record {
   stands = stands_so side l c keys (end_of side (link_behind past)) h;
   unfailed = λ quiet. ap has_failed h.bearer_is ∙ ap (λ (k : Kind). has_failed (flow_of k c keys side)) kind ∙ begins_unfailed c keys side;
+}
+
+-- also one of signalling
+signalling_unfailed : (c : BearerConfig) (keys : Keys) (side : Side) → has_failed (flow_of Srb c keys side) ≡ false
+unfolding fresh_am
+signalling_unfailed c keys side = refl
+
+pub signalling_begins : (side : Side) (l : ℕ) (c : BearerConfig) (keys : Keys) (past : List Group) → c.kind ≡ Srb → HasBegun side l c keys (end_of side (link_behind past)) → HasSender side l past
+signalling_begins side l c keys past kind h = record {
+  stands = stands_so side l c keys (end_of side (link_behind past)) h;
+  unfailed = λ quiet. ap has_failed h.bearer_is ∙ ap (λ (k : Kind). has_failed (flow_of k c keys side)) kind ∙ signalling_unfailed c keys side;
 }

@@ -47,7 +47,7 @@ Sdus = Side → ℕ → List (List ℕ)
 
 -- ---- SDUs that come back through the test loop
 
-looped_then : (side : Side) (n : ℕ) (xs ys : List Record) → looped_at side n (xs ++ ys) ≡ looped_at side n xs ++ looped_at side n ys
+pub looped_then : (side : Side) (n : ℕ) (xs ys : List Record) → looped_at side n (xs ++ ys) ≡ looped_at side n xs ++ looped_at side n ys
 looped_then Nb n xs ys = refl
 looped_then Ue n xs ys = ap (map sdu_of) (filter-append (is_looped n) xs ys) ∙ map-append sdu_of (filter (is_looped n) xs) (filter (is_looped n) ys)
 
@@ -88,7 +88,7 @@ untold_end side said is_done done = told_both side said (ending is_done done ∷
 
 -- ---- what holds through any steps
 
-air_looped : (side : Side) (n : ℕ) (told : List Record) → looped_by side n told ≡ looped_at side n told
+pub air_looped : (side : Side) (n : ℕ) (told : List Record) → looped_by side n told ≡ looped_at side n told
 air_looped Nb n told = refl
 air_looped Ue n told = refl
 
@@ -329,7 +329,6 @@ module _ (l : ℕ) (nb ue : End) where
   -- records aren't looked at
   pub unseen : (told : List Record) (handed : Sdus) (set : Bool) (k : Link) (out : List Record) → Lived l nb ue told handed set k → Lived l nb ue told handed set (record k { out = out })
   unseen told handed set k out h = ends_live l nb ue told handed set k (record k { out = out }) refl refl refl h
-
 
   each_goes : (told : List Record) (handed : Sdus) (set : Bool) (s : Step) (k : Link) → IsStepSince l s → Lived l nb ue told handed set k → StepLives l (Lived l nb ue) told handed set s k
   each_goes told handed set s k g h = let x = steps_live l nb ue told handed set s k g h in record { more = x.more; out_is = x.out_is; lived = x.lived }

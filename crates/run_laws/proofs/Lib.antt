@@ -29,4 +29,5 @@ pub mod Delivering
 pub mod Drains
 pub mod Zero
 pub mod Standing
+pub mod Signalling
 pub mod Everything

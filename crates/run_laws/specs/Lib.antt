@@ -16,5 +16,6 @@ pub mod Texts
 pub mod Zero
 pub mod Delivery
 pub mod Drained
+pub mod Signalling
 pub mod Promises
 pub mod Journals

@@ -12,6 +12,7 @@ use Rattle.run_laws.specs.Ends.{ComeByCalls}
 use Rattle.run_laws.specs.Keys.{all_keys, AreDistinct}
 use Rattle.run_laws.specs.Loops.{ReturnInOrder}
 use Rattle.run_laws.specs.Order.{KeepsOrder}
+use Rattle.run_laws.specs.Signalling.{DeliversEachLife, DrainsLeaveNoSignal}
 use Rattle.run_laws.specs.Sums.{sums_at}
 use Rattle.run_laws.specs.Texts.{NoneMeet}
 use Rattle.run_laws.specs.Telling.{LinesTell}
@@ -42,5 +43,9 @@ pub record IsPromised (played : Played) : Type 0 where
   pub delivered : DeliversInOrder past
   -- and all of it once a drain tells that it is drained, but where the sender gave up
   pub drained : DrainsLeaveNothing past
+  -- each signalling bearer hands up what was submitted at the other end since the last handover, in order
+  pub signalled : DeliversEachLife past
+  -- and all of it once a drain tells that it is drained, but where the sender gave up
+  pub signals_drained : DrainsLeaveNoSignal past
   -- the records of each line stand in the order in which both ends, the blocks and the loop come to their turns
   pub in_order : LinesTell past

@@ -1,0 +1,52 @@
+-- What signalling bearers deliver, in each direction: from one handover to the next, since they begin anew in it (TS 36.322 5.1.3, 5.4, TS 36.323
+-- 5.1, 5.2.1.3, 5.2.2.3).
+use Rattle.std.specs.Prelude.{◌≡◌, ℕ, false, if◌then◌else◌, Some, List, [], ◌∷◌, ◌++◌}
+use Rattle.air_link.specs.Link.{other}
+use Rattle.air_text.specs.Groups.{Group}
+use Rattle.am_laws.specs.Sdus.{IsFront}
+use Rattle.bearer_types.specs.declared.config.BearerConfig.{BearerConfig}
+use Rattle.l2_types.specs.declared.channel.Kind.TheVariants.{Srb}
+use Rattle.l2_types.specs.declared.side.Side.{Side}
+use Rattle.link_laws.specs.Zero.{ups_in}
+use Rattle.run_laws.specs.Delivery.{is_forged}
+use Rattle.run_laws.specs.Drained.{hands_over, failed, EndsDrained}
+use Rattle.run_laws.specs.Flows.{handed_in, looped_at}
+use Rattle.run_laws.specs.Parts.{part}
+use Rattle.run_laws.specs.Texts.{config_of}
+
+-- ---- since the last handover, or the beginning: the SDUs that a side submitted on a channel, and those that were handed up there
+
+abbrev pub submitted_since : Side → ℕ → List Group → List (List ℕ)
+submitted_since side lcid [] = []
+submitted_since side lcid (g ∷ past) = (if hands_over g.line then [] else submitted_since side lcid past) ++ (handed_in side lcid (part g.line) g.events ++ looped_at side lcid g.events)
+
+abbrev pub delivered_since : Side → ℕ → List Group → List (List ℕ)
+delivered_since side lcid [] = []
+delivered_since side lcid (g ∷ past) = (if hands_over g.line then [] else delivered_since side lcid past) ++ ups_in side lcid g.events
+
+-- ---- on a channel
+
+-- what the other end has handed up are the SDUs that this end submitted first: in their order, each once and unchanged, with none left out
+pub record DeliversSignals (from : Side) (lcid : ℕ) (past : List Group) : Type 0 where
+  pub front : IsFront (delivered_since (other from) lcid past) (submitted_since from lcid past)
+
+-- on each channel with a signalling bearer, where no block was forged
+abbrev pub SignalAll : List Group → Type 0
+SignalAll past = (from : Side) (lcid : ℕ) (config : BearerConfig) → config_of lcid past ≡ Some config → config.kind ≡ Srb → is_forged past ≡ false → DeliversSignals from lcid past
+
+-- behind each group, of which the newest stands first
+abbrev pub DeliversEachLife : List Group → Type 0
+DeliversEachLife [] = Unit {0}
+DeliversEachLife (g ∷ past) = SignalAll (g ∷ past) × DeliversEachLife past
+
+-- ---- behind a drain
+
+-- they are all that it submitted, but where its sender gave up since
+abbrev pub LeavesNoSignal : List Group → Type 0
+LeavesNoSignal past = (from : Side) (lcid : ℕ) (config : BearerConfig) → config_of lcid past ≡ Some config → config.kind ≡ Srb
+    → failed from lcid past ≡ [] → delivered_since (other from) lcid past ≡ submitted_since from lcid past
+
+-- behind each drain that tells that it is drained
+abbrev pub DrainsLeaveNoSignal : List Group → Type 0
+DrainsLeaveNoSignal [] = Unit {0}
+DrainsLeaveNoSignal (g ∷ past) = (EndsDrained g → LeavesNoSignal (g ∷ past)) × DrainsLeaveNoSignal past
