@@ -97,7 +97,7 @@ expiry_told : (told : Option (List Event)) → told_of told ≡ unwrap_or told [
 expiry_told None = refl
 expiry_told (Some events) = refl
 
-tells_so : (l : ℕ) (b : State) (c : Call) → b.pdcp.lcid ≡ l → tells b c ≡ tells_in l (Am b) c
+pub tells_so : (l : ℕ) (b : State) (c : Call) → b.pdcp.lcid ≡ l → tells b c ≡ tells_in l (Am b) c
 tells_so l b (Submit sdu) q = refl
 tells_so l b (Take share held) q = ap (λ (n : ℕ). told n (Am b) share held) q
 tells_so l b (Arrive pdu) q = ap (λ (n : ℕ). arriving n (Am b) pdu) q

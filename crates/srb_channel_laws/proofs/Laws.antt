@@ -9,15 +9,16 @@ use Rattle.l2_types.specs.declared.side.Side.{Side}
 use Rattle.l2_types.specs.declared.side.Side.TheVariants.{Nb, Ue}
 use Rattle.node_laws.specs.Calls.{Call, Move}
 use Rattle.node_laws.specs.Telling.{told_of}
-use Rattle.flow_laws.specs.Ups.{ups_on}
+use Rattle.flow_laws.specs.Ups.{told_on, ups_on}
 use Rattle.channel_laws.specs.Delivery.{SetNone}
 use Rattle.channel_laws.specs.Drained.{IsDrained}
 use Rattle.channel_laws.specs.Lives.{AirStep, InLife, Moves, lives_on, lives, AreLiving, end_at, calls_at, all_calls}
 use Rattle.channel_laws.proofs.Ends.{IsCall, are_calls, all_more}
 use Rattle.flow_laws.specs.Air.{Air, Step as LinkStep, outset}
-use Rattle.srb_channel_laws.specs.Delivery.{BeginAlike, NoneSet, life_of, ChannelsDeliverTheFront, DrainedChannelsHaveDelivered, NothingGoesUpBetween}
+use Rattle.srb_delivery_laws.specs.Losses.{losses}
+use Rattle.srb_channel_laws.specs.Delivery.{BeginAlike, NoneSet, life_of, ChannelsDeliverTheFront, DrainedChannelsHaveDelivered, NothingGoesUpBetween, NothingIsLost}
 use Rattle.srb_channel_laws.specs.Running.{Life, start, now, goes_on, running, first_life}
-use Rattle.srb_channel_laws.proofs.Running.{Start, Runs, begins_run, runs_on, lives_more, calls_more, down, up, all_down, all_up, starts_anew, none_between, starts_first}
+use Rattle.srb_channel_laws.proofs.Running.{Start, Runs, begins_run, runs_on, lives_more, calls_more, down, up, all_down, all_up, starts_anew, none_between, none_lost, none_lost_between, starts_first}
 use Rattle.srb_channel_laws.proofs.Walk.{SetsNone}
 
 pub record Living (l : ℕ) (life : Life) : Type 0 where
@@ -118,3 +119,14 @@ nothing_between l c keys next nb ue side steps h g none =
     let life = life_of steps nb ue in
     subst (λ (a : Air). ups_on l (told_of (end_at side a) (Move next)) ≡ []) (running_is steps (first_life nb ue))
     (none_between l life.nb life.ue k.near k.far k.begun life.steps k.runs k.calls side next)
+
+pub loses_none : NothingIsLost
+loses_none l c keys nb ue side steps h g none =
+    let k = living l c keys nb ue steps h g none in
+    let life = life_of steps nb ue in
+    record {
+      in_life = none_lost l life.nb life.ue k.near k.far k.begun life.steps k.runs k.calls side;
+      between = λ next.
+          subst (λ (a : Air). losses (told_on l (told_of (end_at side a) (Move next))) ≡ []) (running_is steps (first_life nb ue))
+          (none_lost_between l life.nb life.ue k.near k.far k.begun life.steps k.runs k.calls side next);
+    }

@@ -1,4 +1,5 @@
 pub mod Sums
+pub mod Losing
 pub mod Walk
 pub mod Running
 pub mod Laws

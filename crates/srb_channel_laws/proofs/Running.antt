@@ -1,5 +1,5 @@
 -- The running life of a channel of signalling: as it begins, step by step, and as it ends.
-use Rattle.std.proofs.Common.{◌≡◌, ◌≤◌, ℕ, true, false, inl, inr, List, [], ◌∷◌, ◌++◌, append-nil, append_assoc, refl, ap, sym, subst, ◌∙◌}
+use Rattle.std.proofs.Common.{◌≡◌, ◌≤◌, ℕ, true, false, List, [], ◌∷◌, ◌++◌, append-nil, append_assoc, refl, ap, sym, subst, ◌∙◌}
 use Rattle.std.specs.List.{AllByRecursion}
 use Rattle.bearer.specs.Bearer.{flow_of}
 use Rattle.bearer.specs.declared.flow.Flow.{Flow}
@@ -16,9 +16,9 @@ use Rattle.l2_types.specs.declared.Kind.{Kind}
 use Rattle.l2_types.specs.declared.Kind.TheVariants as kinds
 use Rattle.l2_types.specs.declared.side.Side.{Side}
 use Rattle.l2_types.specs.declared.side.Side.TheVariants.{Nb, Ue}
-use Rattle.node_laws.specs.Calls.{Call, Move, IsGiven as IsGivenCall, after, run}
+use Rattle.node_laws.specs.Calls.{Call, Move, after, run}
 use Rattle.node_laws.specs.Holding.{flow}
-use Rattle.node_laws.specs.Telling.{told_of}
+use Rattle.node_laws.specs.Telling.{told_of, told_over}
 use Rattle.pdcp_pdu.specs.declared.PdcpKind.TheVariants.{Srb}
 use Rattle.am_bearer_laws.specs.Calls.{ups_in}
 use Rattle.am_laws.specs.Sdus.{IsFront}
@@ -33,16 +33,19 @@ use Rattle.delivery_laws.specs.Drained.{IsDrained as IsDrainedBearer}
 use Rattle.bearer.specs.Sums.{is_drained}
 use Rattle.flow_laws.specs.Air.{Air, Step as LinkStep, outset, Begins}
 use Rattle.flow_laws.specs.Pair.{Pair, Step, happens, goes, outset as pair_outset}
-use Rattle.flow_laws.specs.Ups.{IsNew, ups_on}
+use Rattle.flow_laws.specs.Ups.{told_on, ups_on}
 use Rattle.flow_laws.proofs.Air.{begins_so}
 use Rattle.flow_laws.proofs.Runs.{goes_more}
 use Rattle.flow_laws.proofs.Stations.{Matches}
 use Rattle.flow_laws.proofs.Ups.{Stands, stands_more, the_end, come_between, between_at}
+use Rattle.bearer_types.specs.declared.event.Event.{Event}
+use Rattle.srb_delivery_laws.specs.Losses.{losses, near_losses, far_losses}
 use Rattle.srb_delivery_laws.specs.Life.{BothBegin, AreLived, near_ups, far_ups, near_submits, far_submits, over}
 use Rattle.srb_delivery_laws.specs.Lives.{renews, BothBeginAnew}
-use Rattle.srb_delivery_laws.proofs.Laws.{delivers_front, drained_delivers}
+use Rattle.srb_delivery_laws.proofs.Laws.{delivers_front, drained_delivers, nothing_is_lost}
 use Rattle.srb_delivery_laws.proofs.Renewing.{fresh_begin, next_life}
-use Rattle.srb_channel_laws.proofs.Sums.{does, does_more, sums}
+use Rattle.srb_channel_laws.proofs.Losing.{all_losses, end_losses, pair_losses}
+use Rattle.srb_channel_laws.proofs.Sums.{does, does_more, sums, call_new}
 use Rattle.srb_channel_laws.proofs.Walk.{Walks, SetsNone, walks}
 
 -- ---- a life that began at two ends
@@ -170,15 +173,26 @@ module _ (l : ℕ) (nb ue : End) (near far : State) (s : Start l nb ue near far)
   pub all_up : IsDrained l (lives xs a).ue.end → went_up l (all_calls Nb xs a) nb ≡ was_submitted l (all_calls Ue xs a) ue
   all_up d = sym nb_ups ∙ (drained_delivers near far r.steps s.both r.lived).back (drained_so (lives xs a).ue.end last.far.bearer r.ue_is.bearer_is d) ∙ ue_submitted
 
-  -- ---- as it ends
+  -- ---- nothing is lost
 
-  in_life_new : (e : End) (c : Call) → IsCall l c → IsGivenCall c × IsNew l e c
-  in_life_new e c (inl g) = (g.0, λ q. let no : true ≡ false = sym q ∙ g.1.adds_none in absurd cc)
-  in_life_new e c (inr (keys, q)) = subst (λ (d : Call). IsGivenCall d × IsNew l e d) (sym q) (tt, λ p. let no : false ≡ true = p in absurd cc)
+  lost_by : (side : Side) (e : End) (b : State) (cs : List Call) (found : List Event) → flow l e ≡ Am b → Stands side l e → AllByRecursion (IsCall l) cs
+      → found ≡ all_losses l (Am b) (does side r.steps (pair near far)) → does side r.steps (pair near far) ≡ steps_over l cs e → found ≡ [] → losses (told_on l (told_over cs e)) ≡ []
+  lost_by side e b cs found is st g found_is does_is none =
+      end_losses side l cs e st g ∙ ap (λ (f : Flow). all_losses l f (steps_over l cs e)) is ∙ ap (all_losses l (Am b)) (sym does_is) ∙ sym found_is ∙ none
+
+  pub none_lost : (side : Side) → losses (told_on l (told_over (all_calls side xs a) (end_at side a))) ≡ []
+  none_lost Nb =
+      lost_by Nb nb near (all_calls Nb xs a) (over near_losses r.steps (pair near far)) s.nb_begins.bearer_is s.nb_stands (calls Nb)
+      (pair_losses l Nb r.steps (pair near far) (between_first Nb nb near s.nb_begins)) r.nb_does (nothing_is_lost near far r.steps s.both r.lived).near_none
+  none_lost Ue =
+      lost_by Ue ue far (all_calls Ue xs a) (over far_losses r.steps (pair near far)) s.ue_begins.bearer_is s.ue_stands (calls Ue)
+      (pair_losses l Ue r.steps (pair near far) (between_first Ue ue far s.ue_begins)) r.ue_does (nothing_is_lost near far r.steps s.both r.lived).far_none
+
+  -- ---- as it ends
 
   stand_on : (side : Side) (e : End) (cs : List Call) → Stands side l e → AllByRecursion (IsCall l) cs → Stands side l (run cs e)
   stand_on side e [] st g = st
-  stand_on side e (c ∷ cs) st g = let one = in_life_new e c g.0 in stand_on side (after e c) cs (stands_more side l e c st one.0 one.1) g.1
+  stand_on side e (c ∷ cs) st g = let one = call_new l e c g.0 in stand_on side (after e c) cs (stands_more side l e c st one.0 one.1) g.1
 
   pub stands_at : (side : Side) → Stands side l (end_at side (lives xs a))
   stands_at Nb = subst (Stands Nb l) (sym (goes_by_calls Nb xs a)) (stand_on Nb nb (all_calls Nb xs a) s.nb_stands (calls Nb))
@@ -219,6 +233,13 @@ module _ (l : ℕ) (nb ue : End) (near far : State) (s : Start l nb ue near far)
   pub none_between : (side : Side) (keys : Keys) → ups_on l (told_of (end_at side (lives xs a)) (Move keys)) ≡ []
   none_between Nb keys = none_by Nb (lives xs a).nb.end last.near.bearer keys (stands_at Nb) r.nb_is.bearer_is (anew keys).near_anew.none_up
   none_between Ue keys = none_by Ue (lives xs a).ue.end last.far.bearer keys (stands_at Ue) r.ue_is.bearer_is (anew keys).far_anew.none_up
+
+  lost_at_the_end : (side : Side) (e : End) (b : State) (keys : Keys) → Stands side l e → flow l e ≡ Am b → losses (stopping (Am b)) ≡ [] → losses (told_on l (told_of e (Move keys))) ≡ []
+  lost_at_the_end side e b keys st is none = ap losses (the_end side l e keys st).told_is ∙ ap (λ (f : Flow). losses (stopping f)) is ∙ none
+
+  pub none_lost_between : (side : Side) (keys : Keys) → losses (told_on l (told_of (end_at side (lives xs a)) (Move keys))) ≡ []
+  none_lost_between Nb keys = lost_at_the_end Nb (lives xs a).nb.end last.near.bearer keys (stands_at Nb) r.nb_is.bearer_is (anew keys).near_anew.none_lost
+  none_lost_between Ue keys = lost_at_the_end Ue (lives xs a).ue.end last.far.bearer keys (stands_at Ue) r.ue_is.bearer_is (anew keys).far_anew.none_lost
 
 -- ---- the first life
 

@@ -1,5 +1,5 @@
 -- What goes up and what is submitted at an end of a pair, by the calls of its bearer.
-use Rattle.std.proofs.Common.{◌≡◌, ℕ, List, [], ◌∷◌, ◌++◌, append_assoc, refl, ap, sym, subst, ◌∙◌}
+use Rattle.std.proofs.Common.{◌≡◌, ℕ, true, false, inl, inr, List, [], ◌∷◌, ◌++◌, append_assoc, refl, ap, sym, subst, ◌∙◌}
 use Rattle.bearer.specs.declared.flow.Flow.{Flow}
 use Rattle.bearer.specs.declared.flow.Flow.TheVariants.{Am}
 use Rattle.bearer_am.specs.State.{State}
@@ -11,7 +11,10 @@ use Rattle.l2_types.specs.declared.side.Side.TheVariants.{Nb, Ue}
 use Rattle.am_bearer_laws.specs.Calls.{tells, ups_in}
 use Rattle.channel_laws.proofs.Acting.{as_steps, in_life_all}
 use Rattle.channel_laws.proofs.Bearers.{call_ups}
-use Rattle.channel_laws.proofs.Ends.{all_ups}
+use Rattle.channel_laws.proofs.Ends.{IsCall, all_ups}
+use Rattle.flow_laws.specs.Ups.{IsNew}
+use Rattle.l2_node.specs.End.{End}
+use Rattle.node_laws.specs.Calls.{Call as EndCall, IsGiven as IsGivenCall}
 use Rattle.channel_laws.proofs.Pairs.{own, all_does}
 use Rattle.delivery_laws.specs.Ends.{submitted_by}
 use Rattle.delivery_laws.specs.Lives.{near_calls, far_calls, ups_by}
@@ -53,7 +56,7 @@ does_more side (x ∷ xs) ys p =
 
 -- ---- in a step it is called once or not at all
 
-between_after : (l : ℕ) (f : Flow) (c : Call) → IsBetween l f → IsBetween l (after f c)
+pub between_after : (l : ℕ) (f : Flow) (c : Call) → IsBetween l f → IsBetween l (after f c)
 between_after l f (Submit sdu) k = submits_between l f sdu k
 between_after l f (Take share held) k = takes l f share held k
 between_after l f (Arrive pdu) k = arrives l f pdu k
@@ -77,7 +80,7 @@ few_so l (c ∷ []) b d xs t k =
     })
 few_so l (c ∷ x ∷ cs) b d xs t k = absurd t
 
-turns : (side : Side) (p : Pair) (s : Step) → Turns (own side p).bearer (calls_side side p s) (own side (happens p s)).bearer
+pub turns : (side : Side) (p : Pair) (s : Step) → Turns (own side p).bearer (calls_side side p s) (own side (happens p s)).bearer
 turns Nb p s = near_turns p s
 turns Ue p s = far_turns p s
 
@@ -95,3 +98,9 @@ sums l side (s ∷ ss) p k =
       ups_are = ap (λ (up : List (List ℕ)). ups_side side p s ++ up) rest.ups_are ∙ sym one.ups_are;
       submitted_are = ap (λ (sdus : List (List ℕ)). submits_side side p s ++ sdus) rest.submitted_are ∙ sym one.submitted_are;
     }
+
+-- ---- a call of a life, or a move, adds no bearer of the channel
+
+pub call_new : (l : ℕ) (e : End) (c : EndCall) → IsCall l c → IsGivenCall c × IsNew l e c
+call_new l e c (inl g) = (g.0, λ q. let no : true ≡ false = sym q ∙ g.1.adds_none in absurd cc)
+call_new l e c (inr (keys, q)) = subst (λ (d : EndCall). IsGivenCall d × IsNew l e d) (sym q) (tt, λ p. let no : false ≡ true = p in absurd cc)

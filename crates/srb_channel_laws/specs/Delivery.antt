@@ -7,14 +7,15 @@ use Rattle.l2_types.specs.declared.Kind.TheVariants as kinds
 use Rattle.l2_types.specs.declared.side.Side.{Side}
 use Rattle.l2_types.specs.declared.side.Side.TheVariants.{Nb, Ue}
 use Rattle.node_laws.specs.Calls.{Move}
-use Rattle.node_laws.specs.Telling.{told_of}
+use Rattle.node_laws.specs.Telling.{told_of, told_over}
 use Rattle.am_bearer_laws.specs.Lives.{other}
 use Rattle.am_laws.specs.Sdus.{IsFront}
 use Rattle.channel_laws.specs.Delivery.{HasBegun, SetNoneAt, ups_at, submitted_at}
 use Rattle.channel_laws.specs.Drained.{IsDrained}
-use Rattle.channel_laws.specs.Lives.{AirStep, AreLiving, lives, end_at}
+use Rattle.channel_laws.specs.Lives.{AirStep, AreLiving, lives, end_at, all_calls}
 use Rattle.flow_laws.specs.Air.{outset}
-use Rattle.flow_laws.specs.Ups.{ups_on}
+use Rattle.flow_laws.specs.Ups.{told_on, ups_on}
+use Rattle.srb_delivery_laws.specs.Losses.{losses}
 use Rattle.srb_channel_laws.specs.Running.{Life, start, running, first_life}
 
 -- two ends that begin the channel under one configuration of signalling and the same keys; a COUNT has 32 bits
@@ -56,3 +57,12 @@ abbrev pub NothingGoesUpBetween : Type 0
 NothingGoesUpBetween = (l : ℕ) (c : BearerConfig) (keys next : Keys) (nb ue : End) (side : Side) (steps : List AirStep)
     → BeginAlike l c keys nb ue → AreLiving l (outset nb ue) steps → NoneSet l steps nb ue
     → ups_on l (told_of (end_at side (lives steps (outset nb ue))) (Move next)) ≡ []
+
+-- and in no life a PDU of PDCP is lost as an end receives it, nor as the life ends
+pub record LosesNone (l : ℕ) (side : Side) (steps : List AirStep) (nb ue : End) : Type 0 where
+  pub in_life : losses (told_on l (told_over (all_calls side (life_of steps nb ue).steps (start (life_of steps nb ue))) (end_at side (start (life_of steps nb ue))))) ≡ []
+  pub between : (next : Keys) → losses (told_on l (told_of (end_at side (lives steps (outset nb ue))) (Move next))) ≡ []
+
+abbrev pub NothingIsLost : Type 0
+NothingIsLost = (l : ℕ) (c : BearerConfig) (keys : Keys) (nb ue : End) (side : Side) (steps : List AirStep)
+    → BeginAlike l c keys nb ue → AreLiving l (outset nb ue) steps → NoneSet l steps nb ue → LosesNone l side steps nb ue

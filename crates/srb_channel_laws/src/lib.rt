@@ -2,7 +2,7 @@
 //! nothing.
 #![tactic(auto)]
 
-ghost use Rattle.srb_channel_laws.specs.Delivery.{ChannelsDeliverTheFront, DrainedChannelsHaveDelivered, NothingGoesUpBetween};
+ghost use Rattle.srb_channel_laws.specs.Delivery.{ChannelsDeliverTheFront, DrainedChannelsHaveDelivered, NothingGoesUpBetween, NothingIsLost};
 
 /// Two ends that have added a signalling bearer under one configuration and the same keys: whatever calls they get, and from cell to
 /// cell where both move under the same keys, what has gone up on the channel at an end in the running life are the SDUs that were
@@ -21,4 +21,10 @@ pub fn drained_channels_have_delivered()
 /// As a life ends nothing goes up on it.
 pub fn nothing_goes_up_between()
     ensures { NothingGoesUpBetween }
+{}
+
+/// In no life a PDU of PDCP is lost as an end receives it: each can be read, its MAC-I agrees, and its COUNT is the one that is awaited;
+/// nor as a life ends.
+pub fn nothing_is_lost()
+    ensures { NothingIsLost }
 {}

@@ -34,6 +34,8 @@ use Rattle.srb_pdcp_laws.specs.Delivery.{AreReadAs}
 use Rattle.srb_pdcp_laws.proofs.Laws.{Hears}
 use Rattle.srb_pdcp_laws.proofs.Receives.{reads}
 use Rattle.srb_pdcp_laws.proofs.Sending.{AreNonempty, Sends, confirm_sends, confirm_queues}
+use Rattle.srb_delivery_laws.specs.Losses.{losses}
+use Rattle.srb_delivery_laws.proofs.Losing.{none_then as none_lost_then, landed_none as landed_loses_none, ups_none as ups_lose_none, status_none as status_loses_none}
 use Rattle.srb_delivery_laws.proofs.Quiet.{Keeps, keeps_itself, Stays}
 use Rattle.srb_delivery_laws.proofs.Taking.{pdus_from}
 
@@ -121,6 +123,7 @@ pub record DataComes (first : ℕ) (p : Protection) (n : ℕ) (us : List (List �
   pub hears' : Hears first p (n + length us) (called b (Arrive octets)).pdcp.rx
   pub idle : IsIdle (called b (Arrive octets))
   pub ups_is : ups_in (tells b (Arrive octets)) ≡ us
+  pub none_lost : losses (tells b (Arrive octets)) ≡ []
 
 data_by : (first : ℕ) (p : Protection) (n : ℕ) (us : List (List ℕ)) (b : State) (octets : List ℕ) (x : AmdPdu) → am_at octets ≡ Ok (Payload x) → IsIdle b
     → HeardAll first p n us (work b.pdcp b.tx (landed_told b.pdcp.lcid (landed b.rx x) (turned b.rx x)))
@@ -143,6 +146,8 @@ data_by first p n us b octets x read idle h q =
       };
       ups_is = ap (λ (r : Result AcknowledgedPdu RlcRefusal). ups_in (arrived_told r b)) read ∙ ap (λ (v : Work). ups_in v.events) all
           ∙ ups_then told (ups b.pdcp.lcid us) ∙ ap (λ l. l ++ ups_in (ups b.pdcp.lcid us)) (landed_none b.pdcp.lcid (landed b.rx x) (turned b.rx x)) ∙ ups_are b.pdcp.lcid us;
+      none_lost = ap (λ (r : Result AcknowledgedPdu RlcRefusal). losses (arrived_told r b)) read ∙ ap (λ (v : Work). losses v.events) all
+          ∙ none_lost_then told (ups b.pdcp.lcid us) (landed_loses_none b.pdcp.lcid (landed b.rx x) (turned b.rx x)) (ups_lose_none b.pdcp.lcid us);
     }
 
 pub data_comes : (first : ℕ) (p : Protection) (n : ℕ) (us : List (List ℕ)) (b : State) (octets : List ℕ) (x : AmdPdu) → am_at octets ≡ Ok (Payload x) → IsIdle b
@@ -194,6 +199,7 @@ pub record StatusComes (b : State) (octets : List ℕ) : Type 0 where
   pub stays : Stays b (called b (Arrive octets))
   pub keeps : (first : ℕ) (p : Protection) (sdus : List (List ℕ)) → Sends first p sdus b.pdcp.tx → Keeps first p sdus b.pdcp.tx (called b (Arrive octets)).pdcp.tx
   pub ups_is : ups_in (tells b (Arrive octets)) ≡ []
+  pub none_lost : losses (tells b (Arrive octets)) ≡ []
 
 pub status_comes : (b : State) (octets : List ℕ) (x : StatusPdu) → am_at octets ≡ Ok (Control x) → IsIdle b → StatusComes b octets
 unfolding arrived arriving am_arriving after_arrival
@@ -217,4 +223,5 @@ status_comes b octets x read idle =
       };
       keeps = λ first p sdus k. subst (λ (e : Ends). Keeps first p sdus b.pdcp.tx e.tx) (sym pdcp) (confirms_keeps first p sdus places b.pdcp k);
       ups_is = ap (λ (r : Result AcknowledgedPdu RlcRefusal). ups_in (arrived_told r b)) read ∙ status_none h w.pdcp w.tx;
+      none_lost = ap (λ (r : Result AcknowledgedPdu RlcRefusal). losses (arrived_told r b)) read ∙ status_loses_none h w.pdcp w.tx;
     }

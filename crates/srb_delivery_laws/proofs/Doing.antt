@@ -22,6 +22,9 @@ use Rattle.srb_delivery_laws.proofs.Arriving.{data_comes, status_comes}
 use Rattle.srb_delivery_laws.proofs.Going.{Goes, stays, calm_goes}
 use Rattle.srb_delivery_laws.proofs.Hearing.{calls_hear, status_hears, data_hears}
 use Rattle.srb_delivery_laws.proofs.Joined.{Way, flow_by, Joined, has_flow, stands_so, sound_so, SendsOn, out_goes, HearsOn, inn_goes, next_are, are_next}
+use Rattle.srb_delivery_laws.specs.Losses.{losses, losses_by}
+use Rattle.srb_delivery_laws.proofs.Losing.{calls_lose_none}
+use Rattle.bearer_types.specs.declared.Event.{Event}
 use Rattle.srb_delivery_laws.proofs.Quiet.{IsCall, calls_as, none_up, calls_stay, Keeps, tick_keeps, expire_keeps}
 use Rattle.srb_delivery_laws.proofs.Sending.{offers_by, calls_send, data_sends, status_sends}
 use Rattle.srb_delivery_laws.proofs.Taking.{takes_on}
@@ -38,6 +41,11 @@ pub record Both (out inn : Way) (e o : BearerEnd) (sent up got : List (List ℕ)
   pub inn_joins : Joined inn o e back got
   pub own : IsSignalling e.bearer
   pub other : IsSignalling o.bearer
+
+-- and loses nothing
+pub record Done (out inn : Way) (e o : BearerEnd) (sent up got : List (List ℕ)) (back : List (List ℕ)) (lost : List Event) : Type 0 where
+  pub both : Both out inn e o sent up got back
+  pub none : lost ≡ []
 
 -- ---- a call of PDCP's sender
 
@@ -113,7 +121,7 @@ sent_as : (w : Way) (from to : BearerEnd) (sent up : List (List ℕ)) → Joined
 sent_as w from to sent up j = subst (λ l. Joined w from to l up) (sym (append-nil sent)) j
 
 calls_go : (out inn : Way) (e o : BearerEnd) (sent up got back : List (List ℕ)) (c : Call) → IsCalling e c → IsAccepted e.bearer c → Both out inn e o sent up got back
-    → Both out inn (calls e c) o (sent ++ submits c) up (got ++ ups_in (tells e.bearer c)) back
+    → Done out inn (calls e c) o (sent ++ submits c) up (got ++ ups_in (tells e.bearer c)) back (losses (tells e.bearer c))
 calls_go out inn e o sent up got back c g may h =
     let d = calls e c in
     let quiet = is_call e c g in
@@ -124,13 +132,16 @@ calls_go out inn e o sent up got back c g may h =
     (calls_send e c (flow_by out j.steps) o.bearer.rx o.reports g (stands_so out e o sent up j))
     (calls_send_on out (up ++ j.later) e.bearer c quiet may j.sends) refl in
     let here = none_goes inn o e o d back got k (calls_hear e c (flow_by inn k.steps) o.bearer.tx o.copies o.busy g (stands_so inn o e back got k)) still.rx refl in
-    both_by out inn d o sent up got back (submits c) (ups_in (tells e.bearer c)) there (up_as inn o d back got (ups_in (tells e.bearer c)) (none_up e.bearer c quiet) here)
-    (record { kind = still.kind ∙ h.own.kind; idle = still.idle }) h.other
+    record {
+      both = both_by out inn d o sent up got back (submits c) (ups_in (tells e.bearer c)) there (up_as inn o d back got (ups_in (tells e.bearer c)) (none_up e.bearer c quiet) here)
+          (record { kind = still.kind ∙ h.own.kind; idle = still.idle }) h.other;
+      none = calls_lose_none e.bearer c quiet;
+    }
 
 -- ---- a data PDU comes
 
 data_go : (out inn : Way) (e o : BearerEnd) (sent up got back : List (List ℕ)) (k : ℕ) (c : Copy) → slice_get o.copies k ≡ Some c → Both out inn e o sent up got back
-    → Both out inn (arrives e c.octets) o (sent ++ []) up (got ++ ups_in (tells e.bearer (Arrive c.octets))) back
+    → Done out inn (arrives e c.octets) o (sent ++ []) up (got ++ ups_in (tells e.bearer (Arrive c.octets))) back (losses (tells e.bearer (Arrive c.octets)))
 data_go out inn e o sent up got back k c q h =
     let d = arrives e c.octets in
     let j = h.out_joins in
@@ -146,15 +157,18 @@ data_go out inn e o sent up got back k c q h =
     let there = out_goes out e o d o sent up [] [] j (data_sends e c.octets (flow_by out j.steps) o.bearer.rx o.reports (ap status_heard r.read) s)
     (keeps_on out (up ++ j.later) e.bearer.pdcp.tx d.bearer.pdcp.tx
     (record { sends = subst (Sends out.first out.protection (up ++ j.later)) (sym y.tx) j.sends; queued = ap queue y.tx })) refl in
-    both_by out inn d o sent up got back [] (ups_in (tells e.bearer (Arrive c.octets))) there (subst (λ l. Joined inn o d back (got ++ l)) (sym y.ups_is) here)
-    (record { kind = y.kind ∙ h.own.kind; idle = y.idle }) h.other
+    record {
+      both = both_by out inn d o sent up got back [] (ups_in (tells e.bearer (Arrive c.octets))) there (subst (λ l. Joined inn o d back (got ++ l)) (sym y.ups_is) here)
+          (record { kind = y.kind ∙ h.own.kind; idle = y.idle }) h.other;
+      none = y.none_lost;
+    }
 
 -- ---- a STATUS comes
 
 status_by : (out inn : Way) (e o : BearerEnd) (sent up got back : List (List ℕ)) (k : ℕ) (s : Sent) (j : Joined out e o sent up) → ReadsStatus (flow_by out j.steps) k s → Joined inn o e back got → IsSignalling e.bearer → IsSignalling o.bearer
-    → Both out inn (arrives e s.octets) o (sent ++ []) up (got ++ ups_in (tells e.bearer (Arrive s.octets))) back
+    → Done out inn (arrives e s.octets) o (sent ++ []) up (got ++ ups_in (tells e.bearer (Arrive s.octets))) back (losses (tells e.bearer (Arrive s.octets)))
 status_by out inn e o sent up got back k s j r i own other =
-    subst (λ (octets : List ℕ). Both out inn (arrives e octets) o (sent ++ []) up (got ++ ups_in (tells e.bearer (Arrive octets))) back) r.same
+    subst (λ (octets : List ℕ). Done out inn (arrives e octets) o (sent ++ []) up (got ++ ups_in (tells e.bearer (Arrive octets))) back (losses (tells e.bearer (Arrive octets)))) r.same
     (let octets = r.report.octets in
     let d = arrives e octets in
     let y = status_comes e.bearer octets (reduced r.report) r.read own.idle in
@@ -162,11 +176,14 @@ status_by out inn e o sent up got back k s j r i own other =
     let there = out_goes out e o d o sent up [] [] j (status_sends e (flow_by out j.steps) k r.report (reduced r.report) o.bearer.rx o.reports r.at r.read st)
     (keeps_on out (up ++ j.later) e.bearer.pdcp.tx d.bearer.pdcp.tx (y.keeps out.first out.protection (up ++ j.later) j.sends)) refl in
     let here = none_goes inn o e o d back got i (status_hears e octets (flow_by inn i.steps) o.bearer.tx o.copies o.busy (ap data_heard r.read) (stands_so inn o e back got i)) y.stays.rx refl in
-    both_by out inn d o sent up got back [] (ups_in (tells e.bearer (Arrive octets))) there (up_as inn o d back got (ups_in (tells e.bearer (Arrive octets))) y.ups_is here)
-    (record { kind = y.stays.kind ∙ own.kind; idle = y.stays.idle }) other)
+    record {
+      both = both_by out inn d o sent up got back [] (ups_in (tells e.bearer (Arrive octets))) there (up_as inn o d back got (ups_in (tells e.bearer (Arrive octets))) y.ups_is here)
+          (record { kind = y.stays.kind ∙ own.kind; idle = y.stays.idle }) other;
+      none = y.none_lost;
+    })
 
 status_go : (out inn : Way) (e o : BearerEnd) (sent up got back : List (List ℕ)) (k : ℕ) (s : Sent) → slice_get o.reports k ≡ Some s → Both out inn e o sent up got back
-    → Both out inn (arrives e s.octets) o (sent ++ []) up (got ++ ups_in (tells e.bearer (Arrive s.octets))) back
+    → Done out inn (arrives e s.octets) o (sent ++ []) up (got ++ ups_in (tells e.bearer (Arrive s.octets))) back (losses (tells e.bearer (Arrive s.octets)))
 status_go out inn e o sent up got back k s q h =
     status_by out inn e o sent up got back k s h.out_joins (status_read out.sending out.receiving e o (has_flow out e o sent up h.out_joins) k s q) h.inn_joins h.own h.other
 
@@ -212,22 +229,22 @@ nothing_done : (out inn : Way) (e o : BearerEnd) (sent up got back : List (List 
 nothing_done out inn e o sent up got back h = record { out_joins = sent_as out e o sent up h.out_joins; inn_joins = up_as inn o e back got [] refl h.inn_joins; own = h.own; other = h.other }
 
 data_does : (out inn : Way) (e o : BearerEnd) (sent up got back : List (List ℕ)) (k : ℕ) (x : Option Copy) → slice_get o.copies k ≡ x → Both out inn e o sent up got back
-    → Both out inn (data_comes_to e x) o (sent ++ submitted_by (call_by x)) up (got ++ ups_by e.bearer (call_by x)) back
-data_does out inn e o sent up got back k None q h = nothing_done out inn e o sent up got back h
+    → Done out inn (data_comes_to e x) o (sent ++ submitted_by (call_by x)) up (got ++ ups_by e.bearer (call_by x)) back (losses_by e.bearer (call_by x))
+data_does out inn e o sent up got back k None q h = record { both = nothing_done out inn e o sent up got back h; none = refl }
 data_does out inn e o sent up got back k (Some c) q h = data_go out inn e o sent up got back k c q h
 
 status_does : (out inn : Way) (e o : BearerEnd) (sent up got back : List (List ℕ)) (k : ℕ) (x : Option Sent) → slice_get o.reports k ≡ x → Both out inn e o sent up got back
-    → Both out inn (status_comes_to e x) o (sent ++ submitted_by (call_of x)) up (got ++ ups_by e.bearer (call_of x)) back
-status_does out inn e o sent up got back k None q h = nothing_done out inn e o sent up got back h
+    → Done out inn (status_comes_to e x) o (sent ++ submitted_by (call_of x)) up (got ++ ups_by e.bearer (call_of x)) back (losses_by e.bearer (call_of x))
+status_does out inn e o sent up got back k None q h = record { both = nothing_done out inn e o sent up got back h; none = refl }
 status_does out inn e o sent up got back k (Some s) q h = status_go out inn e o sent up got back k s q h
 
 pub does_on : (out inn : Way) (e o : BearerEnd) (sent up got back : List (List ℕ)) (x : Deed) → IsDone e x → MayBeDone e.bearer x → Both out inn e o sent up got back
-    → Both out inn (does o e x) o (sent ++ submitted_by (calls_in o x)) up (got ++ ups_by e.bearer (calls_in o x)) back
+    → Done out inn (does o e x) o (sent ++ submitted_by (calls_in o x)) up (got ++ ups_by e.bearer (calls_in o x)) back (losses_by e.bearer (calls_in o x))
 does_on out inn e o sent up got back (Calls c) g may h = calls_go out inn e o sent up got back c g may h
 does_on out inn e o sent up got back (DataComes k) g may h = data_does out inn e o sent up got back k (slice_get o.copies k) refl h
 does_on out inn e o sent up got back (StatusComes k) g may h = status_does out inn e o sent up got back k (slice_get o.reports k) refl h
-does_on out inn e o sent up got back (DataGoes k) g may h = data_lost out inn e o sent up got back k h
-does_on out inn e o sent up got back (StatusGoes k) g may h = status_lost out inn e o sent up got back k h
+does_on out inn e o sent up got back (DataGoes k) g may h = record { both = data_lost out inn e o sent up got back k h; none = refl }
+does_on out inn e o sent up got back (StatusGoes k) g may h = record { both = status_lost out inn e o sent up got back k h; none = refl }
 
 -- ---- a TTI passes
 

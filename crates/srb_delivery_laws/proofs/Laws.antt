@@ -23,6 +23,8 @@ use Rattle.srb_pdcp_laws.proofs.Laws.{Hears, begins_sends}
 use Rattle.srb_pdcp_laws.proofs.Sending.{offers_by}
 use Rattle.srb_delivery_laws.specs.Delivery.{AreTheFront, AreAll}
 use Rattle.srb_delivery_laws.specs.Life.{BothBegin, MayHappen, AreLived, near_ups, far_ups, near_submits, far_submits, over}
+use Rattle.srb_delivery_laws.specs.Losses.{near_losses, far_losses, LoseNone}
+use Rattle.bearer_types.specs.declared.Event.{Event}
 use Rattle.srb_delivery_laws.proofs.Doing.{IsSignalling, Both, does_on, passes_on}
 use Rattle.srb_delivery_laws.proofs.Going.{total}
 use Rattle.srb_delivery_laws.proofs.Joined.{Way, flow_by, Joined}
@@ -62,11 +64,11 @@ pub step_on : (there back : Way) (p : Pair) (s : Step) (ns fu fs nu : List (List
 step_on there back p (Near d) ns fu fs nu g may h =
     near_end there back (happens p (Near d)) ns fu fs nu (submitted_by (calls_in p.far d)) (ups_by p.near.bearer (calls_in p.far d))
     (from_near there back p (happens p (Near d)).near (ns ++ submitted_by (calls_in p.far d)) fu fs (nu ++ ups_by p.near.bearer (calls_in p.far d))
-    (does_on there back p.near p.far ns fu nu fs d g may (record { out_joins = h.out; inn_joins = h.inn; own = h.near_is; other = h.far_is })))
+    (does_on there back p.near p.far ns fu nu fs d g may (record { out_joins = h.out; inn_joins = h.inn; own = h.near_is; other = h.far_is })).both)
 step_on there back p (Far d) ns fu fs nu g may h =
     far_end there back (happens p (Far d)) ns fu fs nu (submitted_by (calls_in p.near d)) (ups_by p.far.bearer (calls_in p.near d))
     (from_far there back p (happens p (Far d)).far ns (fu ++ ups_by p.far.bearer (calls_in p.near d)) (fs ++ submitted_by (calls_in p.near d)) nu
-    (does_on back there p.far p.near fs nu fu ns d g may (record { out_joins = h.inn; inn_joins = h.out; own = h.far_is; other = h.near_is })))
+    (does_on back there p.far p.near fs nu fu ns d g may (record { out_joins = h.inn; inn_joins = h.out; own = h.far_is; other = h.near_is })).both)
 step_on there back p Passes ns fu fs nu g may h =
     same_ways there back (happens p Passes) ns fu fs nu
     (record { out = passes_on there p.near p.far ns fu g.1 h.out; inn = passes_on back p.far p.near fs nu g.0 h.inn; near_is = h.near_is; far_is = h.far_is })
@@ -186,3 +188,40 @@ drained_delivers near far steps h g =
       there = λ d. all_of (way near far) q.near q.far (over near_submits steps (outset near far)) (over far_ups steps (outset near far)) l.out d;
       back = λ d. all_of (way far near) q.far q.near (over far_submits steps (outset near far)) (over near_ups steps (outset near far)) l.inn d;
     }
+
+-- ---- nothing is lost
+
+record StepLosesNone (p : Pair) (s : Step) : Type 0 where
+  near_none : near_losses p s ≡ []
+  far_none : far_losses p s ≡ []
+
+step_loses_none : (there back : Way) (p : Pair) (s : Step) (ns fu fs nu : List (List ℕ)) → IsGiven p s → MayHappen p s → BothWays there back p ns fu fs nu → StepLosesNone p s
+step_loses_none there back p (Near d) ns fu fs nu g may h = record {
+  near_none = (does_on there back p.near p.far ns fu nu fs d g may (record { out_joins = h.out; inn_joins = h.inn; own = h.near_is; other = h.far_is })).none;
+  far_none = refl;
+}
+step_loses_none there back p (Far d) ns fu fs nu g may h = record {
+  near_none = refl;
+  far_none = (does_on back there p.far p.near fs nu fu ns d g may (record { out_joins = h.inn; inn_joins = h.out; own = h.far_is; other = h.near_is })).none;
+}
+step_loses_none there back p Passes ns fu fs nu g may h = record { near_none = refl; far_none = refl }
+
+record Loses (ss : List Step) (p : Pair) : Type 0 where
+  near_none : over near_losses ss p ≡ []
+  far_none : over far_losses ss p ≡ []
+
+steps_lose_none : (there back : Way) (ss : List Step) (p : Pair) (ns fu fs nu : List (List ℕ)) → AreLived p ss → BothWays there back p ns fu fs nu → Loses ss p
+steps_lose_none there back [] p ns fu fs nu g h = record { near_none = refl; far_none = refl }
+steps_lose_none there back (s ∷ ss) p ns fu fs nu g h =
+    let q = happens p s in
+    let one = step_loses_none there back p s ns fu fs nu g.0.0 g.0.1 h in
+    let rest = steps_lose_none there back ss q (ns ++ near_submits p s) (fu ++ far_ups p s) (fs ++ far_submits p s) (nu ++ near_ups p s) g.1 (step_on there back p s ns fu fs nu g.0.0 g.0.1 h) in
+    record {
+      near_none = ap (λ (l : List Event). l ++ over near_losses ss q) one.near_none ∙ rest.near_none;
+      far_none = ap (λ (l : List Event). l ++ over far_losses ss q) one.far_none ∙ rest.far_none;
+    }
+
+pub nothing_is_lost : (near far : State) (steps : List Step) → BothBegin near far → AreLived (outset near far) steps → LoseNone near far steps
+nothing_is_lost near far steps h g =
+    let l = steps_lose_none (way near far) (way far near) steps (outset near far) [] [] [] [] g (begin_both near far h) in
+    record { near_none = l.near_none; far_none = l.far_none }

@@ -2,6 +2,7 @@ pub mod Going
 pub mod Sending
 pub mod Hearing
 pub mod Quiet
+pub mod Losing
 pub mod Taking
 pub mod Arriving
 pub mod Joined

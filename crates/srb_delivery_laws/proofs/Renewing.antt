@@ -27,6 +27,7 @@ use Rattle.pdcp_sec.specs.Protection.{protection_of}
 use Rattle.rlc_am_rx.specs.Machine.{finished}
 use Rattle.srb_pdcp_laws.specs.Beginning.{BeginAnew}
 use Rattle.srb_pdcp_laws.proofs.Beginning.{first_life, begins_anew}
+use Rattle.srb_delivery_laws.specs.Losses.{losses}
 use Rattle.srb_delivery_laws.specs.Life.{BothBegin, AreLived}
 use Rattle.srb_delivery_laws.specs.Lives.{renews, BeginsAnew, BothBeginAnew, AreBothEnds}
 use Rattle.srb_delivery_laws.proofs.Joined.{Way}
@@ -55,10 +56,18 @@ pub none_up_at_the_end : (b : State) → b.pdcp.kind ≡ Srb → ups_in (stoppin
 unfolding stopping am_stopping
 none_up_at_the_end b k = ap (λ (x : Ending). ups_in x.events) (last_is b k) ∙ drops_none b.pdcp.lcid (finished b.rx)
 
+drops_lose_none : (lcid : ℕ) (sdus : List (List ℕ)) → losses (map (λ sdu. events.Drop lcid lost.Handover) sdus) ≡ []
+drops_lose_none lcid [] = refl
+drops_lose_none lcid (sdu ∷ sdus) = drops_lose_none lcid sdus
+
+none_lost_at_the_end : (b : State) → b.pdcp.kind ≡ Srb → losses (stopping (Am b)) ≡ []
+unfolding stopping am_stopping
+none_lost_at_the_end b k = ap (λ (x : Ending). losses x.events) (last_is b k) ∙ drops_lose_none b.pdcp.lcid (finished b.rx)
+
 -- ---- at both ends
 
 anew : (b : State) (keys : Keys) → b.pdcp.kind ≡ Srb → (renews b keys).pdcp.tx.next ≡ 0 → (renews b keys).pdcp.rx.next ≡ 0 → BeginsAnew b keys
-anew b keys k s r = record { left = renews_as b keys k; none_up = none_up_at_the_end b k; count = s; awaited = r }
+anew b keys k s r = record { left = renews_as b keys k; none_up = none_up_at_the_end b k; none_lost = none_lost_at_the_end b k; count = s; awaited = r }
 
 pub both_anew : (there back : Way) (p : Pair) (ns fu fs nu : List (List ℕ)) (keys : Keys) → BothWays there back p ns fu fs nu → BothBeginAnew p.near.bearer p.far.bearer keys
 both_anew there back p ns fu fs nu keys h =

@@ -1,3 +1,4 @@
 pub mod Life
 pub mod Delivery
+pub mod Losses
 pub mod Lives

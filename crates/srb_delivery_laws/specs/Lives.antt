@@ -15,6 +15,7 @@ use Rattle.l2_types.specs.declared.Kind.TheVariants as kinds
 use Rattle.l2_types.specs.declared.Side.TheVariants.{Nb, Ue}
 use Rattle.pdcp_rx.specs.State.{restarted as restarted_receiving}
 use Rattle.pdcp_tx.specs.State.{restarted as restarted_sending}
+use Rattle.srb_delivery_laws.specs.Losses.{losses}
 use Rattle.srb_delivery_laws.specs.Life.{BothBegin, MayHappen, AreLived, near_ups, far_ups, near_submits, far_submits}
 
 -- ---- a life ends, and the next one begins
@@ -26,6 +27,7 @@ renews b keys = with_new_rlc b.tx_config b.rx_config (record b.pdcp { tx = resta
 pub record BeginsAnew (b : State) (keys : Keys) : Type 0 where
   pub left : bearer_goes (Am b) (Restart keys) ≡ Am (renews b keys)
   pub none_up : ups_in (stopping (Am b)) ≡ []
+  pub none_lost : losses (stopping (Am b)) ≡ []
   pub count : (renews b keys).pdcp.tx.next ≡ 0
   pub awaited : (renews b keys).pdcp.rx.next ≡ 0
 

@@ -3,6 +3,7 @@
 #![tactic(auto)]
 
 ghost use Rattle.srb_delivery_laws.specs.Delivery.{DeliversTheFront, DrainedHasDelivered};
+ghost use Rattle.srb_delivery_laws.specs.Losses.{NothingIsLost};
 ghost use Rattle.srb_delivery_laws.specs.Lives.{FirstLifeBegins, NextLifeBegins, DeliversInEachLife};
 
 /// What has gone up at an end in a life are the SDUs that the other end submitted first in it, whatever is lost, repeated and delayed:
@@ -29,4 +30,10 @@ pub fn lives_begin()
 /// is drained all of them.
 pub fn delivers_in_each_life()
     ensures { DeliversInEachLife }
+{}
+
+/// In a life no PDU of PDCP is lost as it is received: each can be read, its MAC-I agrees, and its COUNT is the one that is awaited.
+#[tactic(auto, using(crate::proofs::Laws::nothing_is_lost))]
+pub fn nothing_is_lost()
+    ensures { NothingIsLost }
 {}
