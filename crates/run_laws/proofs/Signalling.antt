@@ -2,6 +2,7 @@
 use Rattle.std.proofs.Common.{◌≡◌, ◌<◌, arith, ℕ, ◌==◌, nat_lt, Bool, true, false, ◌||◌, if◌then◌else◌, Some, None, List, [], ◌∷◌, ◌++◌, append-nil, append_assoc, refl, ap, sym, subst, ◌∙◌}
 use Rattle.std.proofs.lemmas.Bool.Decides.{nat_tests}
 use Rattle.std.proofs.lemmas.List.Concat.{flat_map-append}
+use Rattle.std.proofs.lemmas.List.Elements.{filter-append}
 use Rattle.am_laws.specs.Sdus.{IsFront}
 use Rattle.air_link.specs.Draining.{is_drained}
 use Rattle.air_link.specs.Lines.{bears}
@@ -9,20 +10,23 @@ use Rattle.air_link.specs.Link.{Link, end_of, other}
 use Rattle.air_record.specs.declared.line.Line.{Line}
 use Rattle.air_record.specs.declared.line.Line.TheVariants as lines
 use Rattle.air_record.specs.declared.record.Record.{Record}
+use Rattle.air_record.specs.declared.record.Record.TheVariants as records
 use Rattle.air_run.specs.Playing.{keys_or_none, next_keys, acted}
 use Rattle.air_run.specs.Rules.{Rules, late, unknown, refused_if, rule_broken, refusal, accepted}
 use Rattle.air_run.specs.Run.{behind_line}
 use Rattle.air_run.specs.declared.refusal.RunRefusal.TheVariants.{NoDiscard}
-use Rattle.air_text.specs.Groups.{Group}
+use Rattle.air_text.specs.Groups.{Group, history}
 use Rattle.bearer_am.specs.State.{State}
 use Rattle.bearer_types.specs.Configs.{IsChannelOf}
 use Rattle.bearer_types.specs.declared.config.BearerConfig.{BearerConfig}
+use Rattle.bearer_types.specs.declared.event.Event.{Event}
 use Rattle.channel_laws.specs.Delivery.{went_up, was_submitted}
 use Rattle.channel_laws.specs.Drained.{has_failed}
 use Rattle.channel_laws.specs.Lives.{AirStep, InLife, Moves, lives, end_at, all_calls}
 use Rattle.channel_laws.proofs.Drained.{channel_drained}
 use Rattle.flow_laws.specs.Air.{Air, outset}
-use Rattle.flow_laws.specs.Ups.{ups_on, ups_in as event_ups}
+use Rattle.flow_laws.specs.Ups.{told_on, ups_on, ups_in as event_ups}
+use Rattle.flow_laws.proofs.Events.{told_then}
 use Rattle.l2_node.specs.End.{End}
 use Rattle.l2_node.specs.Sums.{is_drained as end_drained}
 use Rattle.l2_types.specs.declared.channel.Kind.{Kind}
@@ -39,15 +43,16 @@ use Rattle.air_laws.specs.Going.{looped_at as looped_by}
 use Rattle.air_laws.specs.Staying.{AreInLife}
 use Rattle.air_laws.proofs.Lives.{channels_begin}
 use Rattle.air_laws.proofs.Staying.{LivedIn, bearers_live_in, LivesAnew, lives_anew}
+use Rattle.srb_delivery_laws.specs.Losses.{is_lost, losses}
 use Rattle.srb_channel_laws.specs.Running.{Life, running, first_life}
 use Rattle.srb_channel_laws.proofs.Laws.{Living, first_living, all_live}
-use Rattle.srb_channel_laws.proofs.Running.{Start, down, up, all_down, all_up, none_between, starts_first, starts_anew}
+use Rattle.srb_channel_laws.proofs.Running.{Start, down, up, all_down, all_up, none_between, none_lost, none_lost_between, starts_first, starts_anew}
 use Rattle.run_laws.specs.Delivery.{forges, is_forged, sets_timer}
 use Rattle.run_laws.specs.Drained.{hands_over, failed}
 use Rattle.run_laws.specs.Flows.{handed_in, looped_at, submitted, delivered}
 use Rattle.run_laws.specs.Order.{state_behind, IsRight, KeepsOrder}
 use Rattle.run_laws.specs.Parts.{part}
-use Rattle.run_laws.specs.Signalling.{submitted_since, delivered_since, SignalAll, DeliversEachLife, LeavesNoSignal, DrainsLeaveNoSignal}
+use Rattle.run_laws.specs.Signalling.{submitted_since, delivered_since, lost, SignalAll, DeliversEachLife, LeavesNoSignal, DrainsLeaveNoSignal}
 use Rattle.run_laws.specs.Texts.{config_by, config_of}
 use Rattle.run_laws.proofs.Delivering.{ups_are_told, ups_told, is_first, at_each}
 use Rattle.run_laws.proofs.Early.{is_early}
@@ -57,6 +62,19 @@ use Rattle.run_laws.proofs.Flowing.{Sdus, looped_then, air_looped, PartLives, li
 use Rattle.run_laws.proofs.Keys.{not_first, not_second, no_cause}
 use Rattle.run_laws.proofs.Past.{behind, link_behind}
 use Rattle.run_laws.proofs.Texts.{adds_one, adds_it, unchanged}
+
+-- ---- what an end lost
+
+abbrev losses_on : ℕ → List Event → List Event
+losses_on l told = losses (told_on l told)
+
+lost_both : (l : ℕ) (side : Side) (xs ys : List Record) → losses_on l (told_by side (xs ++ ys)) ≡ losses_on l (told_by side xs) ++ losses_on l (told_by side ys)
+lost_both l side xs ys =
+    ap (losses_on l) (told_both side xs ys (told_by side xs) (told_by side ys) refl refl) ∙ ap losses (told_then l (told_by side xs) (told_by side ys))
+    ∙ filter-append is_lost (told_on l (told_by side xs)) (told_on l (told_by side ys))
+
+lost_then : (l : ℕ) (side : Side) (past : List Group) (g : Group) → lost side l (g ∷ past) ≡ lost side l past ++ losses_on l (told_by side g.events)
+lost_then l side past g = lost_both l side (history past) (records.Line g.number g.line ∷ g.events)
 
 -- ---- a channel of signalling, behind groups
 
@@ -72,6 +90,7 @@ pub record IsSignalling (l : ℕ) (past : List Group) : Type 0 where
   pub lived : LivedIn l nb ue told handed false (link_behind past)
   pub delivered_is : (side : Side) → delivered_since side l past ≡ ups_on l (told_by side told)
   pub submitted_is : (side : Side) → submitted_since side l past ≡ handed side l
+  pub lost_is : (side : Side) → lost side l past ≡ losses_on l (told_by side told)
   pub senders : (side : Side) → HasSender side l past
 
 -- ---- no discard timers are set on it
@@ -130,6 +149,10 @@ stays_on l past g right order other own here d =
       submitted_is = λ side.
           ap (λ (xs : List (List ℕ)). xs ++ (handed_in side l p g.events ++ looped_at side l g.events)) (kept_by (hands_over g.line) (submitted_since side l past) here ∙ d.submitted_is side)
           ∙ ap (λ (ys : List Record). d.handed side l ++ (handed_in side l p ys ++ looped_at side l ys)) right.events_are;
+      lost_is = λ side.
+          lost_then l side past g ∙ ap (λ (xs : List Event). xs ++ losses_on l (told_by side g.events)) (d.lost_is side)
+          ∙ ap (λ (xs : List Event). losses_on l (told_by side d.told) ++ xs) (ap (λ (ys : List Record). losses_on l (told_by side ys)) right.events_are ∙ ap (losses_on l) (x.told_are side))
+          ∙ sym (lost_both l side d.told x.more);
       senders = λ side. sender_goes side l past g right order other (d.senders side);
     }
 
@@ -161,6 +184,10 @@ module _ (l : ℕ) (past : List Group) (d : IsSignalling l past) where
 
   was_submitted_is : (side : Side) → was_submitted l (all_calls side steps start) (end_at side start) ≡ submitted_since side l past
   was_submitted_is side = d.lived.by.submitted_is side l ∙ sym (d.submitted_is side)
+
+  pub none_is_lost : (side : Side) → lost side l past ≡ []
+  none_is_lost side =
+      d.lost_is side ∙ ap (losses_on l) (d.lived.by.told_is side) ∙ none_lost l d.nb d.ue living.near living.far living.begun steps living.runs living.calls side
 
   as_told : {us vs ss ts : List (List ℕ)} (P : List (List ℕ) → List (List ℕ) → Type 0) → us ≡ vs → ss ≡ ts → P us ss → P vs ts
   as_told {us} {vs} {ss} {ts} P e f p = subst (λ zs. P zs ts) e (subst (P us) f p)
@@ -209,6 +236,8 @@ moves_on l past g user rrc integrity right order d =
     let events_are : g.events ≡ leaving ++ behind' = right.events_are ∙ x.moves.out_is ∙ ap (λ (o : List Record). o ++ (leaving ++ behind')) (behind past order).nothing in
     let none : (side : Side) → ups_on l (told_by side leaving) ≡ [] = λ side.
     ap (ups_on l) (x.moves.told_is side) ∙ none_between l d.nb d.ue alive.near alive.far alive.begun (steps l past d) alive.runs alive.calls side keys in
+    let none_lost' : (side : Side) → losses_on l (told_by side leaving) ≡ [] = λ side.
+    ap (losses_on l) (x.moves.told_is side) ∙ none_lost_between l d.nb d.ue alive.near alive.far alive.begun (steps l past d) alive.runs alive.calls side keys in
     record {
       low = d.low;
       nb = nb;
@@ -225,6 +254,10 @@ moves_on l past g user rrc integrity right order d =
       submitted_is = λ side.
           ap (looped_at side l) events_are ∙ looped_then side l leaving behind'
           ∙ ap (λ (ys : List (List ℕ)). ys ++ looped_at side l behind') (sym (air_looped side l leaving) ∙ x.moves.none_looped side l) ∙ sym (air_looped side l behind');
+      lost_is = λ side.
+          lost_then l side past (record g { line = line }) ∙ ap (λ (xs : List Event). xs ++ losses_on l (told_by side g.events)) (none_is_lost l past d side)
+          ∙ ap (λ (ys : List Record). losses_on l (told_by side ys)) events_are ∙ lost_both l side leaving behind'
+          ∙ ap (λ (xs : List Event). xs ++ losses_on l (told_by side behind')) (none_lost' side);
       senders = λ side. sender_goes side l past (record g { line = line }) right order refl (d.senders side);
     }
 
@@ -283,6 +316,7 @@ begin_by past g c options right order kind =
       lived = (through_life l (after_call k.nb (Add c keys)) (after_call k.ue (Add c keys))).unseen [] (λ side n. []) false (bears c keys k) [] (bearers_live_in c keys k right.in_range rest);
       delivered_is = λ side. none_delivered side l all (ups_told side l all ∙ ap (ups_on l) (now'.none_told side));
       submitted_is = λ side. none_submitted side l all (now'.none_submitted side l);
+      lost_is = λ side. ap (losses_on l) (now'.none_told side);
       senders = at_each (λ side. HasSender side l _) (signalling_begins Nb l c keys _ kind nb_begun) (signalling_begins Ue l c keys _ kind ue_begun);
     }
 
@@ -323,7 +357,9 @@ is_signalling l (g ∷ past) c (right, order) kind e own =
 -- ---- the promises
 
 signals : (past : List Group) → KeepsOrder past → SignalAll past
-signals past order from l c e kind own = record { front = front_is l past (is_signalling l past c order kind e own) from }
+signals past order from l c e kind own =
+    let d = is_signalling l past c order kind e own in
+    record { front = front_is l past d from; none_lost = none_is_lost l past d (other from) }
 
 pub delivers_each_life : (past : List Group) → KeepsOrder past → DeliversEachLife past
 delivers_each_life [] order = tt

@@ -2,17 +2,21 @@
 -- 5.1, 5.2.1.3, 5.2.2.3).
 use Rattle.std.specs.Prelude.{◌≡◌, ℕ, false, if◌then◌else◌, Some, List, [], ◌∷◌, ◌++◌}
 use Rattle.air_link.specs.Link.{other}
-use Rattle.air_text.specs.Groups.{Group}
+use Rattle.air_text.specs.Groups.{Group, history}
 use Rattle.am_laws.specs.Sdus.{IsFront}
 use Rattle.bearer_types.specs.declared.config.BearerConfig.{BearerConfig}
+use Rattle.bearer_types.specs.declared.Event.{Event}
+use Rattle.flow_laws.specs.Ups.{told_on}
 use Rattle.l2_types.specs.declared.channel.Kind.TheVariants.{Srb}
 use Rattle.l2_types.specs.declared.side.Side.{Side}
+use Rattle.link_laws.specs.Ends.{told_by}
 use Rattle.link_laws.specs.Zero.{ups_in}
 use Rattle.run_laws.specs.Delivery.{is_forged}
 use Rattle.run_laws.specs.Drained.{hands_over, failed, EndsDrained}
 use Rattle.run_laws.specs.Flows.{handed_in, looped_at}
 use Rattle.run_laws.specs.Parts.{part}
 use Rattle.run_laws.specs.Texts.{config_of}
+use Rattle.srb_delivery_laws.specs.Losses.{losses}
 
 -- ---- since the last handover, or the beginning: the SDUs that a side submitted on a channel, and those that were handed up there
 
@@ -24,11 +28,18 @@ abbrev pub delivered_since : Side → ℕ → List Group → List (List ℕ)
 delivered_since side lcid [] = []
 delivered_since side lcid (g ∷ past) = (if hands_over g.line then [] else delivered_since side lcid past) ++ ups_in side lcid g.events
 
+-- ---- what a side's PDCP lost there as it received it: PDUs that it couldn't read, whose COUNT it had before, or whose MAC-I differs (TS 36.323 5.1.2.2, 5.7)
+
+abbrev pub lost : Side → ℕ → List Group → List Event
+lost side lcid past = losses (told_on lcid (told_by side (history past)))
+
 -- ---- on a channel
 
 -- what the other end has handed up are the SDUs that this end submitted first: in their order, each once and unchanged, with none left out
 pub record DeliversSignals (from : Side) (lcid : ℕ) (past : List Group) : Type 0 where
   pub front : IsFront (delivered_since (other from) lcid past) (submitted_since from lcid past)
+  -- and it has lost nothing
+  pub none_lost : lost (other from) lcid past ≡ []
 
 -- on each channel with a signalling bearer, where no block was forged
 abbrev pub SignalAll : List Group → Type 0
