@@ -82,7 +82,7 @@ status_same : (o : Option Sent) → call_of o ≡ status_call o
 status_same None = refl
 status_same (Some s) = refl
 
-calls_same : (other : BearerEnd) (d : Deed) → calls_in other d ≡ deed_calls other d
+pub calls_same : (other : BearerEnd) (d : Deed) → calls_in other d ≡ deed_calls other d
 calls_same other (CallsBearer c) = refl
 calls_same other (DataComes k) = data_same (slice_get other.copies k)
 calls_same other (StatusComes k) = status_same (slice_get other.reports k)

@@ -1,5 +1,6 @@
 -- What a channel delivers.
-use Rattle.std.proofs.Common.{◌≡◌, inr, ℕ, Bool, None, false, List, [], ◌∷◌, ◌++◌, append_assoc, ap, sym, subst, ◌∙◌}
+use Rattle.std.proofs.Common.{◌≡◌, inr, ℕ, ◌-◌, Bool, None, false, List, [], ◌∷◌, ◌++◌, append_assoc, length-append, ap, sym, subst, ◌∙◌, arith}
+use Rattle.std.proofs.lemmas.List.{take-append-le}
 use Rattle.std.specs.List.{AllByRecursion}
 use Rattle.bearer.specs.Bearer.{flow_of}
 use Rattle.bearer.specs.declared.flow.Flow.{Flow}
@@ -36,8 +37,11 @@ use Rattle.flow_laws.proofs.Air.{begins_so}
 use Rattle.flow_laws.proofs.Stations.{run_on, given_on}
 use Rattle.flow_laws.proofs.Ups.{Stands, stands, come_between, between_at}
 use Rattle.delivery_laws.specs.Delivery.{AreBothEnds}
-use Rattle.delivery_laws.proofs.Laws.{delivers_what_was_taken}
-use Rattle.delivery_laws.specs.Lives.{over}
+use Rattle.am_arrival_laws.specs.Lives.{Happening, Account, no_account, account}
+use Rattle.delivery_laws.specs.Arrival.{down_in, up_in, IsWhatCame}
+use Rattle.channel_laws.specs.Arrival.{happened, told_from}
+use Rattle.delivery_laws.proofs.Laws.{delivers_what_was_taken, what_came_is_delivered}
+use Rattle.delivery_laws.specs.Lives.{LifeStep, over}
 use Rattle.channel_laws.specs.Delivery.{HasBegun, BeginAlike, was_taken, was_submitted, steps_over, DiscardsNone, SetNone, ups_at, submitted_at, taken_at, DiscardsNoneAt, SetNoneAt}
 use Rattle.channel_laws.specs.Lives.{AirStep, AreLiving, end_at, all_calls}
 use Rattle.channel_laws.proofs.Bearers.{IsSteady}
@@ -101,12 +105,14 @@ module _ (l : ℕ) (c : BearerConfig) (keys : Keys) (nb ue : End) (h : BeginAlik
     ue = begins_so Ue l ue (first_of c keys Ue) (begins_life Ue l c keys ue h.kind h.ue_begun);
     nb_steady = steady_so Nb l c keys nb h.kind h.nb_begun;
     ue_steady = steady_so Ue l c keys ue h.kind h.ue_begun;
+    nb_stands = stands_so Nb l c keys nb h.nb_begun;
+    ue_stands = stands_so Ue l c keys ue h.ue_begun;
   }
 
   pub both_ends : AreBothEnds c keys (first_of c keys Nb) (first_of c keys Ue)
   both_ends = record { config = h.config; first = h.first; kind = h.kind; nb_is = first_is c keys Nb h.kind; ue_is = first_is c keys Ue h.kind }
 
-  pub walk : (xs : List AirStep) → AreLiving l (outset nb ue) xs → WalksOn l (outset nb ue) xs pair
+  pub walk : (xs : List AirStep) → AreLiving l (outset nb ue) xs → WalksOn c.pdcp_bits l (outset nb ue) xs pair
   walk xs g = walks_on c.pdcp_bits l xs (outset nb ue) pair g both_match
 
   own_steady : (side : Side) → IsSteady c.pdcp_bits l (own side pair).bearer
@@ -151,6 +157,29 @@ module _ (l : ℕ) (c : BearerConfig) (keys : Keys) (nb ue : End) (h : BeginAlik
   delivers from xs g =
       subst (λ (up : List (List ℕ)). IsFront up (taken_at l from xs (outset nb ue))) (ups_is (other from) xs g)
       (subst (IsFront (over (ups_in_at (other from)) (walk xs g).steps pair)) (news_is from xs g) (pair_delivers from xs g))
+
+  -- ---- exactly which
+
+  -- what is told of a direction of the pair
+  abbrev told_at : Side → Pair → LifeStep → List Happening
+  told_at Nb = down_in
+  told_at Ue = up_in
+
+  told_is : (from : Side) (xs : List AirStep) (g : AreLiving l (outset nb ue) xs) → over (told_at from) (walk xs g).steps pair ≡ happened c.pdcp_bits l from xs (outset nb ue)
+  told_is Nb xs g = (walk xs g).down_is
+  told_is Ue xs g = (walk xs g).up_is
+
+  pair_came : (from : Side) (xs : List AirStep) (g : AreLiving l (outset nb ue) xs)
+      → IsWhatCame c.first (account (over (told_at from) (walk xs g).steps pair) no_account) (over (news_in_at from) (walk xs g).steps pair) (over (ups_in_at (other from)) (walk xs g).steps pair)
+  pair_came Nb xs g = (what_came_is_delivered c keys (first_of c keys Nb) (first_of c keys Ue) (walk xs g).steps both_ends (walk xs g).living).down
+  pair_came Ue xs g = (what_came_is_delivered c keys (first_of c keys Nb) (first_of c keys Ue) (walk xs g).steps both_ends (walk xs g).living).up
+
+  pub came : (from : Side) (xs : List AirStep) → AreLiving l (outset nb ue) xs → IsWhatCame c.first (told_from c l from xs (outset nb ue)) (taken_at l from xs (outset nb ue)) (ups_at l (other from) xs (outset nb ue))
+  came from xs g =
+      subst (λ (up : List (List ℕ)). IsWhatCame c.first (told_from c l from xs (outset nb ue)) (taken_at l from xs (outset nb ue)) up) (ups_is (other from) xs g)
+      (subst (λ (all : List (List ℕ)). IsWhatCame c.first (told_from c l from xs (outset nb ue)) all (over (ups_in_at (other from)) (walk xs g).steps pair)) (news_is from xs g)
+      (subst (λ (hs : List Happening). IsWhatCame c.first (account hs no_account) (over (news_in_at from) (walk xs g).steps pair) (over (ups_in_at (other from)) (walk xs g).steps pair)) (told_is from xs g)
+      (pair_came from xs g)))
 
 -- ---- of what is submitted
 
@@ -268,3 +297,34 @@ channels_begin side maximum reports past c keys given new none is =
       there = a.there;
       bearer_is = a.flow_is ∙ ap (λ (s : Side). flow_of c.kind c keys s) (reached_side side maximum reports past);
     }
+
+-- ---- exactly which
+
+pub channels_deliver_what_came : (l : ℕ) (c : BearerConfig) (keys : Keys) (nb ue : End) (from : Side) (steps : List AirStep)
+    → BeginAlike l c keys nb ue → AreLiving l (outset nb ue) steps
+    → IsWhatCame c.first (told_from c l from steps (outset nb ue)) (taken_at l from steps (outset nb ue)) (ups_at l (other from) steps (outset nb ue))
+channels_deliver_what_came l c keys nb ue from steps h g = came l c keys nb ue h from steps g
+
+-- with more behind what was taken
+came_more : (first : ℕ) (a : Account) (news more ups : List (List ℕ)) → IsWhatCame first a news ups → IsWhatCame first a (news ++ more) ups
+came_more first a news more ups h =
+    let t = h.taken in
+    let l = length-append news more in
+    record {
+      next = h.next;
+      least = h.least;
+      taken = omega (arith, t, l);
+      ups_are = h.ups_are ∙ sym (take-append-le (h.next - first) news more (omega (arith, t)));
+    }
+
+pub channels_deliver_what_came_undiscarded : (l : ℕ) (c : BearerConfig) (keys : Keys) (nb ue : End) (from : Side) (steps : List AirStep)
+    → BeginAlike l c keys nb ue → AreLiving l (outset nb ue) steps → DiscardsNoneAt l from steps (outset nb ue)
+    → IsWhatCame c.first (told_from c l from steps (outset nb ue)) (submitted_at l from steps (outset nb ue)) (ups_at l (other from) steps (outset nb ue))
+channels_deliver_what_came_undiscarded l c keys nb ue from steps h g none =
+    let cs = all_calls from steps (outset nb ue) in
+    let e = end_at from (outset nb ue) in
+    let b = begun l c keys nb ue h from in
+    let up = ups_at l (other from) steps (outset nb ue) in
+    let a = told_from c l from steps (outset nb ue) in
+    subst (λ (all : List (List ℕ)). IsWhatCame c.first a all up) (taken_then from l c keys e cs h.kind b (are_calls l from steps (outset nb ue) g) none)
+    (came_more c.first a (was_taken l cs e) (waits from l c keys e cs h.kind b) up (came l c keys nb ue h from steps g))

@@ -88,7 +88,7 @@ act_so l other s (Calls c) g = (inl (g.0, g.1), tt)
 act_so l other s (Comes k) g = brought_so l (slice_get other.blocks k)
 act_so l other s (Goes k) g = tt
 
-step_so : (l : ℕ) (side : Side) (a : Air) (x : AirStep) → IsLiving l a x → AllByRecursion (IsCall l) (calls_at side a x)
+pub step_so : (l : ℕ) (side : Side) (a : Air) (x : AirStep) → IsLiving l a x → AllByRecursion (IsCall l) (calls_at side a x)
 step_so l Nb a (InLife (AtNb x)) g = act_so l a.ue a.nb x g
 step_so l Nb a (InLife (AtUe x)) g = tt
 step_so l Nb a (InLife Passes) g = tt

@@ -2,6 +2,7 @@ pub mod Ends
 pub mod Bearers
 pub mod Pairs
 pub mod Acting
+pub mod Saying
 pub mod Walk
 pub mod Waiting
 pub mod Unset

@@ -1,3 +1,4 @@
 pub mod Lives
 pub mod Delivery
 pub mod Drained
+pub mod Arrival

@@ -2,6 +2,7 @@
 //! and do nothing.
 #![tactic(auto)]
 
+ghost use Rattle.channel_laws.specs.Arrival.{ChannelsDeliverWhatCame, ChannelsDeliverWhatCameUndiscarded};
 ghost use Rattle.channel_laws.specs.Delivery.{EndsGoByCalls, ChannelsBegin, ChannelsDeliverInOrder, ChannelsDeliverWhatIsTaken, ChannelsDeliverUndiscarded, UnsetDiscardsNone, ChannelsDeliver};
 ghost use Rattle.channel_laws.specs.Drained.{DrainedChannelsHaveDelivered, DrainedEndsHaveDelivered};
 
@@ -40,6 +41,15 @@ pub fn channels_deliver_undiscarded()
 pub fn channels_deliver()
     ensures unset { UnsetDiscardsNone }
     ensures front { ChannelsDeliver }
+{}
+
+/// An end holds none of them back that has come: what went up at the other end are exactly the SDUs before the first whose COUNT hasn't
+/// come, all octets of its PDU, whole in a life that ended, or with all before it in the one that runs; of those that the bearer took,
+/// and where the end discarded none of those that were submitted. What has come is told by the blocks that were built and that came, and
+/// by what the end tells as it builds them.
+pub fn channels_deliver_what_came()
+    ensures taken { ChannelsDeliverWhatCame }
+    ensures submitted { ChannelsDeliverWhatCameUndiscarded }
 {}
 
 /// Once a channel is drained at an end, and its sender there hasn't failed, what went up at the other end are all SDUs that its bearer

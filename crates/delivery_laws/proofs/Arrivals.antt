@@ -1,5 +1,5 @@
 -- A data PDU comes: the places that have arrived by it have arrived to PDCP too.
-use Rattle.std.proofs.Common.{◌≡◌, ◌<◌, ◌≤◌, ℕ, zero, suc, Bool, true, false, ◌&&◌, ◌||◌, if◌then◌else◌, nat_lt, List, [], ◌∷◌, map, length, Option, Some, Result, Ok, slice_get, append-nil, refl, ap, sym, subst, ◌∙◌, arith}
+use Rattle.std.proofs.Common.{◌≡◌, ◌<◌, ◌≤◌, ℕ, zero, suc, Bool, true, false, ◌&&◌, ◌||◌, if◌then◌else◌, nat_lt, List, [], ◌∷◌, ◌++◌, map, length, Option, Some, Result, Ok, slice_get, append-nil, refl, ap, sym, subst, ◌∙◌, arith}
 use Rattle.std.proofs.lemmas.Bool.Decides.{nat_tests}
 use Rattle.std.proofs.lemmas.List.{length-map}
 use Rattle.pdcp_tx.specs.declared.sender.Next.{Next}
@@ -15,9 +15,13 @@ use Rattle.am_laws.proofs.Laws.{sound, happens-sound}
 use Rattle.am_laws.proofs.ByPlace.{arrived-offered}
 use Rattle.am_laws.proofs.Later.{arrivals-stay}
 use Rattle.am_laws.proofs.Steps.{goes-up, step-offers}
+use Rattle.am_arrival_laws.specs.Passing.{Comes, told_in}
+use Rattle.am_arrival_laws.specs.Arrival.{coming, passed}
+use Rattle.am_arrival_laws.specs.Lives.{Passes, account}
 use Rattle.am_pdcp_laws.specs.Flow.{Flow as Pdcp, Event, Arrive, happens as pdcp_happens, run as run_pdcp, AreGiven as AreGivenEvents}
 use Rattle.flow_laws.proofs.Standing.{Stands}
 use Rattle.flow_laws.proofs.Hearing.{receives_one}
+use Rattle.delivery_laws.proofs.Accounts.{told_of, tells_passing, agrees_at}
 use Rattle.delivery_laws.proofs.Joined.{Way, IsWay, rlc, pdcp}
 use Rattle.delivery_laws.proofs.Meeting.{Standing, MeetsNow, Extends}
 
@@ -57,7 +61,7 @@ data_is : (f : Rlc) (k : ℕ) (c : Copy) (pdu : AmdPdu) → slice_get f.copies k
 data_is f k c pdu at read = ap (λ (o : Option Copy). data_comes f o) at ∙ ap (λ (o : Result AcknowledgedPdu RlcRefusal). data_read f o) read
 
 pub data_arrives : (w : Way) (k : ℕ) (c : Copy) (pdu : AmdPdu) (a : Standing) → IsWay w
-    → slice_get (rlc w).copies k ≡ Some c → am_at c.octets ≡ Ok (Payload pdu) → MeetsNow w a → Extends w (record a { rx = state_after a.rx (Hears pdu) }) []
+    → slice_get (rlc w).copies k ≡ Some c → am_at c.octets ≡ Ok (Payload pdu) → MeetsNow w a → Extends w (record a { rx = state_after a.rx (Hears pdu) }) [] (Passes (Comes c.octets) ∷ [])
 data_arrives w k c pdu a h at read m =
     let f : Rlc = rlc w in
     let g : Pdcp = pdcp w in
@@ -91,6 +95,11 @@ data_arrives w k c pdu a h at read m =
         owed = ap (λ (x : Pdcp). x.sender.owed) come.same;
       };
       ups_are = ap (λ (x : Pdcp). x.up) come.same ∙ sym (append-nil g.up);
+      tells = λ b l.
+          agrees_at (account (Passes (Comes c.octets) ∷ []) b) (run_pdcp (arrivals (arrives f') n) g) (run_pdcp (arrivals (arrives f') n) g)
+          (told_in (Comes c.octets ∷ []) (told_of w)) (told_in (passed (step ∷ []) f) (told_of w)) refl (ap (λ (o : Option Copy). told_in (coming o ++ []) (told_of w)) at)
+          (tells_passing (Comes c.octets ∷ []) g (run_pdcp (arrivals (arrives f') n) g) (told_of w) (ap (λ (x : Pdcp). x.stream) come.same) (ap (λ (x : Pdcp). x.passed) come.same)
+          (λ count. ap (λ (x : Pdcp). x.handed count) come.same) b l);
     }
   where
     whole_too : (p n : ℕ) (now before : Bool) → (now ≡ true → p < n) → (before ≡ true → now ≡ true) → (nat_lt p n && now) || before ≡ now

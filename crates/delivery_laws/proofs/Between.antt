@@ -1,6 +1,7 @@
 -- Both ways while an end is between two deeds of a call.
 use Rattle.std.proofs.Common.{◌≡◌, ℕ, List, [], ◌∷◌, ◌++◌, ◌∙◌}
 use Rattle.std.specs.List.{AllByRecursion}
+use Rattle.am_arrival_laws.specs.Lives.{Happening}
 use Rattle.am_bearer_laws.specs.Deeds.{Deed, does as deed_does, does_all, goes_up, go_up}
 use Rattle.bearer_am.specs.State.{State}
 use Rattle.flow_laws.specs.Pair.{BearerEnd}
@@ -19,23 +20,23 @@ pub record Between (bits : ℕ) (out inn : Way) (e o : BearerEnd) : Type 0 where
   pub out_reports : Reports out inn
   pub inn_reports : Reports inn out
 
--- they go on to an end of which these SDUs went up
-pub record GoesBetween (bits : ℕ) (out inn : Way) (e o : BearerEnd) (ups : List (List ℕ)) : Type 0 where
+-- they go on to an end of which these SDUs went up, and so much is told of what it heard
+pub record GoesBetween (bits : ℕ) (out inn : Way) (e o : BearerEnd) (ups : List (List ℕ)) (heard : List Happening) : Type 0 where
   pub out_after : Way
   pub inn_after : Way
   pub between : Between bits out_after inn_after e o
-  pub out_goes : GoesOn out out_after [] []
-  pub inn_goes : GoesOn inn inn_after [] ups
+  pub out_goes : GoesOn out out_after [] [] []
+  pub inn_goes : GoesOn inn inn_after [] ups heard
 
-pub none_goes : (bits : ℕ) (out inn : Way) (e o : BearerEnd) → Between bits out inn e o → GoesBetween bits out inn e o []
+pub none_goes : (bits : ℕ) (out inn : Way) (e o : BearerEnd) → Between bits out inn e o → GoesBetween bits out inn e o [] []
 none_goes bits out inn e o h = record { out_after = out; inn_after = inn; between = h; out_goes = goes_not out; inn_goes = goes_not inn }
 
 -- each way by itself
-pub both_go : (bits : ℕ) (out inn : Way) (d e o : BearerEnd) (ups : List (List ℕ)) → Between bits out inn d o
-    → Extends out (standing e o) [] → Extends inn (standing o e) ups → GoesBetween bits out inn e o ups
-both_go bits out inn d e o ups h there back =
-    let x : Extended out e o [] = extended out e o [] h.out_is there in
-    let y : Extended inn o e ups = extended inn o e ups h.inn_is back in
+pub both_go : {heard : List Happening} (bits : ℕ) (out inn : Way) (d e o : BearerEnd) (ups : List (List ℕ)) → Between bits out inn d o
+    → Extends out (standing e o) [] [] → Extends inn (standing o e) ups heard → GoesBetween bits out inn e o ups heard
+both_go {heard} bits out inn d e o ups h there back =
+    let x : Extended out e o [] [] = extended out e o [] [] h.out_is there in
+    let y : Extended inn o e ups heard = extended inn o e ups heard h.inn_is back in
     record {
       out_after = x.after;
       inn_after = y.after;
@@ -53,8 +54,8 @@ both_go bits out inn d e o ups h there back =
       inn_goes = y.goes;
     }
 
-pub then_goes : (bits : ℕ) (out inn : Way) (d e o : BearerEnd) (ups more : List (List ℕ)) → GoesBetween bits out inn d o ups
-    → ((v w : Way) → Between bits v w d o → GoesBetween bits v w e o more) → GoesBetween bits out inn e o (ups ++ more)
+pub then_goes : {x y : List Happening} (bits : ℕ) (out inn : Way) (d e o : BearerEnd) (ups more : List (List ℕ)) → GoesBetween bits out inn d o ups x
+    → ((v w : Way) → Between bits v w d o → GoesBetween bits v w e o more y) → GoesBetween bits out inn e o (ups ++ more) (x ++ y)
 then_goes bits out inn d e o ups more h rest =
     let k = rest h.out_after h.inn_after h.between in
     record {
@@ -71,10 +72,10 @@ abbrev pub with_bearer : BearerEnd → State → BearerEnd
 with_bearer e b = record e { bearer = b }
 
 abbrev pub DeedGoes : ℕ → Deed → Type 0
-DeedGoes bits deed = (out inn : Way) (e o : BearerEnd) → Between bits out inn e o → GoesBetween bits out inn (with_bearer e (deed_does e.bearer deed)) o (goes_up e.bearer deed)
+DeedGoes bits deed = (out inn : Way) (e o : BearerEnd) → Between bits out inn e o → GoesBetween bits out inn (with_bearer e (deed_does e.bearer deed)) o (goes_up e.bearer deed) []
 
 pub deeds_go : (bits : ℕ) (deeds : List Deed) → AllByRecursion (DeedGoes bits) deeds → (out inn : Way) (e o : BearerEnd) → Between bits out inn e o
-    → GoesBetween bits out inn (with_bearer e (does_all deeds e.bearer)) o (go_up deeds e.bearer)
+    → GoesBetween bits out inn (with_bearer e (does_all deeds e.bearer)) o (go_up deeds e.bearer) []
 deeds_go bits [] all out inn e o h = none_goes bits out inn e o h
 deeds_go bits (deed ∷ deeds) all out inn e o h =
     let d : BearerEnd = with_bearer e (deed_does e.bearer deed) in

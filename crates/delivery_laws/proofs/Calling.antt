@@ -20,6 +20,7 @@ use Rattle.am_bearer_laws.proofs.Timing.{expires_quiet, tti_quiet, in_a_tti}
 use Rattle.am_bearer_laws.proofs.Calls.{calls_are_deeds}
 use Rattle.flow_laws.specs.Pair.{BearerEnd, acknowledged, called, calls, IsCalling}
 use Rattle.flow_laws.proofs.Standing.{or_none}
+use Rattle.delivery_laws.specs.Arrival.{said_in, heard_in}
 use Rattle.delivery_laws.specs.Lives.{IsAccepted}
 use Rattle.delivery_laws.proofs.Joined.{Way}
 use Rattle.delivery_laws.proofs.Ends.{JoinedEnds, EndsGoOn}
@@ -82,25 +83,25 @@ none_up bits out inn e o c h g =
 called_as : (bits : ℕ) (out inn : Way) (e o : BearerEnd) (c : Call) → JoinedEnds bits out inn e o → does_all (deeds_of e.bearer c) e.bearer ≡ called e.bearer c
 called_as bits out inn e o c h = ap (acknowledged e.bearer) (sym (calls_are_deeds bits e.bearer c h.of_data h.idle).left)
 
-writes_none : (bits : ℕ) (out inn : Way) (e o : BearerEnd) (c : Call) → JoinedEnds bits out inn e o → EndsGoOn bits out inn (with_bearer (deeds_of e.bearer c) e) o [] []
-    → EndsGoOn bits out inn (record e { bearer = called e.bearer c; busy = e.busy || false }) o [] []
+writes_none : (bits : ℕ) (out inn : Way) (e o : BearerEnd) (c : Call) → JoinedEnds bits out inn e o → EndsGoOn bits out inn (with_bearer (deeds_of e.bearer c) e) o [] [] [] []
+    → EndsGoOn bits out inn (record e { bearer = called e.bearer c; busy = e.busy || false }) o [] [] [] []
 writes_none bits out inn e o c h m =
-    subst (λ (busy : Bool). EndsGoOn bits out inn (record e { bearer = called e.bearer c; busy = busy }) o [] []) (or_none e.busy)
-    (subst (λ (b : State). EndsGoOn bits out inn (record e { bearer = b }) o [] []) (called_as bits out inn e o c h) m)
+    subst (λ (busy : Bool). EndsGoOn bits out inn (record e { bearer = called e.bearer c; busy = busy }) o [] [] [] []) (or_none e.busy)
+    (subst (λ (b : State). EndsGoOn bits out inn (record e { bearer = b }) o [] [] [] []) (called_as bits out inn e o c h) m)
 
 submits_go_on : (bits : ℕ) (out inn : Way) (e o : BearerEnd) (sdu : List ℕ) → JoinedEnds bits out inn e o → IsAccepted e.bearer (Submit sdu)
-    → EndsGoOn bits out inn (calls e (Submit sdu)) o [] []
+    → EndsGoOn bits out inn (calls e (Submit sdu)) o [] [] [] []
 submits_go_on bits out inn e o sdu h ok =
     writes_none bits out inn e o (Submit sdu) h (asks_go_on bits out inn e o (SubmitPdcp sdu) h (ap (λ (s : Sending). refusal s sdu) h.out_joins.sender_is ∙ ok) tt)
 
 own_go_on : (bits : ℕ) (out inn : Way) (e o : BearerEnd) (c : Call) → JoinedEnds bits out inn e o → AreOwn (deeds_of e.bearer c)
-    → EndsGoOn bits out inn (record e { bearer = called e.bearer c; busy = e.busy || false }) o [] []
+    → EndsGoOn bits out inn (record e { bearer = called e.bearer c; busy = e.busy || false }) o [] [] [] []
 own_go_on bits out inn e o c h own = writes_none bits out inn e o c h (own_all bits out inn e o (deeds_of e.bearer c) h own)
 
 -- ---- any call
 
 calls_on : (bits : ℕ) (out inn : Way) (e o : BearerEnd) (c : Call) → JoinedEnds bits out inn e o → IsCalling e c → IsAccepted e.bearer c
-    → EndsGoOn bits out inn (calls e c) o (news (Am e.bearer) c) []
+    → EndsGoOn bits out inn (calls e c) o (news (Am e.bearer) c) [] (said_in e.bearer c) (heard_in c)
 calls_on bits out inn e o (Submit sdu) h g ok = submits_go_on bits out inn e o sdu h ok
 calls_on bits out inn e o (Take share held) h g ok = takes_go_on bits out inn e o share held h g
 calls_on bits out inn e o (Arrive pdu) h g ok = absurd g
@@ -109,6 +110,6 @@ calls_on bits out inn e o Tick h g ok = own_go_on bits out inn e o Tick h (tti_o
 calls_on bits out inn e o (SetDiscard ttis) h g ok = own_go_on bits out inn e o (SetDiscard ttis) h (tt, tt)
 
 pub calls_go_on : (bits : ℕ) (out inn : Way) (e o : BearerEnd) (c : Call) → JoinedEnds bits out inn e o → IsCalling e c → IsAccepted e.bearer c
-    → EndsGoOn bits out inn (calls e c) o (news (Am e.bearer) c) (ups_in (tells e.bearer c))
+    → EndsGoOn bits out inn (calls e c) o (news (Am e.bearer) c) (ups_in (tells e.bearer c)) (said_in e.bearer c) (heard_in c)
 calls_go_on bits out inn e o c h g ok =
-    subst (λ (ups : List (List ℕ)). EndsGoOn bits out inn (calls e c) o (news (Am e.bearer) c) ups) (none_up bits out inn e o c h g) (calls_on bits out inn e o c h g ok)
+    subst (λ (ups : List (List ℕ)). EndsGoOn bits out inn (calls e c) o (news (Am e.bearer) c) ups (said_in e.bearer c) (heard_in c)) (none_up bits out inn e o c h g) (calls_on bits out inn e o c h g ok)

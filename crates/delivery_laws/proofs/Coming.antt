@@ -13,7 +13,11 @@ use Rattle.rlc_am_tx.specs.Machine.{heard as heard_status, after_status}
 use Rattle.rlc_am_rx.specs.Machine.{arrived as landed_in}
 use Rattle.am_tx_laws.specs.Run.{Status, Settle}
 use Rattle.am_rx_laws.specs.Run.{Arrive as Hears}
+use Rattle.am_arrival_laws.specs.Passing.{Comes, come_as, told_in}
+use Rattle.am_arrival_laws.specs.Arrival.{passed}
+use Rattle.am_arrival_laws.specs.Lives.{Happening, Passes, Account, accounted}
 use Rattle.am_laws.specs.Flow.{Copy}
+use Rattle.am_pdcp_laws.specs.Flow.{run as run_pdcp}
 use Rattle.am_laws.specs.Statuses.{reduced}
 use Rattle.bearer_parts.specs.Ends.{Ends}
 use Rattle.bearer_parts.specs.Hearing.{applies}
@@ -27,11 +31,13 @@ use Rattle.am_bearer_laws.proofs.Calls.{calls_are_deeds}
 use Rattle.flow_laws.specs.Pair.{Sent, BearerEnd, Deed as EndDeed, DataComes, StatusComes, acknowledged, called, arrives, data_comes, status_comes, does, Calls, DataGoes, StatusGoes}
 use Rattle.flow_laws.specs.Flows.{HasFlow}
 use Rattle.flow_laws.proofs.Flows.{data_read, status_read}
+use Rattle.delivery_laws.specs.Arrival.{heard_by}
 use Rattle.delivery_laws.specs.Lives.{calls_in, call_by, call_of, ups_by}
-use Rattle.delivery_laws.proofs.Joined.{Way, IsWay, Joins}
+use Rattle.delivery_laws.proofs.Accounts.{Agrees, told_of}
+use Rattle.delivery_laws.proofs.Joined.{Way, IsWay, Joins, rlc, pdcp}
 use Rattle.delivery_laws.proofs.Promises.{GoesOn}
 use Rattle.delivery_laws.proofs.Ends.{JoinedEnds, EndsGoOn}
-use Rattle.delivery_laws.proofs.Meeting.{standing, meets_as, rests, goes_not}
+use Rattle.delivery_laws.proofs.Meeting.{Standing, Extends, standing, meets_as, rests, goes_not}
 use Rattle.delivery_laws.proofs.Between.{Between, GoesBetween, none_goes, both_go, then_goes, with_bearer, DeedGoes, deeds_go}
 use Rattle.delivery_laws.proofs.Arrivals.{data_arrives}
 use Rattle.delivery_laws.proofs.HandingUp.{IsNext, next_is, goes_up_one}
@@ -50,7 +56,7 @@ settle_goes bits more out inn e o h =
 confirm_goes : (bits : ℕ) → DeedGoes bits Confirms
 confirm_goes bits out inn e o h = by e.bearer.tx.accounts.news refl
   where
-    by : (l : List ℕ) → e.bearer.tx.accounts.news ≡ l → GoesBetween bits out inn (with_bearer e (confirms_first l e.bearer)) o []
+    by : (l : List ℕ) → e.bearer.tx.accounts.news ≡ l → GoesBetween bits out inn (with_bearer e (confirms_first l e.bearer)) o [] []
     by [] q = none_goes bits out inn e o h
     by (place ∷ places) q =
         let b = e.bearer in
@@ -61,7 +67,7 @@ confirm_goes bits out inn e o h = by e.bearer.tx.accounts.news refl
 hand_up_goes : (bits : ℕ) → DeedGoes bits HandsUp
 hand_up_goes bits out inn e o h = by e.bearer.rx.out.ready refl
   where
-    by : (l : List (List ℕ)) → e.bearer.rx.out.ready ≡ l → GoesBetween bits out inn (with_bearer e (hands_first l e.bearer)) o (raised_first l e.bearer.pdcp.rx)
+    by : (l : List (List ℕ)) → e.bearer.rx.out.ready ≡ l → GoesBetween bits out inn (with_bearer e (hands_first l e.bearer)) o (raised_first l e.bearer.pdcp.rx) []
     by [] q = none_goes bits out inn e o h
     by (sdu ∷ sdus) q =
         let b = e.bearer in
@@ -111,15 +117,15 @@ abbrev flow_of_way : (w : Way) (from to : BearerEnd) → IsWay w → Joins w fro
 flow_of_way w from to h j = record { steps = w.steps; given = h.steps; is = j.rlc_is }
 
 -- as its deeds do, so does its call
-as_called : (bits : ℕ) (out inn : Way) (e o : BearerEnd) (pdu : List ℕ) (x : Result AcknowledgedPdu RlcRefusal) → am_at pdu ≡ x → JoinedEnds bits out inn e o
-    → GoesBetween bits out inn (with_bearer e (does_all (arrive_deeds x e.bearer) e.bearer)) o (go_up (arrive_deeds x e.bearer) e.bearer)
-    → EndsGoOn bits out inn (arrives e pdu) o [] (ups_by e.bearer (Arrive pdu ∷ []))
-as_called bits out inn e o pdu x read h g =
+as_called : {heard : List Happening} (bits : ℕ) (out inn : Way) (e o : BearerEnd) (pdu : List ℕ) (x : Result AcknowledgedPdu RlcRefusal) → am_at pdu ≡ x → JoinedEnds bits out inn e o
+    → GoesBetween bits out inn (with_bearer e (does_all (arrive_deeds x e.bearer) e.bearer)) o (go_up (arrive_deeds x e.bearer) e.bearer) heard
+    → EndsGoOn bits out inn (arrives e pdu) o [] (ups_by e.bearer (Arrive pdu ∷ [])) [] heard
+as_called {heard} bits out inn e o pdu x read h g =
     let b = e.bearer in
     let a : AreDeeds bits b (Arrive pdu) = calls_are_deeds bits b (Arrive pdu) h.of_data h.idle in
     let d : State = does_all (arrive_deeds (am_at pdu) b) b in
-    let k : GoesBetween bits out inn (with_bearer e d) o (go_up (arrive_deeds (am_at pdu) b) b) =
-    subst (λ (y : Result AcknowledgedPdu RlcRefusal). GoesBetween bits out inn (with_bearer e (does_all (arrive_deeds y b) b)) o (go_up (arrive_deeds y b) b)) (sym read) g in
+    let k : GoesBetween bits out inn (with_bearer e d) o (go_up (arrive_deeds (am_at pdu) b) b) heard =
+    subst (λ (y : Result AcknowledgedPdu RlcRefusal). GoesBetween bits out inn (with_bearer e (does_all (arrive_deeds y b) b)) o (go_up (arrive_deeds y b) b) heard) (sym read) g in
     let is : called b (Arrive pdu) ≡ d = ap (λ (f : Flow). acknowledged b f) a.left in
     let joined : JoinedEnds bits k.out_after k.inn_after (with_bearer e d) o = record {
       out_is = k.between.out_is;
@@ -140,15 +146,15 @@ as_called bits out inn e o pdu x read h g =
       inn_after = k.inn_after;
       joined = subst (λ (y : State). JoinedEnds bits k.out_after k.inn_after (with_bearer e y) o) (sym is) joined;
       out_goes = k.out_goes;
-      inn_goes = subst (λ (l : List (List ℕ)). GoesOn inn k.inn_after [] l) a.ups k.inn_goes;
+      inn_goes = subst (λ (l : List (List ℕ)). GoesOn inn k.inn_after [] l heard) a.ups k.inn_goes;
     }
 
-none_comes : (bits : ℕ) (out inn : Way) (e o : BearerEnd) → JoinedEnds bits out inn e o → EndsGoOn bits out inn e o [] []
+none_comes : (bits : ℕ) (out inn : Way) (e o : BearerEnd) → JoinedEnds bits out inn e o → EndsGoOn bits out inn e o [] [] [] []
 none_comes bits out inn e o h = record { out_after = out; inn_after = inn; joined = h; out_goes = goes_not out; inn_goes = goes_not inn }
 
 -- a data PDU that the other end sent
 data_goes : (bits : ℕ) (out inn : Way) (e o : BearerEnd) (k : ℕ) (x : Option Copy) → slice_get o.copies k ≡ x → JoinedEnds bits out inn e o
-    → EndsGoOn bits out inn (data_comes e x) o [] (ups_by e.bearer (call_by x))
+    → EndsGoOn bits out inn (data_comes e x) o [] (ups_by e.bearer (call_by x)) [] (heard_by (call_by x))
 data_goes bits out inn e o k None at h = none_comes bits out inn e o h
 data_goes bits out inn e o k (Some c) at h =
     let b = e.bearer in
@@ -156,7 +162,7 @@ data_goes bits out inn e o k (Some c) at h =
     let pdu : AmdPdu = r.pdu in
     let d : BearerEnd = with_bearer e (deed_does b (Receives (Hears pdu))) in
     let rest : List Deed = hands_up (landed_in b.rx pdu).out.ready b.pdcp in
-    let first : GoesBetween bits out inn d o [] =
+    let first : GoesBetween bits out inn d o [] (Passes (Comes c.octets) ∷ []) =
     both_go bits out inn e d o [] (between_of bits out inn e o h)
     (rests out (standing e o) (meets_as out e o h.out_joins))
     (data_arrives inn k c pdu (standing o e) h.inn_is r.at r.read (meets_as inn o e h.inn_joins)) in
@@ -164,9 +170,25 @@ data_goes bits out inn e o k (Some c) at h =
     (then_goes bits out inn d (with_bearer d (does_all rest d.bearer)) o [] (go_up rest d.bearer) first
     (λ v w n. deeds_go bits rest (all_hand_up bits (landed_in b.rx pdu).out.ready b.pdcp) v w d o n))
 
+-- a STATUS tells nothing of what comes this way
+silent : (octets : List ℕ) (pdu : StatusPdu) (a : Account) → am_at octets ≡ Ok (Control pdu) → accounted (Passes (Comes octets)) a ≡ a
+silent octets pdu a read = ap (λ (x : Result AcknowledgedPdu RlcRefusal). record a { rlc = come_as x a.rlc }) read
+
+silently : (w : Way) (a : Standing) (octets : List ℕ) (pdu : StatusPdu) → am_at octets ≡ Ok (Control pdu) → Extends w a [] [] → Extends w a [] (Passes (Comes octets) ∷ [])
+silently w a octets pdu read x = record {
+  events = x.events;
+  steps = x.steps;
+  events_given = x.events_given;
+  steps_given = x.steps_given;
+  meets = x.meets;
+  stays = x.stays;
+  ups_are = x.ups_are;
+  tells = λ b k. subst (λ (c : Account). Agrees c (run_pdcp x.events (pdcp w)) (told_in (passed x.steps (rlc w)) (told_of w))) (sym (silent octets pdu b read)) (x.tells b k);
+}
+
 -- a STATUS that it wrote
 status_goes : (bits : ℕ) (out inn : Way) (e o : BearerEnd) (k : ℕ) (x : Option Sent) → slice_get o.reports k ≡ x → JoinedEnds bits out inn e o
-    → EndsGoOn bits out inn (status_comes e x) o [] (ups_by e.bearer (call_of x))
+    → EndsGoOn bits out inn (status_comes e x) o [] (ups_by e.bearer (call_of x)) [] (heard_by (call_of x))
 status_goes bits out inn e o k None at h = none_comes bits out inn e o h
 status_goes bits out inn e o k (Some s) at h =
     let b = e.bearer in
@@ -176,11 +198,12 @@ status_goes bits out inn e o k (Some s) at h =
     let places = (after_status b.tx pdu).accounts.news in
     let last : List Deed = settles_by (heard_status b.tx pdu) (confirms_places places b.pdcp) in
     let rest : List Deed = confirms_all places ++ last in
-    let first : GoesBetween bits out inn d o [] =
+    let read : am_at s.octets ≡ Ok (Control pdu) = ap am_at (sym r.same) ∙ r.read in
+    let first : GoesBetween bits out inn d o [] (Passes (Comes s.octets) ∷ []) =
     both_go bits out inn e d o [] (between_of bits out inn e o h)
     (status_arrives out k r.report pdu (standing e o) h.out_is r.at r.read (meets_as out e o h.out_joins))
-    (rests inn (standing o e) (meets_as inn o e h.inn_joins)) in
-    as_called bits out inn e o s.octets (Ok (Control pdu)) (ap am_at (sym r.same) ∙ r.read) h
+    (silently inn (standing o e) s.octets pdu read (rests inn (standing o e) (meets_as inn o e h.inn_joins))) in
+    as_called bits out inn e o s.octets (Ok (Control pdu)) read h
     (then_goes bits out inn d (with_bearer d (does_all rest d.bearer)) o [] (go_up rest d.bearer) first
     (λ v w n. deeds_go bits rest (all_confirm bits places last (all_settle bits (heard_status b.tx pdu) (confirms_places places b.pdcp))) v w d o n))
 
@@ -194,7 +217,7 @@ Brings (DataGoes k) = ⊥
 Brings (StatusGoes k) = ⊥
 
 pub comes_go_on : (bits : ℕ) (out inn : Way) (e o : BearerEnd) (d : EndDeed) → Brings d → JoinedEnds bits out inn e o
-    → EndsGoOn bits out inn (does o e d) o [] (ups_by e.bearer (calls_in o d))
+    → EndsGoOn bits out inn (does o e d) o [] (ups_by e.bearer (calls_in o d)) [] (heard_by (calls_in o d))
 comes_go_on bits out inn e o (Calls c) g h = absurd g
 comes_go_on bits out inn e o (DataComes k) g h = data_goes bits out inn e o k (slice_get o.copies k) refl h
 comes_go_on bits out inn e o (StatusComes k) g h = status_goes bits out inn e o k (slice_get o.reports k) refl h

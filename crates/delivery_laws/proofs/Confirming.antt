@@ -20,9 +20,12 @@ use Rattle.am_laws.proofs.Laws.{sound}
 use Rattle.am_laws.proofs.ByPlace.{confirms-arrived}
 use Rattle.am_laws.proofs.Later.{arrivals-same}
 use Rattle.am_laws.proofs.Steps.{goes-up, step-offers}
-use Rattle.am_pdcp_laws.specs.Flow.{Flow as Pdcp, Sends as PdcpSends}
+use Rattle.am_arrival_laws.specs.Arrival.{passed}
+use Rattle.am_pdcp_laws.specs.Flow.{Flow as Pdcp, Sends as PdcpSends, run as run_pdcp}
 use Rattle.flow_laws.proofs.Standing.{Stands, or_none}
 use Rattle.flow_laws.proofs.Sending.{sent_one}
+use Rattle.delivery_laws.specs.Arrival.{passing}
+use Rattle.delivery_laws.proofs.Accounts.{told_of, tells_passing}
 use Rattle.delivery_laws.proofs.Joined.{Way, IsWay, rlc, pdcp}
 use Rattle.delivery_laws.proofs.Meeting.{Standing, Meets, MeetsNow, none_changes, Extends}
 
@@ -50,7 +53,7 @@ quietly w step a tx h q stands m =
 
 -- PDCP does nothing
 of_rlc : (w : Way) (step : RlcStep) (a : Standing) (tx : Sender) → IsWay w → IsQuiet (rlc w) step → Stands tx a.rx a.copies a.reports a.busy (rlc_happens (rlc w) step)
-    → MeetsNow w a → Extends w (record a { tx = tx }) []
+    → MeetsNow w a → Extends w (record a { tx = tx }) [] (passing (passed (step ∷ []) (rlc w)))
 of_rlc w step a tx h q stands m = record {
   events = [];
   steps = step ∷ [];
@@ -59,11 +62,12 @@ of_rlc w step a tx h q stands m = record {
   meets = quietly w step a tx h q stands m;
   stays = none_changes (pdcp w);
   ups_are = sym (append-nil (pdcp w).up);
+  tells = tells_passing (passed (step ∷ []) (rlc w)) (pdcp w) (pdcp w) (told_of w) refl refl (λ count. refl);
 }
 
 -- ---- it settles
 
-pub settles : (w : Way) (more : Bool) (a : Standing) → IsWay w → MeetsNow w a → Extends w (record a { tx = sender_after a.tx (Settle more) }) []
+pub settles : (w : Way) (more : Bool) (a : Standing) → IsWay w → MeetsNow w a → Extends w (record a { tx = sender_after a.tx (Settle more) }) [] []
 settles w more a h m =
     let f : Rlc = rlc w in
     let tx : Sender = sender_after a.tx (Settle more) in
@@ -88,7 +92,7 @@ status_stands f pdu a h = record {
 }
 
 pub status_arrives : (w : Way) (k : ℕ) (x : Report) (pdu : StatusPdu) (a : Standing) → IsWay w → slice_get (rlc w).reports k ≡ Some x → am_at x.octets ≡ Ok (Control pdu)
-    → MeetsNow w a → Extends w (record a { tx = sender_after a.tx (Status pdu) }) []
+    → MeetsNow w a → Extends w (record a { tx = sender_after a.tx (Status pdu) }) [] []
 status_arrives w k x pdu a h at read m =
     let tx : Sender = sender_after a.tx (Status pdu) in
     of_rlc w (StatusComes k) a tx h (record { given = tt; brings_none = refl; takes_none = refl; offers_none = refl })
@@ -101,7 +105,7 @@ unfolding confirmed
 owed_stays s place = refl
 
 pub confirms : (w : Way) (place : ℕ) (places : List ℕ) (a : Standing) → IsWay w → a.tx.accounts.news ≡ place ∷ places → MeetsNow w a
-    → Extends w (record a { tx = sender_after a.tx Confirm; sending = after a.sending (ConfirmPlace place) }) []
+    → Extends w (record a { tx = sender_after a.tx Confirm; sending = after a.sending (ConfirmPlace place) }) [] []
 confirms w place places a h q m =
     let f : Rlc = rlc w in
     let g : Pdcp = pdcp w in
@@ -127,4 +131,5 @@ confirms w place places a h q m =
       };
       stays = record { sdus = append-nil g.sdus; stream = append-nil g.stream; report = refl; owed = owed_stays g.sender place };
       ups_are = sym (append-nil g.up);
+      tells = tells_passing [] g (run_pdcp (PdcpSends (ConfirmPlace place) ∷ []) g) (told_of w) (append-nil g.stream) refl (λ count. refl);
     }

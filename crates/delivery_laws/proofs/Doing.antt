@@ -3,6 +3,7 @@ use Rattle.std.proofs.Common.{◌≡◌, ℕ, List, [], ◌++◌, Option, Some, 
 use Rattle.std.specs.List.{AllByRecursion}
 use Rattle.am_bearer_laws.specs.Calls.{IsOfData, IsIdle}
 use Rattle.am_laws.specs.Flow.{Step as RlcStep}
+use Rattle.am_arrival_laws.specs.Lives.{Happening}
 use Rattle.am_pdcp_laws.specs.Flow.{Flow as Pdcp, Event, run as run_pdcp}
 use Rattle.flow_laws.specs.Pair.{BearerEnd}
 use Rattle.delivery_laws.proofs.Joined.{Way, Joins, IsReportOf, Reports, pdcp}
@@ -76,13 +77,13 @@ pub record IsBetween (bits : ℕ) (e : BearerEnd) : Type 0 where
   pub of_data : IsOfData bits e.bearer
   pub idle : IsIdle e.bearer
 
-pub out_goes_on : (bits : ℕ) (out inn : Way) (e o d : BearerEnd) (xs : List Event) (ss : List RlcStep) (news : List (List ℕ))
-    → JoinedEnds bits out inn e o → Moves out xs ss d o news [] → HearsAlike e d → IsBetween bits d
+pub out_goes_on : (bits : ℕ) (out inn : Way) (e o d : BearerEnd) (xs : List Event) (ss : List RlcStep) (news : List (List ℕ)) (said : List Happening)
+    → JoinedEnds bits out inn e o → Moves out xs ss d o news [] said → HearsAlike e d → IsBetween bits d
     → (run_pdcp xs (pdcp out)).report ≡ (pdcp out).report → Tells (pdcp inn).report (run_pdcp xs (pdcp out))
-    → EndsGoOn bits out inn d o news []
-out_goes_on bits out inn e o d xs ss news h moves alike between report told =
+    → EndsGoOn bits out inn d o news [] said []
+out_goes_on bits out inn e o d xs ss news said h moves alike between report told =
     let v = with_more xs ss out in
-    let m : HasMoved out v xs d o news [] = moves_on out xs ss d o news [] h.out_is moves in
+    let m : HasMoved out v xs d o news [] said = moves_on out xs ss d o news [] said h.out_is moves in
     let same : (pdcp v).report ≡ (pdcp out).report = ap (λ (g : Pdcp). g.report) m.pdcp_is ∙ report in
     record {
       out_after = v;
@@ -107,10 +108,10 @@ out_goes_on bits out inn e o d xs ss news h moves alike between report told =
 
 -- by a step of RLC alone
 pub inn_goes_on : (bits : ℕ) (out inn : Way) (e o d : BearerEnd) (ss : List RlcStep)
-    → JoinedEnds bits out inn e o → Moves inn [] ss o d [] [] → SendsAlike e d → IsBetween bits d → EndsGoOn bits out inn d o [] []
+    → JoinedEnds bits out inn e o → Moves inn [] ss o d [] [] [] → SendsAlike e d → IsBetween bits d → EndsGoOn bits out inn d o [] [] [] []
 inn_goes_on bits out inn e o d ss h moves alike between =
     let v = with_more [] ss inn in
-    let m : HasMoved inn v [] o d [] [] = moves_on inn [] ss o d [] [] h.inn_is moves in
+    let m : HasMoved inn v [] o d [] [] [] = moves_on inn [] ss o d [] [] [] h.inn_is moves in
     record {
       out_after = out;
       inn_after = v;
@@ -134,11 +135,11 @@ inn_goes_on bits out inn e o d ss h moves alike between =
 
 -- ---- one behind the other
 
-pub stays_joined : (bits : ℕ) (out inn : Way) (e o : BearerEnd) → JoinedEnds bits out inn e o → EndsGoOn bits out inn e o [] []
+pub stays_joined : (bits : ℕ) (out inn : Way) (e o : BearerEnd) → JoinedEnds bits out inn e o → EndsGoOn bits out inn e o [] [] [] []
 stays_joined bits out inn e o h = record { out_after = out; inn_after = inn; joined = h; out_goes = stays_so out; inn_goes = stays_so inn }
 
-pub ends_then : (bits : ℕ) (out inn : Way) (e o d p : BearerEnd) (news more ups later : List (List ℕ)) (m : EndsGoOn bits out inn e o news ups)
-    → EndsGoOn bits m.out_after m.inn_after d p more later → EndsGoOn bits out inn d p (news ++ more) (ups ++ later)
+pub ends_then : {a b x y : List Happening} (bits : ℕ) (out inn : Way) (e o d p : BearerEnd) (news more ups later : List (List ℕ)) (m : EndsGoOn bits out inn e o news ups a x)
+    → EndsGoOn bits m.out_after m.inn_after d p more later b y → EndsGoOn bits out inn d p (news ++ more) (ups ++ later) (a ++ b) (x ++ y)
 ends_then bits out inn e o d p news more ups later m n = record {
   out_after = n.out_after;
   inn_after = n.inn_after;

@@ -5,6 +5,7 @@ use Rattle.std.proofs.lemmas.Bool.Decides.{nat_tests}
 use Rattle.std.proofs.lemmas.List.{length-map}
 use Rattle.am_bearer_laws.specs.Calls.{IsIdle}
 use Rattle.am_bearer_laws.specs.Lives.{protection_at}
+use Rattle.am_arrival_laws.specs.Lives.{Happening}
 use Rattle.am_laws.specs.Flow.{Copy, sender}
 use Rattle.am_laws.specs.Sdus.{offered, handed_up, ready}
 use Rattle.am_laws.proofs.Laws.{hands-up-all, next-is-ready}
@@ -84,7 +85,7 @@ all_up w from to is j idle none =
     sym (append-nil g.up) ∙ ap (λ (l : List (List ℕ)). g.up ++ l) (sym raised)
     ∙ delivers_all w.bits w.protection w.first w.events is.kind is.first is.events passed again
 
-all_from : (c : BearerConfig) (p : Protection) (w : Way) (news ups : List (List ℕ)) → GoesOn (first_way c p) w news ups → (pdcp w).up ≡ (pdcp w).sdus
+all_from : {told : List Happening} (c : BearerConfig) (p : Protection) (w : Way) (news ups : List (List ℕ)) → GoesOn (first_way c p) w news ups told → (pdcp w).up ≡ (pdcp w).sdus
     → ups ≡ news
 all_from c p w news ups g h = sym g.ups_are ∙ h ∙ g.sdus_are
 

@@ -1,5 +1,6 @@
 -- Both directions from the end that acts: what it sends on goes out, what it hears comes in.
 use Rattle.std.specs.Prelude.{◌≡◌, ℕ, List, []}
+use Rattle.am_arrival_laws.specs.Lives.{Happening}
 use Rattle.am_bearer_laws.specs.Calls.{IsOfData, IsIdle}
 use Rattle.flow_laws.specs.Pair.{BearerEnd, Pair}
 use Rattle.delivery_laws.proofs.Joined.{Way, IsWay, Joins, Reports, JoinedPair}
@@ -20,13 +21,13 @@ pub record JoinedEnds (bits : ℕ) (out inn : Way) (e o : BearerEnd) : Type 0 wh
   pub idle : IsIdle e.bearer
   pub other_idle : IsIdle o.bearer
 
--- both ends as an end has acted: it took these SDUs for the first time, and these went up there
-pub record EndsGoOn (bits : ℕ) (out inn : Way) (e o : BearerEnd) (news ups : List (List ℕ)) : Type 0 where
+-- both ends as an end has acted: it took these SDUs for the first time, and these went up there; so much is told of what it sent and heard
+pub record EndsGoOn (bits : ℕ) (out inn : Way) (e o : BearerEnd) (news ups : List (List ℕ)) (said heard : List Happening) : Type 0 where
   pub out_after : Way
   pub inn_after : Way
   pub joined : JoinedEnds bits out_after inn_after e o
-  pub out_goes : GoesOn out out_after news []
-  pub inn_goes : GoesOn inn inn_after [] ups
+  pub out_goes : GoesOn out out_after news [] said
+  pub inn_goes : GoesOn inn inn_after [] ups heard
 
 -- ---- a pair, from each end
 

@@ -17,6 +17,7 @@ use Rattle.am_pdcp_laws.specs.Flow.{Flow as Pdcp, Event, HandUp, Raise, passes, 
 use Rattle.am_bearer_laws.specs.Deeds.{all_raised}
 use Rattle.flow_laws.proofs.Standing.{at_place}
 use Rattle.flow_laws.proofs.Hearing.{receives_one}
+use Rattle.delivery_laws.proofs.Accounts.{told_of, tells_handed}
 use Rattle.delivery_laws.proofs.Joined.{Way, IsWay, rlc, pdcp}
 use Rattle.delivery_laws.proofs.Meeting.{Standing, MeetsNow, Extends}
 
@@ -81,7 +82,7 @@ hands_up g pdu r at q =
     ∙ all_raise r.ready (passed_by r pdu g) refl
 
 pub goes_up_one : (w : Way) (a : Standing) (sdu : List ℕ) (sdus : List (List ℕ)) → IsWay w → a.rx.out.ready ≡ sdu ∷ sdus → IsNext w sdu
-    → MeetsNow w a → Extends w (record a { rx = state_after a.rx Up; receiving = all_raised (arrived a.receiving sdu Arrived) }) (arrived a.receiving sdu Arrived).ready
+    → MeetsNow w a → Extends w (record a { rx = state_after a.rx Up; receiving = all_raised (arrived a.receiving sdu Arrived) }) (arrived a.receiving sdu Arrived).ready []
 goes_up_one w a sdu sdus h q next m =
     let f : Rlc = rlc w in
     let g : Pdcp = pdcp w in
@@ -114,4 +115,6 @@ goes_up_one w a sdu sdus h q next m =
         owed = ap (λ (x : Pdcp). x.sender.owed) same;
       };
       ups_are = ap (λ (x : Pdcp). x.up) same;
+      tells = tells_handed g (run_pdcp (HandUp ∷ raises v.ready) g) next.pdu (told_of w) next.at (ap (λ (x : Pdcp). x.stream) same) (ap (λ (x : Pdcp). x.passed) same)
+          (λ count. ap (λ (x : Pdcp). x.handed count) same);
     }

@@ -1,5 +1,7 @@
 pub mod Joined
 pub mod Ways
+pub mod Accounts
+pub mod Arrived
 pub mod Promises
 pub mod Ends
 pub mod Meeting
@@ -12,6 +14,7 @@ pub mod Coming
 pub mod Moving
 pub mod Doing
 pub mod Timers
+pub mod Gives
 pub mod Taking
 pub mod Calling
 pub mod Losing

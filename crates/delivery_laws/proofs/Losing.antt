@@ -20,7 +20,7 @@ use Rattle.delivery_laws.proofs.Doing.{tells, reports_so, IsBetween, out_goes_on
 between : (bits : ℕ) (out inn : Way) (e o d : BearerEnd) → JoinedEnds bits out inn e o → d.bearer ≡ e.bearer → IsBetween bits d
 between bits out inn e o d h q = record { of_data = subst (IsOfData bits) (sym q) h.of_data; idle = subst IsIdle (sym q) h.idle }
 
-pub data_goes : (bits : ℕ) (out inn : Way) (e o : BearerEnd) (k : ℕ) → JoinedEnds bits out inn e o → EndsGoOn bits out inn (record e { copies = except k e.copies }) o [] []
+pub data_goes : (bits : ℕ) (out inn : Way) (e o : BearerEnd) (k : ℕ) → JoinedEnds bits out inn e o → EndsGoOn bits out inn (record e { copies = except k e.copies }) o [] [] [] []
 data_goes bits out inn e o k h =
     let d : BearerEnd = record e { copies = except k e.copies } in
     let f = h.out_joins.rlc_is in
@@ -31,11 +31,11 @@ data_goes bits out inn e o k h =
       reports_are = f.reports_are;
       busy_is = f.busy_is;
     } in
-    out_goes_on bits out inn e o d [] (LetsDataGo k ∷ []) [] h
+    out_goes_on bits out inn e o d [] (LetsDataGo k ∷ []) [] [] h
     (rlc_moves out (LetsDataGo k) e o d o h.out_is h.out_joins tt (record { stays = refl; none = refl }) refl flow refl refl)
     (record { rx = refl; reports = refl; pdcp = refl }) (between bits out inn e o d h refl) refl (tells inn out h.inn_reports)
 
-pub status_goes : (bits : ℕ) (out inn : Way) (e o : BearerEnd) (k : ℕ) → JoinedEnds bits out inn e o → EndsGoOn bits out inn (record e { reports = except k e.reports }) o [] []
+pub status_goes : (bits : ℕ) (out inn : Way) (e o : BearerEnd) (k : ℕ) → JoinedEnds bits out inn e o → EndsGoOn bits out inn (record e { reports = except k e.reports }) o [] [] [] []
 status_goes bits out inn e o k h =
     let d : BearerEnd = record e { reports = except k e.reports } in
     let f = h.inn_joins.rlc_is in
@@ -52,7 +52,7 @@ status_goes bits out inn e o k h =
 
 -- ---- a TTI ends, at both ends
 
-passes_move : (w : Way) (e o : BearerEnd) → IsWay w → Joins w e o → AllByRecursion IsYoung o.reports → Moves w [] (TtiPasses ∷ []) (passed e) (passed o) [] []
+passes_move : (w : Way) (e o : BearerEnd) → IsWay w → Joins w e o → AllByRecursion IsYoung o.reports → Moves w [] (TtiPasses ∷ []) (passed e) (passed o) [] [] []
 passes_move w e o h joins young =
     let f = joins.rlc_is in
     let flow : IsFlow (passed e) (passed o) (rlc_happens (rlc w) TtiPasses) = record {
@@ -69,10 +69,10 @@ pub passes_go_on : (bits : ℕ) (down up : Way) (p : Pair) → JoinedPair bits d
 passes_go_on bits down up p h g =
     let v = with_more [] (TtiPasses ∷ []) down in
     let u = with_more [] (TtiPasses ∷ []) up in
-    let m : HasMoved down v [] (passed p.near) (passed p.far) [] [] =
-    moves_on down [] (TtiPasses ∷ []) (passed p.near) (passed p.far) [] [] h.down_is (passes_move down p.near p.far h.down_is h.down_joins g.1) in
-    let n : HasMoved up u [] (passed p.far) (passed p.near) [] [] =
-    moves_on up [] (TtiPasses ∷ []) (passed p.far) (passed p.near) [] [] h.up_is (passes_move up p.far p.near h.up_is h.up_joins g.0) in
+    let m : HasMoved down v [] (passed p.near) (passed p.far) [] [] [] =
+    moves_on down [] (TtiPasses ∷ []) (passed p.near) (passed p.far) [] [] [] h.down_is (passes_move down p.near p.far h.down_is h.down_joins g.1) in
+    let n : HasMoved up u [] (passed p.far) (passed p.near) [] [] [] =
+    moves_on up [] (TtiPasses ∷ []) (passed p.far) (passed p.near) [] [] [] h.up_is (passes_move up p.far p.near h.up_is h.up_joins g.0) in
     record {
       down_after = v;
       up_after = u;

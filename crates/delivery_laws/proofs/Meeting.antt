@@ -11,10 +11,14 @@ use Rattle.am_laws.specs.Given.{AreGiven as AreGivenSteps}
 use Rattle.am_laws.specs.Sdus.{offered, handed_up}
 use Rattle.am_laws.specs.Arrives.{arrives}
 use Rattle.am_pdcp_laws.specs.Flow.{Flow as Pdcp, Event, run as run_pdcp, AreGiven as AreGivenEvents}
+use Rattle.am_arrival_laws.specs.Passing.{told_in}
+use Rattle.am_arrival_laws.specs.Arrival.{passed}
+use Rattle.am_arrival_laws.specs.Lives.{Happening, account}
 use Rattle.flow_laws.specs.Pair.{Sent, BearerEnd}
 use Rattle.flow_laws.proofs.Standing.{Stands}
 use Rattle.flow_laws.proofs.Flows.{stands_as, is_flow}
 use Rattle.delivery_laws.proofs.Joined.{Way, IsWay, rlc, pdcp, Joins, IsReportOf, Reports}
+use Rattle.delivery_laws.proofs.Accounts.{told_of, told_more, TellsOn, tells_then, agrees_at}
 use Rattle.delivery_laws.proofs.Ways.{with_more, goes_on}
 use Rattle.delivery_laws.proofs.Promises.{GoesOn}
 
@@ -83,7 +87,7 @@ pub none_changes : (g : Pdcp) → Stays g g
 none_changes g = record { sdus = refl; stream = refl; report = refl; owed = refl }
 
 -- by events and steps
-pub record Extends (w : Way) (a : Standing) (ups : List (List ℕ)) : Type 0 where
+pub record Extends (w : Way) (a : Standing) (ups : List (List ℕ)) (told : List Happening) : Type 0 where
   pub events : List Event
   pub steps : List RlcStep
   pub events_given : AreGivenEvents (pdcp w) events
@@ -91,9 +95,10 @@ pub record Extends (w : Way) (a : Standing) (ups : List (List ℕ)) : Type 0 whe
   pub meets : Meets (rlc_goes steps (rlc w)) (run_pdcp events (pdcp w)) a
   pub stays : Stays (pdcp w) (run_pdcp events (pdcp w))
   pub ups_are : (run_pdcp events (pdcp w)).up ≡ (pdcp w).up ++ ups
+  pub tells : TellsOn told (pdcp w) (told_of w) (run_pdcp events (pdcp w)) (told_in (passed steps (rlc w)) (told_of w))
 
 -- nothing happens
-pub rests : (w : Way) (a : Standing) → MeetsNow w a → Extends w a []
+pub rests : (w : Way) (a : Standing) → MeetsNow w a → Extends w a [] []
 rests w a h = record {
   events = [];
   steps = [];
@@ -102,19 +107,20 @@ rests w a h = record {
   meets = h;
   stays = none_changes (pdcp w);
   ups_are = sym (append-nil (pdcp w).up);
+  tells = λ b k. k;
 }
 
 -- the way behind it
-pub record Extended (w : Way) (from to : BearerEnd) (ups : List (List ℕ)) : Type 0 where
+pub record Extended (w : Way) (from to : BearerEnd) (ups : List (List ℕ)) (told : List Happening) : Type 0 where
   pub after : Way
   pub is : IsWay after
   pub bits : after.bits ≡ w.bits
   pub joins : Joins after from to
   pub stays : Stays (pdcp w) (pdcp after)
-  pub goes : GoesOn w after [] ups
+  pub goes : GoesOn w after [] ups told
 
-pub extended : (w : Way) (from to : BearerEnd) (ups : List (List ℕ)) → IsWay w → Extends w (standing from to) ups → Extended w from to ups
-extended w from to ups h x =
+pub extended : (w : Way) (from to : BearerEnd) (ups : List (List ℕ)) (told : List Happening) → IsWay w → Extends w (standing from to) ups told → Extended w from to ups told
+extended w from to ups told h x =
     let v : Way = with_more x.events x.steps w in
     let more = goes_on x.events x.steps w h x.events_given x.steps_given in
     let a : Standing = standing from to in
@@ -131,6 +137,7 @@ extended w from to ups h x =
         first = refl;
         sdus_are = stays.sdus ∙ sym (append-nil (pdcp w).sdus);
         ups_are = ap (λ (q : Pdcp). q.up) more.pdcp_is ∙ x.ups_are;
+        tells = λ b k. agrees_at (account told b) (run_pdcp x.events (pdcp w)) (pdcp v) (told_in (passed x.steps (rlc w)) (told_of w)) (told_of v) more.pdcp_is (told_more w x.steps) (x.tells b k);
       };
     }
 
@@ -143,14 +150,15 @@ reports_stay w back v under s b h = record {
 
 -- ---- one after the other
 
-pub goes_then : (u v w : Way) (news more ups last : List (List ℕ)) → GoesOn u v news ups → GoesOn v w more last → GoesOn u w (news ++ more) (ups ++ last)
-goes_then u v w news more ups last h k = record {
+pub goes_then : {xs ys : List Happening} (u v w : Way) (news more ups last : List (List ℕ)) → GoesOn u v news ups xs → GoesOn v w more last ys → GoesOn u w (news ++ more) (ups ++ last) (xs ++ ys)
+goes_then {xs} {ys} u v w news more ups last h k = record {
   bits = k.bits ∙ h.bits;
   protection = k.protection ∙ h.protection;
   first = k.first ∙ h.first;
   sdus_are = k.sdus_are ∙ ap (λ l. l ++ more) h.sdus_are ∙ append_assoc (pdcp u).sdus news more;
   ups_are = k.ups_are ∙ ap (λ l. l ++ last) h.ups_are ∙ append_assoc (pdcp u).up ups last;
+  tells = tells_then xs ys (pdcp u) (pdcp v) (pdcp w) (told_of u) (told_of v) (told_of w) h.tells k.tells;
 }
 
-pub goes_not : (w : Way) → GoesOn w w [] []
-goes_not w = record { bits = refl; protection = refl; first = refl; sdus_are = sym (append-nil (pdcp w).sdus); ups_are = sym (append-nil (pdcp w).up) }
+pub goes_not : (w : Way) → GoesOn w w [] [] []
+goes_not w = record { bits = refl; protection = refl; first = refl; sdus_are = sym (append-nil (pdcp w).sdus); ups_are = sym (append-nil (pdcp w).up); tells = λ b k. k }

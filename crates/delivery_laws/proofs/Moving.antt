@@ -10,8 +10,13 @@ use Rattle.am_laws.specs.Steps.{takes_up, offers}
 use Rattle.am_laws.proofs.Laws.{only-data-arrives}
 use Rattle.am_laws.proofs.Steps.{goes-up, step-offers}
 use Rattle.am_pdcp_laws.specs.Flow.{Flow as Pdcp, Event, run as run_pdcp, AreGiven as AreGivenEvents}
+use Rattle.am_arrival_laws.specs.Passing.{told_in}
+use Rattle.am_arrival_laws.specs.Arrival.{passed}
+use Rattle.am_arrival_laws.specs.Lives.{Happening, account}
 use Rattle.flow_laws.specs.Flows.{IsFlow}
 use Rattle.flow_laws.specs.Pair.{BearerEnd}
+use Rattle.delivery_laws.specs.Arrival.{passing}
+use Rattle.delivery_laws.proofs.Accounts.{told_of, told_more, TellsOn, tells_then, tells_passing, agrees_at}
 use Rattle.delivery_laws.proofs.Joined.{Way, IsWay, Joins, rlc, pdcp}
 use Rattle.delivery_laws.proofs.Ways.{with_more, IsMore, goes_on}
 use Rattle.delivery_laws.proofs.Promises.{GoesOn}
@@ -38,22 +43,23 @@ joins_so w from to h = record {
 
 -- ---- it goes on by events and steps
 
-pub record Moves (w : Way) (xs : List Event) (ss : List RlcStep) (from to : BearerEnd) (news ups : List (List ℕ)) : Type 0 where
+pub record Moves (w : Way) (xs : List Event) (ss : List RlcStep) (from to : BearerEnd) (news ups : List (List ℕ)) (told : List Happening) : Type 0 where
   pub events : AreGivenEvents (pdcp w) xs
   pub steps : AreGivenSteps (rlc w) ss
   pub meets : Meets (run_pdcp xs (pdcp w)) (rlc_goes ss (rlc w)) from to
   pub sdus_are : (run_pdcp xs (pdcp w)).sdus ≡ (pdcp w).sdus ++ news
   pub ups_are : (run_pdcp xs (pdcp w)).up ≡ (pdcp w).up ++ ups
+  pub tells : TellsOn told (pdcp w) (told_of w) (run_pdcp xs (pdcp w)) (told_in (passed ss (rlc w)) (told_of w))
 
-pub record HasMoved (w v : Way) (xs : List Event) (from to : BearerEnd) (news ups : List (List ℕ)) : Type 0 where
+pub record HasMoved (w v : Way) (xs : List Event) (from to : BearerEnd) (news ups : List (List ℕ)) (told : List Happening) : Type 0 where
   pub is : IsWay v
   pub pdcp_is : pdcp v ≡ run_pdcp xs (pdcp w)
   pub joins : Joins v from to
-  pub goes : GoesOn w v news ups
+  pub goes : GoesOn w v news ups told
 
-pub moves_on : (w : Way) (xs : List Event) (ss : List RlcStep) (from to : BearerEnd) (news ups : List (List ℕ)) → IsWay w → Moves w xs ss from to news ups
-    → HasMoved w (with_more xs ss w) xs from to news ups
-moves_on w xs ss from to news ups h m =
+pub moves_on : (w : Way) (xs : List Event) (ss : List RlcStep) (from to : BearerEnd) (news ups : List (List ℕ)) (told : List Happening) → IsWay w → Moves w xs ss from to news ups told
+    → HasMoved w (with_more xs ss w) xs from to news ups told
+moves_on w xs ss from to news ups told h m =
     let v = with_more xs ss w in
     let more : IsMore xs ss w = goes_on xs ss w h m.events m.steps in
     let meets : Meets (pdcp v) (rlc v) from to =
@@ -68,21 +74,23 @@ moves_on w xs ss from to news ups h m =
         first = refl;
         sdus_are = ap (λ (g : Pdcp). g.sdus) more.pdcp_is ∙ m.sdus_are;
         ups_are = ap (λ (g : Pdcp). g.up) more.pdcp_is ∙ m.ups_are;
+        tells = λ a k. agrees_at (account told a) (run_pdcp xs (pdcp w)) (pdcp v) (told_in (passed ss (rlc w)) (told_of w)) (told_of v) more.pdcp_is (told_more w ss) (m.tells a k);
       };
     }
 
 -- ---- one behind the other
 
-pub stays_so : (w : Way) → GoesOn w w [] []
-stays_so w = record { bits = refl; protection = refl; first = refl; sdus_are = sym (append-nil (pdcp w).sdus); ups_are = sym (append-nil (pdcp w).up) }
+pub stays_so : (w : Way) → GoesOn w w [] [] []
+stays_so w = record { bits = refl; protection = refl; first = refl; sdus_are = sym (append-nil (pdcp w).sdus); ups_are = sym (append-nil (pdcp w).up); tells = λ a k. k }
 
-pub goes_then : (w v u : Way) (news more ups later : List (List ℕ)) → GoesOn w v news ups → GoesOn v u more later → GoesOn w u (news ++ more) (ups ++ later)
-goes_then w v u news more ups later h k = record {
+pub goes_then : {xs ys : List Happening} (w v u : Way) (news more ups later : List (List ℕ)) → GoesOn w v news ups xs → GoesOn v u more later ys → GoesOn w u (news ++ more) (ups ++ later) (xs ++ ys)
+goes_then {xs} {ys} w v u news more ups later h k = record {
   bits = k.bits ∙ h.bits;
   protection = k.protection ∙ h.protection;
   first = k.first ∙ h.first;
   sdus_are = k.sdus_are ∙ ap (λ l. l ++ more) h.sdus_are ∙ append_assoc (pdcp w).sdus news more;
   ups_are = k.ups_are ∙ ap (λ l. l ++ later) h.ups_are ∙ append_assoc (pdcp w).up ups later;
+  tells = tells_then xs ys (pdcp w) (pdcp v) (pdcp u) (told_of w) (told_of v) (told_of u) h.tells k.tells;
 }
 
 -- ---- a step of RLC
@@ -105,7 +113,7 @@ rests w s h given calm = record {
 
 pub rlc_moves : (w : Way) (s : RlcStep) (from to d p : BearerEnd) → IsWay w → Joins w from to → IsGivenStep (rlc w) s → IsCalm s → offers s ≡ []
     → IsFlow d p (rlc_happens (rlc w) s) → d.bearer.pdcp.tx ≡ from.bearer.pdcp.tx → p.bearer.pdcp.rx ≡ to.bearer.pdcp.rx
-    → Moves w [] (s ∷ []) d p [] []
+    → Moves w [] (s ∷ []) d p [] [] (passing (passed (s ∷ []) (rlc w)))
 rlc_moves w s from to d p h joins given calm none flow tx rx =
     let r = rests w s h given calm in
     record {
@@ -121,4 +129,5 @@ rlc_moves w s from to d p h joins given calm none flow tx rx =
       };
       sdus_are = sym (append-nil (pdcp w).sdus);
       ups_are = sym (append-nil (pdcp w).up);
+      tells = tells_passing (passed (s ∷ []) (rlc w)) (pdcp w) (pdcp w) (told_of w) refl refl (λ count. refl);
     }

@@ -3,22 +3,26 @@ use Rattle.std.specs.Prelude.{◌≡◌, ℕ, List, ◌++◌}
 use Rattle.eps_sec.specs.declared.Keys.{Keys}
 use Rattle.flow_laws.specs.Pair.{Pair, Step, IsGiven}
 use Rattle.delivery_laws.specs.Lives.{LifeStep, InLife, Restarts, lives_on, MayHappen, far_ups_in, near_ups_in, near_news_in, far_news_in}
+use Rattle.am_arrival_laws.specs.Lives.{Happening}
+use Rattle.delivery_laws.specs.Arrival.{down_in, up_in}
 use Rattle.delivery_laws.proofs.Joined.{Way, JoinedPair, pdcp}
+use Rattle.delivery_laws.proofs.Accounts.{told_of, TellsOn}
 
--- a way goes on: what went up and what was taken for the first time grow by these
-pub record GoesOn (w v : Way) (news ups : List (List ℕ)) : Type 0 where
+-- a way goes on: what went up and what was taken for the first time grow by these, and so much is told of it
+pub record GoesOn (w v : Way) (news ups : List (List ℕ)) (told : List Happening) : Type 0 where
   pub bits : v.bits ≡ w.bits
   pub protection : v.protection ≡ w.protection
   pub first : v.first ≡ w.first
   pub sdus_are : (pdcp v).sdus ≡ (pdcp w).sdus ++ news
   pub ups_are : (pdcp v).up ≡ (pdcp w).up ++ ups
+  pub tells : TellsOn told (pdcp w) (told_of w) (pdcp v) (told_of v)
 
 pub record BothGoOn (bits : ℕ) (down up : Way) (p : Pair) (x : LifeStep) : Type 0 where
   pub down_after : Way
   pub up_after : Way
   pub joined : JoinedPair bits down_after up_after (lives_on p x)
-  pub down_goes : GoesOn down down_after (near_news_in p x) (far_ups_in p x)
-  pub up_goes : GoesOn up up_after (far_news_in p x) (near_ups_in p x)
+  pub down_goes : GoesOn down down_after (near_news_in p x) (far_ups_in p x) (down_in p x)
+  pub up_goes : GoesOn up up_after (far_news_in p x) (near_ups_in p x) (up_in p x)
 
 abbrev pub StepsGoOn : Type 0
 StepsGoOn = (bits : ℕ) (down up : Way) (p : Pair) (s : Step) → JoinedPair bits down up p → IsGiven p s → MayHappen p s → BothGoOn bits down up p (InLife s)

@@ -1,5 +1,5 @@
 -- Both ends end their life and begin the next one under the same keys.
-use Rattle.std.proofs.Common.{◌≡◌, ℕ, false, List, [], ◌++◌, map, drop, Some, append-nil, subst, refl, ap, sym, ◌∙◌}
+use Rattle.std.proofs.Common.{◌≡◌, ℕ, zero, suc, Bool, true, false, ◌||◌, List, [], ◌∷◌, ◌++◌, map, take, drop, Some, append-nil, subst, refl, ap, sym, ◌∙◌}
 use Rattle.std.specs.List.{AllByRecursion}
 use Rattle.eps_sec.specs.declared.Keys.{Keys}
 use Rattle.pdcp_pdu.specs.declared.PdcpKind.{PdcpKind}
@@ -20,10 +20,13 @@ use Rattle.am_bearer_laws.proofs.Lives.{restarts_are_deeds}
 use Rattle.am_laws.specs.Arrives.{arrives, whole_from}
 use Rattle.am_laws.specs.Sdus.{offered}
 use Rattle.am_laws.proofs.Laws.{finish-gives-by-places}
-use Rattle.am_pdcp_laws.specs.Flow.{Flow as Pdcp, IsReport, Restart, ended, happens as pdcp_happens, outset as pdcp_outset}
+use Rattle.am_pdcp_laws.specs.Flow.{Flow as Pdcp, IsReport, Restart, ended, closed as closed_counts, happens as pdcp_happens, outset as pdcp_outset}
+use Rattle.am_arrival_laws.specs.Lives.{Renews as LifeEnds, renewed as renewed_account}
 use Rattle.am_pdcp_laws.specs.Between.{TellsWhatHasCome}
 use Rattle.am_pdcp_laws.proofs.Telling.{begins_telling}
 use Rattle.flow_laws.specs.Pair.{BearerEnd, begins}
+use Rattle.delivery_laws.proofs.Accounts.{given_of, is_among}
+use Rattle.delivery_laws.proofs.Arrived.{closed_come}
 use Rattle.delivery_laws.proofs.Beginning.{none_arrives}
 use Rattle.delivery_laws.specs.Lives.{Restarts, lives_on}
 use Rattle.delivery_laws.proofs.Ends.{JoinedEnds, near_ends, far_ends, from_near}
@@ -100,6 +103,7 @@ record IsRenewed (f g : Pdcp) (from to : BearerEnd) (keys : Keys) : Type 0 where
   stream_is : g.stream ≡ []
   passed_is : g.passed ≡ 0
   whole_is : (k : ℕ) → g.whole k ≡ false
+  handed_is : (count : ℕ) → g.handed count ≡ closed_counts f.whole f.passed (drop f.passed f.stream) f.handed count
   report_is : g.report ≡ Some (owed_at to)
   sdus_are : g.sdus ≡ f.sdus
   ups_are : g.up ≡ f.up ++ (closed to.bearer).ready
@@ -116,6 +120,7 @@ renews w from to keys is j =
       stream_is = refl;
       passed_is = refl;
       whole_is = λ k. refl;
+      handed_is = λ count. refl;
       report_is = ap (λ (r : Receiving). Some (report r)) c;
       sdus_are = refl;
       ups_are = ap (λ (r : Receiving). (pdcp w).up ++ r.ready) c;
@@ -150,14 +155,29 @@ renewed_reports w back from to keys r b = record {
   sent = subst (λ (l : List Next). AllByRecursion (IsReportOf (pdcp (renewed w from to keys)).report) l) (sym b.stream_is) tt;
 }
 
+none_more : (n : ℕ) (ns : List Next) (count : ℕ) → ns ≡ [] → (b : Bool) → (b || is_among (take n ns) count) ≡ b
+none_more n ns count none b = ap (λ (l : List Next). b || is_among (take n l) count) none ∙ by n b
+  where
+    by : (n : ℕ) (b : Bool) → (b || is_among (take n []) count) ≡ b
+    by zero true = refl
+    by zero false = refl
+    by (suc n) true = refl
+    by (suc n) false = refl
+
 renewed_goes : (bits : ℕ) (w : Way) (from to : BearerEnd) (keys : Keys) → RestartsAs bits to.bearer keys → Renews w from to keys
-    → GoesOn w (renewed w from to keys) [] (ups_in (stopping (Am to.bearer)))
-renewed_goes bits w from to keys a r = record {
+    → IsWay w → Joins w from to → GoesOn w (renewed w from to keys) [] (ups_in (stopping (Am to.bearer))) (LifeEnds ∷ [])
+renewed_goes bits w from to keys a r is j = record {
   bits = refl;
   protection = refl;
   first = refl;
   sdus_are = r.sdus_are ∙ sym (append-nil (pdcp w).sdus);
   ups_are = r.ups_are ∙ ap (λ (l : List (List ℕ)). (pdcp w).up ++ l) a.ups;
+  tells = λ b k. record {
+    given_are = ap (λ (l : List Next). map given_of l) r.stream_is;
+    rlc_is = refl;
+    handed_are = λ count.
+        r.handed_is count ∙ closed_come w from to b count is j k ∙ sym (none_more (pdcp (renewed w from to keys)).passed (pdcp (renewed w from to keys)).stream count r.stream_is ((renewed_account b).ended count));
+  };
 }
 
 -- ---- both directions
@@ -195,6 +215,6 @@ restarts_go_on bits down up p keys h =
       up_after = up_after;
       joined = from_near bits down_after up_after (lives_on p (Restarts keys))
           (renewed_ends bits down up p.near p.far keys (near_ends bits down up p h) (far_ends bits down up p h) d u near far);
-      down_goes = renewed_goes bits down p.near p.far keys far d;
-      up_goes = renewed_goes bits up p.far p.near keys near u;
+      down_goes = renewed_goes bits down p.near p.far keys far d h.down_is h.down_joins;
+      up_goes = renewed_goes bits up p.far p.near keys near u h.up_is h.up_joins;
     }

@@ -1,9 +1,21 @@
 -- What an end takes and writes: a STATUS, the PDUs of PDCP that RLC takes, and a data PDU.
-use Rattle.std.proofs.Common.{◌≡◌, ℕ, ◌-◌, Bool, true, false, ◌||◌, if◌then◌else◌, List, [], ◌∷◌, ◌++◌, take, drop, map, length, Option, Some, None, option_map, slice_get, refl, ap, sym, subst, ◌∙◌, append_assoc}
+use Rattle.std.proofs.Common.{◌≡◌, ℕ, ◌-◌, Bool, true, false, ◌||◌, if◌then◌else◌, List, [], ◌∷◌, ◌++◌, take, drop, map, length, Option, Some, None, Result, Ok, option_map, slice_get, refl, ap, sym, subst, ◌∙◌, append_assoc}
 use Rattle.std.proofs.lemmas.List.{append-nil, take-append-drop}
 use Rattle.std.specs.List.{AllByRecursion}
 use Rattle.pdcp_kept.specs.declared.given.Sent.{Sent as Kept}
 use Rattle.pdcp_kept.specs.Waiting.{Waits}
+use Rattle.pdcp_pdu.specs.declared.pdu.PdcpKind.{PdcpKind}
+use Rattle.pdcp_pdu.specs.declared.pdu.PdcpKind.TheVariants.{Am as AmKind}
+use Rattle.pdcp_pdu.specs.Kinds.{IsKind, bits_of}
+use Rattle.rlc_pdu.specs.declared.outcome.Taken.TheVariants as taken
+use Rattle.rlc_pdu.specs.declared.fault.RlcRefusal.{RlcRefusal}
+use Rattle.rlc_pdu.specs.Pdus.{AcknowledgedPdu, StatusPdu, Status as Control}
+use Rattle.rlc_pdu.specs.Reading.{am_at}
+use Rattle.bearer.specs.Taking.{pdus, told}
+use Rattle.bearer_parts.specs.Telling.{pdus_of}
+use Rattle.am_pdcp_laws.proofs.Sound.{Owes}
+use Rattle.am_laws.proofs.Laws.{sound, happens-sound}
+use Rattle.pdcp_sec.specs.Protection.{Protection}
 use Rattle.pdcp_tx.specs.declared.sender.Next.{Next}
 use Rattle.pdcp_tx.specs.Runs.{Take as TakePdcp}
 use Rattle.pdcp_tx.specs.State.{State as Sending, Offer as Offering, offers as offers_of, owed_offers, again_offer, new_offers, taking, took, took_owed, took_again, took_new, written}
@@ -17,10 +29,13 @@ use Rattle.am_bearer_laws.specs.Deeds.{Deed, Feeds, Sends, Receives, does, does_
 use Rattle.am_bearer_laws.specs.Calls.{only_if, takes, IsOfData, IsIdle}
 use Rattle.am_bearer_laws.proofs.Calls.{calls_are_deeds}
 use Rattle.am_bearer_laws.proofs.Ups.{does_then}
-use Rattle.am_laws.specs.Flow.{Copy, Flow as Rlc, Sends as SendsOn, Reports as ReportsOn, Step as RlcStep, happens as rlc_happens, is_new, copies_with}
+use Rattle.am_laws.specs.Flow.{Copy, Flow as Rlc, Sends as SendsOn, Reports as ReportsOn, Step as RlcStep, sender, happens as rlc_happens, is_new, copies_with}
 use Rattle.am_laws.specs.Given.{IsTaking as IsTakingStep, IsHeld}
 use Rattle.am_laws.proofs.Runs.{receiver-more}
 use Rattle.am_laws.proofs.Steps.{step-offers}
+use Rattle.am_arrival_laws.specs.Passing.{Passing, Writes, written_as}
+use Rattle.am_arrival_laws.specs.Arrival.{written_in, passed}
+use Rattle.am_arrival_laws.specs.Lives.{Given, Happening, Gives, Passes, Account, accounted, account}
 use Rattle.am_pdcp_laws.specs.Flow.{Flow as Pdcp, Sends as SendsEvent, one, run as run_pdcp}
 use Rattle.bearer_am.specs.State.{State}
 use Rattle.bearer_am.specs.Taking.{writes_status, status_pdu, status_pdus, data_size}
@@ -28,6 +43,7 @@ use Rattle.bearer_laws.specs.Acknowledged.{offers_in, offered_to, has_more_behin
 use Rattle.bearer_laws.specs.Sending.{sends_on as sends_all}
 use Rattle.bearer_laws.specs.Stream.{takes as taken_in, offers_of as offers_behind, pdu_of}
 use Rattle.bearer_laws.proofs.Flows.{taken_front}
+use Rattle.bearer_laws.proofs.SenderCalls.{writes_what_rlc_gives}
 use Rattle.bearer_laws.proofs.Sender.{took_same, same_pdus, sdus, moved_queue, takings, takes_all}
 use Rattle.bearer.specs.declared.flow.Flow.TheVariants.{Am}
 use Rattle.bearer.specs.declared.flow.Flow.{Flow}
@@ -38,6 +54,9 @@ use Rattle.flow_laws.specs.Pair.{Sent, written_now, HasOctet, IsTaking, BearerEn
 use Rattle.flow_laws.specs.Flows.{IsFlow}
 use Rattle.flow_laws.proofs.Hearing.{is_reported}
 use Rattle.flow_laws.proofs.Standing.{or_none}
+use Rattle.delivery_laws.specs.Arrival.{giving, gives, passing, writing, said_in}
+use Rattle.delivery_laws.proofs.Gives.{given_as, IsRight, same_given, takes_are_told, offers_right}
+use Rattle.delivery_laws.proofs.Accounts.{sound_pdcp, told_of, given_of, tells_given, Agrees, account_then}
 use Rattle.delivery_laws.proofs.Joined.{Way, IsWay, Joins, IsReportOf, rlc, pdcp}
 use Rattle.delivery_laws.proofs.Ends.{JoinedEnds, EndsGoOn}
 use Rattle.delivery_laws.proofs.Moving.{Moves, rests, rlc_moves}
@@ -126,7 +145,7 @@ feeds_flow e o f n is h =
     }
 
 feeds_move : (w : Way) (e o : BearerEnd) (n : Next) → IsWay w → Joins w e o → taking e.bearer.pdcp.tx ≡ Some n → HasOctet n.octets
-    → Moves w (SendsEvent TakePdcp ∷ []) (SendsOn (Offer n.octets) ∷ []) (with_bearer (Feeds ∷ []) e) o (takes_new e.bearer.pdcp.tx TakePdcp) []
+    → Moves w (SendsEvent TakePdcp ∷ []) (SendsOn (Offer n.octets) ∷ []) (with_bearer (Feeds ∷ []) e) o (takes_new e.bearer.pdcp.tx TakePdcp) [] (Gives (given_of n) ∷ [])
 feeds_move w e o n h joins is some =
     let g = pdcp w in
     let f = rlc w in
@@ -150,12 +169,13 @@ feeds_move w e o n h joins is some =
       };
       sdus_are = ap (λ (x : Sending). g.sdus ++ takes_new x TakePdcp) joins.sender_is;
       ups_are = sym (append-nil g.up);
+      tells = tells_given g (behind g) n (told_of w) (sound_pdcp w h).few (ap (λ (x : Option Next). g.stream ++ one x) gives) refl (λ count. refl);
     }
 
 feeds_go_on : (bits : ℕ) (out inn : Way) (e o : BearerEnd) (n : Next) → JoinedEnds bits out inn e o → taking e.bearer.pdcp.tx ≡ Some n → HasOctet n.octets
-    → EndsGoOn bits out inn (with_bearer (Feeds ∷ []) e) o (takes_new e.bearer.pdcp.tx TakePdcp) []
+    → EndsGoOn bits out inn (with_bearer (Feeds ∷ []) e) o (takes_new e.bearer.pdcp.tx TakePdcp) [] (Gives (given_of n) ∷ []) []
 feeds_go_on bits out inn e o n h is some =
-    out_goes_on bits out inn e o (with_bearer (Feeds ∷ []) e) (SendsEvent TakePdcp ∷ []) (SendsOn (Offer n.octets) ∷ []) (takes_new e.bearer.pdcp.tx TakePdcp) h
+    out_goes_on bits out inn e o (with_bearer (Feeds ∷ []) e) (SendsEvent TakePdcp ∷ []) (SendsOn (Offer n.octets) ∷ []) (takes_new e.bearer.pdcp.tx TakePdcp) (Gives (given_of n) ∷ []) h
     (feeds_move out e o n h.out_is h.out_joins is some) (record { rx = refl; reports = refl; pdcp = refl }) (stays_between bits out inn e o Feeds h tt)
     refl (feeds_tell (pdcp inn).report (pdcp out) n (ap taking h.out_joins.sender_is ∙ is) (tells inn out h.inn_reports))
 
@@ -171,19 +191,20 @@ queue_left s =
 abbrev feeds_all : List (List ℕ) → BearerEnd → BearerEnd
 feeds_all pdus e = with_bearer (map (λ pdu. Feeds) pdus) e
 
-record Fed (bits : ℕ) (out inn : Way) (e o : BearerEnd) (pdus : List (List ℕ)) : Type 0 where
+record Fed (bits : ℕ) (out inn : Way) (e o : BearerEnd) (pdus : List (List ℕ)) (given : List Given) : Type 0 where
   news : List (List ℕ)
-  goes : EndsGoOn bits out inn (feeds_all pdus e) o news []
+  goes : EndsGoOn bits out inn (feeds_all pdus e) o news [] (giving given) []
   left : news ++ sdus (feeds_all pdus e).bearer.pdcp.tx.waiting ≡ sdus e.bearer.pdcp.tx.waiting
   tx : (feeds_all pdus e).bearer.tx ≡ sends_all (map (λ sdu. Offer sdu) pdus) e.bearer.tx
 
-none_fed : (bits : ℕ) (out inn : Way) (e o : BearerEnd) → JoinedEnds bits out inn e o → Fed bits out inn e o []
+none_fed : (bits : ℕ) (out inn : Way) (e o : BearerEnd) → JoinedEnds bits out inn e o → Fed bits out inn e o [] []
 none_fed bits out inn e o h = record { news = []; goes = stays_joined bits out inn e o h; left = refl; tx = refl }
 
-one_fed : (bits : ℕ) (out inn : Way) (e o : BearerEnd) (n : Next) (pdus : List (List ℕ)) → taking e.bearer.pdcp.tx ≡ Some n
-    → (m : EndsGoOn bits out inn (with_bearer (Feeds ∷ []) e) o (takes_new e.bearer.pdcp.tx TakePdcp) []) → Fed bits m.out_after m.inn_after (with_bearer (Feeds ∷ []) e) o pdus
-    → Fed bits out inn e o (n.octets ∷ pdus)
-one_fed bits out inn e o n pdus is m more =
+one_fed : (bits : ℕ) (out inn : Way) (e o : BearerEnd) (n : Next) (pdus : List (List ℕ)) (given : List Given) → taking e.bearer.pdcp.tx ≡ Some n
+    → (m : EndsGoOn bits out inn (with_bearer (Feeds ∷ []) e) o (takes_new e.bearer.pdcp.tx TakePdcp) [] (Gives (given_of n) ∷ []) [])
+    → Fed bits m.out_after m.inn_after (with_bearer (Feeds ∷ []) e) o pdus given
+    → Fed bits out inn e o (n.octets ∷ pdus) (given_of n ∷ given)
+one_fed bits out inn e o n pdus given is m more =
     let s = e.bearer.pdcp.tx in
     let d = with_bearer (Feeds ∷ []) e in
     let last = (feeds_all pdus d).bearer.pdcp.tx.waiting in
@@ -194,8 +215,13 @@ one_fed bits out inn e o n pdus is m more =
       tx = more.tx ∙ ap (λ (x : Option Next). sends_all (map (λ sdu. Offer sdu) pdus) (offered_next x e.bearer.tx)) is;
     }
 
+given_is : (kind : PdcpKind) (p : Protection) (count : Option ℕ) (text : List ℕ)
+    → given_of (written kind p count text) ≡ record { count = count; size = length (written kind p count text).octets }
+given_is kind p None text = refl
+given_is kind p (Some count) text = refl
+
 all_fed : (bits : ℕ) (out inn : Way) (e o : BearerEnd) (os rest : List Offering) → JoinedEnds bits out inn e o → offers_of e.bearer.pdcp.tx ≡ os ++ rest
-    → AllByRecursion HasOctet (map (pdu_of e.bearer.pdcp.tx) os) → Fed bits out inn e o (map (pdu_of e.bearer.pdcp.tx) os)
+    → AllByRecursion HasOctet (map (pdu_of e.bearer.pdcp.tx) os) → Fed bits out inn e o (map (pdu_of e.bearer.pdcp.tx) os) (map (given_as e.bearer.pdcp.tx) os)
 all_fed bits out inn e o [] rest h q some = none_fed bits out inn e o h
 all_fed bits out inn e o (x ∷ os) rest h q some =
     let s = e.bearer.pdcp.tx in
@@ -205,9 +231,13 @@ all_fed bits out inn e o (x ∷ os) rest h q some =
     let m = feeds_go_on bits out inn e o n h is some.0 in
     let left : offers_of (took s) ≡ os ++ rest = heads s ∙ ap (drop 1) q in
     let same : map (pdu_of (took s)) os ≡ map (pdu_of s) os = same_pdus s (took s) os (took_same s) in
-    let more : Fed bits m.out_after m.inn_after d o (map (pdu_of (took s)) os) =
+    let alike : map (given_as (took s)) os ≡ map (given_as s) os = same_given s (took s) os (took_same s) in
+    let more : Fed bits m.out_after m.inn_after d o (map (pdu_of (took s)) os) (map (given_as (took s)) os) =
     all_fed bits m.out_after m.inn_after d o os rest m.joined left (subst (λ (l : List (List ℕ)). AllByRecursion HasOctet l) (sym same) some.1) in
-    one_fed bits out inn e o n (map (pdu_of s) os) is m (subst (λ (l : List (List ℕ)). Fed bits m.out_after m.inn_after d o l) same more)
+    subst (λ (g : Given). Fed bits out inn e o (n.octets ∷ map (pdu_of s) os) (g ∷ map (given_as s) os)) (given_is s.kind s.protection x.count x.text)
+    (one_fed bits out inn e o n (map (pdu_of s) os) (map (given_as s) os) is m
+    (subst (λ (l : List (List ℕ)). Fed bits m.out_after m.inn_after d o l (map (given_as s) os)) same
+    (subst (λ (l : List Given). Fed bits m.out_after m.inn_after d o (map (pdu_of (took s)) os) l) alike more)))
 
 -- ---- a STATUS where one is written
 
@@ -226,7 +256,7 @@ status_flow e o f share h = record {
   busy_is = h.busy_is;
 }
 
-writes_go_on : (bits : ℕ) (out inn : Way) (e o : BearerEnd) (due : Bool) (share : ℕ) → JoinedEnds bits out inn e o → EndsGoOn bits out inn (writes due share e) o [] []
+writes_go_on : (bits : ℕ) (out inn : Way) (e o : BearerEnd) (due : Bool) (share : ℕ) → JoinedEnds bits out inn e o → EndsGoOn bits out inn (writes due share e) o [] [] [] []
 writes_go_on bits out inn e o true share h =
     let f = rlc inn in
     let s : RlcStep = ReportsOn (share - 3) (status_pdu e.bearer.rx share) in
@@ -245,7 +275,7 @@ gives_data size held more e = sent_by (Take size held more) e
 
 data_goes_on : (bits : ℕ) (out inn : Way) (e d o : BearerEnd) (share : ℕ) (held : Option ℕ) → JoinedEnds bits out inn d o → IsTaking e share held
     → d.bearer.tx ≡ offered_to e.bearer share held → d.copies ≡ e.copies → d.busy ≡ e.busy
-    → EndsGoOn bits out inn (gives_data (data_size e.bearer share) held (has_more_behind e.bearer share held) d) o [] []
+    → EndsGoOn bits out inn (gives_data (data_size e.bearer share) held (has_more_behind e.bearer share held) d) o [] [] (passing (written_in (data_given e.bearer share held))) []
 data_goes_on bits out inn e d o share held h t tx copies busy =
     let size = data_size e.bearer share in
     let more = has_more_behind e.bearer share held in
@@ -255,7 +285,9 @@ data_goes_on bits out inn e d o share held h t tx copies busy =
       lowest = subst (λ (cs : List Copy). AllByRecursion (IsHeld held) cs) (sym (flow.copies_are ∙ copies)) t.lowest;
       one = λ q. ap (λ (x : Sender). is_new (answer x size held more)) (flow.sender_is ∙ tx) ∙ t.one (sym (flow.busy_is ∙ busy) ∙ q);
     } in
-    sends_on bits out inn d o (Take size held more) h can refl tt
+    let given : passed (SendsOn (Take size held more) ∷ []) (rlc out) ≡ written_in (data_given e.bearer share held) =
+    append-nil (written_in (answer (sender (rlc out)).state size held more)) ∙ ap (λ (x : Sender). written_in (answer x size held more)) (flow.sender_is ∙ tx) in
+    subst (λ (l : List Passing). EndsGoOn bits out inn (gives_data size held more d) o [] [] (passing l) []) given (sends_on bits out inn d o (Take size held more) h can refl tt)
 
 -- ---- the whole
 
@@ -306,8 +338,76 @@ news_are bits b share held taken h idle q =
     sym (taken_front taken (sdus (fed b share held).pdcp.tx.waiting) (sdus b.pdcp.tx.waiting) q)
     ∙ ap (λ (f : Flow). off (sdus b.pdcp.tx.waiting) (queue (ends f))) (sym (after_is bits b share held h idle))
 
+-- ---- what it tells
+
+-- octets that are read as a STATUS
+abbrev StatusIs : List ℕ → Type 0
+StatusIs octets = (pdu : StatusPdu) × (am_at octets ≡ Ok (Control pdu))
+
+-- the same account, told otherwise
+said_as : (bits : ℕ) (out inn : Way) (e o : BearerEnd) (news : List (List ℕ)) (xs ys : List Happening) → ((a : Account) → account ys a ≡ account xs a)
+    → EndsGoOn bits out inn e o news [] xs [] → EndsGoOn bits out inn e o news [] ys []
+said_as bits out inn e o news xs ys same m = record {
+  out_after = m.out_after;
+  inn_after = m.inn_after;
+  joined = m.joined;
+  out_goes = record {
+    bits = m.out_goes.bits;
+    protection = m.out_goes.protection;
+    first = m.out_goes.first;
+    sdus_are = m.out_goes.sdus_are;
+    ups_are = m.out_goes.ups_are;
+    tells = λ a k. subst (λ (b : Account). Agrees b (pdcp m.out_after) (told_of m.out_after)) (sym (same a)) (m.out_goes.tells a k);
+  };
+  inn_goes = m.inn_goes;
+}
+
+-- a STATUS tells nothing of what goes this way
+status_reads : (inn : Way) (e o : BearerEnd) (share : ℕ) → IsWay inn → Joins inn o e → StatusIs (status_pdu e.bearer.rx share)
+status_reads inn e o share is j =
+    let f = rlc inn in
+    let s : RlcStep = ReportsOn (share - 3) (status_pdu e.bearer.rx share) in
+    let ok = happens-sound f s (is_reported f e.bearer.rx share j.rlc_is.receiver_is) (sound inn.sending inn.receiving inn.steps is.steps) in
+    (_, ok.reports.0.reads)
+
+wrote_piece : (t : Taken) → map (λ pdu. Writes pdu) (pdus_of t) ≡ written_in t
+wrote_piece (taken.Piece number fresh polled octets) = refl
+wrote_piece taken.Idle = refl
+wrote_piece taken.Small = refl
+wrote_piece taken.Shut = refl
+wrote_piece taken.Held = refl
+wrote_piece taken.Stopped = refl
+
+silent : (octets : List ℕ) (a : Account) → StatusIs octets → accounted (Passes (Writes octets)) a ≡ a
+silent octets a is = ap (λ (x : Result AcknowledgedPdu RlcRefusal). record a { rlc = written_as x a.rlc }) is.1
+
+status_silent : (due : Bool) (octets : List ℕ) (t : Taken) (a : Account) → StatusIs octets
+    → account (writing ((if due then octets ∷ [] else []) ++ pdus_of t)) a ≡ account (passing (written_in t)) a
+status_silent true octets t a is =
+    ap (λ (b : Account). account (writing (pdus_of t)) b) (silent octets a is) ∙ ap (λ (ps : List Passing). account (passing ps) a) (wrote_piece t)
+status_silent false octets t a is = ap (λ (ps : List Passing). account (passing ps) a) (wrote_piece t)
+
+says_so : (bits : ℕ) (out inn : Way) (e o : BearerEnd) (share : ℕ) (held : Option ℕ) → JoinedEnds bits out inn e o → (a : Account)
+    → account (said_in e.bearer (TakeCall share held)) a
+    ≡ account (giving (map (given_as e.bearer.pdcp.tx) (taken_in (Am e.bearer) (TakeCall share held))) ++ passing (written_in (data_given e.bearer share held))) a
+says_so bits out inn e o share held h a =
+    let b = e.bearer in
+    let ok = sound_pdcp out h.out_is in
+    let kind : b.pdcp.kind ≡ AmKind bits = h.of_data.kind in
+    let tx : b.pdcp.tx.kind ≡ AmKind bits = h.of_data.sending in
+    let good : IsKind (AmKind bits) = subst (λ (n : ℕ). IsKind (AmKind n)) h.out_bits h.out_is.kind in
+    let owes : Owes b.pdcp.tx.kind b.pdcp.tx.owed = subst (λ (s : Sending). Owes s.kind s.owed) h.out_joins.sender_is ok.sends.owes in
+    let right = subst (λ (k : PdcpKind). AllByRecursion (IsRight k) (offers_of b.pdcp.tx)) tx (offers_right b.pdcp.tx owes) in
+    let told_is = ap (λ (k : PdcpKind). gives (bits_of k) (told b.pdcp.lcid (Am b) share held)) kind ∙ ap (λ (gs : List Given). giving gs) (takes_are_told bits b share held good kind tx right) in
+    let first = giving (map (given_as b.pdcp.tx) (taken_in (Am b) (TakeCall share held))) in
+    ap (λ (l : List Happening). account (l ++ writing (pdus (Am b) share held)) a) told_is
+    ∙ (ap (λ (l : List (List ℕ)). account (first ++ writing l) a) (writes_what_rlc_gives b share held)
+    ∙ (account_then first (writing (status_pdus b.rx share ++ pdus_of (data_given b share held))) a
+    ∙ (status_silent (writes_status b.rx share) (status_pdu b.rx share) (data_given b share held) (account first a) (status_reads inn e o share h.inn_is h.inn_joins)
+    ∙ sym (account_then first (passing (written_in (data_given b share held))) a))))
+
 pub takes_go_on : (bits : ℕ) (out inn : Way) (e o : BearerEnd) (share : ℕ) (held : Option ℕ) → JoinedEnds bits out inn e o → IsTaking e share held
-    → EndsGoOn bits out inn (calls e (TakeCall share held)) o (news (Am e.bearer) (TakeCall share held)) []
+    → EndsGoOn bits out inn (calls e (TakeCall share held)) o (news (Am e.bearer) (TakeCall share held)) [] (said_in e.bearer (TakeCall share held)) []
 takes_go_on bits out inn e o share held h t =
     let b = e.bearer in
     let os = taken_in (Am b) (TakeCall share held) in
@@ -319,10 +419,13 @@ takes_go_on bits out inn e o share held h t =
     let m1 = writes_go_on bits out inn e o (writes_status b.rx share) share h in
     let v = m1.out_after in
     let u = m1.inn_after in
-    let m2 : Fed bits v u e1 o pdus = all_fed bits v u e1 o os (drop k (offers_of b.pdcp.tx)) m1.joined (sym (take-append-drop k (offers_of b.pdcp.tx))) t.some in
+    let said = giving (map (given_as b.pdcp.tx) os) ++ passing (written_in (data_given b share held)) in
+    let m2 : Fed bits v u e1 o pdus (map (given_as b.pdcp.tx) os) = all_fed bits v u e1 o os (drop k (offers_of b.pdcp.tx)) m1.joined (sym (take-append-drop k (offers_of b.pdcp.tx))) t.some in
     let m3 = data_goes_on bits m2.goes.out_after m2.goes.inn_after e e2 o share held m2.goes.joined t m2.tx refl refl in
-    let m4 : EndsGoOn bits v u e3 o (m2.news ++ []) [] = ends_then bits v u e2 o e3 o m2.news [] [] [] m2.goes m3 in
-    let m5 : EndsGoOn bits out inn e3 o (m2.news ++ []) [] = ends_then bits out inn e1 o e3 o [] (m2.news ++ []) [] [] m1 m4 in
+    let m4 : EndsGoOn bits v u e3 o (m2.news ++ []) [] said [] = ends_then bits v u e2 o e3 o m2.news [] [] [] m2.goes m3 in
+    let m5 : EndsGoOn bits out inn e3 o (m2.news ++ []) [] said [] = ends_then bits out inn e1 o e3 o [] (m2.news ++ []) [] [] m1 m4 in
     let are : m2.news ++ [] ≡ news (Am b) (TakeCall share held) = append-nil m2.news ∙ news_are bits b share held m2.news h.of_data h.idle m2.left in
-    subst (λ (d : BearerEnd). EndsGoOn bits out inn d o (news (Am b) (TakeCall share held)) []) (taken_is bits e share held h.of_data h.idle m2.tx)
-    (subst (λ (l : List (List ℕ)). EndsGoOn bits out inn e3 o l []) are m5)
+    let m6 : EndsGoOn bits out inn (calls e (TakeCall share held)) o (news (Am b) (TakeCall share held)) [] said [] =
+    subst (λ (d : BearerEnd). EndsGoOn bits out inn d o (news (Am b) (TakeCall share held)) [] said []) (taken_is bits e share held h.of_data h.idle m2.tx)
+    (subst (λ (l : List (List ℕ)). EndsGoOn bits out inn e3 o l [] said []) are m5) in
+    said_as bits out inn (calls e (TakeCall share held)) o (news (Am b) (TakeCall share held)) said (said_in b (TakeCall share held)) (says_so bits out inn e o share held h) m6

@@ -9,13 +9,12 @@ use Rattle.pdcp_rx.specs.declared.got.Cause.TheVariants.{Arrived}
 use Rattle.pdcp_rx.specs.declared.got.Got.TheVariants as answers
 use Rattle.pdcp_rx.specs.Heard.{Heard, Bad, Told, Data, heard}
 use Rattle.pdcp_rx.specs.State.{State as Receiving, got, got_heard}
-use Rattle.am_pdcp_laws.specs.Flow.{Flow as Pdcp, Sends, outset as pdcp_outset, Comes}
+use Rattle.am_pdcp_laws.specs.Flow.{Flow as Pdcp, Sends, Comes, run as run_pdcp}
 use Rattle.am_pdcp_laws.specs.Reading.{IsRead, IsNextRead}
-use Rattle.am_pdcp_laws.proofs.Sound.{IsSound as IsSoundPdcp}
-use Rattle.am_pdcp_laws.proofs.Laws.{run_sound, outset_sound}
 use Rattle.am_pdcp_laws.proofs.EachRead.{reads_each}
 use Rattle.am_bearer_laws.specs.Deeds.{told_by}
 use Rattle.flow_laws.proofs.Flows.{all_at}
+use Rattle.delivery_laws.proofs.Accounts.{sound_pdcp, told_of, tells_passing}
 use Rattle.delivery_laws.proofs.Joined.{Way, IsWay, pdcp, IsReportOf, Reports}
 use Rattle.delivery_laws.proofs.Meeting.{Standing, MeetsNow, Extends, rests}
 use Rattle.delivery_laws.proofs.HandingUp.{IsNext}
@@ -35,9 +34,6 @@ has_no_count : (g : Pdcp) (pdu : Next) (fms : ℕ) (bitmap : List ℕ) (o : Opti
     → IsRead g.handed Arrived g.receiver pdu.octets o → heard g.receiver.kind pdu.octets ≡ Told fms bitmap → pdu.count ≡ None
 has_no_count g pdu fms bitmap None c read e = c
 has_no_count g pdu fms bitmap (Some count) c read e = absurd (never_told (g.handed count) fms bitmap (sym (got_as g.receiver pdu.octets fms bitmap e) ∙ read))
-
-sound_pdcp : (w : Way) → IsWay w → IsSoundPdcp w.bits (pdcp w)
-sound_pdcp w h = run_sound w.bits w.events (pdcp_outset w.bits w.protection w.first) h.events (outset_sound w.bits w.protection w.first h.kind h.first)
 
 -- it is the report of what had come as the life began
 report_is : (out inn : Way) (sdu : List ℕ) (fms : ℕ) (bitmap : List ℕ) → IsWay out → IsWay inn → out.bits ≡ inn.bits → Reports out inn → IsNext inn sdu
@@ -64,7 +60,7 @@ unfolding reported
 owed_stays s fms bitmap = owed_so (fms_count s.kind s.base fms) s bitmap
 
 report_comes : (w : Way) (a : Standing) (fms : ℕ) (bitmap : List ℕ) → Comes (pdcp w).report (pdcp w).sender.kind fms bitmap
-    → MeetsNow w a → Extends w (record a { sending = after a.sending (ReportComes fms bitmap) }) []
+    → MeetsNow w a → Extends w (record a { sending = after a.sending (ReportComes fms bitmap) }) [] []
 report_comes w a fms bitmap comes m =
     let g : Pdcp = pdcp w in
     record {
@@ -82,10 +78,11 @@ report_comes w a fms bitmap comes m =
       };
       stays = record { sdus = append-nil g.sdus; stream = append-nil g.stream; report = refl; owed = owed_stays g.sender fms bitmap };
       ups_are = sym (append-nil g.up);
+      tells = tells_passing [] g (run_pdcp (Sends (ReportComes fms bitmap) ∷ []) g) (told_of w) (append-nil g.stream) refl (λ count. refl);
     }
 
 pub hears_report : (out inn : Way) (a : Standing) (sdu : List ℕ) (x : Heard) → heard (pdcp inn).receiver.kind sdu ≡ x
-    → IsWay out → IsWay inn → out.bits ≡ inn.bits → Reports out inn → IsNext inn sdu → MeetsNow out a → Extends out (record a { sending = told_by x a.sending }) []
+    → IsWay out → IsWay inn → out.bits ≡ inn.bits → Reports out inn → IsNext inn sdu → MeetsNow out a → Extends out (record a { sending = told_by x a.sending }) [] []
 hears_report out inn a sdu (Bad refusal) e oh ih same told next m = rests out a m
 hears_report out inn a sdu (Told fms bitmap) e oh ih same told next m =
     report_comes out a fms bitmap (report_is out inn sdu fms bitmap oh ih same told next e) m

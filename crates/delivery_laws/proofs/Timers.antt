@@ -13,6 +13,7 @@ use Rattle.am_bearer_laws.proofs.Keeping.{data_stays, quiet_idle}
 use Rattle.am_laws.specs.Flow.{Flow as Rlc, Sends as SendsOn, Receives as ReceivesOn, copies_with, is_new, given, happens as rlc_happens}
 use Rattle.am_laws.specs.Given.{IsGiven as IsGivenStep}
 use Rattle.am_laws.specs.Steps.{is_up, offers}
+use Rattle.am_arrival_laws.specs.Arrival.{passed}
 use Rattle.am_pdcp_laws.specs.Flow.{Flow as Pdcp, Sends as SendsEvent, SetDiscard as SetsDiscard, CanCall, run as run_pdcp}
 use Rattle.bearer_laws.specs.Acknowledged.{IsOfSender}
 use Rattle.flow_laws.specs.Pair.{BearerEnd}
@@ -21,6 +22,8 @@ use Rattle.flow_laws.proofs.Flows.{stands_as, is_flow}
 use Rattle.flow_laws.proofs.Sending.{sent_one}
 use Rattle.flow_laws.proofs.Hearing.{receives_one}
 use Rattle.flow_laws.proofs.Standing.{or_none}
+use Rattle.delivery_laws.specs.Arrival.{passing}
+use Rattle.delivery_laws.proofs.Accounts.{told_of, tells_passing}
 use Rattle.delivery_laws.proofs.Joined.{Way, Joins, IsReportOf, rlc, pdcp}
 use Rattle.delivery_laws.proofs.Ends.{JoinedEnds, EndsGoOn}
 use Rattle.delivery_laws.proofs.Moving.{Moves, rlc_moves}
@@ -70,7 +73,7 @@ alike_tells report f g a t = record {
   sent = subst (λ (l : List Next). AllByRecursion (IsReportOf report) l) (sym a.stream) t.sent;
 }
 
-asks_move : (w : Way) (c : PdcpCall) (e o : BearerEnd) → Joins w e o → CanCall (pdcp w) c → IsAside c → Moves w (SendsEvent c ∷ []) [] (with_bearer (Asks c ∷ []) e) o [] []
+asks_move : (w : Way) (c : PdcpCall) (e o : BearerEnd) → Joins w e o → CanCall (pdcp w) c → IsAside c → Moves w (SendsEvent c ∷ []) [] (with_bearer (Asks c ∷ []) e) o [] [] []
 asks_move w c e o h can a =
     let alike = aside_alike (pdcp w) c a in
     record {
@@ -92,18 +95,19 @@ asks_move w c e o h can a =
       };
       sdus_are = alike.sdus;
       ups_are = sym (append-nil (pdcp w).up);
+      tells = tells_passing [] (pdcp w) (run_pdcp (SendsEvent c ∷ []) (pdcp w)) (told_of w) alike.stream refl (λ count. refl);
     }
 
 pub asks_go_on : (bits : ℕ) (out inn : Way) (e o : BearerEnd) (c : PdcpCall) → JoinedEnds bits out inn e o → CanCall (pdcp out) c → IsAside c
-    → EndsGoOn bits out inn (with_bearer (Asks c ∷ []) e) o [] []
+    → EndsGoOn bits out inn (with_bearer (Asks c ∷ []) e) o [] [] [] []
 asks_go_on bits out inn e o c h can a =
-    out_goes_on bits out inn e o (with_bearer (Asks c ∷ []) e) (SendsEvent c ∷ []) [] []
+    out_goes_on bits out inn e o (with_bearer (Asks c ∷ []) e) (SendsEvent c ∷ []) [] [] []
     h (asks_move out c e o h.out_joins can a) (record { rx = refl; reports = refl; pdcp = refl }) (stays_between bits out inn e o (Asks c) h tt)
     refl (alike_tells (pdcp inn).report (pdcp out) (run_pdcp (SendsEvent c ∷ []) (pdcp out)) (aside_alike (pdcp out) c a) (tells inn out h.inn_reports))
 
 -- ---- discard timers get another length
 
-sets_move : (w : Way) (ttis : ℕ) (e o : BearerEnd) → Joins w e o → Moves w (SetsDiscard ttis ∷ []) [] (with_bearer (Sets ttis ∷ []) e) o [] []
+sets_move : (w : Way) (ttis : ℕ) (e o : BearerEnd) → Joins w e o → Moves w (SetsDiscard ttis ∷ []) [] (with_bearer (Sets ttis ∷ []) e) o [] [] []
 sets_move w ttis e o h = record {
   events = (tt, tt);
   steps = tt;
@@ -123,12 +127,13 @@ sets_move w ttis e o h = record {
   };
   sdus_are = sym (append-nil (pdcp w).sdus);
   ups_are = sym (append-nil (pdcp w).up);
+  tells = tells_passing [] (pdcp w) (run_pdcp (SetsDiscard ttis ∷ []) (pdcp w)) (told_of w) refl refl (λ count. refl);
 }
 
-pub sets_go_on : (bits : ℕ) (out inn : Way) (e o : BearerEnd) (ttis : ℕ) → JoinedEnds bits out inn e o → EndsGoOn bits out inn (with_bearer (Sets ttis ∷ []) e) o [] []
+pub sets_go_on : (bits : ℕ) (out inn : Way) (e o : BearerEnd) (ttis : ℕ) → JoinedEnds bits out inn e o → EndsGoOn bits out inn (with_bearer (Sets ttis ∷ []) e) o [] [] [] []
 sets_go_on bits out inn e o ttis h =
     let t = tells inn out h.inn_reports in
-    out_goes_on bits out inn e o (with_bearer (Sets ttis ∷ []) e) (SetsDiscard ttis ∷ []) [] []
+    out_goes_on bits out inn e o (with_bearer (Sets ttis ∷ []) e) (SetsDiscard ttis ∷ []) [] [] []
     h (sets_move out ttis e o h.out_joins) (record { rx = refl; reports = refl; pdcp = refl }) (stays_between bits out inn e o (Sets ttis) h tt)
     refl (record { owed = t.owed; sent = t.sent })
 
@@ -146,21 +151,21 @@ pub sends_flow : (e o : BearerEnd) (f : Rlc) (c : SenderCall) → IsFlow e o f �
 sends_flow e o f c h = is_flow (sent_by c e) o (rlc_happens f (SendsOn c)) (sent_one f c e.bearer.tx o.bearer.rx e.copies o.reports e.busy (stands_as e o f h))
 
 pub sends_on : (bits : ℕ) (out inn : Way) (e o : BearerEnd) (c : SenderCall) → JoinedEnds bits out inn e o → IsGivenStep (rlc out) (SendsOn c) → offers (SendsOn c) ≡ [] → IsQuiet (Sends c)
-    → EndsGoOn bits out inn (sent_by c e) o [] []
+    → EndsGoOn bits out inn (sent_by c e) o [] [] (passing (passed (SendsOn c ∷ []) (rlc out))) []
 sends_on bits out inn e o c h can none quiet =
     let between = stays_between bits out inn e o (Sends c) h quiet in
     let t = tells inn out h.inn_reports in
-    out_goes_on bits out inn e o (sent_by c e) [] (SendsOn c ∷ []) [] h
+    out_goes_on bits out inn e o (sent_by c e) [] (SendsOn c ∷ []) [] (passing (passed (SendsOn c ∷ []) (rlc out))) h
     (rlc_moves out (SendsOn c) e o (sent_by c e) o h.out_is h.out_joins can (record { stays = refl; none = refl }) none (sends_flow e o (rlc out) c h.out_joins.rlc_is) refl refl)
     (record { rx = refl; reports = refl; pdcp = refl }) (record { of_data = between.of_data; idle = between.idle })
     refl t
 
 -- one that gives no PDU
 by_itself : (bits : ℕ) (out inn : Way) (d o : BearerEnd) (busy : Bool)
-    → EndsGoOn bits out inn (record d { busy = busy || false }) o [] [] → EndsGoOn bits out inn (record d { busy = busy }) o [] []
-by_itself bits out inn d o busy h = subst (λ (b : Bool). EndsGoOn bits out inn (record d { busy = b }) o [] []) (sym (or_none busy)) h
+    → EndsGoOn bits out inn (record d { busy = busy || false }) o [] [] [] [] → EndsGoOn bits out inn (record d { busy = busy }) o [] [] [] []
+by_itself bits out inn d o busy h = subst (λ (b : Bool). EndsGoOn bits out inn (record d { busy = b }) o [] [] [] []) (sym (or_none busy)) h
 
-sends_own : (bits : ℕ) (out inn : Way) (e o : BearerEnd) (c : SenderCall) → JoinedEnds bits out inn e o → IsOfSender c → EndsGoOn bits out inn (with_bearer (Sends c ∷ []) e) o [] []
+sends_own : (bits : ℕ) (out inn : Way) (e o : BearerEnd) (c : SenderCall) → JoinedEnds bits out inn e o → IsOfSender c → EndsGoOn bits out inn (with_bearer (Sends c ∷ []) e) o [] [] [] []
 sends_own bits out inn e o (Offer sdu) h own = absurd own
 sends_own bits out inn e o (Take size held more) h own = absurd own
 sends_own bits out inn e o (Status status) h own = absurd own
@@ -181,7 +186,7 @@ IsTimed TickReorder = Unit {0}
 IsTimed TickProhibit = Unit {0}
 
 receives_on : (bits : ℕ) (out inn : Way) (e o : BearerEnd) (c : ReceiverCall) → JoinedEnds bits out inn e o → IsGivenStep (rlc inn) (ReceivesOn c) → is_up c ≡ false → IsQuiet (Receives c)
-    → EndsGoOn bits out inn (with_bearer (Receives c ∷ []) e) o [] []
+    → EndsGoOn bits out inn (with_bearer (Receives c ∷ []) e) o [] [] [] []
 receives_on bits out inn e o c h can stays quiet =
     let d = with_bearer (Receives c ∷ []) e in
     let f = rlc inn in
@@ -191,7 +196,7 @@ receives_on bits out inn e o c h can stays quiet =
     (rlc_moves inn (ReceivesOn c) o e o d h.inn_is h.inn_joins can (record { stays = stays; none = refl }) refl flow refl refl)
     (record { tx = refl; copies = refl; busy = refl; pdcp = refl }) (stays_between bits out inn e o (Receives c) h quiet)
 
-receives_own : (bits : ℕ) (out inn : Way) (e o : BearerEnd) (c : ReceiverCall) → JoinedEnds bits out inn e o → IsTimed c → EndsGoOn bits out inn (with_bearer (Receives c ∷ []) e) o [] []
+receives_own : (bits : ℕ) (out inn : Way) (e o : BearerEnd) (c : ReceiverCall) → JoinedEnds bits out inn e o → IsTimed c → EndsGoOn bits out inn (with_bearer (Receives c ∷ []) e) o [] [] [] []
 receives_own bits out inn e o (Arrive pdu) h own = absurd own
 receives_own bits out inn e o Up h own = absurd own
 receives_own bits out inn e o Write h own = absurd own
@@ -211,7 +216,7 @@ IsCounting (Owe report) = ⊥
 IsCounting TickPdcp = Unit {0}
 IsCounting Late = Unit {0}
 
-asks_own : (bits : ℕ) (out inn : Way) (e o : BearerEnd) (c : PdcpCall) → JoinedEnds bits out inn e o → IsCounting c → EndsGoOn bits out inn (with_bearer (Asks c ∷ []) e) o [] []
+asks_own : (bits : ℕ) (out inn : Way) (e o : BearerEnd) (c : PdcpCall) → JoinedEnds bits out inn e o → IsCounting c → EndsGoOn bits out inn (with_bearer (Asks c ∷ []) e) o [] [] [] []
 asks_own bits out inn e o (Submit sdu) h own = absurd own
 asks_own bits out inn e o TakePdcp h own = absurd own
 asks_own bits out inn e o (ConfirmPdcp place) h own = absurd own
@@ -229,7 +234,7 @@ IsOwn HandsUp = ⊥
 IsOwn (Asks c) = IsCounting c
 IsOwn (Sets ttis) = Unit {0}
 
-own_one : (bits : ℕ) (out inn : Way) (e o : BearerEnd) (deed : Deed) → JoinedEnds bits out inn e o → IsOwn deed → EndsGoOn bits out inn (with_bearer (deed ∷ []) e) o [] []
+own_one : (bits : ℕ) (out inn : Way) (e o : BearerEnd) (deed : Deed) → JoinedEnds bits out inn e o → IsOwn deed → EndsGoOn bits out inn (with_bearer (deed ∷ []) e) o [] [] [] []
 own_one bits out inn e o Feeds h own = absurd own
 own_one bits out inn e o (Sends c) h own = sends_own bits out inn e o c h own
 own_one bits out inn e o Confirms h own = absurd own
@@ -241,7 +246,7 @@ own_one bits out inn e o (Sets ttis) h own = sets_go_on bits out inn e o ttis h
 abbrev pub AreOwn : List Deed → Type 0
 AreOwn deeds = AllByRecursion IsOwn deeds
 
-pub own_all : (bits : ℕ) (out inn : Way) (e o : BearerEnd) (deeds : List Deed) → JoinedEnds bits out inn e o → AreOwn deeds → EndsGoOn bits out inn (with_bearer deeds e) o [] []
+pub own_all : (bits : ℕ) (out inn : Way) (e o : BearerEnd) (deeds : List Deed) → JoinedEnds bits out inn e o → AreOwn deeds → EndsGoOn bits out inn (with_bearer deeds e) o [] [] [] []
 own_all bits out inn e o [] h own = stays_joined bits out inn e o h
 own_all bits out inn e o (deed ∷ deeds) h own =
     let m = own_one bits out inn e o deed h own.0 in

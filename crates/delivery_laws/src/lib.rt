@@ -2,6 +2,7 @@
 //! definitions that `bearer_am` meets, and do nothing.
 #![tactic(auto)]
 
+ghost use Rattle.delivery_laws.specs.Arrival.{DeliversWhatCame};
 ghost use Rattle.delivery_laws.specs.Delivery.{BearersArePdcpFlows, DeliversInOrder};
 ghost use Rattle.delivery_laws.specs.Drained.{DrainedHasDelivered};
 ghost use Rattle.delivery_laws.specs.Ends.{EndsAreReached, DeliversSubmitted};
@@ -16,6 +17,13 @@ pub fn bearers_are_pdcp_flows()
 /// So what went up at an end are the SDUs that the other took first: in their order, each once and unchanged.
 pub fn delivers_in_order()
     ensures { DeliversInOrder }
+{}
+
+/// An end holds none of them back that has come: what went up are exactly the SDUs before the first whose COUNT hasn't come, all octets of
+/// its PDU, whole in a life that ended, or with all before it in the one that runs. What has come is told by the PDUs that were written
+/// and that came, and by those that PDCP gave.
+pub fn delivers_what_came()
+    ensures { DeliversWhatCame }
 {}
 
 /// Each end is what its bearer comes to by its own calls, as it is configured, and by the ends of its lives.

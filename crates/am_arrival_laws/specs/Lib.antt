@@ -1,0 +1,4 @@
+pub mod Stretches
+pub mod Passing
+pub mod Arrival
+pub mod Lives

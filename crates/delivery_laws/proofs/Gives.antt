@@ -1,0 +1,252 @@
+-- What a bearer tells as RLC takes PDUs of PDCP are just those that it takes.
+use Rattle.std.proofs.Common.{◌≡◌, ◌≤◌, inl, inr, ℕ, zero, suc, ◌+◌, ◌-◌, ◌==◌, Bool, true, false, if◌then◌else◌, List, [], ◌∷◌, ◌++◌, map, length, take, drop, Option, Some, None, Result, Ok, Err, option_map, slice_get, ◌%◌, ◌*◌, ◌^◌, refl, ap, sym, ◌∙◌, arith, append_assoc, append-nil, length-append}
+use Rattle.std.specs.List.{AllByRecursion, flat_map}
+use Rattle.std.proofs.lemmas.Grind.{flat_map-append}
+use Rattle.bearer_types.specs.declared.Event.{Event}
+use Rattle.bearer_types.specs.declared.Event.TheVariants as events
+use Rattle.l2_types.specs.declared.Clock.TheVariants.{Poll, Prohibit}
+use Rattle.l2_types.specs.declared.How.TheVariants as how
+use Rattle.rlc_pdu.specs.declared.Taken.{Taken}
+use Rattle.rlc_pdu.specs.declared.Taken.TheVariants.{Piece, Idle, Small, Shut, Held, Stopped}
+use Rattle.rlc_am_rx.specs.State.{State as Receiver}
+use Rattle.rlc_am_rx.specs.Status.{ack}
+use Rattle.rlc_am_tx.specs.Need.{hungry}
+use Rattle.pdcp_pdu.specs.declared.pdu.PdcpKind.{PdcpKind}
+use Rattle.pdcp_pdu.specs.declared.pdu.PdcpKind.TheVariants.{Am as AmKind}
+use Rattle.pdcp_pdu.specs.declared.pdu.PdcpRefusal.{PdcpRefusal}
+use Rattle.pdcp_pdu.specs.declared.pdu.PdcpWhy.TheVariants.{ReservedType}
+use Rattle.pdcp_pdu.specs.Kinds.{IsKind}
+use Rattle.pdcp_pdu.specs.Pdus.{UserPdu, Sdu, Report}
+use Rattle.pdcp_pdu.specs.Grammar.{data_header}
+use Rattle.pdcp_pdu.specs.Reading.{user_at, sdu_at, middle_user, long_report, long_user}
+use Rattle.pdcp_pdu.specs.Refusals.{is_data, has_report_type}
+use Rattle.pdcp_sec.specs.Protection.{Protection, ciphered_with}
+use Rattle.pdcp_sec.proofs.Lengths.{length_ciphered_with}
+use Rattle.pdcp_rx.specs.Heard.{Told, heard, heard_user}
+use Rattle.pdcp_tx.specs.Pdus.{pdu}
+use Rattle.pdcp_kept.specs.declared.given.Sent.{Sent}
+use Rattle.pdcp_kept.specs.Waiting.{Waits}
+use Rattle.pdcp_tx.specs.State.{State as Sending, Offer, owed_offers, again_offer, new_offers, offers, took, written, taking as pdcp_taking}
+use Rattle.am_arrival_laws.specs.Lives.{Given}
+use Rattle.am_pdcp_laws.specs.Flow.{IsReport}
+use Rattle.am_pdcp_laws.proofs.Sound.{Owes}
+use Rattle.bearer_parts.specs.Ends.{Ends}
+use Rattle.bearer_parts.specs.Taking.{report_told, next_told, taking_told, after_taking as after_pdcp}
+use Rattle.bearer_am.specs.State.{State, Work, work}
+use Rattle.bearer_am.specs.Taking.{writes_status, status_told, has_prohibit, fed, feeds, data_told, data_size, feeding, answer_of, taking, after_taking}
+use Rattle.bearer_laws.specs.Stream.{takes, pdu_of}
+use Rattle.bearer.specs.declared.flow.Flow.TheVariants.{Am}
+use Rattle.bearer.specs.Taking.{told, after as flow_after}
+use Rattle.bearer_laws.specs.Calls.{Take}
+use Rattle.bearer_laws.proofs.Acknowledged.{take_left}
+use Rattle.bearer_laws.proofs.Parts.{pdcp_took, pdcp_rest}
+use Rattle.bearer_laws.proofs.Flows.{taken_off}
+use Rattle.bearer_laws.proofs.Sender.{AreSame, took_same, left_of}
+use Rattle.delivery_laws.specs.Arrival.{given_in}
+
+-- ---- a PDU that may be taken
+
+abbrev pub given_as : Sending → Offer → Given
+given_as s o = record { count = o.count; size = length (pdu_of s o) }
+
+-- one without a COUNT is a status report
+abbrev pub IsRight : PdcpKind → Offer → Type 0
+IsRight kind o = o.count ≡ None → IsReport kind o.text
+
+sdu_size : (bits : ℕ) (p : Protection) (count : ℕ) (text : List ℕ) → IsKind (AmKind bits) → length (pdu (AmKind bits) p count text) ≡ length text + 2
+unfolding pdu
+sdu_size bits p count text k =
+    let sn = count % 2 ^ bits in
+    let body = ciphered_with p count text in
+    let c : length body ≡ length text = length_ciphered_with p count text in
+    let a = length-append (data_header bits 0 sn) body in
+    let h : length (data_header bits 0 sn) ≡ 2 = header bits sn k in
+    omega (arith, a, c, h)
+  where
+    header : (bits sn : ℕ) → IsKind (AmKind bits) → length (data_header bits 0 sn) ≡ 2
+    header bits sn (inl e) = rw e refl
+    header bits sn (inr e) = rw e refl
+
+-- octets that are read as a report have a header and its bitmap
+sdu_none : (at sn : ℕ) (rest : List ℕ) (fms : ℕ) (bitmap : List ℕ) → sdu_at at sn rest ≡ Ok (Report fms bitmap) → ⊥
+unfolding sdu_at
+sdu_none at sn [] fms bitmap e = cc
+sdu_none at sn (o ∷ os) fms bitmap e = cc
+
+middle_size : (octets : List ℕ) (fms : ℕ) (bitmap : List ℕ) → middle_user octets ≡ Ok (Report fms bitmap) → length octets ≡ 2 + length bitmap
+unfolding middle_user
+middle_size [] fms bitmap e = cc
+middle_size (a ∷ []) fms bitmap e = cc
+middle_size (a ∷ b ∷ rest) fms bitmap e = by (is_data a) (has_report_type a) (sdu_at 2 (a % 16 * 256 + b) rest) (λ q. sdu_none 2 (a % 16 * 256 + b) rest fms bitmap q) e
+  where
+    by : (d t : Bool) (x : Result UserPdu PdcpRefusal) → (x ≡ Ok (Report fms bitmap) → ⊥)
+        → (if d then x else if t then Ok (Report (a % 16 * 256 + b) rest) else Err (record { at = 0; why = ReservedType })) ≡ Ok (Report fms bitmap) → length (a ∷ b ∷ rest) ≡ 2 + length bitmap
+    by true t x no' q = absurd (no' q)
+    by false true x no' q =
+        let same : Ok (Report (a % 16 * 256 + b) rest) ≡ Ok (Report fms bitmap) = q in
+        let is : rest ≡ bitmap = cc in
+        let l = ap (λ (xs : List ℕ). length xs) is in omega (arith, l)
+    by false false x no' q = cc
+
+long_report_size : (b : ℕ) (rest : List ℕ) (fms : ℕ) (bitmap : List ℕ) → long_report b rest ≡ Ok (Report fms bitmap) → length rest ≡ 1 + length bitmap
+unfolding long_report
+long_report_size b [] fms bitmap e = cc
+long_report_size b (c ∷ rest) fms bitmap e =
+    let same : Ok (Report (b % 128 * 256 + c) rest) ≡ Ok (Report fms bitmap) = e in
+    let is : rest ≡ bitmap = cc in
+    let l = ap (λ (xs : List ℕ). length xs) is in omega (arith, l)
+
+long_size : (octets : List ℕ) (fms : ℕ) (bitmap : List ℕ) → long_user octets ≡ Ok (Report fms bitmap) → length octets ≡ 3 + length bitmap
+unfolding long_user
+long_size [] fms bitmap e = cc
+long_size (a ∷ []) fms bitmap e = cc
+long_size (a ∷ b ∷ rest) fms bitmap e = by (is_data a) (has_report_type a) (sdu_at 2 (a % 128 * 256 + b) rest) (long_report b rest) (λ q. sdu_none 2 (a % 128 * 256 + b) rest fms bitmap q) (λ q. long_report_size b rest fms bitmap q) e
+  where
+    by : (d t : Bool) (x y : Result UserPdu PdcpRefusal) → (x ≡ Ok (Report fms bitmap) → ⊥) → (y ≡ Ok (Report fms bitmap) → length rest ≡ 1 + length bitmap)
+        → (if d then x else if t then y else Err (record { at = 0; why = ReservedType })) ≡ Ok (Report fms bitmap) → length (a ∷ b ∷ rest) ≡ 3 + length bitmap
+    by true t x y no' more q = absurd (no' q)
+    by false true x y no' more q = let l = more q in omega (arith, l)
+    by false false x y no' more q = cc
+
+report_size : (bits : ℕ) (octets : List ℕ) (fms : ℕ) (bitmap : List ℕ) → IsKind (AmKind bits) → user_at bits octets ≡ Ok (Report fms bitmap) → length octets ≡ (if bits == 12 then 2 else 3) + length bitmap
+report_size bits octets fms bitmap (inl k) e =
+    let f : middle_user octets ≡ Ok (Report fms bitmap) = sym (ap (λ (n : ℕ). user_at n octets) k) ∙ e in
+    rw k (middle_size octets fms bitmap f)
+report_size bits octets fms bitmap (inr k) e =
+    let f : long_user octets ≡ Ok (Report fms bitmap) = sym (ap (λ (n : ℕ). user_at n octets) k) ∙ e in
+    rw k (long_size octets fms bitmap f)
+
+-- ---- what is told as it is taken
+
+told_report : (bits lcid : ℕ) (octets : List ℕ) (x : Result UserPdu PdcpRefusal) → IsKind (AmKind bits) → user_at bits octets ≡ x → (fms : ℕ) (bitmap : List ℕ) → heard_user x ≡ Told fms bitmap
+    → flat_map (given_in bits) (report_told lcid x) ≡ record { count = None; size = length octets } ∷ []
+told_report bits lcid octets (Err refusal) k e fms bitmap h = cc
+told_report bits lcid octets (Ok (Sdu sn text)) k e fms bitmap h = cc
+told_report bits lcid octets (Ok (Report f bits')) k e fms bitmap h =
+    ap (λ (n : ℕ). record { count = None; size = n } ∷ []) (sym (report_size bits octets f bits' k e))
+
+told_one : (bits lcid : ℕ) (p : Protection) (count : Option ℕ) (text : List ℕ) → IsKind (AmKind bits) → (count ≡ None → IsReport (AmKind bits) text)
+    → flat_map (given_in bits) (next_told lcid (AmKind bits) (Some (written (AmKind bits) p count text))) ≡ record { count = count; size = length (written (AmKind bits) p count text).octets } ∷ []
+unfolding heard
+told_one bits lcid p None text k right =
+    let r = right refl in told_report bits lcid text (user_at bits text) k refl r.fms r.bitmap r.is
+told_one bits lcid p (Some count) text k right = ap (λ (n : ℕ). record { count = Some count; size = n } ∷ []) (sym (sdu_size bits p count text k))
+
+first_told : (bits : ℕ) (e : Ends) (o : Offer) (os : List Offer) → IsKind (AmKind bits) → e.kind ≡ AmKind bits → e.tx.kind ≡ AmKind bits → offers e.tx ≡ o ∷ os → IsRight (AmKind bits) o
+    → flat_map (given_in bits) (taking_told e) ≡ given_as e.tx o ∷ []
+unfolding taking_told pdcp_taking
+first_told bits e o os k kind tx q right =
+    ap (λ (l : List Offer). flat_map (given_in bits) (next_told e.lcid e.kind (option_map (λ o. written e.tx.kind e.tx.protection o.count o.text) (slice_get l 0)))) q
+    ∙ (ap (λ (x : PdcpKind). flat_map (given_in bits) (next_told e.lcid x (Some (written e.tx.kind e.tx.protection o.count o.text)))) kind
+    ∙ (ap (λ (x : PdcpKind). flat_map (given_in bits) (next_told e.lcid (AmKind bits) (Some (written x e.tx.protection o.count o.text)))) tx
+    ∙ (told_one bits e.lcid e.tx.protection o.count o.text k right
+    ∙ ap (λ (x : PdcpKind). record { count = o.count; size = length (written x e.tx.protection o.count o.text).octets } ∷ []) (sym tx))))
+
+-- ---- RLC takes PDUs, and so many are told
+
+record Tells (bits : ℕ) (os : List Offer) (d e : Ends) (before after : List Event) : Type 0 where
+  n : ℕ
+  few : n ≤ length os
+  left : offers e.tx ≡ drop n os
+  told_is : flat_map (given_in bits) after ≡ flat_map (given_in bits) before ++ map (given_as d.tx) (take n os)
+
+no_more : (bits : ℕ) (os : List Offer) (d : Ends) (before : List Event) → offers d.tx ≡ os → Tells bits os d d before before
+no_more bits os d before q = record { n = zero; few = omega arith; left = q; told_is = sym (append-nil (flat_map (given_in bits) before)) }
+
+pub same_given : (s t : Sending) (os : List Offer) → AreSame s t → map (given_as t) os ≡ map (given_as s) os
+same_given s t os h =
+    ap (λ k. map (λ (o : Offer). record { count = o.count; size = length (written k t.protection o.count o.text).octets }) os) h.kind
+    ∙ ap (λ p. map (λ (o : Offer). record { count = o.count; size = length (written s.kind p o.count o.text).octets }) os) h.protection
+
+one_more : (bits : ℕ) (o : Offer) (os : List Offer) (d e : Ends) (before after : List Event) → IsKind (AmKind bits) → d.kind ≡ AmKind bits → d.tx.kind ≡ AmKind bits → IsRight (AmKind bits) o
+    → offers d.tx ≡ o ∷ os → Tells bits os (after_pdcp d) e (before ++ taking_told d) after → Tells bits (o ∷ os) d e before after
+one_more bits o os d e before after k kind tx right q t = record {
+  n = suc t.n;
+  few = omega (arith, t.few);
+  left = t.left;
+  told_is =
+      t.told_is
+      ∙ (ap (λ (gs : List Given). gs ++ map (given_as (after_pdcp d).tx) (take t.n os)) (flat_map-append (given_in bits) before (taking_told d))
+      ∙ (ap (λ (gs : List Given). (flat_map (given_in bits) before ++ gs) ++ map (given_as (after_pdcp d).tx) (take t.n os)) (first_told bits d o os k kind tx q right)
+      ∙ (ap (λ (s : Sending). (flat_map (given_in bits) before ++ given_as d.tx o ∷ []) ++ map (given_as s) (take t.n os)) (pdcp_took d)
+      ∙ (ap (λ (gs : List Given). (flat_map (given_in bits) before ++ given_as d.tx o ∷ []) ++ gs) (same_given d.tx (took d.tx) (take t.n os) (took_same d.tx))
+      ∙ append_assoc (flat_map (given_in bits) before) (given_as d.tx o ∷ []) (map (given_as d.tx) (take t.n os))))));
+}
+
+by_hunger : (bits : ℕ) (b : Bool) (o : Offer) (os : List Offer) (w v : Work) → IsKind (AmKind bits) → w.pdcp.kind ≡ AmKind bits → w.pdcp.tx.kind ≡ AmKind bits → IsRight (AmKind bits) o
+    → offers w.pdcp.tx ≡ o ∷ os → Tells bits os (fed w).pdcp v.pdcp (fed w).events v.events
+    → Tells bits (o ∷ os) w.pdcp (if b then v else w).pdcp w.events (if b then v else w).events
+by_hunger bits true o os w v k kind tx right q t = one_more bits o os w.pdcp v.pdcp w.events v.events k kind tx right q t
+by_hunger bits false o os w v k kind tx right q t = no_more bits (o ∷ os) w.pdcp w.events q
+
+feeds_tell : (bits : ℕ) (os : List Offer) (size : ℕ) (held : Option ℕ) (w : Work) → IsKind (AmKind bits) → w.pdcp.kind ≡ AmKind bits → w.pdcp.tx.kind ≡ AmKind bits
+    → AllByRecursion (IsRight (AmKind bits)) os → offers w.pdcp.tx ≡ os → Tells bits os w.pdcp (feeds os size held w).pdcp w.events (feeds os size held w).events
+feeds_tell bits [] size held w k kind tx right q = no_more bits [] w.pdcp w.events q
+feeds_tell bits (o ∷ os) size held w k kind tx right q =
+    by_hunger bits (hungry w.tx size held) o os w (feeds os size held (fed w)) k kind tx right.0 q
+    (feeds_tell bits os size held (fed w) k ((pdcp_rest w.pdcp).0 ∙ kind) (ap (λ (s : Sending). s.kind) (pdcp_took w.pdcp) ∙ ((took_same w.pdcp.tx).kind ∙ tx)) right.1
+    (ap offers (pdcp_took w.pdcp) ∙ left_of 1 w.pdcp.tx ∙ ap (drop 1) q))
+
+-- ---- the whole
+
+data_none : (bits lcid : ℕ) (t : Taken) → flat_map (given_in bits) (data_told lcid t) ≡ []
+data_none bits lcid (Piece number first polled octets) = by polled
+  where
+    by : (b : Bool) → flat_map (given_in bits) (if b then events.Start lcid Poll ∷ [] else []) ≡ []
+    by true = refl
+    by false = refl
+data_none bits lcid Idle = refl
+data_none bits lcid Small = refl
+data_none bits lcid Shut = refl
+data_none bits lcid Held = refl
+data_none bits lcid Stopped = refl
+
+status_none : (bits lcid : ℕ) (has : Bool) (r : Receiver) (share : ℕ) → flat_map (given_in bits) (status_told lcid has r share) ≡ []
+status_none bits lcid has r share = by (writes_status r share) has
+  where
+    by : (b c : Bool) → flat_map (given_in bits) (if b then events.Send lcid how.Status (ack r (share - 3) % 1024) ∷ (if c then events.Start lcid Prohibit ∷ [] else []) else []) ≡ []
+    by true true = refl
+    by true false = refl
+    by false c = refl
+
+pub takes_are_told : (bits : ℕ) (b : State) (share : ℕ) (held : Option ℕ) → IsKind (AmKind bits) → b.pdcp.kind ≡ AmKind bits → b.pdcp.tx.kind ≡ AmKind bits
+    → AllByRecursion (IsRight (AmKind bits)) (offers b.pdcp.tx)
+    → flat_map (given_in bits) (told b.pdcp.lcid (Am b) share held) ≡ map (given_as b.pdcp.tx) (takes (Am b) (Take share held))
+unfolding told taking flow_after
+takes_are_told bits b share held k kind tx right =
+    let os = offers b.pdcp.tx in
+    let status = status_told b.pdcp.lcid (has_prohibit b) b.rx share in
+    let room = data_size b share in
+    let f = feeding b share held in
+    let t = feeds_tell bits os room held (work b.pdcp b.tx status) k kind tx right refl in
+    let off = taken_off t.n os (offers (after_taking b share held).pdcp.tx) t.few (ap (λ (e : Ends). offers e.tx) (take_left b share held) ∙ t.left) in
+    flat_map-append (given_in bits) f.events (data_told f.pdcp.lcid (answer_of f room held))
+    ∙ (ap (λ (gs : List Given). flat_map (given_in bits) f.events ++ gs) (data_none bits f.pdcp.lcid (answer_of f room held))
+    ∙ (append-nil (flat_map (given_in bits) f.events)
+    ∙ (t.told_is
+    ∙ (ap (λ (gs : List Given). gs ++ map (given_as b.pdcp.tx) (take t.n os)) (status_none bits b.pdcp.lcid (has_prohibit b) b.rx share)
+    ∙ ap (λ (xs : List Offer). map (given_as b.pdcp.tx) xs) (sym off)))))
+
+-- only the report that is owed has no COUNT
+all_then : (kind : PdcpKind) (xs ys : List Offer) → AllByRecursion (IsRight kind) xs → AllByRecursion (IsRight kind) ys → AllByRecursion (IsRight kind) (xs ++ ys)
+all_then kind [] ys h k = k
+all_then kind (x ∷ xs) ys h k = (h.0, all_then kind xs ys h.1 k)
+
+again_right : (kind : PdcpKind) (ss : List Sent) → AllByRecursion (IsRight kind) (map again_offer ss)
+again_right kind [] = tt
+again_right kind (s ∷ ss) = (λ e. let no' : Some s.count ≡ None = e in cc, again_right kind ss)
+
+new_right : (kind : PdcpKind) (n : ℕ) (ws : List Waits) → AllByRecursion (IsRight kind) (new_offers n ws)
+new_right kind n [] = tt
+new_right kind n (w ∷ ws) = (λ e. let no' : Some n ≡ None = e in cc, new_right kind (n + 1) ws)
+
+owed_right : (kind : PdcpKind) (o : Option (List ℕ)) → Owes kind o → AllByRecursion (IsRight kind) (owed_offers o)
+owed_right kind None h = tt
+owed_right kind (Some report) h = (λ e. h, tt)
+
+pub offers_right : (s : Sending) → Owes s.kind s.owed → AllByRecursion (IsRight s.kind) (offers s)
+unfolding offers
+offers_right s h =
+    let news = new_offers s.next (take (s.bound - s.next) s.waiting) in
+    let first = owed_right s.kind s.owed h in
+    all_then s.kind (owed_offers s.owed ++ map again_offer s.again) news (all_then s.kind (owed_offers s.owed) (map again_offer s.again) first (again_right s.kind s.again)) (new_right s.kind s.next (take (s.bound - s.next) s.waiting))
