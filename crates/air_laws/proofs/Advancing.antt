@@ -26,15 +26,17 @@ use Rattle.link_laws.proofs.Calling.{calls_adds, submitting_adds}
 use Rattle.link_laws.proofs.Passing.{tti_adds, drain_adds}
 use Rattle.flow_laws.specs.Air.{Block, Station, Air, outset, older, passed}
 use Rattle.flow_laws.proofs.Stations.{come_more}
+use Rattle.am_arrival_laws.specs.Lives.{Happening}
 use Rattle.channel_laws.specs.Lives.{end_at}
+use Rattle.air_laws.specs.Arrival.{tells_in, renews}
 use Rattle.air_laws.specs.Staying.{hands_over, Stays, MovesOn}
 use Rattle.air_laws.specs.Going.{handed_in, looped_at, sets, GoesOn, IsCallSince, IsStepSince}
 use Rattle.air_laws.specs.On.{until, IsHeld, IsFlying, IsStation, IsOn}
 use Rattle.air_laws.proofs.Flying.{keep_all}
-use Rattle.air_laws.proofs.Going.{Marks, calm, setting, none, by_sides, goes_then, goes_off, goes_pass}
+use Rattle.air_laws.proofs.Going.{Marks, calm, setting, none, by_sides, Any, Block', Renewed, Unread, Behind, Fits, ended, goes_then, goes_off, goes_pass}
 use Rattle.air_laws.proofs.Moving.{fresh_at, left_told, moved_link, moved_so, handover_stage}
 use Rattle.air_laws.proofs.Resting.{call_rests, loops_rests, loop_set_rests, woken_rests, grown_rests, expires_rests, receivers_rest, senders_rest, discards_rests, reports_rests, listens_rests, submitting_hands}
-use Rattle.air_laws.proofs.Stages.{Both, Stands, Reaches, Stage, unlooped_goes, stage_then, Rests, rests_then, still_rests, goes_plain}
+use Rattle.air_laws.proofs.Stages.{Both, Stands, Reaches, Stage, unlooped_goes, stage_then, Rests, rests_then, still_rests, goes_plain, says_so, none_flown}
 use Rattle.air_laws.proofs.Stations.{Moment, Waits, Done, wait}
 use Rattle.air_laws.proofs.Visiting.{downlink_stage, uplink_stage}
 
@@ -57,22 +59,35 @@ both_on t m a same h = record {
 abbrev marks : ℕ → LinkStep → Marks
 marks l s = record { sets = sets l s; moves = hands_over s }
 
-goes_so : (l t : ℕ) (s : LinkStep) (k : Link) (a : Air) → Reaches l (marks l s) (λ side n. handed_in side n s k) (Stands Nb (Waits t)) (Stands Ue (Waits t)) k (step s k) a → (step s k).ttis ≡ t → Stays l s k a
-goes_so l t s k a r same = record {
+same_behind : (c : Behind) (xs ys : List Happening) → ended c ++ xs ≡ ended c ++ ys → xs ≡ ys
+same_behind Any xs ys e = e
+same_behind (Block' octets) xs ys e = e
+same_behind Renewed xs ys e = cc
+same_behind Unread xs ys e = e
+
+-- behind what a step ends
+goes_behind : (l t : ℕ) (c : Behind) (s : LinkStep) (k : Link) (a : Air) → ended c ≡ renews s → ((sent : List ℕ) → Fits c sent)
+    → Reaches l (marks l s) c Any (λ side n. handed_in side n s k) (Stands Nb (Waits t)) (Stands Ue (Waits t)) k (step s k) a → (step s k).ttis ≡ t → Stays l s k a
+goes_behind l t c s k a ends fits r same = record {
   goes = record {
     more = r.more;
     out_is = r.out_is;
+    alone = λ bits from sent. same_behind c _ _ (sym (r.goes.reads bits from sent (fits sent)) ∙ r.goes.reads bits from [] (fits []));
     by = record {
       steps = r.goes.steps;
       living = r.goes.living;
       told_is = r.goes.told_is;
       submitted_is = r.goes.submitted_is;
+      happened_is = λ bits from. r.goes.reads bits from [] (fits []) ∙ ap (λ (hs : List Happening). hs ++ tells_in bits l from [] r.more) ends;
       sets_none = r.goes.sets_none;
       on = subst (IsOn (step s k)) (sym r.goes.air_is) (both_on t (step s k) r.air same r.both);
     };
   };
   in_life = r.goes.stays;
 }
+
+goes_so : (l t : ℕ) (s : LinkStep) (k : Link) (a : Air) → renews s ≡ [] → Reaches l (marks l s) Any Any (λ side n. handed_in side n s k) (Stands Nb (Waits t)) (Stands Ue (Waits t)) k (step s k) a → (step s k).ttis ≡ t → Stays l s k a
+goes_so l t s k a stays r same = goes_behind l t Any s k a (sym stays) (λ sent. tt) r same
 
 -- ---- a TTI ends
 
@@ -106,6 +121,7 @@ pass_stage l set t k a h = record {
   more = [];
   out_is = sym (append-nil k.out);
   goes = unlooped_goes l set [] a (record { nb = passed a.nb; ue = passed a.ue }) (λ n. refl) (goes_pass l set t a h.nb.is h.ue.is);
+  left = λ sent fits. tt;
   both = record { nb_is = h.nb_is; ue_is = h.ue_is; nb = aged Nb t a.nb h.nb.is; ue = aged Ue t a.ue h.ue.is };
 }
 
@@ -130,7 +146,7 @@ unfolding tti tti_by
 ttis_go l up_grant up down_grant down k a up_within down_within h =
     let asleep = sleeps k.ttis k in
     let m = timed (tells_sleep asleep (begins k)) in
-    goes_so l (k.ttis + 1) (Tti up_grant up down_grant down) k a
+    goes_so l (k.ttis + 1) (Tti up_grant up down_grant down) k a refl
     (by_visits l calm k.ttis up_grant (missed asleep up) down_grant (missed asleep down) k m (woken_rests l calm asleep k) up_within down_within a (on_both k a h))
     (tti_adds up_grant up down_grant down k).ttis_is
 
@@ -138,7 +154,7 @@ drains_go : (l grant : ℕ) (k : Link) (a : Air) → grant ≤ 9422 → IsOn k a
 unfolding drain_tti
 drains_go l grant k a within h =
     let m = grows Ue (grows Nb (begins k)) in
-    goes_so l (k.ttis + 1) (Drains grant) k a (by_visits l calm k.ttis grant intact grant intact k m (grown_rests l calm k) within within a (on_both k a h)) (drain_adds grant k).ttis_is
+    goes_so l (k.ttis + 1) (Drains grant) k a refl (by_visits l calm k.ttis grant intact grant intact k m (grown_rests l calm k) within within a (on_both k a h)) (drain_adds grant k).ttis_is
 
 -- ---- another number of visits empties the processes
 
@@ -176,7 +192,8 @@ visits_nb l set maximum k some few n u a h =
       out_is = sym (append-nil k.out);
       goes = unlooped_goes l set [] a c (λ i. refl)
           (goes_then l set [] [] none none a b c (goes_off l set Nb keeps_none a)
-          (goes_plain l set Nb [] none (SetVisits maximum) b tt some (record { adds_none = refl; moves_none = refl; unset = λ off. refl }) (record { told_is = refl; other_told = refl; submitted_is = λ i. refl; other_submitted = λ i. refl })));
+          (goes_plain l set Nb [] none (SetVisits maximum) b tt some (record { adds_none = refl; moves_none = refl; unset = λ off. refl }) (says_so Nb [] none b.nb.end (SetVisits maximum) tt refl none_flown refl refl (λ i. refl) (λ i. refl))));
+      left = λ sent fits. tt;
       both = record { nb_is = ap (λ (e : End). after_call e (SetVisits maximum)) h.nb_is; ue_is = h.ue_is; nb = emptied_stands Nb n a.nb maximum h.nb some few; ue = h.ue };
     }
 
@@ -190,7 +207,8 @@ visits_ue l set maximum k some few n u a h =
       out_is = sym (append-nil k.out);
       goes = unlooped_goes l set [] a c (λ i. refl)
           (goes_then l set [] [] none none a b c (goes_off l set Ue keeps_none a)
-          (goes_plain l set Ue [] none (SetVisits maximum) b tt some (record { adds_none = refl; moves_none = refl; unset = λ off. refl }) (record { told_is = refl; other_told = refl; submitted_is = λ i. refl; other_submitted = λ i. refl })));
+          (goes_plain l set Ue [] none (SetVisits maximum) b tt some (record { adds_none = refl; moves_none = refl; unset = λ off. refl }) (says_so Ue [] none b.ue.end (SetVisits maximum) tt refl none_flown refl refl (λ i. refl) (λ i. refl))));
+      left = λ sent fits. tt;
       both = record { nb_is = h.nb_is; ue_is = ap (λ (e : End). after_call e (SetVisits maximum)) h.ue_is; nb = h.nb; ue = emptied_stands Ue u a.ue maximum h.ue some few };
     }
 
@@ -215,21 +233,21 @@ bears_rests l set config keys k g apart =
 -- ---- any call
 
 -- in which both ends stay in their cell
-stays_by : (l : ℕ) (c : Call) (k : Link) (a : Air) → Rests l (marks l (LinkCalls c)) k (after c k) → IsOn k a → Stays l (LinkCalls c) k a
-stays_by l c k a f h = goes_so l k.ttis (LinkCalls c) k a (f (Waits k.ttis) (Waits k.ttis) a (on_both k a h)) (calls_adds c k).ttis_is
+stays_by : (l : ℕ) (c : Call) (k : Link) (a : Air) → renews (LinkCalls c) ≡ [] → Rests l (marks l (LinkCalls c)) k (after c k) → IsOn k a → Stays l (LinkCalls c) k a
+stays_by l c k a stays f h = goes_so l k.ttis (LinkCalls c) k a stays (f (Waits k.ttis) (Waits k.ttis) a (on_both k a h)) (calls_adds c k).ttis_is
 
 calls_go : (l : ℕ) (c : Call) (k : Link) (a : Air) → IsCallSince l c → IsOn k a → Stays l (LinkCalls c) k a
-calls_go l (Bears config keys) k a g h = stays_by l (Bears config keys) k a (bears_rests l calm config keys k g.0 g.1) h
-calls_go l (Discards lcid ttis) k a g h = stays_by l (Discards lcid ttis) k a (discards_rests l (setting (lcid == l)) lcid ttis k (λ off. off)) h
-calls_go l (Visits maximum) k a g h = stays_by l (Visits maximum) k a (visits_rests l calm maximum k g.0 g.1) h
-calls_go l Reports k a g h = stays_by l Reports k a (reports_rests l calm k) h
-calls_go l (Listens c) k a g h = stays_by l (Listens c) k a (listens_rests l calm c k) h
-calls_go l (Loops mode) k a g h = stays_by l (Loops mode) k a (loop_set_rests l calm mode k) h
-calls_go l (Expires side lcid clock) k a g h = stays_by l (Expires side lcid clock) k a (expires_rests l calm side lcid clock k) h
+calls_go l (Bears config keys) k a g h = stays_by l (Bears config keys) k a refl (bears_rests l calm config keys k g.0 g.1) h
+calls_go l (Discards lcid ttis) k a g h = stays_by l (Discards lcid ttis) k a refl (discards_rests l (setting (lcid == l)) lcid ttis k (λ off. off)) h
+calls_go l (Visits maximum) k a g h = stays_by l (Visits maximum) k a refl (visits_rests l calm maximum k g.0 g.1) h
+calls_go l Reports k a g h = stays_by l Reports k a refl (reports_rests l calm k) h
+calls_go l (Listens c) k a g h = stays_by l (Listens c) k a refl (listens_rests l calm c k) h
+calls_go l (Loops mode) k a g h = stays_by l (Loops mode) k a refl (loop_set_rests l calm mode k) h
+calls_go l (Expires side lcid clock) k a g h = stays_by l (Expires side lcid clock) k a refl (expires_rests l calm side lcid clock k) h
 calls_go l (Forges side block) k a g h = absurd g
-calls_go l (HandsOver keys) k a g h = goes_so l k.ttis (LinkCalls (HandsOver keys)) k a (handover_stage l false keys k k.ttis a (on_both k a h)) (calls_adds (HandsOver keys) k).ttis_is
-calls_go l ReceiversExpire k a g h = stays_by l ReceiversExpire k a (receivers_rest l calm k) h
-calls_go l SendersExpire k a g h = stays_by l SendersExpire k a (senders_rest l calm k) h
+calls_go l (HandsOver keys) k a g h = goes_behind l k.ttis Renewed (LinkCalls (HandsOver keys)) k a refl (λ sent. tt) (handover_stage l false keys k k.ttis a (on_both k a h)) (calls_adds (HandsOver keys) k).ttis_is
+calls_go l ReceiversExpire k a g h = stays_by l ReceiversExpire k a refl (receivers_rest l calm k) h
+calls_go l SendersExpire k a g h = stays_by l SendersExpire k a refl (senders_rest l calm k) h
 
 -- ---- any step
 
@@ -237,7 +255,7 @@ pub steps_stay : (l : ℕ) (s : LinkStep) (k : Link) (a : Air) → IsStepSince l
 steps_stay l (Tti up_grant up down_grant down) k a g h = ttis_go l up_grant up down_grant down k a g.0 g.1 h
 steps_stay l (Drains grant) k a g h = drains_go l grant k a g h
 steps_stay l (Submit side lcid sdu) k a g h =
-    goes_so l k.ttis (Submit side lcid sdu) k a (submitting_hands l calm side lcid sdu k (Waits k.ttis) (Waits k.ttis) a (on_both k a h)) (submitting_adds side lcid sdu k).ttis_is
+    goes_so l k.ttis (Submit side lcid sdu) k a refl (submitting_hands l calm side lcid sdu k (Waits k.ttis) (Waits k.ttis) a (on_both k a h)) (submitting_adds side lcid sdu k).ttis_is
 steps_stay l (LinkCalls c) k a g h = calls_go l c k a g h
 
 pub steps_go : (l : ℕ) (s : LinkStep) (k : Link) (a : Air) → IsStepSince l s → IsOn k a → GoesOn l s k a
@@ -264,6 +282,7 @@ handovers_move l keys k a h =
         living = r.goes.living;
         told_is = r.goes.told_is;
         submitted_is = r.goes.submitted_is;
+        happened_is = λ bits from. r.goes.reads bits from [] tt;
         sets_none = r.goes.sets_none;
         on = subst (IsOn (loops n)) (sym r.goes.air_is) (both_on t (loops n) r.air (calls_adds (HandsOver keys) k).ttis_is r.both);
       };

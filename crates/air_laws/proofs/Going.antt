@@ -17,6 +17,10 @@ use Rattle.link_laws.specs.Ends.{told_by}
 use Rattle.link_laws.proofs.Going.{told_both, run_on, over_on}
 use Rattle.flow_laws.specs.Air.{Block, Station, Air, Act, Calls, Comes, Goes as LetsGo, AtNb, AtUe, Passes, calls, comes, does, passed, outset, IsCalling, IsYoung}
 use Rattle.flow_laws.specs.Channels.{GoesOnInLife}
+use Rattle.am_arrival_laws.specs.Lives.{Happening, Renews}
+use Rattle.link_laws.specs.Zero.{sent_last}
+use Rattle.channel_laws.specs.Arrival.{said_in, heard_in, said_over, heard_over, happens_in, happened}
+use Rattle.air_laws.specs.Arrival.{tells_at, tells_in}
 use Rattle.channel_laws.specs.Delivery.{submitted_in, was_submitted, sets_discard, SetNone}
 use Rattle.channel_laws.specs.Lives.{AirStep, InLife, Moves, AreLiving, lives_on, lives, end_at, brought, calls_by, calls_at, all_calls}
 use Rattle.am_laws.specs.Flow.{except}
@@ -153,52 +157,142 @@ in_life_more [] ys h k = k
 in_life_more (InLife s ∷ xs) ys h k = in_life_more xs ys h k
 in_life_more (Moves keys ∷ xs) ys h k = absurd h
 
--- where the marks say no
-pub record Goes (l : ℕ) (set : Marks) (told : List Record) (given : Side → ℕ → List (List ℕ)) (a b : Air) : Type 0 where
+-- what is known of the block that was sent last, as records are read: nothing, its octets, or nothing and that a life ended before; or they aren't read
+pub data Behind : Type 0 where
+  Any : Behind
+  Block' : List ℕ → Behind
+  Renewed : Behind
+  Unread : Behind
+
+abbrev pub Fits : Behind → List ℕ → Type 0
+Fits Any sent = Unit {0}
+Fits (Block' octets) sent = sent ≡ octets
+Fits Renewed sent = Unit {0}
+Fits Unread sent = ⊥
+
+abbrev pub ended : Behind → List Happening
+ended Any = []
+ended (Block' octets) = []
+ended Renewed = Renews ∷ []
+ended Unread = []
+
+-- the block that was sent last behind records
+abbrev pub last_in : List Record → List ℕ → List ℕ
+last_in [] sent = sent
+last_in (one ∷ told) sent = last_in told (sent_last one sent)
+
+abbrev pub Reads : ℕ → Behind → List Record → List AirStep → Air → Type 0
+Reads l c told steps a = (bits : ℕ) (from : Side) (sent : List ℕ) → Fits c sent → happened bits l from steps a ≡ ended c ++ tells_in bits l from sent told
+
+-- where the marks say no; behind what is known
+pub record GoesBehind (l : ℕ) (set : Marks) (c : Behind) (told : List Record) (given : Side → ℕ → List (List ℕ)) (a b : Air) : Type 0 where
   pub steps : List AirStep
   pub living : AreLiving l a steps
   pub told_is : (side : Side) → Tells told steps a side
   pub submitted_is : (side : Side) → Submits given steps a side
   pub sets_none : set.sets ≡ false → (side : Side) → Unset l steps a side
   pub stays : set.moves ≡ false → AreInLife steps
+  pub reads : Reads l c told steps a
   pub air_is : lives steps a ≡ b
+
+abbrev pub Goes : ℕ → Marks → List Record → (Side → ℕ → List (List ℕ)) → Air → Air → Type 0
+Goes l set told given a b = GoesBehind l set Any told given a b
 
 unset_more : (l : ℕ) (cs ds : List EndCall) → SetNone l cs → SetNone l ds → SetNone l (cs ++ ds)
 unset_more l [] ds p q = q
 unset_more l (c ∷ cs) ds p q = (p.0, unset_more l cs ds p.1 q)
 
-pub goes_then : (l : ℕ) (set : Marks) (f g : List Record) (x y : Side → ℕ → List (List ℕ)) (a b c : Air) → Goes l set f x a b → Goes l set g y b c → Goes l set (f ++ g) (λ side n. x side n ++ y side n) a c
-goes_then l set f g x y a b c p q =
+happened_more : (bits l : ℕ) (from : Side) (xs ys : List AirStep) (a : Air) → happened bits l from (xs ++ ys) a ≡ happened bits l from xs a ++ happened bits l from ys (lives xs a)
+happened_more bits l from [] ys a = refl
+happened_more bits l from (x ∷ xs) ys a =
+    ap (λ (hs : List Happening). happens_in bits l from a x ++ hs) (happened_more bits l from xs ys (lives_on a x))
+    ∙ sym (append_assoc (happens_in bits l from a x) (happened bits l from xs (lives_on a x)) (happened bits l from ys (lives xs (lives_on a x))))
+
+pub tells_more : (bits l : ℕ) (from : Side) (sent : List ℕ) (f g : List Record) → tells_in bits l from sent (f ++ g) ≡ tells_in bits l from sent f ++ tells_in bits l from (last_in f sent) g
+tells_more bits l from sent [] g = refl
+tells_more bits l from sent (one ∷ f) g =
+    ap (λ (hs : List Happening). tells_at bits l from sent one ++ hs) (tells_more bits l from (sent_last one sent) f g)
+    ∙ sym (append_assoc (tells_at bits l from sent one) (tells_in bits l from (sent_last one sent) f) (tells_in bits l from (last_in f (sent_last one sent)) g))
+
+pub behind_then : (l : ℕ) (set : Marks) (c d : Behind) (f g : List Record) (x y : Side → ℕ → List (List ℕ)) (a b e : Air) → ended d ≡ [] → ((sent : List ℕ) → Fits c sent → Fits d (last_in f sent))
+    → GoesBehind l set c f x a b → GoesBehind l set d g y b e → GoesBehind l set c (f ++ g) (λ side n. x side n ++ y side n) a e
+behind_then l set c d f g x y a b e none left p q =
     let ss = p.steps in
     let ts = q.steps in
-    let d = lives ss a in
+    let z = lives ss a in
     record {
       steps = ss ++ ts;
-      living = living_more l a ss ts p.living (subst (λ (z : Air). AreLiving l z ts) (sym p.air_is) q.living);
+      living = living_more l a ss ts p.living (subst (λ (w : Air). AreLiving l w ts) (sym p.air_is) q.living);
       told_is = λ side.
-          let second = q.told_is side ∙ ap (λ (z : Air). told_over (all_calls side ts z) (end_at side z)) (sym p.air_is) in
-          told_both side f g (told_over (all_calls side ss a) (end_at side a)) (told_over (all_calls side ts d) (end_at side d)) (p.told_is side) second ∙ sym (over_more side a ss ts);
+          let second = q.told_is side ∙ ap (λ (w : Air). told_over (all_calls side ts w) (end_at side w)) (sym p.air_is) in
+          told_both side f g (told_over (all_calls side ss a) (end_at side a)) (told_over (all_calls side ts z) (end_at side z)) (p.told_is side) second ∙ sym (over_more side a ss ts);
       submitted_is = λ side n.
-          let second = ap (λ (z : Air). was_submitted n (all_calls side ts z) (end_at side z)) p.air_is ∙ q.submitted_is side n in
-          submitted_more side n a ss ts ∙ ap (λ (s : List (List ℕ)). s ++ was_submitted n (all_calls side ts d) (end_at side d)) (p.submitted_is side n)
+          let second = ap (λ (w : Air). was_submitted n (all_calls side ts w) (end_at side w)) p.air_is ∙ q.submitted_is side n in
+          submitted_more side n a ss ts ∙ ap (λ (s : List (List ℕ)). s ++ was_submitted n (all_calls side ts z) (end_at side z)) (p.submitted_is side n)
           ∙ ap (λ (s : List (List ℕ)). x side n ++ s) second;
       sets_none = λ off side.
-          let second = subst (λ (z : Air). SetNone l (all_calls side ts z)) (sym p.air_is) (q.sets_none off side) in
-          subst (SetNone l) (sym (calls_more side a ss ts)) (unset_more l (all_calls side ss a) (all_calls side ts d) (p.sets_none off side) second);
+          let second = subst (λ (w : Air). SetNone l (all_calls side ts w)) (sym p.air_is) (q.sets_none off side) in
+          subst (SetNone l) (sym (calls_more side a ss ts)) (unset_more l (all_calls side ss a) (all_calls side ts z) (p.sets_none off side) second);
       stays = λ off. in_life_more ss ts (p.stays off) (q.stays off);
+      reads = λ bits from sent fits.
+          let one = tells_in bits l from sent f in
+          let two = tells_in bits l from (last_in f sent) g in
+          let second : happened bits l from ts z ≡ two =
+          ap (λ (w : Air). happened bits l from ts w) p.air_is ∙ (q.reads bits from (last_in f sent) (left sent fits) ∙ ap (λ (hs : List Happening). hs ++ two) none) in
+          happened_more bits l from ss ts a
+          ∙ (ap (λ (hs : List Happening). hs ++ happened bits l from ts z) (p.reads bits from sent fits)
+          ∙ (ap (λ (hs : List Happening). (ended c ++ one) ++ hs) second
+          ∙ (append_assoc (ended c) one two ∙ ap (λ (hs : List Happening). ended c ++ hs) (sym (tells_more bits l from sent f g)))));
       air_is = lives_more a ss ts ∙ ap (lives ts) p.air_is ∙ q.air_is;
     }
 
+-- what happens in the ones and then in the others
+pub happens_then : (bits : ℕ) (from : Side) (l : ℕ) (set : Marks) (c d : Behind) (f g : List Record) (x y : Side → ℕ → List (List ℕ)) (a b e : Air) (none : ended d ≡ []) (left : (sent : List ℕ) → Fits c sent → Fits d (last_in f sent))
+    (p : GoesBehind l set c f x a b) (q : GoesBehind l set d g y b e)
+    → happened bits l from (behind_then l set c d f g x y a b e none left p q).steps a ≡ happened bits l from p.steps a ++ happened bits l from q.steps b
+unfolding behind_then
+happens_then bits from l set c d f g x y a b e none left p q =
+    happened_more bits l from p.steps q.steps a ∙ ap (λ (w : Air). happened bits l from p.steps a ++ happened bits l from q.steps w) p.air_is
+
+pub goes_then : (l : ℕ) (set : Marks) (f g : List Record) (x y : Side → ℕ → List (List ℕ)) (a b c : Air) → Goes l set f x a b → Goes l set g y b c → Goes l set (f ++ g) (λ side n. x side n ++ y side n) a c
+goes_then l set f g x y a b c p q = behind_then l set Any Any f g x y a b c refl (λ sent fits. tt) p q
+
+-- where nothing has to be known, it may be
+pub weaken : (l : ℕ) (set : Marks) (c : Behind) (told : List Record) (given : Side → ℕ → List (List ℕ)) (a b : Air) → ended c ≡ [] → Goes l set told given a b → GoesBehind l set c told given a b
+weaken l set c told given a b open' p = record {
+  steps = p.steps;
+  living = p.living;
+  told_is = p.told_is;
+  submitted_is = p.submitted_is;
+  sets_none = p.sets_none;
+  stays = p.stays;
+  reads = λ bits from sent fits. p.reads bits from sent tt ∙ sym (ap (λ (hs : List Happening). hs ++ tells_in bits l from sent told) open');
+  air_is = p.air_is;
+}
+
 -- the same SDUs in another form
-pub goes_as : (l : ℕ) (set : Marks) (told : List Record) (x y : Side → ℕ → List (List ℕ)) (a b : Air) → ((side : Side) (n : ℕ) → x side n ≡ y side n) → Goes l set told x a b → Goes l set told y a b
-goes_as l set told x y a b same p = record { steps = p.steps; living = p.living; told_is = p.told_is; submitted_is = λ side n. p.submitted_is side n ∙ same side n; sets_none = p.sets_none; stays = p.stays; air_is = p.air_is }
+pub goes_as : {c : Behind} (l : ℕ) (set : Marks) (told : List Record) (x y : Side → ℕ → List (List ℕ)) (a b : Air) → ((side : Side) (n : ℕ) → x side n ≡ y side n) → GoesBehind l set c told x a b → GoesBehind l set c told y a b
+goes_as {c} l set told x y a b same p = record { steps = p.steps; living = p.living; told_is = p.told_is; submitted_is = λ side n. p.submitted_is side n ∙ same side n; sets_none = p.sets_none; stays = p.stays; reads = p.reads; air_is = p.air_is }
 
 abbrev pub none : Side → ℕ → List (List ℕ)
 none side n = []
 
+-- records that tell of nothing that goes by air
+abbrev pub TellNoAir : List Record → Type 0
+TellNoAir told = (bits l : ℕ) (from : Side) (sent : List ℕ) → tells_in bits l from sent told ≡ []
+
 -- records that tell nothing of an end
-pub goes_none : (l : ℕ) (set : Marks) (told : List Record) (a : Air) → ((side : Side) → told_by side told ≡ []) → Goes l set told none a a
-goes_none l set told a untold = record { steps = []; living = tt; told_is = untold; submitted_is = λ side n. refl; sets_none = λ off side. tt; stays = λ off. tt; air_is = refl }
+pub goes_none : (l : ℕ) (set : Marks) (c : Behind) (told : List Record) (a : Air) → ended c ≡ [] → ((side : Side) → told_by side told ≡ []) → TellNoAir told → GoesBehind l set c told none a a
+goes_none l set c told a open' untold unflown = record {
+  steps = [];
+  living = tt;
+  told_is = untold;
+  submitted_is = λ side n. refl;
+  sets_none = λ off side. tt;
+  stays = λ off. tt;
+  reads = λ bits from sent fits. sym (ap (λ (hs : List Happening). hs ++ tells_in bits l from sent told) open' ∙ unflown bits l from sent);
+  air_is = refl;
+}
 
 -- ---- one step
 
@@ -212,6 +306,17 @@ pub record Says (side : Side) (told : List Record) (given : Side → ℕ → Lis
   pub other_told : told_by (other side) told ≡ []
   pub submitted_is : (n : ℕ) → submitted_in n e c ≡ given side n
   pub other_submitted : (n : ℕ) → [] ≡ given (other side) n
+  pub says : (bits l : ℕ) (sent : List ℕ) → said_in bits l e c ≡ tells_in bits l side sent told
+  pub hears : (bits l : ℕ) (sent : List ℕ) → heard_in l e c ≡ tells_in bits l (other side) sent told
+
+-- an end's one call, by what it sends and by what it hears
+said_one : (bits l : ℕ) (e : End) (c : EndCall) → ((said_in bits l e c ++ []) ++ []) ++ [] ≡ said_in bits l e c
+said_one bits l e c =
+    let hs = said_in bits l e c in
+    append-nil ((hs ++ []) ++ []) ∙ (append-nil (hs ++ []) ∙ append-nil hs)
+
+heard_one : (l : ℕ) (e : End) (c : EndCall) → ([] ++ (heard_in l e c ++ [])) ++ [] ≡ heard_in l e c
+heard_one l e c = let hs = heard_in l e c in append-nil (hs ++ []) ∙ append-nil hs
 
 -- a call in a life, in which it sets no discard timer on the channel where `set` is false
 pub record IsPlayed (l : ℕ) (set : Marks) (c : EndCall) : Type 0 where
@@ -233,6 +338,7 @@ goes_call l set Nb told given c a g life calling x =
       submitted_is = by_sides (Submits given xs a) (λ n. append-nil (submitted_in n a.nb.end c) ∙ x.submitted_is n) x.other_submitted;
       sets_none = λ off. by_sides (Unset l xs a) (life.unset off, tt) tt;
       stays = λ off. tt;
+      reads = λ bits from sent fits. by_sides (λ (side : Side). happened bits l side xs a ≡ tells_in bits l side sent told) (said_one bits l a.nb.end c ∙ x.says bits l sent) (heard_one l a.nb.end c ∙ x.hears bits l sent) from;
       air_is = refl;
     }
 goes_call l set Ue told given c a g life calling x =
@@ -244,18 +350,28 @@ goes_call l set Ue told given c a g life calling x =
       submitted_is = by_sides (Submits given xs a) x.other_submitted (λ n. append-nil (submitted_in n a.ue.end c) ∙ x.submitted_is n);
       sets_none = λ off. by_sides (Unset l xs a) tt (life.unset off, tt);
       stays = λ off. tt;
+      reads = λ bits from sent fits. by_sides (λ (side : Side). happened bits l side xs a ≡ tells_in bits l side sent told) (heard_one l a.ue.end c ∙ x.hears bits l sent) (said_one bits l a.ue.end c ∙ x.says bits l sent) from;
       air_is = refl;
     }
 
 -- a block of the other end comes
 
+-- the records tell that it comes, of what the other end sends
+pub record Brings (l : ℕ) (c : Behind) (side : Side) (told : List Record) (octets : List ℕ) (e : End) : Type 0 where
+  pub own : (bits : ℕ) (sent : List ℕ) → Fits c sent → tells_in bits l side sent told ≡ []
+  pub far : (bits : ℕ) (sent : List ℕ) → Fits c sent → tells_in bits l (other side) sent told ≡ heard_in l e (Receive octets)
+
+none_said : (bits l : ℕ) (o : Option Block) (e : End) → (said_over bits l (brought o) e ++ []) ++ [] ≡ []
+none_said bits l None e = refl
+none_said bits l (Some b) e = refl
+
 come_unset : (l : ℕ) (o : Option Block) → SetNone l (brought o ++ [])
 come_unset l None = tt
 come_unset l (Some b) = (refl, tt)
 
-pub goes_come : (l : ℕ) (set : Marks) (side : Side) (told : List Record) (k : ℕ) (b : Block) (a : Air) → slice_get (station (other side) a).blocks k ≡ Some b → told_by side told ≡ told_of (station side a).end (Receive b.octets) → told_by (other side) told ≡ []
-    → Goes l set told none a (with_station side (record (station side a) { end = after_call (station side a).end (Receive b.octets) }) a)
-goes_come l set Nb told k b a there is untold =
+pub goes_come : (l : ℕ) (set : Marks) (c : Behind) (side : Side) (told : List Record) (k : ℕ) (b : Block) (a : Air) → ended c ≡ [] → Brings l c side told b.octets (station side a).end → slice_get (station (other side) a).blocks k ≡ Some b → told_by side told ≡ told_of (station side a).end (Receive b.octets) → told_by (other side) told ≡ []
+    → GoesBehind l set c told none a (with_station side (record (station side a) { end = after_call (station side a).end (Receive b.octets) }) a)
+goes_come l set c Nb told k b a open' brings there is untold =
     let xs : List AirStep = InLife (AtNb (Comes k)) ∷ [] in
     let e = a.nb.end in
     record {
@@ -265,9 +381,12 @@ goes_come l set Nb told k b a there is untold =
       submitted_is = by_sides (Submits none xs a) (λ n. ap (λ (o : Option Block). was_submitted n (brought o ++ []) e) there) (λ n. refl);
       sets_none = λ off. by_sides (Unset l xs a) (come_unset l (slice_get a.ue.blocks k)) tt;
       stays = λ off. tt;
+      reads = λ bits from sent fits. by_sides (λ (s : Side). happened bits l s xs a ≡ ended c ++ tells_in bits l s sent told)
+          (none_said bits l (slice_get a.ue.blocks k) e ∙ sym (ap (λ (hs : List Happening). hs ++ tells_in bits l Nb sent told) open' ∙ brings.own bits sent fits))
+          (ap (λ (o : Option Block). ([] ++ heard_over l (brought o) e) ++ []) there ∙ (heard_one l e (Receive b.octets) ∙ sym (ap (λ (hs : List Happening). hs ++ tells_in bits l Ue sent told) open' ∙ brings.far bits sent fits))) from;
       air_is = ap (λ (o : Option Block). record a { nb = comes a.nb o }) there;
     }
-goes_come l set Ue told k b a there is untold =
+goes_come l set c Ue told k b a open' brings there is untold =
     let xs : List AirStep = InLife (AtUe (Comes k)) ∷ [] in
     let e = a.ue.end in
     record {
@@ -277,14 +396,17 @@ goes_come l set Ue told k b a there is untold =
       submitted_is = by_sides (Submits none xs a) (λ n. refl) (λ n. ap (λ (o : Option Block). was_submitted n (brought o ++ []) e) there);
       sets_none = λ off. by_sides (Unset l xs a) tt (come_unset l (slice_get a.nb.blocks k));
       stays = λ off. tt;
+      reads = λ bits from sent fits. by_sides (λ (s : Side). happened bits l s xs a ≡ ended c ++ tells_in bits l s sent told)
+          (ap (λ (o : Option Block). ([] ++ heard_over l (brought o) e) ++ []) there ∙ (heard_one l e (Receive b.octets) ∙ sym (ap (λ (hs : List Happening). hs ++ tells_in bits l Nb sent told) open' ∙ brings.far bits sent fits)))
+          (none_said bits l (slice_get a.nb.blocks k) e ∙ sym (ap (λ (hs : List Happening). hs ++ tells_in bits l Ue sent told) open' ∙ brings.own bits sent fits)) from;
       air_is = ap (λ (o : Option Block). record a { ue = comes a.ue o }) there;
     }
 
 -- both ends move
 
-pub goes_move : (l : ℕ) (set : Bool) (told : List Record) (keys : Keys) (a : Air) → told_by Nb told ≡ leaving a.nb.end → told_by Ue told ≡ leaving a.ue.end
-    → Goes l (moving set) told none a (outset (after_call a.nb.end (Move keys)) (after_call a.ue.end (Move keys)))
-goes_move l set told keys a nb ue =
+pub goes_move : (l : ℕ) (set : Bool) (told : List Record) (keys : Keys) (a : Air) → TellNoAir told → told_by Nb told ≡ leaving a.nb.end → told_by Ue told ≡ leaving a.ue.end
+    → GoesBehind l (moving set) Renewed told none a (outset (after_call a.nb.end (Move keys)) (after_call a.ue.end (Move keys)))
+goes_move l set told keys a unflown nb ue =
     let xs : List AirStep = Moves keys ∷ [] in
     record {
       steps = xs;
@@ -293,6 +415,8 @@ goes_move l set told keys a nb ue =
       submitted_is = by_sides (Submits none xs a) (λ n. refl) (λ n. refl);
       sets_none = λ off. by_sides (Unset l xs a) (refl, tt) (refl, tt);
       stays = λ off. absurd cc;
+      reads = λ bits from sent fits. by_sides (λ (s : Side). happened bits l s xs a ≡ Renews ∷ tells_in bits l s sent told)
+          (ap (λ (hs : List Happening). Renews ∷ hs) (sym (unflown bits l Nb sent))) (ap (λ (hs : List Happening). Renews ∷ hs) (sym (unflown bits l Ue sent))) from;
       air_is = refl;
     }
 
@@ -301,14 +425,14 @@ goes_move l set told keys a nb ue =
 goes_one : (l : ℕ) (set : Marks) (side : Side) (k : ℕ) (a : Air) → Goes l set [] none a (with_station side (record (station side a) { blocks = except k (station side a).blocks }) a)
 goes_one l set Nb k a =
     let xs : List AirStep = InLife (AtNb (LetsGo k)) ∷ [] in
-    record { steps = xs; living = (tt, tt); told_is = by_sides (Tells [] xs a) refl refl; submitted_is = by_sides (Submits none xs a) (λ n. refl) (λ n. refl); sets_none = λ off. by_sides (Unset l xs a) tt tt; stays = λ off. tt; air_is = refl }
+    record { steps = xs; living = (tt, tt); told_is = by_sides (Tells [] xs a) refl refl; submitted_is = by_sides (Submits none xs a) (λ n. refl) (λ n. refl); sets_none = λ off. by_sides (Unset l xs a) tt tt; stays = λ off. tt; reads = λ bits from sent fits. by_sides (λ (s : Side). happened bits l s xs a ≡ []) refl refl from; air_is = refl }
 goes_one l set Ue k a =
     let xs : List AirStep = InLife (AtUe (LetsGo k)) ∷ [] in
-    record { steps = xs; living = (tt, tt); told_is = by_sides (Tells [] xs a) refl refl; submitted_is = by_sides (Submits none xs a) (λ n. refl) (λ n. refl); sets_none = λ off. by_sides (Unset l xs a) tt tt; stays = λ off. tt; air_is = refl }
+    record { steps = xs; living = (tt, tt); told_is = by_sides (Tells [] xs a) refl refl; submitted_is = by_sides (Submits none xs a) (λ n. refl) (λ n. refl); sets_none = λ off. by_sides (Unset l xs a) tt tt; stays = λ off. tt; reads = λ bits from sent fits. by_sides (λ (s : Side). happened bits l s xs a ≡ []) refl refl from; air_is = refl }
 
 goes_all : (l : ℕ) (set : Marks) (side : Side) (ks : List ℕ) (a : Air) → Goes l set [] none a (with_station side (record (station side a) { blocks = without ks (station side a).blocks }) a)
-goes_all l set Nb [] a = goes_none l set [] a (λ side. refl)
-goes_all l set Ue [] a = goes_none l set [] a (λ side. refl)
+goes_all l set Nb [] a = goes_none l set Any [] a refl (λ side. refl) (λ bits l from sent. refl)
+goes_all l set Ue [] a = goes_none l set Any [] a refl (λ side. refl) (λ bits l from sent. refl)
 goes_all l set Nb (k ∷ ks) a =
     let b : Air = record a { nb = record a.nb { blocks = except k a.nb.blocks } } in
     goes_then l set [] [] none none a b (record a { nb = record a.nb { blocks = without (k ∷ ks) a.nb.blocks } }) (goes_one l set Nb k a) (goes_all l set Nb ks b)
@@ -343,5 +467,6 @@ goes_pass l set t a nb ue =
       submitted_is = by_sides (Submits none xs a) (λ n. refl) (λ n. refl);
       sets_none = λ off. by_sides (Unset l xs a) tt tt;
       stays = λ off. tt;
+      reads = λ bits from sent fits. by_sides (λ (s : Side). happened bits l s xs a ≡ []) refl refl from;
       air_is = refl;
     }

@@ -92,7 +92,7 @@ run_since before config keys ss g =
     let nb_keeps : Keeps l Nb nb = record { come = come_more Nb k.nb (Add config keys) yet.rest.nb.come g.1; bearer = nb_has } in
     let ue_keeps : Keeps l Ue ue = record { come = come_more Ue k.ue (Add config keys) yet.rest.ue.come g.1; bearer = ue_has } in
     let came = bearers_live config keys k g.1 g.2 yet.rest in
-    let x = runs_live l nb ue [] none_yet false ss (run_goes (Calls (Bears config keys)) r) g.3 refl (ends_live l nb ue [] none_yet false (bears config keys k) (emptied (bears config keys k)) refl refl refl came.lived) in
+    let x = runs_live l nb ue [] none_yet (λ bits from. []) false ss (run_goes (Calls (Bears config keys)) r) g.3 refl (ends_live l nb ue [] none_yet (λ bits from. []) false (bears config keys k) (emptied (bears config keys k)) refl refl refl came.lived) in
     let h = x.lived.by in
     let same = run_more (map Calls before) (Calls (Bears config keys) ∷ ss) at_first in
     record {

@@ -20,13 +20,16 @@ use Rattle.link_laws.specs.Calls.{Bears}
 use Rattle.link_laws.specs.Ends.{told_by}
 use Rattle.link_laws.specs.Runs.{Step, Run, step, emptied, goes as run_goes, goes_on as run_on}
 use Rattle.flow_laws.specs.Air.{Air, outset, HasCome}
+use Rattle.am_arrival_laws.specs.Lives.{Happening}
+use Rattle.channel_laws.specs.Arrival.{happened}
 use Rattle.channel_laws.specs.Lives.{lives, end_at}
+use Rattle.air_laws.specs.Arrival.{told_by_step}
 use Rattle.air_laws.specs.Going.{handed_in, looped_at, sets, GoesByAir, IsStepSince}
-use Rattle.air_laws.specs.Lived.{HasBearer, Lived, IsAcknowledged, none_yet, BearersCome, LivesOn, AreStepsSince, submitted_in, sets_in, RunsOn}
+use Rattle.air_laws.specs.Lived.{HasBearer, Lived, IsAcknowledged, none_yet, BearersCome, LivesOn, AreStepsSince, submitted_in, said_in, sets_in, RunsOn}
 use Rattle.air_laws.specs.Lives.{IsAtRest}
 use Rattle.air_laws.specs.On.{until, IsStation, IsOn}
 use Rattle.air_laws.proofs.Advancing.{steps_go}
-use Rattle.air_laws.proofs.Going.{moving, Goes, goes_then}
+use Rattle.air_laws.proofs.Going.{moving, Unread, GoesBehind, behind_then, happens_then}
 use Rattle.air_laws.proofs.Keeping.{Keeps, steps_keep}
 use Rattle.air_laws.proofs.Lives.{calls_rest}
 
@@ -46,13 +49,13 @@ both_have : (l : ℕ) (k : Link) → HasBearer l k.nb → HasBearer l k.ue → (
 both_have l k nb ue Nb = nb
 both_have l k nb ue Ue = ue
 
-pub ends_live : (l : ℕ) (nb ue : End) (told : List Record) (submitted : Side → ℕ → List (List ℕ)) (set : Bool) (k m : Link)
-    → m.nb ≡ k.nb → m.ue ≡ k.ue → m.ttis ≡ k.ttis → Lived l nb ue told submitted set k → Lived l nb ue told submitted set m
-ends_live l nb ue told submitted set k m nb_is ue_is ttis_is h =
+pub ends_live : (l : ℕ) (nb ue : End) (told : List Record) (submitted : Side → ℕ → List (List ℕ)) (said : ℕ → Side → List Happening) (set : Bool) (k m : Link)
+    → m.nb ≡ k.nb → m.ue ≡ k.ue → m.ttis ≡ k.ttis → Lived l nb ue told submitted said set k → Lived l nb ue told submitted said set m
+ends_live l nb ue told submitted said set k m nb_is ue_is ttis_is h =
     let x = h.by in
     let a = lives x.steps (outset nb ue) in
     record {
-      by = record { steps = x.steps; living = x.living; told_is = x.told_is; submitted_is = x.submitted_is; sets_none = x.sets_none; on = same_on k m a nb_is ue_is ttis_is x.on };
+      by = record { steps = x.steps; living = x.living; told_is = x.told_is; submitted_is = x.submitted_is; happened_is = x.happened_is; sets_none = x.sets_none; on = same_on k m a nb_is ue_is ttis_is x.on };
       bearers = both_have l m (subst (HasBearer l) (sym nb_is) (h.bearers Nb)) (subst (HasBearer l) (sym ue_is) (h.bearers Ue));
     }
 
@@ -80,7 +83,7 @@ bearers_live config keys k g kind h =
     record {
       out_is = refl;
       lived = record {
-        by = record { steps = []; living = tt; told_is = λ side. refl; submitted_is = λ side n. refl; sets_none = λ off side. tt; on = calls_rest (Bears config keys) k g tt h };
+        by = record { steps = []; living = tt; told_is = λ side. refl; submitted_is = λ side n. refl; happened_is = λ bits from. refl; sets_none = λ off side. tt; on = calls_rest (Bears config keys) k g tt h };
         bearers = both_have config.channel.lcid m (added_bearer k.nb config keys kind) (added_bearer k.ue config keys kind);
       };
     }
@@ -103,15 +106,23 @@ pub either_off : (x y : Bool) → (x || y) ≡ false → (x ≡ false) × (y ≡
 either_off true y e = absurd cc
 either_off false y e = (refl, e)
 
-by_goes : (l : ℕ) (told : List Record) (submitted : Side → ℕ → List (List ℕ)) (set whole : Bool) (m : Link) (a : Air) (x : GoesByAir l told submitted set m a) → (whole ≡ false → set ≡ false) → Goes l (moving whole) told submitted a (lives x.steps a)
-by_goes l told submitted set whole m a x off = record { steps = x.steps; living = x.living; told_is = x.told_is; submitted_is = x.submitted_is; sets_none = λ e. x.sets_none (off e); stays = λ e. absurd cc; air_is = refl }
+abbrev Goes : ℕ → Bool → List Record → (Side → ℕ → List (List ℕ)) → Air → Air → Type 0
+Goes l set told given a b = GoesBehind l (moving set) Unread told given a b
 
-goes_by : (l : ℕ) (told : List Record) (submitted : Side → ℕ → List (List ℕ)) (set : Bool) (m : Link) (a b : Air) → Goes l (moving set) told submitted a b → IsOn m b → GoesByAir l told submitted set m a
-goes_by l told submitted set m a b x on = record { steps = x.steps; living = x.living; told_is = x.told_is; submitted_is = x.submitted_is; sets_none = x.sets_none; on = subst (IsOn m) (sym x.air_is) on }
+by_goes : (l : ℕ) (told : List Record) (submitted : Side → ℕ → List (List ℕ)) (said : ℕ → Side → List Happening) (set whole : Bool) (m : Link) (a : Air) (x : GoesByAir l told submitted said set m a) → (whole ≡ false → set ≡ false)
+    → Goes l whole told submitted a (lives x.steps a)
+by_goes l told submitted said set whole m a x off =
+    record { steps = x.steps; living = x.living; told_is = x.told_is; submitted_is = x.submitted_is; sets_none = λ e. x.sets_none (off e); stays = λ e. absurd cc; reads = λ bits from sent fits. absurd fits; air_is = refl }
 
-pub steps_live : (l : ℕ) (nb ue : End) (told : List Record) (submitted : Side → ℕ → List (List ℕ)) (set : Bool) (s : Step) (k : Link) → IsStepSince l s → Lived l nb ue told submitted set k
-    → LivesOn l nb ue told submitted set s k
-steps_live l nb ue told submitted set s k g h =
+goes_by : (l : ℕ) (told : List Record) (submitted : Side → ℕ → List (List ℕ)) (said : ℕ → Side → List Happening) (set : Bool) (m : Link) (a b : Air) (x : Goes l set told submitted a b)
+    → ((bits : ℕ) (from : Side) → happened bits l from x.steps a ≡ said bits from) → IsOn m b → GoesByAir l told submitted said set m a
+goes_by l told submitted said set m a b x happened on =
+    record { steps = x.steps; living = x.living; told_is = x.told_is; submitted_is = x.submitted_is; happened_is = happened; sets_none = x.sets_none; on = subst (IsOn m) (sym x.air_is) on }
+
+pub steps_live : (l : ℕ) (nb ue : End) (told : List Record) (submitted : Side → ℕ → List (List ℕ)) (said : ℕ → Side → List Happening) (set : Bool) (s : Step) (k : Link) → IsStepSince l s → Lived l nb ue told submitted said set k
+    → LivesOn l nb ue told submitted said set s k
+unfolding by_goes
+steps_live l nb ue told submitted said set s k g h =
     let a = outset nb ue in
     let b = lives h.by.steps a in
     let m = step s k in
@@ -119,14 +130,21 @@ steps_live l nb ue told submitted set s k g h =
     let y = x.by in
     let sets_any = set || sets l s in
     let more : Side → ℕ → List (List ℕ) = λ side n. handed_in side n s k ++ looped_at side n x.more in
-    let before = by_goes l told submitted set sets_any k a h.by (λ e. (either_off set (sets l s) e).0) in
-    let behind = by_goes l x.more more (sets l s) sets_any m b y (λ e. (either_off set (sets l s) e).1) in
-    let whole = goes_then l (moving sets_any) told x.more submitted more a b (lives y.steps b) before behind in
+    let tells : ℕ → Side → List Happening = λ bits from. told_by_step bits l from s x.more in
+    let c = lives y.steps b in
+    let before = by_goes l told submitted said set sets_any k a h.by (λ e. (either_off set (sets l s) e).0) in
+    let behind = by_goes l x.more more tells (sets l s) sets_any m b y (λ e. (either_off set (sets l s) e).1) in
+    let whole = behind_then l (moving sets_any) Unread Unread told x.more submitted more a b c refl (λ sent fits. absurd fits) before behind in
+    let happens : (bits : ℕ) (from : Side) → happened bits l from whole.steps a ≡ said bits from ++ tells bits from =
+    λ bits from.
+    happens_then bits from l (moving sets_any) Unread Unread told x.more submitted more a b c refl (λ sent fits. absurd fits) before behind
+    ∙ (ap (λ (hs : List Happening). hs ++ happened bits l from y.steps b) (h.by.happened_is bits from) ∙ ap (λ (hs : List Happening). said bits from ++ hs) (y.happened_is bits from)) in
     record {
       more = x.more;
       out_is = x.out_is;
+      alone = x.alone;
       lived = record {
-        by = goes_by l (told ++ x.more) (λ side n. submitted side n ++ more side n) sets_any m a (lives y.steps b) whole y.on;
+        by = goes_by l (told ++ x.more) (λ side n. submitted side n ++ more side n) (λ bits from. said bits from ++ tells bits from) sets_any m a c whole happens y.on;
         bearers = λ side. subst (HasBearer l) (on_end side m (lives y.steps b) y.on) (steps_keep l side b y.steps y.living (keeps_at l side k b h.by.on (h.bearers side))).bearer;
       };
     }
@@ -134,13 +152,15 @@ steps_live l nb ue told submitted set s k g h =
 -- ---- any steps since
 
 -- the same records and SDUs in another form
-lived_as : (l : ℕ) (nb ue : End) (f g : List Record) (x y : Side → ℕ → List (List ℕ)) (b c : Bool) (k : Link) → f ≡ g → ((side : Side) (n : ℕ) → x side n ≡ y side n) → b ≡ c → Lived l nb ue f x b k → Lived l nb ue g y c k
-lived_as l nb ue f g x y b c k told same on h = record {
+lived_as : (l : ℕ) (nb ue : End) (f g : List Record) (x y : Side → ℕ → List (List ℕ)) (s t : ℕ → Side → List Happening) (b c : Bool) (k : Link) → f ≡ g → ((side : Side) (n : ℕ) → x side n ≡ y side n)
+    → ((bits : ℕ) (from : Side) → s bits from ≡ t bits from) → b ≡ c → Lived l nb ue f x s b k → Lived l nb ue g y t c k
+lived_as l nb ue f g x y s t b c k told same alike on h = record {
   by = record {
     steps = h.by.steps;
     living = h.by.living;
     told_is = λ side. ap (told_by side) (sym told) ∙ h.by.told_is side;
     submitted_is = λ side n. h.by.submitted_is side n ∙ same side n;
+    happened_is = λ bits from. h.by.happened_is bits from ∙ alike bits from;
     sets_none = λ off. h.by.sets_none (on ∙ off);
     on = h.by.on;
   };
@@ -155,29 +175,35 @@ any_more : (x y z : Bool) → ((x || y) || z) ≡ (x || (y || z))
 any_more true y z = refl
 any_more false y z = refl
 
-pub runs_live : (l : ℕ) (nb ue : End) (told : List Record) (submitted : Side → ℕ → List (List ℕ)) (set : Bool) (ss : List Step) (r : Run)
-    → AreStepsSince l ss → r.link.out ≡ [] → Lived l nb ue told submitted set r.link → RunsOn l nb ue told submitted set ss r
-runs_live l nb ue told submitted set [] r g none_yet h = record {
+pub runs_live : (l : ℕ) (nb ue : End) (told : List Record) (submitted : Side → ℕ → List (List ℕ)) (said : ℕ → Side → List Happening) (set : Bool) (ss : List Step) (r : Run)
+    → AreStepsSince l ss → r.link.out ≡ [] → Lived l nb ue told submitted said set r.link → RunsOn l nb ue told submitted said set ss r
+runs_live l nb ue told submitted said set [] r g none_yet h = record {
   more = [];
   journal_is = sym (append-nil r.journal);
-  lived = lived_as l nb ue told (told ++ []) submitted (λ side n. submitted side n ++ []) set (set || false) r.link (sym (append-nil told)) (λ side n. sym (append-nil (submitted side n))) (any_none set) h;
+  lived = lived_as l nb ue told (told ++ []) submitted (λ side n. submitted side n ++ []) said (λ bits from. said bits from ++ []) set (set || false) r.link (sym (append-nil told)) (λ side n. sym (append-nil (submitted side n)))
+      (λ bits from. sym (append-nil (said bits from))) (any_none set) h;
 }
-runs_live l nb ue told submitted set (s ∷ ss) r g none_yet h =
+runs_live l nb ue told submitted said set (s ∷ ss) r g none_yet h =
     let k = r.link in
     let m = step s k in
-    let x = steps_live l nb ue told submitted set s k g.0 h in
+    let x = steps_live l nb ue told submitted said set s k g.0 h in
     let all : m.out ≡ x.more = x.out_is ∙ ap (λ (o : List Record). o ++ x.more) none_yet in
     let before : Side → ℕ → List (List ℕ) = λ side n. submitted side n ++ (handed_in side n s k ++ looped_at side n x.more) in
+    let heard : ℕ → Side → List Happening = λ bits from. said bits from ++ told_by_step bits l from s x.more in
     let sets_yet = set || sets l s in
     let q = run_goes s r in
-    let rest = runs_live l nb ue (told ++ x.more) before sets_yet ss q g.1 refl (ends_live l nb ue (told ++ x.more) before sets_yet m (emptied m) refl refl refl x.lived) in
+    let rest = runs_live l nb ue (told ++ x.more) before heard sets_yet ss q g.1 refl (ends_live l nb ue (told ++ x.more) before heard sets_yet m (emptied m) refl refl refl x.lived) in
     record {
       more = x.more ++ rest.more;
       journal_is = rest.journal_is ∙ ap (λ (o : List Record). (r.journal ++ o) ++ rest.more) all ∙ append_assoc r.journal x.more rest.more;
       lived = lived_as l nb ue ((told ++ x.more) ++ rest.more) (told ++ (x.more ++ rest.more)) (λ side n. before side n ++ submitted_in side n ss q) (λ side n. submitted side n ++ submitted_in side n (s ∷ ss) r)
+          (λ bits from. heard bits from ++ said_in bits l from ss q) (λ bits from. said bits from ++ said_in bits l from (s ∷ ss) r)
           (sets_yet || sets_in l ss) (set || sets_in l (s ∷ ss)) (run_on ss q).link (append_assoc told x.more rest.more)
           (λ side n.
           append_assoc (submitted side n) (handed_in side n s k ++ looped_at side n x.more) (submitted_in side n ss q)
           ∙ ap (λ (o : List Record). submitted side n ++ ((handed_in side n s k ++ looped_at side n o) ++ submitted_in side n ss q)) (sym all))
+          (λ bits from.
+          append_assoc (said bits from) (told_by_step bits l from s x.more) (said_in bits l from ss q)
+          ∙ ap (λ (o : List Record). said bits from ++ (told_by_step bits l from s o ++ said_in bits l from ss q)) (sym all))
           (any_more set (sets l s) (sets_in l ss)) rest.lived;
     }

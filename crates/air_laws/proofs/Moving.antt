@@ -20,9 +20,12 @@ use Rattle.flow_laws.specs.Air.{Station, Air, begins, outset, HasCome}
 use Rattle.flow_laws.proofs.Stations.{come_more}
 use Rattle.air_laws.specs.Going.{loops_in}
 use Rattle.air_laws.specs.On.{until, block_at, IsStation}
-use Rattle.air_laws.proofs.Going.{moving, goes_move}
+use Rattle.am_arrival_laws.specs.Lives.{Happening}
+use Rattle.node_laws.proofs.Silences.{writes_nothing}
+use Rattle.air_laws.specs.Arrival.{tells_in}
+use Rattle.air_laws.proofs.Going.{moving, Any, Renewed, last_in, TellNoAir, tells_more, goes_move}
 use Rattle.air_laws.proofs.Resting.{loops_rests}
-use Rattle.air_laws.proofs.Stages.{Both, Stands, Stage, stage_then, events_unlooped, looped_more, unlooped_goes}
+use Rattle.air_laws.proofs.Stages.{Both, StageBehind, stages_then, quiet_events, Stands, events_unlooped, looped_more, unlooped_goes}
 use Rattle.air_laws.proofs.Stations.{Waits}
 
 -- ---- processes that hold nothing, with 1 to 28 visits of a block
@@ -57,6 +60,9 @@ moved_empty e keys some few = fresh_empty e.sender.maximum some few
 moved_stands : (side : Side) (w : ℕ → ℕ) (t : ℕ) (s : Station) (keys : Keys) → IsStation side w s → Stands side (Waits t) (begins (after_call s.end (Move keys)))
 moved_stands side w t s keys h = record { is = begun side (until t) (after_call s.end (Move keys)) (come_more side s.end (Move keys) h.come tt) (moved_empty s.end keys h.some h.few); idle = refl }
 
+both_quiet : (f g : List Record) → TellNoAir f → TellNoAir g → TellNoAir (f ++ g)
+both_quiet f g p q bits l from sent = tells_more bits l from sent f g ∙ (ap (λ (hs : List Happening). hs ++ tells_in bits l from (last_in f sent) g) (p bits l from sent) ∙ q bits l from (last_in f sent))
+
 -- what they hand up as they leave is told
 abbrev pub left_told : Link → List Record
 left_told k = map (records.Of Nb) (leaving k.nb) ++ map (records.Of Ue) (leaving k.ue)
@@ -69,6 +75,7 @@ pub record Moved (keys : Keys) (k : Link) (t : ℕ) (a : Air) : Type 0 where
   pub nb_told : told_by Nb (left_told k) ≡ leaving a.nb.end
   pub ue_told : told_by Ue (left_told k) ≡ leaving a.ue.end
   pub unlooped : (i : ℕ) → loops_in i (left_told k) ≡ []
+  pub unflown : TellNoAir (left_told k)
   pub both : Both (Stands Nb (Waits t)) (Stands Ue (Waits t)) (moved_link keys k) (outset (after_call a.nb.end (Move keys)) (after_call a.ue.end (Move keys)))
 
 pub moved_so : (keys : Keys) (k : Link) (t : ℕ) (a : Air) → Both (Stands Nb (Waits t)) (Stands Ue (Waits t)) k a → Moved keys k t a
@@ -88,6 +95,7 @@ moved_so keys k t a h =
       nb_told = told_both Nb xs ys (leaving k.nb) [] (own_told Nb (leaving k.nb) (tells_no_loop k.nb (Move keys))) (other_told Ue (leaving k.ue)) ∙ append-nil (leaving k.nb) ∙ ap leaving (sym h.nb_is);
       ue_told = told_both Ue xs ys [] (leaving k.ue) (other_told Nb (leaving k.nb)) (own_told Ue (leaving k.ue) (tells_no_loop k.ue (Move keys))) ∙ ap leaving (sym h.ue_is);
       unlooped = λ i. sym (looped_more Ue i xs ys) ∙ ap (λ (x : List (List ℕ)). x ++ loops_in i ys) (events_unlooped i Nb (leaving k.nb)) ∙ events_unlooped i Ue (leaving k.ue);
+      unflown = both_quiet xs ys (quiet_events Nb (leaving k.nb) (writes_nothing k.nb).moving) (quiet_events Ue (leaving k.ue) (writes_nothing k.ue).moving);
       both = record {
         nb_is = ap (λ (e : End). after_call e (Move keys)) h.nb_is ∙ sym (ap (λ (s : Seen). s.nb) n_seen);
         ue_is = ap (λ (e : End). after_call e (Move keys)) h.ue_is ∙ sym (ap (λ (s : Seen). s.ue) n_seen);
@@ -97,7 +105,7 @@ moved_so keys k t a h =
     }
 
 move_stage : (l : ℕ) (set : Bool) (keys : Keys) (k : Link) (t : ℕ)
-    → Stage l (moving set) (Stands Nb (Waits t)) (Stands Ue (Waits t)) (Stands Nb (Waits t)) (Stands Ue (Waits t)) k (moved_link keys k)
+    → StageBehind l (moving set) Renewed Any (Stands Nb (Waits t)) (Stands Ue (Waits t)) (Stands Nb (Waits t)) (Stands Ue (Waits t)) k (moved_link keys k)
 move_stage l set keys k t a h =
     let m = moved_so keys k t a h in
     let b = outset (after_call a.nb.end (Move keys)) (after_call a.ue.end (Move keys)) in
@@ -105,14 +113,15 @@ move_stage l set keys k t a h =
       air = b;
       more = left_told k;
       out_is = m.out_is;
-      goes = unlooped_goes l (moving set) (left_told k) a b m.unlooped (goes_move l set (left_told k) keys a m.nb_told m.ue_told);
+      goes = unlooped_goes l (moving set) (left_told k) a b m.unlooped (goes_move l set (left_told k) keys a m.unflown m.nb_told m.ue_told);
+      left = λ sent fits. tt;
       both = m.both;
     }
 
-pub handover_stage : (l : ℕ) (set : Bool) (keys : Keys) (k : Link) (t : ℕ) → Stage l (moving set) (Stands Nb (Waits t)) (Stands Ue (Waits t)) (Stands Nb (Waits t)) (Stands Ue (Waits t)) k (hands_over keys k)
+pub handover_stage : (l : ℕ) (set : Bool) (keys : Keys) (k : Link) (t : ℕ) → StageBehind l (moving set) Renewed Any (Stands Nb (Waits t)) (Stands Ue (Waits t)) (Stands Nb (Waits t)) (Stands Ue (Waits t)) k (hands_over keys k)
 unfolding hands_over
 handover_stage l set keys k t =
     let n = moved_link keys k in
     let P = Stands Nb (Waits t) in
     let Q = Stands Ue (Waits t) in
-    stage_then l (moving set) P Q P Q P Q k n (loops n) (move_stage l set keys k t) (loops_rests l (moving set) n (Waits t) (Waits t))
+    stages_then l (moving set) Renewed Any Any refl P Q P Q P Q k n (loops n) (move_stage l set keys k t) (loops_rests l (moving set) n (Waits t) (Waits t))

@@ -1,6 +1,6 @@
 -- The stages of a link in which no process is visited: timers, the test loop, submissions and most lines.
 use Rattle.std.proofs.Common.{◌≡◌, ℕ, ◌+◌, ◌==◌, Bool, true, false, cond, if◌then◌else◌, Option, Some, None, List, [], ◌∷◌, ◌++◌, map, append-nil, refl, ap, sym, ◌∙◌}
-use Rattle.std.specs.Prelude.{unwrap_or}
+use Rattle.std.specs.Prelude.{unwrap_or, IfSome}
 use Rattle.air_link.specs.Draining.{timer_expires, receiver_expires, all_receivers_expire, receivers_expire, all_senders_expire, senders_expire}
 use Rattle.air_link.specs.Lines.{discards, reports, listens, no_place, submits_by, submitting, expires_by, expiring, expires_alone, expires}
 use Rattle.air_link.specs.Link.{Link, end_of, with_end, all_lcids}
@@ -12,7 +12,7 @@ use Rattle.bearer_types.specs.declared.event.Event.{Event}
 use Rattle.l2_bits.specs.declared.fault.SubmitRefusal.{SubmitRefusal}
 use Rattle.l2_node.specs.End.{End}
 use Rattle.l2_node.specs.Finding.{has}
-use Rattle.l2_node.specs.Hearing.{ticked, expired}
+use Rattle.l2_node.specs.Hearing.{ticked, expiry, expired}
 use Rattle.l2_node.specs.Submitting.{refusal, submitted, discarding}
 use Rattle.l2_types.specs.declared.event.Clock.{Clock}
 use Rattle.l2_types.specs.declared.event.Clock.TheVariants.{Poll, Reorder, Prohibit}
@@ -34,7 +34,13 @@ use Rattle.link_laws.proofs.Going.{own_told, other_told, Seen, told_seen}
 use Rattle.channel_laws.specs.Delivery.{accepted, submitted_in}
 use Rattle.air_laws.specs.Going.{handed_in, looped_at}
 use Rattle.air_laws.proofs.Going.{Marks, Says, IsPlayed, none}
-use Rattle.air_laws.proofs.Stages.{Stands, Hands, hands_none, Rests, rests_then, events_unlooped, says_stage, says_rests, still_rests, IsPlain, says_nothing, called_nb, called_ue, called_rests}
+use Rattle.node_laws.specs.Writing.{TellNone}
+use Rattle.node_laws.proofs.Silences.{writes_nothing}
+use Rattle.bearer_types.specs.declared.event.Event.TheVariants.{Drop}
+use Rattle.l2_types.specs.declared.event.Lost.TheVariants as losts
+use Rattle.flow_laws.specs.Ups.{told_on}
+use Rattle.delivery_laws.specs.Arrival.{gives}
+use Rattle.air_laws.proofs.Stages.{says_so, none_flown, none_if as hushed, unwritten, quiet_events, Stands, Hands, hands_none, Rests, rests_then, events_unlooped, says_stage, says_rests, still_rests, IsPlain, says_nothing, called_nb, called_ue, called_rests}
 use Rattle.air_laws.proofs.Stations.{Moment}
 
 -- ---- an end's call
@@ -44,27 +50,28 @@ pub call_rests : (l : ℕ) (set : Marks) (side : Side) (c : EndCall) (k : Link) 
     → Rests l set k (with_end side (after_call (end_of side k) c) k)
 call_rests l set Nb c k plain g life keeps untold unsaid =
     called_rests l set Nb c [] none k (with_end Nb (after_call k.nb c) k) life
-    (record { plain = plain; given = g; keeps = keeps; end_is = refl; other_is = refl; out_is = sym (append-nil k.out); says = says_nothing Nb k.nb c untold unsaid })
+    (record { plain = plain; given = g; keeps = keeps; end_is = refl; other_is = refl; out_is = sym (append-nil k.out); says = says_nothing Nb k.nb c plain life.moves_none untold unsaid })
 call_rests l set Ue c k plain g life keeps untold unsaid =
     called_rests l set Ue c [] none k (with_end Ue (after_call k.ue c) k) life
-    (record { plain = plain; given = g; keeps = keeps; end_is = refl; other_is = refl; out_is = sym (append-nil k.out); says = says_nothing Ue k.ue c untold unsaid })
+    (record { plain = plain; given = g; keeps = keeps; end_is = refl; other_is = refl; out_is = sym (append-nil k.out); says = says_nothing Ue k.ue c plain life.moves_none untold unsaid })
 
 -- and in which it tells what it tells
-tells_rests : (l : ℕ) (set : Marks) (side : Side) (c : EndCall) (k : Link) → IsPlain c → IsGivenTo c → IsPlayed l set c → ((e : End) → (after_call e c).sender ≡ e.sender) → ((n : ℕ) → submitted_in n (end_of side k) c ≡ [])
+tells_rests : (l : ℕ) (set : Marks) (side : Side) (c : EndCall) (k : Link) → IsPlain c → IsGivenTo c → IsPlayed l set c → ((e : End) → (after_call e c).sender ≡ e.sender) → ((n : ℕ) → submitted_in n (end_of side k) c ≡ []) → TellNone (told_of (end_of side k) c)
     → Rests l set k (tells_all side (told_of (end_of side k) c) (with_end side (after_call (end_of side k) c) k))
-tells_rests l set Nb c k plain g life keeps unsaid =
+tells_rests l set Nb c k plain g life keeps unsaid quiet =
     let es = told_of k.nb c in
     let told = map (records.Of Nb) es in
     let same = told_seen Nb es (with_end Nb (after_call k.nb c) k) in
-    let x : Says Nb told (λ s n. looped_at s n told) k.nb c = record { told_is = own_told Nb es (tells_no_loop k.nb c); other_told = other_told Nb es; submitted_is = unsaid; other_submitted = λ n. sym (events_unlooped n Nb es) } in
+    let x : Says Nb told (λ s n. looped_at s n told) k.nb c =
+    says_so Nb told (λ s n. looped_at s n told) k.nb c plain life.moves_none (quiet_events Nb es quiet) (own_told Nb es (tells_no_loop k.nb c)) (other_told Nb es) unsaid (λ n. sym (events_unlooped n Nb es)) in
     called_rests l set Nb c told none k (tells_all Nb es (with_end Nb (after_call k.nb c) k)) life
     (record { plain = plain; given = g; keeps = keeps; end_is = ap (λ (s : Seen). s.nb) same; other_is = ap (λ (s : Seen). s.ue) same; out_is = ap (λ (s : Seen). s.out) same; says = x })
-tells_rests l set Ue c k plain g life keeps unsaid =
+tells_rests l set Ue c k plain g life keeps unsaid quiet =
     let es = told_of k.ue c in
     let told = map (records.Of Ue) es in
     let same = told_seen Ue es (with_end Ue (after_call k.ue c) k) in
     let x : Says Ue told (λ s n. looped_at s n told) k.ue c =
-    record { told_is = own_told Ue es (tells_no_loop k.ue c); other_told = other_told Ue es; submitted_is = λ n. unsaid n ∙ sym (events_unlooped n Ue es); other_submitted = λ n. refl } in
+    says_so Ue told (λ s n. looped_at s n told) k.ue c plain life.moves_none (quiet_events Ue es quiet) (own_told Ue es (tells_no_loop k.ue c)) (other_told Ue es) (λ n. unsaid n ∙ sym (events_unlooped n Ue es)) (λ n. refl) in
     called_rests l set Ue c told none k (tells_all Ue es (with_end Ue (after_call k.ue c) k)) life
     (record { plain = plain; given = g; keeps = keeps; end_is = ap (λ (s : Seen). s.ue) same; other_is = ap (λ (s : Seen). s.nb) same; out_is = ap (λ (s : Seen). s.out) same; says = x })
 
@@ -89,22 +96,26 @@ none_if false sdus e = refl
 refused_none : (side : Side) (lcid : ℕ) (sdu : List ℕ) (k : Link) (broken : SubmitRefusal) → refusal lcid sdu (end_of side k) ≡ Some broken → (s : Side) (n : ℕ) → [] ≡ handed_by side lcid sdu k s n
 refused_none side lcid sdu k broken e s n = none_if (is_same side s) (accepted (refusal lcid sdu (end_of side k)) (lcid == n) sdu) (sym (ap (λ (r : Option SubmitRefusal). accepted r (lcid == n) sdu) e))
 
+-- a timer that expires tells nothing of writing, nor one that doesn't run
+expiry_quiet : (told : Option (List Event)) → IfSome told TellNone → TellNone (unwrap_or told [])
+expiry_quiet None h = refl
+expiry_quiet (Some es) h = h
+
+abbrev dropped : ℕ → Event
+dropped lcid = Drop lcid losts.Loop
+
 module _ (l : ℕ) (set : Marks) where
   -- ---- the test loop
 
   loses_rests : (lcid : ℕ) (k : Link) → Rests l set k (loses lcid k)
-  loses_rests lcid k = says_rests l set _ k refl refl (λ n. refl)
+  loses_rests lcid k = says_rests l set _ k (λ bits m from sent. hushed (is_same Ue from) (gives bits (told_on m (dropped lcid ∷ []))) (unwritten bits m (dropped lcid) refl)) refl refl (λ n. refl)
 
   returns_by_rests : (r : Option SubmitRefusal) (lcid : ℕ) (octets : List ℕ) (k : Link) → refusal lcid octets k.ue ≡ r → Rests l set k (returns_by r lcid octets k)
   returns_by_rests (Some broken) lcid octets k e = loses_rests lcid k
   returns_by_rests None lcid octets k e =
       let told = records.Looped lcid octets ∷ [] in
-      let x : Says Ue told (λ s n. looped_at s n told) k.ue (Submit lcid octets) = record {
-        told_is = refl;
-        other_told = refl;
-        submitted_is = λ n. loop_says (lcid == n) (refusal lcid octets k.ue) lcid octets e;
-        other_submitted = λ n. refl;
-      } in
+      let x : Says Ue told (λ s n. looped_at s n told) k.ue (Submit lcid octets) =
+      says_so Ue told (λ s n. looped_at s n told) k.ue (Submit lcid octets) tt refl (λ bits m from sent. refl) refl refl (λ n. loop_says (lcid == n) (refusal lcid octets k.ue) lcid octets e) (λ n. refl) in
       called_rests l set Ue (Submit lcid octets) told none k (returns_by None lcid octets k) (record { adds_none = refl; moves_none = refl; unset = λ off. refl })
       (record { plain = tt; given = tt; keeps = λ y. refl; end_is = submit_is lcid octets k.ue e; other_is = refl; out_is = refl; says = x })
 
@@ -168,7 +179,7 @@ module _ (l : ℕ) (set : Marks) where
   times_rests side k =
       let e = end_of side k in
       let m = tells_all side (ticked e).events (with_end side (after_call e Tick) k) in
-      rests_then l set k m (grows side m) (tells_rests l set side Tick k tt tt (record { adds_none = refl; moves_none = refl; unset = λ off. refl }) (λ x. refl) (λ n. refl)) (grows_rests side m)
+      rests_then l set k m (grows side m) (tells_rests l set side Tick k tt tt (record { adds_none = refl; moves_none = refl; unset = λ off. refl }) (λ x. refl) (λ n. refl) (writes_nothing e).ticking) (grows_rests side m)
 
   keeps_if : (b : Bool) (k : Link) → Rests l set k (if b then loops k else k)
   keeps_if true k = loops_rests k
@@ -186,13 +197,13 @@ module _ (l : ℕ) (set : Marks) where
       rests_then l set k o (pays o) (rests_then l set k n o to_n (keeps_if (is_keeping n.looping.mode) n)) (pays_rests o)
 
   sleep_rests : (asleep : Bool) (k : Link) → Rests l set k (tells_sleep asleep k)
-  sleep_rests true k = says_rests l set records.Sleep k refl refl (λ n. refl)
+  sleep_rests true k = says_rests l set records.Sleep k (λ bits m from sent. refl) refl refl (λ n. refl)
   sleep_rests false k = still_rests l set k k refl refl refl
 
   begins_rests : (k : Link) → Rests l set k (begins k)
   begins_rests k =
       let m : Link = record k { ttis = k.ttis + 1 } in
-      rests_then l set k m (begins k) (still_rests l set k m refl refl refl) (says_rests l set (records.Tti k.ttis) m refl refl (λ n. refl))
+      rests_then l set k m (begins k) (still_rests l set k m refl refl refl) (says_rests l set (records.Tti k.ttis) m (λ bits n from sent. refl) refl refl (λ n. refl))
 
   -- what comes before the blocks of a TTI
   pub woken_rests : (asleep : Bool) (k : Link) → Rests l set k (timed (tells_sleep asleep (begins k)))
@@ -219,7 +230,7 @@ module _ (l : ℕ) (set : Marks) where
       let m = expires_alone side lcid clock k in
       let r = expiring side lcid clock k in
       rests_then l set k (tells_all side (unwrap_or r []) m) (expires_by r side m)
-      (tells_rests l set side (Expire lcid clock) k tt tt (record { adds_none = refl; moves_none = refl; unset = λ off. refl }) (λ e. refl) (λ n. refl)) (expires_if r side m)
+      (tells_rests l set side (Expire lcid clock) k tt tt (record { adds_none = refl; moves_none = refl; unset = λ off. refl }) (λ e. refl) (λ n. refl) (expiry_quiet (expiry lcid clock (end_of side k)) ((writes_nothing (end_of side k)).expiring lcid clock))) (expires_if r side m)
 
   timer_if : (b : Bool) (side : Side) (clock : Clock) (lcid : ℕ) (k : Link) → Rests l set k (if b then expires side lcid clock k else k)
   timer_if true side clock lcid k = expires_rests side lcid clock k
@@ -277,17 +288,17 @@ module _ (l : ℕ) (set : Marks) where
   submits_by_hands (Some broken) side lcid sdu k e n u =
       let P = Stands Nb n in
       let Q = Stands Ue u in
-      hands_none l set (handed_by side lcid sdu k) P Q P Q k (submits_by (Some broken) side lcid sdu k) (refused_none side lcid sdu k broken e) (says_stage l set (records.Refused side lcid (no_place broken)) k P Q refl refl (λ i. refl))
+      hands_none l set (handed_by side lcid sdu k) P Q P Q k (submits_by (Some broken) side lcid sdu k) (refused_none side lcid sdu k broken e) (says_stage l set (records.Refused side lcid (no_place broken)) k P Q (λ bits m from sent. refl) refl refl (λ i. refl))
   submits_by_hands None Nb lcid sdu k e n u =
       let given = handed_by Nb lcid sdu k in
       let x : Says Nb [] (λ s i. given s i ++ looped_at s i []) k.nb (Submit lcid sdu) =
-      record { told_is = refl; other_told = refl; submitted_is = λ i. sym (append-nil (submitted_in i k.nb (Submit lcid sdu))); other_submitted = λ i. refl } in
+      says_so Nb [] (λ s i. given s i ++ looped_at s i []) k.nb (Submit lcid sdu) tt refl none_flown refl refl (λ i. sym (append-nil (submitted_in i k.nb (Submit lcid sdu)))) (λ i. refl) in
       called_nb l set (Submit lcid sdu) [] given k (submits_by None Nb lcid sdu k) n (Stands Ue u) (record { adds_none = refl; moves_none = refl; unset = λ off. refl })
       (record { plain = tt; given = tt; keeps = λ y. refl; end_is = submit_is lcid sdu k.nb e; other_is = refl; out_is = sym (append-nil k.out); says = x })
   submits_by_hands None Ue lcid sdu k e n u =
       let given = handed_by Ue lcid sdu k in
       let x : Says Ue [] (λ s i. given s i ++ looped_at s i []) k.ue (Submit lcid sdu) =
-      record { told_is = refl; other_told = refl; submitted_is = λ i. sym (append-nil (submitted_in i k.ue (Submit lcid sdu))); other_submitted = λ i. refl } in
+      says_so Ue [] (λ s i. given s i ++ looped_at s i []) k.ue (Submit lcid sdu) tt refl none_flown refl refl (λ i. sym (append-nil (submitted_in i k.ue (Submit lcid sdu)))) (λ i. refl) in
       called_ue l set (Submit lcid sdu) [] given k (submits_by None Ue lcid sdu k) (Stands Nb n) u (record { adds_none = refl; moves_none = refl; unset = λ off. refl })
       (record { plain = tt; given = tt; keeps = λ y. refl; end_is = submit_is lcid sdu k.ue e; other_is = refl; out_is = sym (append-nil k.out); says = x })
 

@@ -55,7 +55,7 @@ station_goes side w s c h g e = record {
   flying = λ p n. h.flying p (λ none. n (ap (λ (x : Sending). block_at x p) e ∙ none));
 }
 
-come_eight : (side : Side) (e : End) → HasCome side e → length e.sender.processes ≡ 8
+pub come_eight : (side : Side) (e : End) → HasCome side e → length e.sender.processes ≡ 8
 come_eight side e h = subst (λ (x : End). length x.sender.processes ≡ 8) (sym h.end_is) (reached_whole side h.maximum h.reports h.past).eight
 
 -- ---- a visit, at HARQ's sender

@@ -13,19 +13,23 @@ use Rattle.link_laws.specs.Calls.{Bears, HandsOver}
 use Rattle.link_laws.specs.Ends.{told_by}
 use Rattle.link_laws.specs.Runs.{Step, Calls, step}
 use Rattle.flow_laws.specs.Air.{Air, outset}
+use Rattle.am_arrival_laws.specs.Lives.{Happening}
+use Rattle.channel_laws.specs.Arrival.{happened}
 use Rattle.channel_laws.specs.Lives.{lives}
-use Rattle.air_laws.specs.Going.{handed_in, looped_at, sets, GoesByAir, IsStepSince}
+use Rattle.air_laws.specs.Arrival.{told_by_step}
+use Rattle.air_laws.specs.Going.{handed_in, looped_at, sets, TellAlone, GoesByAir, IsStepSince}
 use Rattle.air_laws.specs.Lives.{IsAtRest}
 use Rattle.air_laws.specs.On.{IsOn}
 use Rattle.air_laws.specs.Staying.{AreInLife, hands_over, MovesOn}
 use Rattle.air_laws.proofs.Advancing.{steps_stay, handovers_move}
-use Rattle.air_laws.proofs.Going.{setting, Goes, goes_then}
+use Rattle.air_laws.proofs.Going.{setting, Unread, GoesBehind, behind_then}
 use Rattle.air_laws.proofs.Lived.{either_off, same_on}
 use Rattle.air_laws.proofs.Lives.{calls_rest}
 
 -- since both ends were these, in one life, a link has come by air to what it is
 pub record LivedIn (l : ℕ) (nb ue : End) (told : List Record) (submitted : Side → ℕ → List (List ℕ)) (set : Bool) (k : Link) : Type 0 where
-  pub by : GoesByAir l told submitted set k (outset nb ue)
+  pub said : ℕ → Side → List Happening
+  pub by : GoesByAir l told submitted said set k (outset nb ue)
   pub in_life : AreInLife by.steps
 
 -- nothing else of a link matters
@@ -34,11 +38,13 @@ pub ends_live_in : (l : ℕ) (nb ue : End) (told : List Record) (submitted : Sid
 ends_live_in l nb ue told submitted set k m nb_is ue_is ttis_is h =
     let x = h.by in
     record {
+      said = h.said;
       by = record {
         steps = x.steps;
         living = x.living;
         told_is = x.told_is;
         submitted_is = x.submitted_is;
+        happened_is = x.happened_is;
         sets_none = x.sets_none;
         on = same_on k m (lives x.steps (outset nb ue)) nb_is ue_is ttis_is x.on;
       };
@@ -49,11 +55,13 @@ ends_live_in l nb ue told submitted set k m nb_is ue_is ttis_is h =
 pub lived_in_as : (l : ℕ) (nb ue : End) (f g : List Record) (x y : Side → ℕ → List (List ℕ)) (b c : Bool) (k : Link) → f ≡ g → ((side : Side) (n : ℕ) → x side n ≡ y side n) → b ≡ c
     → LivedIn l nb ue f x b k → LivedIn l nb ue g y c k
 lived_in_as l nb ue f g x y b c k told same on h = record {
+  said = h.said;
   by = record {
     steps = h.by.steps;
     living = h.by.living;
     told_is = λ side. ap (told_by side) (sym told) ∙ h.by.told_is side;
     submitted_is = λ side n. h.by.submitted_is side n ∙ same side n;
+    happened_is = h.by.happened_is;
     sets_none = λ off. h.by.sets_none (on ∙ off);
     on = h.by.on;
   };
@@ -65,17 +73,30 @@ lived_in_as l nb ue f g x y b c k told same on h = record {
 pub record LivesOnIn (l : ℕ) (nb ue : End) (told : List Record) (submitted : Side → ℕ → List (List ℕ)) (set : Bool) (s : Step) (k : Link) : Type 0 where
   pub more : List Record
   pub out_is : (step s k).out ≡ k.out ++ more
+  pub alone : TellAlone l more
   pub lived : LivedIn l nb ue (told ++ more) (λ side n. submitted side n ++ (handed_in side n s k ++ looped_at side n more)) (set || sets l s) (step s k)
 
-goes_in : (l : ℕ) (told : List Record) (submitted : Side → ℕ → List (List ℕ)) (set whole : Bool) (m : Link) (a : Air) (x : GoesByAir l told submitted set m a) → AreInLife x.steps → (whole ≡ false → set ≡ false)
-    → Goes l (setting whole) told submitted a (lives x.steps a)
-goes_in l told submitted set whole m a x own off =
-    record { steps = x.steps; living = x.living; told_is = x.told_is; submitted_is = x.submitted_is; sets_none = λ e. x.sets_none (off e); stays = λ e. own; air_is = refl }
+abbrev Goes : ℕ → Bool → List Record → (Side → ℕ → List (List ℕ)) → Air → Air → Type 0
+Goes l set told given a b = GoesBehind l (setting set) Unread told given a b
 
-lived_by : (l : ℕ) (nb ue : End) (told : List Record) (submitted : Side → ℕ → List (List ℕ)) (set : Bool) (m : Link) (b : Air) → Goes l (setting set) told submitted (outset nb ue) b → IsOn m b
+goes_in : (l : ℕ) (told : List Record) (submitted : Side → ℕ → List (List ℕ)) (said : ℕ → Side → List Happening) (set whole : Bool) (m : Link) (a : Air) (x : GoesByAir l told submitted said set m a) → AreInLife x.steps
+    → (whole ≡ false → set ≡ false) → Goes l whole told submitted a (lives x.steps a)
+goes_in l told submitted said set whole m a x own off = record {
+  steps = x.steps;
+  living = x.living;
+  told_is = x.told_is;
+  submitted_is = x.submitted_is;
+  sets_none = λ e. x.sets_none (off e);
+  stays = λ e. own;
+  reads = λ bits from sent fits. absurd fits;
+  air_is = refl;
+}
+
+lived_by : (l : ℕ) (nb ue : End) (told : List Record) (submitted : Side → ℕ → List (List ℕ)) (set : Bool) (m : Link) (b : Air) → Goes l set told submitted (outset nb ue) b → IsOn m b
     → LivedIn l nb ue told submitted set m
 lived_by l nb ue told submitted set m b x on = record {
-  by = record { steps = x.steps; living = x.living; told_is = x.told_is; submitted_is = x.submitted_is; sets_none = x.sets_none; on = subst (IsOn m) (sym x.air_is) on };
+  said = λ bits from. happened bits l from x.steps (outset nb ue);
+  by = record { steps = x.steps; living = x.living; told_is = x.told_is; submitted_is = x.submitted_is; happened_is = λ bits from. refl; sets_none = x.sets_none; on = subst (IsOn m) (sym x.air_is) on };
   in_life = x.stays refl;
 }
 
@@ -89,12 +110,13 @@ steps_live_in l nb ue told submitted set s k g own h =
     let x = y.goes in
     let sets_any = set || sets l s in
     let more : Side → ℕ → List (List ℕ) = λ side n. handed_in side n s k ++ looped_at side n x.more in
-    let before = goes_in l told submitted set sets_any k a h.by h.in_life (λ e. (either_off set (sets l s) e).0) in
-    let behind = goes_in l x.more more (sets l s) sets_any m b x.by (y.in_life own) (λ e. (either_off set (sets l s) e).1) in
-    let whole = goes_then l (setting sets_any) told x.more submitted more a b (lives x.by.steps b) before behind in
+    let before = goes_in l told submitted h.said set sets_any k a h.by h.in_life (λ e. (either_off set (sets l s) e).0) in
+    let behind = goes_in l x.more more (λ bits from. told_by_step bits l from s x.more) (sets l s) sets_any m b x.by (y.in_life own) (λ e. (either_off set (sets l s) e).1) in
+    let whole = behind_then l (setting sets_any) Unread Unread told x.more submitted more a b (lives x.by.steps b) refl (λ sent fits. absurd fits) before behind in
     record {
       more = x.more;
       out_is = x.out_is;
+      alone = x.alone;
       lived = lived_by l nb ue (told ++ x.more) (λ side n. submitted side n ++ more side n) sets_any m (lives x.by.steps b) whole x.by.on;
     }
 
@@ -104,7 +126,8 @@ pub bearers_live_in : (config : BearerConfig) (keys : Keys) (k : Link) → IsCon
     → LivedIn config.channel.lcid (after_call k.nb (Add config keys)) (after_call k.ue (Add config keys)) [] (λ side n. []) false (bears config keys k)
 unfolding bears
 bearers_live_in config keys k g h = record {
-  by = record { steps = []; living = tt; told_is = λ side. refl; submitted_is = λ side n. refl; sets_none = λ off side. tt; on = calls_rest (Bears config keys) k g tt h };
+  said = λ bits from. [];
+  by = record { steps = []; living = tt; told_is = λ side. refl; submitted_is = λ side n. refl; happened_is = λ bits from. refl; sets_none = λ off side. tt; on = calls_rest (Bears config keys) k g tt h };
   in_life = tt;
 }
 
@@ -116,4 +139,4 @@ pub lives_anew : (l : ℕ) (nb ue : End) (told : List Record) (submitted : Side 
     → LivesAnew l nb ue keys k (lives h.by.steps (outset nb ue))
 lives_anew l nb ue told submitted set keys k h =
     let m = handovers_move l keys k (lives h.by.steps (outset nb ue)) h.by.on in
-    record { moves = m; lived = record { by = m.by; in_life = m.in_life } }
+    record { moves = m; lived = record { said = _; by = m.by; in_life = m.in_life } }

@@ -1,7 +1,10 @@
 -- The downlink and the uplink of a TTI as steps of both ends.
-use Rattle.std.proofs.Common.{◌≡◌, ◌≤◌, ℕ, ◌==◌, Bool, true, false, if◌then◌else◌, Option, Some, None, List, [], ◌∷◌, ◌++◌, map, append-nil, refl, ap, sym, subst, arith, ◌∙◌}
+use Rattle.std.proofs.Common.{◌≡◌, ◌≤◌, ℕ, ◌==◌, Bool, true, false, ◌&&◌, cond, if◌then◌else◌, Option, Some, None, List, [], ◌∷◌, ◌++◌, map, append-nil, refl, ap, sym, subst, arith, ◌∙◌}
 use Rattle.std.specs.Prelude.{slice_get}
-use Rattle.std.specs.List.{AllByRecursion}
+use Rattle.std.specs.List.{AllByRecursion, flat_map}
+use Rattle.std.proofs.lemmas.Grind.{flat_map-append}
+use Rattle.std.proofs.lemmas.List.{map-append}
+use Rattle.bearer_types.specs.declared.event.Event.{Event}
 use Rattle.air_record.specs.declared.line.Fate.{Fate}
 use Rattle.air_record.specs.declared.line.Fate.TheVariants.{Ok, Bad, Miss}
 use Rattle.air_record.specs.declared.line.Outcome.{Outcome}
@@ -33,15 +36,28 @@ use Rattle.link_laws.specs.Ends.{told_by}
 use Rattle.link_laws.specs.Loops.{looped}
 use Rattle.link_laws.proofs.Going.{own_told, other_told, told_both, Seen}
 use Rattle.link_laws.proofs.Returning.{IsSilent}
-use Rattle.link_laws.proofs.Showing.{shown_untold, block_is_silent}
+use Rattle.link_laws.proofs.Blocks.{block_is}
+use Rattle.link_laws.proofs.Showing.{shown_untold, block_is_silent, AllShown, block_shows}
 use Rattle.link_laws.proofs.Telling.{some_from}
 use Rattle.link_laws.proofs.Visiting.{sent, visit_records, comes_seen, builds_down, sent_down, enough_by_grant, builds_up, sent_up}
-use Rattle.flow_laws.specs.Air.{Station, built_at}
+use Rattle.flow_laws.specs.Air.{HasCome, Block, Station, built_at}
 use Rattle.air_laws.specs.Going.{loops_in}
-use Rattle.air_laws.proofs.Going.{Marks, none}
+use Rattle.am_arrival_laws.specs.Lives.{Given, Happening, Gives}
+use Rattle.delivery_laws.specs.Arrival.{given_in, giving, gives, writing}
+use Rattle.flow_laws.specs.Channels.{carried}
+use Rattle.flow_laws.specs.Ups.{is_on, told_on}
+use Rattle.flow_laws.proofs.Stations.{come_side}
+use Rattle.channel_laws.specs.Arrival.{said_in}
+use Rattle.mac_pdu.specs.Reading.{reading}
+use Rattle.l2_node.specs.Writing.{new_block}
+use Rattle.link_laws.specs.Counts.{is_same}
+use Rattle.link_laws.specs.Ends.{is_shown}
+use Rattle.link_laws.specs.Zero.{sent_last}
+use Rattle.air_laws.specs.Arrival.{sender_of, only_if, tells_at, tells_in}
+use Rattle.air_laws.proofs.Going.{Marks, Behind, Any, Block', ended, last_in, tells_more, none}
 use Rattle.air_laws.proofs.Resting.{call_rests}
-use Rattle.air_laws.proofs.Stages.{unlooped_by, events_unlooped, looped_more, Stands, Stage, stage_then, says_stage, still_stage, says_nothing, called_nb, called_ue, Flown, hears_ue, hears_nb, Visiting, visit_nb, visit_ue, done_nb, done_ue, answer_to}
-use Rattle.air_laws.proofs.Stations.{Moment, Waits, Done, left_by, Sends, sends_new, sends_again}
+use Rattle.air_laws.proofs.Stages.{StageBehind, stages_then, last_more, says_behind, still_behind, called_nb_behind, called_ue_behind, unlooped_by, events_unlooped, looped_more, Stands, Stage, stage_then, says_stage, says_nothing, Flown, hears_ue, hears_nb, Visiting, visit_nb, visit_ue, done_nb, done_ue, answer_to}
+use Rattle.air_laws.proofs.Stations.{come_eight, Moment, Waits, Done, left_by, Sends, sends_new, sends_again}
 
 -- ---- a visit, with the feedback on what is sent
 
@@ -98,6 +114,137 @@ visit_other v side t kinds octets e =
     let es = building t.tti t.grant t.order e in
     told_both (other side) (map (records.Of side) es) (sent v side t.tti kinds octets) [] [] (other_told side es) (sent_untold v (other side) side t.tti kinds octets)
 
+-- ---- and of what goes by air
+
+-- one event after the other
+gives_then : (bits : ℕ) (xs ys : List Event) → gives bits (xs ++ ys) ≡ gives bits xs ++ gives bits ys
+gives_then bits xs ys = ap giving (flat_map-append (given_in bits) xs ys) ∙ map-append (λ (g : Given). Gives g) (flat_map (given_in bits) xs) (flat_map (given_in bits) ys)
+
+told_first : (l : ℕ) (e : Event) (es : List Event) → told_on l (e ∷ es) ≡ told_on l (e ∷ []) ++ told_on l es
+told_first l e es = by (is_on l e)
+  where
+    by : (b : Bool) → cond b (e ∷ told_on l es) (told_on l es) ≡ cond b (e ∷ []) [] ++ told_on l es
+    by true = refl
+    by false = refl
+
+own_tell : (bits l : ℕ) (side : Side) (es : List Event) (sent : List ℕ) → tells_in bits l side sent (map (records.Of side) es) ≡ gives bits (told_on l es)
+own_tell bits l side [] sent = refl
+own_tell bits l side (e ∷ es) sent =
+    ap (λ (b : Bool). only_if b (gives bits (told_on l (e ∷ []))) ++ tells_in bits l side sent (map (records.Of side) es)) (itself side)
+    ∙ (ap (λ (hs : List Happening). gives bits (told_on l (e ∷ [])) ++ hs) (own_tell bits l side es sent)
+    ∙ (sym (gives_then bits (told_on l (e ∷ [])) (told_on l es)) ∙ ap (gives bits) (sym (told_first l e es))))
+  where
+    itself : (s : Side) → is_same s s ≡ true
+    itself Nb = refl
+    itself Ue = refl
+
+others_tell : (bits l : ℕ) (side : Side) (es : List Event) (sent : List ℕ) → tells_in bits l (other side) sent (map (records.Of side) es) ≡ []
+others_tell bits l side [] sent = refl
+others_tell bits l side (e ∷ es) sent =
+    ap (λ (b : Bool). only_if b (gives bits (told_on l (e ∷ []))) ++ tells_in bits l (other side) sent (map (records.Of side) es)) (apart side) ∙ others_tell bits l side es sent
+  where
+    apart : (s : Side) → is_same s (other s) ≡ false
+    apart Nb = refl
+    apart Ue = refl
+
+-- nor does what shows a block
+shown_at : (bits l : ℕ) (from : Side) (sent : List ℕ) (one : Record) → is_shown one ≡ true → tells_at bits l from sent one ≡ []
+shown_at bits l from sent (records.Of side event) e = cc
+shown_at bits l from sent (records.Block direction process fresh version octets) e = cc
+shown_at bits l from sent (records.Air direction what heard) e = cc
+shown_at bits l from sent one e = refl
+
+shown_last : (one : Record) (sent : List ℕ) → is_shown one ≡ true → sent_last one sent ≡ sent
+shown_last (records.Block direction process fresh version octets) sent e = cc
+shown_last one sent e = refl
+
+shown_tell : (told : List Record) → AllShown told → (bits l : ℕ) (from : Side) (sent : List ℕ) → tells_in bits l from sent told ≡ []
+shown_tell [] a bits l from sent = refl
+shown_tell (one ∷ told) a bits l from sent =
+    ap (λ (hs : List Happening). hs ++ tells_in bits l from (sent_last one sent) told) (shown_at bits l from sent one a.0) ∙ shown_tell told a.1 bits l from (sent_last one sent)
+
+shown_leave : (told : List Record) → AllShown told → (sent : List ℕ) → last_in told sent ≡ sent
+shown_leave [] a sent = refl
+shown_leave (one ∷ told) a sent = shown_leave told a.1 (sent_last one sent) ∙ shown_last one sent a.0
+
+events_leave : (side : Side) (es : List Event) (sent : List ℕ) → last_in (map (records.Of side) es) sent ≡ sent
+events_leave side [] sent = refl
+events_leave side (e ∷ es) sent = events_leave side es sent
+
+-- a visit in which a block is sent
+abbrev SendsIt : Visit → Type 0
+SendsIt New = Unit {0}
+SendsIt (Resend rv) = Unit {0}
+SendsIt Quiet = ⊥
+
+sent_leave : (v : Visit) (side : Side) (t : ℕ) (kinds : List (Option Layout)) (octets sent' : List ℕ) → SendsIt v → last_in (sent v side t kinds octets) sent' ≡ octets
+sent_leave New side t kinds octets sent' s = shown_leave (block_shown (sent_by side) kinds octets) (block_shows kinds (reading (sent_by side) octets)) octets
+sent_leave (Resend rv) side t kinds octets sent' s = refl
+sent_leave Quiet side t kinds octets sent' s = absurd s
+
+visit_last : (v : Visit) (side : Side) (t : Turn) (kinds : List (Option Layout)) (octets : List ℕ) (e : End) (sent' : List ℕ) → SendsIt v
+    → last_in (visit_records v side t.tti t.grant t.order kinds octets e) sent' ≡ octets
+visit_last v side t kinds octets e sent' s =
+    sym (last_more (map (records.Of side) (building t.tti t.grant t.order e)) (sent v side t.tti kinds octets) sent')
+    ∙ sent_leave v side t.tti kinds octets (last_in (map (records.Of side) (building t.tti t.grant t.order e)) sent') s
+
+-- the block, by its sender
+sent_tells : (v : Visit) (bits l : ℕ) (side : Side) (t : Turn) (kinds : List (Option Layout)) (octets : List ℕ) (e : End) (sent' : List ℕ) → visit t.tti t.order e ≡ v → HasCome side e
+    → octets ≡ block_at t.tti (built t.tti t.grant t.order e)
+    → tells_in bits l side sent' (sent v side t.tti kinds octets) ≡ writing (flat_map (carried l (sent_by e.side)) (map (λ (x : Block). x.octets) (built_at v t (visited t.tti t.order e))))
+sent_tells New bits l side t kinds octets e sent' is come are =
+    let own : (new_block (visited t.tti t.order e) t.grant) ≡ octets = sym (block_is t.tti t.grant t.order e (come_eight side e come) is) ∙ sym are in
+    ap (λ (b : Bool). only_if b (writing (carried l (sent_by side) octets)) ++ tells_in bits l side octets (block_shown (sent_by side) kinds octets)) (itself side)
+    ∙ (ap (λ (hs : List Happening). writing (carried l (sent_by side) octets) ++ hs) (shown_tell (block_shown (sent_by side) kinds octets) (block_shows kinds (reading (sent_by side) octets)) bits l side octets)
+    ∙ (append-nil (writing (carried l (sent_by side) octets))
+    ∙ (ap (λ (o : List ℕ). writing (carried l (sent_by side) o)) (sym own)
+    ∙ (ap (λ (s : Side). writing (carried l (sent_by s) (new_block (visited t.tti t.order e) t.grant))) (sym (come_side side e come))
+    ∙ ap writing (sym (append-nil (carried l (sent_by e.side) (new_block (visited t.tti t.order e) t.grant))))))))
+  where
+    itself : (s : Side) → (true && is_same (sender_of (sent_by s)) s) ≡ true
+    itself Nb = refl
+    itself Ue = refl
+sent_tells (Resend rv) bits l side t kinds octets e sent' is come are = refl
+sent_tells Quiet bits l side t kinds octets e sent' is come are = refl
+
+visit_says : (v : Visit) (bits l : ℕ) (side : Side) (t : Turn) (kinds : List (Option Layout)) (octets : List ℕ) (e : End) (sent' : List ℕ) → visit t.tti t.order e ≡ v → HasCome side e
+    → octets ≡ block_at t.tti (built t.tti t.grant t.order e) → said_in bits l e (Visits t) ≡ tells_in bits l side sent' (visit_records v side t.tti t.grant t.order kinds octets e)
+visit_says v bits l side t kinds octets e sent' is come are =
+    let es = building t.tti t.grant t.order e in
+    let xs = map (records.Of side) es in
+    let ys = sent v side t.tti kinds octets in
+    let f = visited t.tti t.order e in
+    ap (λ (w : Visit). gives bits (told_on l es) ++ writing (flat_map (carried l (sent_by e.side)) (map (λ (x : Block). x.octets) (built_at w t f)))) is
+    ∙ (ap (λ (hs : List Happening). gives bits (told_on l es) ++ hs) (sym (sent_tells v bits l side t kinds octets e (last_in xs sent') is come are))
+    ∙ (ap (λ (hs : List Happening). hs ++ tells_in bits l side (last_in xs sent') ys) (sym (own_tell bits l side es sent')) ∙ sym (tells_more bits l side sent' xs ys)))
+
+sent_hears : (v : Visit) (bits l : ℕ) (side : Side) (t : ℕ) (kinds : List (Option Layout)) (octets sent' : List ℕ) → tells_in bits l (other side) sent' (sent v side t kinds octets) ≡ []
+sent_hears New bits l side t kinds octets sent' =
+    ap (λ (b : Bool). only_if b (writing (carried l (sent_by side) octets)) ++ tells_in bits l (other side) octets (block_shown (sent_by side) kinds octets)) (apart side)
+    ∙ shown_tell (block_shown (sent_by side) kinds octets) (block_shows kinds (reading (sent_by side) octets)) bits l (other side) octets
+  where
+    apart : (s : Side) → (true && is_same (sender_of (sent_by s)) (other s)) ≡ false
+    apart Nb = refl
+    apart Ue = refl
+sent_hears (Resend rv) bits l side t kinds octets sent' = refl
+sent_hears Quiet bits l side t kinds octets sent' = refl
+
+visit_hears : (v : Visit) (bits l : ℕ) (side : Side) (t : Turn) (kinds : List (Option Layout)) (octets : List ℕ) (e : End) (sent' : List ℕ)
+    → tells_in bits l (other side) sent' (visit_records v side t.tti t.grant t.order kinds octets e) ≡ []
+visit_hears v bits l side t kinds octets e sent' =
+    let es = building t.tti t.grant t.order e in
+    let xs = map (records.Of side) es in
+    let ys = sent v side t.tti kinds octets in
+    tells_more bits l (other side) sent' xs ys
+    ∙ (ap (λ (hs : List Happening). hs ++ tells_in bits l (other side) (last_in xs sent') ys) (others_tell bits l side es sent') ∙ sent_hears v bits l side t.tti kinds octets (last_in xs sent'))
+
+quiet_says : (bits l : ℕ) (side : Side) (t : Turn) (e : End) (sent' : List ℕ) → visit t.tti t.order e ≡ Quiet
+    → said_in bits l e (Visits t) ≡ tells_in bits l side sent' (map (records.Of side) (building t.tti t.grant t.order e))
+quiet_says bits l side t e sent' is =
+    let es = building t.tti t.grant t.order e in
+    ap (λ (w : Visit). gives bits (told_on l es) ++ writing (flat_map (carried l (sent_by e.side)) (map (λ (x : Block). x.octets) (built_at w t (visited t.tti t.order e))))) is
+    ∙ (append-nil (gives bits (told_on l es)) ∙ sym (own_tell bits l side es sent'))
+
 -- and of no SDU of the test loop
 not_looped : (n : ℕ) (one : Record) → looped one ≡ [] → is_looped n one ≡ false
 not_looped n (records.Looped lcid octets) e = absurd cc
@@ -131,11 +278,11 @@ module _ (l : ℕ) (set : Marks) where
   -- ---- the downlink
 
   -- what comes to the terminal's receiver
-  came_stage : (f : Fate) (t : ℕ) (ndi good : Bool) (n : Link) (P : Station → Type 0) (u : Moment) → Stage l set P (Stands Ue u) P (Stands Ue u) (feeds Nb t good n) (feeds Nb t good (comes f t ndi n))
-  came_stage Miss t ndi good n P u = still_stage l set (feeds Nb t good n) (feeds Nb t good n) P (Stands Ue u) refl refl refl
-  came_stage Ok t ndi good n P u =
+  came_stage : (f : Fate) (t : ℕ) (ndi good : Bool) (n : Link) (P : Station → Type 0) (u : Moment) → (b : Behind) → ended b ≡ [] → StageBehind l set b b P (Stands Ue u) P (Stands Ue u) (feeds Nb t good n) (feeds Nb t good (comes f t ndi n))
+  came_stage Miss t ndi good n P u b open' = still_behind l set b (feeds Nb t good n) (feeds Nb t good n) P (Stands Ue u) open' refl refl refl
+  came_stage Ok t ndi good n P u b open' =
       let same = comes_seen Ok t ndi n in
-      called_ue l set (Assigned t ndi true) [] none (feeds Nb t good n) (feeds Nb t good (comes Ok t ndi n)) P u (record { adds_none = refl; moves_none = refl; unset = λ off. refl })
+      called_ue_behind l set b (Assigned t ndi true) [] none (feeds Nb t good n) (feeds Nb t good (comes Ok t ndi n)) P u open' (λ sent fits. fits) (record { adds_none = refl; moves_none = refl; unset = λ off. refl })
       (record {
         plain = tt;
         given = tt;
@@ -143,11 +290,11 @@ module _ (l : ℕ) (set : Marks) where
         end_is = ap (λ (s : Seen). s.ue) same;
         other_is = ap (λ (s : Seen). fed t good s.nb) same;
         out_is = ap (λ (s : Seen). s.out) same ∙ sym (append-nil n.out);
-        says = says_nothing Ue n.ue (Assigned t ndi true) refl (λ i. refl);
+        says = says_nothing Ue n.ue (Assigned t ndi true) tt refl refl (λ i. refl);
       })
-  came_stage Bad t ndi good n P u =
+  came_stage Bad t ndi good n P u b open' =
       let same = comes_seen Bad t ndi n in
-      called_ue l set (Assigned t ndi false) [] none (feeds Nb t good n) (feeds Nb t good (comes Bad t ndi n)) P u (record { adds_none = refl; moves_none = refl; unset = λ off. refl })
+      called_ue_behind l set b (Assigned t ndi false) [] none (feeds Nb t good n) (feeds Nb t good (comes Bad t ndi n)) P u open' (λ sent fits. fits) (record { adds_none = refl; moves_none = refl; unset = λ off. refl })
       (record {
         plain = tt;
         given = tt;
@@ -155,19 +302,21 @@ module _ (l : ℕ) (set : Marks) where
         end_is = ap (λ (s : Seen). s.ue) same;
         other_is = ap (λ (s : Seen). fed t good s.nb) same;
         out_is = ap (λ (s : Seen). s.out) same ∙ sym (append-nil n.out);
-        says = says_nothing Ue n.ue (Assigned t ndi false) refl (λ i. refl);
+        says = says_nothing Ue n.ue (Assigned t ndi false) tt refl refl (λ i. refl);
       })
 
-  hears_by_stage : (a : Answer) (octets : List ℕ) (k : Link) (P : Station → Type 0) (u : Moment) → ((s : Station) → P s → Flown octets s) → Stage l set P (Stands Ue u) P (Stands Ue u) k (hears_by a octets k)
-  hears_by_stage Up octets k P u flown = hears_ue l set octets k P u flown
-  hears_by_stage Again octets k P u flown = still_stage l set k k P (Stands Ue u) refl refl refl
-  hears_by_stage Damaged octets k P u flown = still_stage l set k k P (Stands Ue u) refl refl refl
-  hears_by_stage Nothing octets k P u flown = still_stage l set k k P (Stands Ue u) refl refl refl
+  -- what comes of it is told, and where it is got the terminal hears it
+  lands_stage : (a : Answer) (octets : List ℕ) (heard : Option Bool) (k : Link) (P : Station → Type 0) (u : Moment) → ((s : Station) → P s → Flown octets s)
+      → StageBehind l set (Block' octets) Any P (Stands Ue u) P (Stands Ue u) k (hears_by a octets (says (records.Air directions.Down (told_as a) heard) k))
+  lands_stage Up octets heard k P u flown = hears_ue l set octets heard k P u flown
+  lands_stage Again octets heard k P u flown = says_behind l set (Block' octets) (records.Air directions.Down arriveds.Dup heard) k P (Stands Ue u) refl (λ bits m from sent. refl) refl refl (λ n. refl)
+  lands_stage Damaged octets heard k P u flown = says_behind l set (Block' octets) (records.Air directions.Down arriveds.Bad heard) k P (Stands Ue u) refl (λ bits m from sent. refl) refl refl (λ n. refl)
+  lands_stage Nothing octets heard k P u flown = says_behind l set (Block' octets) (records.Air directions.Down arriveds.Nothing heard) k P (Stands Ue u) refl (λ bits m from sent. refl) refl refl (λ n. refl)
 
-  goes_down : (v : Visit) (t grant : ℕ) (order : Order) (o : Outcome) (ndi : Bool) (octets : List ℕ) (k : Link) (u : Moment) → visit t order k.nb ≡ v → IsLoud v → ((good : Bool) → IsSent v Nb (turn_of t grant order good) k.nb)
+  goes_down : (v : Visit) (t grant : ℕ) (order : Order) (o : Outcome) (ndi : Bool) (octets : List ℕ) (k : Link) (u : Moment) → visit t order k.nb ≡ v → IsLoud v → SendsIt v → ((good : Bool) → IsSent v Nb (turn_of t grant order good) k.nb)
       → octets ≡ block_at t (built t grant order k.nb) → grant ≤ 9422 → IsEnough order grant
       → Stage l set (Stands Nb (Waits t)) (Stands Ue u) (Stands Nb (Done t)) (Stands Ue u) k (lands t o ndi octets (sends v Nb t octets (unseen v t (builds Nb t grant order k))))
-  goes_down v t grant order o ndi octets k u is loud flown octets_are within enough =
+  goes_down v t grant order o ndi octets k u is loud sends_it flown octets_are within enough =
       let n = sends v Nb t octets (unseen v t (builds Nb t grant order k)) in
       let a = answer o.fate t ndi n in
       let good = turned o.flipped (is_good a) in
@@ -183,7 +332,8 @@ module _ (l : ℕ) (set : Marks) where
       let Q = Stands Ue u in
       let W = Stands Nb (Waits t) in
       let D = Stands Nb (Done t) in
-      let first : Stage l set W Q P Q k f = visit_nb l set turn more k f Q (record {
+      let B = Block' octets in
+      let first : StageBehind l set Any B W Q P Q k f = visit_nb l set B turn more k f Q (λ sent. visit_last v Nb turn k.kinds octets k.nb sent sends_it) (record {
         given = (within, enough);
         end_is = ap (λ (s : Seen). fed t good s.nb) same ∙ fed_is v turn k.nb is loud;
         other_is = ap (λ (s : Seen). s.ue) same;
@@ -191,11 +341,12 @@ module _ (l : ℕ) (set : Marks) where
         told_is = visit_own v Nb turn k.kinds octets k.nb;
         other_told = visit_other v Nb turn k.kinds octets k.nb;
         unlooped = λ n. visit_unlooped v Nb turn k.kinds octets k.nb n;
+        says = λ bits j sent come. visit_says v bits j Nb turn k.kinds octets k.nb sent is come octets_are;
+        hears = λ bits j sent. sym (visit_hears v bits j Nb turn k.kinds octets k.nb sent);
       }) in
-      let heard : Stage l set P Q P Q w z = hears_by_stage a octets w P u (λ s h. subst (λ (x : List ℕ). Flown x s) (sym octets_are) (flown good s h)) in
-      let to_q = stage_then l set W Q P Q P Q k f q first (came_stage o.fate t ndi good n P u) in
-      let to_w = stage_then l set W Q P Q P Q k q w to_q (says_stage l set one q P Q refl refl (λ n. refl)) in
-      let to_z = stage_then l set W Q P Q P Q k w z to_w heard in
+      let landed : StageBehind l set B Any P Q P Q q z = lands_stage a octets (Some good) q P u (λ s h. subst (λ (x : List ℕ). Flown x s) (sym octets_are) (flown good s h)) in
+      let to_q = stages_then l set Any B B refl W Q P Q P Q k f q first (came_stage o.fate t ndi good n P u B refl) in
+      let to_z = stages_then l set Any B Any refl W Q P Q P Q k q z to_q landed in
       stage_then l set W Q P Q D Q k z z to_z (done_nb l set turn k.nb z Q)
 
   quiet_down : (t grant : ℕ) (order : Order) (k : Link) (u : Moment) → visit t order k.nb ≡ Quiet → grant ≤ 9422 → IsEnough order grant
@@ -207,7 +358,7 @@ module _ (l : ℕ) (set : Marks) where
       let es = building t grant order k.nb in
       let Q = Stands Ue u in
       stage_then l set (Stands Nb (Waits t)) Q (Visiting Nb turn k.nb) Q (Stands Nb (Done t)) Q k m m
-      (visit_nb l set turn (map (records.Of Nb) es) k m Q (record {
+      (visit_nb l set Any turn (map (records.Of Nb) es) k m Q (λ sent. tt) (record {
         given = (within, enough);
         end_is = ap (λ (s : Seen). s.nb) same ∙ quiet_is turn k.nb is;
         other_is = ap (λ (s : Seen). s.ue) same;
@@ -215,6 +366,8 @@ module _ (l : ℕ) (set : Marks) where
         told_is = building_own Nb turn k.nb;
         other_told = other_told Nb es;
         unlooped = λ n. events_unlooped n Nb es;
+        says = λ bits j sent come. quiet_says bits j Nb turn k.nb sent is;
+        hears = λ bits j sent. sym (others_tell bits j Nb es sent);
       }))
       (done_nb l set turn k.nb m Q)
 
@@ -222,11 +375,11 @@ module _ (l : ℕ) (set : Marks) where
       → Stage l set (Stands Nb (Waits t)) (Stands Ue u) (Stands Nb (Done t)) (Stands Ue u) k (down_by v t o ndi (builds Nb t grant order k))
   down_by_stage New t grant order o ndi k u is within enough =
       let m = builds Nb t grant order k in
-      goes_down New t grant order o ndi (block_at t m.nb) k u is (λ x e. refl) (λ good. flown_new Nb (turn_of t grant order good) k.nb is)
+      goes_down New t grant order o ndi (block_at t m.nb) k u is (λ x e. refl) tt (λ good. flown_new Nb (turn_of t grant order good) k.nb is)
       (ap (λ (s : Seen). block_at t s.nb) (builds_down t grant order k)) within enough
   down_by_stage (Resend rv) t grant order o ndi k u is within enough =
       let m = builds Nb t grant order k in
-      goes_down (Resend rv) t grant order o ndi (block_at t m.nb) k u is (λ x e. refl) (λ good. flown_again rv Nb (turn_of t grant order good) k.nb is)
+      goes_down (Resend rv) t grant order o ndi (block_at t m.nb) k u is (λ x e. refl) tt (λ good. flown_again rv Nb (turn_of t grant order good) k.nb is)
       (ap (λ (s : Seen). block_at t s.nb) (builds_down t grant order k)) within enough
   down_by_stage Quiet t grant order o ndi k u is within enough = quiet_down t grant order k u is within enough
 
@@ -238,14 +391,16 @@ module _ (l : ℕ) (set : Marks) where
 
   -- ---- the uplink
 
-  hears_if_stage : (good : Bool) (octets : List ℕ) (k : Link) (n : Moment) (Q : Station → Type 0) → ((s : Station) → Q s → Flown octets s) → Stage l set (Stands Nb n) Q (Stands Nb n) Q k (hears_if good octets k)
-  hears_if_stage true octets k n Q flown = hears_nb l set octets k n Q flown
-  hears_if_stage false octets k n Q flown = still_stage l set k k (Stands Nb n) Q refl refl refl
+  rises_stage : (good : Bool) (octets : List ℕ) (heard : Option Bool) (k : Link) (n : Moment) (Q : Station → Type 0) → ((s : Station) → Q s → Flown octets s)
+      → StageBehind l set (Block' octets) Any (Stands Nb n) Q (Stands Nb n) Q k (hears_if good octets (says (records.Air directions.Up (up_told_as good) heard) k))
+  rises_stage true octets heard k n Q flown = hears_nb l set octets heard k n Q flown
+  rises_stage false octets heard k n Q flown =
+      says_behind l set (Block' octets) (records.Air directions.Up arriveds.Bad heard) k (Stands Nb n) Q refl (λ bits m from sent. refl) refl refl (λ n. refl)
 
-  goes_up : (v : Visit) (t grant : ℕ) (order : Order) (o : Outcome) (octets : List ℕ) (k : Link) (m : Moment) → visit t order k.ue ≡ v → IsLoud v → ((good : Bool) → IsSent v Ue (turn_of t grant order good) k.ue)
+  goes_up : (v : Visit) (t grant : ℕ) (order : Order) (o : Outcome) (octets : List ℕ) (k : Link) (m : Moment) → visit t order k.ue ≡ v → IsLoud v → SendsIt v → ((good : Bool) → IsSent v Ue (turn_of t grant order good) k.ue)
       → octets ≡ block_at t (built t grant order k.ue) → grant ≤ 9422 → IsEnough order grant
       → Stage l set (Stands Nb m) (Stands Ue (Waits t)) (Stands Nb m) (Stands Ue (Done t)) k (up_aired t o.flipped (is_intact o.fate) octets (sends v Ue t octets (awake v t (builds Ue t grant order k))))
-  goes_up v t grant order o octets k m is loud flown octets_are within enough =
+  goes_up v t grant order o octets k m is loud sends_it flown octets_are within enough =
       let n = sends v Ue t octets (awake v t (builds Ue t grant order k)) in
       let intact = is_intact o.fate in
       let good = turned o.flipped intact in
@@ -261,7 +416,8 @@ module _ (l : ℕ) (set : Marks) where
       let Q = Visiting Ue turn k.ue in
       let W = Stands Ue (Waits t) in
       let D = Stands Ue (Done t) in
-      let first : Stage l set P W P Q k f = visit_ue l set turn more k f P (record {
+      let B = Block' octets in
+      let first : StageBehind l set Any B P W P Q k f = visit_ue l set B turn more k f P (λ sent. visit_last v Ue turn k.kinds octets k.ue sent sends_it) (record {
         given = (within, enough);
         end_is = ap (λ (s : Seen). fed t good s.ue) same ∙ fed_is v turn k.ue is loud;
         other_is = ap (λ (s : Seen). s.nb) same;
@@ -269,13 +425,14 @@ module _ (l : ℕ) (set : Marks) where
         told_is = visit_own v Ue turn k.kinds octets k.ue;
         other_told = visit_other v Ue turn k.kinds octets k.ue;
         unlooped = λ n. visit_unlooped v Ue turn k.kinds octets k.ue n;
+        says = λ bits j sent come. visit_says v bits j Ue turn k.kinds octets k.ue sent is come octets_are;
+        hears = λ bits j sent. sym (visit_hears v bits j Ue turn k.kinds octets k.ue sent);
       }) in
-      let brought : Stage l set P Q P Q f q = called_nb l set (Granted t (Some intact)) [] none f q m Q (record { adds_none = refl; moves_none = refl; unset = λ off. refl })
-      (record { plain = tt; given = tt; keeps = λ e. refl; end_is = refl; other_is = refl; out_is = sym (append-nil n.out); says = says_nothing Nb f.nb (Granted t (Some intact)) refl (λ i. refl) }) in
-      let heard : Stage l set P Q P Q w z = hears_if_stage intact octets w m Q (λ s h. subst (λ (x : List ℕ). Flown x s) (sym octets_are) (flown good s h)) in
-      let to_q = stage_then l set P W P Q P Q k f q first brought in
-      let to_w = stage_then l set P W P Q P Q k q w to_q (says_stage l set one q P Q refl refl (λ n. refl)) in
-      let to_z = stage_then l set P W P Q P Q k w z to_w heard in
+      let brought : StageBehind l set B B P Q P Q f q = called_nb_behind l set B (Granted t (Some intact)) [] none f q m Q refl (λ sent fits. fits) (record { adds_none = refl; moves_none = refl; unset = λ off. refl })
+      (record { plain = tt; given = tt; keeps = λ e. refl; end_is = refl; other_is = refl; out_is = sym (append-nil n.out); says = says_nothing Nb f.nb (Granted t (Some intact)) tt refl refl (λ i. refl) }) in
+      let risen : StageBehind l set B Any P Q P Q q z = rises_stage intact octets (Some good) q m Q (λ s h. subst (λ (x : List ℕ). Flown x s) (sym octets_are) (flown good s h)) in
+      let to_q = stages_then l set Any B B refl P W P Q P Q k f q first brought in
+      let to_z = stages_then l set Any B Any refl P W P Q P Q k q z to_q risen in
       stage_then l set P W P Q P D k z z to_z (done_ue l set turn k.ue z P)
 
   quiet_up : (t grant : ℕ) (order : Order) (k : Link) (m : Moment) → visit t order k.ue ≡ Quiet → grant ≤ 9422 → IsEnough order grant
@@ -287,7 +444,7 @@ module _ (l : ℕ) (set : Marks) where
       let es = building t grant order k.ue in
       let P = Stands Nb m in
       stage_then l set P (Stands Ue (Waits t)) P (Visiting Ue turn k.ue) P (Stands Ue (Done t)) k n n
-      (visit_ue l set turn (map (records.Of Ue) es) k n P (record {
+      (visit_ue l set Any turn (map (records.Of Ue) es) k n P (λ sent. tt) (record {
         given = (within, enough);
         end_is = ap (λ (s : Seen). s.ue) same ∙ quiet_is turn k.ue is;
         other_is = ap (λ (s : Seen). s.nb) same;
@@ -295,6 +452,8 @@ module _ (l : ℕ) (set : Marks) where
         told_is = building_own Ue turn k.ue;
         other_told = other_told Ue es;
         unlooped = λ n. events_unlooped n Ue es;
+        says = λ bits j sent come. quiet_says bits j Ue turn k.ue sent is;
+        hears = λ bits j sent. sym (others_tell bits j Ue es sent);
       }))
       (done_ue l set turn k.ue n P)
 
@@ -302,11 +461,11 @@ module _ (l : ℕ) (set : Marks) where
       → Stage l set (Stands Nb m) (Stands Ue (Waits t)) (Stands Nb m) (Stands Ue (Done t)) k (up_by v t o (builds Ue t grant order k))
   up_by_stage New t grant order o k m is within enough =
       let n = builds Ue t grant order k in
-      goes_up New t grant order o (block_at t n.ue) k m is (λ x e. refl) (λ good. flown_new Ue (turn_of t grant order good) k.ue is)
+      goes_up New t grant order o (block_at t n.ue) k m is (λ x e. refl) tt (λ good. flown_new Ue (turn_of t grant order good) k.ue is)
       (ap (λ (s : Seen). block_at t s.ue) (builds_up t grant order k)) within enough
   up_by_stage (Resend rv) t grant order o k m is within enough =
       let n = builds Ue t grant order k in
-      goes_up (Resend rv) t grant order o (block_at t n.ue) k m is (λ x e. refl) (λ good. flown_again rv Ue (turn_of t grant order good) k.ue is)
+      goes_up (Resend rv) t grant order o (block_at t n.ue) k m is (λ x e. refl) tt (λ good. flown_again rv Ue (turn_of t grant order good) k.ue is)
       (ap (λ (s : Seen). block_at t s.ue) (builds_up t grant order k)) within enough
   up_by_stage Quiet t grant order o k m is within enough =
       let n = builds Ue t grant order k in
@@ -317,7 +476,7 @@ module _ (l : ℕ) (set : Marks) where
       let one = records.Air directions.Up arriveds.Nothing None in
       let to_q = stage_then l set P W P D P D k n q (quiet_up t grant order k m is within enough)
       (call_rests l set Nb (Granted t None) n tt tt (record { adds_none = refl; moves_none = refl; unset = λ off. refl }) (λ e. refl) refl (λ n. refl) m (Done t)) in
-      stage_then l set P W P D P D k q (says one q) to_q (says_stage l set one q P D refl refl (λ n. refl))
+      stage_then l set P W P D P D k q (says one q) to_q (says_stage l set one q P D (λ bits m from sent. refl) refl refl (λ n. refl))
 
   enough_up : (f : Fate) (ndi : Bool) (grant : ℕ) → 1 ≤ grant → IsEnough (up_order f ndi) grant
   enough_up Ok ndi grant some = some

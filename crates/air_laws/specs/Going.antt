@@ -14,8 +14,11 @@ use Rattle.link_laws.specs.Ends.{told_by}
 use Rattle.link_laws.specs.Runs.{Step, Tti, Drains, Submit, Calls, step}
 use Rattle.link_laws.specs.Zero.{sdu_of}
 use Rattle.flow_laws.specs.Air.{Air}
+use Rattle.am_arrival_laws.specs.Lives.{Happening}
+use Rattle.channel_laws.specs.Arrival.{happened}
 use Rattle.channel_laws.specs.Delivery.{accepted, was_submitted, SetNone}
 use Rattle.channel_laws.specs.Lives.{AirStep, AreLiving, lives, end_at, all_calls}
+use Rattle.air_laws.specs.Arrival.{tells_in, told_by_step}
 use Rattle.air_laws.specs.On.{IsOn}
 
 -- ---- the SDUs that a side submits on a channel in a step
@@ -43,21 +46,28 @@ sets l s = false
 
 -- ---- what a link plays
 
+-- what records tell of the air, whichever block was sent before them
+abbrev pub TellAlone : ℕ → List Record → Type 0
+TellAlone l told = (bits : ℕ) (from : Side) (sent : List ℕ) → tells_in bits l from sent told ≡ tells_in bits l from [] told
+
 -- steps that keep what is asked in lives of the channel's bearers bring the ends to those of a link; the records tell of each end exactly what
--- it tells in its calls, in these it is submitted exactly those SDUs on each channel, and no discard timer is set on the channel where `set` is false
-pub record GoesByAir (l : ℕ) (told : List Record) (submitted : Side → ℕ → List (List ℕ)) (set : Bool) (m : Link) (a : Air) : Type 0 where
+-- it tells in its calls, in these it is submitted exactly those SDUs on each channel, just so much is told of what goes from a side on the channel, and no
+-- discard timer is set on it where `set` is false
+pub record GoesByAir (l : ℕ) (told : List Record) (submitted : Side → ℕ → List (List ℕ)) (said : ℕ → Side → List Happening) (set : Bool) (m : Link) (a : Air) : Type 0 where
   pub steps : List AirStep
   pub living : AreLiving l a steps
   pub told_is : (side : Side) → told_by side told ≡ told_over (all_calls side steps a) (end_at side a)
   pub submitted_is : (side : Side) (n : ℕ) → was_submitted n (all_calls side steps a) (end_at side a) ≡ submitted side n
+  pub happened_is : (bits : ℕ) (from : Side) → happened bits l from steps a ≡ said bits from
   pub sets_none : set ≡ false → (side : Side) → SetNone l (all_calls side steps a)
   pub on : IsOn m (lives steps a)
 
--- a step of a link goes on so, and adds these records
+-- a step of a link goes on so, and adds these records, which tell of blocks that were sent before it nothing
 pub record GoesOn (l : ℕ) (s : Step) (k : Link) (a : Air) : Type 0 where
   pub more : List Record
   pub out_is : (step s k).out ≡ k.out ++ more
-  pub by : GoesByAir l more (λ side n. handed_in side n s k ++ looped_at side n more) (sets l s) (step s k) a
+  pub alone : TellAlone l more
+  pub by : GoesByAir l more (λ side n. handed_in side n s k ++ looped_at side n more) (λ bits from. told_by_step bits l from s more) (sets l s) (step s k) a
 
 -- ---- the law
 

@@ -1,4 +1,5 @@
 pub mod On
+pub mod Arrival
 pub mod Going
 pub mod Staying
 pub mod Lives

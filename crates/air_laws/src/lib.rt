@@ -13,7 +13,8 @@ ghost use Rattle.air_laws.specs.Links.{LinksAreFlows, LinksAreOrdered};
 /// only when the blocks under way are those that processes hold, no end builds two in a TTI, none is under way for more
 /// than 216 TTIs, and in a handover both ends move under the same keys and nothing is under way behind it. What the records tell of each end
 /// is what it tells in its calls, and it is submitted what is handed in and not refused, and at the terminal what the test loop returns, as
-/// records tell.
+/// records tell. And they tell what goes by air on a channel in each direction, in this order: the PDUs that the sending end's PDCP gives RLC, the
+/// PDUs of RLC in its new blocks, and those in the blocks that come; a handover ends the life.
 pub fn lines_go_by_air()
     ensures { StepsGoByAir }
 {}
@@ -29,8 +30,9 @@ pub fn lives_begin_by_air()
 
 /// From the line on in which acknowledged bearers come at both ends, and through any steps since in which no other bearer of the channel comes and
 /// no block is forged, both ends live on by air, from life to life; they have these bearers still; the records tell of each end what it tells in
-/// all these calls; what it is submitted on each channel in them is what was handed in and what the loop returned, in this order; and in none
-/// of them a discard timer is set on the channel, if no line sets one. Nothing but its ends and its TTIs so far matters of the link.
+/// all these calls; what it is submitted on each channel in them is what was handed in and what the loop returned, in this order; what goes by
+/// air on the channel is what the records of each step tell of it; and in none of them a discard timer is set on the channel, if no line sets one.
+/// Nothing but its ends and its TTIs so far matters of the link.
 pub fn lives_go_on()
     ensures bearers { BearersLive }
     ensures steps { StepsLive }

@@ -70,7 +70,7 @@ still (records.Shown number direction len) h = absurd (false≢true h)
 
 -- ---- all that is shown
 
-abbrev AllShown : List Record → Type 0
+abbrev pub AllShown : List Record → Type 0
 AllShown [] = Unit {0}
 AllShown (one ∷ more) = (is_shown one ≡ true) × AllShown more
 
@@ -138,7 +138,7 @@ items_show : (kinds : List (Option Layout)) (is : List MacItem) → AllShown (it
 items_show kinds [] = tt
 items_show kinds (i ∷ is) = all_append (item_shown kinds i) (items_shown kinds is) (item_shows kinds i) (items_show kinds is)
 
-block_shows : (kinds : List (Option Layout)) (r : Result (List MacItem) MacRefusal) → AllShown (shown_by kinds r)
+pub block_shows : (kinds : List (Option Layout)) (r : Result (List MacItem) MacRefusal) → AllShown (shown_by kinds r)
 block_shows kinds (Ok items) = items_show kinds items
 block_shows kinds (Err fault) = (refl, tt)
 

@@ -18,6 +18,7 @@ use Rattle.air_text.specs.Groups.{Group, history}
 use Rattle.bearer_types.specs.declared.config.BearerConfig.{BearerConfig}
 use Rattle.bearer_types.specs.declared.event.Event.{Event}
 use Rattle.bearer_types.specs.declared.event.Event.TheVariants as events
+use Rattle.channel_laws.specs.Arrival.{happened as flown_in}
 use Rattle.channel_laws.specs.Delivery.{BeginAlike, SetNone, went_up, was_submitted}
 use Rattle.channel_laws.proofs.Delivery.{channels_deliver_in_order, channels_deliver_undiscarded, unset_discards_none}
 use Rattle.channel_laws.specs.Lives.{AirStep, end_at, all_calls}
@@ -36,9 +37,12 @@ use Rattle.link_laws.proofs.Going.{told_both}
 use Rattle.link_laws.specs.Zero.{sdu_of, ups_in}
 use Rattle.pdcp_laws.specs.Lists.{IsSubsequence}
 use Rattle.prioritise.proofs.ChannelLemmas.{both_false}
+use Rattle.air_laws.specs.Arrival.{tells_in}
+use Rattle.am_arrival_laws.specs.Lives.{Happening}
 use Rattle.air_laws.specs.Lived.{IsAcknowledged, Lived}
 use Rattle.air_laws.proofs.Lived.{bearers_live}
 use Rattle.air_laws.proofs.Lives.{channels_begin}
+use Rattle.run_laws.specs.Arrival.{ended_by, happened}
 use Rattle.run_laws.specs.Delivery.{forges, is_forged, sets_timer, is_timed, discarded, DeliverAll, DeliversInOrder}
 use Rattle.run_laws.specs.Flows.{handed_in, looped_at, submitted, delivered}
 use Rattle.run_laws.specs.Order.{state_behind, IsRight, KeepsOrder}
@@ -46,7 +50,7 @@ use Rattle.run_laws.specs.Parts.{part}
 use Rattle.run_laws.specs.Texts.{config_by, config_of}
 use Rattle.run_laws.proofs.Early.{is_early}
 use Rattle.run_laws.proofs.Failed.{HasSender, sender_goes, sender_begins}
-use Rattle.run_laws.proofs.Flowing.{Sdus, unseen, LineLives, line_lives}
+use Rattle.run_laws.proofs.Flowing.{Sdus, Happened, unseen, LineLives, line_lives}
 use Rattle.run_laws.proofs.Keys.{not_first, not_second, no_cause}
 use Rattle.run_laws.proofs.Past.{behind, link_behind}
 use Rattle.run_laws.proofs.Texts.{adds_one, adds_it, unchanged}
@@ -97,11 +101,13 @@ pub record IsDelivering (l : ℕ) (c : BearerConfig) (past : List Group) : Type 
   pub alike : BeginAlike l c keys nb ue
   pub told : List Record
   pub handed : Sdus
+  pub flown : Happened
   pub set : Bool
-  pub lived : Lived l nb ue told handed set (link_behind past)
+  pub lived : Lived l nb ue told handed flown set (link_behind past)
   pub unset : is_timed l past ≡ false → set ≡ false
   pub told_is : (side : Side) → told_by side (history past) ≡ told_by side told
   pub submitted_is : (side : Side) → submitted side l past ≡ handed side l
+  pub happened_is : (bits : ℕ) (from : Side) → happened bits l from past ≡ flown bits from
   pub senders : (side : Side) → HasSender side l past
 
 -- ---- a line since
@@ -112,8 +118,8 @@ goes_on l c past g right order other own d =
     let m = behind_line g.line (state_behind past) in
     let p = part g.line in
     let set = d.set || sets_timer l g.line in
-    let x : LineLives l d.nb d.ue d.told d.handed set p m =
-    line_lives l d.nb d.ue d.told d.handed d.set g.line (state_behind past).rules.keys k (behind past order).nothing right.in_range other own d.lived in
+    let x : LineLives l d.nb d.ue d.told d.handed d.flown set (ended_by g.line) p m =
+    line_lives l d.nb d.ue d.told d.handed d.flown d.set g.line (state_behind past).rules.keys k (behind past order).nothing right.in_range other own d.lived in
     record {
       keys = d.keys;
       nb = d.nb;
@@ -121,8 +127,9 @@ goes_on l c past g right order other own d =
       alike = d.alike;
       told = d.told ++ x.more;
       handed = λ side n. d.handed side n ++ (handed_in side n p m.out ++ looped_at side n m.out);
+      flown = λ bits from. d.flown bits from ++ (ended_by g.line ++ tells_in bits l from [] m.out);
       set = set;
-      lived = unseen l d.nb d.ue _ _ set m [] x.lived;
+      lived = unseen l d.nb d.ue _ _ _ set m [] x.lived;
       unset = λ off. let apart = both_false (sets_timer l g.line) (is_timed l past) off in ap (λ (b : Bool). b || sets_timer l g.line) (d.unset apart.1) ∙ apart.0;
       told_is = λ side.
           told_both side (history past) (records.Line g.number g.line ∷ g.events) (told_by side d.told) (told_by side x.more) (d.told_is side) (ap (told_by side) right.events_are ∙ x.told_are side)
@@ -130,6 +137,9 @@ goes_on l c past g right order other own d =
       submitted_is = λ side.
           ap (λ (xs : List (List ℕ)). xs ++ (handed_in side l p g.events ++ looped_at side l g.events)) (d.submitted_is side)
           ∙ ap (λ (ys : List Record). d.handed side l ++ (handed_in side l p ys ++ looped_at side l ys)) right.events_are;
+      happened_is = λ bits from.
+          ap (λ (hs : List Happening). hs ++ (ended_by g.line ++ tells_in bits l from [] g.events)) (d.happened_is bits from)
+          ∙ ap (λ (ys : List Record). d.flown bits from ++ (ended_by g.line ++ tells_in bits l from [] ys)) right.events_are;
       senders = λ side. sender_goes side l past g right order other (d.senders side);
     }
 
@@ -185,11 +195,13 @@ begin_by past g c options right order kind =
       };
       told = [];
       handed = λ side n. [];
+      flown = λ bits from. [];
       set = false;
-      lived = unseen l _ _ [] _ false (bears c keys k) [] b.lived;
+      lived = unseen l _ _ [] _ _ false (bears c keys k) [] b.lived;
       unset = λ off. refl;
       told_is = now.none_told;
       submitted_is = λ side. now.none_submitted side l;
+      happened_is = λ bits from. now.none_happened bits l from;
       senders = at_each (λ side. HasSender side l _)
           (sender_begins Nb l c keys _ kind (channels_begin c keys k right.in_range rest Nb here.0))
           (sender_begins Ue l c keys _ kind (channels_begin c keys k right.in_range rest Ue here.1));
@@ -237,6 +249,9 @@ module _ (l : ℕ) (c : BearerConfig) (past : List Group) (d : IsDelivering l c 
 
   pub was_submitted_is : (from : Side) → was_submitted l (all_calls from steps start) (end_at from start) ≡ submitted from l past
   was_submitted_is from = d.lived.by.submitted_is from l ∙ sym (d.submitted_is from)
+
+  pub happened_from : (bits : ℕ) (from : Side) → flown_in bits l from steps start ≡ happened bits l from past
+  happened_from bits from = d.lived.by.happened_is bits from ∙ sym (d.happened_is bits from)
 
 delivers : (past : List Group) → KeepsOrder past → DeliverAll past
 delivers past order from l c e kind own =

@@ -16,8 +16,11 @@ use Rattle.l2_types.specs.declared.side.Side.TheVariants.{Nb, Ue}
 use Rattle.link_laws.specs.Calls as calls
 use Rattle.link_laws.specs.Ends.{told_by}
 use Rattle.link_laws.proofs.Going.{told_both}
+use Rattle.air_laws.specs.Arrival.{tells_in}
+use Rattle.am_arrival_laws.specs.Lives.{Happening}
 use Rattle.air_laws.specs.Lives.{IsAtRest}
 use Rattle.air_laws.proofs.Lives.{first_rests, calls_rest}
+use Rattle.run_laws.specs.Arrival.{ended_by, happened}
 use Rattle.run_laws.specs.Flows.{handed_in, looped_at, submitted}
 use Rattle.run_laws.specs.Order.{state_behind, KeepsOrder}
 use Rattle.run_laws.specs.Parts.{Rests, part}
@@ -29,15 +32,16 @@ record StillRests (line : Line) (k m : Link) : Type 0 where
   rest : IsAtRest m
   silent : m.out ≡ k.out
   part_is : part line ≡ Rests
+  lives_on : ended_by line ≡ []
 
 configures : (line : Line) (r : Rules) (k : Link) → IsInRange line → (accepted line r).begun ≡ false → IsAtRest k → StillRests line k (played line r.keys k)
 unfolding acted accepted Rattle.air_link.specs.Lines.visits Rattle.air_link.specs.Lines.reports Rattle.air_link.specs.Lines.bears Rattle.air_link.specs.Lines.discards Rattle.air_link.specs.Lines.listens
-configures (lines.Harq maximum) r k fits early h = record { rest = calls_rest (calls.Visits maximum) k fits.some fits.few h; silent = refl; part_is = refl }
-configures lines.Bsr r k fits early h = record { rest = calls_rest calls.Reports k tt tt h; silent = refl; part_is = refl }
-configures (lines.Keys keys) r k fits early h = record { rest = h; silent = refl; part_is = refl }
-configures (lines.Bearer config options) r k fits early h = record { rest = calls_rest (calls.Bears config (keys_or_none r.keys)) k fits tt h; silent = refl; part_is = refl }
-configures (lines.Discard lcid ttis) r k fits early h = record { rest = calls_rest (calls.Discards lcid ttis) k tt tt h; silent = refl; part_is = refl }
-configures (lines.Drx config) r k fits early h = record { rest = calls_rest (calls.Listens config) k tt tt h; silent = refl; part_is = refl }
+configures (lines.Harq maximum) r k fits early h = record { rest = calls_rest (calls.Visits maximum) k fits.some fits.few h; silent = refl; part_is = refl; lives_on = refl }
+configures lines.Bsr r k fits early h = record { rest = calls_rest calls.Reports k tt tt h; silent = refl; part_is = refl; lives_on = refl }
+configures (lines.Keys keys) r k fits early h = record { rest = h; silent = refl; part_is = refl; lives_on = refl }
+configures (lines.Bearer config options) r k fits early h = record { rest = calls_rest (calls.Bears config (keys_or_none r.keys)) k fits tt h; silent = refl; part_is = refl; lives_on = refl }
+configures (lines.Discard lcid ttis) r k fits early h = record { rest = calls_rest (calls.Discards lcid ttis) k tt tt h; silent = refl; part_is = refl; lives_on = refl }
+configures (lines.Drx config) r k fits early h = record { rest = calls_rest (calls.Listens config) k tt tt h; silent = refl; part_is = refl; lives_on = refl }
 configures line r k fits early h = absurd cc
 
 -- what began once has begun for all lines that follow
@@ -58,6 +62,7 @@ pub record IsEarly (past : List Group) : Type 0 where
   pub silent : (link_behind past).out ≡ []
   pub none_told : (side : Side) → told_by side (history past) ≡ []
   pub none_submitted : (side : Side) (lcid : ℕ) → submitted side lcid past ≡ []
+  pub none_happened : (bits lcid : ℕ) (from : Side) → happened bits lcid from past ≡ []
 
 -- the records are written
 shown_rests : (k : Link) → IsAtRest k → IsAtRest (shown k)
@@ -78,11 +83,14 @@ still_early past g h s e =
           ap (λ (xs : List (List ℕ)). xs ++ (handed_in side lcid (part g.line) g.events ++ looped_at side lcid g.events)) (h.none_submitted side lcid)
           ∙ ap (λ p. handed_in side lcid p g.events ++ looped_at side lcid g.events) s.part_is
           ∙ ap (λ (x : List Record). looped_at side lcid x) none ∙ none_looped side lcid;
+      none_happened = λ bits lcid from.
+          ap (λ (hs : List Happening). hs ++ (ended_by g.line ++ tells_in bits lcid from [] g.events)) (h.none_happened bits lcid from)
+          ∙ ap (λ (hs : List Happening). hs ++ tells_in bits lcid from [] g.events) s.lives_on ∙ ap (λ (x : List Record). tells_in bits lcid from [] x) none;
     }
 
 pub is_early : (past : List Group) → KeepsOrder past → (state_behind past).rules.begun ≡ false → IsEarly past
 unfolding fresh fresh_link
-is_early [] order early = record { rest = first_rests; silent = refl; none_told = λ side. refl; none_submitted = λ side lcid. refl }
+is_early [] order early = record { rest = first_rests; silent = refl; none_told = λ side. refl; none_submitted = λ side lcid. refl; none_happened = λ bits lcid from. refl }
 is_early (g ∷ past) (right, order) early =
     let k = link_behind past in
     let h = is_early past order (unbegun g.line (state_behind past).rules early) in

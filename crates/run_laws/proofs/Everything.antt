@@ -2,6 +2,7 @@
 use Rattle.std.proofs.Common.{Bool, ℕ, List}
 use Rattle.run_laws.specs.Promises.{IsPromised}
 use Rattle.air_run.specs.Journal.{journal_of}
+use Rattle.run_laws.proofs.Arriving.{hand_up_what_came}
 use Rattle.run_laws.proofs.Counts.{counts_behind}
 use Rattle.run_laws.proofs.Delivering.{delivers_in_order}
 use Rattle.run_laws.proofs.Drains.{drains_leave_nothing}
@@ -32,6 +33,7 @@ every-journal whole octets =
       loops = return_in_order t.later t.order;
       brought = bring_in_order t.later t.order;
       delivered = delivers_in_order t.later t.order;
+      came = hand_up_what_came t.later t.order;
       drained = drains_leave_nothing t.later t.order;
       signalled = delivers_each_life t.later t.order;
       signals_drained = drains_leave_no_signal t.later t.order;

@@ -1,5 +1,5 @@
 -- Through every line since its bearers came the steps of a channel go on, with what is submitted and what is told.
-use Rattle.std.proofs.Common.{◌≡◌, ◌≤◌, ℕ, zero, suc, ◌==◌, Bool, true, false, ◌||◌, if◌then◌else◌, Option, Some, None, List, [], ◌∷◌, ◌++◌, map, append-nil, append_assoc, refl, ap, sym, ◌∙◌}
+use Rattle.std.proofs.Common.{◌≡◌, ◌≤◌, ℕ, zero, suc, ◌==◌, Bool, true, false, ◌||◌, if◌then◌else◌, Option, Some, None, List, [], ◌∷◌, ◌++◌, map, append-nil, append_assoc, refl, ap, sym, subst, ◌∙◌}
 use Rattle.std.specs.Prelude.{option_map}
 use Rattle.std.specs.List.{filter}
 use Rattle.std.proofs.lemmas.List.{map-append}
@@ -28,12 +28,16 @@ use Rattle.link_laws.specs.Told.{refusals}
 use Rattle.link_laws.specs.Zero.{sdu_of}
 use Rattle.link_laws.proofs.Calling.{submitting_adds}
 use Rattle.l2_node.specs.End.{End}
-use Rattle.air_laws.specs.Going.{sets, handed_in as handed_by, looped_at as looped_by, IsStepSince}
+use Rattle.air_laws.specs.Arrival.{tells_in, renews, told_by_step}
+use Rattle.am_arrival_laws.specs.Lives.{Happening}
+use Rattle.air_laws.specs.Going.{TellAlone, sets, handed_in as handed_by, looped_at as looped_by, IsStepSince}
 use Rattle.air_laws.specs.Lived.{Lived}
+use Rattle.air_laws.proofs.Going.{last_in, tells_more}
 use Rattle.air_laws.specs.Staying.{hands_over as moves}
 use Rattle.air_laws.proofs.Lived.{ends_live, steps_live}
 use Rattle.air_laws.proofs.Staying.{LivedIn, ends_live_in, lived_in_as, steps_live_in}
 use Rattle.test_loop.specs.declared.Mode.TheVariants.{Off, A, B}
+use Rattle.run_laws.specs.Arrival.{ended_by}
 use Rattle.run_laws.specs.Delivery.{forges, sets_timer}
 use Rattle.run_laws.specs.Drained.{hands_over}
 use Rattle.run_laws.specs.Flows.{handed_in, looped_at}
@@ -44,6 +48,10 @@ use Rattle.run_laws.proofs.Texts.{adds_one}
 -- the SDUs of each side and channel
 abbrev pub Sdus : Type 0
 Sdus = Side → ℕ → List (List ℕ)
+
+-- what happens to the PDUs that go from each side, by the bits of PDCP's numbers
+abbrev pub Happened : Type 0
+Happened = ℕ → Side → List Happening
 
 -- ---- SDUs that come back through the test loop
 
@@ -96,134 +104,178 @@ or_false : (b : Bool) → (b || false) ≡ b
 or_false true = refl
 or_false false = refl
 
--- of what is known of a link by what was told, submitted and set since it began: a step goes on with it
-pub record StepLives (l : ℕ) (Live : List Record → Sdus → Bool → Link → Type 0) (told : List Record) (handed : Sdus) (set : Bool) (s : Step) (k : Link) : Type 0 where
+-- ---- what records tell of the air
+
+pub tells_both : (l : ℕ) (f g : List Record) → TellAlone l g → (bits : ℕ) (from : Side) → tells_in bits l from [] (f ++ g) ≡ tells_in bits l from [] f ++ tells_in bits l from [] g
+tells_both l f g h bits from = tells_more bits l from [] f g ∙ ap (λ (hs : List Happening). tells_in bits l from [] f ++ hs) (h bits from (last_in f []))
+
+alone_both : (l : ℕ) (f g : List Record) → TellAlone l f → TellAlone l g → TellAlone l (f ++ g)
+alone_both l f g p q bits from sent =
+    tells_more bits l from sent f g
+    ∙ (ap (λ (hs : List Happening). hs ++ tells_in bits l from (last_in f sent) g) (p bits from sent)
+    ∙ (ap (λ (hs : List Happening). tells_in bits l from [] f ++ hs) (q bits from (last_in f sent)) ∙ sym (tells_both l f g q bits from)))
+
+both_flown : (l : ℕ) (all : List Happening) (f g : List Record) → TellAlone l g → (bits : ℕ) (from : Side)
+    → (all ++ tells_in bits l from [] f) ++ tells_in bits l from [] g ≡ all ++ tells_in bits l from [] (f ++ g)
+both_flown l all f g h bits from =
+    append_assoc all (tells_in bits l from [] f) (tells_in bits l from [] g) ∙ ap (λ (hs : List Happening). all ++ hs) (sym (tells_both l f g h bits from))
+
+unflown_end : (bits l : ℕ) (from : Side) (said : List Record) (is_done : Bool) (done : ℕ) → tells_in bits l from [] (said ++ ending is_done done ∷ []) ≡ tells_in bits l from [] said
+unflown_end bits l from said is_done done =
+    tells_more bits l from [] said (ending is_done done ∷ []) ∙ (ap (λ (hs : List Happening). tells_in bits l from [] said ++ hs) (none is_done (last_in said [])) ∙ append-nil (tells_in bits l from [] said))
+  where
+    none : (b : Bool) (sent : List ℕ) → tells_in bits l from sent (ending b done ∷ []) ≡ []
+    none true sent = refl
+    none false sent = refl
+
+-- of what is known of a link by what was told, submitted, what went by air and what was set since it began: a step goes on with it
+pub record StepLives (l : ℕ) (Live : List Record → Sdus → Happened → Bool → Link → Type 0) (told : List Record) (handed : Sdus) (flown : Happened) (set : Bool) (s : Step) (k : Link) : Type 0 where
   pub more : List Record
   pub out_is : (step s k).out ≡ k.out ++ more
-  pub lived : Live (told ++ more) (λ side n. handed side n ++ (handed_by side n s k ++ looped_by side n more)) (set || sets l s) (step s k)
+  pub alone : TellAlone l more
+  pub lived : Live (told ++ more) (λ side n. handed side n ++ (handed_by side n s k ++ looped_by side n more)) (λ bits from. flown bits from ++ told_by_step bits l from s more) (set || sets l s) (step s k)
 
 -- and so does each but a handover
-pub record GoesThrough (l : ℕ) (Live : List Record → Sdus → Bool → Link → Type 0) : Type 0 where
-  pub same : (told told' : List Record) (handed handed' : Sdus) (set set' : Bool) (k : Link) → told ≡ told' → ((side : Side) (n : ℕ) → handed side n ≡ handed' side n) → set ≡ set' → Live told handed set k → Live told' handed' set' k
-  pub unseen : (told : List Record) (handed : Sdus) (set : Bool) (k : Link) (out : List Record) → Live told handed set k → Live told handed set (record k { out = out })
-  pub steps : (told : List Record) (handed : Sdus) (set : Bool) (s : Step) (k : Link) → IsStepSince l s → moves s ≡ false → Live told handed set k → StepLives l Live told handed set s k
+pub record GoesThrough (l : ℕ) (Live : List Record → Sdus → Happened → Bool → Link → Type 0) : Type 0 where
+  pub same : (told told' : List Record) (handed handed' : Sdus) (flown flown' : Happened) (set set' : Bool) (k : Link) → told ≡ told' → ((side : Side) (n : ℕ) → handed side n ≡ handed' side n)
+      → ((bits : ℕ) (from : Side) → flown bits from ≡ flown' bits from) → set ≡ set' → Live told handed flown set k → Live told' handed' flown' set' k
+  pub unseen : (told : List Record) (handed : Sdus) (flown : Happened) (set : Bool) (k : Link) (out : List Record) → Live told handed flown set k → Live told handed flown set (record k { out = out })
+  pub steps : (told : List Record) (handed : Sdus) (flown : Happened) (set : Bool) (s : Step) (k : Link) → IsStepSince l s → moves s ≡ false → Live told handed flown set k → StepLives l Live told handed flown set s k
 
-module _ (l : ℕ) (Live : List Record → Sdus → Bool → Link → Type 0) (through : GoesThrough l Live) where
+module _ (l : ℕ) (Live : List Record → Sdus → Happened → Bool → Link → Type 0) (through : GoesThrough l Live) where
   -- steps that hand in nothing
-  record GoesOn (told : List Record) (handed : Sdus) (set : Bool) (k m : Link) : Type 0 where
+  record GoesOn (told : List Record) (handed : Sdus) (flown : Happened) (set : Bool) (k m : Link) : Type 0 where
     more : List Record
     out_is : m.out ≡ k.out ++ more
-    lived : Live (told ++ more) (λ side n. handed side n ++ looped_at side n more) set m
+    alone : TellAlone l more
+    lived : Live (told ++ more) (λ side n. handed side n ++ looped_at side n more) (λ bits from. flown bits from ++ tells_in bits l from [] more) set m
 
-  goes_by : (told : List Record) (handed : Sdus) (set : Bool) (s : Step) (k : Link) → IsStepSince l s → moves s ≡ false → sets l s ≡ false → ((side : Side) (n : ℕ) → handed_by side n s k ≡ []) → Live told handed set k
-      → GoesOn told handed set k (step s k)
-  goes_by told handed set s k g own unset none h =
-      let x = through.steps told handed set s k g own h in
+  goes_by : (told : List Record) (handed : Sdus) (flown : Happened) (set : Bool) (s : Step) (k : Link) → IsStepSince l s → moves s ≡ false → sets l s ≡ false → renews s ≡ [] → ((side : Side) (n : ℕ) → handed_by side n s k ≡ []) → Live told handed flown set k
+      → GoesOn told handed flown set k (step s k)
+  goes_by told handed flown set s k g own unset stays none h =
+      let x = through.steps told handed flown set s k g own h in
       record {
         more = x.more;
         out_is = x.out_is;
-        lived = through.same _ _ _ _ (set || sets l s) set (step s k) refl
+        alone = x.alone;
+        lived = through.same _ _ _ _ _ _ (set || sets l s) set (step s k) refl
             (λ side n. ap (λ (ys : List (List ℕ)). handed side n ++ (ys ++ looped_by side n x.more)) (none side n) ∙ ap (λ (ys : List (List ℕ)). handed side n ++ ys) (air_looped side n x.more))
+            (λ bits from. ap (λ (hs : List Happening). flown bits from ++ (hs ++ tells_in bits l from [] x.more)) stays)
             (ap (λ (b : Bool). set || b) unset ∙ or_false set) x.lived;
       }
 
-  still : (told : List Record) (handed : Sdus) (set : Bool) (k m : Link) → m.out ≡ k.out → Live told handed set m → GoesOn told handed set k m
-  still told handed set k m out h = record {
+  still : (told : List Record) (handed : Sdus) (flown : Happened) (set : Bool) (k m : Link) → m.out ≡ k.out → Live told handed flown set m → GoesOn told handed flown set k m
+  still told handed flown set k m out h = record {
     more = [];
     out_is = out ∙ sym (append-nil k.out);
-    lived = through.same told (told ++ []) handed _ set set m (sym (append-nil told)) (λ side n. sym (no_more side n (handed side n))) refl h;
+    alone = λ bits from sent. refl;
+    lived = through.same told (told ++ []) handed _ flown _ set set m (sym (append-nil told)) (λ side n. sym (no_more side n (handed side n))) (λ bits from. sym (append-nil (flown bits from))) refl h;
   }
 
-  then_goes : (told : List Record) (handed : Sdus) (set : Bool) (k m o : Link) (g : GoesOn told handed set k m)
-      → GoesOn (told ++ g.more) (λ side n. handed side n ++ looped_at side n g.more) set m o → GoesOn told handed set k o
-  then_goes told handed set k m o g q = record {
+  then_goes : (told : List Record) (handed : Sdus) (flown : Happened) (set : Bool) (k m o : Link) (g : GoesOn told handed flown set k m)
+      → GoesOn (told ++ g.more) (λ side n. handed side n ++ looped_at side n g.more) (λ bits from. flown bits from ++ tells_in bits l from [] g.more) set m o → GoesOn told handed flown set k o
+  then_goes told handed flown set k m o g q = record {
     more = g.more ++ q.more;
     out_is = q.out_is ∙ ap (λ (x : List Record). x ++ q.more) g.out_is ∙ append_assoc k.out g.more q.more;
-    lived = through.same _ (told ++ (g.more ++ q.more)) _ _ set set o (append_assoc told g.more q.more) (λ side n. both_looped side n (handed side n) g.more q.more) refl q.lived;
+    alone = alone_both l g.more q.more g.alone q.alone;
+    lived = through.same _ (told ++ (g.more ++ q.more)) _ _ _ _ set set o (append_assoc told g.more q.more) (λ side n. both_looped side n (handed side n) g.more q.more)
+        (λ bits from. both_flown l (flown bits from) g.more q.more q.alone bits from) refl q.lived;
   }
 
-  tti_goes : (told : List Record) (handed : Sdus) (set : Bool) (grant : ℕ) (k : Link) → grant ≤ 9422 → Live told handed set k → GoesOn told handed set k (drain_tti grant k)
-  tti_goes told handed set grant k within h = goes_by told handed set (Drains grant) k within refl refl (λ side n. refl) h
+  tti_goes : (told : List Record) (handed : Sdus) (flown : Happened) (set : Bool) (grant : ℕ) (k : Link) → grant ≤ 9422 → Live told handed flown set k → GoesOn told handed flown set k (drain_tti grant k)
+  tti_goes told handed flown set grant k within h = goes_by told handed flown set (Drains grant) k within refl refl refl (λ side n. refl) h
 
-  receivers_go : (told : List Record) (handed : Sdus) (set : Bool) (k : Link) → Live told handed set k → GoesOn told handed set k (receivers_expire k)
-  receivers_go told handed set k h = goes_by told handed set (Calls calls.ReceiversExpire) k tt refl refl (λ side n. refl) h
+  receivers_go : (told : List Record) (handed : Sdus) (flown : Happened) (set : Bool) (k : Link) → Live told handed flown set k → GoesOn told handed flown set k (receivers_expire k)
+  receivers_go told handed flown set k h = goes_by told handed flown set (Calls calls.ReceiversExpire) k tt refl refl refl (λ side n. refl) h
 
-  senders_go : (b : Bool) (told : List Record) (handed : Sdus) (set : Bool) (k : Link) → Live told handed set k → GoesOn told handed set k (senders_unless b k)
-  senders_go true told handed set k h = still told handed set k k refl h
-  senders_go false told handed set k h = goes_by told handed set (Calls calls.SendersExpire) k tt refl refl (λ side n. refl) h
+  senders_go : (b : Bool) (told : List Record) (handed : Sdus) (flown : Happened) (set : Bool) (k : Link) → Live told handed flown set k → GoesOn told handed flown set k (senders_unless b k)
+  senders_go true told handed flown set k h = still told handed flown set k k refl h
+  senders_go false told handed flown set k h = goes_by told handed flown set (Calls calls.SendersExpire) k tt refl refl refl (λ side n. refl) h
 
-  round_goes : (told : List Record) (handed : Sdus) (set : Bool) (grant : ℕ) (k : Link) → grant ≤ 9422 → Live told handed set k → GoesOn told handed set k (round grant k)
-  round_goes told handed set grant k within h =
+  round_goes : (told : List Record) (handed : Sdus) (flown : Happened) (set : Bool) (grant : ℕ) (k : Link) → grant ≤ 9422 → Live told handed flown set k → GoesOn told handed flown set k (round grant k)
+  round_goes told handed flown set grant k within h =
       let m = drain_tti grant k in
       let n = receivers_expire m in
-      let to_m = tti_goes told handed set grant k within h in
-      let to_n = then_goes told handed set k m n to_m (receivers_go (told ++ to_m.more) _ set m to_m.lived) in
-      then_goes told handed set k n (senders_unless (carried m) n) to_n (senders_go (carried m) (told ++ to_n.more) _ set n to_n.lived)
+      let to_m = tti_goes told handed flown set grant k within h in
+      let to_n = then_goes told handed flown set k m n to_m (receivers_go (told ++ to_m.more) _ _ set m to_m.lived) in
+      then_goes told handed flown set k n (senders_unless (carried m) n) to_n (senders_go (carried m) (told ++ to_n.more) _ _ set n to_n.lived)
 
   -- ---- a part of a drain
 
-  record DrainLives (told : List Record) (handed : Sdus) (set : Bool) (d : Drained) : Type 0 where
+  record DrainLives (told : List Record) (handed : Sdus) (flown : Happened) (set : Bool) (d : Drained) : Type 0 where
     nothing : d.link.out ≡ []
-    lived : Live (told ++ d.journal) (λ side n. handed side n ++ looped_at side n d.journal) set d.link
+    alone : TellAlone l d.journal
+    lived : Live (told ++ d.journal) (λ side n. handed side n ++ looped_at side n d.journal) (λ bits from. flown bits from ++ tells_in bits l from [] d.journal) set d.link
 
-  none_drained : (told : List Record) (handed : Sdus) (set : Bool) (k : Link) → k.out ≡ [] → Live told handed set k → DrainLives told handed set (at_once k)
-  none_drained told handed set k nothing h = record {
+  none_drained : (told : List Record) (handed : Sdus) (flown : Happened) (set : Bool) (k : Link) → k.out ≡ [] → Live told handed flown set k → DrainLives told handed flown set (at_once k)
+  none_drained told handed flown set k nothing h = record {
     nothing = nothing;
-    lived = through.same told (told ++ []) handed _ set set k (sym (append-nil told)) (λ side n. sym (no_more side n (handed side n))) refl h;
+    alone = λ bits from sent. refl;
+    lived = through.same told (told ++ []) handed _ flown _ set set k (sym (append-nil told)) (λ side n. sym (no_more side n (handed side n))) (λ bits from. sym (append-nil (flown bits from))) refl h;
   }
 
-  first_drained : (told : List Record) (handed : Sdus) (set : Bool) (done : ℕ) (first : List Record) (d : Drained)
-      → DrainLives (told ++ first) (λ side n. handed side n ++ looped_at side n first) set d → DrainLives told handed set (behind first done d)
-  first_drained told handed set done first d q = record {
+  first_drained : (told : List Record) (handed : Sdus) (flown : Happened) (set : Bool) (done : ℕ) (first : List Record) (d : Drained) → TellAlone l first
+      → DrainLives (told ++ first) (λ side n. handed side n ++ looped_at side n first) (λ bits from. flown bits from ++ tells_in bits l from [] first) set d → DrainLives told handed flown set (behind first done d)
+  first_drained told handed flown set done first d yet q = record {
     nothing = q.nothing;
-    lived = through.same _ (told ++ (first ++ d.journal)) _ _ set set d.link (append_assoc told first d.journal) (λ side n. both_looped side n (handed side n) first d.journal) refl q.lived;
+    alone = alone_both l first d.journal yet q.alone;
+    lived = through.same _ (told ++ (first ++ d.journal)) _ _ _ _ set set d.link (append_assoc told first d.journal) (λ side n. both_looped side n (handed side n) first d.journal)
+        (λ bits from. both_flown l (flown bits from) first d.journal q.alone bits from) refl q.lived;
   }
 
   -- where nothing was told before
-  alone : (told : List Record) (handed : Sdus) (set : Bool) (k m : Link) → k.out ≡ [] → GoesOn told handed set k m → Live (told ++ m.out) (λ side n. handed side n ++ looped_at side n m.out) set m
-  alone told handed set k m nothing g =
+  record First (told : List Record) (handed : Sdus) (flown : Happened) (set : Bool) (m : Link) : Type 0 where
+    alone : TellAlone l m.out
+    lived : Live (told ++ m.out) (λ side n. handed side n ++ looped_at side n m.out) (λ bits from. flown bits from ++ tells_in bits l from [] m.out) set m
+
+  at_first : (told : List Record) (handed : Sdus) (flown : Happened) (set : Bool) (k m : Link) → k.out ≡ [] → GoesOn told handed flown set k m → First told handed flown set m
+  at_first told handed flown set k m nothing g =
       let same : m.out ≡ g.more = g.out_is ∙ ap (λ (x : List Record). x ++ g.more) nothing in
-      through.same _ _ _ _ set set m (ap (λ (x : List Record). told ++ x) (sym same)) (λ side n. ap (λ (x : List Record). handed side n ++ looped_at side n x) (sym same)) refl g.lived
+      record {
+        alone = subst (TellAlone l) (sym same) g.alone;
+        lived = through.same _ _ _ _ _ _ set set m (ap (λ (x : List Record). told ++ x) (sym same)) (λ side n. ap (λ (x : List Record). handed side n ++ looped_at side n x) (sym same))
+            (λ bits from. ap (λ (x : List Record). flown bits from ++ tells_in bits l from [] x) (sym same)) refl g.lived;
+      }
 
-  ttis_go : (n grant : ℕ) (told : List Record) (handed : Sdus) (set : Bool) (k : Link) → grant ≤ 9422 → k.out ≡ [] → Live told handed set k → DrainLives told handed set (ttis n grant k)
-  ttis_go zero grant told handed set k within nothing h = none_drained told handed set k nothing h
-  ttis_go (suc n) grant told handed set k within nothing h =
+  ttis_go : (n grant : ℕ) (told : List Record) (handed : Sdus) (flown : Happened) (set : Bool) (k : Link) → grant ≤ 9422 → k.out ≡ [] → Live told handed flown set k → DrainLives told handed flown set (ttis n grant k)
+  ttis_go zero grant told handed flown set k within nothing h = none_drained told handed flown set k nothing h
+  ttis_go (suc n) grant told handed flown set k within nothing h =
       let m = drain_tti grant k in
-      first_drained told handed set 0 m.out (ttis n grant (shown m))
-      (ttis_go n grant (told ++ m.out) _ set (shown m) within refl (through.unseen (told ++ m.out) _ set m [] (alone told handed set k m nothing (tti_goes told handed set grant k within h))))
+      let x = at_first told handed flown set k m nothing (tti_goes told handed flown set grant k within h) in
+      first_drained told handed flown set 0 m.out (ttis n grant (shown m)) x.alone (ttis_go n grant (told ++ m.out) _ _ set (shown m) within refl (through.unseen (told ++ m.out) _ _ set m [] x.lived))
 
-  round_by : (n grant : ℕ) (told : List Record) (handed : Sdus) (set : Bool) (k : Link) → grant ≤ 9422 → k.out ≡ [] → Live told handed set k → (b : Bool)
-      → ((said : List Record) (given : Sdus) (m : Link) → m.out ≡ [] → Live said given set m → DrainLives said given set (rounds n grant m))
-      → DrainLives told handed set (behind (told_by b grant k) (done_by b) (rounds n grant (left_by b grant k)))
-  round_by n grant told handed set k within nothing h true rest = let q = rest told handed k nothing h in record { nothing = q.nothing; lived = q.lived }
-  round_by n grant told handed set k within nothing h false rest =
+  round_by : (n grant : ℕ) (told : List Record) (handed : Sdus) (flown : Happened) (set : Bool) (k : Link) → grant ≤ 9422 → k.out ≡ [] → Live told handed flown set k → (b : Bool)
+      → ((said : List Record) (given : Sdus) (air : Happened) (m : Link) → m.out ≡ [] → Live said given air set m → DrainLives said given air set (rounds n grant m))
+      → DrainLives told handed flown set (behind (told_by b grant k) (done_by b) (rounds n grant (left_by b grant k)))
+  round_by n grant told handed flown set k within nothing h true rest = let q = rest told handed flown k nothing h in record { nothing = q.nothing; alone = q.alone; lived = q.lived }
+  round_by n grant told handed flown set k within nothing h false rest =
       let m = round grant k in
-      first_drained told handed set 1 m.out (rounds n grant (shown m))
-      (rest (told ++ m.out) _ (shown m) refl (through.unseen (told ++ m.out) _ set m [] (alone told handed set k m nothing (round_goes told handed set grant k within h))))
+      let x = at_first told handed flown set k m nothing (round_goes told handed flown set grant k within h) in
+      first_drained told handed flown set 1 m.out (rounds n grant (shown m)) x.alone (rest (told ++ m.out) _ _ (shown m) refl (through.unseen (told ++ m.out) _ _ set m [] x.lived))
 
-  rounds_go : (n grant : ℕ) (told : List Record) (handed : Sdus) (set : Bool) (k : Link) → grant ≤ 9422 → k.out ≡ [] → Live told handed set k → DrainLives told handed set (rounds n grant k)
-  rounds_go zero grant told handed set k within nothing h = none_drained told handed set k nothing h
-  rounds_go (suc n) grant told handed set k within nothing h =
-      round_by n grant told handed set k within nothing h (is_drained k) (λ said given m none q. rounds_go n grant said given set m within none q)
+  rounds_go : (n grant : ℕ) (told : List Record) (handed : Sdus) (flown : Happened) (set : Bool) (k : Link) → grant ≤ 9422 → k.out ≡ [] → Live told handed flown set k → DrainLives told handed flown set (rounds n grant k)
+  rounds_go zero grant told handed flown set k within nothing h = none_drained told handed flown set k nothing h
+  rounds_go (suc n) grant told handed flown set k within nothing h =
+      round_by n grant told handed flown set k within nothing h (is_drained k) (λ said given air m none q. rounds_go n grant said given air set m within none q)
 
   -- the records of a whole drain end with how it ends
-  record WholeLives (told : List Record) (handed : Sdus) (set : Bool) (d : Drained) : Type 0 where
+  record WholeLives (told : List Record) (handed : Sdus) (flown : Happened) (set : Bool) (d : Drained) : Type 0 where
     said : List Record
-    lived : Live (told ++ said) (λ side n. handed side n ++ looped_at side n said) set d.link
+    lived : Live (told ++ said) (λ side n. handed side n ++ looped_at side n said) (λ bits from. flown bits from ++ tells_in bits l from [] said) set d.link
     is_done : Bool
     done : ℕ
     journal_is : d.journal ≡ said ++ ending is_done done ∷ []
 
-  drained_lives : (told : List Record) (handed : Sdus) (set : Bool) (grant : ℕ) (k : Link) → grant ≤ 9422 → k.out ≡ [] → Live told handed set k → WholeLives told handed set (drained grant k)
+  drained_lives : (told : List Record) (handed : Sdus) (flown : Happened) (set : Bool) (grant : ℕ) (k : Link) → grant ≤ 9422 → k.out ≡ [] → Live told handed flown set k → WholeLives told handed flown set (drained grant k)
   unfolding drained
-  drained_lives told handed set grant k within nothing h =
+  drained_lives told handed flown set grant k within nothing h =
       let d = ttis 8 grant k in
       let e = rounds (budget k) grant d.link in
-      let p = ttis_go 8 grant told handed set k within nothing h in
+      let p = ttis_go 8 grant told handed flown set k within nothing h in
       let whole = behind d.journal 0 e in
       record {
         said = whole.journal;
-        lived = (first_drained told handed set 0 d.journal e (rounds_go (budget k) grant (told ++ d.journal) _ set d.link within p.nothing p.lived)).lived;
+        lived = (first_drained told handed flown set 0 d.journal e p.alone (rounds_go (budget k) grant (told ++ d.journal) _ _ set d.link within p.nothing p.lived)).lived;
         is_done = is_drained whole.link;
         done = whole.done;
         journal_is = refl;
@@ -231,95 +283,100 @@ module _ (l : ℕ) (Live : List Record → Sdus → Bool → Link → Type 0) (t
 
   -- ---- a line
 
-  pub record PartLives (told : List Record) (handed : Sdus) (set : Bool) (p : Part) (m : Link) : Type 0 where
+  pub record PartLives (told : List Record) (handed : Sdus) (flown : Happened) (set : Bool) (ends : List Happening) (p : Part) (m : Link) : Type 0 where
     pub more : List Record
-    pub lived : Live (told ++ more) (λ side n. handed side n ++ (handed_in side n p m.out ++ looped_at side n m.out)) set m
+    pub lived : Live (told ++ more) (λ side n. handed side n ++ (handed_in side n p m.out ++ looped_at side n m.out))
+        (λ bits from. flown bits from ++ (ends ++ tells_in bits l from [] m.out)) set m
     pub told_are : (side : Side) → told_of side m.out ≡ told_of side more
 
-  pub step_plays : (told : List Record) (handed : Sdus) (set : Bool) (s : Step) (k : Link) (p : Part) → k.out ≡ [] → ((side : Side) (n : ℕ) → handed_by side n s k ≡ handed_in side n p (step s k).out)
-      → StepLives l Live told handed set s k → PartLives told handed (set || sets l s) p (step s k)
-  step_plays told handed set s k p nothing given x =
+  pub step_plays : (told : List Record) (handed : Sdus) (flown : Happened) (set : Bool) (s : Step) (k : Link) (p : Part) → k.out ≡ [] → ((side : Side) (n : ℕ) → handed_by side n s k ≡ handed_in side n p (step s k).out)
+      → StepLives l Live told handed flown set s k → PartLives told handed flown (set || sets l s) (renews s) p (step s k)
+  step_plays told handed flown set s k p nothing given x =
       let m = step s k in
       let same : m.out ≡ x.more = x.out_is ∙ ap (λ (y : List Record). y ++ x.more) nothing in
       record {
         more = m.out;
-        lived = through.same _ _ _ _ (set || sets l s) (set || sets l s) m (ap (λ (y : List Record). told ++ y) (sym same))
+        lived = through.same _ _ _ _ _ _ (set || sets l s) (set || sets l s) m (ap (λ (y : List Record). told ++ y) (sym same))
             (λ side n.
             ap (λ (ys : List (List ℕ)). handed side n ++ (handed_by side n s k ++ ys)) (air_looped side n x.more ∙ ap (looped_at side n) (sym same))
             ∙ ap (λ (ys : List (List ℕ)). handed side n ++ (ys ++ looped_at side n m.out)) (given side n))
+            (λ bits from. ap (λ (y : List Record). flown bits from ++ (renews s ++ tells_in bits l from [] y)) (sym same))
             refl x.lived;
         told_are = λ side. refl;
       }
 
-  line_by : (told : List Record) (handed : Sdus) (set : Bool) (s : Step) (k : Link) (p : Part) → k.out ≡ [] → ((side : Side) (n : ℕ) → handed_by side n s k ≡ handed_in side n p (step s k).out)
-      → IsStepSince l s → moves s ≡ false → Live told handed set k → PartLives told handed (set || sets l s) p (step s k)
-  line_by told handed set s k p nothing given g own h = step_plays told handed set s k p nothing given (through.steps told handed set s k g own h)
+  line_by : (told : List Record) (handed : Sdus) (flown : Happened) (set : Bool) (s : Step) (k : Link) (p : Part) → k.out ≡ [] → ((side : Side) (n : ℕ) → handed_by side n s k ≡ handed_in side n p (step s k).out)
+      → IsStepSince l s → moves s ≡ false → Live told handed flown set k → PartLives told handed flown (set || sets l s) (renews s) p (step s k)
+  line_by told handed flown set s k p nothing given g own h = step_plays told handed flown set s k p nothing given (through.steps told handed flown set s k g own h)
 
-  rests_by : (told : List Record) (handed : Sdus) (set : Bool) (c : calls.Call) (k : Link) → k.out ≡ [] → IsStepSince l (Calls c) → moves (Calls c) ≡ false → Live told handed set k
-      → PartLives told handed (set || sets l (Calls c)) Rests (calls.after c k)
-  rests_by told handed set c k nothing g own h = line_by told handed set (Calls c) k Rests nothing (λ side n. refl) g own h
+  rests_by : (told : List Record) (handed : Sdus) (flown : Happened) (set : Bool) (c : calls.Call) (k : Link) → k.out ≡ [] → IsStepSince l (Calls c) → moves (Calls c) ≡ false → Live told handed flown set k
+      → PartLives told handed flown (set || sets l (Calls c)) (renews (Calls c)) Rests (calls.after c k)
+  rests_by told handed flown set c k nothing g own h = line_by told handed flown set (Calls c) k Rests nothing (λ side n. refl) g own h
 
-  none_lives : (told : List Record) (handed : Sdus) (set : Bool) (k : Link) → k.out ≡ [] → Live told handed set k → PartLives told handed (set || false) Rests k
-  none_lives told handed set k nothing h = record {
+  none_lives : (told : List Record) (handed : Sdus) (flown : Happened) (set : Bool) (k : Link) → k.out ≡ [] → Live told handed flown set k → PartLives told handed flown (set || false) [] Rests k
+  none_lives told handed flown set k nothing h = record {
     more = [];
-    lived = through.same told (told ++ []) handed _ set (set || false) k (sym (append-nil told)) (λ side n. sym (no_more side n (handed side n)) ∙ ap (λ (y : List Record). handed side n ++ looped_at side n y) (sym nothing)) (sym (or_false set)) h;
+    lived = through.same told (told ++ []) handed _ flown _ set (set || false) k (sym (append-nil told)) (λ side n. sym (no_more side n (handed side n)) ∙ ap (λ (y : List Record). handed side n ++ looped_at side n y) (sym nothing))
+        (λ bits from. sym (append-nil (flown bits from)) ∙ ap (λ (y : List Record). flown bits from ++ tells_in bits l from [] y) (sym nothing)) (sym (or_false set)) h;
     told_are = λ side. ap (told_of side) nothing;
   }
 
-  submit_lives : (told : List Record) (handed : Sdus) (set : Bool) (side : Side) (lcid : ℕ) (octets : List ℕ) (k : Link) → k.out ≡ [] → Live told handed set k
-      → PartLives told handed (set || false) (Submits side lcid octets) (submitting side lcid octets k)
-  submit_lives told handed set side lcid octets k nothing h =
+  submit_lives : (told : List Record) (handed : Sdus) (flown : Happened) (set : Bool) (side : Side) (lcid : ℕ) (octets : List ℕ) (k : Link) → k.out ≡ [] → Live told handed flown set k
+      → PartLives told handed flown (set || false) [] (Submits side lcid octets) (submitting side lcid octets k)
+  submit_lives told handed flown set side lcid octets k nothing h =
       let why = option_map no_place (refusal lcid octets (end_of side k)) in
       let out : (submitting side lcid octets k).out ≡ refusals side lcid why = (submitting_adds side lcid octets k).out_is ∙ ap (λ (x : List Record). x ++ refusals side lcid why) nothing in
-      line_by told handed set (Submit side lcid octets) k (Submits side lcid octets) nothing
+      line_by told handed flown set (Submit side lcid octets) k (Submits side lcid octets) nothing
       (λ s n. sym (ap (λ (x : List Record). handed_in s n (Submits side lcid octets) x) out ∙ submit_handed (refusal lcid octets (end_of side k)) s side n lcid octets))
       tt refl h
 
-  drain_lives : (told : List Record) (handed : Sdus) (set : Bool) (grant : ℕ) (k : Link) → grant ≤ 9422 → k.out ≡ [] → Live told handed set k → PartLives told handed (set || false) (part (lines.Drain grant)) (record (drained grant k).link { out = (drained grant k).journal })
-  drain_lives told handed set grant k within nothing h =
-      let w = drained_lives told handed set grant k within nothing h in
+  drain_lives : (told : List Record) (handed : Sdus) (flown : Happened) (set : Bool) (grant : ℕ) (k : Link) → grant ≤ 9422 → k.out ≡ [] → Live told handed flown set k → PartLives told handed flown (set || false) [] (part (lines.Drain grant)) (record (drained grant k).link { out = (drained grant k).journal })
+  drain_lives told handed flown set grant k within nothing h =
+      let w = drained_lives told handed flown set grant k within nothing h in
       let d = drained grant k in
       record {
         more = w.said;
-        lived = through.same _ _ _ _ set (set || false) (record d.link { out = d.journal }) refl
+        lived = through.same _ _ _ _ _ _ set (set || false) (record d.link { out = d.journal }) refl
             (λ side n. ap (λ (ys : List (List ℕ)). handed side n ++ ys) (sym (ap (looped_at side n) w.journal_is ∙ unlooped_end side n w.said w.is_done w.done)))
-            (sym (or_false set)) (through.unseen _ _ set d.link d.journal w.lived);
+            (λ bits from. ap (λ (hs : List Happening). flown bits from ++ hs) (sym (ap (tells_in bits l from []) w.journal_is ∙ unflown_end bits l from w.said w.is_done w.done)))
+            (sym (or_false set)) (through.unseen _ _ _ set d.link d.journal w.lived);
         told_are = λ side. ap (told_of side) w.journal_is ∙ untold_end side w.said w.is_done w.done;
       }
 
   -- any line but a handover
-  pub line_stays : (told : List Record) (handed : Sdus) (set : Bool) (line : Line) (keys : Option Keys) (k : Link) → k.out ≡ [] → IsInRange line → adds_one l line ≡ false → forges line ≡ false → hands_over line ≡ false → Live told handed set k
-      → PartLives told handed (set || sets_timer l line) (part line) (played line keys k)
+  pub line_stays : (told : List Record) (handed : Sdus) (flown : Happened) (set : Bool) (line : Line) (keys : Option Keys) (k : Link) → k.out ≡ [] → IsInRange line → adds_one l line ≡ false → forges line ≡ false → hands_over line ≡ false → Live told handed flown set k
+      → PartLives told handed flown (set || sets_timer l line) (ended_by line) (part line) (played line keys k)
   unfolding acted
-  line_stays told handed set (lines.Harq maximum) keys k nothing fits other own here h = rests_by told handed set (calls.Visits maximum) k nothing (fits.some, fits.few) refl h
-  line_stays told handed set lines.Bsr keys k nothing fits other own here h = rests_by told handed set calls.Reports k nothing tt refl h
-  line_stays told handed set (lines.Keys ks) keys k nothing fits other own here h = none_lives told handed set k nothing h
-  line_stays told handed set (lines.Bearer config options) keys k nothing fits other own here h = rests_by told handed set (calls.Bears config (keys_or_none keys)) k nothing (fits, other) refl h
-  line_stays told handed set (lines.Submit side lcid octets) keys k nothing fits other own here h = submit_lives told handed set side lcid octets k nothing h
-  line_stays told handed set (lines.Tti up_grant up down_grant down) keys k nothing fits other own here h =
-      line_by told handed set (Tti up_grant up down_grant down) k _ nothing (λ side n. refl) (fits.up, fits.down) refl h
-  line_stays told handed set (lines.Expire side lcid clock) keys k nothing fits other own here h = rests_by told handed set (calls.Expires side lcid clock) k nothing tt refl h
-  line_stays told handed set (lines.Handover user rrc integrity) keys k nothing fits other own here h = absurd cc
-  line_stays told handed set lines.LoopOff keys k nothing fits other own here h = rests_by told handed set (calls.Loops Off) k nothing tt refl h
-  line_stays told handed set (lines.LoopA size) keys k nothing fits other own here h = rests_by told handed set (calls.Loops (A size)) k nothing tt refl h
-  line_stays told handed set (lines.LoopB delay) keys k nothing fits other own here h = rests_by told handed set (calls.Loops (B delay)) k nothing tt refl h
-  line_stays told handed set (lines.Drain grant) keys k nothing fits other own here h = drain_lives told handed set grant k fits nothing h
-  line_stays told handed set (lines.Forge side octets) keys k nothing fits other own here h = absurd cc
-  line_stays told handed set (lines.Discard lcid count) keys k nothing fits other own here h = rests_by told handed set (calls.Discards lcid count) k nothing tt refl h
-  line_stays told handed set (lines.Drx config) keys k nothing fits other own here h = rests_by told handed set (calls.Listens config) k nothing tt refl h
-  line_stays told handed set lines.End keys k nothing fits other own here h = none_lives told handed set k nothing h
+  line_stays told handed flown set (lines.Harq maximum) keys k nothing fits other own here h = rests_by told handed flown set (calls.Visits maximum) k nothing (fits.some, fits.few) refl h
+  line_stays told handed flown set lines.Bsr keys k nothing fits other own here h = rests_by told handed flown set calls.Reports k nothing tt refl h
+  line_stays told handed flown set (lines.Keys ks) keys k nothing fits other own here h = none_lives told handed flown set k nothing h
+  line_stays told handed flown set (lines.Bearer config options) keys k nothing fits other own here h = rests_by told handed flown set (calls.Bears config (keys_or_none keys)) k nothing (fits, other) refl h
+  line_stays told handed flown set (lines.Submit side lcid octets) keys k nothing fits other own here h = submit_lives told handed flown set side lcid octets k nothing h
+  line_stays told handed flown set (lines.Tti up_grant up down_grant down) keys k nothing fits other own here h =
+      line_by told handed flown set (Tti up_grant up down_grant down) k _ nothing (λ side n. refl) (fits.up, fits.down) refl h
+  line_stays told handed flown set (lines.Expire side lcid clock) keys k nothing fits other own here h = rests_by told handed flown set (calls.Expires side lcid clock) k nothing tt refl h
+  line_stays told handed flown set (lines.Handover user rrc integrity) keys k nothing fits other own here h = absurd cc
+  line_stays told handed flown set lines.LoopOff keys k nothing fits other own here h = rests_by told handed flown set (calls.Loops Off) k nothing tt refl h
+  line_stays told handed flown set (lines.LoopA size) keys k nothing fits other own here h = rests_by told handed flown set (calls.Loops (A size)) k nothing tt refl h
+  line_stays told handed flown set (lines.LoopB delay) keys k nothing fits other own here h = rests_by told handed flown set (calls.Loops (B delay)) k nothing tt refl h
+  line_stays told handed flown set (lines.Drain grant) keys k nothing fits other own here h = drain_lives told handed flown set grant k fits nothing h
+  line_stays told handed flown set (lines.Forge side octets) keys k nothing fits other own here h = absurd cc
+  line_stays told handed flown set (lines.Discard lcid count) keys k nothing fits other own here h = rests_by told handed flown set (calls.Discards lcid count) k nothing tt refl h
+  line_stays told handed flown set (lines.Drx config) keys k nothing fits other own here h = rests_by told handed flown set (calls.Listens config) k nothing tt refl h
+  line_stays told handed flown set lines.End keys k nothing fits other own here h = none_lives told handed flown set k nothing h
 
 -- ---- of all lives
 
 module _ (l : ℕ) (nb ue : End) where
-  same_lived : (told told' : List Record) (handed handed' : Sdus) (set set' : Bool) (k : Link) → told ≡ told' → ((side : Side) (n : ℕ) → handed side n ≡ handed' side n) → set ≡ set'
-      → Lived l nb ue told handed set k → Lived l nb ue told' handed' set' k
-  same_lived told told' handed handed' set set' k e f g h = record {
+  same_lived : (told told' : List Record) (handed handed' : Sdus) (flown flown' : Happened) (set set' : Bool) (k : Link) → told ≡ told' → ((side : Side) (n : ℕ) → handed side n ≡ handed' side n)
+      → ((bits : ℕ) (from : Side) → flown bits from ≡ flown' bits from) → set ≡ set' → Lived l nb ue told handed flown set k → Lived l nb ue told' handed' flown' set' k
+  same_lived told told' handed handed' flown flown' set set' k e f a g h = record {
     by = record {
       steps = h.by.steps;
       living = h.by.living;
       told_is = λ side. ap (told_of side) (sym e) ∙ h.by.told_is side;
       submitted_is = λ side n. h.by.submitted_is side n ∙ f side n;
+      happened_is = λ bits from. h.by.happened_is bits from ∙ a bits from;
       sets_none = λ off. h.by.sets_none (g ∙ off);
       on = h.by.on;
     };
@@ -327,35 +384,38 @@ module _ (l : ℕ) (nb ue : End) where
   }
 
   -- records aren't looked at
-  pub unseen : (told : List Record) (handed : Sdus) (set : Bool) (k : Link) (out : List Record) → Lived l nb ue told handed set k → Lived l nb ue told handed set (record k { out = out })
-  unseen told handed set k out h = ends_live l nb ue told handed set k (record k { out = out }) refl refl refl h
+  pub unseen : (told : List Record) (handed : Sdus) (flown : Happened) (set : Bool) (k : Link) (out : List Record) → Lived l nb ue told handed flown set k → Lived l nb ue told handed flown set (record k { out = out })
+  unseen told handed flown set k out h = ends_live l nb ue told handed flown set k (record k { out = out }) refl refl refl h
 
-  each_goes : (told : List Record) (handed : Sdus) (set : Bool) (s : Step) (k : Link) → IsStepSince l s → Lived l nb ue told handed set k → StepLives l (Lived l nb ue) told handed set s k
-  each_goes told handed set s k g h = let x = steps_live l nb ue told handed set s k g h in record { more = x.more; out_is = x.out_is; lived = x.lived }
+  each_goes : (told : List Record) (handed : Sdus) (flown : Happened) (set : Bool) (s : Step) (k : Link) → IsStepSince l s → Lived l nb ue told handed flown set k → StepLives l (Lived l nb ue) told handed flown set s k
+  each_goes told handed flown set s k g h = let x = steps_live l nb ue told handed flown set s k g h in record { more = x.more; out_is = x.out_is; alone = x.alone; lived = x.lived }
 
   pub through : GoesThrough l (Lived l nb ue)
-  through = record { same = same_lived; unseen = unseen; steps = λ told handed set s k g own h. each_goes told handed set s k g h }
+  through = record { same = same_lived; unseen = unseen; steps = λ told handed flown set s k g own h. each_goes told handed flown set s k g h }
 
-  abbrev pub LineLives : List Record → Sdus → Bool → Part → Link → Type 0
+  abbrev pub LineLives : List Record → Sdus → Happened → Bool → List Happening → Part → Link → Type 0
   LineLives = PartLives l (Lived l nb ue) through
 
-  pub line_lives : (told : List Record) (handed : Sdus) (set : Bool) (line : Line) (keys : Option Keys) (k : Link) → k.out ≡ [] → IsInRange line → adds_one l line ≡ false → forges line ≡ false → Lived l nb ue told handed set k
-      → LineLives told handed (set || sets_timer l line) (part line) (played line keys k)
+  pub line_lives : (told : List Record) (handed : Sdus) (flown : Happened) (set : Bool) (line : Line) (keys : Option Keys) (k : Link) → k.out ≡ [] → IsInRange line → adds_one l line ≡ false → forges line ≡ false → Lived l nb ue told handed flown set k
+      → LineLives told handed flown (set || sets_timer l line) (ended_by line) (part line) (played line keys k)
   unfolding acted
-  line_lives told handed set (lines.Handover user rrc integrity) keys k nothing fits other own h =
+  line_lives told handed flown set (lines.Handover user rrc integrity) keys k nothing fits other own h =
       let s = Calls (calls.HandsOver (next_keys user rrc integrity (keys_or_none keys))) in
-      step_plays l (Lived l nb ue) through told handed set s k Rests nothing (λ side n. refl) (each_goes told handed set s k tt h)
-  line_lives told handed set line keys k nothing fits other own h = line_stays l (Lived l nb ue) through told handed set line keys k nothing fits other own refl h
+      step_plays l (Lived l nb ue) through told handed flown set s k Rests nothing (λ side n. refl) (each_goes told handed flown set s k tt h)
+  line_lives told handed flown set line keys k nothing fits other own h = line_stays l (Lived l nb ue) through told handed flown set line keys k nothing fits other own refl h
 
--- ---- of one life
+-- ---- of one life, in which it doesn't matter what went by air
 
 module _ (l : ℕ) (nb ue : End) where
-  life_steps : (told : List Record) (handed : Sdus) (set : Bool) (s : Step) (k : Link) → IsStepSince l s → moves s ≡ false → LivedIn l nb ue told handed set k → StepLives l (LivedIn l nb ue) told handed set s k
-  life_steps told handed set s k g own h = let x = steps_live_in l nb ue told handed set s k g own h in record { more = x.more; out_is = x.out_is; lived = x.lived }
+  abbrev pub InOneLife : List Record → Sdus → Happened → Bool → Link → Type 0
+  InOneLife told handed flown set k = LivedIn l nb ue told handed set k
 
-  pub through_life : GoesThrough l (LivedIn l nb ue)
+  life_steps : (told : List Record) (handed : Sdus) (flown : Happened) (set : Bool) (s : Step) (k : Link) → IsStepSince l s → moves s ≡ false → LivedIn l nb ue told handed set k → StepLives l InOneLife told handed flown set s k
+  life_steps told handed flown set s k g own h = let x = steps_live_in l nb ue told handed set s k g own h in record { more = x.more; out_is = x.out_is; alone = x.alone; lived = x.lived }
+
+  pub through_life : GoesThrough l InOneLife
   through_life = record {
-    same = λ told told' handed handed' set set' k e f g h. lived_in_as l nb ue told told' handed handed' set set' k e f g h;
-    unseen = λ told handed set k out h. ends_live_in l nb ue told handed set k (record k { out = out }) refl refl refl h;
+    same = λ told told' handed handed' flown flown' set set' k e f a g h. lived_in_as l nb ue told told' handed handed' set set' k e f g h;
+    unseen = λ told handed flown set k out h. ends_live_in l nb ue told handed set k (record k { out = out }) refl refl refl h;
     steps = life_steps;
   }

@@ -26,6 +26,7 @@ pub mod Failing
 pub mod Failed
 pub mod Flowing
 pub mod Delivering
+pub mod Arriving
 pub mod Drains
 pub mod Zero
 pub mod Standing

@@ -47,6 +47,7 @@ use Rattle.srb_delivery_laws.specs.Losses.{is_lost, losses}
 use Rattle.srb_channel_laws.specs.Running.{Life, running, first_life}
 use Rattle.srb_channel_laws.proofs.Laws.{Living, first_living, all_live}
 use Rattle.srb_channel_laws.proofs.Running.{Start, down, up, all_down, all_up, none_between, none_lost, none_lost_between, starts_first, starts_anew}
+use Rattle.run_laws.specs.Arrival.{ended_by}
 use Rattle.run_laws.specs.Delivery.{forges, is_forged, sets_timer}
 use Rattle.run_laws.specs.Drained.{hands_over, failed}
 use Rattle.run_laws.specs.Flows.{handed_in, looped_at, submitted, delivered}
@@ -58,7 +59,7 @@ use Rattle.run_laws.proofs.Delivering.{ups_are_told, ups_told, is_first, at_each
 use Rattle.run_laws.proofs.Early.{is_early}
 use Rattle.run_laws.proofs.Failed.{HasSender, sender_goes, signalling_begins}
 use Rattle.run_laws.proofs.Drains.{link_drained, none_forged, side_drained}
-use Rattle.run_laws.proofs.Flowing.{Sdus, looped_then, air_looped, PartLives, line_stays, through_life}
+use Rattle.run_laws.proofs.Flowing.{Sdus, Happened, looped_then, air_looped, PartLives, line_stays, InOneLife, through_life}
 use Rattle.run_laws.proofs.Keys.{not_first, not_second, no_cause}
 use Rattle.run_laws.proofs.Past.{behind, link_behind}
 use Rattle.run_laws.proofs.Texts.{adds_one, adds_it, unchanged}
@@ -77,6 +78,10 @@ lost_then : (l : ℕ) (side : Side) (past : List Group) (g : Group) → lost sid
 lost_then l side past g = lost_both l side (history past) (records.Line g.number g.line ∷ g.events)
 
 -- ---- a channel of signalling, behind groups
+
+-- what goes by air isn't looked at
+abbrev unread : Happened
+unread bits from = []
 
 pub record IsSignalling (l : ℕ) (past : List Group) : Type 0 where
   pub low : l < 3
@@ -129,9 +134,9 @@ stays_on l past g right order other own here d =
     let p = part g.line in
     let set = false || sets_timer l g.line in
     let off : set ≡ false = sets_none l g.line (state_behind past).rules k d.low right.allowed in
-    let x : PartLives l (LivedIn l d.nb d.ue) (through_life l d.nb d.ue) d.told d.handed set p m =
-    line_stays l (LivedIn l d.nb d.ue) (through_life l d.nb d.ue) d.told d.handed false g.line (state_behind past).rules.keys k (behind past order).nothing right.in_range other own here d.lived in
-    let lived = (through_life l d.nb d.ue).unseen _ _ set m [] x.lived in
+    let x : PartLives l (InOneLife l d.nb d.ue) (through_life l d.nb d.ue) d.told d.handed unread set (ended_by g.line) p m =
+    line_stays l (InOneLife l d.nb d.ue) (through_life l d.nb d.ue) d.told d.handed unread false g.line (state_behind past).rules.keys k (behind past order).nothing right.in_range other own here d.lived in
+    let lived = (through_life l d.nb d.ue).unseen _ _ unread set m [] x.lived in
     record {
       low = d.low;
       nb = d.nb;
@@ -247,7 +252,7 @@ moves_on l past g user rrc integrity right order d =
       begun = starts_anew l d.nb d.ue alive.near alive.far alive.begun (steps l past d) alive.runs alive.calls keys;
       told = behind';
       handed = λ side n. looped_by side n behind';
-      lived = (through_life l nb ue).unseen behind' (λ side n. looped_by side n behind') false m [] x.lived;
+      lived = (through_life l nb ue).unseen behind' (λ side n. looped_by side n behind') unread false m [] x.lived;
       delivered_is = λ side.
           sym (ups_are_told side l g.events) ∙ ap (λ (ys : List Record). ups_on l (told_by side ys)) events_are ∙ told_ups l side leaving behind'
           ∙ ap (λ (ys : List (List ℕ)). ys ++ ups_on l (told_by side behind')) (none side);
@@ -313,7 +318,7 @@ begin_by past g c options right order kind =
       begun = starts_first l c keys (after_call k.nb (Add c keys)) (after_call k.ue (Add c keys)) kind (omega (arith, count)) nb_begun ue_begun;
       told = [];
       handed = λ side n. [];
-      lived = (through_life l (after_call k.nb (Add c keys)) (after_call k.ue (Add c keys))).unseen [] (λ side n. []) false (bears c keys k) [] (bearers_live_in c keys k right.in_range rest);
+      lived = (through_life l (after_call k.nb (Add c keys)) (after_call k.ue (Add c keys))).unseen [] (λ side n. []) unread false (bears c keys k) [] (bearers_live_in c keys k right.in_range rest);
       delivered_is = λ side. none_delivered side l all (ups_told side l all ∙ ap (ups_on l) (now'.none_told side));
       submitted_is = λ side. none_submitted side l all (now'.none_submitted side l);
       lost_is = λ side. ap (losses_on l) (now'.none_told side);

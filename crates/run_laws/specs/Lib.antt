@@ -15,6 +15,7 @@ pub mod Counts
 pub mod Texts
 pub mod Zero
 pub mod Delivery
+pub mod Arrival
 pub mod Drained
 pub mod Signalling
 pub mod Promises

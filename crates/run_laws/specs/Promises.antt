@@ -4,6 +4,7 @@ use Rattle.std.specs.List.{filter}
 use Rattle.air_run.specs.Journal.{Played}
 use Rattle.air_text.specs.Groups.{Group, history}
 use Rattle.run_laws.specs.Air.{is_tti, ttis, numbered}
+use Rattle.run_laws.specs.Arrival.{HandUpWhatCame}
 use Rattle.run_laws.specs.Carried.{AreCarried}
 use Rattle.run_laws.specs.Counts.{CountsAscend}
 use Rattle.run_laws.specs.Delivery.{DeliversInOrder}
@@ -41,6 +42,8 @@ pub record IsPromised (played : Played) : Type 0 where
   pub brought : BringInOrder past
   -- each acknowledged data bearer hands up what was submitted at the other end, in order
   pub delivered : DeliversInOrder past
+  -- exactly those before the first that hasn't come, as the blocks tell, none of which is held back
+  pub came : HandUpWhatCame past
   -- and all of it once a drain tells that it is drained, but where the sender gave up
   pub drained : DrainsLeaveNothing past
   -- each signalling bearer hands up what was submitted at the other end since the last handover, in order
