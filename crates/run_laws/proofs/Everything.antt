@@ -13,7 +13,7 @@ use Rattle.run_laws.proofs.Processes.{are_carried}
 use Rattle.run_laws.proofs.Playing.{tells-all}
 use Rattle.run_laws.proofs.Reaching.{come_by_calls}
 use Rattle.run_laws.proofs.Texts.{none_meet}
-use Rattle.run_laws.proofs.Signalling.{delivers_each_life, drains_leave_no_signal}
+use Rattle.run_laws.proofs.Signalling.{delivers_each_life, drains_leave_no_signal, handovers_bring_none}
 use Rattle.run_laws.proofs.Standing.{lines_tell}
 use Rattle.run_laws.proofs.Zero.{bring_in_order}
 
@@ -37,5 +37,6 @@ every-journal whole octets =
       drained = drains_leave_nothing t.later t.order;
       signalled = delivers_each_life t.later t.order;
       signals_drained = drains_leave_no_signal t.later t.order;
+      signals_moved = handovers_bring_none t.later t.order;
       in_order = lines_tell t.later t.order;
     }

@@ -30,5 +30,6 @@ pub mod Arriving
 pub mod Drains
 pub mod Zero
 pub mod Standing
+pub mod Unlooped
 pub mod Signalling
 pub mod Everything

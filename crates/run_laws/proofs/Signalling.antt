@@ -53,7 +53,7 @@ use Rattle.run_laws.specs.Drained.{hands_over, failed}
 use Rattle.run_laws.specs.Flows.{handed_in, looped_at, submitted, delivered}
 use Rattle.run_laws.specs.Order.{state_behind, IsRight, KeepsOrder}
 use Rattle.run_laws.specs.Parts.{part}
-use Rattle.run_laws.specs.Signalling.{submitted_since, delivered_since, lost, SignalAll, DeliversEachLife, LeavesNoSignal, DrainsLeaveNoSignal}
+use Rattle.run_laws.specs.Signalling.{submitted_since, delivered_since, lost, SignalAll, DeliversEachLife, LeavesNoSignal, DrainsLeaveNoSignal, BringsNoSignal, HandoversBringNoSignal}
 use Rattle.run_laws.specs.Texts.{config_by, config_of}
 use Rattle.run_laws.proofs.Delivering.{ups_are_told, ups_told, is_first, at_each}
 use Rattle.run_laws.proofs.Early.{is_early}
@@ -63,6 +63,7 @@ use Rattle.run_laws.proofs.Flowing.{Sdus, Happened, looped_then, air_looped, Par
 use Rattle.run_laws.proofs.Keys.{not_first, not_second, no_cause}
 use Rattle.run_laws.proofs.Past.{behind, link_behind}
 use Rattle.run_laws.proofs.Texts.{adds_one, adds_it, unchanged}
+use Rattle.run_laws.proofs.Unlooped.{none_looped}
 
 -- ---- what an end lost
 
@@ -377,3 +378,44 @@ pub drains_leave_no_signal : (past : List Group) → KeepsOrder past → DrainsL
 drains_leave_no_signal [] order = tt
 drains_leave_no_signal (g ∷ past) (right, order) =
     (λ d. leaves_none (g ∷ past) (right, order) (link_drained past g right d) (none_forged past g right d), drains_leave_no_signal past order)
+
+-- ---- in a handover
+
+front_of_none : (xs ys : List (List ℕ)) → ys ≡ [] → IsFront xs ys → xs ≡ []
+front_of_none xs ys none f = (none_both xs f.rest (sym f.is ∙ none)).0
+
+moves_none : (line : Line) → hands_over line ≡ true → (side : Side) (l : ℕ) (told : List Record) → handed_in side l (part line) told ≡ []
+moves_none (lines.Handover user rrc integrity) h side l told = refl
+moves_none line h side l told = absurd cc
+
+adds_none : (l : ℕ) (line : Line) → hands_over line ≡ true → adds_one l line ≡ false
+adds_none l (lines.Handover user rrc integrity) h = refl
+adds_none l line h = absurd cc
+
+forges_none : (line : Line) → hands_over line ≡ true → forges line ≡ false
+forges_none (lines.Handover user rrc integrity) h = refl
+forges_none line h = absurd cc
+
+none_submitted_in : (side : Side) (l : ℕ) (past : List Group) (g : Group) → l < 3 → KeepsOrder (g ∷ past) → hands_over g.line ≡ true → submitted_since side l (g ∷ past) ≡ []
+none_submitted_in side l past g low order here =
+    ap (λ (xs : List (List ℕ)). xs ++ (handed_in side l (part g.line) g.events ++ looped_at side l g.events)) (dropped_by (hands_over g.line) (submitted_since side l past) here)
+    ∙ ap (λ (xs : List (List ℕ)). xs ++ looped_at side l g.events) (moves_none g.line here side l g.events) ∙ none_looped side l past g low order
+
+brings_by : (from : Side) (l : ℕ) (past : List Group) (g : Group) → KeepsOrder (g ∷ past) → hands_over g.line ≡ true → IsSignalling l (g ∷ past) → ups_in (other from) l g.events ≡ []
+brings_by from l past g order here d =
+    sym (ap (λ (xs : List (List ℕ)). xs ++ ups_in (other from) l g.events) (dropped_by (hands_over g.line) (delivered_since (other from) l past) here))
+    ∙ front_of_none (delivered_since (other from) l (g ∷ past)) (submitted_since from l (g ∷ past)) (none_submitted_in from l past g d.low order here) (front_is l (g ∷ past) d from)
+
+brings_none : (past : List Group) (g : Group) → KeepsOrder (g ∷ past) → hands_over g.line ≡ true → BringsNoSignal past g
+brings_none past g (right, order) here side l c e kind own = by_side side
+  where
+    d : IsSignalling l (g ∷ past)
+    d = line_by (hands_over g.line) l past g refl (adds_none l g.line here) right order (forges_none g.line here) (is_signalling l past c order kind e own)
+
+    by_side : (side : Side) → ups_in side l g.events ≡ []
+    by_side Nb = brings_by Ue l past g (right, order) here d
+    by_side Ue = brings_by Nb l past g (right, order) here d
+
+pub handovers_bring_none : (past : List Group) → KeepsOrder past → HandoversBringNoSignal past
+handovers_bring_none [] order = tt
+handovers_bring_none (g ∷ past) (right, order) = (brings_none past g (right, order), handovers_bring_none past order)

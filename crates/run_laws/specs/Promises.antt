@@ -13,7 +13,7 @@ use Rattle.run_laws.specs.Ends.{ComeByCalls}
 use Rattle.run_laws.specs.Keys.{all_keys, AreDistinct}
 use Rattle.run_laws.specs.Loops.{ReturnInOrder}
 use Rattle.run_laws.specs.Order.{KeepsOrder}
-use Rattle.run_laws.specs.Signalling.{DeliversEachLife, DrainsLeaveNoSignal}
+use Rattle.run_laws.specs.Signalling.{DeliversEachLife, DrainsLeaveNoSignal, HandoversBringNoSignal}
 use Rattle.run_laws.specs.Sums.{sums_at}
 use Rattle.run_laws.specs.Texts.{NoneMeet}
 use Rattle.run_laws.specs.Telling.{LinesTell}
@@ -50,5 +50,7 @@ pub record IsPromised (played : Played) : Type 0 where
   pub signalled : DeliversEachLife past
   -- and all of it once a drain tells that it is drained, but where the sender gave up
   pub signals_drained : DrainsLeaveNoSignal past
+  -- and in a handover nothing of it goes up
+  pub signals_moved : HandoversBringNoSignal past
   -- the records of each line stand in the order in which both ends, the blocks and the loop come to their turns
   pub in_order : LinesTell past

@@ -1,6 +1,6 @@
 -- What signalling bearers deliver, in each direction: from one handover to the next, since they begin anew in it (TS 36.322 5.1.3, 5.4, TS 36.323
 -- 5.1, 5.2.1.3, 5.2.2.3).
-use Rattle.std.specs.Prelude.{◌≡◌, ℕ, false, if◌then◌else◌, Some, List, [], ◌∷◌, ◌++◌}
+use Rattle.std.specs.Prelude.{◌≡◌, ℕ, true, false, if◌then◌else◌, Some, List, [], ◌∷◌, ◌++◌}
 use Rattle.air_link.specs.Link.{other}
 use Rattle.air_text.specs.Groups.{Group, history}
 use Rattle.am_laws.specs.Sdus.{IsFront}
@@ -61,3 +61,13 @@ LeavesNoSignal past = (from : Side) (lcid : ℕ) (config : BearerConfig) → con
 abbrev pub DrainsLeaveNoSignal : List Group → Type 0
 DrainsLeaveNoSignal [] = Unit {0}
 DrainsLeaveNoSignal (g ∷ past) = (EndsDrained g → LeavesNoSignal (g ∷ past)) × DrainsLeaveNoSignal past
+
+-- ---- in a handover
+
+-- nothing goes up: what RLC can still put together PDCP drops (TS 36.323 5.2.1.3, 5.2.2.3)
+abbrev pub BringsNoSignal : List Group → Group → Type 0
+BringsNoSignal past g = (side : Side) (lcid : ℕ) (config : BearerConfig) → config_of lcid past ≡ Some config → config.kind ≡ Srb → is_forged past ≡ false → ups_in side lcid g.events ≡ []
+
+abbrev pub HandoversBringNoSignal : List Group → Type 0
+HandoversBringNoSignal [] = Unit {0}
+HandoversBringNoSignal (g ∷ past) = (hands_over g.line ≡ true → BringsNoSignal past g) × HandoversBringNoSignal past
