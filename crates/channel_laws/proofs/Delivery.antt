@@ -1,5 +1,5 @@
 -- What a channel delivers.
-use Rattle.std.proofs.Common.{◌≡◌, inr, ℕ, ◌-◌, Bool, None, false, List, [], ◌∷◌, ◌++◌, append_assoc, length-append, ap, sym, subst, ◌∙◌, arith}
+use Rattle.std.proofs.Common.{◌≡◌, inr, ℕ, ◌-◌, refl, Bool, Option, Some, None, false, List, [], ◌∷◌, ◌++◌, append_assoc, length-append, ap, sym, subst, ◌∙◌, arith}
 use Rattle.std.proofs.lemmas.List.{take-append-le}
 use Rattle.std.specs.List.{AllByRecursion}
 use Rattle.bearer.specs.Bearer.{flow_of}
@@ -21,6 +21,7 @@ use Rattle.l2_types.specs.declared.side.Side.{Side}
 use Rattle.l2_types.specs.declared.side.Side.TheVariants.{Nb, Ue}
 use Rattle.node_laws.specs.Calls.{Call, Add, AreGiven, after, run, reached}
 use Rattle.node_laws.specs.Holding.{flow}
+use Rattle.node_laws.specs.Telling.{told_over}
 use Rattle.node_laws.proofs.Living.{added, reached_side}
 use Rattle.pdcp_pdu.specs.declared.PdcpKind.TheVariants.{Am as AmKind}
 use Rattle.pdcp_tx.specs.State.{State as Sending, start}
@@ -45,7 +46,12 @@ use Rattle.delivery_laws.specs.Lives.{LifeStep, over}
 use Rattle.channel_laws.specs.Delivery.{HasBegun, BeginAlike, was_taken, was_submitted, steps_over, DiscardsNone, SetNone, ups_at, submitted_at, taken_at, DiscardsNoneAt, SetNoneAt}
 use Rattle.channel_laws.specs.Lives.{AirStep, AreLiving, end_at, all_calls}
 use Rattle.channel_laws.proofs.Bearers.{IsSteady}
-use Rattle.channel_laws.proofs.Ends.{IsCall, are_calls, GoesAll, all_go, all_ups, all_discards}
+use Rattle.bearer_laws.proofs.Streams.{am_begins, begun_tx}
+use Rattle.bearer_parts.specs.Ends.{Ends, begun as begun_ends, bearer_of, sends}
+use Rattle.pdcp_sec.specs.Protection.{Protection, protection_of}
+use Rattle.channel_laws.specs.Leaving.{were_taken, chosen, taken_of}
+use Rattle.channel_laws.proofs.Leaving.{all_chosen}
+use Rattle.channel_laws.proofs.Ends.{all_leaving, IsCall, are_calls, GoesAll, all_go, all_ups, all_discards}
 use Rattle.channel_laws.proofs.Pairs.{own, all_does, ups_in_at, news_in_at, lives_go}
 use Rattle.channel_laws.proofs.Submitted.{submitted_is, steps_unset}
 use Rattle.channel_laws.proofs.Unset.{none_discarded}
@@ -233,7 +239,40 @@ module _ (side : Side) (l : ℕ) (c : BearerConfig) (keys : Keys) (e : End) (cs 
       let left = all_left (flow l e) own_steps in
       subst (IsSubsequence (was_taken l cs e)) leaves_then (thinner (was_taken l cs e) left (left ++ waits) (news_leave own_steps (flow l e)) (front_thin left waits))
 
+  -- what it takes is told
+  abbrev guard : Protection
+  guard = protection_of (AmKind c.pdcp_bits) keys (bearer_of c.channel.lcid) (sends side)
+
+  first_sender : first_bearer.pdcp.tx ≡ start (AmKind c.pdcp_bits) guard c.first
+  first_sender =
+      let some : Some first_bearer.pdcp ≡ Some (begun_ends c.channel.lcid (AmKind c.pdcp_bits) c.first keys side) = am_begins c keys side in
+      let same : first_bearer.pdcp ≡ begun_ends c.channel.lcid (AmKind c.pdcp_bits) c.first keys side = cc in
+      ap (λ (x : Ends). x.tx) same ∙ begun_tx c.channel.lcid (AmKind c.pdcp_bits) c.first keys side
+
+  start_next : (start (AmKind c.pdcp_bits) guard c.first).next ≡ c.first
+  unfolding start
+  start_next = refl
+
+  pub taken_is_told : AllByRecursion (IsCall l) cs → was_taken l cs e ≡ taken_of l c.first (told_over cs e) (was_submitted l cs e)
+  taken_is_told g =
+      let all = all_leaving l (flow l e) own_steps in
+      let chosen_is : chosen (were_taken first_bearer.pdcp.tx.next (all_leaving l (Am first_bearer) own_steps)) (all_left (Am first_bearer) own_steps ++ waits) ≡ all_news (Am first_bearer) own_steps =
+      all_chosen (AmKind c.pdcp_bits) guard c.first c.pdcp_bits l own_steps first_bearer waits (steady_so side l c keys e k h) (record { steps = []; is = first_sender }) in
+      ap (λ (f : Flow). all_news f own_steps) starts_as
+      ∙ (sym chosen_is
+      ∙ (ap (λ (f : Flow). chosen (were_taken first_bearer.pdcp.tx.next (all_leaving l f own_steps)) (all_left f own_steps ++ waits)) (sym starts_as)
+      ∙ (ap (λ (n : ℕ). chosen (were_taken n all) (all_left (flow l e) own_steps ++ waits)) (ap (λ s. s.next) first_sender ∙ start_next)
+      ∙ (ap (λ (ms : List (Option ℕ)). chosen (were_taken c.first ms) (all_left (flow l e) own_steps ++ waits)) (sym (all_goes g).leaving_are)
+      ∙ ap (taken_of l c.first (told_over cs e)) leaves_then))))
+
 -- ---- the laws
+
+pub channels_tell_what_is_taken : (l : ℕ) (c : BearerConfig) (keys : Keys) (nb ue : End) (from : Side) (steps : List AirStep)
+    → BeginAlike l c keys nb ue → AreLiving l (outset nb ue) steps
+    → taken_at l from steps (outset nb ue)
+    ≡ taken_of l c.first (told_over (all_calls from steps (outset nb ue)) (end_at from (outset nb ue))) (submitted_at l from steps (outset nb ue))
+channels_tell_what_is_taken l c keys nb ue from steps h g =
+    taken_is_told from l c keys (end_at from (outset nb ue)) (all_calls from steps (outset nb ue)) h.kind (begun l c keys nb ue h from) (are_calls l from steps (outset nb ue) g)
 
 pub channels_deliver_what_is_taken : (l : ℕ) (c : BearerConfig) (keys : Keys) (nb ue : End) (from : Side) (steps : List AirStep)
     → BeginAlike l c keys nb ue → AreLiving l (outset nb ue) steps

@@ -1,5 +1,5 @@
 -- What the calls of an end through lives are to its bearer of a channel.
-use Rattle.std.proofs.Common.{◌≡◌, ◌⊎◌, inl, inr, ℕ, true, false, Option, Some, None, List, [], ◌∷◌, ◌++◌, map, append-nil, append_assoc, slice_get, refl, ap, sym, subst, ◌∙◌}
+use Rattle.std.proofs.Common.{◌≡◌, ◌⊎◌, inl, inr, ℕ, true, false, Option, Some, None, List, [], ◌∷◌, ◌++◌, map, append-nil, append_assoc, slice_get, refl, ap, sym, subst, ◌∙◌, Bool, if◌then◌else◌}
 use Rattle.std.proofs.lemmas.Grind.{flat_map-append}
 use Rattle.std.specs.List.{AllByRecursion, flat_map}
 use Rattle.bearer.specs.declared.flow.Flow.{Flow}
@@ -15,10 +15,13 @@ use Rattle.node_laws.specs.Holding.{flow}
 use Rattle.node_laws.specs.Telling.{told_of, told_over}
 use Rattle.flow_laws.specs.Air.{Block, Station, Air, Act, Calls, Comes, Goes, AtNb, AtUe, Passes, calls, comes, does, outset, IsDone}
 use Rattle.flow_laws.specs.Channels.{calls_of, GoesOnInLife}
-use Rattle.flow_laws.specs.Ups.{ups_in, ups_on, discards_in, discards_on, of_calls, goes_up_in, discarded_in, IsNew}
+use Rattle.bearer_types.specs.declared.event.Event.TheVariants as events
+use Rattle.flow_laws.specs.Ups.{is_on, ups_in, ups_on, discards_in, discards_on, of_calls, tells_in, tells_over, goes_up_in, discarded_in, IsNew}
+use Rattle.flow_laws.proofs.Events.{picked_as, picked_over}
+use Rattle.channel_laws.specs.Leaving.{leaving_in}
 use Rattle.flow_laws.proofs.Channels.{call_by}
 use Rattle.flow_laws.proofs.Stations.{run_on, come_sound}
-use Rattle.flow_laws.proofs.Ups.{Stands, stands_more, tells_of, the_end}
+use Rattle.flow_laws.proofs.Ups.{between_at, come_between, Stands, stands_more, tells_of, the_end}
 use Rattle.channel_laws.specs.Lives.{AirStep, InLife, Moves, lives_on, lives, AreLiving, IsLiving, end_at, brought, calls_by, calls_at, all_calls}
 use Rattle.channel_laws.specs.Delivery.{went_up, steps_in, steps_over}
 
@@ -162,12 +165,29 @@ all_ups = of_steps goes_up_in ends_up
 abbrev pub all_discards : ℕ → Flow → List BearerStep → List ℕ
 all_discards = of_steps discarded_in ends_discarded
 
+-- what becomes of the SDUs that leave the queue
+abbrev pub marked_in : ℕ → Flow → BearerCall → List (Option ℕ)
+marked_in l f c = flat_map (leaving_in l) (tells_in l f c)
+
+abbrev pub ends_marked : ℕ → Flow → List (Option ℕ)
+ends_marked l f = flat_map (leaving_in l) (stopping f)
+
+abbrev pub all_leaving : ℕ → Flow → List BearerStep → List (Option ℕ)
+all_leaving = of_steps marked_in ends_marked
+
+pub leaving_off : (l : ℕ) (x : Event) → is_on l x ≡ false → leaving_in l x ≡ []
+leaving_off l (events.Take lcid (Some count) len) e = ap (λ (b : Bool). if b then Some count ∷ [] else []) e
+leaving_off l (events.Take lcid None len) e = refl
+leaving_off l (events.Discard lcid len) e = ap (λ (b : Bool). if b then None ∷ [] else []) e
+leaving_off l x e = refl
+
 -- ---- one call
 
 record GoesOne (l : ℕ) (e : End) (c : Call) : Type 0 where
   bearer_is : flow l (after e c) ≡ bearer_run (steps_in l e c) (flow l e)
   ups_are : ups_on l (told_of e c) ≡ all_ups l (flow l e) (steps_in l e c)
   discards_are : discards_on l (told_of e c) ≡ all_discards l (flow l e) (steps_in l e c)
+  leaving_are : flat_map (leaving_in l) (told_of e c) ≡ all_leaving l (flow l e) (steps_in l e c)
   new : IsNew l e c
   given : IsGivenCall c
 
@@ -182,6 +202,10 @@ one_goes side l e c s (inl g) =
       bearer_is = call_by l e c (come_sound side e s.come) g.1 s.there ∙ sym (bearer_calls cs (flow l e)) ∙ ap (λ (xs : List BearerStep). bearer_run xs (flow l e)) (sym same);
       ups_are = (tells_of side l e c s g.1).ups_are ∙ sym (of_life goes_up_in ends_up l cs (flow l e)) ∙ ap (all_ups l (flow l e)) (sym same);
       discards_are = (tells_of side l e c s g.1).discards_are ∙ sym (of_life discarded_in ends_discarded l cs (flow l e)) ∙ ap (all_discards l (flow l e)) (sym same);
+      leaving_are =
+          picked_as leaving_in leaving_off l (told_of e c) (tells_over l (flow l e) cs) (tells_of side l e c s g.1).told_is
+          ∙ picked_over leaving_in leaving_off marked_in (λ m f d k. refl) l (flow l e) cs (between_at l e.bearers s.there (come_between side e s.come))
+          ∙ sym (of_life marked_in ends_marked l cs (flow l e)) ∙ ap (all_leaving l (flow l e)) (sym same);
       new = λ q. let no : true ≡ false = sym q ∙ g.1.adds_none in absurd cc;
       given = g.0;
     }
@@ -192,6 +216,7 @@ one_goes side l e c s (inr (keys, q)) =
       bearer_is = h.bearer_is;
       ups_are = h.ups_are ∙ sym (append-nil (ends_up l (flow l e)));
       discards_are = h.discards_are;
+      leaving_are = picked_as leaving_in leaving_off l (told_of e (Move keys)) (stopping (flow l e)) h.told_is ∙ sym (append-nil (ends_marked l (flow l e)));
       new = λ p. let no : false ≡ true = p in absurd cc;
       given = tt;
     })
@@ -206,9 +231,10 @@ pub record GoesAll (l : ℕ) (e : End) (cs : List Call) : Type 0 where
   pub bearer_is : flow l (run cs e) ≡ bearer_run (steps_over l cs e) (flow l e)
   pub ups_are : went_up l cs e ≡ all_ups l (flow l e) (steps_over l cs e)
   pub discards_are : discards_on l (told_over cs e) ≡ all_discards l (flow l e) (steps_over l cs e)
+  pub leaving_are : flat_map (leaving_in l) (told_over cs e) ≡ all_leaving l (flow l e) (steps_over l cs e)
 
 pub all_go : (side : Side) (l : ℕ) (e : End) (cs : List Call) → Stands side l e → AllByRecursion (IsCall l) cs → GoesAll l e cs
-all_go side l e [] s g = record { bearer_is = refl; ups_are = refl; discards_are = refl }
+all_go side l e [] s g = record { bearer_is = refl; ups_are = refl; discards_are = refl; leaving_are = refl }
 all_go side l e (c ∷ cs) s g =
     let one = one_goes side l e c s g.0 in
     let rest = all_go side l (after e c) cs (stands_more side l e c s one.given one.new) g.1 in
@@ -217,4 +243,5 @@ all_go side l e (c ∷ cs) s g =
       bearer_is = rest.bearer_is ∙ ap (bearer_run more) one.bearer_is ∙ sym (runs_then (steps_in l e c) more (flow l e));
       ups_are = told_then goes_up_in ends_up ups_in l e c cs one.bearer_is one.ups_are rest.ups_are;
       discards_are = told_then discarded_in ends_discarded discards_in l e c cs one.bearer_is one.discards_are rest.discards_are;
+      leaving_are = told_then marked_in ends_marked leaving_in l e c cs one.bearer_is one.leaving_are rest.leaving_are;
     }

@@ -5,6 +5,8 @@ pub mod Acting
 pub mod Saying
 pub mod Walk
 pub mod Waiting
+pub mod Choosing
+pub mod Leaving
 pub mod Unset
 pub mod Submitted
 pub mod Delivery

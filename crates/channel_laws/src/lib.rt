@@ -4,6 +4,7 @@
 
 ghost use Rattle.channel_laws.specs.Arrival.{ChannelsDeliverWhatCame, ChannelsDeliverWhatCameUndiscarded};
 ghost use Rattle.channel_laws.specs.Delivery.{EndsGoByCalls, ChannelsBegin, ChannelsDeliverInOrder, ChannelsDeliverWhatIsTaken, ChannelsDeliverUndiscarded, UnsetDiscardsNone, ChannelsDeliver};
+ghost use Rattle.channel_laws.specs.Leaving.{ChannelsTellWhatIsTaken};
 ghost use Rattle.channel_laws.specs.Drained.{DrainedChannelsHaveDelivered, DrainedEndsHaveDelivered};
 
 /// What the steps of a link make of an end is what its calls in them make of it.
@@ -50,6 +51,12 @@ pub fn channels_deliver()
 pub fn channels_deliver_what_came()
     ensures taken { ChannelsDeliverWhatCame }
     ensures submitted { ChannelsDeliverWhatCameUndiscarded }
+{}
+
+/// Which of the SDUs that are submitted its bearer takes is told as they leave the queue: one that is taken for the first time has the next
+/// COUNT, and one that is discarded none.
+pub fn channels_tell_what_is_taken()
+    ensures { ChannelsTellWhatIsTaken }
 {}
 
 /// Once a channel is drained at an end, and its sender there hasn't failed, what went up at the other end are all SDUs that its bearer

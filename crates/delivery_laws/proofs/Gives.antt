@@ -4,7 +4,11 @@ use Rattle.std.specs.List.{AllByRecursion, flat_map}
 use Rattle.std.proofs.lemmas.Grind.{flat_map-append}
 use Rattle.bearer_types.specs.declared.Event.{Event}
 use Rattle.bearer_types.specs.declared.Event.TheVariants as events
+use Rattle.l2_types.specs.declared.Clock.{Clock}
 use Rattle.l2_types.specs.declared.Clock.TheVariants.{Poll, Prohibit}
+use Rattle.l2_types.specs.declared.How.{How}
+use Rattle.l2_types.specs.declared.Waits.{Waits as Why}
+use Rattle.l2_types.specs.declared.Waits.TheVariants as why
 use Rattle.l2_types.specs.declared.How.TheVariants as how
 use Rattle.rlc_pdu.specs.declared.Taken.{Taken}
 use Rattle.rlc_pdu.specs.declared.Taken.TheVariants.{Piece, Idle, Small, Shut, Held, Stopped}
@@ -144,88 +148,116 @@ first_told bits e o os k kind tx q right =
 
 -- ---- RLC takes PDUs, and so many are told
 
-record Tells (bits : ℕ) (os : List Offer) (d e : Ends) (before after : List Event) : Type 0 where
-  n : ℕ
-  few : n ≤ length os
-  left : offers e.tx ≡ drop n os
-  told_is : flat_map (given_in bits) after ≡ flat_map (given_in bits) before ++ map (given_as d.tx) (take n os)
+-- what is picked from events, and what it is of a PDU that is taken
+module _ {X : Type 0} (pick : Event → List X) (made : Sending → Offer → List X) (Fits : Ends → Type 0) (IsFine : Offer → Type 0)
+    (stays : (d : Ends) → Fits d → Fits (after_pdcp d)) (same : (s t : Sending) (o : Offer) → AreSame s t → made t o ≡ made s o)
+    (first : (e : Ends) (o : Offer) (os : List Offer) → Fits e → IsFine o → offers e.tx ≡ o ∷ os → flat_map pick (taking_told e) ≡ made e.tx o)
+    (sends : (lcid : ℕ) (way : How) (sn : ℕ) → pick (events.Send lcid way sn) ≡ []) (starts : (lcid : ℕ) (clock : Clock) → pick (events.Start lcid clock) ≡ [])
+    (waits : (lcid : ℕ) (why : Why) → pick (events.Wait lcid why) ≡ [])
+  where
+    record Tells (os : List Offer) (d e : Ends) (before after : List Event) : Type 0 where
+      n : ℕ
+      few : n ≤ length os
+      left : offers e.tx ≡ drop n os
+      told_is : flat_map pick after ≡ flat_map pick before ++ flat_map (made d.tx) (take n os)
 
-no_more : (bits : ℕ) (os : List Offer) (d : Ends) (before : List Event) → offers d.tx ≡ os → Tells bits os d d before before
-no_more bits os d before q = record { n = zero; few = omega arith; left = q; told_is = sym (append-nil (flat_map (given_in bits) before)) }
+    no_more : (os : List Offer) (d : Ends) (before : List Event) → offers d.tx ≡ os → Tells os d d before before
+    no_more os d before q = record { n = zero; few = omega arith; left = q; told_is = sym (append-nil (flat_map pick before)) }
+
+    same_made : (s t : Sending) (os : List Offer) → AreSame s t → flat_map (made t) os ≡ flat_map (made s) os
+    same_made s t [] h = refl
+    same_made s t (o ∷ os) h = ap (λ (xs : List X). xs ++ flat_map (made t) os) (same s t o h) ∙ ap (λ (xs : List X). made s o ++ xs) (same_made s t os h)
+
+    one_more : (o : Offer) (os : List Offer) (d e : Ends) (before after : List Event) → Fits d → IsFine o → offers d.tx ≡ o ∷ os → Tells os (after_pdcp d) e (before ++ taking_told d) after → Tells (o ∷ os) d e before after
+    one_more o os d e before after fits fine q t = record {
+      n = suc t.n;
+      few = omega (arith, t.few);
+      left = t.left;
+      told_is =
+          t.told_is
+          ∙ (ap (λ (xs : List X). xs ++ flat_map (made (after_pdcp d).tx) (take t.n os)) (flat_map-append pick before (taking_told d))
+          ∙ (ap (λ (xs : List X). (flat_map pick before ++ xs) ++ flat_map (made (after_pdcp d).tx) (take t.n os)) (first d o os fits fine q)
+          ∙ (ap (λ (s : Sending). (flat_map pick before ++ made d.tx o) ++ flat_map (made s) (take t.n os)) (pdcp_took d)
+          ∙ (ap (λ (xs : List X). (flat_map pick before ++ made d.tx o) ++ xs) (same_made d.tx (took d.tx) (take t.n os) (took_same d.tx))
+          ∙ append_assoc (flat_map pick before) (made d.tx o) (flat_map (made d.tx) (take t.n os))))));
+    }
+
+    by_hunger : (b : Bool) (o : Offer) (os : List Offer) (w v : Work) → Fits w.pdcp → IsFine o → offers w.pdcp.tx ≡ o ∷ os → Tells os (fed w).pdcp v.pdcp (fed w).events v.events
+        → Tells (o ∷ os) w.pdcp (if b then v else w).pdcp w.events (if b then v else w).events
+    by_hunger true o os w v fits fine q t = one_more o os w.pdcp v.pdcp w.events v.events fits fine q t
+    by_hunger false o os w v fits fine q t = no_more (o ∷ os) w.pdcp w.events q
+
+    feeds_tell : (os : List Offer) (size : ℕ) (held : Option ℕ) (w : Work) → Fits w.pdcp → AllByRecursion IsFine os → offers w.pdcp.tx ≡ os → Tells os w.pdcp (feeds os size held w).pdcp w.events (feeds os size held w).events
+    feeds_tell [] size held w fits fine q = no_more [] w.pdcp w.events q
+    feeds_tell (o ∷ os) size held w fits fine q =
+        by_hunger (hungry w.tx size held) o os w (feeds os size held (fed w)) fits fine.0 q
+        (feeds_tell os size held (fed w) (stays w.pdcp fits) fine.1 (ap offers (pdcp_took w.pdcp) ∙ left_of 1 w.pdcp.tx ∙ ap (drop 1) q))
+
+    -- what else is told as RLC writes
+    data_none : (lcid : ℕ) (t : Taken) → flat_map pick (data_told lcid t) ≡ []
+    data_none lcid (Piece number anew polled octets) = ap (λ (xs : List X). xs ++ flat_map pick (if polled then events.Start lcid Poll ∷ [] else [])) (sends lcid (if anew then how.New else how.Re) (number % 1024)) ∙ by polled
+      where
+        by : (b : Bool) → flat_map pick (if b then events.Start lcid Poll ∷ [] else []) ≡ []
+        by true = ap (λ (xs : List X). xs ++ []) (starts lcid Poll)
+        by false = refl
+    data_none lcid Idle = refl
+    data_none lcid Small = ap (λ (xs : List X). xs ++ []) (waits lcid why.Small)
+    data_none lcid Shut = ap (λ (xs : List X). xs ++ []) (waits lcid why.Shut)
+    data_none lcid Held = ap (λ (xs : List X). xs ++ []) (waits lcid why.Held)
+    data_none lcid Stopped = ap (λ (xs : List X). xs ++ []) (waits lcid why.Stopped)
+
+    status_none : (lcid : ℕ) (has : Bool) (r : Receiver) (share : ℕ) → flat_map pick (status_told lcid has r share) ≡ []
+    status_none lcid has r share = by (writes_status r share) has
+      where
+        sn : ℕ
+        sn = ack r (share - 3) % 1024
+
+        by : (b c : Bool) → flat_map pick (if b then events.Send lcid how.Status (ack r (share - 3) % 1024) ∷ (if c then events.Start lcid Prohibit ∷ [] else []) else []) ≡ []
+        by true true = ap (λ (xs : List X). xs ++ flat_map pick (events.Start lcid Prohibit ∷ [])) (sends lcid how.Status sn) ∙ ap (λ (xs : List X). xs ++ []) (starts lcid Prohibit)
+        by true false = ap (λ (xs : List X). xs ++ []) (sends lcid how.Status sn)
+        by false c = refl
+
+    pub takes_tell : (b : State) (share : ℕ) (held : Option ℕ) → Fits b.pdcp → AllByRecursion IsFine (offers b.pdcp.tx)
+        → flat_map pick (told b.pdcp.lcid (Am b) share held) ≡ flat_map (made b.pdcp.tx) (takes (Am b) (Take share held))
+    unfolding told taking flow_after
+    takes_tell b share held fits fine =
+        let os = offers b.pdcp.tx in
+        let status = status_told b.pdcp.lcid (has_prohibit b) b.rx share in
+        let room = data_size b share in
+        let f = feeding b share held in
+        let t = feeds_tell os room held (work b.pdcp b.tx status) fits fine refl in
+        let off = taken_off t.n os (offers (after_taking b share held).pdcp.tx) t.few (ap (λ (e : Ends). offers e.tx) (take_left b share held) ∙ t.left) in
+        flat_map-append pick f.events (data_told f.pdcp.lcid (answer_of f room held))
+        ∙ (ap (λ (xs : List X). flat_map pick f.events ++ xs) (data_none f.pdcp.lcid (answer_of f room held))
+        ∙ (append-nil (flat_map pick f.events)
+        ∙ (t.told_is
+        ∙ (ap (λ (xs : List X). xs ++ flat_map (made b.pdcp.tx) (take t.n os)) (status_none b.pdcp.lcid (has_prohibit b) b.rx share)
+        ∙ ap (λ (xs : List Offer). flat_map (made b.pdcp.tx) xs) (sym off)))))
+
+-- ---- the PDUs by their sizes
+
+record IsOf (bits : ℕ) (e : Ends) : Type 0 where
+  kind : e.kind ≡ AmKind bits
+  tx : e.tx.kind ≡ AmKind bits
 
 pub same_given : (s t : Sending) (os : List Offer) → AreSame s t → map (given_as t) os ≡ map (given_as s) os
 same_given s t os h =
     ap (λ k. map (λ (o : Offer). record { count = o.count; size = length (written k t.protection o.count o.text).octets }) os) h.kind
     ∙ ap (λ p. map (λ (o : Offer). record { count = o.count; size = length (written s.kind p o.count o.text).octets }) os) h.protection
 
-one_more : (bits : ℕ) (o : Offer) (os : List Offer) (d e : Ends) (before after : List Event) → IsKind (AmKind bits) → d.kind ≡ AmKind bits → d.tx.kind ≡ AmKind bits → IsRight (AmKind bits) o
-    → offers d.tx ≡ o ∷ os → Tells bits os (after_pdcp d) e (before ++ taking_told d) after → Tells bits (o ∷ os) d e before after
-one_more bits o os d e before after k kind tx right q t = record {
-  n = suc t.n;
-  few = omega (arith, t.few);
-  left = t.left;
-  told_is =
-      t.told_is
-      ∙ (ap (λ (gs : List Given). gs ++ map (given_as (after_pdcp d).tx) (take t.n os)) (flat_map-append (given_in bits) before (taking_told d))
-      ∙ (ap (λ (gs : List Given). (flat_map (given_in bits) before ++ gs) ++ map (given_as (after_pdcp d).tx) (take t.n os)) (first_told bits d o os k kind tx q right)
-      ∙ (ap (λ (s : Sending). (flat_map (given_in bits) before ++ given_as d.tx o ∷ []) ++ map (given_as s) (take t.n os)) (pdcp_took d)
-      ∙ (ap (λ (gs : List Given). (flat_map (given_in bits) before ++ given_as d.tx o ∷ []) ++ gs) (same_given d.tx (took d.tx) (take t.n os) (took_same d.tx))
-      ∙ append_assoc (flat_map (given_in bits) before) (given_as d.tx o ∷ []) (map (given_as d.tx) (take t.n os))))));
-}
-
-by_hunger : (bits : ℕ) (b : Bool) (o : Offer) (os : List Offer) (w v : Work) → IsKind (AmKind bits) → w.pdcp.kind ≡ AmKind bits → w.pdcp.tx.kind ≡ AmKind bits → IsRight (AmKind bits) o
-    → offers w.pdcp.tx ≡ o ∷ os → Tells bits os (fed w).pdcp v.pdcp (fed w).events v.events
-    → Tells bits (o ∷ os) w.pdcp (if b then v else w).pdcp w.events (if b then v else w).events
-by_hunger bits true o os w v k kind tx right q t = one_more bits o os w.pdcp v.pdcp w.events v.events k kind tx right q t
-by_hunger bits false o os w v k kind tx right q t = no_more bits (o ∷ os) w.pdcp w.events q
-
-feeds_tell : (bits : ℕ) (os : List Offer) (size : ℕ) (held : Option ℕ) (w : Work) → IsKind (AmKind bits) → w.pdcp.kind ≡ AmKind bits → w.pdcp.tx.kind ≡ AmKind bits
-    → AllByRecursion (IsRight (AmKind bits)) os → offers w.pdcp.tx ≡ os → Tells bits os w.pdcp (feeds os size held w).pdcp w.events (feeds os size held w).events
-feeds_tell bits [] size held w k kind tx right q = no_more bits [] w.pdcp w.events q
-feeds_tell bits (o ∷ os) size held w k kind tx right q =
-    by_hunger bits (hungry w.tx size held) o os w (feeds os size held (fed w)) k kind tx right.0 q
-    (feeds_tell bits os size held (fed w) k ((pdcp_rest w.pdcp).0 ∙ kind) (ap (λ (s : Sending). s.kind) (pdcp_took w.pdcp) ∙ ((took_same w.pdcp.tx).kind ∙ tx)) right.1
-    (ap offers (pdcp_took w.pdcp) ∙ left_of 1 w.pdcp.tx ∙ ap (drop 1) q))
-
--- ---- the whole
-
-data_none : (bits lcid : ℕ) (t : Taken) → flat_map (given_in bits) (data_told lcid t) ≡ []
-data_none bits lcid (Piece number first polled octets) = by polled
-  where
-    by : (b : Bool) → flat_map (given_in bits) (if b then events.Start lcid Poll ∷ [] else []) ≡ []
-    by true = refl
-    by false = refl
-data_none bits lcid Idle = refl
-data_none bits lcid Small = refl
-data_none bits lcid Shut = refl
-data_none bits lcid Held = refl
-data_none bits lcid Stopped = refl
-
-status_none : (bits lcid : ℕ) (has : Bool) (r : Receiver) (share : ℕ) → flat_map (given_in bits) (status_told lcid has r share) ≡ []
-status_none bits lcid has r share = by (writes_status r share) has
-  where
-    by : (b c : Bool) → flat_map (given_in bits) (if b then events.Send lcid how.Status (ack r (share - 3) % 1024) ∷ (if c then events.Start lcid Prohibit ∷ [] else []) else []) ≡ []
-    by true true = refl
-    by true false = refl
-    by false c = refl
+each_one : (s : Sending) (os : List Offer) → flat_map (λ o. given_as s o ∷ []) os ≡ map (given_as s) os
+each_one s [] = refl
+each_one s (o ∷ os) = ap (λ (gs : List Given). given_as s o ∷ gs) (each_one s os)
 
 pub takes_are_told : (bits : ℕ) (b : State) (share : ℕ) (held : Option ℕ) → IsKind (AmKind bits) → b.pdcp.kind ≡ AmKind bits → b.pdcp.tx.kind ≡ AmKind bits
     → AllByRecursion (IsRight (AmKind bits)) (offers b.pdcp.tx)
     → flat_map (given_in bits) (told b.pdcp.lcid (Am b) share held) ≡ map (given_as b.pdcp.tx) (takes (Am b) (Take share held))
-unfolding told taking flow_after
 takes_are_told bits b share held k kind tx right =
-    let os = offers b.pdcp.tx in
-    let status = status_told b.pdcp.lcid (has_prohibit b) b.rx share in
-    let room = data_size b share in
-    let f = feeding b share held in
-    let t = feeds_tell bits os room held (work b.pdcp b.tx status) k kind tx right refl in
-    let off = taken_off t.n os (offers (after_taking b share held).pdcp.tx) t.few (ap (λ (e : Ends). offers e.tx) (take_left b share held) ∙ t.left) in
-    flat_map-append (given_in bits) f.events (data_told f.pdcp.lcid (answer_of f room held))
-    ∙ (ap (λ (gs : List Given). flat_map (given_in bits) f.events ++ gs) (data_none bits f.pdcp.lcid (answer_of f room held))
-    ∙ (append-nil (flat_map (given_in bits) f.events)
-    ∙ (t.told_is
-    ∙ (ap (λ (gs : List Given). gs ++ map (given_as b.pdcp.tx) (take t.n os)) (status_none bits b.pdcp.lcid (has_prohibit b) b.rx share)
-    ∙ ap (λ (xs : List Offer). map (given_as b.pdcp.tx) xs) (sym off)))))
+    takes_tell (given_in bits) (λ s o. given_as s o ∷ []) (IsOf bits) (IsRight (AmKind bits))
+    (λ d h. record { kind = (pdcp_rest d).0 ∙ h.kind; tx = ap (λ (s : Sending). s.kind) (pdcp_took d) ∙ ((took_same d.tx).kind ∙ h.tx) }) (λ s t o h. same_given s t (o ∷ []) h)
+    (λ e o os h fine q. first_told bits e o os k h.kind h.tx q fine) (λ lcid way sn. refl) (λ lcid clock. refl) (λ lcid why. refl)
+    b share held (record { kind = kind; tx = tx }) right
+    ∙ each_one b.pdcp.tx (takes (Am b) (Take share held))
 
 -- only the report that is owed has no COUNT
 all_then : (kind : PdcpKind) (xs ys : List Offer) → AllByRecursion (IsRight kind) xs → AllByRecursion (IsRight kind) ys → AllByRecursion (IsRight kind) (xs ++ ys)

@@ -97,16 +97,16 @@ module _ (P : Event → Type 0) where
 
   -- ---- as it hears
 
-  record OfHearing (m : ℕ) : Type 0 where
-    start : (clock : Clock) → P (Start m clock)
-    stop : (clock : Clock) → P (Stop m clock)
-    expired : (clock : Clock) → P (Expired m clock)
-    up : (sdu : List ℕ) → P (Up m sdu)
-    fail : (sn : ℕ) → P (Fail m sn)
-    drop : (why : Lost) → P (Drop m why)
-    integrity : (found wanted : List ℕ) → P (Integrity m found wanted)
-    bad_rlc : (fault : RlcRefusal) → P (BadRlc m fault)
-    bad_pdcp : (fault : PdcpRefusal) → P (BadPdcp m fault)
+  pub record OfHearing (m : ℕ) : Type 0 where
+    pub start : (clock : Clock) → P (Start m clock)
+    pub stop : (clock : Clock) → P (Stop m clock)
+    pub expired : (clock : Clock) → P (Expired m clock)
+    pub up : (sdu : List ℕ) → P (Up m sdu)
+    pub fail : (sn : ℕ) → P (Fail m sn)
+    pub drop : (why : Lost) → P (Drop m why)
+    pub integrity : (found wanted : List ℕ) → P (Integrity m found wanted)
+    pub bad_rlc : (fault : RlcRefusal) → P (BadRlc m fault)
+    pub bad_pdcp : (fault : PdcpRefusal) → P (BadPdcp m fault)
 
   module _ (m : ℕ) (w : OfHearing m) where
     up_holds : Hold (an_up m)
@@ -300,7 +300,7 @@ module _ {X : Type 0} (pick : ℕ → Event → List X) (off : (l : ℕ) (x : Ev
   picked_told l (x ∷ xs) = first_picked (is_on l x) l x (told_on l xs) refl ∙ ap (λ (found : List X). pick l x ++ found) (picked_told l xs)
 
   -- what is told of the channel says it
-  picked_as : (l : ℕ) (xs ys : List Event) → told_on l xs ≡ ys → picked l xs ≡ picked l ys
+  pub picked_as : (l : ℕ) (xs ys : List Event) → told_on l xs ≡ ys → picked l xs ≡ picked l ys
   picked_as l xs ys e = sym (picked_told l xs) ∙ ap (picked l) e
 
   none_picked : (l : ℕ) (xs : List Event) → AllByRecursion (λ x. pick l x ≡ []) xs → picked l xs ≡ []
@@ -308,7 +308,7 @@ module _ {X : Type 0} (pick : ℕ → Event → List X) (off : (l : ℕ) (x : Ev
   none_picked l (x ∷ xs) p = ap (λ (found : List X). found ++ picked l xs) p.0 ∙ none_picked l xs p.1
 
   module _ (of_call : ℕ → Flow → BearerCall → List X) (is : (l : ℕ) (f : Flow) (c : BearerCall) → IsBetween l f → picked l (tells_in l f c) ≡ of_call l f c) where
-    picked_over : (l : ℕ) (f : Flow) (cs : List BearerCall) → IsBetween l f → picked l (tells_over l f cs) ≡ of_calls of_call l f cs
+    pub picked_over : (l : ℕ) (f : Flow) (cs : List BearerCall) → IsBetween l f → picked l (tells_over l f cs) ≡ of_calls of_call l f cs
     picked_over l f [] k = refl
     picked_over l f (c ∷ cs) k =
         flat_map-append (pick l) (tells_in l f c) (tells_over l (called f c) cs)
@@ -410,3 +410,15 @@ pub end_discards : (l : ℕ) (f : Flow) (xs : List Event) → IsBetween l f → 
 end_discards l f xs k e =
     picked_as discards_in discard_off l xs (stopping f) e
     ∙ none_discarded l (stopping f) (end_holds (DiscardsNone l) l (hearing_discards l l) (is_signalling f) (stopping f) (told_in_order l f k).ending)
+
+-- ---- what nothing is told of as a bearer hears
+
+module _ {X : Type 0} (pick : ℕ → Event → List X) (off : (l : ℕ) (x : Event) → is_on l x ≡ false → pick l x ≡ []) (l : ℕ) (f : Flow) (k : IsBetween l f) (w : OfHearing (λ x. pick l x ≡ []) l) where
+  pub none_arriving : (pdu : List ℕ) → flat_map (pick l) (tells_in l f (Arrives pdu)) ≡ []
+  none_arriving pdu = none_picked pick off l _ (pdu_holds (λ x. pick l x ≡ []) l w _ ((told_in_order l f k).receiving pdu))
+
+  pub none_expiring : (clock : Clock) → flat_map (pick l) (tells_in l f (Expires clock)) ≡ []
+  none_expiring clock = none_picked pick off l _ (some_hold (λ x. pick l x ≡ []) l w clock (expiry f clock) ((told_in_order l f k).expiring clock))
+
+  pub none_ending : flat_map (pick l) (stopping f) ≡ []
+  none_ending = none_picked pick off l (stopping f) (end_holds (λ x. pick l x ≡ []) l w (is_signalling f) (stopping f) (told_in_order l f k).ending)

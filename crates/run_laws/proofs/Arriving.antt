@@ -1,16 +1,19 @@
 -- Each acknowledged data bearer of a journal hands up exactly as many SDUs as have come before the first that hasn't, and the first of those submitted.
 use Rattle.std.proofs.Common.{◌≡◌, ℕ, ◌-◌, List, [], ◌∷◌, length, take, arith, ap, sym, subst, ◌∙◌}
 use Rattle.std.proofs.lemmas.List.{length-take-le}
-use Rattle.air_text.specs.Groups.{Group}
+use Rattle.air_text.specs.Groups.{Group, history}
+use Rattle.bearer_types.specs.declared.event.Event.{Event}
+use Rattle.channel_laws.specs.Leaving.{taken_of}
+use Rattle.link_laws.specs.Ends.{told_by}
 use Rattle.am_arrival_laws.specs.Lives.{Happening, Account, no_account, account}
 use Rattle.am_bearer_laws.specs.Lives.{other as other_end}
 use Rattle.channel_laws.specs.Arrival.{told_from}
 use Rattle.channel_laws.specs.Delivery.{taken_at, submitted_at, ups_at}
 use Rattle.flow_laws.specs.Air.{outset}
-use Rattle.channel_laws.proofs.Delivery.{channels_deliver_what_came, channels_deliver_what_came_undiscarded}
+use Rattle.channel_laws.proofs.Delivery.{channels_tell_what_is_taken, channels_deliver_what_came, channels_deliver_what_came_undiscarded}
 use Rattle.delivery_laws.specs.Arrival.{IsWhatCame}
 use Rattle.flow_laws.specs.Ups.{discards_on}
-use Rattle.run_laws.specs.Arrival.{told_of, AllHandUpWhatCame, HandUpWhatCame}
+use Rattle.run_laws.specs.Arrival.{taken as taken_told, told_of, AllHandUpWhatCame, HandUpWhatCame}
 use Rattle.run_laws.specs.Order.{KeepsOrder}
 use Rattle.run_laws.proofs.Delivering.{is_delivering, tells, went_up_is, was_submitted_is, happened_from}
 
@@ -32,12 +35,16 @@ came past order from l c e kind own =
     let said = told_of c l from past in
     let from_told : (news : List (List ℕ)) → IsWhatCame c.first (told_from c l from steps a) news ups → IsWhatCame c.first said news ups =
     λ news x. subst (λ (hs : List Happening). IsWhatCame c.first (account hs no_account) news ups) (happened_from l c past d c.pdcp_bits from) x in
+    let is_told : taken ≡ taken_told c l from past =
+    channels_tell_what_is_taken l c d.keys d.nb d.ue from steps d.alike living
+    ∙ (ap (λ (es : List Event). taken_of l c.first es all) (tells l c past d from) ∙ ap (taken_of l c.first (told_by from (history past))) (was_submitted_is l c past d from)) in
     let x : IsWhatCame c.first said taken ups = from_told taken (channels_deliver_what_came l c d.keys d.nb d.ue from steps d.alike living) in
     let up = went_up_is l c past d from in
     record {
       next = x.next;
       least = x.least;
       many = ap length (sym up) ∙ many_of c.first said taken ups x;
+      which = sym up ∙ (x.ups_are ∙ ap (take (x.next - c.first)) is_told);
       none_left_out = λ none.
           let y : IsWhatCame c.first said all ups =
           from_told all (channels_deliver_what_came_undiscarded l c d.keys d.nb d.ue from steps d.alike living (ap (discards_on l) (tells l c past d from) ∙ none)) in

@@ -4,7 +4,9 @@ use Rattle.air_laws.specs.Arrival.{tells_in}
 use Rattle.air_link.specs.Link.{other}
 use Rattle.air_record.specs.declared.line.Line.{Line}
 use Rattle.air_record.specs.declared.line.Line.TheVariants as lines
-use Rattle.air_text.specs.Groups.{Group}
+use Rattle.air_text.specs.Groups.{Group, history}
+use Rattle.channel_laws.specs.Leaving.{taken_of}
+use Rattle.link_laws.specs.Ends.{told_by}
 use Rattle.am_arrival_laws.specs.Lives.{Happening, Renews, Account, no_account, has_come, account}
 use Rattle.bearer_types.specs.declared.config.BearerConfig.{BearerConfig}
 use Rattle.l2_num.specs.Least.{IsLeast}
@@ -27,12 +29,17 @@ happened bits lcid from (g ∷ past) = happened bits lcid from past ++ (ended_by
 abbrev pub told_of : BearerConfig → ℕ → Side → List Group → Account
 told_of config lcid from past = account (happened config.pdcp_bits lcid from past) no_account
 
--- as many SDUs have gone up at the other end as COUNTs have come before the first that hasn't, none of which is held back; and as long as the sending
--- side has discarded none, they are the first that it submitted
+-- of those that it submitted, the SDUs that a side takes, as its `take` and `discard` records tell (TS 36.323 5.1.1, 5.4)
+abbrev pub taken : BearerConfig → ℕ → Side → List Group → List (List ℕ)
+taken config lcid from past = taken_of lcid config.first (told_by from (history past)) (submitted from lcid past)
+
+-- what has gone up at the other end are the SDUs that a side took first: as many as COUNTs have come before the first that hasn't, none of which is
+-- held back; as long as the side has discarded none, they are the first that it submitted
 pub record HandsUpWhatCame (config : BearerConfig) (from : Side) (lcid : ℕ) (past : List Group) : Type 0 where
   pub next : ℕ
   pub least : IsLeast (has_come (told_of config lcid from past)) config.first next
   pub many : length (delivered (other from) lcid past) ≡ next - config.first
+  pub which : delivered (other from) lcid past ≡ take (next - config.first) (taken config lcid from past)
   pub none_left_out : discarded from lcid past ≡ [] → delivered (other from) lcid past ≡ take (next - config.first) (submitted from lcid past)
 
 -- on each channel with an acknowledged data bearer, where no block was forged
