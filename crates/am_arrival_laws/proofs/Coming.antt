@@ -55,7 +55,8 @@ part_end ps p part =
     let c = cells_are p in
     by (piece_of p).last refl l c
   where
-    by : (b : Bool) → (piece_of p).last ≡ b → length (cells_of ps) ≡ length ps → length (piece_of p).cells ≡ octets_in p.elements → so_of p.segment + octets_in p.elements ≤ length ps
+    by : (b : Bool) → (piece_of p).last ≡ b → length (cells_of ps) ≡ length ps → length (piece_of p).cells ≡ octets_in p.elements
+        → so_of p.segment + octets_in p.elements ≤ length ps
     by true e l c = let x = part.last e in omega (arith, x, l, c)
     by false e l c = let x = part.on e in omega (arith, x, l, c)
 
@@ -75,7 +76,8 @@ last_clashes (ExpireProhibit ∷ cs) p w n e = last_clashes cs p (heard_by w Exp
 last_clashes (TickReorder ∷ cs) p w n e = last_clashes cs p (heard_by w TickReorder) n e
 last_clashes (TickProhibit ∷ cs) p w n e = last_clashes cs p (heard_by w TickProhibit) n e
 
-pub is_received : (f : Flow) (octets : List ℕ) (p : AmdPdu) → am_at octets ≡ Ok (Payload p) → (number : ℕ) → data_comes f (Some (record { number = number; octets = octets })) ≡ receives f (Arrive p)
+pub is_received : (f : Flow) (octets : List ℕ) (p : AmdPdu) → am_at octets ≡ Ok (Payload p) → (number : ℕ)
+    → data_comes f (Some (record { number = number; octets = octets })) ≡ receives f (Arrive p)
 is_received f octets p read number = ap (λ r. data_read f r) read
 
 never_clashes : (f : Flow) (c : Copy) (p : AmdPdu) → IsSound f → IsTrueCopy (sender f).past.sent c → am_at c.octets ≡ Ok (Payload p) → landed (receiver f).state p ≡ Clash → ⊥
@@ -133,7 +135,8 @@ keeps_brings f c p h q read sn part n i lt = by (landed s p) refl
         grind (arith, nat_tests, a)
     here false e all = grind (arith, nat_tests, e)
 
-    by : (l : Landed) → landed (receiver f).state p ≡ l → has_come (kept_after l (receiver f).state p (receiver f).kept) n i ≡ (brings p c.number n i || has_come (receiver f).kept n i)
+    by : (l : Landed) → landed (receiver f).state p ≡ l
+        → has_come (kept_after l (receiver f).state p (receiver f).kept) n i ≡ (brings p c.number n i || has_come (receiver f).kept n i)
     by Fresh e =
         let t = (tests Fresh e).inside (λ no. cc) in
         let off : at < 512 = grind (arith, nat_tests, t) in

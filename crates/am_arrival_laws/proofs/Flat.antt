@@ -46,7 +46,8 @@ pub whole_behind : (ps qs current : List Place) (k : ℕ) → NoneCome qs → is
 whole_behind [] qs current k h = none_whole qs current k h ∙ grind (arith, nat_tests)
 whole_behind (p ∷ ps) qs current k h = by p.cell.ends k (λ j. whole_behind ps qs [] j h) (whole_behind ps qs (current ++ p ∷ []) k h)
   where
-    by : (b : Bool) (k : ℕ) → ((j : ℕ) → is_whole (cut [] (ps ++ qs)) j ≡ is_whole (cut [] ps) j) → is_whole (cut (current ++ p ∷ []) (ps ++ qs)) k ≡ is_whole (cut (current ++ p ∷ []) ps) k
+    by : (b : Bool) (k : ℕ) → ((j : ℕ) → is_whole (cut [] (ps ++ qs)) j ≡ is_whole (cut [] ps) j)
+        → is_whole (cut (current ++ p ∷ []) (ps ++ qs)) k ≡ is_whole (cut (current ++ p ∷ []) ps) k
         → is_whole (if b then (current ++ p ∷ []) ∷ cut [] (ps ++ qs) else cut (current ++ p ∷ []) (ps ++ qs)) k
         ≡ is_whole (if b then (current ++ p ∷ []) ∷ cut [] ps else cut (current ++ p ∷ []) ps) k
     by true zero rest on = grind (arith, nat_tests)
@@ -129,7 +130,8 @@ abbrev pub told_whole : List (List ℕ) → (ℕ → Bool) → ℕ → ℕ → B
 told_whole sdus come i k = nat_lt k (length (map length sdus)) && all_from come (i + place_of (map length sdus) k) (slice_index (map length sdus) k)
 
 -- an SDU of which not all places are there
-none_told : (sdus : List (List ℕ)) (come : ℕ → Bool) (i n k : ℕ) → HaveOctets sdus → ((j : ℕ) → i + n ≤ j → come j ≡ false) → (0 < length sdus → n < length (slice_index_or sdus 0 [])) → told_whole sdus come i k ≡ false
+none_told : (sdus : List (List ℕ)) (come : ℕ → Bool) (i n k : ℕ) → HaveOctets sdus → ((j : ℕ) → i + n ≤ j → come j ≡ false)
+    → (0 < length sdus → n < length (slice_index_or sdus 0 [])) → told_whole sdus come i k ≡ false
 none_told [] come i n k h none lt = grind (arith, nat_tests)
 none_told (s ∷ ss) come i n zero h none lt =
     let few = lt (omega arith) in
@@ -141,11 +143,13 @@ none_told (s ∷ ss) come i n (suc k) h none lt = behind ss k h.1
     few : n < length s
     few = lt (omega arith)
 
-    behind : (ss : List (List ℕ)) (k : ℕ) → HaveOctets ss → (nat_lt (suc k) (length (length s ∷ map length ss)) && all_from come (i + (length s + place_of (map length ss) k)) (slice_index (map length ss) k)) ≡ false
+    behind : (ss : List (List ℕ)) (k : ℕ) → HaveOctets ss
+        → (nat_lt (suc k) (length (length s ∷ map length ss)) && all_from come (i + (length s + place_of (map length ss) k)) (slice_index (map length ss) k)) ≡ false
     behind [] k h = grind (arith, nat_tests)
     behind ss k h = by (nat_lt k (length (map length ss))) refl
       where
-        by : (b : Bool) → nat_lt k (length (map length ss)) ≡ b → (nat_lt (suc k) (length (length s ∷ map length ss)) && all_from come (i + (length s + place_of (map length ss) k)) (slice_index (map length ss) k)) ≡ false
+        by : (b : Bool) → nat_lt k (length (map length ss)) ≡ b
+            → (nat_lt (suc k) (length (length s ∷ map length ss)) && all_from come (i + (length s + place_of (map length ss) k)) (slice_index (map length ss) k)) ≡ false
         by false e = grind (arith, nat_tests, e)
         by true e =
             let l = length-map ss length in

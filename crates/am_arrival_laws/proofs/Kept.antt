@@ -27,7 +27,8 @@ pub keeps_of : (f : Flow) → Keeps (receiver f)
 keeps_of f = run-keeps f.heard (begin f.receiving) (fresh-keeps f.receiving)
 
 -- below VR(R) all of it has been kept
-pub kept_below : (f : Flow) (n i : ℕ) → IsSound f → n < (receiver f).state.window.front → i < length (slice_index_or (sender f).past.sent n []) → has_come (receiver f).kept n i ≡ true
+pub kept_below : (f : Flow) (n i : ℕ) → IsSound f → n < (receiver f).state.window.front → i < length (slice_index_or (sender f).past.sent n [])
+    → has_come (receiver f).kept n i ≡ true
 kept_below f n i h lt within =
     let first : IsFirst (receiver f) = least f.receiving f.heard in
     let done : IsComplete (receiver f).kept n = first.below n lt in
@@ -102,7 +103,8 @@ landing_is false true c = record { outside = λ e. cc; inside = λ e. refl; agai
 landing_is false false true = record { outside = λ e. cc; inside = λ e. refl; again = λ e. cc }
 landing_is false false false = record { outside = λ e. cc; inside = λ e. refl; again = λ e. cc }
 
-pub repeat_held : (slots : List Held) (at : ℕ) (p : Piece) → 1 ≤ length p.cells → is_repeat (slice_get slots at) p ≡ true → holds (slot_at slots at).cells p.so (length p.cells) ≡ true
+pub repeat_held : (slots : List Held) (at : ℕ) (p : Piece) → 1 ≤ length p.cells → is_repeat (slice_get slots at) p ≡ true
+    → holds (slot_at slots at).cells p.so (length p.cells) ≡ true
 repeat_held [] at p some e = cc
 repeat_held (s ∷ ss) zero p some e = e
 repeat_held (s ∷ ss) (suc at) p some e = repeat_held ss at p some e

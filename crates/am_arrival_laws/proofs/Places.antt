@@ -68,7 +68,8 @@ come_covered fields (s ∷ came) n i h known lt =
     ap (λ (b : Bool). b || has_come fields came (place_of fields n + i)) a ∙ ap (λ (b : Bool). lies s n i || b) ih
 
 -- none lies behind all fields
-pub none_behind : (fields : List ℕ) (came : List Stretch) (place : ℕ) → AllByRecursion (IsWithin fields) came → place_of fields (length fields) ≤ place → has_come fields came place ≡ false
+pub none_behind : (fields : List ℕ) (came : List Stretch) (place : ℕ) → AllByRecursion (IsWithin fields) came → place_of fields (length fields) ≤ place
+    → has_come fields came place ≡ false
 none_behind fields [] place h le = refl
 none_behind fields (s ∷ came) place h le =
     let ih = none_behind fields came place h.1 le in

@@ -169,12 +169,15 @@ told_again f c t h q count =
     let y = q.young in
     told_written c.octets r.pdu t r.read ∙ is_old_sn r.pdu t c.number r.sn (omega (arith, count, k)) (omega (arith, count, y))
 
-sent_so : (f : Flow) (c : SenderCall) → (run_sender octets_after (f.sent ++ c ∷ []) (begun f.sending nothing_sent)).past.sent ≡ (octets_after (sender f).state c (sender f).past).sent
+sent_so : (f : Flow) (c : SenderCall)
+    → (run_sender octets_after (f.sent ++ c ∷ []) (begun f.sending nothing_sent)).past.sent ≡ (octets_after (sender f).state c (sender f).past).sent
 sent_so f c = ap (λ (x : SenderWorld Octets). x.past.sent) (sender-more f c)
 
 -- one that is sent again
-again_tells : (f : Flow) (size : ℕ) (held : Option ℕ) (more : Bool) (from to : ℕ) (a : Taken) (t : Told) → answer (sender f).state size held more ≡ a → IsAgain (sender f).state size from to (sender f).past a
-    → (octets_after (sender f).state (Take size held more) (sender f).past).sent ≡ (sender f).past.sent → IsSound (sends f (Take size held more)) → TellsOf f t → TellsOf f (told_in (written_in a) t)
+again_tells : (f : Flow) (size : ℕ) (held : Option ℕ) (more : Bool) (from to : ℕ) (a : Taken) (t : Told) → answer (sender f).state size held more ≡ a
+    → IsAgain (sender f).state size from to (sender f).past a
+    → (octets_after (sender f).state (Take size held more) (sender f).past).sent ≡ (sender f).past.sent → IsSound (sends f (Take size held more)) → TellsOf f t
+    → TellsOf f (told_in (written_in a) t)
 again_tells f size held more from to a t g w same ok k =
     let number = number_again (sender f).state in
     let octets = again_octets (sender f).past number from to (poll_of a) in
@@ -186,7 +189,8 @@ again_tells f size held more from to a t g w same ok k =
     let count : length t.fields ≡ length (sender d).past.sent = count_is (sender f).past.sent (receiver f).kept t k ∙ ap (λ (x : List (List Place)). length x) (sym sent) in
     subst (λ (x : Told). TellsOf f x) (sym (ap (λ (x : Taken). told_in (written_in x) t) w.is ∙ told_again d c t ok all.0 count)) k
 
-sends_tell : (f : Flow) (size : ℕ) (held : Option ℕ) (more : Bool) (u : Turn) (a : Taken) (t : Told) → turn (sender f).state size held more ≡ u → answer (sender f).state size held more ≡ a
+sends_tell : (f : Flow) (size : ℕ) (held : Option ℕ) (more : Bool) (u : Turn) (a : Taken) (t : Told) → turn (sender f).state size held more ≡ u
+    → answer (sender f).state size held more ≡ a
     → IsWritten u (sender f).state size (sender f).past a → IsSound f → IsSound (sends f (Take size held more)) → TellsOf f t
     → Tells (octets_by u (sender f).state size (sender f).past).sent (receiver f).kept (told_in (written_in a) t)
 sends_tell f size held more turns.New a t e g w h ok k =
@@ -281,7 +285,8 @@ copy_at sent [] k c h e = let no : None ≡ Some c = e in cc
 copy_at sent (d ∷ cs) zero c h e = let same : Some d ≡ Some c = e in let is : d ≡ c = cc in subst (IsTrueCopy sent) is h.0
 copy_at sent (d ∷ cs) (suc k) c h e = copy_at sent cs k c h.1 e
 
-data_tells : (f : Flow) (o : Option Copy) (t : Told) → ((c : Copy) → o ≡ Some c → IsTrueCopy (sender f).past.sent c) → IsSound f → TellsOf f t → TellsOf (data_comes f o) (told_in (coming o) t)
+data_tells : (f : Flow) (o : Option Copy) (t : Told) → ((c : Copy) → o ≡ Some c → IsTrueCopy (sender f).past.sent c) → IsSound f → TellsOf f t
+    → TellsOf (data_comes f o) (told_in (coming o) t)
 data_tells f None t at h k = k
 data_tells f (Some c) t at h k = copy_tells f c t h (at c refl) k
 

@@ -1,6 +1,6 @@
 -- Which COUNTs have come, told through the lives of an acknowledged data bearer in one direction: by the PDUs that PDCP gave RLC, by those that RLC
 -- wrote, and by those that came (TS 36.322 5.1.3.2, 5.4, TS 36.323 5.1.2.1.2, 5.2).
-use Rattle.std.specs.Prelude.{ℕ, ◌+◌, ◌==◌, Bool, true, false, ◌&&◌, ◌||◌, List, [], ◌∷◌, ◌++◌, map, Option, Some, None}
+use Rattle.std.specs.Prelude.{ℕ, ◌+◌, ◌==◌, Bool, false, ◌&&◌, ◌||◌, List, [], ◌∷◌, ◌++◌, map, Option, Some, None}
 use Rattle.am_arrival_laws.specs.Stretches.{has_arrived}
 use Rattle.am_arrival_laws.specs.Passing.{Passing, Told, nothing_told, told_by}
 

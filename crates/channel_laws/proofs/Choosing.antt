@@ -48,7 +48,8 @@ pub record Takes (s : State) (os : List Offer) (news : List (List ℕ)) (n : ℕ
   pub next : n ≡ s.next + length news
   pub told : (more : List (Option ℕ)) → were_taken s.next (marks os ++ more) ≡ yes news ++ were_taken n more
 
-new_takes : (ws : List Waits) (s : State) (os : List Offer) (news : List (List ℕ)) (n : ℕ) → Takes (took_new ws s) os news n → Takes s (take 1 (new_offers s.next ws) ++ os) (first_sdu ws ++ news) n
+new_takes : (ws : List Waits) (s : State) (os : List Offer) (news : List (List ℕ)) (n : ℕ) → Takes (took_new ws s) os news n
+    → Takes s (take 1 (new_offers s.next ws) ++ os) (first_sdu ws ++ news) n
 new_takes [] s os news n h = h
 new_takes (w ∷ ws) s os news n h =
     let same : (s.next == s.next) ≡ true = grind (arith, nat_tests) in

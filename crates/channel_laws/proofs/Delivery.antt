@@ -180,7 +180,8 @@ module _ (l : ℕ) (c : BearerConfig) (keys : Keys) (nb ue : End) (h : BeginAlik
   pair_came Nb xs g = (what_came_is_delivered c keys (first_of c keys Nb) (first_of c keys Ue) (walk xs g).steps both_ends (walk xs g).living).down
   pair_came Ue xs g = (what_came_is_delivered c keys (first_of c keys Nb) (first_of c keys Ue) (walk xs g).steps both_ends (walk xs g).living).up
 
-  pub came : (from : Side) (xs : List AirStep) → AreLiving l (outset nb ue) xs → IsWhatCame c.first (told_from c l from xs (outset nb ue)) (taken_at l from xs (outset nb ue)) (ups_at l (other from) xs (outset nb ue))
+  pub came : (from : Side) (xs : List AirStep) → AreLiving l (outset nb ue) xs
+      → IsWhatCame c.first (told_from c l from xs (outset nb ue)) (taken_at l from xs (outset nb ue)) (ups_at l (other from) xs (outset nb ue))
   came from xs g =
       subst (λ (up : List (List ℕ)). IsWhatCame c.first (told_from c l from xs (outset nb ue)) (taken_at l from xs (outset nb ue)) up) (ups_is (other from) xs g)
       (subst (λ (all : List (List ℕ)). IsWhatCame c.first (told_from c l from xs (outset nb ue)) all (over (ups_in_at (other from)) (walk xs g).steps pair)) (news_is from xs g)

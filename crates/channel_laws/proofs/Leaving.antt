@@ -59,7 +59,8 @@ report_none l lcid (Err refusal) = refl
 report_none l lcid (Ok (Sdu sn text)) = refl
 report_none l lcid (Ok (Report fms bitmap)) = refl
 
-one_told : (l lcid : ℕ) (kind own : PdcpKind) (p : Protection) (count : Option ℕ) (text : List ℕ) → lcid ≡ l → flat_map (leaving_in l) (next_told lcid kind (Some (written own p count text))) ≡ marked count
+one_told : (l lcid : ℕ) (kind own : PdcpKind) (p : Protection) (count : Option ℕ) (text : List ℕ) → lcid ≡ l
+    → flat_map (leaving_in l) (next_told lcid kind (Some (written own p count text))) ≡ marked count
 one_told l lcid Srb own p None text same = refl
 one_told l lcid (Um bits) own p None text same = report_none l lcid (user_at bits text)
 one_told l lcid (AmKind bits) own p None text same = report_none l lcid (user_at bits text)
@@ -121,7 +122,8 @@ record Gone (l lcid : ℕ) (ws : List Waits) (s : Sending) : Type 0 where
   left : (without_late ws s).waiting ≡ drop n ws
   told : flat_map (leaving_in l) (late_told lcid ws s) ≡ nones (take n ws)
 
-gone_by : (late : Bool) (l lcid : ℕ) (w : Waits) (ws : List Waits) (s : Sending) → is_overdue s ≡ late → lcid ≡ l → s.waiting ≡ w ∷ ws → (is_overdue s ≡ true → Gone l lcid ws (after_late s)) → Gone l lcid (w ∷ ws) s
+gone_by : (late : Bool) (l lcid : ℕ) (w : Waits) (ws : List Waits) (s : Sending) → is_overdue s ≡ late → lcid ≡ l → s.waiting ≡ w ∷ ws
+    → (is_overdue s ≡ true → Gone l lcid ws (after_late s)) → Gone l lcid (w ∷ ws) s
 gone_by true l lcid w ws s e same q rest =
     let here : (lcid == l) ≡ true = grind (arith, nat_tests, same) in
     let g = rest e in
@@ -216,7 +218,8 @@ nones_told (d ∷ ds) n more = ap (λ (bs : List Bool). false ∷ bs) (nones_tol
 module _ (kind : PdcpKind) (p : Protection) (first : ℕ) where
   record CallLeaves (l : ℕ) (b : State) (c : Call) : Type 0 where
     reached : WasReached kind p first (called b c).pdcp.tx
-    told : (more : List (Option ℕ)) → were_taken b.pdcp.tx.next (marked_in l (Am b) c ++ more) ≡ (yes (news (Am b) c) ++ no (drops (Am b) c)) ++ were_taken (called b c).pdcp.tx.next more
+    told : (more : List (Option ℕ))
+        → were_taken b.pdcp.tx.next (marked_in l (Am b) c ++ more) ≡ (yes (news (Am b) c) ++ no (drops (Am b) c)) ++ were_taken (called b c).pdcp.tx.next more
 
   told_by : (bits l : ℕ) (b : State) (c : Call) (n : ℕ) → IsSteady bits l b → Takes b.pdcp.tx (takes (Am b) c) (news (Am b) c) n
       → (more : List (Option ℕ)) → were_taken b.pdcp.tx.next (marked_in l (Am b) c ++ more) ≡ (yes (news (Am b) c) ++ no (drops (Am b) c)) ++ were_taken n more

@@ -55,7 +55,8 @@ hears_then (c ∷ cs) ds = ap (λ (hs : List Happening). bearer_hears c ++ hs) (
 
 -- ---- deeds of an end of a pair
 
-deed_says : (other e : BearerEnd) (d : Deed) (cs : List BearerCall) → says e.bearer (deed_calls other d ++ cs) ≡ said_by e.bearer (deed_calls other d) ++ says (does other e d).bearer cs
+deed_says : (other e : BearerEnd) (d : Deed) (cs : List BearerCall)
+    → says e.bearer (deed_calls other d ++ cs) ≡ said_by e.bearer (deed_calls other d) ++ says (does other e d).bearer cs
 deed_says other e (CallsBearer c) cs = refl
 deed_says other e (DataComes k) cs = by (slice_get other.copies k)
   where
@@ -142,7 +143,8 @@ carries side l e tti order grant h there some most =
     ∙ subst (λ (x : End). has l x.bearers ≡ true → carried l (sent_by side) (new_block (visited tti order x) grant) ≡ written_by (visited tti order x) grant l) is
     (λ t. blocks_carry_pdus side h.maximum h.reports h.past h.given tti order grant l some most t) there
 
-says_visit : (v : Visit) (bits l : ℕ) (side : Side) (e : End) (b : State) (t : Turn) → visit t.tti t.order e ≡ v → Stands side l e → flow l e ≡ Am b → IsSteady bits l b → IsGivenCall (Visits t)
+says_visit : (v : Visit) (bits l : ℕ) (side : Side) (e : End) (b : State) (t : Turn) → visit t.tti t.order e ≡ v → Stands side l e → flow l e ≡ Am b
+    → IsSteady bits l b → IsGivenCall (Visits t)
     → (v ≡ New → 1 ≤ t.grant)
     → says b (takes_of v t (visited t.tti t.order e) l)
     ≡ gives bits (tells_over l (flow l e) (takes_of v t (visited t.tti t.order e) l)) ++ writing (flat_map (carried l (sent_by e.side)) (map (λ (x : Block). x.octets) (built_at v t (visited t.tti t.order e))))
@@ -194,7 +196,8 @@ visiting_some New s t h e = h.some
 visiting_some (Resend rv) s t h e = cc
 visiting_some Silent s t h e = cc
 
-call_says : (bits l : ℕ) (side : Side) (s : Station) (b : State) (c : Call) → Stands side l s.end → flow l s.end ≡ Am b → IsSteady bits l b → IsGivenCall c → GoesOnInLife l c → IsCalling s c
+call_says : (bits l : ℕ) (side : Side) (s : Station) (b : State) (c : Call) → Stands side l s.end → flow l s.end ≡ Am b → IsSteady bits l b → IsGivenCall c
+    → GoesOnInLife l c → IsCalling s c
     → says b (calls_of l s.end c) ≡ said_in bits l s.end c
 call_says bits l side s b (SetVisits maximum) stands bearer steady g life calling = refl
 call_says bits l side s b (SetReports reports) stands bearer steady g life calling = refl

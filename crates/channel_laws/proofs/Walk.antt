@@ -53,7 +53,8 @@ record Walks (bits l : ℕ) (a : Air) (x : AirStep) (p : Pair) : Type 0 where
   down_is : over down_in steps p ≡ happens_in bits l Nb a x
   up_is : over up_in steps p ≡ happens_in bits l Ue a x
 
-walks_nb : (bits l : ℕ) (a : Air) (x : Act) (p : Pair) → IsDone l a.nb x → Matches Nb l a.nb p.near → Matches Ue l a.ue p.far → Stands Nb l a.nb.end → IsSteady bits l p.near.bearer
+walks_nb : (bits l : ℕ) (a : Air) (x : Act) (p : Pair) → IsDone l a.nb x → Matches Nb l a.nb p.near → Matches Ue l a.ue p.far → Stands Nb l a.nb.end
+    → IsSteady bits l p.near.bearer
     → Walks bits l a (InLife (AtNb x)) p
 walks_nb bits l a x p g h k stands steady =
     let r : Acts Nb l (does a.ue a.nb x) p.far p.near (act_calls l a.ue a.nb x) = acts Nb Ue l a.nb a.ue p.near p.far x refl h k g in
@@ -69,7 +70,8 @@ walks_nb bits l a x p g h k stands steady =
       up_is = near_hears p r.deeds ∙ (ap hears r.calls_are ∙ act_hears l a.ue a.nb x);
     }
 
-walks_ue : (bits l : ℕ) (a : Air) (x : Act) (p : Pair) → IsDone l a.ue x → Matches Nb l a.nb p.near → Matches Ue l a.ue p.far → Stands Ue l a.ue.end → IsSteady bits l p.far.bearer
+walks_ue : (bits l : ℕ) (a : Air) (x : Act) (p : Pair) → IsDone l a.ue x → Matches Nb l a.nb p.near → Matches Ue l a.ue p.far → Stands Ue l a.ue.end
+    → IsSteady bits l p.far.bearer
     → Walks bits l a (InLife (AtUe x)) p
 walks_ue bits l a x p g h k stands steady =
     let r : Acts Ue l (does a.nb a.ue x) p.near p.far (act_calls l a.nb a.ue x) = acts Ue Nb l a.ue a.nb p.far p.near x refl k h g in

@@ -85,7 +85,8 @@ given_end : (xs : List Next) (n : Next) → map given_of (xs ++ n ∷ []) ≡ ma
 given_end [] n = refl
 given_end (x ∷ xs) n = ap (λ (l : List Given). given_of x ∷ l) (given_end xs n)
 
-pub tells_given : (g h : Pdcp) (n : Next) (r : Told) → g.passed ≤ length g.stream → h.stream ≡ g.stream ++ n ∷ [] → h.passed ≡ g.passed → ((count : ℕ) → h.handed count ≡ g.handed count)
+pub tells_given : (g h : Pdcp) (n : Next) (r : Told) → g.passed ≤ length g.stream → h.stream ≡ g.stream ++ n ∷ [] → h.passed ≡ g.passed
+    → ((count : ℕ) → h.handed count ≡ g.handed count)
     → TellsOn (Gives (given_of n) ∷ []) g r h r
 tells_given g h n r few stream place handed = λ a k. record {
   given_are = ap (λ (l : List Next). map given_of l) stream ∙ given_end g.stream n ∙ ap (λ (l : List Given). l ++ given_of n ∷ []) k.given_are;
@@ -132,7 +133,8 @@ handed_too (Some own) handed count = by (count == own) (own == count) (handed co
     by false false true e = refl
     by false false false e = refl
 
-pub tells_handed : (g h : Pdcp) (n : Next) (r : Told) → slice_get g.stream g.passed ≡ Some n → h.stream ≡ g.stream → h.passed ≡ g.passed + 1 → ((count : ℕ) → h.handed count ≡ with_count n.count g.handed count)
+pub tells_handed : (g h : Pdcp) (n : Next) (r : Told) → slice_get g.stream g.passed ≡ Some n → h.stream ≡ g.stream → h.passed ≡ g.passed + 1
+    → ((count : ℕ) → h.handed count ≡ with_count n.count g.handed count)
     → TellsOn [] g r h r
 tells_handed g h n r at stream place handed = λ a k. record {
   given_are = ap (λ (l : List Next). map given_of l) stream ∙ k.given_are;

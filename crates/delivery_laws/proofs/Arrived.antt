@@ -191,7 +191,8 @@ first_is w = keeps_first w.events (pdcp_outset w.bits w.protection w.first)
 least_alike : (f g : ℕ → Bool) (p q : ℕ) → ((n : ℕ) → f n ≡ g n) → IsLeast f p q → IsLeast g p q
 least_alike f g p q same h = record { from = h.from; refused = sym (same q) ∙ h.refused; before = λ n a b. sym (same n) ∙ h.before n a b }
 
-pub is_what_came : (w : Way) (from to : BearerEnd) (a : Account) → IsWay w → Joins w from to → IsIdle to.bearer → Agrees a (pdcp w) (told_of w) → IsWhatCame w.first a (pdcp w).sdus (pdcp w).up
+pub is_what_came : (w : Way) (from to : BearerEnd) (a : Account) → IsWay w → Joins w from to → IsIdle to.bearer → Agrees a (pdcp w) (told_of w)
+    → IsWhatCame w.first a (pdcp w).sdus (pdcp w).up
 is_what_came w from to a is j idle k =
     let f = pdcp w in
     let e : IsExpected f = expected w.bits w.protection w.first w.events is.kind is.first is.events in

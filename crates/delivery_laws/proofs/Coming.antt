@@ -117,7 +117,8 @@ abbrev flow_of_way : (w : Way) (from to : BearerEnd) → IsWay w → Joins w fro
 flow_of_way w from to h j = record { steps = w.steps; given = h.steps; is = j.rlc_is }
 
 -- as its deeds do, so does its call
-as_called : {heard : List Happening} (bits : ℕ) (out inn : Way) (e o : BearerEnd) (pdu : List ℕ) (x : Result AcknowledgedPdu RlcRefusal) → am_at pdu ≡ x → JoinedEnds bits out inn e o
+as_called : {heard : List Happening} (bits : ℕ) (out inn : Way) (e o : BearerEnd) (pdu : List ℕ) (x : Result AcknowledgedPdu RlcRefusal) → am_at pdu ≡ x
+    → JoinedEnds bits out inn e o
     → GoesBetween bits out inn (with_bearer e (does_all (arrive_deeds x e.bearer) e.bearer)) o (go_up (arrive_deeds x e.bearer) e.bearer) heard
     → EndsGoOn bits out inn (arrives e pdu) o [] (ups_by e.bearer (Arrive pdu ∷ [])) [] heard
 as_called {heard} bits out inn e o pdu x read h g =

@@ -110,7 +110,8 @@ front_of w from to is j idle =
     let up : f.up ≡ take n f.sdus = sym (append-nil f.up) ∙ ap (λ (l : List (List ℕ)). f.up ++ l) (sym none) ∙ e.delivered in
     record { rest = drop n f.sdus; is = sym (take-append-drop n f.sdus) ∙ ap (λ (l : List (List ℕ)). l ++ drop n f.sdus) (sym up) }
 
-front_from : {told : List Happening} (c : BearerConfig) (p : Protection) (w : Way) (news ups : List (List ℕ)) → GoesOn (first_way c p) w news ups told → IsFront (pdcp w).up (pdcp w).sdus
+front_from : {told : List Happening} (c : BearerConfig) (p : Protection) (w : Way) (news ups : List (List ℕ)) → GoesOn (first_way c p) w news ups told
+    → IsFront (pdcp w).up (pdcp w).sdus
     → IsFront ups news
 front_from c p w news ups g h =
     subst (λ (l : List (List ℕ)). IsFront ups l) g.sdus_are (subst (λ (l : List (List ℕ)). IsFront l (pdcp w).sdus) g.ups_are h)
@@ -133,7 +134,8 @@ delivers_in_order steps c keys nb ue xs h given =
 begins_account : (c : BearerConfig) (p : Protection) → Agrees no_account (pdcp (first_way c p)) (told_of (first_way c p))
 begins_account c p = record { given_are = refl; rlc_is = refl; handed_are = λ count. refl }
 
-what_came_from : {told : List Happening} (c : BearerConfig) (p : Protection) (w : Way) (from to : BearerEnd) (news ups : List (List ℕ)) → IsWay w → Joins w from to → IsIdle to.bearer
+what_came_from : {told : List Happening} (c : BearerConfig) (p : Protection) (w : Way) (from to : BearerEnd) (news ups : List (List ℕ)) → IsWay w → Joins w from to
+    → IsIdle to.bearer
     → GoesOn (first_way c p) w news ups told → IsWhatCame c.first (account told no_account) news ups
 what_came_from {told} c p w from to news ups is j idle g =
     let a : Account = account told no_account in

@@ -84,7 +84,8 @@ middle_size (a ∷ []) fms bitmap e = cc
 middle_size (a ∷ b ∷ rest) fms bitmap e = by (is_data a) (has_report_type a) (sdu_at 2 (a % 16 * 256 + b) rest) (λ q. sdu_none 2 (a % 16 * 256 + b) rest fms bitmap q) e
   where
     by : (d t : Bool) (x : Result UserPdu PdcpRefusal) → (x ≡ Ok (Report fms bitmap) → ⊥)
-        → (if d then x else if t then Ok (Report (a % 16 * 256 + b) rest) else Err (record { at = 0; why = ReservedType })) ≡ Ok (Report fms bitmap) → length (a ∷ b ∷ rest) ≡ 2 + length bitmap
+        → (if d then x else if t then Ok (Report (a % 16 * 256 + b) rest) else Err (record { at = 0; why = ReservedType })) ≡ Ok (Report fms bitmap)
+        → length (a ∷ b ∷ rest) ≡ 2 + length bitmap
     by true t x no' q = absurd (no' q)
     by false true x no' q =
         let same : Ok (Report (a % 16 * 256 + b) rest) ≡ Ok (Report fms bitmap) = q in
@@ -112,7 +113,8 @@ long_size (a ∷ b ∷ rest) fms bitmap e = by (is_data a) (has_report_type a) (
     by false true x y no' more q = let l = more q in omega (arith, l)
     by false false x y no' more q = cc
 
-report_size : (bits : ℕ) (octets : List ℕ) (fms : ℕ) (bitmap : List ℕ) → IsKind (AmKind bits) → user_at bits octets ≡ Ok (Report fms bitmap) → length octets ≡ (if bits == 12 then 2 else 3) + length bitmap
+report_size : (bits : ℕ) (octets : List ℕ) (fms : ℕ) (bitmap : List ℕ) → IsKind (AmKind bits) → user_at bits octets ≡ Ok (Report fms bitmap)
+    → length octets ≡ (if bits == 12 then 2 else 3) + length bitmap
 report_size bits octets fms bitmap (inl k) e =
     let f : middle_user octets ≡ Ok (Report fms bitmap) = sym (ap (λ (n : ℕ). user_at n octets) k) ∙ e in
     rw k (middle_size octets fms bitmap f)
@@ -122,7 +124,8 @@ report_size bits octets fms bitmap (inr k) e =
 
 -- ---- what is told as it is taken
 
-told_report : (bits lcid : ℕ) (octets : List ℕ) (x : Result UserPdu PdcpRefusal) → IsKind (AmKind bits) → user_at bits octets ≡ x → (fms : ℕ) (bitmap : List ℕ) → heard_user x ≡ Told fms bitmap
+told_report : (bits lcid : ℕ) (octets : List ℕ) (x : Result UserPdu PdcpRefusal) → IsKind (AmKind bits) → user_at bits octets ≡ x → (fms : ℕ) (bitmap : List ℕ)
+    → heard_user x ≡ Told fms bitmap
     → flat_map (given_in bits) (report_told lcid x) ≡ record { count = None; size = length octets } ∷ []
 told_report bits lcid octets (Err refusal) k e fms bitmap h = cc
 told_report bits lcid octets (Ok (Sdu sn text)) k e fms bitmap h = cc
@@ -136,7 +139,8 @@ told_one bits lcid p None text k right =
     let r = right refl in told_report bits lcid text (user_at bits text) k refl r.fms r.bitmap r.is
 told_one bits lcid p (Some count) text k right = ap (λ (n : ℕ). record { count = Some count; size = n } ∷ []) (sym (sdu_size bits p count text k))
 
-first_told : (bits : ℕ) (e : Ends) (o : Offer) (os : List Offer) → IsKind (AmKind bits) → e.kind ≡ AmKind bits → e.tx.kind ≡ AmKind bits → offers e.tx ≡ o ∷ os → IsRight (AmKind bits) o
+first_told : (bits : ℕ) (e : Ends) (o : Offer) (os : List Offer) → IsKind (AmKind bits) → e.kind ≡ AmKind bits → e.tx.kind ≡ AmKind bits → offers e.tx ≡ o ∷ os
+    → IsRight (AmKind bits) o
     → flat_map (given_in bits) (taking_told e) ≡ given_as e.tx o ∷ []
 unfolding taking_told pdcp_taking
 first_told bits e o os k kind tx q right =
@@ -168,7 +172,8 @@ module _ {X : Type 0} (pick : Event → List X) (made : Sending → Offer → Li
     same_made s t [] h = refl
     same_made s t (o ∷ os) h = ap (λ (xs : List X). xs ++ flat_map (made t) os) (same s t o h) ∙ ap (λ (xs : List X). made s o ++ xs) (same_made s t os h)
 
-    one_more : (o : Offer) (os : List Offer) (d e : Ends) (before after : List Event) → Fits d → IsFine o → offers d.tx ≡ o ∷ os → Tells os (after_pdcp d) e (before ++ taking_told d) after → Tells (o ∷ os) d e before after
+    one_more : (o : Offer) (os : List Offer) (d e : Ends) (before after : List Event) → Fits d → IsFine o → offers d.tx ≡ o ∷ os
+        → Tells os (after_pdcp d) e (before ++ taking_told d) after → Tells (o ∷ os) d e before after
     one_more o os d e before after fits fine q t = record {
       n = suc t.n;
       few = omega (arith, t.few);
@@ -187,7 +192,8 @@ module _ {X : Type 0} (pick : Event → List X) (made : Sending → Offer → Li
     by_hunger true o os w v fits fine q t = one_more o os w.pdcp v.pdcp w.events v.events fits fine q t
     by_hunger false o os w v fits fine q t = no_more (o ∷ os) w.pdcp w.events q
 
-    feeds_tell : (os : List Offer) (size : ℕ) (held : Option ℕ) (w : Work) → Fits w.pdcp → AllByRecursion IsFine os → offers w.pdcp.tx ≡ os → Tells os w.pdcp (feeds os size held w).pdcp w.events (feeds os size held w).events
+    feeds_tell : (os : List Offer) (size : ℕ) (held : Option ℕ) (w : Work) → Fits w.pdcp → AllByRecursion IsFine os → offers w.pdcp.tx ≡ os
+        → Tells os w.pdcp (feeds os size held w).pdcp w.events (feeds os size held w).events
     feeds_tell [] size held w fits fine q = no_more [] w.pdcp w.events q
     feeds_tell (o ∷ os) size held w fits fine q =
         by_hunger (hungry w.tx size held) o os w (feeds os size held (fed w)) fits fine.0 q

@@ -35,7 +35,8 @@ data_goes bits out inn e o k h =
     (rlc_moves out (LetsDataGo k) e o d o h.out_is h.out_joins tt (record { stays = refl; none = refl }) refl flow refl refl)
     (record { rx = refl; reports = refl; pdcp = refl }) (between bits out inn e o d h refl) refl (tells inn out h.inn_reports)
 
-pub status_goes : (bits : ℕ) (out inn : Way) (e o : BearerEnd) (k : ℕ) → JoinedEnds bits out inn e o → EndsGoOn bits out inn (record e { reports = except k e.reports }) o [] [] [] []
+pub status_goes : (bits : ℕ) (out inn : Way) (e o : BearerEnd) (k : ℕ) → JoinedEnds bits out inn e o
+    → EndsGoOn bits out inn (record e { reports = except k e.reports }) o [] [] [] []
 status_goes bits out inn e o k h =
     let d : BearerEnd = record e { reports = except k e.reports } in
     let f = h.inn_joins.rlc_is in

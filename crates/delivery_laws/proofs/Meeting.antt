@@ -150,7 +150,8 @@ reports_stay w back v under s b h = record {
 
 -- ---- one after the other
 
-pub goes_then : {xs ys : List Happening} (u v w : Way) (news more ups last : List (List ℕ)) → GoesOn u v news ups xs → GoesOn v w more last ys → GoesOn u w (news ++ more) (ups ++ last) (xs ++ ys)
+pub goes_then : {xs ys : List Happening} (u v w : Way) (news more ups last : List (List ℕ)) → GoesOn u v news ups xs → GoesOn v w more last ys
+    → GoesOn u w (news ++ more) (ups ++ last) (xs ++ ys)
 goes_then {xs} {ys} u v w news more ups last h k = record {
   bits = k.bits ∙ h.bits;
   protection = k.protection ∙ h.protection;

@@ -57,7 +57,8 @@ pub record HasMoved (w v : Way) (xs : List Event) (from to : BearerEnd) (news up
   pub joins : Joins v from to
   pub goes : GoesOn w v news ups told
 
-pub moves_on : (w : Way) (xs : List Event) (ss : List RlcStep) (from to : BearerEnd) (news ups : List (List ℕ)) (told : List Happening) → IsWay w → Moves w xs ss from to news ups told
+pub moves_on : (w : Way) (xs : List Event) (ss : List RlcStep) (from to : BearerEnd) (news ups : List (List ℕ)) (told : List Happening) → IsWay w
+    → Moves w xs ss from to news ups told
     → HasMoved w (with_more xs ss w) xs from to news ups told
 moves_on w xs ss from to news ups told h m =
     let v = with_more xs ss w in
@@ -83,7 +84,8 @@ moves_on w xs ss from to news ups told h m =
 pub stays_so : (w : Way) → GoesOn w w [] [] []
 stays_so w = record { bits = refl; protection = refl; first = refl; sdus_are = sym (append-nil (pdcp w).sdus); ups_are = sym (append-nil (pdcp w).up); tells = λ a k. k }
 
-pub goes_then : {xs ys : List Happening} (w v u : Way) (news more ups later : List (List ℕ)) → GoesOn w v news ups xs → GoesOn v u more later ys → GoesOn w u (news ++ more) (ups ++ later) (xs ++ ys)
+pub goes_then : {xs ys : List Happening} (w v u : Way) (news more ups later : List (List ℕ)) → GoesOn w v news ups xs → GoesOn v u more later ys
+    → GoesOn w u (news ++ more) (ups ++ later) (xs ++ ys)
 goes_then {xs} {ys} w v u news more ups later h k = record {
   bits = k.bits ∙ h.bits;
   protection = k.protection ∙ h.protection;

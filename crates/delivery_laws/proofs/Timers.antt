@@ -165,7 +165,8 @@ by_itself : (bits : ℕ) (out inn : Way) (d o : BearerEnd) (busy : Bool)
     → EndsGoOn bits out inn (record d { busy = busy || false }) o [] [] [] [] → EndsGoOn bits out inn (record d { busy = busy }) o [] [] [] []
 by_itself bits out inn d o busy h = subst (λ (b : Bool). EndsGoOn bits out inn (record d { busy = b }) o [] [] [] []) (sym (or_none busy)) h
 
-sends_own : (bits : ℕ) (out inn : Way) (e o : BearerEnd) (c : SenderCall) → JoinedEnds bits out inn e o → IsOfSender c → EndsGoOn bits out inn (with_bearer (Sends c ∷ []) e) o [] [] [] []
+sends_own : (bits : ℕ) (out inn : Way) (e o : BearerEnd) (c : SenderCall) → JoinedEnds bits out inn e o → IsOfSender c
+    → EndsGoOn bits out inn (with_bearer (Sends c ∷ []) e) o [] [] [] []
 sends_own bits out inn e o (Offer sdu) h own = absurd own
 sends_own bits out inn e o (Take size held more) h own = absurd own
 sends_own bits out inn e o (Status status) h own = absurd own
@@ -196,7 +197,8 @@ receives_on bits out inn e o c h can stays quiet =
     (rlc_moves inn (ReceivesOn c) o e o d h.inn_is h.inn_joins can (record { stays = stays; none = refl }) refl flow refl refl)
     (record { tx = refl; copies = refl; busy = refl; pdcp = refl }) (stays_between bits out inn e o (Receives c) h quiet)
 
-receives_own : (bits : ℕ) (out inn : Way) (e o : BearerEnd) (c : ReceiverCall) → JoinedEnds bits out inn e o → IsTimed c → EndsGoOn bits out inn (with_bearer (Receives c ∷ []) e) o [] [] [] []
+receives_own : (bits : ℕ) (out inn : Way) (e o : BearerEnd) (c : ReceiverCall) → JoinedEnds bits out inn e o → IsTimed c
+    → EndsGoOn bits out inn (with_bearer (Receives c ∷ []) e) o [] [] [] []
 receives_own bits out inn e o (Arrive pdu) h own = absurd own
 receives_own bits out inn e o Up h own = absurd own
 receives_own bits out inn e o Write h own = absurd own
@@ -216,7 +218,8 @@ IsCounting (Owe report) = ⊥
 IsCounting TickPdcp = Unit {0}
 IsCounting Late = Unit {0}
 
-asks_own : (bits : ℕ) (out inn : Way) (e o : BearerEnd) (c : PdcpCall) → JoinedEnds bits out inn e o → IsCounting c → EndsGoOn bits out inn (with_bearer (Asks c ∷ []) e) o [] [] [] []
+asks_own : (bits : ℕ) (out inn : Way) (e o : BearerEnd) (c : PdcpCall) → JoinedEnds bits out inn e o → IsCounting c
+    → EndsGoOn bits out inn (with_bearer (Asks c ∷ []) e) o [] [] [] []
 asks_own bits out inn e o (Submit sdu) h own = absurd own
 asks_own bits out inn e o TakePdcp h own = absurd own
 asks_own bits out inn e o (ConfirmPdcp place) h own = absurd own
@@ -246,7 +249,8 @@ own_one bits out inn e o (Sets ttis) h own = sets_go_on bits out inn e o ttis h
 abbrev pub AreOwn : List Deed → Type 0
 AreOwn deeds = AllByRecursion IsOwn deeds
 
-pub own_all : (bits : ℕ) (out inn : Way) (e o : BearerEnd) (deeds : List Deed) → JoinedEnds bits out inn e o → AreOwn deeds → EndsGoOn bits out inn (with_bearer deeds e) o [] [] [] []
+pub own_all : (bits : ℕ) (out inn : Way) (e o : BearerEnd) (deeds : List Deed) → JoinedEnds bits out inn e o → AreOwn deeds
+    → EndsGoOn bits out inn (with_bearer deeds e) o [] [] [] []
 own_all bits out inn e o [] h own = stays_joined bits out inn e o h
 own_all bits out inn e o (deed ∷ deeds) h own =
     let m = own_one bits out inn e o deed h own.0 in
