@@ -29,7 +29,7 @@ pub record IsSteady (bits l : ℕ) (b : State) : Type 0 where
 
 -- ---- it stays so
 
-between_after : (l : ℕ) (f : Flow) (c : Call) → IsBetween l f → IsBetween l (after f c)
+pub between_after : (l : ℕ) (f : Flow) (c : Call) → IsBetween l f → IsBetween l (after f c)
 between_after l f (Submit sdu) k = submits l f sdu k
 between_after l f (Take share held) k = takes l f share held k
 between_after l f (Arrive pdu) k = arrives l f pdu k
@@ -90,10 +90,10 @@ ups_told : (l : ℕ) (xs : List Event) → ups_in (told_on l xs) ≡ ups_on l xs
 ups_told l [] = refl
 ups_told l (x ∷ xs) = first_up l x (told_on l xs) ∙ ap (λ (up : List (List ℕ)). ups_of l x ++ up) (ups_told l xs)
 
-all_own : (l : ℕ) (xs : List Event) → told_on l xs ≡ xs → ups_in xs ≡ ups_on l xs
+pub all_own : (l : ℕ) (xs : List Event) → told_on l xs ≡ xs → ups_in xs ≡ ups_on l xs
 all_own l xs e = ap ups_in (sym e) ∙ ups_told l xs
 
-expiry_told : (told : Option (List Event)) → told_of told ≡ unwrap_or told []
+pub expiry_told : (told : Option (List Event)) → told_of told ≡ unwrap_or told []
 expiry_told None = refl
 expiry_told (Some events) = refl
 

@@ -36,7 +36,7 @@ new_all : (kind : PdcpKind) (n : ℕ) (ws : List Waits) → WaitsHave ws → All
 new_all kind n [] h = tt
 new_all kind n (w ∷ ws) h = (h.0, new_all kind (n + 1) ws h.1)
 
-offers_all : (kind : PdcpKind) (s : Sending) → Sends kind s → AllByRecursion (IsOffered kind) (offers s)
+pub offers_all : (kind : PdcpKind) (s : Sending) → Sends kind s → AllByRecursion (IsOffered kind) (offers s)
 unfolding offers
 offers_all kind s h =
     let news : List Offer = new_offers s.next (take (s.bound - s.next) s.waiting) in
@@ -44,12 +44,12 @@ offers_all kind s h =
     (all_then (IsOffered kind) (owed_offers s.owed) (map again_offer s.again) (owed_all kind s.owed h.owed) (again_all kind s.again h.again))
     (new_all kind s.next (take (s.bound - s.next) s.waiting) (take_waits (s.bound - s.next) s.waiting h.waiting))
 
-take_all : (kind : PdcpKind) (n : ℕ) (os : List Offer) → AllByRecursion (IsOffered kind) os → AllByRecursion (IsOffered kind) (take n os)
+pub take_all : (kind : PdcpKind) (n : ℕ) (os : List Offer) → AllByRecursion (IsOffered kind) os → AllByRecursion (IsOffered kind) (take n os)
 take_all kind zero os h = tt
 take_all kind (suc n) [] h = tt
 take_all kind (suc n) (o ∷ os) h = (h.0, take_all kind n os h.1)
 
-pdus_all : (kind : PdcpKind) (s : Sending) (os : List Offer) → IsKind kind → s.kind ≡ kind → AllByRecursion (IsOffered kind) os → AllByRecursion HasOctet (map (pdu_of s) os)
+pub pdus_all : (kind : PdcpKind) (s : Sending) (os : List Offer) → IsKind kind → s.kind ≡ kind → AllByRecursion (IsOffered kind) os → AllByRecursion HasOctet (map (pdu_of s) os)
 pdus_all kind s [] known same h = tt
 pdus_all kind s (o ∷ os) known same h =
     let one : HasOctet (written kind s.protection o.count o.text).octets = pdu_some kind (written kind s.protection o.count o.text).octets (written_is kind s.protection o.count o.text known h.0) in

@@ -232,7 +232,7 @@ emptied_keep l maximum d s numbers more (x ∷ xs) h =
 
 -- ---- a call that is no visit and brings no block
 
-plain_calls : (l : ℕ) (e : End) (c : Call) → GoesOnInLife l c → ((t : Turn) → c ≡ Visits t → ⊥) → ((block : List ℕ) → c ≡ Receive block → ⊥) → AllByRecursion IsPlain (calls_of l e c)
+pub plain_calls : (l : ℕ) (e : End) (c : Call) → GoesOnInLife l c → ((t : Turn) → c ≡ Visits t → ⊥) → ((block : List ℕ) → c ≡ Receive block → ⊥) → AllByRecursion IsPlain (calls_of l e c)
 plain_calls l e (SetVisits maximum) g v r = tt
 plain_calls l e (SetReports reports) g v r = tt
 plain_calls l e (Add c keys) g v r = tt
@@ -249,7 +249,7 @@ plain_calls l e (Receive block) g v r = absurd (r block refl)
 plain_calls l e (Expire lcid clock) g v r = plain_only (lcid == l) (Expires clock) tt
 plain_calls l e (Move keys) g v r = tt
 
-plain_keep : (l : ℕ) (d : Direction) (e : End) (c : Call) (xs : List Load) → GoesOnInLife l c → ((t : Turn) → c ≡ Visits t → ⊥) → AllByRecursion (IsLoad l d e.sender e.numbers) xs
+pub plain_keep : (l : ℕ) (d : Direction) (e : End) (c : Call) (xs : List Load) → GoesOnInLife l c → ((t : Turn) → c ≡ Visits t → ⊥) → AllByRecursion (IsLoad l d e.sender e.numbers) xs
     → AllByRecursion (IsLoad l d (after e c).sender (after e c).numbers) xs
 unfolding with_visits with_bearer discarding expired
 plain_keep l d e (SetVisits maximum) xs g v h = emptied_keep l maximum d e.sender e.numbers (with_visits maximum e).numbers xs h

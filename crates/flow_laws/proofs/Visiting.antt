@@ -50,7 +50,7 @@ use Rattle.flow_laws.proofs.Stations.{Matches, Acts, come_sound, come_more, fewe
 
 -- ---- a new load
 
-copies_split : (t : Taken) (cs : List Copy) → copies_with t cs ≡ copies_with t [] ++ cs
+pub copies_split : (t : Taken) (cs : List Copy) → copies_with t cs ≡ copies_with t [] ++ cs
 copies_split (taken.Piece number fresh polled octets) cs = refl
 copies_split taken.Idle cs = refl
 copies_split taken.Small cs = refl
@@ -58,7 +58,7 @@ copies_split taken.Shut cs = refl
 copies_split taken.Held cs = refl
 copies_split taken.Stopped cs = refl
 
-octets_given : (t : Taken) → pdus_of t ≡ octets_of (copies_with t [])
+pub octets_given : (t : Taken) → pdus_of t ≡ octets_of (copies_with t [])
 octets_given (taken.Piece number fresh polled octets) = refl
 octets_given taken.Idle = refl
 octets_given taken.Small = refl
@@ -67,7 +67,7 @@ octets_given taken.Held = refl
 octets_given taken.Stopped = refl
 
 module _ (numbers : Numbers) (l p : ℕ) where
-  noted_given : (t : Taken) → noted_of numbers l p ≡ number_of t → AllByRecursion (IsNoted numbers l p) (copies_with t [])
+  pub noted_given : (t : Taken) → noted_of numbers l p ≡ number_of t → AllByRecursion (IsNoted numbers l p) (copies_with t [])
   noted_given (taken.Piece number fresh polled octets) e = (e, tt)
   noted_given taken.Idle e = tt
   noted_given taken.Small e = tt
@@ -85,13 +85,13 @@ ages_written (x ∷ xs) = (refl, ages_written xs)
 
 -- ---- an end that has come so far
 
-carries_so : (side : Side) (e : End) (h : HasCome side e) (tti : ℕ) (order : Order) (grant l : ℕ) → 1 ≤ grant → grant ≤ 9422 → has l e.bearers ≡ true
+pub carries_so : (side : Side) (e : End) (h : HasCome side e) (tti : ℕ) (order : Order) (grant l : ℕ) → 1 ≤ grant → grant ≤ 9422 → has l e.bearers ≡ true
     → carried l (sent_by side) (new_block (visited tti order e) grant) ≡ written_by (visited tti order e) grant l
 carries_so side e h tti order grant l some most there =
     subst (λ (x : End). has l x.bearers ≡ true → carried l (sent_by side) (new_block (visited tti order x) grant) ≡ written_by (visited tti order x) grant l) (sym h.end_is)
     (blocks_carry_pdus side h.maximum h.reports h.past h.given tti order grant l some most) there
 
-rows_so : (side : Side) (e : End) (h : HasCome side e) (tti : ℕ) (order : Order) → length (visited tti order e).numbers ≡ 8
+pub rows_so : (side : Side) (e : End) (h : HasCome side e) (tti : ℕ) (order : Order) → length (visited tti order e).numbers ≡ 8
 rows_so side e h tti order = subst (λ (x : End). length (visited tti order x).numbers ≡ 8) (sym h.end_is) (visiting_young side h.maximum h.reports h.past tti order).rows
 
 octets_so : (side : Side) (e : End) (h : HasCome side e) (l : ℕ) (b : State) (share : ℕ) (held : Option ℕ) → flow l e ≡ Am b → AllByRecursion HasOctet (offers_in b share held)
@@ -113,7 +113,7 @@ process_empty orders.Unseen p q = absurd (no_visit p.held q)
 process_empty orders.Free p q = ap (option_map resent) (none_held p.held q)
 process_empty (orders.Grant ndi) p q = ap (option_map resent) (none_held (seen ndi p).held q)
 
-new_empty : (tti : ℕ) (order : Order) (e : End) → visit tti order e ≡ New → held_of (visited tti order e).sender (tti % 8) ≡ None
+pub new_empty : (tti : ℕ) (order : Order) (e : End) → visit tti order e ≡ New → held_of (visited tti order e).sender (tti % 8) ≡ None
 unfolding visited after_visit visit_answer held_of
 new_empty tti order e q =
     let at = tti % 8 in
@@ -141,7 +141,7 @@ or_true true = refl
 or_true false = refl
 
 -- what was noted of other processes stays
-others_keep : (l at : ℕ) (d : Direction) (s t : Sending) (r : Sending) (numbers : Numbers) (row : List (Option ℕ)) (xs : List Load) → ((p : ℕ) → held_of s p ≡ None → held_of r p ≡ None)
+pub others_keep : (l at : ℕ) (d : Direction) (s t : Sending) (r : Sending) (numbers : Numbers) (row : List (Option ℕ)) (xs : List Load) → ((p : ℕ) → held_of s p ≡ None → held_of r p ≡ None)
     → AllByRecursion (IsHeldBy at r) (blocks_in xs) → AllByRecursion (IsLoad l d s numbers) xs → AllByRecursion (IsLoad l d t (set numbers at row)) xs
 others_keep l at d s t r numbers row [] fewer b h = tt
 others_keep l at d s t r numbers row (x ∷ xs) fewer b h =

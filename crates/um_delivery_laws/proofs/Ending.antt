@@ -33,7 +33,7 @@ pdcp_rx_next : (e : Ends) (keys : Keys) → (restarted_pdcp e keys).rx ≡ resta
 unfolding restarted_pdcp
 pdcp_rx_next e keys = refl
 
-next_tx : (bits : ℕ) (b : State) (keys : Keys) → IsOfData bits b → restarted_sending b.pdcp.tx keys ≡ (restarted (stopped b) keys).pdcp.tx
+pub next_tx : (bits : ℕ) (b : State) (keys : Keys) → IsOfData bits b → restarted_sending b.pdcp.tx keys ≡ (restarted (stopped b) keys).pdcp.tx
 next_tx bits b keys h =
     let e : Ends = record b.pdcp { rx = hears Reestablished (all_joined b.rx) b.pdcp.rx } in
     sym (ap (λ (x : Ends). x.tx) (restart_is b keys) ∙ ap (λ (x : Ends). (restarted_pdcp x keys).tx) (rest_ready bits b h) ∙ pdcp_tx_next e keys (ap is_am h.kind))
@@ -47,7 +47,7 @@ receiving_kind : (r : Receiving) (keys : Keys) → (restarted_receiving r keys).
 unfolding restarted_receiving
 receiving_kind r keys = refl
 
-data_next : (bits : ℕ) (b d : State) (cs : List Call) (keys : Keys) → all_called b cs ≡ d → IsOfData bits b → IsOfData bits (restarted (stopped d) keys)
+pub data_next : (bits : ℕ) (b d : State) (cs : List Call) (keys : Keys) → all_called b cs ≡ d → IsOfData bits b → IsOfData bits (restarted (stopped d) keys)
 data_next bits b d cs keys q h = subst (λ (x : State). IsOfData bits (restarted (stopped x) keys)) q (next_life_begins bits b cs keys h).of_data
 
 -- ---- the whole

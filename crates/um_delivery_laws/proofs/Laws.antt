@@ -37,7 +37,7 @@ first_is kind c keys side b k q =
     let is : Um (fresh c keys side) ≡ Um b = ap (λ x. flow_of x c keys side) (sym k) ∙ q in
     cc
 
-first_begins : (c : BearerConfig) (keys : Keys) (side : Side) → Begin c.pdcp_bits c.rlc_bits c.rx.reorder (fresh c keys side)
+pub first_begins : (c : BearerConfig) (keys : Keys) (side : Side) → Begin c.pdcp_bits c.rlc_bits c.rx.reorder (fresh c keys side)
 unfolding fresh
 first_begins c keys side = let h = first_life_begins c keys side in record { begins = h.begins; reorder_is = refl; of_data = h.of_data }
 

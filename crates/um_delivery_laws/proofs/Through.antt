@@ -39,7 +39,7 @@ next_reorder : (b : State) (keys : Keys) → (restarted (stopped b) keys).reorde
 unfolding restarted stopped
 next_reorder b keys = refl
 
-begins_next : (pdcp_bits bits reorder : ℕ) (b d : State) (cs : List Call) (keys : Keys) → all_called b cs ≡ d → Begin pdcp_bits bits reorder b → Begin pdcp_bits bits reorder (restarted (stopped d) keys)
+pub begins_next : (pdcp_bits bits reorder : ℕ) (b d : State) (cs : List Call) (keys : Keys) → all_called b cs ≡ d → Begin pdcp_bits bits reorder b → Begin pdcp_bits bits reorder (restarted (stopped d) keys)
 begins_next pdcp_bits bits reorder b d cs keys q h =
     let next : State = restarted (stopped (all_called b cs)) keys in
     let again = next_life_begins pdcp_bits b cs keys h.of_data in

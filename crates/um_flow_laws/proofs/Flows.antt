@@ -38,11 +38,11 @@ all_at P (y ∷ ys) zero x h e = let same : Some y ≡ Some x = e in let is : y 
 all_at P (y ∷ ys) (suc k) x h e = all_at P ys k x h.1 e
 
 -- the calls that the bearers of a life have had, and what they have come to
-record IsOn (bits reorder : ℕ) (a : State) (xs : List Call) (b : State) (ys : List Call) (from to : BearerEnd) : Type 0 where
-  from_is : all_called a xs ≡ from.bearer
-  to_is : all_called b ys ≡ to.bearer
-  bits_are : to.bearer.bits ≡ bits
-  stands : Stands bits reorder (all_sender_steps a xs) (all_receiver_calls b ys) from.bearer.tx to.bearer.rx from.copies (stream (Um a) xs) (handed b ys)
+pub record IsOn (bits reorder : ℕ) (a : State) (xs : List Call) (b : State) (ys : List Call) (from to : BearerEnd) : Type 0 where
+  pub from_is : all_called a xs ≡ from.bearer
+  pub to_is : all_called b ys ≡ to.bearer
+  pub bits_are : to.bearer.bits ≡ bits
+  pub stands : Stands bits reorder (all_sender_steps a xs) (all_receiver_calls b ys) from.bearer.tx to.bearer.rx from.copies (stream (Um a) xs) (handed b ys)
 
 comes_bits : (e : BearerEnd) (o : Option Copy) → (comes e o).bearer.bits ≡ e.bearer.bits
 comes_bits e None = refl
@@ -72,7 +72,7 @@ module _ (bits reorder : ℕ) (u : IsUmBits bits) where
   sends_on to e (Goes k) ss cs rx given heard g h =
       sends_none bits reorder cs rx heard e.bearer e.bearer ss (except k e.copies) given refl (lets_go bits reorder ss cs e.bearer.tx rx e.copies given heard k h)
 
-  from_on : (a : State) (xs : List Call) (b : State) (ys : List Call) (e to : BearerEnd) (d : Deed) → IsDone e d → IsOn bits reorder a xs b ys e to → IsOn bits reorder a (xs ++ calls_in to d) b ys (does to e d) to
+  pub from_on : (a : State) (xs : List Call) (b : State) (ys : List Call) (e to : BearerEnd) (d : Deed) → IsDone e d → IsOn bits reorder a xs b ys e to → IsOn bits reorder a (xs ++ calls_in to d) b ys (does to e d) to
   from_on a xs b ys e to d g h =
       let more : List Call = calls_in to d in
       let next : BearerEnd = does to e d in
@@ -113,7 +113,7 @@ module _ (bits reorder : ℕ) (u : IsUmBits bits) where
   hears_on from e (Comes k) ss cs given heard g near b h = comes_heard from e k (slice_get from.copies k) ss cs given heard refl near b h
   hears_on from e (Goes k) ss cs given heard g near b h = hears_none bits reorder ss from.bearer.tx from.copies given cs e.bearer.rx heard h
 
-  to_on : (a : State) (xs : List Call) (b : State) (ys : List Call) (from e : BearerEnd) (d : Deed) → IsDone e d → IsShort from e d → IsOn bits reorder a xs b ys from e → IsOn bits reorder a xs b (ys ++ calls_in from d) from (does from e d)
+  pub to_on : (a : State) (xs : List Call) (b : State) (ys : List Call) (from e : BearerEnd) (d : Deed) → IsDone e d → IsShort from e d → IsOn bits reorder a xs b ys from e → IsOn bits reorder a xs b (ys ++ calls_in from d) from (does from e d)
   to_on a xs b ys from e d g near h =
       let more : List Call = calls_in from d in
       let next : BearerEnd = does from e d in
@@ -160,7 +160,7 @@ module _ (bits reorder : ℕ) (u : IsUmBits bits) where
       subst (λ (l : List Call). IsOn bits reorder a (xs ++ far_calls q ss) b l (goes ss q).far (goes ss q).near) (append_assoc ys (calls_in p.far d) (near_calls q ss))
       (back ss q a xs b (ys ++ calls_in p.far d) g.1 near.1 (to_on a xs b ys p.far p.near d g.0 near.0 h))
 
-  begins_so : (other_reorder : ℕ) (from to : State) → BeginsLife bits other_reorder from → BeginsLife bits reorder to → IsOn bits reorder from [] to [] (begins from) (begins to)
+  pub begins_so : (other_reorder : ℕ) (from to : State) → BeginsLife bits other_reorder from → BeginsLife bits reorder to → IsOn bits reorder from [] to [] (begins from) (begins to)
   begins_so other_reorder from to h k = record {
     from_is = refl;
     to_is = refl;

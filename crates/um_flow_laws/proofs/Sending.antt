@@ -41,10 +41,10 @@ is_called b Tick = refl
 is_called b (SetDiscard ttis) = refl
 
 -- what no call but a take changes
-record SendsAlike (b d : State) : Type 0 where
-  tx_is : d.tx ≡ b.tx
-  bits_are : d.bits ≡ b.bits
-  reorder_is : d.reorder ≡ b.reorder
+pub record SendsAlike (b d : State) : Type 0 where
+  pub tx_is : d.tx ≡ b.tx
+  pub bits_are : d.bits ≡ b.bits
+  pub reorder_is : d.reorder ≡ b.reorder
 
 alike : (b : State) → SendsAlike b b
 alike b = record { tx_is = refl; bits_are = refl; reorder_is = refl }
@@ -75,7 +75,7 @@ IsNoTake (Expire clock) = Unit {0}
 IsNoTake Tick = Unit {0}
 IsNoTake (SetDiscard ttis) = Unit {0}
 
-called_alike : (b : State) (c : Call) → IsNoTake c → SendsAlike b (called b c)
+pub called_alike : (b : State) (c : Call) → IsNoTake c → SendsAlike b (called b c)
 unfolding submitted flow_arrived expired ticked with_discard after_arrival after_expiry after_ticking
 called_alike b (Submit sdu) n = record { tx_is = refl; bits_are = refl; reorder_is = refl }
 called_alike b (Take share held) n = absurd n

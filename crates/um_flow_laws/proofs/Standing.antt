@@ -108,7 +108,7 @@ given_by false true c e = absurd cc
 given_by false false true e = absurd cc
 given_by false false false e = (refl, refl, refl)
 
-gives : (tx : Sender) (size : ℕ) (held : Option ℕ) → turn tx size held ≡ Gives → Given tx size held
+pub gives : (tx : Sender) (size : ℕ) (held : Option ℕ) → turn tx size held ≡ Gives → Given tx size held
 gives tx size held e =
     let g = given_by (length tx.waiting.sdus == 0) (is_held held tx) (nat_lt size (head_of tx.bits + 1)) e in
     record { wait = grind (arith, nat_tests, g.0); free = g.1; room' = grind (arith, nat_tests, g.2) }
@@ -123,7 +123,7 @@ positive : (bits : ℕ) → IsUmBits bits → 0 < 2 ^ bits
 positive bits (inl e) = subst (λ (b : ℕ). 0 < 2 ^ b) (sym e) (omega arith)
 positive bits (inr e) = subst (λ (b : ℕ). 0 < 2 ^ b) (sym e) (omega arith)
 
-in_range : (tx : Sender) (size : ℕ) (held : Option ℕ) → IsUmBits tx.bits → HaveOctets tx.waiting.sdus → Given tx size held → IsUmdInRange tx.bits (pdu_of tx size)
+pub in_range : (tx : Sender) (size : ℕ) (held : Option ℕ) → IsUmBits tx.bits → HaveOctets tx.waiting.sdus → Given tx size held → IsUmdInRange tx.bits (pdu_of tx size)
 in_range tx size held u some g = record {
   number = mod-lt tx.next (positive tx.bits u);
   framing = framed (not tx.waiting.begun) (not (ends_partly tx size));
@@ -168,10 +168,10 @@ new_copy bits tx size held made u b some g e =
     }
 
 -- what the sender and what was made then are
-abbrev taken_by : Turn → Flow → Sender → ℕ → Flow
+abbrev pub taken_by : Turn → Flow → Sender → ℕ → Flow
 taken_by t f tx size = record f { sender = after_turn t tx size; made = f.made ++ made_by t tx size }
 
-goes_take : (f : Flow) (tx : Sender) (size : ℕ) (held : Option ℕ) (t : Turn) → f.sender ≡ tx → turn tx size held ≡ t → goes f (Take size held) ≡ taken_by t f tx size
+pub goes_take : (f : Flow) (tx : Sender) (size : ℕ) (held : Option ℕ) (t : Turn) → f.sender ≡ tx → turn tx size held ≡ t → goes f (Take size held) ≡ taken_by t f tx size
 unfolding after_take
 goes_take f tx size held t e q =
     ap (λ (s : Sender). record f { sender = after_turn (turn s size held) s size; made = f.made ++ made_by (turn s size held) s size }) e
@@ -288,7 +288,7 @@ tops bits reorder steps calls tx rx cs given heard u h =
     let here : top_of h.w.state.window ≡ h.w.top = subst (λ (x : World). top_of x.state.window ≡ x.top) h.w_is (edge (width_of bits) reorder (some_numbers bits u) calls).top in
     ap (λ (r : Receiver). top_of r.window) (sym h.receiver_is) ∙ here
 
-reads_so : (bits reorder : ℕ) (steps : List Step) (calls : List Call) (f : Flow) (w : World) (pdu : UmdPdu) → IsUmBits bits → flow steps (at_first bits) ≡ f → run calls (fresh (width_of bits) reorder) ≡ w
+pub reads_so : (bits reorder : ℕ) (steps : List Step) (calls : List Call) (f : Flow) (w : World) (pdu : UmdPdu) → IsUmBits bits → flow steps (at_first bits) ≡ f → run calls (fresh (width_of bits) reorder) ≡ w
     → AreSent f.made (width_of bits) calls (fresh (width_of bits) reorder) → IsReadTruly f.made (width_of bits) w pdu
 reads_so bits reorder steps calls f w pdu u p q sent =
     subst (λ (x : World). IsReadTruly f.made (width_of bits) x pdu) q

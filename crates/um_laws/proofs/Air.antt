@@ -92,7 +92,7 @@ numbered-at bits from [] k pdu a e = absurd cc
 numbered-at bits from (p ∷ ps) zero pdu a e = sym (ap sn_of e) ∙ a.0 ∙ ap (λ n. n % 2 ^ bits) (omega arith)
 numbered-at bits from (p ∷ ps) (suc k) pdu a e = numbered-at bits (from + 1) ps k pdu a.1 e ∙ ap (λ n. n % 2 ^ bits) (omega arith)
 
-carried-at : (made : List UmdPdu) (k : ℕ) (pdu : UmdPdu) → slice_get made k ≡ Some pdu → slice_index_or (carried made) k None ≡ Some (parts_of pdu)
+pub carried-at : (made : List UmdPdu) (k : ℕ) (pdu : UmdPdu) → slice_get made k ≡ Some pdu → slice_index_or (carried made) k None ≡ Some (parts_of pdu)
 carried-at [] k pdu e = absurd cc
 carried-at (p ∷ ps) zero pdu e = ap (option_map parts_of) e
 carried-at (p ∷ ps) (suc k) pdu e = carried-at ps k pdu e
@@ -150,14 +150,14 @@ meets-expire made width w m = record {
   agrees = m.agrees;
 }
 
-meets-run : (made : List UmdPdu) (width : ℕ) (calls : List Call) (w : World) → Made made width → AreSent made width calls w → Meets made width w → Meets made width (run calls w)
+pub meets-run : (made : List UmdPdu) (width : ℕ) (calls : List Call) (w : World) → Made made width → AreSent made width calls w → Meets made width w → Meets made width (run calls w)
 meets-run made width [] w by s m = m
 meets-run made width (Arrive pdu ∷ cs) w by s m = meets-run made width cs (happens w (Arrive pdu)) by s.1 (meets-arrive made width w pdu by s.0 m)
 meets-run made width (Expire ∷ cs) w by s m = meets-run made width cs (happens w Expire) by s (meets-expire made width w m)
 meets-run made width (Tick ∷ cs) w by s m = meets-run made width cs (happens w Tick) by s (record { keeps = happens-keeps w Tick m.keeps; width_is = m.width_is; agrees = m.agrees })
 meets-run made width (Up ∷ cs) w by s m = meets-run made width cs (happens w Up) by s (record { keeps = happens-keeps w Up m.keeps; width_is = m.width_is; agrees = m.agrees })
 
-made-by : (bits : ℕ) (steps : List Step) → IsUmBits bits → Made (flow steps (at_first bits)).made (width_of bits)
+pub made-by : (bits : ℕ) (steps : List Step) → IsUmBits bits → Made (flow steps (at_first bits)).made (width_of bits)
 made-by bits steps h = record {
   wide = wide-of bits h;
   sn_is = λ k pdu e. numbered-at bits 0 (flow steps (at_first bits)).made k pdu (whole bits steps).numbered e ∙ ap (λ (j : ℕ). j % 2 ^ bits) (omega arith) ∙ ap (λ (m : ℕ). k % m) (size-of bits h);

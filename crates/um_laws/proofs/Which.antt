@@ -62,16 +62,16 @@ abbrev open_of : Bool → Option (List ℕ) → Option (List ℕ)
 open_of true o = o
 open_of false o = None
 
-record Told (r : Row) (k j : Joined) : Type 0 where
-  order : AreBetween 0 r.places (length j.ready)
-  up : k.ready ≡ those r.places j.ready
+pub record Told (r : Row) (k j : Joined) : Type 0 where
+  pub order : AreBetween 0 r.places (length j.ready)
+  pub up : k.ready ≡ those r.places j.ready
 
-record Beside (r : Row) (k j : Joined) : Type 0 where
-  ended : r.ended ≡ length j.ready
-  going : r.going ≡ is_some j.part
-  whole' : r.whole ≡ true → r.going ≡ true
-  part : k.part ≡ open_of r.whole j.part
-  told : Told r k j
+pub record Beside (r : Row) (k j : Joined) : Type 0 where
+  pub ended : r.ended ≡ length j.ready
+  pub going : r.going ≡ is_some j.part
+  pub whole' : r.whole ≡ true → r.going ≡ true
+  pub part : k.part ≡ open_of r.whole j.part
+  pub told : Told r k j
 
 -- nothing ends
 stays : (going w : Bool) (o p : Option (List ℕ)) (ps : List ℕ) (ks js : List (List ℕ)) → going ≡ is_some o → (w ≡ true → going ≡ true) → p ≡ open_of w o → AreBetween 0 ps (length js) → ks ≡ those ps js
@@ -205,7 +205,7 @@ one_pdu (Some p) log from pdu pdus r k j q a h =
     let same : Some (parts_of pdu) ≡ Some p = a 0 p (ap (found log) (omega arith) ∙ q) in
     subst (λ (s : Option Parts). Beside (with_parts true (parts_of pdu) r) (with_number s k) (with_number (Some (parts_of pdu)) j)) same (came_parts (parts_of pdu) r k j h)
 
-all_pdus : (n : ℕ) (log : List Accepted) (from : ℕ) (made : List UmdPdu) (r : Row) (k j : Joined) → Agrees (carried made) from log → Beside r k j
+pub all_pdus : (n : ℕ) (log : List Accepted) (from : ℕ) (made : List UmdPdu) (r : Row) (k j : Joined) → Agrees (carried made) from log → Beside r k j
     → Told (with_pdus log from n made r) (with_numbers (numbers log from n) k) (with_numbers (take n (carried made)) j)
 all_pdus zero log from made r k j a h = h.told
 all_pdus (suc n) log from [] r k j a h = record {
@@ -218,9 +218,9 @@ all_pdus (suc n) log from (pdu ∷ pdus) r k j a h =
 
 -- ---- what is joined grows
 
-record Grows (j k : Joined) : Type 0 where
-  rest : List (List ℕ)
-  is : k.ready ≡ j.ready ++ rest
+pub record Grows (j k : Joined) : Type 0 where
+  pub rest : List (List ℕ)
+  pub is : k.ready ≡ j.ready ++ rest
 
 grows_then : (i j k : Joined) → Grows i j → Grows j k → Grows i k
 grows_then i j k g h = record { rest = g.rest ++ h.rest; is = h.is ∙ ap (λ (l : List (List ℕ)). l ++ h.rest) g.is ∙ append_assoc i.ready g.rest h.rest }
@@ -243,7 +243,7 @@ grows_numbers : (ss : List (Option Parts)) (j : Joined) → Grows j (with_number
 grows_numbers [] j = grows_none j
 grows_numbers (s ∷ ss) j = grows_then j (with_number s j) (with_numbers ss (with_number s j)) (grows_number s j) (grows_numbers ss (with_number s j))
 
-grows_from : (n : ℕ) (ss : List (Option Parts)) (j : Joined) → Grows (with_numbers (take n ss) j) (with_numbers ss j)
+pub grows_from : (n : ℕ) (ss : List (Option Parts)) (j : Joined) → Grows (with_numbers (take n ss) j) (with_numbers ss j)
 grows_from zero ss j = grows_numbers ss j
 grows_from (suc n) [] j = grows_none j
 grows_from (suc n) (s ∷ ss) j = grows_from n ss (with_number s j)

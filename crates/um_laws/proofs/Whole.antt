@@ -93,11 +93,11 @@ with-more : (ss : List (Option Parts)) (s : Option Parts) (j : Joined) → with_
 with-more [] s j = refl
 with-more (t ∷ ss) s j = with-more ss s (with_number t j)
 
-carried-more : (made : List UmdPdu) (pdu : UmdPdu) → carried (made ++ pdu ∷ []) ≡ carried made ++ Some (parts_of pdu) ∷ []
+pub carried-more : (made : List UmdPdu) (pdu : UmdPdu) → carried (made ++ pdu ∷ []) ≡ carried made ++ Some (parts_of pdu) ∷ []
 carried-more [] pdu = refl
 carried-more (p ∷ ps) pdu = ap (λ (l : List (Option Parts)). Some (parts_of p) ∷ l) (carried-more ps pdu)
 
-joined-more : (made : List UmdPdu) (pdu : UmdPdu) → joined (made ++ pdu ∷ []) ≡ with_number (Some (parts_of pdu)) (joined made)
+pub joined-more : (made : List UmdPdu) (pdu : UmdPdu) → joined (made ++ pdu ∷ []) ≡ with_number (Some (parts_of pdu)) (joined made)
 joined-more made pdu = ap (λ (l : List (Option Parts)). with_numbers l nothing_joined) (carried-more made pdu) ∙ with-more (carried made) (Some (parts_of pdu)) nothing_joined
 
 numbered-more : (bits from : ℕ) (made : List UmdPdu) (pdu : UmdPdu) → AreNumbered bits from made → pdu.sn ≡ (from + length made) % 2 ^ bits → AreNumbered bits from (made ++ pdu ∷ [])

@@ -52,7 +52,7 @@ blank-number : (s : Option Parts) (j : Joined) → blank_joined (with_number s j
 blank-number None j = refl
 blank-number (Some p) j = blank-elements p.begins p.ends p.elements j
 
-blank-numbers : (ss : List (Option Parts)) (j : Joined) → blank_joined (with_numbers ss j) ≡ with_numbers (map blank_slot ss) (blank_joined j)
+pub blank-numbers : (ss : List (Option Parts)) (j : Joined) → blank_joined (with_numbers ss j) ≡ with_numbers (map blank_slot ss) (blank_joined j)
 blank-numbers [] j = refl
 blank-numbers (s ∷ ss) j = blank-numbers ss (with_number s j) ∙ ap (λ (k : Joined). with_numbers (map blank_slot ss) k) (blank-number s j)
 
@@ -134,10 +134,10 @@ timed-is s = ap (λ (n : ℕ). record (outline s) { mark = mark_begun (mark_left
 
 -- ---- a PDU arrives
 
-abbrev Landed-at : Outline → ℕ → Landed
+abbrev pub Landed-at : Outline → ℕ → Landed
 Landed-at o x = if nat_lt x o.window.edge || is_some (slot_at o.window.slots (x - o.window.edge)) then Repeat else Kept
 
-landed-is : (s : State) (x : ℕ) → landed s x ≡ Landed-at (outline s) x
+pub landed-is : (s : State) (x : ℕ) → landed s x ≡ Landed-at (outline s) x
 landed-is s x = ap (λ (b : Bool). if nat_lt x s.window.edge || b then Repeat else Kept) (sym (blank-slot s.window.slots (x - s.window.edge)))
 
 abbrev After : Landed → ℕ → Parts → Outline → Outline
@@ -158,7 +158,7 @@ Arrived-at x p o = After (Landed-at o x) x p o
 abbrev Arrival : UmdPdu → Outline → Outline
 Arrival pdu o = Arrived-at (number_of o.window pdu.sn) (parts_of pdu) o
 
-number-is : (w : Window) (sn : ℕ) → number_of w sn ≡ number_of (blank_window w) sn
+pub number-is : (w : Window) (sn : ℕ) → number_of w sn ≡ number_of (blank_window w) sn
 number-is w sn = ap (λ (n : ℕ). n - w.width + ahead sn ((n - w.width) % (2 * w.width)) (2 * w.width)) (sym (blank-top w))
 
 arrival-is : (pdu : UmdPdu) (s : State) → outline (arrival pdu s) ≡ Arrival (blank_pdu pdu) (outline s)

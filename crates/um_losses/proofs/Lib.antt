@@ -3,3 +3,5 @@ pub mod Processes
 pub mod Again
 pub mod Alike
 pub mod LastTag
+pub mod Long
+pub mod Told

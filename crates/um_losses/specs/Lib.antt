@@ -6,3 +6,5 @@ pub mod Flow
 pub mod Records
 pub mod Losses
 pub mod Laws
+pub mod Names
+pub mod Told

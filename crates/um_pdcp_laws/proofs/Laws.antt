@@ -34,7 +34,7 @@ happens_hears bits f (HandUp cause place) is g s w h = hand_up_hears bits f caus
 happens_hears bits f Raise is g s w h = raise_hears bits f h
 happens_hears bits f (Restart keys) is g s w h = restart_hears bits f keys w h
 
-run_writes : (bits : ℕ) (es : List Event) (f : Flow) → AreGiven f es → Writes bits f → Writes bits (run es f)
+pub run_writes : (bits : ℕ) (es : List Event) (f : Flow) → AreGiven f es → Writes bits f → Writes bits (run es f)
 run_writes bits [] f g h = h
 run_writes bits (e ∷ es) f g h = run_writes bits es (happens f e) g.1 (happens_writes bits f e g.0 h)
 
@@ -42,7 +42,7 @@ run_hears : (bits : ℕ) (es : List Event) (f : Flow) → IsKind (Um bits) → A
 run_hears bits [] f is g s w h = h
 run_hears bits (e ∷ es) f is g s w h = run_hears bits es (happens f e) is g.1 s.1 (happens_writes bits f e g.0 w) (happens_hears bits f e is g.0 s.0 w h)
 
-outset_writes : (bits : ℕ) (p : Protection) (first : ℕ) → first ≤ 2 ^ 32 → Writes bits (outset bits p first)
+pub outset_writes : (bits : ℕ) (p : Protection) (first : ℕ) → first ≤ 2 ^ 32 → Writes bits (outset bits p first)
 unfolding start
 outset_writes bits p first le = record {
   sends = record { um = refl; owes_none = refl; none_again = refl; none_given = refl; room = omega arith; waits_some = tt };

@@ -1,0 +1,14 @@
+pub mod Tags
+pub mod Worlds
+pub mod Gaps
+pub mod Counting
+pub mod Receiving
+pub mod Tracking
+pub mod Making
+pub mod Telling
+pub mod Acting
+pub mod Sending
+pub mod Hearing
+pub mod Places
+pub mod Walking
+pub mod Delivery
