@@ -1,5 +1,6 @@
 -- What a link plays goes by air: a TTI, a submission, and any other call.
-use Rattle.std.proofs.Common.{◌≡◌, ◌≤◌, ℕ, ◌+◌, ◌==◌, Bool, false, List, [], ◌∷◌, ◌++◌, map, append-nil, append_assoc, refl, ap, sym, subst, ◌∙◌, arith, inl, inr}
+use Rattle.std.proofs.Common.{◌≡◌, ◌≤◌, ℕ, ◌+◌, ◌==◌, Bool, false, Option, None, slice_set, List, [], ◌∷◌, ◌++◌, map, append-nil, append_assoc, refl, ap, sym, subst, arith, ◌∙◌, get_or-set_other, inl, inr}
+use Rattle.std.proofs.lemmas.Bool.Decides.{nat_tests}
 use Rattle.std.specs.List.{AllByRecursion, filter}
 use Rattle.air_link.specs.Downlink.{downlink}
 use Rattle.air_link.specs.Draining.{intact, drain_tti}
@@ -14,7 +15,10 @@ use Rattle.bearer_types.specs.Configs.{IsConfig}
 use Rattle.bearer_types.specs.declared.config.BearerConfig.{BearerConfig}
 use Rattle.eps_sec.specs.declared.Keys.{Keys}
 use Rattle.harq.specs.Sending.{Sending, fresh}
-use Rattle.l2_node.specs.End.{End, with_bearer, with_visits}
+use Rattle.l2_node.specs.End.{End, with_bearer, with_visits, sent_by}
+use Rattle.um_losses.specs.Names.{Place, Happening as What}
+use Rattle.um_losses.specs.Told.{told_in}
+use Rattle.pdu_show.specs.declared.kinds.Layout.{Layout}
 use Rattle.l2_types.specs.declared.side.Side.{Side}
 use Rattle.l2_types.specs.declared.side.Side.TheVariants.{Nb, Ue}
 use Rattle.node_laws.specs.Calls.{SetVisits, Add, Move, after as after_call}
@@ -31,12 +35,13 @@ use Rattle.channel_laws.specs.Lives.{end_at}
 use Rattle.air_laws.specs.Arrival.{tells_in, renews}
 use Rattle.air_laws.specs.Staying.{hands_over, Stays, MovesOn}
 use Rattle.air_laws.specs.Going.{handed_in, looped_at, sets, GoesOn, IsCallSince, IsStepSince}
+use Rattle.air_laws.specs.Shown.{IsShown, anew}
 use Rattle.air_laws.specs.On.{until, IsHeld, IsFlying, IsStation, IsOn}
 use Rattle.air_laws.proofs.Flying.{keep_all}
-use Rattle.air_laws.proofs.Going.{Marks, calm, setting, none, by_sides, Any, Block', Renewed, Unread, Behind, Fits, ended, goes_then, goes_off, goes_pass}
+use Rattle.air_laws.proofs.Going.{Marks, calm, setting, none, by_sides, Any, Block', Renewed, Unread, Behind, Fits, IsAt, ended, first_whats, no_whats, call_whats, goes_then, goes_off, goes_pass}
 use Rattle.air_laws.proofs.Moving.{fresh_at, left_told, moved_link, moved_so, handover_stage}
 use Rattle.air_laws.proofs.Resting.{call_rests, loops_rests, loop_set_rests, woken_rests, grown_rests, expires_rests, receivers_rest, senders_rest, discards_rests, reports_rests, listens_rests, submitting_hands}
-use Rattle.air_laws.proofs.Stages.{Both, Stands, Reaches, Stage, unlooped_goes, stage_then, Rests, rests_then, still_rests, goes_plain, says_so, none_flown}
+use Rattle.air_laws.proofs.Stages.{Both, Stands, Reaches, Stage, unlooped_goes, stage_then, Rests, rests_then, still_rests, shows_nothing, goes_plain, says_so, none_flown}
 use Rattle.air_laws.proofs.Stations.{Moment, Waits, Done, wait}
 use Rattle.air_laws.proofs.Visiting.{downlink_stage, uplink_stage}
 
@@ -61,14 +66,14 @@ marks l s = record { sets = sets l s; moves = hands_over s }
 
 same_behind : (c : Behind) (xs ys : List Happening) → ended c ++ xs ≡ ended c ++ ys → xs ≡ ys
 same_behind Any xs ys e = e
-same_behind (Block' octets) xs ys e = e
+same_behind (Block' octets process) xs ys e = e
 same_behind Renewed xs ys e = cc
 same_behind Unread xs ys e = e
 
 -- behind what a step ends
-goes_behind : (l t : ℕ) (c : Behind) (s : LinkStep) (k : Link) (a : Air) → ended c ≡ renews s → ((sent : List ℕ) → Fits c sent)
+goes_behind : (l t : ℕ) (c : Behind) (s : LinkStep) (k : Link) (a : Air) → ended c ≡ renews s → first_whats c ≡ anew s → ((sent : List ℕ) → Fits c sent) → ((p : Place) → IsAt c p)
     → Reaches l (marks l s) c Any (λ side n. handed_in side n s k) (Stands Nb (Waits t)) (Stands Ue (Waits t)) k (step s k) a → (step s k).ttis ≡ t → Stays l s k a
-goes_behind l t c s k a ends fits r same = record {
+goes_behind l t c s k a ends firsts fits at r same = record {
   goes = record {
     more = r.more;
     out_is = r.out_is;
@@ -82,12 +87,15 @@ goes_behind l t c s k a ends fits r same = record {
       sets_none = r.goes.sets_none;
       on = subst (IsOn (step s k)) (sym r.goes.air_is) (both_on t (step s k) r.air same r.both);
     };
+    stays = r.stays;
+    shown = λ bits h from p.
+        r.goes.whats_are bits from ∙ (sym (r.shown bits h from p (at p)) ∙ ap (λ (ws : List What). ws ++ told_in (sent_by from) l p r.more) firsts);
   };
   in_life = r.goes.stays;
 }
 
-goes_so : (l t : ℕ) (s : LinkStep) (k : Link) (a : Air) → renews s ≡ [] → Reaches l (marks l s) Any Any (λ side n. handed_in side n s k) (Stands Nb (Waits t)) (Stands Ue (Waits t)) k (step s k) a → (step s k).ttis ≡ t → Stays l s k a
-goes_so l t s k a stays r same = goes_behind l t Any s k a (sym stays) (λ sent. tt) r same
+goes_so : (l t : ℕ) (s : LinkStep) (k : Link) (a : Air) → renews s ≡ [] → anew s ≡ [] → Reaches l (marks l s) Any Any (λ side n. handed_in side n s k) (Stands Nb (Waits t)) (Stands Ue (Waits t)) k (step s k) a → (step s k).ttis ≡ t → Stays l s k a
+goes_so l t s k a stays still r same = goes_behind l t Any s k a (sym stays) (sym still) (λ sent. tt) (λ p. tt) r same
 
 -- ---- a TTI ends
 
@@ -120,8 +128,12 @@ pass_stage l set t k a h = record {
   air = record { nb = passed a.nb; ue = passed a.ue };
   more = [];
   out_is = sym (append-nil k.out);
+  ws = no_whats;
   goes = unlooped_goes l set [] a (record { nb = passed a.nb; ue = passed a.ue }) (λ n. refl) (goes_pass l set t a h.nb.is h.ue.is);
   left = λ sent fits. tt;
+  stands = λ p at. tt;
+  stays = λ bits s. s;
+  shown = λ bits s from c at. refl;
   both = record { nb_is = h.nb_is; ue_is = h.ue_is; nb = aged Nb t a.nb h.nb.is; ue = aged Ue t a.ue h.ue.is };
 }
 
@@ -146,7 +158,7 @@ unfolding tti tti_by
 ttis_go l up_grant up down_grant down k a up_within down_within h =
     let asleep = sleeps k.ttis k in
     let m = timed (tells_sleep asleep (begins k)) in
-    goes_so l (k.ttis + 1) (Tti up_grant up down_grant down) k a refl
+    goes_so l (k.ttis + 1) (Tti up_grant up down_grant down) k a refl refl
     (by_visits l calm k.ttis up_grant (missed asleep up) down_grant (missed asleep down) k m (woken_rests l calm asleep k) up_within down_within a (on_both k a h))
     (tti_adds up_grant up down_grant down k).ttis_is
 
@@ -154,7 +166,7 @@ drains_go : (l grant : ℕ) (k : Link) (a : Air) → grant ≤ 9422 → IsOn k a
 unfolding drain_tti
 drains_go l grant k a within h =
     let m = grows Ue (grows Nb (begins k)) in
-    goes_so l (k.ttis + 1) (Drains grant) k a refl (by_visits l calm k.ttis grant intact grant intact k m (grown_rests l calm k) within within a (on_both k a h)) (drain_adds grant k).ttis_is
+    goes_so l (k.ttis + 1) (Drains grant) k a refl refl (by_visits l calm k.ttis grant intact grant intact k m (grown_rests l calm k) within within a (on_both k a h)) (drain_adds grant k).ttis_is
 
 -- ---- another number of visits empties the processes
 
@@ -193,7 +205,11 @@ visits_nb l set maximum k some few n u a h =
       goes = unlooped_goes l set [] a c (λ i. refl)
           (goes_then l set [] [] none none a b c (goes_off l set Nb keeps_none a)
           (goes_plain l set Nb [] none (SetVisits maximum) b tt some (record { adds_none = refl; moves_none = refl; unset = λ off. refl }) (says_so Nb [] none b.nb.end (SetVisits maximum) tt refl none_flown refl refl (λ i. refl) (λ i. refl))));
+      ws = call_whats Nb l a.nb.end (SetVisits maximum);
       left = λ sent fits. tt;
+      stands = λ p at. tt;
+      stays = λ bits s. s;
+      shown = λ bits s from p at. shows_nothing l Nb a.nb.end (SetVisits maximum) tt refl bits from p;
       both = record { nb_is = ap (λ (e : End). after_call e (SetVisits maximum)) h.nb_is; ue_is = h.ue_is; nb = emptied_stands Nb n a.nb maximum h.nb some few; ue = h.ue };
     }
 
@@ -208,7 +224,11 @@ visits_ue l set maximum k some few n u a h =
       goes = unlooped_goes l set [] a c (λ i. refl)
           (goes_then l set [] [] none none a b c (goes_off l set Ue keeps_none a)
           (goes_plain l set Ue [] none (SetVisits maximum) b tt some (record { adds_none = refl; moves_none = refl; unset = λ off. refl }) (says_so Ue [] none b.ue.end (SetVisits maximum) tt refl none_flown refl refl (λ i. refl) (λ i. refl))));
+      ws = call_whats Ue l a.ue.end (SetVisits maximum);
       left = λ sent fits. tt;
+      stands = λ p at. tt;
+      stays = λ bits s. s;
+      shown = λ bits s from p at. shows_nothing l Ue a.ue.end (SetVisits maximum) tt refl bits from p;
       both = record { nb_is = h.nb_is; ue_is = ap (λ (e : End). after_call e (SetVisits maximum)) h.ue_is; nb = h.nb; ue = emptied_stands Ue u a.ue maximum h.ue some few };
     }
 
@@ -220,6 +240,12 @@ visits_rests l set maximum k some few =
 
 -- ---- a bearer of another channel comes
 
+-- it is shown as it was
+shown_still : (l bits lcid : ℕ) (kinds : List (Option Layout)) (new : Option Layout) → (lcid == l) ≡ false → IsShown l bits kinds → IsShown l bits (slice_set kinds lcid new)
+shown_still l bits lcid kinds new apart h =
+    let other : l ≡ lcid → ⊥ = λ e. let same : (lcid == lcid) ≡ false = ap (λ (n : ℕ). lcid == n) (sym e) ∙ apart in grind (arith, nat_tests) in
+    record { kind = h.kind; is = get_or-set_other kinds lcid l new None other ∙ h.is }
+
 bears_rests : (l : ℕ) (set : Marks) (config : BearerConfig) (keys : Keys) (k : Link) → IsConfig config → (config.channel.lcid == l) ≡ false → Rests l set k (bears config keys k)
 unfolding bears with_bearer
 bears_rests l set config keys k g apart =
@@ -228,26 +254,26 @@ bears_rests l set config keys k g apart =
     let n = with_end Ue (after_call m.ue c) m in
     let to_n = rests_then l set k m n (call_rests l set Nb c k tt g (record { adds_none = apart; moves_none = refl; unset = λ off. refl }) (λ e. refl) refl (λ n. refl))
     (call_rests l set Ue c m tt g (record { adds_none = apart; moves_none = refl; unset = λ off. refl }) (λ e. refl) refl (λ n. refl)) in
-    rests_then l set k n (bears config keys k) to_n (still_rests l set n (bears config keys k) refl refl refl)
+    rests_then l set k n (bears config keys k) to_n (still_rests l set n (bears config keys k) refl refl refl (λ bits s. shown_still l bits config.channel.lcid k.kinds _ apart s))
 
 -- ---- any call
 
 -- in which both ends stay in their cell
-stays_by : (l : ℕ) (c : Call) (k : Link) (a : Air) → renews (LinkCalls c) ≡ [] → Rests l (marks l (LinkCalls c)) k (after c k) → IsOn k a → Stays l (LinkCalls c) k a
-stays_by l c k a stays f h = goes_so l k.ttis (LinkCalls c) k a stays (f (Waits k.ttis) (Waits k.ttis) a (on_both k a h)) (calls_adds c k).ttis_is
+stays_by : (l : ℕ) (c : Call) (k : Link) (a : Air) → renews (LinkCalls c) ≡ [] → anew (LinkCalls c) ≡ [] → Rests l (marks l (LinkCalls c)) k (after c k) → IsOn k a → Stays l (LinkCalls c) k a
+stays_by l c k a stays still f h = goes_so l k.ttis (LinkCalls c) k a stays still (f (Waits k.ttis) (Waits k.ttis) a (on_both k a h)) (calls_adds c k).ttis_is
 
 calls_go : (l : ℕ) (c : Call) (k : Link) (a : Air) → IsCallSince l c → IsOn k a → Stays l (LinkCalls c) k a
-calls_go l (Bears config keys) k a g h = stays_by l (Bears config keys) k a refl (bears_rests l calm config keys k g.0 g.1) h
-calls_go l (Discards lcid ttis) k a g h = stays_by l (Discards lcid ttis) k a refl (discards_rests l (setting (lcid == l)) lcid ttis k (λ off. off)) h
-calls_go l (Visits maximum) k a g h = stays_by l (Visits maximum) k a refl (visits_rests l calm maximum k g.0 g.1) h
-calls_go l Reports k a g h = stays_by l Reports k a refl (reports_rests l calm k) h
-calls_go l (Listens c) k a g h = stays_by l (Listens c) k a refl (listens_rests l calm c k) h
-calls_go l (Loops mode) k a g h = stays_by l (Loops mode) k a refl (loop_set_rests l calm mode k) h
-calls_go l (Expires side lcid clock) k a g h = stays_by l (Expires side lcid clock) k a refl (expires_rests l calm side lcid clock k) h
+calls_go l (Bears config keys) k a g h = stays_by l (Bears config keys) k a refl refl (bears_rests l calm config keys k g.0 g.1) h
+calls_go l (Discards lcid ttis) k a g h = stays_by l (Discards lcid ttis) k a refl refl (discards_rests l (setting (lcid == l)) lcid ttis k (λ off. off)) h
+calls_go l (Visits maximum) k a g h = stays_by l (Visits maximum) k a refl refl (visits_rests l calm maximum k g.0 g.1) h
+calls_go l Reports k a g h = stays_by l Reports k a refl refl (reports_rests l calm k) h
+calls_go l (Listens c) k a g h = stays_by l (Listens c) k a refl refl (listens_rests l calm c k) h
+calls_go l (Loops mode) k a g h = stays_by l (Loops mode) k a refl refl (loop_set_rests l calm mode k) h
+calls_go l (Expires side lcid clock) k a g h = stays_by l (Expires side lcid clock) k a refl refl (expires_rests l calm side lcid clock k) h
 calls_go l (Forges side block) k a g h = absurd g
-calls_go l (HandsOver keys) k a g h = goes_behind l k.ttis Renewed (LinkCalls (HandsOver keys)) k a refl (λ sent. tt) (handover_stage l false keys k k.ttis a (on_both k a h)) (calls_adds (HandsOver keys) k).ttis_is
-calls_go l ReceiversExpire k a g h = stays_by l ReceiversExpire k a refl (receivers_rest l calm k) h
-calls_go l SendersExpire k a g h = stays_by l SendersExpire k a refl (senders_rest l calm k) h
+calls_go l (HandsOver keys) k a g h = goes_behind l k.ttis Renewed (LinkCalls (HandsOver keys)) k a refl refl (λ sent. tt) (λ p. tt) (handover_stage l false keys k k.ttis a (on_both k a h)) (calls_adds (HandsOver keys) k).ttis_is
+calls_go l ReceiversExpire k a g h = stays_by l ReceiversExpire k a refl refl (receivers_rest l calm k) h
+calls_go l SendersExpire k a g h = stays_by l SendersExpire k a refl refl (senders_rest l calm k) h
 
 -- ---- any step
 
@@ -255,7 +281,7 @@ pub steps_stay : (l : ℕ) (s : LinkStep) (k : Link) (a : Air) → IsStepSince l
 steps_stay l (Tti up_grant up down_grant down) k a g h = ttis_go l up_grant up down_grant down k a g.0 g.1 h
 steps_stay l (Drains grant) k a g h = drains_go l grant k a g h
 steps_stay l (Submit side lcid sdu) k a g h =
-    goes_so l k.ttis (Submit side lcid sdu) k a refl (submitting_hands l calm side lcid sdu k (Waits k.ttis) (Waits k.ttis) a (on_both k a h)) (submitting_adds side lcid sdu k).ttis_is
+    goes_so l k.ttis (Submit side lcid sdu) k a refl refl (submitting_hands l calm side lcid sdu k (Waits k.ttis) (Waits k.ttis) a (on_both k a h)) (submitting_adds side lcid sdu k).ttis_is
 steps_stay l (LinkCalls c) k a g h = calls_go l c k a g h
 
 pub steps_go : (l : ℕ) (s : LinkStep) (k : Link) (a : Air) → IsStepSince l s → IsOn k a → GoesOn l s k a

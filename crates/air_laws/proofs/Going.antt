@@ -24,6 +24,8 @@ use Rattle.air_laws.specs.Arrival.{tells_at, tells_in}
 use Rattle.channel_laws.specs.Delivery.{submitted_in, was_submitted, sets_discard, SetNone}
 use Rattle.channel_laws.specs.Lives.{AirStep, InLife, Moves, AreLiving, lives_on, lives, end_at, brought, calls_by, calls_at, all_calls}
 use Rattle.am_laws.specs.Flow.{except}
+use Rattle.um_losses.specs.Names.{Place, Happening as What, begins_anew}
+use Rattle.um_losses_laws.specs.Whats.{sent_in, expiries, brought as what_came, whats_in, whats}
 use Rattle.air_laws.specs.On.{IsHeld, IsStation}
 use Rattle.air_laws.specs.Staying.{AreInLife}
 use Rattle.air_laws.proofs.Flying.{gone, without, without_gone}
@@ -157,24 +159,37 @@ in_life_more [] ys h k = k
 in_life_more (InLife s ∷ xs) ys h k = in_life_more xs ys h k
 in_life_more (Moves keys ∷ xs) ys h k = absurd h
 
--- what is known of the block that was sent last, as records are read: nothing, its octets, or nothing and that a life ended before; or they aren't read
+-- what is known as records are read: nothing, of the block that was sent last its octets and its process, at which the records stand, or nothing and
+-- that a life ended before; or they aren't read
 pub data Behind : Type 0 where
   Any : Behind
-  Block' : List ℕ → Behind
+  Block' : List ℕ → ℕ → Behind
   Renewed : Behind
   Unread : Behind
 
 abbrev pub Fits : Behind → List ℕ → Type 0
 Fits Any sent = Unit {0}
-Fits (Block' octets) sent = sent ≡ octets
+Fits (Block' octets process) sent = sent ≡ octets
 Fits Renewed sent = Unit {0}
 Fits Unread sent = ⊥
 
+abbrev pub IsAt : Behind → Place → Type 0
+IsAt Any p = Unit {0}
+IsAt (Block' octets process) p = p.process ≡ process
+IsAt Renewed p = Unit {0}
+IsAt Unread p = ⊥
+
 abbrev pub ended : Behind → List Happening
 ended Any = []
-ended (Block' octets) = []
+ended (Block' octets process) = []
 ended Renewed = Renews ∷ []
 ended Unread = []
+
+abbrev pub first_whats : Behind → List What
+first_whats Any = []
+first_whats (Block' octets process) = []
+first_whats Renewed = begins_anew ∷ []
+first_whats Unread = []
 
 -- the block that was sent last behind records
 abbrev pub last_in : List Record → List ℕ → List ℕ
@@ -184,8 +199,15 @@ last_in (one ∷ told) sent = last_in told (sent_last one sent)
 abbrev pub Reads : ℕ → Behind → List Record → List AirStep → Air → Type 0
 Reads l c told steps a = (bits : ℕ) (from : Side) (sent : List ℕ) → Fits c sent → happened bits l from steps a ≡ ended c ++ tells_in bits l from sent told
 
+-- what steps are to an unacknowledged flow from each side, by the bits of its numbers
+abbrev pub Whats : Type 0
+Whats = ℕ → Side → List What
+
+abbrev pub no_whats : Whats
+no_whats bits from = []
+
 -- where the marks say no; behind what is known
-pub record GoesBehind (l : ℕ) (set : Marks) (c : Behind) (told : List Record) (given : Side → ℕ → List (List ℕ)) (a b : Air) : Type 0 where
+pub record GoesBehind (l : ℕ) (set : Marks) (c : Behind) (told : List Record) (given : Side → ℕ → List (List ℕ)) (ws : Whats) (a b : Air) : Type 0 where
   pub steps : List AirStep
   pub living : AreLiving l a steps
   pub told_is : (side : Side) → Tells told steps a side
@@ -193,10 +215,17 @@ pub record GoesBehind (l : ℕ) (set : Marks) (c : Behind) (told : List Record) 
   pub sets_none : set.sets ≡ false → (side : Side) → Unset l steps a side
   pub stays : set.moves ≡ false → AreInLife steps
   pub reads : Reads l c told steps a
+  pub whats_are : (bits : ℕ) (from : Side) → whats from l bits steps a ≡ ws bits from
   pub air_is : lives steps a ≡ b
 
-abbrev pub Goes : ℕ → Marks → List Record → (Side → ℕ → List (List ℕ)) → Air → Air → Type 0
-Goes l set told given a b = GoesBehind l set Any told given a b
+abbrev pub Goes : ℕ → Marks → List Record → (Side → ℕ → List (List ℕ)) → Whats → Air → Air → Type 0
+Goes l set told given ws a b = GoesBehind l set Any told given ws a b
+
+whats_more : (l bits : ℕ) (from : Side) (a : Air) (xs ys : List AirStep) → whats from l bits (xs ++ ys) a ≡ whats from l bits xs a ++ whats from l bits ys (lives xs a)
+whats_more l bits from a [] ys = refl
+whats_more l bits from a (x ∷ xs) ys =
+    ap (λ (ws : List What). whats_in from l bits a x ++ ws) (whats_more l bits from (lives_on a x) xs ys)
+    ∙ sym (append_assoc (whats_in from l bits a x) (whats from l bits xs (lives_on a x)) (whats from l bits ys (lives xs (lives_on a x))))
 
 unset_more : (l : ℕ) (cs ds : List EndCall) → SetNone l cs → SetNone l ds → SetNone l (cs ++ ds)
 unset_more l [] ds p q = q
@@ -214,9 +243,9 @@ tells_more bits l from sent (one ∷ f) g =
     ap (λ (hs : List Happening). tells_at bits l from sent one ++ hs) (tells_more bits l from (sent_last one sent) f g)
     ∙ sym (append_assoc (tells_at bits l from sent one) (tells_in bits l from (sent_last one sent) f) (tells_in bits l from (last_in f (sent_last one sent)) g))
 
-pub behind_then : (l : ℕ) (set : Marks) (c d : Behind) (f g : List Record) (x y : Side → ℕ → List (List ℕ)) (a b e : Air) → ended d ≡ [] → ((sent : List ℕ) → Fits c sent → Fits d (last_in f sent))
-    → GoesBehind l set c f x a b → GoesBehind l set d g y b e → GoesBehind l set c (f ++ g) (λ side n. x side n ++ y side n) a e
-behind_then l set c d f g x y a b e none left p q =
+pub behind_then : (l : ℕ) (set : Marks) (c d : Behind) (f g : List Record) (x y : Side → ℕ → List (List ℕ)) {v w : Whats} (a b e : Air) → ended d ≡ [] → ((sent : List ℕ) → Fits c sent → Fits d (last_in f sent))
+    → GoesBehind l set c f x v a b → GoesBehind l set d g y w b e → GoesBehind l set c (f ++ g) (λ side n. x side n ++ y side n) (λ bits from. v bits from ++ w bits from) a e
+behind_then l set c d f g x y {v} {w} a b e none left p q =
     let ss = p.steps in
     let ts = q.steps in
     let z = lives ss a in
@@ -243,23 +272,27 @@ behind_then l set c d f g x y a b e none left p q =
           ∙ (ap (λ (hs : List Happening). hs ++ happened bits l from ts z) (p.reads bits from sent fits)
           ∙ (ap (λ (hs : List Happening). (ended c ++ one) ++ hs) second
           ∙ (append_assoc (ended c) one two ∙ ap (λ (hs : List Happening). ended c ++ hs) (sym (tells_more bits l from sent f g)))));
+      whats_are = λ bits from.
+          let second = ap (λ (u : Air). whats from l bits ts u) p.air_is ∙ q.whats_are bits from in
+          whats_more l bits from a ss ts ∙ ap (λ (ws : List What). ws ++ whats from l bits ts z) (p.whats_are bits from) ∙ ap (λ (ws : List What). v bits from ++ ws) second;
       air_is = lives_more a ss ts ∙ ap (lives ts) p.air_is ∙ q.air_is;
     }
 
 -- what happens in the ones and then in the others
-pub happens_then : (bits : ℕ) (from : Side) (l : ℕ) (set : Marks) (c d : Behind) (f g : List Record) (x y : Side → ℕ → List (List ℕ)) (a b e : Air) (none : ended d ≡ []) (left : (sent : List ℕ) → Fits c sent → Fits d (last_in f sent))
-    (p : GoesBehind l set c f x a b) (q : GoesBehind l set d g y b e)
+pub happens_then : (bits : ℕ) (from : Side) (l : ℕ) (set : Marks) (c d : Behind) (f g : List Record) (x y : Side → ℕ → List (List ℕ)) {v w : Whats} (a b e : Air) (none : ended d ≡ []) (left : (sent : List ℕ) → Fits c sent → Fits d (last_in f sent))
+    (p : GoesBehind l set c f x v a b) (q : GoesBehind l set d g y w b e)
     → happened bits l from (behind_then l set c d f g x y a b e none left p q).steps a ≡ happened bits l from p.steps a ++ happened bits l from q.steps b
 unfolding behind_then
-happens_then bits from l set c d f g x y a b e none left p q =
-    happened_more bits l from p.steps q.steps a ∙ ap (λ (w : Air). happened bits l from p.steps a ++ happened bits l from q.steps w) p.air_is
+happens_then bits from l set c d f g x y {v} {w} a b e none left p q =
+    happened_more bits l from p.steps q.steps a ∙ ap (λ (z : Air). happened bits l from p.steps a ++ happened bits l from q.steps z) p.air_is
 
-pub goes_then : (l : ℕ) (set : Marks) (f g : List Record) (x y : Side → ℕ → List (List ℕ)) (a b c : Air) → Goes l set f x a b → Goes l set g y b c → Goes l set (f ++ g) (λ side n. x side n ++ y side n) a c
-goes_then l set f g x y a b c p q = behind_then l set Any Any f g x y a b c refl (λ sent fits. tt) p q
+pub goes_then : (l : ℕ) (set : Marks) (f g : List Record) (x y : Side → ℕ → List (List ℕ)) {v w : Whats} (a b c : Air) → Goes l set f x v a b → Goes l set g y w b c
+    → Goes l set (f ++ g) (λ side n. x side n ++ y side n) (λ bits from. v bits from ++ w bits from) a c
+goes_then l set f g x y {v} {w} a b c p q = behind_then l set Any Any f g x y a b c refl (λ sent fits. tt) p q
 
 -- where nothing has to be known, it may be
-pub weaken : (l : ℕ) (set : Marks) (c : Behind) (told : List Record) (given : Side → ℕ → List (List ℕ)) (a b : Air) → ended c ≡ [] → Goes l set told given a b → GoesBehind l set c told given a b
-weaken l set c told given a b open' p = record {
+pub weaken : (l : ℕ) (set : Marks) (c : Behind) (told : List Record) (given : Side → ℕ → List (List ℕ)) {ws : Whats} (a b : Air) → ended c ≡ [] → Goes l set told given ws a b → GoesBehind l set c told given ws a b
+weaken l set c told given {ws} a b open' p = record {
   steps = p.steps;
   living = p.living;
   told_is = p.told_is;
@@ -267,12 +300,14 @@ weaken l set c told given a b open' p = record {
   sets_none = p.sets_none;
   stays = p.stays;
   reads = λ bits from sent fits. p.reads bits from sent tt ∙ sym (ap (λ (hs : List Happening). hs ++ tells_in bits l from sent told) open');
+  whats_are = p.whats_are;
   air_is = p.air_is;
 }
 
 -- the same SDUs in another form
-pub goes_as : {c : Behind} (l : ℕ) (set : Marks) (told : List Record) (x y : Side → ℕ → List (List ℕ)) (a b : Air) → ((side : Side) (n : ℕ) → x side n ≡ y side n) → GoesBehind l set c told x a b → GoesBehind l set c told y a b
-goes_as {c} l set told x y a b same p = record { steps = p.steps; living = p.living; told_is = p.told_is; submitted_is = λ side n. p.submitted_is side n ∙ same side n; sets_none = p.sets_none; stays = p.stays; reads = p.reads; air_is = p.air_is }
+pub goes_as : {c : Behind} (l : ℕ) (set : Marks) (told : List Record) (x y : Side → ℕ → List (List ℕ)) {ws : Whats} (a b : Air) → ((side : Side) (n : ℕ) → x side n ≡ y side n) → GoesBehind l set c told x ws a b → GoesBehind l set c told y ws a b
+goes_as {c} l set told x y {ws} a b same p =
+    record { steps = p.steps; living = p.living; told_is = p.told_is; submitted_is = λ side n. p.submitted_is side n ∙ same side n; sets_none = p.sets_none; stays = p.stays; reads = p.reads; whats_are = p.whats_are; air_is = p.air_is }
 
 abbrev pub none : Side → ℕ → List (List ℕ)
 none side n = []
@@ -282,7 +317,7 @@ abbrev pub TellNoAir : List Record → Type 0
 TellNoAir told = (bits l : ℕ) (from : Side) (sent : List ℕ) → tells_in bits l from sent told ≡ []
 
 -- records that tell nothing of an end
-pub goes_none : (l : ℕ) (set : Marks) (c : Behind) (told : List Record) (a : Air) → ended c ≡ [] → ((side : Side) → told_by side told ≡ []) → TellNoAir told → GoesBehind l set c told none a a
+pub goes_none : (l : ℕ) (set : Marks) (c : Behind) (told : List Record) (a : Air) → ended c ≡ [] → ((side : Side) → told_by side told ≡ []) → TellNoAir told → GoesBehind l set c told none no_whats a a
 goes_none l set c told a open' untold unflown = record {
   steps = [];
   living = tt;
@@ -291,6 +326,7 @@ goes_none l set c told a open' untold unflown = record {
   sets_none = λ off side. tt;
   stays = λ off. tt;
   reads = λ bits from sent fits. sym (ap (λ (hs : List Happening). hs ++ tells_in bits l from sent told) open' ∙ unflown bits l from sent);
+  whats_are = λ bits from. refl;
   air_is = refl;
 }
 
@@ -327,8 +363,30 @@ pub record IsPlayed (l : ℕ) (set : Marks) (c : EndCall) : Type 0 where
 in_life : (l : ℕ) (set : Marks) (c : EndCall) → IsPlayed l set c → GoesOnInLife l c
 in_life l set c x = record { adds_none = x.adds_none; moves_none = x.moves_none }
 
+-- what a call of an end is to the flow that it sends, and to the one that it hears
+abbrev pub call_whats : Side → ℕ → End → EndCall → Whats
+call_whats Nb l e c bits Nb = sent_in Nb l bits e c
+call_whats Nb l e c bits Ue = expiries l (told_of e c)
+call_whats Ue l e c bits Nb = expiries l (told_of e c)
+call_whats Ue l e c bits Ue = sent_in Ue l bits e c
+
+-- and what a block that comes is
+abbrev pub come_whats : Side → ℕ → End → Block → Whats
+come_whats Nb l e b bits Nb = []
+come_whats Nb l e b bits Ue = what_came l e (Some b)
+come_whats Ue l e b bits Nb = what_came l e (Some b)
+come_whats Ue l e b bits Ue = []
+
+abbrev pub move_whats : ℕ → Air → Keys → Whats
+move_whats l a keys bits Nb = begins_anew ∷ expiries l (leaving a.ue.end)
+move_whats l a keys bits Ue = begins_anew ∷ expiries l (leaving a.nb.end)
+
+whats_by : (l : ℕ) (xs : List AirStep) (a : Air) (ws : Whats) → ((bits : ℕ) → whats Nb l bits xs a ≡ ws bits Nb) → ((bits : ℕ) → whats Ue l bits xs a ≡ ws bits Ue) → (bits : ℕ) (from : Side) → whats from l bits xs a ≡ ws bits from
+whats_by l xs a ws nb ue bits Nb = nb bits
+whats_by l xs a ws nb ue bits Ue = ue bits
+
 pub goes_call : (l : ℕ) (set : Marks) (side : Side) (told : List Record) (given : Side → ℕ → List (List ℕ)) (c : EndCall) (a : Air) → IsGivenTo c → IsPlayed l set c → IsCalling (station side a) c → Says side told given (station side a).end c
-    → Goes l set told given a (with_station side (calls (station side a) c) a)
+    → Goes l set told given (call_whats side l (station side a).end c) a (with_station side (calls (station side a) c) a)
 goes_call l set Nb told given c a g life calling x =
     let xs : List AirStep = InLife (AtNb (Calls c)) ∷ [] in
     record {
@@ -339,6 +397,7 @@ goes_call l set Nb told given c a g life calling x =
       sets_none = λ off. by_sides (Unset l xs a) (life.unset off, tt) tt;
       stays = λ off. tt;
       reads = λ bits from sent fits. by_sides (λ (side : Side). happened bits l side xs a ≡ tells_in bits l side sent told) (said_one bits l a.nb.end c ∙ x.says bits l sent) (heard_one l a.nb.end c ∙ x.hears bits l sent) from;
+      whats_are = whats_by l xs a (call_whats Nb l a.nb.end c) (λ bits. append-nil (sent_in Nb l bits a.nb.end c)) (λ bits. append-nil (expiries l (told_of a.nb.end c)));
       air_is = refl;
     }
 goes_call l set Ue told given c a g life calling x =
@@ -351,6 +410,7 @@ goes_call l set Ue told given c a g life calling x =
       sets_none = λ off. by_sides (Unset l xs a) tt (life.unset off, tt);
       stays = λ off. tt;
       reads = λ bits from sent fits. by_sides (λ (side : Side). happened bits l side xs a ≡ tells_in bits l side sent told) (heard_one l a.ue.end c ∙ x.hears bits l sent) (said_one bits l a.ue.end c ∙ x.says bits l sent) from;
+      whats_are = whats_by l xs a (call_whats Ue l a.ue.end c) (λ bits. append-nil (expiries l (told_of a.ue.end c))) (λ bits. append-nil (sent_in Ue l bits a.ue.end c));
       air_is = refl;
     }
 
@@ -370,7 +430,7 @@ come_unset l None = tt
 come_unset l (Some b) = (refl, tt)
 
 pub goes_come : (l : ℕ) (set : Marks) (c : Behind) (side : Side) (told : List Record) (k : ℕ) (b : Block) (a : Air) → ended c ≡ [] → Brings l c side told b.octets (station side a).end → slice_get (station (other side) a).blocks k ≡ Some b → told_by side told ≡ told_of (station side a).end (Receive b.octets) → told_by (other side) told ≡ []
-    → GoesBehind l set c told none a (with_station side (record (station side a) { end = after_call (station side a).end (Receive b.octets) }) a)
+    → GoesBehind l set c told none (come_whats side l (station side a).end b) a (with_station side (record (station side a) { end = after_call (station side a).end (Receive b.octets) }) a)
 goes_come l set c Nb told k b a open' brings there is untold =
     let xs : List AirStep = InLife (AtNb (Comes k)) ∷ [] in
     let e = a.nb.end in
@@ -384,6 +444,7 @@ goes_come l set c Nb told k b a open' brings there is untold =
       reads = λ bits from sent fits. by_sides (λ (s : Side). happened bits l s xs a ≡ ended c ++ tells_in bits l s sent told)
           (none_said bits l (slice_get a.ue.blocks k) e ∙ sym (ap (λ (hs : List Happening). hs ++ tells_in bits l Nb sent told) open' ∙ brings.own bits sent fits))
           (ap (λ (o : Option Block). ([] ++ heard_over l (brought o) e) ++ []) there ∙ (heard_one l e (Receive b.octets) ∙ sym (ap (λ (hs : List Happening). hs ++ tells_in bits l Ue sent told) open' ∙ brings.far bits sent fits))) from;
+      whats_are = whats_by l xs a (come_whats Nb l e b) (λ bits. refl) (λ bits. append-nil (what_came l e (slice_get a.ue.blocks k)) ∙ ap (what_came l e) there);
       air_is = ap (λ (o : Option Block). record a { nb = comes a.nb o }) there;
     }
 goes_come l set c Ue told k b a open' brings there is untold =
@@ -399,13 +460,14 @@ goes_come l set c Ue told k b a open' brings there is untold =
       reads = λ bits from sent fits. by_sides (λ (s : Side). happened bits l s xs a ≡ ended c ++ tells_in bits l s sent told)
           (ap (λ (o : Option Block). ([] ++ heard_over l (brought o) e) ++ []) there ∙ (heard_one l e (Receive b.octets) ∙ sym (ap (λ (hs : List Happening). hs ++ tells_in bits l Nb sent told) open' ∙ brings.far bits sent fits)))
           (none_said bits l (slice_get a.nb.blocks k) e ∙ sym (ap (λ (hs : List Happening). hs ++ tells_in bits l Ue sent told) open' ∙ brings.own bits sent fits)) from;
+      whats_are = whats_by l xs a (come_whats Ue l e b) (λ bits. append-nil (what_came l e (slice_get a.nb.blocks k)) ∙ ap (what_came l e) there) (λ bits. refl);
       air_is = ap (λ (o : Option Block). record a { ue = comes a.ue o }) there;
     }
 
 -- both ends move
 
 pub goes_move : (l : ℕ) (set : Bool) (told : List Record) (keys : Keys) (a : Air) → TellNoAir told → told_by Nb told ≡ leaving a.nb.end → told_by Ue told ≡ leaving a.ue.end
-    → GoesBehind l (moving set) Renewed told none a (outset (after_call a.nb.end (Move keys)) (after_call a.ue.end (Move keys)))
+    → GoesBehind l (moving set) Renewed told none (move_whats l a keys) a (outset (after_call a.nb.end (Move keys)) (after_call a.ue.end (Move keys)))
 goes_move l set told keys a unflown nb ue =
     let xs : List AirStep = Moves keys ∷ [] in
     record {
@@ -417,20 +479,21 @@ goes_move l set told keys a unflown nb ue =
       stays = λ off. absurd cc;
       reads = λ bits from sent fits. by_sides (λ (s : Side). happened bits l s xs a ≡ Renews ∷ tells_in bits l s sent told)
           (ap (λ (hs : List Happening). Renews ∷ hs) (sym (unflown bits l Nb sent))) (ap (λ (hs : List Happening). Renews ∷ hs) (sym (unflown bits l Ue sent))) from;
+      whats_are = whats_by l xs a (move_whats l a keys) (λ bits. append-nil (move_whats l a keys bits Nb)) (λ bits. append-nil (move_whats l a keys bits Ue));
       air_is = refl;
     }
 
 -- blocks are let go
 
-goes_one : (l : ℕ) (set : Marks) (side : Side) (k : ℕ) (a : Air) → Goes l set [] none a (with_station side (record (station side a) { blocks = except k (station side a).blocks }) a)
+goes_one : (l : ℕ) (set : Marks) (side : Side) (k : ℕ) (a : Air) → Goes l set [] none no_whats a (with_station side (record (station side a) { blocks = except k (station side a).blocks }) a)
 goes_one l set Nb k a =
     let xs : List AirStep = InLife (AtNb (LetsGo k)) ∷ [] in
-    record { steps = xs; living = (tt, tt); told_is = by_sides (Tells [] xs a) refl refl; submitted_is = by_sides (Submits none xs a) (λ n. refl) (λ n. refl); sets_none = λ off. by_sides (Unset l xs a) tt tt; stays = λ off. tt; reads = λ bits from sent fits. by_sides (λ (s : Side). happened bits l s xs a ≡ []) refl refl from; air_is = refl }
+    record { steps = xs; living = (tt, tt); told_is = by_sides (Tells [] xs a) refl refl; submitted_is = by_sides (Submits none xs a) (λ n. refl) (λ n. refl); sets_none = λ off. by_sides (Unset l xs a) tt tt; stays = λ off. tt; reads = λ bits from sent fits. by_sides (λ (s : Side). happened bits l s xs a ≡ []) refl refl from; whats_are = whats_by l xs a no_whats (λ bits. refl) (λ bits. refl); air_is = refl }
 goes_one l set Ue k a =
     let xs : List AirStep = InLife (AtUe (LetsGo k)) ∷ [] in
-    record { steps = xs; living = (tt, tt); told_is = by_sides (Tells [] xs a) refl refl; submitted_is = by_sides (Submits none xs a) (λ n. refl) (λ n. refl); sets_none = λ off. by_sides (Unset l xs a) tt tt; stays = λ off. tt; reads = λ bits from sent fits. by_sides (λ (s : Side). happened bits l s xs a ≡ []) refl refl from; air_is = refl }
+    record { steps = xs; living = (tt, tt); told_is = by_sides (Tells [] xs a) refl refl; submitted_is = by_sides (Submits none xs a) (λ n. refl) (λ n. refl); sets_none = λ off. by_sides (Unset l xs a) tt tt; stays = λ off. tt; reads = λ bits from sent fits. by_sides (λ (s : Side). happened bits l s xs a ≡ []) refl refl from; whats_are = whats_by l xs a no_whats (λ bits. refl) (λ bits. refl); air_is = refl }
 
-goes_all : (l : ℕ) (set : Marks) (side : Side) (ks : List ℕ) (a : Air) → Goes l set [] none a (with_station side (record (station side a) { blocks = without ks (station side a).blocks }) a)
+goes_all : (l : ℕ) (set : Marks) (side : Side) (ks : List ℕ) (a : Air) → Goes l set [] none no_whats a (with_station side (record (station side a) { blocks = without ks (station side a).blocks }) a)
 goes_all l set Nb [] a = goes_none l set Any [] a refl (λ side. refl) (λ bits l from sent. refl)
 goes_all l set Ue [] a = goes_none l set Any [] a refl (λ side. refl) (λ bits l from sent. refl)
 goes_all l set Nb (k ∷ ks) a =
@@ -440,9 +503,9 @@ goes_all l set Ue (k ∷ ks) a =
     let b : Air = record a { ue = record a.ue { blocks = except k a.ue.blocks } } in
     goes_then l set [] [] none none a b (record a { ue = record a.ue { blocks = without (k ∷ ks) a.ue.blocks } }) (goes_one l set Ue k a) (goes_all l set Ue ks b)
 
-pub goes_off : (l : ℕ) (set : Marks) (side : Side) (stays : Block → Bool) (a : Air) → Goes l set [] none a (with_station side (record (station side a) { blocks = filter stays (station side a).blocks }) a)
+pub goes_off : (l : ℕ) (set : Marks) (side : Side) (stays : Block → Bool) (a : Air) → Goes l set [] none no_whats a (with_station side (record (station side a) { blocks = filter stays (station side a).blocks }) a)
 goes_off l set side stays a =
-    subst (λ (bs : List Block). Goes l set [] none a (with_station side (record (station side a) { blocks = bs }) a)) (without_gone stays (station side a).blocks)
+    subst (λ (bs : List Block). Goes l set [] none no_whats a (with_station side (record (station side a) { blocks = bs }) a)) (without_gone stays (station side a).blocks)
     (goes_all l set side (gone stays (station side a).blocks) a)
 
 -- a TTI ends
@@ -457,7 +520,7 @@ all_young : (t : ℕ) (s : Sending) → s.maximum ≤ 28 → (bs : List Block) �
 all_young t s few [] h = tt
 all_young t s few (b ∷ bs) h = (young t s b few h.0, all_young t s few bs h.1)
 
-pub goes_pass : (l : ℕ) (set : Marks) (t : ℕ) (a : Air) → IsStation Nb (wait (Done t)) a.nb → IsStation Ue (wait (Done t)) a.ue → Goes l set [] none a (record { nb = passed a.nb; ue = passed a.ue })
+pub goes_pass : (l : ℕ) (set : Marks) (t : ℕ) (a : Air) → IsStation Nb (wait (Done t)) a.nb → IsStation Ue (wait (Done t)) a.ue → Goes l set [] none no_whats a (record { nb = passed a.nb; ue = passed a.ue })
 goes_pass l set t a nb ue =
     let xs : List AirStep = InLife Passes ∷ [] in
     record {
@@ -468,5 +531,6 @@ goes_pass l set t a nb ue =
       sets_none = λ off. by_sides (Unset l xs a) tt tt;
       stays = λ off. tt;
       reads = λ bits from sent fits. by_sides (λ (s : Side). happened bits l s xs a ≡ []) refl refl from;
+      whats_are = whats_by l xs a no_whats (λ bits. refl) (λ bits. refl);
       air_is = refl;
     }

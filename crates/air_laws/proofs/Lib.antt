@@ -2,12 +2,15 @@ pub mod Processes
 pub mod Flying
 pub mod Stations
 pub mod Going
+pub mod Showing
 pub mod Stages
+pub mod Blocks
 pub mod Resting
 pub mod Visiting
 pub mod Moving
 pub mod Advancing
 pub mod Lives
+pub mod Coming
 pub mod Keeping
 pub mod Lived
 pub mod Links

@@ -23,11 +23,13 @@ use Rattle.flow_laws.proofs.Lives.{adds_begin}
 use Rattle.flow_laws.proofs.Stations.{come_more}
 use Rattle.channel_laws.specs.Lives.{lives}
 use Rattle.air_laws.specs.Links.{AreCallsBefore, link_since, IsRun, AreFlows}
-use Rattle.air_laws.specs.Lived.{HasBearer, none_yet}
+use Rattle.air_laws.specs.Coming.{none_yet}
+use Rattle.air_laws.specs.Lived.{HasBearer}
 use Rattle.air_laws.specs.Lives.{IsAtRest}
 use Rattle.air_laws.specs.On.{IsOn}
 use Rattle.air_laws.proofs.Keeping.{Keeps, Runs, steps_run}
-use Rattle.air_laws.proofs.Lived.{added_bearer, bearers_live, same_on, ends_live, runs_live}
+use Rattle.air_laws.proofs.Coming.{same_on}
+use Rattle.air_laws.proofs.Lived.{added_bearer, bearers_live, ends_live, runs_live}
 use Rattle.air_laws.proofs.Lives.{first_rests, calls_rest}
 
 run_more : (xs ys : List Step) (r : Run) → run_on (xs ++ ys) r ≡ run_on ys (run_on xs r)

@@ -16,34 +16,22 @@ use Rattle.l2_types.specs.declared.side.Side.{Side}
 use Rattle.l2_types.specs.declared.side.Side.TheVariants.{Nb, Ue}
 use Rattle.node_laws.specs.Calls.{Add, after as after_call}
 use Rattle.node_laws.proofs.Living.{added}
-use Rattle.link_laws.specs.Calls.{Bears}
 use Rattle.link_laws.specs.Ends.{told_by}
 use Rattle.link_laws.specs.Runs.{Step, Run, step, emptied, goes as run_goes, goes_on as run_on}
 use Rattle.flow_laws.specs.Air.{Air, outset, HasCome}
 use Rattle.am_arrival_laws.specs.Lives.{Happening}
-use Rattle.channel_laws.specs.Arrival.{happened}
 use Rattle.channel_laws.specs.Lives.{lives, end_at}
 use Rattle.air_laws.specs.Arrival.{told_by_step}
-use Rattle.air_laws.specs.Going.{handed_in, looped_at, sets, GoesByAir, IsStepSince}
-use Rattle.air_laws.specs.Lived.{HasBearer, Lived, IsAcknowledged, none_yet, BearersCome, LivesOn, AreStepsSince, submitted_in, said_in, sets_in, RunsOn}
+use Rattle.air_laws.specs.Coming.{none_yet}
+use Rattle.air_laws.specs.Going.{handed_in, looped_at, sets, IsStepSince}
+use Rattle.air_laws.specs.Lived.{HasBearer, Lived, IsAcknowledged, BearersCome, LivesOn, AreStepsSince, submitted_in, said_in, sets_in, RunsOn}
 use Rattle.air_laws.specs.Lives.{IsAtRest}
-use Rattle.air_laws.specs.On.{until, IsStation, IsOn}
+use Rattle.air_laws.specs.On.{IsOn}
 use Rattle.air_laws.proofs.Advancing.{steps_go}
-use Rattle.air_laws.proofs.Going.{moving, Unread, GoesBehind, behind_then, happens_then}
+use Rattle.air_laws.proofs.Coming.{bearers_begin, ends_come_by, steps_come}
 use Rattle.air_laws.proofs.Keeping.{Keeps, steps_keep}
-use Rattle.air_laws.proofs.Lives.{calls_rest}
 
 -- ---- what else is of a link
-
-pub same_on : (k m : Link) (a : Air) → m.nb ≡ k.nb → m.ue ≡ k.ue → m.ttis ≡ k.ttis → IsOn k a → IsOn m a
-same_on k m a nb ue ttis h = record {
-  nb_is = h.nb_is ∙ sym nb;
-  ue_is = h.ue_is ∙ sym ue;
-  nb = subst (λ (t : ℕ). IsStation Nb (until t) a.nb) (sym ttis) h.nb;
-  ue = subst (λ (t : ℕ). IsStation Ue (until t) a.ue) (sym ttis) h.ue;
-  nb_idle = h.nb_idle;
-  ue_idle = h.ue_idle;
-}
 
 both_have : (l : ℕ) (k : Link) → HasBearer l k.nb → HasBearer l k.ue → (side : Side) → HasBearer l (end_of side k)
 both_have l k nb ue Nb = nb
@@ -51,13 +39,10 @@ both_have l k nb ue Ue = ue
 
 pub ends_live : (l : ℕ) (nb ue : End) (told : List Record) (submitted : Side → ℕ → List (List ℕ)) (said : ℕ → Side → List Happening) (set : Bool) (k m : Link)
     → m.nb ≡ k.nb → m.ue ≡ k.ue → m.ttis ≡ k.ttis → Lived l nb ue told submitted said set k → Lived l nb ue told submitted said set m
-ends_live l nb ue told submitted said set k m nb_is ue_is ttis_is h =
-    let x = h.by in
-    let a = lives x.steps (outset nb ue) in
-    record {
-      by = record { steps = x.steps; living = x.living; told_is = x.told_is; submitted_is = x.submitted_is; happened_is = x.happened_is; sets_none = x.sets_none; on = same_on k m a nb_is ue_is ttis_is x.on };
-      bearers = both_have l m (subst (HasBearer l) (sym nb_is) (h.bearers Nb)) (subst (HasBearer l) (sym ue_is) (h.bearers Ue));
-    }
+ends_live l nb ue told submitted said set k m nb_is ue_is ttis_is h = record {
+  by = ends_come_by l told submitted said set k m (outset nb ue) nb_is ue_is ttis_is h.by;
+  bearers = both_have l m (subst (HasBearer l) (sym nb_is) (h.bearers Nb)) (subst (HasBearer l) (sym ue_is) (h.bearers Ue));
+}
 
 -- ---- the bearers come
 
@@ -80,10 +65,11 @@ pub bearers_live : (config : BearerConfig) (keys : Keys) (k : Link) → IsConfig
 unfolding bears
 bearers_live config keys k g kind h =
     let m = bears config keys k in
+    let begin = bearers_begin config keys k g h in
     record {
-      out_is = refl;
+      out_is = begin.out_is;
       lived = record {
-        by = record { steps = []; living = tt; told_is = λ side. refl; submitted_is = λ side n. refl; happened_is = λ bits from. refl; sets_none = λ off side. tt; on = calls_rest (Bears config keys) k g tt h };
+        by = begin.by;
         bearers = both_have config.channel.lcid m (added_bearer k.nb config keys kind) (added_bearer k.ue config keys kind);
       };
     }
@@ -101,50 +87,20 @@ on_come Ue k a h = h.ue.come
 pub keeps_at : (l : ℕ) (side : Side) (k : Link) (a : Air) → IsOn k a → HasBearer l (end_of side k) → Keeps l side (end_at side a)
 keeps_at l side k a h b = record { come = on_come side k a h; bearer = subst (HasBearer l) (sym (on_end side k a h)) b }
 
--- each of two steps sets none where both do
-pub either_off : (x y : Bool) → (x || y) ≡ false → (x ≡ false) × (y ≡ false)
-either_off true y e = absurd cc
-either_off false y e = (refl, e)
-
-abbrev Goes : ℕ → Bool → List Record → (Side → ℕ → List (List ℕ)) → Air → Air → Type 0
-Goes l set told given a b = GoesBehind l (moving set) Unread told given a b
-
-by_goes : (l : ℕ) (told : List Record) (submitted : Side → ℕ → List (List ℕ)) (said : ℕ → Side → List Happening) (set whole : Bool) (m : Link) (a : Air) (x : GoesByAir l told submitted said set m a) → (whole ≡ false → set ≡ false)
-    → Goes l whole told submitted a (lives x.steps a)
-by_goes l told submitted said set whole m a x off =
-    record { steps = x.steps; living = x.living; told_is = x.told_is; submitted_is = x.submitted_is; sets_none = λ e. x.sets_none (off e); stays = λ e. absurd cc; reads = λ bits from sent fits. absurd fits; air_is = refl }
-
-goes_by : (l : ℕ) (told : List Record) (submitted : Side → ℕ → List (List ℕ)) (said : ℕ → Side → List Happening) (set : Bool) (m : Link) (a b : Air) (x : Goes l set told submitted a b)
-    → ((bits : ℕ) (from : Side) → happened bits l from x.steps a ≡ said bits from) → IsOn m b → GoesByAir l told submitted said set m a
-goes_by l told submitted said set m a b x happened on =
-    record { steps = x.steps; living = x.living; told_is = x.told_is; submitted_is = x.submitted_is; happened_is = happened; sets_none = x.sets_none; on = subst (IsOn m) (sym x.air_is) on }
-
 pub steps_live : (l : ℕ) (nb ue : End) (told : List Record) (submitted : Side → ℕ → List (List ℕ)) (said : ℕ → Side → List Happening) (set : Bool) (s : Step) (k : Link) → IsStepSince l s → Lived l nb ue told submitted said set k
     → LivesOn l nb ue told submitted said set s k
-unfolding by_goes
 steps_live l nb ue told submitted said set s k g h =
     let a = outset nb ue in
     let b = lives h.by.steps a in
     let m = step s k in
-    let x = steps_go l s k b g h.by.on in
-    let y = x.by in
-    let sets_any = set || sets l s in
-    let more : Side → ℕ → List (List ℕ) = λ side n. handed_in side n s k ++ looped_at side n x.more in
-    let tells : ℕ → Side → List Happening = λ bits from. told_by_step bits l from s x.more in
-    let c = lives y.steps b in
-    let before = by_goes l told submitted said set sets_any k a h.by (λ e. (either_off set (sets l s) e).0) in
-    let behind = by_goes l x.more more tells (sets l s) sets_any m b y (λ e. (either_off set (sets l s) e).1) in
-    let whole = behind_then l (moving sets_any) Unread Unread told x.more submitted more a b c refl (λ sent fits. absurd fits) before behind in
-    let happens : (bits : ℕ) (from : Side) → happened bits l from whole.steps a ≡ said bits from ++ tells bits from =
-    λ bits from.
-    happens_then bits from l (moving sets_any) Unread Unread told x.more submitted more a b c refl (λ sent fits. absurd fits) before behind
-    ∙ (ap (λ (hs : List Happening). hs ++ happened bits l from y.steps b) (h.by.happened_is bits from) ∙ ap (λ (hs : List Happening). said bits from ++ hs) (y.happened_is bits from)) in
+    let x = steps_come l told submitted said set s k a g h.by in
+    let y = (steps_go l s k b g h.by.on).by in
     record {
       more = x.more;
       out_is = x.out_is;
       alone = x.alone;
       lived = record {
-        by = goes_by l (told ++ x.more) (λ side n. submitted side n ++ more side n) (λ bits from. said bits from ++ tells bits from) sets_any m a c whole happens y.on;
+        by = x.by;
         bearers = λ side. subst (HasBearer l) (on_end side m (lives y.steps b) y.on) (steps_keep l side b y.steps y.living (keeps_at l side k b h.by.on (h.bearers side))).bearer;
       };
     }

@@ -140,13 +140,13 @@ submissions_rest side lcid sdu k h = submitted_rest (refusal lcid sdu (end_of si
 
 -- ---- an end without a bearer of a channel has never had one
 
-added_there : (l : ℕ) (e : End) (c : EndCall) → adds l c ≡ true → has l (after_call e c).bearers ≡ true
+pub added_there : (l : ℕ) (e : End) (c : EndCall) → adds l c ≡ true → has l (after_call e c).bearers ≡ true
 added_there l e (Add config keys) h =
     let same : config.channel.lcid ≡ l = grind (arith, nat_tests) in
     ap (λ (n : ℕ). has n (after_call e (Add config keys)).bearers) (sym same) ∙ (added e config keys).there
 added_there l e c h = cc
 
-there_by : (b : Bool) (side : Side) (l : ℕ) (e : End) (c : EndCall) → adds l c ≡ b → HasCome side e → IsGivenTo c → has l e.bearers ≡ true → has l (after_call e c).bearers ≡ true
+pub there_by : (b : Bool) (side : Side) (l : ℕ) (e : End) (c : EndCall) → adds l c ≡ b → HasCome side e → IsGivenTo c → has l e.bearers ≡ true → has l (after_call e c).bearers ≡ true
 there_by true side l e c is h g there = added_there l e c is
 there_by false side l e c is h g there =
     let on = go_on side h.maximum h.reports h.past (c ∷ []) l h.given (g, tt) (subst (λ (x : End). has l x.bearers ≡ true) h.end_is there) (is, tt) in

@@ -1,5 +1,5 @@
 -- A handover: both ends move, and nothing is under way behind it.
-use Rattle.std.proofs.Common.{◌≡◌, ◌≤◌, ℕ, zero, suc, Bool, None, List, [], ◌++◌, map, get_or, replicate, append_assoc, append-nil, refl, ap, sym, ◌∙◌}
+use Rattle.std.proofs.Common.{◌≡◌, ◌≤◌, ℕ, zero, suc, Bool, None, List, [], ◌∷◌, ◌++◌, map, get_or, replicate, append_assoc, append-nil, refl, ap, sym, subst, ◌∙◌}
 use Rattle.air_link.specs.Lines.{moves, hands_over}
 use Rattle.air_link.specs.Link.{Link}
 use Rattle.air_link.specs.Loops.{loops}
@@ -8,7 +8,7 @@ use Rattle.air_record.specs.declared.record.Record.{Record}
 use Rattle.air_record.specs.declared.record.Record.TheVariants as records
 use Rattle.eps_sec.specs.declared.Keys.{Keys}
 use Rattle.harq.specs.Sending.{Sending, SendProcess, empty, fresh}
-use Rattle.l2_node.specs.End.{End, reset}
+use Rattle.l2_node.specs.End.{End, reset, sent_by}
 use Rattle.l2_node.specs.Moving.{left_cell, joined, leaving}
 use Rattle.l2_types.specs.declared.side.Side.{Side}
 use Rattle.l2_types.specs.declared.side.Side.TheVariants.{Nb, Ue}
@@ -16,16 +16,21 @@ use Rattle.node_laws.specs.Calls.{Move, after as after_call}
 use Rattle.node_laws.proofs.Looping.{tells_no_loop}
 use Rattle.link_laws.specs.Ends.{told_by}
 use Rattle.link_laws.proofs.Going.{told_both, own_told, other_told, Seen, seen, behind, told_seen}
+use Rattle.um_losses.specs.Names.{Place, Happening as What, begins_anew}
+use Rattle.um_losses.specs.Told.{told_in, place_behind}
+use Rattle.um_losses_laws.specs.Whats.{expiries}
 use Rattle.flow_laws.specs.Air.{Station, Air, begins, outset, HasCome}
 use Rattle.flow_laws.proofs.Stations.{come_more}
 use Rattle.air_laws.specs.Going.{loops_in}
+use Rattle.air_laws.specs.Shown.{IsShown}
 use Rattle.air_laws.specs.On.{until, block_at, IsStation}
 use Rattle.am_arrival_laws.specs.Lives.{Happening}
 use Rattle.node_laws.proofs.Silences.{writes_nothing}
 use Rattle.air_laws.specs.Arrival.{tells_in}
-use Rattle.air_laws.proofs.Going.{moving, Any, Renewed, last_in, TellNoAir, tells_more, goes_move}
+use Rattle.air_laws.proofs.Going.{moving, Any, Renewed, last_in, TellNoAir, tells_more, goes_move, move_whats}
+use Rattle.air_laws.proofs.Showing.{in_both, events_own, events_hidden}
 use Rattle.air_laws.proofs.Resting.{loops_rests}
-use Rattle.air_laws.proofs.Stages.{Both, StageBehind, stages_then, quiet_events, Stands, events_unlooped, looped_more, unlooped_goes}
+use Rattle.air_laws.proofs.Stages.{Both, StageBehind, stages_then, quiet_events, Stands, events_unlooped, looped_more, unlooped_goes, StayShown}
 use Rattle.air_laws.proofs.Stations.{Waits}
 
 -- ---- processes that hold nothing, with 1 to 28 visits of a block
@@ -76,6 +81,7 @@ pub record Moved (keys : Keys) (k : Link) (t : ℕ) (a : Air) : Type 0 where
   pub ue_told : told_by Ue (left_told k) ≡ leaving a.ue.end
   pub unlooped : (i : ℕ) → loops_in i (left_told k) ≡ []
   pub unflown : TellNoAir (left_told k)
+  pub stays : (l : ℕ) → StayShown l k (moved_link keys k)
   pub both : Both (Stands Nb (Waits t)) (Stands Ue (Waits t)) (moved_link keys k) (outset (after_call a.nb.end (Move keys)) (after_call a.ue.end (Move keys)))
 
 pub moved_so : (keys : Keys) (k : Link) (t : ℕ) (a : Air) → Both (Stands Nb (Waits t)) (Stands Ue (Waits t)) k a → Moved keys k t a
@@ -96,6 +102,7 @@ moved_so keys k t a h =
       ue_told = told_both Ue xs ys [] (leaving k.ue) (other_told Nb (leaving k.nb)) (own_told Ue (leaving k.ue) (tells_no_loop k.ue (Move keys))) ∙ ap leaving (sym h.ue_is);
       unlooped = λ i. sym (looped_more Ue i xs ys) ∙ ap (λ (x : List (List ℕ)). x ++ loops_in i ys) (events_unlooped i Nb (leaving k.nb)) ∙ events_unlooped i Ue (leaving k.ue);
       unflown = both_quiet xs ys (quiet_events Nb (leaving k.nb) (writes_nothing k.nb).moving) (quiet_events Ue (leaving k.ue) (writes_nothing k.ue).moving);
+      stays = λ l bits. subst (IsShown l bits) (sym (ap (λ (s : Seen). s.kinds) n_seen));
       both = record {
         nb_is = ap (λ (e : End). after_call e (Move keys)) h.nb_is ∙ sym (ap (λ (s : Seen). s.nb) n_seen);
         ue_is = ap (λ (e : End). after_call e (Move keys)) h.ue_is ∙ sym (ap (λ (s : Seen). s.ue) n_seen);
@@ -103,6 +110,20 @@ moved_so keys k t a h =
         ue = moved_stands Ue (until t) t a.ue keys h.ue.is;
       };
     }
+
+moves_show : (l : ℕ) (keys : Keys) (k : Link) (a : Air) → a.nb.end ≡ k.nb → a.ue.end ≡ k.ue → (bits : ℕ) (from : Side) (c : Place)
+    → begins_anew ∷ told_in (sent_by from) l c (left_told k) ≡ move_whats l a keys bits from
+moves_show l keys k a nb ue bits Nb c =
+    let xs = map (records.Of Nb) (leaving k.nb) in
+    let ys = map (records.Of Ue) (leaving k.ue) in
+    ap (λ (ws : List What). begins_anew ∷ ws)
+    (in_both (sent_by Nb) l c xs ys [] (expiries l (leaving k.ue)) (events_hidden Nb l c (leaving k.nb)) (events_own Nb l (place_behind c xs) (leaving k.ue)) ∙ ap (λ (e : End). expiries l (leaving e)) (sym ue))
+moves_show l keys k a nb ue bits Ue c =
+    let xs = map (records.Of Nb) (leaving k.nb) in
+    let ys = map (records.Of Ue) (leaving k.ue) in
+    ap (λ (ws : List What). begins_anew ∷ ws)
+    (in_both (sent_by Ue) l c xs ys (expiries l (leaving k.nb)) [] (events_own Ue l c (leaving k.nb)) (events_hidden Ue l (place_behind c xs) (leaving k.ue))
+    ∙ append-nil (expiries l (leaving k.nb)) ∙ ap (λ (e : End). expiries l (leaving e)) (sym nb))
 
 move_stage : (l : ℕ) (set : Bool) (keys : Keys) (k : Link) (t : ℕ)
     → StageBehind l (moving set) Renewed Any (Stands Nb (Waits t)) (Stands Ue (Waits t)) (Stands Nb (Waits t)) (Stands Ue (Waits t)) k (moved_link keys k)
@@ -114,7 +135,11 @@ move_stage l set keys k t a h =
       more = left_told k;
       out_is = m.out_is;
       goes = unlooped_goes l (moving set) (left_told k) a b m.unlooped (goes_move l set (left_told k) keys a m.unflown m.nb_told m.ue_told);
+      ws = move_whats l a keys;
       left = λ sent fits. tt;
+      stands = λ p at. tt;
+      stays = m.stays l;
+      shown = λ bits s from p at. moves_show l keys k a h.nb_is h.ue_is bits from p;
       both = m.both;
     }
 

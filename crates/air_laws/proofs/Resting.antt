@@ -10,7 +10,7 @@ use Rattle.air_link.specs.Ttis.{begins, tells_sleep, grows, times, keeps_first, 
 use Rattle.air_record.specs.declared.record.Record.TheVariants as records
 use Rattle.bearer_types.specs.declared.event.Event.{Event}
 use Rattle.l2_bits.specs.declared.fault.SubmitRefusal.{SubmitRefusal}
-use Rattle.l2_node.specs.End.{End}
+use Rattle.l2_node.specs.End.{End, sent_by}
 use Rattle.l2_node.specs.Finding.{has}
 use Rattle.l2_node.specs.Hearing.{ticked, expiry, expired}
 use Rattle.l2_node.specs.Submitting.{refusal, submitted, discarding}
@@ -33,14 +33,16 @@ use Rattle.link_laws.specs.Zero.{sdu_of}
 use Rattle.link_laws.proofs.Going.{own_told, other_told, Seen, told_seen}
 use Rattle.channel_laws.specs.Delivery.{accepted, submitted_in}
 use Rattle.air_laws.specs.Going.{handed_in, looped_at}
-use Rattle.air_laws.proofs.Going.{Marks, Says, IsPlayed, none}
+use Rattle.um_losses.specs.Names.{Place}
+use Rattle.um_losses.specs.Told.{told_in}
+use Rattle.air_laws.proofs.Going.{Marks, Says, IsPlayed, none, by_sides, call_whats}
 use Rattle.node_laws.specs.Writing.{TellNone}
 use Rattle.node_laws.proofs.Silences.{writes_nothing}
 use Rattle.bearer_types.specs.declared.event.Event.TheVariants.{Drop}
 use Rattle.l2_types.specs.declared.event.Lost.TheVariants as losts
 use Rattle.flow_laws.specs.Ups.{told_on}
 use Rattle.delivery_laws.specs.Arrival.{gives}
-use Rattle.air_laws.proofs.Stages.{says_so, none_flown, none_if as hushed, unwritten, quiet_events, Stands, Hands, hands_none, Rests, rests_then, events_unlooped, says_stage, says_rests, still_rests, IsPlain, says_nothing, called_nb, called_ue, called_rests}
+use Rattle.air_laws.proofs.Stages.{says_so, none_flown, none_if as hushed, unwritten, quiet_events, Stands, Hands, hands_none, Rests, rests_then, events_unlooped, says_stage, says_rests, still_rests, IsPlain, says_nothing, shows_nothing, shows_events, called_nb, called_ue, called_rests}
 use Rattle.air_laws.proofs.Stations.{Moment}
 
 -- ---- an end's call
@@ -50,10 +52,10 @@ pub call_rests : (l : ℕ) (set : Marks) (side : Side) (c : EndCall) (k : Link) 
     → Rests l set k (with_end side (after_call (end_of side k) c) k)
 call_rests l set Nb c k plain g life keeps untold unsaid =
     called_rests l set Nb c [] none k (with_end Nb (after_call k.nb c) k) life
-    (record { plain = plain; given = g; keeps = keeps; end_is = refl; other_is = refl; out_is = sym (append-nil k.out); says = says_nothing Nb k.nb c plain life.moves_none untold unsaid })
+    (record { plain = plain; given = g; keeps = keeps; end_is = refl; other_is = refl; out_is = sym (append-nil k.out); says = says_nothing Nb k.nb c plain life.moves_none untold unsaid; kinds_are = refl; shown = shows_nothing l Nb k.nb c plain untold })
 call_rests l set Ue c k plain g life keeps untold unsaid =
     called_rests l set Ue c [] none k (with_end Ue (after_call k.ue c) k) life
-    (record { plain = plain; given = g; keeps = keeps; end_is = refl; other_is = refl; out_is = sym (append-nil k.out); says = says_nothing Ue k.ue c plain life.moves_none untold unsaid })
+    (record { plain = plain; given = g; keeps = keeps; end_is = refl; other_is = refl; out_is = sym (append-nil k.out); says = says_nothing Ue k.ue c plain life.moves_none untold unsaid; kinds_are = refl; shown = shows_nothing l Ue k.ue c plain untold })
 
 -- and in which it tells what it tells
 tells_rests : (l : ℕ) (set : Marks) (side : Side) (c : EndCall) (k : Link) → IsPlain c → IsGivenTo c → IsPlayed l set c → ((e : End) → (after_call e c).sender ≡ e.sender) → ((n : ℕ) → submitted_in n (end_of side k) c ≡ []) → TellNone (told_of (end_of side k) c)
@@ -65,7 +67,7 @@ tells_rests l set Nb c k plain g life keeps unsaid quiet =
     let x : Says Nb told (λ s n. looped_at s n told) k.nb c =
     says_so Nb told (λ s n. looped_at s n told) k.nb c plain life.moves_none (quiet_events Nb es quiet) (own_told Nb es (tells_no_loop k.nb c)) (other_told Nb es) unsaid (λ n. sym (events_unlooped n Nb es)) in
     called_rests l set Nb c told none k (tells_all Nb es (with_end Nb (after_call k.nb c) k)) life
-    (record { plain = plain; given = g; keeps = keeps; end_is = ap (λ (s : Seen). s.nb) same; other_is = ap (λ (s : Seen). s.ue) same; out_is = ap (λ (s : Seen). s.out) same; says = x })
+    (record { plain = plain; given = g; keeps = keeps; end_is = ap (λ (s : Seen). s.nb) same; other_is = ap (λ (s : Seen). s.ue) same; out_is = ap (λ (s : Seen). s.out) same; says = x; kinds_are = ap (λ (s : Seen). s.kinds) same; shown = shows_events l Nb k.nb c plain })
 tells_rests l set Ue c k plain g life keeps unsaid quiet =
     let es = told_of k.ue c in
     let told = map (records.Of Ue) es in
@@ -73,7 +75,7 @@ tells_rests l set Ue c k plain g life keeps unsaid quiet =
     let x : Says Ue told (λ s n. looped_at s n told) k.ue c =
     says_so Ue told (λ s n. looped_at s n told) k.ue c plain life.moves_none (quiet_events Ue es quiet) (own_told Ue es (tells_no_loop k.ue c)) (other_told Ue es) (λ n. unsaid n ∙ sym (events_unlooped n Ue es)) (λ n. refl) in
     called_rests l set Ue c told none k (tells_all Ue es (with_end Ue (after_call k.ue c) k)) life
-    (record { plain = plain; given = g; keeps = keeps; end_is = ap (λ (s : Seen). s.ue) same; other_is = ap (λ (s : Seen). s.nb) same; out_is = ap (λ (s : Seen). s.out) same; says = x })
+    (record { plain = plain; given = g; keeps = keeps; end_is = ap (λ (s : Seen). s.ue) same; other_is = ap (λ (s : Seen). s.nb) same; out_is = ap (λ (s : Seen). s.out) same; says = x; kinds_are = ap (λ (s : Seen). s.kinds) same; shown = shows_events l Ue k.ue c plain })
 
 -- an SDU that isn't refused is submitted
 pub submit_is : (lcid : ℕ) (octets : List ℕ) (e : End) → refusal lcid octets e ≡ None → submitted lcid octets e ≡ after_call e (Submit lcid octets)
@@ -108,7 +110,7 @@ module _ (l : ℕ) (set : Marks) where
   -- ---- the test loop
 
   loses_rests : (lcid : ℕ) (k : Link) → Rests l set k (loses lcid k)
-  loses_rests lcid k = says_rests l set _ k (λ bits m from sent. hushed (is_same Ue from) (gives bits (told_on m (dropped lcid ∷ []))) (unwritten bits m (dropped lcid) refl)) refl refl (λ n. refl)
+  loses_rests lcid k = says_rests l set _ k (λ bits m from sent. hushed (is_same Ue from) (gives bits (told_on m (dropped lcid ∷ []))) (unwritten bits m (dropped lcid) refl)) refl refl (λ n. refl) (λ c. refl)
 
   returns_by_rests : (r : Option SubmitRefusal) (lcid : ℕ) (octets : List ℕ) (k : Link) → refusal lcid octets k.ue ≡ r → Rests l set k (returns_by r lcid octets k)
   returns_by_rests (Some broken) lcid octets k e = loses_rests lcid k
@@ -117,7 +119,7 @@ module _ (l : ℕ) (set : Marks) where
       let x : Says Ue told (λ s n. looped_at s n told) k.ue (Submit lcid octets) =
       says_so Ue told (λ s n. looped_at s n told) k.ue (Submit lcid octets) tt refl (λ bits m from sent. refl) refl refl (λ n. loop_says (lcid == n) (refusal lcid octets k.ue) lcid octets e) (λ n. refl) in
       called_rests l set Ue (Submit lcid octets) told none k (returns_by None lcid octets k) (record { adds_none = refl; moves_none = refl; unset = λ off. refl })
-      (record { plain = tt; given = tt; keeps = λ y. refl; end_is = submit_is lcid octets k.ue e; other_is = refl; out_is = refl; says = x })
+      (record { plain = tt; given = tt; keeps = λ y. refl; end_is = submit_is lcid octets k.ue e; other_is = refl; out_is = refl; says = x; kinds_are = refl; shown = λ bits. by_sides (λ from. (p : Place) → told_in (sent_by from) l p told ≡ call_whats Ue l k.ue (Submit lcid octets) bits from) (λ p. refl) (λ p. refl) })
 
   returns_if : (b : Bool) (lcid : ℕ) (octets : List ℕ) (k : Link) → Rests l set k (if b then returns_by (refusal lcid octets k.ue) lcid octets k else loses lcid k)
   returns_if true lcid octets k = returns_by_rests (refusal lcid octets k.ue) lcid octets k refl
@@ -127,25 +129,25 @@ module _ (l : ℕ) (set : Marks) where
   returns_rests lcid octets k = returns_if (has lcid k.ue.bearers) lcid octets k
 
   returns_all_rests : (is : List Item) (k : Link) → Rests l set k (returns_all is k)
-  returns_all_rests [] k = still_rests l set k k refl refl refl
+  returns_all_rests [] k = still_rests l set k k refl refl refl (λ b s. s)
   returns_all_rests (i ∷ is) k =
       let m = returns i.lcid i.octets k in
       rests_then l set k m (returns_all is m) (returns_rests i.lcid i.octets k) (returns_all_rests is m)
 
   kept_rests : (kept : Kept) (lcid : ℕ) (k : Link) → Rests l set k (kept_by kept lcid k)
   kept_rests (Now octets) lcid k = returns_rests lcid octets k
-  kept_rests Later lcid k = still_rests l set k k refl refl refl
+  kept_rests Later lcid k = still_rests l set k k refl refl refl (λ b s. s)
   kept_rests Full lcid k = loses_rests lcid k
 
   takes_if : (b : Bool) (i : Item) (k : Link) → Rests l set k (if b then kept_by (taken_answer k.looping i.octets) i.lcid (record k { looping = after_taken k.looping i }) else k)
   takes_if true i k =
       let m : Link = record k { looping = after_taken k.looping i } in
       let kept = taken_answer k.looping i.octets in
-      rests_then l set k m (kept_by kept i.lcid m) (still_rests l set k m refl refl refl) (kept_rests kept i.lcid m)
-  takes_if false i k = still_rests l set k k refl refl refl
+      rests_then l set k m (kept_by kept i.lcid m) (still_rests l set k m refl refl refl (λ b s. s)) (kept_rests kept i.lcid m)
+  takes_if false i k = still_rests l set k k refl refl refl (λ b s. s)
 
   takes_all_rests : (is : List Item) (k : Link) → Rests l set k (takes_all is k)
-  takes_all_rests [] k = still_rests l set k k refl refl refl
+  takes_all_rests [] k = still_rests l set k k refl refl refl (λ b s. s)
   takes_all_rests (i ∷ is) k =
       let m = takes i k in
       rests_then l set k m (takes_all is m) (takes_if (is_on k.looping.mode) i k) (takes_all_rests is m)
@@ -154,20 +156,20 @@ module _ (l : ℕ) (set : Marks) where
   unfolding loops
   loops_rests k =
       let m : Link = record k { ups = [] } in
-      rests_then l set k m (takes_all k.ups m) (still_rests l set k m refl refl refl) (takes_all_rests k.ups m)
+      rests_then l set k m (takes_all k.ups m) (still_rests l set k m refl refl refl (λ b s. s)) (takes_all_rests k.ups m)
 
   pays_rests : (k : Link) → Rests l set k (pays k)
   unfolding pays
   pays_rests k =
       let m : Link = record k { looping = paid k.looping } in
       let is = owed k.looping in
-      rests_then l set k m (returns_all is m) (still_rests l set k m refl refl refl) (returns_all_rests is m)
+      rests_then l set k m (returns_all is m) (still_rests l set k m refl refl refl (λ b s. s)) (returns_all_rests is m)
 
   pub loop_set_rests : (mode : Mode) (k : Link) → Rests l set k (loop_set mode k)
   unfolding loop_set
   loop_set_rests mode k =
       let m : Link = record k { looping = after_set k.looping mode } in
-      rests_then l set k m (pays m) (still_rests l set k m refl refl refl) (pays_rests m)
+      rests_then l set k m (pays m) (still_rests l set k m refl refl refl (λ b s. s)) (pays_rests m)
 
   -- ---- timers of a TTI
 
@@ -183,7 +185,7 @@ module _ (l : ℕ) (set : Marks) where
 
   keeps_if : (b : Bool) (k : Link) → Rests l set k (if b then loops k else k)
   keeps_if true k = loops_rests k
-  keeps_if false k = still_rests l set k k refl refl refl
+  keeps_if false k = still_rests l set k k refl refl refl (λ b s. s)
 
   timed_rests : (k : Link) → Rests l set k (timed k)
   unfolding timed
@@ -192,18 +194,18 @@ module _ (l : ℕ) (set : Marks) where
       let m = times Nb j in
       let n = times Ue m in
       let o = keeps_first n in
-      let to_m = rests_then l set k j m (still_rests l set k j refl refl refl) (times_rests Nb j) in
+      let to_m = rests_then l set k j m (still_rests l set k j refl refl refl (λ b s. s)) (times_rests Nb j) in
       let to_n = rests_then l set k m n to_m (times_rests Ue m) in
       rests_then l set k o (pays o) (rests_then l set k n o to_n (keeps_if (is_keeping n.looping.mode) n)) (pays_rests o)
 
   sleep_rests : (asleep : Bool) (k : Link) → Rests l set k (tells_sleep asleep k)
-  sleep_rests true k = says_rests l set records.Sleep k (λ bits m from sent. refl) refl refl (λ n. refl)
-  sleep_rests false k = still_rests l set k k refl refl refl
+  sleep_rests true k = says_rests l set records.Sleep k (λ bits m from sent. refl) refl refl (λ n. refl) (λ c. refl)
+  sleep_rests false k = still_rests l set k k refl refl refl (λ b s. s)
 
   begins_rests : (k : Link) → Rests l set k (begins k)
   begins_rests k =
       let m : Link = record k { ttis = k.ttis + 1 } in
-      rests_then l set k m (begins k) (still_rests l set k m refl refl refl) (says_rests l set (records.Tti k.ttis) m (λ bits n from sent. refl) refl refl (λ n. refl))
+      rests_then l set k m (begins k) (still_rests l set k m refl refl refl (λ b s. s)) (says_rests l set (records.Tti k.ttis) m (λ bits n from sent. refl) refl refl (λ n. refl) (λ c. refl))
 
   -- what comes before the blocks of a TTI
   pub woken_rests : (asleep : Bool) (k : Link) → Rests l set k (timed (tells_sleep asleep (begins k)))
@@ -221,7 +223,7 @@ module _ (l : ℕ) (set : Marks) where
   -- ---- a timer expires
 
   expires_if : (r : Option (List Event)) (side : Side) (k : Link) → Rests l set (tells_all side (unwrap_or r []) k) (expires_by r side k)
-  expires_if None side k = still_rests l set k k refl refl refl
+  expires_if None side k = still_rests l set k k refl refl refl (λ b s. s)
   expires_if (Some events) side k = loops_rests (tells_all side events k)
 
   pub expires_rests : (side : Side) (lcid : ℕ) (clock : Clock) (k : Link) → Rests l set k (expires side lcid clock k)
@@ -234,21 +236,21 @@ module _ (l : ℕ) (set : Marks) where
 
   timer_if : (b : Bool) (side : Side) (clock : Clock) (lcid : ℕ) (k : Link) → Rests l set k (if b then expires side lcid clock k else k)
   timer_if true side clock lcid k = expires_rests side lcid clock k
-  timer_if false side clock lcid k = still_rests l set k k refl refl refl
+  timer_if false side clock lcid k = still_rests l set k k refl refl refl (λ b s. s)
 
   timer_rests : (side : Side) (clock : Clock) (lcid : ℕ) (k : Link) → Rests l set k (timer_expires side clock lcid k)
   unfolding timer_expires
   timer_rests side clock lcid k = timer_if (has lcid (end_of side k).bearers) side clock lcid k
 
   all_receivers_rest : (side : Side) (lcids : List ℕ) (k : Link) → Rests l set k (all_receivers_expire side lcids k)
-  all_receivers_rest side [] k = still_rests l set k k refl refl refl
+  all_receivers_rest side [] k = still_rests l set k k refl refl refl (λ b s. s)
   all_receivers_rest side (lcid ∷ lcids) k =
       let m = timer_expires side Reorder lcid k in
       let n = receiver_expires side lcid k in
       rests_then l set k n (all_receivers_expire side lcids n) (rests_then l set k m n (timer_rests side Reorder lcid k) (timer_rests side Prohibit lcid m)) (all_receivers_rest side lcids n)
 
   all_senders_rest : (side : Side) (lcids : List ℕ) (k : Link) → Rests l set k (all_senders_expire side lcids k)
-  all_senders_rest side [] k = still_rests l set k k refl refl refl
+  all_senders_rest side [] k = still_rests l set k k refl refl refl (λ b s. s)
   all_senders_rest side (lcid ∷ lcids) k =
       let m = timer_expires side Poll lcid k in
       rests_then l set k m (all_senders_expire side lcids m) (timer_rests side Poll lcid k) (all_senders_rest side lcids m)
@@ -281,26 +283,26 @@ module _ (l : ℕ) (set : Marks) where
 
   pub listens_rests : (c : DrxConfig) (k : Link) → Rests l set k (listens c k)
   unfolding listens
-  listens_rests c k = still_rests l set k (listens c k) refl refl refl
+  listens_rests c k = still_rests l set k (listens c k) refl refl refl (λ b s. s)
 
   submits_by_hands : (broken : Option SubmitRefusal) (side : Side) (lcid : ℕ) (sdu : List ℕ) (k : Link) → refusal lcid sdu (end_of side k) ≡ broken → (n u : Moment)
       → Hands l set (handed_by side lcid sdu k) (Stands Nb n) (Stands Ue u) (Stands Nb n) (Stands Ue u) k (submits_by broken side lcid sdu k)
   submits_by_hands (Some broken) side lcid sdu k e n u =
       let P = Stands Nb n in
       let Q = Stands Ue u in
-      hands_none l set (handed_by side lcid sdu k) P Q P Q k (submits_by (Some broken) side lcid sdu k) (refused_none side lcid sdu k broken e) (says_stage l set (records.Refused side lcid (no_place broken)) k P Q (λ bits m from sent. refl) refl refl (λ i. refl))
+      hands_none l set (handed_by side lcid sdu k) P Q P Q k (submits_by (Some broken) side lcid sdu k) (refused_none side lcid sdu k broken e) (says_stage l set (records.Refused side lcid (no_place broken)) k P Q (λ bits m from sent. refl) refl refl (λ i. refl) (λ c. refl))
   submits_by_hands None Nb lcid sdu k e n u =
       let given = handed_by Nb lcid sdu k in
       let x : Says Nb [] (λ s i. given s i ++ looped_at s i []) k.nb (Submit lcid sdu) =
       says_so Nb [] (λ s i. given s i ++ looped_at s i []) k.nb (Submit lcid sdu) tt refl none_flown refl refl (λ i. sym (append-nil (submitted_in i k.nb (Submit lcid sdu)))) (λ i. refl) in
       called_nb l set (Submit lcid sdu) [] given k (submits_by None Nb lcid sdu k) n (Stands Ue u) (record { adds_none = refl; moves_none = refl; unset = λ off. refl })
-      (record { plain = tt; given = tt; keeps = λ y. refl; end_is = submit_is lcid sdu k.nb e; other_is = refl; out_is = sym (append-nil k.out); says = x })
+      (record { plain = tt; given = tt; keeps = λ y. refl; end_is = submit_is lcid sdu k.nb e; other_is = refl; out_is = sym (append-nil k.out); says = x; kinds_are = refl; shown = shows_nothing l Nb k.nb (Submit lcid sdu) tt refl })
   submits_by_hands None Ue lcid sdu k e n u =
       let given = handed_by Ue lcid sdu k in
       let x : Says Ue [] (λ s i. given s i ++ looped_at s i []) k.ue (Submit lcid sdu) =
       says_so Ue [] (λ s i. given s i ++ looped_at s i []) k.ue (Submit lcid sdu) tt refl none_flown refl refl (λ i. sym (append-nil (submitted_in i k.ue (Submit lcid sdu)))) (λ i. refl) in
       called_ue l set (Submit lcid sdu) [] given k (submits_by None Ue lcid sdu k) (Stands Nb n) u (record { adds_none = refl; moves_none = refl; unset = λ off. refl })
-      (record { plain = tt; given = tt; keeps = λ y. refl; end_is = submit_is lcid sdu k.ue e; other_is = refl; out_is = sym (append-nil k.out); says = x })
+      (record { plain = tt; given = tt; keeps = λ y. refl; end_is = submit_is lcid sdu k.ue e; other_is = refl; out_is = sym (append-nil k.out); says = x; kinds_are = refl; shown = shows_nothing l Ue k.ue (Submit lcid sdu) tt refl })
 
   pub submitting_hands : (side : Side) (lcid : ℕ) (sdu : List ℕ) (k : Link) (n u : Moment)
       → Hands l set (handed_by side lcid sdu k) (Stands Nb n) (Stands Ue u) (Stands Nb n) (Stands Ue u) k (submitting side lcid sdu k)

@@ -258,6 +258,7 @@ module _ (side : Side) (t : Turn) (s : Station) (h : IsStation side (until t.tti
     pub block : Block
     pub there : slice_get (built_at v t (visited t.tti t.order s.end) ++ left_by v t.tti s) place ≡ Some block
     pub octets_are : block.octets ≡ sent_at t.tti (built t.tti t.grant t.order s.end)
+    pub process_is : block.process ≡ t.tti % 8
 
   pub sends_new : visit t.tti t.order s.end ≡ New → Sends New
   sends_new e = record {
@@ -265,6 +266,7 @@ module _ (side : Side) (t : Turn) (s : Station) (h : IsStation side (until t.tti
     block = record { process = t.tti % 8; octets = new_block (visited t.tti t.order s.end) t.grant; age = 0 };
     there = refl;
     octets_are = sym (block_is t.tti t.grant t.order s.end (come_eight side s.end h.come) e);
+    process_is = refl;
   }
 
   resent_octets : (rv : ℕ) (x : IsResent rv (process_at s.end.sender t.tti) (process_visited t.order (process_at s.end.sender t.tti)).held) → visit t.tti t.order s.end ≡ Resend rv
@@ -290,4 +292,5 @@ module _ (side : Side) (t : Turn) (s : Station) (h : IsStation side (until t.tti
         block = f.block;
         there = f.there;
         octets_are = sym held.octets_are ∙ ap (λ (b : HeldBlock). b.octets) same ∙ sym (resent_octets rv x e);
+        process_is = f.process_is;
       }

@@ -17,13 +17,14 @@ use Rattle.am_arrival_laws.specs.Lives.{Happening}
 use Rattle.channel_laws.specs.Arrival.{happened}
 use Rattle.channel_laws.specs.Lives.{lives}
 use Rattle.air_laws.specs.Arrival.{told_by_step}
+use Rattle.um_losses_laws.specs.Whats.{whats}
 use Rattle.air_laws.specs.Going.{handed_in, looped_at, sets, TellAlone, GoesByAir, IsStepSince}
 use Rattle.air_laws.specs.Lives.{IsAtRest}
 use Rattle.air_laws.specs.On.{IsOn}
 use Rattle.air_laws.specs.Staying.{AreInLife, hands_over, MovesOn}
 use Rattle.air_laws.proofs.Advancing.{steps_stay, handovers_move}
-use Rattle.air_laws.proofs.Going.{setting, Unread, GoesBehind, behind_then}
-use Rattle.air_laws.proofs.Lived.{either_off, same_on}
+use Rattle.air_laws.proofs.Going.{setting, Unread, Whats, GoesBehind, behind_then}
+use Rattle.air_laws.proofs.Coming.{either_off, same_on}
 use Rattle.air_laws.proofs.Lives.{calls_rest}
 
 -- since both ends were these, in one life, a link has come by air to what it is
@@ -76,11 +77,11 @@ pub record LivesOnIn (l : ℕ) (nb ue : End) (told : List Record) (submitted : S
   pub alone : TellAlone l more
   pub lived : LivedIn l nb ue (told ++ more) (λ side n. submitted side n ++ (handed_in side n s k ++ looped_at side n more)) (set || sets l s) (step s k)
 
-abbrev Goes : ℕ → Bool → List Record → (Side → ℕ → List (List ℕ)) → Air → Air → Type 0
-Goes l set told given a b = GoesBehind l (setting set) Unread told given a b
+abbrev Goes : ℕ → Bool → List Record → (Side → ℕ → List (List ℕ)) → Whats → Air → Air → Type 0
+Goes l set told given ws a b = GoesBehind l (setting set) Unread told given ws a b
 
 goes_in : (l : ℕ) (told : List Record) (submitted : Side → ℕ → List (List ℕ)) (said : ℕ → Side → List Happening) (set whole : Bool) (m : Link) (a : Air) (x : GoesByAir l told submitted said set m a) → AreInLife x.steps
-    → (whole ≡ false → set ≡ false) → Goes l whole told submitted a (lives x.steps a)
+    → (whole ≡ false → set ≡ false) → Goes l whole told submitted (λ bits from. whats from l bits x.steps a) a (lives x.steps a)
 goes_in l told submitted said set whole m a x own off = record {
   steps = x.steps;
   living = x.living;
@@ -89,12 +90,13 @@ goes_in l told submitted said set whole m a x own off = record {
   sets_none = λ e. x.sets_none (off e);
   stays = λ e. own;
   reads = λ bits from sent fits. absurd fits;
+  whats_are = λ bits from. refl;
   air_is = refl;
 }
 
-lived_by : (l : ℕ) (nb ue : End) (told : List Record) (submitted : Side → ℕ → List (List ℕ)) (set : Bool) (m : Link) (b : Air) → Goes l set told submitted (outset nb ue) b → IsOn m b
+lived_by : (l : ℕ) (nb ue : End) (told : List Record) (submitted : Side → ℕ → List (List ℕ)) (set : Bool) (m : Link) {ws : Whats} (b : Air) → Goes l set told submitted ws (outset nb ue) b → IsOn m b
     → LivedIn l nb ue told submitted set m
-lived_by l nb ue told submitted set m b x on = record {
+lived_by l nb ue told submitted set m {ws} b x on = record {
   said = λ bits from. happened bits l from x.steps (outset nb ue);
   by = record { steps = x.steps; living = x.living; told_is = x.told_is; submitted_is = x.submitted_is; happened_is = λ bits from. refl; sets_none = x.sets_none; on = subst (IsOn m) (sym x.air_is) on };
   in_life = x.stays refl;

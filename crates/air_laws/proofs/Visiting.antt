@@ -1,5 +1,5 @@
 -- The downlink and the uplink of a TTI as steps of both ends.
-use Rattle.std.proofs.Common.{◌≡◌, ◌≤◌, ℕ, ◌==◌, Bool, true, false, ◌&&◌, cond, if◌then◌else◌, Option, Some, None, List, [], ◌∷◌, ◌++◌, map, append-nil, refl, ap, sym, subst, arith, ◌∙◌}
+use Rattle.std.proofs.Common.{◌≡◌, ◌≤◌, ℕ, ◌%◌, ◌==◌, Bool, true, false, ◌&&◌, cond, if◌then◌else◌, Option, Some, None, List, [], ◌∷◌, ◌++◌, map, append-nil, refl, ap, sym, subst, arith, ◌∙◌}
 use Rattle.std.specs.Prelude.{slice_get}
 use Rattle.std.specs.List.{AllByRecursion, flat_map}
 use Rattle.std.proofs.lemmas.Grind.{flat_map-append}
@@ -34,6 +34,7 @@ use Rattle.air_link.specs.Uplink.{up_order, is_intact, told_as as up_told_as, gr
 use Rattle.link_laws.specs.Counts.{is_looped}
 use Rattle.link_laws.specs.Ends.{told_by}
 use Rattle.link_laws.specs.Loops.{looped}
+use Rattle.link_laws.proofs.Blocks.{block_is}
 use Rattle.link_laws.proofs.Going.{own_told, other_told, told_both, Seen}
 use Rattle.link_laws.proofs.Returning.{IsSilent}
 use Rattle.link_laws.proofs.Blocks.{block_is}
@@ -56,7 +57,9 @@ use Rattle.link_laws.specs.Zero.{sent_last}
 use Rattle.air_laws.specs.Arrival.{sender_of, only_if, tells_at, tells_in}
 use Rattle.air_laws.proofs.Going.{Marks, Behind, Any, Block', ended, last_in, tells_more, none}
 use Rattle.air_laws.proofs.Resting.{call_rests}
-use Rattle.air_laws.proofs.Stages.{StageBehind, stages_then, last_more, says_behind, still_behind, called_nb_behind, called_ue_behind, unlooped_by, events_unlooped, looped_more, Stands, Stage, stage_then, says_stage, says_nothing, Flown, hears_ue, hears_nb, Visiting, visit_nb, visit_ue, done_nb, done_ue, answer_to}
+use Rattle.air_laws.proofs.Showing.{IsSending, visit_shows, quiet_shows, visit_behind}
+use Rattle.air_laws.proofs.Stages.{StageBehind, stages_then, last_more, says_behind, still_behind, called_nb_behind, called_ue_behind, unlooped_by, events_unlooped, looped_more, Stands, Stage, stage_then, says_stage, says_nothing, shows_nothing}
+use Rattle.air_laws.proofs.Blocks.{Flown, hears_ue, hears_nb, Visiting, visit_nb, visit_ue, done_nb, done_ue, answer_to}
 use Rattle.air_laws.proofs.Stations.{come_eight, Moment, Waits, Done, left_by, Sends, sends_new, sends_again}
 
 -- ---- a visit, with the feedback on what is sent
@@ -73,12 +76,13 @@ IsLoud v = (t : Turn) (e : End) → answered v t e ≡ fed t.tti t.good e
 
 -- the block that is sent is under way
 abbrev IsSent : Visit → Side → Turn → End → Type 0
-IsSent v side t e = (s : Station) → Visiting side t e s → Flown (block_at t.tti (built t.tti t.grant t.order e)) s
+IsSent v side t e = (s : Station) → Visiting side t e s → Flown (block_at t.tti (built t.tti t.grant t.order e)) (t.tti % 8) s
 
-flown_by : (v : Visit) (side : Side) (t : Turn) (e : End) (s : Station) (h : Visiting side t e s) → answer_to t h.was.end ≡ v → Sends side t h.was h.stands v → Flown (block_at t.tti (built t.tti t.grant t.order e)) s
+flown_by : (v : Visit) (side : Side) (t : Turn) (e : End) (s : Station) (h : Visiting side t e s) → answer_to t h.was.end ≡ v → Sends side t h.was h.stands v → Flown (block_at t.tti (built t.tti t.grant t.order e)) (t.tti % 8) s
 flown_by v side t e s h is x = record {
   place = x.place;
   block = x.block;
+  process_is = x.process_is;
   there = ap (λ (y : Station). slice_get y.blocks x.place) h.is
       ∙ ap (λ (w : Visit). slice_get (built_at w t (visited t.tti t.order h.was.end) ++ left_by w t.tti h.was) x.place) is ∙ x.there;
   octets_are = x.octets_are ∙ ap (λ (y : End). block_at t.tti (built t.tti t.grant t.order y)) h.end_is;
@@ -171,18 +175,12 @@ events_leave : (side : Side) (es : List Event) (sent : List ℕ) → last_in (ma
 events_leave side [] sent = refl
 events_leave side (e ∷ es) sent = events_leave side es sent
 
--- a visit in which a block is sent
-abbrev SendsIt : Visit → Type 0
-SendsIt New = Unit {0}
-SendsIt (Resend rv) = Unit {0}
-SendsIt Quiet = ⊥
-
-sent_leave : (v : Visit) (side : Side) (t : ℕ) (kinds : List (Option Layout)) (octets sent' : List ℕ) → SendsIt v → last_in (sent v side t kinds octets) sent' ≡ octets
+sent_leave : (v : Visit) (side : Side) (t : ℕ) (kinds : List (Option Layout)) (octets sent' : List ℕ) → IsSending v → last_in (sent v side t kinds octets) sent' ≡ octets
 sent_leave New side t kinds octets sent' s = shown_leave (block_shown (sent_by side) kinds octets) (block_shows kinds (reading (sent_by side) octets)) octets
 sent_leave (Resend rv) side t kinds octets sent' s = refl
 sent_leave Quiet side t kinds octets sent' s = absurd s
 
-visit_last : (v : Visit) (side : Side) (t : Turn) (kinds : List (Option Layout)) (octets : List ℕ) (e : End) (sent' : List ℕ) → SendsIt v
+visit_last : (v : Visit) (side : Side) (t : Turn) (kinds : List (Option Layout)) (octets : List ℕ) (e : End) (sent' : List ℕ) → IsSending v
     → last_in (visit_records v side t.tti t.grant t.order kinds octets e) sent' ≡ octets
 visit_last v side t kinds octets e sent' s =
     sym (last_more (map (records.Of side) (building t.tti t.grant t.order e)) (sent v side t.tti kinds octets) sent')
@@ -279,10 +277,10 @@ module _ (l : ℕ) (set : Marks) where
 
   -- what comes to the terminal's receiver
   came_stage : (f : Fate) (t : ℕ) (ndi good : Bool) (n : Link) (P : Station → Type 0) (u : Moment) → (b : Behind) → ended b ≡ [] → StageBehind l set b b P (Stands Ue u) P (Stands Ue u) (feeds Nb t good n) (feeds Nb t good (comes f t ndi n))
-  came_stage Miss t ndi good n P u b open' = still_behind l set b (feeds Nb t good n) (feeds Nb t good n) P (Stands Ue u) open' refl refl refl
+  came_stage Miss t ndi good n P u b open' = still_behind l set b (feeds Nb t good n) (feeds Nb t good n) P (Stands Ue u) open' refl refl refl (λ b s. s)
   came_stage Ok t ndi good n P u b open' =
       let same = comes_seen Ok t ndi n in
-      called_ue_behind l set b (Assigned t ndi true) [] none (feeds Nb t good n) (feeds Nb t good (comes Ok t ndi n)) P u open' (λ sent fits. fits) (record { adds_none = refl; moves_none = refl; unset = λ off. refl })
+      called_ue_behind l set b (Assigned t ndi true) [] none (feeds Nb t good n) (feeds Nb t good (comes Ok t ndi n)) P u open' (λ sent fits. fits) (λ p at. at) (record { adds_none = refl; moves_none = refl; unset = λ off. refl })
       (record {
         plain = tt;
         given = tt;
@@ -291,10 +289,12 @@ module _ (l : ℕ) (set : Marks) where
         other_is = ap (λ (s : Seen). fed t good s.nb) same;
         out_is = ap (λ (s : Seen). s.out) same ∙ sym (append-nil n.out);
         says = says_nothing Ue n.ue (Assigned t ndi true) tt refl refl (λ i. refl);
+        kinds_are = ap (λ (s : Seen). s.kinds) same;
+        shown = shows_nothing l Ue n.ue (Assigned t ndi true) tt refl;
       })
   came_stage Bad t ndi good n P u b open' =
       let same = comes_seen Bad t ndi n in
-      called_ue_behind l set b (Assigned t ndi false) [] none (feeds Nb t good n) (feeds Nb t good (comes Bad t ndi n)) P u open' (λ sent fits. fits) (record { adds_none = refl; moves_none = refl; unset = λ off. refl })
+      called_ue_behind l set b (Assigned t ndi false) [] none (feeds Nb t good n) (feeds Nb t good (comes Bad t ndi n)) P u open' (λ sent fits. fits) (λ p at. at) (record { adds_none = refl; moves_none = refl; unset = λ off. refl })
       (record {
         plain = tt;
         given = tt;
@@ -303,17 +303,19 @@ module _ (l : ℕ) (set : Marks) where
         other_is = ap (λ (s : Seen). fed t good s.nb) same;
         out_is = ap (λ (s : Seen). s.out) same ∙ sym (append-nil n.out);
         says = says_nothing Ue n.ue (Assigned t ndi false) tt refl refl (λ i. refl);
+        kinds_are = ap (λ (s : Seen). s.kinds) same;
+        shown = shows_nothing l Ue n.ue (Assigned t ndi false) tt refl;
       })
 
   -- what comes of it is told, and where it is got the terminal hears it
-  lands_stage : (a : Answer) (octets : List ℕ) (heard : Option Bool) (k : Link) (P : Station → Type 0) (u : Moment) → ((s : Station) → P s → Flown octets s)
-      → StageBehind l set (Block' octets) Any P (Stands Ue u) P (Stands Ue u) k (hears_by a octets (says (records.Air directions.Down (told_as a) heard) k))
-  lands_stage Up octets heard k P u flown = hears_ue l set octets heard k P u flown
-  lands_stage Again octets heard k P u flown = says_behind l set (Block' octets) (records.Air directions.Down arriveds.Dup heard) k P (Stands Ue u) refl (λ bits m from sent. refl) refl refl (λ n. refl)
-  lands_stage Damaged octets heard k P u flown = says_behind l set (Block' octets) (records.Air directions.Down arriveds.Bad heard) k P (Stands Ue u) refl (λ bits m from sent. refl) refl refl (λ n. refl)
-  lands_stage Nothing octets heard k P u flown = says_behind l set (Block' octets) (records.Air directions.Down arriveds.Nothing heard) k P (Stands Ue u) refl (λ bits m from sent. refl) refl refl (λ n. refl)
+  lands_stage : (a : Answer) (octets : List ℕ) (v : ℕ) (heard : Option Bool) (k : Link) (P : Station → Type 0) (u : Moment) → ((s : Station) → P s → Flown octets v s)
+      → StageBehind l set (Block' octets v) Any P (Stands Ue u) P (Stands Ue u) k (hears_by a octets (says (records.Air directions.Down (told_as a) heard) k))
+  lands_stage Up octets v heard k P u flown = hears_ue l set octets v heard k P u flown
+  lands_stage Again octets v heard k P u flown = says_behind l set (Block' octets v) (records.Air directions.Down arriveds.Dup heard) k P (Stands Ue u) refl (λ bits m from sent. refl) refl refl (λ n. refl) (λ c. refl)
+  lands_stage Damaged octets v heard k P u flown = says_behind l set (Block' octets v) (records.Air directions.Down arriveds.Bad heard) k P (Stands Ue u) refl (λ bits m from sent. refl) refl refl (λ n. refl) (λ c. refl)
+  lands_stage Nothing octets v heard k P u flown = says_behind l set (Block' octets v) (records.Air directions.Down arriveds.Nothing heard) k P (Stands Ue u) refl (λ bits m from sent. refl) refl refl (λ n. refl) (λ c. refl)
 
-  goes_down : (v : Visit) (t grant : ℕ) (order : Order) (o : Outcome) (ndi : Bool) (octets : List ℕ) (k : Link) (u : Moment) → visit t order k.nb ≡ v → IsLoud v → SendsIt v → ((good : Bool) → IsSent v Nb (turn_of t grant order good) k.nb)
+  goes_down : (v : Visit) (t grant : ℕ) (order : Order) (o : Outcome) (ndi : Bool) (octets : List ℕ) (k : Link) (u : Moment) → visit t order k.nb ≡ v → IsLoud v → IsSending v → ((good : Bool) → IsSent v Nb (turn_of t grant order good) k.nb)
       → octets ≡ block_at t (built t grant order k.nb) → grant ≤ 9422 → IsEnough order grant
       → Stage l set (Stands Nb (Waits t)) (Stands Ue u) (Stands Nb (Done t)) (Stands Ue u) k (lands t o ndi octets (sends v Nb t octets (unseen v t (builds Nb t grant order k))))
   goes_down v t grant order o ndi octets k u is loud sends_it flown octets_are within enough =
@@ -332,8 +334,8 @@ module _ (l : ℕ) (set : Marks) where
       let Q = Stands Ue u in
       let W = Stands Nb (Waits t) in
       let D = Stands Nb (Done t) in
-      let B = Block' octets in
-      let first : StageBehind l set Any B W Q P Q k f = visit_nb l set B turn more k f Q (λ sent. visit_last v Nb turn k.kinds octets k.nb sent sends_it) (record {
+      let B = Block' octets (t % 8) in
+      let first : StageBehind l set Any B W Q P Q k f = visit_nb l set B turn more k f Q (λ sent. visit_last v Nb turn k.kinds octets k.nb sent sends_it) (λ p. visit_behind v Nb turn k.kinds octets k.nb p sends_it) (record {
         given = (within, enough);
         end_is = ap (λ (s : Seen). fed t good s.nb) same ∙ fed_is v turn k.nb is loud;
         other_is = ap (λ (s : Seen). s.ue) same;
@@ -343,8 +345,10 @@ module _ (l : ℕ) (set : Marks) where
         unlooped = λ n. visit_unlooped v Nb turn k.kinds octets k.nb n;
         says = λ bits j sent come. visit_says v bits j Nb turn k.kinds octets k.nb sent is come octets_are;
         hears = λ bits j sent. sym (visit_hears v bits j Nb turn k.kinds octets k.nb sent);
+        kinds_are = ap (λ (s : Seen). s.kinds) same;
+        shown = visit_shows v l Nb turn k.kinds octets k.nb is octets_are;
       }) in
-      let landed : StageBehind l set B Any P Q P Q q z = lands_stage a octets (Some good) q P u (λ s h. subst (λ (x : List ℕ). Flown x s) (sym octets_are) (flown good s h)) in
+      let landed : StageBehind l set B Any P Q P Q q z = lands_stage a octets (t % 8) (Some good) q P u (λ s h. subst (λ (x : List ℕ). Flown x (t % 8) s) (sym octets_are) (flown good s h)) in
       let to_q = stages_then l set Any B B refl W Q P Q P Q k f q first (came_stage o.fate t ndi good n P u B refl) in
       let to_z = stages_then l set Any B Any refl W Q P Q P Q k q z to_q landed in
       stage_then l set W Q P Q D Q k z z to_z (done_nb l set turn k.nb z Q)
@@ -358,7 +362,7 @@ module _ (l : ℕ) (set : Marks) where
       let es = building t grant order k.nb in
       let Q = Stands Ue u in
       stage_then l set (Stands Nb (Waits t)) Q (Visiting Nb turn k.nb) Q (Stands Nb (Done t)) Q k m m
-      (visit_nb l set Any turn (map (records.Of Nb) es) k m Q (λ sent. tt) (record {
+      (visit_nb l set Any turn (map (records.Of Nb) es) k m Q (λ sent. tt) (λ p. tt) (record {
         given = (within, enough);
         end_is = ap (λ (s : Seen). s.nb) same ∙ quiet_is turn k.nb is;
         other_is = ap (λ (s : Seen). s.ue) same;
@@ -368,6 +372,8 @@ module _ (l : ℕ) (set : Marks) where
         unlooped = λ n. events_unlooped n Nb es;
         says = λ bits j sent come. quiet_says bits j Nb turn k.nb sent is;
         hears = λ bits j sent. sym (others_tell bits j Nb es sent);
+        kinds_are = ap (λ (s : Seen). s.kinds) same;
+        shown = λ come. quiet_shows l Nb turn k.kinds k.nb is;
       }))
       (done_nb l set turn k.nb m Q)
 
@@ -391,13 +397,13 @@ module _ (l : ℕ) (set : Marks) where
 
   -- ---- the uplink
 
-  rises_stage : (good : Bool) (octets : List ℕ) (heard : Option Bool) (k : Link) (n : Moment) (Q : Station → Type 0) → ((s : Station) → Q s → Flown octets s)
-      → StageBehind l set (Block' octets) Any (Stands Nb n) Q (Stands Nb n) Q k (hears_if good octets (says (records.Air directions.Up (up_told_as good) heard) k))
-  rises_stage true octets heard k n Q flown = hears_nb l set octets heard k n Q flown
-  rises_stage false octets heard k n Q flown =
-      says_behind l set (Block' octets) (records.Air directions.Up arriveds.Bad heard) k (Stands Nb n) Q refl (λ bits m from sent. refl) refl refl (λ n. refl)
+  rises_stage : (good : Bool) (octets : List ℕ) (v : ℕ) (heard : Option Bool) (k : Link) (n : Moment) (Q : Station → Type 0) → ((s : Station) → Q s → Flown octets v s)
+      → StageBehind l set (Block' octets v) Any (Stands Nb n) Q (Stands Nb n) Q k (hears_if good octets (says (records.Air directions.Up (up_told_as good) heard) k))
+  rises_stage true octets v heard k n Q flown = hears_nb l set octets v heard k n Q flown
+  rises_stage false octets v heard k n Q flown =
+      says_behind l set (Block' octets v) (records.Air directions.Up arriveds.Bad heard) k (Stands Nb n) Q refl (λ bits m from sent. refl) refl refl (λ n. refl) (λ c. refl)
 
-  goes_up : (v : Visit) (t grant : ℕ) (order : Order) (o : Outcome) (octets : List ℕ) (k : Link) (m : Moment) → visit t order k.ue ≡ v → IsLoud v → SendsIt v → ((good : Bool) → IsSent v Ue (turn_of t grant order good) k.ue)
+  goes_up : (v : Visit) (t grant : ℕ) (order : Order) (o : Outcome) (octets : List ℕ) (k : Link) (m : Moment) → visit t order k.ue ≡ v → IsLoud v → IsSending v → ((good : Bool) → IsSent v Ue (turn_of t grant order good) k.ue)
       → octets ≡ block_at t (built t grant order k.ue) → grant ≤ 9422 → IsEnough order grant
       → Stage l set (Stands Nb m) (Stands Ue (Waits t)) (Stands Nb m) (Stands Ue (Done t)) k (up_aired t o.flipped (is_intact o.fate) octets (sends v Ue t octets (awake v t (builds Ue t grant order k))))
   goes_up v t grant order o octets k m is loud sends_it flown octets_are within enough =
@@ -416,8 +422,8 @@ module _ (l : ℕ) (set : Marks) where
       let Q = Visiting Ue turn k.ue in
       let W = Stands Ue (Waits t) in
       let D = Stands Ue (Done t) in
-      let B = Block' octets in
-      let first : StageBehind l set Any B P W P Q k f = visit_ue l set B turn more k f P (λ sent. visit_last v Ue turn k.kinds octets k.ue sent sends_it) (record {
+      let B = Block' octets (t % 8) in
+      let first : StageBehind l set Any B P W P Q k f = visit_ue l set B turn more k f P (λ sent. visit_last v Ue turn k.kinds octets k.ue sent sends_it) (λ p. visit_behind v Ue turn k.kinds octets k.ue p sends_it) (record {
         given = (within, enough);
         end_is = ap (λ (s : Seen). fed t good s.ue) same ∙ fed_is v turn k.ue is loud;
         other_is = ap (λ (s : Seen). s.nb) same;
@@ -427,10 +433,12 @@ module _ (l : ℕ) (set : Marks) where
         unlooped = λ n. visit_unlooped v Ue turn k.kinds octets k.ue n;
         says = λ bits j sent come. visit_says v bits j Ue turn k.kinds octets k.ue sent is come octets_are;
         hears = λ bits j sent. sym (visit_hears v bits j Ue turn k.kinds octets k.ue sent);
+        kinds_are = ap (λ (s : Seen). s.kinds) same;
+        shown = visit_shows v l Ue turn k.kinds octets k.ue is octets_are;
       }) in
-      let brought : StageBehind l set B B P Q P Q f q = called_nb_behind l set B (Granted t (Some intact)) [] none f q m Q refl (λ sent fits. fits) (record { adds_none = refl; moves_none = refl; unset = λ off. refl })
-      (record { plain = tt; given = tt; keeps = λ e. refl; end_is = refl; other_is = refl; out_is = sym (append-nil n.out); says = says_nothing Nb f.nb (Granted t (Some intact)) tt refl refl (λ i. refl) }) in
-      let risen : StageBehind l set B Any P Q P Q q z = rises_stage intact octets (Some good) q m Q (λ s h. subst (λ (x : List ℕ). Flown x s) (sym octets_are) (flown good s h)) in
+      let brought : StageBehind l set B B P Q P Q f q = called_nb_behind l set B (Granted t (Some intact)) [] none f q m Q refl (λ sent fits. fits) (λ p at. at) (record { adds_none = refl; moves_none = refl; unset = λ off. refl })
+      (record { plain = tt; given = tt; keeps = λ e. refl; end_is = refl; other_is = refl; out_is = sym (append-nil n.out); says = says_nothing Nb f.nb (Granted t (Some intact)) tt refl refl (λ i. refl); kinds_are = refl; shown = shows_nothing l Nb f.nb (Granted t (Some intact)) tt refl }) in
+      let risen : StageBehind l set B Any P Q P Q q z = rises_stage intact octets (t % 8) (Some good) q m Q (λ s h. subst (λ (x : List ℕ). Flown x (t % 8) s) (sym octets_are) (flown good s h)) in
       let to_q = stages_then l set Any B B refl P W P Q P Q k f q first brought in
       let to_z = stages_then l set Any B Any refl P W P Q P Q k q z to_q risen in
       stage_then l set P W P Q P D k z z to_z (done_ue l set turn k.ue z P)
@@ -444,7 +452,7 @@ module _ (l : ℕ) (set : Marks) where
       let es = building t grant order k.ue in
       let P = Stands Nb m in
       stage_then l set P (Stands Ue (Waits t)) P (Visiting Ue turn k.ue) P (Stands Ue (Done t)) k n n
-      (visit_ue l set Any turn (map (records.Of Ue) es) k n P (λ sent. tt) (record {
+      (visit_ue l set Any turn (map (records.Of Ue) es) k n P (λ sent. tt) (λ p. tt) (record {
         given = (within, enough);
         end_is = ap (λ (s : Seen). s.ue) same ∙ quiet_is turn k.ue is;
         other_is = ap (λ (s : Seen). s.nb) same;
@@ -454,6 +462,8 @@ module _ (l : ℕ) (set : Marks) where
         unlooped = λ n. events_unlooped n Ue es;
         says = λ bits j sent come. quiet_says bits j Ue turn k.ue sent is;
         hears = λ bits j sent. sym (others_tell bits j Ue es sent);
+        kinds_are = ap (λ (s : Seen). s.kinds) same;
+        shown = λ come. quiet_shows l Ue turn k.kinds k.ue is;
       }))
       (done_ue l set turn k.ue n P)
 
@@ -476,7 +486,7 @@ module _ (l : ℕ) (set : Marks) where
       let one = records.Air directions.Up arriveds.Nothing None in
       let to_q = stage_then l set P W P D P D k n q (quiet_up t grant order k m is within enough)
       (call_rests l set Nb (Granted t None) n tt tt (record { adds_none = refl; moves_none = refl; unset = λ off. refl }) (λ e. refl) refl (λ n. refl) m (Done t)) in
-      stage_then l set P W P D P D k q (says one q) to_q (says_stage l set one q P D (λ bits m from sent. refl) refl refl (λ n. refl))
+      stage_then l set P W P D P D k q (says one q) to_q (says_stage l set one q P D (λ bits m from sent. refl) refl refl (λ n. refl) (λ c. refl))
 
   enough_up : (f : Fate) (ndi : Bool) (grant : ℕ) → 1 ≤ grant → IsEnough (up_order f ndi) grant
   enough_up Ok ndi grant some = some

@@ -4,6 +4,7 @@ use Rattle.std.specs.List.{filter}
 use Rattle.air_link.specs.Link.{Link, end_of}
 use Rattle.air_record.specs.declared.record.Record.{Record}
 use Rattle.bearer_types.specs.Configs.{IsConfig}
+use Rattle.l2_node.specs.End.{sent_by}
 use Rattle.l2_node.specs.Submitting.{refusal}
 use Rattle.l2_types.specs.declared.side.Side.{Side}
 use Rattle.l2_types.specs.declared.side.Side.TheVariants.{Nb, Ue}
@@ -19,7 +20,11 @@ use Rattle.channel_laws.specs.Arrival.{happened}
 use Rattle.channel_laws.specs.Delivery.{accepted, was_submitted, SetNone}
 use Rattle.channel_laws.specs.Lives.{AirStep, AreLiving, lives, end_at, all_calls}
 use Rattle.air_laws.specs.Arrival.{tells_in, told_by_step}
+use Rattle.um_losses.specs.Names.{Place}
+use Rattle.um_losses.specs.Told.{told_in}
+use Rattle.um_losses_laws.specs.Whats.{whats}
 use Rattle.air_laws.specs.On.{IsOn}
+use Rattle.air_laws.specs.Shown.{IsShown, anew}
 
 -- ---- the SDUs that a side submits on a channel in a step
 
@@ -62,12 +67,15 @@ pub record GoesByAir (l : ℕ) (told : List Record) (submitted : Side → ℕ �
   pub sets_none : set ≡ false → (side : Side) → SetNone l (all_calls side steps a)
   pub on : IsOn m (lives steps a)
 
--- a step of a link goes on so, and adds these records, which tell of blocks that were sent before it nothing
+-- a step of a link goes on so, and adds these records, which tell of blocks that were sent before it nothing; where they show the PDUs of the
+-- channel as those of unacknowledged RLC, they tell what the steps are to a flow from each side
 pub record GoesOn (l : ℕ) (s : Step) (k : Link) (a : Air) : Type 0 where
   pub more : List Record
   pub out_is : (step s k).out ≡ k.out ++ more
   pub alone : TellAlone l more
   pub by : GoesByAir l more (λ side n. handed_in side n s k ++ looped_at side n more) (λ bits from. told_by_step bits l from s more) (sets l s) (step s k) a
+  pub stays : (bits : ℕ) → IsShown l bits k.kinds → IsShown l bits (step s k).kinds
+  pub shown : (bits : ℕ) → IsShown l bits k.kinds → (from : Side) (c : Place) → whats from l bits by.steps a ≡ anew s ++ told_in (sent_by from) l c more
 
 -- ---- the law
 

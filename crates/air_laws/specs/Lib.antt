@@ -1,7 +1,9 @@
+pub mod Shown
 pub mod On
 pub mod Arrival
 pub mod Going
 pub mod Staying
 pub mod Lives
+pub mod Coming
 pub mod Lived
 pub mod Links

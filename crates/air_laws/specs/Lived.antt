@@ -19,6 +19,7 @@ use Rattle.link_laws.specs.Runs.{Step, Run, step, goes, goes_on}
 use Rattle.flow_laws.specs.Air.{outset}
 use Rattle.am_arrival_laws.specs.Lives.{Happening}
 use Rattle.air_laws.specs.Arrival.{told_by_step}
+use Rattle.air_laws.specs.Coming.{none_yet}
 use Rattle.air_laws.specs.Going.{handed_in, looped_at, sets, TellAlone, GoesByAir, IsStepSince}
 use Rattle.air_laws.specs.Lives.{IsAtRest}
 
@@ -46,9 +47,6 @@ IsAcknowledged kinds.Tm = ⊥
 IsAcknowledged kinds.Srb = Unit {0}
 IsAcknowledged kinds.Um = ⊥
 IsAcknowledged kinds.Am = Unit {0}
-
-abbrev pub none_yet : Side → ℕ → List (List ℕ)
-none_yet side n = []
 
 -- nothing is told, nothing is submitted, and no discard timer is set yet
 pub record BearersCome (config : BearerConfig) (keys : Keys) (k : Link) : Type 0 where

@@ -2,6 +2,7 @@
 //! acknowledged bearers. A law is the contract of a function that does nothing.
 #![tactic(auto)]
 
+ghost use Rattle.air_laws.specs.Coming.{BearersComeByAir, StepsComeByAir, EndsComeByAir};
 ghost use Rattle.air_laws.specs.Going.{StepsGoByAir};
 ghost use Rattle.air_laws.specs.Staying.{StepsStay, HandoversMove};
 ghost use Rattle.air_laws.specs.Lives.{FirstIsAtRest, CallsRest, SubmissionsRest, ChannelsBegin};
@@ -14,7 +15,9 @@ ghost use Rattle.air_laws.specs.Links.{LinksAreFlows, LinksAreOrdered};
 /// than 216 TTIs, and in a handover both ends move under the same keys and nothing is under way behind it. What the records tell of each end
 /// is what it tells in its calls, and it is submitted what is handed in and not refused, and at the terminal what the test loop returns, as
 /// records tell. And they tell what goes by air on a channel in each direction, in this order: the PDUs that the sending end's PDCP gives RLC, the
-/// PDUs of RLC in its new blocks, and those in the blocks that come; a handover ends the life.
+/// PDUs of RLC in its new blocks, and those in the blocks that come; a handover ends the life. Where they show the PDUs of the channel as those of
+/// unacknowledged RLC they tell, as `um_losses` reads them, just what these steps are to the flow from each side: the PDUs that are written into
+/// new blocks, those that come, and the expiries of reordering timers.
 pub fn lines_go_by_air()
     ensures { StepsGoByAir }
 {}
@@ -26,6 +29,14 @@ pub fn lives_begin_by_air()
     ensures calls { CallsRest }
     ensures submissions { SubmissionsRest }
     ensures channels { ChannelsBegin }
+{}
+
+/// A channel of any kind goes so from the line on in which its bearers come at both ends where nothing is under way, and through any steps
+/// since in which no other bearer of it comes and no block is forged. Nothing but its ends and its TTIs so far matters of the link.
+pub fn channels_go_by_air()
+    ensures bearers { BearersComeByAir }
+    ensures steps { StepsComeByAir }
+    ensures ends { EndsComeByAir }
 {}
 
 /// From the line on in which acknowledged bearers come at both ends, and through any steps since in which no other bearer of the channel comes and

@@ -15,7 +15,7 @@ use Rattle.delivery_laws.specs.Arrival.{IsWhatCame}
 use Rattle.flow_laws.specs.Ups.{discards_on}
 use Rattle.run_laws.specs.Arrival.{taken as taken_told, told_of, AllHandUpWhatCame, HandUpWhatCame}
 use Rattle.run_laws.specs.Order.{KeepsOrder}
-use Rattle.run_laws.proofs.Delivering.{is_delivering, tells, went_up_is, was_submitted_is, happened_from}
+use Rattle.run_laws.proofs.Delivering.{alike, is_delivering, tells, went_up_is, was_submitted_is, happened_from}
 
 -- how many they are
 many_of : (first : ℕ) (a : Account) (news ups : List (List ℕ)) (x : IsWhatCame first a news ups) → length ups ≡ x.next - first
@@ -25,10 +25,11 @@ many_of first a news ups x =
 
 came : (past : List Group) → KeepsOrder past → AllHandUpWhatCame past
 came past order from l c e kind own =
-    let d = is_delivering l past c order kind e own in
+    let d = is_delivering l past c order e own in
     let steps = d.lived.by.steps in
     let living = d.lived.by.living in
     let a = outset d.nb d.ue in
+    let both = alike l c past d kind in
     let taken = taken_at l from steps a in
     let all = submitted_at l from steps a in
     let ups = ups_at l (other_end from) steps a in
@@ -36,9 +37,9 @@ came past order from l c e kind own =
     let from_told : (news : List (List ℕ)) → IsWhatCame c.first (told_from c l from steps a) news ups → IsWhatCame c.first said news ups =
     λ news x. subst (λ (hs : List Happening). IsWhatCame c.first (account hs no_account) news ups) (happened_from l c past d c.pdcp_bits from) x in
     let is_told : taken ≡ taken_told c l from past =
-    channels_tell_what_is_taken l c d.keys d.nb d.ue from steps d.alike living
+    channels_tell_what_is_taken l c d.keys d.nb d.ue from steps both living
     ∙ (ap (λ (es : List Event). taken_of l c.first es all) (tells l c past d from) ∙ ap (taken_of l c.first (told_by from (history past))) (was_submitted_is l c past d from)) in
-    let x : IsWhatCame c.first said taken ups = from_told taken (channels_deliver_what_came l c d.keys d.nb d.ue from steps d.alike living) in
+    let x : IsWhatCame c.first said taken ups = from_told taken (channels_deliver_what_came l c d.keys d.nb d.ue from steps both living) in
     let up = went_up_is l c past d from in
     record {
       next = x.next;
@@ -47,7 +48,7 @@ came past order from l c e kind own =
       which = sym up ∙ (x.ups_are ∙ ap (take (x.next - c.first)) is_told);
       none_left_out = λ none.
           let y : IsWhatCame c.first said all ups =
-          from_told all (channels_deliver_what_came_undiscarded l c d.keys d.nb d.ue from steps d.alike living (ap (discards_on l) (tells l c past d from) ∙ none)) in
+          from_told all (channels_deliver_what_came_undiscarded l c d.keys d.nb d.ue from steps both living (ap (discards_on l) (tells l c past d from) ∙ none)) in
           sym up ∙ (y.ups_are
           ∙ (ap (λ (n : ℕ). take n all) (sym (many_of c.first said all ups y) ∙ many_of c.first said taken ups x)
           ∙ ap (take (x.next - c.first)) (was_submitted_is l c past d from)));

@@ -15,21 +15,22 @@ use Rattle.air_run.specs.Rules.{Rules, is_taken, late, refused_if, rule_broken, 
 use Rattle.air_run.specs.Run.{behind_line}
 use Rattle.air_run.specs.declared.refusal.RunRefusal.TheVariants.{ConfiguredLate, BearerTwice}
 use Rattle.air_text.specs.Groups.{Group, history}
+use Rattle.bearer_types.specs.Configs.{IsConfig}
 use Rattle.bearer_types.specs.declared.config.BearerConfig.{BearerConfig}
 use Rattle.bearer_types.specs.declared.event.Event.{Event}
 use Rattle.bearer_types.specs.declared.event.Event.TheVariants as events
 use Rattle.channel_laws.specs.Arrival.{happened as flown_in}
-use Rattle.channel_laws.specs.Delivery.{BeginAlike, SetNone, went_up, was_submitted}
+use Rattle.channel_laws.specs.Delivery.{HasBegun, BeginAlike, SetNone, went_up, was_submitted}
 use Rattle.channel_laws.proofs.Delivery.{channels_deliver_in_order, channels_deliver_undiscarded, unset_discards_none}
 use Rattle.channel_laws.specs.Lives.{AirStep, end_at, all_calls}
 use Rattle.eps_sec.specs.declared.Keys.{Keys}
 use Rattle.flow_laws.specs.Air.{Air, outset}
 use Rattle.flow_laws.specs.Ups.{ups_on, discards_on, ups_in as event_ups}
-use Rattle.l2_node.specs.End.{End}
-use Rattle.l2_types.specs.declared.channel.Kind.{Kind}
-use Rattle.l2_types.specs.declared.channel.Kind.TheVariants.{Am}
+use Rattle.l2_node.specs.End.{End, sent_by}
+use Rattle.l2_types.specs.declared.channel.Kind.TheVariants.{Am, Um}
 use Rattle.l2_types.specs.declared.side.Side.{Side}
 use Rattle.l2_types.specs.declared.side.Side.TheVariants.{Nb, Ue}
+use Rattle.node_laws.specs.Calls.{Add, after as after_call}
 use Rattle.node_laws.specs.Telling.{told_over}
 use Rattle.link_laws.specs.Counts.{is_up}
 use Rattle.link_laws.specs.Ends.{event_of, told_by}
@@ -39,8 +40,14 @@ use Rattle.pdcp_laws.specs.Lists.{IsSubsequence}
 use Rattle.prioritise.proofs.ChannelLemmas.{both_false}
 use Rattle.air_laws.specs.Arrival.{tells_in}
 use Rattle.am_arrival_laws.specs.Lives.{Happening}
-use Rattle.air_laws.specs.Lived.{IsAcknowledged, Lived}
-use Rattle.air_laws.proofs.Lived.{bearers_live}
+use Rattle.air_laws.proofs.Coming.{bearers_begin, ends_come_by}
+use Rattle.air_run.specs.Written.{all_seen, noticed, with_um}
+use Rattle.um_losses.specs.Flow.{Flow}
+use Rattle.um_losses.specs.Names.{Place, Happening as What}
+use Rattle.um_losses.specs.Told.{told_in, all_after, flow_at}
+use Rattle.um_losses_laws.specs.Delivery.{first_flow}
+use Rattle.um_losses_laws.specs.Whats.{whats}
+use Rattle.um_losses_laws.proofs.Acting.{after_then}
 use Rattle.air_laws.proofs.Lives.{channels_begin}
 use Rattle.run_laws.specs.Arrival.{ended_by, happened}
 use Rattle.run_laws.specs.Delivery.{forges, is_forged, sets_timer, is_timed, discarded, DeliverAll, DeliversInOrder}
@@ -50,9 +57,11 @@ use Rattle.run_laws.specs.Parts.{part}
 use Rattle.run_laws.specs.Texts.{config_by, config_of}
 use Rattle.run_laws.proofs.Early.{is_early}
 use Rattle.run_laws.proofs.Failed.{HasSender, sender_goes, sender_begins}
-use Rattle.run_laws.proofs.Flowing.{Sdus, Happened, unseen, LineLives, line_lives}
+use Rattle.run_laws.proofs.Flowing.{Sdus, Happened, Haps, word_of, with_word, Lived, unseen, LineLives, lived_now, line_lives}
 use Rattle.run_laws.proofs.Keys.{not_first, not_second, no_cause}
 use Rattle.run_laws.proofs.Past.{behind, link_behind}
+use Rattle.run_laws.proofs.Reaching.{kinds_behind}
+use Rattle.run_laws.proofs.Seen.{all_seen_flow, noticed_flow, noticed_place, no_flow, new_flow, new_shown}
 use Rattle.run_laws.proofs.Texts.{adds_one, adds_it, unchanged}
 
 -- ---- what goes up at an end, as records tell it and as the end does
@@ -89,26 +98,35 @@ pub other_is : (side : Side) → other_end side ≡ other side
 other_is Nb = refl
 other_is Ue = refl
 
-as_told : (P : List (List ℕ) → List (List ℕ) → Type 0) {xs ys xs' ys' : List (List ℕ)} → xs ≡ xs' → ys ≡ ys' → P xs ys → P xs' ys'
+pub as_told : (P : List (List ℕ) → List (List ℕ) → Type 0) {xs ys xs' ys' : List (List ℕ)} → xs ≡ xs' → ys ≡ ys' → P xs ys → P xs' ys'
 as_told P {xs} {ys} {xs'} {ys'} e f p = subst (λ (zs : List (List ℕ)). P zs ys') e (subst (λ (zs : List (List ℕ)). P xs zs) f p)
 
 -- ---- a channel, behind groups
 
 pub record IsDelivering (l : ℕ) (c : BearerConfig) (past : List Group) : Type 0 where
+  pub config : IsConfig c
+  pub first : c.first < 2 ^ 32
   pub keys : Keys
   pub nb : End
   pub ue : End
-  pub alike : BeginAlike l c keys nb ue
+  pub nb_begun : HasBegun Nb l c keys nb
+  pub ue_begun : HasBegun Ue l c keys ue
   pub told : List Record
   pub handed : Sdus
   pub flown : Happened
+  pub haps : Haps
   pub set : Bool
-  pub lived : Lived l nb ue told handed flown set (link_behind past)
+  pub lived : Lived l nb ue c.rlc_bits (c.kind ≡ Um) told handed flown haps set (link_behind past)
   pub unset : is_timed l past ≡ false → set ≡ false
   pub told_is : (side : Side) → told_by side (history past) ≡ told_by side told
   pub submitted_is : (side : Side) → submitted side l past ≡ handed side l
   pub happened_is : (bits : ℕ) (from : Side) → happened bits l from past ≡ flown bits from
-  pub senders : (side : Side) → HasSender side l past
+  pub senders : c.kind ≡ Am → (side : Side) → HasSender side l past
+  -- and what is told is what became of the flow from each side
+  pub flows : c.kind ≡ Um → (from : Side) → flow_at (sent_by from) l (state_behind past).losses.flows ≡ Some (all_after (haps from) (first_flow from l c))
+
+pub alike : (l : ℕ) (c : BearerConfig) (past : List Group) (d : IsDelivering l c past) → c.kind ≡ Am → BeginAlike l c d.keys d.nb d.ue
+alike l c past d kind = record { kind = kind; config = d.config; first = d.first; nb_begun = d.nb_begun; ue_begun = d.ue_begun }
 
 -- ---- a line since
 
@@ -118,18 +136,25 @@ goes_on l c past g right order other own d =
     let m = behind_line g.line (state_behind past) in
     let p = part g.line in
     let set = d.set || sets_timer l g.line in
-    let x : LineLives l d.nb d.ue d.told d.handed d.flown set (ended_by g.line) p m =
-    line_lives l d.nb d.ue d.told d.handed d.flown d.set g.line (state_behind past).rules.keys k (behind past order).nothing right.in_range other own d.lived in
+    let w = (state_behind past).losses in
+    let word = word_of g.line in
+    let haps = with_word word d.haps in
+    let x : LineLives l d.nb d.ue c.rlc_bits (c.kind ≡ Um) d.told haps d.told d.handed d.flown set (ended_by g.line) p m =
+    line_lives l d.nb d.ue c.rlc_bits (c.kind ≡ Um) d.told d.handed d.flown d.haps d.set g.line (state_behind past).rules.keys k (behind past order).nothing right.in_range other own d.lived in
     record {
+      config = d.config;
+      first = d.first;
       keys = d.keys;
       nb = d.nb;
       ue = d.ue;
-      alike = d.alike;
+      nb_begun = d.nb_begun;
+      ue_begun = d.ue_begun;
       told = d.told ++ x.more;
       handed = λ side n. d.handed side n ++ (handed_in side n p m.out ++ looped_at side n m.out);
       flown = λ bits from. d.flown bits from ++ (ended_by g.line ++ tells_in bits l from [] m.out);
+      haps = λ from. haps from ++ told_in (sent_by from) l w.cursor x.more;
       set = set;
-      lived = unseen l d.nb d.ue _ _ _ set m [] x.lived;
+      lived = unseen l d.nb d.ue c.rlc_bits (c.kind ≡ Um) (d.told ++ x.more) _ _ _ set m [] (lived_now l d.nb d.ue c.rlc_bits (c.kind ≡ Um) d.told haps x.more _ _ set m w.cursor x.lived);
       unset = λ off. let apart = both_false (sets_timer l g.line) (is_timed l past) off in ap (λ (b : Bool). b || sets_timer l g.line) (d.unset apart.1) ∙ apart.0;
       told_is = λ side.
           told_both side (history past) (records.Line g.number g.line ∷ g.events) (told_by side d.told) (told_by side x.more) (d.told_is side) (ap (told_by side) right.events_are ∙ x.told_are side)
@@ -140,7 +165,15 @@ goes_on l c past g right order other own d =
       happened_is = λ bits from.
           ap (λ (hs : List Happening). hs ++ (ended_by g.line ++ tells_in bits l from [] g.events)) (d.happened_is bits from)
           ∙ ap (λ (ys : List Record). d.flown bits from ++ (ended_by g.line ++ tells_in bits l from [] ys)) right.events_are;
-      senders = λ side. sender_goes side l past g right order other (d.senders side);
+      senders = λ kind side. sender_goes side l past g right order other (d.senders kind side);
+      flows = λ kind from.
+          let was = all_after (d.haps from) (first_flow from l c) in
+          let v = noticed g.line m w in
+          all_seen_flow (sent_by from) l m.out v (all_after word was) (noticed_flow g.line m (sent_by from) l w was own (d.flows kind from))
+          ∙ (ap (λ (place : Place). Some (all_after (told_in (sent_by from) l place m.out) (all_after word was))) (noticed_place g.line m w own)
+          ∙ (ap (λ (hs : List What). Some (all_after hs (all_after word was))) (x.haps_are (sent_by from) w.cursor)
+          ∙ (ap (λ (f : Flow). Some (all_after (told_in (sent_by from) l w.cursor x.more) f)) (sym (after_then (d.haps from) word (first_flow from l c)))
+          ∙ ap (λ (f : Flow). Some f) (sym (after_then (d.haps from ++ word) (told_in (sent_by from) l w.cursor x.more) (first_flow from l c))))));
     }
 
 -- ---- the line in which its bearers come
@@ -162,17 +195,13 @@ is_first c options r k allowed =
 has_bits : (count : ℕ) → count ≤ 4294967295 → count < 2 ^ 32
 has_bits count within = omega (arith, within)
 
-is_acknowledged : (kind : Kind) → kind ≡ Am → IsAcknowledged kind
-is_acknowledged kind e = subst IsAcknowledged (sym e) tt
-
 pub at_each : (P : Side → Type 0) → P Nb → P Ue → (side : Side) → P side
 at_each P nb ue Nb = nb
 at_each P nb ue Ue = ue
 
-begin_by : (past : List Group) (g : Group) (c : BearerConfig) (options : _) → IsRight past (record g { line = lines.Bearer c options }) → KeepsOrder past → c.kind ≡ Am
-    → IsDelivering c.channel.lcid c (record g { line = lines.Bearer c options } ∷ past)
+begin_by : (past : List Group) (g : Group) (c : BearerConfig) (options : _) → IsRight past (record g { line = lines.Bearer c options }) → KeepsOrder past → IsDelivering c.channel.lcid c (record g { line = lines.Bearer c options } ∷ past)
 unfolding acted accepted bears
-begin_by past g c options right order kind =
+begin_by past g c options right order =
     let l = c.channel.lcid in
     let r = (state_behind past).rules in
     let k = link_behind past in
@@ -181,56 +210,61 @@ begin_by past g c options right order kind =
     let here = both_false _ _ f.none in
     let now = is_early (record g { line = lines.Bearer c options } ∷ past) (right, order) f.early in
     let rest = (is_early past order f.early).rest in
-    let b = bearers_live c keys k right.in_range (is_acknowledged c.kind kind) rest in
+    let b = bearers_begin c keys k right.in_range rest in
     record {
+      config = right.in_range;
+      first = has_bits c.first right.count;
       keys = keys;
       nb = _;
       ue = _;
-      alike = record {
-        kind = kind;
-        config = right.in_range;
-        first = has_bits c.first right.count;
-        nb_begun = channels_begin c keys k right.in_range rest Nb here.0;
-        ue_begun = channels_begin c keys k right.in_range rest Ue here.1;
-      };
+      nb_begun = channels_begin c keys k right.in_range rest Nb here.0;
+      ue_begun = channels_begin c keys k right.in_range rest Ue here.1;
       told = [];
       handed = λ side n. [];
       flown = λ bits from. [];
+      haps = λ from. [];
       set = false;
-      lived = unseen l _ _ [] _ _ false (bears c keys k) [] b.lived;
+      lived = record {
+        by = ends_come_by l [] _ _ false (bears c keys k) (record (bears c keys k) { out = [] }) (outset (after_call k.nb (Add c keys)) (after_call k.ue (Add c keys))) refl refl refl b.by;
+        kinds = λ kind. new_shown past c k.kinds (kinds_behind past order) kind right.in_range;
+        whats_are = λ kind from. ap (λ (steps : List AirStep). whats from l c.rlc_bits steps (outset (after_call k.nb (Add c keys)) (after_call k.ue (Add c keys)))) b.no_steps;
+      };
       unset = λ off. refl;
       told_is = now.none_told;
       submitted_is = λ side. now.none_submitted side l;
       happened_is = λ bits from. now.none_happened bits l from;
-      senders = at_each (λ side. HasSender side l _)
+      senders = λ kind. at_each (λ side. HasSender side l _)
           (sender_begins Nb l c keys _ kind (channels_begin c keys k right.in_range rest Nb here.0))
           (sender_begins Ue l c keys _ kind (channels_begin c keys k right.in_range rest Ue here.1));
+      flows = λ kind from.
+          ap (λ (out : List Record). flow_at (sent_by from) l (all_seen out (with_um c.kind c (state_behind past).losses)).flows) (is_early past order f.early).silent
+          ∙ new_flow from c (state_behind past).losses kind right.in_range (λ dir. no_flow past order f.early dir l here.0);
     }
 
 -- ---- behind all groups
 
-begins : (past : List Group) (g : Group) (c : BearerConfig) (options : _) → g.line ≡ lines.Bearer c options → IsRight past g → KeepsOrder past → c.kind ≡ Am → IsDelivering c.channel.lcid c (g ∷ past)
-begins past g c options is right order kind =
+begins : (past : List Group) (g : Group) (c : BearerConfig) (options : _) → g.line ≡ lines.Bearer c options → IsRight past g → KeepsOrder past → IsDelivering c.channel.lcid c (g ∷ past)
+begins past g c options is right order =
     subst (λ (line : Line). IsDelivering c.channel.lcid c (record g { line = line } ∷ past)) (sym is)
-    (begin_by past g c options (subst (λ (line : Line). IsRight past (record g { line = line })) is right) order kind)
+    (begin_by past g c options (subst (λ (line : Line). IsRight past (record g { line = line })) is right) order)
 
-delivering_by : (b : Bool) (l : ℕ) (past : List Group) (g : Group) (c : BearerConfig) → adds_one l g.line ≡ b → IsRight past g → KeepsOrder past → c.kind ≡ Am → config_of l (g ∷ past) ≡ Some c → forges g.line ≡ false
+delivering_by : (b : Bool) (l : ℕ) (past : List Group) (g : Group) (c : BearerConfig) → adds_one l g.line ≡ b → IsRight past g → KeepsOrder past → config_of l (g ∷ past) ≡ Some c → forges g.line ≡ false
     → (config_of l past ≡ Some c → IsDelivering l c past) → IsDelivering l c (g ∷ past)
-delivering_by false l past g c is right order kind e own rest = goes_on l c past g right order is own (rest (unchanged l g.line (config_of l past) c is e))
-delivering_by true l past g c is right order kind e own rest =
+delivering_by false l past g c is right order e own rest = goes_on l c past g right order is own (rest (unchanged l g.line (config_of l past) c is e))
+delivering_by true l past g c is right order e own rest =
     let a = adds_it l g.line is in
     let taken : config_by l (lines.Bearer a.config a.options) (config_of l past) ≡ Some a.config =
     ap (λ (b : Bool). if b then Some a.config else config_of l past) (sym (ap (adds_one l) a.line_is) ∙ is) in
     let some : Some a.config ≡ Some c = sym taken ∙ ap (λ (line : Line). config_by l line (config_of l past)) (sym a.line_is) ∙ e in
     let same : a.config ≡ c = cc in
     subst (λ (d : BearerConfig). IsDelivering l d (g ∷ past)) same
-    (subst (λ (n : ℕ). IsDelivering n a.config (g ∷ past)) a.lcid_is (begins past g a.config a.options a.line_is right order (ap (λ (d : BearerConfig). d.kind) same ∙ kind)))
+    (subst (λ (n : ℕ). IsDelivering n a.config (g ∷ past)) a.lcid_is (begins past g a.config a.options a.line_is right order))
 
-pub is_delivering : (l : ℕ) (past : List Group) (c : BearerConfig) → KeepsOrder past → c.kind ≡ Am → config_of l past ≡ Some c → is_forged past ≡ false → IsDelivering l c past
-is_delivering l [] c order kind e own = absurd cc
-is_delivering l (g ∷ past) c (right, order) kind e own =
+pub is_delivering : (l : ℕ) (past : List Group) (c : BearerConfig) → KeepsOrder past → config_of l past ≡ Some c → is_forged past ≡ false → IsDelivering l c past
+is_delivering l [] c order e own = absurd cc
+is_delivering l (g ∷ past) c (right, order) e own =
     let apart = both_false (forges g.line) (is_forged past) own in
-    delivering_by (adds_one l g.line) l past g c refl right order kind e apart.0 (λ is. is_delivering l past c order kind is apart.1)
+    delivering_by (adds_one l g.line) l past g c refl right order e apart.0 (λ is. is_delivering l past c order is apart.1)
 
 -- ---- of the journal's own words
 
@@ -255,16 +289,17 @@ module _ (l : ℕ) (c : BearerConfig) (past : List Group) (d : IsDelivering l c 
 
 delivers : (past : List Group) → KeepsOrder past → DeliverAll past
 delivers past order from l c e kind own =
-    let d = is_delivering l past c order kind e own in
-    let h = d.lived in
+    let d = is_delivering l past c order e own in
+    let h = d.lived.by in
+    let both = alike l c past d kind in
     let ups = went_up_is l c past d from in
     let all = was_submitted_is l c past d from in
-    let none : SetNone l (all_calls from h.by.steps (outset d.nb d.ue)) → discarded from l past ≡ [] = λ unset.
-    ap (discards_on l) (sym (tells l c past d from)) ∙ unset_discards_none l c d.keys d.nb d.ue from h.by.steps d.alike h.by.living unset in
+    let none : SetNone l (all_calls from h.steps (outset d.nb d.ue)) → discarded from l past ≡ [] = λ unset.
+    ap (discards_on l) (sym (tells l c past d from)) ∙ unset_discards_none l c d.keys d.nb d.ue from h.steps both h.living unset in
     record {
-      in_order = as_told (λ xs ys. IsSubsequence xs ys) ups all (channels_deliver_in_order l c d.keys d.nb d.ue from h.by.steps d.alike h.by.living);
-      none_left_out = λ none. as_told IsFront ups all (channels_deliver_undiscarded l c d.keys d.nb d.ue from h.by.steps d.alike h.by.living (ap (discards_on l) (tells l c past d from) ∙ none));
-      none_discarded = λ off. none (h.by.sets_none (d.unset off) from);
+      in_order = as_told (λ xs ys. IsSubsequence xs ys) ups all (channels_deliver_in_order l c d.keys d.nb d.ue from h.steps both h.living);
+      none_left_out = λ none. as_told IsFront ups all (channels_deliver_undiscarded l c d.keys d.nb d.ue from h.steps both h.living (ap (discards_on l) (tells l c past d from) ∙ none));
+      none_discarded = λ off. none (h.sets_none (d.unset off) from);
     }
 
 pub delivers_in_order : (past : List Group) → KeepsOrder past → DeliversInOrder past

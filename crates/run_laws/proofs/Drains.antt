@@ -27,7 +27,7 @@ use Rattle.flow_laws.specs.Air.{Air}
 use Rattle.run_laws.specs.Delivery.{forges, is_forged}
 use Rattle.run_laws.specs.Drained.{EndsDrained, LeavesNothing, DrainsLeaveNothing}
 use Rattle.run_laws.specs.Order.{state_behind, IsRight, KeepsOrder}
-use Rattle.run_laws.proofs.Delivering.{is_delivering, steps, start, tells, went_up_is, was_submitted_is}
+use Rattle.run_laws.proofs.Delivering.{alike, is_delivering, steps, start, tells, went_up_is, was_submitted_is}
 use Rattle.run_laws.proofs.Keys.{not_first, not_second, no_cause}
 use Rattle.run_laws.proofs.Past.{link_behind}
 use Rattle.test_loop.specs.Loops.{is_on}
@@ -105,14 +105,14 @@ none_forged past g right d =
 
 leaves_nothing : (past : List Group) → KeepsOrder past → is_drained (link_behind past) ≡ true → is_forged past ≡ false → LeavesNothing past
 leaves_nothing past order done own from l c e kind unfailed kept =
-    let d = is_delivering l past c order kind e own in
+    let d = is_delivering l past c order e own in
     let k = link_behind past in
     let xs = steps l c past d in
     let a = start l c past d in
     let here : end_at from (lives xs a) ≡ end_of from k = end_is from k (lives xs a) d.lived.by.on in
     let all =
-    drained_ends_have_delivered l c d.keys d.nb d.ue from xs d.alike d.lived.by.living
-    (ap end_drained here ∙ side_drained from k done) (ap (λ (x : End). has_failed (flow l x)) here ∙ (d.senders from).unfailed unfailed) in
+    drained_ends_have_delivered l c d.keys d.nb d.ue from xs (alike l c past d kind) d.lived.by.living
+    (ap end_drained here ∙ side_drained from k done) (ap (λ (x : End). has_failed (flow l x)) here ∙ (d.senders kind from).unfailed unfailed) in
     sym (went_up_is l c past d from) ∙ all.submitted (ap (discards_on l) (tells l c past d from) ∙ kept) ∙ was_submitted_is l c past d from
 
 pub drains_leave_nothing : (past : List Group) → KeepsOrder past → DrainsLeaveNothing past

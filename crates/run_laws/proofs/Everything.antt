@@ -7,6 +7,7 @@ use Rattle.run_laws.proofs.Counts.{counts_behind}
 use Rattle.run_laws.proofs.Delivering.{delivers_in_order}
 use Rattle.run_laws.proofs.Drains.{drains_leave_nothing}
 use Rattle.run_laws.proofs.Keys.{keys_behind}
+use Rattle.run_laws.proofs.Losses.{delivers_while_short}
 use Rattle.run_laws.proofs.Looping.{return_in_order}
 use Rattle.run_laws.proofs.Past.{behind}
 use Rattle.run_laws.proofs.Processes.{are_carried}
@@ -38,5 +39,6 @@ every-journal whole octets =
       signalled = delivers_each_life t.later t.order;
       signals_drained = drains_leave_no_signal t.later t.order;
       signals_moved = handovers_bring_none t.later t.order;
+      delivered_short = delivers_while_short t.later t.order;
       in_order = lines_tell t.later t.order;
     }

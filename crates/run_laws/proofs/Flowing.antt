@@ -27,15 +27,21 @@ use Rattle.link_laws.specs.Runs.{Step, Tti, Drains, Submit, Calls, step}
 use Rattle.link_laws.specs.Told.{refusals}
 use Rattle.link_laws.specs.Zero.{sdu_of}
 use Rattle.link_laws.proofs.Calling.{submitting_adds}
-use Rattle.l2_node.specs.End.{End}
+use Rattle.l2_node.specs.End.{End, sent_by}
+use Rattle.flow_laws.specs.Air.{outset}
 use Rattle.air_laws.specs.Arrival.{tells_in, renews, told_by_step}
 use Rattle.am_arrival_laws.specs.Lives.{Happening}
-use Rattle.air_laws.specs.Going.{TellAlone, sets, handed_in as handed_by, looped_at as looped_by, IsStepSince}
-use Rattle.air_laws.specs.Lived.{Lived}
+use Rattle.air_laws.specs.Going.{TellAlone, GoesByAir, sets, handed_in as handed_by, looped_at as looped_by, IsStepSince}
 use Rattle.air_laws.proofs.Going.{last_in, tells_more}
 use Rattle.air_laws.specs.Staying.{hands_over as moves}
-use Rattle.air_laws.proofs.Lived.{ends_live, steps_live}
+use Rattle.air_laws.proofs.Coming.{ends_come_by, steps_come}
 use Rattle.air_laws.proofs.Staying.{LivedIn, ends_live_in, lived_in_as, steps_live_in}
+use Rattle.air_laws.specs.Shown.{IsShown, anew}
+use Rattle.air_laws.proofs.Showing.{in_then}
+use Rattle.mac_pdu.specs.declared.item.Direction.{Direction}
+use Rattle.um_losses.specs.Names.{Place, Happening as What, begins_anew}
+use Rattle.um_losses.specs.Told.{told_in, place_behind}
+use Rattle.um_losses_laws.specs.Whats.{whats}
 use Rattle.test_loop.specs.declared.Mode.TheVariants.{Off, A, B}
 use Rattle.run_laws.specs.Arrival.{ended_by}
 use Rattle.run_laws.specs.Delivery.{forges, sets_timer}
@@ -52,6 +58,18 @@ Sdus = Side → ℕ → List (List ℕ)
 -- what happens to the PDUs that go from each side, by the bits of PDCP's numbers
 abbrev pub Happened : Type 0
 Happened = ℕ → Side → List Happening
+
+-- what is told of an unacknowledged flow from each side
+abbrev pub Haps : Type 0
+Haps = Side → List What
+
+-- what a line says of each flow
+abbrev pub word_of : Line → List What
+word_of (lines.Handover user rrc integrity) = begins_anew ∷ []
+word_of line = []
+
+abbrev pub with_word : List What → Haps → Haps
+with_word word haps from = haps from ++ word
 
 -- ---- SDUs that come back through the test loop
 
@@ -127,6 +145,14 @@ unflown_end bits l from said is_done done =
     none : (b : Bool) (sent : List ℕ) → tells_in bits l from sent (ending b done ∷ []) ≡ []
     none true sent = refl
     none false sent = refl
+
+unsaid_end : (d : Direction) (l : ℕ) (place : Place) (said : List Record) (is_done : Bool) (done : ℕ) → told_in d l place (said ++ ending is_done done ∷ []) ≡ told_in d l place said
+unsaid_end d l place said is_done done =
+    in_then d l place said (ending is_done done ∷ []) ∙ ap (λ (hs : List What). told_in d l place said ++ hs) (none is_done (place_behind place said)) ∙ append-nil (told_in d l place said)
+  where
+    none : (b : Bool) (c : Place) → told_in d l c (ending b done ∷ []) ≡ []
+    none true c = refl
+    none false c = refl
 
 -- of what is known of a link by what was told, submitted, what went by air and what was set since it began: a step goes on with it
 pub record StepLives (l : ℕ) (Live : List Record → Sdus → Happened → Bool → Link → Type 0) (told : List Record) (handed : Sdus) (flown : Happened) (set : Bool) (s : Step) (k : Link) : Type 0 where
@@ -288,6 +314,7 @@ module _ (l : ℕ) (Live : List Record → Sdus → Happened → Bool → Link �
     pub lived : Live (told ++ more) (λ side n. handed side n ++ (handed_in side n p m.out ++ looped_at side n m.out))
         (λ bits from. flown bits from ++ (ends ++ tells_in bits l from [] m.out)) set m
     pub told_are : (side : Side) → told_of side m.out ≡ told_of side more
+    pub haps_are : (d : Direction) (place : Place) → told_in d l place m.out ≡ told_in d l place more
 
   pub step_plays : (told : List Record) (handed : Sdus) (flown : Happened) (set : Bool) (s : Step) (k : Link) (p : Part) → k.out ≡ [] → ((side : Side) (n : ℕ) → handed_by side n s k ≡ handed_in side n p (step s k).out)
       → StepLives l Live told handed flown set s k → PartLives told handed flown (set || sets l s) (renews s) p (step s k)
@@ -303,6 +330,7 @@ module _ (l : ℕ) (Live : List Record → Sdus → Happened → Bool → Link �
             (λ bits from. ap (λ (y : List Record). flown bits from ++ (renews s ++ tells_in bits l from [] y)) (sym same))
             refl x.lived;
         told_are = λ side. refl;
+        haps_are = λ d place. refl;
       }
 
   line_by : (told : List Record) (handed : Sdus) (flown : Happened) (set : Bool) (s : Step) (k : Link) (p : Part) → k.out ≡ [] → ((side : Side) (n : ℕ) → handed_by side n s k ≡ handed_in side n p (step s k).out)
@@ -319,6 +347,7 @@ module _ (l : ℕ) (Live : List Record → Sdus → Happened → Bool → Link �
     lived = through.same told (told ++ []) handed _ flown _ set (set || false) k (sym (append-nil told)) (λ side n. sym (no_more side n (handed side n)) ∙ ap (λ (y : List Record). handed side n ++ looped_at side n y) (sym nothing))
         (λ bits from. sym (append-nil (flown bits from)) ∙ ap (λ (y : List Record). flown bits from ++ tells_in bits l from [] y) (sym nothing)) (sym (or_false set)) h;
     told_are = λ side. ap (told_of side) nothing;
+    haps_are = λ d place. ap (told_in d l place) nothing;
   }
 
   submit_lives : (told : List Record) (handed : Sdus) (flown : Happened) (set : Bool) (side : Side) (lcid : ℕ) (octets : List ℕ) (k : Link) → k.out ≡ [] → Live told handed flown set k
@@ -341,6 +370,7 @@ module _ (l : ℕ) (Live : List Record → Sdus → Happened → Bool → Link �
             (λ bits from. ap (λ (hs : List Happening). flown bits from ++ hs) (sym (ap (tells_in bits l from []) w.journal_is ∙ unflown_end bits l from w.said w.is_done w.done)))
             (sym (or_false set)) (through.unseen _ _ _ set d.link d.journal w.lived);
         told_are = λ side. ap (told_of side) w.journal_is ∙ untold_end side w.said w.is_done w.done;
+        haps_are = λ d place. ap (told_in d l place) w.journal_is ∙ unsaid_end d l place w.said w.is_done w.done;
       }
 
   -- any line but a handover
@@ -367,42 +397,131 @@ module _ (l : ℕ) (Live : List Record → Sdus → Happened → Bool → Link �
 
 -- ---- of all lives
 
-module _ (l : ℕ) (nb ue : End) where
-  same_lived : (told told' : List Record) (handed handed' : Sdus) (flown flown' : Happened) (set set' : Bool) (k : Link) → told ≡ told' → ((side : Side) (n : ℕ) → handed side n ≡ handed' side n)
-      → ((bits : ℕ) (from : Side) → flown bits from ≡ flown' bits from) → set ≡ set' → Lived l nb ue told handed flown set k → Lived l nb ue told' handed' flown' set' k
-  same_lived told told' handed handed' flown flown' set set' k e f a g h = record {
-    by = record {
-      steps = h.by.steps;
-      living = h.by.living;
-      told_is = λ side. ap (told_of side) (sym e) ∙ h.by.told_is side;
-      submitted_is = λ side n. h.by.submitted_is side n ∙ f side n;
-      happened_is = λ bits from. h.by.happened_is bits from ∙ a bits from;
-      sets_none = λ off. h.by.sets_none (g ∙ off);
-      on = h.by.on;
-    };
-    bearers = h.bearers;
+cancel : (first xs ys : List Record) → first ++ xs ≡ first ++ ys → xs ≡ ys
+cancel [] xs ys e = e
+cancel (one ∷ first) xs ys e = let rest : first ++ xs ≡ first ++ ys = cc in cancel first xs ys rest
+
+not_anew : (s : Step) → moves s ≡ false → anew s ≡ []
+not_anew (Calls (calls.HandsOver keys)) own = absurd cc
+not_anew s own = refl
+
+module _ (l : ℕ) (nb ue : End) (bits : ℕ) (Um : Type 0) where
+  -- since both ends were these a link has come by air to what it is, and where the PDUs of the channel are those of unacknowledged RLC, that was so
+  -- much to a flow from each side
+  pub record Lived (told : List Record) (handed : Sdus) (flown : Happened) (haps : Haps) (set : Bool) (k : Link) : Type 0 where
+    pub by : GoesByAir l told handed flown set k (outset nb ue)
+    pub kinds : Um → IsShown l bits k.kinds
+    pub whats_are : Um → (from : Side) → whats from l bits by.steps (outset nb ue) ≡ haps from
+
+  -- and since these records more have told what it was
+  pub record LivesOn (first : List Record) (haps : Haps) (told : List Record) (handed : Sdus) (flown : Happened) (set : Bool) (k : Link) : Type 0 where
+    pub by : GoesByAir l told handed flown set k (outset nb ue)
+    pub kinds : Um → IsShown l bits k.kinds
+    pub since : List Record
+    pub told_is : told ≡ first ++ since
+    pub whats_are : Um → (from : Side) (place : Place) → whats from l bits by.steps (outset nb ue) ≡ haps from ++ told_in (sent_by from) l place since
+
+  abbrev same_by : (told told' : List Record) (handed handed' : Sdus) (flown flown' : Happened) (set set' : Bool) (k : Link) → told ≡ told' → ((side : Side) (n : ℕ) → handed side n ≡ handed' side n)
+      → ((bits : ℕ) (from : Side) → flown bits from ≡ flown' bits from) → set ≡ set' → GoesByAir l told handed flown set k (outset nb ue) → GoesByAir l told' handed' flown' set' k (outset nb ue)
+  same_by told told' handed handed' flown flown' set set' k e f a g h = record {
+    steps = h.steps;
+    living = h.living;
+    told_is = λ side. ap (told_of side) (sym e) ∙ h.told_is side;
+    submitted_is = λ side n. h.submitted_is side n ∙ f side n;
+    happened_is = λ bits from. h.happened_is bits from ∙ a bits from;
+    sets_none = λ off. h.sets_none (g ∙ off);
+    on = h.on;
   }
 
   -- records aren't looked at
-  pub unseen : (told : List Record) (handed : Sdus) (flown : Happened) (set : Bool) (k : Link) (out : List Record) → Lived l nb ue told handed flown set k → Lived l nb ue told handed flown set (record k { out = out })
-  unseen told handed flown set k out h = ends_live l nb ue told handed flown set k (record k { out = out }) refl refl refl h
+  pub unseen : (told : List Record) (handed : Sdus) (flown : Happened) (haps : Haps) (set : Bool) (k : Link) (out : List Record) → Lived told handed flown haps set k → Lived told handed flown haps set (record k { out = out })
+  unseen told handed flown haps set k out h =
+      record { by = ends_come_by l told handed flown set k (record k { out = out }) (outset nb ue) refl refl refl h.by; kinds = h.kinds; whats_are = h.whats_are }
 
-  each_goes : (told : List Record) (handed : Sdus) (flown : Happened) (set : Bool) (s : Step) (k : Link) → IsStepSince l s → Lived l nb ue told handed flown set k → StepLives l (Lived l nb ue) told handed flown set s k
-  each_goes told handed flown set s k g h = let x = steps_live l nb ue told handed flown set s k g h in record { more = x.more; out_is = x.out_is; alone = x.alone; lived = x.lived }
+  -- a step, behind a word of each flow
+  goes_anew : (told : List Record) (handed : Sdus) (flown : Happened) (haps : Haps) (set : Bool) (s : Step) (k : Link) → IsStepSince l s → Lived told handed flown haps set k
+      → StepLives l (LivesOn told (with_word (anew s) haps)) told handed flown set s k
+  goes_anew told handed flown haps set s k g h =
+      let x = steps_come l told handed flown set s k (outset nb ue) g h.by in
+      record {
+        more = x.more;
+        out_is = x.out_is;
+        alone = x.alone;
+        lived = record {
+          by = x.by;
+          kinds = λ um. x.stays bits (h.kinds um);
+          since = x.more;
+          told_is = refl;
+          whats_are = λ um from place.
+              let two = told_in (sent_by from) l place x.more in
+              x.shown bits (h.kinds um) from place ∙ (ap (λ (hs : List What). hs ++ (anew s ++ two)) (h.whats_are um from) ∙ sym (append_assoc (haps from) (anew s) two));
+        };
+      }
 
-  pub through : GoesThrough l (Lived l nb ue)
-  through = record { same = same_lived; unseen = unseen; steps = λ told handed flown set s k g own h. each_goes told handed flown set s k g h }
+  module _ (first : List Record) (haps : Haps) where
+    steps_on : (told : List Record) (handed : Sdus) (flown : Happened) (set : Bool) (s : Step) (k : Link) → IsStepSince l s → moves s ≡ false → LivesOn first haps told handed flown set k
+        → StepLives l (LivesOn first haps) told handed flown set s k
+    steps_on told handed flown set s k g own h =
+        let x = steps_come l told handed flown set s k (outset nb ue) g h.by in
+        record {
+          more = x.more;
+          out_is = x.out_is;
+          alone = x.alone;
+          lived = record {
+            by = x.by;
+            kinds = λ um. x.stays bits (h.kinds um);
+            since = h.since ++ x.more;
+            told_is = ap (λ (xs : List Record). xs ++ x.more) h.told_is ∙ append_assoc first h.since x.more;
+            whats_are = λ um from place.
+                let one = told_in (sent_by from) l place h.since in
+                let two = told_in (sent_by from) l (place_behind place h.since) x.more in
+                x.shown bits (h.kinds um) from (place_behind place h.since)
+                ∙ (ap (λ (hs : List What). whats from l bits h.by.steps (outset nb ue) ++ (hs ++ two)) (not_anew s own)
+                ∙ (ap (λ (hs : List What). hs ++ two) (h.whats_are um from place)
+                ∙ (append_assoc (haps from) one two ∙ ap (λ (hs : List What). haps from ++ hs) (sym (in_then (sent_by from) l place h.since x.more)))));
+          };
+        }
 
-  abbrev pub LineLives : List Record → Sdus → Happened → Bool → List Happening → Part → Link → Type 0
-  LineLives = PartLives l (Lived l nb ue) through
+    pub through : GoesThrough l (LivesOn first haps)
+    through = record {
+      same = λ told told' handed handed' flown flown' set set' k e f a g h.
+          record { by = same_by told told' handed handed' flown flown' set set' k e f a g h.by; kinds = h.kinds; since = h.since; told_is = sym e ∙ h.told_is; whats_are = h.whats_are };
+      unseen = λ told handed flown set k out h.
+          record { by = ends_come_by l told handed flown set k (record k { out = out }) (outset nb ue) refl refl refl h.by; kinds = h.kinds; since = h.since; told_is = h.told_is; whats_are = h.whats_are };
+      steps = steps_on;
+    }
 
-  pub line_lives : (told : List Record) (handed : Sdus) (flown : Happened) (set : Bool) (line : Line) (keys : Option Keys) (k : Link) → k.out ≡ [] → IsInRange line → adds_one l line ≡ false → forges line ≡ false → Lived l nb ue told handed flown set k
-      → LineLives told handed flown (set || sets_timer l line) (ended_by line) (part line) (played line keys k)
+    abbrev pub LineLives : List Record → Sdus → Happened → Bool → List Happening → Part → Link → Type 0
+    LineLives = PartLives l (LivesOn first haps) through
+
+    -- behind a line
+    pub lived_now : (more : List Record) (handed : Sdus) (flown : Happened) (set : Bool) (k : Link) (place : Place) → LivesOn first haps (first ++ more) handed flown set k
+        → Lived (first ++ more) handed flown (λ from. haps from ++ told_in (sent_by from) l place more) set k
+    lived_now more handed flown set k place h = record {
+      by = h.by;
+      kinds = h.kinds;
+      whats_are = λ um from. h.whats_are um from place ∙ ap (λ (xs : List Record). haps from ++ told_in (sent_by from) l place xs) (cancel first h.since more (sym h.told_is));
+    }
+
+  -- at the beginning of a line that says nothing of a flow
+  lives_first : (word : List What) (told : List Record) (handed : Sdus) (flown : Happened) (haps : Haps) (set : Bool) (k : Link) → word ≡ [] → Lived told handed flown haps set k → LivesOn told (with_word word haps) told handed flown set k
+  lives_first word told handed flown haps set k none h = record {
+    by = h.by;
+    kinds = h.kinds;
+    since = [];
+    told_is = sym (append-nil told);
+    whats_are = λ um from place. h.whats_are um from ∙ (sym (append-nil (haps from)) ∙ (ap (λ (hs : List What). haps from ++ hs) (sym none) ∙ sym (append-nil (haps from ++ word))));
+  }
+
+  pub line_lives : (told : List Record) (handed : Sdus) (flown : Happened) (haps : Haps) (set : Bool) (line : Line) (keys : Option Keys) (k : Link) → k.out ≡ [] → IsInRange line → adds_one l line ≡ false → forges line ≡ false
+      → Lived told handed flown haps set k → LineLives told (with_word (word_of line) haps) told handed flown (set || sets_timer l line) (ended_by line) (part line) (played line keys k)
   unfolding acted
-  line_lives told handed flown set (lines.Handover user rrc integrity) keys k nothing fits other own h =
+  line_lives told handed flown haps set (lines.Handover user rrc integrity) keys k nothing fits other own h =
       let s = Calls (calls.HandsOver (next_keys user rrc integrity (keys_or_none keys))) in
-      step_plays l (Lived l nb ue) through told handed flown set s k Rests nothing (λ side n. refl) (each_goes told handed flown set s k tt h)
-  line_lives told handed flown set line keys k nothing fits other own h = line_stays l (Lived l nb ue) through told handed flown set line keys k nothing fits other own refl h
+      step_plays l (LivesOn told (with_word (anew s) haps)) (through told (with_word (anew s) haps)) told handed flown set s k Rests nothing (λ side n. refl) (goes_anew told handed flown haps set s k tt h)
+  line_lives told handed flown haps set line keys k nothing fits other own h =
+      let word = word_of line in
+      line_stays l (LivesOn told (with_word word haps)) (through told (with_word word haps)) told handed flown set line keys k nothing fits other own refl (lives_first word told handed flown haps set k refl h)
 
 -- ---- of one life, in which it doesn't matter what went by air
 

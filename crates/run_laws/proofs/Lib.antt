@@ -25,6 +25,7 @@ pub mod Early
 pub mod Failing
 pub mod Failed
 pub mod Flowing
+pub mod Seen
 pub mod Delivering
 pub mod Arriving
 pub mod Drains
@@ -32,4 +33,5 @@ pub mod Zero
 pub mod Standing
 pub mod Unlooped
 pub mod Signalling
+pub mod Losses
 pub mod Everything

@@ -18,5 +18,6 @@ pub mod Delivery
 pub mod Arrival
 pub mod Drained
 pub mod Signalling
+pub mod Losses
 pub mod Promises
 pub mod Journals

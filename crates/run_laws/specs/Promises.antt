@@ -12,6 +12,7 @@ use Rattle.run_laws.specs.Drained.{DrainsLeaveNothing}
 use Rattle.run_laws.specs.Ends.{ComeByCalls}
 use Rattle.run_laws.specs.Keys.{all_keys, AreDistinct}
 use Rattle.run_laws.specs.Loops.{ReturnInOrder}
+use Rattle.run_laws.specs.Losses.{DeliversWhileShort}
 use Rattle.run_laws.specs.Order.{KeepsOrder}
 use Rattle.run_laws.specs.Signalling.{DeliversEachLife, DrainsLeaveNoSignal, HandoversBringNoSignal}
 use Rattle.run_laws.specs.Sums.{sums_at}
@@ -52,5 +53,7 @@ pub record IsPromised (played : Played) : Type 0 where
   pub signals_drained : DrainsLeaveNoSignal past
   -- and in a handover nothing of it goes up
   pub signals_moved : HandoversBringNoSignal past
+  -- each unacknowledged data bearer hands up some of what was submitted at the other end, in order, while losses are short
+  pub delivered_short : DeliversWhileShort past
   -- the records of each line stand in the order in which both ends, the blocks and the loop come to their turns
   pub in_order : LinesTell past
