@@ -1,6 +1,6 @@
 // What the other lines of a script do to both ends.
 ghost use Rattle.std.specs.Prelude.{◌≡◌, ◌≤◌, ◌<◌, ◌^◌, true, false, length, is_some, None, OnOk, IfOk, IfErr};
-ghost use Rattle.bearer_parts.specs.Submitting.{Answers, StaysOrDies};
+ghost use Rattle.bearer_pdcp.specs.Submitting.{Answers, StaysOrDies};
 ghost use Rattle.bearer_types.specs.Configs.{IsConfig};
 ghost use Rattle.l2_node.specs.Submitting.{refusal};
 ghost use Rattle.l2_node.specs.Finding.{has};

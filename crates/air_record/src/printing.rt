@@ -16,7 +16,7 @@ use crate::shown::{
     append_signalling, append_sized, append_status, append_umd, append_value,
 };
 use crate::word::{Word, append_counted, append_words, number, octet};
-use digits::append_number;
+use text_digits::append_number;
 use l2_bits::{Bytes, NoMemory};
 use l2_types::Side;
 use mac_pdu::Direction;

@@ -5,7 +5,7 @@ ghost use Rattle.std.specs.Fmt.{decimal};
 
 use crate::record::Lens;
 use arrayvec::ArrayVec;
-use digits::{append_hex, append_number};
+use text_digits::{append_hex, append_number};
 use itoa::Buffer;
 use l2_bits::{Bytes, Items, NoMemory};
 use rlc_pdu::{Nack, Nacks};

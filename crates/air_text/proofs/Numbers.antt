@@ -1,5 +1,5 @@
 use Rattle.std.proofs.Common.{◌≤◌, ◌+◌, ◌*◌, ◌-◌, ℕ, List, [], ◌∷◌, arith}
-use Rattle.digits.specs.Numerals.{value_behind}
+use Rattle.text_digits.specs.Numerals.{value_behind}
 
 pub value_behind_grows : (n : ℕ) (xs : List ℕ) → n ≤ value_behind n xs
 value_behind_grows n [] = omega arith

@@ -1,14 +1,14 @@
 ghost use Rattle.std.specs.Prelude.{◌≡◌, ◌≢◌, ◌⊎◌, [], ◌∷◌, slice_index, ◌≤◌, ◌<◌, ◌^◌, ◌+◌, ◌*◌, ◌-◌, ℕ, List, length, IfOk, IfSome, OnOk, MatchOption, IsTrue, codes, map};
 ghost use Rattle.air_text.specs.Words.{Gives, HasRead, words_of, texts};
 ghost use Rattle.air_text.specs.Fields.{number_of, either_of, limit_of, octets_of, side_of, clock_of, kind_of, outcome_of, outcome, cipher_of, word_of, is_number};
-ghost use Rattle.digits.specs.Numerals.{is_digit, value_behind};
+ghost use Rattle.text_digits.specs.Numerals.{is_digit, value_behind};
 ghost use Rattle.air_text.specs.Reading.{key_of};
 ghost use Rattle.std.specs.List.{AllPass, list_all};
 ghost use Rattle.std.specs.Str.{bytes_eq};
 
 use crate::fault::{LineFault, LineRefusal};
 use air_record::{Fate, Outcome};
-use digits::read_hex;
+use text_digits::read_hex;
 use eps_sec::{Cipher, Key};
 use l2_bits::Bytes;
 use l2_types::{Clock, Kind, Side};

@@ -1,1 +1,3 @@
 pub mod Wider
+pub mod Unacknowledged
+pub mod Acknowledged

@@ -7,8 +7,8 @@ use Rattle.l2_types.specs.declared.Kind.TheVariants as kinds
 use Rattle.l2_types.specs.declared.Side.{Side}
 use Rattle.pdcp_pdu.specs.declared.PdcpKind.TheVariants as pdcp
 use Rattle.rlc_um.specs.Transparent.{nothing_submitted}
-use Rattle.bearer_um.specs.State.{fresh as fresh_um}
-use Rattle.bearer_am.specs.State.{fresh as fresh_am}
+use Rattle.bearer.specs.Unacknowledged.State.{fresh as fresh_um}
+use Rattle.bearer.specs.Acknowledged.State.{fresh as fresh_am}
 use Rattle.bearer.specs.declared.flow.Flow.{Flow}
 use Rattle.bearer.specs.declared.flow.Flow.TheVariants.{Tm, Um, Am}
 

@@ -2,9 +2,9 @@
 use Rattle.std.specs.Prelude.{ℕ, List, [], Option, Some, None}
 use Rattle.bearer_types.specs.declared.Event.{Event}
 use Rattle.l2_types.specs.declared.Clock.{Clock}
-use Rattle.bearer_um.specs.Hearing.{arriving as um_arriving, after_arrival as um_arrived, expiry as um_expiry, after_expiry as um_expired, ticking as um_ticking, after_ticking as um_ticked}
-use Rattle.bearer_am.specs.Hearing.{arriving as am_arriving, after_arrival as am_arrived}
-use Rattle.bearer_am.specs.Timing.{expiry as am_expiry, after_expiry as am_expired, ticked as am_ticked}
+use Rattle.bearer.specs.Unacknowledged.Hearing.{arriving as um_arriving, after_arrival as um_arrived, expiry as um_expiry, after_expiry as um_expired, ticking as um_ticking, after_ticking as um_ticked}
+use Rattle.bearer.specs.Acknowledged.Hearing.{arriving as am_arriving, after_arrival as am_arrived}
+use Rattle.bearer.specs.Acknowledged.Timing.{expiry as am_expiry, after_expiry as am_expired, ticked as am_ticked}
 use Rattle.bearer.specs.declared.flow.Flow.{Flow}
 use Rattle.bearer.specs.declared.flow.Flow.TheVariants.{Tm, Um, Am}
 use Rattle.bearer.specs.Transparent.{arrived_told}

@@ -5,3 +5,5 @@ pub mod Sums
 pub mod Taking
 pub mod Hearing
 pub mod Lives
+pub mod Unacknowledged
+pub mod Acknowledged

@@ -1,7 +1,7 @@
 ghost use Rattle.std.specs.Prelude.{◌≡◌, ◌≤◌, ◌<◌, ◌^◌, None, Err, length, OnOk, OnErr, IfOk, IfErr, IsTrue, IsFalse, IsErr};
 ghost use Rattle.l2_bits.specs.declared.SubmitRefusal.TheVariants as refusals;
-ghost use Rattle.bearer_parts.specs.Shares.{FitsShare};
-ghost use Rattle.bearer_parts.specs.Submitting.{Answers, StaysOrDies};
+ghost use Rattle.bearer_pdcp.specs.Shares.{FitsShare};
+ghost use Rattle.bearer_pdcp.specs.Submitting.{Answers, StaysOrDies};
 ghost use Rattle.bearer_types.specs.Configs.{IsConfig};
 ghost use Rattle.bearer.specs.Bearer.{of, alive, begun};
 ghost use Rattle.bearer.specs.Submitting.{refusal, submitted};
@@ -11,7 +11,7 @@ ghost use Rattle.bearer.specs.Hearing.{arriving, arrived, expiry, expired, ticki
 ghost use Rattle.bearer.specs.Lives.{stopped, stopping, restarted};
 
 use crate::flow::{Flow, StoppedFlow};
-use bearer_parts::Written;
+use bearer_pdcp::Written;
 use bearer_types::{BearerConfig, Events};
 use eps_sec::Keys;
 use l2_bits::{NoMemory, SubmitRefusal};

@@ -1,8 +1,8 @@
 //! The kinds of bearers, by one name for each call.
 
 ghost use Rattle.std.specs.Prelude.{◌≡◌, ◌≤◌, ◌<◌, ◌^◌, None, length, IfOk, IfErr, OnOk};
-ghost use Rattle.bearer_parts.specs.Shares.{FitsShare};
-ghost use Rattle.bearer_parts.specs.Submitting.{Answers, StaysOrDies};
+ghost use Rattle.bearer_pdcp.specs.Shares.{FitsShare};
+ghost use Rattle.bearer_pdcp.specs.Submitting.{Answers, StaysOrDies};
 ghost use Rattle.bearer_types.specs.Configs.{IsConfig};
 ghost use Rattle.bearer.specs.Bearer.{flow_of};
 ghost use Rattle.bearer.specs.Submitting.{refusal, submitted};
@@ -11,10 +11,10 @@ ghost use Rattle.bearer.specs.Taking.{pdus, number, told, after};
 ghost use Rattle.bearer.specs.Hearing.{arriving, arrived, expiry, expired, ticking, ticked, with_discard};
 
 use crate::transparent::TmBearer;
-use bearer_am::{AmBearer, StoppedAm};
-use bearer_parts::Written;
+use crate::acknowledged::{AmBearer, StoppedAm};
+use bearer_pdcp::Written;
 use bearer_types::{BearerConfig, Events};
-use bearer_um::{StoppedUm, UmBearer};
+use crate::unacknowledged::{StoppedUm, UmBearer};
 use eps_sec::Keys;
 use l2_bits::{NoMemory, SubmitRefusal};
 use l2_types::{Clock, Kind, Side};

@@ -10,6 +10,6 @@ mod flow_stopped;
 mod transparent;
 
 pub use bearer::{Bearer, Running, Stopped};
-pub use bearer_parts::Written;
+pub use bearer_pdcp::Written;
 pub use bearer_types::{BearerConfig, Event, Events};
 pub use l2_types::{Clock, How, Kind, Lost, Side, Waits};

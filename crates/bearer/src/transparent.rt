@@ -3,11 +3,11 @@ ghost use Rattle.bearer_types.specs.declared.Event.TheVariants as events_of;
 ghost use Rattle.l2_types.specs.declared.How.TheVariants as hows;
 ghost use Rattle.rlc_queue.specs.NewPdu.{IsWithin};
 ghost use Rattle.rlc_um.specs.Transparent.{nothing_submitted, taken, after_take};
-ghost use Rattle.bearer_parts.specs.Shares.{FitsShare};
-ghost use Rattle.bearer_parts.specs.Telling.{pdus_of};
+ghost use Rattle.bearer_pdcp.specs.Shares.{FitsShare};
+ghost use Rattle.bearer_pdcp.specs.Telling.{pdus_of};
 ghost use Rattle.bearer.specs.Transparent.{data_told, arrived_told};
 
-use bearer_parts::{Written, tell_wait};
+use bearer_pdcp::{Written, tell_wait};
 use bearer_types::{Event, Events};
 use l2_bits::{Bytes, NoMemory, Packets};
 use l2_types::{How, Waits};
@@ -41,7 +41,7 @@ impl TmBearer {
         }
     }
 
-    #[tactic(auto, using(crate::proofs::Wider::wider, bearer_parts::proofs::Fitting::fits))]
+    #[tactic(auto, using(crate::proofs::Wider::wider, bearer_pdcp::proofs::Fitting::fits))]
     pub fn take(&mut self, lcid: u8, share: u32) -> Result<Written, NoMemory>
         ensures pdus { IfOk result (λ w. w.pdus ≡ pdus_of (taken self.old (share - 3))) }
         ensures number { IfOk result (λ w. w.number ≡ None) }

@@ -7,11 +7,11 @@ use Rattle.bearer.specs.Bearer.{Of, of, Life, alive}
 use Rattle.bearer.specs.declared.flow.Flow.{Flow}
 use Rattle.bearer.specs.declared.flow.Flow.TheVariants.{Tm, Um, Am}
 use Rattle.bearer.specs.Hearing.{expiry as flow_expiry, expired as flow_expired}
-use Rattle.bearer_am.specs.State.{State as Acknowledged, has_more}
-use Rattle.bearer_am.specs.Timing.{poll_told, timer_told, expiry as am_expiry, after_expiry as am_expired}
+use Rattle.bearer.specs.Acknowledged.State.{State as Acknowledged, has_more}
+use Rattle.bearer.specs.Acknowledged.Timing.{poll_told, timer_told, expiry as am_expiry, after_expiry as am_expired}
 use Rattle.bearer_types.specs.declared.event.Event.{Event}
-use Rattle.bearer_um.specs.Hearing.{expiry_told, expiry_left, expiry as um_expiry, after_expiry as um_expired}
-use Rattle.bearer_um.specs.State.{State as Unacknowledged}
+use Rattle.bearer.specs.Unacknowledged.Hearing.{expiry_told, expiry_left, expiry as um_expiry, after_expiry as um_expired}
+use Rattle.bearer.specs.Unacknowledged.State.{State as Unacknowledged}
 use Rattle.l2_bits.specs.declared.fault.NoMemory.{NoMemory}
 use Rattle.l2_num.specs.Timers.{Clock as Timer, clock as timer, ceased}
 use Rattle.l2_types.specs.declared.event.Clock.{Clock}

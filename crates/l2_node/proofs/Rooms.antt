@@ -8,7 +8,7 @@ use Rattle.mac_pdu.specs.declared.item.Control.{Control}
 use Rattle.mac_pdu.specs.declared.item.Control.TheVariants.{Report}
 use Rattle.mac_pdu.specs.Items.{MacItem, element, sdu, sdu_item, report_octets, control_octets}
 use Rattle.mac_pdu.specs.Writing.{Parts, items_of, writing, inner, payload, length_field, report_size, with_control}
-use Rattle.bearer_parts.specs.Shares.{in_block}
+use Rattle.bearer_pdcp.specs.Shares.{in_block}
 use Rattle.l2_node.specs.Writing.{taken_up, sdus_of, with_sdus}
 
 pub taken_up-append : (ss ts : List Sdu) → taken_up (ss ++ ts) ≡ taken_up ss + taken_up ts

@@ -1,5 +1,5 @@
 ghost use Rattle.std.specs.Prelude.{◌≡◌, ◌≤◌, ◌<◌, ◌^◌, None, Err, true, false, length, OnOk, OnErr, IfOk, IfErr, IsTrue, IsFalse, IsErr, IfSome, option_copied};
-ghost use Rattle.bearer_parts.specs.Submitting.{Answers, StaysOrDies};
+ghost use Rattle.bearer_pdcp.specs.Submitting.{Answers, StaysOrDies};
 ghost use Rattle.bearer_types.specs.Configs.{IsConfig};
 ghost use Rattle.harq.specs.Sending.{after_feedback, held_of, ndi_of};
 ghost use Rattle.harq.specs.Receiving.{after_assigned, assigned_answer, after_grant, grant_ndi, after_granted, arrived_answered, after_pass};

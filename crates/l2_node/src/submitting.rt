@@ -1,6 +1,6 @@
 // Bearers come, SDUs are submitted, sums are asked for.
 ghost use Rattle.std.specs.Prelude.{◌≡◌, ◌<◌, None, true, OnOk, OnErr, IfErr};
-ghost use Rattle.bearer_parts.specs.Submitting.{Answers, StaysOrDies};
+ghost use Rattle.bearer_pdcp.specs.Submitting.{Answers, StaysOrDies};
 ghost use Rattle.bearer_types.specs.Configs.{IsConfig};
 ghost use Rattle.l2_node.specs.End.{with_bearer};
 ghost use Rattle.l2_node.specs.Finding.{has};

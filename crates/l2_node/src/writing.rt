@@ -1,6 +1,6 @@
 // A new block: what each bearer writes into its share of a grant.
 ghost use Rattle.std.specs.Prelude.{◌≡◌, ◌<◌, ◌≤◌, ◌^◌, ◌+◌, ◌++◌, ◌∷◌, ℕ, None, All, [], OnOk, IfOk, slice_index, length};
-ghost use Rattle.bearer_parts.specs.Shares.{FitsShare, in_block};
+ghost use Rattle.bearer_pdcp.specs.Shares.{FitsShare, in_block};
 ghost use Rattle.prioritise.specs.Shares.{over};
 ghost use Rattle.l2_node.specs.End.{sent_by};
 ghost use Rattle.l2_node.specs.Finding.{find, has, bearer_at, lowest};

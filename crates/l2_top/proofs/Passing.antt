@@ -14,7 +14,7 @@ use Rattle.air_run.specs.Journal.{Outcome, Goes, Ends, Refuses, Played, refused,
 use Rattle.air_run.specs.declared.refusal.Reason.{Reason}
 use Rattle.air_run.specs.declared.refusal.Reason.TheVariants as reasons
 use Rattle.air_run.proofs.Cutting.{lines-line, tail-line}
-use Rattle.generator.specs.Lines.{Says, SayAll}
+use Rattle.script_generator.specs.Lines.{Says, SayAll}
 use Rattle.l2_top.specs.declared.engine.LineEnd.TheVariants as ends
 use Rattle.l2_top.specs.declared.playing.Ending.{Ending}
 use Rattle.l2_top.specs.declared.playing.Ending.TheVariants as endings

@@ -1,12 +1,12 @@
 -- The rows of the answers.
 use Rattle.std.proofs.Common.{◌≡◌, ℕ, Bool, List, [], refl, sym, append-nil, inl, inr}
 use Rattle.std.specs.Prelude.{Option, Some}
-use Rattle.generator.specs.Script.{script}
+use Rattle.script_generator.specs.Script.{script}
 use Rattle.l2_io.specs.Known.{HasRisen}
 use Rattle.air_record.specs.Text.{texts_of}
 use Rattle.air_run.specs.Journal.{Played, Refused}
-use Rattle.run_laws.specs.Journals.{EveryJournal}
-use Rattle.run_laws.proofs.Everything.{every-journal}
+use Rattle.law_run.specs.Journals.{EveryJournal}
+use Rattle.law_run.proofs.Everything.{every-journal}
 use Rattle.l2_top.specs.Plays.{Plays, HasPlayed}
 use Rattle.l2_top.specs.Main.{HasAll, HasFront, Row, Runs, Generates, Tells, TellsRefusal, TellsEnding, no_memory_text}
 use Rattle.l2_top.specs.Engines.{sums_of}

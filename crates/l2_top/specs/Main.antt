@@ -1,7 +1,7 @@
 -- The answers of the program.
 use Rattle.std.specs.Prelude.{◌≡◌, ◌⊎◌, ℕ, Bool, true, List, [], ◌∷◌, ◌++◌, codes, Option, Some}
 use Rattle.std.specs.Fmt.{decimal}
-use Rattle.generator.specs.Script.{script}
+use Rattle.script_generator.specs.Script.{script}
 use Rattle.l2_io.specs.Known.{before, after, IsFront, IsAtEnd, HasRisen}
 use Rattle.air_text.specs.declared.fault.LineRefusal.TheVariants.{Word, Number, Range, Hex, Fields, Long}
 use Rattle.air_run.specs.declared.refusal.RunRefusal.TheVariants.{UnknownBearer, BearerTwice, ConfiguredLate, KeyUsed, TimerIdle, SmallDrain, NoKeys, SetTwice, LoopOn, NoDiscard, Forged, DrxFields}

@@ -11,4 +11,4 @@ mod top;
 
 pub use status::Status;
 pub use top::l2_main;
-pub use words::{Command, Words};
+pub use cli_words::{Command, Words};

@@ -3,8 +3,8 @@ ghost use Rattle.l2_io.specs.Known.{HasRisen};
 ghost use Rattle.air_text.specs.Ranges.{IsInRange};
 ghost use Rattle.air_run.specs.Run.{fresh, step};
 ghost use Rattle.air_run.specs.Journal.{script, left_by};
-ghost use Rattle.generator.specs.Script.{script as script_of};
-ghost use Rattle.generator.specs.Lines.{SayAll};
+ghost use Rattle.script_generator.specs.Script.{script as script_of};
+ghost use Rattle.script_generator.specs.Lines.{SayAll};
 ghost use Rattle.l2_top.specs.Plays.{RunsLine, HasPlayed, state_of};
 ghost use Rattle.l2_top.specs.Engines.{PassesLines, sums_of};
 
@@ -12,7 +12,7 @@ use crate::engine::{LineEnd, finish};
 use crate::playing::{Ending, LIMIT};
 use air_run::{Reason, Run, StepFault};
 use air_text::Line;
-use generator::ScriptLines;
+use script_generator::ScriptLines;
 use l2_io::Sink;
 use std::alloc::Global;
 

@@ -1,8 +1,8 @@
 ghost use Rattle.std.specs.Prelude.{◌≡◌, ℕ, IfOk, None, Some, string_bytes};
 ghost use Rattle.l2_io.specs.Known.{HasRisen};
-ghost use Rattle.run_laws.specs.Journals.{EveryJournal};
+ghost use Rattle.law_run.specs.Journals.{EveryJournal};
 ghost use Rattle.air_run.specs.Journal.{journal_of};
-ghost use Rattle.words.specs.Commands.{command_of};
+ghost use Rattle.cli_words.specs.Commands.{command_of};
 ghost use Rattle.l2_top.specs.Engines.{blocks_of};
 ghost use Rattle.l2_top.specs.Main.{reason_text, refused_text, Tells, TellsRefusal, TellsEnding, Refuses, Runs, Generates};
 

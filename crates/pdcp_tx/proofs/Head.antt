@@ -1,7 +1,7 @@
 -- Each take is the head of what may be taken.
 use Rattle.std.proofs.Common.{◌≡◌, ℕ, suc, zero, ◌+◌, ◌-◌, List, [], ◌∷◌, ◌++◌, map, drop, take, Option, Some, None, refl, ap, ◌∙◌, arith}
-use Rattle.pdcp_kept.specs.declared.given.Sent.{Sent}
-use Rattle.pdcp_kept.specs.Waiting.{Waits}
+use Rattle.pdcp_tx_store.specs.declared.given.Sent.{Sent}
+use Rattle.pdcp_tx_store.specs.Waiting.{Waits}
 use Rattle.pdcp_tx.specs.State.{State, offers, owed_offers, again_offer, new_offers, took, took_owed, took_again, took_new}
 
 new_head : (k n : ℕ) (ws : List Waits) (left : ℕ) → left ≡ k - 1 → new_offers (n + 1) (take left (drop 1 ws)) ≡ drop 1 (new_offers n (take k ws))

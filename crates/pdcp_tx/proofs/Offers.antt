@@ -4,9 +4,9 @@ use Rattle.std.proofs.lemmas.List.{length-map}
 use Rattle.std.proofs.Math.Nat.{mul-le-mul_right}
 use Rattle.pdcp_pdu.specs.declared.pdu.PdcpKind.{PdcpKind}
 use Rattle.pdcp_tx.specs.Pdus.{extra}
-use Rattle.pdcp_kept.specs.declared.given.Sent.{Sent}
-use Rattle.pdcp_kept.specs.Waiting.{Waits, length_all}
-use Rattle.pdcp_kept.specs.Given.{sent_octets}
+use Rattle.pdcp_tx_store.specs.declared.given.Sent.{Sent}
+use Rattle.pdcp_tx_store.specs.Waiting.{Waits, length_all}
+use Rattle.pdcp_tx_store.specs.Given.{sent_octets}
 use Rattle.pdcp_tx.specs.State.{State, offers, Offer, owed_offers, again_offer, new_offers, sizes, or_else}
 
 sizes_append : (k : PdcpKind) (a b : List Offer) → sizes k (a ++ b) ≡ sizes k a + sizes k b

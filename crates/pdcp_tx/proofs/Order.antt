@@ -1,9 +1,9 @@
 -- COUNTs are taken in ascending order.
 use Rattle.std.proofs.Common.{◌≡◌, ◌≤◌, ℕ, ◌+◌, ◌-◌, Bool, true, false, List, [], ◌∷◌, ◌++◌, map, take, Option, Some, None, slice_get, refl, arith}
 use Rattle.l2_num.specs.Ascending.{IsAscending, AreBetween}
-use Rattle.pdcp_kept.specs.declared.given.Sent.{Sent}
-use Rattle.pdcp_kept.specs.Waiting.{Waits}
-use Rattle.pdcp_kept.specs.Given.{tells, untold}
+use Rattle.pdcp_tx_store.specs.declared.given.Sent.{Sent}
+use Rattle.pdcp_tx_store.specs.Waiting.{Waits}
+use Rattle.pdcp_tx_store.specs.Given.{tells, untold}
 use Rattle.pdcp_tx.specs.State.{State, offers, owed_offers, again_offer, new_offers, submitted, took, took_owed, took_again, took_new, confirmed, reported, reported_from, fms_count, owing, ticked, after_late}
 use Rattle.pdcp_tx.specs.Runs.{Call, Submit, Take, Confirm, Report, Owe, Tick, Late, count_of, taken}
 

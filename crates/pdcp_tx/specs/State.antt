@@ -5,14 +5,14 @@ use Rattle.pdcp_pdu.specs.declared.pdu.PdcpKind.TheVariants.{Srb, Um, Am}
 use Rattle.eps_sec.specs.declared.keys.Keys.{Keys}
 use Rattle.l2_bits.specs.declared.fault.SubmitRefusal.{SubmitRefusal}
 use Rattle.l2_bits.specs.declared.fault.SubmitRefusal.TheVariants.{Empty, TooLong, Full, CountEnd, NoMemory}
-use Rattle.pdcp_kept.specs.declared.given.Sent.{Sent}
-use Rattle.pdcp_kept.specs.declared.given.Entry.TheVariants.{Data, Own}
+use Rattle.pdcp_tx_store.specs.declared.given.Sent.{Sent}
+use Rattle.pdcp_tx_store.specs.declared.given.Entry.TheVariants.{Data, Own}
 use Rattle.pdcp_tx.specs.declared.sender.Next.{Next}
 use Rattle.pdcp_pdu.specs.Kinds.{is_am}
 use Rattle.pdcp_sec.specs.Protection.{Protection, protection_of}
 use Rattle.pdcp_tx.specs.Pdus.{modulus, extra, width, pdu}
-use Rattle.pdcp_kept.specs.Waiting.{Waits, length_all}
-use Rattle.pdcp_kept.specs.Given.{Given, settled, with_entry, with_ack, with_report, entry_at, is_own, first_open, first_unacked, open_octets, sent_octets, untold, from_unacked, data_of}
+use Rattle.pdcp_tx_store.specs.Waiting.{Waits, length_all}
+use Rattle.pdcp_tx_store.specs.Given.{Given, settled, with_entry, with_ack, with_report, entry_at, is_own, first_open, first_unacked, open_octets, sent_octets, untold, from_unacked, data_of}
 
 -- COUNTs are whole numbers, HFN and SN together (TS 36.323 6.3.5).
 -- `next` is the COUNT of the next SDU that is taken for the first time, `base` the first unconfirmed COUNT as the life

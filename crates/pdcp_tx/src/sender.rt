@@ -4,16 +4,16 @@ ghost use Rattle.std.specs.Prelude.{◌≡◌, ◌+◌, ◌-◌, ◌*◌, ◌<�
 ghost use Rattle.pdcp_pdu.specs.Kinds.{IsKind};
 ghost use Rattle.pdcp_sec.specs.Protection.{protection_of};
 ghost use Rattle.pdcp_tx.specs.Pdus.{modulus, width};
-ghost use Rattle.pdcp_kept.specs.Given.{from_unacked, data_of, first_open, first_unacked, with_entry, settled};
-ghost use Rattle.pdcp_kept.specs.Waiting.{length_all};
-ghost use Rattle.pdcp_kept.specs.declared.given.Entry.TheVariants.{Data, Own};
+ghost use Rattle.pdcp_tx_store.specs.Given.{from_unacked, data_of, first_open, first_unacked, with_entry, settled};
+ghost use Rattle.pdcp_tx_store.specs.Waiting.{length_all};
+ghost use Rattle.pdcp_tx_store.specs.declared.given.Entry.TheVariants.{Data, Own};
 ghost use Rattle.pdcp_tx.specs.State.{HasSize, IsShort, start, refusal, IsAnswer, submitted, offers, again_offer, new_offers, sizes, size, taking, took, took_owed, took_again, took_new, given_new, written, sent, confirmed, moved, low, or_else, fms_count, ahead, reported, reported_from, left, after_late, late_length, is_overdue, restarted, begun, next_from, waiting_on, first_again, owing, ticked};
 
 use crate::kind::{extra, modulus, width};
 use crate::security::write_pdu;
 use eps_sec::Keys;
 use l2_bits::{Bytes, NoMemory, SubmitRefusal};
-use pdcp_kept::{Again, Entry, Ledger, Queue, Sdu, Sent};
+use pdcp_tx_store::{Again, Entry, Ledger, Queue, Sdu, Sent};
 use pdcp_pdu::PdcpKind;
 use pdcp_sec::Security;
 use std::alloc::Global;

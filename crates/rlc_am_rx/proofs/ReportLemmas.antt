@@ -4,8 +4,8 @@ use Rattle.std.proofs.lemmas.Bool.{le-leb, lt-leb, leb-true}
 use Rattle.std.proofs.lemmas.List.Elements.{All-push, All-nil}
 use Rattle.rlc_pdu.specs.Pdus.{IsPart}
 use Rattle.rlc_pdu.specs.Status.{nack_size, nacks_size, status_size, has_part}
-use Rattle.am_window.specs.declared.Missing.{Missing}
-use Rattle.am_window.specs.Missing.{entry_bits, entries_bits, AreRanges}
+use Rattle.rlc_am_rx_window.specs.declared.Missing.{Missing}
+use Rattle.rlc_am_rx_window.specs.Missing.{entry_bits, entries_bits, AreRanges}
 use Rattle.rlc_am_rx.specs.Status.{nack_of, fitting, room_in}
 
 -- one entry, and then the others

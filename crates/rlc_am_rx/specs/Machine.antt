@@ -7,8 +7,8 @@ use Rattle.rlc_pdu.specs.declared.Turned.{Turned}
 use Rattle.rlc_pdu.specs.declared.Expired.{Expired}
 use Rattle.rlc_pdu.specs.declared.Expired.TheVariants.{Done, NotRunning}
 use Rattle.rlc_pdu.specs.Pdus.{AmdPdu}
-use Rattle.am_window.specs.Piece.{piece_of}
-use Rattle.am_window.specs.Window.{Kept, top, offset_of, first_incomplete, polled_in, landed as landed_in, with_kept, handed_on, advanced, salvaged}
+use Rattle.rlc_am_rx_window.specs.Piece.{piece_of}
+use Rattle.rlc_am_rx_window.specs.Window.{Kept, top, offset_of, first_incomplete, polled_in, landed as landed_in, with_kept, handed_on, advanced, salvaged}
 use Rattle.rlc_am_rx.specs.State.{State}
 use Rattle.rlc_am_rx.specs.Status.{is_running}
 

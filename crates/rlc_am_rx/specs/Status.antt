@@ -3,8 +3,8 @@ use Rattle.std.specs.Prelude.{ℕ, ◌-◌, ◌*◌, ◌%◌, ◌==◌, nat_le, 
 use Rattle.rlc_pdu.specs.declared.Nack.{Nack}
 use Rattle.rlc_pdu.specs.Status.{status_size}
 use Rattle.l2_num.specs.Timers.{Clock, runs}
-use Rattle.am_window.specs.declared.Missing.{Missing}
-use Rattle.am_window.specs.Missing.{missing, entry_bits}
+use Rattle.rlc_am_rx_window.specs.declared.Missing.{Missing}
+use Rattle.rlc_am_rx_window.specs.Missing.{missing, entry_bits}
 use Rattle.rlc_am_rx.specs.State.{State}
 
 abbrev pub is_running : Option Clock → Bool

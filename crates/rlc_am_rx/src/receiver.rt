@@ -6,14 +6,14 @@ ghost use Rattle.rlc_pdu.specs.Pdus.{IsSegment};
 ghost use Rattle.rlc_pdu.specs.Views.{amd_of};
 ghost use Rattle.rlc_pdu.specs.Status.{status_size};
 ghost use Rattle.rlc_pdu.specs.Writing.{status_written};
-ghost use Rattle.am_window.specs.Window.{offset_of, advanced, top};
-ghost use Rattle.am_window.specs.Piece.{piece_of, end_of};
+ghost use Rattle.rlc_am_rx_window.specs.Window.{offset_of, advanced, top};
+ghost use Rattle.rlc_am_rx_window.specs.Piece.{piece_of, end_of};
 ghost use Rattle.rlc_am_rx.specs.State.{fresh};
 ghost use Rattle.rlc_am_rx.specs.Status.{is_running, may_write, listed, chosen, ack, nacks, whole_size};
 ghost use Rattle.rlc_am_rx.specs.Machine.{stops, mark_left, starts, mark_begun, clock_left, clock_begun, turned_by, landed, window_with, bound_moved, settled, arrived, turned, after_reorder, reorder_answer, after_prohibit, prohibit_answer, reorder_ticked, prohibit_ticked, prohibit_ends, written, taken, finished};
 
 use crate::report::{ack_behind, choose};
-use am_window::{Output, Window};
+use rlc_am_rx_window::{Output, Window};
 use l2_bits::{Bytes, NoMemory, Packets};
 use l2_num::Timer;
 use l2_types::AmRxConfig;

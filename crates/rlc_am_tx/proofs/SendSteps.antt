@@ -1,10 +1,10 @@
 -- What is kept of a PDU that was just sent.
 use Rattle.std.proofs.Common.{◌≡◌, ◌<◌, ℕ, suc, ◌+◌, Bool, true, false, List, [], ◌∷◌, ◌++◌, length, slice_set, refl, ap, arith, nat_lt, add-one, if◌then◌else◌}
 use Rattle.std.proofs.lemmas.Bool.Decides.{nat_tests}
-use Rattle.am_tx_window.specs.Sent.{Sent, is_waiting, whole_size, rested}
-use Rattle.am_tx_window.specs.Written.{whole_octets}
-use Rattle.am_tx_window.specs.Window.{slot_at, leading_idle}
-use Rattle.am_tx_window.proofs.WaitingSteps.{slot-set, fresh-idle, within}
+use Rattle.rlc_am_tx_window.specs.Sent.{Sent, is_waiting, whole_size, rested}
+use Rattle.rlc_am_tx_window.specs.Written.{whole_octets}
+use Rattle.rlc_am_tx_window.specs.Window.{slot_at, leading_idle}
+use Rattle.rlc_am_tx_window.proofs.WaitingSteps.{slot-set, fresh-idle, within}
 
 -- the place of the first that waits holds one that waits
 pub first-waits : (slots : List Sent) → leading_idle slots < length slots → is_waiting (slot_at slots (leading_idle slots)) ≡ true

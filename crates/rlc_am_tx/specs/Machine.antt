@@ -10,10 +10,10 @@ use Rattle.rlc_pdu.specs.declared.pdu.Nack.{Nack}
 use Rattle.rlc_pdu.specs.Pdus.{StatusPdu}
 use Rattle.rlc_queue.specs.Waiting.{Waiting, nothing_waits, with_sdu}
 use Rattle.rlc_queue.specs.NewPdu.{elements, rest, partial}
-use Rattle.am_tx_window.specs.Sent.{Sent, fresh, all_wait, whole_size, is_spent, rested, sent_part, recalled, next_stretch}
-use Rattle.am_tx_window.specs.Written.{whole_octets, part_octets}
-use Rattle.am_tx_window.specs.Ledger.{Ledger, empty_ledger, opened, swept}
-use Rattle.am_tx_window.specs.Window.{Kept, next, slot_at, with_slot, offset_of, leading_idle, some_wait, last_open, named_all, is_named, acked_from, credited_from, considered_all, spent_among, advanced}
+use Rattle.rlc_am_tx_window.specs.Sent.{Sent, fresh, all_wait, whole_size, is_spent, rested, sent_part, recalled, next_stretch}
+use Rattle.rlc_am_tx_window.specs.Written.{whole_octets, part_octets}
+use Rattle.rlc_am_tx_window.specs.Ledger.{Ledger, empty_ledger, opened, swept}
+use Rattle.rlc_am_tx_window.specs.Window.{Kept, next, slot_at, with_slot, offset_of, leading_idle, some_wait, last_open, named_all, is_named, acked_from, credited_from, considered_all, spent_among, advanced}
 use Rattle.rlc_am_tx.specs.declared.turn.Turn.{Turn}
 use Rattle.rlc_am_tx.specs.declared.turn.Turn.TheVariants as turns
 use Rattle.rlc_am_tx.specs.declared.answers.Heard.{Heard}

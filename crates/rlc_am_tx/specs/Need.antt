@@ -2,9 +2,9 @@
 use Rattle.std.specs.Prelude.{ℕ, ◌+◌, Bool, not, ◌||◌, ◌&&◌, ◌==◌, if◌then◌else◌, Option}
 use Rattle.rlc_queue.specs.Waiting.{total, wanted}
 use Rattle.rlc_queue.specs.NewPdu.{fits_more}
-use Rattle.am_tx_window.specs.Sent.{resend_size}
-use Rattle.am_tx_window.specs.Ledger.{left_in}
-use Rattle.am_tx_window.specs.Window.{next, waiting_in}
+use Rattle.rlc_am_tx_window.specs.Sent.{resend_size}
+use Rattle.rlc_am_tx_window.specs.Ledger.{left_in}
+use Rattle.rlc_am_tx_window.specs.Window.{next, waiting_in}
 use Rattle.rlc_am_tx.specs.Machine.{State, waits, is_shut, is_held, again}
 
 abbrev pub new_need : ℕ → ℕ

@@ -1,14 +1,14 @@
 ghost use Rattle.std.specs.Prelude.{◌≡◌, ◌+◌, ◌-◌, ◌<◌, ◌≤◌, ◌^◌, OnOk, IfOk, IfErr, IfSome, length, Some, true, slice_get, min};
 ghost use Rattle.l2_num.specs.Timers.{ends};
 ghost use Rattle.rlc_pdu.specs.Views.{nacks_of, status_of};
-ghost use Rattle.am_tx_window.specs.Sent.{resend_size};
-ghost use Rattle.am_tx_window.specs.Window.{next, leading_idle};
+ghost use Rattle.rlc_am_tx_window.specs.Sent.{resend_size};
+ghost use Rattle.rlc_am_tx_window.specs.Window.{next, leading_idle};
 ghost use Rattle.rlc_am_tx.specs.Machine.{State, start, offered, confirmed, waits, is_shut, is_held, again, is_quiet, read, limit_in, limit_of, stops, ended, heard_of, after_status, heard, after_tick, recalled_place, with_recalled, expired, spent_at, expiry_limit, expiry_of, after_expiry, expiry, settled, settles};
 ghost use Rattle.rlc_am_tx.specs.Need.{new_need, data_need, hungry, backlog, left};
 
 use crate::answers::{Heard, PollExpired};
 use crate::polls::Polling;
-use am_tx_window::{Accounts, WINDOW, Window, is_named};
+use rlc_am_tx_window::{Accounts, WINDOW, Window, is_named};
 use l2_bits::{Bytes, NoMemory};
 use l2_types::AmTxConfig;
 use rlc_pdu::{NackReader, StatusRead};

@@ -4,14 +4,14 @@ ghost use Rattle.std.specs.Prelude.{ℕ, ◌≡◌, ◌<◌, ◌≤◌, ◌^◌,
 ghost use Rattle.rlc_queue.specs.NewPdu.{IsWithin};
 ghost use Rattle.std.specs.List.{sum};
 ghost use Rattle.rlc_pdu.specs.Pdus.{AreLens};
-ghost use Rattle.am_tx_window.specs.Sent.{whole_size, next_stretch, stretch_size, fresh};
-ghost use Rattle.am_tx_window.specs.Written.{whole_octets, part_octets};
-ghost use Rattle.am_tx_window.specs.Window.{slot_at};
+ghost use Rattle.rlc_am_tx_window.specs.Sent.{whole_size, next_stretch, stretch_size, fresh};
+ghost use Rattle.rlc_am_tx_window.specs.Written.{whole_octets, part_octets};
+ghost use Rattle.rlc_am_tx_window.specs.Window.{slot_at};
 ghost use Rattle.rlc_am_tx.specs.Machine.{waits, again, resend_turn, new_turn, turn, IsAgain, IsAble, is_wanted, polled, sent_whole, sent_segment, whole_taken, part_taken, new_slot, sent_new, new_taken, after_take, answer};
 
 use crate::sender::{HEAD, Sender};
 use crate::turn::Turn;
-use am_tx_window::{Slot, Stretch, WINDOW};
+use rlc_am_tx_window::{Slot, Stretch, WINDOW};
 use l2_bits::{Bytes, NoMemory};
 use rlc_pdu::Taken;
 use rlc_queue::{NewPdu, new_pdu};

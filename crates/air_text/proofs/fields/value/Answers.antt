@@ -1,5 +1,5 @@
 use Rattle.std.proofs.Common.{◌+◌, ◌-◌, ◌*◌, ◌∙◌, ap, arith, drop, drop-cons, get_or, suc}
-use Rattle.digits.specs.Numerals.{value_behind}
+use Rattle.text_digits.specs.Numerals.{value_behind}
 use Rattle.air_text.proofs.Numbers.{value_behind_grows}
 use Rattle.air_text.proofs.fields.value.Goals as goal
 

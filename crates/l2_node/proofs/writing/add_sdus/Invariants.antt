@@ -1,6 +1,6 @@
 use Rattle.std.proofs.Common.{◌≡◌, ◌≤◌, ◌+◌, [], length}
 use Rattle.std.specs.List.{All}
-use Rattle.bearer_parts.specs.Shares.{in_block}
+use Rattle.bearer_pdcp.specs.Shares.{in_block}
 use Rattle.l2_node.specs.Writing.{taken_up, sdus_of, with_sdus}
 use Rattle.l2_node.proofs.writing.add_sdus.Given as goal
 

@@ -1,6 +1,6 @@
 use Rattle.std.proofs.Common.{ℕ, List, ◌≤◌}
 use Rattle.air_run.specs.Journal.{script}
-use Rattle.generator.specs.Lines.{SayAll}
+use Rattle.script_generator.specs.Lines.{SayAll}
 use Rattle.l2_top.specs.Plays.{state_of}
 use Rattle.l2_top.proofs.Passing.{IsLeft}
 use Rattle.l2_top.proofs.summing.pass_lines.Given as goal

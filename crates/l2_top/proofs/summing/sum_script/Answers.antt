@@ -1,7 +1,7 @@
 use Rattle.air_run.specs.Journal.{script}
-use Rattle.generator.specs.Script.{script as script_of}
-use Rattle.generator.specs.Lines.{SayAll}
-use Rattle.generator.proofs.Saying.{say-script}
+use Rattle.script_generator.specs.Script.{script as script_of}
+use Rattle.script_generator.specs.Lines.{SayAll}
+use Rattle.script_generator.proofs.Saying.{say-script}
 use Rattle.l2_top.specs.Plays.{state_of}
 use Rattle.l2_top.proofs.Passing.{stopped, summed}
 use Rattle.l2_top.proofs.summing.sum_script.Goals as goal

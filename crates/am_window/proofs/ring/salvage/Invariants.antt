@@ -1,6 +1,0 @@
-use Rattle.std.proofs.Common.{◌≡◌}
-use Rattle.am_window.specs.Window.{salvaged}
-use Rattle.am_window.proofs.ring.salvage.Given as goal
-
-abbrev pub invariant-loop-slot : goal.invariant-loop-slot
-invariant-loop-slot l = salvaged l.out l.slot-iterator l.from ≡ salvaged l.fn.out l.ring.items l.given

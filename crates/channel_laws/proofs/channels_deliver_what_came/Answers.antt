@@ -1,8 +1,0 @@
-use Rattle.channel_laws.proofs.channels_deliver_what_came.Goals as goal
-use Rattle.channel_laws.proofs.Delivery.{channels_deliver_what_came, channels_deliver_what_came_undiscarded}
-
-pub returns-clause-taken : goal.returns-clause-taken
-returns-clause-taken c = channels_deliver_what_came
-
-pub returns-clause-submitted : goal.returns-clause-submitted
-returns-clause-submitted c = channels_deliver_what_came_undiscarded

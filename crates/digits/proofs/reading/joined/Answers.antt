@@ -1,5 +1,0 @@
-use Rattle.digits.proofs.PairLaws.{joined-lanes}
-use Rattle.digits.proofs.reading.joined.Goals as goal
-
-pub returns : goal.returns
-returns c = joined-lanes 32 c.args.values c.fits-values.0 c.fits-values.1

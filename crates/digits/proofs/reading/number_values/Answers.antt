@@ -1,5 +1,0 @@
-use Rattle.digits.proofs.Values.{numbers}
-use Rattle.digits.proofs.reading.number_values.Goals as goal
-
-pub returns : goal.returns
-returns c = numbers 64 c.args.digits c.fits-digits.0 c.fits-digits.1

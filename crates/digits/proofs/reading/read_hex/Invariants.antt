@@ -1,9 +1,0 @@
-use Rattle.std.proofs.Common.{◌≡◌, length}
-use Rattle.digits.specs.Pairs.{pairs, onto}
-use Rattle.digits.proofs.reading.read_hex.Given as goal
-
-abbrev pub invariant-loop-rest : goal.invariant-loop-rest
-invariant-loop-rest l = record { read : pairs l.fn.text ≡ onto l.octets (pairs l.rest) }
-
-abbrev pub decreases-loop-rest : goal.decreases-loop-rest
-decreases-loop-rest l = length l.rest

@@ -1,5 +1,0 @@
-use Rattle.digits.proofs.Values.{either}
-use Rattle.digits.proofs.reading.values.Goals as goal
-
-pub returns : goal.returns
-returns c = rw (c.number_values.ensures, c.letter_values.ensures) (either c.args.digits c.fits-digits.1)

@@ -1,5 +1,0 @@
-use Rattle.generator.proofs.Saying.{say-script}
-use Rattle.generator.proofs.laws.script_says_its_lines.Goals as goal
-
-pub returns : goal.returns
-returns c = say-script

@@ -1,0 +1,229 @@
+-- What is shown of a block tells of no SDU, no flight and no run.
+use Rattle.std.proofs.Common.{◌≡◌, ℕ, Bool, true, false, Option, Some, None, Result, Ok, Err, List, [], ◌∷◌, ◌++◌, length, map, refl, ap}
+use Rattle.std.specs.Prelude.{slice_index_or}
+use Rattle.std.specs.List.{filter, AllByRecursion}
+use Rattle.std.proofs.lemmas.Bool.{false≢true}
+use Rattle.air_record.specs.declared.record.Record.{Record}
+use Rattle.air_record.specs.declared.record.Record.TheVariants as records
+use Rattle.l2_types.specs.declared.side.Side.{Side}
+use Rattle.l2_types.specs.declared.side.Side.TheVariants.{Nb, Ue}
+use Rattle.mac_pdu.specs.declared.fault.MacRefusal.{MacRefusal}
+use Rattle.mac_pdu.specs.declared.item.Direction.{Direction}
+use Rattle.mac_pdu.specs.Items.{MacItem, front, element, sdu, padding}
+use Rattle.mac_pdu.specs.Reading.{reading}
+use Rattle.pdcp_pdu.specs.declared.pdu.PdcpKind.{PdcpKind}
+use Rattle.pdcp_pdu.specs.declared.pdu.PdcpKind.TheVariants as pdcp
+use Rattle.pdcp_pdu.specs.declared.pdu.PdcpRefusal.{PdcpRefusal}
+use Rattle.pdcp_pdu.specs.Pdus.{UserPdu, Sdu, Report, SrbPdu}
+use Rattle.pdcp_pdu.specs.Reading.{user_at, srb_at}
+use Rattle.rlc_pdu.specs.declared.fault.RlcRefusal.{RlcRefusal}
+use Rattle.rlc_pdu.specs.declared.pdu.Segment.{Segment}
+use Rattle.rlc_pdu.specs.Pdus.{UmdPdu, AmdPdu, AcknowledgedPdu, Payload, Status}
+use Rattle.rlc_pdu.specs.Reading.{umd_at, am_at}
+use Rattle.pdu_show.specs.declared.kinds.Layout.{Layout}
+use Rattle.pdu_show.specs.declared.kinds.Layout.TheVariants as layouts
+use Rattle.pdu_show.specs.Show.{user_shown, srb_shown, pdcp_shown, begins, ends, whole, wholes_shown, tm_shown, um_shown, amd_shown, am_shown, rlc_shown, item_shown, items_shown, shown_by, block_shown}
+use Rattle.air_link.specs.Link.{Link}
+use Rattle.air_link.specs.Downlink.{shows}
+use Rattle.law_air.specs.AnyCalls.Counts.{is_up, is_looped, is_of_run, is_of_air, ups, loopeds}
+use Rattle.law_air.specs.AnyCalls.Ends.{event_of, told_by, is_shown, is_of_building}
+use Rattle.law_air.specs.AnyCalls.Told.{Adds}
+use Rattle.law_air.proofs.AnyCalls.Adding.{same_grows}
+use Rattle.law_air.proofs.AnyCalls.Returning.{IsSilent}
+
+-- a record that is counted nowhere, and tells of no end
+record IsStill (one : Record) : Type 0 where
+  no_up : (side : Side) (lcid : ℕ) → is_up side lcid one ≡ false
+  no_loop : (lcid : ℕ) → is_looped lcid one ≡ false
+  no_run : is_of_run one ≡ false
+  not_of_air : is_of_air one ≡ false
+  no_event : (side : Side) → event_of side one ≡ []
+
+still : (one : Record) → is_shown one ≡ true → IsStill one
+still records.MacFront h = record { no_up = λ s k. refl; no_loop = λ k. refl; no_run = refl; not_of_air = refl; no_event = λ s. refl }
+still (records.MacSdu lcid len) h = record { no_up = λ s k. refl; no_loop = λ k. refl; no_run = refl; not_of_air = refl; no_event = λ s. refl }
+still (records.MacPad octets) h = record { no_up = λ s k. refl; no_loop = λ k. refl; no_run = refl; not_of_air = refl; no_event = λ s. refl }
+still (records.MacControl control) h = record { no_up = λ s k. refl; no_loop = λ k. refl; no_run = refl; not_of_air = refl; no_event = λ s. refl }
+still (records.RlcTm len) h = record { no_up = λ s k. refl; no_loop = λ k. refl; no_run = refl; not_of_air = refl; no_event = λ s. refl }
+still (records.RlcUm sn fi lens) h = record { no_up = λ s k. refl; no_loop = λ k. refl; no_run = refl; not_of_air = refl; no_event = λ s. refl }
+still (records.RlcAm sn poll fi lens) h = record { no_up = λ s k. refl; no_loop = λ k. refl; no_run = refl; not_of_air = refl; no_event = λ s. refl }
+still (records.RlcSeg sn poll fi last so lens) h = record { no_up = λ s k. refl; no_loop = λ k. refl; no_run = refl; not_of_air = refl; no_event = λ s. refl }
+still (records.RlcStatus ack nacks) h = record { no_up = λ s k. refl; no_loop = λ k. refl; no_run = refl; not_of_air = refl; no_event = λ s. refl }
+still (records.PdcpData sn len) h = record { no_up = λ s k. refl; no_loop = λ k. refl; no_run = refl; not_of_air = refl; no_event = λ s. refl }
+still (records.PdcpSrb sn len tag) h = record { no_up = λ s k. refl; no_loop = λ k. refl; no_run = refl; not_of_air = refl; no_event = λ s. refl }
+still (records.PdcpReport fms bitmap) h = record { no_up = λ s k. refl; no_loop = λ k. refl; no_run = refl; not_of_air = refl; no_event = λ s. refl }
+still (records.BadMac fault) h = record { no_up = λ s k. refl; no_loop = λ k. refl; no_run = refl; not_of_air = refl; no_event = λ s. refl }
+still (records.BadRlc fault) h = record { no_up = λ s k. refl; no_loop = λ k. refl; no_run = refl; not_of_air = refl; no_event = λ s. refl }
+still (records.BadPdcp fault) h = record { no_up = λ s k. refl; no_loop = λ k. refl; no_run = refl; not_of_air = refl; no_event = λ s. refl }
+still (records.Line number line) h = absurd (false≢true h)
+still (records.Tti tti) h = absurd (false≢true h)
+still records.Sleep h = absurd (false≢true h)
+still (records.Of side event) h = absurd (false≢true h)
+still (records.Block direction process fresh rv octets) h = absurd (false≢true h)
+still (records.Air direction what heard) h = absurd (false≢true h)
+still (records.Refused side lcid why) h = absurd (false≢true h)
+still (records.Looped lcid octets) h = absurd (false≢true h)
+still (records.Drained rounds) h = absurd (false≢true h)
+still (records.Spent rounds) h = absurd (false≢true h)
+still (records.Sum direction lcid submitted delivered state) h = absurd (false≢true h)
+still (records.Shown number direction len) h = absurd (false≢true h)
+
+-- ---- all that is shown
+
+abbrev pub AllShown : List Record → Type 0
+AllShown [] = Unit {0}
+AllShown (one ∷ more) = (is_shown one ≡ true) × AllShown more
+
+all_append : (a b : List Record) → AllShown a → AllShown b → AllShown (a ++ b)
+all_append [] b p q = q
+all_append (one ∷ more) b p q = (p.0, all_append more b p.1 q)
+
+none_kept : (test : Record → Bool) → ((one : Record) → is_shown one ≡ true → test one ≡ false) → (rs : List Record) → AllShown rs → filter test rs ≡ []
+none_kept test h [] a = refl
+none_kept test h (one ∷ more) a = rw (h one a.0) (none_kept test h more a.1)
+
+user_shows : (r : Result UserPdu PdcpRefusal) → is_shown (user_shown r) ≡ true
+user_shows (Ok (Sdu sn octets)) = refl
+user_shows (Ok (Report fms bitmap)) = refl
+user_shows (Err fault) = refl
+
+srb_shows : (r : Result SrbPdu PdcpRefusal) → is_shown (srb_shown r) ≡ true
+srb_shows (Ok pdu) = refl
+srb_shows (Err fault) = refl
+
+pdcp_shows : (kind : PdcpKind) (octets : List ℕ) → is_shown (pdcp_shown kind octets) ≡ true
+pdcp_shows pdcp.Srb octets = srb_shows (srb_at octets)
+pdcp_shows (pdcp.Um bits) octets = user_shows (user_at bits octets)
+pdcp_shows (pdcp.Am bits) octets = user_shows (user_at bits octets)
+
+all_shows : (kind : PdcpKind) (xs : List (List ℕ)) → AllShown (map (pdcp_shown kind) xs)
+all_shows kind [] = tt
+all_shows kind (x ∷ xs) = (pdcp_shows kind x, all_shows kind xs)
+
+wholes_show : (kind : PdcpKind) (fi : ℕ) (elements : List (List ℕ)) → AllShown (wholes_shown kind fi elements)
+wholes_show kind fi elements = all_shows kind (whole (begins fi) (ends fi) elements)
+
+tm_shows : (octets : List ℕ) → AllShown (tm_shown octets)
+tm_shows [] = (refl, tt)
+tm_shows (x ∷ xs) = (refl, tt)
+
+um_shows : (kind : PdcpKind) (r : Result UmdPdu RlcRefusal) → AllShown (um_shown kind r)
+um_shows kind (Ok pdu) = (refl, wholes_show kind pdu.fi pdu.elements)
+um_shows kind (Err fault) = (refl, tt)
+
+amd_shows : (kind : PdcpKind) (pdu : AmdPdu) (s : Option Segment) → AllShown (amd_shown kind pdu s)
+amd_shows kind pdu None = (refl, wholes_show kind pdu.fi pdu.elements)
+amd_shows kind pdu (Some s) = (refl, tt)
+
+am_shows : (kind : PdcpKind) (r : Result AcknowledgedPdu RlcRefusal) → AllShown (am_shown kind r)
+am_shows kind (Ok (Payload pdu)) = amd_shows kind pdu pdu.segment
+am_shows kind (Ok (Status pdu)) = (refl, tt)
+am_shows kind (Err fault) = (refl, tt)
+
+rlc_shows : (layout : Option Layout) (octets : List ℕ) → AllShown (rlc_shown layout octets)
+unfolding rlc_shown
+rlc_shows None octets = tt
+rlc_shows (Some layouts.Tm) octets = tm_shows octets
+rlc_shows (Some (layouts.Um rlc_bits kind)) octets = um_shows kind (umd_at rlc_bits octets)
+rlc_shows (Some (layouts.Am kind)) octets = am_shows kind (am_at octets)
+
+item_shows : (kinds : List (Option Layout)) (i : MacItem) → AllShown (item_shown kinds i)
+unfolding item_shown
+item_shows kinds front = (refl, tt)
+item_shows kinds (element control) = (refl, tt)
+item_shows kinds (sdu lcid octets) = (refl, rlc_shows (slice_index_or kinds lcid None) octets)
+item_shows kinds (padding octets) = (refl, tt)
+
+items_show : (kinds : List (Option Layout)) (is : List MacItem) → AllShown (items_shown kinds is)
+items_show kinds [] = tt
+items_show kinds (i ∷ is) = all_append (item_shown kinds i) (items_shown kinds is) (item_shows kinds i) (items_show kinds is)
+
+pub block_shows : (kinds : List (Option Layout)) (r : Result (List MacItem) MacRefusal) → AllShown (shown_by kinds r)
+block_shows kinds (Ok items) = items_show kinds items
+block_shows kinds (Err fault) = (refl, tt)
+
+-- ---- a block is shown
+
+none_counted : (test : Record → Bool) (rs : List Record) → ((one : Record) → is_shown one ≡ true → test one ≡ false) → AllShown rs → length (filter test rs) ≡ 0
+none_counted test rs h a = ap length (none_kept test h rs a)
+
+pub shows_adds : (direction : Direction) (block : List ℕ) (l : Link) → Adds [] l (shows direction block l)
+shows_adds direction block l =
+    let rs = block_shown direction l.kinds block in
+    let a = block_shows l.kinds (reading direction block) in
+    record {
+      more = rs;
+      out_is = refl;
+      ttis_is = refl;
+      told = record {
+        nb_delivered = same_grows (λ k. ups Nb k rs) l.up.delivered l.up.delivered refl (λ k. none_counted (is_up Nb k) rs (λ one h. (still one h).no_up Nb k) a);
+        ue_delivered = same_grows (λ k. ups Ue k rs) l.down.delivered l.down.delivered refl (λ k. none_counted (is_up Ue k) rs (λ one h. (still one h).no_up Ue k) a);
+        nb_submitted = refl;
+        ue_submitted = same_grows (λ k. loopeds k rs) l.up.submitted l.up.submitted refl (λ k. none_counted (is_looped k) rs (λ one h. (still one h).no_loop k) a);
+        flown_is = none_kept is_of_air (λ one h. (still one h).not_of_air) rs a;
+        none_of_run = none_kept is_of_run (λ one h. (still one h).no_run) rs a;
+      };
+    }
+
+shown_is_built : (one : Record) → is_shown one ≡ true → is_of_building one ≡ true
+shown_is_built records.MacFront h = refl
+shown_is_built (records.MacSdu lcid len) h = refl
+shown_is_built (records.MacPad octets) h = refl
+shown_is_built (records.MacControl control) h = refl
+shown_is_built (records.RlcTm len) h = refl
+shown_is_built (records.RlcUm sn fi lens) h = refl
+shown_is_built (records.RlcAm sn poll fi lens) h = refl
+shown_is_built (records.RlcSeg sn poll fi last so lens) h = refl
+shown_is_built (records.RlcStatus ack nacks) h = refl
+shown_is_built (records.PdcpData sn len) h = refl
+shown_is_built (records.PdcpSrb sn len tag) h = refl
+shown_is_built (records.PdcpReport fms bitmap) h = refl
+shown_is_built (records.BadMac fault) h = refl
+shown_is_built (records.BadRlc fault) h = refl
+shown_is_built (records.BadPdcp fault) h = refl
+shown_is_built (records.Line number line) h = absurd (false≢true h)
+shown_is_built (records.Tti tti) h = absurd (false≢true h)
+shown_is_built records.Sleep h = absurd (false≢true h)
+shown_is_built (records.Of side event) h = absurd (false≢true h)
+shown_is_built (records.Block direction process fresh rv octets) h = absurd (false≢true h)
+shown_is_built (records.Air direction what heard) h = absurd (false≢true h)
+shown_is_built (records.Refused side lcid why) h = absurd (false≢true h)
+shown_is_built (records.Looped lcid octets) h = absurd (false≢true h)
+shown_is_built (records.Drained rounds) h = absurd (false≢true h)
+shown_is_built (records.Spent rounds) h = absurd (false≢true h)
+shown_is_built (records.Sum direction lcid submitted delivered state) h = absurd (false≢true h)
+shown_is_built (records.Shown number direction len) h = absurd (false≢true h)
+
+all_kept : (rs : List Record) → AllShown rs → filter is_of_building rs ≡ rs
+all_kept [] a = refl
+all_kept (one ∷ more) a = rw (shown_is_built one a.0) (ap (λ (x : List Record). one ∷ x) (all_kept more a.1))
+
+pub block_is_shown : (direction : Direction) (kinds : List (Option Layout)) (block : List ℕ) → filter is_of_building (block_shown direction kinds block) ≡ block_shown direction kinds block
+block_is_shown direction kinds block = all_kept (block_shown direction kinds block) (block_shows kinds (reading direction block))
+
+none_told : (side : Side) (rs : List Record) → AllShown rs → told_by side rs ≡ []
+none_told side [] a = refl
+none_told side (one ∷ more) a = rw ((still one a.0).no_event side) (none_told side more a.1)
+
+pub shown_untold : (side : Side) (direction : Direction) (kinds : List (Option Layout)) (block : List ℕ) → told_by side (block_shown direction kinds block) ≡ []
+shown_untold side direction kinds block = none_told side (block_shown direction kinds block) (block_shows kinds (reading direction block))
+
+-- ---- nothing that is shown tells of an SDU of the test loop
+
+shown_is_silent : (one : Record) → is_shown one ≡ true → IsSilent one
+shown_is_silent (records.Of side event) h = absurd (false≢true h)
+shown_is_silent (records.Looped lcid octets) h = absurd (false≢true h)
+shown_is_silent one h = (refl, λ mode. refl)
+
+all_silent : (rs : List Record) → AllShown rs → AllByRecursion IsSilent rs
+all_silent [] a = tt
+all_silent (one ∷ more) a = (shown_is_silent one a.0, all_silent more a.1)
+
+pub block_is_silent : (direction : Direction) (kinds : List (Option Layout)) (block : List ℕ) → AllByRecursion IsSilent (block_shown direction kinds block)
+block_is_silent direction kinds block = all_silent (block_shown direction kinds block) (block_shows kinds (reading direction block))
+
+pub block_hands_up_none : (direction : Direction) (kinds : List (Option Layout)) (block : List ℕ) (side : Side) (lcid : ℕ) → filter (is_up side lcid) (block_shown direction kinds block) ≡ []
+block_hands_up_none direction kinds block side lcid = none_kept (is_up side lcid) (λ one h. (still one h).no_up side lcid) (block_shown direction kinds block) (block_shows kinds (reading direction block))
+
+pub block_is_of_no_air : (direction : Direction) (kinds : List (Option Layout)) (block : List ℕ) → filter is_of_air (block_shown direction kinds block) ≡ []
+block_is_of_no_air direction kinds block = none_kept is_of_air (λ one h. (still one h).not_of_air) (block_shown direction kinds block) (block_shows kinds (reading direction block))

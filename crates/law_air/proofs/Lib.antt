@@ -1,0 +1,2 @@
+pub mod AnyCalls
+pub mod TwoEnds

@@ -1,0 +1,137 @@
+-- Calls of a bearer over unacknowledged RLC, as steps of PDCP's sender.
+use Rattle.std.proofs.Common.{◌≡◌, ℕ, zero, suc, ◌≤◌, Bool, true, false, if◌then◌else◌, List, [], ◌∷◌, take, drop, map, length, Option, Some, Result, Ok, Err, refl, ap, ◌∙◌, arith}
+use Rattle.bearer_types.specs.declared.Event.{Event}
+use Rattle.l2_num.specs.Timers.{ends}
+use Rattle.l2_types.specs.declared.Clock.{Clock}
+use Rattle.l2_types.specs.declared.Clock.TheVariants.{Poll, Reorder, Prohibit}
+use Rattle.pdcp_rx.specs.declared.Cause.{Cause}
+use Rattle.eps_sec.specs.declared.Keys.{Keys}
+use Rattle.pdcp_rx.specs.declared.Cause.TheVariants.{Arrived, Reestablished}
+use Rattle.pdcp_tx.specs.State.{Offer, offers, took}
+use Rattle.rlc_pdu.specs.declared.Expired.{Expired}
+use Rattle.rlc_pdu.specs.declared.Expired.TheVariants.{Done, NotRunning}
+use Rattle.rlc_pdu.specs.declared.RlcRefusal.{RlcRefusal}
+use Rattle.rlc_pdu.specs.Pdus.{UmdPdu}
+use Rattle.rlc_pdu.specs.Reading.{umd_at}
+use Rattle.rlc_um.specs.Sender.{is_hungry}
+use Rattle.rlc_um.specs.Receiver.{State as Receiver, landing, turning, arrival, expiring, expired, all_joined}
+use Rattle.bearer_pdcp.specs.Lives.{restarted as restarted_pdcp}
+use Rattle.bearer_pdcp.specs.Discarding.{after_tick}
+use Rattle.bearer_pdcp.specs.Taking.{after_taking as after_pdcp}
+use Rattle.bearer_pdcp.specs.Telling.{landed_told, expired_told}
+use Rattle.bearer.specs.Unacknowledged.State.{State}
+use Rattle.bearer.specs.Unacknowledged.Taking.{Feeding, given_to, fed, feeds, feeding, size_in, after_taking}
+use Rattle.bearer.specs.Unacknowledged.Hearing.{Hearing, hears, hears_all, up_left, arrived_left, after_arrival, expiry_left, clock_left, after_expiry, counted_down, timed_left, after_ticking}
+use Rattle.bearer.specs.Unacknowledged.Lives.{stopped, restarted}
+use Rattle.law_bearer.specs.AnyBearer.Stream.{pdu_of, um_offered}
+use Rattle.law_bearer.proofs.AnyBearer.Sender.{nothing, took_all, left_of, took_same, same_pdus}
+use Rattle.law_bearer.proofs.AnyBearer.Parts.{first_taken, pdcp_took, pdcp_rest, Passed, rests, passed_then, hearing_moves, Ended, ends_as, ended_then, last_one}
+
+-- ---- RLC takes PDUs
+
+-- so many are fed
+pub record Fed (os : List Offer) (w v : Feeding) : Type 0 where
+  pub n : ℕ
+  pub few : n ≤ length os
+  pub left : v.pdcp.tx ≡ took_all n w.pdcp.tx
+  pub kind : v.pdcp.kind ≡ w.pdcp.kind
+  pub rx : v.pdcp.rx.kind ≡ w.pdcp.rx.kind
+  pub offered : v.tx ≡ um_offered (map (pdu_of w.pdcp.tx) (take n os)) w.tx
+
+none_fed : (os : List Offer) (w : Feeding) → Fed os w w
+none_fed os w = record { n = zero; few = omega arith; left = refl; kind = refl; rx = refl; offered = refl }
+
+one_fed : (o : Offer) (os : List Offer) (w v : Feeding) → offers w.pdcp.tx ≡ o ∷ os → Fed os (fed w) v → Fed (o ∷ os) w v
+one_fed o os w v q f = record {
+  n = suc f.n;
+  few = omega (arith, f.few);
+  left = f.left ∙ ap (took_all f.n) (pdcp_took w.pdcp);
+  kind = f.kind ∙ (pdcp_rest w.pdcp).0;
+  rx = f.rx ∙ (pdcp_rest w.pdcp).1;
+  offered =
+      f.offered
+      ∙ ap (λ tx. um_offered (map (pdu_of (after_pdcp w.pdcp).tx) (take f.n os)) (given_to tx w.tx)) (first_taken w.pdcp o os q)
+      ∙ ap (λ s. um_offered (map (pdu_of s) (take f.n os)) (given_to (Some (pdu_of w.pdcp.tx o)) w.tx)) (pdcp_took w.pdcp)
+      ∙ ap (λ l. um_offered l (given_to (Some (pdu_of w.pdcp.tx o)) w.tx)) (same_pdus w.pdcp.tx (took w.pdcp.tx) (take f.n os) (took_same w.pdcp.tx));
+}
+
+fed_by : (b : Bool) (o : Offer) (os : List Offer) (w v : Feeding) → offers w.pdcp.tx ≡ o ∷ os → Fed os (fed w) v → Fed (o ∷ os) w (if b then v else w)
+fed_by true o os w v q f = one_fed o os w v q f
+fed_by false o os w v q f = none_fed (o ∷ os) w
+
+all_fed : (os : List Offer) (size : ℕ) (held : Option ℕ) (w : Feeding) → offers w.pdcp.tx ≡ os → Fed os w (feeds os size held w)
+all_fed [] size held w q = none_fed [] w
+all_fed (o ∷ os) size held w q =
+    fed_by (is_hungry w.tx size held) o os w (feeds os size held (fed w)) q
+    (all_fed os size held (fed w) (ap offers (pdcp_took w.pdcp) ∙ left_of 1 w.pdcp.tx ∙ ap (drop 1) q))
+
+pub all_fed_in : (s : State) (share : ℕ) (held : Option ℕ) → Fed (offers s.pdcp.tx) (record { pdcp = s.pdcp; tx = s.tx; events = [] }) (feeding s share held)
+all_fed_in s share held = all_fed (offers s.pdcp.tx) (size_in share) held (record { pdcp = s.pdcp; tx = s.tx; events = [] }) refl
+
+pub take_left : (s : State) (share : ℕ) (held : Option ℕ) → (after_taking s share held).pdcp ≡ (feeding s share held).pdcp
+unfolding after_taking
+take_left s share held = refl
+
+-- ---- a PDU arrives
+
+hears_move : (sdus : List (List ℕ)) (cause : Cause) (h : Hearing) → Passed h.pdcp (hears_all sdus cause h).pdcp nothing
+hears_move [] cause h = rests h.pdcp
+hears_move (sdu ∷ sdus) cause h =
+    passed_then h.pdcp (hears sdu cause h).pdcp (hears_all sdus cause (hears sdu cause h)).pdcp nothing nothing (hearing_moves sdu cause h.pdcp) (hears_move sdus cause (hears sdu cause h))
+
+up_moves : (r : Receiver) (told : List Event) (s : State) → Passed s.pdcp (up_left r told s).pdcp nothing
+up_moves r told s = hears_move r.joined.ready Arrived (record { pdcp = s.pdcp; events = told })
+
+arrival_by : (r : Result UmdPdu RlcRefusal) (s : State) → Passed s.pdcp (arrived_left r s).pdcp nothing
+arrival_by (Err fault) s = rests s.pdcp
+arrival_by (Ok pdu) s = up_moves (arrival pdu s.rx) (landed_told s.pdcp.lcid (landing pdu s.rx) (turning pdu s.rx)) s
+
+pub arrival_moves : (s : State) (pdu : List ℕ) → Passed s.pdcp (after_arrival s pdu).pdcp nothing
+unfolding after_arrival
+arrival_moves s pdu = arrival_by (umd_at s.bits pdu) s
+
+-- ---- timers
+
+expiry_by : (e : Expired) (s : State) → Passed s.pdcp (expiry_left e s).pdcp nothing
+expiry_by NotRunning s = rests s.pdcp
+expiry_by (Done again) s = up_moves (expired s.rx) (expired_told s.pdcp.lcid Reorder again) s
+
+clock_moves : (clock : Clock) (s : State) → Passed s.pdcp (clock_left clock s).pdcp nothing
+clock_moves Poll s = rests s.pdcp
+clock_moves Reorder s = expiry_by (expiring s.rx) s
+clock_moves Prohibit s = rests s.pdcp
+
+pub expiry_moves : (s : State) (clock : Clock) → Passed s.pdcp (after_expiry s clock).pdcp nothing
+unfolding after_expiry
+expiry_moves s clock = clock_moves clock s
+
+timed_moves : (b : Bool) (s : State) → Passed s.pdcp (timed_left b s).pdcp nothing
+timed_moves true s = expiry_moves s Reorder
+timed_moves false s = rests s.pdcp
+
+-- before the discard timers count
+abbrev pub timed : State → State
+timed s = timed_left (ends s.rx.clock) (counted_down s)
+
+pub before_discards : (s : State) → Passed s.pdcp (timed s).pdcp nothing
+before_discards s = timed_moves (ends s.rx.clock) (counted_down s)
+
+pub ticked_is : (s : State) → (after_ticking s).pdcp ≡ after_tick (timed s).pdcp
+unfolding after_ticking
+ticked_is s = refl
+
+-- ---- the end of a life and the beginning of the next
+
+last_ended : (sdus : List (List ℕ)) (h : Hearing) → Ended h.pdcp (hears_all sdus Reestablished h).pdcp
+last_ended [] h = ends_as h.pdcp
+last_ended (sdu ∷ sdus) h =
+    ended_then h.pdcp (hears sdu Reestablished h).pdcp (hears_all sdus Reestablished (hears sdu Reestablished h)).pdcp (last_one sdu h.pdcp)
+    (last_ended sdus (hears sdu Reestablished h))
+
+pub stop_ends : (s : State) → Ended s.pdcp (stopped s).pdcp
+unfolding stopped
+stop_ends s = last_ended (all_joined s.rx) (record { pdcp = s.pdcp; events = [] })
+
+pub restart_is : (s : State) (keys : Keys) → (restarted (stopped s) keys).pdcp ≡ restarted_pdcp (stopped s).pdcp keys
+unfolding restarted
+restart_is s keys = refl

@@ -1,0 +1,43 @@
+-- A place means one SDU to PDCP and to RLC: the place in the stream of the life.
+use Rattle.std.specs.Prelude.{◌≡◌, ◌≤◌, List, [], ◌∷◌, length, drop, Some, None}
+use Rattle.bearer_types.specs.declared.BearerConfig.{BearerConfig}
+use Rattle.eps_sec.specs.declared.Keys.{Keys}
+use Rattle.l2_types.specs.declared.Kind.TheVariants as kinds
+use Rattle.l2_types.specs.declared.Side.{Side}
+use Rattle.pdcp_tx_store.specs.declared.given.Entry.{Entry}
+use Rattle.pdcp_tx_store.specs.declared.given.Entry.TheVariants.{Data, Own, Gone}
+use Rattle.pdcp_tx_store.specs.Given.{Given}
+use Rattle.pdcp_tx.specs.State.{Offer}
+use Rattle.bearer_pdcp.specs.Ends.{Ends}
+use Rattle.bearer.specs.declared.flow.Flow.{Flow}
+use Rattle.bearer.specs.Bearer.{flow_of}
+use Rattle.law_bearer.specs.AnyBearer.Calls.{Call, after_all, Step, Restart, goes, reached, ends}
+use Rattle.law_bearer.specs.AnyBearer.Stream.{taken}
+
+-- what PDCP keeps of a taken PDU: the SDU with its COUNT, or that it was the own report; nothing once it is confirmed
+abbrev pub IsOf : Entry → Offer → Type 0
+IsOf (Data x) o = (o.count ≡ Some x.count) × (o.text ≡ x.octets)
+IsOf Own o = o.count ≡ None
+IsOf Gone o = Unit {0}
+
+abbrev pub AreOf : List Entry → List Offer → Type 0
+AreOf [] [] = Unit {0}
+AreOf [] (o ∷ os) = ⊥
+AreOf (e ∷ es) [] = ⊥
+AreOf (e ∷ es) (o ∷ os) = IsOf e o × AreOf es os
+
+-- it keeps something of each PDU of the stream but the first so many, which are confirmed
+pub record AreAtPlaces (given : Given) (stream : List Offer) : Type 0 where
+  pub few : given.gone ≤ length stream
+  pub entries : AreOf given.entries (drop given.gone stream)
+
+-- in a life from its beginning on
+abbrev pub KeepsPlaces : Flow → Type 0
+KeepsPlaces f = (calls : List Call) (e : Ends) → ends (after_all f calls) ≡ Some e → AreAtPlaces e.tx.given (taken f calls)
+
+-- in the first life of an acknowledged data bearer, and in each that follows
+abbrev pub InTheFirst : Type 0
+InTheFirst = (c : BearerConfig) (keys : Keys) (side : Side) → c.kind ≡ kinds.Am → KeepsPlaces (flow_of c.kind c keys side)
+
+abbrev pub InTheOthers : Type 0
+InTheOthers = (c : BearerConfig) (keys : Keys) (side : Side) (steps : List Step) (next : Keys) → c.kind ≡ kinds.Am → KeepsPlaces (goes (reached c keys side steps) (Restart next))

@@ -1,0 +1,2 @@
+pub mod AnyBearer
+pub mod AmBearer

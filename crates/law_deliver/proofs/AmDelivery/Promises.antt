@@ -1,0 +1,31 @@
+-- What the steps of a life and its end have to show, so that a pair goes on as two ways.
+use Rattle.std.specs.Prelude.{◌≡◌, ℕ, List, ◌++◌}
+use Rattle.eps_sec.specs.declared.Keys.{Keys}
+use Rattle.law_deliver.specs.AmFlow.Pair.{Pair, Step, IsGiven}
+use Rattle.law_deliver.specs.AmDelivery.Lives.{LifeStep, InLife, Restarts, lives_on, MayHappen, far_ups_in, near_ups_in, near_news_in, far_news_in}
+use Rattle.law_rlc.specs.AmArrival.Lives.{Happening}
+use Rattle.law_deliver.specs.AmDelivery.Arrival.{down_in, up_in}
+use Rattle.law_deliver.proofs.AmDelivery.Joined.{Way, JoinedPair, pdcp}
+use Rattle.law_deliver.proofs.AmDelivery.Accounts.{told_of, TellsOn}
+
+-- a way goes on: what went up and what was taken for the first time grow by these, and so much is told of it
+pub record GoesOn (w v : Way) (news ups : List (List ℕ)) (told : List Happening) : Type 0 where
+  pub bits : v.bits ≡ w.bits
+  pub protection : v.protection ≡ w.protection
+  pub first : v.first ≡ w.first
+  pub sdus_are : (pdcp v).sdus ≡ (pdcp w).sdus ++ news
+  pub ups_are : (pdcp v).up ≡ (pdcp w).up ++ ups
+  pub tells : TellsOn told (pdcp w) (told_of w) (pdcp v) (told_of v)
+
+pub record BothGoOn (bits : ℕ) (down up : Way) (p : Pair) (x : LifeStep) : Type 0 where
+  pub down_after : Way
+  pub up_after : Way
+  pub joined : JoinedPair bits down_after up_after (lives_on p x)
+  pub down_goes : GoesOn down down_after (near_news_in p x) (far_ups_in p x) (down_in p x)
+  pub up_goes : GoesOn up up_after (far_news_in p x) (near_ups_in p x) (up_in p x)
+
+abbrev pub StepsGoOn : Type 0
+StepsGoOn = (bits : ℕ) (down up : Way) (p : Pair) (s : Step) → JoinedPair bits down up p → IsGiven p s → MayHappen p s → BothGoOn bits down up p (InLife s)
+
+abbrev pub RestartsGoOn : Type 0
+RestartsGoOn = (bits : ℕ) (down up : Way) (p : Pair) (keys : Keys) → JoinedPair bits down up p → BothGoOn bits down up p (Restarts keys)

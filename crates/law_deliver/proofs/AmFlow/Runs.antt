@@ -1,0 +1,156 @@
+-- What an end of a pair does in several deeds, one after the other.
+use Rattle.std.proofs.Common.{◌≡◌, ℕ, List, [], ◌∷◌, ◌++◌, map, length, Option, Some, None, slice_get, append_assoc, refl, ap, sym, subst, ◌∙◌}
+use Rattle.law_rlc.specs.AmPair.Flow.{Copy, except}
+use Rattle.bearer.specs.declared.flow.Flow.{Flow}
+use Rattle.bearer.specs.declared.flow.Flow.TheVariants.{Am}
+use Rattle.bearer.specs.Acknowledged.State.{State}
+use Rattle.law_bearer.specs.AnyBearer.Calls.{Call, Arrive, after_all}
+use Rattle.law_deliver.specs.AmFlow.Pair.{Sent, BearerEnd, Pair, Deed, Calls, DataComes, StatusComes, DataGoes, StatusGoes, Step, Near, Far, arrives, data_comes, status_comes, does, happens, goes, IsDone, AreGiven}
+use Rattle.law_deliver.proofs.AmFlow.Sending.{is_called}
+
+-- ---- deeds at one end
+
+abbrev pub does_all : BearerEnd → BearerEnd → List Deed → BearerEnd
+does_all other e [] = e
+does_all other e (d ∷ ds) = does_all other (does other e d) ds
+
+abbrev pub AreDone : BearerEnd → BearerEnd → List Deed → Type 0
+AreDone other e [] = Unit {0}
+AreDone other e (d ∷ ds) = IsDone e d × AreDone other (does other e d) ds
+
+abbrev pub near_steps : List Deed → List Step
+near_steps ds = map (λ d. Near d) ds
+
+abbrev pub far_steps : List Deed → List Step
+far_steps ds = map (λ d. Far d) ds
+
+pub near_goes : (p : Pair) (ds : List Deed) → goes (near_steps ds) p ≡ record { near = does_all p.far p.near ds; far = p.far }
+near_goes p [] = refl
+near_goes p (d ∷ ds) = near_goes (happens p (Near d)) ds
+
+pub far_goes : (p : Pair) (ds : List Deed) → goes (far_steps ds) p ≡ record { near = p.near; far = does_all p.near p.far ds }
+far_goes p [] = refl
+far_goes p (d ∷ ds) = far_goes (happens p (Far d)) ds
+
+pub near_given : (p : Pair) (ds : List Deed) → AreDone p.far p.near ds → AreGiven p (near_steps ds)
+near_given p [] g = tt
+near_given p (d ∷ ds) g = (g.0, near_given (happens p (Near d)) ds g.1)
+
+pub far_given : (p : Pair) (ds : List Deed) → AreDone p.near p.far ds → AreGiven p (far_steps ds)
+far_given p [] g = tt
+far_given p (d ∷ ds) g = (g.0, far_given (happens p (Far d)) ds g.1)
+
+pub goes_more : (p : Pair) (ss ts : List Step) → goes (ss ++ ts) p ≡ goes ts (goes ss p)
+goes_more p [] ts = refl
+goes_more p (s ∷ ss) ts = goes_more (happens p s) ss ts
+
+pub given_more : (p : Pair) (ss ts : List Step) → AreGiven p ss → AreGiven (goes ss p) ts → AreGiven p (ss ++ ts)
+given_more p [] ts g h = h
+given_more p (s ∷ ss) ts g h = (g.0, given_more (happens p s) ss ts g.1 h)
+
+-- ---- the calls of its bearer that they are, by what the other end has under way
+
+abbrev pub data_call : Option Copy → List Call
+data_call None = []
+data_call (Some c) = Arrive c.octets ∷ []
+
+abbrev pub status_call : Option Sent → List Call
+status_call None = []
+status_call (Some s) = Arrive s.octets ∷ []
+
+abbrev pub calls_in : BearerEnd → Deed → List Call
+calls_in other (Calls c) = c ∷ []
+calls_in other (DataComes k) = data_call (slice_get other.copies k)
+calls_in other (StatusComes k) = status_call (slice_get other.reports k)
+calls_in other (DataGoes k) = []
+calls_in other (StatusGoes k) = []
+
+abbrev pub all_calls_in : BearerEnd → List Deed → List Call
+all_calls_in other [] = []
+all_calls_in other (d ∷ ds) = calls_in other d ++ all_calls_in other ds
+
+-- ---- several PDUs come
+
+pub at_front : {A : Type 0} (pre : List A) (x : A) (post : List A) → slice_get (pre ++ x ∷ post) (length pre) ≡ Some x
+at_front [] x post = refl
+at_front (p ∷ pre) x post = at_front pre x post
+
+-- an end to which PDUs come is as it was but for its bearer
+pub record Hears (other e : BearerEnd) (pdus : List (List ℕ)) : Type 0 where
+  pub deeds : List Deed
+  pub done : AreDone other e deeds
+  pub bearer : State
+  pub is : does_all other e deeds ≡ record e { bearer = bearer }
+  pub flow_is : after_all (Am e.bearer) (map (λ p. Arrive p) pdus) ≡ Am bearer
+  pub calls_are : all_calls_in other deeds ≡ map (λ p. Arrive p) pdus
+
+none_hears : (other e : BearerEnd) → Hears other e []
+none_hears other e = record { deeds = []; done = tt; bearer = e.bearer; is = refl; flow_is = refl; calls_are = refl }
+
+one_hears : (other e : BearerEnd) (d : Deed) (pdu : List ℕ) (pdus : List (List ℕ)) → IsDone e d → does other e d ≡ arrives e pdu → calls_in other d ≡ Arrive pdu ∷ [] → Hears other (arrives e pdu) pdus
+    → Hears other e (pdu ∷ pdus)
+one_hears other e d pdu pdus g q i h = record {
+  deeds = d ∷ h.deeds;
+  done = (g, subst (λ (x : BearerEnd). AreDone other x h.deeds) (sym q) h.done);
+  bearer = h.bearer;
+  is = ap (λ (x : BearerEnd). does_all other x h.deeds) q ∙ h.is;
+  flow_is = ap (λ (f : Flow). after_all f (map (λ p. Arrive p) pdus)) (is_called e.bearer (Arrive pdu)) ∙ h.flow_is;
+  calls_are = ap (λ (cs : List Call). cs ++ all_calls_in other h.deeds) i ∙ ap (λ (cs : List Call). Arrive pdu ∷ cs) h.calls_are;
+}
+
+abbrev pub octets_of : List Copy → List (List ℕ)
+octets_of cs = map (λ (c : Copy). c.octets) cs
+
+abbrev pub texts_of : List Sent → List (List ℕ)
+texts_of rs = map (λ (r : Sent). r.octets) rs
+
+pub data_hears : (other e : BearerEnd) (pre cs post : List Copy) → other.copies ≡ pre ++ (cs ++ post) → Hears other e (octets_of cs)
+data_hears other e pre [] post q = none_hears other e
+data_hears other e pre (c ∷ cs) post q =
+    let at : slice_get other.copies (length pre) ≡ Some c = ap (λ (l : List Copy). slice_get l (length pre)) q ∙ at_front pre c (cs ++ post) in
+    one_hears other e (DataComes (length pre)) c.octets (octets_of cs) tt (ap (λ (o : Option Copy). data_comes e o) at) (ap data_call at)
+    (data_hears other (arrives e c.octets) (pre ++ c ∷ []) cs post (q ∙ sym (append_assoc pre (c ∷ []) (cs ++ post))))
+
+pub all_hears : (other e : BearerEnd) (pre rs post : List Sent) (before cs behind : List Copy) → other.reports ≡ pre ++ (rs ++ post) → other.copies ≡ before ++ (cs ++ behind) → Hears other e (texts_of rs ++ octets_of cs)
+all_hears other e pre [] post before cs behind q p = data_hears other e before cs behind p
+all_hears other e pre (r ∷ rs) post before cs behind q p =
+    let at : slice_get other.reports (length pre) ≡ Some r = ap (λ (l : List Sent). slice_get l (length pre)) q ∙ at_front pre r (rs ++ post) in
+    one_hears other e (StatusComes (length pre)) r.octets (texts_of rs ++ octets_of cs) tt (ap (λ (o : Option Sent). status_comes e o) at) (ap status_call at)
+    (all_hears other (arrives e r.octets) (pre ++ r ∷ []) rs post before cs behind (q ∙ sym (append_assoc pre (r ∷ []) (rs ++ post))) p)
+
+-- ---- several PDUs are let go
+
+pub except_front : {A : Type 0} (pre : List A) (x : A) (post : List A) → except (length pre) (pre ++ x ∷ post) ≡ pre ++ post
+except_front [] x post = refl
+except_front (p ∷ pre) x post = ap (λ l. p ∷ l) (except_front pre x post)
+
+pub record Drops (other e : BearerEnd) (copies : List Copy) (reports : List Sent) : Type 0 where
+  pub deeds : List Deed
+  pub done : AreDone other e deeds
+  pub is : does_all other e deeds ≡ record e { copies = copies; reports = reports }
+  pub calls_none : all_calls_in other deeds ≡ []
+
+one_drops : (other e : BearerEnd) (d : Deed) (x : BearerEnd) (copies : List Copy) (reports : List Sent) → IsDone e d → calls_in other d ≡ [] → does other e d ≡ x → record x { copies = copies; reports = reports } ≡ record e { copies = copies; reports = reports }
+    → Drops other x copies reports → Drops other e copies reports
+one_drops other e d x copies reports g i q same h = record {
+  deeds = d ∷ h.deeds;
+  done = (g, subst (λ (y : BearerEnd). AreDone other y h.deeds) (sym q) h.done);
+  is = ap (λ (y : BearerEnd). does_all other y h.deeds) q ∙ h.is ∙ same;
+  calls_none = ap (λ (cs : List Call). cs ++ all_calls_in other h.deeds) i ∙ h.calls_none;
+}
+
+pub data_drops : (other e : BearerEnd) (before cs behind : List Copy) → e.copies ≡ before ++ (cs ++ behind) → Drops other e (before ++ behind) e.reports
+data_drops other e before [] behind p = record { deeds = []; done = tt; is = ap (λ (l : List Copy). record e { copies = l }) p; calls_none = refl }
+data_drops other e before (c ∷ cs) behind p =
+    let x : BearerEnd = record e { copies = before ++ (cs ++ behind) } in
+    one_drops other e (DataGoes (length before)) x (before ++ behind) e.reports tt refl
+    (ap (λ (l : List Copy). record e { copies = l }) (ap (except (length before)) p ∙ except_front before c (cs ++ behind))) refl
+    (data_drops other x before cs behind refl)
+
+pub all_drops : (other e : BearerEnd) (pre rs post : List Sent) (before cs behind : List Copy) → e.reports ≡ pre ++ (rs ++ post) → e.copies ≡ before ++ (cs ++ behind) → Drops other e (before ++ behind) (pre ++ post)
+all_drops other e pre [] post before cs behind q p = subst (λ (l : List Sent). Drops other e (before ++ behind) l) q (data_drops other e before cs behind p)
+all_drops other e pre (r ∷ rs) post before cs behind q p =
+    let x : BearerEnd = record e { reports = pre ++ (rs ++ post) } in
+    one_drops other e (StatusGoes (length pre)) x (before ++ behind) (pre ++ post) tt refl
+    (ap (λ (l : List Sent). record e { reports = l }) (ap (except (length pre)) q ∙ except_front pre r (rs ++ post))) refl
+    (all_drops other x pre rs post before cs behind refl p)

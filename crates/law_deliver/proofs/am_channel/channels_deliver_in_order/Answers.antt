@@ -1,0 +1,5 @@
+use Rattle.law_deliver.proofs.AmChannel.Delivery.{channels_deliver_in_order}
+use Rattle.law_deliver.proofs.AmChannel.channels_deliver_in_order.Goals as goal
+
+pub returns : goal.returns
+returns c = channels_deliver_in_order

@@ -1,0 +1,5 @@
+use Rattle.law_deliver.proofs.SrbChannel.drained_channels_have_delivered.Goals as goal
+use Rattle.law_deliver.proofs.SrbChannel.Laws.{drained_delivers}
+
+pub returns : goal.returns
+returns c = drained_delivers

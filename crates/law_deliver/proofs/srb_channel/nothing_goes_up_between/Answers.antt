@@ -1,0 +1,5 @@
+use Rattle.law_deliver.proofs.SrbChannel.nothing_goes_up_between.Goals as goal
+use Rattle.law_deliver.proofs.SrbChannel.Laws.{nothing_between}
+
+pub returns : goal.returns
+returns c = nothing_between

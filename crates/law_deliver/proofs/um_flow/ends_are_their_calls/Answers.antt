@@ -1,0 +1,5 @@
+use Rattle.law_deliver.proofs.UmFlow.Calls.{ends_are_their_calls}
+use Rattle.law_deliver.proofs.UmFlow.ends_are_their_calls.Goals as goal
+
+pub returns : goal.returns
+returns c = ends_are_their_calls

@@ -1,0 +1,40 @@
+-- In each direction an acknowledged bearer is a flow, of which RLC's sender and receiver are those of the bearer at both ends.
+use Rattle.std.specs.Prelude.{◌≡◌, List, map}
+use Rattle.l2_types.specs.declared.config.AmTxConfig.{AmTxConfig}
+use Rattle.l2_types.specs.declared.AmRxConfig.{AmRxConfig}
+use Rattle.rlc_am_tx.specs.Machine.{start}
+use Rattle.rlc_am_rx.specs.State.{fresh}
+use Rattle.bearer.specs.Acknowledged.State.{State}
+use Rattle.law_rlc.specs.AmPair.Flow.{Report, Flow, Step as FlowStep, sender, receiver, goes as flow_goes, outset as flow_outset}
+use Rattle.law_rlc.specs.AmPair.Given.{AreGiven as AreGivenSteps}
+use Rattle.law_deliver.specs.AmFlow.Pair.{Sent, BearerEnd, Pair, Step, goes, outset, AreGiven}
+
+abbrev pub sent_as : Report → Sent
+sent_as r = record { octets = r.octets; age = r.age }
+
+-- from an end to the other, with what is under way
+pub record IsFlow (from to : BearerEnd) (f : Flow) : Type 0 where
+  pub sender_is : (sender f).state ≡ from.bearer.tx
+  pub receiver_is : (receiver f).state ≡ to.bearer.rx
+  pub copies_are : f.copies ≡ from.copies
+  pub reports_are : map sent_as f.reports ≡ to.reports
+  pub busy_is : f.busy ≡ from.busy
+
+-- one that has come so by steps that keep what is asked of them
+pub record HasFlow (sending : AmTxConfig) (receiving : AmRxConfig) (from to : BearerEnd) : Type 0 where
+  pub steps : List FlowStep
+  pub given : AreGivenSteps (flow_outset sending receiving) steps
+  pub is : IsFlow from to (flow_goes steps (flow_outset sending receiving))
+
+-- RLC begins with a life
+pub record BeginsLife (b : State) : Type 0 where
+  pub sends : b.tx ≡ start b.tx_config
+  pub hears : b.rx ≡ fresh b.rx_config
+
+pub record HasFlows (near far : State) (p : Pair) : Type 0 where
+  pub there : HasFlow near.tx_config far.rx_config p.near p.far
+  pub back : HasFlow far.tx_config near.rx_config p.far p.near
+
+abbrev pub BearersAreFlows : Type 0
+BearersAreFlows = (near far : State) (steps : List Step) → BeginsLife near → BeginsLife far → AreGiven (outset near far) steps
+    → HasFlows near far (goes steps (outset near far))

@@ -1,0 +1,9 @@
+pub mod AmFlow
+pub mod UmFlow
+pub mod UmDelivery
+pub mod AmDelivery
+pub mod SrbDelivery
+pub mod AmChannel
+pub mod SrbChannel
+pub mod UmChannel
+pub mod UmGaps

@@ -1,0 +1,84 @@
+-- In which order an end tells: the events of each of its calls, bearer by bearer and PDU by PDU (TS 36.321 5.4.3.1).
+use Rattle.std.specs.Prelude.{◌≡◌, ℕ, ◌==◌, Bool, ◌||◌, true, false, ◌≤◌, IfSome, Result, Ok, Err, List, [], ◌∷◌}
+use Rattle.std.specs.List.{AllByRecursion}
+use Rattle.law_bearer.specs.AnyBearer.Order.{Sequences, in_a_block, of_a_pdu, of_an_expiry, in_a_tti, at_the_end}
+use Rattle.law_bearer.specs.AnyBearer.Sequences.{nothing, just, each}
+use Rattle.bearer_types.specs.declared.event.Event.TheVariants.{BadMac, Drop}
+use Rattle.harq.specs.declared.sender.Order.{Order}
+use Rattle.harq.specs.declared.sender.Visit.TheVariants.{New}
+use Rattle.l2_node.specs.Building.{visit, building}
+use Rattle.l2_node.specs.End.{End, heard_by}
+use Rattle.l2_node.specs.Finding.{has}
+use Rattle.l2_node.specs.Hearing.{received, ticked, expiry}
+use Rattle.l2_node.specs.Moving.{leaving}
+use Rattle.l2_types.specs.declared.event.Clock.{Clock}
+use Rattle.l2_types.specs.declared.event.Lost.TheVariants.{NoBearer}
+use Rattle.l2_types.specs.declared.side.Side.{Side}
+use Rattle.mac_pdu.specs.declared.fault.MacRefusal.{MacRefusal}
+use Rattle.mac_pdu.specs.Items.{MacItem, front, element, sdu, padding}
+use Rattle.mac_pdu.specs.Reading.{reading}
+use Rattle.prioritise.specs.Channels.{goes_before}
+use Rattle.law_node.specs.Calls.{Call, AreGiven, reached}
+
+-- a new block: the bearers, in the order of the channels
+abbrev pub BuildsInOrder : End → Sequences
+BuildsInOrder e = each (λ c. in_a_block c.lcid) e.buckets.channels
+
+-- a block that comes, where it can be read: the PDUs in it, in turn
+abbrev pub of_a_channel : Bool → ℕ → Sequences
+of_a_channel true lcid = of_a_pdu lcid
+of_a_channel false lcid = just (Drop lcid NoBearer)
+
+abbrev pub of_an_item : End → MacItem → Sequences
+of_an_item e (sdu lcid octets) = of_a_channel (has lcid e.bearers) lcid
+of_an_item e front = nothing
+of_an_item e (element control) = nothing
+of_an_item e (padding size) = nothing
+
+abbrev pub of_items : End → Result (List MacItem) MacRefusal → Sequences
+of_items e (Ok items) = each (of_an_item e) items
+of_items e (Err refusal) = just (BadMac refusal)
+
+abbrev pub HearsInOrder : End → List ℕ → Sequences
+HearsInOrder e block = of_items e (reading (heard_by e.side) block)
+
+-- a TTI begins: the bearers, by ascending LCID
+abbrev pub TicksInOrder : End → Sequences
+TicksInOrder e = each (λ b. in_a_tti b.lcid) e.bearers
+
+abbrev pub ExpiresInOrder : ℕ → Clock → Sequences
+ExpiresInOrder lcid clock = of_an_expiry lcid clock
+
+-- the end leaves its cell: likewise; SRB1 and SRB2 have LCIDs 1 and 2 (TS 36.331 9.1.2)
+abbrev pub is_srb : ℕ → Bool
+is_srb lcid = lcid == 1 || lcid == 2
+
+abbrev pub StopsInOrder : End → Sequences
+StopsInOrder e = each (λ b. at_the_end (is_srb b.lcid) b.lcid) e.bearers
+
+-- ---- the law
+
+pub record IsToldInOrder (e : End) : Type 0 where
+  pub building : (tti grant : ℕ) (order : Order) → visit tti order e ≡ New → BuildsInOrder e (building tti grant order e)
+  pub receiving : (block : List ℕ) → HearsInOrder e block (received e block).events
+  pub ticking : TicksInOrder e (ticked e).events
+  pub expiring : (lcid : ℕ) (clock : Clock) → IfSome (expiry lcid clock e) (ExpiresInOrder lcid clock)
+  pub moving : StopsInOrder e (leaving e)
+
+-- of any end that has come by calls
+abbrev pub TellsInItsOrder : Type 0
+TellsInItsOrder = (side : Side) (maximum : ℕ) (reports : Bool) (calls : List Call) → AreGiven calls → IsToldInOrder (reached side maximum reports calls)
+
+-- each stands before all behind it
+module _ {X : Type 0} where
+  abbrev pub AreOrdered : (X → X → Type 0) → List X → Type 0
+  AreOrdered R [] = Unit {0}
+  AreOrdered R (x ∷ xs) = AllByRecursion (R x) xs × AreOrdered R xs
+
+-- its channels stand by priority number and then LCID, its bearers by LCID
+pub record StandsInOrder (e : End) : Type 0 where
+  pub channels : AreOrdered (λ c d. goes_before c d ≡ true) e.buckets.channels
+  pub bearers : AreOrdered (λ b c. b.lcid ≤ c.lcid) e.bearers
+
+abbrev pub EndsStandInOrder : Type 0
+EndsStandInOrder = (side : Side) (maximum : ℕ) (reports : Bool) (calls : List Call) → StandsInOrder (reached side maximum reports calls)

@@ -1,0 +1,4 @@
+pub mod OneEnd
+pub mod AmPair
+pub mod UmPair
+pub mod SrbPair

@@ -1,0 +1,5 @@
+use Rattle.law_rlc.proofs.AmPair.Laws.{arrived-was-offered}
+use Rattle.law_rlc.proofs.AmPair.arrived_was_offered.Goals as goal
+
+pub returns : goal.returns
+returns c = arrived-was-offered

@@ -1,0 +1,5 @@
+use Rattle.law_rlc.proofs.AmPair.Laws.{hears-what-was-sent}
+use Rattle.law_rlc.proofs.AmPair.hears_what_was_sent.Goals as goal
+
+pub returns : goal.returns
+returns c = hears-what-was-sent

@@ -1,0 +1,5 @@
+use Rattle.law_rlc.proofs.AmPair.Laws.{nothing-clashes}
+use Rattle.law_rlc.proofs.AmPair.nothing_clashes.Goals as goal
+
+pub returns : goal.returns
+returns c = nothing-clashes

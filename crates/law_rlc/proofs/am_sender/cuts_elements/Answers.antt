@@ -1,0 +1,5 @@
+use Rattle.law_rlc.proofs.AmSender.SegmentLens.{cuts}
+use Rattle.law_rlc.proofs.AmSender.cuts_elements.Goals as goal
+
+pub returns : goal.returns
+returns c = cuts

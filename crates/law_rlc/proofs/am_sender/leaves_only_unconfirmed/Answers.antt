@@ -1,0 +1,5 @@
+use Rattle.law_rlc.proofs.AmSender.Left.{leaves-only-unconfirmed}
+use Rattle.law_rlc.proofs.AmSender.leaves_only_unconfirmed.Goals as goal
+
+pub returns : goal.returns
+returns c = leaves-only-unconfirmed

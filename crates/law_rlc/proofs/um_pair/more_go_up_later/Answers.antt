@@ -1,0 +1,5 @@
+use Rattle.law_rlc.proofs.UmPair.Later.{more_go_up_later}
+use Rattle.law_rlc.proofs.UmPair.more_go_up_later.Goals as goal
+
+pub returns : goal.returns
+returns c = more_go_up_later

@@ -1,0 +1,5 @@
+use Rattle.law_rlc.proofs.UmPair.Timed.{is_timed}
+use Rattle.law_rlc.proofs.UmPair.timer_runs_at_a_gap.Goals as goal
+
+pub returns : goal.returns
+returns c = is_timed

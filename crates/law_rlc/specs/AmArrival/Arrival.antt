@@ -1,0 +1,50 @@
+-- Which SDUs of a flow have arrived, told by the PDUs that were written and that came.
+use Rattle.std.specs.Prelude.{◌≡◌, ℕ, List, [], ◌∷◌, ◌++◌, map, length, Option, Some, None, slice_get}
+use Rattle.l2_types.specs.declared.config.AmTxConfig.{AmTxConfig}
+use Rattle.l2_types.specs.declared.AmRxConfig.{AmRxConfig}
+use Rattle.rlc_pdu.specs.declared.outcome.Taken.{Taken}
+use Rattle.rlc_pdu.specs.declared.outcome.Taken.TheVariants as taken
+use Rattle.law_rlc.specs.AmPair.Flow.{Copy, Flow, Step, Sends, Receives, Reports, DataComes, StatusComes, DataGoes, StatusGoes, Passes, sender, given, happens, goes, outset}
+use Rattle.law_rlc.specs.AmPair.Given.{AreGiven}
+use Rattle.law_rlc.specs.AmPair.Sdus.{offered}
+use Rattle.law_rlc.specs.AmPair.Arrives.{arrives}
+use Rattle.law_rlc.specs.AmArrival.Stretches.{has_arrived}
+use Rattle.law_rlc.specs.AmArrival.Passing.{Passing, Writes, Comes, Told, nothing_told, told_in}
+
+-- ---- the data PDUs in steps of a flow
+
+abbrev pub written_in : Taken → List Passing
+written_in (taken.Piece number fresh polled octets) = Writes octets ∷ []
+written_in taken.Idle = []
+written_in taken.Small = []
+written_in taken.Shut = []
+written_in taken.Held = []
+written_in taken.Stopped = []
+
+abbrev pub coming : Option Copy → List Passing
+coming None = []
+coming (Some c) = Comes c.octets ∷ []
+
+abbrev pub passing : Flow → Step → List Passing
+passing f (Sends c) = written_in (given (sender f).state c)
+passing f (Receives c) = []
+passing f (Reports size octets) = []
+passing f (DataComes k) = coming (slice_get f.copies k)
+passing f (StatusComes k) = []
+passing f (DataGoes k) = []
+passing f (StatusGoes k) = []
+passing f Passes = []
+
+abbrev pub passed : List Step → Flow → List Passing
+passed [] f = []
+passed (s ∷ ss) f = passing f s ++ passed ss (happens f s)
+
+-- ---- the law
+
+-- an SDU has arrived exactly where each of its octets lies in what came
+abbrev pub ArrivesAsTold : Flow → Told → Type 0
+ArrivesAsTold f t = (place : ℕ) → arrives f place ≡ has_arrived (map length (offered f)) t.fields t.came place
+
+abbrev pub PdusTellWhatArrives : Type 0
+PdusTellWhatArrives = (sending : AmTxConfig) (receiving : AmRxConfig) (steps : List Step) → AreGiven (outset sending receiving) steps
+    → ArrivesAsTold (goes steps (outset sending receiving)) (told_in (passed steps (outset sending receiving)) nothing_told)

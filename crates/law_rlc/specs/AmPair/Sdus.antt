@@ -1,0 +1,42 @@
+-- The SDUs of a flow: those that the sender was offered, and those that the receiver handed up.
+use Rattle.std.specs.Prelude.{◌≡◌, ℕ, List, [], ◌∷◌, ◌++◌}
+use Rattle.l2_types.specs.declared.config.AmTxConfig.{AmTxConfig}
+use Rattle.l2_types.specs.declared.AmRxConfig.{AmRxConfig}
+use Rattle.law_rlc.specs.AmSender.Run.{Call as SenderCall, Offer, Take, Status, Tick, Expire, Settle, Confirm}
+use Rattle.law_rlc.specs.AmReceiver.Stream.{flow, initial}
+use Rattle.law_rlc.specs.AmPair.Flow.{Flow, Step, goes, outset}
+use Rattle.law_rlc.specs.AmPair.Given.{AreGiven}
+
+abbrev pub offers_with : SenderCall → List (List ℕ) → List (List ℕ)
+offers_with (Offer sdu) later = sdu ∷ later
+offers_with (Take size held more) later = later
+offers_with (Status status) later = later
+offers_with Tick later = later
+offers_with (Expire more) later = later
+offers_with (Settle more) later = later
+offers_with Confirm later = later
+
+-- the SDUs that the sender was offered, in their order
+abbrev pub offered_in : List SenderCall → List (List ℕ)
+offered_in [] = []
+offered_in (c ∷ cs) = offers_with c (offered_in cs)
+
+abbrev pub offered : Flow → List (List ℕ)
+offered f = offered_in f.sent
+
+-- the SDUs that the receiver handed up, and those that are ready to go up, in their order
+abbrev pub handed_up : Flow → List (List ℕ)
+handed_up f = (flow f.heard (initial f.receiving)).gone
+
+abbrev pub ready : Flow → List (List ℕ)
+ready f = (flow f.heard (initial f.receiving)).state.out.ready
+
+-- one list is the front of another
+pub record IsFront (front all : List (List ℕ)) : Type 0 where
+  pub rest : List (List ℕ)
+  pub is : all ≡ front ++ rest
+
+-- what was handed up and what is ready are the SDUs that were offered first: in their order, each once, unchanged
+abbrev pub HandsUpTheFront : Type 0
+HandsUpTheFront = (sending : AmTxConfig) (receiving : AmRxConfig) (steps : List Step) → AreGiven (outset sending receiving) steps
+    → IsFront (handed_up (goes steps (outset sending receiving)) ++ ready (goes steps (outset sending receiving))) (offered (goes steps (outset sending receiving)))

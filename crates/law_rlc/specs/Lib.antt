@@ -1,0 +1,5 @@
+pub mod UmPair
+pub mod AmReceiver
+pub mod AmSender
+pub mod AmPair
+pub mod AmArrival

@@ -1,0 +1,97 @@
+-- As long as all lines configured, nothing is under way, nothing was submitted, and nothing is told of the ends.
+use Rattle.std.proofs.Common.{◌≡◌, ℕ, false, List, [], ◌∷◌, ◌++◌, refl, ap, ◌∙◌}
+use Rattle.air_link.specs.Link.{Link, fresh as fresh_link}
+use Rattle.air_record.specs.declared.line.Line.{Line}
+use Rattle.air_record.specs.declared.line.Line.TheVariants as lines
+use Rattle.air_record.specs.declared.record.Record.{Record}
+use Rattle.air_record.specs.declared.record.Record.TheVariants as records
+use Rattle.air_run.specs.Draining.{shown}
+use Rattle.air_run.specs.Playing.{keys_or_none, acted, played}
+use Rattle.air_run.specs.Rules.{Rules, accepted}
+use Rattle.air_run.specs.Run.{fresh, behind_line}
+use Rattle.air_text.specs.Groups.{Group, history}
+use Rattle.air_text.specs.Ranges.{IsInRange}
+use Rattle.l2_types.specs.declared.side.Side.{Side}
+use Rattle.l2_types.specs.declared.side.Side.TheVariants.{Nb, Ue}
+use Rattle.law_air.specs.AnyCalls.Calls as calls
+use Rattle.law_air.specs.AnyCalls.Ends.{told_by}
+use Rattle.law_air.proofs.AnyCalls.Going.{told_both}
+use Rattle.law_air.specs.TwoEnds.Arrival.{tells_in}
+use Rattle.law_rlc.specs.AmArrival.Lives.{Happening}
+use Rattle.law_air.specs.TwoEnds.Lives.{IsAtRest}
+use Rattle.law_air.proofs.TwoEnds.Lives.{first_rests, calls_rest}
+use Rattle.law_run.specs.Arrival.{ended_by, happened}
+use Rattle.law_run.specs.Flows.{handed_in, looped_at, submitted}
+use Rattle.law_run.specs.Order.{state_behind, KeepsOrder}
+use Rattle.law_run.specs.Parts.{Rests, part}
+use Rattle.law_run.proofs.Past.{link_behind}
+
+-- ---- a line that configures
+
+record StillRests (line : Line) (k m : Link) : Type 0 where
+  rest : IsAtRest m
+  silent : m.out ≡ k.out
+  part_is : part line ≡ Rests
+  lives_on : ended_by line ≡ []
+
+configures : (line : Line) (r : Rules) (k : Link) → IsInRange line → (accepted line r).begun ≡ false → IsAtRest k → StillRests line k (played line r.keys k)
+unfolding acted accepted Rattle.air_link.specs.Lines.visits Rattle.air_link.specs.Lines.reports Rattle.air_link.specs.Lines.bears Rattle.air_link.specs.Lines.discards Rattle.air_link.specs.Lines.listens
+configures (lines.Harq maximum) r k fits early h = record { rest = calls_rest (calls.Visits maximum) k fits.some fits.few h; silent = refl; part_is = refl; lives_on = refl }
+configures lines.Bsr r k fits early h = record { rest = calls_rest calls.Reports k tt tt h; silent = refl; part_is = refl; lives_on = refl }
+configures (lines.Keys keys) r k fits early h = record { rest = h; silent = refl; part_is = refl; lives_on = refl }
+configures (lines.Bearer config options) r k fits early h = record { rest = calls_rest (calls.Bears config (keys_or_none r.keys)) k fits tt h; silent = refl; part_is = refl; lives_on = refl }
+configures (lines.Discard lcid ttis) r k fits early h = record { rest = calls_rest (calls.Discards lcid ttis) k tt tt h; silent = refl; part_is = refl; lives_on = refl }
+configures (lines.Drx config) r k fits early h = record { rest = calls_rest (calls.Listens config) k tt tt h; silent = refl; part_is = refl; lives_on = refl }
+configures line r k fits early h = absurd cc
+
+-- what began once has begun for all lines that follow
+pub unbegun : (line : Line) (r : Rules) → (accepted line r).begun ≡ false → r.begun ≡ false
+unfolding accepted
+unbegun (lines.Harq maximum) r e = e
+unbegun lines.Bsr r e = e
+unbegun (lines.Keys keys) r e = e
+unbegun (lines.Bearer config options) r e = e
+unbegun (lines.Discard lcid ttis) r e = e
+unbegun (lines.Drx config) r e = e
+unbegun line r e = absurd cc
+
+-- ---- behind groups
+
+pub record IsEarly (past : List Group) : Type 0 where
+  pub rest : IsAtRest (link_behind past)
+  pub silent : (link_behind past).out ≡ []
+  pub none_told : (side : Side) → told_by side (history past) ≡ []
+  pub none_submitted : (side : Side) (lcid : ℕ) → submitted side lcid past ≡ []
+  pub none_happened : (bits lcid : ℕ) (from : Side) → happened bits lcid from past ≡ []
+
+-- the records are written
+shown_rests : (k : Link) → IsAtRest k → IsAtRest (shown k)
+shown_rests k h = record { nb_is = refl; ue_is = refl; nb = h.nb; ue = h.ue; nb_idle = refl; ue_idle = refl }
+
+pub none_looped : (side : Side) (lcid : ℕ) → looped_at side lcid [] ≡ []
+none_looped Nb lcid = refl
+none_looped Ue lcid = refl
+
+still_early : (past : List Group) (g : Group) → IsEarly past → StillRests g.line (link_behind past) (behind_line g.line (state_behind past)) → g.events ≡ (behind_line g.line (state_behind past)).out → IsEarly (g ∷ past)
+still_early past g h s e =
+    let none : g.events ≡ [] = e ∙ s.silent ∙ h.silent in
+    record {
+      rest = shown_rests (behind_line g.line (state_behind past)) s.rest;
+      silent = refl;
+      none_told = λ side. told_both side (history past) (records.Line g.number g.line ∷ g.events) [] [] (h.none_told side) (ap (told_by side) none);
+      none_submitted = λ side lcid.
+          ap (λ (xs : List (List ℕ)). xs ++ (handed_in side lcid (part g.line) g.events ++ looped_at side lcid g.events)) (h.none_submitted side lcid)
+          ∙ ap (λ p. handed_in side lcid p g.events ++ looped_at side lcid g.events) s.part_is
+          ∙ ap (λ (x : List Record). looped_at side lcid x) none ∙ none_looped side lcid;
+      none_happened = λ bits lcid from.
+          ap (λ (hs : List Happening). hs ++ (ended_by g.line ++ tells_in bits lcid from [] g.events)) (h.none_happened bits lcid from)
+          ∙ ap (λ (hs : List Happening). hs ++ tells_in bits lcid from [] g.events) s.lives_on ∙ ap (λ (x : List Record). tells_in bits lcid from [] x) none;
+    }
+
+pub is_early : (past : List Group) → KeepsOrder past → (state_behind past).rules.begun ≡ false → IsEarly past
+unfolding fresh fresh_link
+is_early [] order early = record { rest = first_rests; silent = refl; none_told = λ side. refl; none_submitted = λ side lcid. refl; none_happened = λ bits lcid from. refl }
+is_early (g ∷ past) (right, order) early =
+    let k = link_behind past in
+    let h = is_early past order (unbegun g.line (state_behind past).rules early) in
+    still_early past g h (configures g.line (state_behind past).rules k right.in_range early h.rest) right.events_are

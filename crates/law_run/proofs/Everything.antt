@@ -1,0 +1,44 @@
+-- The journal of every script is promised.
+use Rattle.std.proofs.Common.{Bool, ℕ, List}
+use Rattle.law_run.specs.Promises.{IsPromised}
+use Rattle.air_run.specs.Journal.{journal_of}
+use Rattle.law_run.proofs.Arriving.{hand_up_what_came}
+use Rattle.law_run.proofs.Counts.{counts_behind}
+use Rattle.law_run.proofs.Delivering.{delivers_in_order}
+use Rattle.law_run.proofs.Drains.{drains_leave_nothing}
+use Rattle.law_run.proofs.Keys.{keys_behind}
+use Rattle.law_run.proofs.Losses.{delivers_while_short}
+use Rattle.law_run.proofs.Looping.{return_in_order}
+use Rattle.law_run.proofs.Past.{behind}
+use Rattle.law_run.proofs.Processes.{are_carried}
+use Rattle.law_run.proofs.Playing.{tells-all}
+use Rattle.law_run.proofs.Reaching.{come_by_calls}
+use Rattle.law_run.proofs.Texts.{none_meet}
+use Rattle.law_run.proofs.Signalling.{delivers_each_life, drains_leave_no_signal, handovers_bring_none}
+use Rattle.law_run.proofs.Standing.{lines_tell}
+use Rattle.law_run.proofs.Zero.{bring_in_order}
+
+pub every-journal : (whole : Bool) (octets : List ℕ) → IsPromised (journal_of whole octets)
+every-journal whole octets =
+    let t = tells-all whole octets in
+    record {
+      past = t.later;
+      journal_is = rw t.history_is t.journal_is;
+      order = t.order;
+      in_turn = (behind t.later t.order).in_turn;
+      carried = are_carried t.later _ (behind t.later t.order).processes;
+      keys = (keys_behind t.later t.order).distinct;
+      counts = counts_behind t.later t.order;
+      texts = none_meet t.later t.order;
+      ends = come_by_calls t.later t.order;
+      loops = return_in_order t.later t.order;
+      brought = bring_in_order t.later t.order;
+      delivered = delivers_in_order t.later t.order;
+      came = hand_up_what_came t.later t.order;
+      drained = drains_leave_nothing t.later t.order;
+      signalled = delivers_each_life t.later t.order;
+      signals_drained = drains_leave_no_signal t.later t.order;
+      signals_moved = handovers_bring_none t.later t.order;
+      delivered_short = delivers_while_short t.later t.order;
+      in_order = lines_tell t.later t.order;
+    }

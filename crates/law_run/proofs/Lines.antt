@@ -1,0 +1,221 @@
+-- What a line adds to the counts of a link, and what it tells.
+use Rattle.std.proofs.Common.{◌≡◌, ℕ, ◌+◌, ◌==◌, Bool, true, false, cond, List, [], ◌∷◌, ◌++◌, length, append-nil, refl, ap, sym, arith, subst, ◌∙◌}
+use Rattle.std.specs.Prelude.{Option, Some, None}
+use Rattle.std.specs.List.{filter}
+use Rattle.std.proofs.lemmas.List.Elements.{filter-append}
+use Rattle.air_link.specs.Lines.{submitting}
+use Rattle.air_link.specs.Link.{Link}
+use Rattle.air_link.specs.Ttis.{sleeps, tti}
+use Rattle.air_record.specs.declared.line.Line.{Line}
+use Rattle.air_record.specs.declared.line.Line.TheVariants as lines
+use Rattle.air_record.specs.declared.line.Outcome.{Outcome}
+use Rattle.air_record.specs.declared.record.NoPlace.{NoPlace}
+use Rattle.air_record.specs.declared.record.Record.{Record}
+use Rattle.air_record.specs.declared.record.Record.TheVariants as records
+use Rattle.air_run.specs.Draining.{Drained, ending, drained}
+use Rattle.air_run.specs.Playing.{keys_or_none, next_keys, acted, played}
+use Rattle.eps_sec.specs.declared.Keys.{Keys}
+use Rattle.l2_types.specs.declared.side.Side.{Side}
+use Rattle.l2_types.specs.declared.side.Side.TheVariants.{Nb, Ue}
+use Rattle.law_air.specs.AnyCalls.Calls as calls
+use Rattle.law_air.specs.AnyCalls.Counts.{is_up, is_looped, is_of_run, is_of_air, ups, loopeds, Grows}
+use Rattle.law_air.specs.AnyCalls.Told.{why_refused, refusals, accepted, Adds, AddsTti, AddsSubmitted}
+use Rattle.law_air.proofs.AnyCalls.Adding.{stays, same_grows, count_then}
+use Rattle.law_air.proofs.AnyCalls.Calling.{calls_adds, submitting_adds}
+use Rattle.law_air.proofs.AnyCalls.Passing.{tti_adds}
+use Rattle.law_air.proofs.AnyCalls.Running.{grows_as, no_ups, no_loops, no_runs}
+use Rattle.test_loop.specs.declared.Mode.TheVariants.{Off, A, B}
+use Rattle.law_run.specs.Air.{is_tti, numbered, IsOfItsTime, FliesIntact, InTurn}
+use Rattle.law_run.specs.Flows.{handed_in}
+use Rattle.law_run.specs.Parts.{Part, Submits, Passes, Drains, Rests, part}
+use Rattle.law_run.proofs.Records.{of_run_alone, count_numbered, ttis_of_drain}
+use Rattle.law_run.proofs.Ttis.{WholeDrain, drained_adds}
+
+pub record PartAdds (p : Part) (l m : Link) : Type 0 where
+  pub nb_delivered : Grows (λ k. ups Nb k m.out) l.up.delivered m.up.delivered
+  pub ue_delivered : Grows (λ k. ups Ue k m.out) l.down.delivered m.down.delivered
+  pub nb_submitted : Grows (λ k. length (handed_in Nb k p m.out)) l.down.submitted m.down.submitted
+  pub ue_submitted : Grows (λ k. length (handed_in Ue k p m.out) + loopeds k m.out) l.up.submitted m.up.submitted
+  pub count : ℕ
+  pub ttis_is : m.ttis ≡ l.ttis + count
+  pub numbers : filter is_tti m.out ≡ numbered l.ttis count
+  pub of_its_time : IsOfItsTime l.ttis p m.out
+
+-- records that hold nothing of a run number no TTI
+no_numbers : (told : List Record) → filter is_of_run told ≡ [] → filter is_tti told ≡ []
+no_numbers told e = sym (of_run_alone told) ∙ ap (λ (x : List Record). filter is_tti x) e
+
+-- ---- a line that is neither a TTI, a submission nor a drain
+
+rests_add : (l m : Link) → l.out ≡ [] → Adds [] l m → PartAdds Rests l m
+rests_add l m nothing a =
+    let out : m.out ≡ a.more = a.out_is ∙ ap (λ (x : List Record). x ++ a.more) nothing in
+    let run : filter is_of_run m.out ≡ [] = ap (λ (x : List Record). filter is_of_run x) out ∙ a.told.none_of_run in
+    record {
+      nb_delivered = grows_as (λ k. ups Nb k a.more) (λ k. ups Nb k m.out) l.up.delivered m.up.delivered (λ k. ap (λ (x : List Record). ups Nb k x) out) a.told.nb_delivered;
+      ue_delivered = grows_as (λ k. ups Ue k a.more) (λ k. ups Ue k m.out) l.down.delivered m.down.delivered (λ k. ap (λ (x : List Record). ups Ue k x) out) a.told.ue_delivered;
+      nb_submitted = same_grows (λ k. 0) l.down.submitted m.down.submitted a.told.nb_submitted (λ k. refl);
+      ue_submitted = grows_as (λ k. loopeds k a.more) (λ k. 0 + loopeds k m.out) l.up.submitted m.up.submitted
+          (λ k. let same : loopeds k m.out ≡ loopeds k a.more = ap (λ (x : List Record). loopeds k x) out in omega (arith, same)) a.told.ue_submitted;
+      count = 0;
+      ttis_is = omega (arith, a.ttis_is);
+      numbers = no_numbers m.out run;
+      of_its_time = record { timed = run; flown = ap (λ (x : List Record). filter is_of_air x) out ∙ a.told.flown_is };
+    }
+
+-- ---- a submission
+
+one_if : (b : Bool) (octets : List ℕ) → length (cond b (octets ∷ []) []) ≡ cond b 1 0
+one_if true octets = refl
+one_if false octets = refl
+
+nb_handed : (lcid : ℕ) (octets : List ℕ) (why : Option NoPlace) (k : ℕ) → length (handed_in Nb k (Submits Nb lcid octets) (refusals Nb lcid why)) ≡ accepted lcid why k
+nb_handed lcid octets (Some why) k = refl
+nb_handed lcid octets None k = one_if (lcid == k) octets
+
+ue_handed : (lcid : ℕ) (octets : List ℕ) (why : Option NoPlace) (k : ℕ) → length (handed_in Ue k (Submits Ue lcid octets) (refusals Ue lcid why)) ≡ accepted lcid why k
+ue_handed lcid octets (Some why) k = refl
+ue_handed lcid octets None k = one_if (lcid == k) octets
+
+pub no_air : (why : Option NoPlace) (side : Side) (lcid : ℕ) → filter is_of_air (refusals side lcid why) ≡ []
+no_air None side lcid = refl
+no_air (Some why) side lcid = refl
+
+submits_add : (side : Side) (lcid : ℕ) (octets : List ℕ) (l m : Link) → l.out ≡ [] → AddsSubmitted side lcid (why_refused side lcid octets l) l m → PartAdds (Submits side lcid octets) l m
+submits_add Nb lcid octets l m nothing a =
+    let why = why_refused Nb lcid octets l in
+    let out : m.out ≡ refusals Nb lcid why = a.out_is ∙ ap (λ (x : List Record). x ++ refusals Nb lcid why) nothing in
+    let run : filter is_of_run m.out ≡ [] = ap (λ (x : List Record). filter is_of_run x) out ∙ no_runs why Nb lcid in
+    record {
+      nb_delivered = same_grows (λ k. ups Nb k m.out) l.up.delivered m.up.delivered a.nb_delivered (λ k. ap (λ (x : List Record). ups Nb k x) out ∙ no_ups why Nb Nb lcid k);
+      ue_delivered = same_grows (λ k. ups Ue k m.out) l.down.delivered m.down.delivered a.ue_delivered (λ k. ap (λ (x : List Record). ups Ue k x) out ∙ no_ups why Nb Ue lcid k);
+      nb_submitted = grows_as (accepted lcid why) (λ k. length (handed_in Nb k (Submits Nb lcid octets) m.out)) l.down.submitted m.down.submitted
+          (λ k. ap (λ (x : List Record). length (handed_in Nb k (Submits Nb lcid octets) x)) out ∙ nb_handed lcid octets why k) a.submitted;
+      ue_submitted = same_grows (λ k. 0 + loopeds k m.out) l.up.submitted m.up.submitted a.other_submitted
+          (λ k. let none : loopeds k m.out ≡ 0 = ap (λ (x : List Record). loopeds k x) out ∙ no_loops why Nb lcid k in omega (arith, none));
+      count = 0;
+      ttis_is = omega (arith, a.ttis_is);
+      numbers = no_numbers m.out run;
+      of_its_time = record { timed = run; flown = ap (λ (x : List Record). filter is_of_air x) out ∙ no_air why Nb lcid };
+    }
+submits_add Ue lcid octets l m nothing a =
+    let why = why_refused Ue lcid octets l in
+    let out : m.out ≡ refusals Ue lcid why = a.out_is ∙ ap (λ (x : List Record). x ++ refusals Ue lcid why) nothing in
+    let run : filter is_of_run m.out ≡ [] = ap (λ (x : List Record). filter is_of_run x) out ∙ no_runs why Ue lcid in
+    record {
+      nb_delivered = same_grows (λ k. ups Nb k m.out) l.up.delivered m.up.delivered a.nb_delivered (λ k. ap (λ (x : List Record). ups Nb k x) out ∙ no_ups why Ue Nb lcid k);
+      ue_delivered = same_grows (λ k. ups Ue k m.out) l.down.delivered m.down.delivered a.ue_delivered (λ k. ap (λ (x : List Record). ups Ue k x) out ∙ no_ups why Ue Ue lcid k);
+      nb_submitted = same_grows (λ k. 0) l.down.submitted m.down.submitted a.other_submitted (λ k. refl);
+      ue_submitted = grows_as (accepted lcid why) (λ k. length (handed_in Ue k (Submits Ue lcid octets) m.out) + loopeds k m.out) l.up.submitted m.up.submitted
+          (λ k.
+          let one : length (handed_in Ue k (Submits Ue lcid octets) m.out) ≡ accepted lcid why k =
+          ap (λ (x : List Record). length (handed_in Ue k (Submits Ue lcid octets) x)) out ∙ ue_handed lcid octets why k in
+          let none : loopeds k m.out ≡ 0 = ap (λ (x : List Record). loopeds k x) out ∙ no_loops why Ue lcid k in
+          omega (arith, one, none)) a.submitted;
+      count = 0;
+      ttis_is = omega (arith, a.ttis_is);
+      numbers = no_numbers m.out run;
+      of_its_time = record { timed = run; flown = ap (λ (x : List Record). filter is_of_air x) out ∙ no_air why Ue lcid };
+    }
+
+-- ---- a TTI
+
+passes_add : (asleep : Bool) (up_grant : ℕ) (up : Outcome) (down_grant : ℕ) (down : Outcome) (l m : Link) → l.out ≡ []
+    → AddsTti asleep up_grant up down_grant down l m → PartAdds (Passes up_grant up down_grant down) l m
+passes_add asleep up_grant up down_grant down l m nothing a =
+    let out : m.out ≡ records.Tti l.ttis ∷ a.more = a.out_is ∙ ap (λ (x : List Record). x ++ records.Tti l.ttis ∷ a.more) nothing in
+    record {
+      nb_delivered = grows_as (λ k. ups Nb k a.more) (λ k. ups Nb k m.out) l.up.delivered m.up.delivered (λ k. ap (λ (x : List Record). ups Nb k x) out) a.told.nb_delivered;
+      ue_delivered = grows_as (λ k. ups Ue k a.more) (λ k. ups Ue k m.out) l.down.delivered m.down.delivered (λ k. ap (λ (x : List Record). ups Ue k x) out) a.told.ue_delivered;
+      nb_submitted = same_grows (λ k. 0) l.down.submitted m.down.submitted a.told.nb_submitted (λ k. refl);
+      ue_submitted = grows_as (λ k. loopeds k a.more) (λ k. 0 + loopeds k m.out) l.up.submitted m.up.submitted
+          (λ k. let same : loopeds k m.out ≡ loopeds k a.more = ap (λ (x : List Record). loopeds k x) out in omega (arith, same)) a.told.ue_submitted;
+      count = 1;
+      ttis_is = a.ttis_is;
+      numbers = ap (λ (x : List Record). filter is_tti x) out ∙ ap (λ (x : List Record). records.Tti l.ttis ∷ x) (no_numbers a.more a.told.none_of_run);
+      of_its_time = record {
+        timed = ap (λ (x : List Record). filter is_of_run x) out ∙ ap (λ (x : List Record). records.Tti l.ttis ∷ x) a.told.none_of_run;
+        flown = record {
+          asleep = asleep;
+          flies = record {
+            downward = a.downward;
+            upward = a.upward;
+            told_is = ap (λ (x : List Record). filter is_of_air x) out ∙ a.told.flown_is;
+            down_is = a.down_is;
+            up_is = a.up_is;
+          };
+        };
+      };
+    }
+
+-- ---- a drain
+
+ends_alone : (is_done : Bool) (rounds : ℕ) → filter is_of_run (ending is_done rounds ∷ []) ≡ ending is_done rounds ∷ []
+ends_alone true rounds = refl
+ends_alone false rounds = refl
+
+no_air_ends : (is_done : Bool) (rounds : ℕ) → filter is_of_air (ending is_done rounds ∷ []) ≡ []
+no_air_ends true rounds = refl
+no_air_ends false rounds = refl
+
+no_ups_end : (is_done : Bool) (rounds : ℕ) (side : Side) (k : ℕ) → ups side k (ending is_done rounds ∷ []) ≡ 0
+no_ups_end true rounds side k = refl
+no_ups_end false rounds side k = refl
+
+no_loops_end : (is_done : Bool) (rounds k : ℕ) → loopeds k (ending is_done rounds ∷ []) ≡ 0
+no_loops_end true rounds k = refl
+no_loops_end false rounds k = refl
+
+pub drains_add : (grant : ℕ) (l : Link) (d : Drained) → WholeDrain grant l d → PartAdds (Drains grant) l (record d.link { out = d.journal })
+drains_add grant l d w =
+    let last = ending w.is_done w.rounds ∷ [] in
+    let n = 8 + w.rounds in
+    let counts : (test : Record → Bool) → length (filter test last) ≡ 0 → length (filter test d.journal) ≡ length (filter test w.said) =
+    λ test none. let all = ap (λ (x : List Record). length (filter test x)) w.journal_is ∙ count_then test w.said last in omega (arith, all, none) in
+    let run : filter is_of_run d.journal ≡ numbered l.ttis n ++ last =
+    ap (λ (x : List Record). filter is_of_run x) w.journal_is ∙ filter-append is_of_run w.said last
+    ∙ ap (λ (x : List Record). x ++ filter is_of_run last) w.adds.numbers
+    ∙ ap (λ (x : List Record). numbered l.ttis n ++ x) (ends_alone w.is_done w.rounds) in
+    let air : filter is_of_air d.journal ≡ filter is_of_air w.said =
+    ap (λ (x : List Record). filter is_of_air x) w.journal_is ∙ filter-append is_of_air w.said last
+    ∙ ap (λ (x : List Record). filter is_of_air w.said ++ x) (no_air_ends w.is_done w.rounds) ∙ append-nil (filter is_of_air w.said) in
+    let numbers : filter is_tti d.journal ≡ numbered l.ttis n =
+    sym (of_run_alone d.journal) ∙ ap (λ (x : List Record). filter is_tti x) run ∙ ttis_of_drain l.ttis n w.is_done w.rounds in
+    let count : length (filter is_tti d.journal) ≡ n = ap (λ (x : List Record). length x) numbers ∙ count_numbered l.ttis n in
+    record {
+      nb_delivered = grows_as (λ k. ups Nb k w.said) (λ k. ups Nb k d.journal) l.up.delivered d.link.up.delivered (λ k. counts (is_up Nb k) (no_ups_end w.is_done w.rounds Nb k)) w.adds.nb_delivered;
+      ue_delivered = grows_as (λ k. ups Ue k w.said) (λ k. ups Ue k d.journal) l.down.delivered d.link.down.delivered (λ k. counts (is_up Ue k) (no_ups_end w.is_done w.rounds Ue k)) w.adds.ue_delivered;
+      nb_submitted = same_grows (λ k. 0) l.down.submitted d.link.down.submitted w.adds.nb_submitted (λ k. refl);
+      ue_submitted = grows_as (λ k. loopeds k w.said) (λ k. 0 + loopeds k d.journal) l.up.submitted d.link.up.submitted
+          (λ k. let same : loopeds k d.journal ≡ loopeds k w.said = counts (is_looped k) (no_loops_end w.is_done w.rounds k) in omega (arith, same)) w.adds.ue_submitted;
+      count = n;
+      ttis_is = w.adds.ttis_is;
+      numbers = numbers;
+      of_its_time = record {
+        timed = record { rounds = w.rounds; is_done = w.is_done; told_is = run };
+        flown = subst (λ (m : ℕ). InTurn (λ k. FliesIntact k grant) l.ttis m (filter is_of_air d.journal)) (sym count)
+            (subst (λ (x : List Record). InTurn (λ k. FliesIntact k grant) l.ttis n x) (sym air) w.adds.flown);
+      };
+    }
+
+-- ---- every line
+
+pub line_adds : (line : Line) (keys : Option Keys) (l : Link) → l.out ≡ [] → PartAdds (part line) l (played line keys l)
+unfolding acted
+line_adds (lines.Harq maximum) keys l nothing = rests_add l _ nothing (calls_adds (calls.Visits maximum) l)
+line_adds lines.Bsr keys l nothing = rests_add l _ nothing (calls_adds calls.Reports l)
+line_adds (lines.Keys ks) keys l nothing = rests_add l _ nothing (stays l l refl)
+line_adds (lines.Bearer config options) keys l nothing = rests_add l _ nothing (calls_adds (calls.Bears config (keys_or_none keys)) l)
+line_adds (lines.Submit side lcid octets) keys l nothing = submits_add side lcid octets l (submitting side lcid octets l) nothing (submitting_adds side lcid octets l)
+line_adds (lines.Tti up_grant up down_grant down) keys l nothing =
+    passes_add (sleeps l.ttis l) up_grant up down_grant down l (tti up_grant up down_grant down l) nothing (tti_adds up_grant up down_grant down l)
+line_adds (lines.Expire side lcid clock) keys l nothing = rests_add l _ nothing (calls_adds (calls.Expires side lcid clock) l)
+line_adds (lines.Handover user rrc integrity) keys l nothing = rests_add l _ nothing (calls_adds (calls.HandsOver (next_keys user rrc integrity (keys_or_none keys))) l)
+line_adds lines.LoopOff keys l nothing = rests_add l _ nothing (calls_adds (calls.Loops Off) l)
+line_adds (lines.LoopA size) keys l nothing = rests_add l _ nothing (calls_adds (calls.Loops (A size)) l)
+line_adds (lines.LoopB delay) keys l nothing = rests_add l _ nothing (calls_adds (calls.Loops (B delay)) l)
+line_adds (lines.Drain grant) keys l nothing = drains_add grant l (drained grant l) (drained_adds grant l nothing)
+line_adds (lines.Forge side octets) keys l nothing = rests_add l _ nothing (calls_adds (calls.Forges side octets) l)
+line_adds (lines.Discard lcid count) keys l nothing = rests_add l _ nothing (calls_adds (calls.Discards lcid count) l)
+line_adds (lines.Drx config) keys l nothing = rests_add l _ nothing (calls_adds (calls.Listens config) l)
+line_adds lines.End keys l nothing = rests_add l _ nothing (stays l l refl)

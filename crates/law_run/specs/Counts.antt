@@ -1,0 +1,30 @@
+-- The COUNTs with which a side takes SDUs on a channel: from one handover to the next they ascend. A handover gives other keys, and no
+-- key is given twice, so that under one key no COUNT is taken twice on a bearer in a direction (TS 36.323 5.6, TS 33.401 B.1).
+use Rattle.std.specs.Prelude.{ℕ, Bool, true, false, if◌then◌else◌, List, [], ◌∷◌, ◌++◌}
+use Rattle.air_record.specs.declared.line.Line.{Line}
+use Rattle.air_record.specs.declared.line.Line.TheVariants as lines
+use Rattle.air_record.specs.declared.record.Record.{Record}
+use Rattle.air_text.specs.Groups.{Group}
+use Rattle.l2_num.specs.Ascending.{IsAscending}
+use Rattle.l2_types.specs.declared.side.Side.{Side}
+use Rattle.law_air.specs.AnyCalls.Ends.{told_by}
+use Rattle.law_node.specs.Bearers.{counts_on}
+
+-- those of the SDUs that records tell of as taken at a side, on a channel
+abbrev pub counts_taken : Side → ℕ → List Record → List ℕ
+counts_taken side lcid told = counts_on lcid (told_by side told)
+
+-- both ends move, under other keys
+abbrev pub moves : Line → Bool
+moves (lines.Handover user rrc integrity) = true
+moves line = false
+
+-- those since the last handover, or since the beginning, of groups of which the newest stands first
+abbrev pub counts_since : Side → ℕ → List Group → List ℕ
+counts_since side lcid [] = []
+counts_since side lcid (g ∷ past) = (if moves g.line then [] else counts_since side lcid past) ++ counts_taken side lcid g.events
+
+-- they ascend at both sides and on each channel, and did behind each group, so that they do between any two handovers
+abbrev pub CountsAscend : List Group → Type 0
+CountsAscend [] = Unit {0}
+CountsAscend (g ∷ past) = ((side : Side) (lcid : ℕ) → IsAscending 0 (counts_since side lcid (g ∷ past))) × CountsAscend past

@@ -1,0 +1,57 @@
+-- What a drain leaves: nothing undelivered of acknowledged data, but where a sender gave up (TS 36.322 5.2.1, 7.3).
+use Rattle.std.specs.Prelude.{◌≡◌, ℕ, ◌==◌, Bool, true, false, if◌then◌else◌, Some, List, [], ◌∷◌, ◌++◌}
+use Rattle.std.specs.List.{flat_map}
+use Rattle.air_link.specs.Link.{other}
+use Rattle.air_record.specs.declared.line.Line.{Line}
+use Rattle.air_record.specs.declared.line.Line.TheVariants as lines
+use Rattle.air_record.specs.declared.record.Record.{Record}
+use Rattle.air_record.specs.declared.record.Record.TheVariants as records
+use Rattle.air_text.specs.Groups.{Group}
+use Rattle.bearer_types.specs.declared.config.BearerConfig.{BearerConfig}
+use Rattle.bearer_types.specs.declared.event.Event.{Event}
+use Rattle.bearer_types.specs.declared.event.Event.TheVariants.{Fail}
+use Rattle.l2_types.specs.declared.channel.Kind.TheVariants.{Am}
+use Rattle.l2_types.specs.declared.side.Side.{Side}
+use Rattle.law_air.specs.AnyCalls.Ends.{told_by}
+use Rattle.law_run.specs.Delivery.{discarded}
+use Rattle.law_run.specs.Flows.{submitted, delivered}
+use Rattle.law_run.specs.Texts.{config_of}
+
+-- ---- a sender gives up at its limit of retransmissions, for the sequence number that it tells
+
+abbrev pub fails_in : ℕ → Event → List ℕ
+fails_in l (Fail lcid sn) = if lcid == l then sn ∷ [] else []
+fails_in l event = []
+
+abbrev pub fails_on : ℕ → List Event → List ℕ
+fails_on l events = flat_map (fails_in l) events
+
+-- and begins anew in a handover (TS 36.322 5.4)
+abbrev pub hands_over : Line → Bool
+hands_over (lines.Handover user rrc integrity) = true
+hands_over line = false
+
+-- at which a side's sender on a channel gave up since the last handover, or the beginning
+abbrev pub failed : Side → ℕ → List Group → List ℕ
+failed side lcid [] = []
+failed side lcid (g ∷ past) = (if hands_over g.line then [] else failed side lcid past) ++ fails_on lcid (told_by side g.events)
+
+-- ---- the line is a drain, and at its end it tells that it is drained, not that its budget is spent
+
+pub record EndsDrained (g : Group) : Type 0 where
+  pub grant : ℕ
+  pub rounds : ℕ
+  pub before : List Record
+  pub line_is : g.line ≡ lines.Drain grant
+  pub events_are : g.events ≡ before ++ records.Drained rounds ∷ []
+
+-- what the other end has handed up is then all that this end submitted, in its order, each once and unchanged: on each channel with an
+-- acknowledged data bearer on which it gave up none and discarded none
+abbrev pub LeavesNothing : List Group → Type 0
+LeavesNothing past = (from : Side) (lcid : ℕ) (config : BearerConfig) → config_of lcid past ≡ Some config → config.kind ≡ Am
+    → failed from lcid past ≡ [] → discarded from lcid past ≡ [] → delivered (other from) lcid past ≡ submitted from lcid past
+
+-- behind each such group, of which the newest stands first; no block was forged before, as a drain is refused then
+abbrev pub DrainsLeaveNothing : List Group → Type 0
+DrainsLeaveNothing [] = Unit {0}
+DrainsLeaveNothing (g ∷ past) = (EndsDrained g → LeavesNothing (g ∷ past)) × DrainsLeaveNothing past

@@ -1,0 +1,59 @@
+-- What is promised of the journal of every script, over its groups, of which the newest stands first.
+use Rattle.std.specs.Prelude.{◌≡◌, List, ◌++◌}
+use Rattle.std.specs.List.{filter}
+use Rattle.air_run.specs.Journal.{Played}
+use Rattle.air_text.specs.Groups.{Group, history}
+use Rattle.law_run.specs.Air.{is_tti, ttis, numbered}
+use Rattle.law_run.specs.Arrival.{HandUpWhatCame}
+use Rattle.law_run.specs.Carried.{AreCarried}
+use Rattle.law_run.specs.Counts.{CountsAscend}
+use Rattle.law_run.specs.Delivery.{DeliversInOrder}
+use Rattle.law_run.specs.Drained.{DrainsLeaveNothing}
+use Rattle.law_run.specs.Ends.{ComeByCalls}
+use Rattle.law_run.specs.Keys.{all_keys, AreDistinct}
+use Rattle.law_run.specs.Loops.{ReturnInOrder}
+use Rattle.law_run.specs.Losses.{DeliversWhileShort}
+use Rattle.law_run.specs.Order.{KeepsOrder}
+use Rattle.law_run.specs.Signalling.{DeliversEachLife, DrainsLeaveNoSignal, HandoversBringNoSignal}
+use Rattle.law_run.specs.Sums.{sums_at}
+use Rattle.law_run.specs.Texts.{NoneMeet}
+use Rattle.law_run.specs.Telling.{LinesTell}
+use Rattle.law_run.specs.Zero.{BringInOrder}
+
+-- a journal with its promises: its groups, and at its end the sums where it is finished
+pub record IsPromised (played : Played) : Type 0 where
+  pub past : List Group
+  pub journal_is : played.journal ≡ history past ++ sums_at played.close past
+  pub order : KeepsOrder past
+  -- its TTIs are numbered from 0 on, each once
+  pub in_turn : filter is_tti (history past) ≡ numbered 0 (ttis past)
+  -- its blocks are those of HARQ's processes
+  pub carried : AreCarried past
+  -- no key is given twice
+  pub keys : AreDistinct (all_keys past)
+  -- and from one handover to the next the COUNTs ascend that a side takes on a channel
+  pub counts : CountsAscend past
+  -- under one key no two texts meet at one COUNT, BEARER and DIRECTION
+  pub texts : NoneMeet past
+  -- both ends have come by calls of their own, and what is told of each is what it tells in these
+  pub ends : ComeByCalls past
+  -- what the test loop returns went up before, and what it loses is told
+  pub loops : ReturnInOrder past
+  -- what goes up on LCID 0 is what the blocks carry that arrive
+  pub brought : BringInOrder past
+  -- each acknowledged data bearer hands up what was submitted at the other end, in order
+  pub delivered : DeliversInOrder past
+  -- exactly those before the first that hasn't come, as the blocks tell, none of which is held back
+  pub came : HandUpWhatCame past
+  -- and all of it once a drain tells that it is drained, but where the sender gave up
+  pub drained : DrainsLeaveNothing past
+  -- each signalling bearer hands up what was submitted at the other end since the last handover, in order
+  pub signalled : DeliversEachLife past
+  -- and all of it once a drain tells that it is drained, but where the sender gave up
+  pub signals_drained : DrainsLeaveNoSignal past
+  -- and in a handover nothing of it goes up
+  pub signals_moved : HandoversBringNoSignal past
+  -- each unacknowledged data bearer hands up some of what was submitted at the other end, in order, while losses are short
+  pub delivered_short : DeliversWhileShort past
+  -- the records of each line stand in the order in which both ends, the blocks and the loop come to their turns
+  pub in_order : LinesTell past

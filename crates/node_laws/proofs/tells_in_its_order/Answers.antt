@@ -1,9 +1,0 @@
-use Rattle.node_laws.proofs.Ordered.{tells_in_its_order}
-use Rattle.node_laws.proofs.Standing.{stands_in_order}
-use Rattle.node_laws.proofs.tells_in_its_order.Goals as goal
-
-pub returns-clause-calls : goal.returns-clause-calls
-returns-clause-calls c = tells_in_its_order
-
-pub returns-clause-places : goal.returns-clause-places
-returns-clause-places c = stands_in_order

@@ -1,5 +1,0 @@
-use Rattle.node_laws.proofs.Silences.{writes_nothing}
-use Rattle.node_laws.proofs.writes_only_as_it_builds.Goals as goal
-
-pub returns : goal.returns
-returns c = writes_nothing

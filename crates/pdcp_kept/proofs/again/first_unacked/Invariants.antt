@@ -1,7 +1,0 @@
-use Rattle.std.proofs.Common.{◌≡◌}
-use Rattle.std.specs.VecDeque.Iter.{deque_iter_rest}
-use Rattle.pdcp_kept.specs.Given.{first_unacked, data_of}
-use Rattle.pdcp_kept.proofs.again.first_unacked.Given as goal
-
-abbrev pub invariant-loop-entry : goal.invariant-loop-entry
-invariant-loop-entry l = first_unacked (data_of (deque_iter_rest l.entry-iterator)) ≡ first_unacked (data_of l.ring.items)

@@ -1,7 +1,0 @@
-use Rattle.std.proofs.Common.{◌≡◌}
-use Rattle.std.specs.VecDeque.Iter.{deque_iter_rest}
-use Rattle.pdcp_kept.specs.Given.{first_open}
-use Rattle.pdcp_kept.proofs.given.first_open.Given as goal
-
-abbrev pub invariant-loop-entry : goal.invariant-loop-entry
-invariant-loop-entry l = first_open (deque_iter_rest l.entry-iterator) ≡ first_open l.entries.items

@@ -1,7 +1,0 @@
-use Rattle.std.proofs.Common.{◌≡◌, ◌+◌}
-use Rattle.std.specs.VecDeque.Iter.{deque_iter_rest}
-use Rattle.pdcp_kept.specs.Given.{open_octets}
-use Rattle.pdcp_kept.proofs.given.open_sum.Given as goal
-
-abbrev pub invariant-loop-entry : goal.invariant-loop-entry
-invariant-loop-entry l = l.sum + open_octets (deque_iter_rest l.entry-iterator) ≡ open_octets l.entries.items

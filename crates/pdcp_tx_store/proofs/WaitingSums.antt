@@ -1,0 +1,34 @@
+-- Sums of lengths by what was submitted before.
+use Rattle.std.proofs.Common.{◌≡◌, ◌≤◌, ℕ, suc, zero, ◌+◌, List, [], ◌∷◌, ◌++◌, length, drop, take, map, refl, ap, sym, ◌∙◌, arith}
+use Rattle.pdcp_tx_store.specs.declared.waiting.Waiting.{Waiting}
+use Rattle.pdcp_tx_store.specs.Waiting.{waits, length_all, start_of, AreSummed}
+
+pub start_more : (ws : List Waiting) (end new : ℕ) (w : Waiting) → w.before ≡ end → start_of (ws ++ w ∷ []) new ≡ start_of ws end
+start_more [] end new w e = e
+start_more (x ∷ xs) end new w e = refl
+
+pub summed_more : (ws : List Waiting) (end new : ℕ) (w : Waiting) → AreSummed ws end → w.before ≡ end → end + length w.octets ≡ new → AreSummed (ws ++ w ∷ []) new
+summed_more [] end new w h e f = (ap (λ (n : ℕ). n + length w.octets) e ∙ f, tt)
+summed_more (x ∷ xs) end new w h e f = (h.0 ∙ sym (start_more xs end new w e), summed_more xs end new w h.1 e f)
+
+pub start_first : (ws : List Waiting) (end k : ℕ) → AreSummed ws end → start_of (drop k ws) end ≡ start_of ws end + length_all (take k (map waits ws))
+start_first [] end zero h = omega arith
+start_first [] end (suc k) h = omega arith
+start_first (w ∷ ws) end zero h = omega arith
+start_first (w ∷ ws) end (suc k) h = let ih = start_first ws end k h.1 in let e : w.before + length w.octets ≡ start_of ws end = h.0 in omega arith
+
+pub drop_none : (ws : List Waiting) → drop 0 ws ≡ ws
+drop_none ws = refl
+
+pub ruleset sums = (summed_more, start_first)
+
+pub start_below : (ws : List Waiting) (end k : ℕ) → AreSummed ws end → start_of (drop k ws) end ≤ end
+start_below [] end zero h = omega arith
+start_below [] end (suc k) h = omega arith
+start_below (w ∷ ws) end zero h = let e : w.before + length w.octets ≡ start_of ws end = h.0 in omega (arith, start_below ws end 0 h.1)
+start_below (w ∷ ws) end (suc k) h = start_below ws end k h.1
+
+pub sum_below : (ws : List Waiting) (end k : ℕ) → AreSummed ws end → length_all (take k (map waits ws)) ≤ end
+sum_below ws end k h = omega (arith, start_first ws end k h, start_below ws end k h)
+
+pub ruleset firsts = (start_first, sum_below)

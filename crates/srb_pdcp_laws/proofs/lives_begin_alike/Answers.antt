@@ -1,8 +1,0 @@
-use Rattle.srb_pdcp_laws.proofs.lives_begin_alike.Goals as goal
-use Rattle.srb_pdcp_laws.proofs.Beginning.{first_life, next_life}
-
-pub returns-clause-first : goal.returns-clause-first
-returns-clause-first c = first_life
-
-pub returns-clause-next : goal.returns-clause-next
-returns-clause-next c = next_life
