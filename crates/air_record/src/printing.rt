@@ -16,11 +16,11 @@ use crate::shown::{
     append_signalling, append_sized, append_status, append_umd, append_value,
 };
 use crate::word::{Word, append_counted, append_words, number, octet};
-use text_digits::append_number;
 use l2_bits::{Bytes, NoMemory};
 use l2_types::Side;
 use mac_pdu::Direction;
 use std::alloc::Global;
+use text_digits::append_number;
 
 /// Adds the text of the record of an accepted line.
 pub fn append_accepted(text: &mut Bytes, place: u32, line: &Line) -> Result<(), NoMemory>

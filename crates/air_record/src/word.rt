@@ -5,10 +5,10 @@ ghost use Rattle.std.specs.Fmt.{decimal};
 
 use crate::record::Lens;
 use arrayvec::ArrayVec;
-use text_digits::{append_hex, append_number};
 use itoa::Buffer;
 use l2_bits::{Bytes, Items, NoMemory};
 use rlc_pdu::{Nack, Nacks};
+use text_digits::{append_hex, append_number};
 
 /// A word of a record's text.
 #[derive(Clone, Copy)]

@@ -8,12 +8,12 @@ ghost use Rattle.std.specs.Str.{bytes_eq};
 
 use crate::fault::{LineFault, LineRefusal};
 use air_record::{Fate, Outcome};
-use text_digits::read_hex;
 use eps_sec::{Cipher, Key};
 use l2_bits::Bytes;
 use l2_types::{Clock, Kind, Side};
 use memchr::memchr;
 use std::alloc::{AllocError, Global};
+use text_digits::read_hex;
 
 pub fn words<'a>(alloc: Global, text: &'a [u8]) -> Result<Vec<&'a [u8]>, AllocError>
     ensures { IfOk result (λ words. texts words.items ≡ words_of text.now) }

@@ -1,3 +1,8 @@
 pub mod Wider
-pub mod Unacknowledged
-pub mod Acknowledged
+pub mod Idle
+pub mod UmFeeds
+pub mod UmHears
+pub mod AmFeeds
+pub mod AmHears
+pub mod AmTimings
+pub mod StatusOctets

@@ -10,11 +10,11 @@ ghost use Rattle.bearer.specs.Sums.{need, backlog, left, is_drained};
 ghost use Rattle.bearer.specs.Taking.{pdus, number, told, after};
 ghost use Rattle.bearer.specs.Hearing.{arriving, arrived, expiry, expired, ticking, ticked, with_discard};
 
-use crate::transparent::TmBearer;
 use crate::acknowledged::{AmBearer, StoppedAm};
+use crate::transparent::TmBearer;
+use crate::unacknowledged::{StoppedUm, UmBearer};
 use bearer_pdcp::Written;
 use bearer_types::{BearerConfig, Events};
-use crate::unacknowledged::{StoppedUm, UmBearer};
 use eps_sec::Keys;
 use l2_bits::{NoMemory, SubmitRefusal};
 use l2_types::{Clock, Kind, Side};

@@ -4,10 +4,12 @@
 //! Contracts speak of an exact machine, which stands in `specs/`.
 #![tactic(auto)]
 
+mod acknowledged;
 mod bearer;
 mod flow;
 mod flow_stopped;
 mod transparent;
+mod unacknowledged;
 
 pub use bearer::{Bearer, Running, Stopped};
 pub use bearer_pdcp::Written;

@@ -71,6 +71,7 @@ pub fn sender(alloc: Global, window: u64, pdus: u32) -> Result<u64, NoMemory> {
             confirmed = confirmed.wrapping_add(1);
         }
     }
+    sender.finish();
     Ok(confirmed)
 }
 

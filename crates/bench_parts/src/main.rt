@@ -5,7 +5,6 @@
 //! error. A line that names no part is told as such.
 #![tactic(auto)]
 
-mod air;
 mod entities;
 mod measure;
 mod security;

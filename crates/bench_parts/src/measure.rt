@@ -1,6 +1,5 @@
 //! What a line of the input asks for.
 
-use crate::air::{self, Air};
 use crate::{entities, security};
 use l2_bits::NoMemory;
 use std::alloc::{AllocError, Global};
@@ -18,8 +17,6 @@ pub enum Measure {
     Pdcp { is_long: bool, sdus: u32 },
     /// `window4 N`, `window64 N`, `window500 N`: N PDUs of an acknowledged sender, of which so many stay unacknowledged.
     Window { window: u64, pdus: u32 },
-    /// `build100 N`, `um100 N`, `am100 N`, and with 1500: N blocks of so many octets over the air.
-    Air(Air, u32),
 }
 
 impl Measure {
@@ -51,7 +48,7 @@ impl Measure {
                 window: 500,
                 pdus: amount,
             }),
-            _ => Some(Measure::Air(Air::read(name)?, amount)),
+            _ => None,
         }
     }
 
@@ -71,7 +68,6 @@ impl Measure {
             Measure::Eia2(_) => Ok(security::eia2(octets)),
             Measure::Pdcp { is_long, sdus } => entities::pdcp(alloc, is_long, sdus),
             Measure::Window { window, pdus } => entities::sender(alloc, window, pdus),
-            Measure::Air(air, blocks) => air::run(alloc, air, blocks),
         }
     }
 }

@@ -3,8 +3,6 @@
 
 mod command;
 mod line;
-#[cfg(test)]
-mod tests;
 mod words;
 
 pub use command::Command;

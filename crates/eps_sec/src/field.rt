@@ -1,9 +1,7 @@
-//! The field of 256 elements and the S-box by its definition (FIPS 197, sections 4 and 5.1.1).
-//!
-//! The round constants come from here. `sub_byte` is the plain form of the table that the cipher uses.
+//! The field of 256 elements, from which the round constants come (FIPS 197, section 4).
 
 ghost use Rattle.std.specs.Prelude.{◌≡◌};
-ghost use Rattle.eps_sec.specs.Field.{xtime, times, inverse, sub_byte};
+ghost use Rattle.eps_sec.specs.Field.{xtime, times};
 
 /// The product with x (4.2.1).
 fn xtime(a: u8) -> u8
@@ -29,25 +27,4 @@ pub(crate) fn times(a: u8, b: u8) -> u8
         rest /= 2;
     }
     sum
-}
-
-/// The multiplicative inverse, and 0 of 0.
-fn inverse(a: u8) -> u8
-    ensures { result ≡ inverse a }
-{
-    for i in 0..256u16 {
-        let b = i as u8;
-        if times(a, b) == 1 {
-            return b;
-        }
-    }
-    0
-}
-
-/// The S-box by the inverse and the affine map (5.1.1).
-pub(crate) fn sub_byte(a: u8) -> u8
-    ensures { result ≡ sub_byte a }
-{
-    let b = inverse(a);
-    b ^ b.rotate_left(1) ^ b.rotate_left(2) ^ b.rotate_left(3) ^ b.rotate_left(4) ^ 0x63
 }

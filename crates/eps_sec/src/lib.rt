@@ -16,6 +16,3 @@ pub use cipher::{Schedule, encrypt_block};
 pub use ciphering::eea_apply;
 pub use integrity::{cmac, eia_tag};
 pub use keys::{Cipher, Key, Keys};
-
-#[cfg(test)]
-mod tests;

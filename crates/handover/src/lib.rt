@@ -11,9 +11,6 @@ use eps_sec::Keys;
 use l2_bits::NoMemory;
 use std::marker::Model;
 
-#[cfg(test)]
-mod tests;
-
 /// A bearer on its way: its configuration and side, the SDUs that are kept with their COUNTs and with what RLC and status
 /// reports have confirmed of them, the SDUs that wait with their discard timers, the receive state, and the SDUs that are
 /// held out of sequence.

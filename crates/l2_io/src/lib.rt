@@ -9,8 +9,6 @@ mod sink;
 mod source;
 mod streams;
 mod sure;
-#[cfg(test)]
-mod tests;
 
 pub use gather::GatherSink;
 pub use lines::{Cut, Lines, Stand, Turn};

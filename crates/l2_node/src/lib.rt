@@ -12,8 +12,6 @@ mod moving;
 mod node;
 mod reporting;
 mod submitting;
-#[cfg(test)]
-mod tests;
 mod writing;
 
 pub use hearing::heard_by;

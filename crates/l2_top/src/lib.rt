@@ -5,10 +5,8 @@ mod engine;
 mod playing;
 mod status;
 mod summing;
-#[cfg(test)]
-mod tests;
 mod top;
 
+pub use cli_words::{Command, Words};
 pub use status::Status;
 pub use top::l2_main;
-pub use cli_words::{Command, Words};

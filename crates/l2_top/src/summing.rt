@@ -12,8 +12,8 @@ use crate::engine::{LineEnd, finish};
 use crate::playing::{Ending, LIMIT};
 use air_run::{Reason, Run, StepFault};
 use air_text::Line;
-use script_generator::ScriptLines;
 use l2_io::Sink;
+use script_generator::ScriptLines;
 use std::alloc::Global;
 
 // Runs one line without its records.

@@ -9,8 +9,6 @@ mod octets;
 mod reader;
 mod sizes;
 mod subheader;
-#[cfg(test)]
-mod tests;
 
 pub use builder::MacBuilder;
 pub use fault::{MacRefusal, MacWhy};

@@ -8,8 +8,6 @@ mod laws;
 mod pdu;
 mod reading;
 mod signalling;
-#[cfg(test)]
-mod tests;
 mod writing;
 
 pub use laws::{reads_signalling_again, reads_user_again};

@@ -13,8 +13,6 @@ pub mod laws;
 mod reading;
 mod receiver;
 mod security;
-#[cfg(test)]
-mod tests;
 
 pub use entity::{Held, PdcpRx};
 pub use got::{Cause, Got};

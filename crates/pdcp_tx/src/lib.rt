@@ -9,8 +9,6 @@ mod laws;
 mod pdcp_tx;
 mod security;
 mod sender;
-#[cfg(test)]
-mod tests;
 
 pub use laws::{takes_in_order, takes_the_head};
 pub use pdcp_tx::{Kept, PdcpTx};

@@ -9,9 +9,9 @@ ghost use Rattle.pdcp_tx.specs.Pdus.{mac_i, pdu};
 ghost use Rattle.pdcp_tx.specs.State.{IsShort};
 
 use l2_bits::{Bytes, NoMemory};
-use pdcp_tx_store::Sdu;
 use pdcp_pdu::{PdcpKind, write_srb_message, write_user};
 use pdcp_sec::Security;
+use pdcp_tx_store::Sdu;
 use std::alloc::Global;
 
 /// Writes the PDU of an SDU with its COUNT.

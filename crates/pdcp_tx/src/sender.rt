@@ -13,9 +13,9 @@ use crate::kind::{extra, modulus, width};
 use crate::security::write_pdu;
 use eps_sec::Keys;
 use l2_bits::{Bytes, NoMemory, SubmitRefusal};
-use pdcp_tx_store::{Again, Entry, Ledger, Queue, Sdu, Sent};
 use pdcp_pdu::PdcpKind;
 use pdcp_sec::Security;
+use pdcp_tx_store::{Again, Entry, Ledger, Queue, Sdu, Sent};
 use std::alloc::Global;
 use std::marker::Model;
 

@@ -1,12 +1,22 @@
 -- Buffer Size levels and the padding BSR (TS 36.321 5.4.5, 6.1.3.1).
 use Rattle.std.specs.Prelude.{ℕ, nat_lt, nat_le, if◌then◌else◌, Option, Some, None, unwrap_or, List, [], ◌∷◌, slice_index, position, count_by}
-use Rattle.prioritise.specs.declared.report.TheConstants.{EDGES}
 use Rattle.mac_pdu.specs.declared.item.Bsr.{Bsr}
 use Rattle.mac_pdu.specs.declared.item.Bsr.TheVariants.{Truncated, Short, Long}
 
+-- the upper edges of the levels 0 to 62, in octets (Table 6.1.3.1-1)
+abbrev pub edges : List ℕ
+edges =
+    0 ∷ 10 ∷ 12 ∷ 14 ∷ 17 ∷ 19 ∷ 22 ∷ 26 ∷ 31 ∷
+    36 ∷ 42 ∷ 49 ∷ 57 ∷ 67 ∷ 78 ∷ 91 ∷ 107 ∷ 125 ∷
+    146 ∷ 171 ∷ 200 ∷ 234 ∷ 274 ∷ 321 ∷ 376 ∷ 440 ∷ 515 ∷
+    603 ∷ 706 ∷ 826 ∷ 967 ∷ 1132 ∷ 1326 ∷ 1552 ∷ 1817 ∷ 2127 ∷
+    2490 ∷ 2915 ∷ 3413 ∷ 3995 ∷ 4677 ∷ 5476 ∷ 6411 ∷ 7505 ∷ 8787 ∷
+    10287 ∷ 12043 ∷ 14099 ∷ 16507 ∷ 19325 ∷ 22624 ∷ 26487 ∷ 31009 ∷ 36304 ∷
+    42502 ∷ 49759 ∷ 58255 ∷ 68201 ∷ 79846 ∷ 93479 ∷ 109439 ∷ 128125 ∷ 150000 ∷ []
+
 -- the level of an amount: the least whose upper edge is at least it, 63 above all edges
 unfoldable pub level_of : ℕ → ℕ
-level_of octets = unwrap_or (position (λ edge. nat_le octets edge) EDGES) 63
+level_of octets = unwrap_or (position (λ edge. nat_le octets edge) edges) 63
 
 -- the level of a group
 abbrev pub level_at : List ℕ → ℕ → ℕ

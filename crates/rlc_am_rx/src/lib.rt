@@ -8,8 +8,6 @@
 mod entity;
 mod receiver;
 mod report;
-#[cfg(test)]
-mod tests;
 
 pub use entity::AmRx;
 pub use l2_types::AmRxConfig;

@@ -13,10 +13,10 @@ ghost use Rattle.rlc_am_rx.specs.Status.{is_running, may_write, listed, chosen, 
 ghost use Rattle.rlc_am_rx.specs.Machine.{stops, mark_left, starts, mark_begun, clock_left, clock_begun, turned_by, landed, window_with, bound_moved, settled, arrived, turned, after_reorder, reorder_answer, after_prohibit, prohibit_answer, reorder_ticked, prohibit_ticked, prohibit_ends, written, taken, finished};
 
 use crate::report::{ack_behind, choose};
-use rlc_am_rx_window::{Output, Window};
 use l2_bits::{Bytes, NoMemory, Packets};
 use l2_num::Timer;
 use l2_types::AmRxConfig;
+use rlc_am_rx_window::{Output, Window};
 use rlc_pdu::{Amd, Expired, Landed, Nacks, Turned, write_status};
 use std::alloc::Global;
 use std::marker::Model;

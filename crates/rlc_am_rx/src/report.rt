@@ -4,8 +4,8 @@ ghost use Rattle.rlc_pdu.specs.Pdus.{IsNack, IsPart};
 ghost use Rattle.rlc_am_rx_window.specs.Missing.{entry_bits, AreRanges};
 ghost use Rattle.rlc_am_rx.specs.Status.{nack_of, fitting, room_in, last_number, is_same, next_number, ack_behind};
 
-use rlc_am_rx_window::Missing;
 use l2_bits::NoMemory;
+use rlc_am_rx_window::Missing;
 use rlc_pdu::{Nack, Nacks};
 
 /// Adds the entries that fit into so many octets, and returns how many do.

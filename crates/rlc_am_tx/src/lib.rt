@@ -9,8 +9,6 @@ mod answers;
 mod polls;
 mod sender;
 mod taking;
-#[cfg(test)]
-mod tests;
 mod turn;
 
 pub use am_tx::AmTx;

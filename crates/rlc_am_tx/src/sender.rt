@@ -8,9 +8,9 @@ ghost use Rattle.rlc_am_tx.specs.Need.{new_need, data_need, hungry, backlog, lef
 
 use crate::answers::{Heard, PollExpired};
 use crate::polls::Polling;
-use rlc_am_tx_window::{Accounts, WINDOW, Window, is_named};
 use l2_bits::{Bytes, NoMemory};
 use l2_types::AmTxConfig;
+use rlc_am_tx_window::{Accounts, WINDOW, Window, is_named};
 use rlc_pdu::{NackReader, StatusRead};
 use rlc_queue::{Queue, has_room};
 use std::alloc::Global;

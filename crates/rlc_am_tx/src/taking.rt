@@ -11,8 +11,8 @@ ghost use Rattle.rlc_am_tx.specs.Machine.{waits, again, resend_turn, new_turn, t
 
 use crate::sender::{HEAD, Sender};
 use crate::turn::Turn;
-use rlc_am_tx_window::{Slot, Stretch, WINDOW};
 use l2_bits::{Bytes, NoMemory};
+use rlc_am_tx_window::{Slot, Stretch, WINDOW};
 use rlc_pdu::Taken;
 use rlc_queue::{NewPdu, new_pdu};
 use std::alloc::Global;

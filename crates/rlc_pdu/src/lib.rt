@@ -11,8 +11,6 @@ mod outcome;
 mod pdu;
 mod reading;
 mod status;
-#[cfg(test)]
-mod tests;
 mod writing;
 
 pub use elements::Elements;

@@ -5,8 +5,6 @@
 mod cutting;
 mod laws;
 mod queue;
-#[cfg(test)]
-mod tests;
 
 pub use cutting::{NewPdu, framing, has_room, new_pdu};
 pub use laws::new_pdu_fits;

@@ -7,8 +7,6 @@
 mod joiner;
 mod receiver;
 mod stored;
-#[cfg(test)]
-mod tests;
 mod tm_tx;
 mod um_rx;
 mod um_tx;

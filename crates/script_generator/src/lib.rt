@@ -7,8 +7,6 @@ mod line;
 mod lines;
 mod script;
 mod steps;
-#[cfg(test)]
-mod tests;
 mod text;
 
 pub use laws::script_says_its_lines;

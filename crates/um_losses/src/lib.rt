@@ -13,8 +13,6 @@ mod losses;
 mod pdu;
 mod sending;
 mod tags;
-#[cfg(test)]
-mod tests;
 
 pub use laws::{tag_is_read, tags_are_heard_alike};
 pub use losses::Losses;

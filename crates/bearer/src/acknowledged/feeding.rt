@@ -24,7 +24,7 @@ pub(crate) fn feed(
     Ok(())
 }
 
-#[tactic(auto, using(crate::proofs::Acknowledged::Feeds::steps))]
+#[tactic(auto, using(crate::proofs::AmFeeds::steps))]
 fn feed_one(
     pdcp: &mut Pdcp,
     tx: &mut AmTx,

@@ -110,7 +110,7 @@ pub(crate) fn settle(pdcp: &mut Pdcp, tx: &mut AmTx, events: &mut Events) -> Res
 }
 
 // Hands up what the receiver has ready, through PDCP.
-#[tactic(auto, using(crate::proofs::Acknowledged::Hears::steps))]
+#[tactic(auto, using(crate::proofs::AmHears::steps))]
 fn hand_up(
     rx: &mut AmRx,
     pdcp: &mut Pdcp,

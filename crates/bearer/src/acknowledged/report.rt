@@ -10,7 +10,7 @@ use l2_bits::{Bytes, NoMemory, field};
 use rlc_am_rx::AmRx;
 
 /// Writes a STATUS of at most so many octets, and answers its ACK_SN too.
-#[tactic(auto, using(crate::proofs::Acknowledged::StatusOctets::steps))]
+#[tactic(auto, using(crate::proofs::StatusOctets::steps))]
 pub(crate) fn write_status(rx: &mut AmRx, size: u32) -> Result<(Bytes, u32), NoMemory>
     requires due { IsTrue (may_write rx.old.state) }
     requires low { 2 ≤ size }

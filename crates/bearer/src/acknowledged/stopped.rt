@@ -178,7 +178,7 @@ fn hear_last(mut sdus: Packets, pdcp: &mut Pdcp, events: &mut Events) -> Result<
     Ok(())
 }
 
-#[tactic(auto, using(crate::proofs::Acknowledged::Timings::appends))]
+#[tactic(auto, using(crate::proofs::AmTimings::appends))]
 fn drop_last(mut sdus: Packets, lcid: u8, events: &mut Events) -> Result<(), NoMemory>
     ensures { OnOk result (events.new ≡ events.old ++ map (λ sdu. events_of.Drop lcid Handover) sdus) }
 {

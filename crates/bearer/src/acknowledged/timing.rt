@@ -109,7 +109,7 @@ impl AmBearer {
     }
 
     // Discard timers may end; behind discards the sender settles.
-    #[tactic(auto, using(crate::proofs::Acknowledged::Timings::steps))]
+    #[tactic(auto, using(crate::proofs::AmTimings::steps))]
     fn discard(&mut self, events: &mut Events) -> Result<(), NoMemory>
         ensures { OnOk result (record { bearer = self.new; events = events.new } ≡ discards (record { bearer = self.old; events = events.old })) }
     {
@@ -122,7 +122,7 @@ impl AmBearer {
     }
 }
 
-#[tactic(auto, using(crate::proofs::Acknowledged::Timings::appends))]
+#[tactic(auto, using(crate::proofs::AmTimings::appends))]
 fn append(events: &mut Events, mut more: Events) -> Result<(), NoMemory>
     ensures { OnOk result (events.new ≡ events.old ++ more) }
 {

@@ -25,7 +25,7 @@ pub(crate) fn feed(
     Ok(())
 }
 
-#[tactic(auto, using(crate::proofs::Unacknowledged::Feeds::steps))]
+#[tactic(auto, using(crate::proofs::UmFeeds::steps))]
 fn feed_one(
     pdcp: &mut Pdcp,
     tx: &mut UmTx,

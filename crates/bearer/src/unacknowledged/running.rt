@@ -207,7 +207,7 @@ impl UmBearer {
         }
     }
 
-    #[tactic(auto, using(crate::proofs::Unacknowledged::Hears::idle_expired))]
+    #[tactic(auto, using(crate::proofs::UmHears::idle_expired))]
     fn expire_reorder(&mut self) -> Result<Option<Events>, NoMemory>
         ensures told { IfOk result (λ events. events ≡ expiry_told (expiring self.old.rx) self.old) }
         ensures state { OnOk result (self.new ≡ expiry_left (expiring self.old.rx) self.old) }
@@ -358,7 +358,7 @@ fn reduced(number: u64, bits: u32) -> u32
 }
 
 // Hands up what the receiver has ready, through PDCP.
-#[tactic(auto, using(crate::proofs::Unacknowledged::Hears::steps))]
+#[tactic(auto, using(crate::proofs::UmHears::steps))]
 fn hand_up(rx: &mut UmRx, pdcp: &mut Pdcp, events: &mut Events) -> Result<(), NoMemory>
     ensures rx { OnOk result (rx.new.state ≡ all_handed rx.old.state) }
     ensures pdcp { OnOk result (pdcp.new ≡ (handing rx.old.state pdcp.old events.old).pdcp) }

@@ -1,5 +1,5 @@
 use Rattle.law_bearer.proofs.AnyBearer.Placing.{in_the_first, in_the_others}
-use Rattle.law_bearer.proofs.AnyBearer.keeps_places.Goals as goal
+use Rattle.law_bearer.proofs.any_bearer.keeps_places.Goals as goal
 
 pub returns-clause-first : goal.returns-clause-first
 returns-clause-first c config keys side kind calls e at = in_the_first config keys side kind calls e at

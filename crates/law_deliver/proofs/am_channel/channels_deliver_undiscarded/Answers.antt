@@ -1,5 +1,5 @@
 use Rattle.law_deliver.proofs.AmChannel.Delivery.{channels_deliver_undiscarded}
-use Rattle.law_deliver.proofs.AmChannel.channels_deliver_undiscarded.Goals as goal
+use Rattle.law_deliver.proofs.am_channel.channels_deliver_undiscarded.Goals as goal
 
 pub returns : goal.returns
 returns c = channels_deliver_undiscarded

@@ -1,4 +1,4 @@
-use Rattle.law_deliver.proofs.AmChannel.channels_deliver_what_came.Goals as goal
+use Rattle.law_deliver.proofs.am_channel.channels_deliver_what_came.Goals as goal
 use Rattle.law_deliver.proofs.AmChannel.Delivery.{channels_deliver_what_came, channels_deliver_what_came_undiscarded}
 
 pub returns-clause-taken : goal.returns-clause-taken

@@ -1,5 +1,5 @@
 use Rattle.law_deliver.proofs.AmChannel.Drained.{drained_channels_have_delivered}
-use Rattle.law_deliver.proofs.AmChannel.drained_channels_have_delivered.Goals as goal
+use Rattle.law_deliver.proofs.am_channel.drained_channels_have_delivered.Goals as goal
 
 pub returns : goal.returns
 returns c = drained_channels_have_delivered

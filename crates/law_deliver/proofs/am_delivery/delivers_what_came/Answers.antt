@@ -1,4 +1,4 @@
-use Rattle.law_deliver.proofs.AmDelivery.delivers_what_came.Goals as goal
+use Rattle.law_deliver.proofs.am_delivery.delivers_what_came.Goals as goal
 use Rattle.law_deliver.proofs.AmDelivery.Laws.{what_came_is_delivered}
 
 pub returns : goal.returns

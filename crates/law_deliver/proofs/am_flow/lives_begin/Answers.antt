@@ -1,5 +1,5 @@
 use Rattle.law_deliver.proofs.AmFlow.Lives.{adds_begin, moves_begin}
-use Rattle.law_deliver.proofs.AmFlow.lives_begin.Goals as goal
+use Rattle.law_deliver.proofs.am_flow.lives_begin.Goals as goal
 
 pub returns-clause-adds : goal.returns-clause-adds
 returns-clause-adds c = adds_begin

@@ -1,5 +1,5 @@
 use Rattle.law_deliver.proofs.AmFlow.Links.{numbers_are_ordered}
-use Rattle.law_deliver.proofs.AmFlow.numbers_are_ordered.Goals as goal
+use Rattle.law_deliver.proofs.am_flow.numbers_are_ordered.Goals as goal
 
 pub returns : goal.returns
 returns c = numbers_are_ordered

@@ -1,4 +1,4 @@
-use Rattle.law_deliver.proofs.SrbChannel.drained_channels_have_delivered.Goals as goal
+use Rattle.law_deliver.proofs.srb_channel.drained_channels_have_delivered.Goals as goal
 use Rattle.law_deliver.proofs.SrbChannel.Laws.{drained_delivers}
 
 pub returns : goal.returns

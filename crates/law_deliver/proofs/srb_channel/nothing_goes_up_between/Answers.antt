@@ -1,4 +1,4 @@
-use Rattle.law_deliver.proofs.SrbChannel.nothing_goes_up_between.Goals as goal
+use Rattle.law_deliver.proofs.srb_channel.nothing_goes_up_between.Goals as goal
 use Rattle.law_deliver.proofs.SrbChannel.Laws.{nothing_between}
 
 pub returns : goal.returns

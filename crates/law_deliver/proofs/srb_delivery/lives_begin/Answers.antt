@@ -1,4 +1,4 @@
-use Rattle.law_deliver.proofs.SrbDelivery.lives_begin.Goals as goal
+use Rattle.law_deliver.proofs.srb_delivery.lives_begin.Goals as goal
 use Rattle.law_deliver.proofs.SrbDelivery.Renewing.{first_life_begins, next_life}
 
 pub returns-clause-first : goal.returns-clause-first

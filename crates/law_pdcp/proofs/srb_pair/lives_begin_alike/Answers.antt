@@ -1,4 +1,4 @@
-use Rattle.law_pdcp.proofs.SrbPair.lives_begin_alike.Goals as goal
+use Rattle.law_pdcp.proofs.srb_pair.lives_begin_alike.Goals as goal
 use Rattle.law_pdcp.proofs.SrbPair.Beginning.{first_life, next_life}
 
 pub returns-clause-first : goal.returns-clause-first

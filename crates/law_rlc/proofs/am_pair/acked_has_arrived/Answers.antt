@@ -1,5 +1,5 @@
 use Rattle.law_rlc.proofs.AmPair.Laws.{acked-has-arrived}
-use Rattle.law_rlc.proofs.AmPair.acked_has_arrived.Goals as goal
+use Rattle.law_rlc.proofs.am_pair.acked_has_arrived.Goals as goal
 
 pub returns : goal.returns
 returns c = acked-has-arrived

@@ -1,5 +1,5 @@
 use Rattle.law_rlc.proofs.AmPair.Laws.{arrived-stays}
-use Rattle.law_rlc.proofs.AmPair.arrivals_stay.Goals as goal
+use Rattle.law_rlc.proofs.am_pair.arrivals_stay.Goals as goal
 
 pub returns : goal.returns
 returns c = arrived-stays

@@ -1,5 +1,5 @@
 use Rattle.law_rlc.proofs.AmPair.Laws.{confirmed-arrives}
-use Rattle.law_rlc.proofs.AmPair.confirmed_arrives.Goals as goal
+use Rattle.law_rlc.proofs.am_pair.confirmed_arrives.Goals as goal
 
 pub returns : goal.returns
 returns c = confirmed-arrives

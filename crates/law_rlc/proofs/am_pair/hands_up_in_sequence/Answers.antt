@@ -1,5 +1,5 @@
 use Rattle.law_rlc.proofs.AmPair.Laws.{hands-up-in-sequence}
-use Rattle.law_rlc.proofs.AmPair.hands_up_in_sequence.Goals as goal
+use Rattle.law_rlc.proofs.am_pair.hands_up_in_sequence.Goals as goal
 
 pub returns : goal.returns
 returns c = hands-up-in-sequence

@@ -1,5 +1,5 @@
 use Rattle.law_rlc.proofs.AmPair.Laws.{offers-are-sent}
-use Rattle.law_rlc.proofs.AmPair.offers_are_sent.Goals as goal
+use Rattle.law_rlc.proofs.am_pair.offers_are_sent.Goals as goal
 
 pub returns : goal.returns
 returns c = offers-are-sent

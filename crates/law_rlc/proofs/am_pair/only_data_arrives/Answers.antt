@@ -1,5 +1,5 @@
 use Rattle.law_rlc.proofs.AmPair.Laws.{only-data-arrives}
-use Rattle.law_rlc.proofs.AmPair.only_data_arrives.Goals as goal
+use Rattle.law_rlc.proofs.am_pair.only_data_arrives.Goals as goal
 
 pub returns : goal.returns
 returns c = only-data-arrives

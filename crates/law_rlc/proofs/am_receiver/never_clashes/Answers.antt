@@ -1,5 +1,5 @@
 use Rattle.law_rlc.proofs.AmReceiver.Clash.{none_clashes}
-use Rattle.law_rlc.proofs.AmReceiver.never_clashes.Goals as goal
+use Rattle.law_rlc.proofs.am_receiver.never_clashes.Goals as goal
 
 pub returns : goal.returns
 returns c = none_clashes

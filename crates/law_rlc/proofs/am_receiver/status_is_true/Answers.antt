@@ -1,6 +1,6 @@
 use Rattle.law_rlc.proofs.AmReceiver.Reading.{read_bring_some}
 use Rattle.law_rlc.proofs.AmReceiver.TrueStatus.{true_status}
-use Rattle.law_rlc.proofs.AmReceiver.status_is_true.Goals as goal
+use Rattle.law_rlc.proofs.am_receiver.status_is_true.Goals as goal
 
 pub returns-clause-read : goal.returns-clause-read
 returns-clause-read c = read_bring_some

@@ -1,5 +1,5 @@
 use Rattle.law_rlc.proofs.AmSender.Carried.{carried}
-use Rattle.law_rlc.proofs.AmSender.carries_the_stream.Goals as goal
+use Rattle.law_rlc.proofs.am_sender.carries_the_stream.Goals as goal
 
 pub returns : goal.returns
 returns c = carried

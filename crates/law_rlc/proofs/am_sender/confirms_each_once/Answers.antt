@@ -1,5 +1,5 @@
 use Rattle.law_rlc.proofs.AmSender.Confirms.{confirms}
-use Rattle.law_rlc.proofs.AmSender.confirms_each_once.Goals as goal
+use Rattle.law_rlc.proofs.am_sender.confirms_each_once.Goals as goal
 
 pub returns : goal.returns
 returns c = confirms

@@ -1,5 +1,5 @@
 use Rattle.law_rlc.proofs.AmSender.Marked.{marked}
-use Rattle.law_rlc.proofs.AmSender.counts_namings.Goals as goal
+use Rattle.law_rlc.proofs.am_sender.counts_namings.Goals as goal
 
 pub returns : goal.returns
 returns c = marked

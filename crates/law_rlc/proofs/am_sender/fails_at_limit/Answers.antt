@@ -1,5 +1,5 @@
 use Rattle.law_rlc.proofs.AmSender.Limits.{fails}
-use Rattle.law_rlc.proofs.AmSender.fails_at_limit.Goals as goal
+use Rattle.law_rlc.proofs.am_sender.fails_at_limit.Goals as goal
 
 pub returns : goal.returns
 returns c = fails

@@ -1,5 +1,5 @@
 use Rattle.law_rlc.proofs.AmSender.Polls.{polls}
-use Rattle.law_rlc.proofs.AmSender.polls_by_causes.Goals as goal
+use Rattle.law_rlc.proofs.am_sender.polls_by_causes.Goals as goal
 
 pub returns : goal.returns
 returns c = polls

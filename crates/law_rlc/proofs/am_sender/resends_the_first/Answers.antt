@@ -1,5 +1,5 @@
 use Rattle.law_rlc.proofs.AmSender.Resends.{resends}
-use Rattle.law_rlc.proofs.AmSender.resends_the_first.Goals as goal
+use Rattle.law_rlc.proofs.am_sender.resends_the_first.Goals as goal
 
 pub returns : goal.returns
 returns c = resends

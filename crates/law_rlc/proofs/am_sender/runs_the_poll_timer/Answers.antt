@@ -1,5 +1,5 @@
 use Rattle.law_rlc.proofs.AmSender.Watches.{watches}
-use Rattle.law_rlc.proofs.AmSender.runs_the_poll_timer.Goals as goal
+use Rattle.law_rlc.proofs.am_sender.runs_the_poll_timer.Goals as goal
 
 pub returns : goal.returns
 returns c = watches

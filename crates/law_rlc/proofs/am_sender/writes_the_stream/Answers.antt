@@ -1,5 +1,5 @@
 use Rattle.law_rlc.proofs.AmSender.Writes.{writes}
-use Rattle.law_rlc.proofs.AmSender.writes_the_stream.Goals as goal
+use Rattle.law_rlc.proofs.am_sender.writes_the_stream.Goals as goal
 
 pub returns : goal.returns
 returns c = writes

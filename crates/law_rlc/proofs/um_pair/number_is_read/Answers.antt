@@ -1,5 +1,5 @@
 use Rattle.law_rlc.proofs.UmPair.Read.{short-read, long-read}
-use Rattle.law_rlc.proofs.UmPair.number_is_read.Goals as goal
+use Rattle.law_rlc.proofs.um_pair.number_is_read.Goals as goal
 
 pub returns-clause-short : goal.returns-clause-short
 returns-clause-short c = short-read

@@ -1,6 +1,6 @@
 use Rattle.std.proofs.Common.{◌≡◌, length}
 use Rattle.bearer.specs.Acknowledged.Hearing.{confirms}
-use Rattle.bearer.proofs.Acknowledged.hearing.confirm_all.Given as goal
+use Rattle.bearer.proofs.acknowledged.hearing.confirm_all.Given as goal
 
 abbrev pub invariant-loop-place : goal.invariant-loop-place
 invariant-loop-place l = record {

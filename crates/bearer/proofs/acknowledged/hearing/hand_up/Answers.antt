@@ -4,8 +4,8 @@ use Rattle.rlc_am_rx.specs.Machine.{taken}
 use Rattle.rlc_am_rx.specs.State.{State as Receiver}
 use Rattle.bearer.specs.Acknowledged.State.{work}
 use Rattle.bearer.specs.Acknowledged.Hearing.{hears_all}
-use Rattle.bearer.proofs.Acknowledged.Hears.{hears_next}
-use Rattle.bearer.proofs.Acknowledged.hearing.hand_up.Goals as goal
+use Rattle.bearer.proofs.AmHears.{hears_next}
+use Rattle.bearer.proofs.acknowledged.hearing.hand_up.Goals as goal
 
 pub loop-sdu-preserved : goal.loop-sdu-preserved
 loop-sdu-preserved c =

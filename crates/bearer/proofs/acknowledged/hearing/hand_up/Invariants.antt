@@ -1,7 +1,7 @@
 use Rattle.std.proofs.Common.{◌≡◌, length}
 use Rattle.bearer.specs.Acknowledged.State.{work}
 use Rattle.bearer.specs.Acknowledged.Hearing.{hears_all}
-use Rattle.bearer.proofs.Acknowledged.hearing.hand_up.Given as goal
+use Rattle.bearer.proofs.acknowledged.hearing.hand_up.Given as goal
 
 abbrev pub invariant-loop-sdu : goal.invariant-loop-sdu
 invariant-loop-sdu l = record {

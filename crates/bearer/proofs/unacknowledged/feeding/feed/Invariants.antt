@@ -1,7 +1,7 @@
 use Rattle.std.proofs.Common.{◌≡◌, length}
 use Rattle.pdcp_tx.specs.State.{offers}
 use Rattle.bearer.specs.Unacknowledged.Taking.{feeds}
-use Rattle.bearer.proofs.Unacknowledged.feeding.feed.Given as goal
+use Rattle.bearer.proofs.unacknowledged.feeding.feed.Given as goal
 
 abbrev pub invariant-feeding : goal.invariant-feeding
 invariant-feeding l = feeds (offers l.pdcp.tx) l.size l.held (record { pdcp = l.pdcp; tx = l.tx.state; events = l.events })

@@ -1,6 +1,6 @@
 use Rattle.std.proofs.Common.{◌≡◌, length}
 use Rattle.bearer.specs.Unacknowledged.Hearing.{handing}
-use Rattle.bearer.proofs.Unacknowledged.running.hand_up.Given as goal
+use Rattle.bearer.proofs.unacknowledged.running.hand_up.Given as goal
 
 abbrev pub invariant-loop-sdu : goal.invariant-loop-sdu
 invariant-loop-sdu l = record {

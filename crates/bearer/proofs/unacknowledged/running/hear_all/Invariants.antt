@@ -1,7 +1,7 @@
 use Rattle.std.proofs.Common.{◌≡◌, length}
 use Rattle.pdcp_rx.specs.declared.Cause.TheVariants.{Reestablished}
 use Rattle.bearer.specs.Unacknowledged.Hearing.{hears_all}
-use Rattle.bearer.proofs.Unacknowledged.running.hear_all.Given as goal
+use Rattle.bearer.proofs.unacknowledged.running.hear_all.Given as goal
 
 abbrev pub invariant-loop-sdu : goal.invariant-loop-sdu
 invariant-loop-sdu l = hears_all l.sdus Reestablished (record { pdcp = l.pdcp; events = l.events })

@@ -1,4 +1,0 @@
-pub mod Feeds
-pub mod StatusOctets
-pub mod Hears
-pub mod Timings
