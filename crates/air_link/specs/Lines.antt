@@ -1,4 +1,5 @@
--- What the other lines of a script do to both ends.
+-- What the other lines of a script do to both ends
+-- (TS 36.321 5.9, TS 36.322 5.4, TS 36.323 5.2, TS 36.300 10.1.2).
 use Rattle.std.specs.Prelude.{ℕ, true, false, Option, Some, None, option_map, List, replicate}
 use Rattle.air_record.specs.declared.record.NoPlace.{NoPlace}
 use Rattle.air_record.specs.declared.record.NoPlace.TheVariants.{Full, Count}

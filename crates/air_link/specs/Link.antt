@@ -1,4 +1,4 @@
--- Both ends over the air.
+-- Both ends over the air (TS 36.321 5.3, 5.4).
 use Rattle.std.specs.Prelude.{ℕ, Bool, false, List, [], ◌∷◌, ◌++◌, Option, None, replicate}
 use Rattle.air_record.specs.declared.record.Record.{Record}
 use Rattle.drx.specs.Drx.{State as Listening}

@@ -1,4 +1,4 @@
--- What became of the SDUs of a flow.
+-- What became of the SDUs of a flow (docs/formats/JOURNAL.md).
 use Rattle.std.specs.Prelude.{ℕ, false, slice_index_or}
 use Rattle.l2_types.specs.declared.side.Side.{Side}
 use Rattle.air_link.specs.declared.sums.Sums.{Sums}

@@ -1,4 +1,5 @@
--- What an end tells becomes records; SDUs are counted, and those that go up at the terminal wait for the loop.
+-- What an end tells becomes records; SDUs are counted, and those that go up at the terminal wait
+-- for the loop (docs/formats/JOURNAL.md).
 use Rattle.std.specs.Prelude.{ℕ, ◌+◌, true, nat_le, ◌&&◌, length, if◌then◌else◌, List, [], ◌∷◌, ◌++◌, slice_index, slice_set}
 use Rattle.air_record.specs.declared.record.Record.TheVariants as records
 use Rattle.bearer_types.specs.declared.event.Event.{Event}

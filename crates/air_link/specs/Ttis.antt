@@ -1,4 +1,4 @@
--- A TTI.
+-- A TTI (TS 36.321 5.3, 5.4, 5.7).
 use Rattle.std.specs.Prelude.{ℕ, ◌+◌, ◌%◌, Bool, true, false, not, is_some, if◌then◌else◌, Option, Some, None}
 use Rattle.air_record.specs.declared.line.Fate.TheVariants.{Miss}
 use Rattle.air_record.specs.declared.line.Outcome.{Outcome}

@@ -1,4 +1,5 @@
--- The texts of lines and records: each is a list of words.
+-- The texts of lines and records (docs/formats/SCRIPT.md, docs/formats/JOURNAL.md): each is a list
+-- of words.
 use Rattle.std.specs.Prelude.{ℕ, ◌/◌, ◌%◌, ◌==◌, Bool, true, false, if◌then◌else◌, List, [], ◌∷◌, ◌++◌, slice_index, map, codes, Option, None, Some}
 use Rattle.std.specs.List.{flat_map}
 use Rattle.std.specs.Fmt.{decimal}

@@ -1,4 +1,5 @@
--- A drain: TTIs with the same grants until nothing is left of what acknowledged bearers have to bring over.
+-- A drain (docs/formats/SCRIPT.md): TTIs with the same grants until nothing is left of what
+-- acknowledged bearers have to bring over.
 use Rattle.std.specs.Prelude.{ℕ, ◌+◌, ◌-◌, ◌*◌, ◌^◌, zero, suc, min, Bool, true, false, List, [], ◌∷◌, ◌++◌}
 use Rattle.air_link.specs.Draining.{drain_tti, carried, receivers_expire, senders_expire, is_drained, left, count}
 use Rattle.air_link.specs.Link.{Link}

@@ -1,4 +1,4 @@
--- What holds of every journal.
+-- What holds of every journal (docs/formats/JOURNAL.md).
 use Rattle.std.specs.Prelude.{◌≡◌, ◌≢◌, ℕ, Bool, false, List, ◌++◌}
 use Rattle.air_run.specs.Journal.{Waiting, journal_of}
 

@@ -1,4 +1,5 @@
--- The journal of an input, of which more may come: read line by line, played, and refused where a line is.
+-- The journal of an input, of which more may come (docs/formats/JOURNAL.md): read line by line,
+-- played, and refused where a line is.
 use Rattle.std.specs.Prelude.{ℕ, ◌+◌, ◌==◌, nat_lt, Bool, true, false, if◌then◌else◌, List, [], ◌∷◌, ◌++◌, length, Option, None, Some, Result, Ok, Err}
 use Rattle.l2_io.specs.Feeds.{without_return}
 use Rattle.air_text.specs.Reading.{read_of}

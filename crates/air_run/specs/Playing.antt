@@ -1,4 +1,4 @@
--- What a line that isn't refused does to both ends.
+-- What a line that isn't refused does to both ends (docs/formats/SCRIPT.md).
 use Rattle.std.specs.Prelude.{ℕ, Option, Some, None, replicate}
 use Rattle.air_link.specs.Lines.{bears, discards, visits, reports, listens, submitting, expires, forges, hands_over}
 use Rattle.air_link.specs.Link.{Link}

@@ -1,4 +1,4 @@
--- The rules of a run: which lines of the grammar are refused, and why.
+-- The rules of a run (docs/formats/REFUSALS.md): which lines of the grammar are refused, and why.
 use Rattle.std.specs.Prelude.{ℕ, Bool, true, false, not, ◌||◌, ◌&&◌, nat_lt, nat_le, if◌then◌else◌, List, [], slice_index_or, slice_set, replicate, Option, None, Some, is_some, is_none}
 use Rattle.std.specs.BTreeMap.{is_at}
 use Rattle.std.specs.BTreeSet.{insert_key}

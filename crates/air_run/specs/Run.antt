@@ -1,4 +1,5 @@
--- The run of a script: its state, what a line does to it, and the records that it leaves.
+-- The run of a script (docs/formats/SCRIPT.md, docs/formats/JOURNAL.md): its state, what a line
+-- does to it, and the records that it leaves.
 use Rattle.std.specs.Prelude.{ℕ, List, ◌∷◌, Option, None, Some, Result, Ok, Err}
 use Rattle.air_link.specs.Link.{Link, fresh as fresh_link}
 use Rattle.air_record.specs.declared.line.Line.{Line}

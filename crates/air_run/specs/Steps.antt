@@ -1,4 +1,4 @@
--- What a call of a run leaves in it and in the sink, by the answer.
+-- What a call of a run leaves in it and in the sink, by the answer (docs/formats/JOURNAL.md).
 use Rattle.std.specs.Prelude.{◌≡◌, ℕ, List, Option, None, Some, Result, Ok, Err}
 use Rattle.l2_io.specs.Known.{after, IsFront}
 use Rattle.air_record.specs.declared.line.Line.{Line}

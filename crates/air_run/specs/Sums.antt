@@ -1,4 +1,5 @@
--- The records at the end: for each bearer the SDUs submitted and delivered, downlink first.
+-- The records at the end (docs/formats/JOURNAL.md): for each bearer the SDUs submitted and
+-- delivered, downlink first.
 use Rattle.std.specs.Prelude.{ℕ, Bool, if◌then◌else◌, List, [], ◌∷◌, ◌++◌, Option, None, Some}
 use Rattle.air_link.specs.declared.sums.Sums.{Sums}
 use Rattle.air_link.specs.Link.{Link, all_lcids}

@@ -1,4 +1,5 @@
--- The text of a line's records, and what they tell of losses on unacknowledged bearers.
+-- The text of a line's records, and what they tell of losses on unacknowledged bearers
+-- (docs/formats/JOURNAL.md).
 use Rattle.std.specs.Prelude.{ℕ, List, [], ◌∷◌, Option}
 use Rattle.l2_io.specs.Known.{after}
 use Rattle.air_link.specs.Link.{Link}

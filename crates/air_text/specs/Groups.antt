@@ -1,4 +1,5 @@
--- A journal in groups: the record of an accepted line, with the records up to the next line or the sums.
+-- A journal in groups (docs/formats/JOURNAL.md): the record of an accepted line, with the records
+-- up to the next line or the sums.
 use Rattle.std.specs.Prelude.{ℕ, List, [], ◌∷◌, ◌++◌}
 use Rattle.air_record.specs.declared.line.Line.{Line}
 use Rattle.air_record.specs.declared.record.Record.{Record}

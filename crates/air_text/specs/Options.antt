@@ -1,4 +1,5 @@
--- The options of a bearer line: for each kind its names, and for each name its numbers and its default.
+-- The options of a bearer line (docs/formats/SCRIPT.md): for each kind its names, and for each name
+-- its numbers and its default.
 use Rattle.std.specs.Prelude.{ℕ, ◌==◌, ◌||◌, nat_le, Bool, true, false, if◌then◌else◌, List, [], ◌∷◌, codes, Option, None, Some, Result, Ok, Err}
 use Rattle.std.specs.Str.{bytes_eq}
 use Rattle.l2_types.specs.declared.channel.Kind.{Kind}

@@ -1,4 +1,4 @@
--- The fields of a line in their ranges.
+-- The fields of a line in their ranges (docs/formats/SCRIPT.md).
 use Rattle.std.specs.Prelude.{ℕ, ◌≤◌, List, length}
 use Rattle.bearer_types.specs.Configs.{IsConfig}
 use Rattle.air_record.specs.declared.line.Line.{Line}

@@ -1,4 +1,5 @@
--- A bearer at one end: of one of three kinds, in a life or between two lives.
+-- A bearer at one end (TS 36.322 4.2.1, TS 36.323 4.2): of one of three kinds, in a life or between
+-- two lives.
 use Rattle.std.specs.Prelude.{ℕ, Bool, false}
 use Rattle.bearer_types.specs.declared.BearerConfig.{BearerConfig}
 use Rattle.eps_sec.specs.declared.Keys.{Keys}

@@ -1,4 +1,4 @@
--- A PDU arrives, a timer expires, a TTI begins.
+-- A PDU arrives, a timer expires, a TTI begins (TS 36.322 5.1, 7.3, TS 36.323 5.1.2).
 use Rattle.std.specs.Prelude.{ℕ, List, [], Option, Some, None}
 use Rattle.bearer_types.specs.declared.Event.{Event}
 use Rattle.l2_types.specs.declared.Clock.{Clock}

@@ -1,4 +1,5 @@
--- The end of a life and the beginning of the next. A transparent bearer drops what waits.
+-- The end of a life and the beginning of the next (TS 36.322 5.4, TS 36.323 5.2). A transparent
+-- bearer drops what waits.
 use Rattle.std.specs.Prelude.{List, []}
 use Rattle.bearer_types.specs.declared.Event.{Event}
 use Rattle.eps_sec.specs.declared.Keys.{Keys}

@@ -1,4 +1,4 @@
--- An SDU is submitted.
+-- An SDU is submitted (TS 36.323 5.1.1).
 use Rattle.std.specs.Prelude.{ℕ, List, Option}
 use Rattle.l2_bits.specs.declared.SubmitRefusal.{SubmitRefusal}
 use Rattle.rlc_um.specs.Transparent.{refusal as transparent_refusal, submitted as transparent_submitted}

@@ -1,4 +1,4 @@
--- What a bearer needs of a grant and has, in octets.
+-- What a bearer needs of a grant and has, in octets (TS 36.322 4.5, TS 36.323 4.5).
 use Rattle.std.specs.Prelude.{ℕ, ◌+◌, ◌-◌, ◌^◌, Bool, true, min, Option}
 use Rattle.rlc_queue.specs.Waiting.{total}
 use Rattle.rlc_um.specs.Sender.{need as um_need}

@@ -1,4 +1,4 @@
--- A bearer writes within its share of a grant.
+-- A bearer writes within its share of a grant (TS 36.322 5.1, TS 36.323 5.1.1).
 use Rattle.std.specs.Prelude.{ℕ, ◌-◌, List, Option, None}
 use Rattle.bearer_types.specs.declared.Event.{Event}
 use Rattle.rlc_um.specs.Transparent.{taken as tm_taken, after_take as tm_after}

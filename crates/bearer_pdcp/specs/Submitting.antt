@@ -1,4 +1,4 @@
--- An SDU is submitted.
+-- An SDU is submitted (TS 36.323 5.1.1, 5.4).
 use Rattle.std.specs.Prelude.{◌≡◌, Option, Some}
 use Rattle.l2_bits.specs.declared.SubmitRefusal.{SubmitRefusal}
 use Rattle.l2_bits.specs.declared.SubmitRefusal.TheVariants.{Empty, TooLong, Full, CountEnd, NoMemory}

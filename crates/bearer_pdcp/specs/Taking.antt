@@ -1,4 +1,4 @@
--- RLC takes a PDU: what that tells.
+-- RLC takes a PDU (TS 36.323 5.1.1, 5.3.1): what that tells.
 use Rattle.std.specs.Prelude.{ℕ, List, [], ◌∷◌, Option, Some, None, Result, Ok, Err, option_map}
 use Rattle.bearer_types.specs.declared.Event.{Event}
 use Rattle.bearer_types.specs.declared.Event.TheVariants as events

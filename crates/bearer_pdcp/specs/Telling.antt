@@ -1,4 +1,4 @@
--- How RLC's answers are told.
+-- How RLC's answers are told (docs/formats/JOURNAL.md).
 use Rattle.std.specs.Prelude.{ℕ, Bool, if◌then◌else◌, List, [], ◌∷◌, ◌++◌, Option, Some, None}
 use Rattle.bearer_types.specs.declared.Event.{Event}
 use Rattle.bearer_types.specs.declared.Event.TheVariants as events

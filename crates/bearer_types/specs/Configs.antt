@@ -1,4 +1,4 @@
--- The ranges of a bearer's configuration, as a line of a script may give them.
+-- The ranges of a bearer's configuration, as a line of a script may give them (TS 36.331 6.3.2).
 use Rattle.std.specs.Prelude.{◌≡◌, ◌⊎◌, ℕ, ◌≤◌, IfSome}
 use Rattle.l2_types.specs.declared.channel.Kind.{Kind}
 use Rattle.l2_types.specs.declared.channel.Kind.TheVariants.{Tm, Srb, Um, Am}

@@ -1,4 +1,4 @@
--- Stretches of TTIs.
+-- Stretches of TTIs (TS 36.321 5.7).
 use Rattle.std.specs.Prelude.{ℕ, ◌+◌, nat_le, Bool, false, ◌&&◌, Option, Some, None}
 
 -- whether a TTI lies from the first to the last of so many TTIs after another one

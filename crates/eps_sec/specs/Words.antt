@@ -1,4 +1,5 @@
--- The words of 32 bits that the program computes with: a word is a column, its highest octet in row 0.
+-- The words of 32 bits that the program computes with (FIPS 197, section 3.5): a word is a column,
+-- its highest octet in row 0.
 use Rattle.std.specs.Prelude.{◌≡◌, ◌<◌, ℕ, List, [], ◌∷◌, ◌++◌, take, drop, replicate, slice_index, slice_index_or}
 use Rattle.std.specs.Int.{w32, to_be_bytes}
 use Rattle.eps_sec.specs.Aes.{sub_bytes, shift_rows, mix_octet, mix_columns, add_round_key, round_key}

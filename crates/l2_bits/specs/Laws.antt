@@ -1,4 +1,4 @@
--- What was written is read again.
+-- What was written is read again (TS 36.321 6.1.1).
 use Rattle.std.specs.Prelude.{◌≡◌, ℕ, ◌<◌, ◌^◌, List, [], ◌∷◌, ◌++◌, map, All, Bool, Option, Some, None}
 use Rattle.std.specs.List.{flat_map}
 use Rattle.l2_bits.specs.Bits.{bits, take_field}

@@ -1,4 +1,4 @@
--- How the octets of a source are cut into lines.
+-- How the octets of a source are cut into lines (docs/formats/SCRIPT.md).
 use Rattle.std.specs.Prelude.{◌≡◌, ◌⊎◌, ℕ, ◌<◌, ◌≤◌, List, [], ◌∷◌, ◌++◌, length, Option}
 use Rattle.l2_io.specs.Feeds.{until_feed, from_feed, without_return}
 use Rattle.l2_io.specs.Known.{IsAtEnd, before}

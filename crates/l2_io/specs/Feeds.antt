@@ -1,4 +1,4 @@
--- Lines and their line feeds.
+-- Lines and their line feeds (docs/formats/SCRIPT.md).
 use Rattle.std.specs.Prelude.{◌≡◌, ℕ, ◌<◌, ◌-◌, ◌+◌, ◌==◌, List, [], ◌∷◌, length, take, drop, slice_index, if◌then◌else◌}
 
 -- the octets before the first line feed

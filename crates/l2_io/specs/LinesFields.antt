@@ -1,4 +1,4 @@
--- The fields of what cuts lines.
+-- The fields of what cuts lines (docs/formats/SCRIPT.md).
 use Rattle.std.specs.Prelude.{◌≡◌, ◌<◌, ◌≤◌, ◌+◌, ◌^◌, length}
 use Rattle.l2_io.specs.declared.lines.Lines.TheInside.{Inside}
 

@@ -1,4 +1,4 @@
--- How an answer shows the line that was cut.
+-- How an answer shows the line that was cut (docs/formats/SCRIPT.md).
 use Rattle.std.specs.Prelude.{◌≡◌}
 use Rattle.l2_io.specs.Cutting.{Cutter}
 use Rattle.l2_io.specs.declared.lines.Turn.{Turn}

@@ -2,7 +2,7 @@
 use Rattle.std.proofs.Common.{◌≡◌, ℕ, Bool, true, false, Option, None, Result, Ok, Err, List, IsTrue, IsErr, IfOk, OnOk, refl, ap, sym, subst, ◌∙◌, ◌<◌, length, slice_index_or, arith}
 use Rattle.std.proofs.lemmas.Bool.Decides.{nat_tests}
 use Rattle.std.proofs.lemmas.List.{set-get_or, get_or_default}
-use Rattle.bearer.specs.Bearer.{Of, of, Life}
+use Rattle.bearer.specs.Bearer.{Of, Life}
 use Rattle.bearer_types.specs.declared.event.Event.{Event}
 use Rattle.l2_bits.specs.declared.fault.NoMemory.{NoMemory}
 use Rattle.l2_types.specs.declared.event.Clock.{Clock}

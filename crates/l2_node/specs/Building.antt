@@ -1,4 +1,5 @@
--- A visit of a HARQ process that sends: a new block is built, the held one is sent again, or nothing is sent.
+-- A visit of a HARQ process that sends (TS 36.321 5.3.2, 5.4.2, 5.4.3): a new block is built, the
+-- held one is sent again, or nothing is sent.
 use Rattle.std.specs.Prelude.{ℕ, ◌+◌, ◌%◌, ◌≤◌, List, [], slice_set}
 use Rattle.bearer_types.specs.declared.event.Event.{Event}
 use Rattle.harq.specs.declared.sender.Order.{Order}

@@ -1,4 +1,4 @@
--- Bearers by their LCID, and the numbers that HARQ processes hold.
+-- Bearers by their LCID, and the numbers that HARQ processes hold (TS 36.321 5.4.2, 6.2.1).
 use Rattle.std.specs.Prelude.{ℕ, ◌+◌, Bool, nat_lt, ◌==◌, if◌then◌else◌, Option, Some, None, List, [], ◌∷◌, length, slice_index_or}
 use Rattle.bearer.specs.Bearer.{Of, of, Life, alive}
 use Rattle.bearer.specs.declared.flow.Flow.TheVariants.{Tm}

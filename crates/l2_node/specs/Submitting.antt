@@ -1,4 +1,4 @@
--- An SDU is submitted to a bearer; a discard timer is set.
+-- An SDU is submitted to a bearer; a discard timer is set (TS 36.323 5.1.1, 5.4).
 use Rattle.std.specs.Prelude.{ℕ, List, Option}
 use Rattle.bearer.specs.Bearer.{of, alive}
 use Rattle.bearer.specs.Hearing.{with_discard}

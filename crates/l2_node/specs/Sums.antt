@@ -1,4 +1,4 @@
--- What an end has left to send.
+-- What an end has left to send (TS 36.322 4.5, TS 36.323 4.5).
 use Rattle.std.specs.Prelude.{ℕ, ◌+◌, ◌-◌, ◌^◌, min, Bool, List, [], ◌∷◌}
 use Rattle.std.specs.List.{list_all}
 use Rattle.bearer.specs.Bearer.{Of, Life}

@@ -1,4 +1,4 @@
--- Timers that TTIs count down.
+-- Timers that TTIs count down (TS 36.322 7.3).
 use Rattle.std.specs.Prelude.{ℕ, zero, suc, ◌-◌, ◌==◌, Bool, false, Option, Some, None, is_some}
 
 -- a timer's length, and where it runs the TTIs left to its end, 0 where none is to come

@@ -1,4 +1,5 @@
--- What plays the lines of an input: the run of a script or the showing of blocks; and the run of a script for its sums alone.
+-- What plays the lines of an input (docs/formats/JOURNAL.md): the run of a script or the showing of
+-- blocks; and the run of a script for its sums alone.
 use Rattle.std.specs.Prelude.{◌≡◌, ℕ, Bool, List, [], Option, None, Some, Result, Ok, Err}
 use Rattle.air_record.specs.declared.record.Record.{Record}
 use Rattle.air_text.specs.declared.fault.LineRefusal.{LineRefusal}

@@ -1,4 +1,4 @@
--- The answers of the program.
+-- The answers of the program (README).
 use Rattle.std.specs.Prelude.{◌≡◌, ◌⊎◌, ℕ, Bool, true, List, [], ◌∷◌, ◌++◌, codes, Option, Some}
 use Rattle.std.specs.Fmt.{decimal}
 use Rattle.script_generator.specs.Script.{script}

@@ -1,4 +1,4 @@
--- What a call leaves in the sink, by its answer.
+-- What a call leaves in the sink, by its answer (docs/formats/JOURNAL.md).
 use Rattle.std.specs.Prelude.{◌≡◌, ◌⊎◌, ℕ, Bool, true, List, [], Option, None, Some, Result, Ok, Err, ◌++◌}
 use Rattle.l2_io.specs.Known.{before, after, IsAtEnd}
 use Rattle.l2_io.specs.declared.sink.PutFault.{PutFault}

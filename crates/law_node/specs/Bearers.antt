@@ -1,4 +1,5 @@
--- Each bearer of an end goes on by calls of its own, in lives that begin as the end moves: what `law_bearer` promises holds of it.
+-- Each bearer of an end goes on by calls of its own, in lives that begin as the end moves
+-- (TS 36.322 4.2.1, TS 36.323 4.2): what `law_bearer` promises holds of it.
 use Rattle.std.specs.Prelude.{◌≡◌, ℕ, ◌==◌, if◌then◌else◌, Bool, true, false, List, [], ◌∷◌, ◌++◌}
 use Rattle.std.specs.List.{AllByRecursion}
 use Rattle.bearer.specs.Bearer.{flow_of}

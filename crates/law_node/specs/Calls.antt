@@ -1,4 +1,4 @@
--- One end of the link through any calls, from cell to cell.
+-- One end of the link through any calls, from cell to cell (TS 36.321 4.2, 5.9).
 use Rattle.std.specs.Prelude.{ℕ, ◌≤◌, Bool, Option, Some, None, List, [], ◌∷◌}
 use Rattle.bearer_types.specs.Configs.{IsConfig}
 use Rattle.bearer_types.specs.declared.config.BearerConfig.{BearerConfig}

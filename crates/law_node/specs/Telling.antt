@@ -1,4 +1,4 @@
--- What an end tells in each call, event by event, in order.
+-- What an end tells in each call, event by event, in order (docs/formats/JOURNAL.md).
 use Rattle.std.specs.Prelude.{List, [], ◌∷◌, ◌++◌, unwrap_or}
 use Rattle.bearer_types.specs.declared.event.Event.{Event}
 use Rattle.l2_node.specs.Building.{building}

@@ -1,4 +1,4 @@
--- An end through any calls, with what of the past a law looks at.
+-- An end through any calls, with what of the past a law looks at (TS 36.321 5.3.2, 5.4.2).
 use Rattle.std.specs.Prelude.{ℕ, Bool, List, [], ◌∷◌}
 use Rattle.l2_types.specs.declared.side.Side.{Side}
 use Rattle.l2_node.specs.End.{End, fresh}

@@ -1,4 +1,5 @@
--- Both ends, as the journal tells of them: whatever holds of an end over any calls holds of what is told of it here.
+-- Both ends, as the journal tells of them (TS 36.321 4.2): whatever holds of an end over any calls
+-- holds of what is told of it here.
 use Rattle.std.specs.Prelude.{false, List}
 use Rattle.air_text.specs.Groups.{Group, history}
 use Rattle.l2_node.specs.End.{fresh}

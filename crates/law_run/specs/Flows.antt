@@ -1,4 +1,5 @@
--- The SDUs of a flow as the journal tells them: those submitted and those delivered, in order.
+-- The SDUs of a flow as the journal tells them (docs/formats/JOURNAL.md): those submitted and those
+-- delivered, in order.
 use Rattle.std.specs.Prelude.{ℕ, ◌==◌, Bool, true, false, not, ◌&&◌, if◌then◌else◌, List, [], ◌∷◌, ◌++◌, map}
 use Rattle.std.specs.List.{filter, list_any}
 use Rattle.air_record.specs.declared.record.Record.{Record}

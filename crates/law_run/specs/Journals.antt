@@ -1,4 +1,4 @@
--- The laws over journals.
+-- The laws over journals (docs/formats/JOURNAL.md).
 use Rattle.std.specs.Prelude.{◌≡◌, ℕ, Bool, List, Some, Ok}
 use Rattle.air_run.specs.Journal.{journal_of}
 use Rattle.law_run.specs.Promises.{IsPromised}

@@ -1,4 +1,4 @@
--- What a line is to flows and to time.
+-- What a line is to flows and to time (docs/formats/SCRIPT.md).
 use Rattle.std.specs.Prelude.{ℕ, List}
 use Rattle.air_record.specs.declared.line.Line.{Line}
 use Rattle.air_record.specs.declared.line.Line.TheVariants as lines

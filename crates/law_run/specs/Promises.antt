@@ -1,4 +1,5 @@
--- What is promised of the journal of every script, over its groups, of which the newest stands first.
+-- What is promised of the journal of every script, over its groups, of which the newest stands
+-- first (docs/formats/JOURNAL.md).
 use Rattle.std.specs.Prelude.{◌≡◌, List, ◌++◌}
 use Rattle.std.specs.List.{filter}
 use Rattle.air_run.specs.Journal.{Played}

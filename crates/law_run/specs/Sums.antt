@@ -1,4 +1,4 @@
--- The sums at the end of a journal: its own counts.
+-- The sums at the end of a journal (docs/formats/JOURNAL.md): its own counts.
 use Rattle.std.specs.Prelude.{ℕ, if◌then◌else◌, List, [], ◌∷◌, ◌++◌, length}
 use Rattle.air_link.specs.Link.{all_lcids, other}
 use Rattle.air_link.specs.Sums.{sums}

@@ -1,4 +1,4 @@
--- Lengths, and the entries of a STATUS, read back from their texts.
+-- Lengths, and the entries of a STATUS, read back from their texts (docs/formats/JOURNAL.md).
 use Rattle.std.specs.Prelude.{ℕ, ◌<◌, ◌^◌, ◌==◌, Bool, true, false, if◌then◌else◌, List, [], ◌∷◌, ◌++◌, map, codes, Option, Some, None}
 use Rattle.std.specs.Str.{bytes_eq}
 use Rattle.rlc_pdu.specs.declared.pdu.Part.{Part}

@@ -1,4 +1,4 @@
--- The lines that some text says.
+-- The lines that some text says (docs/formats/SCRIPT.md).
 use Rattle.std.specs.Prelude.{◌≡◌, ℕ, ◌<◌, ◌≤◌, true, false, List, [], ◌∷◌, length, codes, Option, Some, Result, Ok}
 use Rattle.std.specs.Fmt.{decimal}
 use Rattle.hex.specs.Hex.{IsBytes}

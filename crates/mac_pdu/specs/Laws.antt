@@ -1,4 +1,4 @@
--- Laws over the grammar, the refusals and the canonical writing alone.
+-- Laws over the grammar, the refusals and the canonical writing alone (TS 36.321 6.1.2).
 use Rattle.std.specs.Prelude.{◌≡◌, ℕ, ◌<◌, ◌≤◌, ◌^◌, Bool, true, false, List, [], ◌∷◌, ◌++◌, ◌+◌, length, Ok}
 use Rattle.mac_pdu.specs.declared.item.Direction.{Direction}
 use Rattle.mac_pdu.specs.declared.fault.MacRefusal.{MacRefusal}

@@ -1,5 +1,5 @@
--- Which blocks are refused, where and why: the subheaders are gone through in their order,
--- then their payloads.
+-- Which blocks are refused, where and why (TS 36.321 5.11, 6.1.2): the subheaders are gone through
+-- in their order, then their payloads.
 use Rattle.std.specs.Prelude.{◌≡◌, ℕ, zero, suc, ◌+◌, ◌-◌, nat_lt, List, [], ◌∷◌, Option, Some, None, if◌then◌else◌, length, drop}
 use Rattle.mac_pdu.specs.declared.item.Direction.{Direction}
 use Rattle.mac_pdu.specs.declared.fault.MacRefusal.{MacRefusal}

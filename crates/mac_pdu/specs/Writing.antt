@@ -1,5 +1,5 @@
--- The canonical writing of a MAC PDU: R bits and padding are 0, each length has its shorter form, and one or
--- two octets of padding stand in front.
+-- The canonical writing of a MAC PDU (TS 36.321 6.1.2, 6.2.1): R bits and padding are 0, each
+-- length has its shorter form, and one or two octets of padding stand in front.
 use Rattle.std.specs.Prelude.{ℕ, ◌+◌, ◌-◌, ◌/◌, ◌%◌, ◌<◌, ◌≤◌, ◌^◌, nat_lt, nat_le, List, [], ◌∷◌, ◌++◌, length, map, replicate, All, sum_by, if◌then◌else◌}
 use Rattle.std.specs.List.{flat_map}
 use Rattle.mac_pdu.specs.declared.item.Direction.{Direction}

@@ -1,4 +1,4 @@
--- What was written is read again, of the definitions alone.
+-- What was written is read again, of the definitions alone (TS 36.323 6.2).
 use Rattle.std.specs.Prelude.{◌≡◌, ◌≢◌, ℕ, ◌<◌, ◌^◌, [], length, Ok}
 use Rattle.pdcp_pdu.specs.Pdus.{UserPdu, Sdu, Report, SrbPdu, IsUserBits}
 use Rattle.pdcp_pdu.specs.Grammar.{IsUserPdu, IsSrbPdu, user_spelling, srb_spelling}

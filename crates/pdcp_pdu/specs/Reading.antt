@@ -1,4 +1,5 @@
--- What a reader answers, as a function of the octets. The laws say that this is the grammar and the first refusal.
+-- What a reader answers, as a function of the octets (TS 36.323 6.2, 6.3). The laws say that this
+-- is the grammar and the first refusal.
 use Rattle.std.specs.Prelude.{ℕ, ◌+◌, ◌-◌, ◌*◌, ◌%◌, ◌==◌, nat_lt, List, [], ◌∷◌, length, take, drop, slice_index, Result, Ok, Err, if◌then◌else◌}
 use Rattle.pdcp_pdu.specs.Pdus.{UserPdu, Sdu, Report, SrbPdu}
 use Rattle.pdcp_pdu.specs.Refusals.{is_data, has_report_type}

@@ -1,4 +1,4 @@
--- A receiver that may have run out of memory, and then answers so for good.
+-- A receiver that may have run out of memory, and then answers so for good (TS 36.323 5.1.2).
 use Rattle.std.specs.Prelude.{◌≡◌, ℕ, Bool, false, List, Option}
 use Rattle.pdcp_rx.specs.Held.{Ends}
 use Rattle.pdcp_rx.specs.State.{State}

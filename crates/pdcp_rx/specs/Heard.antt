@@ -1,4 +1,4 @@
--- What a PDU says to the bearer that it comes to.
+-- What a PDU says to the bearer that it comes to (TS 36.323 5.1.2).
 use Rattle.std.specs.Prelude.{◌<◌, ℕ, ◌^◌, List, Result, Ok, Err}
 use Rattle.pdcp_pdu.specs.declared.PdcpKind.{PdcpKind}
 use Rattle.pdcp_pdu.specs.declared.PdcpKind.TheVariants.{Srb, Um, Am}

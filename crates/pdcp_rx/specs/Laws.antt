@@ -1,4 +1,4 @@
--- Runs of a receiver over any calls, and the COUNTs that go up in one.
+-- Runs of a receiver over any calls, and the COUNTs that go up in one (TS 36.323 5.1.2, 5.2.2).
 use Rattle.std.specs.Prelude.{ℕ, ◌+◌, Bool, true, false, List, [], ◌∷◌, ◌++◌, take, drop, Option, Some, None}
 use Rattle.pdcp_rx.specs.declared.got.Cause.{Cause}
 use Rattle.pdcp_rx.specs.declared.got.Got.{Got}

@@ -1,4 +1,4 @@
--- What a PDU holds once it is deciphered and its MAC-I is checked.
+-- What a PDU holds once it is deciphered and its MAC-I is checked (TS 36.323 5.6, 5.7).
 use Rattle.std.specs.Prelude.{ℕ, ◌-◌, ◌≤◌, if◌then◌else◌, List, ◌++◌, length, take, drop, bytes_eq}
 use Rattle.pdcp_pdu.specs.declared.PdcpKind.{PdcpKind}
 use Rattle.pdcp_pdu.specs.declared.PdcpKind.TheVariants.{Srb, Um, Am}

@@ -1,4 +1,5 @@
--- A sender that may have run out of memory. It then answers so to each call that can, and its state says nothing.
+-- A sender that may have run out of memory (TS 36.323 5.1.1). It then answers so to each call that
+-- can, and its state says nothing.
 use Rattle.std.specs.Prelude.{◌≡◌, Bool, false, IsTrue}
 use Rattle.l2_bits.specs.declared.fault.SubmitRefusal.{SubmitRefusal}
 use Rattle.l2_bits.specs.declared.fault.SubmitRefusal.TheVariants.{Empty, TooLong, Full, CountEnd, NoMemory}

@@ -1,4 +1,4 @@
--- Runs of calls of one sender, through lives.
+-- Runs of calls of one sender, through lives (TS 36.323 5.1.1, 5.2.1).
 use Rattle.std.specs.Prelude.{ℕ, List, [], ◌∷◌, ◌++◌, Option, Some, None, slice_get, map}
 use Rattle.l2_num.specs.Ascending.{AreBetween}
 use Rattle.pdcp_tx.specs.State.{State, Offer, offers, submitted, took, confirmed, reported, owing, ticked, after_late}

@@ -1,4 +1,4 @@
--- SDUs that wait for a COUNT, and the sums of their octets.
+-- SDUs that wait for a COUNT, and the sums of their octets (TS 36.323 4.5, 5.1.1).
 use Rattle.std.specs.Prelude.{ℕ, ◌+◌, ◌≡◌, List, [], ◌∷◌, length}
 use Rattle.pdcp_tx_store.specs.declared.waiting.Waiting.{Waiting}
 

@@ -1,4 +1,5 @@
--- The showing of an input: what it knows between two lines, and what a line does.
+-- The showing of an input (docs/formats/JOURNAL.md): what it knows between two lines, and what a
+-- line does.
 use Rattle.std.specs.Prelude.{◌≡◌, ℕ, ◌+◌, List, [], ◌∷◌, ◌++◌, length, Option, None, Some, Result, Ok, Err}
 use Rattle.bearer_types.specs.declared.config.BearerConfig.{BearerConfig}
 use Rattle.air_record.specs.Text.{texts_of}

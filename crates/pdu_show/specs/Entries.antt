@@ -1,4 +1,4 @@
--- What a line of an input to be shown says.
+-- What a line of an input to be shown says (docs/formats/JOURNAL.md).
 use Rattle.std.specs.Prelude.{◌≡◌, ◌≤◌, ℕ, ◌==◌, nat_lt, if◌then◌else◌, List, [], ◌∷◌, length, slice_index, codes, Option, None, Some, Result, Ok, Err}
 use Rattle.std.specs.Str.{bytes_eq}
 use Rattle.bearer_types.specs.declared.config.BearerConfig.{BearerConfig}

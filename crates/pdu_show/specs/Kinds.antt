@@ -1,4 +1,4 @@
--- How the SDUs of the logical channels are read.
+-- How the SDUs of the logical channels are read (TS 36.321 6.2.1, TS 36.322 4.2.1).
 use Rattle.std.specs.Prelude.{◌≡◌, ℕ, ◌<◌, List, slice_set, replicate, Option, None, Some, IfSome, All, length}
 use Rattle.l2_types.specs.declared.channel.Kind.{Kind}
 use Rattle.l2_types.specs.declared.channel.Kind.TheVariants.{Tm, Srb, Um, Am}

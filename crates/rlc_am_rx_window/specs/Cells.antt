@@ -1,4 +1,4 @@
--- The places of a number's data field of which octets have arrived.
+-- The places of a number's data field of which octets have arrived (TS 36.322 5.1.3.2, 6.2.2).
 use Rattle.std.specs.Prelude.{ℕ, ◌+◌, ◌-◌, Bool, true, false, ◌||◌, ◌&&◌, List, [], ◌∷◌, ◌++◌, length, map, replicate, Option, Some, None, is_some, nat_le, nat_lt, slice_range, slice_index_or, if◌then◌else◌}
 use Rattle.std.specs.List.{list_all}
 

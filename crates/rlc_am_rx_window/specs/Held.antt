@@ -1,4 +1,4 @@
--- What is held of one number.
+-- What is held of one number (TS 36.322 5.1.3.2.3).
 use Rattle.std.specs.Prelude.{ℕ, ◌==◌, Bool, false, ◌||◌, ◌&&◌, List, [], length, Option, Some, None, nat_le, nat_lt, if◌then◌else◌}
 use Rattle.rlc_am_rx_window.specs.Cells.{Cell, laid, holds, begins_otherwise, ends_otherwise, differ}
 use Rattle.rlc_am_rx_window.specs.Piece.{Piece, end_of}

@@ -1,4 +1,4 @@
--- SDUs that are put together from places in their order.
+-- SDUs that are put together from places in their order (TS 36.322 5.1.3.2.3, 6.2.2.6).
 use Rattle.std.specs.Prelude.{ℕ, Bool, true, false, List, [], ◌∷◌, ◌++◌, Option, Some, None, if◌then◌else◌}
 use Rattle.rlc_am_rx_window.specs.Cells.{Cell}
 

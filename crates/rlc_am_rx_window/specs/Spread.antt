@@ -1,4 +1,4 @@
--- How the places of a number's data field are kept.
+-- How the places of a number's data field are kept (TS 36.322 5.1.3.2.3).
 use Rattle.std.specs.Prelude.{ℕ, Bool, false, ◌||◌, List, [], ◌∷◌, ◌++◌, map, drop, replicate, Option, Some, None, zero, suc}
 use Rattle.rlc_am_rx_window.specs.Cells.{Cell, over, edge_between, cell_at, denies}
 use Rattle.rlc_am_rx_window.specs.Piece.{element_cells}

@@ -1,4 +1,4 @@
--- A sender, and whether it ran out of memory.
+-- A sender, and whether it ran out of memory (TS 36.322 4.2.1.3).
 use Rattle.std.specs.Prelude.{Bool, false}
 use Rattle.rlc_am_tx.specs.Machine.{State}
 

@@ -1,4 +1,4 @@
--- What a sender needs and has, in octets.
+-- What a sender needs and has, in octets (TS 36.322 4.5).
 use Rattle.std.specs.Prelude.{ℕ, ◌+◌, Bool, not, ◌||◌, ◌&&◌, ◌==◌, if◌then◌else◌, Option}
 use Rattle.rlc_queue.specs.Waiting.{total, wanted}
 use Rattle.rlc_queue.specs.NewPdu.{fits_more}

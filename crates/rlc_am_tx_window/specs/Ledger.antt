@@ -1,4 +1,4 @@
--- What of the offered SDUs isn't acknowledged yet.
+-- What of the offered SDUs isn't acknowledged yet (TS 36.322 5.1.3.1.1).
 use Rattle.std.specs.Prelude.{ℕ, ◌+◌, ◌-◌, Bool, false, ◌&&◌, ◌==◌, if◌then◌else◌, List, [], ◌∷◌, ◌++◌, length, drop, Option, Some, None, nat_le, nat_lt, slice_get, slice_set}
 
 -- an SDU's octets, and those of them that aren't acknowledged

@@ -1,4 +1,4 @@
--- Ascending numbers.
+-- Ascending numbers (TS 36.322 7.1).
 use Rattle.std.specs.Prelude.{ℕ, ◌≤◌, Bool, true, ◌+◌, ◌==◌, if◌then◌else◌, List, [], ◌∷◌, Option, Some, None, nat_lt}
 
 -- the first, if there is one, and the others

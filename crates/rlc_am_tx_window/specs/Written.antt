@@ -1,4 +1,4 @@
--- The octets of a PDU that is sent, or of a segment of it.
+-- The octets of a PDU that is sent, or of a segment of it (TS 36.322 6.2.1.4, 6.2.1.5).
 use Rattle.std.specs.Prelude.{ℕ, ◌%◌, Bool, ◌==◌, if◌then◌else◌, List, length, Some, None, slice_range}
 use Rattle.rlc_pdu.specs.Writing.{amd_written}
 use Rattle.rlc_queue.specs.NewPdu.{framing}

@@ -1,4 +1,4 @@
--- The entries of a STATUS PDU as they are read, bit for bit.
+-- The entries of a STATUS PDU as they are read, bit for bit (TS 36.322 6.2.1.6).
 use Rattle.std.specs.Prelude.{ℕ, zero, suc, ◌+◌, ◌-◌, ◌==◌, ◌∷◌, length, drop, [], Bool, true, false, List, Option, Some, None, if◌then◌else◌, nat_lt}
 use Rattle.l2_bits.specs.Bits.{take_field, bits_of}
 use Rattle.rlc_pdu.specs.declared.pdu.Part.{Part}

@@ -1,4 +1,4 @@
--- What was written is read again, and sizes, of the definitions alone.
+-- What was written is read again, and sizes, of the definitions alone (TS 36.322 6.2.1).
 use Rattle.std.specs.Prelude.{◌≡◌, ℕ, ◌+◌, ◌*◌, ◌/◌, ◌<◌, ◌^◌, ◌==◌, List, [], ◌∷◌, length, map, All, Bool, Option, Ok, if◌then◌else◌, slice_index}
 use Rattle.std.specs.List.{sum, concat}
 use Rattle.l2_bits.specs.Bits.{bits_of}

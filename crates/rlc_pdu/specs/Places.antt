@@ -1,4 +1,4 @@
--- What the answers of a set of places mean, place by place.
+-- What the answers of a set of places mean, place by place (TS 36.322 6.2.2.7).
 use Rattle.std.specs.Prelude.{◌≡◌, ℕ, ◌+◌, ◌<◌, ◌≤◌, true, false, List, MatchOption}
 use Rattle.rlc_pdu.specs.declared.pdu.Part.{Part}
 use Rattle.rlc_pdu.specs.Runs.{Run, has, covers, AreAscending, gap_in}

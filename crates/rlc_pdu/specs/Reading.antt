@@ -1,4 +1,5 @@
--- What a reader answers, as a function of the octets. The laws say that this is the grammar and the first refusal.
+-- What a reader answers, as a function of the octets (TS 36.322 6.2.1). The laws say that this is
+-- the grammar and the first refusal.
 use Rattle.std.specs.Prelude.{ℕ, ◌/◌, ◌==◌, nat_lt, false, List, [], ◌∷◌, length, Option, None, Some, Result, Ok, Err, if◌then◌else◌}
 use Rattle.rlc_pdu.specs.declared.fault.RlcRefusal.{RlcRefusal}
 use Rattle.rlc_pdu.specs.declared.fault.RlcWhy.TheVariants.{Short, ReservedCpt}

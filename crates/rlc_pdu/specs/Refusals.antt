@@ -1,4 +1,4 @@
--- Why a PDU is refused, and where: the first case that is true.
+-- Why a PDU is refused, and where (TS 36.322 5.5, 6.2.1): the first case that is true.
 use Rattle.std.specs.Prelude.{ℕ, ◌+◌, ◌*◌, ◌/◌, ◌%◌, ◌==◌, nat_lt, Bool, false, List, [], ◌∷◌, length, Option, None, Some, if◌then◌else◌}
 use Rattle.rlc_pdu.specs.declared.pdu.Segment.{Segment}
 use Rattle.rlc_pdu.specs.declared.fault.RlcRefusal.{RlcRefusal}

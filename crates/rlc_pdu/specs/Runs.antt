@@ -1,4 +1,4 @@
--- Sets of places as lists of runs.
+-- Sets of places as lists of runs (TS 36.322 6.2.2.7).
 use Rattle.std.specs.Prelude.{ℕ, ◌+◌, ◌-◌, ◌<◌, ◌≤◌, Bool, true, false, ◌||◌, ◌&&◌, if◌then◌else◌, List, [], ◌∷◌, ◌++◌, min, max, nat_le, nat_lt, Option, Some, None}
 use Rattle.std.specs.List.{list_any, flat_map}
 use Rattle.rlc_pdu.specs.declared.pdu.Part.{Part}

@@ -1,4 +1,4 @@
--- What readers and headers are, apart from where their octets lie.
+-- What readers and headers are, apart from where their octets lie (TS 36.322 6.2.1).
 use Rattle.std.specs.Prelude.{ℕ, ◌<◌, ◌^◌, ◌+◌, ◌≡◌, List, length, drop}
 use Rattle.rlc_pdu.specs.declared.elements.Elements.{Elements}
 use Rattle.rlc_pdu.specs.declared.header.Header.{Header}

@@ -1,4 +1,5 @@
--- The canonical writing of RLC PDUs: reserved bits, padding and what fills a STATUS are 0.
+-- The canonical writing of RLC PDUs (TS 36.322 6.2.1): reserved bits, padding and what fills a
+-- STATUS are 0.
 use Rattle.std.specs.Prelude.{ℕ, ◌+◌, ◌-◌, ◌*◌, ◌/◌, Bool, List, ◌++◌, length, map, Option}
 use Rattle.std.specs.List.{concat}
 use Rattle.l2_bits.specs.Bits.{bits, filling}

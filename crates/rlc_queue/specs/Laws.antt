@@ -1,4 +1,4 @@
--- What the cutting of a new PDU comes to, of the definitions alone.
+-- What the cutting of a new PDU comes to, of the definitions alone (TS 36.322 6.2.2.5, 6.2.2.6).
 use Rattle.std.specs.Prelude.{◌≡◌, ℕ, ◌+◌, ◌≤◌, ◌<◌, true, false, List, [], ◌∷◌, ◌++◌, length}
 use Rattle.std.specs.List.{concat}
 use Rattle.rlc_pdu.specs.Writing.{header_len}

@@ -1,4 +1,4 @@
--- The SDUs that a sender was offered and hasn't wholly sent.
+-- The SDUs that a sender was offered and hasn't wholly sent (TS 36.322 4.5, 5.1).
 use Rattle.std.specs.Prelude.{ℕ, ◌+◌, ◌*◌, ◌<◌, Bool, false, if◌then◌else◌, List, [], ◌∷◌, ◌++◌, length, drop, nat_lt}
 
 -- what is left of each, and whether the first is partly sent

@@ -1,4 +1,5 @@
--- The script of a number, line by line: the lines that its text says, with the same draws.
+-- The script of a number, line by line (docs/formats/SCRIPT.md): the lines that its text says, with
+-- the same draws.
 use Rattle.std.specs.Prelude.{◌≡◌, ℕ, zero, suc, ◌+◌, ◌*◌, ◌/◌, ◌%◌, ◌==◌, ◌&&◌, nat_lt, true, false, List, [], ◌∷◌, ◌++◌, replicate, codes, Some, Ok, if◌then◌else◌}
 use Rattle.std.specs.Int.{w128, to_be_bytes}
 use Rattle.l2_io.specs.Feeds.{until_feed, without_return}

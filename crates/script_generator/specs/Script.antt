@@ -1,5 +1,6 @@
--- The script of a number: 2000 steps, each with an SDU or none and a TTI, and a handover before every 500th but the first.
--- x is everywhere the number from which the next draw is made.
+-- The script of a number (docs/formats/SCRIPT.md): 2000 steps, each with an SDU or none and a TTI,
+-- and a handover before every 500th but the first. x is everywhere the number from which the next
+-- draw is made.
 use Rattle.std.specs.Prelude.{ℕ, zero, suc, ◌+◌, ◌*◌, ◌/◌, ◌%◌, ◌==◌, ◌&&◌, nat_lt, List, [], ◌++◌, replicate, codes, Option, None, Some, if◌then◌else◌}
 use Rattle.std.specs.Int.{w128, to_be_bytes}
 use Rattle.hex.specs.Hex.{encode_lower}

@@ -1,4 +1,4 @@
--- SDUs that a loop returns.
+-- SDUs that a loop returns (TS 36.509 5.4).
 use Rattle.std.specs.Prelude.{ℕ, ◌%◌, ◌==◌, if◌then◌else◌, List, length, slice_index, map}
 use Rattle.std.specs.List.{range_with_len}
 

@@ -1,4 +1,4 @@
--- Decimal numbers.
+-- Decimal numbers (docs/formats/SCRIPT.md).
 use Rattle.std.specs.Prelude.{ℕ, ◌+◌, ◌*◌, ◌-◌, Bool, ◌&&◌, nat_le, List, [], ◌∷◌}
 
 abbrev pub is_digit : ℕ → Bool

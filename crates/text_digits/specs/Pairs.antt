@@ -1,4 +1,4 @@
--- Octets by pairs of hexadecimal digits, each of either case.
+-- Octets by pairs of hexadecimal digits, each of either case (docs/formats/SCRIPT.md).
 use Rattle.std.specs.Prelude.{ℕ, ◌+◌, ◌-◌, ◌*◌, ◌/◌, ◌%◌, List, [], ◌∷◌, ◌++◌, Bool, true, ◌&&◌, nat_lt, Option, Some, None, min, bit_and, slice_index}
 use Rattle.hex.specs.Hex.{hex_digit_value, lower_digits}
 

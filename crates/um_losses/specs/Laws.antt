@@ -1,4 +1,4 @@
--- Why tags may stand in the place of octets: a receiver looks at no octet.
+-- Why tags may stand in the place of octets (TS 36.322 5.1.2.2): a receiver looks at no octet.
 use Rattle.std.specs.Prelude.{◌≡◌, ℕ, ◌<◌, ◌^◌, List, [], ◌++◌, length, map, Option, Some, None}
 use Rattle.rlc_pdu.specs.Pdus.{UmdPdu}
 use Rattle.rlc_um.specs.Joined.{Parts, Joined}

@@ -1,4 +1,5 @@
--- Whether the losses of unacknowledged bearers were long, by the records of a run.
+-- Whether the losses of unacknowledged bearers were long, by the records of a run
+-- (TS 36.322 5.1.2.2.1, TS 36.323 5.1.2.1).
 use Rattle.std.specs.Prelude.{ℕ, ◌^◌, Bool, ◌&&◌, ◌||◌, ◌==◌, not, nat_le, is_some, if◌then◌else◌, List, [], ◌∷◌, ◌++◌, map, Option, Some, None}
 use Rattle.air_record.specs.declared.record.Record.{Record}
 use Rattle.l2_types.specs.declared.side.Side.{Side}

@@ -1,4 +1,5 @@
--- Names by which other crates speak of what happens to a flow, of its PDUs and of where the records stand.
+-- Names by which other crates speak of what happens to a flow, of its PDUs and of where the records
+-- stand (TS 36.322 5.1.2).
 use Rattle.std.specs.Prelude.{ℕ}
 use Rattle.um_losses.specs.declared.cursor.Cursor.{Cursor}
 use Rattle.um_losses.specs.declared.flow.What.{What}

@@ -1,4 +1,5 @@
--- What the records of a run mean for the flows of unacknowledged bearers.
+-- What the records of a run mean for the flows of unacknowledged bearers
+-- (TS 36.322 5.1.2, TS 36.323 5.1.2.1).
 use Rattle.std.specs.Prelude.{ℕ, Bool, true, false, length, Option, Some, None}
 use Rattle.air_record.specs.declared.record.Arrived.TheVariants.{Got}
 use Rattle.air_record.specs.declared.record.Record.{Record}

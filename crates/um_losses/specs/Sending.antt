@@ -1,4 +1,5 @@
--- What the sender of a flow has written in a life, by the records of its blocks.
+-- What the sender of a flow has written in a life, by the records of its blocks
+-- (TS 36.322 5.1.2.1).
 use Rattle.std.specs.Prelude.{ℕ, ◌+◌, List, replicate, slice_set, Option, Some, None}
 use Rattle.um_losses.specs.declared.pdu.Pdu.{Pdu}
 use Rattle.um_losses.specs.declared.sending.Sent.{Sent}

@@ -1,4 +1,4 @@
--- What records tell of one direction of a channel, from where they stand on.
+-- What records tell of one direction of a channel, from where they stand on (TS 36.322 5.1.2.2).
 use Rattle.std.specs.Prelude.{ℕ, Bool, true, ◌&&◌, ◌==◌, if◌then◌else◌, List, [], ◌∷◌, ◌++◌, Option, Some, None}
 use Rattle.air_record.specs.declared.record.Record.{Record}
 use Rattle.mac_pdu.specs.declared.item.Direction.{Direction}

@@ -1,4 +1,5 @@
--- What a bearer hears: data PDUs, STATUS PDUs, and what they carry.
+-- What a bearer hears (TS 36.322 5.1.3.2, 5.2, TS 36.323 5.1.2): data PDUs, STATUS PDUs, and what
+-- they carry.
 use Rattle.std.specs.Prelude.{ℕ, Bool, true, false, if◌then◌else◌, List, [], ◌∷◌, ◌++◌, Result, Ok, Err}
 use Rattle.bearer_types.specs.declared.Event.{Event}
 use Rattle.bearer_types.specs.declared.Event.TheVariants as events

@@ -1,4 +1,4 @@
--- Timers: an expiry, and the beginning of a TTI.
+-- Timers (TS 36.322 7.3, TS 36.323 7.2): an expiry, and the beginning of a TTI.
 use Rattle.std.specs.Prelude.{ℕ, Bool, if◌then◌else◌, List, [], ◌∷◌, ◌++◌, Option, Some, None, length, nat_lt}
 use Rattle.bearer_types.specs.declared.Event.{Event}
 use Rattle.bearer_types.specs.declared.Event.TheVariants as events

@@ -1,4 +1,5 @@
--- What a bearer hears: a PDU, a timer's expiry, the beginning of a TTI.
+-- What a bearer hears (TS 36.322 5.1.2.2, 7.3, TS 36.323 5.1.2): a PDU, a timer's expiry, the
+-- beginning of a TTI.
 use Rattle.std.specs.Prelude.{ℕ, Bool, if◌then◌else◌, List, [], ◌∷◌, ◌++◌, Option, Some, None, Result, Ok, Err}
 use Rattle.bearer_types.specs.declared.Event.{Event}
 use Rattle.bearer_types.specs.declared.Event.TheVariants as events

@@ -1,4 +1,4 @@
--- The calls of a link that are neither a TTI nor a submission.
+-- The calls of a link that are neither a TTI nor a submission (TS 36.321 5.3, 5.4).
 use Rattle.std.specs.Prelude.{ℕ, List}
 use Rattle.bearer_types.specs.declared.config.BearerConfig.{BearerConfig}
 use Rattle.eps_sec.specs.declared.Keys.{Keys}

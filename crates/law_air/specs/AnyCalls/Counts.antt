@@ -1,4 +1,4 @@
--- What is counted in the records that both ends leave.
+-- What is counted in the records that both ends leave (docs/formats/JOURNAL.md).
 use Rattle.std.specs.Prelude.{◌≡◌, ℕ, ◌+◌, ◌<◌, ◌==◌, Bool, true, false, ◌&&◌, List, length, slice_index}
 use Rattle.std.specs.List.{filter}
 use Rattle.air_record.specs.declared.record.Record.{Record}

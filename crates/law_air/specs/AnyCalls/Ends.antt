@@ -1,5 +1,6 @@
--- The ends of a link: each goes on by calls of its own, what records tell of it is what it tells in these, lives of its bearers begin
--- only as one is added and in a handover, and it tells of what it writes only as it builds a block.
+-- The ends of a link (TS 36.321 4.2): each goes on by calls of its own, what records tell of it is
+-- what it tells in these, lives of its bearers begin only as one is added and in a handover, and it
+-- tells of what it writes only as it builds a block.
 use Rattle.std.specs.Prelude.{◌≡◌, ℕ, ◌%◌, ◌≤◌, Bool, true, false, not, ◌&&◌, if◌then◌else◌, Option, List, [], ◌∷◌, ◌++◌, map}
 use Rattle.std.specs.List.{filter}
 use Rattle.air_link.specs.Downlink.{block_at, down_order}

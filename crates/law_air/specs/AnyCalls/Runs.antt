@@ -1,4 +1,4 @@
--- A link from its beginning on through any calls, and the records of them all.
+-- A link from its beginning on through any calls, and the records of them all (TS 36.321 5.3, 5.4).
 use Rattle.std.specs.Prelude.{◌≡◌, ℕ, ◌+◌, ◌<◌, if◌then◌else◌, List, [], ◌∷◌, ◌++◌, length, map, slice_index}
 use Rattle.std.specs.List.{filter, range_with_len}
 use Rattle.air_record.specs.declared.line.Outcome.{Outcome}

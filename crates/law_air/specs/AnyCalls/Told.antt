@@ -1,4 +1,5 @@
--- What each call of a link adds to the records, and that these tell which SDUs were submitted and delivered.
+-- What each call of a link adds to the records, and that these tell which SDUs were submitted and
+-- delivered (docs/formats/JOURNAL.md).
 use Rattle.std.specs.Prelude.{◌≡◌, ℕ, ◌+◌, ◌==◌, Bool, true, false, if◌then◌else◌, Option, Some, None, option_map, List, [], ◌∷◌, ◌++◌, length}
 use Rattle.std.specs.List.{filter}
 use Rattle.air_record.specs.declared.line.Outcome.{Outcome}

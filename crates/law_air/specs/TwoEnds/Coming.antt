@@ -1,4 +1,5 @@
--- A channel of any kind through a run, from the line on in which its bearers come at both ends.
+-- A channel of any kind through a run, from the line on in which its bearers come at both ends
+-- (TS 36.322 4.2.1, TS 36.323 4.2).
 use Rattle.std.specs.Prelude.{◌≡◌, ℕ, Bool, false, ◌||◌, List, [], ◌++◌}
 use Rattle.air_link.specs.Lines.{bears}
 use Rattle.air_link.specs.Link.{Link}

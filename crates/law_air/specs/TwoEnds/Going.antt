@@ -1,4 +1,5 @@
--- What a link plays are steps of its two ends, in which only blocks come that the other end built, and both of them move in a handover.
+-- What a link plays are steps of its two ends, in which only blocks come that the other end built,
+-- and both of them move in a handover (TS 36.321 5.3, 5.4, 5.9).
 use Rattle.std.specs.Prelude.{◌≡◌, ℕ, ◌≤◌, ◌==◌, Bool, false, if◌then◌else◌, List, [], ◌++◌, map}
 use Rattle.std.specs.List.{filter}
 use Rattle.air_link.specs.Link.{Link, end_of}

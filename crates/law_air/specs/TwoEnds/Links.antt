@@ -1,4 +1,5 @@
--- A link from its beginning on: calls that send nothing, an acknowledged bearer at both ends, and any steps since.
+-- A link from its beginning on (TS 36.321 5.3, 5.4): calls that send nothing, an acknowledged
+-- bearer at both ends, and any steps since.
 use Rattle.std.specs.Prelude.{◌≡◌, ℕ, List, [], ◌∷◌, ◌++◌, map}
 use Rattle.air_link.specs.Link.{Link}
 use Rattle.bearer.specs.declared.flow.Flow.TheVariants.{Am}

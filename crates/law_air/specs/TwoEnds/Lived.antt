@@ -1,4 +1,5 @@
--- All lives of a channel's acknowledged bearers through a run, from the line on in which they came at both ends.
+-- All lives of a channel's acknowledged bearers through a run, from the line on in which they came
+-- at both ends (TS 36.322 5.4, TS 36.323 5.2.1.1).
 use Rattle.std.specs.Prelude.{◌≡◌, ℕ, Bool, true, false, ◌||◌, List, [], ◌∷◌, ◌++◌}
 use Rattle.air_link.specs.Lines.{bears}
 use Rattle.air_link.specs.Link.{Link, end_of}

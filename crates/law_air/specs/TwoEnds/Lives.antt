@@ -1,4 +1,5 @@
--- A channel begins at both ends in one line, as its bearers are added, before any block flies.
+-- A channel begins at both ends in one line, as its bearers are added, before any block flies
+-- (TS 36.322 5.4, TS 36.323 5.2).
 use Rattle.std.specs.Prelude.{◌≡◌, ℕ, ◌≤◌, false, List}
 use Rattle.air_link.specs.Lines.{submitting}
 use Rattle.air_link.specs.Link.{Link, end_of, fresh}

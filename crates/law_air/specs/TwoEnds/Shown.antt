@@ -1,4 +1,5 @@
--- What records show of the losses of unacknowledged channels.
+-- What records show of the losses of unacknowledged channels
+-- (TS 36.322 5.1.2.2, TS 36.323 5.1.2.1).
 use Rattle.std.specs.Prelude.{◌≡◌, ℕ, List, [], ◌∷◌, Option, Some, None, slice_index_or}
 use Rattle.law_air.specs.AnyCalls.Calls.{HandsOver}
 use Rattle.law_air.specs.AnyCalls.Runs.{Step, Calls}

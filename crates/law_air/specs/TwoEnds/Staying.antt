@@ -1,4 +1,5 @@
--- Which steps of a link are steps of one life: all but a handover, which ends the life, and behind which only steps of the next one come.
+-- Which steps of a link are steps of one life (TS 36.322 5.4, TS 36.323 5.2): all but a handover,
+-- which ends the life, and behind which only steps of the next one come.
 use Rattle.std.specs.Prelude.{◌≡◌, ℕ, Bool, true, false, List, [], ◌∷◌, ◌++◌}
 use Rattle.air_link.specs.Link.{Link}
 use Rattle.air_record.specs.declared.record.Record.{Record}

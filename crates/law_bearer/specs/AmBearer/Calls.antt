@@ -1,4 +1,4 @@
--- Which deeds each call of a bearer of acknowledged data is.
+-- Which deeds each call of a bearer of acknowledged data is (TS 36.322 5.1.3, 5.2, TS 36.323 5.1).
 use Rattle.std.specs.Prelude.{◌≡◌, ℕ, Bool, true, false, List, [], ◌∷◌, ◌++◌, map, length, Option, Result, Ok, Err, nat_lt}
 use Rattle.bearer_types.specs.declared.Event.{Event}
 use Rattle.bearer_types.specs.declared.Event.TheVariants as events

@@ -1,4 +1,4 @@
--- The calls of RLC's sender that stand in deeds.
+-- The calls of RLC's sender that stand in deeds (TS 36.322 5.1.3.1, 5.2).
 use Rattle.std.specs.Prelude.{◌≡◌, ℕ, List, [], ◌∷◌, ◌++◌, Option, Some, None}
 use Rattle.pdcp_tx.specs.declared.sender.Next.{Next}
 use Rattle.pdcp_tx.specs.State.{taking}

@@ -1,4 +1,5 @@
--- A bearer at one end through any calls, and through lives.
+-- A bearer at one end through any calls, and through lives
+-- (TS 36.322 4.2.1, 5.4, TS 36.323 5.1, 5.2).
 use Rattle.std.specs.Prelude.{ℕ, List, [], ◌∷◌, Option, Some, None}
 use Rattle.bearer_types.specs.declared.BearerConfig.{BearerConfig}
 use Rattle.eps_sec.specs.declared.Keys.{Keys}

@@ -1,4 +1,5 @@
--- A place means one SDU to PDCP and to RLC: the place in the stream of the life.
+-- A place means one SDU to PDCP and to RLC (TS 36.322 5.1.3.1, TS 36.323 5.1.1): the place in the
+-- stream of the life.
 use Rattle.std.specs.Prelude.{◌≡◌, ◌≤◌, List, [], ◌∷◌, length, drop, Some, None}
 use Rattle.bearer_types.specs.declared.BearerConfig.{BearerConfig}
 use Rattle.eps_sec.specs.declared.Keys.{Keys}

@@ -1,4 +1,4 @@
--- RLC's sender of an acknowledged bearer, by calls of its own.
+-- RLC's sender of an acknowledged bearer, by calls of its own (TS 36.322 5.1.3.1, 5.2).
 use Rattle.std.specs.Prelude.{◌≡◌, ℕ, List, [], ◌∷◌}
 use Rattle.rlc_am_tx.specs.Machine.{State as Sender, start}
 use Rattle.law_rlc.specs.AmSender.Run.{Call as SenderCall, Offer, Take, Status, Tick, Expire, Settle, Confirm, after as sender_after}

@@ -1,4 +1,4 @@
--- Sets of sequences: of what is told, one thing behind another.
+-- Sets of sequences (docs/formats/JOURNAL.md): of what is told, one thing behind another.
 use Rattle.std.specs.Prelude.{◌≡◌, ◌⊎◌, List, [], ◌∷◌, ◌++◌}
 use Rattle.std.specs.List.{All}
 

@@ -1,4 +1,6 @@
--- Each end of a bearer of acknowledged data through lives, as a bearer of its own: what it comes to by its calls, and what is submitted there.
+-- Each end of a bearer of acknowledged data through lives, as a bearer of its own
+-- (TS 36.322 5.1.3, TS 36.323 5.1, 5.2): what it comes to by its calls, and what is submitted
+-- there.
 use Rattle.std.specs.Prelude.{◌≡◌, ℕ, List, [], ◌∷◌, map}
 use Rattle.bearer.specs.declared.flow.Flow.TheVariants.{Am}
 use Rattle.bearer.specs.Acknowledged.State.{State}

@@ -1,4 +1,5 @@
--- In each direction an acknowledged bearer is a flow, of which RLC's sender and receiver are those of the bearer at both ends.
+-- In each direction an acknowledged bearer is a flow, of which RLC's sender and receiver are those
+-- of the bearer at both ends (TS 36.322 5.1.3, 5.2).
 use Rattle.std.specs.Prelude.{◌≡◌, List, map}
 use Rattle.l2_types.specs.declared.config.AmTxConfig.{AmTxConfig}
 use Rattle.l2_types.specs.declared.AmRxConfig.{AmRxConfig}

@@ -1,4 +1,5 @@
--- Each acknowledged bearer of two ends is a flow, in each direction and in each life.
+-- Each acknowledged bearer of two ends is a flow, in each direction and in each life
+-- (TS 36.322 5.1.3, 5.2).
 use Rattle.std.specs.Prelude.{◌≡◌, ℕ, ◌+◌, ◌≤◌, List}
 use Rattle.l2_types.specs.declared.config.AmTxConfig.{AmTxConfig}
 use Rattle.l2_types.specs.declared.AmRxConfig.{AmRxConfig}

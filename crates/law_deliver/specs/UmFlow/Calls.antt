@@ -1,4 +1,4 @@
--- The calls of the bearer at each end, in the order of the steps.
+-- The calls of the bearer at each end, in the order of the steps (TS 36.322 5.1.2).
 use Rattle.std.specs.Prelude.{◌≡◌, List, [], ◌∷◌, ◌++◌, Option, Some, None, slice_get}
 use Rattle.bearer.specs.declared.flow.Flow.TheVariants.{Um}
 use Rattle.bearer.specs.Unacknowledged.State.{State}

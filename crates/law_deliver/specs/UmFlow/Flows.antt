@@ -1,5 +1,6 @@
--- In each direction an unacknowledged bearer is a run of RLC's sender and a run of RLC's receiver over an air that keeps each PDU near the top;
--- so what comes to PDCP at one end is, in order, each once and unchanged, some of what PDCP gave at the other.
+-- In each direction an unacknowledged bearer is a run of RLC's sender and a run of RLC's receiver
+-- over an air that keeps each PDU near the top; so what comes to PDCP at one end is, in order, each
+-- once and unchanged, some of what PDCP gave at the other (TS 36.322 5.1.2).
 use Rattle.std.specs.Prelude.{◌≡◌, ℕ, ◌+◌, ◌*◌, ◌≤◌, List, [], ◌∷◌, ◌++◌, length}
 use Rattle.std.specs.List.{AllByRecursion}
 use Rattle.l2_num.specs.Ascending.{AreBetween}

@@ -1,4 +1,4 @@
--- A list with some of its items left out.
+-- A list with some of its items left out (TS 36.323 5.1).
 use Rattle.std.specs.Prelude.{◌≡◌, ◌⊎◌, List, [], ◌∷◌}
 
 -- the first list is the second with some items left out

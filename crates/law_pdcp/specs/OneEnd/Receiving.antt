@@ -1,4 +1,4 @@
--- A receiver through lives, and PDUs as a sender wrote them.
+-- A receiver through lives, and PDUs as a sender wrote them (TS 36.323 5.1.2, 5.2.2).
 use Rattle.std.specs.Prelude.{ℕ, ◌%◌, ◌^◌, List, [], ◌∷◌, ◌++◌}
 use Rattle.eps_sec.specs.declared.Keys.{Keys}
 use Rattle.pdcp_pdu.specs.declared.PdcpKind.{PdcpKind}

@@ -1,4 +1,5 @@
--- Which SDUs of a flow have arrived, told by the PDUs that were written and that came.
+-- Which SDUs of a flow have arrived, told by the PDUs that were written and that came
+-- (TS 36.322 5.1.3.2.3).
 use Rattle.std.specs.Prelude.{◌≡◌, ℕ, List, [], ◌∷◌, ◌++◌, map, length, Option, Some, None, slice_get}
 use Rattle.l2_types.specs.declared.config.AmTxConfig.{AmTxConfig}
 use Rattle.l2_types.specs.declared.AmRxConfig.{AmRxConfig}

@@ -1,4 +1,5 @@
--- The SDUs of a flow: those that the sender was offered, and those that the receiver handed up.
+-- The SDUs of a flow (TS 36.322 5.1.3): those that the sender was offered, and those that the
+-- receiver handed up.
 use Rattle.std.specs.Prelude.{◌≡◌, ℕ, List, [], ◌∷◌, ◌++◌}
 use Rattle.l2_types.specs.declared.config.AmTxConfig.{AmTxConfig}
 use Rattle.l2_types.specs.declared.AmRxConfig.{AmRxConfig}

@@ -1,4 +1,4 @@
--- What a step makes of the SDUs offered, handed up and ready.
+-- What a step makes of the SDUs offered, handed up and ready (TS 36.322 5.1.3.2.3).
 use Rattle.std.specs.Prelude.{◌≡◌, Bool, true, false, ℕ, List, [], ◌++◌, length, take, drop}
 use Rattle.law_rlc.specs.AmReceiver.Run.{Call as ReceiverCall, Arrive, Up, Write, ExpireReorder, ExpireProhibit, TickReorder, TickProhibit}
 use Rattle.law_rlc.specs.AmSender.Run.{Offer}

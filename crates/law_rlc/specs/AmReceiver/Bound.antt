@@ -1,4 +1,4 @@
--- VR(MS) by the marks whose timer has expired.
+-- VR(MS) by the marks whose timer has expired (TS 36.322 5.1.3.2.4, 7.1).
 use Rattle.std.specs.Prelude.{ℕ, ◌<◌, ◌≤◌, List, [], ◌∷◌, Option, Some, None, max}
 use Rattle.l2_types.specs.declared.AmRxConfig.{AmRxConfig}
 use Rattle.rlc_am_rx.specs.State.{State}

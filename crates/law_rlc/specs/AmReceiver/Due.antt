@@ -1,4 +1,4 @@
--- When a STATUS is due, by the events since the last one.
+-- When a STATUS is due, by the events since the last one (TS 36.322 5.2.3).
 use Rattle.std.specs.Prelude.{ℕ, ◌||◌, Bool, true, false, List, [], ◌∷◌, Option, Some, None, nat_lt, if◌then◌else◌}
 use Rattle.std.specs.List.{list_any}
 use Rattle.l2_types.specs.declared.AmRxConfig.{AmRxConfig}

@@ -1,4 +1,4 @@
--- What went up with what comes up as the receiver ends.
+-- What went up with what comes up as the receiver ends (TS 36.322 5.4).
 use Rattle.std.specs.Prelude.{◌≡◌, ℕ, suc, zero, ◌+◌, ◌-◌, ◌||◌, Bool, true, List, [], ◌∷◌, ◌++◌, length, map, Some, nat_lt, if◌then◌else◌, slice_get}
 use Rattle.std.specs.List.{list_all}
 use Rattle.rlc_am_rx_window.specs.Cells.{Cell}

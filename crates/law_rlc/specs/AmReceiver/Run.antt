@@ -1,4 +1,4 @@
--- Runs of a receiver, and which places have arrived in one.
+-- Runs of a receiver, and which places have arrived in one (TS 36.322 5.1.3.2).
 use Rattle.std.specs.Prelude.{◌≡◌, ℕ, ◌+◌, ◌<◌, ◌≤◌, Bool, true, false, ◌||◌, ◌&&◌, if◌then◌else◌, List, [], ◌∷◌, Option, Some, None, nat_le, nat_lt, ◌==◌}
 use Rattle.l2_types.specs.declared.AmRxConfig.{AmRxConfig}
 use Rattle.rlc_pdu.specs.declared.Landed.{Landed}

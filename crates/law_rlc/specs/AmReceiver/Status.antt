@@ -1,4 +1,4 @@
--- The STATUS that a receiver writes, by what has arrived.
+-- The STATUS that a receiver writes, by what has arrived (TS 36.322 5.2.3, 6.2.1.6).
 use Rattle.std.specs.Prelude.{◌≡◌, ◌⊎◌, ℕ, suc, zero, ◌+◌, ◌-◌, ◌==◌, ◌<◌, ◌≤◌, Bool, true, false, List, [], ◌∷◌, ◌++◌, length, map, Option, Some, None}
 use Rattle.std.specs.List.{list_any}
 use Rattle.rlc_pdu.specs.declared.Part.{Part}

@@ -1,4 +1,4 @@
--- What comes out of a receiver to which the pieces of a list of fields come.
+-- What comes out of a receiver to which the pieces of a list of fields come (TS 36.322 5.1.3.2.3).
 use Rattle.std.specs.Prelude.{◌≡◌, ℕ, suc, zero, ◌+◌, ◌%◌, ◌<◌, ◌≤◌, true, false, List, [], ◌∷◌, ◌++◌, length, map, take, Option, Some, None, slice_get}
 use Rattle.l2_types.specs.declared.AmRxConfig.{AmRxConfig}
 use Rattle.rlc_pdu.specs.declared.Landed.TheVariants.{Clash}

@@ -1,4 +1,4 @@
--- What of a PDU's octets fits into a segment of a size.
+-- What of a PDU's octets fits into a segment of a size (TS 36.322 5.2.1, 6.2.1.5).
 use Rattle.std.specs.Prelude.{◌≡◌, ◌<◌, ℕ, ◌+◌, ◌-◌, ◌≤◌, false, List, length}
 use Rattle.std.specs.List.{sum}
 use Rattle.rlc_pdu.specs.Pdus.{AreLens}

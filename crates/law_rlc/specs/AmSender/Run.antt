@@ -1,4 +1,5 @@
--- Runs of an acknowledged sender, over any list of calls, with what of the past a law looks at.
+-- Runs of an acknowledged sender, over any list of calls, with what of the past a law looks at
+-- (TS 36.322 5.1.3.1, 5.2).
 use Rattle.std.specs.Prelude.{ℕ, Bool, List, [], ◌∷◌, Option}
 use Rattle.l2_types.specs.declared.config.AmTxConfig.{AmTxConfig}
 use Rattle.rlc_pdu.specs.Pdus.{StatusPdu}

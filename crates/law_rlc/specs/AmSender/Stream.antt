@@ -1,4 +1,4 @@
--- What new PDUs carry.
+-- What new PDUs carry (TS 36.322 5.1.3.1, 6.2.1.4).
 use Rattle.std.specs.Prelude.{◌≡◌, ℕ, ◌+◌, List, [], ◌++◌}
 use Rattle.std.specs.List.{concat}
 use Rattle.l2_types.specs.declared.config.AmTxConfig.{AmTxConfig}

@@ -1,4 +1,5 @@
--- Both ends, over an air that loses, repeats and turns about a sender's PDUs, but keeps each near the top.
+-- Both ends, over an air that loses, repeats and turns about a sender's PDUs, but keeps each near
+-- the top (TS 36.322 5.1.2).
 use Rattle.std.specs.Prelude.{◌≡◌, ℕ, ◌+◌, ◌*◌, ◌<◌, ◌≤◌, List, [], ◌∷◌, ◌++◌, Some, None, slice_get, slice_index_or}
 use Rattle.rlc_pdu.specs.Pdus.{UmdPdu}
 use Rattle.rlc_um.specs.Joined.{Parts}

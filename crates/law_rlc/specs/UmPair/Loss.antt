@@ -1,4 +1,4 @@
--- Numbers that are lost.
+-- Numbers that are lost (TS 36.322 5.1.2.2.3).
 use Rattle.std.specs.Prelude.{◌≡◌, ℕ, Bool, true, false, List, [], ◌∷◌, Option, None}
 use Rattle.rlc_um.specs.Joined.{Parts, nothing_joined, with_numbers}
 use Rattle.law_rlc.specs.UmPair.Send.{Flow, carried}

@@ -1,4 +1,4 @@
--- The number that a sequence number is read as.
+-- The number that a sequence number is read as (TS 36.322 5.1.2.2.1, 7.1).
 use Rattle.std.specs.Prelude.{◌≡◌, ℕ, ◌+◌, ◌*◌, ◌%◌, ◌<◌, ◌≤◌}
 use Rattle.rlc_um.specs.Window.{Window, top_of, number_of}
 

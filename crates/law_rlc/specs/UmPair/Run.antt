@@ -1,4 +1,4 @@
--- Runs of a receiver, and which numbers have been accepted in one.
+-- Runs of a receiver, and which numbers have been accepted in one (TS 36.322 5.1.2.2).
 use Rattle.std.specs.Prelude.{◌≡◌, ℕ, suc, zero, ◌+◌, ◌-◌, ◌*◌, ◌<◌, ◌≤◌, Bool, true, false, List, [], ◌∷◌, ◌++◌, length, take, Option, Some, None, is_some, max, nat_lt, ◌==◌, if◌then◌else◌}
 use Rattle.l2_num.specs.Timers.{runs}
 use Rattle.rlc_pdu.specs.Pdus.{UmdPdu}

@@ -1,5 +1,5 @@
--- The joined SDUs as a search: elements that follow each other, the first of which begins an SDU, the last of which ends it,
--- and none of which does so between.
+-- The joined SDUs as a search (TS 36.322 5.1.2.2.3): elements that follow each other, the first of
+-- which begins an SDU, the last of which ends it, and none of which does so between.
 use Rattle.std.specs.Prelude.{◌≡◌, ℕ, Bool, true, false, ◌||◌, List, [], ◌∷◌, ◌++◌, length, Option, Some, None, nat_lt}
 use Rattle.rlc_um.specs.Joined.{Parts, nothing_joined, with_numbers}
 

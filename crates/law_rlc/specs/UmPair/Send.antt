@@ -1,4 +1,4 @@
--- Runs of a sender.
+-- Runs of a sender (TS 36.322 5.1.2.1).
 use Rattle.std.specs.Prelude.{◌≡◌, ℕ, ◌+◌, ◌%◌, ◌^◌, List, [], ◌∷◌, ◌++◌, length, Option, Some, None}
 use Rattle.rlc_pdu.specs.Pdus.{UmdPdu}
 use Rattle.rlc_um.specs.Joined.{Parts, parts_of, Joined, nothing_joined, with_numbers}

@@ -1,4 +1,5 @@
--- Which SDUs go up: those all of whose elements came, told by their places among the SDUs that were offered.
+-- Which SDUs go up (TS 36.322 5.1.2.2.3): those all of whose elements came, told by their places
+-- among the SDUs that were offered.
 use Rattle.std.specs.Prelude.{◌≡◌, ℕ, zero, suc, ◌+◌, ◌-◌, ◌*◌, Bool, true, false, not, ◌||◌, ◌&&◌, if◌then◌else◌, List, [], ◌∷◌, ◌++◌, map, length, slice_index_or, nat_lt}
 use Rattle.l2_num.specs.Ascending.{AreBetween}
 use Rattle.rlc_pdu.specs.Pdus.{UmdPdu, IsUmBits}
