@@ -4,4 +4,3 @@ pub mod Known
 pub mod LinesFields
 pub mod Machines
 pub mod Put
-pub mod Shown

@@ -11,7 +11,7 @@ mod streams;
 mod sure;
 
 pub use gather::GatherSink;
-pub use lines::{Cut, Lines, Stand, Turn};
+pub use lines::{Lines, Stand, Turn};
 pub use mem::{MemSink, MemSource};
 pub use sink::{PutFault, Sink};
 pub use source::{Failed, Source};

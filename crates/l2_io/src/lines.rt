@@ -31,20 +31,6 @@ pub enum Stand {
 pub enum Turn {
     /// A line, which [`Lines::line`] gives.
     Line,
-    /// A line that is too long.
-    Long,
-    /// The end of the source.
-    End,
-    /// A fault of the source.
-    ReadFault,
-}
-
-/// What came next, with the line.
-#[derive(Clone, Copy, Debug, PartialEq, Eq)]
-pub enum Cut<'a> {
-    /// The next line, without its line feed and a carriage return before that. The last line may have no line feed,
-    /// and then keeps a carriage return at its end.
-    Line(&'a [u8]),
     /// The next line has too many octets before its line feed, a carriage return counted.
     Long,
     /// The source has ended, and no octet is left.
@@ -116,12 +102,6 @@ fn fill<S: Source>(source: &mut S, buffer: &mut [u8], end: usize) -> Result<usiz
 }
 
 impl Lines {
-    ghost use Rattle.std.specs.Borrow.{sem};
-    ghost use Rattle.std.specs.Io.BufRead.{Rests};
-    ghost use Rattle.l2_io.specs.contracts.lines.Lines.{the_row};
-    ghost use Rattle.l2_io.specs.Shown.{Shows};
-    ghost use Rattle.l2_io.specs.declared.lines.Turn.{Turn};
-
     /// Cuts lines of at most `longest` octets.
     pub fn new(alloc: Global, longest: u32) -> Result<Lines, NoMemory>
         requires { longest < 2 ^ 31 }
@@ -139,24 +119,6 @@ impl Lines {
         })
     }
 
-    /// The next line, or why there is none. It takes no memory.
-    ///
-    /// It reads only where [`has_line`](Self::has_line) says no. After `Long`, `End` and `ReadFault` it answers the
-    /// same for good.
-    pub fn next<S: Source>(&mut self, source: &mut S) -> Cut<'_>
-        ensures* after { sem 𝓛 (Rests the_row self.entry (λ new. (new.longest ≡ self.old.longest) × ((turn : Turn) × Shows turn new result
-            × Advances self.old (S.left source.old) (S.left source.new) (HasRisen (S.faults source.old) (S.faults source.new)) turn new))) }
-        ensures idle { (NeedsRead self.old → ⊥) → source.new ≡ source.old }
-        ensures count { S.faults source.old ≤ S.faults source.new }
-    {
-        match self.advance(source) {
-            Turn::Line => Cut::Line(self.line()),
-            Turn::Long => Cut::Long,
-            Turn::End => Cut::End,
-            Turn::ReadFault => Cut::ReadFault,
-        }
-    }
-
     /// How many octets were read and not handed out.
     pub fn kept(&self) -> u32
         ensures count { result ≡ length self.now.kept }
@@ -165,7 +127,7 @@ impl Lines {
         (self.end - self.start) as u32
     }
 
-    /// Whether the next call of [`next`](Self::next) needs no read, so that it can't wait for input.
+    /// Whether the next call of [`advance`](Self::advance) needs no read, so that it can't wait for input.
     pub fn has_line(&self) -> bool
         ensures { (result ≡ false) ↔ NeedsRead self.now }
     {
@@ -285,7 +247,11 @@ impl Lines {
         Turn::Line
     }
 
-    /// Cuts the next line, or says why there is none: [`next`](Self::next) without the line. It takes no memory.
+    /// Cuts the next line, which [`line`](Self::line) then gives: without its line feed and a carriage return before
+    /// that. The last line may have no line feed, and then keeps a carriage return at its end. It takes no memory.
+    ///
+    /// It reads only where [`has_line`](Self::has_line) says no. After `Long`, `End` and `ReadFault` it answers the
+    /// same for good.
     pub fn advance<S: Source>(&mut self, source: &mut S) -> Turn
         ensures next { Advances self.old (S.left source.old) (S.left source.new) (HasRisen (S.faults source.old) (S.faults source.new)) result self.new }
         ensures idle { (NeedsRead self.old → ⊥) → source.new ≡ source.old }

@@ -2,7 +2,7 @@
 
 use crate::fault::Fault;
 use crate::security::Input;
-use crate::{codecs, commands, security, streams, writers};
+use crate::{codecs, commands, program, security, streams, writers};
 use eps_sec::Cipher;
 use hex::FromHex;
 use mac_pdu::Direction;
@@ -86,7 +86,7 @@ fn stream(alloc: Global, words: &[&str]) -> Result<String, Fault> {
         }
         ["stream", text] => streams::stream_lines(alloc, &octets(alloc, text)?),
         ["ahead", piece, text] => streams::ahead(alloc, number(piece)?, &octets(alloc, text)?),
-        ["gather", put, ref rounds @ ..] => streams::gather(alloc, number(put)?, rounds),
+        ["gather", put, ref pieces @ ..] => streams::gather(alloc, number(put)?, pieces),
         ["puts", pieces] => streams::puts(alloc, pieces),
         ["script", script, chunk] => commands::script(alloc, number(script)?, number(chunk)?),
         ["script", script] => commands::script_lines(alloc, number(script)?),
@@ -101,6 +101,8 @@ pub fn answer(alloc: Global, line: &str) -> Result<String, Fault> {
         ["write", ref words @ ..] => write(alloc, words),
         ["read", ref words @ ..] => read(alloc, words),
         ["command", ..] => commands::command(alloc, line),
+        ["l2", ..] => program::l2(alloc, line),
+        ["session", chunk] => program::session(alloc, number(chunk)?),
         ["aes" | "cmac" | "eea0" | "eea2" | "eia2", ..] => secure(alloc, &words),
         _ => stream(alloc, &words),
     }

@@ -3,6 +3,7 @@ use l2_bits::NoMemory;
 use std::alloc::AllocError;
 use std::io;
 use std::num::ParseIntError;
+use std::str::Utf8Error;
 use thiserror::Error;
 
 /// Why a line has no answer.
@@ -14,6 +15,8 @@ pub enum Fault {
     Number(#[from] ParseIntError),
     #[error("{0}")]
     Octets(#[from] FromHexError),
+    #[error("{0}")]
+    Text(#[from] Utf8Error),
     #[error("out of memory")]
     NoMemory,
     #[error("{0}")]

@@ -1,5 +1,6 @@
 //! Makes each public call of the codecs, the ciphers, the streams, the command line and the scripts
-//! of numbers, with memory at hand, and prints what comes out.
+//! of numbers, with memory at hand, and prints what comes out; and runs the program over streams
+//! of which a read or a put fails.
 //!
 //! Each line of the input names a call and what it is made with, and is printed with its answer. A
 //! line that begins with `#` says where the lines behind it come from.
@@ -9,7 +10,9 @@ mod call;
 mod codecs;
 mod commands;
 mod fault;
+mod program;
 mod security;
+mod session;
 mod streams;
 mod writers;
 

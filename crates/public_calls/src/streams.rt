@@ -4,8 +4,8 @@ ghost use Rattle.std.specs.Prelude.{◌<◌};
 
 use crate::fault::Fault;
 use l2_io::{
-    AheadSource, Cut, GatherSink, Lines, MemSink, MemSource, PutFault, Sink, Source, StdSink,
-    StdSource, SureSink, SureSource,
+    AheadSource, GatherSink, Lines, MemSink, MemSource, Sink, Source, StdSink, StdSource, SureSink,
+    SureSource, Turn,
 };
 use std::alloc::Global;
 
@@ -14,8 +14,8 @@ const LONGEST: u32 = 6;
 
 /// What the next line of a source is.
 fn next<S: Source>(alloc: Global, lines: &mut Lines, source: &mut S) -> Result<String, Fault> {
-    Ok(match lines.next(source) {
-        Cut::Line(line) => format!(in alloc; "[{}]", hex::encode(alloc, line)?)?,
+    Ok(match lines.advance(source) {
+        Turn::Line => format!(in alloc; "[{}]", hex::encode(alloc, lines.line())?)?,
         end => format!(in alloc; "{end:?}")?,
     })
 }
@@ -70,20 +70,13 @@ pub fn ahead(alloc: Global, piece: u32, octets: &[u8]) -> Result<String, Fault> 
     Ok(format!(in alloc; "{text}{:?}", source.read(&mut room))?)
 }
 
-fn put_all(gathered: &mut GatherSink, pieces: &str) -> Result<(), PutFault> {
-    for piece in pieces.split('+') {
-        gathered.put(piece.as_bytes())?;
-    }
-    Ok(())
-}
-
-/// Rounds of pieces that are gathered, of which one fails where they go to.
-pub fn gather(alloc: Global, fails: u32, rounds: &[&str]) -> Result<String, Fault> {
+/// Pieces that are gathered, one a round, of which one fails where it goes to.
+pub fn gather(alloc: Global, fails: u32, pieces: &[&str]) -> Result<String, Fault> {
     let mut out = MemSink::new(alloc, &[fails])?;
     let mut gathered = GatherSink::new(alloc);
     let mut text = String::new(alloc);
-    for round in rounds {
-        if put_all(&mut gathered, round).is_err() || gathered.is_full() {
+    for piece in pieces {
+        if gathered.put(piece.as_bytes()).is_err() || gathered.is_full() {
             return Err(Fault::NoMemory);
         }
         let flushed = gathered.flush(&mut out);

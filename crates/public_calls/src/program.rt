@@ -1,0 +1,85 @@
+//! The program itself, over streams that fail.
+
+ghost use Rattle.std.specs.Prelude.{◌<◌};
+
+use crate::fault::Fault;
+use crate::session;
+use l2_io::{MemSink, MemSource};
+use l2_top::{Words, l2_main};
+use std::alloc::Global;
+use std::str;
+
+/// The calls that fail: one or none.
+fn fails(alloc: Global, word: &str) -> Result<Vec<u32>, Fault> {
+    if word == "-" {
+        return Ok(Vec::new(alloc));
+    }
+    Ok(Vec::from_slice(alloc, &[word.parse::<u32>()?])?)
+}
+
+fn octet(written: u8) -> u8 {
+    match written {
+        b';' => b'\n',
+        b'^' => b'\r',
+        _ => written,
+    }
+}
+
+/// The octets that a text stands for: `;` is a line feed, `^` a carriage return, and a number
+/// behind `*` at its end tells how often the last octet stands.
+fn input(alloc: Global, text: &str) -> Result<Vec<u8>, Fault> {
+    let (text, times) = match text.rsplit_once('*') {
+        Some((text, times)) => (text, times.parse::<usize>()?),
+        None => (text, 1),
+    };
+    let mut octets: Vec<u8> = text.bytes().map(octet).collect(alloc)?;
+    if let Some(&last) = octets.last() {
+        for _ in 1..times {
+            octets.extend_from_slice(&[last])?;
+        }
+    }
+    Ok(octets)
+}
+
+/// What the program writes and tells, and how it ends. A line has how many octets a read gives,
+/// which read, which put to the output and which put to the errors fails (`-` for none, counted
+/// from 0), and then the program's words in quotes and its input.
+pub fn l2(alloc: Global, line: &str) -> Result<String, Fault> {
+    let parts: Vec<&str> = line.splitn(6, ' ').collect(alloc)?;
+    let [_, chunk, read, put, tell, rest] = *parts.as_slice() else {
+        return Err(Fault::Words);
+    };
+    let mut words = Words::new(alloc);
+    for word in rest.split('"').skip(1).step_by(2) {
+        words.push(word)?;
+    }
+    let text = rest.rsplit('"').next().unwrap_or(rest).trim_start();
+    let chunk = chunk.parse::<usize>()?.max(1);
+    let mut source = MemSource::new(alloc, &input(alloc, text)?, chunk, &fails(alloc, read)?)?;
+    let mut out = MemSink::new(alloc, &fails(alloc, put)?)?;
+    let mut errs = MemSink::new(alloc, &fails(alloc, tell)?)?;
+    let status = l2_main(alloc, &words, &mut source, &mut out, &mut errs);
+    let (written, told) = (
+        str::from_utf8(out.written())?,
+        str::from_utf8(errs.written())?,
+    );
+    Ok(format!(in alloc; "\n{written}{told}{status:?} {}", status.code())?)
+}
+
+/// The sums of a session with all parts, read by so many octets at a time.
+pub fn session(alloc: Global, chunk: u32) -> Result<String, Fault> {
+    let mut words = Words::new(alloc);
+    words.push("run")?;
+    let script = session::script(alloc)?;
+    let mut source = MemSource::new(alloc, script.as_bytes(), chunk.max(1) as usize, &[])?;
+    let (mut out, mut errs) = (MemSink::new(alloc, &[])?, MemSink::new(alloc, &[])?);
+    let status = l2_main(alloc, &words, &mut source, &mut out, &mut errs);
+    let mut text = String::new(alloc);
+    for line in str::from_utf8(out.written())?.lines() {
+        if line.starts_with("sum ") {
+            text.push_str("\n")?;
+            text.push_str(line)?;
+        }
+    }
+    Ok(format!(in alloc; "{text}\n{status:?} {}", status.code())?)
+}
