@@ -49,7 +49,21 @@ impl Model for Stopped {
     ghost view = { λ s. s.flow };
 }
 
-/// A bearer at one end of the link. `S` is `Running` in a life, and `Stopped` between two.
+/// The state of a stopped bearer on its way to where it is accepted. It can't be let go.
+pub struct Released {
+    stopped: Stopped,
+}
+
+impl Model for Released {
+    ghost use Rattle.bearer.specs.declared.flow.StoppedFlow.{StoppedFlow};
+
+    ghost Value = { StoppedFlow };
+
+    ghost view = { λ r. r.stopped };
+}
+
+/// A bearer at one end of the link. `S` is `Running` in a life, `Stopped` between two, and `Released` on the way from one
+/// cell to another.
 ///
 /// Where memory runs out in a call of a running bearer, it answers `NoMemory` from then on to each call that can.
 pub struct Bearer<S> {
@@ -280,9 +294,33 @@ impl Bearer<Stopped> {
         }
     }
 
+    /// Releases the bearer for its way to another cell. Nothing of it is lost.
+    pub fn release(self) -> Bearer<Released>
+        ensures { result ≡ self }
+    {
+        let Bearer { lcid, state } = self;
+        let state = Released { stopped: state };
+        Bearer { lcid, state }
+    }
+}
+
+impl Bearer<Released> {
+    /// Takes the bearer over where it arrives.
+    pub fn accept(self) -> Bearer<Stopped>
+        ensures { result ≡ self }
+    {
+        let Bearer { lcid, state } = self;
+        let Released { stopped } = state;
+        Bearer {
+            lcid,
+            state: stopped,
+        }
+    }
+
     /// Spends the bearer: for the path of want of memory alone.
     pub fn abandon(self) {
         let Bearer { lcid: _, state } = self;
-        let Stopped { alloc: _, flow: _ } = state;
+        let Released { stopped } = state;
+        let Stopped { alloc: _, flow: _ } = stopped;
     }
 }

@@ -11,7 +11,7 @@ mod flow_stopped;
 mod transparent;
 mod unacknowledged;
 
-pub use bearer::{Bearer, Running, Stopped};
+pub use bearer::{Bearer, Released, Running, Stopped};
 pub use bearer_pdcp::Written;
 pub use bearer_types::{BearerConfig, Event, Events};
 pub use l2_types::{Clock, How, Kind, Lost, Side, Waits};

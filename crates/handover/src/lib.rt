@@ -6,7 +6,7 @@ ghost use Rattle.std.specs.Prelude.{◌≡◌, IfOk, IfErr};
 ghost use Rattle.bearer.specs.Bearer.{of, alive};
 ghost use Rattle.bearer.specs.Lives.{restarted};
 
-use bearer::{Bearer, Running, Stopped};
+use bearer::{Bearer, Released, Running, Stopped};
 use eps_sec::Keys;
 use l2_bits::NoMemory;
 use std::marker::Model;
@@ -17,7 +17,7 @@ use std::marker::Model;
 ///
 /// It can't be let go: it is spent by `accept`, or by `abandon`.
 pub struct Package {
-    bearer: Bearer<Stopped>,
+    bearer: Bearer<Released>,
 }
 
 impl Model for Package {
@@ -33,7 +33,9 @@ impl Model for Package {
 pub fn release(bearer: Bearer<Stopped>) -> Package
     ensures { result ≡ bearer }
 {
-    Package { bearer }
+    Package {
+        bearer: bearer.release(),
+    }
 }
 
 /// Accepts a package: the bearer begins its next life under other keys, as `Bearer::restart` says. An `Err` gives back the
@@ -43,9 +45,9 @@ pub fn accept(package: Package, keys: &Keys) -> Result<Bearer<Running>, (Package
     ensures err { IfErr result (λ e. e.0 ≡ «package») }
 {
     let Package { bearer } = package;
-    match bearer.restart(keys) {
+    match bearer.accept().restart(keys) {
         Ok(bearer) => Ok(bearer),
-        Err((bearer, no_memory)) => Err((Package { bearer }, no_memory)),
+        Err((bearer, no_memory)) => Err((release(bearer), no_memory)),
     }
 }
 

@@ -63,7 +63,8 @@ fn is_polled_at(ring: &HeapCircularBuffer<Slot>, at: usize) -> bool
 #[tactic(auto, using(crate::proofs::RingLemmas::grows))]
 pub(crate) fn widen(alloc: Global, ring: &mut HeapCircularBuffer<Slot>, size: usize)
     requires { size ≤ ring.old.capacity }
-    ensures { ring.new ≡ buffer (widened ring.old.items size) ring.old.capacity }
+    ensures ring { ring.new ≡ buffer (widened ring.old.items size) ring.old.capacity }
+    ensures wide { size ≤ length ring.new.items }
 {
     'growth: while ring.len() < size {
         add_empty(alloc, ring);
@@ -171,7 +172,7 @@ fn add_missing_at(
 {
     match ring.get(at) {
         Some(slot) => missing::add(number, slot, out),
-        None => Err(NoMemory),
+        None => unreachable!(),
     }
 }
 

@@ -138,7 +138,7 @@ impl Window {
         ring::widen(self.alloc, &mut self.ring, at + 1);
         match self.ring.get_mut(at) {
             Some(slot) => slot.keep(pdu),
-            None => Err(NoMemory),
+            None => unreachable!(),
         }
     }
 

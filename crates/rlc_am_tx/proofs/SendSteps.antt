@@ -1,7 +1,7 @@
 -- What is kept of a PDU that was just sent.
 use Rattle.std.proofs.Common.{◌≡◌, ◌<◌, ℕ, suc, ◌+◌, Bool, true, false, List, [], ◌∷◌, ◌++◌, length, slice_set, refl, ap, arith, nat_lt, add-one, if◌then◌else◌}
 use Rattle.std.proofs.lemmas.Bool.Decides.{nat_tests}
-use Rattle.rlc_am_tx_window.specs.Sent.{Sent, is_waiting, whole_size, rested}
+use Rattle.rlc_am_tx_window.specs.Sent.{Sent, is_waiting, whole_size, rested, sent_part}
 use Rattle.rlc_am_tx_window.specs.Written.{whole_octets}
 use Rattle.rlc_am_tx_window.specs.Window.{slot_at, leading_idle}
 use Rattle.rlc_am_tx_window.proofs.WaitingSteps.{slot-set, fresh-idle, within}
@@ -36,7 +36,11 @@ new-size slots x = ap (λ (y : Sent). whole_size y) (slot-last slots x)
 
 pub ruleset whole = (whole-again, again-size)
 
-pub ruleset parts = (first-waits)
+-- a segment that was sent leaves the field as it is
+pub part-field : (slots : List Sent) (at from to : ℕ) → at < length slots → (slot_at (slice_set slots at (sent_part (slot_at slots at) from to)) at).field ≡ (slot_at slots at).field
+part-field slots at from to h = ap (λ (x : Sent). x.field) (slot-set slots at (sent_part (slot_at slots at) from to) h)
+
+pub ruleset parts = (first-waits, part-field)
 
 pub ruleset news = (new-last, new-size, fresh-idle)
 

@@ -1,4 +1,4 @@
-ghost use Rattle.std.specs.Prelude.{◌≡◌, ◌+◌, ◌-◌, ◌<◌, ◌≤◌, ◌^◌, OnOk, IfOk, IfErr, IfSome, length, Some, true, slice_get, min};
+ghost use Rattle.std.specs.Prelude.{◌≡◌, ◌+◌, ◌-◌, ◌<◌, ◌≤◌, ◌^◌, OnOk, IfOk, IfErr, IfSome, length, Some, true, false, slice_get, min};
 ghost use Rattle.l2_num.specs.Timers.{ends};
 ghost use Rattle.rlc_pdu.specs.Views.{nacks_of, status_of};
 ghost use Rattle.rlc_am_tx_window.specs.Sent.{resend_size};
@@ -91,7 +91,8 @@ impl Sender {
     }
 
     pub(crate) fn is_shut(&self) -> bool
-        ensures { result ≡ is_shut self.now }
+        ensures value { result ≡ is_shut self.now }
+        ensures room { result ≡ false → length self.now.window.slots < 512 }
     {
         self.window.len() == WINDOW
     }

@@ -4,15 +4,16 @@ ghost use Rattle.std.specs.Prelude.{ℕ, ◌≡◌, ◌<◌, ◌≤◌, ◌^◌,
 ghost use Rattle.rlc_queue.specs.NewPdu.{IsWithin};
 ghost use Rattle.std.specs.List.{sum};
 ghost use Rattle.rlc_pdu.specs.Pdus.{AreLens};
-ghost use Rattle.rlc_am_tx_window.specs.Sent.{whole_size, next_stretch, stretch_size, fresh};
+ghost use Rattle.rlc_am_tx_window.specs.Sent.{is_waiting, whole_size, next_stretch, stretch_size, fresh};
 ghost use Rattle.rlc_am_tx_window.specs.Written.{whole_octets, part_octets};
 ghost use Rattle.rlc_am_tx_window.specs.Window.{slot_at};
+ghost use Rattle.rlc_am_tx.specs.declared.turn.Turn.TheVariants as turns;
 ghost use Rattle.rlc_am_tx.specs.Machine.{waits, again, resend_turn, new_turn, turn, IsAgain, IsAble, is_wanted, polled, sent_whole, sent_segment, whole_taken, part_taken, new_slot, sent_new, new_taken, after_take, answer};
 
 use crate::sender::{HEAD, Sender};
 use crate::turn::Turn;
 use l2_bits::{Bytes, NoMemory};
-use rlc_am_tx_window::{Slot, Stretch, WINDOW};
+use rlc_am_tx_window::{Slot, Stretch};
 use rlc_pdu::Taken;
 use rlc_queue::{NewPdu, new_pdu};
 use std::alloc::Global;
@@ -25,6 +26,7 @@ impl Sender {
         requires { waits self.now ≡ true }
         ensures value { result ≡ resend_turn (again self.now) size }
         ensures able { IsAble self.now size result }
+        ensures old { result ≡ turns.New → ⊥ }
     {
         match self.window.get(self.window.first_waiting()) {
             Some(slot) => resend_turn(slot, size),
@@ -35,6 +37,7 @@ impl Sender {
     fn new_turn(&self, size: u32, held: Option<u64>) -> Turn
         ensures value { result ≡ new_turn self.now size held }
         ensures able { IsAble self.now size result }
+        ensures open { result ≡ turns.New → length self.now.window.slots < 512 }
     {
         if self.is_shut() {
             Turn::Shut
@@ -53,6 +56,7 @@ impl Sender {
     fn turn(&self, size: u32, held: Option<u64>, more: bool) -> Turn
         ensures value { result ≡ turn self.now size held more }
         ensures able { IsAble self.now size result }
+        ensures open { result ≡ turns.New → length self.now.window.slots < 512 }
     {
         let waits = self.waits();
         if !waits && self.queue.is_empty() && !more {
@@ -88,12 +92,13 @@ impl Sender {
 
     // Writes the PDU that lies so far above VT(A).
     fn write_whole(&self, at: usize, number: u64, poll: bool) -> Result<Bytes, NoMemory>
+        requires { at < length self.now.window.slots }
         ensures value { IfOk result (λ pdu. pdu ≡ whole_octets (slot_at self.now.window.slots at) number poll) }
         ensures len { IfOk result (λ pdu. length pdu ≡ whole_size (slot_at self.now.window.slots at)) }
     {
         match self.window.get(at) {
             Some(slot) => slot.write_whole(self.alloc, number, poll),
-            None => Err(NoMemory),
+            None => unreachable!(),
         }
     }
 
@@ -105,12 +110,14 @@ impl Sender {
         poll: bool,
         stretch: &Stretch,
     ) -> Result<Bytes, NoMemory>
+        requires there { at < length self.now.window.slots }
+        requires within { stretch.now.to ≤ length (slot_at self.now.window.slots at).field }
         ensures value { IfOk result (λ pdu. pdu ≡ part_octets (slot_at self.now.window.slots at) number poll stretch.now) }
         ensures len { IfOk result (λ pdu. length pdu ≡ stretch_size stretch.now) }
     {
         match self.window.get(at) {
             Some(slot) => slot.write_part(self.alloc, number, poll, stretch),
-            None => Err(NoMemory),
+            None => unreachable!(),
         }
     }
 
@@ -136,7 +143,9 @@ impl Sender {
 
     // The longest segment of what waits first.
     fn next_stretch(&self, at: usize, size: u32) -> Result<Stretch, NoMemory>
-        requires { 5 ≤ size }
+        requires there { at < length self.now.window.slots }
+        requires waits { is_waiting (slot_at self.now.window.slots at) ≡ true }
+        requires room { 5 ≤ size }
         ensures value { IfOk result (λ s. s ≡ next_stretch (slot_at self.now.window.slots at) size) }
         ensures some { IfOk result (λ s. s.from < s.to) }
         ensures within { IfOk result (λ s. s.to ≤ length (slot_at self.now.window.slots at).field) }
@@ -144,7 +153,7 @@ impl Sender {
     {
         match self.window.get(at) {
             Some(slot) => slot.next_stretch(size),
-            None => Err(NoMemory),
+            None => unreachable!(),
         }
     }
 
@@ -174,12 +183,13 @@ impl Sender {
     #[tactic(auto, using(crate::proofs::SendSteps::news))]
     fn add_new(&mut self, size: u32) -> Result<(), NoMemory>
         requires some { 0 < length self.old.queue.sdus }
+        requires open { length self.old.window.slots < 512 }
         requires room { 3 ≤ size }
         requires short { size ≤ 9421 }
         ensures state { OnOk result (self.new ≡ sent_new self.old size) }
         ensures fits { OnOk result (whole_size (new_slot self.old size) ≤ size) }
     {
-        if self.place >= LIMIT || self.window.len() >= WINDOW {
+        if self.place >= LIMIT {
             return Err(NoMemory);
         }
         let pdu = new_pdu(&mut self.queue, self.alloc, HEAD, size as usize)?;
@@ -192,6 +202,7 @@ impl Sender {
     #[tactic(auto, using(crate::proofs::SendSteps::news))]
     fn send_new(&mut self, size: u32, more: bool) -> Result<Taken, NoMemory>
         requires some { 0 < length self.old.queue.sdus }
+        requires open { length self.old.window.slots < 512 }
         requires room { 3 ≤ size }
         requires short { size ≤ 9421 }
         ensures state { OnOk result (self.new ≡ polled (sent_new self.old size) more) }
@@ -249,6 +260,7 @@ fn slot_of(alloc: Global, pdu: NewPdu, place: u64) -> Slot
 fn resend_turn(slot: &Slot, size: u32) -> Turn
     ensures value { result ≡ resend_turn slot.now size }
     ensures able { IsAgain slot.now size result }
+    ensures old { result ≡ turns.New → ⊥ }
 {
     if slot.all_wait() && slot.whole_size() <= size {
         Turn::Whole

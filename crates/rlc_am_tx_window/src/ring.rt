@@ -174,7 +174,7 @@ fn rest_part_at(ring: &mut Ring, at: usize, from: u32, to: u32) -> Result<(), No
 {
     match ring.get_mut(at) {
         Some(slot) => slot.rest_part(from, to),
-        None => Err(NoMemory),
+        None => unreachable!(),
     }
 }
 
@@ -215,7 +215,7 @@ fn name_at(ring: &mut Ring, at: usize, nack: Nack) -> Result<(), NoMemory>
 {
     match ring.get_mut(at) {
         Some(slot) => slot.name(nack.part),
-        None => Err(NoMemory),
+        None => unreachable!(),
     }
 }
 

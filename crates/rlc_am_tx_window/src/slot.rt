@@ -267,12 +267,10 @@ impl Slot {
         poll: bool,
         stretch: &Stretch,
     ) -> Result<Bytes, NoMemory>
+        requires { stretch.now.to ≤ length self.now.field }
         ensures value { IfOk result (λ pdu. pdu ≡ part_octets self.now number poll stretch.now) }
         ensures len { IfOk result (λ pdu. length pdu ≡ stretch_size stretch.now) }
     {
-        if self.size() < stretch.to {
-            return Err(NoMemory);
-        }
         let sn = (number % 1024) as u32;
         let fi = framing(self.begins_at(stretch.from), self.ends_at(stretch.to));
         let segment = Segment {
@@ -283,10 +281,10 @@ impl Slot {
         written(alloc, sn, poll, fi, Some(segment), &stretch.lens, octets)
     }
 
-    /// The longest segment of at most so many octets with the first octets that wait. It isn't asked for where none
-    /// waits.
+    /// The longest segment of at most so many octets with the first octets that wait.
     pub fn next_stretch(&self, size: u32) -> Result<Stretch, NoMemory>
-        requires { 5 ≤ size }
+        requires waits { is_waiting self.now ≡ true }
+        requires room { 5 ≤ size }
         ensures value { IfOk result (λ s. s ≡ next_stretch self.now size) }
         ensures some { IfOk result (λ s. s.from < s.to) }
         ensures within { IfOk result (λ s. s.to ≤ length self.now.field) }
@@ -294,7 +292,7 @@ impl Slot {
     {
         match self.first_waiting() {
             Some(part) => self.stretch_in(size, part),
-            None => Err(NoMemory),
+            None => unreachable!(),
         }
     }
 

@@ -134,7 +134,7 @@ impl Slots {
                 *slot = Some(stored);
                 Ok(())
             }
-            None => Err(NoMemory),
+            None => unreachable!(),
         }
     }
 }
@@ -208,7 +208,8 @@ fn pass_one(
 #[tactic(auto, using(crate::proofs::Steps::grows))]
 fn grow(ring: &mut HeapCircularBuffer<Option<Stored>>, size: usize)
     requires { size ≤ ring.old.capacity }
-    ensures { ring.new ≡ buffer (grown ring.old.items size) ring.old.capacity }
+    ensures ring { ring.new ≡ buffer (grown ring.old.items size) ring.old.capacity }
+    ensures wide { size ≤ length ring.new.items }
 {
     'growth: while ring.len() < size {
         add_missing(ring);

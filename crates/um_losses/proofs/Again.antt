@@ -1,10 +1,12 @@
 -- The receiver hears the tags that were written.
-use Rattle.std.proofs.Common.{◌≡◌, ℕ, true, List, Option, Ok, arith, refl, sym, subst}
+use Rattle.std.proofs.Common.{◌≡◌, ℕ, true, List, Option, Ok, Err, arith, refl, sym, subst}
 use Rattle.std.proofs.lemmas.Bool.Decides.{nat_tests}
-use Rattle.rlc_pdu.specs.Laws.{UmdAgain, IsUmdInRange}
+use Rattle.rlc_pdu.specs.Laws.{IsUmdInRange}
 use Rattle.rlc_pdu.specs.Pdus.{UmdPdu, AreLens, IsUmBits}
 use Rattle.rlc_pdu.specs.Reading.{umd_at}
+use Rattle.rlc_pdu.specs.declared.fault.RlcRefusal.{RlcRefusal}
 use Rattle.rlc_pdu.specs.Writing.{umd_canonical}
+use Rattle.rlc_pdu.proofs.Again.{umd_again}
 use Rattle.um_losses.specs.declared.pdu.Pdu.{Pdu}
 use Rattle.um_losses.specs.Pdus.{is_pdu}
 use Rattle.um_losses.specs.Tags.{tagged}
@@ -17,8 +19,14 @@ in_range bits first p h = record {
   lens = subst (λ (l : List ℕ). AreLens l) (sym (lens_are first p.elements)) (are_lens p.elements (grind (arith, nat_tests, h)));
 }
 
-pub read_is : UmdAgain → (bits : ℕ) (first : Option ℕ) (p : Pdu) (octets : List ℕ) (got : UmdPdu) → IsUmBits bits → is_pdu bits p ≡ true
-    → octets ≡ umd_canonical bits (tagged first p) → umd_at bits octets ≡ Ok got → got ≡ tagged first p
-read_is again bits first p octets got width h refl at =
-    let written : umd_at bits (umd_canonical bits (tagged first p)) ≡ Ok (tagged first p) = (again bits (tagged first p) width (in_range bits first p h)).read in
+pub read_is : (bits : ℕ) (first : Option ℕ) (p : Pdu) (octets : List ℕ) (got : UmdPdu) → IsUmBits bits → is_pdu bits p ≡ true → octets ≡ umd_canonical bits (tagged first p)
+    → umd_at bits octets ≡ Ok got → got ≡ tagged first p
+read_is bits first p octets got width h refl at =
+    let written : umd_at bits (umd_canonical bits (tagged first p)) ≡ Ok (tagged first p) = (umd_again bits (tagged first p) width (in_range bits first p h)).read in
+    cc
+
+pub none_refused : (bits : ℕ) (first : Option ℕ) (p : Pdu) (octets : List ℕ) (e : RlcRefusal) → IsUmBits bits → is_pdu bits p ≡ true → octets ≡ umd_canonical bits (tagged first p)
+    → umd_at bits octets ≡ Err e → ⊥
+none_refused bits first p octets e width h refl at =
+    let written : umd_at bits (umd_canonical bits (tagged first p)) ≡ Ok (tagged first p) = (umd_again bits (tagged first p) width (in_range bits first p h)).read in
     cc

@@ -11,7 +11,7 @@ use crate::sending::{Sending, Sent};
 use crate::tags::{last_tag, tagged};
 use l2_bits::NoMemory;
 use mac_pdu::Direction;
-use rlc_pdu::{read_umd, reads_umd_again};
+use rlc_pdu::read_umd;
 use rlc_um::UmRx;
 use std::alloc::Global;
 use std::marker::Model;
@@ -160,9 +160,8 @@ impl Flow {
             return Ok(());
         }
         let octets = tagged(self.alloc, self.bits, first, pdu)?;
-        reads_umd_again();
         let Ok(umd) = read_umd(self.bits, octets.as_slice()) else {
-            return Err(NoMemory);
+            unreachable!()
         };
         self.receiver.arrive(&umd)?;
         self.hand_up();
