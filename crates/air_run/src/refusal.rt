@@ -6,40 +6,40 @@ use thiserror::Error;
 pub enum RunRefusal {
     /// There is no bearer on the LCID.
     #[error("unknown bearer")]
-    UnknownBearer,
+    UnknownBearer = 1,
     /// There is a bearer on the LCID already.
     #[error("bearer twice")]
-    BearerTwice,
+    BearerTwice = 2,
     /// A configuration stands behind a line that is none.
     #[error("configured late")]
-    ConfiguredLate,
+    ConfiguredLate = 3,
     /// A key was used before, or stands twice in the line.
     #[error("key used")]
-    KeyUsed,
+    KeyUsed = 4,
     /// The timer doesn't run.
     #[error("timer idle")]
-    TimerIdle,
+    TimerIdle = 5,
     /// The grant of a drain is below 200 octets.
     #[error("small drain")]
-    SmallDrain,
+    SmallDrain = 6,
     /// There are no keys as yet.
     #[error("no keys")]
-    NoKeys,
+    NoKeys = 7,
     /// There was such a line already.
     #[error("set twice")]
-    SetTwice,
+    SetTwice = 8,
     /// A test loop is on.
     #[error("loop on")]
-    LoopOn,
+    LoopOn = 9,
     /// The bearer has no discard timer.
     #[error("no discard")]
-    NoDiscard,
+    NoDiscard = 10,
     /// A block was forged.
     #[error("forged")]
-    Forged,
+    Forged = 11,
     /// The on duration or the offset doesn't fit into the cycle.
     #[error("drx fields")]
-    DrxFields,
+    DrxFields = 12,
 }
 
 /// Why a line was not run, or not to its end.

@@ -7,22 +7,22 @@ use thiserror::Error;
 pub enum LineRefusal {
     /// A word that is none of those that may stand there.
     #[error("word")]
-    Word,
+    Word = 1,
     /// No number where one has to be.
     #[error("number")]
-    Number,
+    Number = 2,
     /// A number or a count of octets outside its range, or a kind that doesn't go with its LCID.
     #[error("range")]
-    Range,
+    Range = 3,
     /// No octets in hexadecimal where they have to be.
     #[error("hex")]
-    Hex,
+    Hex = 4,
     /// Too few or too many fields, or an option twice.
     #[error("fields")]
-    Fields,
+    Fields = 5,
     /// More than 20,000 octets.
     #[error("long")]
-    Long,
+    Long = 6,
 }
 
 /// Why no line was read.

@@ -9,6 +9,7 @@ ghost use Rattle.std.specs.Str.{bytes_eq};
 use crate::fault::{LineFault, LineRefusal};
 use air_record::{Fate, Outcome};
 use eps_sec::{Cipher, Key};
+use hex::FromHexError;
 use l2_bits::Bytes;
 use l2_types::{Clock, Kind, Side};
 use memchr::memchr;
@@ -157,18 +158,19 @@ fn key_octets(octets: &[u8]) -> [u8; 16]
 pub fn key(alloc: Global, text: &[u8]) -> Result<Key, LineFault>
     ensures { Gives result (key_of text.now) }
 {
-    let mut octets = Bytes::new(alloc);
     if text.is_empty() {
         return Err(LineFault::Refused(LineRefusal::Hex));
     }
-    if !read_hex(text, &mut octets)? {
-        return Err(LineFault::Refused(LineRefusal::Hex));
-    }
-    if octets.as_slice().len() != 16 {
+    let octets = match hex::decode(alloc, text) {
+        Ok(octets) => octets,
+        Err(FromHexError::OutOfMemory) => return Err(LineFault::NoMemory),
+        Err(_) => return Err(LineFault::Refused(LineRefusal::Hex)),
+    };
+    if octets.len() != 16 {
         return Err(LineFault::Refused(LineRefusal::Range));
     }
     Ok(Key {
-        octets: key_octets(octets.as_slice()),
+        octets: key_octets(&octets),
     })
 }
 

@@ -1,3 +1,4 @@
 pub mod LateSteps
 pub mod Offered
 pub mod Fitting
+pub mod OwedSteps

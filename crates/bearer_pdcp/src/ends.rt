@@ -7,8 +7,8 @@ ghost use Rattle.bearer_pdcp.specs.Taking.{own_report_told, taken_told, taken, t
 ghost use Rattle.bearer_pdcp.specs.Hearing.{ups, handed, is_for_sender, is_applied, is_arrived, got_told, got_left, got_applied, heard_told, after_hearing, applies};
 ghost use Rattle.bearer_types.specs.declared.Event.TheVariants as events_of;
 ghost use Rattle.l2_types.specs.declared.Lost.TheVariants as lost;
-ghost use Rattle.pdcp_tx.specs.State.{reported, IsShort};
-ghost use Rattle.bearer_pdcp.specs.Lives.{report_of};
+ghost use Rattle.pdcp_tx.specs.State.{reported, taking, took, HasSize, IsShort};
+ghost use Rattle.bearer_pdcp.specs.Lives.{report_of, OwesShort};
 ghost use Rattle.bearer_pdcp.specs.Discarding.{without_late, late_told, after_tick, tick_told};
 
 use crate::stopped::StoppedPdcp;
@@ -18,7 +18,7 @@ use l2_bits::{Bytes, NoMemory, SubmitRefusal};
 use l2_types::{Lost, Side};
 use pdcp_pdu::{PdcpKind, User, read_user};
 use pdcp_rx::{Cause, Got, PdcpRx};
-use pdcp_tx::PdcpTx;
+use pdcp_tx::{Next, PdcpTx};
 use std::alloc::Global;
 use std::marker::Model;
 
@@ -36,17 +36,18 @@ impl Model for Pdcp {
     ghost use Rattle.std.specs.Prelude.{◌≡◌, ◌≤◌};
     ghost use Rattle.pdcp_pdu.specs.Kinds.{IsKind};
     ghost use Rattle.bearer_pdcp.specs.Ends.{Ends};
+    ghost use Rattle.bearer_pdcp.specs.Lives.{OwesShort};
 
     ghost Value = { Ends };
 
     ghost view = { λ p. record { lcid = p.lcid; kind = p.kind; tx = p.tx.state; rx = p.rx.state } };
 
-    ghost invariant = { λ p. (p.lcid ≤ 10) × IsKind p.kind × (p.rx.state.kind ≡ p.kind) };
+    ghost invariant = { λ p. (p.lcid ≤ 10) × IsKind p.kind × (p.rx.state.kind ≡ p.kind) × OwesShort p.tx };
 }
 
 impl Pdcp {
     /// A bearer whose COUNTs begin with `first` in both directions. It takes no memory.
-    #[tactic(auto, unfolding(crate::specs::Ends::begun))]
+    #[tactic(auto, unfolding(crate::specs::Ends::begun), using(crate::proofs::OwedSteps::starts))]
     pub fn new(alloc: Global, lcid: u8, kind: PdcpKind, first: u32, keys: &Keys, side: Side) -> Pdcp
         requires low { 1 ≤ lcid }
         requires high { lcid ≤ 10 }
@@ -79,6 +80,7 @@ impl Pdcp {
     }
 
     /// Takes over a copy of an SDU, which then waits. The refusals are those of `PdcpTx::submit`.
+    #[tactic(auto, using(crate::proofs::OwedSteps::submits))]
     pub fn submit(&mut self, sdu: &[u8]) -> Result<(), SubmitRefusal>
         ensures fits { OnOk result (refusal self.old.tx sdu.now ≡ None) }
         ensures state { OnOk result (self.new ≡ record self.old { tx = submitted self.old.tx sdu.now }) }
@@ -126,7 +128,7 @@ impl Pdcp {
         ensures state { OnOk result (self.new ≡ after_taking self.old) }
         ensures told { OnOk result (events.new ≡ events.old ++ taking_told self.old) }
     {
-        match self.tx.next_pdu()? {
+        match next_pdu(&mut self.tx)? {
             None => Ok(None),
             Some(next) => {
                 self.tell_taken(next.count, next.len, &next.octets, events)?;
@@ -219,6 +221,7 @@ impl Pdcp {
         })
     }
 
+    #[tactic(auto, using(crate::proofs::OwedSteps::hears))]
     fn hear_report(
         &mut self,
         fms: u32,
@@ -238,6 +241,7 @@ impl Pdcp {
     }
 
     /// RLC has acknowledged all of what it took at a place in this life.
+    #[tactic(auto, using(crate::proofs::OwedSteps::confirms))]
     pub fn confirm(&mut self, place: u64)
         ensures { self.new ≡ record self.old { tx = confirmed self.old.tx place } }
     {
@@ -301,6 +305,7 @@ impl Pdcp {
         requires lcid { lcid ≤ 10 }
         requires kind { IsKind kind }
         requires receiver { rx.state.kind ≡ kind }
+        requires owes { OwesShort tx }
         ensures { result ≡ record { lcid = lcid; kind = kind; tx = tx.state; rx = rx.state } }
     {
         Pdcp {
@@ -311,6 +316,18 @@ impl Pdcp {
             rx,
         }
     }
+}
+
+// Takes the first of what RLC may take.
+#[tactic(auto, using(crate::proofs::OwedSteps::taking))]
+fn next_pdu(tx: &mut PdcpTx) -> Result<Option<Next>, NoMemory>
+    requires { OwesShort tx.old }
+    ensures answer { IfOk result (λ next. next ≡ taking tx.old.state) }
+    ensures size { IfOk result (λ next. IfSome next HasSize) }
+    ensures state { OnOk result (tx.new.state ≡ took tx.old.state) }
+    ensures owes { OwesShort tx.new }
+{
+    tx.next_pdu()
 }
 
 // Hands up what the receiver has ready.
@@ -326,10 +343,12 @@ fn hand_up(rx: &mut PdcpRx, lcid: u8, events: &mut Events) -> Result<(), NoMemor
 }
 
 // Drops the SDUs whose discard timers have ended.
-#[tactic(auto, using(crate::proofs::LateSteps::lates))]
+#[tactic(auto, using(crate::proofs::LateSteps::lates, crate::proofs::OwedSteps::lates))]
 fn drop_late(tx: &mut PdcpTx, lcid: u8, events: &mut Events) -> Result<(), NoMemory>
+    requires { OwesShort tx.old }
     ensures state { OnOk result (tx.new ≡ record tx.old { state = without_late tx.old.state.waiting tx.old.state }) }
     ensures told { OnOk result (events.new ≡ events.old ++ late_told lcid tx.old.state.waiting tx.old.state) }
+    ensures owes { OwesShort tx.new }
 {
     while let Some(len) = tx.late() {
         events.push(Event::Discard { lcid, len })?;

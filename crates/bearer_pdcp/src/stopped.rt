@@ -1,7 +1,7 @@
 ghost use Rattle.std.specs.Prelude.{◌≡◌, ◌≤◌, IfOk, IfErr, IfSome};
 ghost use Rattle.pdcp_tx.specs.State.{IsShort};
 ghost use Rattle.pdcp_pdu.specs.Kinds.{IsKind};
-ghost use Rattle.bearer_pdcp.specs.Lives.{restarted, report_of, owing_report};
+ghost use Rattle.bearer_pdcp.specs.Lives.{restarted, report_of, owing_report, OwesShort};
 
 use crate::ends::Pdcp;
 use eps_sec::Keys;
@@ -65,7 +65,7 @@ impl StoppedPdcp {
     }
 
     /// Begins the next life, under other keys. An `Err` gives back what it was given as it was.
-    #[tactic(auto, unfolding(crate::specs::Lives::restarted))]
+    #[tactic(auto, unfolding(crate::specs::Lives::restarted), using(crate::proofs::OwedSteps::begins))]
     pub fn restart(self, keys: &Keys) -> Result<Pdcp, (StoppedPdcp, NoMemory)>
         ensures ok { IfOk result (λ p. p ≡ restarted self keys.now) }
         ensures err { IfErr result (λ e. e.0 ≡ self) }
@@ -106,8 +106,10 @@ impl StoppedPdcp {
 }
 
 fn owe(tx: &mut PdcpTx, report: Option<Bytes>)
-    requires { IfSome report IsShort }
-    ensures { tx.new ≡ record tx.old { state = owing_report report tx.old.state } }
+    requires short { IfSome report IsShort }
+    requires owes { OwesShort tx.old }
+    ensures owes { OwesShort tx.new }
+    ensures state { tx.new ≡ record tx.old { state = owing_report report tx.old.state } }
 {
     if let Some(report) = report {
         tx.owe(report);

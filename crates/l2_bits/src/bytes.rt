@@ -53,6 +53,13 @@ impl Bytes {
         Bytes { octets }
     }
 
+    /// The octets as a vector, without copying them, to be changed where they lie.
+    pub fn into_vec(self) -> Vec<u8>
+        ensures { result.items ≡ self }
+    {
+        self.octets
+    }
+
     /// Adds a copy of the octets at the end. An `Err` changes nothing.
     pub fn append(&mut self, from: &[u8]) -> Result<(), NoMemory>
         ensures ok { OnOk result (self.new ≡ self.old ++ from.now) }

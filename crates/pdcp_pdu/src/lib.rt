@@ -13,5 +13,5 @@ mod writing;
 pub use laws::{reads_signalling_again, reads_user_again};
 pub use pdu::{PdcpKind, PdcpRefusal, PdcpWhy, Srb, User};
 pub use reading::read_user;
-pub use signalling::{read_srb, write_srb_message};
+pub use signalling::{read_srb, write_srb};
 pub use writing::{write_long_report, write_report, write_user};

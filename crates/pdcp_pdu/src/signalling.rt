@@ -1,11 +1,11 @@
 ghost use Rattle.std.specs.Prelude.{◌≡◌, ◌≢◌, ◌<◌, ◌^◌, ◌++◌, [], None, Some, Ok, Err, IfOk, IsOkAnd, MatchResult};
 ghost use Rattle.pdcp_pdu.specs.Pdus.{SrbPdu, srb_of};
-ghost use Rattle.pdcp_pdu.specs.Grammar.{IsSrbPdu, srb_header};
+ghost use Rattle.pdcp_pdu.specs.Grammar.{IsSrbPdu, srb_spelling};
 ghost use Rattle.pdcp_pdu.specs.Refusals.{srb_refusal};
 ghost use Rattle.pdcp_pdu.specs.Reading.{srb_at};
 
 use crate::pdu::{PdcpRefusal, PdcpWhy, Srb};
-use l2_bits::NoMemory;
+use l2_bits::{Bytes, NoMemory};
 use std::alloc::Global;
 
 /// The octets of a MAC-I.
@@ -40,15 +40,17 @@ pub fn read_srb(from: &[u8]) -> Result<Srb<'_>, PdcpRefusal>
     read(from)
 }
 
-/// Writes what the MAC-I of a PDU of a signalling bearer goes over (TS 36.323 5.7, 6.2.2): its header, with a number of 5
-/// bits, and its data part, of 1 octet or more. There is room for the MAC-I behind them.
-pub fn write_srb_message(alloc: Global, sn: u32, octets: &[u8]) -> Result<Vec<u8>, NoMemory>
+/// Writes a PDU of a signalling bearer (TS 36.323 6.2.2), with a number of 5 bits, a data part of 1 octet or more, and the
+/// MAC-I, which goes over the header and the plain data part. What stands behind the header may then be ciphered where it
+/// stands.
+pub fn write_srb(alloc: Global, sn: u32, octets: &[u8], tag: &[u8; 4]) -> Result<Bytes, NoMemory>
     requires number { sn < 2 ^ 5 }
     requires some { octets.now ≢ [] }
-    ensures { IfOk result (λ message. message.items ≡ srb_header 0 sn ++ octets.now) }
+    ensures { IfOk result (λ pdu. pdu ≡ srb_spelling (record { sn = sn; octets = octets.now; tag = tag.now })) }
 {
-    let mut message = Vec::with_capacity(alloc, 1 + octets.len() + TAG)?;
-    message.push(sn as u8)?;
-    message.extend_from_slice(octets)?;
-    Ok(message)
+    let mut pdu = Bytes::with_capacity(alloc, 1 + octets.len() + TAG)?;
+    pdu.append(&[sn as u8])?;
+    pdu.append(octets)?;
+    pdu.append(tag)?;
+    Ok(pdu)
 }

@@ -1,5 +1,5 @@
 //! SDUs that are held, one place for each COUNT from the next on.
-ghost use Rattle.std.specs.Prelude.{◌≡◌, ◌+◌, ◌-◌, ◌*◌, ◌<◌, ◌≤◌, ◌^◌, [], ◌∷◌, ◌++◌, length, take, drop, Some, None, OnOk, IfOk, max};
+ghost use Rattle.std.specs.Prelude.{◌≡◌, ◌+◌, ◌-◌, ◌*◌, ◌<◌, ◌≤◌, ◌^◌, [], ◌∷◌, ◌++◌, length, take, drop, slice_set, Some, None, OnOk, IfOk, max};
 ghost use Rattle.pdcp_rx.specs.Held.{is_held, stored, widened, present, run, bit, octet, bitmap};
 
 use l2_bits::{Bytes, NoMemory, Packets};
@@ -25,12 +25,17 @@ pub fn store(held: &mut VecDeque<Option<Bytes>>, at: usize, sdu: Bytes) -> Resul
     ensures len { length held.new.items ≤ max (length held.old.items) (at + 1) }
 {
     widen(held, at + 1)?;
+    put_at(held, at, sdu);
+    Ok(())
+}
+
+fn put_at(held: &mut VecDeque<Option<Bytes>>, at: usize, sdu: Bytes)
+    requires { at < length held.old.items }
+    ensures { held.new.items ≡ slice_set held.old.items at (Some sdu) }
+{
     match held.get_mut(at) {
-        Some(place) => {
-            *place = Some(sdu);
-            Ok(())
-        }
-        None => Err(NoMemory),
+        Some(place) => *place = Some(sdu),
+        None => unreachable!(),
     }
 }
 

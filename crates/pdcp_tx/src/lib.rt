@@ -10,6 +10,8 @@ mod pdcp_tx;
 mod security;
 mod sender;
 
+pub use l2_bits::SubmitRefusal;
 pub use laws::{takes_in_order, takes_the_head};
+pub use pdcp_pdu::PdcpKind;
 pub use pdcp_tx::{Kept, PdcpTx};
 pub use sender::Next;

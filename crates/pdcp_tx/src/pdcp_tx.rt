@@ -4,7 +4,7 @@ ghost use Rattle.std.specs.Prelude.{◌≡◌, ◌+◌, ◌*◌, ◌<◌, ◌≤
 ghost use Rattle.l2_bits.specs.declared.fault.SubmitRefusal.TheVariants as refusals;
 ghost use Rattle.pdcp_pdu.specs.Kinds.{IsKind};
 ghost use Rattle.pdcp_sec.specs.Protection.{protection_of};
-ghost use Rattle.pdcp_tx.specs.State.{HasSize, start, refusal, IsAnswer, submitted, offers, sizes, left, taking, took, confirmed, fms_count, reported, owing, ticked, late_length, after_late, restarted};
+ghost use Rattle.pdcp_tx.specs.State.{HasSize, IsShort, start, refusal, IsAnswer, submitted, offers, sizes, left, taking, took, confirmed, fms_count, reported, owing, ticked, late_length, after_late, restarted};
 ghost use Rattle.pdcp_tx.specs.Entity.{alive, KeepsOrDies};
 
 use crate::sender::{Next, Sender};
@@ -120,10 +120,11 @@ impl PdcpTx {
         self.sender.left()
     }
 
-    /// Takes the first of what may be taken; `None` exactly where nothing may be. A PDU has 1 to 8193 octets.
+    /// Takes the first of what may be taken; `None` exactly where nothing may be. A PDU has 1 to 8193 octets, if the
+    /// report that is owed has.
     pub fn next_pdu(&mut self) -> Result<Option<Next>, NoMemory>
         ensures answer { IfOk result (λ next. next ≡ taking self.old.state) }
-        ensures size { IfOk result (λ next. IfSome next HasSize) }
+        ensures size { IfSome self.old.state.owed IsShort → IfOk result (λ next. IfSome next HasSize) }
         ensures state { OnOk result (self.new ≡ alive (took self.old.state)) }
         ensures dead { IsTrue self.old.dead → IsErr result }
         ensures err { OnErr result (IsTrue self.new.dead) }
@@ -155,8 +156,6 @@ impl PdcpTx {
 
     /// The own status report is to be taken, before any SDU. It replaces one that isn't taken yet.
     pub fn owe(&mut self, report: Bytes)
-        requires some { 1 ≤ length report }
-        requires few { length report ≤ 8193 }
         ensures { self.new ≡ record self.old { state = owing self.old.state report } }
     {
         self.sender.owe(report)

@@ -45,15 +45,15 @@ pub struct Sender {
 }
 
 impl Model for Sender {
-    ghost use Rattle.std.specs.Prelude.{◌+◌, ◌≤◌, ◌^◌, length, IfSome};
+    ghost use Rattle.std.specs.Prelude.{◌+◌, ◌≤◌, ◌^◌, length};
     ghost use Rattle.pdcp_pdu.specs.Kinds.{IsKind};
-    ghost use Rattle.pdcp_tx.specs.State.{State, IsShort};
+    ghost use Rattle.pdcp_tx.specs.State.{State};
 
     ghost Value = { State };
 
     ghost view = { λ s. record { kind = s.kind; protection = s.security; next = s.next; base = s.base; bound = s.bound; owed = s.owed; reporting = s.reporting; given = s.given; again = s.again; waiting = s.waiting; clock = s.clock; discard = s.discard } };
 
-    ghost invariant = { λ s. (s.next + length s.waiting ≤ 2 ^ 32) × (s.base ≤ 2 ^ 32) × IsKind s.kind × IfSome s.owed IsShort };
+    ghost invariant = { λ s. (s.next + length s.waiting ≤ 2 ^ 32) × (s.base ≤ 2 ^ 32) × IsKind s.kind };
 }
 
 impl Sender {
@@ -146,7 +146,7 @@ impl Sender {
     #[tactic(auto, unfolding(crate::specs::State::offers), using(crate::proofs::Offers::octets_are))]
     pub fn octets(&self) -> u64
         ensures value { result ≡ sizes self.now.kind (offers self.now) }
-        ensures below { result < 2 ^ 63 + 2 ^ 37 }
+        ensures below { result < 2 ^ 63 + 2 ^ 62 + 2 ^ 37 }
     {
         let room = self.room();
         let extra = extra(self.kind);
@@ -179,7 +179,7 @@ impl Sender {
 
     fn owed_octets(&self) -> u64
         ensures value { result ≡ or_else (option_map length self.now.owed) 0 }
-        ensures below { result ≤ 8193 }
+        ensures below { result < 2 ^ 63 }
     {
         match &self.owed {
             Some(report) => report.as_slice().len() as u64,
@@ -191,7 +191,7 @@ impl Sender {
     #[tactic(auto, unfolding(crate::specs::State::took, crate::specs::State::taking, crate::specs::State::offers))]
     pub fn next_pdu(&mut self) -> Result<Option<Next>, NoMemory>
         ensures answer { IfOk result (λ next. next ≡ taking self.old) }
-        ensures size { IfOk result (λ next. IfSome next HasSize) }
+        ensures size { IfSome self.old.owed IsShort → IfOk result (λ next. IfSome next HasSize) }
         ensures state { OnOk result (self.new ≡ took self.old) }
     {
         match self.owed.take() {
@@ -201,10 +201,9 @@ impl Sender {
     }
 
     fn take_report(&mut self, report: Bytes) -> Result<Option<Next>, NoMemory>
-        requires owed { self.old.owed ≡ None }
-        requires short { IsShort report }
+        requires { self.old.owed ≡ None }
         ensures answer { IfOk result (λ next. next ≡ Some (written self.old.kind self.old.protection None report)) }
-        ensures size { IfOk result (λ next. IfSome next HasSize) }
+        ensures size { IsShort report → IfOk result (λ next. IfSome next HasSize) }
         ensures state { OnOk result (self.new ≡ record self.old { given = with_entry self.old.given Own }) }
     {
         self.given.push(Entry::Own)?;
@@ -337,8 +336,6 @@ impl Sender {
 
     /// A status report is to be sent.
     pub fn owe(&mut self, report: Bytes)
-        requires some { 1 ≤ length report }
-        requires few { length report ≤ 8193 }
         ensures { self.new ≡ owing self.old report }
     {
         self.owed = Some(report);

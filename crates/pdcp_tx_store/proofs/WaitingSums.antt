@@ -1,5 +1,6 @@
--- Sums of lengths by what was submitted before.
-use Rattle.std.proofs.Common.{◌≡◌, ◌≤◌, ℕ, suc, zero, ◌+◌, List, [], ◌∷◌, ◌++◌, length, drop, take, map, refl, ap, sym, ◌∙◌, arith}
+-- Sums of lengths by what was submitted before, and what stands at a place.
+use Rattle.std.proofs.Common.{◌≡◌, ◌≤◌, ℕ, suc, zero, ◌+◌, List, [], ◌∷◌, ◌++◌, length, drop, take, map, slice_get, Option, Some, None, Bor, refl, ap, sym, ◌∙◌, arith}
+use Rattle.std.specs.Prelude.{option_map, option_copied, MatchOption}
 use Rattle.pdcp_tx_store.specs.declared.waiting.Waiting.{Waiting}
 use Rattle.pdcp_tx_store.specs.Waiting.{waits, length_all, start_of, AreSummed}
 
@@ -32,3 +33,24 @@ pub sum_below : (ws : List Waiting) (end k : ℕ) → AreSummed ws end → lengt
 sum_below ws end k h = omega (arith, start_first ws end k h, start_below ws end k h)
 
 pub ruleset firsts = (start_first, sum_below)
+
+-- the first that waits
+pub first_waits : (r : Option (Bor Waiting)) (ws : List Waiting) → option_copied r ≡ slice_get ws 0 → MatchOption r (map waits ws ≡ []) (λ w. slice_get (map waits ws) 0 ≡ Some (waits w.now))
+first_waits None [] e = refl
+first_waits None (w ∷ ws) e = cc
+first_waits (Some b) [] e = cc
+first_waits (Some b) (w ∷ ws) e = ap (λ o. option_map waits o) (sym e)
+
+-- what was submitted before the one at a place, or in all
+pub start_there : (ws : List Waiting) (at end : ℕ) (w : Waiting) → Some w ≡ slice_get ws at → w.before ≡ start_of (drop at ws) end
+start_there [] at end w e = cc
+start_there (x ∷ xs) zero end w e = let same : w ≡ x = cc in ap (λ (v : Waiting). v.before) same
+start_there (x ∷ xs) (suc at) end w e = start_there xs at end w e
+
+pub start_past : (ws : List Waiting) (at end : ℕ) → None ≡ slice_get ws at → end ≡ start_of (drop at ws) end
+start_past [] zero end e = refl
+start_past [] (suc at) end e = refl
+start_past (x ∷ xs) zero end e = cc
+start_past (x ∷ xs) (suc at) end e = start_past xs at end e
+
+pub ruleset starts = (start_there, start_past)

@@ -11,7 +11,7 @@ use std::marker::Model;
 use std::mem;
 
 /// Fewer octets than this are ever kept.
-const LIMIT: u64 = 1 << 62;
+const LIMIT: u64 = 1 << 61;
 
 /// SDUs in the order of their COUNTs. One that a report confirmed stays as `Gone` until it comes to the front; a
 /// contract sees only the others.
@@ -31,7 +31,7 @@ impl Model for Again {
 
     ghost view = { λ a. data_of a.ring.items };
 
-    ghost invariant = { λ a. (a.count ≡ length (data_of a.ring.items)) × (a.octets ≡ sent_octets (data_of a.ring.items)) × (a.count ≤ 2 ^ 32) × (a.octets ≤ 2 ^ 62) };
+    ghost invariant = { λ a. (a.count ≡ length (data_of a.ring.items)) × (a.octets ≡ sent_octets (data_of a.ring.items)) × (a.count ≤ 2 ^ 32) × (a.octets ≤ 2 ^ 61) };
 }
 
 impl Again {
@@ -57,7 +57,7 @@ impl Again {
     /// The octets of all SDUs.
     pub fn octets(&self) -> u64
         ensures value { result ≡ sent_octets self.now }
-        ensures below { result ≤ 2 ^ 62 }
+        ensures below { result ≤ 2 ^ 61 }
     {
         self.octets
     }
@@ -200,9 +200,9 @@ fn hear_data(ring: &mut VecDeque<Entry>, from: u64, bitmap: &[u8])
 // Whether so many more SDUs and octets than a ring has stay within what may be kept.
 fn has_room(ring: &VecDeque<Entry>, count: u64, octets: u64) -> bool
     requires count { count ≤ 2 ^ 32 }
-    requires octets { octets ≤ 2 ^ 62 }
+    requires octets { octets ≤ 2 ^ 61 }
     ensures count { result ≡ true → length (data_of ring.now.items) + count ≤ 2 ^ 32 }
-    ensures octets { result ≡ true → sent_octets (data_of ring.now.items) + octets ≤ 2 ^ 62 }
+    ensures octets { result ≡ true → sent_octets (data_of ring.now.items) + octets ≤ 2 ^ 61 }
 {
     match (count_within(ring), octets_within(ring)) {
         (Some(more), Some(further)) => more <= (1 << 32) - count && further <= LIMIT - octets,

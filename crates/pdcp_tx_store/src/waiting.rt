@@ -5,12 +5,12 @@ ghost use Rattle.pdcp_tx_store.specs.Waiting.{waits, length_all, start_of};
 
 use crate::sdu::Sdu;
 use l2_bits::NoMemory;
+use l2_ring::Ring;
 use std::alloc::Global;
-use std::collections::VecDeque;
 use std::marker::Model;
 
 /// Fewer octets than this are ever submitted, so that sums of them are small.
-const LIMIT: u64 = 1 << 62;
+const LIMIT: u64 = 1 << 61;
 
 /// An SDU that waits, the TTIs that had begun as it was submitted, and the octets that were submitted before it.
 #[derive(Drop)]
@@ -23,7 +23,7 @@ pub struct Waiting {
 /// The SDUs that wait. The octets of the first few are the difference of two marks, whatever their number.
 #[derive(Drop)]
 pub struct Queue {
-    ring: VecDeque<Waiting>,
+    ring: Ring<Waiting>,
     end: u64,
 }
 
@@ -33,9 +33,9 @@ impl Model for Queue {
 
     ghost Value = { List Waits };
 
-    ghost view = { λ q. map waits q.ring.items };
+    ghost view = { λ q. map waits q.ring };
 
-    ghost invariant = { λ q. AreSummed q.ring.items q.end × (q.end ≤ 2 ^ 62) };
+    ghost invariant = { λ q. AreSummed q.ring q.end × (q.end ≤ 2 ^ 61) };
 }
 
 impl Queue {
@@ -44,7 +44,7 @@ impl Queue {
         ensures { result ≡ [] }
     {
         Queue {
-            ring: VecDeque::new(alloc),
+            ring: Ring::new(alloc),
             end: 0,
         }
     }
@@ -67,13 +67,18 @@ impl Queue {
         if end >= LIMIT {
             return Err(NoMemory);
         }
-        self.ring.push_back(Waiting {
+        let one = Waiting {
             octets,
             born,
             before,
-        })?;
-        self.end = end;
-        Ok(())
+        };
+        match self.ring.push_back(one) {
+            Ok(()) => {
+                self.end = end;
+                Ok(())
+            }
+            Err((_, no_memory)) => Err(no_memory),
+        }
     }
 
     /// Takes out the first SDU.
@@ -85,6 +90,7 @@ impl Queue {
     }
 
     /// The first SDU.
+    #[tactic(auto, using(crate::proofs::WaitingSums::first_waits))]
     pub fn front(&self) -> Option<&Waiting>
         ensures { MatchOption result (self.now ≡ []) (λ w. slice_get self.now 0 ≡ Some (waits w.now)) }
     {
@@ -95,15 +101,16 @@ impl Queue {
     #[tactic(auto, using(crate::proofs::WaitingSums::firsts))]
     pub fn octets(&self, count: usize) -> u64
         ensures value { result ≡ length_all (take count self.now) }
-        ensures below { result ≤ 2 ^ 62 }
+        ensures below { result ≤ 2 ^ 61 }
     {
         start_at(&self.ring, self.end, count) - start_at(&self.ring, self.end, 0)
     }
 }
 
 // The octets that were submitted before the SDU at a place.
-fn start_at(ring: &VecDeque<Waiting>, end: u64, at: usize) -> u64
-    ensures { result ≡ start_of (drop at ring.now.items) end }
+#[tactic(auto, using(crate::proofs::WaitingSums::starts))]
+fn start_at(ring: &Ring<Waiting>, end: u64, at: usize) -> u64
+    ensures { result ≡ start_of (drop at ring.now) end }
 {
     match ring.get(at) {
         Some(one) => one.before,

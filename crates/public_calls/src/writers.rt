@@ -5,7 +5,7 @@ ghost use Rattle.std.specs.Prelude.{◌<◌, ◌≤◌, length};
 use crate::fault::Fault;
 use l2_bits::{Bytes, NoMemory};
 use mac_pdu::{Bsr, Control, Direction, MacBuilder};
-use pdcp_pdu::{write_long_report, write_report, write_srb_message, write_user};
+use pdcp_pdu::{write_long_report, write_report, write_srb, write_user};
 use rlc_pdu::{Nack, Nacks, Part, Segment, write_amd, write_status, write_umd};
 use std::alloc::Global;
 
@@ -44,11 +44,11 @@ pub fn rlc(alloc: Global, name: &str) -> Result<Bytes, Fault> {
 /// The PDU of PDCP that has the name.
 pub fn pdcp(alloc: Global, name: &str) -> Result<Bytes, Fault> {
     Ok(match name {
-        "user-7" => Bytes::from_vec(write_user(alloc, 7, 127, &[1])?),
-        "user-12" => Bytes::from_vec(write_user(alloc, 12, 4095, &[1])?),
-        "user-12-first" => Bytes::from_vec(write_user(alloc, 12, 0, &[0xaa])?),
-        "user-15" => Bytes::from_vec(write_user(alloc, 15, 32767, &[1])?),
-        "signalling" => Bytes::from_vec(write_srb_message(alloc, 5, &[0xaa])?),
+        "user-7" => write_user(alloc, 7, 127, &[1])?,
+        "user-12" => write_user(alloc, 12, 4095, &[1])?,
+        "user-12-first" => write_user(alloc, 12, 0, &[0xaa])?,
+        "user-15" => write_user(alloc, 15, 32767, &[1])?,
+        "signalling" => write_srb(alloc, 5, &[0xaa], &[0xde, 0xad, 0xbe, 0xef])?,
         "report" => write_report(alloc, 0, &[])?,
         "report-12" => write_report(alloc, 1, &[0x80])?,
         "report-15" => write_long_report(alloc, 1, &[0x80])?,

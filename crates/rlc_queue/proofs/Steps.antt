@@ -1,5 +1,5 @@
 -- Where no further element fits, or nothing waits.
-use Rattle.std.proofs.Common.{◌≡◌, ℕ, Bool, List, [], ◌∷◌, ◌++◌, length, map, refl, ap, sym, ◌∙◌, ◌<◌, ◌≤◌, ◌+◌, ◌⊎◌, true, false, inl, inr, ◌&&◌, nat_lt, drop, take, slice_index_or, arith, drop-cons, add-one, subst, if◌then◌else◌}
+use Rattle.std.proofs.Common.{◌≡◌, ℕ, Bool, List, [], ◌∷◌, ◌++◌, length, length-append, map, refl, ap, sym, ◌∙◌, ◌<◌, ◌≤◌, ◌+◌, ◌⊎◌, true, false, inl, inr, ◌&&◌, nat_lt, drop, take, slice_index_or, arith, drop-cons, add-one, subst, if◌then◌else◌}
 use Rattle.std.proofs.lemmas.List.{append-nil, drop_all, length-drop, length-take, drop-drop}
 use Rattle.std.proofs.lemmas.Grind.{common_steps}
 use Rattle.std.proofs.lemmas.Bool.Decides.{nat_tests}
@@ -80,7 +80,10 @@ some-append (y ∷ ys) x some one = (some.0, some-append ys x some.1 one)
 pub some-push : (n : ℕ) (sdus : List (List ℕ)) (x : List ℕ) → (n ≡ 0) ⊎ (n < length (first sdus)) → HaveOctets (unsent n sdus) → 1 ≤ length x → HaveOctets (unsent n (sdus ++ x ∷ []))
 some-push n sdus x h some one = subst (λ (l : List (List ℕ)). HaveOctets l) (sym (unsent-push n sdus x h)) (some-append (unsent n sdus) x some one)
 
-pub ruleset pushes = (unsent-push, octets-unsent, still-within, some-push)
+pub push-length : (sdus : List (List ℕ)) (x : List ℕ) → length (sdus ++ x ∷ []) ≡ length sdus + 1
+push-length sdus x = length-append sdus (x ∷ [])
+
+pub ruleset pushes = (unsent-push, octets-unsent, still-within, some-push, push-length)
 
 -- what is left once some is taken
 pub unsent-more : (n most : ℕ) (sdus : List (List ℕ)) → most < length (first (unsent n sdus)) → unsent (n + most) sdus ≡ behind most (unsent n sdus)

@@ -3,8 +3,8 @@ ghost use Rattle.std.specs.Prelude.{◌≡◌, ◌<◌, ◌≤◌, ◌+◌, [], 
 ghost use Rattle.rlc_queue.specs.Waiting.{nothing_waits, with_sdu, HaveOctets, first, behind, total, wanted};
 
 use l2_bits::{Bytes, NoMemory};
+use l2_ring::Ring;
 use std::alloc::Global;
-use std::collections::VecDeque;
 use std::marker::Model;
 
 // From so many octets on the queue takes no more.
@@ -16,7 +16,7 @@ const COUNT: usize = 1 << 61;
 /// The SDUs that a sender was offered and hasn't wholly sent, in their order. Contracts see what is left of each.
 #[derive(Debug, Drop)]
 pub struct Queue {
-    sdus: VecDeque<Bytes>,
+    sdus: Ring<Bytes>,
     sent: usize,
     octets: u64,
 }
@@ -27,9 +27,9 @@ impl Model for Queue {
 
     ghost Value = { Waiting };
 
-    ghost view = { λ q. record { sdus = unsent q.sent q.sdus.items; begun = nat_lt 0 q.sent } };
+    ghost view = { λ q. record { sdus = unsent q.sent q.sdus; begun = nat_lt 0 q.sent } };
 
-    ghost invariant = { λ q. (q.octets < 2 ^ 63) × (length q.sdus.items ≤ 2 ^ 61) × ((q.sent ≡ 0) ⊎ (q.sent < length (first q.sdus.items))) × (total (unsent q.sent q.sdus.items) ≡ q.octets) × (HaveOctets (unsent q.sent q.sdus.items)) };
+    ghost invariant = { λ q. (q.octets < 2 ^ 63) × (length q.sdus ≤ 2 ^ 61) × ((q.sent ≡ 0) ⊎ (q.sent < length (first q.sdus))) × (total (unsent q.sent q.sdus) ≡ q.octets) × (HaveOctets (unsent q.sent q.sdus)) };
 }
 
 impl Queue {
@@ -38,7 +38,7 @@ impl Queue {
         ensures { result ≡ nothing_waits }
     {
         Queue {
-            sdus: VecDeque::new(alloc),
+            sdus: Ring::new(alloc),
             sent: 0,
             octets: 0,
         }
@@ -94,7 +94,7 @@ impl Queue {
                 self.octets += len as u64;
                 Ok(())
             }
-            Err(failed) => Err((failed.value, NoMemory)),
+            Err(failed) => Err(failed),
         }
     }
 
@@ -155,8 +155,8 @@ impl Queue {
 }
 
 // How many octets of the first SDU are sent once so many more are.
-fn sent_behind(sdus: &VecDeque<Bytes>, sent: usize, taken: usize) -> usize
-    requires { sent + taken ≤ length (first sdus.now.items) }
+fn sent_behind(sdus: &Ring<Bytes>, sent: usize, taken: usize) -> usize
+    requires { sent + taken ≤ length (first sdus.now) }
     ensures { result ≡ sent + taken }
 {
     match sdus.front() {

@@ -3,7 +3,8 @@ ghost use Rattle.rlc_queue.specs.NewPdu.{IsWithin};
 ghost use Rattle.rlc_queue.specs.Waiting.{total};
 ghost use Rattle.rlc_um.specs.Transparent.{nothing_submitted, refusal, IsAnswer, submitted, taken, after_take, need};
 
-use l2_bits::{Bytes, NoMemory, Packets, SubmitRefusal};
+use l2_bits::{Bytes, NoMemory, SubmitRefusal};
+use l2_ring::Ring;
 use rlc_pdu::Taken;
 use std::alloc::Global;
 use std::marker::Model;
@@ -16,7 +17,7 @@ const LIMIT: u64 = 1 << 62;
 pub struct TmTx {
     alloc: Global,
     next: u64,
-    waiting: Packets,
+    waiting: Ring<Bytes>,
     octets: u64,
 }
 
@@ -40,7 +41,7 @@ impl TmTx {
         TmTx {
             alloc,
             next: 0,
-            waiting: Packets::new(alloc),
+            waiting: Ring::new(alloc),
             octets: 0,
         }
     }
@@ -76,12 +77,12 @@ impl TmTx {
             return Err(NoMemory);
         }
         let len = sdu.as_slice().len();
-        match self.waiting.push(sdu) {
+        match self.waiting.push_back(sdu) {
             Ok(()) => {
                 self.octets += len as u64;
                 Ok(())
             }
-            Err(no_memory) => Err(no_memory),
+            Err((_, no_memory)) => Err(no_memory),
         }
     }
 
@@ -158,7 +159,7 @@ impl TmTx {
         ensures value { result ≡ option_map length (slice_get self.now.waiting 0) }
         ensures below { IfSome result (λ len. len < 2 ^ 63) }
     {
-        match self.waiting.get(0) {
+        match self.waiting.front() {
             Some(sdu) => Some(sdu.as_slice().len()),
             None => None,
         }
