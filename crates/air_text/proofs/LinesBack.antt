@@ -24,7 +24,7 @@ use Rattle.bearer_types.specs.declared.config.BearerConfig.{BearerConfig}
 use Rattle.text_digits.specs.Numerals.{is_digit, value_behind}
 use Rattle.air_text.specs.Fields.{cipher_of, kind_of, is_number, number_of, octets_of, side_of, clock_of, outcome_of, word_of}
 use Rattle.air_text.specs.Reading.{key_of, keys_of, handover_of, bearer_of, read_words, harq_of, bsr_of, submit_of, tti_of, expire_of, loop_of, loop_off_of, loop_a_of, loop_b_of, drain_of, forge_of, end_of, discard_of, drx_of}
-use Rattle.law_text.specs.Lines.{IsGoodBearer, IsGoodLine, spoken}
+use Rattle.air_text.specs.Spoken.{IsGoodBearer, IsGoodLine, spoken}
 use Rattle.air_record.specs.Text.{cipher_text, kind_text, side_text, clock_text, fate_text}
 
 own-line : IsNumeralModel (λ ds. list_all is_digit ds ≡ true) (value_behind 0)
