@@ -8,11 +8,11 @@ use Rattle.air_run.specs.Run.{fresh}
 use Rattle.air_run.specs.declared.refusal.Reason.TheVariants as reasons
 use Rattle.air_text.specs.declared.fault.LineRefusal.TheVariants.{Long}
 use Rattle.pdu_show.specs.Decoding.{undecoded}
-use Rattle.l2_top.specs.declared.engine.LineEnd.{LineEnd}
-use Rattle.l2_top.specs.declared.engine.LineEnd.TheVariants as ends
-use Rattle.l2_top.specs.declared.playing.Ending.{Ending}
-use Rattle.l2_top.specs.Plays.{RunsLine, Plays, HasPlayed}
-use Rattle.l2_top.specs.Engines.{Between, Running, Showing, lifted, played_from, showing, blocks_of}
+use Rattle.l2_commands.specs.declared.engine.LineEnd.{LineEnd}
+use Rattle.l2_commands.specs.declared.engine.LineEnd.TheVariants as ends
+use Rattle.l2_commands.specs.declared.playing.Ending.{Ending}
+use Rattle.l2_commands.specs.Plays.{RunsLine, Plays, HasPlayed}
+use Rattle.l2_commands.specs.Engines.{Between, Running, Showing, lifted, played_from, showing, blocks_of}
 
 some-of : {S T : Type 0} (f : S → T) (a b : S) → Some a ≡ Some b → Some (f a) ≡ Some (f b)
 some-of f a b e = let same : a ≡ b = cc in ap (λ s. Some (f s)) same

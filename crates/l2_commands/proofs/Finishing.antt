@@ -5,12 +5,13 @@ use Rattle.air_record.specs.Text.{texts_of}
 use Rattle.air_run.specs.Steps.{Finishes}
 use Rattle.air_run.specs.Run.{RunState, finish}
 use Rattle.air_run.specs.Journal.{script, finished}
+use Rattle.air_run.specs.declared.refusal.RunRefusal.{RunRefusal}
 use Rattle.air_run.specs.declared.refusal.StepFault.{StepFault}
 use Rattle.air_run.specs.declared.refusal.StepFault.TheVariants as faults
-use Rattle.l2_top.specs.declared.playing.Ending.{Ending}
-use Rattle.l2_top.specs.declared.playing.Ending.TheVariants as endings
-use Rattle.l2_top.specs.Plays.{state_of, Plays}
-use Rattle.l2_top.proofs.Nothing.{front_none}
+use Rattle.l2_commands.specs.declared.playing.Ending.{Ending}
+use Rattle.l2_commands.specs.declared.playing.Ending.TheVariants as endings
+use Rattle.l2_commands.specs.Plays.{state_of, Plays}
+use Rattle.l2_commands.proofs.Nothing.{front_none}
 
 -- the ending that an answer makes; a run isn't refused at its end
 abbrev pub ending_by : Result Unit StepFault → Ending
@@ -26,3 +27,9 @@ finish-plays (Some r) w w' fault (Ok u) h = (refl, h)
 finish-plays (Some r) w w' fault (Err faults.WriteFault) h = (h.1, h.0)
 finish-plays (Some r) w w' fault (Err faults.NoMemory) h = h
 finish-plays (Some r) w w' fault (Err (faults.Refused broken)) h = absurd h
+
+-- a run isn't refused at its end
+pub never-refused : (run : Option RunState) (w w' : Option (List ℕ)) (fault : Type 0) (result : Result Unit StepFault) (broken : RunRefusal)
+    → result ≡ Err (faults.Refused broken) → Finishes run w w' fault result → ⊥
+never-refused None w w' fault result broken is h = absurd cc
+never-refused (Some r) w w' fault result broken is h = absurd (rw is at h)

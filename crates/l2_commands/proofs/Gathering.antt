@@ -9,12 +9,12 @@ use Rattle.l2_io.specs.declared.sink.PutFault.TheVariants.{Failed, NoMemory}
 use Rattle.air_record.specs.Text.{texts_of}
 use Rattle.air_run.specs.Steps.{WritesFront}
 use Rattle.air_run.specs.Journal.{Player, Played, onto, finished, journal_from, journal_by}
-use Rattle.l2_top.specs.declared.playing.Ending.{Ending}
-use Rattle.l2_top.specs.declared.playing.Ending.TheVariants as endings
-use Rattle.l2_top.specs.Plays.{state_of, Plays, HasPlayed, GoesOn, IsOver, HasGathered, IsGathered, PutsRest, PutsSome}
-use Rattle.l2_top.proofs.Turning.{onwards}
-use Rattle.l2_top.proofs.Nothing.{after_none}
-use Rattle.l2_top.proofs.Parting.{begins, goes-on, goes-over, goes-played, over-played}
+use Rattle.l2_commands.specs.declared.playing.Ending.{Ending}
+use Rattle.l2_commands.specs.declared.playing.Ending.TheVariants as endings
+use Rattle.l2_commands.specs.Plays.{state_of, Plays, HasPlayed, GoesOn, IsOver, HasGathered, IsGathered, PutsRest, PutsSome}
+use Rattle.l2_commands.proofs.Turning.{onwards}
+use Rattle.l2_commands.proofs.Nothing.{after_none}
+use Rattle.l2_commands.proofs.Parting.{begins, goes-on, goes-over, goes-played, over-played}
 
 -- the octets that a known text is
 same-octets : (a b : List ℕ) → Some a ≡ after (Some []) b → a ≡ b

@@ -4,7 +4,7 @@ use Rattle.l2_io.specs.Known.{after}
 use Rattle.air_record.specs.Text.{texts_of}
 use Rattle.air_run.specs.Steps.{WritesFront}
 use Rattle.air_run.specs.Journal.{Outcome, Goes, Ends, Refuses}
-use Rattle.l2_top.specs.Plays.{HasPart}
+use Rattle.l2_commands.specs.Plays.{HasPart}
 
 pub after_none : (written : Option (List ℕ)) → written ≡ after written []
 after_none None = refl

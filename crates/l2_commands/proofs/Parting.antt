@@ -8,12 +8,12 @@ use Rattle.l2_io.proofs.Reading.{before-before, before-nothing}
 use Rattle.air_record.specs.declared.record.Record.{Record}
 use Rattle.air_record.specs.Text.{texts_of}
 use Rattle.air_run.specs.Steps.{WritesFront}
-use Rattle.l2_top.specs.declared.playing.Ending.{Ending}
-use Rattle.l2_top.specs.declared.playing.Ending.TheVariants as endings
+use Rattle.l2_commands.specs.declared.playing.Ending.{Ending}
+use Rattle.l2_commands.specs.declared.playing.Ending.TheVariants as endings
 use Rattle.air_run.specs.Journal.{Player, Played, onto, finished, journal_from, journal_by}
-use Rattle.l2_top.specs.Plays.{state_of, Plays, HasPlayed, GoesOn, IsOver}
-use Rattle.l2_top.proofs.Turning.{onwards}
-use Rattle.l2_top.proofs.Nothing.{after_none, front_none}
+use Rattle.l2_commands.specs.Plays.{state_of, Plays, HasPlayed, GoesOn, IsOver}
+use Rattle.l2_commands.proofs.Turning.{onwards}
+use Rattle.l2_commands.proofs.Nothing.{after_none, front_none}
 
 -- a part and what was written after it
 pub texts-onto : (part later : List Record) (w w' w'' : Option (List ℕ)) → w' ≡ after w (texts_of part) → w'' ≡ after w' (texts_of later)

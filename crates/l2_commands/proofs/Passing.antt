@@ -15,13 +15,13 @@ use Rattle.air_run.specs.declared.refusal.Reason.{Reason}
 use Rattle.air_run.specs.declared.refusal.Reason.TheVariants as reasons
 use Rattle.air_run.proofs.Cutting.{lines-line, tail-line}
 use Rattle.script_generator.specs.Lines.{Says, SayAll}
-use Rattle.l2_top.specs.declared.engine.LineEnd.TheVariants as ends
-use Rattle.l2_top.specs.declared.playing.Ending.{Ending}
-use Rattle.l2_top.specs.declared.playing.Ending.TheVariants as endings
-use Rattle.l2_top.specs.Plays.{RunsLine, Plays, HasPlayed}
-use Rattle.l2_top.specs.Engines.{muted, summing, sums_of, PassesLines}
-use Rattle.l2_top.proofs.Nothing.{after_none, front_none}
-use Rattle.l2_top.proofs.Parting.{plays-by}
+use Rattle.l2_commands.specs.declared.engine.LineEnd.TheVariants as ends
+use Rattle.l2_commands.specs.declared.playing.Ending.{Ending}
+use Rattle.l2_commands.specs.declared.playing.Ending.TheVariants as endings
+use Rattle.l2_commands.specs.Plays.{RunsLine, Plays, HasPlayed}
+use Rattle.l2_commands.specs.Engines.{muted, summing, sums_of, PassesLines}
+use Rattle.l2_commands.proofs.Nothing.{after_none, front_none}
+use Rattle.l2_commands.proofs.Parting.{plays-by}
 
 feed-parts : (x : ℕ) (xs : List ℕ) → until_feed (x ∷ xs) ≡ x ∷ xs → ((x == 10) ≡ false) × (until_feed xs ≡ xs)
 feed-parts x xs h =

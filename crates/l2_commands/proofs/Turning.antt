@@ -15,11 +15,11 @@ use Rattle.air_record.specs.Text.{texts_of}
 use Rattle.air_run.specs.Steps.{WritesFront}
 use Rattle.air_run.specs.declared.refusal.Reason.{Reason}
 use Rattle.air_run.specs.declared.refusal.Reason.TheVariants as reasons
-use Rattle.l2_top.specs.declared.playing.Ending.TheVariants as endings
+use Rattle.l2_commands.specs.declared.playing.Ending.TheVariants as endings
 use Rattle.air_run.specs.Journal.{Player, Outcome, Goes, Ends, Refuses, Played, onto, finished, refused, waiting, follow, journal_from}
-use Rattle.l2_top.specs.Plays.{HasGone, HasEnded, HasPart, HasPlayed, GoesOn, IsOver}
+use Rattle.l2_commands.specs.Plays.{HasGone, HasEnded, HasPart, HasPlayed, GoesOn, IsOver}
 use Rattle.air_run.proofs.Parts.{journal-line, journal-line-more, journal-last, journal-end, journal-waits, journal-long, journal-many, line-runs, last-runs}
-use Rattle.l2_top.proofs.Nothing.{after_none}
+use Rattle.l2_commands.proofs.Nothing.{after_none}
 
 -- an open cutter read on
 pub advances-open : (old : Cutter) (left left' : Option (List ℕ)) (fault : Type 0) (turn : Turn) (new : Cutter)

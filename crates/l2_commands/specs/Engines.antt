@@ -5,12 +5,13 @@ use Rattle.air_record.specs.declared.record.Record.{Record}
 use Rattle.air_text.specs.declared.fault.LineRefusal.{LineRefusal}
 use Rattle.air_run.specs.Run.{RunState, fresh, finish}
 use Rattle.air_run.specs.Journal.{Player, Outcome, Goes, Ends, Refuses, Played, script, script_line, finished, journal_by}
+pub use Rattle.air_run.specs.Journal.{journal_of}
 use Rattle.air_run.specs.declared.refusal.Reason.TheVariants as reasons
 use Rattle.pdu_show.specs.Decoding.{Decoding, Decoded, undecoded, decode_line}
-use Rattle.l2_top.specs.Plays.{state_of, Plays}
-use Rattle.l2_top.specs.declared.playing.Ending.{Ending}
-use Rattle.l2_top.specs.declared.engine.Engine.{Engine}
-use Rattle.l2_top.specs.declared.engine.Engine.TheVariants as engines
+use Rattle.l2_commands.specs.Plays.{state_of, Plays}
+use Rattle.l2_commands.specs.declared.playing.Ending.{Ending}
+use Rattle.l2_commands.specs.declared.engine.Engine.{Engine}
+use Rattle.l2_commands.specs.declared.engine.Engine.TheVariants as engines
 
 -- ---- blocks are shown
 

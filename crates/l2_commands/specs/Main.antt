@@ -10,11 +10,12 @@ use Rattle.air_run.specs.Steps.{WritesFront}
 use Rattle.air_run.specs.Journal.{Finished, Refused, Waiting, Played}
 use Rattle.air_run.specs.declared.refusal.Reason.{Reason}
 use Rattle.air_run.specs.declared.refusal.Reason.TheVariants as reasons
-use Rattle.l2_top.specs.Engines.{sums_of}
-use Rattle.l2_top.specs.declared.playing.Ending.{Ending}
-use Rattle.l2_top.specs.declared.playing.Ending.TheVariants as endings
-use Rattle.l2_top.specs.declared.status.Status.{Status}
-use Rattle.l2_top.specs.declared.status.Status.TheVariants as statuses
+use Rattle.l2_commands.specs.Engines.{sums_of}
+use Rattle.l2_commands.specs.Streams.{Output, Streams, HasFailed, RanShort}
+use Rattle.l2_commands.specs.declared.playing.Ending.{Ending}
+use Rattle.l2_commands.specs.declared.playing.Ending.TheVariants as endings
+use Rattle.l2_commands.specs.declared.status.Status.{Status}
+use Rattle.l2_commands.specs.declared.status.Status.TheVariants as statuses
 
 -- the exit code of an answer
 abbrev pub code_of : Status → ℕ
@@ -63,72 +64,94 @@ abbrev pub no_memory_text : List ℕ
 no_memory_text = codes "out of memory" ++ 10 ∷ []
 
 -- a text was put to errs: all of it, or a front where errs failed, or nothing where it had no memory
-pub record Tells (text : List ℕ) (errs errs' : Option (List ℕ)) (fault shortage : Type 0) : Type 0 where
+pub record Tells (text : List ℕ) (errs errs' : Output) : Type 0 where
   pub told : List ℕ
-  pub errs_is : errs' ≡ after errs told
-  pub cause : (told ≡ text) ⊎ (IsFront told text × fault) ⊎ ((told ≡ []) × shortage)
+  pub errs_is : errs'.written ≡ after errs.written told
+  pub cause : (told ≡ text) ⊎ (IsFront told text × HasFailed errs errs')
+      ⊎ ((told ≡ []) × RanShort errs errs')
 
 -- out has the journal
-abbrev pub HasAll : Played → Option (List ℕ) → Option (List ℕ) → Type 0
-HasAll played out out' = out' ≡ after out (texts_of played.journal)
+abbrev pub HasAll : Played → Output → Output → Type 0
+HasAll played out out' = out'.written ≡ after out.written (texts_of played.journal)
 
 -- out has a front of the journal
-abbrev pub HasFront : Played → Option (List ℕ) → Option (List ℕ) → Type 0
-HasFront played out out' = WritesFront (texts_of played.journal) out out'
+abbrev pub HasFront : Played → Output → Output → Type 0
+HasFront played out out' = WritesFront (texts_of played.journal) out.written out'.written
 
 -- a line was refused, and all before it was written
-pub record IsRefused (played : Played) (out out' : Option (List ℕ)) : Type 0 where
+pub record IsRefused (played : Played) (out out' : Output) : Type 0 where
   pub number : ℕ
   pub reason : Reason
   pub close : played.close ≡ Refused number reason
   pub journal : HasAll played out out'
 
 -- what out and errs hold, by the answer
-abbrev pub Row : Played → Option (List ℕ) → Option (List ℕ) → Option (List ℕ) → Option (List ℕ) → Type 0 → Type 0 → Type 0 → Type 0 → Status → Type 0
-Row played out out' errs errs' in_fault out_fault errs_fault shortage statuses.Done = (played.close ≡ Finished) × HasAll played out out' × (errs' ≡ errs)
-Row played out out' errs errs' in_fault out_fault errs_fault shortage statuses.Usage = ⊥
-Row played out out' errs errs' in_fault out_fault errs_fault shortage statuses.Refused =
-    (r : IsRefused played out out') × (errs' ≡ after errs (refused_text r.number r.reason))
-Row played out out' errs errs' in_fault out_fault errs_fault shortage statuses.ReadFault =
-    (played.close ≡ Waiting) × HasAll played out out' × in_fault × Tells read_fault_text errs errs' errs_fault shortage
-Row played out out' errs errs' in_fault out_fault errs_fault shortage statuses.WriteFault =
-    (HasFront played out out' × out_fault × Tells write_fault_text errs errs' errs_fault shortage)
-    ⊎ ((r : IsRefused played out out') × WritesFront (refused_text r.number r.reason) errs errs' × errs_fault)
-Row played out out' errs errs' in_fault out_fault errs_fault shortage statuses.NoMemory =
-    HasFront played out out' × Tells no_memory_text errs errs' errs_fault shortage
+abbrev pub Row : Played → Streams → Streams → Status → Type 0
+Row played old new statuses.Done =
+    (played.close ≡ Finished) × HasAll played old.out new.out
+    × (new.errs.written ≡ old.errs.written)
+Row played old new statuses.Usage = ⊥
+Row played old new statuses.Refused =
+    (r : IsRefused played old.out new.out)
+    × (new.errs.written ≡ after old.errs.written (refused_text r.number r.reason))
+Row played old new statuses.ReadFault =
+    (played.close ≡ Waiting) × HasAll played old.out new.out
+    × HasRisen old.source.faults new.source.faults × Tells read_fault_text old.errs new.errs
+Row played old new statuses.WriteFault =
+    (HasFront played old.out new.out × HasFailed old.out new.out
+    × Tells write_fault_text old.errs new.errs)
+    ⊎ ((r : IsRefused played old.out new.out)
+    × WritesFront (refused_text r.number r.reason) old.errs.written new.errs.written
+    × HasFailed old.errs new.errs)
+Row played old new statuses.NoMemory =
+    HasFront played old.out new.out × Tells no_memory_text old.errs new.errs
 
 -- what a command did with the octets that the source gave, by the journal that it makes of octets
-pub record Runs (journal : Bool → List ℕ → Played) (left left' out out' errs errs' : Option (List ℕ)) (in_fault out_fault errs_fault shortage : Type 0) (status : Status) : Type 0 where
+pub record Runs (journal : Bool → List ℕ → Played) (old new : Streams) (status : Status) : Type 0 where
   pub given : List ℕ
-  pub left_is : left ≡ before given left'
+  pub left_is : old.source.left ≡ before given new.source.left
   -- whether these were all
   pub whole : Bool
-  pub end : whole ≡ true → IsAtEnd left'
-  pub row : Row (journal whole given) out out' errs errs' in_fault out_fault errs_fault shortage status
+  pub end : whole ≡ true → IsAtEnd new.source.left
+  pub row : Row (journal whole given) old new status
+
+-- streams whose source is a text that never fails
+abbrev pub over : Option (List ℕ) → Output → Output → Streams
+over left out errs =
+    record { source = record { left = left; faults = 0 }; out = out; errs = errs }
 
 -- what `generate` did: what a run of its script does, which writes the sums alone
-abbrev pub Generates : ℕ → Option (List ℕ) → Option (List ℕ) → Option (List ℕ) → Option (List ℕ) → Type 0 → Type 0 → Type 0 → Status → Type 0
-Generates number out out' errs errs' out_fault errs_fault shortage status =
-    (left : Option (List ℕ)) × Runs sums_of (Some (script number)) left out out' errs errs' (HasRisen 0 0) out_fault errs_fault shortage status
+abbrev pub Generates : ℕ → Output → Output → Output → Output → Status → Type 0
+Generates number out out' errs errs' status =
+    (left : Option (List ℕ))
+    × Runs sums_of (over (Some (script number)) out errs) (over left out' errs') status
 
 -- the words are no command
-abbrev pub Refuses : Option (List ℕ) → Option (List ℕ) → Type 0 → Type 0 → Status → Type 0
-Refuses errs errs' errs_fault shortage statuses.Usage = errs' ≡ after errs usage_text
-Refuses errs errs' errs_fault shortage statuses.WriteFault = WritesFront usage_text errs errs' × errs_fault
-Refuses errs errs' errs_fault shortage statuses.NoMemory = Tells no_memory_text errs errs' errs_fault shortage
-Refuses errs errs' errs_fault shortage status = ⊥
+abbrev pub Refuses : Output → Output → Status → Type 0
+Refuses errs errs' statuses.Usage = errs'.written ≡ after errs.written usage_text
+Refuses errs errs' statuses.WriteFault =
+    WritesFront usage_text errs.written errs'.written × HasFailed errs errs'
+Refuses errs errs' statuses.NoMemory = Tells no_memory_text errs errs'
+Refuses errs errs' status = ⊥
 
 -- a refused line is told
-abbrev pub TellsRefusal : ℕ → Reason → Option (List ℕ) → Option (List ℕ) → Type 0 → Type 0 → Status → Type 0
-TellsRefusal number reason errs errs' errs_fault shortage statuses.Refused = errs' ≡ after errs (refused_text number reason)
-TellsRefusal number reason errs errs' errs_fault shortage statuses.WriteFault = WritesFront (refused_text number reason) errs errs' × errs_fault
-TellsRefusal number reason errs errs' errs_fault shortage statuses.NoMemory = Tells no_memory_text errs errs' errs_fault shortage
-TellsRefusal number reason errs errs' errs_fault shortage status = ⊥
+abbrev pub TellsRefusal : ℕ → Reason → Output → Output → Status → Type 0
+TellsRefusal number reason errs errs' statuses.Refused =
+    errs'.written ≡ after errs.written (refused_text number reason)
+TellsRefusal number reason errs errs' statuses.WriteFault =
+    WritesFront (refused_text number reason) errs.written errs'.written × HasFailed errs errs'
+TellsRefusal number reason errs errs' statuses.NoMemory = Tells no_memory_text errs errs'
+TellsRefusal number reason errs errs' status = ⊥
 
 -- an ending is told: the text of its cause, or none where all is done
-abbrev pub TellsEnding : Ending → Option (List ℕ) → Option (List ℕ) → Type 0 → Type 0 → Status → Type 0
-TellsEnding endings.Done errs errs' errs_fault shortage status = (status ≡ statuses.Done) × (errs' ≡ errs)
-TellsEnding (endings.Refused number reason) errs errs' errs_fault shortage status = TellsRefusal number reason errs errs' errs_fault shortage status
-TellsEnding endings.ReadFault errs errs' errs_fault shortage status = (status ≡ statuses.ReadFault) × Tells read_fault_text errs errs' errs_fault shortage
-TellsEnding endings.WriteFault errs errs' errs_fault shortage status = (status ≡ statuses.WriteFault) × Tells write_fault_text errs errs' errs_fault shortage
-TellsEnding endings.NoMemory errs errs' errs_fault shortage status = (status ≡ statuses.NoMemory) × Tells no_memory_text errs errs' errs_fault shortage
+abbrev pub TellsEnding : Ending → Output → Output → Status → Type 0
+TellsEnding endings.Done errs errs' status =
+    (status ≡ statuses.Done) × (errs'.written ≡ errs.written)
+TellsEnding (endings.Refused number reason) errs errs' status =
+    TellsRefusal number reason errs errs' status
+TellsEnding endings.ReadFault errs errs' status =
+    (status ≡ statuses.ReadFault) × Tells read_fault_text errs errs'
+TellsEnding endings.WriteFault errs errs' status =
+    (status ≡ statuses.WriteFault) × Tells write_fault_text errs errs'
+TellsEnding endings.NoMemory errs errs' status =
+    (status ≡ statuses.NoMemory) × Tells no_memory_text errs errs'

@@ -7,12 +7,12 @@ use Rattle.air_record.specs.declared.record.Record.{Record}
 use Rattle.air_record.specs.Text.{texts_of}
 use Rattle.air_run.specs.Steps.{WritesFront}
 use Rattle.air_run.specs.Journal.{Player, Outcome, Goes, Ends, Refuses, Finished, Refused, Waiting, Played, onto, finished, journal_from, journal_by}
-use Rattle.l2_top.specs.declared.engine.LineEnd.{LineEnd}
-use Rattle.l2_top.specs.declared.engine.LineEnd.TheVariants as ends
-use Rattle.l2_top.specs.declared.playing.TurnEnd.{TurnEnd}
-use Rattle.l2_top.specs.declared.playing.TurnEnd.TheVariants as turns
-use Rattle.l2_top.specs.declared.playing.Ending.{Ending}
-use Rattle.l2_top.specs.declared.playing.Ending.TheVariants as endings
+use Rattle.l2_commands.specs.declared.engine.LineEnd.{LineEnd}
+use Rattle.l2_commands.specs.declared.engine.LineEnd.TheVariants as ends
+use Rattle.l2_commands.specs.declared.playing.TurnEnd.{TurnEnd}
+use Rattle.l2_commands.specs.declared.playing.TurnEnd.TheVariants as turns
+use Rattle.l2_commands.specs.declared.playing.Ending.{Ending}
+use Rattle.l2_commands.specs.declared.playing.Ending.TheVariants as endings
 
 -- the state of a run, while there is one
 abbrev pub state_of : {S : Type 0} → Player S → Option S → S

@@ -3,8 +3,8 @@ ghost use Rattle.l2_io.specs.Known.{HasRisen};
 ghost use Rattle.air_run.specs.Journal.{script, script_line, finished};
 ghost use Rattle.air_run.specs.Run.{fresh};
 ghost use Rattle.pdu_show.specs.Decoding.{undecoded};
-ghost use Rattle.l2_top.specs.Plays.{RunsLine, Plays, state_of};
-ghost use Rattle.l2_top.specs.Engines.{Running, Showing, shown_line, line_by, last_by, played_from, now_in};
+ghost use Rattle.l2_commands.specs.Plays.{RunsLine, Plays, state_of};
+ghost use Rattle.l2_commands.specs.Engines.{Running, Showing, shown_line, line_by, last_by, played_from, now_in};
 
 use crate::playing::Ending;
 use air_run::{Reason, Run, StepFault};
@@ -54,7 +54,8 @@ pub enum Engine {
 // Runs one line of a script.
 #[tactic(auto, using(crate::proofs::Nothing::part_nothing))]
 fn run_line<K: Sink>(alloc: Global, run: &mut Run, number: u32, text: &[u8], out: &mut K) -> LineEnd
-    ensures line { RunsLine (script_line (state_of script run.old) number text.now) (Some (state_of script run.new)) (K.written out.old) (K.written out.new) (HasRisen (K.faults out.old) (K.faults out.new)) result }
+    ensures line { RunsLine (script_line (state_of script run.old) number text.now) (Some (state_of script run.new)) (K.written out.old)
+        (K.written out.new) (HasRisen (K.faults out.old) (K.faults out.new)) result }
     ensures count { K.faults out.old ≤ K.faults out.new }
 {
     match read_line(alloc, text) {
@@ -87,7 +88,8 @@ impl Decode {
     // Shows the block of one line.
     #[tactic(auto, using(crate::proofs::Nothing::part_nothing))]
     fn line<K: Sink>(&mut self, number: u32, text: &[u8], out: &mut K) -> LineEnd
-        ensures line { RunsLine (shown_line self.old number text.now) (Some self.new) (K.written out.old) (K.written out.new) (HasRisen (K.faults out.old) (K.faults out.new)) result }
+        ensures line { RunsLine (shown_line self.old number text.now) (Some self.new) (K.written out.old)
+            (K.written out.new) (HasRisen (K.faults out.old) (K.faults out.new)) result }
         ensures count { K.faults out.old ≤ K.faults out.new }
     {
         self.text.clear();
@@ -121,7 +123,8 @@ impl Engine {
     /// Plays one line.
     #[tactic(auto, using(crate::proofs::Engines::runs_lifted))]
     pub fn line<K: Sink>(&mut self, alloc: Global, number: u32, text: &[u8], out: &mut K) -> LineEnd
-        ensures line { RunsLine (line_by (now_in self.old) number text.now) (Some (now_in self.new)) (K.written out.old) (K.written out.new) (HasRisen (K.faults out.old) (K.faults out.new)) result }
+        ensures line { RunsLine (line_by (now_in self.old) number text.now) (Some (now_in self.new)) (K.written out.old)
+            (K.written out.new) (HasRisen (K.faults out.old) (K.faults out.new)) result }
         ensures count { K.faults out.old ≤ K.faults out.new }
     {
         match self {
@@ -133,7 +136,8 @@ impl Engine {
     /// Writes what stands at the end.
     #[tactic(auto, using(crate::proofs::Nothing::after_none))]
     pub fn over<K: Sink>(self, out: &mut K) -> Ending
-        ensures over { Plays (finished (played_from (now_in self)) (now_in self)) (K.written out.old) (K.written out.new) ⊥ (HasRisen (K.faults out.old) (K.faults out.new)) result }
+        ensures over { Plays (finished (played_from (now_in self)) (now_in self)) (K.written out.old)
+            (K.written out.new) ⊥ (HasRisen (K.faults out.old) (K.faults out.new)) result }
         ensures count { K.faults out.old ≤ K.faults out.new }
     {
         match self {
@@ -145,13 +149,15 @@ impl Engine {
 
 /// Writes what stands at the end of a script.
 pub fn finish<K: Sink>(run: Run, out: &mut K) -> Ending
-    ensures over { Plays (finished script (state_of script run)) (K.written out.old) (K.written out.new) ⊥ (HasRisen (K.faults out.old) (K.faults out.new)) result }
+    ensures over { Plays (finished script (state_of script run)) (K.written out.old)
+        (K.written out.new) ⊥ (HasRisen (K.faults out.old) (K.faults out.new)) result }
     ensures count { K.faults out.old ≤ K.faults out.new }
 {
     match run.finish(out) {
         Ok(()) => Ending::Done,
         Err(StepFault::WriteFault) => Ending::WriteFault,
         Err(StepFault::NoMemory) => Ending::NoMemory,
-        Err(StepFault::Refused(_)) => Ending::NoMemory,
+        // A script isn't refused at its end.
+        Err(StepFault::Refused(_)) => unreachable!(),
     }
 }

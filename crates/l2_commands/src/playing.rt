@@ -1,9 +1,10 @@
-ghost use Rattle.std.specs.Prelude.{◌≡◌, ◌≤◌, ◌<◌, ◌^◌, ◌+◌, ◌++◌, ℕ, List, [], Some, IfOk};
+ghost use Rattle.std.specs.Prelude.{◌≡◌, ◌≤◌, ◌<◌, ◌^◌, ◌+◌, [], IfOk};
 ghost use Rattle.l2_io.specs.Known.{HasRisen};
-ghost use Rattle.air_run.specs.Journal.{journal_from, journal_by, journal_of, finished};
-ghost use Rattle.l2_top.specs.Plays.{Turns, Plays, HasPlayed, PlaysLines, PutsRest, PutsSome};
-ghost use Rattle.l2_top.specs.declared.playing.Ending.{Ending};
-ghost use Rattle.l2_top.specs.Engines.{Between, played_from, now_in, blocks_of};
+ghost use Rattle.air_run.specs.Journal.{journal_by, journal_of};
+ghost use Rattle.l2_commands.specs.Plays.{PutsRest, PutsSome};
+ghost use Rattle.l2_commands.specs.Engines.{Between, played_from, now_in, blocks_of};
+ghost use Rattle.l2_commands.specs.Playing.{TurnsOn, PlaysAll, EndsPlay, PlaysOn};
+ghost use Rattle.l2_commands.specs.Streams.{input, output};
 
 use crate::engine::{Engine, LineEnd};
 use air_run::Reason;
@@ -12,11 +13,11 @@ use l2_bits::NoMemory;
 use l2_io::{GatherSink, Lines, PutFault, Sink, Source, Stand, Turn};
 use std::alloc::Global;
 
-/// The most octets of a line without its line feed.
+/// The most octets of a line, without its line feed.
 const LONGEST: u32 = 20_000;
 
 /// The most lines of an input.
-pub const LIMIT: u32 = 1_000_000;
+pub const MOST_LINES: u32 = 1_000_000;
 
 /// How the reading of an input ended.
 #[derive(Clone, Copy, Debug, PartialEq, Eq)]
@@ -44,21 +45,21 @@ fn turn<S: Source, K: Sink>(
     source: &mut S,
     out: &mut K,
 ) -> TurnEnd
-    requires number { number ≤ 1000001 }
-    requires longest { lines.old.longest ≡ 20000 }
+    requires number { number ≤ MOST_LINES + 1 }
+    requires longest { lines.old.longest ≡ LONGEST }
     requires open { lines.old.stand ≡ Stand.Open }
-    ensures turn { (first : Between) → Turns (played_from first) (λ whole given. journal_from (played_from first) whole (now_in engine.old) number (lines.old.kept ++ given))
-        (S.left source.old) (S.left source.new) (K.written out.old) (K.written out.new) (HasRisen (S.faults source.old) (S.faults source.new)) (HasRisen (K.faults out.old) (K.faults out.new))
-        (Some (now_in engine.new)) (number + 1) lines.new.kept result }
+    ensures turn { (first : Between) → TurnsOn first (now_in engine.old) number lines.old.kept
+        (input S.Source source.old) (input S.Source source.new) (output K.Sink out.old)
+        (output K.Sink out.new) (now_in engine.new) lines.new.kept result }
     ensures open { result ≡ TurnEnd.Next → lines.new.stand ≡ Stand.Open }
-    ensures longest { lines.new.longest ≡ 20000 }
-    ensures few { result ≡ TurnEnd.Next → number ≤ 1000000 }
+    ensures longest { lines.new.longest ≡ LONGEST }
+    ensures few { result ≡ TurnEnd.Next → number ≤ MOST_LINES }
     ensures source_count { S.faults source.old ≤ S.faults source.new }
     ensures out_count { K.faults out.old ≤ K.faults out.new }
 {
     match lines.advance(source) {
         Turn::Line => {
-            if number > LIMIT {
+            if number > MOST_LINES {
                 return TurnEnd::Stop(Ending::Refused {
                     number,
                     reason: Reason::Lines,
@@ -79,7 +80,7 @@ fn turn<S: Source, K: Sink>(
             }
         }
         Turn::Long => {
-            if number > LIMIT {
+            if number > MOST_LINES {
                 return TurnEnd::Stop(Ending::Refused {
                     number,
                     reason: Reason::Lines,
@@ -92,7 +93,7 @@ fn turn<S: Source, K: Sink>(
         }
         Turn::End => TurnEnd::Over,
         Turn::ReadFault => {
-            if number > LIMIT && lines.kept() > 0 {
+            if number > MOST_LINES && lines.kept() > 0 {
                 return TurnEnd::Stop(Ending::Refused {
                     number,
                     reason: Reason::Lines,
@@ -111,7 +112,8 @@ fn make_room<S: Source, K: Sink>(
     source: &S,
     out: &mut K,
 ) -> Result<(), PutFault>
-    ensures put { PutsSome gathered.old.octets gathered.new.octets (K.written out.old) (K.written out.new) (HasRisen (K.faults out.old) (K.faults out.new)) result }
+    ensures put { PutsSome gathered.old.octets gathered.new.octets (K.written out.old)
+        (K.written out.new) (HasRisen (K.faults out.old) (K.faults out.new)) result }
     ensures count { K.faults out.old ≤ K.faults out.new }
 {
     if gathered.is_full() {
@@ -125,7 +127,8 @@ fn make_room<S: Source, K: Sink>(
 
 // Puts what is gathered at the end.
 fn put_rest<K: Sink>(gathered: &mut GatherSink, out: &mut K, ending: Ending) -> Ending
-    ensures put { PutsRest ending gathered.old.octets (K.written out.old) (K.written out.new) (HasRisen (K.faults out.old) (K.faults out.new)) result }
+    ensures put { PutsRest ending gathered.old.octets (K.written out.old) (K.written out.new)
+        (HasRisen (K.faults out.old) (K.faults out.new)) result }
     ensures count { K.faults out.old ≤ K.faults out.new }
 {
     match gathered.flush(out) {
@@ -145,15 +148,16 @@ fn play_lines<S: Source, K: Sink>(
     out: &mut K,
 ) -> Option<Ending>
     requires kept { lines.old.kept ≡ [] }
-    requires longest { lines.old.longest ≡ 20000 }
+    requires longest { lines.old.longest ≡ LONGEST }
     requires open { lines.old.stand ≡ Stand.Open }
     requires empty { gathered.old.octets ≡ [] }
-    ensures played { PlaysLines (played_from (now_in engine.old)) (S.left source.old) (S.left source.new) (K.written out.old) (K.written out.new)
-        (HasRisen (S.faults source.old) (S.faults source.new)) (HasRisen (K.faults out.old) (K.faults out.new)) gathered.new.octets (Some (now_in engine.new)) result }
+    ensures played { PlaysAll (now_in engine.old) (input S.Source source.old)
+        (input S.Source source.new) (output K.Sink out.old) (output K.Sink out.new)
+        gathered.new.octets (now_in engine.new) result }
     ensures source_count { S.faults source.old ≤ S.faults source.new }
     ensures out_count { K.faults out.old ≤ K.faults out.new }
 {
-    for number in 1..LIMIT + 2 {
+    for number in 1..MOST_LINES + 2 {
         match make_room(gathered, lines, source, out) {
             Ok(()) => {}
             Err(PutFault::Failed) => return Some(Ending::WriteFault),
@@ -170,15 +174,15 @@ fn play_lines<S: Source, K: Sink>(
 
 // The lines of an input, before the first.
 fn open_lines(alloc: Global) -> Result<Lines, NoMemory>
-    ensures { IfOk result (λ m. (m.kept ≡ []) × (m.longest ≡ 20000) × (m.stand ≡ Stand.Open)) }
+    ensures { IfOk result (λ m. (m.kept ≡ []) × (m.longest ≡ LONGEST) × (m.stand ≡ Stand.Open)) }
 {
     Lines::new(alloc, LONGEST)
 }
 
 // Writes what stands at the end of an input, after what is gathered of it.
 fn play_end<K: Sink>(engine: Engine, gathered: &mut GatherSink, out: &mut K) -> Ending
-    ensures over { (held : List ℕ) × (ending : Ending) × Plays (finished (played_from (now_in engine)) (now_in engine)) (Some gathered.old.octets) (Some held) ⊥ (HasRisen 0 0) ending
-        × PutsRest ending held (K.written out.old) (K.written out.new) (HasRisen (K.faults out.old) (K.faults out.new)) result }
+    ensures over { EndsPlay (now_in engine) gathered.old.octets (output K.Sink out.old)
+        (output K.Sink out.new) result }
     ensures count { K.faults out.old ≤ K.faults out.new }
 {
     let ending = engine.over(gathered);
@@ -187,8 +191,8 @@ fn play_end<K: Sink>(engine: Engine, gathered: &mut GatherSink, out: &mut K) -> 
 
 // Plays the lines that a source gives, and writes what stands at their end.
 fn play<S: Source, K: Sink>(alloc: Global, engine: Engine, source: &mut S, out: &mut K) -> Ending
-    ensures played { HasPlayed (journal_by (played_from (now_in engine))) (S.left source.old) (S.left source.new) (K.written out.old) (K.written out.new)
-        (HasRisen (S.faults source.old) (S.faults source.new)) (HasRisen (K.faults out.old) (K.faults out.new)) result }
+    ensures played { PlaysOn (journal_by (played_from (now_in engine))) (input S.Source source.old)
+        (input S.Source source.new) (output K.Sink out.old) (output K.Sink out.new) result }
     ensures source_count { S.faults source.old ≤ S.faults source.new }
     ensures out_count { K.faults out.old ≤ K.faults out.new }
 {
@@ -207,8 +211,8 @@ fn play<S: Source, K: Sink>(alloc: Global, engine: Engine, source: &mut S, out: 
 ///
 /// The output is gathered, and put before the program waits for more input.
 pub fn play_script<S: Source, K: Sink>(alloc: Global, source: &mut S, out: &mut K) -> Ending
-    ensures played { HasPlayed journal_of (S.left source.old) (S.left source.new) (K.written out.old) (K.written out.new)
-        (HasRisen (S.faults source.old) (S.faults source.new)) (HasRisen (K.faults out.old) (K.faults out.new)) result }
+    ensures played { PlaysOn journal_of (input S.Source source.old) (input S.Source source.new)
+        (output K.Sink out.old) (output K.Sink out.new) result }
     ensures source_count { S.faults source.old ≤ S.faults source.new }
     ensures out_count { K.faults out.old ≤ K.faults out.new }
 {
@@ -217,8 +221,8 @@ pub fn play_script<S: Source, K: Sink>(alloc: Global, source: &mut S, out: &mut 
 
 /// Shows the blocks that a source gives, line by line, with the same reading and gathering.
 pub fn show_blocks<S: Source, K: Sink>(alloc: Global, source: &mut S, out: &mut K) -> Ending
-    ensures played { HasPlayed blocks_of (S.left source.old) (S.left source.new) (K.written out.old) (K.written out.new)
-        (HasRisen (S.faults source.old) (S.faults source.new)) (HasRisen (K.faults out.old) (K.faults out.new)) result }
+    ensures played { PlaysOn blocks_of (input S.Source source.old) (input S.Source source.new)
+        (output K.Sink out.old) (output K.Sink out.new) result }
     ensures source_count { S.faults source.old ≤ S.faults source.new }
     ensures out_count { K.faults out.old ≤ K.faults out.new }
 {

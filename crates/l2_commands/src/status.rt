@@ -1,5 +1,5 @@
 ghost use Rattle.std.specs.Prelude.{◌≡◌};
-ghost use Rattle.l2_top.specs.Main.{code_of};
+ghost use Rattle.l2_commands.specs.Main.{code_of};
 
 /// The answer of the program.
 #[derive(Clone, Copy, Debug, PartialEq, Eq)]

@@ -5,11 +5,11 @@ ghost use Rattle.air_run.specs.Run.{fresh, step};
 ghost use Rattle.air_run.specs.Journal.{script, left_by};
 ghost use Rattle.script_generator.specs.Script.{script as script_of};
 ghost use Rattle.script_generator.specs.Lines.{SayAll};
-ghost use Rattle.l2_top.specs.Plays.{RunsLine, HasPlayed, state_of};
-ghost use Rattle.l2_top.specs.Engines.{PassesLines, sums_of};
+ghost use Rattle.l2_commands.specs.Plays.{RunsLine, HasPlayed, state_of};
+ghost use Rattle.l2_commands.specs.Engines.{PassesLines, sums_of};
 
 use crate::engine::{LineEnd, finish};
-use crate::playing::{Ending, LIMIT};
+use crate::playing::{Ending, MOST_LINES};
 use air_run::{Reason, Run, StepFault};
 use air_text::Line;
 use l2_io::Sink;
@@ -37,14 +37,14 @@ fn pass_lines(lines: &mut ScriptLines, run: &mut Run) -> Option<Ending>
     requires { state_of script run.old ≡ fresh }
     ensures { (octets : List ℕ) → SayAll octets lines.old → PassesLines (sums_of true octets) (state_of script run.new) result }
 {
-    for number in 1..LIMIT + 2 {
+    for number in 1..MOST_LINES + 2 {
         let Ok(next) = lines.next() else {
             return Some(Ending::NoMemory);
         };
         let Some(line) = next else {
             return None;
         };
-        if number > LIMIT {
+        if number > MOST_LINES {
             return Some(Ending::Refused {
                 number,
                 reason: Reason::Lines,
@@ -62,8 +62,8 @@ fn pass_lines(lines: &mut ScriptLines, run: &mut Run) -> Option<Ending>
 
 /// Plays the script of a number, and writes only what stands at its end. The lines are run as values, without their text.
 pub fn sum_script<K: Sink>(alloc: Global, number: u32, out: &mut K) -> Ending
-    ensures played { HasPlayed sums_of (Some (script_of number)) (Some []) (K.written out.old) (K.written out.new)
-        (HasRisen 0 0) (HasRisen (K.faults out.old) (K.faults out.new)) result }
+    ensures played { HasPlayed sums_of (Some (script_of number)) (Some []) (K.written out.old)
+        (K.written out.new) (HasRisen 0 0) (HasRisen (K.faults out.old) (K.faults out.new)) result }
     ensures out_count { K.faults out.old ≤ K.faults out.new }
 {
     let mut lines = ScriptLines::new(alloc, number);

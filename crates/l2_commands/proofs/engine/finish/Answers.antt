@@ -1,5 +1,5 @@
-use Rattle.l2_top.proofs.Finishing.{finish-plays}
-use Rattle.l2_top.proofs.engine.finish.Goals as goal
+use Rattle.l2_commands.proofs.Finishing.{finish-plays}
+use Rattle.l2_commands.proofs.engine.finish.Goals as goal
 
 pub returns-in-Ok-clause-over : goal.returns-in-Ok-clause-over
 returns-in-Ok-clause-over g c = finish-plays c.args.run _ _ _ _ c.in-Ok.ensures.finish
@@ -9,6 +9,3 @@ returns-in-Err-WriteFault-clause-over g c = finish-plays c.args.run _ _ _ _ (rw 
 
 pub returns-in-Err-NoMemory-clause-over : goal.returns-in-Err-NoMemory-clause-over
 returns-in-Err-NoMemory-clause-over g c = finish-plays c.args.run _ _ _ _ (rw c.in-Err-NoMemory.field-0-is at c.in-Err-NoMemory.ensures.finish)
-
-pub returns-in-Err-Refused-clause-over : goal.returns-in-Err-Refused-clause-over
-returns-in-Err-Refused-clause-over g c = finish-plays c.args.run _ _ _ _ (rw c.in-Err-Refused.field-0-is at c.in-Err-Refused.ensures.finish)

@@ -1,9 +1,9 @@
 use Rattle.air_run.specs.Journal.{journal_by}
-use Rattle.l2_top.specs.Engines.{played_from, now_in}
+use Rattle.l2_commands.specs.Engines.{played_from, now_in}
 use Rattle.l2_io.proofs.Written.{risen_from}
-use Rattle.l2_top.proofs.Parting.{unplayed}
-use Rattle.l2_top.proofs.Gathering.{ends, never-risen, puts-by}
-use Rattle.l2_top.proofs.playing.play.Goals as goal
+use Rattle.l2_commands.proofs.Parting.{unplayed}
+use Rattle.l2_commands.proofs.Gathering.{ends, never-risen, puts-by}
+use Rattle.l2_commands.proofs.playing.play.Goals as goal
 
 pub returns-in_default-clause-played : goal.returns-in_default-clause-played
 returns-in_default-clause-played g c = unplayed (journal_by (played_from (now_in c.args.engine))) _ _ _ _

@@ -1,9 +1,9 @@
 use Rattle.std.proofs.Common.{refl, arith}
 use Rattle.air_run.specs.Journal.{journal_by}
-use Rattle.l2_top.specs.Engines.{played_from, now_in}
+use Rattle.l2_commands.specs.Engines.{played_from, now_in}
 use Rattle.l2_io.proofs.Written.{risen_from}
-use Rattle.l2_top.proofs.Gathering.{gathers-first, gathers-put, gathers-on, gathers-over, fails, runs-out, stops, never-risen, puts-by, puts-failed, puts-none}
-use Rattle.l2_top.proofs.playing.play_lines.Goals as goal
+use Rattle.l2_commands.proofs.Gathering.{gathers-first, gathers-put, gathers-on, gathers-over, fails, runs-out, stops, never-risen, puts-by, puts-failed, puts-none}
+use Rattle.l2_commands.proofs.playing.play_lines.Goals as goal
 
 pub loop-number-init : goal.loop-number-init
 loop-number-init g c = record {

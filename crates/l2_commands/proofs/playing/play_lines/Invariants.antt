@@ -2,9 +2,9 @@ use Rattle.std.proofs.Common.{◌≡◌, ◌≤◌}
 use Rattle.std.specs.Prelude.{Some}
 use Rattle.l2_io.specs.declared.lines.Stand.TheVariants.{Open}
 use Rattle.air_run.specs.Journal.{journal_by}
-use Rattle.l2_top.specs.Plays.{HasGathered}
-use Rattle.l2_top.specs.Engines.{played_from, now_in}
-use Rattle.l2_top.proofs.playing.play_lines.Given as goal
+use Rattle.l2_commands.specs.Plays.{HasGathered}
+use Rattle.l2_commands.specs.Engines.{played_from, now_in}
+use Rattle.l2_commands.proofs.playing.play_lines.Given as goal
 
 abbrev pub invariant-loop-number : goal.invariant-loop-number
 invariant-loop-number g l = record {

@@ -1,19 +1,19 @@
 use Rattle.std.proofs.Common.{◌≡◌, ◌<◌, ◌≤◌, ◌∙◌, arith, rules, refl}
-use Rattle.l2_top.specs.Engines.{played_from, now_in}
-use Rattle.l2_top.proofs.Turning.{came-next, many-at-line, many-at-long, many-at-fault, too-long, faulty, nothing-left, line-over, line-refused, line-part, line-fault, line-goes, line-last}
-use Rattle.l2_top.proofs.playing.turn.Goals as goal
-use Rattle.l2_top.proofs.playing.turn.Goals.{else-number-gt-LIMIT-3-via-then-number-gt-LIMIT-3+else-kept-gt0, else-number-gt-LIMIT-3-via-else-number-gt-LIMIT-3}
+use Rattle.l2_commands.specs.Engines.{played_from, now_in}
+use Rattle.l2_commands.proofs.Turning.{came-next, many-at-line, many-at-long, many-at-fault, too-long, faulty, nothing-left, line-over, line-refused, line-part, line-fault, line-goes, line-last}
+use Rattle.l2_commands.proofs.playing.turn.Goals as goal
+use Rattle.l2_commands.proofs.playing.turn.Goals.{else-number-gt-MOST_LINES-3-via-then-number-gt-MOST_LINES-3+else-kept-gt0, else-number-gt-MOST_LINES-3-via-else-number-gt-MOST_LINES-3}
 
-pub returns-then-number-gt-LIMIT-clause-turn : goal.returns-then-number-gt-LIMIT-clause-turn
-returns-then-number-gt-LIMIT-clause-turn g c first =
+pub returns-then-number-gt-MOST_LINES-clause-turn : goal.returns-then-number-gt-MOST_LINES-clause-turn
+returns-then-number-gt-MOST_LINES-clause-turn g c first =
     let s = now_in c.args.engine.now in
     let new = c.advance.new.self in
     let next = came-next c.args.lines.now _ _ _ _ new c.requires.open c.in-Line.ensures.next in
     let many : 1000000 < c.args.number = omega arith in
     many-at-line (played_from first) s c.args.number c.args.lines.now new _ _ _ _ _ next many
 
-pub returns-then-number-gt-LIMIT-2-clause-turn : goal.returns-then-number-gt-LIMIT-2-clause-turn
-returns-then-number-gt-LIMIT-2-clause-turn g c first =
+pub returns-then-number-gt-MOST_LINES-2-clause-turn : goal.returns-then-number-gt-MOST_LINES-2-clause-turn
+returns-then-number-gt-MOST_LINES-2-clause-turn g c first =
     let s = now_in c.args.engine.now in
     let new = c.advance.new.self in
     let next = came-next c.args.lines.now _ _ _ _ new c.requires.open c.in-Long.ensures.next in
@@ -82,8 +82,8 @@ returns-in-NoMemory-clause-turn g c first =
     let few : c.args.number ≤ 1000000 = omega arith in
     line-part (played_from first) s c.args.number c.args.lines.now new _ _ _ _ _ _ next few longest (rw c.line.ensures at c.in-NoMemory.ensures.line)
 
-pub returns-else-number-gt-LIMIT-2-clause-turn : goal.returns-else-number-gt-LIMIT-2-clause-turn
-returns-else-number-gt-LIMIT-2-clause-turn g c first =
+pub returns-else-number-gt-MOST_LINES-2-clause-turn : goal.returns-else-number-gt-MOST_LINES-2-clause-turn
+returns-else-number-gt-MOST_LINES-2-clause-turn g c first =
     let s = now_in c.args.engine.now in
     let new = c.advance.new.self in
     let next = came-next c.args.lines.now _ _ _ _ new c.requires.open c.in-Long.ensures.next in
@@ -98,10 +98,10 @@ returns-in-End-clause-turn g c first =
     let next = came-next c.args.lines.now _ _ _ _ new c.requires.open c.in-End.ensures.next in
     nothing-left (played_from first) s c.args.number c.args.lines.now new _ _ _ _ _ next refl
 
-pub returns-else-number-gt-LIMIT-3-clause-turn : goal.returns-else-number-gt-LIMIT-3-clause-turn
-returns-else-number-gt-LIMIT-3-clause-turn g c first =
+pub returns-else-number-gt-MOST_LINES-3-clause-turn : goal.returns-else-number-gt-MOST_LINES-3-clause-turn
+returns-else-number-gt-MOST_LINES-3-clause-turn g c first =
     let s = now_in c.args.engine.now in
     let new = c.advance.new.self in
     let next = came-next c.args.lines.now _ _ _ _ new c.requires.open c.in-ReadFault.ensures.next in
     let longest : new.longest ≡ 20000 = c.in-ReadFault.ensures.longest ∙ c.requires.longest in
-    faulty (played_from first) s c.args.number c.args.lines.now new _ _ _ _ _ next longest (λ some. elim c.else-number-gt-LIMIT-3.branch [ else-number-gt-LIMIT-3-via-then-number-gt-LIMIT-3+else-kept-gt0 w ↦ omega (arith, w.kept.ensures.count) | else-number-gt-LIMIT-3-via-else-number-gt-LIMIT-3 w ↦ omega arith ])
+    faulty (played_from first) s c.args.number c.args.lines.now new _ _ _ _ _ next longest (λ some. elim c.else-number-gt-MOST_LINES-3.branch [ else-number-gt-MOST_LINES-3-via-then-number-gt-MOST_LINES-3+else-kept-gt0 w ↦ omega (arith, w.kept.ensures.count) | else-number-gt-MOST_LINES-3-via-else-number-gt-MOST_LINES-3 w ↦ omega arith ])

@@ -1,5 +1,5 @@
 use Rattle.std.proofs.Common.{rules}
-use Rattle.l2_top.proofs.summing.pass_line.Goals as goal
+use Rattle.l2_commands.proofs.summing.pass_line.Goals as goal
 
 pub returns-in-Ok : goal.returns-in-Ok
 returns-in-Ok c number = let steps = c.in-Ok.ensures number in search rules

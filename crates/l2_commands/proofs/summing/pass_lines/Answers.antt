@@ -2,10 +2,10 @@ use Rattle.std.proofs.Common.{ap, sym, arith}
 use Rattle.std.specs.Prelude.{true}
 use Rattle.air_run.specs.Journal.{script, journal_from}
 use Rattle.air_run.specs.Run.{RunState}
-use Rattle.l2_top.specs.Plays.{state_of}
-use Rattle.l2_top.specs.Engines.{summing}
-use Rattle.l2_top.proofs.Passing.{goes-on, goes-over, is-refused, are-many, is-over}
-use Rattle.l2_top.proofs.summing.pass_lines.Goals as goal
+use Rattle.l2_commands.specs.Plays.{state_of}
+use Rattle.l2_commands.specs.Engines.{summing}
+use Rattle.l2_commands.proofs.Passing.{goes-on, goes-over, is-refused, are-many, is-over}
+use Rattle.l2_commands.proofs.summing.pass_lines.Goals as goal
 
 pub loop-number-init : goal.loop-number-init
 loop-number-init c = record {
@@ -17,8 +17,8 @@ pub returns-in_default-next : goal.returns-in_default-next
 returns-in_default-next c octets said =
     is-over octets c.loop-number.lines (state_of script c.loop-number.run) c.loop-number.number (c.loop-number.invariant.goes octets said) (rw c.in_default-next.is at c.in-Ok.ensures.line)
 
-pub returns-then-number-gt-LIMIT : goal.returns-then-number-gt-LIMIT
-returns-then-number-gt-LIMIT c octets said =
+pub returns-then-number-gt-MOST_LINES : goal.returns-then-number-gt-MOST_LINES
+returns-then-number-gt-MOST_LINES c octets said =
     let is = rw c.in-Some.is at c.in-Ok.ensures.line in
     are-many octets c.in-Some.line c.loop-number.lines c.next.new.self (state_of script c.loop-number.run) (state_of script c.loop-number.run) c.loop-number.number
     (c.loop-number.invariant.goes octets said) is (omega arith)

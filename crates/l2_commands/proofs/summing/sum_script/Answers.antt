@@ -2,9 +2,9 @@ use Rattle.air_run.specs.Journal.{script}
 use Rattle.script_generator.specs.Script.{script as script_of}
 use Rattle.script_generator.specs.Lines.{SayAll}
 use Rattle.script_generator.proofs.Saying.{say-script}
-use Rattle.l2_top.specs.Plays.{state_of}
-use Rattle.l2_top.proofs.Passing.{stopped, summed}
-use Rattle.l2_top.proofs.summing.sum_script.Goals as goal
+use Rattle.l2_commands.specs.Plays.{state_of}
+use Rattle.l2_commands.proofs.Passing.{stopped, summed}
+use Rattle.l2_commands.proofs.summing.sum_script.Goals as goal
 
 pub returns-in-Some-clause-played : goal.returns-in-Some-clause-played
 returns-in-Some-clause-played g c =

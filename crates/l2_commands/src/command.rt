@@ -1,10 +1,10 @@
 ghost use Rattle.std.specs.Prelude.{◌≡◌, ℕ, IfOk, None, Some, string_bytes};
-ghost use Rattle.l2_io.specs.Known.{HasRisen};
-ghost use Rattle.law_run.specs.Journals.{EveryJournal};
 ghost use Rattle.air_run.specs.Journal.{journal_of};
 ghost use Rattle.cli_words.specs.Commands.{command_of};
-ghost use Rattle.l2_top.specs.Engines.{blocks_of};
-ghost use Rattle.l2_top.specs.Main.{reason_text, refused_text, Tells, TellsRefusal, TellsEnding, Refuses, Runs, Generates};
+ghost use Rattle.l2_commands.specs.Engines.{blocks_of};
+ghost use Rattle.l2_commands.specs.Main.{reason_text, refused_text, Tells, TellsRefusal};
+ghost use Rattle.l2_commands.specs.Main.{TellsEnding, Refuses, Runs, Generates};
+ghost use Rattle.l2_commands.specs.Streams.{output, streams};
 
 use crate::playing::{Ending, play_script, show_blocks};
 use crate::summing::sum_script;
@@ -49,13 +49,13 @@ fn refusal_string(alloc: Global, number: u32, reason: Reason) -> Result<String, 
 
 // Puts a text to errs, where the answer stays.
 fn say<E: Sink>(errs: &mut E, text: &[u8])
-    ensures told { Tells text.now (E.written errs.old) (E.written errs.new) (HasRisen (E.faults errs.old) (E.faults errs.new)) (HasRisen (E.shortages errs.old) (E.shortages errs.new)) }
+    ensures told { Tells text.now (output E.Sink errs.old) (output E.Sink errs.new) }
 {
     let _ = errs.put(text);
 }
 
 fn refuse_words<E: Sink>(errs: &mut E) -> Status
-    ensures { Refuses (E.written errs.old) (E.written errs.new) (HasRisen (E.faults errs.old) (E.faults errs.new)) (HasRisen (E.shortages errs.old) (E.shortages errs.new)) result }
+    ensures { Refuses (output E.Sink errs.old) (output E.Sink errs.new) result }
 {
     match errs.put(b"usage: l2 run | l2 decode | l2 generate N\n") {
         Ok(()) => Status::Usage,
@@ -65,7 +65,7 @@ fn refuse_words<E: Sink>(errs: &mut E) -> Status
 }
 
 fn refuse_line<E: Sink>(alloc: Global, number: u32, reason: Reason, errs: &mut E) -> Status
-    ensures { TellsRefusal number reason (E.written errs.old) (E.written errs.new) (HasRisen (E.faults errs.old) (E.faults errs.new)) (HasRisen (E.shortages errs.old) (E.shortages errs.new)) result }
+    ensures { TellsRefusal number reason (output E.Sink errs.old) (output E.Sink errs.new) result }
 {
     let Ok(text) = refusal_string(alloc, number, reason) else {
         say(errs, b"out of memory\n");
@@ -79,7 +79,7 @@ fn refuse_line<E: Sink>(alloc: Global, number: u32, reason: Reason, errs: &mut E
 }
 
 fn finish<E: Sink>(alloc: Global, ending: Ending, errs: &mut E) -> Status
-    ensures { TellsEnding ending (E.written errs.old) (E.written errs.new) (HasRisen (E.faults errs.old) (E.faults errs.new)) (HasRisen (E.shortages errs.old) (E.shortages errs.new)) result }
+    ensures { TellsEnding ending (output E.Sink errs.old) (output E.Sink errs.new) result }
 {
     match ending {
         Ending::Done => Status::Done,
@@ -101,8 +101,8 @@ fn finish<E: Sink>(alloc: Global, ending: Ending, errs: &mut E) -> Status
 
 // Plays the script of a number, and writes its sums.
 fn generate<K: Sink, E: Sink>(alloc: Global, number: u32, out: &mut K, errs: &mut E) -> Status
-    ensures { Generates number (K.written out.old) (K.written out.new) (E.written errs.old) (E.written errs.new) (HasRisen (K.faults out.old) (K.faults out.new))
-        (HasRisen (E.faults errs.old) (E.faults errs.new)) (HasRisen (E.shortages errs.old) (E.shortages errs.new)) result }
+    ensures { Generates number (output K.Sink out.old) (output K.Sink out.new)
+        (output E.Sink errs.old) (output E.Sink errs.new) result }
 {
     let ending = sum_script(alloc, number, out);
     finish(alloc, ending, errs)
@@ -110,29 +110,29 @@ fn generate<K: Sink, E: Sink>(alloc: Global, number: u32, out: &mut K, errs: &mu
 
 /// Runs the command that the words name.
 ///
-/// The clauses `run`, `decode` and `generate` say what is written, and what each answer means; `promises` says what holds of
-/// every journal of a script.
-#[tactic(auto, using(crate::proofs::Rows::every_journal_is_promised, crate::proofs::Rows::ungenerated))]
-pub fn l2_main<S: Source, K: Sink, E: Sink>(
+/// The clauses `run`, `decode` and `generate` say what is written, and what each answer means.
+#[tactic(auto, using(crate::proofs::Rows::ungenerated))]
+pub fn run_command<S: Source, K: Sink, E: Sink>(
     alloc: Global,
     words: &Words,
     source: &mut S,
     out: &mut K,
     errs: &mut E,
 ) -> Status
-    ensures usage { command_of words.now ≡ None → Refuses (E.written errs.old) (E.written errs.new) (HasRisen (E.faults errs.old) (E.faults errs.new)) (HasRisen (E.shortages errs.old) (E.shortages errs.new)) result
+    ensures usage { command_of words.now ≡ None
+        → Refuses (output E.Sink errs.old) (output E.Sink errs.new) result
         × (S.left source.new ≡ S.left source.old) × (K.written out.new ≡ K.written out.old) }
-    ensures run { command_of words.now ≡ Some Command.Run → Runs journal_of (S.left source.old) (S.left source.new) (K.written out.old) (K.written out.new)
-        (E.written errs.old) (E.written errs.new) (HasRisen (S.faults source.old) (S.faults source.new)) (HasRisen (K.faults out.old) (K.faults out.new))
-        (HasRisen (E.faults errs.old) (E.faults errs.new)) (HasRisen (E.shortages errs.old) (E.shortages errs.new)) result }
-    ensures decode { command_of words.now ≡ Some Command.Decode → Runs blocks_of (S.left source.old) (S.left source.new) (K.written out.old) (K.written out.new)
-        (E.written errs.old) (E.written errs.new) (HasRisen (S.faults source.old) (S.faults source.new)) (HasRisen (K.faults out.old) (K.faults out.new))
-        (HasRisen (E.faults errs.old) (E.faults errs.new)) (HasRisen (E.shortages errs.old) (E.shortages errs.new)) result }
-    ensures generate { (number : ℕ) → command_of words.now ≡ Some (Command.Generate number) → Generates number (K.written out.old) (K.written out.new)
-        (E.written errs.old) (E.written errs.new) (HasRisen (K.faults out.old) (K.faults out.new))
-        (HasRisen (E.faults errs.old) (E.faults errs.new)) (HasRisen (E.shortages errs.old) (E.shortages errs.new)) result }
-    ensures unread { (number : ℕ) → command_of words.now ≡ Some (Command.Generate number) → S.left source.new ≡ S.left source.old }
-    ensures promises { EveryJournal }
+    ensures run { command_of words.now ≡ Some Command.Run
+        → Runs journal_of (streams S.Source K.Sink E.Sink source.old out.old errs.old)
+        (streams S.Source K.Sink E.Sink source.new out.new errs.new) result }
+    ensures decode { command_of words.now ≡ Some Command.Decode
+        → Runs blocks_of (streams S.Source K.Sink E.Sink source.old out.old errs.old)
+        (streams S.Source K.Sink E.Sink source.new out.new errs.new) result }
+    ensures generate { (number : ℕ) → command_of words.now ≡ Some (Command.Generate number)
+        → Generates number (output K.Sink out.old) (output K.Sink out.new)
+        (output E.Sink errs.old) (output E.Sink errs.new) result }
+    ensures unread { (number : ℕ) → command_of words.now ≡ Some (Command.Generate number)
+        → S.left source.new ≡ S.left source.old }
 {
     let Ok(command) = words.command() else {
         say(errs, b"out of memory\n");
