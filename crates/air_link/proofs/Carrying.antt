@@ -4,7 +4,8 @@ use Rattle.std.specs.Prelude.{Option}
 use Rattle.std.specs.List.{list_any}
 use Rattle.air_record.specs.declared.record.Record.{Record}
 use Rattle.pdu_show.specs.declared.kinds.Layout.{Layout}
-use Rattle.air_link.specs.Draining.{is_carried, is_carried_by}
+use Rattle.air_link.specs.Draining.{is_carried_by}
+use Rattle.pdu_show.specs.Carried.{is_carried}
 
 pub any_at : (kinds : List (Option Layout)) (xs : List Record) (at : ℕ)
     → list_any (is_carried kinds) (drop at xs) ≡ (is_carried_by kinds (slice_get xs at) || list_any (is_carried kinds) (drop (at + 1) xs))

@@ -1,5 +1,5 @@
 -- The downlink of a TTI: the base station visits its process, and the terminal hears what comes (TS 36.321 5.3).
-use Rattle.std.specs.Prelude.{ℕ, ◌%◌, ◌==◌, Bool, true, false, not, if◌then◌else◌, Some, option_map, unwrap_or, List, [], ◌++◌, slice_index_or, slice_set}
+use Rattle.std.specs.Prelude.{ℕ, ◌%◌, ◌==◌, Bool, true, false, if◌then◌else◌, Some, option_map, unwrap_or, List, [], ◌++◌, slice_index_or, slice_set}
 use Rattle.air_record.specs.declared.line.Fate.{Fate}
 use Rattle.air_record.specs.declared.line.Fate.TheVariants.{Ok, Bad, Miss}
 use Rattle.air_record.specs.declared.line.Outcome.{Outcome}
@@ -22,9 +22,10 @@ use Rattle.l2_types.specs.declared.side.Side.{Side}
 use Rattle.l2_types.specs.declared.side.Side.TheVariants.{Nb, Ue}
 use Rattle.mac_pdu.specs.declared.item.Direction.{Direction}
 use Rattle.pdu_show.specs.Show.{block_shown}
-use Rattle.l2_node.specs.End.{sent_by}
+use Rattle.bearer_types.specs.Sides.{sent_by}
 use Rattle.air_link.specs.Link.{Link, says, end_of, with_end}
 use Rattle.air_link.specs.Telling.{tells_all}
+use Rattle.air_record.specs.Outcomes.{turned}
 
 -- ---- a block goes out
 
@@ -59,10 +60,6 @@ receives side block l = with_end side (record (end_of side l) { bearers = (recei
 
 abbrev pub hears : Side → List ℕ → Link → Link
 hears side block l = tells_all side (received (end_of side l) block).events (receives side block l)
-
--- feedback as the sender reads it: `~` turns it round
-abbrev pub turned : Bool → Bool → Bool
-turned flipped good = if flipped then not good else good
 
 abbrev pub feeds : Side → ℕ → Bool → Link → Link
 feeds side t good l = with_end side (record (end_of side l) { sender = after_feedback (end_of side l).sender t good }) l

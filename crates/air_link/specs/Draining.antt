@@ -1,12 +1,7 @@
 -- The steps of a drain: TTIs in which everything arrives and no timer counts down, and timers that expire between them.
-use Rattle.std.specs.Prelude.{ℕ, ◌+◌, ◌-◌, ◌^◌, min, Bool, true, false, ◌&&◌, if◌then◌else◌, List, [], ◌∷◌, length, Option, Some, None, slice_index_or}
+use Rattle.std.specs.Prelude.{ℕ, ◌+◌, ◌-◌, ◌^◌, min, Bool, false, ◌&&◌, if◌then◌else◌, List, [], ◌∷◌, length, Option, Some, None}
 use Rattle.std.specs.List.{list_any}
-use Rattle.air_record.specs.declared.line.Fate.TheVariants.{Ok}
-use Rattle.air_record.specs.declared.line.Outcome.{Outcome}
 use Rattle.air_record.specs.declared.record.Record.{Record}
-use Rattle.air_record.specs.declared.record.Record.TheVariants as records
-use Rattle.bearer_types.specs.declared.event.Event.{Event}
-use Rattle.bearer_types.specs.declared.event.Event.TheVariants.{Send}
 use Rattle.l2_node.specs.Finding.{has}
 use Rattle.l2_node.specs.Sums.{is_drained as end_drained, left as end_left}
 use Rattle.l2_types.specs.declared.event.Clock.{Clock}
@@ -14,18 +9,17 @@ use Rattle.l2_types.specs.declared.event.Clock.TheVariants.{Poll, Reorder, Prohi
 use Rattle.l2_types.specs.declared.side.Side.{Side}
 use Rattle.l2_types.specs.declared.side.Side.TheVariants.{Nb, Ue}
 use Rattle.pdu_show.specs.declared.kinds.Layout.{Layout}
-use Rattle.pdu_show.specs.declared.kinds.Layout.TheVariants.{Am}
-use Rattle.air_link.specs.Link.{Link, all_lcids, end_of}
+use Rattle.air_link.specs.Link.{Link, end_of}
+use Rattle.bearer_types.specs.Lcids.{all_lcids}
 use Rattle.air_link.specs.Loops.{loops}
 use Rattle.air_link.specs.Downlink.{downlink}
 use Rattle.air_link.specs.Uplink.{uplink}
 use Rattle.air_link.specs.Ttis.{begins, grows}
 use Rattle.air_link.specs.Lines.{expires}
+use Rattle.air_record.specs.Outcomes.{intact}
+use Rattle.pdu_show.specs.Carried.{is_carried}
 
 -- ---- a TTI: buckets grow, the terminal is awake, and both blocks arrive
-
-abbrev pub intact : Outcome
-intact = record { fate = Ok; flipped = false }
 
 abbrev pub drain_by : ℕ → ℕ → Link → Link
 drain_by t grant l = uplink t grant intact (loops (downlink t grant intact (grows Ue (grows Nb l))))
@@ -34,18 +28,6 @@ unfoldable pub drain_tti : ℕ → Link → Link
 drain_tti grant l = drain_by l.ttis grant (begins l)
 
 -- ---- whether the records so far hold a data PDU or a STATUS of an acknowledged bearer
-
-abbrev pub is_acknowledged : Option Layout → Bool
-is_acknowledged (Some (Am kind)) = true
-is_acknowledged layout = false
-
-abbrev pub sends_on : List (Option Layout) → Event → Bool
-sends_on kinds (Send lcid how sn) = is_acknowledged (slice_index_or kinds lcid None)
-sends_on kinds event = false
-
-abbrev pub is_carried : List (Option Layout) → Record → Bool
-is_carried kinds (records.Of side event) = sends_on kinds event
-is_carried kinds one = false
 
 abbrev pub is_carried_by : List (Option Layout) → Option Record → Bool
 is_carried_by kinds None = false

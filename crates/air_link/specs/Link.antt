@@ -16,10 +16,6 @@ pub record Flows : Type 0 where
   pub delivered : List ℕ
   pub failed : List Bool
 
--- the logical channels that a bearer may have
-abbrev pub all_lcids : List ℕ
-all_lcids = 0 ∷ 1 ∷ 2 ∷ 3 ∷ 4 ∷ 5 ∷ 6 ∷ 7 ∷ 8 ∷ 9 ∷ 10 ∷ []
-
 abbrev pub no_flows : Flows
 no_flows = record { submitted = replicate 11 0; delivered = replicate 11 0; failed = replicate 11 false }
 
@@ -76,7 +72,3 @@ sent_flows Ue l = l.up
 abbrev pub with_sent_flows : Side → Flows → Link → Link
 with_sent_flows Nb f l = record l { down = f }
 with_sent_flows Ue f l = record l { up = f }
-
-abbrev pub other : Side → Side
-other Nb = Ue
-other Ue = Nb

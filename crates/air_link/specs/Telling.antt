@@ -8,7 +8,8 @@ use Rattle.l2_types.specs.declared.side.Side.{Side}
 use Rattle.l2_types.specs.declared.side.Side.TheVariants.{Nb, Ue}
 use Rattle.test_loop.specs.Items.{item}
 use Rattle.test_loop.specs.Loops.{is_on}
-use Rattle.air_link.specs.Link.{Link, says, sent_flows, with_sent_flows, other}
+use Rattle.air_link.specs.Link.{Link, says, sent_flows, with_sent_flows}
+use Rattle.bearer_types.specs.Sides.{other}
 
 abbrev pub one_more : List ℕ → ℕ → List ℕ
 one_more counts lcid = slice_set counts lcid (slice_index counts lcid + 1)

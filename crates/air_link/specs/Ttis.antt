@@ -1,6 +1,5 @@
 -- A TTI (TS 36.321 5.3, 5.4, 5.7).
 use Rattle.std.specs.Prelude.{ℕ, ◌+◌, ◌%◌, Bool, true, false, not, is_some, if◌then◌else◌, Option, Some, None}
-use Rattle.air_record.specs.declared.line.Fate.TheVariants.{Miss}
 use Rattle.air_record.specs.declared.line.Outcome.{Outcome}
 use Rattle.air_record.specs.declared.record.Record.TheVariants as records
 use Rattle.drx.specs.Drx.{State as Listening, is_active}
@@ -15,6 +14,7 @@ use Rattle.air_link.specs.Telling.{tells_all}
 use Rattle.air_link.specs.Loops.{loops, pays}
 use Rattle.air_link.specs.Downlink.{downlink}
 use Rattle.air_link.specs.Uplink.{uplink}
+use Rattle.air_record.specs.Outcomes.{missed}
 
 abbrev pub begins : Link → Link
 begins l = says (records.Tti l.ttis) (record l { ttis = l.ttis + 1 })
@@ -31,10 +31,6 @@ sleeps t l = sleeps_by l.drx t l
 abbrev pub tells_sleep : Bool → Link → Link
 tells_sleep true l = says records.Sleep l
 tells_sleep false l = l
-
-abbrev pub missed : Bool → Outcome → Outcome
-missed true o = record o { fate = Miss }
-missed false o = o
 
 -- ---- timers
 

@@ -15,7 +15,8 @@ use Rattle.l2_node.specs.Building.{visit}
 use Rattle.l2_types.specs.declared.side.Side.TheVariants.{Nb, Ue}
 use Rattle.mac_pdu.specs.declared.item.Direction.TheVariants.{Up}
 use Rattle.air_link.specs.Link.{Link, says}
-use Rattle.air_link.specs.Downlink.{builds, block_at, sends, hears, turned, feeds, saw_new}
+use Rattle.air_link.specs.Downlink.{builds, block_at, sends, hears, feeds, saw_new}
+use Rattle.air_record.specs.Outcomes.{turned}
 
 -- a grant that the terminal doesn't see
 abbrev pub up_order : Fate → Bool → Order

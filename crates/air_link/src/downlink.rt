@@ -3,9 +3,10 @@ ghost use Rattle.std.specs.Prelude.{◌≡◌, ◌≤◌, ◌<◌, ◌^◌, ◌%
 ghost use Rattle.harq.specs.Receiving.{assigned_answer};
 ghost use Rattle.l2_node.specs.Building.{IsEnough, visit, building};
 ghost use Rattle.l2_node.specs.Hearing.{received};
-ghost use Rattle.l2_node.specs.End.{sent_by};
+ghost use Rattle.bearer_types.specs.Sides.{sent_by};
 ghost use Rattle.air_link.specs.Link.{says, end_of, with_end};
-ghost use Rattle.air_link.specs.Downlink.{visits, builds, built_ndi, receives, block_at, shows, sends, hears, turned, feeds, told_as, is_good, saw_new, first_seen, decoded, damaged, sees, assigned, answer, comes, hears_by, aired, lands, unseen, goes_down, down_order, down_by, downlink};
+ghost use Rattle.air_link.specs.Downlink.{visits, builds, built_ndi, receives, block_at, shows, sends, hears, feeds, told_as, is_good, saw_new, first_seen, decoded, damaged, sees, assigned, answer, comes, hears_by, aired, lands, unseen, goes_down, down_order, down_by, downlink};
+ghost use Rattle.air_record.specs.Outcomes.{turned};
 
 use crate::link::Link;
 use air_record::{Arrived, Fate, Outcome, Record};

@@ -1,7 +1,8 @@
 // The steps of a drain.
 ghost use Rattle.std.specs.Prelude.{◌≡◌, ◌≤◌, OnOk, option_copied};
 ghost use Rattle.air_link.specs.Link.{end_of};
-ghost use Rattle.air_link.specs.Draining.{drain_tti, is_acknowledged, is_carried_by, carried, timer_expires, receiver_expires, all_receivers_expire, receivers_expire, all_senders_expire, senders_expire, is_drained, left, count};
+ghost use Rattle.air_link.specs.Draining.{drain_tti, is_carried_by, carried, timer_expires, receiver_expires, all_receivers_expire, receivers_expire, all_senders_expire, senders_expire, is_drained, left, count};
+ghost use Rattle.pdu_show.specs.Carried.{is_acknowledged};
 
 use crate::link::{ALL_LCIDS, Link};
 use air_record::{Fate, Outcome, Record};

@@ -3,7 +3,8 @@ ghost use Rattle.std.specs.Prelude.{◌≡◌, ◌≤◌, ◌%◌, is_some, OnOk
 ghost use Rattle.harq.specs.Sending.{held_of};
 ghost use Rattle.l2_node.specs.Hearing.{ticked};
 ghost use Rattle.air_link.specs.Link.{end_of};
-ghost use Rattle.air_link.specs.Ttis.{begins, sleeps, sleeps_by, tells_sleep, missed, grows, ticks, times, keeps_first, timed, tti_by, tti};
+ghost use Rattle.air_link.specs.Ttis.{begins, sleeps, sleeps_by, tells_sleep, grows, ticks, times, keeps_first, timed, tti_by, tti};
+ghost use Rattle.air_record.specs.Outcomes.{missed};
 
 use crate::link::Link;
 use air_record::{Fate, Outcome, Record};

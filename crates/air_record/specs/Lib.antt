@@ -1,1 +1,4 @@
 pub mod Text
+pub mod Outcomes
+pub mod Endings
+pub mod Cells

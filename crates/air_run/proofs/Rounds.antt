@@ -2,7 +2,8 @@
 use Rattle.std.proofs.Common.{◌≡◌, ◌<◌, ◌∙◌, ◌+◌, ◌-◌, ℕ, zero, suc, Bool, true, false, [], ◌∷◌, ◌++◌, refl, ap, arith}
 use Rattle.air_link.specs.Link.{Link}
 use Rattle.air_link.specs.Draining.{drain_tti, is_drained}
-use Rattle.air_run.specs.Draining.{shown, at_once, behind, ttis, round, left_by, rounds, budget, ending, drained}
+use Rattle.air_run.specs.Draining.{shown, at_once, behind, ttis, round, left_by, rounds, budget, drained}
+use Rattle.air_record.specs.Endings.{ending}
 use Rattle.air_run.specs.Written.{Journal, told}
 use Rattle.air_run.proofs.Telling.{told_thrice}
 

@@ -4,7 +4,7 @@ use Rattle.std.specs.Prelude.{ℕ, ◌+◌, ◌-◌, ◌*◌, ◌^◌, zero, suc
 use Rattle.air_link.specs.Draining.{drain_tti, carried, receivers_expire, senders_expire, is_drained, left, count}
 use Rattle.air_link.specs.Link.{Link}
 use Rattle.air_record.specs.declared.record.Record.{Record}
-use Rattle.air_record.specs.declared.record.Record.TheVariants as records
+use Rattle.air_record.specs.Endings.{ending}
 
 -- the records of a line are written
 abbrev pub shown : Link → Link
@@ -63,10 +63,6 @@ rounds (suc n) grant l = behind (told_by (is_drained l) grant l) (done_by (is_dr
 -- the rounds that a drain may take, by the octets that it has to bring over as it begins and by the bearers
 abbrev pub budget : Link → ℕ
 budget l = min (1024 * (left l + (512 * count l + 64))) (2 ^ 64 - 1)
-
-abbrev pub ending : Bool → ℕ → Record
-ending true done = records.Drained done
-ending false done = records.Spent done
 
 abbrev pub ended : Drained → Drained
 ended d = record d { journal = d.journal ++ ending (is_drained d.link) d.done ∷ [] }

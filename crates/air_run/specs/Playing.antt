@@ -1,5 +1,5 @@
 -- What a line that isn't refused does to both ends (docs/formats/SCRIPT.md).
-use Rattle.std.specs.Prelude.{ℕ, Option, Some, None, replicate}
+use Rattle.std.specs.Prelude.{ℕ, Option, Some, None}
 use Rattle.air_link.specs.Lines.{bears, discards, visits, reports, listens, submitting, expires, forges, hands_over}
 use Rattle.air_link.specs.Link.{Link}
 use Rattle.air_link.specs.Loops.{loop_set}
@@ -7,25 +7,13 @@ use Rattle.air_link.specs.Ttis.{tti}
 use Rattle.air_record.specs.declared.line.Line.{Line}
 use Rattle.air_record.specs.declared.line.Line.TheVariants as lines
 use Rattle.air_run.specs.Draining.{drained}
-use Rattle.eps_sec.specs.declared.Cipher.TheVariants.{Eea0}
-use Rattle.eps_sec.specs.declared.Key.{Key}
 use Rattle.eps_sec.specs.declared.Keys.{Keys}
 use Rattle.test_loop.specs.declared.Mode.TheVariants.{Off, A, B}
-
--- keys where there are none as yet, which no bearer uses
-abbrev pub no_key : Key
-no_key = record { octets = replicate 16 0 }
-
-abbrev pub no_keys : Keys
-no_keys = record { alg = Eea0; user = no_key; rrc = no_key; integrity = no_key }
+use Rattle.air_record.specs.Cells.{no_keys, next_keys}
 
 abbrev pub keys_or_none : Option Keys → Keys
 keys_or_none (Some keys) = keys
 keys_or_none None = no_keys
-
--- the keys of the next cell: the cipher stays
-abbrev pub next_keys : Key → Key → Key → Keys → Keys
-next_keys user rrc integrity keys = record { alg = keys.alg; user = user; rrc = rrc; integrity = integrity }
 
 -- a line other than a drain
 unfoldable pub acted : Line → Option Keys → Link → Link

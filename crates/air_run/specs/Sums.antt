@@ -2,14 +2,15 @@
 -- delivered, downlink first.
 use Rattle.std.specs.Prelude.{ℕ, Bool, if◌then◌else◌, List, [], ◌∷◌, ◌++◌, Option, None, Some}
 use Rattle.air_link.specs.declared.sums.Sums.{Sums}
-use Rattle.air_link.specs.Link.{Link, all_lcids}
+use Rattle.air_link.specs.Link.{Link}
+use Rattle.bearer_types.specs.Lcids.{all_lcids}
 use Rattle.air_link.specs.Sums.{sums}
 use Rattle.air_record.specs.declared.record.Record.{Record}
 use Rattle.air_record.specs.declared.record.Record.TheVariants as records
 use Rattle.air_record.specs.declared.record.State.{State}
 use Rattle.air_record.specs.declared.record.State.TheVariants as states
 use Rattle.air_run.specs.Rules.{is_known}
-use Rattle.l2_node.specs.End.{sent_by}
+use Rattle.bearer_types.specs.Sides.{sent_by}
 use Rattle.l2_types.specs.declared.side.Side.{Side}
 use Rattle.l2_types.specs.declared.side.Side.TheVariants.{Nb, Ue}
 use Rattle.um_losses.specs.Losses.{Losses, is_long}

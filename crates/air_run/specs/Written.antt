@@ -8,7 +8,7 @@ use Rattle.air_record.specs.declared.line.Line.TheVariants as lines
 use Rattle.air_record.specs.declared.record.Record.{Record}
 use Rattle.air_record.specs.Text.{texts_of}
 use Rattle.bearer_types.specs.declared.config.BearerConfig.{BearerConfig}
-use Rattle.l2_node.specs.End.{heard_by}
+use Rattle.bearer_types.specs.Sides.{heard_by}
 use Rattle.l2_types.specs.declared.channel.Kind.{Kind}
 use Rattle.l2_types.specs.declared.channel.Kind.TheVariants.{Um}
 use Rattle.l2_types.specs.declared.side.Side.{Side}

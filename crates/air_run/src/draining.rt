@@ -2,7 +2,8 @@
 ghost use Rattle.std.specs.Prelude.{◌≡◌, ◌≤◌, ◌++◌, OnOk, IfOk};
 ghost use Rattle.air_link.specs.Draining.{drain_tti};
 ghost use Rattle.air_run.specs.Written.{told};
-ghost use Rattle.air_run.specs.Draining.{shown, ttis, round, rounds, budget, ending, drained};
+ghost use Rattle.air_run.specs.Draining.{shown, ttis, round, rounds, budget, drained};
+ghost use Rattle.air_record.specs.Endings.{ending};
 
 use crate::journal::Journal;
 use air_link::Link;

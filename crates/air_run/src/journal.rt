@@ -3,7 +3,7 @@ ghost use Rattle.air_record.specs.Text.{accepted_text};
 ghost use Rattle.air_run.specs.Draining.{shown};
 ghost use Rattle.air_run.specs.Written.{Journal as Machine, all_seen, all_forged, with_um, noticed, told, noted};
 ghost use Rattle.air_text.specs.Ranges.{IsInRange};
-ghost use Rattle.l2_node.specs.End.{heard_by};
+ghost use Rattle.bearer_types.specs.Sides.{heard_by};
 ghost use Rattle.pdu_show.specs.Show.{block_shown};
 ghost use Rattle.um_losses.specs.Losses.{none_seen, is_long};
 

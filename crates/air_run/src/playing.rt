@@ -3,7 +3,8 @@ ghost use Rattle.std.specs.Prelude.{◌≡◌, true, false, not, None, OnOk, IfO
 ghost use Rattle.air_text.specs.Ranges.{IsInRange};
 ghost use Rattle.air_run.specs.Draining.{shown};
 ghost use Rattle.air_run.specs.Written.{told, noted};
-ghost use Rattle.air_run.specs.Playing.{played, acted, keys_or_none, next_keys};
+ghost use Rattle.air_run.specs.Playing.{played, acted, keys_or_none};
+ghost use Rattle.air_record.specs.Cells.{next_keys};
 ghost use Rattle.air_run.specs.Rules.{rule_broken, is_idle};
 
 use crate::draining::drain;

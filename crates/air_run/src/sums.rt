@@ -2,7 +2,7 @@
 ghost use Rattle.std.specs.Prelude.{◌≡◌, ◌++◌, OnOk, IfOk};
 ghost use Rattle.air_record.specs.Text.{texts_of};
 ghost use Rattle.air_run.specs.Sums.{state_of, sum_of, sums_of, all_sums, finishing};
-ghost use Rattle.l2_node.specs.End.{sent_by};
+ghost use Rattle.bearer_types.specs.Sides.{sent_by};
 
 use crate::journal::Journal;
 use crate::rules::is_known;

@@ -2,3 +2,4 @@ pub mod Numbers
 pub mod Octets
 pub mod Configs
 pub mod Splits
+pub mod LinesBack

@@ -4,3 +4,4 @@ pub mod Options
 pub mod Reading
 pub mod Ranges
 pub mod Groups
+pub mod Spoken

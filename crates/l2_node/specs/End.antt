@@ -7,9 +7,6 @@ use Rattle.harq.specs.Sending.{Sending, fresh as fresh_sender}
 use Rattle.harq.specs.Receiving.{Receiving, fresh as fresh_receiver}
 use Rattle.l2_types.specs.declared.channel.Channel.{Channel}
 use Rattle.l2_types.specs.declared.side.Side.{Side}
-use Rattle.l2_types.specs.declared.side.Side.TheVariants.{Nb, Ue}
-use Rattle.mac_pdu.specs.declared.item.Direction.{Direction}
-use Rattle.mac_pdu.specs.declared.item.Direction.TheVariants.{Down, Up}
 use Rattle.prioritise.specs.Channels.{has as has_channel}
 use Rattle.prioritise.specs.Shares.{Bucketed, no_channels, added, emptied}
 use Rattle.l2_node.specs.Finding.{Numbers, place}
@@ -24,15 +21,6 @@ pub record End : Type 0 where
   pub sender : Sending
   pub receiver : Receiving
   pub numbers : Numbers
-
--- the direction in which an end sends, and that in which it hears
-abbrev pub sent_by : Side → Direction
-sent_by Nb = Down
-sent_by Ue = Up
-
-abbrev pub heard_by : Side → Direction
-heard_by Nb = Up
-heard_by Ue = Down
 
 abbrev pub no_numbers : Numbers
 no_numbers = replicate 8 (replicate 11 None)

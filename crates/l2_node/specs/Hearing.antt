@@ -10,7 +10,8 @@ use Rattle.mac_pdu.specs.declared.fault.MacRefusal.{MacRefusal}
 use Rattle.mac_pdu.specs.Items.{MacItem, front, element, sdu, padding}
 use Rattle.mac_pdu.specs.Reading.{reading}
 use Rattle.l2_node.specs.Finding.{find, has, bearer_at}
-use Rattle.l2_node.specs.End.{End, heard_by}
+use Rattle.l2_node.specs.End.{End}
+use Rattle.bearer_types.specs.Sides.{heard_by}
 
 -- the bearers, and what has been told
 pub record Heard : Type 0 where

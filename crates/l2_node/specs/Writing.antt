@@ -15,7 +15,8 @@ use Rattle.mac_pdu.specs.Writing.{Parts, items_of, writing, canonical, with_cont
 use Rattle.prioritise.specs.Levels.{report}
 use Rattle.prioritise.specs.Shares.{allotted}
 use Rattle.l2_node.specs.Finding.{Numbers, find, has, bearer_at, lowest}
-use Rattle.l2_node.specs.End.{End, sent_by}
+use Rattle.l2_node.specs.End.{End}
+use Rattle.bearer_types.specs.Sides.{sent_by}
 
 -- ---- needs and shares
 

@@ -2,7 +2,7 @@
 ghost use Rattle.std.specs.Prelude.{◌≡◌, ◌≤◌, ◌<◌, ◌+◌, [], length, OnOk, IfOk};
 ghost use Rattle.harq.specs.Sending.{ndi_of};
 ghost use Rattle.prioritise.specs.Shares.{after_allot};
-ghost use Rattle.l2_node.specs.End.{sent_by};
+ghost use Rattle.bearer_types.specs.Sides.{sent_by};
 ghost use Rattle.l2_node.specs.Writing.{taken_up, need_at, needs, filled, written};
 ghost use Rattle.l2_node.specs.Building.{IsEnough, visit, visited, loaded, built, building};
 

@@ -1,7 +1,8 @@
 // A block comes, a TTI begins, a timer expires, an SDU is submitted.
 ghost use Rattle.std.specs.Prelude.{◌≡◌, ◌<◌, ◌^◌, ◌+◌, ◌++◌, ℕ, None, Err, true, length, IfOk, IfErr, OnOk, OnErr, IsTrue};
 ghost use Rattle.bearer_pdcp.specs.Submitting.{Answers, StaysOrDies};
-ghost use Rattle.l2_node.specs.End.{End as Machine, heard_by};
+ghost use Rattle.l2_node.specs.End.{End as Machine};
+ghost use Rattle.bearer_types.specs.Sides.{heard_by};
 ghost use Rattle.l2_node.specs.Finding.{has};
 ghost use Rattle.l2_node.specs.Hearing.{Heard, heard, hears, hears_sdu, hears_all, heard_items, received, ticks_at, ticks_over, ticked, expiry, expired};
 ghost use Rattle.mac_pdu.specs.Views.{item_in, IsShort};

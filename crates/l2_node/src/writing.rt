@@ -2,7 +2,7 @@
 ghost use Rattle.std.specs.Prelude.{◌≡◌, ◌<◌, ◌≤◌, ◌^◌, ◌+◌, ◌++◌, ◌∷◌, ℕ, None, All, [], OnOk, IfOk, slice_index, length};
 ghost use Rattle.bearer_pdcp.specs.Shares.{FitsShare, in_block};
 ghost use Rattle.prioritise.specs.Shares.{over};
-ghost use Rattle.l2_node.specs.End.{sent_by};
+ghost use Rattle.bearer_types.specs.Sides.{sent_by};
 ghost use Rattle.l2_node.specs.Finding.{find, has, bearer_at, lowest};
 ghost use Rattle.l2_node.specs.Writing.{taken_up, Block, Work, work, sdus_of, with_sdus, noted, gathered, wrote, writes, all_write, nothing_written};
 

@@ -1,12 +1,7 @@
-//! The commands of the program, from the words of a command line and the octets of an input to the octets written.
+//! The commands of the program, with what is promised of every journal that they write.
 #![tactic(auto)]
 
-mod engine;
-mod playing;
-mod status;
-mod summing;
 mod top;
 
-pub use cli_words::{Command, Words};
-pub use status::Status;
+pub use l2_commands::{Command, Status, Words};
 pub use top::l2_main;

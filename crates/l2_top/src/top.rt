@@ -1,118 +1,20 @@
-ghost use Rattle.std.specs.Prelude.{◌≡◌, ℕ, IfOk, None, Some, string_bytes};
-ghost use Rattle.l2_io.specs.Known.{HasRisen};
-ghost use Rattle.law_run.specs.Journals.{EveryJournal};
-ghost use Rattle.air_run.specs.Journal.{journal_of};
+ghost use Rattle.std.specs.Prelude.{◌≡◌, ℕ, None, Some};
 ghost use Rattle.cli_words.specs.Commands.{command_of};
-ghost use Rattle.l2_top.specs.Engines.{blocks_of};
-ghost use Rattle.l2_top.specs.Main.{reason_text, refused_text, Tells, TellsRefusal, TellsEnding, Refuses, Runs, Generates};
+ghost use Rattle.l2_commands.specs.Engines.{journal_of, blocks_of};
+ghost use Rattle.l2_commands.specs.Main.{Refuses, Runs, Generates};
+ghost use Rattle.l2_commands.specs.Streams.{output, streams};
+ghost use Rattle.law_run.specs.Journals.{EveryJournal};
 
-use crate::playing::{Ending, play_script, show_blocks};
-use crate::summing::sum_script;
 use crate::{Command, Status, Words};
-use air_run::{Reason, RunRefusal};
-use air_text::LineRefusal;
-use l2_io::{PutFault, Sink, Source};
-use std::alloc::{AllocError, Global};
-
-fn reason_word(reason: Reason) -> &'static str
-    ensures { result.now ≡ reason_text reason }
-{
-    match reason {
-        Reason::Line(LineRefusal::Word) => "word",
-        Reason::Line(LineRefusal::Number) => "number",
-        Reason::Line(LineRefusal::Range) => "range",
-        Reason::Line(LineRefusal::Hex) => "hex",
-        Reason::Line(LineRefusal::Fields) => "fields",
-        Reason::Line(LineRefusal::Long) => "long",
-        Reason::Run(RunRefusal::UnknownBearer) => "unknown bearer",
-        Reason::Run(RunRefusal::BearerTwice) => "bearer twice",
-        Reason::Run(RunRefusal::ConfiguredLate) => "configured late",
-        Reason::Run(RunRefusal::KeyUsed) => "key used",
-        Reason::Run(RunRefusal::TimerIdle) => "timer idle",
-        Reason::Run(RunRefusal::SmallDrain) => "small drain",
-        Reason::Run(RunRefusal::NoKeys) => "no keys",
-        Reason::Run(RunRefusal::SetTwice) => "set twice",
-        Reason::Run(RunRefusal::LoopOn) => "loop on",
-        Reason::Run(RunRefusal::NoDiscard) => "no discard",
-        Reason::Run(RunRefusal::Forged) => "forged",
-        Reason::Run(RunRefusal::DrxFields) => "drx fields",
-        Reason::Lines => "lines",
-    }
-}
-
-fn refusal_string(alloc: Global, number: u32, reason: Reason) -> Result<String, AllocError>
-    ensures { IfOk result (λ text. string_bytes text ≡ refused_text number reason) }
-{
-    let word = reason_word(reason);
-    format!(in alloc; "line {number}: {word}\n")
-}
-
-// Puts a text to errs, where the answer stays.
-fn say<E: Sink>(errs: &mut E, text: &[u8])
-    ensures told { Tells text.now (E.written errs.old) (E.written errs.new) (HasRisen (E.faults errs.old) (E.faults errs.new)) (HasRisen (E.shortages errs.old) (E.shortages errs.new)) }
-{
-    let _ = errs.put(text);
-}
-
-fn refuse_words<E: Sink>(errs: &mut E) -> Status
-    ensures { Refuses (E.written errs.old) (E.written errs.new) (HasRisen (E.faults errs.old) (E.faults errs.new)) (HasRisen (E.shortages errs.old) (E.shortages errs.new)) result }
-{
-    match errs.put(b"usage: l2 run | l2 decode | l2 generate N\n") {
-        Ok(()) => Status::Usage,
-        Err(PutFault::Failed) => Status::WriteFault,
-        Err(PutFault::NoMemory) => Status::NoMemory,
-    }
-}
-
-fn refuse_line<E: Sink>(alloc: Global, number: u32, reason: Reason, errs: &mut E) -> Status
-    ensures { TellsRefusal number reason (E.written errs.old) (E.written errs.new) (HasRisen (E.faults errs.old) (E.faults errs.new)) (HasRisen (E.shortages errs.old) (E.shortages errs.new)) result }
-{
-    let Ok(text) = refusal_string(alloc, number, reason) else {
-        say(errs, b"out of memory\n");
-        return Status::NoMemory;
-    };
-    match errs.put(text.as_bytes()) {
-        Ok(()) => Status::Refused,
-        Err(PutFault::Failed) => Status::WriteFault,
-        Err(PutFault::NoMemory) => Status::NoMemory,
-    }
-}
-
-fn finish<E: Sink>(alloc: Global, ending: Ending, errs: &mut E) -> Status
-    ensures { TellsEnding ending (E.written errs.old) (E.written errs.new) (HasRisen (E.faults errs.old) (E.faults errs.new)) (HasRisen (E.shortages errs.old) (E.shortages errs.new)) result }
-{
-    match ending {
-        Ending::Done => Status::Done,
-        Ending::Refused { number, reason } => refuse_line(alloc, number, reason, errs),
-        Ending::ReadFault => {
-            say(errs, b"read fault\n");
-            Status::ReadFault
-        }
-        Ending::WriteFault => {
-            say(errs, b"write fault\n");
-            Status::WriteFault
-        }
-        Ending::NoMemory => {
-            say(errs, b"out of memory\n");
-            Status::NoMemory
-        }
-    }
-}
-
-// Plays the script of a number, and writes its sums.
-fn generate<K: Sink, E: Sink>(alloc: Global, number: u32, out: &mut K, errs: &mut E) -> Status
-    ensures { Generates number (K.written out.old) (K.written out.new) (E.written errs.old) (E.written errs.new) (HasRisen (K.faults out.old) (K.faults out.new))
-        (HasRisen (E.faults errs.old) (E.faults errs.new)) (HasRisen (E.shortages errs.old) (E.shortages errs.new)) result }
-{
-    let ending = sum_script(alloc, number, out);
-    finish(alloc, ending, errs)
-}
+use l2_commands::run_command;
+use l2_io::{Sink, Source};
+use law_run::every_journal;
+use std::alloc::Global;
 
 /// Runs the command that the words name.
 ///
-/// The clauses `run`, `decode` and `generate` say what is written, and what each answer means; `promises` says what holds of
-/// every journal of a script.
-#[tactic(auto, using(crate::proofs::Rows::every_journal_is_promised, crate::proofs::Rows::ungenerated))]
+/// The clauses `run`, `decode` and `generate` say what is written, and what each answer means;
+/// `promises` says what holds of every journal of a script, and is the law `every_journal`.
 pub fn l2_main<S: Source, K: Sink, E: Sink>(
     alloc: Global,
     words: &Words,
@@ -120,34 +22,22 @@ pub fn l2_main<S: Source, K: Sink, E: Sink>(
     out: &mut K,
     errs: &mut E,
 ) -> Status
-    ensures usage { command_of words.now ≡ None → Refuses (E.written errs.old) (E.written errs.new) (HasRisen (E.faults errs.old) (E.faults errs.new)) (HasRisen (E.shortages errs.old) (E.shortages errs.new)) result
+    ensures usage { command_of words.now ≡ None
+        → Refuses (output E.Sink errs.old) (output E.Sink errs.new) result
         × (S.left source.new ≡ S.left source.old) × (K.written out.new ≡ K.written out.old) }
-    ensures run { command_of words.now ≡ Some Command.Run → Runs journal_of (S.left source.old) (S.left source.new) (K.written out.old) (K.written out.new)
-        (E.written errs.old) (E.written errs.new) (HasRisen (S.faults source.old) (S.faults source.new)) (HasRisen (K.faults out.old) (K.faults out.new))
-        (HasRisen (E.faults errs.old) (E.faults errs.new)) (HasRisen (E.shortages errs.old) (E.shortages errs.new)) result }
-    ensures decode { command_of words.now ≡ Some Command.Decode → Runs blocks_of (S.left source.old) (S.left source.new) (K.written out.old) (K.written out.new)
-        (E.written errs.old) (E.written errs.new) (HasRisen (S.faults source.old) (S.faults source.new)) (HasRisen (K.faults out.old) (K.faults out.new))
-        (HasRisen (E.faults errs.old) (E.faults errs.new)) (HasRisen (E.shortages errs.old) (E.shortages errs.new)) result }
-    ensures generate { (number : ℕ) → command_of words.now ≡ Some (Command.Generate number) → Generates number (K.written out.old) (K.written out.new)
-        (E.written errs.old) (E.written errs.new) (HasRisen (K.faults out.old) (K.faults out.new))
-        (HasRisen (E.faults errs.old) (E.faults errs.new)) (HasRisen (E.shortages errs.old) (E.shortages errs.new)) result }
-    ensures unread { (number : ℕ) → command_of words.now ≡ Some (Command.Generate number) → S.left source.new ≡ S.left source.old }
+    ensures run { command_of words.now ≡ Some Command.Run
+        → Runs journal_of (streams S.Source K.Sink E.Sink source.old out.old errs.old)
+        (streams S.Source K.Sink E.Sink source.new out.new errs.new) result }
+    ensures decode { command_of words.now ≡ Some Command.Decode
+        → Runs blocks_of (streams S.Source K.Sink E.Sink source.old out.old errs.old)
+        (streams S.Source K.Sink E.Sink source.new out.new errs.new) result }
+    ensures generate { (number : ℕ) → command_of words.now ≡ Some (Command.Generate number)
+        → Generates number (output K.Sink out.old) (output K.Sink out.new)
+        (output E.Sink errs.old) (output E.Sink errs.new) result }
+    ensures unread { (number : ℕ) → command_of words.now ≡ Some (Command.Generate number)
+        → S.left source.new ≡ S.left source.old }
     ensures promises { EveryJournal }
 {
-    let Ok(command) = words.command() else {
-        say(errs, b"out of memory\n");
-        return Status::NoMemory;
-    };
-    match command {
-        None => refuse_words(errs),
-        Some(Command::Run) => {
-            let ending = play_script(alloc, source, out);
-            finish(alloc, ending, errs)
-        }
-        Some(Command::Decode) => {
-            let ending = show_blocks(alloc, source, out);
-            finish(alloc, ending, errs)
-        }
-        Some(Command::Generate { number }) => generate(alloc, number, out, errs),
-    }
+    every_journal();
+    run_command(alloc, words, source, out, errs)
 }

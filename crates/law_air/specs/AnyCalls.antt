@@ -1,5 +1,4 @@
 pub mod Counts
-pub mod Flights
 pub mod Calls
 pub mod Loops
 pub mod Ends

@@ -6,6 +6,5 @@ pub mod Keeping
 pub mod Sending
 pub mod Places
 pub mod Ciphering
-pub mod Sequences
 pub mod Order
 pub mod Acknowledged

@@ -27,10 +27,12 @@ use Rattle.prioritise.specs.ShareLaws.{IsSound, IsOneOf}
 use Rattle.prioritise.specs.Shares.{over}
 use Rattle.l2_node.proofs.Rooms.{taken_up-append, sdus_fit, report_fits}
 use Rattle.l2_node.specs.Building.{visited}
-use Rattle.l2_node.specs.End.{End, sent_by}
+use Rattle.l2_node.specs.End.{End}
+use Rattle.bearer_types.specs.Sides.{sent_by}
 use Rattle.l2_node.specs.Finding.{Numbers, has, lowest}
 use Rattle.l2_node.specs.Writing.{needs, shares, Work, work, nothing_written, taken_up, sdus_of, writes, all_write, written, with_report, left_of, filled, new_block}
-use Rattle.law_node.specs.Blocks.{pdus_by, sdus_by, all_sdus, EachFits, report, reported, IsBlockOf}
+use Rattle.law_node.specs.Blocks.{pdus_by, sdus_by, all_sdus, EachFits, report, IsBlockOf}
+use Rattle.promises.specs.Built.{reported}
 use Rattle.law_node.specs.Calls.{Call, AreGiven, reached}
 use Rattle.law_node.specs.Sharing.{share}
 use Rattle.law_node.proofs.Fitting.{pdus_fit}

@@ -38,8 +38,9 @@ use Rattle.rlc_pdu.specs.declared.outcome.Taken.{Taken}
 use Rattle.rlc_pdu.specs.declared.outcome.Taken.TheVariants.{Piece, Idle, Small, Shut, Held, Stopped}
 use Rattle.rlc_um.specs.Sender.{is_hungry, taken as um_taken}
 use Rattle.rlc_um.specs.Transparent.{taken as tm_taken}
-use Rattle.law_node.specs.Bearers.{count_on, counts_on}
-use Rattle.law_node.specs.Writing.{is_of_writing, TellNone}
+use Rattle.promises.specs.Counts.{count_on, counts_on}
+use Rattle.law_node.specs.Writing.{TellNone}
+use Rattle.promises.specs.Events.{is_of_writing}
 use Rattle.law_node.proofs.Owning.{own}
 
 -- ---- lists of events

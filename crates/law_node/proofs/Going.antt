@@ -16,7 +16,8 @@ use Rattle.harq.specs.declared.sender.Visit.TheVariants.{New, Resend, Silent}
 use Rattle.harq.specs.Sending.{Sending}
 use Rattle.l2_bits.specs.declared.fault.SubmitRefusal.{SubmitRefusal}
 use Rattle.l2_node.specs.Building.{visited, loaded, built_by, told_by, built, building, visit}
-use Rattle.l2_node.specs.End.{End, heard_by, with_bearer, reset, with_visits}
+use Rattle.l2_node.specs.End.{End, with_bearer, reset, with_visits}
+use Rattle.bearer_types.specs.Sides.{heard_by}
 use Rattle.l2_node.specs.Finding.{Numbers, find, has, bearer_at, lowest}
 use Rattle.l2_node.specs.Hearing.{Heard, heard, hears_sdu, hears, hears_all, heard_items, received, ticks_at, ticks_over, ticked, expiry, expired, bearer_of}
 use Rattle.l2_node.specs.Moving.{all_stopped, all_restarted, left_cell, leaving, joined}
@@ -27,7 +28,8 @@ use Rattle.mac_pdu.specs.declared.fault.MacRefusal.{MacRefusal}
 use Rattle.mac_pdu.specs.Items.{MacItem, front, element, sdu, padding}
 use Rattle.mac_pdu.specs.Reading.{reading}
 use Rattle.prioritise.specs.ShareLaws.{IsSound}
-use Rattle.law_node.specs.Bearers.{counts_on, keys_in, moves, adds, AddNone}
+use Rattle.law_node.specs.Bearers.{keys_in, moves, adds, AddNone}
+use Rattle.promises.specs.Counts.{counts_on}
 use Rattle.law_node.specs.Calls.{Turn, Call, SetVisits, SetReports, Add, Submit, SetDiscard, Tick, TickBuckets, Visits, Grants, Granted, Assigned, Pass, Receive, Expire, Move, IsGiven, AreGiven, answered, after_submit, after, run}
 use Rattle.law_node.specs.Telling.{told_of, told_over}
 use Rattle.law_node.specs.Writing.{TellNone}

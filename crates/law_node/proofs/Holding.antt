@@ -25,7 +25,8 @@ use Rattle.mac_pdu.specs.Items.{MacItem, front, element, sdu, padding}
 use Rattle.mac_pdu.specs.Reading.{reading}
 use Rattle.rlc_um.specs.Transparent.{nothing_submitted}
 use Rattle.l2_node.specs.Building.{visited, loaded, built_by, built, visit}
-use Rattle.l2_node.specs.End.{End, fresh, heard_by, no_numbers, with_bearer, reset, with_visits}
+use Rattle.l2_node.specs.End.{End, fresh, no_numbers, with_bearer, reset, with_visits}
+use Rattle.bearer_types.specs.Sides.{heard_by}
 use Rattle.l2_node.specs.Finding.{Numbers, find, has, place, bearer_at, number_at, counted, lowest}
 use Rattle.l2_node.specs.Hearing.{Heard, heard, hears_sdu, hears, hears_all, heard_items, received, ticks_at, ticks_over, ticked, bearer_of, expired}
 use Rattle.l2_node.specs.Moving.{all_stopped, all_restarted, left_cell, joined}

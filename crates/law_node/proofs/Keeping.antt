@@ -17,7 +17,8 @@ use Rattle.harq.specs.declared.sender.Visit.TheVariants.{New, Resend, Silent}
 use Rattle.harq.specs.Sending.{Sending}
 use Rattle.l2_bits.specs.declared.fault.SubmitRefusal.{SubmitRefusal}
 use Rattle.l2_node.specs.Building.{visited, loaded, built_by, built, visit}
-use Rattle.l2_node.specs.End.{End, fresh, heard_by, with_bearer, reset, with_visits}
+use Rattle.l2_node.specs.End.{End, fresh, with_bearer, reset, with_visits}
+use Rattle.bearer_types.specs.Sides.{heard_by}
 use Rattle.l2_node.specs.Finding.{Numbers, find, has, place, bearer_at, lowest}
 use Rattle.l2_node.specs.Hearing.{Heard, heard, hears_sdu, hears, hears_all, heard_items, received, ticks_at, ticks_over, ticked, bearer_of, expired}
 use Rattle.l2_node.specs.Moving.{all_stopped, all_restarted, left_cell, joined}

@@ -21,7 +21,8 @@ use Rattle.l2_node.specs.Submitting.{discarding}
 use Rattle.l2_num.specs.Ascending.{IsAscending}
 use Rattle.l2_types.specs.declared.side.Side.{Side}
 use Rattle.pdcp_tx.specs.State.{Offer}
-use Rattle.law_node.specs.Bearers.{counts_on, keys_in, moves, restarts, Comes, adds, AddNone, GoesOn, IsAdded}
+use Rattle.law_node.specs.Bearers.{keys_in, moves, restarts, Comes, adds, AddNone, GoesOn, IsAdded}
+use Rattle.promises.specs.Counts.{counts_on}
 use Rattle.law_node.specs.Calls.{Turn, Call, SetVisits, SetReports, Add, Submit, SetDiscard, Tick, TickBuckets, Visits, Grants, Granted, Assigned, Pass, Receive, Expire, Move, AreGiven, answered, after, run, reached}
 use Rattle.law_node.specs.Counts.{begins}
 use Rattle.law_node.specs.Telling.{told_over}

@@ -39,7 +39,7 @@ use Rattle.rlc_pdu.specs.declared.outcome.Taken.TheVariants.{Piece, Idle, Small,
 use Rattle.rlc_um.specs.Sender.{is_hungry, taken as um_taken}
 use Rattle.rlc_um.specs.Transparent.{taken as tm_taken}
 use Rattle.law_node.specs.Calls.{Call, SetVisits, SetReports, Add, Submit, SetDiscard, Tick, TickBuckets, Visits, Grants, Granted, Assigned, Pass, Receive, Expire, Move}
-use Rattle.law_node.specs.Loops.{is_of_loop, TellNoLoop}
+use Rattle.promises.specs.Events.{is_of_loop, TellNoLoop}
 use Rattle.law_node.specs.Telling.{told_of}
 use Rattle.law_node.proofs.Silences.{loops_nothing}
 

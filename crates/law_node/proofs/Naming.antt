@@ -53,10 +53,10 @@ use Rattle.rlc_pdu.specs.Writing.{umd_canonical}
 use Rattle.law_node.specs.Blocks.{pdus_by, sdus_by, all_sdus}
 use Rattle.law_node.specs.Calls.{Call, AreGiven, reached}
 use Rattle.law_node.specs.Holding.{flow}
-use Rattle.law_node.specs.Names.{Sent, sends, IsPdcp, IsUmd, Mode, mode, IsNamed, AreNamed, modes_of}
+use Rattle.law_node.specs.Names.{mode, modes_of}
+use Rattle.promises.specs.Names.{Sent, sends, IsPdcp, IsUmd, Mode, IsNamed, AreNamed, sent_on}
 use Rattle.law_node.specs.Sharing.{share, held}
 use Rattle.law_node.specs.Waiting.{told_by, all_told}
-use Rattle.law_node.specs.Writing.{sent_on}
 use Rattle.law_node.proofs.AmWithin.{able}
 use Rattle.law_node.proofs.Keeping.{AllAre, at_is, visiting_are}
 use Rattle.law_node.proofs.Offers.{Offers}

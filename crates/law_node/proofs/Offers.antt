@@ -38,7 +38,7 @@ use Rattle.pdcp_sec.proofs.Lengths.{length_ciphered_with}
 use Rattle.pdcp_sec.specs.Protection.{Protection, protection_of, ciphered_with, tag_of}
 use Rattle.pdcp_tx.specs.Pdus.{mac_i, pdu}
 use Rattle.pdcp_tx.specs.State.{State as Sending, Offer, refusal, owed_offers, again_offer, new_offers, offers, written, taking, reported, restarted as restarted_sending, owing}
-use Rattle.law_node.specs.Names.{IsPdcp, IsData, IsReport, IsSignalling}
+use Rattle.promises.specs.Names.{IsPdcp, IsData, IsReport, IsSignalling}
 use Rattle.law_node.proofs.Pdcp.{Passes}
 use Rattle.law_node.proofs.Texts.{WaitsHave, SentHave, Sends, take_waits, took_sends, confirmed_sends, reported_sends, ticked_sends, submitted_sends, restarted_sends, start_sends}
 

@@ -8,8 +8,8 @@ use Rattle.bearer.specs.declared.flow.Flow.TheVariants.{Tm}
 use Rattle.bearer.specs.Hearing.{arriving, arrived, ticking, ticked as flow_ticked, expiry as flow_expiry}
 use Rattle.bearer.specs.Lives.{stopping}
 use Rattle.bearer.specs.Taking.{told, after}
-use Rattle.law_bearer.specs.AnyBearer.Order.{Sequences, in_a_block, of_a_pdu, of_an_expiry, in_a_tti, at_the_end}
-use Rattle.law_bearer.specs.AnyBearer.Sequences.{just, each}
+use Rattle.law_words.specs.BearerOrder.{OfEvents, in_a_block, of_a_pdu, of_an_expiry, in_a_tti, at_the_end, is_srb, of_a_channel}
+use Rattle.law_words.specs.Sequences.{just, each}
 use Rattle.law_bearer.proofs.AnyBearer.Between.{IsBetween, begins, submits, discards, takes, arrives, expires, ticks_of, moves}
 use Rattle.law_bearer.proofs.AnyBearer.Sequences.{both, Behind, behind, behind_none, behind_then, behind_nothing}
 use Rattle.law_bearer.proofs.AnyBearer.Told.{told_in_order, nothing_told}
@@ -19,7 +19,8 @@ use Rattle.harq.specs.declared.sender.Visit.{Visit}
 use Rattle.harq.specs.declared.sender.Visit.TheVariants.{New}
 use Rattle.harq.specs.Sending.{Sending}
 use Rattle.l2_node.specs.Building.{visited, visit, building, told_by}
-use Rattle.l2_node.specs.End.{End, heard_by}
+use Rattle.l2_node.specs.End.{End}
+use Rattle.bearer_types.specs.Sides.{heard_by}
 use Rattle.l2_node.specs.Finding.{Numbers, find, has, bearer_at, lowest}
 use Rattle.l2_node.specs.Hearing.{Heard, heard, hears_sdu, hears, hears_all, heard_items, received, ticks_at, ticks_over, ticked, bearer_of, expiry}
 use Rattle.l2_node.specs.Moving.{all_stopping, leaving}
@@ -32,7 +33,7 @@ use Rattle.mac_pdu.specs.declared.fault.MacRefusal.{MacRefusal}
 use Rattle.mac_pdu.specs.Items.{MacItem, front, element, sdu, padding}
 use Rattle.mac_pdu.specs.Reading.{reading}
 use Rattle.law_node.specs.Calls.{Call, AreGiven, reached}
-use Rattle.law_node.specs.Order.{is_srb, BuildsInOrder, of_a_channel, of_an_item, of_items, HearsInOrder, TicksInOrder, ExpiresInOrder, StopsInOrder, IsToldInOrder}
+use Rattle.law_node.specs.Order.{BuildsInOrder, of_an_item, of_items, HearsInOrder, TicksInOrder, ExpiresInOrder, StopsInOrder, IsToldInOrder}
 use Rattle.law_node.proofs.Places.{has_set, found}
 use Rattle.rlc_um.specs.Transparent.{nothing_submitted}
 use Rattle.law_node.proofs.Signalling.{IsRight, right_kept}
@@ -54,7 +55,7 @@ between_kept = record {
   moves = moves;
 }
 
-abbrev writing : Channel → Sequences
+abbrev writing : Channel → OfEvents
 writing c = in_a_block c.lcid
 
 writes_in : (t : Bool) (c : Channel) (share : ℕ) (held : Option ℕ) (w : Work) → has c.lcid w.bearers ≡ t → AllAre IsBetween w.bearers
@@ -144,7 +145,7 @@ hears_in e block a = read_in e (reading (heard_by e.side) block) a
 
 -- ---- a TTI begins
 
-abbrev beginning : Of Life → Sequences
+abbrev beginning : Of Life → OfEvents
 beginning b = in_a_tti b.lcid
 
 -- those that have told, and those that have still to tell
@@ -187,7 +188,7 @@ expires_in lcid clock e a = expires_by (has lcid e.bearers) lcid clock e refl a
 
 -- ---- the end leaves its cell
 
-abbrev ending : Of Life → Sequences
+abbrev ending : Of Life → OfEvents
 ending b = at_the_end (is_srb b.lcid) b.lcid
 
 all_stop_in : (bs : List (Of Life)) → AllAre IsBetween bs → AllAre IsRight bs → each ending bs (all_stopping bs)

@@ -4,7 +4,7 @@ use Rattle.std.specs.List.{AllByRecursion}
 use Rattle.std.proofs.lemmas.Bool.Decides.{nat_tests}
 use Rattle.rlc_queue.specs.NewPdu.{room, may_follow, elements, rest, partial, framing}
 use Rattle.rlc_queue.specs.Waiting.{behind}
-use Rattle.law_node.specs.Names.{whole_sdus}
+use Rattle.promises.specs.Names.{whole_sdus}
 
 -- the first begins an SDU, the last ends one: the elements that are whole
 abbrev pub whole : Bool → Bool → List (List ℕ) → List (List ℕ)

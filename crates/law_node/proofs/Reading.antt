@@ -36,7 +36,7 @@ use Rattle.rlc_queue.proofs.Lens.{written as new-lens}
 use Rattle.rlc_queue.specs.NewPdu.{framing}
 use Rattle.rlc_queue.specs.Waiting.{HaveOctets}
 use Rattle.rlc_um.specs.Sender.{Sender as UmSender, head_of, pdu_of, ends_partly}
-use Rattle.law_node.specs.Names.{IsPdcp, IsUmd, IsAmd, IsStatus}
+use Rattle.promises.specs.Names.{IsPdcp, IsUmd, IsAmd, IsStatus}
 use Rattle.law_node.proofs.Pieces.{Whole, AreWhole, new_whole, whole_is}
 use Rattle.law_node.proofs.Ready.{IsSpelled, AreSpelled}
 use Rattle.law_node.proofs.Receiving.{AreShort}

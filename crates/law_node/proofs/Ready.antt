@@ -63,7 +63,7 @@ use Rattle.rlc_um.specs.Transparent.{after_take as tm_after}
 use Rattle.law_node.proofs.Ages.{more_octets, taken_by}
 use Rattle.law_node.proofs.AmWithin.{able}
 use Rattle.law_node.proofs.Keeping.{IsKept}
-use Rattle.law_node.specs.Names.{IsPdcp}
+use Rattle.promises.specs.Names.{IsPdcp}
 use Rattle.law_node.proofs.Offers.{Offers, taken_is, offers_pass, taken_offers, begun_offers, pdu_some}
 use Rattle.law_node.proofs.Pdcp.{OfPdcp, arrives, expires, ticks_of, submits_of, discards_of, takes_of, moves_of}
 use Rattle.law_node.proofs.Pieces.{Whole, AreWhole, more_whole, new_whole}

@@ -20,7 +20,7 @@ use Rattle.l2_types.specs.declared.event.Clock.{Clock}
 use Rattle.l2_types.specs.declared.side.Side.{Side}
 use Rattle.pdcp_pdu.specs.Kinds.{is_am}
 use Rattle.pdcp_pdu.specs.declared.pdu.PdcpKind.{PdcpKind}
-use Rattle.law_node.specs.Order.{is_srb}
+use Rattle.law_words.specs.BearerOrder.{is_srb}
 use Rattle.law_node.proofs.Keeping.{IsKept}
 use Rattle.law_node.proofs.KindsStay.{IsOfKind, kind_passes}
 use Rattle.law_node.proofs.Pdcp.{arrives, expires, ticks_of, submits_of, discards_of, takes_of, moves_of}

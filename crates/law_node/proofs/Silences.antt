@@ -22,7 +22,8 @@ use Rattle.bearer_types.specs.declared.event.Event.TheVariants as events
 use Rattle.bearer.specs.Unacknowledged.Hearing.{Hearing, hears as um_hears, hears_all as um_hears_all, up_told, arrived_told as um_arrived_told, arriving as um_arriving, expiry_told as um_expiry_told, clock_told as um_clock_told, expiry as um_expiry, told_of as um_told_of, timed_told, timed_left, counted_down, ticking as um_ticking}
 use Rattle.bearer.specs.Unacknowledged.Lives.{stopping as um_stopping}
 use Rattle.bearer.specs.Unacknowledged.State.{State as UmBearer}
-use Rattle.l2_node.specs.End.{End, heard_by}
+use Rattle.l2_node.specs.End.{End}
+use Rattle.bearer_types.specs.Sides.{heard_by}
 use Rattle.l2_node.specs.Finding.{find, has, bearer_at}
 use Rattle.l2_node.specs.Hearing.{Heard, heard, arrives_at, hears, hears_all, heard_items, received, tells, ticks_at, ticks_over, ticked, bearer_of, expiry}
 use Rattle.l2_node.specs.Moving.{all_stopping, leaving}
@@ -57,8 +58,8 @@ use Rattle.rlc_pdu.specs.declared.fault.RlcRefusal.{RlcRefusal}
 use Rattle.rlc_pdu.specs.Pdus.{UmdPdu, AcknowledgedPdu, Payload, Status}
 use Rattle.rlc_pdu.specs.Reading.{umd_at, am_at}
 use Rattle.rlc_um.specs.Receiver.{State as UmReceiver, landing, turning, arrival, expiring, expired as um_expired, all_joined}
-use Rattle.law_node.specs.Loops.{is_of_loop, TellNoLoop}
-use Rattle.law_node.specs.Writing.{is_of_writing, TellNone, WritesNothing}
+use Rattle.promises.specs.Events.{is_of_loop, TellNoLoop, is_of_writing}
+use Rattle.law_node.specs.Writing.{TellNone, WritesNothing}
 
 -- what is told elsewhere
 abbrev is_elsewhere : Event → Bool

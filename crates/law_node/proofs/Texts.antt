@@ -13,7 +13,7 @@ use Rattle.pdcp_pdu.specs.declared.pdu.PdcpKind.TheVariants as pdcp
 use Rattle.pdcp_pdu.specs.Kinds.{is_am}
 use Rattle.pdcp_tx.specs.State.{State, took_new, took_again, took_owed, took, confirmed, fms_count, reported_from, reported, ticked, is_overdue, after_late, submitted, waiting_on, restarted, start}
 use Rattle.pdcp_sec.specs.Protection.{Protection}
-use Rattle.law_node.specs.Names.{IsPdcp}
+use Rattle.promises.specs.Names.{IsPdcp}
 
 -- ---- what waits, what is to be taken again, and what was given
 

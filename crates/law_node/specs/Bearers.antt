@@ -1,6 +1,6 @@
 -- Each bearer of an end goes on by calls of its own, in lives that begin as the end moves
 -- (TS 36.322 4.2.1, TS 36.323 4.2): what `law_bearer` promises holds of it.
-use Rattle.std.specs.Prelude.{◌≡◌, ℕ, ◌==◌, if◌then◌else◌, Bool, true, false, List, [], ◌∷◌, ◌++◌}
+use Rattle.std.specs.Prelude.{◌≡◌, ℕ, ◌==◌, Bool, true, false, List, [], ◌∷◌, ◌++◌}
 use Rattle.std.specs.List.{AllByRecursion}
 use Rattle.bearer.specs.Bearer.{flow_of}
 use Rattle.bearer.specs.declared.flow.Flow.{Flow}
@@ -8,26 +8,14 @@ use Rattle.law_bearer.specs.AnyBearer.Calls.{Step, run as go}
 pub use Rattle.law_bearer.specs.AnyBearer.Ciphering.{restarts}
 use Rattle.law_bearer.specs.AnyBearer.Stream.{all_taken, counts}
 use Rattle.bearer_types.specs.declared.config.BearerConfig.{BearerConfig}
-use Rattle.bearer_types.specs.declared.event.Event.{Event}
-use Rattle.bearer_types.specs.declared.event.Event.TheVariants.{Take}
 use Rattle.eps_sec.specs.declared.Keys.{Keys}
 use Rattle.l2_node.specs.End.{End}
 use Rattle.l2_node.specs.Finding.{has}
 use Rattle.l2_types.specs.declared.side.Side.{Side}
-use Rattle.pdcp_tx.specs.Runs.{counts_in}
 use Rattle.law_node.specs.Calls.{Call, Add, Move, AreGiven, run, reached}
 use Rattle.law_node.specs.Holding.{flow}
 use Rattle.law_node.specs.Telling.{told_over}
-
--- ---- what is told of a channel: the COUNTs of the SDUs that RLC takes; a transparent one has none
-
-abbrev pub count_on : ℕ → Event → List ℕ
-count_on lcid (Take l count len) = if l == lcid then counts_in count else []
-count_on lcid event = []
-
-abbrev pub counts_on : ℕ → List Event → List ℕ
-counts_on lcid [] = []
-counts_on lcid (event ∷ events) = count_on lcid event ++ counts_on lcid events
+use Rattle.promises.specs.Counts.{counts_on}
 
 -- ---- the lives of bearers: under which keys one begins in a call of the end
 

@@ -1,5 +1,5 @@
 -- What a new block brings (TS 36.321 5.4.3.1, 5.4.5, 6.1.2).
-use Rattle.std.specs.Prelude.{◌≡◌, ℕ, ◌≤◌, Bool, true, if◌then◌else◌, Option, Some, None, Ok, List, [], ◌∷◌, ◌++◌, length, map, replicate}
+use Rattle.std.specs.Prelude.{◌≡◌, ℕ, ◌≤◌, Bool, true, if◌then◌else◌, Option, Ok, List, [], ◌∷◌, ◌++◌, length, map, replicate}
 use Rattle.bearer.specs.Taking.{pdus}
 use Rattle.bearer_pdcp.specs.Shares.{FitsShare}
 use Rattle.harq.specs.declared.sender.Order.{Order}
@@ -7,17 +7,18 @@ use Rattle.l2_types.specs.declared.channel.Channel.{Channel}
 use Rattle.l2_types.specs.declared.side.Side.{Side}
 use Rattle.mac_pdu.specs.declared.builder.Sdu.{Sdu}
 use Rattle.mac_pdu.specs.declared.item.Bsr.{Bsr}
-use Rattle.mac_pdu.specs.declared.item.Control.TheVariants.{Report}
-use Rattle.mac_pdu.specs.Items.{MacItem, front, element, padding, sdu_item}
+use Rattle.mac_pdu.specs.Items.{front, padding, sdu_item}
 use Rattle.mac_pdu.specs.Reading.{reading}
 use Rattle.prioritise.specs.ShareLaws.{IsOneOf}
 use Rattle.l2_node.specs.Building.{visited}
-use Rattle.l2_node.specs.End.{End, sent_by}
+use Rattle.l2_node.specs.End.{End}
+use Rattle.bearer_types.specs.Sides.{sent_by}
 use Rattle.l2_node.specs.Finding.{has}
 use Rattle.l2_node.specs.Hearing.{bearer_of}
 use Rattle.l2_node.specs.Writing.{sdus_of, written, report_of, left_of, new_block}
 use Rattle.law_node.specs.Calls.{Call, AreGiven, reached}
 use Rattle.law_node.specs.Sharing.{held, share}
+use Rattle.promises.specs.Built.{reported}
 
 -- the PDUs that the bearer of a channel writes within its share
 abbrev pub pdus_by : End → ℕ → Channel → List (List ℕ)
@@ -39,10 +40,6 @@ EachFits e grant = (c : Channel) → IsOneOf c e.buckets.channels → has c.lcid
 -- the report of what the bearers have left, where the terminal reports and the padding has room for it
 abbrev pub report : End → ℕ → Option Bsr
 report e grant = report_of e.side e.reports (written e grant).bearers e.buckets.channels (left_of grant (written e grant).block.parts)
-
-abbrev pub reported : Option Bsr → List MacItem
-reported None = []
-reported (Some r) = element (Report r) ∷ []
 
 -- a block has the grant's size; it is read as padding of one or two octets or none, the report, the bearers' PDUs, and the other padding
 pub record IsBlockOf (e : End) (grant : ℕ) : Type 0 where

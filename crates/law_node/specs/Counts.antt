@@ -3,7 +3,7 @@ use Rattle.std.specs.Prelude.{◌≡◌, ℕ, ◌==◌, Bool, true, false, List}
 use Rattle.std.specs.List.{AllByRecursion}
 use Rattle.l2_num.specs.Ascending.{IsAscending}
 use Rattle.l2_types.specs.declared.side.Side.{Side}
-use Rattle.law_node.specs.Bearers.{counts_on}
+use Rattle.promises.specs.Counts.{counts_on}
 use Rattle.law_node.specs.Calls.{Call, Add, Move, AreGiven, reached}
 use Rattle.law_node.specs.Telling.{told_over}
 

@@ -1,111 +1,20 @@
 -- A PDU in a new block is the one that its `send` names, by what it is and its number (TS 36.322 6.2.1), and the SDUs that are whole in
 -- it are PDUs of PDCP (TS 36.323 6.2).
-use Rattle.std.specs.Prelude.{◌≡◌, ◌⊎◌, ℕ, ◌-◌, ◌/◌, ◌%◌, ◌^◌, ◌<◌, Bool, true, false, if◌then◌else◌, Ok, List, [], ◌∷◌, length, take, drop, Option, Some, None}
-use Rattle.std.specs.List.{AllByRecursion}
+use Rattle.std.specs.Prelude.{◌≡◌, ℕ, Bool, if◌then◌else◌, List, Option, Some, None}
 use Rattle.bearer.specs.declared.flow.Flow.{Flow}
 use Rattle.bearer.specs.declared.flow.Flow.TheVariants.{Tm, Um, Am}
-use Rattle.bearer_types.specs.declared.event.Event.{Event}
-use Rattle.bearer_types.specs.declared.event.Event.TheVariants.{Send}
 use Rattle.harq.specs.declared.sender.Order.{Order}
 use Rattle.harq.specs.declared.sender.Visit.TheVariants.{New}
-use Rattle.l2_bits.specs.Bits.{bits_of}
 use Rattle.l2_node.specs.Building.{visited, visit, building}
 use Rattle.l2_node.specs.End.{End}
 use Rattle.l2_node.specs.Finding.{has}
-use Rattle.l2_types.specs.declared.event.How.{How}
-use Rattle.l2_types.specs.declared.event.How.TheVariants as how
 use Rattle.l2_types.specs.declared.side.Side.{Side}
-use Rattle.mac_pdu.specs.declared.builder.Sdu.{Sdu}
-use Rattle.pdcp_pdu.specs.declared.pdu.PdcpKind.{PdcpKind}
-use Rattle.pdcp_pdu.specs.declared.pdu.PdcpKind.TheVariants as pdcp
-use Rattle.pdcp_pdu.specs.Grammar.{user_spelling, srb_spelling, IsBitmap}
-use Rattle.pdcp_pdu.specs.Pdus.{SrbPdu, Sdu as DataPdu, Report}
-use Rattle.pdcp_pdu.specs.Reading.{user_at, srb_at}
-use Rattle.rlc_pdu.specs.declared.pdu.Nack.{Nack}
-use Rattle.rlc_pdu.specs.Pdus.{UmdPdu, AmdPdu, Payload, Status}
-use Rattle.rlc_pdu.specs.Reading.{umd_at, am_at}
-use Rattle.rlc_pdu.specs.Writing.{umd_canonical, amd_canonical, status_written}
 use Rattle.law_node.specs.Blocks.{all_sdus}
 use Rattle.law_node.specs.Calls.{Call, AreGiven, reached}
 use Rattle.law_node.specs.Holding.{flow}
-
--- ---- what is told of the PDUs that are sent
-
-pub record Sent : Type 0 where
-  pub lcid : ℕ
-  pub how : How
-  pub sn : ℕ
-
-abbrev pub sends : List Event → List Sent
-sends [] = []
-sends (Send lcid how sn ∷ events) = record { lcid = lcid; how = how; sn = sn } ∷ sends events
-sends (event ∷ events) = sends events
-
--- ---- an SDU of RLC is a PDU of PDCP, as senders write it and as it is read (TS 36.323 6.2)
-
--- a data PDU of a data bearer
-pub record IsData (bits : ℕ) (octets : List ℕ) : Type 0 where
-  pub sn : ℕ
-  pub data-part : List ℕ
-  pub canonical : octets ≡ user_spelling bits (DataPdu sn data-part)
-  pub read : user_at bits octets ≡ Ok (DataPdu sn data-part)
-
--- a status report: its bitmap ends with the last SDU that is held
-pub record IsReport (bits : ℕ) (octets : List ℕ) : Type 0 where
-  pub fms : ℕ
-  pub bitmap : List ℕ
-  pub ends : IsBitmap bitmap
-  pub canonical : octets ≡ user_spelling bits (Report fms bitmap)
-  pub read : user_at bits octets ≡ Ok (Report fms bitmap)
-
--- a PDU of a signalling bearer, with its MAC-I
-pub record IsSignalling (octets : List ℕ) : Type 0 where
-  pub pdu : SrbPdu
-  pub canonical : octets ≡ srb_spelling pdu
-  pub read : srb_at octets ≡ Ok pdu
-
--- only acknowledged data bearers report
-abbrev pub IsPdcp : PdcpKind → List ℕ → Type 0
-IsPdcp pdcp.Srb octets = IsSignalling octets
-IsPdcp (pdcp.Um bits) octets = IsData bits octets
-IsPdcp (pdcp.Am bits) octets = IsData bits octets ⊎ IsReport bits octets
-
--- the elements of a data PDU that are whole SDUs: all but the first where the upper bit of FI says that it continues one, and the last
--- where the lower bit says that its SDU goes on (TS 36.322 6.2.2.6)
-abbrev pub whole_sdus : ℕ → List (List ℕ) → List (List ℕ)
-whole_sdus fi elements = drop (fi / 2) (take (length elements - fi % 2) elements)
+use Rattle.promises.specs.Names.{sends, Mode, Transparent, Unacknowledged, Acknowledged, AreNamed}
 
 -- ---- a PDU of a number, as senders write it and as it is read, on a bearer of a kind
-
-pub record IsUmd (kind : PdcpKind) (bits sn : ℕ) (octets : List ℕ) : Type 0 where
-  pub pdu : UmdPdu
-  pub number : pdu.sn ≡ sn
-  pub framing : pdu.fi < 2 ^ 2
-  pub sdus : AllByRecursion (IsPdcp kind) (whole_sdus pdu.fi pdu.elements)
-  pub canonical : octets ≡ umd_canonical bits pdu
-  pub read : umd_at bits octets ≡ Ok pdu
-
--- a segment only where it is sent again
-pub record IsAmd (kind : PdcpKind) (again : Bool) (sn : ℕ) (octets : List ℕ) : Type 0 where
-  pub pdu : AmdPdu
-  pub number : pdu.sn ≡ sn
-  pub whole : again ≡ false → pdu.segment ≡ None
-  pub framing : pdu.fi < 2 ^ 2
-  pub sdus : AllByRecursion (IsPdcp kind) (whole_sdus pdu.fi pdu.elements)
-  pub canonical : octets ≡ amd_canonical pdu
-  pub read : am_at octets ≡ Ok (Payload pdu)
-
-pub record IsStatus (ack : ℕ) (octets : List ℕ) : Type 0 where
-  pub nacks : List Nack
-  pub canonical : bits_of octets ≡ status_written ack nacks
-  pub read : am_at octets ≡ Ok (Status (record { ack = ack; nacks = nacks }))
-
--- the mode of a bearer's RLC (TS 36.322 4.2.1), and the kind of its PDCP, which a transparent one has not; the numbers of UMD PDUs have so
--- many bits
-pub data Mode : Type 0 where
-  Transparent : Mode
-  Unacknowledged : ℕ → PdcpKind → Mode
-  Acknowledged : PdcpKind → Mode
 
 abbrev pub mode : Flow → Mode
 mode (Tm b) = Transparent
@@ -116,21 +25,7 @@ mode (Am b) = Acknowledged b.pdcp.kind
 abbrev pub modes_of : End → ℕ → Option Mode
 modes_of e lcid = if has lcid e.bearers then Some (mode (flow lcid e)) else None
 
--- a PDU as it is told of, on a channel of a mode
-abbrev pub IsNamed : Option Mode → How → ℕ → List ℕ → Type 0
-IsNamed (Some Transparent) how.Tm sn octets = (sn ≡ 0) × (0 < length octets)
-IsNamed (Some (Unacknowledged bits kind)) how.New sn octets = IsUmd kind bits sn octets
-IsNamed (Some (Acknowledged kind)) how.New sn octets = IsAmd kind false sn octets
-IsNamed (Some (Acknowledged kind)) how.Re sn octets = IsAmd kind true sn octets
-IsNamed (Some (Acknowledged kind)) how.Status sn octets = IsStatus sn octets
-IsNamed channel how sn octets = ⊥
-
 -- ---- the law: PDUs and what is told of them, each of its place, by the modes of the channels
-
-abbrev pub AreNamed : (ℕ → Option Mode) → List Sent → List Sdu → Type 0
-AreNamed modes [] [] = Unit {0}
-AreNamed modes (s ∷ sent) (d ∷ sdus) = (d.lcid ≡ s.lcid) × IsNamed (modes s.lcid) s.how s.sn d.octets × AreNamed modes sent sdus
-AreNamed modes sent sdus = ⊥
 
 -- of any end that builds a new block
 abbrev pub NamesWhatItSends : Type 0

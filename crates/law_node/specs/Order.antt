@@ -1,59 +1,51 @@
 -- In which order an end tells: the events of each of its calls, bearer by bearer and PDU by PDU (TS 36.321 5.4.3.1).
-use Rattle.std.specs.Prelude.{◌≡◌, ℕ, ◌==◌, Bool, ◌||◌, true, false, ◌≤◌, IfSome, Result, Ok, Err, List, [], ◌∷◌}
+use Rattle.std.specs.Prelude.{◌≡◌, ℕ, Bool, true, ◌≤◌, IfSome, Result, Ok, Err, List, [], ◌∷◌}
 use Rattle.std.specs.List.{AllByRecursion}
-use Rattle.law_bearer.specs.AnyBearer.Order.{Sequences, in_a_block, of_a_pdu, of_an_expiry, in_a_tti, at_the_end}
-use Rattle.law_bearer.specs.AnyBearer.Sequences.{nothing, just, each}
-use Rattle.bearer_types.specs.declared.event.Event.TheVariants.{BadMac, Drop}
+use Rattle.law_words.specs.BearerOrder.{OfEvents, in_a_block, of_an_expiry, in_a_tti, at_the_end}
+use Rattle.law_words.specs.Sequences.{nothing, just, each}
+use Rattle.bearer_types.specs.declared.event.Event.TheVariants.{BadMac}
 use Rattle.harq.specs.declared.sender.Order.{Order}
 use Rattle.harq.specs.declared.sender.Visit.TheVariants.{New}
 use Rattle.l2_node.specs.Building.{visit, building}
-use Rattle.l2_node.specs.End.{End, heard_by}
+use Rattle.l2_node.specs.End.{End}
+use Rattle.bearer_types.specs.Sides.{heard_by}
 use Rattle.l2_node.specs.Finding.{has}
 use Rattle.l2_node.specs.Hearing.{received, ticked, expiry}
 use Rattle.l2_node.specs.Moving.{leaving}
 use Rattle.l2_types.specs.declared.event.Clock.{Clock}
-use Rattle.l2_types.specs.declared.event.Lost.TheVariants.{NoBearer}
 use Rattle.l2_types.specs.declared.side.Side.{Side}
 use Rattle.mac_pdu.specs.declared.fault.MacRefusal.{MacRefusal}
 use Rattle.mac_pdu.specs.Items.{MacItem, front, element, sdu, padding}
 use Rattle.mac_pdu.specs.Reading.{reading}
 use Rattle.prioritise.specs.Channels.{goes_before}
 use Rattle.law_node.specs.Calls.{Call, AreGiven, reached}
+use Rattle.law_words.specs.BearerOrder.{of_a_channel, is_srb}
 
 -- a new block: the bearers, in the order of the channels
-abbrev pub BuildsInOrder : End → Sequences
+abbrev pub BuildsInOrder : End → OfEvents
 BuildsInOrder e = each (λ c. in_a_block c.lcid) e.buckets.channels
 
--- a block that comes, where it can be read: the PDUs in it, in turn
-abbrev pub of_a_channel : Bool → ℕ → Sequences
-of_a_channel true lcid = of_a_pdu lcid
-of_a_channel false lcid = just (Drop lcid NoBearer)
-
-abbrev pub of_an_item : End → MacItem → Sequences
+abbrev pub of_an_item : End → MacItem → OfEvents
 of_an_item e (sdu lcid octets) = of_a_channel (has lcid e.bearers) lcid
 of_an_item e front = nothing
 of_an_item e (element control) = nothing
 of_an_item e (padding size) = nothing
 
-abbrev pub of_items : End → Result (List MacItem) MacRefusal → Sequences
+abbrev pub of_items : End → Result (List MacItem) MacRefusal → OfEvents
 of_items e (Ok items) = each (of_an_item e) items
 of_items e (Err refusal) = just (BadMac refusal)
 
-abbrev pub HearsInOrder : End → List ℕ → Sequences
+abbrev pub HearsInOrder : End → List ℕ → OfEvents
 HearsInOrder e block = of_items e (reading (heard_by e.side) block)
 
 -- a TTI begins: the bearers, by ascending LCID
-abbrev pub TicksInOrder : End → Sequences
+abbrev pub TicksInOrder : End → OfEvents
 TicksInOrder e = each (λ b. in_a_tti b.lcid) e.bearers
 
-abbrev pub ExpiresInOrder : ℕ → Clock → Sequences
+abbrev pub ExpiresInOrder : ℕ → Clock → OfEvents
 ExpiresInOrder lcid clock = of_an_expiry lcid clock
 
--- the end leaves its cell: likewise; SRB1 and SRB2 have LCIDs 1 and 2 (TS 36.331 9.1.2)
-abbrev pub is_srb : ℕ → Bool
-is_srb lcid = lcid == 1 || lcid == 2
-
-abbrev pub StopsInOrder : End → Sequences
+abbrev pub StopsInOrder : End → OfEvents
 StopsInOrder e = each (λ b. at_the_end (is_srb b.lcid) b.lcid) e.bearers
 
 -- ---- the law

@@ -1,8 +1,7 @@
 -- An end tells of what it writes, and of data that waits, only as it builds a block (TS 36.321 5.4.3, TS 36.322 5.1).
-use Rattle.std.specs.Prelude.{◌≡◌, ℕ, Bool, true, false, IfSome, List, [], map}
+use Rattle.std.specs.Prelude.{◌≡◌, ℕ, Bool, IfSome, List, [], map}
 use Rattle.std.specs.List.{filter}
 use Rattle.bearer_types.specs.declared.event.Event.{Event}
-use Rattle.bearer_types.specs.declared.event.Event.TheVariants.{Take, Report, Send, Wait}
 use Rattle.harq.specs.declared.sender.Order.{Order}
 use Rattle.harq.specs.declared.sender.Visit.TheVariants.{New}
 use Rattle.l2_node.specs.Building.{visited, visit, building}
@@ -13,15 +12,8 @@ use Rattle.l2_types.specs.declared.event.Clock.{Clock}
 use Rattle.l2_types.specs.declared.side.Side.{Side}
 use Rattle.law_node.specs.Blocks.{all_sdus}
 use Rattle.law_node.specs.Calls.{Call, AreGiven, reached}
-use Rattle.law_node.specs.Names.{Sent, sends}
-
--- what RLC takes and writes, and why it writes nothing
-abbrev pub is_of_writing : Event → Bool
-is_of_writing (Take lcid count len) = true
-is_of_writing (Report lcid fms bitmap) = true
-is_of_writing (Send lcid how sn) = true
-is_of_writing (Wait lcid why) = true
-is_of_writing event = false
+use Rattle.promises.specs.Events.{is_of_writing}
+use Rattle.promises.specs.Names.{sent_on}
 
 abbrev pub TellNone : List Event → Type 0
 TellNone events = filter is_of_writing events ≡ []
@@ -37,10 +29,6 @@ abbrev pub WritesOnlyAsItBuilds : Type 0
 WritesOnlyAsItBuilds = (e : End) → WritesNothing e
 
 -- ---- a new block has the PDUs that its bearers tell of, channel by channel and in their order
-
--- the channels of the PDUs that are told of
-abbrev pub sent_on : List Event → List ℕ
-sent_on events = map (λ (s : Sent). s.lcid) (sends events)
 
 -- of any end that builds one
 abbrev pub TellsWhatItSends : Type 0

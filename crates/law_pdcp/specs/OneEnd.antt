@@ -1,4 +1,3 @@
-pub mod Lists
 pub mod Lives
 pub mod Bounds
 pub mod Receiving

@@ -1,4 +1,1 @@
-pub mod Stretches
-pub mod Passing
 pub mod Arrival
-pub mod Lives

@@ -12,8 +12,8 @@ use Rattle.harq.specs.SendHistory.{Deed, blocks, is_odd, is_down}
 use Rattle.harq.proofs.SendLemmas.{counts_blocks}
 use Rattle.law_air.specs.AnyCalls.Deeds.{TakesTurn, came_of, IsAnswered, Answers}
 use Rattle.mac_pdu.specs.declared.item.Direction.TheVariants.{Down}
-use Rattle.law_run.specs.Carried.{seen_as, seen}
-use Rattle.law_run.specs.Heard.{Flight, Heard, deeds_of}
+use Rattle.promises.specs.Carried.{seen_as, seen}
+use Rattle.promises.specs.Heard.{Flight, Heard, deeds_of}
 use Rattle.law_run.proofs.Building.{is_here}
 use Rattle.law_run.proofs.Sending.{Sends, SameFlights, sends_as, sends_begins, sends_turn, same_process}
 use Rattle.law_run.proofs.Hearing.{flown, with_flight, Visits}

@@ -3,17 +3,17 @@ use Rattle.std.proofs.Common.{◌≡◌, ℕ, ◌-◌, List, [], ◌∷◌, leng
 use Rattle.std.proofs.lemmas.List.{length-take-le}
 use Rattle.air_text.specs.Groups.{Group, history}
 use Rattle.bearer_types.specs.declared.event.Event.{Event}
-use Rattle.law_deliver.specs.AmChannel.Leaving.{taken_of}
-use Rattle.law_air.specs.AnyCalls.Ends.{told_by}
-use Rattle.law_rlc.specs.AmArrival.Lives.{Happening, Account, no_account, account}
+use Rattle.promises.specs.Taken.{taken_of}
+use Rattle.promises.specs.Records.{told_by}
+use Rattle.law_words.specs.Arrivals.{Happening, Account, no_account, account}
 use Rattle.law_bearer.specs.AmBearer.Lives.{other as other_end}
 use Rattle.law_deliver.specs.AmChannel.Arrival.{told_from}
 use Rattle.law_deliver.specs.AmChannel.Delivery.{taken_at, submitted_at, ups_at}
 use Rattle.law_deliver.specs.AmFlow.Air.{outset}
 use Rattle.law_deliver.proofs.AmChannel.Delivery.{channels_tell_what_is_taken, channels_deliver_what_came, channels_deliver_what_came_undiscarded}
 use Rattle.law_deliver.specs.AmDelivery.Arrival.{IsWhatCame}
-use Rattle.law_deliver.specs.AmFlow.Ups.{discards_on}
-use Rattle.law_run.specs.Arrival.{taken as taken_told, told_of, AllHandUpWhatCame, HandUpWhatCame}
+use Rattle.promises.specs.Events.{discards_on}
+use Rattle.promises.specs.Arrival.{taken as taken_told, told_of, AllHandUpWhatCame, HandUpWhatCame}
 use Rattle.law_run.specs.Order.{KeepsOrder}
 use Rattle.law_run.proofs.Delivering.{alike, is_delivering, tells, went_up_is, was_submitted_is, happened_from}
 

@@ -5,7 +5,7 @@ use Rattle.std.proofs.lemmas.Bool.{cases_eq}
 use Rattle.std.proofs.lemmas.Bool.Decides.{nat_tests}
 use Rattle.std.proofs.lemmas.List.{get_or-replicate}
 use Rattle.std.proofs.Math.ListN.{length-set}
-use Rattle.air_link.specs.Ttis.{missed}
+use Rattle.air_record.specs.Outcomes.{missed}
 use Rattle.air_link.specs.Uplink.{up_order}
 use Rattle.air_record.specs.declared.line.Fate.{Fate}
 use Rattle.air_record.specs.declared.line.Fate.TheVariants.{Ok, Bad, Miss}
@@ -22,12 +22,12 @@ use Rattle.harq.specs.Sending.{Sending, SendProcess, Block, same, fresh, empty, 
 use Rattle.harq.specs.SendHistory.{Turn, Deed, closed, deed_by, deed, turned, run, start, held_by}
 use Rattle.harq.proofs.ReceiveLemmas.{grants_right}
 use Rattle.harq.proofs.SendLemmas.{keeps_blocks}
-use Rattle.law_air.specs.AnyCalls.Deeds.{deed_of, turn, TakesTurn, came_of, brought, heard_up, up_ordered}
-use Rattle.law_air.specs.AnyCalls.Flights.{FliesUp, IsUnanswered, IsUp}
+use Rattle.law_air.specs.AnyCalls.Deeds.{deed_of, turn, TakesTurn, came_of, heard_up, up_ordered}
+use Rattle.promises.specs.Awards.{grant_brought, next_ndi, told_of_grant, grants, order_by, order, seen_by, last_seen, resends, builds, is_resent, is_built, IsVisit, AreVisits}
+use Rattle.promises.specs.Flights.{FliesUp, IsUnanswered, IsUp}
 use Rattle.law_air.proofs.AnyCalls.Telling.{none_is, some_is}
 use Rattle.mac_pdu.specs.declared.item.Direction.TheVariants.{Up}
-use Rattle.law_run.specs.Awards.{next_ndi, told_by, grants, order_by, order, seen_by, last_seen, resends, builds, is_resent, is_built, IsVisit, AreVisits}
-use Rattle.law_run.specs.Heard.{Flight, Heard, is_miss, deeds_of}
+use Rattle.promises.specs.Heard.{Flight, Heard, is_miss, deeds_of}
 use Rattle.law_run.proofs.Building.{run_maximum, is_here}
 use Rattle.law_run.proofs.Hearing.{flown, with_flight, Visits, none_or_some}
 use Rattle.law_run.proofs.Sending.{Sends, SameFlights, sends_as, sends_begins, sends_turn, same_process}
@@ -55,11 +55,11 @@ start_maximum maximum = refl
 -- a visit with what came of it, where it is granted
 abbrev visit_step : ℕ → Option Arrived → UpStep
 visit_step t None = Passed t
-visit_step t (Some what) = Granted t (brought what)
+visit_step t (Some what) = Granted t (grant_brought what)
 
 abbrev told_with : Option Arrived → Bool → Told
 told_with None ndi = Skipped
-told_with (Some what) ndi = Asked ndi (brought what)
+told_with (Some what) ndi = Asked ndi (grant_brought what)
 
 step_receiver : (t : ℕ) (what : Option Arrived) (w : UpWorld) → (up_stepped w (visit_step t what)).receiver ≡ heard_up t what w.receiver
 step_receiver t None w = refl
@@ -69,7 +69,7 @@ step_past : (t : ℕ) (what : Option Arrived) (w : UpWorld) (p : ℕ) → (up_st
 step_past t None w p = refl
 step_past t (Some what) w p = refl
 
-told_is : (maximum : ℕ) (what : Option Arrived) (past : List Told) → told_by maximum what past ≡ told_with what (next_ndi maximum past)
+told_is : (maximum : ℕ) (what : Option Arrived) (past : List Told) → told_of_grant maximum what past ≡ told_with what (next_ndi maximum past)
 told_is maximum None past = refl
 told_is maximum (Some what) past = refl
 

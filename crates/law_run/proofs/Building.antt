@@ -9,7 +9,7 @@ use Rattle.harq.specs.declared.sender.Visit.TheVariants.{New, Resend, Silent as 
 use Rattle.harq.specs.Sending.{Sending, Block, fresh, process_at, resend_or, version_of, visit_answer, after_visit, after_load, after_feedback, held_of}
 use Rattle.harq.specs.SendHistory.{Turn, Step, Visited, Cleared, Deed, World, closed, deed_by, deed, stepped, run, start, held_by, KeepsBlocks, is_down, are_down}
 use Rattle.harq.proofs.SendLemmas.{keeps_blocks}
-use Rattle.law_run.specs.Carried.{AreBuilt}
+use Rattle.promises.specs.Carried.{AreBuilt}
 
 -- ---- the most visits stay
 

@@ -8,12 +8,12 @@ use Rattle.air_record.specs.declared.record.Record.{Record}
 use Rattle.air_record.specs.declared.record.Record.TheVariants as records
 use Rattle.harq.specs.declared.sender.Order.TheVariants.{Silent, Free}
 use Rattle.harq.specs.SendHistory.{is_down}
-use Rattle.law_air.specs.AnyCalls.Counts.{is_of_run, is_of_air}
+use Rattle.promises.specs.Records.{is_of_run, is_of_air}
 use Rattle.law_air.specs.AnyCalls.Deeds.{Entities, entities}
 use Rattle.law_air.specs.AnyCalls.Told.{AddsTti}
 use Rattle.mac_pdu.specs.declared.item.Direction.{Direction}
 use Rattle.mac_pdu.specs.declared.item.Direction.TheVariants.{Down, Up}
-use Rattle.law_run.specs.Heard.{Heard, heard, is_miss}
+use Rattle.promises.specs.Heard.{Heard, heard, is_miss}
 use Rattle.law_run.proofs.Awarding.{StandsUp, up_as, up_turn}
 use Rattle.law_run.proofs.Sending.{SameFlights}
 use Rattle.law_run.proofs.Answering.{StandsDown, down_as, down_turn}

@@ -20,22 +20,21 @@ use Rattle.l2_node.specs.Finding.{has}
 use Rattle.l2_num.specs.Ascending.{IsAscending}
 use Rattle.l2_types.specs.declared.side.Side.{Side}
 use Rattle.l2_types.specs.declared.side.Side.TheVariants.{Nb, Ue}
-use Rattle.law_air.specs.AnyCalls.Counts.{is_same}
-use Rattle.law_air.specs.AnyCalls.Ends.{event_of, told_by, ByCalls, begins_life, LivesOn, is_of_building}
+use Rattle.bearer_types.specs.Sides.{is_same}
+use Rattle.law_air.specs.AnyCalls.Ends.{ByCalls, begins_life, LivesOn}
+use Rattle.promises.specs.Records.{event_of, told_by, is_of_building}
 use Rattle.law_air.proofs.AnyCalls.Going.{run_on, given_on, over_on}
-use Rattle.law_node.specs.Bearers.{counts_on}
+use Rattle.promises.specs.Counts.{counts_on, counts_taken, counts_since, CountsAscend}
 use Rattle.law_node.specs.Calls.{Call, Add, Move, AreGiven, run, reached}
 use Rattle.law_node.specs.Counts.{begins as call_begins}
-use Rattle.law_node.specs.Loops.{is_of_loop}
+use Rattle.promises.specs.Events.{is_of_loop, is_of_writing}
 use Rattle.law_node.specs.Telling.{told_over}
-use Rattle.law_node.specs.Writing.{is_of_writing}
 use Rattle.law_node.proofs.Counted.{counts_then}
 use Rattle.law_node.proofs.Living.{counts_ascend, none_taken as none_without}
 use Rattle.pdu_show.specs.declared.kinds.Layout.{Layout}
-use Rattle.law_run.specs.Blocks.{AreTold}
-use Rattle.law_run.specs.Counts.{counts_taken, moves, counts_since, CountsAscend}
+use Rattle.promises.specs.Blocks.{AreTold}
+use Rattle.promises.specs.Parts.{hands_over, part}
 use Rattle.law_run.specs.Order.{state_behind, IsRight, KeepsOrder}
-use Rattle.law_run.specs.Parts.{part}
 use Rattle.law_run.proofs.Keys.{not_first, not_second, no_cause}
 use Rattle.law_run.proofs.Past.{link_behind}
 use Rattle.prioritise.proofs.ChannelLemmas.{both_false}
@@ -69,7 +68,7 @@ begins lcid (lines.Bearer config options) = config.channel.lcid == lcid
 begins lcid (lines.Handover user rrc integrity) = true
 begins lcid line = false
 
-stays : (lcid : ℕ) (line : Line) → begins lcid line ≡ false → moves line ≡ false
+stays : (lcid : ℕ) (line : Line) → begins lcid line ≡ false → hands_over line ≡ false
 stays lcid (lines.Handover user rrc integrity) free = absurd cc
 stays lcid line free = refl
 
@@ -88,7 +87,7 @@ absent_at Ue lcid l e = (both_false (has lcid l.nb.bearers) (has lcid l.ue.beare
 
 -- a bearer is added only where none was, so that nothing was taken
 none_before : (side : Side) (lcid : ℕ) (line : Line) (r : Rules) (l : Link) (ns : List ℕ) → begins lcid line ≡ true → refusal line r l ≡ None → (has lcid (end_of side l).bearers ≡ false → ns ≡ [])
-    → (if moves line then [] else ns) ≡ []
+    → (if hands_over line then [] else ns) ≡ []
 unfolding rule_broken
 none_before side lcid (lines.Bearer config options) r l ns e allowed none =
     let n = config.channel.lcid in

@@ -3,9 +3,10 @@ use Rattle.std.proofs.Common.{◌≡◌, ◌≤◌, ◌<◌, ◌^◌, arith, ℕ
 use Rattle.std.specs.List.{filter}
 use Rattle.std.proofs.lemmas.List.Concat.{flat_map-append}
 use Rattle.law_bearer.specs.AmBearer.Lives.{other as other_end}
-use Rattle.law_rlc.specs.AmPair.Sdus.{IsFront}
+use Rattle.law_words.specs.Lists.{IsFront, IsSubsequence}
 use Rattle.air_link.specs.Lines.{bears}
-use Rattle.air_link.specs.Link.{Link, other}
+use Rattle.air_link.specs.Link.{Link}
+use Rattle.bearer_types.specs.Sides.{other, sent_by}
 use Rattle.air_record.specs.declared.line.Line.{Line}
 use Rattle.air_record.specs.declared.line.Line.TheVariants as lines
 use Rattle.air_record.specs.declared.record.Record.{Record}
@@ -25,21 +26,19 @@ use Rattle.law_deliver.proofs.AmChannel.Delivery.{channels_deliver_in_order, cha
 use Rattle.law_deliver.specs.AmChannel.Lives.{AirStep, end_at, all_calls}
 use Rattle.eps_sec.specs.declared.Keys.{Keys}
 use Rattle.law_deliver.specs.AmFlow.Air.{Air, outset}
-use Rattle.law_deliver.specs.AmFlow.Ups.{ups_on, discards_on, ups_in as event_ups}
-use Rattle.l2_node.specs.End.{End, sent_by}
+use Rattle.law_deliver.specs.AmFlow.Ups.{ups_on, ups_in as event_ups}
+use Rattle.promises.specs.Events.{discards_on}
+use Rattle.l2_node.specs.End.{End}
 use Rattle.l2_types.specs.declared.channel.Kind.TheVariants.{Am, Um}
 use Rattle.l2_types.specs.declared.side.Side.{Side}
 use Rattle.l2_types.specs.declared.side.Side.TheVariants.{Nb, Ue}
 use Rattle.law_node.specs.Calls.{Add, after as after_call}
 use Rattle.law_node.specs.Telling.{told_over}
-use Rattle.law_air.specs.AnyCalls.Counts.{is_up}
-use Rattle.law_air.specs.AnyCalls.Ends.{event_of, told_by}
+use Rattle.promises.specs.Records.{is_up, event_of, told_by, sdu_of, ups_in}
 use Rattle.law_air.proofs.AnyCalls.Going.{told_both}
-use Rattle.law_air.specs.AnyCalls.Zero.{sdu_of, ups_in}
-use Rattle.law_pdcp.specs.OneEnd.Lists.{IsSubsequence}
 use Rattle.prioritise.proofs.ChannelLemmas.{both_false}
-use Rattle.law_air.specs.TwoEnds.Arrival.{tells_in}
-use Rattle.law_rlc.specs.AmArrival.Lives.{Happening}
+use Rattle.promises.specs.Arrival.{tells_in, ended_by, happened}
+use Rattle.law_words.specs.Arrivals.{Happening}
 use Rattle.law_air.proofs.TwoEnds.Coming.{bearers_begin, ends_come_by}
 use Rattle.air_run.specs.Written.{all_seen, noticed, with_um}
 use Rattle.um_losses.specs.Flow.{Flow}
@@ -49,12 +48,11 @@ use Rattle.law_deliver.specs.UmGaps.Delivery.{first_flow}
 use Rattle.law_deliver.specs.UmGaps.Whats.{whats}
 use Rattle.law_deliver.proofs.UmGaps.Acting.{after_then}
 use Rattle.law_air.proofs.TwoEnds.Lives.{channels_begin}
-use Rattle.law_run.specs.Arrival.{ended_by, happened}
-use Rattle.law_run.specs.Delivery.{forges, is_forged, sets_timer, is_timed, discarded, DeliverAll, DeliversInOrder}
-use Rattle.law_run.specs.Flows.{handed_in, looped_at, submitted, delivered}
+use Rattle.promises.specs.Delivery.{forges, is_forged, sets_timer, is_timed, discarded, DeliverAll, DeliversInOrder}
+use Rattle.promises.specs.Flows.{handed_in, looped_at, submitted, delivered}
 use Rattle.law_run.specs.Order.{state_behind, IsRight, KeepsOrder}
-use Rattle.law_run.specs.Parts.{part}
-use Rattle.law_run.specs.Texts.{config_by, config_of}
+use Rattle.promises.specs.Parts.{part}
+use Rattle.promises.specs.Configs.{config_by, config_of}
 use Rattle.law_run.proofs.Early.{is_early}
 use Rattle.law_run.proofs.Failed.{HasSender, sender_goes, sender_begins}
 use Rattle.law_run.proofs.Flowing.{Sdus, Happened, Haps, word_of, with_word, Lived, unseen, LineLives, lived_now, line_lives}

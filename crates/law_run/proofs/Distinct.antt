@@ -4,13 +4,13 @@ use Rattle.std.proofs.lemmas.List.{map-append}
 use Rattle.std.specs.List.{AllByRecursion}
 use Rattle.air_record.specs.declared.line.Line.{Line}
 use Rattle.air_record.specs.declared.line.Line.TheVariants as lines
-use Rattle.air_run.specs.Playing.{next_keys}
+use Rattle.air_record.specs.Cells.{next_keys}
 use Rattle.air_text.specs.Groups.{Group}
-use Rattle.law_bearer.specs.AnyBearer.Ciphering.{AreDistinct, IsOneOf}
+use Rattle.law_bearer.specs.AnyBearer.Ciphering.{IsOneOf}
+use Rattle.law_words.specs.Lists.{AreDistinct}
 use Rattle.law_bearer.proofs.AnyBearer.Ciphering.{none_of_them}
 use Rattle.eps_sec.specs.declared.Keys.{Keys}
-use Rattle.law_run.specs.Keys.{keys_of, all_keys}
-use Rattle.law_run.specs.Texts.{in_force_by, in_force, gives, given}
+use Rattle.promises.specs.Keys.{keys_of, all_keys, in_force_by, in_force, gives_keys, given}
 
 one_of_either : (x : List ℕ) (xs : List (List ℕ)) (y : List ℕ) → IsOneOf x (xs ++ y ∷ []) → IsOneOf x xs ⊎ (x ≡ y)
 one_of_either x [] y (inl e) = inr e
@@ -93,7 +93,7 @@ three_more past k d h =
       ];
     }
 
-more_keys : (line : Line) (past : List Group) → AreDistinct (keys_of line ++ all_keys past) → AreKeys past → AreMore past (if gives line then in_force_by line (in_force past) ∷ [] else []) (keys_of line ++ all_keys past)
+more_keys : (line : Line) (past : List Group) → AreDistinct (keys_of line ++ all_keys past) → AreKeys past → AreMore past (if gives_keys line then in_force_by line (in_force past) ∷ [] else []) (keys_of line ++ all_keys past)
 more_keys (lines.Keys keys) past d h = three_more past keys d h
 more_keys (lines.Handover user rrc integrity) past d h = three_more past (next_keys user rrc integrity (in_force past)) d h
 more_keys line past d h = no_more past h

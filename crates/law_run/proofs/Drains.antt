@@ -7,7 +7,8 @@ use Rattle.air_record.specs.declared.line.Line.{Line}
 use Rattle.air_record.specs.declared.line.Line.TheVariants as lines
 use Rattle.air_record.specs.declared.record.Record.{Record}
 use Rattle.air_record.specs.declared.record.Record.TheVariants as records
-use Rattle.air_run.specs.Draining.{behind, ttis, rounds, budget, ending, drained}
+use Rattle.air_run.specs.Draining.{behind, ttis, rounds, budget, drained}
+use Rattle.air_record.specs.Endings.{ending}
 use Rattle.air_run.specs.Playing.{acted}
 use Rattle.air_run.specs.Rules.{Rules, no_rules, refused_if, rule_broken, refusal, accepted}
 use Rattle.air_run.specs.Run.{fresh}
@@ -16,7 +17,7 @@ use Rattle.air_text.specs.Groups.{Group}
 use Rattle.law_deliver.specs.AmChannel.Drained.{has_failed}
 use Rattle.law_deliver.specs.AmChannel.Lives.{lives, end_at}
 use Rattle.law_deliver.proofs.AmChannel.Drained.{drained_ends_have_delivered}
-use Rattle.law_deliver.specs.AmFlow.Ups.{discards_on}
+use Rattle.promises.specs.Events.{discards_on}
 use Rattle.l2_node.specs.End.{End}
 use Rattle.l2_node.specs.Sums.{is_drained as end_drained}
 use Rattle.l2_types.specs.declared.side.Side.{Side}
@@ -24,8 +25,8 @@ use Rattle.l2_types.specs.declared.side.Side.TheVariants.{Nb, Ue}
 use Rattle.law_node.specs.Holding.{flow}
 use Rattle.law_air.specs.TwoEnds.On.{IsOn}
 use Rattle.law_deliver.specs.AmFlow.Air.{Air}
-use Rattle.law_run.specs.Delivery.{forges, is_forged}
-use Rattle.law_run.specs.Drained.{EndsDrained, LeavesNothing, DrainsLeaveNothing}
+use Rattle.promises.specs.Delivery.{forges, is_forged}
+use Rattle.promises.specs.Drained.{EndsDrained, LeavesNothing, DrainsLeaveNothing}
 use Rattle.law_run.specs.Order.{state_behind, IsRight, KeepsOrder}
 use Rattle.law_run.proofs.Delivering.{alike, is_delivering, steps, start, tells, went_up_is, was_submitted_is}
 use Rattle.law_run.proofs.Keys.{not_first, not_second, no_cause}

@@ -14,16 +14,15 @@ use Rattle.air_text.specs.Ranges.{IsInRange}
 use Rattle.l2_types.specs.declared.side.Side.{Side}
 use Rattle.l2_types.specs.declared.side.Side.TheVariants.{Nb, Ue}
 use Rattle.law_air.specs.AnyCalls.Calls as calls
-use Rattle.law_air.specs.AnyCalls.Ends.{told_by}
+use Rattle.promises.specs.Records.{told_by}
 use Rattle.law_air.proofs.AnyCalls.Going.{told_both}
-use Rattle.law_air.specs.TwoEnds.Arrival.{tells_in}
-use Rattle.law_rlc.specs.AmArrival.Lives.{Happening}
+use Rattle.promises.specs.Arrival.{tells_in, ended_by, happened}
+use Rattle.law_words.specs.Arrivals.{Happening}
 use Rattle.law_air.specs.TwoEnds.Lives.{IsAtRest}
 use Rattle.law_air.proofs.TwoEnds.Lives.{first_rests, calls_rest}
-use Rattle.law_run.specs.Arrival.{ended_by, happened}
-use Rattle.law_run.specs.Flows.{handed_in, looped_at, submitted}
+use Rattle.promises.specs.Flows.{handed_in, looped_at, submitted}
 use Rattle.law_run.specs.Order.{state_behind, KeepsOrder}
-use Rattle.law_run.specs.Parts.{Rests, part}
+use Rattle.promises.specs.Parts.{Rests, part}
 use Rattle.law_run.proofs.Past.{link_behind}
 
 -- ---- a line that configures

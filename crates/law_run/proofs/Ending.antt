@@ -1,7 +1,7 @@
 -- The sums at the end are the journal's own counts.
 use Rattle.std.proofs.Common.{◌≡◌, ◌<◌, ℕ, List, [], ◌∷◌, ◌++◌, refl, ap, arith}
 use Rattle.std.specs.List.{AllByRecursion}
-use Rattle.air_link.specs.Link.{all_lcids}
+use Rattle.bearer_types.specs.Lcids.{all_lcids}
 use Rattle.air_link.specs.Sums.{sums}
 use Rattle.air_record.specs.declared.record.Record.{Record}
 use Rattle.air_run.specs.Run.{finish}

@@ -4,7 +4,8 @@ use Rattle.std.proofs.lemmas.List.Concat.{flat_map-append}
 use Rattle.air_link.specs.Link.{end_of}
 use Rattle.air_record.specs.declared.line.Line.{Line}
 use Rattle.air_record.specs.declared.line.Line.TheVariants as lines
-use Rattle.air_run.specs.Playing.{keys_or_none, next_keys}
+use Rattle.air_run.specs.Playing.{keys_or_none}
+use Rattle.air_record.specs.Cells.{next_keys}
 use Rattle.air_text.specs.Groups.{Group}
 use Rattle.bearer.specs.Bearer.{flow_of}
 use Rattle.bearer.specs.Acknowledged.State.{fresh as fresh_am}
@@ -16,7 +17,7 @@ use Rattle.law_deliver.specs.AmChannel.Drained.{has_failed}
 use Rattle.law_deliver.proofs.AmChannel.Delivery.{stands_so}
 use Rattle.eps_sec.specs.declared.Keys.{Keys}
 use Rattle.law_deliver.specs.AmFlow.Channels.{calls_of, GoesOnInLife}
-use Rattle.law_deliver.specs.AmFlow.Ups.{is_on, told_on}
+use Rattle.promises.specs.Events.{is_on, told_on, fails_in, fails_on}
 use Rattle.law_deliver.proofs.AmFlow.Channels.{call_by}
 use Rattle.law_deliver.proofs.AmFlow.Stations.{come_sound}
 use Rattle.law_deliver.proofs.AmFlow.Ups.{Stands, stands_more, tells_of, the_end}
@@ -24,12 +25,13 @@ use Rattle.l2_node.specs.End.{End}
 use Rattle.l2_types.specs.declared.channel.Kind.{Kind}
 use Rattle.l2_types.specs.declared.channel.Kind.TheVariants.{Am, Srb}
 use Rattle.l2_types.specs.declared.side.Side.{Side}
-use Rattle.law_air.specs.AnyCalls.Ends.{told_by}
+use Rattle.promises.specs.Records.{told_by}
 use Rattle.law_node.specs.Bearers.{adds, moves, AddNone}
 use Rattle.law_node.specs.Calls.{Call, Move, IsGiven, AreGiven, after, run}
 use Rattle.law_node.specs.Holding.{flow}
 use Rattle.law_node.specs.Telling.{told_of, told_over}
-use Rattle.law_run.specs.Drained.{fails_in, fails_on, hands_over, failed}
+use Rattle.promises.specs.Parts.{hands_over}
+use Rattle.promises.specs.Drained.{failed}
 use Rattle.law_run.specs.Order.{state_behind, IsRight, KeepsOrder}
 use Rattle.law_run.proofs.Counts.{goes}
 use Rattle.law_run.proofs.Failing.{fails, tell_failure, calls_keep, life_unfailed}

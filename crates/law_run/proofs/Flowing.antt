@@ -10,8 +10,10 @@ use Rattle.air_link.specs.Link.{Link, end_of}
 use Rattle.air_record.specs.declared.line.Line.{Line}
 use Rattle.air_record.specs.declared.line.Line.TheVariants as lines
 use Rattle.air_record.specs.declared.record.Record.{Record}
-use Rattle.air_run.specs.Draining.{shown, Drained, at_once, behind, ttis, senders_unless, round, left_by, done_by, told_by, rounds, budget, ending, drained}
-use Rattle.air_run.specs.Playing.{keys_or_none, next_keys, acted, played}
+use Rattle.air_run.specs.Draining.{shown, Drained, at_once, behind, ttis, senders_unless, round, left_by, done_by, told_by, rounds, budget, drained}
+use Rattle.air_record.specs.Endings.{ending}
+use Rattle.air_run.specs.Playing.{keys_or_none, acted, played}
+use Rattle.air_record.specs.Cells.{next_keys}
 use Rattle.air_text.specs.Ranges.{IsInRange}
 use Rattle.law_deliver.specs.AmChannel.Delivery.{accepted}
 use Rattle.eps_sec.specs.declared.Keys.{Keys}
@@ -20,18 +22,18 @@ use Rattle.l2_node.specs.Submitting.{refusal}
 use Rattle.l2_types.specs.declared.side.Side.{Side}
 use Rattle.l2_types.specs.declared.side.Side.TheVariants.{Nb, Ue}
 use Rattle.law_air.specs.AnyCalls.Calls as calls
-use Rattle.law_air.specs.AnyCalls.Counts.{is_same, is_looped}
-use Rattle.law_air.specs.AnyCalls.Ends.{told_by as told_of}
+use Rattle.bearer_types.specs.Sides.{is_same, sent_by}
+use Rattle.promises.specs.Records.{is_looped, told_by as told_of, sdu_of}
 use Rattle.law_air.proofs.AnyCalls.Going.{told_both}
 use Rattle.law_air.specs.AnyCalls.Runs.{Step, Tti, Drains, Submit, Calls, step}
 use Rattle.law_air.specs.AnyCalls.Told.{refusals}
-use Rattle.law_air.specs.AnyCalls.Zero.{sdu_of}
 use Rattle.law_air.proofs.AnyCalls.Calling.{submitting_adds}
-use Rattle.l2_node.specs.End.{End, sent_by}
+use Rattle.l2_node.specs.End.{End}
 use Rattle.law_deliver.specs.AmFlow.Air.{outset}
-use Rattle.law_air.specs.TwoEnds.Arrival.{tells_in, renews, told_by_step}
-use Rattle.law_rlc.specs.AmArrival.Lives.{Happening}
-use Rattle.law_air.specs.TwoEnds.Going.{TellAlone, GoesByAir, sets, handed_in as handed_by, looped_at as looped_by, IsStepSince}
+use Rattle.law_air.specs.TwoEnds.Arrival.{renews, told_by_step}
+use Rattle.promises.specs.Arrival.{tells_in, ended_by}
+use Rattle.law_words.specs.Arrivals.{Happening}
+use Rattle.law_air.specs.TwoEnds.Going.{TellAlone, GoesByAir, sets, handed_in as handed_by, IsStepSince}
 use Rattle.law_air.proofs.TwoEnds.Going.{last_in, tells_more}
 use Rattle.law_air.specs.TwoEnds.Staying.{hands_over as moves}
 use Rattle.law_air.proofs.TwoEnds.Coming.{ends_come_by, steps_come}
@@ -43,11 +45,9 @@ use Rattle.um_losses.specs.Names.{Place, Happening as What, begins_anew}
 use Rattle.um_losses.specs.Told.{told_in, place_behind}
 use Rattle.law_deliver.specs.UmGaps.Whats.{whats}
 use Rattle.test_loop.specs.declared.Mode.TheVariants.{Off, A, B}
-use Rattle.law_run.specs.Arrival.{ended_by}
-use Rattle.law_run.specs.Delivery.{forges, sets_timer}
-use Rattle.law_run.specs.Drained.{hands_over}
-use Rattle.law_run.specs.Flows.{handed_in, looped_at}
-use Rattle.law_run.specs.Parts.{Part, Submits, Rests, part}
+use Rattle.promises.specs.Delivery.{forges, sets_timer}
+use Rattle.promises.specs.Parts.{hands_over, Part, Submits, Rests, part}
+use Rattle.promises.specs.Flows.{handed_in, looped_at}
 use Rattle.law_run.proofs.Early.{none_looped}
 use Rattle.law_run.proofs.Texts.{adds_one}
 
@@ -114,10 +114,6 @@ untold_end side said is_done done = told_both side said (ending is_done done ∷
 
 -- ---- what holds through any steps
 
-pub air_looped : (side : Side) (n : ℕ) (told : List Record) → looped_by side n told ≡ looped_at side n told
-air_looped Nb n told = refl
-air_looped Ue n told = refl
-
 or_false : (b : Bool) → (b || false) ≡ b
 or_false true = refl
 or_false false = refl
@@ -159,7 +155,7 @@ pub record StepLives (l : ℕ) (Live : List Record → Sdus → Happened → Boo
   pub more : List Record
   pub out_is : (step s k).out ≡ k.out ++ more
   pub alone : TellAlone l more
-  pub lived : Live (told ++ more) (λ side n. handed side n ++ (handed_by side n s k ++ looped_by side n more)) (λ bits from. flown bits from ++ told_by_step bits l from s more) (set || sets l s) (step s k)
+  pub lived : Live (told ++ more) (λ side n. handed side n ++ (handed_by side n s k ++ looped_at side n more)) (λ bits from. flown bits from ++ told_by_step bits l from s more) (set || sets l s) (step s k)
 
 -- and so does each but a handover
 pub record GoesThrough (l : ℕ) (Live : List Record → Sdus → Happened → Bool → Link → Type 0) : Type 0 where
@@ -185,7 +181,7 @@ module _ (l : ℕ) (Live : List Record → Sdus → Happened → Bool → Link �
         out_is = x.out_is;
         alone = x.alone;
         lived = through.same _ _ _ _ _ _ (set || sets l s) set (step s k) refl
-            (λ side n. ap (λ (ys : List (List ℕ)). handed side n ++ (ys ++ looped_by side n x.more)) (none side n) ∙ ap (λ (ys : List (List ℕ)). handed side n ++ ys) (air_looped side n x.more))
+            (λ side n. ap (λ (ys : List (List ℕ)). handed side n ++ (ys ++ looped_at side n x.more)) (none side n))
             (λ bits from. ap (λ (hs : List Happening). flown bits from ++ (hs ++ tells_in bits l from [] x.more)) stays)
             (ap (λ (b : Bool). set || b) unset ∙ or_false set) x.lived;
       }
@@ -325,7 +321,7 @@ module _ (l : ℕ) (Live : List Record → Sdus → Happened → Bool → Link �
         more = m.out;
         lived = through.same _ _ _ _ _ _ (set || sets l s) (set || sets l s) m (ap (λ (y : List Record). told ++ y) (sym same))
             (λ side n.
-            ap (λ (ys : List (List ℕ)). handed side n ++ (handed_by side n s k ++ ys)) (air_looped side n x.more ∙ ap (looped_at side n) (sym same))
+            ap (λ (ys : List (List ℕ)). handed side n ++ (handed_by side n s k ++ ys)) (ap (looped_at side n) (sym same))
             ∙ ap (λ (ys : List (List ℕ)). handed side n ++ (ys ++ looped_at side n m.out)) (given side n))
             (λ bits from. ap (λ (y : List Record). flown bits from ++ (renews s ++ tells_in bits l from [] y)) (sym same))
             refl x.lived;

@@ -17,7 +17,8 @@ use Rattle.air_run.specs.Rules.{Rules, is_used, with_key, are_equal, is_any_used
 use Rattle.air_text.specs.Groups.{Group}
 use Rattle.eps_sec.specs.declared.Key.{Key}
 use Rattle.prioritise.proofs.ChannelLemmas.{both_false}
-use Rattle.law_run.specs.Keys.{keys_of, all_keys, AreDistinct}
+use Rattle.promises.specs.Keys.{keys_of, all_keys}
+use Rattle.law_words.specs.Lists.{AreDistinct}
 use Rattle.law_run.specs.Order.{state_behind, KeepsOrder}
 
 -- ---- keys that are used

@@ -21,19 +21,20 @@ use Rattle.l2_node.specs.Finding.{has}
 use Rattle.l2_types.specs.declared.channel.Kind.{Kind}
 use Rattle.l2_types.specs.declared.channel.Kind.TheVariants as kinds
 use Rattle.l2_types.specs.declared.side.Side.{Side}
-use Rattle.law_air.specs.AnyCalls.Ends.{begins_life, LivesOn, built_told, visit_told, with_bearer}
-use Rattle.law_air.specs.AnyCalls.Shown.{mode_in, IsKnownAs, AreKnown}
+use Rattle.law_air.specs.AnyCalls.Ends.{begins_life, LivesOn, built_told, visit_told}
+use Rattle.promises.specs.Blocks.{with_bearer, MayShow}
+use Rattle.promises.specs.Shown.{mode_in, IsKnownAs, AreKnown}
 use Rattle.law_air.proofs.AnyCalls.Blocks.{some_by}
 use Rattle.law_air.proofs.AnyCalls.Going.{lives_then}
 use Rattle.law_air.proofs.AnyCalls.Named.{blocks_are_shown}
 use Rattle.law_node.specs.Bearers.{adds, AddNone, IsAdded}
 use Rattle.law_node.specs.Calls.{Call, SetVisits, SetReports, Add, Submit, SetDiscard, Tick, TickBuckets, Visits, Grants, Granted, Assigned, Pass, Receive, Expire, Move, IsGiven, AreGiven, reached}
 use Rattle.law_node.specs.Holding.{flow}
-use Rattle.law_node.specs.Names.{Mode, mode, modes_of}
+use Rattle.law_node.specs.Names.{mode, modes_of}
+use Rattle.promises.specs.Names.{Mode}
 use Rattle.law_node.proofs.Living.{are_added}
 use Rattle.pdu_show.specs.Kinds.{layout_of, none_known}
 use Rattle.pdu_show.specs.declared.kinds.Layout.{Layout}
-use Rattle.law_run.specs.Blocks.{MayShow}
 use Rattle.law_run.proofs.Modes.{keeps_mode}
 
 -- ---- how PDUs are shown behind calls of an end: by the bearers that they add

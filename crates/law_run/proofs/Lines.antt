@@ -12,22 +12,25 @@ use Rattle.air_record.specs.declared.line.Outcome.{Outcome}
 use Rattle.air_record.specs.declared.record.NoPlace.{NoPlace}
 use Rattle.air_record.specs.declared.record.Record.{Record}
 use Rattle.air_record.specs.declared.record.Record.TheVariants as records
-use Rattle.air_run.specs.Draining.{Drained, ending, drained}
-use Rattle.air_run.specs.Playing.{keys_or_none, next_keys, acted, played}
+use Rattle.air_run.specs.Draining.{Drained, drained}
+use Rattle.air_record.specs.Endings.{ending}
+use Rattle.air_run.specs.Playing.{keys_or_none, acted, played}
+use Rattle.air_record.specs.Cells.{next_keys}
 use Rattle.eps_sec.specs.declared.Keys.{Keys}
 use Rattle.l2_types.specs.declared.side.Side.{Side}
 use Rattle.l2_types.specs.declared.side.Side.TheVariants.{Nb, Ue}
 use Rattle.law_air.specs.AnyCalls.Calls as calls
-use Rattle.law_air.specs.AnyCalls.Counts.{is_up, is_looped, is_of_run, is_of_air, ups, loopeds, Grows}
+use Rattle.law_air.specs.AnyCalls.Counts.{ups, loopeds, Grows}
+use Rattle.promises.specs.Records.{is_up, is_looped, is_of_run, is_of_air}
 use Rattle.law_air.specs.AnyCalls.Told.{why_refused, refusals, accepted, Adds, AddsTti, AddsSubmitted}
 use Rattle.law_air.proofs.AnyCalls.Adding.{stays, same_grows, count_then}
 use Rattle.law_air.proofs.AnyCalls.Calling.{calls_adds, submitting_adds}
 use Rattle.law_air.proofs.AnyCalls.Passing.{tti_adds}
 use Rattle.law_air.proofs.AnyCalls.Running.{grows_as, no_ups, no_loops, no_runs}
 use Rattle.test_loop.specs.declared.Mode.TheVariants.{Off, A, B}
-use Rattle.law_run.specs.Air.{is_tti, numbered, IsOfItsTime, FliesIntact, InTurn}
-use Rattle.law_run.specs.Flows.{handed_in}
-use Rattle.law_run.specs.Parts.{Part, Submits, Passes, Drains, Rests, part}
+use Rattle.promises.specs.Air.{is_tti, numbered, IsOfItsTime, FliesIntact, InTurn}
+use Rattle.promises.specs.Flows.{handed_in}
+use Rattle.promises.specs.Parts.{Part, Submits, Passes, Drains, Rests, part}
 use Rattle.law_run.proofs.Records.{of_run_alone, count_numbered, ttis_of_drain}
 use Rattle.law_run.proofs.Ttis.{WholeDrain, drained_adds}
 

@@ -6,13 +6,16 @@ use Rattle.air_link.specs.Link.{Link, fresh as fresh_link}
 use Rattle.air_record.specs.declared.line.Line.{Line}
 use Rattle.air_record.specs.declared.line.Line.TheVariants as lines
 use Rattle.air_record.specs.declared.record.Record.{Record}
-use Rattle.air_run.specs.Draining.{shown, Drained, at_once, behind, ttis, senders_unless, round, left_by, done_by, told_by, rounds, budget, ending, drained}
-use Rattle.air_run.specs.Playing.{keys_or_none, next_keys, acted, played}
+use Rattle.air_run.specs.Draining.{shown, Drained, at_once, behind, ttis, senders_unless, round, left_by, done_by, told_by, rounds, budget, drained}
+use Rattle.air_record.specs.Endings.{ending}
+use Rattle.air_run.specs.Playing.{keys_or_none, acted, played}
+use Rattle.air_record.specs.Cells.{next_keys}
 use Rattle.air_run.specs.Run.{fresh, behind_line}
 use Rattle.air_text.specs.Groups.{Group, group_records, history}
 use Rattle.eps_sec.specs.declared.Keys.{Keys}
 use Rattle.law_air.specs.AnyCalls.Calls as calls
-use Rattle.law_air.specs.AnyCalls.Loops.{ArePart, gone_up, returned, on, is_dropped, drops, ComeBack, IsAtRest, LoopsBack}
+use Rattle.law_air.specs.AnyCalls.Loops.{ComeBack, IsAtRest, LoopsBack}
+use Rattle.promises.specs.Loops.{ArePart, gone_up, returned, on, is_dropped, drops, mode_by, mode, all_gone_up, all_returned, AreReturned, ReturnInOrder}
 use Rattle.law_air.proofs.AnyCalls.Adding.{count_then}
 use Rattle.law_air.proofs.AnyCalls.Returning.{part_on, on_both, back_none, back_then, IsSilent, back_silent}
 use Rattle.law_air.proofs.AnyCalls.Settling.{loops_back_then, first_rests, calls_loop_back, submissions_loop_back, ttis_loop_back, drains_loop_back}
@@ -20,7 +23,6 @@ use Rattle.test_loop.specs.declared.Mode.{Mode}
 use Rattle.test_loop.specs.declared.Mode.TheVariants.{Off, A, B}
 use Rattle.test_loop.specs.Items.{Item}
 use Rattle.test_loop.specs.Loops.{fresh as no_loop, is_keeping}
-use Rattle.law_run.specs.Loops.{mode_by, mode, all_gone_up, all_returned, AreReturned, ReturnInOrder}
 use Rattle.law_run.specs.Order.{state_behind, KeepsOrder}
 use Rattle.law_run.proofs.Past.{behind as all_behind, link_behind}
 

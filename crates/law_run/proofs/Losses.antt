@@ -7,10 +7,10 @@ use Rattle.air_record.specs.declared.record.State.TheVariants.{Long, Short}
 use Rattle.air_run.specs.Sums.{state_of}
 use Rattle.air_text.specs.Groups.{Group}
 use Rattle.bearer_types.specs.declared.config.BearerConfig.{BearerConfig}
-use Rattle.l2_node.specs.End.{sent_by}
+use Rattle.bearer_types.specs.Sides.{sent_by}
 use Rattle.l2_types.specs.declared.channel.Kind.TheVariants.{Um}
 use Rattle.l2_types.specs.declared.side.Side.{Side}
-use Rattle.law_pdcp.specs.OneEnd.Lists.{IsSubsequence}
+use Rattle.law_words.specs.Lists.{IsSubsequence}
 use Rattle.law_deliver.specs.UmChannel.Delivery.{BeginAlike}
 use Rattle.um_losses.specs.Flow.{Flow}
 use Rattle.um_losses.specs.Losses.{is_long}

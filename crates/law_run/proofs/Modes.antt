@@ -14,7 +14,8 @@ use Rattle.bearer.specs.Unacknowledged.Taking.{after_taking}
 use Rattle.l2_num.specs.Timers.{ends}
 use Rattle.l2_types.specs.declared.event.Clock.{Clock}
 use Rattle.l2_types.specs.declared.event.Clock.TheVariants.{Poll, Reorder, Prohibit}
-use Rattle.law_node.specs.Names.{Unacknowledged, Acknowledged, mode}
+use Rattle.law_node.specs.Names.{mode}
+use Rattle.promises.specs.Names.{Unacknowledged, Acknowledged}
 use Rattle.law_node.proofs.KindsStay.{IsOfKind, kind_passes}
 use Rattle.law_node.proofs.Pdcp.{arrives as kind_arrives, expires as kind_expires, ticks_of, takes_of, moves_of}
 use Rattle.pdcp_pdu.specs.declared.pdu.PdcpKind.{PdcpKind}

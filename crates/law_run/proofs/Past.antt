@@ -12,14 +12,14 @@ use Rattle.air_text.specs.Groups.{Group, history}
 use Rattle.air_text.specs.Ranges.{IsInRange}
 use Rattle.l2_types.specs.declared.side.Side.{Side}
 use Rattle.l2_types.specs.declared.side.Side.TheVariants.{Nb, Ue}
-use Rattle.law_air.specs.AnyCalls.Counts.{is_up, is_looped, ups, loopeds}
+use Rattle.law_air.specs.AnyCalls.Counts.{ups, loopeds}
+use Rattle.promises.specs.Records.{is_up, is_looped, sdu_of, ups_in}
 use Rattle.law_air.specs.AnyCalls.Runs.{IsTable}
-use Rattle.law_air.specs.AnyCalls.Zero.{sdu_of, ups_in}
 use Rattle.law_air.proofs.AnyCalls.Running.{table_grows}
-use Rattle.law_run.specs.Air.{is_tti, ttis, numbered, IsOfItsTime}
-use Rattle.law_run.specs.Flows.{loops_in, handed_in, submitted, delivered}
+use Rattle.promises.specs.Air.{is_tti, ttis, numbered, IsOfItsTime}
+use Rattle.promises.specs.Flows.{loops_in, handed_in, submitted, delivered}
 use Rattle.law_run.specs.Order.{state_behind, KeepsOrder}
-use Rattle.law_run.specs.Parts.{part}
+use Rattle.promises.specs.Parts.{part}
 use Rattle.law_run.proofs.Records.{count_numbered, numbered_then}
 use Rattle.law_run.proofs.Lines.{PartAdds, line_adds}
 use Rattle.law_run.proofs.Processes.{Both, grows, first as none_yet}

@@ -9,8 +9,10 @@ use Rattle.air_record.specs.declared.line.Line.TheVariants as lines
 use Rattle.air_record.specs.declared.line.Outcome.{Outcome}
 use Rattle.air_record.specs.declared.record.Record.{Record}
 use Rattle.air_record.specs.declared.record.Record.TheVariants as records
-use Rattle.air_run.specs.Draining.{ending, drained}
-use Rattle.air_run.specs.Playing.{keys_or_none, next_keys, acted, drains, played}
+use Rattle.air_run.specs.Draining.{drained}
+use Rattle.air_record.specs.Endings.{ending}
+use Rattle.air_run.specs.Playing.{keys_or_none, acted, drains, played}
+use Rattle.air_record.specs.Cells.{next_keys}
 use Rattle.air_run.specs.Run.{fresh as fresh_run}
 use Rattle.air_text.specs.Groups.{Group, group_records, history}
 use Rattle.air_text.specs.Ranges.{IsInRange}
@@ -23,7 +25,7 @@ use Rattle.harq.proofs.SendLemmas.{keeps_blocks}
 use Rattle.l2_node.specs.End.{fresh as fresh_end}
 use Rattle.l2_types.specs.declared.side.Side.{Side}
 use Rattle.law_air.specs.AnyCalls.Calls as calls
-use Rattle.law_air.specs.AnyCalls.Counts.{is_of_run, is_of_air}
+use Rattle.promises.specs.Records.{is_of_run, is_of_air}
 use Rattle.law_air.specs.AnyCalls.Deeds.{Entity, entity, Entities, entities, empty, cleared}
 use Rattle.law_air.specs.AnyCalls.Told.{why_refused, refusals, Adds, AddsSubmitted}
 use Rattle.law_air.proofs.AnyCalls.Adding.{stays}
@@ -35,8 +37,8 @@ use Rattle.law_air.proofs.AnyCalls.Running.{no_runs}
 use Rattle.mac_pdu.specs.declared.item.Direction.{Direction}
 use Rattle.mac_pdu.specs.declared.item.Direction.TheVariants.{Down, Up}
 use Rattle.test_loop.specs.declared.Mode.TheVariants.{Off, A, B}
-use Rattle.law_run.specs.Carried.{AreBuilt, AreCarried}
-use Rattle.law_run.specs.Heard.{Heard, nothing_heard, hears, heard, deeds_of, empties, is_miss, loses, visits}
+use Rattle.promises.specs.Carried.{AreBuilt, AreCarried}
+use Rattle.promises.specs.Heard.{Heard, nothing_heard, hears, heard, deeds_of, empties, is_miss, loses, visits}
 use Rattle.law_run.proofs.Building.{run_maximum, builds_where_none_is_held}
 use Rattle.law_run.proofs.Answering.{StandsDown, down_as, down_begins, down_maximum}
 use Rattle.law_run.proofs.Carrying.{KeepsBoth, both_then, both_still, both_ignore, both_turn}

@@ -23,7 +23,7 @@ use Rattle.air_text.specs.Reading.{read_of, read_words, line_of, key_of, harq_of
 use Rattle.air_text.specs.Ranges.{IsInRange}
 use Rattle.air_text.proofs.Octets.{some_octets}
 use Rattle.air_text.proofs.Configs.{plain_config}
-use Rattle.law_run.specs.Order.{HasCount}
+use Rattle.promises.specs.Configs.{HasCount}
 
 -- a configuration in its ranges, with a first COUNT of at most 32 bits
 abbrev IsCounted : BearerConfig → Type 0

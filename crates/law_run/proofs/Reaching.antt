@@ -11,8 +11,10 @@ use Rattle.air_record.specs.declared.line.Line.TheVariants as lines
 use Rattle.air_record.specs.declared.line.Outcome.{Outcome}
 use Rattle.air_record.specs.declared.record.Record.{Record}
 use Rattle.air_record.specs.declared.record.Record.TheVariants as records
-use Rattle.air_run.specs.Draining.{shown, Drained, at_once, behind, ttis, senders_unless, round, left_by, done_by, told_by, rounds, budget, ending, drained}
-use Rattle.air_run.specs.Playing.{keys_or_none, next_keys, acted, played}
+use Rattle.air_run.specs.Draining.{shown, Drained, at_once, behind, ttis, senders_unless, round, left_by, done_by, told_by, rounds, budget, drained}
+use Rattle.air_record.specs.Endings.{ending}
+use Rattle.air_run.specs.Playing.{keys_or_none, acted, played}
+use Rattle.air_record.specs.Cells.{next_keys}
 use Rattle.air_run.specs.Run.{fresh, behind_line}
 use Rattle.air_text.specs.Groups.{Group, history}
 use Rattle.air_text.specs.Ranges.{IsInRange}
@@ -21,18 +23,19 @@ use Rattle.l2_node.specs.End.{fresh as fresh_end}
 use Rattle.l2_types.specs.declared.side.Side.{Side}
 use Rattle.l2_types.specs.declared.side.Side.TheVariants.{Nb, Ue}
 use Rattle.law_air.specs.AnyCalls.Calls as calls
-use Rattle.law_air.specs.AnyCalls.Ends.{told_by as told_of, LivesOn, is_of_building, GoesThrough, GoesOn, GoesOnByVisits, visit_told, known, lives_in}
+use Rattle.law_air.specs.AnyCalls.Ends.{LivesOn, GoesThrough, GoesOn, GoesOnByVisits, visit_told, known, lives_in}
+use Rattle.promises.specs.Records.{told_by as told_of, is_of_building}
 use Rattle.law_air.proofs.AnyCalls.Advancing.{call_goes_on, submitting_goes, tti_goes, drain_goes}
 use Rattle.law_air.proofs.AnyCalls.Going.{by_none, by_same, lives_then, goes_by, unseen_rests}
 use Rattle.law_node.specs.Calls.{Call as EndCall}
 use Rattle.law_air.proofs.AnyCalls.Visiting.{enough_by_grant}
 use Rattle.pdu_show.specs.declared.kinds.Layout.{Layout}
 use Rattle.test_loop.specs.declared.Mode.TheVariants.{Off, A, B}
-use Rattle.law_run.specs.Air.{is_tti, ttis as ttis_behind, InTurn}
-use Rattle.law_run.specs.Blocks.{kinds_by, kinds, MayBuildBoth, AreTold}
+use Rattle.promises.specs.Air.{is_tti, ttis as ttis_behind, InTurn}
+use Rattle.promises.specs.Blocks.{kinds_by, kinds, MayBuildBoth, AreTold}
 use Rattle.law_run.specs.Ends.{ComeByCalls}
 use Rattle.law_run.specs.Order.{state_behind, KeepsOrder}
-use Rattle.law_run.specs.Parts.{Part, Passes, Drains, Rests, part}
+use Rattle.promises.specs.Parts.{Part, Passes, Drains, Rests, part}
 use Rattle.law_run.proofs.Knowing.{kinds_over, IsCome, come_then, come_shows}
 use Rattle.law_run.proofs.Past.{behind as all_behind, link_behind}
 use Rattle.law_run.proofs.Records.{count_numbered}

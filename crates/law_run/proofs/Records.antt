@@ -4,9 +4,9 @@ use Rattle.std.specs.List.{filter}
 use Rattle.std.proofs.lemmas.List.Elements.{filter-append}
 use Rattle.air_record.specs.declared.record.Record.{Record}
 use Rattle.air_record.specs.declared.record.Record.TheVariants as records
-use Rattle.air_run.specs.Draining.{ending}
-use Rattle.law_air.specs.AnyCalls.Counts.{is_of_run}
-use Rattle.law_run.specs.Air.{is_tti, numbered}
+use Rattle.air_record.specs.Endings.{ending}
+use Rattle.promises.specs.Records.{is_of_run}
+use Rattle.promises.specs.Air.{is_tti, numbered}
 
 is_of_a_run : (one : Record) → is_tti one ≡ true → is_of_run one ≡ true
 is_of_a_run (records.Tti tti) e = refl

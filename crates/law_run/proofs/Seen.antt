@@ -18,7 +18,8 @@ use Rattle.air_text.specs.Ranges.{IsInRange}
 use Rattle.bearer_types.specs.Configs.{IsConfig, AreRlcBits, ArePdcpBits, IsChannelOf}
 use Rattle.bearer_types.specs.declared.config.BearerConfig.{BearerConfig}
 use Rattle.law_deliver.specs.AmFlow.Air.{HasCome}
-use Rattle.l2_node.specs.End.{End, sent_by}
+use Rattle.l2_node.specs.End.{End}
+use Rattle.bearer_types.specs.Sides.{sent_by}
 use Rattle.l2_node.specs.Finding.{has}
 use Rattle.l2_types.specs.declared.channel.Kind.{Kind}
 use Rattle.l2_types.specs.declared.channel.Kind.TheVariants as kinds_of
@@ -39,8 +40,8 @@ use Rattle.um_losses.specs.Told.{picked, told_in, all_after, flow_at}
 use Rattle.um_losses.proofs.Told.{seen_flow, seen_place, handed_flow, handed_place, bearer_flow, bearer_place, bearer_none, bearer_new}
 use Rattle.law_deliver.specs.UmGaps.Delivery.{first_flow}
 use Rattle.law_deliver.proofs.UmGaps.Acting.{after_then}
-use Rattle.law_run.specs.Blocks.{kinds, kinds_by}
-use Rattle.law_run.specs.Delivery.{forges}
+use Rattle.promises.specs.Blocks.{kinds, kinds_by}
+use Rattle.promises.specs.Delivery.{forges}
 use Rattle.law_run.specs.Order.{state_behind, KeepsOrder}
 use Rattle.law_run.proofs.Early.{unbegun, is_early}
 use Rattle.law_run.proofs.Flowing.{word_of}

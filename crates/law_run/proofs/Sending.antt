@@ -11,7 +11,7 @@ use Rattle.harq.specs.SendHistory.{Turn, Step, Visited, Cleared, Deed, World, cl
 use Rattle.law_air.specs.AnyCalls.Deeds.{deed_of, turn, TakesTurn}
 use Rattle.mac_pdu.specs.declared.item.Direction.{Direction}
 use Rattle.mac_pdu.specs.declared.item.Direction.TheVariants.{Down, Up}
-use Rattle.law_run.specs.Heard.{Flight, Heard, deeds_of}
+use Rattle.promises.specs.Heard.{Flight, Heard, deeds_of}
 use Rattle.law_run.proofs.Building.{run_maximum, down_rest}
 use Rattle.law_run.proofs.Hearing.{flown, with_flight, Visits}
 

@@ -3,15 +3,17 @@ use Rattle.std.proofs.Common.{◌≡◌, ◌<◌, arith, ℕ, ◌==◌, nat_lt, 
 use Rattle.std.proofs.lemmas.Bool.Decides.{nat_tests}
 use Rattle.std.proofs.lemmas.List.Concat.{flat_map-append}
 use Rattle.std.proofs.lemmas.List.Elements.{filter-append}
-use Rattle.law_rlc.specs.AmPair.Sdus.{IsFront}
+use Rattle.law_words.specs.Lists.{IsFront}
 use Rattle.air_link.specs.Draining.{is_drained}
 use Rattle.air_link.specs.Lines.{bears}
-use Rattle.air_link.specs.Link.{Link, end_of, other}
+use Rattle.air_link.specs.Link.{Link, end_of}
+use Rattle.bearer_types.specs.Sides.{other}
 use Rattle.air_record.specs.declared.line.Line.{Line}
 use Rattle.air_record.specs.declared.line.Line.TheVariants as lines
 use Rattle.air_record.specs.declared.record.Record.{Record}
 use Rattle.air_record.specs.declared.record.Record.TheVariants as records
-use Rattle.air_run.specs.Playing.{keys_or_none, next_keys, acted}
+use Rattle.air_run.specs.Playing.{keys_or_none, acted}
+use Rattle.air_record.specs.Cells.{next_keys}
 use Rattle.air_run.specs.Rules.{Rules, late, unknown, refused_if, rule_broken, refusal, accepted}
 use Rattle.air_run.specs.Run.{behind_line}
 use Rattle.air_run.specs.declared.refusal.RunRefusal.TheVariants.{NoDiscard}
@@ -25,7 +27,8 @@ use Rattle.law_deliver.specs.AmChannel.Drained.{has_failed}
 use Rattle.law_deliver.specs.AmChannel.Lives.{AirStep, InLife, Moves, lives, end_at, all_calls}
 use Rattle.law_deliver.proofs.AmChannel.Drained.{channel_drained}
 use Rattle.law_deliver.specs.AmFlow.Air.{Air, outset}
-use Rattle.law_deliver.specs.AmFlow.Ups.{told_on, ups_on, ups_in as event_ups}
+use Rattle.law_deliver.specs.AmFlow.Ups.{ups_on, ups_in as event_ups}
+use Rattle.promises.specs.Events.{told_on, is_lost, losses}
 use Rattle.law_deliver.proofs.AmFlow.Events.{told_then}
 use Rattle.l2_node.specs.End.{End}
 use Rattle.l2_node.specs.Sums.{is_drained as end_drained}
@@ -35,31 +38,28 @@ use Rattle.l2_types.specs.declared.side.Side.{Side}
 use Rattle.l2_types.specs.declared.side.Side.TheVariants.{Nb, Ue}
 use Rattle.law_node.specs.Calls.{Add, Move, after as after_call}
 use Rattle.law_node.specs.Holding.{flow}
-use Rattle.law_air.specs.AnyCalls.Ends.{told_by}
+use Rattle.promises.specs.Records.{told_by, ups_in}
 use Rattle.law_air.proofs.AnyCalls.Going.{told_both}
-use Rattle.law_air.specs.AnyCalls.Zero.{ups_in}
 use Rattle.prioritise.proofs.ChannelLemmas.{both_false}
-use Rattle.law_air.specs.TwoEnds.Going.{looped_at as looped_by}
 use Rattle.law_air.specs.TwoEnds.Staying.{AreInLife}
 use Rattle.law_air.proofs.TwoEnds.Lives.{channels_begin}
 use Rattle.law_air.proofs.TwoEnds.Staying.{LivedIn, bearers_live_in, LivesAnew, lives_anew}
-use Rattle.law_deliver.specs.SrbDelivery.Losses.{is_lost, losses}
 use Rattle.law_deliver.specs.SrbChannel.Running.{Life, running, first_life}
 use Rattle.law_deliver.proofs.SrbChannel.Laws.{Living, first_living, all_live}
 use Rattle.law_deliver.proofs.SrbChannel.Running.{Start, down, up, all_down, all_up, none_between, none_lost, none_lost_between, starts_first, starts_anew}
-use Rattle.law_run.specs.Arrival.{ended_by}
-use Rattle.law_run.specs.Delivery.{forges, is_forged, sets_timer}
-use Rattle.law_run.specs.Drained.{hands_over, failed}
-use Rattle.law_run.specs.Flows.{handed_in, looped_at, submitted, delivered}
+use Rattle.promises.specs.Arrival.{ended_by}
+use Rattle.promises.specs.Delivery.{forges, is_forged, sets_timer}
+use Rattle.promises.specs.Parts.{hands_over, part}
+use Rattle.promises.specs.Drained.{failed}
+use Rattle.promises.specs.Flows.{handed_in, looped_at, submitted, delivered}
 use Rattle.law_run.specs.Order.{state_behind, IsRight, KeepsOrder}
-use Rattle.law_run.specs.Parts.{part}
-use Rattle.law_run.specs.Signalling.{submitted_since, delivered_since, lost, SignalAll, DeliversEachLife, LeavesNoSignal, DrainsLeaveNoSignal, BringsNoSignal, HandoversBringNoSignal}
-use Rattle.law_run.specs.Texts.{config_by, config_of}
+use Rattle.promises.specs.Signalling.{submitted_since, delivered_since, lost, SignalAll, DeliversEachLife, LeavesNoSignal, DrainsLeaveNoSignal, BringsNoSignal, HandoversBringNoSignal}
+use Rattle.promises.specs.Configs.{config_by, config_of}
 use Rattle.law_run.proofs.Delivering.{ups_are_told, ups_told, is_first, at_each}
 use Rattle.law_run.proofs.Early.{is_early}
 use Rattle.law_run.proofs.Failed.{HasSender, sender_goes, signalling_begins}
 use Rattle.law_run.proofs.Drains.{link_drained, none_forged, side_drained}
-use Rattle.law_run.proofs.Flowing.{Sdus, Happened, looped_then, air_looped, PartLives, line_stays, InOneLife, through_life}
+use Rattle.law_run.proofs.Flowing.{Sdus, Happened, looped_then, PartLives, line_stays, InOneLife, through_life}
 use Rattle.law_run.proofs.Keys.{not_first, not_second, no_cause}
 use Rattle.law_run.proofs.Past.{behind, link_behind}
 use Rattle.law_run.proofs.Texts.{adds_one, adds_it, unchanged}
@@ -252,14 +252,14 @@ moves_on l past g user rrc integrity right order d =
       far = _;
       begun = starts_anew l d.nb d.ue alive.near alive.far alive.begun (steps l past d) alive.runs alive.calls keys;
       told = behind';
-      handed = λ side n. looped_by side n behind';
-      lived = (through_life l nb ue).unseen behind' (λ side n. looped_by side n behind') unread false m [] x.lived;
+      handed = λ side n. looped_at side n behind';
+      lived = (through_life l nb ue).unseen behind' (λ side n. looped_at side n behind') unread false m [] x.lived;
       delivered_is = λ side.
           sym (ups_are_told side l g.events) ∙ ap (λ (ys : List Record). ups_on l (told_by side ys)) events_are ∙ told_ups l side leaving behind'
           ∙ ap (λ (ys : List (List ℕ)). ys ++ ups_on l (told_by side behind')) (none side);
       submitted_is = λ side.
           ap (looped_at side l) events_are ∙ looped_then side l leaving behind'
-          ∙ ap (λ (ys : List (List ℕ)). ys ++ looped_at side l behind') (sym (air_looped side l leaving) ∙ x.moves.none_looped side l) ∙ sym (air_looped side l behind');
+          ∙ ap (λ (ys : List (List ℕ)). ys ++ looped_at side l behind') (x.moves.none_looped side l);
       lost_is = λ side.
           lost_then l side past (record g { line = line }) ∙ ap (λ (xs : List Event). xs ++ losses_on l (told_by side g.events)) (none_is_lost l past d side)
           ∙ ap (λ (ys : List Record). losses_on l (told_by side ys)) events_are ∙ lost_both l side leaving behind'

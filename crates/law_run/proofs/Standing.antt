@@ -2,24 +2,28 @@
 use Rattle.std.proofs.Common.{◌≡◌, ◌≤◌, ℕ, zero, suc, ◌+◌, Bool, true, false, List, [], ◌∷◌, ◌++◌, append_assoc, refl, ap, sym, subst, arith, ◌∙◌}
 use Rattle.std.specs.Prelude.{Option}
 use Rattle.std.specs.List.{list_any}
-use Rattle.air_link.specs.Draining.{drain_tti, is_carried, carried, receivers_expire, is_drained}
+use Rattle.air_link.specs.Draining.{drain_tti, carried, receivers_expire, is_drained}
+use Rattle.pdu_show.specs.Carried.{is_carried}
 use Rattle.air_link.specs.Link.{Link, fresh as fresh_link}
 use Rattle.air_record.specs.declared.line.Line.{Line}
 use Rattle.air_record.specs.declared.line.Line.TheVariants as lines
 use Rattle.air_record.specs.declared.record.Record.{Record}
-use Rattle.air_run.specs.Draining.{shown, Drained, at_once, behind, ttis, senders_unless, round, left_by, done_by, told_by, rounds, budget, ending, drained}
-use Rattle.air_run.specs.Playing.{keys_or_none, next_keys, acted, played}
+use Rattle.air_run.specs.Draining.{shown, Drained, at_once, behind, ttis, senders_unless, round, left_by, done_by, told_by, rounds, budget, drained}
+use Rattle.air_record.specs.Endings.{ending}
+use Rattle.air_run.specs.Playing.{keys_or_none, acted, played}
+use Rattle.air_record.specs.Cells.{next_keys}
 use Rattle.air_run.specs.Run.{fresh, behind_line}
 use Rattle.air_text.specs.Groups.{Group}
 use Rattle.air_text.specs.Ranges.{IsInRange}
-use Rattle.law_bearer.specs.AnyBearer.Sequences.{nothing, ◌then◌}
+use Rattle.law_words.specs.Sequences.{nothing, ◌then◌}
 use Rattle.eps_sec.specs.declared.Keys.{Keys}
 use Rattle.l2_node.specs.End.{End, fresh as fresh_end}
 use Rattle.l2_types.specs.declared.side.Side.{Side}
 use Rattle.l2_types.specs.declared.side.Side.TheVariants.{Nb, Ue}
 use Rattle.law_air.specs.AnyCalls.Calls as calls
 use Rattle.law_air.specs.AnyCalls.Ends.{LivesOn}
-use Rattle.law_air.specs.AnyCalls.Order.{Channels, channels_of, Sequences, LoopTells, TtiTells, DrainTtiTells, TimerTells, ReceiversTell, ForgeTells, HandoverTells, SubmitTells, Leaves}
+use Rattle.law_air.specs.AnyCalls.Order.{channels_of, Leaves}
+use Rattle.promises.specs.Order.{Channels, OfRecords, LoopTells, TtiTells, DrainTtiTells, TimerTells, ReceiversTell, ForgeTells, HandoverTells, SubmitTells}
 use Rattle.law_air.proofs.AnyCalls.Advancing.{call_goes_on, drain_goes}
 use Rattle.law_air.proofs.AnyCalls.Channels.{channels_over, channels_go}
 use Rattle.law_air.proofs.AnyCalls.Ordering.{leaves_then, leaves_nothing}
@@ -28,17 +32,17 @@ use Rattle.law_air.proofs.AnyCalls.Standing.{Ready, both_ready_on, call_tells, s
 use Rattle.pdu_show.specs.declared.kinds.Layout.{Layout}
 use Rattle.prioritise.specs.Shares.{no_channels}
 use Rattle.test_loop.specs.declared.Mode.TheVariants.{Off, A, B}
-use Rattle.law_run.specs.Air.{ttis as ttis_behind, InTurn}
-use Rattle.law_run.specs.Blocks.{kinds}
+use Rattle.promises.specs.Air.{ttis as ttis_behind, InTurn}
+use Rattle.promises.specs.Blocks.{kinds}
 use Rattle.law_run.specs.Order.{state_behind, KeepsOrder}
-use Rattle.law_run.specs.Telling.{SendersTellUnless, RoundTells, DrainTells, LineTells, channels_by, channels, LinesTell}
+use Rattle.promises.specs.Telling.{SendersTellUnless, RoundTells, DrainTells, LineTells, channels_by, channels, LinesTell}
 use Rattle.law_run.proofs.Past.{behind as all_behind, link_behind}
 use Rattle.law_run.proofs.Reaching.{round_goes, lives_by, group_goes, kinds_behind}
 use Rattle.law_run.proofs.Ttis.{round_adds}
 use Rattle.law_run.proofs.Zero.{have_come}
 
 -- where nothing was told before
-alone : (These : Sequences) (l m : Link) → l.out ≡ [] → Leaves These l m → These m.out
+alone : (These : OfRecords) (l m : Link) → l.out ≡ [] → Leaves These l m → These m.out
 alone These l m nothing p = subst These (sym (p.out_is ∙ ap (λ (x : List Record). x ++ p.more) nothing)) p.in_order
 
 -- the records are written
@@ -70,18 +74,18 @@ round_tells c grant l within none r =
 
 -- ---- a part of a drain
 
-record Turns (Each : ℕ → Sequences) (kinds' : List (Option Layout)) (c : Side → Channels) (count : ℕ) (l : Link) (d : Drained) : Type 0 where
+record Turns (Each : ℕ → OfRecords) (kinds' : List (Option Layout)) (c : Side → Channels) (count : ℕ) (l : Link) (d : Drained) : Type 0 where
   none : d.link.out ≡ []
   ready : Ready c d.link
   ttis_is : d.link.ttis ≡ l.ttis + count
   kinds_are : d.link.kinds ≡ kinds'
   in_turn : InTurn Each l.ttis count d.journal
 
-no_turn : (Each : ℕ → Sequences) (kinds' : List (Option Layout)) (c : Side → Channels) (l : Link) → l.out ≡ [] → l.kinds ≡ kinds' → Ready c l → Turns Each kinds' c 0 l (at_once l)
+no_turn : (Each : ℕ → OfRecords) (kinds' : List (Option Layout)) (c : Side → Channels) (l : Link) → l.out ≡ [] → l.kinds ≡ kinds' → Ready c l → Turns Each kinds' c 0 l (at_once l)
 no_turn Each kinds' c l none same r = record { none = none; ready = r; ttis_is = omega arith; kinds_are = same; in_turn = refl }
 
 -- one before others
-first_turn : (Each : ℕ → Sequences) (kinds' : List (Option Layout)) (c : Side → Channels) (n done : ℕ) (l m : Link) (d : Drained) → Each l.ttis m.out → m.ttis ≡ l.ttis + 1 → Turns Each kinds' c n (shown m) d → Turns Each kinds' c (suc n) l (behind m.out done d)
+first_turn : (Each : ℕ → OfRecords) (kinds' : List (Option Layout)) (c : Side → Channels) (n done : ℕ) (l m : Link) (d : Drained) → Each l.ttis m.out → m.ttis ≡ l.ttis + 1 → Turns Each kinds' c n (shown m) d → Turns Each kinds' c (suc n) l (behind m.out done d)
 first_turn Each kinds' c n done l m d one next q = record {
   none = q.none;
   ready = q.ready;

@@ -17,7 +17,8 @@ use Rattle.air_text.specs.Ranges.{IsInRange}
 use Rattle.bearer.specs.Bearer.{flow_of}
 use Rattle.bearer.specs.declared.flow.Flow.{Flow}
 use Rattle.law_bearer.specs.AnyBearer.Calls.{Step, run as go, reached as bearer_reached}
-use Rattle.law_bearer.specs.AnyBearer.Ciphering.{ciphered, ShareText, AllShareText, restarts, cipher_key, AreDistinct, IsOneOf, IsOfBearer}
+use Rattle.law_bearer.specs.AnyBearer.Ciphering.{ciphered, ShareText, AllShareText, restarts, cipher_key, IsOneOf, IsOfBearer}
+use Rattle.law_words.specs.Lists.{AreDistinct}
 use Rattle.law_bearer.specs.AnyBearer.Stream.{all_taken, counts}
 use Rattle.law_bearer.proofs.AnyBearer.Ciphering.{ciphers_as_itself, one_text_a_key}
 use Rattle.bearer_pdcp.specs.Ends.{bearer_of, sends}
@@ -30,22 +31,25 @@ use Rattle.l2_types.specs.declared.channel.Kind.{Kind}
 use Rattle.l2_types.specs.declared.channel.Kind.TheVariants as kind
 use Rattle.l2_types.specs.declared.side.Side.{Side}
 use Rattle.l2_types.specs.declared.side.Side.TheVariants.{Nb, Ue}
-use Rattle.law_air.specs.AnyCalls.Ends.{told_by, begins_life, is_of_building}
+use Rattle.law_air.specs.AnyCalls.Ends.{begins_life}
+use Rattle.promises.specs.Records.{told_by, is_of_building}
 use Rattle.law_air.proofs.AnyCalls.Going.{run_on, given_on, over_on, told_both}
-use Rattle.law_node.specs.Bearers.{counts_on, keys_in, moves, adds, AddNone}
+use Rattle.law_node.specs.Bearers.{keys_in, moves, adds, AddNone}
+use Rattle.promises.specs.Counts.{counts_on, counts_taken}
 use Rattle.law_node.specs.Calls.{Call, Add, Move, AreGiven, after, run, reached}
 use Rattle.law_node.specs.Holding.{flow}
 use Rattle.law_node.specs.Telling.{told_over}
 use Rattle.law_node.proofs.Counted.{counts_then}
 use Rattle.law_node.proofs.Living.{go_on, added, reached_side, given_parts}
 use Rattle.law_node.proofs.Steps.{Takes, then_takes}
-use Rattle.law_run.specs.Air.{ttis}
+use Rattle.promises.specs.Air.{ttis}
 use Rattle.law_pdcp.specs.OneEnd.Lives.{Ciphering}
-use Rattle.law_run.specs.Blocks.{kinds, AreTold}
-use Rattle.law_run.specs.Counts.{counts_taken}
+use Rattle.promises.specs.Blocks.{kinds, AreTold}
 use Rattle.law_run.specs.Order.{state_behind, IsRight, KeepsOrder}
-use Rattle.law_run.specs.Parts.{part}
-use Rattle.law_run.specs.Texts.{in_force_by, in_force, gives, given, config_by, config_of, AreTexts, AreTextsOf, AreCiphered, NoneMeet}
+use Rattle.promises.specs.Parts.{part}
+use Rattle.law_run.specs.Texts.{AreTexts, AreTextsOf, AreCiphered, NoneMeet}
+use Rattle.promises.specs.Keys.{in_force_by, in_force, gives_keys, given}
+use Rattle.promises.specs.Configs.{config_by, config_of}
 use Rattle.law_run.proofs.Counts.{same_lcid, come, goes, none_taken}
 use Rattle.law_run.proofs.Distinct.{rrc_key, AreKeys, are_keys}
 use Rattle.law_run.proofs.Keys.{not_first, not_second, no_cause, keys_behind}
@@ -61,7 +65,7 @@ keys_list (Some keys) = keys ∷ []
 -- a line behind which nothing has begun configures, and tells of no new block
 record Configures (line : Line) (r : Rules) (past : List Group) : Type 0 where
   early : r.begun ≡ false
-  given_is : given past ≡ keys_list r.keys → given past ++ (if gives line then in_force_by line (in_force past) ∷ [] else []) ≡ keys_list (accepted line r).keys
+  given_is : given past ≡ keys_list r.keys → given past ++ (if gives_keys line then in_force_by line (in_force past) ∷ [] else []) ≡ keys_list (accepted line r).keys
 
 stays_given : (past : List Group) (o : Option Keys) → given past ≡ keys_list o → given past ++ [] ≡ keys_list o
 stays_given past o e = append-nil (given past) ∙ e
@@ -200,7 +204,7 @@ still_keyed line r e = e
 
 -- the keys that a line gives begin lives, where there were keys before
 moved_by : (line : Line) (r : Rules) (l : Link) (past : List Group) → refusal line r l ≡ None → is_some r.keys ≡ true → (in_force past).alg ≡ (keys_or_none r.keys).alg
-    → moves (lives_by line r.keys) ≡ (if gives line then in_force_by line (in_force past) ∷ [] else [])
+    → moves (lives_by line r.keys) ≡ (if gives_keys line then in_force_by line (in_force past) ∷ [] else [])
 unfolding rule_broken
 moved_by (lines.Keys keys) r l past allowed keyed e =
     let twice = not_second (late r) (refused_if (is_some r.keys) SetTwice) (not_first (late_or_twice (is_some r.keys) r) _ (not_first (rule_broken (lines.Keys keys) r l) _ allowed)) in
@@ -232,7 +236,7 @@ goes_there side lcid past g config right order free t =
     let here = reached side 4 false p.calls in
     let there : run calls here ≡ m = ap (run calls) (sym p.end_is) ∙ sym k.by.end_is in
     let told : counts_on lcid (told_over calls here) ≡ counts_taken side lcid g.events = ap (λ (x : End). counts_on lcid (told_over calls x)) (sym p.end_is) ∙ ap (counts_on lcid) (sym k.by.told_is) in
-    let lives : moves calls ≡ (if gives g.line then in_force_by g.line (in_force past) ∷ [] else []) =
+    let lives : moves calls ≡ (if gives_keys g.line then in_force_by g.line (in_force past) ∷ [] else []) =
     moves_are calls ∙ ap moves k.lives_are ∙ moved_by g.line r (link_behind past) past right.allowed t.keyed (cipher_stays past) in
     let before : Takes f (flow lcid e) (restarts t.steps) (counts_taken side lcid (history past)) = record { steps = t.steps; flow_is = t.flow_is; lives_are = refl; counts_are = t.counts_are } in
     let now : Takes (flow lcid e) (flow lcid m) (moves calls) (counts_taken side lcid g.events) = record {
@@ -248,7 +252,7 @@ goes_there side lcid past g config right order free t =
       there = ap (λ (x : End). has lcid x.bearers) (sym there) ∙ on.there;
       flow_is = both.flow_is;
       keyed = still_keyed g.line r t.keyed;
-      lives_are = ap (λ (ks : List Keys). t.keys ∷ ks) (both.lives_are ∙ ap (λ (ks : List Keys). restarts t.steps ++ ks) lives) ∙ ap (λ (ks : List Keys). ks ++ (if gives g.line then in_force_by g.line (in_force past) ∷ [] else [])) t.lives_are;
+      lives_are = ap (λ (ks : List Keys). t.keys ∷ ks) (both.lives_are ∙ ap (λ (ks : List Keys). restarts t.steps ++ ks) lives) ∙ ap (λ (ks : List Keys). ks ++ (if gives_keys g.line then in_force_by g.line (in_force past) ∷ [] else [])) t.lives_are;
       counts_are = both.counts_are ∙ sym (over_groups side lcid g past);
     }
 
@@ -318,7 +322,7 @@ begin_there side past g config options line_is right order wants =
       keyed = still_keyed g.line r (ap is_some may.keyed);
       lives_are =
           ap (λ (l : List Keys). ks ∷ l) (on.comes.lives_are ∙ moves_are s.behind ∙ ap moves s.none_behind)
-          ∙ sym (ap (λ (line : Line). given past ++ (if gives line then in_force_by line (in_force past) ∷ [] else [])) line_is ∙ append-nil (given past) ∙ early.given_is ∙ ap keys_list may.keyed);
+          ∙ sym (ap (λ (line : Line). given past ++ (if gives_keys line then in_force_by line (in_force past) ∷ [] else [])) line_is ∙ append-nil (given past) ∙ early.given_is ∙ ap keys_list may.keyed);
       counts_are =
           ap (λ (f : Flow). counts (all_taken f on.comes.steps)) (sym flow_first) ∙ on.comes.counts_are ∙ none_last (counts_on lcid (told_over s.before e)) (counts_on lcid (told_over s.behind begun)) told
           ∙ sym (over_groups side lcid g past ∙ ap (λ (ns : List ℕ). ns ++ counts_taken side lcid g.events) (early.none_taken side lcid) ∙ unbuilt_here);

@@ -2,26 +2,28 @@
 use Rattle.std.proofs.Common.{◌≡◌, ℕ, zero, suc, ◌+◌, Bool, true, false, List, [], ◌∷◌, ◌++◌, length, append-nil, append_assoc, refl, ap, sym, arith, subst, ◌∙◌}
 use Rattle.std.specs.List.{filter}
 use Rattle.std.proofs.lemmas.List.Elements.{filter-append}
-use Rattle.air_link.specs.Draining.{intact, drain_tti, carried, receivers_expire, is_drained}
+use Rattle.air_link.specs.Draining.{drain_tti, carried, receivers_expire, is_drained}
+use Rattle.air_record.specs.Outcomes.{intact, missed}
 use Rattle.air_link.specs.Link.{Link}
 use Rattle.air_record.specs.declared.line.Outcome.{Outcome}
 use Rattle.air_record.specs.declared.record.Record.{Record}
 use Rattle.air_record.specs.declared.record.Record.TheVariants as records
-use Rattle.air_run.specs.Draining.{shown, Drained, at_once, behind, ttis, senders_unless, round, left_by, done_by, told_by, rounds, budget, ending, drained}
+use Rattle.air_run.specs.Draining.{shown, Drained, at_once, behind, ttis, senders_unless, round, left_by, done_by, told_by, rounds, budget, drained}
+use Rattle.air_record.specs.Endings.{ending}
 use Rattle.l2_types.specs.declared.side.Side.TheVariants.{Nb, Ue}
 use Rattle.law_air.specs.AnyCalls.Calls.{ReceiversExpire, SendersExpire}
-use Rattle.law_air.specs.AnyCalls.Counts.{is_up, is_looped, is_of_run, is_of_air, ups, loopeds, Grows}
+use Rattle.law_air.specs.AnyCalls.Counts.{ups, loopeds, Grows}
+use Rattle.promises.specs.Records.{is_up, is_looped, is_of_run, is_of_air}
 use Rattle.air_link.specs.Downlink.{down_order}
-use Rattle.air_link.specs.Ttis.{missed}
 use Rattle.harq.specs.Receiving.{grant_ndi}
 use Rattle.harq.specs.Sending.{ndi_of}
 use Rattle.law_air.specs.AnyCalls.Deeds.{TakesTurn, came_of, Answers, up_ordered, Entities, entities}
-use Rattle.law_air.specs.AnyCalls.Told.{sleeping, Tells, Adds, AddsTti}
+use Rattle.law_air.specs.AnyCalls.Told.{Tells, Adds, AddsTti}
+use Rattle.promises.specs.Air.{sleeping, numbered, FliesIntact, InTurn}
 use Rattle.law_air.proofs.AnyCalls.Adding.{stays, tells_then, same_grows, grows_then, count_then}
 use Rattle.law_air.proofs.AnyCalls.Calling.{calls_adds}
 use Rattle.law_air.proofs.AnyCalls.Leaving.{calls_leave}
 use Rattle.law_air.proofs.AnyCalls.Passing.{drain_adds}
-use Rattle.law_run.specs.Air.{numbered, FliesIntact, InTurn}
 use Rattle.law_run.proofs.Records.{numbered_then}
 use Rattle.law_run.proofs.Carrying.{KeepsBoth, both_then, both_still, both_turn}
 

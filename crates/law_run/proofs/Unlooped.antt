@@ -9,14 +9,13 @@ use Rattle.air_text.specs.Groups.{Group}
 use Rattle.bearer_types.specs.declared.event.Event.TheVariants.{Up}
 use Rattle.l2_types.specs.declared.side.Side.{Side}
 use Rattle.l2_types.specs.declared.side.Side.TheVariants.{Nb, Ue}
-use Rattle.law_air.specs.AnyCalls.Loops.{ArePart, back, due, gone_up, returned}
+use Rattle.promises.specs.Loops.{ArePart, back, due, gone_up, returned, mode, all_gone_up, all_returned}
 use Rattle.test_loop.specs.declared.Mode.{Mode}
 use Rattle.test_loop.specs.Items.{Item, item}
 use Rattle.test_loop.specs.Loops.{is_on}
 use Rattle.law_deliver.proofs.AmChannel.Ends.{all_more}
 use Rattle.law_air.proofs.TwoEnds.Stages.{unlooped_by}
-use Rattle.law_run.specs.Flows.{loops_in, looped_at}
-use Rattle.law_run.specs.Loops.{mode, all_gone_up, all_returned}
+use Rattle.promises.specs.Flows.{loops_in, looped_at}
 use Rattle.law_run.specs.Order.{KeepsOrder}
 use Rattle.law_run.proofs.Looping.{return_in_order}
 

@@ -7,8 +7,10 @@ use Rattle.air_link.specs.Link.{Link, end_of, fresh as fresh_link}
 use Rattle.air_record.specs.declared.line.Line.{Line}
 use Rattle.air_record.specs.declared.line.Line.TheVariants as lines
 use Rattle.air_record.specs.declared.record.Record.{Record}
-use Rattle.air_run.specs.Draining.{shown, Drained, at_once, behind, ttis, senders_unless, round, left_by, done_by, told_by, rounds, budget, ending, drained}
-use Rattle.air_run.specs.Playing.{keys_or_none, next_keys, acted, played}
+use Rattle.air_run.specs.Draining.{shown, Drained, at_once, behind, ttis, senders_unless, round, left_by, done_by, told_by, rounds, budget, drained}
+use Rattle.air_record.specs.Endings.{ending}
+use Rattle.air_run.specs.Playing.{keys_or_none, acted, played}
+use Rattle.air_record.specs.Cells.{next_keys}
 use Rattle.air_run.specs.Run.{fresh, behind_line}
 use Rattle.air_text.specs.Groups.{Group}
 use Rattle.air_text.specs.Ranges.{IsInRange}
@@ -20,7 +22,9 @@ use Rattle.l2_types.specs.declared.side.Side.{Side}
 use Rattle.l2_types.specs.declared.side.Side.TheVariants.{Nb, Ue}
 use Rattle.law_air.specs.AnyCalls.Calls as calls
 use Rattle.law_air.specs.AnyCalls.Ends.{GoesOn}
-use Rattle.law_air.specs.AnyCalls.Zero.{ups_in, arrived, brought, HasCome, HaveCome, has_zero, Brings, none_forged}
+use Rattle.law_air.specs.AnyCalls.Zero.{HasCome, HaveCome, has_zero, Brings, none_forged}
+use Rattle.promises.specs.Records.{ups_in}
+use Rattle.promises.specs.Zero.{arrived, brought, adds_zero, is_added, forged, IsBrought, BringInOrder}
 use Rattle.law_air.proofs.AnyCalls.Advancing.{call_goes_on, drain_goes}
 use Rattle.law_air.proofs.AnyCalls.Arriving.{Carries, carries_then, calls_bring, submissions_bring, ttis_bring, drains_bring}
 use Rattle.law_air.proofs.AnyCalls.Bringing.{zero_stays, come_on}
@@ -29,7 +33,6 @@ use Rattle.law_node.specs.Bearers.{AddNone}
 use Rattle.law_node.proofs.Steps.{insert_stands}
 use Rattle.test_loop.specs.declared.Mode.TheVariants.{Off, A, B}
 use Rattle.law_run.specs.Order.{state_behind, KeepsOrder}
-use Rattle.law_run.specs.Zero.{adds_zero, is_added, forged, IsBrought, BringInOrder}
 use Rattle.law_run.proofs.Counts.{come, goes}
 use Rattle.law_run.proofs.Past.{behind as all_behind, link_behind}
 use Rattle.law_run.proofs.Reaching.{lives_by, round_goes}

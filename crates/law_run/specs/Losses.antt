@@ -1,21 +1,20 @@
 -- What unacknowledged data bearers deliver, in each direction, while losses are short (TS 36.322 5.1.2, 7.1, TS 36.323 5.1.2.1.3, 6.2.3).
 use Rattle.std.specs.Prelude.{◌≡◌, ◌⊎◌, ℕ, false, List, [], ◌∷◌, Some}
-use Rattle.air_link.specs.Link.{other}
+use Rattle.bearer_types.specs.Sides.{other, sent_by}
 use Rattle.air_link.specs.Sums.{sums}
 use Rattle.air_record.specs.declared.record.State.{State}
 use Rattle.air_record.specs.declared.record.State.TheVariants.{Long, Short}
 use Rattle.air_run.specs.Sums.{state_of}
 use Rattle.air_text.specs.Groups.{Group}
 use Rattle.bearer_types.specs.declared.config.BearerConfig.{BearerConfig}
-use Rattle.l2_node.specs.End.{sent_by}
 use Rattle.l2_types.specs.declared.channel.Kind.TheVariants.{Um}
 use Rattle.l2_types.specs.declared.side.Side.{Side}
-use Rattle.law_pdcp.specs.OneEnd.Lists.{IsSubsequence}
+use Rattle.law_words.specs.Lists.{IsSubsequence}
 use Rattle.um_losses.specs.Losses.{is_long}
-use Rattle.law_run.specs.Delivery.{is_forged}
-use Rattle.law_run.specs.Flows.{submitted, delivered}
+use Rattle.promises.specs.Delivery.{is_forged}
+use Rattle.promises.specs.Flows.{submitted, delivered}
 use Rattle.law_run.specs.Order.{state_behind}
-use Rattle.law_run.specs.Texts.{config_of}
+use Rattle.promises.specs.Configs.{config_of}
 
 -- the state that a sum would tell of the flow that a side sends on a channel
 abbrev pub state_told : Side → ℕ → List Group → State

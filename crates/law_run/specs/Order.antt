@@ -1,24 +1,18 @@
 -- The lines of a journal, run in their turn.
-use Rattle.std.specs.Prelude.{◌≡◌, ◌≤◌, List, [], ◌∷◌, None}
-use Rattle.air_record.specs.declared.line.Line.{Line}
-use Rattle.air_record.specs.declared.line.Line.TheVariants as lines
+use Rattle.std.specs.Prelude.{◌≡◌, List, [], ◌∷◌, None}
 use Rattle.air_text.specs.Groups.{Group}
 use Rattle.air_text.specs.Ranges.{IsInRange}
 use Rattle.air_run.specs.Rules.{refusal}
 use Rattle.air_run.specs.Run.{RunState, fresh, behind_line, done}
-use Rattle.law_run.specs.Air.{ttis, IsOfItsTime}
-use Rattle.law_run.specs.Blocks.{kinds, AreTold}
-use Rattle.law_run.specs.Parts.{part}
+use Rattle.promises.specs.Air.{ttis, IsOfItsTime}
+use Rattle.promises.specs.Blocks.{kinds, AreTold}
+use Rattle.promises.specs.Parts.{part}
+use Rattle.promises.specs.Configs.{HasCount}
 
 -- the state behind the lines of groups, of which the newest stands first
 abbrev pub state_behind : List Group → RunState
 state_behind [] = fresh
 state_behind (g ∷ past) = done g.line (state_behind past)
-
--- the first COUNT of a bearer has 32 bits (TS 36.323 6.3.5)
-abbrev pub HasCount : Line → Type 0
-HasCount (lines.Bearer config options) = config.first ≤ 4294967295
-HasCount line = Unit {0}
 
 -- a line that is read and breaks no rule, with exactly the records that it leaves where it stands; they are those of its TTIs, and
 -- of its new blocks

@@ -4,22 +4,23 @@ use Rattle.std.specs.Prelude.{◌≡◌, List, ◌++◌}
 use Rattle.std.specs.List.{filter}
 use Rattle.air_run.specs.Journal.{Played}
 use Rattle.air_text.specs.Groups.{Group, history}
-use Rattle.law_run.specs.Air.{is_tti, ttis, numbered}
-use Rattle.law_run.specs.Arrival.{HandUpWhatCame}
-use Rattle.law_run.specs.Carried.{AreCarried}
-use Rattle.law_run.specs.Counts.{CountsAscend}
-use Rattle.law_run.specs.Delivery.{DeliversInOrder}
-use Rattle.law_run.specs.Drained.{DrainsLeaveNothing}
+use Rattle.promises.specs.Air.{is_tti, ttis, numbered}
+use Rattle.promises.specs.Arrival.{HandUpWhatCame}
+use Rattle.promises.specs.Carried.{AreCarried}
+use Rattle.promises.specs.Counts.{CountsAscend}
+use Rattle.promises.specs.Delivery.{DeliversInOrder}
+use Rattle.promises.specs.Drained.{DrainsLeaveNothing}
 use Rattle.law_run.specs.Ends.{ComeByCalls}
-use Rattle.law_run.specs.Keys.{all_keys, AreDistinct}
-use Rattle.law_run.specs.Loops.{ReturnInOrder}
+use Rattle.promises.specs.Keys.{all_keys}
+use Rattle.law_words.specs.Lists.{AreDistinct}
+use Rattle.promises.specs.Loops.{ReturnInOrder}
 use Rattle.law_run.specs.Losses.{DeliversWhileShort}
 use Rattle.law_run.specs.Order.{KeepsOrder}
-use Rattle.law_run.specs.Signalling.{DeliversEachLife, DrainsLeaveNoSignal, HandoversBringNoSignal}
+use Rattle.promises.specs.Signalling.{DeliversEachLife, DrainsLeaveNoSignal, HandoversBringNoSignal}
 use Rattle.law_run.specs.Sums.{sums_at}
 use Rattle.law_run.specs.Texts.{NoneMeet}
-use Rattle.law_run.specs.Telling.{LinesTell}
-use Rattle.law_run.specs.Zero.{BringInOrder}
+use Rattle.promises.specs.Telling.{LinesTell}
+use Rattle.promises.specs.Zero.{BringInOrder}
 
 -- a journal with its promises: its groups, and at its end the sums where it is finished
 pub record IsPromised (played : Played) : Type 0 where

@@ -1,6 +1,7 @@
 -- The sums at the end of a journal (docs/formats/JOURNAL.md): its own counts.
 use Rattle.std.specs.Prelude.{ℕ, if◌then◌else◌, List, [], ◌∷◌, ◌++◌, length}
-use Rattle.air_link.specs.Link.{all_lcids, other}
+use Rattle.bearer_types.specs.Lcids.{all_lcids}
+use Rattle.bearer_types.specs.Sides.{other}
 use Rattle.air_link.specs.Sums.{sums}
 use Rattle.air_record.specs.declared.record.Record.{Record}
 use Rattle.air_run.specs.Journal.{Close, Finished, Refused, Waiting}
@@ -10,7 +11,7 @@ use Rattle.air_run.specs.Sums.{sum_by}
 use Rattle.air_text.specs.Groups.{Group}
 use Rattle.l2_types.specs.declared.side.Side.{Side}
 use Rattle.l2_types.specs.declared.side.Side.TheVariants.{Nb, Ue}
-use Rattle.law_run.specs.Flows.{submitted, delivered}
+use Rattle.promises.specs.Flows.{submitted, delivered}
 use Rattle.law_run.specs.Order.{state_behind}
 
 -- of the flow that a side sends on a channel: the SDUs that its end submitted, and those that the other handed up

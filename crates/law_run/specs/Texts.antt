@@ -1,10 +1,7 @@
 -- What both ends cipher over a whole script: under one key no two texts meet at one COUNT, BEARER and DIRECTION, through all handovers
 -- (TS 36.323 5.6, TS 33.401 B.1).
-use Rattle.std.specs.Prelude.{◌≡◌, ℕ, ◌==◌, Bool, true, false, if◌then◌else◌, List, [], ◌∷◌, ◌++◌, Option, Some, None}
+use Rattle.std.specs.Prelude.{◌≡◌, ℕ, List, [], ◌∷◌, Option, Some, None}
 use Rattle.air_link.specs.Link.{end_of}
-use Rattle.air_record.specs.declared.line.Line.{Line}
-use Rattle.air_record.specs.declared.line.Line.TheVariants as lines
-use Rattle.air_run.specs.Playing.{no_keys, next_keys}
 use Rattle.air_text.specs.Groups.{Group, history}
 use Rattle.bearer.specs.Bearer.{flow_of}
 use Rattle.law_bearer.specs.AnyBearer.Calls.{Step, reached}
@@ -17,38 +14,10 @@ use Rattle.l2_types.specs.declared.channel.Kind.TheVariants.{Tm, Srb, Um, Am}
 use Rattle.l2_types.specs.declared.side.Side.{Side}
 use Rattle.law_node.specs.Holding.{flow}
 use Rattle.law_pdcp.specs.OneEnd.Lives.{Ciphering}
-use Rattle.law_run.specs.Counts.{counts_taken}
+use Rattle.promises.specs.Counts.{counts_taken}
 use Rattle.law_run.specs.Order.{state_behind}
-
--- ---- the keys that lines give, in order: those of the `keys` line and of each handover, with which the cipher stays
-
-abbrev pub in_force_by : Line → Keys → Keys
-in_force_by (lines.Keys keys) before = keys
-in_force_by (lines.Handover user rrc integrity) before = next_keys user rrc integrity before
-in_force_by line before = before
-
-abbrev pub in_force : List Group → Keys
-in_force [] = no_keys
-in_force (g ∷ past) = in_force_by g.line (in_force past)
-
-abbrev pub gives : Line → Bool
-gives (lines.Keys keys) = true
-gives (lines.Handover user rrc integrity) = true
-gives line = false
-
-abbrev pub given : List Group → List Keys
-given [] = []
-given (g ∷ past) = given past ++ (if gives g.line then in_force (g ∷ past) ∷ [] else [])
-
--- ---- the bearer of a channel, by its line
-
-abbrev pub config_by : ℕ → Line → Option BearerConfig → Option BearerConfig
-config_by lcid (lines.Bearer config options) before = if config.channel.lcid == lcid then Some config else before
-config_by lcid line before = before
-
-abbrev pub config_of : ℕ → List Group → Option BearerConfig
-config_of lcid [] = None
-config_of lcid (g ∷ past) = config_by lcid g.line (config_of lcid past)
+use Rattle.promises.specs.Keys.{given}
+use Rattle.promises.specs.Configs.{config_of}
 
 -- ---- what a side ciphers on a channel
 

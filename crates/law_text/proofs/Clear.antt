@@ -6,7 +6,8 @@ use Rattle.std.proofs.lemmas.Fmt.{digits_decimal}
 use Rattle.std.proofs.lemmas.Bool.{and_parts}
 use Rattle.hex.specs.Hex.{encode_lower, encode_with, lower_digits}
 use Rattle.air_record.specs.Text.{count_text, bitmap_text}
-use Rattle.law_text.specs.Back.{is_clear, IsCount}
+use Rattle.law_text.specs.Back.{IsCount}
+use Rattle.air_text.specs.Spoken.{is_clear}
 use Rattle.law_text.proofs.Parts.{own}
 
 pub parts-clear : (x : ℕ) (xs : List ℕ) → is_clear (x ∷ xs) ≡ true → ((x == 10) ≡ false) × ((x == 32) ≡ false) × (is_clear xs ≡ true)

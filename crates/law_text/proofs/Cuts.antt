@@ -1,6 +1,7 @@
 use Rattle.std.proofs.Common.{◌≡◌, ◌==◌, ◌∙◌, ℕ, List, [], ◌∷◌, ◌++◌, ap, refl, sym, true, false, if◌then◌else◌, append_assoc, append-nil}
 use Rattle.air_record.specs.Text.{worded, ended}
-use Rattle.law_text.specs.Back.{cut, is_clear, are_clear}
+use Rattle.law_text.specs.Back.{cut}
+use Rattle.air_text.specs.Spoken.{is_clear, are_clear}
 
 pub cut-word : (w acc rest : List ℕ) → is_clear w ≡ true → cut acc (w ++ rest) ≡ cut (acc ++ w) rest
 unfolding cut

@@ -5,7 +5,8 @@ use Rattle.std.specs.Fmt.{decimal}
 use Rattle.std.proofs.lemmas.Fmt.{digits_decimal}
 use Rattle.std.proofs.lemmas.Bool.{and_parts}
 use Rattle.air_record.specs.Text.{comma_before, lens_text, framing_text}
-use Rattle.law_text.specs.Back.{number_back, is_clear}
+use Rattle.law_text.specs.Back.{number_back}
+use Rattle.air_text.specs.Spoken.{is_clear}
 use Rattle.law_text.specs.Lens.{cut_by, is_free, lens_back, AreNumbers, AreLens, framing_back}
 use Rattle.law_text.proofs.Parts.{own, back-number}
 use Rattle.law_text.proofs.Clear.{clear-number, parts-clear}

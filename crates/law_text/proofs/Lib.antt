@@ -3,7 +3,6 @@ pub mod Parts
 pub mod Clear
 pub mod LensBack
 pub mod NacksBack
-pub mod LinesBack
 pub mod Events
 pub mod Records
 pub mod Texts

@@ -6,7 +6,7 @@ use Rattle.std.proofs.lemmas.Fmt.{digits_decimal}
 use Rattle.rlc_pdu.specs.declared.pdu.Part.{Part}
 use Rattle.rlc_pdu.specs.declared.pdu.Nack.{Nack}
 use Rattle.air_record.specs.Text.{comma_before, part_text, nack_text, nacks_text}
-use Rattle.law_text.specs.Back.{is_clear}
+use Rattle.air_text.specs.Spoken.{is_clear}
 use Rattle.law_text.specs.Lens.{cut_by, is_free, part_of, nack_back, nacks_back, IsGoodPart, IsGoodNack, AreGoodNacks}
 use Rattle.law_text.proofs.Parts.{own, back-number, no-dash, two-dash}
 use Rattle.law_text.proofs.Clear.{clear-number}

@@ -18,8 +18,9 @@ use Rattle.air_record.specs.declared.record.State.{State}
 use Rattle.air_record.specs.declared.record.State.TheVariants as states
 use Rattle.std.specs.Fmt.{decimal}
 use Rattle.air_record.specs.declared.line.Line.{Line as Lines}
-use Rattle.law_text.specs.Lines.{IsGoodLine, spoken, line_back}
-use Rattle.law_text.proofs.LinesBack.{back-line}
+use Rattle.law_text.specs.Lines.{line_back}
+use Rattle.air_text.specs.Spoken.{IsGoodLine, spoken}
+use Rattle.air_text.proofs.LinesBack.{back-line}
 use Rattle.air_record.specs.declared.record.Record.{Record}
 use Rattle.air_record.specs.declared.record.Record.TheVariants.{Line, Tti, Of, Block, Air, Refused, Looped, Drained, Spent, Sum, MacFront, MacSdu, MacPad, MacControl, RlcTm, RlcUm, RlcAm, RlcSeg, RlcStatus, PdcpData, PdcpSrb, PdcpReport, Shown, BadMac, BadRlc, BadPdcp, Sleep}
 use Rattle.air_record.specs.Text.{side_text, direction_text, fresh_text, arrived_text, heard_text, place_text, state_text, bit_text, mac_number, rlc_number, pdcp_number, event_words, bsr_words, control_words, record_words}

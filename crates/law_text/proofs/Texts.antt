@@ -26,12 +26,12 @@ use Rattle.air_record.specs.declared.record.State.TheVariants as states
 use Rattle.air_record.specs.declared.record.Record.{Record}
 use Rattle.air_record.specs.declared.record.Record.TheVariants.{Line, Tti, Of, Block, Air, Refused, Looped, Drained, Spent, Sum, MacFront, MacSdu, MacPad, MacControl, RlcTm, RlcUm, RlcAm, RlcSeg, RlcStatus, PdcpData, PdcpSrb, PdcpReport, Shown, BadMac, BadRlc, BadPdcp, Sleep}
 use Rattle.air_record.specs.Text.{worded, ended, text_of, accepted_text, line_words, bearer_words, kind_text, cipher_text, fate_text, side_text, clock_text, how_text, waits_text, lost_text, direction_text, fresh_text, arrived_text, heard_text, place_text, state_text, bit_text, mac_number, rlc_number, pdcp_number, event_words, bsr_words, control_words}
-use Rattle.law_text.specs.Back.{is_clear, are_clear, cut, IsGoodEvent}
+use Rattle.law_text.specs.Back.{cut, IsGoodEvent}
+use Rattle.air_text.specs.Spoken.{is_clear, are_clear, IsGoodLine, AreSome, spoken}
 use Rattle.law_text.specs.Records.{record_back, IsGoodReport, IsGoodControl, IsGood}
 use Rattle.law_text.proofs.Cuts.{cut-text}
 use Rattle.law_text.proofs.Clear.{clear-number, clear-octets, clear-bitmap, clear-count}
 use Rattle.law_text.proofs.Records.{said, back-record}
-use Rattle.law_text.specs.Lines.{IsGoodLine, AreSome, spoken}
 use Rattle.std.specs.Fmt.{decimal}
 use Rattle.l2_types.specs.declared.channel.Kind.{Kind}
 use Rattle.l2_types.specs.declared.channel.Kind.TheVariants as kinds

@@ -1,5 +1,5 @@
 -- Records read back from the words of their texts (docs/formats/JOURNAL.md).
-use Rattle.std.specs.Prelude.{ℕ, ◌+◌, ◌*◌, ◌-◌, ◌<◌, ◌^◌, ◌==◌, Bool, true, false, if◌then◌else◌, List, [], ◌∷◌, ◌++◌, codes, Option, None, Some, Result, Ok, Err}
+use Rattle.std.specs.Prelude.{ℕ, ◌+◌, ◌*◌, ◌-◌, ◌<◌, ◌^◌, ◌==◌, if◌then◌else◌, List, [], ◌∷◌, ◌++◌, codes, Option, None, Some, Result, Ok, Err}
 use Rattle.std.specs.Str.{bytes_eq}
 use Rattle.hex.specs.Hex.{decode_of, IsBytes}
 use Rattle.hex.specs.declared.error.FromHexError.{FromHexError}
@@ -24,15 +24,6 @@ use Rattle.bearer_types.specs.declared.event.Event.TheVariants.{Take, Report, Se
 unfoldable pub cut : List ℕ → List ℕ → List (List ℕ)
 cut word [] = word ∷ []
 cut word (x ∷ xs) = if x == 10 then word ∷ [] else if x == 32 then word ∷ cut [] xs else cut (word ++ x ∷ []) xs
-
--- neither a space nor a line feed
-abbrev pub is_clear : List ℕ → Bool
-is_clear [] = true
-is_clear (x ∷ xs) = if x == 10 then false else if x == 32 then false else is_clear xs
-
-abbrev pub are_clear : List (List ℕ) → Bool
-are_clear [] = true
-are_clear (w ∷ ws) = if is_clear w then are_clear ws else false
 
 -- the number that digits say
 abbrev pub digits_on : ℕ → List ℕ → ℕ

@@ -19,7 +19,8 @@ use Rattle.air_record.specs.declared.record.State.TheVariants as states
 use Rattle.air_record.specs.declared.record.Record.{Record}
 use Rattle.air_record.specs.declared.record.Record.TheVariants.{Line, Tti, Of, Block, Air, Refused, Looped, Drained, Spent, Sum, MacFront, MacSdu, MacPad, MacControl, RlcTm, RlcUm, RlcAm, RlcSeg, RlcStatus, PdcpData, PdcpSrb, PdcpReport, Shown, BadMac, BadRlc, BadPdcp, Sleep}
 use Rattle.law_text.specs.Back.{cut, number_back, octets_back, bitmap_back, event_back, mac_back, rlc_back, pdcp_back, IsGoodEvent}
-use Rattle.law_text.specs.Lines.{IsGoodLine, line_back}
+use Rattle.law_text.specs.Lines.{line_back}
+use Rattle.air_text.specs.Spoken.{IsGoodLine}
 use Rattle.law_text.specs.Lens.{lens_back, nacks_back, framing_back, AreLens, AreGoodNacks}
 
 abbrev pub side_back : List ℕ → Side

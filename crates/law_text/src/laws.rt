@@ -3,7 +3,8 @@ ghost use Rattle.bearer_types.specs.declared.event.Event.{Event};
 ghost use Rattle.air_record.specs.Text.{worded, text_of, event_words};
 ghost use Rattle.air_record.specs.declared.record.Record.{Record};
 ghost use Rattle.law_text.specs.Records.{read_text, IsGood};
-ghost use Rattle.law_text.specs.Back.{event_back, IsGoodEvent, cut, are_clear};
+ghost use Rattle.law_text.specs.Back.{event_back, IsGoodEvent, cut};
+ghost use Rattle.air_text.specs.Spoken.{are_clear};
 
 /// The words of an event give it back.
 pub fn event_texts()

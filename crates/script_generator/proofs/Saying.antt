@@ -16,8 +16,8 @@ use Rattle.air_text.specs.Words.{words_behind, words_of, is_twice, is_again, is_
 use Rattle.air_text.specs.Fields.{outcome, is_number, number_of, kind_of, outcome_of}
 use Rattle.air_text.specs.Options.{config_of, options_of, word_option, name_of}
 use Rattle.air_text.specs.Reading.{read_words, harq_of, bearer_of, tti_of, drain_of, end_of}
-use Rattle.law_text.specs.Lines.{IsGoodKey}
-use Rattle.law_text.proofs.LinesBack.{back-line}
+use Rattle.air_text.specs.Spoken.{IsGoodKey}
+use Rattle.air_text.proofs.LinesBack.{back-line}
 use Rattle.script_generator.specs.Draws.{seeded, next, drawn}
 use Rattle.script_generator.specs.Script.{key, keys, opening, handover, sdu_front, sdu, tti, at_tti, step, after_step, steps, ending, script}
 use Rattle.script_generator.specs.Lines.{key_at, harq_line, keys_line, with_retx, am_line, um_line, handover_by, handover_lines, sdu_octets, sdu_lines, tti_line, step_lines, steps_lines, ending_lines, lines, Says, SayAll}

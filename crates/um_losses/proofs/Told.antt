@@ -13,7 +13,8 @@ use Rattle.um_losses.specs.declared.flow.Whose.{Whose}
 use Rattle.um_losses.specs.declared.flow.Whose.TheVariants.{All, Each, One}
 use Rattle.um_losses.specs.declared.pdu.Pdu.{Pdu}
 use Rattle.um_losses.specs.declared.sending.Sent.{Sent}
-use Rattle.um_losses.specs.Flow.{Flow, begun, all_gone, heard, arrived_if, written_in, after, is_same, is_of, concerns}
+use Rattle.um_losses.specs.Flow.{Flow, begun, all_gone, heard, arrived_if, written_in, after, is_of, concerns}
+use Rattle.bearer_types.specs.Sides.{is_same_way}
 use Rattle.um_losses.specs.Gaps.{numbered}
 use Rattle.um_losses.specs.Losses.{Losses, is_long, is_bearer, both, with_bearer, changed_one, changed, seen, handed_over}
 use Rattle.um_losses.specs.Pdus.{is_pdu}
@@ -48,7 +49,7 @@ after_stays Expired f = record { direction_is = refl; lcid_is = refl }
 after_stays Restarted f = record { direction_is = refl; lcid_is = refl }
 
 of_stays : (d : Direction) (l : ℕ) (f g : Flow) → Stays f g → is_of d l g ≡ is_of d l f
-of_stays d l f g h = ap (λ (x : Direction). is_same x d && (g.lcid == l)) h.direction_is ∙ ap (λ (n : ℕ). is_same f.direction d && (n == l)) h.lcid_is
+of_stays d l f g h = ap (λ (x : Direction). is_same_way x d && (g.lcid == l)) h.direction_is ∙ ap (λ (n : ℕ). is_same_way f.direction d && (n == l)) h.lcid_is
 
 changed_stays : (change : Change) (f : Flow) → Stays f (changed_one change f)
 changed_stays change f = stays_if (concerns change.whose f) f (after change.what f) (after_stays change.what f)
@@ -59,7 +60,7 @@ both_true : (x y : Bool) → (x && y) ≡ true → (x ≡ true) × (y ≡ true)
 both_true true y e = (refl, e)
 both_true false y e = absurd cc
 
-same_is : (a b : Direction) → is_same a b ≡ true → a ≡ b
+same_is : (a b : Direction) → is_same_way a b ≡ true → a ≡ b
 same_is Down Down e = refl
 same_is Down Up e = absurd cc
 same_is Up Down e = absurd cc
@@ -71,10 +72,10 @@ flipped false m n e = grind (arith, nat_tests)
 
 concerns_so : (d : Direction) (l : ℕ) (whose : Whose) (f : Flow) → f.direction ≡ d → f.lcid ≡ l → concerns whose f ≡ is_for d l whose
 concerns_so d l All f e n = refl
-concerns_so d l (Each direction) f e n = ap (λ (x : Direction). is_same x direction) e
+concerns_so d l (Each direction) f e n = ap (λ (x : Direction). is_same_way x direction) e
 concerns_so d l (One direction lcid) f e n =
-    ap (λ (x : Direction). is_same x direction && (f.lcid == lcid)) e ∙ ap (λ (m : ℕ). is_same d direction && (m == lcid)) n
-    ∙ ap (λ (b : Bool). is_same d direction && b) (flipped (lcid == l) lcid l refl)
+    ap (λ (x : Direction). is_same_way x direction && (f.lcid == lcid)) e ∙ ap (λ (m : ℕ). is_same_way d direction && (m == lcid)) n
+    ∙ ap (λ (b : Bool). is_same_way d direction && b) (flipped (lcid == l) lcid l refl)
 
 turned : (b : Bool) (what : What) (f : Flow) → (if b then after what f else f) ≡ all_after (if b then what ∷ [] else []) f
 turned true what f = refl
@@ -82,7 +83,7 @@ turned false what f = refl
 
 changed_so : (d : Direction) (l : ℕ) (change : Change) (f : Flow) → is_of d l f ≡ true → changed_one change f ≡ all_after (picked d l (Some change)) f
 changed_so d l change f e =
-    let parts = both_true (is_same f.direction d) (f.lcid == l) e in
+    let parts = both_true (is_same_way f.direction d) (f.lcid == l) e in
     let direction_is : f.direction ≡ d = same_is f.direction d parts.0 in
     let same : (f.lcid == l) ≡ true = parts.1 in
     let lcid_is : f.lcid ≡ l = grind (arith, nat_tests) in

@@ -1,7 +1,6 @@
 -- One direction of an unacknowledged bearer, as records show it.
-use Rattle.std.specs.Prelude.{ℕ, Bool, true, false, ◌&&◌, ◌==◌, if◌then◌else◌, [], Option, Some, None, slice_index_or}
+use Rattle.std.specs.Prelude.{ℕ, Bool, true, ◌&&◌, ◌==◌, if◌then◌else◌, [], Option, Some, None, slice_index_or}
 use Rattle.mac_pdu.specs.declared.item.Direction.{Direction}
-use Rattle.mac_pdu.specs.declared.item.Direction.TheVariants.{Down, Up}
 use Rattle.rlc_um.specs.Receiver.{State as Receiver, start, arrival, expired, all_joined}
 use Rattle.rlc_um.specs.Sender.{width_of}
 use Rattle.um_losses.specs.declared.flow.What.{What}
@@ -15,6 +14,7 @@ use Rattle.um_losses.specs.Gaps.{no_gaps, numbered, all_counted, restarted}
 use Rattle.um_losses.specs.Pdus.{is_pdu}
 use Rattle.um_losses.specs.Sending.{Sending, nothing_written, renewed, written}
 use Rattle.um_losses.specs.Tags.{tagged}
+use Rattle.bearer_types.specs.Sides.{is_same_way}
 
 -- `bits` is the length of RLC's numbers, and `receiver` hears tags (TS 36.322 5.1.2.2)
 pub record Flow : Type 0 where
@@ -81,16 +81,10 @@ after (Forged p) f = heard None p f
 after Expired f = expires f
 after Restarted f = restarts f
 
-abbrev pub is_same : Direction → Direction → Bool
-is_same Down Down = true
-is_same Down Up = false
-is_same Up Down = false
-is_same Up Up = true
-
 abbrev pub is_of : Direction → ℕ → Flow → Bool
-is_of direction lcid f = is_same f.direction direction && (f.lcid == lcid)
+is_of direction lcid f = is_same_way f.direction direction && (f.lcid == lcid)
 
 abbrev pub concerns : Whose → Flow → Bool
 concerns All f = true
-concerns (Each direction) f = is_same f.direction direction
+concerns (Each direction) f = is_same_way f.direction direction
 concerns (One direction lcid) f = is_of direction lcid f

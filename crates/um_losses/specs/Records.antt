@@ -7,19 +7,13 @@ use Rattle.air_record.specs.declared.record.Record.TheVariants as records
 use Rattle.bearer_types.specs.declared.event.Event.TheVariants as events
 use Rattle.l2_types.specs.declared.event.Clock.TheVariants.{Reorder}
 use Rattle.l2_types.specs.declared.side.Side.{Side}
-use Rattle.l2_types.specs.declared.side.Side.TheVariants.{Nb, Ue}
 use Rattle.mac_pdu.specs.declared.item.Direction.{Direction}
-use Rattle.mac_pdu.specs.declared.item.Direction.TheVariants.{Down, Up}
 use Rattle.um_losses.specs.declared.cursor.Change.{Change}
 use Rattle.um_losses.specs.declared.cursor.Cursor.{Cursor}
 use Rattle.um_losses.specs.declared.flow.What.{What}
 use Rattle.um_losses.specs.declared.flow.What.TheVariants.{Renewed, Written, Arrived, Forged, Expired}
 use Rattle.um_losses.specs.declared.flow.Whose.TheVariants.{Each, One}
-
--- the direction that is heard at a side
-abbrev pub heard_at : Side → Direction
-heard_at Nb = Up
-heard_at Ue = Down
+use Rattle.bearer_types.specs.Sides.{heard_by}
 
 abbrev pub renewal : Direction → ℕ → Bool → Option Change
 renewal direction process true = Some (record { whose = Each direction; what = Renewed process })
@@ -41,7 +35,7 @@ abbrev pub change_of : Record → Cursor → Option Change
 change_of (records.Block direction process fresh rv octets) c = renewal direction process fresh
 change_of (records.RlcUm sn fi lens) c = on_channel c.direction c.channel (Written c.process (record { sn = sn; fi = fi; elements = length lens }))
 change_of (records.Air direction Got heard) c = Some (record { whose = Each direction; what = Arrived c.process })
-change_of (records.Of side (events.Expired lcid Reorder)) c = Some (record { whose = One (heard_at side) lcid; what = Expired })
+change_of (records.Of side (events.Expired lcid Reorder)) c = Some (record { whose = One (heard_by side) lcid; what = Expired })
 change_of other c = None
 
 -- ---- what is shown of a block that is forged at a side: its PDUs arrive at once
@@ -51,5 +45,5 @@ passed_forged (records.MacSdu lcid len) c = record c { channel = Some lcid }
 passed_forged other c = c
 
 abbrev pub forged_change_of : Side → Record → Cursor → Option Change
-forged_change_of side (records.RlcUm sn fi lens) c = on_channel (heard_at side) c.channel (Forged (record { sn = sn; fi = fi; elements = length lens }))
+forged_change_of side (records.RlcUm sn fi lens) c = on_channel (heard_by side) c.channel (Forged (record { sn = sn; fi = fi; elements = length lens }))
 forged_change_of side other c = None

@@ -7,13 +7,14 @@ use Rattle.um_losses.specs.declared.cursor.Cursor.{Cursor}
 use Rattle.um_losses.specs.declared.flow.What.{What}
 use Rattle.um_losses.specs.declared.flow.Whose.{Whose}
 use Rattle.um_losses.specs.declared.flow.Whose.TheVariants.{All, Each, One}
-use Rattle.um_losses.specs.Flow.{Flow, after, is_same, is_of}
+use Rattle.um_losses.specs.Flow.{Flow, after, is_of}
+use Rattle.bearer_types.specs.Sides.{is_same_way}
 use Rattle.um_losses.specs.Records.{passed, change_of}
 
 abbrev pub is_for : Direction → ℕ → Whose → Bool
 is_for d l All = true
-is_for d l (Each direction) = is_same d direction
-is_for d l (One direction lcid) = is_same d direction && (lcid == l)
+is_for d l (Each direction) = is_same_way d direction
+is_for d l (One direction lcid) = is_same_way d direction && (lcid == l)
 
 abbrev pub picked : Direction → ℕ → Option Change → List What
 picked d l None = []

@@ -1,6 +1,7 @@
 // Where a reader of records stands, and what they mean for flows.
 ghost use Rattle.std.specs.Prelude.{◌≡◌};
-ghost use Rattle.um_losses.specs.Records.{heard_at, renewal, on_channel, passed, change_of, passed_forged, forged_change_of};
+ghost use Rattle.um_losses.specs.Records.{renewal, on_channel, passed, change_of, passed_forged, forged_change_of};
+ghost use Rattle.bearer_types.specs.Sides.{heard_by};
 
 use crate::flow::{What, Whose};
 use crate::pdu::Pdu;
@@ -74,7 +75,7 @@ impl Cursor {
                 },
             } => Some(Change {
                 whose: Whose::One {
-                    direction: heard_at(*side),
+                    direction: heard_by(*side),
                     lcid: *lcid,
                 },
                 what: What::Expired,
@@ -99,7 +100,7 @@ impl Cursor {
                     fi: *fi,
                     elements: lens.len(),
                 };
-                on_channel(heard_at(side), self.channel, What::Forged { pdu })
+                on_channel(heard_by(side), self.channel, What::Forged { pdu })
             }
             _ => None,
         }
@@ -131,8 +132,8 @@ fn on_channel(direction: Direction, channel: Option<u8>, what: What) -> Option<C
 }
 
 // The direction that is heard at a side.
-fn heard_at(side: Side) -> Direction
-    ensures { result ≡ heard_at side }
+fn heard_by(side: Side) -> Direction
+    ensures { result ≡ heard_by side }
 {
     match side {
         Side::Nb => Direction::Up,

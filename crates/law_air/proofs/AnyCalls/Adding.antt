@@ -11,7 +11,8 @@ use Rattle.l2_types.specs.declared.side.Side.{Side}
 use Rattle.l2_types.specs.declared.side.Side.TheVariants.{Nb, Ue}
 use Rattle.air_link.specs.Link.{Link, says}
 use Rattle.air_link.specs.Telling.{one_more}
-use Rattle.law_air.specs.AnyCalls.Counts.{is_up, is_looped, is_of_run, is_of_air, ups, loopeds, Grows}
+use Rattle.law_air.specs.AnyCalls.Counts.{ups, loopeds, Grows}
+use Rattle.promises.specs.Records.{is_up, is_looped, is_of_run, is_of_air}
 use Rattle.law_air.specs.AnyCalls.Told.{Tells, Adds}
 
 -- ---- tables

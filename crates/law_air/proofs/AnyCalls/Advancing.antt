@@ -26,18 +26,21 @@ use Rattle.law_node.proofs.Silences.{writes_nothing}
 use Rattle.pdu_show.specs.declared.kinds.Layout.{Layout}
 use Rattle.test_loop.specs.declared.Mode.{Mode}
 use Rattle.test_loop.specs.Loops.{after_set}
-use Rattle.air_link.specs.Link.{Link, end_of, all_lcids}
+use Rattle.air_link.specs.Link.{Link, end_of}
+use Rattle.bearer_types.specs.Lcids.{all_lcids}
 use Rattle.air_link.specs.Telling.{tells_all}
 use Rattle.air_link.specs.Loops.{loops, pays, loop_set}
 use Rattle.air_link.specs.Downlink.{hears, down_order, downlink}
 use Rattle.air_link.specs.Uplink.{uplink}
-use Rattle.air_link.specs.Ttis.{begins, grows, sleeps, tells_sleep, missed, timed, tti_by, tti}
-use Rattle.air_link.specs.Draining.{intact, drain_tti, timer_expires, receiver_expires, all_receivers_expire, receivers_expire, all_senders_expire, senders_expire}
+use Rattle.air_link.specs.Ttis.{begins, grows, sleeps, tells_sleep, timed, tti_by, tti}
+use Rattle.air_record.specs.Outcomes.{missed, intact}
+use Rattle.air_link.specs.Draining.{drain_tti, timer_expires, receiver_expires, all_receivers_expire, receivers_expire, all_senders_expire, senders_expire}
 use Rattle.air_record.specs.declared.record.Record.{Record}
 use Rattle.air_record.specs.declared.record.Record.TheVariants as records
 use Rattle.air_link.specs.Lines.{bears, discards, visits, reports, listens, no_place, submits_by, submitting, expires_by, expiring, expires_alone, expires, forges, moves, hands_over}
 use Rattle.law_air.specs.AnyCalls.Calls.{Call, Bears, Discards, Visits, Reports, Listens, Loops, Expires, Forges, HandsOver, ReceiversExpire, SendersExpire, after}
-use Rattle.law_air.specs.AnyCalls.Ends.{told_by, begins_life, is_of_building, GoesThrough, GoesOn, GoesOnByVisits, visit_told, IsGiven, known, lives_in}
+use Rattle.law_air.specs.AnyCalls.Ends.{begins_life, GoesThrough, GoesOn, GoesOnByVisits, visit_told, IsGiven, known, lives_in}
+use Rattle.promises.specs.Records.{told_by, is_of_building}
 use Rattle.law_air.proofs.AnyCalls.Going.{told_both, own_told, other_told, by_none, by_call, by_submit, through_then, goes_then, goes_by, Seen, seen, behind, through_seen, goes_seen, blocks_of, told_seen, Rests, rests_then, unseen_rests, says_rests, call_goes, call_tells, hears_rests, loops_rests, pays_rests, woken_rests, grown_rests}
 use Rattle.law_air.proofs.AnyCalls.Visiting.{downlink_goes, uplink_goes}
 

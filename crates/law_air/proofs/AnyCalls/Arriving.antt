@@ -2,13 +2,15 @@
 use Rattle.std.proofs.Common.{◌≡◌, ◌≤◌, ℕ, ◌%◌, ◌==◌, Bool, true, false, if◌then◌else◌, Option, Some, None, List, [], ◌∷◌, ◌++◌, map, append_assoc, append-nil, refl, ap, sym, subst, ◌∙◌}
 use Rattle.std.specs.List.{filter}
 use Rattle.std.specs.Prelude.{slice_index_or, slice_set, unwrap_or}
-use Rattle.air_link.specs.Downlink.{visits as visits_process, builds, built_ndi, block_at, sends, receives, hears, turned, feeds, told_as, is_good, saw_new, sees, answer, comes, hears_by, lands, unseen, down_order, down_by, downlink}
-use Rattle.air_link.specs.Draining.{intact, drain_tti, timer_expires, receiver_expires, all_receivers_expire, receivers_expire, all_senders_expire, senders_expire}
+use Rattle.air_link.specs.Downlink.{visits as visits_process, builds, built_ndi, block_at, sends, receives, hears, feeds, told_as, is_good, saw_new, sees, answer, comes, hears_by, lands, unseen, down_order, down_by, downlink}
+use Rattle.air_record.specs.Outcomes.{turned, intact, missed}
+use Rattle.air_link.specs.Draining.{drain_tti, timer_expires, receiver_expires, all_receivers_expire, receivers_expire, all_senders_expire, senders_expire}
 use Rattle.air_link.specs.Lines.{bears, discards, visits, reports, listens, no_place, submits_by, submitting, expires_by, expiring, expires_alone, expires, forges, moves, hands_over}
-use Rattle.air_link.specs.Link.{Link, says, end_of, all_lcids}
+use Rattle.air_link.specs.Link.{Link, says, end_of}
+use Rattle.bearer_types.specs.Lcids.{all_lcids}
 use Rattle.air_link.specs.Loops.{loops, pays, loop_set}
 use Rattle.air_link.specs.Telling.{tells_all}
-use Rattle.air_link.specs.Ttis.{begins, sleeps, tells_sleep, missed, grows, timed, tti_by, tti}
+use Rattle.air_link.specs.Ttis.{begins, sleeps, tells_sleep, grows, timed, tti_by, tti}
 use Rattle.air_link.specs.Uplink.{up_order, is_intact, told_as as up_told_as, granted, hears_if, aired as up_aired, awake, up_by, grants, passes, uplink}
 use Rattle.air_record.specs.declared.line.Fate.{Fate}
 use Rattle.air_record.specs.declared.line.Fate.TheVariants.{Ok, Bad, Miss}
@@ -29,7 +31,8 @@ use Rattle.harq.specs.declared.sender.Visit.TheVariants.{New, Resend, Silent as 
 use Rattle.harq.specs.Receiving.{after_assigned, grant_ndi, after_grant}
 use Rattle.l2_bits.specs.declared.fault.SubmitRefusal.{SubmitRefusal}
 use Rattle.l2_node.specs.Building.{visit, building}
-use Rattle.l2_node.specs.End.{End, sent_by}
+use Rattle.l2_node.specs.End.{End}
+use Rattle.bearer_types.specs.Sides.{sent_by, is_same}
 use Rattle.l2_node.specs.Finding.{has}
 use Rattle.l2_node.specs.Hearing.{received}
 use Rattle.l2_node.specs.Moving.{leaving}
@@ -46,9 +49,10 @@ use Rattle.prioritise.specs.ShareLaws.{IsSound}
 use Rattle.test_loop.specs.declared.Mode.{Mode}
 use Rattle.test_loop.specs.Loops.{after_set}
 use Rattle.law_air.specs.AnyCalls.Calls.{Call, Bears, Discards, Visits, Reports, Listens, Loops, Expires, Forges, HandsOver, ReceiversExpire, SendersExpire, after}
-use Rattle.law_air.specs.AnyCalls.Counts.{is_same, is_up, is_of_air}
+use Rattle.promises.specs.Records.{is_up, is_of_air, sdu_of, ups_in}
 use Rattle.law_air.specs.AnyCalls.Ends.{IsGiven}
-use Rattle.law_air.specs.AnyCalls.Zero.{sdu_of, ups_in, got_at, arrived, carried, brought, HaveCome, has_zero, Brings, none_forged, forged_by}
+use Rattle.law_air.specs.AnyCalls.Zero.{HaveCome, has_zero, Brings, none_forged, forged_by}
+use Rattle.promises.specs.Zero.{got_at, arrived, carried, brought}
 use Rattle.law_air.proofs.AnyCalls.Advancing.{expires_rests}
 use Rattle.law_air.proofs.AnyCalls.Bringing.{ArePlain, Stands, received_zeros, expiry_others, leaving_others, come_stands}
 use Rattle.law_air.proofs.AnyCalls.Going.{Seen, told_seen, loops_rests, woken_rests, grown_rests}

@@ -12,7 +12,8 @@ use Rattle.harq.specs.declared.sender.Visit.{Visit}
 use Rattle.harq.specs.declared.sender.Visit.TheVariants.{New, Resend, Silent}
 use Rattle.harq.specs.Sending.{Block, Sending, fresh as fresh_sender, process_at, resend_or, version_of, visit_answer, after_visit, after_feedback}
 use Rattle.l2_node.specs.Building.{IsEnough, visit, visited, built, built_by, loaded, building}
-use Rattle.l2_node.specs.End.{End, fresh, sent_by, with_bearer, reset, with_visits}
+use Rattle.l2_node.specs.End.{End, fresh, with_bearer, reset, with_visits}
+use Rattle.bearer_types.specs.Sides.{sent_by}
 use Rattle.l2_node.specs.Hearing.{expired}
 use Rattle.l2_node.specs.Moving.{left_cell, joined}
 use Rattle.l2_node.specs.Submitting.{submitted, discarding}
@@ -21,13 +22,15 @@ use Rattle.l2_types.specs.declared.side.Side.{Side}
 use Rattle.mac_pdu.specs.Reading.{reading}
 use Rattle.law_node.specs.Blocks.{report, all_sdus}
 use Rattle.law_node.specs.Calls.{Turn, Call as EndCall, SetVisits, SetReports, Add, Submit, SetDiscard, Tick, TickBuckets, Visits, Grants, Granted, Assigned, Pass, Receive, Expire, Move, AreGiven, answered, after as after_call, run as run_end, reached}
-use Rattle.law_node.specs.Names.{Sent, sends, AreNamed, modes_of}
-use Rattle.law_node.specs.Writing.{is_of_writing}
+use Rattle.law_node.specs.Names.{modes_of}
+use Rattle.promises.specs.Names.{Sent, sends, AreNamed}
+use Rattle.promises.specs.Events.{is_of_writing}
 use Rattle.law_node.proofs.Blocks.{has_what_was_written}
 use Rattle.law_node.proofs.Naming.{names_what_it_sends, tells_what_it_sends}
-use Rattle.law_air.specs.AnyCalls.Blocks.{IsTold, MayBuild}
+use Rattle.law_air.specs.AnyCalls.Blocks.{MayBuild}
+use Rattle.promises.specs.Built.{IsTold, block_told}
 use Rattle.pdu_show.specs.declared.kinds.Layout.{Layout}
-use Rattle.law_air.specs.AnyCalls.Ends.{block_told, built_told, visit_told}
+use Rattle.law_air.specs.AnyCalls.Ends.{built_told, visit_told}
 use Rattle.law_air.proofs.AnyCalls.Sending.{still_eight, holds_loaded}
 
 -- ---- what every end keeps: its side, and its eight processes

@@ -9,7 +9,8 @@ use Rattle.bearer.specs.Hearing.{arriving, ticking, ticked as flow_ticked}
 use Rattle.bearer.specs.Lives.{stopping}
 use Rattle.bearer_types.specs.declared.event.Event.{Event}
 use Rattle.bearer_types.specs.declared.event.Event.TheVariants as events
-use Rattle.l2_node.specs.End.{End, fresh, heard_by}
+use Rattle.l2_node.specs.End.{End, fresh}
+use Rattle.bearer_types.specs.Sides.{heard_by}
 use Rattle.l2_node.specs.Finding.{find, has, bearer_at}
 use Rattle.l2_node.specs.Hearing.{Heard, heard, hears_sdu, hears, hears_all, heard_items, received, ticks_at, ticks_over, ticked, bearer_of, expiry}
 use Rattle.l2_node.specs.Moving.{all_stopping, leaving}
@@ -29,7 +30,8 @@ use Rattle.law_node.proofs.Places.{found}
 use Rattle.law_node.proofs.Sound.{call_sound, reached_sound}
 use Rattle.prioritise.specs.ShareLaws.{IsSound}
 use Rattle.law_air.specs.AnyCalls.Ends.{begins_life, ByCalls, LivesOn}
-use Rattle.law_air.specs.AnyCalls.Zero.{carried_in, carried_by, carried, HasCome}
+use Rattle.law_air.specs.AnyCalls.Zero.{HasCome}
+use Rattle.promises.specs.Zero.{carried_in, carried_by, carried}
 use Rattle.law_air.proofs.AnyCalls.Blocks.{reached_whole}
 use Rattle.law_air.proofs.AnyCalls.Going.{run_on, given_on}
 use Rattle.law_air.proofs.AnyCalls.Others.{zeros, zeros_then, AreOthers, none_both, IsPlain, plain_kept, arriving_zeros, ticking_none, expiry_none, stopping_none}

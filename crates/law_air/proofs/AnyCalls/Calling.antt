@@ -12,7 +12,8 @@ use Rattle.l2_types.specs.declared.event.Clock.{Clock}
 use Rattle.l2_types.specs.declared.event.Clock.TheVariants.{Poll, Reorder, Prohibit}
 use Rattle.l2_types.specs.declared.side.Side.{Side}
 use Rattle.l2_types.specs.declared.side.Side.TheVariants.{Nb, Ue}
-use Rattle.air_link.specs.Link.{Link, end_of, all_lcids}
+use Rattle.air_link.specs.Link.{Link, end_of}
+use Rattle.bearer_types.specs.Lcids.{all_lcids}
 use Rattle.air_link.specs.Telling.{one_more, tells_all}
 use Rattle.air_link.specs.Loops.{loops}
 use Rattle.air_link.specs.Downlink.{hears}

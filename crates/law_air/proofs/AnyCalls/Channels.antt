@@ -12,7 +12,8 @@ use Rattle.harq.specs.declared.sender.Visit.TheVariants.{New, Resend, Silent}
 use Rattle.harq.specs.Sending.{Sending}
 use Rattle.l2_bits.specs.declared.fault.SubmitRefusal.{SubmitRefusal}
 use Rattle.l2_node.specs.Building.{visited, loaded, built_by, built, visit}
-use Rattle.l2_node.specs.End.{End, heard_by, with_bearer, reset, with_visits}
+use Rattle.l2_node.specs.End.{End, with_bearer, reset, with_visits}
+use Rattle.bearer_types.specs.Sides.{heard_by}
 use Rattle.l2_node.specs.Finding.{Numbers, find, has, place, bearer_at, lowest}
 use Rattle.l2_node.specs.Hearing.{Heard, heard, hears_sdu, hears, hears_all, heard_items, received, ticks_at, ticks_over, ticked, expired, bearer_of}
 use Rattle.l2_node.specs.Moving.{all_stopped, all_restarted, left_cell, joined}
@@ -28,7 +29,8 @@ use Rattle.prioritise.specs.Channels.{has as has_channel, put}
 use Rattle.prioritise.specs.Shares.{Bucketed, added, after_allot, ticked as grown, emptied}
 use Rattle.air_record.specs.declared.record.Record.{Record}
 use Rattle.law_air.specs.AnyCalls.Ends.{begins_life, LivesOn}
-use Rattle.law_air.specs.AnyCalls.Order.{Channels, channels_of, with_lcid, with_channel}
+use Rattle.law_air.specs.AnyCalls.Order.{channels_of}
+use Rattle.promises.specs.Order.{Channels, with_lcid, with_channel}
 
 abbrev lcids : List (Of Life) → List ℕ
 lcids bs = map (λ b. b.lcid) bs

@@ -16,16 +16,18 @@ use Rattle.harq.specs.declared.sender.Visit.TheVariants.{New, Resend, Silent as 
 use Rattle.harq.specs.Receiving.{process_at as received_at, was_decoded, assigned_answer, after_assigned, grant_ndi, after_grant}
 use Rattle.harq.specs.Sending.{Block, process_at, seen, resend_or, version_of, visit_answer, after_feedback}
 use Rattle.l2_node.specs.Building.{visit, built, building}
-use Rattle.l2_node.specs.End.{End, sent_by}
+use Rattle.l2_node.specs.End.{End}
+use Rattle.bearer_types.specs.Sides.{sent_by}
 use Rattle.l2_node.specs.Hearing.{received}
 use Rattle.l2_types.specs.declared.side.Side.{Side}
 use Rattle.l2_types.specs.declared.side.Side.TheVariants.{Nb, Ue}
 use Rattle.mac_pdu.specs.declared.item.Direction.TheVariants as directions
 use Rattle.air_link.specs.Link.{Link, says, end_of}
-use Rattle.air_link.specs.Downlink.{builds, built_ndi, block_at, shows, sends, hears, turned, feeds, told_as, is_good, saw_new, sees, answer, comes, hears_by, aired, lands, unseen, down_order, down_by, downlink}
+use Rattle.air_link.specs.Downlink.{builds, built_ndi, block_at, shows, sends, hears, feeds, told_as, is_good, saw_new, sees, answer, comes, hears_by, aired, lands, unseen, down_order, down_by, downlink}
+use Rattle.air_record.specs.Outcomes.{turned}
 use Rattle.air_link.specs.Uplink.{up_order, is_intact, told_as as up_told_as, granted, hears_if, aired as up_aired, awake, up_by, grants, passes, uplink}
-use Rattle.law_air.specs.AnyCalls.Flights.{CanCome, feedback, FliesDown, IsDown, heard_as, FliesUp, IsUp}
-use Rattle.law_air.specs.AnyCalls.Counts.{is_of_air}
+use Rattle.promises.specs.Flights.{CanCome, feedback, FliesDown, IsDown, heard_as, FliesUp, IsUp}
+use Rattle.promises.specs.Records.{is_of_air}
 use Rattle.law_air.specs.AnyCalls.Told.{Adds}
 use Rattle.law_air.proofs.AnyCalls.Adding.{books, stays, adds_then, IsPlain, says_plain}
 use Rattle.law_air.proofs.AnyCalls.Showing.{shows_adds}

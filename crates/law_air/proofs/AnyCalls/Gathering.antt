@@ -16,7 +16,8 @@ use Rattle.test_loop.specs.declared.Mode.TheVariants.{Off, A, B}
 use Rattle.test_loop.specs.declared.Kept.TheVariants.{Now, Later, Full}
 use Rattle.test_loop.specs.Items.{Item, item, cut}
 use Rattle.test_loop.specs.Loops.{state, is_on, is_keeping, is_full, kept_answer, after_kept, taken_answer, after_taken}
-use Rattle.law_air.specs.AnyCalls.Loops.{ArePart, back, on, drops, ComeBack}
+use Rattle.law_air.specs.AnyCalls.Loops.{ComeBack}
+use Rattle.promises.specs.Loops.{ArePart, back, on, drops}
 use Rattle.law_air.proofs.AnyCalls.Returning.{part_same, part_of_same, part_more, part_both, on_both, back_none, back_one, back_then, IsSilent, back_silent}
 
 -- ---- what is seen of a link here

@@ -2,7 +2,8 @@
 use Rattle.std.proofs.Common.{◌≡◌, ℕ, ◌+◌, Bool, true, false, ◌&&◌, nat_le, cond, if◌then◌else◌, Option, Some, None, List, [], ◌∷◌, ◌++◌, length, map, append_assoc, append-nil, refl, ap, sym, subst, ◌∙◌}
 use Rattle.std.specs.List.{filter}
 use Rattle.std.proofs.lemmas.List.Elements.{filter-append}
-use Rattle.air_link.specs.Link.{Link, says, end_of, with_end, other}
+use Rattle.air_link.specs.Link.{Link, says, end_of, with_end}
+use Rattle.bearer_types.specs.Sides.{other}
 use Rattle.air_link.specs.Loops.{loses, returns_by, returns, returns_all, kept_by, takes, takes_all, loops, owed, paid, pays}
 use Rattle.air_link.specs.Telling.{delivers, gathers, fails, noted, tells, tells_all}
 use Rattle.air_link.specs.Downlink.{hears}
@@ -19,9 +20,9 @@ use Rattle.l2_node.specs.Submitting.{refusal, submitted}
 use Rattle.l2_types.specs.declared.side.Side.{Side}
 use Rattle.l2_types.specs.declared.side.Side.TheVariants.{Nb, Ue}
 use Rattle.law_node.specs.Calls.{Call as EndCall, Submit, Tick, TickBuckets, Receive, after_submit, after as after_call, run as run_end, IsGiven as IsGivenTo, AreGiven}
-use Rattle.law_node.specs.Loops.{is_of_loop, TellNoLoop}
+use Rattle.promises.specs.Events.{is_of_loop, TellNoLoop, is_of_writing}
 use Rattle.law_node.specs.Telling.{told_of, told_over}
-use Rattle.law_node.specs.Writing.{is_of_writing, TellNone}
+use Rattle.law_node.specs.Writing.{TellNone}
 use Rattle.law_node.proofs.Looping.{tells_no_loop}
 use Rattle.law_node.proofs.Silences.{writes_nothing}
 use Rattle.pdu_show.specs.declared.kinds.Layout.{Layout}
@@ -30,7 +31,8 @@ use Rattle.test_loop.specs.declared.Kept.TheVariants.{Now, Later, Full}
 use Rattle.test_loop.specs.Items.{Item, item}
 use Rattle.test_loop.specs.Loops.{is_on, is_keeping, taken_answer, after_taken, after_tick}
 use Rattle.law_air.specs.AnyCalls.Deeds.{Entity, entity, Entities, entities}
-use Rattle.law_air.specs.AnyCalls.Ends.{event_of, told_by, ByCalls, begins_life, LivesOn, is_of_building, GoesThrough, GoesOn}
+use Rattle.law_air.specs.AnyCalls.Ends.{ByCalls, begins_life, LivesOn, GoesThrough, GoesOn}
+use Rattle.promises.specs.Records.{event_of, told_by, is_of_building}
 
 -- ---- what records tell of an end
 

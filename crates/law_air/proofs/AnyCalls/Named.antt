@@ -8,7 +8,7 @@ use Rattle.air_record.specs.declared.record.Record.TheVariants as records
 use Rattle.harq.specs.declared.sender.Order.{Order}
 use Rattle.harq.specs.declared.sender.Visit.TheVariants.{New}
 use Rattle.l2_node.specs.Building.{visit, visited, building}
-use Rattle.l2_node.specs.End.{sent_by}
+use Rattle.bearer_types.specs.Sides.{sent_by}
 use Rattle.l2_node.specs.Writing.{new_block}
 use Rattle.l2_types.specs.declared.event.How.{How}
 use Rattle.l2_types.specs.declared.event.How.TheVariants as how
@@ -16,9 +16,11 @@ use Rattle.l2_types.specs.declared.side.Side.{Side}
 use Rattle.mac_pdu.specs.declared.builder.Sdu.{Sdu}
 use Rattle.mac_pdu.specs.declared.item.Bsr.{Bsr}
 use Rattle.mac_pdu.specs.Items.{front, padding, sdu_item}
-use Rattle.law_node.specs.Blocks.{report, reported, all_sdus}
+use Rattle.law_node.specs.Blocks.{report, all_sdus}
+use Rattle.promises.specs.Built.{reported, block_told}
 use Rattle.law_node.specs.Calls.{Call as EndCall, AreGiven, reached}
-use Rattle.law_node.specs.Names.{Sent, sends, IsData, IsPdcp, whole_sdus, IsUmd, IsAmd, Mode, Transparent, Unacknowledged, Acknowledged, IsNamed, AreNamed, modes_of}
+use Rattle.law_node.specs.Names.{modes_of}
+use Rattle.promises.specs.Names.{Sent, sends, IsData, IsPdcp, whole_sdus, IsUmd, IsAmd, Mode, Transparent, Unacknowledged, Acknowledged, IsNamed, AreNamed}
 use Rattle.law_node.proofs.Blocks.{has_what_was_written}
 use Rattle.law_node.proofs.Naming.{names_what_it_sends}
 use Rattle.pdcp_pdu.specs.declared.pdu.PdcpKind.{PdcpKind}
@@ -32,11 +34,11 @@ use Rattle.pdu_show.specs.Show.{user_shown, srb_shown, pdcp_shown, begins, ends,
 use Rattle.rlc_pdu.specs.declared.pdu.Segment.{Segment}
 use Rattle.bearer_types.specs.declared.event.Event.{Event}
 use Rattle.bearer_types.specs.declared.event.Event.TheVariants as events
-use Rattle.law_node.specs.Loops.{TellNoLoop}
-use Rattle.law_node.specs.Writing.{is_of_writing}
+use Rattle.promises.specs.Events.{TellNoLoop, is_of_writing}
 use Rattle.law_node.proofs.Pieces.{whole as whole_in, whole_is}
-use Rattle.law_air.specs.AnyCalls.Ends.{told_by, block_told, built_told}
-use Rattle.law_air.specs.AnyCalls.Shown.{Shown, sdus_shown, pdus_shown, is_bad, ShowsData, IsShownSdu, AreShownSdus, amd_record, sdus_of, ShowsAmd, IsShownAs, AreShown, IsKnownAs, AreKnown, IsShownBlock}
+use Rattle.law_air.specs.AnyCalls.Ends.{built_told}
+use Rattle.promises.specs.Records.{told_by}
+use Rattle.promises.specs.Shown.{Shown, sdus_shown, pdus_shown, is_bad, ShowsData, IsShownSdu, AreShownSdus, amd_record, sdus_of, ShowsAmd, IsShownAs, AreShown, IsKnownAs, AreKnown, IsShownBlock}
 use Rattle.law_air.proofs.AnyCalls.Blocks.{reached_whole, visited_whole, sends_kept, block_is, is_told}
 use Rattle.law_air.proofs.AnyCalls.Going.{own_told, told_both}
 use Rattle.law_air.proofs.AnyCalls.Showing.{shown_untold}

@@ -5,7 +5,7 @@ use Rattle.air_link.specs.Loops.{loses, returns_by, returns, returns_all, kept_b
 use Rattle.air_link.specs.Telling.{tells_all}
 use Rattle.air_record.specs.declared.record.Record.{Record}
 use Rattle.air_record.specs.declared.record.Record.TheVariants as records
-use Rattle.law_bearer.specs.AnyBearer.Sequences.{SequencesOf, nothing, just, ◌then◌, maybe}
+use Rattle.law_words.specs.Sequences.{SequencesOf, nothing, just, ◌then◌, maybe}
 use Rattle.bearer_types.specs.declared.event.Event.{Event}
 use Rattle.l2_bits.specs.declared.fault.SubmitRefusal.{SubmitRefusal}
 use Rattle.l2_node.specs.End.{End}
@@ -13,17 +13,18 @@ use Rattle.l2_node.specs.Finding.{has}
 use Rattle.l2_node.specs.Submitting.{refusal}
 use Rattle.l2_types.specs.declared.side.Side.{Side}
 use Rattle.l2_types.specs.declared.side.Side.TheVariants.{Nb, Ue}
-use Rattle.law_node.specs.Loops.{TellNoLoop}
+use Rattle.promises.specs.Events.{TellNoLoop}
 use Rattle.test_loop.specs.declared.Kept.{Kept}
 use Rattle.test_loop.specs.declared.Kept.TheVariants.{Now, Later, Full}
 use Rattle.test_loop.specs.Items.{Item}
 use Rattle.test_loop.specs.Loops.{is_on, taken_answer, after_taken}
-use Rattle.law_air.specs.AnyCalls.Order.{Sequences, EndTells, LoopTells, Leaves}
+use Rattle.law_air.specs.AnyCalls.Order.{Leaves}
+use Rattle.promises.specs.Order.{OfRecords, EndTells, LoopTells}
 use Rattle.law_air.proofs.AnyCalls.Going.{Seen, told_seen}
 
 -- ---- one behind the other
 
-pub leaves_then : (These Those : Sequences) (l m n : Link) → Leaves These l m → Leaves Those m n → Leaves (These then Those) l n
+pub leaves_then : (These Those : OfRecords) (l m n : Link) → Leaves These l m → Leaves Those m n → Leaves (These then Those) l n
 leaves_then These Those l m n p q = record {
   more = p.more ++ q.more;
   out_is = q.out_is ∙ ap (λ (x : List Record). x ++ q.more) p.out_is ∙ append_assoc l.out p.more q.more;
@@ -31,13 +32,13 @@ leaves_then These Those l m n p q = record {
 }
 
 -- behind a stage that adds nothing, and before one
-pub leaves_from : (These : Sequences) (l m n : Link) → m.out ≡ l.out → Leaves These m n → Leaves These l n
+pub leaves_from : (These : OfRecords) (l m n : Link) → m.out ≡ l.out → Leaves These m n → Leaves These l n
 leaves_from These l m n same q = record { more = q.more; out_is = q.out_is ∙ ap (λ (x : List Record). x ++ q.more) same; in_order = q.in_order }
 
-pub leaves_to : (These : Sequences) (l m n : Link) → n.out ≡ m.out → Leaves These l m → Leaves These l n
+pub leaves_to : (These : OfRecords) (l m n : Link) → n.out ≡ m.out → Leaves These l m → Leaves These l n
 leaves_to These l m n same p = record { more = p.more; out_is = same ∙ p.out_is; in_order = p.in_order }
 
-pub leaves_as : (These : Sequences) (l m : Link) (more : List Record) → m.out ≡ l.out ++ more → These more → Leaves These l m
+pub leaves_as : (These : OfRecords) (l m : Link) (more : List Record) → m.out ≡ l.out ++ more → These more → Leaves These l m
 leaves_as These l m more out is = record { more = more; out_is = out; in_order = is }
 
 pub leaves_nothing : (l m : Link) → m.out ≡ l.out → Leaves nothing l m
@@ -46,10 +47,10 @@ leaves_nothing l m same = leaves_as nothing l m [] (same ∙ sym (append-nil l.o
 pub leaves_one : (one : Record) (l : Link) → Leaves (just one) l (says one l)
 leaves_one one l = leaves_as (just one) l (says one l) (one ∷ []) refl refl
 
-pub may_leave : (These : Sequences) (l m : Link) → Leaves These l m → Leaves (maybe These) l m
+pub may_leave : (These : OfRecords) (l m : Link) → Leaves These l m → Leaves (maybe These) l m
 may_leave These l m p = record { more = p.more; out_is = p.out_is; in_order = inr p.in_order }
 
-pub may_rest : (These : Sequences) (l m : Link) → m.out ≡ l.out → Leaves (maybe These) l m
+pub may_rest : (These : OfRecords) (l m : Link) → m.out ≡ l.out → Leaves (maybe These) l m
 may_rest These l m same = leaves_as (maybe These) l m [] (same ∙ sym (append-nil l.out)) (inl refl)
 
 -- ---- an end

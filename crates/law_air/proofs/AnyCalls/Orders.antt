@@ -3,13 +3,14 @@ use Rattle.std.proofs.Common.{◌≡◌, ℕ, ◌==◌, Bool, true, false, IfSom
 use Rattle.std.proofs.lemmas.Bool.Decides.{nat_tests}
 use Rattle.std.specs.List.{list_any}
 use Rattle.bearer.specs.Bearer.{Of, Life}
-use Rattle.law_bearer.specs.AnyBearer.Order.{of_an_expiry, in_a_tti, at_the_end}
-use Rattle.law_bearer.specs.AnyBearer.Sequences.{SequencesOf, each}
+use Rattle.law_words.specs.BearerOrder.{of_an_expiry, in_a_tti, at_the_end, of_a_channel, is_srb}
+use Rattle.law_words.specs.Sequences.{SequencesOf, each}
 use Rattle.bearer_types.specs.declared.event.Event.{Event}
 use Rattle.harq.specs.declared.sender.Order.{Order}
 use Rattle.harq.specs.declared.sender.Visit.TheVariants.{New}
 use Rattle.l2_node.specs.Building.{visit, building}
-use Rattle.l2_node.specs.End.{End, heard_by}
+use Rattle.l2_node.specs.End.{End}
+use Rattle.bearer_types.specs.Sides.{heard_by}
 use Rattle.l2_node.specs.Finding.{has}
 use Rattle.l2_node.specs.Hearing.{received, ticked, expiry}
 use Rattle.l2_node.specs.Moving.{leaving}
@@ -18,11 +19,12 @@ use Rattle.l2_types.specs.declared.side.Side.{Side}
 use Rattle.mac_pdu.specs.declared.fault.MacRefusal.{MacRefusal}
 use Rattle.mac_pdu.specs.Items.{MacItem, front, element, sdu, padding}
 use Rattle.mac_pdu.specs.Reading.{reading}
-use Rattle.law_node.specs.Order.{of_a_channel, is_srb, of_an_item as of_an_item_at, of_items as of_items_at, IsToldInOrder}
+use Rattle.law_node.specs.Order.{of_an_item as of_an_item_at, of_items as of_items_at, IsToldInOrder}
 use Rattle.law_node.proofs.Ordered.{tells_in_its_order}
 use Rattle.air_record.specs.declared.record.Record.{Record}
 use Rattle.law_air.specs.AnyCalls.Ends.{LivesOn}
-use Rattle.law_air.specs.AnyCalls.Order.{Channels, channels_of, of_building, of_an_item, of_items, of_hearing, of_timers, of_leaving}
+use Rattle.law_air.specs.AnyCalls.Order.{channels_of}
+use Rattle.promises.specs.Order.{Channels, of_building, of_an_item, of_items, of_hearing, of_timers, of_leaving}
 use Rattle.law_air.specs.AnyCalls.Zero.{HasCome}
 use Rattle.law_air.proofs.AnyCalls.Bringing.{come_stands, come_on}
 use Rattle.law_air.proofs.AnyCalls.Channels.{channels_go}

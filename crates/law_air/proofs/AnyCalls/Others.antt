@@ -55,7 +55,7 @@ use Rattle.rlc_pdu.specs.declared.outcome.Turned.{Turned}
 use Rattle.rlc_pdu.specs.Pdus.{UmdPdu, AcknowledgedPdu, Payload, Status}
 use Rattle.rlc_pdu.specs.Reading.{umd_at, am_at}
 use Rattle.rlc_um.specs.Receiver.{State as UmReceiver, landing, turning, arrival, expiring, expired as um_expired, all_joined}
-use Rattle.law_air.specs.AnyCalls.Zero.{carried_in}
+use Rattle.promises.specs.Zero.{carried_in}
 use Rattle.mac_pdu.specs.Items.{sdu}
 use Rattle.law_node.proofs.Keeping.{IsKept}
 use Rattle.law_node.proofs.Owning.{IsOwn, heard_own}

@@ -11,13 +11,15 @@ use Rattle.air_link.specs.Link.{Link, end_of}
 use Rattle.air_link.specs.Telling.{tells_all}
 use Rattle.air_link.specs.Loops.{loops, pays}
 use Rattle.air_link.specs.Uplink.{uplink}
-use Rattle.air_link.specs.Draining.{intact, drain_tti}
-use Rattle.air_link.specs.Ttis.{begins, sleeps, missed, tells_sleep, grows, ticks, times, keeps_first, timed, tti_by, tti}
+use Rattle.air_link.specs.Draining.{drain_tti}
+use Rattle.air_record.specs.Outcomes.{intact, missed}
+use Rattle.air_link.specs.Ttis.{begins, sleeps, tells_sleep, grows, ticks, times, keeps_first, timed, tti_by, tti}
 use Rattle.air_link.specs.Downlink.{down_order, downlink}
 use Rattle.harq.specs.Receiving.{Receiving, grant_ndi}
 use Rattle.harq.specs.Sending.{Sending, ndi_of}
 use Rattle.law_air.specs.AnyCalls.Deeds.{TakesTurn, came_of, Answers, heard_up, up_ordered, Entities, entities}
-use Rattle.law_air.specs.AnyCalls.Told.{sleeping, Adds, AddsTti}
+use Rattle.law_air.specs.AnyCalls.Told.{Adds, AddsTti}
+use Rattle.promises.specs.Air.{sleeping}
 use Rattle.law_air.proofs.AnyCalls.Adding.{stays, adds_then, then_still, says_plain}
 use Rattle.law_air.proofs.AnyCalls.Telling.{end_stays, end_tells}
 use Rattle.law_air.proofs.AnyCalls.Looping.{loops_adds, pays_adds}

@@ -9,7 +9,8 @@ use Rattle.std.proofs.Math.Seq.{take-append-add}
 use Rattle.air_record.specs.declared.record.Record.{Record}
 use Rattle.test_loop.specs.declared.Mode.{Mode}
 use Rattle.test_loop.specs.Items.{Item}
-use Rattle.law_air.specs.AnyCalls.Loops.{ArePart, due, looped, gone_up, returned, on, is_dropped, drops, ComeBack}
+use Rattle.law_air.specs.AnyCalls.Loops.{ComeBack}
+use Rattle.promises.specs.Loops.{ArePart, due, looped, gone_up, returned, on, is_dropped, drops}
 use Rattle.law_air.proofs.AnyCalls.Adding.{count_then}
 
 -- ---- parts

@@ -11,10 +11,11 @@ use Rattle.air_record.specs.declared.record.Record.{Record}
 use Rattle.air_record.specs.declared.record.Record.TheVariants as records
 use Rattle.l2_types.specs.declared.side.Side.{Side}
 use Rattle.l2_types.specs.declared.side.Side.TheVariants.{Nb, Ue}
-use Rattle.air_link.specs.Draining.{intact}
+use Rattle.air_record.specs.Outcomes.{intact}
 use Rattle.air_link.specs.Link.{Link, fresh}
 use Rattle.air_link.specs.Ttis.{sleeps}
-use Rattle.law_air.specs.AnyCalls.Counts.{is_up, is_looped, is_of_run, ups, loopeds, Grows}
+use Rattle.law_air.specs.AnyCalls.Counts.{ups, loopeds, Grows}
+use Rattle.promises.specs.Records.{is_up, is_looped, is_of_run}
 use Rattle.law_air.specs.AnyCalls.Calls.{Call}
 use Rattle.law_air.specs.AnyCalls.Told.{why_refused, refusals, accepted, Adds, AddsTti, AddsSubmitted}
 use Rattle.law_air.specs.AnyCalls.Runs.{Step, Tti, Drains, Submit, Calls, step, handed, Run, goes, goes_on, run, IsTable, IsCounted}

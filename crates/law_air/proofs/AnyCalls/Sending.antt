@@ -23,7 +23,8 @@ use Rattle.l2_node.specs.Writing.{new_block}
 use Rattle.l2_types.specs.declared.side.Side.{Side}
 use Rattle.l2_types.specs.declared.side.Side.TheVariants.{Nb, Ue}
 use Rattle.air_link.specs.Link.{Link, with_end}
-use Rattle.air_link.specs.Downlink.{builds, built_ndi, block_at, sends, turned, told_as, is_good, saw_new, sees, answer, comes, hears_by, lands, unseen, down_order, down_by, downlink}
+use Rattle.air_link.specs.Downlink.{builds, built_ndi, block_at, sends, told_as, is_good, saw_new, sees, answer, comes, hears_by, lands, unseen, down_order, down_by, downlink}
+use Rattle.air_record.specs.Outcomes.{turned}
 use Rattle.air_link.specs.Uplink.{up_order, is_intact, told_as as up_told_as, hears_if, aired as up_aired, awake, up_by, grants, passes, uplink}
 use Rattle.mac_pdu.specs.declared.item.Direction.TheVariants as directions
 use Rattle.law_air.specs.AnyCalls.Deeds.{deed_of, turn, TakesTurn, came_of, Answers, heard_up, up_ordered, Entity, entity, Entities, entities}

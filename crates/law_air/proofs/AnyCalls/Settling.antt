@@ -3,13 +3,15 @@ use Rattle.std.proofs.Common.{◌≡◌, ℕ, ◌+◌, ◌%◌, ◌==◌, Bool, 
 use Rattle.std.specs.List.{AllByRecursion}
 use Rattle.std.specs.Prelude.{slice_index_or, slice_set}
 use Rattle.std.proofs.lemmas.List.{map-append}
-use Rattle.air_link.specs.Downlink.{visits as visits_process, builds, built_ndi, block_at, shows, sends, receives, hears, turned, feeds, told_as, is_good, saw_new, sees, answer, comes, hears_by, aired, lands, unseen, down_order, down_by, downlink}
-use Rattle.air_link.specs.Draining.{intact, drain_tti, timer_expires, receiver_expires, all_receivers_expire, receivers_expire, all_senders_expire, senders_expire}
+use Rattle.air_link.specs.Downlink.{visits as visits_process, builds, built_ndi, block_at, shows, sends, receives, hears, feeds, told_as, is_good, saw_new, sees, answer, comes, hears_by, aired, lands, unseen, down_order, down_by, downlink}
+use Rattle.air_record.specs.Outcomes.{turned, intact, missed}
+use Rattle.air_link.specs.Draining.{drain_tti, timer_expires, receiver_expires, all_receivers_expire, receivers_expire, all_senders_expire, senders_expire}
 use Rattle.air_link.specs.Lines.{bears, discards, visits, reports, listens, no_place, submits_by, submitting, expires_by, expiring, expires_alone, expires, forges, moves, hands_over}
-use Rattle.air_link.specs.Link.{Link, fresh, says, end_of, with_end, all_lcids}
+use Rattle.air_link.specs.Link.{Link, fresh, says, end_of, with_end}
+use Rattle.bearer_types.specs.Lcids.{all_lcids}
 use Rattle.air_link.specs.Loops.{loops, pays, loop_set}
 use Rattle.air_link.specs.Telling.{delivers, noted, tells, tells_all}
-use Rattle.air_link.specs.Ttis.{begins, sleeps, tells_sleep, missed, grows, ticks, times, keeps_first, timed, tti_by, tti}
+use Rattle.air_link.specs.Ttis.{begins, sleeps, tells_sleep, grows, ticks, times, keeps_first, timed, tti_by, tti}
 use Rattle.air_link.specs.Uplink.{up_order, is_intact, told_as as up_told_as, granted, hears_if, aired as up_aired, awake, up_by, grants, passes, uplink}
 use Rattle.air_record.specs.declared.line.Fate.{Fate}
 use Rattle.air_record.specs.declared.line.Fate.TheVariants.{Ok, Bad, Miss}
@@ -29,7 +31,8 @@ use Rattle.harq.specs.declared.sender.Visit.TheVariants.{New, Resend, Silent as 
 use Rattle.harq.specs.Receiving.{after_assigned, grant_ndi, after_grant}
 use Rattle.l2_bits.specs.declared.fault.SubmitRefusal.{SubmitRefusal}
 use Rattle.l2_node.specs.Building.{visit, building}
-use Rattle.l2_node.specs.End.{End, sent_by}
+use Rattle.l2_node.specs.End.{End}
+use Rattle.bearer_types.specs.Sides.{sent_by}
 use Rattle.l2_node.specs.Finding.{has}
 use Rattle.l2_node.specs.Hearing.{received, ticked}
 use Rattle.l2_node.specs.Moving.{leaving}
@@ -45,7 +48,8 @@ use Rattle.test_loop.specs.declared.Mode.{Mode}
 use Rattle.test_loop.specs.Items.{Item, item}
 use Rattle.test_loop.specs.Loops.{fresh as no_loop, is_on, is_keeping, after_tick, after_set}
 use Rattle.law_air.specs.AnyCalls.Calls.{Call, Bears, Discards, Visits, Reports, Listens, Loops, Expires, Forges, HandsOver, ReceiversExpire, SendersExpire, after}
-use Rattle.law_air.specs.AnyCalls.Loops.{back, due, looped, on, ComeBack, IsAtRest, LoopsBack, mode_in}
+use Rattle.law_air.specs.AnyCalls.Loops.{ComeBack, IsAtRest, LoopsBack, mode_in}
+use Rattle.promises.specs.Loops.{back, due, looped, on}
 use Rattle.law_air.proofs.AnyCalls.Gathering.{Seen, seen, Rests, rests_then, rests_unseen, rests_says, waiting, Stands, Goes, goes_then, goes_resting, loops_go, loops_empty, pays_all, pays_go}
 use Rattle.law_air.proofs.AnyCalls.Handing.{is_up, building_none}
 use Rattle.law_air.proofs.AnyCalls.Returning.{part_of_same, on_both, back_one, back_then, IsSilent}

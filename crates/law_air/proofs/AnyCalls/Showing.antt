@@ -25,8 +25,8 @@ use Rattle.pdu_show.specs.declared.kinds.Layout.TheVariants as layouts
 use Rattle.pdu_show.specs.Show.{user_shown, srb_shown, pdcp_shown, begins, ends, whole, wholes_shown, tm_shown, um_shown, amd_shown, am_shown, rlc_shown, item_shown, items_shown, shown_by, block_shown}
 use Rattle.air_link.specs.Link.{Link}
 use Rattle.air_link.specs.Downlink.{shows}
-use Rattle.law_air.specs.AnyCalls.Counts.{is_up, is_looped, is_of_run, is_of_air, ups, loopeds}
-use Rattle.law_air.specs.AnyCalls.Ends.{event_of, told_by, is_shown, is_of_building}
+use Rattle.law_air.specs.AnyCalls.Counts.{ups, loopeds}
+use Rattle.promises.specs.Records.{is_up, is_looped, is_of_run, is_of_air, event_of, told_by, is_shown, is_of_building}
 use Rattle.law_air.specs.AnyCalls.Told.{Adds}
 use Rattle.law_air.proofs.AnyCalls.Adding.{same_grows}
 use Rattle.law_air.proofs.AnyCalls.Returning.{IsSilent}

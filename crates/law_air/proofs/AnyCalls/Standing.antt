@@ -1,21 +1,24 @@
 -- The records of a link stand in order through its stages and calls.
 use Rattle.std.proofs.Common.{◌≡◌, ◌≤◌, ℕ, ◌==◌, Bool, true, false, if◌then◌else◌, Option, Some, None, IfSome, List, [], ◌∷◌, ◌++◌, map, append-nil, refl, ap, sym, subst, inl, inr, ◌∙◌}
 use Rattle.std.specs.Prelude.{unwrap_or}
-use Rattle.air_link.specs.Downlink.{builds, built_ndi, block_at, sends, receives, hears, turned, feeds, told_as, is_good, answer, comes, hears_by, lands, unseen, down_order, down_by, downlink}
-use Rattle.air_link.specs.Draining.{intact, drain_tti, timer_expires, receiver_expires, all_receivers_expire, receivers_expire, all_senders_expire, senders_expire}
+use Rattle.air_link.specs.Downlink.{builds, built_ndi, block_at, sends, receives, hears, feeds, told_as, is_good, answer, comes, hears_by, lands, unseen, down_order, down_by, downlink}
+use Rattle.air_record.specs.Outcomes.{turned, intact, missed}
+use Rattle.air_link.specs.Draining.{drain_tti, timer_expires, receiver_expires, all_receivers_expire, receivers_expire, all_senders_expire, senders_expire}
 use Rattle.air_link.specs.Lines.{bears, discards, visits, reports, listens, no_place, submits_by, submitting, expires_by, expiring, expires_alone, expires, forges, moves, hands_over}
-use Rattle.air_link.specs.Link.{Link, says, end_of, with_end, all_lcids, other}
+use Rattle.air_link.specs.Link.{Link, says, end_of, with_end}
+use Rattle.bearer_types.specs.Lcids.{all_lcids}
+use Rattle.bearer_types.specs.Sides.{other, sent_by, heard_by}
 use Rattle.air_link.specs.Loops.{loops, pays, loop_set}
 use Rattle.air_link.specs.Telling.{tells_all}
-use Rattle.air_link.specs.Ttis.{begins, sleeps, tells_sleep, missed, grows, ticks, times, keeps_first, timed, tti_by, tti}
+use Rattle.air_link.specs.Ttis.{begins, sleeps, tells_sleep, grows, ticks, times, keeps_first, timed, tti_by, tti}
 use Rattle.air_link.specs.Uplink.{up_order, is_intact, told_as as up_told_as, granted, hears_if, aired as up_aired, awake, up_by, answers, grants, passes, uplink}
 use Rattle.air_record.specs.declared.line.Outcome.{Outcome}
 use Rattle.air_record.specs.declared.record.Arrived.{Arrived}
 use Rattle.air_record.specs.declared.record.Arrived.TheVariants as arriveds
 use Rattle.air_record.specs.declared.record.Record.{Record}
 use Rattle.air_record.specs.declared.record.Record.TheVariants as records
-use Rattle.law_bearer.specs.AnyBearer.Order.{of_an_expiry}
-use Rattle.law_bearer.specs.AnyBearer.Sequences.{just, ◌then◌, maybe, each}
+use Rattle.law_words.specs.BearerOrder.{of_an_expiry}
+use Rattle.law_words.specs.Sequences.{just, ◌then◌, maybe, each}
 use Rattle.bearer_types.specs.declared.event.Event.{Event}
 use Rattle.eps_sec.specs.declared.Keys.{Keys}
 use Rattle.harq.specs.declared.receiver.Answer.{Answer}
@@ -28,7 +31,7 @@ use Rattle.harq.specs.Receiving.{grant_ndi}
 use Rattle.harq.specs.Sending.{visit_answer}
 use Rattle.l2_bits.specs.declared.fault.SubmitRefusal.{SubmitRefusal}
 use Rattle.l2_node.specs.Building.{visit, visited, building, told_by as building_by}
-use Rattle.l2_node.specs.End.{End, sent_by, heard_by}
+use Rattle.l2_node.specs.End.{End}
 use Rattle.l2_node.specs.Finding.{has}
 use Rattle.l2_node.specs.Hearing.{received, ticked}
 use Rattle.l2_node.specs.Moving.{leaving}
@@ -38,14 +41,16 @@ use Rattle.l2_types.specs.declared.event.Clock.TheVariants.{Poll, Reorder, Prohi
 use Rattle.l2_types.specs.declared.side.Side.{Side}
 use Rattle.l2_types.specs.declared.side.Side.TheVariants.{Nb, Ue}
 use Rattle.law_node.specs.Calls.{Tick, Visits as VisitsProcess, Grants, Granted, Receive, Expire, Move, after as after_call}
-use Rattle.law_node.specs.Loops.{TellNoLoop}
+use Rattle.promises.specs.Events.{TellNoLoop}
 use Rattle.law_node.proofs.Looping.{tells_no_loop}
 use Rattle.pdu_show.specs.declared.kinds.Layout.{Layout}
 use Rattle.test_loop.specs.declared.Mode.{Mode}
 use Rattle.test_loop.specs.Loops.{is_keeping, after_tick, after_set}
 use Rattle.law_air.specs.AnyCalls.Calls.{Call, Bears, Discards, Visits, Reports, Listens, Loops, Expires, Forges, HandsOver, ReceiversExpire, SendersExpire, after}
-use Rattle.law_air.specs.AnyCalls.Ends.{GoesOn, block_told, IsGiven}
-use Rattle.law_air.specs.AnyCalls.Order.{Channels, of_hearing, of_timers, of_leaving, both, Sequences, EndTells, LoopTells, GoesOut, IsHeard, MayFly, BothFly, TtiTells, DrainTtiTells, TimerTells, ReceiverTells, ReceiversTell, SenderTells, SendersTell, ForgeTells, HandoverTells, IsRefused, SubmitTells, CallTells, Leaves}
+use Rattle.law_air.specs.AnyCalls.Ends.{GoesOn, IsGiven}
+use Rattle.promises.specs.Built.{block_told}
+use Rattle.law_air.specs.AnyCalls.Order.{both, CallTells, Leaves}
+use Rattle.promises.specs.Order.{Channels, of_hearing, of_timers, of_leaving, OfRecords, EndTells, LoopTells, GoesOut, IsHeard, MayPassOver, BothPassOver, TtiTells, DrainTtiTells, TimerTells, ReceiverTells, ReceiversTell, SenderTells, SendersTell, ForgeTells, HandoverTells, IsRefused, SubmitTells}
 use Rattle.law_air.specs.AnyCalls.Zero.{HaveCome}
 use Rattle.law_air.proofs.AnyCalls.Advancing.{timer_rests}
 use Rattle.law_air.proofs.AnyCalls.Orders.{IsReady, ready_on, builds_in_order, hears_in_order, ticks_in_order, expires_in_order, leaves_in_order}
@@ -99,7 +104,7 @@ keeps_if true l = loops_tells l
 keeps_if false l = loop_rests l l refl
 
 -- with what stands behind them
-timed_then : (c : Side → Channels) (Rest : Sequences) (l last : Link) → Ready c l → Leaves Rest (timed l) last → Leaves (EndTells Nb (of_timers (c Nb)) then EndTells Ue (of_timers (c Ue)) then LoopTells then Rest) l last
+timed_then : (c : Side → Channels) (Rest : OfRecords) (l last : Link) → Ready c l → Leaves Rest (timed l) last → Leaves (EndTells Nb (of_timers (c Nb)) then EndTells Ue (of_timers (c Ue)) then LoopTells then Rest) l last
 unfolding timed
 timed_then c Rest l last r rest =
     let j : Link = record l { looping = after_tick l.looping } in
@@ -149,10 +154,10 @@ again_out rv side c t grant order kinds octets e again =
 
 -- a block that went out, with what comes of it
 flies_by : (side : Side) (t : ℕ) (kinds : List (Option Layout)) (c : Side → Channels) (octets : List ℕ) (what : Arrived) (good : Bool) (l m n : Link) → Leaves (GoesOut side t kinds (c side) octets) l m
-    → Leaves (just (records.Air (sent_by side) what (Some good)) then IsHeard (other side) what (c (other side)) octets) m n → Leaves (MayFly side t kinds c) l n
+    → Leaves (just (records.Air (sent_by side) what (Some good)) then IsHeard (other side) what (c (other side)) octets) m n → Leaves (MayPassOver side t kinds c) l n
 flies_by side t kinds c octets what good l m n p q =
     let all = leaves_then (GoesOut side t kinds (c side) octets) (just (records.Air (sent_by side) what (Some good)) then IsHeard (other side) what (c (other side)) octets) l m n p q in
-    leaves_as (MayFly side t kinds c) l n all.more all.out_is (inr (inr (record { octets = octets; what = what; feedback = good; in_turn = all.in_order })))
+    leaves_as (MayPassOver side t kinds c) l n all.more all.out_is (inr (inr (record { octets = octets; what = what; feedback = good; in_turn = all.in_order })))
 
 -- ---- the downlink
 
@@ -177,7 +182,7 @@ lands_tells c t o ndi octets l ready =
     leaves_then (just one) (IsHeard Ue (told_as a) c octets) l r (hears_by a octets r) (leaves_from (just one) l q r (ap (λ (s : Seen). s.out) is) (leaves_one one q)) (heard_down a c octets r heard)
 
 goes_down : (v : Visit) (c : Side → Channels) (t grant : ℕ) (order : Order) (o : Outcome) (ndi : Bool) (octets : List ℕ) (l : Link) → Ready c l → GoesOut Nb t l.kinds (c Nb) octets (visit_records v Nb t grant order l.kinds octets l.nb)
-    → Leaves (MayFly Nb t l.kinds c) l (lands t o ndi octets (sends v Nb t octets (unseen v t (builds Nb t grant order l))))
+    → Leaves (MayPassOver Nb t l.kinds c) l (lands t o ndi octets (sends v Nb t octets (unseen v t (builds Nb t grant order l))))
 goes_down v c t grant order o ndi octets l r out =
     let n = sends v Nb t octets (unseen v t (builds Nb t grant order l)) in
     let is = sent_down v t grant order octets l in
@@ -186,7 +191,7 @@ goes_down v c t grant order o ndi octets l r out =
     (leaves_as (GoesOut Nb t l.kinds (c Nb) octets) l n (visit_records v Nb t grant order l.kinds octets l.nb) (ap (λ (s : Seen). s.out) is) out)
     (lands_tells (c Ue) t o ndi octets n (subst (λ (e : End). IsReady Ue (c Ue) e) (sym (ap (λ (s : Seen). s.ue) is)) r.ue))
 
-down_by_tells : (v : Visit) (c : Side → Channels) (t grant : ℕ) (order : Order) (o : Outcome) (ndi : Bool) (l : Link) → Ready c l → visit t order l.nb ≡ v → Leaves (MayFly Nb t l.kinds c) l (down_by v t o ndi (builds Nb t grant order l))
+down_by_tells : (v : Visit) (c : Side → Channels) (t grant : ℕ) (order : Order) (o : Outcome) (ndi : Bool) (l : Link) → Ready c l → visit t order l.nb ≡ v → Leaves (MayPassOver Nb t l.kinds c) l (down_by v t o ndi (builds Nb t grant order l))
 down_by_tells New c t grant order o ndi l r is =
     let octets = block_at t (builds Nb t grant order l).nb in
     goes_down New c t grant order o ndi octets l r (new_out Nb (c Nb) t grant order l.kinds octets l.nb r.nb is)
@@ -195,9 +200,9 @@ down_by_tells (Resend rv) c t grant order o ndi l r is =
     goes_down (Resend rv) c t grant order o ndi octets l r (again_out rv Nb (c Nb) t grant order l.kinds octets l.nb is)
 down_by_tells Quiet c t grant order o ndi l r is =
     let none = building_none Quiet t grant order l.nb is (λ x. refl) in
-    leaves_as (MayFly Nb t l.kinds c) l (builds Nb t grant order l) [] (ap (λ (s : Seen). s.out) (builds_down t grant order l) ∙ ap (λ (es : List Event). l.out ++ map (records.Of Nb) es) none) (inl refl)
+    leaves_as (MayPassOver Nb t l.kinds c) l (builds Nb t grant order l) [] (ap (λ (s : Seen). s.out) (builds_down t grant order l) ∙ ap (λ (es : List Event). l.out ++ map (records.Of Nb) es) none) (inl refl)
 
-downlink_tells : (c : Side → Channels) (t grant : ℕ) (o : Outcome) (l : Link) → Ready c l → Leaves (MayFly Nb t l.kinds c) l (downlink t grant o l)
+downlink_tells : (c : Side → Channels) (t grant : ℕ) (o : Outcome) (l : Link) → Ready c l → Leaves (MayPassOver Nb t l.kinds c) l (downlink t grant o l)
 unfolding downlink
 downlink_tells c t grant o l r =
     let order = down_order grant in
@@ -221,7 +226,7 @@ rises_tells c t flipped good octets l ready =
     leaves_then (just one) (IsHeard Nb (up_told_as good) c octets) l r (hears_if good octets r) (leaves_from (just one) l q r refl (leaves_one one q)) (heard_up good c octets r heard)
 
 goes_up : (v : Visit) (c : Side → Channels) (t grant : ℕ) (order : Order) (o : Outcome) (octets : List ℕ) (l : Link) → Ready c l → GoesOut Ue t l.kinds (c Ue) octets (visit_records v Ue t grant order l.kinds octets l.ue)
-    → Leaves (MayFly Ue t l.kinds c) l (up_aired t o.flipped (is_intact o.fate) octets (sends v Ue t octets (awake v t (builds Ue t grant order l))))
+    → Leaves (MayPassOver Ue t l.kinds c) l (up_aired t o.flipped (is_intact o.fate) octets (sends v Ue t octets (awake v t (builds Ue t grant order l))))
 goes_up v c t grant order o octets l r out =
     let n = sends v Ue t octets (awake v t (builds Ue t grant order l)) in
     let is = sent_up v t grant order octets l in
@@ -230,7 +235,7 @@ goes_up v c t grant order o octets l r out =
     (leaves_as (GoesOut Ue t l.kinds (c Ue) octets) l n (visit_records v Ue t grant order l.kinds octets l.ue) (ap (λ (s : Seen). s.out) is) out)
     (rises_tells (c Nb) t o.flipped good octets n (subst (λ (e : End). IsReady Nb (c Nb) e) (sym (ap (λ (s : Seen). s.nb) is)) r.nb))
 
-up_by_tells : (v : Visit) (c : Side → Channels) (t grant : ℕ) (order : Order) (o : Outcome) (l : Link) → Ready c l → visit t order l.ue ≡ v → Leaves (MayFly Ue t l.kinds c) l (up_by v t o (builds Ue t grant order l))
+up_by_tells : (v : Visit) (c : Side → Channels) (t grant : ℕ) (order : Order) (o : Outcome) (l : Link) → Ready c l → visit t order l.ue ≡ v → Leaves (MayPassOver Ue t l.kinds c) l (up_by v t o (builds Ue t grant order l))
 up_by_tells New c t grant order o l r is =
     let octets = block_at t (builds Ue t grant order l).ue in
     goes_up New c t grant order o octets l r (new_out Ue (c Ue) t grant order l.kinds octets l.ue r.ue is)
@@ -241,32 +246,32 @@ up_by_tells Quiet c t grant order o l r is =
     let one = records.Air (sent_by Ue) arriveds.Nothing None in
     let none = building_none Quiet t grant order l.ue is (λ x. refl) in
     let same : (builds Ue t grant order l).out ≡ l.out ++ [] = ap (λ (s : Seen). s.out) (builds_up t grant order l) ∙ ap (λ (es : List Event). l.out ++ map (records.Of Ue) es) none in
-    leaves_as (MayFly Ue t l.kinds c) l (up_by Quiet t o (builds Ue t grant order l)) (one ∷ []) (ap (λ (x : List Record). x ++ one ∷ []) (same ∙ append-nil l.out)) (inr (inl refl))
+    leaves_as (MayPassOver Ue t l.kinds c) l (up_by Quiet t o (builds Ue t grant order l)) (one ∷ []) (ap (λ (x : List Record). x ++ one ∷ []) (same ∙ append-nil l.out)) (inr (inl refl))
 
-grants_tells : (c : Side → Channels) (t grant : ℕ) (o : Outcome) (l : Link) → Ready c l → Leaves (MayFly Ue t l.kinds c) l (grants t grant o l)
+grants_tells : (c : Side → Channels) (t grant : ℕ) (o : Outcome) (l : Link) → Ready c l → Leaves (MayPassOver Ue t l.kinds c) l (grants t grant o l)
 grants_tells c t grant o l r =
     let order = up_order o.fate (grant_ndi l.nb.receiver t) in
     let m = with_end Nb (after_call l.nb (Grants t)) l in
     let at_m : Ready c m = record { nb = ready_on Nb (c Nb) [] l.nb m.nb (by_one Nb [] (Grants t) l.nb m.nb tt refl refl refl) r.nb; ue = r.ue } in
-    leaves_from (MayFly Ue t l.kinds c) l m (answers t grant order o m) refl (up_by_tells (visit t order l.ue) c t grant order o m at_m refl)
+    leaves_from (MayPassOver Ue t l.kinds c) l m (answers t grant order o m) refl (up_by_tells (visit t order l.ue) c t grant order o m at_m refl)
 
-passes_tells : (c : Side → Channels) (t : ℕ) (l : Link) → Leaves (MayFly Ue t l.kinds c) l (passes t l)
+passes_tells : (c : Side → Channels) (t : ℕ) (l : Link) → Leaves (MayPassOver Ue t l.kinds c) l (passes t l)
 unfolding visit_answer
 passes_tells c t l =
     let none = building_none Quiet t 0 orders.Silent l.ue refl (λ x. refl) in
-    leaves_as (MayFly Ue t l.kinds c) l (passes t l) [] (ap (λ (s : Seen). s.out) (builds_up t 0 orders.Silent l) ∙ ap (λ (es : List Event). l.out ++ map (records.Of Ue) es) none) (inl refl)
+    leaves_as (MayPassOver Ue t l.kinds c) l (passes t l) [] (ap (λ (s : Seen). s.out) (builds_up t 0 orders.Silent l) ∙ ap (λ (es : List Event). l.out ++ map (records.Of Ue) es) none) (inl refl)
 
-uplink_if : (b : Bool) (c : Side → Channels) (t grant : ℕ) (o : Outcome) (l : Link) → Ready c l → Leaves (MayFly Ue t l.kinds c) l (if b then passes t l else grants t grant o l)
+uplink_if : (b : Bool) (c : Side → Channels) (t grant : ℕ) (o : Outcome) (l : Link) → Ready c l → Leaves (MayPassOver Ue t l.kinds c) l (if b then passes t l else grants t grant o l)
 uplink_if true c t grant o l r = passes_tells c t l
 uplink_if false c t grant o l r = grants_tells c t grant o l r
 
-uplink_tells : (c : Side → Channels) (t grant : ℕ) (o : Outcome) (l : Link) → Ready c l → Leaves (MayFly Ue t l.kinds c) l (uplink t grant o l)
+uplink_tells : (c : Side → Channels) (t grant : ℕ) (o : Outcome) (l : Link) → Ready c l → Leaves (MayPassOver Ue t l.kinds c) l (uplink t grant o l)
 unfolding uplink
 uplink_tells c t grant o l r = uplink_if (grant == 0) c t grant o l r
 
 -- ---- a TTI
 
-both_tell : (c : Side → Channels) (t up_grant : ℕ) (up : Outcome) (down_grant : ℕ) (down : Outcome) (l : Link) → down_grant ≤ 9422 → Ready c l → Leaves (BothFly t l.kinds c) l (uplink t up_grant up (loops (downlink t down_grant down l)))
+both_tell : (c : Side → Channels) (t up_grant : ℕ) (up : Outcome) (down_grant : ℕ) (down : Outcome) (l : Link) → down_grant ≤ 9422 → Ready c l → Leaves (BothPassOver t l.kinds c) l (uplink t up_grant up (loops (downlink t down_grant down l)))
 both_tell c t up_grant up down_grant down l within r =
     let m = downlink t down_grant down l in
     let n = loops m in
@@ -275,14 +280,14 @@ both_tell c t up_grant up down_grant down l within r =
     let to_n = (loops_rests m).goes in
     let at_n = both_ready_on c [] m n to_n (both_ready_on c _ l m to_m r) in
     let same : n.kinds ≡ l.kinds = to_n.kinds_are ∙ to_m.kinds_are in
-    let last : Leaves (MayFly Ue t l.kinds c) n p = subst (λ (ks : List (Option Layout)). Leaves (MayFly Ue t ks c) n p) same (uplink_tells c t up_grant up n at_n) in
-    leaves_then (MayFly Nb t l.kinds c) (LoopTells then MayFly Ue t l.kinds c) l m p (downlink_tells c t down_grant down l r) (leaves_then LoopTells (MayFly Ue t l.kinds c) m n p (loops_tells m) last)
+    let last : Leaves (MayPassOver Ue t l.kinds c) n p = subst (λ (ks : List (Option Layout)). Leaves (MayPassOver Ue t ks c) n p) same (uplink_tells c t up_grant up n at_n) in
+    leaves_then (MayPassOver Nb t l.kinds c) (LoopTells then MayPassOver Ue t l.kinds c) l m p (downlink_tells c t down_grant down l r) (leaves_then LoopTells (MayPassOver Ue t l.kinds c) m n p (loops_tells m) last)
 
 -- before the blocks both ends went on
 both_fly : (c : Side → Channels) (t up_grant : ℕ) (up : Outcome) (down_grant : ℕ) (down : Outcome) (l m : Link) → down_grant ≤ 9422 → GoesOn [] l m → Ready c l
-    → Leaves (BothFly t l.kinds c) m (uplink t up_grant up (loops (downlink t down_grant down m)))
+    → Leaves (BothPassOver t l.kinds c) m (uplink t up_grant up (loops (downlink t down_grant down m)))
 both_fly c t up_grant up down_grant down l m within g r =
-    subst (λ (ks : List (Option Layout)). Leaves (BothFly t ks c) m (uplink t up_grant up (loops (downlink t down_grant down m)))) g.kinds_are (both_tell c t up_grant up down_grant down m within (both_ready_on c [] l m g r))
+    subst (λ (ks : List (Option Layout)). Leaves (BothPassOver t ks c) m (uplink t up_grant up (loops (downlink t down_grant down m)))) g.kinds_are (both_tell c t up_grant up down_grant down m within (both_ready_on c [] l m g r))
 
 asleep_ready : (asleep : Bool) (c : Side → Channels) (l : Link) → Ready c l → Ready c (tells_sleep asleep l)
 asleep_ready true c l r = record { nb = r.nb; ue = r.ue }
@@ -295,7 +300,7 @@ tti_tells c up_grant up down_grant down l within r =
     let m = begins l in
     let n = tells_sleep asleep m in
     let last = tti up_grant up down_grant down l in
-    let Blocks = BothFly l.ttis l.kinds c in
+    let Blocks = BothPassOver l.ttis l.kinds c in
     let flown = both_fly c l.ttis up_grant (missed asleep up) down_grant (missed asleep down) l (timed n) within (woken_rests asleep l).goes r in
     let Timers = EndTells Nb (of_timers (c Nb)) then EndTells Ue (of_timers (c Ue)) then LoopTells then Blocks in
     leaves_then (just (records.Tti l.ttis)) (maybe (just records.Sleep) then Timers) l m last (begins_tells l)
@@ -307,7 +312,7 @@ drain_tells c grant l within r =
     let m = begins l in
     let n = grows Ue (grows Nb m) in
     let p = drain_tti grant l in
-    leaves_then (just (records.Tti l.ttis)) (BothFly l.ttis l.kinds c) l n p (leaves_to (just (records.Tti l.ttis)) l m n refl (begins_tells l)) (both_fly c l.ttis grant intact grant intact l n within (grown_rests l).goes r)
+    leaves_then (just (records.Tti l.ttis)) (BothPassOver l.ttis l.kinds c) l n p (leaves_to (just (records.Tti l.ttis)) l m n refl (begins_tells l)) (both_fly c l.ttis grant intact grant intact l n within (grown_rests l).goes r)
 
 -- ---- timers expire
 
@@ -326,11 +331,11 @@ expires_tells c side lcid clock l r =
     expires_by_tells (expiring side lcid clock l) side lcid clock l (expires_alone side lcid clock l) (end_out side _ l) (tells_no_loop e (Expire lcid clock)) (expires_in_order side (c side) e (ready_at side c l r) lcid clock)
 
 -- and both ends are ready for more
-record Goes (These : Sequences) (c : Side → Channels) (l m : Link) : Type 0 where
+record Goes (These : OfRecords) (c : Side → Channels) (l m : Link) : Type 0 where
   leaves : Leaves These l m
   ready : Ready c m
 
-goes_then : (These Those : Sequences) (c : Side → Channels) (l m n : Link) → Goes These c l m → Goes Those c m n → Goes (These then Those) c l n
+goes_then : (These Those : OfRecords) (c : Side → Channels) (l m n : Link) → Goes These c l m → Goes Those c m n → Goes (These then Those) c l n
 goes_then These Those c l m n p q = record { leaves = leaves_then These Those l m n p.leaves q.leaves; ready = q.ready }
 
 timer_if : (b : Bool) (c : Side → Channels) (side : Side) (lcid : ℕ) (clock : Clock) (l : Link) → Ready c l → Leaves (TimerTells side lcid clock) l (if b then expires side lcid clock l else l)

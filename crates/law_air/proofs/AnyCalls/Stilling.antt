@@ -5,7 +5,8 @@ use Rattle.std.proofs.lemmas.Grind.{flat_map-append}
 use Rattle.std.proofs.lemmas.List.{map-append}
 use Rattle.std.proofs.lemmas.List.Elements.{filter-append}
 use Rattle.air_link.specs.Downlink.{visits as visits_process, builds}
-use Rattle.air_link.specs.Link.{Link, end_of, with_end, other}
+use Rattle.air_link.specs.Link.{Link, end_of, with_end}
+use Rattle.bearer_types.specs.Sides.{other}
 use Rattle.air_link.specs.Loops.{loses, returns_by, returns, returns_all, kept_by, takes, takes_all, loops, owed, paid, pays}
 use Rattle.air_link.specs.Telling.{tells_all}
 use Rattle.air_link.specs.Ttis.{begins, tells_sleep, grows, ticks, times, keeps_first, timed}
@@ -26,9 +27,9 @@ use Rattle.test_loop.specs.declared.Kept.{Kept}
 use Rattle.test_loop.specs.declared.Kept.TheVariants.{Now, Later, Full}
 use Rattle.test_loop.specs.Items.{Item}
 use Rattle.test_loop.specs.Loops.{is_on, is_keeping, taken_answer, after_taken, after_tick}
-use Rattle.law_air.specs.AnyCalls.Counts.{is_up, is_of_air}
+use Rattle.promises.specs.Records.{is_up, is_of_air, sdu_of, ups_in, sent_last}
 use Rattle.law_air.specs.AnyCalls.Ends.{GoesOn}
-use Rattle.law_air.specs.AnyCalls.Zero.{sdu_of, ups_in, sent_last, got_at, arrived, carried, brought}
+use Rattle.promises.specs.Zero.{got_at, arrived, carried, brought}
 use Rattle.law_air.proofs.AnyCalls.Bringing.{Stands, ticked_others, stands_on}
 use Rattle.law_air.proofs.AnyCalls.Going.{Seen, told_seen}
 use Rattle.law_air.proofs.AnyCalls.Handing.{building_none}

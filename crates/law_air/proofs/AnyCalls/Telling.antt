@@ -12,7 +12,8 @@ use Rattle.test_loop.specs.Items.{Item, item}
 use Rattle.test_loop.specs.Loops.{is_on}
 use Rattle.air_link.specs.Link.{Link, says, with_end}
 use Rattle.air_link.specs.Telling.{delivers, fails, tells, tells_all}
-use Rattle.law_air.specs.AnyCalls.Counts.{is_up, ups, loopeds}
+use Rattle.law_air.specs.AnyCalls.Counts.{ups, loopeds}
+use Rattle.promises.specs.Records.{is_up}
 use Rattle.law_air.specs.AnyCalls.Told.{Adds}
 use Rattle.law_air.proofs.AnyCalls.Adding.{books, stays, adds_then, IsPlain, says_plain, same_grows, one_grows, kept_one, kept_none}
 

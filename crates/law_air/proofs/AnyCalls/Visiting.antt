@@ -18,19 +18,23 @@ use Rattle.harq.specs.declared.sender.Visit.TheVariants.{New, Resend, Silent as 
 use Rattle.harq.specs.Receiving.{after_assigned, grant_ndi}
 use Rattle.harq.specs.Sending.{visit_answer, after_feedback}
 use Rattle.l2_node.specs.Building.{IsEnough, visit, visited, built, building, told_by as building_by}
-use Rattle.l2_node.specs.End.{End, sent_by}
+use Rattle.l2_node.specs.End.{End}
+use Rattle.bearer_types.specs.Sides.{sent_by, other}
 use Rattle.l2_types.specs.declared.side.Side.{Side}
 use Rattle.l2_types.specs.declared.side.Side.TheVariants.{Nb, Ue}
 use Rattle.mac_pdu.specs.declared.item.Direction.TheVariants as directions
 use Rattle.law_node.specs.Calls.{Turn, Visits, Grants, Granted, Assigned, Pass, answered, after as after_call}
-use Rattle.law_node.specs.Writing.{is_of_writing}
+use Rattle.promises.specs.Events.{is_of_writing}
 use Rattle.law_node.proofs.Looping.{tells_no_loop}
 use Rattle.pdu_show.specs.Show.{block_shown}
 use Rattle.pdu_show.specs.declared.kinds.Layout.{Layout}
-use Rattle.air_link.specs.Link.{Link, says, with_end, other}
-use Rattle.air_link.specs.Downlink.{builds, built_ndi, block_at, sends, turned, feeds, told_as, is_good, saw_new, sees, answer, comes, hears_by, lands, unseen, down_order, down_by, downlink}
+use Rattle.air_link.specs.Link.{Link, says, with_end}
+use Rattle.air_link.specs.Downlink.{builds, built_ndi, block_at, sends, feeds, told_as, is_good, saw_new, sees, answer, comes, hears_by, lands, unseen, down_order, down_by, downlink}
+use Rattle.air_record.specs.Outcomes.{turned}
 use Rattle.air_link.specs.Uplink.{up_order, is_intact, told_as as up_told_as, granted, hears_if, aired as up_aired, awake, up_by, answers, grants, passes, uplink}
-use Rattle.law_air.specs.AnyCalls.Ends.{told_by, is_of_building, GoesOn, block_told, built_told, visit_told}
+use Rattle.law_air.specs.AnyCalls.Ends.{GoesOn, built_told, visit_told}
+use Rattle.promises.specs.Records.{told_by, is_of_building}
+use Rattle.promises.specs.Built.{block_told}
 use Rattle.law_air.proofs.AnyCalls.Going.{KeepsOn, own_told, other_told, told_both, by_same, by_one, goes_then, goes_by, Seen, seen, behind, blocks_of, told_seen, goes_seen, Rests, unseen_rests, says_rests, call_goes, hears_rests}
 use Rattle.law_air.proofs.AnyCalls.Showing.{block_is_shown, shown_untold}
 use Rattle.law_air.proofs.AnyCalls.Telling.{some_from}

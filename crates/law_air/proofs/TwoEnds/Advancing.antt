@@ -3,11 +3,12 @@ use Rattle.std.proofs.Common.{◌≡◌, ◌≤◌, ℕ, ◌+◌, ◌==◌, Bool
 use Rattle.std.proofs.lemmas.Bool.Decides.{nat_tests}
 use Rattle.std.specs.List.{AllByRecursion, filter}
 use Rattle.air_link.specs.Downlink.{downlink}
-use Rattle.air_link.specs.Draining.{intact, drain_tti}
+use Rattle.air_link.specs.Draining.{drain_tti}
+use Rattle.air_record.specs.Outcomes.{intact, missed}
 use Rattle.air_link.specs.Lines.{bears, visits, hands_over as hands_over_link}
 use Rattle.air_link.specs.Link.{Link, with_end}
 use Rattle.air_link.specs.Loops.{loops}
-use Rattle.air_link.specs.Ttis.{begins, grows, sleeps, tells_sleep, missed, timed, tti_by, tti}
+use Rattle.air_link.specs.Ttis.{begins, grows, sleeps, tells_sleep, timed, tti_by, tti}
 use Rattle.air_link.specs.Uplink.{uplink}
 use Rattle.air_record.specs.declared.line.Outcome.{Outcome}
 use Rattle.air_record.specs.declared.record.Record.{Record}
@@ -15,7 +16,8 @@ use Rattle.bearer_types.specs.Configs.{IsConfig}
 use Rattle.bearer_types.specs.declared.config.BearerConfig.{BearerConfig}
 use Rattle.eps_sec.specs.declared.Keys.{Keys}
 use Rattle.harq.specs.Sending.{Sending, fresh}
-use Rattle.l2_node.specs.End.{End, with_bearer, with_visits, sent_by}
+use Rattle.l2_node.specs.End.{End, with_bearer, with_visits}
+use Rattle.bearer_types.specs.Sides.{sent_by}
 use Rattle.um_losses.specs.Names.{Place, Happening as What}
 use Rattle.um_losses.specs.Told.{told_in}
 use Rattle.pdu_show.specs.declared.kinds.Layout.{Layout}
@@ -23,18 +25,20 @@ use Rattle.l2_types.specs.declared.side.Side.{Side}
 use Rattle.l2_types.specs.declared.side.Side.TheVariants.{Nb, Ue}
 use Rattle.law_node.specs.Calls.{SetVisits, Add, Move, after as after_call}
 use Rattle.law_node.specs.Telling.{told_of}
-use Rattle.law_air.specs.AnyCalls.Ends.{told_by}
+use Rattle.promises.specs.Records.{told_by}
 use Rattle.law_air.specs.AnyCalls.Calls.{Call, Bears, Discards, Visits, Reports, Listens, Loops, Expires, Forges, HandsOver, ReceiversExpire, SendersExpire, after}
 use Rattle.law_air.specs.AnyCalls.Runs.{Step as LinkStep, Tti, Drains, Submit, Calls as LinkCalls, step}
 use Rattle.law_air.proofs.AnyCalls.Calling.{calls_adds, submitting_adds}
 use Rattle.law_air.proofs.AnyCalls.Passing.{tti_adds, drain_adds}
 use Rattle.law_deliver.specs.AmFlow.Air.{Block, Station, Air, outset, older, passed}
 use Rattle.law_deliver.proofs.AmFlow.Stations.{come_more}
-use Rattle.law_rlc.specs.AmArrival.Lives.{Happening}
+use Rattle.law_words.specs.Arrivals.{Happening}
 use Rattle.law_deliver.specs.AmChannel.Lives.{end_at}
-use Rattle.law_air.specs.TwoEnds.Arrival.{tells_in, renews}
+use Rattle.law_air.specs.TwoEnds.Arrival.{renews}
+use Rattle.promises.specs.Arrival.{tells_in}
 use Rattle.law_air.specs.TwoEnds.Staying.{hands_over, Stays, MovesOn}
-use Rattle.law_air.specs.TwoEnds.Going.{handed_in, looped_at, sets, GoesOn, IsCallSince, IsStepSince}
+use Rattle.law_air.specs.TwoEnds.Going.{handed_in, sets, GoesOn, IsCallSince, IsStepSince}
+use Rattle.promises.specs.Flows.{looped_at}
 use Rattle.law_air.specs.TwoEnds.Shown.{IsShown, anew}
 use Rattle.law_air.specs.TwoEnds.On.{until, IsHeld, IsFlying, IsStation, IsOn}
 use Rattle.law_air.proofs.TwoEnds.Flying.{keep_all}

@@ -3,23 +3,24 @@ use Rattle.std.proofs.Common.{◌≡◌, ℕ, ◌%◌, Bool, ◌||◌, Option, S
 use Rattle.std.specs.Prelude.{slice_get}
 use Rattle.std.specs.List.{filter}
 use Rattle.air_link.specs.Downlink.{hears}
-use Rattle.air_link.specs.Link.{Link, says, end_of, with_end, other}
+use Rattle.air_link.specs.Link.{Link, says, end_of, with_end}
+use Rattle.bearer_types.specs.Sides.{other, heard_by, sent_by}
 use Rattle.air_record.specs.declared.record.Record.{Record}
 use Rattle.air_record.specs.declared.record.Record.TheVariants as records
 use Rattle.bearer_types.specs.declared.event.Event.{Event}
 use Rattle.harq.specs.declared.sender.Visit.{Visit}
 use Rattle.l2_node.specs.Building.{visit, visited, building}
-use Rattle.l2_node.specs.End.{End, heard_by, sent_by}
+use Rattle.l2_node.specs.End.{End}
 use Rattle.l2_node.specs.Hearing.{received}
 use Rattle.l2_types.specs.declared.side.Side.{Side}
 use Rattle.l2_types.specs.declared.side.Side.TheVariants.{Nb, Ue}
 use Rattle.law_node.specs.Calls.{Turn, Visits, Receive, IsGiven as IsGivenTo, after as after_call}
 use Rattle.law_node.specs.Telling.{told_of}
 use Rattle.law_node.proofs.Looping.{tells_no_loop}
-use Rattle.law_air.specs.AnyCalls.Ends.{told_by}
-use Rattle.law_rlc.specs.AmArrival.Lives.{Happening}
-use Rattle.law_deliver.specs.AmDelivery.Arrival.{bringing}
-use Rattle.law_deliver.specs.AmFlow.Channels.{carried}
+use Rattle.promises.specs.Records.{told_by}
+use Rattle.law_words.specs.Arrivals.{Happening}
+use Rattle.promises.specs.Given.{bringing}
+use Rattle.promises.specs.Pdus.{carried}
 use Rattle.law_deliver.proofs.AmFlow.Stations.{come_side}
 use Rattle.law_deliver.specs.AmChannel.Arrival.{said_in, heard_in}
 use Rattle.mac_pdu.specs.declared.item.Direction.TheVariants as directions
@@ -30,10 +31,10 @@ use Rattle.law_deliver.specs.AmFlow.Air.{Block, Station, Air, built_at, is_new, 
 use Rattle.um_losses.specs.Names.{Place, comes as pdu_comes}
 use Rattle.um_losses.specs.Told.{told_in, place_behind}
 use Rattle.law_deliver.specs.UmGaps.Whats.{expiries}
-use Rattle.law_air.specs.TwoEnds.Going.{loops_in}
+use Rattle.promises.specs.Flows.{loops_in}
 use Rattle.law_air.specs.TwoEnds.Shown.{IsShown}
 use Rattle.law_air.specs.TwoEnds.On.{until, IsStation}
-use Rattle.law_air.specs.TwoEnds.Arrival.{tells_in}
+use Rattle.promises.specs.Arrival.{tells_in}
 use Rattle.law_air.proofs.TwoEnds.Showing.{Shows, got_own, got_hidden}
 use Rattle.law_air.proofs.TwoEnds.Going.{Marks, Behind, Any, Block', Fits, IsAt, last_in, no_whats, call_whats, come_whats, GoesBehind, TellNoAir, Brings, IsPlayed, none, goes_then, goes_call, goes_come, goes_off}
 use Rattle.law_air.proofs.TwoEnds.Stations.{Moment, Waits, Done, stays_by, left_by, lasts, turned_station, is_visiting}

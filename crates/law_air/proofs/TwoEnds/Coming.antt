@@ -11,14 +11,15 @@ use Rattle.l2_types.specs.declared.side.Side.TheVariants.{Nb, Ue}
 use Rattle.law_air.specs.AnyCalls.Calls.{Bears}
 use Rattle.law_air.specs.AnyCalls.Runs.{Step, step}
 use Rattle.law_deliver.specs.AmFlow.Air.{Air}
-use Rattle.law_rlc.specs.AmArrival.Lives.{Happening}
+use Rattle.law_words.specs.Arrivals.{Happening}
 use Rattle.law_deliver.specs.AmChannel.Arrival.{happened}
 use Rattle.law_deliver.specs.AmChannel.Lives.{lives}
 use Rattle.um_losses.specs.Names.{Happening as What}
 use Rattle.law_deliver.specs.UmGaps.Whats.{whats}
 use Rattle.law_air.specs.TwoEnds.Arrival.{told_by_step}
 use Rattle.law_air.specs.TwoEnds.Coming.{BearersBegin, ComesOn, ComesAs}
-use Rattle.law_air.specs.TwoEnds.Going.{handed_in, looped_at, sets, GoesByAir, IsStepSince}
+use Rattle.law_air.specs.TwoEnds.Going.{handed_in, sets, GoesByAir, IsStepSince}
+use Rattle.promises.specs.Flows.{looped_at}
 use Rattle.law_air.specs.TwoEnds.Lives.{IsAtRest}
 use Rattle.law_air.specs.TwoEnds.On.{until, IsStation, IsOn}
 use Rattle.law_air.proofs.TwoEnds.Advancing.{steps_go}

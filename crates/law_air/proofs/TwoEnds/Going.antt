@@ -2,7 +2,7 @@
 use Rattle.std.proofs.Common.{◌≡◌, ◌≤◌, ℕ, Bool, true, false, Option, Some, None, List, [], ◌∷◌, ◌++◌, append_assoc, append-nil, refl, ap, sym, subst, arith, ◌∙◌}
 use Rattle.std.specs.Prelude.{slice_get}
 use Rattle.std.specs.List.{AllByRecursion, filter}
-use Rattle.air_link.specs.Link.{other}
+use Rattle.bearer_types.specs.Sides.{other}
 use Rattle.air_record.specs.declared.record.Record.{Record}
 use Rattle.eps_sec.specs.declared.Keys.{Keys}
 use Rattle.harq.specs.Sending.{Sending}
@@ -13,14 +13,13 @@ use Rattle.l2_types.specs.declared.side.Side.TheVariants.{Nb, Ue}
 use Rattle.law_node.specs.Bearers.{adds, keys_in}
 use Rattle.law_node.specs.Calls.{Call as EndCall, SetVisits, SetReports, Add, Submit, SetDiscard, Tick, TickBuckets, Visits, Grants, Granted, Assigned, Pass, Receive, Expire, Move, IsGiven as IsGivenTo, after as after_call, run as run_end}
 use Rattle.law_node.specs.Telling.{told_of, told_over}
-use Rattle.law_air.specs.AnyCalls.Ends.{told_by}
+use Rattle.promises.specs.Records.{told_by, sent_last}
 use Rattle.law_air.proofs.AnyCalls.Going.{told_both, run_on, over_on}
 use Rattle.law_deliver.specs.AmFlow.Air.{Block, Station, Air, Act, Calls, Comes, Goes as LetsGo, AtNb, AtUe, Passes, calls, comes, does, passed, outset, IsCalling, IsYoung}
 use Rattle.law_deliver.specs.AmFlow.Channels.{GoesOnInLife}
-use Rattle.law_rlc.specs.AmArrival.Lives.{Happening, Renews}
-use Rattle.law_air.specs.AnyCalls.Zero.{sent_last}
+use Rattle.law_words.specs.Arrivals.{Happening, Renews}
 use Rattle.law_deliver.specs.AmChannel.Arrival.{said_in, heard_in, said_over, heard_over, happens_in, happened}
-use Rattle.law_air.specs.TwoEnds.Arrival.{tells_at, tells_in}
+use Rattle.promises.specs.Arrival.{tells_at, tells_in}
 use Rattle.law_deliver.specs.AmChannel.Delivery.{submitted_in, was_submitted, sets_discard, SetNone}
 use Rattle.law_deliver.specs.AmChannel.Lives.{AirStep, InLife, Moves, AreLiving, lives_on, lives, end_at, brought, calls_by, calls_at, all_calls}
 use Rattle.law_rlc.specs.AmPair.Flow.{except}

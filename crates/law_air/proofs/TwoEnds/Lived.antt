@@ -16,14 +16,15 @@ use Rattle.l2_types.specs.declared.side.Side.{Side}
 use Rattle.l2_types.specs.declared.side.Side.TheVariants.{Nb, Ue}
 use Rattle.law_node.specs.Calls.{Add, after as after_call}
 use Rattle.law_node.proofs.Living.{added}
-use Rattle.law_air.specs.AnyCalls.Ends.{told_by}
+use Rattle.promises.specs.Records.{told_by}
 use Rattle.law_air.specs.AnyCalls.Runs.{Step, Run, step, emptied, goes as run_goes, goes_on as run_on}
 use Rattle.law_deliver.specs.AmFlow.Air.{Air, outset, HasCome}
-use Rattle.law_rlc.specs.AmArrival.Lives.{Happening}
+use Rattle.law_words.specs.Arrivals.{Happening}
 use Rattle.law_deliver.specs.AmChannel.Lives.{lives, end_at}
 use Rattle.law_air.specs.TwoEnds.Arrival.{told_by_step}
 use Rattle.law_air.specs.TwoEnds.Coming.{none_yet}
-use Rattle.law_air.specs.TwoEnds.Going.{handed_in, looped_at, sets, IsStepSince}
+use Rattle.law_air.specs.TwoEnds.Going.{handed_in, sets, IsStepSince}
+use Rattle.promises.specs.Flows.{looped_at}
 use Rattle.law_air.specs.TwoEnds.Lived.{HasBearer, Lived, IsAcknowledged, BearersCome, LivesOn, AreStepsSince, submitted_in, said_in, sets_in, RunsOn}
 use Rattle.law_air.specs.TwoEnds.Lives.{IsAtRest}
 use Rattle.law_air.specs.TwoEnds.On.{IsOn}

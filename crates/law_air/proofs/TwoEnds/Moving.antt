@@ -8,25 +8,26 @@ use Rattle.air_record.specs.declared.record.Record.{Record}
 use Rattle.air_record.specs.declared.record.Record.TheVariants as records
 use Rattle.eps_sec.specs.declared.Keys.{Keys}
 use Rattle.harq.specs.Sending.{Sending, SendProcess, empty, fresh}
-use Rattle.l2_node.specs.End.{End, reset, sent_by}
+use Rattle.l2_node.specs.End.{End, reset}
+use Rattle.bearer_types.specs.Sides.{sent_by}
 use Rattle.l2_node.specs.Moving.{left_cell, joined, leaving}
 use Rattle.l2_types.specs.declared.side.Side.{Side}
 use Rattle.l2_types.specs.declared.side.Side.TheVariants.{Nb, Ue}
 use Rattle.law_node.specs.Calls.{Move, after as after_call}
 use Rattle.law_node.proofs.Looping.{tells_no_loop}
-use Rattle.law_air.specs.AnyCalls.Ends.{told_by}
+use Rattle.promises.specs.Records.{told_by}
 use Rattle.law_air.proofs.AnyCalls.Going.{told_both, own_told, other_told, Seen, seen, behind, told_seen}
 use Rattle.um_losses.specs.Names.{Place, Happening as What, begins_anew}
 use Rattle.um_losses.specs.Told.{told_in, place_behind}
 use Rattle.law_deliver.specs.UmGaps.Whats.{expiries}
 use Rattle.law_deliver.specs.AmFlow.Air.{Station, Air, begins, outset, HasCome}
 use Rattle.law_deliver.proofs.AmFlow.Stations.{come_more}
-use Rattle.law_air.specs.TwoEnds.Going.{loops_in}
+use Rattle.promises.specs.Flows.{loops_in}
 use Rattle.law_air.specs.TwoEnds.Shown.{IsShown}
 use Rattle.law_air.specs.TwoEnds.On.{until, block_at, IsStation}
-use Rattle.law_rlc.specs.AmArrival.Lives.{Happening}
+use Rattle.law_words.specs.Arrivals.{Happening}
 use Rattle.law_node.proofs.Silences.{writes_nothing}
-use Rattle.law_air.specs.TwoEnds.Arrival.{tells_in}
+use Rattle.promises.specs.Arrival.{tells_in}
 use Rattle.law_air.proofs.TwoEnds.Going.{moving, Any, Renewed, last_in, TellNoAir, tells_more, goes_move, move_whats}
 use Rattle.law_air.proofs.TwoEnds.Showing.{in_both, events_own, events_hidden}
 use Rattle.law_air.proofs.TwoEnds.Resting.{loops_rests}

@@ -3,14 +3,16 @@ use Rattle.std.proofs.Common.{◌≡◌, ℕ, ◌+◌, ◌==◌, Bool, true, fal
 use Rattle.std.specs.Prelude.{unwrap_or, IfSome}
 use Rattle.air_link.specs.Draining.{timer_expires, receiver_expires, all_receivers_expire, receivers_expire, all_senders_expire, senders_expire}
 use Rattle.air_link.specs.Lines.{discards, reports, listens, no_place, submits_by, submitting, expires_by, expiring, expires_alone, expires}
-use Rattle.air_link.specs.Link.{Link, end_of, with_end, all_lcids}
+use Rattle.air_link.specs.Link.{Link, end_of, with_end}
+use Rattle.bearer_types.specs.Lcids.{all_lcids}
 use Rattle.air_link.specs.Loops.{loses, returns_by, returns, returns_all, kept_by, takes, takes_all, loops, owed, paid, pays, loop_set}
 use Rattle.air_link.specs.Telling.{tells_all}
 use Rattle.air_link.specs.Ttis.{begins, tells_sleep, grows, times, keeps_first, timed}
 use Rattle.air_record.specs.declared.record.Record.TheVariants as records
 use Rattle.bearer_types.specs.declared.event.Event.{Event}
 use Rattle.l2_bits.specs.declared.fault.SubmitRefusal.{SubmitRefusal}
-use Rattle.l2_node.specs.End.{End, sent_by}
+use Rattle.l2_node.specs.End.{End}
+use Rattle.bearer_types.specs.Sides.{sent_by, is_same}
 use Rattle.l2_node.specs.Finding.{has}
 use Rattle.l2_node.specs.Hearing.{ticked, expiry, expired}
 use Rattle.l2_node.specs.Submitting.{refusal, submitted, discarding}
@@ -27,12 +29,12 @@ use Rattle.test_loop.specs.declared.Kept.TheVariants.{Now, Later, Full}
 use Rattle.test_loop.specs.declared.Mode.{Mode}
 use Rattle.test_loop.specs.Items.{Item}
 use Rattle.test_loop.specs.Loops.{is_on, is_keeping, taken_answer, after_taken, after_tick, after_set}
-use Rattle.law_air.specs.AnyCalls.Counts.{is_same}
 use Rattle.law_air.specs.AnyCalls.Runs.{Submit as StepSubmit}
-use Rattle.law_air.specs.AnyCalls.Zero.{sdu_of}
+use Rattle.promises.specs.Records.{sdu_of}
 use Rattle.law_air.proofs.AnyCalls.Going.{own_told, other_told, Seen, told_seen}
 use Rattle.law_deliver.specs.AmChannel.Delivery.{accepted, submitted_in}
-use Rattle.law_air.specs.TwoEnds.Going.{handed_in, looped_at}
+use Rattle.law_air.specs.TwoEnds.Going.{handed_in}
+use Rattle.promises.specs.Flows.{looped_at}
 use Rattle.um_losses.specs.Names.{Place}
 use Rattle.um_losses.specs.Told.{told_in}
 use Rattle.law_air.proofs.TwoEnds.Going.{Marks, Says, IsPlayed, none, by_sides, call_whats}
@@ -40,8 +42,8 @@ use Rattle.law_node.specs.Writing.{TellNone}
 use Rattle.law_node.proofs.Silences.{writes_nothing}
 use Rattle.bearer_types.specs.declared.event.Event.TheVariants.{Drop}
 use Rattle.l2_types.specs.declared.event.Lost.TheVariants as losts
-use Rattle.law_deliver.specs.AmFlow.Ups.{told_on}
-use Rattle.law_deliver.specs.AmDelivery.Arrival.{gives}
+use Rattle.promises.specs.Events.{told_on}
+use Rattle.promises.specs.Given.{gives}
 use Rattle.law_air.proofs.TwoEnds.Stages.{says_so, none_flown, none_if as hushed, unwritten, quiet_events, Stands, Hands, hands_none, Rests, rests_then, events_unlooped, says_stage, says_rests, still_rests, IsPlain, says_nothing, shows_nothing, shows_events, called_nb, called_ue, called_rests}
 use Rattle.law_air.proofs.TwoEnds.Stations.{Moment}
 

@@ -3,36 +3,35 @@ use Rattle.std.proofs.Common.{◌≡◌, ℕ, Bool, true, false, cond, None, Lis
 use Rattle.std.proofs.lemmas.List.{map-append}
 use Rattle.std.proofs.lemmas.List.Elements.{filter-append}
 use Rattle.std.specs.List.{filter, flat_map}
-use Rattle.air_link.specs.Link.{Link, says, end_of, other}
+use Rattle.air_link.specs.Link.{Link, says, end_of}
+use Rattle.bearer_types.specs.Sides.{other, sent_by, is_same}
 use Rattle.air_record.specs.declared.record.Record.{Record}
 use Rattle.air_record.specs.declared.record.Record.TheVariants as records
 use Rattle.bearer_types.specs.declared.event.Event.{Event}
-use Rattle.l2_node.specs.End.{End, sent_by}
+use Rattle.l2_node.specs.End.{End}
 use Rattle.l2_types.specs.declared.side.Side.{Side}
 use Rattle.l2_types.specs.declared.side.Side.TheVariants.{Nb, Ue}
 use Rattle.mac_pdu.specs.declared.item.Direction.{Direction}
 use Rattle.law_node.specs.Calls.{Call as EndCall, SetVisits, SetReports, Add, Submit, SetDiscard, Tick, TickBuckets, Visits, Grants, Granted, Assigned, Pass, Receive, Expire, Move, IsGiven as IsGivenTo, after as after_call}
 use Rattle.law_node.specs.Telling.{told_of}
-use Rattle.law_air.specs.AnyCalls.Counts.{is_looped, is_same}
-use Rattle.law_air.specs.AnyCalls.Ends.{event_of, told_by}
-use Rattle.law_air.specs.AnyCalls.Zero.{sdu_of, sent_last}
-use Rattle.law_rlc.specs.AmArrival.Lives.{Given, Happening}
-use Rattle.law_deliver.specs.AmDelivery.Arrival.{given_in, giving, gives}
-use Rattle.law_deliver.specs.AmFlow.Ups.{is_on, told_on}
+use Rattle.promises.specs.Records.{is_looped, event_of, told_by, sdu_of, sent_last}
+use Rattle.law_words.specs.Arrivals.{Given, Happening}
+use Rattle.promises.specs.Given.{given_in, giving, gives}
+use Rattle.promises.specs.Events.{is_on, told_on, is_of_writing}
 use Rattle.law_deliver.specs.AmChannel.Arrival.{said_in, heard_in}
 use Rattle.bearer_types.specs.declared.event.Event.TheVariants as events
 use Rattle.law_node.specs.Bearers.{keys_in}
-use Rattle.law_node.specs.Writing.{is_of_writing, TellNone}
+use Rattle.law_node.specs.Writing.{TellNone}
 use Rattle.law_deliver.specs.AmFlow.Air.{Station, Air, calls, IsCalling}
 use Rattle.law_deliver.specs.AmChannel.Delivery.{submitted_in}
 use Rattle.um_losses.specs.Names.{Place, Happening as What}
 use Rattle.um_losses.specs.Records.{change_of}
 use Rattle.um_losses.specs.Told.{picked, told_in, place_behind}
 use Rattle.law_deliver.specs.UmGaps.Whats.{sent_in, expiries}
-use Rattle.law_air.specs.TwoEnds.Going.{loops_in, looped_at}
+use Rattle.promises.specs.Flows.{loops_in, looped_at}
 use Rattle.law_air.specs.TwoEnds.Shown.{IsShown}
 use Rattle.law_air.specs.TwoEnds.On.{IsStation}
-use Rattle.law_air.specs.TwoEnds.Arrival.{only_if, tells_at, tells_in}
+use Rattle.promises.specs.Arrival.{only_if, tells_at, tells_in}
 use Rattle.law_air.proofs.TwoEnds.Showing.{in_then, behind_then as place_then, events_own, events_hidden}
 use Rattle.law_air.proofs.TwoEnds.Going.{Marks, station, with_station, Behind, Any, Block', Renewed, Unread, Fits, IsAt, ended, first_whats, last_in, Whats, no_whats, call_whats, GoesBehind, Goes, TellNoAir, Says, IsPlayed, none, by_sides, weaken, behind_then, goes_as, goes_none, goes_call}
 use Rattle.law_air.proofs.TwoEnds.Stations.{Moment, Waits, Done, wait, IsIdle, station_goes}

@@ -10,15 +10,16 @@ use Rattle.l2_node.specs.End.{End}
 use Rattle.l2_types.specs.declared.side.Side.{Side}
 use Rattle.law_node.specs.Calls.{Add, Move, after as after_call}
 use Rattle.law_air.specs.AnyCalls.Calls.{Bears, HandsOver}
-use Rattle.law_air.specs.AnyCalls.Ends.{told_by}
+use Rattle.promises.specs.Records.{told_by}
 use Rattle.law_air.specs.AnyCalls.Runs.{Step, Calls, step}
 use Rattle.law_deliver.specs.AmFlow.Air.{Air, outset}
-use Rattle.law_rlc.specs.AmArrival.Lives.{Happening}
+use Rattle.law_words.specs.Arrivals.{Happening}
 use Rattle.law_deliver.specs.AmChannel.Arrival.{happened}
 use Rattle.law_deliver.specs.AmChannel.Lives.{lives}
 use Rattle.law_air.specs.TwoEnds.Arrival.{told_by_step}
 use Rattle.law_deliver.specs.UmGaps.Whats.{whats}
-use Rattle.law_air.specs.TwoEnds.Going.{handed_in, looped_at, sets, TellAlone, GoesByAir, IsStepSince}
+use Rattle.law_air.specs.TwoEnds.Going.{handed_in, sets, TellAlone, GoesByAir, IsStepSince}
+use Rattle.promises.specs.Flows.{looped_at}
 use Rattle.law_air.specs.TwoEnds.Lives.{IsAtRest}
 use Rattle.law_air.specs.TwoEnds.On.{IsOn}
 use Rattle.law_air.specs.TwoEnds.Staying.{AreInLife, hands_over, MovesOn}

@@ -20,7 +20,8 @@ use Rattle.harq.specs.declared.sender.Visit.TheVariants.{New, Resend, Silent as 
 use Rattle.harq.specs.Receiving.{grant_ndi}
 use Rattle.harq.specs.Sending.{visit_answer, after_feedback}
 use Rattle.l2_node.specs.Building.{IsEnough, visit, visited, built, building}
-use Rattle.l2_node.specs.End.{End, sent_by}
+use Rattle.l2_node.specs.End.{End}
+use Rattle.bearer_types.specs.Sides.{sent_by, other, is_same, sender_of}
 use Rattle.l2_types.specs.declared.side.Side.{Side}
 use Rattle.l2_types.specs.declared.side.Side.TheVariants.{Nb, Ue}
 use Rattle.mac_pdu.specs.declared.item.Direction.TheVariants as directions
@@ -28,12 +29,12 @@ use Rattle.law_node.specs.Calls.{Turn, Visits, Grants, Granted, Assigned, Pass, 
 use Rattle.law_node.proofs.Looping.{tells_no_loop}
 use Rattle.pdu_show.specs.Show.{block_shown}
 use Rattle.pdu_show.specs.declared.kinds.Layout.{Layout}
-use Rattle.air_link.specs.Link.{Link, says, with_end, other}
-use Rattle.air_link.specs.Downlink.{builds, built_ndi, block_at, sends, turned, feeds, told_as, is_good, answer, comes, hears_by, lands, unseen, down_order, down_by, downlink}
+use Rattle.air_link.specs.Link.{Link, says, with_end}
+use Rattle.air_link.specs.Downlink.{builds, built_ndi, block_at, sends, feeds, told_as, is_good, answer, comes, hears_by, lands, unseen, down_order, down_by, downlink}
+use Rattle.air_record.specs.Outcomes.{turned}
 use Rattle.air_link.specs.Uplink.{up_order, is_intact, told_as as up_told_as, granted, hears_if, aired as up_aired, awake, up_by, answers, grants, passes, uplink}
-use Rattle.law_air.specs.AnyCalls.Counts.{is_looped}
-use Rattle.law_air.specs.AnyCalls.Ends.{told_by}
-use Rattle.law_air.specs.AnyCalls.Loops.{looped}
+use Rattle.promises.specs.Records.{is_looped, told_by, is_shown, sent_last}
+use Rattle.promises.specs.Loops.{looped}
 use Rattle.law_air.proofs.AnyCalls.Blocks.{block_is}
 use Rattle.law_air.proofs.AnyCalls.Going.{own_told, other_told, told_both, Seen}
 use Rattle.law_air.proofs.AnyCalls.Returning.{IsSilent}
@@ -42,19 +43,16 @@ use Rattle.law_air.proofs.AnyCalls.Showing.{shown_untold, block_is_silent, AllSh
 use Rattle.law_air.proofs.AnyCalls.Telling.{some_from}
 use Rattle.law_air.proofs.AnyCalls.Visiting.{sent, visit_records, comes_seen, builds_down, sent_down, enough_by_grant, builds_up, sent_up}
 use Rattle.law_deliver.specs.AmFlow.Air.{HasCome, Block, Station, built_at}
-use Rattle.law_air.specs.TwoEnds.Going.{loops_in}
-use Rattle.law_rlc.specs.AmArrival.Lives.{Given, Happening, Gives}
-use Rattle.law_deliver.specs.AmDelivery.Arrival.{given_in, giving, gives, writing}
-use Rattle.law_deliver.specs.AmFlow.Channels.{carried}
-use Rattle.law_deliver.specs.AmFlow.Ups.{is_on, told_on}
+use Rattle.promises.specs.Flows.{loops_in}
+use Rattle.law_words.specs.Arrivals.{Given, Happening, Gives}
+use Rattle.promises.specs.Given.{given_in, giving, gives, writing}
+use Rattle.promises.specs.Pdus.{carried}
+use Rattle.promises.specs.Events.{is_on, told_on}
 use Rattle.law_deliver.proofs.AmFlow.Stations.{come_side}
 use Rattle.law_deliver.specs.AmChannel.Arrival.{said_in}
 use Rattle.mac_pdu.specs.Reading.{reading}
 use Rattle.l2_node.specs.Writing.{new_block}
-use Rattle.law_air.specs.AnyCalls.Counts.{is_same}
-use Rattle.law_air.specs.AnyCalls.Ends.{is_shown}
-use Rattle.law_air.specs.AnyCalls.Zero.{sent_last}
-use Rattle.law_air.specs.TwoEnds.Arrival.{sender_of, only_if, tells_at, tells_in}
+use Rattle.promises.specs.Arrival.{only_if, tells_at, tells_in}
 use Rattle.law_air.proofs.TwoEnds.Going.{Marks, Behind, Any, Block', ended, last_in, tells_more, none}
 use Rattle.law_air.proofs.TwoEnds.Resting.{call_rests}
 use Rattle.law_air.proofs.TwoEnds.Showing.{IsSending, visit_shows, quiet_shows, visit_behind}

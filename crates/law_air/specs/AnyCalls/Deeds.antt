@@ -16,6 +16,7 @@ use Rattle.l2_node.specs.End.{End}
 use Rattle.air_link.specs.Link.{Link}
 use Rattle.air_link.specs.Uplink.{up_order}
 use Rattle.law_air.specs.AnyCalls.Calls.{Call, Visits, HandsOver, after}
+use Rattle.promises.specs.Awards.{grant_brought}
 
 -- a block that is sent, new or again, with the feedback that its sender reads; else it waited
 abbrev pub deed_of : List Record → Deed
@@ -54,17 +55,10 @@ Answers t ndi (Some arriveds.Bad) before after = IsAnswered t ndi false Damaged 
 Answers t ndi (Some arriveds.Nothing) before after = after ≡ before
 Answers t ndi None before after = after ≡ before
 
--- what a grant brought: an intact block, a damaged one or nothing
-abbrev pub brought : Arrived → Option Bool
-brought arriveds.Got = Some true
-brought arriveds.Dup = Some true
-brought arriveds.Bad = Some false
-brought arriveds.Nothing = None
-
 -- on the uplink the base station grants, and hears what the grant brought, or a visit passes with no grant
 abbrev pub heard_up : ℕ → Option Arrived → Receiving → Receiving
 heard_up t None r = after_pass r t
-heard_up t (Some what) r = after_granted (after_grant r t) t (brought what)
+heard_up t (Some what) r = after_granted (after_grant r t) t (grant_brought what)
 
 -- the terminal visits its process by the grant that it sees, if it sees one
 abbrev pub up_ordered : ℕ → Outcome → Bool → Order

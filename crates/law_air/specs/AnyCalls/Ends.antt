@@ -1,7 +1,7 @@
 -- The ends of a link (TS 36.321 4.2): each goes on by calls of its own, what records tell of it is
 -- what it tells in these, lives of its bearers begin only as one is added and in a handover, and it
 -- tells of what it writes only as it builds a block.
-use Rattle.std.specs.Prelude.{◌≡◌, ℕ, ◌%◌, ◌≤◌, Bool, true, false, not, ◌&&◌, if◌then◌else◌, Option, List, [], ◌∷◌, ◌++◌, map}
+use Rattle.std.specs.Prelude.{◌≡◌, ℕ, ◌≤◌, Bool, true, false, Option, List, [], ◌∷◌, ◌++◌, map}
 use Rattle.std.specs.List.{filter}
 use Rattle.air_link.specs.Downlink.{block_at, down_order}
 use Rattle.air_link.specs.Draining.{drain_tti}
@@ -12,36 +12,23 @@ use Rattle.air_record.specs.declared.line.Outcome.{Outcome}
 use Rattle.air_record.specs.declared.record.Record.{Record}
 use Rattle.air_record.specs.declared.record.Record.TheVariants as records
 use Rattle.bearer_types.specs.Configs.{IsConfig}
-use Rattle.bearer_types.specs.declared.config.BearerConfig.{BearerConfig}
-use Rattle.bearer_types.specs.declared.event.Event.{Event}
 use Rattle.harq.specs.declared.sender.Order.{Order}
 use Rattle.harq.specs.declared.sender.Visit.{Visit}
 use Rattle.harq.specs.declared.sender.Visit.TheVariants.{New, Resend, Silent}
 use Rattle.l2_node.specs.Building.{IsEnough, visit, built, building}
-use Rattle.l2_node.specs.End.{End, sent_by}
+use Rattle.l2_node.specs.End.{End}
 use Rattle.l2_types.specs.declared.side.Side.{Side}
 use Rattle.l2_types.specs.declared.side.Side.TheVariants.{Nb, Ue}
 use Rattle.law_node.specs.Calls.{Call as EndCall, Add, Move, AreGiven, run as run_end}
-use Rattle.law_node.specs.Loops.{is_of_loop}
 use Rattle.law_node.specs.Telling.{told_over}
-use Rattle.law_node.specs.Writing.{is_of_writing}
-use Rattle.pdu_show.specs.Kinds.{with_kind}
-use Rattle.pdu_show.specs.Show.{block_shown}
+use Rattle.promises.specs.Events.{is_of_writing}
 use Rattle.pdu_show.specs.declared.kinds.Layout.{Layout}
 use Rattle.law_air.specs.AnyCalls.Calls.{Call, Bears, Visits, HandsOver, after}
-use Rattle.law_air.specs.AnyCalls.Counts.{is_same}
+use Rattle.promises.specs.Records.{told_by, is_of_building}
+use Rattle.promises.specs.Built.{block_told}
+use Rattle.promises.specs.Blocks.{with_bearer}
 
 -- ---- what records tell of an end
-
--- the event of a side's end; what the test loop drops is told in the terminal's name, and is none of its end
-abbrev pub event_of : Side → Record → List Event
-event_of side (records.Of s event) = if is_same side s && not (is_of_loop event) then event ∷ [] else []
-event_of side one = []
-
--- the events of a side's end, in order
-abbrev pub told_by : Side → List Record → List Event
-told_by side [] = []
-told_by side (one ∷ told) = event_of side one ++ told_by side told
 
 -- an end goes on by calls, and the records tell of it exactly what it tells in these
 pub record ByCalls (side : Side) (told : List Record) (before after' : End) : Type 0 where
@@ -65,31 +52,6 @@ pub record LivesOn (lives : List EndCall) (side : Side) (told : List Record) (be
 
 -- ---- what is told of new blocks
 
--- a record that shows a part of a block
-abbrev pub is_shown : Record → Bool
-is_shown records.MacFront = true
-is_shown (records.MacSdu lcid len) = true
-is_shown (records.MacPad octets) = true
-is_shown (records.MacControl control) = true
-is_shown (records.RlcTm len) = true
-is_shown (records.RlcUm sn fi lens) = true
-is_shown (records.RlcAm sn poll fi lens) = true
-is_shown (records.RlcSeg sn poll fi last so lens) = true
-is_shown (records.RlcStatus ack nacks) = true
-is_shown (records.PdcpData sn len) = true
-is_shown (records.PdcpSrb sn len tag) = true
-is_shown (records.PdcpReport fms bitmap) = true
-is_shown (records.BadMac fault) = true
-is_shown (records.BadRlc fault) = true
-is_shown (records.BadPdcp fault) = true
-is_shown one = false
-
--- what is told of a new block: what the bearers take and write, why some write nothing, the block, and what shows it
-abbrev pub is_of_building : Record → Bool
-is_of_building (records.Of side event) = is_of_writing event
-is_of_building (records.Block direction process fresh version octets) = fresh
-is_of_building one = is_shown one
-
 -- records are added, both ends go on by calls of which these tell, with lives that begin in both alike, and some of these records are
 -- told of new blocks; how PDUs are shown stays
 pub record GoesThrough (lives : List EndCall) (blocks : List Record) (l m : Link) : Type 0 where
@@ -105,10 +67,6 @@ abbrev pub GoesOn : List Record → Link → Link → Type 0
 GoesOn blocks l m = GoesThrough [] blocks l m
 
 -- ---- the visit of a process, by an order and a grant
-
--- a new block, and what shows it
-abbrev pub block_told : Side → ℕ → List (Option Layout) → List ℕ → List Record
-block_told side t kinds octets = records.Block (sent_by side) (t % 8) true 0 octets ∷ block_shown (sent_by side) kinds octets
 
 abbrev pub built_told : Visit → Side → ℕ → ℕ → Order → List (Option Layout) → End → List Record
 built_told New side t grant order kinds e = map (records.Of side) (filter is_of_writing (building t grant order e)) ++ block_told side t kinds (block_at t (built t grant order e))
@@ -138,10 +96,6 @@ abbrev pub IsGiven : Call → Type 0
 IsGiven (Bears config keys) = IsConfig config
 IsGiven (Visits maximum) = 1 ≤ maximum
 IsGiven call = Unit {0}
-
--- how PDUs of a new bearer are shown
-abbrev pub with_bearer : BearerConfig → List (Option Layout) → List (Option Layout)
-with_bearer config kinds = with_kind kinds config.channel.lcid config.kind config.rlc_bits config.pdcp_bits
 
 abbrev pub known : Call → Link → Link
 known (Bears config keys) l = record l { kinds = with_bearer config l.kinds }

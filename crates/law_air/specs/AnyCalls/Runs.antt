@@ -10,7 +10,9 @@ use Rattle.air_link.specs.Link.{Link, fresh}
 use Rattle.air_link.specs.Draining.{drain_tti}
 use Rattle.air_link.specs.Lines.{submitting}
 use Rattle.air_link.specs.Ttis.{tti}
-use Rattle.law_air.specs.AnyCalls.Counts.{is_same, ups, loopeds, is_of_run}
+use Rattle.law_air.specs.AnyCalls.Counts.{ups, loopeds}
+use Rattle.bearer_types.specs.Sides.{is_same}
+use Rattle.promises.specs.Records.{is_of_run}
 use Rattle.law_air.specs.AnyCalls.Calls.{Call, after}
 use Rattle.law_air.specs.AnyCalls.Told.{submitted_at, delivered_at, why_refused, accepted}
 

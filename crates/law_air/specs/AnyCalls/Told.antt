@@ -1,6 +1,6 @@
 -- What each call of a link adds to the records, and that these tell which SDUs were submitted and
 -- delivered (docs/formats/JOURNAL.md).
-use Rattle.std.specs.Prelude.{◌≡◌, ℕ, ◌+◌, ◌==◌, Bool, true, false, if◌then◌else◌, Option, Some, None, option_map, List, [], ◌∷◌, ◌++◌, length}
+use Rattle.std.specs.Prelude.{◌≡◌, ℕ, ◌+◌, ◌==◌, Bool, false, if◌then◌else◌, Option, Some, None, option_map, List, [], ◌∷◌, ◌++◌, length}
 use Rattle.std.specs.List.{filter}
 use Rattle.air_record.specs.declared.line.Outcome.{Outcome}
 use Rattle.air_record.specs.declared.record.NoPlace.{NoPlace}
@@ -9,17 +9,21 @@ use Rattle.air_record.specs.declared.record.Record.TheVariants as records
 use Rattle.l2_node.specs.Submitting.{refusal}
 use Rattle.l2_types.specs.declared.side.Side.{Side}
 use Rattle.l2_types.specs.declared.side.Side.TheVariants.{Nb, Ue}
-use Rattle.air_link.specs.Link.{Link, end_of, sent_flows, other}
-use Rattle.air_link.specs.Draining.{intact, drain_tti}
+use Rattle.air_link.specs.Link.{Link, end_of, sent_flows}
+use Rattle.bearer_types.specs.Sides.{other}
+use Rattle.air_link.specs.Draining.{drain_tti}
+use Rattle.air_record.specs.Outcomes.{intact, missed}
 use Rattle.air_link.specs.Lines.{no_place, submitting}
-use Rattle.air_link.specs.Ttis.{sleeps, missed, tti}
-use Rattle.law_air.specs.AnyCalls.Counts.{ups, loopeds, is_of_run, is_of_air, Grows}
+use Rattle.air_link.specs.Ttis.{sleeps, tti}
+use Rattle.law_air.specs.AnyCalls.Counts.{ups, loopeds, Grows}
+use Rattle.promises.specs.Records.{is_of_run, is_of_air}
 use Rattle.air_link.specs.Downlink.{down_order}
 use Rattle.harq.specs.Receiving.{grant_ndi}
 use Rattle.harq.specs.Sending.{ndi_of}
 use Rattle.law_air.specs.AnyCalls.Deeds.{TakesTurn, came_of, Answers, heard_up, up_ordered}
-use Rattle.law_air.specs.AnyCalls.Flights.{IsDown, IsUp}
+use Rattle.promises.specs.Flights.{IsDown, IsUp}
 use Rattle.law_air.specs.AnyCalls.Calls.{Call, after}
+use Rattle.promises.specs.Air.{sleeping}
 
 -- the SDUs submitted at a side, and those delivered there, by LCID
 abbrev pub submitted_at : Side → Link → List ℕ
@@ -50,10 +54,6 @@ pub record Adds (flown : List Record) (l m : Link) : Type 0 where
 -- nothing is told of the air but in a TTI
 abbrev pub CallsAreTold : Type 0
 CallsAreTold = (c : Call) (l : Link) → Adds [] l (after c l)
-
-abbrev pub sleeping : Bool → List Record
-sleeping true = records.Sleep ∷ []
-sleeping false = []
 
 -- a TTI adds its number first; a terminal that sleeps misses both blocks; that of the downlink flies before that of the uplink;
 -- each is as the processes of its sender and of its receiver have it

@@ -1,87 +1,22 @@
 -- What goes up on LCID 0, whose bearer is transparent, is what the blocks carry that arrive: block by block, and in order
 -- (TS 36.321 5.3.3 and 5.4.2, TS 36.322 5.1.1.2).
-use Rattle.std.specs.Prelude.{◌≡◌, ℕ, ◌≤◌, ◌==◌, Bool, true, false, not, ◌&&◌, if◌then◌else◌, Result, Ok, Err, List, [], ◌∷◌, ◌++◌, length, map}
-use Rattle.std.specs.List.{filter, flat_map}
+use Rattle.std.specs.Prelude.{◌≡◌, ℕ, ◌≤◌, Bool, if◌then◌else◌, List, [], ◌∷◌, ◌++◌}
 use Rattle.air_link.specs.Draining.{drain_tti}
 use Rattle.air_link.specs.Lines.{submitting}
 use Rattle.air_link.specs.Link.{Link, end_of}
 use Rattle.air_link.specs.Ttis.{tti}
 use Rattle.air_record.specs.declared.line.Outcome.{Outcome}
-use Rattle.air_record.specs.declared.record.Arrived.{Arrived}
-use Rattle.air_record.specs.declared.record.Arrived.TheVariants.{Got}
 use Rattle.air_record.specs.declared.record.Record.{Record}
-use Rattle.air_record.specs.declared.record.Record.TheVariants as records
-use Rattle.bearer_types.specs.declared.event.Event.TheVariants.{Up}
-use Rattle.l2_node.specs.End.{End, heard_by}
+use Rattle.l2_node.specs.End.{End}
 use Rattle.l2_node.specs.Finding.{has}
 use Rattle.l2_types.specs.declared.side.Side.{Side}
 use Rattle.l2_types.specs.declared.side.Side.TheVariants.{Nb, Ue}
-use Rattle.mac_pdu.specs.declared.fault.MacRefusal.{MacRefusal}
-use Rattle.mac_pdu.specs.declared.item.Direction.{Direction}
-use Rattle.mac_pdu.specs.declared.item.Direction.TheVariants as directions
-use Rattle.mac_pdu.specs.Items.{MacItem, sdu}
-use Rattle.mac_pdu.specs.Reading.{reading}
 use Rattle.law_node.specs.Calls.{Call as EndCall, AreGiven, reached}
 use Rattle.law_air.specs.AnyCalls.Calls.{Call, Forges, after}
-use Rattle.law_air.specs.AnyCalls.Counts.{is_same, is_up}
+use Rattle.bearer_types.specs.Sides.{is_same}
 use Rattle.law_air.specs.AnyCalls.Ends.{IsGiven}
-
--- ---- the SDUs that go up
-
--- the SDU of an `up` or of a `loop` record
-abbrev pub sdu_of : Record → List ℕ
-sdu_of (records.Of side (Up lcid octets)) = octets
-sdu_of (records.Looped lcid octets) = octets
-sdu_of one = []
-
--- those that go up at a side, on a channel
-abbrev pub ups_in : Side → ℕ → List Record → List (List ℕ)
-ups_in side lcid told = map sdu_of (filter (is_up side lcid) told)
-
--- ---- the blocks that arrive
-
--- the block that was told last as it was sent
-abbrev pub sent_last : Record → List ℕ → List ℕ
-sent_last (records.Block direction process fresh version octets) before = octets
-sent_last one before = before
-
--- the record behind it tells what comes of it: got, it arrives, intact and for the first time, where its direction is heard
-abbrev pub is_got : Arrived → Bool
-is_got Got = true
-is_got what = false
-
-abbrev pub heard_at : Direction → Side
-heard_at directions.Down = Ue
-heard_at directions.Up = Nb
-
-abbrev pub got_at : Side → List ℕ → Record → List (List ℕ)
-got_at side sent (records.Air direction what heard) = if is_got what && is_same (heard_at direction) side then sent ∷ [] else []
-got_at side sent one = []
-
--- those that arrive at a side, behind a block that was sent
-abbrev pub arrived : Side → List ℕ → List Record → List (List ℕ)
-arrived side sent [] = []
-arrived side sent (one ∷ told) = got_at side sent one ++ arrived side (sent_last one sent) told
-
--- ---- what they carry on LCID 0
-
--- an SDU, which is a PDU of RLC there, has an octet or more
-abbrev pub carried_in : MacItem → List (List ℕ)
-carried_in (sdu lcid octets) = if lcid == 0 && not (length octets == 0) then octets ∷ [] else []
-carried_in item = []
-
--- a block that can't be read carries nothing
-abbrev pub carried_by : Result (List MacItem) MacRefusal → List (List ℕ)
-carried_by (Ok items) = flat_map carried_in items
-carried_by (Err refusal) = []
-
--- as the side reads it that hears it
-abbrev pub carried : Side → List ℕ → List (List ℕ)
-carried side block = carried_by (reading (heard_by side) block)
-
--- where the side has no bearer of LCID 0 nothing is handed up
-abbrev pub brought : Bool → Side → List (List ℕ) → List (List ℕ)
-brought known side blocks = if known then flat_map (carried side) blocks else []
+use Rattle.promises.specs.Records.{ups_in}
+use Rattle.promises.specs.Zero.{arrived, brought}
 
 -- ---- the laws
 

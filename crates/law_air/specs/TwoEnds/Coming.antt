@@ -9,16 +9,17 @@ use Rattle.bearer_types.specs.declared.config.BearerConfig.{BearerConfig}
 use Rattle.eps_sec.specs.declared.Keys.{Keys}
 use Rattle.l2_types.specs.declared.side.Side.{Side}
 use Rattle.law_node.specs.Calls.{Add, after as after_call}
-use Rattle.l2_node.specs.End.{sent_by}
+use Rattle.bearer_types.specs.Sides.{sent_by}
 use Rattle.law_air.specs.AnyCalls.Runs.{Step, step}
 use Rattle.law_deliver.specs.AmFlow.Air.{Air, outset}
-use Rattle.law_rlc.specs.AmArrival.Lives.{Happening}
+use Rattle.law_words.specs.Arrivals.{Happening}
 use Rattle.law_deliver.specs.AmChannel.Lives.{AirStep}
 use Rattle.um_losses.specs.Names.{Place}
 use Rattle.um_losses.specs.Told.{told_in}
 use Rattle.law_deliver.specs.UmGaps.Whats.{whats}
 use Rattle.law_air.specs.TwoEnds.Arrival.{told_by_step}
-use Rattle.law_air.specs.TwoEnds.Going.{handed_in, looped_at, sets, TellAlone, GoesByAir, IsStepSince}
+use Rattle.law_air.specs.TwoEnds.Going.{handed_in, sets, TellAlone, GoesByAir, IsStepSince}
+use Rattle.promises.specs.Flows.{looped_at}
 use Rattle.law_air.specs.TwoEnds.Lives.{IsAtRest}
 use Rattle.law_air.specs.TwoEnds.Shown.{IsShown, anew}
 

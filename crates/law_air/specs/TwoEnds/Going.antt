@@ -1,31 +1,29 @@
 -- What a link plays are steps of its two ends, in which only blocks come that the other end built,
 -- and both of them move in a handover (TS 36.321 5.3, 5.4, 5.9).
-use Rattle.std.specs.Prelude.{◌≡◌, ℕ, ◌≤◌, ◌==◌, Bool, false, if◌then◌else◌, List, [], ◌++◌, map}
-use Rattle.std.specs.List.{filter}
+use Rattle.std.specs.Prelude.{◌≡◌, ℕ, ◌≤◌, ◌==◌, Bool, false, if◌then◌else◌, List, [], ◌++◌}
 use Rattle.air_link.specs.Link.{Link, end_of}
 use Rattle.air_record.specs.declared.record.Record.{Record}
 use Rattle.bearer_types.specs.Configs.{IsConfig}
-use Rattle.l2_node.specs.End.{sent_by}
+use Rattle.bearer_types.specs.Sides.{sent_by, is_same}
 use Rattle.l2_node.specs.Submitting.{refusal}
 use Rattle.l2_types.specs.declared.side.Side.{Side}
-use Rattle.l2_types.specs.declared.side.Side.TheVariants.{Nb, Ue}
 use Rattle.law_node.specs.Telling.{told_over}
 use Rattle.law_air.specs.AnyCalls.Calls.{Call, Bears, Discards, Visits, Forges}
-use Rattle.law_air.specs.AnyCalls.Counts.{is_same, is_looped}
-use Rattle.law_air.specs.AnyCalls.Ends.{told_by}
+use Rattle.promises.specs.Records.{told_by}
 use Rattle.law_air.specs.AnyCalls.Runs.{Step, Tti, Drains, Submit, Calls, step}
-use Rattle.law_air.specs.AnyCalls.Zero.{sdu_of}
 use Rattle.law_deliver.specs.AmFlow.Air.{Air}
-use Rattle.law_rlc.specs.AmArrival.Lives.{Happening}
+use Rattle.law_words.specs.Arrivals.{Happening}
 use Rattle.law_deliver.specs.AmChannel.Arrival.{happened}
 use Rattle.law_deliver.specs.AmChannel.Delivery.{accepted, was_submitted, SetNone}
 use Rattle.law_deliver.specs.AmChannel.Lives.{AirStep, AreLiving, lives, end_at, all_calls}
-use Rattle.law_air.specs.TwoEnds.Arrival.{tells_in, told_by_step}
+use Rattle.law_air.specs.TwoEnds.Arrival.{told_by_step}
+use Rattle.promises.specs.Arrival.{tells_in}
 use Rattle.um_losses.specs.Names.{Place}
 use Rattle.um_losses.specs.Told.{told_in}
 use Rattle.law_deliver.specs.UmGaps.Whats.{whats}
 use Rattle.law_air.specs.TwoEnds.On.{IsOn}
 use Rattle.law_air.specs.TwoEnds.Shown.{IsShown, anew}
+use Rattle.promises.specs.Flows.{looped_at}
 
 -- ---- the SDUs that a side submits on a channel in a step
 
@@ -35,14 +33,6 @@ handed_in side n (Tti up_grant up down_grant down) k = []
 handed_in side n (Drains grant) k = []
 handed_in side n (Submit s lcid sdu) k = if is_same s side then accepted (refusal lcid sdu (end_of s k)) (lcid == n) sdu else []
 handed_in side n (Calls c) k = []
-
--- those that the test loop returns at the terminal, as records tell
-abbrev pub loops_in : ℕ → List Record → List (List ℕ)
-loops_in n told = map sdu_of (filter (is_looped n) told)
-
-abbrev pub looped_at : Side → ℕ → List Record → List (List ℕ)
-looped_at Nb n told = []
-looped_at Ue n told = loops_in n told
 
 -- ---- a step sets a discard timer on a channel
 

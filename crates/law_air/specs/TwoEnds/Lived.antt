@@ -18,10 +18,11 @@ use Rattle.law_node.specs.Calls.{Add, after as after_call}
 use Rattle.law_node.specs.Holding.{flow}
 use Rattle.law_air.specs.AnyCalls.Runs.{Step, Run, step, goes, goes_on}
 use Rattle.law_deliver.specs.AmFlow.Air.{outset}
-use Rattle.law_rlc.specs.AmArrival.Lives.{Happening}
+use Rattle.law_words.specs.Arrivals.{Happening}
 use Rattle.law_air.specs.TwoEnds.Arrival.{told_by_step}
 use Rattle.law_air.specs.TwoEnds.Coming.{none_yet}
-use Rattle.law_air.specs.TwoEnds.Going.{handed_in, looped_at, sets, TellAlone, GoesByAir, IsStepSince}
+use Rattle.law_air.specs.TwoEnds.Going.{handed_in, sets, TellAlone, GoesByAir, IsStepSince}
+use Rattle.promises.specs.Flows.{looped_at}
 use Rattle.law_air.specs.TwoEnds.Lives.{IsAtRest}
 
 -- an end has an acknowledged bearer of the channel

@@ -8,12 +8,13 @@ use Rattle.l2_types.specs.declared.side.Side.{Side}
 use Rattle.law_node.specs.Calls.{Move, after}
 use Rattle.law_node.specs.Telling.{told_of}
 use Rattle.law_air.specs.AnyCalls.Calls.{HandsOver}
-use Rattle.law_air.specs.AnyCalls.Ends.{told_by}
+use Rattle.promises.specs.Records.{told_by}
 use Rattle.law_air.specs.AnyCalls.Runs.{Step, Calls, step}
 use Rattle.law_deliver.specs.AmFlow.Air.{Air, outset}
 use Rattle.law_deliver.specs.AmChannel.Lives.{AirStep, InLife, Moves, end_at}
-use Rattle.law_air.specs.TwoEnds.Arrival.{tells_in}
-use Rattle.law_air.specs.TwoEnds.Going.{looped_at, GoesByAir, GoesOn, IsStepSince}
+use Rattle.promises.specs.Arrival.{tells_in}
+use Rattle.law_air.specs.TwoEnds.Going.{GoesByAir, GoesOn, IsStepSince}
+use Rattle.promises.specs.Flows.{looped_at}
 use Rattle.law_air.specs.TwoEnds.On.{IsOn}
 
 -- both ends stay in their cell

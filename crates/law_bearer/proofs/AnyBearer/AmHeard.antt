@@ -31,8 +31,8 @@ use Rattle.rlc_pdu.specs.declared.Turned.{Turned}
 use Rattle.rlc_pdu.specs.declared.RlcRefusal.{RlcRefusal}
 use Rattle.rlc_pdu.specs.Pdus.{AmdPdu, AcknowledgedPdu, Payload, Status}
 use Rattle.rlc_pdu.specs.Reading.{am_at}
-use Rattle.law_bearer.specs.AnyBearer.Order.{Sequences, an_up, of_an_sdu, of_an_arrived_sdu, of_a_data_pdu, of_a_status, of_a_pdu, of_an_expiry, of_discards, in_a_tti, at_the_end}
-use Rattle.law_bearer.specs.AnyBearer.Sequences.{just, ◌then◌, maybe, many}
+use Rattle.law_words.specs.BearerOrder.{OfEvents, an_up, of_an_sdu, of_an_arrived_sdu, of_a_data_pdu, of_a_status, of_a_pdu, of_an_expiry, of_discards, in_a_tti, at_the_end}
+use Rattle.law_words.specs.Sequences.{just, ◌then◌, maybe, many}
 use Rattle.law_bearer.proofs.AnyBearer.Sequences.{both, many_none, many_more, Behind, behind, behind_none, behind_then, behind_many, behind_nothing}
 use Rattle.law_bearer.proofs.AnyBearer.Heard.{heard_own, maybe_if, as_of, heard_in, applies_none, IsSome, tick_in, some_in, discards_in, IsDropped, kept_in}
 
@@ -156,7 +156,7 @@ counts_kept l Poll s q = q
 counts_kept l Reorder s q = q
 counts_kept l Prohibit s q = q
 
-told_in : (S : Sequences) (o : Option (List Event)) → IfSome o S → maybe S (told_of o)
+told_in : (S : OfEvents) (o : Option (List Event)) → IfSome o S → maybe S (told_of o)
 told_in S None p = inl refl
 told_in S (Some told) p = inr p
 

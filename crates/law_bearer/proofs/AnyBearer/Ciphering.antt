@@ -17,7 +17,8 @@ use Rattle.bearer_pdcp.specs.Ends.{Ends, begun, bearer_of, sends}
 use Rattle.bearer.specs.declared.flow.Flow.{Flow}
 use Rattle.bearer.specs.Bearer.{flow_of}
 use Rattle.law_bearer.specs.AnyBearer.Calls.{Call, after, after_all, Step, Calls, Restart, goes, run, reached, ends}
-use Rattle.law_bearer.specs.AnyBearer.Ciphering.{ciphered_of, ciphered_by, ciphered, ShareText, AllShareText, restarts, cipher_key, AreDistinct, IsOneOf, IsOfBearer}
+use Rattle.law_bearer.specs.AnyBearer.Ciphering.{ciphered_of, ciphered_by, ciphered, ShareText, AllShareText, restarts, cipher_key, IsOneOf, IsOfBearer}
+use Rattle.law_words.specs.Lists.{AreDistinct}
 use Rattle.law_bearer.specs.AnyBearer.Stream.{takes, taken, counts}
 use Rattle.law_bearer.specs.AnyBearer.Texts.{keys_after, IsUnder}
 use Rattle.law_bearer.proofs.AnyBearer.Flows.{history, all_doings, run_more, none_steps}

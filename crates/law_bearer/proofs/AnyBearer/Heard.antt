@@ -30,8 +30,8 @@ use Rattle.rlc_pdu.specs.Pdus.{UmdPdu}
 use Rattle.rlc_um.specs.Receiver.{State as UmReceiver, landed as um_landed, landing, turning, arrival, after_landing as um_after_landing, expiring, expired as um_expired, all_joined}
 use Rattle.rlc_um.specs.Window.{number_of}
 use Rattle.rlc_um.specs.Joined.{Parts, parts_of}
-use Rattle.law_bearer.specs.AnyBearer.Order.{Sequences, an_up, of_an_sdu, of_an_arrived_sdu, of_a_data_pdu, of_a_pdu, of_an_expiry, a_discard, of_discards, in_a_tti, at_the_end}
-use Rattle.law_bearer.specs.AnyBearer.Sequences.{just, ◌then◌, maybe, many}
+use Rattle.law_words.specs.BearerOrder.{OfEvents, an_up, of_an_sdu, of_an_arrived_sdu, of_a_data_pdu, of_a_pdu, of_an_expiry, a_discard, of_discards, in_a_tti, at_the_end}
+use Rattle.law_words.specs.Sequences.{just, ◌then◌, maybe, many}
 use Rattle.law_bearer.proofs.AnyBearer.Sequences.{both, none, many_none, many_more, Behind, behind, behind_none, behind_as, behind_many, behind_nothing}
 
 pub maybe_if : (b : Bool) (event : Event) → maybe (just event) (if b then event ∷ [] else [])
@@ -39,7 +39,7 @@ maybe_if true event = inr refl
 maybe_if false event = inl refl
 
 -- the same of another number
-pub as_of : (S : ℕ → Sequences) (l m : ℕ) (told : List Event) → l ≡ m → S l told → S m told
+pub as_of : (S : ℕ → OfEvents) (l m : ℕ) (told : List Event) → l ≡ m → S l told → S m told
 as_of S l m told e p = subst (λ (n : ℕ). S n told) e p
 
 -- ---- PDCP tells its own channel
@@ -221,7 +221,7 @@ pub um_expiry_in : (l : ℕ) (clock : Clock) (s : UmBearer) → s.pdcp.lcid ≡ 
 unfolding um_expiry
 um_expiry_in l clock s q = um_clock_in l clock s q
 
-um_told_in : (S : Sequences) (o : Option (List Event)) → IfSome o S → maybe S (um_told_of o)
+um_told_in : (S : OfEvents) (o : Option (List Event)) → IfSome o S → maybe S (um_told_of o)
 um_told_in S None p = inl refl
 um_told_in S (Some told) p = inr p
 

@@ -26,8 +26,8 @@ use Rattle.rlc_am_tx.specs.Need.{hungry}
 use Rattle.rlc_pdu.specs.declared.Taken.{Taken}
 use Rattle.rlc_pdu.specs.declared.Taken.TheVariants.{Piece, Idle, Small, Shut, Held, Stopped}
 use Rattle.rlc_um.specs.Sender.{is_hungry, taken as um_taken}
-use Rattle.law_bearer.specs.AnyBearer.Order.{Sequences, a_status, a_report, a_take, a_data_pdu, a_wait, in_a_block}
-use Rattle.law_bearer.specs.AnyBearer.Sequences.{just, ◌then◌, ◌or◌, maybe, many}
+use Rattle.law_words.specs.BearerOrder.{OfEvents, a_status, a_report, a_take, a_data_pdu, a_wait, in_a_block}
+use Rattle.law_words.specs.Sequences.{just, ◌then◌, ◌or◌, maybe, many}
 use Rattle.law_bearer.proofs.AnyBearer.Sequences.{both, none, many_none, many_both, many_one, Behind, behind_none}
 use Rattle.law_bearer.proofs.AnyBearer.Heard.{maybe_if, as_of}
 
@@ -50,7 +50,7 @@ sdus_in lcid kind wire protection [] n [] = many_none (a_take lcid)
 sdus_in lcid kind wire protection [] n (w ∷ ws) = many_one (a_take lcid) (events.Take lcid (Some n) (length w.sdu) ∷ []) (Some n, (length w.sdu, refl))
 sdus_in lcid kind wire protection (x ∷ xs) n news = many_one (a_take lcid) (events.Take lcid (Some x.count) (length x.octets) ∷ []) (Some x.count, (length x.octets, refl))
 
-abbrev Fed : ℕ → Sequences
+abbrev Fed : ℕ → OfEvents
 Fed l = maybe (a_report l) then many (a_take l)
 
 first_in : (lcid : ℕ) (kind wire : PdcpKind) (protection : Protection) (owed : Option (List ℕ)) (again : List Sent) (n : ℕ) (news : List Waiting)
@@ -111,7 +111,7 @@ behind_fed l told a all f k = record {
   };
 }
 
-behind_joined : (told a : List Event) (A : Sequences) (all : List Event) → many A a → Behind (told ++ a) (many A) all → Behind told (many A) all
+behind_joined : (told a : List Event) (A : OfEvents) (all : List Event) → many A a → Behind (told ++ a) (many A) all → Behind told (many A) all
 behind_joined told a A all m k = record { rest = a ++ k.rest; all_are = k.all_are ∙ append_assoc told a k.rest; is_rest = many_both A a k.rest m k.is_rest }
 
 -- ---- an unacknowledged bearer
@@ -125,7 +125,7 @@ unfolding after_taking
 um_kept l [] size held f q = q
 um_kept l (o ∷ os) size held f q = um_same (is_hungry f.tx size held) f (um_feeds os size held (um_fed f)) l q (um_kept l os size held (um_fed f) q)
 
-um_if : (S : Sequences) (told : List Event) (b : Bool) (f g : Feeding) → Behind told S f.events → Behind told S g.events → Behind told S (if b then g else f).events
+um_if : (S : OfEvents) (told : List Event) (b : Bool) (f g : Feeding) → Behind told S f.events → Behind told S g.events → Behind told S (if b then g else f).events
 um_if S told true f g p q = q
 um_if S told false f g p q = p
 
@@ -143,7 +143,7 @@ um_fed_in l (o ∷ os) size held f q =
     um_if (Fed l) f.events (is_hungry f.tx size held) f next (behind_none f.events (Fed l) (none_fed l))
     (behind_fed l f.events (taking_told f.pdcp) next.events (taking_in l f.pdcp q) (um_sdus l os size held (um_fed f) (kept_by l f.pdcp q) (no_owed f.pdcp)))
 
-abbrev Ended : ℕ → Sequences
+abbrev Ended : ℕ → OfEvents
 Ended l = maybe (a_data_pdu l or a_wait l)
 
 sent_in : (l sn : ℕ) (told : List Event) → maybe (just (events.Start l Poll)) told → a_data_pdu l (events.Send l how.New sn ∷ told)
@@ -194,7 +194,7 @@ unfolding after_taking
 am_kept l [] size held w q = q
 am_kept l (o ∷ os) size held w q = am_same (hungry w.tx size held) w (am_feeds os size held (am_fed w)) l q (am_kept l os size held (am_fed w) q)
 
-am_if : (S : Sequences) (told : List Event) (b : Bool) (f g : Work) → Behind told S f.events → Behind told S g.events → Behind told S (if b then g else f).events
+am_if : (S : OfEvents) (told : List Event) (b : Bool) (f g : Work) → Behind told S f.events → Behind told S g.events → Behind told S (if b then g else f).events
 am_if S told true f g p q = q
 am_if S told false f g p q = p
 

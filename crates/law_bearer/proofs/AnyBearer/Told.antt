@@ -20,8 +20,9 @@ use Rattle.bearer_types.specs.declared.BearerConfig.{BearerConfig}
 use Rattle.eps_sec.specs.declared.Keys.{Keys}
 use Rattle.rlc_um.specs.Transparent.{taken as tm_taken}
 use Rattle.law_bearer.specs.AnyBearer.Calls.{Step, reached}
-use Rattle.law_bearer.specs.AnyBearer.Order.{an_up, a_status, a_report, a_take, a_data_pdu, a_wait, in_a_block, of_an_sdu, of_an_arrived_sdu, of_a_pdu, of_an_expiry, of_discards, in_a_tti, at_the_end, is_signalling, IsToldInOrder}
-use Rattle.law_bearer.specs.AnyBearer.Sequences.{just, ◌then◌, ◌or◌, maybe, many}
+use Rattle.law_bearer.specs.AnyBearer.Order.{is_signalling, IsToldInOrder}
+use Rattle.law_words.specs.BearerOrder.{an_up, a_status, a_report, a_take, a_data_pdu, a_wait, in_a_block, of_an_sdu, of_an_arrived_sdu, of_a_pdu, of_an_expiry, of_discards, in_a_tti, at_the_end}
+use Rattle.law_words.specs.Sequences.{just, ◌then◌, ◌or◌, maybe, many}
 use Rattle.law_bearer.proofs.AnyBearer.AmHeard.{arriving_in as am_pdu, expiry_in as am_expiry, ticked_in as am_tick, stopping_in as am_stop}
 use Rattle.law_bearer.proofs.AnyBearer.Between.{IsBetween, reached_between}
 use Rattle.law_bearer.proofs.AnyBearer.Heard.{um_arrived_in, um_expiry_in, um_ticking_in, um_stopping_in}

@@ -14,6 +14,7 @@ use Rattle.bearer.specs.declared.flow.Flow.{Flow}
 use Rattle.bearer.specs.Bearer.{flow_of}
 use Rattle.law_bearer.specs.AnyBearer.Calls.{Step, Calls, Restart, goes, ends}
 use Rattle.law_bearer.specs.AnyBearer.Stream.{takes_in}
+use Rattle.law_words.specs.Lists.{AreDistinct}
 
 -- ---- the texts of a bearer, each with what it is ciphered with
 
@@ -55,11 +56,6 @@ cipher_key Tm keys = keys.user.octets
 cipher_key Srb keys = keys.rrc.octets
 cipher_key Um keys = keys.user.octets
 cipher_key Am keys = keys.user.octets
-
--- no two are the same
-abbrev pub AreDistinct : List (List ℕ) → Type 0
-AreDistinct [] = Unit {0}
-AreDistinct (key ∷ keys) = AllByRecursion (λ other. key ≡ other → ⊥) keys × AreDistinct keys
 
 abbrev pub IsOneOf : List ℕ → List (List ℕ) → Type 0
 IsOneOf key [] = ⊥

@@ -18,7 +18,8 @@ use Rattle.law_bearer.specs.AmBearer.Lives.{restarts}
 use Rattle.law_bearer.proofs.AmBearer.Calls.{calls_are_deeds}
 use Rattle.law_bearer.proofs.AmBearer.Lives.{restarts_are_deeds}
 use Rattle.law_deliver.specs.AmFlow.Pair.{called}
-use Rattle.law_deliver.specs.AmFlow.Ups.{is_on, told_on, ups_in as ups_of, ups_on, tells_in, goes_up_in}
+use Rattle.law_deliver.specs.AmFlow.Ups.{ups_in as ups_of, ups_on, tells_in, goes_up_in}
+use Rattle.promises.specs.Events.{is_on, told_on}
 use Rattle.law_deliver.proofs.AmFlow.Events.{own_told, all_on, stopping_on, ups_over}
 use Rattle.law_deliver.proofs.AmFlow.Sending.{is_called}
 

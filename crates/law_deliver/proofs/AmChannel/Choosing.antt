@@ -12,7 +12,7 @@ use Rattle.pdcp_pdu.specs.declared.pdu.PdcpKind.{PdcpKind}
 use Rattle.pdcp_sec.specs.Protection.{Protection}
 use Rattle.pdcp_tx.specs.State.{State, Offer, start, offers, owed_offers, again_offer, new_offers, submitted, took, took_owed, took_again, took_new, confirmed, reported, reported_from, fms_count, after_late}
 use Rattle.pdcp_tx.specs.Runs.{Submit, Take, Confirm, Report, Owe, Tick, Late, IsOrdered}
-use Rattle.law_deliver.specs.AmChannel.Leaving.{were_taken, chosen}
+use Rattle.promises.specs.Taken.{were_taken, chosen}
 
 -- ---- lists
 

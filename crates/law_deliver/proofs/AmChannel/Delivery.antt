@@ -29,7 +29,7 @@ use Rattle.rlc_am_rx.specs.State.{fresh as fresh_receiver}
 use Rattle.rlc_am_tx.specs.Machine.{start as start_sender}
 use Rattle.law_bearer.specs.AmBearer.Lives.{other, BeginsAs}
 use Rattle.law_bearer.proofs.AmBearer.Lives.{first_life_begins, ends_begin_alike}
-use Rattle.law_rlc.specs.AmPair.Sdus.{IsFront}
+use Rattle.law_words.specs.Lists.{IsFront, IsSubsequence}
 use Rattle.law_deliver.specs.AmFlow.Air.{Begins, outset}
 use Rattle.law_deliver.specs.AmFlow.Flows.{BeginsLife}
 use Rattle.law_deliver.specs.AmFlow.Pair.{Pair, outset as pair_outset}
@@ -38,7 +38,7 @@ use Rattle.law_deliver.proofs.AmFlow.Air.{begins_so}
 use Rattle.law_deliver.proofs.AmFlow.Stations.{run_on, given_on}
 use Rattle.law_deliver.proofs.AmFlow.Ups.{Stands, stands, come_between, between_at}
 use Rattle.law_deliver.specs.AmDelivery.Delivery.{AreBothEnds}
-use Rattle.law_rlc.specs.AmArrival.Lives.{Happening, Account, no_account, account}
+use Rattle.law_words.specs.Arrivals.{Happening, Account, no_account, account}
 use Rattle.law_deliver.specs.AmDelivery.Arrival.{down_in, up_in, IsWhatCame}
 use Rattle.law_deliver.specs.AmChannel.Arrival.{happened, told_from}
 use Rattle.law_deliver.proofs.AmDelivery.Laws.{delivers_what_was_taken, what_came_is_delivered}
@@ -49,14 +49,13 @@ use Rattle.law_deliver.proofs.AmChannel.Bearers.{IsSteady}
 use Rattle.law_bearer.proofs.AnyBearer.Streams.{am_begins, begun_tx}
 use Rattle.bearer_pdcp.specs.Ends.{Ends, begun as begun_ends, bearer_of, sends}
 use Rattle.pdcp_sec.specs.Protection.{Protection, protection_of}
-use Rattle.law_deliver.specs.AmChannel.Leaving.{were_taken, chosen, taken_of}
+use Rattle.promises.specs.Taken.{were_taken, chosen, taken_of}
 use Rattle.law_deliver.proofs.AmChannel.Leaving.{all_chosen}
 use Rattle.law_deliver.proofs.AmChannel.Ends.{all_leaving, IsCall, are_calls, GoesAll, all_go, all_ups, all_discards}
 use Rattle.law_deliver.proofs.AmChannel.Pairs.{own, all_does, ups_in_at, news_in_at, lives_go}
 use Rattle.law_deliver.proofs.AmChannel.Submitted.{submitted_is, steps_unset}
 use Rattle.law_deliver.proofs.AmChannel.Unset.{none_discarded}
 use Rattle.law_deliver.proofs.AmChannel.Waiting.{news_leave, front_thin, all_taken}
-use Rattle.law_pdcp.specs.OneEnd.Lists.{IsSubsequence}
 use Rattle.law_pdcp.proofs.OneEnd.Lists.{thinner}
 use Rattle.law_deliver.proofs.AmChannel.Walk.{BothMatch, WalksOn, walks_on}
 

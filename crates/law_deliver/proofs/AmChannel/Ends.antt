@@ -16,9 +16,10 @@ use Rattle.law_node.specs.Telling.{told_of, told_over}
 use Rattle.law_deliver.specs.AmFlow.Air.{Block, Station, Air, Act, Calls, Comes, Goes, AtNb, AtUe, Passes, calls, comes, does, outset, IsDone}
 use Rattle.law_deliver.specs.AmFlow.Channels.{calls_of, GoesOnInLife}
 use Rattle.bearer_types.specs.declared.event.Event.TheVariants as events
-use Rattle.law_deliver.specs.AmFlow.Ups.{is_on, ups_in, ups_on, discards_in, discards_on, of_calls, tells_in, tells_over, goes_up_in, discarded_in, IsNew}
+use Rattle.law_deliver.specs.AmFlow.Ups.{ups_in, ups_on, of_calls, tells_in, tells_over, goes_up_in, discarded_in, IsNew}
+use Rattle.promises.specs.Events.{is_on, discards_in, discards_on}
 use Rattle.law_deliver.proofs.AmFlow.Events.{picked_as, picked_over}
-use Rattle.law_deliver.specs.AmChannel.Leaving.{leaving_in}
+use Rattle.promises.specs.Taken.{leaving_in}
 use Rattle.law_deliver.proofs.AmFlow.Channels.{call_by}
 use Rattle.law_deliver.proofs.AmFlow.Stations.{run_on, come_sound}
 use Rattle.law_deliver.proofs.AmFlow.Ups.{between_at, come_between, Stands, stands_more, tells_of, the_end}

@@ -43,7 +43,7 @@ use Rattle.law_deliver.proofs.AmDelivery.Gives.{takes_tell}
 use Rattle.law_deliver.specs.AmFlow.Pair.{called}
 use Rattle.law_deliver.proofs.AmFlow.Events.{OfHearing, none_arriving, none_expiring, none_ending}
 use Rattle.law_deliver.proofs.AmFlow.Sending.{is_called}
-use Rattle.law_deliver.specs.AmChannel.Leaving.{leaving_in, were_taken, chosen}
+use Rattle.promises.specs.Taken.{leaving_in, were_taken, chosen}
 use Rattle.law_deliver.proofs.AmChannel.Bearers.{IsSteady, called_steady, restarts_steady}
 use Rattle.law_deliver.proofs.AmChannel.Choosing.{yes, no, chosen_yes, chosen_no, marked, marks, Takes, WasReached, reached_more, takes_told}
 use Rattle.law_deliver.proofs.AmChannel.Ends.{marked_in, all_leaving, leaving_off}

@@ -12,7 +12,8 @@ use Rattle.harq.specs.declared.sender.Visit.{Visit}
 use Rattle.harq.specs.declared.sender.Visit.TheVariants.{New, Resend, Silent}
 use Rattle.l2_bits.specs.declared.fault.SubmitRefusal.{SubmitRefusal}
 use Rattle.l2_node.specs.Building.{visit, visited}
-use Rattle.l2_node.specs.End.{End, heard_by, sent_by}
+use Rattle.l2_node.specs.End.{End}
+use Rattle.bearer_types.specs.Sides.{heard_by, sent_by}
 use Rattle.l2_node.specs.Finding.{has}
 use Rattle.l2_node.specs.Submitting.{refusal}
 use Rattle.l2_node.specs.Writing.{new_block}
@@ -21,9 +22,10 @@ use Rattle.law_node.specs.Calls.{Turn, Call, SetVisits, SetReports, Add, Submit,
 use Rattle.law_node.specs.Holding.{flow}
 use Rattle.pdcp_pdu.specs.Kinds.{bits_of}
 use Rattle.prioritise.specs.Channels.{has as has_channel}
-use Rattle.law_rlc.specs.AmArrival.Lives.{Happening}
+use Rattle.law_words.specs.Arrivals.{Happening}
 use Rattle.law_deliver.specs.AmFlow.Air.{Block, Station, Act, Calls, Comes, Goes, built_at, IsVisiting, IsCalling, IsDone, HasCome}
-use Rattle.law_deliver.specs.AmFlow.Channels.{carried, only, share_of, held_of, takes_of, submits_of, calls_of, written_by, GoesOnInLife}
+use Rattle.law_deliver.specs.AmFlow.Channels.{only, share_of, held_of, takes_of, submits_of, calls_of, written_by, GoesOnInLife}
+use Rattle.promises.specs.Pdus.{carried}
 use Rattle.law_rlc.specs.AmPair.Flow.{Copy}
 use Rattle.law_deliver.specs.AmFlow.Pair.{Sent, BearerEnd, Pair, Deed, Calls as CallsBearer, DataComes, StatusComes, DataGoes, StatusGoes, Near, Far, called, data_comes, status_comes, does, happens}
 use Rattle.law_deliver.specs.AmFlow.Ups.{tells_over}
@@ -32,7 +34,8 @@ use Rattle.law_deliver.proofs.AmFlow.Channels.{blocks_carry_pdus}
 use Rattle.law_deliver.proofs.AmFlow.Runs.{near_steps, far_steps, data_call, status_call, all_calls_in, calls_in as deed_calls}
 use Rattle.law_deliver.proofs.AmFlow.Stations.{come_side, calls_by as block_calls}
 use Rattle.law_deliver.proofs.AmFlow.Ups.{Stands, tells_of}
-use Rattle.law_deliver.specs.AmDelivery.Arrival.{gives, writing, bringing, said_in as bearer_says, heard_in as bearer_hears, said_by, heard_by as bearers_hear, down_in, up_in}
+use Rattle.law_deliver.specs.AmDelivery.Arrival.{said_in as bearer_says, heard_in as bearer_hears, said_by, heard_by as bearers_hear, down_in, up_in}
+use Rattle.promises.specs.Given.{gives, writing, bringing}
 use Rattle.law_deliver.specs.AmDelivery.Lives.{over, calls_in}
 use Rattle.law_deliver.specs.AmChannel.Arrival.{built_in, said_in, heard_in, said_over, heard_over}
 use Rattle.law_deliver.specs.AmChannel.Lives.{brought, calls_by}

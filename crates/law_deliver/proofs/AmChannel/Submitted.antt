@@ -8,12 +8,14 @@ use Rattle.harq.specs.declared.sender.Visit.{Visit}
 use Rattle.harq.specs.declared.sender.Visit.TheVariants.{New, Resend, Silent}
 use Rattle.l2_bits.specs.declared.fault.SubmitRefusal.{SubmitRefusal}
 use Rattle.l2_node.specs.Building.{visit, visited}
-use Rattle.l2_node.specs.End.{End, heard_by}
+use Rattle.l2_node.specs.End.{End}
+use Rattle.bearer_types.specs.Sides.{heard_by}
 use Rattle.l2_node.specs.Submitting.{refusal}
 use Rattle.law_node.specs.Bearers.{keys_in}
 use Rattle.law_node.specs.Calls.{Turn, Call, SetVisits, SetReports, Add, Submit, SetDiscard, Tick, TickBuckets, Visits, Grants, Granted, Assigned, Pass, Receive, Expire, Move, after}
 use Rattle.prioritise.specs.Channels.{has as has_channel}
-use Rattle.law_deliver.specs.AmFlow.Channels.{carried, only, share_of, held_of, takes_of, submits_of, calls_of}
+use Rattle.law_deliver.specs.AmFlow.Channels.{only, share_of, held_of, takes_of, submits_of, calls_of}
+use Rattle.promises.specs.Pdus.{carried}
 use Rattle.law_deliver.specs.AmChannel.Delivery.{accepted, submitted_in, was_submitted, steps_in, steps_over, sets_discard, SetNone}
 use Rattle.law_deliver.proofs.AmChannel.Acting.{as_steps}
 use Rattle.law_deliver.proofs.AmChannel.Ends.{all_more}

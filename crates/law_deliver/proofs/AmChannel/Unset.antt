@@ -52,7 +52,8 @@ use Rattle.rlc_am_tx.specs.Machine.{expiry as poll_expiry, settles as sender_set
 use Rattle.rlc_am_rx.specs.Machine.{reorder_answer, prohibit_answer}
 use Rattle.rlc_pdu.specs.declared.Expired.{Expired}
 use Rattle.rlc_pdu.specs.declared.Expired.TheVariants.{Done, NotRunning}
-use Rattle.law_deliver.specs.AmFlow.Ups.{discards_in, discards_on, discarded_in}
+use Rattle.law_deliver.specs.AmFlow.Ups.{discarded_in}
+use Rattle.promises.specs.Events.{discards_in, discards_on}
 use Rattle.law_deliver.proofs.AmChannel.Ends.{all_discards}
 use Rattle.law_deliver.proofs.AmChannel.Waiting.{ticks_pdcp}
 

@@ -16,13 +16,14 @@ use Rattle.bearer_types.specs.declared.event.Event.TheVariants.{Discard}
 use Rattle.l2_types.specs.declared.event.Clock.{Clock}
 use Rattle.l2_types.specs.declared.event.Clock.TheVariants.{Poll, Reorder, Prohibit}
 use Rattle.pdcp_tx_store.specs.Waiting.{Waits}
-use Rattle.law_pdcp.specs.OneEnd.Lists.{IsSubsequence}
+use Rattle.law_words.specs.Lists.{IsSubsequence}
 use Rattle.law_pdcp.proofs.OneEnd.Lists.{without_first, behind}
 use Rattle.pdcp_tx.specs.State.{State as Sending, is_overdue, after_late, ticked as pdcp_ticked}
 use Rattle.rlc_am_tx.specs.Machine.{settles}
 use Rattle.law_bearer.specs.AmBearer.Lives.{restarts}
 use Rattle.law_deliver.specs.AmFlow.Pair.{called}
-use Rattle.law_deliver.specs.AmFlow.Ups.{discards_in, discards_on, discarded_in}
+use Rattle.law_deliver.specs.AmFlow.Ups.{discarded_in}
+use Rattle.promises.specs.Events.{discards_in, discards_on}
 use Rattle.law_deliver.proofs.AmFlow.Sending.{is_called}
 use Rattle.law_deliver.proofs.AmChannel.Bearers.{IsSteady, called_steady, restarts_steady}
 use Rattle.law_deliver.proofs.AmChannel.Ends.{all_discards}

@@ -6,11 +6,11 @@ use Rattle.law_rlc.specs.AmPair.Flow.{Flow as Rlc, Step as RlcStep, happens as r
 use Rattle.law_pdcp.specs.AmPair.Flow.{Flow as Pdcp, with_count, outset as pdcp_outset}
 use Rattle.law_pdcp.proofs.AmPair.Sound.{IsSound as IsSoundPdcp}
 use Rattle.law_pdcp.proofs.AmPair.Laws.{run_sound, outset_sound}
-use Rattle.law_rlc.specs.AmArrival.Passing.{Passing, Told, nothing_told, told_in}
+use Rattle.law_words.specs.Passing.{Passing, Told, nothing_told, with_passings}
 use Rattle.law_rlc.specs.AmArrival.Arrival.{passing as passing_in, passed}
-use Rattle.law_rlc.specs.AmArrival.Lives.{Given, Happening, Gives, Passes, Account, accounted, account, is_count}
+use Rattle.law_words.specs.Arrivals.{Given, Happening, Gives, Passes, Account, accounted, account, is_count}
 use Rattle.law_rlc.proofs.AmArrival.Telling.{told_then}
-use Rattle.law_deliver.specs.AmDelivery.Arrival.{passing}
+use Rattle.promises.specs.Given.{passing}
 use Rattle.law_deliver.proofs.AmDelivery.Joined.{Way, IsWay, rlc, pdcp}
 
 pub sound_pdcp : (w : Way) → IsWay w → IsSoundPdcp w.bits (pdcp w)
@@ -19,16 +19,16 @@ sound_pdcp w h = run_sound w.bits w.events (pdcp_outset w.bits w.protection w.fi
 -- ---- what RLC's PDUs tell in the life that runs
 
 abbrev pub told_of : Way → Told
-told_of w = told_in (passed w.steps (rlc_outset w.sending w.receiving)) nothing_told
+told_of w = with_passings (passed w.steps (rlc_outset w.sending w.receiving)) nothing_told
 
 passed_more : (xs ys : List RlcStep) (f : Rlc) → passed (xs ++ ys) f ≡ passed xs f ++ passed ys (rlc_goes xs f)
 passed_more [] ys f = refl
 passed_more (x ∷ xs) ys f = ap (λ (l : List Passing). passing_in f x ++ l) (passed_more xs ys (rlc_happens f x)) ∙ sym (append_assoc (passing_in f x) (passed xs (rlc_happens f x)) (passed ys (rlc_goes xs (rlc_happens f x))))
 
-pub told_more : (w : Way) (ss : List RlcStep) → told_in (passed (w.steps ++ ss) (rlc_outset w.sending w.receiving)) nothing_told ≡ told_in (passed ss (rlc w)) (told_of w)
+pub told_more : (w : Way) (ss : List RlcStep) → with_passings (passed (w.steps ++ ss) (rlc_outset w.sending w.receiving)) nothing_told ≡ with_passings (passed ss (rlc w)) (told_of w)
 told_more w ss =
     let f = rlc_outset w.sending w.receiving in
-    ap (λ (l : List Passing). told_in l nothing_told) (passed_more w.steps ss f) ∙ told_then (passed w.steps f) (passed ss (rlc w)) nothing_told
+    ap (λ (l : List Passing). with_passings l nothing_told) (passed_more w.steps ss f) ∙ told_then (passed w.steps f) (passed ss (rlc w)) nothing_told
 
 -- ---- an account agrees with the flows
 
@@ -59,16 +59,16 @@ tells_then xs ys f g h r s t x y = λ a k. subst (λ (b : Account). Agrees b h t
 
 -- ---- only PDUs of RLC pass
 
-account_passing : (ps : List Passing) (a : Account) → account (passing ps) a ≡ record a { rlc = told_in ps a.rlc }
+account_passing : (ps : List Passing) (a : Account) → account (passing ps) a ≡ record a { rlc = with_passings ps a.rlc }
 account_passing [] a = refl
 account_passing (p ∷ ps) a = account_passing ps (accounted (Passes p) a)
 
 pub tells_passing : (ps : List Passing) (g h : Pdcp) (r : Told) → h.stream ≡ g.stream → h.passed ≡ g.passed → ((count : ℕ) → h.handed count ≡ g.handed count)
-    → TellsOn (passing ps) g r h (told_in ps r)
+    → TellsOn (passing ps) g r h (with_passings ps r)
 tells_passing ps g h r stream place handed = λ a k.
-    subst (λ (b : Account). Agrees b h (told_in ps r)) (sym (account_passing ps a)) (record {
+    subst (λ (b : Account). Agrees b h (with_passings ps r)) (sym (account_passing ps a)) (record {
       given_are = ap (λ (l : List Next). map given_of l) stream ∙ k.given_are;
-      rlc_is = ap (told_in ps) k.rlc_is;
+      rlc_is = ap (with_passings ps) k.rlc_is;
       handed_are = λ count. handed count ∙ k.handed_are count
           ∙ ap (λ (l : List Next). a.ended count || is_among (take g.passed l) count) (sym stream)
           ∙ ap (λ (n : ℕ). a.ended count || is_among (take n h.stream) count) (sym place);

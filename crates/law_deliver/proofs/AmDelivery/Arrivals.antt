@@ -15,9 +15,9 @@ use Rattle.law_rlc.proofs.AmPair.Laws.{sound, happens-sound}
 use Rattle.law_rlc.proofs.AmPair.ByPlace.{arrived-offered}
 use Rattle.law_rlc.proofs.AmPair.Later.{arrivals-stay}
 use Rattle.law_rlc.proofs.AmPair.Steps.{goes-up, step-offers}
-use Rattle.law_rlc.specs.AmArrival.Passing.{Comes, told_in}
+use Rattle.law_words.specs.Passing.{Comes, with_passings}
 use Rattle.law_rlc.specs.AmArrival.Arrival.{coming, passed}
-use Rattle.law_rlc.specs.AmArrival.Lives.{Passes, account}
+use Rattle.law_words.specs.Arrivals.{Passes, account}
 use Rattle.law_pdcp.specs.AmPair.Flow.{Flow as Pdcp, Event, Arrive, happens as pdcp_happens, run as run_pdcp, AreGiven as AreGivenEvents}
 use Rattle.law_deliver.proofs.AmFlow.Standing.{Stands}
 use Rattle.law_deliver.proofs.AmFlow.Hearing.{receives_one}
@@ -97,7 +97,7 @@ data_arrives w k c pdu a h at read m =
       ups_are = ap (λ (x : Pdcp). x.up) come.same ∙ sym (append-nil g.up);
       tells = λ b l.
           agrees_at (account (Passes (Comes c.octets) ∷ []) b) (run_pdcp (arrivals (arrives f') n) g) (run_pdcp (arrivals (arrives f') n) g)
-          (told_in (Comes c.octets ∷ []) (told_of w)) (told_in (passed (step ∷ []) f) (told_of w)) refl (ap (λ (o : Option Copy). told_in (coming o ++ []) (told_of w)) at)
+          (with_passings (Comes c.octets ∷ []) (told_of w)) (with_passings (passed (step ∷ []) f) (told_of w)) refl (ap (λ (o : Option Copy). with_passings (coming o ++ []) (told_of w)) at)
           (tells_passing (Comes c.octets ∷ []) g (run_pdcp (arrivals (arrives f') n) g) (told_of w) (ap (λ (x : Pdcp). x.stream) come.same) (ap (λ (x : Pdcp). x.passed) come.same)
           (λ count. ap (λ (x : Pdcp). x.handed count) come.same) b l);
     }

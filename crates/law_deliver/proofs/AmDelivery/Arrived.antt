@@ -15,9 +15,9 @@ use Rattle.law_rlc.proofs.AmPair.ByPlace.{has-ready}
 use Rattle.law_rlc.proofs.AmPair.Laws.{sound}
 use Rattle.law_rlc.proofs.AmPair.Sequence.{goes-up-in-sequence}
 use Rattle.law_rlc.proofs.AmPair.Sound.{IsSound}
-use Rattle.law_rlc.specs.AmArrival.Passing.{Told}
-use Rattle.law_rlc.specs.AmArrival.Lives.{Given, Account, has_place, is_count, whole_in, sequence_in, has_come}
-use Rattle.law_rlc.specs.AmArrival.Stretches.{has_arrived}
+use Rattle.law_words.specs.Passing.{Told}
+use Rattle.law_words.specs.Arrivals.{Given, Account, has_place, is_count, whole_in, sequence_in, has_come}
+use Rattle.law_words.specs.Stretches.{has_arrived}
 use Rattle.law_rlc.proofs.AmArrival.Laws.{tell_what_arrives}
 use Rattle.law_pdcp.specs.AmPair.Expected.{IsExpected}
 use Rattle.law_pdcp.specs.AmPair.Flow.{Flow as Pdcp, Event, Sends, SetDiscard, Arrive, HandUp, Raise, Restart, with_count, passes, closed, happens as pdcp_happens, run as run_pdcp, outset as pdcp_outset}

@@ -1,7 +1,7 @@
 -- Both ways while an end is between two deeds of a call.
 use Rattle.std.proofs.Common.{◌≡◌, ℕ, List, [], ◌∷◌, ◌++◌, ◌∙◌}
 use Rattle.std.specs.List.{AllByRecursion}
-use Rattle.law_rlc.specs.AmArrival.Lives.{Happening}
+use Rattle.law_words.specs.Arrivals.{Happening}
 use Rattle.law_bearer.specs.AmBearer.Deeds.{Deed, does as deed_does, does_all, goes_up, go_up}
 use Rattle.bearer.specs.Acknowledged.State.{State}
 use Rattle.law_deliver.specs.AmFlow.Pair.{BearerEnd}

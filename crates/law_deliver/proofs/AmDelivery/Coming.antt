@@ -13,9 +13,9 @@ use Rattle.rlc_am_tx.specs.Machine.{heard as heard_status, after_status}
 use Rattle.rlc_am_rx.specs.Machine.{arrived as landed_in}
 use Rattle.law_rlc.specs.AmSender.Run.{Status, Settle}
 use Rattle.law_rlc.specs.AmReceiver.Run.{Arrive as Hears}
-use Rattle.law_rlc.specs.AmArrival.Passing.{Comes, come_as, told_in}
+use Rattle.law_words.specs.Passing.{Comes, come_as, with_passings}
 use Rattle.law_rlc.specs.AmArrival.Arrival.{passed}
-use Rattle.law_rlc.specs.AmArrival.Lives.{Happening, Passes, Account, accounted}
+use Rattle.law_words.specs.Arrivals.{Happening, Passes, Account, accounted}
 use Rattle.law_rlc.specs.AmPair.Flow.{Copy}
 use Rattle.law_pdcp.specs.AmPair.Flow.{run as run_pdcp}
 use Rattle.law_rlc.specs.AmPair.Statuses.{reduced}
@@ -184,7 +184,7 @@ silently w a octets pdu read x = record {
   meets = x.meets;
   stays = x.stays;
   ups_are = x.ups_are;
-  tells = λ b k. subst (λ (c : Account). Agrees c (run_pdcp x.events (pdcp w)) (told_in (passed x.steps (rlc w)) (told_of w))) (sym (silent octets pdu b read)) (x.tells b k);
+  tells = λ b k. subst (λ (c : Account). Agrees c (run_pdcp x.events (pdcp w)) (with_passings (passed x.steps (rlc w)) (told_of w))) (sym (silent octets pdu b read)) (x.tells b k);
 }
 
 -- a STATUS that it wrote

@@ -24,7 +24,7 @@ use Rattle.law_rlc.specs.AmArrival.Arrival.{passed}
 use Rattle.law_pdcp.specs.AmPair.Flow.{Flow as Pdcp, Sends as PdcpSends, run as run_pdcp}
 use Rattle.law_deliver.proofs.AmFlow.Standing.{Stands, or_none}
 use Rattle.law_deliver.proofs.AmFlow.Sending.{sent_one}
-use Rattle.law_deliver.specs.AmDelivery.Arrival.{passing}
+use Rattle.promises.specs.Given.{passing}
 use Rattle.law_deliver.proofs.AmDelivery.Accounts.{told_of, tells_passing}
 use Rattle.law_deliver.proofs.AmDelivery.Joined.{Way, IsWay, rlc, pdcp}
 use Rattle.law_deliver.proofs.AmDelivery.Meeting.{Standing, Meets, MeetsNow, none_changes, Extends}

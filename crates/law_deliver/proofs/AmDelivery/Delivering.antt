@@ -9,8 +9,8 @@ use Rattle.pdcp_rx.specs.State.{State as Receiving}
 use Rattle.pdcp_sec.specs.Protection.{Protection}
 use Rattle.law_bearer.specs.AmBearer.Calls.{IsIdle}
 use Rattle.law_bearer.specs.AmBearer.Lives.{protection_at}
-use Rattle.law_rlc.specs.AmArrival.Lives.{Happening, Account, no_account, account}
-use Rattle.law_rlc.specs.AmPair.Sdus.{IsFront}
+use Rattle.law_words.specs.Arrivals.{Happening, Account, no_account, account}
+use Rattle.law_words.specs.Lists.{IsFront}
 use Rattle.law_pdcp.specs.AmPair.Expected.{IsExpected}
 use Rattle.law_pdcp.proofs.AmPair.Laws.{expected}
 use Rattle.law_deliver.specs.AmFlow.Pair.{BearerEnd, Pair, outset}

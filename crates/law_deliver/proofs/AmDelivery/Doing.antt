@@ -3,7 +3,7 @@ use Rattle.std.proofs.Common.{◌≡◌, ℕ, List, [], ◌++◌, Option, Some, 
 use Rattle.std.specs.List.{AllByRecursion}
 use Rattle.law_bearer.specs.AmBearer.Calls.{IsOfData, IsIdle}
 use Rattle.law_rlc.specs.AmPair.Flow.{Step as RlcStep}
-use Rattle.law_rlc.specs.AmArrival.Lives.{Happening}
+use Rattle.law_words.specs.Arrivals.{Happening}
 use Rattle.law_pdcp.specs.AmPair.Flow.{Flow as Pdcp, Event, run as run_pdcp}
 use Rattle.law_deliver.specs.AmFlow.Pair.{BearerEnd}
 use Rattle.law_deliver.proofs.AmDelivery.Joined.{Way, Joins, IsReportOf, Reports, pdcp}

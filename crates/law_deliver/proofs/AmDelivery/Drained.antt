@@ -5,7 +5,7 @@ use Rattle.std.proofs.lemmas.Bool.Decides.{nat_tests}
 use Rattle.std.proofs.lemmas.List.{length-map}
 use Rattle.law_bearer.specs.AmBearer.Calls.{IsIdle}
 use Rattle.law_bearer.specs.AmBearer.Lives.{protection_at}
-use Rattle.law_rlc.specs.AmArrival.Lives.{Happening}
+use Rattle.law_words.specs.Arrivals.{Happening}
 use Rattle.law_rlc.specs.AmPair.Flow.{Copy, sender}
 use Rattle.law_rlc.specs.AmPair.Sdus.{offered, handed_up, ready}
 use Rattle.law_rlc.proofs.AmPair.Laws.{hands-up-all, next-is-ready}

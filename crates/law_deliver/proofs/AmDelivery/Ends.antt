@@ -1,6 +1,6 @@
 -- Both directions from the end that acts: what it sends on goes out, what it hears comes in.
 use Rattle.std.specs.Prelude.{◌≡◌, ℕ, List, []}
-use Rattle.law_rlc.specs.AmArrival.Lives.{Happening}
+use Rattle.law_words.specs.Arrivals.{Happening}
 use Rattle.law_bearer.specs.AmBearer.Calls.{IsOfData, IsIdle}
 use Rattle.law_deliver.specs.AmFlow.Pair.{BearerEnd, Pair}
 use Rattle.law_deliver.proofs.AmDelivery.Joined.{Way, IsWay, Joins, Reports, JoinedPair}

@@ -31,7 +31,7 @@ use Rattle.pdcp_tx.specs.Pdus.{pdu}
 use Rattle.pdcp_tx_store.specs.declared.given.Sent.{Sent}
 use Rattle.pdcp_tx_store.specs.Waiting.{Waits}
 use Rattle.pdcp_tx.specs.State.{State as Sending, Offer, owed_offers, again_offer, new_offers, offers, took, written, taking as pdcp_taking}
-use Rattle.law_rlc.specs.AmArrival.Lives.{Given}
+use Rattle.law_words.specs.Arrivals.{Given}
 use Rattle.law_pdcp.specs.AmPair.Flow.{IsReport}
 use Rattle.law_pdcp.proofs.AmPair.Sound.{Owes}
 use Rattle.bearer_pdcp.specs.Ends.{Ends}
@@ -46,7 +46,7 @@ use Rattle.law_bearer.proofs.AnyBearer.Acknowledged.{take_left}
 use Rattle.law_bearer.proofs.AnyBearer.Parts.{pdcp_took, pdcp_rest}
 use Rattle.law_bearer.proofs.AnyBearer.Flows.{taken_off}
 use Rattle.law_bearer.proofs.AnyBearer.Sender.{AreSame, took_same, left_of}
-use Rattle.law_deliver.specs.AmDelivery.Arrival.{given_in}
+use Rattle.promises.specs.Given.{given_in}
 
 -- ---- a PDU that may be taken
 

@@ -11,9 +11,9 @@ use Rattle.law_rlc.specs.AmPair.Given.{AreGiven as AreGivenSteps}
 use Rattle.law_rlc.specs.AmPair.Sdus.{offered, handed_up}
 use Rattle.law_rlc.specs.AmPair.Arrives.{arrives}
 use Rattle.law_pdcp.specs.AmPair.Flow.{Flow as Pdcp, Event, run as run_pdcp, AreGiven as AreGivenEvents}
-use Rattle.law_rlc.specs.AmArrival.Passing.{told_in}
+use Rattle.law_words.specs.Passing.{with_passings}
 use Rattle.law_rlc.specs.AmArrival.Arrival.{passed}
-use Rattle.law_rlc.specs.AmArrival.Lives.{Happening, account}
+use Rattle.law_words.specs.Arrivals.{Happening, account}
 use Rattle.law_deliver.specs.AmFlow.Pair.{Sent, BearerEnd}
 use Rattle.law_deliver.proofs.AmFlow.Standing.{Stands}
 use Rattle.law_deliver.proofs.AmFlow.Flows.{stands_as, is_flow}
@@ -95,7 +95,7 @@ pub record Extends (w : Way) (a : Standing) (ups : List (List ℕ)) (told : List
   pub meets : Meets (rlc_goes steps (rlc w)) (run_pdcp events (pdcp w)) a
   pub stays : Stays (pdcp w) (run_pdcp events (pdcp w))
   pub ups_are : (run_pdcp events (pdcp w)).up ≡ (pdcp w).up ++ ups
-  pub tells : TellsOn told (pdcp w) (told_of w) (run_pdcp events (pdcp w)) (told_in (passed steps (rlc w)) (told_of w))
+  pub tells : TellsOn told (pdcp w) (told_of w) (run_pdcp events (pdcp w)) (with_passings (passed steps (rlc w)) (told_of w))
 
 -- nothing happens
 pub rests : (w : Way) (a : Standing) → MeetsNow w a → Extends w a [] []
@@ -137,7 +137,7 @@ extended w from to ups told h x =
         first = refl;
         sdus_are = stays.sdus ∙ sym (append-nil (pdcp w).sdus);
         ups_are = ap (λ (q : Pdcp). q.up) more.pdcp_is ∙ x.ups_are;
-        tells = λ b k. agrees_at (account told b) (run_pdcp x.events (pdcp w)) (pdcp v) (told_in (passed x.steps (rlc w)) (told_of w)) (told_of v) more.pdcp_is (told_more w x.steps) (x.tells b k);
+        tells = λ b k. agrees_at (account told b) (run_pdcp x.events (pdcp w)) (pdcp v) (with_passings (passed x.steps (rlc w)) (told_of w)) (told_of v) more.pdcp_is (told_more w x.steps) (x.tells b k);
       };
     }
 

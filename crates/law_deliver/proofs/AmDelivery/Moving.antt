@@ -10,12 +10,12 @@ use Rattle.law_rlc.specs.AmPair.Steps.{takes_up, offers}
 use Rattle.law_rlc.proofs.AmPair.Laws.{only-data-arrives}
 use Rattle.law_rlc.proofs.AmPair.Steps.{goes-up, step-offers}
 use Rattle.law_pdcp.specs.AmPair.Flow.{Flow as Pdcp, Event, run as run_pdcp, AreGiven as AreGivenEvents}
-use Rattle.law_rlc.specs.AmArrival.Passing.{told_in}
+use Rattle.law_words.specs.Passing.{with_passings}
 use Rattle.law_rlc.specs.AmArrival.Arrival.{passed}
-use Rattle.law_rlc.specs.AmArrival.Lives.{Happening, account}
+use Rattle.law_words.specs.Arrivals.{Happening, account}
 use Rattle.law_deliver.specs.AmFlow.Flows.{IsFlow}
 use Rattle.law_deliver.specs.AmFlow.Pair.{BearerEnd}
-use Rattle.law_deliver.specs.AmDelivery.Arrival.{passing}
+use Rattle.promises.specs.Given.{passing}
 use Rattle.law_deliver.proofs.AmDelivery.Accounts.{told_of, told_more, TellsOn, tells_then, tells_passing, agrees_at}
 use Rattle.law_deliver.proofs.AmDelivery.Joined.{Way, IsWay, Joins, rlc, pdcp}
 use Rattle.law_deliver.proofs.AmDelivery.Ways.{with_more, IsMore, goes_on}
@@ -49,7 +49,7 @@ pub record Moves (w : Way) (xs : List Event) (ss : List RlcStep) (from to : Bear
   pub meets : Meets (run_pdcp xs (pdcp w)) (rlc_goes ss (rlc w)) from to
   pub sdus_are : (run_pdcp xs (pdcp w)).sdus ≡ (pdcp w).sdus ++ news
   pub ups_are : (run_pdcp xs (pdcp w)).up ≡ (pdcp w).up ++ ups
-  pub tells : TellsOn told (pdcp w) (told_of w) (run_pdcp xs (pdcp w)) (told_in (passed ss (rlc w)) (told_of w))
+  pub tells : TellsOn told (pdcp w) (told_of w) (run_pdcp xs (pdcp w)) (with_passings (passed ss (rlc w)) (told_of w))
 
 pub record HasMoved (w v : Way) (xs : List Event) (from to : BearerEnd) (news ups : List (List ℕ)) (told : List Happening) : Type 0 where
   pub is : IsWay v
@@ -75,7 +75,7 @@ moves_on w xs ss from to news ups told h m =
         first = refl;
         sdus_are = ap (λ (g : Pdcp). g.sdus) more.pdcp_is ∙ m.sdus_are;
         ups_are = ap (λ (g : Pdcp). g.up) more.pdcp_is ∙ m.ups_are;
-        tells = λ a k. agrees_at (account told a) (run_pdcp xs (pdcp w)) (pdcp v) (told_in (passed ss (rlc w)) (told_of w)) (told_of v) more.pdcp_is (told_more w ss) (m.tells a k);
+        tells = λ a k. agrees_at (account told a) (run_pdcp xs (pdcp w)) (pdcp v) (with_passings (passed ss (rlc w)) (told_of w)) (told_of v) more.pdcp_is (told_more w ss) (m.tells a k);
       };
     }
 

@@ -3,7 +3,7 @@ use Rattle.std.specs.Prelude.{◌≡◌, ℕ, List, ◌++◌}
 use Rattle.eps_sec.specs.declared.Keys.{Keys}
 use Rattle.law_deliver.specs.AmFlow.Pair.{Pair, Step, IsGiven}
 use Rattle.law_deliver.specs.AmDelivery.Lives.{LifeStep, InLife, Restarts, lives_on, MayHappen, far_ups_in, near_ups_in, near_news_in, far_news_in}
-use Rattle.law_rlc.specs.AmArrival.Lives.{Happening}
+use Rattle.law_words.specs.Arrivals.{Happening}
 use Rattle.law_deliver.specs.AmDelivery.Arrival.{down_in, up_in}
 use Rattle.law_deliver.proofs.AmDelivery.Joined.{Way, JoinedPair, pdcp}
 use Rattle.law_deliver.proofs.AmDelivery.Accounts.{told_of, TellsOn}

@@ -21,7 +21,7 @@ use Rattle.law_rlc.specs.AmPair.Arrives.{arrives, whole_from}
 use Rattle.law_rlc.specs.AmPair.Sdus.{offered}
 use Rattle.law_rlc.proofs.AmPair.Laws.{finish-gives-by-places}
 use Rattle.law_pdcp.specs.AmPair.Flow.{Flow as Pdcp, IsReport, Restart, ended, closed as closed_counts, happens as pdcp_happens, outset as pdcp_outset}
-use Rattle.law_rlc.specs.AmArrival.Lives.{Renews as LifeEnds, renewed as renewed_account}
+use Rattle.law_words.specs.Arrivals.{Renews as LifeEnds, renewed as renewed_account}
 use Rattle.law_pdcp.specs.AmPair.Between.{TellsWhatHasCome}
 use Rattle.law_pdcp.proofs.AmPair.Telling.{begins_telling}
 use Rattle.law_deliver.specs.AmFlow.Pair.{BearerEnd, begins}

@@ -1,6 +1,6 @@
 -- Each step of a life brings both ways on, where each PDU that comes does.
 use Rattle.std.proofs.Common.{◌≡◌, ℕ, List, [], Option, Some, None, slice_get, refl, subst}
-use Rattle.law_rlc.specs.AmArrival.Lives.{Happening}
+use Rattle.law_words.specs.Arrivals.{Happening}
 use Rattle.law_rlc.specs.AmPair.Flow.{Copy}
 use Rattle.bearer.specs.Acknowledged.State.{State}
 use Rattle.law_deliver.specs.AmFlow.Pair.{Sent, BearerEnd, Pair, Deed, Calls, DataComes, StatusComes, DataGoes, StatusGoes, Near, Far, Passes, does, happens, IsDone}

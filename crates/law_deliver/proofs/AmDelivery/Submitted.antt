@@ -11,7 +11,7 @@ use Rattle.eps_sec.specs.declared.Keys.{Keys}
 use Rattle.l2_types.specs.declared.Kind.TheVariants as kinds
 use Rattle.l2_types.specs.declared.Side.{Side}
 use Rattle.l2_types.specs.declared.Side.TheVariants.{Nb, Ue}
-use Rattle.law_rlc.specs.AmPair.Sdus.{IsFront}
+use Rattle.law_words.specs.Lists.{IsFront}
 use Rattle.bearer.specs.Bearer.{flow_of}
 use Rattle.law_deliver.specs.AmFlow.Pair.{Pair, Step, outset}
 use Rattle.law_deliver.specs.AmDelivery.Ends.{submitted_by, drops_by, near_submitted_in, far_submitted_in, near_drops_in, far_drops_in, DeliversSubmitted}

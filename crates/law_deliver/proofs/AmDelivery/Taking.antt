@@ -33,9 +33,9 @@ use Rattle.law_rlc.specs.AmPair.Flow.{Copy, Flow as Rlc, Sends as SendsOn, Repor
 use Rattle.law_rlc.specs.AmPair.Given.{IsTaking as IsTakingStep, IsHeld}
 use Rattle.law_rlc.proofs.AmPair.Runs.{receiver-more}
 use Rattle.law_rlc.proofs.AmPair.Steps.{step-offers}
-use Rattle.law_rlc.specs.AmArrival.Passing.{Passing, Writes, written_as}
+use Rattle.law_words.specs.Passing.{Passing, Writes, written_as}
 use Rattle.law_rlc.specs.AmArrival.Arrival.{written_in, passed}
-use Rattle.law_rlc.specs.AmArrival.Lives.{Given, Happening, Gives, Passes, Account, accounted, account}
+use Rattle.law_words.specs.Arrivals.{Given, Happening, Gives, Passes, Account, accounted, account}
 use Rattle.law_pdcp.specs.AmPair.Flow.{Flow as Pdcp, Sends as SendsEvent, one, run as run_pdcp}
 use Rattle.bearer.specs.Acknowledged.State.{State}
 use Rattle.bearer.specs.Acknowledged.Taking.{writes_status, status_pdu, status_pdus, data_size}
@@ -54,7 +54,8 @@ use Rattle.law_deliver.specs.AmFlow.Pair.{Sent, written_now, HasOctet, IsTaking,
 use Rattle.law_deliver.specs.AmFlow.Flows.{IsFlow}
 use Rattle.law_deliver.proofs.AmFlow.Hearing.{is_reported}
 use Rattle.law_deliver.proofs.AmFlow.Standing.{or_none}
-use Rattle.law_deliver.specs.AmDelivery.Arrival.{giving, gives, passing, writing, said_in}
+use Rattle.law_deliver.specs.AmDelivery.Arrival.{said_in}
+use Rattle.promises.specs.Given.{giving, gives, passing, writing}
 use Rattle.law_deliver.proofs.AmDelivery.Gives.{given_as, IsRight, same_given, takes_are_told, offers_right}
 use Rattle.law_deliver.proofs.AmDelivery.Accounts.{sound_pdcp, told_of, given_of, tells_given, Agrees, account_then}
 use Rattle.law_deliver.proofs.AmDelivery.Joined.{Way, IsWay, Joins, IsReportOf, rlc, pdcp}

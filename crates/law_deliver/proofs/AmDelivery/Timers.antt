@@ -22,7 +22,7 @@ use Rattle.law_deliver.proofs.AmFlow.Flows.{stands_as, is_flow}
 use Rattle.law_deliver.proofs.AmFlow.Sending.{sent_one}
 use Rattle.law_deliver.proofs.AmFlow.Hearing.{receives_one}
 use Rattle.law_deliver.proofs.AmFlow.Standing.{or_none}
-use Rattle.law_deliver.specs.AmDelivery.Arrival.{passing}
+use Rattle.promises.specs.Given.{passing}
 use Rattle.law_deliver.proofs.AmDelivery.Accounts.{told_of, tells_passing}
 use Rattle.law_deliver.proofs.AmDelivery.Joined.{Way, Joins, IsReportOf, rlc, pdcp}
 use Rattle.law_deliver.proofs.AmDelivery.Ends.{JoinedEnds, EndsGoOn}

@@ -13,7 +13,8 @@ use Rattle.harq.specs.declared.sender.Visit.TheVariants.{New, Resend, Silent}
 use Rattle.harq.specs.Sending.{Sending}
 use Rattle.l2_bits.specs.declared.fault.SubmitRefusal.{SubmitRefusal}
 use Rattle.l2_node.specs.Building.{visited, loaded, built_by, built, visit}
-use Rattle.l2_node.specs.End.{End, heard_by, sent_by, with_bearer, with_visits}
+use Rattle.l2_node.specs.End.{End, with_bearer, with_visits}
+use Rattle.bearer_types.specs.Sides.{heard_by, sent_by}
 use Rattle.l2_node.specs.Finding.{Numbers, find, has, bearer_at, lowest}
 use Rattle.l2_node.specs.Hearing.{Heard, heard, hears_sdu, hears, hears_all, heard_items, received, ticks_at, ticks_over, ticked, expired, bearer_of}
 use Rattle.l2_node.specs.Submitting.{refusal, submitted, discarding}
@@ -27,7 +28,8 @@ use Rattle.mac_pdu.specs.Items.{MacItem, front, element, sdu, padding, sdu_item}
 use Rattle.mac_pdu.specs.Reading.{reading}
 use Rattle.prioritise.specs.Channels.{has as has_channel}
 use Rattle.prioritise.specs.ShareLaws.{IsSound}
-use Rattle.law_node.specs.Blocks.{pdus_by, sdus_by, all_sdus, report, reported, IsBlockOf}
+use Rattle.law_node.specs.Blocks.{pdus_by, sdus_by, all_sdus, report, IsBlockOf}
+use Rattle.promises.specs.Built.{reported}
 use Rattle.law_node.specs.Calls.{Turn, Call, SetVisits, SetReports, Add, Submit, SetDiscard, Tick, TickBuckets, Visits, Grants, Granted, Assigned, Pass, Receive, Expire, Move, IsGiven, AreGiven, answered, after_submit, after, reached}
 use Rattle.law_node.specs.Holding.{flow}
 use Rattle.law_node.proofs.Blocks.{has_what_was_written}
@@ -36,7 +38,8 @@ use Rattle.law_node.proofs.Living.{reached_side}
 use Rattle.law_node.proofs.Places.{find_set, has_set}
 use Rattle.law_node.proofs.Sharing.{Apart, sound_apart}
 use Rattle.law_node.proofs.Sound.{reached_sound, visited_sound, visiting_sound}
-use Rattle.law_deliver.specs.AmFlow.Channels.{pdus_in, pdus_among, pdus_read, carried, only, share_of, held_of, takes_of, submits_of, calls_of, GoesOnInLife, written_by}
+use Rattle.law_deliver.specs.AmFlow.Channels.{only, share_of, held_of, takes_of, submits_of, calls_of, GoesOnInLife, written_by}
+use Rattle.promises.specs.Pdus.{pdus_in, pdus_among, pdus_read, carried}
 use Rattle.law_deliver.proofs.AmFlow.Places.{GoesBy, rests, goes_then, set_here, set_apart, absent_by, on_by, insert_by}
 
 -- ---- a block comes

@@ -11,8 +11,9 @@ use Rattle.bearer.specs.Taking.{told}
 use Rattle.law_bearer.proofs.AnyBearer.Between.{IsBetween, submits, discards, takes, arrives, expires, ticks_of}
 use Rattle.law_bearer.proofs.AnyBearer.Told.{told_in_order}
 use Rattle.law_bearer.specs.AnyBearer.Calls.{Call as BearerCall, Submit as Submits, Take as Takes, Arrive as Arrives, Expire as Expires, Tick as Ticks, SetDiscard as SetsDiscard, after as called, after_all}
-use Rattle.law_bearer.specs.AnyBearer.Order.{Sequences, a_status, a_report, a_take, a_data_pdu, a_wait, in_a_block, an_up, of_an_sdu, of_an_arrived_sdu, of_a_data_pdu, of_a_status, of_a_pdu, of_an_expiry, a_discard, of_discards, in_a_tti, at_the_end, is_signalling}
-use Rattle.law_bearer.specs.AnyBearer.Sequences.{nothing, just, ◌then◌, ◌or◌, maybe, many, joined, any}
+use Rattle.law_bearer.specs.AnyBearer.Order.{is_signalling}
+use Rattle.law_words.specs.BearerOrder.{OfEvents as Sequences, a_status, a_report, a_take, a_data_pdu, a_wait, in_a_block, an_up, of_an_sdu, of_an_arrived_sdu, of_a_data_pdu, of_a_status, of_a_pdu, of_an_expiry, a_discard, of_discards, in_a_tti, at_the_end}
+use Rattle.law_words.specs.Sequences.{nothing, just, ◌then◌, ◌or◌, maybe, many, joined, any}
 use Rattle.bearer_types.specs.declared.event.Event.{Event}
 use Rattle.bearer_types.specs.declared.event.Event.TheVariants.{Take, Report, Send, Wait, Start, Stop, Expired, Up, Fail, Drop, Integrity, BadMac, BadRlc, BadPdcp, Discard}
 use Rattle.l2_types.specs.declared.event.Clock.{Clock}
@@ -24,7 +25,8 @@ use Rattle.l2_types.specs.declared.event.Lost.TheVariants as lost
 use Rattle.l2_types.specs.declared.event.Waits.{Waits}
 use Rattle.pdcp_pdu.specs.declared.PdcpRefusal.{PdcpRefusal}
 use Rattle.rlc_pdu.specs.declared.fault.RlcRefusal.{RlcRefusal}
-use Rattle.law_deliver.specs.AmFlow.Ups.{is_on, told_on, ups_in, ups_on, discards_in, discards_on, of_calls, tells_in, tells_over, goes_up_in, go_up_over, discarded_in, discarded_over}
+use Rattle.law_deliver.specs.AmFlow.Ups.{ups_in, ups_on, of_calls, tells_in, tells_over, goes_up_in, go_up_over, discarded_in, discarded_over}
+use Rattle.promises.specs.Events.{is_on, told_on, discards_in, discards_on}
 
 -- ---- what holds of each event of any sequence of a set
 

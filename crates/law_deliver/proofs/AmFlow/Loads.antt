@@ -9,7 +9,7 @@ use Rattle.mac_pdu.specs.declared.item.Direction.{Direction}
 use Rattle.law_node.proofs.Holders.{lowest_least}
 use Rattle.law_node.proofs.Takings.{IsAtLeast}
 use Rattle.law_deliver.specs.AmFlow.Air.{Block, older, IsHeld, IsYoung}
-use Rattle.law_deliver.specs.AmFlow.Channels.{carried}
+use Rattle.promises.specs.Pdus.{carried}
 use Rattle.law_deliver.specs.AmFlow.Pair.{Sent, older as older_sent, IsYoung as IsYoungSent}
 use Rattle.law_deliver.proofs.AmFlow.Runs.{octets_of, texts_of}
 use Rattle.law_bearer.proofs.AnyBearer.SenderCalls.{all_then}

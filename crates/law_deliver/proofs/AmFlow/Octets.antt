@@ -11,7 +11,7 @@ use Rattle.law_bearer.specs.AnyBearer.Stream.{offers_of, pdu_of}
 use Rattle.l2_types.specs.declared.side.Side.{Side}
 use Rattle.law_node.specs.Calls.{Call, AreGiven, reached}
 use Rattle.law_node.specs.Holding.{flow}
-use Rattle.law_node.specs.Names.{IsPdcp}
+use Rattle.promises.specs.Names.{IsPdcp}
 use Rattle.law_node.proofs.Keeping.{at_is, reached_are}
 use Rattle.law_node.proofs.Offers.{IsOffered, written_is, pdu_some}
 use Rattle.law_node.proofs.Ready.{WritesWell, ready_kept}

@@ -8,7 +8,8 @@ use Rattle.bearer.specs.Acknowledged.State.{State}
 use Rattle.law_bearer.specs.AnyBearer.Calls.{Call as BearerCall, Submit as Submits, Take as Takes, Arrive as Arrives, Expire as Expires, Tick as Ticks, SetDiscard as SetsDiscard, after_all}
 use Rattle.harq.specs.Sending.{Sending, fresh as fresh_sender}
 use Rattle.l2_bits.specs.declared.fault.SubmitRefusal.{SubmitRefusal}
-use Rattle.l2_node.specs.End.{End, heard_by, sent_by, fresh, with_visits, with_bearer}
+use Rattle.l2_node.specs.End.{End, fresh, with_visits, with_bearer}
+use Rattle.bearer_types.specs.Sides.{heard_by, sent_by}
 use Rattle.l2_node.specs.Finding.{Numbers, has}
 use Rattle.l2_node.specs.Hearing.{expired}
 use Rattle.l2_node.specs.Submitting.{refusal, discarding}
@@ -21,7 +22,8 @@ use Rattle.law_node.proofs.Living.{reached_side}
 use Rattle.law_node.proofs.Sound.{reached_sound}
 use Rattle.prioritise.specs.ShareLaws.{IsSound}
 use Rattle.law_deliver.specs.AmFlow.Air.{Block, Station, comes, HasCome}
-use Rattle.law_deliver.specs.AmFlow.Channels.{carried, only, submits_of, calls_of, GoesOnInLife}
+use Rattle.law_deliver.specs.AmFlow.Channels.{only, submits_of, calls_of, GoesOnInLife}
+use Rattle.promises.specs.Pdus.{carried}
 use Rattle.law_deliver.specs.AmFlow.Pair.{BearerEnd, Deed, Calls, called, calls, IsDone}
 use Rattle.law_deliver.proofs.AmFlow.Channels.{receive_by, plain_by}
 use Rattle.law_deliver.proofs.AmFlow.Loads.{Load, all_copies, all_reports, blocks_in, IsLoad, Split, split_at, except_blocks, except_all, all_at}

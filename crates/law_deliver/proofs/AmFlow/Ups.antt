@@ -18,7 +18,8 @@ use Rattle.harq.specs.declared.sender.Visit.{Visit}
 use Rattle.harq.specs.declared.sender.Visit.TheVariants.{New, Resend, Silent}
 use Rattle.l2_bits.specs.declared.fault.SubmitRefusal.{SubmitRefusal}
 use Rattle.l2_node.specs.Building.{visited, building, visit, told_by as built_told}
-use Rattle.l2_node.specs.End.{End, heard_by, fresh}
+use Rattle.l2_node.specs.End.{End, fresh}
+use Rattle.bearer_types.specs.Sides.{heard_by}
 use Rattle.l2_node.specs.Finding.{find, has, bearer_at}
 use Rattle.l2_node.specs.Hearing.{Heard, heard, hears_sdu, hears, hears_all, heard_items, received, ticks_at, ticks_over, ticked, expiry, bearer_of}
 use Rattle.l2_node.specs.Moving.{all_stopping, leaving}
@@ -47,8 +48,10 @@ use Rattle.law_node.proofs.Owning.{IsOwn, own_kept}
 use Rattle.law_node.proofs.Sound.{visited_sound}
 use Rattle.law_node.proofs.Telling.{tells_in_order}
 use Rattle.law_deliver.specs.AmFlow.Air.{HasCome}
-use Rattle.law_deliver.specs.AmFlow.Channels.{pdus_in, pdus_among, pdus_read, only, share_of, held_of, takes_of, submits_of, calls_of, GoesOnInLife}
-use Rattle.law_deliver.specs.AmFlow.Ups.{told_on, tells_in, tells_over, calls_over, IsNew, AreNew, TellsOf, TellsOver, TellsTheEnd}
+use Rattle.law_deliver.specs.AmFlow.Channels.{only, share_of, held_of, takes_of, submits_of, calls_of, GoesOnInLife}
+use Rattle.promises.specs.Pdus.{pdus_in, pdus_among, pdus_read}
+use Rattle.law_deliver.specs.AmFlow.Ups.{tells_in, tells_over, calls_over, IsNew, AreNew, TellsOf, TellsOver, TellsTheEnd}
+use Rattle.promises.specs.Events.{told_on}
 use Rattle.law_deliver.proofs.AmFlow.Alone.{many_of, IsAlone, call_alone, reached_alone}
 use Rattle.law_deliver.proofs.AmFlow.Channels.{arrive_if, arrive_more, item_by, channel_same, flips, call_by}
 use Rattle.law_deliver.proofs.AmFlow.Events.{AreOn, ticking_on, stopping_on, told_then, all_on, none_on, own_told, other_told, tells_more, ups_as, ups_over, discards_over, end_discards}

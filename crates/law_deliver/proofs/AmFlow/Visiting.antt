@@ -21,7 +21,8 @@ use Rattle.harq.specs.declared.sender.Visit.TheVariants.{New, Resend, Silent}
 use Rattle.harq.specs.declared.sender.Order.TheVariants as orders
 use Rattle.harq.specs.Sending.{Sending, SendProcess, Block as HeldBlock, empty, resent, seen, visited as process_visited, resend_or, answered as process_answer, process_at, held_of, visit_answer, after_visit, after_feedback}
 use Rattle.l2_node.specs.Building.{visited, loaded, built_by, built, visit}
-use Rattle.l2_node.specs.End.{End, sent_by}
+use Rattle.l2_node.specs.End.{End}
+use Rattle.bearer_types.specs.Sides.{sent_by}
 use Rattle.l2_node.specs.Finding.{Numbers, has}
 use Rattle.l2_node.specs.Writing.{written, new_block}
 use Rattle.l2_types.specs.declared.side.Side.{Side}
@@ -37,7 +38,8 @@ use Rattle.prioritise.specs.Channels.{has as has_channel}
 use Rattle.rlc_pdu.specs.declared.outcome.Taken.{Taken}
 use Rattle.rlc_pdu.specs.declared.outcome.Taken.TheVariants as taken
 use Rattle.law_deliver.specs.AmFlow.Air.{Block, Station, built_at, is_new as is_new_visit, calls as station_calls, HasCome, IsHeld, IsBuilding, IsVisiting}
-use Rattle.law_deliver.specs.AmFlow.Channels.{carried, only, share_of, held_of as told_held, takes_of, calls_of, written_by}
+use Rattle.law_deliver.specs.AmFlow.Channels.{only, share_of, held_of as told_held, takes_of, calls_of, written_by}
+use Rattle.promises.specs.Pdus.{carried}
 use Rattle.law_deliver.specs.AmFlow.Pair.{Sent, BearerEnd, Calls, written_now, HasOctet, IsTaking}
 use Rattle.law_deliver.proofs.AmFlow.Channels.{turn_by, blocks_carry_pdus}
 use Rattle.law_deliver.proofs.AmFlow.Loads.{Load, blocks_in, noted_of, IsNoted, HasAge, IsLoad, lowest_all, IsHeldBy, held_by}

@@ -9,13 +9,13 @@ use Rattle.l2_types.specs.declared.side.Side.{Side}
 use Rattle.l2_types.specs.declared.side.Side.TheVariants.{Nb, Ue}
 use Rattle.law_node.specs.Calls.{Call, Move}
 use Rattle.law_node.specs.Telling.{told_of}
-use Rattle.law_deliver.specs.AmFlow.Ups.{told_on, ups_on}
+use Rattle.law_deliver.specs.AmFlow.Ups.{ups_on}
+use Rattle.promises.specs.Events.{told_on, losses}
 use Rattle.law_deliver.specs.AmChannel.Delivery.{SetNone}
 use Rattle.law_deliver.specs.AmChannel.Drained.{IsDrained}
 use Rattle.law_deliver.specs.AmChannel.Lives.{AirStep, InLife, Moves, lives_on, lives, AreLiving, end_at, calls_at, all_calls}
 use Rattle.law_deliver.proofs.AmChannel.Ends.{IsCall, are_calls, all_more}
 use Rattle.law_deliver.specs.AmFlow.Air.{Air, Step as LinkStep, outset}
-use Rattle.law_deliver.specs.SrbDelivery.Losses.{losses}
 use Rattle.law_deliver.specs.SrbChannel.Delivery.{BeginAlike, NoneSet, life_of, ChannelsDeliverTheFront, DrainedChannelsHaveDelivered, NothingGoesUpBetween, NothingIsLost}
 use Rattle.law_deliver.specs.SrbChannel.Running.{Life, start, now, goes_on, running, first_life}
 use Rattle.law_deliver.proofs.SrbChannel.Running.{Start, Runs, begins_run, runs_on, lives_more, calls_more, down, up, all_down, all_up, starts_anew, none_between, none_lost, none_lost_between, starts_first}

@@ -21,13 +21,14 @@ use Rattle.law_deliver.proofs.AmChannel.Ends.{IsCall, in_life, all_go}
 use Rattle.law_deliver.proofs.AmChannel.Pairs.{own}
 use Rattle.law_deliver.specs.AmFlow.Channels.{calls_of}
 use Rattle.law_deliver.specs.AmFlow.Pair.{Pair, Step, happens}
-use Rattle.law_deliver.specs.AmFlow.Ups.{told_on, tells_in, tells_over}
+use Rattle.law_deliver.specs.AmFlow.Ups.{tells_in, tells_over}
+use Rattle.promises.specs.Events.{told_on, is_lost, losses}
 use Rattle.law_deliver.proofs.AmFlow.Events.{told_then}
 use Rattle.law_deliver.proofs.AmFlow.Sending.{is_called}
 use Rattle.law_deliver.proofs.AmFlow.Ups.{Stands, stands_more, tells_of, the_end}
 use Rattle.law_deliver.proofs.AmDelivery.Reached.{Turns}
 use Rattle.law_deliver.specs.SrbDelivery.Life.{over}
-use Rattle.law_deliver.specs.SrbDelivery.Losses.{is_lost, losses, losses_by}
+use Rattle.law_deliver.specs.SrbDelivery.Losses.{losses_by}
 use Rattle.law_deliver.proofs.SrbChannel.Sums.{calls_side, does, between_after, turns, call_new}
 
 -- ---- by the steps of a bearer

@@ -21,7 +21,7 @@ use Rattle.law_node.specs.Holding.{flow}
 use Rattle.law_node.specs.Telling.{told_of, told_over}
 use Rattle.pdcp_pdu.specs.declared.PdcpKind.TheVariants.{Srb}
 use Rattle.law_bearer.specs.AmBearer.Calls.{ups_in}
-use Rattle.law_rlc.specs.AmPair.Sdus.{IsFront}
+use Rattle.law_words.specs.Lists.{IsFront}
 use Rattle.law_deliver.specs.AmChannel.Delivery.{HasBegun, steps_over, went_up, was_submitted}
 use Rattle.law_deliver.specs.AmChannel.Drained.{has_failed, IsDrained}
 use Rattle.law_deliver.specs.AmChannel.Lives.{AirStep, InLife, lives_on, lives, IsLiving, end_at, calls_at, all_calls}
@@ -33,13 +33,14 @@ use Rattle.law_deliver.specs.AmDelivery.Drained.{IsDrained as IsDrainedBearer}
 use Rattle.bearer.specs.Sums.{is_drained}
 use Rattle.law_deliver.specs.AmFlow.Air.{Air, Step as LinkStep, outset, Begins}
 use Rattle.law_deliver.specs.AmFlow.Pair.{Pair, Step, happens, goes, outset as pair_outset}
-use Rattle.law_deliver.specs.AmFlow.Ups.{told_on, ups_on}
+use Rattle.law_deliver.specs.AmFlow.Ups.{ups_on}
+use Rattle.promises.specs.Events.{told_on, losses}
 use Rattle.law_deliver.proofs.AmFlow.Air.{begins_so}
 use Rattle.law_deliver.proofs.AmFlow.Runs.{goes_more}
 use Rattle.law_deliver.proofs.AmFlow.Stations.{Matches}
 use Rattle.law_deliver.proofs.AmFlow.Ups.{Stands, stands_more, the_end, come_between, between_at}
 use Rattle.bearer_types.specs.declared.event.Event.{Event}
-use Rattle.law_deliver.specs.SrbDelivery.Losses.{losses, near_losses, far_losses}
+use Rattle.law_deliver.specs.SrbDelivery.Losses.{near_losses, far_losses}
 use Rattle.law_deliver.specs.SrbDelivery.Life.{BothBegin, AreLived, near_ups, far_ups, near_submits, far_submits, over}
 use Rattle.law_deliver.specs.SrbDelivery.Lives.{renews, BothBeginAnew}
 use Rattle.law_deliver.proofs.SrbDelivery.Laws.{delivers_front, drained_delivers, nothing_is_lost}

@@ -34,7 +34,7 @@ use Rattle.law_pdcp.specs.SrbPair.Delivery.{AreReadAs}
 use Rattle.law_pdcp.proofs.SrbPair.Laws.{Hears}
 use Rattle.law_pdcp.proofs.SrbPair.Receives.{reads}
 use Rattle.law_pdcp.proofs.SrbPair.Sending.{AreNonempty, Sends, confirm_sends, confirm_queues}
-use Rattle.law_deliver.specs.SrbDelivery.Losses.{losses}
+use Rattle.promises.specs.Events.{losses}
 use Rattle.law_deliver.proofs.SrbDelivery.Losing.{none_then as none_lost_then, landed_none as landed_loses_none, ups_none as ups_lose_none, status_none as status_loses_none}
 use Rattle.law_deliver.proofs.SrbDelivery.Quiet.{Keeps, keeps_itself, Stays}
 use Rattle.law_deliver.proofs.SrbDelivery.Taking.{pdus_from}

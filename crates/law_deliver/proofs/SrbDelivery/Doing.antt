@@ -22,7 +22,8 @@ use Rattle.law_deliver.proofs.SrbDelivery.Arriving.{data_comes, status_comes}
 use Rattle.law_deliver.proofs.SrbDelivery.Going.{Goes, stays, calm_goes}
 use Rattle.law_deliver.proofs.SrbDelivery.Hearing.{calls_hear, status_hears, data_hears}
 use Rattle.law_deliver.proofs.SrbDelivery.Joined.{Way, flow_by, Joined, has_flow, stands_so, sound_so, SendsOn, out_goes, HearsOn, inn_goes, next_are, are_next}
-use Rattle.law_deliver.specs.SrbDelivery.Losses.{losses, losses_by}
+use Rattle.law_deliver.specs.SrbDelivery.Losses.{losses_by}
+use Rattle.promises.specs.Events.{losses}
 use Rattle.law_deliver.proofs.SrbDelivery.Losing.{calls_lose_none}
 use Rattle.bearer_types.specs.declared.Event.{Event}
 use Rattle.law_deliver.proofs.SrbDelivery.Quiet.{IsCall, calls_as, none_up, calls_stay, Keeps, tick_keeps, expire_keeps}

@@ -9,7 +9,8 @@ use Rattle.pdcp_tx.specs.State.{State as Sending}
 use Rattle.law_pdcp.specs.OneEnd.Lives.{queue}
 use Rattle.law_rlc.specs.AmPair.Flow.{Flow as Rlc, Step as RlcStep, goes as rlc_goes, outset as rlc_outset}
 use Rattle.law_rlc.specs.AmPair.Given.{AreGiven as AreGivenSteps}
-use Rattle.law_rlc.specs.AmPair.Sdus.{offered, IsFront}
+use Rattle.law_rlc.specs.AmPair.Sdus.{offered}
+use Rattle.law_words.specs.Lists.{IsFront}
 use Rattle.law_rlc.proofs.AmPair.Laws.{sound, hands-up-the-front}
 use Rattle.law_rlc.proofs.AmPair.Sound.{IsSound}
 use Rattle.law_deliver.specs.AmFlow.Flows.{IsFlow, HasFlow}

@@ -2,7 +2,8 @@
 use Rattle.std.proofs.Common.{◌≡◌, ℕ, ◌+◌, ◌==◌, Bool, true, false, not, ◌&&◌, ◌||◌, List, [], ◌∷◌, ◌++◌, map, length, is_some, slice_get, append-nil, append_assoc, length-append, refl, ap, sym, subst, ◌∙◌, arith}
 use Rattle.std.proofs.lemmas.Bool.Decides.{nat_tests}
 use Rattle.law_rlc.specs.AmPair.Flow.{sender}
-use Rattle.law_rlc.specs.AmPair.Sdus.{offered, IsFront}
+use Rattle.law_rlc.specs.AmPair.Sdus.{offered}
+use Rattle.law_words.specs.Lists.{IsFront}
 use Rattle.law_rlc.proofs.AmPair.Laws.{hands-up-all}
 use Rattle.bearer.specs.Acknowledged.State.{State, has_more}
 use Rattle.bearer.specs.Acknowledged.Sums.{is_drained}

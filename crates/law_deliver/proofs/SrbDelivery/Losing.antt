@@ -43,7 +43,7 @@ use Rattle.bearer.specs.Hearing.{expiry as flow_expiry, ticking}
 use Rattle.bearer.specs.Taking.{told}
 use Rattle.law_bearer.specs.AnyBearer.Calls.{Call, Submit, Take, Arrive, Expire, Tick, SetDiscard}
 use Rattle.law_bearer.specs.AmBearer.Calls.{tells}
-use Rattle.law_deliver.specs.SrbDelivery.Losses.{is_lost, losses}
+use Rattle.promises.specs.Events.{is_lost, losses}
 use Rattle.law_deliver.proofs.SrbDelivery.Quiet.{IsCall}
 
 pub none_then : (xs ys : List Event) → losses xs ≡ [] → losses ys ≡ [] → losses (xs ++ ys) ≡ []

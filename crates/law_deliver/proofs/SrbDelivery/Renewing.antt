@@ -27,7 +27,7 @@ use Rattle.pdcp_sec.specs.Protection.{protection_of}
 use Rattle.rlc_am_rx.specs.Machine.{finished}
 use Rattle.law_pdcp.specs.SrbPair.Beginning.{BeginAnew}
 use Rattle.law_pdcp.proofs.SrbPair.Beginning.{first_life, begins_anew}
-use Rattle.law_deliver.specs.SrbDelivery.Losses.{losses}
+use Rattle.promises.specs.Events.{losses}
 use Rattle.law_deliver.specs.SrbDelivery.Life.{BothBegin, AreLived}
 use Rattle.law_deliver.specs.SrbDelivery.Lives.{renews, BeginsAnew, BothBeginAnew, AreBothEnds}
 use Rattle.law_deliver.proofs.SrbDelivery.Joined.{Way}

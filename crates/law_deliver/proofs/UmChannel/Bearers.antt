@@ -16,7 +16,8 @@ use Rattle.law_deliver.proofs.AmChannel.Acting.{as_steps}
 use Rattle.law_deliver.proofs.AmChannel.Bearers.{between_after, all_own, expiry_told}
 use Rattle.law_deliver.proofs.AmChannel.Ends.{all_ups as ups_through}
 use Rattle.eps_sec.specs.declared.Keys.{Keys}
-use Rattle.law_deliver.specs.AmFlow.Ups.{told_on, ups_on, tells_in, goes_up_in}
+use Rattle.law_deliver.specs.AmFlow.Ups.{ups_on, tells_in, goes_up_in}
+use Rattle.promises.specs.Events.{told_on}
 use Rattle.law_deliver.proofs.AmFlow.Events.{own_told, all_on, stopping_on, ups_over}
 use Rattle.l2_types.specs.declared.side.Side.{Side}
 use Rattle.l2_types.specs.declared.side.Side.TheVariants.{Nb, Ue}

@@ -23,7 +23,7 @@ use Rattle.l2_types.specs.declared.Kind.TheVariants as kinds
 use Rattle.l2_types.specs.declared.side.Side.{Side}
 use Rattle.l2_types.specs.declared.side.Side.TheVariants.{Nb, Ue}
 use Rattle.law_node.specs.Holding.{flow}
-use Rattle.law_pdcp.specs.OneEnd.Lists.{IsSubsequence}
+use Rattle.law_words.specs.Lists.{IsSubsequence}
 use Rattle.law_deliver.specs.UmDelivery.Delivery.{AreBothEnds}
 use Rattle.law_deliver.specs.UmDelivery.Lives.{ended, last, all_ups, all_taken, all_submitted}
 use Rattle.law_deliver.proofs.UmDelivery.Laws.{delivers_what_came, delivers_in_order}

@@ -5,7 +5,7 @@ use Rattle.law_rlc.specs.AmPair.Flow.{Copy, except}
 use Rattle.harq.specs.Sending.{Sending}
 use Rattle.l2_node.specs.Finding.{Numbers}
 use Rattle.mac_pdu.specs.declared.item.Direction.{Direction}
-use Rattle.law_deliver.specs.AmFlow.Channels.{carried}
+use Rattle.promises.specs.Pdus.{carried}
 use Rattle.law_deliver.specs.AmFlow.Pair.{Sent, older as older_sent}
 use Rattle.law_deliver.proofs.AmFlow.Loads.{Load, all_copies, blocks_in, aged_load, IsLoad}
 use Rattle.law_deliver.proofs.AmFlow.Runs.{octets_of, texts_of}

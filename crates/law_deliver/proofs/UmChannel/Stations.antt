@@ -6,14 +6,15 @@ use Rattle.bearer.specs.declared.flow.Flow.{Flow}
 use Rattle.bearer.specs.declared.flow.Flow.TheVariants.{Um}
 use Rattle.bearer.specs.Unacknowledged.State.{State}
 use Rattle.law_bearer.specs.AnyBearer.Calls.{Call as BearerCall, Submit as Submits, Take as Takes, Arrive as Arrives, Expire as Expires, Tick as Ticks, SetDiscard as SetsDiscard, after_all}
-use Rattle.l2_node.specs.End.{heard_by, sent_by}
+use Rattle.bearer_types.specs.Sides.{heard_by, sent_by}
 use Rattle.l2_node.specs.Finding.{has}
 use Rattle.l2_types.specs.declared.side.Side.{Side}
 use Rattle.mac_pdu.specs.declared.item.Direction.{Direction}
 use Rattle.law_node.specs.Calls.{Turn, Call, Visits, Receive, IsGiven as IsGivenCall, after}
 use Rattle.law_node.specs.Holding.{flow}
 use Rattle.law_deliver.specs.AmFlow.Air.{Block, Station, older, passed, comes, HasCome}
-use Rattle.law_deliver.specs.AmFlow.Channels.{carried, calls_of, GoesOnInLife}
+use Rattle.law_deliver.specs.AmFlow.Channels.{calls_of, GoesOnInLife}
+use Rattle.promises.specs.Pdus.{carried}
 use Rattle.law_deliver.proofs.AmFlow.Channels.{receive_by, plain_by}
 use Rattle.law_deliver.proofs.AmFlow.Loads.{Load, all_copies, blocks_in, aged_load, aged_copies, aged_blocks, aged_all, IsLoad, except_blocks, except_all, all_at}
 use Rattle.law_deliver.proofs.AmFlow.Places.{GoesBy}

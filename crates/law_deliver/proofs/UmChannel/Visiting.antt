@@ -15,7 +15,8 @@ use Rattle.harq.specs.declared.sender.Visit.{Visit}
 use Rattle.harq.specs.declared.sender.Visit.TheVariants.{New, Resend, Silent}
 use Rattle.harq.specs.Sending.{held_of, after_visit, after_feedback}
 use Rattle.l2_node.specs.Building.{visited, loaded, built_by, built, visit}
-use Rattle.l2_node.specs.End.{End, sent_by}
+use Rattle.l2_node.specs.End.{End}
+use Rattle.bearer_types.specs.Sides.{sent_by}
 use Rattle.l2_node.specs.Finding.{find, has, bearer_at}
 use Rattle.l2_node.specs.Writing.{written, new_block}
 use Rattle.l2_types.specs.declared.side.Side.{Side}

@@ -8,7 +8,7 @@ use Rattle.l2_types.specs.declared.Kind.{Kind}
 use Rattle.l2_types.specs.declared.Kind.TheVariants as kinds
 use Rattle.l2_types.specs.declared.Side.{Side}
 use Rattle.l2_types.specs.declared.Side.TheVariants.{Nb, Ue}
-use Rattle.law_pdcp.specs.OneEnd.Lists.{IsSubsequence}
+use Rattle.law_words.specs.Lists.{IsSubsequence}
 use Rattle.pdcp_pdu.specs.declared.PdcpKind.TheVariants.{Um as UmKind}
 use Rattle.pdcp_pdu.specs.Kinds.{IsKind}
 use Rattle.pdcp_rx.specs.State.{fresh as fresh_receiving}

@@ -6,7 +6,7 @@ use Rattle.rlc_pdu.specs.Pdus.{UmdPdu, IsUmBits}
 use Rattle.rlc_um.specs.Sender.{Sender, idle_sender, width_of}
 use Rattle.rlc_um.specs.Window.{top_of}
 use Rattle.rlc_um.specs.Receiver.{State as Receiver, all_joined}
-use Rattle.law_pdcp.specs.OneEnd.Lists.{IsSubsequence}
+use Rattle.law_words.specs.Lists.{IsSubsequence}
 use Rattle.bearer.specs.declared.flow.Flow.TheVariants.{Um}
 use Rattle.bearer.specs.Unacknowledged.State.{State}
 use Rattle.law_bearer.specs.AnyBearer.Calls.{Call, Arrive}

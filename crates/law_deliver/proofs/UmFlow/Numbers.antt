@@ -5,7 +5,7 @@ use Rattle.std.proofs.lemmas.Bool.Decides.{nat_tests}
 use Rattle.rlc_pdu.specs.Pdus.{UmdPdu}
 use Rattle.rlc_queue.specs.NewPdu.{room, may_follow, rest}
 use Rattle.rlc_queue.specs.Waiting.{HaveOctets, behind}
-use Rattle.law_pdcp.specs.OneEnd.Lists.{IsSubsequence}
+use Rattle.law_words.specs.Lists.{IsSubsequence}
 use Rattle.law_rlc.specs.UmPair.Run.{Call, Arrive, Expire, Tick, Up, World, happens, run}
 use Rattle.law_rlc.specs.UmPair.Send.{Step, Flow, goes, flow}
 use Rattle.law_rlc.specs.UmPair.Loss.{kept}

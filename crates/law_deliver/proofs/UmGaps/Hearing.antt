@@ -10,13 +10,15 @@ use Rattle.law_bearer.proofs.AnyBearer.Between.{IsBetween}
 use Rattle.harq.specs.declared.sender.Visit.{Visit}
 use Rattle.harq.specs.declared.sender.Visit.TheVariants.{New, Resend, Silent}
 use Rattle.l2_node.specs.Building.{visit, visited}
-use Rattle.l2_node.specs.End.{End, heard_by, sent_by}
+use Rattle.l2_node.specs.End.{End}
+use Rattle.bearer_types.specs.Sides.{heard_by, sent_by}
 use Rattle.l2_types.specs.declared.side.Side.{Side}
 use Rattle.law_node.specs.Calls.{Turn, Call, SetVisits, SetReports, Add, Submit, SetDiscard, Tick, TickBuckets, Visits, Grants, Granted, Assigned, Pass, Receive, Expire, Move}
 use Rattle.law_node.specs.Telling.{told_of}
 use Rattle.prioritise.specs.Channels.{has as has_channel}
 use Rattle.law_deliver.specs.AmFlow.Air.{Block, Station, Act, Calls, Comes, Goes, does as air_does, IsDone as IsDoneAir}
-use Rattle.law_deliver.specs.AmFlow.Channels.{carried, only, share_of, held_of as told_held, takes_of, calls_of, GoesOnInLife}
+use Rattle.law_deliver.specs.AmFlow.Channels.{only, share_of, held_of as told_held, takes_of, calls_of, GoesOnInLife}
+use Rattle.promises.specs.Pdus.{carried}
 use Rattle.law_deliver.specs.AmFlow.Ups.{tells_over}
 use Rattle.law_deliver.proofs.AmFlow.Air.{calls_in as act_calls}
 use Rattle.law_deliver.proofs.AmFlow.Loads.{Load, blocks_in, all_at}

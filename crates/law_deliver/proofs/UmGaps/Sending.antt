@@ -9,7 +9,8 @@ use Rattle.law_bearer.specs.AnyBearer.Calls.{Call as BearerCall, Take as Takes}
 use Rattle.harq.specs.declared.sender.Visit.{Visit}
 use Rattle.harq.specs.declared.sender.Visit.TheVariants.{New, Resend, Silent}
 use Rattle.l2_node.specs.Building.{visit, visited}
-use Rattle.l2_node.specs.End.{End, heard_by, sent_by}
+use Rattle.l2_node.specs.End.{End}
+use Rattle.bearer_types.specs.Sides.{heard_by, sent_by}
 use Rattle.l2_node.specs.Writing.{new_block}
 use Rattle.l2_types.specs.declared.side.Side.{Side}
 use Rattle.mac_pdu.specs.declared.item.Direction.{Direction}
@@ -17,7 +18,8 @@ use Rattle.law_node.specs.Calls.{Turn, Call, SetVisits, SetReports, Add, Submit,
 use Rattle.law_node.specs.Holding.{flow}
 use Rattle.prioritise.specs.Channels.{has as has_channel}
 use Rattle.law_deliver.specs.AmFlow.Air.{Block, Station, Act, Calls, Comes, Goes, built_at, calls as station_calls, comes as station_comes, does as air_does, IsBuilding, IsVisiting, IsDone as IsDoneAir}
-use Rattle.law_deliver.specs.AmFlow.Channels.{carried, only, share_of, held_of as told_held, takes_of, calls_of, written_by}
+use Rattle.law_deliver.specs.AmFlow.Channels.{only, share_of, held_of as told_held, takes_of, calls_of, written_by}
+use Rattle.promises.specs.Pdus.{carried}
 use Rattle.law_deliver.proofs.AmFlow.Air.{calls_in as act_calls}
 use Rattle.law_deliver.proofs.AmFlow.Loads.{Load, all_copies, blocks_in, except_blocks, except_all, IsHeldBy}
 use Rattle.law_deliver.proofs.AmFlow.Runs.{octets_of}

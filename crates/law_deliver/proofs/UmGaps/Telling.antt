@@ -21,7 +21,8 @@ use Rattle.bearer.specs.Unacknowledged.Lives.{stopping as um_stopping}
 use Rattle.bearer.specs.Unacknowledged.State.{State}
 use Rattle.bearer.specs.Unacknowledged.Taking.{Feeding, fed, feeds, feeding, size_in, has_more, why_idle, idle_told, data_told, taking as um_taking}
 use Rattle.law_deliver.proofs.AmChannel.Bearers.{between_after}
-use Rattle.law_deliver.specs.AmFlow.Ups.{is_on, told_on, tells_in, tells_over}
+use Rattle.law_deliver.specs.AmFlow.Ups.{tells_in, tells_over}
+use Rattle.promises.specs.Events.{is_on, told_on}
 use Rattle.l2_num.specs.Timers.{ends}
 use Rattle.l2_types.specs.declared.event.Clock.{Clock}
 use Rattle.l2_types.specs.declared.event.Clock.TheVariants.{Poll, Reorder, Prohibit}

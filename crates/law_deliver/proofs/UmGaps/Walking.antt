@@ -7,7 +7,8 @@ use Rattle.law_bearer.specs.AnyBearer.Calls.{Call as BearerCall}
 use Rattle.bearer_types.specs.declared.config.BearerConfig.{BearerConfig}
 use Rattle.law_deliver.specs.AmChannel.Lives.{AirStep, InLife, lives_on, IsLiving as IsLivingAir, end_at, all_calls}
 use Rattle.law_deliver.proofs.AmChannel.Ends.{IsCall, are_calls, goes_by_calls}
-use Rattle.l2_node.specs.End.{End, sent_by}
+use Rattle.l2_node.specs.End.{End}
+use Rattle.bearer_types.specs.Sides.{sent_by}
 use Rattle.l2_types.specs.declared.side.Side.{Side}
 use Rattle.l2_types.specs.declared.side.Side.TheVariants.{Nb, Ue}
 use Rattle.law_node.specs.Calls.{Call, Move, after as after_call, run as run_end}

@@ -5,16 +5,18 @@ use Rattle.std.specs.List.{flat_map}
 use Rattle.bearer_types.specs.declared.config.BearerConfig.{BearerConfig}
 use Rattle.eps_sec.specs.declared.Keys.{Keys}
 use Rattle.l2_node.specs.Building.{visit, visited}
-use Rattle.l2_node.specs.End.{End, heard_by, sent_by}
+use Rattle.l2_node.specs.End.{End}
+use Rattle.bearer_types.specs.Sides.{heard_by, sent_by}
 use Rattle.l2_types.specs.declared.side.Side.{Side}
 use Rattle.law_node.specs.Calls.{Call, Visits, Receive, Move, after}
 use Rattle.law_node.specs.Telling.{told_of}
-use Rattle.law_rlc.specs.AmArrival.Lives.{Happening, Renews, Account, no_account, account}
+use Rattle.law_words.specs.Arrivals.{Happening, Renews, Account, no_account, account}
 use Rattle.law_bearer.specs.AmBearer.Lives.{other}
 use Rattle.law_deliver.specs.AmFlow.Air.{Block, Air, built_at, outset}
-use Rattle.law_deliver.specs.AmFlow.Channels.{carried}
-use Rattle.law_deliver.specs.AmFlow.Ups.{told_on}
-use Rattle.law_deliver.specs.AmDelivery.Arrival.{gives, writing, bringing, IsWhatCame}
+use Rattle.promises.specs.Pdus.{carried}
+use Rattle.promises.specs.Events.{told_on}
+use Rattle.law_deliver.specs.AmDelivery.Arrival.{IsWhatCame}
+use Rattle.promises.specs.Given.{gives, writing, bringing}
 use Rattle.law_deliver.specs.AmChannel.Lives.{AirStep, AreLiving, lives_on, end_at, calls_at}
 use Rattle.law_deliver.specs.AmChannel.Delivery.{BeginAlike, DiscardsNoneAt, ups_at, taken_at, submitted_at}
 

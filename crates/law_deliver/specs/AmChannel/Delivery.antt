@@ -19,11 +19,11 @@ use Rattle.law_node.specs.Calls.{Call, Add, Submit, SetDiscard, AreGiven, after,
 use Rattle.law_node.specs.Holding.{flow}
 use Rattle.law_node.specs.Telling.{told_over}
 use Rattle.law_bearer.specs.AmBearer.Lives.{other}
-use Rattle.law_rlc.specs.AmPair.Sdus.{IsFront}
+use Rattle.law_words.specs.Lists.{IsFront, IsSubsequence}
 use Rattle.law_deliver.specs.AmFlow.Air.{Air, HasCome, outset}
 use Rattle.law_deliver.specs.AmFlow.Channels.{calls_of}
-use Rattle.law_deliver.specs.AmFlow.Ups.{ups_on, discards_on, AreNew}
-use Rattle.law_pdcp.specs.OneEnd.Lists.{IsSubsequence}
+use Rattle.law_deliver.specs.AmFlow.Ups.{ups_on, AreNew}
+use Rattle.promises.specs.Events.{discards_on}
 use Rattle.law_deliver.specs.AmChannel.Lives.{AirStep, AreLiving, lives, end_at, all_calls}
 
 -- ---- where a channel begins

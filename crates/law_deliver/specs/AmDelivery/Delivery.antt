@@ -10,7 +10,7 @@ use Rattle.bearer.specs.Bearer.{flow_of}
 use Rattle.bearer.specs.declared.flow.Flow.TheVariants.{Am}
 use Rattle.pdcp_sec.specs.Protection.{Protection}
 use Rattle.law_bearer.specs.AmBearer.Lives.{protection_at}
-use Rattle.law_rlc.specs.AmPair.Sdus.{IsFront}
+use Rattle.law_words.specs.Lists.{IsFront}
 use Rattle.law_pdcp.specs.AmPair.Flow.{Event, run as run_pdcp, outset as pdcp_outset, AreGiven as AreGivenEvents}
 use Rattle.law_deliver.specs.AmFlow.Pair.{outset}
 use Rattle.law_deliver.specs.AmDelivery.Lives.{LifeStep, lives, AreLiving, over, far_ups_in, near_ups_in, near_news_in, far_news_in}

@@ -9,7 +9,7 @@ use Rattle.law_bearer.specs.AnyBearer.Queue.{submits, drops}
 use Rattle.bearer_types.specs.declared.BearerConfig.{BearerConfig}
 use Rattle.eps_sec.specs.declared.Keys.{Keys}
 use Rattle.l2_types.specs.declared.Side.TheVariants.{Nb, Ue}
-use Rattle.law_rlc.specs.AmPair.Sdus.{IsFront}
+use Rattle.law_words.specs.Lists.{IsFront}
 use Rattle.law_deliver.specs.AmFlow.Pair.{Pair, outset}
 use Rattle.law_deliver.specs.AmDelivery.Delivery.{AreBothEnds}
 use Rattle.law_deliver.specs.AmDelivery.Lives.{LifeStep, InLife, Restarts, lives, AreLiving, near_calls, far_calls, far_ups_in, near_ups_in, over}

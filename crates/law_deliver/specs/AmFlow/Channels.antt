@@ -1,6 +1,6 @@
 -- What each call of an end is to its bearer of a channel: calls of the bearer's own, in which come the PDUs of the channel that a block carries
 -- (TS 36.321 5.3.3, 5.4.2), and by which it writes those that a new block carries (TS 36.321 5.4.3.1).
-use Rattle.std.specs.Prelude.{◌≡◌, ℕ, ◌≤◌, ◌==◌, if◌then◌else◌, Bool, true, false, Option, Some, None, Result, Ok, Err, List, [], ◌∷◌, ◌++◌, map, slice_index}
+use Rattle.std.specs.Prelude.{◌≡◌, ℕ, ◌≤◌, ◌==◌, if◌then◌else◌, Bool, true, false, Option, Some, None, List, [], ◌∷◌, map, slice_index}
 use Rattle.bearer.specs.Taking.{pdus}
 use Rattle.law_bearer.specs.AnyBearer.Calls.{Call as BearerCall, Submit as Submits, Take as Takes, Arrive as Arrives, Expire as Expires, Tick as Ticks, SetDiscard as SetsDiscard, after_all}
 use Rattle.harq.specs.declared.sender.Order.{Order}
@@ -8,39 +8,17 @@ use Rattle.harq.specs.declared.sender.Visit.{Visit}
 use Rattle.harq.specs.declared.sender.Visit.TheVariants.{New, Resend, Silent}
 use Rattle.l2_bits.specs.declared.fault.SubmitRefusal.{SubmitRefusal}
 use Rattle.l2_node.specs.Building.{visit, visited}
-use Rattle.l2_node.specs.End.{End, heard_by, sent_by}
+use Rattle.l2_node.specs.End.{End}
+use Rattle.bearer_types.specs.Sides.{heard_by, sent_by}
 use Rattle.l2_node.specs.Finding.{has, lowest}
 use Rattle.l2_node.specs.Submitting.{refusal}
 use Rattle.l2_node.specs.Writing.{shares, new_block}
 use Rattle.l2_types.specs.declared.side.Side.{Side}
-use Rattle.mac_pdu.specs.declared.fault.MacRefusal.{MacRefusal}
-use Rattle.mac_pdu.specs.declared.item.Direction.{Direction}
-use Rattle.mac_pdu.specs.Items.{MacItem, front, element, sdu, padding}
-use Rattle.mac_pdu.specs.Reading.{reading}
 use Rattle.law_node.specs.Bearers.{adds, keys_in}
 use Rattle.law_node.specs.Calls.{Turn, Call, SetVisits, SetReports, Add, Submit, SetDiscard, Tick, TickBuckets, Visits, Grants, Granted, Assigned, Pass, Receive, Expire, Move, IsGiven, AreGiven, after, reached}
 use Rattle.law_node.specs.Holding.{flow}
 use Rattle.prioritise.specs.Channels.{has as has_channel}
-
--- ---- the PDUs of a channel that a block carries
-
-abbrev pub pdus_in : ℕ → MacItem → List (List ℕ)
-pdus_in l front = []
-pdus_in l (element control) = []
-pdus_in l (sdu lcid octets) = if lcid == l then octets ∷ [] else []
-pdus_in l (padding n) = []
-
-abbrev pub pdus_among : ℕ → List MacItem → List (List ℕ)
-pdus_among l [] = []
-pdus_among l (i ∷ is) = pdus_in l i ++ pdus_among l is
-
--- a block that can't be read carries none
-abbrev pub pdus_read : ℕ → Result (List MacItem) MacRefusal → List (List ℕ)
-pdus_read l (Ok items) = pdus_among l items
-pdus_read l (Err refusal) = []
-
-abbrev pub carried : ℕ → Direction → List ℕ → List (List ℕ)
-carried l direction block = pdus_read l (reading direction block)
+use Rattle.promises.specs.Pdus.{carried}
 
 -- ---- the calls of its bearer
 

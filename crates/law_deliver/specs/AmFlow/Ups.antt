@@ -1,14 +1,14 @@
 -- What an end tells of a channel in its calls is what the calls of its bearer tell, so what goes up on the channel is what these hand up
 -- (TS 36.322 5.1, TS 36.323 5.1.2).
 use Rattle.std.specs.Prelude.{◌≡◌, ℕ, ◌==◌, if◌then◌else◌, Bool, true, false, List, [], ◌∷◌, ◌++◌, unwrap_or}
-use Rattle.std.specs.List.{AllByRecursion, filter, flat_map}
+use Rattle.std.specs.List.{AllByRecursion, flat_map}
 use Rattle.bearer.specs.declared.flow.Flow.{Flow}
 use Rattle.bearer.specs.Hearing.{arriving, expiry, ticking}
 use Rattle.bearer.specs.Lives.{stopping}
 use Rattle.bearer.specs.Taking.{told}
 use Rattle.law_bearer.specs.AnyBearer.Calls.{Call as BearerCall, Submit as Submits, Take as Takes, Arrive as Arrives, Expire as Expires, Tick as Ticks, SetDiscard as SetsDiscard, Restart, after as called, after_all, goes}
 use Rattle.bearer_types.specs.declared.event.Event.{Event}
-use Rattle.bearer_types.specs.declared.event.Event.TheVariants.{Take, Report, Send, Wait, Start, Stop, Expired, Up, Fail, Drop, Integrity, BadMac, BadRlc, BadPdcp, Discard}
+use Rattle.bearer_types.specs.declared.event.Event.TheVariants.{Up}
 use Rattle.eps_sec.specs.declared.Keys.{Keys}
 use Rattle.l2_node.specs.End.{End, fresh}
 use Rattle.l2_node.specs.Finding.{has}
@@ -18,28 +18,9 @@ use Rattle.law_node.specs.Calls.{Call, Move, IsGiven, AreGiven, after, run, reac
 use Rattle.law_node.specs.Holding.{flow}
 use Rattle.law_node.specs.Telling.{told_of, told_over}
 use Rattle.law_deliver.specs.AmFlow.Channels.{GoesOnInLife, calls_of}
+use Rattle.promises.specs.Events.{told_on, discards_on}
 
 -- ---- what is told of a channel; of a block that can't be read it is told of none
-
-abbrev pub is_on : ℕ → Event → Bool
-is_on l (Take lcid count len) = lcid == l
-is_on l (Report lcid fms bitmap) = lcid == l
-is_on l (Send lcid how sn) = lcid == l
-is_on l (Wait lcid why) = lcid == l
-is_on l (Start lcid clock) = lcid == l
-is_on l (Stop lcid clock) = lcid == l
-is_on l (Expired lcid clock) = lcid == l
-is_on l (Up lcid sdu) = lcid == l
-is_on l (Fail lcid sn) = lcid == l
-is_on l (Drop lcid why) = lcid == l
-is_on l (Integrity lcid found wanted) = lcid == l
-is_on l (BadMac fault) = false
-is_on l (BadRlc lcid fault) = lcid == l
-is_on l (BadPdcp lcid fault) = lcid == l
-is_on l (Discard lcid len) = lcid == l
-
-abbrev pub told_on : ℕ → List Event → List Event
-told_on l events = filter (is_on l) events
 
 -- the SDUs that go up on it
 abbrev pub ups_in : ℕ → Event → List (List ℕ)
@@ -48,14 +29,6 @@ ups_in l event = []
 
 abbrev pub ups_on : ℕ → List Event → List (List ℕ)
 ups_on l events = flat_map (ups_in l) events
-
--- the lengths of those whose discard timers end (TS 36.323 5.4)
-abbrev pub discards_in : ℕ → Event → List ℕ
-discards_in l (Discard lcid len) = if lcid == l then len ∷ [] else []
-discards_in l event = []
-
-abbrev pub discards_on : ℕ → List Event → List ℕ
-discards_on l events = flat_map (discards_in l) events
 
 -- ---- what comes of the calls of a bearer
 

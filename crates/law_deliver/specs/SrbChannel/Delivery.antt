@@ -9,13 +9,13 @@ use Rattle.l2_types.specs.declared.side.Side.TheVariants.{Nb, Ue}
 use Rattle.law_node.specs.Calls.{Move}
 use Rattle.law_node.specs.Telling.{told_of, told_over}
 use Rattle.law_bearer.specs.AmBearer.Lives.{other}
-use Rattle.law_rlc.specs.AmPair.Sdus.{IsFront}
+use Rattle.law_words.specs.Lists.{IsFront}
 use Rattle.law_deliver.specs.AmChannel.Delivery.{HasBegun, SetNoneAt, ups_at, submitted_at}
 use Rattle.law_deliver.specs.AmChannel.Drained.{IsDrained}
 use Rattle.law_deliver.specs.AmChannel.Lives.{AirStep, AreLiving, lives, end_at, all_calls}
 use Rattle.law_deliver.specs.AmFlow.Air.{outset}
-use Rattle.law_deliver.specs.AmFlow.Ups.{told_on, ups_on}
-use Rattle.law_deliver.specs.SrbDelivery.Losses.{losses}
+use Rattle.law_deliver.specs.AmFlow.Ups.{ups_on}
+use Rattle.promises.specs.Events.{told_on, losses}
 use Rattle.law_deliver.specs.SrbChannel.Running.{Life, start, running, first_life}
 
 -- two ends that begin the channel under one configuration of signalling and the same keys; a COUNT has 32 bits

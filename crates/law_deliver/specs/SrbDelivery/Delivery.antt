@@ -1,6 +1,6 @@
 -- What a signalling bearer delivers in a life, in each direction (TS 36.323 5.1).
 use Rattle.std.specs.Prelude.{◌≡◌, List}
-use Rattle.law_rlc.specs.AmPair.Sdus.{IsFront}
+use Rattle.law_words.specs.Lists.{IsFront}
 use Rattle.bearer.specs.Acknowledged.State.{State}
 use Rattle.law_deliver.specs.AmDelivery.Drained.{IsDrained}
 use Rattle.law_deliver.specs.AmFlow.Pair.{Step, goes, outset}

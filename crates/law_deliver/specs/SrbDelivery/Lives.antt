@@ -1,7 +1,7 @@
 -- A signalling bearer from life to life: both ends begin anew under the same keys, with COUNT 0, and drop what waits (TS 36.323 5.2.1.3, 5.2.2.3).
 use Rattle.std.specs.Prelude.{◌≡◌, ℕ, ◌≤◌, ◌^◌, List, [], ◌∷◌, ◌++◌}
 use Rattle.law_bearer.specs.AmBearer.Calls.{ups_in}
-use Rattle.law_rlc.specs.AmPair.Sdus.{IsFront}
+use Rattle.law_words.specs.Lists.{IsFront}
 use Rattle.bearer.specs.Bearer.{flow_of}
 use Rattle.bearer.specs.declared.flow.Flow.TheVariants.{Am}
 use Rattle.bearer.specs.Lives.{stopping}
@@ -15,7 +15,7 @@ use Rattle.l2_types.specs.declared.Kind.TheVariants as kinds
 use Rattle.l2_types.specs.declared.Side.TheVariants.{Nb, Ue}
 use Rattle.pdcp_rx.specs.State.{restarted as restarted_receiving}
 use Rattle.pdcp_tx.specs.State.{restarted as restarted_sending}
-use Rattle.law_deliver.specs.SrbDelivery.Losses.{losses}
+use Rattle.promises.specs.Events.{losses}
 use Rattle.law_deliver.specs.SrbDelivery.Life.{BothBegin, MayHappen, AreLived, near_ups, far_ups, near_submits, far_submits}
 
 -- ---- a life ends, and the next one begins

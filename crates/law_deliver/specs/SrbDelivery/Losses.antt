@@ -1,32 +1,13 @@
 -- What PDCP's receiver of a signalling bearer might lose, and in a life doesn't (TS 36.323 5.1.2.2, 5.7).
-use Rattle.std.specs.Prelude.{◌≡◌, Bool, true, false, List, [], ◌∷◌}
-use Rattle.std.specs.List.{filter}
+use Rattle.std.specs.Prelude.{◌≡◌, List, [], ◌∷◌}
 use Rattle.bearer.specs.Acknowledged.State.{State}
 use Rattle.law_bearer.specs.AnyBearer.Calls.{Call}
 use Rattle.bearer_types.specs.declared.Event.{Event}
-use Rattle.bearer_types.specs.declared.Event.TheVariants.{Drop, Integrity, BadPdcp}
-use Rattle.l2_types.specs.declared.Lost.{Lost}
-use Rattle.l2_types.specs.declared.Lost.TheVariants as lost
 use Rattle.law_bearer.specs.AmBearer.Calls.{tells}
 use Rattle.law_deliver.specs.AmDelivery.Lives.{near_calls, far_calls}
 use Rattle.law_deliver.specs.AmFlow.Pair.{Pair, Step, outset}
 use Rattle.law_deliver.specs.SrbDelivery.Life.{BothBegin, AreLived, over}
-
--- a PDU of PDCP has a COUNT that was before, or is beyond 32 bits
-abbrev pub is_of_count : Lost → Bool
-is_of_count lost.Old = true
-is_of_count lost.Range = true
-is_of_count why = false
-
--- or its MAC-I differs, or it can't be read
-abbrev pub is_lost : Event → Bool
-is_lost (Drop lcid why) = is_of_count why
-is_lost (Integrity lcid found wanted) = true
-is_lost (BadPdcp lcid fault) = true
-is_lost event = false
-
-abbrev pub losses : List Event → List Event
-losses told = filter is_lost told
+use Rattle.promises.specs.Events.{losses}
 
 -- what an end tells of it in a step
 abbrev pub losses_by : State → List Call → List Event

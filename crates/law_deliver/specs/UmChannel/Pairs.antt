@@ -2,13 +2,14 @@
 -- by one, in which each is known by its number (TS 36.321 5.3.3, 5.4.2, TS 36.322 4.2.1.2).
 use Rattle.std.specs.Prelude.{ℕ, zero, suc, ◌+◌, List, [], ◌∷◌, ◌++◌, map, length, Option, Some, None, slice_get}
 use Rattle.eps_sec.specs.declared.Keys.{Keys}
-use Rattle.l2_node.specs.End.{heard_by, sent_by}
+use Rattle.bearer_types.specs.Sides.{heard_by, sent_by}
 use Rattle.l2_types.specs.declared.side.Side.{Side}
 use Rattle.l2_types.specs.declared.side.Side.TheVariants.{Nb, Ue}
 use Rattle.mac_pdu.specs.declared.item.Direction.{Direction}
 use Rattle.law_deliver.specs.AmChannel.Lives.{AirStep, InLife, Moves, lives_on}
 use Rattle.law_deliver.specs.AmFlow.Air.{Block, Station, Air, Act, Calls, Comes, Goes, Step, AtNb, AtUe, Passes}
-use Rattle.law_deliver.specs.AmFlow.Channels.{carried, calls_of}
+use Rattle.law_deliver.specs.AmFlow.Channels.{calls_of}
+use Rattle.promises.specs.Pdus.{carried}
 use Rattle.law_deliver.specs.UmFlow.Pair.{Deed, Calls as CallsBearer, Comes as PduComes, Goes as PduGoes, Step as PairStep, Near, Far}
 use Rattle.law_deliver.specs.UmDelivery.Lives.{Life}
 

@@ -9,7 +9,7 @@ use Rattle.l2_types.specs.declared.Side.TheVariants.{Nb, Ue}
 use Rattle.bearer.specs.Bearer.{flow_of}
 use Rattle.bearer.specs.declared.flow.Flow.TheVariants.{Um}
 use Rattle.bearer.specs.Unacknowledged.State.{State}
-use Rattle.law_pdcp.specs.OneEnd.Lists.{IsSubsequence}
+use Rattle.law_words.specs.Lists.{IsSubsequence}
 use Rattle.law_rlc.specs.UmPair.Which.{those}
 use Rattle.law_deliver.specs.UmFlow.Pair.{Step, outset}
 use Rattle.law_deliver.specs.UmFlow.Flows.{Way, places, last_places}

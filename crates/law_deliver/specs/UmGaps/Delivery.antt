@@ -6,9 +6,10 @@ use Rattle.law_deliver.specs.AmChannel.Delivery.{ups_at, submitted_at}
 use Rattle.law_deliver.specs.AmChannel.Lives.{AirStep, AreLiving}
 use Rattle.eps_sec.specs.declared.Keys.{Keys}
 use Rattle.law_deliver.specs.AmFlow.Air.{outset}
-use Rattle.l2_node.specs.End.{End, sent_by}
+use Rattle.l2_node.specs.End.{End}
+use Rattle.bearer_types.specs.Sides.{sent_by}
 use Rattle.l2_types.specs.declared.side.Side.{Side}
-use Rattle.law_pdcp.specs.OneEnd.Lists.{IsSubsequence}
+use Rattle.law_words.specs.Lists.{IsSubsequence}
 use Rattle.law_deliver.specs.UmChannel.Delivery.{BeginAlike, AreShortFrom}
 use Rattle.um_losses.specs.Flow.{Flow, begun}
 use Rattle.um_losses.specs.Told.{all_after}

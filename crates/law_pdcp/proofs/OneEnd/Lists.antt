@@ -1,7 +1,7 @@
 -- A list with some of its items left out: order, and what holds of each item, stay.
 use Rattle.std.proofs.Common.{List, [], ◌∷◌, ◌++◌, map, All, inl, inr, subst, refl, ap, sym, ◌∙◌}
 use Rattle.std.proofs.lemmas.List.Elements.{All-nil, All-cons, All-head, All-tail}
-use Rattle.law_pdcp.specs.OneEnd.Lists.{IsSubsequence}
+use Rattle.law_words.specs.Lists.{IsSubsequence}
 
 pub same : {A : Type 0} (xs : List A) → IsSubsequence xs xs
 same [] = tt

@@ -13,7 +13,7 @@ use Rattle.pdcp_tx_store.specs.Given.{acked_at, entry_at, heard, untold, trimmed
 use Rattle.pdcp_tx.specs.State.{State, start, sent, submitted, took, took_owed, took_again, took_new, confirmed, reported, reported_from, fms_count, after_late, restarted, next_from, kept_again}
 use Rattle.pdcp_tx.specs.Runs.{Submit, Take, Confirm, Report, Owe, Tick, Late, IsOrdered}
 use Rattle.law_pdcp.specs.OneEnd.Lives.{Step, Calls, SetDiscard, Restart, goes, run}
-use Rattle.law_pdcp.specs.OneEnd.Lists.{IsSubsequence}
+use Rattle.law_words.specs.Lists.{IsSubsequence}
 use Rattle.law_pdcp.proofs.OneEnd.Lists.{thinner}
 use Rattle.law_pdcp.proofs.OneEnd.Thinning.{named, names, In, thin_in, lower, higher, grows, of, of_again, of_new, of_own, trims, of_acked, hears, unackeds}
 

@@ -6,7 +6,7 @@ use Rattle.pdcp_tx_store.specs.declared.given.Sent.{Sent}
 use Rattle.pdcp_tx_store.specs.declared.given.Entry.{Entry}
 use Rattle.pdcp_tx_store.specs.declared.given.Entry.TheVariants.{Data, Own, Gone}
 use Rattle.pdcp_tx_store.specs.Given.{Given, trimmed, acked, acked_at, entry_at, tells, heard, untold, from_unacked, data_of}
-use Rattle.law_pdcp.specs.OneEnd.Lists.{IsSubsequence}
+use Rattle.law_words.specs.Lists.{IsSubsequence}
 use Rattle.law_pdcp.proofs.OneEnd.Lists.{same, without_first, mapped}
 
 -- an SDU with its COUNT

@@ -7,7 +7,7 @@ use Rattle.pdcp_tx_store.specs.Waiting.{Waits}
 use Rattle.pdcp_tx_store.specs.Given.{tells, untold}
 use Rattle.pdcp_tx.specs.State.{State, submitted, took, took_owed, took_again, took_new, confirmed, reported, reported_from, fms_count, after_late}
 use Rattle.pdcp_tx.specs.Runs.{Call, Submit, Take, Confirm, Report, Owe, Tick, Late, after}
-use Rattle.law_pdcp.specs.OneEnd.Lists.{IsSubsequence}
+use Rattle.law_words.specs.Lists.{IsSubsequence}
 use Rattle.law_pdcp.specs.OneEnd.Again.{again_behind, takes_again, taken_again, after_all, all_again, told_from, told_by, told_in, LeavesOutWhatIsTold, IsUntold, LeavesOutTheTold}
 use Rattle.law_pdcp.proofs.OneEnd.Lists.{same, thinner, behind, all_left}
 use Rattle.law_pdcp.proofs.OneEnd.Thinning.{untolds}

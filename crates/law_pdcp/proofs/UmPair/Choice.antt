@@ -2,7 +2,7 @@
 use Rattle.std.proofs.Common.{◌≡◌, ◌≢◌, ◌⊎◌, ◌<◌, ◌≤◌, ℕ, suc, zero, ◌+◌, List, [], ◌∷◌, ◌++◌, length, drop, Some, None, slice_get, slice_index_or, ⊎_elim, inl, inr, subst, refl, ap, sym, ◌∙◌, arith}
 use Rattle.std.proofs.lemmas.Bool.{cases_eq}
 use Rattle.l2_num.specs.Ascending.{AreBetween}
-use Rattle.law_pdcp.specs.OneEnd.Lists.{IsSubsequence}
+use Rattle.law_words.specs.Lists.{IsSubsequence}
 use Rattle.law_pdcp.specs.UmPair.Delivery.{those}
 
 -- ---- an item

@@ -12,7 +12,7 @@ use Rattle.pdcp_tx.specs.declared.sender.Next.{Next}
 use Rattle.pdcp_tx.specs.State.{State, start, submitted, took, took_owed, took_again, took_new, confirmed, reported, reported_from, fms_count, after_late, is_late, is_overdue, restarted}
 use Rattle.pdcp_tx.specs.Runs.{Call, Submit, Take, Confirm, Report, Owe, Tick, Late, after}
 use Rattle.pdcp_rx.specs.declared.got.Cause.{Cause}
-use Rattle.law_pdcp.specs.OneEnd.Lists.{IsSubsequence}
+use Rattle.law_words.specs.Lists.{IsSubsequence}
 use Rattle.law_pdcp.specs.OneEnd.Lives.{Step, Calls, SetDiscard as SetsDiscard, Restart as Restarts, goes, run as run_steps, first_sdu, takes_first, first_taken, leaves, left_in, submitted_in, queue}
 use Rattle.law_pdcp.proofs.OneEnd.Lists.{same, without_first, thinner}
 use Rattle.law_pdcp.proofs.OneEnd.Queue.{in_order}

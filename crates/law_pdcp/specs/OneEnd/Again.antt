@@ -4,7 +4,7 @@ use Rattle.pdcp_tx_store.specs.declared.given.Sent.{Sent}
 use Rattle.pdcp_tx_store.specs.Given.{tells}
 use Rattle.pdcp_tx.specs.State.{State, fms_count, reported}
 use Rattle.pdcp_tx.specs.Runs.{Call, Submit, Take, Confirm, Report, Owe, Tick, Late, after}
-use Rattle.law_pdcp.specs.OneEnd.Lists.{IsSubsequence}
+use Rattle.law_words.specs.Lists.{IsSubsequence}
 
 abbrev pub again_behind : Option (List ℕ) → List Sent → List Sent
 again_behind None xs = take 1 xs

@@ -4,7 +4,7 @@ use Rattle.l2_num.specs.Ascending.{AreBetween}
 use Rattle.pdcp_pdu.specs.declared.PdcpKind.TheVariants.{Um}
 use Rattle.pdcp_pdu.specs.Kinds.{IsKind}
 use Rattle.pdcp_sec.specs.Protection.{Protection}
-use Rattle.law_pdcp.specs.OneEnd.Lists.{IsSubsequence}
+use Rattle.law_words.specs.Lists.{IsSubsequence}
 use Rattle.law_pdcp.specs.OneEnd.Lives.{submitted_in, queue}
 use Rattle.law_pdcp.specs.UmPair.Flow.{Flow, Event, Sends, SetDiscard, HandUp, Raise, Restart, run, outset, steps, AreGiven, AreShort}
 

@@ -11,7 +11,7 @@ use Rattle.law_rlc.specs.AmReceiver.Finish.{Place, marked, cut, all_come}
 use Rattle.law_rlc.specs.AmPair.Fields.{cell_of, cells_of}
 use Rattle.law_rlc.proofs.AmPair.Parts.{cells-length}
 use Rattle.law_rlc.proofs.AmPair.Sequence.{come-push}
-use Rattle.law_rlc.specs.AmArrival.Stretches.{place_of, all_from}
+use Rattle.law_words.specs.Stretches.{place_of, all_from}
 use Rattle.law_rlc.proofs.AmArrival.Places.{all_from_false}
 
 abbrev pub is_whole : List (List Place) → ℕ → Bool

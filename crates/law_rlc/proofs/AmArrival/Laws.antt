@@ -15,8 +15,8 @@ use Rattle.law_rlc.proofs.AmPair.Laws.{sound}
 use Rattle.law_rlc.proofs.AmPair.Parts.{cells-length}
 use Rattle.law_rlc.proofs.AmPair.Sound.{IsSound}
 use Rattle.law_rlc.proofs.AmPair.Whole.{together, whole-stream, have-octets}
-use Rattle.law_rlc.specs.AmArrival.Stretches.{place_of, has_come, all_from}
-use Rattle.law_rlc.specs.AmArrival.Passing.{Told, nothing_told, told_in}
+use Rattle.law_words.specs.Stretches.{place_of, octet_has_come, all_from}
+use Rattle.law_words.specs.Passing.{Told, nothing_told, with_passings}
 use Rattle.law_rlc.specs.AmArrival.Arrival.{passed, ArrivesAsTold, PdusTellWhatArrives}
 use Rattle.law_rlc.proofs.AmArrival.Places.{come_covered, none_behind}
 use Rattle.law_rlc.proofs.AmArrival.Kept.{kept_is, none_above}
@@ -90,7 +90,7 @@ arrives_as_told f t h k place =
     seen = top (receiver f).state.window
 
     at : ℕ → Bool
-    at = has_come t.fields t.came
+    at = octet_has_come t.fields t.came
 
     start : 0 + place_of (map length (offered f)) place ≡ place_of (map length (offered f)) place
     start = omega arith
@@ -141,5 +141,5 @@ pub tell_what_arrives : PdusTellWhatArrives
 tell_what_arrives sending receiving steps given =
     let f : Flow = outset sending receiving in
     let first : IsSound f = sound sending receiving [] tt in
-    arrives_as_told (goes steps f) (told_in (passed steps f) nothing_told) (sound sending receiving steps given)
+    arrives_as_told (goes steps f) (with_passings (passed steps f) nothing_told) (sound sending receiving steps given)
     (steps_tell steps f nothing_told given first (first_tells sending receiving))

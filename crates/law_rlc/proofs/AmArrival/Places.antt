@@ -3,7 +3,7 @@ use Rattle.std.proofs.Common.{◌≡◌, ◌<◌, ◌≤◌, inl, inr, ℕ, zero
 use Rattle.std.specs.List.{AllByRecursion}
 use Rattle.std.proofs.lemmas.Bool.Decides.{nat_tests}
 use Rattle.std.proofs.lemmas.Bool.{cases_lt, cases_eq}
-use Rattle.law_rlc.specs.AmArrival.Stretches.{Stretch, place_of, covers, has_come, all_from}
+use Rattle.law_words.specs.Stretches.{Stretch, place_of, covers, octet_has_come, all_from}
 
 -- ---- sizes one behind the other
 
@@ -60,16 +60,16 @@ covers_lies fields s n i w known lt = elim (cases_eq s.number n) [
 ]
 
 pub come_covered : (fields : List ℕ) (came : List Stretch) (n i : ℕ) → AllByRecursion (IsWithin fields) came → n < length fields → i < slice_index fields n
-    → has_come fields came (place_of fields n + i) ≡ covered came n i
+    → octet_has_come fields came (place_of fields n + i) ≡ covered came n i
 come_covered fields [] n i h known lt = refl
 come_covered fields (s ∷ came) n i h known lt =
     let a = covers_lies fields s n i h.0 known lt in
     let ih = come_covered fields came n i h.1 known lt in
-    ap (λ (b : Bool). b || has_come fields came (place_of fields n + i)) a ∙ ap (λ (b : Bool). lies s n i || b) ih
+    ap (λ (b : Bool). b || octet_has_come fields came (place_of fields n + i)) a ∙ ap (λ (b : Bool). lies s n i || b) ih
 
 -- none lies behind all fields
 pub none_behind : (fields : List ℕ) (came : List Stretch) (place : ℕ) → AllByRecursion (IsWithin fields) came → place_of fields (length fields) ≤ place
-    → has_come fields came place ≡ false
+    → octet_has_come fields came place ≡ false
 none_behind fields [] place h le = refl
 none_behind fields (s ∷ came) place h le =
     let ih = none_behind fields came place h.1 le in

@@ -29,8 +29,8 @@ use Rattle.law_rlc.proofs.AmPair.Parts.{cells-length, stretch-part}
 use Rattle.law_rlc.proofs.AmPair.Reading.{IsAired, read_as, stretch-read}
 use Rattle.law_rlc.proofs.AmPair.Runs.{sender-more, receiver-more}
 use Rattle.law_rlc.proofs.AmPair.Sound.{IsTrueCopy, IsSound, IsKept}
-use Rattle.law_rlc.specs.AmArrival.Stretches.{Stretch}
-use Rattle.law_rlc.specs.AmArrival.Passing.{Passing, Writes, Comes, Told, nothing_told, with_field, last_with, stretch_of, with_stretch, written_as, come_as, told_by, told_in}
+use Rattle.law_words.specs.Stretches.{Stretch}
+use Rattle.law_words.specs.Passing.{Passing, Writes, Comes, Told, nothing_told, with_field, last_with, stretch_of, with_stretch, written_as, come_as, with_passing, with_passings}
 use Rattle.law_rlc.specs.AmArrival.Arrival.{written_in, coming, passing, passed}
 use Rattle.law_rlc.proofs.AmArrival.Places.{IsWithin, lies, covered}
 use Rattle.law_rlc.proofs.AmArrival.Kept.{none_unsent}
@@ -148,7 +148,7 @@ reads_new number poll ps a =
 -- ---- the sender
 
 -- nothing that is sent is told of anew
-told_none : (a : Taken) (t : Told) → IsNone a → told_in (written_in a) t ≡ t
+told_none : (a : Taken) (t : Told) → IsNone a → with_passings (written_in a) t ≡ t
 told_none (taken.Piece number fresh polled octets) t n = absurd n
 told_none taken.Idle t n = refl
 told_none taken.Small t n = refl
@@ -156,13 +156,13 @@ told_none taken.Shut t n = refl
 told_none taken.Held t n = refl
 told_none taken.Stopped t n = refl
 
-told_written : (octets : List ℕ) (pdu : AmdPdu) (t : Told) → am_at octets ≡ Ok (Payload pdu) → told_by (Writes octets) t ≡ with_field pdu t
+told_written : (octets : List ℕ) (pdu : AmdPdu) (t : Told) → am_at octets ≡ Ok (Payload pdu) → with_passing (Writes octets) t ≡ with_field pdu t
 told_written octets pdu t e = ap (λ (x : Result AcknowledgedPdu RlcRefusal). written_as x t) e
 
-told_come : (octets : List ℕ) (pdu : AmdPdu) (t : Told) → am_at octets ≡ Ok (Payload pdu) → told_by (Comes octets) t ≡ with_stretch pdu t
+told_come : (octets : List ℕ) (pdu : AmdPdu) (t : Told) → am_at octets ≡ Ok (Payload pdu) → with_passing (Comes octets) t ≡ with_stretch pdu t
 told_come octets pdu t e = ap (λ (x : Result AcknowledgedPdu RlcRefusal). come_as x t) e
 
-told_again : (f : Flow) (c : Copy) (t : Told) → IsSound f → IsTrueCopy (sender f).past.sent c → length t.fields ≡ length (sender f).past.sent → told_by (Writes c.octets) t ≡ t
+told_again : (f : Flow) (c : Copy) (t : Told) → IsSound f → IsTrueCopy (sender f).past.sent c → length t.fields ≡ length (sender f).past.sent → with_passing (Writes c.octets) t ≡ t
 told_again f c t h q count =
     let r = reads_copy f c h q in
     let k = q.known in
@@ -177,7 +177,7 @@ sent_so f c = ap (λ (x : SenderWorld Octets). x.past.sent) (sender-more f c)
 again_tells : (f : Flow) (size : ℕ) (held : Option ℕ) (more : Bool) (from to : ℕ) (a : Taken) (t : Told) → answer (sender f).state size held more ≡ a
     → IsAgain (sender f).state size from to (sender f).past a
     → (octets_after (sender f).state (Take size held more) (sender f).past).sent ≡ (sender f).past.sent → IsSound (sends f (Take size held more)) → TellsOf f t
-    → TellsOf f (told_in (written_in a) t)
+    → TellsOf f (with_passings (written_in a) t)
 again_tells f size held more from to a t g w same ok k =
     let number = number_again (sender f).state in
     let octets = again_octets (sender f).past number from to (poll_of a) in
@@ -187,12 +187,12 @@ again_tells f size held more from to a t g w same ok k =
     let all : AllByRecursion (IsTrueCopy (sender d).past.sent) (c ∷ f.copies) = subst (λ (cs : List Copy). AllByRecursion (IsTrueCopy (sender d).past.sent) cs) copies ok.copies in
     let sent : (sender d).past.sent ≡ (sender f).past.sent = ap (λ (x : SenderWorld Octets). x.past.sent) (sender-more f (Take size held more)) ∙ same in
     let count : length t.fields ≡ length (sender d).past.sent = count_is (sender f).past.sent (receiver f).kept t k ∙ ap (λ (x : List (List Place)). length x) (sym sent) in
-    subst (λ (x : Told). TellsOf f x) (sym (ap (λ (x : Taken). told_in (written_in x) t) w.is ∙ told_again d c t ok all.0 count)) k
+    subst (λ (x : Told). TellsOf f x) (sym (ap (λ (x : Taken). with_passings (written_in x) t) w.is ∙ told_again d c t ok all.0 count)) k
 
 sends_tell : (f : Flow) (size : ℕ) (held : Option ℕ) (more : Bool) (u : Turn) (a : Taken) (t : Told) → turn (sender f).state size held more ≡ u
     → answer (sender f).state size held more ≡ a
     → IsWritten u (sender f).state size (sender f).past a → IsSound f → IsSound (sends f (Take size held more)) → TellsOf f t
-    → Tells (octets_by u (sender f).state size (sender f).past).sent (receiver f).kept (told_in (written_in a) t)
+    → Tells (octets_by u (sender f).state size (sender f).past).sent (receiver f).kept (with_passings (written_in a) t)
 sends_tell f size held more turns.New a t e g w h ok k =
     let o = (sender f).past in
     let ps = take (new_count (sender f).state size) o.unsent in
@@ -203,8 +203,8 @@ sends_tell f size held more turns.New a t e g w h ok k =
     (ok.aired (length o.sent) (let c = ap (λ (sent : List (List Place)). length sent) now in omega (arith, c, l))) in
     let r = reads_new (length o.sent) (poll_of a) ps aired in
     let c = count_is o.sent (receiver f).kept t k in
-    let told : told_in (written_in a) t ≡ record t { fields = t.fields ++ length ps ∷ [] } =
-    ap (λ (x : Taken). told_in (written_in x) t) w.is
+    let told : with_passings (written_in a) t ≡ record t { fields = t.fields ++ length ps ∷ [] } =
+    ap (λ (x : Taken). with_passings (written_in x) t) w.is
     ∙ told_written (written (length o.sent) (poll_of a) None ps) r.pdu t r.read
     ∙ is_new_sn r.pdu t (r.sn ∙ ap (λ (n : ℕ). n % 1024) (sym c))
     ∙ ap (λ (n : ℕ). record t { fields = t.fields ++ n ∷ [] }) r.all in
@@ -219,12 +219,12 @@ sends_tell f size held more turns.Small a t e g w h ok k = subst (λ (x : Told).
 sends_tell f size held more turns.Shut a t e g w h ok k = subst (λ (x : Told). TellsOf f x) (sym (told_none a t w)) k
 sends_tell f size held more turns.Held a t e g w h ok k = subst (λ (x : Told). TellsOf f x) (sym (told_none a t w)) k
 
-sender_tells : (f : Flow) (c : SenderCall) (t : Told) → IsGiven f (Sends c) → IsSound f → TellsOf f t → TellsOf (happens f (Sends c)) (told_in (passing f (Sends c)) t)
+sender_tells : (f : Flow) (c : SenderCall) (t : Told) → IsGiven f (Sends c) → IsSound f → TellsOf f t → TellsOf (happens f (Sends c)) (with_passings (passing f (Sends c)) t)
 sender_tells f (Offer sdu) t g h k = tells_alike _ _ _ _ t (sent_so f (Offer sdu)) refl k
 sender_tells f (Take size held more) t g h k =
     let s = (sender f).state in
     let sent : (sender (sends f (Take size held more))).past.sent ≡ (octets_by (turn s size held more) s size (sender f).past).sent = sent_so f (Take size held more) in
-    tells_alike _ _ _ _ (told_in (written_in (answer s size held more)) t) sent refl
+    tells_alike _ _ _ _ (with_passings (written_in (answer s size held more)) t) sent refl
     (sends_tell f size held more (turn s size held more) (answer s size held more) t refl refl (writes f.sending f.sent size held more h.offered) h (happens-sound f (Sends (Take size held more)) g h) k)
 sender_tells f (Status status) t g h k = absurd g
 sender_tells f Tick t g h k = tells_alike _ _ _ _ t (sent_so f Tick) refl k
@@ -250,7 +250,7 @@ receiver_tells f TickProhibit t g k = tells_alike _ _ _ _ t refl (kept_so f Tick
 last_is : (number count sn : ℕ) → sn ≡ number % 1024 → number < count → count ≤ number + 512 → last_with sn count ≡ number
 last_is number count sn e lt young = omega (arith, e, lt, young)
 
-copy_tells : (f : Flow) (c : Copy) (t : Told) → IsSound f → IsTrueCopy (sender f).past.sent c → TellsOf f t → TellsOf (data_comes f (Some c)) (told_by (Comes c.octets) t)
+copy_tells : (f : Flow) (c : Copy) (t : Told) → IsSound f → IsTrueCopy (sender f).past.sent c → TellsOf f t → TellsOf (data_comes f (Some c)) (with_passing (Comes c.octets) t)
 copy_tells f c t h q k =
     let sent = (sender f).past.sent in
     let r = reads_copy f c h q in
@@ -262,7 +262,7 @@ copy_tells f c t h q k =
     let is : data_comes f (Some c) ≡ receives f (Arrive p) = is_received f c.octets p r.read c.number in
     let size : slice_index t.fields c.number ≡ length (slice_index_or sent c.number []) = ap (λ (l : List ℕ). slice_index l c.number) k.fields ∙ lens_at sent c.number in
     let within = part_end (slice_index_or sent c.number []) p r.part in
-    subst (λ (x : Flow). TellsOf x (told_by (Comes c.octets) t)) (sym is)
+    subst (λ (x : Flow). TellsOf x (with_passing (Comes c.octets) t)) (sym is)
     (subst (λ (x : Told). TellsOf (receives f (Arrive p)) x) (sym (told_come c.octets p t r.read))
     (record {
       fields = k.fields;
@@ -286,7 +286,7 @@ copy_at sent (d ∷ cs) zero c h e = let same : Some d ≡ Some c = e in let is 
 copy_at sent (d ∷ cs) (suc k) c h e = copy_at sent cs k c h.1 e
 
 data_tells : (f : Flow) (o : Option Copy) (t : Told) → ((c : Copy) → o ≡ Some c → IsTrueCopy (sender f).past.sent c) → IsSound f → TellsOf f t
-    → TellsOf (data_comes f o) (told_in (coming o) t)
+    → TellsOf (data_comes f o) (with_passings (coming o) t)
 data_tells f None t at h k = k
 data_tells f (Some c) t at h k = copy_tells f c t h (at c refl) k
 
@@ -299,7 +299,7 @@ status_tells f (Some r) t k = by (am_at r.octets)
     by (Ok (Control pdu)) = tells_alike _ _ _ _ t (sent_so f (Status pdu)) refl k
     by (Err refused) = k
 
-step_tells : (f : Flow) (s : Step) (t : Told) → IsGiven f s → IsSound f → TellsOf f t → TellsOf (happens f s) (told_in (passing f s) t)
+step_tells : (f : Flow) (s : Step) (t : Told) → IsGiven f s → IsSound f → TellsOf f t → TellsOf (happens f s) (with_passings (passing f s) t)
 step_tells f (Sends c) t g h k = sender_tells f c t g h k
 step_tells f (Receives c) t g h k = receiver_tells f c t g k
 step_tells f (Reports size octets) t g h k = tells_alike _ _ _ _ t refl (kept_so f Write) k
@@ -309,15 +309,15 @@ step_tells f (DataGoes j) t g h k = tells_alike _ _ _ _ t refl refl k
 step_tells f (StatusGoes j) t g h k = tells_alike _ _ _ _ t refl refl k
 step_tells f Passes t g h k = tells_alike _ _ _ _ t refl refl k
 
-pub told_then : (xs ys : List Passing) (t : Told) → told_in (xs ++ ys) t ≡ told_in ys (told_in xs t)
+pub told_then : (xs ys : List Passing) (t : Told) → with_passings (xs ++ ys) t ≡ with_passings ys (with_passings xs t)
 told_then [] ys t = refl
-told_then (x ∷ xs) ys t = told_then xs ys (told_by x t)
+told_then (x ∷ xs) ys t = told_then xs ys (with_passing x t)
 
-pub steps_tell : (ss : List Step) (f : Flow) (t : Told) → AreGiven f ss → IsSound f → TellsOf f t → TellsOf (goes ss f) (told_in (passed ss f) t)
+pub steps_tell : (ss : List Step) (f : Flow) (t : Told) → AreGiven f ss → IsSound f → TellsOf f t → TellsOf (goes ss f) (with_passings (passed ss f) t)
 steps_tell [] f t g h k = k
 steps_tell (s ∷ ss) f t g h k =
     subst (λ (x : Told). TellsOf (goes ss (happens f s)) x) (sym (told_then (passing f s) (passed ss (happens f s)) t))
-    (steps_tell ss (happens f s) (told_in (passing f s) t) g.1 (happens-sound f s g.0 h) (step_tells f s t g.0 h k))
+    (steps_tell ss (happens f s) (with_passings (passing f s) t) g.1 (happens-sound f s g.0 h) (step_tells f s t g.0 h k))
 
 pub first_tells : (sending : AmTxConfig) (receiving : AmRxConfig) → TellsOf (outset sending receiving) nothing_told
 first_tells sending receiving = record { fields = refl; within = tt; same = λ n i lt below. absurd (omega (arith, lt)) }

@@ -12,7 +12,8 @@ use Rattle.law_rlc.specs.AmSender.Run.{Offer, begun}
 use Rattle.law_rlc.proofs.AmSender.Credits.{times-append}
 use Rattle.law_rlc.specs.AmReceiver.Finish.{Place, all_come, octets_of, whole_of}
 use Rattle.law_rlc.specs.AmPair.Flow.{Flow, Sends, sender, receiver}
-use Rattle.law_rlc.specs.AmPair.Sdus.{offered, handed_up, ready, IsFront}
+use Rattle.law_rlc.specs.AmPair.Sdus.{offered, handed_up, ready}
+use Rattle.law_words.specs.Lists.{IsFront}
 use Rattle.law_rlc.specs.AmPair.Seen.{seen, in_sequence, GivesTheWhole}
 use Rattle.law_rlc.specs.AmPair.Confirmed.{confirmations, Arrives}
 use Rattle.law_rlc.specs.AmPair.Arrives.{arrives, HasReady, whole_from}

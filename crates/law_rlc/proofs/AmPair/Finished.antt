@@ -10,7 +10,8 @@ use Rattle.law_rlc.proofs.AmReceiver.Finish.{finishes}
 use Rattle.law_rlc.proofs.AmReceiver.InSequence.{somes_append}
 use Rattle.law_rlc.specs.AmPair.Flow.{Flow, sender, receiver}
 use Rattle.law_rlc.specs.AmPair.Fields.{cells_of, field_of}
-use Rattle.law_rlc.specs.AmPair.Sdus.{offered, IsFront}
+use Rattle.law_rlc.specs.AmPair.Sdus.{offered}
+use Rattle.law_words.specs.Lists.{IsFront}
 use Rattle.law_rlc.specs.AmPair.Seen.{seen, GivesTheWhole}
 use Rattle.law_rlc.proofs.AmPair.Sound.{IsSound}
 use Rattle.law_rlc.proofs.AmPair.Fields.{sent-field}

@@ -9,7 +9,8 @@ use Rattle.law_rlc.specs.AmSender.Confirmed.{Confirmations, unconfirmed, confirm
 use Rattle.law_rlc.specs.AmSender.Octets.{nothing_sent, octets_after}
 use Rattle.law_rlc.proofs.AmSender.Left.{leaves-only-unconfirmed}
 use Rattle.law_rlc.specs.AmPair.Flow.{Flow, sender}
-use Rattle.law_rlc.specs.AmPair.Sdus.{offered_in, offered, handed_up, ready, IsFront}
+use Rattle.law_rlc.specs.AmPair.Sdus.{offered_in, offered, handed_up, ready}
+use Rattle.law_words.specs.Lists.{IsFront}
 use Rattle.law_rlc.specs.AmPair.Seen.{seen}
 use Rattle.law_rlc.specs.AmPair.Confirmed.{confirmations, confirmed, Arrives}
 use Rattle.law_rlc.specs.AmPair.Arrives.{arrives}

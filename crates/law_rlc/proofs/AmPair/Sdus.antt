@@ -16,7 +16,8 @@ use Rattle.law_rlc.proofs.AmReceiver.Finish.{same_state}
 use Rattle.law_rlc.proofs.AmReceiver.InSequence.{Flows, flow-flows, initial-flows, joined_append, somes_append, in_sequence}
 use Rattle.law_rlc.specs.AmPair.Flow.{Flow, sender, receiver}
 use Rattle.law_rlc.specs.AmPair.Fields.{cell_of, cells_of, field_of}
-use Rattle.law_rlc.specs.AmPair.Sdus.{offered, handed_up, ready, IsFront}
+use Rattle.law_rlc.specs.AmPair.Sdus.{offered, handed_up, ready}
+use Rattle.law_words.specs.Lists.{IsFront}
 use Rattle.law_rlc.proofs.AmPair.Sound.{Agree, IsSound}
 use Rattle.law_rlc.proofs.AmPair.Fields.{sent-field, are-fields}
 use Rattle.law_rlc.proofs.AmPair.Whole.{together, whole-stream, have-octets}

@@ -17,7 +17,8 @@ use Rattle.law_rlc.specs.AmReceiver.Run.{Call, Arrive, Up, Write, ExpireReorder,
 use Rattle.law_rlc.specs.AmReceiver.Stream.{Flow as Output, flows, flow, initial}
 use Rattle.law_rlc.specs.AmPair.Flow.{Copy, Report, Flow, Step, Sends, Receives, Reports, DataComes, StatusComes, DataGoes, StatusGoes, Passes, data_read, data_comes, status_read, status_comes, happens}
 use Rattle.law_rlc.specs.AmPair.Given.{IsReceiving, IsGiven}
-use Rattle.law_rlc.specs.AmPair.Sdus.{offers_with, offered_in, offered, handed_up, ready, IsFront}
+use Rattle.law_rlc.specs.AmPair.Sdus.{offers_with, offered_in, offered, handed_up, ready}
+use Rattle.law_words.specs.Lists.{IsFront}
 use Rattle.law_rlc.specs.AmPair.Arrives.{brings}
 use Rattle.law_rlc.specs.AmPair.Steps.{is_up, takes_up, GoesUp, offers}
 use Rattle.law_rlc.proofs.AmPair.Sdus.{front-itself, front-more, joined-grows}

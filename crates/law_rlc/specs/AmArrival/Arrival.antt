@@ -9,8 +9,8 @@ use Rattle.law_rlc.specs.AmPair.Flow.{Copy, Flow, Step, Sends, Receives, Reports
 use Rattle.law_rlc.specs.AmPair.Given.{AreGiven}
 use Rattle.law_rlc.specs.AmPair.Sdus.{offered}
 use Rattle.law_rlc.specs.AmPair.Arrives.{arrives}
-use Rattle.law_rlc.specs.AmArrival.Stretches.{has_arrived}
-use Rattle.law_rlc.specs.AmArrival.Passing.{Passing, Writes, Comes, Told, nothing_told, told_in}
+use Rattle.law_words.specs.Stretches.{has_arrived}
+use Rattle.law_words.specs.Passing.{Passing, Writes, Comes, Told, nothing_told, with_passings}
 
 -- ---- the data PDUs in steps of a flow
 
@@ -48,4 +48,4 @@ ArrivesAsTold f t = (place : ℕ) → arrives f place ≡ has_arrived (map lengt
 
 abbrev pub PdusTellWhatArrives : Type 0
 PdusTellWhatArrives = (sending : AmTxConfig) (receiving : AmRxConfig) (steps : List Step) → AreGiven (outset sending receiving) steps
-    → ArrivesAsTold (goes steps (outset sending receiving)) (told_in (passed steps (outset sending receiving)) nothing_told)
+    → ArrivesAsTold (goes steps (outset sending receiving)) (with_passings (passed steps (outset sending receiving)) nothing_told)

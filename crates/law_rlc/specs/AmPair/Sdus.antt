@@ -1,12 +1,13 @@
 -- The SDUs of a flow (TS 36.322 5.1.3): those that the sender was offered, and those that the
 -- receiver handed up.
-use Rattle.std.specs.Prelude.{◌≡◌, ℕ, List, [], ◌∷◌, ◌++◌}
+use Rattle.std.specs.Prelude.{ℕ, List, [], ◌∷◌, ◌++◌}
 use Rattle.l2_types.specs.declared.config.AmTxConfig.{AmTxConfig}
 use Rattle.l2_types.specs.declared.AmRxConfig.{AmRxConfig}
 use Rattle.law_rlc.specs.AmSender.Run.{Call as SenderCall, Offer, Take, Status, Tick, Expire, Settle, Confirm}
 use Rattle.law_rlc.specs.AmReceiver.Stream.{flow, initial}
 use Rattle.law_rlc.specs.AmPair.Flow.{Flow, Step, goes, outset}
 use Rattle.law_rlc.specs.AmPair.Given.{AreGiven}
+use Rattle.law_words.specs.Lists.{IsFront}
 
 abbrev pub offers_with : SenderCall → List (List ℕ) → List (List ℕ)
 offers_with (Offer sdu) later = sdu ∷ later
@@ -31,11 +32,6 @@ handed_up f = (flow f.heard (initial f.receiving)).gone
 
 abbrev pub ready : Flow → List (List ℕ)
 ready f = (flow f.heard (initial f.receiving)).state.out.ready
-
--- one list is the front of another
-pub record IsFront (front all : List (List ℕ)) : Type 0 where
-  pub rest : List (List ℕ)
-  pub is : all ≡ front ++ rest
 
 -- what was handed up and what is ready are the SDUs that were offered first: in their order, each once, unchanged
 abbrev pub HandsUpTheFront : Type 0

@@ -8,7 +8,8 @@ use Rattle.law_rlc.specs.AmReceiver.Finish.{Place, places, cut, all_come, octets
 use Rattle.law_rlc.specs.AmPair.Flow.{Flow, Step, sender, receiver, goes, outset}
 use Rattle.law_rlc.specs.AmPair.Given.{AreGiven}
 use Rattle.law_rlc.specs.AmPair.Fields.{field_of}
-use Rattle.law_rlc.specs.AmPair.Sdus.{offered, handed_up, ready, IsFront}
+use Rattle.law_rlc.specs.AmPair.Sdus.{offered, handed_up, ready}
+use Rattle.law_words.specs.Lists.{IsFront}
 
 -- the SDUs that end in numbers below VR(H), octet by octet, with whether the octet has arrived
 abbrev pub seen : Flow → List (List Place)

@@ -4,7 +4,8 @@ use Rattle.law_rlc.specs.AmReceiver.Run.{Call as ReceiverCall, Arrive, Up, Write
 use Rattle.law_rlc.specs.AmSender.Run.{Offer}
 use Rattle.law_rlc.specs.AmPair.Flow.{Flow, Step, Sends, Receives, Reports, DataComes, StatusComes, DataGoes, StatusGoes, Passes, happens}
 use Rattle.law_rlc.specs.AmPair.Given.{IsGiven}
-use Rattle.law_rlc.specs.AmPair.Sdus.{offers_with, offered, handed_up, ready, IsFront}
+use Rattle.law_rlc.specs.AmPair.Sdus.{offers_with, offered, handed_up, ready}
+use Rattle.law_words.specs.Lists.{IsFront}
 use Rattle.law_rlc.specs.AmPair.Arrives.{arrives, Always, brings}
 
 -- ---- the receiver's side

@@ -1,6 +1,6 @@
 use Rattle.std.proofs.Common.{◌≡◌, drop}
 use Rattle.std.specs.List.{list_any}
-use Rattle.air_link.specs.Draining.{is_carried}
+use Rattle.pdu_show.specs.Carried.{is_carried}
 use Rattle.air_link.proofs.link.Link.carried.Given as goal
 
 abbrev pub invariant-loop-at : goal.invariant-loop-at

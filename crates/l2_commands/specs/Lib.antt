@@ -1,0 +1,5 @@
+pub mod Plays
+pub mod Engines
+pub mod Main
+pub mod Streams
+pub mod Playing

@@ -1,0 +1,230 @@
+ghost use Rattle.std.specs.Prelude.{◌≡◌, ◌≤◌, ◌<◌, ◌^◌, ◌+◌, [], IfOk};
+ghost use Rattle.l2_io.specs.Known.{HasRisen};
+ghost use Rattle.air_run.specs.Journal.{journal_by, journal_of};
+ghost use Rattle.l2_commands.specs.Plays.{PutsRest, PutsSome};
+ghost use Rattle.l2_commands.specs.Engines.{Between, played_from, now_in, blocks_of};
+ghost use Rattle.l2_commands.specs.Playing.{TurnsOn, PlaysAll, EndsPlay, PlaysOn};
+ghost use Rattle.l2_commands.specs.Streams.{input, output};
+
+use crate::engine::{Engine, LineEnd};
+use air_run::Reason;
+use air_text::LineRefusal;
+use l2_bits::NoMemory;
+use l2_io::{GatherSink, Lines, PutFault, Sink, Source, Stand, Turn};
+use std::alloc::Global;
+
+/// The most octets of a line, without its line feed.
+const LONGEST: u32 = 20_000;
+
+/// The most lines of an input.
+pub const MOST_LINES: u32 = 1_000_000;
+
+/// How the reading of an input ended.
+#[derive(Clone, Copy, Debug, PartialEq, Eq)]
+pub enum Ending {
+    Done,
+    Refused { number: u32, reason: Reason },
+    ReadFault,
+    WriteFault,
+    NoMemory,
+}
+
+#[derive(Clone, Copy, Debug, PartialEq, Eq)]
+enum TurnEnd {
+    Next,
+    Over,
+    Stop(Ending),
+}
+
+// Reads and plays one line.
+fn turn<S: Source, K: Sink>(
+    alloc: Global,
+    lines: &mut Lines,
+    engine: &mut Engine,
+    number: u32,
+    source: &mut S,
+    out: &mut K,
+) -> TurnEnd
+    requires number { number ≤ MOST_LINES + 1 }
+    requires longest { lines.old.longest ≡ LONGEST }
+    requires open { lines.old.stand ≡ Stand.Open }
+    ensures turn { (first : Between) → TurnsOn first (now_in engine.old) number lines.old.kept
+        (input S.Source source.old) (input S.Source source.new) (output K.Sink out.old)
+        (output K.Sink out.new) (now_in engine.new) lines.new.kept result }
+    ensures open { result ≡ TurnEnd.Next → lines.new.stand ≡ Stand.Open }
+    ensures longest { lines.new.longest ≡ LONGEST }
+    ensures few { result ≡ TurnEnd.Next → number ≤ MOST_LINES }
+    ensures source_count { S.faults source.old ≤ S.faults source.new }
+    ensures out_count { K.faults out.old ≤ K.faults out.new }
+{
+    match lines.advance(source) {
+        Turn::Line => {
+            if number > MOST_LINES {
+                return TurnEnd::Stop(Ending::Refused {
+                    number,
+                    reason: Reason::Lines,
+                });
+            }
+            match engine.line(alloc, number, lines.line(), out) {
+                LineEnd::Next => {
+                    if lines.stand() == Stand::Open {
+                        TurnEnd::Next
+                    } else {
+                        TurnEnd::Over
+                    }
+                }
+                LineEnd::Ended => TurnEnd::Over,
+                LineEnd::Refused(reason) => TurnEnd::Stop(Ending::Refused { number, reason }),
+                LineEnd::WriteFault => TurnEnd::Stop(Ending::WriteFault),
+                LineEnd::NoMemory => TurnEnd::Stop(Ending::NoMemory),
+            }
+        }
+        Turn::Long => {
+            if number > MOST_LINES {
+                return TurnEnd::Stop(Ending::Refused {
+                    number,
+                    reason: Reason::Lines,
+                });
+            }
+            TurnEnd::Stop(Ending::Refused {
+                number,
+                reason: Reason::Line(LineRefusal::Long),
+            })
+        }
+        Turn::End => TurnEnd::Over,
+        Turn::ReadFault => {
+            if number > MOST_LINES && lines.kept() > 0 {
+                return TurnEnd::Stop(Ending::Refused {
+                    number,
+                    reason: Reason::Lines,
+                });
+            }
+            TurnEnd::Stop(Ending::ReadFault)
+        }
+    }
+}
+
+// Puts what is gathered, where there is much of it or the next line has to be waited for.
+#[tactic(auto, using(crate::proofs::Nothing::after_none, crate::proofs::Nothing::front_all))]
+fn make_room<S: Source, K: Sink>(
+    gathered: &mut GatherSink,
+    lines: &Lines,
+    source: &S,
+    out: &mut K,
+) -> Result<(), PutFault>
+    ensures put { PutsSome gathered.old.octets gathered.new.octets (K.written out.old)
+        (K.written out.new) (HasRisen (K.faults out.old) (K.faults out.new)) result }
+    ensures count { K.faults out.old ≤ K.faults out.new }
+{
+    if gathered.is_full() {
+        return gathered.flush(out);
+    }
+    if gathered.held().is_empty() || source.is_ready() || lines.has_line() {
+        return Ok(());
+    }
+    gathered.flush(out)
+}
+
+// Puts what is gathered at the end.
+fn put_rest<K: Sink>(gathered: &mut GatherSink, out: &mut K, ending: Ending) -> Ending
+    ensures put { PutsRest ending gathered.old.octets (K.written out.old) (K.written out.new)
+        (HasRisen (K.faults out.old) (K.faults out.new)) result }
+    ensures count { K.faults out.old ≤ K.faults out.new }
+{
+    match gathered.flush(out) {
+        Ok(()) => ending,
+        Err(PutFault::Failed) => Ending::WriteFault,
+        Err(PutFault::NoMemory) => Ending::NoMemory,
+    }
+}
+
+// Plays the lines that a source gives, to their end or to what stops the reading: then with its ending.
+fn play_lines<S: Source, K: Sink>(
+    alloc: Global,
+    lines: &mut Lines,
+    engine: &mut Engine,
+    gathered: &mut GatherSink,
+    source: &mut S,
+    out: &mut K,
+) -> Option<Ending>
+    requires kept { lines.old.kept ≡ [] }
+    requires longest { lines.old.longest ≡ LONGEST }
+    requires open { lines.old.stand ≡ Stand.Open }
+    requires empty { gathered.old.octets ≡ [] }
+    ensures played { PlaysAll (now_in engine.old) (input S.Source source.old)
+        (input S.Source source.new) (output K.Sink out.old) (output K.Sink out.new)
+        gathered.new.octets (now_in engine.new) result }
+    ensures source_count { S.faults source.old ≤ S.faults source.new }
+    ensures out_count { K.faults out.old ≤ K.faults out.new }
+{
+    for number in 1..MOST_LINES + 2 {
+        match make_room(gathered, lines, source, out) {
+            Ok(()) => {}
+            Err(PutFault::Failed) => return Some(Ending::WriteFault),
+            Err(PutFault::NoMemory) => return Some(Ending::NoMemory),
+        }
+        match turn(alloc, lines, engine, number, source, gathered) {
+            TurnEnd::Next => {}
+            TurnEnd::Over => return None,
+            TurnEnd::Stop(ending) => return Some(put_rest(gathered, out, ending)),
+        }
+    }
+    unreachable!()
+}
+
+// The lines of an input, before the first.
+fn open_lines(alloc: Global) -> Result<Lines, NoMemory>
+    ensures { IfOk result (λ m. (m.kept ≡ []) × (m.longest ≡ LONGEST) × (m.stand ≡ Stand.Open)) }
+{
+    Lines::new(alloc, LONGEST)
+}
+
+// Writes what stands at the end of an input, after what is gathered of it.
+fn play_end<K: Sink>(engine: Engine, gathered: &mut GatherSink, out: &mut K) -> Ending
+    ensures over { EndsPlay (now_in engine) gathered.old.octets (output K.Sink out.old)
+        (output K.Sink out.new) result }
+    ensures count { K.faults out.old ≤ K.faults out.new }
+{
+    let ending = engine.over(gathered);
+    put_rest(gathered, out, ending)
+}
+
+// Plays the lines that a source gives, and writes what stands at their end.
+fn play<S: Source, K: Sink>(alloc: Global, engine: Engine, source: &mut S, out: &mut K) -> Ending
+    ensures played { PlaysOn (journal_by (played_from (now_in engine))) (input S.Source source.old)
+        (input S.Source source.new) (output K.Sink out.old) (output K.Sink out.new) result }
+    ensures source_count { S.faults source.old ≤ S.faults source.new }
+    ensures out_count { K.faults out.old ≤ K.faults out.new }
+{
+    let Ok(mut lines) = open_lines(alloc) else {
+        return Ending::NoMemory;
+    };
+    let mut engine = engine;
+    let mut gathered = GatherSink::new(alloc);
+    if let Some(ending) = play_lines(alloc, &mut lines, &mut engine, &mut gathered, source, out) {
+        return ending;
+    }
+    play_end(engine, &mut gathered, out)
+}
+
+/// Plays the script that a source gives, line by line.
+///
+/// The output is gathered, and put before the program waits for more input.
+pub fn play_script<S: Source, K: Sink>(alloc: Global, source: &mut S, out: &mut K) -> Ending
+    ensures played { PlaysOn journal_of (input S.Source source.old) (input S.Source source.new)
+        (output K.Sink out.old) (output K.Sink out.new) result }
+    ensures source_count { S.faults source.old ≤ S.faults source.new }
+    ensures out_count { K.faults out.old ≤ K.faults out.new }
+{
+    play(alloc, Engine::script(alloc), source, out)
+}
+
+/// Shows the blocks that a source gives, line by line, with the same reading and gathering.
+pub fn show_blocks<S: Source, K: Sink>(alloc: Global, source: &mut S, out: &mut K) -> Ending
+    ensures played { PlaysOn blocks_of (input S.Source source.old) (input S.Source source.new)
+        (output K.Sink out.old) (output K.Sink out.new) result }
+    ensures source_count { S.faults source.old ≤ S.faults source.new }
+    ensures out_count { K.faults out.old ≤ K.faults out.new }
+{
+    play(alloc, Engine::blocks(alloc), source, out)
+}

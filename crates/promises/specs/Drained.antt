@@ -1,0 +1,52 @@
+-- What a drain leaves: nothing undelivered of acknowledged data, but where a sender gave up (TS
+-- 36.322 5.2.1, 7.3).
+use Rattle.std.specs.Prelude.{ℕ, if◌then◌else◌, List, [], ◌∷◌, ◌++◌, ◌≡◌, Some}
+use Rattle.promises.specs.Events.{fails_on}
+use Rattle.promises.specs.Parts.{hands_over}
+use Rattle.air_text.specs.Groups.{Group}
+use Rattle.l2_types.specs.declared.side.Side.{Side}
+use Rattle.promises.specs.Records.{told_by}
+use Rattle.air_record.specs.declared.record.Record.{Record}
+use Rattle.bearer_types.specs.Sides.{other}
+use Rattle.bearer_types.specs.declared.config.BearerConfig.{BearerConfig}
+use Rattle.l2_types.specs.declared.channel.Kind.TheVariants.{Am}
+use Rattle.promises.specs.Delivery.{discarded}
+use Rattle.promises.specs.Flows.{submitted, delivered}
+use Rattle.promises.specs.Configs.{config_of}
+use Rattle.air_record.specs.declared.line.Line.TheVariants as lines
+use Rattle.air_record.specs.declared.record.Record.TheVariants as records
+
+-- ---- a sender gives up at its limit of retransmissions, for the sequence number that it tells
+
+-- at which a side's sender on a channel gave up since the last handover, or the beginning
+abbrev pub failed : Side → ℕ → List Group → List ℕ
+failed side lcid [] = []
+failed side lcid (g ∷ past) =
+    (if hands_over g.line then [] else failed side lcid past)
+    ++ fails_on lcid (told_by side g.events)
+
+-- ---- the line is a drain, and at its end it tells that it is drained, not that its budget is
+-- spent
+
+pub record EndsDrained (g : Group) : Type 0 where
+  pub grant : ℕ
+  pub rounds : ℕ
+  pub before : List Record
+  pub line_is : g.line ≡ lines.Drain grant
+  pub events_are : g.events ≡ before ++ records.Drained rounds ∷ []
+
+-- what the other end has handed up is then all that this end submitted, in its order, each once and
+-- unchanged: on each channel with an acknowledged data bearer on which it gave up none and
+-- discarded none
+abbrev pub LeavesNothing : List Group → Type 0
+LeavesNothing past =
+    (from : Side) (lcid : ℕ) (config : BearerConfig) → config_of lcid past ≡ Some config
+    → config.kind ≡ Am
+    → failed from lcid past ≡ [] → discarded from lcid past ≡ []
+    → delivered (other from) lcid past ≡ submitted from lcid past
+
+-- behind each such group, of which the newest stands first; no block was forged before, as a drain
+-- is refused then
+abbrev pub DrainsLeaveNothing : List Group → Type 0
+DrainsLeaveNothing [] = Unit {0}
+DrainsLeaveNothing (g ∷ past) = (EndsDrained g → LeavesNothing (g ∷ past)) × DrainsLeaveNothing past

@@ -1,0 +1,33 @@
+-- Which SDUs a channel of acknowledged data takes, and which it discards, as an end tells (TS
+-- 36.323 5.1.1, 5.4).
+use Rattle.std.specs.Prelude.{ℕ, ◌==◌, if◌then◌else◌, Option, Some, None, List, [], ◌∷◌, ◌+◌, Bool}
+use Rattle.std.specs.Prelude.{true, false}
+use Rattle.std.specs.List.{flat_map}
+use Rattle.bearer_types.specs.declared.event.Event.{Event}
+use Rattle.bearer_types.specs.declared.event.Event.TheVariants.{Take, Discard}
+
+-- the SDUs of a channel as they are told of in order: by the COUNT with which one is taken, and
+-- without a COUNT where one is discarded
+abbrev pub leaving_in : ℕ → Event → List (Option ℕ)
+leaving_in l (Take lcid (Some count) len) = if lcid == l then Some count ∷ [] else []
+leaving_in l (Take lcid None len) = []
+leaving_in l (Discard lcid len) = if lcid == l then None ∷ [] else []
+leaving_in l event = []
+
+-- whether each that leaves the queue is taken; one that is taken for the first time has the next
+-- COUNT
+abbrev pub were_taken : ℕ → List (Option ℕ) → List Bool
+were_taken next [] = []
+were_taken next (None ∷ leaving) = false ∷ were_taken next leaving
+were_taken next (Some count ∷ leaving) =
+    if count == next then true ∷ were_taken (next + 1) leaving else were_taken next leaving
+
+abbrev pub chosen : List Bool → List (List ℕ) → List (List ℕ)
+chosen [] sdus = []
+chosen (b ∷ bs) [] = []
+chosen (true ∷ bs) (sdu ∷ sdus) = sdu ∷ chosen bs sdus
+chosen (false ∷ bs) (sdu ∷ sdus) = chosen bs sdus
+
+-- of SDUs that are submitted to a bearer with its first COUNT, those that it takes as events tell
+abbrev pub taken_of : ℕ → ℕ → List Event → List (List ℕ) → List (List ℕ)
+taken_of l first events sdus = chosen (were_taken first (flat_map (leaving_in l) events)) sdus
