@@ -1,4 +1,5 @@
-//! Lists of octets and of other items, fields of bits in octets, and the errors that they share.
+//! Lists of octets and of other items, rings of items that wait, fields of bits in octets, and the errors that they
+//! share.
 #![tactic(auto)]
 
 mod bytes;
@@ -8,6 +9,7 @@ mod laws;
 mod reader;
 #[cfg(test)]
 mod tests;
+mod waiting;
 mod writer;
 
 pub use bytes::Bytes;
@@ -15,4 +17,5 @@ pub use fault::{NoMemory, Short, SubmitRefusal};
 pub use items::{Items, Packets};
 pub use laws::reads_what_was_written;
 pub use reader::{BitReader, field};
+pub use waiting::Ring;
 pub use writer::BitWriter;

@@ -4,8 +4,7 @@ ghost use Rattle.std.specs.Prelude.{◌≡◌, ◌+◌, ◌-◌, ◌<◌, ◌≤
 ghost use Rattle.pdcp_tx_store.specs.Waiting.{waits, length_all, start_of};
 
 use crate::sdu::Sdu;
-use l2_bits::NoMemory;
-use l2_ring::Ring;
+use l2_bits::{NoMemory, Ring};
 use std::alloc::Global;
 use std::marker::Model;
 

@@ -2,8 +2,7 @@
 ghost use Rattle.std.specs.Prelude.{◌≡◌, ◌<◌, ◌≤◌, ◌+◌, [], length, take, OnOk, OnErr, IfOk, IfErr, slice_index_or, ◌^◌, nat_lt, ◌==◌, ◌++◌};
 ghost use Rattle.rlc_queue.specs.Waiting.{nothing_waits, with_sdu, HaveOctets, first, behind, total, wanted};
 
-use l2_bits::{Bytes, NoMemory};
-use l2_ring::Ring;
+use l2_bits::{Bytes, NoMemory, Ring};
 use std::alloc::Global;
 use std::marker::Model;
 

@@ -3,8 +3,7 @@ ghost use Rattle.rlc_queue.specs.NewPdu.{IsWithin};
 ghost use Rattle.rlc_queue.specs.Waiting.{total};
 ghost use Rattle.rlc_um.specs.Transparent.{nothing_submitted, refusal, IsAnswer, submitted, taken, after_take, need};
 
-use l2_bits::{Bytes, NoMemory, SubmitRefusal};
-use l2_ring::Ring;
+use l2_bits::{Bytes, NoMemory, Ring, SubmitRefusal};
 use rlc_pdu::Taken;
 use std::alloc::Global;
 use std::marker::Model;

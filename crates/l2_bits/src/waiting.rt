@@ -1,11 +1,9 @@
 //! Items that wait, in a ring that grows.
-#![tactic(auto)]
-
 ghost use Rattle.std.specs.Prelude.{◌≡◌, ◌<◌, [], ◌∷◌, ◌++◌, ◌==◌, length, slice_get, option_copied, OnOk, MatchOption, MatchResult};
-ghost use Rattle.l2_ring.specs.Waiting.{items_of, HasRoom};
+ghost use Rattle.l2_bits.specs.Waiting.{items_of, HasRoom};
 
+use crate::fault::NoMemory;
 use circular_buffer::HeapCircularBuffer;
-use l2_bits::NoMemory;
 use std::alloc::Global;
 use std::marker::Model;
 
@@ -24,7 +22,7 @@ pub struct Ring<T> {
 
 impl<T> Model for Ring<T> {
     ghost use Rattle.std.specs.Prelude.{List};
-    ghost use Rattle.l2_ring.specs.Waiting.{items_of};
+    ghost use Rattle.l2_bits.specs.Waiting.{items_of};
 
     ghost Value = { List T };
 
