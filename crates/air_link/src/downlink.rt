@@ -14,6 +14,7 @@ use bearer::{Events, Side};
 use harq::{Answer, Order, Visit};
 use l2_bits::{Bytes, NoMemory};
 use l2_node::{Attached, Built, Node, sent_by};
+use l2_types::GREATEST_GRANT;
 use mac_pdu::Direction;
 use pdu_show::show_onto;
 
@@ -26,7 +27,7 @@ impl Link {
         grant: u32,
         outcome: Outcome,
     ) -> Result<(), NoMemory>
-        requires { grant ≤ 9422 }
+        requires { grant ≤ GREATEST_GRANT }
         ensures { OnOk result (self.new ≡ downlink tti grant outcome self.old) }
     {
         let order = if grant == 0 {
@@ -148,7 +149,7 @@ impl Link {
         grant: u32,
         order: Order,
     ) -> Result<(Visit, bool), NoMemory>
-        requires grant { grant ≤ 9422 }
+        requires grant { grant ≤ GREATEST_GRANT }
         requires some { IsEnough order grant }
         ensures link { OnOk result (self.new ≡ builds side tti grant order self.old) }
         ensures visit { IfOk result (λ r. r.0 ≡ visit tti order (end_of side self.old)) }
@@ -160,7 +161,7 @@ impl Link {
     }
 
     fn visit(&mut self, side: Side, tti: u64, grant: u32, order: Order) -> Result<Built, NoMemory>
-        requires grant { grant ≤ 9422 }
+        requires grant { grant ≤ GREATEST_GRANT }
         requires some { IsEnough order grant }
         ensures link { OnOk result (self.new ≡ visits side tti grant order self.old) }
         ensures visit { IfOk result (λ b. b.visit ≡ visit tti order (end_of side self.old)) }

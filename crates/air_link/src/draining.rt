@@ -8,6 +8,7 @@ use crate::link::{ALL_LCIDS, Link};
 use air_record::{Fate, Outcome, Record};
 use bearer::{Clock, Event, Side};
 use l2_bits::NoMemory;
+use l2_types::GREATEST_GRANT;
 use pdu_show::{Kinds, Layout};
 
 const INTACT: Outcome = Outcome {
@@ -20,7 +21,7 @@ impl Link {
     /// both directions is in octets, up to 9422.
     #[tactic(auto, unfolding(crate::specs::Draining::drain_tti))]
     pub fn drain_tti(&mut self, grant: u32) -> Result<(), NoMemory>
-        requires { grant ≤ 9422 }
+        requires { grant ≤ GREATEST_GRANT }
         ensures { OnOk result (self.new ≡ drain_tti grant self.old) }
     {
         let tti = self.ttis;

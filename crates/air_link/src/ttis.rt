@@ -11,6 +11,7 @@ use air_record::{Fate, Outcome, Record};
 use bearer::{Events, Side};
 use l2_bits::NoMemory;
 use l2_node::{Attached, Node};
+use l2_types::GREATEST_GRANT;
 
 impl Link {
     /// A TTI: timers, SDUs that the loop owes, the downlink, SDUs that the loop returns at once, and the uplink. Grants are
@@ -23,8 +24,8 @@ impl Link {
         down_grant: u32,
         down: Outcome,
     ) -> Result<(), NoMemory>
-        requires up { up_grant ≤ 9422 }
-        requires down { down_grant ≤ 9422 }
+        requires up { up_grant ≤ GREATEST_GRANT }
+        requires down { down_grant ≤ GREATEST_GRANT }
         ensures { OnOk result (self.new ≡ tti up_grant up down_grant down self.old) }
     {
         let tti = self.ttis;

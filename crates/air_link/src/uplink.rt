@@ -11,13 +11,14 @@ use air_record::{Arrived, Fate, Outcome, Record};
 use bearer::Side;
 use harq::{Order, Visit};
 use l2_bits::NoMemory;
+use l2_types::GREATEST_GRANT;
 use mac_pdu::Direction;
 
 impl Link {
     // The base station grants the uplink of a TTI, and hears what comes.
     #[tactic(auto, unfolding(crate::specs::Uplink::uplink))]
     pub(crate) fn uplink(&mut self, tti: u64, grant: u32, outcome: Outcome) -> Result<(), NoMemory>
-        requires { grant ≤ 9422 }
+        requires { grant ≤ GREATEST_GRANT }
         ensures { OnOk result (self.new ≡ uplink tti grant outcome self.old) }
     {
         if grant == 0 {
@@ -37,7 +38,7 @@ impl Link {
         order: Order,
         outcome: Outcome,
     ) -> Result<(), NoMemory>
-        requires grant { grant ≤ 9422 }
+        requires grant { grant ≤ GREATEST_GRANT }
         requires some { IsEnough order grant }
         ensures { OnOk result (self.new ≡ answers tti grant order outcome self.old) }
     {

@@ -13,6 +13,7 @@ use Rattle.air_run.specs.declared.refusal.Reason.{Reason}
 use Rattle.air_run.specs.declared.refusal.Reason.TheVariants as reasons
 use Rattle.air_run.specs.Lines.{lines_ended, tail_of}
 use Rattle.air_run.specs.Run.{RunState, Left, fresh, step, finish}
+use Rattle.air_text.specs.declared.limits.TheConstants.{LONGEST_LINE, MOST_LINES}
 
 -- what a text does as a line to a state: it goes on, or ends the input, or is refused
 pub data Outcome (S : Type 0) : Type 0 where
@@ -57,15 +58,15 @@ follow p number (Refuses reason) next = refused number reason
 -- a line, and what comes after it: at most 1000000 lines of at most 20000 octets
 unfoldable pub on_line : {S : Type 0} → Player S → S → ℕ → List ℕ → (S → Played) → Played
 on_line p s number raw next =
-    if nat_lt 1000000 number then refused number reasons.Lines
-    else if nat_lt 20000 (length raw) then refused number (reasons.Line Long)
+    if nat_lt MOST_LINES number then refused number reasons.Lines
+    else if nat_lt LONGEST_LINE (length raw) then refused number (reasons.Line Long)
     else follow p number (p.line s number (without_return raw)) next
 
 -- the last line, which no line feed ends: a carriage return at its end stays
 unfoldable pub on_last : {S : Type 0} → Player S → S → ℕ → List ℕ → Played
 on_last p s number raw =
-    if nat_lt 1000000 number then refused number reasons.Lines
-    else if nat_lt 20000 (length raw) then refused number (reasons.Line Long)
+    if nat_lt MOST_LINES number then refused number reasons.Lines
+    else if nat_lt LONGEST_LINE (length raw) then refused number (reasons.Line Long)
     else follow p number (p.line s number raw) (finished p)
 
 -- what is behind the last line feed, where it is a line or the beginning of one
@@ -73,8 +74,8 @@ unfoldable pub close_by : {S : Type 0} → Player S → Bool → List ℕ → S 
 close_by p true tail s number = if length tail == 0 then finished p s else on_last p s number tail
 close_by p false tail s number =
     if length tail == 0 then waiting
-    else if nat_lt 1000000 number then refused number reasons.Lines
-    else if nat_lt 20000 (length tail) then refused number (reasons.Line Long)
+    else if nat_lt MOST_LINES number then refused number reasons.Lines
+    else if nat_lt LONGEST_LINE (length tail) then refused number (reasons.Line Long)
     else waiting
 
 unfoldable pub play : {S : Type 0} → Player S → (S → ℕ → Played) → S → ℕ → List (List ℕ) → Played

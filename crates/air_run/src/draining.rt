@@ -9,6 +9,7 @@ use crate::journal::Journal;
 use air_link::Link;
 use air_text::Record;
 use l2_bits::NoMemory;
+use l2_types::GREATEST_GRANT;
 
 /// The TTIs before the first round.
 const FIRST: u64 = 8;
@@ -16,7 +17,7 @@ const FIRST: u64 = 8;
 /// Drains both ends, and puts the records into the journal. Grants are octets, up to 9422.
 #[tactic(auto, unfolding(crate::specs::Draining::drained))]
 pub(crate) fn drain(link: &mut Link, grant: u32, journal: &mut Journal) -> Result<(), NoMemory>
-    requires { grant ≤ 9422 }
+    requires { grant ≤ GREATEST_GRANT }
     ensures link { OnOk result (link.new ≡ (drained grant link.old).link) }
     ensures journal { OnOk result (journal.new ≡ told (drained grant link.old).journal journal.old) }
 {
@@ -36,7 +37,7 @@ fn budget(link: &Link) -> u64
 
 #[tactic(auto, using(crate::proofs::Rounds::ttis_next, crate::proofs::Rounds::none_left, crate::proofs::Telling::told_both, crate::proofs::Telling::told_none))]
 fn for_ttis(link: &mut Link, grant: u32, most: u64, journal: &mut Journal) -> Result<(), NoMemory>
-    requires { grant ≤ 9422 }
+    requires { grant ≤ GREATEST_GRANT }
     ensures link { OnOk result (link.new ≡ (ttis most grant link.old).link) }
     ensures journal { OnOk result (journal.new ≡ told (ttis most grant link.old).journal journal.old) }
 {
@@ -47,7 +48,7 @@ fn for_ttis(link: &mut Link, grant: u32, most: u64, journal: &mut Journal) -> Re
 }
 
 fn tti(link: &mut Link, grant: u32, journal: &mut Journal) -> Result<(), NoMemory>
-    requires { grant ≤ 9422 }
+    requires { grant ≤ GREATEST_GRANT }
     ensures link { OnOk result (link.new ≡ shown (drain_tti grant link.old)) }
     ensures journal { OnOk result (journal.new ≡ told (drain_tti grant link.old).out journal.old) }
 {
@@ -58,7 +59,7 @@ fn tti(link: &mut Link, grant: u32, journal: &mut Journal) -> Result<(), NoMemor
 // As few rounds as it takes, and at most so many; how many were done.
 #[tactic(auto, using(crate::proofs::Rounds::rounds_next, crate::proofs::Rounds::rounds_stay, crate::proofs::Rounds::none_left, crate::proofs::Telling::told_both, crate::proofs::Telling::told_none))]
 fn rounds(link: &mut Link, grant: u32, most: u64, journal: &mut Journal) -> Result<u64, NoMemory>
-    requires { grant ≤ 9422 }
+    requires { grant ≤ GREATEST_GRANT }
     ensures link { OnOk result (link.new ≡ (rounds most grant link.old).link) }
     ensures done { IfOk result (λ done. done ≡ (rounds most grant link.old).done) }
     ensures journal { OnOk result (journal.new ≡ told (rounds most grant link.old).journal journal.old) }
@@ -74,7 +75,7 @@ fn rounds(link: &mut Link, grant: u32, most: u64, journal: &mut Journal) -> Resu
 
 // A TTI, and the timers that run behind it.
 fn round(link: &mut Link, grant: u32, journal: &mut Journal) -> Result<(), NoMemory>
-    requires { grant ≤ 9422 }
+    requires { grant ≤ GREATEST_GRANT }
     ensures link { OnOk result (link.new ≡ shown (round grant link.old)) }
     ensures journal { OnOk result (journal.new ≡ told (round grant link.old).out journal.old) }
 {

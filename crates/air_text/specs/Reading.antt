@@ -11,6 +11,8 @@ use Rattle.air_text.specs.declared.fault.LineRefusal.TheVariants.{Word, Range, H
 use Rattle.air_text.specs.Words.{◌>>=◌, words_of, is_twice, joined}
 use Rattle.air_text.specs.Fields.{number_of, octets_of, side_of, clock_of, kind_of, outcome_of, cipher_of, word_of}
 use Rattle.air_text.specs.Options.{goes, config_of, options_of}
+use Rattle.l2_types.specs.declared.limits.TheConstants.{GREATEST_GRANT, GREATEST_SDU}
+use Rattle.air_text.specs.declared.limits.TheConstants.{LONGEST_LINE}
 
 abbrev pub key_in : Result (List ℕ) FromHexError → Result Key LineRefusal
 key_in (Err _) = Err Hex
@@ -52,15 +54,15 @@ unfoldable pub submit_of : List (List ℕ) → Result Line LineRefusal
 submit_of (node ∷ lcid ∷ text ∷ []) = do
   side ← side_of node
   n ← number_of 0 10 lcid
-  octets ← octets_of 8188 text
+  octets ← octets_of GREATEST_SDU text
   Ok (Submit side n octets)
 submit_of fields = Err Fields
 
 unfoldable pub tti_of : List (List ℕ) → Result Line LineRefusal
 tti_of (up_grant ∷ up ∷ down_grant ∷ down ∷ []) = do
-  ug ← number_of 0 9422 up_grant
+  ug ← number_of 0 GREATEST_GRANT up_grant
   uo ← outcome_of up
-  dg ← number_of 0 9422 down_grant
+  dg ← number_of 0 GREATEST_GRANT down_grant
   dout ← outcome_of down
   Ok (Tti ug uo dg dout)
 tti_of fields = Err Fields
@@ -87,7 +89,7 @@ loop_off_of fields = Err Fields
 
 unfoldable pub loop_a_of : List (List ℕ) → Result Line LineRefusal
 loop_a_of (size ∷ []) = do
-  n ← number_of 0 8188 size
+  n ← number_of 0 GREATEST_SDU size
   Ok (LoopA n)
 loop_a_of fields = Err Fields
 
@@ -107,14 +109,14 @@ loop_of (mode ∷ fields) =
 
 unfoldable pub drain_of : List (List ℕ) → Result Line LineRefusal
 drain_of (grant ∷ []) = do
-  n ← number_of 0 9422 grant
+  n ← number_of 0 GREATEST_GRANT grant
   Ok (Drain n)
 drain_of fields = Err Fields
 
 unfoldable pub forge_of : List (List ℕ) → Result Line LineRefusal
 forge_of (node ∷ text ∷ []) = do
   side ← side_of node
-  octets ← octets_of 9422 text
+  octets ← octets_of GREATEST_GRANT text
   Ok (Forge side octets)
 forge_of fields = Err Fields
 
@@ -164,4 +166,4 @@ read_words (first ∷ fields) = if slice_index first 0 == 35 then Ok None else (
 
 -- a text of at most 20000 octets
 unfoldable pub read_of : List ℕ → Result (Option Line) LineRefusal
-read_of text = if nat_lt 20000 (length text) then Err Long else read_words (words_of text)
+read_of text = if nat_lt LONGEST_LINE (length text) then Err Long else read_words (words_of text)

@@ -10,6 +10,7 @@ use Rattle.l2_types.specs.declared.config.DrxConfig.{DrxConfig}
 use Rattle.air_record.specs.declared.line.Line.{Line}
 use Rattle.air_record.specs.Text.{kind_text, line_words}
 use Rattle.air_record.specs.declared.line.Line.TheVariants as lines
+use Rattle.l2_types.specs.declared.limits.TheConstants.{GREATEST_GRANT, GREATEST_SDU}
 
 -- neither a space nor a line feed
 abbrev pub is_clear : List ℕ → Bool
@@ -52,15 +53,15 @@ IsGoodLine (lines.Harq visits) = (1 ≤ visits) × (visits ≤ 28)
 IsGoodLine lines.Bsr = Unit {0}
 IsGoodLine (lines.Keys keys) = IsGoodKey keys.user × IsGoodKey keys.rrc × IsGoodKey keys.integrity
 IsGoodLine (lines.Bearer config options) = IsGoodBearer config options
-IsGoodLine (lines.Submit side lcid octets) = (lcid ≤ 10) × IsBytes octets × (0 < length octets) × (length octets ≤ 8188)
-IsGoodLine (lines.Tti up_grant up down_grant down) = (up_grant ≤ 9422) × (down_grant ≤ 9422)
+IsGoodLine (lines.Submit side lcid octets) = (lcid ≤ 10) × IsBytes octets × (0 < length octets) × (length octets ≤ GREATEST_SDU)
+IsGoodLine (lines.Tti up_grant up down_grant down) = (up_grant ≤ GREATEST_GRANT) × (down_grant ≤ GREATEST_GRANT)
 IsGoodLine (lines.Expire side lcid clock) = lcid ≤ 10
 IsGoodLine (lines.Handover user rrc integrity) = IsGoodKey user × IsGoodKey rrc × IsGoodKey integrity
 IsGoodLine lines.LoopOff = Unit {0}
-IsGoodLine (lines.LoopA size) = size ≤ 8188
+IsGoodLine (lines.LoopA size) = size ≤ GREATEST_SDU
 IsGoodLine (lines.LoopB delay) = delay ≤ 65535
-IsGoodLine (lines.Drain grant) = grant ≤ 9422
-IsGoodLine (lines.Forge side octets) = IsBytes octets × (0 < length octets) × (length octets ≤ 9422)
+IsGoodLine (lines.Drain grant) = grant ≤ GREATEST_GRANT
+IsGoodLine (lines.Forge side octets) = IsBytes octets × (0 < length octets) × (length octets ≤ GREATEST_GRANT)
 IsGoodLine lines.End = Unit {0}
 IsGoodLine (lines.Discard lcid ttis) = (lcid ≤ 10) × (2 ≤ ttis) × (ttis ≤ 65535)
 IsGoodLine (lines.Drx config) = IsGoodDrx config

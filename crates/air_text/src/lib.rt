@@ -3,6 +3,7 @@
 
 mod fault;
 mod fields;
+mod limits;
 mod options;
 mod reading;
 
@@ -12,4 +13,5 @@ pub use air_record::{
 };
 pub use fault::{LineFault, LineRefusal};
 pub use fields::{octets_into, split_word};
+pub use limits::{LONGEST_LINE, MOST_LINES};
 pub use reading::read_line;

@@ -9,10 +9,11 @@ use crate::fault::{LineFault, LineRefusal};
 use crate::fields::{
     cipher, clock, is_word, key, kind, number, octets, outcome, side, word, words,
 };
+use crate::limits::LONGEST_LINE;
 use crate::options::{fits, has_twice, join, options, plain};
 use air_record::Line;
 use eps_sec::Keys;
-use l2_types::DrxConfig;
+use l2_types::{DrxConfig, GREATEST_GRANT, GREATEST_SDU};
 use std::alloc::Global;
 
 // Lines that come seldom are read by functions of their own: inlined, each would take its room in the reading of every line.
@@ -98,7 +99,7 @@ fn submit(alloc: Global, fields: &[&[u8]]) -> Result<Line, LineFault>
     };
     let side = side(node)?;
     let lcid = number(lcid, 0, 10)? as u8;
-    let octets = octets(alloc, text, 8188)?;
+    let octets = octets(alloc, text, GREATEST_SDU)?;
     Ok(Line::Submit { side, lcid, octets })
 }
 
@@ -110,9 +111,9 @@ fn tti(fields: &[&[u8]]) -> Result<Line, LineRefusal>
     let [up_grant, up, down_grant, down] = fields else {
         return Err(LineRefusal::Fields);
     };
-    let up_grant = number(up_grant, 0, 9422)?;
+    let up_grant = number(up_grant, 0, GREATEST_GRANT)?;
     let up = outcome(up)?;
-    let down_grant = number(down_grant, 0, 9422)?;
+    let down_grant = number(down_grant, 0, GREATEST_GRANT)?;
     let down = outcome(down)?;
     Ok(Line::Tti {
         up_grant,
@@ -176,7 +177,7 @@ fn loop_a(fields: &[&[u8]]) -> Result<Line, LineRefusal>
     let [size] = fields else {
         return Err(LineRefusal::Fields);
     };
-    let size = number(size, 0, 8188)?;
+    let size = number(size, 0, GREATEST_SDU as u32)?;
     Ok(Line::LoopA { size })
 }
 
@@ -221,7 +222,7 @@ fn drain(fields: &[&[u8]]) -> Result<Line, LineRefusal>
     let [grant] = fields else {
         return Err(LineRefusal::Fields);
     };
-    let grant = number(grant, 0, 9422)?;
+    let grant = number(grant, 0, GREATEST_GRANT)?;
     Ok(Line::Drain { grant })
 }
 
@@ -235,7 +236,7 @@ fn forge(alloc: Global, fields: &[&[u8]]) -> Result<Line, LineFault>
         return Err(LineFault::Refused(LineRefusal::Fields));
     };
     let side = side(node)?;
-    let octets = octets(alloc, text, 9422)?;
+    let octets = octets(alloc, text, GREATEST_GRANT as usize)?;
     Ok(Line::Forge { side, octets })
 }
 
@@ -334,7 +335,7 @@ pub fn read_line(alloc: Global, text: &[u8]) -> Result<Option<Line>, LineFault>
     ensures line { Gives result (read_of text.now) }
     ensures ranges { IfOk result (λ line. IfSome line IsInRange) }
 {
-    if text.len() > 20000 {
+    if text.len() > LONGEST_LINE {
         return Err(LineFault::Refused(LineRefusal::Long));
     }
     let words = words(alloc, text)?;

@@ -15,7 +15,7 @@ use bearer_pdcp::Written;
 use bearer_types::{BearerConfig, Events};
 use eps_sec::Keys;
 use l2_bits::{NoMemory, SubmitRefusal};
-use l2_types::{Clock, Side};
+use l2_types::{Clock, GREATEST_GRANT, Side};
 use std::alloc::Global;
 use std::marker::Model;
 
@@ -168,7 +168,7 @@ impl Bearer<Running> {
     /// Writes within a share of a grant, of at most 9424 octets: a STATUS that is due, and then at most one data PDU, each
     /// with 3 octets for its subheader. Where data waits and none is written, the first reason that is true is told.
     pub fn take(&mut self, share: u32, held: Option<u64>) -> Result<Written, NoMemory>
-        requires { share ≤ 9424 }
+        requires { share ≤ GREATEST_GRANT + 2 }
         ensures pdus { IfOk result (λ w. w.pdus ≡ pdus self.old.state.flow share held) }
         ensures number { IfOk result (λ w. w.number ≡ number self.old.state.flow share held) }
         ensures told { IfOk result (λ w. w.events ≡ told self.old.lcid self.old.state.flow share held) }

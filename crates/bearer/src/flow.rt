@@ -17,7 +17,7 @@ use bearer_pdcp::Written;
 use bearer_types::{BearerConfig, Events};
 use eps_sec::Keys;
 use l2_bits::{NoMemory, SubmitRefusal};
-use l2_types::{Clock, Kind, Side};
+use l2_types::{Clock, GREATEST_GRANT, Kind, Side};
 use pdcp_pdu::PdcpKind;
 use std::alloc::Global;
 
@@ -120,7 +120,7 @@ impl Flow {
 
     #[tactic(auto, unfolding(crate::specs::Taking::pdus, crate::specs::Taking::number, crate::specs::Taking::told, crate::specs::Taking::after))]
     pub fn take(&mut self, lcid: u8, share: u32, held: Option<u64>) -> Result<Written, NoMemory>
-        requires { share ≤ 9424 }
+        requires { share ≤ GREATEST_GRANT + 2 }
         ensures pdus { IfOk result (λ w. w.pdus ≡ pdus self.old share held) }
         ensures number { IfOk result (λ w. w.number ≡ number self.old share held) }
         ensures told { IfOk result (λ w. w.events ≡ told lcid self.old share held) }

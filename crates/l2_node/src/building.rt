@@ -14,13 +14,14 @@ use crate::writing::{NewBlock, write_all};
 use bearer::{Bearer, Events, Running};
 use harq::{Order, Visit};
 use l2_bits::{Bytes, NoMemory};
+use l2_types::GREATEST_GRANT;
 use mac_pdu::{Control, MacBuilder};
 
 impl End {
     // A process is visited: a new block is built, the held one is sent again, or nothing is sent.
     #[tactic(auto, using(crate::proofs::Enough::new_enough), unfolding(crate::specs::Building::built, crate::specs::Building::building, crate::specs::Building::visited))]
     pub fn build(&mut self, tti: u64, grant: u32, order: Order) -> Result<Built, NoMemory>
-        requires grant { grant ≤ 9422 }
+        requires grant { grant ≤ GREATEST_GRANT }
         requires some { IsEnough order grant }
         ensures end { OnOk result (self.new ≡ built tti grant order self.old) }
         ensures visit { IfOk result (λ b. b.visit ≡ visit tti order self.old) }
@@ -40,7 +41,7 @@ impl End {
     // A new block is built and loaded.
     #[tactic(auto, unfolding(crate::specs::Building::loaded, crate::specs::Writing::new_block, prioritise::specs::Shares::after_allot))]
     fn load(&mut self, tti: u64, grant: u32) -> Result<Events, NoMemory>
-        requires grant { grant ≤ 9422 }
+        requires grant { grant ≤ GREATEST_GRANT }
         requires some { 1 ≤ grant }
         ensures end { OnOk result (self.new ≡ loaded tti grant self.old) }
         ensures events { IfOk result (λ events. events ≡ (written self.old grant).block.events) }
@@ -59,7 +60,7 @@ impl End {
     // The bearers write within their shares of a grant.
     #[tactic(auto, unfolding(crate::specs::Writing::shares, crate::specs::Writing::written, prioritise::specs::Shares::after_allot))]
     fn write(&mut self, grant: u32) -> Result<NewBlock, NoMemory>
-        requires { grant ≤ 9422 }
+        requires { grant ≤ GREATEST_GRANT }
         ensures end { OnOk result (self.new ≡ record self.old {
           bearers = (written self.old grant).bearers;
           buckets = after_allot self.old.buckets (needs self.old grant) (grant + 2);
@@ -100,7 +101,7 @@ impl End {
     // The block of SDUs, with a report of what is left behind them, of the grant's size.
     #[tactic(auto, unfolding(crate::specs::Writing::filled))]
     fn finish(&self, mut builder: MacBuilder, grant: u32) -> Result<Bytes, NoMemory>
-        requires grant { grant ≤ 9422 }
+        requires grant { grant ≤ GREATEST_GRANT }
         requires some { 1 ≤ grant }
         requires direction { builder.direction ≡ sent_by self.now.side }
         requires plain { builder.controls ≡ [] }

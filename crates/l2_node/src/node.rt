@@ -21,6 +21,7 @@ use eps_sec::Keys;
 use handover::Package;
 use harq::{Answer, Order, Visit};
 use l2_bits::{NoMemory, SubmitRefusal};
+use l2_types::GREATEST_GRANT;
 use std::alloc::Global;
 use std::collections::VecDeque;
 use std::marker::Model;
@@ -201,7 +202,7 @@ impl Node<Attached> {
     /// terminal that reports adds a report of what is left, if the padding has room for one. A grant for which a new block may
     /// be built has an octet or more.
     pub fn build(&mut self, tti: u64, grant: u32, order: Order) -> Result<Built, NoMemory>
-        requires grant { grant ≤ 9422 }
+        requires grant { grant ≤ GREATEST_GRANT }
         requires some { IsEnough order grant }
         ensures node { OnOk result (self.new ≡ attached (built tti grant order self.old.end)) }
         ensures visit { IfOk result (λ b. b.visit ≡ visit tti order self.old.end) }

@@ -10,7 +10,7 @@ use crate::finding::{Numbers, find, lowest_held};
 use bearer::{Bearer, Events, Running, Side, Written};
 use harq::Sender;
 use l2_bits::{NoMemory, Packets};
-use l2_types::Channel;
+use l2_types::{Channel, GREATEST_GRANT};
 use mac_pdu::{Direction, MacBuilder};
 use std::alloc::Global;
 use std::marker::Model;
@@ -48,7 +48,7 @@ impl NewBlock {
         requires lcid { lcid < 11 }
         requires fits { FitsShare share written.pdus }
         requires plain { self.old.parts.controls ≡ [] }
-        requires room { taken_up self.old.parts.sdus + share ≤ 9424 }
+        requires room { taken_up self.old.parts.sdus + share ≤ GREATEST_GRANT + 2 }
         ensures block { OnOk result (self.new ≡ gathered lcid written.pdus written.number written.events self.old) }
         ensures taken_up { OnOk result (taken_up self.new.parts.sdus ≤ taken_up self.old.parts.sdus + share) }
     {
@@ -80,7 +80,7 @@ fn add_sdus(builder: &mut MacBuilder, lcid: u8, mut pdus: Packets) -> Result<(),
     requires lcid { lcid < 11 }
     requires some { All (λ p. 1 ≤ length p) pdus }
     requires plain { builder.old.controls ≡ [] }
-    requires room { taken_up builder.old.sdus + in_block pdus ≤ 9424 }
+    requires room { taken_up builder.old.sdus + in_block pdus ≤ GREATEST_GRANT + 2 }
     ensures parts { OnOk result (builder.new ≡ with_sdus (sdus_of lcid pdus) builder.old) }
     ensures taken_up { OnOk result (taken_up builder.new.sdus ≡ taken_up builder.old.sdus + in_block pdus) }
 {
@@ -100,7 +100,7 @@ fn write_one(
 ) -> Result<(), NoMemory>
     requires lcid { lcid < 11 }
     requires plain { block.old.parts.controls ≡ [] }
-    requires room { taken_up block.old.parts.sdus + share ≤ 9424 }
+    requires room { taken_up block.old.parts.sdus + share ≤ GREATEST_GRANT + 2 }
     ensures bearers { OnOk result (bearers.new.items ≡ (writes lcid share held (work bearers.old.items block.old)).bearers) }
     ensures block { OnOk result (block.new ≡ (writes lcid share held (work bearers.old.items block.old)).block) }
     ensures taken_up { OnOk result (taken_up block.new.parts.sdus ≤ taken_up block.old.parts.sdus + share) }
@@ -127,7 +127,7 @@ pub(crate) fn write_all(
 ) -> Result<(), NoMemory>
     requires lcids { All (λ c. c.lcid < 11) channels.now }
     requires plain { block.old.parts.controls ≡ [] }
-    requires room { taken_up block.old.parts.sdus + over channels.now shares.now ≤ 9424 }
+    requires room { taken_up block.old.parts.sdus + over channels.now shares.now ≤ GREATEST_GRANT + 2 }
     ensures bearers { OnOk result (bearers.new.items ≡ (all_write sender.now numbers.now shares.now channels.now (work bearers.old.items block.old)).bearers) }
     ensures block { OnOk result (block.new ≡ (all_write sender.now numbers.now shares.now channels.now (work bearers.old.items block.old)).block) }
     ensures taken_up { OnOk result (taken_up block.new.parts.sdus ≤ taken_up block.old.parts.sdus + over channels.now shares.now) }

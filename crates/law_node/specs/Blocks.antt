@@ -19,6 +19,7 @@ use Rattle.l2_node.specs.Writing.{sdus_of, written, report_of, left_of, new_bloc
 use Rattle.law_node.specs.Calls.{Call, AreGiven, reached}
 use Rattle.law_node.specs.Sharing.{held, share}
 use Rattle.promises.specs.Built.{reported}
+use Rattle.l2_types.specs.declared.limits.TheConstants.{GREATEST_GRANT}
 
 -- the PDUs that the bearer of a channel writes within its share
 abbrev pub pdus_by : End → ℕ → Channel → List (List ℕ)
@@ -54,7 +55,7 @@ pub record IsBlockOf (e : End) (grant : ℕ) : Type 0 where
 -- of any end, as it has visited a process
 abbrev pub BlockHasWhatWasWritten : Type 0
 BlockHasWhatWasWritten = (side : Side) (maximum : ℕ) (reports : Bool) (calls : List Call) → AreGiven calls
-    → (tti : ℕ) (order : Order) (grant : ℕ) → 1 ≤ grant → grant ≤ 9422 → IsBlockOf (visited tti order (reached side maximum reports calls)) grant
+    → (tti : ℕ) (order : Order) (grant : ℕ) → 1 ≤ grant → grant ≤ GREATEST_GRANT → IsBlockOf (visited tti order (reached side maximum reports calls)) grant
 
 -- of any end, likewise, and by any grant
 abbrev pub PdusFitTheirShares : Type 0

@@ -17,6 +17,7 @@ use Rattle.l2_node.specs.End.{End, fresh, with_bearer, with_visits}
 use Rattle.l2_node.specs.Hearing.{received, ticked, expired}
 use Rattle.l2_node.specs.Moving.{left_cell, joined}
 use Rattle.l2_node.specs.Submitting.{refusal, submitted, discarding}
+use Rattle.l2_types.specs.declared.limits.TheConstants.{GREATEST_GRANT}
 
 -- the visit of a sending process in a TTI: its grant, and the feedback that is read on what it sends
 pub record Turn : Type 0 where
@@ -88,7 +89,7 @@ IsGiven (Submit lcid sdu) = Unit {0}
 IsGiven (SetDiscard lcid ttis) = Unit {0}
 IsGiven Tick = Unit {0}
 IsGiven TickBuckets = Unit {0}
-IsGiven (Visits t) = (t.grant ≤ 9422) × IsEnough t.order t.grant
+IsGiven (Visits t) = (t.grant ≤ GREATEST_GRANT) × IsEnough t.order t.grant
 IsGiven (Grants tti) = Unit {0}
 IsGiven (Granted tti good) = Unit {0}
 IsGiven (Assigned tti ndi good) = Unit {0}

@@ -13,6 +13,7 @@ use Rattle.pdcp_sec.specs.Protection.{Protection, protection_of}
 use Rattle.pdcp_tx.specs.Pdus.{modulus, extra, width, pdu}
 use Rattle.pdcp_tx_store.specs.Waiting.{Waits, length_all}
 use Rattle.pdcp_tx_store.specs.Given.{Given, settled, with_entry, with_ack, with_report, entry_at, is_own, first_open, first_unacked, open_octets, sent_octets, untold, from_unacked, data_of}
+use Rattle.l2_types.specs.declared.limits.TheConstants.{GREATEST_SDU, MOST_WAITING}
 
 -- COUNTs are whole numbers, HFN and SN together (TS 36.323 6.3.5).
 -- `next` is the COUNT of the next SDU that is taken for the first time, `base` the first unconfirmed COUNT as the life
@@ -44,8 +45,8 @@ start kind protection first = record { kind = kind; protection = protection; nex
 unfoldable pub refusal : State → List ℕ → Option SubmitRefusal
 refusal s sdu =
     if length sdu == 0 then Some Empty
-    else (if nat_lt 8188 (length sdu) then Some TooLong
-    else (if nat_le 1024 (length s.waiting) then Some Full
+    else (if nat_lt GREATEST_SDU (length sdu) then Some TooLong
+    else (if nat_le MOST_WAITING (length s.waiting) then Some Full
     else (if s.next + length s.waiting == 2 ^ 32 then Some CountEnd else None)))
 
 -- an answer is this refusal, or memory ran out where there was none

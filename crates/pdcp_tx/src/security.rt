@@ -9,6 +9,7 @@ ghost use Rattle.pdcp_tx.specs.Pdus.{mac_i, pdu};
 ghost use Rattle.pdcp_tx.specs.State.{IsShort};
 
 use l2_bits::{Bytes, NoMemory};
+use l2_types::GREATEST_SDU;
 use pdcp_pdu::{PdcpKind, write_srb, write_user};
 use pdcp_sec::Security;
 use pdcp_tx_store::Sdu;
@@ -44,7 +45,7 @@ fn write_data(
 ) -> Result<Bytes, NoMemory>
     requires bits { IsUserBits bits }
     requires some { 1 ≤ length sdu.now }
-    requires few { length sdu.now ≤ 8188 }
+    requires few { length sdu.now ≤ GREATEST_SDU }
     ensures pdu { IfOk result (λ written. written ≡ user_spelling bits (Data (count % 2 ^ bits) (ciphered_with security.now count sdu.now))) }
     ensures short { IfOk result IsShort }
 {
@@ -63,7 +64,7 @@ fn write_signalling(
     sdu: &[u8],
 ) -> Result<Bytes, NoMemory>
     requires some { 1 ≤ length sdu.now }
-    requires few { length sdu.now ≤ 8188 }
+    requires few { length sdu.now ≤ GREATEST_SDU }
     ensures pdu { IfOk result (λ written. written ≡ srb_header 0 (count % 32) ++ ciphered_with security.now count (sdu.now ++ mac_i security.now count sdu.now)) }
     ensures short { IfOk result IsShort }
 {

@@ -13,6 +13,7 @@ use crate::kind::{extra, modulus, width};
 use crate::security::write_pdu;
 use eps_sec::Keys;
 use l2_bits::{Bytes, NoMemory, SubmitRefusal};
+use l2_types::{GREATEST_SDU, MOST_WAITING};
 use pdcp_pdu::PdcpKind;
 use pdcp_sec::Security;
 use pdcp_tx_store::{Again, Entry, Ledger, Queue, Sdu, Sent};
@@ -85,13 +86,13 @@ impl Sender {
         ensures answer { IfSome result (λ e. IsAnswer e (refusal self.now sdu.now)) }
         ensures room { IsNone result → self.now.next + length self.now.waiting < 2 ^ 32 }
         ensures some { IsNone result → 1 ≤ length sdu.now }
-        ensures few { IsNone result → length sdu.now ≤ 8188 }
+        ensures few { IsNone result → length sdu.now ≤ GREATEST_SDU }
     {
         if sdu.is_empty() {
             Some(SubmitRefusal::Empty)
-        } else if sdu.len() > 8188 {
+        } else if sdu.len() > GREATEST_SDU {
             Some(SubmitRefusal::TooLong)
-        } else if self.waiting.len() >= 1024 {
+        } else if self.waiting.len() >= MOST_WAITING {
             Some(SubmitRefusal::Full)
         } else if self.next + self.waiting.len() as u64 == 1 << 32 {
             Some(SubmitRefusal::CountEnd)

@@ -5,6 +5,7 @@ ghost use Rattle.pdcp_tx_store.specs.Given.{first_unacked, sent_octets, untold, 
 
 use crate::given::{Entry, Sent, hear_all};
 use l2_bits::NoMemory;
+use l2_types::GREATEST_SDU;
 use std::alloc::Global;
 use std::collections::VecDeque;
 use std::marker::Model;
@@ -144,7 +145,7 @@ fn first_unacked(ring: &VecDeque<Entry>) -> Option<u32>
 
 fn data_octets(entry: &Entry) -> u64
     ensures value { result ≡ sent_octets (data_of (entry.now ∷ [])) }
-    ensures few { result ≤ 8188 }
+    ensures few { result ≤ GREATEST_SDU }
 {
     match entry {
         Entry::Data(sent) => u64::from(sent.octets.len()),

@@ -3,6 +3,7 @@
 ghost use Rattle.std.specs.Prelude.{◌≡◌, ◌≢◌, ◌≤◌, [], length, IfOk};
 
 use l2_bits::{Bytes, NoMemory};
+use l2_types::GREATEST_SDU;
 use std::alloc::Global;
 use std::marker::Model;
 
@@ -13,20 +14,21 @@ pub struct Sdu {
 }
 
 impl Model for Sdu {
+    ghost use Rattle.l2_types.specs.declared.limits.TheConstants.{GREATEST_SDU};
     ghost use Rattle.std.specs.Prelude.{◌≤◌, List, ℕ, length};
 
     ghost Value = { List ℕ };
 
     ghost view = { λ s. s.octets };
 
-    ghost invariant = { λ s. (1 ≤ length s.octets) × (length s.octets ≤ 8188) };
+    ghost invariant = { λ s. (1 ≤ length s.octets) × (length s.octets ≤ GREATEST_SDU) };
 }
 
 impl Sdu {
     /// A copy of the octets.
     pub fn copy(alloc: Global, octets: &[u8]) -> Result<Sdu, NoMemory>
         requires some { 1 ≤ length octets.now }
-        requires few { length octets.now ≤ 8188 }
+        requires few { length octets.now ≤ GREATEST_SDU }
         ensures { IfOk result (λ sdu. sdu ≡ octets.now) }
     {
         Ok(Sdu {
@@ -38,7 +40,7 @@ impl Sdu {
     pub fn len(&self) -> u32
         ensures value { result ≡ length self.now }
         ensures some { 1 ≤ result }
-        ensures few { result ≤ 8188 }
+        ensures few { result ≤ GREATEST_SDU }
     {
         self.octets.as_slice().len() as u32
     }
@@ -47,7 +49,7 @@ impl Sdu {
     pub fn as_slice(&self) -> &[u8]
         ensures value { result.now ≡ self.now }
         ensures some { 1 ≤ length result.now }
-        ensures few { length result.now ≤ 8188 }
+        ensures few { length result.now ≤ GREATEST_SDU }
     {
         self.octets.as_slice()
     }

@@ -17,6 +17,8 @@ use Rattle.pdu_show.specs.declared.entry.Entry.{Entry}
 use Rattle.pdu_show.specs.declared.entry.Entry.TheVariants as entries
 use Rattle.pdu_show.specs.declared.entry.Head.{Head}
 use Rattle.pdu_show.specs.declared.entry.Head.TheVariants as heads
+use Rattle.l2_types.specs.declared.limits.TheConstants.{GREATEST_GRANT}
+use Rattle.air_text.specs.declared.limits.TheConstants.{LONGEST_LINE}
 
 abbrev pub bearer_in : Line → Result (Option Entry) LineRefusal
 bearer_in (Bearer config options) = Ok (Some (entries.Bearer config))
@@ -24,7 +26,7 @@ bearer_in line = Err Word
 
 -- a block of 1 to 9422 octets
 unfoldable pub block_in : Direction → List (List ℕ) → Result (Option Entry) LineRefusal
-block_in direction (text ∷ []) = octets_of 9422 text >>= λ octets. Ok (Some (entries.Block direction octets))
+block_in direction (text ∷ []) = octets_of GREATEST_GRANT text >>= λ octets. Ok (Some (entries.Block direction octets))
 block_in direction fields = Err Fields
 
 abbrev pub entry_by : List ℕ → List (List ℕ) → Result (Option Entry) LineRefusal
@@ -41,7 +43,7 @@ entry_words (first ∷ fields) = if slice_index first 0 == 35 then Ok None else 
 
 -- a text of at most 20000 octets
 unfoldable pub entry_of : List ℕ → Result (Option Entry) LineRefusal
-entry_of text = if nat_lt 20000 (length text) then Err Long else entry_words (words_of text)
+entry_of text = if nat_lt LONGEST_LINE (length text) then Err Long else entry_words (words_of text)
 
 -- ---- what is read, apart from where a block's octets are put
 
@@ -59,11 +61,11 @@ HasEntry read octets (Err e) = Fails e read
 -- the ranges of what was read
 abbrev pub IsHead : List ℕ → Head → Type 0
 IsHead octets (heads.Bearer config) = IsConfig config
-IsHead octets (heads.Block direction) = (1 ≤ length octets) × (length octets ≤ 9422)
+IsHead octets (heads.Block direction) = (1 ≤ length octets) × (length octets ≤ GREATEST_GRANT)
 
 abbrev pub IsEntry : Entry → Type 0
 IsEntry (entries.Bearer config) = IsConfig config
-IsEntry (entries.Block direction octets) = (1 ≤ length octets) × (length octets ≤ 9422)
+IsEntry (entries.Block direction octets) = (1 ≤ length octets) × (length octets ≤ GREATEST_GRANT)
 
 -- a line of a script as an entry
 abbrev pub as_entry : Result (Option Line) LineRefusal → Result (Option Entry) LineRefusal

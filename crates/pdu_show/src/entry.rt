@@ -5,17 +5,12 @@ ghost use Rattle.air_text.specs.Words.{Gives, words_of};
 ghost use Rattle.air_text.specs.Reading.{read_of};
 ghost use Rattle.pdu_show.specs.Entries.{HasEntry, IsHead, IsEntry, block_in, as_entry, entry_by, entry_words, entry_of};
 
-use air_text::{Line, LineFault, LineRefusal, octets_into, read_line, split_word};
+use air_text::{LONGEST_LINE, Line, LineFault, LineRefusal, octets_into, read_line, split_word};
 use bearer_types::BearerConfig;
 use l2_bits::Bytes;
+use l2_types::GREATEST_GRANT;
 use mac_pdu::Direction;
 use std::alloc::Global;
-
-/// The most octets of a line without its line feed.
-const LONGEST: usize = 20_000;
-
-/// The most octets of a block.
-const MOST: usize = 9422;
 
 /// What a line of an input to be shown says.
 #[derive(Debug, Drop)]
@@ -49,7 +44,7 @@ fn read_block(
     if let Some(_) = split_word(behind) {
         return Err(LineFault::Refused(LineRefusal::Fields));
     }
-    octets_into(octets, text, MOST)?;
+    octets_into(octets, text, GREATEST_GRANT as usize)?;
     Ok(Some(Head::Block(direction)))
 }
 
@@ -78,7 +73,7 @@ pub fn read_entry(alloc: Global, text: &[u8], octets: &mut Bytes) -> Result<Opti
     ensures ranges { IfOk result (λ head. IfSome head (IsHead octets.new)) }
 {
     octets.clear();
-    if text.len() > LONGEST {
+    if text.len() > LONGEST_LINE {
         return Err(LineFault::Refused(LineRefusal::Long));
     }
     let Some((first, fields)) = split_word(text) else {

@@ -4,6 +4,7 @@ use Rattle.l2_bits.specs.declared.fault.SubmitRefusal.{SubmitRefusal}
 use Rattle.l2_bits.specs.declared.fault.SubmitRefusal.TheVariants.{Empty, TooLong, Full, CountEnd, NoMemory}
 use Rattle.rlc_pdu.specs.declared.outcome.Taken.{Taken}
 use Rattle.rlc_pdu.specs.declared.outcome.Taken.TheVariants.{Piece, Idle, Small}
+use Rattle.l2_types.specs.declared.limits.TheConstants.{GREATEST_SDU, MOST_WAITING}
 
 -- how many SDUs are sent, and those that wait
 pub record Transparent : Type 0 where
@@ -17,8 +18,8 @@ nothing_submitted = record { next = 0; waiting = [] }
 unfoldable pub refusal : Transparent → List ℕ → Option SubmitRefusal
 refusal s sdu =
     if length sdu == 0 then Some Empty
-    else if nat_lt 8188 (length sdu) then Some TooLong
-    else if nat_le 1024 (length s.waiting) then Some Full
+    else if nat_lt GREATEST_SDU (length sdu) then Some TooLong
+    else if nat_le MOST_WAITING (length s.waiting) then Some Full
     else None
 
 -- an answer is this refusal, or memory ran out where there was none

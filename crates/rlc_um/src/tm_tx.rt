@@ -4,6 +4,7 @@ ghost use Rattle.rlc_queue.specs.Waiting.{total};
 ghost use Rattle.rlc_um.specs.Transparent.{nothing_submitted, refusal, IsAnswer, submitted, taken, after_take, need};
 
 use l2_bits::{Bytes, NoMemory, Ring, SubmitRefusal};
+use l2_types::{GREATEST_SDU, MOST_WAITING};
 use rlc_pdu::Taken;
 use std::alloc::Global;
 use std::marker::Model;
@@ -68,7 +69,7 @@ impl TmTx {
     #[tactic(auto, using(crate::proofs::Sums::pushes))]
     fn add(&mut self, sdu: Bytes) -> Result<(), NoMemory>
         requires some { 1 ≤ length sdu }
-        requires few { length sdu ≤ 8188 }
+        requires few { length sdu ≤ GREATEST_SDU }
         ensures ok { OnOk result (self.new ≡ submitted self.old sdu) }
         ensures err { OnErr result (self.new ≡ self.old) }
     {
@@ -90,13 +91,13 @@ impl TmTx {
         ensures value { result ≡ refusal self.now sdu.now }
         ensures answer { IfSome result (λ e. IsAnswer e (refusal self.now sdu.now)) }
         ensures some { IsNone result → 1 ≤ length sdu.now }
-        ensures few { IsNone result → length sdu.now ≤ 8188 }
+        ensures few { IsNone result → length sdu.now ≤ GREATEST_SDU }
     {
         if sdu.is_empty() {
             Some(SubmitRefusal::Empty)
-        } else if sdu.len() > 8188 {
+        } else if sdu.len() > GREATEST_SDU {
             Some(SubmitRefusal::TooLong)
-        } else if self.waiting.len() >= 1024 {
+        } else if self.waiting.len() >= MOST_WAITING {
             Some(SubmitRefusal::Full)
         } else {
             None

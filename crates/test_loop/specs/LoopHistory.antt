@@ -6,6 +6,7 @@ use Rattle.test_loop.specs.declared.Kept.{Kept}
 use Rattle.test_loop.specs.declared.Kept.TheVariants.{Now, Later, Full}
 use Rattle.test_loop.specs.Items.{Item}
 use Rattle.test_loop.specs.Loops.{State, fresh, after_set, taken_answer, after_taken, after_tick, due_answer, after_due}
+use Rattle.test_loop.specs.declared.TheConstants.{MOST_KEPT}
 
 pub data Call : Type 0 where
   Set : (mode : Mode) → Call
@@ -104,5 +105,5 @@ owes past = nat_lt 0 (waiting past) && (is_switched past || nat_le (delay past) 
 -- what is kept and not yet given back is kept in order and once, at most 1024 of them, and is owed exactly when it should be
 pub record Returns (w : World) : Type 0 where
   pub in_order : given w.past ++ w.state.kept ≡ stored w.past
-  pub at_most : length w.state.kept ≤ 1024
+  pub at_most : length w.state.kept ≤ MOST_KEPT
   pub owed : is_some (due_answer w.state) ≡ owes w.past

@@ -5,6 +5,7 @@ use Rattle.test_loop.specs.declared.Mode.TheVariants.{Off, A, B}
 use Rattle.test_loop.specs.declared.Kept.{Kept}
 use Rattle.test_loop.specs.declared.Kept.TheVariants.{Now, Later, Full}
 use Rattle.test_loop.specs.Items.{Item, cut}
+use Rattle.test_loop.specs.declared.TheConstants.{MOST_KEPT}
 
 -- the mode, the SDUs that are kept, and the TTIs until they are owed
 pub record State : Type 0 where
@@ -38,7 +39,7 @@ after_set s mode = state mode s.kept 0
 
 -- an SDU that is to be kept finds its place, or 1024 are kept
 abbrev pub is_full : List Item → Bool
-is_full kept = nat_le 1024 (length kept)
+is_full kept = nat_le MOST_KEPT (length kept)
 
 abbrev pub kept_answer : List Item → Kept
 kept_answer kept = if is_full kept then Full else Later

@@ -37,7 +37,7 @@ pub enum Kept {
 }
 
 // The most SDUs that are kept.
-const MOST: usize = 1024;
+const MOST_KEPT: usize = 1024;
 
 #[derive(Drop)]
 struct Sdu {
@@ -161,7 +161,7 @@ impl Loop {
         ensures ok { OnOk result (self.new ≡ after_kept delay (item lcid sdu.now) self.old) }
         ensures err { OnErr result (self.new ≡ self.old) }
     {
-        if self.kept.len() >= MOST {
+        if self.kept.len() >= MOST_KEPT {
             return Ok(Kept::Full);
         }
         let octets = Bytes::from_slice(self.alloc, sdu)?;

@@ -12,7 +12,7 @@ use crate::acknowledged::running::AmBearer;
 use bearer_pdcp::{Written, tell_wait};
 use bearer_types::{Event, Events};
 use l2_bits::{NoMemory, Packets};
-use l2_types::{Clock, How, Waits};
+use l2_types::{Clock, GREATEST_GRANT, How, Waits};
 use rlc_pdu::Taken;
 
 impl AmBearer {
@@ -20,7 +20,7 @@ impl AmBearer {
     /// is left, each with 3 octets for its subheader. Where data waits and none is written, the reason is told.
     #[tactic(auto, using(bearer_pdcp::proofs::Fitting::both), unfolding(crate::specs::Acknowledged::Taking::answer, crate::specs::Acknowledged::Taking::pdus, crate::specs::Acknowledged::Taking::taking, crate::specs::Acknowledged::Taking::after_taking))]
     pub fn take(&mut self, share: u32, held: Option<u64>) -> Result<Written, NoMemory>
-        requires { share ≤ 9424 }
+        requires { share ≤ GREATEST_GRANT + 2 }
         ensures pdus { IfOk result (λ w. w.pdus ≡ pdus self.old share held) }
         ensures number { IfOk result (λ w. w.number ≡ number_of (answer self.old share held)) }
         ensures told { IfOk result (λ w. w.events ≡ taking self.old share held) }
@@ -50,9 +50,9 @@ impl AmBearer {
     // Writes a STATUS where it is due, may be sent and fits, and answers what it leaves of the share.
     #[tactic(auto, using(bearer_pdcp::proofs::Fitting::few))]
     fn report(&mut self, share: u32, written: &mut Written) -> Result<u32, NoMemory>
-        requires { share ≤ 9424 }
+        requires { share ≤ GREATEST_GRANT + 2 }
         ensures left { IfOk result (λ left. left ≡ share_left self.old.rx share) }
-        ensures few { IfOk result (λ left. left ≤ 9424) }
+        ensures few { IfOk result (λ left. left ≤ GREATEST_GRANT + 2) }
         ensures less { IfOk result (λ left. left ≤ share) }
         ensures fits { IfOk result (λ left. FitsShare (share - left) (status_pdus self.old.rx share)) }
         ensures pdus { OnOk result (written.new.pdus ≡ written.old.pdus ++ status_pdus self.old.rx share) }

@@ -8,6 +8,7 @@ use Rattle.law_node.specs.Calls.{Call as EndCall, AreGiven, reached}
 use Rattle.pdu_show.specs.declared.kinds.Layout.{Layout}
 use Rattle.law_air.specs.AnyCalls.Ends.{visit_told}
 use Rattle.promises.specs.Built.{IsNewBlock}
+use Rattle.l2_types.specs.declared.limits.TheConstants.{GREATEST_GRANT}
 
 -- a visit builds a block, or nothing is told of one
 abbrev pub MayBuild : Side → ℕ → ℕ → List (Option Layout) → List Record → Type 0
@@ -16,4 +17,4 @@ MayBuild side t grant kinds told = (told ≡ []) ⊎ IsNewBlock side t grant kin
 -- at any end that has come so far by calls
 abbrev pub BlocksAreTold : Type 0
 BlocksAreTold = (side : Side) (maximum : ℕ) (reports : Bool) (calls : List EndCall) → AreGiven calls
-    → (t grant : ℕ) (order : Order) (kinds : List (Option Layout)) → grant ≤ 9422 → IsEnough order grant → MayBuild side t grant kinds (visit_told side t grant order kinds (reached side maximum reports calls))
+    → (t grant : ℕ) (order : Order) (kinds : List (Option Layout)) → grant ≤ GREATEST_GRANT → IsEnough order grant → MayBuild side t grant kinds (visit_told side t grant order kinds (reached side maximum reports calls))

@@ -27,6 +27,7 @@ use Rattle.law_air.specs.AnyCalls.Calls.{Call, Bears, Visits, HandsOver, after}
 use Rattle.promises.specs.Records.{told_by, is_of_building}
 use Rattle.promises.specs.Built.{block_told}
 use Rattle.promises.specs.Blocks.{with_bearer}
+use Rattle.l2_types.specs.declared.limits.TheConstants.{GREATEST_GRANT}
 
 -- ---- what records tell of an end
 
@@ -115,8 +116,8 @@ SubmissionsGoOn = (side : Side) (lcid : ℕ) (sdu : List ℕ) (l : Link) → Goe
 
 -- grants are those of transport blocks
 abbrev pub TtisGoOn : Type 0
-TtisGoOn = (up_grant : ℕ) (up : Outcome) (down_grant : ℕ) (down : Outcome) (l : Link) → up_grant ≤ 9422 → down_grant ≤ 9422
+TtisGoOn = (up_grant : ℕ) (up : Outcome) (down_grant : ℕ) (down : Outcome) (l : Link) → up_grant ≤ GREATEST_GRANT → down_grant ≤ GREATEST_GRANT
     → GoesOnByVisits l.ttis up_grant down_grant l (tti up_grant up down_grant down l)
 
 abbrev pub DrainsGoOn : Type 0
-DrainsGoOn = (grant : ℕ) (l : Link) → grant ≤ 9422 → GoesOnByVisits l.ttis grant grant l (drain_tti grant l)
+DrainsGoOn = (grant : ℕ) (l : Link) → grant ≤ GREATEST_GRANT → GoesOnByVisits l.ttis grant grant l (drain_tti grant l)

@@ -15,6 +15,7 @@ use Rattle.law_air.specs.AnyCalls.Calls.{Call, Loops, Expires, Forges, HandsOver
 use Rattle.law_air.specs.AnyCalls.Ends.{IsGiven}
 use Rattle.law_air.specs.AnyCalls.Zero.{HaveCome}
 use Rattle.promises.specs.Order.{Channels, OfRecords, LoopTells, TtiTells, DrainTtiTells, TimerTells, ReceiversTell, SendersTell, ForgeTells, HandoverTells, SubmitTells}
+use Rattle.l2_types.specs.declared.limits.TheConstants.{GREATEST_GRANT}
 
 -- ---- what an end tells in a call
 
@@ -52,8 +53,8 @@ SubmissionsTellInOrder = (side : Side) (lcid : ℕ) (sdu : List ℕ) (l : Link) 
 
 -- grants are those of transport blocks
 abbrev pub TtisTellInOrder : Type 0
-TtisTellInOrder = (up_grant : ℕ) (up : Outcome) (down_grant : ℕ) (down : Outcome) (l : Link) → up_grant ≤ 9422 → down_grant ≤ 9422 → HaveCome l
+TtisTellInOrder = (up_grant : ℕ) (up : Outcome) (down_grant : ℕ) (down : Outcome) (l : Link) → up_grant ≤ GREATEST_GRANT → down_grant ≤ GREATEST_GRANT → HaveCome l
     → Leaves (TtiTells l.ttis l.kinds (both l)) l (tti up_grant up down_grant down l)
 
 abbrev pub DrainsTellInOrder : Type 0
-DrainsTellInOrder = (grant : ℕ) (l : Link) → grant ≤ 9422 → HaveCome l → Leaves (DrainTtiTells l.ttis l.kinds (both l)) l (drain_tti grant l)
+DrainsTellInOrder = (grant : ℕ) (l : Link) → grant ≤ GREATEST_GRANT → HaveCome l → Leaves (DrainTtiTells l.ttis l.kinds (both l)) l (drain_tti grant l)

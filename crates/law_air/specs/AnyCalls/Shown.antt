@@ -10,11 +10,12 @@ use Rattle.law_node.specs.Names.{modes_of}
 use Rattle.pdu_show.specs.declared.kinds.Layout.{Layout}
 use Rattle.law_air.specs.AnyCalls.Ends.{built_told}
 use Rattle.promises.specs.Shown.{AreKnown, IsShownBlock}
+use Rattle.l2_types.specs.declared.limits.TheConstants.{GREATEST_GRANT}
 
 -- ---- where the bearers of an end are known as what they are
 
 abbrev pub BlocksAreShown : Type 0
 BlocksAreShown = (side : Side) (maximum : ℕ) (reports : Bool) (calls : List EndCall) → AreGiven calls
-    → (t grant : ℕ) (order : Order) (kinds : List (Option Layout)) → 1 ≤ grant → grant ≤ 9422 → visit t order (reached side maximum reports calls) ≡ New
+    → (t grant : ℕ) (order : Order) (kinds : List (Option Layout)) → 1 ≤ grant → grant ≤ GREATEST_GRANT → visit t order (reached side maximum reports calls) ≡ New
     → AreKnown kinds (modes_of (visited t order (reached side maximum reports calls)))
     → IsShownBlock side t grant kinds (built_told New side t grant order kinds (reached side maximum reports calls))

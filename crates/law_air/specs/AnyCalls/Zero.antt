@@ -17,6 +17,7 @@ use Rattle.bearer_types.specs.Sides.{is_same}
 use Rattle.law_air.specs.AnyCalls.Ends.{IsGiven}
 use Rattle.promises.specs.Records.{ups_in}
 use Rattle.promises.specs.Zero.{arrived, brought}
+use Rattle.l2_types.specs.declared.limits.TheConstants.{GREATEST_GRANT}
 
 -- ---- the laws
 
@@ -56,8 +57,8 @@ SubmissionsBring = (side : Side) (lcid : ℕ) (octets : List ℕ) (l : Link) →
 
 -- grants are those of transport blocks
 abbrev pub TtisBring : Type 0
-TtisBring = (up_grant : ℕ) (up : Outcome) (down_grant : ℕ) (down : Outcome) (l : Link) → up_grant ≤ 9422 → down_grant ≤ 9422 → HaveCome l
+TtisBring = (up_grant : ℕ) (up : Outcome) (down_grant : ℕ) (down : Outcome) (l : Link) → up_grant ≤ GREATEST_GRANT → down_grant ≤ GREATEST_GRANT → HaveCome l
     → Brings none_forged l (tti up_grant up down_grant down l)
 
 abbrev pub DrainsBring : Type 0
-DrainsBring = (grant : ℕ) (l : Link) → grant ≤ 9422 → HaveCome l → Brings none_forged l (drain_tti grant l)
+DrainsBring = (grant : ℕ) (l : Link) → grant ≤ GREATEST_GRANT → HaveCome l → Brings none_forged l (drain_tti grant l)

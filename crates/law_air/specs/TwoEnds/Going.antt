@@ -24,6 +24,7 @@ use Rattle.law_deliver.specs.UmGaps.Whats.{whats}
 use Rattle.law_air.specs.TwoEnds.On.{IsOn}
 use Rattle.law_air.specs.TwoEnds.Shown.{IsShown, anew}
 use Rattle.promises.specs.Flows.{looped_at}
+use Rattle.l2_types.specs.declared.limits.TheConstants.{GREATEST_GRANT}
 
 -- ---- the SDUs that a side submits on a channel in a step
 
@@ -79,8 +80,8 @@ IsCallSince l call = Unit {0}
 
 -- grants are those of transport blocks
 abbrev pub IsStepSince : ℕ → Step → Type 0
-IsStepSince l (Tti up_grant up down_grant down) = (up_grant ≤ 9422) × (down_grant ≤ 9422)
-IsStepSince l (Drains grant) = grant ≤ 9422
+IsStepSince l (Tti up_grant up down_grant down) = (up_grant ≤ GREATEST_GRANT) × (down_grant ≤ GREATEST_GRANT)
+IsStepSince l (Drains grant) = grant ≤ GREATEST_GRANT
 IsStepSince l (Submit side lcid sdu) = Unit {0}
 IsStepSince l (Calls c) = IsCallSince l c
 

@@ -19,6 +19,7 @@ use Rattle.law_node.specs.Holding.{flow}
 use Rattle.law_deliver.specs.AmFlow.Channels.{GoesOnInLife}
 use Rattle.law_deliver.specs.AmFlow.Flows.{BeginsLife}
 use Rattle.law_deliver.specs.AmFlow.Pair.{Step as PairStep, goes as pair_goes, outset as pair_outset, AreGiven as AreGivenPair}
+use Rattle.law_rlc.specs.AmPair.Given.{age_end}
 
 -- a block that may still come to the other end: the process that it was built for, its octets, and the TTIs since
 pub record Block : Type 0 where
@@ -126,9 +127,9 @@ IsDone l s (Calls c) = IsGivenCall c × GoesOnInLife l c × IsCalling s c
 IsDone l s (Comes k) = Unit {0}
 IsDone l s (Goes k) = Unit {0}
 
--- a block is sent at most 28 times, 8 TTIs apart
+-- as old as a block may be that HARQ still sends
 abbrev pub IsYoung : Block → Type 0
-IsYoung b = b.age < 216
+IsYoung b = b.age < age_end
 
 abbrev pub IsGiven : ℕ → Air → Step → Type 0
 IsGiven l a (AtNb x) = IsDone l a.nb x

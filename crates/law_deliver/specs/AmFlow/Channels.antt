@@ -19,6 +19,7 @@ use Rattle.law_node.specs.Calls.{Turn, Call, SetVisits, SetReports, Add, Submit,
 use Rattle.law_node.specs.Holding.{flow}
 use Rattle.prioritise.specs.Channels.{has as has_channel}
 use Rattle.promises.specs.Pdus.{carried}
+use Rattle.l2_types.specs.declared.limits.TheConstants.{GREATEST_GRANT}
 
 -- ---- the calls of its bearer
 
@@ -78,6 +79,6 @@ abbrev pub written_by : End → ℕ → ℕ → List (List ℕ)
 written_by e grant l = if has_channel l e.buckets.channels then pdus (flow l e) (share_of e grant l) (held_of e l) else []
 
 abbrev pub BlocksCarryPdus : Type 0
-BlocksCarryPdus = (side : Side) (maximum : ℕ) (reports : Bool) (past : List Call) → AreGiven past → (tti : ℕ) (order : Order) (grant l : ℕ) → 1 ≤ grant → grant ≤ 9422
+BlocksCarryPdus = (side : Side) (maximum : ℕ) (reports : Bool) (past : List Call) → AreGiven past → (tti : ℕ) (order : Order) (grant l : ℕ) → 1 ≤ grant → grant ≤ GREATEST_GRANT
     → has l (reached side maximum reports past).bearers ≡ true
     → carried l (sent_by side) (new_block (visited tti order (reached side maximum reports past)) grant) ≡ written_by (visited tti order (reached side maximum reports past)) grant l

@@ -12,6 +12,7 @@ use Rattle.law_bearer.specs.AnyBearer.Calls.{Call, Submit, Take, Arrive, Expire,
 use Rattle.law_bearer.specs.AnyBearer.Acknowledged.{offers_in, data_given}
 use Rattle.law_rlc.specs.AmPair.Flow.{Copy, copies_with, is_new, except}
 use Rattle.law_rlc.specs.AmPair.Given.{IsHeld}
+use Rattle.law_rlc.specs.AmPair.Given.{age_end}
 
 -- a STATUS that may still come: its octets, and the TTIs since it was written
 pub record Sent : Type 0 where
@@ -160,9 +161,9 @@ IsDone e (StatusComes k) = Unit {0}
 IsDone e (DataGoes k) = Unit {0}
 IsDone e (StatusGoes k) = Unit {0}
 
--- a STATUS is under way for at most 216 TTIs after the one in which it was written: a block is sent at most 28 times, 8 TTIs apart
+-- as old as a STATUS may be that is under way
 abbrev pub IsYoung : Sent → Type 0
-IsYoung s = s.age < 216
+IsYoung s = s.age < age_end
 
 abbrev pub IsGiven : Pair → Step → Type 0
 IsGiven p (Near d) = IsDone p.near d

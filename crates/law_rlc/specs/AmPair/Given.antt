@@ -47,9 +47,13 @@ pub record IsReporting (f : Flow) (size : ℕ) (octets : List ℕ) : Type 0 wher
   pub bytes : (i : ℕ) → slice_index octets i < 256
   pub bits : bits_of octets ≡ status_written (ack (receiver f).state size % 1024) (nacks (receiver f).state size)
 
--- a STATUS is under way for at most 216 TTIs after the one in which it was written: a block is sent at most 28 times, 8 TTIs apart
+-- a STATUS is under way for fewer TTIs after the one in which it was written: a block is sent at
+-- most 28 times, 8 TTIs apart (TS 36.321 5.4.2.2)
+abbrev pub age_end : ℕ
+age_end = 216
+
 abbrev pub IsYoung : Report → Type 0
-IsYoung r = r.age < 216
+IsYoung r = r.age < age_end
 
 abbrev pub IsGiven : Flow → Step → Type 0
 IsGiven f (Sends c) = IsSending f c
