@@ -224,7 +224,7 @@ am_counts l b share held =
     ∙ ap (λ (xs : List Offer). only (b.pdcp.lcid == l) (counts xs)) (sym off)
 
 tm_counts : (l lcid : ℕ) (t : Taken) → counts_on l (tm_data_told lcid t) ≡ []
-tm_counts l lcid (Piece number first polled octets) = ap (λ (ns : List ℕ). ns ++ []) (only_none (lcid == l))
+tm_counts l lcid (Piece number first polled octets) = refl
 tm_counts l lcid Idle = refl
 tm_counts l lcid Small = refl
 tm_counts l lcid Shut = refl
