@@ -10,6 +10,7 @@ use Rattle.mac_pdu.specs.declared.item.Bsr.{Bsr}
 use Rattle.mac_pdu.specs.declared.item.Control.TheVariants.{Report}
 use Rattle.mac_pdu.specs.Items.{MacItem, front, element, padding, sdu_item}
 use Rattle.mac_pdu.specs.Reading.{reading}
+use Rattle.mac_pdu.specs.Writing.{canonical}
 use Rattle.prioritise.specs.ShareLaws.{IsOneOf}
 use Rattle.l2_node.specs.Building.{visited}
 use Rattle.l2_node.specs.End.{End, sent_by}
@@ -44,9 +45,11 @@ abbrev pub reported : Option Bsr → List MacItem
 reported None = []
 reported (Some r) = element (Report r) ∷ []
 
--- a block has the grant's size; it is read as padding of one or two octets or none, the report, the bearers' PDUs, and the other padding
+-- a block has the grant's size, in which it is the canonical writing of the report and the bearers' PDUs; it is read as padding of one or two
+-- octets or none, these, and the other padding
 pub record IsBlockOf (e : End) (grant : ℕ) : Type 0 where
   pub size_is : length (new_block e grant) ≡ grant
+  pub writing_is : new_block e grant ≡ canonical (reported (report e grant) ++ map sdu_item (all_sdus e grant e.buckets.channels)) grant
   pub fronts : ℕ
   pub ends : List ℕ
   pub two : fronts ≤ 2

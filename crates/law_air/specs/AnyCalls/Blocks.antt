@@ -11,6 +11,7 @@ use Rattle.mac_pdu.specs.declared.builder.Sdu.{Sdu}
 use Rattle.mac_pdu.specs.declared.item.Bsr.{Bsr}
 use Rattle.mac_pdu.specs.Items.{front, padding, sdu_item}
 use Rattle.mac_pdu.specs.Reading.{reading}
+use Rattle.mac_pdu.specs.Writing.{canonical}
 use Rattle.law_node.specs.Blocks.{reported}
 use Rattle.law_node.specs.Calls.{Call as EndCall, AreGiven, reached}
 use Rattle.law_node.specs.Names.{sends, Mode, AreNamed}
@@ -18,8 +19,9 @@ use Rattle.law_node.specs.Writing.{sent_on}
 use Rattle.pdu_show.specs.declared.kinds.Layout.{Layout}
 use Rattle.law_air.specs.AnyCalls.Ends.{block_told, visit_told}
 
--- a block of the grant's size, which is read as padding of one or two octets or none, at most one report, the PDUs that are told of as
--- sent, channel by channel and in that order, and the other padding; each PDU is the one that is told, in the mode of its channel
+-- a block of the grant's size, the canonical writing in it of at most one report and the PDUs that are told of as sent, channel by channel and
+-- in that order; it is read as padding of one or two octets or none, these, and the other padding; each PDU is the one that is told, in the
+-- mode of its channel
 pub record IsTold (side : Side) (grant : ℕ) (events : List Event) (octets : List ℕ) : Type 0 where
   pub size_is : length octets ≡ grant
   pub fronts : ℕ
@@ -28,6 +30,7 @@ pub record IsTold (side : Side) (grant : ℕ) (events : List Event) (octets : Li
   pub ends : List ℕ
   pub two : fronts ≤ 2
   pub one : length ends ≤ 1
+  pub writing_is : octets ≡ canonical (reported report ++ map sdu_item sdus) grant
   pub read : reading (sent_by side) octets ≡ Ok (replicate fronts front ++ ((reported report ++ map sdu_item sdus) ++ map padding ends))
   pub sent : sent_on events ≡ map (λ s. s.lcid) sdus
   pub modes : ℕ → Option Mode
