@@ -28,7 +28,7 @@ pub record IsPromised (played : Played) : Type 0 where
   pub order : KeepsOrder past
   -- its TTIs are numbered from 0 on, each once
   pub in_turn : filter is_tti (history past) ≡ numbered 0 (ttis past)
-  -- its blocks are those of HARQ's processes
+  -- its blocks are those of HARQ's processes, in every life
   pub carried : AreCarried past
   -- no key is given twice
   pub keys : AreDistinct (all_keys past)
