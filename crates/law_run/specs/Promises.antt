@@ -46,7 +46,7 @@ pub record IsPromised (played : Played) : Type 0 where
   pub delivered : DeliversInOrder past
   -- exactly those before the first that hasn't come, as the blocks tell, none of which is held back
   pub came : HandUpWhatCame past
-  -- and all of it once a drain tells that it is drained, but where the sender gave up
+  -- and all of it but what is discarded once a drain tells that it is drained, but where the sender gave up
   pub drained : DrainsLeaveNothing past
   -- each signalling bearer hands up what was submitted at the other end since the last handover, in order
   pub signalled : DeliversEachLife past

@@ -1,5 +1,5 @@
 -- Which SDUs a channel of acknowledged data takes, and which it discards, as an end tells (TS 36.323 5.1.1, 5.4).
-use Rattle.std.specs.Prelude.{◌≡◌, ℕ, ◌+◌, ◌==◌, Bool, true, false, if◌then◌else◌, Option, Some, None, List, [], ◌∷◌}
+use Rattle.std.specs.Prelude.{◌≡◌, ℕ, ◌+◌, ◌==◌, Bool, true, false, if◌then◌else◌, Option, Some, None, List, [], ◌∷◌, ◌++◌, length, drop}
 use Rattle.std.specs.List.{flat_map}
 use Rattle.bearer_types.specs.declared.config.BearerConfig.{BearerConfig}
 use Rattle.bearer_types.specs.declared.event.Event.{Event}
@@ -34,6 +34,10 @@ chosen (false ∷ bs) (sdu ∷ sdus) = chosen bs sdus
 -- of SDUs that are submitted to a bearer with its first COUNT, those that it takes as events tell
 abbrev pub taken_of : ℕ → ℕ → List Event → List (List ℕ) → List (List ℕ)
 taken_of l first events sdus = chosen (were_taken first (flat_map (leaving_in l) events)) sdus
+
+-- and those that it doesn't discard: besides them what stands behind all that have left the queue
+abbrev pub kept_of : ℕ → ℕ → List Event → List (List ℕ) → List (List ℕ)
+kept_of l first events sdus = taken_of l first events sdus ++ drop (length (were_taken first (flat_map (leaving_in l) events))) sdus
 
 -- ---- the law
 
