@@ -1,5 +1,5 @@
 -- What a channel delivers.
-use Rattle.std.proofs.Common.{◌≡◌, inr, ℕ, ◌-◌, refl, Bool, length, drop, Some, None, false, List, [], ◌∷◌, ◌++◌, append_assoc, length-append, ap, sym, subst, ◌∙◌, arith}
+use Rattle.std.proofs.Common.{◌≡◌, ◌≤◌, inr, ℕ, ◌-◌, refl, Bool, length, drop, Some, None, false, List, [], ◌∷◌, ◌++◌, append_assoc, length-append, ap, sym, subst, ◌∙◌, arith}
 use Rattle.std.proofs.lemmas.List.{take-append-le}
 use Rattle.std.specs.List.{AllByRecursion, flat_map}
 use Rattle.bearer.specs.Bearer.{flow_of}
@@ -49,8 +49,8 @@ use Rattle.law_deliver.proofs.AmChannel.Bearers.{IsSteady}
 use Rattle.law_bearer.proofs.AnyBearer.Streams.{am_begins, begun_tx}
 use Rattle.bearer_pdcp.specs.Ends.{Ends, begun as begun_ends, bearer_of, sends}
 use Rattle.pdcp_sec.specs.Protection.{Protection, protection_of}
-use Rattle.law_deliver.specs.AmChannel.Leaving.{leaving_in, were_taken, chosen, taken_of, kept_of}
-use Rattle.law_deliver.proofs.AmChannel.Leaving.{all_flags, flags_choose, flags_leave, flags_told}
+use Rattle.law_deliver.specs.AmChannel.Leaving.{leaving_in, were_taken, chosen, leaves, taken_of, kept_of, AreTold}
+use Rattle.law_deliver.proofs.AmChannel.Leaving.{all_flags, flags_choose, flags_many, flags_leave, flags_told}
 use Rattle.law_deliver.proofs.AmChannel.Ends.{all_leaving, IsCall, are_calls, GoesAll, all_go, all_ups, all_discards}
 use Rattle.law_deliver.proofs.AmChannel.Pairs.{own, all_does, ups_in_at, news_in_at, lives_go}
 use Rattle.law_deliver.proofs.AmChannel.Submitted.{submitted_is, steps_unset}
@@ -267,6 +267,15 @@ module _ (side : Side) (l : ℕ) (c : BearerConfig) (keys : Keys) (e : End) (cs 
       sym (flags_choose own_steps (flow l e) waits)
       ∙ (ap (chosen (all_flags (flow l e) own_steps)) leaves_then ∙ ap (λ (bs : List Bool). chosen bs (was_submitted l cs e)) (sym (flags_are g)))
 
+  -- none leaves that wasn't submitted
+  pub none_beyond : AllByRecursion (IsCall l) cs → length (leaves l c.first (told_over cs e)) ≤ length (was_submitted l cs e)
+  none_beyond g =
+      let all = ap length leaves_then in
+      let parts = length-append (all_left (flow l e) own_steps) waits in
+      let many = flags_many own_steps (flow l e) in
+      let told = ap length (flags_are g) in
+      omega (arith, all, parts, many, told)
+
   -- and so is what it doesn't discard
   pub kept_is_told : AllByRecursion (IsCall l) cs → was_taken l cs e ++ waits ≡ kept_of l c.first (told_over cs e) (was_submitted l cs e)
   kept_is_told g =
@@ -279,10 +288,13 @@ module _ (side : Side) (l : ℕ) (c : BearerConfig) (keys : Keys) (e : End) (cs 
 
 pub channels_tell_what_is_taken : (l : ℕ) (c : BearerConfig) (keys : Keys) (nb ue : End) (from : Side) (steps : List AirStep)
     → BeginAlike l c keys nb ue → AreLiving l (outset nb ue) steps
-    → taken_at l from steps (outset nb ue)
-    ≡ taken_of l c.first (told_over (all_calls from steps (outset nb ue)) (end_at from (outset nb ue))) (submitted_at l from steps (outset nb ue))
+    → AreTold l c.first (told_over (all_calls from steps (outset nb ue)) (end_at from (outset nb ue))) (submitted_at l from steps (outset nb ue)) (taken_at l from steps (outset nb ue))
 channels_tell_what_is_taken l c keys nb ue from steps h g =
-    taken_is_told from l c keys (end_at from (outset nb ue)) (all_calls from steps (outset nb ue)) h.kind (begun l c keys nb ue h from) (are_calls l from steps (outset nb ue) g)
+    let e = end_at from (outset nb ue) in
+    let cs = all_calls from steps (outset nb ue) in
+    let b = begun l c keys nb ue h from in
+    let calls = are_calls l from steps (outset nb ue) g in
+    record { taken_are = taken_is_told from l c keys e cs h.kind b calls; were_submitted = none_beyond from l c keys e cs h.kind b calls }
 
 pub channels_deliver_what_is_taken : (l : ℕ) (c : BearerConfig) (keys : Keys) (nb ue : End) (from : Side) (steps : List AirStep)
     → BeginAlike l c keys nb ue → AreLiving l (outset nb ue) steps

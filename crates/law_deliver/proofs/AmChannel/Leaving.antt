@@ -234,7 +234,7 @@ flags_choose (Calls c ∷ xs) f rest =
     chosen_both (news f c) (drops f c) (all_left (after f c) xs) rest (all_flags (after f c) xs) ∙ ap (λ (ys : List (List ℕ)). news f c ++ ys) (flags_choose xs (after f c) rest)
 flags_choose (Restart keys ∷ xs) f rest = flags_choose xs (goes f (Restart keys)) rest
 
-flags_many : (xs : List Step) (f : Flow) → length (all_flags f xs) ≡ length (all_left f xs)
+pub flags_many : (xs : List Step) (f : Flow) → length (all_flags f xs) ≡ length (all_left f xs)
 flags_many [] f = refl
 flags_many (Calls c ∷ xs) f =
     let ns = news f c in

@@ -1,5 +1,5 @@
 -- Which SDUs a channel of acknowledged data takes, and which it discards, as an end tells (TS 36.323 5.1.1, 5.4).
-use Rattle.std.specs.Prelude.{◌≡◌, ℕ, ◌+◌, ◌==◌, Bool, true, false, if◌then◌else◌, Option, Some, None, List, [], ◌∷◌, ◌++◌, length, drop}
+use Rattle.std.specs.Prelude.{◌≡◌, ◌≤◌, ℕ, ◌+◌, ◌==◌, Bool, true, false, if◌then◌else◌, Option, Some, None, List, [], ◌∷◌, ◌++◌, length, drop}
 use Rattle.std.specs.List.{flat_map}
 use Rattle.bearer_types.specs.declared.config.BearerConfig.{BearerConfig}
 use Rattle.bearer_types.specs.declared.event.Event.{Event}
@@ -31,18 +31,26 @@ chosen (b ∷ bs) [] = []
 chosen (true ∷ bs) (sdu ∷ sdus) = sdu ∷ chosen bs sdus
 chosen (false ∷ bs) (sdu ∷ sdus) = chosen bs sdus
 
--- of SDUs that are submitted to a bearer with its first COUNT, those that it takes as events tell
+-- of each that leaves the queue of a bearer with its first COUNT, whether it is taken, as events tell
+abbrev pub leaves : ℕ → ℕ → List Event → List Bool
+leaves l first events = were_taken first (flat_map (leaving_in l) events)
+
+-- of SDUs that are submitted to it, those that it takes
 abbrev pub taken_of : ℕ → ℕ → List Event → List (List ℕ) → List (List ℕ)
-taken_of l first events sdus = chosen (were_taken first (flat_map (leaving_in l) events)) sdus
+taken_of l first events sdus = chosen (leaves l first events) sdus
 
 -- and those that it doesn't discard: besides them what stands behind all that have left the queue
 abbrev pub kept_of : ℕ → ℕ → List Event → List (List ℕ) → List (List ℕ)
-kept_of l first events sdus = taken_of l first events sdus ++ drop (length (were_taken first (flat_map (leaving_in l) events))) sdus
+kept_of l first events sdus = taken_of l first events sdus ++ drop (length (leaves l first events)) sdus
 
 -- ---- the law
+
+-- those that a bearer takes, and none leaves its queue that wasn't submitted
+pub record AreTold (l first : ℕ) (events : List Event) (submitted taken : List (List ℕ)) : Type 0 where
+  pub taken_are : taken ≡ taken_of l first events submitted
+  pub were_submitted : length (leaves l first events) ≤ length submitted
 
 abbrev pub ChannelsTellWhatIsTaken : Type 0
 ChannelsTellWhatIsTaken = (l : ℕ) (c : BearerConfig) (keys : Keys) (nb ue : End) (from : Side) (steps : List AirStep)
     → BeginAlike l c keys nb ue → AreLiving l (outset nb ue) steps
-    → taken_at l from steps (outset nb ue)
-    ≡ taken_of l c.first (told_over (all_calls from steps (outset nb ue)) (end_at from (outset nb ue))) (submitted_at l from steps (outset nb ue))
+    → AreTold l c.first (told_over (all_calls from steps (outset nb ue)) (end_at from (outset nb ue))) (submitted_at l from steps (outset nb ue)) (taken_at l from steps (outset nb ue))
