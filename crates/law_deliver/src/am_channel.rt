@@ -53,7 +53,7 @@ pub fn channels_deliver_what_came()
 {}
 
 /// Which of the SDUs that are submitted its bearer takes is told as they leave the queue: one that is taken for the first time has the next
-/// COUNT, and one that is discarded none.
+/// COUNT, and one that is discarded none. None leaves it that wasn't submitted.
 pub fn channels_tell_what_is_taken()
     ensures { ChannelsTellWhatIsTaken }
 {}

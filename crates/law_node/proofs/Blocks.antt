@@ -179,6 +179,7 @@ block_by e grant s w some most f =
     let pads = are_padded (items_of (parts_of e.side r ss)) grant in
     record {
       size_is = ap length block ∙ c.size_is;
+      writing_is = block ∙ ap (λ (xs : List MacItem). canonical xs grant) (items_are e.side r ss);
       fronts = pads.fronts;
       ends = pads.ends;
       two = pads.two;

@@ -9,6 +9,7 @@ use Rattle.mac_pdu.specs.declared.builder.Sdu.{Sdu}
 use Rattle.mac_pdu.specs.declared.item.Bsr.{Bsr}
 use Rattle.mac_pdu.specs.Items.{front, padding, sdu_item}
 use Rattle.mac_pdu.specs.Reading.{reading}
+use Rattle.mac_pdu.specs.Writing.{canonical}
 use Rattle.prioritise.specs.ShareLaws.{IsOneOf}
 use Rattle.l2_node.specs.Building.{visited}
 use Rattle.l2_node.specs.End.{End}
@@ -42,9 +43,11 @@ EachFits e grant = (c : Channel) → IsOneOf c e.buckets.channels → has c.lcid
 abbrev pub report : End → ℕ → Option Bsr
 report e grant = report_of e.side e.reports (written e grant).bearers e.buckets.channels (left_of grant (written e grant).block.parts)
 
--- a block has the grant's size; it is read as padding of one or two octets or none, the report, the bearers' PDUs, and the other padding
+-- a block has the grant's size, in which it is the canonical writing of the report and the bearers' PDUs; it is
+-- read as padding of one or two octets or none, these, and the other padding
 pub record IsBlockOf (e : End) (grant : ℕ) : Type 0 where
   pub size_is : length (new_block e grant) ≡ grant
+  pub writing_is : new_block e grant ≡ canonical (reported (report e grant) ++ map sdu_item (all_sdus e grant e.buckets.channels)) grant
   pub fronts : ℕ
   pub ends : List ℕ
   pub two : fronts ≤ 2

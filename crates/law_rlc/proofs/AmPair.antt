@@ -6,6 +6,7 @@ pub mod Sound
 pub mod Sending
 pub mod Hearing
 pub mod Fields
+pub mod Entries
 pub mod Statuses
 pub mod Arrived
 pub mod Whole

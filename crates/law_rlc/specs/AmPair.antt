@@ -9,3 +9,4 @@ pub mod Confirmed
 pub mod Arrives
 pub mod Steps
 pub mod Left
+pub mod Watched

@@ -10,6 +10,7 @@ ghost use Rattle.law_rlc.specs.AmPair.Numbers.{KeepsOrder, AckedHasArrived};
 ghost use Rattle.law_rlc.specs.AmPair.Sdus.{HandsUpTheFront};
 ghost use Rattle.law_rlc.specs.AmPair.Steps.{GoesUpOneByOne, OffersAreSent};
 ghost use Rattle.law_rlc.specs.AmPair.Statuses.{ReadsEachNumber};
+ghost use Rattle.law_rlc.specs.AmPair.Watched.{PollTimerRuns};
 
 /// Whatever is lost, repeated and delayed, VT(A) ≤ VR(R) ≤ VR(MS) ≤ VR(H) ≤ VT(S) ≤ VT(A) + 512.
 pub fn keeps_order()
@@ -105,4 +106,11 @@ pub fn offers_are_sent()
 /// Where nothing is left at the sender, what went up and what is ready to are all SDUs that it was offered.
 pub fn hands_up_all()
     ensures { HandsUpAll }
+{}
+
+/// Unless the limit came, the sender's poll timer runs wherever something isn't acknowledged, nothing waits to be resent,
+/// and nothing is left to send or to take, once `settle` was called, or the window is shut: whichever STATUS comes, and
+/// however late.
+pub fn poll_timer_runs()
+    ensures { PollTimerRuns }
 {}

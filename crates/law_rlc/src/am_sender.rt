@@ -65,8 +65,8 @@ pub fn polls_by_causes()
 {}
 
 /// Unless the limit came, the poll timer runs wherever something isn't acknowledged, nothing waits to be resent, and
-/// nothing is left to send or to take, once `settle` was called, or the window is shut. Each SDU has an octet, and each
-/// STATUS is one that a receiver writes.
+/// nothing is left to send or to take, once `settle` was called, or the window is shut. Each SDU has an octet. Each number
+/// that a STATUS names lies below its ACK_SN, and an octet of it is named unless it is acknowledged.
 pub fn runs_the_poll_timer()
     ensures { RunsThePollTimer }
 {}

@@ -3,7 +3,7 @@ use Rattle.std.proofs.Common.{◌≡◌, ℕ, ◌-◌, List, [], ◌∷◌, leng
 use Rattle.std.proofs.lemmas.List.{length-take-le}
 use Rattle.air_text.specs.Groups.{Group, history}
 use Rattle.bearer_types.specs.declared.event.Event.{Event}
-use Rattle.promises.specs.Taken.{taken_of}
+use Rattle.promises.specs.Taken.{leaves, taken_of}
 use Rattle.promises.specs.Records.{told_by}
 use Rattle.law_words.specs.Arrivals.{Happening, Account, no_account, account}
 use Rattle.law_bearer.specs.AmBearer.Lives.{other as other_end}
@@ -36,12 +36,17 @@ came past order from l c e kind own =
     let said = told_of c l from past in
     let from_told : (news : List (List ℕ)) → IsWhatCame c.first (told_from c l from steps a) news ups → IsWhatCame c.first said news ups =
     λ news x. subst (λ (hs : List Happening). IsWhatCame c.first (account hs no_account) news ups) (happened_from l c past d c.pdcp_bits from) x in
+    let told = channels_tell_what_is_taken l c d.keys d.nb d.ue from steps both living in
     let is_told : taken ≡ taken_told c l from past =
-    channels_tell_what_is_taken l c d.keys d.nb d.ue from steps both living
+    told.taken_are
     ∙ (ap (λ (es : List Event). taken_of l c.first es all) (tells l c past d from) ∙ ap (taken_of l c.first (told_by from (history past))) (was_submitted_is l c past d from)) in
     let x : IsWhatCame c.first said taken ups = from_told taken (channels_deliver_what_came l c d.keys d.nb d.ue from steps both living) in
     let up = went_up_is l c past d from in
+    let few = told.were_submitted in
+    let events = ap (λ (es : List Event). length (leaves l c.first es)) (tells l c past d from) in
+    let sdus = ap length (was_submitted_is l c past d from) in
     record {
+      were_submitted = omega (arith, few, events, sdus);
       next = x.next;
       least = x.least;
       many = ap length (sym up) ∙ many_of c.first said taken ups x;

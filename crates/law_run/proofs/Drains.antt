@@ -13,8 +13,12 @@ use Rattle.air_run.specs.Playing.{acted}
 use Rattle.air_run.specs.Rules.{Rules, no_rules, refused_if, rule_broken, refusal, accepted}
 use Rattle.air_run.specs.Run.{fresh}
 use Rattle.air_run.specs.declared.refusal.RunRefusal.TheVariants.{SmallDrain, LoopOn, Forged}
-use Rattle.air_text.specs.Groups.{Group}
+use Rattle.air_text.specs.Groups.{Group, history}
+use Rattle.bearer_types.specs.declared.event.Event.{Event}
+use Rattle.law_air.specs.AnyCalls.Ends.{told_by}
+use Rattle.law_deliver.specs.AmChannel.Delivery.{submitted_at}
 use Rattle.law_deliver.specs.AmChannel.Drained.{has_failed}
+use Rattle.promises.specs.Taken.{kept_of}
 use Rattle.law_deliver.specs.AmChannel.Lives.{lives, end_at}
 use Rattle.law_deliver.proofs.AmChannel.Drained.{drained_ends_have_delivered}
 use Rattle.promises.specs.Events.{discards_on}
@@ -105,7 +109,7 @@ none_forged past g right d =
 -- ---- so all is delivered
 
 leaves_nothing : (past : List Group) → KeepsOrder past → is_drained (link_behind past) ≡ true → is_forged past ≡ false → LeavesNothing past
-leaves_nothing past order done own from l c e kind unfailed kept =
+leaves_nothing past order done own from l c e kind unfailed =
     let d = is_delivering l past c order e own in
     let k = link_behind past in
     let xs = steps l c past d in
@@ -114,7 +118,12 @@ leaves_nothing past order done own from l c e kind unfailed kept =
     let all =
     drained_ends_have_delivered l c d.keys d.nb d.ue from xs (alike l c past d kind) d.lived.by.living
     (ap end_drained here ∙ side_drained from k done) (ap (λ (x : End). has_failed (flow l x)) here ∙ (d.senders kind from).unfailed unfailed) in
-    sym (went_up_is l c past d from) ∙ all.submitted (ap (discards_on l) (tells l c past d from) ∙ kept) ∙ was_submitted_is l c past d from
+    let sdus = was_submitted_is l c past d from in
+    let up = sym (went_up_is l c past d from) in
+    record {
+      kept_are_up = up ∙ (all.kept ∙ ap (λ (events : List Event). kept_of l c.first events (submitted_at l from xs a)) (tells l c past d from) ∙ ap (kept_of l c.first (told_by from (history past))) sdus);
+      all_are_up = λ undiscarded. up ∙ all.submitted (ap (discards_on l) (tells l c past d from) ∙ undiscarded) ∙ sdus;
+    }
 
 pub drains_leave_nothing : (past : List Group) → KeepsOrder past → DrainsLeaveNothing past
 drains_leave_nothing [] order = tt

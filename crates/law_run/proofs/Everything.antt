@@ -9,8 +9,7 @@ use Rattle.law_run.proofs.Drains.{drains_leave_nothing}
 use Rattle.law_run.proofs.Keys.{keys_behind}
 use Rattle.law_run.proofs.Losses.{delivers_while_short}
 use Rattle.law_run.proofs.Looping.{return_in_order}
-use Rattle.law_run.proofs.Past.{behind}
-use Rattle.law_run.proofs.Processes.{are_carried}
+use Rattle.law_run.proofs.Past.{behind, are_carried}
 use Rattle.law_run.proofs.Playing.{tells-all}
 use Rattle.law_run.proofs.Reaching.{come_by_calls}
 use Rattle.law_run.proofs.Texts.{none_meet}
@@ -26,7 +25,7 @@ every-journal whole octets =
       journal_is = rw t.history_is t.journal_is;
       order = t.order;
       in_turn = (behind t.later t.order).in_turn;
-      carried = are_carried t.later _ (behind t.later t.order).processes;
+      carried = are_carried t.later t.order;
       keys = (keys_behind t.later t.order).distinct;
       counts = counts_behind t.later t.order;
       texts = none_meet t.later t.order;

@@ -16,13 +16,14 @@ use Rattle.law_air.specs.AnyCalls.Counts.{ups, loopeds}
 use Rattle.promises.specs.Records.{is_up, is_looped, sdu_of, ups_in}
 use Rattle.law_air.specs.AnyCalls.Runs.{IsTable}
 use Rattle.law_air.proofs.AnyCalls.Running.{table_grows}
+use Rattle.promises.specs.Carried.{AreCarried}
 use Rattle.promises.specs.Air.{is_tti, ttis, numbered, IsOfItsTime}
 use Rattle.promises.specs.Flows.{loops_in, handed_in, submitted, delivered}
 use Rattle.law_run.specs.Order.{state_behind, KeepsOrder}
 use Rattle.promises.specs.Parts.{part}
 use Rattle.law_run.proofs.Records.{count_numbered, numbered_then}
 use Rattle.law_run.proofs.Lines.{PartAdds, line_adds}
-use Rattle.law_run.proofs.Processes.{Both, grows, first as none_yet}
+use Rattle.law_run.proofs.Processes.{Both, grows, first as none_yet, is_carried}
 
 abbrev pub link_behind : List Group → Link
 link_behind past = (state_behind past).link
@@ -116,6 +117,10 @@ grown past g fits b a e =
 pub behind : (past : List Group) → KeepsOrder past → Behind past
 behind [] order = first
 behind (g ∷ past) (right, order) = let b = behind past order in grown past g right.in_range b (adds_behind past g.line b) right.events_are
+
+pub are_carried : (past : List Group) → KeepsOrder past → AreCarried past
+are_carried [] order = tt
+are_carried (g ∷ past) (right, order) = (is_carried (g ∷ past) (link_behind (g ∷ past)) (behind (g ∷ past) (right, order)).processes, are_carried past order)
 
 -- the records of a line stand where its TTIs do
 pub of_their_time : (past : List Group) (line : Line) → Behind past → IsOfItsTime (ttis past) (part line) (behind_line line (state_behind past)).out

@@ -37,7 +37,7 @@ use Rattle.law_air.proofs.AnyCalls.Running.{no_runs}
 use Rattle.mac_pdu.specs.declared.item.Direction.{Direction}
 use Rattle.mac_pdu.specs.declared.item.Direction.TheVariants.{Down, Up}
 use Rattle.test_loop.specs.declared.Mode.TheVariants.{Off, A, B}
-use Rattle.promises.specs.Carried.{AreBuilt, AreCarried}
+use Rattle.promises.specs.Carried.{AreBuilt, IsCarried}
 use Rattle.promises.specs.Heard.{Heard, nothing_heard, hears, heard, deeds_of, empties, is_miss, loses, visits}
 use Rattle.law_run.proofs.Building.{run_maximum, builds_where_none_is_held}
 use Rattle.law_run.proofs.Answering.{StandsDown, down_as, down_begins, down_maximum}
@@ -210,8 +210,8 @@ resent way n s h some a p lt =
     subst (λ (x : List Deed). AreResent n x) (sym (a.deeds_are p))
     (subst (λ (m : ℕ). AreResent m ((run a.steps (start n)).past p)) (run_maximum a.steps (start n)) ((keeps_blocks n a.steps some).is_right p lt))
 
-pub are_carried : (past : List Group) (l : Link) → Both past l → AreCarried past
-are_carried past l b =
+pub is_carried : (past : List Group) (l : Link) → Both past l → IsCarried past
+is_carried past l b =
     let n = visits past in
     record {
       down_resent = resent Down n l.nb.sender (heard_of Down past) b.some b.down.sends;

@@ -29,7 +29,7 @@ pub record IsPromised (played : Played) : Type 0 where
   pub order : KeepsOrder past
   -- its TTIs are numbered from 0 on, each once
   pub in_turn : filter is_tti (history past) ≡ numbered 0 (ttis past)
-  -- its blocks are those of HARQ's processes
+  -- its blocks are those of HARQ's processes, in every life
   pub carried : AreCarried past
   -- no key is given twice
   pub keys : AreDistinct (all_keys past)
@@ -47,7 +47,7 @@ pub record IsPromised (played : Played) : Type 0 where
   pub delivered : DeliversInOrder past
   -- exactly those before the first that hasn't come, as the blocks tell, none of which is held back
   pub came : HandUpWhatCame past
-  -- and all of it once a drain tells that it is drained, but where the sender gave up
+  -- and all of it but what is discarded once a drain tells that it is drained, but where the sender gave up
   pub drained : DrainsLeaveNothing past
   -- each signalling bearer hands up what was submitted at the other end since the last handover, in order
   pub signalled : DeliversEachLife past

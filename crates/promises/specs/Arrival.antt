@@ -1,7 +1,7 @@
 -- Exactly which SDUs of acknowledged data go up, as the journal tells: those before the first that
 -- hasn't come (TS 36.322 5.1.3.2, TS 36.323 5.1.2.1.2).
 use Rattle.std.specs.Prelude.{Bool, if◌then◌else◌, List, [], ℕ, ◌&&◌, ◌∷◌, ◌++◌, ◌≡◌, ◌-◌, length}
-use Rattle.std.specs.Prelude.{take, false, Some}
+use Rattle.std.specs.Prelude.{take, false, Some, ◌≤◌}
 use Rattle.law_words.specs.Arrivals.{Happening, Renews, Account, no_account, account, has_come}
 use Rattle.bearer_types.specs.Sides.{sender_of, is_same, other}
 use Rattle.air_record.specs.declared.record.Record.{Record}
@@ -13,7 +13,7 @@ use Rattle.promises.specs.Records.{is_got, sent_last, told_by}
 use Rattle.air_record.specs.declared.line.Line.{Line}
 use Rattle.air_text.specs.Groups.{Group, history}
 use Rattle.bearer_types.specs.declared.config.BearerConfig.{BearerConfig}
-use Rattle.promises.specs.Taken.{taken_of}
+use Rattle.promises.specs.Taken.{leaves, taken_of}
 use Rattle.promises.specs.Flows.{submitted, delivered}
 use Rattle.l2_num.specs.Least.{IsLeast}
 use Rattle.promises.specs.Delivery.{discarded, is_forged}
@@ -66,7 +66,8 @@ taken config lcid from past =
 
 -- what has gone up at the other end are the SDUs that a side took first: as many as COUNTs have
 -- come before the first that hasn't, none of which is held back; as long as the side has discarded
--- none, they are the first that it submitted
+-- none, they are the first that it submitted; no SDU is told of as taken for the first time, or as
+-- discarded, that wasn't submitted
 pub record HandsUpWhatCame (config : BearerConfig) (from : Side) (lcid : ℕ)
     (past : List Group) : Type 0 where
   pub next : ℕ
@@ -76,6 +77,8 @@ pub record HandsUpWhatCame (config : BearerConfig) (from : Side) (lcid : ℕ)
       ≡ take (next - config.first) (taken config lcid from past)
   pub none_left_out : discarded from lcid past ≡ []
       → delivered (other from) lcid past ≡ take (next - config.first) (submitted from lcid past)
+  pub were_submitted : length (leaves lcid config.first (told_by from (history past)))
+      ≤ length (submitted from lcid past)
 
 -- on each channel with an acknowledged data bearer, where no block was forged
 abbrev pub AllHandUpWhatCame : List Group → Type 0

@@ -13,6 +13,7 @@ use Rattle.pdu_show.specs.declared.kinds.Layout.{Layout}
 use Rattle.bearer_types.specs.declared.event.Event.{Event}
 use Rattle.mac_pdu.specs.declared.builder.Sdu.{Sdu}
 use Rattle.mac_pdu.specs.Reading.{reading}
+use Rattle.mac_pdu.specs.Writing.{canonical}
 use Rattle.promises.specs.Names.{sends, Mode, AreNamed, sent_on}
 use Rattle.air_record.specs.declared.record.Record.TheVariants as records
 
@@ -27,9 +28,10 @@ abbrev pub block_told : Side → ℕ → List (Option Layout) → List ℕ → L
 block_told side t kinds octets =
     records.Block (sent_by side) (t % 8) true 0 octets ∷ block_shown (sent_by side) kinds octets
 
--- a block of the grant's size, which is read as padding of one or two octets or none, at most one
--- report, the PDUs that are told of as sent, channel by channel and in that order, and the other
--- padding; each PDU is the one that is told, in the mode of its channel
+-- a block of the grant's size, the canonical writing in it of at most one report and the PDUs that
+-- are told of as sent, channel by channel and in that order; it is read as padding of one or two
+-- octets or none, these, and the other padding; each PDU is the one that is told, in the mode of its
+-- channel
 pub record IsTold (side : Side) (grant : ℕ) (events : List Event) (octets : List ℕ) : Type 0 where
   pub size_is : length octets ≡ grant
   pub fronts : ℕ
@@ -38,6 +40,7 @@ pub record IsTold (side : Side) (grant : ℕ) (events : List Event) (octets : Li
   pub ends : List ℕ
   pub two : fronts ≤ 2
   pub one : length ends ≤ 1
+  pub writing_is : octets ≡ canonical (reported report ++ map sdu_item sdus) grant
   pub read : reading (sent_by side) octets
       ≡ Ok (replicate fronts front ++ ((reported report ++ map sdu_item sdus) ++ map padding ends))
   pub sent : sent_on events ≡ map (λ s. s.lcid) sdus

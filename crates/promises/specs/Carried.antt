@@ -43,9 +43,14 @@ seen (f ∷ past) = seen_as f.came (is_odd (blocks (f.deed ∷ deeds_of past))) 
 -- an intact downlink block is a `dup` exactly where one with its NDI was `got` and the terminal saw
 -- none with the other NDI since; on the uplink the terminal builds or sends again exactly where it
 -- should
-pub record AreCarried (past : List Group) : Type 0 where
+pub record IsCarried (past : List Group) : Type 0 where
   pub down_resent : (p : ℕ) → p < 8 → AreResent (visits past) (deeds Down p past)
   pub down_built : (p : ℕ) → p < 8 → AreBuilt (visits past) (deeds Down p past)
   pub down_answered : (p : ℕ) → p < 8 → AreAnsweredRight (seen (flights Down p past))
   pub up_resent : (p : ℕ) → p < 8 → AreResent (visits past) (deeds Up p past)
   pub up_visits : (p : ℕ) → p < 8 → AreVisits (visits past) (flights Up p past)
+
+-- behind each group, of which the newest stands first, so in every life
+abbrev pub AreCarried : List Group → Type 0
+AreCarried [] = Unit {0}
+AreCarried (g ∷ past) = IsCarried (g ∷ past) × AreCarried past

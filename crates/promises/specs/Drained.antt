@@ -3,7 +3,8 @@
 use Rattle.std.specs.Prelude.{ℕ, if◌then◌else◌, List, [], ◌∷◌, ◌++◌, ◌≡◌, Some}
 use Rattle.promises.specs.Events.{fails_on}
 use Rattle.promises.specs.Parts.{hands_over}
-use Rattle.air_text.specs.Groups.{Group}
+use Rattle.air_text.specs.Groups.{Group, history}
+use Rattle.promises.specs.Taken.{kept_of}
 use Rattle.l2_types.specs.declared.side.Side.{Side}
 use Rattle.promises.specs.Records.{told_by}
 use Rattle.air_record.specs.declared.record.Record.{Record}
@@ -35,15 +36,25 @@ pub record EndsDrained (g : Group) : Type 0 where
   pub line_is : g.line ≡ lines.Drain grant
   pub events_are : g.events ≡ before ++ records.Drained rounds ∷ []
 
--- what the other end has handed up is then all that this end submitted, in its order, each once and
--- unchanged: on each channel with an acknowledged data bearer on which it gave up none and
--- discarded none
+-- of the SDUs that a side submitted, those that it didn't discard, as its `take` and `discard`
+-- records tell (TS 36.323 5.4)
+abbrev pub kept : BearerConfig → ℕ → Side → List Group → List (List ℕ)
+kept config lcid from past =
+    kept_of lcid config.first (told_by from (history past)) (submitted from lcid past)
+
+-- what the other end has handed up is then all that this end submitted and didn't discard, in its
+-- order, each once and unchanged; where it discarded none, all that it submitted
+pub record HasLeftNothing (config : BearerConfig) (from : Side) (lcid : ℕ)
+    (past : List Group) : Type 0 where
+  pub kept_are_up : delivered (other from) lcid past ≡ kept config lcid from past
+  pub all_are_up : discarded from lcid past ≡ []
+      → delivered (other from) lcid past ≡ submitted from lcid past
+
+-- on each channel with an acknowledged data bearer on which it gave up none
 abbrev pub LeavesNothing : List Group → Type 0
 LeavesNothing past =
     (from : Side) (lcid : ℕ) (config : BearerConfig) → config_of lcid past ≡ Some config
-    → config.kind ≡ Am
-    → failed from lcid past ≡ [] → discarded from lcid past ≡ []
-    → delivered (other from) lcid past ≡ submitted from lcid past
+    → config.kind ≡ Am → failed from lcid past ≡ [] → HasLeftNothing config from lcid past
 
 -- behind each such group, of which the newest stands first; no block was forged before, as a drain
 -- is refused then

@@ -1,7 +1,7 @@
 -- Which SDUs a channel of acknowledged data takes, and which it discards, as an end tells (TS
 -- 36.323 5.1.1, 5.4).
 use Rattle.std.specs.Prelude.{ℕ, ◌==◌, if◌then◌else◌, Option, Some, None, List, [], ◌∷◌, ◌+◌, Bool}
-use Rattle.std.specs.Prelude.{true, false}
+use Rattle.std.specs.Prelude.{true, false, ◌++◌, length, drop}
 use Rattle.std.specs.List.{flat_map}
 use Rattle.bearer_types.specs.declared.event.Event.{Event}
 use Rattle.bearer_types.specs.declared.event.Event.TheVariants.{Take, Discard}
@@ -28,6 +28,16 @@ chosen (b ∷ bs) [] = []
 chosen (true ∷ bs) (sdu ∷ sdus) = sdu ∷ chosen bs sdus
 chosen (false ∷ bs) (sdu ∷ sdus) = chosen bs sdus
 
--- of SDUs that are submitted to a bearer with its first COUNT, those that it takes as events tell
+-- of each that leaves the queue of a bearer with its first COUNT, whether it is taken, as events
+-- tell
+abbrev pub leaves : ℕ → ℕ → List Event → List Bool
+leaves l first events = were_taken first (flat_map (leaving_in l) events)
+
+-- of SDUs that are submitted to it, those that it takes
 abbrev pub taken_of : ℕ → ℕ → List Event → List (List ℕ) → List (List ℕ)
-taken_of l first events sdus = chosen (were_taken first (flat_map (leaving_in l) events)) sdus
+taken_of l first events sdus = chosen (leaves l first events) sdus
+
+-- and those that it doesn't discard: besides them what stands behind all that have left the queue
+abbrev pub kept_of : ℕ → ℕ → List Event → List (List ℕ) → List (List ℕ)
+kept_of l first events sdus =
+    taken_of l first events sdus ++ drop (length (leaves l first events)) sdus

@@ -140,6 +140,7 @@ is_told side maximum reports calls g t grant order within some new =
       ends = b.ends;
       two = b.two;
       one = b.one;
+      writing_is = b.writing_is;
       read = ap (λ (x : Side). reading (sent_by x) (new_block v grant)) (sym s) ∙ b.read;
       sent = ap (λ (l : List Sent). map (λ (x : Sent). x.lcid) l) kept ∙ tells_what_it_sends side maximum reports calls g t grant order new;
       modes = modes_of v;

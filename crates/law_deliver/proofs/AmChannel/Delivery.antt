@@ -1,7 +1,7 @@
 -- What a channel delivers.
-use Rattle.std.proofs.Common.{◌≡◌, inr, ℕ, ◌-◌, refl, Bool, Option, Some, None, false, List, [], ◌∷◌, ◌++◌, append_assoc, length-append, ap, sym, subst, ◌∙◌, arith}
+use Rattle.std.proofs.Common.{◌≡◌, ◌≤◌, inr, ℕ, ◌-◌, refl, Bool, length, drop, Some, None, false, List, [], ◌∷◌, ◌++◌, append_assoc, length-append, ap, sym, subst, ◌∙◌, arith}
 use Rattle.std.proofs.lemmas.List.{take-append-le}
-use Rattle.std.specs.List.{AllByRecursion}
+use Rattle.std.specs.List.{AllByRecursion, flat_map}
 use Rattle.bearer.specs.Bearer.{flow_of}
 use Rattle.bearer.specs.declared.flow.Flow.{Flow}
 use Rattle.bearer.specs.declared.flow.Flow.TheVariants.{Am}
@@ -49,8 +49,9 @@ use Rattle.law_deliver.proofs.AmChannel.Bearers.{IsSteady}
 use Rattle.law_bearer.proofs.AnyBearer.Streams.{am_begins, begun_tx}
 use Rattle.bearer_pdcp.specs.Ends.{Ends, begun as begun_ends, bearer_of, sends}
 use Rattle.pdcp_sec.specs.Protection.{Protection, protection_of}
-use Rattle.promises.specs.Taken.{were_taken, chosen, taken_of}
-use Rattle.law_deliver.proofs.AmChannel.Leaving.{all_chosen}
+use Rattle.promises.specs.Taken.{leaving_in, were_taken, chosen, leaves, taken_of, kept_of}
+use Rattle.law_deliver.specs.AmChannel.Leaving.{AreTold}
+use Rattle.law_deliver.proofs.AmChannel.Leaving.{all_flags, flags_choose, flags_many, flags_leave, flags_told}
 use Rattle.law_deliver.proofs.AmChannel.Ends.{all_leaving, IsCall, are_calls, GoesAll, all_go, all_ups, all_discards}
 use Rattle.law_deliver.proofs.AmChannel.Pairs.{own, all_does, ups_in_at, news_in_at, lives_go}
 use Rattle.law_deliver.proofs.AmChannel.Submitted.{submitted_is, steps_unset}
@@ -253,26 +254,47 @@ module _ (side : Side) (l : ℕ) (c : BearerConfig) (keys : Keys) (e : End) (cs 
   unfolding start
   start_next = refl
 
+  flags_are : AllByRecursion (IsCall l) cs → were_taken c.first (flat_map (leaving_in l) (told_over cs e)) ≡ all_flags (flow l e) own_steps
+  flags_are g =
+      ap (were_taken c.first) (all_goes g).leaving_are
+      ∙ (ap (λ (f : Flow). were_taken c.first (all_leaving l f own_steps)) starts_as
+      ∙ (ap (λ (n : ℕ). were_taken n (all_leaving l (Am first_bearer) own_steps)) (sym (ap (λ s. s.next) first_sender ∙ start_next))
+      ∙ (flags_told (AmKind c.pdcp_bits) guard c.first c.pdcp_bits l own_steps first_bearer (steady_so side l c keys e k h) (record { steps = []; is = first_sender })
+      ∙ ap (λ (f : Flow). all_flags f own_steps) (sym starts_as))))
+
   pub taken_is_told : AllByRecursion (IsCall l) cs → was_taken l cs e ≡ taken_of l c.first (told_over cs e) (was_submitted l cs e)
   taken_is_told g =
-      let all = all_leaving l (flow l e) own_steps in
-      let chosen_is : chosen (were_taken first_bearer.pdcp.tx.next (all_leaving l (Am first_bearer) own_steps)) (all_left (Am first_bearer) own_steps ++ waits) ≡ all_news (Am first_bearer) own_steps =
-      all_chosen (AmKind c.pdcp_bits) guard c.first c.pdcp_bits l own_steps first_bearer waits (steady_so side l c keys e k h) (record { steps = []; is = first_sender }) in
-      ap (λ (f : Flow). all_news f own_steps) starts_as
-      ∙ (sym chosen_is
-      ∙ (ap (λ (f : Flow). chosen (were_taken first_bearer.pdcp.tx.next (all_leaving l f own_steps)) (all_left f own_steps ++ waits)) (sym starts_as)
-      ∙ (ap (λ (n : ℕ). chosen (were_taken n all) (all_left (flow l e) own_steps ++ waits)) (ap (λ s. s.next) first_sender ∙ start_next)
-      ∙ (ap (λ (ms : List (Option ℕ)). chosen (were_taken c.first ms) (all_left (flow l e) own_steps ++ waits)) (sym (all_goes g).leaving_are)
-      ∙ ap (taken_of l c.first (told_over cs e)) leaves_then))))
+      sym (flags_choose own_steps (flow l e) waits)
+      ∙ (ap (chosen (all_flags (flow l e) own_steps)) leaves_then ∙ ap (λ (bs : List Bool). chosen bs (was_submitted l cs e)) (sym (flags_are g)))
+
+  -- none leaves that wasn't submitted
+  pub none_beyond : AllByRecursion (IsCall l) cs → length (leaves l c.first (told_over cs e)) ≤ length (was_submitted l cs e)
+  none_beyond g =
+      let all = ap length leaves_then in
+      let parts = length-append (all_left (flow l e) own_steps) waits in
+      let many = flags_many own_steps (flow l e) in
+      let told = ap length (flags_are g) in
+      omega (arith, all, parts, many, told)
+
+  -- and so is what it doesn't discard
+  pub kept_is_told : AllByRecursion (IsCall l) cs → was_taken l cs e ++ waits ≡ kept_of l c.first (told_over cs e) (was_submitted l cs e)
+  kept_is_told g =
+      let still : waits ≡ drop (length (were_taken c.first (flat_map (leaving_in l) (told_over cs e)))) (was_submitted l cs e) =
+      sym (flags_leave own_steps (flow l e) waits)
+      ∙ (ap (drop (length (all_flags (flow l e) own_steps))) leaves_then ∙ ap (λ (bs : List Bool). drop (length bs) (was_submitted l cs e)) (sym (flags_are g))) in
+      ap (λ (taken : List (List ℕ)). taken ++ waits) (taken_is_told g) ∙ ap (λ (ws : List (List ℕ)). taken_of l c.first (told_over cs e) (was_submitted l cs e) ++ ws) still
 
 -- ---- the laws
 
 pub channels_tell_what_is_taken : (l : ℕ) (c : BearerConfig) (keys : Keys) (nb ue : End) (from : Side) (steps : List AirStep)
     → BeginAlike l c keys nb ue → AreLiving l (outset nb ue) steps
-    → taken_at l from steps (outset nb ue)
-    ≡ taken_of l c.first (told_over (all_calls from steps (outset nb ue)) (end_at from (outset nb ue))) (submitted_at l from steps (outset nb ue))
+    → AreTold l c.first (told_over (all_calls from steps (outset nb ue)) (end_at from (outset nb ue))) (submitted_at l from steps (outset nb ue)) (taken_at l from steps (outset nb ue))
 channels_tell_what_is_taken l c keys nb ue from steps h g =
-    taken_is_told from l c keys (end_at from (outset nb ue)) (all_calls from steps (outset nb ue)) h.kind (begun l c keys nb ue h from) (are_calls l from steps (outset nb ue) g)
+    let e = end_at from (outset nb ue) in
+    let cs = all_calls from steps (outset nb ue) in
+    let b = begun l c keys nb ue h from in
+    let calls = are_calls l from steps (outset nb ue) g in
+    record { taken_are = taken_is_told from l c keys e cs h.kind b calls; were_submitted = none_beyond from l c keys e cs h.kind b calls }
 
 pub channels_deliver_what_is_taken : (l : ℕ) (c : BearerConfig) (keys : Keys) (nb ue : End) (from : Side) (steps : List AirStep)
     → BeginAlike l c keys nb ue → AreLiving l (outset nb ue) steps

@@ -27,7 +27,7 @@ use Rattle.law_deliver.proofs.AmDelivery.Reached.{ends_are_reached}
 use Rattle.law_deliver.specs.AmChannel.Delivery.{BeginAlike, was_taken, steps_over, ups_at, taken_at}
 use Rattle.law_deliver.specs.AmChannel.Drained.{DrainedEndsHaveDelivered, has_failed, IsDrained, HasDelivered}
 use Rattle.law_deliver.specs.AmChannel.Lives.{AirStep, AreLiving, lives, end_at, all_calls}
-use Rattle.law_deliver.proofs.AmChannel.Delivery.{first_of, stands_so, pair, begun, both_ends, walk, does_is, ups_is, news_is, waits, taken_then}
+use Rattle.law_deliver.proofs.AmChannel.Delivery.{first_of, stands_so, pair, begun, both_ends, walk, does_is, ups_is, news_is, waits, taken_then, kept_is_told}
 use Rattle.law_deliver.proofs.AmChannel.Ends.{ends_go_by_calls, are_calls, all_go}
 use Rattle.law_deliver.proofs.AmChannel.Pairs.{own, ups_in_at, news_in_at}
 
@@ -77,7 +77,7 @@ module _ (l : ℕ) (c : BearerConfig) (keys : Keys) (nb ue : End) (h : BeginAlik
       let all = (drained_has_delivered c keys (first_of c keys Nb) (first_of c keys Ue) w.steps (both_ends l c keys nb ue h) w.living).up d in
       record { same = all.taken; gone = all.waits }
 
-  has_delivered : (from : Side) → IsDrained l (end_at from (lives xs (outset nb ue))) → HasDelivered l from xs (outset nb ue)
+  has_delivered : (from : Side) → IsDrained l (end_at from (lives xs (outset nb ue))) → HasDelivered l c.first from xs (outset nb ue)
   has_delivered from d =
       let cs = all_calls from xs (outset nb ue) in
       let e = end_at from (outset nb ue) in
@@ -87,16 +87,18 @@ module _ (l : ℕ) (c : BearerConfig) (keys : Keys) (nb ue : End) (h : BeginAlik
       sym (ups_is l c keys nb ue h (other from) xs g) ∙ r.same ∙ news_is l c keys nb ue h from xs g in
       let none : waits from l c keys e cs h.kind b ≡ [] =
       ap (λ (f : Flow). queue (ends f)) (pair_reaches from) ∙ ap (λ (ws : List Waits). map (λ w. w.sdu) ws) r.gone in
+      let all : ups_at l (other from) xs (outset nb ue) ≡ was_taken l cs e ++ waits from l c keys e cs h.kind b =
+      same ∙ sym (append-nil (was_taken l cs e)) ∙ ap (λ (more : List (List ℕ)). was_taken l cs e ++ more) (sym none) in
+      let calls = are_calls l from xs (outset nb ue) g in
       record {
         taken = same;
-        submitted = λ kept.
-            same ∙ sym (append-nil (was_taken l cs e)) ∙ ap (λ (more : List (List ℕ)). was_taken l cs e ++ more) (sym none)
-            ∙ taken_then from l c keys e cs h.kind b (are_calls l from xs (outset nb ue) g) kept;
+        kept = all ∙ kept_is_told from l c keys e cs h.kind b calls;
+        submitted = λ unlost. all ∙ taken_then from l c keys e cs h.kind b calls unlost;
       }
 
 pub drained_channels_have_delivered : (l : ℕ) (c : BearerConfig) (keys : Keys) (nb ue : End) (from : Side) (steps : List AirStep)
     → BeginAlike l c keys nb ue → AreLiving l (outset nb ue) steps → IsDrained l (end_at from (lives steps (outset nb ue)))
-    → HasDelivered l from steps (outset nb ue)
+    → HasDelivered l c.first from steps (outset nb ue)
 drained_channels_have_delivered l c keys nb ue from steps h g d = has_delivered l c keys nb ue h steps g from d
 
 -- ---- of an end that is drained

@@ -3,6 +3,7 @@ use Rattle.std.proofs.Common.{◌≡◌, ℕ, zero, suc, ◌==◌, Bool, true, f
 use Rattle.std.specs.List.{AllByRecursion, flat_map}
 use Rattle.std.proofs.lemmas.Bool.Decides.{nat_tests}
 use Rattle.std.proofs.lemmas.Grind.{flat_map-append}
+use Rattle.std.proofs.lemmas.List.{length-append, length-map, drop_at}
 use Rattle.bearer.specs.declared.flow.Flow.{Flow}
 use Rattle.bearer.specs.declared.flow.Flow.TheVariants.{Am}
 use Rattle.bearer.specs.Hearing.{ticked, ticking}
@@ -10,7 +11,7 @@ use Rattle.bearer.specs.Lives.{stopping}
 use Rattle.bearer.specs.Acknowledged.Hearing.{settled_if, started_told}
 use Rattle.bearer.specs.Acknowledged.State.{State, has_more, Work, work}
 use Rattle.bearer.specs.Acknowledged.Timing.{Ticking, poll_told, timer_told, told_of, expiry, expires_if, counts, has_ended, ticks as ticked_by, ticked as am_ticked}
-use Rattle.law_bearer.specs.AnyBearer.Calls.{Call, Submit, Take, Arrive, Expire, Tick, SetDiscard, Step, Calls, Restart, after, ends}
+use Rattle.law_bearer.specs.AnyBearer.Calls.{Call, Submit, Take, Arrive, Expire, Tick, SetDiscard, Step, Calls, Restart, after, goes, ends}
 use Rattle.law_bearer.specs.AnyBearer.Queue.{queue, news, drops, all_news, all_left}
 use Rattle.law_bearer.specs.AnyBearer.Stream.{takes}
 use Rattle.law_bearer.proofs.AnyBearer.Flows.{called as call_goes, restarts_as, taken_front}
@@ -215,6 +216,42 @@ nones_told : (ds : List (List ℕ)) (n : ℕ) (more : List (Option ℕ)) → wer
 nones_told [] n more = refl
 nones_told (d ∷ ds) n more = ap (λ (bs : List Bool). false ∷ bs) (nones_told ds n more)
 
+-- of each that leaves, whether it is taken
+abbrev pub all_flags : Flow → List Step → List Bool
+all_flags f [] = []
+all_flags f (Calls c ∷ xs) = (yes (news f c) ++ no (drops f c)) ++ all_flags (after f c) xs
+all_flags f (Restart keys ∷ xs) = all_flags (goes f (Restart keys)) xs
+
+chosen_both : (ns ds left rest : List (List ℕ)) (bs : List Bool) → chosen ((yes ns ++ no ds) ++ bs) (((ns ++ ds) ++ left) ++ rest) ≡ ns ++ chosen bs (left ++ rest)
+chosen_both ns ds left rest bs =
+    ap (λ (xs : List Bool). chosen xs (((ns ++ ds) ++ left) ++ rest)) (append_assoc (yes ns) (no ds) bs)
+    ∙ (ap (chosen (yes ns ++ (no ds ++ bs))) (append_assoc (ns ++ ds) left rest ∙ append_assoc ns ds (left ++ rest))
+    ∙ (chosen_yes ns (ds ++ (left ++ rest)) (no ds ++ bs) ∙ ap (λ (xs : List (List ℕ)). ns ++ xs) (chosen_no ds (left ++ rest) bs)))
+
+pub flags_choose : (xs : List Step) (f : Flow) (rest : List (List ℕ)) → chosen (all_flags f xs) (all_left f xs ++ rest) ≡ all_news f xs
+flags_choose [] f rest = refl
+flags_choose (Calls c ∷ xs) f rest =
+    chosen_both (news f c) (drops f c) (all_left (after f c) xs) rest (all_flags (after f c) xs) ∙ ap (λ (ys : List (List ℕ)). news f c ++ ys) (flags_choose xs (after f c) rest)
+flags_choose (Restart keys ∷ xs) f rest = flags_choose xs (goes f (Restart keys)) rest
+
+pub flags_many : (xs : List Step) (f : Flow) → length (all_flags f xs) ≡ length (all_left f xs)
+flags_many [] f = refl
+flags_many (Calls c ∷ xs) f =
+    let ns = news f c in
+    let ds = drops f c in
+    let a = length-append (yes ns ++ no ds) (all_flags (after f c) xs) in
+    let b = length-append (yes ns) (no ds) in
+    let d = length-append (ns ++ ds) (all_left (after f c) xs) in
+    let e = length-append ns ds in
+    let y = length-map ns (λ sdu. true) in
+    let n = length-map ds (λ sdu. false) in
+    let rest = flags_many xs (after f c) in
+    omega (arith, a, b, d, e, y, n, rest)
+flags_many (Restart keys ∷ xs) f = flags_many xs (goes f (Restart keys))
+
+pub flags_leave : (xs : List Step) (f : Flow) (rest : List (List ℕ)) → drop (length (all_flags f xs)) (all_left f xs ++ rest) ≡ rest
+flags_leave xs f rest = drop_at (all_left f xs) rest (length (all_flags f xs)) (sym (flags_many xs f))
+
 module _ (kind : PdcpKind) (p : Protection) (first : ℕ) where
   record CallLeaves (l : ℕ) (b : State) (c : Call) : Type 0 where
     reached : WasReached kind p first (called b c).pdcp.tx
@@ -288,30 +325,22 @@ module _ (kind : PdcpKind) (p : Protection) (first : ℕ) where
 
   -- ---- through lives
 
-  chosen_both : (ns ds left rest : List (List ℕ)) (bs : List Bool) → chosen ((yes ns ++ no ds) ++ bs) (((ns ++ ds) ++ left) ++ rest) ≡ ns ++ chosen bs (left ++ rest)
-  chosen_both ns ds left rest bs =
-      ap (λ (xs : List Bool). chosen xs (((ns ++ ds) ++ left) ++ rest)) (append_assoc (yes ns) (no ds) bs)
-      ∙ (ap (chosen (yes ns ++ (no ds ++ bs))) (append_assoc (ns ++ ds) left rest ∙ append_assoc ns ds (left ++ rest))
-      ∙ (chosen_yes ns (ds ++ (left ++ rest)) (no ds ++ bs) ∙ ap (λ (xs : List (List ℕ)). ns ++ xs) (chosen_no ds (left ++ rest) bs)))
-
-  pub all_chosen : (bits l : ℕ) (xs : List Step) (b : State) (rest : List (List ℕ)) → IsSteady bits l b → WasReached kind p first b.pdcp.tx
-      → chosen (were_taken b.pdcp.tx.next (all_leaving l (Am b) xs)) (all_left (Am b) xs ++ rest) ≡ all_news (Am b) xs
-  all_chosen bits l [] b rest h r = refl
-  all_chosen bits l (Calls c ∷ xs) b rest h r =
+  -- what is told says of each that leaves whether it is taken
+  pub flags_told : (bits l : ℕ) (xs : List Step) (b : State) → IsSteady bits l b → WasReached kind p first b.pdcp.tx → were_taken b.pdcp.tx.next (all_leaving l (Am b) xs) ≡ all_flags (Am b) xs
+  flags_told bits l [] b h r = refl
+  flags_told bits l (Calls c ∷ xs) b h r =
       let is = is_called b c in
       let one = call_leaves bits l b c h r in
       let d = called b c in
-      let ns = news (Am b) c in
-      let ds = drops (Am b) c in
-      ap (λ (f : Flow). chosen (were_taken b.pdcp.tx.next (marked_in l (Am b) c ++ all_leaving l f xs)) (((ns ++ ds) ++ all_left f xs) ++ rest)) is
-      ∙ (ap (λ (bs : List Bool). chosen bs (((ns ++ ds) ++ all_left (Am d) xs) ++ rest)) (one.told (all_leaving l (Am d) xs))
-      ∙ (chosen_both ns ds (all_left (Am d) xs) rest (were_taken d.pdcp.tx.next (all_leaving l (Am d) xs))
-      ∙ (ap (λ (ys : List (List ℕ)). ns ++ ys) (all_chosen bits l xs d rest (called_steady bits l b c h) one.reached) ∙ ap (λ (f : Flow). ns ++ all_news f xs) (sym is))))
-  all_chosen bits l (Restart keys ∷ xs) b rest h r =
+      let here = yes (news (Am b) c) ++ no (drops (Am b) c) in
+      ap (λ (f : Flow). were_taken b.pdcp.tx.next (marked_in l (Am b) c ++ all_leaving l f xs)) is
+      ∙ (one.told (all_leaving l (Am d) xs)
+      ∙ (ap (λ (bs : List Bool). here ++ bs) (flags_told bits l xs d (called_steady bits l b c h) one.reached) ∙ ap (λ (f : Flow). here ++ all_flags f xs) (sym is)))
+  flags_told bits l (Restart keys ∷ xs) b h r =
       let one = life_leaves bits l b keys h r in
       let s = restarts_steady bits l b keys h in
       let d = restarts b keys in
-      ap (λ (f : Flow). chosen (were_taken b.pdcp.tx.next (flat_map (leaving_in l) (stopping (Am b)) ++ all_leaving l f xs)) (all_left f xs ++ rest)) s.left
-      ∙ (ap (λ (ms : List (Option ℕ)). chosen (were_taken b.pdcp.tx.next (ms ++ all_leaving l (Am d) xs)) (all_left (Am d) xs ++ rest)) (none_ending leaving_in leaving_off l (Am b) h.between (hears_no_leaving l l))
-      ∙ (ap (λ (n : ℕ). chosen (were_taken n (all_leaving l (Am d) xs)) (all_left (Am d) xs ++ rest)) (sym one.next)
-      ∙ (all_chosen bits l xs d rest s.steady one.reached ∙ ap (λ (f : Flow). all_news f xs) (sym s.left))))
+      ap (λ (f : Flow). were_taken b.pdcp.tx.next (flat_map (leaving_in l) (stopping (Am b)) ++ all_leaving l f xs)) s.left
+      ∙ (ap (λ (ms : List (Option ℕ)). were_taken b.pdcp.tx.next (ms ++ all_leaving l (Am d) xs)) (none_ending leaving_in leaving_off l (Am b) h.between (hears_no_leaving l l))
+      ∙ (ap (λ (n : ℕ). were_taken n (all_leaving l (Am d) xs)) (sym one.next)
+      ∙ (flags_told bits l xs d s.steady one.reached ∙ ap (λ (f : Flow). all_flags f xs) (sym s.left))))

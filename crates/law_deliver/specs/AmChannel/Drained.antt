@@ -9,10 +9,12 @@ use Rattle.l2_node.specs.End.{End}
 use Rattle.l2_node.specs.Sums.{is_drained as end_drained}
 use Rattle.l2_types.specs.declared.side.Side.{Side}
 use Rattle.law_node.specs.Holding.{flow}
+use Rattle.law_node.specs.Telling.{told_over}
 use Rattle.law_bearer.specs.AmBearer.Lives.{other}
 use Rattle.law_deliver.specs.AmFlow.Air.{Air, outset}
 use Rattle.law_deliver.specs.AmChannel.Delivery.{BeginAlike, ups_at, taken_at, submitted_at, DiscardsNoneAt}
-use Rattle.law_deliver.specs.AmChannel.Lives.{AirStep, AreLiving, lives, end_at}
+use Rattle.promises.specs.Taken.{kept_of}
+use Rattle.law_deliver.specs.AmChannel.Lives.{AirStep, AreLiving, lives, end_at, all_calls}
 
 -- only an acknowledged sender fails, at its limit of retransmissions (TS 36.322 5.2.1)
 abbrev pub has_failed : Flow → Bool
@@ -25,20 +27,21 @@ pub record IsDrained (l : ℕ) (e : End) : Type 0 where
   pub drained : is_drained (flow l e) ≡ true
   pub unfailed : has_failed (flow l e) ≡ false
 
--- from an end to the other: what went up at the other are all SDUs that the bearer of the one took, and where it discarded none all that were
--- submitted there: in their order, each once and unchanged
-pub record HasDelivered (l : ℕ) (from : Side) (steps : List AirStep) (a : Air) : Type 0 where
+-- from an end to the other: what went up at the other are all SDUs that the bearer of the one took, which are all that were submitted there but
+-- those that it discarded, and where it discarded none all of them: in their order, each once and unchanged
+pub record HasDelivered (l first : ℕ) (from : Side) (steps : List AirStep) (a : Air) : Type 0 where
   pub taken : ups_at l (other from) steps a ≡ taken_at l from steps a
+  pub kept : ups_at l (other from) steps a ≡ kept_of l first (told_over (all_calls from steps a) (end_at from a)) (submitted_at l from steps a)
   pub submitted : DiscardsNoneAt l from steps a → ups_at l (other from) steps a ≡ submitted_at l from steps a
 
 abbrev pub DrainedChannelsHaveDelivered : Type 0
 DrainedChannelsHaveDelivered = (l : ℕ) (c : BearerConfig) (keys : Keys) (nb ue : End) (from : Side) (steps : List AirStep)
     → BeginAlike l c keys nb ue → AreLiving l (outset nb ue) steps → IsDrained l (end_at from (lives steps (outset nb ue)))
-    → HasDelivered l from steps (outset nb ue)
+    → HasDelivered l c.first from steps (outset nb ue)
 
 -- so on each such channel of an end that is drained
 abbrev pub DrainedEndsHaveDelivered : Type 0
 DrainedEndsHaveDelivered = (l : ℕ) (c : BearerConfig) (keys : Keys) (nb ue : End) (from : Side) (steps : List AirStep)
     → BeginAlike l c keys nb ue → AreLiving l (outset nb ue) steps
     → end_drained (end_at from (lives steps (outset nb ue))) ≡ true → has_failed (flow l (end_at from (lives steps (outset nb ue)))) ≡ false
-    → HasDelivered l from steps (outset nb ue)
+    → HasDelivered l c.first from steps (outset nb ue)

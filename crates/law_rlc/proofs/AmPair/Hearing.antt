@@ -29,7 +29,7 @@ use Rattle.law_rlc.specs.AmPair.Numbers.{IsOrdered as AreInOrder}
 use Rattle.law_rlc.proofs.AmPair.Reading.{IsAired, read_as, stretch-read}
 use Rattle.law_rlc.proofs.AmPair.Parts.{stretch-part}
 use Rattle.law_rlc.proofs.AmPair.Runs.{some-more, honest-more}
-use Rattle.law_rlc.proofs.AmPair.Sound.{IsTrueCopy, IsTrueReport, IsKept, Agree, IsSound, heard-sound, each}
+use Rattle.law_rlc.proofs.AmPair.Sound.{IsTrueCopy, IsTrueReport, HasTrueEntries, IsKept, Agree, IsSound, heard-sound, each}
 use Rattle.law_rlc.proofs.AmPair.Sending.{sent-number}
 
 -- ---- the order of the numbers
@@ -81,14 +81,17 @@ pub hears-sound : (f : Flow) (c : Call) (reports : List Report) → IsSound f �
     → top (state_after (receiver f).state c).window ≤ length (sender f).past.sent
     → AllByRecursion (IsKept (sender f).past.sent) (kept_with (receiver f) c)
     → AllByRecursion (IsTrueReport (kept_with (receiver f) c) (length (sender f).past.sent) f.busy) reports
+    → AllByRecursion (HasTrueEntries (sender f).past.sent) reports
     → IsSound (record f { heard = f.heard ++ c ∷ []; reports = reports })
-hears-sound f c reports h some honest high kept all = heard-sound f c reports (record {
+hears-sound f c reports h some honest high kept all entries = heard-sound f c reports (record {
   offered = h.offered;
   keeps = h.keeps;
   fits = h.fits;
   aired = h.aired;
   copies = h.copies;
   reports = all;
+  entries = entries;
+  fair = h.fair;
   known = λ n a. complete-more (receiver f) c n (h.known n a);
   top = high;
   kept = kept;
@@ -105,13 +108,13 @@ expiry-window (Some x) s = refl
 
 pub receives-sound : (f : Flow) (c : Call) → IsReceiving c → IsSound f → IsSound (receives f c)
 receives-sound f (Arrive p) g h = absurd g
-receives-sound f Up g h = hears-sound f Up f.reports h tt (λ field agree. tt) h.top h.kept (old-reports f Up h)
+receives-sound f Up g h = hears-sound f Up f.reports h tt (λ field agree. tt) h.top h.kept (old-reports f Up h) h.entries
 receives-sound f Write g h = absurd g
 receives-sound f ExpireReorder g h = hears-sound f ExpireReorder f.reports h tt (λ field agree. tt)
-    (subst (λ (w : Kept). top w ≤ length (sender f).past.sent) (sym (expiry-window (receiver f).state.mark (receiver f).state)) h.top) h.kept (old-reports f ExpireReorder h)
-receives-sound f ExpireProhibit g h = hears-sound f ExpireProhibit f.reports h tt (λ field agree. tt) h.top h.kept (old-reports f ExpireProhibit h)
-receives-sound f TickReorder g h = hears-sound f TickReorder f.reports h tt (λ field agree. tt) h.top h.kept (old-reports f TickReorder h)
-receives-sound f TickProhibit g h = hears-sound f TickProhibit f.reports h tt (λ field agree. tt) h.top h.kept (old-reports f TickProhibit h)
+    (subst (λ (w : Kept). top w ≤ length (sender f).past.sent) (sym (expiry-window (receiver f).state.mark (receiver f).state)) h.top) h.kept (old-reports f ExpireReorder h) h.entries
+receives-sound f ExpireProhibit g h = hears-sound f ExpireProhibit f.reports h tt (λ field agree. tt) h.top h.kept (old-reports f ExpireProhibit h) h.entries
+receives-sound f TickReorder g h = hears-sound f TickReorder f.reports h tt (λ field agree. tt) h.top h.kept (old-reports f TickReorder h) h.entries
+receives-sound f TickProhibit g h = hears-sound f TickProhibit f.reports h tt (λ field agree. tt) h.top h.kept (old-reports f TickProhibit h) h.entries
 
 -- ---- a data PDU comes
 
@@ -159,7 +162,7 @@ comes-sound f c q h = subst (λ (r : Result AcknowledgedPdu RlcRefusal). IsSound
     (λ field agree. (c.number, record { sn = refl; from = from; below = below; part = subst (λ (cells : List Cell). IsPart cells (piece_of p)) (sym (agree c.number q.known)) part }))
     (landed-top (landed (receiver f).state p) (receiver f).state p (length (sender f).past.sent) (λ e. let n = read-number (receiver f).state p c.number refl from below e in let k = q.known in omega (arith, n, k)) h.top)
     (landed-kept (landed (receiver f).state p) (receiver f).state p (receiver f).kept (sender f).past.sent c.number (λ e. read-number (receiver f).state p c.number refl from below e) q.known part h.kept)
-    (old-reports f (Arrive p) h))
+    (old-reports f (Arrive p) h) h.entries)
   where
     ps : List Place
     ps = slice_index_or (sender f).past.sent c.number []

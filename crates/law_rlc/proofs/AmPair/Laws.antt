@@ -1,9 +1,13 @@
 -- Any steps keep what holds of a flow.
-use Rattle.std.proofs.Common.{◌≡◌, ◌≤◌, ℕ, suc, zero, Bool, true, false, List, [], ◌∷◌, length, Option, Some, None, slice_get, refl, subst, arith}
+use Rattle.std.proofs.Common.{◌≡◌, ℕ, suc, zero, Bool, false, List, [], ◌∷◌, length, Option, Some, None, slice_get, refl, sym, subst, arith}
 use Rattle.std.specs.List.{AllByRecursion}
 use Rattle.l2_types.specs.declared.config.AmTxConfig.{AmTxConfig}
 use Rattle.l2_types.specs.declared.AmRxConfig.{AmRxConfig}
+use Rattle.rlc_am_tx.specs.Machine.{State}
+use Rattle.law_rlc.specs.AmSender.Octets.{Place}
+use Rattle.law_rlc.specs.AmSender.Watched.{IsWatched}
 use Rattle.law_rlc.proofs.AmSender.Least.{fresh-fits}
+use Rattle.law_rlc.proofs.AmSender.Watches.{watches}
 use Rattle.law_rlc.proofs.AmSender.Writes.{start-keeps}
 use Rattle.law_rlc.specs.AmReceiver.Run.{Came}
 use Rattle.law_rlc.proofs.AmReceiver.Clash.{none_clashes}
@@ -18,7 +22,9 @@ use Rattle.law_rlc.specs.AmPair.Seen.{HandsUpInSequence, FinishGivesTheWhole}
 use Rattle.law_rlc.specs.AmPair.Arrives.{ArrivedWasOffered, ArrivalsStay, OnlyDataArrives, NextIsReady, FinishGivesByPlaces, ConfirmsWhatArrived}
 use Rattle.law_rlc.specs.AmPair.Steps.{OffersAreSent}
 use Rattle.law_rlc.specs.AmPair.Left.{HandsUpAll}
-use Rattle.law_rlc.proofs.AmPair.Sound.{IsTrueCopy, one, IsTrueReport, IsSound, each}
+use Rattle.law_rlc.specs.AmPair.Watched.{PollTimerRuns}
+use Rattle.law_rlc.proofs.AmPair.Runs.{sender-state}
+use Rattle.law_rlc.proofs.AmPair.Sound.{IsTrueCopy, at-most-one, IsTrueReport, HasTrueEntries, IsSound, each}
 use Rattle.law_rlc.proofs.AmPair.Sending.{sends-sound}
 use Rattle.law_rlc.proofs.AmPair.Hearing.{receives-sound, comes-sound, in-order}
 use Rattle.law_rlc.proofs.AmPair.Fields.{sent-field, are-fields}
@@ -49,15 +55,16 @@ data-sound : (f : Flow) (o : Option Copy) → ((c : Copy) → o ≡ Some c → I
 data-sound f None at h = h
 data-sound f (Some c) at h = comes-sound f c (at c refl) h
 
-report-sound : (f : Flow) (o : Option Report) → ((r : Report) → o ≡ Some r → IsTrueReport (receiver f).kept (length (sender f).past.sent) f.busy r) → IsSound f → IsSound (status_comes f o)
-report-sound f None at h = h
-report-sound f (Some r) at h = status-sound f r (at r refl) h
+report-sound : (f : Flow) (o : Option Report) → ((r : Report) → o ≡ Some r → IsTrueReport (receiver f).kept (length (sender f).past.sent) f.busy r) → ((r : Report) → o ≡ Some r → HasTrueEntries (sender f).past.sent r)
+    → IsSound f → IsSound (status_comes f o)
+report-sound f None at names h = h
+report-sound f (Some r) at names h = status-sound f r (at r refl) (names r refl) h
 
 -- a TTI later
 reports-older : (kept : List Came) (next : ℕ) (busy : Bool) (rs : List Report) → AllByRecursion IsYoung rs → AllByRecursion (IsTrueReport kept next busy) rs → AllByRecursion (IsTrueReport kept next false) (older rs)
 reports-older kept next busy [] y h = tt
 reports-older kept next busy (r ∷ rs) y h =
-    let q = h.0 in let young = q.young in let few = most busy in let a = y.0 in (
+    let q = h.0 in let young = q.young in let few = at-most-one busy in let a = y.0 in (
       record {
         reads = q.reads;
         known = q.known;
@@ -68,10 +75,10 @@ reports-older kept next busy (r ∷ rs) y h =
       },
       reports-older kept next busy rs y.1 h.1,
     )
-  where
-    most : (b : Bool) → one b ≤ 1
-    most true = omega arith
-    most false = omega arith
+
+entries-older : (sent : List (List Place)) (rs : List Report) → AllByRecursion (HasTrueEntries sent) rs → AllByRecursion (HasTrueEntries sent) (older rs)
+entries-older sent [] h = tt
+entries-older sent (r ∷ rs) h = (record { below = h.0.below; octets = h.0.octets }, entries-older sent rs h.1)
 
 -- ---- any step
 
@@ -80,7 +87,8 @@ happens-sound f (Sends c) g h = sends-sound f c g h
 happens-sound f (Receives c) g h = receives-sound f c g h
 happens-sound f (Reports size octets) g h = reports-sound f size octets g h
 happens-sound f (DataComes k) g h = data-sound f (slice_get f.copies k) (λ c e. each-at (IsTrueCopy (sender f).past.sent) f.copies k c h.copies e) h
-happens-sound f (StatusComes k) g h = report-sound f (slice_get f.reports k) (λ r e. each-at (IsTrueReport (receiver f).kept (length (sender f).past.sent) f.busy) f.reports k r h.reports e) h
+happens-sound f (StatusComes k) g h = report-sound f (slice_get f.reports k) (λ r e. each-at (IsTrueReport (receiver f).kept (length (sender f).past.sent) f.busy) f.reports k r h.reports e)
+    (λ r e. each-at (HasTrueEntries (sender f).past.sent) f.reports k r h.entries e) h
 happens-sound f (DataGoes k) g h = record {
   offered = h.offered;
   keeps = h.keeps;
@@ -88,6 +96,8 @@ happens-sound f (DataGoes k) g h = record {
   aired = h.aired;
   copies = each-except (IsTrueCopy (sender f).past.sent) k f.copies h.copies;
   reports = h.reports;
+  entries = h.entries;
+  fair = h.fair;
   known = h.known;
   top = h.top;
   kept = h.kept;
@@ -101,6 +111,8 @@ happens-sound f (StatusGoes k) g h = record {
   aired = h.aired;
   copies = h.copies;
   reports = each-except (IsTrueReport (receiver f).kept (length (sender f).past.sent) f.busy) k f.reports h.reports;
+  entries = each-except (HasTrueEntries (sender f).past.sent) k f.reports h.entries;
+  fair = h.fair;
   known = h.known;
   top = h.top;
   kept = h.kept;
@@ -114,6 +126,8 @@ happens-sound f Passes g h = record {
   aired = h.aired;
   copies = h.copies;
   reports = reports-older (receiver f).kept (length (sender f).past.sent) f.busy f.reports g h.reports;
+  entries = entries-older (sender f).past.sent f.reports h.entries;
+  fair = h.fair;
   known = h.known;
   top = h.top;
   kept = h.kept;
@@ -133,6 +147,8 @@ outset-sound sending receiving = record {
   aired = λ n lt. absurd (omega arith);
   copies = tt;
   reports = tt;
+  entries = tt;
+  fair = tt;
   known = λ n e. cc;
   top = omega arith;
   kept = tt;
@@ -206,3 +222,8 @@ offers-are-sent sending receiving steps g = is-offered (goes steps (outset sendi
 
 pub hands-up-all : HandsUpAll
 hands-up-all sending receiving steps g = has-all-up (goes steps (outset sending receiving)) (sound sending receiving steps g)
+
+pub poll-timer-runs : PollTimerRuns
+poll-timer-runs sending receiving steps g =
+    let f : Flow = goes steps (outset sending receiving) in
+    subst (λ (s : State). IsWatched s) (sym (sender-state f)) (watches f.sending f.sent (sound sending receiving steps g).fair)

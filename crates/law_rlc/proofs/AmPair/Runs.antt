@@ -2,10 +2,11 @@
 use Rattle.std.proofs.Common.{◌≡◌, ℕ, Bool, false, List, [], ◌∷◌, ◌++◌, refl, ap, ◌∙◌}
 use Rattle.std.specs.List.{AllByRecursion}
 use Rattle.rlc_am_rx_window.specs.Cells.{Cell}
-use Rattle.rlc_am_tx.specs.Machine.{State}
+use Rattle.rlc_am_tx.specs.Machine.{State, start}
 use Rattle.law_rlc.specs.AmSender.Run.{Call as SenderCall, World as SenderWorld, after, run as run_sender, begun}
 use Rattle.law_rlc.specs.AmSender.Octets.{nothing_sent, octets_after, HasOctets}
 use Rattle.law_rlc.specs.AmSender.Acked.{acked_after}
+use Rattle.law_rlc.specs.AmSender.Watched.{IsFair, AreFair, state_after}
 use Rattle.law_rlc.specs.AmReceiver.Run.{Call as ReceiverCall, World as ReceiverWorld, happens as heard_by, run as run_receiver, begin}
 use Rattle.law_rlc.specs.AmReceiver.Status.{BringsSome, BringSome}
 use Rattle.law_rlc.specs.AmReceiver.Stream.{IsHonest, AreHonest}
@@ -29,6 +30,13 @@ pub same-state : {G : Type 0} {H : Type 0} (f : State → SenderCall → G → G
 same-state f g [] v w e = e
 same-state f g (c ∷ cs) v w e = same-state f g cs (called f v c) (called g w c) (ap (λ (s : State). after s c) e)
 
+run-state : {G : Type 0} (grow : State → SenderCall → G → G) (cs : List SenderCall) (w : SenderWorld G) → (run_sender grow cs w).state ≡ state_after cs w.state
+run-state grow [] w = refl
+run-state grow (c ∷ cs) w = run-state grow cs (called grow w c)
+
+pub sender-state : (f : Flow) → (sender f).state ≡ state_after f.sent (start f.sending)
+sender-state f = run-state octets_after f.sent (begun f.sending nothing_sent)
+
 pub acked-more : (f : Flow) (c : SenderCall) → (run_sender acked_after (f.sent ++ c ∷ []) (begun f.sending (λ n. false))).past ≡ acked_after (sender f).state c (is_acked f)
 acked-more f c =
     ap (λ (w : SenderWorld (ℕ → Bool)). w.past) (run-more acked_after f.sent c (begun f.sending (λ n. false)))
@@ -37,6 +45,10 @@ acked-more f c =
 pub offered-more : (cs : List SenderCall) (c : SenderCall) → AllByRecursion HasOctets cs → HasOctets c → AllByRecursion HasOctets (cs ++ c ∷ [])
 offered-more [] c h one = (one, tt)
 offered-more (d ∷ ds) c h one = (h.0, offered-more ds c h.1 one)
+
+pub fair-more : (cs : List SenderCall) (c : SenderCall) (s : State) → AreFair s cs → IsFair (state_after cs s) c → AreFair s (cs ++ c ∷ [])
+fair-more [] c s h one = (one, tt)
+fair-more (d ∷ ds) c s h one = (h.0, fair-more ds c (after s d) h.1 one)
 
 -- ---- the receiver
 

@@ -11,6 +11,7 @@ use Rattle.rlc_pdu.specs.Pdus.{AreLens}
 use Rattle.rlc_queue.proofs.Lens.{within as fits-size}
 use Rattle.rlc_am_tx_window.specs.Sent.{Sent, all_wait, whole_size}
 use Rattle.rlc_am_tx_window.specs.Window.{next}
+use Rattle.rlc_am_rx_window.specs.declared.missing.Missing.{Missing}
 use Rattle.rlc_am_rx_window.specs.Window.{top}
 use Rattle.law_rlc.specs.AmReceiver.Run.{Came, IsComplete}
 use Rattle.law_rlc.specs.AmReceiver.Stream.{IsPart}
@@ -19,19 +20,21 @@ use Rattle.rlc_am_tx.specs.declared.turn.Turn.TheVariants as turns
 use Rattle.rlc_am_tx.specs.Machine.{State, turn, answer, waits, is_empty, is_shut, is_held, again, new_slot, resend_turn}
 use Rattle.law_rlc.specs.AmSender.Run.{Call as SenderCall, Offer, Take, Status, Tick, Expire, Settle, Confirm}
 use Rattle.law_rlc.specs.AmSender.Acked.{acked_after}
+use Rattle.law_rlc.specs.AmSender.Namings.{in_part}
 use Rattle.law_rlc.specs.AmSender.Polled.{poll_of}
-use Rattle.law_rlc.specs.AmSender.Octets.{Place, Octets, written, segment_of, new_count, octets_by, octets_after, IsNew, IsAgain, IsNone, IsWritten, HasOctets}
+use Rattle.law_rlc.specs.AmSender.Watched.{IsFair}
+use Rattle.law_rlc.specs.AmSender.Octets.{Place, Octets, written, segment_of, new_count, octets_by, octets_after, IsNew, IsAgain, IsNone, IsWritten}
 use Rattle.law_rlc.proofs.AmSender.Keys.{key}
 use Rattle.law_rlc.proofs.AmSender.Least.{after-fits}
 use Rattle.law_rlc.proofs.AmSender.Stretches.{range-all}
 use Rattle.law_rlc.proofs.AmSender.Writes.{IsFace, Faces, face-length, face-some, new-face, new-able, after-keeps, writes}
-use Rattle.law_rlc.specs.AmPair.Flow.{Copy, Flow, sender, receiver, copies_with, is_new, sends}
+use Rattle.law_rlc.specs.AmPair.Flow.{Copy, Report, Flow, sender, receiver, copies_with, is_new, sends}
 use Rattle.law_rlc.specs.AmPair.Fields.{cells_of}
 use Rattle.law_rlc.specs.AmPair.Numbers.{is_acked}
 use Rattle.law_rlc.specs.AmPair.Given.{IsHeld, IsTaking, IsSending}
 use Rattle.law_rlc.proofs.AmPair.Reading.{IsAired}
 use Rattle.law_rlc.proofs.AmPair.Runs.{offered-more}
-use Rattle.law_rlc.proofs.AmPair.Sound.{AllAired, IsTrueCopy, one, IsTrueReport, Agree, IsSound, sent-sound, reports-later, IsKept, each}
+use Rattle.law_rlc.proofs.AmPair.Sound.{AllAired, IsTrueCopy, one, IsTrueReport, NamesOctet, HasTrueEntries, Agree, IsSound, has-octets, stays-fair, sent-sound, reports-later, IsKept, each}
 
 pub sent-number : (f : Flow) → IsSound f → length (sender f).past.sent ≡ next (sender f).state.window
 sent-number f h = h.keeps.faces.number
@@ -42,17 +45,19 @@ same-busy : (a : Bool) → one a ≤ one (a || false)
 same-busy true = omega arith
 same-busy false = omega arith
 
-stays-sound : (f : Flow) (c : SenderCall) (copies : List Copy) (busy : Bool) → HasOctets c → (octets_after (sender f).state c (sender f).past).sent ≡ (sender f).past.sent
+stays-sound : (f : Flow) (c : SenderCall) (copies : List Copy) (busy : Bool) → IsFair (sender f).state c → (octets_after (sender f).state c (sender f).past).sent ≡ (sender f).past.sent
     → acked_after (sender f).state c (is_acked f) ≡ is_acked f → AllByRecursion (IsTrueCopy (sender f).past.sent) copies → one f.busy ≤ one busy → IsSound f
     → IsSound (record f { sent = f.sent ++ c ∷ []; copies = copies; busy = busy })
-stays-sound f c copies busy has same acked' true' later h = sent-sound f c copies busy (record {
-  offered = offered-more f.sent c h.offered has;
-  keeps = after-keeps (sender f).state c (sender f).past has h.keeps;
+stays-sound f c copies busy fair same acked' true' later h = sent-sound f c copies busy (record {
+  offered = offered-more f.sent c h.offered (has-octets (sender f).state c fair);
+  keeps = after-keeps (sender f).state c (sender f).past (has-octets (sender f).state c fair) h.keeps;
   fits = after-fits (sender f).state c (is_acked f) h.fits;
   aired = subst (λ (sent : List (List Place)). AllAired sent) (sym same) h.aired;
   copies = subst (λ (sent : List (List Place)). AllByRecursion (IsTrueCopy sent) copies) (sym same) true';
   reports = subst (λ (sent : List (List Place)). AllByRecursion (IsTrueReport (receiver f).kept (length sent) busy) f.reports) (sym same)
       (reports-later (receiver f).kept (length (sender f).past.sent) (length (sender f).past.sent) f.busy busy (omega arith) (omega (arith, later)) f.reports h.reports);
+  entries = subst (λ (sent : List (List Place)). AllByRecursion (HasTrueEntries sent) f.reports) (sym same) h.entries;
+  fair = stays-fair f c h fair;
   known = subst (λ (a : ℕ → Bool). (n : ℕ) → a n ≡ true → IsComplete (receiver f).kept n) (sym acked') h.known;
   top = subst (λ (sent : List (List Place)). top (receiver f).state.window ≤ length sent) (sym same) h.top;
   kept = subst (λ (sent : List (List Place)). AllByRecursion (IsKept sent) (receiver f).kept) (sym same) h.kept;
@@ -166,6 +171,19 @@ kept-more sent ps c q =
     let l = length-append sent (ps ∷ []) in let k = q.known in
     record { known = omega (arith, l, k); part = subst (λ (qs : List Place). IsPart (cells_of qs) c.piece) (sym (get_or_append_left sent (ps ∷ []) [] c.number q.known)) q.part }
 
+entry-more : (sent : List (List Place)) (ps : List Place) (m : Missing) → NamesOctet sent m → NamesOctet (sent ++ ps ∷ []) m
+entry-more sent ps m q =
+    let l = length-append sent (ps ∷ []) in let k = q.known in let same = sym (get_or_append_left sent (ps ∷ []) [] m.number q.known) in
+    record {
+      known = omega (arith, l, k);
+      octet = q.octet;
+      within = subst (λ (qs : List Place). q.octet < length qs) same q.within;
+      names = subst (λ (qs : List Place). in_part m.part (length qs) q.octet ≡ true) same q.names;
+    }
+
+entries-more : (sent : List (List Place)) (ps : List Place) (r : Report) → HasTrueEntries sent r → HasTrueEntries (sent ++ ps ∷ []) r
+entries-more sent ps r q = record { below = q.below; octets = each (NamesOctet sent) (NamesOctet (sent ++ ps ∷ [])) (entry-more sent ps) r.entries q.octets }
+
 copies-more : (held : Option ℕ) (sent : List (List Place)) (ps : List Place) → is_held held (length sent) ≡ false → (cs : List Copy) → AllByRecursion (IsHeld held) cs → AllByRecursion (IsTrueCopy sent) cs → AllByRecursion (IsTrueCopy (sent ++ ps ∷ [])) cs
 copies-more held sent ps free [] low h = tt
 copies-more held sent ps free (c ∷ cs) low h = (copy-more sent ps c (held-young held (length sent) c free low.0) h.0, copies-more held sent ps free cs low.1 h.1)
@@ -216,6 +234,8 @@ new-sound f size held more e r g h =
           (subst (λ (b : Bool). AllByRecursion (IsTrueReport (receiver f).kept (length (o.sent ++ ps ∷ [])) (b || true)) f.reports) (sym idle)
           (reports-later (receiver f).kept (length o.sent) (length (o.sent ++ ps ∷ [])) false true (omega (arith, l)) (omega (arith, l)) f.reports
           (subst (λ (b : Bool). AllByRecursion (IsTrueReport (receiver f).kept (length o.sent) b) f.reports) idle h.reports)));
+      entries = subst (λ (sent : List (List Place)). AllByRecursion (HasTrueEntries sent) f.reports) (sym now) (each (HasTrueEntries o.sent) (HasTrueEntries (o.sent ++ ps ∷ [])) (entries-more o.sent ps) f.reports h.entries);
+      fair = stays-fair f (Take size held more) h tt;
       known = h.known;
       top = let t = h.top in let n = ap (λ (sent : List (List Place)). length sent) now in omega (arith, t, n, l);
       kept = subst (λ (sent : List (List Place)). AllByRecursion (IsKept sent) (receiver f).kept) (sym now) (each (IsKept o.sent) (IsKept (o.sent ++ ps ∷ [])) (kept-more o.sent ps) (receiver f).kept h.kept);

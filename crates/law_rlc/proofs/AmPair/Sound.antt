@@ -5,11 +5,15 @@ use Rattle.rlc_pdu.specs.Pdus.{Status as Control}
 use Rattle.rlc_pdu.specs.Reading.{am_at}
 use Rattle.rlc_am_rx_window.specs.Cells.{Cell}
 use Rattle.rlc_am_rx_window.specs.Window.{top}
-use Rattle.law_rlc.specs.AmSender.Run.{Call as SenderCall, World as SenderWorld, run as run_sender, begun}
+use Rattle.rlc_am_tx.specs.Machine.{State, start}
+use Rattle.law_rlc.specs.AmSender.Run.{Call as SenderCall, Offer, Take, Status, Tick, Expire, Settle, Confirm, World as SenderWorld, run as run_sender, begun}
+use Rattle.law_rlc.specs.AmSender.Namings.{in_part}
+use Rattle.law_rlc.specs.AmSender.Watched.{IsFair, AreFair}
 use Rattle.law_rlc.specs.AmSender.Octets.{Place, Octets, octets_after, written, segment_of, HasOctets}
 use Rattle.law_rlc.specs.AmSender.Acked.{acked_after}
 use Rattle.law_rlc.proofs.AmSender.Least.{Fits}
 use Rattle.law_rlc.proofs.AmSender.Writes.{Keeps}
+use Rattle.rlc_am_rx_window.specs.declared.missing.Missing.{Missing}
 use Rattle.rlc_am_rx.specs.Status.{nack_of}
 use Rattle.law_rlc.specs.AmReceiver.Run.{Call as ReceiverCall, World as ReceiverWorld, Came, happens as heard_by, IsComplete}
 use Rattle.law_rlc.specs.AmReceiver.Status.{BringSome, has_entry}
@@ -18,7 +22,7 @@ use Rattle.law_rlc.specs.AmPair.Flow.{Copy, Report, Flow, sender, receiver}
 use Rattle.law_rlc.specs.AmPair.Fields.{cells_of}
 use Rattle.law_rlc.specs.AmPair.Numbers.{is_acked}
 use Rattle.law_rlc.proofs.AmPair.Reading.{IsAired}
-use Rattle.law_rlc.proofs.AmPair.Runs.{called, sender-more, acked-more, receiver-more}
+use Rattle.law_rlc.proofs.AmPair.Runs.{called, sender-more, acked-more, receiver-more, sender-state, fair-more}
 
 -- each new PDU's octets can be written
 abbrev pub AllAired : List (List Place) → Type 0
@@ -39,6 +43,10 @@ abbrev pub one : Bool → ℕ
 one true = 1
 one false = 0
 
+pub at-most-one : (b : Bool) → one b ≤ 1
+at-most-one true = omega arith
+at-most-one false = omega arith
+
 -- a STATUS under way: below its ACK each number without an entry is complete, and VT(S) went up by at most one in each TTI since
 pub record IsTrueReport (kept : List Came) (next : ℕ) (busy : Bool) (r : Report) : Type 0 where
   pub reads : am_at r.octets ≡ Ok (Control (record { ack = r.ack % 1024; nacks = map nack_of r.entries }))
@@ -47,6 +55,18 @@ pub record IsTrueReport (kept : List Came) (next : ℕ) (busy : Bool) (r : Repor
   pub young : next ≤ r.ack + 512 + r.age + one busy
   pub complete : (n : ℕ) → n < r.ack → has_entry r.entries n ≡ false → IsComplete kept n
   pub near : (n : ℕ) → has_entry r.entries n ≡ true → (n < next) × (next ≤ n + 512 + r.age + one busy)
+
+-- an entry names an octet of its number
+pub record NamesOctet (sent : List (List Place)) (m : Missing) : Type 0 where
+  pub known : m.number < length sent
+  pub octet : ℕ
+  pub within : octet < length (slice_index_or sent m.number [])
+  pub names : in_part m.part (length (slice_index_or sent m.number [])) octet ≡ true
+
+-- so does each of a STATUS, and it lies below its ACK
+pub record HasTrueEntries (sent : List (List Place)) (r : Report) : Type 0 where
+  pub below : (n : ℕ) → has_entry r.entries n ≡ true → n < r.ack
+  pub octets : AllByRecursion (NamesOctet sent) r.entries
 
 -- what the receiver has kept is what was sent
 pub record IsKept (sent : List (List Place)) (c : Came) : Type 0 where
@@ -64,6 +84,8 @@ pub record Sound (tx : SenderWorld Octets) (acked : ℕ → Bool) (rx : Receiver
   pub aired : AllAired tx.past.sent
   pub copies : AllByRecursion (IsTrueCopy tx.past.sent) f.copies
   pub reports : AllByRecursion (IsTrueReport rx.kept (length tx.past.sent) f.busy) f.reports
+  pub entries : AllByRecursion (HasTrueEntries tx.past.sent) f.reports
+  pub fair : AreFair (start f.sending) f.sent
   pub known : (n : ℕ) → acked n ≡ true → IsComplete rx.kept n
   pub top : top rx.state.window ≤ length tx.past.sent
   pub kept : AllByRecursion (IsKept tx.past.sent) rx.kept
@@ -74,6 +96,18 @@ abbrev pub IsSound : Flow → Type 0
 IsSound f = Sound (sender f) (is_acked f) (receiver f) f
 
 -- ---- one call more
+
+pub has-octets : (s : State) (c : SenderCall) → IsFair s c → HasOctets c
+has-octets s (Offer sdu) fair = fair
+has-octets s (Take size held more) fair = tt
+has-octets s (Status status) fair = tt
+has-octets s Tick fair = tt
+has-octets s (Expire more) fair = tt
+has-octets s (Settle more) fair = tt
+has-octets s Confirm fair = tt
+
+pub stays-fair : (f : Flow) (c : SenderCall) → IsSound f → IsFair (sender f).state c → AreFair (start f.sending) (f.sent ++ c ∷ [])
+stays-fair f c h fair = fair-more f.sent c (start f.sending) h.fair (subst (λ (s : State). IsFair s c) (sender-state f) fair)
 
 pub sent-sound : (f : Flow) (c : SenderCall) (copies : List Copy) (busy : Bool)
     → Sound (called octets_after (sender f) c) (acked_after (sender f).state c (is_acked f)) (receiver f) (record f { sent = f.sent ++ c ∷ []; copies = copies; busy = busy })

@@ -302,6 +302,7 @@ last_of x (y ∷ xs) ys low s =
 pub record IsAck (all xs : List Missing) (front bound a : ℕ) : Type 0 where
   pub above : front ≤ a
   pub left : has_entry xs a ≡ false
+  pub over : (n : ℕ) → has_entry xs n ≡ true → n < a
   pub least : (n : ℕ) → n < a → has_entry xs n ≡ false → has_entry all n ≡ true → n < front
   pub found : (a ≡ bound) ⊎ (has_entry all a ≡ true)
 
@@ -316,7 +317,7 @@ drop_at (x ∷ xs) ys = drop_at xs ys
 ack_of : (xs ys : List Missing) (front bound : ℕ) → AreSorted front (xs ++ ys) → front ≤ bound → Within (xs ++ ys) bound → IsAck (xs ++ ys) xs front bound (ack_behind (xs ++ ys) (length xs) bound)
 ack_of [] ys front bound s le within =
     let r : IsNext ys front bound (next_number ys None bound) = next_first ys front bound s le in
-    record { above = r.above; left = refl; least = λ n b f h. r.only n h b; found = r.found }
+    record { above = r.above; left = refl; over = λ n h. cc; least = λ n b f h. r.only n h b; found = r.found }
 ack_of (x ∷ xs) ys front bound s le within =
     let last : IsLast (x ∷ xs) ys front (number_of (slice_get ((x ∷ xs) ++ ys) (length xs))) = last_of x xs ys front s in
     let has_l : has_entry ((x ∷ xs) ++ ys) last.l ≡ true = has_append (x ∷ xs) ys last.l ∙ ap (λ (b : Bool). b || has_entry ys last.l) last.has in
@@ -329,6 +330,7 @@ ack_of (x ∷ xs) ys front bound s le within =
     subst (λ (a : ℕ). IsAck ((x ∷ xs) ++ ys) (x ∷ xs) front bound a) is (record {
       above = omega (arith, last.above, r.above);
       left = not_true (has_entry (x ∷ xs) (next_number ys (Some last.l) bound)) (λ h. omega (arith, last.most (next_number ys (Some last.l) bound) h, r.above));
+      over = λ n h. omega (arith, last.most n h, r.above);
       least = λ n b f h. elim (either (has_entry (x ∷ xs) n) (has_entry ys n) (sym (has_append (x ∷ xs) ys n) ∙ h)) [
         | inl e ↦ let wrong : true ≡ false = sym e ∙ f in cc
         | inr e ↦
@@ -360,6 +362,7 @@ true_by m size b well = record {
         let wrong : true ≡ false = sym full ∙ r.2 in cc
   ];
   ack_left = a.left;
+  ack_over = a.over;
   ack_least = λ n from below none. complete_number n from (omega (arith, below, ack_within a.found)) (λ h. omega (arith, from, a.least n below none h));
 }
   where

@@ -272,13 +272,13 @@ still-slot w below most ns k lt e z =
     off : below ≡ 0 → nat_lt k below ≡ false
     off z = grind (arith, nat_tests)
 
-still : (s : State) (status : StatusPdu) (below : ℕ) (m : Marks) (acked : ℕ → Bool) → Stands s m → IsHonest s status → Fits s.window acked
+still : (s : State) (status : StatusPdu) (below : ℕ) (m : Marks) (acked : ℕ → Bool) → offset_of s.window.base status.ack ≡ below → Stands s m → IsHonest s status → Fits s.window acked
     → Fits (read s below status.nacks).window (λ n. acked n || (true && acks s.window.base below status.nacks n))
     → length (read s below status.nacks).window.slots ≡ 512 → waits (read s below status.nacks) ≡ false → IsStill s below status.nacks
-still s status below m acked h honest fits after' shut quiet = record {
+still s status below m acked is h honest fits after' shut quiet = record {
   few = omega (arith, few, len, len-drop, shut);
   none = unnamed;
-  nothing_below = by (nat_lt 0 below) refl;
+  nothing_below = zero_below;
   lead = none-lead;
 }
   where
@@ -300,28 +300,44 @@ still s status below m acked h honest fits after' shut quiet = record {
     same : (k : ℕ) → slot_at (drop (leading_acked all) all) k ≡ slot_at all k
     same k = slot-drop all (leading_acked all) k ∙ ap (λ (j : ℕ). slot_at all j) (omega (arith, none-lead))
 
+    many : 0 < length s.window.slots
+    many = omega (arith, few, len, len-drop, shut)
+
+    open' : (slot_at s.window.slots 0).acked ≡ false
+    open' = fits.front many
+
+    -- what it names of the first number would wait
+    first : is_named s.window.base 0 status.nacks ≡ false
+    first = step (is_named s.window.base 0 status.nacks) refl
+      where
+        step : (b : Bool) → is_named s.window.base 0 status.nacks ≡ b → b ≡ false
+        step false e = refl
+        step true e =
+            let o = (honest 0 many e).octet open' in
+            absurd (never (read s below status.nacks) 0 (omega (arith, many, len, len-drop, none-lead))
+            (ap is_waiting (same 0) ∙ named-waits s.window below s.config.max_retx status.nacks m 0 o.0 h many e open' o.1 o.2) quiet)
+
+    zero_below : below ≡ 0
+    zero_below = by (nat_lt 0 below) refl
+      where
+        by : (b : Bool) → nat_lt 0 below ≡ b → below ≡ 0
+        by false e = grind (arith, nat_tests)
+        by true e =
+            let some : 0 < length (read s below status.nacks).window.slots = omega (arith, shut) in
+            let front : (acked (s.window.base + leading_acked all + 0) || (true && acks s.window.base below status.nacks (s.window.base + leading_acked all + 0))) ≡ false = sym (after'.slots 0 some) ∙ after'.front some in
+            let at : s.window.base + leading_acked all + 0 ≡ s.window.base = omega (arith, none-lead) in
+            let low : nat_le s.window.base s.window.base ≡ true = grind (arith, nat_tests) in
+            let high : nat_lt s.window.base (s.window.base + below) ≡ true = grind (arith, nat_tests) in
+            let zero' : s.window.base - s.window.base ≡ 0 = omega arith in
+            let is : (acked s.window.base || (true && acks s.window.base below status.nacks s.window.base)) ≡ true = rw (low, high, zero', first) (or-true (acked s.window.base)) in
+            let no' : true ≡ false = sym is ∙ subst (λ (n : ℕ). (acked n || (true && acks s.window.base below status.nacks n)) ≡ false) at front in cc
+
     unnamed : (k : ℕ) → k < length s.window.slots → is_named s.window.base k status.nacks ≡ false
     unnamed k lt = step (is_named s.window.base k status.nacks) refl
       where
         step : (b : Bool) → is_named s.window.base k status.nacks ≡ b → b ≡ false
         step false e = refl
-        step true e =
-            let o = honest k lt e in
-            absurd (never (read s below status.nacks) k (omega (arith, lt, len, len-drop, none-lead))
-            (ap is_waiting (same k) ∙ named-waits s.window below s.config.max_retx status.nacks m k o.1.0 h lt e o.0 o.1.1 o.1.2) quiet)
-
-    by : (b : Bool) → nat_lt 0 below ≡ b → below ≡ 0
-    by false e = grind (arith, nat_tests)
-    by true e =
-        let some : 0 < length (read s below status.nacks).window.slots = omega (arith, shut) in
-        let front : (acked (s.window.base + leading_acked all + 0) || (true && acks s.window.base below status.nacks (s.window.base + leading_acked all + 0))) ≡ false = sym (after'.slots 0 some) ∙ after'.front some in
-        let at : s.window.base + leading_acked all + 0 ≡ s.window.base = omega (arith, none-lead) in
-        let low : nat_le s.window.base s.window.base ≡ true = grind (arith, nat_tests) in
-        let high : nat_lt s.window.base (s.window.base + below) ≡ true = grind (arith, nat_tests) in
-        let zero' : s.window.base - s.window.base ≡ 0 = omega arith in
-        let un = unnamed 0 (omega (arith, few, len, len-drop, shut)) in
-        let is : (acked s.window.base || (true && acks s.window.base below status.nacks s.window.base)) ≡ true = rw (low, high, zero', un) (or-true (acked s.window.base)) in
-        let no' : true ≡ false = sym is ∙ subst (λ (n : ℕ). (acked n || (true && acks s.window.base below status.nacks n)) ≡ false) at front in cc
+        step true e = let b = (honest k lt e).below in absurd (omega (arith, b, is, zero_below))
 
 still-waits : (s : State) (below : ℕ) (ns : List Nack) → IsStill s below ns → waits (read s below ns) ≡ false → waits s ≡ false
 still-waits s below ns t quiet = by (waits s) refl
@@ -379,7 +395,7 @@ status-watched false s status m acked e honest g = λ f shut quiet.
     let w = ended-window (limit_of s below status.nacks) (stops s below status.nacks) (read s below status.nacks) in
     let shut' : length (read s below status.nacks).window.slots ≡ 512 = sym (ap (λ (k : Kept). length k.slots) w) ∙ shut in
     let quiet' : waits (read s below status.nacks) ≡ false = sym (waits-of (read s below status.nacks) (applied s below status.nacks) w) ∙ quiet in
-    let t = still s status below m acked g.stands honest g.fits (heard s.window acked below s.config.max_retx status.nacks within g.fits) shut' quiet' in
+    let t = still s status below m acked refl g.stands honest g.fits (heard s.window acked below s.config.max_retx status.nacks within g.fits) shut' quiet' in
     let old = g.watched (ended-failed (limit_of s below status.nacks) (stops s below status.nacks) (read s below status.nacks) f) t.few (still-waits s below status.nacks t quiet') in
     ended-watched (limit_of s below status.nacks) (stops s below status.nacks) (read s below status.nacks)
     (ended-none (limit_of s below status.nacks) (stops s below status.nacks) (read s below status.nacks) f)

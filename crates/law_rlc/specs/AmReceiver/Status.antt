@@ -74,7 +74,7 @@ abbrev pub has_entry : List Missing → ℕ → Bool
 has_entry ms n = list_any (λ (m : Missing). m.number == n) ms
 
 -- Its entries are the longest beginning that fits of all that is missing from VR(R) on below VR(MS). Its ACK is the least number from
--- VR(R) on that isn't complete and has no entry.
+-- VR(R) on that isn't complete and has no entry, and lies above each that has one.
 pub record IsTrueStatus (w : World) (size : ℕ) : Type 0 where
   pub all : AreSaid w.kept w.state.window.front (w.state.bound - w.state.window.front) (listed w.state)
   pub rest : List Missing
@@ -84,4 +84,5 @@ pub record IsTrueStatus (w : World) (size : ℕ) : Type 0 where
   pub ack_above : w.state.window.front ≤ ack w.state size
   pub ack_missing : IsComplete w.kept (ack w.state size) → ⊥
   pub ack_left : has_entry (chosen w.state size) (ack w.state size) ≡ false
+  pub ack_over : (n : ℕ) → has_entry (chosen w.state size) n ≡ true → n < ack w.state size
   pub ack_least : (n : ℕ) → w.state.window.front ≤ n → n < ack w.state size → has_entry (chosen w.state size) n ≡ false → IsComplete w.kept n

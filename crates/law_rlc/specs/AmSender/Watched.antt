@@ -3,15 +3,20 @@ use Rattle.std.specs.Prelude.{◌≡◌, ℕ, ◌<◌, ◌≤◌, Bool, true, fa
 use Rattle.l2_num.specs.Timers.{runs}
 use Rattle.l2_types.specs.declared.config.AmTxConfig.{AmTxConfig}
 use Rattle.rlc_pdu.specs.Pdus.{StatusPdu}
-use Rattle.rlc_am_tx_window.specs.Window.{slot_at, is_named}
+use Rattle.rlc_am_tx_window.specs.Window.{slot_at, offset_of, is_named}
 use Rattle.rlc_am_tx.specs.Machine.{State, start, waits, is_quiet, settled as settled_state}
 use Rattle.law_rlc.specs.AmSender.Run.{Call, Offer, Take, Status, Tick, Expire, Settle, Confirm, after}
 use Rattle.law_rlc.specs.AmSender.Namings.{names}
 
--- a STATUS as a receiver writes it: each number in the window that it names isn't acknowledged, and it names an octet of it
+-- a STATUS as a receiver writes it, however late it comes: each number in the window that it names lies below its ACK_SN, and it names an octet
+-- of it unless it is acknowledged
+pub record IsNaming (s : State) (status : StatusPdu) (k : ℕ) : Type 0 where
+  pub below : k < offset_of s.window.base status.ack
+  pub octet : (slot_at s.window.slots k).acked ≡ false
+      → (i : ℕ) × (i < length (slot_at s.window.slots k).field) × (names s.window.base k status.nacks (length (slot_at s.window.slots k).field) i ≡ true)
+
 abbrev pub IsHonest : State → StatusPdu → Type 0
-IsHonest s status = (k : ℕ) → k < length s.window.slots → is_named s.window.base k status.nacks ≡ true
-    → ((slot_at s.window.slots k).acked ≡ false) × ((i : ℕ) × (i < length (slot_at s.window.slots k).field) × (names s.window.base k status.nacks (length (slot_at s.window.slots k).field) i ≡ true))
+IsHonest s status = (k : ℕ) → k < length s.window.slots → is_named s.window.base k status.nacks ≡ true → IsNaming s status k
 
 abbrev pub IsFair : State → Call → Type 0
 IsFair s (Offer sdu) = 0 < length sdu
