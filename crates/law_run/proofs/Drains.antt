@@ -15,7 +15,7 @@ use Rattle.air_run.specs.Run.{fresh}
 use Rattle.air_run.specs.declared.refusal.RunRefusal.TheVariants.{SmallDrain, LoopOn, Forged}
 use Rattle.air_text.specs.Groups.{Group, history}
 use Rattle.bearer_types.specs.declared.event.Event.{Event}
-use Rattle.law_air.specs.AnyCalls.Ends.{told_by}
+use Rattle.promises.specs.Records.{told_by}
 use Rattle.law_deliver.specs.AmChannel.Delivery.{submitted_at}
 use Rattle.law_deliver.specs.AmChannel.Drained.{has_failed}
 use Rattle.promises.specs.Taken.{kept_of}
