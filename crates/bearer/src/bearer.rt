@@ -1,4 +1,4 @@
-ghost use Rattle.std.specs.Prelude.{◌≡◌, ◌≤◌, ◌<◌, ◌^◌, None, Err, length, OnOk, OnErr, IfOk, IfErr, IsTrue, IsFalse, IsErr};
+ghost use Rattle.std.specs.Prelude.{◌≡◌, ◌≤◌, ◌+◌, ◌<◌, ◌^◌, None, Err, length, OnOk, OnErr, IfOk, IfErr, IsTrue, IsFalse, IsErr};
 ghost use Rattle.l2_bits.specs.declared.SubmitRefusal.TheVariants as refusals;
 ghost use Rattle.bearer_pdcp.specs.Shares.{FitsShare};
 ghost use Rattle.bearer_pdcp.specs.Submitting.{Answers, StaysOrDies};
