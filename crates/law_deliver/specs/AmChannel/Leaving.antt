@@ -1,6 +1,7 @@
 -- Which SDUs a channel of acknowledged data takes, and which it discards, as an end tells (TS 36.323 5.1.1, 5.4).
 use Rattle.std.specs.Prelude.{◌≡◌, ◌≤◌, ℕ, List, length}
 use Rattle.bearer_types.specs.declared.config.BearerConfig.{BearerConfig}
+use Rattle.bearer_types.specs.declared.event.Event.{Event}
 use Rattle.eps_sec.specs.declared.Keys.{Keys}
 use Rattle.l2_node.specs.End.{End}
 use Rattle.l2_types.specs.declared.side.Side.{Side}
