@@ -1,5 +1,7 @@
--- The downlink of a TTI: the base station visits its process, and the terminal hears what comes (TS 36.321 5.3).
-use Rattle.std.specs.Prelude.{ℕ, ◌%◌, ◌==◌, Bool, true, false, if◌then◌else◌, Some, option_map, unwrap_or, List, [], ◌++◌, slice_index_or, slice_set}
+-- The downlink of a TTI: the base station visits its process, and the terminal hears what comes (TS
+-- 36.321 5.3).
+use Rattle.std.specs.Prelude.{ℕ, ◌%◌, ◌==◌, Bool, true, false, if◌then◌else◌, Some, option_map}
+use Rattle.std.specs.Prelude.{unwrap_or, List, [], ◌++◌, slice_index_or, slice_set}
 use Rattle.air_record.specs.declared.line.Fate.{Fate}
 use Rattle.air_record.specs.declared.line.Fate.TheVariants.{Ok, Bad, Miss}
 use Rattle.air_record.specs.declared.line.Outcome.{Outcome}
@@ -34,7 +36,8 @@ abbrev pub visits : Side → ℕ → ℕ → Order → Link → Link
 visits side t grant order l = with_end side (built t grant order (end_of side l)) l
 
 abbrev pub builds : Side → ℕ → ℕ → Order → Link → Link
-builds side t grant order l = tells_all side (building t grant order (end_of side l)) (visits side t grant order l)
+builds side t grant order l =
+    tells_all side (building t grant order (end_of side l)) (visits side t grant order l)
 
 -- the NDI of the process then
 abbrev pub built_ndi : Side → ℕ → ℕ → Order → Link → Bool
@@ -50,19 +53,24 @@ shows direction block l = record l { out = l.out ++ block_shown direction l.kind
 
 -- a block is sent for the first time, and shown, or again with a redundancy version
 abbrev pub sends : Visit → Side → ℕ → List ℕ → Link → Link
-sends New side t block l = shows (sent_by side) block (says (records.Block (sent_by side) (t % 8) true 0 block) l)
+sends New side t block l =
+    shows (sent_by side) block (says (records.Block (sent_by side) (t % 8) true 0 block) l)
 sends (Resend rv) side t block l = says (records.Block (sent_by side) (t % 8) false rv block) l
 sends Quiet side t block l = l
 
 -- an end hears a block
 abbrev pub receives : Side → List ℕ → Link → Link
-receives side block l = with_end side (record (end_of side l) { bearers = (received (end_of side l) block).bearers }) l
+receives side block l =
+    with_end side (record (end_of side l) { bearers = (received (end_of side l) block).bearers })
+    l
 
 abbrev pub hears : Side → List ℕ → Link → Link
 hears side block l = tells_all side (received (end_of side l) block).events (receives side block l)
 
 abbrev pub feeds : Side → ℕ → Bool → Link → Link
-feeds side t good l = with_end side (record (end_of side l) { sender = after_feedback (end_of side l).sender t good }) l
+feeds side t good l =
+    with_end side
+    (record (end_of side l) { sender = after_feedback (end_of side l).sender t good }) l
 
 -- ---- what the terminal sees
 
@@ -84,7 +92,8 @@ saw_new t l = record l { drx = option_map (λ d. after_new d t) l.drx }
 
 -- a block that it sees for the first time keeps it awake, and so does a damaged one
 abbrev pub first_seen : ℕ → Link → Link
-first_seen t l = if slice_index_or l.seen (t % 8) false then l else saw_new t (record l { seen = slice_set l.seen (t % 8) true })
+first_seen t l = if slice_index_or l.seen (t % 8) false then l
+    else saw_new t (record l { seen = slice_set l.seen (t % 8) true })
 
 abbrev pub decoded : ℕ → Link → Link
 decoded t l = record l { drx = option_map (λ d. after_decoded d t) l.drx }
@@ -98,7 +107,9 @@ sees t false l = damaged t (first_seen t l)
 
 -- a block of this NDI comes intact or damaged
 abbrev pub assigned : ℕ → Bool → Bool → Link → Link
-assigned t ndi good l = sees t good (record l { ue = record l.ue { receiver = after_assigned l.ue.receiver t ndi good } })
+assigned t ndi good l =
+    sees t good
+    (record l { ue = record l.ue { receiver = after_assigned l.ue.receiver t ndi good } })
 
 abbrev pub answer : Fate → ℕ → Bool → Link → Answer
 answer Miss t ndi l = Nothing
@@ -119,7 +130,10 @@ hears_by Nothing block l = l
 
 -- feedback, the record of the air, and what the terminal makes of the block
 abbrev pub aired : ℕ → Bool → Answer → List ℕ → Link → Link
-aired t flipped a block l = hears_by a block (says (records.Air (sent_by Nb) (told_as a) (Some (turned flipped (is_good a)))) (feeds Nb t (turned flipped (is_good a)) l))
+aired t flipped a block l =
+    hears_by a block
+    (says (records.Air (sent_by Nb) (told_as a) (Some (turned flipped (is_good a))))
+    (feeds Nb t (turned flipped (is_good a)) l))
 
 abbrev pub lands : ℕ → Outcome → Bool → List ℕ → Link → Link
 lands t o ndi block l = aired t o.flipped (answer o.fate t ndi l) block (comes o.fate t ndi l)
@@ -143,4 +157,6 @@ down_by (Resend rv) t o ndi l = goes_down (Resend rv) t o ndi (block_at t l.nb) 
 down_by Quiet t o ndi l = l
 
 unfoldable pub downlink : ℕ → ℕ → Outcome → Link → Link
-downlink t grant o l = down_by (visit t (down_order grant) l.nb) t o (built_ndi Nb t grant (down_order grant) l) (builds Nb t grant (down_order grant) l)
+downlink t grant o l =
+    down_by (visit t (down_order grant) l.nb) t o (built_ndi Nb t grant (down_order grant) l)
+    (builds Nb t grant (down_order grant) l)

@@ -1,5 +1,7 @@
--- The steps of a drain: TTIs in which everything arrives and no timer counts down, and timers that expire between them.
-use Rattle.std.specs.Prelude.{ℕ, ◌+◌, ◌-◌, ◌^◌, min, Bool, false, ◌&&◌, if◌then◌else◌, List, [], ◌∷◌, length, Option, Some, None}
+-- The steps of a drain: TTIs in which everything arrives and no timer counts down, and timers that
+-- expire between them.
+use Rattle.std.specs.Prelude.{ℕ, ◌+◌, ◌-◌, ◌^◌, min, Bool, false, ◌&&◌, if◌then◌else◌, List, []}
+use Rattle.std.specs.Prelude.{◌∷◌, length, Option, Some, None}
 use Rattle.std.specs.List.{list_any}
 use Rattle.air_record.specs.declared.record.Record.{Record}
 use Rattle.l2_node.specs.Finding.{has}
@@ -39,14 +41,16 @@ carried l = list_any (is_carried l.kinds) l.out
 -- ---- timers expire where they run, bearer by bearer
 
 unfoldable pub timer_expires : Side → Clock → ℕ → Link → Link
-timer_expires side clock lcid l = if has lcid (end_of side l).bearers then expires side lcid clock l else l
+timer_expires side clock lcid l = if has lcid (end_of side l).bearers
+    then expires side lcid clock l else l
 
 abbrev pub receiver_expires : Side → ℕ → Link → Link
 receiver_expires side lcid l = timer_expires side Prohibit lcid (timer_expires side Reorder lcid l)
 
 abbrev pub all_receivers_expire : Side → List ℕ → Link → Link
 all_receivers_expire side [] l = l
-all_receivers_expire side (lcid ∷ lcids) l = all_receivers_expire side lcids (receiver_expires side lcid l)
+all_receivers_expire side (lcid ∷ lcids) l =
+    all_receivers_expire side lcids (receiver_expires side lcid l)
 
 -- of each bearer t-Reordering, then t-StatusProhibit (TS 36.322 7.3); the base station's first
 unfoldable pub receivers_expire : Link → Link
@@ -54,7 +58,8 @@ receivers_expire l = all_receivers_expire Ue all_lcids (all_receivers_expire Nb 
 
 abbrev pub all_senders_expire : Side → List ℕ → Link → Link
 all_senders_expire side [] l = l
-all_senders_expire side (lcid ∷ lcids) l = all_senders_expire side lcids (timer_expires side Poll lcid l)
+all_senders_expire side (lcid ∷ lcids) l =
+    all_senders_expire side lcids (timer_expires side Poll lcid l)
 
 -- t-PollRetransmit of each bearer (TS 36.322 7.3), in the same order
 unfoldable pub senders_expire : Link → Link

@@ -78,7 +78,8 @@ abbrev pub expires_alone : Side → ℕ → Clock → Link → Link
 expires_alone side lcid clock l = with_end side (expired lcid clock (end_of side l)) l
 
 unfoldable pub expires : Side → ℕ → Clock → Link → Link
-expires side lcid clock l = expires_by (expiring side lcid clock l) side (expires_alone side lcid clock l)
+expires side lcid clock l =
+    expires_by (expiring side lcid clock l) side (expires_alone side lcid clock l)
 
 unfoldable pub forges : Side → List ℕ → Link → Link
 forges side block l = loops (hears side block l)
@@ -93,7 +94,12 @@ unfailed f = record f { failed = replicate 11 false }
 
 -- no sender has failed, no block is seen, and the terminal listens as at first
 abbrev pub begins_life : Link → Link
-begins_life l = record l { down = unfailed l.down; up = unfailed l.up; seen = replicate 8 false; drx = option_map after_reset l.drx }
+begins_life l = record l {
+  down = unfailed l.down;
+  up = unfailed l.up;
+  seen = replicate 8 false;
+  drx = option_map after_reset l.drx;
+}
 
 -- both ends in their next life
 abbrev pub moves : Keys → Link → Link

@@ -10,14 +10,19 @@ use Rattle.pdu_show.specs.declared.kinds.Layout.{Layout}
 use Rattle.test_loop.specs.Items.{Item}
 use Rattle.test_loop.specs.Loops.{State as Looping, fresh as no_loop}
 
--- the flows of a direction, by LCID: the SDUs submitted and delivered, and whether the limit was reached in this life
+-- the flows of a direction, by LCID: the SDUs submitted and delivered, and whether the limit was
+-- reached in this life
 pub record Flows : Type 0 where
   pub submitted : List ℕ
   pub delivered : List ℕ
   pub failed : List Bool
 
 abbrev pub no_flows : Flows
-no_flows = record { submitted = replicate 11 0; delivered = replicate 11 0; failed = replicate 11 false }
+no_flows = record {
+  submitted = replicate 11 0;
+  delivered = replicate 11 0;
+  failed = replicate 11 false;
+}
 
 pub record Link : Type 0 where
   pub nb : End
@@ -26,7 +31,8 @@ pub record Link : Type 0 where
   pub ttis : ℕ
   pub down : Flows
   pub up : Flows
-  -- the test loop at the terminal, and the SDUs that the terminal handed up and that the loop has still to take
+  -- the test loop at the terminal, and the SDUs that the terminal handed up and that the loop has
+  -- still to take
   pub looping : Looping
   pub ups : List Item
   -- when the terminal listens, and for each downlink process whether the terminal saw its block

@@ -21,11 +21,14 @@ loses lcid l = says (records.Of Ue (Drop lcid losts.Loop)) l
 
 abbrev pub returns_by : Option SubmitRefusal → ℕ → List ℕ → Link → Link
 returns_by (Some broken) lcid octets l = loses lcid l
-returns_by None lcid octets l = submits Ue lcid (says (records.Looped lcid octets) (record l { ue = submitted lcid octets l.ue }))
+returns_by None lcid octets l =
+    submits Ue lcid
+    (says (records.Looped lcid octets) (record l { ue = submitted lcid octets l.ue }))
 
 -- an SDU is submitted on the uplink
 abbrev pub returns : ℕ → List ℕ → Link → Link
-returns lcid octets l = if has lcid l.ue.bearers then returns_by (refusal lcid octets l.ue) lcid octets l else loses lcid l
+returns lcid octets l = if has lcid l.ue.bearers
+    then returns_by (refusal lcid octets l.ue) lcid octets l else loses lcid l
 
 abbrev pub returns_all : List Item → Link → Link
 returns_all [] l = l
@@ -39,7 +42,9 @@ kept_by Later lcid l = l
 kept_by Full lcid l = loses lcid l
 
 abbrev pub takes : Item → Link → Link
-takes i l = if is_on l.looping.mode then kept_by (taken_answer l.looping i.octets) i.lcid (record l { looping = after_taken l.looping i }) else l
+takes i l = if is_on l.looping.mode
+    then kept_by (taken_answer l.looping i.octets) i.lcid
+    (record l { looping = after_taken l.looping i }) else l
 
 abbrev pub takes_all : List Item → Link → Link
 takes_all [] l = l

@@ -1,5 +1,6 @@
 -- A TTI (TS 36.321 5.3, 5.4, 5.7).
-use Rattle.std.specs.Prelude.{ℕ, ◌+◌, ◌%◌, Bool, true, false, not, is_some, if◌then◌else◌, Option, Some, None}
+use Rattle.std.specs.Prelude.{ℕ, ◌+◌, ◌%◌, Bool, true, false, not, is_some, if◌then◌else◌, Option}
+use Rattle.std.specs.Prelude.{Some, None}
 use Rattle.air_record.specs.declared.line.Outcome.{Outcome}
 use Rattle.air_record.specs.declared.record.Record.TheVariants as records
 use Rattle.drx.specs.Drx.{State as Listening, is_active}
@@ -39,7 +40,8 @@ abbrev pub grows : Side → Link → Link
 grows side l = with_end side (record (end_of side l) { buckets = grown (end_of side l).buckets }) l
 
 abbrev pub ticks : Side → Link → Link
-ticks side l = with_end side (record (end_of side l) { bearers = (ticked (end_of side l)).bearers }) l
+ticks side l =
+    with_end side (record (end_of side l) { bearers = (ticked (end_of side l)).bearers }) l
 
 abbrev pub times : Side → Link → Link
 times side l = grows side (tells_all side (ticked (end_of side l)).events (ticks side l))
@@ -55,7 +57,9 @@ timed l = pays (keeps_first (times Ue (times Nb (record l { looping = after_tick
 
 unfoldable pub tti_by : Bool → ℕ → ℕ → Outcome → ℕ → Outcome → Link → Link
 tti_by asleep t up_grant up down_grant down l =
-    uplink t up_grant (missed asleep up) (loops (downlink t down_grant (missed asleep down) (timed (tells_sleep asleep l))))
+    uplink t up_grant (missed asleep up)
+    (loops (downlink t down_grant (missed asleep down) (timed (tells_sleep asleep l))))
 
 unfoldable pub tti : ℕ → Outcome → ℕ → Outcome → Link → Link
-tti up_grant up down_grant down l = tti_by (sleeps l.ttis l) l.ttis up_grant up down_grant down (begins l)
+tti up_grant up down_grant down l =
+    tti_by (sleeps l.ttis l) l.ttis up_grant up down_grant down (begins l)

@@ -43,7 +43,10 @@ hears_if false block l = l
 
 -- what came, feedback, the record of the air, and what the base station makes of the block
 abbrev pub aired : ℕ → Bool → Bool → List ℕ → Link → Link
-aired t flipped good block l = hears_if good block (says (records.Air Up (told_as good) (Some (turned flipped good))) (feeds Ue t (turned flipped good) (granted t (Some good) l)))
+aired t flipped good block l =
+    hears_if good block
+    (says (records.Air Up (told_as good) (Some (turned flipped good)))
+    (feeds Ue t (turned flipped good) (granted t (Some good) l)))
 
 -- a new block keeps the terminal awake
 abbrev pub awake : Visit → ℕ → Link → Link
@@ -52,7 +55,8 @@ awake (Resend rv) t l = l
 awake Quiet t l = l
 
 abbrev pub goes_up : Visit → ℕ → Outcome → List ℕ → Link → Link
-goes_up v t o block l = aired t o.flipped (is_intact o.fate) block (sends v Ue t block (awake v t l))
+goes_up v t o block l =
+    aired t o.flipped (is_intact o.fate) block (sends v Ue t block (awake v t l))
 
 abbrev pub up_by : Visit → ℕ → Outcome → Link → Link
 up_by New t o l = goes_up New t o (block_at t l.ue) l
@@ -64,7 +68,9 @@ abbrev pub answers : ℕ → ℕ → Order → Outcome → Link → Link
 answers t grant order o l = up_by (visit t order l.ue) t o (builds Ue t grant order l)
 
 abbrev pub grants : ℕ → ℕ → Outcome → Link → Link
-grants t grant o l = answers t grant (up_order o.fate (grant_ndi l.nb.receiver t)) o (record l { nb = record l.nb { receiver = after_grant l.nb.receiver t } })
+grants t grant o l =
+    answers t grant (up_order o.fate (grant_ndi l.nb.receiver t)) o
+    (record l { nb = record l.nb { receiver = after_grant l.nb.receiver t } })
 
 abbrev pub passed : ℕ → Link → Link
 passed t l = record l { nb = record l.nb { receiver = after_pass l.nb.receiver t } }

@@ -5,7 +5,11 @@ ghost use Rattle.l2_node.specs.Building.{IsEnough, visit, building};
 ghost use Rattle.l2_node.specs.Hearing.{received};
 ghost use Rattle.bearer_types.specs.Sides.{sent_by};
 ghost use Rattle.air_link.specs.Link.{says, end_of, with_end};
-ghost use Rattle.air_link.specs.Downlink.{visits, builds, built_ndi, receives, block_at, shows, sends, hears, feeds, told_as, is_good, saw_new, first_seen, decoded, damaged, sees, assigned, answer, comes, hears_by, aired, lands, unseen, goes_down, down_order, down_by, downlink};
+ghost use Rattle.air_link.specs.Downlink.{visits, builds, built_ndi, receives, block_at, shows};
+ghost use Rattle.air_link.specs.Downlink.{sends, hears, feeds, told_as, is_good, saw_new};
+ghost use Rattle.air_link.specs.Downlink.{first_seen, decoded, damaged, sees, assigned, answer};
+ghost use Rattle.air_link.specs.Downlink.{comes, hears_by, aired, lands, unseen, goes_down};
+ghost use Rattle.air_link.specs.Downlink.{down_order, down_by, downlink};
 ghost use Rattle.air_record.specs.Outcomes.{turned};
 
 use crate::link::Link;
@@ -50,7 +54,8 @@ impl Link {
         outcome: Outcome,
         ndi: bool,
     ) -> Result<(), NoMemory>
-        ensures { OnOk result (self.new ≡ goes_down visit tti outcome ndi (block_at tti self.old.nb) self.old) }
+        ensures { OnOk result
+            (self.new ≡ goes_down visit tti outcome ndi (block_at tti self.old.nb) self.old) }
     {
         let block = block_at(self.take_memory(), tti, &self.nb)?;
         self.unsee(visit, tti);
@@ -141,7 +146,8 @@ impl Link {
 
     // ---- both directions
 
-    // An end visits its process, and tells what its bearers do: what the visit was, and the NDI of the process then.
+    // An end visits its process, and tells what its bearers do: what the visit was, and the NDI of
+    // the process then.
     pub(crate) fn build(
         &mut self,
         side: Side,
@@ -204,7 +210,8 @@ impl Link {
         rv: u8,
         block: &[u8],
     ) -> Result<(), NoMemory>
-        ensures { OnOk result (self.new ≡ says (Record.Block direction (tti % 8) fresh rv block.now) self.old) }
+        ensures { OnOk result
+            (self.new ≡ says (Record.Block direction (tti % 8) fresh rv block.now) self.old) }
     {
         let mut octets = self.take_memory();
         octets.clear();
@@ -230,7 +237,8 @@ impl Link {
     fn receive(&mut self, side: Side, block: &[u8]) -> Result<Events, NoMemory>
         requires { length block.now < 2 ^ 28 }
         ensures link { OnOk result (self.new ≡ receives side block.now self.old) }
-        ensures told { IfOk result (λ events. events ≡ (received (end_of side self.old) block.now).events) }
+        ensures told { IfOk result (λ events. events
+            ≡ (received (end_of side self.old) block.now).events) }
     {
         match side {
             Side::Nb => self.nb.receive(block),

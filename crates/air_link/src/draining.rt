@@ -1,7 +1,10 @@
 // The steps of a drain.
 ghost use Rattle.std.specs.Prelude.{◌≡◌, ◌≤◌, OnOk, option_copied};
 ghost use Rattle.air_link.specs.Link.{end_of};
-ghost use Rattle.air_link.specs.Draining.{drain_tti, is_carried_by, carried, timer_expires, receiver_expires, all_receivers_expire, receivers_expire, all_senders_expire, senders_expire, is_drained, left, count};
+ghost use Rattle.air_link.specs.Draining.{drain_tti, is_carried_by, carried, timer_expires};
+ghost use Rattle.air_link.specs.Draining.{receiver_expires, all_receivers_expire, receivers_expire};
+ghost use Rattle.air_link.specs.Draining.{all_senders_expire, senders_expire, is_drained, left};
+ghost use Rattle.air_link.specs.Draining.{count};
 ghost use Rattle.pdu_show.specs.Carried.{is_acknowledged};
 
 use crate::link::{ALL_LCIDS, Link};
@@ -17,8 +20,8 @@ const INTACT: Outcome = Outcome {
 };
 
 impl Link {
-    /// A TTI of a drain: buckets grow, no timer counts down, the terminal doesn't sleep, and both blocks arrive. The grant of
-    /// both directions is in octets, up to 9422.
+    /// A TTI of a drain: buckets grow, no timer counts down, the terminal doesn't sleep, and both
+    /// blocks arrive. The grant of both directions is in octets, up to 9422.
     #[tactic(auto, unfolding(crate::specs::Draining::drain_tti))]
     pub fn drain_tti(&mut self, grant: u32) -> Result<(), NoMemory>
         requires { grant ≤ GREATEST_GRANT }
@@ -33,7 +36,8 @@ impl Link {
         self.uplink(tti, grant, INTACT)
     }
 
-    /// Whether the records of this line so far hold a data PDU or a STATUS that an acknowledged bearer sends.
+    /// Whether the records of this line so far hold a data PDU or a STATUS that an acknowledged
+    /// bearer sends.
     #[tactic(auto, using(crate::proofs::Carrying::any_at, crate::proofs::Carrying::none_past))]
     pub fn carried(&self) -> bool
         ensures { result ≡ carried self.now }
@@ -46,8 +50,8 @@ impl Link {
         false
     }
 
-    /// Every t-Reordering and t-StatusProhibit (TS 36.322 7.3) that runs expires: those of the base station first, bearers by
-    /// ascending LCID, and of each t-Reordering first.
+    /// Every t-Reordering and t-StatusProhibit (TS 36.322 7.3) that runs expires: those of the base
+    /// station first, bearers by ascending LCID, and of each t-Reordering first.
     #[tactic(auto, unfolding(crate::specs::Draining::receivers_expire))]
     pub fn expire_receivers(&mut self) -> Result<(), NoMemory>
         ensures { OnOk result (self.new ≡ receivers_expire self.old) }

@@ -1,5 +1,5 @@
-//! Both ends over the air: what a TTI, a handover and the other lines of a script do to the base station and to the terminal,
-//! and the records that this leaves.
+//! Both ends over the air: what a TTI, a handover and the other lines of a script do to the base
+//! station and to the terminal, and the records that this leaves.
 //!
 //! Contracts speak of an exact machine, which stands in `specs/`.
 #![tactic(auto)]

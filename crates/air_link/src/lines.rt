@@ -1,11 +1,15 @@
 // What the other lines of a script do to both ends.
-ghost use Rattle.std.specs.Prelude.{◌≡◌, ◌≤◌, ◌<◌, ◌^◌, true, false, length, is_some, None, OnOk, IfOk, IfErr};
+ghost use Rattle.std.specs.Prelude.{◌≡◌, ◌≤◌, ◌<◌, ◌^◌, true, false, length, is_some, None, OnOk};
+ghost use Rattle.std.specs.Prelude.{IfOk, IfErr};
 ghost use Rattle.bearer_pdcp.specs.Submitting.{Answers, StaysOrDies};
 ghost use Rattle.bearer_types.specs.Configs.{IsConfig};
 ghost use Rattle.l2_node.specs.Submitting.{refusal};
 ghost use Rattle.l2_node.specs.Finding.{has};
 ghost use Rattle.air_link.specs.Link.{end_of};
-ghost use Rattle.air_link.specs.Lines.{hands_in, expires_alone, bears, discards, visits, reports, listens, no_place, submits_by, submitting, expires_by, expiring, expires, forges, unfailed, begins_life, moved, moves, hands_over};
+ghost use Rattle.air_link.specs.Lines.{hands_in, expires_alone, bears, discards, visits, reports};
+ghost use Rattle.air_link.specs.Lines.{listens, no_place, submits_by, submitting, expires_by};
+ghost use Rattle.air_link.specs.Lines.{expiring, expires, forges, unfailed, begins_life, moved};
+ghost use Rattle.air_link.specs.Lines.{moves, hands_over};
 ghost use Rattle.l2_node.specs.Moving.{leaving};
 
 use crate::link::Link;
@@ -36,7 +40,8 @@ impl Link {
         self.ue.set_reports(true);
     }
 
-    /// A bearer comes at both ends, by a configuration that its kind may have, on a logical channel that has none.
+    /// A bearer comes at both ends, by a configuration that its kind may have, on a logical channel
+    /// that has none.
     #[tactic(auto, unfolding(crate::specs::Lines::bears))]
     pub fn add(&mut self, config: &BearerConfig, keys: &Keys) -> Result<(), NoMemory>
         requires config { IsConfig config.now }
@@ -86,7 +91,8 @@ impl Link {
         self.drx = Some(Drx::new(config));
     }
 
-    /// Submits an SDU of 1 to 8188 octets to a bearer that is there. One that finds no place leaves a record.
+    /// Submits an SDU of 1 to 8188 octets to a bearer that is there. One that finds no place leaves
+    /// a record.
     #[tactic(auto, unfolding(crate::specs::Lines::submitting))]
     pub fn submit(&mut self, side: Side, lcid: u8, sdu: &[u8]) -> Result<(), NoMemory>
         requires { has lcid (end_of side self.old).bearers ≡ true }
@@ -103,7 +109,8 @@ impl Link {
         }
     }
 
-    /// A timer of a bearer that is there expires; `false` exactly where it doesn't run, and nothing then changes.
+    /// A timer of a bearer that is there expires; `false` exactly where it doesn't run, and nothing
+    /// then changes.
     #[tactic(auto, unfolding(crate::specs::Lines::expires))]
     pub fn expire(&mut self, side: Side, lcid: u8, clock: Clock) -> Result<bool, NoMemory>
         requires { has lcid (end_of side self.old).bearers ≡ true }
@@ -156,7 +163,8 @@ impl Link {
         self.loop_back()
     }
 
-    /// A handover: both ends leave, the base station first, and join under other keys (TS 36.300 10.1.2).
+    /// A handover: both ends leave, the base station first, and join under other keys (TS 36.300
+    /// 10.1.2).
     #[tactic(auto, unfolding(crate::specs::Lines::hands_over))]
     pub fn hand_over(&mut self, keys: &Keys) -> Result<(), NoMemory>
         ensures { OnOk result (self.new ≡ hands_over keys.now self.old) }

@@ -105,7 +105,8 @@ impl Model for Link {
 }
 
 impl Link {
-    /// Both ends before the first line, with 4 visits of a block and no reports. It takes no memory.
+    /// Both ends before the first line, with 4 visits of a block and no reports. It takes no
+    /// memory.
     #[tactic(auto, unfolding(crate::specs::Link::fresh))]
     pub fn new(alloc: Global) -> Link
         ensures { result ≡ fresh }
@@ -142,7 +143,8 @@ impl Link {
         mem::replace(&mut self.out, Records::new(self.alloc))
     }
 
-    /// Goes on with the memory of records that were taken and are let go, where no more have come since.
+    /// Goes on with the memory of records that were taken and are let go, where no more have come
+    /// since.
     pub fn reuse(&mut self, records: Records)
         requires gone { records ≡ [] }
         requires none { self.old.out ≡ [] }

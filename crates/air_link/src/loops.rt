@@ -1,7 +1,8 @@
 // The test loop returns SDUs to the terminal's bearers.
 ghost use Rattle.std.specs.Prelude.{◌≡◌, ◌<◌, OnOk, length, [], All};
 ghost use Rattle.test_loop.specs.Loops.{is_on};
-ghost use Rattle.air_link.specs.Loops.{loses, returns, returns_all, takes, takes_all, kept_by, loops, owed, paid, pays, loop_set};
+ghost use Rattle.air_link.specs.Loops.{loses, returns, returns_all, takes, takes_all, kept_by};
+ghost use Rattle.air_link.specs.Loops.{loops, owed, paid, pays, loop_set};
 
 use crate::link::{Handed, Link};
 use air_record::Record;

@@ -1,6 +1,7 @@
 // What an end tells becomes records.
 ghost use Rattle.std.specs.Prelude.{◌≡◌, OnOk, true, slice_set};
-ghost use Rattle.air_link.specs.Telling.{one_more, submits, delivers, fails, gathers, noted, tells, tells_all};
+ghost use Rattle.air_link.specs.Telling.{one_more, submits, delivers, fails, gathers, noted, tells};
+ghost use Rattle.air_link.specs.Telling.{tells_all};
 
 use crate::link::{Handed, Link};
 use air_record::Record;

@@ -3,7 +3,8 @@ ghost use Rattle.std.specs.Prelude.{◌≡◌, ◌≤◌, ◌%◌, is_some, OnOk
 ghost use Rattle.harq.specs.Sending.{held_of};
 ghost use Rattle.l2_node.specs.Hearing.{ticked};
 ghost use Rattle.air_link.specs.Link.{end_of};
-ghost use Rattle.air_link.specs.Ttis.{begins, sleeps, sleeps_by, tells_sleep, grows, ticks, times, keeps_first, timed, tti_by, tti};
+ghost use Rattle.air_link.specs.Ttis.{begins, sleeps, sleeps_by, tells_sleep, grows, ticks, times};
+ghost use Rattle.air_link.specs.Ttis.{keeps_first, timed, tti_by, tti};
 ghost use Rattle.air_record.specs.Outcomes.{missed};
 
 use crate::link::Link;
@@ -14,8 +15,8 @@ use l2_node::{Attached, Node};
 use l2_types::GREATEST_GRANT;
 
 impl Link {
-    /// A TTI: timers, SDUs that the loop owes, the downlink, SDUs that the loop returns at once, and the uplink. Grants are
-    /// octets, up to 9422.
+    /// A TTI: timers, SDUs that the loop owes, the downlink, SDUs that the loop returns at once,
+    /// and the uplink. Grants are octets, up to 9422.
     #[tactic(auto, unfolding(crate::specs::Ttis::tti, crate::specs::Ttis::tti_by))]
     pub fn tti(
         &mut self,

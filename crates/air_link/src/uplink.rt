@@ -3,7 +3,8 @@ ghost use Rattle.std.specs.Prelude.{◌≡◌, ◌≤◌, ◌<◌, ◌^◌, leng
 ghost use Rattle.harq.specs.Receiving.{grant_ndi, after_grant};
 ghost use Rattle.l2_node.specs.Building.{IsEnough};
 ghost use Rattle.air_link.specs.Downlink.{block_at};
-ghost use Rattle.air_link.specs.Uplink.{up_order, is_intact, told_as, granted, hears_if, aired, awake, goes_up, up_by, answers, grants, passes, uplink};
+ghost use Rattle.air_link.specs.Uplink.{up_order, is_intact, told_as, granted, hears_if, aired};
+ghost use Rattle.air_link.specs.Uplink.{awake, goes_up, up_by, answers, grants, passes, uplink};
 
 use crate::downlink::{block_at, turned};
 use crate::link::Link;
@@ -58,7 +59,8 @@ impl Link {
     }
 
     fn go_up(&mut self, visit: Visit, tti: u64, outcome: Outcome) -> Result<(), NoMemory>
-        ensures { OnOk result (self.new ≡ goes_up visit tti outcome (block_at tti self.old.ue) self.old) }
+        ensures { OnOk result
+            (self.new ≡ goes_up visit tti outcome (block_at tti self.old.ue) self.old) }
     {
         let block = block_at(self.take_memory(), tti, &self.ue)?;
         self.wake(visit, tti);

@@ -13,4 +13,5 @@ no_keys = record { alg = Eea0; user = no_key; rrc = no_key; integrity = no_key }
 
 -- the keys of the next cell: the cipher stays
 abbrev pub next_keys : Key → Key → Key → Keys → Keys
-next_keys user rrc integrity keys = record { alg = keys.alg; user = user; rrc = rrc; integrity = integrity }
+next_keys user rrc integrity keys =
+    record { alg = keys.alg; user = user; rrc = rrc; integrity = integrity }

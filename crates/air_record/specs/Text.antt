@@ -1,6 +1,7 @@
 -- The texts of lines and records (docs/formats/SCRIPT.md, docs/formats/JOURNAL.md): each is a list
 -- of words.
-use Rattle.std.specs.Prelude.{ℕ, ◌/◌, ◌%◌, ◌==◌, Bool, true, false, if◌then◌else◌, List, [], ◌∷◌, ◌++◌, slice_index, map, codes, Option, None, Some}
+use Rattle.std.specs.Prelude.{ℕ, ◌/◌, ◌%◌, ◌==◌, Bool, true, false, if◌then◌else◌, List, [], ◌∷◌}
+use Rattle.std.specs.Prelude.{◌++◌, slice_index, map, codes, Option, None, Some}
 use Rattle.std.specs.List.{flat_map}
 use Rattle.std.specs.Fmt.{decimal}
 use Rattle.hex.specs.Hex.{encode_lower}
@@ -181,7 +182,8 @@ bitmap_text (x ∷ xs) = encode_lower (x ∷ xs)
 
 -- two binary digits
 abbrev pub framing_text : ℕ → List ℕ
-framing_text fi = if fi == 0 then codes "00" else if fi == 1 then codes "01" else if fi == 2 then codes "10" else codes "11"
+framing_text fi = if fi == 0 then codes "00" else if fi == 1 then codes "01" else if fi == 2
+    then codes "10" else codes "11"
 
 -- words with a comma before each
 abbrev pub comma_before : List (List ℕ) → List ℕ
@@ -227,12 +229,18 @@ bearer_words lcid kind (x ∷ xs) = codes "bearer" ∷ decimal lcid ∷ kind_tex
 abbrev pub line_words : Line → List (List ℕ)
 line_words (lines.Harq visits) = codes "harq" ∷ decimal visits ∷ []
 line_words lines.Bsr = codes "bsr" ∷ codes "on" ∷ []
-line_words (lines.Keys keys) = codes "keys" ∷ cipher_text keys.alg ∷ encode_lower keys.user.octets ∷ encode_lower keys.rrc.octets ∷ encode_lower keys.integrity.octets ∷ []
+line_words (lines.Keys keys) = codes "keys" ∷ cipher_text keys.alg ∷ encode_lower keys.user.octets
+    ∷ encode_lower keys.rrc.octets ∷ encode_lower keys.integrity.octets ∷ []
 line_words (lines.Bearer config options) = bearer_words config.channel.lcid config.kind options
-line_words (lines.Submit side lcid octets) = codes "submit" ∷ side_text side ∷ decimal lcid ∷ encode_lower octets ∷ []
-line_words (lines.Tti up_grant up down_grant down) = codes "tti" ∷ decimal up_grant ∷ outcome_text up ∷ decimal down_grant ∷ outcome_text down ∷ []
-line_words (lines.Expire side lcid clock) = codes "expire" ∷ side_text side ∷ decimal lcid ∷ clock_text clock ∷ []
-line_words (lines.Handover user rrc integrity) = codes "handover" ∷ encode_lower user.octets ∷ encode_lower rrc.octets ∷ encode_lower integrity.octets ∷ []
+line_words (lines.Submit side lcid octets) =
+    codes "submit" ∷ side_text side ∷ decimal lcid ∷ encode_lower octets ∷ []
+line_words (lines.Tti up_grant up down_grant down) =
+    codes "tti" ∷ decimal up_grant ∷ outcome_text up ∷ decimal down_grant ∷ outcome_text down ∷ []
+line_words (lines.Expire side lcid clock) =
+    codes "expire" ∷ side_text side ∷ decimal lcid ∷ clock_text clock ∷ []
+line_words (lines.Handover user rrc integrity) =
+    codes "handover" ∷ encode_lower user.octets ∷ encode_lower rrc.octets
+    ∷ encode_lower integrity.octets ∷ []
 line_words lines.LoopOff = codes "loop" ∷ codes "off" ∷ []
 line_words (lines.LoopA size) = codes "loop" ∷ codes "a" ∷ decimal size ∷ []
 line_words (lines.LoopB delay) = codes "loop" ∷ codes "b" ∷ decimal delay ∷ []
@@ -240,37 +248,58 @@ line_words (lines.Drain grant) = codes "drain" ∷ decimal grant ∷ []
 line_words (lines.Forge side octets) = codes "forge" ∷ side_text side ∷ encode_lower octets ∷ []
 line_words lines.End = codes "end" ∷ []
 line_words (lines.Discard lcid ttis) = codes "discard" ∷ decimal lcid ∷ decimal ttis ∷ []
-line_words (lines.Drx config) = codes "drx" ∷ decimal config.on ∷ decimal config.inactivity ∷ decimal config.retransmit ∷ decimal config.cycle ∷ decimal config.offset ∷ []
+line_words (lines.Drx config) = codes "drx" ∷ decimal config.on ∷ decimal config.inactivity
+    ∷ decimal config.retransmit ∷ decimal config.cycle ∷ decimal config.offset ∷ []
 
 -- the words of what happens at one end
 abbrev pub event_words : List ℕ → Event → List (List ℕ)
-event_words node (events.Take lcid count len) = codes "take" ∷ node ∷ decimal lcid ∷ count_text count ∷ decimal len ∷ []
-event_words node (events.Report lcid fms bitmap) = codes "report" ∷ node ∷ decimal lcid ∷ decimal fms ∷ bitmap_text bitmap ∷ []
-event_words node (events.Send lcid how sn) = codes "send" ∷ node ∷ decimal lcid ∷ how_text how ∷ decimal sn ∷ []
+event_words node (events.Take lcid count len) =
+    codes "take" ∷ node ∷ decimal lcid ∷ count_text count ∷ decimal len ∷ []
+event_words node (events.Report lcid fms bitmap) =
+    codes "report" ∷ node ∷ decimal lcid ∷ decimal fms ∷ bitmap_text bitmap ∷ []
+event_words node (events.Send lcid how sn) =
+    codes "send" ∷ node ∷ decimal lcid ∷ how_text how ∷ decimal sn ∷ []
 event_words node (events.Wait lcid why) = codes "wait" ∷ node ∷ decimal lcid ∷ waits_text why ∷ []
-event_words node (events.Start lcid clock) = codes "start" ∷ node ∷ decimal lcid ∷ clock_text clock ∷ []
-event_words node (events.Stop lcid clock) = codes "stop" ∷ node ∷ decimal lcid ∷ clock_text clock ∷ []
-event_words node (events.Expired lcid clock) = codes "expired" ∷ node ∷ decimal lcid ∷ clock_text clock ∷ []
-event_words node (events.Up lcid octets) = codes "up" ∷ node ∷ decimal lcid ∷ encode_lower octets ∷ []
+event_words node (events.Start lcid clock) =
+    codes "start" ∷ node ∷ decimal lcid ∷ clock_text clock ∷ []
+event_words node (events.Stop lcid clock) =
+    codes "stop" ∷ node ∷ decimal lcid ∷ clock_text clock ∷ []
+event_words node (events.Expired lcid clock) =
+    codes "expired" ∷ node ∷ decimal lcid ∷ clock_text clock ∷ []
+event_words node (events.Up lcid octets) =
+    codes "up" ∷ node ∷ decimal lcid ∷ encode_lower octets ∷ []
 event_words node (events.Fail lcid sn) = codes "fail" ∷ node ∷ decimal lcid ∷ decimal sn ∷ []
 event_words node (events.Drop lcid why) = codes "drop" ∷ node ∷ decimal lcid ∷ lost_text why ∷ []
-event_words node (events.Integrity lcid found wanted) = codes "integrity" ∷ node ∷ decimal lcid ∷ encode_lower found ∷ encode_lower wanted ∷ []
-event_words node (events.BadMac fault) = codes "bad" ∷ node ∷ codes "mac" ∷ decimal fault.at ∷ decimal (mac_number fault.why) ∷ []
-event_words node (events.BadRlc lcid fault) = codes "bad" ∷ node ∷ codes "rlc" ∷ decimal lcid ∷ decimal fault.at ∷ decimal (rlc_number fault.why) ∷ []
-event_words node (events.BadPdcp lcid fault) = codes "bad" ∷ node ∷ codes "pdcp" ∷ decimal lcid ∷ decimal fault.at ∷ decimal (pdcp_number fault.why) ∷ []
-event_words node (events.Discard lcid len) = codes "discard" ∷ node ∷ decimal lcid ∷ decimal len ∷ []
+event_words node (events.Integrity lcid found wanted) =
+    codes "integrity" ∷ node ∷ decimal lcid ∷ encode_lower found ∷ encode_lower wanted ∷ []
+event_words node (events.BadMac fault) =
+    codes "bad" ∷ node ∷ codes "mac" ∷ decimal fault.at ∷ decimal (mac_number fault.why) ∷ []
+event_words node (events.BadRlc lcid fault) =
+    codes "bad" ∷ node ∷ codes "rlc" ∷ decimal lcid ∷ decimal fault.at
+    ∷ decimal (rlc_number fault.why) ∷ []
+event_words node (events.BadPdcp lcid fault) =
+    codes "bad" ∷ node ∷ codes "pdcp" ∷ decimal lcid ∷ decimal fault.at
+    ∷ decimal (pdcp_number fault.why) ∷ []
+event_words node (events.Discard lcid len) =
+    codes "discard" ∷ node ∷ decimal lcid ∷ decimal len ∷ []
 
 abbrev pub bsr_words : Bsr → List (List ℕ)
-bsr_words (bsrs.Truncated group level) = codes "mac" ∷ codes "bsr" ∷ codes "truncated" ∷ decimal group ∷ decimal level ∷ []
-bsr_words (bsrs.Short group level) = codes "mac" ∷ codes "bsr" ∷ codes "short" ∷ decimal group ∷ decimal level ∷ []
-bsr_words (bsrs.Long levels) = codes "mac" ∷ codes "bsr" ∷ codes "long" ∷ decimal (slice_index levels 0) ∷ decimal (slice_index levels 1) ∷ decimal (slice_index levels 2) ∷ decimal (slice_index levels 3) ∷ []
+bsr_words (bsrs.Truncated group level) =
+    codes "mac" ∷ codes "bsr" ∷ codes "truncated" ∷ decimal group ∷ decimal level ∷ []
+bsr_words (bsrs.Short group level) =
+    codes "mac" ∷ codes "bsr" ∷ codes "short" ∷ decimal group ∷ decimal level ∷ []
+bsr_words (bsrs.Long levels) = codes "mac" ∷ codes "bsr" ∷ codes "long"
+    ∷ decimal (slice_index levels 0) ∷ decimal (slice_index levels 1)
+    ∷ decimal (slice_index levels 2) ∷ decimal (slice_index levels 3) ∷ []
 
 abbrev pub control_words : Control → List (List ℕ)
-control_words (controls.Contention identity) = codes "mac" ∷ codes "contention" ∷ encode_lower identity ∷ []
+control_words (controls.Contention identity) =
+    codes "mac" ∷ codes "contention" ∷ encode_lower identity ∷ []
 control_words (controls.Advance value) = codes "mac" ∷ codes "ta" ∷ decimal value ∷ []
 control_words controls.Drx = codes "mac" ∷ codes "drx" ∷ []
 control_words (controls.Phr level) = codes "mac" ∷ codes "phr" ∷ decimal level ∷ []
-control_words (controls.Crnti number) = codes "mac" ∷ codes "crnti" ∷ encode_lower (number / 256 ∷ number % 256 ∷ []) ∷ []
+control_words (controls.Crnti number) =
+    codes "mac" ∷ codes "crnti" ∷ encode_lower (number / 256 ∷ number % 256 ∷ []) ∷ []
 control_words (controls.Report report) = bsr_words report
 
 -- the words of a record
@@ -278,34 +307,52 @@ abbrev pub record_words : Record → List (List ℕ)
 record_words (records.Line number line) = codes "line" ∷ decimal number ∷ line_words line
 record_words (records.Tti tti) = codes "tti" ∷ decimal tti ∷ []
 record_words (records.Of side event) = event_words (side_text side) event
-record_words (records.Block direction process fresh rv octets) = codes "block" ∷ direction_text direction ∷ decimal process ∷ fresh_text fresh ∷ decimal rv ∷ encode_lower octets ∷ []
-record_words (records.Air direction what heard) = codes "air" ∷ direction_text direction ∷ arrived_text what ∷ heard_text heard ∷ []
-record_words (records.Refused side lcid why) = codes "refused" ∷ side_text side ∷ decimal lcid ∷ place_text why ∷ []
+record_words (records.Block direction process fresh rv octets) =
+    codes "block" ∷ direction_text direction ∷ decimal process ∷ fresh_text fresh ∷ decimal rv
+    ∷ encode_lower octets ∷ []
+record_words (records.Air direction what heard) =
+    codes "air" ∷ direction_text direction ∷ arrived_text what ∷ heard_text heard ∷ []
+record_words (records.Refused side lcid why) =
+    codes "refused" ∷ side_text side ∷ decimal lcid ∷ place_text why ∷ []
 record_words (records.Looped lcid octets) = codes "loop" ∷ decimal lcid ∷ encode_lower octets ∷ []
 record_words (records.Drained rounds) = codes "drained" ∷ decimal rounds ∷ []
 record_words (records.Spent rounds) = codes "spent" ∷ decimal rounds ∷ []
-record_words (records.Sum direction lcid submitted delivered state) = codes "sum" ∷ direction_text direction ∷ decimal lcid ∷ decimal submitted ∷ decimal delivered ∷ state_text state ∷ []
+record_words (records.Sum direction lcid submitted delivered state) =
+    codes "sum" ∷ direction_text direction ∷ decimal lcid ∷ decimal submitted ∷ decimal delivered
+    ∷ state_text state ∷ []
 record_words records.MacFront = codes "mac" ∷ codes "front" ∷ []
 record_words (records.MacSdu lcid len) = codes "mac" ∷ codes "sdu" ∷ decimal lcid ∷ decimal len ∷ []
 record_words (records.MacPad octets) = codes "mac" ∷ codes "pad" ∷ decimal octets ∷ []
 record_words (records.MacControl element) = control_words element
 record_words (records.RlcTm len) = codes "rlc" ∷ codes "tm" ∷ decimal len ∷ []
-record_words (records.RlcUm sn fi lens) = codes "rlc" ∷ codes "um" ∷ decimal sn ∷ framing_text fi ∷ lens_text lens ∷ []
-record_words (records.RlcAm sn poll fi lens) = codes "rlc" ∷ codes "am" ∷ decimal sn ∷ bit_text poll ∷ framing_text fi ∷ lens_text lens ∷ []
-record_words (records.RlcSeg sn poll fi last so lens) = codes "rlc" ∷ codes "seg" ∷ decimal sn ∷ bit_text poll ∷ framing_text fi ∷ bit_text last ∷ decimal so ∷ lens_text lens ∷ []
-record_words (records.RlcStatus ack nacks) = codes "rlc" ∷ codes "status" ∷ decimal ack ∷ nacks_text nacks ∷ []
+record_words (records.RlcUm sn fi lens) =
+    codes "rlc" ∷ codes "um" ∷ decimal sn ∷ framing_text fi ∷ lens_text lens ∷ []
+record_words (records.RlcAm sn poll fi lens) =
+    codes "rlc" ∷ codes "am" ∷ decimal sn ∷ bit_text poll ∷ framing_text fi ∷ lens_text lens ∷ []
+record_words (records.RlcSeg sn poll fi last so lens) =
+    codes "rlc" ∷ codes "seg" ∷ decimal sn ∷ bit_text poll ∷ framing_text fi ∷ bit_text last
+    ∷ decimal so ∷ lens_text lens ∷ []
+record_words (records.RlcStatus ack nacks) =
+    codes "rlc" ∷ codes "status" ∷ decimal ack ∷ nacks_text nacks ∷ []
 record_words (records.PdcpData sn len) = codes "pdcp" ∷ codes "data" ∷ decimal sn ∷ decimal len ∷ []
-record_words (records.PdcpSrb sn len tag) = codes "pdcp" ∷ codes "srb" ∷ decimal sn ∷ decimal len ∷ encode_lower tag ∷ []
-record_words (records.PdcpReport fms bitmap) = codes "pdcp" ∷ codes "report" ∷ decimal fms ∷ bitmap_text bitmap ∷ []
-record_words (records.Shown number direction len) = codes "record" ∷ decimal number ∷ direction_text direction ∷ decimal len ∷ []
-record_words (records.BadMac fault) = codes "bad" ∷ codes "mac" ∷ decimal fault.at ∷ decimal (mac_number fault.why) ∷ []
-record_words (records.BadRlc fault) = codes "bad" ∷ codes "rlc" ∷ decimal fault.at ∷ decimal (rlc_number fault.why) ∷ []
-record_words (records.BadPdcp fault) = codes "bad" ∷ codes "pdcp" ∷ decimal fault.at ∷ decimal (pdcp_number fault.why) ∷ []
+record_words (records.PdcpSrb sn len tag) =
+    codes "pdcp" ∷ codes "srb" ∷ decimal sn ∷ decimal len ∷ encode_lower tag ∷ []
+record_words (records.PdcpReport fms bitmap) =
+    codes "pdcp" ∷ codes "report" ∷ decimal fms ∷ bitmap_text bitmap ∷ []
+record_words (records.Shown number direction len) =
+    codes "record" ∷ decimal number ∷ direction_text direction ∷ decimal len ∷ []
+record_words (records.BadMac fault) =
+    codes "bad" ∷ codes "mac" ∷ decimal fault.at ∷ decimal (mac_number fault.why) ∷ []
+record_words (records.BadRlc fault) =
+    codes "bad" ∷ codes "rlc" ∷ decimal fault.at ∷ decimal (rlc_number fault.why) ∷ []
+record_words (records.BadPdcp fault) =
+    codes "bad" ∷ codes "pdcp" ∷ decimal fault.at ∷ decimal (pdcp_number fault.why) ∷ []
 record_words records.Sleep = codes "sleep" ∷ []
 
 -- the text of the record of an accepted line
 abbrev pub accepted_text : ℕ → Line → List ℕ
-accepted_text number line = codes "line" ++ (32 ∷ (decimal number ++ (32 ∷ worded (line_words line))))
+accepted_text number line =
+    codes "line" ++ (32 ∷ (decimal number ++ (32 ∷ worded (line_words line))))
 
 -- the text of a record, with its line feed
 abbrev pub text_of : Record → List ℕ

@@ -1,5 +1,6 @@
 ghost use Rattle.std.specs.Prelude.{◌≡◌, ◌++◌, ◌∷◌, [], ℕ, List, OnOk, map, codes};
-ghost use Rattle.air_record.specs.Text.{worded, event_words, side_text, count_text, bitmap_text, how_text, mac_number};
+ghost use Rattle.air_record.specs.Text.{worded, event_words, side_text, count_text, bitmap_text};
+ghost use Rattle.air_record.specs.Text.{how_text, mac_number};
 ghost use Rattle.hex.specs.Hex.{encode_lower};
 ghost use Rattle.std.specs.Fmt.{decimal};
 
@@ -19,7 +20,8 @@ fn append_take(
     count: Option<u32>,
     len: u32,
 ) -> Result<(), NoMemory>
-    ensures { OnOk result (text.new ≡ text.old ++ worded (event_words (side_text side) (Event.Take lcid count len))) }
+    ensures { OnOk result (text.new ≡ text.old
+        ++ worded (event_words (side_text side) (Event.Take lcid count len))) }
 {
     append_words(
         text,
@@ -34,7 +36,8 @@ fn append_take(
 }
 
 fn append_send(text: &mut Bytes, side: Side, lcid: u8, how: How, sn: u32) -> Result<(), NoMemory>
-    ensures { OnOk result (text.new ≡ text.old ++ worded (event_words (side_text side) (Event.Send lcid how sn))) }
+    ensures { OnOk result (text.new ≡ text.old
+        ++ worded (event_words (side_text side) (Event.Send lcid how sn))) }
 {
     append_words(
         text,
@@ -49,7 +52,8 @@ fn append_send(text: &mut Bytes, side: Side, lcid: u8, how: How, sn: u32) -> Res
 }
 
 fn append_up(text: &mut Bytes, side: Side, lcid: u8, octets: &[u8]) -> Result<(), NoMemory>
-    ensures { OnOk result (text.new ≡ text.old ++ worded (event_words (side_text side) (Event.Up lcid octets.now))) }
+    ensures { OnOk result (text.new ≡ text.old
+        ++ worded (event_words (side_text side) (Event.Up lcid octets.now))) }
 {
     append_words(
         text,
@@ -69,7 +73,8 @@ fn append_report(
     fms: u32,
     bitmap: &[u8],
 ) -> Result<(), NoMemory>
-    ensures { OnOk result (text.new ≡ text.old ++ worded (event_words (side_text side) (Event.Report lcid fms bitmap.now))) }
+    ensures { OnOk result (text.new ≡ text.old
+        ++ worded (event_words (side_text side) (Event.Report lcid fms bitmap.now))) }
 {
     append_words(
         text,
@@ -90,7 +95,8 @@ fn append_integrity<'a>(
     found: &'a [u8],
     wanted: &'a [u8],
 ) -> Result<(), NoMemory>
-    ensures { OnOk result (text.new ≡ text.old ++ worded (event_words (side_text side) (Event.Integrity lcid found.now wanted.now))) }
+    ensures { OnOk result (text.new ≡ text.old
+        ++ worded (event_words (side_text side) (Event.Integrity lcid found.now wanted.now))) }
 {
     append_words(
         text,
@@ -105,7 +111,8 @@ fn append_integrity<'a>(
 }
 
 fn append_bad_block(text: &mut Bytes, side: Side, fault: &MacRefusal) -> Result<(), NoMemory>
-    ensures { OnOk result (text.new ≡ text.old ++ worded (event_words (side_text side) (Event.BadMac fault.now))) }
+    ensures { OnOk result (text.new ≡ text.old
+        ++ worded (event_words (side_text side) (Event.BadMac fault.now))) }
 {
     append_words(
         text,
@@ -128,7 +135,9 @@ fn append_bad_pdu(
     at: u32,
     why: u64,
 ) -> Result<(), NoMemory>
-    ensures { OnOk result (text.new ≡ text.old ++ worded (codes "bad" ∷ side_text side ∷ layer.now ∷ decimal lcid ∷ decimal at ∷ decimal why ∷ [])) }
+    ensures { OnOk result (text.new ≡ text.old
+        ++ worded (codes "bad" ∷ side_text side ∷ layer.now ∷ decimal lcid ∷ decimal at
+        ∷ decimal why ∷ [])) }
 {
     append_words(
         text,
@@ -151,7 +160,8 @@ fn append_named(
     lcid: u8,
     which: &'static str,
 ) -> Result<(), NoMemory>
-    ensures { OnOk result (text.new ≡ text.old ++ worded (what.now ∷ side_text side ∷ decimal lcid ∷ which.now ∷ [])) }
+    ensures { OnOk result (text.new ≡ text.old
+        ++ worded (what.now ∷ side_text side ∷ decimal lcid ∷ which.now ∷ [])) }
 {
     append_words(
         text,
@@ -172,7 +182,8 @@ fn append_numbered(
     lcid: u8,
     which: u32,
 ) -> Result<(), NoMemory>
-    ensures { OnOk result (text.new ≡ text.old ++ worded (what.now ∷ side_text side ∷ decimal lcid ∷ decimal which ∷ [])) }
+    ensures { OnOk result (text.new ≡ text.old
+        ++ worded (what.now ∷ side_text side ∷ decimal lcid ∷ decimal which ∷ [])) }
 {
     append_words(
         text,

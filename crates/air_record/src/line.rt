@@ -67,7 +67,8 @@ pub enum Line {
     },
     /// The terminal returns nothing.
     LoopOff,
-    /// Test loop mode A (TS 36.509): SDUs come back cut or repeated to the size, 0 to 8188; as they are at 0.
+    /// Test loop mode A (TS 36.509): SDUs come back cut or repeated to the size, 0 to 8188; as they
+    /// are at 0.
     LoopA {
         size: u32,
     },

@@ -27,7 +27,8 @@ fn append_keys(text: &mut Bytes, keys: &Keys) -> Result<(), NoMemory>
 }
 
 fn append_bearer(text: &mut Bytes, config: &BearerConfig, options: &[u8]) -> Result<(), NoMemory>
-    ensures { OnOk result (text.new ≡ text.old ++ worded (bearer_words config.now.channel.lcid config.now.kind options.now)) }
+    ensures { OnOk result (text.new ≡ text.old
+        ++ worded (bearer_words config.now.channel.lcid config.now.kind options.now)) }
 {
     let lcid = config.channel.lcid;
     let kind = kind_word(config.kind);
@@ -49,7 +50,8 @@ fn append_bearer(text: &mut Bytes, config: &BearerConfig, options: &[u8]) -> Res
 }
 
 fn append_submit(text: &mut Bytes, side: Side, lcid: u8, octets: &[u8]) -> Result<(), NoMemory>
-    ensures { OnOk result (text.new ≡ text.old ++ worded (line_words (Line.Submit side lcid octets.now))) }
+    ensures { OnOk result (text.new ≡ text.old
+        ++ worded (line_words (Line.Submit side lcid octets.now))) }
 {
     append_words(
         text,
@@ -69,7 +71,8 @@ fn append_tti(
     down_grant: u32,
     down: Outcome,
 ) -> Result<(), NoMemory>
-    ensures { OnOk result (text.new ≡ text.old ++ worded (line_words (Line.Tti up_grant up down_grant down))) }
+    ensures { OnOk result (text.new ≡ text.old
+        ++ worded (line_words (Line.Tti up_grant up down_grant down))) }
 {
     append_words(
         text,
@@ -103,7 +106,8 @@ fn append_handover<'a>(
     rrc: &'a Key,
     integrity: &'a Key,
 ) -> Result<(), NoMemory>
-    ensures { OnOk result (text.new ≡ text.old ++ worded (line_words (Line.Handover user.now rrc.now integrity.now))) }
+    ensures { OnOk result (text.new ≡ text.old
+        ++ worded (line_words (Line.Handover user.now rrc.now integrity.now))) }
 {
     append_words(
         text,
@@ -117,7 +121,8 @@ fn append_handover<'a>(
 }
 
 fn append_loop(text: &mut Bytes, mode: &'static str, with: u32) -> Result<(), NoMemory>
-    ensures { OnOk result (text.new ≡ text.old ++ worded (codes "loop" ∷ mode.now ∷ decimal with ∷ [])) }
+    ensures { OnOk result (text.new ≡ text.old
+        ++ worded (codes "loop" ∷ mode.now ∷ decimal with ∷ [])) }
 {
     append_words(
         text,

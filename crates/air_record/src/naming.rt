@@ -1,5 +1,9 @@
 ghost use Rattle.std.specs.Prelude.{◌≡◌};
-ghost use Rattle.air_record.specs.Text.{side_text, kind_text, clock_text, cipher_text, how_text, waits_text, direction_text, arrived_text, place_text, state_text, fate_text, outcome_text, heard_text, fresh_text, lost_text, bit_text, framing_text, mac_number, rlc_number, pdcp_number};
+ghost use Rattle.air_record.specs.Text.{side_text, kind_text, clock_text, cipher_text, how_text};
+ghost use Rattle.air_record.specs.Text.{waits_text, direction_text, arrived_text, place_text};
+ghost use Rattle.air_record.specs.Text.{state_text, fate_text, outcome_text, heard_text};
+ghost use Rattle.air_record.specs.Text.{fresh_text, lost_text, bit_text, framing_text, mac_number};
+ghost use Rattle.air_record.specs.Text.{rlc_number, pdcp_number};
 
 use crate::line::{Fate, Outcome};
 use crate::record::{Arrived, NoPlace, State};

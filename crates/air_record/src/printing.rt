@@ -1,5 +1,6 @@
 ghost use Rattle.std.specs.Prelude.{◌≡◌, ◌++◌, ◌∷◌, [], ℕ, List, IfOk, OnOk, map, codes};
-ghost use Rattle.air_record.specs.Text.{worded, event_words, bsr_words, control_words, record_words, side_text, accepted_text, text_of};
+ghost use Rattle.air_record.specs.Text.{worded, event_words, bsr_words, control_words};
+ghost use Rattle.air_record.specs.Text.{record_words, side_text, accepted_text, text_of};
 ghost use Rattle.hex.specs.Hex.{encode_lower};
 ghost use Rattle.std.specs.Fmt.{decimal};
 
@@ -40,7 +41,8 @@ fn append_block(
     rv: u8,
     octets: &[u8],
 ) -> Result<(), NoMemory>
-    ensures { OnOk result (text.new ≡ text.old ++ worded (record_words (Record.Block direction process fresh rv octets.now))) }
+    ensures { OnOk result (text.new ≡ text.old
+        ++ worded (record_words (Record.Block direction process fresh rv octets.now))) }
 {
     append_words(
         text,
@@ -61,7 +63,8 @@ fn append_air(
     what: Arrived,
     heard: Option<bool>,
 ) -> Result<(), NoMemory>
-    ensures { OnOk result (text.new ≡ text.old ++ worded (record_words (Record.Air direction what heard))) }
+    ensures { OnOk result (text.new ≡ text.old
+        ++ worded (record_words (Record.Air direction what heard))) }
 {
     append_words(
         text,
@@ -75,7 +78,8 @@ fn append_air(
 }
 
 fn append_refused(text: &mut Bytes, side: Side, lcid: u8, why: NoPlace) -> Result<(), NoMemory>
-    ensures { OnOk result (text.new ≡ text.old ++ worded (record_words (Record.Refused side lcid why))) }
+    ensures { OnOk result (text.new ≡ text.old
+        ++ worded (record_words (Record.Refused side lcid why))) }
 {
     append_words(
         text,
@@ -89,7 +93,8 @@ fn append_refused(text: &mut Bytes, side: Side, lcid: u8, why: NoPlace) -> Resul
 }
 
 fn append_looped(text: &mut Bytes, lcid: u8, octets: &[u8]) -> Result<(), NoMemory>
-    ensures { OnOk result (text.new ≡ text.old ++ worded (record_words (Record.Looped lcid octets.now))) }
+    ensures { OnOk result (text.new ≡ text.old
+        ++ worded (record_words (Record.Looped lcid octets.now))) }
 {
     append_words(text, &[Word::Plain("loop"), octet(lcid), Word::Hex(octets)])
 }
@@ -102,7 +107,8 @@ fn append_sum(
     delivered: u64,
     state: State,
 ) -> Result<(), NoMemory>
-    ensures { OnOk result (text.new ≡ text.old ++ worded (record_words (Record.Sum direction lcid submitted delivered state))) }
+    ensures { OnOk result (text.new ≡ text.old
+        ++ worded (record_words (Record.Sum direction lcid submitted delivered state))) }
 {
     append_words(
         text,
@@ -119,7 +125,8 @@ fn append_sum(
 
 /// Adds the text of a record, which ends with a line feed, to a text.
 ///
-/// Each kind of record has a function of few locals, since a function pays for all its locals at each call.
+/// Each kind of record has a function of few locals, since a function pays for all its locals at
+/// each call.
 pub fn append_record(text: &mut Bytes, one: &Record) -> Result<(), NoMemory>
     ensures { OnOk result (text.new ≡ text.old ++ text_of one.now) }
 {
@@ -184,7 +191,8 @@ pub fn append_record(text: &mut Bytes, one: &Record) -> Result<(), NoMemory>
     }
 }
 
-/// Room for the records that mostly follow that of a line, so that their text seldom has to be moved as it grows.
+/// Room for the records that mostly follow that of a line, so that their text seldom has to be
+/// moved as it grows.
 const ROOM: usize = 16_384;
 
 /// The text of the record of an accepted line, with room for the records that follow.

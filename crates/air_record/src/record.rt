@@ -46,7 +46,8 @@ pub enum State {
 
 /// A record: one line of a journal, or of what is shown of a block.
 ///
-/// Lengths are in octets, `sn` and `fms` are as the PDU has them, and `fi` is below 4 (TS 36.322 6.2.2.6).
+/// Lengths are in octets, `sn` and `fms` are as the PDU has them, and `fi` is below 4 (TS 36.322
+/// 6.2.2.6).
 #[derive(Debug, Drop)]
 pub enum Record {
     /// A line was accepted.
@@ -65,7 +66,8 @@ pub enum Record {
         side: Side,
         event: Event,
     },
-    /// A block is sent by a HARQ process, 0 to 7: a new one where `fresh`, with its redundancy version, 0 to 3.
+    /// A block is sent by a HARQ process, 0 to 7: a new one where `fresh`, with its redundancy
+    /// version, 0 to 3.
     Block {
         direction: Direction,
         process: u32,
@@ -73,7 +75,8 @@ pub enum Record {
         rv: u8,
         octets: Bytes,
     },
-    /// What arrived of a block, and the feedback as its sender reads it: `None` where none is awaited.
+    /// What arrived of a block, and the feedback as its sender reads it: `None` where none is
+    /// awaited.
     Air {
         direction: Direction,
         what: Arrived,

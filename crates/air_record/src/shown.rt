@@ -17,7 +17,8 @@ pub fn append_value(
     what: &'static str,
     value: u32,
 ) -> Result<(), NoMemory>
-    ensures { OnOk result (text.new ≡ text.old ++ worded (layer.now ∷ what.now ∷ decimal value ∷ [])) }
+    ensures { OnOk result (text.new ≡ text.old
+        ++ worded (layer.now ∷ what.now ∷ decimal value ∷ [])) }
 {
     append_words(
         text,
@@ -33,7 +34,8 @@ pub fn append_sized(
     which: u32,
     len: u32,
 ) -> Result<(), NoMemory>
-    ensures { OnOk result (text.new ≡ text.old ++ worded (layer.now ∷ what.now ∷ decimal which ∷ decimal len ∷ [])) }
+    ensures { OnOk result (text.new ≡ text.old
+        ++ worded (layer.now ∷ what.now ∷ decimal which ∷ decimal len ∷ [])) }
 {
     append_words(
         text,
@@ -47,7 +49,8 @@ pub fn append_sized(
 }
 
 fn append_group(text: &mut Bytes, what: &'static str, group: u8, level: u8) -> Result<(), NoMemory>
-    ensures { OnOk result (text.new ≡ text.old ++ worded (codes "mac" ∷ codes "bsr" ∷ what.now ∷ decimal group ∷ decimal level ∷ [])) }
+    ensures { OnOk result (text.new ≡ text.old
+        ++ worded (codes "mac" ∷ codes "bsr" ∷ what.now ∷ decimal group ∷ decimal level ∷ [])) }
 {
     append_words(
         text,
@@ -90,7 +93,8 @@ fn append_buffers(text: &mut Bytes, report: &Bsr) -> Result<(), NoMemory>
 }
 
 fn append_identity(text: &mut Bytes, what: &'static str, identity: &[u8]) -> Result<(), NoMemory>
-    ensures { OnOk result (text.new ≡ text.old ++ worded (codes "mac" ∷ what.now ∷ encode_lower identity.now ∷ [])) }
+    ensures { OnOk result (text.new ≡ text.old
+        ++ worded (codes "mac" ∷ what.now ∷ encode_lower identity.now ∷ [])) }
 {
     append_words(
         text,
@@ -117,7 +121,8 @@ pub fn append_control(text: &mut Bytes, element: &Control) -> Result<(), NoMemor
 
 /// A UMD PDU.
 pub fn append_umd(text: &mut Bytes, sn: u32, fi: u8, lens: &Lens) -> Result<(), NoMemory>
-    ensures { OnOk result (text.new ≡ text.old ++ worded (record_words (Record.RlcUm sn fi lens.now))) }
+    ensures { OnOk result (text.new ≡ text.old
+        ++ worded (record_words (Record.RlcUm sn fi lens.now))) }
 {
     append_words(
         text,
@@ -139,7 +144,8 @@ pub fn append_amd(
     fi: u8,
     lens: &Lens,
 ) -> Result<(), NoMemory>
-    ensures { OnOk result (text.new ≡ text.old ++ worded (record_words (Record.RlcAm sn poll fi lens.now))) }
+    ensures { OnOk result (text.new ≡ text.old
+        ++ worded (record_words (Record.RlcAm sn poll fi lens.now))) }
 {
     append_words(
         text,
@@ -164,7 +170,8 @@ pub fn append_segment(
     so: u32,
     lens: &Lens,
 ) -> Result<(), NoMemory>
-    ensures { OnOk result (text.new ≡ text.old ++ worded (record_words (Record.RlcSeg sn poll fi last so lens.now))) }
+    ensures { OnOk result (text.new ≡ text.old
+        ++ worded (record_words (Record.RlcSeg sn poll fi last so lens.now))) }
 {
     append_words(
         text,
@@ -183,7 +190,8 @@ pub fn append_segment(
 
 /// A STATUS.
 pub fn append_status(text: &mut Bytes, ack: u32, nacks: &Nacks) -> Result<(), NoMemory>
-    ensures { OnOk result (text.new ≡ text.old ++ worded (record_words (Record.RlcStatus ack nacks.now))) }
+    ensures { OnOk result (text.new ≡ text.old
+        ++ worded (record_words (Record.RlcStatus ack nacks.now))) }
 {
     append_words(
         text,
@@ -198,7 +206,8 @@ pub fn append_status(text: &mut Bytes, ack: u32, nacks: &Nacks) -> Result<(), No
 
 /// A PDCP PDU of a signalling bearer.
 pub fn append_signalling(text: &mut Bytes, sn: u32, len: u32, tag: &[u8]) -> Result<(), NoMemory>
-    ensures { OnOk result (text.new ≡ text.old ++ worded (record_words (Record.PdcpSrb sn len tag.now))) }
+    ensures { OnOk result (text.new ≡ text.old
+        ++ worded (record_words (Record.PdcpSrb sn len tag.now))) }
 {
     append_words(
         text,
@@ -214,7 +223,8 @@ pub fn append_signalling(text: &mut Bytes, sn: u32, len: u32, tag: &[u8]) -> Res
 
 /// A PDCP status report.
 pub fn append_report(text: &mut Bytes, fms: u32, bitmap: &[u8]) -> Result<(), NoMemory>
-    ensures { OnOk result (text.new ≡ text.old ++ worded (record_words (Record.PdcpReport fms bitmap.now))) }
+    ensures { OnOk result (text.new ≡ text.old
+        ++ worded (record_words (Record.PdcpReport fms bitmap.now))) }
 {
     append_words(
         text,
@@ -234,7 +244,8 @@ pub fn append_shown(
     direction: Direction,
     len: u32,
 ) -> Result<(), NoMemory>
-    ensures { OnOk result (text.new ≡ text.old ++ worded (record_words (Record.Shown place direction len))) }
+    ensures { OnOk result (text.new ≡ text.old
+        ++ worded (record_words (Record.Shown place direction len))) }
 {
     append_words(
         text,
@@ -249,7 +260,8 @@ pub fn append_shown(
 
 /// A shown PDU that can't be read: at which octet, and why by its number.
 pub fn append_bad(text: &mut Bytes, layer: &'static str, at: u32, why: u64) -> Result<(), NoMemory>
-    ensures { OnOk result (text.new ≡ text.old ++ worded (codes "bad" ∷ layer.now ∷ decimal at ∷ decimal why ∷ [])) }
+    ensures { OnOk result (text.new ≡ text.old
+        ++ worded (codes "bad" ∷ layer.now ∷ decimal at ∷ decimal why ∷ [])) }
 {
     append_words(
         text,

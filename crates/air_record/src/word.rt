@@ -1,6 +1,8 @@
-ghost use Rattle.std.specs.Prelude.{◌≡◌, ◌<◌, ◌+◌, ◌++◌, ◌∷◌, [], OnOk, map, drop, length, if◌then◌else◌};
+ghost use Rattle.std.specs.Prelude.{◌≡◌, ◌<◌, ◌+◌, ◌++◌, ◌∷◌, [], OnOk, map, drop, length};
+ghost use Rattle.std.specs.Prelude.{if◌then◌else◌};
 ghost use Rattle.arrayvec.specs.ArrayVec.{array_vec_len};
-ghost use Rattle.air_record.specs.Text.{worded, ended, word_text, lens_text, nacks_text, nack_text, comma_before, count_text, bitmap_text};
+ghost use Rattle.air_record.specs.Text.{worded, ended, word_text, lens_text, nacks_text, nack_text};
+ghost use Rattle.air_record.specs.Text.{comma_before, count_text, bitmap_text};
 ghost use Rattle.std.specs.Fmt.{decimal};
 
 use crate::record::Lens;
@@ -159,7 +161,8 @@ fn flush(text: &mut Bytes, gathered: &mut Gathered) -> Result<(), NoMemory>
 // Gathers an octet.
 #[inline(always)]
 fn gather_octet(text: &mut Bytes, gathered: &mut Gathered, octet: u8) -> Result<(), NoMemory>
-    ensures { OnOk result (text.new ++ gathered.new.items ≡ (text.old ++ gathered.old.items) ++ octet ∷ []) }
+    ensures { OnOk result (text.new ++ gathered.new.items
+        ≡ (text.old ++ gathered.old.items) ++ octet ∷ []) }
 {
     if gathered.is_full() {
         flush(text, gathered)?;
@@ -173,15 +176,18 @@ fn gather_octet(text: &mut Bytes, gathered: &mut Gathered, octet: u8) -> Result<
 #[tactic(auto, using(std::proofs::lemmas::Fmt::decimal_digit))]
 fn gather_digit(gathered: &mut Gathered, number: u64) -> bool
     requires { number < 10 }
-    ensures { gathered.new.items ≡ (if result then gathered.old.items ++ decimal number else gathered.old.items) }
+    ensures { gathered.new.items
+        ≡ (if result then gathered.old.items ++ decimal number else gathered.old.items) }
 {
     gathered.try_push(b'0' + number as u8).is_ok()
 }
 
-// Gathers a number, where there is room for it; `false` where nothing was done. Most are of one digit.
+// Gathers a number, where there is room for it; `false` where nothing was done. Most are of one
+// digit.
 #[inline(never)]
 fn gather_number(gathered: &mut Gathered, number: u64) -> bool
-    ensures { gathered.new.items ≡ (if result then gathered.old.items ++ decimal number else gathered.old.items) }
+    ensures { gathered.new.items
+        ≡ (if result then gathered.old.items ++ decimal number else gathered.old.items) }
 {
     if number < 10 {
         return gather_digit(gathered, number);
@@ -194,7 +200,8 @@ fn gather_number(gathered: &mut Gathered, number: u64) -> bool
 // Gathers a short word, where there is room for it; `false` where nothing was done.
 #[inline(always)]
 fn gather(gathered: &mut Gathered, word: Word<'_>) -> bool
-    ensures { gathered.new.items ≡ (if result then gathered.old.items ++ word_text word.entry else gathered.old.items) }
+    ensures { gathered.new.items
+        ≡ (if result then gathered.old.items ++ word_text word.entry else gathered.old.items) }
 {
     match word {
         Word::Plain(plain) => gathered.try_extend_from_slice(plain.as_bytes()).is_ok(),
@@ -206,7 +213,8 @@ fn gather(gathered: &mut Gathered, word: Word<'_>) -> bool
 // Adds a word behind what was gathered.
 #[inline(never)]
 fn add_long(text: &mut Bytes, gathered: &mut Gathered, word: Word<'_>) -> Result<(), NoMemory>
-    ensures { OnOk result (text.new ++ gathered.new.items ≡ (text.old ++ gathered.old.items) ++ word_text word.entry) }
+    ensures { OnOk result (text.new ++ gathered.new.items
+        ≡ (text.old ++ gathered.old.items) ++ word_text word.entry) }
 {
     flush(text, gathered)?;
     append_word(text, word)
@@ -215,7 +223,8 @@ fn add_long(text: &mut Bytes, gathered: &mut Gathered, word: Word<'_>) -> Result
 // Gathers a word, or adds it behind what was gathered.
 #[inline(always)]
 fn add_word(text: &mut Bytes, gathered: &mut Gathered, word: Word<'_>) -> Result<(), NoMemory>
-    ensures { OnOk result (text.new ++ gathered.new.items ≡ (text.old ++ gathered.old.items) ++ word_text word.entry) }
+    ensures { OnOk result (text.new ++ gathered.new.items
+        ≡ (text.old ++ gathered.old.items) ++ word_text word.entry) }
 {
     if gather(gathered, word) {
         return Ok(());

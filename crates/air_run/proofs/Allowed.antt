@@ -5,7 +5,8 @@ use Rattle.std.proofs.lemmas.Bool.Decides.{nat_tests}
 use Rattle.air_link.specs.Link.{Link, end_of}
 use Rattle.air_run.specs.declared.refusal.RunRefusal.{RunRefusal}
 use Rattle.air_run.specs.declared.refusal.RunRefusal.TheVariants.{DrxFields}
-use Rattle.air_run.specs.Rules.{Rules, or_else, refused_if, unknown, bearer_refused, discard_refused, misfit, late_or_twice}
+use Rattle.air_run.specs.Rules.{Rules, or_else, refused_if, unknown, bearer_refused, discard_refused, misfit}
+use Rattle.air_run.specs.Rules.{late_or_twice}
 use Rattle.l2_node.specs.Finding.{has}
 use Rattle.l2_types.specs.declared.channel.Kind.{Kind}
 use Rattle.l2_types.specs.declared.config.DrxConfig.{DrxConfig}
@@ -35,26 +36,33 @@ both true false e = cc
 both false b e = cc
 
 -- both ends are without the bearer
-pub is_new : (kind : Kind) (lcid : ℕ) (r : Rules) (l : Link) → bearer_refused kind lcid r l ≡ None → (has lcid l.nb.bearers ≡ false) × (has lcid l.ue.bearers ≡ false)
+pub is_new : (kind : Kind) (lcid : ℕ) (r : Rules) (l : Link) → bearer_refused kind lcid r l ≡ None
+    → (has lcid l.nb.bearers ≡ false) × (has lcid l.ue.bearers ≡ false)
 is_new kind lcid r l e = neither _ _ (no-cause _ _ (first-none _ _ (second-none _ _ e)))
 
 -- both ends have it
-known-both : (lcid : ℕ) (l : Link) → unknown lcid l ≡ None → (has lcid l.nb.bearers ≡ true) × (has lcid l.ue.bearers ≡ true)
+known-both : (lcid : ℕ) (l : Link) → unknown lcid l ≡ None
+    → (has lcid l.nb.bearers ≡ true) × (has lcid l.ue.bearers ≡ true)
 known-both lcid l e = both _ _ (no-cause _ _ e)
 
 pub is_there : (side : Side) (lcid : ℕ) (l : Link) → unknown lcid l ≡ None → has lcid (end_of side l).bearers ≡ true
 is_there Nb lcid l e = (known-both lcid l e).0
 is_there Ue lcid l e = (known-both lcid l e).1
 
-pub are_there : (lcid : ℕ) (r : Rules) (l : Link) → discard_refused lcid r l ≡ None → (has lcid l.nb.bearers ≡ true) × (has lcid l.ue.bearers ≡ true)
+pub are_there : (lcid : ℕ) (r : Rules) (l : Link) → discard_refused lcid r l ≡ None
+    → (has lcid l.nb.bearers ≡ true) × (has lcid l.ue.bearers ≡ true)
 are_there lcid r l e = known-both lcid l (first-none _ _ (second-none _ _ e))
 
-fits-by : (c : DrxConfig) → (nat_lt c.cycle c.on || nat_le c.cycle c.offset) ≡ false → (c.on ≤ c.cycle) × (c.offset < c.cycle)
+fits-by : (c : DrxConfig) → (nat_lt c.cycle c.on || nat_le c.cycle c.offset) ≡ false
+    → (c.on ≤ c.cycle) × (c.offset < c.cycle)
 fits-by c e =
     let tests = neither (nat_lt c.cycle c.on) (nat_le c.cycle c.offset) e in
     let on = tests.0 in
     let offset = tests.1 in
     (grind (arith, nat_tests), grind (arith, nat_tests))
 
-pub fits : (came : Bool) (c : DrxConfig) (r : Rules) → or_else (late_or_twice came r) (misfit c) ≡ None → (c.on ≤ c.cycle) × (c.offset < c.cycle)
-fits came c r e = fits-by c (no-cause (nat_lt c.cycle c.on || nat_le c.cycle c.offset) DrxFields (second-none (late_or_twice came r) (misfit c) e))
+pub fits : (came : Bool) (c : DrxConfig) (r : Rules) → or_else (late_or_twice came r) (misfit c) ≡ None
+    → (c.on ≤ c.cycle) × (c.offset < c.cycle)
+fits came c r e =
+    fits-by c (no-cause (nat_lt c.cycle c.on || nat_le c.cycle c.offset) DrxFields
+    (second-none (late_or_twice came r) (misfit c) e))

@@ -8,5 +8,10 @@ use Rattle.air_run.specs.Run.{Left}
 use Rattle.air_run.specs.Steps.{HasBegun}
 
 pub begun_nothing : (left : Result Left RunRefusal) (written : Option (List ℕ)) → HasBegun left written written
-begun_nothing (Ok left) written = record { front = []; is_front = record { rest = texts_of left.journal; joined = refl }; written_is = sym (after_nothing written) }
+begun_nothing (Ok left) written =
+    record {
+      front = [];
+      is_front = record { rest = texts_of left.journal; joined = refl };
+      written_is = sym (after_nothing written);
+    }
 begun_nothing (Err broken) written = refl

@@ -1,12 +1,14 @@
 -- The lines of octets, cut off their front one by one.
-use Rattle.std.proofs.Common.{◌≡◌, ◌⊎◌, ◌==◌, ◌++◌, ℕ, List, [], ◌∷◌, refl, ap, cond, true, false, inl, inr, arith, Bool}
+use Rattle.std.proofs.Common.{◌≡◌, ◌⊎◌, ◌==◌, ◌++◌, ℕ, List, [], ◌∷◌, refl, ap, cond, true, false, inl, inr, arith}
+use Rattle.std.proofs.Common.{Bool}
 use Rattle.l2_io.specs.Feeds.{until_feed, from_feed}
 use Rattle.air_run.specs.Lines.{onto_first, onto_tail, lines_ended, tail_of}
 
 pub from-append : (xs ys more : List ℕ) → from_feed xs ≡ 10 ∷ ys → from_feed (xs ++ more) ≡ 10 ∷ (ys ++ more)
 from-append [] ys more e = cc
 from-append (x ∷ xs) ys more e =
-    elim (x == 10) as (λ b. cond b (x ∷ xs) (from_feed xs) ≡ 10 ∷ ys → cond b (x ∷ (xs ++ more)) (from_feed (xs ++ more)) ≡ 10 ∷ (ys ++ more)) [
+    elim (x == 10) as (λ b. cond b (x ∷ xs) (from_feed xs) ≡ 10 ∷ ys
+    → cond b (x ∷ (xs ++ more)) (from_feed (xs ++ more)) ≡ 10 ∷ (ys ++ more)) [
       | true ↦ λ h. ap (λ zs. zs ++ more) h
       | false ↦ λ h. from-append xs ys more h
     ] e
@@ -14,7 +16,8 @@ from-append (x ∷ xs) ys more e =
 pub until-append : (xs ys more : List ℕ) → from_feed xs ≡ 10 ∷ ys → until_feed (xs ++ more) ≡ until_feed xs
 until-append [] ys more e = cc
 until-append (x ∷ xs) ys more e =
-    elim (x == 10) as (λ b. cond b (x ∷ xs) (from_feed xs) ≡ 10 ∷ ys → cond b [] (x ∷ until_feed (xs ++ more)) ≡ cond b [] (x ∷ until_feed xs)) [
+    elim (x == 10) as (λ b. cond b (x ∷ xs) (from_feed xs) ≡ 10 ∷ ys
+    → cond b [] (x ∷ until_feed (xs ++ more)) ≡ cond b [] (x ∷ until_feed xs)) [
       | true ↦ λ h. refl
       | false ↦ λ h. ap (λ t. x ∷ t) (until-append xs ys more h)
     ] e
@@ -40,7 +43,8 @@ tail-line (x ∷ xs) ys e =
 pub lines-none : (xs : List ℕ) → from_feed xs ≡ [] → lines_ended xs ≡ []
 lines-none [] e = refl
 lines-none (x ∷ xs) e =
-    elim (x == 10) as (λ b. cond b (x ∷ xs) (from_feed xs) ≡ [] → cond b ([] ∷ lines_ended xs) (onto_first x (lines_ended xs)) ≡ []) [
+    elim (x == 10) as (λ b. cond b (x ∷ xs) (from_feed xs) ≡ []
+    → cond b ([] ∷ lines_ended xs) (onto_first x (lines_ended xs)) ≡ []) [
       | true ↦ λ h. cc
       | false ↦ λ h. rw (lines-none xs h) refl
     ] e
@@ -48,12 +52,14 @@ lines-none (x ∷ xs) e =
 pub tail-none : (xs : List ℕ) → from_feed xs ≡ [] → tail_of xs ≡ xs
 tail-none [] e = refl
 tail-none (x ∷ xs) e =
-    elim (x == 10) as (λ b. cond b (x ∷ xs) (from_feed xs) ≡ [] → cond b (tail_of xs) (onto_tail x (lines_ended xs) (tail_of xs)) ≡ x ∷ xs) [
+    elim (x == 10) as (λ b. cond b (x ∷ xs) (from_feed xs) ≡ []
+    → cond b (tail_of xs) (onto_tail x (lines_ended xs) (tail_of xs)) ≡ x ∷ xs) [
       | true ↦ λ h. cc
       | false ↦ λ h. rw (lines-none xs h, tail-none xs h) refl
     ] e
 
-feed-by : (x : ℕ) (xs : List ℕ) (b : Bool) → (x == 10) ≡ b → (from_feed xs ≡ []) ⊎ ((ys : List ℕ) × (from_feed xs ≡ 10 ∷ ys))
+feed-by : (x : ℕ) (xs : List ℕ) (b : Bool) → (x == 10) ≡ b
+    → (from_feed xs ≡ []) ⊎ ((ys : List ℕ) × (from_feed xs ≡ 10 ∷ ys))
     → (cond b (x ∷ xs) (from_feed xs) ≡ []) ⊎ ((ys : List ℕ) × (cond b (x ∷ xs) (from_feed xs) ≡ 10 ∷ ys))
 feed-by x xs true e later = let same : x ≡ 10 = grind arith in inr (xs, ap (λ y. y ∷ xs) same)
 feed-by x xs false e later = later

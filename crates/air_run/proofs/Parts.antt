@@ -1,27 +1,35 @@
 -- A journal by what is cut from its octets.
-use Rattle.std.proofs.Common.{◌≡◌, ◌<◌, ◌≤◌, ◌+◌, ◌==◌, ◌∙◌, nat_lt, Bool, true, false, ℕ, List, [], ◌∷◌, ◌++◌, length, refl, ap, arith, inl, inr}
+use Rattle.std.proofs.Common.{◌≡◌, ◌<◌, ◌≤◌, ◌+◌, ◌==◌, ◌∙◌, nat_lt, Bool, true, false, ℕ, List, [], ◌∷◌, ◌++◌, length}
+use Rattle.std.proofs.Common.{refl, ap, arith, inl, inr}
 use Rattle.l2_io.proofs.Feeds.{until_feed_whole}
 use Rattle.l2_io.specs.Feeds.{until_feed, from_feed, without_return}
 use Rattle.air_run.specs.declared.refusal.Reason.TheVariants as reasons
 use Rattle.air_text.specs.declared.fault.LineRefusal.TheVariants.{Long}
 use Rattle.air_run.specs.Lines.{lines_ended, tail_of}
-use Rattle.air_run.specs.Journal.{Player, Played, on_line, on_last, close_by, play, journal_from, finished, refused, waiting, follow}
+use Rattle.air_run.specs.Journal.{Player, Played, on_line, on_last, close_by, play, journal_from, finished, refused}
+use Rattle.air_run.specs.Journal.{waiting, follow}
 use Rattle.air_run.proofs.Cutting.{from-append, until-append, lines-line, tail-line, lines-none, tail-none, feed-cases}
 
 -- a whole line first
-pub journal-line : {S : Type 0} (m : Player S) (whole : Bool) (s : S) (number : ℕ) (xs ys : List ℕ) → from_feed xs ≡ 10 ∷ ys
-    → journal_from m whole s number xs ≡ on_line m s number (until_feed xs) (λ t. journal_from m whole t (number + 1) ys)
+pub journal-line : {S : Type 0} (m : Player S) (whole : Bool) (s : S) (number : ℕ) (xs ys : List ℕ)
+    → from_feed xs ≡ 10 ∷ ys
+    → journal_from m whole s number xs
+    ≡ on_line m s number (until_feed xs) (λ t. journal_from m whole t (number + 1) ys)
 unfolding journal_from play
 journal-line m whole s number xs ys e =
     ap (λ (lines : List (List ℕ)). play m (close_by m whole (tail_of xs)) s number lines) (lines-line xs ys e)
-    ∙ ap (λ (tail : List ℕ). play m (close_by m whole tail) s number (until_feed xs ∷ lines_ended ys)) (tail-line xs ys e)
+    ∙ ap (λ (tail : List ℕ). play m (close_by m whole tail) s number (until_feed xs ∷ lines_ended ys))
+    (tail-line xs ys e)
 
 -- the same, whatever follows
-pub journal-line-more : {S : Type 0} (m : Player S) (whole : Bool) (s : S) (number : ℕ) (xs ys more : List ℕ) → from_feed xs ≡ 10 ∷ ys
-    → journal_from m whole s number (xs ++ more) ≡ on_line m s number (until_feed xs) (λ t. journal_from m whole t (number + 1) (ys ++ more))
+pub journal-line-more : {S : Type 0} (m : Player S) (whole : Bool) (s : S) (number : ℕ) (xs ys more : List ℕ)
+    → from_feed xs ≡ 10 ∷ ys
+    → journal_from m whole s number (xs ++ more)
+    ≡ on_line m s number (until_feed xs) (λ t. journal_from m whole t (number + 1) (ys ++ more))
 journal-line-more m whole s number xs ys more e =
     journal-line m whole s number (xs ++ more) (ys ++ more) (from-append xs ys more e)
-    ∙ ap (λ raw. on_line m s number raw (λ t. journal_from m whole t (number + 1) (ys ++ more))) (until-append xs ys more e)
+    ∙ ap (λ raw. on_line m s number raw (λ t. journal_from m whole t (number + 1) (ys ++ more)))
+    (until-append xs ys more e)
 
 -- no whole line
 pub journal-part : {S : Type 0} (m : Player S) (whole : Bool) (s : S) (number : ℕ) (xs : List ℕ) → from_feed xs ≡ []
@@ -41,7 +49,8 @@ pub journal-end : {S : Type 0} (m : Player S) (s : S) (number : ℕ) → journal
 unfolding close_by
 journal-end m s number = journal-part m true s number [] refl
 
-waits-by : {S : Type 0} (m : Player S) (s : S) (number : ℕ) (xs : List ℕ) → length xs ≤ 20000 → (0 < length xs → number ≤ 1000000) → close_by m false xs s number ≡ waiting
+waits-by : {S : Type 0} (m : Player S) (s : S) (number : ℕ) (xs : List ℕ) → length xs ≤ 20000
+    → (0 < length xs → number ≤ 1000000) → close_by m false xs s number ≡ waiting
 unfolding close_by
 waits-by m s number [] short few = refl
 waits-by m s number (x ∷ xs) short few =
@@ -53,11 +62,13 @@ waits-by m s number (x ∷ xs) short few =
     rw (full, a, b) refl
 
 -- more is awaited
-pub journal-waits : {S : Type 0} (m : Player S) (s : S) (number : ℕ) (xs : List ℕ) → from_feed xs ≡ [] → length xs ≤ 20000 → (0 < length xs → number ≤ 1000000)
+pub journal-waits : {S : Type 0} (m : Player S) (s : S) (number : ℕ) (xs : List ℕ) → from_feed xs ≡ []
+    → length xs ≤ 20000 → (0 < length xs → number ≤ 1000000)
     → journal_from m false s number xs ≡ waiting
 journal-waits m s number xs e short few = journal-part m false s number xs e ∙ waits-by m s number xs short few
 
-long-line : {S : Type 0} (m : Player S) (s : S) (number : ℕ) (raw : List ℕ) (next : S → Played) → 20000 < length raw → number ≤ 1000000
+long-line : {S : Type 0} (m : Player S) (s : S) (number : ℕ) (raw : List ℕ) (next : S → Played) → 20000 < length raw
+    → number ≤ 1000000
     → on_line m s number raw next ≡ refused number (reasons.Line Long)
 unfolding on_line
 long-line m s number raw next long few =
@@ -65,7 +76,8 @@ long-line m s number raw next long few =
     let b : nat_lt 20000 (length raw) ≡ true = grind arith in
     rw (a, b) refl
 
-long-part : {S : Type 0} (m : Player S) (s : S) (number : ℕ) (xs : List ℕ) → 20000 < length xs → number ≤ 1000000 → close_by m false xs s number ≡ refused number (reasons.Line Long)
+long-part : {S : Type 0} (m : Player S) (s : S) (number : ℕ) (xs : List ℕ) → 20000 < length xs → number ≤ 1000000
+    → close_by m false xs s number ≡ refused number (reasons.Line Long)
 unfolding close_by
 long-part m s number xs long few =
     let full : (length xs == 0) ≡ false = grind arith in
@@ -74,7 +86,8 @@ long-part m s number xs long few =
     rw (full, a, b) refl
 
 -- a line is too long
-pub journal-long : {S : Type 0} (m : Player S) (s : S) (number : ℕ) (xs : List ℕ) → 20000 < length (until_feed xs) → number ≤ 1000000
+pub journal-long : {S : Type 0} (m : Player S) (s : S) (number : ℕ) (xs : List ℕ) → 20000 < length (until_feed xs)
+    → number ≤ 1000000
     → journal_from m false s number xs ≡ refused number (reasons.Line Long)
 journal-long m s number xs long few = elim (feed-cases xs) [
   | inl e ↦ journal-part m false s number xs e ∙ long-part m s number xs (rw (until_feed_whole xs e) at long) few
@@ -86,7 +99,8 @@ many-line : {S : Type 0} (m : Player S) (s : S) (number : ℕ) (raw : List ℕ) 
 unfolding on_line
 many-line m s number raw next many = let a : nat_lt 1000000 number ≡ true = grind arith in rw a refl
 
-many-part : {S : Type 0} (m : Player S) (s : S) (number : ℕ) (xs : List ℕ) → 0 < length xs → 1000000 < number → close_by m false xs s number ≡ refused number reasons.Lines
+many-part : {S : Type 0} (m : Player S) (s : S) (number : ℕ) (xs : List ℕ) → 0 < length xs → 1000000 < number
+    → close_by m false xs s number ≡ refused number reasons.Lines
 unfolding close_by
 many-part m s number xs some many =
     let full : (length xs == 0) ≡ false = grind arith in
@@ -102,7 +116,8 @@ journal-many m s number xs some many = elim (feed-cases xs) [
 ]
 
 -- a line that is run
-pub line-runs : {S : Type 0} (m : Player S) (s : S) (number : ℕ) (raw : List ℕ) (next : S → Played) → length raw ≤ 20000 → number ≤ 1000000
+pub line-runs : {S : Type 0} (m : Player S) (s : S) (number : ℕ) (raw : List ℕ) (next : S → Played)
+    → length raw ≤ 20000 → number ≤ 1000000
     → on_line m s number raw next ≡ follow m number (m.line s number (without_return raw)) next
 unfolding on_line
 line-runs m s number raw next short few =
@@ -110,7 +125,8 @@ line-runs m s number raw next short few =
     let b : nat_lt 20000 (length raw) ≡ false = grind arith in
     rw (a, b) refl
 
-many-last : {S : Type 0} (m : Player S) (s : S) (number : ℕ) (raw : List ℕ) → 1000000 < number → on_last m s number raw ≡ refused number reasons.Lines
+many-last : {S : Type 0} (m : Player S) (s : S) (number : ℕ) (raw : List ℕ) → 1000000 < number
+    → on_last m s number raw ≡ refused number reasons.Lines
 unfolding on_last
 many-last m s number raw many = let a : nat_lt 1000000 number ≡ true = grind arith in rw a refl
 
@@ -132,26 +148,30 @@ last-runs m s number raw short few =
     rw (a, b) refl
 
 -- the same of all octets, or of the first
-pub many-close : {S : Type 0} (m : Player S) (whole : Bool) (s : S) (number : ℕ) (xs : List ℕ) → 0 < length xs → 1000000 < number → close_by m whole xs s number ≡ refused number reasons.Lines
+pub many-close : {S : Type 0} (m : Player S) (whole : Bool) (s : S) (number : ℕ) (xs : List ℕ) → 0 < length xs
+    → 1000000 < number → close_by m whole xs s number ≡ refused number reasons.Lines
 unfolding close_by
 many-close m true s number xs some many =
     let full : (length xs == 0) ≡ false = grind arith in rw full (many-last m s number xs many)
 many-close m false s number xs some many = many-part m s number xs some many
 
-pub journal-many-any : {S : Type 0} (m : Player S) (whole : Bool) (s : S) (number : ℕ) (xs : List ℕ) → 0 < length xs → 1000000 < number
+pub journal-many-any : {S : Type 0} (m : Player S) (whole : Bool) (s : S) (number : ℕ) (xs : List ℕ) → 0 < length xs
+    → 1000000 < number
     → journal_from m whole s number xs ≡ refused number reasons.Lines
 journal-many-any m whole s number xs some many = elim (feed-cases xs) [
   | inl e ↦ journal-part m whole s number xs e ∙ many-close m whole s number xs some many
   | inr cut ↦ journal-line m whole s number xs cut.0 cut.1 ∙ many-line m s number (until_feed xs) _ many
 ]
 
-pub long-close : {S : Type 0} (m : Player S) (whole : Bool) (s : S) (number : ℕ) (xs : List ℕ) → 20000 < length xs → number ≤ 1000000 → close_by m whole xs s number ≡ refused number (reasons.Line Long)
+pub long-close : {S : Type 0} (m : Player S) (whole : Bool) (s : S) (number : ℕ) (xs : List ℕ) → 20000 < length xs
+    → number ≤ 1000000 → close_by m whole xs s number ≡ refused number (reasons.Line Long)
 unfolding close_by
 long-close m true s number xs long few =
     let full : (length xs == 0) ≡ false = grind arith in rw full (long-last m s number xs long few)
 long-close m false s number xs long few = long-part m s number xs long few
 
-pub journal-long-any : {S : Type 0} (m : Player S) (whole : Bool) (s : S) (number : ℕ) (xs : List ℕ) → 20000 < length (until_feed xs) → number ≤ 1000000
+pub journal-long-any : {S : Type 0} (m : Player S) (whole : Bool) (s : S) (number : ℕ) (xs : List ℕ)
+    → 20000 < length (until_feed xs) → number ≤ 1000000
     → journal_from m whole s number xs ≡ refused number (reasons.Line Long)
 journal-long-any m whole s number xs long few = elim (feed-cases xs) [
   | inl e ↦ journal-part m whole s number xs e ∙ long-close m whole s number xs (rw (until_feed_whole xs e) at long) few

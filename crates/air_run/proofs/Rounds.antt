@@ -10,7 +10,9 @@ use Rattle.air_run.proofs.Telling.{told_thrice}
 fewer : (most at : ℕ) → at < most → most - at ≡ suc (most - (at + 1))
 fewer most at h = omega arith
 
-pub ttis_next : (most at grant : ℕ) (l : Link) → at < most → ttis (most - at) grant l ≡ behind (drain_tti grant l).out 0 (ttis (most - (at + 1)) grant (shown (drain_tti grant l)))
+pub ttis_next : (most at grant : ℕ) (l : Link) → at < most
+    → ttis (most - at) grant l ≡ behind (drain_tti grant l).out 0
+    (ttis (most - (at + 1)) grant (shown (drain_tti grant l)))
 ttis_next most at grant l h = rw (fewer most at h) refl
 
 pub rounds_next : (most at grant : ℕ) (l : Link) → at < most → is_drained l ≡ false
@@ -37,16 +39,19 @@ left-shown false grant l h = refl
 
 rounds-shown : (n grant : ℕ) (l : Link) → shown l ≡ l → shown (rounds n grant l).link ≡ (rounds n grant l).link
 rounds-shown zero grant l h = h
-rounds-shown (suc n) grant l h = rounds-shown n grant (left_by (is_drained l) grant l) (left-shown (is_drained l) grant l h)
+rounds-shown (suc n) grant l h =
+    rounds-shown n grant (left_by (is_drained l) grant l) (left-shown (is_drained l) grant l h)
 
 pub drained_shown : (grant : ℕ) (l : Link) → shown (drained grant l).link ≡ (drained grant l).link
 unfolding drained
-drained_shown grant l = rounds-shown (budget l) grant (ttis 8 grant l).link (ttis-shown 7 grant (shown (drain_tti grant l)) refl)
+drained_shown grant l =
+    rounds-shown (budget l) grant (ttis 8 grant l).link (ttis-shown 7 grant (shown (drain_tti grant l)) refl)
 
 -- ---- the whole is told part by part
 
 pub drain_told : (grant : ℕ) (l : Link) (j : Journal)
-    → told (ending (is_drained (rounds (budget l) grant (ttis 8 grant l).link).link) (rounds (budget l) grant (ttis 8 grant l).link).done ∷ [])
+    → told (ending (is_drained (rounds (budget l) grant (ttis 8 grant l).link).link)
+    (rounds (budget l) grant (ttis 8 grant l).link).done ∷ [])
     (told (rounds (budget l) grant (ttis 8 grant l).link).journal (told (ttis 8 grant l).journal j))
     ≡ told (drained grant l).journal j
 unfolding drained

@@ -8,7 +8,8 @@ use Rattle.um_losses.specs.Losses.{Losses, seen}
 
 pub texts_both : (a b : List Record) → texts_of (a ++ b) ≡ texts_of a ++ texts_of b
 texts_both [] b = refl
-texts_both (r ∷ rs) b = ap (λ t. text_of r ++ t) (texts_both rs b) ∙ sym (append_assoc (text_of r) (texts_of rs) (texts_of b))
+texts_both (r ∷ rs) b = ap (λ t. text_of r ++ t) (texts_both rs b)
+    ∙ sym (append_assoc (text_of r) (texts_of rs) (texts_of b))
 
 seen-both : (a b : List Record) (w : Losses) → all_seen (a ++ b) w ≡ all_seen b (all_seen a w)
 seen-both [] b w = refl

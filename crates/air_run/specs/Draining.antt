@@ -1,7 +1,9 @@
 -- A drain (docs/formats/SCRIPT.md): TTIs with the same grants until nothing is left of what
 -- acknowledged bearers have to bring over.
-use Rattle.std.specs.Prelude.{ℕ, ◌+◌, ◌-◌, ◌*◌, ◌^◌, zero, suc, min, Bool, true, false, List, [], ◌∷◌, ◌++◌}
-use Rattle.air_link.specs.Draining.{drain_tti, carried, receivers_expire, senders_expire, is_drained, left, count}
+use Rattle.std.specs.Prelude.{ℕ, ◌+◌, ◌-◌, ◌*◌, ◌^◌, zero, suc, min, Bool, true, false, List, []}
+use Rattle.std.specs.Prelude.{◌∷◌, ◌++◌}
+use Rattle.air_link.specs.Draining.{drain_tti, carried, receivers_expire, senders_expire}
+use Rattle.air_link.specs.Draining.{is_drained, left, count}
 use Rattle.air_link.specs.Link.{Link}
 use Rattle.air_record.specs.declared.record.Record.{Record}
 use Rattle.air_record.specs.Endings.{ending}
@@ -56,11 +58,14 @@ told_by false grant l = (round grant l).out
 -- at most so many rounds, as few as it takes
 abbrev pub rounds : ℕ → ℕ → Link → Drained
 rounds zero grant l = at_once l
-rounds (suc n) grant l = behind (told_by (is_drained l) grant l) (done_by (is_drained l)) (rounds n grant (left_by (is_drained l) grant l))
+rounds (suc n) grant l =
+    behind (told_by (is_drained l) grant l) (done_by (is_drained l))
+    (rounds n grant (left_by (is_drained l) grant l))
 
 -- ---- the whole
 
--- the rounds that a drain may take, by the octets that it has to bring over as it begins and by the bearers
+-- the rounds that a drain may take, by the octets that it has to bring over as it begins and by the
+-- bearers
 abbrev pub budget : Link → ℕ
 budget l = min (1024 * (left l + (512 * count l + 64))) (2 ^ 64 - 1)
 
@@ -69,4 +74,5 @@ ended d = record d { journal = d.journal ++ ending (is_drained d.link) d.done �
 
 -- eight TTIs, then rounds
 unfoldable pub drained : ℕ → Link → Drained
-drained grant l = ended (behind (ttis 8 grant l).journal 0 (rounds (budget l) grant (ttis 8 grant l).link))
+drained grant l =
+    ended (behind (ttis 8 grant l).journal 0 (rounds (budget l) grant (ttis 8 grant l).link))

@@ -1,6 +1,7 @@
 -- The journal of an input, of which more may come (docs/formats/JOURNAL.md): read line by line,
 -- played, and refused where a line is.
-use Rattle.std.specs.Prelude.{ℕ, ◌+◌, ◌==◌, nat_lt, Bool, true, false, if◌then◌else◌, List, [], ◌∷◌, ◌++◌, length, Option, None, Some, Result, Ok, Err}
+use Rattle.std.specs.Prelude.{ℕ, ◌+◌, ◌==◌, nat_lt, Bool, true, false, if◌then◌else◌, List, [], ◌∷◌}
+use Rattle.std.specs.Prelude.{◌++◌, length, Option, None, Some, Result, Ok, Err}
 use Rattle.l2_io.specs.Feeds.{without_return}
 use Rattle.air_text.specs.Reading.{read_of}
 use Rattle.air_record.specs.declared.line.Line.{Line}
@@ -21,7 +22,8 @@ pub data Outcome (S : Type 0) : Type 0 where
   Ends : S → List Record → Outcome S
   Refuses : Reason → Outcome S
 
--- what plays lines: where it begins, what a text does as the line of a number, and the records at the end
+-- what plays lines: where it begins, what a text does as the line of a number, and the records at
+-- the end
 pub record Player (S : Type 0) : Type 0 where
   pub first : S
   pub line : S → ℕ → List ℕ → Outcome S
@@ -80,11 +82,13 @@ close_by p false tail s number =
 
 unfoldable pub play : {S : Type 0} → Player S → (S → ℕ → Played) → S → ℕ → List (List ℕ) → Played
 play p close s number [] = close s number
-play p close s number (raw ∷ lines) = on_line p s number raw (λ t. play p close t (number + 1) lines)
+play p close s number (raw ∷ lines) =
+    on_line p s number raw (λ t. play p close t (number + 1) lines)
 
 -- the journal from a state on, of octets that are all there are, or of which more may come
 unfoldable pub journal_from : {S : Type 0} → Player S → Bool → S → ℕ → List ℕ → Played
-journal_from p whole s number octets = play p (close_by p whole (tail_of octets)) s number (lines_ended octets)
+journal_from p whole s number octets =
+    play p (close_by p whole (tail_of octets)) s number (lines_ended octets)
 
 -- the journal that a player makes of an input
 abbrev pub journal_by : {S : Type 0} → Player S → Bool → List ℕ → Played

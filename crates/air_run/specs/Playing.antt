@@ -1,6 +1,7 @@
 -- What a line that isn't refused does to both ends (docs/formats/SCRIPT.md).
 use Rattle.std.specs.Prelude.{ℕ, Option, Some, None}
-use Rattle.air_link.specs.Lines.{bears, discards, visits, reports, listens, submitting, expires, forges, hands_over}
+use Rattle.air_link.specs.Lines.{bears, discards, visits, reports, listens, submitting, expires}
+use Rattle.air_link.specs.Lines.{forges, hands_over}
 use Rattle.air_link.specs.Link.{Link}
 use Rattle.air_link.specs.Loops.{loop_set}
 use Rattle.air_link.specs.Ttis.{tti}
@@ -23,7 +24,8 @@ acted (lines.Bearer config options) keys l = bears config (keys_or_none keys) l
 acted (lines.Submit side lcid octets) keys l = submitting side lcid octets l
 acted (lines.Tti up_grant up down_grant down) keys l = tti up_grant up down_grant down l
 acted (lines.Expire side lcid clock) keys l = expires side lcid clock l
-acted (lines.Handover user rrc integrity) keys l = hands_over (next_keys user rrc integrity (keys_or_none keys)) l
+acted (lines.Handover user rrc integrity) keys l =
+    hands_over (next_keys user rrc integrity (keys_or_none keys)) l
 acted lines.LoopOff keys l = loop_set Off l
 acted (lines.LoopA size) keys l = loop_set (A size) l
 acted (lines.LoopB delay) keys l = loop_set (B delay) l

@@ -1,5 +1,7 @@
 -- The rules of a run (docs/formats/REFUSALS.md): which lines of the grammar are refused, and why.
-use Rattle.std.specs.Prelude.{ℕ, Bool, true, false, not, ◌||◌, ◌&&◌, nat_lt, nat_le, if◌then◌else◌, List, [], slice_index_or, slice_set, replicate, Option, None, Some, is_some, is_none}
+use Rattle.std.specs.Prelude.{ℕ, Bool, true, false, not, ◌||◌, ◌&&◌, nat_lt, nat_le, if◌then◌else◌}
+use Rattle.std.specs.Prelude.{List, [], slice_index_or, slice_set, replicate, Option, None, Some}
+use Rattle.std.specs.Prelude.{is_some, is_none}
 use Rattle.std.specs.BTreeMap.{is_at}
 use Rattle.std.specs.BTreeSet.{insert_key}
 use Rattle.std.specs.Cmp.Lexicographic.{slice_cmp}
@@ -11,7 +13,11 @@ use Rattle.air_link.specs.Link.{Link}
 use Rattle.air_record.specs.declared.line.Line.{Line}
 use Rattle.air_record.specs.declared.line.Line.TheVariants as lines
 use Rattle.air_run.specs.declared.refusal.RunRefusal.{RunRefusal}
-use Rattle.air_run.specs.declared.refusal.RunRefusal.TheVariants.{UnknownBearer, BearerTwice, ConfiguredLate, KeyUsed, TimerIdle, SmallDrain, NoKeys, SetTwice, LoopOn, NoDiscard, Forged, DrxFields}
+use Rattle.air_run.specs.declared.refusal.RunRefusal.TheVariants.{UnknownBearer, BearerTwice}
+use Rattle.air_run.specs.declared.refusal.RunRefusal.TheVariants.{ConfiguredLate, KeyUsed}
+use Rattle.air_run.specs.declared.refusal.RunRefusal.TheVariants.{TimerIdle, SmallDrain, NoKeys}
+use Rattle.air_run.specs.declared.refusal.RunRefusal.TheVariants.{SetTwice, LoopOn, NoDiscard}
+use Rattle.air_run.specs.declared.refusal.RunRefusal.TheVariants.{Forged, DrxFields}
 use Rattle.eps_sec.specs.declared.Key.{Key}
 use Rattle.eps_sec.specs.declared.Keys.{Keys}
 use Rattle.l2_node.specs.Finding.{has}
@@ -57,7 +63,8 @@ abbrev pub with_key : List ℕ → List (List ℕ) → List (List ℕ)
 with_key key used = insert_key (slice_cmp nat_cmp) used key
 
 abbrev pub with_keys : Key → Key → Key → List (List ℕ) → List (List ℕ)
-with_keys user rrc integrity used = with_key integrity.octets (with_key rrc.octets (with_key user.octets used))
+with_keys user rrc integrity used =
+    with_key integrity.octets (with_key rrc.octets (with_key user.octets used))
 
 abbrev pub are_equal : Key → Key → Bool
 are_equal a b = bytes_eq a.octets b.octets
@@ -105,18 +112,26 @@ abbrev pub keys_refused : Key → Key → Key → Rules → Option RunRefusal
 keys_refused user rrc integrity r = refused_if (is_any_used user rrc integrity r.used) KeyUsed
 
 abbrev pub bearer_refused : Kind → ℕ → Rules → Link → Option RunRefusal
-bearer_refused kind lcid r l = or_else (late r) (or_else (refused_if (is_taken lcid l) BearerTwice) (refused_if (wants_keys kind && is_none r.keys) NoKeys))
+bearer_refused kind lcid r l =
+    or_else (late r)
+    (or_else (refused_if (is_taken lcid l) BearerTwice)
+    (refused_if (wants_keys kind && is_none r.keys) NoKeys))
 
 abbrev pub handover_refused : Key → Key → Key → Rules → Option RunRefusal
-handover_refused user rrc integrity r = or_else (refused_if (is_none r.keys) NoKeys) (keys_refused user rrc integrity r)
+handover_refused user rrc integrity r =
+    or_else (refused_if (is_none r.keys) NoKeys) (keys_refused user rrc integrity r)
 
 abbrev pub discard_refused : ℕ → Rules → Link → Option RunRefusal
 discard_refused lcid r l =
-    or_else (late r) (or_else (unknown lcid l) (or_else (refused_if (nat_lt lcid 3) NoDiscard) (refused_if (slice_index_or r.discards lcid false) SetTwice)))
+    or_else (late r)
+    (or_else (unknown lcid l)
+    (or_else (refused_if (nat_lt lcid 3) NoDiscard)
+    (refused_if (slice_index_or r.discards lcid false) SetTwice)))
 
 abbrev pub drain_refused : ℕ → Rules → Link → Option RunRefusal
 drain_refused grant r l =
-    or_else (refused_if (nat_lt grant 200) SmallDrain) (or_else (refused_if (is_on l.looping.mode) LoopOn) (refused_if r.forged Forged))
+    or_else (refused_if (nat_lt grant 200) SmallDrain)
+    (or_else (refused_if (is_on l.looping.mode) LoopOn) (refused_if r.forged Forged))
 
 -- an on duration or an offset that doesn't fit into the cycle
 abbrev pub misfit : DrxConfig → Option RunRefusal
@@ -126,7 +141,8 @@ misfit c = refused_if (nat_lt c.cycle c.on || nat_le c.cycle c.offset) DrxFields
 unfoldable pub rule_broken : Line → Rules → Link → Option RunRefusal
 rule_broken (lines.Harq maximum) r l = late_or_twice r.visits r
 rule_broken lines.Bsr r l = late_or_twice r.reports r
-rule_broken (lines.Keys keys) r l = or_else (late_or_twice (is_some r.keys) r) (keys_refused keys.user keys.rrc keys.integrity r)
+rule_broken (lines.Keys keys) r l =
+    or_else (late_or_twice (is_some r.keys) r) (keys_refused keys.user keys.rrc keys.integrity r)
 rule_broken (lines.Bearer config options) r l = bearer_refused config.kind config.channel.lcid r l
 rule_broken (lines.Submit side lcid octets) r l = unknown lcid l
 rule_broken (lines.Expire side lcid clock) r l = unknown lcid l
@@ -156,9 +172,11 @@ discard_set lcid r = record r { discards = slice_set r.discards lcid true }
 unfoldable pub accepted : Line → Rules → Rules
 accepted (lines.Harq visits) r = record r { visits = true }
 accepted lines.Bsr r = record r { reports = true }
-accepted (lines.Keys keys) r = record r { keys = Some keys; used = with_keys keys.user keys.rrc keys.integrity r.used }
+accepted (lines.Keys keys) r =
+    record r { keys = Some keys; used = with_keys keys.user keys.rrc keys.integrity r.used }
 accepted (lines.Bearer config options) r = r
-accepted (lines.Handover user rrc integrity) r = record r { begun = true; used = with_keys user rrc integrity r.used }
+accepted (lines.Handover user rrc integrity) r =
+    record r { begun = true; used = with_keys user rrc integrity r.used }
 accepted (lines.Forge side octets) r = record r { begun = true; forged = true }
 accepted (lines.Discard lcid ttis) r = discard_set lcid r
 accepted (lines.Drx config) r = record r { listens = true }

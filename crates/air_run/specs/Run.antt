@@ -28,7 +28,11 @@ behind_line line r = played line r.rules.keys r.link
 
 -- its records are written, and tell
 abbrev pub done_by : Link → Line → RunState → RunState
-done_by l line r = record { link = shown l; rules = accepted line r.rules; losses = all_seen l.out (noticed line l r.losses) }
+done_by l line r = record {
+  link = shown l;
+  rules = accepted line r.rules;
+  losses = all_seen l.out (noticed line l r.losses);
+}
 
 abbrev pub done : Line → RunState → RunState
 done line r = done_by (behind_line line r) line r
@@ -40,7 +44,12 @@ pub record Left : Type 0 where
 
 abbrev pub step_by : Option RunRefusal → RunState → ℕ → Line → Result Left RunRefusal
 step_by (Some broken) r number line = Err broken
-step_by None r number line = Ok (record { state = done line r; journal = records.Line number line ∷ (behind_line line r).out })
+step_by None r number line =
+    Ok (record {
+      state = done line r;
+      journal =
+          records.Line number line ∷ (behind_line line r).out;
+    })
 
 -- a line of this number
 abbrev pub step : RunState → ℕ → Line → Result Left RunRefusal

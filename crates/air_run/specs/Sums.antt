@@ -21,7 +21,9 @@ state_of (Some long) failed = if long then states.Long else states.Short
 state_of None failed = if failed then states.Failed else states.Ok
 
 abbrev pub sum_by : Side → ℕ → Sums → Losses → Record
-sum_by side lcid s w = records.Sum (sent_by side) lcid s.submitted s.delivered (state_of (is_long (sent_by side) lcid w.flows) s.failed)
+sum_by side lcid s w =
+    records.Sum (sent_by side) lcid s.submitted s.delivered
+    (state_of (is_long (sent_by side) lcid w.flows) s.failed)
 
 -- the flow that a side sends
 abbrev pub sum_of : Side → Link → Losses → ℕ → Record

@@ -33,7 +33,8 @@ with_um kind config w = w
 abbrev pub noticed : Line → Link → Losses → Losses
 noticed (lines.Bearer config options) l w = with_um config.kind config w
 noticed (lines.Handover user rrc integrity) l w = handed_over w
-noticed (lines.Forge side octets) l w = all_forged side (block_shown (heard_by side) l.kinds octets) w
+noticed (lines.Forge side octets) l w =
+    all_forged side (block_shown (heard_by side) l.kinds octets) w
 noticed line l w = w
 
 -- ---- with the text
@@ -45,7 +46,10 @@ pub record Journal : Type 0 where
 
 -- records follow
 abbrev pub told : List Record → Journal → Journal
-told records j = record { text = after j.text (texts_of records); losses = all_seen records j.losses }
+told records j = record {
+  text = after j.text (texts_of records);
+  losses = all_seen records j.losses;
+}
 
 abbrev pub noted : Line → Link → Journal → Journal
 noted line l j = record j { losses = noticed line l j.losses }

@@ -1,4 +1,5 @@
-// A drain: TTIs with the same grants until nothing is left of what acknowledged bearers have to bring over.
+// A drain: TTIs with the same grants until nothing is left of what acknowledged bearers have to
+// bring over.
 ghost use Rattle.std.specs.Prelude.{◌≡◌, ◌≤◌, ◌++◌, OnOk, IfOk};
 ghost use Rattle.air_link.specs.Draining.{drain_tti};
 ghost use Rattle.air_run.specs.Written.{told};
@@ -39,7 +40,8 @@ fn budget(link: &Link) -> u64
 fn for_ttis(link: &mut Link, grant: u32, most: u64, journal: &mut Journal) -> Result<(), NoMemory>
     requires { grant ≤ GREATEST_GRANT }
     ensures link { OnOk result (link.new ≡ (ttis most grant link.old).link) }
-    ensures journal { OnOk result (journal.new ≡ told (ttis most grant link.old).journal journal.old) }
+    ensures journal { OnOk result
+        (journal.new ≡ told (ttis most grant link.old).journal journal.old) }
 {
     for done in 0..most {
         tti(link, grant, journal)?;
@@ -62,7 +64,8 @@ fn rounds(link: &mut Link, grant: u32, most: u64, journal: &mut Journal) -> Resu
     requires { grant ≤ GREATEST_GRANT }
     ensures link { OnOk result (link.new ≡ (rounds most grant link.old).link) }
     ensures done { IfOk result (λ done. done ≡ (rounds most grant link.old).done) }
-    ensures journal { OnOk result (journal.new ≡ told (rounds most grant link.old).journal journal.old) }
+    ensures journal { OnOk result
+        (journal.new ≡ told (rounds most grant link.old).journal journal.old) }
 {
     for done in 0..most {
         if link.is_drained() {

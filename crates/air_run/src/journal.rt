@@ -1,7 +1,9 @@
-ghost use Rattle.std.specs.Prelude.{◌≡◌, ◌<◌, ◌^◌, ◌++◌, ◌∷◌, [], true, None, Some, length, is_some, OnOk, IfOk};
+ghost use Rattle.std.specs.Prelude.{◌≡◌, ◌<◌, ◌^◌, ◌++◌, ◌∷◌, [], true, None, Some, length};
+ghost use Rattle.std.specs.Prelude.{is_some, OnOk, IfOk};
 ghost use Rattle.air_record.specs.Text.{accepted_text};
 ghost use Rattle.air_run.specs.Draining.{shown};
-ghost use Rattle.air_run.specs.Written.{Journal as Machine, all_seen, all_forged, with_um, noticed, told, noted};
+ghost use Rattle.air_run.specs.Written.{Journal as Machine, all_seen, all_forged, with_um, noticed};
+ghost use Rattle.air_run.specs.Written.{told, noted};
 ghost use Rattle.air_text.specs.Ranges.{IsInRange};
 ghost use Rattle.bearer_types.specs.Sides.{heard_by};
 ghost use Rattle.pdu_show.specs.Show.{block_shown};
@@ -66,7 +68,8 @@ impl Journal {
 
     /// Begins the text of a line, with its own record.
     pub fn begin(&mut self, number: u32, line: &Line) -> Result<(), NoMemory>
-        ensures { OnOk result (self.new ≡ record self.old { text = Some (accepted_text number line.now) }) }
+        ensures { OnOk result
+            (self.new ≡ record self.old { text = Some (accepted_text number line.now) }) }
     {
         self.is_muted = false;
         self.text.clear();
@@ -128,7 +131,11 @@ impl Journal {
     }
 
     fn note_bearer(&mut self, config: &BearerConfig) -> Result<(), NoMemory>
-        ensures { OnOk result (self.new ≡ record self.old { losses = with_um config.now.kind config.now self.old.losses }) }
+        ensures { OnOk result
+            (self.new ≡ record self.old {
+              losses =
+                  with_um config.now.kind config.now self.old.losses;
+            }) }
     {
         match config.kind {
             Kind::Um => self
@@ -140,7 +147,11 @@ impl Journal {
 
     fn note_forged(&mut self, side: Side, block: &[u8], link: &Link) -> Result<(), NoMemory>
         requires { length block.now < 2 ^ 28 }
-        ensures { OnOk result (self.new ≡ record self.old { losses = all_forged side (block_shown (heard_by side) link.now.kinds block.now) self.old.losses }) }
+        ensures { OnOk result
+            (self.new ≡ record self.old {
+              losses =
+                  all_forged side (block_shown (heard_by side) link.now.kinds block.now) self.old.losses;
+            }) }
     {
         let records = show_block(self.alloc, heard_by(side), link.kinds(), block)?;
         see_all_forged(&mut self.losses, side, records)

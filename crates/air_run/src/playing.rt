@@ -26,8 +26,8 @@ const NO_KEYS: Keys = Keys {
 
 const NO_KEY: Key = Key { octets: [0; 16] };
 
-/// Plays a line that breaks no rule, and puts its records into the journal. `false` exactly where it asks for the expiry of a
-/// timer that doesn't run; then both ends stay as they were.
+/// Plays a line that breaks no rule, and puts its records into the journal. `false` exactly where
+/// it asks for the expiry of a timer that doesn't run; then both ends stay as they were.
 #[tactic(auto, using(crate::proofs::Rounds::drained_shown))]
 pub(crate) fn play(
     link: &mut Link,
@@ -39,8 +39,11 @@ pub(crate) fn play(
     requires allowed { rule_broken line.now rules.now link.old ≡ None }
     ensures ran { IfOk result (λ ran. ran ≡ not (is_idle line.now link.old)) }
     ensures idle { IfOk result (λ ran. ran ≡ false → link.new ≡ link.old) }
-    ensures link { IfOk result (λ ran. ran ≡ true → link.new ≡ shown (played line.now rules.now.keys link.old)) }
-    ensures journal { IfOk result (λ ran. ran ≡ true → journal.new ≡ told (played line.now rules.now.keys link.old).out (noted line.now (played line.now rules.now.keys link.old) journal.old)) }
+    ensures link { IfOk result (λ ran. ran ≡ true
+        → link.new ≡ shown (played line.now rules.now.keys link.old)) }
+    ensures journal { IfOk result (λ ran. ran ≡ true
+        → journal.new ≡ told (played line.now rules.now.keys link.old).out
+        (noted line.now (played line.now rules.now.keys link.old) journal.old)) }
     ensures losses { IfOk result (λ ran. ran ≡ false → journal.new.losses ≡ journal.old.losses) }
 {
     if let Line::Drain { grant } = line {

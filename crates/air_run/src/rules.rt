@@ -1,5 +1,7 @@
 ghost use Rattle.std.specs.Prelude.{◌≡◌, OnOk, slice_index_or, false};
-ghost use Rattle.air_run.specs.Rules.{no_rules, is_known, unknown, wants_keys, misfit, rule_broken, accepted, discard_set, bearer_refused, handover_refused, discard_refused, drain_refused, late_or_twice, keys_refused};
+ghost use Rattle.air_run.specs.Rules.{no_rules, is_known, unknown, wants_keys, misfit, rule_broken};
+ghost use Rattle.air_run.specs.Rules.{accepted, discard_set, bearer_refused, handover_refused};
+ghost use Rattle.air_run.specs.Rules.{discard_refused, drain_refused, late_or_twice, keys_refused};
 
 use crate::keys::UsedKeys;
 use crate::refusal::RunRefusal;

@@ -21,8 +21,8 @@ use l2_io::{PutFault, Sink};
 use std::alloc::Global;
 use std::marker::Model;
 
-/// The run of a script: both ends over the air, what the lines so far rule out, and the journal. Once memory has run out it
-/// answers so to every call.
+/// The run of a script: both ends over the air, what the lines so far rule out, and the journal.
+/// Once memory has run out it answers so to every call.
 #[derive(Drop)]
 pub struct Run {
     alloc: Global,
@@ -38,7 +38,8 @@ impl Model for Run {
 
     ghost Value = { Option RunState };
 
-    ghost view = { λ m. if m.dead then None else Some (record { link = m.link; rules = m.rules; losses = m.journal.losses }) };
+    ghost view = { λ m. if m.dead then None
+        else Some (record { link = m.link; rules = m.rules; losses = m.journal.losses }) };
 }
 
 impl Run {
@@ -60,7 +61,8 @@ impl Run {
     #[tactic(auto, using(crate::proofs::Beginning::begun_nothing))]
     pub fn step<K: Sink>(&mut self, number: u32, line: &Line, out: &mut K) -> Result<(), StepFault>
         requires { IsInRange line.now }
-        ensures step { Steps self.old number line.now self.new (K.written out.old) (K.written out.new) (HasRisen (K.faults out.old) (K.faults out.new)) result }
+        ensures step { Steps self.old number line.now self.new (K.written out.old)
+            (K.written out.new) (HasRisen (K.faults out.old) (K.faults out.new)) result }
         ensures count { K.faults out.old ≤ K.faults out.new }
     {
         if self.dead {
@@ -109,9 +111,11 @@ impl Run {
         }
     }
 
-    /// Writes the records at the end: for each bearer the SDUs submitted and delivered. It is never refused.
+    /// Writes the records at the end: for each bearer the SDUs submitted and delivered. It is never
+    /// refused.
     pub fn finish<K: Sink>(self, out: &mut K) -> Result<(), StepFault>
-        ensures finish { Finishes self (K.written out.old) (K.written out.new) (HasRisen (K.faults out.old) (K.faults out.new)) result }
+        ensures finish { Finishes self (K.written out.old) (K.written out.new)
+            (HasRisen (K.faults out.old) (K.faults out.new)) result }
         ensures count { K.faults out.old ≤ K.faults out.new }
     {
         if self.dead {
@@ -124,8 +128,8 @@ impl Run {
     }
 }
 
-// Runs a line that breaks no rule, and tells the journal. `false` where it asks for the expiry of a timer that doesn't run; then
-// nothing but the journal's text has changed.
+// Runs a line that breaks no rule, and tells the journal. `false` where it asks for the expiry of a
+// timer that doesn't run; then nothing but the journal's text has changed.
 fn run_line(
     link: &mut Link,
     rules: &mut Rules,
@@ -134,15 +138,22 @@ fn run_line(
 ) -> Result<bool, NoMemory>
     requires range { IsInRange line.now }
     requires allowed { rule_broken line.now rules.old link.old ≡ None }
-    ensures idle { IfOk result (λ ran. ran ≡ false → refusal line.now rules.old link.old ≡ Some RunRefusal.TimerIdle) }
+    ensures idle { IfOk result (λ ran. ran ≡ false
+        → refusal line.now rules.old link.old ≡ Some RunRefusal.TimerIdle) }
     ensures link_stays { IfOk result (λ ran. ran ≡ false → link.new ≡ link.old) }
     ensures rules_stay { IfOk result (λ ran. ran ≡ false → rules.new ≡ rules.old) }
-    ensures losses_stay { IfOk result (λ ran. ran ≡ false → journal.new.losses ≡ journal.old.losses) }
+    ensures losses_stay { IfOk result (λ ran. ran ≡ false
+        → journal.new.losses ≡ journal.old.losses) }
     ensures allowed { IfOk result (λ ran. ran ≡ true → refusal line.now rules.old link.old ≡ None) }
-    ensures link { IfOk result (λ ran. ran ≡ true → link.new ≡ shown (played line.now rules.old.keys link.old)) }
+    ensures link { IfOk result (λ ran. ran ≡ true
+        → link.new ≡ shown (played line.now rules.old.keys link.old)) }
     ensures rules { IfOk result (λ ran. ran ≡ true → rules.new ≡ accepted line.now rules.old) }
-    ensures losses { IfOk result (λ ran. ran ≡ true → journal.new.losses ≡ all_seen (played line.now rules.old.keys link.old).out (noticed line.now (played line.now rules.old.keys link.old) journal.old.losses)) }
-    ensures text { IfOk result (λ ran. ran ≡ true → journal.new.text ≡ after journal.old.text (texts_of (played line.now rules.old.keys link.old).out)) }
+    ensures losses { IfOk result (λ ran. ran ≡ true
+        → journal.new.losses ≡ all_seen (played line.now rules.old.keys link.old).out
+        (noticed line.now (played line.now rules.old.keys link.old) journal.old.losses)) }
+    ensures text { IfOk result (λ ran. ran ≡ true
+        → journal.new.text
+        ≡ after journal.old.text (texts_of (played line.now rules.old.keys link.old).out)) }
 {
     if !play(link, rules, line, journal)? {
         return Ok(false);
@@ -152,7 +163,8 @@ fn run_line(
 }
 
 fn put<K: Sink>(text: &[u8], out: &mut K) -> Result<(), StepFault>
-    ensures put { Puts text.now (K.written out.old) (K.written out.new) (HasRisen (K.faults out.old) (K.faults out.new)) result }
+    ensures put { Puts text.now (K.written out.old) (K.written out.new)
+        (HasRisen (K.faults out.old) (K.faults out.new)) result }
     ensures count { K.faults out.old ≤ K.faults out.new }
 {
     match out.put(text) {

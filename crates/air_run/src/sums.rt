@@ -30,7 +30,8 @@ fn append_all(
     lcids: &[u8],
     text: &mut Bytes,
 ) -> Result<(), NoMemory>
-    ensures { OnOk result (text.new ≡ text.old ++ texts_of (all_sums link.now journal.now.losses lcids.now)) }
+    ensures { OnOk result (text.new ≡ text.old
+        ++ texts_of (all_sums link.now journal.now.losses lcids.now)) }
 {
     for lcid in lcids {
         append_both(link, journal, *lcid, text)?;
@@ -40,7 +41,8 @@ fn append_all(
 
 // The sums of both directions of a bearer, if there is one.
 fn append_both(link: &Link, journal: &Journal, lcid: u8, text: &mut Bytes) -> Result<(), NoMemory>
-    ensures { OnOk result (text.new ≡ text.old ++ texts_of (sums_of link.now journal.now.losses lcid)) }
+    ensures { OnOk result (text.new ≡ text.old
+        ++ texts_of (sums_of link.now journal.now.losses lcid)) }
 {
     if is_known(lcid, link) {
         append_record(text, &sum(link, journal, Side::Nb, lcid))?;

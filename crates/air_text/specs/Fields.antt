@@ -1,5 +1,7 @@
 -- The fields of a line (docs/formats/SCRIPT.md).
-use Rattle.std.specs.Prelude.{ℕ, ◌+◌, ◌*◌, ◌-◌, ◌==◌, ◌&&◌, nat_lt, nat_le, Bool, true, false, if◌then◌else◌, List, [], ◌∷◌, length, slice_index, codes, Option, None, Some, Result, Ok, Err}
+use Rattle.std.specs.Prelude.{ℕ, ◌+◌, ◌*◌, ◌-◌, ◌==◌, ◌&&◌, nat_lt, nat_le, Bool, true, false}
+use Rattle.std.specs.Prelude.{if◌then◌else◌, List, [], ◌∷◌, length, slice_index, codes, Option}
+use Rattle.std.specs.Prelude.{None, Some, Result, Ok, Err}
 use Rattle.std.specs.List.{list_all}
 use Rattle.std.specs.Str.{bytes_eq}
 use Rattle.text_digits.specs.Numerals.{is_digit, value_behind}
@@ -24,13 +26,16 @@ use Rattle.air_text.specs.Words.{◌>>=◌}
 unfoldable pub is_number : List ℕ → Bool
 is_number text =
     if length text == 0 then false
-    else if nat_lt 1 (length text) then (if slice_index text 0 == 48 then false else list_all is_digit text)
+    else if nat_lt 1 (length text)
+    then (if slice_index text 0 == 48 then false else list_all is_digit text)
     else list_all is_digit text
 
 -- a number from a least to a most
 unfoldable pub number_of : ℕ → ℕ → List ℕ → Result ℕ LineRefusal
 number_of least most text =
-    if is_number text then (if nat_lt most (value_behind 0 text) then Err Range else if nat_lt (value_behind 0 text) least then Err Range else Ok (value_behind 0 text))
+    if is_number text
+    then (if nat_lt most (value_behind 0 text) then Err Range
+    else if nat_lt (value_behind 0 text) least then Err Range else Ok (value_behind 0 text))
     else Err Number
 
 -- one of two numbers
@@ -41,7 +46,8 @@ either_of one other text = do
 
 -- a number, or none for a word
 unfoldable pub limit_of : List ℕ → ℕ → ℕ → List ℕ → Result (Option ℕ) LineRefusal
-limit_of word least most text = if bytes_eq text word then Ok None else (number_of least most text >>= λ n. Ok (Some n))
+limit_of word least most text = if bytes_eq text word then Ok None
+    else (number_of least most text >>= λ n. Ok (Some n))
 
 abbrev pub octets_in : ℕ → Result (List ℕ) FromHexError → Result (List ℕ) LineRefusal
 octets_in most (Err _) = Err Hex
@@ -52,7 +58,8 @@ unfoldable pub octets_of : ℕ → List ℕ → Result (List ℕ) LineRefusal
 octets_of most text = if length text == 0 then Err Hex else octets_in most (decode_of text)
 
 unfoldable pub side_of : List ℕ → Result Side LineRefusal
-side_of text = if bytes_eq text (codes "ue") then Ok Ue else if bytes_eq text (codes "nb") then Ok Nb else Err Word
+side_of text = if bytes_eq text (codes "ue") then Ok Ue else if bytes_eq text (codes "nb")
+    then Ok Nb else Err Word
 
 unfoldable pub clock_of : List ℕ → Result Clock LineRefusal
 clock_of text =

@@ -1,12 +1,15 @@
 -- The options of a bearer line (docs/formats/SCRIPT.md): for each kind its names, and for each name
 -- its numbers and its default.
-use Rattle.std.specs.Prelude.{ℕ, ◌==◌, ◌||◌, nat_le, Bool, true, false, if◌then◌else◌, List, [], ◌∷◌, codes, Option, None, Some, Result, Ok, Err}
+use Rattle.std.specs.Prelude.{ℕ, ◌==◌, ◌||◌, nat_le, Bool, true, false, if◌then◌else◌, List, []}
+use Rattle.std.specs.Prelude.{◌∷◌, codes, Option, None, Some, Result, Ok, Err}
 use Rattle.std.specs.Str.{bytes_eq}
 use Rattle.l2_types.specs.declared.channel.Kind.{Kind}
 use Rattle.l2_types.specs.declared.channel.Kind.TheVariants.{Tm, Srb, Um, Am}
 use Rattle.bearer_types.specs.declared.config.BearerConfig.{BearerConfig}
 use Rattle.air_text.specs.declared.options.Name.{Name}
-use Rattle.air_text.specs.declared.options.Name.TheVariants.{Prio, Pbr, Bsd, Lcg, Reorder, Sn, Psn, PollPdu, PollByte, PollRetx, MaxRetx, Prohibit, Count}
+use Rattle.air_text.specs.declared.options.Name.TheVariants.{Prio, Pbr, Bsd, Lcg, Reorder, Sn, Psn}
+use Rattle.air_text.specs.declared.options.Name.TheVariants.{PollPdu, PollByte, PollRetx, MaxRetx}
+use Rattle.air_text.specs.declared.options.Name.TheVariants.{Prohibit, Count}
 use Rattle.air_text.specs.declared.fault.LineRefusal.{LineRefusal}
 use Rattle.air_text.specs.declared.fault.LineRefusal.TheVariants.{Word}
 use Rattle.air_text.specs.Words.{◌>>=◌, before_equals, behind_equals}
@@ -44,7 +47,13 @@ pdcp_bits_of Am = 12
 -- a bearer without an option
 unfoldable pub config_of : ℕ → Kind → BearerConfig
 config_of lcid kind = record {
-  channel = record { lcid = lcid; priority = priority_of kind lcid; pbr = None; bucket = 100; group = group_of kind };
+  channel = record {
+    lcid = lcid;
+    priority = priority_of kind lcid;
+    pbr = None;
+    bucket = 100;
+    group = group_of kind;
+  };
   kind = kind;
   rlc_bits = rlc_bits_of kind;
   pdcp_bits = pdcp_bits_of kind;
@@ -106,18 +115,32 @@ psn_of kind text = either_of 12 15 text
 
 -- an option read into a configuration
 abbrev pub option_of : BearerConfig → Name → List ℕ → Result BearerConfig LineRefusal
-option_of c Prio text = number_of 1 16 text >>= λ n. Ok (record c { channel = record c.channel { priority = n } })
-option_of c Pbr text = limit_of (codes "inf") 0 65535 text >>= λ n. Ok (record c { channel = record c.channel { pbr = n } })
-option_of c Bsd text = number_of 1 1000 text >>= λ n. Ok (record c { channel = record c.channel { bucket = n } })
-option_of c Lcg text = number_of 0 3 text >>= λ n. Ok (record c { channel = record c.channel { group = n } })
-option_of c Reorder text = number_of 0 65535 text >>= λ n. Ok (record c { rx = record c.rx { reorder = n } })
+option_of c Prio text =
+    number_of 1 16 text >>= λ n. Ok (record c { channel = record c.channel { priority = n } })
+option_of c Pbr text =
+    limit_of (codes "inf") 0 65535 text >>= λ n. Ok
+    (record c { channel = record c.channel { pbr = n } })
+option_of c Bsd text =
+    number_of 1 1000 text >>= λ n. Ok (record c { channel = record c.channel { bucket = n } })
+option_of c Lcg text =
+    number_of 0 3 text >>= λ n. Ok (record c { channel = record c.channel { group = n } })
+option_of c Reorder text =
+    number_of 0 65535 text >>= λ n. Ok (record c { rx = record c.rx { reorder = n } })
 option_of c Sn text = either_of 5 10 text >>= λ n. Ok (record c { rlc_bits = n })
 option_of c Psn text = psn_of c.kind text >>= λ n. Ok (record c { pdcp_bits = n })
-option_of c PollPdu text = limit_of (codes "inf") 1 65535 text >>= λ n. Ok (record c { tx = record c.tx { poll_pdu = n } })
-option_of c PollByte text = limit_of (codes "inf") 1 4000000 text >>= λ n. Ok (record c { tx = record c.tx { poll_byte = n } })
-option_of c PollRetx text = number_of 0 65535 text >>= λ n. Ok (record c { tx = record c.tx { poll_retransmit = n } })
-option_of c MaxRetx text = number_of 1 32 text >>= λ n. Ok (record c { tx = record c.tx { max_retx = n } })
-option_of c Prohibit text = limit_of (codes "off") 0 65535 text >>= λ n. Ok (record c { rx = record c.rx { prohibit = n } })
+option_of c PollPdu text =
+    limit_of (codes "inf") 1 65535 text >>= λ n. Ok
+    (record c { tx = record c.tx { poll_pdu = n } })
+option_of c PollByte text =
+    limit_of (codes "inf") 1 4000000 text >>= λ n. Ok
+    (record c { tx = record c.tx { poll_byte = n } })
+option_of c PollRetx text =
+    number_of 0 65535 text >>= λ n. Ok (record c { tx = record c.tx { poll_retransmit = n } })
+option_of c MaxRetx text =
+    number_of 1 32 text >>= λ n. Ok (record c { tx = record c.tx { max_retx = n } })
+option_of c Prohibit text =
+    limit_of (codes "off") 0 65535 text >>= λ n. Ok
+    (record c { rx = record c.rx { prohibit = n } })
 option_of c Count text = number_of 0 4294967295 text >>= λ n. Ok (record c { first = n })
 
 abbrev pub named_option : BearerConfig → Option Name → List ℕ → Result BearerConfig LineRefusal

@@ -1,15 +1,20 @@
 -- What a text says (docs/formats/SCRIPT.md).
-use Rattle.std.specs.Prelude.{ℕ, ◌==◌, nat_lt, if◌then◌else◌, List, [], ◌∷◌, length, slice_index, codes, Option, None, Some, Result, Ok, Err}
+use Rattle.std.specs.Prelude.{ℕ, ◌==◌, nat_lt, if◌then◌else◌, List, [], ◌∷◌, length, slice_index}
+use Rattle.std.specs.Prelude.{codes, Option, None, Some, Result, Ok, Err}
 use Rattle.std.specs.Str.{bytes_eq}
 use Rattle.hex.specs.Hex.{decode_of}
 use Rattle.hex.specs.declared.error.FromHexError.{FromHexError}
 use Rattle.eps_sec.specs.declared.keys.Key.{Key}
 use Rattle.air_record.specs.declared.line.Line.{Line}
-use Rattle.air_record.specs.declared.line.Line.TheVariants.{Harq, Bsr, Keys as KeysLine, Bearer, Submit, Tti, Expire, Handover, LoopOff, LoopA, LoopB, Drain, Forge, End, Discard, Drx}
+use Rattle.air_record.specs.declared.line.Line.TheVariants.{Harq, Bsr, Keys as KeysLine, Bearer}
+use Rattle.air_record.specs.declared.line.Line.TheVariants.{Submit, Tti, Expire, Handover, LoopOff}
+use Rattle.air_record.specs.declared.line.Line.TheVariants.{LoopA, LoopB, Drain, Forge, End}
+use Rattle.air_record.specs.declared.line.Line.TheVariants.{Discard, Drx}
 use Rattle.air_text.specs.declared.fault.LineRefusal.{LineRefusal}
 use Rattle.air_text.specs.declared.fault.LineRefusal.TheVariants.{Word, Range, Hex, Fields, Long}
 use Rattle.air_text.specs.Words.{◌>>=◌, words_of, is_twice, joined}
-use Rattle.air_text.specs.Fields.{number_of, octets_of, side_of, clock_of, kind_of, outcome_of, cipher_of, word_of}
+use Rattle.air_text.specs.Fields.{number_of, octets_of, side_of, clock_of, kind_of, outcome_of}
+use Rattle.air_text.specs.Fields.{cipher_of, word_of}
 use Rattle.air_text.specs.Options.{goes, config_of, options_of}
 use Rattle.l2_types.specs.declared.limits.TheConstants.{GREATEST_GRANT, GREATEST_SDU}
 use Rattle.air_text.specs.declared.limits.TheConstants.{LONGEST_LINE}
@@ -47,7 +52,9 @@ unfoldable pub bearer_of : List (List ℕ) → Result Line LineRefusal
 bearer_of (lcid ∷ kind ∷ options) = if is_twice options then Err Fields else do
   n ← number_of 0 10 lcid
   k ← kind_of kind
-  if goes k n then (options_of (config_of n k) options >>= λ config. Ok (Bearer config (joined options))) else Err Range
+  if goes k n
+      then (options_of (config_of n k) options >>= λ config. Ok (Bearer config (joined options)))
+      else Err Range
 bearer_of fields = Err Fields
 
 unfoldable pub submit_of : List (List ℕ) → Result Line LineRefusal
@@ -162,7 +169,8 @@ line_of first fields =
 -- a line, or nothing where there is no word or a comment
 unfoldable pub read_words : List (List ℕ) → Result (Option Line) LineRefusal
 read_words [] = Ok None
-read_words (first ∷ fields) = if slice_index first 0 == 35 then Ok None else (line_of first fields >>= λ line. Ok (Some line))
+read_words (first ∷ fields) = if slice_index first 0 == 35 then Ok None
+    else (line_of first fields >>= λ line. Ok (Some line))
 
 -- a text of at most 20000 octets
 unfoldable pub read_of : List ℕ → Result (Option Line) LineRefusal

@@ -1,5 +1,6 @@
 -- The lines that some text says (docs/formats/SCRIPT.md).
-use Rattle.std.specs.Prelude.{ℕ, ◌==◌, Bool, true, false, if◌then◌else◌, List, [], ◌∷◌, ◌≡◌, length, ◌<◌, ◌≤◌, Ok, codes}
+use Rattle.std.specs.Prelude.{ℕ, ◌==◌, Bool, true, false, if◌then◌else◌, List, [], ◌∷◌, ◌≡◌, length}
+use Rattle.std.specs.Prelude.{◌<◌, ◌≤◌, Ok, codes}
 use Rattle.std.specs.Fmt.{decimal}
 use Rattle.hex.specs.Hex.{IsBytes}
 use Rattle.eps_sec.specs.declared.keys.Key.{Key}
@@ -47,26 +48,33 @@ pub record IsGoodDrx (c : DrxConfig) : Type 0 where
   pub cycle : (1 ≤ c.cycle) × (c.cycle ≤ 2560)
   pub offset : c.offset ≤ 2559
 
--- a line that some text says: its fields are in their ranges, and a bearer's configuration is what its options say
+-- a line that some text says: its fields are in their ranges, and a bearer's configuration is what
+-- its options say
 abbrev pub IsGoodLine : Line → Type 0
 IsGoodLine (lines.Harq visits) = (1 ≤ visits) × (visits ≤ 28)
 IsGoodLine lines.Bsr = Unit {0}
 IsGoodLine (lines.Keys keys) = IsGoodKey keys.user × IsGoodKey keys.rrc × IsGoodKey keys.integrity
 IsGoodLine (lines.Bearer config options) = IsGoodBearer config options
-IsGoodLine (lines.Submit side lcid octets) = (lcid ≤ 10) × IsBytes octets × (0 < length octets) × (length octets ≤ GREATEST_SDU)
-IsGoodLine (lines.Tti up_grant up down_grant down) = (up_grant ≤ GREATEST_GRANT) × (down_grant ≤ GREATEST_GRANT)
+IsGoodLine (lines.Submit side lcid octets) = (lcid ≤ 10) × IsBytes octets × (0 < length octets)
+    × (length octets ≤ GREATEST_SDU)
+IsGoodLine (lines.Tti up_grant up down_grant down) =
+    (up_grant ≤ GREATEST_GRANT) × (down_grant ≤ GREATEST_GRANT)
 IsGoodLine (lines.Expire side lcid clock) = lcid ≤ 10
-IsGoodLine (lines.Handover user rrc integrity) = IsGoodKey user × IsGoodKey rrc × IsGoodKey integrity
+IsGoodLine (lines.Handover user rrc integrity) = IsGoodKey user × IsGoodKey rrc
+    × IsGoodKey integrity
 IsGoodLine lines.LoopOff = Unit {0}
 IsGoodLine (lines.LoopA size) = size ≤ GREATEST_SDU
 IsGoodLine (lines.LoopB delay) = delay ≤ 65535
 IsGoodLine (lines.Drain grant) = grant ≤ GREATEST_GRANT
-IsGoodLine (lines.Forge side octets) = IsBytes octets × (0 < length octets) × (length octets ≤ GREATEST_GRANT)
+IsGoodLine (lines.Forge side octets) = IsBytes octets × (0 < length octets)
+    × (length octets ≤ GREATEST_GRANT)
 IsGoodLine lines.End = Unit {0}
 IsGoodLine (lines.Discard lcid ttis) = (lcid ≤ 10) × (2 ≤ ttis) × (ttis ≤ 65535)
 IsGoodLine (lines.Drx config) = IsGoodDrx config
 
--- the words of a line's text: those that it is printed from, but that a bearer's options are words of their own
+-- the words of a line's text: those that it is printed from, but that a bearer's options are words
+-- of their own
 abbrev pub spoken : (line : Line) → IsGoodLine line → List (List ℕ)
-spoken (lines.Bearer config options) h = codes "bearer" ∷ decimal config.channel.lcid ∷ kind_text config.kind ∷ h.words
+spoken (lines.Bearer config options) h =
+    codes "bearer" ∷ decimal config.channel.lcid ∷ kind_text config.kind ∷ h.words
 spoken line h = line_words line

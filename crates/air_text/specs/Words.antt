@@ -1,5 +1,6 @@
 -- The words of a text (docs/formats/SCRIPT.md).
-use Rattle.std.specs.Prelude.{◌≡◌, ℕ, ◌==◌, Bool, true, false, if◌then◌else◌, List, [], ◌∷◌, ◌++◌, length, map, Option, None, Some, Result, Ok, Err}
+use Rattle.std.specs.Prelude.{◌≡◌, ℕ, ◌==◌, Bool, true, false, if◌then◌else◌, List, [], ◌∷◌, ◌++◌}
+use Rattle.std.specs.Prelude.{length, map, Option, None, Some, Result, Ok, Err}
 use Rattle.std.specs.Borrow.{Bor}
 use Rattle.std.specs.Str.{bytes_eq}
 use Rattle.air_text.specs.declared.fault.LineRefusal.{LineRefusal}
@@ -7,7 +8,8 @@ use Rattle.air_text.specs.declared.fault.LineFault.{LineFault}
 use Rattle.air_text.specs.declared.fault.LineFault.TheVariants as faults
 
 infixl 10 ◌>>=◌
-abbrev pub ◌>>=◌ : {A B : Type 0} → Result A LineRefusal → (A → Result B LineRefusal) → Result B LineRefusal
+abbrev pub ◌>>=◌ : {A B : Type 0} → Result A LineRefusal → (A → Result B LineRefusal)
+    → Result B LineRefusal
 (Ok x) >>= f = f x
 (Err e) >>= f = Err e
 
@@ -20,7 +22,8 @@ abbrev pub Gives : {A : Type 0} → Result A LineFault → Result A LineRefusal 
 Gives (Ok x) read = read ≡ Ok x
 Gives (Err e) read = Fails e read
 
--- what a function answered, and what it left in a list, is what reading gives, unless memory ran out
+-- what a function answered, and what it left in a list, is what reading gives, unless memory ran
+-- out
 abbrev pub HasRead : Result (List ℕ) LineRefusal → List ℕ → Result Unit LineFault → Type 0
 HasRead read octets (Ok _) = read ≡ Ok octets
 HasRead read octets (Err e) = Fails e read

@@ -1,6 +1,10 @@
-ghost use Rattle.std.specs.Prelude.{◌≡◌, ◌≢◌, ◌⊎◌, [], ◌∷◌, slice_index, ◌≤◌, ◌<◌, ◌^◌, ◌+◌, ◌*◌, ◌-◌, ℕ, List, length, IfOk, IfSome, OnOk, MatchOption, IsTrue, codes, map};
+ghost use Rattle.std.specs.Prelude.{◌≡◌, ◌≢◌, ◌⊎◌, [], ◌∷◌, slice_index, ◌≤◌, ◌<◌, ◌^◌, ◌+◌, ◌*◌};
+ghost use Rattle.std.specs.Prelude.{◌-◌, ℕ, List, length, IfOk, IfSome, OnOk, MatchOption, IsTrue};
+ghost use Rattle.std.specs.Prelude.{codes, map};
 ghost use Rattle.air_text.specs.Words.{Gives, HasRead, words_of, texts};
-ghost use Rattle.air_text.specs.Fields.{number_of, either_of, limit_of, octets_of, side_of, clock_of, kind_of, outcome_of, outcome, cipher_of, word_of, is_number};
+ghost use Rattle.air_text.specs.Fields.{number_of, either_of, limit_of, octets_of, side_of};
+ghost use Rattle.air_text.specs.Fields.{clock_of, kind_of, outcome_of, outcome, cipher_of, word_of};
+ghost use Rattle.air_text.specs.Fields.{is_number};
 ghost use Rattle.text_digits.specs.Numerals.{is_digit, value_behind};
 ghost use Rattle.air_text.specs.Reading.{key_of};
 ghost use Rattle.std.specs.List.{AllPass, list_all};
@@ -59,7 +63,8 @@ fn is_numeral(text: &[u8]) -> bool
 // The number that digits say, or anything above the most where it is above.
 fn value(text: &[u8], most: u32) -> Option<u32>
     requires { AllPass is_digit text.now }
-    ensures { MatchOption result (most < value_behind 0 text.now) (λ n. (n ≤ most) × (n ≡ value_behind 0 text.now)) }
+    ensures { MatchOption result (most < value_behind 0 text.now) (λ n. (n ≤ most)
+        × (n ≡ value_behind 0 text.now)) }
 {
     let mut so_far = 0u64;
     for x in text {
@@ -126,7 +131,8 @@ pub fn octets(alloc: Global, text: &[u8], most: usize) -> Result<Bytes, LineFaul
     Ok(octets)
 }
 
-/// Reads octets in hexadecimal, at least one and at most so many, into a list in place of what it holds.
+/// Reads octets in hexadecimal, at least one and at most so many, into a list in place of what it
+/// holds.
 #[tactic(auto, using(crate::proofs::Octets::some_octets), unfolding(crate::specs::Fields::octets_of))]
 pub fn octets_into(octets: &mut Bytes, text: &[u8], most: usize) -> Result<(), LineFault>
     ensures value { HasRead (octets_of most text.now) octets.new result }
@@ -289,7 +295,8 @@ fn without_spaces(text: &[u8]) -> &[u8]
 
 /// The first word of a text, and what is behind it; `None` where there is no word.
 pub fn split_word(text: &[u8]) -> Option<(&[u8], &[u8])>
-    ensures { MatchOption result (words_of text.now ≡ []) (λ p. words_of text.now ≡ p.0.now ∷ words_of p.1.now) }
+    ensures { MatchOption result (words_of text.now ≡ [])
+        (λ p. words_of text.now ≡ p.0.now ∷ words_of p.1.now) }
 {
     let text = without_spaces(text);
     if text.is_empty() {

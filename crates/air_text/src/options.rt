@@ -1,6 +1,10 @@
-ghost use Rattle.std.specs.Prelude.{◌≡◌, ◌≤◌, true, ℕ, List, Option, None, Some, IfOk, MatchOption, codes};
-ghost use Rattle.air_text.specs.Words.{Gives, texts, joined, spaced, before_equals, behind_equals, is_option, is_named, is_again, is_twice};
-ghost use Rattle.air_text.specs.Options.{goes, priority_of, group_of, rlc_bits_of, pdcp_bits_of, config_of, name_of, has_um, has_srb, has_am, has, psn_of, option_of, word_option, options_of};
+ghost use Rattle.std.specs.Prelude.{◌≡◌, ◌≤◌, true, ℕ, List, Option, None, Some, IfOk, MatchOption};
+ghost use Rattle.std.specs.Prelude.{codes};
+ghost use Rattle.air_text.specs.Words.{Gives, texts, joined, spaced, before_equals, behind_equals};
+ghost use Rattle.air_text.specs.Words.{is_option, is_named, is_again, is_twice};
+ghost use Rattle.air_text.specs.Options.{goes, priority_of, group_of, rlc_bits_of, pdcp_bits_of};
+ghost use Rattle.air_text.specs.Options.{config_of, name_of, has_um, has_srb, has_am, has, psn_of};
+ghost use Rattle.air_text.specs.Options.{option_of, word_option, options_of};
 ghost use Rattle.std.specs.Str.{bytes_eq};
 ghost use Rattle.bearer_types.specs.Configs.{IsConfig, AreRlcBits, ArePdcpBits};
 ghost use Rattle.air_text.specs.Fields.{either_of};
@@ -32,7 +36,8 @@ pub enum Name {
 
 // The two sides of the first =.
 pub fn split(word: &[u8]) -> Option<(&[u8], &[u8])>
-    ensures { MatchOption result (behind_equals word.now ≡ None) (λ p. (p.0.now ≡ before_equals word.now) × (behind_equals word.now ≡ Some p.1.now)) }
+    ensures { MatchOption result (behind_equals word.now ≡ None)
+        (λ p. (p.0.now ≡ before_equals word.now) × (behind_equals word.now ≡ Some p.1.now)) }
 {
     for (i, x) in word.iter().enumerate() {
         if *x == b'=' {

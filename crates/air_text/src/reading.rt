@@ -2,7 +2,10 @@ ghost use Rattle.std.specs.Prelude.{◌≡◌, ℕ, List, codes, IfOk, IfSome};
 ghost use Rattle.air_text.specs.Ranges.{IsInRange};
 ghost use Rattle.air_text.specs.Words.{Gives, texts, joined, is_twice};
 ghost use Rattle.air_text.specs.Options.{config_of, options_of, goes};
-ghost use Rattle.air_text.specs.Reading.{harq_of, bsr_of, keys_of, bearer_of, submit_of, tti_of, expire_of, handover_of, loop_off_of, loop_a_of, loop_b_of, loop_of, drain_of, forge_of, end_of, discard_of, drx_of, line_of, read_words, read_of};
+ghost use Rattle.air_text.specs.Reading.{harq_of, bsr_of, keys_of, bearer_of, submit_of, tti_of};
+ghost use Rattle.air_text.specs.Reading.{expire_of, handover_of, loop_off_of, loop_a_of, loop_b_of};
+ghost use Rattle.air_text.specs.Reading.{loop_of, drain_of, forge_of, end_of, discard_of, drx_of};
+ghost use Rattle.air_text.specs.Reading.{line_of, read_words, read_of};
 ghost use Rattle.std.specs.Str.{bytes_eq};
 
 use crate::fault::{LineFault, LineRefusal};
@@ -16,7 +19,8 @@ use eps_sec::Keys;
 use l2_types::{DrxConfig, GREATEST_GRANT, GREATEST_SDU};
 use std::alloc::Global;
 
-// Lines that come seldom are read by functions of their own: inlined, each would take its room in the reading of every line.
+// Lines that come seldom are read by functions of their own: inlined, each would take its room in
+// the reading of every line.
 
 #[tactic(auto, unfolding(crate::specs::Reading::harq_of))]
 #[inline(never)]

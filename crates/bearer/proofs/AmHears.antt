@@ -11,7 +11,8 @@ none_back : (xs : List (List ℕ)) → slice_get xs 0 ≡ None → [] ≡ xs
 none_back [] h = refl
 none_back (x ∷ xs) h = let no : Some x ≡ None = h in cc
 
-pub hears_next : (xs : List (List ℕ)) (x : List ℕ) (w v : Work) → slice_get xs 0 ≡ Some x → v ≡ hears x w → hears_all (drop 1 xs) v ≡ hears_all xs w
+pub hears_next : (xs : List (List ℕ)) (x : List ℕ) (w v : Work) → slice_get xs 0 ≡ Some x → v ≡ hears x w
+    → hears_all (drop 1 xs) v ≡ hears_all xs w
 hears_next xs x w v h e = ap (hears_all (drop 1 xs)) e ∙ ap (λ l. hears_all l w) (first_back xs x h)
 
 pub hears_end : (xs : List (List ℕ)) (w : Work) → slice_get xs 0 ≡ None → w ≡ hears_all xs w

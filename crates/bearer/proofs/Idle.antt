@@ -7,7 +7,8 @@ use Rattle.bearer.specs.declared.flow.Flow.TheVariants.{Tm, Um, Am}
 use Rattle.bearer.specs.Hearing.{expiry as flow_expiry, expired as flow_expired}
 use Rattle.bearer.specs.Acknowledged.State.{State as Acknowledged, has_more}
 use Rattle.bearer.specs.Acknowledged.Timing.{poll_told, timer_told, expiry as am_expiry, after_expiry as am_expired}
-use Rattle.bearer.specs.Unacknowledged.Hearing.{expiry_told, expiry_left, expiry as um_expiry, after_expiry as um_expired}
+use Rattle.bearer.specs.Unacknowledged.Hearing.{expiry_told, expiry_left, expiry as um_expiry}
+use Rattle.bearer.specs.Unacknowledged.Hearing.{after_expiry as um_expired}
 use Rattle.bearer.specs.Unacknowledged.State.{State as Unacknowledged}
 use Rattle.l2_num.specs.Timers.{Clock as Timer, clock as timer, ceased}
 use Rattle.l2_types.specs.declared.event.Clock.{Clock}
@@ -35,7 +36,8 @@ um_kept b Prohibit none = refl
 
 -- ---- an acknowledged bearer
 
-poll_by : (runs : Bool) (limit : Option ℕ) (lcid : ℕ) (left s : Sender) → poll_told lcid (if runs then expiry_of limit else polls.NotRunning) ≡ None → (if runs then left else s) ≡ s
+poll_by : (runs : Bool) (limit : Option ℕ) (lcid : ℕ) (left s : Sender)
+    → poll_told lcid (if runs then expiry_of limit else polls.NotRunning) ≡ None → (if runs then left else s) ≡ s
 poll_by false limit lcid left s none = refl
 poll_by true None lcid left s none = cc
 poll_by true (Some sn) lcid left s none = cc
@@ -44,15 +46,20 @@ poll_kept : (lcid : ℕ) (s : Sender) (more : Bool) → poll_told lcid (poll_exp
 unfolding poll_expiry after_poll
 poll_kept lcid s more none = poll_by _ _ lcid _ s none
 
-reorder_by : (mark : Option ℕ) (lcid : ℕ) (s : Receiver) → timer_told lcid Reorder (reorder_answer mark s) ≡ None → after_reorder mark s ≡ s
+reorder_by : (mark : Option ℕ) (lcid : ℕ) (s : Receiver) → timer_told lcid Reorder (reorder_answer mark s) ≡ None
+    → after_reorder mark s ≡ s
 reorder_by None lcid s none = refl
 reorder_by (Some x) lcid s none = cc
 
-running_by : (left : Option ℕ) (length lcid : ℕ) → timer_told lcid Prohibit (if is_some left then Done false else NotRunning) ≡ None → timer length None ≡ timer length left
+running_by : (left : Option ℕ) (length lcid : ℕ)
+    → timer_told lcid Prohibit (if is_some left then Done false else NotRunning) ≡ None
+    → timer length None ≡ timer length left
 running_by None length lcid none = refl
 running_by (Some n) length lcid none = cc
 
-prohibit_by : (prohibit : Option Timer) (lcid : ℕ) → timer_told lcid Prohibit (if is_running prohibit then Done false else NotRunning) ≡ None → option_map ceased prohibit ≡ prohibit
+prohibit_by : (prohibit : Option Timer) (lcid : ℕ)
+    → timer_told lcid Prohibit (if is_running prohibit then Done false else NotRunning) ≡ None
+    → option_map ceased prohibit ≡ prohibit
 prohibit_by None lcid none = refl
 prohibit_by (Some c) lcid none = ap (λ (t : Timer). Some t) (running_by c.left c.length lcid none)
 
@@ -60,7 +67,9 @@ am_kept : (b : Acknowledged) (clock : Clock) → am_expiry b clock ≡ None → 
 unfolding am_expiry am_expired
 am_kept b Poll none = ap (λ (s : Sender). record b { tx = s }) (poll_kept b.pdcp.lcid b.tx (has_more b.pdcp) none)
 am_kept b Reorder none = ap (λ (s : Receiver). record b { rx = s }) (reorder_by b.rx.mark b.pdcp.lcid b.rx none)
-am_kept b Prohibit none = ap (λ (p : Option Timer). record b { rx = record b.rx { prohibit = p } }) (prohibit_by b.rx.prohibit b.pdcp.lcid none)
+am_kept b Prohibit none =
+    ap (λ (p : Option Timer). record b { rx = record b.rx { prohibit = p } })
+    (prohibit_by b.rx.prohibit b.pdcp.lcid none)
 
 -- ---- a bearer of any kind
 
@@ -70,5 +79,6 @@ flow_kept (Tm b) clock none = refl
 flow_kept (Um b) clock none = ap Um (um_kept b clock none)
 flow_kept (Am b) clock none = ap Am (am_kept b clock none)
 
-pub bearer_kept : (b : Of Life) (clock : Clock) → b.state.dead ≡ false → flow_expiry b.state.flow clock ≡ None → of b.lcid (alive (flow_expired b.state.flow clock)) ≡ b
+pub bearer_kept : (b : Of Life) (clock : Clock) → b.state.dead ≡ false → flow_expiry b.state.flow clock ≡ None
+    → of b.lcid (alive (flow_expired b.state.flow clock)) ≡ b
 bearer_kept b clock live none = rw (flow_kept b.state.flow clock none, ← live) refl

@@ -1,5 +1,6 @@
 -- The octets of a STATUS from its bits.
-use Rattle.std.proofs.Common.{◌≡◌, ◌<◌, ◌≤◌, ℕ, suc, zero, ◌/◌, ◌%◌, Bool, List, [], ◌∷◌, ◌++◌, length, take, drop, slice_index, refl, ap, sym, ◌∙◌, arith}
+use Rattle.std.proofs.Common.{◌≡◌, ◌<◌, ◌≤◌, ℕ, suc, zero, ◌/◌, ◌%◌, Bool, List, [], ◌∷◌, ◌++◌, length, take, drop}
+use Rattle.std.proofs.Common.{slice_index, refl, ap, sym, ◌∙◌, arith}
 use Rattle.l2_bits.specs.Bits.{number, bits, bits_of, digit, filling}
 use Rattle.l2_bits.proofs.BitFields.{length-bits, length-bits_of, number-bits}
 use Rattle.rlc_pdu.specs.declared.Nack.{Nack}
@@ -25,12 +26,15 @@ octet_bits o lt = number-bits 8 o ∙ omega (arith, lt)
 pub octets_again : (xs : List ℕ) → ((i : ℕ) → slice_index xs i < 256) → octets_in (length xs) (bits_of xs) ≡ xs
 octets_again [] fits = refl
 octets_again (x ∷ xs) fits =
-    ap (λ (b : List Bool). number b ∷ octets_in (length xs) (drop 8 (bits 8 x ++ bits_of xs))) (first_bits (bits 8 x) (bits_of xs) 8 (length-bits 8 x))
-    ∙ ap (λ (b : List Bool). number (bits 8 x) ∷ octets_in (length xs) b) (other_bits (bits 8 x) (bits_of xs) 8 (length-bits 8 x))
+    ap (λ (b : List Bool). number b ∷ octets_in (length xs) (drop 8 (bits 8 x ++ bits_of xs)))
+    (first_bits (bits 8 x) (bits_of xs) 8 (length-bits 8 x))
+    ∙ ap (λ (b : List Bool). number (bits 8 x) ∷ octets_in (length xs) b)
+    (other_bits (bits 8 x) (bits_of xs) 8 (length-bits 8 x))
     ∙ ap (λ (n : ℕ). n ∷ octets_in (length xs) (bits_of xs)) (octet_bits x (fits 0))
     ∙ ap (λ (l : List ℕ). x ∷ l) (octets_again xs (λ i. fits (suc i)))
 
-pub written_is : (xs : List ℕ) (w : List Bool) → xs ≡ octets_in (length xs) (bits_of xs) → bits_of xs ≡ w → xs ≡ octets_of w
+pub written_is : (xs : List ℕ) (w : List Bool) → xs ≡ octets_in (length xs) (bits_of xs) → bits_of xs ≡ w
+    → xs ≡ octets_of w
 written_is xs w e q =
     let n : length w / 8 ≡ length xs = omega (arith, length-bits_of xs, ap length q) in
     e ∙ ap (octets_in (length xs)) q ∙ ap (λ (k : ℕ). octets_in k w) (sym n)
@@ -48,10 +52,13 @@ ack_bits ack nacks lt =
     assoc3 [] (x ∷ xs) c d = ap (λ l. x ∷ l) (assoc3 [] xs c d)
     assoc3 (x ∷ xs) b c d = ap (λ l. x ∷ l) (assoc3 xs b c d)
 
-    front : (ack : ℕ) (rest fill : List Bool) → drop 4 ((bits 4 0 ++ (bits 10 ack ++ rest)) ++ fill) ≡ bits 10 ack ++ (rest ++ fill)
-    front ack rest fill = ap (drop 4) (assoc3 (bits 4 0) (bits 10 ack) rest fill) ∙ other_bits (bits 4 0) (bits 10 ack ++ (rest ++ fill)) 4 (length-bits 4 0)
+    front : (ack : ℕ) (rest fill : List Bool)
+        → drop 4 ((bits 4 0 ++ (bits 10 ack ++ rest)) ++ fill) ≡ bits 10 ack ++ (rest ++ fill)
+    front ack rest fill = ap (drop 4) (assoc3 (bits 4 0) (bits 10 ack) rest fill)
+        ∙ other_bits (bits 4 0) (bits 10 ack ++ (rest ++ fill)) 4 (length-bits 4 0)
 
-pub ack_is : (xs : List ℕ) (n : ℕ) (nacks : List Nack) → bits_of xs ≡ status_written (n % 1024) nacks → number (take 10 (drop 4 (bits_of xs))) ≡ n % 1024
+pub ack_is : (xs : List ℕ) (n : ℕ) (nacks : List Nack) → bits_of xs ≡ status_written (n % 1024) nacks
+    → number (take 10 (drop 4 (bits_of xs))) ≡ n % 1024
 ack_is xs n nacks e = ap (λ (b : List Bool). number (take 10 (drop 4 b))) e ∙ ack_bits (n % 1024) nacks (omega arith)
 
 pub two_octets : (xs : List ℕ) (nacks : List Nack) → length xs ≡ status_size nacks → 2 ≤ length xs

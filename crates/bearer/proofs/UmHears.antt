@@ -8,8 +8,10 @@ use Rattle.bearer_pdcp.specs.Ends.{Ends}
 use Rattle.bearer_pdcp.specs.Hearing.{heard_told, after_hearing}
 use Rattle.bearer.specs.Unacknowledged.Hearing.{hears_all, handing}
 
-pub hears_next : (r : Receiver) (sdu : List ℕ) (pdcp : Ends) (events : List Event) → slice_get r.joined.ready 0 ≡ Some sdu
-    → handing (handed r) (after_hearing sdu Arrived pdcp) (events ++ heard_told sdu Arrived pdcp) ≡ handing r pdcp events
+pub hears_next : (r : Receiver) (sdu : List ℕ) (pdcp : Ends) (events : List Event)
+    → slice_get r.joined.ready 0 ≡ Some sdu
+    → handing (handed r) (after_hearing sdu Arrived pdcp) (events ++ heard_told sdu Arrived pdcp)
+    ≡ handing r pdcp events
 hears_next r sdu pdcp events h =
     ap (λ l. hears_all l Arrived (record { pdcp = pdcp; events = events })) (first_back r.joined.ready sdu h)
   where
@@ -17,8 +19,10 @@ hears_next r sdu pdcp events h =
     first_back [] x h = let no : None ≡ Some x = h in cc
     first_back (y ∷ ys) x h = let same : Some y ≡ Some x = h in ap (λ z. z ∷ ys) cc
 
-pub hears_end : (r : Receiver) (pdcp : Ends) (events : List Event) → slice_get r.joined.ready 0 ≡ None → record { pdcp = pdcp; events = events } ≡ handing r pdcp events
-hears_end r pdcp events h = ap (λ l. hears_all l Arrived (record { pdcp = pdcp; events = events })) (back r.joined.ready h)
+pub hears_end : (r : Receiver) (pdcp : Ends) (events : List Event) → slice_get r.joined.ready 0 ≡ None
+    → record { pdcp = pdcp; events = events } ≡ handing r pdcp events
+hears_end r pdcp events h =
+    ap (λ l. hears_all l Arrived (record { pdcp = pdcp; events = events })) (back r.joined.ready h)
   where
     back : (xs : List (List ℕ)) → slice_get xs 0 ≡ None → [] ≡ xs
     back [] h = refl

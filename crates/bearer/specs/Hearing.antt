@@ -2,9 +2,13 @@
 use Rattle.std.specs.Prelude.{ℕ, List, [], Option, Some, None}
 use Rattle.bearer_types.specs.declared.Event.{Event}
 use Rattle.l2_types.specs.declared.Clock.{Clock}
-use Rattle.bearer.specs.Unacknowledged.Hearing.{arriving as um_arriving, after_arrival as um_arrived, expiry as um_expiry, after_expiry as um_expired, ticking as um_ticking, after_ticking as um_ticked}
+use Rattle.bearer.specs.Unacknowledged.Hearing.{arriving as um_arriving}
+use Rattle.bearer.specs.Unacknowledged.Hearing.{after_arrival as um_arrived, expiry as um_expiry}
+use Rattle.bearer.specs.Unacknowledged.Hearing.{after_expiry as um_expired, ticking as um_ticking}
+use Rattle.bearer.specs.Unacknowledged.Hearing.{after_ticking as um_ticked}
 use Rattle.bearer.specs.Acknowledged.Hearing.{arriving as am_arriving, after_arrival as am_arrived}
-use Rattle.bearer.specs.Acknowledged.Timing.{expiry as am_expiry, after_expiry as am_expired, ticked as am_ticked}
+use Rattle.bearer.specs.Acknowledged.Timing.{expiry as am_expiry, after_expiry as am_expired}
+use Rattle.bearer.specs.Acknowledged.Timing.{ticked as am_ticked}
 use Rattle.bearer.specs.declared.flow.Flow.{Flow}
 use Rattle.bearer.specs.declared.flow.Flow.TheVariants.{Tm, Um, Am}
 use Rattle.bearer.specs.Transparent.{arrived_told}
@@ -43,5 +47,7 @@ ticked (Am b) = Am (am_ticked b).bearer
 -- the length of discard timers is set; a transparent bearer has none
 unfoldable pub with_discard : Flow → ℕ → Flow
 with_discard (Tm b) ttis = Tm b
-with_discard (Um b) ttis = Um (record b { pdcp = record b.pdcp { tx = record b.pdcp.tx { discard = Some ttis } } })
-with_discard (Am b) ttis = Am (record b { pdcp = record b.pdcp { tx = record b.pdcp.tx { discard = Some ttis } } })
+with_discard (Um b) ttis =
+    Um (record b { pdcp = record b.pdcp { tx = record b.pdcp.tx { discard = Some ttis } } })
+with_discard (Am b) ttis =
+    Am (record b { pdcp = record b.pdcp { tx = record b.pdcp.tx { discard = Some ttis } } })

@@ -4,8 +4,10 @@ use Rattle.std.specs.Prelude.{List, []}
 use Rattle.bearer_types.specs.declared.Event.{Event}
 use Rattle.eps_sec.specs.declared.Keys.{Keys}
 use Rattle.rlc_um.specs.Transparent.{nothing_submitted}
-use Rattle.bearer.specs.Unacknowledged.Lives.{stopped as um_stopped, stopping as um_stopping, restarted as um_restarted}
-use Rattle.bearer.specs.Acknowledged.Lives.{stopped as am_stopped, stopping as am_stopping, restarted as am_restarted}
+use Rattle.bearer.specs.Unacknowledged.Lives.{stopped as um_stopped, stopping as um_stopping}
+use Rattle.bearer.specs.Unacknowledged.Lives.{restarted as um_restarted}
+use Rattle.bearer.specs.Acknowledged.Lives.{stopped as am_stopped, stopping as am_stopping}
+use Rattle.bearer.specs.Acknowledged.Lives.{restarted as am_restarted}
 use Rattle.bearer.specs.declared.flow.Flow.{Flow}
 use Rattle.bearer.specs.declared.flow.Flow.TheVariants.{Tm, Um, Am}
 use Rattle.bearer.specs.declared.flow.StoppedFlow.{StoppedFlow}

@@ -1,7 +1,8 @@
 -- An SDU is submitted (TS 36.323 5.1.1).
 use Rattle.std.specs.Prelude.{ℕ, List, Option}
 use Rattle.l2_bits.specs.declared.SubmitRefusal.{SubmitRefusal}
-use Rattle.rlc_um.specs.Transparent.{refusal as transparent_refusal, submitted as transparent_submitted}
+use Rattle.rlc_um.specs.Transparent.{refusal as transparent_refusal}
+use Rattle.rlc_um.specs.Transparent.{submitted as transparent_submitted}
 use Rattle.pdcp_tx.specs.State.{refusal as pdcp_refusal, submitted as pdcp_submitted}
 use Rattle.bearer.specs.declared.flow.Flow.{Flow}
 use Rattle.bearer.specs.declared.flow.Flow.TheVariants.{Tm, Um, Am}

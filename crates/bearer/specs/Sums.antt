@@ -4,7 +4,8 @@ use Rattle.rlc_queue.specs.Waiting.{total}
 use Rattle.rlc_um.specs.Sender.{need as um_need}
 use Rattle.rlc_um.specs.Transparent.{need as transparent_need}
 use Rattle.pdcp_tx.specs.State.{left as pdcp_left}
-use Rattle.bearer.specs.Acknowledged.Sums.{need as am_need, backlog as am_backlog, left as am_left, is_drained as am_drained, pdcp_octets, pdcp_waiting}
+use Rattle.bearer.specs.Acknowledged.Sums.{need as am_need, backlog as am_backlog, left as am_left}
+use Rattle.bearer.specs.Acknowledged.Sums.{is_drained as am_drained, pdcp_octets, pdcp_waiting}
 use Rattle.bearer.specs.declared.flow.Flow.{Flow}
 use Rattle.bearer.specs.declared.flow.Flow.TheVariants.{Tm, Um, Am}
 

@@ -3,8 +3,10 @@ use Rattle.std.specs.Prelude.{ℕ, ◌-◌, List, Option, None}
 use Rattle.bearer_types.specs.declared.Event.{Event}
 use Rattle.rlc_um.specs.Transparent.{taken as tm_taken, after_take as tm_after}
 use Rattle.bearer_pdcp.specs.Telling.{pdus_of, number_of}
-use Rattle.bearer.specs.Unacknowledged.Taking.{answer as um_answer, taking as um_taking, after_taking as um_after}
-use Rattle.bearer.specs.Acknowledged.Taking.{answer as am_answer, pdus as am_pdus, taking as am_taking, after_taking as am_after}
+use Rattle.bearer.specs.Unacknowledged.Taking.{answer as um_answer, taking as um_taking}
+use Rattle.bearer.specs.Unacknowledged.Taking.{after_taking as um_after}
+use Rattle.bearer.specs.Acknowledged.Taking.{answer as am_answer, pdus as am_pdus}
+use Rattle.bearer.specs.Acknowledged.Taking.{taking as am_taking, after_taking as am_after}
 use Rattle.bearer.specs.declared.flow.Flow.{Flow}
 use Rattle.bearer.specs.declared.flow.Flow.TheVariants.{Tm, Um, Am}
 use Rattle.bearer.specs.Transparent.{data_told}

@@ -10,7 +10,8 @@ use Rattle.rlc_pdu.specs.declared.RlcWhy.TheVariants.{Short}
 
 -- it has no COUNT and no number
 abbrev pub data_told : ℕ → Taken → List Event
-data_told lcid (Piece number first polled octets) = events.Take lcid None (length octets) ∷ events.Send lcid how.Tm 0 ∷ []
+data_told lcid (Piece number first polled octets) =
+    events.Take lcid None (length octets) ∷ events.Send lcid how.Tm 0 ∷ []
 data_told lcid Idle = []
 data_told lcid Small = events.Wait lcid waits.Small ∷ []
 data_told lcid Shut = events.Wait lcid waits.Shut ∷ []
@@ -19,4 +20,5 @@ data_told lcid Stopped = events.Wait lcid waits.Stopped ∷ []
 
 -- a PDU without octets can't be read
 abbrev pub arrived_told : ℕ → List ℕ → List Event
-arrived_told lcid pdu = if length pdu == 0 then events.BadRlc lcid (record { at = 0; why = Short }) ∷ [] else events.Up lcid pdu ∷ []
+arrived_told lcid pdu = if length pdu == 0
+    then events.BadRlc lcid (record { at = 0; why = Short }) ∷ [] else events.Up lcid pdu ∷ []

@@ -1,8 +1,8 @@
-//! A bearer over acknowledged RLC at one end of the link, of data or of signalling: PDCP over both sides of acknowledged
-//! RLC.
+//! A bearer over acknowledged RLC at one end of the link, of data or of signalling: PDCP over both
+//! sides of acknowledged RLC.
 //!
-//! Contracts speak of an exact machine, which stands in `specs/`. Where a call answers `NoMemory`, nothing is said of
-//! the bearer from then on.
+//! Contracts speak of an exact machine, which stands in `specs/`. Where a call answers `NoMemory`,
+//! nothing is said of the bearer from then on.
 
 mod feeding;
 mod hearing;

@@ -1,4 +1,5 @@
-ghost use Rattle.std.specs.Prelude.{◌≡◌, ◌≤◌, ◌+◌, ◌<◌, ◌^◌, None, Err, length, OnOk, OnErr, IfOk, IfErr, IsTrue, IsFalse, IsErr};
+ghost use Rattle.std.specs.Prelude.{◌≡◌, ◌≤◌, ◌+◌, ◌<◌, ◌^◌, None, Err, length, OnOk, OnErr, IfOk};
+ghost use Rattle.std.specs.Prelude.{IfErr, IsTrue, IsFalse, IsErr};
 ghost use Rattle.l2_bits.specs.declared.SubmitRefusal.TheVariants as refusals;
 ghost use Rattle.bearer_pdcp.specs.Shares.{FitsShare};
 ghost use Rattle.bearer_pdcp.specs.Submitting.{Answers, StaysOrDies};
@@ -7,7 +8,8 @@ ghost use Rattle.bearer.specs.Bearer.{of, alive, begun};
 ghost use Rattle.bearer.specs.Submitting.{refusal, submitted};
 ghost use Rattle.bearer.specs.Sums.{need, backlog, left, is_drained};
 ghost use Rattle.bearer.specs.Taking.{pdus, number, told, after};
-ghost use Rattle.bearer.specs.Hearing.{arriving, arrived, expiry, expired, ticking, ticked, with_discard};
+ghost use Rattle.bearer.specs.Hearing.{arriving, arrived, expiry, expired, ticking, ticked};
+ghost use Rattle.bearer.specs.Hearing.{with_discard};
 ghost use Rattle.bearer.specs.Lives.{stopped, stopping, restarted};
 
 use crate::flow::{Flow, StoppedFlow};
@@ -62,10 +64,11 @@ impl Model for Released {
     ghost view = { λ r. r.stopped };
 }
 
-/// A bearer at one end of the link. `S` is `Running` in a life, `Stopped` between two, and `Released` on the way from one
-/// cell to another.
+/// A bearer at one end of the link. `S` is `Running` in a life, `Stopped` between two, and
+/// `Released` on the way from one cell to another.
 ///
-/// Where memory runs out in a call of a running bearer, it answers `NoMemory` from then on to each call that can.
+/// Where memory runs out in a call of a running bearer, it answers `NoMemory` from then on to each
+/// call that can.
 pub struct Bearer<S> {
     lcid: u8,
     state: S,
@@ -86,8 +89,8 @@ impl<S: Drop> Drop for Bearer<S> {
 }
 
 impl Bearer<Running> {
-    /// A bearer as both ends are configured with it, by a configuration that its kind may have, at an end and under the
-    /// keys of its first life.
+    /// A bearer as both ends are configured with it, by a configuration that its kind may have, at
+    /// an end and under the keys of its first life.
     #[tactic(auto, unfolding(crate::specs::Bearer::begun))]
     pub fn new(
         alloc: Global,
@@ -117,12 +120,14 @@ impl Bearer<Running> {
 
     /// Takes over a copy of an SDU of 1 to 8188 octets, which then waits.
     ///
-    /// Refused are, in this order: no octets, more than 8188 octets, any SDU where 1024 wait, and any where its COUNT would
-    /// be 2^32. A refusal other than `NoMemory` changes nothing.
+    /// Refused are, in this order: no octets, more than 8188 octets, any SDU where 1024 wait, and
+    /// any where its COUNT would be 2^32. A refusal other than `NoMemory` changes nothing.
     pub fn submit(&mut self, sdu: &[u8]) -> Result<(), SubmitRefusal>
         ensures fits { OnOk result (refusal self.old.state.flow sdu.now ≡ None) }
-        ensures state { OnOk result (self.new ≡ of self.old.lcid (alive (submitted self.old.state.flow sdu.now))) }
-        ensures answer { IsFalse self.old.state.dead → IfErr result (λ e. Answers e (refusal self.old.state.flow sdu.now)) }
+        ensures state { OnOk result
+            (self.new ≡ of self.old.lcid (alive (submitted self.old.state.flow sdu.now))) }
+        ensures answer { IsFalse self.old.state.dead
+            → IfErr result (λ e. Answers e (refusal self.old.state.flow sdu.now)) }
         ensures refused { IfErr result (λ e. StaysOrDies e (self.new ≡ self.old)) }
         ensures dead { IsTrue self.old.state.dead → result ≡ Err refusals.NoMemory }
         ensures dies { result ≡ Err refusals.NoMemory → IsTrue self.new.state.dead }
@@ -135,8 +140,9 @@ impl Bearer<Running> {
         answer
     }
 
-    /// What the bearer needs of a grant of so many octets, with 3 for each subheader (TS 36.321 5.4.3.1); more than
-    /// 2^32 - 1 is told as that. `held` is the lowest number of this bearer that HARQ holds.
+    /// What the bearer needs of a grant of so many octets, with 3 for each subheader (TS 36.321
+    /// 5.4.3.1); more than 2^32 - 1 is told as that. `held` is the lowest number of this bearer
+    /// that HARQ holds.
     pub fn need(&self, grant: u32, held: Option<u64>) -> u32
         ensures { result ≡ need self.now.state.flow grant held }
     {
@@ -150,8 +156,8 @@ impl Bearer<Running> {
         self.state.flow.backlog()
     }
 
-    /// The octets that a drain has still to bring over: SDUs that wait or aren't confirmed, and PDUs that aren't
-    /// acknowledged.
+    /// The octets that a drain has still to bring over: SDUs that wait or aren't confirmed, and
+    /// PDUs that aren't acknowledged.
     pub fn left(&self) -> u64
         ensures { result ≡ left self.now.state.flow }
     {
@@ -165,15 +171,18 @@ impl Bearer<Running> {
         self.state.flow.drained()
     }
 
-    /// Writes within a share of a grant, of at most 9424 octets: a STATUS that is due, and then at most one data PDU, each
-    /// with 3 octets for its subheader. Where data waits and none is written, the first reason that is true is told.
+    /// Writes within a share of a grant, of at most 9424 octets: a STATUS that is due, and then at
+    /// most one data PDU, each with 3 octets for its subheader. Where data waits and none is
+    /// written, the first reason that is true is told.
     pub fn take(&mut self, share: u32, held: Option<u64>) -> Result<Written, NoMemory>
         requires { share ≤ GREATEST_GRANT + 2 }
         ensures pdus { IfOk result (λ w. w.pdus ≡ pdus self.old.state.flow share held) }
         ensures number { IfOk result (λ w. w.number ≡ number self.old.state.flow share held) }
-        ensures told { IfOk result (λ w. w.events ≡ told self.old.lcid self.old.state.flow share held) }
+        ensures told { IfOk result (λ w. w.events
+            ≡ told self.old.lcid self.old.state.flow share held) }
         ensures fits { IfOk result (λ w. FitsShare share w.pdus) }
-        ensures state { OnOk result (self.new ≡ of self.old.lcid (alive (after self.old.state.flow share held))) }
+        ensures state { OnOk result
+            (self.new ≡ of self.old.lcid (alive (after self.old.state.flow share held))) }
         ensures dead { IsTrue self.old.state.dead → IsErr result }
         ensures err { OnErr result (IsTrue self.new.state.dead) }
     {
@@ -188,8 +197,10 @@ impl Bearer<Running> {
     /// A PDU of fewer than 2^28 octets arrives, and what comes of it is told.
     pub fn arrive(&mut self, pdu: &[u8]) -> Result<Events, NoMemory>
         requires { length pdu.now < 2 ^ 28 }
-        ensures told { IfOk result (λ events. events ≡ arriving self.old.lcid self.old.state.flow pdu.now) }
-        ensures state { OnOk result (self.new ≡ of self.old.lcid (alive (arrived self.old.state.flow pdu.now))) }
+        ensures told { IfOk result (λ events. events
+            ≡ arriving self.old.lcid self.old.state.flow pdu.now) }
+        ensures state { OnOk result
+            (self.new ≡ of self.old.lcid (alive (arrived self.old.state.flow pdu.now))) }
         ensures dead { IsTrue self.old.state.dead → IsErr result }
         ensures err { OnErr result (IsTrue self.new.state.dead) }
     {
@@ -201,10 +212,12 @@ impl Bearer<Running> {
         answer
     }
 
-    /// A TTI begins: timers may expire, in the order poll, reorder, prohibit, and then discard timers.
+    /// A TTI begins: timers may expire, in the order poll, reorder, prohibit, and then discard
+    /// timers.
     pub fn tick(&mut self) -> Result<Events, NoMemory>
         ensures told { IfOk result (λ events. events ≡ ticking self.old.state.flow) }
-        ensures state { OnOk result (self.new ≡ of self.old.lcid (alive (ticked self.old.state.flow))) }
+        ensures state { OnOk result
+            (self.new ≡ of self.old.lcid (alive (ticked self.old.state.flow))) }
         ensures dead { IsTrue self.old.state.dead → IsErr result }
         ensures err { OnErr result (IsTrue self.new.state.dead) }
     {
@@ -216,10 +229,12 @@ impl Bearer<Running> {
         answer
     }
 
-    /// A timer expires, and what that does is told; `None` exactly where it doesn't run, and nothing then changes.
+    /// A timer expires, and what that does is told; `None` exactly where it doesn't run, and
+    /// nothing then changes.
     pub fn expire(&mut self, clock: Clock) -> Result<Option<Events>, NoMemory>
         ensures told { IfOk result (λ events. events ≡ expiry self.old.state.flow clock) }
-        ensures state { OnOk result (self.new ≡ of self.old.lcid (alive (expired self.old.state.flow clock))) }
+        ensures state { OnOk result
+            (self.new ≡ of self.old.lcid (alive (expired self.old.state.flow clock))) }
         ensures dead { IsTrue self.old.state.dead → IsErr result }
         ensures err { OnErr result (IsTrue self.new.state.dead) }
     {
@@ -233,13 +248,16 @@ impl Bearer<Running> {
 
     /// Sets the length of the discard timers in TTIs.
     pub fn set_discard(&mut self, ttis: u32)
-        ensures { self.new ≡ of self.old.lcid (record self.old.state { flow = with_discard self.old.state.flow ttis }) }
+        ensures { self.new
+            ≡ of self.old.lcid
+            (record self.old.state { flow = with_discard self.old.state.flow ttis }) }
     {
         self.state.flow.set_discard(ttis)
     }
 
-    /// Ends the life (TS 36.322 5.4, TS 36.323 5.2): what RLC can put together is handed up, or dropped on a signalling
-    /// bearer, and told. An `Err` gives back a bearer that has run out of memory.
+    /// Ends the life (TS 36.322 5.4, TS 36.323 5.2): what RLC can put together is handed up, or
+    /// dropped on a signalling bearer, and told. An `Err` gives back a bearer that has run out of
+    /// memory.
     pub fn stop(self) -> Result<(Bearer<Stopped>, Events), (Bearer<Running>, NoMemory)>
         ensures told { IfOk result (λ r. r.1 ≡ stopping self.state.flow) }
         ensures state { IfOk result (λ r. r.0 ≡ of self.lcid (stopped self.state.flow)) }
@@ -270,8 +288,9 @@ impl Bearer<Running> {
 }
 
 impl Bearer<Stopped> {
-    /// Begins the next life under other keys (TS 36.323 5.2): an acknowledged data bearer owes a status report first, then
-    /// takes again what isn't confirmed. An `Err` gives back the bearer as it was.
+    /// Begins the next life under other keys (TS 36.323 5.2): an acknowledged data bearer owes a
+    /// status report first, then takes again what isn't confirmed. An `Err` gives back the bearer
+    /// as it was.
     pub fn restart(self, keys: &Keys) -> Result<Bearer<Running>, (Bearer<Stopped>, NoMemory)>
         ensures ok { IfOk result (λ b. b ≡ of self.lcid (alive (restarted self.state keys.now))) }
         ensures err { IfErr result (λ e. e.0 ≡ self) }

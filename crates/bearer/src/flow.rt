@@ -8,7 +8,8 @@ ghost use Rattle.bearer.specs.Bearer.{flow_of};
 ghost use Rattle.bearer.specs.Submitting.{refusal, submitted};
 ghost use Rattle.bearer.specs.Sums.{need, backlog, left, is_drained};
 ghost use Rattle.bearer.specs.Taking.{pdus, number, told, after};
-ghost use Rattle.bearer.specs.Hearing.{arriving, arrived, expiry, expired, ticking, ticked, with_discard};
+ghost use Rattle.bearer.specs.Hearing.{arriving, arrived, expiry, expired, ticking, ticked};
+ghost use Rattle.bearer.specs.Hearing.{with_discard};
 
 use crate::acknowledged::{AmBearer, StoppedAm};
 use crate::transparent::TmBearer;

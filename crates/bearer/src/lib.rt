@@ -1,5 +1,5 @@
-//! A bearer at one end of the link, of any kind, with its states as types: one in a life takes and hears PDUs; one between
-//! two lives can only be restarted or released.
+//! A bearer at one end of the link, of any kind, with its states as types: one in a life takes and
+//! hears PDUs; one between two lives can only be restarted or released.
 //!
 //! Contracts speak of an exact machine, which stands in `specs/`.
 #![tactic(auto)]

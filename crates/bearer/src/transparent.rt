@@ -96,7 +96,8 @@ fn tell(lcid: u8, taken: &Taken, events: &mut Events) -> Result<(), NoMemory>
 
 fn tell_piece(lcid: u8, octets: &Bytes, events: &mut Events) -> Result<(), NoMemory>
     requires { length octets.now < 2 ^ 32 }
-    ensures { OnOk result (events.new ≡ events.old ++ events_of.Take lcid None (length octets.now) ∷ events_of.Send lcid hows.Tm 0 ∷ []) }
+    ensures { OnOk result (events.new ≡ events.old ++ events_of.Take lcid None (length octets.now)
+        ∷ events_of.Send lcid hows.Tm 0 ∷ []) }
 {
     events.push(Event::Take {
         lcid,

@@ -41,15 +41,18 @@ answer-fits share Shut h = fits-none share
 answer-fits share Held h = fits-none share
 answer-fits share Stopped h = fits-none share
 
-pub taken-fits : (share : ℕ) (t : Taken) (pdus : List (List ℕ)) → IsWithin (share - 3) t → pdus ≡ pdus_of t → FitsShare share pdus
+pub taken-fits : (share : ℕ) (t : Taken) (pdus : List (List ℕ)) → IsWithin (share - 3) t → pdus ≡ pdus_of t
+    → FitsShare share pdus
 taken-fits share t pdus h e = subst (λ (xs : List (List ℕ)). FitsShare share xs) (sym e) (answer-fits share t h)
 
 -- a STATUS or none, and then that PDU in what is left of the share
-pub both-fit : (share left : ℕ) (front pdus : List (List ℕ)) (t : Taken) → left ≤ share → FitsShare (share - left) front → IsWithin (left - 3) t → pdus ≡ front ++ pdus_of t → FitsShare share pdus
+pub both-fit : (share left : ℕ) (front pdus : List (List ℕ)) (t : Taken) → left ≤ share
+    → FitsShare (share - left) front → IsWithin (left - 3) t → pdus ≡ front ++ pdus_of t → FitsShare share pdus
 both-fit share left front pdus t le f h e =
     let total : share - left + left ≡ share = omega arith in
     subst (λ (xs : List (List ℕ)). FitsShare share xs) (sym e)
-    (subst (λ (n : ℕ). FitsShare n (front ++ pdus_of t)) total (fits-both (share - left) left front (pdus_of t) f (answer-fits left t h)))
+    (subst (λ (n : ℕ). FitsShare n (front ++ pdus_of t)) total
+    (fits-both (share - left) left front (pdus_of t) f (answer-fits left t h)))
 
 pub ruleset fits = (taken-fits)
 

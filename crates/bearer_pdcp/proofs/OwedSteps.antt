@@ -1,5 +1,6 @@
 -- What a sender owes is short through each of its calls.
-use Rattle.std.proofs.Common.{◌≡◌, ℕ, ◌-◌, Bool, true, false, List, [], ◌∷◌, take, Option, None, Some, Result, Ok, Err, refl, ap, sym, ◌∙◌, subst}
+use Rattle.std.proofs.Common.{◌≡◌, ℕ, ◌-◌, Bool, true, false, List, [], ◌∷◌, take, Option, None, Some, Result, Ok, Err}
+use Rattle.std.proofs.Common.{refl, ap, sym, ◌∙◌, subst}
 use Rattle.std.specs.Prelude.{OnOk, OnErr, IfOk, IfErr, IfSome, IsTrue, IsErr}
 use Rattle.eps_sec.specs.declared.Keys.{Keys}
 use Rattle.l2_bits.specs.declared.NoMemory.{NoMemory}
@@ -11,7 +12,8 @@ use Rattle.pdcp_tx_store.specs.declared.Sent.{Sent}
 use Rattle.pdcp_tx_store.specs.Waiting.{Waits}
 use Rattle.pdcp_tx.specs.declared.Next.{Next}
 use Rattle.pdcp_tx.specs.Entity.{Entity, alive, KeepsOrDies}
-use Rattle.pdcp_tx.specs.State.{State as Sending, IsShort, HasSize, submitted, took, took_new, took_again, took_owed, confirmed, fms_count, reported, reported_from, after_late, restarted, start}
+use Rattle.pdcp_tx.specs.State.{State as Sending, IsShort, HasSize, submitted, took, took_new, took_again, took_owed}
+use Rattle.pdcp_tx.specs.State.{confirmed, fms_count, reported, reported_from, after_late, restarted, start}
 use Rattle.bearer_pdcp.specs.Lives.{OwesShort}
 
 owed_submitted : (s : Sending) (sdu : List ℕ) → (submitted s sdu).owed ≡ s.owed
@@ -63,9 +65,11 @@ dead_owes : (tx : Entity) → IsTrue tx.dead → OwesShort tx
 dead_owes tx dead = λ alive. let no : true ≡ false = sym dead ∙ alive in cc
 
 pub submits : {A : Type 0} (old new : Entity) (sdu : List ℕ) (r : Result A SubmitRefusal)
-    → OnOk r (new ≡ alive (submitted old.state sdu)) → (IsTrue old.dead → r ≡ Err refusals.NoMemory) → IfErr r (λ e. KeepsOrDies e old new) → OwesShort old → OwesShort new
+    → OnOk r (new ≡ alive (submitted old.state sdu)) → (IsTrue old.dead → r ≡ Err refusals.NoMemory)
+    → IfErr r (λ e. KeepsOrDies e old new) → OwesShort old → OwesShort new
 submits old new sdu (Ok x) ok dead err h =
-    λ living. subst (λ (t : Entity). IfSome t.state.owed IsShort) (sym ok) (subst (λ o. IfSome o IsShort) (sym (owed_submitted old.state sdu)) (h (refused_not x old.dead dead)))
+    λ living. subst (λ (t : Entity). IfSome t.state.owed IsShort) (sym ok)
+    (subst (λ o. IfSome o IsShort) (sym (owed_submitted old.state sdu)) (h (refused_not x old.dead dead)))
 submits old new sdu (Err refusals.Empty) ok dead err h = subst OwesShort (sym err) h
 submits old new sdu (Err refusals.TooLong) ok dead err h = subst OwesShort (sym err) h
 submits old new sdu (Err refusals.Full) ok dead err h = subst OwesShort (sym err) h
@@ -73,13 +77,16 @@ submits old new sdu (Err refusals.CountEnd) ok dead err h = subst OwesShort (sym
 submits old new sdu (Err refusals.NoMemory) ok dead err h = dead_owes new err
 
 pub takes : (old new : Entity) (r : Result (Option Next) NoMemory)
-    → OnOk r (new ≡ alive (took old.state)) → (IsTrue old.dead → IsErr r) → OnErr r (IsTrue new.dead) → OwesShort old → OwesShort new
+    → OnOk r (new ≡ alive (took old.state)) → (IsTrue old.dead → IsErr r) → OnErr r (IsTrue new.dead) → OwesShort old
+    → OwesShort new
 takes old new (Ok x) ok dead err h =
-    λ living. subst (λ (t : Entity). IfSome t.state.owed IsShort) (sym ok) (took_short old.state (h (was_alive x old.dead dead)))
+    λ living. subst (λ (t : Entity). IfSome t.state.owed IsShort) (sym ok)
+    (took_short old.state (h (was_alive x old.dead dead)))
 takes old new (Err e) ok dead err h = dead_owes new err
 
 pub takes_short : (old : Entity) (r : Result (Option Next) NoMemory)
-    → (IfSome old.state.owed IsShort → IfOk r (λ next. IfSome next HasSize)) → (IsTrue old.dead → IsErr r) → OwesShort old → IfOk r (λ next. IfSome next HasSize)
+    → (IfSome old.state.owed IsShort → IfOk r (λ next. IfSome next HasSize)) → (IsTrue old.dead → IsErr r)
+    → OwesShort old → IfOk r (λ next. IfSome next HasSize)
 takes_short old (Ok x) size dead h = size (h (was_alive x old.dead dead))
 takes_short old (Err e) size dead h = tt
 
@@ -91,8 +98,10 @@ keeps old new dead owed h = λ living. subst (λ o. IfSome o IsShort) (sym owed)
 pub confirms : (tx : Entity) (place : ℕ) → OwesShort tx → OwesShort (record tx { state = confirmed tx.state place })
 confirms tx place h = keeps tx (record tx { state = confirmed tx.state place }) refl (owed_confirmed tx.state place) h
 
-pub hears : (tx : Entity) (fms : ℕ) (bitmap : List ℕ) → OwesShort tx → OwesShort (record tx { state = reported tx.state fms bitmap })
-hears tx fms bitmap h = keeps tx (record tx { state = reported tx.state fms bitmap }) refl (owed_reported tx.state fms bitmap) h
+pub hears : (tx : Entity) (fms : ℕ) (bitmap : List ℕ) → OwesShort tx
+    → OwesShort (record tx { state = reported tx.state fms bitmap })
+hears tx fms bitmap h =
+    keeps tx (record tx { state = reported tx.state fms bitmap }) refl (owed_reported tx.state fms bitmap) h
 
 pub lates : (tx : Entity) → OwesShort tx → OwesShort (record tx { state = after_late tx.state })
 lates tx h = keeps tx (record tx { state = after_late tx.state }) refl (owed_late tx.state) h

@@ -1,4 +1,5 @@
--- A TTI begins: SDUs whose discard timers end are dropped, the first of those that wait first (TS 36.323 5.4).
+-- A TTI begins: SDUs whose discard timers end are dropped, the first of those that wait first (TS
+-- 36.323 5.4).
 use Rattle.std.specs.Prelude.{ℕ, if◌then◌else◌, List, [], ◌∷◌, length}
 use Rattle.bearer_types.specs.declared.Event.{Event}
 use Rattle.bearer_types.specs.declared.Event.TheVariants as events
@@ -13,7 +14,8 @@ without_late (w ∷ ws) s = if is_overdue s then without_late ws (after_late s) 
 
 abbrev pub late_told : ℕ → List Waits → Sending → List Event
 late_told lcid [] s = []
-late_told lcid (w ∷ ws) s = if is_overdue s then events.Discard lcid (length w.sdu) ∷ late_told lcid ws (after_late s) else []
+late_told lcid (w ∷ ws) s = if is_overdue s then events.Discard lcid (length w.sdu)
+    ∷ late_told lcid ws (after_late s) else []
 
 unfoldable pub after_tick : Ends → Ends
 after_tick e = record e { tx = without_late e.tx.waiting (ticked e.tx) }

@@ -14,11 +14,13 @@ pub record Ends : Type 0 where
   pub tx : Sending
   pub rx : Receiving
 
--- BEARER: the radio bearer's identity less 1 (TS 36.323 5.6), which is that of the LCID for signalling; data follows from LCID 3 on
+-- BEARER: the radio bearer's identity less 1 (TS 36.323 5.6), which is that of the LCID for
+-- signalling; data follows from LCID 3 on
 abbrev pub bearer_of : ℕ → ℕ
 bearer_of lcid = if nat_lt lcid 3 then lcid - 1 else lcid - 3
 
--- DIRECTION of what an end sends and of what it hears: 0 on the uplink, 1 on the downlink (TS 33.401 B.1.1)
+-- DIRECTION of what an end sends and of what it hears: 0 on the uplink, 1 on the downlink (TS
+-- 33.401 B.1.1)
 abbrev pub sends : Side → ℕ
 sends Nb = 1
 sends Ue = 0

@@ -1,5 +1,6 @@
 -- RLC hands up a PDU: what it tells, and what it leaves.
-use Rattle.std.specs.Prelude.{ℕ, Bool, true, false, ◌&&◌, if◌then◌else◌, List, [], ◌∷◌, map, is_some}
+use Rattle.std.specs.Prelude.{ℕ, Bool, true, false, ◌&&◌, if◌then◌else◌, List, [], ◌∷◌, map}
+use Rattle.std.specs.Prelude.{is_some}
 use Rattle.bearer_types.specs.declared.Event.{Event}
 use Rattle.bearer_types.specs.declared.Event.TheVariants as events
 use Rattle.l2_types.specs.declared.Lost.TheVariants as lost
@@ -16,7 +17,8 @@ abbrev pub is_arrived : Cause → Bool
 is_arrived Arrived = true
 is_arrived Reestablished = false
 
--- a status report is for the sender where it arrived on an acknowledged data bearer (TS 36.323 5.3.2)
+-- a status report is for the sender where it arrived on an acknowledged data bearer (TS 36.323
+-- 5.3.2)
 abbrev pub is_for_sender : Ends → Cause → Bool
 is_for_sender e cause = is_am e.kind && is_arrived cause
 
@@ -38,7 +40,8 @@ got_told got_as.Stored cause e = ups e.lcid e.rx.ready
 got_told got_as.Old cause e = events.Drop e.lcid lost.Old ∷ []
 got_told got_as.OutOfRange cause e = events.Drop e.lcid lost.Range ∷ []
 got_told (got_as.Integrity found wanted) cause e = events.Integrity e.lcid found wanted ∷ []
-got_told (got_as.Report fms bitmap) cause e = if is_applied e cause fms then [] else events.Drop e.lcid lost.Report ∷ []
+got_told (got_as.Report fms bitmap) cause e =
+    if is_applied e cause fms then [] else events.Drop e.lcid lost.Report ∷ []
 got_told (got_as.Unreadable fault) cause e = events.BadPdcp e.lcid fault ∷ []
 
 abbrev pub got_left : Got → Cause → Ends → Ends
@@ -47,7 +50,8 @@ got_left got_as.Stored cause e = handed e
 got_left got_as.Old cause e = e
 got_left got_as.OutOfRange cause e = e
 got_left (got_as.Integrity found wanted) cause e = e
-got_left (got_as.Report fms bitmap) cause e = if is_for_sender e cause then record e { tx = reported e.tx fms bitmap } else e
+got_left (got_as.Report fms bitmap) cause e =
+    if is_for_sender e cause then record e { tx = reported e.tx fms bitmap } else e
 got_left (got_as.Unreadable fault) cause e = e
 
 abbrev pub got_applied : Got → Cause → Ends → Bool

@@ -8,8 +8,8 @@ use Rattle.pdcp_tx.specs.Entity.{Entity}
 use Rattle.pdcp_tx.specs.State.{State as Sending, IsShort, restarted as restarted_sending, owing}
 use Rattle.bearer_pdcp.specs.Ends.{Ends}
 
--- an acknowledged data bearer owes, first of all, a status report of what its receiver holds (that it always does is this
--- project's profile)
+-- an acknowledged data bearer owes, first of all, a status report of what its receiver holds (that
+-- it always does is this project's profile)
 abbrev pub report_of : PdcpKind → Receiving → Option (List ℕ)
 report_of kind r = if is_am kind then Some (report r) else None
 

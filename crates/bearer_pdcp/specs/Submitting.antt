@@ -1,7 +1,8 @@
 -- An SDU is submitted (TS 36.323 5.1.1, 5.4).
 use Rattle.std.specs.Prelude.{◌≡◌, Option, Some}
 use Rattle.l2_bits.specs.declared.SubmitRefusal.{SubmitRefusal}
-use Rattle.l2_bits.specs.declared.SubmitRefusal.TheVariants.{Empty, TooLong, Full, CountEnd, NoMemory}
+use Rattle.l2_bits.specs.declared.SubmitRefusal.TheVariants.{Empty, TooLong, Full, CountEnd}
+use Rattle.l2_bits.specs.declared.SubmitRefusal.TheVariants.{NoMemory}
 
 -- an answer is this refusal, or memory ran out
 abbrev pub Answers : SubmitRefusal → Option SubmitRefusal → Type 0

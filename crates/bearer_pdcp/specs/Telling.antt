@@ -13,7 +13,8 @@ use Rattle.rlc_pdu.specs.declared.Taken.TheVariants.{Piece, Idle, Small, Shut, H
 
 -- an arrival stops the reordering timer, and then starts it
 abbrev pub turned_told : ℕ → Turned → List Event
-turned_told lcid t = (if t.stopped then events.Stop lcid Reorder ∷ [] else []) ++ (if t.started then events.Start lcid Reorder ∷ [] else [])
+turned_told lcid t = (if t.stopped then events.Stop lcid Reorder ∷ [] else [])
+    ++ (if t.started then events.Start lcid Reorder ∷ [] else [])
 
 -- a data PDU is kept, or dropped
 abbrev pub landed_told : ℕ → Landed → Turned → List Event
@@ -24,7 +25,8 @@ landed_told lcid Clash t = events.Drop lcid lost.Clash ∷ []
 
 -- a timer expires, and starts again or not
 abbrev pub expired_told : ℕ → Clock → Bool → List Event
-expired_told lcid clock again = events.Expired lcid clock ∷ (if again then events.Start lcid clock ∷ [] else [])
+expired_told lcid clock again =
+    events.Expired lcid clock ∷ (if again then events.Start lcid clock ∷ [] else [])
 
 -- the PDU of a sender's answer, and its number
 abbrev pub pdus_of : Taken → List (List ℕ)

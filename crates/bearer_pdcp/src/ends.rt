@@ -1,10 +1,14 @@
-ghost use Rattle.std.specs.Prelude.{◌≡◌, ◌+◌, ◌*◌, ◌<◌, ◌≤◌, ◌^◌, ◌++◌, [], ◌∷◌, length, slice_get, is_some, if◌then◌else◌, Some, None, OnOk, IfOk, IfErr, IfSome};
+ghost use Rattle.std.specs.Prelude.{◌≡◌, ◌+◌, ◌*◌, ◌<◌, ◌≤◌, ◌^◌, ◌++◌, [], ◌∷◌, length, slice_get};
+ghost use Rattle.std.specs.Prelude.{is_some, if◌then◌else◌, Some, None, OnOk, IfOk, IfErr, IfSome};
 ghost use Rattle.pdcp_pdu.specs.Kinds.{IsKind, is_am};
 ghost use Rattle.pdcp_tx.specs.State.{refusal, submitted, offers, sizes, left, confirmed};
 ghost use Rattle.bearer_pdcp.specs.Submitting.{Answers, StaysOrDies};
 ghost use Rattle.bearer_pdcp.specs.Ends.{begun, bearer_of, sends, hears};
-ghost use Rattle.bearer_pdcp.specs.Taking.{own_report_told, taken_told, taken, taking_told, after_taking};
-ghost use Rattle.bearer_pdcp.specs.Hearing.{ups, handed, is_for_sender, is_applied, is_arrived, got_told, got_left, got_applied, heard_told, after_hearing, applies};
+ghost use Rattle.bearer_pdcp.specs.Taking.{own_report_told, taken_told, taken, taking_told};
+ghost use Rattle.bearer_pdcp.specs.Taking.{after_taking};
+ghost use Rattle.bearer_pdcp.specs.Hearing.{ups, handed, is_for_sender, is_applied, is_arrived};
+ghost use Rattle.bearer_pdcp.specs.Hearing.{got_told, got_left, got_applied, heard_told};
+ghost use Rattle.bearer_pdcp.specs.Hearing.{after_hearing, applies};
 ghost use Rattle.bearer_types.specs.declared.Event.TheVariants as events_of;
 ghost use Rattle.l2_types.specs.declared.Lost.TheVariants as lost;
 ghost use Rattle.pdcp_tx.specs.State.{reported, taking, took, HasSize, IsShort};
@@ -83,7 +87,8 @@ impl Pdcp {
     #[tactic(auto, using(crate::proofs::OwedSteps::submits))]
     pub fn submit(&mut self, sdu: &[u8]) -> Result<(), SubmitRefusal>
         ensures fits { OnOk result (refusal self.old.tx sdu.now ≡ None) }
-        ensures state { OnOk result (self.new ≡ record self.old { tx = submitted self.old.tx sdu.now }) }
+        ensures state { OnOk result
+            (self.new ≡ record self.old { tx = submitted self.old.tx sdu.now }) }
         ensures answer { IfErr result (λ e. Answers e (refusal self.old.tx sdu.now)) }
         ensures refused { IfErr result (λ e. StaysOrDies e (self.new ≡ self.old)) }
     {
@@ -99,7 +104,8 @@ impl Pdcp {
 
     /// The octets of the PDUs that RLC may take, and 2 for each.
     pub fn waiting(&self) -> u64
-        ensures { result ≡ sizes self.now.tx.kind (offers self.now.tx) + 2 * length (offers self.now.tx) }
+        ensures { result ≡ sizes self.now.tx.kind (offers self.now.tx)
+            + 2 * length (offers self.now.tx) }
     {
         self.tx.waiting()
     }
@@ -111,16 +117,16 @@ impl Pdcp {
         self.tx.octets()
     }
 
-    /// The octets of the SDUs that wait, and on an acknowledged data bearer of those that were taken and either aren't
-    /// confirmed or are still to be taken again.
+    /// The octets of the SDUs that wait, and on an acknowledged data bearer of those that were
+    /// taken and either aren't confirmed or are still to be taken again.
     pub fn left(&self) -> u64
         ensures { result ≡ left self.now.tx }
     {
         self.tx.left()
     }
 
-    /// Takes the first of what RLC may take, a PDU of 1 to 8193 octets, and tells it; `None` exactly where there is
-    /// nothing.
+    /// Takes the first of what RLC may take, a PDU of 1 to 8193 octets, and tells it; `None`
+    /// exactly where there is nothing.
     #[tactic(auto, unfolding(crate::specs::Taking::taken, crate::specs::Taking::taking_told, crate::specs::Taking::after_taking))]
     pub fn take(&mut self, events: &mut Events) -> Result<Option<Bytes>, NoMemory>
         ensures answer { IfOk result (λ pdu. pdu ≡ taken self.old) }
@@ -144,7 +150,8 @@ impl Pdcp {
         pdu: &Bytes,
         events: &mut Events,
     ) -> Result<(), NoMemory>
-        ensures { OnOk result (events.new ≡ events.old ++ taken_told self.now.lcid self.now.kind count len pdu.now) }
+        ensures { OnOk result (events.new ≡ events.old
+            ++ taken_told self.now.lcid self.now.kind count len pdu.now) }
     {
         match count {
             Some(_) => events.push(Event::Take {
@@ -157,7 +164,8 @@ impl Pdcp {
     }
 
     fn tell_report(&self, pdu: &[u8], events: &mut Events) -> Result<(), NoMemory>
-        ensures { OnOk result (events.new ≡ events.old ++ own_report_told self.now.lcid self.now.kind pdu.now) }
+        ensures { OnOk result (events.new ≡ events.old
+            ++ own_report_told self.now.lcid self.now.kind pdu.now) }
     {
         let bits = match self.kind {
             PdcpKind::Srb => return Ok(()),
@@ -174,8 +182,8 @@ impl Pdcp {
         }
     }
 
-    /// Hears a PDU that RLC hands up, and tells what comes of it. True exactly where it is a status report of the other
-    /// end that was applied, after which the acknowledged sender is to settle.
+    /// Hears a PDU that RLC hands up, and tells what comes of it. True exactly where it is a status
+    /// report of the other end that was applied, after which the acknowledged sender is to settle.
     #[tactic(auto, unfolding(crate::specs::Hearing::heard_told, crate::specs::Hearing::after_hearing, crate::specs::Hearing::applies))]
     pub fn hear(&mut self, pdu: &[u8], cause: Cause, events: &mut Events) -> Result<bool, NoMemory>
         ensures answer { IfOk result (λ applied. applied ≡ applies pdu.now cause self.old) }
@@ -230,8 +238,13 @@ impl Pdcp {
         events: &mut Events,
     ) -> Result<bool, NoMemory>
         ensures answer { IfOk result (λ applied. applied ≡ is_applied self.old cause fms) }
-        ensures state { OnOk result (self.new ≡ (if is_for_sender self.old cause then record self.old { tx = reported self.old.tx fms bitmap.now } else self.old)) }
-        ensures told { OnOk result (events.new ≡ events.old ++ (if is_applied self.old cause fms then [] else events_of.Drop self.old.lcid lost.Report ∷ [])) }
+        ensures state { OnOk result
+            (self.new
+            ≡ (if is_for_sender self.old cause
+            then record self.old { tx = reported self.old.tx fms bitmap.now } else self.old)) }
+        ensures told { OnOk result (events.new ≡ events.old
+            ++ (if is_applied self.old cause fms then []
+            else events_of.Drop self.old.lcid lost.Report ∷ [])) }
     {
         let applied = self.kind.is_am() && is_arrived(cause) && self.tx.report(fms, bitmap);
         if !applied {
@@ -332,7 +345,8 @@ fn next_pdu(tx: &mut PdcpTx) -> Result<Option<Next>, NoMemory>
 
 // Hands up what the receiver has ready.
 fn hand_up(rx: &mut PdcpRx, lcid: u8, events: &mut Events) -> Result<(), NoMemory>
-    ensures state { OnOk result (rx.new ≡ record rx.old { state = record rx.old.state { ready = [] } }) }
+    ensures state { OnOk result
+        (rx.new ≡ record rx.old { state = record rx.old.state { ready = [] } }) }
     ensures told { OnOk result (events.new ≡ events.old ++ ups lcid rx.old.state.ready) }
     ensures kind { rx.new.state.kind ≡ rx.old.state.kind }
 {
@@ -346,8 +360,10 @@ fn hand_up(rx: &mut PdcpRx, lcid: u8, events: &mut Events) -> Result<(), NoMemor
 #[tactic(auto, using(crate::proofs::LateSteps::lates, crate::proofs::OwedSteps::lates))]
 fn drop_late(tx: &mut PdcpTx, lcid: u8, events: &mut Events) -> Result<(), NoMemory>
     requires { OwesShort tx.old }
-    ensures state { OnOk result (tx.new ≡ record tx.old { state = without_late tx.old.state.waiting tx.old.state }) }
-    ensures told { OnOk result (events.new ≡ events.old ++ late_told lcid tx.old.state.waiting tx.old.state) }
+    ensures state { OnOk result
+        (tx.new ≡ record tx.old { state = without_late tx.old.state.waiting tx.old.state }) }
+    ensures told { OnOk result (events.new ≡ events.old
+        ++ late_told lcid tx.old.state.waiting tx.old.state) }
     ensures owes { OwesShort tx.new }
 {
     while let Some(len) = tx.late() {

@@ -1,8 +1,8 @@
-//! What bearers over RLC are made of at one end of the link: both PDCP entities together, and how the answers of RLC and
-//! PDCP are told as events.
+//! What bearers over RLC are made of at one end of the link: both PDCP entities together, and how
+//! the answers of RLC and PDCP are told as events.
 //!
-//! Contracts speak of an exact machine, which stands in `specs/`. What may run out of memory says nothing of what it
-//! leaves then.
+//! Contracts speak of an exact machine, which stands in `specs/`. What may run out of memory says
+//! nothing of what it leaves then.
 #![tactic(auto)]
 
 mod ends;

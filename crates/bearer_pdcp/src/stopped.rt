@@ -12,8 +12,8 @@ use pdcp_tx::{Kept, PdcpTx};
 use std::alloc::Global;
 use std::marker::Model;
 
-/// Both PDCP entities of a bearer between two lives (TS 36.323 5.2): what the sender keeps, what the receiver holds, and
-/// the status report that is owed first in the next life.
+/// Both PDCP entities of a bearer between two lives (TS 36.323 5.2): what the sender keeps, what
+/// the receiver holds, and the status report that is owed first in the next life.
 #[derive(Drop)]
 pub struct StoppedPdcp {
     alloc: Global,
@@ -35,7 +35,8 @@ impl Model for StoppedPdcp {
 
     ghost view = { λ p. record { lcid = p.lcid; kind = p.kind; tx = p.kept.state; rx = p.held.state } };
 
-    ghost invariant = { λ p. (p.lcid ≤ 10) × IsKind p.kind × (p.held.state.kind ≡ p.kind) × (p.report ≡ report_of p.kind p.held.state) × IfSome p.report IsShort };
+    ghost invariant = { λ p. (p.lcid ≤ 10) × IsKind p.kind × (p.held.state.kind ≡ p.kind)
+        × (p.report ≡ report_of p.kind p.held.state) × IfSome p.report IsShort };
 }
 
 impl StoppedPdcp {

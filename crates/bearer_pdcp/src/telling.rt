@@ -10,7 +10,8 @@ use l2_bits::NoMemory;
 use l2_types::{Clock, Lost, Waits};
 use rlc_pdu::{Landed, Turned};
 
-/// Tells what became of a data PDU that arrived: it is dropped, or the reordering timer stops and starts.
+/// Tells what became of a data PDU that arrived: it is dropped, or the reordering timer stops and
+/// starts.
 pub fn tell_landed(
     lcid: u8,
     landed: Landed,

@@ -6,7 +6,8 @@ use l2_bits::Packets;
 pub struct Written {
     /// Its RLC PDUs, a STATUS first.
     pub pdus: Packets,
-    /// The whole number of its data PDU, counted from 0 in the life; a transparent bearer tells none.
+    /// The whole number of its data PDU, counted from 0 in the life; a transparent bearer tells
+    /// none.
     pub number: Option<u64>,
     /// What that tells.
     pub events: Events,

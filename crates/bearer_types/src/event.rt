@@ -13,7 +13,8 @@ pub enum Event {
         count: Option<u32>,
         len: u32,
     },
-    /// RLC takes a PDCP status report (TS 36.323 6.2.6): its FMS, and the bits of the numbers behind it.
+    /// RLC takes a PDCP status report (TS 36.323 6.2.6): its FMS, and the bits of the numbers
+    /// behind it.
     Report {
         lcid: u8,
         fms: u32,
@@ -60,7 +61,8 @@ pub enum Event {
         lcid: u8,
         why: Lost,
     },
-    /// A PDU of a signalling bearer is dropped, since the MAC-I that it has isn't the one that is wanted.
+    /// A PDU of a signalling bearer is dropped, since the MAC-I that it has isn't the one that is
+    /// wanted.
     Integrity {
         lcid: u8,
         found: [u8; 4],

@@ -54,7 +54,8 @@ const CONFIG: AmTxConfig = AmTxConfig {
     max_retx: 4,
 };
 
-/// So many PDUs taken, of which the last `window` aren't acknowledged; the SDUs that were confirmed.
+/// So many PDUs taken, of which the last `window` aren't acknowledged; the SDUs that were
+/// confirmed.
 pub fn sender(alloc: Global, window: u64, pdus: u32) -> Result<u64, NoMemory> {
     let mut sender = AmTx::new(alloc, CONFIG)?;
     let mut confirmed = 0u64;

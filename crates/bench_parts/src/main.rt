@@ -1,8 +1,8 @@
 //! Measures how fast the slowest parts run, so that a change which makes one slower is seen.
 //!
-//! Each line of the input names a part and how much it is to do, as `eea2 1000`. The standard output repeats the line
-//! with a number that depends on what the part made, the same at each run. The time in microseconds goes to the standard
-//! error. A line that names no part is told as such.
+//! Each line of the input names a part and how much it is to do, as `eea2 1000`. The standard
+//! output repeats the line with a number that depends on what the part made, the same at each run.
+//! The time in microseconds goes to the standard error. A line that names no part is told as such.
 #![tactic(auto)]
 
 mod entities;

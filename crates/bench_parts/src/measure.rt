@@ -15,7 +15,8 @@ pub enum Measure {
     Eia2(u32),
     /// `pdcp100 N`, `pdcp1500 N`: N SDUs through a PDCP sender and a receiver.
     Pdcp { is_long: bool, sdus: u32 },
-    /// `window4 N`, `window64 N`, `window500 N`: N PDUs of an acknowledged sender, of which so many stay unacknowledged.
+    /// `window4 N`, `window64 N`, `window500 N`: N PDUs of an acknowledged sender, of which so many
+    /// stay unacknowledged.
     Window { window: u64, pdus: u32 },
 }
 

@@ -1,5 +1,6 @@
 -- The number of a word.
-use Rattle.std.proofs.Common.{◌≡◌, ◌^◌, ◌<◌, ◌≤◌, ◌&&◌, ◌∙◌, ℕ, Bool, List, ◌∷◌, refl, true, false, Some, Result, Ok, Err, arith, rules, length, nat_lt, nat_le, sym, ap, codes}
+use Rattle.std.proofs.Common.{◌≡◌, ◌^◌, ◌<◌, ◌≤◌, ◌&&◌, ◌∙◌, ℕ, Bool, List, ◌∷◌, refl, true, false, Some, Result, Ok}
+use Rattle.std.proofs.Common.{Err, arith, rules, length, nat_lt, nat_le, sym, ap, codes}
 use Rattle.std.proofs.lemmas.Bool.Decides.{nat_tests}
 use Rattle.std.proofs.lemmas.Str.Parse.{IsDigitsTest, IsNumeralModel, numerals_by_fold}
 use Rattle.std.specs.List.{list_all}
@@ -15,7 +16,8 @@ both : (a b : Bool) → (a && b) ≡ true → (a ≡ true) × (b ≡ true)
 both true b h = (refl, h)
 both false b h = cc
 
-digit_parts : (c : ℕ) (cs : List ℕ) → list_all is_digit (c ∷ cs) ≡ true → ((48 ≤ c) × (c ≤ 57)) × (list_all is_digit cs ≡ true)
+digit_parts : (c : ℕ) (cs : List ℕ) → list_all is_digit (c ∷ cs) ≡ true
+    → ((48 ≤ c) × (c ≤ 57)) × (list_all is_digit cs ≡ true)
 digit_parts c cs h =
     let parts = both (is_digit c) (list_all is_digit cs) h in
     let range = both (nat_le 48 c) (nat_le c 57) parts.0 in
@@ -23,7 +25,8 @@ digit_parts c cs h =
     let high = range.1 in
     ((grind (arith, nat_tests), grind (arith, nat_tests)), parts.1)
 
-digit_more : (c : ℕ) (cs : List ℕ) → (48 ≤ c) × (c ≤ 57) → list_all is_digit cs ≡ true → list_all is_digit (c ∷ cs) ≡ true
+digit_more : (c : ℕ) (cs : List ℕ) → (48 ≤ c) × (c ≤ 57) → list_all is_digit cs ≡ true
+    → list_all is_digit (c ∷ cs) ≡ true
 digit_more c cs range rest =
     let low : nat_le 48 c ≡ true = let l = range.0 in grind (arith, nat_tests) in
     let high : nat_le c 57 ≡ true = let r = range.1 in grind (arith, nat_tests) in
@@ -60,7 +63,8 @@ not_numbered ds refused = go (is_number ds) refl
     go true e = absurd (refused (numeral_of ds e))
     go false e = e
 
-pub number_read : {E : Type 0} (word : List ℕ) (r : Result ℕ E) → ParsesUnsigned 32 10 word r → result_ok r ≡ number_in word
+pub number_read : {E : Type 0} (word : List ℕ) (r : Result ℕ E) → ParsesUnsigned 32 10 word r
+    → result_ok r ≡ number_in word
 number_read word (Ok n) h =
     let ds = without_leading_plus word in
     rw (numbered ds h.0.0 h.0.1) (ap Some (h.1 ∙ sym (own.same ds h.0.0.1)))

@@ -1,5 +1,6 @@
 -- The command that clap finds is the command that the words are.
-use Rattle.std.proofs.Common.{◌≡◌, ◌≢◌, ◌==◌, ◌⊎◌, ◌&&◌, ◌∙◌, ℕ, Bool, not, List, [], ◌∷◌, refl, true, false, codes, None, ap, sym, inl, inr, subst, map, option_map, if◌then◌else◌}
+use Rattle.std.proofs.Common.{◌≡◌, ◌≢◌, ◌==◌, ◌⊎◌, ◌&&◌, ◌∙◌, ℕ, Bool, not, List, [], ◌∷◌, refl, true, false, codes}
+use Rattle.std.proofs.Common.{None, ap, sym, inl, inr, subst, map, option_map, if◌then◌else◌}
 use Rattle.std.proofs.lemmas.Bool.{eqb-true, false≢true, false_from_ne_true}
 use Rattle.std.proofs.lemmas.Slice.Eq.{bytes_eq-Decides}
 use Rattle.std.specs.List.{list_all}
@@ -12,7 +13,8 @@ use Rattle.clap.proofs.OnLiterals.{clap_on_literals}
 use Rattle.cli_words.specs.Commands.{command_of, lone_command, command_with, number_in}
 use Rattle.cli_words.specs.declared.command.Command.TheVariants.{Generate}
 use Rattle.cli_words.specs.Line.{line_app, command_in, is_plain, are_plain}
-use Rattle.cli_words.proofs.Faults.{none_fails, run_taken, run_read, run_more, decode_more, generate_more, decode_taken, decode_read, generate_fails, number_taken, stray_fails}
+use Rattle.cli_words.proofs.Faults.{none_fails, run_taken, run_read, run_more, decode_more, generate_more, decode_taken}
+use Rattle.cli_words.proofs.Faults.{decode_read, generate_fails, number_taken, stray_fails}
 
 -- a word that is no subcommand's name
 record IsOther (word : Text) : Type 0 where
@@ -46,16 +48,20 @@ name_of word = elim (same_or_not word (codes "run")) [
 ]
 
 no_command : (word : Text) (rest : List Text) → IsOther word → command_of (word ∷ rest) ≡ None
-no_command word [] other = rw (differs word (codes "run") other.no_run, differs word (codes "decode") other.no_decode) refl
+no_command word [] other =
+    rw (differs word (codes "run") other.no_run, differs word (codes "decode") other.no_decode) refl
 no_command word (number ∷ []) other = rw (differs word (codes "generate") other.no_generate) refl
 no_command word (number ∷ more ∷ rest) other = refl
 
 -- more words than the command has
-longer : (name word : Text) (rest : List Text) → bytes_eq name (codes "generate") ≡ false → command_of (name ∷ word ∷ rest) ≡ None
+longer : (name word : Text) (rest : List Text) → bytes_eq name (codes "generate") ≡ false
+    → command_of (name ∷ word ∷ rest) ≡ None
 longer name word [] e = rw e refl
 longer name word (more ∷ rest) e = refl
 
-number_found : (x : ℕ) (xs : List ℕ) → (x == 45) ≡ false → command_in (subcommand_of line_app (codes "generate" ∷ (x ∷ xs) ∷ [])) ≡ command_of (codes "generate" ∷ (x ∷ xs) ∷ [])
+number_found : (x : ℕ) (xs : List ℕ) → (x == 45) ≡ false
+    → command_in (subcommand_of line_app (codes "generate" ∷ (x ∷ xs) ∷ []))
+    ≡ command_of (codes "generate" ∷ (x ∷ xs) ∷ [])
 unfolding clap_on_literals
 number_found x xs e = simp e
 
@@ -64,7 +70,8 @@ abbrev Verdict : List Text → Type 0
 Verdict words = ((fault_of line_app words ≡ []) × (command_in (subcommand_of line_app words) ≡ command_of words))
     ⊎ ((fault_of line_app words ≢ []) × (command_of words ≡ None))
 
-first_plain : (x : ℕ) (xs : List ℕ) (rest : List Text) → are_plain ((x ∷ xs) ∷ rest) ≡ true → ((x == 45) ≡ false) × (are_plain rest ≡ true)
+first_plain : (x : ℕ) (xs : List ℕ) (rest : List Text) → are_plain ((x ∷ xs) ∷ rest) ≡ true
+    → ((x == 45) ≡ false) × (are_plain rest ≡ true)
 first_plain x xs rest p = go (x == 45) p
   where
     go : (b : Bool) → (not b && are_plain rest) ≡ true → (b ≡ false) × (are_plain rest ≡ true)
@@ -74,12 +81,14 @@ first_plain x xs rest p = go (x == 45) p
 run_verdict : (rest : List Text) → are_plain rest ≡ true → Verdict (codes "run" ∷ rest)
 run_verdict [] p = inl (run_taken, ap command_in run_read)
 run_verdict ([] ∷ rest) p = absurd (false≢true p)
-run_verdict ((x ∷ xs) ∷ rest) p = inr (run_more x xs rest (first_plain x xs rest p).0, longer (codes "run") (x ∷ xs) rest refl)
+run_verdict ((x ∷ xs) ∷ rest) p =
+    inr (run_more x xs rest (first_plain x xs rest p).0, longer (codes "run") (x ∷ xs) rest refl)
 
 decode_verdict : (rest : List Text) → are_plain rest ≡ true → Verdict (codes "decode" ∷ rest)
 decode_verdict [] p = inl (decode_taken, ap command_in decode_read)
 decode_verdict ([] ∷ rest) p = absurd (false≢true p)
-decode_verdict ((x ∷ xs) ∷ rest) p = inr (decode_more x xs rest (first_plain x xs rest p).0, longer (codes "decode") (x ∷ xs) rest refl)
+decode_verdict ((x ∷ xs) ∷ rest) p =
+    inr (decode_more x xs rest (first_plain x xs rest p).0, longer (codes "decode") (x ∷ xs) rest refl)
 
 generate_verdict : (rest : List Text) → are_plain rest ≡ true → Verdict (codes "generate" ∷ rest)
 generate_verdict [] p = inr (generate_fails, refl)
@@ -87,11 +96,14 @@ generate_verdict ([] ∷ rest) p = absurd (false≢true p)
 generate_verdict ((x ∷ xs) ∷ []) p = let e = (first_plain x xs [] p).0 in inl (number_taken x xs e, number_found x xs e)
 generate_verdict ((x ∷ xs) ∷ [] ∷ rest) p = absurd (false≢true (first_plain x xs ([] ∷ rest) p).1)
 generate_verdict ((x ∷ xs) ∷ (y ∷ ys) ∷ rest) p =
-    let first = first_plain x xs ((y ∷ ys) ∷ rest) p in inr (generate_more x xs y ys rest first.0 (first_plain y ys rest first.1).0, refl)
+    let first = first_plain x xs ((y ∷ ys) ∷ rest) p in
+    inr (generate_more x xs y ys rest first.0 (first_plain y ys rest first.1).0, refl)
 
-other_verdict : (x : ℕ) (xs : List ℕ) (rest : List Text) → IsOther (x ∷ xs) → (x == 45) ≡ false → Verdict ((x ∷ xs) ∷ rest)
+other_verdict : (x : ℕ) (xs : List ℕ) (rest : List Text) → IsOther (x ∷ xs) → (x == 45) ≡ false
+    → Verdict ((x ∷ xs) ∷ rest)
 other_verdict x xs rest other e = inr (
-  stray_fails x xs rest e (differs _ _ (λ s. other.no_run (sym s))) (differs _ _ (λ s. other.no_decode (sym s))) (differs _ _ (λ s. other.no_generate (sym s))),
+  stray_fails x xs rest e (differs _ _ (λ s. other.no_run (sym s))) (differs _ _ (λ s. other.no_decode (sym s)))
+      (differs _ _ (λ s. other.no_generate (sym s))),
   no_command (x ∷ xs) rest other,
 )
 
@@ -112,7 +124,8 @@ verdict ((x ∷ xs) ∷ rest) p =
     ]
 
 -- where clap takes the words it finds their command
-pub reads : (words : List Text) → are_plain words ≡ true → fault_of line_app words ≡ [] → command_in (subcommand_of line_app words) ≡ command_of words
+pub reads : (words : List Text) → are_plain words ≡ true → fault_of line_app words ≡ []
+    → command_in (subcommand_of line_app words) ≡ command_of words
 reads words p taken = elim (verdict words p) [
   | inl found ↦ found.1
   | inr refused ↦ absurd (refused.0 taken)
@@ -126,7 +139,8 @@ refuses words p refused = elim (verdict words p) [
 ]
 
 -- a word that is empty or begins with a hyphen
-hyphen_or_none : (P : Text → Type 0) → P [] → ((rest : List ℕ) → P (45 ∷ rest)) → (word : Text) → is_plain word ≡ false → P word
+hyphen_or_none : (P : Text → Type 0) → P [] → ((rest : List ℕ) → P (45 ∷ rest)) → (word : Text)
+    → is_plain word ≡ false → P word
 hyphen_or_none P none hyphen [] p = none
 hyphen_or_none P none hyphen (x ∷ xs) p = subst (λ (y : ℕ). P (y ∷ xs)) (sym (go (x == 45) refl p)) (hyphen xs)
   where
@@ -160,14 +174,16 @@ hyphens (word ∷ []) p = lone_hyphen word (go (is_plain word) p)
     go false h = refl
 hyphens (word ∷ number ∷ []) p = go (is_plain word) (is_plain number) refl refl p
   where
-    go : (a b : Bool) → is_plain word ≡ a → is_plain number ≡ b → (a && (b && true)) ≡ false → command_with word number ≡ None
+    go : (a b : Bool) → is_plain word ≡ a → is_plain number ≡ b → (a && (b && true)) ≡ false
+        → command_with word number ≡ None
     go false b first second h = first_hyphen number word first
     go true false first second h = second_hyphen word number second
     go true true first second h = cc
 hyphens (word ∷ number ∷ more ∷ rest) p = refl
 
 -- the test as the code makes it, of the texts of strings
-pub plain_strings : {S : Type 0} (text : S → Text) (strings : List S) → list_all (λ s. is_plain (text s)) strings ≡ are_plain (map text strings)
+pub plain_strings : {S : Type 0} (text : S → Text) (strings : List S)
+    → list_all (λ s. is_plain (text s)) strings ≡ are_plain (map text strings)
 plain_strings text [] = refl
 plain_strings text (s ∷ rest) = ap (λ (b : Bool). is_plain (text s) && b) (plain_strings text rest)
 

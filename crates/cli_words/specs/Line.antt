@@ -1,8 +1,10 @@
 -- The command line as clap reads it (README).
-use Rattle.std.specs.Prelude.{ℕ, Bool, true, false, not, ◌==◌, if◌then◌else◌, List, [], ◌∷◌, codes, Option, Some, option_map, option_and_then}
+use Rattle.std.specs.Prelude.{ℕ, Bool, true, false, not, ◌==◌, if◌then◌else◌, List, [], ◌∷◌, codes}
+use Rattle.std.specs.Prelude.{Option, Some, option_map, option_and_then}
 use Rattle.std.specs.List.{list_all}
 use Rattle.std.specs.Str.{bytes_eq}
-use Rattle.clap.specs.Words.{App, Row, Rule, Text, first_of, new_app, new_rule, with_rule, with_subcommand}
+use Rattle.clap.specs.Words.{App, Row, Rule, Text, first_of, new_app, new_rule, with_rule}
+use Rattle.clap.specs.Words.{with_subcommand}
 use Rattle.clap.specs.Simple.{on_top}
 use Rattle.clap.specs.declared.builder.action.ArgAction.TheVariants.{Set}
 use Rattle.cli_words.specs.declared.command.Command.{Command}
@@ -32,7 +34,10 @@ bare_app = on_top (λ s. record s {
 }) (new_app (codes "l2"))
 
 abbrev pub line_app : App
-line_app = with_subcommand (with_subcommand (with_subcommand bare_app (new_app (codes "run")).top) (new_app (codes "decode")).top) generate_app.top
+line_app =
+    with_subcommand
+    (with_subcommand (with_subcommand bare_app (new_app (codes "run")).top)
+    (new_app (codes "decode")).top) generate_app.top
 
 abbrev pub generate_in : List Row → Option Command
 generate_in rows = option_map Generate (option_and_then number_in (first_of (codes "number") rows))

@@ -1,10 +1,12 @@
 -- In which TTIs a terminal listens (TS 36.321 5.7).
-use Rattle.std.specs.Prelude.{ℕ, ◌+◌, ◌-◌, ◌%◌, nat_lt, Bool, ◌||◌, Option, Some, None, List, replicate, slice_set}
+use Rattle.std.specs.Prelude.{ℕ, ◌+◌, ◌-◌, ◌%◌, nat_lt, Bool, ◌||◌, Option, Some, None, List}
+use Rattle.std.specs.Prelude.{replicate, slice_set}
 use Rattle.std.specs.List.{list_any}
 use Rattle.l2_types.specs.declared.config.DrxConfig.{DrxConfig}
 use Rattle.drx.specs.Within.{is_within}
 
--- the configuration, the last TTI with a new block, and for each process the TTI of its last downlink block where that was damaged
+-- the configuration, the last TTI with a new block, and for each process the TTI of its last
+-- downlink block where that was damaged
 pub record State : Type 0 where
   pub config : DrxConfig
   pub last_new : Option ℕ
@@ -23,7 +25,8 @@ is_on config tti = nat_lt ((tti + config.cycle - config.offset) % config.cycle) 
 -- the inactivity timer runs, or a retransmission timer does, or the uplink process holds a block
 unfoldable pub is_active : State → ℕ → Bool → Bool
 is_active s tti held =
-    ((held || is_on s.config tti) || is_within 1 s.config.inactivity tti s.last_new) || list_any (is_within 8 (7 + s.config.retransmit) tti) s.damaged
+    ((held || is_on s.config tti) || is_within 1 s.config.inactivity tti s.last_new)
+    || list_any (is_within 8 (7 + s.config.retransmit) tti) s.damaged
 
 unfoldable pub after_new : State → ℕ → State
 after_new s tti = state s.config (Some tti) s.damaged

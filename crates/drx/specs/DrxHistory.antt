@@ -1,7 +1,9 @@
 -- In which TTIs a terminal listens, told by all that it saw (TS 36.321 5.7).
-use Rattle.std.specs.Prelude.{◌≡◌, ℕ, ◌+◌, ◌-◌, ◌%◌, ◌<◌, ◌≤◌, ◌⊎◌, ◌↔◌, IsTrue, ◌==◌, Bool, if◌then◌else◌, Option, Some, None, List, [], ◌∷◌}
+use Rattle.std.specs.Prelude.{◌≡◌, ℕ, ◌+◌, ◌-◌, ◌%◌, ◌<◌, ◌≤◌, ◌⊎◌, ◌↔◌, IsTrue, ◌==◌, Bool}
+use Rattle.std.specs.Prelude.{if◌then◌else◌, Option, Some, None, List, [], ◌∷◌}
 use Rattle.l2_types.specs.declared.config.DrxConfig.{DrxConfig}
-use Rattle.drx.specs.Drx.{State, fresh, is_active, after_new, after_damaged, after_decoded, after_reset}
+use Rattle.drx.specs.Drx.{State, fresh, is_active, after_new, after_damaged, after_decoded}
+use Rattle.drx.specs.Drx.{after_reset}
 
 -- what a terminal saw: a new block, or a downlink block that came damaged or intact, in a TTI
 pub data Sight : Type 0 where
@@ -72,11 +74,14 @@ IsBusy config past tti = (at : ℕ) × SawNew at past × (at < tti) × (tti ≤ 
 
 -- the last downlink block of a process came damaged, and may come again
 abbrev pub AwaitsRepeat : DrxConfig → List Sight → ℕ → Type 0
-AwaitsRepeat config past tti = (p : ℕ) × (at : ℕ) × (p < 8) × (last_damaged p past ≡ Some at) × (at + 8 ≤ tti) × (tti ≤ at + 7 + config.retransmit)
+AwaitsRepeat config past tti = (p : ℕ) × (at : ℕ) × (p < 8) × (last_damaged p past ≡ Some at)
+    × (at + 8 ≤ tti) × (tti ≤ at + 7 + config.retransmit)
 
 abbrev pub Listens : DrxConfig → List Sight → ℕ → Bool → Type 0
-Listens config past tti held = IsTrue held ⊎ (IsOnDuration config tti ⊎ (IsBusy config past tti ⊎ AwaitsRepeat config past tti))
+Listens config past tti held = IsTrue held
+    ⊎ (IsOnDuration config tti ⊎ (IsBusy config past tti ⊎ AwaitsRepeat config past tti))
 
 -- in a TTI above all that was seen, the terminal listens exactly where it has a reason to
 abbrev pub ListensRight : DrxConfig → World → Type 0
-ListensRight config w = (tti : ℕ) (held : Bool) → LiesBelow w.past tti → IsTrue (is_active w.state tti held) ↔ Listens config w.past tti held
+ListensRight config w = (tti : ℕ) (held : Bool) → LiesBelow w.past tti
+    → IsTrue (is_active w.state tti held) ↔ Listens config w.past tti held

@@ -36,7 +36,8 @@ impl Model for Drx {
 }
 
 impl Drx {
-    ghost use Rattle.drx.specs.Drx.{fresh, is_active, is_on, after_new, after_damaged, after_decoded, after_reset};
+    ghost use Rattle.drx.specs.Drx.{fresh, is_active, is_on, after_new, after_damaged};
+    ghost use Rattle.drx.specs.Drx.{after_decoded, after_reset};
 
     /// A terminal that saw nothing yet. The configuration has an `on` of at most `cycle` and an
     /// `offset` below it.
@@ -53,8 +54,8 @@ impl Drx {
         }
     }
 
-    /// Whether the terminal listens in a TTI, as that begins; `held` says whether its uplink process
-    /// of that TTI holds a block.
+    /// Whether the terminal listens in a TTI, as that begins; `held` says whether its uplink
+    /// process of that TTI holds a block.
     #[tactic(auto, unfolding(crate::specs::Drx::is_active))]
     pub fn active(&self, tti: u64, held: bool) -> bool
         ensures { result ≡ is_active self.now tti held }
@@ -104,7 +105,8 @@ impl Drx {
 
     // Whether a damaged block of some process may come again in a TTI.
     fn awaits_repeat(&self, tti: u64) -> bool
-        ensures { result ≡ list_any (is_within 8 (7 + self.now.config.retransmit) tti) self.now.damaged }
+        ensures { result ≡ list_any (is_within 8 (7 + self.now.config.retransmit) tti)
+            self.now.damaged }
     {
         let last = 7 + self.config.retransmit as u64;
         self.damaged

@@ -1,5 +1,6 @@
 -- The octets of words as lanes of a vector, each word's lowest octet first.
-use Rattle.std.proofs.Common.{◌≡◌, ◌<◌, ℕ, ◌+◌, ◌*◌, ◌/◌, ◌%◌, ◌^◌, ◌∙◌, List, [], ◌∷◌, length, slice_index, get_or, refl, ap, arith}
+use Rattle.std.proofs.Common.{◌≡◌, ◌<◌, ℕ, ◌+◌, ◌*◌, ◌/◌, ◌%◌, ◌^◌, ◌∙◌, List, [], ◌∷◌, length, slice_index, get_or}
+use Rattle.std.proofs.Common.{refl, ap, arith}
 use Rattle.std.proofs.lemmas.Simd.{get_or_narrower}
 use Rattle.std.specs.Simd.Lanes.{Each1, number_l, digits_l, pick_l}
 use Rattle.eps_sec.specs.Words.{column, state}
@@ -12,12 +13,14 @@ lanes ws = digits_l 256 16 (number_l 4294967296 ws)
 abbrev highest_first : List ℕ
 highest_first = 3 ∷ 2 ∷ 1 ∷ 0 ∷ 7 ∷ 6 ∷ 5 ∷ 4 ∷ 11 ∷ 10 ∷ 9 ∷ 8 ∷ 15 ∷ 14 ∷ 13 ∷ 12 ∷ []
 
-lane : (ws : List ℕ) (j i : ℕ) → Each1 (λ w. w < 4294967296) ws → j < 4 → i < 4 → get_or (lanes ws) (4 * j + i) 0 ≡ get_or ws j 0 / 256 ^ i % 256
+lane : (ws : List ℕ) (j i : ℕ) → Each1 (λ w. w < 4294967296) ws → j < 4 → i < 4
+    → get_or (lanes ws) (4 * j + i) 0 ≡ get_or ws j 0 / 256 ^ i % 256
 lane ws j i small low within = get_or_narrower 4294967296 4 256 16 ws j i refl small within (omega (arith, low, within))
 
 -- a word's octets, the highest first
 column-of-lanes : (ws : List ℕ) (j : ℕ) → Each1 (λ w. w < 4294967296) ws → j < 4
-    → get_or (lanes ws) (4 * j + 3) 0 ∷ get_or (lanes ws) (4 * j + 2) 0 ∷ get_or (lanes ws) (4 * j + 1) 0 ∷ get_or (lanes ws) (4 * j + 0) 0 ∷ [] ≡ column (slice_index ws j)
+    → get_or (lanes ws) (4 * j + 3) 0 ∷ get_or (lanes ws) (4 * j + 2) 0 ∷ get_or (lanes ws) (4 * j + 1) 0
+    ∷ get_or (lanes ws) (4 * j + 0) 0 ∷ [] ≡ column (slice_index ws j)
 unfolding column
 column-of-lanes ws j small low =
     four _ _ _ _ _ _ _ _

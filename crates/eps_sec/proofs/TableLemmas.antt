@@ -1,5 +1,6 @@
 -- The tables hold what the definitions say, by a test of each place that computes.
-use Rattle.std.proofs.Common.{◌≡◌, ◌<◌, ℕ, zero, suc, ◌+◌, ◌∙◌, Bool, true, ◌&&◌, eqb, List, [], ◌∷◌, slice_index, refl, ap, arith}
+use Rattle.std.proofs.Common.{◌≡◌, ◌<◌, ℕ, zero, suc, ◌+◌, ◌∙◌, Bool, true, ◌&&◌, eqb, List, [], ◌∷◌, slice_index, refl}
+use Rattle.std.proofs.Common.{ap, arith}
 use Rattle.std.proofs.lemmas.Bool.Decides.{Decides-below_and, Decides-eqb}
 use Rattle.std.proofs.lemmas.Slice.Eq.{bytes_eq-Decides}
 use Rattle.std.specs.Str.{bytes_eq}
@@ -17,7 +18,8 @@ computed = refl
 
 pub s_box_is : (a : ℕ) → a < 256 → slice_index S_BOX a ≡ sub_byte a
 s_box_is a lt =
-    let here = Decides-below_and (λ k. eqb (slice_index S_BOX k) (sub_byte k)) (λ k. slice_index S_BOX k ≡ sub_byte k) same_below (λ k. Decides-eqb (slice_index S_BOX k) (sub_byte k)) refl (λ _. refl) 256 in
+    let here = Decides-below_and (λ k. eqb (slice_index S_BOX k) (sub_byte k)) (λ k. slice_index S_BOX k ≡ sub_byte k)
+    same_below (λ k. Decides-eqb (slice_index S_BOX k) (sub_byte k)) refl (λ _. refl) 256 in
     here.0 computed a lt
 
 -- what an octet of row r whose value by the S-box is s adds to its column
@@ -36,11 +38,17 @@ of_row_3 s = s ∷ s ∷ times 3 s ∷ times 2 s ∷ []
 -- whether the first n words of a row are so, where the row begins at a place of the table
 abbrev are_below : ℕ → (ℕ → List ℕ) → ℕ → Bool
 are_below begin of zero = true
-are_below begin of (suc n) = bytes_eq (column (slice_index FROM_ROWS (begin + n))) (of (slice_index S_BOX n)) && are_below begin of n
+are_below begin of (suc n) = bytes_eq (column (slice_index FROM_ROWS (begin + n))) (of (slice_index S_BOX n))
+    && are_below begin of n
 
-are_so : (begin : ℕ) (of : ℕ → List ℕ) → are_below begin of 256 ≡ true → (a : ℕ) → a < 256 → column (slice_index FROM_ROWS (begin + a)) ≡ of (sub_byte a)
+are_so : (begin : ℕ) (of : ℕ → List ℕ) → are_below begin of 256 ≡ true → (a : ℕ) → a < 256
+    → column (slice_index FROM_ROWS (begin + a)) ≡ of (sub_byte a)
 are_so begin of computed a lt =
-    let here = Decides-below_and (λ k. bytes_eq (column (slice_index FROM_ROWS (begin + k))) (of (slice_index S_BOX k))) (λ k. column (slice_index FROM_ROWS (begin + k)) ≡ of (slice_index S_BOX k)) (are_below begin of) (λ k. bytes_eq-Decides (column (slice_index FROM_ROWS (begin + k))) (of (slice_index S_BOX k))) refl (λ _. refl) 256 in
+    let here =
+    Decides-below_and (λ k. bytes_eq (column (slice_index FROM_ROWS (begin + k))) (of (slice_index S_BOX k)))
+    (λ k. column (slice_index FROM_ROWS (begin + k)) ≡ of (slice_index S_BOX k)) (are_below begin of)
+    (λ k. bytes_eq-Decides (column (slice_index FROM_ROWS (begin + k))) (of (slice_index S_BOX k))) refl
+    (λ _. refl) 256 in
     here.0 computed a lt ∙ ap of (s_box_is a lt)
 
 row_0_computed : are_below 0 of_row_0 256 ≡ true

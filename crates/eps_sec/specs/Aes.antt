@@ -1,5 +1,7 @@
--- AES-128 (FIPS 197) over lists of 16 octets. Octet i of a state is in row i % 4 and column i / 4 (3.4).
-use Rattle.std.specs.Prelude.{ℕ, zero, suc, ◌+◌, ◌*◌, ◌/◌, ◌%◌, bit_xor, List, [], ◌∷◌, ◌++◌, map, slice_index}
+-- AES-128 (FIPS 197) over lists of 16 octets. Octet i of a state is in row i % 4 and column i / 4
+-- (3.4).
+use Rattle.std.specs.Prelude.{ℕ, zero, suc, ◌+◌, ◌*◌, ◌/◌, ◌%◌, bit_xor, List, [], ◌∷◌, ◌++◌, map}
+use Rattle.std.specs.Prelude.{slice_index}
 use Rattle.std.specs.List.{range_with_len}
 use Rattle.eps_sec.specs.Field.{times, sub_byte}
 
@@ -23,7 +25,8 @@ below s i k = slice_index s (4 * (i / 4) + (i + k) % 4)
 unfoldable pub mix_octet : ℕ → ℕ → ℕ → ℕ → ℕ
 mix_octet a b c d = bit_xor (bit_xor (bit_xor (times 2 a) (times 3 b)) c) d
 
--- the product of the matrix with each column; its other rows are that row turned to the right (5.1.3)
+-- the product of the matrix with each column; its other rows are that row turned to the right
+-- (5.1.3)
 unfoldable pub mix_columns : List ℕ → List ℕ
 mix_columns s = octets (λ i. mix_octet (below s i 0) (below s i 1) (below s i 2) (below s i 3))
 
@@ -73,7 +76,9 @@ round_key key (suc n) = next_key n (round_key key n)
 -- the state after round n, of the rounds before the last (5.1)
 unfoldable pub rounds : List ℕ → List ℕ → ℕ → List ℕ
 rounds key block zero = add_round_key (round_key key 0) block
-rounds key block (suc n) = add_round_key (round_key key (suc n)) (mix_columns (shift_rows (sub_bytes (rounds key block n))))
+rounds key block (suc n) =
+    add_round_key (round_key key (suc n))
+    (mix_columns (shift_rows (sub_bytes (rounds key block n))))
 
 -- the cipher, whose last round mixes no columns (5.1)
 unfoldable pub aes : List ℕ → List ℕ → List ℕ

@@ -1,6 +1,7 @@
--- The field of 256 elements and the S-box (FIPS 197, sections 4 and 5.1.1). An element is a number below 256,
--- whose bit i is the coefficient of x ^ i; the modulus is x ^ 8 + x ^ 4 + x ^ 3 + x + 1.
-use Rattle.std.specs.Prelude.{ℕ, zero, suc, ◌+◌, ◌-◌, ◌*◌, ◌/◌, ◌%◌, bit_xor, nat_lt, if◌then◌else◌, ◌==◌}
+-- The field of 256 elements and the S-box (FIPS 197, sections 4 and 5.1.1). An element is a number
+-- below 256, whose bit i is the coefficient of x ^ i; the modulus is x ^ 8 + x ^ 4 + x ^ 3 + x + 1.
+use Rattle.std.specs.Prelude.{ℕ, zero, suc, ◌+◌, ◌-◌, ◌*◌, ◌/◌, ◌%◌, bit_xor, nat_lt, if◌then◌else◌}
+use Rattle.std.specs.Prelude.{◌==◌}
 use Rattle.std.specs.Int.{w8, rotate_left}
 
 -- the product with x (4.2.1)
@@ -25,11 +26,13 @@ first_inverse a b (suc n) = if times a b == 1 then b else first_inverse a (b + 1
 unfoldable pub inverse : ℕ → ℕ
 inverse a = first_inverse a 0 256
 
--- the affine map: bit i is the sum of the bits i, i + 4, i + 5, i + 6 and i + 7 modulo 8 of b, and of
--- bit i of 0x63 (5.1.1, step 2)
+-- the affine map: bit i is the sum of the bits i, i + 4, i + 5, i + 6 and i + 7 modulo 8 of b, and
+-- of bit i of 0x63 (5.1.1, step 2)
 abbrev pub affine : ℕ → ℕ
 affine b =
-    bit_xor (bit_xor (bit_xor (bit_xor (bit_xor b (rotate_left w8 b 1)) (rotate_left w8 b 2)) (rotate_left w8 b 3)) (rotate_left w8 b 4)) 0x63
+    bit_xor
+    (bit_xor (bit_xor (bit_xor (bit_xor b (rotate_left w8 b 1)) (rotate_left w8 b 2))
+    (rotate_left w8 b 3)) (rotate_left w8 b 4)) 0x63
 
 -- the S-box (5.1.1)
 unfoldable pub sub_byte : ℕ → ℕ

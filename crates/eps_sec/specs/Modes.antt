@@ -1,5 +1,7 @@
 -- 128-EEA2 and 128-EIA2 (TS 33.401, Annex B): AES-128 in counter mode, and AES-CMAC (RFC 4493).
-use Rattle.std.specs.Prelude.{ℕ, zero, suc, ◌+◌, ◌-◌, ◌*◌, ◌/◌, ◌%◌, ◌^◌, bit_xor, if◌then◌else◌, ◌==◌, nat_lt, List, [], ◌∷◌, ◌++◌, length, take, replicate, slice_index}
+use Rattle.std.specs.Prelude.{ℕ, zero, suc, ◌+◌, ◌-◌, ◌*◌, ◌/◌, ◌%◌, ◌^◌, bit_xor, if◌then◌else◌}
+use Rattle.std.specs.Prelude.{◌==◌, nat_lt, List, [], ◌∷◌, ◌++◌, length, take, replicate}
+use Rattle.std.specs.Prelude.{slice_index}
 use Rattle.std.specs.Int.{w32, w128, to_be_bytes, from_be_bytes}
 use Rattle.eps_sec.specs.declared.keys.Cipher.{Cipher}
 use Rattle.eps_sec.specs.declared.keys.Cipher.TheVariants.{Eea0, Eea2}
@@ -7,11 +9,13 @@ use Rattle.eps_sec.specs.Aes.{aes, octets, add_round_key}
 
 -- COUNT in 32 bits, BEARER in 5, DIRECTION in 1, and 26 zero bits (B.1.3, B.2.3)
 abbrev pub prefix : ℕ → ℕ → ℕ → List ℕ
-prefix count bearer direction = to_be_bytes w32 count ++ ((8 * bearer + 4 * direction) ∷ 0 ∷ 0 ∷ 0 ∷ [])
+prefix count bearer direction =
+    to_be_bytes w32 count ++ ((8 * bearer + 4 * direction) ∷ 0 ∷ 0 ∷ 0 ∷ [])
 
 -- the number of the first counter block: the prefix and 64 zero bits (B.1.3)
 abbrev pub first_counter : ℕ → ℕ → ℕ → ℕ
-first_counter count bearer direction = from_be_bytes w128 (prefix count bearer direction ++ replicate 8 0)
+first_counter count bearer direction =
+    from_be_bytes w128 (prefix count bearer direction ++ replicate 8 0)
 
 -- counter block i: the first one plus i, modulo 2 ^ 128
 unfoldable pub counter_block : ℕ → ℕ → List ℕ
@@ -28,7 +32,8 @@ add_stream f n (x ∷ xs) = bit_xor x (f n) ∷ add_stream f (n + 1) xs
 
 -- 128-EEA2 (B.1.3)
 abbrev pub eea2 : List ℕ → ℕ → ℕ → ℕ → List ℕ → List ℕ
-eea2 key count bearer direction text = add_stream (stream_octet key (first_counter count bearer direction)) 0 text
+eea2 key count bearer direction text =
+    add_stream (stream_octet key (first_counter count bearer direction)) 0 text
 
 -- the text under a cipher; EEA0 leaves it as it is (B.0)
 abbrev pub ciphered : Cipher → List ℕ → ℕ → ℕ → ℕ → List ℕ → List ℕ
@@ -68,7 +73,8 @@ chain key m (suc n) = aes key (add_blocks (block_of m n) (chain key m n))
 abbrev pub last_number : List ℕ → ℕ
 last_number m = (length m - 1) / 16
 
--- the last block: a whole one with K1, another with a bit 1 and zeros behind it with K2 (2.4, step 4)
+-- the last block: a whole one with K1, another with a bit 1 and zeros behind it with K2 (2.4, step
+-- 4)
 unfoldable pub last_block : List ℕ → List ℕ → List ℕ
 last_block key m = if length m == 16 * (last_number m + 1)
     then add_blocks (subkey_1 key) (block_of m (last_number m))

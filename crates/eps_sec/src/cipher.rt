@@ -1,11 +1,13 @@
 //! The block cipher over words.
 //!
-//! A state is four words, one for each column, with row 0 in the highest octet. A round looks up what each octet adds to
-//! its column, so that SubBytes, ShiftRows and MixColumns are four look-ups a column, with a table for each row.
+//! A state is four words, one for each column, with row 0 in the highest octet. A round looks up
+//! what each octet adds to its column, so that SubBytes, ShiftRows and MixColumns are four look-ups
+//! a column, with a table for each row.
 
 ghost use Rattle.std.specs.Prelude.{◌≡◌, ◌≤◌, ℕ, List, [], ◌∷◌, take};
 ghost use Rattle.eps_sec.specs.Field.{sub_byte};
-ghost use Rattle.eps_sec.specs.Aes.{add_words, sub_word, rot_word, power_of_x, next_key, sub_bytes, shift_rows, mix_columns, add_round_key, round_key, rounds, aes};
+ghost use Rattle.eps_sec.specs.Aes.{add_words, sub_word, rot_word, power_of_x, next_key, sub_bytes};
+ghost use Rattle.eps_sec.specs.Aes.{shift_rows, mix_columns, add_round_key, round_key, rounds, aes};
 ghost use Rattle.eps_sec.specs.Words.{column, row, mix_column, state, IsFront};
 
 use crate::field::times;
@@ -65,7 +67,8 @@ pub(crate) fn encrypt_words(schedule: &Schedule, block: &[u32; 4]) -> [u32; 4]
 #[inline(never)]
 fn encrypt_from(schedule: &Schedule, start: usize, before: &[u32; 4]) -> [u32; 4]
     requires { start ≤ 9 }
-    ensures { (block : List ℕ) → add_round_key (round_key schedule.now start) (state before.now) ≡ rounds schedule.now block start → state result ≡ aes schedule.now block }
+    ensures { (block : List ℕ) → add_round_key (round_key schedule.now start) (state before.now)
+        ≡ rounds schedule.now block start → state result ≡ aes schedule.now block }
 {
     let keys = &schedule.keys;
     let mut state = *before;
@@ -81,7 +84,8 @@ const NOTHING: u8 = 0x52;
 
 /// What the first two rounds make of all the blocks that differ in their last octet alone.
 ///
-/// That octet goes into one word in the first round, and that word into one octet of each in the second.
+/// That octet goes into one word in the first round, and that word into one octet of each in the
+/// second.
 #[derive(Debug, Drop)]
 pub(crate) struct Front {
     word: u32,
@@ -190,7 +194,8 @@ fn mixed_round(s: &[u32; 4]) -> [u32; 4]
 
 // The column whose rows come from these words.
 fn mixed(a: u32, b: u32, c: u32, d: u32) -> u32
-    ensures { column result ≡ mix_column (sub_byte (row a 0)) (sub_byte (row b 1)) (sub_byte (row c 2)) (sub_byte (row d 3)) }
+    ensures { column result ≡ mix_column (sub_byte (row a 0)) (sub_byte (row b 1))
+        (sub_byte (row c 2)) (sub_byte (row d 3)) }
 {
     from_row_0(row_0(a)) ^ from_row_1(row_1(b)) ^ from_row_2(row_2(c)) ^ from_row_3(row_3(d))
 }
@@ -210,7 +215,8 @@ fn last_round(s: &[u32; 4]) -> [u32; 4]
 
 // The column whose rows come from these words, not mixed.
 fn substituted(a: u32, b: u32, c: u32, d: u32) -> u32
-    ensures { column result ≡ sub_byte (row a 0) ∷ sub_byte (row b 1) ∷ sub_byte (row c 2) ∷ sub_byte (row d 3) ∷ [] }
+    ensures { column result ≡ sub_byte (row a 0) ∷ sub_byte (row b 1) ∷ sub_byte (row c 2)
+        ∷ sub_byte (row d 3) ∷ [] }
 {
     u32::from_be_bytes([
         sub_byte(row_0(a)),

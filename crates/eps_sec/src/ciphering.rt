@@ -1,10 +1,12 @@
 //! 128-EEA2: AES-128 in counter mode (TS 33.401, B.1.3).
 
-ghost use Rattle.std.specs.Prelude.{◌≡◌, ◌<◌, ◌≤◌, ◌+◌, ◌==◌, false, length, take, slice_index, bit_xor};
+ghost use Rattle.std.specs.Prelude.{◌≡◌, ◌<◌, ◌≤◌, ◌+◌, ◌==◌, false, length, take, slice_index};
+ghost use Rattle.std.specs.Prelude.{bit_xor};
 ghost use Rattle.std.specs.Simd.Lanes.{zip2, chunk, put_chunk};
 ghost use Rattle.eps_sec.specs.Aes.{aes};
 ghost use Rattle.eps_sec.specs.Words.{state, IsFront};
-ghost use Rattle.eps_sec.specs.Modes.{prefix, first_counter, counter_block, stream_octet, add_stream, ciphered};
+ghost use Rattle.eps_sec.specs.Modes.{prefix, first_counter, counter_block, stream_octet};
+ghost use Rattle.eps_sec.specs.Modes.{add_stream, ciphered};
 
 use crate::cipher::{Front, Schedule, encrypt_words, octets_of, words_of};
 use crate::keys::Cipher;
@@ -12,8 +14,8 @@ use std::simd::prelude::*;
 
 /// Ciphers or deciphers `text` in place; both are the same.
 ///
-/// `count` is the COUNT of the PDU, `bearer` its radio bearer's identity less 1, and `direction` is 0 on the uplink and
-/// 1 on the downlink. `Eea0` leaves the text as it is.
+/// `count` is the COUNT of the PDU, `bearer` its radio bearer's identity less 1, and `direction` is
+/// 0 on the uplink and 1 on the downlink. `Eea0` leaves the text as it is.
 pub fn eea_apply(
     schedule: &Schedule,
     alg: Cipher,
@@ -68,7 +70,8 @@ fn front_at(schedule: &Schedule, first: u128, i: usize) -> Front
 // Whether the step from counter block `i` to the next carries out of the last octet.
 fn has_carry(first: u128, i: usize) -> bool
     ensures octet { result ≡ (slice_index (counter_block first i) 15 == 255) }
-    ensures head { result ≡ false → take 15 (counter_block first (i + 1)) ≡ take 15 (counter_block first i) }
+    ensures head { result ≡ false → take 15 (counter_block first (i + 1))
+        ≡ take 15 (counter_block first i) }
 {
     counter_block(first, i)[15] == 255
 }
@@ -96,7 +99,8 @@ fn octets_in(words: u32x4) -> u8x16
 #[inline(always)]
 fn add_words(stream: &[u32; 4], text: &mut [u8], start: usize)
     requires { start + 16 ≤ length text.old }
-    ensures { text.new ≡ put_chunk start text.old (zip2 bit_xor (chunk start 16 text.old) (state stream.now)) }
+    ensures { text.new ≡ put_chunk start text.old
+        (zip2 bit_xor (chunk start 16 text.old) (state stream.now)) }
 {
     let sum = u8x16::from_slice(&text[start..]) ^ octets_in(u32x4::from_array(*stream));
     sum.copy_to_slice(&mut text[start..]);
@@ -129,7 +133,8 @@ pub(crate) fn add_stream(schedule: &Schedule, first: u128, text: &mut [u8])
     }
 }
 
-// Adds the first counter block to a text no longer than it, for which preparing would cost more than it saves.
+// Adds the first counter block to a text no longer than it, for which preparing would cost more
+// than it saves.
 fn add_block(schedule: &Schedule, first: u128, text: &mut [u8])
     requires { length text.now ≤ 16 }
     ensures { text.new ≡ add_stream (stream_octet schedule.now first) 0 text.old }

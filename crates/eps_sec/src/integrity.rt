@@ -1,7 +1,8 @@
 //! AES-CMAC (RFC 4493), and 128-EIA2 over it (TS 33.401, B.2.3).
 
 ghost use Rattle.std.specs.Prelude.{ℕ, ◌≡◌, ◌+◌, ◌*◌, ◌^◌, ◌<◌, ◌≤◌, ◌++◌, length, slice_index};
-ghost use Rattle.eps_sec.specs.Modes.{add_blocks, double, double_block, block_of, last_block, last_number, cmac, eia2};
+ghost use Rattle.eps_sec.specs.Modes.{add_blocks, double, double_block, block_of, last_block};
+ghost use Rattle.eps_sec.specs.Modes.{last_number, cmac, eia2};
 
 use crate::cipher::{Schedule, encrypt_block};
 use crate::ciphering::prefix;
@@ -15,8 +16,8 @@ pub fn cmac(schedule: &Schedule, message: &[u8]) -> [u8; 16]
 
 /// The code MAC-I of `message`.
 ///
-/// `count` is the COUNT of the PDU, `bearer` its radio bearer's identity less 1, and `direction` is 0 on the uplink and
-/// 1 on the downlink.
+/// `count` is the COUNT of the PDU, `bearer` its radio bearer's identity less 1, and `direction` is
+/// 0 on the uplink and 1 on the downlink.
 pub fn eia_tag(
     schedule: &Schedule,
     count: u32,
@@ -109,7 +110,8 @@ fn octets_at(body: &[u8], start: usize) -> [u8; 16]
 fn octets_across(head: &[u8], body: &[u8], tail: &[u8], start: usize) -> [u8; 16]
     requires { start + 16 < 2 ^ 64 }
     ensures len { length result ≡ 16 }
-    ensures places { (j : ℕ) → j < 16 → slice_index result j ≡ slice_index (head.now ++ body.now ++ tail.now) (start + j) }
+    ensures places { (j : ℕ) → j < 16 → slice_index result j
+        ≡ slice_index (head.now ++ body.now ++ tail.now) (start + j) }
 {
     let mut block = [0; 16];
     for j in 0..16 {

@@ -1,8 +1,8 @@
 //! AES-128, and the ciphering 128-EEA2 and the integrity 128-EIA2 of LTE over it.
 //!
-//! Contracts speak of the standards' own definitions, which stand in `specs/`: the block cipher of FIPS 197 over lists
-//! of octets (`Field`, `Aes`), and the modes of TS 33.401, Annex B, and RFC 4493 (`Modes`). The code computes with words
-//! and tables. No call takes memory.
+//! Contracts speak of the standards' own definitions, which stand in `specs/`: the block cipher of
+//! FIPS 197 over lists of octets (`Field`, `Aes`), and the modes of TS 33.401, Annex B, and RFC
+//! 4493 (`Modes`). The code computes with words and tables. No call takes memory.
 #![tactic(auto)]
 
 mod cipher;

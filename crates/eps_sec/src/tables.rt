@@ -25,8 +25,9 @@ const S_BOX: [u8; 256] = [
     0x8c, 0xa1, 0x89, 0x0d, 0xbf, 0xe6, 0x42, 0x68, 0x41, 0x99, 0x2d, 0x0f, 0xb0, 0x54, 0xbb, 0x16,
 ];
 
-// What each octet of a row adds to its column, 256 words for each row behind those of the row above, so that one address serves
-// all: the products with the columns of the matrix (FIPS 197, section 5.1.3).
+// What each octet of a row adds to its column, 256 words for each row behind those of the row
+// above, so that one address serves all: the products with the columns of the matrix (FIPS 197,
+// section 5.1.3).
 #[rattlefmt::skip]
 const FROM_ROWS: [u32; 1024] = [
     // Those with the matrix column 2 1 1 3, for row 0.
@@ -172,28 +173,32 @@ pub(crate) fn sub_byte(octet: u8) -> u8
 
 /// What an octet of row 0 adds to its column, substituted and mixed.
 pub(crate) fn from_row_0(octet: u8) -> u32
-    ensures { column result ≡ times 2 (sub_byte octet) ∷ sub_byte octet ∷ sub_byte octet ∷ times 3 (sub_byte octet) ∷ [] }
+    ensures { column result ≡ times 2 (sub_byte octet) ∷ sub_byte octet ∷ sub_byte octet
+        ∷ times 3 (sub_byte octet) ∷ [] }
 {
     FROM_ROWS[octet as usize]
 }
 
 /// What an octet of row 1 adds to its column.
 pub(crate) fn from_row_1(octet: u8) -> u32
-    ensures { column result ≡ times 3 (sub_byte octet) ∷ times 2 (sub_byte octet) ∷ sub_byte octet ∷ sub_byte octet ∷ [] }
+    ensures { column result ≡ times 3 (sub_byte octet) ∷ times 2 (sub_byte octet) ∷ sub_byte octet
+        ∷ sub_byte octet ∷ [] }
 {
     FROM_ROWS[256 + octet as usize]
 }
 
 /// What an octet of row 2 adds to its column.
 pub(crate) fn from_row_2(octet: u8) -> u32
-    ensures { column result ≡ sub_byte octet ∷ times 3 (sub_byte octet) ∷ times 2 (sub_byte octet) ∷ sub_byte octet ∷ [] }
+    ensures { column result ≡ sub_byte octet ∷ times 3 (sub_byte octet) ∷ times 2 (sub_byte octet)
+        ∷ sub_byte octet ∷ [] }
 {
     FROM_ROWS[512 + octet as usize]
 }
 
 /// What an octet of row 3 adds to its column.
 pub(crate) fn from_row_3(octet: u8) -> u32
-    ensures { column result ≡ sub_byte octet ∷ sub_byte octet ∷ times 3 (sub_byte octet) ∷ times 2 (sub_byte octet) ∷ [] }
+    ensures { column result ≡ sub_byte octet ∷ sub_byte octet ∷ times 3 (sub_byte octet)
+        ∷ times 2 (sub_byte octet) ∷ [] }
 {
     FROM_ROWS[768 + octet as usize]
 }

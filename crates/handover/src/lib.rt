@@ -1,5 +1,5 @@
-//! Bearers on their way from one base station to another (TS 36.300 10.1.2): a bearer that was stopped is released into a
-//! package, and the package is accepted where it arrives.
+//! Bearers on their way from one base station to another (TS 36.300 10.1.2): a bearer that was
+//! stopped is released into a package, and the package is accepted where it arrives.
 #![tactic(auto)]
 
 ghost use Rattle.std.specs.Prelude.{◌≡◌, IfOk, IfErr};
@@ -11,9 +11,9 @@ use eps_sec::Keys;
 use l2_bits::NoMemory;
 use std::marker::Model;
 
-/// A bearer on its way: its configuration and side, the SDUs that are kept with their COUNTs and with what RLC and status
-/// reports have confirmed of them, the SDUs that wait with their discard timers, the receive state, and the SDUs that are
-/// held out of sequence.
+/// A bearer on its way: its configuration and side, the SDUs that are kept with their COUNTs and
+/// with what RLC and status reports have confirmed of them, the SDUs that wait with their discard
+/// timers, the receive state, and the SDUs that are held out of sequence.
 ///
 /// It can't be let go: it is spent by `accept`, or by `abandon`.
 pub struct Package {
@@ -38,10 +38,11 @@ pub fn release(bearer: Bearer<Stopped>) -> Package
     }
 }
 
-/// Accepts a package: the bearer begins its next life under other keys, as `Bearer::restart` says. An `Err` gives back the
-/// package as it was.
+/// Accepts a package: the bearer begins its next life under other keys, as `Bearer::restart` says.
+/// An `Err` gives back the package as it was.
 pub fn accept(package: Package, keys: &Keys) -> Result<Bearer<Running>, (Package, NoMemory)>
-    ensures ok { IfOk result (λ b. b ≡ of «package».lcid (alive (restarted «package».state keys.now))) }
+    ensures ok { IfOk result
+        (λ b. b ≡ of «package».lcid (alive (restarted «package».state keys.now))) }
     ensures err { IfErr result (λ e. e.0 ≡ «package») }
 {
     let Package { bearer } = package;

@@ -1,5 +1,7 @@
 -- A receiver's processes over any list of calls.
-use Rattle.std.proofs.Common.{◌≡◌, ◌<◌, ◌≤◌, ℕ, zero, suc, ◌+◌, ◌-◌, ◌%◌, Bool, true, false, not, ◌||◌, ◌&&◌, ◌==◌, if◌then◌else◌, nat_lt, Option, Some, None, List, [], ◌∷◌, length, get_or, replicate, get_or-set_same, get_or-set_other, refl, ap, sym, subst, ◌∙◌, arith, inl, inr}
+use Rattle.std.proofs.Common.{◌≡◌, ◌<◌, ◌≤◌, ℕ, zero, suc, ◌+◌, ◌-◌, ◌%◌, Bool, true, false, not, ◌||◌, ◌&&◌, ◌==◌}
+use Rattle.std.proofs.Common.{if◌then◌else◌, nat_lt, Option, Some, None, List, [], ◌∷◌, length, get_or, replicate}
+use Rattle.std.proofs.Common.{get_or-set_same, get_or-set_other, refl, ap, sym, subst, ◌∙◌, arith, inl, inr}
 use Rattle.std.proofs.lemmas.Bool.{cases_eq}
 use Rattle.std.proofs.lemmas.Bool.Decides.{nat_tests}
 use Rattle.std.proofs.Math.ListN.{length-set}
@@ -7,8 +9,14 @@ use Rattle.harq.specs.declared.receiver.Answer.{Answer}
 use Rattle.harq.specs.declared.receiver.Answer.TheVariants.{Up, Again, Damaged}
 use Rattle.harq.specs.Sending.{same}
 use Rattle.harq.specs.SendHistory.{is_odd}
-use Rattle.harq.specs.Receiving.{Receiving, ReceiveProcess, blank, was_decoded, assigned_to, assigned_answered, awarded, passed, arrived, with_process, fresh, after_assigned, assigned_answer, after_grant, grant_ndi, after_granted, after_pass}
-use Rattle.harq.specs.ReceiveHistory.{Block, DownStep, Came, Cleared, Heard, DownWorld, heard, down_stepped, down_run, down_start, has_decoded, AreAnsweredRight, AnswersRight, UpStep, Granted, Passed, Reset, Told, Asked, Skipped, UpWorld, up_stepped, up_run, up_start, since_award, awards, AreGrantedRight, GrantsRight, Arrival, heard_of, Follows, came_intact, once_answer, right_answer}
+use Rattle.harq.specs.Receiving.{Receiving, ReceiveProcess, blank, was_decoded, assigned_to, assigned_answered, awarded}
+use Rattle.harq.specs.Receiving.{passed, arrived, with_process, fresh, after_assigned, assigned_answer, after_grant}
+use Rattle.harq.specs.Receiving.{grant_ndi, after_granted, after_pass}
+use Rattle.harq.specs.ReceiveHistory.{Block, DownStep, Came, Cleared, Heard, DownWorld, heard, down_stepped, down_run}
+use Rattle.harq.specs.ReceiveHistory.{down_start, has_decoded, AreAnsweredRight, AnswersRight, UpStep, Granted, Passed}
+use Rattle.harq.specs.ReceiveHistory.{Reset, Told, Asked, Skipped, UpWorld, up_stepped, up_run, up_start, since_award}
+use Rattle.harq.specs.ReceiveHistory.{awards, AreGrantedRight, GrantsRight, Arrival, heard_of, Follows, came_intact}
+use Rattle.harq.specs.ReceiveHistory.{once_answer, right_answer}
 
 abbrev one : Receiving → ℕ → ReceiveProcess
 one r p = get_or r.processes p blank
@@ -33,20 +41,24 @@ puts r tti x l = record {
   others = λ p ne. get_or-set_other r.processes (tti % 8) p x blank ne;
 }
 
-assigned_puts : (r : Receiving) (b : Block) → length r.processes ≡ 8 → Puts b.tti (assigned_to b.ndi b.good (one r (b.tti % 8))) r (after_assigned r b.tti b.ndi b.good)
+assigned_puts : (r : Receiving) (b : Block) → length r.processes ≡ 8
+    → Puts b.tti (assigned_to b.ndi b.good (one r (b.tti % 8))) r (after_assigned r b.tti b.ndi b.good)
 unfolding after_assigned
 assigned_puts r b l = puts r b.tti (assigned_to b.ndi b.good (one r (b.tti % 8))) l
 
-passed_puts : (r : Receiving) (tti : ℕ) → length r.processes ≡ 8 → Puts tti (passed (one r (tti % 8))) r (after_pass r tti)
+passed_puts : (r : Receiving) (tti : ℕ) → length r.processes ≡ 8
+    → Puts tti (passed (one r (tti % 8))) r (after_pass r tti)
 unfolding after_pass
 passed_puts r tti l = puts r tti (passed (one r (tti % 8))) l
 
-granted_puts : (r : Receiving) (tti : ℕ) (good : Option Bool) → length r.processes ≡ 8 → Puts tti (arrived good (awarded r.maximum (one r (tti % 8)))) r (after_granted (after_grant r tti) tti good)
+granted_puts : (r : Receiving) (tti : ℕ) (good : Option Bool) → length r.processes ≡ 8
+    → Puts tti (arrived good (awarded r.maximum (one r (tti % 8)))) r (after_granted (after_grant r tti) tti good)
 unfolding after_grant after_granted
 granted_puts r tti good l =
     let award = awarded r.maximum (one r (tti % 8)) in
     let a = puts r tti award l in
-    let b = puts (with_process r tti award) tti (arrived good (one (with_process r tti award) (tti % 8))) (a.length_is ∙ l) in
+    let b = puts (with_process r tti award) tti (arrived good (one (with_process r tti award) (tti % 8)))
+    (a.length_is ∙ l) in
     record {
       maximum_is = refl;
       length_is = b.length_is ∙ a.length_is;
@@ -74,17 +86,25 @@ decoded_more false false false true = refl
 decoded_more false false false false = refl
 
 -- where two NDIs are the same, what is known of the one is known of the other
-decoded_same : (ndi new good : Bool) (past : List Heard) → (if same ndi new then good || has_decoded new past else false) ≡ (if same ndi new then good || has_decoded ndi past else false)
+decoded_same : (ndi new good : Bool) (past : List Heard)
+    → (if same ndi new then good || has_decoded new past else false)
+    ≡ (if same ndi new then good || has_decoded ndi past else false)
 decoded_same true true good past = refl
 decoded_same true false good past = refl
 decoded_same false true good past = refl
 decoded_same false false good past = refl
 
-hears_more : (b : Block) (answer : Answer) (past : List Heard) (p : ReceiveProcess) → answer ≡ assigned_answered b.ndi b.good p → Hears past p
+hears_more : (b : Block) (answer : Answer) (past : List Heard) (p : ReceiveProcess)
+    → answer ≡ assigned_answered b.ndi b.good p → Hears past p
     → Hears (record { ndi = b.ndi; good = b.good; answer = answer } ∷ past) (assigned_to b.ndi b.good p)
 hears_more b answer past p e h = record {
-  decoded_is = λ ndi. decoded_more ndi b.ndi b.good (was_decoded b.ndi p) ∙ ap (λ (d : Bool). if same ndi b.ndi then b.good || d else false) (h.decoded_is b.ndi) ∙ decoded_same ndi b.ndi b.good past;
-  is_right = (e ∙ ap (λ (d : Bool). if b.good then (if d then Again else Up) else Damaged) (h.decoded_is b.ndi), h.is_right);
+  decoded_is = λ ndi. decoded_more ndi b.ndi b.good (was_decoded b.ndi p)
+      ∙ ap (λ (d : Bool). if same ndi b.ndi then b.good || d else false) (h.decoded_is b.ndi)
+      ∙ decoded_same ndi b.ndi b.good past;
+  is_right = (
+    e ∙ ap (λ (d : Bool). if b.good then (if d then Again else Up) else Damaged) (h.decoded_is b.ndi),
+    h.is_right,
+  );
 }
 
 record DownKeeps (w : DownWorld) : Type 0 where
@@ -98,12 +118,14 @@ down_fresh maximum = record {
   hears = λ p lt. subst (λ x. Hears [] x) (sym (blank_at 8 p)) (record { decoded_is = λ ndi. refl; is_right = tt });
 }
 
-heard_there : (w : DownWorld) (b : Block) → DownKeeps w → Hears (heard b w.receiver ∷ w.past (b.tti % 8)) (one (after_assigned w.receiver b.tti b.ndi b.good) (b.tti % 8))
+heard_there : (w : DownWorld) (b : Block) → DownKeeps w
+    → Hears (heard b w.receiver ∷ w.past (b.tti % 8)) (one (after_assigned w.receiver b.tti b.ndi b.good) (b.tti % 8))
 unfolding assigned_answer
 heard_there w b k =
     let at = b.tti % 8 in
     subst (λ x. Hears (heard b w.receiver ∷ w.past at) x) (sym (assigned_puts w.receiver b k.length_is).at)
-    (hears_more b (assigned_answer w.receiver b.tti b.ndi b.good) (w.past at) (one w.receiver at) refl (k.hears at (omega arith)))
+    (hears_more b (assigned_answer w.receiver b.tti b.ndi b.good) (w.past at) (one w.receiver at) refl
+    (k.hears at (omega arith)))
 
 down_step : (w : DownWorld) (s : DownStep) → DownKeeps w → DownKeeps (down_stepped w s)
 down_step w Cleared k = down_fresh w.receiver.maximum
@@ -114,7 +136,9 @@ down_step w (Came b) k =
       hears = λ p lt. elim (cases_eq p (b.tti % 8)) [
         | inl same_one ↦
             let test : (p == b.tti % 8) ≡ true = grind (arith, nat_tests) in
-            rw test (subst (λ q. Hears (heard b w.receiver ∷ w.past q) (one (after_assigned w.receiver b.tti b.ndi b.good) q)) (sym same_one) (heard_there w b k))
+            rw test
+            (subst (λ q. Hears (heard b w.receiver ∷ w.past q)
+            (one (after_assigned w.receiver b.tti b.ndi b.good) q)) (sym same_one) (heard_there w b k))
         | inr other ↦
             let test : (p == b.tti % 8) ≡ false = grind (arith, nat_tests) in
             rw test (subst (λ x. Hears (w.past p) x) (sym (puts_it.others p other)) (k.hears p lt))
@@ -138,7 +162,8 @@ pub record Awaits (maximum : ℕ) (past : List Told) (p : ReceiveProcess) : Type
   pub is_right : AreGrantedRight maximum past
 
 -- whether a block is awaited is seen by what is left
-left_none : (maximum since left : ℕ) → since < maximum → left ≡ (if since == 0 then 0 else maximum - since) → (left == 0) ≡ (since == 0)
+left_none : (maximum since left : ℕ) → since < maximum → left ≡ (if since == 0 then 0 else maximum - since)
+    → (left == 0) ≡ (since == 0)
 left_none maximum since left lt e = grind (arith, nat_tests)
 
 asked_ndi : (maximum : ℕ) (past : List Told) (p : ReceiveProcess) (good : Option Bool) → Awaits maximum past p
@@ -155,13 +180,17 @@ asked_ndi maximum past p good a =
     ]
 
 missed_left : (maximum since left : ℕ) → since < maximum → left ≡ (if since == 0 then 0 else maximum - since)
-    → ((if left == 0 then maximum else left) - 1) ≡ (if (if not (nat_lt (since + 1) maximum) then 0 else since + 1) == 0 then 0 else maximum - (if not (nat_lt (since + 1) maximum) then 0 else since + 1))
+    → ((if left == 0 then maximum else left) - 1)
+    ≡ (if (if not (nat_lt (since + 1) maximum) then 0 else since + 1) == 0 then 0
+    else maximum - (if not (nat_lt (since + 1) maximum) then 0 else since + 1))
 missed_left maximum since left lt e = grind (arith, nat_tests)
 
-missed_within : (maximum since : ℕ) → since < maximum → (if not (nat_lt (since + 1) maximum) then 0 else since + 1) < maximum
+missed_within : (maximum since : ℕ) → since < maximum
+    → (if not (nat_lt (since + 1) maximum) then 0 else since + 1) < maximum
 missed_within maximum since lt = grind (arith, nat_tests)
 
-asked_awaits : (maximum : ℕ) (past : List Told) (p : ReceiveProcess) (good : Option Bool) → Awaits maximum past p → Awaits maximum (Asked (awarded maximum p).ndi good ∷ past) (arrived good (awarded maximum p))
+asked_awaits : (maximum : ℕ) (past : List Told) (p : ReceiveProcess) (good : Option Bool) → Awaits maximum past p
+    → Awaits maximum (Asked (awarded maximum p).ndi good ∷ past) (arrived good (awarded maximum p))
 asked_awaits maximum past p None a = record {
   ndi_is = asked_ndi maximum past p None a;
   within = missed_within maximum (since_award maximum past) a.within;
@@ -181,7 +210,8 @@ asked_awaits maximum past p (Some true) a = record {
   is_right = (asked_ndi maximum past p (Some true) a, a.is_right);
 }
 
-skipped_awaits : (maximum : ℕ) (past : List Told) (p : ReceiveProcess) → Awaits maximum past p → Awaits maximum (Skipped ∷ past) (passed p)
+skipped_awaits : (maximum : ℕ) (past : List Told) (p : ReceiveProcess) → Awaits maximum past p
+    → Awaits maximum (Skipped ∷ past) (passed p)
 skipped_awaits maximum past p a = record {
   ndi_is = a.ndi_is;
   within = grind (arith, nat_tests, a.within);
@@ -199,11 +229,13 @@ unfolding fresh
 up_fresh maximum some = record {
   maximum_is = refl;
   length_is = refl;
-  awaits = λ p lt. subst (λ x. Awaits maximum [] x) (sym (blank_at 8 p)) (record { ndi_is = refl; within = omega arith; left_is = refl; is_right = tt });
+  awaits = λ p lt. subst (λ x. Awaits maximum [] x) (sym (blank_at 8 p))
+      (record { ndi_is = refl; within = omega arith; left_is = refl; is_right = tt });
 }
 
 -- one process is told of, and the others stay
-told_keeps : (maximum : ℕ) (w : UpWorld) (tti : ℕ) (told : Told) (x : ReceiveProcess) (r : Receiving) → UpKeeps maximum w → Puts tti x w.receiver r → Awaits maximum (told ∷ w.past (tti % 8)) x
+told_keeps : (maximum : ℕ) (w : UpWorld) (tti : ℕ) (told : Told) (x : ReceiveProcess) (r : Receiving)
+    → UpKeeps maximum w → Puts tti x w.receiver r → Awaits maximum (told ∷ w.past (tti % 8)) x
     → UpKeeps maximum (record { receiver = r; past = λ p. if p == tti % 8 then told ∷ w.past p else w.past p })
 told_keeps maximum w tti told x r k puts_it a = record {
   maximum_is = puts_it.maximum_is ∙ k.maximum_is;
@@ -211,7 +243,8 @@ told_keeps maximum w tti told x r k puts_it a = record {
   awaits = λ p lt. elim (cases_eq p (tti % 8)) [
     | inl same_one ↦
         let test : (p == tti % 8) ≡ true = grind (arith, nat_tests) in
-        rw test (subst (λ q. Awaits maximum (told ∷ w.past q) (one r q)) (sym same_one) (subst (λ y. Awaits maximum (told ∷ w.past (tti % 8)) y) (sym puts_it.at) a))
+        rw test (subst (λ q. Awaits maximum (told ∷ w.past q) (one r q)) (sym same_one)
+        (subst (λ y. Awaits maximum (told ∷ w.past (tti % 8)) y) (sym puts_it.at) a))
     | inr other ↦
         let test : (p == tti % 8) ≡ false = grind (arith, nat_tests) in
         rw test (subst (λ y. Awaits maximum (w.past p) y) (sym (puts_it.others p other)) (k.awaits p lt))
@@ -222,15 +255,20 @@ up_step : (maximum : ℕ) (w : UpWorld) (s : UpStep) → 1 ≤ maximum → UpKee
 unfolding grant_ndi
 up_step maximum w Reset some k = subst (λ m. UpKeeps maximum (up_start m)) (sym k.maximum_is) (up_fresh maximum some)
 up_step maximum w (Passed tti) some k =
-    told_keeps maximum w tti Skipped (passed (one w.receiver (tti % 8))) (after_pass w.receiver tti) k (passed_puts w.receiver tti k.length_is)
+    told_keeps maximum w tti Skipped (passed (one w.receiver (tti % 8))) (after_pass w.receiver tti) k
+    (passed_puts w.receiver tti k.length_is)
     (skipped_awaits maximum (w.past (tti % 8)) (one w.receiver (tti % 8)) (k.awaits (tti % 8) (omega arith)))
 up_step maximum w (Granted tti good) some k =
-    told_keeps maximum w tti (Asked (grant_ndi w.receiver tti) good) (arrived good (awarded w.receiver.maximum (one w.receiver (tti % 8)))) (after_granted (after_grant w.receiver tti) tti good) k
+    told_keeps maximum w tti (Asked (grant_ndi w.receiver tti) good)
+    (arrived good (awarded w.receiver.maximum (one w.receiver (tti % 8))))
+    (after_granted (after_grant w.receiver tti) tti good) k
     (granted_puts w.receiver tti good k.length_is)
-    (subst (λ (m : ℕ). Awaits maximum (Asked (awarded m (one w.receiver (tti % 8))).ndi good ∷ w.past (tti % 8)) (arrived good (awarded m (one w.receiver (tti % 8))))) (sym k.maximum_is)
+    (subst (λ (m : ℕ). Awaits maximum (Asked (awarded m (one w.receiver (tti % 8))).ndi good ∷ w.past (tti % 8))
+    (arrived good (awarded m (one w.receiver (tti % 8))))) (sym k.maximum_is)
     (asked_awaits maximum (w.past (tti % 8)) (one w.receiver (tti % 8)) good (k.awaits (tti % 8) (omega arith))))
 
-up_keeps : (maximum : ℕ) (w : UpWorld) (ss : List UpStep) → 1 ≤ maximum → UpKeeps maximum w → UpKeeps maximum (up_run ss w)
+up_keeps : (maximum : ℕ) (w : UpWorld) (ss : List UpStep) → 1 ≤ maximum → UpKeeps maximum w
+    → UpKeeps maximum (up_run ss w)
 up_keeps maximum w [] some k = k
 up_keeps maximum w (s ∷ ss) some k = up_keeps maximum (up_stepped w s) ss some (up_step maximum w s some k)
 
@@ -256,21 +294,26 @@ same_not : (b : Bool) → same (not b) b ≡ false
 same_not true = refl
 same_not false = refl
 
-decoded_once : (number : ℕ) (past : List Arrival) → Follows number past → has_decoded (is_odd number) (heard_of past) ≡ came_intact number past
+decoded_once : (number : ℕ) (past : List Arrival) → Follows number past
+    → has_decoded (is_odd number) (heard_of past) ≡ came_intact number past
 decoded_once number [] f = refl
 decoded_once number (a ∷ past) f = elim (cases_eq a.number number) [
   | inl here ↦
       let test : (a.number == number) ≡ true = grind (arith, nat_tests) in
       let ih = decoded_once number past (subst (λ n. Follows n past) here f.2) in
-      let ndi : same (is_odd number) (is_odd a.number) ≡ true = ap (λ (n : ℕ). same (is_odd number) (is_odd n)) here ∙ same_self (is_odd number) in
+      let ndi : same (is_odd number) (is_odd a.number) ≡ true =
+      ap (λ (n : ℕ). same (is_odd number) (is_odd n)) here ∙ same_self (is_odd number) in
       rw (test, ndi, ih) refl
   | inr other ↦
       let next : suc a.number ≡ number = omega (arith, f.0, f.1) in
       let test : (a.number == number) ≡ false = grind (arith, nat_tests) in
       let none = none_above number a.number past f.2 (omega arith) in
-      let ndi : same (is_odd number) (is_odd a.number) ≡ false = ap (λ (n : ℕ). same (is_odd n) (is_odd a.number)) (sym next) ∙ same_not (is_odd a.number) in
+      let ndi : same (is_odd number) (is_odd a.number) ≡ false =
+      ap (λ (n : ℕ). same (is_odd n) (is_odd a.number)) (sym next) ∙ same_not (is_odd a.number) in
       rw (test, ndi, none) refl
 ]
 
-pub answered_once : (number : ℕ) (good : Bool) (past : List Arrival) → Follows number past → right_answer (is_odd number) good (heard_of past) ≡ once_answer number good past
-answered_once number good past f = ap (λ (d : Bool). if good then (if d then Again else Up) else Damaged) (decoded_once number past f)
+pub answered_once : (number : ℕ) (good : Bool) (past : List Arrival) → Follows number past
+    → right_answer (is_odd number) good (heard_of past) ≡ once_answer number good past
+answered_once number good past f =
+    ap (λ (d : Bool). if good then (if d then Again else Up) else Damaged) (decoded_once number past f)

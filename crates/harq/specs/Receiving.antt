@@ -1,11 +1,13 @@
 -- One step of a HARQ process at the receiver (TS 36.321 5.3.2, 5.4.2).
-use Rattle.std.specs.Prelude.{ℕ, ◌-◌, ◌%◌, ◌==◌, ◌||◌, ◌&&◌, Bool, true, false, not, if◌then◌else◌, Option, Some, None, List, replicate, slice_index_or, slice_set}
+use Rattle.std.specs.Prelude.{ℕ, ◌-◌, ◌%◌, ◌==◌, ◌||◌, ◌&&◌, Bool, true, false, not, if◌then◌else◌}
+use Rattle.std.specs.Prelude.{Option, Some, None, List, replicate, slice_index_or, slice_set}
 use Rattle.harq.specs.declared.receiver.Answer.{Answer}
 use Rattle.harq.specs.declared.receiver.Answer.TheVariants.{Up, Again, Damaged, Nothing}
 use Rattle.harq.specs.Sending.{same}
 
--- a process of a receiver: on the downlink the NDI seen last and whether a block with it was decoded;
--- on the uplink the NDI of the last award and the visits that it has left, 0 where none is awaited
+-- a process of a receiver: on the downlink the NDI seen last and whether a block with it was
+-- decoded; on the uplink the NDI of the last award and the visits that it has left, 0 where none is
+-- awaited
 pub record ReceiveProcess : Type 0 where
   pub seen : Option Bool
   pub decoded : Bool
@@ -13,7 +15,8 @@ pub record ReceiveProcess : Type 0 where
   pub left : ℕ
 
 abbrev pub receive_process : Option Bool → Bool → Bool → ℕ → ReceiveProcess
-receive_process seen decoded ndi left = record { seen = seen; decoded = decoded; ndi = ndi; left = left }
+receive_process seen decoded ndi left =
+    record { seen = seen; decoded = decoded; ndi = ndi; left = left }
 
 -- the process after a reset
 abbrev pub blank : ReceiveProcess
@@ -41,7 +44,9 @@ assigned_answered ndi good p = if good then (if was_decoded ndi p then Again els
 
 -- a grant: where none is awaited it is an award, which toggles the NDI
 abbrev pub awarded : ℕ → ReceiveProcess → ReceiveProcess
-awarded maximum p = receive_process p.seen p.decoded (if p.left == 0 then not p.ndi else p.ndi) (if p.left == 0 then maximum else p.left)
+awarded maximum p =
+    receive_process p.seen p.decoded (if p.left == 0 then not p.ndi else p.ndi)
+    (if p.left == 0 then maximum else p.left)
 
 -- a visit ends with no intact block
 abbrev pub passed : ReceiveProcess → ReceiveProcess

@@ -1,13 +1,17 @@
 -- What a sender's processes do over any list of visits and resets, told by what they sent
 -- (TS 36.321 5.3.2, 5.4.2).
-use Rattle.std.specs.Prelude.{◌≡◌, ℕ, zero, suc, ◌+◌, ◌%◌, ◌<◌, nat_le, ◌==◌, Bool, true, false, not, ◌||◌, if◌then◌else◌, Option, Some, None, unwrap_or, List, [], ◌∷◌}
+use Rattle.std.specs.Prelude.{◌≡◌, ℕ, zero, suc, ◌+◌, ◌%◌, ◌<◌, nat_le, ◌==◌, Bool, true, false}
+use Rattle.std.specs.Prelude.{not, ◌||◌, if◌then◌else◌, Option, Some, None, unwrap_or, List, []}
+use Rattle.std.specs.Prelude.{◌∷◌}
 use Rattle.harq.specs.declared.sender.Order.{Order}
 use Rattle.harq.specs.declared.sender.Order.TheVariants.{Silent, Unseen, Free, Grant}
 use Rattle.harq.specs.declared.sender.Visit.{Visit}
 use Rattle.harq.specs.declared.sender.Visit.TheVariants.{New, Resend, Silent as Nothing}
-use Rattle.harq.specs.Sending.{Sending, fresh, after_visit, visit_answer, after_load, after_feedback, held_of, ndi_of, version_of}
+use Rattle.harq.specs.Sending.{Sending, fresh, after_visit, visit_answer, after_load}
+use Rattle.harq.specs.Sending.{after_feedback, held_of, ndi_of, version_of}
 
--- a visit with what follows it: the block that is loaded where a new one is wanted, and the feedback on what is sent
+-- a visit with what follows it: the block that is loaded where a new one is wanted, and the
+-- feedback on what is sent
 pub record Turn : Type 0 where
   pub tti : ℕ
   pub order : Order
@@ -47,10 +51,14 @@ deed_by (Resend version) t held = Resent version (unwrap_or held []) t.good
 deed_by Nothing t held = Waited
 
 abbrev pub deed : Turn → Sending → Deed
-deed t s = deed_by (visit_answer s t.tti t.order) t (held_of (after_visit s t.tti t.order) (t.tti % 8))
+deed t s =
+    deed_by (visit_answer s t.tti t.order) t (held_of (after_visit s t.tti t.order) (t.tti % 8))
 
 abbrev pub stepped : World → Step → World
-stepped w (Visited t) = record { sender = turned t w.sender; past = λ p. if p == t.tti % 8 then deed t w.sender ∷ w.past p else w.past p }
+stepped w (Visited t) = record {
+  sender = turned t w.sender;
+  past = λ p. if p == t.tti % 8 then deed t w.sender ∷ w.past p else w.past p;
+}
 stepped w Cleared = record { sender = fresh w.sender.maximum; past = λ p. [] }
 
 abbrev pub run : List Step → World → World
@@ -99,9 +107,11 @@ blocks (Resent version octets good ∷ past) = blocks past
 
 -- a process holds its last new block until it is acknowledged or its visits have ended
 abbrev pub held_by : ℕ → List Deed → Option (List ℕ)
-held_by maximum past = if is_acked past || nat_le maximum (visits past) then None else last_block past
+held_by maximum past = if is_acked past || nat_le maximum (visits past) then None
+    else last_block past
 
--- a sending is right after this past: it is a further one of the block, with the next version and the same octets, while visits are left
+-- a sending is right after this past: it is a further one of the block, with the next version and
+-- the same octets, while visits are left
 pub record IsResending (maximum version : ℕ) (octets : List ℕ) (past : List Deed) : Type 0 where
   pub version_is : version ≡ version_of (sendings past % 4)
   pub same_octets : last_block past ≡ Some octets
@@ -113,7 +123,8 @@ abbrev pub IsRight : ℕ → List Deed → Type 0
 IsRight maximum [] = Unit {0}
 IsRight maximum (Waited ∷ past) = IsRight maximum past
 IsRight maximum (Built octets good ∷ past) = IsRight maximum past
-IsRight maximum (Resent version octets good ∷ past) = IsResending maximum version octets past × IsRight maximum past
+IsRight maximum (Resent version octets good ∷ past) =
+    IsResending maximum version octets past × IsRight maximum past
 
 pub record KeepsBlocks (w : World) : Type 0 where
   pub holds : (p : ℕ) → p < 8 → held_of w.sender p ≡ held_by w.sender.maximum (w.past p)

@@ -1,11 +1,14 @@
 -- One step of a HARQ process at the sender (TS 36.321 5.3.2, 5.4.2).
-use Rattle.std.specs.Prelude.{ℕ, ◌+◌, ◌-◌, ◌%◌, ◌==◌, Bool, true, false, not, if◌then◌else◌, Option, Some, None, is_some, option_map, option_and_then, List, [], ◌∷◌, replicate, slice_index_or, slice_set}
+use Rattle.std.specs.Prelude.{ℕ, ◌+◌, ◌-◌, ◌%◌, ◌==◌, Bool, true, false, not, if◌then◌else◌, Option}
+use Rattle.std.specs.Prelude.{Some, None, is_some, option_map, option_and_then, List, [], ◌∷◌}
+use Rattle.std.specs.Prelude.{replicate, slice_index_or, slice_set}
 use Rattle.harq.specs.declared.sender.Order.{Order}
 use Rattle.harq.specs.declared.sender.Order.TheVariants.{Silent, Unseen, Free, Grant}
 use Rattle.harq.specs.declared.sender.Visit.{Visit}
 use Rattle.harq.specs.declared.sender.Visit.TheVariants.{New, Resend, Silent as Nothing}
 
--- a block that a process holds, the visits that it has left after this one, and its sendings modulo 4
+-- a block that a process holds, the visits that it has left after this one, and its sendings modulo
+-- 4
 pub record Block : Type 0 where
   pub octets : List ℕ
   pub left : ℕ
@@ -14,7 +17,8 @@ pub record Block : Type 0 where
 abbrev pub block : List ℕ → ℕ → ℕ → Block
 block octets left sent = record { octets = octets; left = left; sent = sent }
 
--- a process of a sender: the block that it holds, and the NDI of its last block or of the last grant seen
+-- a process of a sender: the block that it holds, and the NDI of its last block or of the last
+-- grant seen
 pub record SendProcess : Type 0 where
   pub held : Option Block
   pub ndi : Bool

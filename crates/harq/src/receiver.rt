@@ -51,7 +51,8 @@ impl Default for Process {
 }
 
 impl Process {
-    ghost use Rattle.harq.specs.Receiving.{assigned_to, assigned_answered, awarded, passed, arrived, arrived_answered};
+    ghost use Rattle.harq.specs.Receiving.{assigned_to, assigned_answered, awarded, passed};
+    ghost use Rattle.harq.specs.Receiving.{arrived, arrived_answered};
 
     fn assigned(&mut self, ndi: bool, good: bool) -> Answer
         ensures process { self.new ≡ assigned_to ndi good self.old }
@@ -129,10 +130,11 @@ impl Model for Receiver {
 }
 
 impl Receiver {
-    ghost use Rattle.harq.specs.Receiving.{fresh, after_assigned, assigned_answer, after_grant, grant_ndi, after_granted, after_pass, arrived_answered};
+    ghost use Rattle.harq.specs.Receiving.{fresh, after_assigned, assigned_answer, after_grant};
+    ghost use Rattle.harq.specs.Receiving.{grant_ndi, after_granted, after_pass, arrived_answered};
 
-    /// Processes that have seen nothing and await nothing, whose awards have at most `maximum` visits,
-    /// 1 to 28.
+    /// Processes that have seen nothing and await nothing, whose awards have at most `maximum`
+    /// visits, 1 to 28.
     #[tactic(auto, unfolding(crate::specs::Receiving::fresh))]
     pub fn new(maximum: u32) -> Receiver
         ensures { result ≡ fresh maximum }
@@ -144,8 +146,8 @@ impl Receiver {
         Receiver { maximum, processes }
     }
 
-    /// Downlink: a block with this NDI is seen, intact or damaged. The first intact one after another
-    /// NDI is handed up, and `Again` a further one.
+    /// Downlink: a block with this NDI is seen, intact or damaged. The first intact one after
+    /// another NDI is handed up, and `Again` a further one.
     #[tactic(auto, unfolding(crate::specs::Receiving::after_assigned, crate::specs::Receiving::assigned_answer))]
     pub fn assigned(&mut self, tti: u64, ndi: bool, good: bool) -> Answer
         ensures processes { self.new ≡ after_assigned self.old tti ndi good }
@@ -186,8 +188,8 @@ impl Receiver {
         process.pass();
     }
 
-    /// Makes the next block of each process its first, sets the NDIs to 0 and awaits nothing, as a MAC
-    /// reset does.
+    /// Makes the next block of each process its first, sets the NDIs to 0 and awaits nothing, as a
+    /// MAC reset does.
     #[tactic(auto, unfolding(crate::specs::Receiving::fresh))]
     pub fn reset(&mut self)
         ensures { self.new ≡ fresh self.old.maximum }

@@ -108,7 +108,8 @@ impl Default for Process {
 }
 
 impl Process {
-    ghost use Rattle.harq.specs.Sending.{visited, answered, loaded, fed, waited_for, sent_again, resend_or, toggled, seen, spent};
+    ghost use Rattle.harq.specs.Sending.{visited, answered, loaded, fed, waited_for, sent_again};
+    ghost use Rattle.harq.specs.Sending.{resend_or, toggled, seen, spent};
 
     fn visit(&mut self, order: Order) -> Visit
         ensures process { self.new ≡ visited order self.old }
@@ -235,7 +236,8 @@ impl Model for Sender {
 }
 
 impl Sender {
-    ghost use Rattle.harq.specs.Sending.{fresh, after_visit, visit_answer, after_load, after_feedback, ndi_of, held_of};
+    ghost use Rattle.harq.specs.Sending.{fresh, after_visit, visit_answer, after_load};
+    ghost use Rattle.harq.specs.Sending.{after_feedback, ndi_of, held_of};
 
     /// Empty processes with the NDI 0, whose blocks have at most `maximum` visits, 1 to 28.
     #[tactic(auto, unfolding(crate::specs::Sending::fresh))]
@@ -270,8 +272,8 @@ impl Sender {
         process.load(maximum, block);
     }
 
-    /// The feedback on the TTI's sending, as the sender reads it: a good one empties the process, and
-    /// so does the last visit.
+    /// The feedback on the TTI's sending, as the sender reads it: a good one empties the process,
+    /// and so does the last visit.
     #[tactic(auto, unfolding(crate::specs::Sending::after_feedback))]
     pub fn feedback(&mut self, tti: u64, good: bool)
         ensures { self.new ≡ after_feedback self.old tti good }

@@ -1,13 +1,16 @@
 -- Numbers and the bits that write them.
-use Rattle.std.proofs.Common.{◌≡◌, ℕ, zero, suc, ◌+◌, ◌-◌, ◌*◌, ◌/◌, ◌%◌, ◌^◌, ◌<◌, ◌≤◌, Bool, true, false, List, [], ◌∷◌, ◌++◌, Some, None, length, take, drop, get_or, refl, sym, ap, ◌∙◌, arith, eqb}
+use Rattle.std.proofs.Common.{◌≡◌, ℕ, zero, suc, ◌+◌, ◌-◌, ◌*◌, ◌/◌, ◌%◌, ◌^◌, ◌<◌, ◌≤◌, Bool, true, false, List, []}
+use Rattle.std.proofs.Common.{◌∷◌, ◌++◌, Some, None, length, take, drop, get_or, refl, sym, ap, ◌∙◌, arith, eqb}
 use Rattle.std.specs.Prelude.{fold}
-use Rattle.std.proofs.lemmas.List.{length-append, length-take, length-drop, take-append-drop, take_at, drop_at, append_assoc, drop-drop, drop-take, take-take, take_more}
+use Rattle.std.proofs.lemmas.List.{length-append, length-take, length-drop, take-append-drop, take_at, drop_at}
+use Rattle.std.proofs.lemmas.List.{append_assoc, drop-drop, drop-take, take-take, take_more}
 use Rattle.std.proofs.Math.Pow.{pow_mono}
 use Rattle.std.proofs.lemmas.List.Sums.{fold-append}
 use Rattle.std.proofs.lemmas.Grind.{flat_map-append}
 use Rattle.std.proofs.Math.Nat.{mod-eq_of_lt, pow-suc, mul-add-div_right, mul_comm}
 use Rattle.std.proofs.lemmas.Bool.{le-ltb, lt-ltb}
-use Rattle.std.proofs.lemmas.Nat.{mod-pow-add, field_of, pow_pos, mul-le, shr_high, mod_low, pow-add, mod_below, shr-shr, shr_split, shr_below, shl_whole, mul-add-lt}
+use Rattle.std.proofs.lemmas.Nat.{mod-pow-add, field_of, pow_pos, mul-le, shr_high, mod_low, pow-add, mod_below}
+use Rattle.std.proofs.lemmas.Nat.{shr-shr, shr_split, shr_below, shl_whole, mul-add-lt}
 use Rattle.l2_bits.specs.Bits.{digit, number, bits, bits_of, take_field}
 
 pub length-bits : (n v : ℕ) → length (bits n v) ≡ n
@@ -65,11 +68,13 @@ number-lt (x ∷ xs) =
     let p : 2 ^ suc (length xs) ≡ 2 ^ length xs * 2 = pow-suc 2 (length xs) in
     let d = digit-lt x in
     let h = number-lt xs in
-    let m : digit x * 2 ^ length xs ≤ 1 * 2 ^ length xs = mul-le (digit x) (2 ^ length xs) 1 (2 ^ length xs) d (omega arith) in
+    let m : digit x * 2 ^ length xs ≤ 1 * 2 ^ length xs =
+    mul-le (digit x) (2 ^ length xs) 1 (2 ^ length xs) d (omega arith) in
     rw (p, there) (omega arith)
 
 -- the two parts of bits
-parts : (n : ℕ) (xs : List Bool) → (number xs ≡ number (take n xs) * 2 ^ (length xs - n) + number (drop n xs)) × (number (drop n xs) < 2 ^ (length xs - n))
+parts : (n : ℕ) (xs : List Bool) → (number xs ≡ number (take n xs) * 2 ^ (length xs - n) + number (drop n xs))
+    × (number (drop n xs) < 2 ^ (length xs - n))
 parts n xs =
     let e = number-append (take n xs) (drop n xs) in
     let w : number xs ≡ number (take n xs ++ drop n xs) = ap number (sym (take-append-drop n xs)) in
@@ -77,10 +82,12 @@ parts n xs =
     (w ∙ rw length-drop at e, rw length-drop at below)
 
 pub number-take : (n : ℕ) (xs : List Bool) → number (take n xs) ≡ number xs / 2 ^ (length xs - n)
-number-take n xs = let p = parts n xs in rw p.0 (sym (shr_high (number (take n xs)) (length xs - n) (number (drop n xs)) p.1))
+number-take n xs = let p = parts n xs in
+    rw p.0 (sym (shr_high (number (take n xs)) (length xs - n) (number (drop n xs)) p.1))
 
 pub number-drop : (n : ℕ) (xs : List Bool) → number (drop n xs) ≡ number xs % 2 ^ (length xs - n)
-number-drop n xs = let p = parts n xs in rw p.0 (sym (mod_low (number (take n xs)) (length xs - n) (number (drop n xs)) p.1))
+number-drop n xs = let p = parts n xs in
+    rw p.0 (sym (mod_low (number (take n xs)) (length xs - n) (number (drop n xs)) p.1))
 
 pub bits_of-append : (a b : List ℕ) → bits_of (a ++ b) ≡ bits_of a ++ bits_of b
 bits_of-append a b = flat_map-append (bits 8) a b
@@ -88,19 +95,24 @@ bits_of-append a b = flat_map-append (bits 8) a b
 cut : (k : ℕ) (octets : List ℕ) → bits_of octets ≡ bits_of (take k octets) ++ bits_of (drop k octets)
 cut k octets = ap bits_of (sym (take-append-drop k octets)) ∙ bits_of-append (take k octets) (drop k octets)
 
-pub bits_of-take : (k : ℕ) (octets : List ℕ) → k ≤ length octets → take (8 * k) (bits_of octets) ≡ bits_of (take k octets)
+pub bits_of-take : (k : ℕ) (octets : List ℕ) → k ≤ length octets
+    → take (8 * k) (bits_of octets) ≡ bits_of (take k octets)
 bits_of-take k octets h =
-    let len : length (bits_of (take k octets)) ≡ 8 * k = omega (arith, length-bits_of (take k octets), length-take k octets) in
+    let len : length (bits_of (take k octets)) ≡ 8 * k =
+    omega (arith, length-bits_of (take k octets), length-take k octets) in
     rw (cut k octets) (take_at (bits_of (take k octets)) (bits_of (drop k octets)) (8 * k) len)
 
-pub bits_of-drop : (k : ℕ) (octets : List ℕ) → k ≤ length octets → drop (8 * k) (bits_of octets) ≡ bits_of (drop k octets)
+pub bits_of-drop : (k : ℕ) (octets : List ℕ) → k ≤ length octets
+    → drop (8 * k) (bits_of octets) ≡ bits_of (drop k octets)
 bits_of-drop k octets h =
-    let len : length (bits_of (take k octets)) ≡ 8 * k = omega (arith, length-bits_of (take k octets), length-take k octets) in
+    let len : length (bits_of (take k octets)) ≡ 8 * k =
+    omega (arith, length-bits_of (take k octets), length-take k octets) in
     rw (cut k octets) (drop_at (bits_of (take k octets)) (bits_of (drop k octets)) (8 * k) len)
 
 -- n bits from a place, through the octets that hold them: f of them, from octet i on
 pub number-within : (octets : List ℕ) (at n i f : ℕ) → 8 * i ≤ at → at + n ≤ 8 * (i + f) → i + f ≤ length octets
-    → number (take n (drop at (bits_of octets))) ≡ number (bits_of (take f (drop i octets))) / 2 ^ (8 * (i + f) - (at + n)) % 2 ^ n
+    → number (take n (drop at (bits_of octets)))
+    ≡ number (bits_of (take f (drop i octets))) / 2 ^ (8 * (i + f) - (at + n)) % 2 ^ n
 number-within octets at n i f low high within =
     let B = bits_of octets in
     let D = bits_of (drop i octets) in
@@ -108,13 +120,16 @@ number-within octets at n i f low high within =
     let r : ℕ = at - 8 * i in
     let k : ℕ = 8 * (i + f) - (at + n) in
     let len-d : f ≤ length (drop i octets) = omega (arith, length-drop i octets) in
-    let len-w : length W ≡ 8 * f = omega (arith, length-bits_of (take f (drop i octets)), length-take f (drop i octets)) in
+    let len-w : length W ≡ 8 * f =
+    omega (arith, length-bits_of (take f (drop i octets)), length-take f (drop i octets)) in
     let at-is : 8 * i + r ≡ at = omega arith in
-    let step1 : drop at B ≡ drop r D = ap (λ (m : ℕ). drop m B) (sym at-is) ∙ sym (drop-drop r (8 * i) B) ∙ ap (drop r) (bits_of-drop i octets (omega arith)) in
+    let step1 : drop at B ≡ drop r D = ap (λ (m : ℕ). drop m B) (sym at-is) ∙ sym (drop-drop r (8 * i) B)
+    ∙ ap (drop r) (bits_of-drop i octets (omega arith)) in
     let room : r + (n + k) ≡ 8 * f = omega arith in
     let in-w : take (r + (n + k)) D ≡ W = rw room (bits_of-take f (drop i octets) len-d) in
     let step2 : take (n + k) (drop r D) ≡ drop r W = sym (drop-take r (n + k) D) ∙ ap (drop r) in-w in
-    let step3 : take n (drop r D) ≡ take n (drop r W) = sym (take-take n (n + k) (drop r D) (omega arith)) ∙ ap (take n) step2 in
+    let step3 : take n (drop r D) ≡ take n (drop r W) = sym (take-take n (n + k) (drop r D) (omega arith))
+    ∙ ap (take n) step2 in
     let len-rest : length (drop r W) ≡ n + k = omega (arith, length-drop r W) in
     let a : number (take n (drop r W)) ≡ number (drop r W) / 2 ^ (length (drop r W) - n) = number-take n (drop r W) in
     let b : number (drop r W) ≡ number W % 2 ^ (length W - r) = number-drop r W in
@@ -125,7 +140,8 @@ number-within octets at n i f low high within =
     rw (step1, step3, a', b') (field_of (number W) n k)
 
 -- one octet more
-pub number-octet : (octets : List ℕ) (o : ℕ) → o < 256 → number (bits_of (octets ++ o ∷ [])) ≡ 256 * number (bits_of octets) + o
+pub number-octet : (octets : List ℕ) (o : ℕ) → o < 256
+    → number (bits_of (octets ++ o ∷ [])) ≡ 256 * number (bits_of octets) + o
 unfolding bits
 number-octet octets o h =
     let e = number-append (bits_of octets) (bits 8 o) in
@@ -135,12 +151,14 @@ number-octet octets o h =
 -- the step of a loop over octets
 pub next_octet : (octets : List ℕ) (i : ℕ) → i < length octets → get_or octets i 0 < 256
     → number (bits_of (take (i + 1) octets)) ≡ 256 * number (bits_of (take i octets)) + get_or octets i 0
-next_octet octets i h small = ap (λ (os : List ℕ). number (bits_of os)) (take_more octets i 0 h) ∙ number-octet (take i octets) (get_or octets i 0) small
+next_octet octets i h small = ap (λ (os : List ℕ). number (bits_of os)) (take_more octets i 0 h)
+    ∙ number-octet (take i octets) (get_or octets i 0) small
 
 pub few_octets_fit : (octets : List ℕ) (i : ℕ) → i ≤ 4 → number (bits_of (take i octets)) < 2 ^ 32
 few_octets_fit octets i h =
     let lt = number-lt (bits_of (take i octets)) in
-    let len : length (bits_of (take i octets)) ≤ 32 = omega (arith, length-bits_of (take i octets), length-take i octets) in
+    let len : length (bits_of (take i octets)) ≤ 32 =
+    omega (arith, length-bits_of (take i octets), length-take i octets) in
     omega (arith, pow_mono len, lt)
 
 -- Bits that are written.
@@ -184,8 +202,10 @@ next_out out c count pending e h =
     let split : q * 2 ^ c + r ≡ pending = shr_split pending c in
     let cat : bits (8 + c) (q * 2 ^ c + r) ≡ bits 8 q ++ bits c r = bits-cat 8 c q r small in
     let size : count ≡ 8 + c = omega arith in
-    let whole : bits count pending ≡ bits 8 q ++ bits c r = ap (λ (k : ℕ). bits k pending) size ∙ ap (bits (8 + c)) (sym split) ∙ cat in
-    ap (λ (w : List Bool). w ++ bits c r) (bits_of-append out (q ∷ [])) ∙ append_assoc (bits_of out) (bits 8 q) (bits c r) ∙ ap (λ (w : List Bool). bits_of out ++ w) (sym whole)
+    let whole : bits count pending ≡ bits 8 q ++ bits c r =
+    ap (λ (k : ℕ). bits k pending) size ∙ ap (bits (8 + c)) (sym split) ∙ cat in
+    ap (λ (w : List Bool). w ++ bits c r) (bits_of-append out (q ∷ []))
+    ∙ append_assoc (bits_of out) (bits 8 q) (bits c r) ∙ ap (λ (w : List Bool). bits_of out ++ w) (sym whole)
 
 pub below_split : (c count pending : ℕ) → count ≡ c + 8 → pending < 2 ^ count → pending / 2 ^ c < 256
 below_split c count pending e h =
@@ -193,15 +213,19 @@ below_split c count pending e h =
     shr_below pending 8 c (rw size at h)
 
 -- n bits of a number behind pending bits
-pub put_is : (count n pending : ℕ) → count < 8 → n ≤ 32 → pending < 2 ^ count → pending * 2 ^ n % 2 ^ 64 ≡ pending * 2 ^ n
+pub put_is : (count n pending : ℕ) → count < 8 → n ≤ 32 → pending < 2 ^ count
+    → pending * 2 ^ n % 2 ^ 64 ≡ pending * 2 ^ n
 put_is count n pending few short h = shl_whole pending count n 64 h (omega arith)
 
-pub put_fits : (count n pending value : ℕ) → pending < 2 ^ count → value < 2 ^ n → pending * 2 ^ n + value < 2 ^ (count + n)
-put_fits count n pending value h small = rw (pow-add 2 count n, mul_comm (2 ^ count) (2 ^ n)) (mul-add-lt pending (2 ^ n) value (2 ^ count) h small)
+pub put_fits : (count n pending value : ℕ) → pending < 2 ^ count → value < 2 ^ n
+    → pending * 2 ^ n + value < 2 ^ (count + n)
+put_fits count n pending value h small =
+    rw (pow-add 2 count n, mul_comm (2 ^ count) (2 ^ n)) (mul-add-lt pending (2 ^ n) value (2 ^ count) h small)
 
 -- Fields.
 
-pub field_read : (n : ℕ) (left rest : List Bool) (v : ℕ) → n ≤ length left → v ≡ number (take n left) → rest ≡ drop n left → take_field n left ≡ Some (v, rest)
+pub field_read : (n : ℕ) (left rest : List Bool) (v : ℕ) → n ≤ length left → v ≡ number (take n left)
+    → rest ≡ drop n left → take_field n left ≡ Some (v, rest)
 unfolding take_field
 field_read n left rest v h ev er = rw (le-ltb (length left) n h, ev, er) refl
 

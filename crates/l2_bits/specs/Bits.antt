@@ -1,5 +1,8 @@
--- Fields of bits in octets. The most significant bit stands first (TS 36.321 6.1.1, TS 36.322 6.2.1.1).
-use Rattle.std.specs.Prelude.{ℕ, zero, suc, ◌+◌, ◌-◌, ◌*◌, ◌/◌, ◌%◌, ◌^◌, ◌==◌, Bool, true, false, List, [], ◌∷◌, fold, length, take, drop, nat_lt, Option, Some, None, if◌then◌else◌}
+-- Fields of bits in octets. The most significant bit stands first (TS 36.321 6.1.1, TS 36.322
+-- 6.2.1.1).
+use Rattle.std.specs.Prelude.{ℕ, zero, suc, ◌+◌, ◌-◌, ◌*◌, ◌/◌, ◌%◌, ◌^◌, ◌==◌, Bool, true, false}
+use Rattle.std.specs.Prelude.{List, [], ◌∷◌, fold, length, take, drop, nat_lt, Option, Some, None}
+use Rattle.std.specs.Prelude.{if◌then◌else◌}
 use Rattle.std.specs.List.{flat_map}
 
 -- a bit as a number
@@ -31,7 +34,8 @@ left r = drop r.at (bits_of r.octets)
 
 -- the field of n bits at the front, and the bits behind it; none where there are fewer bits
 unfoldable pub take_field : ℕ → List Bool → Option (ℕ × List Bool)
-take_field n bits = if nat_lt (length bits) n then None else Some (number (take n bits), drop n bits)
+take_field n bits = if nat_lt (length bits) n then None
+    else Some (number (take n bits), drop n bits)
 
 -- how many bits end the octet that n bits begin
 abbrev pub filling : ℕ → ℕ

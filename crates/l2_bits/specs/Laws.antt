@@ -1,5 +1,6 @@
 -- What was written is read again (TS 36.321 6.1.1).
-use Rattle.std.specs.Prelude.{◌≡◌, ℕ, ◌<◌, ◌^◌, List, [], ◌∷◌, ◌++◌, map, All, Bool, Option, Some, None}
+use Rattle.std.specs.Prelude.{◌≡◌, ℕ, ◌<◌, ◌^◌, List, [], ◌∷◌, ◌++◌, map, All, Bool, Option, Some}
+use Rattle.std.specs.Prelude.{None}
 use Rattle.std.specs.List.{flat_map}
 use Rattle.l2_bits.specs.Bits.{bits, take_field}
 
@@ -35,4 +36,5 @@ taken (width ∷ widths) bits = read_on (take_field width bits) (taken widths)
 -- fields that were written are read in their order, whatever follows them
 abbrev pub ReadsWhatWasWritten : Type 0
 ReadsWhatWasWritten = (fields : List Field) (rest : List Bool) → All Fits fields
-    → taken (map (λ f. f.width) fields) (written fields ++ rest) ≡ Some (map (λ f. f.value) fields, rest)
+    → taken (map (λ f. f.width) fields) (written fields ++ rest)
+    ≡ Some (map (λ f. f.value) fields, rest)

@@ -28,7 +28,8 @@ impl Bytes {
         }
     }
 
-    /// The empty list with room for so many octets, which are then added without taking memory again.
+    /// The empty list with room for so many octets, which are then added without taking memory
+    /// again.
     pub fn with_capacity(alloc: Global, capacity: usize) -> Result<Bytes, NoMemory>
         ensures { IfOk result (λ bytes. bytes ≡ []) }
     {

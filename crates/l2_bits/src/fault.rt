@@ -26,7 +26,8 @@ pub struct Short {
     pub at_bit: u32,
 }
 
-/// Why an entity does not take an SDU that is submitted to it, numbered from 1; `NoMemory` stands apart.
+/// Why an entity does not take an SDU that is submitted to it, numbered from 1; `NoMemory` stands
+/// apart.
 #[derive(Clone, Copy, Debug, PartialEq, Eq)]
 pub enum SubmitRefusal {
     /// The SDU has no octets.

@@ -1,4 +1,5 @@
-ghost use Rattle.std.specs.Prelude.{◌≡◌, [], ◌∷◌, ◌++◌, ◌==◌, length, slice_get, option_copied, OnOk, OnErr, MatchOption, MatchResult};
+ghost use Rattle.std.specs.Prelude.{◌≡◌, [], ◌∷◌, ◌++◌, ◌==◌, length, slice_get, option_copied};
+ghost use Rattle.std.specs.Prelude.{OnOk, OnErr, MatchOption, MatchResult};
 
 use crate::bytes::Bytes;
 use crate::fault::NoMemory;
@@ -59,7 +60,8 @@ impl<T> Items<T> {
 
     /// Takes out the first item; `None` exactly where the list is empty.
     pub fn pop_front(&mut self) -> Option<T>
-        ensures { MatchOption result ((self.old ≡ []) × (self.new ≡ [])) (λ one. self.old ≡ one ∷ self.new) }
+        ensures { MatchOption result ((self.old ≡ []) × (self.new ≡ []))
+            (λ one. self.old ≡ one ∷ self.new) }
     {
         self.items.pop_front()
     }
@@ -76,7 +78,8 @@ impl<T> Items<T> {
         }
     }
 
-    /// Moves the other list's items to the end of this one, or all of it where this one is empty. An `Err` changes nothing.
+    /// Moves the other list's items to the end of this one, or all of it where this one is empty.
+    /// An `Err` changes nothing.
     pub fn append(&mut self, other: &mut Items<T>) -> Result<(), NoMemory>
         ensures ok { OnOk result (self.new ≡ self.old ++ other.old) }
         ensures moved { OnOk result (other.new ≡ []) }

@@ -1,5 +1,5 @@
-//! Lists of octets and of other items, rings of items that wait, fields of bits in octets, and the errors that they
-//! share.
+//! Lists of octets and of other items, rings of items that wait, fields of bits in octets, and the
+//! errors that they share.
 #![tactic(auto)]
 
 mod bytes;

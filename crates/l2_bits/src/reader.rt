@@ -1,4 +1,5 @@
-ghost use Rattle.std.specs.Prelude.{◌≡◌, ◌+◌, ◌*◌, ◌/◌, ◌%◌, ◌^◌, ◌<◌, ◌≤◌, take, drop, length, IfOk, IfErr};
+ghost use Rattle.std.specs.Prelude.{◌≡◌, ◌+◌, ◌*◌, ◌/◌, ◌%◌, ◌^◌, ◌<◌, ◌≤◌, take, drop, length};
+ghost use Rattle.std.specs.Prelude.{IfOk, IfErr};
 ghost use Rattle.l2_bits.specs.Bits.{number, bits_of, left, take_field};
 
 use crate::fault::Short;
@@ -41,9 +42,11 @@ impl<'a> BitReader<'a> {
     /// `Short` comes exactly where fewer bits are left; nothing is then read.
     pub fn take(&mut self, n: u32) -> Result<u32, Short>
         requires { n ≤ 32 }
-        ensures ok { IfOk result (λ value. take_field n (left self.old) ≡ Some (value, left self.new)) }
+        ensures ok { IfOk result (λ value. take_field n (left self.old)
+            ≡ Some (value, left self.new)) }
         ensures short { IfErr result
-            (λ e. (take_field n (left self.old) ≡ None) × (e.at_bit ≡ self.old.at) × (self.new ≡ self.old)) }
+            (λ e. (take_field n (left self.old) ≡ None) × (e.at_bit ≡ self.old.at)
+            × (self.new ≡ self.old)) }
         ensures at { IfOk result (λ _. self.new.at ≡ self.old.at + n) }
         ensures octets { self.new.octets ≡ self.old.octets }
     {

@@ -1,6 +1,7 @@
 use super::*;
 
-// ACK_SN 3 and an entry for 1 with the octets 2 to 32767, as a STATUS PDU writes them (TS 36.322 6.2.1.6).
+// ACK_SN 3 and an entry for 1 with the octets 2 to 32767, as a STATUS PDU writes them (TS 36.322
+// 6.2.1.6).
 const STATUS: [u8; 8] = [0x00, 0x0e, 0x00, 0xa0, 0x00, 0xbf, 0xff, 0x80];
 
 const FIELDS: [(u32, u32); 8] = [

@@ -1,5 +1,6 @@
 //! Items that wait, in a ring that grows.
-ghost use Rattle.std.specs.Prelude.{◌≡◌, ◌<◌, [], ◌∷◌, ◌++◌, ◌==◌, length, slice_get, option_copied, OnOk, MatchOption, MatchResult};
+ghost use Rattle.std.specs.Prelude.{◌≡◌, ◌<◌, [], ◌∷◌, ◌++◌, ◌==◌, length, slice_get};
+ghost use Rattle.std.specs.Prelude.{option_copied, OnOk, MatchOption, MatchResult};
 ghost use Rattle.l2_bits.specs.Waiting.{items_of, HasRoom};
 
 use crate::fault::NoMemory;
@@ -12,8 +13,9 @@ const FEW: usize = 8;
 
 /// Items in the order in which they came. Contracts see them as a list.
 ///
-/// Memory is taken as they come: for a few, and then for twice as many each time that it is full. So each call takes the
-/// same time, however many wait, but for a `push_back` that moves them, of which there are few.
+/// Memory is taken as they come: for a few, and then for twice as many each time that it is full.
+/// So each call takes the same time, however many wait, but for a `push_back` that moves them, of
+/// which there are few.
 #[derive(Debug, Drop)]
 pub struct Ring<T> {
     alloc: Global,
@@ -73,7 +75,8 @@ impl<T: Drop> Ring<T> {
 
     /// Takes out the first item; `None` exactly where there is none.
     pub fn pop_front(&mut self) -> Option<T>
-        ensures { MatchOption result ((self.old ≡ []) × (self.new ≡ [])) (λ one. self.old ≡ one ∷ self.new) }
+        ensures { MatchOption result ((self.old ≡ []) × (self.new ≡ []))
+            (λ one. self.old ≡ one ∷ self.new) }
     {
         match &mut self.items {
             Some(items) => items.pop_front(),

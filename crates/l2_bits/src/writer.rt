@@ -1,4 +1,5 @@
-ghost use Rattle.std.specs.Prelude.{◌≡◌, ◌+◌, ◌%◌, ◌^◌, ◌<◌, ◌≤◌, [], ◌++◌, length, OnOk, OnErr, vec_len, vec_capacity};
+ghost use Rattle.std.specs.Prelude.{◌≡◌, ◌+◌, ◌%◌, ◌^◌, ◌<◌, ◌≤◌, [], ◌++◌, length, OnOk, OnErr};
+ghost use Rattle.std.specs.Prelude.{vec_len, vec_capacity};
 ghost use Rattle.l2_bits.specs.Bits.{bits, bits_of, filling};
 
 use crate::bytes::Bytes;
@@ -80,7 +81,8 @@ impl BitWriter {
     }
 }
 
-/// Moves the whole octets of the pending bits to the octets, and answers the bits left and their number.
+/// Moves the whole octets of the pending bits to the octets, and answers the bits left and their
+/// number.
 #[tactic(auto, using(crate::proofs::BitFields::next_out, crate::proofs::BitFields::below_split))]
 fn settle(octets: &mut Vec<u8>, pending: u64, count: u32) -> (u64, u32)
     requires few { count < 40 }

@@ -29,7 +29,8 @@ finish-plays (Some r) w w' fault (Err faults.NoMemory) h = h
 finish-plays (Some r) w w' fault (Err (faults.Refused broken)) h = absurd h
 
 -- a run isn't refused at its end
-pub never-refused : (run : Option RunState) (w w' : Option (List ℕ)) (fault : Type 0) (result : Result Unit StepFault) (broken : RunRefusal)
+pub never-refused : (run : Option RunState) (w w' : Option (List ℕ)) (fault : Type 0) (result : Result Unit StepFault)
+    (broken : RunRefusal)
     → result ≡ Err (faults.Refused broken) → Finishes run w w' fault result → ⊥
 never-refused None w w' fault result broken is h = absurd cc
 never-refused (Some r) w w' fault result broken is h = absurd (rw is at h)

@@ -1,5 +1,6 @@
 -- What is gathered and what is written of a journal.
-use Rattle.std.proofs.Common.{◌≡◌, ◌∙◌, Bool, false, ℕ, List, [], ◌++◌, ap, sym, arith, inl, inr, append-nil, append_assoc}
+use Rattle.std.proofs.Common.{◌≡◌, ◌∙◌, Bool, false, ℕ, List, [], ◌++◌, ap, sym, arith, inl, inr, append-nil}
+use Rattle.std.proofs.Common.{append_assoc}
 use Rattle.std.specs.Prelude.{Option, Some, Err}
 use Rattle.std.proofs.lemmas.Grind.{flat_map-append}
 use Rattle.l2_io.specs.Known.{after, IsFront, HasRisen}
@@ -11,7 +12,8 @@ use Rattle.air_run.specs.Steps.{WritesFront}
 use Rattle.air_run.specs.Journal.{Player, Played, onto, finished, journal_from, journal_by}
 use Rattle.l2_commands.specs.declared.playing.Ending.{Ending}
 use Rattle.l2_commands.specs.declared.playing.Ending.TheVariants as endings
-use Rattle.l2_commands.specs.Plays.{state_of, Plays, HasPlayed, GoesOn, IsOver, HasGathered, IsGathered, PutsRest, PutsSome}
+use Rattle.l2_commands.specs.Plays.{state_of, Plays, HasPlayed, GoesOn, IsOver, HasGathered, IsGathered, PutsRest}
+use Rattle.l2_commands.specs.Plays.{PutsSome}
 use Rattle.l2_commands.proofs.Turning.{onwards}
 use Rattle.l2_commands.proofs.Nothing.{after_none}
 use Rattle.l2_commands.proofs.Parting.{begins, goes-on, goes-over, goes-played, over-played}
@@ -21,13 +23,18 @@ same-octets : (a b : List ℕ) → Some a ≡ after (Some []) b → a ≡ b
 same-octets a b e = cc
 
 -- what follows what a sink held follows what was written before, too
-moved : (done a b : List ℕ) (text : List ℕ) → Some b ≡ after (Some a) text → Some (done ++ b) ≡ after (Some (done ++ a)) text
-moved done a b text e = let same : b ≡ a ++ text = cc in ap (λ t. Some (done ++ t)) same ∙ ap Some (sym (append_assoc done a text))
+moved : (done a b : List ℕ) (text : List ℕ) → Some b ≡ after (Some a) text
+    → Some (done ++ b) ≡ after (Some (done ++ a)) text
+moved done a b text e = let same : b ≡ a ++ text = cc in
+    ap (λ t. Some (done ++ t)) same ∙ ap Some (sym (append_assoc done a text))
 
-moved-front : (done a b : List ℕ) (text : List ℕ) → WritesFront text (Some a) (Some b) → WritesFront text (Some (done ++ a)) (Some (done ++ b))
-moved-front done a b text w = record { front = w.front; is_front = w.is_front; written_is = moved done a b w.front w.written_is }
+moved-front : (done a b : List ℕ) (text : List ℕ) → WritesFront text (Some a) (Some b)
+    → WritesFront text (Some (done ++ a)) (Some (done ++ b))
+moved-front done a b text w =
+    record { front = w.front; is_front = w.is_front; written_is = moved done a b w.front w.written_is }
 
-moved-plays : (done a b : List ℕ) (played : Played) (i o : Type 0) (ending : Ending) → Plays played (Some a) (Some b) i o ending → Plays played (Some (done ++ a)) (Some (done ++ b)) i o ending
+moved-plays : (done a b : List ℕ) (played : Played) (i o : Type 0) (ending : Ending)
+    → Plays played (Some a) (Some b) i o ending → Plays played (Some (done ++ a)) (Some (done ++ b)) i o ending
 moved-plays done a b played i o endings.Done p = (p.0, moved done a b _ p.1)
 moved-plays done a b played i o (endings.Refused number reason) p = (p.0, moved done a b _ p.1)
 moved-plays done a b played i o endings.ReadFault p = (p.0, moved done a b _ p.1, p.2)
@@ -35,12 +42,16 @@ moved-plays done a b played i o endings.WriteFault p = (moved-front done a b _ p
 moved-plays done a b played i o endings.NoMemory p = moved-front done a b _ p
 
 -- before the first line
-pub gathers-first : {S : Type 0} (m : Player S) (left written : Option (List ℕ)) → HasGathered m (journal_by m) left left written written [] (Some m.first) 1 []
+pub gathers-first : {S : Type 0} (m : Player S) (left written : Option (List ℕ))
+    → HasGathered m (journal_by m) left left written written [] (Some m.first) 1 []
 gathers-first m left written = record { done = []; written_is = after_none written; goes = begins m left (Some []) }
 
 -- a front of what was gathered was put, and the rest is still held
-pub gathers-put : {S : Type 0} (m : Player S) (journal : Bool → List ℕ → Played) (left left' w w' w'' : Option (List ℕ)) (held front held' : List ℕ) (run : Option S) (number : ℕ) (kept : List ℕ)
-    → HasGathered m journal left left' w w' held run number kept → held ≡ front ++ held' → w'' ≡ after w' front → HasGathered m journal left left' w w'' held' run number kept
+pub gathers-put : {S : Type 0} (m : Player S) (journal : Bool → List ℕ
+    → Played) (left left' w w' w'' : Option (List ℕ)) (held front held' : List ℕ) (run : Option S) (number : ℕ)
+    (kept : List ℕ)
+    → HasGathered m journal left left' w w' held run number kept → held ≡ front ++ held' → w'' ≡ after w' front
+    → HasGathered m journal left left' w w'' held' run number kept
 gathers-put m journal left left' w w' w'' held front held' run number kept g is put = record {
   done = g.done ++ front;
   written_is = put ∙ ap (λ v. after v front) g.written_is ∙ after_after g.done front w;
@@ -48,7 +59,8 @@ gathers-put m journal left left' w w' w'' held front held' run number kept g is 
 }
 
 -- a front of what was gathered was put
-front-put : (done held text all : List ℕ) (w w' w'' : Option (List ℕ)) → w' ≡ after w done → IsFront (done ++ held) all → WritesFront held w' w'' → WritesFront all w w''
+front-put : (done held text all : List ℕ) (w w' w'' : Option (List ℕ)) → w' ≡ after w done
+    → IsFront (done ++ held) all → WritesFront held w' w'' → WritesFront all w w''
 front-put done held text all w w' w'' first whole put = record {
   front = done ++ put.front;
   is_front = record {
@@ -61,24 +73,34 @@ front-put done held text all w w' w'' first whole put = record {
 }
 
 -- the journal so far begins the journal of what was given
-gathered-front : {S : Type 0} (m : Player S) (journal : Bool → List ℕ → Played) (left left' : Option (List ℕ)) (text : List ℕ) (run : Option S) (number : ℕ) (kept : List ℕ)
-    (g : GoesOn m journal left left' (Some []) (Some text) run number kept) → IsFront text (texts_of (journal false g.given).journal)
+gathered-front : {S : Type 0} (m : Player S) (journal : Bool → List ℕ
+    → Played) (left left' : Option (List ℕ)) (text : List ℕ) (run : Option S) (number : ℕ) (kept : List ℕ)
+    (g : GoesOn m journal left left' (Some []) (Some text) run number kept)
+    → IsFront text (texts_of (journal false g.given).journal)
 gathered-front m journal left left' text run number kept g =
-    let all : journal false g.given ≡ onto g.part (journal_from m false g.state number (kept ++ [])) = ap (journal false) (sym (append-nil g.given)) ∙ g.rest false [] in
+    let all : journal false g.given ≡ onto g.part (journal_from m false g.state number (kept ++ [])) =
+    ap (journal false) (sym (append-nil g.given)) ∙ g.rest false [] in
     record {
       rest = texts_of (journal_from m false g.state number (kept ++ [])).journal;
       joined = ap (λ (p : Played). texts_of p.journal) all ∙ flat_map-append _ g.part _
-          ∙ ap (λ t. t ++ texts_of (journal_from m false g.state number (kept ++ [])).journal) (sym (same-octets text (texts_of g.part) g.written_is));
+          ∙ ap (λ t. t ++ texts_of (journal_from m false g.state number (kept ++ [])).journal)
+          (sym (same-octets text (texts_of g.part) g.written_is));
     }
 
 -- the sink failed before the next line was read
-pub gathers-front : {S : Type 0} (m : Player S) (journal : Bool → List ℕ → Played) (left left' w w' w'' : Option (List ℕ)) (held : List ℕ) (run : Option S) (number : ℕ) (kept : List ℕ)
-    (g : HasGathered m journal left left' w w' held run number kept) → WritesFront held w' w'' → WritesFront (texts_of (journal false g.goes.given).journal) w w''
+pub gathers-front : {S : Type 0} (m : Player S) (journal : Bool → List ℕ
+    → Played) (left left' w w' w'' : Option (List ℕ)) (held : List ℕ) (run : Option S) (number : ℕ) (kept : List ℕ)
+    (g : HasGathered m journal left left' w w' held run number kept) → WritesFront held w' w''
+    → WritesFront (texts_of (journal false g.goes.given).journal) w w''
 gathers-front m journal left left' w w' w'' held run number kept g put =
-    front-put g.done held [] _ w w' w'' g.written_is (gathered-front m journal left left' (g.done ++ held) run number kept g.goes) put
+    front-put g.done held [] _ w w' w'' g.written_is
+    (gathered-front m journal left left' (g.done ++ held) run number kept g.goes) put
 
-pub fails : {S : Type 0} (m : Player S) (journal : Bool → List ℕ → Played) (left left' w w' w'' : Option (List ℕ)) (held : List ℕ) (run : Option S) (number : ℕ) (kept : List ℕ) (i o : Type 0)
-    → HasGathered m journal left left' w w' held run number kept → WritesFront held w' w'' → o → HasPlayed journal left left' w w'' i o endings.WriteFault
+pub fails : {S : Type 0} (m : Player S) (journal : Bool → List ℕ
+    → Played) (left left' w w' w'' : Option (List ℕ)) (held : List ℕ) (run : Option S) (number : ℕ) (kept : List ℕ)
+    (i o : Type 0)
+    → HasGathered m journal left left' w w' held run number kept → WritesFront held w' w'' → o
+    → HasPlayed journal left left' w w'' i o endings.WriteFault
 fails m journal left left' w w' w'' held run number kept i o g put fault = record {
   given = g.goes.given;
   left_is = g.goes.left_is;
@@ -87,8 +109,11 @@ fails m journal left left' w w' w'' held run number kept i o g put fault = recor
   plays = (gathers-front m journal left left' w w' w'' held run number kept g put, fault);
 }
 
-pub runs-out : {S : Type 0} (m : Player S) (journal : Bool → List ℕ → Played) (left left' w w' w'' : Option (List ℕ)) (held : List ℕ) (run : Option S) (number : ℕ) (kept : List ℕ) (i o : Type 0)
-    → HasGathered m journal left left' w w' held run number kept → WritesFront held w' w'' → HasPlayed journal left left' w w'' i o endings.NoMemory
+pub runs-out : {S : Type 0} (m : Player S) (journal : Bool → List ℕ
+    → Played) (left left' w w' w'' : Option (List ℕ)) (held : List ℕ) (run : Option S) (number : ℕ) (kept : List ℕ)
+    (i o : Type 0)
+    → HasGathered m journal left left' w w' held run number kept → WritesFront held w' w''
+    → HasPlayed journal left left' w w'' i o endings.NoMemory
 runs-out m journal left left' w w' w'' held run number kept i o g put = record {
   given = g.goes.given;
   left_is = g.goes.left_is;
@@ -98,13 +123,17 @@ runs-out m journal left left' w w' w'' held run number kept i o g put = record {
 }
 
 -- a line was run, and what it left was gathered
-pub gathers-on : {S : Type 0} (m : Player S) (journal : Bool → List ℕ → Played) (l0 l1 l2 w w' : Option (List ℕ)) (held held' : List ℕ) (run run' : Option S) (n n' : ℕ) (kept kept' : List ℕ)
-    → HasGathered m journal l0 l1 w w' held run n kept → GoesOn m (onwards m (state_of m run) n kept) l1 l2 (Some held) (Some held') run' n' kept'
+pub gathers-on : {S : Type 0} (m : Player S) (journal : Bool → List ℕ
+    → Played) (l0 l1 l2 w w' : Option (List ℕ)) (held held' : List ℕ) (run run' : Option S) (n n' : ℕ)
+    (kept kept' : List ℕ)
+    → HasGathered m journal l0 l1 w w' held run n kept
+    → GoesOn m (onwards m (state_of m run) n kept) l1 l2 (Some held) (Some held') run' n' kept'
     → HasGathered m journal l0 l2 w w' held' run' n' kept'
 gathers-on m journal l0 l1 l2 w w' held held' run run' n n' kept kept' g b = record {
   done = g.done;
   written_is = g.written_is;
-  goes = goes-on m journal l0 l1 l2 (Some []) (Some (g.done ++ held)) (Some (g.done ++ held')) run run' n n' kept kept' g.goes
+  goes = goes-on m journal l0 l1 l2 (Some []) (Some (g.done ++ held)) (Some (g.done ++ held')) run run' n n' kept
+      kept' g.goes
       (record {
         given = b.given;
         left_is = b.left_is;
@@ -117,22 +146,41 @@ gathers-on m journal l0 l1 l2 w w' held held' run run' n n' kept kept' g b = rec
 }
 
 -- what a front of a text begins
-plays-front : (played : Played) (text : List ℕ) (i o : Type 0) (ending : Ending) → (o → ⊥) → Plays played (Some []) (Some text) i o ending → IsFront text (texts_of played.journal)
-plays-front played text i o endings.Done never p = record { rest = []; joined = sym (same-octets text _ p.1) ∙ sym (append-nil text) }
-plays-front played text i o (endings.Refused number reason) never p = record { rest = []; joined = sym (same-octets text _ p.1) ∙ sym (append-nil text) }
-plays-front played text i o endings.ReadFault never p = record { rest = []; joined = sym (same-octets text _ p.1) ∙ sym (append-nil text) }
+plays-front : (played : Played) (text : List ℕ) (i o : Type 0) (ending : Ending) → (o → ⊥)
+    → Plays played (Some []) (Some text) i o ending → IsFront text (texts_of played.journal)
+plays-front played text i o endings.Done never p =
+    record { rest = []; joined = sym (same-octets text _ p.1) ∙ sym (append-nil text) }
+plays-front played text i o (endings.Refused number reason) never p =
+    record { rest = []; joined = sym (same-octets text _ p.1) ∙ sym (append-nil text) }
+plays-front played text i o endings.ReadFault never p =
+    record { rest = []; joined = sym (same-octets text _ p.1) ∙ sym (append-nil text) }
 plays-front played text i o endings.WriteFault never p = absurd (never p.1)
 plays-front played text i o endings.NoMemory never p =
-    record { rest = p.is_front.rest; joined = p.is_front.joined ∙ ap (λ t. t ++ p.is_front.rest) (sym (same-octets text p.front p.written_is)) }
+    record {
+      rest = p.is_front.rest;
+      joined = p.is_front.joined
+          ∙ ap (λ t. t ++ p.is_front.rest) (sym (same-octets text p.front p.written_is));
+    }
 
-all-put : (played : Played) (done held : List ℕ) (w w' w'' : Option (List ℕ)) (i o o' : Type 0) (ending : Ending) → (o → ⊥) → w' ≡ after w done → w'' ≡ after w' held
+all-put : (played : Played) (done held : List ℕ) (w w' w'' : Option (List ℕ)) (i o o' : Type 0) (ending : Ending)
+    → (o → ⊥) → w' ≡ after w done → w'' ≡ after w' held
     → Plays played (Some []) (Some (done ++ held)) i o ending → Plays played w w'' i o' ending
-all-put played done held w w' w'' i o o' endings.Done never first put p =
-    (p.0, put ∙ ap (λ v. after v held) first ∙ after_after done held w ∙ ap (after w) (same-octets (done ++ held) _ p.1))
-all-put played done held w w' w'' i o o' (endings.Refused number reason) never first put p =
-    (p.0, put ∙ ap (λ v. after v held) first ∙ after_after done held w ∙ ap (after w) (same-octets (done ++ held) _ p.1))
-all-put played done held w w' w'' i o o' endings.ReadFault never first put p =
-    (p.0, put ∙ ap (λ v. after v held) first ∙ after_after done held w ∙ ap (after w) (same-octets (done ++ held) _ p.1), p.2)
+all-put played done held w w' w'' i o o' endings.Done never first put p = (
+  p.0,
+  put ∙ ap (λ v. after v held) first ∙ after_after done held w
+      ∙ ap (after w) (same-octets (done ++ held) _ p.1),
+)
+all-put played done held w w' w'' i o o' (endings.Refused number reason) never first put p = (
+  p.0,
+  put ∙ ap (λ v. after v held) first ∙ after_after done held w
+      ∙ ap (after w) (same-octets (done ++ held) _ p.1),
+)
+all-put played done held w w' w'' i o o' endings.ReadFault never first put p = (
+  p.0,
+  put ∙ ap (λ v. after v held) first ∙ after_after done held w
+      ∙ ap (after w) (same-octets (done ++ held) _ p.1),
+  p.2,
+)
 all-put played done held w w' w'' i o o' endings.WriteFault never first put p = absurd (never p.1)
 all-put played done held w w' w'' i o o' endings.NoMemory never first put p = record {
   front = done ++ held;
@@ -141,17 +189,29 @@ all-put played done held w w' w'' i o o' endings.NoMemory never first put p = re
 }
 
 -- an ending was reached, and what was gathered was put
-rest-put : (journal : Bool → List ℕ → Played) (left left' : Option (List ℕ)) (done held : List ℕ) (w w' w'' : Option (List ℕ)) (i o o' : Type 0) (ending result : Ending) → (o → ⊥) → w' ≡ after w done
-    → HasPlayed journal left left' (Some []) (Some (done ++ held)) i o ending → PutsRest ending held w' w'' o' result → HasPlayed journal left left' w w'' i o' result
+rest-put : (journal : Bool → List ℕ → Played) (left left' : Option (List ℕ)) (done held : List ℕ)
+    (w w' w'' : Option (List ℕ)) (i o o' : Type 0) (ending result : Ending) → (o → ⊥) → w' ≡ after w done
+    → HasPlayed journal left left' (Some []) (Some (done ++ held)) i o ending → PutsRest ending held w' w'' o' result
+    → HasPlayed journal left left' w w'' i o' result
 rest-put journal left left' done held w w' w'' i o o' ending result never first p (inl put) =
-    rw put.0 (record { given = p.given; left_is = p.left_is; whole = p.whole; end = p.end; plays = all-put (journal p.whole p.given) done held w w' w'' i o o' ending never first put.1 p.plays })
+    rw put.0 (record {
+      given = p.given;
+      left_is = p.left_is;
+      whole = p.whole;
+      end = p.end;
+      plays = all-put (journal p.whole p.given) done held w w' w'' i o o' ending never first put.1 p.plays;
+    })
 rest-put journal left left' done held w w' w'' i o o' ending result never first p (inr (inl put)) =
     rw put.0 (record {
       given = p.given;
       left_is = p.left_is;
       whole = p.whole;
       end = p.end;
-      plays = (front-put done held [] _ w w' w'' first (plays-front (journal p.whole p.given) (done ++ held) i o ending never p.plays) put.1, put.2);
+      plays = (
+        front-put done held [] _ w w' w'' first
+            (plays-front (journal p.whole p.given) (done ++ held) i o ending never p.plays) put.1,
+        put.2,
+      );
     })
 rest-put journal left left' done held w w' w'' i o o' ending result never first p (inr (inr put)) =
     rw put.0 (record {
@@ -159,20 +219,25 @@ rest-put journal left left' done held w w' w'' i o o' ending result never first 
       left_is = p.left_is;
       whole = p.whole;
       end = p.end;
-      plays = front-put done held [] _ w w' w'' first (plays-front (journal p.whole p.given) (done ++ held) i o ending never p.plays) put.1;
+      plays =
+          front-put done held [] _ w w' w'' first
+          (plays-front (journal p.whole p.given) (done ++ held) i o ending never p.plays) put.1;
     })
 
 -- a fault of a later put is one of the whole
-pub puts-by : (ending : Ending) (held : List ℕ) (w w' : Option (List ℕ)) (fault fault' : Type 0) (result : Ending) → (fault → fault') → PutsRest ending held w w' fault result → PutsRest ending held w w' fault' result
+pub puts-by : (ending : Ending) (held : List ℕ) (w w' : Option (List ℕ)) (fault fault' : Type 0) (result : Ending)
+    → (fault → fault') → PutsRest ending held w w' fault result → PutsRest ending held w w' fault' result
 puts-by ending held w w' fault fault' result more (inl put) = inl put
 puts-by ending held w w' fault fault' result more (inr (inl put)) = inr (inl (put.0, put.1, more put.2))
 puts-by ending held w w' fault fault' result more (inr (inr put)) = inr (inr put)
 
-pub puts-failed : (held held' : List ℕ) (w w' : Option (List ℕ)) (fault : Type 0) (e : PutFault) → e ≡ Failed → PutsSome held held' w w' fault (Err e) → WritesFront held w w' × fault
+pub puts-failed : (held held' : List ℕ) (w w' : Option (List ℕ)) (fault : Type 0) (e : PutFault) → e ≡ Failed
+    → PutsSome held held' w w' fault (Err e) → WritesFront held w w' × fault
 puts-failed held held' w w' fault Failed is put = put
 puts-failed held held' w w' fault NoMemory is put = cc
 
-pub puts-none : (held held' : List ℕ) (w w' : Option (List ℕ)) (fault : Type 0) (e : PutFault) → e ≡ NoMemory → PutsSome held held' w w' fault (Err e) → WritesFront held w w'
+pub puts-none : (held held' : List ℕ) (w w' : Option (List ℕ)) (fault : Type 0) (e : PutFault) → e ≡ NoMemory
+    → PutsSome held held' w w' fault (Err e) → WritesFront held w w'
 puts-none held held' w w' fault Failed is put = cc
 puts-none held held' w w' fault NoMemory is put = put
 
@@ -181,18 +246,31 @@ pub never-risen : HasRisen 0 0 → ⊥
 never-risen has = elim has.rose [ inl lt ↦ omega (arith, lt) | inr top ↦ omega (arith, top) ]
 
 -- a line stopped the reading
-pub stops : {S : Type 0} (m : Player S) (journal : Bool → List ℕ → Played) (l0 l1 l2 w w' w'' : Option (List ℕ)) (held held' : List ℕ) (run : Option S) (n : ℕ) (kept : List ℕ) (i i' o o' : Type 0) (ending result : Ending)
-    → HasGathered m journal l0 l1 w w' held run n kept → (i → i') → (o → ⊥) → HasPlayed (onwards m (state_of m run) n kept) l1 l2 (Some held) (Some held') i o ending
+pub stops : {S : Type 0} (m : Player S) (journal : Bool → List ℕ
+    → Played) (l0 l1 l2 w w' w'' : Option (List ℕ)) (held held' : List ℕ) (run : Option S) (n : ℕ) (kept : List ℕ)
+    (i i' o o' : Type 0) (ending result : Ending)
+    → HasGathered m journal l0 l1 w w' held run n kept → (i → i') → (o → ⊥)
+    → HasPlayed (onwards m (state_of m run) n kept) l1 l2 (Some held) (Some held') i o ending
     → PutsRest ending held' w' w'' o' result → HasPlayed journal l0 l2 w w'' i' o' result
 stops m journal l0 l1 l2 w w' w'' held held' run n kept i i' o o' ending result g f never p put =
-    let q : HasPlayed (onwards m (state_of m run) n kept) l1 l2 (Some (g.done ++ held)) (Some (g.done ++ held')) i o ending =
-    record { given = p.given; left_is = p.left_is; whole = p.whole; end = p.end; plays = moved-plays g.done held held' _ i o ending p.plays } in
+    let q : HasPlayed (onwards m (state_of m run) n kept) l1 l2 (Some (g.done ++ held)) (Some (g.done ++ held')) i o
+    ending =
+    record {
+      given = p.given;
+      left_is = p.left_is;
+      whole = p.whole;
+      end = p.end;
+      plays = moved-plays g.done held held' _ i o ending p.plays;
+    } in
     rest-put journal l0 l2 g.done held' w w' w'' i' o o' ending result never g.written_is
-    (goes-played m journal l0 l1 l2 (Some []) (Some (g.done ++ held)) (Some (g.done ++ held')) run n kept i o i' o ending g.goes f (λ x. x) q) put
+    (goes-played m journal l0 l1 l2 (Some []) (Some (g.done ++ held)) (Some (g.done ++ held')) run n kept i o i' o
+    ending g.goes f (λ x. x) q) put
 
 -- the last line was run
-pub gathers-over : {S : Type 0} (m : Player S) (journal : Bool → List ℕ → Played) (l0 l1 l2 w w' : Option (List ℕ)) (held held' : List ℕ) (run run' : Option S) (n : ℕ) (kept : List ℕ)
-    → HasGathered m journal l0 l1 w w' held run n kept → IsOver m (onwards m (state_of m run) n kept) l1 l2 (Some held) (Some held') run'
+pub gathers-over : {S : Type 0} (m : Player S) (journal : Bool → List ℕ
+    → Played) (l0 l1 l2 w w' : Option (List ℕ)) (held held' : List ℕ) (run run' : Option S) (n : ℕ) (kept : List ℕ)
+    → HasGathered m journal l0 l1 w w' held run n kept
+    → IsOver m (onwards m (state_of m run) n kept) l1 l2 (Some held) (Some held') run'
     → IsGathered m journal l0 l2 w w' held' run'
 gathers-over m journal l0 l1 l2 w w' held held' run run' n kept g b = record {
   done = g.done;
@@ -212,9 +290,13 @@ gathers-over m journal l0 l1 l2 w w' held held' run run' n kept g b = record {
 }
 
 -- what stands at the end was gathered, and all that was gathered was put
-pub ends : {S : Type 0} (m : Player S) (journal : Bool → List ℕ → Played) (l0 l1 w w' w'' : Option (List ℕ)) (held held' : List ℕ) (run : Option S) (i o o' : Type 0) (ending result : Ending)
-    → IsGathered m journal l0 l1 w w' held run → (o → ⊥) → Plays (finished m (state_of m run)) (Some held) (Some held') ⊥ o ending → PutsRest ending held' w' w'' o' result
+pub ends : {S : Type 0} (m : Player S) (journal : Bool → List ℕ
+    → Played) (l0 l1 w w' w'' : Option (List ℕ)) (held held' : List ℕ) (run : Option S) (i o o' : Type 0)
+    (ending result : Ending)
+    → IsGathered m journal l0 l1 w w' held run → (o → ⊥)
+    → Plays (finished m (state_of m run)) (Some held) (Some held') ⊥ o ending → PutsRest ending held' w' w'' o' result
     → HasPlayed journal l0 l1 w w'' i o' result
 ends m journal l0 l1 w w' w'' held held' run i o o' ending result g never p put =
-    let q = over-played m journal l0 l1 (Some []) (Some (g.done ++ held)) (Some (g.done ++ held')) run i o o ending g.over (λ x. x) (moved-plays g.done held held' _ ⊥ o ending p) in
+    let q = over-played m journal l0 l1 (Some []) (Some (g.done ++ held)) (Some (g.done ++ held')) run i o o ending
+    g.over (λ x. x) (moved-plays g.done held held' _ ⊥ o ending p) in
     rest-put journal l0 l1 g.done held' w w' w'' i o o' ending result never g.written_is q put

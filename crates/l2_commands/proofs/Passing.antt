@@ -1,5 +1,6 @@
 -- A script run line by line for its sums, by the lines that its text says.
-use Rattle.std.proofs.Common.{◌≡◌, ◌≤◌, ◌<◌, ◌+◌, ◌==◌, ◌∙◌, nat_lt, true, false, if◌then◌else◌, ℕ, List, [], ◌∷◌, ◌++◌, length, refl, ap, sym, arith, append-nil}
+use Rattle.std.proofs.Common.{◌≡◌, ◌≤◌, ◌<◌, ◌+◌, ◌==◌, ◌∙◌, nat_lt, true, false, if◌then◌else◌, ℕ, List, [], ◌∷◌, ◌++◌}
+use Rattle.std.proofs.Common.{length, refl, ap, sym, arith, append-nil}
 use Rattle.std.specs.Prelude.{Option, None, Some, Ok, Err}
 use Rattle.l2_io.specs.Feeds.{until_feed, from_feed}
 use Rattle.l2_io.specs.Known.{HasRisen}
@@ -10,7 +11,8 @@ use Rattle.air_text.specs.Words.{words_of}
 use Rattle.air_text.specs.declared.fault.LineRefusal.TheVariants.{Long}
 use Rattle.air_run.specs.Lines.{lines_ended, tail_of}
 use Rattle.air_run.specs.Run.{RunState, step}
-use Rattle.air_run.specs.Journal.{Outcome, Goes, Ends, Refuses, Played, refused, finished, follow, on_line, close_by, play, journal_from, left_by, script}
+use Rattle.air_run.specs.Journal.{Outcome, Goes, Ends, Refuses, Played, refused, finished, follow, on_line, close_by}
+use Rattle.air_run.specs.Journal.{play, journal_from, left_by, script}
 use Rattle.air_run.specs.declared.refusal.Reason.{Reason}
 use Rattle.air_run.specs.declared.refusal.Reason.TheVariants as reasons
 use Rattle.air_run.proofs.Cutting.{lines-line, tail-line}
@@ -39,62 +41,77 @@ until-text [] rest h = refl
 until-text (x ∷ xs) rest h = let p = feed-parts x xs h in rw (p.0) (ap (λ (t : List ℕ). x ∷ t) (until-text xs rest p.1))
 
 lines-text : (text rest : List ℕ) → until_feed text ≡ text → lines_ended (text ++ 10 ∷ rest) ≡ text ∷ lines_ended rest
-lines-text text rest h = lines-line (text ++ 10 ∷ rest) rest (from-text text rest h) ∙ ap (λ (t : List ℕ). t ∷ lines_ended rest) (until-text text rest h)
+lines-text text rest h = lines-line (text ++ 10 ∷ rest) rest (from-text text rest h)
+    ∙ ap (λ (t : List ℕ). t ∷ lines_ended rest) (until-text text rest h)
 
 -- a text that is read as a line isn't too long
 short-text : (text : List ℕ) (line : Line) → read_of text ≡ Ok (Some line) → nat_lt 20000 (length text) ≡ false
 unfolding read_of
 short-text text line read =
-    elim (nat_lt 20000 (length text)) as (λ b. (if b then Err Long else read_words (words_of text)) ≡ Ok (Some line) → b ≡ false) [
+    elim (nat_lt 20000 (length text)) as (λ b. (if b then Err Long else read_words (words_of text)) ≡ Ok (Some line)
+    → b ≡ false) [
       | true ↦ λ f. cc
       | false ↦ λ f. refl
     ] read
 
 -- the journal of a line and of those behind it
 from-line : (text rest : List ℕ) (s : RunState) (number : ℕ) → until_feed text ≡ text
-    → journal_from summing true s number (text ++ 10 ∷ rest) ≡ play summing (close_by summing true (tail_of rest)) s number (text ∷ lines_ended rest)
+    → journal_from summing true s number (text ++ 10 ∷ rest)
+    ≡ play summing (close_by summing true (tail_of rest)) s number (text ∷ lines_ended rest)
 unfolding journal_from
 from-line text rest s number one =
-    ap (λ (t : List ℕ). play summing (close_by summing true t) s number (lines_ended (text ++ 10 ∷ rest))) (tail-line (text ++ 10 ∷ rest) rest (from-text text rest one))
-    ∙ ap (λ (ls : List (List ℕ)). play summing (close_by summing true (tail_of rest)) s number ls) (lines-text text rest one)
+    ap (λ (t : List ℕ). play summing (close_by summing true t) s number (lines_ended (text ++ 10 ∷ rest)))
+    (tail-line (text ++ 10 ∷ rest) rest (from-text text rest one))
+    ∙ ap (λ (ls : List (List ℕ)). play summing (close_by summing true (tail_of rest)) s number ls)
+    (lines-text text rest one)
 
 -- what a line does, and what comes after it
 line-plays : (text rest : List ℕ) (line : Line) (s : RunState) (number : ℕ) → Says text line → number ≤ 1000000
     → play summing (close_by summing true (tail_of rest)) s number (text ∷ lines_ended rest)
-    ≡ follow summing number (muted (left_by line (step s number line))) (λ t. journal_from summing true t (number + 1) rest)
+    ≡ follow summing number (muted (left_by line (step s number line)))
+    (λ t. journal_from summing true t (number + 1) rest)
 unfolding journal_from play on_line
 line-plays text rest line s number says few =
     let count : nat_lt 1000000 number ≡ false = grind arith in
     rw (count, short-text text line says.read, says.whole, says.read) refl
 
-line-runs : (octets : List ℕ) (line : Line) (lines : List Line) (s : RunState) (number : ℕ) → (h : SayAll octets (line ∷ lines)) → number ≤ 1000000
-    → journal_from summing true s number octets ≡ follow summing number (muted (left_by line (step s number line))) (λ t. journal_from summing true t (number + 1) (h.1))
+line-runs : (octets : List ℕ) (line : Line) (lines : List Line) (s : RunState) (number : ℕ)
+    → (h : SayAll octets (line ∷ lines)) → number ≤ 1000000
+    → journal_from summing true s number octets
+    ≡ follow summing number (muted (left_by line (step s number line)))
+    (λ t. journal_from summing true t (number + 1) (h.1))
 line-runs octets line lines s number h few =
-    ap (λ (t : List ℕ). journal_from summing true s number t) (h.2) ∙ from-line (h.0) (h.1) s number (h.3).one ∙ line-plays (h.0) (h.1) line s number (h.3) few
+    ap (λ (t : List ℕ). journal_from summing true s number t) (h.2) ∙ from-line (h.0) (h.1) s number (h.3).one
+    ∙ line-plays (h.0) (h.1) line s number (h.3) few
 
-too-many : (octets : List ℕ) (line : Line) (lines : List Line) (s : RunState) (number : ℕ) → SayAll octets (line ∷ lines) → 1000000 < number
+too-many : (octets : List ℕ) (line : Line) (lines : List Line) (s : RunState) (number : ℕ)
+    → SayAll octets (line ∷ lines) → 1000000 < number
     → journal_from summing true s number octets ≡ refused number reasons.Lines
 unfolding journal_from play on_line
 too-many octets line lines s number h many =
     let count : nat_lt 1000000 number ≡ true = grind arith in
     rw (h.2, lines-text (h.0) (h.1) (h.3).one, count) refl
 
-none-left : (octets : List ℕ) (s : RunState) (number : ℕ) → SayAll octets [] → journal_from summing true s number octets ≡ finished summing s
+none-left : (octets : List ℕ) (s : RunState) (number : ℕ) → SayAll octets []
+    → journal_from summing true s number octets ≡ finished summing s
 unfolding journal_from play close_by
 none-left octets s number h = rw h refl
 
 -- by how a line ended, what comes after it
-then-next : (o : Outcome RunState) (new : RunState) (number : ℕ) (next : RunState → Played) → RunsLine o (Some new) None None ⊥ ends.Next → follow summing number (muted o) next ≡ next new
+then-next : (o : Outcome RunState) (new : RunState) (number : ℕ) (next : RunState → Played)
+    → RunsLine o (Some new) None None ⊥ ends.Next → follow summing number (muted o) next ≡ next new
 then-next (Goes t journal) new number next h = let same : t ≡ new = cc in ap next same
 then-next (Ends t journal) new number next h = absurd h
 then-next (Refuses reason) new number next h = absurd h
 
-then-ended : (o : Outcome RunState) (new : RunState) (number : ℕ) (next : RunState → Played) → RunsLine o (Some new) None None ⊥ ends.Ended → follow summing number (muted o) next ≡ finished summing new
+then-ended : (o : Outcome RunState) (new : RunState) (number : ℕ) (next : RunState → Played)
+    → RunsLine o (Some new) None None ⊥ ends.Ended → follow summing number (muted o) next ≡ finished summing new
 then-ended (Goes t journal) new number next h = absurd h
 then-ended (Ends t journal) new number next h = let same : t ≡ new = cc in ap (finished summing) same
 then-ended (Refuses reason) new number next h = absurd h
 
-then-refused : (o : Outcome RunState) (new : RunState) (number : ℕ) (reason : Reason) (next : RunState → Played) → RunsLine o (Some new) None None ⊥ (ends.Refused reason)
+then-refused : (o : Outcome RunState) (new : RunState) (number : ℕ) (reason : Reason) (next : RunState → Played)
+    → RunsLine o (Some new) None None ⊥ (ends.Refused reason)
     → follow summing number (muted o) next ≡ refused number reason
 then-refused o new number reason next h = rw (h.0) refl
 
@@ -105,47 +122,64 @@ pub record IsLeft (octets : List ℕ) (s : RunState) (number : ℕ) (lines : Lis
   pub left : sums_of true octets ≡ journal_from summing true s number rest
 
 -- the next line is said by what is left
-next-said : (octets : List ℕ) (s : RunState) (number : ℕ) (lines lines' : List Line) → lines ≡ lines' → IsLeft octets s number lines → IsLeft octets s number lines'
+next-said : (octets : List ℕ) (s : RunState) (number : ℕ) (lines lines' : List Line) → lines ≡ lines'
+    → IsLeft octets s number lines → IsLeft octets s number lines'
 next-said octets s number lines lines' same h = rw (← same) h
 
-behind : (octets : List ℕ) (line : Line) (lines : List Line) (s : RunState) (number : ℕ) → (h : IsLeft octets s number (line ∷ lines)) → number ≤ 1000000
-    → sums_of true octets ≡ follow summing number (muted (left_by line (step s number line))) (λ t. journal_from summing true t (number + 1) (h.said.1))
+behind : (octets : List ℕ) (line : Line) (lines : List Line) (s : RunState) (number : ℕ)
+    → (h : IsLeft octets s number (line ∷ lines)) → number ≤ 1000000
+    → sums_of true octets ≡ follow summing number (muted (left_by line (step s number line)))
+    (λ t. journal_from summing true t (number + 1) (h.said.1))
 behind octets line lines s number h few = h.left ∙ line-runs h.rest line lines s number h.said few
 
-pub goes-on : (octets : List ℕ) (line : Line) (old lines : List Line) (s s' : RunState) (number : ℕ) → IsLeft octets s number old → old ≡ line ∷ lines → number ≤ 1000000
+pub goes-on : (octets : List ℕ) (line : Line) (old lines : List Line) (s s' : RunState) (number : ℕ)
+    → IsLeft octets s number old → old ≡ line ∷ lines → number ≤ 1000000
     → RunsLine (left_by line (step s number line)) (Some s') None None ⊥ ends.Next → IsLeft octets s' (number + 1) lines
 goes-on octets line old lines s s' number g is few runs =
     let h = next-said octets s number old (line ∷ lines) is g in
     record {
       rest = h.said.1;
       said = h.said.4;
-      left = behind octets line lines s number h few ∙ then-next (left_by line (step s number line)) s' number (λ t. journal_from summing true t (number + 1) (h.said.1)) runs;
+      left = behind octets line lines s number h few
+          ∙ then-next (left_by line (step s number line)) s' number
+          (λ t. journal_from summing true t (number + 1) (h.said.1)) runs;
     }
 
-pub goes-over : (octets : List ℕ) (line : Line) (old lines : List Line) (s s' : RunState) (number : ℕ) → IsLeft octets s number old → old ≡ line ∷ lines → number ≤ 1000000
-    → RunsLine (left_by line (step s number line)) (Some s') None None ⊥ ends.Ended → sums_of true octets ≡ finished summing s'
+pub goes-over : (octets : List ℕ) (line : Line) (old lines : List Line) (s s' : RunState) (number : ℕ)
+    → IsLeft octets s number old → old ≡ line ∷ lines → number ≤ 1000000
+    → RunsLine (left_by line (step s number line)) (Some s') None None ⊥ ends.Ended
+    → sums_of true octets ≡ finished summing s'
 goes-over octets line old lines s s' number g is few runs =
     let h = next-said octets s number old (line ∷ lines) is g in
-    behind octets line lines s number h few ∙ then-ended (left_by line (step s number line)) s' number (λ t. journal_from summing true t (number + 1) (h.said.1)) runs
+    behind octets line lines s number h few
+    ∙ then-ended (left_by line (step s number line)) s' number
+    (λ t. journal_from summing true t (number + 1) (h.said.1)) runs
 
 -- a line that is refused writes nothing
-refused-plays : (played : Played) (number : ℕ) (reason : Reason) → played ≡ refused number reason → (w : Option (List ℕ)) → Plays played w w ⊥ ⊥ (endings.Refused number reason)
+refused-plays : (played : Played) (number : ℕ) (reason : Reason) → played ≡ refused number reason
+    → (w : Option (List ℕ)) → Plays played w w ⊥ ⊥ (endings.Refused number reason)
 refused-plays played number reason is w = rw is (refl, after_none w)
 
-pub is-refused : (octets : List ℕ) (line : Line) (old lines : List Line) (s s' : RunState) (number : ℕ) (reason : Reason) → IsLeft octets s number old → old ≡ line ∷ lines → number ≤ 1000000
-    → RunsLine (left_by line (step s number line)) (Some s') None None ⊥ (ends.Refused reason) → PassesLines (sums_of true octets) s' (Some (endings.Refused number reason))
+pub is-refused : (octets : List ℕ) (line : Line) (old lines : List Line) (s s' : RunState) (number : ℕ)
+    (reason : Reason) → IsLeft octets s number old → old ≡ line ∷ lines → number ≤ 1000000
+    → RunsLine (left_by line (step s number line)) (Some s') None None ⊥ (ends.Refused reason)
+    → PassesLines (sums_of true octets) s' (Some (endings.Refused number reason))
 is-refused octets line old lines s s' number reason g is few runs =
     let h = next-said octets s number old (line ∷ lines) is g in
     refused-plays (sums_of true octets) number reason
-    (behind octets line lines s number h few ∙ then-refused (left_by line (step s number line)) s' number reason (λ t. journal_from summing true t (number + 1) (h.said.1)) runs)
+    (behind octets line lines s number h few
+    ∙ then-refused (left_by line (step s number line)) s' number reason
+    (λ t. journal_from summing true t (number + 1) (h.said.1)) runs)
 
-pub are-many : (octets : List ℕ) (line : Line) (old lines : List Line) (s s' : RunState) (number : ℕ) → IsLeft octets s number old → old ≡ line ∷ lines → 1000000 < number
+pub are-many : (octets : List ℕ) (line : Line) (old lines : List Line) (s s' : RunState) (number : ℕ)
+    → IsLeft octets s number old → old ≡ line ∷ lines → 1000000 < number
     → PassesLines (sums_of true octets) s' (Some (endings.Refused number reasons.Lines))
 are-many octets line old lines s s' number g is many =
     let h = next-said octets s number old (line ∷ lines) is g in
     refused-plays (sums_of true octets) number reasons.Lines (h.left ∙ too-many h.rest line lines s number h.said many)
 
-pub is-over : (octets : List ℕ) (old : List Line) (s : RunState) (number : ℕ) → IsLeft octets s number old → old ≡ [] → sums_of true octets ≡ finished summing s
+pub is-over : (octets : List ℕ) (old : List Line) (s : RunState) (number : ℕ) → IsLeft octets s number old → old ≡ []
+    → sums_of true octets ≡ finished summing s
 is-over octets old s number g is =
     let h = next-said octets s number old [] is g in h.left ∙ none-left h.rest s number h.said
 
@@ -153,7 +187,8 @@ pub runs-out : (octets : List ℕ) (s : RunState) → PassesLines (sums_of true 
 runs-out octets s w = front_none (texts_of (sums_of true octets).journal) w
 
 -- all octets of a script were played
-whole-played : (octets : List ℕ) (w w' : Option (List ℕ)) (o o' : Type 0) (ending : Ending) → (o → o') → Plays (sums_of true octets) w w' ⊥ o ending
+whole-played : (octets : List ℕ) (w w' : Option (List ℕ)) (o o' : Type 0) (ending : Ending) → (o → o')
+    → Plays (sums_of true octets) w w' ⊥ o ending
     → HasPlayed sums_of (Some octets) (Some []) w w' (HasRisen 0 0) o' ending
 whole-played octets w w' o o' ending more p = record {
   given = octets;
@@ -163,11 +198,13 @@ whole-played octets w w' o o' ending more p = record {
   plays = plays-by (sums_of true octets) w w' ⊥ o (HasRisen 0 0) o' ending (λ bad. absurd bad) more p;
 }
 
-pub stopped : (octets : List ℕ) (s : RunState) (w : Option (List ℕ)) (o : Type 0) (ending : Ending) → PassesLines (sums_of true octets) s (Some ending)
+pub stopped : (octets : List ℕ) (s : RunState) (w : Option (List ℕ)) (o : Type 0) (ending : Ending)
+    → PassesLines (sums_of true octets) s (Some ending)
     → HasPlayed sums_of (Some octets) (Some []) w w (HasRisen 0 0) o ending
 stopped octets s w o ending p = whole-played octets w w ⊥ o ending (λ bad. absurd bad) (p w)
 
 -- all lines were run, and what stands at the end was written
-pub summed : (octets : List ℕ) (s : RunState) (w w' : Option (List ℕ)) (o : Type 0) (ending : Ending) → PassesLines (sums_of true octets) s None → Plays (finished script s) w w' ⊥ o ending
+pub summed : (octets : List ℕ) (s : RunState) (w w' : Option (List ℕ)) (o : Type 0) (ending : Ending)
+    → PassesLines (sums_of true octets) s None → Plays (finished script s) w w' ⊥ o ending
     → HasPlayed sums_of (Some octets) (Some []) w w' (HasRisen 0 0) o ending
 summed octets s w w' o ending is p = whole-played octets w w' o o ending (λ x. x) (rw is p)

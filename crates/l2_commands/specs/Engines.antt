@@ -4,7 +4,8 @@ use Rattle.std.specs.Prelude.{◌≡◌, ℕ, Bool, List, [], Option, None, Some
 use Rattle.air_record.specs.declared.record.Record.{Record}
 use Rattle.air_text.specs.declared.fault.LineRefusal.{LineRefusal}
 use Rattle.air_run.specs.Run.{RunState, fresh, finish}
-use Rattle.air_run.specs.Journal.{Player, Outcome, Goes, Ends, Refuses, Played, script, script_line, finished, journal_by}
+use Rattle.air_run.specs.Journal.{Player, Outcome, Goes, Ends, Refuses, Played, script, script_line}
+use Rattle.air_run.specs.Journal.{finished, journal_by}
 pub use Rattle.air_run.specs.Journal.{journal_of}
 use Rattle.air_run.specs.declared.refusal.Reason.TheVariants as reasons
 use Rattle.pdu_show.specs.Decoding.{Decoding, Decoded, undecoded, decode_line}
@@ -27,7 +28,8 @@ shown_line d number text = shown_by (decode_line d text)
 abbrev pub showing : Player Decoding
 showing = record { first = undecoded; line = shown_line; last = λ d. [] }
 
--- the records that show the blocks of an input, whose octets are all there are, or of which more may come
+-- the records that show the blocks of an input, whose octets are all there are, or of which more
+-- may come
 abbrev pub blocks_of : Bool → List ℕ → Played
 blocks_of whole octets = journal_by showing whole octets
 
@@ -49,10 +51,12 @@ summing = record { first = fresh; line = muted_line; last = finish }
 abbrev pub sums_of : Bool → List ℕ → Played
 sums_of whole octets = journal_by summing whole octets
 
--- what running lines leaves where nothing is written before their end: all were run, or the run stopped with an ending
+-- what running lines leaves where nothing is written before their end: all were run, or the run
+-- stopped with an ending
 abbrev pub PassesLines : Played → RunState → Option Ending → Type 0
 PassesLines played state None = played ≡ finished summing state
-PassesLines played state (Some ending) = (written : Option (List ℕ)) → Plays played written written ⊥ ⊥ ending
+PassesLines played state (Some ending) = (written : Option (List ℕ))
+    → Plays played written written ⊥ ⊥ ending
 
 -- ---- what plays an input
 

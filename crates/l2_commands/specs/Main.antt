@@ -3,8 +3,13 @@ use Rattle.std.specs.Prelude.{◌≡◌, ◌⊎◌, ℕ, Bool, true, List, [], �
 use Rattle.std.specs.Fmt.{decimal}
 use Rattle.script_generator.specs.Script.{script}
 use Rattle.l2_io.specs.Known.{before, after, IsFront, IsAtEnd, HasRisen}
-use Rattle.air_text.specs.declared.fault.LineRefusal.TheVariants.{Word, Number, Range, Hex, Fields, Long}
-use Rattle.air_run.specs.declared.refusal.RunRefusal.TheVariants.{UnknownBearer, BearerTwice, ConfiguredLate, KeyUsed, TimerIdle, SmallDrain, NoKeys, SetTwice, LoopOn, NoDiscard, Forged, DrxFields}
+use Rattle.air_text.specs.declared.fault.LineRefusal.TheVariants.{Word, Number, Range, Hex, Fields}
+use Rattle.air_text.specs.declared.fault.LineRefusal.TheVariants.{Long}
+use Rattle.air_run.specs.declared.refusal.RunRefusal.TheVariants.{UnknownBearer, BearerTwice}
+use Rattle.air_run.specs.declared.refusal.RunRefusal.TheVariants.{ConfiguredLate, KeyUsed}
+use Rattle.air_run.specs.declared.refusal.RunRefusal.TheVariants.{TimerIdle, SmallDrain, NoKeys}
+use Rattle.air_run.specs.declared.refusal.RunRefusal.TheVariants.{SetTwice, LoopOn, NoDiscard}
+use Rattle.air_run.specs.declared.refusal.RunRefusal.TheVariants.{Forged, DrxFields}
 use Rattle.air_record.specs.Text.{texts_of}
 use Rattle.air_run.specs.Steps.{WritesFront}
 use Rattle.air_run.specs.Journal.{Finished, Refused, Waiting, Played}
@@ -49,7 +54,8 @@ reason_text reasons.Lines = codes "lines"
 
 -- the text of a refused line
 abbrev pub refused_text : ℕ → Reason → List ℕ
-refused_text number reason = codes "line " ++ (decimal number ++ (codes ": " ++ (reason_text reason ++ 10 ∷ [])))
+refused_text number reason =
+    codes "line " ++ (decimal number ++ (codes ": " ++ (reason_text reason ++ 10 ∷ [])))
 
 abbrev pub usage_text : List ℕ
 usage_text = codes "usage: l2 run | l2 decode | l2 generate N" ++ 10 ∷ []
@@ -63,7 +69,8 @@ write_fault_text = codes "write fault" ++ 10 ∷ []
 abbrev pub no_memory_text : List ℕ
 no_memory_text = codes "out of memory" ++ 10 ∷ []
 
--- a text was put to errs: all of it, or a front where errs failed, or nothing where it had no memory
+-- a text was put to errs: all of it, or a front where errs failed, or nothing where it had no
+-- memory
 pub record Tells (text : List ℕ) (errs errs' : Output) : Type 0 where
   pub told : List ℕ
   pub errs_is : errs'.written ≡ after errs.written told
@@ -107,13 +114,14 @@ Row played old new statuses.NoMemory =
     HasFront played old.out new.out × Tells no_memory_text old.errs new.errs
 
 -- what a command did with the octets that the source gave, by the journal that it makes of octets
-pub record Runs (journal : Bool → List ℕ → Played) (old new : Streams) (status : Status) : Type 0 where
-  pub given : List ℕ
-  pub left_is : old.source.left ≡ before given new.source.left
-  -- whether these were all
-  pub whole : Bool
-  pub end : whole ≡ true → IsAtEnd new.source.left
-  pub row : Row (journal whole given) old new status
+pub record Runs (journal : Bool → List ℕ → Played) (old new : Streams) (status : Status) : Type 0
+  where
+    pub given : List ℕ
+    pub left_is : old.source.left ≡ before given new.source.left
+    -- whether these were all
+    pub whole : Bool
+    pub end : whole ≡ true → IsAtEnd new.source.left
+    pub row : Row (journal whole given) old new status
 
 -- streams whose source is a text that never fails
 abbrev pub over : Option (List ℕ) → Output → Output → Streams

@@ -15,7 +15,8 @@ PlaysOn journal given left out out' ending =
     (HasRisen given.faults left.faults) (HasFailed out out') ending
 
 -- one line was read and played: what a turn leaves, of an input that began in any state
-abbrev pub TurnsOn : Between → Between → ℕ → List ℕ → Input → Input → Output → Output → Between → List ℕ
+abbrev pub TurnsOn : Between → Between → ℕ → List ℕ → Input → Input → Output → Output → Between
+    → List ℕ
     → TurnEnd → Type 0
 TurnsOn first state number kept given left out out' state' kept' result =
     Turns (played_from first)

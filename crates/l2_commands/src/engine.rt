@@ -4,7 +4,8 @@ ghost use Rattle.air_run.specs.Journal.{script, script_line, finished};
 ghost use Rattle.air_run.specs.Run.{fresh};
 ghost use Rattle.pdu_show.specs.Decoding.{undecoded};
 ghost use Rattle.l2_commands.specs.Plays.{RunsLine, Plays, state_of};
-ghost use Rattle.l2_commands.specs.Engines.{Running, Showing, shown_line, line_by, last_by, played_from, now_in};
+ghost use Rattle.l2_commands.specs.Engines.{Running, Showing, shown_line, line_by, last_by};
+ghost use Rattle.l2_commands.specs.Engines.{played_from, now_in};
 
 use crate::playing::Ending;
 use air_run::{Reason, Run, StepFault};
@@ -54,7 +55,8 @@ pub enum Engine {
 // Runs one line of a script.
 #[tactic(auto, using(crate::proofs::Nothing::part_nothing))]
 fn run_line<K: Sink>(alloc: Global, run: &mut Run, number: u32, text: &[u8], out: &mut K) -> LineEnd
-    ensures line { RunsLine (script_line (state_of script run.old) number text.now) (Some (state_of script run.new)) (K.written out.old)
+    ensures line { RunsLine (script_line (state_of script run.old) number text.now)
+        (Some (state_of script run.new)) (K.written out.old)
         (K.written out.new) (HasRisen (K.faults out.old) (K.faults out.new)) result }
     ensures count { K.faults out.old ≤ K.faults out.new }
 {
@@ -88,7 +90,8 @@ impl Decode {
     // Shows the block of one line.
     #[tactic(auto, using(crate::proofs::Nothing::part_nothing))]
     fn line<K: Sink>(&mut self, number: u32, text: &[u8], out: &mut K) -> LineEnd
-        ensures line { RunsLine (shown_line self.old number text.now) (Some self.new) (K.written out.old)
+        ensures line { RunsLine (shown_line self.old number text.now) (Some self.new)
+            (K.written out.old)
             (K.written out.new) (HasRisen (K.faults out.old) (K.faults out.new)) result }
         ensures count { K.faults out.old ≤ K.faults out.new }
     {
@@ -123,7 +126,8 @@ impl Engine {
     /// Plays one line.
     #[tactic(auto, using(crate::proofs::Engines::runs_lifted))]
     pub fn line<K: Sink>(&mut self, alloc: Global, number: u32, text: &[u8], out: &mut K) -> LineEnd
-        ensures line { RunsLine (line_by (now_in self.old) number text.now) (Some (now_in self.new)) (K.written out.old)
+        ensures line { RunsLine (line_by (now_in self.old) number text.now) (Some (now_in self.new))
+            (K.written out.old)
             (K.written out.new) (HasRisen (K.faults out.old) (K.faults out.new)) result }
         ensures count { K.faults out.old ≤ K.faults out.new }
     {
@@ -136,7 +140,8 @@ impl Engine {
     /// Writes what stands at the end.
     #[tactic(auto, using(crate::proofs::Nothing::after_none))]
     pub fn over<K: Sink>(self, out: &mut K) -> Ending
-        ensures over { Plays (finished (played_from (now_in self)) (now_in self)) (K.written out.old)
+        ensures over { Plays (finished (played_from (now_in self)) (now_in self))
+            (K.written out.old)
             (K.written out.new) ⊥ (HasRisen (K.faults out.old) (K.faults out.new)) result }
         ensures count { K.faults out.old ≤ K.faults out.new }
     {

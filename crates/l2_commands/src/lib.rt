@@ -1,4 +1,5 @@
-//! The commands of the program, from the words of a command line and the octets of an input to the octets written.
+//! The commands of the program, from the words of a command line and the octets of an input to the
+//! octets written.
 #![tactic(auto)]
 
 mod command;

@@ -138,7 +138,8 @@ fn put_rest<K: Sink>(gathered: &mut GatherSink, out: &mut K, ending: Ending) -> 
     }
 }
 
-// Plays the lines that a source gives, to their end or to what stops the reading: then with its ending.
+// Plays the lines that a source gives, to their end or to what stops the reading: then with its
+// ending.
 fn play_lines<S: Source, K: Sink>(
     alloc: Global,
     lines: &mut Lines,

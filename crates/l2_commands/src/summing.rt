@@ -20,7 +20,9 @@ use std::alloc::Global;
 #[tactic(auto, using(crate::proofs::Nothing::part_nothing))]
 fn pass_line(run: &mut Run, line: &Line) -> LineEnd
     requires { IsInRange line.now }
-    ensures { (number : ℕ) → RunsLine (left_by line.now (step (state_of script run.old) number line.now)) (Some (state_of script run.new)) None None ⊥ result }
+    ensures { (number : ℕ)
+        → RunsLine (left_by line.now (step (state_of script run.old) number line.now))
+        (Some (state_of script run.new)) None None ⊥ result }
 {
     let is_end = matches!(line, Line::End);
     match run.pass(line) {
@@ -35,7 +37,8 @@ fn pass_line(run: &mut Run, line: &Line) -> LineEnd
 // Runs lines to their end, or to what stops the run: then with its ending.
 fn pass_lines(lines: &mut ScriptLines, run: &mut Run) -> Option<Ending>
     requires { state_of script run.old ≡ fresh }
-    ensures { (octets : List ℕ) → SayAll octets lines.old → PassesLines (sums_of true octets) (state_of script run.new) result }
+    ensures { (octets : List ℕ) → SayAll octets lines.old
+        → PassesLines (sums_of true octets) (state_of script run.new) result }
 {
     for number in 1..MOST_LINES + 2 {
         let Ok(next) = lines.next() else {
@@ -60,7 +63,8 @@ fn pass_lines(lines: &mut ScriptLines, run: &mut Run) -> Option<Ending>
     unreachable!()
 }
 
-/// Plays the script of a number, and writes only what stands at its end. The lines are run as values, without their text.
+/// Plays the script of a number, and writes only what stands at its end. The lines are run as
+/// values, without their text.
 pub fn sum_script<K: Sink>(alloc: Global, number: u32, out: &mut K) -> Ending
     ensures played { HasPlayed sums_of (Some (script_of number)) (Some []) (K.written out.old)
         (K.written out.new) (HasRisen 0 0) (HasRisen (K.faults out.old) (K.faults out.new)) result }

@@ -1,5 +1,6 @@
 -- Where the first line feed stands.
-use Rattle.std.proofs.Common.{◌≡◌, ℕ, ◌+◌, ◌<◌, ◌≤◌, List, [], ◌∷◌, refl, arith, ◌==◌, ap, cond, zero, suc, true, false, length, slice_index}
+use Rattle.std.proofs.Common.{◌≡◌, ℕ, ◌+◌, ◌<◌, ◌≤◌, List, [], ◌∷◌, refl, arith, ◌==◌, ap, cond, zero, suc, true, false}
+use Rattle.std.proofs.Common.{length, slice_index}
 use Rattle.std.proofs.lemmas.Bool.{eqb-true, false_from_ne_true}
 use Rattle.l2_io.specs.Feeds.{until_feed, from_feed, IsFeedAt}
 
@@ -13,7 +14,8 @@ until_feed_whole (x ∷ xs) e =
     ] e
 
 -- no line feed stands anywhere
-pub from_feed_none : (xs : List ℕ) → ((k : ℕ) → 0 ≤ k → k < length xs → (slice_index xs k == 10) ≡ true → ⊥) → from_feed xs ≡ []
+pub from_feed_none : (xs : List ℕ) → ((k : ℕ) → 0 ≤ k → k < length xs → (slice_index xs k == 10) ≡ true → ⊥)
+    → from_feed xs ≡ []
 from_feed_none [] none = refl
 from_feed_none (x ∷ xs) none =
     let e : (x == 10) ≡ false = false_from_ne_true (x == 10) (none 0 (omega arith) (omega arith)) in
@@ -29,9 +31,14 @@ on_after x xs e i at =
     }
 
 -- the first place with a line feed
-pub feed_first : (xs : List ℕ) (i : ℕ) → i < length xs → ((k : ℕ) → 0 ≤ k → k < i → (slice_index xs k == 10) ≡ true → ⊥) → (slice_index xs i == 10) ≡ true → IsFeedAt xs i
+pub feed_first : (xs : List ℕ) (i : ℕ) → i < length xs
+    → ((k : ℕ) → 0 ≤ k → k < i → (slice_index xs k == 10) ≡ true → ⊥) → (slice_index xs i == 10) ≡ true
+    → IsFeedAt xs i
 feed_first [] i inside none here = absurd (omega (arith, inside))
-feed_first (x ∷ xs) zero inside none here = record { inside = inside; line = rw here refl; rest = rw here (ap (λ y. y ∷ xs) (eqb-true x 10 here)) }
+feed_first (x ∷ xs) zero inside none here =
+    record { inside = inside; line = rw here refl; rest = rw here (ap (λ y. y ∷ xs) (eqb-true x 10 here)) }
 feed_first (x ∷ xs) (suc i) inside none here =
     let e : (x == 10) ≡ false = false_from_ne_true (x == 10) (none 0 (omega arith) (omega arith)) in
-    on_after x xs e i (feed_first xs i (omega (arith, inside)) (λ k low high. none (suc k) (omega arith) (omega (arith, high))) here)
+    on_after x xs e i
+    (feed_first xs i (omega (arith, inside)) (λ k low high. none (suc k) (omega arith) (omega (arith, high)))
+    here)

@@ -1,4 +1,5 @@
-use Rattle.std.proofs.Common.{◌≡◌, ℕ, ◌+◌, ◌-◌, ◌≤◌, List, ◌++◌, length, take, drop, sym, ◌∙◌, ap, arith, refl, slice_range, length-drop}
+use Rattle.std.proofs.Common.{◌≡◌, ℕ, ◌+◌, ◌-◌, ◌≤◌, List, ◌++◌, length, take, drop, sym, ◌∙◌, ap, arith, refl}
+use Rattle.std.proofs.Common.{slice_range, length-drop}
 use Rattle.std.proofs.Math.Seq.{take-add}
 use lib.Seq.{paste}
 use Rattle.std.proofs.lemmas.Grind.{common_steps}
@@ -6,7 +7,8 @@ use Rattle.std.proofs.lemmas.List.Edits.{take-paste}
 use Rattle.std.proofs.lemmas.List.{take-append-drop, drop-drop, take_at, drop-take, take-take}
 
 -- what is left is the part given, and what is left then
-pub drop-given : (xs front later : List ℕ) (at n : ℕ) → front ≡ take n (drop at xs) → length front ≡ n → drop at xs ≡ take n (front ++ later) ++ drop (at + n) xs
+pub drop-given : (xs front later : List ℕ) (at n : ℕ) → front ≡ take n (drop at xs) → length front ≡ n
+    → drop at xs ≡ take n (front ++ later) ++ drop (at + n) xs
 drop-given xs front later at n same len =
     rw (take_at front later n len, same, ← (drop-drop n at xs)) (sym (take-append-drop n (drop at xs)))
 
@@ -30,13 +32,15 @@ range-behind xs bs k n front =
     let short : k + n - k ≡ n = omega arith in
     rw (whole, short, take-add k n bs, front) refl
 
-pub range-more : (xs bs : List ℕ) (s e n : ℕ) → s ≤ e → e ≤ length xs → take (e - s) bs ≡ take (e - s) (paste xs 0 (drop s xs) (e - s))
+pub range-more : (xs bs : List ℕ) (s e n : ℕ) → s ≤ e → e ≤ length xs
+    → take (e - s) bs ≡ take (e - s) (paste xs 0 (drop s xs) (e - s))
     → slice_range bs 0 (e - s + n) ≡ slice_range xs s e ++ slice_range bs (e - s) (e - s + n)
 range-more xs bs s e n le inside same =
     let fits : e - s ≤ length (drop s xs) = omega (arith, length-drop s xs) in
     let zero : e - s ≡ 0 + (e - s) = omega arith in
     let moved : take (e - s) (paste xs 0 (drop s xs) (e - s)) ≡ take (e - s) (drop s xs) =
-    ap (λ (k : ℕ). take k (paste xs 0 (drop s xs) (e - s))) zero ∙ take-paste xs 0 (drop s xs) (e - s) (omega arith) fits in
+    ap (λ (k : ℕ). take k (paste xs 0 (drop s xs) (e - s))) zero
+    ∙ take-paste xs 0 (drop s xs) (e - s) (omega arith) fits in
     range-behind _ bs (e - s) n (same ∙ moved)
 
 pub length-range : (xs : List ℕ) (k n : ℕ) → k + n ≤ length xs → length (slice_range xs k (k + n)) ≡ n

@@ -21,7 +21,8 @@ before-nothing (Some xs) = refl
 
 -- what was given at last stands behind what was given before
 pub given_more : {left left' left'' : Option (List ℕ)} {first kept kept' : List ℕ} (given : List ℕ)
-    → HasGiven left left' first kept → left' ≡ before given left'' → kept' ≡ kept ++ given → HasGiven left left'' first kept'
+    → HasGiven left left' first kept → left' ≡ before given left'' → kept' ≡ kept ++ given
+    → HasGiven left left'' first kept'
 given_more {left'' = left''} {first = first} given h left_is kept_is = record {
   given = h.given ++ given;
   left_is = h.left_is ∙ ap (before h.given) left_is ∙ before-before h.given given left'';
@@ -32,4 +33,5 @@ given_more {left'' = left''} {first = first} given h left_is kept_is = record {
 pub cut_given : {left left' : Option (List ℕ)} {first kept : List ℕ} {fault : Type 0} {turn : Turn} {new : Cutter}
     → HasGiven left left' first kept → CutsKept kept turn new
     → (given : List ℕ) × (left ≡ before given left') × Cuts (first ++ given) left' fault turn new
-cut_given {turn = turn} {new = new} h cuts = (h.given, h.left_is, inl (subst (λ xs. CutsKept xs turn new) h.kept_is cuts))
+cut_given {turn = turn} {new = new} h cuts =
+    (h.given, h.left_is, inl (subst (λ xs. CutsKept xs turn new) h.kept_is cuts))

@@ -7,7 +7,8 @@ use Rattle.l2_io.specs.declared.lines.Stand.TheVariants.{Open, Long, End, ReadFa
 use Rattle.l2_io.specs.declared.lines.Turn.{Turn}
 use Rattle.l2_io.specs.declared.lines.Turn.TheVariants as turns
 
--- what cuts lines: the last line that it gave, the octets that it read behind that, the most octets of a line, and whether it is done
+-- what cuts lines: the last line that it gave, the octets that it read behind that, the most octets
+-- of a line, and whether it is done
 pub record Cutter : Type 0 where
   pub line : List ℕ
   pub kept : List ℕ
@@ -73,7 +74,8 @@ pub record CutsFault (all : List ℕ) (failed : Type 0) (answer : Turn) (new : C
 
 -- what an answer says of all octets that were read and not handed out before
 abbrev pub Cuts : List ℕ → Option (List ℕ) → Type 0 → Turn → Cutter → Type 0
-Cuts all left fault turn new = CutsKept all turn new ⊎ (CutsEnd all turn new × IsAtEnd left) ⊎ CutsFault all fault turn new
+Cuts all left fault turn new = CutsKept all turn new ⊎ (CutsEnd all turn new × IsAtEnd left)
+    ⊎ CutsFault all fault turn new
 
 -- the answer that stays
 abbrev pub stuck : Stand → Turn
@@ -83,8 +85,10 @@ stuck End = turns.End
 stuck ReadFault = turns.ReadFault
 
 -- an open cutter reads and cuts; one that is done answers the same again
-abbrev pub AdvancesAt : Stand → Cutter → Option (List ℕ) → Option (List ℕ) → Type 0 → Turn → Cutter → Type 0
-AdvancesAt Open old left left' fault turn new = (given : List ℕ) × (left ≡ before given left') × Cuts (old.kept ++ given) left' fault turn new
+abbrev pub AdvancesAt : Stand → Cutter → Option (List ℕ) → Option (List ℕ) → Type 0 → Turn
+    → Cutter → Type 0
+AdvancesAt Open old left left' fault turn new = (given : List ℕ) × (left ≡ before given left')
+    × Cuts (old.kept ++ given) left' fault turn new
 AdvancesAt stand old left left' fault turn new = (turn ≡ stuck stand) × (new ≡ old) × (left' ≡ left)
 
 -- what a call for the next line leaves, and what it takes from the source

@@ -1,5 +1,6 @@
 -- Lines and their line feeds (docs/formats/SCRIPT.md).
-use Rattle.std.specs.Prelude.{◌≡◌, ℕ, ◌<◌, ◌-◌, ◌+◌, ◌==◌, List, [], ◌∷◌, length, take, drop, slice_index, if◌then◌else◌}
+use Rattle.std.specs.Prelude.{◌≡◌, ℕ, ◌<◌, ◌-◌, ◌+◌, ◌==◌, List, [], ◌∷◌, length, take, drop}
+use Rattle.std.specs.Prelude.{slice_index, if◌then◌else◌}
 
 -- the octets before the first line feed
 abbrev pub until_feed : List ℕ → List ℕ

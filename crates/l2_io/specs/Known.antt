@@ -1,5 +1,6 @@
 -- What is known of the octets of a source and of a sink, and of their counts.
-use Rattle.std.specs.Prelude.{◌≡◌, ◌⊎◌, ℕ, ◌<◌, ◌≤◌, ◌-◌, ◌+◌, ◌^◌, List, [], ◌++◌, Option, None, Some, min}
+use Rattle.std.specs.Prelude.{◌≡◌, ◌⊎◌, ℕ, ◌<◌, ◌≤◌, ◌-◌, ◌+◌, ◌^◌, List, [], ◌++◌, Option, None}
+use Rattle.std.specs.Prelude.{Some, min}
 
 -- the octets left where some were given and these are left
 abbrev pub before : List ℕ → Option (List ℕ) → Option (List ℕ)

@@ -12,8 +12,8 @@ const PIECE: usize = 65_536;
 
 /// A sink that gathers what is put to it, so that a sink below takes it in large pieces.
 ///
-/// What it holds follows what the sink below has written. Its puts never fail but for want of memory, and only
-/// [`flush`](Self::flush) puts to the sink below.
+/// What it holds follows what the sink below has written. Its puts never fail but for want of
+/// memory, and only [`flush`](Self::flush) puts to the sink below.
 #[derive(Drop)]
 pub struct GatherSink {
     held: SureSink,
@@ -53,10 +53,12 @@ impl GatherSink {
 
     /// Puts all that is held to the sink below, in one piece, and nothing where nothing is held.
     ///
-    /// After `Failed` nothing is held either, since it isn't known what the sink below has written of it, and nothing
-    /// may be put twice. After `NoMemory` all is still held.
+    /// After `Failed` nothing is held either, since it isn't known what the sink below has written
+    /// of it, and nothing may be put twice. After `NoMemory` all is still held.
     pub fn flush<K: Sink>(&mut self, below: &mut K) -> Result<(), PutFault>
-        ensures put { (text : List ℕ) × Leaves self.old.octets (HasRisen (K.faults below.old) (K.faults below.new)) (HasRisen (K.shortages below.old) (K.shortages below.new)) text result
+        ensures put { (text : List ℕ)
+            × Leaves self.old.octets (HasRisen (K.faults below.old) (K.faults below.new))
+            (HasRisen (K.shortages below.old) (K.shortages below.new)) text result
             × (K.written below.new ≡ after (K.written below.old) text) }
         ensures held { self.new ≡ record self.old { octets = held_after self.old.octets result } }
         ensures empty { self.old.octets ≡ [] → IsOk result × (below.new ≡ below.old) }
@@ -82,7 +84,9 @@ impl Sink for GatherSink {
     ghost shortages = { λ g. g.shortages };
 
     fn put(&mut self, piece: &[u8]) -> Result<(), PutFault>
-        ensures put { (text : List ℕ) × Leaves piece.now (HasRisen 0 0) (HasRisen self.old.shortages self.new.shortages) text result
+        ensures put { (text : List ℕ)
+            × Leaves piece.now (HasRisen 0 0) (HasRisen self.old.shortages self.new.shortages) text
+            result
             × (Some self.new.octets ≡ after (Some self.old.octets) text) }
         ensures empty { piece.now ≡ [] → IsOk result }
         ensures count { 0 ≤ 0 }

@@ -1,4 +1,5 @@
-//! Where octets come from and go to: sources and sinks, the lines of a source, and output that is gathered.
+//! Where octets come from and go to: sources and sinks, the lines of a source, and output that is
+//! gathered.
 #![tactic(auto)]
 
 mod gather;

@@ -1,4 +1,5 @@
-ghost use Rattle.std.specs.Prelude.{◌≡◌, ◌<◌, ◌≤◌, ◌+◌, ◌^◌, ◌++◌, ℕ, List, [], Ok, false, length, take, drop, IfOk, OnErr, MatchOption, IsTrue, ◌↔◌, slice_range};
+ghost use Rattle.std.specs.Prelude.{◌≡◌, ◌<◌, ◌≤◌, ◌+◌, ◌^◌, ◌++◌, ℕ, List, [], Ok, false, length};
+ghost use Rattle.std.specs.Prelude.{take, drop, IfOk, OnErr, MatchOption, IsTrue, ◌↔◌, slice_range};
 ghost use Rattle.l2_io.specs.Known.{before, IsAtEnd, HasRisen};
 ghost use Rattle.l2_io.specs.Feeds.{from_feed, without_return, IsFeedAt};
 ghost use Rattle.l2_io.specs.Cutting.{Cutter, NeedsRead, Cuts, CutsKept, CutsEnd, Advances};
@@ -35,7 +36,8 @@ pub enum Turn {
     Long,
     /// The source has ended, and no octet is left.
     End,
-    /// The source failed, and what was read before has neither a further whole line nor too much of one.
+    /// The source failed, and what was read before has neither a further whole line nor too much of
+    /// one.
     ReadFault,
 }
 
@@ -92,7 +94,8 @@ fn fill<S: Source>(source: &mut S, buffer: &mut [u8], end: usize) -> Result<usiz
     requires { end + 4096 ≤ length buffer.old }
     ensures room { IfOk result (λ n. n ≤ 4096) }
     ensures front { take end buffer.new ≡ take end buffer.old }
-    ensures given { IfOk result (λ n. S.left source.old ≡ before (slice_range buffer.new end (end + n)) (S.left source.new)) }
+    ensures given { IfOk result (λ n. S.left source.old
+        ≡ before (slice_range buffer.new end (end + n)) (S.left source.new)) }
     ensures end { IfOk result (λ n. n ≡ 0 → IsAtEnd (S.left source.new)) }
     ensures left { OnErr result (S.left source.new ≡ S.left source.old) }
     ensures cause { OnErr result (HasRisen (S.faults source.old) (S.faults source.new)) }
@@ -105,7 +108,12 @@ impl Lines {
     /// Cuts lines of at most `longest` octets.
     pub fn new(alloc: Global, longest: u32) -> Result<Lines, NoMemory>
         requires { longest < 2 ^ 31 }
-        ensures { IfOk result (λ m. m ≡ record { line = []; kept = []; longest = longest; stand = Open }) }
+        ensures { IfOk result (λ m. m ≡ record {
+          line = [];
+          kept = [];
+          longest = longest;
+          stand = Open;
+        }) }
     {
         let longest = longest as usize;
         Ok(Lines {
@@ -127,7 +135,8 @@ impl Lines {
         (self.end - self.start) as u32
     }
 
-    /// Whether the next call of [`advance`](Self::advance) needs no read, so that it can't wait for input.
+    /// Whether the next call of [`advance`](Self::advance) needs no read, so that it can't wait for
+    /// input.
     pub fn has_line(&self) -> bool
         ensures { (result ≡ false) ↔ NeedsRead self.now }
     {
@@ -177,7 +186,10 @@ impl Lines {
     fn cut(&mut self, line: usize, all: usize)
         requires line { line ≤ all }
         requires all { all ≤ length self.old.kept }
-        ensures { self.new ≡ record self.old { line = take line self.old.kept; kept = drop all self.old.kept } }
+        ensures { self.new ≡ record self.old {
+          line = take line self.old.kept;
+          kept = drop all self.old.kept;
+        } }
     {
         self.line_start = self.start;
         self.line_end = self.start + line;
@@ -187,7 +199,8 @@ impl Lines {
     // Reads more octets.
     fn more<S: Source>(&mut self, source: &mut S) -> Result<usize, Failed>
         requires { length self.old.kept ≤ self.old.longest }
-        ensures given { IfOk result (λ n. (given : List ℕ) × (length given ≡ n) × (S.left source.old ≡ before given (S.left source.new))
+        ensures given { IfOk result (λ n. (given : List ℕ) × (length given ≡ n)
+            × (S.left source.old ≡ before given (S.left source.new))
             × (self.new ≡ record self.old { line = []; kept = self.old.kept ++ given })) }
         ensures end { IfOk result (λ n. n ≡ 0 → IsAtEnd (S.left source.new)) }
         ensures left { OnErr result (S.left source.new ≡ S.left source.old) }
@@ -210,7 +223,8 @@ impl Lines {
     // Cuts a line from what is kept, where a whole line or too much of one is there.
     fn cut_line(&mut self) -> Option<Turn>
         requires { self.old.stand ≡ Open }
-        ensures none { MatchOption result (NeedsRead self.old × (self.new ≡ self.old)) (λ turn. CutsKept self.old.kept turn self.new) }
+        ensures none { MatchOption result (NeedsRead self.old × (self.new ≡ self.old))
+            (λ turn. CutsKept self.old.kept turn self.new) }
         ensures longest { self.new.longest ≡ self.old.longest }
     {
         let kept = self.octets();
@@ -247,13 +261,15 @@ impl Lines {
         Turn::Line
     }
 
-    /// Cuts the next line, which [`line`](Self::line) then gives: without its line feed and a carriage return before
-    /// that. The last line may have no line feed, and then keeps a carriage return at its end. It takes no memory.
+    /// Cuts the next line, which [`line`](Self::line) then gives: without its line feed and a
+    /// carriage return before that. The last line may have no line feed, and then keeps a carriage
+    /// return at its end. It takes no memory.
     ///
-    /// It reads only where [`has_line`](Self::has_line) says no. After `Long`, `End` and `ReadFault` it answers the
-    /// same for good.
+    /// It reads only where [`has_line`](Self::has_line) says no. After `Long`, `End` and
+    /// `ReadFault` it answers the same for good.
     pub fn advance<S: Source>(&mut self, source: &mut S) -> Turn
-        ensures next { Advances self.old (S.left source.old) (S.left source.new) (HasRisen (S.faults source.old) (S.faults source.new)) result self.new }
+        ensures next { Advances self.old (S.left source.old) (S.left source.new)
+            (HasRisen (S.faults source.old) (S.faults source.new)) result self.new }
         ensures idle { (NeedsRead self.old → ⊥) → source.new ≡ source.old }
         ensures longest { self.new.longest ≡ self.old.longest }
         ensures count { S.faults source.old ≤ S.faults source.new }
@@ -275,7 +291,8 @@ impl Lines {
     fn read_on<S: Source>(&mut self, source: &mut S) -> Turn
         requires { NeedsRead self.old }
         ensures next { (given : List ℕ) × (S.left source.old ≡ before given (S.left source.new))
-            × Cuts (self.old.kept ++ given) (S.left source.new) (HasRisen (S.faults source.old) (S.faults source.new)) result self.new }
+            × Cuts (self.old.kept ++ given) (S.left source.new)
+            (HasRisen (S.faults source.old) (S.faults source.new)) result self.new }
         ensures longest { self.new.longest ≡ self.old.longest }
         ensures count { S.faults source.old ≤ S.faults source.new }
     {

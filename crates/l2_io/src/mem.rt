@@ -1,4 +1,5 @@
-ghost use Rattle.std.specs.Prelude.{◌≡◌, ◌↔◌, ◌+◌, ◌<◌, ◌≤◌, ℕ, Some, Err, List, [], length, take, drop, IfOk, IsOk, OnErr, IsErr, Contains, IsTrue};
+ghost use Rattle.std.specs.Prelude.{◌≡◌, ◌↔◌, ◌+◌, ◌<◌, ◌≤◌, ℕ, Some, Err, List, [], length, take};
+ghost use Rattle.std.specs.Prelude.{drop, IfOk, IsOk, OnErr, IsErr, Contains, IsTrue};
 ghost use Rattle.l2_io.specs.Known.{before, after, IsAtEnd, HasRisen};
 ghost use Rattle.l2_io.specs.Put.{Leaves};
 ghost use Rattle.l2_io.specs.Machines.{Giver, Taker, given_count, gave, gave_none, took, IsFailing};
@@ -27,13 +28,20 @@ impl Model for MemSource {
 
     ghost Value = { Giver };
 
-    ghost view = { λ m. record { octets = drop m.at m.octets; most = m.most; calls = m.calls; fails = m.fails.items; faults = m.faults } };
+    ghost view = { λ m. record {
+      octets = drop m.at m.octets;
+      most = m.most;
+      calls = m.calls;
+      fails = m.fails.items;
+      faults = m.faults;
+    } };
 
     ghost invariant = { λ m. (m.at ≤ length m.octets) × (0 < m.most) };
 }
 
 impl MemSource {
-    /// A source of these octets. One read gives at most `chunk` of them, and the reads with the numbers of `fail_at` fail.
+    /// A source of these octets. One read gives at most `chunk` of them, and the reads with the
+    /// numbers of `fail_at` fail.
     pub fn new(
         alloc: Global,
         octets: &[u8],
@@ -41,7 +49,13 @@ impl MemSource {
         fail_at: &[u32],
     ) -> Result<MemSource, NoMemory>
         requires { 0 < chunk }
-        ensures { IfOk result (λ m. m ≡ record { octets = octets.now; most = chunk; calls = 0; fails = fail_at.now; faults = 0 }) }
+        ensures { IfOk result (λ m. m ≡ record {
+          octets = octets.now;
+          most = chunk;
+          calls = 0;
+          fails = fail_at.now;
+          faults = 0;
+        }) }
     {
         Ok(MemSource {
             octets: Bytes::from_slice(alloc, octets)?,
@@ -68,7 +82,8 @@ impl Source for MemSource {
     fn read(&mut self, into: &mut [u8]) -> Result<usize, Failed>
         requires { 0 < length into.old }
         ensures bound { IfOk result (λ n. n ≤ length into.new) }
-        ensures given { IfOk result (λ n. Some self.old.octets ≡ before (take n into.new) (Some self.new.octets)) }
+        ensures given { IfOk result (λ n. Some self.old.octets
+            ≡ before (take n into.new) (Some self.new.octets)) }
         ensures end { IfOk result (λ n. n ≡ 0 → IsAtEnd (Some self.new.octets)) }
         ensures kept { OnErr result (Some self.new.octets ≡ Some self.old.octets) }
         ensures cause { OnErr result (HasRisen self.old.faults self.new.faults) }
@@ -77,7 +92,9 @@ impl Source for MemSource {
         // Just the listed reads fail.
         ensures fails { IsErr result ↔ Contains self.old.fails self.old.calls }
         ensures failed { OnErr result (self.new ≡ gave_none self.old) }
-        ensures read { IfOk result (λ n. (n ≡ given_count self.old.octets self.old.most (length into.old)) × (self.new ≡ gave self.old n)) }
+        ensures read { IfOk result
+            (λ n. (n ≡ given_count self.old.octets self.old.most (length into.old))
+            × (self.new ≡ gave self.old n)) }
     {
         let call = self.calls;
         self.calls = call.saturating_add(1);
@@ -106,14 +123,26 @@ impl Model for MemSink {
 
     ghost Value = { Taker };
 
-    ghost view = { λ m. record { octets = m.octets; calls = m.calls; fails = m.fails.items; faults = m.faults; shortages = m.shortages } };
+    ghost view = { λ m. record {
+      octets = m.octets;
+      calls = m.calls;
+      fails = m.fails.items;
+      faults = m.faults;
+      shortages = m.shortages;
+    } };
 }
 
 impl MemSink {
-    /// A sink with nothing written. The puts with the numbers of `fail_at` fail, but for those of an empty piece, and
-    /// write nothing.
+    /// A sink with nothing written. The puts with the numbers of `fail_at` fail, but for those of
+    /// an empty piece, and write nothing.
     pub fn new(alloc: Global, fail_at: &[u32]) -> Result<MemSink, NoMemory>
-        ensures { IfOk result (λ m. m ≡ record { octets = []; calls = 0; fails = fail_at.now; faults = 0; shortages = 0 }) }
+        ensures { IfOk result (λ m. m ≡ record {
+          octets = [];
+          calls = 0;
+          fails = fail_at.now;
+          faults = 0;
+          shortages = 0;
+        }) }
     {
         Ok(MemSink {
             octets: Bytes::new(alloc),
@@ -140,7 +169,9 @@ impl Sink for MemSink {
     ghost shortages = { λ m. m.shortages };
 
     fn put(&mut self, piece: &[u8]) -> Result<(), PutFault>
-        ensures put { (text : List ℕ) × Leaves piece.now (HasRisen self.old.faults self.new.faults) (HasRisen self.old.shortages self.new.shortages) text result
+        ensures put { (text : List ℕ)
+            × Leaves piece.now (HasRisen self.old.faults self.new.faults)
+            (HasRisen self.old.shortages self.new.shortages) text result
             × (Some self.new.octets ≡ after (Some self.old.octets) text) }
         ensures empty { piece.now ≡ [] → IsOk result }
         ensures count { self.old.faults ≤ self.new.faults }

@@ -10,7 +10,8 @@ pub trait Source {
     /// The octets left, where they are known.
     ghost left: { Self → Option (List ℕ) };
 
-    /// How often it has failed. The count never falls, and where it stands at 2^64 - 1 it is read as having risen.
+    /// How often it has failed. The count never falls, and where it stands at 2^64 - 1 it is read
+    /// as having risen.
     ghost faults: { Self → ℕ };
 
     /// Gives some of the octets left, and tells how many. `Ok(0)` is the end. A fault takes none.
@@ -23,7 +24,8 @@ pub trait Source {
         ensures cause { OnErr result (HasRisen (faults self.old) (faults self.new)) }
         ensures count { faults self.old ≤ faults self.new };
 
-    /// Whether octets are at hand, so that the next read waits for nothing. A source that doesn't know says no.
+    /// Whether octets are at hand, so that the next read waits for nothing. A source that doesn't
+    /// know says no.
     fn is_ready(&self) -> bool {
         false
     }

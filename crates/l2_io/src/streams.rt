@@ -44,8 +44,8 @@ impl<R: Read + Drop> Source for StdSource<R> {
     }
 }
 
-/// A source over a reader that is read ahead, in pieces of a fixed size. Of its octets nothing is known, but whether some
-/// are at hand.
+/// A source over a reader that is read ahead, in pieces of a fixed size. Of its octets nothing is
+/// known, but whether some are at hand.
 #[derive(Drop)]
 pub struct AheadSource<R> {
     source: StdSource<BufReader<R>>,
@@ -60,7 +60,8 @@ impl<R> Model for AheadSource<R> {
 }
 
 impl<R: Read + Drop> AheadSource<R> {
-    /// A source that reads at most `piece` octets of the reader at a time, into a buffer of that size.
+    /// A source that reads at most `piece` octets of the reader at a time, into a buffer of that
+    /// size.
     pub fn new(alloc: Global, piece: usize, inner: R) -> Result<AheadSource<R>, NoMemory>
         ensures { IfOk result (λ s. s ≡ 0) }
     {
@@ -120,7 +121,8 @@ impl<W> Model for StdSink<W> {
 }
 
 impl<W: Write + Drop> StdSink<W> {
-    /// A sink that hands each piece to the writer. A writer that takes nothing of a piece has failed.
+    /// A sink that hands each piece to the writer. A writer that takes nothing of a piece has
+    /// failed.
     pub fn new(inner: W) -> StdSink<W>
         ensures { result ≡ 0 }
     {

@@ -1,4 +1,5 @@
-ghost use Rattle.std.specs.Prelude.{◌≡◌, ◌≢◌, ◌<◌, ◌≤◌, ℕ, Some, Err, List, [], length, take, drop, IfOk, IsOk, OnErr};
+ghost use Rattle.std.specs.Prelude.{◌≡◌, ◌≢◌, ◌<◌, ◌≤◌, ℕ, Some, Err, List, [], length, take, drop};
+ghost use Rattle.std.specs.Prelude.{IfOk, IsOk, OnErr};
 ghost use Rattle.l2_io.specs.Known.{before, after, IsAtEnd, HasRisen};
 ghost use Rattle.l2_io.specs.Put.{Leaves};
 ghost use Rattle.l2_io.specs.Machines.{Keeper, kept, given_count};
@@ -51,13 +52,16 @@ impl Source for SureSource {
     fn read(&mut self, into: &mut [u8]) -> Result<usize, Failed>
         requires { 0 < length into.old }
         ensures bound { IfOk result (λ n. n ≤ length into.new) }
-        ensures given { IfOk result (λ n. Some self.old.octets ≡ before (take n into.new) (Some self.new.octets)) }
+        ensures given { IfOk result (λ n. Some self.old.octets
+            ≡ before (take n into.new) (Some self.new.octets)) }
         ensures end { IfOk result (λ n. n ≡ 0 → IsAtEnd (Some self.new.octets)) }
         ensures kept { OnErr result (Some self.new.octets ≡ Some self.old.octets) }
         ensures cause { OnErr result (HasRisen 0 0) }
         ensures count { 0 ≤ 0 }
         ensures fails { IsOk result }
-        ensures read { IfOk result (λ n. (n ≡ given_count self.old.octets self.old.most (length into.old)) × (self.new ≡ record self.old { octets = drop n self.old.octets })) }
+        ensures read { IfOk result
+            (λ n. (n ≡ given_count self.old.octets self.old.most (length into.old))
+            × (self.new ≡ record self.old { octets = drop n self.old.octets })) }
     {
         let count = give(self.octets.as_slice(), self.at, self.most, into);
         self.at += count;
@@ -114,7 +118,9 @@ impl Sink for SureSink {
     ghost shortages = { λ s. s.shortages };
 
     fn put(&mut self, piece: &[u8]) -> Result<(), PutFault>
-        ensures put { (text : List ℕ) × Leaves piece.now (HasRisen 0 0) (HasRisen self.old.shortages self.new.shortages) text result
+        ensures put { (text : List ℕ)
+            × Leaves piece.now (HasRisen 0 0) (HasRisen self.old.shortages self.new.shortages) text
+            result
             × (Some self.new.octets ≡ after (Some self.old.octets) text) }
         ensures empty { piece.now ≡ [] → IsOk result }
         ensures count { 0 ≤ 0 }

@@ -16,6 +16,7 @@ by_order Unseen p grant h e = unseen p.held grant e
 by_order Free p grant h e = h
 by_order (Grant ndi) p grant h e = h
 
-pub new_enough : (order : Order) (s : Sending) (tti grant : ℕ) → IsEnough order grant → visit_answer s tti order ≡ New → 1 ≤ grant
+pub new_enough : (order : Order) (s : Sending) (tti grant : ℕ) → IsEnough order grant → visit_answer s tti order ≡ New
+    → 1 ≤ grant
 unfolding visit_answer
 new_enough order s tti grant h e = by_order order (process_at s tti) grant h e

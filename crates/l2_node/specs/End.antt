@@ -11,8 +11,9 @@ use Rattle.prioritise.specs.Channels.{has as has_channel}
 use Rattle.prioritise.specs.Shares.{Bucketed, no_channels, added, emptied}
 use Rattle.l2_node.specs.Finding.{Numbers, place}
 
--- the bearers by ascending LCID; the channels' buckets; the HARQ processes of what is sent and of what comes; the numbers in
--- the last block of each process that sends; and whether buffers are reported in padding
+-- the bearers by ascending LCID; the channels' buckets; the HARQ processes of what is sent and of
+-- what comes; the numbers in the last block of each process that sends; and whether buffers are
+-- reported in padding
 pub record End : Type 0 where
   pub side : Side
   pub reports : Bool
@@ -59,9 +60,14 @@ reset e = record e {
 
 -- another number of visits of a block: the processes are empty
 unfoldable pub with_visits : ℕ → End → End
-with_visits maximum e = record e { sender = fresh_sender maximum; receiver = fresh_receiver maximum; numbers = no_numbers }
+with_visits maximum e = record e {
+  sender = fresh_sender maximum;
+  receiver = fresh_receiver maximum;
+  numbers = no_numbers;
+}
 
--- an end that has joined a cell; one that ran out of memory answers so from then on to each call that can
+-- an end that has joined a cell; one that ran out of memory answers so from then on to each call
+-- that can
 pub record Attached : Type 0 where
   pub end : End
   pub dead : Bool

@@ -1,5 +1,6 @@
 -- Bearers by their LCID, and the numbers that HARQ processes hold (TS 36.321 5.4.2, 6.2.1).
-use Rattle.std.specs.Prelude.{ℕ, ◌+◌, Bool, nat_lt, ◌==◌, if◌then◌else◌, Option, Some, None, List, [], ◌∷◌, length, slice_index_or}
+use Rattle.std.specs.Prelude.{ℕ, ◌+◌, Bool, nat_lt, ◌==◌, if◌then◌else◌, Option, Some, None, List}
+use Rattle.std.specs.Prelude.{[], ◌∷◌, length, slice_index_or}
 use Rattle.bearer.specs.Bearer.{Of, of, Life, alive}
 use Rattle.bearer.specs.declared.flow.Flow.TheVariants.{Tm}
 use Rattle.rlc_um.specs.Transparent.{nothing_submitted}
@@ -41,11 +42,14 @@ counted None number = None
 counted (Some block) number = number
 
 abbrev pub number_at : Sending → Numbers → ℕ → ℕ → Option ℕ
-number_at sender numbers lcid process = counted (held_of sender process) (slice_index_or (slice_index_or numbers process []) lcid None)
+number_at sender numbers lcid process =
+    counted (held_of sender process)
+    (slice_index_or (slice_index_or numbers process []) lcid None)
 
 abbrev pub lowest_of : Sending → Numbers → ℕ → List ℕ → Option ℕ → Option ℕ
 lowest_of sender numbers lcid [] found = found
-lowest_of sender numbers lcid (p ∷ ps) found = lowest_of sender numbers lcid ps (lower found (number_at sender numbers lcid p))
+lowest_of sender numbers lcid (p ∷ ps) found =
+    lowest_of sender numbers lcid ps (lower found (number_at sender numbers lcid p))
 
 -- the lowest number of a bearer that a process holds
 unfoldable pub lowest : Sending → Numbers → ℕ → Option ℕ

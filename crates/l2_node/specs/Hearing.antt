@@ -1,7 +1,9 @@
 -- A block comes, a TTI begins, a timer expires.
-use Rattle.std.specs.Prelude.{ℕ, ◌+◌, if◌then◌else◌, Option, Result, Ok, Err, List, [], ◌∷◌, ◌++◌, slice_set}
+use Rattle.std.specs.Prelude.{ℕ, ◌+◌, if◌then◌else◌, Option, Result, Ok, Err, List, [], ◌∷◌, ◌++◌}
+use Rattle.std.specs.Prelude.{slice_set}
 use Rattle.bearer.specs.Bearer.{Of, of, Life, alive}
-use Rattle.bearer.specs.Hearing.{arriving, arrived, ticking, ticked as flow_ticked, expiry as flow_expiry, expired as flow_expired}
+use Rattle.bearer.specs.Hearing.{arriving, arrived, ticking, ticked as flow_ticked}
+use Rattle.bearer.specs.Hearing.{expiry as flow_expiry, expired as flow_expired}
 use Rattle.bearer_types.specs.declared.event.Event.{Event}
 use Rattle.bearer_types.specs.declared.event.Event.TheVariants.{BadMac, Drop}
 use Rattle.l2_types.specs.declared.event.Clock.{Clock}
@@ -25,11 +27,14 @@ heard bearers events = record { bearers = bearers; events = events }
 
 -- a PDU goes to the bearer at a place
 abbrev pub arrives_at : ℕ → Of Life → List ℕ → Heard → Heard
-arrives_at at b pdu h = heard (slice_set h.bearers at (of b.lcid (alive (arrived b.state.flow pdu)))) (h.events ++ arriving b.lcid b.state.flow pdu)
+arrives_at at b pdu h =
+    heard (slice_set h.bearers at (of b.lcid (alive (arrived b.state.flow pdu))))
+    (h.events ++ arriving b.lcid b.state.flow pdu)
 
 abbrev pub hears_sdu : ℕ → List ℕ → Heard → Heard
 hears_sdu lcid pdu h =
-    if has lcid h.bearers then arrives_at (find lcid h.bearers) (bearer_at h.bearers (find lcid h.bearers)) pdu h
+    if has lcid h.bearers then arrives_at (find lcid h.bearers)
+    (bearer_at h.bearers (find lcid h.bearers)) pdu h
     else heard h.bearers (h.events ++ Drop lcid NoBearer ∷ [])
 
 -- of a block's items only SDUs are used
@@ -54,7 +59,9 @@ received e block = heard_items (reading (heard_by e.side) block) (heard e.bearer
 -- ---- a TTI begins
 
 abbrev pub tells : ℕ → Of Life → Heard → Heard
-tells at b h = heard (slice_set h.bearers at (of b.lcid (alive (flow_ticked b.state.flow)))) (h.events ++ ticking b.state.flow)
+tells at b h =
+    heard (slice_set h.bearers at (of b.lcid (alive (flow_ticked b.state.flow))))
+    (h.events ++ ticking b.state.flow)
 
 -- the bearer at a place ticks
 abbrev pub ticks_at : ℕ → Heard → Heard
@@ -81,4 +88,6 @@ unfoldable pub expiry : ℕ → Clock → End → Option (List Event)
 expiry lcid clock e = flow_expiry (bearer_of lcid e).state.flow clock
 
 unfoldable pub expired : ℕ → Clock → End → End
-expired lcid clock e = with_bearer_of lcid (of (bearer_of lcid e).lcid (alive (flow_expired (bearer_of lcid e).state.flow clock))) e
+expired lcid clock e =
+    with_bearer_of lcid
+    (of (bearer_of lcid e).lcid (alive (flow_expired (bearer_of lcid e).state.flow clock))) e

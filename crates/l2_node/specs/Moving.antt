@@ -27,7 +27,11 @@ all_restarted (p ∷ ps) keys = of p.lcid (alive (restarted p.state keys)) ∷ a
 
 -- each bearer is stopped, in turn, and MAC is reset
 unfoldable pub left_cell : End → Moving
-left_cell e = record { end = reset (record e { bearers = [] }); packages = all_stopped e.bearers; dead = false }
+left_cell e = record {
+  end = reset (record e { bearers = [] });
+  packages = all_stopped e.bearers;
+  dead = false;
+}
 
 -- what that tells
 unfoldable pub leaving : End → List Event

@@ -107,7 +107,9 @@ impl End {
         requires plain { builder.controls ≡ [] }
         requires room { taken_up builder.sdus ≤ grant + 2 }
         ensures size { IfOk result (λ octets. length octets ≡ grant) }
-        ensures block { IfOk result (λ octets. octets ≡ filled self.now.side self.now.reports self.now.bearers self.now.buckets.channels grant builder) }
+        ensures block { IfOk result (λ octets. octets
+            ≡ filled self.now.side self.now.reports self.now.bearers self.now.buckets.channels grant
+            builder) }
     {
         let padding = grant.saturating_sub(builder.least());
         let report = padding_report(

@@ -34,7 +34,15 @@ impl Model for End {
 
     ghost Value = { Machine };
 
-    ghost view = { λ e. record { side = e.side; reports = e.reports; bearers = e.bearers.items; buckets = e.buckets; sender = e.sender; receiver = e.receiver; numbers = e.numbers.rows } };
+    ghost view = { λ e. record {
+      side = e.side;
+      reports = e.reports;
+      bearers = e.bearers.items;
+      buckets = e.buckets;
+      sender = e.sender;
+      receiver = e.receiver;
+      numbers = e.numbers.rows;
+    } };
 }
 
 impl End {

@@ -1,10 +1,12 @@
 // A block comes, a TTI begins, a timer expires, an SDU is submitted.
-ghost use Rattle.std.specs.Prelude.{◌≡◌, ◌<◌, ◌^◌, ◌+◌, ◌++◌, ℕ, None, Err, true, length, IfOk, IfErr, OnOk, OnErr, IsTrue};
+ghost use Rattle.std.specs.Prelude.{◌≡◌, ◌<◌, ◌^◌, ◌+◌, ◌++◌, ℕ, None, Err, true, length, IfOk};
+ghost use Rattle.std.specs.Prelude.{IfErr, OnOk, OnErr, IsTrue};
 ghost use Rattle.bearer_pdcp.specs.Submitting.{Answers, StaysOrDies};
 ghost use Rattle.l2_node.specs.End.{End as Machine};
 ghost use Rattle.bearer_types.specs.Sides.{heard_by};
 ghost use Rattle.l2_node.specs.Finding.{has};
-ghost use Rattle.l2_node.specs.Hearing.{Heard, heard, hears, hears_sdu, hears_all, heard_items, received, ticks_at, ticks_over, ticked, expiry, expired};
+ghost use Rattle.l2_node.specs.Hearing.{Heard, heard, hears, hears_sdu, hears_all, heard_items};
+ghost use Rattle.l2_node.specs.Hearing.{received, ticks_at, ticks_over, ticked, expiry, expired};
 ghost use Rattle.mac_pdu.specs.Views.{item_in, IsShort};
 
 use crate::end::End;
@@ -14,11 +16,13 @@ use l2_bits::NoMemory;
 use mac_pdu::{Direction, Item, MacReader};
 
 impl End {
-    // A block comes, and each of its SDUs goes to its bearer. Of one that can't be read nothing is used.
+    // A block comes, and each of its SDUs goes to its bearer. Of one that can't be read nothing is
+    // used.
     #[tactic(auto, unfolding(crate::specs::Hearing::received))]
     pub fn receive(&mut self, block: &[u8]) -> Result<Events, NoMemory>
         requires { length block.now < 2 ^ 28 }
-        ensures end { OnOk result (self.new ≡ record self.old { bearers = (received self.old block.now).bearers }) }
+        ensures end { OnOk result
+            (self.new ≡ record self.old { bearers = (received self.old block.now).bearers }) }
         ensures events { IfOk result (λ events. events ≡ (received self.old block.now).events) }
     {
         let mut events = Events::new(self.alloc);
@@ -32,7 +36,8 @@ impl End {
     // A TTI begins.
     #[tactic(auto, unfolding(crate::specs::Hearing::ticked))]
     pub fn tick(&mut self) -> Result<Events, NoMemory>
-        ensures end { OnOk result (self.new ≡ record self.old { bearers = (ticked self.old).bearers }) }
+        ensures end { OnOk result
+            (self.new ≡ record self.old { bearers = (ticked self.old).bearers }) }
         ensures events { IfOk result (λ events. events ≡ (ticked self.old).events) }
     {
         let mut events = Events::new(self.alloc);
@@ -69,8 +74,10 @@ fn hear_all(
     mut reader: MacReader<'_>,
     events: &mut Events,
 ) -> Result<(), NoMemory>
-    ensures bearers { OnOk result (bearers.new.items ≡ (hears_all reader.entry (heard bearers.old.items events.old)).bearers) }
-    ensures events { OnOk result (events.new ≡ (hears_all reader.entry (heard bearers.old.items events.old)).events) }
+    ensures bearers { OnOk result (bearers.new.items
+        ≡ (hears_all reader.entry (heard bearers.old.items events.old)).bearers) }
+    ensures events { OnOk result
+        (events.new ≡ (hears_all reader.entry (heard bearers.old.items events.old)).events) }
 {
     while let Some(item) = reader.next() {
         hear(bearers, &item, events)?;
@@ -85,8 +92,10 @@ fn hear(
     events: &mut Events,
 ) -> Result<(), NoMemory>
     requires { IsShort (item_in item.now) }
-    ensures bearers { OnOk result (bearers.new.items ≡ (hears (item_in item.now) (heard bearers.old.items events.old)).bearers) }
-    ensures events { OnOk result (events.new ≡ (hears (item_in item.now) (heard bearers.old.items events.old)).events) }
+    ensures bearers { OnOk result (bearers.new.items
+        ≡ (hears (item_in item.now) (heard bearers.old.items events.old)).bearers) }
+    ensures events { OnOk result
+        (events.new ≡ (hears (item_in item.now) (heard bearers.old.items events.old)).events) }
 {
     match item {
         Item::Sdu { lcid, octets } => hear_sdu(bearers, *lcid, octets, events),
@@ -103,8 +112,10 @@ fn hear_sdu(
     events: &mut Events,
 ) -> Result<(), NoMemory>
     requires { length octets.now < 2 ^ 28 }
-    ensures bearers { OnOk result (bearers.new.items ≡ (hears_sdu lcid octets.now (heard bearers.old.items events.old)).bearers) }
-    ensures events { OnOk result (events.new ≡ (hears_sdu lcid octets.now (heard bearers.old.items events.old)).events) }
+    ensures bearers { OnOk result (bearers.new.items
+        ≡ (hears_sdu lcid octets.now (heard bearers.old.items events.old)).bearers) }
+    ensures events { OnOk result
+        (events.new ≡ (hears_sdu lcid octets.now (heard bearers.old.items events.old)).events) }
 {
     let at = find(lcid, bearers.as_slice());
     if at < bearers.len() {
@@ -120,8 +131,10 @@ fn hear_sdu(
 
 #[tactic(auto, using(crate::proofs::Ticks::ticks_next))]
 fn tick_all(bearers: &mut Vec<Bearer<Running>>, events: &mut Events) -> Result<(), NoMemory>
-    ensures bearers { OnOk result (bearers.new.items ≡ (ticks_over bearers.old.items 0 (heard bearers.old.items events.old)).bearers) }
-    ensures events { OnOk result (events.new ≡ (ticks_over bearers.old.items 0 (heard bearers.old.items events.old)).events) }
+    ensures bearers { OnOk result (bearers.new.items
+        ≡ (ticks_over bearers.old.items 0 (heard bearers.old.items events.old)).bearers) }
+    ensures events { OnOk result
+        (events.new ≡ (ticks_over bearers.old.items 0 (heard bearers.old.items events.old)).events) }
 {
     let count = bearers.len();
     for at in 0..count {
@@ -136,8 +149,10 @@ fn tick_one(
     events: &mut Events,
 ) -> Result<(), NoMemory>
     requires { at < length bearers.old.items }
-    ensures bearers { OnOk result (bearers.new.items ≡ (ticks_at at (heard bearers.old.items events.old)).bearers) }
-    ensures events { OnOk result (events.new ≡ (ticks_at at (heard bearers.old.items events.old)).events) }
+    ensures bearers { OnOk result (bearers.new.items
+        ≡ (ticks_at at (heard bearers.old.items events.old)).bearers) }
+    ensures events { OnOk result
+        (events.new ≡ (ticks_at at (heard bearers.old.items events.old)).events) }
     ensures len { OnOk result (length bearers.new.items ≡ length bearers.old.items) }
 {
     let bearer = &mut bearers[at];

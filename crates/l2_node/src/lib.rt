@@ -1,5 +1,6 @@
-//! One end of the link: the bearers of a terminal or of a base station under one MAC entity (TS 36.321), with its states as
-//! types. An attached one sends and hears blocks; a moving one, between two cells, can only join or be abandoned.
+//! One end of the link: the bearers of a terminal or of a base station under one MAC entity (TS
+//! 36.321), with its states as types. An attached one sends and hears blocks; a moving one, between
+//! two cells, can only join or be abandoned.
 //!
 //! Contracts speak of an exact machine, which stands in `specs/`.
 #![tactic(auto)]

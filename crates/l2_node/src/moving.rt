@@ -2,7 +2,8 @@
 ghost use Rattle.std.specs.Prelude.{◌≡◌, ◌++◌, ◌∷◌, [], ℕ, length, IfOk, IfErr, OnOk};
 ghost use Rattle.bearer.specs.Bearer.{of, alive};
 ghost use Rattle.bearer.specs.Lives.{stopped, stopping, restarted};
-ghost use Rattle.l2_node.specs.Moving.{left_cell, leaving, all_stopped, all_stopping, all_restarted};
+ghost use Rattle.l2_node.specs.Moving.{left_cell, leaving, all_stopped, all_stopping};
+ghost use Rattle.l2_node.specs.Moving.{all_restarted};
 
 use crate::end::End;
 use bearer::{Bearer, Events, Running};
@@ -35,7 +36,8 @@ fn stop_all(
     packages: &mut VecDeque<Package>,
     events: &mut Events,
 ) -> Result<(), NoMemory>
-    ensures packages { OnOk result (packages.new.items ≡ packages.old.items ++ all_stopped bearers.items) }
+    ensures packages { OnOk result (packages.new.items
+        ≡ packages.old.items ++ all_stopped bearers.items) }
     ensures events { OnOk result (events.new ≡ events.old ++ all_stopping bearers.items) }
 {
     for bearer in bearers {
@@ -49,7 +51,8 @@ fn stop_one(
     packages: &mut VecDeque<Package>,
     events: &mut Events,
 ) -> Result<(), NoMemory>
-    ensures packages { OnOk result (packages.new.items ≡ packages.old.items ++ of bearer.lcid (stopped bearer.state.flow) ∷ []) }
+    ensures packages { OnOk result (packages.new.items
+        ≡ packages.old.items ++ of bearer.lcid (stopped bearer.state.flow) ∷ []) }
     ensures events { OnOk result (events.new ≡ events.old ++ stopping bearer.state.flow) }
 {
     match bearer.stop() {
@@ -70,7 +73,8 @@ pub(crate) fn accept_all(
     keys: &Keys,
     bearers: &mut Vec<Bearer<Running>>,
 ) -> Result<(), NoMemory>
-    ensures bearers { OnOk result (bearers.new.items ≡ bearers.old.items ++ all_restarted packages.old.items keys.now) }
+    ensures bearers { OnOk result (bearers.new.items
+        ≡ bearers.old.items ++ all_restarted packages.old.items keys.now) }
     ensures packages { OnOk result (packages.new.items ≡ []) }
 {
     while let Some(one) = packages.pop_front() {

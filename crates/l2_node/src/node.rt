@@ -1,8 +1,11 @@
-ghost use Rattle.std.specs.Prelude.{◌≡◌, ◌≤◌, ◌<◌, ◌^◌, None, Err, true, false, length, OnOk, OnErr, IfOk, IfErr, IsTrue, IsFalse, IsErr, IfSome, option_copied};
+ghost use Rattle.std.specs.Prelude.{◌≡◌, ◌≤◌, ◌<◌, ◌^◌, None, Err, true, false, length, OnOk};
+ghost use Rattle.std.specs.Prelude.{OnErr, IfOk, IfErr, IsTrue, IsFalse, IsErr, IfSome};
+ghost use Rattle.std.specs.Prelude.{option_copied};
 ghost use Rattle.bearer_pdcp.specs.Submitting.{Answers, StaysOrDies};
 ghost use Rattle.bearer_types.specs.Configs.{IsConfig};
 ghost use Rattle.harq.specs.Sending.{after_feedback, held_of, ndi_of};
-ghost use Rattle.harq.specs.Receiving.{after_assigned, assigned_answer, after_grant, grant_ndi, after_granted, arrived_answered, after_pass};
+ghost use Rattle.harq.specs.Receiving.{after_assigned, assigned_answer, after_grant, grant_ndi};
+ghost use Rattle.harq.specs.Receiving.{after_granted, arrived_answered, after_pass};
 ghost use Rattle.l2_bits.specs.declared.fault.SubmitRefusal.TheVariants as refusals;
 ghost use Rattle.l2_node.specs.Building.{IsEnough, visit, built, building};
 ghost use Rattle.l2_node.specs.End.{attached, fresh, with_bearer, with_visits};
@@ -31,7 +34,8 @@ use std::marker::Model;
 pub struct Built {
     /// Whether a new block was built, the held one is sent again, or nothing is sent.
     pub visit: Visit,
-    /// The NDI of the process then: of its last block on the downlink, the last one seen on the uplink.
+    /// The NDI of the process then: of its last block on the downlink, the last one seen on the
+    /// uplink.
     pub ndi: bool,
     /// What the bearers tell of a new block, in the order in which they write.
     pub events: Events,
@@ -69,7 +73,8 @@ impl Model for Moving {
 
 /// One end of the link. `S` is `Attached` in a cell, and `Moving` between two.
 ///
-/// TTIs are counted from 0. Where memory runs out in a call, the node answers `NoMemory` from then on to each call that can.
+/// TTIs are counted from 0. Where memory runs out in a call, the node answers `NoMemory` from then
+/// on to each call that can.
 pub struct Node<S> {
     state: S,
 }
@@ -87,8 +92,8 @@ impl<S: Drop> Drop for Node<S> {
 }
 
 impl Node<Attached> {
-    /// A node without bearers. A HARQ process has 1 to 28 visits for a block; `reports` says whether a terminal reports its
-    /// buffers in padding. It takes no memory.
+    /// A node without bearers. A HARQ process has 1 to 28 visits for a block; `reports` says
+    /// whether a terminal reports its buffers in padding. It takes no memory.
     pub fn new(alloc: Global, side: Side, harq: u32, reports: bool) -> Node<Attached>
         ensures { result ≡ attached (fresh side harq reports) }
     {
@@ -118,7 +123,8 @@ impl Node<Attached> {
     pub fn add(&mut self, config: &BearerConfig, keys: &Keys) -> Result<(), NoMemory>
         requires config { IsConfig config.now }
         requires new { has config.now.channel.lcid self.old.end.bearers ≡ false }
-        ensures node { OnOk result (self.new ≡ attached (with_bearer config.now keys.now self.old.end)) }
+        ensures node { OnOk result
+            (self.new ≡ attached (with_bearer config.now keys.now self.old.end)) }
         ensures dead { IsTrue self.old.dead → IsErr result }
         ensures err { OnErr result (IsTrue self.new.dead) }
     {
@@ -146,8 +152,8 @@ impl Node<Attached> {
 
     /// Submits a copy of an SDU of 1 to 8188 octets to a bearer that is there.
     ///
-    /// Refused are, in this order: no octets, more than 8188 octets, any SDU where 1024 wait, and any where its COUNT would
-    /// be 2^32. A refusal other than `NoMemory` changes nothing.
+    /// Refused are, in this order: no octets, more than 8188 octets, any SDU where 1024 wait, and
+    /// any where its COUNT would be 2^32. A refusal other than `NoMemory` changes nothing.
     pub fn submit(&mut self, lcid: u8, sdu: &[u8]) -> Result<(), SubmitRefusal>
         requires { has lcid self.old.end.bearers ≡ true }
         ensures fits { OnOk result (refusal lcid sdu.now self.old.end ≡ None) }
@@ -174,9 +180,11 @@ impl Node<Attached> {
         self.state.end.set_discard(lcid, ttis)
     }
 
-    /// A TTI begins: timers may expire, bearer by bearer in ascending LCID, each as `Bearer::tick` says.
+    /// A TTI begins: timers may expire, bearer by bearer in ascending LCID, each as `Bearer::tick`
+    /// says.
     pub fn tick(&mut self) -> Result<Events, NoMemory>
-        ensures node { OnOk result (self.new ≡ attached (record self.old.end { bearers = (ticked self.old.end).bearers })) }
+        ensures node { OnOk result
+            (self.new ≡ attached (record self.old.end { bearers = (ticked self.old.end).bearers })) }
         ensures told { IfOk result (λ events. events ≡ (ticked self.old.end).events) }
         ensures dead { IsTrue self.old.dead → IsErr result }
         ensures err { OnErr result (IsTrue self.new.dead) }
@@ -191,22 +199,27 @@ impl Node<Attached> {
 
     /// A TTI begins: the buckets of the logical channels grow (TS 36.321 5.4.3.1).
     pub fn tick_buckets(&mut self)
-        ensures { self.new ≡ record self.old { end = record self.old.end { buckets = grown self.old.end.buckets } } }
+        ensures { self.new ≡ record self.old {
+          end =
+              record self.old.end { buckets = grown self.old.end.buckets };
+        } }
     {
         self.state.end.buckets.tick();
     }
 
-    /// Visits the sending process of a TTI. Where it needs a new block, one is built of the grant's size, up to 9422 octets.
+    /// Visits the sending process of a TTI. Where it needs a new block, one is built of the grant's
+    /// size, up to 9422 octets.
     ///
-    /// Each bearer writes within its share, in the order of priority: a STATUS that is due, and at most one data PDU. Then a
-    /// terminal that reports adds a report of what is left, if the padding has room for one. A grant for which a new block may
-    /// be built has an octet or more.
+    /// Each bearer writes within its share, in the order of priority: a STATUS that is due, and at
+    /// most one data PDU. Then a terminal that reports adds a report of what is left, if the
+    /// padding has room for one. A grant for which a new block may be built has an octet or more.
     pub fn build(&mut self, tti: u64, grant: u32, order: Order) -> Result<Built, NoMemory>
         requires grant { grant ≤ GREATEST_GRANT }
         requires some { IsEnough order grant }
         ensures node { OnOk result (self.new ≡ attached (built tti grant order self.old.end)) }
         ensures visit { IfOk result (λ b. b.visit ≡ visit tti order self.old.end) }
-        ensures ndi { IfOk result (λ b. b.ndi ≡ ndi_of (built tti grant order self.old.end).sender tti) }
+        ensures ndi { IfOk result
+            (λ b. b.ndi ≡ ndi_of (built tti grant order self.old.end).sender tti) }
         ensures told { IfOk result (λ b. b.events ≡ building tti grant order self.old.end) }
         ensures dead { IsTrue self.old.dead → IsErr result }
         ensures err { OnErr result (IsTrue self.new.dead) }
@@ -230,14 +243,20 @@ impl Node<Attached> {
 
     /// Feedback on what was sent in a TTI, as the sender reads it.
     pub fn feedback(&mut self, tti: u64, good: bool)
-        ensures { self.new ≡ record self.old { end = record self.old.end { sender = after_feedback self.old.end.sender tti good } } }
+        ensures { self.new ≡ record self.old {
+          end =
+              record self.old.end { sender = after_feedback self.old.end.sender tti good };
+        } }
     {
         self.state.end.sender.feedback(tti, good);
     }
 
     /// Grants the uplink of a TTI, and answers the NDI of the grant.
     pub fn grant(&mut self, tti: u64) -> bool
-        ensures node { self.new ≡ record self.old { end = record self.old.end { receiver = after_grant self.old.end.receiver tti } } }
+        ensures node { self.new ≡ record self.old {
+          end =
+              record self.old.end { receiver = after_grant self.old.end.receiver tti };
+        } }
         ensures ndi { result ≡ grant_ndi self.old.end.receiver tti }
     {
         self.state.end.receiver.grant(tti)
@@ -245,7 +264,10 @@ impl Node<Attached> {
 
     /// What came by the grant of a TTI: an intact block, a damaged one or nothing.
     pub fn granted(&mut self, tti: u64, good: Option<bool>) -> Answer
-        ensures node { self.new ≡ record self.old { end = record self.old.end { receiver = after_granted self.old.end.receiver tti good } } }
+        ensures node { self.new ≡ record self.old {
+          end =
+              record self.old.end { receiver = after_granted self.old.end.receiver tti good };
+        } }
         ensures answer { result ≡ arrived_answered good }
     {
         self.state.end.receiver.granted(tti, good)
@@ -253,7 +275,10 @@ impl Node<Attached> {
 
     /// A block of the downlink is seen, with its NDI, intact or damaged.
     pub fn assigned(&mut self, tti: u64, ndi: bool, good: bool) -> Answer
-        ensures node { self.new ≡ record self.old { end = record self.old.end { receiver = after_assigned self.old.end.receiver tti ndi good } } }
+        ensures node { self.new ≡ record self.old {
+          end =
+              record self.old.end { receiver = after_assigned self.old.end.receiver tti ndi good };
+        } }
         ensures answer { result ≡ assigned_answer self.old.end.receiver tti ndi good }
     {
         self.state.end.receiver.assigned(tti, ndi, good)
@@ -261,16 +286,23 @@ impl Node<Attached> {
 
     /// A TTI passes without a grant of the uplink.
     pub fn pass(&mut self, tti: u64)
-        ensures { self.new ≡ record self.old { end = record self.old.end { receiver = after_pass self.old.end.receiver tti } } }
+        ensures { self.new ≡ record self.old {
+          end =
+              record self.old.end { receiver = after_pass self.old.end.receiver tti };
+        } }
     {
         self.state.end.receiver.pass(tti);
     }
 
-    /// Hears an intact block of fewer than 2^28 octets: each SDU in it goes to its bearer, in turn. Of a block that can't be
-    /// read nothing is used; an SDU whose logical channel has no bearer is dropped; both are told.
+    /// Hears an intact block of fewer than 2^28 octets: each SDU in it goes to its bearer, in turn.
+    /// Of a block that can't be read nothing is used; an SDU whose logical channel has no bearer is
+    /// dropped; both are told.
     pub fn receive(&mut self, block: &[u8]) -> Result<Events, NoMemory>
         requires { length block.now < 2 ^ 28 }
-        ensures node { OnOk result (self.new ≡ attached (record self.old.end { bearers = (received self.old.end block.now).bearers })) }
+        ensures node { OnOk result
+            (self.new
+            ≡ attached
+            (record self.old.end { bearers = (received self.old.end block.now).bearers })) }
         ensures told { IfOk result (λ events. events ≡ (received self.old.end block.now).events) }
         ensures dead { IsTrue self.old.dead → IsErr result }
         ensures err { OnErr result (IsTrue self.new.dead) }
@@ -283,7 +315,8 @@ impl Node<Attached> {
         answer
     }
 
-    /// A timer of a bearer that is there expires; `None` exactly where it doesn't run, and nothing then changes.
+    /// A timer of a bearer that is there expires; `None` exactly where it doesn't run, and nothing
+    /// then changes.
     pub fn expire(&mut self, lcid: u8, clock: Clock) -> Result<Option<Events>, NoMemory>
         requires { has lcid self.old.end.bearers ≡ true }
         ensures node { OnOk result (self.new ≡ attached (expired lcid clock self.old.end)) }
@@ -315,8 +348,8 @@ impl Node<Attached> {
         self.state.end.left()
     }
 
-    /// Leaves the cell: each bearer is stopped, in ascending LCID, and MAC is reset (TS 36.331 5.3.5.4). An `Err` gives back a
-    /// node that has run out of memory.
+    /// Leaves the cell: each bearer is stopped, in ascending LCID, and MAC is reset (TS 36.331
+    /// 5.3.5.4). An `Err` gives back a node that has run out of memory.
     #[tactic(auto, unfolding(crate::specs::Moving::left_cell))]
     pub fn leave(self) -> Result<(Node<Moving>, Events), (Node<Attached>, NoMemory)>
         ensures node { IfOk result (λ r. r.0 ≡ left_cell self.end) }
@@ -350,8 +383,8 @@ impl Node<Attached> {
 }
 
 impl Node<Moving> {
-    /// Joins a cell under other keys: each bearer begins its next life, in ascending LCID. An `Err` gives back a node that has
-    /// run out of memory.
+    /// Joins a cell under other keys: each bearer begins its next life, in ascending LCID. An `Err`
+    /// gives back a node that has run out of memory.
     #[tactic(auto, unfolding(crate::specs::Moving::joined))]
     pub fn join(self, keys: &Keys) -> Result<Node<Attached>, (Node<Moving>, NoMemory)>
         ensures node { IfOk result (λ n. n ≡ attached (joined self keys.now)) }

@@ -1,10 +1,12 @@
 // A new block: what each bearer writes into its share of a grant.
-ghost use Rattle.std.specs.Prelude.{◌≡◌, ◌<◌, ◌≤◌, ◌^◌, ◌+◌, ◌++◌, ◌∷◌, ℕ, None, All, [], OnOk, IfOk, slice_index, length};
+ghost use Rattle.std.specs.Prelude.{◌≡◌, ◌<◌, ◌≤◌, ◌^◌, ◌+◌, ◌++◌, ◌∷◌, ℕ, None, All, [], OnOk};
+ghost use Rattle.std.specs.Prelude.{IfOk, slice_index, length};
 ghost use Rattle.bearer_pdcp.specs.Shares.{FitsShare, in_block};
 ghost use Rattle.prioritise.specs.Shares.{over};
 ghost use Rattle.bearer_types.specs.Sides.{sent_by};
 ghost use Rattle.l2_node.specs.Finding.{find, has, bearer_at, lowest};
-ghost use Rattle.l2_node.specs.Writing.{taken_up, Block, Work, work, sdus_of, with_sdus, noted, gathered, wrote, writes, all_write, nothing_written};
+ghost use Rattle.l2_node.specs.Writing.{taken_up, Block, Work, work, sdus_of, with_sdus, noted};
+ghost use Rattle.l2_node.specs.Writing.{gathered, wrote, writes, all_write, nothing_written};
 
 use crate::finding::{Numbers, find, lowest_held};
 use bearer::{Bearer, Events, Running, Side, Written};
@@ -49,8 +51,10 @@ impl NewBlock {
         requires fits { FitsShare share written.pdus }
         requires plain { self.old.parts.controls ≡ [] }
         requires room { taken_up self.old.parts.sdus + share ≤ GREATEST_GRANT + 2 }
-        ensures block { OnOk result (self.new ≡ gathered lcid written.pdus written.number written.events self.old) }
-        ensures taken_up { OnOk result (taken_up self.new.parts.sdus ≤ taken_up self.old.parts.sdus + share) }
+        ensures block { OnOk result
+            (self.new ≡ gathered lcid written.pdus written.number written.events self.old) }
+        ensures taken_up { OnOk result (taken_up self.new.parts.sdus
+            ≤ taken_up self.old.parts.sdus + share) }
     {
         let Written {
             pdus,
@@ -65,7 +69,8 @@ impl NewBlock {
     }
 }
 
-/// The direction in which an end sends: the base station on the downlink, the terminal on the uplink.
+/// The direction in which an end sends: the base station on the downlink, the terminal on the
+/// uplink.
 pub fn sent_by(side: Side) -> Direction
     ensures { result ≡ sent_by side }
 {
@@ -82,7 +87,8 @@ fn add_sdus(builder: &mut MacBuilder, lcid: u8, mut pdus: Packets) -> Result<(),
     requires plain { builder.old.controls ≡ [] }
     requires room { taken_up builder.old.sdus + in_block pdus ≤ GREATEST_GRANT + 2 }
     ensures parts { OnOk result (builder.new ≡ with_sdus (sdus_of lcid pdus) builder.old) }
-    ensures taken_up { OnOk result (taken_up builder.new.sdus ≡ taken_up builder.old.sdus + in_block pdus) }
+    ensures taken_up { OnOk result (taken_up builder.new.sdus
+        ≡ taken_up builder.old.sdus + in_block pdus) }
 {
     while let Some(octets) = pdus.pop_front() {
         builder.move_sdu(lcid, octets)?;
@@ -101,9 +107,12 @@ fn write_one(
     requires lcid { lcid < 11 }
     requires plain { block.old.parts.controls ≡ [] }
     requires room { taken_up block.old.parts.sdus + share ≤ GREATEST_GRANT + 2 }
-    ensures bearers { OnOk result (bearers.new.items ≡ (writes lcid share held (work bearers.old.items block.old)).bearers) }
-    ensures block { OnOk result (block.new ≡ (writes lcid share held (work bearers.old.items block.old)).block) }
-    ensures taken_up { OnOk result (taken_up block.new.parts.sdus ≤ taken_up block.old.parts.sdus + share) }
+    ensures bearers { OnOk result (bearers.new.items
+        ≡ (writes lcid share held (work bearers.old.items block.old)).bearers) }
+    ensures block { OnOk result
+        (block.new ≡ (writes lcid share held (work bearers.old.items block.old)).block) }
+    ensures taken_up { OnOk result (taken_up block.new.parts.sdus
+        ≤ taken_up block.old.parts.sdus + share) }
     ensures plain { OnOk result (block.new.parts.controls ≡ []) }
     ensures direction { OnOk result (block.new.parts.direction ≡ block.old.parts.direction) }
 {
@@ -127,10 +136,17 @@ pub(crate) fn write_all(
 ) -> Result<(), NoMemory>
     requires lcids { All (λ c. c.lcid < 11) channels.now }
     requires plain { block.old.parts.controls ≡ [] }
-    requires room { taken_up block.old.parts.sdus + over channels.now shares.now ≤ GREATEST_GRANT + 2 }
-    ensures bearers { OnOk result (bearers.new.items ≡ (all_write sender.now numbers.now shares.now channels.now (work bearers.old.items block.old)).bearers) }
-    ensures block { OnOk result (block.new ≡ (all_write sender.now numbers.now shares.now channels.now (work bearers.old.items block.old)).block) }
-    ensures taken_up { OnOk result (taken_up block.new.parts.sdus ≤ taken_up block.old.parts.sdus + over channels.now shares.now) }
+    requires room { taken_up block.old.parts.sdus + over channels.now shares.now
+        ≤ GREATEST_GRANT + 2 }
+    ensures bearers { OnOk result (bearers.new.items
+        ≡ (all_write sender.now numbers.now shares.now channels.now
+        (work bearers.old.items block.old)).bearers) }
+    ensures block { OnOk result
+        (block.new
+        ≡ (all_write sender.now numbers.now shares.now channels.now
+        (work bearers.old.items block.old)).block) }
+    ensures taken_up { OnOk result (taken_up block.new.parts.sdus
+        ≤ taken_up block.old.parts.sdus + over channels.now shares.now) }
     ensures plain { OnOk result (block.new.parts.controls ≡ []) }
     ensures direction { OnOk result (block.new.parts.direction ≡ block.old.parts.direction) }
 {

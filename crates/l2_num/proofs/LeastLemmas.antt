@@ -20,7 +20,8 @@ past_stops passes zero p lt = absurd (omega arith)
 past_stops passes (suc fuel) p lt = let ih = past_stops passes fuel (p + 1) in grind (arith, ih)
 
 -- where the numbers from p to q pass, and one from q on is refused, the search from q on finds the first from p on
-pub past_least : (passes : ℕ → Bool) (p q fuel : ℕ) → p ≤ q → ((n : ℕ) → p ≤ n → n < q → passes n ≡ true) → passes (q + fuel) ≡ false → IsLeast passes p (past passes fuel q)
+pub past_least : (passes : ℕ → Bool) (p q fuel : ℕ) → p ≤ q → ((n : ℕ) → p ≤ n → n < q → passes n ≡ true)
+    → passes (q + fuel) ≡ false → IsLeast passes p (past passes fuel q)
 past_least passes p q fuel from all e =
     let low = past_from passes fuel q in
     let high = past_to passes fuel q in
@@ -35,9 +36,11 @@ pub least_le : (passes : ℕ → Bool) (p q n : ℕ) → IsLeast passes p q → 
 least_le passes p q n h from e = grind (arith, h.before n)
 
 pub least_one : (passes : ℕ → Bool) (p q r : ℕ) → IsLeast passes p q → IsLeast passes p r → q ≡ r
-least_one passes p q r h k = omega (arith, least_le passes p q r h k.from k.refused, least_le passes p r q k h.from h.refused)
+least_one passes p q r h k =
+    omega (arith, least_le passes p q r h k.from k.refused, least_le passes p r q k h.from h.refused)
 
-pub least_grows : (passes more : ℕ → Bool) (p q r : ℕ) → ((n : ℕ) → passes n ≡ true → more n ≡ true) → IsLeast passes p q → IsLeast more p r → q ≤ r
+pub least_grows : (passes more : ℕ → Bool) (p q r : ℕ) → ((n : ℕ) → passes n ≡ true → more n ≡ true)
+    → IsLeast passes p q → IsLeast more p r → q ≤ r
 least_grows passes more p q r all h k = elim (cases_lt r q) [
   | inl lt ↦
       let yes : more r ≡ true = all r (h.before r k.from lt) in
@@ -49,11 +52,14 @@ least_grows passes more p q r all h k = elim (cases_lt r q) [
 pub least_later : (passes : ℕ → Bool) (p p' q r : ℕ) → p ≤ p' → IsLeast passes p q → IsLeast passes p' r → q ≤ r
 least_later passes p p' q r le h k = least_le passes p q r h (omega (arith, k.from)) k.refused
 
-pub least_stays : (passes more : ℕ → Bool) (p q : ℕ) → ((n : ℕ) → passes n ≡ true → more n ≡ true) → more q ≡ false → IsLeast passes p q → IsLeast more p q
-least_stays passes more p q all e h = record { from = h.from; refused = e; before = λ n from lt. all n (h.before n from lt) }
+pub least_stays : (passes more : ℕ → Bool) (p q : ℕ) → ((n : ℕ) → passes n ≡ true → more n ≡ true) → more q ≡ false
+    → IsLeast passes p q → IsLeast more p q
+least_stays passes more p q all e h =
+    record { from = h.from; refused = e; before = λ n from lt. all n (h.before n from lt) }
 
 -- where the first one is accepted too, the search goes on behind it
-pub least_moves : (passes more : ℕ → Bool) (p q r : ℕ) → ((n : ℕ) → passes n ≡ true → more n ≡ true) → IsLeast passes p q → more q ≡ true → IsLeast more (q + 1) r → IsLeast more p r
+pub least_moves : (passes more : ℕ → Bool) (p q r : ℕ) → ((n : ℕ) → passes n ≡ true → more n ≡ true)
+    → IsLeast passes p q → more q ≡ true → IsLeast more (q + 1) r → IsLeast more p r
 least_moves passes more p q r all h e k = record {
   from = omega (arith, h.from, k.from);
   refused = k.refused;

@@ -1,4 +1,5 @@
--- The first number from one on that a test refuses, as VT(A), VR(R), VR(MS) and VR(UR) are (TS 36.322 7.1).
+-- The first number from one on that a test refuses, as VT(A), VR(R), VR(MS) and VR(UR) are (TS
+-- 36.322 7.1).
 use Rattle.std.specs.Prelude.{◌≡◌, ℕ, zero, suc, ◌<◌, ◌≤◌, ◌+◌, Bool, true, false, if◌then◌else◌}
 
 -- q is the first number from p on that the test refuses

@@ -1,5 +1,6 @@
 -- Numbers modulo a size, and the true numbers behind them (TS 36.322 7.1, TS 36.323 5.1.2).
-use Rattle.std.specs.Prelude.{◌≡◌, ℕ, ◌<◌, ◌≤◌, ◌+◌, ◌-◌, ◌%◌, ◌^◌, nat_lt, if◌then◌else◌, Option, Some, None}
+use Rattle.std.specs.Prelude.{◌≡◌, ℕ, ◌<◌, ◌≤◌, ◌+◌, ◌-◌, ◌%◌, ◌^◌, nat_lt, if◌then◌else◌, Option}
+use Rattle.std.specs.Prelude.{Some, None}
 
 -- how far x lies above base, modulo size
 abbrev pub ahead : ℕ → ℕ → ℕ → ℕ

@@ -37,7 +37,8 @@ pub fn in_window(x: u32, base: u32, width: u32, size: u32) -> bool
     ensures value { IsTrue result ↔ (ahead x base size < width) }
 
     // Of two true numbers less than `size` apart: the one lies in the window that the other begins.
-    ensures window { (low n : ℕ) → IsSeenAs low n size base x → (IsTrue result ↔ (n < low + width)) }
+    ensures window { (low n : ℕ) → IsSeenAs low n size base x
+        → (IsTrue result ↔ (n < low + width)) }
 {
     ahead(x, base, size) < width
 }

@@ -1,4 +1,5 @@
-//! Plain types that several parts of the stack name: ends, kinds of bearers, timers, losses and configurations.
+//! Plain types that several parts of the stack name: ends, kinds of bearers, timers, losses and
+//! configurations.
 #![tactic(auto)]
 
 mod channel;

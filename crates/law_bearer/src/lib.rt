@@ -1,5 +1,5 @@
-//! Laws of a bearer at one end of the link, over any calls and through lives. They speak of the machine that `bearer`
-//! meets. The functions do nothing: their contracts are the laws.
+//! Laws of a bearer at one end of the link, over any calls and through lives. They speak of the
+//! machine that `bearer` meets. The functions do nothing: their contracts are the laws.
 #![tactic(auto)]
 
 pub mod am_bearer;

@@ -1,18 +1,22 @@
-//! Laws of the signalling channels of a link: what goes up on them in each life. They speak of the definitions that `l2_node` meets, and do
-//! nothing.
+//! Laws of the signalling channels of a link: what goes up on them in each life. They speak of the
+//! definitions that `l2_node` meets, and do nothing.
 
-ghost use Rattle.law_deliver.specs.SrbChannel.Delivery.{ChannelsDeliverTheFront, DrainedChannelsHaveDelivered, NothingGoesUpBetween, NothingIsLost};
+ghost use Rattle.law_deliver.specs.SrbChannel.Delivery.{ChannelsDeliverTheFront};
+ghost use Rattle.law_deliver.specs.SrbChannel.Delivery.{DrainedChannelsHaveDelivered};
+ghost use Rattle.law_deliver.specs.SrbChannel.Delivery.{NothingGoesUpBetween, NothingIsLost};
 
-/// Two ends that have added a signalling bearer under one configuration and the same keys: whatever calls they get, and from cell to
-/// cell where both move under the same keys, what has gone up on the channel at an end in the running life are the SDUs that were
-/// submitted first at the other in it: in their order, each once and unchanged, and none left out. HARQ may lose, repeat and delay
-/// blocks; it brings only those that the other end built in this life, and a new one is built only when the blocks under way are those
-/// that processes hold.
+/// Two ends that have added a signalling bearer under one configuration and the same keys: whatever
+/// calls they get, and from cell to cell where both move under the same keys, what has gone up on
+/// the channel at an end in the running life are the SDUs that were submitted first at the other in
+/// it: in their order, each once and unchanged, and none left out. HARQ may lose, repeat and delay
+/// blocks; it brings only those that the other end built in this life, and a new one is built only
+/// when the blocks under way are those that processes hold.
 pub fn channels_deliver_the_front()
     ensures { ChannelsDeliverTheFront }
 {}
 
-/// Once the channel is drained at an end, and its sender there hasn't failed, they are all that were submitted there in the life.
+/// Once the channel is drained at an end, and its sender there hasn't failed, they are all that
+/// were submitted there in the life.
 pub fn drained_channels_have_delivered()
     ensures { DrainedChannelsHaveDelivered }
 {}
@@ -22,8 +26,8 @@ pub fn nothing_goes_up_between()
     ensures { NothingGoesUpBetween }
 {}
 
-/// In no life a PDU of PDCP is lost as an end receives it: each can be read, its MAC-I agrees, and its COUNT is the one that is awaited;
-/// nor as a life ends.
+/// In no life a PDU of PDCP is lost as an end receives it: each can be read, its MAC-I agrees, and
+/// its COUNT is the one that is awaited; nor as a life ends.
 pub fn nothing_is_lost()
     ensures { NothingIsLost }
 {}

@@ -1,5 +1,6 @@
 -- No call of a bearer but a take uses a number.
-use Rattle.std.proofs.Common.{◌≡◌, ◌≤◌, ◌<◌, ℕ, ◌+◌, ◌==◌, nat_lt, Bool, true, false, if◌then◌else◌, Option, Some, None, Result, Ok, Err, List, [], ◌∷◌, ◌++◌, length, length-drop, refl, ap, sym, ◌∙◌, arith}
+use Rattle.std.proofs.Common.{◌≡◌, ◌≤◌, ◌<◌, ℕ, ◌+◌, ◌==◌, nat_lt, Bool, true, false, if◌then◌else◌, Option, Some, None}
+use Rattle.std.proofs.Common.{Result, Ok, Err, List, [], ◌∷◌, ◌++◌, length, length-drop, refl, ap, sym, ◌∙◌, arith}
 use Rattle.std.proofs.lemmas.Bool.Decides.{nat_tests}
 use Rattle.std.proofs.Math.ListN.{length-set}
 use Rattle.bearer.specs.declared.flow.Flow.{Flow}
@@ -11,15 +12,21 @@ use Rattle.bearer.specs.Hearing.{arrived, expired, ticked, with_discard}
 use Rattle.bearer.specs.Lives.{restarted}
 use Rattle.bearer.specs.Submitting.{refusal, submitted}
 use Rattle.bearer.specs.Acknowledged.State.{State as AmState, Work, work, has_more, fresh as fresh_am}
-use Rattle.bearer.specs.Acknowledged.Hearing.{settled_if, heard_work, hears, hears_all, status_work, arrived_left as am_arrived_left, after_arrival as am_after_arrival, confirms, all_confirmed}
+use Rattle.bearer.specs.Acknowledged.Hearing.{settled_if, heard_work, hears, hears_all, status_work}
+use Rattle.bearer.specs.Acknowledged.Hearing.{arrived_left as am_arrived_left, after_arrival as am_after_arrival}
+use Rattle.bearer.specs.Acknowledged.Hearing.{confirms, all_confirmed}
 use Rattle.bearer.specs.Acknowledged.Lives.{restarted as am_restarted}
-use Rattle.bearer.specs.Acknowledged.Timing.{Ticking, expires_if, clock_left as am_clock_left, counts, has_ended, ticks, discards, after_expiry as am_after_expiry, ticked as am_ticked}
+use Rattle.bearer.specs.Acknowledged.Timing.{Ticking, expires_if, clock_left as am_clock_left, counts, has_ended, ticks}
+use Rattle.bearer.specs.Acknowledged.Timing.{discards, after_expiry as am_after_expiry, ticked as am_ticked}
 use Rattle.bearer_pdcp.specs.Discarding.{after_tick as after_discards, tick_told}
 use Rattle.bearer_pdcp.specs.Hearing.{applies}
 use Rattle.bearer_pdcp.specs.Telling.{landed_told}
 use Rattle.bearer_types.specs.declared.config.BearerConfig.{BearerConfig}
 use Rattle.bearer.specs.Unacknowledged.State.{State as UmState, fresh as fresh_um}
-use Rattle.bearer.specs.Unacknowledged.Hearing.{arrived_left as um_arrived_left, after_arrival as um_after_arrival, expiry_left, clock_left as um_clock_left, after_expiry as um_after_expiry, timed_left, counted_down, after_ticking}
+use Rattle.bearer.specs.Unacknowledged.Hearing.{arrived_left as um_arrived_left, after_arrival as um_after_arrival}
+use Rattle.bearer.specs.Unacknowledged.Hearing.{expiry_left, clock_left as um_clock_left}
+use Rattle.bearer.specs.Unacknowledged.Hearing.{after_expiry as um_after_expiry, timed_left, counted_down}
+use Rattle.bearer.specs.Unacknowledged.Hearing.{after_ticking}
 use Rattle.eps_sec.specs.declared.Keys.{Keys}
 use Rattle.l2_bits.specs.declared.fault.SubmitRefusal.TheVariants.{Empty}
 use Rattle.l2_num.specs.Timers.{ends, runs}
@@ -32,7 +39,9 @@ use Rattle.pdcp_rx.specs.declared.Cause.TheVariants.{Arrived}
 use Rattle.rlc_am_rx.specs.Machine.{landed, turned, arrived as rx_arrived}
 use Rattle.rlc_am_tx.specs.declared.answers.Heard.{Heard}
 use Rattle.rlc_am_tx.specs.declared.answers.Heard.TheVariants as heard_as
-use Rattle.rlc_am_tx.specs.Machine.{State as AmSender, heard, after_status, after_tick, after_expiry, settled, settles, is_ignored, applied, ended, limit_of, stops, read, read_window, expired as poll_expired, expiry_limit, with_recalled, with_owed, recalled_place}
+use Rattle.rlc_am_tx.specs.Machine.{State as AmSender, heard, after_status, after_tick, after_expiry, settled, settles}
+use Rattle.rlc_am_tx.specs.Machine.{is_ignored, applied, ended, limit_of, stops, read, read_window}
+use Rattle.rlc_am_tx.specs.Machine.{expired as poll_expired, expiry_limit, with_recalled, with_owed, recalled_place}
 use Rattle.law_rlc.proofs.AmSender.Carried.{ended-next, applied-next, recalled-next}
 use Rattle.law_rlc.proofs.AmSender.Least.{ended-window, settled-window, heard-length}
 use Rattle.rlc_am_tx_window.specs.Sent.{recalled}
@@ -47,7 +56,8 @@ use Rattle.rlc_um.specs.Receiver.{expiring}
 use Rattle.rlc_um.specs.Transparent.{Transparent, refusal as tm_refusal}
 use Rattle.law_node.specs.Holding.{next_number, width}
 
--- an SDU that waits at a transparent bearer has an octet; an acknowledged sender has at most a window of numbers that aren't acknowledged
+-- an SDU that waits at a transparent bearer has an octet; an acknowledged sender has at most a window of numbers that
+-- aren't acknowledged
 abbrev pub Stands : Flow → Type 0
 Stands (Tm b) = HaveOctets b.waiting
 Stands (Um b) = Unit {0}
@@ -114,17 +124,31 @@ settled_keeps false w = by_window w.tx w.tx refl
 
 hears_keeps : (sdus : List (List ℕ)) (w : Work) → Keeps w.tx (hears_all sdus w).tx
 hears_keeps [] w = by_window w.tx w.tx refl
-hears_keeps (sdu ∷ sdus) w = keeps_then w.tx (hears sdu w).tx (hears_all sdus (hears sdu w)).tx (settled_keeps (applies sdu Arrived w.pdcp) (heard_work sdu w)) (hears_keeps sdus (hears sdu w))
+hears_keeps (sdu ∷ sdus) w =
+    keeps_then w.tx (hears sdu w).tx (hears_all sdus (hears sdu w)).tx
+    (settled_keeps (applies sdu Arrived w.pdcp) (heard_work sdu w)) (hears_keeps sdus (hears sdu w))
 
-read_few : (s : AmSender) (below : ℕ) (p : StatusPdu) → length s.window.slots ≤ 512 → length (applied s below p.nacks).window.slots ≤ 512
+read_few : (s : AmSender) (below : ℕ) (p : StatusPdu) → length s.window.slots ≤ 512
+    → length (applied s below p.nacks).window.slots ≤ 512
 read_few s below p few =
     let w = read_window s below p.nacks in
-    let same = ap (λ (k : Kept). length k.slots) (ended-window (limit_of s below p.nacks) (stops s below p.nacks) (read s below p.nacks)) in
-    omega (arith, same, length-drop (leading_acked w.slots) w.slots, heard-length s.window below s.config.max_retx p.nacks)
+    let same =
+    ap (λ (k : Kept). length k.slots)
+    (ended-window (limit_of s below p.nacks) (stops s below p.nacks) (read s below p.nacks)) in
+    omega (
+      arith,
+      same,
+      length-drop (leading_acked w.slots) w.slots,
+      heard-length s.window below s.config.max_retx p.nacks,
+    )
 
-status_by : (b : Bool) (s : AmSender) (p : StatusPdu) → Keeps s (if b then s else applied s (offset_of s.window.base p.ack) p.nacks)
+status_by : (b : Bool) (s : AmSender) (p : StatusPdu)
+    → Keeps s (if b then s else applied s (offset_of s.window.base p.ack) p.nacks)
 status_by true s p = by_window s s refl
-status_by false s p = record { next_is = applied-next s (offset_of s.window.base p.ack) p; few = read_few s (offset_of s.window.base p.ack) p }
+status_by false s p = record {
+  next_is = applied-next s (offset_of s.window.base p.ack) p;
+  few = read_few s (offset_of s.window.base p.ack) p;
+}
 
 status_keeps : (s : AmSender) (p : StatusPdu) → Keeps s (after_status s p)
 unfolding after_status
@@ -133,26 +157,34 @@ status_keeps s p = status_by (is_ignored s p.ack) s p
 told_keeps : (h : Heard) (w : Work) → Keeps w.tx (status_work h w).tx
 told_keeps heard_as.Ignored w = by_window w.tx w.tx refl
 told_keeps (heard_as.Limit sn) w = by_window w.tx w.tx refl
-told_keeps (heard_as.Applied stopped) w = by_window w.tx (settled w.tx (has_more w.pdcp)) (settling w.tx (has_more w.pdcp))
+told_keeps (heard_as.Applied stopped) w =
+    by_window w.tx (settled w.tx (has_more w.pdcp)) (settling w.tx (has_more w.pdcp))
 
 am_arrives : (r : Result AcknowledgedPdu RlcRefusal) (b : AmState) → Keeps b.tx (am_arrived_left r b).tx
 am_arrives (Err fault) b = by_window b.tx b.tx refl
-am_arrives (Ok (Payload p)) b = hears_keeps (rx_arrived b.rx p).out.ready (work b.pdcp b.tx (landed_told b.pdcp.lcid (landed b.rx p) (turned b.rx p)))
+am_arrives (Ok (Payload p)) b =
+    hears_keeps (rx_arrived b.rx p).out.ready
+    (work b.pdcp b.tx (landed_told b.pdcp.lcid (landed b.rx p) (turned b.rx p)))
 am_arrives (Ok (Status p)) b =
     let s : AmSender = after_status b.tx p in
     let w : Work = work (confirms s.accounts.news b.pdcp) (all_confirmed s) [] in
     keeps_then b.tx s (status_work (heard b.tx p) w).tx (status_keeps b.tx p)
-    (keeps_then s (all_confirmed s) (status_work (heard b.tx p) w).tx (by_window s (all_confirmed s) refl) (told_keeps (heard b.tx p) w))
+    (keeps_then s (all_confirmed s) (status_work (heard b.tx p) w).tx (by_window s (all_confirmed s) refl)
+    (told_keeps (heard b.tx p) w))
 
 recalled_few : (o : Option ℕ) (s : AmSender) → length (with_recalled o s).window.slots ≡ length s.window.slots
 recalled_few None s = refl
 recalled_few (Some at) s = length-set s.window.slots at (recalled s.config.max_retx (slot_at s.window.slots at))
 
-poll_by : (b : Bool) (s : AmSender) (more : Bool) → Keeps s (if b then ended (expiry_limit s more) false (poll_expired s more) else s)
+poll_by : (b : Bool) (s : AmSender) (more : Bool)
+    → Keeps s (if b then ended (expiry_limit s more) false (poll_expired s more) else s)
 poll_by false s more = by_window s s refl
 poll_by true s more = record {
-  next_is = ended-next (expiry_limit s more) false (poll_expired s more) ∙ recalled-next (recalled_place s more) (with_owed s);
-  few = λ h. let same = ap (λ (k : Kept). length k.slots) (ended-window (expiry_limit s more) false (poll_expired s more)) in omega (arith, same, recalled_few (recalled_place s more) (with_owed s));
+  next_is = ended-next (expiry_limit s more) false (poll_expired s more)
+      ∙ recalled-next (recalled_place s more) (with_owed s);
+  few = λ h. let same =
+      ap (λ (k : Kept). length k.slots) (ended-window (expiry_limit s more) false (poll_expired s more)) in
+      omega (arith, same, recalled_few (recalled_place s more) (with_owed s));
 }
 
 poll_keeps : (s : AmSender) (more : Bool) → Keeps s (after_expiry s more)
@@ -180,7 +212,8 @@ ended_keeps false clock t = by_window t.bearer.tx t.bearer.tx refl
 ticks_keeps : (clock : Clock) (t : Ticking) → Keeps t.bearer.tx (ticks clock t).bearer.tx
 ticks_keeps clock t =
     let n : Ticking = record t { bearer = counts clock t.bearer } in
-    keeps_then t.bearer.tx n.bearer.tx (ticks clock t).bearer.tx (counts_keeps clock t.bearer) (ended_keeps (has_ended clock t.bearer) clock n)
+    keeps_then t.bearer.tx n.bearer.tx (ticks clock t).bearer.tx (counts_keeps clock t.bearer)
+    (ended_keeps (has_ended clock t.bearer) clock n)
 
 am_ticks : (b : AmState) → Keeps b.tx (am_ticked b).bearer.tx
 unfolding am_ticked
@@ -202,14 +235,16 @@ more_octets [] x some h = (some, tt)
 more_octets (y ∷ ys) x some h = (h.0, more_octets ys x some h.1)
 
 -- an SDU without octets is refused
-pub taken_by : (t : Bool) (s : Transparent) (sdu : List ℕ) → (length sdu == 0) ≡ t → tm_refusal s sdu ≡ None → 0 < length sdu
+pub taken_by : (t : Bool) (s : Transparent) (sdu : List ℕ) → (length sdu == 0) ≡ t → tm_refusal s sdu ≡ None
+    → 0 < length sdu
 unfolding tm_refusal
 taken_by true s sdu e h = let no : Some Empty ≡ None = sym (rw e refl) ∙ h in cc
 taken_by false s sdu e h = grind (arith, nat_tests)
 
 pub submitted_ages : (f : Flow) (sdu : List ℕ) → refusal f sdu ≡ None → Ages f (submitted f sdu)
 unfolding submitted refusal
-submitted_ages (Tm b) sdu e = record { young = λ n le. le; stands = λ h. more_octets b.waiting sdu (taken_by (length sdu == 0) b sdu refl e) h }
+submitted_ages (Tm b) sdu e =
+    record { young = λ n le. le; stands = λ h. more_octets b.waiting sdu (taken_by (length sdu == 0) b sdu refl e) h }
 submitted_ages (Um b) sdu e = record { young = λ n le. le; stands = λ h. h }
 submitted_ages (Am b) sdu e = record { young = λ n le. le; stands = λ h. h }
 

@@ -1,10 +1,13 @@
 -- The numbers that HARQ holds, as processes are visited and bearers write.
-use Rattle.std.proofs.Common.{◌≡◌, ◌⊎◌, ◌<◌, ℕ, zero, suc, ◌%◌, nat_lt, Bool, true, false, if◌then◌else◌, Option, Some, None, option_map, option_and_then, List, [], ◌∷◌, get_or, set, replicate, get_or-set_other, refl, ap, sym, ◌∙◌, subst, arith, inl, inr}
+use Rattle.std.proofs.Common.{◌≡◌, ◌⊎◌, ◌<◌, ℕ, zero, suc, ◌%◌, nat_lt, Bool, true, false, if◌then◌else◌, Option, Some}
+use Rattle.std.proofs.Common.{None, option_map, option_and_then, List, [], ◌∷◌, get_or, set, replicate}
+use Rattle.std.proofs.Common.{get_or-set_other, refl, ap, sym, ◌∙◌, subst, arith, inl, inr}
 use Rattle.std.proofs.lemmas.Bool.{cases_eq}
 use Rattle.std.proofs.lemmas.Bool.Decides.{nat_tests}
 use Rattle.harq.specs.declared.sender.Order.{Order}
 use Rattle.harq.specs.declared.sender.Order.TheVariants.{Silent, Unseen, Free, Grant}
-use Rattle.harq.specs.Sending.{Sending, SendProcess, Block, empty, ended, same, visited, loaded, fed, process_at, with_process, fresh, after_visit, after_load, after_feedback, held_of}
+use Rattle.harq.specs.Sending.{Sending, SendProcess, Block, empty, ended, same, visited, loaded, fed, process_at}
+use Rattle.harq.specs.Sending.{with_process, fresh, after_visit, after_load, after_feedback, held_of}
 use Rattle.l2_node.specs.Finding.{Numbers, lower, counted, number_at, lowest_of, lowest}
 use Rattle.law_node.proofs.Takings.{IsAtLeast}
 
@@ -12,7 +15,8 @@ use Rattle.law_node.proofs.Takings.{IsAtLeast}
 
 module _ {A : Type 0} where
   -- it is the new one, or the old one
-  pub set_cases : (xs : List A) (at p : ℕ) (x d : A) → ((p ≡ at) × (get_or (set xs at x) p d ≡ x)) ⊎ (get_or (set xs at x) p d ≡ get_or xs p d)
+  pub set_cases : (xs : List A) (at p : ℕ) (x d : A) → ((p ≡ at) × (get_or (set xs at x) p d ≡ x))
+      ⊎ (get_or (set xs at x) p d ≡ get_or xs p d)
   set_cases [] at p x d = inr refl
   set_cases (y ∷ ys) zero zero x d = inl (refl, refl)
   set_cases (y ∷ ys) zero (suc p) x d = inr refl
@@ -49,12 +53,16 @@ no_block None e = refl
 no_block (Some b) e = cc
 
 -- one process changes, and holds nothing where it held nothing
-one_fewer : (s : Sending) (tti : ℕ) (x : SendProcess) → ((process_at s tti).held ≡ None → x.held ≡ None) → Fewer s (with_process s tti x)
+one_fewer : (s : Sending) (tti : ℕ) (x : SendProcess) → ((process_at s tti).held ≡ None → x.held ≡ None)
+    → Fewer s (with_process s tti x)
 unfolding held_of
 one_fewer s tti x f p e = elim (set_cases s.processes (tti % 8) p x empty) [
   | inl new ↦
-      let there : (process_at s tti).held ≡ None = subst (λ (q : ℕ). (get_or s.processes q empty).held ≡ None) new.0 (no_block (get_or s.processes p empty).held e) in
-      ap (λ (y : SendProcess). option_map (λ (b : Block). b.octets) y.held) new.1 ∙ ap (λ (o : Option Block). option_map (λ (b : Block). b.octets) o) (f there)
+      let there : (process_at s tti).held ≡ None =
+      subst (λ (q : ℕ). (get_or s.processes q empty).held ≡ None) new.0
+      (no_block (get_or s.processes p empty).held e) in
+      ap (λ (y : SendProcess). option_map (λ (b : Block). b.octets) y.held) new.1
+      ∙ ap (λ (o : Option Block). option_map (λ (b : Block). b.octets) o) (f there)
   | inr old ↦ ap (λ (y : SendProcess). option_map (λ (b : Block). b.octets) y.held) old ∙ e
 ]
 
@@ -67,9 +75,12 @@ unfolding after_feedback
 feedback_fewer s tti good = one_fewer s tti (fed good (process_at s tti)) (fed_none good (process_at s tti))
 
 -- another process holds what it held
-pub load_other : (s : Sending) (tti : ℕ) (octets : List ℕ) (p : ℕ) → (p ≡ tti % 8 → ⊥) → held_of (after_load s tti octets) p ≡ held_of s p
+pub load_other : (s : Sending) (tti : ℕ) (octets : List ℕ) (p : ℕ) → (p ≡ tti % 8 → ⊥)
+    → held_of (after_load s tti octets) p ≡ held_of s p
 unfolding after_load held_of
-load_other s tti octets p apart = ap (λ (y : SendProcess). option_map (λ (b : Block). b.octets) y.held) (get_or-set_other s.processes (tti % 8) p (loaded s.maximum octets (process_at s tti)) empty apart)
+load_other s tti octets p apart =
+    ap (λ (y : SendProcess). option_map (λ (b : Block). b.octets) y.held)
+    (get_or-set_other s.processes (tti % 8) p (loaded s.maximum octets (process_at s tti)) empty apart)
 
 empty_at : (n p : ℕ) → get_or (replicate n empty) p empty ≡ empty
 empty_at zero p = refl
@@ -82,20 +93,24 @@ fresh_none maximum p = ap (λ (y : SendProcess). option_map (λ (b : Block). b.o
 
 -- ---- the numbers that count
 
-by_held : (h k : Option (List ℕ)) (x : Option ℕ) (n : ℕ) → (h ≡ None → k ≡ None) → counted k x ≡ Some n → counted h x ≡ Some n
+by_held : (h k : Option (List ℕ)) (x : Option ℕ) (n : ℕ) → (h ≡ None → k ≡ None) → counted k x ≡ Some n
+    → counted h x ≡ Some n
 by_held None k x n f e = let none : counted k x ≡ None = rw (f refl) refl in let no : None ≡ Some n = sym none ∙ e in cc
 by_held (Some b) None x n f e = let no : None ≡ Some n = e in cc
 by_held (Some b) (Some c) x n f e = e
 
-pub fewer_numbers : (s t : Sending) (numbers : Numbers) (l p n : ℕ) → Fewer s t → number_at t numbers l p ≡ Some n → number_at s numbers l p ≡ Some n
+pub fewer_numbers : (s t : Sending) (numbers : Numbers) (l p n : ℕ) → Fewer s t → number_at t numbers l p ≡ Some n
+    → number_at s numbers l p ≡ Some n
 fewer_numbers s t numbers l p n f e = by_held (held_of s p) (held_of t p) _ n (f p) e
 
 pub noted_number : (h : Option (List ℕ)) (x : Option ℕ) (n : ℕ) → counted h x ≡ Some n → x ≡ Some n
 noted_number None x n e = let no : None ≡ Some n = e in cc
 noted_number (Some b) x n e = e
 
-pub none_counted : (s : Sending) (numbers : Numbers) (l p n : ℕ) → held_of s p ≡ None → number_at s numbers l p ≡ Some n → ⊥
-none_counted s numbers l p n e h = let no : None ≡ Some n = sym (ap (λ (k : Option (List ℕ)). counted k (get_or (get_or numbers p []) l None)) e) ∙ h in cc
+pub none_counted : (s : Sending) (numbers : Numbers) (l p n : ℕ) → held_of s p ≡ None
+    → number_at s numbers l p ≡ Some n → ⊥
+none_counted s numbers l p n e h = let no : None ≡ Some n =
+    sym (ap (λ (k : Option (List ℕ)). counted k (get_or (get_or numbers p []) l None)) e) ∙ h in cc
 
 -- ---- the lowest of them
 
@@ -121,15 +136,21 @@ abbrev IsIn : ℕ → List ℕ → Type 0
 IsIn p [] = ⊥
 IsIn p (q ∷ qs) = (p ≡ q) ⊎ IsIn p qs
 
-found_stays : (s : Sending) (numbers : Numbers) (l : ℕ) (ps : List ℕ) (found : Option ℕ) (n : ℕ) → IsAtLeast found n → IsAtLeast (lowest_of s numbers l ps found) n
+found_stays : (s : Sending) (numbers : Numbers) (l : ℕ) (ps : List ℕ) (found : Option ℕ) (n : ℕ) → IsAtLeast found n
+    → IsAtLeast (lowest_of s numbers l ps found) n
 found_stays s numbers l [] found n h = h
-found_stays s numbers l (p ∷ ps) found n h = found_stays s numbers l ps (lower found (number_at s numbers l p)) n (lower_first found (number_at s numbers l p) n h)
+found_stays s numbers l (p ∷ ps) found n h =
+    found_stays s numbers l ps (lower found (number_at s numbers l p)) n
+    (lower_first found (number_at s numbers l p) n h)
 
-lowest_in : (s : Sending) (numbers : Numbers) (l : ℕ) (ps : List ℕ) (found : Option ℕ) (p n : ℕ) → IsIn p ps → number_at s numbers l p ≡ Some n → IsAtLeast (lowest_of s numbers l ps found) n
+lowest_in : (s : Sending) (numbers : Numbers) (l : ℕ) (ps : List ℕ) (found : Option ℕ) (p n : ℕ) → IsIn p ps
+    → number_at s numbers l p ≡ Some n → IsAtLeast (lowest_of s numbers l ps found) n
 lowest_in s numbers l [] found p n i e = absurd i
 lowest_in s numbers l (q ∷ qs) found p n (inl here) e =
-    found_stays s numbers l qs (lower found (number_at s numbers l q)) n (lower_second found (number_at s numbers l q) n (subst (λ (x : ℕ). number_at s numbers l x ≡ Some n) here e))
-lowest_in s numbers l (q ∷ qs) found p n (inr there) e = lowest_in s numbers l qs (lower found (number_at s numbers l q)) p n there e
+    found_stays s numbers l qs (lower found (number_at s numbers l q)) n
+    (lower_second found (number_at s numbers l q) n (subst (λ (x : ℕ). number_at s numbers l x ≡ Some n) here e))
+lowest_in s numbers l (q ∷ qs) found p n (inr there) e =
+    lowest_in s numbers l qs (lower found (number_at s numbers l q)) p n there e
 
 in_eight : (p : ℕ) → p < 8 → IsIn p (0 ∷ 1 ∷ 2 ∷ 3 ∷ 4 ∷ 5 ∷ 6 ∷ 7 ∷ [])
 in_eight p lt = elim (cases_eq p 0) [
@@ -155,6 +176,8 @@ in_eight p lt = elim (cases_eq p 0) [
   ])
 ]
 
-pub lowest_least : (s : Sending) (numbers : Numbers) (l p n : ℕ) → p < 8 → number_at s numbers l p ≡ Some n → IsAtLeast (lowest s numbers l) n
+pub lowest_least : (s : Sending) (numbers : Numbers) (l p n : ℕ) → p < 8 → number_at s numbers l p ≡ Some n
+    → IsAtLeast (lowest s numbers l) n
 unfolding lowest
-lowest_least s numbers l p n lt e = lowest_in s numbers l (0 ∷ 1 ∷ 2 ∷ 3 ∷ 4 ∷ 5 ∷ 6 ∷ 7 ∷ []) None p n (in_eight p lt) e
+lowest_least s numbers l p n lt e =
+    lowest_in s numbers l (0 ∷ 1 ∷ 2 ∷ 3 ∷ 4 ∷ 5 ∷ 6 ∷ 7 ∷ []) None p n (in_eight p lt) e

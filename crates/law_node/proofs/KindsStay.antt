@@ -15,7 +15,8 @@ use Rattle.law_node.proofs.Pdcp.{Passes}
 abbrev pub IsOfKind : PdcpKind → Ends → Type 0
 IsOfKind kind e = e.kind ≡ kind
 
-if_kind : (kind : PdcpKind) (b : Bool) (x y : Ends) → IsOfKind kind x → IsOfKind kind y → IsOfKind kind (if b then x else y)
+if_kind : (kind : PdcpKind) (b : Bool) (x y : Ends) → IsOfKind kind x → IsOfKind kind y
+    → IsOfKind kind (if b then x else y)
 if_kind kind true x y i j = i
 if_kind kind false x y i j = j
 
@@ -28,7 +29,8 @@ got_kind kind (got_as.Integrity found wanted) cause e i = i
 got_kind kind (got_as.Report fms bitmap) cause e i = if_kind kind (is_for_sender e cause) _ e i i
 got_kind kind (got_as.Unreadable fault) cause e i = i
 
-heard_kind : (kind : PdcpKind) (pdu : List ℕ) (cause : Cause) (e : Ends) → IsOfKind kind e → IsOfKind kind (after_hearing pdu cause e)
+heard_kind : (kind : PdcpKind) (pdu : List ℕ) (cause : Cause) (e : Ends) → IsOfKind kind e
+    → IsOfKind kind (after_hearing pdu cause e)
 unfolding after_hearing
 heard_kind kind pdu cause e i = got_kind kind (got e.rx pdu cause) cause (with_arrived pdu cause e) i
 

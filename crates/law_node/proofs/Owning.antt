@@ -55,7 +55,8 @@ tells_own lcid = record {
   restarts = λ e keys p. p;
 }
 
-begun_own : (lcid : ℕ) (kind : PdcpKind) (first : ℕ) (keys : Keys) (side : Side) → Tells lcid (begun lcid kind first keys side)
+begun_own : (lcid : ℕ) (kind : PdcpKind) (first : ℕ) (keys : Keys) (side : Side)
+    → Tells lcid (begun lcid kind first keys side)
 unfolding begun
 begun_own lcid kind first keys side = refl
 

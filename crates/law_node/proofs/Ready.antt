@@ -1,5 +1,7 @@
 -- What waits at a bearer, and what it has sent, can be written as PDUs.
-use Rattle.std.proofs.Common.{◌≡◌, ◌<◌, ◌≤◌, ℕ, zero, suc, ◌+◌, ◌-◌, ◌^◌, ◌==◌, nat_lt, Bool, true, false, if◌then◌else◌, Option, Some, None, Result, Ok, Err, List, [], ◌∷◌, ◌++◌, length, drop, refl, sym, ap, ◌∙◌, subst, arith, not}
+use Rattle.std.proofs.Common.{◌≡◌, ◌<◌, ◌≤◌, ℕ, zero, suc, ◌+◌, ◌-◌, ◌^◌, ◌==◌, nat_lt, Bool, true, false}
+use Rattle.std.proofs.Common.{if◌then◌else◌, Option, Some, None, Result, Ok, Err, List, [], ◌∷◌, ◌++◌, length, drop}
+use Rattle.std.proofs.Common.{refl, sym, ap, ◌∙◌, subst, arith, not}
 use Rattle.std.specs.Prelude.{IfSome}
 use Rattle.std.specs.List.{sum}
 use Rattle.law_rlc.proofs.AmSender.Keys.{Key, key, keys, set-keys, heard-keys, append-keys}
@@ -13,21 +15,30 @@ use Rattle.bearer.specs.Hearing.{arrived as flow_arrived, expired as flow_expire
 use Rattle.bearer.specs.Lives.{stopped, restarted}
 use Rattle.bearer.specs.Submitting.{refusal as flow_refusal, submitted as flow_submitted}
 use Rattle.bearer.specs.Taking.{after as flow_after}
-use Rattle.bearer.specs.Acknowledged.Hearing.{settled_if, heard_work, hears as am_hears, hears_all as am_hears_all, status_work, confirms, all_confirmed, arrived_left as am_arrived_left, after_arrival as am_after_arrival}
+use Rattle.bearer.specs.Acknowledged.Hearing.{settled_if, heard_work, hears as am_hears, hears_all as am_hears_all}
+use Rattle.bearer.specs.Acknowledged.Hearing.{status_work, confirms, all_confirmed, arrived_left as am_arrived_left}
+use Rattle.bearer.specs.Acknowledged.Hearing.{after_arrival as am_after_arrival}
 use Rattle.bearer.specs.Acknowledged.Lives.{stopped as am_stopped, restarted as am_restarted}
 use Rattle.bearer.specs.Acknowledged.State.{State as AmBearer, Work, work, has_more, fresh as fresh_am}
-use Rattle.bearer.specs.Acknowledged.Taking.{status_told, has_prohibit, data_size, writes_status, status_pdu, feeds as am_feeds, fed as am_fed, feeding as am_feeding, given_to as am_given, after_taking as am_after_taking}
-use Rattle.bearer.specs.Acknowledged.Timing.{Ticking, clock_left as am_clock_left, after_expiry as am_after_expiry, expires_if, ticks, counts, has_ended, discards, ticked as am_ticked}
+use Rattle.bearer.specs.Acknowledged.Taking.{status_told, has_prohibit, data_size, writes_status, status_pdu}
+use Rattle.bearer.specs.Acknowledged.Taking.{feeds as am_feeds, fed as am_fed, feeding as am_feeding}
+use Rattle.bearer.specs.Acknowledged.Taking.{given_to as am_given, after_taking as am_after_taking}
+use Rattle.bearer.specs.Acknowledged.Timing.{Ticking, clock_left as am_clock_left, after_expiry as am_after_expiry}
+use Rattle.bearer.specs.Acknowledged.Timing.{expires_if, ticks, counts, has_ended, discards, ticked as am_ticked}
 use Rattle.bearer_pdcp.specs.Discarding.{after_tick, tick_told}
 use Rattle.bearer_pdcp.specs.Hearing.{applies}
 use Rattle.bearer_pdcp.specs.Taking.{taken}
 use Rattle.bearer_pdcp.specs.Telling.{landed_told}
 use Rattle.bearer_types.specs.Configs.{IsConfig, AreRlcBits, ArePdcpBits}
 use Rattle.bearer_types.specs.declared.config.BearerConfig.{BearerConfig}
-use Rattle.bearer.specs.Unacknowledged.Hearing.{arrived_left as um_arrived_left, after_arrival as um_after_arrival, expiry_left, clock_left as um_clock_left, after_expiry as um_after_expiry, timed_left, counted_down, after_ticking}
+use Rattle.bearer.specs.Unacknowledged.Hearing.{arrived_left as um_arrived_left, after_arrival as um_after_arrival}
+use Rattle.bearer.specs.Unacknowledged.Hearing.{expiry_left, clock_left as um_clock_left}
+use Rattle.bearer.specs.Unacknowledged.Hearing.{after_expiry as um_after_expiry, timed_left, counted_down}
+use Rattle.bearer.specs.Unacknowledged.Hearing.{after_ticking}
 use Rattle.bearer.specs.Unacknowledged.Lives.{stopped as um_stopped, restarted as um_restarted}
 use Rattle.bearer.specs.Unacknowledged.State.{State as UmBearer, fresh as fresh_um}
-use Rattle.bearer.specs.Unacknowledged.Taking.{Feeding, feeds as um_feeds, fed as um_fed, feeding as um_feeding, given_to as um_given, size_in, after_taking as um_after_taking}
+use Rattle.bearer.specs.Unacknowledged.Taking.{Feeding, feeds as um_feeds, fed as um_fed, feeding as um_feeding}
+use Rattle.bearer.specs.Unacknowledged.Taking.{given_to as um_given, size_in, after_taking as um_after_taking}
 use Rattle.eps_sec.specs.declared.Keys.{Keys}
 use Rattle.l2_num.specs.Timers.{ends, runs}
 use Rattle.l2_types.specs.declared.channel.Kind.{Kind}
@@ -45,7 +56,11 @@ use Rattle.rlc_am_tx.specs.declared.answers.Heard.{Heard as HeardStatus}
 use Rattle.rlc_am_tx.specs.declared.answers.Heard.TheVariants as heard_as
 use Rattle.rlc_am_tx.specs.declared.turn.Turn.{Turn}
 use Rattle.rlc_am_tx.specs.declared.turn.Turn.TheVariants as turns
-use Rattle.rlc_am_tx.specs.Machine.{State as AmSender, heard, after_status, after_tick as sender_ticked, after_expiry, settled, settled_by, settles, is_ignored, applied, ended, limit_of, stops, read, read_window, expired as poll_expired, expiry_limit, with_recalled, with_owed, recalled_place, turn as am_turn, IsAble, after_turn, with_poll, is_wanted, again, first_place, sent_whole, sent_segment, sent_new, new_slot, new_partial}
+use Rattle.rlc_am_tx.specs.Machine.{State as AmSender, heard, after_status, after_tick as sender_ticked, after_expiry}
+use Rattle.rlc_am_tx.specs.Machine.{settled, settled_by, settles, is_ignored, applied, ended, limit_of, stops, read}
+use Rattle.rlc_am_tx.specs.Machine.{read_window, expired as poll_expired, expiry_limit, with_recalled, with_owed}
+use Rattle.rlc_am_tx.specs.Machine.{recalled_place, turn as am_turn, IsAble, after_turn, with_poll, is_wanted, again}
+use Rattle.rlc_am_tx.specs.Machine.{first_place, sent_whole, sent_segment, sent_new, new_slot, new_partial}
 use Rattle.rlc_am_tx.specs.Need.{hungry}
 use Rattle.rlc_pdu.specs.declared.Expired.{Expired}
 use Rattle.rlc_pdu.specs.declared.Expired.TheVariants.{Done, NotRunning}
@@ -58,7 +73,8 @@ use Rattle.rlc_queue.proofs.Steps.{some-behind}
 use Rattle.rlc_queue.specs.NewPdu.{room, may_follow, elements, rest}
 use Rattle.rlc_queue.specs.Waiting.{HaveOctets, behind}
 use Rattle.rlc_um.specs.Receiver.{expiring}
-use Rattle.rlc_um.specs.Sender.{Sender as UmSender, Turn as UmTurn, Gives, IsIdle, IsHeld, IsSmall, turn as um_turn, after_turn as um_after_turn, after_take as um_after_take, is_hungry, head_of}
+use Rattle.rlc_um.specs.Sender.{Sender as UmSender, Turn as UmTurn, Gives, IsIdle, IsHeld, IsSmall, turn as um_turn}
+use Rattle.rlc_um.specs.Sender.{after_turn as um_after_turn, after_take as um_after_take, is_hungry, head_of}
 use Rattle.rlc_um.specs.Transparent.{after_take as tm_after}
 use Rattle.law_node.proofs.Ages.{more_octets, taken_by}
 use Rattle.law_node.proofs.AmWithin.{able}
@@ -73,15 +89,19 @@ use Rattle.law_node.proofs.Takings.{behind_octets}
 
 -- ---- what is left behind a new PDU
 
-rest_by : (n : ℕ) (x : List ℕ) (xs rs : List (List ℕ)) (z f : Bool) → HaveOctets (x ∷ xs) → HaveOctets rs → HaveOctets (if z then x ∷ xs else if f then rs else behind n (x ∷ xs))
+rest_by : (n : ℕ) (x : List ℕ) (xs rs : List (List ℕ)) (z f : Bool) → HaveOctets (x ∷ xs) → HaveOctets rs
+    → HaveOctets (if z then x ∷ xs else if f then rs else behind n (x ∷ xs))
 rest_by n x xs rs true f h r = h
 rest_by n x xs rs false true h r = r
 rest_by n x xs rs false false h r = some-behind n (x ∷ xs) h
 
-rest_octets : (head size count used : ℕ) (sdus : List (List ℕ)) → HaveOctets sdus → HaveOctets (rest head size count used sdus)
+rest_octets : (head size count used : ℕ) (sdus : List (List ℕ)) → HaveOctets sdus
+    → HaveOctets (rest head size count used sdus)
 rest_octets head size count used [] h = tt
 rest_octets head size count used (x ∷ xs) h =
-    rest_by (room head size count used) x xs (rest head size (count + 1) (used + length x) xs) (room head size count used == 0) (may_follow (room head size count used) x) h (rest_octets head size (count + 1) (used + length x) xs h.1)
+    rest_by (room head size count used) x xs (rest head size (count + 1) (used + length x) xs)
+    (room head size count used == 0) (may_follow (room head size count used) x) h
+    (rest_octets head size (count + 1) (used + length x) xs h.1)
 
 -- ---- an unacknowledged bearer
 
@@ -129,9 +149,11 @@ um_timed false b = record { tx_is = refl; bits_is = refl }
 pub record UmFed (kind : PdcpKind) (s t : UmSender) : Type 0 where
   pub bits : t.bits ≡ s.bits
   pub octets : HaveOctets s.waiting.sdus → HaveOctets t.waiting.sdus
-  pub queue : AreWhole (IsPdcp kind) s.waiting.begun s.waiting.sdus → AreWhole (IsPdcp kind) t.waiting.begun t.waiting.sdus
+  pub queue : AreWhole (IsPdcp kind) s.waiting.begun s.waiting.sdus
+      → AreWhole (IsPdcp kind) t.waiting.begun t.waiting.sdus
 
-um_given_octets : (kind : PdcpKind) (o : Option (List ℕ)) (s : UmSender) → IfSome o (IsPdcp kind) → UmFed kind s (um_given o s)
+um_given_octets : (kind : PdcpKind) (o : Option (List ℕ)) (s : UmSender) → IfSome o (IsPdcp kind)
+    → UmFed kind s (um_given o s)
 um_given_octets kind None s is = record { bits = refl; octets = λ h. h; queue = λ q. q }
 um_given_octets kind (Some pdu) s is = record {
   bits = refl;
@@ -143,13 +165,18 @@ um_if : (kind : PdcpKind) (t : Bool) (f g : Feeding) → UmFed kind f.tx g.tx �
 um_if kind true f g k = k
 um_if kind false f g k = record { bits = refl; octets = λ h. h; queue = λ q. q }
 
-um_feeds_octets : (kind : PdcpKind) (os : List Offer) (size : ℕ) (held : Option ℕ) (f : Feeding) → IsKind kind → Offers kind f.pdcp → UmFed kind f.tx (um_feeds os size held f).tx
+um_feeds_octets : (kind : PdcpKind) (os : List Offer) (size : ℕ) (held : Option ℕ) (f : Feeding) → IsKind kind
+    → Offers kind f.pdcp → UmFed kind f.tx (um_feeds os size held f).tx
 um_feeds_octets kind [] size held f known o = record { bits = refl; octets = λ h. h; queue = λ q. q }
 um_feeds_octets kind (x ∷ xs) size held f known o =
     let one = um_given_octets kind (taken f.pdcp) f.tx (taken_is kind f.pdcp known o) in
     let more = um_feeds_octets kind xs size held (um_fed f) known (taken_offers kind f.pdcp o) in
     um_if kind (is_hungry f.tx size held) f (um_feeds xs size held (um_fed f))
-    (record { bits = more.bits ∙ one.bits; octets = λ h. more.octets (one.octets h); queue = λ q. more.queue (one.queue q) })
+    (record {
+      bits = more.bits ∙ one.bits;
+      octets = λ h. more.octets (one.octets h);
+      queue = λ q. more.queue (one.queue q);
+    })
 
 um_turned : (kind : PdcpKind) (t : UmTurn) (s : UmSender) (size : ℕ) → UmFed kind s (um_after_turn t s size)
 um_turned kind Gives s size = record {
@@ -161,21 +188,30 @@ um_turned kind IsIdle s size = record { bits = refl; octets = λ h. h; queue = �
 um_turned kind IsHeld s size = record { bits = refl; octets = λ h. h; queue = λ q. q }
 um_turned kind IsSmall s size = record { bits = refl; octets = λ h. h; queue = λ q. q }
 
-pub um_fed_ready : (kind : PdcpKind) (b : UmBearer) (share : ℕ) (held : Option ℕ) → IsKind kind → Offers kind b.pdcp → UmFed kind b.tx (um_feeding b share held).tx
-um_fed_ready kind b share held known o = um_feeds_octets kind (offers b.pdcp.tx) (size_in share) held (record { pdcp = b.pdcp; tx = b.tx; events = [] }) known o
+pub um_fed_ready : (kind : PdcpKind) (b : UmBearer) (share : ℕ) (held : Option ℕ) → IsKind kind → Offers kind b.pdcp
+    → UmFed kind b.tx (um_feeding b share held).tx
+um_fed_ready kind b share held known o =
+    um_feeds_octets kind (offers b.pdcp.tx) (size_in share) held (record { pdcp = b.pdcp; tx = b.tx; events = [] })
+    known o
 
-um_takes : (kind : PdcpKind) (b : UmBearer) (share : ℕ) (held : Option ℕ) → IsKind kind → Offers kind b.pdcp → UmReady kind b → UmReady kind (um_after_taking b share held)
+um_takes : (kind : PdcpKind) (b : UmBearer) (share : ℕ) (held : Option ℕ) → IsKind kind → Offers kind b.pdcp
+    → UmReady kind b → UmReady kind (um_after_taking b share held)
 unfolding um_after_taking um_after_take
 um_takes kind b share held known o r =
     let s = (um_feeding b share held).tx in
     let one = um_fed_ready kind b share held known o in
     let two = um_turned kind (um_turn s (size_in share) held) s (size_in share) in
-    record { bits = r.bits; same = two.bits ∙ one.bits ∙ r.same; octets = two.octets (one.octets r.octets); queue = two.queue (one.queue r.queue) }
+    record {
+      bits = r.bits;
+      same = two.bits ∙ one.bits ∙ r.same;
+      octets = two.octets (one.octets r.octets);
+      queue = two.queue (one.queue r.queue);
+    }
 
 -- ---- an acknowledged sender
 
--- the lengths of what was sent can be written, add up to its field, a segment's place has 15 bits, and the SDUs that are whole in it are
--- PDUs of PDCP
+-- the lengths of what was sent can be written, add up to its field, a segment's place has 15 bits, and the SDUs that
+-- are whole in it are PDUs of PDCP
 pub record IsSpelled (kind : PdcpKind) (k : Key) : Type 0 where
   pub lens : AreLens k.lens
   pub whole : sum k.lens ≡ length k.field
@@ -191,20 +227,23 @@ pub record CanSend (kind : PdcpKind) (s : AmSender) : Type 0 where
   pub queue : AreWhole (IsPdcp kind) s.queue.begun s.queue.sdus
   pub slots : AreSpelled kind (keys s.window.slots)
 
-same_can : (kind : PdcpKind) (s t : AmSender) → t.queue ≡ s.queue → keys t.window.slots ≡ keys s.window.slots → CanSend kind s → CanSend kind t
+same_can : (kind : PdcpKind) (s t : AmSender) → t.queue ≡ s.queue → keys t.window.slots ≡ keys s.window.slots
+    → CanSend kind s → CanSend kind t
 same_can kind s t q k c = record {
   octets = subst (λ (w : _). HaveOctets w.sdus) (sym q) c.octets;
   queue = subst (λ (w : _). AreWhole (IsPdcp kind) w.begun w.sdus) (sym q) c.queue;
   slots = subst (λ (ks : List Key). AreSpelled kind ks) (sym k) c.slots;
 }
 
-spelled_drop : (kind : PdcpKind) (n : ℕ) (slots : List Sent) → AreSpelled kind (keys slots) → AreSpelled kind (keys (drop n slots))
+spelled_drop : (kind : PdcpKind) (n : ℕ) (slots : List Sent) → AreSpelled kind (keys slots)
+    → AreSpelled kind (keys (drop n slots))
 spelled_drop kind zero [] a = tt
 spelled_drop kind zero (h ∷ hs) a = a
 spelled_drop kind (suc n) [] a = tt
 spelled_drop kind (suc n) (h ∷ hs) a = spelled_drop kind n hs a.1
 
-spelled_end : (kind : PdcpKind) (ks : List Key) (k : Key) → AreSpelled kind ks → IsSpelled kind k → AreSpelled kind (ks ++ k ∷ [])
+spelled_end : (kind : PdcpKind) (ks : List Key) (k : Key) → AreSpelled kind ks → IsSpelled kind k
+    → AreSpelled kind (ks ++ k ∷ [])
 spelled_end kind [] k a i = (i, tt)
 spelled_end kind (x ∷ xs) k a i = (a.0, spelled_end kind xs k a.1 i)
 
@@ -222,24 +261,30 @@ polled_queue true s = refl
 polled_queue false s = refl
 
 settled_can : (kind : PdcpKind) (s : AmSender) (more : Bool) → CanSend kind s → CanSend kind (settled s more)
-settled_can kind s more c = same_can kind s (settled s more) (settled_queue (settles s more) s) (ap (λ (w : Kept). keys w.slots) (settled-window (settles s more) s)) c
+settled_can kind s more c =
+    same_can kind s (settled s more) (settled_queue (settles s more) s)
+    (ap (λ (w : Kept). keys w.slots) (settled-window (settles s more) s)) c
 
-read_can : (kind : PdcpKind) (s : AmSender) (below : ℕ) (p : StatusPdu) → CanSend kind s → CanSend kind (read s below p.nacks)
+read_can : (kind : PdcpKind) (s : AmSender) (below : ℕ) (p : StatusPdu) → CanSend kind s
+    → CanSend kind (read s below p.nacks)
 read_can kind s below p c = record {
   octets = c.octets;
   queue = c.queue;
   slots = spelled_drop kind (leading_acked (read_window s below p.nacks).slots) (read_window s below p.nacks).slots
-      (subst (λ (ks : List Key). AreSpelled kind ks) (sym (heard-keys s.window below s.config.max_retx p.nacks)) c.slots);
+      (subst (λ (ks : List Key). AreSpelled kind ks) (sym (heard-keys s.window below s.config.max_retx p.nacks))
+      c.slots);
 }
 
-status_by : (kind : PdcpKind) (b : Bool) (s : AmSender) (p : StatusPdu) → CanSend kind s → CanSend kind (if b then s else applied s (offset_of s.window.base p.ack) p.nacks)
+status_by : (kind : PdcpKind) (b : Bool) (s : AmSender) (p : StatusPdu) → CanSend kind s
+    → CanSend kind (if b then s else applied s (offset_of s.window.base p.ack) p.nacks)
 status_by kind true s p c = c
 status_by kind false s p c =
     let below = offset_of s.window.base p.ack in
     let r = read s below p.nacks in
     let limit = limit_of s below p.nacks in
     let stop = stops s below p.nacks in
-    same_can kind r (ended limit stop r) (ended_queue limit stop r) (ap (λ (w : Kept). keys w.slots) (ended-window limit stop r)) (read_can kind s below p c)
+    same_can kind r (ended limit stop r) (ended_queue limit stop r)
+    (ap (λ (w : Kept). keys w.slots) (ended-window limit stop r)) (read_can kind s below p c)
 
 status_can : (kind : PdcpKind) (s : AmSender) (p : StatusPdu) → CanSend kind s → CanSend kind (after_status s p)
 unfolding after_status
@@ -253,13 +298,15 @@ recalled_queue : (o : Option ℕ) (s : AmSender) → (with_recalled o s).queue �
 recalled_queue None s = refl
 recalled_queue (Some at) s = refl
 
-poll_by : (kind : PdcpKind) (b : Bool) (s : AmSender) (more : Bool) → CanSend kind s → CanSend kind (if b then ended (expiry_limit s more) false (poll_expired s more) else s)
+poll_by : (kind : PdcpKind) (b : Bool) (s : AmSender) (more : Bool) → CanSend kind s
+    → CanSend kind (if b then ended (expiry_limit s more) false (poll_expired s more) else s)
 poll_by kind false s more c = c
 poll_by kind true s more c =
     let x = poll_expired s more in
     let limit = expiry_limit s more in
     let place = recalled_place s more in
-    same_can kind s (ended limit false x) (ended_queue limit false x ∙ recalled_queue place (with_owed s)) (ap (λ (w : Kept). keys w.slots) (ended-window limit false x) ∙ recalled_keys place (with_owed s)) c
+    same_can kind s (ended limit false x) (ended_queue limit false x ∙ recalled_queue place (with_owed s))
+    (ap (λ (w : Kept). keys w.slots) (ended-window limit false x) ∙ recalled_keys place (with_owed s)) c
 
 poll_can : (kind : PdcpKind) (s : AmSender) (more : Bool) → CanSend kind s → CanSend kind (after_expiry s more)
 unfolding after_expiry
@@ -267,7 +314,8 @@ poll_can kind s more c = poll_by kind (runs s.polls.timer) s more c
 
 -- ---- a take of it
 
-am_given_can : (kind : PdcpKind) (o : Option (List ℕ)) (s : AmSender) → IfSome o (IsPdcp kind) → CanSend kind s → CanSend kind (am_given o s)
+am_given_can : (kind : PdcpKind) (o : Option (List ℕ)) (s : AmSender) → IfSome o (IsPdcp kind) → CanSend kind s
+    → CanSend kind (am_given o s)
 am_given_can kind None s is c = c
 am_given_can kind (Some pdu) s is c = record {
   octets = more_octets s.queue.sdus pdu (pdu_some kind pdu is) c.octets;
@@ -275,28 +323,37 @@ am_given_can kind (Some pdu) s is c = record {
   slots = c.slots;
 }
 
-am_if : (kind : PdcpKind) (t : Bool) (w v : Work) → CanSend kind w.tx → CanSend kind v.tx → CanSend kind (if t then v else w).tx
+am_if : (kind : PdcpKind) (t : Bool) (w v : Work) → CanSend kind w.tx → CanSend kind v.tx
+    → CanSend kind (if t then v else w).tx
 am_if kind true w v c d = d
 am_if kind false w v c d = c
 
-am_feeds_can : (kind : PdcpKind) (os : List Offer) (size : ℕ) (held : Option ℕ) (w : Work) → IsKind kind → Offers kind w.pdcp → CanSend kind w.tx → CanSend kind (am_feeds os size held w).tx
+am_feeds_can : (kind : PdcpKind) (os : List Offer) (size : ℕ) (held : Option ℕ) (w : Work) → IsKind kind
+    → Offers kind w.pdcp → CanSend kind w.tx → CanSend kind (am_feeds os size held w).tx
 am_feeds_can kind [] size held w known o c = c
 am_feeds_can kind (x ∷ xs) size held w known o c =
     am_if kind (hungry w.tx size held) w (am_feeds xs size held (am_fed w)) c
-    (am_feeds_can kind xs size held (am_fed w) known (taken_offers kind w.pdcp o) (am_given_can kind (taken w.pdcp) w.tx (taken_is kind w.pdcp known o) c))
+    (am_feeds_can kind xs size held (am_fed w) known (taken_offers kind w.pdcp o)
+    (am_given_can kind (taken w.pdcp) w.tx (taken_is kind w.pdcp known o) c))
 
-pub am_fed_can : (kind : PdcpKind) (b : AmBearer) (share : ℕ) (held : Option ℕ) → IsKind kind → Offers kind b.pdcp → CanSend kind b.tx → CanSend kind (am_feeding b share held).tx
-am_fed_can kind b share held known o c = am_feeds_can kind (offers b.pdcp.tx) (data_size b share) held (work b.pdcp b.tx (status_told b.pdcp.lcid (has_prohibit b) b.rx share)) known o c
+pub am_fed_can : (kind : PdcpKind) (b : AmBearer) (share : ℕ) (held : Option ℕ) → IsKind kind → Offers kind b.pdcp
+    → CanSend kind b.tx → CanSend kind (am_feeding b share held).tx
+am_fed_can kind b share held known o c =
+    am_feeds_can kind (offers b.pdcp.tx) (data_size b share) held
+    (work b.pdcp b.tx (status_told b.pdcp.lcid (has_prohibit b) b.rx share)) known o c
 
 -- a new PDU
 pub new_sdus : (kind : PdcpKind) (s : AmSender) (size : ℕ) → 0 < length s.queue.sdus → 3 ≤ size → CanSend kind s
-    → Whole (IsPdcp kind) (new_slot s size).begins (new_slot s size).ends (cut (but_last (new_slot s size).lens) (new_slot s size).field)
+    → Whole (IsPdcp kind) (new_slot s size).begins (new_slot s size).ends
+    (cut (but_last (new_slot s size).lens) (new_slot s size).field)
 new_sdus kind s size some fits c =
     let es = elements 2 size 0 0 s.queue.sdus in
-    subst (λ (ds : List (List ℕ)). Whole (IsPdcp kind) (not s.queue.begun) (not (new_partial s size)) ds) (sym (cut_elements es (new-lens 2 size s.queue.sdus c.octets some (omega (arith, fits)))))
+    subst (λ (ds : List (List ℕ)). Whole (IsPdcp kind) (not s.queue.begun) (not (new_partial s size)) ds)
+    (sym (cut_elements es (new-lens 2 size s.queue.sdus c.octets some (omega (arith, fits)))))
     (new_whole (IsPdcp kind) 2 size 0 0 s.queue.begun s.queue.sdus c.queue).wholes
 
-pub new_spelled : (kind : PdcpKind) (s : AmSender) (size : ℕ) → 0 < length s.queue.sdus → 3 ≤ size → size ≤ 9424 → CanSend kind s → IsSpelled kind (key (new_slot s size))
+pub new_spelled : (kind : PdcpKind) (s : AmSender) (size : ℕ) → 0 < length s.queue.sdus → 3 ≤ size → size ≤ 9424
+    → CanSend kind s → IsSpelled kind (key (new_slot s size))
 new_spelled kind s size some fits most c =
     let within = new-within 2 size s.queue.sdus some (omega (arith, fits)) in
     record {
@@ -307,21 +364,27 @@ new_spelled kind s size some fits most c =
     }
 
 polled_can : (kind : PdcpKind) (b : Bool) (s : AmSender) → CanSend kind s → CanSend kind (with_poll b s)
-polled_can kind b s c = same_can kind s (with_poll b s) (polled_queue b s) (ap (λ (w : Kept). keys w.slots) (polled-window b s)) c
+polled_can kind b s c =
+    same_can kind s (with_poll b s) (polled_queue b s) (ap (λ (w : Kept). keys w.slots) (polled-window b s)) c
 
-turned_can : (kind : PdcpKind) (t : Turn) (s : AmSender) (size : ℕ) (more : Bool) → IsAble s size t → size ≤ 9424 → CanSend kind s → CanSend kind (after_turn t s size more)
+turned_can : (kind : PdcpKind) (t : Turn) (s : AmSender) (size : ℕ) (more : Bool) → IsAble s size t → size ≤ 9424
+    → CanSend kind s → CanSend kind (after_turn t s size more)
 unfolding after_turn
 turned_can kind turns.Whole s size more a most c =
-    polled_can kind (is_wanted (sent_whole s) more) (sent_whole s) (same_can kind s (sent_whole s) refl (set-keys s.window.slots (first_place s) (rested (again s)) refl) c)
+    polled_can kind (is_wanted (sent_whole s) more) (sent_whole s)
+    (same_can kind s (sent_whole s) refl (set-keys s.window.slots (first_place s) (rested (again s)) refl) c)
 turned_can kind turns.Part s size more a most c =
     polled_can kind (is_wanted (sent_segment s size) more) (sent_segment s size)
-    (same_can kind s (sent_segment s size) refl (set-keys s.window.slots (first_place s) (sent_part (again s) (next_stretch (again s) size).from (next_stretch (again s) size).to) refl) c)
+    (same_can kind s (sent_segment s size) refl
+    (set-keys s.window.slots (first_place s)
+    (sent_part (again s) (next_stretch (again s) size).from (next_stretch (again s) size).to) refl) c)
 turned_can kind turns.New s size more a most c =
     polled_can kind (is_wanted (sent_new s size) more) (sent_new s size) (record {
       octets = rest_octets 2 size 0 0 s.queue.sdus c.octets;
       queue = (new_whole (IsPdcp kind) 2 size 0 0 s.queue.begun s.queue.sdus c.queue).left';
       slots = subst (λ (ks : List Key). AreSpelled kind ks) (sym (append-keys s.window.slots (new_slot s size)))
-          (spelled_end kind (keys s.window.slots) (key (new_slot s size)) c.slots (new_spelled kind s size a.0 a.1 most c));
+          (spelled_end kind (keys s.window.slots) (key (new_slot s size)) c.slots
+          (new_spelled kind s size a.0 a.1 most c));
     })
 turned_can kind turns.Idle s size more a most c = c
 turned_can kind turns.Stopped s size more a most c = c
@@ -334,7 +397,8 @@ left_by share n true = omega arith
 left_by share n false = omega arith
 
 pub size_most : (b : AmBearer) (share : ℕ) → share ≤ 9424 → data_size b share ≤ 9424
-size_most b share most = omega (arith, left_by share (3 + length (status_pdu b.rx share)) (writes_status b.rx share), most)
+size_most b share most =
+    omega (arith, left_by share (3 + length (status_pdu b.rx share)) (writes_status b.rx share), most)
 
 -- ---- an acknowledged bearer
 
@@ -346,25 +410,31 @@ settled_work_can : (kind : PdcpKind) (b : Bool) (w : Work) → CanSend kind w.tx
 settled_work_can kind true w c = settled_can kind w.tx (has_more w.pdcp) c
 settled_work_can kind false w c = c
 
-hears_can : (kind : PdcpKind) (sdus : List (List ℕ)) (w : Work) → CanSend kind w.tx → CanSend kind (am_hears_all sdus w).tx
+hears_can : (kind : PdcpKind) (sdus : List (List ℕ)) (w : Work) → CanSend kind w.tx
+    → CanSend kind (am_hears_all sdus w).tx
 hears_can kind [] w c = c
-hears_can kind (sdu ∷ sdus) w c = hears_can kind sdus (am_hears sdu w) (settled_work_can kind (applies sdu Arrived w.pdcp) (heard_work sdu w) c)
+hears_can kind (sdu ∷ sdus) w c =
+    hears_can kind sdus (am_hears sdu w) (settled_work_can kind (applies sdu Arrived w.pdcp) (heard_work sdu w) c)
 
 told_can : (kind : PdcpKind) (h : HeardStatus) (w : Work) → CanSend kind w.tx → CanSend kind (status_work h w).tx
 told_can kind heard_as.Ignored w c = c
 told_can kind (heard_as.Limit sn) w c = c
 told_can kind (heard_as.Applied stopped') w c = settled_can kind w.tx (has_more w.pdcp) c
 
-am_arrives : (kind : PdcpKind) (r : Result AcknowledgedPdu RlcRefusal) (b : AmBearer) → AmReady kind b → AmReady kind (am_arrived_left r b)
+am_arrives : (kind : PdcpKind) (r : Result AcknowledgedPdu RlcRefusal) (b : AmBearer) → AmReady kind b
+    → AmReady kind (am_arrived_left r b)
 am_arrives kind (Err fault) b r = r
 am_arrives kind (Ok (Payload p)) b r = record {
-  can = hears_can kind (rx_arrived b.rx p).out.ready (work b.pdcp b.tx (landed_told b.pdcp.lcid (landed b.rx p) (turned b.rx p))) r.can;
+  can =
+      hears_can kind (rx_arrived b.rx p).out.ready
+      (work b.pdcp b.tx (landed_told b.pdcp.lcid (landed b.rx p) (turned b.rx p))) r.can;
   cells = arrived_short b.rx p r.cells;
 }
 am_arrives kind (Ok (Status p)) b r =
     let s : AmSender = after_status b.tx p in
     record {
-      can = told_can kind (heard b.tx p) (work (confirms s.accounts.news b.pdcp) (all_confirmed s) []) (same_can kind s (all_confirmed s) refl refl (status_can kind b.tx p r.can));
+      can = told_can kind (heard b.tx p) (work (confirms s.accounts.news b.pdcp) (all_confirmed s) [])
+          (same_can kind s (all_confirmed s) refl refl (status_can kind b.tx p r.can));
       cells = r.cells;
     }
 
@@ -382,17 +452,25 @@ am_counts kind Poll b r = record { can = same_can kind b.tx (sender_ticked b.tx)
 am_counts kind Reorder b r = record { can = r.can; cells = r.cells }
 am_counts kind Prohibit b r = record { can = r.can; cells = r.cells }
 
-am_ended : (kind : PdcpKind) (t : Bool) (clock : Clock) (x : Ticking) → AmReady kind x.bearer → AmReady kind (expires_if t clock x).bearer
+am_ended : (kind : PdcpKind) (t : Bool) (clock : Clock) (x : Ticking) → AmReady kind x.bearer
+    → AmReady kind (expires_if t clock x).bearer
 am_ended kind true clock x r = am_expires kind clock x.bearer r
 am_ended kind false clock x r = r
 
 am_ticks : (kind : PdcpKind) (clock : Clock) (x : Ticking) → AmReady kind x.bearer → AmReady kind (ticks clock x).bearer
-am_ticks kind clock x r = am_ended kind (has_ended clock x.bearer) clock (record x { bearer = counts clock x.bearer }) (am_counts kind clock x.bearer r)
+am_ticks kind clock x r =
+    am_ended kind (has_ended clock x.bearer) clock (record x { bearer = counts clock x.bearer })
+    (am_counts kind clock x.bearer r)
 
 am_discards : (kind : PdcpKind) (x : Ticking) → AmReady kind x.bearer → AmReady kind (discards x).bearer
 am_discards kind x r =
     let told = tick_told x.bearer.pdcp in
-    record { can = settled_work_can kind (nat_lt 0 (length told)) (work (after_tick x.bearer.pdcp) x.bearer.tx (x.events ++ told)) r.can; cells = r.cells }
+    record {
+      can =
+          settled_work_can kind (nat_lt 0 (length told))
+          (work (after_tick x.bearer.pdcp) x.bearer.tx (x.events ++ told)) r.can;
+      cells = r.cells;
+    }
 
 am_ticked_ready : (kind : PdcpKind) (b : AmBearer) → AmReady kind b → AmReady kind (am_ticked b).bearer
 unfolding am_ticked
@@ -402,18 +480,21 @@ am_ticked_ready kind b r =
     let z = ticks Reorder y in
     am_discards kind (ticks Prohibit z) (am_ticks kind Prohibit z (am_ticks kind Reorder y (am_ticks kind Poll x r)))
 
-left_short : (t : Bool) (b : AmBearer) → AreShort b.rx.window.slots → AreShort (if t then status_written_of b.rx else b.rx).window.slots
+left_short : (t : Bool) (b : AmBearer) → AreShort b.rx.window.slots
+    → AreShort (if t then status_written_of b.rx else b.rx).window.slots
 left_short true b a = a
 left_short false b a = a
 
-am_takes : (kind : PdcpKind) (b : AmBearer) (share : ℕ) (held : Option ℕ) → share ≤ 9424 → IsKind kind → Offers kind b.pdcp → AmReady kind b → AmReady kind (am_after_taking b share held)
+am_takes : (kind : PdcpKind) (b : AmBearer) (share : ℕ) (held : Option ℕ) → share ≤ 9424 → IsKind kind
+    → Offers kind b.pdcp → AmReady kind b → AmReady kind (am_after_taking b share held)
 unfolding am_after_taking
 am_takes kind b share held most known o r =
     let w = am_feeding b share held in
     let size = data_size b share in
     let more = has_more w.pdcp in
     record {
-      can = turned_can kind (am_turn w.tx size held more) w.tx size more (able w.tx size held more) (size_most b share most) (am_fed_can kind b share held known o r.can);
+      can = turned_can kind (am_turn w.tx size held more) w.tx size more (able w.tx size held more)
+          (size_most b share most) (am_fed_can kind b share held known o r.can);
       cells = left_short (writes_status b.rx share) b r.cells;
     }
 
@@ -427,7 +508,8 @@ IsReady kind (Am b) = AmReady kind b
 ready_arrives : (kind : PdcpKind) (f : Flow) (pdu : List ℕ) → IsReady kind f → IsReady kind (flow_arrived f pdu)
 unfolding flow_arrived um_after_arrival am_after_arrival
 ready_arrives kind (Tm b) pdu r = r
-ready_arrives kind (Um b) pdu r = um_still kind b (um_arrived_left (umd_at b.bits pdu) b) (um_arrives (umd_at b.bits pdu) b) r
+ready_arrives kind (Um b) pdu r =
+    um_still kind b (um_arrived_left (umd_at b.bits pdu) b) (um_arrives (umd_at b.bits pdu) b) r
 ready_arrives kind (Am b) pdu r = am_arrives kind (am_at pdu) b r
 
 ready_expires : (kind : PdcpKind) (f : Flow) (clock : Clock) → IsReady kind f → IsReady kind (flow_expired f clock)
@@ -445,7 +527,8 @@ ready_ticks kind (Um b) r =
     um_still kind b (after_ticking b) (record { tx_is = s.tx_is; bits_is = s.bits_is }) r
 ready_ticks kind (Am b) r = am_ticked_ready kind b r
 
-ready_submits : (kind : PdcpKind) (f : Flow) (octets : List ℕ) → flow_refusal f octets ≡ None → IsReady kind f → IsReady kind (flow_submitted f octets)
+ready_submits : (kind : PdcpKind) (f : Flow) (octets : List ℕ) → flow_refusal f octets ≡ None → IsReady kind f
+    → IsReady kind (flow_submitted f octets)
 unfolding flow_submitted flow_refusal
 ready_submits kind (Tm b) octets e r = more_octets b.waiting octets (taken_by (length octets == 0) b octets refl e) r
 ready_submits kind (Um b) octets e r = record { bits = r.bits; same = r.same; octets = r.octets; queue = r.queue }
@@ -457,7 +540,8 @@ ready_discards kind (Tm b) ttis r = r
 ready_discards kind (Um b) ttis r = record { bits = r.bits; same = r.same; octets = r.octets; queue = r.queue }
 ready_discards kind (Am b) ttis r = record { can = r.can; cells = r.cells }
 
-ready_takes : (kind : PdcpKind) (f : Flow) (share : ℕ) (held : Option ℕ) → share ≤ 9424 → IsKind kind → OfPdcp (Offers kind) f → IsReady kind f → IsReady kind (flow_after f share held)
+ready_takes : (kind : PdcpKind) (f : Flow) (share : ℕ) (held : Option ℕ) → share ≤ 9424 → IsKind kind
+    → OfPdcp (Offers kind) f → IsReady kind f → IsReady kind (flow_after f share held)
 unfolding flow_after tm_after
 ready_takes kind (Tm b) share held most known o r = behind_octets b.next (share - 3) b.waiting r
 ready_takes kind (Um b) share held most known o r = um_takes kind b share held known o r
@@ -477,7 +561,8 @@ pub record WritesWell (lcid : ℕ) (f : Flow) : Type 0 where
   pub offers' : OfPdcp (Offers kind) f
   pub ready : IsReady kind f
 
-fresh_writes : (k : Kind) (c : BearerConfig) (keys' : Keys) (side : Side) → c.kind ≡ k → IsConfig c → WritesWell c.channel.lcid (flow_of k c keys' side)
+fresh_writes : (k : Kind) (c : BearerConfig) (keys' : Keys) (side : Side) → c.kind ≡ k → IsConfig c
+    → WritesWell c.channel.lcid (flow_of k c keys' side)
 unfolding fresh_um fresh_am
 fresh_writes kinds.Tm c keys' side e g = record { kind = pdcp.Srb; known = tt; offers' = tt; ready = tt }
 fresh_writes kinds.Srb c keys' side e g = record {
@@ -490,7 +575,12 @@ fresh_writes kinds.Um c keys' side e g = record {
   kind = pdcp.Um c.pdcp_bits;
   known = subst (λ (k : Kind). ArePdcpBits k c.pdcp_bits) e g.pdcp_bits;
   offers' = begun_offers c.channel.lcid (pdcp.Um c.pdcp_bits) c.first keys' side;
-  ready = record { bits = subst (λ (k : Kind). AreRlcBits k c.rlc_bits) e g.rlc_bits; same = refl; octets = tt; queue = tt };
+  ready = record {
+    bits = subst (λ (k : Kind). AreRlcBits k c.rlc_bits) e g.rlc_bits;
+    same = refl;
+    octets = tt;
+    queue = tt;
+  };
 }
 fresh_writes kinds.Am c keys' side e g = record {
   kind = pdcp.Am c.pdcp_bits;
@@ -503,11 +593,46 @@ pub ready_kept : IsKept WritesWell
 ready_kept = record {
   idle = record { kind = pdcp.Srb; known = tt; offers' = tt; ready = tt };
   begins = λ c keys' side g. fresh_writes c.kind c keys' side refl g;
-  submits = λ lcid f octets e p. record { kind = p.kind; known = p.known; offers' = submits_of (Offers p.kind) (offers_pass p.kind p.known) f octets e p.offers'; ready = ready_submits p.kind f octets e p.ready };
-  discards = λ lcid f ttis p. record { kind = p.kind; known = p.known; offers' = discards_of (Offers p.kind) (offers_pass p.kind p.known) f ttis p.offers'; ready = ready_discards p.kind f ttis p.ready };
-  takes = λ lcid f share held most p. record { kind = p.kind; known = p.known; offers' = takes_of (Offers p.kind) (offers_pass p.kind p.known) f share held p.offers'; ready = ready_takes p.kind f share held most p.known p.offers' p.ready };
-  arrives = λ lcid f pdu p. record { kind = p.kind; known = p.known; offers' = arrives (Offers p.kind) (offers_pass p.kind p.known) f pdu p.offers'; ready = ready_arrives p.kind f pdu p.ready };
-  expires = λ lcid f clock p. record { kind = p.kind; known = p.known; offers' = expires (Offers p.kind) (offers_pass p.kind p.known) f clock p.offers'; ready = ready_expires p.kind f clock p.ready };
-  ticks = λ lcid f p. record { kind = p.kind; known = p.known; offers' = ticks_of (Offers p.kind) (offers_pass p.kind p.known) f p.offers'; ready = ready_ticks p.kind f p.ready };
-  moves = λ lcid f keys' p. record { kind = p.kind; known = p.known; offers' = moves_of (Offers p.kind) (offers_pass p.kind p.known) f keys' p.offers'; ready = ready_moves p.kind f keys' p.ready };
+  submits = λ lcid f octets e p. record {
+    kind = p.kind;
+    known = p.known;
+    offers' = submits_of (Offers p.kind) (offers_pass p.kind p.known) f octets e p.offers';
+    ready = ready_submits p.kind f octets e p.ready;
+  };
+  discards = λ lcid f ttis p. record {
+    kind = p.kind;
+    known = p.known;
+    offers' = discards_of (Offers p.kind) (offers_pass p.kind p.known) f ttis p.offers';
+    ready = ready_discards p.kind f ttis p.ready;
+  };
+  takes = λ lcid f share held most p. record {
+    kind = p.kind;
+    known = p.known;
+    offers' = takes_of (Offers p.kind) (offers_pass p.kind p.known) f share held p.offers';
+    ready = ready_takes p.kind f share held most p.known p.offers' p.ready;
+  };
+  arrives = λ lcid f pdu p. record {
+    kind = p.kind;
+    known = p.known;
+    offers' = arrives (Offers p.kind) (offers_pass p.kind p.known) f pdu p.offers';
+    ready = ready_arrives p.kind f pdu p.ready;
+  };
+  expires = λ lcid f clock p. record {
+    kind = p.kind;
+    known = p.known;
+    offers' = expires (Offers p.kind) (offers_pass p.kind p.known) f clock p.offers';
+    ready = ready_expires p.kind f clock p.ready;
+  };
+  ticks = λ lcid f p. record {
+    kind = p.kind;
+    known = p.known;
+    offers' = ticks_of (Offers p.kind) (offers_pass p.kind p.known) f p.offers';
+    ready = ready_ticks p.kind f p.ready;
+  };
+  moves = λ lcid f keys' p. record {
+    kind = p.kind;
+    known = p.known;
+    offers' = moves_of (Offers p.kind) (offers_pass p.kind p.known) f keys' p.offers';
+    ready = ready_moves p.kind f keys' p.ready;
+  };
 }

@@ -1,10 +1,13 @@
 -- What an acknowledged receiver holds of a number is so short that a STATUS can name its places.
-use Rattle.std.proofs.Common.{◌≡◌, ◌≤◌, ℕ, zero, suc, ◌+◌, ◌-◌, nat_le, Bool, true, false, if◌then◌else◌, Option, Some, None, List, [], ◌∷◌, ◌++◌, length, map, drop, replicate, set, slice_get, length-append, refl, ap, arith}
+use Rattle.std.proofs.Common.{◌≡◌, ◌≤◌, ℕ, zero, suc, ◌+◌, ◌-◌, nat_le, Bool, true, false, if◌then◌else◌, Option, Some}
+use Rattle.std.proofs.Common.{None, List, [], ◌∷◌, ◌++◌, length, map, drop, replicate, set, slice_get, length-append}
+use Rattle.std.proofs.Common.{refl, ap, arith}
 use Rattle.std.proofs.lemmas.Bool.Decides.{nat_tests}
 use Rattle.rlc_am_rx_window.specs.Cells.{Cell, over, placed}
 use Rattle.rlc_am_rx_window.specs.Held.{Held, nothing, with_piece}
 use Rattle.rlc_am_rx_window.specs.Piece.{Piece, end_of, piece_of}
-use Rattle.rlc_am_rx_window.specs.Window.{Kept, widened, slot_at, is_repeat, is_clash, landing, offset_of, with_kept, complete_first}
+use Rattle.rlc_am_rx_window.specs.Window.{Kept, widened, slot_at, is_repeat, is_clash, landing, offset_of, with_kept}
+use Rattle.rlc_am_rx_window.specs.Window.{complete_first}
 use Rattle.rlc_am_rx.specs.Machine.{landed as landed_on, window_with, after_landing, arrived, after_reorder}
 use Rattle.rlc_am_rx.specs.State.{State}
 use Rattle.rlc_pdu.specs.declared.outcome.Landed.{Landed}
@@ -61,7 +64,13 @@ somes_length [] = refl
 somes_length (c ∷ cs) = ap suc (somes_length cs)
 
 placed_length : (so : ℕ) (cs : List Cell) → length (placed so cs) ≡ so + length cs
-placed_length so cs = omega (arith, length-append (replicate {A = Option Cell} so None) (map (λ c. Some c) cs), gap_length so, somes_length cs)
+placed_length so cs =
+    omega (
+      arith,
+      length-append (replicate {A = Option Cell} so None) (map (λ c. Some c) cs),
+      gap_length so,
+      somes_length cs,
+    )
 
 piece_short : (h : Held) (p : Piece) (poll : Bool) → IsShort h → end_of p ≤ 32767 → IsShort (with_piece h p poll)
 piece_short h p poll a e = over_length h.cells (placed p.so p.cells) a (omega (arith, placed_length p.so p.cells, e))
@@ -75,22 +84,29 @@ no_clash : (held : Option Held) (p : Piece) → is_clash held p ≡ false → en
 no_clash None p e = grind (arith, nat_tests)
 no_clash (Some h) p e = grind (arith, nat_tests)
 
-fresh_within : (t : Bool) (held : Option Held) (p : Piece) → (if t then Outside else landing held p) ≡ Fresh → end_of p ≤ 32767
+fresh_within : (t : Bool) (held : Option Held) (p : Piece) → (if t then Outside else landing held p) ≡ Fresh
+    → end_of p ≤ 32767
 fresh_within true held p e = let no : Outside ≡ Fresh = e in absurd cc
 fresh_within false held p e = no_clash held p (fresh_by (is_repeat held p) (is_clash held p) e)
 
-kept_short : (w : Kept) (at : ℕ) (p : Piece) (poll : Bool) → AreShort w.slots → end_of p ≤ 32767 → AreShort (with_kept w at p poll).slots
+kept_short : (w : Kept) (at : ℕ) (p : Piece) (poll : Bool) → AreShort w.slots → end_of p ≤ 32767
+    → AreShort (with_kept w at p poll).slots
 kept_short w at p poll a e =
-    let wide = append_short w.slots (replicate (at + 1 - length w.slots) nothing) a (none_short (at + 1 - length w.slots)) in
-    set_short (widened w.slots (at + 1)) at (with_piece (slot_at (widened w.slots (at + 1)) at) p poll) wide (piece_short (slot_at (widened w.slots (at + 1)) at) p poll (at_short (widened w.slots (at + 1)) at wide) e)
+    let wide = append_short w.slots (replicate (at + 1 - length w.slots) nothing) a
+    (none_short (at + 1 - length w.slots)) in
+    set_short (widened w.slots (at + 1)) at (with_piece (slot_at (widened w.slots (at + 1)) at) p poll) wide
+    (piece_short (slot_at (widened w.slots (at + 1)) at) p poll (at_short (widened w.slots (at + 1)) at wide) e)
 
 -- ---- the calls
 
-landing_short : (l : Landed) (s : State) (p : AmdPdu) → landed_on s p ≡ l → AreShort s.window.slots → AreShort (after_landing l s p).window.slots
+landing_short : (l : Landed) (s : State) (p : AmdPdu) → landed_on s p ≡ l → AreShort s.window.slots
+    → AreShort (after_landing l s p).window.slots
 landing_short Fresh s p e a =
     let at = offset_of s.window.front p.sn in
     let w = window_with s.window p in
-    drop_short (complete_first w.slots) w.slots (kept_short s.window at (piece_of p) p.poll a (fresh_within (nat_le 512 at) (slice_get s.window.slots at) (piece_of p) e))
+    drop_short (complete_first w.slots) w.slots
+    (kept_short s.window at (piece_of p) p.poll a
+    (fresh_within (nat_le 512 at) (slice_get s.window.slots at) (piece_of p) e))
 landing_short Repeat s p e a = a
 landing_short Outside s p e a = a
 landing_short Clash s p e a = a
@@ -98,6 +114,7 @@ landing_short Clash s p e a = a
 pub arrived_short : (s : State) (p : AmdPdu) → AreShort s.window.slots → AreShort (arrived s p).window.slots
 arrived_short s p a = landing_short (landed_on s p) s p refl a
 
-pub reorder_short : (mark : Option ℕ) (s : State) → AreShort s.window.slots → AreShort (after_reorder mark s).window.slots
+pub reorder_short : (mark : Option ℕ) (s : State) → AreShort s.window.slots
+    → AreShort (after_reorder mark s).window.slots
 reorder_short None s a = a
 reorder_short (Some x) s a = a

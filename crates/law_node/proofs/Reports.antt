@@ -1,5 +1,7 @@
 -- The report of what the bearers have left: its fields, and its room.
-use Rattle.std.proofs.Common.{◌≡◌, ◌≤◌, ◌<◌, ℕ, suc, ◌+◌, ◌-◌, nat_lt, nat_le, if◌then◌else◌, Bool, true, false, Option, Some, None, unwrap_or, List, [], ◌∷◌, length, replicate, get_or, set, position, min, ◌^◌, refl, ◌∙◌, arith}
+use Rattle.std.proofs.Common.{◌≡◌, ◌≤◌, ◌<◌, ℕ, suc, ◌+◌, ◌-◌, nat_lt, nat_le, if◌then◌else◌, Bool, true, false, Option}
+use Rattle.std.proofs.Common.{Some, None, unwrap_or, List, [], ◌∷◌, length, replicate, get_or, set, position, min, ◌^◌}
+use Rattle.std.proofs.Common.{refl, ◌∙◌, arith}
 use Rattle.std.specs.List.{All}
 use Rattle.std.proofs.lemmas.Bool.Decides.{nat_tests}
 use Rattle.std.proofs.lemmas.List.Elements.{All-nil, All-cons}
@@ -17,7 +19,8 @@ use Rattle.l2_node.specs.Writing.{backlog_at, all_waiting, waiting, top_group, r
 
 -- ---- its fields
 
-place_within : (test : ℕ → Bool) (xs : List ℕ) (other most : ℕ) (o : Option ℕ) → position test xs ≡ o → length xs ≤ most → other < most → unwrap_or o other < most
+place_within : (test : ℕ → Bool) (xs : List ℕ) (other most : ℕ) (o : Option ℕ) → position test xs ≡ o
+    → length xs ≤ most → other < most → unwrap_or o other < most
 place_within test xs other most None e le lt = lt
 place_within test xs other most (Some i) e le lt = let h = position-Some test xs i 0 e in omega (arith, h.0)
 
@@ -44,7 +47,9 @@ top_by false group other g o = o
 
 top_below : (bs : List (Of Life)) (cs : List Channel) → All (λ c. c.group < 4) cs → top_group bs cs < 4
 top_below bs [] a = omega arith
-top_below bs (c ∷ cs) a = top_by (nat_lt 0 (backlog_at bs c.lcid)) c.group (top_group bs cs) (a 0 c (omega arith)) (top_below bs cs (λ k x h. a (suc k) x (omega arith)))
+top_below bs (c ∷ cs) a =
+    top_by (nat_lt 0 (backlog_at bs c.lcid)) c.group (top_group bs cs) (a 0 c (omega arith))
+    (top_below bs cs (λ k x h. a (suc k) x (omega arith)))
 
 four : (a b c d : ℕ) → All (λ level. level < 64) (level_of a ∷ level_of b ∷ level_of c ∷ level_of d ∷ [])
 four a b c d =
@@ -63,17 +68,30 @@ abbrev pub FitsIn : Option Bsr → ℕ → Type 0
 FitsIn None padding = Unit {0}
 FitsIn (Some r) padding = IsFit r padding
 
-report_by : (none all several : Bool) (ws : List ℕ) (top padding : ℕ) → nat_lt padding 2 ≡ none → nat_le 4 padding ≡ all → nat_lt 1 (groups ws) ≡ several → length ws ≡ 4 → top < 4 → FitsIn (report ws top padding) padding
+report_by : (none all several : Bool) (ws : List ℕ) (top padding : ℕ) → nat_lt padding 2 ≡ none
+    → nat_le 4 padding ≡ all → nat_lt 1 (groups ws) ≡ several → length ws ≡ 4 → top < 4
+    → FitsIn (report ws top padding) padding
 unfolding report
 report_by true all several ws top padding e f g l t = rw e tt
-report_by false true several ws top padding e f g l t = rw (e, f) (record { fields = (refl, four (get_or ws 0 0) (get_or ws 1 0) (get_or ws 2 0) (get_or ws 3 0)); room = grind (arith, nat_tests) })
-report_by false false true ws top padding e f g l t = rw (e, f, g) (record { fields = (t, level_below (get_or ws top 0)); room = grind (arith, nat_tests) })
+report_by false true several ws top padding e f g l t =
+    rw (e, f) (record {
+      fields = (refl, four (get_or ws 0 0) (get_or ws 1 0) (get_or ws 2 0) (get_or ws 3 0));
+      room = grind (arith, nat_tests);
+    })
+report_by false false true ws top padding e f g l t =
+    rw (e, f, g) (record { fields = (t, level_below (get_or ws top 0)); room = grind (arith, nat_tests) })
 report_by false false false ws top padding e f g l t =
-    let first : first_group ws < 4 = place_within (λ octets. nat_lt 0 octets) ws 0 4 (position (λ octets. nat_lt 0 octets) ws) refl (omega arith) (omega arith) in
-    rw (e, f, g) (record { fields = (first, level_below (get_or ws (first_group ws) 0)); room = grind (arith, nat_tests) })
+    let first : first_group ws < 4 =
+    place_within (λ octets. nat_lt 0 octets) ws 0 4 (position (λ octets. nat_lt 0 octets) ws) refl (omega arith)
+    (omega arith) in
+    rw (e, f, g) (record {
+      fields = (first, level_below (get_or ws (first_group ws) 0));
+      room = grind (arith, nat_tests);
+    })
 
 some_fits : (ws : List ℕ) (top padding : ℕ) → length ws ≡ 4 → top < 4 → FitsIn (report ws top padding) padding
-some_fits ws top padding l t = report_by (nat_lt padding 2) (nat_le 4 padding) (nat_lt 1 (groups ws)) ws top padding refl refl refl l t
+some_fits ws top padding l t =
+    report_by (nat_lt padding 2) (nat_le 4 padding) (nat_lt 1 (groups ws)) ws top padding refl refl refl l t
 
 if_fits : (b : Bool) (o : Option Bsr) (padding : ℕ) → FitsIn o padding → FitsIn (if b then o else None) padding
 if_fits true o padding h = h
@@ -85,9 +103,13 @@ IsUp Nb None = Unit {0}
 IsUp Nb (Some r) = ⊥
 IsUp Ue o = Unit {0}
 
-pub report_fits_in : (side : Side) (reports : Bool) (bs : List (Of Life)) (cs : List Channel) (padding : ℕ) → All (λ c. c.group < 4) cs → FitsIn (report_of side reports bs cs padding) padding
-report_fits_in side reports bs cs padding a = if_fits (reporting side reports) (report (waiting bs cs) (top_group bs cs) padding) padding (some_fits (waiting bs cs) (top_group bs cs) padding (waiting_length bs cs) (top_below bs cs a))
+pub report_fits_in : (side : Side) (reports : Bool) (bs : List (Of Life)) (cs : List Channel) (padding : ℕ)
+    → All (λ c. c.group < 4) cs → FitsIn (report_of side reports bs cs padding) padding
+report_fits_in side reports bs cs padding a =
+    if_fits (reporting side reports) (report (waiting bs cs) (top_group bs cs) padding) padding
+    (some_fits (waiting bs cs) (top_group bs cs) padding (waiting_length bs cs) (top_below bs cs a))
 
-pub only_up : (side : Side) (reports : Bool) (bs : List (Of Life)) (cs : List Channel) (padding : ℕ) → IsUp side (report_of side reports bs cs padding)
+pub only_up : (side : Side) (reports : Bool) (bs : List (Of Life)) (cs : List Channel) (padding : ℕ)
+    → IsUp side (report_of side reports bs cs padding)
 only_up Nb reports bs cs padding = tt
 only_up Ue reports bs cs padding = tt

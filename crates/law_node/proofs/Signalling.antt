@@ -30,7 +30,8 @@ use Rattle.law_node.proofs.Pdcp.{arrives, expires, ticks_of, submits_of, discard
 abbrev pub IsRight : ℕ → Flow → Type 0
 IsRight lcid f = is_signalling f ≡ is_srb lcid
 
-begins_right : (kind : Kind) (c : BearerConfig) (keys : Keys) (side : Side) → IsChannelOf kind c.channel.lcid → IsRight c.channel.lcid (flow_of kind c keys side)
+begins_right : (kind : Kind) (c : BearerConfig) (keys : Keys) (side : Side) → IsChannelOf kind c.channel.lcid
+    → IsRight c.channel.lcid (flow_of kind c keys side)
 unfolding fresh_am begun
 begins_right kinds.Tm c keys side i = grind (arith, nat_tests)
 begins_right kinds.Srb c keys side i = grind (arith, nat_tests, i.0, i.1)
@@ -38,50 +39,60 @@ begins_right kinds.Um c keys side i = grind (arith, nat_tests, i.0)
 begins_right kinds.Am c keys side i = grind (arith, nat_tests, i.0)
 
 -- what keeps the kind of PDCP
-as_before : (lcid : ℕ) (kind next : PdcpKind) → next ≡ kind → not (is_am kind) ≡ is_srb lcid → not (is_am next) ≡ is_srb lcid
+as_before : (lcid : ℕ) (kind next : PdcpKind) → next ≡ kind → not (is_am kind) ≡ is_srb lcid
+    → not (is_am next) ≡ is_srb lcid
 as_before lcid kind next same p = ap (λ (k : PdcpKind). not (is_am k)) same ∙ p
 
-submits_right : (lcid : ℕ) (f : Flow) (octets : List ℕ) → flow_refusal f octets ≡ None → IsRight lcid f → IsRight lcid (flow_submitted f octets)
+submits_right : (lcid : ℕ) (f : Flow) (octets : List ℕ) → flow_refusal f octets ≡ None → IsRight lcid f
+    → IsRight lcid (flow_submitted f octets)
 unfolding flow_submitted
 submits_right lcid (Tm b) octets r p = p
 submits_right lcid (Um b) octets r p = p
-submits_right lcid (Am b) octets r p = as_before lcid b.pdcp.kind _ (submits_of (IsOfKind b.pdcp.kind) (kind_passes b.pdcp.kind) (Am b) octets r refl) p
+submits_right lcid (Am b) octets r p =
+    as_before lcid b.pdcp.kind _ (submits_of (IsOfKind b.pdcp.kind) (kind_passes b.pdcp.kind) (Am b) octets r refl) p
 
 discards_right : (lcid : ℕ) (f : Flow) (ttis : ℕ) → IsRight lcid f → IsRight lcid (with_discard f ttis)
 unfolding with_discard
 discards_right lcid (Tm b) ttis p = p
 discards_right lcid (Um b) ttis p = p
-discards_right lcid (Am b) ttis p = as_before lcid b.pdcp.kind _ (discards_of (IsOfKind b.pdcp.kind) (kind_passes b.pdcp.kind) (Am b) ttis refl) p
+discards_right lcid (Am b) ttis p =
+    as_before lcid b.pdcp.kind _ (discards_of (IsOfKind b.pdcp.kind) (kind_passes b.pdcp.kind) (Am b) ttis refl) p
 
-takes_right : (lcid : ℕ) (f : Flow) (share : ℕ) (held : Option ℕ) → IsRight lcid f → IsRight lcid (flow_after f share held)
+takes_right : (lcid : ℕ) (f : Flow) (share : ℕ) (held : Option ℕ) → IsRight lcid f
+    → IsRight lcid (flow_after f share held)
 unfolding flow_after
 takes_right lcid (Tm b) share held p = p
 takes_right lcid (Um b) share held p = p
-takes_right lcid (Am b) share held p = as_before lcid b.pdcp.kind _ (takes_of (IsOfKind b.pdcp.kind) (kind_passes b.pdcp.kind) (Am b) share held refl) p
+takes_right lcid (Am b) share held p =
+    as_before lcid b.pdcp.kind _ (takes_of (IsOfKind b.pdcp.kind) (kind_passes b.pdcp.kind) (Am b) share held refl) p
 
 arrives_right : (lcid : ℕ) (f : Flow) (pdu : List ℕ) → IsRight lcid f → IsRight lcid (flow_arrived f pdu)
 unfolding flow_arrived
 arrives_right lcid (Tm b) pdu p = p
 arrives_right lcid (Um b) pdu p = p
-arrives_right lcid (Am b) pdu p = as_before lcid b.pdcp.kind _ (arrives (IsOfKind b.pdcp.kind) (kind_passes b.pdcp.kind) (Am b) pdu refl) p
+arrives_right lcid (Am b) pdu p =
+    as_before lcid b.pdcp.kind _ (arrives (IsOfKind b.pdcp.kind) (kind_passes b.pdcp.kind) (Am b) pdu refl) p
 
 expires_right : (lcid : ℕ) (f : Flow) (clock : Clock) → IsRight lcid f → IsRight lcid (flow_expired f clock)
 unfolding flow_expired
 expires_right lcid (Tm b) clock p = p
 expires_right lcid (Um b) clock p = p
-expires_right lcid (Am b) clock p = as_before lcid b.pdcp.kind _ (expires (IsOfKind b.pdcp.kind) (kind_passes b.pdcp.kind) (Am b) clock refl) p
+expires_right lcid (Am b) clock p =
+    as_before lcid b.pdcp.kind _ (expires (IsOfKind b.pdcp.kind) (kind_passes b.pdcp.kind) (Am b) clock refl) p
 
 ticks_right : (lcid : ℕ) (f : Flow) → IsRight lcid f → IsRight lcid (flow_ticked f)
 unfolding flow_ticked
 ticks_right lcid (Tm b) p = p
 ticks_right lcid (Um b) p = p
-ticks_right lcid (Am b) p = as_before lcid b.pdcp.kind _ (ticks_of (IsOfKind b.pdcp.kind) (kind_passes b.pdcp.kind) (Am b) refl) p
+ticks_right lcid (Am b) p =
+    as_before lcid b.pdcp.kind _ (ticks_of (IsOfKind b.pdcp.kind) (kind_passes b.pdcp.kind) (Am b) refl) p
 
 moves_right : (lcid : ℕ) (f : Flow) (keys : Keys) → IsRight lcid f → IsRight lcid (restarted (stopped f) keys)
 unfolding restarted stopped
 moves_right lcid (Tm b) keys p = p
 moves_right lcid (Um b) keys p = p
-moves_right lcid (Am b) keys p = as_before lcid b.pdcp.kind _ (moves_of (IsOfKind b.pdcp.kind) (kind_passes b.pdcp.kind) (Am b) keys refl) p
+moves_right lcid (Am b) keys p =
+    as_before lcid b.pdcp.kind _ (moves_of (IsOfKind b.pdcp.kind) (kind_passes b.pdcp.kind) (Am b) keys refl) p
 
 pub right_kept : IsKept IsRight
 right_kept = record {

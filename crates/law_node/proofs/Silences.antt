@@ -1,5 +1,6 @@
 -- What an end tells where it builds no block: nothing of what is written, nothing of the test loop.
-use Rattle.std.proofs.Common.{◌≡◌, ℕ, ◌+◌, ◌==◌, Bool, true, false, ◌||◌, cond, nat_lt, if◌then◌else◌, Option, Some, None, IfSome, Result, Ok, Err, List, [], ◌∷◌, ◌++◌, length, map, refl, ap, ◌∙◌}
+use Rattle.std.proofs.Common.{◌≡◌, ℕ, ◌+◌, ◌==◌, Bool, true, false, ◌||◌, cond, nat_lt, if◌then◌else◌, Option, Some}
+use Rattle.std.proofs.Common.{None, IfSome, Result, Ok, Err, List, [], ◌∷◌, ◌++◌, length, map, refl, ap, ◌∙◌}
 use Rattle.std.specs.Prelude.{unwrap_or}
 use Rattle.std.specs.List.{filter}
 use Rattle.std.proofs.lemmas.Bool.{or_left, or_right, false≢true}
@@ -9,23 +10,32 @@ use Rattle.bearer.specs.declared.flow.Flow.{Flow}
 use Rattle.bearer.specs.declared.flow.Flow.TheVariants.{Tm, Um, Am}
 use Rattle.bearer.specs.Hearing.{arriving, ticking, expiry as flow_expiry}
 use Rattle.bearer.specs.Lives.{stopping}
-use Rattle.bearer.specs.Acknowledged.Hearing.{confirms, all_confirmed, started_told, settled_work, settled_if, heard_work, hears as am_hears, hears_all as am_hears_all, stopped_told, status_work, arrived_told as am_arrived_told, arriving as am_arriving}
+use Rattle.bearer.specs.Acknowledged.Hearing.{confirms, all_confirmed, started_told, settled_work, settled_if}
+use Rattle.bearer.specs.Acknowledged.Hearing.{heard_work, hears as am_hears, hears_all as am_hears_all, stopped_told}
+use Rattle.bearer.specs.Acknowledged.Hearing.{status_work, arrived_told as am_arrived_told, arriving as am_arriving}
 use Rattle.bearer.specs.Acknowledged.Lives.{Ending, hears_last, ends_with, stopping as am_stopping}
 use Rattle.bearer.specs.Acknowledged.State.{State as AmBearer, Work, work, has_more}
-use Rattle.bearer.specs.Acknowledged.Timing.{poll_told, timer_told, clock_told as am_clock_told, expiry as am_expiry, Ticking, told_of as am_told_of, expires_if, ticks, counts, has_ended, discards, ticked as am_ticked}
+use Rattle.bearer.specs.Acknowledged.Timing.{poll_told, timer_told, clock_told as am_clock_told, expiry as am_expiry}
+use Rattle.bearer.specs.Acknowledged.Timing.{Ticking, told_of as am_told_of, expires_if, ticks, counts, has_ended}
+use Rattle.bearer.specs.Acknowledged.Timing.{discards, ticked as am_ticked}
 use Rattle.bearer_pdcp.specs.Discarding.{late_told, tick_told}
 use Rattle.bearer_pdcp.specs.Ends.{Ends}
 use Rattle.bearer_pdcp.specs.Hearing.{is_applied, ups, got_told, with_arrived, heard_told, applies}
 use Rattle.bearer_pdcp.specs.Telling.{turned_told, landed_told, expired_told}
 use Rattle.bearer_types.specs.declared.event.Event.{Event}
 use Rattle.bearer_types.specs.declared.event.Event.TheVariants as events
-use Rattle.bearer.specs.Unacknowledged.Hearing.{Hearing, hears as um_hears, hears_all as um_hears_all, up_told, arrived_told as um_arrived_told, arriving as um_arriving, expiry_told as um_expiry_told, clock_told as um_clock_told, expiry as um_expiry, told_of as um_told_of, timed_told, timed_left, counted_down, ticking as um_ticking}
+use Rattle.bearer.specs.Unacknowledged.Hearing.{Hearing, hears as um_hears, hears_all as um_hears_all, up_told}
+use Rattle.bearer.specs.Unacknowledged.Hearing.{arrived_told as um_arrived_told, arriving as um_arriving}
+use Rattle.bearer.specs.Unacknowledged.Hearing.{expiry_told as um_expiry_told, clock_told as um_clock_told}
+use Rattle.bearer.specs.Unacknowledged.Hearing.{expiry as um_expiry, told_of as um_told_of, timed_told, timed_left}
+use Rattle.bearer.specs.Unacknowledged.Hearing.{counted_down, ticking as um_ticking}
 use Rattle.bearer.specs.Unacknowledged.Lives.{stopping as um_stopping}
 use Rattle.bearer.specs.Unacknowledged.State.{State as UmBearer}
 use Rattle.l2_node.specs.End.{End}
 use Rattle.bearer_types.specs.Sides.{heard_by}
 use Rattle.l2_node.specs.Finding.{find, has, bearer_at}
-use Rattle.l2_node.specs.Hearing.{Heard, heard, arrives_at, hears, hears_all, heard_items, received, tells, ticks_at, ticks_over, ticked, bearer_of, expiry}
+use Rattle.l2_node.specs.Hearing.{Heard, heard, arrives_at, hears, hears_all, heard_items, received, tells, ticks_at}
+use Rattle.l2_node.specs.Hearing.{ticks_over, ticked, bearer_of, expiry}
 use Rattle.l2_node.specs.Moving.{all_stopping, leaving}
 use Rattle.l2_num.specs.Timers.{ends}
 use Rattle.l2_types.specs.declared.event.Clock.{Clock}
@@ -57,7 +67,8 @@ use Rattle.rlc_pdu.specs.declared.fault.RlcWhy.TheVariants.{Short}
 use Rattle.rlc_pdu.specs.declared.fault.RlcRefusal.{RlcRefusal}
 use Rattle.rlc_pdu.specs.Pdus.{UmdPdu, AcknowledgedPdu, Payload, Status}
 use Rattle.rlc_pdu.specs.Reading.{umd_at, am_at}
-use Rattle.rlc_um.specs.Receiver.{State as UmReceiver, landing, turning, arrival, expiring, expired as um_expired, all_joined}
+use Rattle.rlc_um.specs.Receiver.{State as UmReceiver, landing, turning, arrival, expiring, expired as um_expired}
+use Rattle.rlc_um.specs.Receiver.{all_joined}
 use Rattle.promises.specs.Events.{is_of_loop, TellNoLoop, is_of_writing}
 use Rattle.law_node.specs.Writing.{TellNone, WritesNothing}
 
@@ -85,7 +96,8 @@ none_unless false a p = p
 
 turned_none : (lcid : ℕ) (t : Turned) → AreQuiet (turned_told lcid t)
 turned_none lcid t =
-    none_both (if t.stopped then events.Stop lcid Reorder ∷ [] else []) (if t.started then events.Start lcid Reorder ∷ [] else [])
+    none_both (if t.stopped then events.Stop lcid Reorder ∷ [] else [])
+    (if t.started then events.Start lcid Reorder ∷ [] else [])
     (none_if t.stopped (events.Stop lcid Reorder ∷ []) refl) (none_if t.started (events.Start lcid Reorder ∷ []) refl)
 
 landed_none : (lcid : ℕ) (landed' : Landed) (t : Turned) → AreQuiet (landed_told lcid landed' t)
@@ -107,20 +119,23 @@ got_none got_as.Stored cause e = ups_none e.lcid e.rx.ready
 got_none got_as.Old cause e = refl
 got_none got_as.OutOfRange cause e = refl
 got_none (got_as.Integrity found wanted) cause e = refl
-got_none (got_as.Report fms bitmap) cause e = none_unless (is_applied e cause fms) (events.Drop e.lcid lost.Report ∷ []) refl
+got_none (got_as.Report fms bitmap) cause e =
+    none_unless (is_applied e cause fms) (events.Drop e.lcid lost.Report ∷ []) refl
 got_none (got_as.Unreadable fault) cause e = refl
 
 heard_none : (pdu : List ℕ) (cause : Cause) (e : Ends) → AreQuiet (heard_told pdu cause e)
 unfolding heard_told
 heard_none pdu cause e = got_none (got e.rx pdu cause) cause (with_arrived pdu cause e)
 
-late_if : (b : Bool) (lcid len : ℕ) (later : List Event) → AreQuiet later → AreQuiet (if b then events.Discard lcid len ∷ later else [])
+late_if : (b : Bool) (lcid len : ℕ) (later : List Event) → AreQuiet later
+    → AreQuiet (if b then events.Discard lcid len ∷ later else [])
 late_if true lcid len later p = p
 late_if false lcid len later p = refl
 
 late_none : (lcid : ℕ) (ws : List Waits) (s : Sending) → AreQuiet (late_told lcid ws s)
 late_none lcid [] s = refl
-late_none lcid (w ∷ ws) s = late_if (is_overdue s) lcid (length w.sdu) (late_told lcid ws (after_late s)) (late_none lcid ws (after_late s))
+late_none lcid (w ∷ ws) s =
+    late_if (is_overdue s) lcid (length w.sdu) (late_told lcid ws (after_late s)) (late_none lcid ws (after_late s))
 
 tick_none : (e : Ends) → AreQuiet (tick_told e)
 unfolding tick_told
@@ -128,20 +143,26 @@ tick_none e = late_none e.lcid e.tx.waiting (pdcp_ticked e.tx)
 
 -- ---- an unacknowledged bearer
 
-um_all_none : (sdus : List (List ℕ)) (cause : Cause) (h : Hearing) → AreQuiet h.events → AreQuiet (um_hears_all sdus cause h).events
+um_all_none : (sdus : List (List ℕ)) (cause : Cause) (h : Hearing) → AreQuiet h.events
+    → AreQuiet (um_hears_all sdus cause h).events
 um_all_none [] cause h p = p
-um_all_none (sdu' ∷ sdus) cause h p = um_all_none sdus cause (um_hears sdu' cause h) (none_both h.events (heard_told sdu' cause h.pdcp) p (heard_none sdu' cause h.pdcp))
+um_all_none (sdu' ∷ sdus) cause h p =
+    um_all_none sdus cause (um_hears sdu' cause h)
+    (none_both h.events (heard_told sdu' cause h.pdcp) p (heard_none sdu' cause h.pdcp))
 
 up_none : (r : UmReceiver) (told : List Event) (s : UmBearer) → AreQuiet told → AreQuiet (up_told r told s)
 up_none r told s p = um_all_none r.joined.ready Arrived (record { pdcp = s.pdcp; events = told }) p
 
 um_arrived_none : (r : Result UmdPdu RlcRefusal) (s : UmBearer) → AreQuiet (um_arrived_told r s)
 um_arrived_none (Err fault) s = refl
-um_arrived_none (Ok pdu) s = up_none (arrival pdu s.rx) (landed_told s.pdcp.lcid (landing pdu s.rx) (turning pdu s.rx)) s (landed_none s.pdcp.lcid (landing pdu s.rx) (turning pdu s.rx))
+um_arrived_none (Ok pdu) s =
+    up_none (arrival pdu s.rx) (landed_told s.pdcp.lcid (landing pdu s.rx) (turning pdu s.rx)) s
+    (landed_none s.pdcp.lcid (landing pdu s.rx) (turning pdu s.rx))
 
 um_reorder_none : (x : Expired) (s : UmBearer) → IfSome (um_expiry_told x s) AreQuiet
 um_reorder_none NotRunning s = tt
-um_reorder_none (Done again) s = up_none (um_expired s.rx) (expired_told s.pdcp.lcid Reorder again) s (expired_none s.pdcp.lcid Reorder again)
+um_reorder_none (Done again) s =
+    up_none (um_expired s.rx) (expired_told s.pdcp.lcid Reorder again) s (expired_none s.pdcp.lcid Reorder again)
 
 um_clock_none : (clock : Clock) (s : UmBearer) → IfSome (um_clock_told clock s) AreQuiet
 um_clock_none Poll s = tt
@@ -161,7 +182,9 @@ unfolding um_ticking
 um_ticking_none s =
     let c = counted_down s in
     let b = ends s.rx.clock in
-    none_both (timed_told b c) (tick_told (timed_left b c).pdcp) (none_if b (um_told_of (um_expiry c Reorder)) (um_told_none (um_expiry c Reorder) (um_expiry_none c Reorder))) (tick_none (timed_left b c).pdcp)
+    none_both (timed_told b c) (tick_told (timed_left b c).pdcp)
+    (none_if b (um_told_of (um_expiry c Reorder)) (um_told_none (um_expiry c Reorder) (um_expiry_none c Reorder)))
+    (tick_none (timed_left b c).pdcp)
 
 -- ---- an acknowledged bearer
 
@@ -178,21 +201,26 @@ am_all_none : (sdus : List (List ℕ)) (w : Work) → AreQuiet w.events → AreQ
 am_all_none [] w p = p
 am_all_none (sdu' ∷ sdus) w p =
     am_all_none sdus (am_hears sdu' w)
-    (settled_if_none (applies sdu' Arrived w.pdcp) (heard_work sdu' w) (none_both w.events (heard_told sdu' Arrived w.pdcp) p (heard_none sdu' Arrived w.pdcp)))
+    (settled_if_none (applies sdu' Arrived w.pdcp) (heard_work sdu' w)
+    (none_both w.events (heard_told sdu' Arrived w.pdcp) p (heard_none sdu' Arrived w.pdcp)))
 
 status_none : (h : HeardStatus) (w : Work) → AreQuiet w.events → AreQuiet (status_work h w).events
 status_none heard_as.Ignored w p = none_both w.events (events.Drop w.pdcp.lcid lost.Ignored ∷ []) p refl
 status_none (heard_as.Limit sn) w p = none_both w.events (events.Fail w.pdcp.lcid sn ∷ []) p refl
 status_none (heard_as.Applied stopped) w p =
-    settled_none (record w { events = w.events ++ stopped_told w.pdcp.lcid stopped }) (none_both w.events (stopped_told w.pdcp.lcid stopped) p (none_if stopped (events.Stop w.pdcp.lcid Poll ∷ []) refl))
+    settled_none (record w { events = w.events ++ stopped_told w.pdcp.lcid stopped })
+    (none_both w.events (stopped_told w.pdcp.lcid stopped) p
+    (none_if stopped (events.Stop w.pdcp.lcid Poll ∷ []) refl))
 
 am_arrived_none : (r : Result AcknowledgedPdu RlcRefusal) (s : AmBearer) → AreQuiet (am_arrived_told r s)
 am_arrived_none (Err fault) s = refl
 am_arrived_none (Ok (Payload p)) s =
     let told = landed_told s.pdcp.lcid (landed s.rx p) (turned s.rx p) in
-    am_all_none (arrived s.rx p).out.ready (work s.pdcp s.tx told) (landed_none s.pdcp.lcid (landed s.rx p) (turned s.rx p))
+    am_all_none (arrived s.rx p).out.ready (work s.pdcp s.tx told)
+    (landed_none s.pdcp.lcid (landed s.rx p) (turned s.rx p))
 am_arrived_none (Ok (Status p)) s =
-    status_none (heard_by_sender s.tx p) (work (confirms (after_status s.tx p).accounts.news s.pdcp) (all_confirmed (after_status s.tx p)) []) refl
+    status_none (heard_by_sender s.tx p)
+    (work (confirms (after_status s.tx p).accounts.news s.pdcp) (all_confirmed (after_status s.tx p)) []) refl
 
 poll_none : (lcid : ℕ) (x : PollExpired) → IfSome (poll_told lcid x) AreQuiet
 poll_none lcid polls.NotRunning = tt
@@ -217,7 +245,9 @@ am_told_none None p = refl
 am_told_none (Some told) p = p
 
 expires_if_none : (b : Bool) (clock : Clock) (t : Ticking) → AreQuiet t.events → AreQuiet (expires_if b clock t).events
-expires_if_none true clock t p = none_both t.events (am_told_of (am_expiry t.bearer clock)) p (am_told_none (am_expiry t.bearer clock) (am_expiry_none t.bearer clock))
+expires_if_none true clock t p =
+    none_both t.events (am_told_of (am_expiry t.bearer clock)) p
+    (am_told_none (am_expiry t.bearer clock) (am_expiry_none t.bearer clock))
 expires_if_none false clock t p = p
 
 ticks_none : (clock : Clock) (t : Ticking) → AreQuiet t.events → AreQuiet (ticks clock t).events
@@ -238,7 +268,9 @@ am_ticked_none s =
 
 last_none : (sdus : List (List ℕ)) (e : Ending) → AreQuiet e.events → AreQuiet (hears_last sdus e).events
 last_none [] e p = p
-last_none (sdu' ∷ sdus) e p = last_none sdus _ (none_both e.events (heard_told sdu' Reestablished e.pdcp) p (heard_none sdu' Reestablished e.pdcp))
+last_none (sdu' ∷ sdus) e p =
+    last_none sdus _ (none_both e.events (heard_told sdu' Reestablished e.pdcp) p
+    (heard_none sdu' Reestablished e.pdcp))
 
 drops_none : (lcid : ℕ) (sdus : List (List ℕ)) → AreQuiet (map (λ sdu'. events.Drop lcid lost.Handover) sdus)
 drops_none lcid [] = refl
@@ -256,7 +288,8 @@ tm_none false x y p q = q
 
 arriving_none : (lcid : ℕ) (f : Flow) (pdu : List ℕ) → AreQuiet (arriving lcid f pdu)
 unfolding arriving um_arriving am_arriving
-arriving_none lcid (Tm b) pdu = tm_none (length pdu == 0) (events.BadRlc lcid (record { at = 0; why = Short })) (events.Up lcid pdu) refl refl
+arriving_none lcid (Tm b) pdu =
+    tm_none (length pdu == 0) (events.BadRlc lcid (record { at = 0; why = Short })) (events.Up lcid pdu) refl refl
 arriving_none lcid (Um b) pdu = um_arrived_none (umd_at b.bits pdu) b
 arriving_none lcid (Am b) pdu = am_arrived_none (am_at pdu) b
 
@@ -280,11 +313,14 @@ stopping_none (Am b) = ends_none (is_am b.pdcp.kind) (finished b.rx) (record { p
 
 -- ---- an end
 
-arrives_none : (at : ℕ) (b : Of Life) (pdu : List ℕ) (h : Heard) → AreQuiet h.events → AreQuiet (arrives_at at b pdu h).events
-arrives_none at b pdu h p = none_both h.events (arriving b.lcid b.state.flow pdu) p (arriving_none b.lcid b.state.flow pdu)
+arrives_none : (at : ℕ) (b : Of Life) (pdu : List ℕ) (h : Heard) → AreQuiet h.events
+    → AreQuiet (arrives_at at b pdu h).events
+arrives_none at b pdu h p =
+    none_both h.events (arriving b.lcid b.state.flow pdu) p (arriving_none b.lcid b.state.flow pdu)
 
 sdu_if : (t : Bool) (lcid : ℕ) (pdu : List ℕ) (h : Heard) → AreQuiet h.events
-    → AreQuiet (if t then arrives_at (find lcid h.bearers) (bearer_at h.bearers (find lcid h.bearers)) pdu h else heard h.bearers (h.events ++ events.Drop lcid lost.NoBearer ∷ [])).events
+    → AreQuiet (if t then arrives_at (find lcid h.bearers) (bearer_at h.bearers (find lcid h.bearers)) pdu h
+    else heard h.bearers (h.events ++ events.Drop lcid lost.NoBearer ∷ [])).events
 sdu_if true lcid pdu h p = arrives_none (find lcid h.bearers) (bearer_at h.bearers (find lcid h.bearers)) pdu h p
 sdu_if false lcid pdu h p = none_both h.events (events.Drop lcid lost.NoBearer ∷ []) p refl
 
@@ -319,7 +355,8 @@ ticked_none e = over_none e.bearers 0 (heard e.bearers []) refl
 
 all_stopping_none : (bs : List (Of Life)) → AreQuiet (all_stopping bs)
 all_stopping_none [] = refl
-all_stopping_none (b ∷ bs) = none_both (stopping b.state.flow) (all_stopping bs) (stopping_none b.state.flow) (all_stopping_none bs)
+all_stopping_none (b ∷ bs) =
+    none_both (stopping b.state.flow) (all_stopping bs) (stopping_none b.state.flow) (all_stopping_none bs)
 
 end_expiry_none : (lcid : ℕ) (clock : Clock) (e : End) → IfSome (expiry lcid clock e) AreQuiet
 unfolding expiry
@@ -331,13 +368,15 @@ leaving_none e = all_stopping_none e.bearers
 
 -- ---- both
 
-quiet_by : (test : Event → Bool) (a b : Bool) (e : Event) (es : List Event) → test e ≡ b → (test e ≡ true → a ≡ true) → cond a (e ∷ filter is_elsewhere es) (filter is_elsewhere es) ≡ [] → (AreQuiet es → filter test es ≡ [])
+quiet_by : (test : Event → Bool) (a b : Bool) (e : Event) (es : List Event) → test e ≡ b → (test e ≡ true → a ≡ true)
+    → cond a (e ∷ filter is_elsewhere es) (filter is_elsewhere es) ≡ [] → (AreQuiet es → filter test es ≡ [])
     → filter test (e ∷ es) ≡ []
 quiet_by test true b e es is within p rest = let no : e ∷ filter is_elsewhere es ≡ [] = p in cc
 quiet_by test false true e es is within p rest = absurd (false≢true (within is))
 quiet_by test false false e es is within p rest = rw is (rest p)
 
-none_of : (test : Event → Bool) → ((e : Event) → test e ≡ true → is_elsewhere e ≡ true) → (es : List Event) → AreQuiet es → filter test es ≡ []
+none_of : (test : Event → Bool) → ((e : Event) → test e ≡ true → is_elsewhere e ≡ true) → (es : List Event)
+    → AreQuiet es → filter test es ≡ []
 none_of test within [] p = refl
 none_of test within (e ∷ es) p = quiet_by test (is_elsewhere e) (test e) e es refl (within e) p (none_of test within es)
 

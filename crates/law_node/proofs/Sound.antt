@@ -12,14 +12,18 @@ use Rattle.l2_types.specs.declared.side.Side.{Side}
 use Rattle.prioritise.proofs.ChannelLemmas.{sound_more, sound_none}
 use Rattle.prioritise.specs.Channels.{has, place}
 use Rattle.prioritise.specs.ShareLaws.{IsSound}
-use Rattle.prioritise.specs.Shares.{Bucketed, Giving, no_channels, added, emptied, grown, all_grown, ticked, fallen, first_part, first_given, round_one, second_part, second_given, round_two, ungiven, first_shared, shared, after_allot}
+use Rattle.prioritise.specs.Shares.{Bucketed, Giving, no_channels, added, emptied, grown, all_grown, ticked, fallen}
+use Rattle.prioritise.specs.Shares.{first_part, first_given, round_one, second_part, second_given, round_two, ungiven}
+use Rattle.prioritise.specs.Shares.{first_shared, shared, after_allot}
 use Rattle.l2_node.specs.Building.{visited, loaded, built_by, built, visit}
 use Rattle.l2_node.specs.End.{End, fresh, with_channel, with_bearer, reset, with_visits}
 use Rattle.l2_node.specs.Hearing.{expired}
 use Rattle.l2_node.specs.Moving.{left_cell, joined}
 use Rattle.l2_node.specs.Submitting.{submitted, discarding}
 use Rattle.l2_node.specs.Writing.{needs}
-use Rattle.law_node.specs.Calls.{Turn, Call, SetVisits, SetReports, Add, Submit, SetDiscard, Tick, TickBuckets, Visits, Grants, Granted, Assigned, Pass, Receive, Expire, Move, answered, after, run, reached, IsGiven, AreGiven}
+use Rattle.law_node.specs.Calls.{Turn, Call, SetVisits, SetReports, Add, Submit, SetDiscard, Tick, TickBuckets, Visits}
+use Rattle.law_node.specs.Calls.{Grants, Granted, Assigned, Pass, Receive, Expire, Move, answered, after, run, reached}
+use Rattle.law_node.specs.Calls.{IsGiven, AreGiven}
 
 -- ---- each step of the buckets
 
@@ -33,10 +37,12 @@ lcid_below Srb lcid h = omega (arith, h.1)
 lcid_below Um lcid h = omega (arith, h.1)
 lcid_below Am lcid h = omega (arith, h.1)
 
-with_channel_by : (c : Channel) (b : Bucketed) (t : Bool) → has c.lcid b.channels ≡ t → c.lcid < 11 → c.group < 4 → IsSound b → IsSound (with_channel c b)
+with_channel_by : (c : Channel) (b : Bucketed) (t : Bool) → has c.lcid b.channels ≡ t → c.lcid < 11 → c.group < 4
+    → IsSound b → IsSound (with_channel c b)
 unfolding added
 with_channel_by c b true e lt four s = rw e s
-with_channel_by c b false e lt four s = rw e (record { channels = sound_more c b.channels (place c b.channels) s.channels lt four e; levels = s.levels })
+with_channel_by c b false e lt four s =
+    rw e (record { channels = sound_more c b.channels (place c b.channels) s.channels lt four e; levels = s.levels })
 
 grown_length : (cs : List Channel) (levels : List ℕ) → length (all_grown cs levels) ≡ length levels
 grown_length [] levels = refl
@@ -66,7 +72,8 @@ allotted_sound : (b : Bucketed) (needs : List ℕ) (grant : ℕ) → IsSound b �
 unfolding after_allot shared first_shared
 allotted_sound b needs grant s = record {
   channels = s.channels;
-  levels = two_length b.channels needs (round_one b.channels needs (ungiven b grant)) ∙ one_length b.channels needs (ungiven b grant) ∙ s.levels;
+  levels = two_length b.channels needs (round_one b.channels needs (ungiven b grant))
+      ∙ one_length b.channels needs (ungiven b grant) ∙ s.levels;
 }
 
 -- ---- each call
@@ -79,7 +86,8 @@ loaded_sound : (tti grant : ℕ) (e : End) → IsSound e.buckets → IsSound (lo
 unfolding loaded
 loaded_sound tti grant e s = allotted_sound e.buckets (needs e grant) (grant + 2) s
 
-turn_sound : (v : Visit) (t : Turn) (e : End) → IsSound e.buckets → IsSound (answered v t (built_by v t.tti t.grant e)).buckets
+turn_sound : (v : Visit) (t : Turn) (e : End) → IsSound e.buckets
+    → IsSound (answered v t (built_by v t.tti t.grant e)).buckets
 turn_sound New t e s = loaded_sound t.tti t.grant e s
 turn_sound (Resend rv) t e s = s
 turn_sound Silent t e s = s
@@ -88,12 +96,15 @@ pub call_sound : (e : End) (c : Call) → IsGiven c → IsSound e.buckets → Is
 unfolding with_visits with_bearer submitted discarding expired built joined left_cell reset
 call_sound e (SetVisits maximum) g s = s
 call_sound e (SetReports reports) g s = s
-call_sound e (Add c keys) g s = with_channel_by c.channel e.buckets (has c.channel.lcid e.buckets.channels) refl (lcid_below c.kind c.channel.lcid g.lcid) (omega (arith, g.group)) s
+call_sound e (Add c keys) g s =
+    with_channel_by c.channel e.buckets (has c.channel.lcid e.buckets.channels) refl
+    (lcid_below c.kind c.channel.lcid g.lcid) (omega (arith, g.group)) s
 call_sound e (Submit lcid sdu) g s = s
 call_sound e (SetDiscard lcid ttis) g s = s
 call_sound e Tick g s = s
 call_sound e TickBuckets g s = ticked_sound e.buckets s
-call_sound e (Visits t) g s = turn_sound (visit t.tti t.order e) t (visited t.tti t.order e) (visited_sound t.tti t.order e s)
+call_sound e (Visits t) g s =
+    turn_sound (visit t.tti t.order e) t (visited t.tti t.order e) (visited_sound t.tti t.order e s)
 call_sound e (Grants tti) g s = s
 call_sound e (Granted tti good) g s = s
 call_sound e (Assigned tti ndi good) g s = s
@@ -106,10 +117,13 @@ run_sound : (cs : List Call) (e : End) → AreGiven cs → IsSound e.buckets →
 run_sound [] e g s = s
 run_sound (c ∷ cs) e g s = run_sound cs (after e c) g.1 (call_sound e c g.0 s)
 
-pub reached_sound : (side : Side) (maximum : ℕ) (reports : Bool) (calls : List Call) → AreGiven calls → IsSound (reached side maximum reports calls).buckets
+pub reached_sound : (side : Side) (maximum : ℕ) (reports : Bool) (calls : List Call) → AreGiven calls
+    → IsSound (reached side maximum reports calls).buckets
 unfolding fresh
 reached_sound side maximum reports calls g = run_sound calls (fresh side maximum reports) g none_sound
 
 -- an end that has visited a process
-pub visiting_sound : (side : Side) (maximum : ℕ) (reports : Bool) (calls : List Call) (tti : ℕ) (order : Order) → AreGiven calls → IsSound (visited tti order (reached side maximum reports calls)).buckets
-visiting_sound side maximum reports calls tti order g = visited_sound tti order (reached side maximum reports calls) (reached_sound side maximum reports calls g)
+pub visiting_sound : (side : Side) (maximum : ℕ) (reports : Bool) (calls : List Call) (tti : ℕ) (order : Order)
+    → AreGiven calls → IsSound (visited tti order (reached side maximum reports calls)).buckets
+visiting_sound side maximum reports calls tti order g =
+    visited_sound tti order (reached side maximum reports calls) (reached_sound side maximum reports calls g)

@@ -1,5 +1,7 @@
 -- One bearer among those of an end, as one of them goes on.
-use Rattle.std.proofs.Common.{◌≡◌, ◌<◌, ℕ, zero, suc, ◌+◌, ◌==◌, nat_lt, if◌then◌else◌, Bool, true, false, List, [], ◌∷◌, ◌++◌, length, insert, set, append-nil, append_assoc, get_or-set_same, get_or-set_other, refl, ap, sym, ◌∙◌, subst, arith, inl, inr}
+use Rattle.std.proofs.Common.{◌≡◌, ◌<◌, ℕ, zero, suc, ◌+◌, ◌==◌, nat_lt, if◌then◌else◌, Bool, true, false, List, []}
+use Rattle.std.proofs.Common.{◌∷◌, ◌++◌, length, insert, set, append-nil, append_assoc, get_or-set_same}
+use Rattle.std.proofs.Common.{get_or-set_other, refl, ap, sym, ◌∙◌, subst, arith, inl, inr}
 use Rattle.std.proofs.lemmas.Bool.{cases_eq}
 use Rattle.std.proofs.lemmas.Bool.Decides.{nat_tests}
 use Rattle.bearer.specs.Bearer.{Of, of, Life, alive}
@@ -37,13 +39,16 @@ restarts_more (Restart keys ∷ xs) ys = ap (λ (ks : List Keys). keys ∷ ks) (
 
 taken_more : (f : Flow) (xs ys : List Step) → all_taken f (xs ++ ys) ≡ all_taken f xs ++ all_taken (go xs f) ys
 taken_more f [] ys = refl
-taken_more f (x ∷ xs) ys = ap (λ (os : List Offer). takes_in f x ++ os) (taken_more (goes f x) xs ys) ∙ sym (append_assoc (takes_in f x) (all_taken (goes f x) xs) (all_taken (go xs (goes f x)) ys))
+taken_more f (x ∷ xs) ys = ap (λ (os : List Offer). takes_in f x ++ os) (taken_more (goes f x) xs ys)
+    ∙ sym (append_assoc (takes_in f x) (all_taken (goes f x) xs) (all_taken (go xs (goes f x)) ys))
 
-pub then_takes : (f g h : Flow) (ks ls : List Keys) (ns ms : List ℕ) → Takes f g ks ns → Takes g h ls ms → Takes f h (ks ++ ls) (ns ++ ms)
+pub then_takes : (f g h : Flow) (ks ls : List Keys) (ns ms : List ℕ) → Takes f g ks ns → Takes g h ls ms
+    → Takes f h (ks ++ ls) (ns ++ ms)
 then_takes f g h ks ls ns ms a b = record {
   steps = a.steps ++ b.steps;
   flow_is = b.flow_is ∙ ap (go b.steps) a.flow_is ∙ sym (run_more f a.steps b.steps);
-  lives_are = restarts_more a.steps b.steps ∙ ap (λ (l : List Keys). l ++ restarts b.steps) a.lives_are ∙ ap (λ (l : List Keys). ks ++ l) b.lives_are;
+  lives_are = restarts_more a.steps b.steps ∙ ap (λ (l : List Keys). l ++ restarts b.steps) a.lives_are
+      ∙ ap (λ (l : List Keys). ks ++ l) b.lives_are;
   counts_are =
       ap counts (taken_more f a.steps b.steps)
       ∙ counts_more (all_taken f a.steps) (all_taken (go a.steps f) b.steps)
@@ -52,7 +57,12 @@ then_takes f g h ks ls ns ms a b = record {
 }
 
 one_call : (f g : Flow) (c : BearerCall) (ns : List ℕ) → g ≡ called f c → ns ≡ counts (takes f c) → Takes f g [] ns
-one_call f g c ns e q = record { steps = Calls c ∷ []; flow_is = e; lives_are = refl; counts_are = ap counts (append-nil (takes f c)) ∙ sym q }
+one_call f g c ns e q = record {
+  steps = Calls c ∷ [];
+  flow_is = e;
+  lives_are = refl;
+  counts_are = ap counts (append-nil (takes f c)) ∙ sym q;
+}
 
 -- ---- the bearer of a channel, where there is one
 
@@ -67,7 +77,8 @@ rests l bs = record { has_is = refl; none = λ h. refl; goes = λ h. stays (flow
 both_none : (xs ys : List ℕ) → xs ≡ [] → ys ≡ [] → xs ++ ys ≡ []
 both_none xs ys p q = ap (λ (l : List ℕ). l ++ ys) p ∙ q
 
-pub goes_then : (l : ℕ) (bs cs ds : List (Of Life)) (ks ls : List Keys) (ns ms : List ℕ) → Goes l bs cs ks ns → Goes l cs ds ls ms → Goes l bs ds (ks ++ ls) (ns ++ ms)
+pub goes_then : (l : ℕ) (bs cs ds : List (Of Life)) (ks ls : List Keys) (ns ms : List ℕ) → Goes l bs cs ks ns
+    → Goes l cs ds ls ms → Goes l bs ds (ks ++ ls) (ns ++ ms)
 goes_then l bs cs ds ks ls ns ms a b = record {
   has_is = b.has_is ∙ a.has_is;
   none = λ h. both_none ns ms (a.none h) (b.none (a.has_is ∙ h));
@@ -84,7 +95,8 @@ pub record IsTaken (l at : ℕ) (bs : List (Of Life)) (c : BearerCall) (ns : Lis
   pub here : has l bs ≡ true → at ≡ find l bs → ns ≡ counts (takes (flow_at l bs) c)
   pub apart : (has l bs ≡ true → at ≡ find l bs → ⊥) → ns ≡ []
 
-pub set_goes : (l : ℕ) (bs : List (Of Life)) (at : ℕ) (x : Of Life) (c : BearerCall) (ns : List ℕ) → (bearer_at bs at).lcid ≡ x.lcid → x.state.flow ≡ called (bearer_at bs at).state.flow c → IsTaken l at bs c ns
+pub set_goes : (l : ℕ) (bs : List (Of Life)) (at : ℕ) (x : Of Life) (c : BearerCall) (ns : List ℕ)
+    → (bearer_at bs at).lcid ≡ x.lcid → x.state.flow ≡ called (bearer_at bs at).state.flow c → IsTaken l at bs c ns
     → Goes l bs (set bs at x) [] ns
 set_goes l bs at x c ns same e i = record {
   has_is = has_set l bs at x same;
@@ -96,7 +108,8 @@ set_goes l bs at x c ns same e i = record {
         ap (λ (k : ℕ). (bearer_at (set bs at x) k).state.flow) (find_set l bs at x same)
         ∙ ap (λ (k : ℕ). (bearer_at (set bs k x) (find l bs)).state.flow) q
         ∙ ap (λ (b : Of Life). b.state.flow) (get_or-set_same bs (find l bs) x nobody lt) in
-        one_call (flow_at l bs) (flow_at l (set bs at x)) c ns (flow_is ∙ e ∙ ap (λ (k : ℕ). called (bearer_at bs k).state.flow c) q) (i.here h q)
+        one_call (flow_at l bs) (flow_at l (set bs at x)) c ns
+        (flow_is ∙ e ∙ ap (λ (k : ℕ). called (bearer_at bs k).state.flow c) q) (i.here h q)
     | inr apart ↦
         let flow_is : flow_at l (set bs at x) ≡ flow_at l bs =
         ap (λ (k : ℕ). (bearer_at (set bs at x) k).state.flow) (find_set l bs at x same)
@@ -113,7 +126,8 @@ quiet l at bs c none = record { here = λ h q. sym (ap counts (none (flow_at l b
 
 -- ---- all go on into another life
 
-pub restarted_find : (l : ℕ) (bs : List (Of Life)) (keys : Keys) → find l (all_restarted (all_stopped bs) keys) ≡ find l bs
+pub restarted_find : (l : ℕ) (bs : List (Of Life)) (keys : Keys)
+    → find l (all_restarted (all_stopped bs) keys) ≡ find l bs
 restarted_find l [] keys = refl
 restarted_find l (b ∷ bs) keys = ap (λ (n : ℕ). if b.lcid == l then 0 else n + 1) (restarted_find l bs keys)
 
@@ -121,17 +135,21 @@ pub restarted_length : (bs : List (Of Life)) (keys : Keys) → length (all_resta
 restarted_length [] keys = refl
 restarted_length (b ∷ bs) keys = ap suc (restarted_length bs keys)
 
-pub restarted_at : (bs : List (Of Life)) (keys : Keys) (at : ℕ) → at < length bs → (bearer_at (all_restarted (all_stopped bs) keys) at).state.flow ≡ restarted (stopped (bearer_at bs at).state.flow) keys
+pub restarted_at : (bs : List (Of Life)) (keys : Keys) (at : ℕ) → at < length bs
+    → (bearer_at (all_restarted (all_stopped bs) keys) at).state.flow
+    ≡ restarted (stopped (bearer_at bs at).state.flow) keys
 restarted_at [] keys at lt = absurd (omega arith)
 restarted_at (b ∷ bs) keys zero lt = refl
 restarted_at (b ∷ bs) keys (suc at) lt = restarted_at bs keys at (omega arith)
 
-pub moved_goes : (l : ℕ) (bs : List (Of Life)) (keys : Keys) → Goes l bs (all_restarted (all_stopped bs) keys) (keys ∷ []) []
+pub moved_goes : (l : ℕ) (bs : List (Of Life)) (keys : Keys)
+    → Goes l bs (all_restarted (all_stopped bs) keys) (keys ∷ []) []
 moved_goes l bs keys =
     let ds = all_restarted (all_stopped bs) keys in
     let same = restarted_find l bs keys in
     record {
-      has_is = ap (λ (n : ℕ). nat_lt n (length ds)) same ∙ ap (λ (n : ℕ). nat_lt (find l bs) n) (restarted_length bs keys);
+      has_is = ap (λ (n : ℕ). nat_lt n (length ds)) same
+          ∙ ap (λ (n : ℕ). nat_lt (find l bs) n) (restarted_length bs keys);
       none = λ h. refl;
       goes = λ h.
           let lt : find l bs < length bs = grind (arith, nat_tests) in
@@ -160,25 +178,38 @@ flow_behind l b bs e =
     rw (flow_at, e, next) refl
 
 -- one of another channel
-cons_goes : (t : Bool) (l : ℕ) (b : Of Life) (bs ds : List (Of Life)) → (b.lcid == l) ≡ t → Goes l bs ds [] [] → Goes l (b ∷ bs) (b ∷ ds) [] []
-cons_goes true l b bs ds e g = record { has_is = has_first l b ds e ∙ sym (has_first l b bs e); none = λ h. refl; goes = λ h. rw (flow_at, e) (stays b.state.flow) }
+cons_goes : (t : Bool) (l : ℕ) (b : Of Life) (bs ds : List (Of Life)) → (b.lcid == l) ≡ t → Goes l bs ds [] []
+    → Goes l (b ∷ bs) (b ∷ ds) [] []
+cons_goes true l b bs ds e g =
+    record {
+      has_is = has_first l b ds e ∙ sym (has_first l b bs e);
+      none = λ h. refl;
+      goes = λ h. rw (flow_at, e) (stays b.state.flow);
+    }
 cons_goes false l b bs ds e g = record {
   has_is = has_behind l b ds e ∙ g.has_is ∙ sym (has_behind l b bs e);
   none = λ h. refl;
-  goes = λ h. let p = flow_behind l b bs e in let q = flow_behind l b ds e in rw (p, q) (g.goes (sym (has_behind l b bs e) ∙ h));
+  goes = λ h. let p = flow_behind l b bs e in let q = flow_behind l b ds e in
+      rw (p, q) (g.goes (sym (has_behind l b bs e) ∙ h));
 }
 
 before_goes : (l : ℕ) (x : Of Life) (bs : List (Of Life)) → (x.lcid == l) ≡ false → Goes l bs (x ∷ bs) [] []
-before_goes l x bs e = record { has_is = has_behind l x bs e; none = λ h. refl; goes = λ h. let p = flow_behind l x bs e in rw p (stays (flow_at l bs)) }
+before_goes l x bs e = record {
+  has_is = has_behind l x bs e;
+  none = λ h. refl;
+  goes = λ h. let p = flow_behind l x bs e in rw p (stays (flow_at l bs));
+}
 
-other_by : (t : Bool) (l m : ℕ) (x b : Of Life) (bs : List (Of Life)) → (x.lcid == l) ≡ false → Goes l bs (insert bs (place m bs) x) [] []
+other_by : (t : Bool) (l m : ℕ) (x b : Of Life) (bs : List (Of Life)) → (x.lcid == l) ≡ false
+    → Goes l bs (insert bs (place m bs) x) [] []
     → Goes l (b ∷ bs) (insert (b ∷ bs) (if t then place m bs + 1 else 0) x) [] []
 other_by true l m x b bs e g =
     let next : place m bs + 1 ≡ suc (place m bs) = omega arith in
     rw next (cons_goes (b.lcid == l) l b bs (insert bs (place m bs) x) refl g)
 other_by false l m x b bs e g = before_goes l x (b ∷ bs) e
 
-pub insert_goes : (l m : ℕ) (x : Of Life) (bs : List (Of Life)) → (x.lcid == l) ≡ false → Goes l bs (insert bs (place m bs) x) [] []
+pub insert_goes : (l m : ℕ) (x : Of Life) (bs : List (Of Life)) → (x.lcid == l) ≡ false
+    → Goes l bs (insert bs (place m bs) x) [] []
 insert_goes l m x [] e = before_goes l x [] e
 insert_goes l m x (b ∷ bs) e = other_by (nat_lt b.lcid m) l m x b bs e (insert_goes l m x bs e)
 
@@ -188,12 +219,18 @@ pub record Stands (l : ℕ) (bs : List (Of Life)) (f : Flow) : Type 0 where
   pub flow_is : flow_at l bs ≡ f
 
 first_stands : (x : Of Life) (bs : List (Of Life)) → Stands x.lcid (x ∷ bs) x.state.flow
-first_stands x bs = let e : (x.lcid == x.lcid) ≡ true = grind (arith, nat_tests) in record { there = has_first x.lcid x bs e; flow_is = rw (flow_at, e) refl }
+first_stands x bs = let e : (x.lcid == x.lcid) ≡ true = grind (arith, nat_tests) in
+    record { there = has_first x.lcid x bs e; flow_is = rw (flow_at, e) refl }
 
-behind_stands : (l : ℕ) (b : Of Life) (bs : List (Of Life)) (f : Flow) → (b.lcid == l) ≡ false → Stands l bs f → Stands l (b ∷ bs) f
-behind_stands l b bs f e s = record { there = has_behind l b bs e ∙ s.there; flow_is = flow_behind l b bs e ∙ s.flow_is }
+behind_stands : (l : ℕ) (b : Of Life) (bs : List (Of Life)) (f : Flow) → (b.lcid == l) ≡ false → Stands l bs f
+    → Stands l (b ∷ bs) f
+behind_stands l b bs f e s = record {
+  there = has_behind l b bs e ∙ s.there;
+  flow_is = flow_behind l b bs e ∙ s.flow_is;
+}
 
-own_by : (t : Bool) (x b : Of Life) (bs : List (Of Life)) → nat_lt b.lcid x.lcid ≡ t → Stands x.lcid (insert bs (place x.lcid bs) x) x.state.flow
+own_by : (t : Bool) (x b : Of Life) (bs : List (Of Life)) → nat_lt b.lcid x.lcid ≡ t
+    → Stands x.lcid (insert bs (place x.lcid bs) x) x.state.flow
     → Stands x.lcid (insert (b ∷ bs) (if t then place x.lcid bs + 1 else 0) x) x.state.flow
 own_by true x b bs e s =
     let next : place x.lcid bs + 1 ≡ suc (place x.lcid bs) = omega arith in

@@ -1,17 +1,20 @@
 -- No SDU that PDCP keeps is empty, and its receiver's SDUs end with one that is held.
-use Rattle.std.proofs.Common.{◌≡◌, ◌<◌, ℕ, zero, suc, ◌-◌, nat_lt, Bool, true, false, if◌then◌else◌, Option, Some, None, List, [], ◌∷◌, ◌++◌, map, take, drop, length, set, slice_get, refl}
+use Rattle.std.proofs.Common.{◌≡◌, ◌<◌, ℕ, zero, suc, ◌-◌, nat_lt, Bool, true, false, if◌then◌else◌, Option, Some, None}
+use Rattle.std.proofs.Common.{List, [], ◌∷◌, ◌++◌, map, take, drop, length, set, slice_get, refl}
 use Rattle.std.specs.Prelude.{IfSome}
 use Rattle.bearer_pdcp.specs.Discarding.{without_late}
 use Rattle.eps_sec.specs.declared.Keys.{Keys}
 use Rattle.pdcp_tx_store.specs.declared.given.Entry.{Entry}
 use Rattle.pdcp_tx_store.specs.declared.given.Entry.TheVariants.{Data, Own, Gone}
 use Rattle.pdcp_tx_store.specs.declared.given.Sent.{Sent}
-use Rattle.pdcp_tx_store.specs.Given.{Given, is_open, trimmed, with_entry, acked, acked_at, entry_at, tells, heard, untold, from_unacked, data_of}
+use Rattle.pdcp_tx_store.specs.Given.{Given, is_open, trimmed, with_entry, acked, acked_at, entry_at, tells, heard}
+use Rattle.pdcp_tx_store.specs.Given.{untold, from_unacked, data_of}
 use Rattle.pdcp_tx_store.specs.Waiting.{Waits}
 use Rattle.pdcp_pdu.specs.declared.pdu.PdcpKind.{PdcpKind}
 use Rattle.pdcp_pdu.specs.declared.pdu.PdcpKind.TheVariants as pdcp
 use Rattle.pdcp_pdu.specs.Kinds.{is_am}
-use Rattle.pdcp_tx.specs.State.{State, took_new, took_again, took_owed, took, confirmed, fms_count, reported_from, reported, ticked, is_overdue, after_late, submitted, waiting_on, restarted, start}
+use Rattle.pdcp_tx.specs.State.{State, took_new, took_again, took_owed, took, confirmed, fms_count, reported_from}
+use Rattle.pdcp_tx.specs.State.{reported, ticked, is_overdue, after_late, submitted, waiting_on, restarted, start}
 use Rattle.pdcp_sec.specs.Protection.{Protection}
 use Rattle.promises.specs.Names.{IsPdcp}
 
@@ -102,7 +105,8 @@ untold_sent : (from : ℕ) (bitmap : List ℕ) (ss : List Sent) → SentHave ss 
 untold_sent from bitmap [] h = tt
 untold_sent from bitmap (s ∷ ss) h = by (tells from bitmap s.count) (untold_sent from bitmap ss h.1)
   where
-    by : (t : Bool) → SentHave (untold from bitmap ss) → SentHave (if t then untold from bitmap ss else s ∷ untold from bitmap ss)
+    by : (t : Bool) → SentHave (untold from bitmap ss)
+        → SentHave (if t then untold from bitmap ss else s ∷ untold from bitmap ss)
     by true k = k
     by false k = (h.0, k)
 
@@ -129,7 +133,8 @@ pub record Sends (kind : PdcpKind) (s : State) : Type 0 where
   pub again : SentHave s.again
   pub given : GivenHave s.given.entries
 
-given_by : (t : Bool) (g : Given) (count : ℕ) (sdu : List ℕ) → GivenHave g.entries → 0 < length sdu → GivenHave (if t then with_entry g (Data (record { count = count; octets = sdu; acked = false })) else g).entries
+given_by : (t : Bool) (g : Given) (count : ℕ) (sdu : List ℕ) → GivenHave g.entries → 0 < length sdu
+    → GivenHave (if t then with_entry g (Data (record { count = count; octets = sdu; acked = false })) else g).entries
 given_by true g count sdu h some = end_given g.entries _ h some
 given_by false g count sdu h some = h
 
@@ -144,7 +149,8 @@ new_sends kind (w ∷ ws) s h i = record {
 }
 
 again_sends : (kind : PdcpKind) (ss : List Sent) (s : State) → SentHave ss → Sends kind s → Sends kind (took_again ss s)
-again_sends kind [] s h i = new_sends kind (take (s.bound - s.next) s.waiting) s (take_waits (s.bound - s.next) s.waiting i.waiting) i
+again_sends kind [] s h i =
+    new_sends kind (take (s.bound - s.next) s.waiting) s (take_waits (s.bound - s.next) s.waiting i.waiting) i
 again_sends kind (x ∷ xs) s h i = record {
   kind_is = i.kind_is;
   owed = i.owed;
@@ -155,7 +161,14 @@ again_sends kind (x ∷ xs) s h i = record {
 
 owed_sends : (kind : PdcpKind) (o : Option (List ℕ)) (s : State) → Sends kind s → Sends kind (took_owed o s)
 owed_sends kind None s i = again_sends kind s.again s i.again i
-owed_sends kind (Some r) s i = record { kind_is = i.kind_is; owed = tt; waiting = i.waiting; again = i.again; given = end_given s.given.entries Own i.given tt }
+owed_sends kind (Some r) s i =
+    record {
+      kind_is = i.kind_is;
+      owed = tt;
+      waiting = i.waiting;
+      again = i.again;
+      given = end_given s.given.entries Own i.given tt;
+    }
 
 pub took_sends : (kind : PdcpKind) (s : State) → Sends kind s → Sends kind (took s)
 unfolding took
@@ -168,10 +181,13 @@ confirmed_sends kind s place i = record {
   owed = i.owed;
   waiting = i.waiting;
   again = i.again;
-  given = trim_given (acked_at (entry_at s.given place) s.given.entries (place - s.given.gone)) (ack_given (entry_at s.given place) s.given.entries (place - s.given.gone) (entry_given s.given place i.given) i.given);
+  given = trim_given (acked_at (entry_at s.given place) s.given.entries (place - s.given.gone))
+      (ack_given (entry_at s.given place) s.given.entries (place - s.given.gone) (entry_given s.given place i.given)
+      i.given);
 }
 
-from_sends : (kind : PdcpKind) (from : Option ℕ) (s : State) (bitmap : List ℕ) → Sends kind s → Sends kind (reported_from from s bitmap)
+from_sends : (kind : PdcpKind) (from : Option ℕ) (s : State) (bitmap : List ℕ) → Sends kind s
+    → Sends kind (reported_from from s bitmap)
 from_sends kind None s bitmap i = i
 from_sends kind (Some from) s bitmap i = record {
   kind_is = i.kind_is;
@@ -181,13 +197,20 @@ from_sends kind (Some from) s bitmap i = record {
   given = trim_given (map (heard from bitmap) s.given.entries) (hear_given from bitmap s.given.entries i.given);
 }
 
-pub reported_sends : (kind : PdcpKind) (s : State) (fms : ℕ) (bitmap : List ℕ) → Sends kind s → Sends kind (reported s fms bitmap)
+pub reported_sends : (kind : PdcpKind) (s : State) (fms : ℕ) (bitmap : List ℕ) → Sends kind s
+    → Sends kind (reported s fms bitmap)
 unfolding reported
 reported_sends kind s fms bitmap i = from_sends kind (fms_count s.kind s.base fms) s bitmap i
 
 late_one : (kind : PdcpKind) (s : State) → Sends kind s → Sends kind (after_late s)
 unfolding after_late
-late_one kind s i = record { kind_is = i.kind_is; owed = i.owed; waiting = by (is_overdue s); again = i.again; given = i.given }
+late_one kind s i = record {
+  kind_is = i.kind_is;
+  owed = i.owed;
+  waiting = by (is_overdue s);
+  again = i.again;
+  given = i.given;
+}
   where
     by : (t : Bool) → WaitsHave (if t then drop 1 s.waiting else s.waiting)
     by true = first_off s.waiting i.waiting
@@ -197,16 +220,27 @@ late_all : (kind : PdcpKind) (ws : List Waits) (s : State) → Sends kind s → 
 late_all kind [] s i = i
 late_all kind (w ∷ ws) s i = by (is_overdue s) (late_all kind ws (after_late s) (late_one kind s i))
   where
-    by : (t : Bool) → Sends kind (without_late ws (after_late s)) → Sends kind (if t then without_late ws (after_late s) else s)
+    by : (t : Bool) → Sends kind (without_late ws (after_late s))
+        → Sends kind (if t then without_late ws (after_late s) else s)
     by true k = k
     by false k = i
 
 pub ticked_sends : (kind : PdcpKind) (s : State) → Sends kind s → Sends kind (without_late s.waiting (ticked s))
-ticked_sends kind s i = late_all kind s.waiting (ticked s) (record { kind_is = i.kind_is; owed = i.owed; waiting = i.waiting; again = i.again; given = i.given })
+ticked_sends kind s i =
+    late_all kind s.waiting (ticked s)
+    (record { kind_is = i.kind_is; owed = i.owed; waiting = i.waiting; again = i.again; given = i.given })
 
-pub submitted_sends : (kind : PdcpKind) (s : State) (sdu : List ℕ) → 0 < length sdu → Sends kind s → Sends kind (submitted s sdu)
+pub submitted_sends : (kind : PdcpKind) (s : State) (sdu : List ℕ) → 0 < length sdu → Sends kind s
+    → Sends kind (submitted s sdu)
 unfolding submitted
-submitted_sends kind s sdu some i = record { kind_is = i.kind_is; owed = i.owed; waiting = end_waits s.waiting _ i.waiting some; again = i.again; given = i.given }
+submitted_sends kind s sdu some i =
+    record {
+      kind_is = i.kind_is;
+      owed = i.owed;
+      waiting = end_waits s.waiting _ i.waiting some;
+      again = i.again;
+      given = i.given;
+    }
 
 waits_on : (kind : PdcpKind) (ws : List Waits) → WaitsHave ws → WaitsHave (waiting_on kind ws)
 waits_on pdcp.Srb ws h = tt

@@ -1,5 +1,6 @@
 -- What senders and receivers of RLC write is within its size.
-use Rattle.std.proofs.Common.{◌≡◌, ◌≤◌, ◌<◌, ℕ, ◌+◌, ◌-◌, ◌==◌, nat_lt, Bool, true, false, if◌then◌else◌, Option, List, [], ◌∷◌, length, map, refl, arith}
+use Rattle.std.proofs.Common.{◌≡◌, ◌≤◌, ◌<◌, ℕ, ◌+◌, ◌-◌, ◌==◌, nat_lt, Bool, true, false, if◌then◌else◌, Option, List}
+use Rattle.std.proofs.Common.{[], ◌∷◌, length, map, refl, arith}
 use Rattle.std.specs.List.{concat}
 use Rattle.std.proofs.lemmas.Bool.Decides.{nat_tests}
 use Rattle.std.proofs.lemmas.Grind.{common_steps}
@@ -9,13 +10,15 @@ use Rattle.rlc_pdu.specs.Writing.{header_len}
 use Rattle.rlc_queue.proofs.Fits.{fitting}
 use Rattle.rlc_queue.specs.NewPdu.{room, elements, IsWithin}
 use Rattle.rlc_queue.specs.Waiting.{HaveOctets}
-use Rattle.rlc_um.specs.Sender.{Sender as UmSender, Turn as UmTurn, Gives, IsIdle, IsHeld, IsSmall, turn as um_turn, head_of, pdu_of, answer as um_answer_of, taken as um_taken}
+use Rattle.rlc_um.specs.Sender.{Sender as UmSender, Turn as UmTurn, Gives, IsIdle, IsHeld, IsSmall, turn as um_turn}
+use Rattle.rlc_um.specs.Sender.{head_of, pdu_of, answer as um_answer_of, taken as um_taken}
 use Rattle.rlc_um.specs.Transparent.{first_of}
 use Rattle.law_node.proofs.Sizes.{umd_size}
 
 -- ---- a transparent sender
 
-by_test : (next size : ℕ) (sdu : List ℕ) (b : Bool) → nat_lt size (length sdu) ≡ b → 0 < length sdu → IsWithin size (if nat_lt size (length sdu) then Small else Piece next true false sdu)
+by_test : (next size : ℕ) (sdu : List ℕ) (b : Bool) → nat_lt size (length sdu) ≡ b → 0 < length sdu
+    → IsWithin size (if nat_lt size (length sdu) then Small else Piece next true false sdu)
 by_test next size sdu true e some = rw e tt
 by_test next size sdu false e some = rw e (omega (arith, some), grind (arith, nat_tests))
 
@@ -25,7 +28,8 @@ tm_within next size (sdu ∷ more) h = by_test next size sdu (nat_lt size (lengt
 
 -- ---- a new PDU has an element, where an octet of it fits
 
-some_elements : (head size : ℕ) (sdus : List (List ℕ)) → 0 < length sdus → head + 1 ≤ size → 0 < length (elements head size 0 0 sdus)
+some_elements : (head size : ℕ) (sdus : List (List ℕ)) → 0 < length sdus → head + 1 ≤ size
+    → 0 < length (elements head size 0 0 sdus)
 some_elements head size [] some fit = absurd (omega (arith, some))
 some_elements head size (x ∷ xs) some fit =
     let is : room head size 0 0 ≡ size - head = omega arith in
@@ -33,7 +37,8 @@ some_elements head size (x ∷ xs) some fit =
     rw no (omega arith)
 
 pub new_size : (head size : ℕ) (sdus : List (List ℕ)) → 0 < length sdus → head + 1 ≤ size
-    → header_len head (length (map length (elements head size 0 0 sdus))) + length (concat (elements head size 0 0 sdus)) ≤ size
+    → header_len head (length (map length (elements head size 0 0 sdus)))
+    + length (concat (elements head size 0 0 sdus)) ≤ size
 new_size head size sdus some fit =
     let count = length-map (elements head size 0 0 sdus) length in
     rw count ((fitting head size sdus).within (some_elements head size sdus some fit))
@@ -45,7 +50,10 @@ pub record IsAbleUm (s : UmSender) (size : ℕ) : Type 0 where
   pub fits : head_of s.bits + 1 ≤ size
 
 pub able : (s : UmSender) (size : ℕ) (held : Option ℕ) → um_turn s size held ≡ Gives → IsAbleUm s size
-able s size held e = record { some = grind (arith, common_steps, nat_tests); fits = grind (arith, common_steps, nat_tests) }
+able s size held e = record {
+  some = grind (arith, common_steps, nat_tests);
+  fits = grind (arith, common_steps, nat_tests);
+}
 
 some_head : (bits : ℕ) (b : Bool) → (bits == 5) ≡ b → 1 ≤ head_of bits
 some_head bits true e = rw e (omega arith)

@@ -1,5 +1,6 @@
 -- What bearers give as they write, one after the other: none is changed by another.
-use Rattle.std.proofs.Common.{◌≡◌, ℕ, ◌==◌, if◌then◌else◌, Bool, true, false, Option, List, [], ◌∷◌, ◌++◌, refl, ap, ◌∙◌, arith}
+use Rattle.std.proofs.Common.{◌≡◌, ℕ, ◌==◌, if◌then◌else◌, Bool, true, false, Option, List, [], ◌∷◌, ◌++◌, refl, ap}
+use Rattle.std.proofs.Common.{◌∙◌, arith}
 use Rattle.std.proofs.lemmas.Bool.Decides.{nat_tests}
 use Rattle.bearer.specs.Bearer.{Of, of, Life, alive}
 use Rattle.bearer.specs.Taking.{after}
@@ -15,7 +16,8 @@ pub record Stays (m : ℕ) (bs bs' : List (Of Life)) : Type 0 where
   pub has_is : has m bs' ≡ has m bs
   pub bearer_is : has m bs ≡ true → bearer_at bs' (find m bs') ≡ bearer_at bs (find m bs)
 
-pub stays_by : (l share m : ℕ) (held : Option ℕ) (w : Work) (t : Bool) → has l w.bearers ≡ t → (m ≡ l → ⊥) → Stays m w.bearers (writes l share held w).bearers
+pub stays_by : (l share m : ℕ) (held : Option ℕ) (w : Work) (t : Bool) → has l w.bearers ≡ t → (m ≡ l → ⊥)
+    → Stays m w.bearers (writes l share held w).bearers
 stays_by l share m held w false h apart = rw h (record { has_is = refl; bearer_is = λ k. refl })
 stays_by l share m held w true h apart =
     let b = bearer_at w.bearers (find l w.bearers) in
@@ -34,11 +36,13 @@ module _ {X : Type 0} where
   all_by g bs [] = []
   all_by g bs (c ∷ cs) = one_by g bs c ++ all_by g bs cs
 
-  one_same : (g : Of Life → Channel → List X) (bs bs' : List (Of Life)) (c : Channel) (t : Bool) → has c.lcid bs ≡ t → Stays c.lcid bs bs' → one_by g bs' c ≡ one_by g bs c
+  one_same : (g : Of Life → Channel → List X) (bs bs' : List (Of Life)) (c : Channel) (t : Bool) → has c.lcid bs ≡ t
+      → Stays c.lcid bs bs' → one_by g bs' c ≡ one_by g bs c
   one_same g bs bs' c true h s = rw (s.has_is, h) (ap (λ (b : Of Life). g b c) (s.bearer_is h))
   one_same g bs bs' c false h s = rw (s.has_is, h) refl
 
-  pub all_same : (g : Of Life → Channel → List X) (w : Work) (l share : ℕ) (held : Option ℕ) (cs : List Channel) → has_channel l cs ≡ false → all_by g (writes l share held w).bearers cs ≡ all_by g w.bearers cs
+  pub all_same : (g : Of Life → Channel → List X) (w : Work) (l share : ℕ) (held : Option ℕ) (cs : List Channel)
+      → has_channel l cs ≡ false → all_by g (writes l share held w).bearers cs ≡ all_by g w.bearers cs
   all_same g w l share held [] e = refl
   all_same g w l share held (c ∷ cs) e =
       let b = both_false (l == c.lcid) (has_channel l cs) e in

@@ -27,8 +27,8 @@ abbrev pub moves : List Call → List Keys
 moves [] = []
 moves (c ∷ cs) = keys_in c ++ moves cs
 
--- a bearer has come by steps of its own to what it is, while an end was called: a life began in each move and under its keys, and
--- SDUs were taken with these COUNTs
+-- a bearer has come by steps of its own to what it is, while an end was called: a life began in
+-- each move and under its keys, and SDUs were taken with these COUNTs
 pub record Comes (f g : Flow) (calls : List Call) (told : List ℕ) : Type 0 where
   pub steps : List Step
   pub flow_is : g ≡ go steps f
@@ -48,15 +48,20 @@ AddNone lcid calls = AllByRecursion (λ c. adds lcid c ≡ false) calls
 -- a bearer that is there goes on, and what is told of its channel is what its steps take
 pub record GoesOn (lcid : ℕ) (calls : List Call) (e : End) : Type 0 where
   pub there : has lcid (run calls e).bearers ≡ true
-  pub comes : Comes (flow lcid e) (flow lcid (run calls e)) calls (counts_on lcid (told_over calls e))
+  pub comes : Comes (flow lcid e) (flow lcid (run calls e)) calls
+      (counts_on lcid (told_over calls e))
 
 -- from any moment on
 abbrev pub BearersGoOn : Type 0
-BearersGoOn = (side : Side) (maximum : ℕ) (reports : Bool) (past calls : List Call) (lcid : ℕ) → AreGiven past → AreGiven calls
-    → has lcid (reached side maximum reports past).bearers ≡ true → AddNone lcid calls → GoesOn lcid calls (reached side maximum reports past)
+BearersGoOn = (side : Side) (maximum : ℕ) (reports : Bool) (past calls : List Call) (lcid : ℕ)
+    → AreGiven past → AreGiven calls
+    → has lcid (reached side maximum reports past).bearers ≡ true → AddNone lcid calls
+    → GoesOn lcid calls (reached side maximum reports past)
 
--- an end's bearer of a channel is the one that was added last, and began by its configuration, under the keys of that call
-pub record IsAdded (side : Side) (maximum : ℕ) (reports : Bool) (calls : List Call) (lcid : ℕ) : Type 0 where
+-- an end's bearer of a channel is the one that was added last, and began by its configuration,
+-- under the keys of that call
+pub record IsAdded (side : Side) (maximum : ℕ) (reports : Bool) (calls : List Call) (lcid : ℕ) :
+    Type 0 where
   pub before : List Call
   pub config : BearerConfig
   pub keys : Keys
@@ -65,10 +70,14 @@ pub record IsAdded (side : Side) (maximum : ℕ) (reports : Bool) (calls : List 
   pub channel_is : config.channel.lcid ≡ lcid
   pub last : AddNone lcid since
   pub comes :
-      Comes (flow_of config.kind config keys side) (flow lcid (reached side maximum reports calls)) since
-      (counts_on lcid (told_over since (reached side maximum reports (before ++ (Add config keys ∷ [])))))
+      Comes (flow_of config.kind config keys side)
+      (flow lcid (reached side maximum reports calls)) since
+      (counts_on lcid
+      (told_over since (reached side maximum reports (before ++ (Add config keys ∷ [])))))
 
 -- each that is there
 abbrev pub BearersAreAdded : Type 0
-BearersAreAdded = (side : Side) (maximum : ℕ) (reports : Bool) (calls : List Call) (lcid : ℕ) → AreGiven calls
-    → has lcid (reached side maximum reports calls).bearers ≡ true → IsAdded side maximum reports calls lcid
+BearersAreAdded = (side : Side) (maximum : ℕ) (reports : Bool) (calls : List Call) (lcid : ℕ)
+    → AreGiven calls
+    → has lcid (reached side maximum reports calls).bearers ≡ true
+    → IsAdded side maximum reports calls lcid

@@ -37,30 +37,41 @@ all_sdus e grant (c ∷ cs) = sdus_by e grant c ++ all_sdus e grant cs
 
 -- with their subheaders the PDUs of each bearer fit its share
 abbrev pub EachFits : End → ℕ → Type 0
-EachFits e grant = (c : Channel) → IsOneOf c e.buckets.channels → has c.lcid e.bearers ≡ true → FitsShare (share e grant c) (pdus_by e grant c)
+EachFits e grant = (c : Channel) → IsOneOf c e.buckets.channels → has c.lcid e.bearers ≡ true
+    → FitsShare (share e grant c) (pdus_by e grant c)
 
--- the report of what the bearers have left, where the terminal reports and the padding has room for it
+-- the report of what the bearers have left, where the terminal reports and the padding has room for
+-- it
 abbrev pub report : End → ℕ → Option Bsr
-report e grant = report_of e.side e.reports (written e grant).bearers e.buckets.channels (left_of grant (written e grant).block.parts)
+report e grant =
+    report_of e.side e.reports (written e grant).bearers e.buckets.channels
+    (left_of grant (written e grant).block.parts)
 
--- a block has the grant's size, in which it is the canonical writing of the report and the bearers' PDUs; it is
--- read as padding of one or two octets or none, these, and the other padding
+-- a block has the grant's size, in which it is the canonical writing of the report and the bearers'
+-- PDUs; it is read as padding of one or two octets or none, these, and the other padding
 pub record IsBlockOf (e : End) (grant : ℕ) : Type 0 where
   pub size_is : length (new_block e grant) ≡ grant
-  pub writing_is : new_block e grant ≡ canonical (reported (report e grant) ++ map sdu_item (all_sdus e grant e.buckets.channels)) grant
+  pub writing_is : new_block e grant
+      ≡ canonical (reported (report e grant)
+      ++ map sdu_item (all_sdus e grant e.buckets.channels)) grant
   pub fronts : ℕ
   pub ends : List ℕ
   pub two : fronts ≤ 2
   pub one : length ends ≤ 1
   pub read : reading (sent_by e.side) (new_block e grant)
-      ≡ Ok (replicate fronts front ++ ((reported (report e grant) ++ map sdu_item (all_sdus e grant e.buckets.channels)) ++ map padding ends))
+      ≡ Ok (replicate fronts front
+      ++ ((reported (report e grant) ++ map sdu_item (all_sdus e grant e.buckets.channels))
+      ++ map padding ends))
 
 -- of any end, as it has visited a process
 abbrev pub BlockHasWhatWasWritten : Type 0
-BlockHasWhatWasWritten = (side : Side) (maximum : ℕ) (reports : Bool) (calls : List Call) → AreGiven calls
-    → (tti : ℕ) (order : Order) (grant : ℕ) → 1 ≤ grant → grant ≤ GREATEST_GRANT → IsBlockOf (visited tti order (reached side maximum reports calls)) grant
+BlockHasWhatWasWritten = (side : Side) (maximum : ℕ) (reports : Bool) (calls : List Call)
+    → AreGiven calls
+    → (tti : ℕ) (order : Order) (grant : ℕ) → 1 ≤ grant → grant ≤ GREATEST_GRANT
+    → IsBlockOf (visited tti order (reached side maximum reports calls)) grant
 
 -- of any end, likewise, and by any grant
 abbrev pub PdusFitTheirShares : Type 0
 PdusFitTheirShares = (side : Side) (maximum : ℕ) (reports : Bool) (calls : List Call)
-    → (tti : ℕ) (order : Order) (grant : ℕ) → EachFits (visited tti order (reached side maximum reports calls)) grant
+    → (tti : ℕ) (order : Order) (grant : ℕ)
+    → EachFits (visited tti order (reached side maximum reports calls)) grant

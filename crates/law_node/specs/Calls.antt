@@ -19,7 +19,8 @@ use Rattle.l2_node.specs.Moving.{left_cell, joined}
 use Rattle.l2_node.specs.Submitting.{refusal, submitted, discarding}
 use Rattle.l2_types.specs.declared.limits.TheConstants.{GREATEST_GRANT}
 
--- the visit of a sending process in a TTI: its grant, and the feedback that is read on what it sends
+-- the visit of a sending process in a TTI: its grant, and the feedback that is read on what it
+-- sends
 pub record Turn : Type 0 where
   pub tti : ℕ
   pub grant : ℕ
@@ -59,7 +60,8 @@ abbrev pub after : End → Call → End
 after e (SetVisits maximum) = with_visits maximum e
 after e (SetReports reports) = record e { reports = reports }
 after e (Add c keys) = with_bearer c keys e
-after e (Submit lcid sdu) = record e { bearers = (after_submit (refusal lcid sdu e) lcid sdu e).bearers }
+after e (Submit lcid sdu) =
+    record e { bearers = (after_submit (refusal lcid sdu e) lcid sdu e).bearers }
 after e (SetDiscard lcid ttis) = discarding lcid ttis e
 after e Tick = record e { bearers = (ticked e).bearers }
 after e TickBuckets = record e { buckets = grown e.buckets }
@@ -80,7 +82,8 @@ run (c ∷ cs) e = run cs (after e c)
 abbrev pub reached : Side → ℕ → Bool → List Call → End
 reached side maximum reports calls = run calls (fresh side maximum reports)
 
--- what a call is given: some visits of a block, a configuration in its ranges, the grant of a transport block
+-- what a call is given: some visits of a block, a configuration in its ranges, the grant of a
+-- transport block
 abbrev pub IsGiven : Call → Type 0
 IsGiven (SetVisits maximum) = 1 ≤ maximum
 IsGiven (SetReports reports) = Unit {0}

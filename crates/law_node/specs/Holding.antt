@@ -1,5 +1,7 @@
--- No number of a data PDU that HARQ holds can be misread, however late its block comes (TS 36.322 5.1.2.2.1, 5.1.3.2.1, 7.1).
-use Rattle.std.specs.Prelude.{◌≡◌, ℕ, ◌+◌, ◌%◌, ◌<◌, ◌≤◌, ◌==◌, ◌&&◌, if◌then◌else◌, Bool, Option, Some, None, List, slice_index}
+-- No number of a data PDU that HARQ holds can be misread, however late its block comes (TS 36.322
+-- 5.1.2.2.1, 5.1.3.2.1, 7.1).
+use Rattle.std.specs.Prelude.{◌≡◌, ℕ, ◌+◌, ◌%◌, ◌<◌, ◌≤◌, ◌==◌, ◌&&◌, if◌then◌else◌, Bool, Option}
+use Rattle.std.specs.Prelude.{Some, None, List, slice_index}
 use Rattle.bearer.specs.declared.flow.Flow.{Flow}
 use Rattle.bearer.specs.declared.flow.Flow.TheVariants.{Tm, Um, Am}
 use Rattle.bearer.specs.Taking.{number}
@@ -33,7 +35,8 @@ width (Am b) = 512
 abbrev pub flow : ℕ → End → Flow
 flow lcid e = (bearer_of lcid e).state.flow
 
--- ---- the numbers in the last new block of each process, by LCID, since the processes were last emptied
+-- ---- the numbers in the last new block of each process, by LCID, since the processes were last
+-- emptied
 
 abbrev pub Given : Type 0
 Given = ℕ → ℕ → Option ℕ
@@ -44,7 +47,9 @@ none_given = λ process lcid. None
 -- the number of the data PDU that the bearer of a channel writes into a new block
 abbrev pub given_by : End → ℕ → ℕ → Option ℕ
 given_by e grant lcid =
-    if has_channel lcid e.buckets.channels && has lcid e.bearers then number (flow lcid e) (slice_index (shares e grant) lcid) (lowest e.sender e.numbers lcid)
+    if has_channel lcid e.buckets.channels && has lcid e.bearers
+    then number (flow lcid e) (slice_index (shares e grant) lcid)
+    (lowest e.sender e.numbers lcid)
     else None
 
 abbrev pub with_block : ℕ → (ℕ → Option ℕ) → Given → Given
@@ -62,10 +67,13 @@ given_after e Rests past = past
 
 -- ---- the law
 
--- while a process holds its last new block, each number in it lies at most a window below the next one of its bearer
+-- while a process holds its last new block, each number in it lies at most a window below the next
+-- one of its bearer
 abbrev pub HoldsNone : Watched Given → Type 0
-HoldsNone w = (lcid process n : ℕ) (block : List ℕ) → process < 8 → held_of w.end.sender process ≡ Some block → w.past process lcid ≡ Some n
+HoldsNone w = (lcid process n : ℕ) (block : List ℕ) → process < 8
+    → held_of w.end.sender process ≡ Some block → w.past process lcid ≡ Some n
     → next_number (flow lcid w.end) ≤ n + width (flow lcid w.end)
 
 abbrev pub HoldsNoOldNumber : Type 0
-HoldsNoOldNumber = (side : Side) (maximum : ℕ) (reports : Bool) (calls : List Call) → AreGiven calls → HoldsNone (watched given_after none_given side maximum reports calls)
+HoldsNoOldNumber = (side : Side) (maximum : ℕ) (reports : Bool) (calls : List Call)
+    → AreGiven calls → HoldsNone (watched given_after none_given side maximum reports calls)

@@ -1,4 +1,5 @@
--- What is dropped by the test loop, which the link tells in the terminal's name, is told in no call of an end (TS 36.509 5.4).
+-- What is dropped by the test loop, which the link tells in the terminal's name, is told in no call
+-- of an end (TS 36.509 5.4).
 use Rattle.l2_node.specs.End.{End}
 use Rattle.law_node.specs.Calls.{Call}
 use Rattle.law_node.specs.Telling.{told_of}

@@ -1,5 +1,5 @@
--- A PDU in a new block is the one that its `send` names, by what it is and its number (TS 36.322 6.2.1), and the SDUs that are whole in
--- it are PDUs of PDCP (TS 36.323 6.2).
+-- A PDU in a new block is the one that its `send` names, by what it is and its number (TS 36.322
+-- 6.2.1), and the SDUs that are whole in it are PDUs of PDCP (TS 36.323 6.2).
 use Rattle.std.specs.Prelude.{◌≡◌, ℕ, Bool, if◌then◌else◌, List, Option, Some, None}
 use Rattle.bearer.specs.declared.flow.Flow.{Flow}
 use Rattle.bearer.specs.declared.flow.Flow.TheVariants.{Tm, Um, Am}
@@ -29,7 +29,10 @@ modes_of e lcid = if has lcid e.bearers then Some (mode (flow lcid e)) else None
 
 -- of any end that builds a new block
 abbrev pub NamesWhatItSends : Type 0
-NamesWhatItSends = (side : Side) (maximum : ℕ) (reports : Bool) (calls : List Call) → AreGiven calls → (tti grant : ℕ) (order : Order)
+NamesWhatItSends = (side : Side) (maximum : ℕ) (reports : Bool) (calls : List Call)
+    → AreGiven calls → (tti grant : ℕ) (order : Order)
     → visit tti order (reached side maximum reports calls) ≡ New
-    → AreNamed (modes_of (visited tti order (reached side maximum reports calls))) (sends (building tti grant order (reached side maximum reports calls)))
-    (all_sdus (visited tti order (reached side maximum reports calls)) grant (visited tti order (reached side maximum reports calls)).buckets.channels)
+    → AreNamed (modes_of (visited tti order (reached side maximum reports calls)))
+    (sends (building tti grant order (reached side maximum reports calls)))
+    (all_sdus (visited tti order (reached side maximum reports calls)) grant
+    (visited tti order (reached side maximum reports calls)).buckets.channels)

@@ -1,4 +1,5 @@
--- In which order an end tells: the events of each of its calls, bearer by bearer and PDU by PDU (TS 36.321 5.4.3.1).
+-- In which order an end tells: the events of each of its calls, bearer by bearer and PDU by PDU (TS
+-- 36.321 5.4.3.1).
 use Rattle.std.specs.Prelude.{◌≡◌, ℕ, Bool, true, ◌≤◌, IfSome, Result, Ok, Err, List, [], ◌∷◌}
 use Rattle.std.specs.List.{AllByRecursion}
 use Rattle.law_words.specs.BearerOrder.{OfEvents, in_a_block, of_an_expiry, in_a_tti, at_the_end}
@@ -51,15 +52,18 @@ StopsInOrder e = each (λ b. at_the_end (is_srb b.lcid) b.lcid) e.bearers
 -- ---- the law
 
 pub record IsToldInOrder (e : End) : Type 0 where
-  pub building : (tti grant : ℕ) (order : Order) → visit tti order e ≡ New → BuildsInOrder e (building tti grant order e)
+  pub building : (tti grant : ℕ) (order : Order) → visit tti order e ≡ New
+      → BuildsInOrder e (building tti grant order e)
   pub receiving : (block : List ℕ) → HearsInOrder e block (received e block).events
   pub ticking : TicksInOrder e (ticked e).events
-  pub expiring : (lcid : ℕ) (clock : Clock) → IfSome (expiry lcid clock e) (ExpiresInOrder lcid clock)
+  pub expiring : (lcid : ℕ) (clock : Clock)
+      → IfSome (expiry lcid clock e) (ExpiresInOrder lcid clock)
   pub moving : StopsInOrder e (leaving e)
 
 -- of any end that has come by calls
 abbrev pub TellsInItsOrder : Type 0
-TellsInItsOrder = (side : Side) (maximum : ℕ) (reports : Bool) (calls : List Call) → AreGiven calls → IsToldInOrder (reached side maximum reports calls)
+TellsInItsOrder = (side : Side) (maximum : ℕ) (reports : Bool) (calls : List Call)
+    → AreGiven calls → IsToldInOrder (reached side maximum reports calls)
 
 -- each stands before all behind it
 module _ {X : Type 0} where
@@ -73,4 +77,5 @@ pub record StandsInOrder (e : End) : Type 0 where
   pub bearers : AreOrdered (λ b c. b.lcid ≤ c.lcid) e.bearers
 
 abbrev pub EndsStandInOrder : Type 0
-EndsStandInOrder = (side : Side) (maximum : ℕ) (reports : Bool) (calls : List Call) → StandsInOrder (reached side maximum reports calls)
+EndsStandInOrder = (side : Side) (maximum : ℕ) (reports : Bool) (calls : List Call)
+    → StandsInOrder (reached side maximum reports calls)

@@ -10,9 +10,15 @@ use Rattle.law_node.specs.Watching.{Doing, Turns, Empties, Rests, Watched, watch
 
 -- a visit at HARQ's sender: a new block is what the bearers write by the grant
 abbrev pub sender_turn : End → Turn → SenderTurn
-sender_turn e t = record { tti = t.tti; order = t.order; octets = new_block (visited t.tti t.order e) t.grant; good = t.good }
+sender_turn e t = record {
+  tti = t.tti;
+  order = t.order;
+  octets = new_block (visited t.tti t.order e) t.grant;
+  good = t.good;
+}
 
--- for each process, what it did at its visits since the processes were last emptied, the latest first
+-- for each process, what it did at its visits since the processes were last emptied, the latest
+-- first
 abbrev pub Deeds : Type 0
 Deeds = ℕ → List Deed
 
@@ -31,8 +37,9 @@ deeds_after e Rests past = past
 abbrev pub sending : Watched Deeds → World
 sending w = record { sender = w.end.sender; past = w.past }
 
--- A process holds its last new block until a good feedback or its last visit; each sending of it has the same octets, and the versions are 0, 2, 3, 1
--- in turn.
+-- A process holds its last new block until a good feedback or its last visit; each sending of it
+-- has the same octets, and the versions are 0, 2, 3, 1 in turn.
 abbrev pub ResendsWhatWasBuilt : Type 0
-ResendsWhatWasBuilt = (side : Side) (maximum : ℕ) (reports : Bool) (calls : List Call) → 1 ≤ maximum → AreGiven calls
+ResendsWhatWasBuilt = (side : Side) (maximum : ℕ) (reports : Bool) (calls : List Call)
+    → 1 ≤ maximum → AreGiven calls
     → KeepsBlocks (sending (watched deeds_after no_deeds side maximum reports calls))

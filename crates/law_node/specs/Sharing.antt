@@ -26,10 +26,14 @@ share e grant c = slice_index (shares e grant) c.lcid
 pub record IsShared (e : End) (grant : ℕ) : Type 0 where
   pub within_grant : sum (shares e grant) ≤ grant + 2
   pub within_need : (c : Channel) → IsOneOf c e.buckets.channels → share e grant c ≤ need e grant c
-  pub enough : over e.buckets.channels (needs e grant) ≤ grant + 2 → (c : Channel) → IsOneOf c e.buckets.channels → share e grant c ≡ need e grant c
-  pub none : (lcid : ℕ) → has_channel lcid e.buckets.channels ≡ false → slice_index (shares e grant) lcid ≡ 0
+  pub enough : over e.buckets.channels (needs e grant) ≤ grant + 2 → (c : Channel)
+      → IsOneOf c e.buckets.channels → share e grant c ≡ need e grant c
+  pub none : (lcid : ℕ) → has_channel lcid e.buckets.channels ≡ false
+      → slice_index (shares e grant) lcid ≡ 0
 
 -- of any end, as it has visited a process
 abbrev pub SharesAreWithinTheGrant : Type 0
-SharesAreWithinTheGrant = (side : Side) (maximum : ℕ) (reports : Bool) (calls : List Call) → AreGiven calls
-    → (tti : ℕ) (order : Order) (grant : ℕ) → IsShared (visited tti order (reached side maximum reports calls)) grant
+SharesAreWithinTheGrant = (side : Side) (maximum : ℕ) (reports : Bool) (calls : List Call)
+    → AreGiven calls
+    → (tti : ℕ) (order : Order) (grant : ℕ)
+    → IsShared (visited tti order (reached side maximum reports calls)) grant

@@ -1,5 +1,6 @@
 -- Why a bearer with data writes no data PDU into a block (TS 36.321 5.4.3.1, TS 36.322 5.1).
-use Rattle.std.specs.Prelude.{◌≡◌, ℕ, ◌+◌, ◌-◌, Bool, ◌||◌, ◌&&◌, if◌then◌else◌, Option, Some, None, is_none, List, [], ◌∷◌, ◌++◌, length, nat_le, nat_lt}
+use Rattle.std.specs.Prelude.{◌≡◌, ℕ, ◌+◌, ◌-◌, Bool, ◌||◌, ◌&&◌, if◌then◌else◌, Option, Some, None}
+use Rattle.std.specs.Prelude.{is_none, List, [], ◌∷◌, ◌++◌, length, nat_le, nat_lt}
 use Rattle.bearer.specs.declared.flow.Flow.{Flow}
 use Rattle.bearer.specs.declared.flow.Flow.TheVariants.{Tm, Um, Am}
 use Rattle.bearer.specs.Taking.{told}
@@ -8,7 +9,8 @@ use Rattle.bearer.specs.Acknowledged.Taking.{answer as am_answer, data_size}
 use Rattle.bearer_pdcp.specs.Telling.{pdus_of}
 use Rattle.bearer_types.specs.declared.event.Event.{Event}
 use Rattle.bearer_types.specs.declared.event.Event.TheVariants.{Wait}
-use Rattle.bearer.specs.Unacknowledged.Taking.{answer as um_answer, has_more as um_has_more, size_in}
+use Rattle.bearer.specs.Unacknowledged.Taking.{answer as um_answer, has_more as um_has_more}
+use Rattle.bearer.specs.Unacknowledged.Taking.{size_in}
 use Rattle.harq.specs.declared.sender.Order.{Order}
 use Rattle.harq.specs.declared.sender.Visit.TheVariants.{New}
 use Rattle.l2_types.specs.declared.channel.Channel.{Channel}
@@ -74,7 +76,8 @@ um_reason s size held =
 abbrev pub fits_again : AmSender → ℕ → Bool
 fits_again s size = (all_wait (again s) && nat_le (whole_size (again s)) size) || nat_le 5 size
 
--- the retransmission limit was reached; what is sent again comes before what is new, which the window and HARQ may forbid
+-- the retransmission limit was reached; what is sent again comes before what is new, which the
+-- window and HARQ may forbid
 abbrev pub am_reason : AmSender → ℕ → Option ℕ → Option Waits
 am_reason s size held =
     if s.failed then Some Stopped
@@ -95,20 +98,24 @@ abbrev pub if_some : Option Waits → List Waits
 if_some None = []
 if_some (Some why) = why ∷ []
 
--- a bearer with data writes one data PDU, or else tells the first reason, once; one without writes none and tells none
-pub record Tells (has : Bool) (why : Option Waits) (told : List Waits) (written : List (List ℕ)) : Type 0 where
+-- a bearer with data writes one data PDU, or else tells the first reason, once; one without writes
+-- none and tells none
+pub record Tells (has : Bool) (why : Option Waits) (told : List Waits) (written : List (List ℕ)) :
+    Type 0 where
   pub told_is : told ≡ (if has then if_some why else [])
   pub written_is : length written ≡ (if has && is_none why then 1 else 0)
 
 abbrev pub TellsWhyItWaits : Type 0
 TellsWhyItWaits = (lcid : ℕ) (f : Flow) (share : ℕ) (held : Option ℕ)
-    → Tells (has_data f) (reason f share held) (reasons (told lcid f share held)) (data_pdus f share held)
+    → Tells (has_data f) (reason f share held) (reasons (told lcid f share held))
+    (data_pdus f share held)
 
 -- ---- a block
 
 -- what the bearer of a channel tells, and all of them, in the order of the channels
 abbrev pub told_by : End → ℕ → Channel → List Event
-told_by e grant c = if has c.lcid e.bearers then told c.lcid (bearer_of c.lcid e).state.flow (share e grant c) (held e c) else []
+told_by e grant c = if has c.lcid e.bearers
+    then told c.lcid (bearer_of c.lcid e).state.flow (share e grant c) (held e c) else []
 
 abbrev pub all_told : End → ℕ → List Channel → List Event
 all_told e grant [] = []
@@ -116,7 +123,9 @@ all_told e grant (c ∷ cs) = told_by e grant c ++ all_told e grant cs
 
 -- what is told of a new block, at any end
 abbrev pub TellsInOrder : Type 0
-TellsInOrder = (side : Side) (maximum : ℕ) (reports : Bool) (calls : List Call) → AreGiven calls → (tti grant : ℕ) (order : Order)
+TellsInOrder = (side : Side) (maximum : ℕ) (reports : Bool) (calls : List Call) → AreGiven calls
+    → (tti grant : ℕ) (order : Order)
     → visit tti order (reached side maximum reports calls) ≡ New
     → building tti grant order (reached side maximum reports calls)
-    ≡ all_told (visited tti order (reached side maximum reports calls)) grant (visited tti order (reached side maximum reports calls)).buckets.channels
+    ≡ all_told (visited tti order (reached side maximum reports calls)) grant
+    (visited tti order (reached side maximum reports calls)).buckets.channels

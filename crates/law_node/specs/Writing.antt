@@ -1,4 +1,5 @@
--- An end tells of what it writes, and of data that waits, only as it builds a block (TS 36.321 5.4.3, TS 36.322 5.1).
+-- An end tells of what it writes, and of data that waits, only as it builds a block (TS 36.321
+-- 5.4.3, TS 36.322 5.1).
 use Rattle.std.specs.Prelude.{◌≡◌, ℕ, Bool, IfSome, List, [], map}
 use Rattle.std.specs.List.{filter}
 use Rattle.bearer_types.specs.declared.event.Event.{Event}
@@ -32,7 +33,10 @@ WritesOnlyAsItBuilds = (e : End) → WritesNothing e
 
 -- of any end that builds one
 abbrev pub TellsWhatItSends : Type 0
-TellsWhatItSends = (side : Side) (maximum : ℕ) (reports : Bool) (calls : List Call) → AreGiven calls → (tti grant : ℕ) (order : Order)
+TellsWhatItSends = (side : Side) (maximum : ℕ) (reports : Bool) (calls : List Call)
+    → AreGiven calls → (tti grant : ℕ) (order : Order)
     → visit tti order (reached side maximum reports calls) ≡ New
     → sent_on (building tti grant order (reached side maximum reports calls))
-    ≡ map (λ s. s.lcid) (all_sdus (visited tti order (reached side maximum reports calls)) grant (visited tti order (reached side maximum reports calls)).buckets.channels)
+    ≡ map (λ s. s.lcid)
+    (all_sdus (visited tti order (reached side maximum reports calls)) grant
+    (visited tti order (reached side maximum reports calls)).buckets.channels)

@@ -1,11 +1,12 @@
-//! Laws of the unacknowledged machines of `rlc_um`, over any list of calls, each proved as the contract of a function
-//! that does nothing.
+//! Laws of the unacknowledged machines of `rlc_um`, over any list of calls, each proved as the
+//! contract of a function that does nothing.
 
 ghost use Rattle.std.specs.Prelude.{List, ℕ, ◌<◌, ◌≤◌, Option};
 ghost use Rattle.rlc_pdu.specs.Pdus.{UmdPdu, IsUmBits};
 ghost use Rattle.rlc_um.specs.Joined.{Parts};
 ghost use Rattle.rlc_um.specs.Sender.{width_of};
-ghost use Rattle.law_rlc.specs.UmPair.Run.{Call, run, fresh, IsEdge, IsHandedUp, IsFinished, IsBounded, IsTimed};
+ghost use Rattle.law_rlc.specs.UmPair.Run.{Call, run, fresh, IsEdge, IsHandedUp, IsFinished};
+ghost use Rattle.law_rlc.specs.UmPair.Run.{IsBounded, IsTimed};
 ghost use Rattle.law_rlc.specs.UmPair.Send.{Step, flow, at_first, IsWhole};
 ghost use Rattle.law_rlc.specs.UmPair.Loss.{IsOrdered};
 ghost use Rattle.law_rlc.specs.UmPair.Search.{IsSearch};
@@ -13,73 +14,93 @@ ghost use Rattle.law_rlc.specs.UmPair.Air.{AreSent, IsDelivered, IsReadTruly};
 ghost use Rattle.law_rlc.specs.UmPair.Read.{IsRead};
 ghost use Rattle.law_rlc.specs.UmPair.Which.{HandsUpWhatCame, MoreGoUpLater};
 
-/// Whatever calls come, VR(UR) is the least number at or above the base that isn't accepted, and VR(UH) is one above the
-/// greatest number that was read.
+/// Whatever calls come, VR(UR) is the least number at or above the base that isn't accepted, and
+/// VR(UH) is one above the greatest number that was read.
 pub fn edge_is_least()
-    ensures { (width reorder : ℕ) → 0 < width → (calls : List Call) → IsEdge (run calls (fresh width reorder)) }
+    ensures { (width reorder : ℕ) → 0 < width → (calls : List Call)
+        → IsEdge (run calls (fresh width reorder)) }
 {}
 
 /// Whatever calls come, no more PDUs are kept than the window has numbers.
 pub fn keeps_a_window()
-    ensures { (width reorder : ℕ) → 0 < width → (calls : List Call) → IsBounded (run calls (fresh width reorder)) }
+    ensures { (width reorder : ℕ) → 0 < width → (calls : List Call)
+        → IsBounded (run calls (fresh width reorder)) }
 {}
 
 /// Whatever calls come, the reordering timer runs exactly while a number below VR(UH) is missing.
 pub fn timer_runs_at_a_gap()
-    ensures { (width reorder : ℕ) → 0 < width → (calls : List Call) → IsTimed (run calls (fresh width reorder)) }
+    ensures { (width reorder : ℕ) → 0 < width → (calls : List Call)
+        → IsTimed (run calls (fresh width reorder)) }
 {}
 
-/// What went up and what may go up are the joined SDUs of the accepted numbers below VR(UR), in order, each once.
+/// What went up and what may go up are the joined SDUs of the accepted numbers below VR(UR), in
+/// order, each once.
 pub fn joined_is_handed_up()
-    ensures { (width reorder : ℕ) → 0 < width → (calls : List Call) → IsHandedUp (run calls (fresh width reorder)) }
+    ensures { (width reorder : ℕ) → 0 < width → (calls : List Call)
+        → IsHandedUp (run calls (fresh width reorder)) }
 {}
 
-/// As a receiver ends, what went up and what it hands over are the joined SDUs of all accepted numbers.
+/// As a receiver ends, what went up and what it hands over are the joined SDUs of all accepted
+/// numbers.
 pub fn all_is_joined()
-    ensures { (width reorder : ℕ) → 0 < width → (calls : List Call) → IsFinished (run calls (fresh width reorder)) }
+    ensures { (width reorder : ℕ) → 0 < width → (calls : List Call)
+        → IsFinished (run calls (fresh width reorder)) }
 {}
 
-/// Joining is the search for elements that follow each other, in PDUs of which none between is missing, from one that
-/// begins an SDU to the next one that ends it.
+/// Joining is the search for elements that follow each other, in PDUs of which none between is
+/// missing, from one that begins an SDU to the next one that ends it.
 pub fn joining_is_a_search()
     ensures { (numbers : List (Option Parts)) → IsSearch numbers }
 {}
 
 /// A sequence number is read as the one number in the window around the top that has it.
 pub fn number_is_read()
-    ensures short { (edge : ℕ) (slots : List (Option Parts)) (sn : ℕ) → 32 ≤ edge → sn < 32 → IsRead (record { width = 16; edge = edge; slots = slots }) sn }
-    ensures long { (edge : ℕ) (slots : List (Option Parts)) (sn : ℕ) → 1024 ≤ edge → sn < 1024 → IsRead (record { width = 512; edge = edge; slots = slots }) sn }
+    ensures short { (edge : ℕ) (slots : List (Option Parts)) (sn : ℕ) → 32 ≤ edge → sn < 32
+        → IsRead (record { width = 16; edge = edge; slots = slots }) sn }
+    ensures long { (edge : ℕ) (slots : List (Option Parts)) (sn : ℕ) → 1024 ≤ edge → sn < 1024
+        → IsRead (record { width = 512; edge = edge; slots = slots }) sn }
 {}
 
-/// Whatever is offered and taken, the PDUs, numbered from 0, join to the SDUs that were offered, each once and unchanged,
-/// up to those that wait.
+/// Whatever is offered and taken, the PDUs, numbered from 0, join to the SDUs that were offered,
+/// each once and unchanged, up to those that wait.
 pub fn joined_is_offered()
     ensures { (bits : ℕ) (steps : List Step) → IsWhole bits (flow steps (at_first bits)) }
 {}
 
-/// Whatever numbers are lost, what is joined are some of the SDUs that were offered, in order and unchanged.
+/// Whatever numbers are lost, what is joined are some of the SDUs that were offered, in order and
+/// unchanged.
 pub fn joined_is_in_order()
     ensures { (bits : ℕ) (steps : List Step) → IsOrdered (flow steps (at_first bits)) }
 {}
 
-/// Over an air that loses, repeats and turns about a sender's PDUs, but keeps each near the top, the SDUs that go up, also
-/// as the receiver ends, are some of those that were offered, in order, each once and unchanged.
+/// Over an air that loses, repeats and turns about a sender's PDUs, but keeps each near the top,
+/// the SDUs that go up, also as the receiver ends, are some of those that were offered, in order,
+/// each once and unchanged.
 pub fn delivered_in_order()
-    ensures { (bits reorder : ℕ) (steps : List Step) (calls : List Call) → IsUmBits bits → AreSent (flow steps (at_first bits)).made (width_of bits) calls (fresh (width_of bits) reorder) → IsDelivered (width_of bits) (flow steps (at_first bits)) (run calls (fresh (width_of bits) reorder)) }
+    ensures { (bits reorder : ℕ) (steps : List Step) (calls : List Call) → IsUmBits bits
+        → AreSent (flow steps (at_first bits)).made (width_of bits) calls
+        (fresh (width_of bits) reorder)
+        → IsDelivered (width_of bits) (flow steps (at_first bits))
+        (run calls (fresh (width_of bits) reorder)) }
 {}
 
 /// Over such an air each PDU is read as the number that it has.
 pub fn reads_true_numbers()
-    ensures { (bits reorder : ℕ) (steps : List Step) (calls : List Call) → IsUmBits bits → AreSent (flow steps (at_first bits)).made (width_of bits) calls (fresh (width_of bits) reorder) → (pdu : UmdPdu) → IsReadTruly (flow steps (at_first bits)).made (width_of bits) (run calls (fresh (width_of bits) reorder)) pdu }
+    ensures { (bits reorder : ℕ) (steps : List Step) (calls : List Call) → IsUmBits bits
+        → AreSent (flow steps (at_first bits)).made (width_of bits) calls
+        (fresh (width_of bits) reorder) → (pdu : UmdPdu)
+        → IsReadTruly (flow steps (at_first bits)).made (width_of bits)
+        (run calls (fresh (width_of bits) reorder)) pdu }
 {}
 
-/// Over such an air the SDUs that go up are just those all of whose elements came in numbers below VR(UR), and as the receiver ends
-/// those all of whose elements came.
+/// Over such an air the SDUs that go up are just those all of whose elements came in numbers below
+/// VR(UR), and as the receiver ends those all of whose elements came.
 pub fn hands_up_what_came()
     ensures { HandsUpWhatCame }
 {}
 
-/// Whatever is offered, taken and called later, the SDUs that came whole so far stay those, and others only follow them.
+/// Whatever is offered, taken and called later, the SDUs that came whole so far stay those, and
+/// others only follow them.
 pub fn more_go_up_later()
     ensures { MoreGoUpLater }
 {}

@@ -1,4 +1,5 @@
--- Each acknowledged data bearer of a journal hands up exactly as many SDUs as have come before the first that hasn't, and the first of those submitted.
+-- Each acknowledged data bearer of a journal hands up exactly as many SDUs as have come before the first that hasn't,
+-- and the first of those submitted.
 use Rattle.std.proofs.Common.{◌≡◌, ℕ, ◌-◌, List, [], ◌∷◌, length, take, arith, ap, sym, subst, ◌∙◌}
 use Rattle.std.proofs.lemmas.List.{length-take-le}
 use Rattle.air_text.specs.Groups.{Group, history}
@@ -10,7 +11,8 @@ use Rattle.law_bearer.specs.AmBearer.Lives.{other as other_end}
 use Rattle.law_deliver.specs.AmChannel.Arrival.{told_from}
 use Rattle.law_deliver.specs.AmChannel.Delivery.{taken_at, submitted_at, ups_at}
 use Rattle.law_deliver.specs.AmFlow.Air.{outset}
-use Rattle.law_deliver.proofs.AmChannel.Delivery.{channels_tell_what_is_taken, channels_deliver_what_came, channels_deliver_what_came_undiscarded}
+use Rattle.law_deliver.proofs.AmChannel.Delivery.{channels_tell_what_is_taken, channels_deliver_what_came}
+use Rattle.law_deliver.proofs.AmChannel.Delivery.{channels_deliver_what_came_undiscarded}
 use Rattle.law_deliver.specs.AmDelivery.Arrival.{IsWhatCame}
 use Rattle.promises.specs.Events.{discards_on}
 use Rattle.promises.specs.Arrival.{taken as taken_told, told_of, AllHandUpWhatCame, HandUpWhatCame}
@@ -18,7 +20,8 @@ use Rattle.law_run.specs.Order.{KeepsOrder}
 use Rattle.law_run.proofs.Delivering.{alike, is_delivering, tells, went_up_is, was_submitted_is, happened_from}
 
 -- how many they are
-many_of : (first : ℕ) (a : Account) (news ups : List (List ℕ)) (x : IsWhatCame first a news ups) → length ups ≡ x.next - first
+many_of : (first : ℕ) (a : Account) (news ups : List (List ℕ)) (x : IsWhatCame first a news ups)
+    → length ups ≡ x.next - first
 many_of first a news ups x =
     let within = x.taken in
     ap length x.ups_are ∙ length-take-le (x.next - first) news (omega (arith, within))
@@ -34,13 +37,17 @@ came past order from l c e kind own =
     let all = submitted_at l from steps a in
     let ups = ups_at l (other_end from) steps a in
     let said = told_of c l from past in
-    let from_told : (news : List (List ℕ)) → IsWhatCame c.first (told_from c l from steps a) news ups → IsWhatCame c.first said news ups =
-    λ news x. subst (λ (hs : List Happening). IsWhatCame c.first (account hs no_account) news ups) (happened_from l c past d c.pdcp_bits from) x in
+    let from_told : (news : List (List ℕ)) → IsWhatCame c.first (told_from c l from steps a) news ups
+    → IsWhatCame c.first said news ups =
+    λ news x. subst (λ (hs : List Happening). IsWhatCame c.first (account hs no_account) news ups)
+    (happened_from l c past d c.pdcp_bits from) x in
     let told = channels_tell_what_is_taken l c d.keys d.nb d.ue from steps both living in
     let is_told : taken ≡ taken_told c l from past =
     told.taken_are
-    ∙ (ap (λ (es : List Event). taken_of l c.first es all) (tells l c past d from) ∙ ap (taken_of l c.first (told_by from (history past))) (was_submitted_is l c past d from)) in
-    let x : IsWhatCame c.first said taken ups = from_told taken (channels_deliver_what_came l c d.keys d.nb d.ue from steps both living) in
+    ∙ (ap (λ (es : List Event). taken_of l c.first es all) (tells l c past d from)
+    ∙ ap (taken_of l c.first (told_by from (history past))) (was_submitted_is l c past d from)) in
+    let x : IsWhatCame c.first said taken ups =
+    from_told taken (channels_deliver_what_came l c d.keys d.nb d.ue from steps both living) in
     let up = went_up_is l c past d from in
     let few = told.were_submitted in
     let events = ap (λ (es : List Event). length (leaves l c.first es)) (tells l c past d from) in
@@ -53,7 +60,8 @@ came past order from l c e kind own =
       which = sym up ∙ (x.ups_are ∙ ap (take (x.next - c.first)) is_told);
       none_left_out = λ none.
           let y : IsWhatCame c.first said all ups =
-          from_told all (channels_deliver_what_came_undiscarded l c d.keys d.nb d.ue from steps both living (ap (discards_on l) (tells l c past d from) ∙ none)) in
+          from_told all (channels_deliver_what_came_undiscarded l c d.keys d.nb d.ue from steps both living
+          (ap (discards_on l) (tells l c past d from) ∙ none)) in
           sym up ∙ (y.ups_are
           ∙ (ap (λ (n : ℕ). take n all) (sym (many_of c.first said all ups y) ∙ many_of c.first said taken ups x)
           ∙ ap (take (x.next - c.first)) (was_submitted_is l c past d from)));

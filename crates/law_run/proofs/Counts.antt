@@ -1,6 +1,7 @@
--- From one handover to the next an end is called on by calls with which no life of a channel's bearer begins but its first, before which
--- nothing is taken: so the COUNTs that it tells of as taken ascend.
-use Rattle.std.proofs.Common.{◌≡◌, ℕ, ◌==◌, Bool, true, false, cond, ◌&&◌, not, if◌then◌else◌, Option, None, List, [], ◌∷◌, ◌++◌, arith, refl, ap, sym, ◌∙◌, subst}
+-- From one handover to the next an end is called on by calls with which no life of a channel's bearer begins but its
+-- first, before which nothing is taken: so the COUNTs that it tells of as taken ascend.
+use Rattle.std.proofs.Common.{◌≡◌, ℕ, ◌==◌, Bool, true, false, cond, ◌&&◌, not, if◌then◌else◌, Option, None, List, []}
+use Rattle.std.proofs.Common.{◌∷◌, ◌++◌, arith, refl, ap, sym, ◌∙◌, subst}
 use Rattle.std.proofs.lemmas.Bool.Decides.{nat_tests}
 use Rattle.std.specs.List.{AllByRecursion, filter}
 use Rattle.air_link.specs.Link.{Link, end_of}
@@ -42,24 +43,31 @@ use Rattle.law_run.proofs.Reaching.{lives_by, group_goes, come_by_calls}
 
 -- ---- where no block is built, none is told of
 
-event_none : (b : Bool) (lcid : ℕ) (e : Event) → is_of_writing e ≡ false → counts_on lcid (if b then e ∷ [] else []) ≡ []
+event_none : (b : Bool) (lcid : ℕ) (e : Event) → is_of_writing e ≡ false
+    → counts_on lcid (if b then e ∷ [] else []) ≡ []
 event_none true lcid (events.Take l count len) free = absurd cc
 event_none true lcid e free = refl
 event_none false lcid e free = refl
 
-one_none : (side : Side) (lcid : ℕ) (one : Record) → is_of_building one ≡ false → counts_on lcid (event_of side one) ≡ []
+one_none : (side : Side) (lcid : ℕ) (one : Record) → is_of_building one ≡ false
+    → counts_on lcid (event_of side one) ≡ []
 one_none side lcid (records.Of s e) free = event_none (is_same side s && not (is_of_loop e)) lcid e free
 one_none side lcid one free = refl
 
-none_by : (b : Bool) (side : Side) (lcid : ℕ) (one : Record) (told : List Record) → is_of_building one ≡ b → cond b (one ∷ filter is_of_building told) (filter is_of_building told) ≡ [] → (filter is_of_building told ≡ [] → counts_taken side lcid told ≡ [])
+none_by : (b : Bool) (side : Side) (lcid : ℕ) (one : Record) (told : List Record) → is_of_building one ≡ b
+    → cond b (one ∷ filter is_of_building told) (filter is_of_building told) ≡ []
+    → (filter is_of_building told ≡ [] → counts_taken side lcid told ≡ [])
     → counts_taken side lcid (one ∷ told) ≡ []
 none_by true side lcid one told is none rest = absurd cc
 none_by false side lcid one told is none rest =
-    counts_then lcid (event_of side one) (told_by side told) ∙ ap (λ (ns : List ℕ). ns ++ counts_taken side lcid told) (one_none side lcid one is) ∙ rest none
+    counts_then lcid (event_of side one) (told_by side told)
+    ∙ ap (λ (ns : List ℕ). ns ++ counts_taken side lcid told) (one_none side lcid one is) ∙ rest none
 
-pub none_taken : (side : Side) (lcid : ℕ) (told : List Record) → filter is_of_building told ≡ [] → counts_taken side lcid told ≡ []
+pub none_taken : (side : Side) (lcid : ℕ) (told : List Record) → filter is_of_building told ≡ []
+    → counts_taken side lcid told ≡ []
 none_taken side lcid [] none = refl
-none_taken side lcid (one ∷ told) none = none_by (is_of_building one) side lcid one told refl none (none_taken side lcid told)
+none_taken side lcid (one ∷ told) none =
+    none_by (is_of_building one) side lcid one told refl none (none_taken side lcid told)
 
 -- ---- a line with which a life of a channel's bearer begins
 
@@ -73,7 +81,8 @@ stays lcid (lines.Handover user rrc integrity) free = absurd cc
 stays lcid line free = refl
 
 -- it builds none
-begins_unbuilt : (lcid : ℕ) (line : Line) (t : ℕ) (kinds : List (Option Layout)) (told : List Record) → begins lcid line ≡ true → AreTold t kinds (part line) told → filter is_of_building told ≡ []
+begins_unbuilt : (lcid : ℕ) (line : Line) (t : ℕ) (kinds : List (Option Layout)) (told : List Record)
+    → begins lcid line ≡ true → AreTold t kinds (part line) told → filter is_of_building told ≡ []
 begins_unbuilt lcid (lines.Bearer config options) t kinds told e none = none
 begins_unbuilt lcid (lines.Handover user rrc integrity) t kinds told e none = none
 begins_unbuilt lcid line t kinds told e none = absurd cc
@@ -86,14 +95,18 @@ absent_at Nb lcid l e = (both_false (has lcid l.nb.bearers) (has lcid l.ue.beare
 absent_at Ue lcid l e = (both_false (has lcid l.nb.bearers) (has lcid l.ue.bearers) e).1
 
 -- a bearer is added only where none was, so that nothing was taken
-none_before : (side : Side) (lcid : ℕ) (line : Line) (r : Rules) (l : Link) (ns : List ℕ) → begins lcid line ≡ true → refusal line r l ≡ None → (has lcid (end_of side l).bearers ≡ false → ns ≡ [])
+none_before : (side : Side) (lcid : ℕ) (line : Line) (r : Rules) (l : Link) (ns : List ℕ) → begins lcid line ≡ true
+    → refusal line r l ≡ None → (has lcid (end_of side l).bearers ≡ false → ns ≡ [])
     → (if hands_over line then [] else ns) ≡ []
 unfolding rule_broken
 none_before side lcid (lines.Bearer config options) r l ns e allowed none =
     let n = config.channel.lcid in
     let taken = refused_if (is_taken n l) BearerTwice in
-    let first = not_first taken _ (not_second (late r) _ (not_first (rule_broken (lines.Bearer config options) r l) _ allowed)) in
-    none (subst (λ (m : ℕ). has m (end_of side l).bearers ≡ false) (same_lcid n lcid e) (absent_at side n l (no_cause (is_taken n l) BearerTwice first)))
+    let first =
+    not_first taken _
+    (not_second (late r) _ (not_first (rule_broken (lines.Bearer config options) r l) _ allowed)) in
+    none (subst (λ (m : ℕ). has m (end_of side l).bearers ≡ false) (same_lcid n lcid e)
+    (absent_at side n l (no_cause (is_taken n l) BearerTwice first)))
 none_before side lcid (lines.Handover user rrc integrity) r l ns e allowed none = refl
 none_before side lcid line r l ns e allowed none = absurd cc
 
@@ -112,7 +125,9 @@ call_none lcid (Move keys) free = absurd cc
 call_none lcid c free = refl
 
 -- of those that begin lives none begins one of this bearer
-calls_by : (b : Bool) (lcid : ℕ) (c : Call) (calls : List Call) → begins_life c ≡ b → BeginNone lcid (cond b (c ∷ filter begins_life calls) (filter begins_life calls)) → (BeginNone lcid (filter begins_life calls) → BeginNone lcid calls)
+calls_by : (b : Bool) (lcid : ℕ) (c : Call) (calls : List Call) → begins_life c ≡ b
+    → BeginNone lcid (cond b (c ∷ filter begins_life calls) (filter begins_life calls))
+    → (BeginNone lcid (filter begins_life calls) → BeginNone lcid calls)
     → BeginNone lcid (c ∷ calls)
 calls_by true lcid c calls is none rest = (none.0, rest none.1)
 calls_by false lcid c calls is none rest = (call_none lcid c is, rest none)
@@ -121,7 +136,8 @@ calls_none : (lcid : ℕ) (calls : List Call) → BeginNone lcid (filter begins_
 calls_none lcid [] none = tt
 calls_none lcid (c ∷ calls) none = calls_by (begins_life c) lcid c calls refl none (calls_none lcid calls)
 
-line_none : (lcid : ℕ) (line : Line) (keys : Option Keys) → begins lcid line ≡ false → BeginNone lcid (lives_by line keys)
+line_none : (lcid : ℕ) (line : Line) (keys : Option Keys) → begins lcid line ≡ false
+    → BeginNone lcid (lives_by line keys)
 line_none lcid (lines.Bearer config options) keys free = (free, tt)
 line_none lcid (lines.Handover user rrc integrity) keys free = absurd cc
 line_none lcid line keys free = tt
@@ -137,25 +153,40 @@ record Life (side : Side) (lcid : ℕ) (past : List Group) : Type 0 where
   end_is : end_of side (link_behind past) ≡ run since (reached side 4 false before)
   counts_are : counts_on lcid (told_over since (reached side 4 false before)) ≡ counts_since side lcid past
 
-pub come : (side : Side) (past : List Group) → KeepsOrder past → ByCalls side (history past) (fresh_end side 4 false) (end_of side (link_behind past))
+pub come : (side : Side) (past : List Group) → KeepsOrder past
+    → ByCalls side (history past) (fresh_end side 4 false) (end_of side (link_behind past))
 come Nb past order = (come_by_calls past order).nb
 come Ue past order = (come_by_calls past order).ue
 
-life_begins : (side : Side) (lcid : ℕ) (past : List Group) → KeepsOrder past → counts_since side lcid past ≡ [] → Life side lcid past
+life_begins : (side : Side) (lcid : ℕ) (past : List Group) → KeepsOrder past → counts_since side lcid past ≡ []
+    → Life side lcid past
 life_begins side lcid past order none =
     let by = come side past order in
-    record { before = by.calls; since = []; before_given = by.given; since_given = tt; none_begins = tt; end_is = by.end_is; counts_are = sym none }
+    record {
+      before = by.calls;
+      since = [];
+      before_given = by.given;
+      since_given = tt;
+      none_begins = tt;
+      end_is = by.end_is;
+      counts_are = sym none;
+    }
 
 -- how an end comes through a group
-pub goes : (side : Side) (past : List Group) (g : Group) → IsRight past g → KeepsOrder past → LivesOn (lives_by g.line (state_behind past).rules.keys) side g.events (end_of side (link_behind past)) (end_of side (link_behind (g ∷ past)))
+pub goes : (side : Side) (past : List Group) (g : Group) → IsRight past g → KeepsOrder past
+    → LivesOn (lives_by g.line (state_behind past).rules.keys) side g.events (end_of side (link_behind past))
+    (end_of side (link_behind (g ∷ past)))
 goes Nb past g right order =
     let m = behind_line g.line (state_behind past) in
-    subst (λ (x : List Record). LivesOn (lives_by g.line (state_behind past).rules.keys) Nb x (link_behind past).nb m.nb) (sym right.events_are) (group_goes past g order right.in_range).nb
+    subst (λ (x : List Record). LivesOn (lives_by g.line (state_behind past).rules.keys) Nb x (link_behind past).nb
+    m.nb) (sym right.events_are) (group_goes past g order right.in_range).nb
 goes Ue past g right order =
     let m = behind_line g.line (state_behind past) in
-    subst (λ (x : List Record). LivesOn (lives_by g.line (state_behind past).rules.keys) Ue x (link_behind past).ue m.ue) (sym right.events_are) (group_goes past g order right.in_range).ue
+    subst (λ (x : List Record). LivesOn (lives_by g.line (state_behind past).rules.keys) Ue x (link_behind past).ue
+    m.ue) (sym right.events_are) (group_goes past g order right.in_range).ue
 
-life_goes : (side : Side) (lcid : ℕ) (past : List Group) (g : Group) → IsRight past g → KeepsOrder past → begins lcid g.line ≡ false → Life side lcid past → Life side lcid (g ∷ past)
+life_goes : (side : Side) (lcid : ℕ) (past : List Group) (g : Group) → IsRight past g → KeepsOrder past
+    → begins lcid g.line ≡ false → Life side lcid past → Life side lcid (g ∷ past)
 life_goes side lcid past g right order free f =
     let keys = (state_behind past).rules.keys in
     let k = goes side past g right order in
@@ -168,33 +199,50 @@ life_goes side lcid past g right order free f =
       since = f.since ++ calls;
       before_given = f.before_given;
       since_given = given_on f.since calls f.since_given k.by.given;
-      none_begins = none_then lcid f.since calls f.none_begins (calls_none lcid calls (subst (λ (x : List Call). BeginNone lcid x) (sym k.lives_are) (line_none lcid g.line keys free)));
+      none_begins =
+          none_then lcid f.since calls f.none_begins
+          (calls_none lcid calls
+          (subst (λ (x : List Call). BeginNone lcid x) (sym k.lives_are) (line_none lcid g.line keys free)));
       end_is = k.by.end_is ∙ ap (run calls) f.end_is ∙ sym (run_on f.since calls e);
       counts_are =
-          ap (counts_on lcid) (over_on f.since calls e) ∙ counts_then lcid (told_over f.since e) (told_over calls (run f.since e))
-          ∙ ap (λ (ns : List ℕ). ns ++ counts_on lcid (told_over calls (run f.since e))) f.counts_are ∙ ap (λ (ns : List ℕ). counts_since side lcid past ++ ns) told
-          ∙ sym (ap (λ (b : Bool). (if b then [] else counts_since side lcid past) ++ counts_taken side lcid g.events) (stays lcid g.line free));
+          ap (counts_on lcid) (over_on f.since calls e)
+          ∙ counts_then lcid (told_over f.since e) (told_over calls (run f.since e))
+          ∙ ap (λ (ns : List ℕ). ns ++ counts_on lcid (told_over calls (run f.since e))) f.counts_are
+          ∙ ap (λ (ns : List ℕ). counts_since side lcid past ++ ns) told
+          ∙ sym (ap (λ (b : Bool). (if b then [] else counts_since side lcid past) ++ counts_taken side lcid g.events)
+          (stays lcid g.line free));
     }
 
-life_none : (side : Side) (lcid : ℕ) (past : List Group) → Life side lcid past → has lcid (end_of side (link_behind past)).bearers ≡ false → counts_since side lcid past ≡ []
+life_none : (side : Side) (lcid : ℕ) (past : List Group) → Life side lcid past
+    → has lcid (end_of side (link_behind past)).bearers ≡ false → counts_since side lcid past ≡ []
 life_none side lcid past f absent =
-    sym f.counts_are ∙ none_without side 4 false f.before f.since lcid f.before_given f.since_given f.none_begins (ap (λ (e : End). has lcid e.bearers) (sym f.end_is) ∙ absent)
+    sym f.counts_are ∙ none_without side 4 false f.before f.since lcid f.before_given f.since_given f.none_begins
+    (ap (λ (e : End). has lcid e.bearers) (sym f.end_is) ∙ absent)
 
-life_by : (b : Bool) (side : Side) (lcid : ℕ) (past : List Group) (g : Group) → IsRight past g → KeepsOrder past → begins lcid g.line ≡ b → Life side lcid past → Life side lcid (g ∷ past)
+life_by : (b : Bool) (side : Side) (lcid : ℕ) (past : List Group) (g : Group) → IsRight past g → KeepsOrder past
+    → begins lcid g.line ≡ b → Life side lcid past → Life side lcid (g ∷ past)
 life_by true side lcid past g right order is f =
     life_begins side lcid (g ∷ past) (right, order)
     (ap (λ (ns : List ℕ). ns ++ counts_taken side lcid g.events)
-    (none_before side lcid g.line (state_behind past).rules (link_behind past) (counts_since side lcid past) is right.allowed (life_none side lcid past f))
+    (none_before side lcid g.line (state_behind past).rules (link_behind past) (counts_since side lcid past) is
+    right.allowed (life_none side lcid past f))
     ∙ none_taken side lcid g.events (begins_unbuilt lcid g.line _ _ g.events is right.blocks))
 life_by false side lcid past g right order is f = life_goes side lcid past g right order is f
 
 life_behind : (side : Side) (lcid : ℕ) (past : List Group) → KeepsOrder past → Life side lcid past
 life_behind side lcid [] order = life_begins side lcid [] order refl
-life_behind side lcid (g ∷ past) (right, order) = life_by (begins lcid g.line) side lcid past g right order refl (life_behind side lcid past order)
+life_behind side lcid (g ∷ past) (right, order) =
+    life_by (begins lcid g.line) side lcid past g right order refl (life_behind side lcid past order)
 
-life_ascends : (side : Side) (lcid : ℕ) (past : List Group) → Life side lcid past → IsAscending 0 (counts_since side lcid past)
-life_ascends side lcid past f = subst (λ (ns : List ℕ). IsAscending 0 ns) f.counts_are (counts_ascend side 4 false f.before f.since lcid f.before_given f.since_given f.none_begins)
+life_ascends : (side : Side) (lcid : ℕ) (past : List Group) → Life side lcid past
+    → IsAscending 0 (counts_since side lcid past)
+life_ascends side lcid past f =
+    subst (λ (ns : List ℕ). IsAscending 0 ns) f.counts_are
+    (counts_ascend side 4 false f.before f.since lcid f.before_given f.since_given f.none_begins)
 
 pub counts_behind : (past : List Group) → KeepsOrder past → CountsAscend past
 counts_behind [] order = tt
-counts_behind (g ∷ past) (right, order) = (λ side lcid. life_ascends side lcid (g ∷ past) (life_behind side lcid (g ∷ past) (right, order)), counts_behind past order)
+counts_behind (g ∷ past) (right, order) = (
+  λ side lcid. life_ascends side lcid (g ∷ past) (life_behind side lcid (g ∷ past) (right, order)),
+  counts_behind past order,
+)

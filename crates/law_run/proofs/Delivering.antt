@@ -1,5 +1,6 @@
 -- Each acknowledged data bearer of a journal hands up the first SDUs of those submitted at the other end.
-use Rattle.std.proofs.Common.{◌≡◌, ◌≤◌, ◌<◌, ◌^◌, arith, ℕ, ◌==◌, Bool, true, false, ◌||◌, ◌&&◌, if◌then◌else◌, cond, Some, None, List, [], ◌∷◌, ◌++◌, map, refl, ap, sym, subst, ◌∙◌}
+use Rattle.std.proofs.Common.{◌≡◌, ◌≤◌, ◌<◌, ◌^◌, arith, ℕ, ◌==◌, Bool, true, false, ◌||◌, ◌&&◌, if◌then◌else◌, cond}
+use Rattle.std.proofs.Common.{Some, None, List, [], ◌∷◌, ◌++◌, map, refl, ap, sym, subst, ◌∙◌}
 use Rattle.std.specs.List.{filter}
 use Rattle.std.proofs.lemmas.List.Concat.{flat_map-append}
 use Rattle.law_bearer.specs.AmBearer.Lives.{other as other_end}
@@ -22,7 +23,8 @@ use Rattle.bearer_types.specs.declared.event.Event.{Event}
 use Rattle.bearer_types.specs.declared.event.Event.TheVariants as events
 use Rattle.law_deliver.specs.AmChannel.Arrival.{happened as flown_in}
 use Rattle.law_deliver.specs.AmChannel.Delivery.{HasBegun, BeginAlike, SetNone, went_up, was_submitted}
-use Rattle.law_deliver.proofs.AmChannel.Delivery.{channels_deliver_in_order, channels_deliver_undiscarded, unset_discards_none}
+use Rattle.law_deliver.proofs.AmChannel.Delivery.{channels_deliver_in_order, channels_deliver_undiscarded}
+use Rattle.law_deliver.proofs.AmChannel.Delivery.{unset_discards_none}
 use Rattle.law_deliver.specs.AmChannel.Lives.{AirStep, end_at, all_calls}
 use Rattle.eps_sec.specs.declared.Keys.{Keys}
 use Rattle.law_deliver.specs.AmFlow.Air.{Air, outset}
@@ -55,7 +57,8 @@ use Rattle.promises.specs.Parts.{part}
 use Rattle.promises.specs.Configs.{config_by, config_of}
 use Rattle.law_run.proofs.Early.{is_early}
 use Rattle.law_run.proofs.Failed.{HasSender, sender_goes, sender_begins}
-use Rattle.law_run.proofs.Flowing.{Sdus, Happened, Haps, word_of, with_word, Lived, unseen, LineLives, lived_now, line_lives}
+use Rattle.law_run.proofs.Flowing.{Sdus, Happened, Haps, word_of, with_word, Lived, unseen, LineLives, lived_now}
+use Rattle.law_run.proofs.Flowing.{line_lives}
 use Rattle.law_run.proofs.Keys.{not_first, not_second, no_cause}
 use Rattle.law_run.proofs.Past.{behind, link_behind}
 use Rattle.law_run.proofs.Reaching.{kinds_behind}
@@ -64,8 +67,10 @@ use Rattle.law_run.proofs.Texts.{adds_one, adds_it, unchanged}
 
 -- ---- what goes up at an end, as records tell it and as the end does
 
-up_by : (here on : Bool) (l : ℕ) (s : Side) (lcid : ℕ) (octets : List ℕ) (told : List Record) (up : List (List ℕ)) → (lcid == l) ≡ on → map sdu_of told ≡ up
-    → ups_on l (if here && true then events.Up lcid octets ∷ [] else []) ++ up ≡ map sdu_of (cond (here && on) (records.Of s (events.Up lcid octets) ∷ told) told)
+up_by : (here on : Bool) (l : ℕ) (s : Side) (lcid : ℕ) (octets : List ℕ) (told : List Record) (up : List (List ℕ))
+    → (lcid == l) ≡ on → map sdu_of told ≡ up
+    → ups_on l (if here && true then events.Up lcid octets ∷ [] else []) ++ up
+    ≡ map sdu_of (cond (here && on) (records.Of s (events.Up lcid octets) ∷ told) told)
 up_by true true l s lcid octets told up e h = rw e (ap (λ (xs : List (List ℕ)). octets ∷ xs) (sym h))
 up_by true false l s lcid octets told up e h = rw e (sym h)
 up_by false on l s lcid octets told up e h = sym h
@@ -74,30 +79,40 @@ none_up : (b : Bool) (l : ℕ) (e : Event) → event_ups l e ≡ [] → ups_on l
 none_up true l e none = ap (λ (xs : List (List ℕ)). xs ++ []) none
 none_up false l e none = refl
 
-one_told : (side : Side) (l : ℕ) (one : Record) (told : List Record) (up : List (List ℕ)) → ups_in side l told ≡ up → ups_on l (event_of side one) ++ up ≡ ups_in side l (one ∷ told)
-one_told side l (records.Of s (events.Up lcid octets)) told up h = up_by _ (lcid == l) l s lcid octets (filter (is_up side l) told) up refl h
+one_told : (side : Side) (l : ℕ) (one : Record) (told : List Record) (up : List (List ℕ)) → ups_in side l told ≡ up
+    → ups_on l (event_of side one) ++ up ≡ ups_in side l (one ∷ told)
+one_told side l (records.Of s (events.Up lcid octets)) told up h =
+    up_by _ (lcid == l) l s lcid octets (filter (is_up side l) told) up refl h
 one_told side l (records.Of s e) told up h = ap (λ (xs : List (List ℕ)). xs ++ up) (none_up _ l e refl) ∙ sym h
 one_told side l one told up h = sym h
 
 pub ups_are_told : (side : Side) (l : ℕ) (told : List Record) → ups_on l (told_by side told) ≡ ups_in side l told
 ups_are_told side l [] = refl
 ups_are_told side l (one ∷ told) =
-    flat_map-append (event_ups l) (event_of side one) (told_by side told) ∙ ap (λ (xs : List (List ℕ)). ups_on l (event_of side one) ++ xs) (ups_are_told side l told)
+    flat_map-append (event_ups l) (event_of side one) (told_by side told)
+    ∙ ap (λ (xs : List (List ℕ)). ups_on l (event_of side one) ++ xs) (ups_are_told side l told)
     ∙ one_told side l one told (ups_in side l told) refl
 
-pub ups_told : (side : Side) (l : ℕ) (past : List Group) → delivered side l past ≡ ups_on l (told_by side (history past))
+pub ups_told : (side : Side) (l : ℕ) (past : List Group)
+    → delivered side l past ≡ ups_on l (told_by side (history past))
 ups_told side l [] = refl
 ups_told side l (g ∷ past) =
-    ap (λ (xs : List (List ℕ)). xs ++ ups_in side l g.events) (ups_told side l past) ∙ ap (λ (xs : List (List ℕ)). ups_on l (told_by side (history past)) ++ xs) (sym (ups_are_told side l g.events))
+    ap (λ (xs : List (List ℕ)). xs ++ ups_in side l g.events) (ups_told side l past)
+    ∙ ap (λ (xs : List (List ℕ)). ups_on l (told_by side (history past)) ++ xs)
+    (sym (ups_are_told side l g.events))
     ∙ sym (flat_map-append (event_ups l) (told_by side (history past)) (told_by side g.events))
-    ∙ ap (ups_on l) (sym (told_both side (history past) (records.Line g.number g.line ∷ g.events) (told_by side (history past)) (told_by side g.events) refl refl))
+    ∙ ap (ups_on l)
+    (sym (told_both side (history past) (records.Line g.number g.line ∷ g.events) (told_by side (history past))
+    (told_by side g.events) refl refl))
 
 pub other_is : (side : Side) → other_end side ≡ other side
 other_is Nb = refl
 other_is Ue = refl
 
-pub as_told : (P : List (List ℕ) → List (List ℕ) → Type 0) {xs ys xs' ys' : List (List ℕ)} → xs ≡ xs' → ys ≡ ys' → P xs ys → P xs' ys'
-as_told P {xs} {ys} {xs'} {ys'} e f p = subst (λ (zs : List (List ℕ)). P zs ys') e (subst (λ (zs : List (List ℕ)). P xs zs) f p)
+pub as_told : (P : List (List ℕ) → List (List ℕ) → Type 0) {xs ys xs' ys' : List (List ℕ)} → xs ≡ xs' → ys ≡ ys'
+    → P xs ys → P xs' ys'
+as_told P {xs} {ys} {xs'} {ys'} e f p =
+    subst (λ (zs : List (List ℕ)). P zs ys') e (subst (λ (zs : List (List ℕ)). P xs zs) f p)
 
 -- ---- a channel, behind groups
 
@@ -121,14 +136,23 @@ pub record IsDelivering (l : ℕ) (c : BearerConfig) (past : List Group) : Type 
   pub happened_is : (bits : ℕ) (from : Side) → happened bits l from past ≡ flown bits from
   pub senders : c.kind ≡ Am → (side : Side) → HasSender side l past
   -- and what is told is what became of the flow from each side
-  pub flows : c.kind ≡ Um → (from : Side) → flow_at (sent_by from) l (state_behind past).losses.flows ≡ Some (all_after (haps from) (first_flow from l c))
+  pub flows : c.kind ≡ Um → (from : Side) → flow_at (sent_by from) l (state_behind past).losses.flows
+      ≡ Some (all_after (haps from) (first_flow from l c))
 
-pub alike : (l : ℕ) (c : BearerConfig) (past : List Group) (d : IsDelivering l c past) → c.kind ≡ Am → BeginAlike l c d.keys d.nb d.ue
-alike l c past d kind = record { kind = kind; config = d.config; first = d.first; nb_begun = d.nb_begun; ue_begun = d.ue_begun }
+pub alike : (l : ℕ) (c : BearerConfig) (past : List Group) (d : IsDelivering l c past) → c.kind ≡ Am
+    → BeginAlike l c d.keys d.nb d.ue
+alike l c past d kind = record {
+  kind = kind;
+  config = d.config;
+  first = d.first;
+  nb_begun = d.nb_begun;
+  ue_begun = d.ue_begun;
+}
 
 -- ---- a line since
 
-goes_on : (l : ℕ) (c : BearerConfig) (past : List Group) (g : Group) → IsRight past g → KeepsOrder past → adds_one l g.line ≡ false → forges g.line ≡ false → IsDelivering l c past → IsDelivering l c (g ∷ past)
+goes_on : (l : ℕ) (c : BearerConfig) (past : List Group) (g : Group) → IsRight past g → KeepsOrder past
+    → adds_one l g.line ≡ false → forges g.line ≡ false → IsDelivering l c past → IsDelivering l c (g ∷ past)
 goes_on l c past g right order other own d =
     let k = link_behind past in
     let m = behind_line g.line (state_behind past) in
@@ -137,8 +161,10 @@ goes_on l c past g right order other own d =
     let w = (state_behind past).losses in
     let word = word_of g.line in
     let haps = with_word word d.haps in
-    let x : LineLives l d.nb d.ue c.rlc_bits (c.kind ≡ Um) d.told haps d.told d.handed d.flown set (ended_by g.line) p m =
-    line_lives l d.nb d.ue c.rlc_bits (c.kind ≡ Um) d.told d.handed d.flown d.haps d.set g.line (state_behind past).rules.keys k (behind past order).nothing right.in_range other own d.lived in
+    let x : LineLives l d.nb d.ue c.rlc_bits (c.kind ≡ Um) d.told haps d.told d.handed d.flown set (ended_by g.line) p
+    m =
+    line_lives l d.nb d.ue c.rlc_bits (c.kind ≡ Um) d.told d.handed d.flown d.haps d.set g.line
+    (state_behind past).rules.keys k (behind past order).nothing right.in_range other own d.lived in
     record {
       config = d.config;
       first = d.first;
@@ -152,26 +178,38 @@ goes_on l c past g right order other own d =
       flown = λ bits from. d.flown bits from ++ (ended_by g.line ++ tells_in bits l from [] m.out);
       haps = λ from. haps from ++ told_in (sent_by from) l w.cursor x.more;
       set = set;
-      lived = unseen l d.nb d.ue c.rlc_bits (c.kind ≡ Um) (d.told ++ x.more) _ _ _ set m [] (lived_now l d.nb d.ue c.rlc_bits (c.kind ≡ Um) d.told haps x.more _ _ set m w.cursor x.lived);
-      unset = λ off. let apart = both_false (sets_timer l g.line) (is_timed l past) off in ap (λ (b : Bool). b || sets_timer l g.line) (d.unset apart.1) ∙ apart.0;
+      lived = unseen l d.nb d.ue c.rlc_bits (c.kind ≡ Um) (d.told ++ x.more) _ _ _ set m []
+          (lived_now l d.nb d.ue c.rlc_bits (c.kind ≡ Um) d.told haps x.more _ _ set m w.cursor x.lived);
+      unset = λ off. let apart = both_false (sets_timer l g.line) (is_timed l past) off in
+          ap (λ (b : Bool). b || sets_timer l g.line) (d.unset apart.1) ∙ apart.0;
       told_is = λ side.
-          told_both side (history past) (records.Line g.number g.line ∷ g.events) (told_by side d.told) (told_by side x.more) (d.told_is side) (ap (told_by side) right.events_are ∙ x.told_are side)
+          told_both side (history past) (records.Line g.number g.line ∷ g.events) (told_by side d.told)
+          (told_by side x.more) (d.told_is side) (ap (told_by side) right.events_are ∙ x.told_are side)
           ∙ sym (told_both side d.told x.more (told_by side d.told) (told_by side x.more) refl refl);
       submitted_is = λ side.
-          ap (λ (xs : List (List ℕ)). xs ++ (handed_in side l p g.events ++ looped_at side l g.events)) (d.submitted_is side)
-          ∙ ap (λ (ys : List Record). d.handed side l ++ (handed_in side l p ys ++ looped_at side l ys)) right.events_are;
+          ap (λ (xs : List (List ℕ)). xs ++ (handed_in side l p g.events ++ looped_at side l g.events))
+          (d.submitted_is side)
+          ∙ ap (λ (ys : List Record). d.handed side l ++ (handed_in side l p ys ++ looped_at side l ys))
+          right.events_are;
       happened_is = λ bits from.
-          ap (λ (hs : List Happening). hs ++ (ended_by g.line ++ tells_in bits l from [] g.events)) (d.happened_is bits from)
-          ∙ ap (λ (ys : List Record). d.flown bits from ++ (ended_by g.line ++ tells_in bits l from [] ys)) right.events_are;
+          ap (λ (hs : List Happening). hs ++ (ended_by g.line ++ tells_in bits l from [] g.events))
+          (d.happened_is bits from)
+          ∙ ap (λ (ys : List Record). d.flown bits from ++ (ended_by g.line ++ tells_in bits l from [] ys))
+          right.events_are;
       senders = λ kind side. sender_goes side l past g right order other (d.senders kind side);
       flows = λ kind from.
           let was = all_after (d.haps from) (first_flow from l c) in
           let v = noticed g.line m w in
-          all_seen_flow (sent_by from) l m.out v (all_after word was) (noticed_flow g.line m (sent_by from) l w was own (d.flows kind from))
-          ∙ (ap (λ (place : Place). Some (all_after (told_in (sent_by from) l place m.out) (all_after word was))) (noticed_place g.line m w own)
+          all_seen_flow (sent_by from) l m.out v (all_after word was)
+          (noticed_flow g.line m (sent_by from) l w was own (d.flows kind from))
+          ∙ (ap (λ (place : Place). Some (all_after (told_in (sent_by from) l place m.out) (all_after word was)))
+          (noticed_place g.line m w own)
           ∙ (ap (λ (hs : List What). Some (all_after hs (all_after word was))) (x.haps_are (sent_by from) w.cursor)
-          ∙ (ap (λ (f : Flow). Some (all_after (told_in (sent_by from) l w.cursor x.more) f)) (sym (after_then (d.haps from) word (first_flow from l c)))
-          ∙ ap (λ (f : Flow). Some f) (sym (after_then (d.haps from ++ word) (told_in (sent_by from) l w.cursor x.more) (first_flow from l c))))));
+          ∙ (ap (λ (f : Flow). Some (all_after (told_in (sent_by from) l w.cursor x.more) f))
+          (sym (after_then (d.haps from) word (first_flow from l c)))
+          ∙ ap (λ (f : Flow). Some f)
+          (sym (after_then (d.haps from ++ word) (told_in (sent_by from) l w.cursor x.more)
+          (first_flow from l c))))));
     }
 
 -- ---- the line in which its bearers come
@@ -180,7 +218,8 @@ pub record IsFirst (c : BearerConfig) (r : Rules) (k : Link) : Type 0 where
   pub early : r.begun ≡ false
   pub none : is_taken c.channel.lcid k ≡ false
 
-pub is_first : (c : BearerConfig) (options : _) (r : Rules) (k : Link) → refusal (lines.Bearer c options) r k ≡ None → IsFirst c r k
+pub is_first : (c : BearerConfig) (options : _) (r : Rules) (k : Link) → refusal (lines.Bearer c options) r k ≡ None
+    → IsFirst c r k
 unfolding rule_broken
 is_first c options r k allowed =
     let taken = refused_if (is_taken c.channel.lcid k) BearerTwice in
@@ -197,7 +236,9 @@ pub at_each : (P : Side → Type 0) → P Nb → P Ue → (side : Side) → P si
 at_each P nb ue Nb = nb
 at_each P nb ue Ue = ue
 
-begin_by : (past : List Group) (g : Group) (c : BearerConfig) (options : _) → IsRight past (record g { line = lines.Bearer c options }) → KeepsOrder past → IsDelivering c.channel.lcid c (record g { line = lines.Bearer c options } ∷ past)
+begin_by : (past : List Group) (g : Group) (c : BearerConfig) (options : _)
+    → IsRight past (record g { line = lines.Bearer c options }) → KeepsOrder past
+    → IsDelivering c.channel.lcid c (record g { line = lines.Bearer c options } ∷ past)
 unfolding acted accepted bears
 begin_by past g c options right order =
     let l = c.channel.lcid in
@@ -223,9 +264,13 @@ begin_by past g c options right order =
       haps = λ from. [];
       set = false;
       lived = record {
-        by = ends_come_by l [] _ _ false (bears c keys k) (record (bears c keys k) { out = [] }) (outset (after_call k.nb (Add c keys)) (after_call k.ue (Add c keys))) refl refl refl b.by;
+        by = ends_come_by l [] _ _ false (bears c keys k) (record (bears c keys k) { out = [] })
+            (outset (after_call k.nb (Add c keys)) (after_call k.ue (Add c keys))) refl refl refl b.by;
         kinds = λ kind. new_shown past c k.kinds (kinds_behind past order) kind right.in_range;
-        whats_are = λ kind from. ap (λ (steps : List AirStep). whats from l c.rlc_bits steps (outset (after_call k.nb (Add c keys)) (after_call k.ue (Add c keys)))) b.no_steps;
+        whats_are =
+            λ kind from. ap
+            (λ (steps : List AirStep). whats from l c.rlc_bits steps
+            (outset (after_call k.nb (Add c keys)) (after_call k.ue (Add c keys)))) b.no_steps;
       };
       unset = λ off. refl;
       told_is = now.none_told;
@@ -235,34 +280,43 @@ begin_by past g c options right order =
           (sender_begins Nb l c keys _ kind (channels_begin c keys k right.in_range rest Nb here.0))
           (sender_begins Ue l c keys _ kind (channels_begin c keys k right.in_range rest Ue here.1));
       flows = λ kind from.
-          ap (λ (out : List Record). flow_at (sent_by from) l (all_seen out (with_um c.kind c (state_behind past).losses)).flows) (is_early past order f.early).silent
-          ∙ new_flow from c (state_behind past).losses kind right.in_range (λ dir. no_flow past order f.early dir l here.0);
+          ap (λ (out : List Record). flow_at (sent_by from) l
+          (all_seen out (with_um c.kind c (state_behind past).losses)).flows) (is_early past order f.early).silent
+          ∙ new_flow from c (state_behind past).losses kind right.in_range
+          (λ dir. no_flow past order f.early dir l here.0);
     }
 
 -- ---- behind all groups
 
-begins : (past : List Group) (g : Group) (c : BearerConfig) (options : _) → g.line ≡ lines.Bearer c options → IsRight past g → KeepsOrder past → IsDelivering c.channel.lcid c (g ∷ past)
+begins : (past : List Group) (g : Group) (c : BearerConfig) (options : _) → g.line ≡ lines.Bearer c options
+    → IsRight past g → KeepsOrder past → IsDelivering c.channel.lcid c (g ∷ past)
 begins past g c options is right order =
     subst (λ (line : Line). IsDelivering c.channel.lcid c (record g { line = line } ∷ past)) (sym is)
     (begin_by past g c options (subst (λ (line : Line). IsRight past (record g { line = line })) is right) order)
 
-delivering_by : (b : Bool) (l : ℕ) (past : List Group) (g : Group) (c : BearerConfig) → adds_one l g.line ≡ b → IsRight past g → KeepsOrder past → config_of l (g ∷ past) ≡ Some c → forges g.line ≡ false
+delivering_by : (b : Bool) (l : ℕ) (past : List Group) (g : Group) (c : BearerConfig) → adds_one l g.line ≡ b
+    → IsRight past g → KeepsOrder past → config_of l (g ∷ past) ≡ Some c → forges g.line ≡ false
     → (config_of l past ≡ Some c → IsDelivering l c past) → IsDelivering l c (g ∷ past)
-delivering_by false l past g c is right order e own rest = goes_on l c past g right order is own (rest (unchanged l g.line (config_of l past) c is e))
+delivering_by false l past g c is right order e own rest =
+    goes_on l c past g right order is own (rest (unchanged l g.line (config_of l past) c is e))
 delivering_by true l past g c is right order e own rest =
     let a = adds_it l g.line is in
     let taken : config_by l (lines.Bearer a.config a.options) (config_of l past) ≡ Some a.config =
     ap (λ (b : Bool). if b then Some a.config else config_of l past) (sym (ap (adds_one l) a.line_is) ∙ is) in
-    let some : Some a.config ≡ Some c = sym taken ∙ ap (λ (line : Line). config_by l line (config_of l past)) (sym a.line_is) ∙ e in
+    let some : Some a.config ≡ Some c =
+    sym taken ∙ ap (λ (line : Line). config_by l line (config_of l past)) (sym a.line_is) ∙ e in
     let same : a.config ≡ c = cc in
     subst (λ (d : BearerConfig). IsDelivering l d (g ∷ past)) same
-    (subst (λ (n : ℕ). IsDelivering n a.config (g ∷ past)) a.lcid_is (begins past g a.config a.options a.line_is right order))
+    (subst (λ (n : ℕ). IsDelivering n a.config (g ∷ past)) a.lcid_is
+    (begins past g a.config a.options a.line_is right order))
 
-pub is_delivering : (l : ℕ) (past : List Group) (c : BearerConfig) → KeepsOrder past → config_of l past ≡ Some c → is_forged past ≡ false → IsDelivering l c past
+pub is_delivering : (l : ℕ) (past : List Group) (c : BearerConfig) → KeepsOrder past → config_of l past ≡ Some c
+    → is_forged past ≡ false → IsDelivering l c past
 is_delivering l [] c order e own = absurd cc
 is_delivering l (g ∷ past) c (right, order) e own =
     let apart = both_false (forges g.line) (is_forged past) own in
-    delivering_by (adds_one l g.line) l past g c refl right order e apart.0 (λ is. is_delivering l past c order is apart.1)
+    delivering_by (adds_one l g.line) l past g c refl right order e apart.0
+    (λ is. is_delivering l past c order is apart.1)
 
 -- ---- of the journal's own words
 
@@ -276,10 +330,13 @@ module _ (l : ℕ) (c : BearerConfig) (past : List Group) (d : IsDelivering l c 
   pub tells : (side : Side) → told_over (all_calls side steps start) (end_at side start) ≡ told_by side (history past)
   tells side = sym (d.told_is side ∙ d.lived.by.told_is side)
 
-  pub went_up_is : (from : Side) → went_up l (all_calls (other_end from) steps start) (end_at (other_end from) start) ≡ delivered (other from) l past
-  went_up_is from = ap (ups_on l) (tells (other_end from)) ∙ sym (ups_told (other_end from) l past) ∙ ap (λ (s : Side). delivered s l past) (other_is from)
+  pub went_up_is : (from : Side) → went_up l (all_calls (other_end from) steps start) (end_at (other_end from) start)
+      ≡ delivered (other from) l past
+  went_up_is from = ap (ups_on l) (tells (other_end from)) ∙ sym (ups_told (other_end from) l past)
+      ∙ ap (λ (s : Side). delivered s l past) (other_is from)
 
-  pub was_submitted_is : (from : Side) → was_submitted l (all_calls from steps start) (end_at from start) ≡ submitted from l past
+  pub was_submitted_is : (from : Side) → was_submitted l (all_calls from steps start) (end_at from start)
+      ≡ submitted from l past
   was_submitted_is from = d.lived.by.submitted_is from l ∙ sym (d.submitted_is from)
 
   pub happened_from : (bits : ℕ) (from : Side) → flown_in bits l from steps start ≡ happened bits l from past
@@ -293,10 +350,16 @@ delivers past order from l c e kind own =
     let ups = went_up_is l c past d from in
     let all = was_submitted_is l c past d from in
     let none : SetNone l (all_calls from h.steps (outset d.nb d.ue)) → discarded from l past ≡ [] = λ unset.
-    ap (discards_on l) (sym (tells l c past d from)) ∙ unset_discards_none l c d.keys d.nb d.ue from h.steps both h.living unset in
+    ap (discards_on l) (sym (tells l c past d from))
+    ∙ unset_discards_none l c d.keys d.nb d.ue from h.steps both h.living unset in
     record {
-      in_order = as_told (λ xs ys. IsSubsequence xs ys) ups all (channels_deliver_in_order l c d.keys d.nb d.ue from h.steps both h.living);
-      none_left_out = λ none. as_told IsFront ups all (channels_deliver_undiscarded l c d.keys d.nb d.ue from h.steps both h.living (ap (discards_on l) (tells l c past d from) ∙ none));
+      in_order =
+          as_told (λ xs ys. IsSubsequence xs ys) ups all
+          (channels_deliver_in_order l c d.keys d.nb d.ue from h.steps both h.living);
+      none_left_out =
+          λ none. as_told IsFront ups all
+          (channels_deliver_undiscarded l c d.keys d.nb d.ue from h.steps both h.living
+          (ap (discards_on l) (tells l c past d from) ∙ none));
       none_discarded = λ off. none (h.sets_none (d.unset off) from);
     }
 

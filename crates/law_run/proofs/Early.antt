@@ -33,14 +33,31 @@ record StillRests (line : Line) (k m : Link) : Type 0 where
   part_is : part line ≡ Rests
   lives_on : ended_by line ≡ []
 
-configures : (line : Line) (r : Rules) (k : Link) → IsInRange line → (accepted line r).begun ≡ false → IsAtRest k → StillRests line k (played line r.keys k)
-unfolding acted accepted Rattle.air_link.specs.Lines.visits Rattle.air_link.specs.Lines.reports Rattle.air_link.specs.Lines.bears Rattle.air_link.specs.Lines.discards Rattle.air_link.specs.Lines.listens
-configures (lines.Harq maximum) r k fits early h = record { rest = calls_rest (calls.Visits maximum) k fits.some fits.few h; silent = refl; part_is = refl; lives_on = refl }
-configures lines.Bsr r k fits early h = record { rest = calls_rest calls.Reports k tt tt h; silent = refl; part_is = refl; lives_on = refl }
+configures : (line : Line) (r : Rules) (k : Link) → IsInRange line → (accepted line r).begun ≡ false → IsAtRest k
+    → StillRests line k (played line r.keys k)
+unfolding acted accepted Rattle.air_link.specs.Lines.visits Rattle.air_link.specs.Lines.reports
+    Rattle.air_link.specs.Lines.bears Rattle.air_link.specs.Lines.discards Rattle.air_link.specs.Lines.listens
+configures (lines.Harq maximum) r k fits early h =
+    record {
+      rest = calls_rest (calls.Visits maximum) k fits.some fits.few h;
+      silent = refl;
+      part_is = refl;
+      lives_on = refl;
+    }
+configures lines.Bsr r k fits early h =
+    record { rest = calls_rest calls.Reports k tt tt h; silent = refl; part_is = refl; lives_on = refl }
 configures (lines.Keys keys) r k fits early h = record { rest = h; silent = refl; part_is = refl; lives_on = refl }
-configures (lines.Bearer config options) r k fits early h = record { rest = calls_rest (calls.Bears config (keys_or_none r.keys)) k fits tt h; silent = refl; part_is = refl; lives_on = refl }
-configures (lines.Discard lcid ttis) r k fits early h = record { rest = calls_rest (calls.Discards lcid ttis) k tt tt h; silent = refl; part_is = refl; lives_on = refl }
-configures (lines.Drx config) r k fits early h = record { rest = calls_rest (calls.Listens config) k tt tt h; silent = refl; part_is = refl; lives_on = refl }
+configures (lines.Bearer config options) r k fits early h =
+    record {
+      rest = calls_rest (calls.Bears config (keys_or_none r.keys)) k fits tt h;
+      silent = refl;
+      part_is = refl;
+      lives_on = refl;
+    }
+configures (lines.Discard lcid ttis) r k fits early h =
+    record { rest = calls_rest (calls.Discards lcid ttis) k tt tt h; silent = refl; part_is = refl; lives_on = refl }
+configures (lines.Drx config) r k fits early h =
+    record { rest = calls_rest (calls.Listens config) k tt tt h; silent = refl; part_is = refl; lives_on = refl }
 configures line r k fits early h = absurd cc
 
 -- what began once has begun for all lines that follow
@@ -71,25 +88,38 @@ pub none_looped : (side : Side) (lcid : ℕ) → looped_at side lcid [] ≡ []
 none_looped Nb lcid = refl
 none_looped Ue lcid = refl
 
-still_early : (past : List Group) (g : Group) → IsEarly past → StillRests g.line (link_behind past) (behind_line g.line (state_behind past)) → g.events ≡ (behind_line g.line (state_behind past)).out → IsEarly (g ∷ past)
+still_early : (past : List Group) (g : Group) → IsEarly past
+    → StillRests g.line (link_behind past) (behind_line g.line (state_behind past))
+    → g.events ≡ (behind_line g.line (state_behind past)).out → IsEarly (g ∷ past)
 still_early past g h s e =
     let none : g.events ≡ [] = e ∙ s.silent ∙ h.silent in
     record {
       rest = shown_rests (behind_line g.line (state_behind past)) s.rest;
       silent = refl;
-      none_told = λ side. told_both side (history past) (records.Line g.number g.line ∷ g.events) [] [] (h.none_told side) (ap (told_by side) none);
+      none_told = λ side. told_both side (history past) (records.Line g.number g.line ∷ g.events) [] []
+          (h.none_told side) (ap (told_by side) none);
       none_submitted = λ side lcid.
-          ap (λ (xs : List (List ℕ)). xs ++ (handed_in side lcid (part g.line) g.events ++ looped_at side lcid g.events)) (h.none_submitted side lcid)
+          ap (λ (xs : List (List ℕ)). xs
+          ++ (handed_in side lcid (part g.line) g.events ++ looped_at side lcid g.events))
+          (h.none_submitted side lcid)
           ∙ ap (λ p. handed_in side lcid p g.events ++ looped_at side lcid g.events) s.part_is
           ∙ ap (λ (x : List Record). looped_at side lcid x) none ∙ none_looped side lcid;
       none_happened = λ bits lcid from.
-          ap (λ (hs : List Happening). hs ++ (ended_by g.line ++ tells_in bits lcid from [] g.events)) (h.none_happened bits lcid from)
-          ∙ ap (λ (hs : List Happening). hs ++ tells_in bits lcid from [] g.events) s.lives_on ∙ ap (λ (x : List Record). tells_in bits lcid from [] x) none;
+          ap (λ (hs : List Happening). hs ++ (ended_by g.line ++ tells_in bits lcid from [] g.events))
+          (h.none_happened bits lcid from)
+          ∙ ap (λ (hs : List Happening). hs ++ tells_in bits lcid from [] g.events) s.lives_on
+          ∙ ap (λ (x : List Record). tells_in bits lcid from [] x) none;
     }
 
 pub is_early : (past : List Group) → KeepsOrder past → (state_behind past).rules.begun ≡ false → IsEarly past
 unfolding fresh fresh_link
-is_early [] order early = record { rest = first_rests; silent = refl; none_told = λ side. refl; none_submitted = λ side lcid. refl; none_happened = λ bits lcid from. refl }
+is_early [] order early = record {
+  rest = first_rests;
+  silent = refl;
+  none_told = λ side. refl;
+  none_submitted = λ side lcid. refl;
+  none_happened = λ bits lcid from. refl;
+}
 is_early (g ∷ past) (right, order) early =
     let k = link_behind past in
     let h = is_early past order (unbegun g.line (state_behind past).rules early) in

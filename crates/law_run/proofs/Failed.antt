@@ -1,5 +1,6 @@
 -- Behind the groups of a journal a sender has failed only where that is told since its life began.
-use Rattle.std.proofs.Common.{◌≡◌, ◌⊎◌, inl, inr, ℕ, ◌==◌, Bool, true, false, cond, ◌||◌, if◌then◌else◌, Option, List, [], ◌∷◌, ◌++◌, refl, ap, sym, subst, ◌∙◌}
+use Rattle.std.proofs.Common.{◌≡◌, ◌⊎◌, inl, inr, ℕ, ◌==◌, Bool, true, false, cond, ◌||◌, if◌then◌else◌, Option, List}
+use Rattle.std.proofs.Common.{[], ◌∷◌, ◌++◌, refl, ap, sym, subst, ◌∙◌}
 use Rattle.std.proofs.lemmas.List.Concat.{flat_map-append}
 use Rattle.air_link.specs.Link.{end_of}
 use Rattle.air_record.specs.declared.line.Line.{Line}
@@ -45,17 +46,21 @@ none_both : (xs ys : List ℕ) → xs ++ ys ≡ [] → (xs ≡ []) × (ys ≡ []
 none_both [] ys e = (refl, e)
 none_both (x ∷ xs) ys e = absurd cc
 
-fail_by : (here : Bool) (e : Event) (sn : ℕ) (rest : List ℕ) (told : List Event) → (if here then sn ∷ [] else []) ++ rest ≡ [] → (rest ≡ [] → tell_failure told ≡ false) → tell_failure (cond here (e ∷ told) told) ≡ false
+fail_by : (here : Bool) (e : Event) (sn : ℕ) (rest : List ℕ) (told : List Event)
+    → (if here then sn ∷ [] else []) ++ rest ≡ [] → (rest ≡ [] → tell_failure told ≡ false)
+    → tell_failure (cond here (e ∷ told) told) ≡ false
 fail_by true e sn rest told none more = absurd cc
 fail_by false e sn rest told none more = more none
 
-other_by : (here : Bool) (e : Event) (told : List Event) → fails e ≡ false → tell_failure told ≡ false → tell_failure (cond here (e ∷ told) told) ≡ false
+other_by : (here : Bool) (e : Event) (told : List Event) → fails e ≡ false → tell_failure told ≡ false
+    → tell_failure (cond here (e ∷ told) told) ≡ false
 other_by true e told own rest = ap (λ (b : Bool). b || tell_failure told) own ∙ rest
 other_by false e told own rest = rest
 
 own_fails : (l : ℕ) (told : List Event) → fails_on l told ≡ [] → tell_failure (told_on l told) ≡ false
 own_fails l [] none = refl
-own_fails l (Fail lcid sn ∷ told) none = fail_by (lcid == l) (Fail lcid sn) sn (fails_on l told) (told_on l told) none (own_fails l told)
+own_fails l (Fail lcid sn ∷ told) none =
+    fail_by (lcid == l) (Fail lcid sn) sn (fails_on l told) (told_on l told) none (own_fails l told)
 own_fails l (e ∷ told) none = other_by (is_on l e) e (told_on l told) refl (own_fails l told none)
 
 -- ---- an end through calls
@@ -75,36 +80,51 @@ module _ (side : Side) (l : ℕ) where
   calls_stand e [] s g none = s
   calls_stand e (c ∷ cs) s g none = calls_stand (after e c) cs (one_stands e c s g.0 none.0) g.1 none.1
 
-  life_goes : (e : End) (c : Call) → Stands side l e → GoesOnInLife l c → fails_on l (told_of e c) ≡ [] → Unfailed l e → Unfailed l (after e c)
+  life_goes : (e : End) (c : Call) → Stands side l e → GoesOnInLife l c → fails_on l (told_of e c) ≡ [] → Unfailed l e
+      → Unfailed l (after e c)
   life_goes e c s life quiet unfailed =
       ap has_failed (call_by l e c (come_sound side e s.come) life s.there)
-      ∙ calls_keep l (flow l e) (calls_of l e c) (ap tell_failure (sym (tells_of side l e c s life).told_is) ∙ own_fails l (told_of e c) quiet)
+      ∙ calls_keep l (flow l e) (calls_of l e c) (ap tell_failure (sym (tells_of side l e c s life).told_is)
+      ∙ own_fails l (told_of e c) quiet)
       ∙ unfailed
 
   move_goes : (e : End) (c : Call) (keys : Keys) → c ≡ Move keys → Stands side l e → Unfailed l (after e c)
-  move_goes e c keys is s = ap (λ (d : Call). has_failed (flow l (after e d))) is ∙ ap has_failed (the_end side l e keys s).bearer_is ∙ life_unfailed (flow l e) keys
+  move_goes e c keys is s = ap (λ (d : Call). has_failed (flow l (after e d))) is
+      ∙ ap has_failed (the_end side l e keys s).bearer_is ∙ life_unfailed (flow l e) keys
 
-  call_goes : (e : End) (c : Call) → Stands side l e → GoesOnInLife l c ⊎ ((keys : Keys) × (c ≡ Move keys)) → fails_on l (told_of e c) ≡ [] → Unfailed l e → Unfailed l (after e c)
+  call_goes : (e : End) (c : Call) → Stands side l e → GoesOnInLife l c ⊎ ((keys : Keys) × (c ≡ Move keys))
+      → fails_on l (told_of e c) ≡ [] → Unfailed l e → Unfailed l (after e c)
   call_goes e c s (inl life) quiet unfailed = life_goes e c s life quiet unfailed
   call_goes e c s (inr (keys, is)) quiet unfailed = move_goes e c keys is s
 
-  calls_go : (e : End) (cs : List Call) → Stands side l e → AreGiven cs → AddNone l cs → fails_on l (told_over cs e) ≡ [] → Unfailed l e → Unfailed l (run cs e)
+  calls_go : (e : End) (cs : List Call) → Stands side l e → AreGiven cs → AddNone l cs
+      → fails_on l (told_over cs e) ≡ [] → Unfailed l e → Unfailed l (run cs e)
   calls_go e [] s g none quiet unfailed = unfailed
   calls_go e (c ∷ cs) s g none quiet unfailed =
-      let parts = none_both (fails_on l (told_of e c)) (fails_on l (told_over cs (after e c))) (sym (flat_map-append (fails_in l) (told_of e c) (told_over cs (after e c))) ∙ quiet) in
-      calls_go (after e c) cs (one_stands e c s g.0 none.0) g.1 none.1 parts.1 (call_goes e c s (call_kind l c none.0) parts.0 unfailed)
+      let parts = none_both (fails_on l (told_of e c)) (fails_on l (told_over cs (after e c)))
+      (sym (flat_map-append (fails_in l) (told_of e c) (told_over cs (after e c))) ∙ quiet) in
+      calls_go (after e c) cs (one_stands e c s g.0 none.0) g.1 none.1 parts.1
+      (call_goes e c s (call_kind l c none.0) parts.0 unfailed)
 
   -- where one of them begins a life
-  moved_by : (e : End) (c : Call) (cs : List Call) (k : Keys) (ks : List Keys) → GoesOnInLife l c ⊎ ((keys : Keys) × (c ≡ Move keys)) → Stands side l e → AreGiven (c ∷ cs) → AddNone l (c ∷ cs) → moves (c ∷ cs) ≡ k ∷ ks
-      → fails_on l (told_over cs (after e c)) ≡ [] → (moves cs ≡ k ∷ ks → Unfailed l (run cs (after e c))) → Unfailed l (run cs (after e c))
-  moved_by e c cs k ks (inl life) s g none one quiet rest = rest (ap (λ (xs : List Keys). xs ++ moves cs) (sym life.moves_none) ∙ one)
-  moved_by e c cs k ks (inr (keys, is)) s g none one quiet rest = calls_go (after e c) cs (one_stands e c s g.0 none.0) g.1 none.1 quiet (move_goes e c keys is s)
+  moved_by : (e : End) (c : Call) (cs : List Call) (k : Keys) (ks : List Keys)
+      → GoesOnInLife l c ⊎ ((keys : Keys) × (c ≡ Move keys)) → Stands side l e → AreGiven (c ∷ cs)
+      → AddNone l (c ∷ cs) → moves (c ∷ cs) ≡ k ∷ ks
+      → fails_on l (told_over cs (after e c)) ≡ [] → (moves cs ≡ k ∷ ks → Unfailed l (run cs (after e c)))
+      → Unfailed l (run cs (after e c))
+  moved_by e c cs k ks (inl life) s g none one quiet rest =
+      rest (ap (λ (xs : List Keys). xs ++ moves cs) (sym life.moves_none) ∙ one)
+  moved_by e c cs k ks (inr (keys, is)) s g none one quiet rest =
+      calls_go (after e c) cs (one_stands e c s g.0 none.0) g.1 none.1 quiet (move_goes e c keys is s)
 
-  calls_move : (e : End) (cs : List Call) (k : Keys) (ks : List Keys) → Stands side l e → AreGiven cs → AddNone l cs → moves cs ≡ k ∷ ks → fails_on l (told_over cs e) ≡ [] → Unfailed l (run cs e)
+  calls_move : (e : End) (cs : List Call) (k : Keys) (ks : List Keys) → Stands side l e → AreGiven cs → AddNone l cs
+      → moves cs ≡ k ∷ ks → fails_on l (told_over cs e) ≡ [] → Unfailed l (run cs e)
   calls_move e [] k ks s g none one quiet = absurd cc
   calls_move e (c ∷ cs) k ks s g none one quiet =
-      let parts = none_both (fails_on l (told_of e c)) (fails_on l (told_over cs (after e c))) (sym (flat_map-append (fails_in l) (told_of e c) (told_over cs (after e c))) ∙ quiet) in
-      moved_by e c cs k ks (call_kind l c none.0) s g none one parts.1 (λ more. calls_move (after e c) cs k ks (one_stands e c s g.0 none.0) g.1 none.1 more parts.1)
+      let parts = none_both (fails_on l (told_of e c)) (fails_on l (told_over cs (after e c)))
+      (sym (flat_map-append (fails_in l) (told_of e c) (told_over cs (after e c))) ∙ quiet) in
+      moved_by e c cs k ks (call_kind l c none.0) s g none one parts.1
+      (λ more. calls_move (after e c) cs k ks (one_stands e c s g.0 none.0) g.1 none.1 more parts.1)
 
 -- ---- behind groups
 
@@ -118,10 +138,12 @@ record Moves (cs : List Call) : Type 0 where
   moves_are : moves cs ≡ first ∷ rest
 
 handed_over : (line : Line) (keys : Option Keys) → hands_over line ≡ true → Moves (lives_by line keys)
-handed_over (lines.Handover user rrc integrity) keys is = record { first = next_keys user rrc integrity (keys_or_none keys); rest = []; moves_are = refl }
+handed_over (lines.Handover user rrc integrity) keys is =
+    record { first = next_keys user rrc integrity (keys_or_none keys); rest = []; moves_are = refl }
 handed_over line keys is = absurd cc
 
-module _ (side : Side) (l : ℕ) (past : List Group) (g : Group) (right : IsRight past g) (order : KeepsOrder past) (other : adds_one l g.line ≡ false) (h : HasSender side l past) where
+module _ (side : Side) (l : ℕ) (past : List Group) (g : Group) (right : IsRight past g) (order : KeepsOrder past)
+    (other : adds_one l g.line ≡ false) (h : HasSender side l past) where
   abbrev here : End
   here = end_of side (link_behind past)
 
@@ -129,25 +151,36 @@ module _ (side : Side) (l : ℕ) (past : List Group) (g : Group) (right : IsRigh
   calls = (goes side past g right order).by.calls
 
   none_added : AddNone l calls
-  none_added = adds_are l calls (subst (AddNone l) (sym (goes side past g right order).lives_are) (adds_none l g.line (state_behind past).rules.keys other))
+  none_added =
+      adds_are l calls
+      (subst (AddNone l) (sym (goes side past g right order).lives_are)
+      (adds_none l g.line (state_behind past).rules.keys other))
 
   told : fails_on l (told_by side g.events) ≡ fails_on l (told_over calls here)
   told = ap (fails_on l) (goes side past g right order).by.told_is
 
-  group_by : (over : Bool) → hands_over g.line ≡ over → (if over then [] else failed side l past) ++ fails_on l (told_by side g.events) ≡ [] → Unfailed l (run calls here)
+  group_by : (over : Bool) → hands_over g.line ≡ over
+      → (if over then [] else failed side l past) ++ fails_on l (told_by side g.events) ≡ []
+      → Unfailed l (run calls here)
   group_by true is quiet =
       let m = handed_over g.line (state_behind past).rules.keys is in
-      calls_move side l here calls m.first m.rest h.stands (goes side past g right order).by.given none_added (moves_are calls ∙ ap moves (goes side past g right order).lives_are ∙ m.moves_are) (sym told ∙ quiet)
+      calls_move side l here calls m.first m.rest h.stands (goes side past g right order).by.given none_added
+      (moves_are calls ∙ ap moves (goes side past g right order).lives_are ∙ m.moves_are) (sym told ∙ quiet)
   group_by false is quiet =
       let parts = none_both (failed side l past) (fails_on l (told_by side g.events)) quiet in
-      calls_go side l here calls h.stands (goes side past g right order).by.given none_added (sym told ∙ parts.1) (h.unfailed parts.0)
+      calls_go side l here calls h.stands (goes side past g right order).by.given none_added (sym told ∙ parts.1)
+      (h.unfailed parts.0)
 
   pub sender_goes : HasSender side l (g ∷ past)
   sender_goes =
-      let there : run calls here ≡ end_of side (link_behind (g ∷ past)) = sym (goes side past g right order).by.end_is in
+      let there : run calls here ≡ end_of side (link_behind (g ∷ past)) =
+      sym (goes side past g right order).by.end_is in
       record {
-        stands = subst (Stands side l) there (calls_stand side l here calls h.stands (goes side past g right order).by.given none_added);
-        unfailed = λ quiet. ap (λ (e : End). has_failed (flow l e)) (sym there) ∙ group_by (hands_over g.line) refl quiet;
+        stands =
+            subst (Stands side l) there
+            (calls_stand side l here calls h.stands (goes side past g right order).by.given none_added);
+        unfailed = λ quiet. ap (λ (e : End). has_failed (flow l e)) (sym there)
+            ∙ group_by (hands_over g.line) refl quiet;
       }
 
 -- as a bearer comes
@@ -155,10 +188,12 @@ begins_unfailed : (c : BearerConfig) (keys : Keys) (side : Side) → has_failed 
 unfolding fresh_am
 begins_unfailed c keys side = refl
 
-pub sender_begins : (side : Side) (l : ℕ) (c : BearerConfig) (keys : Keys) (past : List Group) → c.kind ≡ Am → HasBegun side l c keys (end_of side (link_behind past)) → HasSender side l past
+pub sender_begins : (side : Side) (l : ℕ) (c : BearerConfig) (keys : Keys) (past : List Group) → c.kind ≡ Am
+    → HasBegun side l c keys (end_of side (link_behind past)) → HasSender side l past
 sender_begins side l c keys past kind h = record {
   stands = stands_so side l c keys (end_of side (link_behind past)) h;
-  unfailed = λ quiet. ap has_failed h.bearer_is ∙ ap (λ (k : Kind). has_failed (flow_of k c keys side)) kind ∙ begins_unfailed c keys side;
+  unfailed = λ quiet. ap has_failed h.bearer_is ∙ ap (λ (k : Kind). has_failed (flow_of k c keys side)) kind
+      ∙ begins_unfailed c keys side;
 }
 
 -- also one of signalling
@@ -166,8 +201,10 @@ signalling_unfailed : (c : BearerConfig) (keys : Keys) (side : Side) → has_fai
 unfolding fresh_am
 signalling_unfailed c keys side = refl
 
-pub signalling_begins : (side : Side) (l : ℕ) (c : BearerConfig) (keys : Keys) (past : List Group) → c.kind ≡ Srb → HasBegun side l c keys (end_of side (link_behind past)) → HasSender side l past
+pub signalling_begins : (side : Side) (l : ℕ) (c : BearerConfig) (keys : Keys) (past : List Group) → c.kind ≡ Srb
+    → HasBegun side l c keys (end_of side (link_behind past)) → HasSender side l past
 signalling_begins side l c keys past kind h = record {
   stands = stands_so side l c keys (end_of side (link_behind past)) h;
-  unfailed = λ quiet. ap has_failed h.bearer_is ∙ ap (λ (k : Kind). has_failed (flow_of k c keys side)) kind ∙ signalling_unfailed c keys side;
+  unfailed = λ quiet. ap has_failed h.bearer_is ∙ ap (λ (k : Kind). has_failed (flow_of k c keys side)) kind
+      ∙ signalling_unfailed c keys side;
 }

@@ -1,18 +1,24 @@
 -- The sender of a bearer fails only in calls that tell so.
-use Rattle.std.proofs.Common.{◌≡◌, ℕ, Bool, true, false, ◌||◌, if◌then◌else◌, nat_lt, length, unwrap_or, Option, Some, None, Result, Ok, Err, List, [], ◌∷◌, ◌++◌, refl, ap, sym, ◌∙◌}
+use Rattle.std.proofs.Common.{◌≡◌, ℕ, Bool, true, false, ◌||◌, if◌then◌else◌, nat_lt, length, unwrap_or, Option, Some}
+use Rattle.std.proofs.Common.{None, Result, Ok, Err, List, [], ◌∷◌, ◌++◌, refl, ap, sym, ◌∙◌}
 use Rattle.std.specs.List.{list_any}
 use Rattle.bearer.specs.declared.flow.Flow.{Flow}
 use Rattle.bearer.specs.declared.flow.Flow.TheVariants.{Tm, Um, Am}
-use Rattle.bearer.specs.Hearing.{arriving, arrived, expiry as flow_expiry, expired as flow_expired, ticking, ticked as flow_ticked, with_discard}
+use Rattle.bearer.specs.Hearing.{arriving, arrived, expiry as flow_expiry, expired as flow_expired, ticking}
+use Rattle.bearer.specs.Hearing.{ticked as flow_ticked, with_discard}
 use Rattle.bearer.specs.Lives.{stopped, restarted}
 use Rattle.bearer.specs.Submitting.{submitted}
 use Rattle.bearer.specs.Taking.{after as flow_taken}
-use Rattle.bearer.specs.Acknowledged.Hearing.{arriving as am_arriving, after_arrival, arrived_told, arrived_left, settled_work, settled_if, heard_work, hears, hears_all, status_work, confirms, all_confirmed, stopped_told}
+use Rattle.bearer.specs.Acknowledged.Hearing.{arriving as am_arriving, after_arrival, arrived_told, arrived_left}
+use Rattle.bearer.specs.Acknowledged.Hearing.{settled_work, settled_if, heard_work, hears, hears_all, status_work}
+use Rattle.bearer.specs.Acknowledged.Hearing.{confirms, all_confirmed, stopped_told}
 use Rattle.bearer.specs.Acknowledged.Lives.{restarted as am_restarted}
 use Rattle.bearer.specs.Acknowledged.State.{State, has_more, Work, work}
 use Rattle.bearer.specs.Acknowledged.Taking.{given_to, fed, feeds, after_taking, feeding, data_size}
-use Rattle.bearer.specs.Acknowledged.Timing.{poll_told, expiry, after_expiry, Ticking, told_of, expires_if, counts, has_ended, ticks, discards, ticked}
-use Rattle.law_bearer.specs.AnyBearer.Calls.{Call as BearerCall, Submit, Take, Arrive, Expire, Tick, SetDiscard, Restart, after as called, after_all, goes}
+use Rattle.bearer.specs.Acknowledged.Timing.{poll_told, expiry, after_expiry, Ticking, told_of, expires_if, counts}
+use Rattle.bearer.specs.Acknowledged.Timing.{has_ended, ticks, discards, ticked}
+use Rattle.law_bearer.specs.AnyBearer.Calls.{Call as BearerCall, Submit, Take, Arrive, Expire, Tick, SetDiscard}
+use Rattle.law_bearer.specs.AnyBearer.Calls.{Restart, after as called, after_all, goes}
 use Rattle.bearer_pdcp.specs.Discarding.{after_tick as after_discards, tick_told}
 use Rattle.bearer_pdcp.specs.Hearing.{applies}
 use Rattle.bearer_pdcp.specs.Taking.{taken}
@@ -33,7 +39,11 @@ use Rattle.rlc_am_tx.specs.declared.answers.PollExpired.{PollExpired}
 use Rattle.rlc_am_tx.specs.declared.answers.PollExpired.TheVariants as polls
 use Rattle.rlc_am_tx.specs.declared.turn.Turn.{Turn}
 use Rattle.rlc_am_tx.specs.declared.turn.Turn.TheVariants as turns
-use Rattle.rlc_am_tx.specs.Machine.{State as Sender, turn, after_turn, with_poll, is_wanted, sent_whole, sent_segment, sent_new, settled_by, settles, read, is_ignored, limit_of, stops, ended, heard_of, applied, applied_heard, after_status, heard, recalled_place, with_recalled, with_owed, expiry_limit, expiry_of, expiry as poll_expiry, after_expiry as after_poll, expired}
+use Rattle.rlc_am_tx.specs.Machine.{State as Sender, turn, after_turn, with_poll, is_wanted, sent_whole, sent_segment}
+use Rattle.rlc_am_tx.specs.Machine.{sent_new, settled_by, settles, read, is_ignored, limit_of, stops, ended, heard_of}
+use Rattle.rlc_am_tx.specs.Machine.{applied, applied_heard, after_status, heard, recalled_place, with_recalled}
+use Rattle.rlc_am_tx.specs.Machine.{with_owed, expiry_limit, expiry_of, expiry as poll_expiry}
+use Rattle.rlc_am_tx.specs.Machine.{after_expiry as after_poll, expired}
 use Rattle.rlc_am_tx.specs.Need.{hungry}
 use Rattle.rlc_am_rx.specs.Machine.{landed, turned, arrived as receives}
 use Rattle.rlc_pdu.specs.declared.fault.RlcRefusal.{RlcRefusal}
@@ -50,7 +60,8 @@ fails event = false
 abbrev pub tell_failure : List Event → Bool
 tell_failure told = list_any fails told
 
-pub both_quiet : (xs ys : List Event) → tell_failure (xs ++ ys) ≡ false → (tell_failure xs ≡ false) × (tell_failure ys ≡ false)
+pub both_quiet : (xs ys : List Event) → tell_failure (xs ++ ys) ≡ false
+    → (tell_failure xs ≡ false) × (tell_failure ys ≡ false)
 both_quiet [] ys e = (refl, e)
 both_quiet (x ∷ xs) ys e =
     let parts = both_false (fails x) (tell_failure (xs ++ ys)) e in
@@ -89,12 +100,15 @@ expires_at_limit (polls.Limit sn) = true
 expires_at_limit polls.Done = false
 expires_at_limit polls.NotRunning = false
 
-ended_keeps : (limit : Option ℕ) (stopped : Bool) (s : Sender) → is_limit (heard_of limit stopped) ≡ false → (ended limit stopped s).failed ≡ s.failed
+ended_keeps : (limit : Option ℕ) (stopped : Bool) (s : Sender) → is_limit (heard_of limit stopped) ≡ false
+    → (ended limit stopped s).failed ≡ s.failed
 ended_keeps (Some sn) stopped s e = absurd cc
 ended_keeps None true s e = refl
 ended_keeps None false s e = refl
 
-status_by : (ignored : Bool) (s : Sender) (below : ℕ) (nacks : List Nack) → is_limit (if ignored then heard_as.Ignored else applied_heard s below nacks) ≡ false → (if ignored then s else applied s below nacks).failed ≡ s.failed
+status_by : (ignored : Bool) (s : Sender) (below : ℕ) (nacks : List Nack)
+    → is_limit (if ignored then heard_as.Ignored else applied_heard s below nacks) ≡ false
+    → (if ignored then s else applied s below nacks).failed ≡ s.failed
 status_by true s below nacks e = refl
 status_by false s below nacks e = ended_keeps (limit_of s below nacks) (stops s below nacks) (read s below nacks) e
 
@@ -110,11 +124,15 @@ at_limit : (limit : Option ℕ) → expires_at_limit (expiry_of limit) ≡ false
 at_limit None e = refl
 at_limit (Some sn) e = absurd cc
 
-poll_by : (runs : Bool) (s : Sender) (more : Bool) → expires_at_limit (if runs then expiry_of (expiry_limit s more) else polls.NotRunning) ≡ false → (if runs then ended (expiry_limit s more) false (expired s more) else s).failed ≡ s.failed
-poll_by true s more e = ended_keeps (expiry_limit s more) false (expired s more) (at_limit (expiry_limit s more) e) ∙ recalled_keeps (recalled_place s more) (with_owed s)
+poll_by : (runs : Bool) (s : Sender) (more : Bool)
+    → expires_at_limit (if runs then expiry_of (expiry_limit s more) else polls.NotRunning) ≡ false
+    → (if runs then ended (expiry_limit s more) false (expired s more) else s).failed ≡ s.failed
+poll_by true s more e = ended_keeps (expiry_limit s more) false (expired s more) (at_limit (expiry_limit s more) e)
+    ∙ recalled_keeps (recalled_place s more) (with_owed s)
 poll_by false s more e = refl
 
-expired_keeps : (s : Sender) (more : Bool) → expires_at_limit (poll_expiry s more) ≡ false → (after_poll s more).failed ≡ s.failed
+expired_keeps : (s : Sender) (more : Bool) → expires_at_limit (poll_expiry s more) ≡ false
+    → (after_poll s more).failed ≡ s.failed
 unfolding poll_expiry after_poll
 expired_keeps s more e = poll_by _ s more e
 
@@ -124,7 +142,9 @@ given_keeps : (pdu : Option (List ℕ)) (s : Sender) → (given_to pdu s).failed
 given_keeps None s = refl
 given_keeps (Some pdu) s = refl
 
-feed_by : (more : Bool) (os : List Offer) (size : ℕ) (held : Option ℕ) (w : Work) → ((v : Work) → (feeds os size held v).tx.failed ≡ v.tx.failed) → (if more then feeds os size held (fed w) else w).tx.failed ≡ w.tx.failed
+feed_by : (more : Bool) (os : List Offer) (size : ℕ) (held : Option ℕ) (w : Work)
+    → ((v : Work) → (feeds os size held v).tx.failed ≡ v.tx.failed)
+    → (if more then feeds os size held (fed w) else w).tx.failed ≡ w.tx.failed
 feed_by true os size held w rest = rest (fed w) ∙ given_keeps (taken w.pdcp) w.tx
 feed_by false os size held w rest = refl
 
@@ -136,7 +156,8 @@ take_keeps : (b : State) (share : ℕ) (held : Option ℕ) → (after_taking b s
 unfolding after_taking
 take_keeps b share held =
     let w = feeding b share held in
-    turn_keeps (turn w.tx (data_size b share) held (has_more w.pdcp)) w.tx (data_size b share) (has_more w.pdcp) ∙ feeds_keep _ (data_size b share) held _
+    turn_keeps (turn w.tx (data_size b share) held (has_more w.pdcp)) w.tx (data_size b share) (has_more w.pdcp)
+    ∙ feeds_keep _ (data_size b share) held _
 
 -- ---- a PDU arrives
 
@@ -151,7 +172,8 @@ hears_keep : (sdus : List (List ℕ)) (w : Work) → (hears_all sdus w).tx.faile
 hears_keep [] w = refl
 hears_keep (sdu ∷ sdus) w = hears_keep sdus (hears sdu w) ∙ settles_if (applies sdu Arrived w.pdcp) (heard_work sdu w)
 
-status_told : (h : Heard) (w : Work) → tell_failure (status_work h (record w { events = [] })).events ≡ false → is_limit h ≡ false
+status_told : (h : Heard) (w : Work) → tell_failure (status_work h (record w { events = [] })).events ≡ false
+    → is_limit h ≡ false
 status_told heard_as.Ignored w e = refl
 status_told (heard_as.Limit sn) w e = absurd cc
 status_told (heard_as.Applied stopped) w e = refl
@@ -159,29 +181,37 @@ status_told (heard_as.Applied stopped) w e = refl
 status_left : (h : Heard) (w : Work) → (status_work h w).tx.failed ≡ w.tx.failed
 status_left heard_as.Ignored w = refl
 status_left (heard_as.Limit sn) w = refl
-status_left (heard_as.Applied stopped) w = work_settles (record w { events = w.events ++ stopped_told w.pdcp.lcid stopped })
+status_left (heard_as.Applied stopped) w =
+    work_settles (record w { events = w.events ++ stopped_told w.pdcp.lcid stopped })
 
-arrives_by : (r : Result AcknowledgedPdu RlcRefusal) (b : State) → tell_failure (arrived_told r b) ≡ false → (arrived_left r b).tx.failed ≡ b.tx.failed
+arrives_by : (r : Result AcknowledgedPdu RlcRefusal) (b : State) → tell_failure (arrived_told r b) ≡ false
+    → (arrived_left r b).tx.failed ≡ b.tx.failed
 arrives_by (Err fault) b e = refl
-arrives_by (Ok (Payload p)) b e = hears_keep (receives b.rx p).out.ready (work b.pdcp b.tx (landed_told b.pdcp.lcid (landed b.rx p) (turned b.rx p)))
+arrives_by (Ok (Payload p)) b e =
+    hears_keep (receives b.rx p).out.ready
+    (work b.pdcp b.tx (landed_told b.pdcp.lcid (landed b.rx p) (turned b.rx p)))
 arrives_by (Ok (Status p)) b e =
     let w = work (confirms (after_status b.tx p).accounts.news b.pdcp) (all_confirmed (after_status b.tx p)) [] in
     status_left (heard b.tx p) w ∙ status_keeps b.tx p (status_told (heard b.tx p) w e)
 
-arrival_keeps : (b : State) (pdu : List ℕ) → tell_failure (am_arriving b pdu) ≡ false → (after_arrival b pdu).tx.failed ≡ b.tx.failed
+arrival_keeps : (b : State) (pdu : List ℕ) → tell_failure (am_arriving b pdu) ≡ false
+    → (after_arrival b pdu).tx.failed ≡ b.tx.failed
 unfolding am_arriving after_arrival
 arrival_keeps b pdu e = arrives_by (am_at pdu) b e
 
 -- ---- a timer expires, a TTI begins
 
-poll_tells : (lcid : ℕ) (p : PollExpired) → tell_failure (told_of (poll_told lcid p)) ≡ false → expires_at_limit p ≡ false
+poll_tells : (lcid : ℕ) (p : PollExpired) → tell_failure (told_of (poll_told lcid p)) ≡ false
+    → expires_at_limit p ≡ false
 poll_tells lcid polls.NotRunning e = refl
 poll_tells lcid polls.Done e = refl
 poll_tells lcid (polls.Limit sn) e = absurd cc
 
-expiry_keeps : (clock : Clock) (b : State) → tell_failure (told_of (expiry b clock)) ≡ false → (after_expiry b clock).tx.failed ≡ b.tx.failed
+expiry_keeps : (clock : Clock) (b : State) → tell_failure (told_of (expiry b clock)) ≡ false
+    → (after_expiry b clock).tx.failed ≡ b.tx.failed
 unfolding expiry after_expiry
-expiry_keeps Poll b e = expired_keeps b.tx (has_more b.pdcp) (poll_tells b.pdcp.lcid (poll_expiry b.tx (has_more b.pdcp)) e)
+expiry_keeps Poll b e =
+    expired_keeps b.tx (has_more b.pdcp) (poll_tells b.pdcp.lcid (poll_expiry b.tx (has_more b.pdcp)) e)
 expiry_keeps Reorder b e = refl
 expiry_keeps Prohibit b e = refl
 
@@ -190,8 +220,10 @@ record KeepsOn (t u : Ticking) : Type 0 where
   quiet : tell_failure t.events ≡ false
   kept : u.bearer.tx.failed ≡ t.bearer.tx.failed
 
-expires_by : (b : Bool) (clock : Clock) (t : Ticking) → tell_failure (expires_if b clock t).events ≡ false → KeepsOn t (expires_if b clock t)
-expires_by true clock t e = let parts = both_quiet t.events (told_of (expiry t.bearer clock)) e in record { quiet = parts.0; kept = expiry_keeps clock t.bearer parts.1 }
+expires_by : (b : Bool) (clock : Clock) (t : Ticking) → tell_failure (expires_if b clock t).events ≡ false
+    → KeepsOn t (expires_if b clock t)
+expires_by true clock t e = let parts = both_quiet t.events (told_of (expiry t.bearer clock)) e in
+    record { quiet = parts.0; kept = expiry_keeps clock t.bearer parts.1 }
 expires_by false clock t e = record { quiet = e; kept = refl }
 
 count_keeps : (clock : Clock) (b : State) → (counts clock b).tx.failed ≡ b.tx.failed
@@ -213,7 +245,10 @@ discards_keep : (t : Ticking) → tell_failure (discards t).events ≡ false →
 discards_keep t e =
     let told = tick_told t.bearer.pdcp in
     let w = work (after_discards t.bearer.pdcp) t.bearer.tx (t.events ++ told) in
-    record { quiet = (both_quiet t.events told (settled_tells (nat_lt 0 (length told)) w e)).0; kept = settles_if (nat_lt 0 (length told)) w }
+    record {
+      quiet = (both_quiet t.events told (settled_tells (nat_lt 0 (length told)) w e)).0;
+      kept = settles_if (nat_lt 0 (length told)) w;
+    }
 
 tick_keeps : (b : State) → tell_failure (ticked b).events ≡ false → (ticked b).bearer.tx.failed ≡ b.tx.failed
 unfolding ticked
@@ -234,7 +269,8 @@ none_told : (o : Option (List Event)) → unwrap_or o [] ≡ told_of o
 none_told None = refl
 none_told (Some told) = refl
 
-call_keeps : (l : ℕ) (f : Flow) (c : BearerCall) → tell_failure (tells_in l f c) ≡ false → has_failed (called f c) ≡ has_failed f
+call_keeps : (l : ℕ) (f : Flow) (c : BearerCall) → tell_failure (tells_in l f c) ≡ false
+    → has_failed (called f c) ≡ has_failed f
 unfolding submitted flow_taken arriving arrived flow_expiry flow_expired ticking flow_ticked with_discard
 call_keeps l (Tm b) (Submit sdu) e = refl
 call_keeps l (Tm b) (Take share held) e = refl
@@ -255,7 +291,8 @@ call_keeps l (Am b) (Expire clock) e = expiry_keeps clock b (ap tell_failure (sy
 call_keeps l (Am b) Tick e = tick_keeps b e
 call_keeps l (Am b) (SetDiscard ttis) e = refl
 
-pub calls_keep : (l : ℕ) (f : Flow) (cs : List BearerCall) → tell_failure (tells_over l f cs) ≡ false → has_failed (after_all f cs) ≡ has_failed f
+pub calls_keep : (l : ℕ) (f : Flow) (cs : List BearerCall) → tell_failure (tells_over l f cs) ≡ false
+    → has_failed (after_all f cs) ≡ has_failed f
 calls_keep l f [] e = refl
 calls_keep l f (c ∷ cs) e =
     let parts = both_quiet (tells_in l f c) (tells_over l (called f c) cs) e in

@@ -1,5 +1,6 @@
 -- Through every line since its bearers came the steps of a channel go on, with what is submitted and what is told.
-use Rattle.std.proofs.Common.{◌≡◌, ◌≤◌, ℕ, zero, suc, ◌==◌, Bool, true, false, ◌||◌, if◌then◌else◌, Option, Some, None, List, [], ◌∷◌, ◌++◌, map, append-nil, append_assoc, refl, ap, sym, subst, ◌∙◌}
+use Rattle.std.proofs.Common.{◌≡◌, ◌≤◌, ℕ, zero, suc, ◌==◌, Bool, true, false, ◌||◌, if◌then◌else◌, Option, Some, None}
+use Rattle.std.proofs.Common.{List, [], ◌∷◌, ◌++◌, map, append-nil, append_assoc, refl, ap, sym, subst, ◌∙◌}
 use Rattle.std.specs.Prelude.{option_map}
 use Rattle.std.specs.List.{filter}
 use Rattle.std.proofs.lemmas.List.{map-append}
@@ -10,7 +11,8 @@ use Rattle.air_link.specs.Link.{Link, end_of}
 use Rattle.air_record.specs.declared.line.Line.{Line}
 use Rattle.air_record.specs.declared.line.Line.TheVariants as lines
 use Rattle.air_record.specs.declared.record.Record.{Record}
-use Rattle.air_run.specs.Draining.{shown, Drained, at_once, behind, ttis, senders_unless, round, left_by, done_by, told_by, rounds, budget, drained}
+use Rattle.air_run.specs.Draining.{shown, Drained, at_once, behind, ttis, senders_unless, round, left_by, done_by}
+use Rattle.air_run.specs.Draining.{told_by, rounds, budget, drained}
 use Rattle.air_record.specs.Endings.{ending}
 use Rattle.air_run.specs.Playing.{keys_or_none, acted, played}
 use Rattle.air_record.specs.Cells.{next_keys}
@@ -73,20 +75,26 @@ with_word word haps from = haps from ++ word
 
 -- ---- SDUs that come back through the test loop
 
-pub looped_then : (side : Side) (n : ℕ) (xs ys : List Record) → looped_at side n (xs ++ ys) ≡ looped_at side n xs ++ looped_at side n ys
+pub looped_then : (side : Side) (n : ℕ) (xs ys : List Record)
+    → looped_at side n (xs ++ ys) ≡ looped_at side n xs ++ looped_at side n ys
 looped_then Nb n xs ys = refl
-looped_then Ue n xs ys = ap (map sdu_of) (filter-append (is_looped n) xs ys) ∙ map-append sdu_of (filter (is_looped n) xs) (filter (is_looped n) ys)
+looped_then Ue n xs ys = ap (map sdu_of) (filter-append (is_looped n) xs ys)
+    ∙ map-append sdu_of (filter (is_looped n) xs) (filter (is_looped n) ys)
 
 no_more : (side : Side) (n : ℕ) (xs : List (List ℕ)) → xs ++ looped_at side n [] ≡ xs
 no_more side n xs = ap (λ (ys : List (List ℕ)). xs ++ ys) (none_looped side n) ∙ append-nil xs
 
-both_looped : (side : Side) (n : ℕ) (all : List (List ℕ)) (xs ys : List Record) → (all ++ looped_at side n xs) ++ looped_at side n ys ≡ all ++ looped_at side n (xs ++ ys)
-both_looped side n all xs ys = append_assoc all (looped_at side n xs) (looped_at side n ys) ∙ ap (λ (zs : List (List ℕ)). all ++ zs) (sym (looped_then side n xs ys))
+both_looped : (side : Side) (n : ℕ) (all : List (List ℕ)) (xs ys : List Record)
+    → (all ++ looped_at side n xs) ++ looped_at side n ys ≡ all ++ looped_at side n (xs ++ ys)
+both_looped side n all xs ys = append_assoc all (looped_at side n xs) (looped_at side n ys)
+    ∙ ap (λ (zs : List (List ℕ)). all ++ zs) (sym (looped_then side n xs ys))
 
 -- ---- lines
 
 -- what a `submit` line hands in
-submit_handed : (r : Option SubmitRefusal) (side s : Side) (n lcid : ℕ) (octets : List ℕ) → handed_in side n (Submits s lcid octets) (refusals s lcid (option_map no_place r)) ≡ (if is_same s side then accepted r (lcid == n) octets else [])
+submit_handed : (r : Option SubmitRefusal) (side s : Side) (n lcid : ℕ) (octets : List ℕ)
+    → handed_in side n (Submits s lcid octets) (refusals s lcid (option_map no_place r))
+    ≡ (if is_same s side then accepted r (lcid == n) octets else [])
 submit_handed None Nb Nb n lcid octets = refl
 submit_handed None Nb Ue n lcid octets = refl
 submit_handed None Ue Nb n lcid octets = refl
@@ -97,16 +105,22 @@ submit_handed (Some why) Ue Nb n lcid octets = refl
 submit_handed (Some why) Ue Ue n lcid octets = refl
 
 -- how a drain ends is told of no end
-unlooped_end : (side : Side) (n : ℕ) (said : List Record) (is_done : Bool) (done : ℕ) → looped_at side n (said ++ ending is_done done ∷ []) ≡ looped_at side n said
-unlooped_end side n said is_done done = looped_then side n said (ending is_done done ∷ []) ∙ ap (λ (xs : List (List ℕ)). looped_at side n said ++ xs) (none side is_done) ∙ append-nil (looped_at side n said)
+unlooped_end : (side : Side) (n : ℕ) (said : List Record) (is_done : Bool) (done : ℕ)
+    → looped_at side n (said ++ ending is_done done ∷ []) ≡ looped_at side n said
+unlooped_end side n said is_done done = looped_then side n said (ending is_done done ∷ [])
+    ∙ ap (λ (xs : List (List ℕ)). looped_at side n said ++ xs) (none side is_done)
+    ∙ append-nil (looped_at side n said)
   where
     none : (s : Side) (b : Bool) → looped_at s n (ending b done ∷ []) ≡ []
     none Nb b = refl
     none Ue true = refl
     none Ue false = refl
 
-untold_end : (side : Side) (said : List Record) (is_done : Bool) (done : ℕ) → told_of side (said ++ ending is_done done ∷ []) ≡ told_of side said
-untold_end side said is_done done = told_both side said (ending is_done done ∷ []) (told_of side said) [] refl (none is_done) ∙ append-nil (told_of side said)
+untold_end : (side : Side) (said : List Record) (is_done : Bool) (done : ℕ)
+    → told_of side (said ++ ending is_done done ∷ []) ≡ told_of side said
+untold_end side said is_done done =
+    told_both side said (ending is_done done ∷ []) (told_of side said) [] refl (none is_done)
+    ∙ append-nil (told_of side said)
   where
     none : (b : Bool) → told_of side (ending b done ∷ []) ≡ []
     none true = refl
@@ -120,49 +134,67 @@ or_false false = refl
 
 -- ---- what records tell of the air
 
-pub tells_both : (l : ℕ) (f g : List Record) → TellAlone l g → (bits : ℕ) (from : Side) → tells_in bits l from [] (f ++ g) ≡ tells_in bits l from [] f ++ tells_in bits l from [] g
-tells_both l f g h bits from = tells_more bits l from [] f g ∙ ap (λ (hs : List Happening). tells_in bits l from [] f ++ hs) (h bits from (last_in f []))
+pub tells_both : (l : ℕ) (f g : List Record) → TellAlone l g → (bits : ℕ) (from : Side)
+    → tells_in bits l from [] (f ++ g) ≡ tells_in bits l from [] f ++ tells_in bits l from [] g
+tells_both l f g h bits from = tells_more bits l from [] f g
+    ∙ ap (λ (hs : List Happening). tells_in bits l from [] f ++ hs) (h bits from (last_in f []))
 
 alone_both : (l : ℕ) (f g : List Record) → TellAlone l f → TellAlone l g → TellAlone l (f ++ g)
 alone_both l f g p q bits from sent =
     tells_more bits l from sent f g
     ∙ (ap (λ (hs : List Happening). hs ++ tells_in bits l from (last_in f sent) g) (p bits from sent)
-    ∙ (ap (λ (hs : List Happening). tells_in bits l from [] f ++ hs) (q bits from (last_in f sent)) ∙ sym (tells_both l f g q bits from)))
+    ∙ (ap (λ (hs : List Happening). tells_in bits l from [] f ++ hs) (q bits from (last_in f sent))
+    ∙ sym (tells_both l f g q bits from)))
 
 both_flown : (l : ℕ) (all : List Happening) (f g : List Record) → TellAlone l g → (bits : ℕ) (from : Side)
     → (all ++ tells_in bits l from [] f) ++ tells_in bits l from [] g ≡ all ++ tells_in bits l from [] (f ++ g)
 both_flown l all f g h bits from =
-    append_assoc all (tells_in bits l from [] f) (tells_in bits l from [] g) ∙ ap (λ (hs : List Happening). all ++ hs) (sym (tells_both l f g h bits from))
+    append_assoc all (tells_in bits l from [] f) (tells_in bits l from [] g)
+    ∙ ap (λ (hs : List Happening). all ++ hs) (sym (tells_both l f g h bits from))
 
-unflown_end : (bits l : ℕ) (from : Side) (said : List Record) (is_done : Bool) (done : ℕ) → tells_in bits l from [] (said ++ ending is_done done ∷ []) ≡ tells_in bits l from [] said
+unflown_end : (bits l : ℕ) (from : Side) (said : List Record) (is_done : Bool) (done : ℕ)
+    → tells_in bits l from [] (said ++ ending is_done done ∷ []) ≡ tells_in bits l from [] said
 unflown_end bits l from said is_done done =
-    tells_more bits l from [] said (ending is_done done ∷ []) ∙ (ap (λ (hs : List Happening). tells_in bits l from [] said ++ hs) (none is_done (last_in said [])) ∙ append-nil (tells_in bits l from [] said))
+    tells_more bits l from [] said (ending is_done done ∷ [])
+    ∙ (ap (λ (hs : List Happening). tells_in bits l from [] said ++ hs) (none is_done (last_in said []))
+    ∙ append-nil (tells_in bits l from [] said))
   where
     none : (b : Bool) (sent : List ℕ) → tells_in bits l from sent (ending b done ∷ []) ≡ []
     none true sent = refl
     none false sent = refl
 
-unsaid_end : (d : Direction) (l : ℕ) (place : Place) (said : List Record) (is_done : Bool) (done : ℕ) → told_in d l place (said ++ ending is_done done ∷ []) ≡ told_in d l place said
+unsaid_end : (d : Direction) (l : ℕ) (place : Place) (said : List Record) (is_done : Bool) (done : ℕ)
+    → told_in d l place (said ++ ending is_done done ∷ []) ≡ told_in d l place said
 unsaid_end d l place said is_done done =
-    in_then d l place said (ending is_done done ∷ []) ∙ ap (λ (hs : List What). told_in d l place said ++ hs) (none is_done (place_behind place said)) ∙ append-nil (told_in d l place said)
+    in_then d l place said (ending is_done done ∷ [])
+    ∙ ap (λ (hs : List What). told_in d l place said ++ hs) (none is_done (place_behind place said))
+    ∙ append-nil (told_in d l place said)
   where
     none : (b : Bool) (c : Place) → told_in d l c (ending b done ∷ []) ≡ []
     none true c = refl
     none false c = refl
 
--- of what is known of a link by what was told, submitted, what went by air and what was set since it began: a step goes on with it
-pub record StepLives (l : ℕ) (Live : List Record → Sdus → Happened → Bool → Link → Type 0) (told : List Record) (handed : Sdus) (flown : Happened) (set : Bool) (s : Step) (k : Link) : Type 0 where
-  pub more : List Record
-  pub out_is : (step s k).out ≡ k.out ++ more
-  pub alone : TellAlone l more
-  pub lived : Live (told ++ more) (λ side n. handed side n ++ (handed_by side n s k ++ looped_at side n more)) (λ bits from. flown bits from ++ told_by_step bits l from s more) (set || sets l s) (step s k)
+-- of what is known of a link by what was told, submitted, what went by air and what was set since it began: a step goes
+-- on with it
+pub record StepLives (l : ℕ) (Live : List Record → Sdus → Happened → Bool → Link
+    → Type 0) (told : List Record) (handed : Sdus) (flown : Happened) (set : Bool) (s : Step) (k : Link) : Type 0
+  where
+    pub more : List Record
+    pub out_is : (step s k).out ≡ k.out ++ more
+    pub alone : TellAlone l more
+    pub lived : Live (told ++ more) (λ side n. handed side n ++ (handed_by side n s k ++ looped_at side n more))
+        (λ bits from. flown bits from ++ told_by_step bits l from s more) (set || sets l s) (step s k)
 
 -- and so does each but a handover
 pub record GoesThrough (l : ℕ) (Live : List Record → Sdus → Happened → Bool → Link → Type 0) : Type 0 where
-  pub same : (told told' : List Record) (handed handed' : Sdus) (flown flown' : Happened) (set set' : Bool) (k : Link) → told ≡ told' → ((side : Side) (n : ℕ) → handed side n ≡ handed' side n)
-      → ((bits : ℕ) (from : Side) → flown bits from ≡ flown' bits from) → set ≡ set' → Live told handed flown set k → Live told' handed' flown' set' k
-  pub unseen : (told : List Record) (handed : Sdus) (flown : Happened) (set : Bool) (k : Link) (out : List Record) → Live told handed flown set k → Live told handed flown set (record k { out = out })
-  pub steps : (told : List Record) (handed : Sdus) (flown : Happened) (set : Bool) (s : Step) (k : Link) → IsStepSince l s → moves s ≡ false → Live told handed flown set k → StepLives l Live told handed flown set s k
+  pub same : (told told' : List Record) (handed handed' : Sdus) (flown flown' : Happened) (set set' : Bool) (k : Link)
+      → told ≡ told' → ((side : Side) (n : ℕ) → handed side n ≡ handed' side n)
+      → ((bits : ℕ) (from : Side) → flown bits from ≡ flown' bits from) → set ≡ set' → Live told handed flown set k
+      → Live told' handed' flown' set' k
+  pub unseen : (told : List Record) (handed : Sdus) (flown : Happened) (set : Bool) (k : Link) (out : List Record)
+      → Live told handed flown set k → Live told handed flown set (record k { out = out })
+  pub steps : (told : List Record) (handed : Sdus) (flown : Happened) (set : Bool) (s : Step) (k : Link)
+      → IsStepSince l s → moves s ≡ false → Live told handed flown set k → StepLives l Live told handed flown set s k
 
 module _ (l : ℕ) (Live : List Record → Sdus → Happened → Bool → Link → Type 0) (through : GoesThrough l Live) where
   -- steps that hand in nothing
@@ -170,9 +202,12 @@ module _ (l : ℕ) (Live : List Record → Sdus → Happened → Bool → Link �
     more : List Record
     out_is : m.out ≡ k.out ++ more
     alone : TellAlone l more
-    lived : Live (told ++ more) (λ side n. handed side n ++ looped_at side n more) (λ bits from. flown bits from ++ tells_in bits l from [] more) set m
+    lived : Live (told ++ more) (λ side n. handed side n ++ looped_at side n more)
+        (λ bits from. flown bits from ++ tells_in bits l from [] more) set m
 
-  goes_by : (told : List Record) (handed : Sdus) (flown : Happened) (set : Bool) (s : Step) (k : Link) → IsStepSince l s → moves s ≡ false → sets l s ≡ false → renews s ≡ [] → ((side : Side) (n : ℕ) → handed_by side n s k ≡ []) → Live told handed flown set k
+  goes_by : (told : List Record) (handed : Sdus) (flown : Happened) (set : Bool) (s : Step) (k : Link)
+      → IsStepSince l s → moves s ≡ false → sets l s ≡ false → renews s ≡ []
+      → ((side : Side) (n : ℕ) → handed_by side n s k ≡ []) → Live told handed flown set k
       → GoesOn told handed flown set k (step s k)
   goes_by told handed flown set s k g own unset stays none h =
       let x = through.steps told handed flown set s k g own h in
@@ -186,109 +221,144 @@ module _ (l : ℕ) (Live : List Record → Sdus → Happened → Bool → Link �
             (ap (λ (b : Bool). set || b) unset ∙ or_false set) x.lived;
       }
 
-  still : (told : List Record) (handed : Sdus) (flown : Happened) (set : Bool) (k m : Link) → m.out ≡ k.out → Live told handed flown set m → GoesOn told handed flown set k m
+  still : (told : List Record) (handed : Sdus) (flown : Happened) (set : Bool) (k m : Link) → m.out ≡ k.out
+      → Live told handed flown set m → GoesOn told handed flown set k m
   still told handed flown set k m out h = record {
     more = [];
     out_is = out ∙ sym (append-nil k.out);
     alone = λ bits from sent. refl;
-    lived = through.same told (told ++ []) handed _ flown _ set set m (sym (append-nil told)) (λ side n. sym (no_more side n (handed side n))) (λ bits from. sym (append-nil (flown bits from))) refl h;
+    lived = through.same told (told ++ []) handed _ flown _ set set m (sym (append-nil told))
+        (λ side n. sym (no_more side n (handed side n))) (λ bits from. sym (append-nil (flown bits from))) refl h;
   }
 
-  then_goes : (told : List Record) (handed : Sdus) (flown : Happened) (set : Bool) (k m o : Link) (g : GoesOn told handed flown set k m)
-      → GoesOn (told ++ g.more) (λ side n. handed side n ++ looped_at side n g.more) (λ bits from. flown bits from ++ tells_in bits l from [] g.more) set m o → GoesOn told handed flown set k o
+  then_goes : (told : List Record) (handed : Sdus) (flown : Happened) (set : Bool) (k m o : Link)
+      (g : GoesOn told handed flown set k m)
+      → GoesOn (told ++ g.more) (λ side n. handed side n ++ looped_at side n g.more)
+      (λ bits from. flown bits from ++ tells_in bits l from [] g.more) set m o → GoesOn told handed flown set k o
   then_goes told handed flown set k m o g q = record {
     more = g.more ++ q.more;
     out_is = q.out_is ∙ ap (λ (x : List Record). x ++ q.more) g.out_is ∙ append_assoc k.out g.more q.more;
     alone = alone_both l g.more q.more g.alone q.alone;
-    lived = through.same _ (told ++ (g.more ++ q.more)) _ _ _ _ set set o (append_assoc told g.more q.more) (λ side n. both_looped side n (handed side n) g.more q.more)
+    lived = through.same _ (told ++ (g.more ++ q.more)) _ _ _ _ set set o (append_assoc told g.more q.more)
+        (λ side n. both_looped side n (handed side n) g.more q.more)
         (λ bits from. both_flown l (flown bits from) g.more q.more q.alone bits from) refl q.lived;
   }
 
-  tti_goes : (told : List Record) (handed : Sdus) (flown : Happened) (set : Bool) (grant : ℕ) (k : Link) → grant ≤ 9422 → Live told handed flown set k → GoesOn told handed flown set k (drain_tti grant k)
-  tti_goes told handed flown set grant k within h = goes_by told handed flown set (Drains grant) k within refl refl refl (λ side n. refl) h
+  tti_goes : (told : List Record) (handed : Sdus) (flown : Happened) (set : Bool) (grant : ℕ) (k : Link)
+      → grant ≤ 9422 → Live told handed flown set k → GoesOn told handed flown set k (drain_tti grant k)
+  tti_goes told handed flown set grant k within h =
+      goes_by told handed flown set (Drains grant) k within refl refl refl (λ side n. refl) h
 
-  receivers_go : (told : List Record) (handed : Sdus) (flown : Happened) (set : Bool) (k : Link) → Live told handed flown set k → GoesOn told handed flown set k (receivers_expire k)
-  receivers_go told handed flown set k h = goes_by told handed flown set (Calls calls.ReceiversExpire) k tt refl refl refl (λ side n. refl) h
+  receivers_go : (told : List Record) (handed : Sdus) (flown : Happened) (set : Bool) (k : Link)
+      → Live told handed flown set k → GoesOn told handed flown set k (receivers_expire k)
+  receivers_go told handed flown set k h =
+      goes_by told handed flown set (Calls calls.ReceiversExpire) k tt refl refl refl (λ side n. refl) h
 
-  senders_go : (b : Bool) (told : List Record) (handed : Sdus) (flown : Happened) (set : Bool) (k : Link) → Live told handed flown set k → GoesOn told handed flown set k (senders_unless b k)
+  senders_go : (b : Bool) (told : List Record) (handed : Sdus) (flown : Happened) (set : Bool) (k : Link)
+      → Live told handed flown set k → GoesOn told handed flown set k (senders_unless b k)
   senders_go true told handed flown set k h = still told handed flown set k k refl h
-  senders_go false told handed flown set k h = goes_by told handed flown set (Calls calls.SendersExpire) k tt refl refl refl (λ side n. refl) h
+  senders_go false told handed flown set k h =
+      goes_by told handed flown set (Calls calls.SendersExpire) k tt refl refl refl (λ side n. refl) h
 
-  round_goes : (told : List Record) (handed : Sdus) (flown : Happened) (set : Bool) (grant : ℕ) (k : Link) → grant ≤ 9422 → Live told handed flown set k → GoesOn told handed flown set k (round grant k)
+  round_goes : (told : List Record) (handed : Sdus) (flown : Happened) (set : Bool) (grant : ℕ) (k : Link)
+      → grant ≤ 9422 → Live told handed flown set k → GoesOn told handed flown set k (round grant k)
   round_goes told handed flown set grant k within h =
       let m = drain_tti grant k in
       let n = receivers_expire m in
       let to_m = tti_goes told handed flown set grant k within h in
       let to_n = then_goes told handed flown set k m n to_m (receivers_go (told ++ to_m.more) _ _ set m to_m.lived) in
-      then_goes told handed flown set k n (senders_unless (carried m) n) to_n (senders_go (carried m) (told ++ to_n.more) _ _ set n to_n.lived)
+      then_goes told handed flown set k n (senders_unless (carried m) n) to_n
+      (senders_go (carried m) (told ++ to_n.more) _ _ set n to_n.lived)
 
   -- ---- a part of a drain
 
   record DrainLives (told : List Record) (handed : Sdus) (flown : Happened) (set : Bool) (d : Drained) : Type 0 where
     nothing : d.link.out ≡ []
     alone : TellAlone l d.journal
-    lived : Live (told ++ d.journal) (λ side n. handed side n ++ looped_at side n d.journal) (λ bits from. flown bits from ++ tells_in bits l from [] d.journal) set d.link
+    lived : Live (told ++ d.journal) (λ side n. handed side n ++ looped_at side n d.journal)
+        (λ bits from. flown bits from ++ tells_in bits l from [] d.journal) set d.link
 
-  none_drained : (told : List Record) (handed : Sdus) (flown : Happened) (set : Bool) (k : Link) → k.out ≡ [] → Live told handed flown set k → DrainLives told handed flown set (at_once k)
+  none_drained : (told : List Record) (handed : Sdus) (flown : Happened) (set : Bool) (k : Link) → k.out ≡ []
+      → Live told handed flown set k → DrainLives told handed flown set (at_once k)
   none_drained told handed flown set k nothing h = record {
     nothing = nothing;
     alone = λ bits from sent. refl;
-    lived = through.same told (told ++ []) handed _ flown _ set set k (sym (append-nil told)) (λ side n. sym (no_more side n (handed side n))) (λ bits from. sym (append-nil (flown bits from))) refl h;
+    lived = through.same told (told ++ []) handed _ flown _ set set k (sym (append-nil told))
+        (λ side n. sym (no_more side n (handed side n))) (λ bits from. sym (append-nil (flown bits from))) refl h;
   }
 
-  first_drained : (told : List Record) (handed : Sdus) (flown : Happened) (set : Bool) (done : ℕ) (first : List Record) (d : Drained) → TellAlone l first
-      → DrainLives (told ++ first) (λ side n. handed side n ++ looped_at side n first) (λ bits from. flown bits from ++ tells_in bits l from [] first) set d → DrainLives told handed flown set (behind first done d)
+  first_drained : (told : List Record) (handed : Sdus) (flown : Happened) (set : Bool) (done : ℕ)
+      (first : List Record) (d : Drained) → TellAlone l first
+      → DrainLives (told ++ first) (λ side n. handed side n ++ looped_at side n first)
+      (λ bits from. flown bits from ++ tells_in bits l from [] first) set d
+      → DrainLives told handed flown set (behind first done d)
   first_drained told handed flown set done first d yet q = record {
     nothing = q.nothing;
     alone = alone_both l first d.journal yet q.alone;
-    lived = through.same _ (told ++ (first ++ d.journal)) _ _ _ _ set set d.link (append_assoc told first d.journal) (λ side n. both_looped side n (handed side n) first d.journal)
+    lived = through.same _ (told ++ (first ++ d.journal)) _ _ _ _ set set d.link (append_assoc told first d.journal)
+        (λ side n. both_looped side n (handed side n) first d.journal)
         (λ bits from. both_flown l (flown bits from) first d.journal q.alone bits from) refl q.lived;
   }
 
   -- where nothing was told before
   record First (told : List Record) (handed : Sdus) (flown : Happened) (set : Bool) (m : Link) : Type 0 where
     alone : TellAlone l m.out
-    lived : Live (told ++ m.out) (λ side n. handed side n ++ looped_at side n m.out) (λ bits from. flown bits from ++ tells_in bits l from [] m.out) set m
+    lived : Live (told ++ m.out) (λ side n. handed side n ++ looped_at side n m.out)
+        (λ bits from. flown bits from ++ tells_in bits l from [] m.out) set m
 
-  at_first : (told : List Record) (handed : Sdus) (flown : Happened) (set : Bool) (k m : Link) → k.out ≡ [] → GoesOn told handed flown set k m → First told handed flown set m
+  at_first : (told : List Record) (handed : Sdus) (flown : Happened) (set : Bool) (k m : Link) → k.out ≡ []
+      → GoesOn told handed flown set k m → First told handed flown set m
   at_first told handed flown set k m nothing g =
       let same : m.out ≡ g.more = g.out_is ∙ ap (λ (x : List Record). x ++ g.more) nothing in
       record {
         alone = subst (TellAlone l) (sym same) g.alone;
-        lived = through.same _ _ _ _ _ _ set set m (ap (λ (x : List Record). told ++ x) (sym same)) (λ side n. ap (λ (x : List Record). handed side n ++ looped_at side n x) (sym same))
-            (λ bits from. ap (λ (x : List Record). flown bits from ++ tells_in bits l from [] x) (sym same)) refl g.lived;
+        lived = through.same _ _ _ _ _ _ set set m (ap (λ (x : List Record). told ++ x) (sym same))
+            (λ side n. ap (λ (x : List Record). handed side n ++ looped_at side n x) (sym same))
+            (λ bits from. ap (λ (x : List Record). flown bits from ++ tells_in bits l from [] x) (sym same)) refl
+            g.lived;
       }
 
-  ttis_go : (n grant : ℕ) (told : List Record) (handed : Sdus) (flown : Happened) (set : Bool) (k : Link) → grant ≤ 9422 → k.out ≡ [] → Live told handed flown set k → DrainLives told handed flown set (ttis n grant k)
+  ttis_go : (n grant : ℕ) (told : List Record) (handed : Sdus) (flown : Happened) (set : Bool) (k : Link)
+      → grant ≤ 9422 → k.out ≡ [] → Live told handed flown set k → DrainLives told handed flown set (ttis n grant k)
   ttis_go zero grant told handed flown set k within nothing h = none_drained told handed flown set k nothing h
   ttis_go (suc n) grant told handed flown set k within nothing h =
       let m = drain_tti grant k in
       let x = at_first told handed flown set k m nothing (tti_goes told handed flown set grant k within h) in
-      first_drained told handed flown set 0 m.out (ttis n grant (shown m)) x.alone (ttis_go n grant (told ++ m.out) _ _ set (shown m) within refl (through.unseen (told ++ m.out) _ _ set m [] x.lived))
+      first_drained told handed flown set 0 m.out (ttis n grant (shown m)) x.alone
+      (ttis_go n grant (told ++ m.out) _ _ set (shown m) within refl
+      (through.unseen (told ++ m.out) _ _ set m [] x.lived))
 
-  round_by : (n grant : ℕ) (told : List Record) (handed : Sdus) (flown : Happened) (set : Bool) (k : Link) → grant ≤ 9422 → k.out ≡ [] → Live told handed flown set k → (b : Bool)
-      → ((said : List Record) (given : Sdus) (air : Happened) (m : Link) → m.out ≡ [] → Live said given air set m → DrainLives said given air set (rounds n grant m))
+  round_by : (n grant : ℕ) (told : List Record) (handed : Sdus) (flown : Happened) (set : Bool) (k : Link)
+      → grant ≤ 9422 → k.out ≡ [] → Live told handed flown set k → (b : Bool)
+      → ((said : List Record) (given : Sdus) (air : Happened) (m : Link) → m.out ≡ [] → Live said given air set m
+      → DrainLives said given air set (rounds n grant m))
       → DrainLives told handed flown set (behind (told_by b grant k) (done_by b) (rounds n grant (left_by b grant k)))
-  round_by n grant told handed flown set k within nothing h true rest = let q = rest told handed flown k nothing h in record { nothing = q.nothing; alone = q.alone; lived = q.lived }
+  round_by n grant told handed flown set k within nothing h true rest = let q = rest told handed flown k nothing h in
+      record { nothing = q.nothing; alone = q.alone; lived = q.lived }
   round_by n grant told handed flown set k within nothing h false rest =
       let m = round grant k in
       let x = at_first told handed flown set k m nothing (round_goes told handed flown set grant k within h) in
-      first_drained told handed flown set 1 m.out (rounds n grant (shown m)) x.alone (rest (told ++ m.out) _ _ (shown m) refl (through.unseen (told ++ m.out) _ _ set m [] x.lived))
+      first_drained told handed flown set 1 m.out (rounds n grant (shown m)) x.alone
+      (rest (told ++ m.out) _ _ (shown m) refl (through.unseen (told ++ m.out) _ _ set m [] x.lived))
 
-  rounds_go : (n grant : ℕ) (told : List Record) (handed : Sdus) (flown : Happened) (set : Bool) (k : Link) → grant ≤ 9422 → k.out ≡ [] → Live told handed flown set k → DrainLives told handed flown set (rounds n grant k)
+  rounds_go : (n grant : ℕ) (told : List Record) (handed : Sdus) (flown : Happened) (set : Bool) (k : Link)
+      → grant ≤ 9422 → k.out ≡ [] → Live told handed flown set k → DrainLives told handed flown set (rounds n grant k)
   rounds_go zero grant told handed flown set k within nothing h = none_drained told handed flown set k nothing h
   rounds_go (suc n) grant told handed flown set k within nothing h =
-      round_by n grant told handed flown set k within nothing h (is_drained k) (λ said given air m none q. rounds_go n grant said given air set m within none q)
+      round_by n grant told handed flown set k within nothing h (is_drained k)
+      (λ said given air m none q. rounds_go n grant said given air set m within none q)
 
   -- the records of a whole drain end with how it ends
   record WholeLives (told : List Record) (handed : Sdus) (flown : Happened) (set : Bool) (d : Drained) : Type 0 where
     said : List Record
-    lived : Live (told ++ said) (λ side n. handed side n ++ looped_at side n said) (λ bits from. flown bits from ++ tells_in bits l from [] said) set d.link
+    lived : Live (told ++ said) (λ side n. handed side n ++ looped_at side n said)
+        (λ bits from. flown bits from ++ tells_in bits l from [] said) set d.link
     is_done : Bool
     done : ℕ
     journal_is : d.journal ≡ said ++ ending is_done done ∷ []
 
-  drained_lives : (told : List Record) (handed : Sdus) (flown : Happened) (set : Bool) (grant : ℕ) (k : Link) → grant ≤ 9422 → k.out ≡ [] → Live told handed flown set k → WholeLives told handed flown set (drained grant k)
+  drained_lives : (told : List Record) (handed : Sdus) (flown : Happened) (set : Bool) (grant : ℕ) (k : Link)
+      → grant ≤ 9422 → k.out ≡ [] → Live told handed flown set k → WholeLives told handed flown set (drained grant k)
   unfolding drained
   drained_lives told handed flown set grant k within nothing h =
       let d = ttis 8 grant k in
@@ -297,7 +367,9 @@ module _ (l : ℕ) (Live : List Record → Sdus → Happened → Bool → Link �
       let whole = behind d.journal 0 e in
       record {
         said = whole.journal;
-        lived = (first_drained told handed flown set 0 d.journal e p.alone (rounds_go (budget k) grant (told ++ d.journal) _ _ set d.link within p.nothing p.lived)).lived;
+        lived =
+            (first_drained told handed flown set 0 d.journal e p.alone
+            (rounds_go (budget k) grant (told ++ d.journal) _ _ set d.link within p.nothing p.lived)).lived;
         is_done = is_drained whole.link;
         done = whole.done;
         journal_is = refl;
@@ -305,91 +377,134 @@ module _ (l : ℕ) (Live : List Record → Sdus → Happened → Bool → Link �
 
   -- ---- a line
 
-  pub record PartLives (told : List Record) (handed : Sdus) (flown : Happened) (set : Bool) (ends : List Happening) (p : Part) (m : Link) : Type 0 where
+  pub record PartLives (told : List Record) (handed : Sdus) (flown : Happened) (set : Bool) (ends : List Happening)
+      (p : Part) (m : Link) : Type 0 where
     pub more : List Record
     pub lived : Live (told ++ more) (λ side n. handed side n ++ (handed_in side n p m.out ++ looped_at side n m.out))
         (λ bits from. flown bits from ++ (ends ++ tells_in bits l from [] m.out)) set m
     pub told_are : (side : Side) → told_of side m.out ≡ told_of side more
     pub haps_are : (d : Direction) (place : Place) → told_in d l place m.out ≡ told_in d l place more
 
-  pub step_plays : (told : List Record) (handed : Sdus) (flown : Happened) (set : Bool) (s : Step) (k : Link) (p : Part) → k.out ≡ [] → ((side : Side) (n : ℕ) → handed_by side n s k ≡ handed_in side n p (step s k).out)
-      → StepLives l Live told handed flown set s k → PartLives told handed flown (set || sets l s) (renews s) p (step s k)
+  pub step_plays : (told : List Record) (handed : Sdus) (flown : Happened) (set : Bool) (s : Step) (k : Link)
+      (p : Part) → k.out ≡ [] → ((side : Side) (n : ℕ) → handed_by side n s k ≡ handed_in side n p (step s k).out)
+      → StepLives l Live told handed flown set s k
+      → PartLives told handed flown (set || sets l s) (renews s) p (step s k)
   step_plays told handed flown set s k p nothing given x =
       let m = step s k in
       let same : m.out ≡ x.more = x.out_is ∙ ap (λ (y : List Record). y ++ x.more) nothing in
       record {
         more = m.out;
-        lived = through.same _ _ _ _ _ _ (set || sets l s) (set || sets l s) m (ap (λ (y : List Record). told ++ y) (sym same))
+        lived = through.same _ _ _ _ _ _ (set || sets l s) (set || sets l s) m
+            (ap (λ (y : List Record). told ++ y) (sym same))
             (λ side n.
-            ap (λ (ys : List (List ℕ)). handed side n ++ (handed_by side n s k ++ ys)) (ap (looped_at side n) (sym same))
+            ap (λ (ys : List (List ℕ)). handed side n ++ (handed_by side n s k ++ ys))
+            (ap (looped_at side n) (sym same))
             ∙ ap (λ (ys : List (List ℕ)). handed side n ++ (ys ++ looped_at side n m.out)) (given side n))
-            (λ bits from. ap (λ (y : List Record). flown bits from ++ (renews s ++ tells_in bits l from [] y)) (sym same))
+            (λ bits from. ap (λ (y : List Record). flown bits from ++ (renews s ++ tells_in bits l from [] y))
+            (sym same))
             refl x.lived;
         told_are = λ side. refl;
         haps_are = λ d place. refl;
       }
 
-  line_by : (told : List Record) (handed : Sdus) (flown : Happened) (set : Bool) (s : Step) (k : Link) (p : Part) → k.out ≡ [] → ((side : Side) (n : ℕ) → handed_by side n s k ≡ handed_in side n p (step s k).out)
-      → IsStepSince l s → moves s ≡ false → Live told handed flown set k → PartLives told handed flown (set || sets l s) (renews s) p (step s k)
-  line_by told handed flown set s k p nothing given g own h = step_plays told handed flown set s k p nothing given (through.steps told handed flown set s k g own h)
+  line_by : (told : List Record) (handed : Sdus) (flown : Happened) (set : Bool) (s : Step) (k : Link) (p : Part)
+      → k.out ≡ [] → ((side : Side) (n : ℕ) → handed_by side n s k ≡ handed_in side n p (step s k).out)
+      → IsStepSince l s → moves s ≡ false → Live told handed flown set k
+      → PartLives told handed flown (set || sets l s) (renews s) p (step s k)
+  line_by told handed flown set s k p nothing given g own h =
+      step_plays told handed flown set s k p nothing given (through.steps told handed flown set s k g own h)
 
-  rests_by : (told : List Record) (handed : Sdus) (flown : Happened) (set : Bool) (c : calls.Call) (k : Link) → k.out ≡ [] → IsStepSince l (Calls c) → moves (Calls c) ≡ false → Live told handed flown set k
+  rests_by : (told : List Record) (handed : Sdus) (flown : Happened) (set : Bool) (c : calls.Call) (k : Link)
+      → k.out ≡ [] → IsStepSince l (Calls c) → moves (Calls c) ≡ false → Live told handed flown set k
       → PartLives told handed flown (set || sets l (Calls c)) (renews (Calls c)) Rests (calls.after c k)
-  rests_by told handed flown set c k nothing g own h = line_by told handed flown set (Calls c) k Rests nothing (λ side n. refl) g own h
+  rests_by told handed flown set c k nothing g own h =
+      line_by told handed flown set (Calls c) k Rests nothing (λ side n. refl) g own h
 
-  none_lives : (told : List Record) (handed : Sdus) (flown : Happened) (set : Bool) (k : Link) → k.out ≡ [] → Live told handed flown set k → PartLives told handed flown (set || false) [] Rests k
+  none_lives : (told : List Record) (handed : Sdus) (flown : Happened) (set : Bool) (k : Link) → k.out ≡ []
+      → Live told handed flown set k → PartLives told handed flown (set || false) [] Rests k
   none_lives told handed flown set k nothing h = record {
     more = [];
-    lived = through.same told (told ++ []) handed _ flown _ set (set || false) k (sym (append-nil told)) (λ side n. sym (no_more side n (handed side n)) ∙ ap (λ (y : List Record). handed side n ++ looped_at side n y) (sym nothing))
-        (λ bits from. sym (append-nil (flown bits from)) ∙ ap (λ (y : List Record). flown bits from ++ tells_in bits l from [] y) (sym nothing)) (sym (or_false set)) h;
+    lived = through.same told (told ++ []) handed _ flown _ set (set || false) k (sym (append-nil told))
+        (λ side n. sym (no_more side n (handed side n))
+        ∙ ap (λ (y : List Record). handed side n ++ looped_at side n y) (sym nothing))
+        (λ bits from. sym (append-nil (flown bits from))
+        ∙ ap (λ (y : List Record). flown bits from ++ tells_in bits l from [] y) (sym nothing))
+        (sym (or_false set)) h;
     told_are = λ side. ap (told_of side) nothing;
     haps_are = λ d place. ap (told_in d l place) nothing;
   }
 
-  submit_lives : (told : List Record) (handed : Sdus) (flown : Happened) (set : Bool) (side : Side) (lcid : ℕ) (octets : List ℕ) (k : Link) → k.out ≡ [] → Live told handed flown set k
+  submit_lives : (told : List Record) (handed : Sdus) (flown : Happened) (set : Bool) (side : Side) (lcid : ℕ)
+      (octets : List ℕ) (k : Link) → k.out ≡ [] → Live told handed flown set k
       → PartLives told handed flown (set || false) [] (Submits side lcid octets) (submitting side lcid octets k)
   submit_lives told handed flown set side lcid octets k nothing h =
       let why = option_map no_place (refusal lcid octets (end_of side k)) in
-      let out : (submitting side lcid octets k).out ≡ refusals side lcid why = (submitting_adds side lcid octets k).out_is ∙ ap (λ (x : List Record). x ++ refusals side lcid why) nothing in
+      let out : (submitting side lcid octets k).out ≡ refusals side lcid why =
+      (submitting_adds side lcid octets k).out_is
+      ∙ ap (λ (x : List Record). x ++ refusals side lcid why) nothing in
       line_by told handed flown set (Submit side lcid octets) k (Submits side lcid octets) nothing
-      (λ s n. sym (ap (λ (x : List Record). handed_in s n (Submits side lcid octets) x) out ∙ submit_handed (refusal lcid octets (end_of side k)) s side n lcid octets))
+      (λ s n. sym (ap (λ (x : List Record). handed_in s n (Submits side lcid octets) x) out
+      ∙ submit_handed (refusal lcid octets (end_of side k)) s side n lcid octets))
       tt refl h
 
-  drain_lives : (told : List Record) (handed : Sdus) (flown : Happened) (set : Bool) (grant : ℕ) (k : Link) → grant ≤ 9422 → k.out ≡ [] → Live told handed flown set k → PartLives told handed flown (set || false) [] (part (lines.Drain grant)) (record (drained grant k).link { out = (drained grant k).journal })
+  drain_lives : (told : List Record) (handed : Sdus) (flown : Happened) (set : Bool) (grant : ℕ) (k : Link)
+      → grant ≤ 9422 → k.out ≡ [] → Live told handed flown set k
+      → PartLives told handed flown (set || false) [] (part (lines.Drain grant))
+      (record (drained grant k).link { out = (drained grant k).journal })
   drain_lives told handed flown set grant k within nothing h =
       let w = drained_lives told handed flown set grant k within nothing h in
       let d = drained grant k in
       record {
         more = w.said;
         lived = through.same _ _ _ _ _ _ set (set || false) (record d.link { out = d.journal }) refl
-            (λ side n. ap (λ (ys : List (List ℕ)). handed side n ++ ys) (sym (ap (looped_at side n) w.journal_is ∙ unlooped_end side n w.said w.is_done w.done)))
-            (λ bits from. ap (λ (hs : List Happening). flown bits from ++ hs) (sym (ap (tells_in bits l from []) w.journal_is ∙ unflown_end bits l from w.said w.is_done w.done)))
+            (λ side n. ap (λ (ys : List (List ℕ)). handed side n ++ ys)
+            (sym (ap (looped_at side n) w.journal_is ∙ unlooped_end side n w.said w.is_done w.done)))
+            (λ bits from. ap (λ (hs : List Happening). flown bits from ++ hs)
+            (sym (ap (tells_in bits l from []) w.journal_is ∙ unflown_end bits l from w.said w.is_done w.done)))
             (sym (or_false set)) (through.unseen _ _ _ set d.link d.journal w.lived);
         told_are = λ side. ap (told_of side) w.journal_is ∙ untold_end side w.said w.is_done w.done;
         haps_are = λ d place. ap (told_in d l place) w.journal_is ∙ unsaid_end d l place w.said w.is_done w.done;
       }
 
   -- any line but a handover
-  pub line_stays : (told : List Record) (handed : Sdus) (flown : Happened) (set : Bool) (line : Line) (keys : Option Keys) (k : Link) → k.out ≡ [] → IsInRange line → adds_one l line ≡ false → forges line ≡ false → hands_over line ≡ false → Live told handed flown set k
+  pub line_stays : (told : List Record) (handed : Sdus) (flown : Happened) (set : Bool) (line : Line)
+      (keys : Option Keys) (k : Link) → k.out ≡ [] → IsInRange line → adds_one l line ≡ false → forges line ≡ false
+      → hands_over line ≡ false → Live told handed flown set k
       → PartLives told handed flown (set || sets_timer l line) (ended_by line) (part line) (played line keys k)
   unfolding acted
-  line_stays told handed flown set (lines.Harq maximum) keys k nothing fits other own here h = rests_by told handed flown set (calls.Visits maximum) k nothing (fits.some, fits.few) refl h
-  line_stays told handed flown set lines.Bsr keys k nothing fits other own here h = rests_by told handed flown set calls.Reports k nothing tt refl h
-  line_stays told handed flown set (lines.Keys ks) keys k nothing fits other own here h = none_lives told handed flown set k nothing h
-  line_stays told handed flown set (lines.Bearer config options) keys k nothing fits other own here h = rests_by told handed flown set (calls.Bears config (keys_or_none keys)) k nothing (fits, other) refl h
-  line_stays told handed flown set (lines.Submit side lcid octets) keys k nothing fits other own here h = submit_lives told handed flown set side lcid octets k nothing h
+  line_stays told handed flown set (lines.Harq maximum) keys k nothing fits other own here h =
+      rests_by told handed flown set (calls.Visits maximum) k nothing (fits.some, fits.few) refl h
+  line_stays told handed flown set lines.Bsr keys k nothing fits other own here h =
+      rests_by told handed flown set calls.Reports k nothing tt refl h
+  line_stays told handed flown set (lines.Keys ks) keys k nothing fits other own here h =
+      none_lives told handed flown set k nothing h
+  line_stays told handed flown set (lines.Bearer config options) keys k nothing fits other own here h =
+      rests_by told handed flown set (calls.Bears config (keys_or_none keys)) k nothing (fits, other) refl h
+  line_stays told handed flown set (lines.Submit side lcid octets) keys k nothing fits other own here h =
+      submit_lives told handed flown set side lcid octets k nothing h
   line_stays told handed flown set (lines.Tti up_grant up down_grant down) keys k nothing fits other own here h =
-      line_by told handed flown set (Tti up_grant up down_grant down) k _ nothing (λ side n. refl) (fits.up, fits.down) refl h
-  line_stays told handed flown set (lines.Expire side lcid clock) keys k nothing fits other own here h = rests_by told handed flown set (calls.Expires side lcid clock) k nothing tt refl h
+      line_by told handed flown set (Tti up_grant up down_grant down) k _ nothing (λ side n. refl) (
+        fits.up,
+        fits.down,
+      ) refl h
+  line_stays told handed flown set (lines.Expire side lcid clock) keys k nothing fits other own here h =
+      rests_by told handed flown set (calls.Expires side lcid clock) k nothing tt refl h
   line_stays told handed flown set (lines.Handover user rrc integrity) keys k nothing fits other own here h = absurd cc
-  line_stays told handed flown set lines.LoopOff keys k nothing fits other own here h = rests_by told handed flown set (calls.Loops Off) k nothing tt refl h
-  line_stays told handed flown set (lines.LoopA size) keys k nothing fits other own here h = rests_by told handed flown set (calls.Loops (A size)) k nothing tt refl h
-  line_stays told handed flown set (lines.LoopB delay) keys k nothing fits other own here h = rests_by told handed flown set (calls.Loops (B delay)) k nothing tt refl h
-  line_stays told handed flown set (lines.Drain grant) keys k nothing fits other own here h = drain_lives told handed flown set grant k fits nothing h
+  line_stays told handed flown set lines.LoopOff keys k nothing fits other own here h =
+      rests_by told handed flown set (calls.Loops Off) k nothing tt refl h
+  line_stays told handed flown set (lines.LoopA size) keys k nothing fits other own here h =
+      rests_by told handed flown set (calls.Loops (A size)) k nothing tt refl h
+  line_stays told handed flown set (lines.LoopB delay) keys k nothing fits other own here h =
+      rests_by told handed flown set (calls.Loops (B delay)) k nothing tt refl h
+  line_stays told handed flown set (lines.Drain grant) keys k nothing fits other own here h =
+      drain_lives told handed flown set grant k fits nothing h
   line_stays told handed flown set (lines.Forge side octets) keys k nothing fits other own here h = absurd cc
-  line_stays told handed flown set (lines.Discard lcid count) keys k nothing fits other own here h = rests_by told handed flown set (calls.Discards lcid count) k nothing tt refl h
-  line_stays told handed flown set (lines.Drx config) keys k nothing fits other own here h = rests_by told handed flown set (calls.Listens config) k nothing tt refl h
-  line_stays told handed flown set lines.End keys k nothing fits other own here h = none_lives told handed flown set k nothing h
+  line_stays told handed flown set (lines.Discard lcid count) keys k nothing fits other own here h =
+      rests_by told handed flown set (calls.Discards lcid count) k nothing tt refl h
+  line_stays told handed flown set (lines.Drx config) keys k nothing fits other own here h =
+      rests_by told handed flown set (calls.Listens config) k nothing tt refl h
+  line_stays told handed flown set lines.End keys k nothing fits other own here h =
+      none_lives told handed flown set k nothing h
 
 -- ---- of all lives
 
@@ -402,23 +517,28 @@ not_anew (Calls (calls.HandsOver keys)) own = absurd cc
 not_anew s own = refl
 
 module _ (l : ℕ) (nb ue : End) (bits : ℕ) (Um : Type 0) where
-  -- since both ends were these a link has come by air to what it is, and where the PDUs of the channel are those of unacknowledged RLC, that was so
-  -- much to a flow from each side
-  pub record Lived (told : List Record) (handed : Sdus) (flown : Happened) (haps : Haps) (set : Bool) (k : Link) : Type 0 where
+  -- since both ends were these a link has come by air to what it is, and where the PDUs of the channel are those of
+  -- unacknowledged RLC, that was so much to a flow from each side
+  pub record Lived (told : List Record) (handed : Sdus) (flown : Happened) (haps : Haps) (set : Bool) (k : Link) :
+      Type 0 where
     pub by : GoesByAir l told handed flown set k (outset nb ue)
     pub kinds : Um → IsShown l bits k.kinds
     pub whats_are : Um → (from : Side) → whats from l bits by.steps (outset nb ue) ≡ haps from
 
   -- and since these records more have told what it was
-  pub record LivesOn (first : List Record) (haps : Haps) (told : List Record) (handed : Sdus) (flown : Happened) (set : Bool) (k : Link) : Type 0 where
+  pub record LivesOn (first : List Record) (haps : Haps) (told : List Record) (handed : Sdus) (flown : Happened)
+      (set : Bool) (k : Link) : Type 0 where
     pub by : GoesByAir l told handed flown set k (outset nb ue)
     pub kinds : Um → IsShown l bits k.kinds
     pub since : List Record
     pub told_is : told ≡ first ++ since
-    pub whats_are : Um → (from : Side) (place : Place) → whats from l bits by.steps (outset nb ue) ≡ haps from ++ told_in (sent_by from) l place since
+    pub whats_are : Um → (from : Side) (place : Place)
+        → whats from l bits by.steps (outset nb ue) ≡ haps from ++ told_in (sent_by from) l place since
 
-  abbrev same_by : (told told' : List Record) (handed handed' : Sdus) (flown flown' : Happened) (set set' : Bool) (k : Link) → told ≡ told' → ((side : Side) (n : ℕ) → handed side n ≡ handed' side n)
-      → ((bits : ℕ) (from : Side) → flown bits from ≡ flown' bits from) → set ≡ set' → GoesByAir l told handed flown set k (outset nb ue) → GoesByAir l told' handed' flown' set' k (outset nb ue)
+  abbrev same_by : (told told' : List Record) (handed handed' : Sdus) (flown flown' : Happened) (set set' : Bool)
+      (k : Link) → told ≡ told' → ((side : Side) (n : ℕ) → handed side n ≡ handed' side n)
+      → ((bits : ℕ) (from : Side) → flown bits from ≡ flown' bits from) → set ≡ set'
+      → GoesByAir l told handed flown set k (outset nb ue) → GoesByAir l told' handed' flown' set' k (outset nb ue)
   same_by told told' handed handed' flown flown' set set' k e f a g h = record {
     steps = h.steps;
     living = h.living;
@@ -430,12 +550,20 @@ module _ (l : ℕ) (nb ue : End) (bits : ℕ) (Um : Type 0) where
   }
 
   -- records aren't looked at
-  pub unseen : (told : List Record) (handed : Sdus) (flown : Happened) (haps : Haps) (set : Bool) (k : Link) (out : List Record) → Lived told handed flown haps set k → Lived told handed flown haps set (record k { out = out })
+  pub unseen : (told : List Record) (handed : Sdus) (flown : Happened) (haps : Haps) (set : Bool) (k : Link)
+      (out : List Record) → Lived told handed flown haps set k
+      → Lived told handed flown haps set (record k { out = out })
   unseen told handed flown haps set k out h =
-      record { by = ends_come_by l told handed flown set k (record k { out = out }) (outset nb ue) refl refl refl h.by; kinds = h.kinds; whats_are = h.whats_are }
+      record {
+        by =
+            ends_come_by l told handed flown set k (record k { out = out }) (outset nb ue) refl refl refl h.by;
+        kinds = h.kinds;
+        whats_are = h.whats_are;
+      }
 
   -- a step, behind a word of each flow
-  goes_anew : (told : List Record) (handed : Sdus) (flown : Happened) (haps : Haps) (set : Bool) (s : Step) (k : Link) → IsStepSince l s → Lived told handed flown haps set k
+  goes_anew : (told : List Record) (handed : Sdus) (flown : Happened) (haps : Haps) (set : Bool) (s : Step) (k : Link)
+      → IsStepSince l s → Lived told handed flown haps set k
       → StepLives l (LivesOn told (with_word (anew s) haps)) told handed flown set s k
   goes_anew told handed flown haps set s k g h =
       let x = steps_come l told handed flown set s k (outset nb ue) g h.by in
@@ -450,12 +578,15 @@ module _ (l : ℕ) (nb ue : End) (bits : ℕ) (Um : Type 0) where
           told_is = refl;
           whats_are = λ um from place.
               let two = told_in (sent_by from) l place x.more in
-              x.shown bits (h.kinds um) from place ∙ (ap (λ (hs : List What). hs ++ (anew s ++ two)) (h.whats_are um from) ∙ sym (append_assoc (haps from) (anew s) two));
+              x.shown bits (h.kinds um) from place
+              ∙ (ap (λ (hs : List What). hs ++ (anew s ++ two)) (h.whats_are um from)
+              ∙ sym (append_assoc (haps from) (anew s) two));
         };
       }
 
   module _ (first : List Record) (haps : Haps) where
-    steps_on : (told : List Record) (handed : Sdus) (flown : Happened) (set : Bool) (s : Step) (k : Link) → IsStepSince l s → moves s ≡ false → LivesOn first haps told handed flown set k
+    steps_on : (told : List Record) (handed : Sdus) (flown : Happened) (set : Bool) (s : Step) (k : Link)
+        → IsStepSince l s → moves s ≡ false → LivesOn first haps told handed flown set k
         → StepLives l (LivesOn first haps) told handed flown set s k
     steps_on told handed flown set s k g own h =
         let x = steps_come l told handed flown set s k (outset nb ue) g h.by in
@@ -474,16 +605,30 @@ module _ (l : ℕ) (nb ue : End) (bits : ℕ) (Um : Type 0) where
                 x.shown bits (h.kinds um) from (place_behind place h.since)
                 ∙ (ap (λ (hs : List What). whats from l bits h.by.steps (outset nb ue) ++ (hs ++ two)) (not_anew s own)
                 ∙ (ap (λ (hs : List What). hs ++ two) (h.whats_are um from place)
-                ∙ (append_assoc (haps from) one two ∙ ap (λ (hs : List What). haps from ++ hs) (sym (in_then (sent_by from) l place h.since x.more)))));
+                ∙ (append_assoc (haps from) one two
+                ∙ ap (λ (hs : List What). haps from ++ hs) (sym (in_then (sent_by from) l place h.since x.more)))));
           };
         }
 
     pub through : GoesThrough l (LivesOn first haps)
     through = record {
       same = λ told told' handed handed' flown flown' set set' k e f a g h.
-          record { by = same_by told told' handed handed' flown flown' set set' k e f a g h.by; kinds = h.kinds; since = h.since; told_is = sym e ∙ h.told_is; whats_are = h.whats_are };
+          record {
+            by = same_by told told' handed handed' flown flown' set set' k e f a g h.by;
+            kinds = h.kinds;
+            since = h.since;
+            told_is = sym e ∙ h.told_is;
+            whats_are = h.whats_are;
+          };
       unseen = λ told handed flown set k out h.
-          record { by = ends_come_by l told handed flown set k (record k { out = out }) (outset nb ue) refl refl refl h.by; kinds = h.kinds; since = h.since; told_is = h.told_is; whats_are = h.whats_are };
+          record {
+            by =
+                ends_come_by l told handed flown set k (record k { out = out }) (outset nb ue) refl refl refl h.by;
+            kinds = h.kinds;
+            since = h.since;
+            told_is = h.told_is;
+            whats_are = h.whats_are;
+          };
       steps = steps_on;
     }
 
@@ -491,33 +636,45 @@ module _ (l : ℕ) (nb ue : End) (bits : ℕ) (Um : Type 0) where
     LineLives = PartLives l (LivesOn first haps) through
 
     -- behind a line
-    pub lived_now : (more : List Record) (handed : Sdus) (flown : Happened) (set : Bool) (k : Link) (place : Place) → LivesOn first haps (first ++ more) handed flown set k
+    pub lived_now : (more : List Record) (handed : Sdus) (flown : Happened) (set : Bool) (k : Link) (place : Place)
+        → LivesOn first haps (first ++ more) handed flown set k
         → Lived (first ++ more) handed flown (λ from. haps from ++ told_in (sent_by from) l place more) set k
     lived_now more handed flown set k place h = record {
       by = h.by;
       kinds = h.kinds;
-      whats_are = λ um from. h.whats_are um from place ∙ ap (λ (xs : List Record). haps from ++ told_in (sent_by from) l place xs) (cancel first h.since more (sym h.told_is));
+      whats_are = λ um from. h.whats_are um from place
+          ∙ ap (λ (xs : List Record). haps from ++ told_in (sent_by from) l place xs)
+          (cancel first h.since more (sym h.told_is));
     }
 
   -- at the beginning of a line that says nothing of a flow
-  lives_first : (word : List What) (told : List Record) (handed : Sdus) (flown : Happened) (haps : Haps) (set : Bool) (k : Link) → word ≡ [] → Lived told handed flown haps set k → LivesOn told (with_word word haps) told handed flown set k
+  lives_first : (word : List What) (told : List Record) (handed : Sdus) (flown : Happened) (haps : Haps) (set : Bool)
+      (k : Link) → word ≡ [] → Lived told handed flown haps set k
+      → LivesOn told (with_word word haps) told handed flown set k
   lives_first word told handed flown haps set k none h = record {
     by = h.by;
     kinds = h.kinds;
     since = [];
     told_is = sym (append-nil told);
-    whats_are = λ um from place. h.whats_are um from ∙ (sym (append-nil (haps from)) ∙ (ap (λ (hs : List What). haps from ++ hs) (sym none) ∙ sym (append-nil (haps from ++ word))));
+    whats_are = λ um from place. h.whats_are um from
+        ∙ (sym (append-nil (haps from))
+        ∙ (ap (λ (hs : List What). haps from ++ hs) (sym none) ∙ sym (append-nil (haps from ++ word))));
   }
 
-  pub line_lives : (told : List Record) (handed : Sdus) (flown : Happened) (haps : Haps) (set : Bool) (line : Line) (keys : Option Keys) (k : Link) → k.out ≡ [] → IsInRange line → adds_one l line ≡ false → forges line ≡ false
-      → Lived told handed flown haps set k → LineLives told (with_word (word_of line) haps) told handed flown (set || sets_timer l line) (ended_by line) (part line) (played line keys k)
+  pub line_lives : (told : List Record) (handed : Sdus) (flown : Happened) (haps : Haps) (set : Bool) (line : Line)
+      (keys : Option Keys) (k : Link) → k.out ≡ [] → IsInRange line → adds_one l line ≡ false → forges line ≡ false
+      → Lived told handed flown haps set k
+      → LineLives told (with_word (word_of line) haps) told handed flown (set || sets_timer l line) (ended_by line)
+      (part line) (played line keys k)
   unfolding acted
   line_lives told handed flown haps set (lines.Handover user rrc integrity) keys k nothing fits other own h =
       let s = Calls (calls.HandsOver (next_keys user rrc integrity (keys_or_none keys))) in
-      step_plays l (LivesOn told (with_word (anew s) haps)) (through told (with_word (anew s) haps)) told handed flown set s k Rests nothing (λ side n. refl) (goes_anew told handed flown haps set s k tt h)
+      step_plays l (LivesOn told (with_word (anew s) haps)) (through told (with_word (anew s) haps)) told handed flown
+      set s k Rests nothing (λ side n. refl) (goes_anew told handed flown haps set s k tt h)
   line_lives told handed flown haps set line keys k nothing fits other own h =
       let word = word_of line in
-      line_stays l (LivesOn told (with_word word haps)) (through told (with_word word haps)) told handed flown set line keys k nothing fits other own refl (lives_first word told handed flown haps set k refl h)
+      line_stays l (LivesOn told (with_word word haps)) (through told (with_word word haps)) told handed flown set
+      line keys k nothing fits other own refl (lives_first word told handed flown haps set k refl h)
 
 -- ---- of one life, in which it doesn't matter what went by air
 
@@ -525,12 +682,17 @@ module _ (l : ℕ) (nb ue : End) where
   abbrev pub InOneLife : List Record → Sdus → Happened → Bool → Link → Type 0
   InOneLife told handed flown set k = LivedIn l nb ue told handed set k
 
-  life_steps : (told : List Record) (handed : Sdus) (flown : Happened) (set : Bool) (s : Step) (k : Link) → IsStepSince l s → moves s ≡ false → LivedIn l nb ue told handed set k → StepLives l InOneLife told handed flown set s k
-  life_steps told handed flown set s k g own h = let x = steps_live_in l nb ue told handed set s k g own h in record { more = x.more; out_is = x.out_is; alone = x.alone; lived = x.lived }
+  life_steps : (told : List Record) (handed : Sdus) (flown : Happened) (set : Bool) (s : Step) (k : Link)
+      → IsStepSince l s → moves s ≡ false → LivedIn l nb ue told handed set k
+      → StepLives l InOneLife told handed flown set s k
+  life_steps told handed flown set s k g own h = let x = steps_live_in l nb ue told handed set s k g own h in
+      record { more = x.more; out_is = x.out_is; alone = x.alone; lived = x.lived }
 
   pub through_life : GoesThrough l InOneLife
   through_life = record {
-    same = λ told told' handed handed' flown flown' set set' k e f a g h. lived_in_as l nb ue told told' handed handed' set set' k e f g h;
-    unseen = λ told handed flown set k out h. ends_live_in l nb ue told handed set k (record k { out = out }) refl refl refl h;
+    same = λ told told' handed handed' flown flown' set set' k e f a g h. lived_in_as l nb ue told told' handed
+        handed' set set' k e f g h;
+    unseen = λ told handed flown set k out h. ends_live_in l nb ue told handed set k (record k { out = out }) refl
+        refl refl h;
     steps = life_steps;
   }

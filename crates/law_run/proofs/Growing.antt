@@ -28,12 +28,23 @@ abbrev group : ℕ → Line → List Record → Group
 group number line events = record { number = number; line = line; events = events }
 
 -- a group is added
-adds : (past : List Group) (number : ℕ) (line : Line) → KeepsOrder past → IsWithin line → refusal line (state_behind past).rules (state_behind past).link ≡ None
+adds : (past : List Group) (number : ℕ) (line : Line) → KeepsOrder past → IsWithin line
+    → refusal line (state_behind past).rules (state_behind past).link ≡ None
     → Grows past (done line (state_behind past)) (records.Line number line ∷ (behind_line line (state_behind past)).out)
 adds past number line order fits allowed = record {
   later = group number line (behind_line line (state_behind past)).out ∷ past;
   state_is = refl;
-  order = (record { in_range = in-range line fits; count = has-count line fits; allowed = allowed; events_are = refl; of_its_time = of_their_time past line (behind past order); blocks = line_is_told past line order (in-range line fits) }, order);
+  order = (
+    record {
+      in_range = in-range line fits;
+      count = has-count line fits;
+      allowed = allowed;
+      events_are = refl;
+      of_its_time = of_their_time past line (behind past order);
+      blocks = line_is_told past line order (in-range line fits);
+    },
+    order,
+  );
   history_is = refl;
 }
 
@@ -43,7 +54,8 @@ LineTo past (Goes t part) = Grows past t part
 LineTo past (Ends t part) = Grows past t part
 LineTo past (Refuses reason) = Unit {0}
 
-left-to : (past : List Group) (line : Line) (left : Left) → Grows past left.state left.journal → LineTo past (left_by line (Ok left))
+left-to : (past : List Group) (line : Line) (left : Left) → Grows past left.state left.journal
+    → LineTo past (left_by line (Ok left))
 left-to past lines.End left g = g
 left-to past (lines.Bearer config options) left g = g
 left-to past (lines.Submit side lcid octets) left g = g
@@ -61,7 +73,8 @@ left-to past (lines.Forge side octets) left g = g
 left-to past (lines.Discard lcid count) left g = g
 left-to past (lines.Drx config) left g = g
 
-step-to : (past : List Group) (number : ℕ) (line : Line) (broken : Option RunRefusal) → refusal line (state_behind past).rules (state_behind past).link ≡ broken → KeepsOrder past → IsWithin line
+step-to : (past : List Group) (number : ℕ) (line : Line) (broken : Option RunRefusal)
+    → refusal line (state_behind past).rules (state_behind past).link ≡ broken → KeepsOrder past → IsWithin line
     → LineTo past (left_by line (step_by broken (state_behind past) number line))
 step-to past number line (Some why) e order fits = tt
 step-to past number line None e order fits = left-to past line _ (adds past number line order fits e)
@@ -70,10 +83,12 @@ step-to past number line None e order fits = left-to past line _ (adds past numb
 stays : (past : List Group) → KeepsOrder past → Grows past (state_behind past) []
 stays past order = record { later = past; state_is = refl; order = order; history_is = sym (append-nil (history past)) }
 
-read-to : (past : List Group) (number : ℕ) (text : List ℕ) (read : Result (Option Line) LineRefusal) → read_of text ≡ read → KeepsOrder past → LineTo past (read_by (state_behind past) number read)
+read-to : (past : List Group) (number : ℕ) (text : List ℕ) (read : Result (Option Line) LineRefusal)
+    → read_of text ≡ read → KeepsOrder past → LineTo past (read_by (state_behind past) number read)
 read-to past number text (Err refused) e order = tt
 read-to past number text (Ok None) e order = stays past order
 read-to past number text (Ok (Some line)) e order = step-to past number line _ refl order (read-within text line e)
 
-pub line-to : (past : List Group) (number : ℕ) (text : List ℕ) → KeepsOrder past → LineTo past (script_line (state_behind past) number text)
+pub line-to : (past : List Group) (number : ℕ) (text : List ℕ) → KeepsOrder past
+    → LineTo past (script_line (state_behind past) number text)
 line-to past number text order = read-to past number text (read_of text) refl order

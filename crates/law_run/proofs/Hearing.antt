@@ -1,5 +1,6 @@
 -- What the records of a TTI are to a HARQ process.
-use Rattle.std.proofs.Common.{◌≡◌, ◌≤◌, ℕ, zero, suc, ◌%◌, ◌==◌, ◌⊎◌, arith, Bool, true, false, ◌||◌, cond, None, List, [], ◌∷◌, ◌++◌, refl, ap, ◌∙◌, inl, inr}
+use Rattle.std.proofs.Common.{◌≡◌, ◌≤◌, ℕ, zero, suc, ◌%◌, ◌==◌, ◌⊎◌, arith, Bool, true, false, ◌||◌, cond, None, List}
+use Rattle.std.proofs.Common.{[], ◌∷◌, ◌++◌, refl, ap, ◌∙◌, inl, inr}
 use Rattle.std.specs.List.{filter}
 use Rattle.air_record.specs.declared.line.Outcome.{Outcome}
 use Rattle.air_record.specs.declared.record.Arrived.{Arrived}
@@ -16,7 +17,8 @@ use Rattle.promises.specs.Heard.{Flight, idle, Heard, hears, heard}
 
 -- ---- records that tell a process nothing
 
-ignored : (way : Direction) (p : ℕ) (one : Record) (h : Heard) → is_of_air one ≡ false → is_of_run one ≡ false → hears way p one h ≡ h
+ignored : (way : Direction) (p : ℕ) (one : Record) (h : Heard) → is_of_air one ≡ false → is_of_run one ≡ false
+    → hears way p one h ≡ h
 ignored way p (records.Line number line) h a r = cc
 ignored way p (records.Tti tti) h a r = cc
 ignored way p records.Sleep h a r = cc
@@ -53,19 +55,23 @@ none_after : (b : Bool) (one : Record) (xs : List Record) → cond b (one ∷ xs
 none_after true one xs e = cc
 none_after false one xs e = e
 
-passed : (way : Direction) (p : ℕ) (one : Record) (told : List Record) (a : Bool) → is_of_air one ≡ a → is_of_run one ≡ false → ((h : Heard) → heard way p told h ≡ heard way p (filter is_of_air told) h)
-    → (h : Heard) → heard way p (one ∷ told) h ≡ heard way p (cond a (one ∷ filter is_of_air told) (filter is_of_air told)) h
+passed : (way : Direction) (p : ℕ) (one : Record) (told : List Record) (a : Bool) → is_of_air one ≡ a
+    → is_of_run one ≡ false → ((h : Heard) → heard way p told h ≡ heard way p (filter is_of_air told) h)
+    → (h : Heard) → heard way p (one ∷ told) h
+    ≡ heard way p (cond a (one ∷ filter is_of_air told) (filter is_of_air told)) h
 passed way p one told true e r rest h = rest (hears way p one h)
 passed way p one told false e r rest h = ap (λ (x : Heard). heard way p told x) (ignored way p one h e r) ∙ rest h
 
 -- only what is told of the air counts
-pub of_air_alone : (way : Direction) (p : ℕ) (told : List Record) → filter is_of_run told ≡ [] → (h : Heard) → heard way p told h ≡ heard way p (filter is_of_air told) h
+pub of_air_alone : (way : Direction) (p : ℕ) (told : List Record) → filter is_of_run told ≡ [] → (h : Heard)
+    → heard way p told h ≡ heard way p (filter is_of_air told) h
 of_air_alone way p [] none h = refl
 of_air_alone way p (one ∷ told) none h =
     passed way p one told (is_of_air one) refl (none_first (is_of_run one) one (filter is_of_run told) none)
     (λ x. of_air_alone way p told (none_after (is_of_run one) one (filter is_of_run told) none) x) h
 
-pub heard_then : (way : Direction) (p : ℕ) (a b : List Record) (h : Heard) → heard way p (a ++ b) h ≡ heard way p b (heard way p a h)
+pub heard_then : (way : Direction) (p : ℕ) (a b : List Record) (h : Heard)
+    → heard way p (a ++ b) h ≡ heard way p b (heard way p a h)
 heard_then way p [] b h = refl
 heard_then way p (one ∷ a) b h = heard_then way p a b (hears way p one h)
 
@@ -84,7 +90,8 @@ done false lost f past = record { lost = lost; here = false; flights = past }
 abbrev pub flown : Bool → List Record → Flight
 flown missed told = record { deed = deed_of told; came = came_of told; missed = missed }
 
-sleeps_first : (way : Direction) (p : ℕ) (b asleep lost : Bool) (past : List Flight) → heard way p (sleeping asleep) (begun b lost lost past) ≡ begun b lost (asleep || lost) past
+sleeps_first : (way : Direction) (p : ℕ) (b asleep lost : Bool) (past : List Flight)
+    → heard way p (sleeping asleep) (begun b lost lost past) ≡ begun b lost (asleep || lost) past
 sleeps_first way p true true lost past = refl
 sleeps_first way p false true lost past = refl
 sleeps_first way p true false lost past = refl
@@ -94,26 +101,32 @@ sleeps_first way p false false lost past = refl
 abbrev flight : Direction → ℕ → Bool → ℕ → List ℕ → Arrived → Outcome → List Record
 flight d process fresh version octets what o = records.Block d process fresh version octets ∷ came d what o ∷ []
 
-down_own : (b fresh lost missed : Bool) (p process version : ℕ) (octets : List ℕ) (what : Arrived) (o : Outcome) (past : List Flight)
-    → heard Down p (flight Down process fresh version octets what o) (begun b lost missed past) ≡ done b lost (flown missed (flight Down process fresh version octets what o)) past
+down_own : (b fresh lost missed : Bool) (p process version : ℕ) (octets : List ℕ) (what : Arrived) (o : Outcome)
+    (past : List Flight)
+    → heard Down p (flight Down process fresh version octets what o) (begun b lost missed past)
+    ≡ done b lost (flown missed (flight Down process fresh version octets what o)) past
 down_own true true lost missed p process version octets what o past = refl
 down_own true false lost missed p process version octets what o past = refl
 down_own false true lost missed p process version octets what o past = refl
 down_own false false lost missed p process version octets what o past = refl
 
-up_own : (b fresh lost missed : Bool) (p process version : ℕ) (octets : List ℕ) (what : Arrived) (o : Outcome) (past : List Flight)
-    → heard Up p (flight Up process fresh version octets what o) (begun b lost missed past) ≡ done b lost (flown missed (flight Up process fresh version octets what o)) past
+up_own : (b fresh lost missed : Bool) (p process version : ℕ) (octets : List ℕ) (what : Arrived) (o : Outcome)
+    (past : List Flight)
+    → heard Up p (flight Up process fresh version octets what o) (begun b lost missed past)
+    ≡ done b lost (flown missed (flight Up process fresh version octets what o)) past
 up_own true true lost missed p process version octets what o past = refl
 up_own true false lost missed p process version octets what o past = refl
 up_own false true lost missed p process version octets what o past = refl
 up_own false false lost missed p process version octets what o past = refl
 
-down_other : (b lost missed : Bool) (p process : ℕ) (fresh : Bool) (version : ℕ) (octets : List ℕ) (what : Arrived) (o : Outcome) (past : List Flight)
+down_other : (b lost missed : Bool) (p process : ℕ) (fresh : Bool) (version : ℕ) (octets : List ℕ) (what : Arrived)
+    (o : Outcome) (past : List Flight)
     → heard Up p (flight Down process fresh version octets what o) (begun b lost missed past) ≡ begun b lost missed past
 down_other true lost missed p process fresh version octets what o past = refl
 down_other false lost missed p process fresh version octets what o past = refl
 
-up_other : (b lost : Bool) (f : Flight) (p process : ℕ) (fresh : Bool) (version : ℕ) (octets : List ℕ) (what : Arrived) (o : Outcome) (past : List Flight)
+up_other : (b lost : Bool) (f : Flight) (p process : ℕ) (fresh : Bool) (version : ℕ) (octets : List ℕ)
+    (what : Arrived) (o : Outcome) (past : List Flight)
     → heard Down p (flight Up process fresh version octets what o) (done b lost f past) ≡ done b lost f past
 up_other true lost f p process fresh version octets what o past = refl
 up_other false lost f p process fresh version octets what o past = refl
@@ -128,47 +141,58 @@ none_or_some zero = inl refl
 none_or_some (suc n) = inr (omega arith)
 
 -- the downlink's block, to both directions
-down_is : (t grant : ℕ) (o : Outcome) (told : List Record) (p : ℕ) (b lost missed : Bool) (past : List Flight) → IsDown t grant o told
+down_is : (t grant : ℕ) (o : Outcome) (told : List Record) (p : ℕ) (b lost missed : Bool) (past : List Flight)
+    → IsDown t grant o told
     → heard Down p told (begun b lost missed past) ≡ done b lost (flown missed told) past
 down_is t grant o told p b lost missed past d = elim (none_or_some grant) [
   | inl e ↦ rw (d.none e) (silent b lost missed past)
   | inr h ↦ let f = d.one h in rw f.flown_is (down_own b f.fresh lost missed p (t % 8) f.version f.octets f.what o past)
 ]
 
-down_is_not_up : (t grant : ℕ) (o : Outcome) (told : List Record) (p : ℕ) (b lost missed : Bool) (past : List Flight) → IsDown t grant o told
+down_is_not_up : (t grant : ℕ) (o : Outcome) (told : List Record) (p : ℕ) (b lost missed : Bool) (past : List Flight)
+    → IsDown t grant o told
     → heard Up p told (begun b lost missed past) ≡ begun b lost missed past
 down_is_not_up t grant o told p b lost missed past d = elim (none_or_some grant) [
   | inl e ↦ rw (d.none e) refl
-  | inr h ↦ let f = d.one h in rw f.flown_is (down_other b lost missed p (t % 8) f.fresh f.version f.octets f.what o past)
+  | inr h ↦ let f = d.one h in
+      rw f.flown_is (down_other b lost missed p (t % 8) f.fresh f.version f.octets f.what o past)
 ]
 
 unanswered : (p : ℕ) (b lost missed : Bool) (past : List Flight)
-    → heard Up p (records.Air Up arriveds.Nothing None ∷ []) (begun b lost missed past) ≡ done b lost (flown missed (records.Air Up arriveds.Nothing None ∷ [])) past
+    → heard Up p (records.Air Up arriveds.Nothing None ∷ []) (begun b lost missed past)
+    ≡ done b lost (flown missed (records.Air Up arriveds.Nothing None ∷ [])) past
 unanswered p true lost missed past = refl
 unanswered p false lost missed past = refl
 
-unanswered_down : (p : ℕ) (b lost : Bool) (f : Flight) (past : List Flight) → heard Down p (records.Air Up arriveds.Nothing None ∷ []) (done b lost f past) ≡ done b lost f past
+unanswered_down : (p : ℕ) (b lost : Bool) (f : Flight) (past : List Flight)
+    → heard Down p (records.Air Up arriveds.Nothing None ∷ []) (done b lost f past) ≡ done b lost f past
 unanswered_down p true lost f past = refl
 unanswered_down p false lost f past = refl
 
-some_up : (t : ℕ) (o : Outcome) (told : List Record) (p : ℕ) (b lost missed : Bool) (past : List Flight) → FliesUp t o told ⊎ IsUnanswered o told
+some_up : (t : ℕ) (o : Outcome) (told : List Record) (p : ℕ) (b lost missed : Bool) (past : List Flight)
+    → FliesUp t o told ⊎ IsUnanswered o told
     → heard Up p told (begun b lost missed past) ≡ done b lost (flown missed told) past
-some_up t o told p b lost missed past (inl f) = rw f.flown_is (up_own b f.fresh lost missed p (t % 8) f.version f.octets _ o past)
+some_up t o told p b lost missed past (inl f) =
+    rw f.flown_is (up_own b f.fresh lost missed p (t % 8) f.version f.octets _ o past)
 some_up t o told p b lost missed past (inr u) = rw u.flown_is (unanswered p b lost missed past)
 
-up_is : (t grant : ℕ) (o : Outcome) (told : List Record) (p : ℕ) (b lost missed : Bool) (past : List Flight) → IsUp t grant o told
+up_is : (t grant : ℕ) (o : Outcome) (told : List Record) (p : ℕ) (b lost missed : Bool) (past : List Flight)
+    → IsUp t grant o told
     → heard Up p told (begun b lost missed past) ≡ done b lost (flown missed told) past
 up_is t grant o told p b lost missed past u = elim (none_or_some grant) [
   | inl e ↦ rw (u.none e) (silent b lost missed past)
   | inr h ↦ some_up t o told p b lost missed past (u.one h)
 ]
 
-some_not_down : (t : ℕ) (o : Outcome) (told : List Record) (p : ℕ) (b lost : Bool) (f : Flight) (past : List Flight) → FliesUp t o told ⊎ IsUnanswered o told
+some_not_down : (t : ℕ) (o : Outcome) (told : List Record) (p : ℕ) (b lost : Bool) (f : Flight) (past : List Flight)
+    → FliesUp t o told ⊎ IsUnanswered o told
     → heard Down p told (done b lost f past) ≡ done b lost f past
-some_not_down t o told p b lost f past (inl u) = rw u.flown_is (up_other b lost f p (t % 8) u.fresh u.version u.octets _ o past)
+some_not_down t o told p b lost f past (inl u) =
+    rw u.flown_is (up_other b lost f p (t % 8) u.fresh u.version u.octets _ o past)
 some_not_down t o told p b lost f past (inr u) = rw u.flown_is (unanswered_down p b lost f past)
 
-up_is_not_down : (t grant : ℕ) (o : Outcome) (told : List Record) (p : ℕ) (b lost : Bool) (f : Flight) (past : List Flight) → IsUp t grant o told
+up_is_not_down : (t grant : ℕ) (o : Outcome) (told : List Record) (p : ℕ) (b lost : Bool) (f : Flight)
+    (past : List Flight) → IsUp t grant o told
     → heard Down p told (done b lost f past) ≡ done b lost f past
 up_is_not_down t grant o told p b lost f past u = elim (none_or_some grant) [
   | inl e ↦ rw (u.none e) refl
@@ -186,7 +210,8 @@ pub record Visits (own : Bool) (f : Flight) (before after : Heard) : Type 0 wher
   pub flights_are : after.flights ≡ with_flight own f before.flights
   pub lost_is : after.lost ≡ before.lost
 
-begins : (way : Direction) (p t : ℕ) (h : Heard) (b : Bool) → (p == t % 8) ≡ b → hears way p (records.Tti t) h ≡ begun b h.lost h.lost h.flights
+begins : (way : Direction) (p t : ℕ) (h : Heard) (b : Bool) → (p == t % 8) ≡ b
+    → hears way p (records.Tti t) h ≡ begun b h.lost h.lost h.flights
 begins way p t h true e = rw e refl
 begins way p t h false e = rw e refl
 
@@ -194,8 +219,10 @@ visited : (b : Bool) (f : Flight) (h q : Heard) → q ≡ done b h.lost f h.flig
 visited true f h q e = record { flights_are = ap (λ (x : Heard). x.flights) e; lost_is = ap (λ (x : Heard). x.lost) e }
 visited false f h q e = record { flights_are = ap (λ (x : Heard). x.flights) e; lost_is = ap (λ (x : Heard). x.lost) e }
 
-parts : (way : Direction) (p t : ℕ) (asleep : Bool) (downward upward more : List Record) (h : Heard) → filter is_of_run more ≡ [] → filter is_of_air more ≡ sleeping asleep ++ (downward ++ upward)
-    → heard way p (records.Tti t ∷ more) h ≡ heard way p upward (heard way p downward (begun (p == t % 8) h.lost (asleep || h.lost) h.flights))
+parts : (way : Direction) (p t : ℕ) (asleep : Bool) (downward upward more : List Record) (h : Heard)
+    → filter is_of_run more ≡ [] → filter is_of_air more ≡ sleeping asleep ++ (downward ++ upward)
+    → heard way p (records.Tti t ∷ more) h
+    ≡ heard way p upward (heard way p downward (begun (p == t % 8) h.lost (asleep || h.lost) h.flights))
 parts way p t asleep downward upward more h none air =
     let b = p == t % 8 in
     of_air_alone way p more none (hears way p (records.Tti t) h)
@@ -205,19 +232,24 @@ parts way p t asleep downward upward more h none air =
     ∙ ap (λ (x : Heard). heard way p (downward ++ upward) x) (sleeps_first way p b asleep h.lost h.flights)
     ∙ heard_then way p downward upward (begun b h.lost (asleep || h.lost) h.flights)
 
-pub tti_down : (p t up_grant : ℕ) (up : Outcome) (down_grant : ℕ) (down : Outcome) (asleep : Bool) (downward upward more : List Record) (h : Heard)
-    → filter is_of_run more ≡ [] → filter is_of_air more ≡ sleeping asleep ++ (downward ++ upward) → IsDown t down_grant down downward → IsUp t up_grant up upward
+pub tti_down : (p t up_grant : ℕ) (up : Outcome) (down_grant : ℕ) (down : Outcome) (asleep : Bool)
+    (downward upward more : List Record) (h : Heard)
+    → filter is_of_run more ≡ [] → filter is_of_air more ≡ sleeping asleep ++ (downward ++ upward)
+    → IsDown t down_grant down downward → IsUp t up_grant up upward
     → Visits (p == t % 8) (flown (asleep || h.lost) downward) h (heard Down p (records.Tti t ∷ more) h)
 tti_down p t up_grant up down_grant down asleep downward upward more h none air d u =
     let b = p == t % 8 in
     let f = flown (asleep || h.lost) downward in
     visited b f h (heard Down p (records.Tti t ∷ more) h)
     (parts Down p t asleep downward upward more h none air
-    ∙ ap (λ (x : Heard). heard Down p upward x) (down_is t down_grant down downward p b h.lost (asleep || h.lost) h.flights d)
+    ∙ ap (λ (x : Heard). heard Down p upward x)
+    (down_is t down_grant down downward p b h.lost (asleep || h.lost) h.flights d)
     ∙ up_is_not_down t up_grant up upward p b h.lost f h.flights u)
 
-pub tti_up : (p t up_grant : ℕ) (up : Outcome) (down_grant : ℕ) (down : Outcome) (asleep : Bool) (downward upward more : List Record) (h : Heard)
-    → filter is_of_run more ≡ [] → filter is_of_air more ≡ sleeping asleep ++ (downward ++ upward) → IsDown t down_grant down downward → IsUp t up_grant up upward
+pub tti_up : (p t up_grant : ℕ) (up : Outcome) (down_grant : ℕ) (down : Outcome) (asleep : Bool)
+    (downward upward more : List Record) (h : Heard)
+    → filter is_of_run more ≡ [] → filter is_of_air more ≡ sleeping asleep ++ (downward ++ upward)
+    → IsDown t down_grant down downward → IsUp t up_grant up upward
     → Visits (p == t % 8) (flown (asleep || h.lost) upward) h (heard Up p (records.Tti t ∷ more) h)
 tti_up p t up_grant up down_grant down asleep downward upward more h none air d u =
     let b = p == t % 8 in

@@ -1,5 +1,7 @@
 -- Each bearer of an end is known as what it is, so that what shows a new block shows the PDUs that are told of.
-use Rattle.std.proofs.Common.{◌≡◌, ◌<◌, ◌≤◌, ℕ, ◌==◌, Bool, true, false, if◌then◌else◌, Option, Some, None, List, [], ◌∷◌, ◌++◌, length, get_or-set_same, get_or-set_other, refl, ap, sym, subst, ◌∙◌, arith, inl, inr}
+use Rattle.std.proofs.Common.{◌≡◌, ◌<◌, ◌≤◌, ℕ, ◌==◌, Bool, true, false, if◌then◌else◌, Option, Some, None, List, []}
+use Rattle.std.proofs.Common.{◌∷◌, ◌++◌, length, get_or-set_same, get_or-set_other, refl, ap, sym, subst, ◌∙◌, arith}
+use Rattle.std.proofs.Common.{inl, inr}
 use Rattle.std.specs.Prelude.{slice_index_or, unwrap_or}
 use Rattle.std.specs.List.{filter}
 use Rattle.std.proofs.Math.ListN.{length-set}
@@ -28,7 +30,8 @@ use Rattle.law_air.proofs.AnyCalls.Blocks.{some_by}
 use Rattle.law_air.proofs.AnyCalls.Going.{lives_then}
 use Rattle.law_air.proofs.AnyCalls.Named.{blocks_are_shown}
 use Rattle.law_node.specs.Bearers.{adds, AddNone, IsAdded}
-use Rattle.law_node.specs.Calls.{Call, SetVisits, SetReports, Add, Submit, SetDiscard, Tick, TickBuckets, Visits, Grants, Granted, Assigned, Pass, Receive, Expire, Move, IsGiven, AreGiven, reached}
+use Rattle.law_node.specs.Calls.{Call, SetVisits, SetReports, Add, Submit, SetDiscard, Tick, TickBuckets, Visits}
+use Rattle.law_node.specs.Calls.{Grants, Granted, Assigned, Pass, Receive, Expire, Move, IsGiven, AreGiven, reached}
 use Rattle.law_node.specs.Holding.{flow}
 use Rattle.law_node.specs.Names.{mode, modes_of}
 use Rattle.promises.specs.Names.{Mode}
@@ -47,7 +50,8 @@ abbrev pub kinds_over : List Call → List (Option Layout) → List (Option Layo
 kinds_over [] ks = ks
 kinds_over (c ∷ cs) ks = kinds_over cs (kinds_in c ks)
 
-over_then : (xs ys : List Call) (ks : List (Option Layout)) → kinds_over (xs ++ ys) ks ≡ kinds_over ys (kinds_over xs ks)
+over_then : (xs ys : List Call) (ks : List (Option Layout))
+    → kinds_over (xs ++ ys) ks ≡ kinds_over ys (kinds_over xs ks)
 over_then [] ys ks = refl
 over_then (x ∷ xs) ys ks = over_then xs ys (kinds_in x ks)
 
@@ -78,7 +82,8 @@ record Leaves (c : Call) (ks : List (Option Layout)) : Type 0 where
   same : (lcid : ℕ) → adds lcid c ≡ false → slice_index_or (kinds_in c ks) lcid None ≡ slice_index_or ks lcid None
 
 untouched : (c : Call) (ks : List (Option Layout)) → kinds_in c ks ≡ ks → Leaves c ks
-untouched c ks e = record { long = ap length e; same = λ lcid free. ap (λ (x : List (Option Layout)). slice_index_or x lcid None) e }
+untouched c ks e =
+    record { long = ap length e; same = λ lcid free. ap (λ (x : List (Option Layout)). slice_index_or x lcid None) e }
 
 apart : (n l : ℕ) → (n == l) ≡ false → l ≡ n → ⊥
 apart n l e same = let test : (n == l) ≡ true = grind (arith, nat_tests) in let no : true ≡ false = sym test ∙ e in cc
@@ -109,7 +114,8 @@ over_long : (cs : List Call) (ks : List (Option Layout)) → length (kinds_over 
 over_long [] ks = refl
 over_long (c ∷ cs) ks = over_long cs (kinds_in c ks) ∙ (leaves c ks).long
 
-over_same : (lcid : ℕ) (cs : List Call) (ks : List (Option Layout)) → AddNone lcid cs → slice_index_or (kinds_over cs ks) lcid None ≡ slice_index_or ks lcid None
+over_same : (lcid : ℕ) (cs : List Call) (ks : List (Option Layout)) → AddNone lcid cs
+    → slice_index_or (kinds_over cs ks) lcid None ≡ slice_index_or ks lcid None
 over_same lcid [] ks free = refl
 over_same lcid (c ∷ cs) ks free = over_same lcid cs (kinds_in c ks) free.1 ∙ (leaves c ks).same lcid free.0
 
@@ -122,7 +128,8 @@ has_place kinds.Um lcid i = omega (arith, i.1)
 has_place kinds.Am lcid i = omega (arith, i.1)
 
 -- as it is configured
-known_first : (kind : Kind) (config : BearerConfig) (keys : Keys) (side : Side) → mode_in (layout_of kind config.rlc_bits config.pdcp_bits) ≡ mode (flow_of kind config keys side)
+known_first : (kind : Kind) (config : BearerConfig) (keys : Keys) (side : Side)
+    → mode_in (layout_of kind config.rlc_bits config.pdcp_bits) ≡ mode (flow_of kind config keys side)
 unfolding fresh_um fresh_am begun_pdcp
 known_first kinds.Tm config keys side = refl
 known_first kinds.Srb config keys side = refl
@@ -133,8 +140,10 @@ given_at : (xs : List Call) (c : Call) (ys : List Call) → AreGiven (xs ++ c �
 given_at [] c ys g = g.0
 given_at (x ∷ xs) c ys g = given_at xs c ys g.1
 
-one_known : (side : Side) (maximum : ℕ) (reports : Bool) (calls : List Call) (lcid : ℕ) → AreGiven calls → IsAdded side maximum reports calls lcid
-    → IsKnownAs (slice_index_or (kinds_over calls none_known) lcid None) (mode (flow lcid (reached side maximum reports calls)))
+one_known : (side : Side) (maximum : ℕ) (reports : Bool) (calls : List Call) (lcid : ℕ) → AreGiven calls
+    → IsAdded side maximum reports calls lcid
+    → IsKnownAs (slice_index_or (kinds_over calls none_known) lcid None)
+    (mode (flow lcid (reached side maximum reports calls)))
 one_known side maximum reports calls lcid g k =
     let config = k.config in
     let begun = Add config k.keys in
@@ -151,37 +160,49 @@ one_known side maximum reports calls lcid g k =
     ∙ ap (λ (x : List (Option Layout)). slice_index_or x lcid None) (over_then k.before (begun ∷ k.since) none_known)
     ∙ over_same lcid k.since (with_bearer config past) k.last ∙ here in
     let same : mode_in layout ≡ mode (flow lcid (reached side maximum reports calls)) =
-    known_first config.kind config k.keys side ∙ sym (keeps_mode k.comes.steps (flow_of config.kind config k.keys side)) ∙ sym (ap mode k.comes.flow_is) in
+    known_first config.kind config k.keys side
+    ∙ sym (keeps_mode k.comes.steps (flow_of config.kind config k.keys side)) ∙ sym (ap mode k.comes.flow_is) in
     subst (λ (x : Option Layout). IsKnownAs x (mode (flow lcid (reached side maximum reports calls)))) (sym is) same
 
-known_if : (b : Bool) (e : End) (lcid : ℕ) (layout : Option Layout) (m : Mode) → has lcid e.bearers ≡ b → modes_of e lcid ≡ Some m → (has lcid e.bearers ≡ true → IsKnownAs layout (mode (flow lcid e))) → IsKnownAs layout m
+known_if : (b : Bool) (e : End) (lcid : ℕ) (layout : Option Layout) (m : Mode) → has lcid e.bearers ≡ b
+    → modes_of e lcid ≡ Some m → (has lcid e.bearers ≡ true → IsKnownAs layout (mode (flow lcid e)))
+    → IsKnownAs layout m
 known_if true e lcid layout m h is known =
-    let all : (if has lcid e.bearers then Some (mode (flow lcid e)) else None) ≡ Some (mode (flow lcid e)) = ap (λ (b : Bool). if b then Some (mode (flow lcid e)) else None) h in
+    let all : (if has lcid e.bearers then Some (mode (flow lcid e)) else None) ≡ Some (mode (flow lcid e)) =
+    ap (λ (b : Bool). if b then Some (mode (flow lcid e)) else None) h in
     let same : mode (flow lcid e) ≡ m = ap (λ (o : Option Mode). unwrap_or o (mode (flow lcid e))) (sym all ∙ is) in
     subst (λ (x : Mode). IsKnownAs layout x) same (known h)
 known_if false e lcid layout m h is known =
-    let all : (if has lcid e.bearers then Some (mode (flow lcid e)) else None) ≡ None = ap (λ (b : Bool). if b then Some (mode (flow lcid e)) else None) h in
+    let all : (if has lcid e.bearers then Some (mode (flow lcid e)) else None) ≡ None =
+    ap (λ (b : Bool). if b then Some (mode (flow lcid e)) else None) h in
     let no : None ≡ Some m = sym all ∙ is in
     cc
 
-all_known : (side : Side) (maximum : ℕ) (reports : Bool) (calls : List Call) → AreGiven calls → AreKnown (kinds_over calls none_known) (modes_of (reached side maximum reports calls))
+all_known : (side : Side) (maximum : ℕ) (reports : Bool) (calls : List Call) → AreGiven calls
+    → AreKnown (kinds_over calls none_known) (modes_of (reached side maximum reports calls))
 all_known side maximum reports calls g lcid m is =
     let e = reached side maximum reports calls in
     known_if (has lcid e.bearers) e lcid (slice_index_or (kinds_over calls none_known) lcid None) m refl is
-    (λ (h : has lcid e.bearers ≡ true). one_known side maximum reports calls lcid g (are_added side maximum reports calls lcid g h))
+    (λ (h : has lcid e.bearers ≡ true). one_known side maximum reports calls lcid g
+    (are_added side maximum reports calls lcid g h))
 
-visiting_known : (ks : List (Option Layout)) (t : ℕ) (order : Order) (e : End) → AreKnown ks (modes_of e) → AreKnown ks (modes_of (visited t order e))
+visiting_known : (ks : List (Option Layout)) (t : ℕ) (order : Order) (e : End) → AreKnown ks (modes_of e)
+    → AreKnown ks (modes_of (visited t order e))
 unfolding visited
 visiting_known ks t order e known = known
 
 -- ---- what is told of a visit
 
-visit_shows : (w : Visit) (side : Side) (maximum : ℕ) (reports : Bool) (calls : List Call) → AreGiven calls → (t grant : ℕ) (order : Order) → grant ≤ 9422 → IsEnough order grant → visit t order (reached side maximum reports calls) ≡ w
-    → MayShow side t grant (kinds_over calls none_known) (built_told w side t grant order (kinds_over calls none_known) (reached side maximum reports calls))
+visit_shows : (w : Visit) (side : Side) (maximum : ℕ) (reports : Bool) (calls : List Call) → AreGiven calls
+    → (t grant : ℕ) (order : Order) → grant ≤ 9422 → IsEnough order grant
+    → visit t order (reached side maximum reports calls) ≡ w
+    → MayShow side t grant (kinds_over calls none_known)
+    (built_told w side t grant order (kinds_over calls none_known) (reached side maximum reports calls))
 visit_shows New side maximum reports calls g t grant order within enough is =
     let ks = kinds_over calls none_known in
     let e = reached side maximum reports calls in
-    inr (blocks_are_shown side maximum reports calls g t grant order ks (some_by t grant order e enough is) within is (visiting_known ks t order e (all_known side maximum reports calls g)))
+    inr (blocks_are_shown side maximum reports calls g t grant order ks (some_by t grant order e enough is) within is
+    (visiting_known ks t order e (all_known side maximum reports calls g)))
 visit_shows (Resend rv) side maximum reports calls g t grant order within enough is = inl refl
 visit_shows Silent side maximum reports calls g t grant order within enough is = inl refl
 
@@ -193,18 +214,23 @@ pub record IsCome (side : Side) (told : List Record) (ks : List (Option Layout))
   pub on : LivesOn lives side told (fresh_end side 4 false) e
   pub kinds_are : kinds_over lives none_known ≡ ks
 
-pub come_then : (lives : List Call) (side : Side) (told more : List Record) (ks : List (Option Layout)) (e f : End) → IsCome side told ks e → LivesOn lives side more e f → IsCome side (told ++ more) (kinds_over lives ks) f
+pub come_then : (lives : List Call) (side : Side) (told more : List Record) (ks : List (Option Layout)) (e f : End)
+    → IsCome side told ks e → LivesOn lives side more e f → IsCome side (told ++ more) (kinds_over lives ks) f
 come_then lives side told more ks e f c o = record {
   lives = c.lives ++ lives;
   on = lives_then c.lives lives side told more (fresh_end side 4 false) e f c.on o;
   kinds_are = over_then c.lives lives none_known ∙ ap (kinds_over lives) c.kinds_are;
 }
 
-pub come_shows : (side : Side) (told : List Record) (ks : List (Option Layout)) (e : End) → IsCome side told ks e → (t grant : ℕ) (order : Order) → grant ≤ 9422 → IsEnough order grant
+pub come_shows : (side : Side) (told : List Record) (ks : List (Option Layout)) (e : End) → IsCome side told ks e
+    → (t grant : ℕ) (order : Order) → grant ≤ 9422 → IsEnough order grant
     → MayShow side t grant ks (visit_told side t grant order ks e)
 come_shows side told ks e c t grant order within enough =
     let calls = c.on.by.calls in
-    let are : kinds_over calls none_known ≡ ks = sym (over_lives calls none_known) ∙ ap (λ (cs : List Call). kinds_over cs none_known) c.on.lives_are ∙ c.kinds_are in
+    let are : kinds_over calls none_known ≡ ks = sym (over_lives calls none_known)
+    ∙ ap (λ (cs : List Call). kinds_over cs none_known) c.on.lives_are ∙ c.kinds_are in
     subst (λ (x : End). MayShow side t grant ks (visit_told side t grant order ks x)) (sym c.on.by.end_is)
-    (subst (λ (x : List (Option Layout)). MayShow side t grant x (visit_told side t grant order x (reached side 4 false calls))) are
-    (visit_shows (visit t order (reached side 4 false calls)) side 4 false calls c.on.by.given t grant order within enough refl))
+    (subst (λ (x : List (Option Layout)). MayShow side t grant x
+    (visit_told side t grant order x (reached side 4 false calls))) are
+    (visit_shows (visit t order (reached side 4 false calls)) side 4 false calls c.on.by.given t grant order within
+    enough refl))

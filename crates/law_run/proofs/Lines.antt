@@ -1,5 +1,6 @@
 -- What a line adds to the counts of a link, and what it tells.
-use Rattle.std.proofs.Common.{◌≡◌, ℕ, ◌+◌, ◌==◌, Bool, true, false, cond, List, [], ◌∷◌, ◌++◌, length, append-nil, refl, ap, sym, arith, subst, ◌∙◌}
+use Rattle.std.proofs.Common.{◌≡◌, ℕ, ◌+◌, ◌==◌, Bool, true, false, cond, List, [], ◌∷◌, ◌++◌, length, append-nil, refl}
+use Rattle.std.proofs.Common.{ap, sym, arith, subst, ◌∙◌}
 use Rattle.std.specs.Prelude.{Option, Some, None}
 use Rattle.std.specs.List.{filter}
 use Rattle.std.proofs.lemmas.List.Elements.{filter-append}
@@ -55,11 +56,16 @@ rests_add l m nothing a =
     let out : m.out ≡ a.more = a.out_is ∙ ap (λ (x : List Record). x ++ a.more) nothing in
     let run : filter is_of_run m.out ≡ [] = ap (λ (x : List Record). filter is_of_run x) out ∙ a.told.none_of_run in
     record {
-      nb_delivered = grows_as (λ k. ups Nb k a.more) (λ k. ups Nb k m.out) l.up.delivered m.up.delivered (λ k. ap (λ (x : List Record). ups Nb k x) out) a.told.nb_delivered;
-      ue_delivered = grows_as (λ k. ups Ue k a.more) (λ k. ups Ue k m.out) l.down.delivered m.down.delivered (λ k. ap (λ (x : List Record). ups Ue k x) out) a.told.ue_delivered;
+      nb_delivered =
+          grows_as (λ k. ups Nb k a.more) (λ k. ups Nb k m.out) l.up.delivered m.up.delivered
+          (λ k. ap (λ (x : List Record). ups Nb k x) out) a.told.nb_delivered;
+      ue_delivered =
+          grows_as (λ k. ups Ue k a.more) (λ k. ups Ue k m.out) l.down.delivered m.down.delivered
+          (λ k. ap (λ (x : List Record). ups Ue k x) out) a.told.ue_delivered;
       nb_submitted = same_grows (λ k. 0) l.down.submitted m.down.submitted a.told.nb_submitted (λ k. refl);
       ue_submitted = grows_as (λ k. loopeds k a.more) (λ k. 0 + loopeds k m.out) l.up.submitted m.up.submitted
-          (λ k. let same : loopeds k m.out ≡ loopeds k a.more = ap (λ (x : List Record). loopeds k x) out in omega (arith, same)) a.told.ue_submitted;
+          (λ k. let same : loopeds k m.out ≡ loopeds k a.more = ap (λ (x : List Record). loopeds k x) out in
+          omega (arith, same)) a.told.ue_submitted;
       count = 0;
       ttis_is = omega (arith, a.ttis_is);
       numbers = no_numbers m.out run;
@@ -72,11 +78,13 @@ one_if : (b : Bool) (octets : List ℕ) → length (cond b (octets ∷ []) []) �
 one_if true octets = refl
 one_if false octets = refl
 
-nb_handed : (lcid : ℕ) (octets : List ℕ) (why : Option NoPlace) (k : ℕ) → length (handed_in Nb k (Submits Nb lcid octets) (refusals Nb lcid why)) ≡ accepted lcid why k
+nb_handed : (lcid : ℕ) (octets : List ℕ) (why : Option NoPlace) (k : ℕ)
+    → length (handed_in Nb k (Submits Nb lcid octets) (refusals Nb lcid why)) ≡ accepted lcid why k
 nb_handed lcid octets (Some why) k = refl
 nb_handed lcid octets None k = one_if (lcid == k) octets
 
-ue_handed : (lcid : ℕ) (octets : List ℕ) (why : Option NoPlace) (k : ℕ) → length (handed_in Ue k (Submits Ue lcid octets) (refusals Ue lcid why)) ≡ accepted lcid why k
+ue_handed : (lcid : ℕ) (octets : List ℕ) (why : Option NoPlace) (k : ℕ)
+    → length (handed_in Ue k (Submits Ue lcid octets) (refusals Ue lcid why)) ≡ accepted lcid why k
 ue_handed lcid octets (Some why) k = refl
 ue_handed lcid octets None k = one_if (lcid == k) octets
 
@@ -84,41 +92,59 @@ pub no_air : (why : Option NoPlace) (side : Side) (lcid : ℕ) → filter is_of_
 no_air None side lcid = refl
 no_air (Some why) side lcid = refl
 
-submits_add : (side : Side) (lcid : ℕ) (octets : List ℕ) (l m : Link) → l.out ≡ [] → AddsSubmitted side lcid (why_refused side lcid octets l) l m → PartAdds (Submits side lcid octets) l m
+submits_add : (side : Side) (lcid : ℕ) (octets : List ℕ) (l m : Link) → l.out ≡ []
+    → AddsSubmitted side lcid (why_refused side lcid octets l) l m → PartAdds (Submits side lcid octets) l m
 submits_add Nb lcid octets l m nothing a =
     let why = why_refused Nb lcid octets l in
     let out : m.out ≡ refusals Nb lcid why = a.out_is ∙ ap (λ (x : List Record). x ++ refusals Nb lcid why) nothing in
     let run : filter is_of_run m.out ≡ [] = ap (λ (x : List Record). filter is_of_run x) out ∙ no_runs why Nb lcid in
     record {
-      nb_delivered = same_grows (λ k. ups Nb k m.out) l.up.delivered m.up.delivered a.nb_delivered (λ k. ap (λ (x : List Record). ups Nb k x) out ∙ no_ups why Nb Nb lcid k);
-      ue_delivered = same_grows (λ k. ups Ue k m.out) l.down.delivered m.down.delivered a.ue_delivered (λ k. ap (λ (x : List Record). ups Ue k x) out ∙ no_ups why Nb Ue lcid k);
-      nb_submitted = grows_as (accepted lcid why) (λ k. length (handed_in Nb k (Submits Nb lcid octets) m.out)) l.down.submitted m.down.submitted
-          (λ k. ap (λ (x : List Record). length (handed_in Nb k (Submits Nb lcid octets) x)) out ∙ nb_handed lcid octets why k) a.submitted;
+      nb_delivered =
+          same_grows (λ k. ups Nb k m.out) l.up.delivered m.up.delivered a.nb_delivered
+          (λ k. ap (λ (x : List Record). ups Nb k x) out ∙ no_ups why Nb Nb lcid k);
+      ue_delivered =
+          same_grows (λ k. ups Ue k m.out) l.down.delivered m.down.delivered a.ue_delivered
+          (λ k. ap (λ (x : List Record). ups Ue k x) out ∙ no_ups why Nb Ue lcid k);
+      nb_submitted =
+          grows_as (accepted lcid why) (λ k. length (handed_in Nb k (Submits Nb lcid octets) m.out)) l.down.submitted
+          m.down.submitted
+          (λ k. ap (λ (x : List Record). length (handed_in Nb k (Submits Nb lcid octets) x)) out
+          ∙ nb_handed lcid octets why k) a.submitted;
       ue_submitted = same_grows (λ k. 0 + loopeds k m.out) l.up.submitted m.up.submitted a.other_submitted
-          (λ k. let none : loopeds k m.out ≡ 0 = ap (λ (x : List Record). loopeds k x) out ∙ no_loops why Nb lcid k in omega (arith, none));
+          (λ k. let none : loopeds k m.out ≡ 0 = ap (λ (x : List Record). loopeds k x) out ∙ no_loops why Nb lcid k in
+          omega (arith, none));
       count = 0;
       ttis_is = omega (arith, a.ttis_is);
       numbers = no_numbers m.out run;
-      of_its_time = record { timed = run; flown = ap (λ (x : List Record). filter is_of_air x) out ∙ no_air why Nb lcid };
+      of_its_time =
+          record { timed = run; flown = ap (λ (x : List Record). filter is_of_air x) out ∙ no_air why Nb lcid };
     }
 submits_add Ue lcid octets l m nothing a =
     let why = why_refused Ue lcid octets l in
     let out : m.out ≡ refusals Ue lcid why = a.out_is ∙ ap (λ (x : List Record). x ++ refusals Ue lcid why) nothing in
     let run : filter is_of_run m.out ≡ [] = ap (λ (x : List Record). filter is_of_run x) out ∙ no_runs why Ue lcid in
     record {
-      nb_delivered = same_grows (λ k. ups Nb k m.out) l.up.delivered m.up.delivered a.nb_delivered (λ k. ap (λ (x : List Record). ups Nb k x) out ∙ no_ups why Ue Nb lcid k);
-      ue_delivered = same_grows (λ k. ups Ue k m.out) l.down.delivered m.down.delivered a.ue_delivered (λ k. ap (λ (x : List Record). ups Ue k x) out ∙ no_ups why Ue Ue lcid k);
+      nb_delivered =
+          same_grows (λ k. ups Nb k m.out) l.up.delivered m.up.delivered a.nb_delivered
+          (λ k. ap (λ (x : List Record). ups Nb k x) out ∙ no_ups why Ue Nb lcid k);
+      ue_delivered =
+          same_grows (λ k. ups Ue k m.out) l.down.delivered m.down.delivered a.ue_delivered
+          (λ k. ap (λ (x : List Record). ups Ue k x) out ∙ no_ups why Ue Ue lcid k);
       nb_submitted = same_grows (λ k. 0) l.down.submitted m.down.submitted a.other_submitted (λ k. refl);
-      ue_submitted = grows_as (accepted lcid why) (λ k. length (handed_in Ue k (Submits Ue lcid octets) m.out) + loopeds k m.out) l.up.submitted m.up.submitted
+      ue_submitted =
+          grows_as (accepted lcid why) (λ k. length (handed_in Ue k (Submits Ue lcid octets) m.out) + loopeds k m.out)
+          l.up.submitted m.up.submitted
           (λ k.
           let one : length (handed_in Ue k (Submits Ue lcid octets) m.out) ≡ accepted lcid why k =
-          ap (λ (x : List Record). length (handed_in Ue k (Submits Ue lcid octets) x)) out ∙ ue_handed lcid octets why k in
+          ap (λ (x : List Record). length (handed_in Ue k (Submits Ue lcid octets) x)) out
+          ∙ ue_handed lcid octets why k in
           let none : loopeds k m.out ≡ 0 = ap (λ (x : List Record). loopeds k x) out ∙ no_loops why Ue lcid k in
           omega (arith, one, none)) a.submitted;
       count = 0;
       ttis_is = omega (arith, a.ttis_is);
       numbers = no_numbers m.out run;
-      of_its_time = record { timed = run; flown = ap (λ (x : List Record). filter is_of_air x) out ∙ no_air why Ue lcid };
+      of_its_time =
+          record { timed = run; flown = ap (λ (x : List Record). filter is_of_air x) out ∙ no_air why Ue lcid };
     }
 
 -- ---- a TTI
@@ -126,18 +152,26 @@ submits_add Ue lcid octets l m nothing a =
 passes_add : (asleep : Bool) (up_grant : ℕ) (up : Outcome) (down_grant : ℕ) (down : Outcome) (l m : Link) → l.out ≡ []
     → AddsTti asleep up_grant up down_grant down l m → PartAdds (Passes up_grant up down_grant down) l m
 passes_add asleep up_grant up down_grant down l m nothing a =
-    let out : m.out ≡ records.Tti l.ttis ∷ a.more = a.out_is ∙ ap (λ (x : List Record). x ++ records.Tti l.ttis ∷ a.more) nothing in
+    let out : m.out ≡ records.Tti l.ttis ∷ a.more =
+    a.out_is ∙ ap (λ (x : List Record). x ++ records.Tti l.ttis ∷ a.more) nothing in
     record {
-      nb_delivered = grows_as (λ k. ups Nb k a.more) (λ k. ups Nb k m.out) l.up.delivered m.up.delivered (λ k. ap (λ (x : List Record). ups Nb k x) out) a.told.nb_delivered;
-      ue_delivered = grows_as (λ k. ups Ue k a.more) (λ k. ups Ue k m.out) l.down.delivered m.down.delivered (λ k. ap (λ (x : List Record). ups Ue k x) out) a.told.ue_delivered;
+      nb_delivered =
+          grows_as (λ k. ups Nb k a.more) (λ k. ups Nb k m.out) l.up.delivered m.up.delivered
+          (λ k. ap (λ (x : List Record). ups Nb k x) out) a.told.nb_delivered;
+      ue_delivered =
+          grows_as (λ k. ups Ue k a.more) (λ k. ups Ue k m.out) l.down.delivered m.down.delivered
+          (λ k. ap (λ (x : List Record). ups Ue k x) out) a.told.ue_delivered;
       nb_submitted = same_grows (λ k. 0) l.down.submitted m.down.submitted a.told.nb_submitted (λ k. refl);
       ue_submitted = grows_as (λ k. loopeds k a.more) (λ k. 0 + loopeds k m.out) l.up.submitted m.up.submitted
-          (λ k. let same : loopeds k m.out ≡ loopeds k a.more = ap (λ (x : List Record). loopeds k x) out in omega (arith, same)) a.told.ue_submitted;
+          (λ k. let same : loopeds k m.out ≡ loopeds k a.more = ap (λ (x : List Record). loopeds k x) out in
+          omega (arith, same)) a.told.ue_submitted;
       count = 1;
       ttis_is = a.ttis_is;
-      numbers = ap (λ (x : List Record). filter is_tti x) out ∙ ap (λ (x : List Record). records.Tti l.ttis ∷ x) (no_numbers a.more a.told.none_of_run);
+      numbers = ap (λ (x : List Record). filter is_tti x) out
+          ∙ ap (λ (x : List Record). records.Tti l.ttis ∷ x) (no_numbers a.more a.told.none_of_run);
       of_its_time = record {
-        timed = ap (λ (x : List Record). filter is_of_run x) out ∙ ap (λ (x : List Record). records.Tti l.ttis ∷ x) a.told.none_of_run;
+        timed = ap (λ (x : List Record). filter is_of_run x) out
+            ∙ ap (λ (x : List Record). records.Tti l.ttis ∷ x) a.told.none_of_run;
         flown = record {
           asleep = asleep;
           flies = record {
@@ -169,28 +203,39 @@ no_loops_end : (is_done : Bool) (rounds k : ℕ) → loopeds k (ending is_done r
 no_loops_end true rounds k = refl
 no_loops_end false rounds k = refl
 
-pub drains_add : (grant : ℕ) (l : Link) (d : Drained) → WholeDrain grant l d → PartAdds (Drains grant) l (record d.link { out = d.journal })
+pub drains_add : (grant : ℕ) (l : Link) (d : Drained) → WholeDrain grant l d
+    → PartAdds (Drains grant) l (record d.link { out = d.journal })
 drains_add grant l d w =
     let last = ending w.is_done w.rounds ∷ [] in
     let n = 8 + w.rounds in
-    let counts : (test : Record → Bool) → length (filter test last) ≡ 0 → length (filter test d.journal) ≡ length (filter test w.said) =
-    λ test none. let all = ap (λ (x : List Record). length (filter test x)) w.journal_is ∙ count_then test w.said last in omega (arith, all, none) in
+    let counts : (test : Record → Bool) → length (filter test last) ≡ 0
+    → length (filter test d.journal) ≡ length (filter test w.said) =
+    λ test none. let all = ap (λ (x : List Record). length (filter test x)) w.journal_is
+    ∙ count_then test w.said last in omega (arith, all, none) in
     let run : filter is_of_run d.journal ≡ numbered l.ttis n ++ last =
     ap (λ (x : List Record). filter is_of_run x) w.journal_is ∙ filter-append is_of_run w.said last
     ∙ ap (λ (x : List Record). x ++ filter is_of_run last) w.adds.numbers
     ∙ ap (λ (x : List Record). numbered l.ttis n ++ x) (ends_alone w.is_done w.rounds) in
     let air : filter is_of_air d.journal ≡ filter is_of_air w.said =
     ap (λ (x : List Record). filter is_of_air x) w.journal_is ∙ filter-append is_of_air w.said last
-    ∙ ap (λ (x : List Record). filter is_of_air w.said ++ x) (no_air_ends w.is_done w.rounds) ∙ append-nil (filter is_of_air w.said) in
+    ∙ ap (λ (x : List Record). filter is_of_air w.said ++ x) (no_air_ends w.is_done w.rounds)
+    ∙ append-nil (filter is_of_air w.said) in
     let numbers : filter is_tti d.journal ≡ numbered l.ttis n =
-    sym (of_run_alone d.journal) ∙ ap (λ (x : List Record). filter is_tti x) run ∙ ttis_of_drain l.ttis n w.is_done w.rounds in
-    let count : length (filter is_tti d.journal) ≡ n = ap (λ (x : List Record). length x) numbers ∙ count_numbered l.ttis n in
+    sym (of_run_alone d.journal) ∙ ap (λ (x : List Record). filter is_tti x) run
+    ∙ ttis_of_drain l.ttis n w.is_done w.rounds in
+    let count : length (filter is_tti d.journal) ≡ n = ap (λ (x : List Record). length x) numbers
+    ∙ count_numbered l.ttis n in
     record {
-      nb_delivered = grows_as (λ k. ups Nb k w.said) (λ k. ups Nb k d.journal) l.up.delivered d.link.up.delivered (λ k. counts (is_up Nb k) (no_ups_end w.is_done w.rounds Nb k)) w.adds.nb_delivered;
-      ue_delivered = grows_as (λ k. ups Ue k w.said) (λ k. ups Ue k d.journal) l.down.delivered d.link.down.delivered (λ k. counts (is_up Ue k) (no_ups_end w.is_done w.rounds Ue k)) w.adds.ue_delivered;
+      nb_delivered =
+          grows_as (λ k. ups Nb k w.said) (λ k. ups Nb k d.journal) l.up.delivered d.link.up.delivered
+          (λ k. counts (is_up Nb k) (no_ups_end w.is_done w.rounds Nb k)) w.adds.nb_delivered;
+      ue_delivered =
+          grows_as (λ k. ups Ue k w.said) (λ k. ups Ue k d.journal) l.down.delivered d.link.down.delivered
+          (λ k. counts (is_up Ue k) (no_ups_end w.is_done w.rounds Ue k)) w.adds.ue_delivered;
       nb_submitted = same_grows (λ k. 0) l.down.submitted d.link.down.submitted w.adds.nb_submitted (λ k. refl);
       ue_submitted = grows_as (λ k. loopeds k w.said) (λ k. 0 + loopeds k d.journal) l.up.submitted d.link.up.submitted
-          (λ k. let same : loopeds k d.journal ≡ loopeds k w.said = counts (is_looped k) (no_loops_end w.is_done w.rounds k) in omega (arith, same)) w.adds.ue_submitted;
+          (λ k. let same : loopeds k d.journal ≡ loopeds k w.said =
+          counts (is_looped k) (no_loops_end w.is_done w.rounds k) in omega (arith, same)) w.adds.ue_submitted;
       count = n;
       ttis_is = w.adds.ttis_is;
       numbers = numbers;
@@ -208,12 +253,17 @@ unfolding acted
 line_adds (lines.Harq maximum) keys l nothing = rests_add l _ nothing (calls_adds (calls.Visits maximum) l)
 line_adds lines.Bsr keys l nothing = rests_add l _ nothing (calls_adds calls.Reports l)
 line_adds (lines.Keys ks) keys l nothing = rests_add l _ nothing (stays l l refl)
-line_adds (lines.Bearer config options) keys l nothing = rests_add l _ nothing (calls_adds (calls.Bears config (keys_or_none keys)) l)
-line_adds (lines.Submit side lcid octets) keys l nothing = submits_add side lcid octets l (submitting side lcid octets l) nothing (submitting_adds side lcid octets l)
+line_adds (lines.Bearer config options) keys l nothing =
+    rests_add l _ nothing (calls_adds (calls.Bears config (keys_or_none keys)) l)
+line_adds (lines.Submit side lcid octets) keys l nothing =
+    submits_add side lcid octets l (submitting side lcid octets l) nothing (submitting_adds side lcid octets l)
 line_adds (lines.Tti up_grant up down_grant down) keys l nothing =
-    passes_add (sleeps l.ttis l) up_grant up down_grant down l (tti up_grant up down_grant down l) nothing (tti_adds up_grant up down_grant down l)
-line_adds (lines.Expire side lcid clock) keys l nothing = rests_add l _ nothing (calls_adds (calls.Expires side lcid clock) l)
-line_adds (lines.Handover user rrc integrity) keys l nothing = rests_add l _ nothing (calls_adds (calls.HandsOver (next_keys user rrc integrity (keys_or_none keys))) l)
+    passes_add (sleeps l.ttis l) up_grant up down_grant down l (tti up_grant up down_grant down l) nothing
+    (tti_adds up_grant up down_grant down l)
+line_adds (lines.Expire side lcid clock) keys l nothing =
+    rests_add l _ nothing (calls_adds (calls.Expires side lcid clock) l)
+line_adds (lines.Handover user rrc integrity) keys l nothing =
+    rests_add l _ nothing (calls_adds (calls.HandsOver (next_keys user rrc integrity (keys_or_none keys))) l)
 line_adds lines.LoopOff keys l nothing = rests_add l _ nothing (calls_adds (calls.Loops Off) l)
 line_adds (lines.LoopA size) keys l nothing = rests_add l _ nothing (calls_adds (calls.Loops (A size)) l)
 line_adds (lines.LoopB delay) keys l nothing = rests_add l _ nothing (calls_adds (calls.Loops (B delay)) l)

@@ -1,12 +1,14 @@
 -- What the test loop returns through every line.
-use Rattle.std.proofs.Common.{◌≡◌, ◌≤◌, ℕ, ◌+◌, zero, suc, Bool, true, false, List, [], ◌∷◌, ◌++◌, take, append-nil, append_assoc, refl, ap, sym, subst, ◌∙◌, arith}
+use Rattle.std.proofs.Common.{◌≡◌, ◌≤◌, ℕ, ◌+◌, zero, suc, Bool, true, false, List, [], ◌∷◌, ◌++◌, take, append-nil}
+use Rattle.std.proofs.Common.{append_assoc, refl, ap, sym, subst, ◌∙◌, arith}
 use Rattle.std.specs.Prelude.{Option}
 use Rattle.air_link.specs.Draining.{drain_tti, carried, receivers_expire, is_drained}
 use Rattle.air_link.specs.Link.{Link, fresh as fresh_link}
 use Rattle.air_record.specs.declared.line.Line.{Line}
 use Rattle.air_record.specs.declared.line.Line.TheVariants as lines
 use Rattle.air_record.specs.declared.record.Record.{Record}
-use Rattle.air_run.specs.Draining.{shown, Drained, at_once, behind, ttis, senders_unless, round, left_by, done_by, told_by, rounds, budget, drained}
+use Rattle.air_run.specs.Draining.{shown, Drained, at_once, behind, ttis, senders_unless, round, left_by, done_by}
+use Rattle.air_run.specs.Draining.{told_by, rounds, budget, drained}
 use Rattle.air_record.specs.Endings.{ending}
 use Rattle.air_run.specs.Playing.{keys_or_none, acted, played}
 use Rattle.air_record.specs.Cells.{next_keys}
@@ -15,10 +17,12 @@ use Rattle.air_text.specs.Groups.{Group, group_records, history}
 use Rattle.eps_sec.specs.declared.Keys.{Keys}
 use Rattle.law_air.specs.AnyCalls.Calls as calls
 use Rattle.law_air.specs.AnyCalls.Loops.{ComeBack, IsAtRest, LoopsBack}
-use Rattle.promises.specs.Loops.{ArePart, gone_up, returned, on, is_dropped, drops, mode_by, mode, all_gone_up, all_returned, AreReturned, ReturnInOrder}
+use Rattle.promises.specs.Loops.{ArePart, gone_up, returned, on, is_dropped, drops, mode_by, mode, all_gone_up}
+use Rattle.promises.specs.Loops.{all_returned, AreReturned, ReturnInOrder}
 use Rattle.law_air.proofs.AnyCalls.Adding.{count_then}
 use Rattle.law_air.proofs.AnyCalls.Returning.{part_on, on_both, back_none, back_then, IsSilent, back_silent}
-use Rattle.law_air.proofs.AnyCalls.Settling.{loops_back_then, first_rests, calls_loop_back, submissions_loop_back, ttis_loop_back, drains_loop_back}
+use Rattle.law_air.proofs.AnyCalls.Settling.{loops_back_then, first_rests, calls_loop_back, submissions_loop_back}
+use Rattle.law_air.proofs.AnyCalls.Settling.{ttis_loop_back, drains_loop_back}
 use Rattle.test_loop.specs.declared.Mode.{Mode}
 use Rattle.test_loop.specs.declared.Mode.TheVariants.{Off, A, B}
 use Rattle.test_loop.specs.Items.{Item}
@@ -31,7 +35,13 @@ shown_rests : (l : Link) → IsAtRest l → IsAtRest (shown l)
 shown_rests l r = record { none_waits = r.none_waits; none_kept = r.none_kept }
 
 still_back : (l : Link) → IsAtRest l → LoopsBack l.looping.mode l l
-still_back l r = record { more = []; out_is = sym (append-nil l.out); mode_is = refl; rests = r; come_back = back_none l.looping.mode l.looping.kept l.looping.kept refl }
+still_back l r = record {
+  more = [];
+  out_is = sym (append-nil l.out);
+  mode_is = refl;
+  rests = r;
+  come_back = back_none l.looping.mode l.looping.kept l.looping.kept refl;
+}
 
 more_only : (mode' : Mode) (l m : Link) → l.out ≡ [] → (p : LoopsBack mode' l m) → m.out ≡ p.more
 more_only mode' l m nothing p = p.out_is ∙ ap (λ (x : List Record). x ++ p.more) nothing
@@ -49,8 +59,10 @@ round_back grant l r =
     let n = receivers_expire m in
     let o = senders_unless (carried m) n in
     let p = drains_loop_back grant l r in
-    let q : LoopsBack mode' m n = subst (λ (x : Mode). LoopsBack x m n) p.mode_is (calls_loop_back calls.ReceiversExpire m p.rests) in
-    let s : LoopsBack mode' n o = subst (λ (x : Mode). LoopsBack x n o) q.mode_is (senders_back (carried m) n q.rests) in
+    let q : LoopsBack mode' m n =
+    subst (λ (x : Mode). LoopsBack x m n) p.mode_is (calls_loop_back calls.ReceiversExpire m p.rests) in
+    let s : LoopsBack mode' n o =
+    subst (λ (x : Mode). LoopsBack x n o) q.mode_is (senders_back (carried m) n q.rests) in
     loops_back_then mode' l n o (loops_back_then mode' l m n p q) s
 
 -- ---- a part of a drain
@@ -61,44 +73,59 @@ record DrainLoops (mode' : Mode) (l : Link) (d : Drained) : Type 0 where
   rests : IsAtRest d.link
   come_back : ComeBack mode' l.looping.kept d.link.looping.kept d.journal
 
-none_loops : (mode' : Mode) (l : Link) → l.out ≡ [] → l.looping.mode ≡ mode' → IsAtRest l → DrainLoops mode' l (at_once l)
-none_loops mode' l nothing e r = record { nothing = nothing; mode_is = e; rests = r; come_back = back_none mode' l.looping.kept l.looping.kept refl }
+none_loops : (mode' : Mode) (l : Link) → l.out ≡ [] → l.looping.mode ≡ mode' → IsAtRest l
+    → DrainLoops mode' l (at_once l)
+none_loops mode' l nothing e r =
+    record {
+      nothing = nothing;
+      mode_is = e;
+      rests = r;
+      come_back = back_none mode' l.looping.kept l.looping.kept refl;
+    }
 
 -- a TTI before others
-first_loops : (mode' : Mode) (done : ℕ) (l m : Link) (d : Drained) → l.out ≡ [] → LoopsBack mode' l m → DrainLoops mode' (shown m) d → DrainLoops mode' l (behind m.out done d)
+first_loops : (mode' : Mode) (done : ℕ) (l m : Link) (d : Drained) → l.out ≡ [] → LoopsBack mode' l m
+    → DrainLoops mode' (shown m) d → DrainLoops mode' l (behind m.out done d)
 first_loops mode' done l m d nothing p q = record {
   nothing = q.nothing;
   mode_is = q.mode_is;
   rests = q.rests;
   come_back = back_then mode' l.looping.kept m.looping.kept d.link.looping.kept m.out d.journal
-      (subst (λ (x : List Record). ComeBack mode' l.looping.kept m.looping.kept x) (sym (more_only mode' l m nothing p)) p.come_back) q.come_back;
+      (subst (λ (x : List Record). ComeBack mode' l.looping.kept m.looping.kept x)
+      (sym (more_only mode' l m nothing p)) p.come_back) q.come_back;
 }
 
-ttis_loop : (n grant : ℕ) (mode' : Mode) (l : Link) → l.out ≡ [] → l.looping.mode ≡ mode' → IsAtRest l → DrainLoops mode' l (ttis n grant l)
+ttis_loop : (n grant : ℕ) (mode' : Mode) (l : Link) → l.out ≡ [] → l.looping.mode ≡ mode' → IsAtRest l
+    → DrainLoops mode' l (ttis n grant l)
 ttis_loop zero grant mode' l nothing e r = none_loops mode' l nothing e r
 ttis_loop (suc n) grant mode' l nothing e r =
     let m = drain_tti grant l in
     let p : LoopsBack mode' l m = subst (λ (x : Mode). LoopsBack x l m) e (drains_loop_back grant l r) in
-    first_loops mode' 0 l m (ttis n grant (shown m)) nothing p (ttis_loop n grant mode' (shown m) refl p.mode_is (shown_rests m p.rests))
+    first_loops mode' 0 l m (ttis n grant (shown m)) nothing p
+    (ttis_loop n grant mode' (shown m) refl p.mode_is (shown_rests m p.rests))
 
 round_by : (n grant : ℕ) (mode' : Mode) (l : Link) → l.out ≡ [] → l.looping.mode ≡ mode' → IsAtRest l → (b : Bool)
     → ((m : Link) → m.out ≡ [] → m.looping.mode ≡ mode' → IsAtRest m → DrainLoops mode' m (rounds n grant m))
     → DrainLoops mode' l (behind (told_by b grant l) (done_by b) (rounds n grant (left_by b grant l)))
-round_by n grant mode' l nothing e r true rest = let q = rest l nothing e r in record { nothing = q.nothing; mode_is = q.mode_is; rests = q.rests; come_back = q.come_back }
+round_by n grant mode' l nothing e r true rest = let q = rest l nothing e r in
+    record { nothing = q.nothing; mode_is = q.mode_is; rests = q.rests; come_back = q.come_back }
 round_by n grant mode' l nothing e r false rest =
     let m = round grant l in
     let p : LoopsBack mode' l m = subst (λ (x : Mode). LoopsBack x l m) e (round_back grant l r) in
     first_loops mode' 1 l m (rounds n grant (shown m)) nothing p (rest (shown m) refl p.mode_is (shown_rests m p.rests))
 
-rounds_loop : (n grant : ℕ) (mode' : Mode) (l : Link) → l.out ≡ [] → l.looping.mode ≡ mode' → IsAtRest l → DrainLoops mode' l (rounds n grant l)
+rounds_loop : (n grant : ℕ) (mode' : Mode) (l : Link) → l.out ≡ [] → l.looping.mode ≡ mode' → IsAtRest l
+    → DrainLoops mode' l (rounds n grant l)
 rounds_loop zero grant mode' l nothing e r = none_loops mode' l nothing e r
-rounds_loop (suc n) grant mode' l nothing e r = round_by n grant mode' l nothing e r (is_drained l) (λ m none f q. rounds_loop n grant mode' m none f q)
+rounds_loop (suc n) grant mode' l nothing e r =
+    round_by n grant mode' l nothing e r (is_drained l) (λ m none f q. rounds_loop n grant mode' m none f q)
 
 end_is_silent : (is_done : Bool) (done : ℕ) → IsSilent (ending is_done done)
 end_is_silent true done = (refl, λ mode'. refl)
 end_is_silent false done = (refl, λ mode'. refl)
 
-drained_back : (grant : ℕ) (l : Link) → l.out ≡ [] → IsAtRest l → LoopsBack l.looping.mode l (record (drained grant l).link { out = (drained grant l).journal })
+drained_back : (grant : ℕ) (l : Link) → l.out ≡ [] → IsAtRest l
+    → LoopsBack l.looping.mode l (record (drained grant l).link { out = (drained grant l).journal })
 unfolding drained
 drained_back grant l nothing r =
     let mode' = l.looping.mode in
@@ -114,13 +141,15 @@ drained_back grant l nothing r =
       out_is = ap (λ (x : List Record). x ++ (whole.journal ++ last)) (sym nothing);
       mode_is = q.mode_is;
       rests = record { none_waits = q.rests.none_waits; none_kept = q.rests.none_kept };
-      come_back = back_then mode' l.looping.kept kept kept whole.journal last (back_then mode' l.looping.kept d.link.looping.kept kept d.journal e.journal p.come_back q.come_back)
+      come_back = back_then mode' l.looping.kept kept kept whole.journal last
+          (back_then mode' l.looping.kept d.link.looping.kept kept d.journal e.journal p.come_back q.come_back)
           (back_silent mode' kept last (end_is_silent (is_drained whole.link) whole.done, tt));
     }
 
 -- ---- every line
 
-line_back : (line : Line) (keys : Option Keys) (l : Link) → l.out ≡ [] → IsAtRest l → LoopsBack (mode_by line l.looping.mode) l (played line keys l)
+line_back : (line : Line) (keys : Option Keys) (l : Link) → l.out ≡ [] → IsAtRest l
+    → LoopsBack (mode_by line l.looping.mode) l (played line keys l)
 unfolding acted
 line_back (lines.Harq maximum) keys l nothing r = calls_loop_back (calls.Visits maximum) l r
 line_back lines.Bsr keys l nothing r = calls_loop_back calls.Reports l r
@@ -129,7 +158,8 @@ line_back (lines.Bearer config options) keys l nothing r = calls_loop_back (call
 line_back (lines.Submit side lcid octets) keys l nothing r = submissions_loop_back side lcid octets l r
 line_back (lines.Tti up_grant up down_grant down) keys l nothing r = ttis_loop_back up_grant up down_grant down l r
 line_back (lines.Expire side lcid clock) keys l nothing r = calls_loop_back (calls.Expires side lcid clock) l r
-line_back (lines.Handover user rrc integrity) keys l nothing r = calls_loop_back (calls.HandsOver (next_keys user rrc integrity (keys_or_none keys))) l r
+line_back (lines.Handover user rrc integrity) keys l nothing r =
+    calls_loop_back (calls.HandsOver (next_keys user rrc integrity (keys_or_none keys))) l r
 line_back lines.LoopOff keys l nothing r = calls_loop_back (calls.Loops Off) l r
 line_back (lines.LoopA size) keys l nothing r = calls_loop_back (calls.Loops (A size)) l r
 line_back (lines.LoopB delay) keys l nothing r = calls_loop_back (calls.Loops (B delay)) l r
@@ -145,7 +175,8 @@ record LoopsBehind (past : List Group) : Type 0 where
   mode_is : (link_behind past).looping.mode ≡ mode past
   rests : IsAtRest (link_behind past)
   part : ArePart (all_returned past ++ (link_behind past).looping.kept) (all_gone_up past)
-  others : (lcid : ℕ) → on lcid (all_gone_up past) ≤ (on lcid (all_returned past) + drops lcid (history past)) + on lcid (link_behind past).looping.kept
+  others : (lcid : ℕ) → on lcid (all_gone_up past) ≤ (on lcid (all_returned past) + drops lcid (history past))
+      + on lcid (link_behind past).looping.kept
   in_order : ReturnInOrder past
 
 first_loop : LoopsBehind []
@@ -156,30 +187,38 @@ first_loop = record { mode_is = refl; rests = first_rests; part = tt; others = �
 record NextLoops (past : List Group) (g : Group) (m : Link) : Type 0 where
   returned' : AreReturned past g
   part : ArePart (all_returned (g ∷ past) ++ m.looping.kept) (all_gone_up (g ∷ past))
-  others : (lcid : ℕ) → on lcid (all_gone_up (g ∷ past)) ≤ (on lcid (all_returned (g ∷ past)) + drops lcid (history (g ∷ past))) + on lcid m.looping.kept
+  others : (lcid : ℕ) → on lcid (all_gone_up (g ∷ past))
+      ≤ (on lcid (all_returned (g ∷ past)) + drops lcid (history (g ∷ past))) + on lcid m.looping.kept
 
-next_loops : (past : List Group) (g : Group) (m : Link) → (link_behind past).out ≡ [] → LoopsBehind past → LoopsBack (mode (g ∷ past)) (link_behind past) m → g.events ≡ m.out → NextLoops past g m
+next_loops : (past : List Group) (g : Group) (m : Link) → (link_behind past).out ≡ [] → LoopsBehind past
+    → LoopsBack (mode (g ∷ past)) (link_behind past) m → g.events ≡ m.out → NextLoops past g m
 next_loops past g m nothing b p events_are =
     let new = mode (g ∷ past) in
     let kept = (link_behind past).looping.kept in
     let told : g.events ≡ p.more = events_are ∙ more_only new (link_behind past) m nothing p in
-    let back : ComeBack new kept m.looping.kept g.events = subst (λ (x : List Record). ComeBack new kept m.looping.kept x) (sym told) p.come_back in
+    let back : ComeBack new kept m.looping.kept g.events =
+    subst (λ (x : List Record). ComeBack new kept m.looping.kept x) (sym told) p.come_back in
     let whole : ArePart (all_returned past ++ (returned g.events ++ m.looping.kept)) (all_gone_up (g ∷ past)) =
-    part_on (all_returned past) kept (all_gone_up past) (returned g.events ++ m.looping.kept) (gone_up new g.events) b.part back.whole in
-    let others : (lcid : ℕ) → on lcid (all_gone_up (g ∷ past)) ≤ (on lcid (all_returned (g ∷ past)) + drops lcid (history (g ∷ past))) + on lcid m.looping.kept =
+    part_on (all_returned past) kept (all_gone_up past) (returned g.events ++ m.looping.kept) (gone_up new g.events)
+    b.part back.whole in
+    let others : (lcid : ℕ) → on lcid (all_gone_up (g ∷ past))
+    ≤ (on lcid (all_returned (g ∷ past)) + drops lcid (history (g ∷ past))) + on lcid m.looping.kept =
     λ lcid.
     let went = on_both lcid (all_gone_up past) (gone_up new g.events) in
     let came = on_both lcid (all_returned past) (returned g.events) in
-    let lost : drops lcid (history (g ∷ past)) ≡ drops lcid (history past) + drops lcid g.events = count_then (is_dropped lcid) (history past) (group_records g) in
+    let lost : drops lcid (history (g ∷ past)) ≡ drops lcid (history past) + drops lcid g.events =
+    count_then (is_dropped lcid) (history past) (group_records g) in
     omega (arith, went, came, lost, b.others lcid, back.others lcid) in
     record {
       returned' = record {
-        in_order = λ n. part_on (all_returned past) kept (all_gone_up past) (returned (take n g.events)) (gone_up new (take n g.events)) b.part (back.each n);
+        in_order = λ n. part_on (all_returned past) kept (all_gone_up past) (returned (take n g.events))
+            (gone_up new (take n g.events)) b.part (back.each n);
         others = λ h lcid.
             let none : on lcid m.looping.kept ≡ 0 = ap (on lcid) (p.rests.none_kept (ap is_keeping p.mode_is ∙ h)) in
             omega (arith, none, others lcid);
       };
-      part = subst (λ (x : List Item). ArePart x (all_gone_up (g ∷ past))) (sym (append_assoc (all_returned past) (returned g.events) m.looping.kept)) whole;
+      part = subst (λ (x : List Item). ArePart x (all_gone_up (g ∷ past)))
+          (sym (append_assoc (all_returned past) (returned g.events) m.looping.kept)) whole;
       others = others;
     }
 
@@ -190,9 +229,17 @@ loops_behind (g ∷ past) (right, order) =
     let l = link_behind past in
     let m = behind_line g.line (state_behind past) in
     let nothing = (all_behind past order).nothing in
-    let p : LoopsBack (mode (g ∷ past)) l m = subst (λ (x : Mode). LoopsBack (mode_by g.line x) l m) b.mode_is (line_back g.line (state_behind past).rules.keys l nothing b.rests) in
+    let p : LoopsBack (mode (g ∷ past)) l m =
+    subst (λ (x : Mode). LoopsBack (mode_by g.line x) l m) b.mode_is
+    (line_back g.line (state_behind past).rules.keys l nothing b.rests) in
     let next = next_loops past g m nothing b p right.events_are in
-    record { mode_is = p.mode_is; rests = shown_rests m p.rests; part = next.part; others = next.others; in_order = (next.returned', b.in_order) }
+    record {
+      mode_is = p.mode_is;
+      rests = shown_rests m p.rests;
+      part = next.part;
+      others = next.others;
+      in_order = (next.returned', b.in_order);
+    }
 
 pub return_in_order : (past : List Group) → KeepsOrder past → ReturnInOrder past
 return_in_order past order = (loops_behind past order).in_order

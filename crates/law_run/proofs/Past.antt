@@ -1,5 +1,6 @@
 -- What the groups of a journal tell of the link behind them.
-use Rattle.std.proofs.Common.{◌≡◌, ◌<◌, ℕ, ◌+◌, List, [], ◌∷◌, ◌++◌, length, replicate, refl, ap, sym, arith, subst, ◌∙◌}
+use Rattle.std.proofs.Common.{◌≡◌, ◌<◌, ℕ, ◌+◌, List, [], ◌∷◌, ◌++◌, length, replicate, refl, ap, sym, arith, subst}
+use Rattle.std.proofs.Common.{◌∙◌}
 use Rattle.std.specs.Prelude.{slice_index}
 use Rattle.std.specs.List.{filter}
 use Rattle.std.proofs.lemmas.List.{get_or-replicate, length-append, length-map}
@@ -54,7 +55,8 @@ first =
     }
 
 -- what a line adds, behind groups
-pub adds_behind : (past : List Group) (line : Line) → Behind past → PartAdds (part line) (link_behind past) (behind_line line (state_behind past))
+pub adds_behind : (past : List Group) (line : Line) → Behind past
+    → PartAdds (part line) (link_behind past) (behind_line line (state_behind past))
 adds_behind past line b = line_adds line (state_behind past).rules.keys (link_behind past) b.nothing
 
 counted : (side : Side) (k : ℕ) (told : List Record) → length (ups_in side k told) ≡ ups side k told
@@ -63,47 +65,67 @@ counted side k told = length-map (filter (is_up side k) told) sdu_of
 loops_counted : (k : ℕ) (told : List Record) → length (loops_in k told) ≡ loopeds k told
 loops_counted k told = length-map (filter (is_looped k) told) sdu_of
 
-grown : (past : List Group) (g : Group) → IsInRange g.line → Behind past → PartAdds (part g.line) (link_behind past) (behind_line g.line (state_behind past)) → g.events ≡ (behind_line g.line (state_behind past)).out
+grown : (past : List Group) (g : Group) → IsInRange g.line → Behind past
+    → PartAdds (part g.line) (link_behind past) (behind_line g.line (state_behind past))
+    → g.events ≡ (behind_line g.line (state_behind past)).out
     → Behind (g ∷ past)
 grown past g fits b a e =
     let l = link_behind past in
     let m = behind_line g.line (state_behind past) in
     let told : filter is_tti (history (g ∷ past)) ≡ filter is_tti (history past) ++ filter is_tti m.out =
-    filter-append is_tti (history past) _ ∙ ap (λ (x : List Record). filter is_tti (history past) ++ filter is_tti x) e in
+    filter-append is_tti (history past) _
+    ∙ ap (λ (x : List Record). filter is_tti (history past) ++ filter is_tti x) e in
     let each = count_numbered l.ttis a.count in
     let count : ttis (g ∷ past) ≡ ttis past + a.count =
     ap (λ (x : List Record). length x) (told ∙ ap (λ (x : List Record). filter is_tti (history past) ++ x) a.numbers)
     ∙ length-append (filter is_tti (history past)) (numbered l.ttis a.count) ∙ ap (λ (n : ℕ). ttis past + n) each in
     record {
       nothing = refl;
-      nb_delivered = table_grows (λ k. length (delivered Nb k past)) (λ k. ups Nb k m.out) (λ k. length (delivered Nb k (g ∷ past))) l.up.delivered m.up.delivered
-          (λ k. length-append (delivered Nb k past) (ups_in Nb k g.events) ∙ ap (λ (x : List Record). length (delivered Nb k past) + length (ups_in Nb k x)) e ∙ ap (λ (n : ℕ). length (delivered Nb k past) + n) (counted Nb k m.out))
+      nb_delivered =
+          table_grows (λ k. length (delivered Nb k past)) (λ k. ups Nb k m.out)
+          (λ k. length (delivered Nb k (g ∷ past))) l.up.delivered m.up.delivered
+          (λ k. length-append (delivered Nb k past) (ups_in Nb k g.events)
+          ∙ ap (λ (x : List Record). length (delivered Nb k past) + length (ups_in Nb k x)) e
+          ∙ ap (λ (n : ℕ). length (delivered Nb k past) + n) (counted Nb k m.out))
           b.nb_delivered a.nb_delivered;
-      ue_delivered = table_grows (λ k. length (delivered Ue k past)) (λ k. ups Ue k m.out) (λ k. length (delivered Ue k (g ∷ past))) l.down.delivered m.down.delivered
-          (λ k. length-append (delivered Ue k past) (ups_in Ue k g.events) ∙ ap (λ (x : List Record). length (delivered Ue k past) + length (ups_in Ue k x)) e ∙ ap (λ (n : ℕ). length (delivered Ue k past) + n) (counted Ue k m.out))
+      ue_delivered =
+          table_grows (λ k. length (delivered Ue k past)) (λ k. ups Ue k m.out)
+          (λ k. length (delivered Ue k (g ∷ past))) l.down.delivered m.down.delivered
+          (λ k. length-append (delivered Ue k past) (ups_in Ue k g.events)
+          ∙ ap (λ (x : List Record). length (delivered Ue k past) + length (ups_in Ue k x)) e
+          ∙ ap (λ (n : ℕ). length (delivered Ue k past) + n) (counted Ue k m.out))
           b.ue_delivered a.ue_delivered;
-      nb_submitted = table_grows (λ k. length (submitted Nb k past)) (λ k. length (handed_in Nb k (part g.line) m.out)) (λ k. length (submitted Nb k (g ∷ past))) l.down.submitted m.down.submitted
+      nb_submitted =
+          table_grows (λ k. length (submitted Nb k past)) (λ k. length (handed_in Nb k (part g.line) m.out))
+          (λ k. length (submitted Nb k (g ∷ past))) l.down.submitted m.down.submitted
           (λ k.
           let handed = handed_in Nb k (part g.line) g.events in
           let all = length-append (submitted Nb k past) (handed ++ []) in
           let here = length-append handed [] in
-          let same : length handed ≡ length (handed_in Nb k (part g.line) m.out) = ap (λ (x : List Record). length (handed_in Nb k (part g.line) x)) e in
+          let same : length handed ≡ length (handed_in Nb k (part g.line) m.out) =
+          ap (λ (x : List Record). length (handed_in Nb k (part g.line) x)) e in
           omega (arith, all, here, same))
           b.nb_submitted a.nb_submitted;
-      ue_submitted = table_grows (λ k. length (submitted Ue k past)) (λ k. length (handed_in Ue k (part g.line) m.out) + loopeds k m.out) (λ k. length (submitted Ue k (g ∷ past))) l.up.submitted m.up.submitted
+      ue_submitted =
+          table_grows (λ k. length (submitted Ue k past))
+          (λ k. length (handed_in Ue k (part g.line) m.out) + loopeds k m.out)
+          (λ k. length (submitted Ue k (g ∷ past))) l.up.submitted m.up.submitted
           (λ k.
           let handed = handed_in Ue k (part g.line) g.events in
           let looped = loops_in k g.events in
           let all = length-append (submitted Ue k past) (handed ++ looped) in
           let here = length-append handed looped in
-          let same : length handed ≡ length (handed_in Ue k (part g.line) m.out) = ap (λ (x : List Record). length (handed_in Ue k (part g.line) x)) e in
-          let loops : length looped ≡ loopeds k m.out = ap (λ (x : List Record). length (loops_in k x)) e ∙ loops_counted k m.out in
+          let same : length handed ≡ length (handed_in Ue k (part g.line) m.out) =
+          ap (λ (x : List Record). length (handed_in Ue k (part g.line) x)) e in
+          let loops : length looped ≡ loopeds k m.out = ap (λ (x : List Record). length (loops_in k x)) e
+          ∙ loops_counted k m.out in
           omega (arith, all, here, same, loops))
           b.ue_submitted a.ue_submitted;
       ttis_is = let was = b.ttis_is in let now = a.ttis_is in omega (arith, count, was, now);
       in_turn =
           told ∙ ap (λ (x : List Record). x ++ filter is_tti m.out) b.in_turn
-          ∙ ap (λ (x : List Record). numbered 0 (ttis past) ++ x) (a.numbers ∙ ap (λ (t : ℕ). numbered t a.count) (sym b.ttis_is ∙ sym (zero_first (ttis past))))
+          ∙ ap (λ (x : List Record). numbered 0 (ttis past) ++ x)
+          (a.numbers ∙ ap (λ (t : ℕ). numbered t a.count) (sym b.ttis_is ∙ sym (zero_first (ttis past))))
           ∙ sym (numbered_then 0 (ttis past) a.count) ∙ ap (λ (n : ℕ). numbered 0 n) (sym count);
       processes = shown_too (grows g past (state_behind past).rules.keys l b.nothing e fits b.processes);
     }
@@ -116,12 +138,19 @@ grown past g fits b a e =
 
 pub behind : (past : List Group) → KeepsOrder past → Behind past
 behind [] order = first
-behind (g ∷ past) (right, order) = let b = behind past order in grown past g right.in_range b (adds_behind past g.line b) right.events_are
+behind (g ∷ past) (right, order) = let b = behind past order in
+    grown past g right.in_range b (adds_behind past g.line b) right.events_are
 
 pub are_carried : (past : List Group) → KeepsOrder past → AreCarried past
 are_carried [] order = tt
-are_carried (g ∷ past) (right, order) = (is_carried (g ∷ past) (link_behind (g ∷ past)) (behind (g ∷ past) (right, order)).processes, are_carried past order)
+are_carried (g ∷ past) (right, order) = (
+  is_carried (g ∷ past) (link_behind (g ∷ past)) (behind (g ∷ past) (right, order)).processes,
+  are_carried past order,
+)
 
 -- the records of a line stand where its TTIs do
-pub of_their_time : (past : List Group) (line : Line) → Behind past → IsOfItsTime (ttis past) (part line) (behind_line line (state_behind past)).out
-of_their_time past line b = subst (λ (t : ℕ). IsOfItsTime t (part line) (behind_line line (state_behind past)).out) (sym b.ttis_is) (adds_behind past line b).of_its_time
+pub of_their_time : (past : List Group) (line : Line) → Behind past
+    → IsOfItsTime (ttis past) (part line) (behind_line line (state_behind past)).out
+of_their_time past line b =
+    subst (λ (t : ℕ). IsOfItsTime t (part line) (behind_line line (state_behind past)).out) (sym b.ttis_is)
+    (adds_behind past line b).of_its_time

@@ -1,5 +1,6 @@
 -- The records of a run itself: which of them number TTIs.
-use Rattle.std.proofs.Common.{◌≡◌, ℕ, zero, suc, ◌+◌, Bool, true, false, cond, List, [], ◌∷◌, ◌++◌, length, append-nil, refl, ap, arith, ◌∙◌}
+use Rattle.std.proofs.Common.{◌≡◌, ℕ, zero, suc, ◌+◌, Bool, true, false, cond, List, [], ◌∷◌, ◌++◌, length, append-nil}
+use Rattle.std.proofs.Common.{refl, ap, arith, ◌∙◌}
 use Rattle.std.specs.List.{filter}
 use Rattle.std.proofs.lemmas.List.Elements.{filter-append}
 use Rattle.air_record.specs.declared.record.Record.{Record}
@@ -23,8 +24,10 @@ is_of_a_run (records.Sum direction lcid submitted delivered state) e = cc
 is_of_a_run (records.Shown number direction len) e = cc
 is_of_a_run one e = cc
 
-kept : (one : Record) (xs : List Record) (a b : Bool) → is_of_run one ≡ a → is_tti one ≡ b → filter is_tti (filter is_of_run xs) ≡ filter is_tti xs
-    → filter is_tti (cond a (one ∷ filter is_of_run xs) (filter is_of_run xs)) ≡ cond b (one ∷ filter is_tti xs) (filter is_tti xs)
+kept : (one : Record) (xs : List Record) (a b : Bool) → is_of_run one ≡ a → is_tti one ≡ b
+    → filter is_tti (filter is_of_run xs) ≡ filter is_tti xs
+    → filter is_tti (cond a (one ∷ filter is_of_run xs) (filter is_of_run xs))
+    ≡ cond b (one ∷ filter is_tti xs) (filter is_tti xs)
 kept one xs true true e f h = rw f (ap (λ (ys : List Record). one ∷ ys) h)
 kept one xs true false e f h = rw f h
 kept one xs false true e f h = let now = is_of_a_run one f in cc
@@ -53,14 +56,16 @@ numbered_then from zero b =
 numbered_then from (suc a) b =
     let more : suc a + b ≡ suc (a + b) = omega arith in
     let same : (from + 1) + a ≡ from + suc a = omega arith in
-    rw more (ap (λ (ys : List Record). records.Tti from ∷ ys) (numbered_then (from + 1) a b ∙ ap (λ (n : ℕ). numbered (from + 1) a ++ numbered n b) same))
+    rw more (ap (λ (ys : List Record). records.Tti from ∷ ys)
+    (numbered_then (from + 1) a b ∙ ap (λ (n : ℕ). numbered (from + 1) a ++ numbered n b) same))
 
 pub no_tti_ends : (is_done : Bool) (rounds : ℕ) → filter is_tti (ending is_done rounds ∷ []) ≡ []
 no_tti_ends true rounds = refl
 no_tti_ends false rounds = refl
 
 -- the TTIs of what a drain tells
-pub ttis_of_drain : (from count : ℕ) (is_done : Bool) (rounds : ℕ) → filter is_tti (numbered from count ++ ending is_done rounds ∷ []) ≡ numbered from count
+pub ttis_of_drain : (from count : ℕ) (is_done : Bool) (rounds : ℕ)
+    → filter is_tti (numbered from count ++ ending is_done rounds ∷ []) ≡ numbered from count
 ttis_of_drain from count is_done rounds =
     filter-append is_tti (numbered from count) (ending is_done rounds ∷ [])
     ∙ ap (λ (ys : List Record). filter is_tti (numbered from count) ++ ys) (no_tti_ends is_done rounds)

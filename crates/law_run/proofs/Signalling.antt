@@ -1,5 +1,7 @@
--- Each signalling bearer of a journal hands up the first SDUs of those submitted at the other end since the last handover.
-use Rattle.std.proofs.Common.{◌≡◌, ◌<◌, arith, ℕ, ◌==◌, nat_lt, Bool, true, false, ◌||◌, if◌then◌else◌, Some, None, List, [], ◌∷◌, ◌++◌, append-nil, append_assoc, refl, ap, sym, subst, ◌∙◌}
+-- Each signalling bearer of a journal hands up the first SDUs of those submitted at the other end since the last
+-- handover.
+use Rattle.std.proofs.Common.{◌≡◌, ◌<◌, arith, ℕ, ◌==◌, nat_lt, Bool, true, false, ◌||◌, if◌then◌else◌, Some, None}
+use Rattle.std.proofs.Common.{List, [], ◌∷◌, ◌++◌, append-nil, append_assoc, refl, ap, sym, subst, ◌∙◌}
 use Rattle.std.proofs.lemmas.Bool.Decides.{nat_tests}
 use Rattle.std.proofs.lemmas.List.Concat.{flat_map-append}
 use Rattle.std.proofs.lemmas.List.Elements.{filter-append}
@@ -46,14 +48,16 @@ use Rattle.law_air.proofs.TwoEnds.Lives.{channels_begin}
 use Rattle.law_air.proofs.TwoEnds.Staying.{LivedIn, bearers_live_in, LivesAnew, lives_anew}
 use Rattle.law_deliver.specs.SrbChannel.Running.{Life, running, first_life}
 use Rattle.law_deliver.proofs.SrbChannel.Laws.{Living, first_living, all_live}
-use Rattle.law_deliver.proofs.SrbChannel.Running.{Start, down, up, all_down, all_up, none_between, none_lost, none_lost_between, starts_first, starts_anew}
+use Rattle.law_deliver.proofs.SrbChannel.Running.{Start, down, up, all_down, all_up, none_between, none_lost}
+use Rattle.law_deliver.proofs.SrbChannel.Running.{none_lost_between, starts_first, starts_anew}
 use Rattle.promises.specs.Arrival.{ended_by}
 use Rattle.promises.specs.Delivery.{forges, is_forged, sets_timer}
 use Rattle.promises.specs.Parts.{hands_over, part}
 use Rattle.promises.specs.Drained.{failed}
 use Rattle.promises.specs.Flows.{handed_in, looped_at, submitted, delivered}
 use Rattle.law_run.specs.Order.{state_behind, IsRight, KeepsOrder}
-use Rattle.promises.specs.Signalling.{submitted_since, delivered_since, lost, SignalAll, DeliversEachLife, LeavesNoSignal, DrainsLeaveNoSignal, BringsNoSignal, HandoversBringNoSignal}
+use Rattle.promises.specs.Signalling.{submitted_since, delivered_since, lost, SignalAll, DeliversEachLife}
+use Rattle.promises.specs.Signalling.{LeavesNoSignal, DrainsLeaveNoSignal, BringsNoSignal, HandoversBringNoSignal}
 use Rattle.promises.specs.Configs.{config_by, config_of}
 use Rattle.law_run.proofs.Delivering.{ups_are_told, ups_told, is_first, at_each}
 use Rattle.law_run.proofs.Early.{is_early}
@@ -70,12 +74,15 @@ use Rattle.law_run.proofs.Unlooped.{none_looped}
 abbrev losses_on : ℕ → List Event → List Event
 losses_on l told = losses (told_on l told)
 
-lost_both : (l : ℕ) (side : Side) (xs ys : List Record) → losses_on l (told_by side (xs ++ ys)) ≡ losses_on l (told_by side xs) ++ losses_on l (told_by side ys)
+lost_both : (l : ℕ) (side : Side) (xs ys : List Record)
+    → losses_on l (told_by side (xs ++ ys)) ≡ losses_on l (told_by side xs) ++ losses_on l (told_by side ys)
 lost_both l side xs ys =
-    ap (losses_on l) (told_both side xs ys (told_by side xs) (told_by side ys) refl refl) ∙ ap losses (told_then l (told_by side xs) (told_by side ys))
+    ap (losses_on l) (told_both side xs ys (told_by side xs) (told_by side ys) refl refl)
+    ∙ ap losses (told_then l (told_by side xs) (told_by side ys))
     ∙ filter-append is_lost (told_on l (told_by side xs)) (told_on l (told_by side ys))
 
-lost_then : (l : ℕ) (side : Side) (past : List Group) (g : Group) → lost side l (g ∷ past) ≡ lost side l past ++ losses_on l (told_by side g.events)
+lost_then : (l : ℕ) (side : Side) (past : List Group) (g : Group)
+    → lost side l (g ∷ past) ≡ lost side l past ++ losses_on l (told_by side g.events)
 lost_then l side past g = lost_both l side (history past) (records.Line g.number g.line ∷ g.events)
 
 -- ---- a channel of signalling, behind groups
@@ -101,11 +108,14 @@ pub record IsSignalling (l : ℕ) (past : List Group) : Type 0 where
 
 -- ---- no discard timers are set on it
 
-discard_high : (lcid ttis : ℕ) (r : Rules) (k : Link) → refusal (lines.Discard lcid ttis) r k ≡ None → nat_lt lcid 3 ≡ false
+discard_high : (lcid ttis : ℕ) (r : Rules) (k : Link) → refusal (lines.Discard lcid ttis) r k ≡ None
+    → nat_lt lcid 3 ≡ false
 unfolding rule_broken
 discard_high lcid ttis r k allowed =
     let all = not_first (rule_broken (lines.Discard lcid ttis) r k) _ allowed in
-    no_cause (nat_lt lcid 3) NoDiscard (not_first (refused_if (nat_lt lcid 3) NoDiscard) _ (not_second (unknown lcid k) _ (not_second (late r) _ all)))
+    no_cause (nat_lt lcid 3) NoDiscard
+    (not_first (refused_if (nat_lt lcid 3) NoDiscard) _
+    (not_second (unknown lcid k) _ (not_second (late r) _ all)))
 
 apart_of : (lcid l : ℕ) → nat_lt lcid 3 ≡ false → l < 3 → (lcid == l) ≡ false
 apart_of lcid l high low = grind (arith, nat_tests)
@@ -116,9 +126,11 @@ sets_none l line r k low allowed = refl
 
 -- ---- a line since that is no handover
 
-told_ups : (l : ℕ) (side : Side) (xs ys : List Record) → ups_on l (told_by side (xs ++ ys)) ≡ ups_on l (told_by side xs) ++ ups_on l (told_by side ys)
+told_ups : (l : ℕ) (side : Side) (xs ys : List Record)
+    → ups_on l (told_by side (xs ++ ys)) ≡ ups_on l (told_by side xs) ++ ups_on l (told_by side ys)
 told_ups l side xs ys =
-    ap (ups_on l) (told_both side xs ys (told_by side xs) (told_by side ys) refl refl) ∙ flat_map-append (event_ups l) (told_by side xs) (told_by side ys)
+    ap (ups_on l) (told_both side xs ys (told_by side xs) (told_by side ys) refl refl)
+    ∙ flat_map-append (event_ups l) (told_by side xs) (told_by side ys)
 
 kept_by : (b : Bool) (xs : List (List ℕ)) → b ≡ false → (if b then [] else xs) ≡ xs
 kept_by true xs e = absurd cc
@@ -128,15 +140,18 @@ dropped_by : (b : Bool) (xs : List (List ℕ)) → b ≡ true → (if b then [] 
 dropped_by true xs e = refl
 dropped_by false xs e = absurd cc
 
-stays_on : (l : ℕ) (past : List Group) (g : Group) → IsRight past g → KeepsOrder past → adds_one l g.line ≡ false → forges g.line ≡ false → hands_over g.line ≡ false → IsSignalling l past → IsSignalling l (g ∷ past)
+stays_on : (l : ℕ) (past : List Group) (g : Group) → IsRight past g → KeepsOrder past → adds_one l g.line ≡ false
+    → forges g.line ≡ false → hands_over g.line ≡ false → IsSignalling l past → IsSignalling l (g ∷ past)
 stays_on l past g right order other own here d =
     let k = link_behind past in
     let m = behind_line g.line (state_behind past) in
     let p = part g.line in
     let set = false || sets_timer l g.line in
     let off : set ≡ false = sets_none l g.line (state_behind past).rules k d.low right.allowed in
-    let x : PartLives l (InOneLife l d.nb d.ue) (through_life l d.nb d.ue) d.told d.handed unread set (ended_by g.line) p m =
-    line_stays l (InOneLife l d.nb d.ue) (through_life l d.nb d.ue) d.told d.handed unread false g.line (state_behind past).rules.keys k (behind past order).nothing right.in_range other own here d.lived in
+    let x : PartLives l (InOneLife l d.nb d.ue) (through_life l d.nb d.ue) d.told d.handed unread set
+    (ended_by g.line) p m =
+    line_stays l (InOneLife l d.nb d.ue) (through_life l d.nb d.ue) d.told d.handed unread false g.line
+    (state_behind past).rules.keys k (behind past order).nothing right.in_range other own here d.lived in
     let lived = (through_life l d.nb d.ue).unseen _ _ unread set m [] x.lived in
     record {
       low = d.low;
@@ -147,27 +162,39 @@ stays_on l past g right order other own here d =
       begun = d.begun;
       told = d.told ++ x.more;
       handed = λ side n. d.handed side n ++ (handed_in side n p m.out ++ looped_at side n m.out);
-      lived = subst (λ b. LivedIn l d.nb d.ue (d.told ++ x.more) (λ side n. d.handed side n ++ (handed_in side n p m.out ++ looped_at side n m.out)) b (link_behind (g ∷ past))) off lived;
+      lived =
+          subst (λ b. LivedIn l d.nb d.ue (d.told ++ x.more)
+          (λ side n. d.handed side n ++ (handed_in side n p m.out ++ looped_at side n m.out)) b
+          (link_behind (g ∷ past))) off lived;
       delivered_is = λ side.
-          ap (λ (xs : List (List ℕ)). xs ++ ups_in side l g.events) (kept_by (hands_over g.line) (delivered_since side l past) here ∙ d.delivered_is side)
-          ∙ ap (λ (xs : List (List ℕ)). ups_on l (told_by side d.told) ++ xs) (sym (ups_are_told side l g.events) ∙ ap (λ (ys : List Record). ups_on l (told_by side ys)) right.events_are ∙ ap (ups_on l) (x.told_are side))
+          ap (λ (xs : List (List ℕ)). xs ++ ups_in side l g.events)
+          (kept_by (hands_over g.line) (delivered_since side l past) here ∙ d.delivered_is side)
+          ∙ ap (λ (xs : List (List ℕ)). ups_on l (told_by side d.told) ++ xs)
+          (sym (ups_are_told side l g.events) ∙ ap (λ (ys : List Record). ups_on l (told_by side ys)) right.events_are
+          ∙ ap (ups_on l) (x.told_are side))
           ∙ sym (told_ups l side d.told x.more);
       submitted_is = λ side.
-          ap (λ (xs : List (List ℕ)). xs ++ (handed_in side l p g.events ++ looped_at side l g.events)) (kept_by (hands_over g.line) (submitted_since side l past) here ∙ d.submitted_is side)
-          ∙ ap (λ (ys : List Record). d.handed side l ++ (handed_in side l p ys ++ looped_at side l ys)) right.events_are;
+          ap (λ (xs : List (List ℕ)). xs ++ (handed_in side l p g.events ++ looped_at side l g.events))
+          (kept_by (hands_over g.line) (submitted_since side l past) here ∙ d.submitted_is side)
+          ∙ ap (λ (ys : List Record). d.handed side l ++ (handed_in side l p ys ++ looped_at side l ys))
+          right.events_are;
       lost_is = λ side.
           lost_then l side past g ∙ ap (λ (xs : List Event). xs ++ losses_on l (told_by side g.events)) (d.lost_is side)
-          ∙ ap (λ (xs : List Event). losses_on l (told_by side d.told) ++ xs) (ap (λ (ys : List Record). losses_on l (told_by side ys)) right.events_are ∙ ap (losses_on l) (x.told_are side))
+          ∙ ap (λ (xs : List Event). losses_on l (told_by side d.told) ++ xs)
+          (ap (λ (ys : List Record). losses_on l (told_by side ys)) right.events_are
+          ∙ ap (losses_on l) (x.told_are side))
           ∙ sym (lost_both l side d.told x.more);
       senders = λ side. sender_goes side l past g right order other (d.senders side);
     }
 
 -- ---- what has come of the running life
 
-running_in : (xs : List AirStep) (life : Life) → AreInLife xs → running xs life ≡ record life { steps = life.steps ++ xs }
+running_in : (xs : List AirStep) (life : Life) → AreInLife xs
+    → running xs life ≡ record life { steps = life.steps ++ xs }
 running_in [] life h = ap (λ (ys : List AirStep). record life { steps = ys }) (sym (append-nil life.steps))
 running_in (InLife s ∷ xs) life h =
-    running_in xs (record life { steps = life.steps ++ InLife s ∷ [] }) h ∙ ap (λ (ys : List AirStep). record life { steps = ys }) (append_assoc life.steps (InLife s ∷ []) xs)
+    running_in xs (record life { steps = life.steps ++ InLife s ∷ [] }) h
+    ∙ ap (λ (ys : List AirStep). record life { steps = ys }) (append_assoc life.steps (InLife s ∷ []) xs)
 running_in (Moves keys ∷ xs) life h = absurd h
 
 module _ (l : ℕ) (past : List Group) (d : IsSignalling l past) where
@@ -183,26 +210,35 @@ module _ (l : ℕ) (past : List Group) (d : IsSignalling l past) where
   pub living : Living l life
   living =
       subst (Living l) (running_in steps (first_life d.nb d.ue) d.lived.in_life)
-      (all_live l steps (first_life d.nb d.ue) d.lived.by.living (d.lived.by.sets_none refl) (first_living l d.nb d.ue d.near d.far d.begun))
+      (all_live l steps (first_life d.nb d.ue) d.lived.by.living (d.lived.by.sets_none refl)
+      (first_living l d.nb d.ue d.near d.far d.begun))
 
   went_up_is : (side : Side) → went_up l (all_calls side steps start) (end_at side start) ≡ delivered_since side l past
   went_up_is side = ap (ups_on l) (sym (d.lived.by.told_is side)) ∙ sym (d.delivered_is side)
 
-  was_submitted_is : (side : Side) → was_submitted l (all_calls side steps start) (end_at side start) ≡ submitted_since side l past
+  was_submitted_is : (side : Side) → was_submitted l (all_calls side steps start) (end_at side start)
+      ≡ submitted_since side l past
   was_submitted_is side = d.lived.by.submitted_is side l ∙ sym (d.submitted_is side)
 
   pub none_is_lost : (side : Side) → lost side l past ≡ []
   none_is_lost side =
-      d.lost_is side ∙ ap (losses_on l) (d.lived.by.told_is side) ∙ none_lost l d.nb d.ue living.near living.far living.begun steps living.runs living.calls side
+      d.lost_is side ∙ ap (losses_on l) (d.lived.by.told_is side)
+      ∙ none_lost l d.nb d.ue living.near living.far living.begun steps living.runs living.calls side
 
-  as_told : {us vs ss ts : List (List ℕ)} (P : List (List ℕ) → List (List ℕ) → Type 0) → us ≡ vs → ss ≡ ts → P us ss → P vs ts
+  as_told : {us vs ss ts : List (List ℕ)} (P : List (List ℕ) → List (List ℕ) → Type 0) → us ≡ vs → ss ≡ ts → P us ss
+      → P vs ts
   as_told {us} {vs} {ss} {ts} P e f p = subst (λ zs. P zs ts) e (subst (P us) f p)
 
   pub front_is : (from : Side) → IsFront (delivered_since (other from) l past) (submitted_since from l past)
-  front_is Nb = as_told IsFront (went_up_is Ue) (was_submitted_is Nb) (down l d.nb d.ue living.near living.far living.begun steps living.runs living.calls)
-  front_is Ue = as_told IsFront (went_up_is Nb) (was_submitted_is Ue) (up l d.nb d.ue living.near living.far living.begun steps living.runs living.calls)
+  front_is Nb =
+      as_told IsFront (went_up_is Ue) (was_submitted_is Nb)
+      (down l d.nb d.ue living.near living.far living.begun steps living.runs living.calls)
+  front_is Ue =
+      as_told IsFront (went_up_is Nb) (was_submitted_is Ue)
+      (up l d.nb d.ue living.near living.far living.begun steps living.runs living.calls)
 
-  pub all_are : (from : Side) → end_drained (end_of from (link_behind past)) ≡ true → failed from l past ≡ [] → delivered_since (other from) l past ≡ submitted_since from l past
+  pub all_are : (from : Side) → end_drained (end_of from (link_behind past)) ≡ true → failed from l past ≡ []
+      → delivered_since (other from) l past ≡ submitted_since from l past
   all_are Nb done quiet =
       let here : (lives steps start).nb.end ≡ (link_behind past).nb = d.lived.by.on.nb_is in
       sym (went_up_is Ue)
@@ -224,7 +260,8 @@ module _ (l : ℕ) (past : List Group) (d : IsSignalling l past) where
 
 -- ---- a handover
 
-moves_on : (l : ℕ) (past : List Group) (g : Group) (user rrc integrity : _) → IsRight past (record g { line = lines.Handover user rrc integrity }) → KeepsOrder past → IsSignalling l past
+moves_on : (l : ℕ) (past : List Group) (g : Group) (user rrc integrity : _)
+    → IsRight past (record g { line = lines.Handover user rrc integrity }) → KeepsOrder past → IsSignalling l past
     → IsSignalling l (record g { line = lines.Handover user rrc integrity } ∷ past)
 unfolding acted
 moves_on l past g user rrc integrity right order d =
@@ -239,11 +276,16 @@ moves_on l past g user rrc integrity right order d =
     let ue = after_call a.ue.end (Move keys) in
     let leaving = x.moves.leaving in
     let behind' = x.moves.behind in
-    let events_are : g.events ≡ leaving ++ behind' = right.events_are ∙ x.moves.out_is ∙ ap (λ (o : List Record). o ++ (leaving ++ behind')) (behind past order).nothing in
+    let events_are : g.events ≡ leaving ++ behind' = right.events_are ∙ x.moves.out_is
+    ∙ ap (λ (o : List Record). o ++ (leaving ++ behind')) (behind past order).nothing in
     let none : (side : Side) → ups_on l (told_by side leaving) ≡ [] = λ side.
-    ap (ups_on l) (x.moves.told_is side) ∙ none_between l d.nb d.ue alive.near alive.far alive.begun (steps l past d) alive.runs alive.calls side keys in
+    ap (ups_on l) (x.moves.told_is side)
+    ∙ none_between l d.nb d.ue alive.near alive.far alive.begun (steps l past d) alive.runs alive.calls side keys
+    in
     let none_lost' : (side : Side) → losses_on l (told_by side leaving) ≡ [] = λ side.
-    ap (losses_on l) (x.moves.told_is side) ∙ none_lost_between l d.nb d.ue alive.near alive.far alive.begun (steps l past d) alive.runs alive.calls side keys in
+    ap (losses_on l) (x.moves.told_is side)
+    ∙ none_lost_between l d.nb d.ue alive.near alive.far alive.begun (steps l past d) alive.runs alive.calls side
+    keys in
     record {
       low = d.low;
       nb = nb;
@@ -255,13 +297,15 @@ moves_on l past g user rrc integrity right order d =
       handed = λ side n. looped_at side n behind';
       lived = (through_life l nb ue).unseen behind' (λ side n. looped_at side n behind') unread false m [] x.lived;
       delivered_is = λ side.
-          sym (ups_are_told side l g.events) ∙ ap (λ (ys : List Record). ups_on l (told_by side ys)) events_are ∙ told_ups l side leaving behind'
+          sym (ups_are_told side l g.events) ∙ ap (λ (ys : List Record). ups_on l (told_by side ys)) events_are
+          ∙ told_ups l side leaving behind'
           ∙ ap (λ (ys : List (List ℕ)). ys ++ ups_on l (told_by side behind')) (none side);
       submitted_is = λ side.
           ap (looped_at side l) events_are ∙ looped_then side l leaving behind'
           ∙ ap (λ (ys : List (List ℕ)). ys ++ looped_at side l behind') (x.moves.none_looped side l);
       lost_is = λ side.
-          lost_then l side past (record g { line = line }) ∙ ap (λ (xs : List Event). xs ++ losses_on l (told_by side g.events)) (none_is_lost l past d side)
+          lost_then l side past (record g { line = line })
+          ∙ ap (λ (xs : List Event). xs ++ losses_on l (told_by side g.events)) (none_is_lost l past d side)
           ∙ ap (λ (ys : List Record). losses_on l (told_by side ys)) events_are ∙ lost_both l side leaving behind'
           ∙ ap (λ (xs : List Event). xs ++ losses_on l (told_by side behind')) (none_lost' side);
       senders = λ side. sender_goes side l past (record g { line = line }) right order refl (d.senders side);
@@ -277,24 +321,32 @@ if_none : (b : Bool) (xs ys : List (List ℕ)) → xs ≡ [] → ys ≡ [] → (
 if_none true xs ys p q = q
 if_none false xs ys p q = ap (λ (zs : List (List ℕ)). zs ++ ys) p ∙ q
 
-none_delivered : (side : Side) (l : ℕ) (past : List Group) → delivered side l past ≡ [] → delivered_since side l past ≡ []
+none_delivered : (side : Side) (l : ℕ) (past : List Group) → delivered side l past ≡ []
+    → delivered_since side l past ≡ []
 none_delivered side l [] e = refl
 none_delivered side l (g ∷ past) e =
     let parts = none_both (delivered side l past) (ups_in side l g.events) e in
-    if_none (hands_over g.line) (delivered_since side l past) (ups_in side l g.events) (none_delivered side l past parts.0) parts.1
+    if_none (hands_over g.line) (delivered_since side l past) (ups_in side l g.events)
+    (none_delivered side l past parts.0) parts.1
 
-none_submitted : (side : Side) (l : ℕ) (past : List Group) → submitted side l past ≡ [] → submitted_since side l past ≡ []
+none_submitted : (side : Side) (l : ℕ) (past : List Group) → submitted side l past ≡ []
+    → submitted_since side l past ≡ []
 none_submitted side l [] e = refl
 none_submitted side l (g ∷ past) e =
-    let parts = none_both (submitted side l past) (handed_in side l (part g.line) g.events ++ looped_at side l g.events) e in
-    if_none (hands_over g.line) (submitted_since side l past) (handed_in side l (part g.line) g.events ++ looped_at side l g.events) (none_submitted side l past parts.0) parts.1
+    let parts =
+    none_both (submitted side l past) (handed_in side l (part g.line) g.events ++ looped_at side l g.events) e in
+    if_none (hands_over g.line) (submitted_since side l past)
+    (handed_in side l (part g.line) g.events ++ looped_at side l g.events) (none_submitted side l past parts.0)
+    parts.1
 
 -- ---- the line in which its bearers come
 
 low_of : (kind : Kind) (lcid : ℕ) → kind ≡ Srb → IsChannelOf kind lcid → lcid < 3
-low_of kind lcid e h = let own : IsChannelOf Srb lcid = subst (λ k. IsChannelOf k lcid) e h in let few = own.1 in omega (arith, few)
+low_of kind lcid e h = let own : IsChannelOf Srb lcid = subst (λ k. IsChannelOf k lcid) e h in let few = own.1 in
+    omega (arith, few)
 
-begin_by : (past : List Group) (g : Group) (c : BearerConfig) (options : _) → IsRight past (record g { line = lines.Bearer c options }) → KeepsOrder past → c.kind ≡ Srb
+begin_by : (past : List Group) (g : Group) (c : BearerConfig) (options : _)
+    → IsRight past (record g { line = lines.Bearer c options }) → KeepsOrder past → c.kind ≡ Srb
     → IsSignalling c.channel.lcid (record g { line = lines.Bearer c options } ∷ past)
 unfolding acted accepted bears
 begin_by past g c options right order kind =
@@ -316,49 +368,61 @@ begin_by past g c options right order kind =
       ue = after_call k.ue (Add c keys);
       near = _;
       far = _;
-      begun = starts_first l c keys (after_call k.nb (Add c keys)) (after_call k.ue (Add c keys)) kind (omega (arith, count)) nb_begun ue_begun;
+      begun = starts_first l c keys (after_call k.nb (Add c keys)) (after_call k.ue (Add c keys)) kind
+          (omega (arith, count)) nb_begun ue_begun;
       told = [];
       handed = λ side n. [];
-      lived = (through_life l (after_call k.nb (Add c keys)) (after_call k.ue (Add c keys))).unseen [] (λ side n. []) unread false (bears c keys k) [] (bearers_live_in c keys k right.in_range rest);
+      lived = (through_life l (after_call k.nb (Add c keys)) (after_call k.ue (Add c keys))).unseen [] (λ side n. [])
+          unread false (bears c keys k) [] (bearers_live_in c keys k right.in_range rest);
       delivered_is = λ side. none_delivered side l all (ups_told side l all ∙ ap (ups_on l) (now'.none_told side));
       submitted_is = λ side. none_submitted side l all (now'.none_submitted side l);
       lost_is = λ side. ap (losses_on l) (now'.none_told side);
-      senders = at_each (λ side. HasSender side l _) (signalling_begins Nb l c keys _ kind nb_begun) (signalling_begins Ue l c keys _ kind ue_begun);
+      senders = at_each (λ side. HasSender side l _) (signalling_begins Nb l c keys _ kind nb_begun)
+          (signalling_begins Ue l c keys _ kind ue_begun);
     }
 
 -- ---- behind all groups
 
-begins : (past : List Group) (g : Group) (c : BearerConfig) (options : _) → g.line ≡ lines.Bearer c options → IsRight past g → KeepsOrder past → c.kind ≡ Srb → IsSignalling c.channel.lcid (g ∷ past)
+begins : (past : List Group) (g : Group) (c : BearerConfig) (options : _) → g.line ≡ lines.Bearer c options
+    → IsRight past g → KeepsOrder past → c.kind ≡ Srb → IsSignalling c.channel.lcid (g ∷ past)
 begins past g c options is right order kind =
     subst (λ (line : Line). IsSignalling c.channel.lcid (record g { line = line } ∷ past)) (sym is)
     (begin_by past g c options (subst (λ (line : Line). IsRight past (record g { line = line })) is right) order kind)
 
-line_by : (b : Bool) (l : ℕ) (past : List Group) (g : Group) → hands_over g.line ≡ b → adds_one l g.line ≡ false → IsRight past g → KeepsOrder past → forges g.line ≡ false → IsSignalling l past → IsSignalling l (g ∷ past)
+line_by : (b : Bool) (l : ℕ) (past : List Group) (g : Group) → hands_over g.line ≡ b → adds_one l g.line ≡ false
+    → IsRight past g → KeepsOrder past → forges g.line ≡ false → IsSignalling l past → IsSignalling l (g ∷ past)
 line_by false l past g here other right order own d = stays_on l past g right order other own here d
 line_by true l past g here other right order own d = over g.line refl here
   where
     over : (line : Line) → g.line ≡ line → hands_over line ≡ true → IsSignalling l (g ∷ past)
     over (lines.Handover user rrc integrity) is h =
         subst (λ (line : Line). IsSignalling l (record g { line = line } ∷ past)) (sym is)
-        (moves_on l past g user rrc integrity (subst (λ (line : Line). IsRight past (record g { line = line })) is right) order d)
+        (moves_on l past g user rrc integrity
+        (subst (λ (line : Line). IsRight past (record g { line = line })) is right) order d)
     over line is h = absurd cc
 
-signalling_by : (b : Bool) (l : ℕ) (past : List Group) (g : Group) (c : BearerConfig) → adds_one l g.line ≡ b → IsRight past g → KeepsOrder past → c.kind ≡ Srb → config_of l (g ∷ past) ≡ Some c → forges g.line ≡ false
+signalling_by : (b : Bool) (l : ℕ) (past : List Group) (g : Group) (c : BearerConfig) → adds_one l g.line ≡ b
+    → IsRight past g → KeepsOrder past → c.kind ≡ Srb → config_of l (g ∷ past) ≡ Some c → forges g.line ≡ false
     → (config_of l past ≡ Some c → IsSignalling l past) → IsSignalling l (g ∷ past)
-signalling_by false l past g c is right order kind e own rest = line_by (hands_over g.line) l past g refl is right order own (rest (unchanged l g.line (config_of l past) c is e))
+signalling_by false l past g c is right order kind e own rest =
+    line_by (hands_over g.line) l past g refl is right order own (rest (unchanged l g.line (config_of l past) c is e))
 signalling_by true l past g c is right order kind e own rest =
     let a = adds_it l g.line is in
     let taken : config_by l (lines.Bearer a.config a.options) (config_of l past) ≡ Some a.config =
     ap (λ (b : Bool). if b then Some a.config else config_of l past) (sym (ap (adds_one l) a.line_is) ∙ is) in
-    let some : Some a.config ≡ Some c = sym taken ∙ ap (λ (line : Line). config_by l line (config_of l past)) (sym a.line_is) ∙ e in
+    let some : Some a.config ≡ Some c =
+    sym taken ∙ ap (λ (line : Line). config_by l line (config_of l past)) (sym a.line_is) ∙ e in
     let same : a.config ≡ c = cc in
-    subst (λ (n : ℕ). IsSignalling n (g ∷ past)) a.lcid_is (begins past g a.config a.options a.line_is right order (ap (λ (d : BearerConfig). d.kind) same ∙ kind))
+    subst (λ (n : ℕ). IsSignalling n (g ∷ past)) a.lcid_is
+    (begins past g a.config a.options a.line_is right order (ap (λ (d : BearerConfig). d.kind) same ∙ kind))
 
-pub is_signalling : (l : ℕ) (past : List Group) (c : BearerConfig) → KeepsOrder past → c.kind ≡ Srb → config_of l past ≡ Some c → is_forged past ≡ false → IsSignalling l past
+pub is_signalling : (l : ℕ) (past : List Group) (c : BearerConfig) → KeepsOrder past → c.kind ≡ Srb
+    → config_of l past ≡ Some c → is_forged past ≡ false → IsSignalling l past
 is_signalling l [] c order kind e own = absurd cc
 is_signalling l (g ∷ past) c (right, order) kind e own =
     let apart = both_false (forges g.line) (is_forged past) own in
-    signalling_by (adds_one l g.line) l past g c refl right order kind e apart.0 (λ is. is_signalling l past c order kind is apart.1)
+    signalling_by (adds_one l g.line) l past g c refl right order kind e apart.0
+    (λ is. is_signalling l past c order kind is apart.1)
 
 -- ---- the promises
 
@@ -371,20 +435,25 @@ pub delivers_each_life : (past : List Group) → KeepsOrder past → DeliversEac
 delivers_each_life [] order = tt
 delivers_each_life (g ∷ past) (right, order) = (signals (g ∷ past) (right, order), delivers_each_life past order)
 
-leaves_none : (past : List Group) → KeepsOrder past → is_drained (link_behind past) ≡ true → is_forged past ≡ false → LeavesNoSignal past
-leaves_none past order done own from l c e kind quiet = all_are l past (is_signalling l past c order kind e own) from (side_drained from (link_behind past) done) quiet
+leaves_none : (past : List Group) → KeepsOrder past → is_drained (link_behind past) ≡ true → is_forged past ≡ false
+    → LeavesNoSignal past
+leaves_none past order done own from l c e kind quiet =
+    all_are l past (is_signalling l past c order kind e own) from (side_drained from (link_behind past) done) quiet
 
 pub drains_leave_no_signal : (past : List Group) → KeepsOrder past → DrainsLeaveNoSignal past
 drains_leave_no_signal [] order = tt
-drains_leave_no_signal (g ∷ past) (right, order) =
-    (λ d. leaves_none (g ∷ past) (right, order) (link_drained past g right d) (none_forged past g right d), drains_leave_no_signal past order)
+drains_leave_no_signal (g ∷ past) (right, order) = (
+  λ d. leaves_none (g ∷ past) (right, order) (link_drained past g right d) (none_forged past g right d),
+  drains_leave_no_signal past order,
+)
 
 -- ---- in a handover
 
 front_of_none : (xs ys : List (List ℕ)) → ys ≡ [] → IsFront xs ys → xs ≡ []
 front_of_none xs ys none f = (none_both xs f.rest (sym f.is ∙ none)).0
 
-moves_none : (line : Line) → hands_over line ≡ true → (side : Side) (l : ℕ) (told : List Record) → handed_in side l (part line) told ≡ []
+moves_none : (line : Line) → hands_over line ≡ true → (side : Side) (l : ℕ) (told : List Record)
+    → handed_in side l (part line) told ≡ []
 moves_none (lines.Handover user rrc integrity) h side l told = refl
 moves_none line h side l told = absurd cc
 
@@ -396,21 +465,28 @@ forges_none : (line : Line) → hands_over line ≡ true → forges line ≡ fal
 forges_none (lines.Handover user rrc integrity) h = refl
 forges_none line h = absurd cc
 
-none_submitted_in : (side : Side) (l : ℕ) (past : List Group) (g : Group) → l < 3 → KeepsOrder (g ∷ past) → hands_over g.line ≡ true → submitted_since side l (g ∷ past) ≡ []
+none_submitted_in : (side : Side) (l : ℕ) (past : List Group) (g : Group) → l < 3 → KeepsOrder (g ∷ past)
+    → hands_over g.line ≡ true → submitted_since side l (g ∷ past) ≡ []
 none_submitted_in side l past g low order here =
-    ap (λ (xs : List (List ℕ)). xs ++ (handed_in side l (part g.line) g.events ++ looped_at side l g.events)) (dropped_by (hands_over g.line) (submitted_since side l past) here)
-    ∙ ap (λ (xs : List (List ℕ)). xs ++ looped_at side l g.events) (moves_none g.line here side l g.events) ∙ none_looped side l past g low order
+    ap (λ (xs : List (List ℕ)). xs ++ (handed_in side l (part g.line) g.events ++ looped_at side l g.events))
+    (dropped_by (hands_over g.line) (submitted_since side l past) here)
+    ∙ ap (λ (xs : List (List ℕ)). xs ++ looped_at side l g.events) (moves_none g.line here side l g.events)
+    ∙ none_looped side l past g low order
 
-brings_by : (from : Side) (l : ℕ) (past : List Group) (g : Group) → KeepsOrder (g ∷ past) → hands_over g.line ≡ true → IsSignalling l (g ∷ past) → ups_in (other from) l g.events ≡ []
+brings_by : (from : Side) (l : ℕ) (past : List Group) (g : Group) → KeepsOrder (g ∷ past) → hands_over g.line ≡ true
+    → IsSignalling l (g ∷ past) → ups_in (other from) l g.events ≡ []
 brings_by from l past g order here d =
-    sym (ap (λ (xs : List (List ℕ)). xs ++ ups_in (other from) l g.events) (dropped_by (hands_over g.line) (delivered_since (other from) l past) here))
-    ∙ front_of_none (delivered_since (other from) l (g ∷ past)) (submitted_since from l (g ∷ past)) (none_submitted_in from l past g d.low order here) (front_is l (g ∷ past) d from)
+    sym (ap (λ (xs : List (List ℕ)). xs ++ ups_in (other from) l g.events)
+    (dropped_by (hands_over g.line) (delivered_since (other from) l past) here))
+    ∙ front_of_none (delivered_since (other from) l (g ∷ past)) (submitted_since from l (g ∷ past))
+    (none_submitted_in from l past g d.low order here) (front_is l (g ∷ past) d from)
 
 brings_none : (past : List Group) (g : Group) → KeepsOrder (g ∷ past) → hands_over g.line ≡ true → BringsNoSignal past g
 brings_none past g (right, order) here side l c e kind own = by_side side
   where
     d : IsSignalling l (g ∷ past)
-    d = line_by (hands_over g.line) l past g refl (adds_none l g.line here) right order (forges_none g.line here) (is_signalling l past c order kind e own)
+    d = line_by (hands_over g.line) l past g refl (adds_none l g.line here) right order (forges_none g.line here)
+        (is_signalling l past c order kind e own)
 
     by_side : (side : Side) → ups_in side l g.events ≡ []
     by_side Nb = brings_by Ue l past g (right, order) here d

@@ -1,5 +1,8 @@
--- Each bearer goes on through the groups of a journal in lives under the keys that lines gave, and no text of any meets another.
-use Rattle.std.proofs.Common.{◌≡◌, ◌⊎◌, inl, inr, ℕ, ◌==◌, ◌≤◌, Bool, true, false, cond, ◌&&◌, if◌then◌else◌, Option, Some, None, is_none, is_some, List, [], ◌∷◌, ◌++◌, map, append-nil, refl, ap, sym, ◌∙◌, subst, arith}
+-- Each bearer goes on through the groups of a journal in lives under the keys that lines gave, and no text of any meets
+-- another.
+use Rattle.std.proofs.Common.{◌≡◌, ◌⊎◌, inl, inr, ℕ, ◌==◌, ◌≤◌, Bool, true, false, cond, ◌&&◌, if◌then◌else◌, Option}
+use Rattle.std.proofs.Common.{Some, None, is_none, is_some, List, [], ◌∷◌, ◌++◌, map, append-nil, refl, ap, sym, ◌∙◌}
+use Rattle.std.proofs.Common.{subst, arith}
 use Rattle.std.proofs.lemmas.Bool.{cases_Bool}
 use Rattle.std.proofs.lemmas.Bool.Decides.{nat_tests}
 use Rattle.std.specs.List.{AllByRecursion, filter}
@@ -10,14 +13,16 @@ use Rattle.air_record.specs.declared.record.Record.{Record}
 use Rattle.air_record.specs.declared.record.Record.TheVariants as records
 use Rattle.air_run.specs.declared.refusal.RunRefusal.TheVariants.{ConfiguredLate, SetTwice, BearerTwice, NoKeys}
 use Rattle.air_run.specs.Playing.{keys_or_none}
-use Rattle.air_run.specs.Rules.{Rules, no_rules, wants_keys, is_taken, late, late_or_twice, refused_if, rule_broken, refusal, accepted}
+use Rattle.air_run.specs.Rules.{Rules, no_rules, wants_keys, is_taken, late, late_or_twice, refused_if, rule_broken}
+use Rattle.air_run.specs.Rules.{refusal, accepted}
 use Rattle.air_run.specs.Run.{fresh}
 use Rattle.air_text.specs.Groups.{Group, history}
 use Rattle.air_text.specs.Ranges.{IsInRange}
 use Rattle.bearer.specs.Bearer.{flow_of}
 use Rattle.bearer.specs.declared.flow.Flow.{Flow}
 use Rattle.law_bearer.specs.AnyBearer.Calls.{Step, run as go, reached as bearer_reached}
-use Rattle.law_bearer.specs.AnyBearer.Ciphering.{ciphered, ShareText, AllShareText, restarts, cipher_key, IsOneOf, IsOfBearer}
+use Rattle.law_bearer.specs.AnyBearer.Ciphering.{ciphered, ShareText, AllShareText, restarts, cipher_key, IsOneOf}
+use Rattle.law_bearer.specs.AnyBearer.Ciphering.{IsOfBearer}
 use Rattle.law_words.specs.Lists.{AreDistinct}
 use Rattle.law_bearer.specs.AnyBearer.Stream.{all_taken, counts}
 use Rattle.law_bearer.proofs.AnyBearer.Ciphering.{ciphers_as_itself, one_text_a_key}
@@ -65,7 +70,9 @@ keys_list (Some keys) = keys ∷ []
 -- a line behind which nothing has begun configures, and tells of no new block
 record Configures (line : Line) (r : Rules) (past : List Group) : Type 0 where
   early : r.begun ≡ false
-  given_is : given past ≡ keys_list r.keys → given past ++ (if gives_keys line then in_force_by line (in_force past) ∷ [] else []) ≡ keys_list (accepted line r).keys
+  given_is : given past ≡ keys_list r.keys
+      → given past ++ (if gives_keys line then in_force_by line (in_force past) ∷ [] else [])
+      ≡ keys_list (accepted line r).keys
 
 stays_given : (past : List Group) (o : Option Keys) → given past ≡ keys_list o → given past ++ [] ≡ keys_list o
 stays_given past o e = append-nil (given past) ∙ e
@@ -74,22 +81,31 @@ none_twice : (o : Option Keys) → is_some o ≡ false → o ≡ None
 none_twice None e = refl
 none_twice (Some keys) e = absurd cc
 
-first_given : (keys : Keys) (past : List Group) (o : Option Keys) → o ≡ None → given past ≡ keys_list o → given past ++ keys ∷ [] ≡ keys ∷ []
+first_given : (keys : Keys) (past : List Group) (o : Option Keys) → o ≡ None → given past ≡ keys_list o
+    → given past ++ keys ∷ [] ≡ keys ∷ []
 first_given keys past o none e = ap (λ (ks : List Keys). ks ++ keys ∷ []) (e ∙ ap keys_list none)
 
-configures : (line : Line) (r : Rules) (l : Link) (past : List Group) → refusal line r l ≡ None → (accepted line r).begun ≡ false → Configures line r past
+configures : (line : Line) (r : Rules) (l : Link) (past : List Group) → refusal line r l ≡ None
+    → (accepted line r).begun ≡ false → Configures line r past
 unfolding accepted rule_broken
 configures (lines.Harq visits) r l past allowed early = record { early = early; given_is = stays_given past r.keys }
 configures lines.Bsr r l past allowed early = record { early = early; given_is = stays_given past r.keys }
 configures (lines.Keys keys) r l past allowed early =
-    let twice = not_second (late r) (refused_if (is_some r.keys) SetTwice) (not_first (late_or_twice (is_some r.keys) r) _ (not_first (rule_broken (lines.Keys keys) r l) _ allowed)) in
-    record { early = early; given_is = first_given keys past r.keys (none_twice r.keys (no_cause (is_some r.keys) SetTwice twice)) }
-configures (lines.Bearer config options) r l past allowed early = record { early = early; given_is = stays_given past r.keys }
-configures (lines.Discard lcid ttis) r l past allowed early = record { early = early; given_is = stays_given past r.keys }
+    let twice = not_second (late r) (refused_if (is_some r.keys) SetTwice)
+    (not_first (late_or_twice (is_some r.keys) r) _ (not_first (rule_broken (lines.Keys keys) r l) _ allowed)) in
+    record {
+      early = early;
+      given_is = first_given keys past r.keys (none_twice r.keys (no_cause (is_some r.keys) SetTwice twice));
+    }
+configures (lines.Bearer config options) r l past allowed early =
+    record { early = early; given_is = stays_given past r.keys }
+configures (lines.Discard lcid ttis) r l past allowed early =
+    record { early = early; given_is = stays_given past r.keys }
 configures (lines.Drx config) r l past allowed early = record { early = early; given_is = stays_given past r.keys }
 configures line r l past allowed early = absurd cc
 
-unbuilt : (line : Line) (r : Rules) (t : ℕ) (kinds' : _) (told : List Record) → (accepted line r).begun ≡ false → AreTold t kinds' (part line) told → filter is_of_building told ≡ []
+unbuilt : (line : Line) (r : Rules) (t : ℕ) (kinds' : _) (told : List Record) → (accepted line r).begun ≡ false
+    → AreTold t kinds' (part line) told → filter is_of_building told ≡ []
 unfolding accepted
 unbuilt (lines.Harq visits) r t ks told early none = none
 unbuilt lines.Bsr r t ks told early none = none
@@ -101,9 +117,13 @@ unbuilt line r t ks told early none = absurd cc
 
 -- ---- COUNTs over groups
 
-over_groups : (side : Side) (lcid : ℕ) (g : Group) (past : List Group) → counts_taken side lcid (history (g ∷ past)) ≡ counts_taken side lcid (history past) ++ counts_taken side lcid g.events
+over_groups : (side : Side) (lcid : ℕ) (g : Group) (past : List Group)
+    → counts_taken side lcid (history (g ∷ past)) ≡ counts_taken side lcid (history past)
+    ++ counts_taken side lcid g.events
 over_groups side lcid g past =
-    ap (counts_on lcid) (told_both side (history past) (records.Line g.number g.line ∷ g.events) (told_by side (history past)) (told_by side g.events) refl refl)
+    ap (counts_on lcid)
+    (told_both side (history past) (records.Line g.number g.line ∷ g.events) (told_by side (history past))
+    (told_by side g.events) refl refl)
     ∙ counts_then lcid (told_by side (history past)) (told_by side g.events)
 
 -- as long as nothing has begun, nothing is taken, and at most one line gave keys
@@ -120,14 +140,16 @@ nothing_begun (g ∷ past) (right, order) early =
     let before = nothing_begun past order c.early in
     record {
       none_taken = λ side lcid.
-          over_groups side lcid g past ∙ ap (λ (ns : List ℕ). ns ++ counts_taken side lcid g.events) (before.none_taken side lcid)
+          over_groups side lcid g past
+          ∙ ap (λ (ns : List ℕ). ns ++ counts_taken side lcid g.events) (before.none_taken side lcid)
           ∙ none_taken side lcid g.events (unbuilt g.line r _ _ g.events early right.blocks);
       given_is = c.given_is before.given_is;
     }
 
 -- ---- the cipher stays
 
-cipher_by : (line : Line) (r : Rules) (before : Keys) → before.alg ≡ (keys_or_none r.keys).alg → (in_force_by line before).alg ≡ (keys_or_none (accepted line r).keys).alg
+cipher_by : (line : Line) (r : Rules) (before : Keys) → before.alg ≡ (keys_or_none r.keys).alg
+    → (in_force_by line before).alg ≡ (keys_or_none (accepted line r).keys).alg
 unfolding accepted
 cipher_by (lines.Keys keys) r before e = refl
 cipher_by (lines.Handover user rrc integrity) r before e = e
@@ -145,7 +167,9 @@ quiet (Add config keys) free = absurd cc
 quiet (Move keys) free = absurd cc
 quiet c free = (refl, λ lcid. refl)
 
-moves_by : (b : Bool) (c : Call) (calls : List Call) → begins_life c ≡ b → moves calls ≡ moves (filter begins_life calls) → moves (c ∷ calls) ≡ moves (cond b (c ∷ filter begins_life calls) (filter begins_life calls))
+moves_by : (b : Bool) (c : Call) (calls : List Call) → begins_life c ≡ b
+    → moves calls ≡ moves (filter begins_life calls)
+    → moves (c ∷ calls) ≡ moves (cond b (c ∷ filter begins_life calls) (filter begins_life calls))
 moves_by true c calls is e = ap (λ (ks : List Keys). keys_in c ++ ks) e
 moves_by false c calls is e = ap (λ (ks : List Keys). ks ++ moves calls) (sym (append-nil _) ∙ (quiet c is).0) ∙ e
 
@@ -153,7 +177,9 @@ pub moves_are : (calls : List Call) → moves calls ≡ moves (filter begins_lif
 moves_are [] = refl
 moves_are (c ∷ calls) = moves_by (begins_life c) c calls refl (moves_are calls)
 
-adds_by : (b : Bool) (lcid : ℕ) (c : Call) (calls : List Call) → begins_life c ≡ b → AddNone lcid (cond b (c ∷ filter begins_life calls) (filter begins_life calls)) → (AddNone lcid (filter begins_life calls) → AddNone lcid calls) → AddNone lcid (c ∷ calls)
+adds_by : (b : Bool) (lcid : ℕ) (c : Call) (calls : List Call) → begins_life c ≡ b
+    → AddNone lcid (cond b (c ∷ filter begins_life calls) (filter begins_life calls))
+    → (AddNone lcid (filter begins_life calls) → AddNone lcid calls) → AddNone lcid (c ∷ calls)
 adds_by true lcid c calls is none rest = (none.0, rest none.1)
 adds_by false lcid c calls is none rest = ((quiet c is).1 lcid, rest none)
 
@@ -168,14 +194,21 @@ record Split (x : Call) (calls : List Call) : Type 0 where
   calls_are : calls ≡ before ++ x ∷ behind
   none_behind : filter begins_life behind ≡ []
 
-split_by : (b : Bool) (x c : Call) (calls : List Call) → begins_life c ≡ b → cond b (c ∷ filter begins_life calls) (filter begins_life calls) ≡ x ∷ [] → (filter begins_life calls ≡ x ∷ [] → Split x calls) → Split x (c ∷ calls)
+split_by : (b : Bool) (x c : Call) (calls : List Call) → begins_life c ≡ b
+    → cond b (c ∷ filter begins_life calls) (filter begins_life calls) ≡ x ∷ []
+    → (filter begins_life calls ≡ x ∷ [] → Split x calls) → Split x (c ∷ calls)
 split_by true x c calls is e rest =
     let first : c ≡ x = cc in
     let none : filter begins_life calls ≡ [] = cc in
     record { before = []; behind = calls; calls_are = ap (λ (d : Call). d ∷ calls) first; none_behind = none }
 split_by false x c calls is e rest =
     let s = rest e in
-    record { before = c ∷ s.before; behind = s.behind; calls_are = ap (λ (cs : List Call). c ∷ cs) s.calls_are; none_behind = s.none_behind }
+    record {
+      before = c ∷ s.before;
+      behind = s.behind;
+      calls_are = ap (λ (cs : List Call). c ∷ cs) s.calls_are;
+      none_behind = s.none_behind;
+    }
 
 split : (x : Call) (calls : List Call) → filter begins_life calls ≡ x ∷ [] → Split x calls
 split x [] e = absurd cc
@@ -203,26 +236,32 @@ still_keyed (lines.Handover user rrc integrity) r e = e
 still_keyed line r e = e
 
 -- the keys that a line gives begin lives, where there were keys before
-moved_by : (line : Line) (r : Rules) (l : Link) (past : List Group) → refusal line r l ≡ None → is_some r.keys ≡ true → (in_force past).alg ≡ (keys_or_none r.keys).alg
+moved_by : (line : Line) (r : Rules) (l : Link) (past : List Group) → refusal line r l ≡ None → is_some r.keys ≡ true
+    → (in_force past).alg ≡ (keys_or_none r.keys).alg
     → moves (lives_by line r.keys) ≡ (if gives_keys line then in_force_by line (in_force past) ∷ [] else [])
 unfolding rule_broken
 moved_by (lines.Keys keys) r l past allowed keyed e =
-    let twice = not_second (late r) (refused_if (is_some r.keys) SetTwice) (not_first (late_or_twice (is_some r.keys) r) _ (not_first (rule_broken (lines.Keys keys) r l) _ allowed)) in
+    let twice = not_second (late r) (refused_if (is_some r.keys) SetTwice)
+    (not_first (late_or_twice (is_some r.keys) r) _ (not_first (rule_broken (lines.Keys keys) r l) _ allowed)) in
     let no : true ≡ false = sym keyed ∙ no_cause (is_some r.keys) SetTwice twice in
     cc
-moved_by (lines.Handover user rrc integrity) r l past allowed keyed e = ap (λ alg. record { alg = alg; user = user; rrc = rrc; integrity = integrity } ∷ []) (sym e)
+moved_by (lines.Handover user rrc integrity) r l past allowed keyed e =
+    ap (λ alg. record { alg = alg; user = user; rrc = rrc; integrity = integrity } ∷ []) (sym e)
 moved_by line r l past allowed keyed e = refl
 
 abbrev pub adds_one : ℕ → Line → Bool
 adds_one lcid (lines.Bearer config options) = config.channel.lcid == lcid
 adds_one lcid line = false
 
-pub adds_none : (lcid : ℕ) (line : Line) (keys : Option Keys) → adds_one lcid line ≡ false → AddNone lcid (lives_by line keys)
+pub adds_none : (lcid : ℕ) (line : Line) (keys : Option Keys) → adds_one lcid line ≡ false
+    → AddNone lcid (lives_by line keys)
 adds_none lcid (lines.Bearer config options) keys free = (free, tt)
 adds_none lcid (lines.Handover user rrc integrity) keys free = (refl, tt)
 adds_none lcid line keys free = tt
 
-goes_there : (side : Side) (lcid : ℕ) (past : List Group) (g : Group) (config : BearerConfig) → IsRight past g → KeepsOrder past → adds_one lcid g.line ≡ false → IsThere side lcid past config → IsThere side lcid (g ∷ past) config
+goes_there : (side : Side) (lcid : ℕ) (past : List Group) (g : Group) (config : BearerConfig) → IsRight past g
+    → KeepsOrder past → adds_one lcid g.line ≡ false → IsThere side lcid past config
+    → IsThere side lcid (g ∷ past) config
 goes_there side lcid past g config right order free t =
     let r = (state_behind past).rules in
     let e = end_of side (link_behind past) in
@@ -232,27 +271,39 @@ goes_there side lcid past g config right order free t =
     let calls = k.by.calls in
     let f = flow_of config.kind config t.keys side in
     let none = adds_are lcid calls (subst (AddNone lcid) (sym k.lives_are) (adds_none lcid g.line r.keys free)) in
-    let on = go_on side 4 false p.calls calls lcid p.given k.by.given (ap (λ (x : End). has lcid x.bearers) (sym p.end_is) ∙ t.there) none in
+    let on = go_on side 4 false p.calls calls lcid p.given k.by.given
+    (ap (λ (x : End). has lcid x.bearers) (sym p.end_is) ∙ t.there) none in
     let here = reached side 4 false p.calls in
     let there : run calls here ≡ m = ap (run calls) (sym p.end_is) ∙ sym k.by.end_is in
-    let told : counts_on lcid (told_over calls here) ≡ counts_taken side lcid g.events = ap (λ (x : End). counts_on lcid (told_over calls x)) (sym p.end_is) ∙ ap (counts_on lcid) (sym k.by.told_is) in
+    let told : counts_on lcid (told_over calls here) ≡ counts_taken side lcid g.events =
+    ap (λ (x : End). counts_on lcid (told_over calls x)) (sym p.end_is)
+    ∙ ap (counts_on lcid) (sym k.by.told_is) in
     let lives : moves calls ≡ (if gives_keys g.line then in_force_by g.line (in_force past) ∷ [] else []) =
-    moves_are calls ∙ ap moves k.lives_are ∙ moved_by g.line r (link_behind past) past right.allowed t.keyed (cipher_stays past) in
-    let before : Takes f (flow lcid e) (restarts t.steps) (counts_taken side lcid (history past)) = record { steps = t.steps; flow_is = t.flow_is; lives_are = refl; counts_are = t.counts_are } in
+    moves_are calls ∙ ap moves k.lives_are
+    ∙ moved_by g.line r (link_behind past) past right.allowed t.keyed (cipher_stays past) in
+    let before : Takes f (flow lcid e) (restarts t.steps) (counts_taken side lcid (history past)) =
+    record { steps = t.steps; flow_is = t.flow_is; lives_are = refl; counts_are = t.counts_are } in
     let now : Takes (flow lcid e) (flow lcid m) (moves calls) (counts_taken side lcid g.events) = record {
       steps = on.comes.steps;
-      flow_is = ap (flow lcid) (sym there) ∙ on.comes.flow_is ∙ ap (λ (x : End). go on.comes.steps (flow lcid x)) (sym p.end_is);
+      flow_is = ap (flow lcid) (sym there) ∙ on.comes.flow_is
+          ∙ ap (λ (x : End). go on.comes.steps (flow lcid x)) (sym p.end_is);
       lives_are = on.comes.lives_are;
-      counts_are = ap (λ (x : End). counts (all_taken (flow lcid x) on.comes.steps)) p.end_is ∙ on.comes.counts_are ∙ told;
+      counts_are = ap (λ (x : End). counts (all_taken (flow lcid x) on.comes.steps)) p.end_is ∙ on.comes.counts_are
+          ∙ told;
     } in
-    let both = then_takes f (flow lcid e) (flow lcid m) (restarts t.steps) (moves calls) (counts_taken side lcid (history past)) (counts_taken side lcid g.events) before now in
+    let both = then_takes f (flow lcid e) (flow lcid m) (restarts t.steps) (moves calls)
+    (counts_taken side lcid (history past)) (counts_taken side lcid g.events) before now in
     record {
       keys = t.keys;
       steps = both.steps;
       there = ap (λ (x : End). has lcid x.bearers) (sym there) ∙ on.there;
       flow_is = both.flow_is;
       keyed = still_keyed g.line r t.keyed;
-      lives_are = ap (λ (ks : List Keys). t.keys ∷ ks) (both.lives_are ∙ ap (λ (ks : List Keys). restarts t.steps ++ ks) lives) ∙ ap (λ (ks : List Keys). ks ++ (if gives_keys g.line then in_force_by g.line (in_force past) ∷ [] else [])) t.lives_are;
+      lives_are =
+          ap (λ (ks : List Keys). t.keys ∷ ks) (both.lives_are
+          ∙ ap (λ (ks : List Keys). restarts t.steps ++ ks) lives)
+          ∙ ap (λ (ks : List Keys). ks ++ (if gives_keys g.line then in_force_by g.line (in_force past) ∷ [] else []))
+          t.lives_are;
       counts_are = both.counts_are ∙ sym (over_groups side lcid g past);
     }
 
@@ -270,7 +321,8 @@ record MayBegin (config : BearerConfig) (r : Rules) : Type 0 where
   early : r.begun ≡ false
   keyed : r.keys ≡ Some (keys_or_none r.keys)
 
-may_begin : (config : BearerConfig) (options : _) (r : Rules) (l : Link) → refusal (lines.Bearer config options) r l ≡ None → wants_keys config.kind ≡ true → MayBegin config r
+may_begin : (config : BearerConfig) (options : _) (r : Rules) (l : Link)
+    → refusal (lines.Bearer config options) r l ≡ None → wants_keys config.kind ≡ true → MayBegin config r
 unfolding rule_broken
 may_begin config options r l allowed wants =
     let broken = not_first (rule_broken (lines.Bearer config options) r l) _ allowed in
@@ -278,16 +330,23 @@ may_begin config options r l allowed wants =
     let keys = not_second (refused_if (is_taken config.channel.lcid l) BearerTwice) _ rest in
     record {
       early = no_cause r.begun ConfiguredLate (not_first (late r) _ broken);
-      keyed = some_keys r.keys (wanted (wants_keys config.kind) (is_none r.keys) wants (no_cause (wants_keys config.kind && is_none r.keys) NoKeys keys));
+      keyed =
+          some_keys r.keys
+          (wanted (wants_keys config.kind) (is_none r.keys) wants
+          (no_cause (wants_keys config.kind && is_none r.keys) NoKeys keys));
     }
 
-begin_there : (side : Side) (past : List Group) (g : Group) (config : BearerConfig) (options : _) → g.line ≡ lines.Bearer config options → IsRight past g → KeepsOrder past → wants_keys config.kind ≡ true → IsThere side config.channel.lcid (g ∷ past) config
+begin_there : (side : Side) (past : List Group) (g : Group) (config : BearerConfig) (options : _)
+    → g.line ≡ lines.Bearer config options → IsRight past g → KeepsOrder past → wants_keys config.kind ≡ true
+    → IsThere side config.channel.lcid (g ∷ past) config
 begin_there side past g config options line_is right order wants =
     let lcid = config.channel.lcid in
     let r = (state_behind past).rules in
     let e = end_of side (link_behind past) in
     let m = end_of side (link_behind (g ∷ past)) in
-    let may = may_begin config options r (link_behind past) (subst (λ (line : Line). refusal line r (link_behind past) ≡ None) line_is right.allowed) wants in
+    let may =
+    may_begin config options r (link_behind past)
+    (subst (λ (line : Line). refusal line r (link_behind past) ≡ None) line_is right.allowed) wants in
     let early = nothing_begun past order may.early in
     let ks = keys_or_none r.keys in
     let p = come side past order in
@@ -297,23 +356,32 @@ begin_there side past g config options line_is right order wants =
     let until = (p.calls ++ s.before) ++ Add config ks ∷ [] in
     let here = reached side 4 false (p.calls ++ s.before) in
     let begun = reached side 4 false until in
-    let begun_is : begun ≡ after here (Add config ks) = run_on (p.calls ++ s.before) (Add config ks ∷ []) (fresh_end side 4 false) in
+    let begun_is : begun ≡ after here (Add config ks) =
+    run_on (p.calls ++ s.before) (Add config ks ∷ []) (fresh_end side 4 false) in
     let stands = added here config ks in
     let has_it : has lcid begun.bearers ≡ true = ap (λ (x : End). has lcid x.bearers) begun_is ∙ stands.there in
     let flow_first : flow lcid begun ≡ flow_of config.kind config ks side =
-    ap (flow lcid) begun_is ∙ stands.flow_is ∙ ap (λ (x : Side). flow_of config.kind config ks x) (reached_side side 4 false (p.calls ++ s.before)) in
-    let given_until = given_on (p.calls ++ s.before) (Add config ks ∷ []) (given_on p.calls s.before p.given all.0) (all.1.0, tt) in
+    ap (flow lcid) begun_is ∙ stands.flow_is
+    ∙ ap (λ (x : Side). flow_of config.kind config ks x) (reached_side side 4 false (p.calls ++ s.before)) in
+    let given_until =
+    given_on (p.calls ++ s.before) (Add config ks ∷ []) (given_on p.calls s.before p.given all.0) (all.1.0, tt) in
     let none = adds_are lcid s.behind (subst (AddNone lcid) (sym s.none_behind) tt) in
     let on = go_on side 4 false until s.behind lcid given_until all.1.1 has_it none in
-    let come_here : run s.before e ≡ here = ap (run s.before) p.end_is ∙ sym (run_on p.calls s.before (fresh_end side 4 false)) in
+    let come_here : run s.before e ≡ here = ap (run s.before) p.end_is
+    ∙ sym (run_on p.calls s.before (fresh_end side 4 false)) in
     let there : run s.behind begun ≡ m =
-    ap (run s.behind) (begun_is ∙ ap (λ (x : End). after x (Add config ks)) (sym come_here)) ∙ sym (run_on s.before (Add config ks ∷ s.behind) e) ∙ ap (λ (cs : List Call). run cs e) (sym s.calls_are) ∙ sym k.by.end_is in
+    ap (run s.behind) (begun_is ∙ ap (λ (x : End). after x (Add config ks)) (sym come_here))
+    ∙ sym (run_on s.before (Add config ks ∷ s.behind) e) ∙ ap (λ (cs : List Call). run cs e) (sym s.calls_are)
+    ∙ sym k.by.end_is in
     let unbuilt_here : counts_taken side lcid g.events ≡ [] =
-    none_taken side lcid g.events (subst (λ (line : Line). AreTold (ttis past) (kinds past) (part line) g.events) line_is right.blocks) in
+    none_taken side lcid g.events
+    (subst (λ (line : Line). AreTold (ttis past) (kinds past) (part line) g.events) line_is right.blocks) in
     let told : counts_on lcid (told_over s.before e) ++ counts_on lcid (told_over s.behind begun) ≡ [] =
-    ap (λ (x : End). counts_on lcid (told_over s.before e) ++ counts_on lcid (told_over s.behind x)) (begun_is ∙ ap (λ (x : End). after x (Add config ks)) (sym come_here))
+    ap (λ (x : End). counts_on lcid (told_over s.before e) ++ counts_on lcid (told_over s.behind x))
+    (begun_is ∙ ap (λ (x : End). after x (Add config ks)) (sym come_here))
     ∙ sym (counts_then lcid (told_over s.before e) (told_over s.behind (after (run s.before e) (Add config ks))))
-    ∙ ap (counts_on lcid) (sym (over_on s.before (Add config ks ∷ s.behind) e) ∙ ap (λ (cs : List Call). told_over cs e) (sym s.calls_are) ∙ sym k.by.told_is) ∙ unbuilt_here in
+    ∙ ap (counts_on lcid) (sym (over_on s.before (Add config ks ∷ s.behind) e)
+    ∙ ap (λ (cs : List Call). told_over cs e) (sym s.calls_are) ∙ sym k.by.told_is) ∙ unbuilt_here in
     record {
       keys = ks;
       steps = on.comes.steps;
@@ -322,21 +390,30 @@ begin_there side past g config options line_is right order wants =
       keyed = still_keyed g.line r (ap is_some may.keyed);
       lives_are =
           ap (λ (l : List Keys). ks ∷ l) (on.comes.lives_are ∙ moves_are s.behind ∙ ap moves s.none_behind)
-          ∙ sym (ap (λ (line : Line). given past ++ (if gives_keys line then in_force_by line (in_force past) ∷ [] else [])) line_is ∙ append-nil (given past) ∙ early.given_is ∙ ap keys_list may.keyed);
+          ∙ sym
+          (ap (λ (line : Line). given past ++ (if gives_keys line then in_force_by line (in_force past) ∷ [] else []))
+          line_is ∙ append-nil (given past) ∙ early.given_is ∙ ap keys_list may.keyed);
       counts_are =
-          ap (λ (f : Flow). counts (all_taken f on.comes.steps)) (sym flow_first) ∙ on.comes.counts_are ∙ none_last (counts_on lcid (told_over s.before e)) (counts_on lcid (told_over s.behind begun)) told
-          ∙ sym (over_groups side lcid g past ∙ ap (λ (ns : List ℕ). ns ++ counts_taken side lcid g.events) (early.none_taken side lcid) ∙ unbuilt_here);
+          ap (λ (f : Flow). counts (all_taken f on.comes.steps)) (sym flow_first) ∙ on.comes.counts_are
+          ∙ none_last (counts_on lcid (told_over s.before e)) (counts_on lcid (told_over s.behind begun)) told
+          ∙ sym (over_groups side lcid g past
+          ∙ ap (λ (ns : List ℕ). ns ++ counts_taken side lcid g.events) (early.none_taken side lcid) ∙ unbuilt_here);
     }
 
 -- ---- each bearer that has keys
 
-pub unchanged : (lcid : ℕ) (line : Line) (before : Option BearerConfig) (config : BearerConfig) → adds_one lcid line ≡ false → config_by lcid line before ≡ Some config → before ≡ Some config
-unchanged lcid (lines.Bearer c options) before config free e = sym (ap (λ (b : Bool). if b then Some c else before) free) ∙ e
+pub unchanged : (lcid : ℕ) (line : Line) (before : Option BearerConfig) (config : BearerConfig)
+    → adds_one lcid line ≡ false → config_by lcid line before ≡ Some config → before ≡ Some config
+unchanged lcid (lines.Bearer c options) before config free e =
+    sym (ap (λ (b : Bool). if b then Some c else before) free) ∙ e
 unchanged lcid line before config free e = e
 
-stays_there : (side : Side) (lcid : ℕ) (past : List Group) (g : Group) (config : BearerConfig) → IsRight past g → KeepsOrder past → adds_one lcid g.line ≡ false → config_of lcid (g ∷ past) ≡ Some config
+stays_there : (side : Side) (lcid : ℕ) (past : List Group) (g : Group) (config : BearerConfig) → IsRight past g
+    → KeepsOrder past → adds_one lcid g.line ≡ false → config_of lcid (g ∷ past) ≡ Some config
     → (config_of lcid past ≡ Some config → IsThere side lcid past config) → IsThere side lcid (g ∷ past) config
-stays_there side lcid past g config right order free e rest = goes_there side lcid past g config right order free (rest (unchanged lcid g.line (config_of lcid past) config free e))
+stays_there side lcid past g config right order free e rest =
+    goes_there side lcid past g config right order free
+    (rest (unchanged lcid g.line (config_of lcid past) config free e))
 
 pub record AddsOne (lcid : ℕ) (line : Line) : Type 0 where
   pub config : BearerConfig
@@ -345,24 +422,34 @@ pub record AddsOne (lcid : ℕ) (line : Line) : Type 0 where
   pub lcid_is : config.channel.lcid ≡ lcid
 
 pub adds_it : (lcid : ℕ) (line : Line) → adds_one lcid line ≡ true → AddsOne lcid line
-adds_it lcid (lines.Bearer config options) e = record { config = config; options = options; line_is = refl; lcid_is = same_lcid config.channel.lcid lcid e }
+adds_it lcid (lines.Bearer config options) e =
+    record { config = config; options = options; line_is = refl; lcid_is = same_lcid config.channel.lcid lcid e }
 adds_it lcid line e = absurd cc
 
-there_by : (b : Bool) (side : Side) (lcid : ℕ) (past : List Group) (g : Group) (config : BearerConfig) → adds_one lcid g.line ≡ b → IsRight past g → KeepsOrder past → wants_keys config.kind ≡ true → config_of lcid (g ∷ past) ≡ Some config
+there_by : (b : Bool) (side : Side) (lcid : ℕ) (past : List Group) (g : Group) (config : BearerConfig)
+    → adds_one lcid g.line ≡ b → IsRight past g → KeepsOrder past → wants_keys config.kind ≡ true
+    → config_of lcid (g ∷ past) ≡ Some config
     → (config_of lcid past ≡ Some config → IsThere side lcid past config) → IsThere side lcid (g ∷ past) config
-there_by false side lcid past g config is right order wants e rest = stays_there side lcid past g config right order is e rest
+there_by false side lcid past g config is right order wants e rest =
+    stays_there side lcid past g config right order is e rest
 there_by true side lcid past g config is right order wants e rest =
     let a = adds_it lcid g.line is in
     let taken : config_by lcid (lines.Bearer a.config a.options) (config_of lcid past) ≡ Some a.config =
     ap (λ (b : Bool). if b then Some a.config else config_of lcid past) (sym (ap (adds_one lcid) a.line_is) ∙ is) in
-    let some : Some a.config ≡ Some config = sym taken ∙ ap (λ (line : Line). config_by lcid line (config_of lcid past)) (sym a.line_is) ∙ e in
+    let some : Some a.config ≡ Some config =
+    sym taken ∙ ap (λ (line : Line). config_by lcid line (config_of lcid past)) (sym a.line_is) ∙ e in
     let same : a.config ≡ config = cc in
     subst (λ (c : BearerConfig). IsThere side lcid (g ∷ past) c) same
-    (subst (λ (l : ℕ). IsThere side l (g ∷ past) a.config) a.lcid_is (begin_there side past g a.config a.options a.line_is right order (ap (λ (c : BearerConfig). wants_keys c.kind) same ∙ wants)))
+    (subst (λ (l : ℕ). IsThere side l (g ∷ past) a.config) a.lcid_is
+    (begin_there side past g a.config a.options a.line_is right order
+    (ap (λ (c : BearerConfig). wants_keys c.kind) same ∙ wants)))
 
-is_there : (side : Side) (lcid : ℕ) (past : List Group) (config : BearerConfig) → KeepsOrder past → wants_keys config.kind ≡ true → config_of lcid past ≡ Some config → IsThere side lcid past config
+is_there : (side : Side) (lcid : ℕ) (past : List Group) (config : BearerConfig) → KeepsOrder past
+    → wants_keys config.kind ≡ true → config_of lcid past ≡ Some config → IsThere side lcid past config
 is_there side lcid [] config order wants e = absurd cc
-is_there side lcid (g ∷ past) config (right, order) wants e = there_by (adds_one lcid g.line) side lcid past g config refl right order wants e (is_there side lcid past config order wants)
+is_there side lcid (g ∷ past) config (right, order) wants e =
+    there_by (adds_one lcid g.line) side lcid past g config refl right order wants e
+    (is_there side lcid past config order wants)
 
 -- ---- configurations
 
@@ -370,7 +457,9 @@ record IsConfigured (lcid : ℕ) (config : BearerConfig) : Type 0 where
   lcid_is : config.channel.lcid ≡ lcid
   in_range : IsConfig config
 
-configured_by : (lcid : ℕ) (line : Line) (before : Option BearerConfig) (config : BearerConfig) → IsInRange line → config_by lcid line before ≡ Some config → (before ≡ Some config → IsConfigured lcid config) → IsConfigured lcid config
+configured_by : (lcid : ℕ) (line : Line) (before : Option BearerConfig) (config : BearerConfig) → IsInRange line
+    → config_by lcid line before ≡ Some config → (before ≡ Some config → IsConfigured lcid config)
+    → IsConfigured lcid config
 configured_by lcid (lines.Bearer c options) before config fits e rest = elim (cases_Bool (c.channel.lcid == lcid)) [
   | inl is ↦
       let some : Some c ≡ Some config = sym (ap (λ (b : Bool). if b then Some c else before) is) ∙ e in
@@ -380,9 +469,11 @@ configured_by lcid (lines.Bearer c options) before config fits e rest = elim (ca
 ]
 configured_by lcid line before config fits e rest = rest e
 
-configured : (lcid : ℕ) (past : List Group) (config : BearerConfig) → KeepsOrder past → config_of lcid past ≡ Some config → IsConfigured lcid config
+configured : (lcid : ℕ) (past : List Group) (config : BearerConfig) → KeepsOrder past
+    → config_of lcid past ≡ Some config → IsConfigured lcid config
 configured lcid [] config order e = absurd cc
-configured lcid (g ∷ past) config (right, order) e = configured_by lcid g.line (config_of lcid past) config right.in_range e (configured lcid past config order)
+configured lcid (g ∷ past) config (right, order) e =
+    configured_by lcid g.line (config_of lcid past) config right.in_range e (configured lcid past config order)
 
 -- ---- no two meet
 
@@ -397,7 +488,8 @@ record AreKnown (side : Side) (lcid : ℕ) (past : List Group) (xs : List Cipher
 abbrev AreNoneOrKnown : Side → ℕ → List Group → List Ciphering → Type 0
 AreNoneOrKnown side lcid past xs = (xs ≡ []) ⊎ AreKnown side lcid past xs
 
-never : (xs ys : List Ciphering) (P Q : Ciphering → Type 0) → ((x y : Ciphering) → P x → Q y → ShareText x y) → AllByRecursion P xs → AllByRecursion Q ys → AllShareText xs ys
+never : (xs ys : List Ciphering) (P Q : Ciphering → Type 0) → ((x y : Ciphering) → P x → Q y → ShareText x y)
+    → AllByRecursion P xs → AllByRecursion Q ys → AllShareText xs ys
 never [] ys P Q h p q = tt
 never (x ∷ xs) ys P Q h p q = (each ys q, never xs ys P Q h p.1 q)
   where
@@ -413,15 +505,21 @@ two_data : (m n : ℕ) → (3 ≤ m) × (m ≤ 10) → (3 ≤ n) × (n ≤ 10) �
 two_data m n i j differ bearer = differ (grind (arith, nat_tests, i.0, i.1, j.0, j.1, bearer))
 
 -- signalling and data have other keys, and two of either another BEARER
-other_bearer : (k l : Kind) (past : List Group) (m n : ℕ) → AreKeys past → IsChannelOf k m → IsChannelOf l n → (m ≡ n → ⊥) → wants_keys k ≡ true → wants_keys l ≡ true → (x y : List ℕ) → IsOneOf x (map (cipher_key k) (given past)) → IsOneOf y (map (cipher_key l) (given past))
+other_bearer : (k l : Kind) (past : List Group) (m n : ℕ) → AreKeys past → IsChannelOf k m → IsChannelOf l n
+    → (m ≡ n → ⊥) → wants_keys k ≡ true → wants_keys l ≡ true → (x y : List ℕ)
+    → IsOneOf x (map (cipher_key k) (given past)) → IsOneOf y (map (cipher_key l) (given past))
     → x ≡ y → bearer_of m ≡ bearer_of n → ⊥
 other_bearer kind.Tm l past m n a i j differ v w x y p q same bearer = absurd cc
 other_bearer k kind.Tm past m n a i j differ v w x y p q same bearer = absurd cc
 other_bearer kind.Srb kind.Srb past m n a i j differ v w x y p q same bearer = two_signalling m n i j differ bearer
-other_bearer kind.Srb kind.Um past m n a i j differ v w x y p q same bearer = a.apart y q (subst (λ (z : List ℕ). IsOneOf z (map rrc_key (given past))) same p)
-other_bearer kind.Srb kind.Am past m n a i j differ v w x y p q same bearer = a.apart y q (subst (λ (z : List ℕ). IsOneOf z (map rrc_key (given past))) same p)
-other_bearer kind.Um kind.Srb past m n a i j differ v w x y p q same bearer = a.apart x p (subst (λ (z : List ℕ). IsOneOf z (map rrc_key (given past))) (sym same) q)
-other_bearer kind.Am kind.Srb past m n a i j differ v w x y p q same bearer = a.apart x p (subst (λ (z : List ℕ). IsOneOf z (map rrc_key (given past))) (sym same) q)
+other_bearer kind.Srb kind.Um past m n a i j differ v w x y p q same bearer =
+    a.apart y q (subst (λ (z : List ℕ). IsOneOf z (map rrc_key (given past))) same p)
+other_bearer kind.Srb kind.Am past m n a i j differ v w x y p q same bearer =
+    a.apart y q (subst (λ (z : List ℕ). IsOneOf z (map rrc_key (given past))) same p)
+other_bearer kind.Um kind.Srb past m n a i j differ v w x y p q same bearer =
+    a.apart x p (subst (λ (z : List ℕ). IsOneOf z (map rrc_key (given past))) (sym same) q)
+other_bearer kind.Am kind.Srb past m n a i j differ v w x y p q same bearer =
+    a.apart x p (subst (λ (z : List ℕ). IsOneOf z (map rrc_key (given past))) (sym same) q)
 other_bearer kind.Um kind.Um past m n a i j differ v w x y p q same bearer = two_data m n i j differ bearer
 other_bearer kind.Um kind.Am past m n a i j differ v w x y p q same bearer = two_data m n i j differ bearer
 other_bearer kind.Am kind.Um past m n a i j differ v w x y p q same bearer = two_data m n i j differ bearer
@@ -440,19 +538,25 @@ two_sides Ue Nb = inr (λ e. absurd cc)
 two_sides Ue Ue = inl refl
 
 -- of two sides, or of two channels of one
-apart_by_side : (s t : Side) (m n : ℕ) (past : List Group) (xs ys : List Ciphering) → (s ≡ t → ⊥) → AreKnown s m past xs → AreKnown t n past ys → AllShareText xs ys
+apart_by_side : (s t : Side) (m n : ℕ) (past : List Group) (xs ys : List Ciphering) → (s ≡ t → ⊥)
+    → AreKnown s m past xs → AreKnown t n past ys → AllShareText xs ys
 apart_by_side s t m n past xs ys differ a b =
     never xs ys (IsOfBearer a.config s (given past)) (IsOfBearer b.config t (given past))
-    (λ x y p q key bearer direction count. absurd (differ (other_side s t (sym p.direction ∙ direction ∙ q.direction)))) a.own b.own
+    (λ x y p q key bearer direction count. absurd
+    (differ (other_side s t (sym p.direction ∙ direction ∙ q.direction)))) a.own b.own
 
-apart_by_channel : (s : Side) (m n : ℕ) (past : List Group) (xs ys : List Ciphering) → AreKeys past → (m ≡ n → ⊥) → AreKnown s m past xs → AreKnown s n past ys → AllShareText xs ys
+apart_by_channel : (s : Side) (m n : ℕ) (past : List Group) (xs ys : List Ciphering) → AreKeys past → (m ≡ n → ⊥)
+    → AreKnown s m past xs → AreKnown s n past ys → AllShareText xs ys
 apart_by_channel s m n past xs ys keys differ a b =
     let c = a.config in
     let d = b.config in
-    let other : c.channel.lcid ≡ d.channel.lcid → ⊥ = λ e. differ (sym a.configured.lcid_is ∙ e ∙ b.configured.lcid_is) in
+    let other : c.channel.lcid ≡ d.channel.lcid → ⊥ =
+    λ e. differ (sym a.configured.lcid_is ∙ e ∙ b.configured.lcid_is) in
     never xs ys (IsOfBearer c s (given past)) (IsOfBearer d s (given past))
     (λ x y p q key bearer direction count. absurd
-    (other_bearer c.kind d.kind past c.channel.lcid d.channel.lcid keys a.configured.in_range.lcid b.configured.in_range.lcid other a.wants b.wants x.protection.key y.protection.key p.key q.key key (sym p.bearer ∙ bearer ∙ q.bearer)))
+    (other_bearer c.kind d.kind past c.channel.lcid d.channel.lcid keys a.configured.in_range.lcid
+    b.configured.in_range.lcid other a.wants b.wants x.protection.key y.protection.key p.key q.key key
+    (sym p.bearer ∙ bearer ∙ q.bearer)))
     a.own b.own
 
 -- ---- the texts of all
@@ -468,33 +572,52 @@ differ_by kind.Srb past h = h.rrcs_differ
 differ_by kind.Um past h = h.users_differ
 differ_by kind.Am past h = h.users_differ
 
-keyed_texts : (side : Side) (lcid : ℕ) (past : List Group) (c : BearerConfig) → KeepsOrder past → AreKeys past → wants_keys c.kind ≡ true → config_of lcid past ≡ Some c → Chosen side lcid past (AreTexts side lcid past c)
+keyed_texts : (side : Side) (lcid : ℕ) (past : List Group) (c : BearerConfig) → KeepsOrder past → AreKeys past
+    → wants_keys c.kind ≡ true → config_of lcid past ≡ Some c → Chosen side lcid past (AreTexts side lcid past c)
 keyed_texts side lcid past c order keys wants e =
     let t = is_there side lcid past c order wants e in
     let texts = ciphered (flow_of c.kind c t.keys side) t.steps in
     record {
       texts = texts;
-      are = record { keys = t.keys; steps = t.steps; flow_is = t.flow_is; lives_are = t.lives_are; counts_are = t.counts_are; texts_are = refl };
+      are = record {
+        keys = t.keys;
+        steps = t.steps;
+        flow_is = t.flow_is;
+        lives_are = t.lives_are;
+        counts_are = t.counts_are;
+        texts_are = refl;
+      };
       known = inr (record {
         config = c;
         configured = configured lcid past c order e;
         wants = wants;
-        own = subst (λ (ks : List Keys). AllByRecursion (IsOfBearer c side ks) texts) t.lives_are (ciphers_as_itself c t.keys side t.steps);
-        alone = one_text_a_key c t.keys side t.steps (subst (λ (ks : List Keys). AreDistinct (map (cipher_key c.kind) ks)) (sym t.lives_are) (differ_by c.kind past keys));
+        own = subst (λ (ks : List Keys). AllByRecursion (IsOfBearer c side ks) texts) t.lives_are
+            (ciphers_as_itself c t.keys side t.steps);
+        alone =
+            one_text_a_key c t.keys side t.steps
+            (subst (λ (ks : List Keys). AreDistinct (map (cipher_key c.kind) ks)) (sym t.lives_are)
+            (differ_by c.kind past keys));
       });
     }
 
-texts_of_kind : (k : Kind) (side : Side) (lcid : ℕ) (past : List Group) (c : BearerConfig) → KeepsOrder past → AreKeys past → c.kind ≡ k → config_of lcid past ≡ Some c → Chosen side lcid past (AreTextsOf k side lcid past c)
+texts_of_kind : (k : Kind) (side : Side) (lcid : ℕ) (past : List Group) (c : BearerConfig) → KeepsOrder past
+    → AreKeys past → c.kind ≡ k → config_of lcid past ≡ Some c → Chosen side lcid past (AreTextsOf k side lcid past c)
 texts_of_kind kind.Tm side lcid past c order keys kind e = record { texts = []; are = refl; known = inl refl }
-texts_of_kind kind.Srb side lcid past c order keys kind e = keyed_texts side lcid past c order keys (ap wants_keys kind) e
-texts_of_kind kind.Um side lcid past c order keys kind e = keyed_texts side lcid past c order keys (ap wants_keys kind) e
-texts_of_kind kind.Am side lcid past c order keys kind e = keyed_texts side lcid past c order keys (ap wants_keys kind) e
+texts_of_kind kind.Srb side lcid past c order keys kind e =
+    keyed_texts side lcid past c order keys (ap wants_keys kind) e
+texts_of_kind kind.Um side lcid past c order keys kind e =
+    keyed_texts side lcid past c order keys (ap wants_keys kind) e
+texts_of_kind kind.Am side lcid past c order keys kind e =
+    keyed_texts side lcid past c order keys (ap wants_keys kind) e
 
-texts_by : (o : Option BearerConfig) (side : Side) (lcid : ℕ) (past : List Group) → KeepsOrder past → AreKeys past → config_of lcid past ≡ o → Chosen side lcid past (AreCiphered side lcid past o)
+texts_by : (o : Option BearerConfig) (side : Side) (lcid : ℕ) (past : List Group) → KeepsOrder past → AreKeys past
+    → config_of lcid past ≡ o → Chosen side lcid past (AreCiphered side lcid past o)
 texts_by None side lcid past order keys e = record { texts = []; are = refl; known = inl refl }
 texts_by (Some c) side lcid past order keys e = texts_of_kind c.kind side lcid past c order keys refl e
 
-share : (s t : Side) (m n : ℕ) (past : List Group) (texts : Side → ℕ → List Ciphering) → AreKeys past → ((side : Side) (lcid : ℕ) → AreNoneOrKnown side lcid past (texts side lcid)) → AllShareText (texts s m) (texts t n)
+share : (s t : Side) (m n : ℕ) (past : List Group) (texts : Side → ℕ → List Ciphering) → AreKeys past
+    → ((side : Side) (lcid : ℕ) → AreNoneOrKnown side lcid past (texts side lcid))
+    → AllShareText (texts s m) (texts t n)
 share s t m n past texts keys known = elim (known s m) [
   | inl none ↦ subst (λ (xs : List Ciphering). AllShareText xs (texts t n)) (sym none) tt
   | inr a ↦ elim (known t n) [
@@ -507,7 +630,8 @@ share s t m n past texts keys known = elim (known s m) [
             (subst (λ (l : ℕ). AllShareText (texts s m) (texts s l)) (same_lcid m n is) a.alone)
         | inr is ↦
             subst (λ (u : Side). AllShareText (texts s m) (texts u n)) same
-            (apart_by_channel s m n past (texts s m) (texts s n) keys (other_lcid m n is) a (subst (λ (u : Side). AreKnown u n past (texts u n)) (sym same) b))
+            (apart_by_channel s m n past (texts s m) (texts s n) keys (other_lcid m n is) a
+            (subst (λ (u : Side). AreKnown u n past (texts u n)) (sym same) b))
       ]
     ]
   ]
@@ -518,14 +642,17 @@ share s t m n past texts keys known = elim (known s m) [
     none_shares (x ∷ xs) = (tt, none_shares xs)
 
     other_lcid : (a b : ℕ) → (a == b) ≡ false → a ≡ b → ⊥
-    other_lcid a b is same = let test : (a == b) ≡ true = grind (arith, nat_tests) in let no : true ≡ false = sym test ∙ is in cc
+    other_lcid a b is same = let test : (a == b) ≡ true = grind (arith, nat_tests) in
+        let no : true ≡ false = sym test ∙ is in cc
 
 pub none_meet : (past : List Group) → KeepsOrder past → NoneMeet past
 none_meet past order =
     let keys = are_keys past (keys_behind past order).distinct in
-    let chosen : (side : Side) (lcid : ℕ) → Chosen side lcid past (AreCiphered side lcid past (config_of lcid past)) = λ side lcid. texts_by (config_of lcid past) side lcid past order keys refl in
+    let chosen : (side : Side) (lcid : ℕ) → Chosen side lcid past (AreCiphered side lcid past (config_of lcid past)) =
+    λ side lcid. texts_by (config_of lcid past) side lcid past order keys refl in
     record {
       texts = λ side lcid. (chosen side lcid).texts;
       are_ciphered = λ side lcid. (chosen side lcid).are;
-      one_text = λ side other lcid l. share side other lcid l past (λ s n. (chosen s n).texts) keys (λ s n. (chosen s n).known);
+      one_text = λ side other lcid l. share side other lcid l past (λ s n. (chosen s n).texts) keys
+          (λ s n. (chosen s n).known);
     }

@@ -1,5 +1,6 @@
 -- The test loop returns nothing on a signalling channel, since it takes SDUs of data bearers only.
-use Rattle.std.proofs.Common.{◌≡◌, ◌<◌, ◌≤◌, arith, ℕ, ◌==◌, nat_le, Bool, true, false, ◌&&◌, if◌then◌else◌, inl, inr, List, [], ◌∷◌, ◌++◌, length, take, refl, sym, subst}
+use Rattle.std.proofs.Common.{◌≡◌, ◌<◌, ◌≤◌, arith, ℕ, ◌==◌, nat_le, Bool, true, false, ◌&&◌, if◌then◌else◌, inl, inr}
+use Rattle.std.proofs.Common.{List, [], ◌∷◌, ◌++◌, length, take, refl, sym, subst}
 use Rattle.std.specs.List.{AllByRecursion}
 use Rattle.std.proofs.lemmas.Bool.Decides.{nat_tests}
 use Rattle.std.proofs.lemmas.List.{take_all}
@@ -39,7 +40,8 @@ due_by false i h = tt
 
 due_high : (by : Mode) (one : Record) → AllByRecursion IsHigh (due by one)
 due_high by (records.Of Ue (Up lcid octets)) =
-    due_by ((is_on by && nat_le 3 lcid) && nat_le 1 (length octets)) (back by (item lcid octets)) (λ e. least 3 lcid (second (is_on by) (nat_le 3 lcid) (nat_le 1 (length octets)) e))
+    due_by ((is_on by && nat_le 3 lcid) && nat_le 1 (length octets)) (back by (item lcid octets))
+    (λ e. least 3 lcid (second (is_on by) (nat_le 3 lcid) (nat_le 1 (length octets)) e))
 due_high by one = tt
 
 gone_high : (by : Mode) (told : List Record) → AllByRecursion IsHigh (gone_up by told)
@@ -48,7 +50,9 @@ gone_high by (one ∷ told) = all_more IsHigh (due by one) (gone_up by told) (du
 
 all_high : (past : List Group) → AllByRecursion IsHigh (all_gone_up past)
 all_high [] = tt
-all_high (g ∷ past) = all_more IsHigh (all_gone_up past) (gone_up (mode (g ∷ past)) g.events) (all_high past) (gone_high (mode (g ∷ past)) g.events)
+all_high (g ∷ past) =
+    all_more IsHigh (all_gone_up past) (gone_up (mode (g ∷ past)) g.events) (all_high past)
+    (gone_high (mode (g ∷ past)) g.events)
 
 -- ---- what comes back
 
@@ -67,17 +71,23 @@ apart_low lcid l high low = grind (arith, nat_tests)
 
 none_by : (l : ℕ) (told : List Record) → l < 3 → AllByRecursion IsHigh (returned told) → loops_in l told ≡ []
 none_by l [] low h = refl
-none_by l (records.Looped lcid octets ∷ told) low h = unlooped_by l (records.Looped lcid octets) told (apart_low lcid l h.0 low) (none_by l told low h.1)
+none_by l (records.Looped lcid octets ∷ told) low h =
+    unlooped_by l (records.Looped lcid octets) told (apart_low lcid l h.0 low) (none_by l told low h.1)
 none_by l (one ∷ told) low h = unlooped_by l one told refl (none_by l told low h)
 
 returned_high : (past : List Group) (g : Group) → KeepsOrder (g ∷ past) → AllByRecursion IsHigh (returned g.events)
 returned_high past g order =
     let n = length g.events in
     let whole : take n g.events ≡ g.events = take_all n g.events (omega arith) in
-    let went = all_more IsHigh (all_gone_up past) (gone_up (mode (g ∷ past)) (take n g.events)) (all_high past) (gone_high (mode (g ∷ past)) (take n g.events)) in
-    let came = part_high (all_returned past ++ returned (take n g.events)) (all_gone_up past ++ gone_up (mode (g ∷ past)) (take n g.events)) ((return_in_order (g ∷ past) order).0.in_order n) went in
-    subst (λ (told : List Record). AllByRecursion IsHigh (returned told)) whole (last_high (all_returned past) (returned (take n g.events)) came)
+    let went = all_more IsHigh (all_gone_up past) (gone_up (mode (g ∷ past)) (take n g.events)) (all_high past)
+    (gone_high (mode (g ∷ past)) (take n g.events)) in
+    let came = part_high (all_returned past ++ returned (take n g.events))
+    (all_gone_up past ++ gone_up (mode (g ∷ past)) (take n g.events))
+    ((return_in_order (g ∷ past) order).0.in_order n) went in
+    subst (λ (told : List Record). AllByRecursion IsHigh (returned told)) whole
+    (last_high (all_returned past) (returned (take n g.events)) came)
 
-pub none_looped : (side : Side) (l : ℕ) (past : List Group) (g : Group) → l < 3 → KeepsOrder (g ∷ past) → looped_at side l g.events ≡ []
+pub none_looped : (side : Side) (l : ℕ) (past : List Group) (g : Group) → l < 3 → KeepsOrder (g ∷ past)
+    → looped_at side l g.events ≡ []
 none_looped Nb l past g low order = refl
 none_looped Ue l past g low order = none_by l g.events low (returned_high past g order)

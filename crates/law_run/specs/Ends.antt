@@ -7,8 +7,9 @@ use Rattle.l2_types.specs.declared.side.Side.TheVariants.{Nb, Ue}
 use Rattle.law_air.specs.AnyCalls.Ends.{ByCalls}
 use Rattle.law_run.specs.Order.{state_behind}
 
--- each end has come by calls of its own from its beginning on, before the first line, to where it stands behind the groups; the events
--- that the journal tells of it, in their order, are exactly what it tells in these calls, and none but these
+-- each end has come by calls of its own from its beginning on, before the first line, to where it
+-- stands behind the groups; the events that the journal tells of it, in their order, are exactly
+-- what it tells in these calls, and none but these
 pub record ComeByCalls (past : List Group) : Type 0 where
   pub nb : ByCalls Nb (history past) (fresh Nb 4 false) (state_behind past).link.nb
   pub ue : ByCalls Ue (history past) (fresh Ue 4 false) (state_behind past).link.ue

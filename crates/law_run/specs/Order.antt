@@ -14,8 +14,8 @@ abbrev pub state_behind : List Group → RunState
 state_behind [] = fresh
 state_behind (g ∷ past) = done g.line (state_behind past)
 
--- a line that is read and breaks no rule, with exactly the records that it leaves where it stands; they are those of its TTIs, and
--- of its new blocks
+-- a line that is read and breaks no rule, with exactly the records that it leaves where it stands;
+-- they are those of its TTIs, and of its new blocks
 pub record IsRight (past : List Group) (g : Group) : Type 0 where
   pub in_range : IsInRange g.line
   pub count : HasCount g.line

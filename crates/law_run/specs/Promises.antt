@@ -47,15 +47,19 @@ pub record IsPromised (played : Played) : Type 0 where
   pub delivered : DeliversInOrder past
   -- exactly those before the first that hasn't come, as the blocks tell, none of which is held back
   pub came : HandUpWhatCame past
-  -- and all of it but what is discarded once a drain tells that it is drained, but where the sender gave up
+  -- and all of it but what is discarded once a drain tells that it is drained, but where the sender
+  -- gave up
   pub drained : DrainsLeaveNothing past
-  -- each signalling bearer hands up what was submitted at the other end since the last handover, in order
+  -- each signalling bearer hands up what was submitted at the other end since the last handover, in
+  -- order
   pub signalled : DeliversEachLife past
   -- and all of it once a drain tells that it is drained, but where the sender gave up
   pub signals_drained : DrainsLeaveNoSignal past
   -- and in a handover nothing of it goes up
   pub signals_moved : HandoversBringNoSignal past
-  -- each unacknowledged data bearer hands up some of what was submitted at the other end, in order, while losses are short
+  -- each unacknowledged data bearer hands up some of what was submitted at the other end, in order,
+  -- while losses are short
   pub delivered_short : DeliversWhileShort past
-  -- the records of each line stand in the order in which both ends, the blocks and the loop come to their turns
+  -- the records of each line stand in the order in which both ends, the blocks and the loop come to
+  -- their turns
   pub in_order : LinesTell past

@@ -14,7 +14,8 @@ use Rattle.l2_types.specs.declared.side.Side.TheVariants.{Nb, Ue}
 use Rattle.promises.specs.Flows.{submitted, delivered}
 use Rattle.law_run.specs.Order.{state_behind}
 
--- of the flow that a side sends on a channel: the SDUs that its end submitted, and those that the other handed up
+-- of the flow that a side sends on a channel: the SDUs that its end submitted, and those that the
+-- other handed up
 abbrev pub sum_told : Side → List Group → RunState → ℕ → Record
 sum_told side past r lcid =
     sum_by side lcid (record {
@@ -24,7 +25,8 @@ sum_told side past r lcid =
     }) r.losses
 
 abbrev pub sums_told : List Group → RunState → ℕ → List Record
-sums_told past r lcid = if is_known lcid r.link then sum_told Nb past r lcid ∷ sum_told Ue past r lcid ∷ [] else []
+sums_told past r lcid = if is_known lcid r.link then sum_told Nb past r lcid
+    ∷ sum_told Ue past r lcid ∷ [] else []
 
 abbrev pub all_told : List Group → RunState → List ℕ → List Record
 all_told past r [] = []

@@ -5,17 +5,20 @@ pub fn lines_are_in_range()
     ensures { LinesAreInRange }
 {}
 
-/// The journal of every script is the records of its accepted lines, each run where it stands, and the sums at its end. Said without
-/// the machine: its TTIs, its blocks, its keys and COUNTs, what is told of each end, what the test loop returns and the order in which
-/// the records of each line stand are as promised.
+/// The journal of every script is the records of its accepted lines, each run where it stands, and
+/// the sums at its end. Said without the machine: its TTIs, its blocks, its keys and COUNTs, what
+/// is told of each end, what the test loop returns and the order in which the records of each line
+/// stand are as promised.
 ///
-/// Where no block was forged, through any losses, repeats, delays and handovers, each acknowledged data bearer has handed up at each end
-/// exactly the SDUs that the other took before the first that hasn't come, in order, each once and unchanged, of those that were
-/// submitted none left out but what is discarded; behind a drain that tells that it is drained all of them but these, where no failure
-/// of the sender is told since the last handover. Each signalling bearer has handed up the first SDUs that were submitted since the last
-/// handover, in order, each once and unchanged, with none left out, and behind such a drain all of them. Each unacknowledged data bearer
-/// has handed up some of the SDUs that were submitted, in order, each once and unchanged, where the records tell, as the sum does, that
-/// losses were short in that direction.
+/// Where no block was forged, through any losses, repeats, delays and handovers, each acknowledged
+/// data bearer has handed up at each end exactly the SDUs that the other took before the first that
+/// hasn't come, in order, each once and unchanged, of those that were submitted none left out but
+/// what is discarded; behind a drain that tells that it is drained all of them but these, where no
+/// failure of the sender is told since the last handover. Each signalling bearer has handed up the
+/// first SDUs that were submitted since the last handover, in order, each once and unchanged, with
+/// none left out, and behind such a drain all of them. Each unacknowledged data bearer has handed
+/// up some of the SDUs that were submitted, in order, each once and unchanged, where the records
+/// tell, as the sum does, that losses were short in that direction.
 pub fn every_journal()
     ensures { EveryJournal }
 {}

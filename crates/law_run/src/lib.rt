@@ -1,4 +1,5 @@
-//! Laws over the journal of every script, in the subject's own words. The functions do nothing: their contracts are the laws.
+//! Laws over the journal of every script, in the subject's own words. The functions do nothing:
+//! their contracts are the laws.
 #![tactic(auto)]
 
 mod laws;

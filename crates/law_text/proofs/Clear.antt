@@ -1,4 +1,5 @@
-use Rattle.std.proofs.Common.{◌≡◌, ◌<◌, ◌^◌, ◌==◌, ◌/◌, ◌%◌, ℕ, zero, suc, List, [], ◌∷◌, refl, rules, true, false, if◌then◌else◌, slice_index, Option, Some, None}
+use Rattle.std.proofs.Common.{◌≡◌, ◌<◌, ◌^◌, ◌==◌, ◌/◌, ◌%◌, ℕ, zero, suc, List, [], ◌∷◌, refl, rules, true, false}
+use Rattle.std.proofs.Common.{if◌then◌else◌, slice_index, Option, Some, None}
 use Rattle.std.specs.Char.{is_ascii_digit}
 use Rattle.std.specs.Str.{all_ascii_digits}
 use Rattle.std.specs.Fmt.{decimal}
@@ -10,14 +11,17 @@ use Rattle.law_text.specs.Back.{IsCount}
 use Rattle.air_text.specs.Spoken.{is_clear}
 use Rattle.law_text.proofs.Parts.{own}
 
-pub parts-clear : (x : ℕ) (xs : List ℕ) → is_clear (x ∷ xs) ≡ true → ((x == 10) ≡ false) × ((x == 32) ≡ false) × (is_clear xs ≡ true)
+pub parts-clear : (x : ℕ) (xs : List ℕ) → is_clear (x ∷ xs) ≡ true
+    → ((x == 10) ≡ false) × ((x == 32) ≡ false) × (is_clear xs ≡ true)
 parts-clear x xs h =
-    elim (x == 10) as (λ b. (if b then false else if x == 32 then false else is_clear xs) ≡ true → (b ≡ false) × ((x == 32) ≡ false) × (is_clear xs ≡ true)) [
+    elim (x == 10) as (λ b. (if b then false else if x == 32 then false else is_clear xs) ≡ true
+    → (b ≡ false) × ((x == 32) ≡ false) × (is_clear xs ≡ true)) [
       | true ↦ λ f. cc
-      | false ↦ elim (x == 32) as (λ b. (if b then false else is_clear xs) ≡ true → (false ≡ false) × (b ≡ false) × (is_clear xs ≡ true)) [
-        | true ↦ λ f. cc
-        | false ↦ λ f. (refl, refl, f)
-      ]
+      | false ↦ elim (x == 32) as (λ b. (if b then false else is_clear xs) ≡ true
+          → (false ≡ false) × (b ≡ false) × (is_clear xs ≡ true)) [
+            | true ↦ λ f. cc
+            | false ↦ λ f. (refl, refl, f)
+          ]
     ] h
 
 clear-digits : (xs : List ℕ) → all_ascii_digits xs ≡ true → is_clear xs ≡ true
@@ -32,7 +36,8 @@ clear-digits (x ∷ xs) h =
 pub clear-number : (n : ℕ) → n < 2 ^ 64 → is_clear (decimal n) ≡ true
 clear-number n h = clear-digits (decimal n) (digits_decimal own n h)
 
-clear-place : (t : List ℕ) → is_clear t ≡ true → (i : ℕ) → ((slice_index t i == 10) ≡ false) × ((slice_index t i == 32) ≡ false)
+clear-place : (t : List ℕ) → is_clear t ≡ true → (i : ℕ) → ((slice_index t i == 10) ≡ false)
+    × ((slice_index t i == 32) ≡ false)
 clear-place [] h i = (refl, refl)
 clear-place (x ∷ xs) h zero = let p = parts-clear x xs h in (p.0, p.1)
 clear-place (x ∷ xs) h (suc i) = let p = parts-clear x xs h in clear-place xs p.2 i

@@ -1,4 +1,5 @@
-use Rattle.std.proofs.Common.{◌≡◌, ◌<◌, ◌^◌, ◌==◌, ◌∙◌, ℕ, zero, suc, List, [], ◌∷◌, ◌++◌, map, ap, refl, sym, rules, arith, true, false, if◌then◌else◌, append_assoc, append-nil}
+use Rattle.std.proofs.Common.{◌≡◌, ◌<◌, ◌^◌, ◌==◌, ◌∙◌, ℕ, zero, suc, List, [], ◌∷◌, ◌++◌, map, ap, refl, sym, rules}
+use Rattle.std.proofs.Common.{arith, true, false, if◌then◌else◌, append_assoc, append-nil}
 use Rattle.std.specs.Char.{is_ascii_digit}
 use Rattle.std.specs.Str.{all_ascii_digits}
 use Rattle.std.specs.Fmt.{decimal}
@@ -11,7 +12,8 @@ use Rattle.law_text.specs.Lens.{cut_by, is_free, lens_back, AreNumbers, AreLens,
 use Rattle.law_text.proofs.Parts.{own, back-number}
 use Rattle.law_text.proofs.Clear.{clear-number, parts-clear}
 
-pub free-digits : (at : ℕ) → ((x : ℕ) → is_ascii_digit x ≡ true → (x == at) ≡ false) → (xs : List ℕ) → all_ascii_digits xs ≡ true → is_free at xs ≡ true
+pub free-digits : (at : ℕ) → ((x : ℕ) → is_ascii_digit x ≡ true → (x == at) ≡ false) → (xs : List ℕ)
+    → all_ascii_digits xs ≡ true → is_free at xs ≡ true
 free-digits at other [] h = refl
 free-digits at other (x ∷ xs) h =
     let p = and_parts (is_ascii_digit x) (all_ascii_digits xs) h in rw (other x p.0) (free-digits at other xs p.1)
@@ -34,17 +36,21 @@ hyphen-free n h = free-digits 45 no-hyphen (decimal n) (digits_decimal own n h)
 pub colon-free : (n : ℕ) → n < 2 ^ 64 → is_free 58 (decimal n) ≡ true
 colon-free n h = free-digits 58 no-colon (decimal n) (digits_decimal own n h)
 
-pub cut-free : (at : ℕ) (w acc rest : List ℕ) → is_free at w ≡ true → cut_by at acc (w ++ rest) ≡ cut_by at (acc ++ w) rest
+pub cut-free : (at : ℕ) (w acc rest : List ℕ) → is_free at w ≡ true
+    → cut_by at acc (w ++ rest) ≡ cut_by at (acc ++ w) rest
 unfolding cut_by
 cut-free at [] acc rest h = ap (λ (a : List ℕ). cut_by at a rest) (sym (append-nil acc))
 cut-free at (x ∷ xs) acc rest h =
     elim (x == at) as (λ b. (if b then false else is_free at xs) ≡ true
-    → (if b then acc ∷ cut_by at [] (xs ++ rest) else cut_by at (acc ++ x ∷ []) (xs ++ rest)) ≡ cut_by at (acc ++ x ∷ xs) rest) [
+    → (if b then acc ∷ cut_by at [] (xs ++ rest) else cut_by at (acc ++ x ∷ []) (xs ++ rest))
+    ≡ cut_by at (acc ++ x ∷ xs) rest) [
       | true ↦ λ f. cc
-      | false ↦ λ f. cut-free at xs (acc ++ x ∷ []) rest f ∙ ap (λ (a : List ℕ). cut_by at a rest) (append_assoc acc (x ∷ []) xs)
+      | false ↦ λ f. cut-free at xs (acc ++ x ∷ []) rest f
+          ∙ ap (λ (a : List ℕ). cut_by at a rest) (append_assoc acc (x ∷ []) xs)
     ] h
 
-cut-more : (acc : List ℕ) (ns : List ℕ) → AreNumbers ns → cut_by 44 acc (comma_before (map decimal ns)) ≡ acc ∷ map decimal ns
+cut-more : (acc : List ℕ) (ns : List ℕ) → AreNumbers ns
+    → cut_by 44 acc (comma_before (map decimal ns)) ≡ acc ∷ map decimal ns
 unfolding cut_by
 cut-more acc [] h = refl
 cut-more acc (n ∷ ns) h =
@@ -69,11 +75,13 @@ clear-append (x ∷ xs) b h g = let p = parts-clear x xs h in rw (p.0, p.1) (cle
 
 clear-more : (ns : List ℕ) → AreNumbers ns → is_clear (comma_before (map decimal ns)) ≡ true
 clear-more [] h = refl
-clear-more (n ∷ ns) h = clear-append (decimal n) (comma_before (map decimal ns)) (clear-number n h.0) (clear-more ns h.1)
+clear-more (n ∷ ns) h =
+    clear-append (decimal n) (comma_before (map decimal ns)) (clear-number n h.0) (clear-more ns h.1)
 
 pub clear-lens : (ns : List ℕ) → AreLens ns → is_clear (lens_text ns) ≡ true
 clear-lens [] h = absurd h
-clear-lens (n ∷ ns) h = clear-append (decimal n) (comma_before (map decimal ns)) (clear-number n h.0) (clear-more ns h.1)
+clear-lens (n ∷ ns) h =
+    clear-append (decimal n) (comma_before (map decimal ns)) (clear-number n h.0) (clear-more ns h.1)
 
 pub back-framing : (fi : ℕ) → fi < 4 → framing_back (framing_text fi) ≡ fi
 back-framing zero h = refl

@@ -1,5 +1,6 @@
 -- The entries of a STATUS read back from their text.
-use Rattle.std.proofs.Common.{◌≡◌, ◌<◌, ◌^◌, ◌==◌, ◌∙◌, ℕ, List, [], ◌∷◌, ◌++◌, map, ap, refl, sym, true, false, if◌then◌else◌, append-nil, codes, Option, Some, None}
+use Rattle.std.proofs.Common.{◌≡◌, ◌<◌, ◌^◌, ◌==◌, ◌∙◌, ℕ, List, [], ◌∷◌, ◌++◌, map, ap, refl, sym, true, false}
+use Rattle.std.proofs.Common.{if◌then◌else◌, append-nil, codes, Option, Some, None}
 use Rattle.std.specs.Str.{bytes_eq}
 use Rattle.std.specs.Fmt.{decimal}
 use Rattle.std.proofs.lemmas.Fmt.{digits_decimal}
@@ -13,10 +14,11 @@ use Rattle.law_text.proofs.Clear.{clear-number}
 use Rattle.law_text.proofs.LensBack.{cut-free, comma-free, hyphen-free, colon-free, clear-append}
 
 free-parts : (at x : ℕ) (xs : List ℕ) → is_free at (x ∷ xs) ≡ true → ((x == at) ≡ false) × (is_free at xs ≡ true)
-free-parts at x xs h = elim (x == at) as (λ b. (if b then false else is_free at xs) ≡ true → (b ≡ false) × (is_free at xs ≡ true)) [
-  | true ↦ λ f. cc
-  | false ↦ λ f. (refl, f)
-] h
+free-parts at x xs h =
+    elim (x == at) as (λ b. (if b then false else is_free at xs) ≡ true → (b ≡ false) × (is_free at xs ≡ true)) [
+      | true ↦ λ f. cc
+      | false ↦ λ f. (refl, f)
+    ] h
 
 free-append : (at : ℕ) (a b : List ℕ) → is_free at a ≡ true → is_free at b ≡ true → is_free at (a ++ b) ≡ true
 free-append at [] b h g = g
@@ -28,21 +30,34 @@ unfolding cut_by
 cut-one at w h = ap (cut_by at []) (sym (append-nil w)) ∙ cut-free at w [] [] h
 
 -- two words with the octet between
-cut-two : (at : ℕ) (w v : List ℕ) → is_free at w ≡ true → is_free at v ≡ true → (at == at) ≡ true → cut_by at [] (w ++ at ∷ v) ≡ w ∷ v ∷ []
+cut-two : (at : ℕ) (w v : List ℕ) → is_free at w ≡ true → is_free at v ≡ true → (at == at) ≡ true
+    → cut_by at [] (w ++ at ∷ v) ≡ w ∷ v ∷ []
 unfolding cut_by
 cut-two at w v h g same = cut-free at w [] (at ∷ v) h ∙ rw same (ap (λ (r : List (List ℕ)). w ∷ r) (cut-one at v g))
 
-back-range : (p : Part) → (p.start < 2 ^ 64) × (p.end < 2 ^ 64) → part_of (cut_by 45 [] (decimal p.start ++ (45 ∷ decimal p.end))) ≡ p
-back-range p h = rw (cut-two 45 (decimal p.start) (decimal p.end) (hyphen-free p.start h.0) (hyphen-free p.end h.1) refl, back-number p.start h.0, back-number p.end h.1) refl
+back-range : (p : Part) → (p.start < 2 ^ 64) × (p.end < 2 ^ 64)
+    → part_of (cut_by 45 [] (decimal p.start ++ (45 ∷ decimal p.end))) ≡ p
+back-range p h =
+    rw (
+      cut-two 45 (decimal p.start) (decimal p.end) (hyphen-free p.start h.0) (hyphen-free p.end h.1) refl,
+      back-number p.start h.0,
+      back-number p.end h.1,
+    ) refl
 
-range-free : (p : Part) → (p.start < 2 ^ 64) × (p.end < 2 ^ 64) → is_free 58 (decimal p.start ++ (45 ∷ decimal p.end)) ≡ true
+range-free : (p : Part) → (p.start < 2 ^ 64) × (p.end < 2 ^ 64)
+    → is_free 58 (decimal p.start ++ (45 ∷ decimal p.end)) ≡ true
 range-free p h = free-append 58 (decimal p.start) (45 ∷ decimal p.end) (colon-free p.start h.0) (colon-free p.end h.1)
 
-part-back : (sn : ℕ) (part : Option Part) → sn < 2 ^ 64 → IsGoodPart part → nack_back (part_text sn part) ≡ record { sn = sn; part = part }
+part-back : (sn : ℕ) (part : Option Part) → sn < 2 ^ 64 → IsGoodPart part
+    → nack_back (part_text sn part) ≡ record { sn = sn; part = part }
 unfolding nack_back
 part-back sn None small h = rw (cut-one 58 (decimal sn) (colon-free sn small), back-number sn small) refl
 part-back sn (Some p) small h =
-    rw (cut-two 58 (decimal sn) (decimal p.start ++ (45 ∷ decimal p.end)) (colon-free sn small) (range-free p h) refl, back-number sn small, back-range p h) refl
+    rw (
+      cut-two 58 (decimal sn) (decimal p.start ++ (45 ∷ decimal p.end)) (colon-free sn small) (range-free p h) refl,
+      back-number sn small,
+      back-range p h,
+    ) refl
 
 pub back-nack : (n : Nack) → IsGoodNack n → nack_back (nack_text n) ≡ n
 back-nack n h = part-back n.sn n.part h.number h.part
@@ -59,12 +74,14 @@ part-clear sn (Some p) small h =
     clear-append (decimal sn) (58 ∷ (decimal p.start ++ (45 ∷ decimal p.end))) (clear-number sn small)
     (clear-append (decimal p.start) (45 ∷ decimal p.end) (clear-number p.start h.0) (clear-number p.end h.1))
 
-cut-nacks : (acc : List ℕ) (ns : List Nack) → AreGoodNacks ns → cut_by 44 acc (comma_before (map nack_text ns)) ≡ acc ∷ map nack_text ns
+cut-nacks : (acc : List ℕ) (ns : List Nack) → AreGoodNacks ns
+    → cut_by 44 acc (comma_before (map nack_text ns)) ≡ acc ∷ map nack_text ns
 unfolding cut_by
 cut-nacks acc [] h = refl
 cut-nacks acc (n ∷ ns) h =
     ap (λ (r : List (List ℕ)). acc ∷ r)
-    (cut-free 44 (nack_text n) [] (comma_before (map nack_text ns)) (part-free n.sn n.part h.0.number h.0.part) ∙ cut-nacks (nack_text n) ns h.1)
+    (cut-free 44 (nack_text n) [] (comma_before (map nack_text ns)) (part-free n.sn n.part h.0.number h.0.part)
+    ∙ cut-nacks (nack_text n) ns h.1)
 
 each-back : (ns : List Nack) → AreGoodNacks ns → map nack_back (map nack_text ns) ≡ ns
 each-back [] h = refl
@@ -80,7 +97,8 @@ part-dash : (sn : ℕ) (part : Option Part) → sn < 2 ^ 64 → bytes_eq (part_t
 part-dash sn None small = no-dash (decimal sn) (digits_decimal own sn small)
 part-dash sn (Some p) small = long-dash (decimal sn) 58 (decimal p.start ++ (45 ∷ decimal p.end)) refl
 
-nacks-dash : (n : Nack) (ns : List Nack) → n.sn < 2 ^ 64 → bytes_eq (nack_text n ++ comma_before (map nack_text ns)) (codes "-") ≡ false
+nacks-dash : (n : Nack) (ns : List Nack) → n.sn < 2 ^ 64
+    → bytes_eq (nack_text n ++ comma_before (map nack_text ns)) (codes "-") ≡ false
 nacks-dash n [] small = rw (append-nil (nack_text n)) (part-dash n.sn n.part small)
 nacks-dash n (m ∷ ns) small = long-dash (nack_text n) 44 (nack_text m ++ comma_before (map nack_text ns)) refl
 
@@ -90,13 +108,18 @@ back-nacks [] h = refl
 back-nacks (n ∷ ns) h =
     rw (nacks-dash n ns h.0.number)
     (ap (λ (r : List (List ℕ)). map nack_back r)
-    (cut-free 44 (nack_text n) [] (comma_before (map nack_text ns)) (part-free n.sn n.part h.0.number h.0.part) ∙ cut-nacks (nack_text n) ns h.1)
+    (cut-free 44 (nack_text n) [] (comma_before (map nack_text ns)) (part-free n.sn n.part h.0.number h.0.part)
+    ∙ cut-nacks (nack_text n) ns h.1)
     ∙ each-back (n ∷ ns) h)
 
 more-clear : (ns : List Nack) → AreGoodNacks ns → is_clear (comma_before (map nack_text ns)) ≡ true
 more-clear [] h = refl
-more-clear (n ∷ ns) h = clear-append (nack_text n) (comma_before (map nack_text ns)) (part-clear n.sn n.part h.0.number h.0.part) (more-clear ns h.1)
+more-clear (n ∷ ns) h =
+    clear-append (nack_text n) (comma_before (map nack_text ns)) (part-clear n.sn n.part h.0.number h.0.part)
+    (more-clear ns h.1)
 
 pub clear-nacks : (ns : List Nack) → AreGoodNacks ns → is_clear (nacks_text ns) ≡ true
 clear-nacks [] h = refl
-clear-nacks (n ∷ ns) h = clear-append (nack_text n) (comma_before (map nack_text ns)) (part-clear n.sn n.part h.0.number h.0.part) (more-clear ns h.1)
+clear-nacks (n ∷ ns) h =
+    clear-append (nack_text n) (comma_before (map nack_text ns)) (part-clear n.sn n.part h.0.number h.0.part)
+    (more-clear ns h.1)

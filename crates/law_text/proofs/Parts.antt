@@ -1,4 +1,5 @@
-use Rattle.std.proofs.Common.{◌≡◌, ◌<◌, ◌^◌, ℕ, List, [], ◌∷◌, ap, arith, refl, rules, true, Option, Some, None, false, ◌&&◌, ◌==◌, Bool, codes}
+use Rattle.std.proofs.Common.{◌≡◌, ◌<◌, ◌^◌, ℕ, List, [], ◌∷◌, ap, arith, refl, rules, true, Option, Some, None, false}
+use Rattle.std.proofs.Common.{◌&&◌, ◌==◌, Bool, codes}
 use Rattle.std.specs.Fmt.{decimal}
 use Rattle.std.specs.Str.{all_ascii_digits, bytes_eq}
 use Rattle.std.proofs.lemmas.Fmt.{digits_value-decimal, digits_decimal}
@@ -19,8 +20,10 @@ use Rattle.rlc_pdu.specs.declared.fault.RlcWhy.{RlcWhy}
 use Rattle.rlc_pdu.specs.declared.fault.RlcWhy.TheVariants as rlcs
 use Rattle.pdcp_pdu.specs.declared.pdu.PdcpWhy.{PdcpWhy}
 use Rattle.pdcp_pdu.specs.declared.pdu.PdcpWhy.TheVariants as pdcps
-use Rattle.air_record.specs.Text.{mac_number, rlc_number, pdcp_number, lost_text, clock_text, how_text, waits_text, bitmap_text, count_text}
-use Rattle.law_text.specs.Back.{digits_on, number_back, octets_in, octets_back, bitmap_back, count_back, clock_back, how_back, waits_back, lost_back, mac_back, rlc_back, pdcp_back, IsCount}
+use Rattle.air_record.specs.Text.{mac_number, rlc_number, pdcp_number, lost_text, clock_text, how_text, waits_text}
+use Rattle.air_record.specs.Text.{bitmap_text, count_text}
+use Rattle.law_text.specs.Back.{digits_on, number_back, octets_in, octets_back, bitmap_back, count_back, clock_back}
+use Rattle.law_text.specs.Back.{how_back, waits_back, lost_back, mac_back, rlc_back, pdcp_back, IsCount}
 
 pub own : IsNumeralModel (λ ds. all_ascii_digits ds ≡ true) (digits_on 0)
 own = numerals_by_fold _ (search rules) digits_on (search rules)

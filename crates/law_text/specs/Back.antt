@@ -1,5 +1,6 @@
 -- Records read back from the words of their texts (docs/formats/JOURNAL.md).
-use Rattle.std.specs.Prelude.{ℕ, ◌+◌, ◌*◌, ◌-◌, ◌<◌, ◌^◌, ◌==◌, if◌then◌else◌, List, [], ◌∷◌, ◌++◌, codes, Option, None, Some, Result, Ok, Err}
+use Rattle.std.specs.Prelude.{ℕ, ◌+◌, ◌*◌, ◌-◌, ◌<◌, ◌^◌, ◌==◌, if◌then◌else◌, List, [], ◌∷◌, ◌++◌}
+use Rattle.std.specs.Prelude.{codes, Option, None, Some, Result, Ok, Err}
 use Rattle.std.specs.Str.{bytes_eq}
 use Rattle.hex.specs.Hex.{decode_of, IsBytes}
 use Rattle.hex.specs.declared.error.FromHexError.{FromHexError}
@@ -18,12 +19,16 @@ use Rattle.rlc_pdu.specs.declared.fault.RlcWhy.TheVariants as rlcs
 use Rattle.pdcp_pdu.specs.declared.pdu.PdcpWhy.{PdcpWhy}
 use Rattle.pdcp_pdu.specs.declared.pdu.PdcpWhy.TheVariants as pdcps
 use Rattle.bearer_types.specs.declared.event.Event.{Event}
-use Rattle.bearer_types.specs.declared.event.Event.TheVariants.{Take, Report, Send, Wait, Start, Stop, Expired, Up, Fail, Discard, Drop, Integrity, BadMac, BadRlc, BadPdcp}
+use Rattle.bearer_types.specs.declared.event.Event.TheVariants.{Take, Report, Send, Wait, Start}
+use Rattle.bearer_types.specs.declared.event.Event.TheVariants.{Stop, Expired, Up, Fail, Discard}
+use Rattle.bearer_types.specs.declared.event.Event.TheVariants.{Drop, Integrity, BadMac, BadRlc}
+use Rattle.bearer_types.specs.declared.event.Event.TheVariants.{BadPdcp}
 
 -- a text cut at its spaces, up to its line feed, behind a word that was begun
 unfoldable pub cut : List ℕ → List ℕ → List (List ℕ)
 cut word [] = word ∷ []
-cut word (x ∷ xs) = if x == 10 then word ∷ [] else if x == 32 then word ∷ cut [] xs else cut (word ++ x ∷ []) xs
+cut word (x ∷ xs) = if x == 10 then word ∷ [] else if x == 32 then word ∷ cut [] xs
+    else cut (word ++ x ∷ []) xs
 
 -- the number that digits say
 abbrev pub digits_on : ℕ → List ℕ → ℕ
@@ -47,13 +52,16 @@ unfoldable pub count_back : List ℕ → Option ℕ
 count_back word = if bytes_eq word (codes "-") then None else Some (number_back word)
 
 abbrev pub clock_back : List ℕ → Clock
-clock_back word = if bytes_eq word (codes "poll") then clocks.Poll else if bytes_eq word (codes "reorder") then clocks.Reorder else clocks.Prohibit
+clock_back word = if bytes_eq word (codes "poll") then clocks.Poll
+    else if bytes_eq word (codes "reorder") then clocks.Reorder else clocks.Prohibit
 
 abbrev pub how_back : List ℕ → How
 how_back word = if bytes_eq word (codes "tm") then hows.Tm else if bytes_eq word (codes "new") then hows.New else if bytes_eq word (codes "re") then hows.Re else hows.Status
 
 abbrev pub waits_back : List ℕ → Waits
-waits_back word = if bytes_eq word (codes "stopped") then waits.Stopped else if bytes_eq word (codes "shut") then waits.Shut else if bytes_eq word (codes "held") then waits.Held else waits.Small
+waits_back word = if bytes_eq word (codes "stopped") then waits.Stopped
+    else if bytes_eq word (codes "shut") then waits.Shut else if bytes_eq word (codes "held")
+    then waits.Held else waits.Small
 
 abbrev pub lost_back : List ℕ → Lost
 lost_back word =
@@ -69,11 +77,13 @@ lost_back word =
     else losts.Report
 
 abbrev pub mac_back : ℕ → MacWhy
-mac_back n = if n == 1 then macs.Short else if n == 2 then macs.ReservedLcid else if n == 3 then macs.LengthPast else if n == 4 then macs.ControlAfterSdu else macs.PaddingPlace
+mac_back n = if n == 1 then macs.Short else if n == 2 then macs.ReservedLcid else if n == 3
+    then macs.LengthPast else if n == 4 then macs.ControlAfterSdu else macs.PaddingPlace
 
 abbrev pub rlc_back : ℕ → RlcWhy
 rlc_back n =
-    if n == 1 then rlcs.Short else if n == 2 then rlcs.ZeroLi else if n == 3 then rlcs.LiPast else if n == 4 then rlcs.EmptyData
+    if n == 1 then rlcs.Short else if n == 2 then rlcs.ZeroLi else if n == 3 then rlcs.LiPast
+    else if n == 4 then rlcs.EmptyData
     else if n == 5 then rlcs.ReservedCpt else if n == 6 then rlcs.SoBackwards else rlcs.Trailing
 
 abbrev pub pdcp_back : ℕ → PdcpWhy
@@ -98,17 +108,24 @@ four name lcid last =
 -- an event of five words
 abbrev pub five : List ℕ → List ℕ → List ℕ → List ℕ → Event
 five name lcid third last =
-    if bytes_eq name (codes "take") then Take (number_back lcid) (count_back third) (number_back last)
-    else if bytes_eq name (codes "report") then Report (number_back lcid) (number_back third) (bitmap_back last)
-    else if bytes_eq name (codes "integrity") then Integrity (number_back lcid) (octets_back third) (octets_back last)
-    else if bytes_eq name (codes "bad") then BadMac (record { at = number_back third; why = mac_back (number_back last) })
+    if bytes_eq name (codes "take")
+    then Take (number_back lcid) (count_back third) (number_back last)
+    else if bytes_eq name (codes "report")
+    then Report (number_back lcid) (number_back third) (bitmap_back last)
+    else if bytes_eq name (codes "integrity")
+    then Integrity (number_back lcid) (octets_back third) (octets_back last)
+    else if bytes_eq name (codes "bad")
+    then BadMac (record { at = number_back third; why = mac_back (number_back last) })
     else Send (number_back lcid) (how_back third) (number_back last)
 
 -- an event of six words
 abbrev pub six : List ℕ → List ℕ → List ℕ → List ℕ → Event
 six layer lcid fourth last =
-    if bytes_eq layer (codes "rlc") then BadRlc (number_back lcid) (record { at = number_back fourth; why = rlc_back (number_back last) })
-    else BadPdcp (number_back lcid) (record { at = number_back fourth; why = pdcp_back (number_back last) })
+    if bytes_eq layer (codes "rlc")
+    then BadRlc (number_back lcid)
+    (record { at = number_back fourth; why = rlc_back (number_back last) })
+    else BadPdcp (number_back lcid)
+    (record { at = number_back fourth; why = pdcp_back (number_back last) })
 
 abbrev pub event_back : List (List ℕ) → Event
 event_back (name ∷ node ∷ lcid ∷ last ∷ []) = four name lcid last

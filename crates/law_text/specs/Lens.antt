@@ -1,5 +1,6 @@
 -- Lengths, and the entries of a STATUS, read back from their texts (docs/formats/JOURNAL.md).
-use Rattle.std.specs.Prelude.{ℕ, ◌<◌, ◌^◌, ◌==◌, Bool, true, false, if◌then◌else◌, List, [], ◌∷◌, ◌++◌, map, codes, Option, Some, None}
+use Rattle.std.specs.Prelude.{ℕ, ◌<◌, ◌^◌, ◌==◌, Bool, true, false, if◌then◌else◌, List, [], ◌∷◌}
+use Rattle.std.specs.Prelude.{◌++◌, map, codes, Option, Some, None}
 use Rattle.std.specs.Str.{bytes_eq}
 use Rattle.rlc_pdu.specs.declared.pdu.Part.{Part}
 use Rattle.rlc_pdu.specs.declared.pdu.Nack.{Nack}
@@ -29,7 +30,8 @@ AreLens [] = ⊥
 AreLens (n ∷ ns) = (n < 2 ^ 64) × AreNumbers ns
 
 abbrev pub framing_back : List ℕ → ℕ
-framing_back word = if bytes_eq word (codes "00") then 0 else if bytes_eq word (codes "01") then 1 else if bytes_eq word (codes "10") then 2 else 3
+framing_back word = if bytes_eq word (codes "00") then 0 else if bytes_eq word (codes "01") then 1
+    else if bytes_eq word (codes "10") then 2 else 3
 
 -- ---- the entries of a STATUS: SN or SN:START-END, with a comma between two, or - for none
 
@@ -38,7 +40,8 @@ part_of (start ∷ end ∷ []) = record { start = number_back start; end = numbe
 part_of words = record { start = 0; end = 0 }
 
 abbrev pub nack_of : List (List ℕ) → Nack
-nack_of (sn ∷ range ∷ []) = record { sn = number_back sn; part = Some (part_of (cut_by 45 [] range)) }
+nack_of (sn ∷ range ∷ []) =
+    record { sn = number_back sn; part = Some (part_of (cut_by 45 [] range)) }
 nack_of (sn ∷ words) = record { sn = number_back sn; part = None }
 nack_of [] = record { sn = 0; part = None }
 

@@ -1,5 +1,6 @@
 -- Records read back from the words of their texts (docs/formats/JOURNAL.md).
-use Rattle.std.specs.Prelude.{ℕ, ◌+◌, ◌*◌, ◌<◌, ◌^◌, Bool, true, false, if◌then◌else◌, List, [], ◌∷◌, codes, Option, None, Some}
+use Rattle.std.specs.Prelude.{ℕ, ◌+◌, ◌*◌, ◌<◌, ◌^◌, Bool, true, false, if◌then◌else◌, List, []}
+use Rattle.std.specs.Prelude.{◌∷◌, codes, Option, None, Some}
 use Rattle.std.specs.Str.{bytes_eq}
 use Rattle.hex.specs.Hex.{IsBytes}
 use Rattle.l2_types.specs.declared.side.Side.{Side}
@@ -17,8 +18,15 @@ use Rattle.air_record.specs.declared.record.NoPlace.TheVariants as places
 use Rattle.air_record.specs.declared.record.State.{State}
 use Rattle.air_record.specs.declared.record.State.TheVariants as states
 use Rattle.air_record.specs.declared.record.Record.{Record}
-use Rattle.air_record.specs.declared.record.Record.TheVariants.{Line, Tti, Of, Block, Air, Refused, Looped, Drained, Spent, Sum, MacFront, MacSdu, MacPad, MacControl, RlcTm, RlcUm, RlcAm, RlcSeg, RlcStatus, PdcpData, PdcpSrb, PdcpReport, Shown, BadMac, BadRlc, BadPdcp, Sleep}
-use Rattle.law_text.specs.Back.{cut, number_back, octets_back, bitmap_back, event_back, mac_back, rlc_back, pdcp_back, IsGoodEvent}
+use Rattle.air_record.specs.declared.record.Record.TheVariants.{Line, Tti, Of, Block, Air, Refused}
+use Rattle.air_record.specs.declared.record.Record.TheVariants.{Looped, Drained, Spent, Sum}
+use Rattle.air_record.specs.declared.record.Record.TheVariants.{MacFront, MacSdu, MacPad}
+use Rattle.air_record.specs.declared.record.Record.TheVariants.{MacControl, RlcTm, RlcUm, RlcAm}
+use Rattle.air_record.specs.declared.record.Record.TheVariants.{RlcSeg, RlcStatus, PdcpData}
+use Rattle.air_record.specs.declared.record.Record.TheVariants.{PdcpSrb, PdcpReport, Shown, BadMac}
+use Rattle.air_record.specs.declared.record.Record.TheVariants.{BadRlc, BadPdcp, Sleep}
+use Rattle.law_text.specs.Back.{cut, number_back, octets_back, bitmap_back, event_back, mac_back}
+use Rattle.law_text.specs.Back.{rlc_back, pdcp_back, IsGoodEvent}
 use Rattle.law_text.specs.Lines.{line_back}
 use Rattle.air_text.specs.Spoken.{IsGoodLine}
 use Rattle.law_text.specs.Lens.{lens_back, nacks_back, framing_back, AreLens, AreGoodNacks}
@@ -33,16 +41,21 @@ abbrev pub fresh_back : List ℕ → Bool
 fresh_back word = if bytes_eq word (codes "new") then true else false
 
 abbrev pub arrived_back : List ℕ → Arrived
-arrived_back word = if bytes_eq word (codes "got") then arriveds.Got else if bytes_eq word (codes "dup") then arriveds.Dup else if bytes_eq word (codes "bad") then arriveds.Bad else arriveds.Nothing
+arrived_back word = if bytes_eq word (codes "got") then arriveds.Got
+    else if bytes_eq word (codes "dup") then arriveds.Dup else if bytes_eq word (codes "bad")
+    then arriveds.Bad else arriveds.Nothing
 
 abbrev pub heard_back : List ℕ → Option Bool
-heard_back word = if bytes_eq word (codes "ack") then Some true else if bytes_eq word (codes "nack") then Some false else None
+heard_back word = if bytes_eq word (codes "ack") then Some true
+    else if bytes_eq word (codes "nack") then Some false else None
 
 abbrev pub place_back : List ℕ → NoPlace
 place_back word = if bytes_eq word (codes "full") then places.Full else places.Count
 
 abbrev pub state_back : List ℕ → State
-state_back word = if bytes_eq word (codes "ok") then states.Ok else if bytes_eq word (codes "failed") then states.Failed else if bytes_eq word (codes "short") then states.Short else states.Long
+state_back word = if bytes_eq word (codes "ok") then states.Ok
+    else if bytes_eq word (codes "failed") then states.Failed
+    else if bytes_eq word (codes "short") then states.Short else states.Long
 
 abbrev pub bit_back : List ℕ → Bool
 bit_back word = if bytes_eq word (codes "1") then true else false
@@ -69,7 +82,8 @@ control_back name last =
     if bytes_eq name (codes "contention") then MacControl (controls.Contention (octets_back last))
     else if bytes_eq name (codes "ta") then MacControl (controls.Advance (number_back last))
     else if bytes_eq name (codes "phr") then MacControl (controls.Phr (number_back last))
-    else if bytes_eq name (codes "crnti") then MacControl (controls.Crnti (pair_back (octets_back last)))
+    else if bytes_eq name (codes "crnti")
+    then MacControl (controls.Crnti (pair_back (octets_back last)))
     else MacPad (number_back last)
 
 abbrev pub three_words : List ℕ → List ℕ → List ℕ → Record
@@ -80,34 +94,49 @@ three_words name second last =
 
 abbrev pub four_words : List ℕ → List ℕ → List ℕ → List ℕ → Record
 four_words name second third last =
-    if bytes_eq name (codes "air") then Air (direction_back second) (arrived_back third) (heard_back last)
-    else if bytes_eq name (codes "refused") then Refused (side_back second) (number_back third) (place_back last)
+    if bytes_eq name (codes "air")
+    then Air (direction_back second) (arrived_back third) (heard_back last)
+    else if bytes_eq name (codes "refused")
+    then Refused (side_back second) (number_back third) (place_back last)
     else if bytes_eq name (codes "mac") then MacSdu (number_back third) (number_back last)
     else if bytes_eq name (codes "pdcp") then
-    (if bytes_eq second (codes "data") then PdcpData (number_back third) (number_back last) else PdcpReport (number_back third) (bitmap_back last))
-    else if bytes_eq name (codes "record") then Shown (number_back second) (direction_back third) (number_back last)
+    (if bytes_eq second (codes "data") then PdcpData (number_back third) (number_back last)
+    else PdcpReport (number_back third) (bitmap_back last))
+    else if bytes_eq name (codes "record")
+    then Shown (number_back second) (direction_back third) (number_back last)
     else if bytes_eq name (codes "bad") then
-    (if bytes_eq second (codes "mac") then BadMac (record { at = number_back third; why = mac_back (number_back last) })
-    else if bytes_eq second (codes "rlc") then BadRlc (record { at = number_back third; why = rlc_back (number_back last) })
+    (if bytes_eq second (codes "mac")
+    then BadMac (record { at = number_back third; why = mac_back (number_back last) })
+    else if bytes_eq second (codes "rlc")
+    then BadRlc (record { at = number_back third; why = rlc_back (number_back last) })
     else BadPdcp (record { at = number_back third; why = pdcp_back (number_back last) }))
     else if bytes_eq name (codes "rlc") then RlcStatus (number_back third) (nacks_back last)
     else Of (side_back second) (event_back (name ∷ second ∷ third ∷ last ∷ []))
 
 abbrev pub five_words : List ℕ → List ℕ → List ℕ → List ℕ → List ℕ → Record
 five_words name second third fourth last =
-    if bytes_eq name (codes "pdcp") then PdcpSrb (number_back third) (number_back fourth) (octets_back last)
-    else if bytes_eq name (codes "rlc") then RlcUm (number_back third) (framing_back fourth) (lens_back last)
+    if bytes_eq name (codes "pdcp")
+    then PdcpSrb (number_back third) (number_back fourth) (octets_back last)
+    else if bytes_eq name (codes "rlc")
+    then RlcUm (number_back third) (framing_back fourth) (lens_back last)
     else if bytes_eq name (codes "mac") then
-    (if bytes_eq third (codes "truncated") then MacControl (controls.Report (bsrs.Truncated (number_back fourth) (number_back last)))
+    (if bytes_eq third (codes "truncated")
+    then MacControl (controls.Report (bsrs.Truncated (number_back fourth) (number_back last)))
     else MacControl (controls.Report (bsrs.Short (number_back fourth) (number_back last))))
     else Of (side_back second) (event_back (name ∷ second ∷ third ∷ fourth ∷ last ∷ []))
 
 abbrev pub six_words : List ℕ → List ℕ → List ℕ → List ℕ → List ℕ → List ℕ → Record
 six_words name second third fourth fifth last =
-    if bytes_eq name (codes "block") then Block (direction_back second) (number_back third) (fresh_back fourth) (number_back fifth) (octets_back last)
-    else if bytes_eq name (codes "rlc") then RlcAm (number_back third) (bit_back fourth) (framing_back fifth) (lens_back last)
-    else if bytes_eq name (codes "bad") then Of (side_back second) (event_back (name ∷ second ∷ third ∷ fourth ∷ fifth ∷ last ∷ []))
-    else Sum (direction_back second) (number_back third) (number_back fourth) (number_back fifth) (state_back last)
+    if bytes_eq name (codes "block")
+    then Block (direction_back second) (number_back third) (fresh_back fourth)
+    (number_back fifth) (octets_back last)
+    else if bytes_eq name (codes "rlc")
+    then RlcAm (number_back third) (bit_back fourth) (framing_back fifth) (lens_back last)
+    else if bytes_eq name (codes "bad")
+    then Of (side_back second)
+    (event_back (name ∷ second ∷ third ∷ fourth ∷ fifth ∷ last ∷ []))
+    else Sum (direction_back second) (number_back third) (number_back fourth) (number_back fifth)
+    (state_back last)
 
 -- any record but that of a line
 abbrev pub plain_back : List (List ℕ) → Record
@@ -117,8 +146,13 @@ plain_back (a ∷ b ∷ c ∷ []) = three_words a b c
 plain_back (a ∷ b ∷ c ∷ d ∷ []) = four_words a b c d
 plain_back (a ∷ b ∷ c ∷ d ∷ e ∷ []) = five_words a b c d e
 plain_back (a ∷ b ∷ c ∷ d ∷ e ∷ f ∷ []) = six_words a b c d e f
-plain_back (a ∷ b ∷ c ∷ d ∷ e ∷ f ∷ g ∷ []) = MacControl (controls.Report (bsrs.Long (number_back d ∷ number_back e ∷ number_back f ∷ number_back g ∷ [])))
-plain_back (a ∷ b ∷ c ∷ d ∷ e ∷ f ∷ g ∷ h ∷ []) = RlcSeg (number_back c) (bit_back d) (framing_back e) (bit_back f) (number_back g) (lens_back h)
+plain_back (a ∷ b ∷ c ∷ d ∷ e ∷ f ∷ g ∷ []) =
+    MacControl
+    (controls.Report
+    (bsrs.Long (number_back d ∷ number_back e ∷ number_back f ∷ number_back g ∷ [])))
+plain_back (a ∷ b ∷ c ∷ d ∷ e ∷ f ∷ g ∷ h ∷ []) =
+    RlcSeg (number_back c) (bit_back d) (framing_back e) (bit_back f) (number_back g)
+    (lens_back h)
 plain_back words = Sleep
 
 abbrev pub line_record : List (List ℕ) → Record
@@ -128,7 +162,8 @@ line_record (number ∷ words) = Line (number_back number) (line_back words)
 -- the record that words say
 abbrev pub record_back : List (List ℕ) → Record
 record_back [] = Sleep
-record_back (name ∷ more) = if bytes_eq name (codes "line") then line_record more else plain_back (name ∷ more)
+record_back (name ∷ more) = if bytes_eq name (codes "line") then line_record more
+    else plain_back (name ∷ more)
 
 -- the record whose text this is
 abbrev pub read_text : List ℕ → Record
@@ -137,7 +172,8 @@ read_text text = record_back (cut [] text)
 abbrev pub IsGoodReport : Bsr → Type 0
 IsGoodReport (bsrs.Truncated group level) = (group < 2 ^ 64) × (level < 2 ^ 64)
 IsGoodReport (bsrs.Short group level) = (group < 2 ^ 64) × (level < 2 ^ 64)
-IsGoodReport (bsrs.Long (a ∷ b ∷ c ∷ d ∷ [])) = (a < 2 ^ 64) × (b < 2 ^ 64) × (c < 2 ^ 64) × (d < 2 ^ 64)
+IsGoodReport (bsrs.Long (a ∷ b ∷ c ∷ d ∷ [])) = (a < 2 ^ 64) × (b < 2 ^ 64) × (c < 2 ^ 64)
+    × (d < 2 ^ 64)
 IsGoodReport (bsrs.Long levels) = ⊥
 
 abbrev pub IsGoodControl : Control → Type 0
@@ -152,13 +188,15 @@ IsGoodControl (controls.Report report) = IsGoodReport report
 abbrev pub IsGood : Record → Type 0
 IsGood (Tti tti) = tti < 2 ^ 64
 IsGood (Of side event) = IsGoodEvent event
-IsGood (Block direction process fresh rv octets) = (process < 2 ^ 64) × (rv < 2 ^ 64) × IsBytes octets
+IsGood (Block direction process fresh rv octets) = (process < 2 ^ 64) × (rv < 2 ^ 64)
+    × IsBytes octets
 IsGood (Air direction what heard) = Unit {0}
 IsGood (Refused side lcid why) = lcid < 2 ^ 64
 IsGood (Looped lcid octets) = (lcid < 2 ^ 64) × IsBytes octets
 IsGood (Drained rounds) = rounds < 2 ^ 64
 IsGood (Spent rounds) = rounds < 2 ^ 64
-IsGood (Sum direction lcid submitted delivered state) = (lcid < 2 ^ 64) × (submitted < 2 ^ 64) × (delivered < 2 ^ 64)
+IsGood (Sum direction lcid submitted delivered state) =
+    (lcid < 2 ^ 64) × (submitted < 2 ^ 64) × (delivered < 2 ^ 64)
 IsGood MacFront = Unit {0}
 IsGood (MacSdu lcid len) = (lcid < 2 ^ 64) × (len < 2 ^ 64)
 IsGood (MacPad octets) = octets < 2 ^ 64

@@ -13,7 +13,8 @@ pub fn event_texts()
 
 /// The words of a text are those that it was made of.
 pub fn words_of_text()
-    ensures { (w : List ℕ) (ws : List (List ℕ)) → are_clear (w ∷ ws) ≡ true → cut [] (worded (w ∷ ws)) ≡ w ∷ ws }
+    ensures { (w : List ℕ) (ws : List (List ℕ)) → are_clear (w ∷ ws) ≡ true
+        → cut [] (worded (w ∷ ws)) ≡ w ∷ ws }
 {}
 
 /// The text of a record gives it back.
@@ -23,5 +24,6 @@ pub fn texts_are_read()
 
 /// No two records have one text.
 pub fn one_text()
-    ensures { (one : Record) (other : Record) → IsGood one → IsGood other → text_of one ≡ text_of other → one ≡ other }
+    ensures { (one : Record) (other : Record) → IsGood one → IsGood other
+        → text_of one ≡ text_of other → one ≡ other }
 {}

@@ -55,7 +55,11 @@ has_come a count = a.ended count || sequence_in (has_place a) 0 a.given count
 
 abbrev pub renewed : Account → Account
 renewed a =
-    record { given = []; rlc = nothing_told; ended = λ count. a.ended count || whole_in (has_place a) 0 a.given count }
+    record {
+      given = [];
+      rlc = nothing_told;
+      ended = λ count. a.ended count || whole_in (has_place a) 0 a.given count;
+    }
 
 abbrev pub accounted : Happening → Account → Account
 accounted (Gives g) a = record a { given = a.given ++ g ∷ [] }

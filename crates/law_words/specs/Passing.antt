@@ -34,7 +34,11 @@ last_with sn count = count - 1 - (count + 1023 - sn) % 1024
 
 abbrev pub stretch_of : AmdPdu → ℕ → Stretch
 stretch_of pdu count =
-    record { number = last_with pdu.sn count; from = so_of pdu.segment; size = octets_in pdu.elements }
+    record {
+      number = last_with pdu.sn count;
+      from = so_of pdu.segment;
+      size = octets_in pdu.elements;
+    }
 
 abbrev pub with_stretch : AmdPdu → Told → Told
 with_stretch pdu t = record t { came = stretch_of pdu (length t.fields) ∷ t.came }

@@ -33,4 +33,5 @@ all_from p place (suc n) = p place && all_from p (place + 1) n
 -- all octets of an SDU, by its place among those offered
 abbrev pub has_arrived : List ℕ → List ℕ → List Stretch → ℕ → Bool
 has_arrived sdus fields came k =
-    nat_lt k (length sdus) && all_from (octet_has_come fields came) (place_of sdus k) (slice_index sdus k)
+    nat_lt k (length sdus) && all_from (octet_has_come fields came) (place_of sdus k)
+    (slice_index sdus k)

@@ -53,7 +53,8 @@ IsPlaced (element c ∷ q ∷ ps) = IsPlaced (q ∷ ps)
 IsPlaced (sdu lcid octets ∷ q ∷ ps) = IsPlaced (q ∷ ps)
 
 -- the kinds of the LCIDs
-pub control_is : (d : Direction) (c : Control) → IsControl d c → kind_of d (control_lcid c) ≡ kind.Control (element_of c)
+pub control_is : (d : Direction) (c : Control) → IsControl d c
+    → kind_of d (control_lcid c) ≡ kind.Control (element_of c)
 unfolding kind_of
 control_is Down (control.Contention id) h = refl
 control_is Down (control.Advance value) h = refl

@@ -1,5 +1,6 @@
 -- Going through the subheaders of a block.
-use Rattle.std.proofs.Common.{◌≡◌, ℕ, zero, suc, ◌+◌, ◌-◌, ◌*◌, ◌<◌, ◌≤◌, true, false, cond, ltb, List, [], ◌∷◌, length, drop, Option, Some, None, refl, sym, ◌∙◌, arith, subst}
+use Rattle.std.proofs.Common.{◌≡◌, ℕ, zero, suc, ◌+◌, ◌-◌, ◌*◌, ◌<◌, ◌≤◌, true, false, cond, ltb, List, [], ◌∷◌, length}
+use Rattle.std.proofs.Common.{drop, Option, Some, None, refl, sym, ◌∙◌, arith, subst}
 use Rattle.mac_pdu.specs.declared.item.Direction.{Direction}
 use Rattle.mac_pdu.specs.declared.subheader.Subheader.{Subheader}
 use Rattle.mac_pdu.specs.Subheaders.{subheader_at, with_length, short, is_sdu}
@@ -19,8 +20,19 @@ WholeIf (Some s) octets = IsWhole s octets
 
 with_length_whole : (s : Subheader) (o : ℕ) (os : List ℕ) → WholeIf (with_length s os) (o ∷ os)
 with_length_whole s o [] = tt
-with_length_whole s o (f ∷ []) = elim (ltb f 128) as (λ b. WholeIf (cond b (Some (record s { length = Some f; size = 2 })) None) (o ∷ f ∷ [])) [ true ↦ record { some = omega arith; within = omega arith } | false ↦ tt ]
-with_length_whole s o (f ∷ l ∷ os) = elim (ltb f 128) as (λ b. WholeIf (cond b (Some (record s { length = Some f; size = 2 })) (Some (record s { length = Some ((f - 128) * 256 + l); size = 3 }))) (o ∷ f ∷ l ∷ os)) [ true ↦ record { some = omega arith; within = omega arith } | false ↦ record { some = omega arith; within = omega arith } ]
+with_length_whole s o (f ∷ []) =
+    elim (ltb f 128) as (λ b. WholeIf (cond b (Some (record s { length = Some f; size = 2 })) None) (o ∷ f ∷ []))
+    [ true ↦ record { some = omega arith; within = omega arith } | false ↦ tt ]
+with_length_whole s o (f ∷ l ∷ os) =
+    elim (ltb f 128) as
+    (λ b. WholeIf (cond b (Some (record s { length = Some f; size = 2 }))
+    (Some (record s { length = Some ((f - 128) * 256 + l); size = 3 }))) (o ∷ f ∷ l ∷ os)) [
+      | true ↦ record { some = omega arith; within = omega arith }
+      | false ↦ record {
+        some = omega arith;
+        within = omega arith;
+      }
+    ]
 
 whole_at : (d : Direction) (octets : List ℕ) → WholeIf (subheader_at d octets) octets
 unfolding subheader_at
@@ -29,7 +41,8 @@ whole_at d (o ∷ os) =
     let s = short d o in
     let one : IsWhole s (o ∷ os) = record { some = omega arith; within = omega arith } in
     elim (is_sdu s.kind) as (λ b. WholeIf (cond b (cond s.more (with_length s os) (Some s)) (Some s)) (o ∷ os)) [
-      | true ↦ elim s.more as (λ b. WholeIf (cond b (with_length s os) (Some s)) (o ∷ os)) [ true ↦ with_length_whole s o os | false ↦ one ]
+      | true ↦ elim s.more as (λ b. WholeIf (cond b (with_length s os) (Some s)) (o ∷ os))
+          [ true ↦ with_length_whole s o os | false ↦ one ]
       | false ↦ one
     ]
 
@@ -42,7 +55,8 @@ heads_skip d zero octets = refl
 heads_skip d (suc k) [] = refl
 heads_skip d (suc k) (o ∷ os) = heads_skip d k os
 
-after_head : (d : Direction) (o : ℕ) (os : List ℕ) (n : ℕ) → 0 < n → subheaders d 0 (drop n (o ∷ os)) ≡ subheaders d (n - 1) os
+after_head : (d : Direction) (o : ℕ) (os : List ℕ) (n : ℕ) → 0 < n
+    → subheaders d 0 (drop n (o ∷ os)) ≡ subheaders d (n - 1) os
 after_head d o os zero h = absurd (omega arith)
 after_head d o os (suc n) h = let e : suc n - 1 ≡ n = omega arith in rw e (sym (heads_skip d n os))
 
@@ -59,8 +73,10 @@ unfolding subheaders
 heads_end d [] e = refl
 heads_end d (o ∷ os) e = rw e refl
 
-pub walk_on : (d : Direction) (rest : List ℕ) (s : Subheader) → subheader_at d rest ≡ Some s → s.more ≡ true → subheaders d 0 rest ≡ s ∷ subheaders d 0 (drop s.size rest)
+pub walk_on : (d : Direction) (rest : List ℕ) (s : Subheader) → subheader_at d rest ≡ Some s → s.more ≡ true
+    → subheaders d 0 rest ≡ s ∷ subheaders d 0 (drop s.size rest)
 walk_on d rest s e more = heads_next d rest s e ∙ rw more refl
 
-pub walk_last : (d : Direction) (rest : List ℕ) (s : Subheader) → subheader_at d rest ≡ Some s → s.more ≡ false → subheaders d 0 rest ≡ s ∷ []
+pub walk_last : (d : Direction) (rest : List ℕ) (s : Subheader) → subheader_at d rest ≡ Some s → s.more ≡ false
+    → subheaders d 0 rest ≡ s ∷ []
 walk_last d rest s e more = heads_next d rest s e ∙ rw more refl

@@ -1,10 +1,12 @@
--- The accepting grammar of a MAC PDU (TS 36.321 6.1.2, 6.1.3 and 6.2.1): R bits and the octets of padding
--- are free, and a length has either form.
-use Rattle.std.specs.Prelude.{◌≡◌, ℕ, ◌+◌, ◌*◌, ◌/◌, ◌%◌, ◌<◌, ◌≤◌, ◌^◌, ◌⊎◌, Bool, true, false, List, [], ◌∷◌, ◌++◌, length}
+-- The accepting grammar of a MAC PDU (TS 36.321 6.1.2, 6.1.3 and 6.2.1): R bits and the octets of
+-- padding are free, and a length has either form.
+use Rattle.std.specs.Prelude.{◌≡◌, ℕ, ◌+◌, ◌*◌, ◌/◌, ◌%◌, ◌<◌, ◌≤◌, ◌^◌, ◌⊎◌, Bool, true, false}
+use Rattle.std.specs.Prelude.{List, [], ◌∷◌, ◌++◌, length}
 use Rattle.mac_pdu.specs.declared.item.Direction.{Direction}
 use Rattle.mac_pdu.specs.declared.item.Control.{Control}
 use Rattle.mac_pdu.specs.declared.item.Control.TheVariants as control
-use Rattle.mac_pdu.specs.Items.{MacItem, front, element, sdu, padding, control_lcid, report_octets, IsControl, IsOrdered}
+use Rattle.mac_pdu.specs.Items.{MacItem, front, element, sdu, padding, control_lcid, report_octets}
+use Rattle.mac_pdu.specs.Items.{IsControl, IsOrdered}
 
 -- the E bit
 abbrev pub bit : Bool → ℕ
@@ -25,15 +27,18 @@ pub record BeginsWith (more : Bool) (lcid : ℕ) (tail octets : List ℕ) : Type
 -- the subheader of an item that another follows
 abbrev pub IsInner : Direction → MacItem → List ℕ → Type 0
 IsInner direction front octets = BeginsWith true 31 [] octets
-IsInner direction (element c) octets = IsControl direction c × BeginsWith true (control_lcid c) [] octets
+IsInner direction (element c) octets = IsControl direction c
+    × BeginsWith true (control_lcid c) [] octets
 IsInner direction (sdu lcid payload) octets =
-    (tail : List ℕ) × (lcid ≤ 10) × IsLength (length payload) tail × BeginsWith true lcid tail octets
+    (tail : List ℕ) × (lcid ≤ 10) × IsLength (length payload) tail
+    × BeginsWith true lcid tail octets
 IsInner direction (padding n) octets = ⊥
 
 -- the subheader of the last item
 abbrev pub IsLast : Direction → MacItem → List ℕ → Type 0
 IsLast direction front octets = ⊥
-IsLast direction (element c) octets = IsControl direction c × BeginsWith false (control_lcid c) [] octets
+IsLast direction (element c) octets = IsControl direction c
+    × BeginsWith false (control_lcid c) [] octets
 IsLast direction (sdu lcid payload) octets = (lcid ≤ 10) × BeginsWith false lcid [] octets
 IsLast direction (padding n) octets = BeginsWith false 31 [] octets
 
@@ -65,10 +70,12 @@ IsPayload (element c) octets = IsElement c octets
 IsPayload (sdu lcid payload) octets = octets ≡ payload
 IsPayload (padding n) octets = length octets ≡ n
 
--- the octets from the last item's on: behind a last control element may stand more, which belong to no item
+-- the octets from the last item's on: behind a last control element may stand more, which belong to
+-- no item
 abbrev pub IsEnd : MacItem → List ℕ → Type 0
 IsEnd front octets = octets ≡ []
-IsEnd (element c) octets = (first : List ℕ) × (rest : List ℕ) × (octets ≡ first ++ rest) × IsElement c first
+IsEnd (element c) octets = (first : List ℕ) × (rest : List ℕ) × (octets ≡ first ++ rest)
+    × IsElement c first
 IsEnd (sdu lcid payload) octets = octets ≡ payload
 IsEnd (padding n) octets = length octets ≡ n
 
@@ -77,7 +84,8 @@ abbrev pub IsBody : List MacItem → List ℕ → Type 0
 IsBody [] octets = ⊥
 IsBody (p ∷ []) octets = IsEnd p octets
 IsBody (p ∷ q ∷ ps) octets =
-    (first : List ℕ) × (rest : List ℕ) × (octets ≡ first ++ rest) × IsPayload p first × IsBody (q ∷ ps) rest
+    (first : List ℕ) × (rest : List ℕ) × (octets ≡ first ++ rest) × IsPayload p first
+    × IsBody (q ∷ ps) rest
 
 -- a MAC PDU and its items
 pub record MacPdu (direction : Direction) (items : List MacItem) (octets : List ℕ) : Type 0 where

@@ -1,5 +1,6 @@
 -- The items of a MAC PDU: padding, control elements and SDUs (TS 36.321 6.1.2, 6.1.3).
-use Rattle.std.specs.Prelude.{◌≡◌, ℕ, ◌+◌, ◌*◌, ◌/◌, ◌%◌, ◌<◌, ◌≤◌, List, [], ◌∷◌, ◌++◌, length, map, replicate, All, slice_index}
+use Rattle.std.specs.Prelude.{◌≡◌, ℕ, ◌+◌, ◌*◌, ◌/◌, ◌%◌, ◌<◌, ◌≤◌, List, [], ◌∷◌, ◌++◌, length}
+use Rattle.std.specs.Prelude.{map, replicate, All, slice_index}
 use Rattle.mac_pdu.specs.declared.item.Direction.{Direction}
 use Rattle.mac_pdu.specs.declared.item.Direction.TheVariants.{Down, Up}
 use Rattle.mac_pdu.specs.declared.item.Bsr.{Bsr}
@@ -68,7 +69,8 @@ control_octets (control.Report report) = report_octets report
 abbrev pub sdu_item : Sdu → MacItem
 sdu_item s = sdu s.lcid s.octets
 
--- the order of items (TS 36.321 6.1.2): at most two paddings, control elements, SDUs, at most one padding
+-- the order of items (TS 36.321 6.1.2): at most two paddings, control elements, SDUs, at most one
+-- padding
 pub record IsOrdered (items : List MacItem) : Type 0 where
   pub fronts : ℕ
   pub controls : List Control

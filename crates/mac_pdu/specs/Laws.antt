@@ -1,5 +1,6 @@
 -- Laws over the grammar, the refusals and the canonical writing alone (TS 36.321 6.1.2).
-use Rattle.std.specs.Prelude.{◌≡◌, ℕ, ◌<◌, ◌≤◌, ◌^◌, Bool, true, false, List, [], ◌∷◌, ◌++◌, ◌+◌, length, Ok}
+use Rattle.std.specs.Prelude.{◌≡◌, ℕ, ◌<◌, ◌≤◌, ◌^◌, Bool, true, false, List, [], ◌∷◌, ◌++◌, ◌+◌}
+use Rattle.std.specs.Prelude.{length, Ok}
 use Rattle.mac_pdu.specs.declared.item.Direction.{Direction}
 use Rattle.mac_pdu.specs.declared.fault.MacRefusal.{MacRefusal}
 use Rattle.mac_pdu.specs.Items.{MacItem, front, element, sdu, padding, IsControl, IsOrdered}
@@ -49,7 +50,8 @@ pub record Fits (parts : Parts) (size : ℕ) : Type 0 where
 pub record IsCanonical (parts : Parts) (size : ℕ) : Type 0 where
   pub size_is : length (canonical (items_of parts) size) ≡ size
   pub read : MacPdu parts.direction (padded (items_of parts) size) (canonical (items_of parts) size)
-  pub again : reading parts.direction (canonical (items_of parts) size) ≡ Ok (padded (items_of parts) size)
+  pub again : reading parts.direction (canonical (items_of parts) size)
+      ≡ Ok (padded (items_of parts) size)
 
 abbrev pub CanonicalFits : Type 0
 CanonicalFits = (parts : Parts) (size : ℕ) → Fits parts size → IsCanonical parts size

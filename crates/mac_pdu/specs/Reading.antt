@@ -1,6 +1,7 @@
 -- The items of a block that is not refused, as subheaders and payloads give them (TS 36.321 6.1.2).
 -- `MacPdu` says the same by cases.
-use Rattle.std.specs.Prelude.{ℕ, Bool, List, [], ◌∷◌, Option, Some, None, Result, Ok, Err, if◌then◌else◌, length, take, drop}
+use Rattle.std.specs.Prelude.{ℕ, Bool, List, [], ◌∷◌, Option, Some, None, Result, Ok, Err}
+use Rattle.std.specs.Prelude.{if◌then◌else◌, length, take, drop}
 use Rattle.mac_pdu.specs.declared.item.Direction.{Direction}
 use Rattle.mac_pdu.specs.declared.fault.MacRefusal.{MacRefusal}
 use Rattle.mac_pdu.specs.declared.subheader.Subheader.{Subheader}

@@ -1,6 +1,7 @@
 -- Which blocks are refused, where and why (TS 36.321 5.11, 6.1.2): the subheaders are gone through
 -- in their order, then their payloads.
-use Rattle.std.specs.Prelude.{◌≡◌, ℕ, zero, suc, ◌+◌, ◌-◌, nat_lt, List, [], ◌∷◌, Option, Some, None, if◌then◌else◌, length, drop}
+use Rattle.std.specs.Prelude.{◌≡◌, ℕ, zero, suc, ◌+◌, ◌-◌, nat_lt, List, [], ◌∷◌, Option, Some}
+use Rattle.std.specs.Prelude.{None, if◌then◌else◌, length, drop}
 use Rattle.mac_pdu.specs.declared.item.Direction.{Direction}
 use Rattle.mac_pdu.specs.declared.fault.MacRefusal.{MacRefusal}
 use Rattle.mac_pdu.specs.declared.subheader.Subheader.{Subheader}
@@ -56,11 +57,13 @@ abbrev pub first_of : Option MacRefusal → Option MacRefusal → Option MacRefu
 first_of (Some refusal) next = Some refusal
 first_of None next = next
 
--- why a block is refused: the first fault of its subheaders, then the first payload that runs past the block
+-- why a block is refused: the first fault of its subheaders, then the first payload that runs past
+-- the block
 unfoldable pub refusal_of : Direction → List ℕ → Option MacRefusal
 refusal_of direction octets =
     let ss = subheaders direction 0 octets in
-    first_of (first_fault stage.Start 0 (length octets) ss) (past (overrun 0 ss (drop (header_size ss) octets)))
+    first_of (first_fault stage.Start 0 (length octets) ss)
+    (past (overrun 0 ss (drop (header_size ss) octets)))
 
 -- the block is refused so
 abbrev pub MacRefused : Direction → List ℕ → MacRefusal → Type 0

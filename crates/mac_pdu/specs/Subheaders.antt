@@ -1,6 +1,8 @@
--- The subheaders of a MAC PDU as they are read: R R E LCID(5), and F L for an SDU that another item follows
--- (TS 36.321 6.1.2, 6.2.1).
-use Rattle.std.specs.Prelude.{ℕ, ◌&&◌, not, ◌+◌, ◌-◌, ◌*◌, ◌/◌, ◌%◌, ◌==◌, nat_lt, nat_le, Bool, true, false, List, [], ◌∷◌, Option, Some, None, if◌then◌else◌, slice_index, unwrap_or}
+-- The subheaders of a MAC PDU as they are read: R R E LCID(5), and F L for an SDU that another item
+-- follows (TS 36.321 6.1.2, 6.2.1).
+use Rattle.std.specs.Prelude.{ℕ, ◌&&◌, not, ◌+◌, ◌-◌, ◌*◌, ◌/◌, ◌%◌, ◌==◌, nat_lt, nat_le, Bool}
+use Rattle.std.specs.Prelude.{true, false, List, [], ◌∷◌, Option, Some, None, if◌then◌else◌}
+use Rattle.std.specs.Prelude.{slice_index, unwrap_or}
 use Rattle.mac_pdu.specs.declared.item.Direction.{Direction}
 use Rattle.mac_pdu.specs.declared.item.Direction.TheVariants.{Down, Up}
 use Rattle.mac_pdu.specs.declared.item.Bsr.TheVariants as bsr
@@ -34,17 +36,25 @@ control_kind Up lcid =
 -- what an LCID stands for
 unfoldable pub kind_of : Direction → ℕ → Kind
 kind_of direction lcid =
-    if nat_le lcid 10 then kind.Sdu else if lcid == 31 then kind.Padding else control_kind direction lcid
+    if nat_le lcid 10 then kind.Sdu else if lcid == 31 then kind.Padding
+    else control_kind direction lcid
 
 -- a subheader of one octet
 abbrev pub short : Direction → ℕ → Subheader
 short direction o =
-    record { lcid = o % 32; kind = kind_of direction (o % 32); more = o / 32 % 2 == 1; length = None; size = 1 }
+    record {
+      lcid = o % 32;
+      kind = kind_of direction (o % 32);
+      more = o / 32 % 2 == 1;
+      length = None;
+      size = 1;
+    }
 
 -- F and L behind the first octet
 abbrev pub with_length : Subheader → List ℕ → Option Subheader
 with_length s [] = None
-with_length s (f ∷ []) = if nat_lt f 128 then Some (record s { length = Some f; size = 2 }) else None
+with_length s (f ∷ []) = if nat_lt f 128 then Some (record s { length = Some f; size = 2 })
+    else None
 with_length s (f ∷ l ∷ rest) =
     if nat_lt f 128 then Some (record s { length = Some f; size = 2 })
     else Some (record s { length = Some ((f - 128) * 256 + l); size = 3 })
@@ -87,9 +97,11 @@ control_of element.Long octets =
     let a = slice_index octets 0 in
     let b = slice_index octets 1 in
     let c = slice_index octets 2 in
-    control.Report (bsr.Long ((a / 4) ∷ (a % 4 * 16 + b / 16) ∷ (b % 16 * 4 + c / 64) ∷ (c % 64) ∷ []))
+    control.Report
+    (bsr.Long ((a / 4) ∷ (a % 4 * 16 + b / 16) ∷ (b % 16 * 4 + c / 64) ∷ (c % 64) ∷ []))
 
--- how many of n octets are the payload of a subheader of that kind; a last SDU and a last padding take all
+-- how many of n octets are the payload of a subheader of that kind; a last SDU and a last padding
+-- take all
 abbrev pub kind_payload : Kind → Bool → Option ℕ → ℕ → ℕ
 kind_payload kind.Sdu more len n = unwrap_or len n
 kind_payload (kind.Control e) more len n = element_size e

@@ -1,6 +1,7 @@
 -- The canonical writing of a MAC PDU (TS 36.321 6.1.2, 6.2.1): R bits and padding are 0, each
 -- length has its shorter form, and one or two octets of padding stand in front.
-use Rattle.std.specs.Prelude.{ℕ, ◌+◌, ◌-◌, ◌/◌, ◌%◌, ◌<◌, ◌≤◌, ◌^◌, nat_lt, nat_le, List, [], ◌∷◌, ◌++◌, length, map, replicate, All, sum_by, if◌then◌else◌}
+use Rattle.std.specs.Prelude.{ℕ, ◌+◌, ◌-◌, ◌/◌, ◌%◌, ◌<◌, ◌≤◌, ◌^◌, nat_lt, nat_le, List, [], ◌∷◌}
+use Rattle.std.specs.Prelude.{◌++◌, length, map, replicate, All, sum_by, if◌then◌else◌}
 use Rattle.std.specs.List.{flat_map}
 use Rattle.mac_pdu.specs.declared.item.Direction.{Direction}
 use Rattle.mac_pdu.specs.declared.item.Bsr.{Bsr}
@@ -8,7 +9,8 @@ use Rattle.mac_pdu.specs.declared.item.Bsr.TheVariants as bsr
 use Rattle.mac_pdu.specs.declared.item.Control.{Control}
 use Rattle.mac_pdu.specs.declared.item.Control.TheVariants as control
 use Rattle.mac_pdu.specs.declared.builder.Sdu.{Sdu}
-use Rattle.mac_pdu.specs.Items.{MacItem, front, element, sdu, padding, control_lcid, control_octets, IsControl, sdu_item}
+use Rattle.mac_pdu.specs.Items.{MacItem, front, element, sdu, padding, control_lcid, control_octets}
+use Rattle.mac_pdu.specs.Items.{IsControl, sdu_item}
 
 -- how many octets a control element has
 abbrev pub report_size : Bsr → ℕ
@@ -68,8 +70,8 @@ item_size (padding n) = 1 + n
 abbrev pub full_size : List MacItem → ℕ
 full_size ps = sum_by item_size ps
 
--- the items with the padding that fills a block of so many octets: one or two octets of it stand in front
--- of the others, more stand at the end
+-- the items with the padding that fills a block of so many octets: one or two octets of it stand in
+-- front of the others, more stand at the end
 abbrev pub padded : List MacItem → ℕ → List MacItem
 padded [] size = padding (size - 1) ∷ []
 padded (p ∷ ps) size =

@@ -1,7 +1,9 @@
-ghost use Rattle.std.specs.Prelude.{◌≡◌, ◌+◌, ◌<◌, ◌≤◌, ◌^◌, [], ◌∷◌, ◌++◌, length, OnOk, OnErr, IfOk, IfErr};
+ghost use Rattle.std.specs.Prelude.{◌≡◌, ◌+◌, ◌<◌, ◌≤◌, ◌^◌, [], ◌∷◌, ◌++◌, length, OnOk, OnErr};
+ghost use Rattle.std.specs.Prelude.{IfOk, IfErr};
 ghost use Rattle.mac_pdu.specs.Items.{sdu, IsControl};
 ghost use Rattle.mac_pdu.specs.Grammar.{MacPdu};
-ghost use Rattle.mac_pdu.specs.Writing.{full_size, saved, writing, padded, canonical, items_of, with_control};
+ghost use Rattle.mac_pdu.specs.Writing.{full_size, saved, writing, padded, canonical, items_of};
+ghost use Rattle.mac_pdu.specs.Writing.{with_control};
 
 use crate::item::{Control, Direction};
 use crate::octets::{put_fronted, put_padded};
@@ -31,7 +33,11 @@ impl Model for MacBuilder {
 
     ghost Value = { Parts };
 
-    ghost view = { λ b. record { direction = b.direction; controls = b.controls.items; sdus = b.sdus.items } };
+    ghost view = { λ b. record {
+      direction = b.direction;
+      controls = b.controls.items;
+      sdus = b.sdus.items;
+    } };
 
     ghost invariant = { λ b.
         IsBuilder (record { direction = b.direction; controls = b.controls.items; sdus = b.sdus.items }) };
@@ -50,8 +56,8 @@ impl MacBuilder {
         }
     }
 
-    /// Adds a control element of the direction, with its fields in range. It stands behind the control elements that were
-    /// added and before all SDUs.
+    /// Adds a control element of the direction, with its fields in range. It stands behind the
+    /// control elements that were added and before all SDUs.
     /// An `Err` changes nothing.
     pub fn control(&mut self, element: &Control) -> Result<(), NoMemory>
         requires fields { IsControl self.old.direction element.now }
@@ -71,7 +77,10 @@ impl MacBuilder {
         requires short { length octets.now < 2 ^ 15 }
         requires fits { length (writing (items_of self.old ++ sdu lcid octets.now ∷ [])) < 2 ^ 28 }
         ensures ok { OnOk result
-            (self.new ≡ record self.old { sdus = self.old.sdus ++ record { lcid = lcid; octets = octets.now } ∷ [] }) }
+            (self.new ≡ record self.old {
+              sdus =
+                  self.old.sdus ++ record { lcid = lcid; octets = octets.now } ∷ [];
+            }) }
         ensures err { OnErr result (self.new ≡ self.old) }
     {
         self.move_sdu(lcid, Bytes::from_slice(self.alloc, octets)?)
@@ -84,7 +93,10 @@ impl MacBuilder {
         requires short { length octets < 2 ^ 15 }
         requires fits { length (writing (items_of self.old ++ sdu lcid octets ∷ [])) < 2 ^ 28 }
         ensures ok { OnOk result
-            (self.new ≡ record self.old { sdus = self.old.sdus ++ record { lcid = lcid; octets = octets } ∷ [] }) }
+            (self.new ≡ record self.old {
+              sdus =
+                  self.old.sdus ++ record { lcid = lcid; octets = octets } ∷ [];
+            }) }
         ensures err { OnErr result (self.new ≡ self.old) }
     {
         self.sdus.push(Sdu { lcid, octets })?;
@@ -110,7 +122,8 @@ impl MacBuilder {
         ensures canonical { IfOk result (λ block. block ≡ canonical (items_of self) size) }
         ensures size { IfOk result (λ block. length block ≡ size) }
         // A reader of the block finds its items.
-        ensures read { IfOk result (λ block. MacPdu self.direction (padded (items_of self) size) block) }
+        ensures read { IfOk result
+            (λ block. MacPdu self.direction (padded (items_of self) size) block) }
         ensures err { IfErr result (λ e. e.0 ≡ self) }
     {
         match self.block(size) {

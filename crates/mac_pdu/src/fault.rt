@@ -17,7 +17,8 @@ pub enum MacWhy {
 /// A refused block.
 #[derive(Clone, Copy, Debug, PartialEq, Eq)]
 pub struct MacRefusal {
-    /// The octet where the subheader at fault begins, counted from 0; for `Short` the length of the block.
+    /// The octet where the subheader at fault begins, counted from 0; for `Short` the length of the
+    /// block.
     pub at: u32,
     /// What is wrong there.
     pub why: MacWhy,

@@ -1,4 +1,5 @@
-ghost use Rattle.mac_pdu.specs.Laws.{ReadsWhatWasWritten, ReadsOneList, NeverBoth, CanonicalFits, CanonicalDiffers, WritingGrows};
+ghost use Rattle.mac_pdu.specs.Laws.{ReadsWhatWasWritten, ReadsOneList, NeverBoth, CanonicalFits};
+ghost use Rattle.mac_pdu.specs.Laws.{CanonicalDiffers, WritingGrows};
 
 /// The law that items that are written are the items that are read.
 ///

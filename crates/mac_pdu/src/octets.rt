@@ -1,6 +1,8 @@
-ghost use Rattle.std.specs.Prelude.{◌≡◌, ◌+◌, ◌<◌, ◌^◌, [], ◌∷◌, ◌++◌, length, map, OnOk, replicate, All};
+ghost use Rattle.std.specs.Prelude.{◌≡◌, ◌+◌, ◌<◌, ◌^◌, [], ◌∷◌, ◌++◌, length, map, OnOk};
+ghost use Rattle.std.specs.Prelude.{replicate, All};
 ghost use Rattle.std.specs.List.{flat_map};
-ghost use Rattle.mac_pdu.specs.Items.{front, element, padding as end, control_lcid, control_octets, IsControl, sdu_item};
+ghost use Rattle.mac_pdu.specs.Items.{front, element, padding as end, control_lcid, control_octets};
+ghost use Rattle.mac_pdu.specs.Items.{IsControl, sdu_item};
 ghost use Rattle.mac_pdu.specs.Writing.{IsSdu, headers, length_field, inner, payload, writing};
 
 use crate::builder::Sdu;
@@ -116,7 +118,8 @@ fn put_open_heads(out: &mut Bytes, controls: &[Control], sdus: &[Sdu]) -> Result
 /// Writes the subheaders of all items, the last of which none follows.
 fn put_ended_heads(out: &mut Bytes, controls: &[Control], sdus: &[Sdu]) -> Result<(), NoMemory>
     requires { All IsSdu sdus.now }
-    ensures { OnOk result (out.new ≡ out.old ++ headers (map element controls.now ++ map sdu_item sdus.now)) }
+    ensures { OnOk result
+        (out.new ≡ out.old ++ headers (map element controls.now ++ map sdu_item sdus.now)) }
 {
     match (controls.split_last(), sdus.split_last()) {
         (_, Some((last, sdus))) => {
@@ -159,7 +162,9 @@ pub fn put_fronted(
     requires sdus { All IsSdu sdus.now }
     requires some { 0 < length (writing (map element controls.now ++ map sdu_item sdus.now)) }
     ensures { OnOk result
-        (out.new ≡ out.old ++ writing (replicate fronts front ++ (map element controls.now ++ map sdu_item sdus.now))) }
+        (out.new ≡ out.old
+        ++ writing (replicate fronts front
+        ++ (map element controls.now ++ map sdu_item sdus.now))) }
 {
     out.append_times(0x3f, fronts)?;
     put_ended_heads(out, controls, sdus)?;
@@ -177,7 +182,8 @@ pub fn put_padded(
     requires controls { All (IsControl direction) controls.now }
     requires sdus { All IsSdu sdus.now }
     ensures { OnOk result
-        (out.new ≡ out.old ++ writing ((map element controls.now ++ map sdu_item sdus.now) ++ end padding ∷ [])) }
+        (out.new ≡ out.old
+        ++ writing ((map element controls.now ++ map sdu_item sdus.now) ++ end padding ∷ [])) }
 {
     put_open_heads(out, controls, sdus)?;
     out.append(&[0x1f])?;

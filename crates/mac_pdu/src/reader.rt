@@ -1,4 +1,6 @@
-ghost use Rattle.std.specs.Prelude.{◌≡◌, ℕ, ◌+◌, ◌<◌, ◌≤◌, ◌^◌, [], ◌∷◌, drop, length, Option, None, Some, MatchOption, MatchResult, IfSome, IfOk, IfErr, Ok, Err, List};
+ghost use Rattle.std.specs.Prelude.{◌≡◌, ℕ, ◌+◌, ◌<◌, ◌≤◌, ◌^◌, [], ◌∷◌, drop, length, Option};
+ghost use Rattle.std.specs.Prelude.{None, Some, MatchOption, MatchResult, IfSome, IfOk, IfErr, Ok};
+ghost use Rattle.std.specs.Prelude.{Err, List};
 ghost use Rattle.mac_pdu.specs.Items.{MacItem};
 ghost use Rattle.mac_pdu.specs.Grammar.{MacPdu};
 ghost use Rattle.mac_pdu.specs.declared.subheader.Stage.TheVariants as stage;
@@ -49,7 +51,8 @@ impl<'a> MacReader<'a> {
 
         // When: always where the grammar gives items, always where there is a fault.
         ensures ok { (items : List MacItem) → MacPdu direction items block.now → result ≡ Ok items }
-        ensures err { (refusal : MacRefusal) → MacRefused direction block.now refusal → result ≡ Err refusal }
+        ensures err { (refusal : MacRefusal) → MacRefused direction block.now refusal
+            → result ≡ Err refusal }
 
         // The same as a function of the octets.
         ensures exact { result ≡ reading direction block.now }
@@ -98,10 +101,12 @@ impl<'a> MacReader<'a> {
 fn header_len(direction: Direction, block: &[u8]) -> Result<usize, MacRefusal>
     requires { length block.now < 2 ^ 28 }
     ensures fault { MatchResult result
-        (λ n. (first_fault stage.Start 0 (length block.now) (subheaders direction 0 block.now) ≡ None)
+        (λ n. (first_fault stage.Start 0 (length block.now) (subheaders direction 0 block.now)
+        ≡ None)
         × (n ≡ header_size (subheaders direction 0 block.now))
         × (n ≤ length block.now))
-        (λ e. first_fault stage.Start 0 (length block.now) (subheaders direction 0 block.now) ≡ Some e) }
+        (λ e. first_fault stage.Start 0 (length block.now) (subheaders direction 0 block.now)
+        ≡ Some e) }
 {
     let mut rest = block;
     let mut at = 0;

@@ -1,6 +1,7 @@
 ghost use Rattle.std.specs.Prelude.{◌≡◌, ◌+◌, ◌<◌, ◌≤◌, ◌^◌, ◌++◌, length, map, sum_by, All};
 ghost use Rattle.mac_pdu.specs.Items.{element, sdu_item};
-ghost use Rattle.mac_pdu.specs.Writing.{control_size, IsSdu, full_size, saved, item_size, length_field};
+ghost use Rattle.mac_pdu.specs.Writing.{control_size, IsSdu, full_size, saved, item_size};
+ghost use Rattle.mac_pdu.specs.Writing.{length_field};
 
 use crate::builder::Sdu;
 use crate::item::{Bsr, Control};

@@ -1,5 +1,6 @@
 ghost use Rattle.std.specs.Prelude.{◌≡◌, ℕ, ◌+◌, ◌<◌, ◌≤◌, ◌^◌, drop, length, IfSome};
-ghost use Rattle.mac_pdu.specs.Subheaders.{kind_of, subheader_at, element_size, control_of, payload_len, fault_of, after};
+ghost use Rattle.mac_pdu.specs.Subheaders.{kind_of, subheader_at, element_size, control_of};
+ghost use Rattle.mac_pdu.specs.Subheaders.{payload_len, fault_of, after};
 
 use crate::fault::MacWhy;
 use crate::item::{Bsr, Control, Direction};

@@ -18,28 +18,37 @@ abbrev pub Tells : {A B : Type 0} → (A → B) → Result A PdcpRefusal → Res
 Tells view answer read = MatchResult answer (λ x. read ≡ Ok (view x)) (λ e. read ≡ Err e)
 
 -- of an answer that tells what was read, a fact of that holds
-found_in : {A B : Type 0} (view : A → B) (P : B → Type 0) (answer : Result A PdcpRefusal) (read : Result B PdcpRefusal) → Tells view answer read → IfOk read P → IfOk answer (λ x. P (view x))
+found_in : {A B : Type 0} (view : A → B) (P : B → Type 0) (answer : Result A PdcpRefusal)
+    (read : Result B PdcpRefusal) → Tells view answer read → IfOk read P → IfOk answer (λ x. P (view x))
 found_in view P (Ok x) read e h = subst (λ r. IfOk r P) e h
 found_in view P (Err x) read e h = tt
 
-only_in : {A B : Type 0} (view : A → B) (answer : Result A PdcpRefusal) (read : Result B PdcpRefusal) (pdu : B) → Tells view answer read → read ≡ Ok pdu → IsOkAnd answer (λ x. view x ≡ pdu)
+only_in : {A B : Type 0} (view : A → B) (answer : Result A PdcpRefusal) (read : Result B PdcpRefusal) (pdu : B)
+    → Tells view answer read → read ≡ Ok pdu → IsOkAnd answer (λ x. view x ≡ pdu)
 only_in view (Ok x) read pdu e h = let same : Ok (view x) ≡ Ok pdu = sym e ∙ h in cc
 only_in view (Err x) read pdu e h = let same : Err x ≡ Ok pdu = sym e ∙ h in cc
 
-refused_in : {A B : Type 0} (view : A → B) (answer : Result A PdcpRefusal) (read : Result B PdcpRefusal) (first : Option PdcpRefusal)
-    → Tells view answer read → MatchResult read (λ x. first ≡ None) (λ e. first ≡ Some e) → MatchResult answer (λ x. first ≡ None) (λ e. first ≡ Some e)
+refused_in : {A B : Type 0} (view : A → B) (answer : Result A PdcpRefusal) (read : Result B PdcpRefusal)
+    (first : Option PdcpRefusal)
+    → Tells view answer read → MatchResult read (λ x. first ≡ None) (λ e. first ≡ Some e)
+    → MatchResult answer (λ x. first ≡ None) (λ e. first ≡ Some e)
 refused_in view (Ok x) read first e h = subst (λ r. MatchResult r (λ x. first ≡ None) (λ e. first ≡ Some e)) e h
 refused_in view (Err x) read first e h = subst (λ r. MatchResult r (λ x. first ≡ None) (λ e. first ≡ Some e)) e h
 
-module _ (bits : ℕ) (octets : List ℕ) (answer : Result User PdcpRefusal) (width : IsUserBits bits) (told : Tells user_of answer (user_at bits octets)) where
+module _ (bits : ℕ) (octets : List ℕ) (answer : Result User PdcpRefusal) (width : IsUserBits bits)
+    (told : Tells user_of answer (user_at bits octets)) where
   pub user_in_grammar : AreOctets octets → IfOk answer (λ user. IsUserPdu bits (user_of user) octets)
-  user_in_grammar fits = found_in user_of (λ pdu. IsUserPdu bits pdu octets) answer (user_at bits octets) told (user_found bits octets width fits)
+  user_in_grammar fits =
+      found_in user_of (λ pdu. IsUserPdu bits pdu octets) answer (user_at bits octets) told
+      (user_found bits octets width fits)
 
   pub user_is_read : (pdu : UserPdu) → IsUserPdu bits pdu octets → IsOkAnd answer (λ user. user_of user ≡ pdu)
   user_is_read pdu h = only_in user_of answer (user_at bits octets) pdu told (user_accepts bits pdu octets width h)
 
-  pub user_is_refused : MatchResult answer (λ user. user_refusal bits octets ≡ None) (λ e. user_refusal bits octets ≡ Some e)
-  user_is_refused = refused_in user_of answer (user_at bits octets) (user_refusal bits octets) told (user_agrees bits octets width)
+  pub user_is_refused : MatchResult answer (λ user. user_refusal bits octets ≡ None)
+      (λ e. user_refusal bits octets ≡ Some e)
+  user_is_refused =
+      refused_in user_of answer (user_at bits octets) (user_refusal bits octets) told (user_agrees bits octets width)
 
 module _ (octets : List ℕ) (answer : Result Srb PdcpRefusal) (told : Tells srb_of answer (srb_at octets)) where
   pub srb_in_grammar : AreOctets octets → IfOk answer (λ srb. IsSrbPdu (srb_of srb) octets)

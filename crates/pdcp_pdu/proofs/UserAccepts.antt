@@ -1,5 +1,6 @@
 -- A PDU of a data bearer that the grammar has is read.
-use Rattle.std.proofs.Common.{◌≡◌, inl, inr, ℕ, ◌+◌, ◌*◌, ◌/◌, ◌%◌, ◌<◌, List, [], ◌∷◌, refl, arith, subst, Ok, sym, ◌∙◌, Result}
+use Rattle.std.proofs.Common.{◌≡◌, inl, inr, ℕ, ◌+◌, ◌*◌, ◌/◌, ◌%◌, ◌<◌, List, [], ◌∷◌, refl, arith, subst, Ok, sym}
+use Rattle.std.proofs.Common.{◌∙◌, Result}
 use Rattle.pdcp_pdu.specs.declared.pdu.PdcpRefusal.{PdcpRefusal}
 use Rattle.pdcp_pdu.specs.Pdus.{UserPdu, Sdu, Report, IsUserBits}
 use Rattle.pdcp_pdu.specs.Grammar.{data_reserved, report_reserved, IsUserPdu, user_spelling}
@@ -48,9 +49,11 @@ long_accepts (Report fms bitmap) octets h =
     let value : (h.reserved % 2 * 128 + fms / 256) % 128 * 256 + fms % 256 ≡ fms = omega (arith, few) in
     rw (h.spelled, data-bit, kind, value) refl
 
-pub user_accepts : (bits : ℕ) (pdu : UserPdu) (octets : List ℕ) → IsUserBits bits → IsUserPdu bits pdu octets → user_at bits octets ≡ Ok pdu
+pub user_accepts : (bits : ℕ) (pdu : UserPdu) (octets : List ℕ) → IsUserBits bits → IsUserPdu bits pdu octets
+    → user_at bits octets ≡ Ok pdu
 user_accepts bits pdu octets (inl e) h = rw e (short_accepts pdu octets (subst (λ n. IsUserPdu n pdu octets) e h))
-user_accepts bits pdu octets (inr (inl e)) h = rw e (middle_accepts pdu octets (subst (λ n. IsUserPdu n pdu octets) e h))
+user_accepts bits pdu octets (inr (inl e)) h =
+    rw e (middle_accepts pdu octets (subst (λ n. IsUserPdu n pdu octets) e h))
 user_accepts bits pdu octets (inr (inr e)) h = rw e (long_accepts pdu octets (subst (λ n. IsUserPdu n pdu octets) e h))
 
 spelled_one : (bits : ℕ) → IsUserBits bits → (0 < data_reserved bits) × (0 < report_reserved bits)
@@ -59,9 +62,12 @@ spelled_one bits (inr (inl e)) = rw e (omega arith, omega arith)
 spelled_one bits (inr (inr e)) = rw e (omega arith, omega arith)
 
 -- what is written is a PDU
-spelling_accepted : (bits : ℕ) (pdu : UserPdu) → IsUserBits bits → IsInRange bits pdu → IsUserPdu bits pdu (user_spelling bits pdu)
-spelling_accepted bits (Sdu sn data-part) width h = record { reserved = 0; few = (spelled_one bits width).0; number = h.0; some = h.1; spelled = refl }
-spelling_accepted bits (Report fms bitmap) width h = record { reserved = 0; long = h.1; few = (spelled_one bits width).1; number = h.0; spelled = refl }
+spelling_accepted : (bits : ℕ) (pdu : UserPdu) → IsUserBits bits → IsInRange bits pdu
+    → IsUserPdu bits pdu (user_spelling bits pdu)
+spelling_accepted bits (Sdu sn data-part) width h =
+    record { reserved = 0; few = (spelled_one bits width).0; number = h.0; some = h.1; spelled = refl }
+spelling_accepted bits (Report fms bitmap) width h =
+    record { reserved = 0; long = h.1; few = (spelled_one bits width).1; number = h.0; spelled = refl }
 
 -- what is read is one PDU
 same_read : (read : Result UserPdu PdcpRefusal) (pdu other : UserPdu) → read ≡ Ok pdu → read ≡ Ok other → other ≡ pdu

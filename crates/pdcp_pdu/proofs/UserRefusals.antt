@@ -1,5 +1,6 @@
 -- A PDU of a data bearer is refused by the first case that is true.
-use Rattle.std.proofs.Common.{◌≡◌, inl, inr, ℕ, suc, ◌+◌, ◌*◌, ◌%◌, ◌<◌, ◌≤◌, Bool, true, false, cond, List, [], ◌∷◌, length, refl, arith, Option, None, Some, Result, Ok}
+use Rattle.std.proofs.Common.{◌≡◌, inl, inr, ℕ, suc, ◌+◌, ◌*◌, ◌%◌, ◌<◌, ◌≤◌, Bool, true, false, cond, List, [], ◌∷◌}
+use Rattle.std.proofs.Common.{length, refl, arith, Option, None, Some, Result, Ok}
 use Rattle.std.specs.Prelude.{◌==◌, ◌&&◌, not, nat_lt, MatchResult}
 use Rattle.std.proofs.lemmas.Bool.{le-ltb, ne_eqb}
 use Rattle.pdcp_pdu.specs.declared.pdu.PdcpRefusal.{PdcpRefusal}
@@ -25,7 +26,8 @@ short_cases : (a : ℕ) (rest : List ℕ) (d : Bool) → Agrees (cond d (sdu_at 
     (where_true (d && (suc (length rest) == 1)) 1 EmptyData None)))
 unfolding sdu_at
 short_cases a [] true = refl
-short_cases a (x ∷ xs) true = rw (longer (suc (suc (length xs))) 1 (omega arith), differs (suc (suc (length xs))) 1 (omega arith)) refl
+short_cases a (x ∷ xs) true =
+    rw (longer (suc (suc (length xs))) 1 (omega arith), differs (suc (suc (length xs))) 1 (omega arith)) refl
 short_cases a rest false = rw (longer (suc (length rest)) 1 (omega arith)) refl
 
 short_agrees : (octets : List ℕ) → Agrees (short_user octets) (user_refusal 7 octets)
@@ -40,7 +42,9 @@ middle_cases : (n : ℕ) (rest : List ℕ) (d t : Bool)
     (where_true (d && (suc (suc (length rest)) == 2)) 2 EmptyData None)))
 unfolding sdu_at
 middle_cases n [] true t = refl
-middle_cases n (x ∷ xs) true t = rw (longer (suc (suc (suc (length xs)))) 2 (omega arith), differs (suc (suc (suc (length xs)))) 2 (omega arith)) refl
+middle_cases n (x ∷ xs) true t =
+    rw (longer (suc (suc (suc (length xs)))) 2 (omega arith), differs (suc (suc (suc (length xs)))) 2 (omega arith))
+    refl
 middle_cases n rest false true = rw (longer (suc (suc (length rest))) 2 (omega arith)) refl
 middle_cases n rest false false = rw (longer (suc (suc (length rest))) 2 (omega arith)) refl
 
@@ -64,10 +68,13 @@ long_short false true = refl
 long_short false false = refl
 
 long_cases : (n b : ℕ) (rest : List ℕ) (d t : Bool)
-    → Agrees (cond d (sdu_at 2 n rest) (cond t (long_report b rest) (refused 0 ReservedType))) (long_refusal (suc (suc (length rest))) d t)
+    → Agrees (cond d (sdu_at 2 n rest) (cond t (long_report b rest) (refused 0 ReservedType)))
+    (long_refusal (suc (suc (length rest))) d t)
 unfolding sdu_at long_report
 long_cases n b [] true t = refl
-long_cases n b (x ∷ xs) true t = rw (longer (suc (suc (suc (length xs)))) 2 (omega arith), differs (suc (suc (suc (length xs)))) 2 (omega arith)) refl
+long_cases n b (x ∷ xs) true t =
+    rw (longer (suc (suc (suc (length xs)))) 2 (omega arith), differs (suc (suc (suc (length xs)))) 2 (omega arith))
+    refl
 long_cases n b [] false true = refl
 long_cases n b (c ∷ rest) false true = rw (longer (suc (suc (suc (length rest)))) 3 (omega arith)) refl
 long_cases n b rest false false = rw (longer (suc (suc (length rest))) 2 (omega arith)) refl
@@ -78,7 +85,8 @@ long_agrees [] = refl
 long_agrees (a ∷ []) = long_short (is_data a) (has_report_type a)
 long_agrees (a ∷ b ∷ rest) = long_cases (a % 128 * 256 + b) b rest (is_data a) (has_report_type a)
 
-pub user_agrees : (bits : ℕ) (octets : List ℕ) → IsUserBits bits → Agrees (user_at bits octets) (user_refusal bits octets)
+pub user_agrees : (bits : ℕ) (octets : List ℕ) → IsUserBits bits
+    → Agrees (user_at bits octets) (user_refusal bits octets)
 user_agrees bits octets (inl e) = rw e (short_agrees octets)
 user_agrees bits octets (inr (inl e)) = rw e (middle_agrees octets)
 user_agrees bits octets (inr (inr e)) = rw e (long_agrees octets)

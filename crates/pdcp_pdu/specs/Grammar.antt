@@ -1,5 +1,7 @@
--- Which octets are which PDU, and how one is written. Reserved bits have any value where a PDU is read, and are written 0.
-use Rattle.std.specs.Prelude.{◌≡◌, ◌≢◌, ◌⊎◌, ℕ, ◌+◌, ◌-◌, ◌*◌, ◌/◌, ◌%◌, ◌<◌, ◌^◌, ◌==◌, Bool, List, [], ◌∷◌, ◌++◌, length, slice_index, if◌then◌else◌}
+-- Which octets are which PDU, and how one is written. Reserved bits have any value where a PDU is
+-- read, and are written 0.
+use Rattle.std.specs.Prelude.{◌≡◌, ◌≢◌, ◌⊎◌, ℕ, ◌+◌, ◌-◌, ◌*◌, ◌/◌, ◌%◌, ◌<◌, ◌^◌, ◌==◌, Bool, List}
+use Rattle.std.specs.Prelude.{[], ◌∷◌, ◌++◌, length, slice_index, if◌then◌else◌}
 use Rattle.pdcp_pdu.specs.Pdus.{UserPdu, Sdu, Report, SrbPdu}
 
 -- the header of a data PDU: D/C, which is 1, reserved bits, SN (TS 36.323 6.2.3, 6.2.4)
@@ -13,7 +15,8 @@ data_header bits reserved sn =
 abbrev pub data_reserved : ℕ → ℕ
 data_reserved bits = if bits == 12 then 8 else 1
 
--- the header of a status report: D/C, which is 0, PDU type 000, reserved bits, FMS (TS 36.323 6.2.6)
+-- the header of a status report: D/C, which is 0, PDU type 000, reserved bits, FMS (TS 36.323
+-- 6.2.6)
 abbrev pub report_header : ℕ → ℕ → ℕ → List ℕ
 report_header bits reserved fms =
     if bits == 12 then (fms / 256) ∷ (fms % 256) ∷ []

@@ -9,7 +9,8 @@ abbrev pub IsInRange : ℕ → UserPdu → Type 0
 IsInRange bits (Sdu sn data-part) = (sn < 2 ^ bits) × (data-part ≢ [])
 IsInRange bits (Report fms bitmap) = (fms < 2 ^ bits) × (bits ≢ 7)
 
--- the octets that a PDU of a data bearer is written as are that PDU and no other, and it is read from them
+-- the octets that a PDU of a data bearer is written as are that PDU and no other, and it is read
+-- from them
 pub record IsUserAgain (bits : ℕ) (pdu : UserPdu) : Type 0 where
   pub accepted : IsUserPdu bits pdu (user_spelling bits pdu)
   pub only : (other : UserPdu) → IsUserPdu bits other (user_spelling bits pdu) → other ≡ pdu
@@ -24,7 +25,8 @@ pub record IsSrbInRange (pdu : SrbPdu) : Type 0 where
   pub some : pdu.octets ≢ []
   pub tag : length pdu.tag ≡ 4
 
--- the octets that a PDU of a signalling bearer is written as are that PDU and no other, and it is read from them
+-- the octets that a PDU of a signalling bearer is written as are that PDU and no other, and it is
+-- read from them
 pub record IsSrbAgain (pdu : SrbPdu) : Type 0 where
   pub accepted : IsSrbPdu pdu (srb_spelling pdu)
   pub only : (other : SrbPdu) → IsSrbPdu other (srb_spelling pdu) → other ≡ pdu

@@ -23,6 +23,7 @@ user_of (users.Report fms bitmap) = Report fms bitmap.now
 abbrev pub srb_of : Srb → SrbPdu
 srb_of s = record { sn = s.sn; octets = s.octets.now; tag = s.tag }
 
--- the lengths of the sequence number on a data bearer (TS 36.323 6.3.2; 15 is this project's profile)
+-- the lengths of the sequence number on a data bearer (TS 36.323 6.3.2; 15 is this project's
+-- profile)
 abbrev pub IsUserBits : ℕ → Type 0
 IsUserBits bits = (bits ≡ 7) ⊎ (bits ≡ 12) ⊎ (bits ≡ 15)

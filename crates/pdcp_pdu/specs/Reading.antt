@@ -1,6 +1,7 @@
 -- What a reader answers, as a function of the octets (TS 36.323 6.2, 6.3). The laws say that this
 -- is the grammar and the first refusal.
-use Rattle.std.specs.Prelude.{ℕ, ◌+◌, ◌-◌, ◌*◌, ◌%◌, ◌==◌, nat_lt, List, [], ◌∷◌, length, take, drop, slice_index, Result, Ok, Err, if◌then◌else◌}
+use Rattle.std.specs.Prelude.{ℕ, ◌+◌, ◌-◌, ◌*◌, ◌%◌, ◌==◌, nat_lt, List, [], ◌∷◌, length, take}
+use Rattle.std.specs.Prelude.{drop, slice_index, Result, Ok, Err, if◌then◌else◌}
 use Rattle.pdcp_pdu.specs.Pdus.{UserPdu, Sdu, Report, SrbPdu}
 use Rattle.pdcp_pdu.specs.Refusals.{is_data, has_report_type}
 use Rattle.pdcp_pdu.specs.declared.pdu.PdcpRefusal.{PdcpRefusal}
@@ -45,7 +46,8 @@ long_user (a ∷ b ∷ rest) =
 
 -- a PDU of a data bearer
 abbrev pub user_at : ℕ → List ℕ → Result UserPdu PdcpRefusal
-user_at bits octets = if bits == 7 then short_user octets else if bits == 12 then middle_user octets else long_user octets
+user_at bits octets = if bits == 7 then short_user octets else if bits == 12
+    then middle_user octets else long_user octets
 
 -- a PDU of a signalling bearer
 unfoldable pub srb_at : List ℕ → Result SrbPdu PdcpRefusal

@@ -1,5 +1,6 @@
 -- Why a PDU is refused: the first case that is true.
-use Rattle.std.specs.Prelude.{ℕ, ◌/◌, ◌%◌, ◌==◌, nat_lt, ◌||◌, ◌&&◌, not, Bool, true, false, List, [], ◌∷◌, length, Option, None, Some, if◌then◌else◌}
+use Rattle.std.specs.Prelude.{ℕ, ◌/◌, ◌%◌, ◌==◌, nat_lt, ◌||◌, ◌&&◌, not, Bool, true, false, List}
+use Rattle.std.specs.Prelude.{[], ◌∷◌, length, Option, None, Some, if◌then◌else◌}
 use Rattle.pdcp_pdu.specs.declared.pdu.PdcpRefusal.{PdcpRefusal}
 use Rattle.pdcp_pdu.specs.declared.pdu.PdcpWhy.{PdcpWhy}
 use Rattle.pdcp_pdu.specs.declared.pdu.PdcpWhy.TheVariants.{Short, ReservedType, EmptyData}
@@ -12,7 +13,8 @@ is_data first = first / 128 % 2 == 1
 abbrev pub has_report_type : ℕ → Bool
 has_report_type first = first / 16 % 8 == 0
 
--- the octets of the header that the first octet begins: with 15 bits that of a status report is longer
+-- the octets of the header that the first octet begins: with 15 bits that of a status report is
+-- longer
 abbrev pub header_size : ℕ → ℕ → ℕ
 header_size bits first =
     if bits == 7 then 1

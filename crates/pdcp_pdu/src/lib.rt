@@ -1,4 +1,5 @@
-//! PDCP PDUs (TS 36.323 section 6): data PDUs and status reports of data bearers, and PDUs of signalling bearers.
+//! PDCP PDUs (TS 36.323 section 6): data PDUs and status reports of data bearers, and PDUs of
+//! signalling bearers.
 //!
 //! The layouts with numbers of 15 bits are a profile of this project.
 #![tactic(auto)]

@@ -20,7 +20,8 @@ pub enum User<'a> {
     Report { fms: u32, bitmap: &'a [u8] },
 }
 
-/// A PDU of a signalling bearer: its sequence number of 5 bits, its data part, of 1 octet or more, and its MAC-I.
+/// A PDU of a signalling bearer: its sequence number of 5 bits, its data part, of 1 octet or more,
+/// and its MAC-I.
 #[derive(Clone, Copy, Debug, PartialEq, Eq)]
 pub struct Srb<'a> {
     pub sn: u32,
@@ -39,7 +40,8 @@ pub enum PdcpWhy {
     EmptyData = 3,
 }
 
-/// Why a PDU is refused, and at which of its octets, counted from 0. For `Short` that is its length.
+/// Why a PDU is refused, and at which of its octets, counted from 0. For `Short` that is its
+/// length.
 #[derive(Clone, Copy, Debug, PartialEq, Eq)]
 pub struct PdcpRefusal {
     pub at: u32,

@@ -23,7 +23,8 @@ fn has_report_type(first: u8) -> bool
 #[tactic(auto, unfolding(crate::specs::Reading::sdu_at))]
 // A data PDU, of what stands behind its header of so many octets.
 fn sdu(header: u32, sn: u32, octets: &[u8]) -> Result<User<'_>, PdcpRefusal>
-    ensures { MatchResult result (λ user. sdu_at header sn octets.now ≡ Ok (user_of user)) (λ e. sdu_at header sn octets.now ≡ Err e) }
+    ensures { MatchResult result (λ user. sdu_at header sn octets.now ≡ Ok (user_of user))
+        (λ e. sdu_at header sn octets.now ≡ Err e) }
 {
     if octets.is_empty() {
         return Err(PdcpRefusal::new(header, PdcpWhy::EmptyData));
@@ -34,7 +35,8 @@ fn sdu(header: u32, sn: u32, octets: &[u8]) -> Result<User<'_>, PdcpRefusal>
 #[tactic(auto, unfolding(crate::specs::Reading::short_user))]
 // With numbers of 7 bits.
 fn read_short(from: &[u8]) -> Result<User<'_>, PdcpRefusal>
-    ensures { MatchResult result (λ user. short_user from.now ≡ Ok (user_of user)) (λ e. short_user from.now ≡ Err e) }
+    ensures { MatchResult result (λ user. short_user from.now ≡ Ok (user_of user))
+        (λ e. short_user from.now ≡ Err e) }
 {
     let [first, rest @ ..] = from else {
         return Err(PdcpRefusal::new(0, PdcpWhy::Short));
@@ -48,7 +50,8 @@ fn read_short(from: &[u8]) -> Result<User<'_>, PdcpRefusal>
 #[tactic(auto, unfolding(crate::specs::Reading::middle_user))]
 // With numbers of 12 bits.
 fn read_middle(from: &[u8]) -> Result<User<'_>, PdcpRefusal>
-    ensures { MatchResult result (λ user. middle_user from.now ≡ Ok (user_of user)) (λ e. middle_user from.now ≡ Err e) }
+    ensures { MatchResult result (λ user. middle_user from.now ≡ Ok (user_of user))
+        (λ e. middle_user from.now ≡ Err e) }
 {
     let [first, second, rest @ ..] = from else {
         return Err(PdcpRefusal::new(from.len() as u32, PdcpWhy::Short));
@@ -69,7 +72,8 @@ fn read_middle(from: &[u8]) -> Result<User<'_>, PdcpRefusal>
 #[tactic(auto, unfolding(crate::specs::Reading::long_user, crate::specs::Reading::long_report))]
 // With numbers of 15 bits.
 fn read_long(from: &[u8]) -> Result<User<'_>, PdcpRefusal>
-    ensures { MatchResult result (λ user. long_user from.now ≡ Ok (user_of user)) (λ e. long_user from.now ≡ Err e) }
+    ensures { MatchResult result (λ user. long_user from.now ≡ Ok (user_of user))
+        (λ e. long_user from.now ≡ Err e) }
 {
     let [first, second, rest @ ..] = from else {
         return Err(PdcpRefusal::new(from.len() as u32, PdcpWhy::Short));
@@ -91,7 +95,8 @@ fn read_long(from: &[u8]) -> Result<User<'_>, PdcpRefusal>
 // With numbers of so many bits.
 fn read(bits: u32, from: &[u8]) -> Result<User<'_>, PdcpRefusal>
     requires { IsUserBits bits }
-    ensures { MatchResult result (λ user. user_at bits from.now ≡ Ok (user_of user)) (λ e. user_at bits from.now ≡ Err e) }
+    ensures { MatchResult result (λ user. user_at bits from.now ≡ Ok (user_of user))
+        (λ e. user_at bits from.now ≡ Err e) }
 {
     match bits {
         7 => read_short(from),
@@ -100,14 +105,18 @@ fn read(bits: u32, from: &[u8]) -> Result<User<'_>, PdcpRefusal>
     }
 }
 
-/// Reads a PDU of a data bearer, whose numbers have 7, 12 or 15 bits (TS 36.323 6.2.3, 6.2.4, 6.2.6). Reserved bits
-/// are passed over, and a status report may have any bitmap. It takes no memory.
+/// Reads a PDU of a data bearer, whose numbers have 7, 12 or 15 bits (TS 36.323 6.2.3, 6.2.4,
+/// 6.2.6). Reserved bits are passed over, and a status report may have any bitmap. It takes no
+/// memory.
 pub fn read_user(bits: u32, from: &[u8]) -> Result<User<'_>, PdcpRefusal>
     requires { IsUserBits bits }
     ensures found { IfOk result (λ user. IsUserPdu bits (user_of user) from.now) }
-    ensures only { (pdu : UserPdu) → IsUserPdu bits pdu from.now → IsOkAnd result (λ user. user_of user ≡ pdu) }
-    ensures refused { MatchResult result (λ _. user_refusal bits from.now ≡ None) (λ e. user_refusal bits from.now ≡ Some e) }
-    ensures exact { MatchResult result (λ user. user_at bits from.now ≡ Ok (user_of user)) (λ e. user_at bits from.now ≡ Err e) }
+    ensures only { (pdu : UserPdu) → IsUserPdu bits pdu from.now
+        → IsOkAnd result (λ user. user_of user ≡ pdu) }
+    ensures refused { MatchResult result (λ _. user_refusal bits from.now ≡ None)
+        (λ e. user_refusal bits from.now ≡ Some e) }
+    ensures exact { MatchResult result (λ user. user_at bits from.now ≡ Ok (user_of user))
+        (λ e. user_at bits from.now ≡ Err e) }
 {
     read(bits, from)
 }

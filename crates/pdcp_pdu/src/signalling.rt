@@ -1,4 +1,5 @@
-ghost use Rattle.std.specs.Prelude.{◌≡◌, ◌≢◌, ◌<◌, ◌^◌, ◌++◌, [], None, Some, Ok, Err, IfOk, IsOkAnd, MatchResult};
+ghost use Rattle.std.specs.Prelude.{◌≡◌, ◌≢◌, ◌<◌, ◌^◌, ◌++◌, [], None, Some, Ok, Err, IfOk};
+ghost use Rattle.std.specs.Prelude.{IsOkAnd, MatchResult};
 ghost use Rattle.pdcp_pdu.specs.Pdus.{SrbPdu, srb_of};
 ghost use Rattle.pdcp_pdu.specs.Grammar.{IsSrbPdu, srb_spelling};
 ghost use Rattle.pdcp_pdu.specs.Refusals.{srb_refusal};
@@ -13,7 +14,8 @@ const TAG: usize = 4;
 
 #[tactic(auto, unfolding(crate::specs::Reading::srb_at))]
 fn read(from: &[u8]) -> Result<Srb<'_>, PdcpRefusal>
-    ensures { MatchResult result (λ srb. srb_at from.now ≡ Ok (srb_of srb)) (λ e. srb_at from.now ≡ Err e) }
+    ensures { MatchResult result (λ srb. srb_at from.now ≡ Ok (srb_of srb))
+        (λ e. srb_at from.now ≡ Err e) }
 {
     if from.len() <= TAG {
         return Err(PdcpRefusal::new(from.len() as u32, PdcpWhy::Short));
@@ -30,23 +32,28 @@ fn read(from: &[u8]) -> Result<Srb<'_>, PdcpRefusal>
     })
 }
 
-/// Reads a PDU of a signalling bearer (TS 36.323 6.2.2). Reserved bits are passed over. It takes no memory.
+/// Reads a PDU of a signalling bearer (TS 36.323 6.2.2). Reserved bits are passed over. It takes no
+/// memory.
 pub fn read_srb(from: &[u8]) -> Result<Srb<'_>, PdcpRefusal>
     ensures found { IfOk result (λ srb. IsSrbPdu (srb_of srb) from.now) }
-    ensures only { (pdu : SrbPdu) → IsSrbPdu pdu from.now → IsOkAnd result (λ srb. srb_of srb ≡ pdu) }
-    ensures refused { MatchResult result (λ _. srb_refusal from.now ≡ None) (λ e. srb_refusal from.now ≡ Some e) }
-    ensures exact { MatchResult result (λ srb. srb_at from.now ≡ Ok (srb_of srb)) (λ e. srb_at from.now ≡ Err e) }
+    ensures only { (pdu : SrbPdu) → IsSrbPdu pdu from.now
+        → IsOkAnd result (λ srb. srb_of srb ≡ pdu) }
+    ensures refused { MatchResult result (λ _. srb_refusal from.now ≡ None)
+        (λ e. srb_refusal from.now ≡ Some e) }
+    ensures exact { MatchResult result (λ srb. srb_at from.now ≡ Ok (srb_of srb))
+        (λ e. srb_at from.now ≡ Err e) }
 {
     read(from)
 }
 
-/// Writes a PDU of a signalling bearer (TS 36.323 6.2.2), with a number of 5 bits, a data part of 1 octet or more, and the
-/// MAC-I, which goes over the header and the plain data part. What stands behind the header may then be ciphered where it
-/// stands.
+/// Writes a PDU of a signalling bearer (TS 36.323 6.2.2), with a number of 5 bits, a data part of 1
+/// octet or more, and the MAC-I, which goes over the header and the plain data part. What stands
+/// behind the header may then be ciphered where it stands.
 pub fn write_srb(alloc: Global, sn: u32, octets: &[u8], tag: &[u8; 4]) -> Result<Bytes, NoMemory>
     requires number { sn < 2 ^ 5 }
     requires some { octets.now ≢ [] }
-    ensures { IfOk result (λ pdu. pdu ≡ srb_spelling (record { sn = sn; octets = octets.now; tag = tag.now })) }
+    ensures { IfOk result
+        (λ pdu. pdu ≡ srb_spelling (record { sn = sn; octets = octets.now; tag = tag.now })) }
 {
     let mut pdu = Bytes::with_capacity(alloc, 1 + octets.len() + TAG)?;
     pdu.append(&[sn as u8])?;

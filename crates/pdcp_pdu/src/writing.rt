@@ -16,8 +16,8 @@ fn behind(alloc: Global, header: &[u8], octets: &[u8]) -> Result<Bytes, NoMemory
     Ok(pdu)
 }
 
-/// Writes a data PDU with a number of 7, 12 or 15 bits and a data part of 1 octet or more (TS 36.323 6.2.3, 6.2.4). The
-/// data part may then be ciphered where it stands.
+/// Writes a data PDU with a number of 7, 12 or 15 bits and a data part of 1 octet or more (TS
+/// 36.323 6.2.3, 6.2.4). The data part may then be ciphered where it stands.
 pub fn write_user(alloc: Global, bits: u32, sn: u32, octets: &[u8]) -> Result<Bytes, NoMemory>
     requires bits { IsUserBits bits }
     requires number { sn < 2 ^ bits }
@@ -30,7 +30,8 @@ pub fn write_user(alloc: Global, bits: u32, sn: u32, octets: &[u8]) -> Result<By
     behind(alloc, &[0x80 | (sn >> 8) as u8, (sn & 0xff) as u8], octets)
 }
 
-/// Writes a status report with an FMS of 12 bits (TS 36.323 6.2.6). The last octet of its bitmap isn't 0.
+/// Writes a status report with an FMS of 12 bits (TS 36.323 6.2.6). The last octet of its bitmap
+/// isn't 0.
 pub fn write_report(alloc: Global, fms: u32, bitmap: &[u8]) -> Result<Bytes, NoMemory>
     requires number { fms < 2 ^ 12 }
     requires bitmap { IsBitmap bitmap.now }

@@ -9,7 +9,14 @@ some [] h = absurd (h refl)
 some (x ∷ xs) h = omega arith
 
 pub srb_long : (srb : SrbPdu) (pdu : List ℕ) → IsSrbPdu srb pdu → 6 ≤ length pdu
-srb_long srb pdu h = rw (h.spelled) (omega (arith, length-append (srb_header h.reserved srb.sn ++ srb.octets) srb.tag, length-append (srb_header h.reserved srb.sn) srb.octets, some srb.octets h.some, h.tag))
+srb_long srb pdu h =
+    rw (h.spelled) (omega (
+      arith,
+      length-append (srb_header h.reserved srb.sn ++ srb.octets) srb.tag,
+      length-append (srb_header h.reserved srb.sn) srb.octets,
+      some srb.octets h.some,
+      h.tag,
+    ))
 
 pub drop_first : (xs : List ℕ) → 1 ≤ length xs → remove xs 0 ≡ drop 1 xs
 drop_first [] le = absurd (omega arith)

@@ -1,5 +1,8 @@
--- The SDUs that a receiver holds: one place for each COUNT from the next on, up to the greatest that is held.
-use Rattle.std.specs.Prelude.{◌≡◌, ℕ, suc, zero, ◌+◌, ◌-◌, ◌*◌, ◌<◌, Bool, true, if◌then◌else◌, List, [], ◌∷◌, ◌++◌, length, drop, replicate, Option, Some, None, is_some, slice_set, slice_index_or}
+-- The SDUs that a receiver holds: one place for each COUNT from the next on, up to the greatest
+-- that is held.
+use Rattle.std.specs.Prelude.{◌≡◌, ℕ, suc, zero, ◌+◌, ◌-◌, ◌*◌, ◌<◌, Bool, true, if◌then◌else◌}
+use Rattle.std.specs.Prelude.{List, [], ◌∷◌, ◌++◌, length, drop, replicate, Option, Some, None}
+use Rattle.std.specs.Prelude.{is_some, slice_set, slice_index_or}
 
 -- whether an SDU is held at a place
 abbrev pub is_held : List (Option (List ℕ)) → ℕ → Bool

@@ -1,5 +1,6 @@
 -- Runs of a receiver over any calls, and the COUNTs that go up in one (TS 36.323 5.1.2, 5.2.2).
-use Rattle.std.specs.Prelude.{ℕ, ◌+◌, Bool, true, false, List, [], ◌∷◌, ◌++◌, take, drop, Option, Some, None}
+use Rattle.std.specs.Prelude.{ℕ, ◌+◌, Bool, true, false, List, [], ◌∷◌, ◌++◌, take, drop, Option}
+use Rattle.std.specs.Prelude.{Some, None}
 use Rattle.pdcp_rx.specs.declared.got.Cause.{Cause}
 use Rattle.pdcp_rx.specs.declared.got.Got.{Got}
 use Rattle.pdcp_rx.specs.declared.security.Opened.{Opened}
@@ -32,7 +33,8 @@ ups_data None s cause at o = ups_opened s cause at o
 abbrev pub ups_heard : State → Cause → Heard → List ℕ
 ups_heard s cause (Bad refusal) = []
 ups_heard s cause (Told fms bits) = []
-ups_heard s cause (Data sn body) = ups_data (passed_over s (above s sn)) s cause (above s sn) (opened_at s (above s sn) body)
+ups_heard s cause (Data sn body) =
+    ups_data (passed_over s (above s sn)) s cause (above s sn) (opened_at s (above s sn) body)
 
 -- a PDU comes, or an SDU that goes up is taken
 pub data Call : Type 0 where

@@ -1,4 +1,5 @@
-ghost use Rattle.std.specs.Prelude.{◌≡◌, ◌<◌, ◌≤◌, ◌^◌, length, true, false, drop, slice_get, OnOk, OnErr, IfOk, IsErr, IsTrue, MatchResult};
+ghost use Rattle.std.specs.Prelude.{◌≡◌, ◌<◌, ◌≤◌, ◌^◌, length, true, false, drop, slice_get, OnOk};
+ghost use Rattle.std.specs.Prelude.{OnErr, IfOk, IsErr, IsTrue, MatchResult};
 ghost use Rattle.pdcp_rx.specs.Entity.{alive};
 ghost use Rattle.pdcp_sec.specs.Protection.{protection_of};
 ghost use Rattle.pdcp_pdu.specs.Kinds.{IsKind, is_am};
@@ -14,8 +15,8 @@ use std::marker::Model;
 
 /// The receiving PDCP entity of a bearer.
 ///
-/// Where memory runs out in a call, it answers `NoMemory` from then on to each call that can, and of its other
-/// answers nothing is said.
+/// Where memory runs out in a call, it answers `NoMemory` from then on to each call that can, and
+/// of its other answers nothing is said.
 #[derive(Debug, Drop)]
 pub struct PdcpRx {
     receiver: Receiver,
@@ -61,8 +62,8 @@ impl Held {
 impl PdcpRx {
     /// A receiver that holds nothing and whose next COUNT is `first`.
     ///
-    /// `bearer` is below 32, `direction` 0 on the uplink and 1 on the downlink. Of `kind` the bits are 7 or 12 for
-    /// `Um`, 12 or 15 for `Am`.
+    /// `bearer` is below 32, `direction` 0 on the uplink and 1 on the downlink. Of `kind` the bits
+    /// are 7 or 12 for `Um`, 12 or 15 for `Am`.
     #[tactic(auto, using(crate::proofs::EndLemmas::fresh_ends), unfolding(crate::specs::State::fresh))]
     pub fn new(
         alloc: Global,
@@ -75,7 +76,8 @@ impl PdcpRx {
         requires kind { IsKind kind }
         requires bearer { bearer < 32 }
         requires direction { direction < 2 }
-        ensures state { result ≡ alive (fresh kind (protection_of kind keys.now bearer direction) first) }
+        ensures state { result
+            ≡ alive (fresh kind (protection_of kind keys.now bearer direction) first) }
         ensures kind { result.state.kind ≡ kind }
     {
         PdcpRx {
@@ -86,9 +88,9 @@ impl PdcpRx {
 
     /// Takes a PDU (TS 36.323 5.1.2.1). SDUs that go up are then given by `up`.
     ///
-    /// The first that holds is answered: `Unreadable`, `Report`, `Old`, `OutOfRange`, `Integrity` (a signalling
-    /// bearer alone), `Stored` (over acknowledged RLC, at a re-establishment, above the next COUNT), `Up`. All but the
-    /// last two change nothing.
+    /// The first that holds is answered: `Unreadable`, `Report`, `Old`, `OutOfRange`, `Integrity`
+    /// (a signalling bearer alone), `Stored` (over acknowledged RLC, at a re-establishment, above
+    /// the next COUNT), `Up`. All but the last two change nothing.
     #[tactic(auto, using(crate::proofs::EndLemmas::arrived_ends))]
     pub fn arrive(&mut self, pdu: &[u8], cause: Cause) -> Result<Got, NoMemory>
         ensures got { IfOk result (λ g. g ≡ got self.old.state pdu.now cause) }
@@ -108,13 +110,16 @@ impl PdcpRx {
     /// Takes the next SDU that goes up; `None` exactly where none is ready. It takes no memory.
     pub fn up(&mut self) -> Option<Bytes>
         ensures value { result ≡ slice_get self.old.state.ready 0 }
-        ensures state { self.new ≡ record self.old { state = record self.old.state { ready = drop 1 self.old.state.ready } } }
+        ensures state { self.new ≡ record self.old {
+          state =
+              record self.old.state { ready = drop 1 self.old.state.ready };
+        } }
     {
         self.receiver.up()
     }
 
-    /// Writes the status report (TS 36.323 5.3.1): FMS is the next COUNT's SN, and a bit stands for each COUNT behind
-    /// it up to the greatest that is held. For kind `Am` alone.
+    /// Writes the status report (TS 36.323 5.3.1): FMS is the next COUNT's SN, and a bit stands for
+    /// each COUNT behind it up to the greatest that is held. For kind `Am` alone.
     pub fn make_report(&self) -> Result<Bytes, NoMemory>
         requires { IsTrue (is_am self.now.state.kind) }
         ensures pdu { IfOk result (λ pdu. pdu ≡ report self.now.state) }
@@ -138,8 +143,9 @@ impl PdcpRx {
         }
     }
 
-    /// Begins the next life under other keys (TS 36.323 5.2.2): over acknowledged RLC the next COUNT and what is held
-    /// stay, on other bearers COUNT begins at 0 again. What is ready to go up stays.
+    /// Begins the next life under other keys (TS 36.323 5.2.2): over acknowledged RLC the next
+    /// COUNT and what is held stay, on other bearers COUNT begins at 0 again. What is ready to go
+    /// up stays.
     ///
     /// It fails exactly where memory had run out before, and then gives back what it was given.
     #[tactic(auto, using(crate::proofs::EndLemmas::restarted_ends))]

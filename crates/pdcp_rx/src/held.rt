@@ -1,5 +1,6 @@
 //! SDUs that are held, one place for each COUNT from the next on.
-ghost use Rattle.std.specs.Prelude.{◌≡◌, ◌+◌, ◌-◌, ◌*◌, ◌<◌, ◌≤◌, ◌^◌, [], ◌∷◌, ◌++◌, length, take, drop, slice_set, Some, None, OnOk, IfOk, max};
+ghost use Rattle.std.specs.Prelude.{◌≡◌, ◌+◌, ◌-◌, ◌*◌, ◌<◌, ◌≤◌, ◌^◌, [], ◌∷◌, ◌++◌, length, take};
+ghost use Rattle.std.specs.Prelude.{drop, slice_set, Some, None, OnOk, IfOk, max};
 ghost use Rattle.pdcp_rx.specs.Held.{is_held, stored, widened, present, run, bit, octet, bitmap};
 
 use l2_bits::{Bytes, NoMemory, Packets};

@@ -1,11 +1,14 @@
 //! The receiver, but for its end by want of memory.
-ghost use Rattle.std.specs.Prelude.{◌≡◌, ◌+◌, ◌/◌, ◌<◌, ◌≤◌, ◌^◌, if◌then◌else◌, length, drop, slice_get, OnOk, IfOk, IfNone, IsTrue};
+ghost use Rattle.std.specs.Prelude.{◌≡◌, ◌+◌, ◌/◌, ◌<◌, ◌≤◌, ◌^◌, if◌then◌else◌, length, drop};
+ghost use Rattle.std.specs.Prelude.{slice_get, OnOk, IfOk, IfNone, IsTrue};
 ghost use Rattle.pdcp_rx.specs.declared.got.Got.TheVariants.{Stored, Up};
 ghost use Rattle.pdcp_rx.specs.Held.{Ends};
 ghost use Rattle.pdcp_rx.specs.Opening.{IsLong};
 ghost use Rattle.pdcp_pdu.specs.Kinds.{IsKind, bits_of, is_am};
 ghost use Rattle.pdcp_sec.specs.Protection.{protection_of};
-ghost use Rattle.pdcp_rx.specs.State.{above, passed_over, opened_at, got_data, left_data, got_opened, left_opened, placed, raised, got, arrived, report, restarted, fresh, waits};
+ghost use Rattle.pdcp_rx.specs.State.{above, passed_over, opened_at, got_data, left_data};
+ghost use Rattle.pdcp_rx.specs.State.{got_opened, left_opened, placed, raised, got, arrived};
+ghost use Rattle.pdcp_rx.specs.State.{report, restarted, fresh, waits};
 
 use crate::got::{Cause, Got};
 use crate::held::{bitmap, first_gap, hand_up, is_held, store};
@@ -43,9 +46,16 @@ impl Model for Receiver {
 
     ghost Value = { State };
 
-    ghost view = { λ r. record { kind = r.kind; protection = r.security; next = r.next; held = r.held.items; ready = r.ready } };
+    ghost view = { λ r. record {
+      kind = r.kind;
+      protection = r.security;
+      next = r.next;
+      held = r.held.items;
+      ready = r.ready;
+    } };
 
-    ghost invariant = { λ r. (r.next + length r.held.items ≤ 2 ^ 32) × (length r.held.items ≤ 2 ^ 15) × IsKind r.kind };
+    ghost invariant = { λ r. (r.next + length r.held.items ≤ 2 ^ 32) × (length r.held.items ≤ 2 ^ 15)
+        × IsKind r.kind };
 }
 
 impl Receiver {
@@ -93,8 +103,12 @@ impl Receiver {
     fn take(&mut self, sn: u32, body: &[u8], cause: Cause) -> Result<Got, NoMemory>
         requires sn { sn < 2 ^ bits_of self.old.kind }
         requires long { IsLong self.old.kind body.now }
-        ensures got { IfOk result (λ g. g ≡ got_data (passed_over self.old (above self.old sn)) self.old cause (above self.old sn) (opened_at self.old (above self.old sn) body.now)) }
-        ensures state { OnOk result (self.new ≡ left_data (passed_over self.old (above self.old sn)) self.old cause (above self.old sn) (opened_at self.old (above self.old sn) body.now)) }
+        ensures got { IfOk result
+            (λ g. g ≡ got_data (passed_over self.old (above self.old sn)) self.old cause
+            (above self.old sn) (opened_at self.old (above self.old sn) body.now)) }
+        ensures state { OnOk result
+            (self.new ≡ left_data (passed_over self.old (above self.old sn)) self.old cause
+            (above self.old sn) (opened_at self.old (above self.old sn) body.now)) }
         ensures kind { self.new.kind ≡ self.old.kind }
     {
         let at = self.above(sn);

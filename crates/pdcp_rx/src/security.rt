@@ -21,7 +21,8 @@ pub enum Opened {
     Differs { found: [u8; 4], wanted: [u8; 4] },
 }
 
-/// Opens what a PDU brings: the data part of a data bearer's PDU, or the whole PDU of a signalling bearer.
+/// Opens what a PDU brings: the data part of a data bearer's PDU, or the whole PDU of a signalling
+/// bearer.
 #[tactic(auto, unfolding(crate::specs::Opening::opened))]
 pub fn open(
     security: &Security,
@@ -56,7 +57,8 @@ fn open_user(
 #[tactic(auto, unfolding(crate::specs::Opening::plain_srb))]
 fn open_srb(security: &Security, alloc: Global, count: u32, pdu: &[u8]) -> Result<Opened, NoMemory>
     requires { 6 ≤ length pdu.now }
-    ensures { IfOk result (λ o. o ≡ checked security.now count (plain_srb security.now count pdu.now)) }
+    ensures { IfOk result
+        (λ o. o ≡ checked security.now count (plain_srb security.now count pdu.now)) }
 {
     let mut plain = Vec::from_slice(alloc, pdu)?;
     security.apply_behind(count, 1, &mut plain);

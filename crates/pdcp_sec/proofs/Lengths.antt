@@ -10,18 +10,24 @@ length_stream : (f : ℕ → ℕ) (n : ℕ) (text : List ℕ) → length (add_st
 length_stream f n [] = refl
 length_stream f n (x ∷ xs) = ap suc (length_stream f (n + 1) xs)
 
-pub length_ciphered : (alg : Cipher) (key : List ℕ) (count bearer direction : ℕ) (text : List ℕ) → length (ciphered alg key count bearer direction text) ≡ length text
+pub length_ciphered : (alg : Cipher) (key : List ℕ) (count bearer direction : ℕ) (text : List ℕ)
+    → length (ciphered alg key count bearer direction text) ≡ length text
 length_ciphered Eea0 key count bearer direction text = refl
-length_ciphered Eea2 key count bearer direction text = length_stream (stream_octet key (first_counter count bearer direction)) 0 text
+length_ciphered Eea2 key count bearer direction text =
+    length_stream (stream_octet key (first_counter count bearer direction)) 0 text
 
-pub length_ciphered_with : (p : Protection) (count : ℕ) (text : List ℕ) → length (ciphered_with p count text) ≡ length text
+pub length_ciphered_with : (p : Protection) (count : ℕ) (text : List ℕ)
+    → length (ciphered_with p count text) ≡ length text
 unfolding ciphered_with
 length_ciphered_with p count text = length_ciphered p.cipher p.key count p.bearer p.direction text
 
-twice : (alg : Cipher) (key : List ℕ) (count bearer direction : ℕ) (text : List ℕ) → ciphered alg key count bearer direction (ciphered alg key count bearer direction text) ≡ text
+twice : (alg : Cipher) (key : List ℕ) (count bearer direction : ℕ) (text : List ℕ)
+    → ciphered alg key count bearer direction (ciphered alg key count bearer direction text) ≡ text
 twice Eea0 key count bearer direction text = refl
-twice Eea2 key count bearer direction text = add_stream-twice (stream_octet key (first_counter count bearer direction)) 0 text
+twice Eea2 key count bearer direction text =
+    add_stream-twice (stream_octet key (first_counter count bearer direction)) 0 text
 
-pub ciphered_twice : (p : Protection) (count : ℕ) (text : List ℕ) → ciphered_with p count (ciphered_with p count text) ≡ text
+pub ciphered_twice : (p : Protection) (count : ℕ) (text : List ℕ)
+    → ciphered_with p count (ciphered_with p count text) ≡ text
 unfolding ciphered_with
 ciphered_twice p count text = twice p.cipher p.key count p.bearer p.direction text

@@ -1,4 +1,5 @@
--- What ciphers and protects the PDUs of a bearer in one direction, in one life (TS 36.323 5.6, 5.7).
+-- What ciphers and protects the PDUs of a bearer in one direction, in one life (TS 36.323 5.6,
+-- 5.7).
 use Rattle.std.specs.Prelude.{ℕ, List}
 use Rattle.eps_sec.specs.declared.Cipher.{Cipher}
 use Rattle.eps_sec.specs.declared.Key.{Key}

@@ -1,15 +1,18 @@
-//! The keys of a PDCP entity at work: ciphering and integrity by COUNT (TS 36.323 5.6, 5.7), for both ends alike.
+//! The keys of a PDCP entity at work: ciphering and integrity by COUNT (TS 36.323 5.6, 5.7), for
+//! both ends alike.
 #![tactic(auto)]
 
 ghost use Rattle.std.specs.Prelude.{◌≡◌, ◌<◌, ◌≤◌, ◌++◌, ℕ, List, length, take, drop};
-ghost use Rattle.pdcp_sec.specs.Protection.{Protection, protection_of, key_of, ciphered_with, tag_of};
+ghost use Rattle.pdcp_sec.specs.Protection.{Protection, protection_of, key_of, ciphered_with};
+ghost use Rattle.pdcp_sec.specs.Protection.{tag_of};
 
 use eps_sec::{Cipher, Key, Keys, Schedule, eea_apply, eia_tag};
 use pdcp_pdu::PdcpKind;
 use std::marker::Model;
 
-/// The keys of a bearer in one direction and one life, expanded, with what else both algorithms take: BEARER, below 32,
-/// and DIRECTION, 0 on the uplink and 1 on the downlink. No call takes memory.
+/// The keys of a bearer in one direction and one life, expanded, with what else both algorithms
+/// take: BEARER, below 32, and DIRECTION, 0 on the uplink and 1 on the downlink. No call takes
+/// memory.
 #[derive(Debug, Drop)]
 pub struct Security {
     cipher: Cipher,
@@ -25,7 +28,13 @@ impl Model for Security {
 
     ghost Value = { Protection };
 
-    ghost view = { λ s. record { cipher = s.cipher; key = s.key; integrity = s.integrity; bearer = s.bearer; direction = s.direction } };
+    ghost view = { λ s. record {
+      cipher = s.cipher;
+      key = s.key;
+      integrity = s.integrity;
+      bearer = s.bearer;
+      direction = s.direction;
+    } };
 
     ghost invariant = { λ s. (s.bearer < 32) × (s.direction < 2) };
 }
@@ -69,10 +78,12 @@ impl Security {
         );
     }
 
-    /// Ciphers what stands behind the first `header` octets of a PDU, or deciphers it, in its place.
+    /// Ciphers what stands behind the first `header` octets of a PDU, or deciphers it, in its
+    /// place.
     pub fn apply_behind(&self, count: u32, header: usize, pdu: &mut [u8])
         requires { header ≤ length pdu.old }
-        ensures text { pdu.new ≡ take header pdu.old ++ ciphered_with self.now count (drop header pdu.old) }
+        ensures text { pdu.new ≡ take header pdu.old
+            ++ ciphered_with self.now count (drop header pdu.old) }
         ensures len { length pdu.new ≡ length pdu.old }
     {
         let (_header, text) = pdu.split_at_mut(header);
@@ -102,5 +113,6 @@ fn key_of<'a>(kind: PdcpKind, keys: &'a Keys) -> &'a Key
 /// The law that deciphering a ciphered text gives the text.
 #[tactic(auto, using(crate::proofs::Lengths::ciphered_twice))]
 pub fn deciphers_what_was_ciphered()
-    ensures { (p : Protection) (count : ℕ) (text : List ℕ) → ciphered_with p count (ciphered_with p count text) ≡ text }
+    ensures { (p : Protection) (count : ℕ) (text : List ℕ)
+        → ciphered_with p count (ciphered_with p count text) ≡ text }
 {}

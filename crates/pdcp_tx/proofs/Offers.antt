@@ -1,5 +1,7 @@
 -- The sizes of what may be taken.
-use Rattle.std.proofs.Common.{◌≡◌, ◌<◌, ◌≤◌, ℕ, suc, zero, ◌+◌, ◌-◌, ◌*◌, ◌^◌, List, [], ◌∷◌, ◌++◌, length, map, take, Option, Some, None, option_map, is_some, if◌then◌else◌, length-append, length-take-le, refl, ap, sym, ◌∙◌, arith}
+use Rattle.std.proofs.Common.{◌≡◌, ◌<◌, ◌≤◌, ℕ, suc, zero, ◌+◌, ◌-◌, ◌*◌, ◌^◌, List, [], ◌∷◌, ◌++◌, length, map, take}
+use Rattle.std.proofs.Common.{Option, Some, None, option_map, is_some, if◌then◌else◌, length-append, length-take-le}
+use Rattle.std.proofs.Common.{refl, ap, sym, ◌∙◌, arith}
 use Rattle.std.proofs.lemmas.List.{length-map}
 use Rattle.std.proofs.Math.Nat.{mul-le-mul_right}
 use Rattle.pdcp_pdu.specs.declared.pdu.PdcpKind.{PdcpKind}
@@ -27,7 +29,8 @@ sizes_owed k (Some r) = omega arith
 
 -- all of them
 pub all_sizes : (k : PdcpKind) (o : Option (List ℕ)) (ss : List Sent) (n : ℕ) (ws : List Waits)
-    → sizes k (owed_offers o ++ map again_offer ss ++ new_offers n ws) ≡ or_else (option_map length o) 0 + (sent_octets ss + length ss * extra k) + (length_all ws + length ws * extra k)
+    → sizes k (owed_offers o ++ map again_offer ss ++ new_offers n ws)
+    ≡ or_else (option_map length o) 0 + (sent_octets ss + length ss * extra k) + (length_all ws + length ws * extra k)
 all_sizes k o ss n ws =
     omega (
       arith,
@@ -47,7 +50,8 @@ length_owed None = refl
 length_owed (Some r) = refl
 
 pub all_needs : (o : Option (List ℕ)) (ss : List Sent) (n : ℕ) (ws : List Waits)
-    → length (owed_offers o ++ map again_offer ss ++ new_offers n ws) ≡ (if is_some o then 1 else 0) + length ss + length ws
+    → length (owed_offers o ++ map again_offer ss ++ new_offers n ws)
+    ≡ (if is_some o then 1 else 0) + length ss + length ws
 all_needs o ss n ws =
     omega (
       arith,
@@ -61,13 +65,16 @@ all_needs o ss n ws =
 pub times_few : (a b : ℕ) → a ≤ 2 ^ 32 → b ≤ 5 → a * b ≤ 2 ^ 35
 times_few a b h g = omega (arith, mul-le-mul_right {m = a} {n = 2 ^ 32} b h)
 
-pub octets_are : (s : State) (room : ℕ) → room ≤ length s.waiting → take room s.waiting ≡ take (s.bound - s.next) s.waiting
-    → or_else (option_map length s.owed) 0 + (sent_octets s.again + length s.again * extra s.kind) + (length_all (take room s.waiting) + room * extra s.kind) ≡ sizes s.kind (offers s)
+pub octets_are : (s : State) (room : ℕ) → room ≤ length s.waiting
+    → take room s.waiting ≡ take (s.bound - s.next) s.waiting
+    → or_else (option_map length s.owed) 0 + (sent_octets s.again + length s.again * extra s.kind)
+    + (length_all (take room s.waiting) + room * extra s.kind) ≡ sizes s.kind (offers s)
 unfolding offers
 octets_are s room le e =
     let all = all_sizes s.kind s.owed s.again s.next (take room s.waiting) in
     let l = length-take-le room s.waiting le in
-    ap (λ (n : ℕ). or_else (option_map length s.owed) 0 + (sent_octets s.again + length s.again * extra s.kind) + (length_all (take room s.waiting) + n * extra s.kind)) (sym l)
+    ap (λ (n : ℕ). or_else (option_map length s.owed) 0 + (sent_octets s.again + length s.again * extra s.kind)
+    + (length_all (take room s.waiting) + n * extra s.kind)) (sym l)
     ∙ sym all ∙ ap (λ ws. sizes s.kind (owed_offers s.owed ++ map again_offer s.again ++ new_offers s.next ws)) e
 
 pub first_taken : (n : ℕ) (w : Waits) (ws : List Waits) → 0 < n → take n (w ∷ ws) ≡ w ∷ take (n - 1) ws
@@ -79,7 +86,8 @@ none_taken a b ws le = let e : a - b ≡ 0 = omega arith in ap (λ (n : ℕ). ta
 
 pub ruleset firsts = (first_taken, none_taken)
 
-pub needs_are : (s : State) (room : ℕ) → room ≤ length s.waiting → take room s.waiting ≡ take (s.bound - s.next) s.waiting
+pub needs_are : (s : State) (room : ℕ) → room ≤ length s.waiting
+    → take room s.waiting ≡ take (s.bound - s.next) s.waiting
     → (if is_some s.owed then 1 else 0) + length s.again + room ≡ length (offers s)
 unfolding offers
 needs_are s room le e =

@@ -2,7 +2,8 @@
 -- can, and its state says nothing.
 use Rattle.std.specs.Prelude.{◌≡◌, Bool, false, IsTrue}
 use Rattle.l2_bits.specs.declared.fault.SubmitRefusal.{SubmitRefusal}
-use Rattle.l2_bits.specs.declared.fault.SubmitRefusal.TheVariants.{Empty, TooLong, Full, CountEnd, NoMemory}
+use Rattle.l2_bits.specs.declared.fault.SubmitRefusal.TheVariants.{Empty, TooLong, Full, CountEnd}
+use Rattle.l2_bits.specs.declared.fault.SubmitRefusal.TheVariants.{NoMemory}
 use Rattle.pdcp_tx.specs.State.{State}
 
 pub record Entity : Type 0 where

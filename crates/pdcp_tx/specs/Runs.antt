@@ -1,7 +1,8 @@
 -- Runs of calls of one sender, through lives (TS 36.323 5.1.1, 5.2.1).
 use Rattle.std.specs.Prelude.{ℕ, List, [], ◌∷◌, ◌++◌, Option, Some, None, slice_get, map}
 use Rattle.l2_num.specs.Ascending.{AreBetween}
-use Rattle.pdcp_tx.specs.State.{State, Offer, offers, submitted, took, confirmed, reported, owing, ticked, after_late}
+use Rattle.pdcp_tx.specs.State.{State, Offer, offers, submitted, took, confirmed, reported, owing}
+use Rattle.pdcp_tx.specs.State.{ticked, after_late}
 
 -- a call of a life that changes the sender
 pub data Call : Type 0 where

@@ -1,10 +1,14 @@
--- The sender as a machine: its state, and what each call answers and makes of it (TS 36.323 5.1.1, 5.2, 5.4, 5.9).
-use Rattle.std.specs.Prelude.{◌≡◌, ℕ, ◌+◌, ◌-◌, ◌%◌, ◌^◌, ◌≤◌, Bool, true, false, not, ◌&&◌, if◌then◌else◌, List, [], ◌∷◌, ◌++◌, map, length, take, drop, min, Option, Some, None, option_map, slice_get, nat_lt, nat_le, ◌==◌}
+-- The sender as a machine: its state, and what each call answers and makes of it (TS 36.323 5.1.1,
+-- 5.2, 5.4, 5.9).
+use Rattle.std.specs.Prelude.{◌≡◌, ℕ, ◌+◌, ◌-◌, ◌%◌, ◌^◌, ◌≤◌, Bool, true, false, not, ◌&&◌}
+use Rattle.std.specs.Prelude.{if◌then◌else◌, List, [], ◌∷◌, ◌++◌, map, length, take, drop, min}
+use Rattle.std.specs.Prelude.{Option, Some, None, option_map, slice_get, nat_lt, nat_le, ◌==◌}
 use Rattle.pdcp_pdu.specs.declared.pdu.PdcpKind.{PdcpKind}
 use Rattle.pdcp_pdu.specs.declared.pdu.PdcpKind.TheVariants.{Srb, Um, Am}
 use Rattle.eps_sec.specs.declared.keys.Keys.{Keys}
 use Rattle.l2_bits.specs.declared.fault.SubmitRefusal.{SubmitRefusal}
-use Rattle.l2_bits.specs.declared.fault.SubmitRefusal.TheVariants.{Empty, TooLong, Full, CountEnd, NoMemory}
+use Rattle.l2_bits.specs.declared.fault.SubmitRefusal.TheVariants.{Empty, TooLong, Full, CountEnd}
+use Rattle.l2_bits.specs.declared.fault.SubmitRefusal.TheVariants.{NoMemory}
 use Rattle.pdcp_tx_store.specs.declared.given.Sent.{Sent}
 use Rattle.pdcp_tx_store.specs.declared.given.Entry.TheVariants.{Data, Own}
 use Rattle.pdcp_tx.specs.declared.sender.Next.{Next}
@@ -12,15 +16,18 @@ use Rattle.pdcp_pdu.specs.Kinds.{is_am}
 use Rattle.pdcp_sec.specs.Protection.{Protection, protection_of}
 use Rattle.pdcp_tx.specs.Pdus.{modulus, extra, width, pdu}
 use Rattle.pdcp_tx_store.specs.Waiting.{Waits, length_all}
-use Rattle.pdcp_tx_store.specs.Given.{Given, settled, with_entry, with_ack, with_report, entry_at, is_own, first_open, first_unacked, open_octets, sent_octets, untold, from_unacked, data_of}
+use Rattle.pdcp_tx_store.specs.Given.{Given, settled, with_entry, with_ack, with_report, entry_at}
+use Rattle.pdcp_tx_store.specs.Given.{is_own, first_open, first_unacked, open_octets, sent_octets}
+use Rattle.pdcp_tx_store.specs.Given.{untold, from_unacked, data_of}
 use Rattle.l2_types.specs.declared.limits.TheConstants.{GREATEST_SDU, MOST_WAITING}
 
 -- COUNTs are whole numbers, HFN and SN together (TS 36.323 6.3.5).
--- `next` is the COUNT of the next SDU that is taken for the first time, `base` the first unconfirmed COUNT as the life
--- began, `bound` the first COUNT that is too high to be taken. `owed` is the own status report, until it is taken;
--- `reporting` says that RLC hasn't acknowledged it. `given` is what was given to RLC in this life, `again` what is to be
--- given again, `waiting` what has no COUNT yet. `clock` is the TTIs that have begun, `discard` the length of the
--- discard timer in TTIs.
+-- `next` is the COUNT of the next SDU that is taken for the first time, `base` the first
+-- unconfirmed COUNT as the life began, `bound` the first COUNT that is too high to be taken. `owed`
+-- is the own status report, until it is taken; `reporting` says that RLC hasn't acknowledged it.
+-- `given` is what was given to RLC in this life, `again` what is to be given again, `waiting` what
+-- has no COUNT yet. `clock` is the TTIs that have begun, `discard` the length of the discard timer
+-- in TTIs.
 pub record State : Type 0 where
   pub kind : PdcpKind
   pub protection : Protection
@@ -37,7 +44,21 @@ pub record State : Type 0 where
 
 -- a sender whose first COUNT is `first`
 unfoldable pub start : PdcpKind → Protection → ℕ → State
-start kind protection first = record { kind = kind; protection = protection; next = first; base = first; bound = first + width kind; owed = None; reporting = false; given = record { gone = 0; entries = [] }; again = []; waiting = []; clock = 0; discard = None }
+start kind protection first =
+    record {
+      kind = kind;
+      protection = protection;
+      next = first;
+      base = first;
+      bound = first + width kind;
+      owed = None;
+      reporting = false;
+      given = record { gone = 0; entries = [] };
+      again = [];
+      waiting = [];
+      clock = 0;
+      discard = None;
+    }
 
 -- Submitting.
 
@@ -61,7 +82,8 @@ IsAnswer NoMemory r = r ≡ None
 unfoldable pub submitted : State → List ℕ → State
 submitted s sdu = record s { waiting = s.waiting ++ record { sdu = sdu; born = s.clock } ∷ [] }
 
--- What may be taken, in order: the own report, SDUs that are given again, new ones with COUNTs below the bound.
+-- What may be taken, in order: the own report, SDUs that are given again, new ones with COUNTs
+-- below the bound.
 
 -- an SDU with its COUNT, or the octets of the report, which has none
 pub record Offer : Type 0 where
@@ -80,7 +102,8 @@ new_offers n [] = []
 new_offers n (w ∷ ws) = record { count = Some n; text = w.sdu } ∷ new_offers (n + 1) ws
 
 unfoldable pub offers : State → List Offer
-offers s = owed_offers s.owed ++ map again_offer s.again ++ new_offers s.next (take (s.bound - s.next) s.waiting)
+offers s = owed_offers s.owed ++ map again_offer s.again
+    ++ new_offers s.next (take (s.bound - s.next) s.waiting)
 
 -- the octets of the PDU of an offer
 abbrev pub size : PdcpKind → Option ℕ → ℕ → ℕ
@@ -100,7 +123,8 @@ left s = open_octets s.given.entries + sent_octets s.again + length_all s.waitin
 -- the PDU of an offer
 abbrev pub written : PdcpKind → Protection → Option ℕ → List ℕ → Next
 written kind protection None text = record { count = None; len = 0; octets = text }
-written kind protection (Some count) text = record { count = Some count; len = length text; octets = pdu kind protection count text }
+written kind protection (Some count) text =
+    record { count = Some count; len = length text; octets = pdu kind protection count text }
 
 -- RLC takes PDUs of 1 to 8193 octets
 abbrev pub IsShort : List ℕ → Type 0
@@ -122,7 +146,11 @@ given_new kind g count sdu = if is_am kind then with_entry g (Data (sent count s
 
 abbrev pub took_new : List Waits → State → State
 took_new [] s = s
-took_new (w ∷ ws) s = record s { waiting = drop 1 s.waiting; next = s.next + 1; given = given_new s.kind s.given s.next w.sdu }
+took_new (w ∷ ws) s = record s {
+  waiting = drop 1 s.waiting;
+  next = s.next + 1;
+  given = given_new s.kind s.given s.next w.sdu;
+}
 
 abbrev pub took_again : List Sent → State → State
 took_again [] s = took_new (take (s.bound - s.next) s.waiting) s
@@ -152,7 +180,11 @@ moved s = record s { bound = if s.reporting then s.bound else low s + width s.ki
 
 -- RLC has acknowledged what was given at a place
 unfoldable pub confirmed : State → ℕ → State
-confirmed s place = moved (record s { given = settled (with_ack s.given place); reporting = s.reporting && not (is_own (entry_at s.given place)) })
+confirmed s place =
+    moved (record s {
+      given = settled (with_ack s.given place);
+      reporting = s.reporting && not (is_own (entry_at s.given place));
+    })
 
 -- how far the SN of an FMS is ahead of a COUNT
 abbrev pub ahead : PdcpKind → ℕ → ℕ → ℕ
@@ -160,11 +192,16 @@ ahead kind base fms = (fms + modulus kind - base % modulus kind) % modulus kind
 
 -- the COUNT of an FMS: at most the width above the first unconfirmed one as the life began
 abbrev pub fms_count : PdcpKind → ℕ → ℕ → Option ℕ
-fms_count kind base fms = if nat_le (ahead kind base fms) (width kind) then Some (base + ahead kind base fms) else None
+fms_count kind base fms = if nat_le (ahead kind base fms) (width kind)
+    then Some (base + ahead kind base fms) else None
 
 abbrev pub reported_from : Option ℕ → State → List ℕ → State
 reported_from None s bitmap = s
-reported_from (Some from) s bitmap = moved (record s { given = settled (with_report s.given from bitmap); again = untold from bitmap s.again })
+reported_from (Some from) s bitmap =
+    moved (record s {
+      given = settled (with_report s.given from bitmap);
+      again = untold from bitmap s.again;
+    })
 
 -- a status report has come (TS 36.323 5.3.2)
 unfoldable pub reported : State → ℕ → List ℕ → State
@@ -193,11 +230,13 @@ unfoldable pub after_late : State → State
 after_late s = record s { waiting = if is_overdue s then drop 1 s.waiting else s.waiting }
 
 unfoldable pub late_length : State → Option ℕ
-late_length s = if is_overdue s then option_map (λ w. length w.sdu) (slice_get s.waiting 0) else None
+late_length s = if is_overdue s then option_map (λ w. length w.sdu) (slice_get s.waiting 0)
+    else None
 
 -- A new life (TS 36.323 5.2.1).
 
--- the SDUs that it takes again: of those that no report confirmed, from the first on that RLC hasn't acknowledged
+-- the SDUs that it takes again: of those that no report confirmed, from the first on that RLC
+-- hasn't acknowledged
 abbrev pub kept_again : State → List Sent
 kept_again s = from_unacked (data_of s.given.entries ++ s.again)
 
@@ -229,4 +268,10 @@ begun s protection = record s {
 
 -- the next life, under other keys
 unfoldable pub restarted : State → Keys → State
-restarted s keys = begun (record s { again = kept_again s; next = next_from s.kind s.next; waiting = waiting_on s.kind s.waiting }) (protection_of s.kind keys s.protection.bearer s.protection.direction)
+restarted s keys =
+    begun (record s {
+      again = kept_again s;
+      next = next_from s.kind s.next;
+      waiting = waiting_on s.kind s.waiting;
+    })
+    (protection_of s.kind keys s.protection.bearer s.protection.direction)

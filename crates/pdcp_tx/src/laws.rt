@@ -10,7 +10,8 @@ pub fn takes_the_head()
     ensures { (s : State) → offers (took s) ≡ drop 1 (offers s) }
 {}
 
-/// The law that the COUNTs that are taken in a life ascend, whatever calls come; so none is taken twice.
+/// The law that the COUNTs that are taken in a life ascend, whatever calls come; so none is taken
+/// twice.
 pub fn takes_in_order()
     ensures { (s : State) (calls : List Call) → IsOrdered s → IsAscending 0 (taken s calls) }
 {}

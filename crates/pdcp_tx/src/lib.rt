@@ -1,5 +1,5 @@
-//! The sending side of a PDCP entity (TS 36.323): COUNTs, ciphering and integrity, what is kept until it is confirmed,
-//! status reports, re-establishment and discard timers.
+//! The sending side of a PDCP entity (TS 36.323): COUNTs, ciphering and integrity, what is kept
+//! until it is confirmed, status reports, re-establishment and discard timers.
 //!
 //! Contracts speak of an exact machine over whole COUNTs, which stands in `specs/State.antt`.
 #![tactic(auto)]

@@ -1,4 +1,5 @@
-//! How an SDU is ciphered and protected in its PDU (TS 36.323 5.6, 5.7). It is copied once, as its PDU is written.
+//! How an SDU is ciphered and protected in its PDU (TS 36.323 5.6, 5.7). It is copied once, as its
+//! PDU is written.
 
 ghost use Rattle.std.specs.Prelude.{◌≡◌, ◌≢◌, ◌<◌, ◌≤◌, ◌^◌, ◌%◌, ◌+◌, ◌++◌, length, take, IfOk};
 ghost use Rattle.pdcp_pdu.specs.Kinds.{IsKind};
@@ -46,7 +47,8 @@ fn write_data(
     requires bits { IsUserBits bits }
     requires some { 1 ≤ length sdu.now }
     requires few { length sdu.now ≤ GREATEST_SDU }
-    ensures pdu { IfOk result (λ written. written ≡ user_spelling bits (Data (count % 2 ^ bits) (ciphered_with security.now count sdu.now))) }
+    ensures pdu { IfOk result (λ written. written
+        ≡ user_spelling bits (Data (count % 2 ^ bits) (ciphered_with security.now count sdu.now))) }
     ensures short { IfOk result IsShort }
 {
     let mut pdu = write_user(alloc, bits, count % (1 << bits), sdu)?.into_vec();
@@ -55,7 +57,8 @@ fn write_data(
     Ok(Bytes::from_vec(pdu))
 }
 
-// The MAC-I goes over the header and the plain SDU as they stand in the PDU, and is ciphered with the SDU.
+// The MAC-I goes over the header and the plain SDU as they stand in the PDU, and is ciphered with
+// the SDU.
 #[tactic(auto, unfolding(crate::specs::Pdus::mac_i), using(crate::proofs::PduSteps::srb_short))]
 fn write_signalling(
     security: &Security,
@@ -65,7 +68,8 @@ fn write_signalling(
 ) -> Result<Bytes, NoMemory>
     requires some { 1 ≤ length sdu.now }
     requires few { length sdu.now ≤ GREATEST_SDU }
-    ensures pdu { IfOk result (λ written. written ≡ srb_header 0 (count % 32) ++ ciphered_with security.now count (sdu.now ++ mac_i security.now count sdu.now)) }
+    ensures pdu { IfOk result (λ written. written ≡ srb_header 0 (count % 32)
+        ++ ciphered_with security.now count (sdu.now ++ mac_i security.now count sdu.now)) }
     ensures short { IfOk result IsShort }
 {
     let mut pdu = write_srb(alloc, count % 32, sdu, &[0; 4])?.into_vec();

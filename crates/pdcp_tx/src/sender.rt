@@ -1,13 +1,23 @@
 //! The sender, as long as memory is there.
 
-ghost use Rattle.std.specs.Prelude.{◌≡◌, ◌+◌, ◌-◌, ◌*◌, ◌<◌, ◌≤◌, ◌^◌, [], ◌∷◌, ◌++◌, length, take, drop, slice_get, Some, None, is_some, option_map, OnOk, OnErr, map, min, IfOk, IfErr, IfSome, IsNone, MatchOption, true, false, if◌then◌else◌};
+ghost use Rattle.std.specs.Prelude.{◌≡◌, ◌+◌, ◌-◌, ◌*◌, ◌<◌, ◌≤◌, ◌^◌, [], ◌∷◌, ◌++◌, length, take};
+ghost use Rattle.std.specs.Prelude.{drop, slice_get, Some, None, is_some, option_map, OnOk, OnErr};
+ghost use Rattle.std.specs.Prelude.{map, min, IfOk, IfErr, IfSome, IsNone, MatchOption, true};
+ghost use Rattle.std.specs.Prelude.{false, if◌then◌else◌};
 ghost use Rattle.pdcp_pdu.specs.Kinds.{IsKind};
 ghost use Rattle.pdcp_sec.specs.Protection.{protection_of};
 ghost use Rattle.pdcp_tx.specs.Pdus.{modulus, width};
-ghost use Rattle.pdcp_tx_store.specs.Given.{from_unacked, data_of, first_open, first_unacked, with_entry, settled};
+ghost use Rattle.pdcp_tx_store.specs.Given.{from_unacked, data_of, first_open, first_unacked};
+ghost use Rattle.pdcp_tx_store.specs.Given.{with_entry, settled};
 ghost use Rattle.pdcp_tx_store.specs.Waiting.{length_all};
 ghost use Rattle.pdcp_tx_store.specs.declared.given.Entry.TheVariants.{Data, Own};
-ghost use Rattle.pdcp_tx.specs.State.{HasSize, IsShort, start, refusal, IsAnswer, submitted, offers, again_offer, new_offers, sizes, size, taking, took, took_owed, took_again, took_new, given_new, written, sent, confirmed, moved, low, or_else, fms_count, ahead, reported, reported_from, left, after_late, late_length, is_overdue, restarted, begun, next_from, waiting_on, first_again, owing, ticked};
+ghost use Rattle.pdcp_tx.specs.State.{HasSize, IsShort, start, refusal, IsAnswer, submitted};
+ghost use Rattle.pdcp_tx.specs.State.{offers, again_offer, new_offers, sizes, size, taking, took};
+ghost use Rattle.pdcp_tx.specs.State.{took_owed, took_again, took_new, given_new, written, sent};
+ghost use Rattle.pdcp_tx.specs.State.{confirmed, moved, low, or_else, fms_count, ahead, reported};
+ghost use Rattle.pdcp_tx.specs.State.{reported_from, left, after_late, late_length, is_overdue};
+ghost use Rattle.pdcp_tx.specs.State.{restarted, begun, next_from, waiting_on, first_again, owing};
+ghost use Rattle.pdcp_tx.specs.State.{ticked};
 
 use crate::kind::{extra, modulus, width};
 use crate::security::write_pdu;
@@ -52,7 +62,20 @@ impl Model for Sender {
 
     ghost Value = { State };
 
-    ghost view = { λ s. record { kind = s.kind; protection = s.security; next = s.next; base = s.base; bound = s.bound; owed = s.owed; reporting = s.reporting; given = s.given; again = s.again; waiting = s.waiting; clock = s.clock; discard = s.discard } };
+    ghost view = { λ s. record {
+      kind = s.kind;
+      protection = s.security;
+      next = s.next;
+      base = s.base;
+      bound = s.bound;
+      owed = s.owed;
+      reporting = s.reporting;
+      given = s.given;
+      again = s.again;
+      waiting = s.waiting;
+      clock = s.clock;
+      discard = s.discard;
+    } };
 
     ghost invariant = { λ s. (s.next + length s.waiting ≤ 2 ^ 32) × (s.base ≤ 2 ^ 32) × IsKind s.kind };
 }
@@ -124,7 +147,8 @@ impl Sender {
     /// Returns how many of the SDUs that wait have COUNTs below the bound.
     fn room(&self) -> usize
         ensures within { result ≤ length self.now.waiting }
-        ensures value { take result self.now.waiting ≡ take (self.now.bound - self.now.next) self.now.waiting }
+        ensures value { take result self.now.waiting
+            ≡ take (self.now.bound - self.now.next) self.now.waiting }
     {
         let room = self.bound.saturating_sub(self.next);
         let len = self.waiting.len();
@@ -203,9 +227,11 @@ impl Sender {
 
     fn take_report(&mut self, report: Bytes) -> Result<Option<Next>, NoMemory>
         requires { self.old.owed ≡ None }
-        ensures answer { IfOk result (λ next. next ≡ Some (written self.old.kind self.old.protection None report)) }
+        ensures answer { IfOk result (λ next. next
+            ≡ Some (written self.old.kind self.old.protection None report)) }
         ensures size { IsShort report → IfOk result (λ next. IfSome next HasSize) }
-        ensures state { OnOk result (self.new ≡ record self.old { given = with_entry self.old.given Own }) }
+        ensures state { OnOk result
+            (self.new ≡ record self.old { given = with_entry self.old.given Own }) }
     {
         self.given.push(Entry::Own)?;
         Ok(Some(Next {
@@ -217,7 +243,11 @@ impl Sender {
 
     fn take_sdu(&mut self) -> Result<Option<Next>, NoMemory>
         requires { self.old.owed ≡ None }
-        ensures answer { IfOk result (λ next. next ≡ option_map (λ o. written self.old.kind self.old.protection o.count o.text) (slice_get (map again_offer self.old.again ++ new_offers self.old.next (take (self.old.bound - self.old.next) self.old.waiting)) 0)) }
+        ensures answer { IfOk result (λ next. next
+            ≡ option_map (λ o. written self.old.kind self.old.protection o.count o.text)
+            (slice_get (map again_offer self.old.again
+            ++ new_offers self.old.next (take (self.old.bound - self.old.next) self.old.waiting))
+            0)) }
         ensures size { IfOk result (λ next. IfSome next HasSize) }
         ensures state { OnOk result (self.new ≡ took_again self.old.again self.old) }
     {
@@ -228,9 +258,11 @@ impl Sender {
     }
 
     fn take_again(&mut self, sent: Sent) -> Result<Option<Next>, NoMemory>
-        ensures answer { IfOk result (λ next. next ≡ Some (written self.old.kind self.old.protection (Some sent.count) sent.octets)) }
+        ensures answer { IfOk result (λ next. next
+            ≡ Some (written self.old.kind self.old.protection (Some sent.count) sent.octets)) }
         ensures size { IfOk result (λ next. IfSome next HasSize) }
-        ensures state { OnOk result (self.new ≡ record self.old { given = settled (with_entry self.old.given (Data sent)) }) }
+        ensures state { OnOk result
+            (self.new ≡ record self.old { given = settled (with_entry self.old.given (Data sent)) }) }
     {
         let next = self.write(sent.count, &sent.octets)?;
         self.given.push(Entry::Data(sent))?;
@@ -240,9 +272,13 @@ impl Sender {
 
     #[tactic(auto, using(crate::proofs::Offers::firsts))]
     fn take_new(&mut self) -> Result<Option<Next>, NoMemory>
-        ensures answer { IfOk result (λ next. next ≡ option_map (λ o. written self.old.kind self.old.protection o.count o.text) (slice_get (new_offers self.old.next (take (self.old.bound - self.old.next) self.old.waiting)) 0)) }
+        ensures answer { IfOk result (λ next. next
+            ≡ option_map (λ o. written self.old.kind self.old.protection o.count o.text)
+            (slice_get
+            (new_offers self.old.next (take (self.old.bound - self.old.next) self.old.waiting)) 0)) }
         ensures size { IfOk result (λ next. IfSome next HasSize) }
-        ensures state { OnOk result (self.new ≡ took_new (take (self.old.bound - self.old.next) self.old.waiting) self.old) }
+        ensures state { OnOk result
+            (self.new ≡ took_new (take (self.old.bound - self.old.next) self.old.waiting) self.old) }
     {
         if self.bound <= self.next {
             return Ok(None);
@@ -255,9 +291,14 @@ impl Sender {
 
     fn give_new(&mut self, octets: Sdu) -> Result<Option<Next>, NoMemory>
         requires { self.old.next + length self.old.waiting < 2 ^ 32 }
-        ensures answer { IfOk result (λ next. next ≡ Some (written self.old.kind self.old.protection (Some self.old.next) octets)) }
+        ensures answer { IfOk result (λ next. next
+            ≡ Some (written self.old.kind self.old.protection (Some self.old.next) octets)) }
         ensures size { IfOk result (λ next. IfSome next HasSize) }
-        ensures state { OnOk result (self.new ≡ record self.old { next = self.old.next + 1; given = given_new self.old.kind self.old.given self.old.next octets }) }
+        ensures state { OnOk result
+            (self.new ≡ record self.old {
+              next = self.old.next + 1;
+              given = given_new self.old.kind self.old.given self.old.next octets;
+            }) }
     {
         let count = self.next as u32;
         let next = self.write(count, &octets)?;
@@ -267,7 +308,8 @@ impl Sender {
     }
 
     fn write(&self, count: u32, sdu: &Sdu) -> Result<Next, NoMemory>
-        ensures answer { IfOk result (λ next. next ≡ written self.now.kind self.now.protection (Some count) sdu.now) }
+        ensures answer { IfOk result (λ next. next
+            ≡ written self.now.kind self.now.protection (Some count) sdu.now) }
         ensures size { IfOk result HasSize }
     {
         Ok(Next {
@@ -393,7 +435,10 @@ impl Sender {
 
     // What the kind of the bearer forgets between two lives.
     fn reset(&mut self)
-        ensures { self.new ≡ record self.old { next = next_from self.old.kind self.old.next; waiting = waiting_on self.old.kind self.old.waiting } }
+        ensures { self.new ≡ record self.old {
+          next = next_from self.old.kind self.old.next;
+          waiting = waiting_on self.old.kind self.old.waiting;
+        } }
     {
         match self.kind {
             PdcpKind::Srb => {
@@ -408,7 +453,10 @@ impl Sender {
     }
 
     fn begin_life(&mut self, keys: &Keys)
-        ensures { self.new ≡ begun self.old (protection_of self.old.kind keys.now self.old.protection.bearer self.old.protection.direction) }
+        ensures { self.new
+            ≡ begun self.old
+            (protection_of self.old.kind keys.now self.old.protection.bearer
+            self.old.protection.direction) }
     {
         let first = match self.again.first() {
             Some(count) => u64::from(count),

@@ -1,5 +1,7 @@
 -- One step of what goes over what was given.
-use Rattle.std.proofs.Common.{◌≡◌, ◌<◌, ◌≤◌, ℕ, suc, zero, ◌+◌, ◌-◌, true, false, List, [], ◌∷◌, ◌++◌, length, drop, take, map, Some, None, slice_get, slice_set, slice_index_or, refl, add-one, ap, sym, ◌∙◌, arith}
+use Rattle.std.proofs.Common.{◌≡◌, ◌<◌, ◌≤◌, ℕ, suc, zero, ◌+◌, ◌-◌, true, false, List, [], ◌∷◌, ◌++◌, length, drop}
+use Rattle.std.proofs.Common.{take, map, Some, None, slice_get, slice_set, slice_index_or, refl, add-one, ap, sym, ◌∙◌}
+use Rattle.std.proofs.Common.{arith}
 use Rattle.std.proofs.lemmas.Grind.{common_steps}
 use Rattle.pdcp_tx_store.specs.declared.given.Entry.{Entry}
 use Rattle.pdcp_tx_store.specs.declared.given.Entry.TheVariants.{Data, Own, Gone}
@@ -15,12 +17,14 @@ acked_none (Data s) = refl
 acked_none Own = refl
 acked_none Gone = refl
 
-open_set : (es : List Entry) (k : ℕ) (e new : Entry) → slice_get es k ≡ Some e → open_octets (slice_set es k new) + open_length e ≡ open_octets es + open_length new
+open_set : (es : List Entry) (k : ℕ) (e new : Entry) → slice_get es k ≡ Some e
+    → open_octets (slice_set es k new) + open_length e ≡ open_octets es + open_length new
 open_set [] k e new g = cc
 open_set (x ∷ xs) zero e new g = grind arith
 open_set (x ∷ xs) (suc k) e new g = let ih = open_set xs k e new g in omega arith
 
-pub open_acked : (es : List Entry) (k : ℕ) (e : Entry) → slice_get es k ≡ Some e → open_octets (slice_set es k (acked e)) ≡ open_octets es - open_length e
+pub open_acked : (es : List Entry) (k : ℕ) (e : Entry) → slice_get es k ≡ Some e
+    → open_octets (slice_set es k (acked e)) ≡ open_octets es - open_length e
 open_acked es k e g = omega (arith, open_set es k e (acked e) g, acked_none e)
 
 pub ruleset acks = (open_acked)
@@ -64,18 +68,22 @@ mapped_end f [] k le = grind (arith, common_steps)
 mapped_end f (x ∷ xs) zero le = absurd (omega arith)
 mapped_end f (x ∷ xs) (suc k) le = ap (λ l. x ∷ l) (mapped_end f xs k (omega arith))
 
-mapped_suc : (f : Entry → Entry) (es : List Entry) (k : ℕ) → k < length es → mapped_from f (suc k) (slice_set es k (f (slice_index_or es k Own))) ≡ mapped_from f k es
+mapped_suc : (f : Entry → Entry) (es : List Entry) (k : ℕ) → k < length es
+    → mapped_from f (suc k) (slice_set es k (f (slice_index_or es k Own))) ≡ mapped_from f k es
 unfolding mapped_from
 mapped_suc f [] k lt = absurd (omega arith)
 mapped_suc f (x ∷ xs) zero lt = refl
 mapped_suc f (x ∷ xs) (suc k) lt = ap (λ l. x ∷ l) (mapped_suc f xs k (omega arith))
 
-pub mapped_step : (f : Entry → Entry) (es : List Entry) (k : ℕ) → k < length es → mapped_from f (k + 1) (slice_set es k (f (slice_index_or es k Own))) ≡ mapped_from f k es
-mapped_step f es k lt = ap (λ (n : ℕ). mapped_from f n (slice_set es k (f (slice_index_or es k Own)))) (add-one k) ∙ mapped_suc f es k lt
+pub mapped_step : (f : Entry → Entry) (es : List Entry) (k : ℕ) → k < length es
+    → mapped_from f (k + 1) (slice_set es k (f (slice_index_or es k Own))) ≡ mapped_from f k es
+mapped_step f es k lt = ap (λ (n : ℕ). mapped_from f n (slice_set es k (f (slice_index_or es k Own)))) (add-one k)
+    ∙ mapped_suc f es k lt
 
 pub ruleset maps = (mapped_all, mapped_end, mapped_step)
 
-pub set_same : (es : List Entry) (k : ℕ) (e new : Entry) → k < length es → e ≡ slice_index_or es k e → e ≡ slice_index_or es k Own
+pub set_same : (es : List Entry) (k : ℕ) (e new : Entry) → k < length es → e ≡ slice_index_or es k e
+    → e ≡ slice_index_or es k Own
 set_same [] k e new lt g = absurd (omega arith)
 set_same (x ∷ xs) zero e new lt g = g
 set_same (x ∷ xs) (suc k) e new lt g = set_same xs k e new (omega arith) g
@@ -87,7 +95,8 @@ heard_less from bitmap (Data s) = grind arith
 heard_less from bitmap Own = omega arith
 heard_less from bitmap Gone = omega arith
 
-pub open_less : (from : ℕ) (bitmap : List ℕ) (es : List Entry) → open_octets (map (heard from bitmap) es) ≤ open_octets es
+pub open_less : (from : ℕ) (bitmap : List ℕ) (es : List Entry)
+    → open_octets (map (heard from bitmap) es) ≤ open_octets es
 open_less from bitmap [] = omega arith
 open_less from bitmap (e ∷ es) = omega (arith, heard_less from bitmap e, open_less from bitmap es)
 

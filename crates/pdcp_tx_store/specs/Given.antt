@@ -1,5 +1,7 @@
 -- What was given to RLC in a life, what of it is confirmed, and what is to be given again.
-use Rattle.std.specs.Prelude.{ℕ, ◌+◌, ◌-◌, Bool, true, false, not, ◌&&◌, ◌||◌, if◌then◌else◌, List, [], ◌∷◌, ◌++◌, map, length, Option, Some, None, slice_get, slice_set, nat_lt}
+use Rattle.std.specs.Prelude.{ℕ, ◌+◌, ◌-◌, Bool, true, false, not, ◌&&◌, ◌||◌, if◌then◌else◌, List}
+use Rattle.std.specs.Prelude.{[], ◌∷◌, ◌++◌, map, length, Option, Some, None, slice_get, slice_set}
+use Rattle.std.specs.Prelude.{nat_lt}
 use Rattle.pdcp_pdu.specs.Grammar.{bit_of}
 use Rattle.pdcp_tx_store.specs.declared.given.Sent.{Sent}
 use Rattle.pdcp_tx_store.specs.declared.given.Entry.{Entry}
@@ -50,7 +52,8 @@ abbrev pub entry_at : Given → ℕ → Option Entry
 entry_at g place = if nat_lt place g.gone then None else slice_get g.entries (place - g.gone)
 
 abbrev pub with_ack : Given → ℕ → Given
-with_ack g place = record { gone = g.gone; entries = acked_at (entry_at g place) g.entries (place - g.gone) }
+with_ack g place =
+    record { gone = g.gone; entries = acked_at (entry_at g place) g.entries (place - g.gone) }
 
 -- whether it is the own status report
 abbrev pub is_own : Option Entry → Bool
@@ -84,7 +87,8 @@ abbrev pub sent_octets : List Sent → ℕ
 sent_octets [] = 0
 sent_octets (s ∷ ss) = length s.octets + sent_octets ss
 
--- whether a report confirms the COUNT n, `from` being the COUNT of its FMS: all below it, and those whose bit is 1 (TS 36.323 5.9.1)
+-- whether a report confirms the COUNT n, `from` being the COUNT of its FMS: all below it, and those
+-- whose bit is 1 (TS 36.323 5.9.1)
 abbrev pub tells : ℕ → List ℕ → ℕ → Bool
 tells from bitmap n = nat_lt n from || (nat_lt from n && bit_of bitmap (n - from - 1))
 
@@ -100,7 +104,8 @@ with_report g from bitmap = record { gone = g.gone; entries = map (heard from bi
 -- those that a report leaves to be given again
 abbrev pub untold : ℕ → List ℕ → List Sent → List Sent
 untold from bitmap [] = []
-untold from bitmap (s ∷ ss) = if tells from bitmap s.count then untold from bitmap ss else s ∷ untold from bitmap ss
+untold from bitmap (s ∷ ss) = if tells from bitmap s.count then untold from bitmap ss
+    else s ∷ untold from bitmap ss
 
 -- an SDU that RLC hasn't acknowledged
 abbrev pub is_unacked : Entry → Bool
@@ -108,7 +113,8 @@ is_unacked (Data s) = not s.acked
 is_unacked Own = false
 is_unacked Gone = false
 
--- what the next life takes again: SDUs in order, from the first that RLC hasn't acknowledged (TS 36.323 5.2.1.1)
+-- what the next life takes again: SDUs in order, from the first that RLC hasn't acknowledged (TS
+-- 36.323 5.2.1.1)
 abbrev pub from_unacked : List Sent → List Sent
 from_unacked [] = []
 from_unacked (s ∷ ss) = if s.acked then from_unacked ss else s ∷ ss

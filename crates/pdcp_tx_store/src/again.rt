@@ -1,7 +1,9 @@
 //! SDUs that are to be given to RLC again.
 
-ghost use Rattle.std.specs.Prelude.{◌≡◌, ◌+◌, ◌≤◌, ◌^◌, [], ◌∷◌, ◌++◌, ◌==◌, length, slice_get, option_map, true, OnOk, OnErr, IfSome, MatchOption};
-ghost use Rattle.pdcp_tx_store.specs.Given.{first_unacked, sent_octets, untold, data_of, is_unacked, from_unacked};
+ghost use Rattle.std.specs.Prelude.{◌≡◌, ◌+◌, ◌≤◌, ◌^◌, [], ◌∷◌, ◌++◌, ◌==◌, length, slice_get};
+ghost use Rattle.std.specs.Prelude.{option_map, true, OnOk, OnErr, IfSome, MatchOption};
+ghost use Rattle.pdcp_tx_store.specs.Given.{first_unacked, sent_octets, untold, data_of};
+ghost use Rattle.pdcp_tx_store.specs.Given.{is_unacked, from_unacked};
 
 use crate::given::{Entry, Sent, hear_all};
 use l2_bits::NoMemory;
@@ -14,8 +16,8 @@ use std::mem;
 /// Fewer octets than this are ever kept.
 const LIMIT: u64 = 1 << 61;
 
-/// SDUs in the order of their COUNTs. One that a report confirmed stays as `Gone` until it comes to the front; a
-/// contract sees only the others.
+/// SDUs in the order of their COUNTs. One that a report confirmed stays as `Gone` until it comes to
+/// the front; a contract sees only the others.
 #[derive(Drop)]
 pub struct Again {
     ring: VecDeque<Entry>,
@@ -32,7 +34,9 @@ impl Model for Again {
 
     ghost view = { λ a. data_of a.ring.items };
 
-    ghost invariant = { λ a. (a.count ≡ length (data_of a.ring.items)) × (a.octets ≡ sent_octets (data_of a.ring.items)) × (a.count ≤ 2 ^ 32) × (a.octets ≤ 2 ^ 61) };
+    ghost invariant = { λ a. (a.count ≡ length (data_of a.ring.items))
+        × (a.octets ≡ sent_octets (data_of a.ring.items)) × (a.count ≤ 2 ^ 32)
+        × (a.octets ≤ 2 ^ 61) };
 }
 
 impl Again {
@@ -77,8 +81,8 @@ impl Again {
         first_data(&self.ring)
     }
 
-    /// Puts what was given before these SDUs, and keeps all from the first on that RLC hasn't acknowledged. Nothing is
-    /// left in `given`. An `Err` changes nothing.
+    /// Puts what was given before these SDUs, and keeps all from the first on that RLC hasn't
+    /// acknowledged. Nothing is left in `given`. An `Err` changes nothing.
     #[tactic(auto, using(crate::proofs::AgainSteps::joins))]
     pub fn put_behind(&mut self, given: &mut VecDeque<Entry>) -> Result<(), NoMemory>
         ensures ok { OnOk result (self.new ≡ from_unacked (data_of given.old.items ++ self.old)) }
@@ -101,7 +105,8 @@ impl Again {
     /// Takes out the first SDU.
     #[tactic(auto, using(crate::proofs::AgainSteps::pops))]
     pub fn pop(&mut self) -> Option<Sent>
-        ensures { MatchOption result ((self.old ≡ []) × (self.new ≡ [])) (λ s. self.old ≡ s ∷ self.new) }
+        ensures { MatchOption result ((self.old ≡ []) × (self.new ≡ []))
+            (λ s. self.old ≡ s ∷ self.new) }
     {
         let sent = pop_data(&mut self.ring)?;
         self.octets = self.octets.saturating_sub(u64::from(sent.octets.len()));
@@ -120,7 +125,8 @@ impl Again {
 }
 
 fn pop_data(ring: &mut VecDeque<Entry>) -> Option<Sent>
-    ensures { MatchOption result ((data_of ring.old.items ≡ []) × (data_of ring.new.items ≡ [])) (λ s. data_of ring.old.items ≡ s ∷ data_of ring.new.items) }
+    ensures { MatchOption result ((data_of ring.old.items ≡ []) × (data_of ring.new.items ≡ []))
+        (λ s. data_of ring.old.items ≡ s ∷ data_of ring.new.items) }
 {
     while let Some(entry) = ring.pop_front() {
         if let Entry::Data(sent) = entry {

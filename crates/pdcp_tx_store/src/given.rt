@@ -1,9 +1,16 @@
 //! What was given to RLC in a life, and what is to be given again.
 
-ghost use Rattle.std.specs.Prelude.{◌≡◌, ◌+◌, ◌-◌, ◌<◌, ◌≤◌, ◌^◌, ◌/◌, ◌%◌, ◌*◌, ◌==◌, [], ◌∷◌, ◌++◌, length, take, drop, map, slice_get, slice_set, slice_index, slice_index_or, is_some, Some, OnOk, OnErr, IfOk, IsTrue, IsFalse, MatchOption};
+ghost use Rattle.std.specs.Prelude.{◌≡◌, ◌+◌, ◌-◌, ◌<◌, ◌≤◌, ◌^◌, ◌/◌, ◌%◌, ◌*◌, ◌==◌, [], ◌∷◌};
+ghost use Rattle.std.specs.Prelude.{◌++◌, length, take, drop, map, slice_get, slice_set};
+ghost use Rattle.std.specs.Prelude.{slice_index, slice_index_or, is_some, Some, OnOk, OnErr, IfOk};
+ghost use Rattle.std.specs.Prelude.{IsTrue, IsFalse, MatchOption};
 ghost use Rattle.pdcp_pdu.specs.Grammar.{bit_of};
 ghost use Rattle.pdcp_tx_store.specs.declared.given.Entry.TheVariants.{Gone, Own};
-ghost use Rattle.pdcp_tx_store.specs.Given.{is_open, trimmed, closed, settled, with_entry, acked, acked_at, entry_at, with_ack, is_own, open_length, open_octets, first_open, first_unacked, sent_octets, tells, heard, with_report, untold, from_unacked, data_of};
+ghost use Rattle.pdcp_tx_store.specs.Given.{is_open, trimmed, closed, settled, with_entry, acked};
+ghost use Rattle.pdcp_tx_store.specs.Given.{acked_at, entry_at, with_ack, is_own, open_length};
+ghost use Rattle.pdcp_tx_store.specs.Given.{open_octets, first_open, first_unacked, sent_octets};
+ghost use Rattle.pdcp_tx_store.specs.Given.{tells, heard, with_report, untold, from_unacked};
+ghost use Rattle.pdcp_tx_store.specs.Given.{data_of};
 
 use crate::again::Again;
 use crate::sdu::Sdu;
@@ -23,7 +30,8 @@ pub struct Sent {
     pub acked: bool,
 }
 
-/// What was given at a place: an SDU, the own status report, or what is confirmed and needed no more.
+/// What was given at a place: an SDU, the own status report, or what is confirmed and needed no
+/// more.
 #[derive(Drop)]
 pub enum Entry {
     Data(Sent),
@@ -149,7 +157,8 @@ impl Model for Ledger {
 
     ghost view = { λ l. record { gone = l.gone; entries = l.entries.items } };
 
-    ghost invariant = { λ l. (l.unacked ≡ open_octets l.entries.items) × (l.gone + length l.entries.items ≤ 2 ^ 62) × (l.unacked ≤ 2 ^ 62) };
+    ghost invariant = { λ l. (l.unacked ≡ open_octets l.entries.items)
+        × (l.gone + length l.entries.items ≤ 2 ^ 62) × (l.unacked ≤ 2 ^ 62) };
 }
 
 impl Ledger {
@@ -210,7 +219,8 @@ impl Ledger {
         )
     }
 
-    /// A status report has come, whose FMS has the COUNT `from`. It goes over all entries, once for each report.
+    /// A status report has come, whose FMS has the COUNT `from`. It goes over all entries, once for
+    /// each report.
     pub fn hear(&mut self, from: u64, bitmap: &[u8])
         ensures { self.new ≡ with_report self.old from bitmap.now }
     {
@@ -218,8 +228,8 @@ impl Ledger {
         self.unacked = open_sum(&self.entries);
     }
 
-    /// Puts all that was given before those SDUs that are to be given again, from the first on that RLC hasn't
-    /// acknowledged. An `Err` changes nothing.
+    /// Puts all that was given before those SDUs that are to be given again, from the first on that
+    /// RLC hasn't acknowledged. An `Err` changes nothing.
     pub fn move_before(&mut self, again: &mut Again) -> Result<(), NoMemory>
         ensures ok { OnOk result (again.new ≡ from_unacked (data_of self.old.entries ++ again.old)) }
         ensures err { OnErr result (again.new ≡ again.old) }
@@ -262,7 +272,8 @@ fn open_count(entry: &Entry) -> Option<u32>
 #[tactic(auto, using(crate::proofs::GivenSteps::acks))]
 fn acknowledge_at(entries: &mut VecDeque<Entry>, unacked: &mut u64, at: usize) -> bool
     requires { unacked.old ≡ open_octets entries.old.items }
-    ensures entries { entries.new.items ≡ acked_at (slice_get entries.old.items at) entries.old.items at }
+    ensures entries { entries.new.items
+        ≡ acked_at (slice_get entries.old.items at) entries.old.items at }
     ensures open { unacked.new ≡ open_octets entries.new.items }
     ensures less { unacked.new ≤ unacked.old }
     ensures own { result ≡ is_own (slice_get entries.old.items at) }
@@ -307,7 +318,9 @@ pub(crate) fn hear_all(entries: &mut VecDeque<Entry>, from: u64, bitmap: &[u8])
 #[tactic(auto, using(crate::proofs::GivenSteps::set_at))]
 fn hear_at(entries: &mut VecDeque<Entry>, at: usize, from: u64, bitmap: &[u8])
     requires { at < length entries.old.items }
-    ensures { entries.new.items ≡ slice_set entries.old.items at (heard from bitmap.now (slice_index_or entries.old.items at Own)) }
+    ensures { entries.new.items
+        ≡ slice_set entries.old.items at
+        (heard from bitmap.now (slice_index_or entries.old.items at Own)) }
 {
     if let Some(entry) = entries.get_mut(at) {
         entry.hear(from, bitmap);

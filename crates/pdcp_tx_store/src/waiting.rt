@@ -1,6 +1,8 @@
 //! SDUs that wait for a COUNT.
 
-ghost use Rattle.std.specs.Prelude.{◌≡◌, ◌+◌, ◌-◌, ◌<◌, ◌≤◌, ◌^◌, [], ◌∷◌, ◌++◌, length, take, drop, map, slice_get, option_map, OnOk, OnErr, IfOk, MatchOption};
+ghost use Rattle.std.specs.Prelude.{◌≡◌, ◌+◌, ◌-◌, ◌<◌, ◌≤◌, ◌^◌, [], ◌∷◌, ◌++◌, length, take};
+ghost use Rattle.std.specs.Prelude.{drop, map, slice_get, option_map, OnOk, OnErr, IfOk};
+ghost use Rattle.std.specs.Prelude.{MatchOption};
 ghost use Rattle.pdcp_tx_store.specs.Waiting.{waits, length_all, start_of};
 
 use crate::sdu::Sdu;
@@ -11,7 +13,8 @@ use std::marker::Model;
 /// Fewer octets than this are ever submitted, so that sums of them are small.
 const LIMIT: u64 = 1 << 61;
 
-/// An SDU that waits, the TTIs that had begun as it was submitted, and the octets that were submitted before it.
+/// An SDU that waits, the TTIs that had begun as it was submitted, and the octets that were
+/// submitted before it.
 #[derive(Drop)]
 pub struct Waiting {
     pub octets: Sdu,
@@ -19,7 +22,8 @@ pub struct Waiting {
     pub before: u64,
 }
 
-/// The SDUs that wait. The octets of the first few are the difference of two marks, whatever their number.
+/// The SDUs that wait. The octets of the first few are the difference of two marks, whatever their
+/// number.
 #[derive(Drop)]
 pub struct Queue {
     ring: Ring<Waiting>,
@@ -91,7 +95,8 @@ impl Queue {
     /// The first SDU.
     #[tactic(auto, using(crate::proofs::WaitingSums::first_waits))]
     pub fn front(&self) -> Option<&Waiting>
-        ensures { MatchOption result (self.now ≡ []) (λ w. slice_get self.now 0 ≡ Some (waits w.now)) }
+        ensures { MatchOption result (self.now ≡ [])
+            (λ w. slice_get self.now 0 ≡ Some (waits w.now)) }
     {
         self.ring.front()
     }

@@ -1,6 +1,7 @@
 -- The showing of an input (docs/formats/JOURNAL.md): what it knows between two lines, and what a
 -- line does.
-use Rattle.std.specs.Prelude.{◌≡◌, ℕ, ◌+◌, List, [], ◌∷◌, ◌++◌, length, Option, None, Some, Result, Ok, Err}
+use Rattle.std.specs.Prelude.{◌≡◌, ℕ, ◌+◌, List, [], ◌∷◌, ◌++◌, length, Option, None, Some, Result}
+use Rattle.std.specs.Prelude.{Ok, Err}
 use Rattle.bearer_types.specs.declared.config.BearerConfig.{BearerConfig}
 use Rattle.air_record.specs.Text.{texts_of}
 use Rattle.air_text.specs.Words.{◌>>=◌, Fails}
@@ -31,14 +32,23 @@ pub record Decoded : Type 0 where
   pub state : Decoding
   pub journal : List Record
 
--- a bearer is known from then on, in place of one on its logical channel; a block is shown behind its number
+-- a bearer is known from then on, in place of one on its logical channel; a block is shown behind
+-- its number
 abbrev pub decoded : Decoding → Option Entry → Decoded
 decoded d None = record { state = d; journal = [] }
 decoded d (Some (entries.Bearer config)) =
-    record { state = record d { kinds = with_kind d.kinds config.channel.lcid config.kind config.rlc_bits config.pdcp_bits }; journal = [] }
+    record {
+      state =
+          record d {
+            kinds =
+                with_kind d.kinds config.channel.lcid config.kind config.rlc_bits config.pdcp_bits;
+          };
+      journal = [];
+    }
 decoded d (Some (entries.Block direction octets)) = record {
   state = record d { blocks = d.blocks + 1 };
-  journal = records.Shown (d.blocks + 1) direction (length octets) ∷ block_shown direction d.kinds octets;
+  journal = records.Shown (d.blocks + 1) direction (length octets)
+      ∷ block_shown direction d.kinds octets;
 }
 
 abbrev pub decode_line : Decoding → List ℕ → Result Decoded LineRefusal
@@ -51,5 +61,6 @@ HasDecoded (Err e) new out out' = ⊥
 -- what a call leaves, by its answer
 abbrev pub Decodes : Decoding → List ℕ → Decoding → List ℕ → List ℕ → Result Unit LineFault → Type 0
 Decodes d text new out out' (Ok _) = HasDecoded (decode_line d text) new out out'
-Decodes d text new out out' (Err (faults.Refused e)) = (decode_line d text ≡ Err e) × (new ≡ d) × (out' ≡ out)
+Decodes d text new out out' (Err (faults.Refused e)) =
+    (decode_line d text ≡ Err e) × (new ≡ d) × (out' ≡ out)
 Decodes d text new out out' (Err faults.NoMemory) = Unit {0}

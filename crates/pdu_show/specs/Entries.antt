@@ -1,5 +1,6 @@
 -- What a line of an input to be shown says (docs/formats/JOURNAL.md).
-use Rattle.std.specs.Prelude.{◌≡◌, ◌≤◌, ℕ, ◌==◌, nat_lt, if◌then◌else◌, List, [], ◌∷◌, length, slice_index, codes, Option, None, Some, Result, Ok, Err}
+use Rattle.std.specs.Prelude.{◌≡◌, ◌≤◌, ℕ, ◌==◌, nat_lt, if◌then◌else◌, List, [], ◌∷◌, length}
+use Rattle.std.specs.Prelude.{slice_index, codes, Option, None, Some, Result, Ok, Err}
 use Rattle.std.specs.Str.{bytes_eq}
 use Rattle.bearer_types.specs.declared.config.BearerConfig.{BearerConfig}
 use Rattle.mac_pdu.specs.declared.item.Direction.{Direction}
@@ -26,7 +27,8 @@ bearer_in line = Err Word
 
 -- a block of 1 to 9422 octets
 unfoldable pub block_in : Direction → List (List ℕ) → Result (Option Entry) LineRefusal
-block_in direction (text ∷ []) = octets_of GREATEST_GRANT text >>= λ octets. Ok (Some (entries.Block direction octets))
+block_in direction (text ∷ []) =
+    octets_of GREATEST_GRANT text >>= λ octets. Ok (Some (entries.Block direction octets))
 block_in direction fields = Err Fields
 
 abbrev pub entry_by : List ℕ → List (List ℕ) → Result (Option Entry) LineRefusal
@@ -53,8 +55,10 @@ with_octets None octets = None
 with_octets (Some (heads.Bearer config)) octets = Some (entries.Bearer config)
 with_octets (Some (heads.Block direction)) octets = Some (entries.Block direction octets)
 
--- what a function answered, with the octets that it left, is what reading gives, unless memory ran out
-abbrev pub HasEntry : Result (Option Entry) LineRefusal → List ℕ → Result (Option Head) LineFault → Type 0
+-- what a function answered, with the octets that it left, is what reading gives, unless memory ran
+-- out
+abbrev pub HasEntry : Result (Option Entry) LineRefusal → List ℕ → Result (Option Head) LineFault
+    → Type 0
 HasEntry read octets (Ok head) = read ≡ Ok (with_octets head octets)
 HasEntry read octets (Err e) = Fails e read
 

@@ -1,5 +1,6 @@
 -- How the SDUs of the logical channels are read (TS 36.321 6.2.1, TS 36.322 4.2.1).
-use Rattle.std.specs.Prelude.{◌≡◌, ℕ, ◌<◌, List, slice_set, replicate, Option, None, Some, IfSome, All, length}
+use Rattle.std.specs.Prelude.{◌≡◌, ℕ, ◌<◌, List, slice_set, replicate, Option, None, Some, IfSome}
+use Rattle.std.specs.Prelude.{All, length}
 use Rattle.l2_types.specs.declared.channel.Kind.{Kind}
 use Rattle.l2_types.specs.declared.channel.Kind.TheVariants.{Tm, Srb, Um, Am}
 use Rattle.bearer_types.specs.Configs.{AreRlcBits, ArePdcpBits}
@@ -34,7 +35,8 @@ none_known = replicate 11 None
 
 -- a bearer is known on a logical channel, in place of one that was
 abbrev pub with_kind : List (Option Layout) → ℕ → Kind → ℕ → ℕ → List (Option Layout)
-with_kind kinds lcid kind rlc_bits pdcp_bits = slice_set kinds lcid (Some (layout_of kind rlc_bits pdcp_bits))
+with_kind kinds lcid kind rlc_bits pdcp_bits =
+    slice_set kinds lcid (Some (layout_of kind rlc_bits pdcp_bits))
 
 -- each bearer that is known can be read
 abbrev pub AreLayouts : List (Option Layout) → Type 0

@@ -1,5 +1,8 @@
--- What is shown of a block: its items in their order, and of each SDU of a known bearer the RLC and PDCP PDUs in it.
-use Rattle.std.specs.Prelude.{ℕ, ◌/◌, ◌%◌, ◌==◌, nat_lt, Bool, true, false, if◌then◌else◌, List, [], ◌∷◌, ◌++◌, length, map, slice_index_or, Option, None, Some, Result, Ok, Err}
+-- What is shown of a block: its items in their order, and of each SDU of a known bearer the RLC and
+-- PDCP PDUs in it.
+use Rattle.std.specs.Prelude.{ℕ, ◌/◌, ◌%◌, ◌==◌, nat_lt, Bool, true, false, if◌then◌else◌, List, []}
+use Rattle.std.specs.Prelude.{◌∷◌, ◌++◌, length, map, slice_index_or, Option, None, Some, Result}
+use Rattle.std.specs.Prelude.{Ok, Err}
 use Rattle.std.specs.Borrow.{Bor}
 use Rattle.mac_pdu.specs.declared.item.Direction.{Direction}
 use Rattle.mac_pdu.specs.declared.fault.MacRefusal.{MacRefusal}
@@ -39,7 +42,8 @@ pdcp_shown (pdcp.Am bits) octets = user_shown (user_at bits octets)
 
 -- ---- RLC
 
--- the framing info says that the first element begins an SDU, and that the last one ends one (TS 36.322 6.2.2.6)
+-- the framing info says that the first element begins an SDU, and that the last one ends one (TS
+-- 36.322 6.2.2.6)
 abbrev pub begins : ℕ → Bool
 begins fi = nat_lt fi 2
 
@@ -50,7 +54,8 @@ ends fi = fi % 2 == 0
 unfoldable pub whole : Bool → Bool → List (List ℕ) → List (List ℕ)
 whole first last [] = []
 whole first last (x ∷ []) = if first then (if last then x ∷ [] else []) else []
-whole first last (x ∷ y ∷ rest) = if first then x ∷ whole true last (y ∷ rest) else whole true last (y ∷ rest)
+whole first last (x ∷ y ∷ rest) = if first then x ∷ whole true last (y ∷ rest)
+    else whole true last (y ∷ rest)
 
 -- an element that begins an SDU is whole where another follows or it ends one
 abbrev pub whole_by : Bool → Bool → Bool → Bool
@@ -74,12 +79,15 @@ tm_shown [] = records.BadRlc (record { at = 0; why = Short }) ∷ []
 tm_shown (x ∷ xs) = records.RlcTm (length (x ∷ xs)) ∷ []
 
 abbrev pub um_shown : PdcpKind → Result UmdPdu RlcRefusal → List Record
-um_shown kind (Ok pdu) = records.RlcUm pdu.sn pdu.fi (map length pdu.elements) ∷ wholes_shown kind pdu.fi pdu.elements
+um_shown kind (Ok pdu) = records.RlcUm pdu.sn pdu.fi (map length pdu.elements)
+    ∷ wholes_shown kind pdu.fi pdu.elements
 um_shown kind (Err fault) = records.BadRlc fault ∷ []
 
 abbrev pub amd_shown : PdcpKind → AmdPdu → Option Segment → List Record
-amd_shown kind pdu None = records.RlcAm pdu.sn pdu.poll pdu.fi (map length pdu.elements) ∷ wholes_shown kind pdu.fi pdu.elements
-amd_shown kind pdu (Some s) = records.RlcSeg pdu.sn pdu.poll pdu.fi s.last s.so (map length pdu.elements) ∷ []
+amd_shown kind pdu None = records.RlcAm pdu.sn pdu.poll pdu.fi (map length pdu.elements)
+    ∷ wholes_shown kind pdu.fi pdu.elements
+amd_shown kind pdu (Some s) =
+    records.RlcSeg pdu.sn pdu.poll pdu.fi s.last s.so (map length pdu.elements) ∷ []
 
 abbrev pub am_shown : PdcpKind → Result AcknowledgedPdu RlcRefusal → List Record
 am_shown kind (Ok (Payload pdu)) = amd_shown kind pdu pdu.segment
@@ -98,7 +106,8 @@ rlc_shown (Some (layouts.Am kind)) octets = am_shown kind (am_at octets)
 unfoldable pub item_shown : List (Option Layout) → MacItem → List Record
 item_shown kinds front = records.MacFront ∷ []
 item_shown kinds (element control) = records.MacControl control ∷ []
-item_shown kinds (sdu lcid octets) = records.MacSdu lcid (length octets) ∷ rlc_shown (slice_index_or kinds lcid None) octets
+item_shown kinds (sdu lcid octets) =
+    records.MacSdu lcid (length octets) ∷ rlc_shown (slice_index_or kinds lcid None) octets
 item_shown kinds (padding octets) = records.MacPad octets ∷ []
 
 abbrev pub items_shown : List (Option Layout) → List MacItem → List Record

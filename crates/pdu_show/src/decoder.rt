@@ -66,7 +66,9 @@ fn append_block(
     block: &[u8],
 ) -> Result<(), NoMemory>
     requires { length block.now < 2 ^ 28 }
-    ensures { OnOk result (text.new ≡ text.old ++ texts_of (Record.Shown number direction (length block.now) ∷ block_shown direction kinds.now block.now)) }
+    ensures { OnOk result (text.new ≡ text.old
+        ++ texts_of (Record.Shown number direction (length block.now)
+        ∷ block_shown direction kinds.now block.now)) }
 {
     clear(records);
     records.push(Record::Shown {
@@ -93,7 +95,8 @@ impl Decoder {
         }
     }
 
-    /// Reads a line and adds the texts of its records to a text. A refused line changes nothing and adds nothing.
+    /// Reads a line and adds the texts of its records to a text. A refused line changes nothing and
+    /// adds nothing.
     pub fn line(&mut self, text: &[u8], out: &mut Bytes) -> Result<(), LineFault>
         ensures { Decodes self.old text.now self.new out.old out.new result }
     {

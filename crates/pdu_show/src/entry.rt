@@ -1,9 +1,11 @@
-ghost use Rattle.std.specs.Prelude.{◌≡◌, ◌≤◌, [], ◌∷◌, length, codes, IfOk, IfSome, Ok, Err, None, Some};
+ghost use Rattle.std.specs.Prelude.{◌≡◌, ◌≤◌, [], ◌∷◌, length, codes, IfOk, IfSome, Ok, Err, None};
+ghost use Rattle.std.specs.Prelude.{Some};
 ghost use Rattle.std.specs.Str.{bytes_eq};
 ghost use Rattle.bearer_types.specs.Configs.{IsConfig};
 ghost use Rattle.air_text.specs.Words.{Gives, words_of};
 ghost use Rattle.air_text.specs.Reading.{read_of};
-ghost use Rattle.pdu_show.specs.Entries.{HasEntry, IsHead, IsEntry, block_in, as_entry, entry_by, entry_words, entry_of};
+ghost use Rattle.pdu_show.specs.Entries.{HasEntry, IsHead, IsEntry, block_in, as_entry, entry_by};
+ghost use Rattle.pdu_show.specs.Entries.{entry_words, entry_of};
 
 use air_text::{LONGEST_LINE, Line, LineFault, LineRefusal, octets_into, read_line, split_word};
 use bearer_types::BearerConfig;
@@ -96,7 +98,8 @@ pub fn read_entry(alloc: Global, text: &[u8], octets: &mut Bytes) -> Result<Opti
 
 /// What a line of an input to be shown says, or none where it is empty or a comment.
 ///
-/// The text is the line without its line feed. A bearer's configuration and a block keep their ranges.
+/// The text is the line without its line feed. A bearer's configuration and a block keep their
+/// ranges.
 pub fn read_record(alloc: Global, text: &[u8]) -> Result<Option<Entry>, LineFault>
     ensures entry { Gives result (entry_of text.now) }
     ensures ranges { IfOk result (λ entry. IfSome entry IsEntry) }

@@ -66,7 +66,8 @@ impl Kinds {
         }
     }
 
-    /// Knows a bearer by its kind and the bits of its numbers, in place of one that was known on the logical channel.
+    /// Knows a bearer by its kind and the bits of its numbers, in place of one that was known on
+    /// the logical channel.
     ///
     /// `lcid` is 0 to 10; the bits are those that a configuration of the kind has.
     pub fn set(&mut self, lcid: u8, kind: Kind, rlc_bits: u32, pdcp_bits: u32)

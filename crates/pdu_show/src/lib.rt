@@ -1,4 +1,5 @@
-//! Blocks and what they carry, shown field by field: the items of MAC, and the RLC and PDCP PDUs in their SDUs.
+//! Blocks and what they carry, shown field by field: the items of MAC, and the RLC and PDCP PDUs in
+//! their SDUs.
 #![tactic(auto)]
 
 mod decoder;

@@ -1,9 +1,12 @@
-ghost use Rattle.std.specs.Prelude.{◌≡◌, ◌<◌, ◌^◌, ◌++◌, ◌∷◌, [], IfOk, OnOk, IfSome, is_some, length, map};
+ghost use Rattle.std.specs.Prelude.{◌≡◌, ◌<◌, ◌^◌, ◌++◌, ◌∷◌, [], IfOk, OnOk, IfSome, is_some};
+ghost use Rattle.std.specs.Prelude.{length, map};
 ghost use Rattle.rlc_pdu.specs.Pdus.{IsUmBits};
 ghost use Rattle.rlc_pdu.specs.Reading.{umd_at, am_at};
 ghost use Rattle.rlc_pdu.specs.Views.{elements_of, nacks_of, amd_of};
 ghost use Rattle.pdu_show.specs.Kinds.{IsLayout, IsPdcp};
-ghost use Rattle.pdu_show.specs.Show.{whole, whole_by, one_where, listed, begins, ends, pdcp_shown, wholes_shown, tm_shown, um_shown, amd_shown, am_shown, rlc_shown};
+ghost use Rattle.pdu_show.specs.Show.{whole, whole_by, one_where, listed, begins, ends, pdcp_shown};
+ghost use Rattle.pdu_show.specs.Show.{wholes_shown, tm_shown, um_shown, amd_shown, am_shown};
+ghost use Rattle.pdu_show.specs.Show.{rlc_shown};
 
 use crate::kinds::Layout;
 use crate::pdcp::show_pdcp;
@@ -63,7 +66,8 @@ fn show_one(
 ) -> Result<(), NoMemory>
     requires kind { IsPdcp kind }
     requires short { length element.now < 2 ^ 28 }
-    ensures { OnOk result (records.new ≡ records.old ++ map (pdcp_shown kind) (one_where is_whole element.now)) }
+    ensures { OnOk result (records.new ≡ records.old
+        ++ map (pdcp_shown kind) (one_where is_whole element.now)) }
 {
     if is_whole {
         records.push(show_pdcp(spares, kind, element)?)?;
@@ -80,7 +84,8 @@ fn show_wholes(
     elements: Elements<'_>,
 ) -> Result<(), NoMemory>
     requires { IsPdcp kind }
-    ensures { OnOk result (records.new ≡ records.old ++ wholes_shown kind fi (elements_of elements.entry)) }
+    ensures { OnOk result (records.new ≡ records.old
+        ++ wholes_shown kind fi (elements_of elements.entry)) }
 {
     let last = fi % 2 == 0;
     let mut first = fi < 2;
@@ -143,7 +148,8 @@ fn show_amd(
     amd: Amd<'_>,
 ) -> Result<(), NoMemory>
     requires { IsPdcp kind }
-    ensures { OnOk result (records.new ≡ records.old ++ amd_shown kind (amd_of amd.entry) amd.entry.segment) }
+    ensures { OnOk result (records.new ≡ records.old
+        ++ amd_shown kind (amd_of amd.entry) amd.entry.segment) }
 {
     let lens = lens(spares, amd.elements)?;
     if let Some(segment) = amd.segment {
@@ -185,7 +191,8 @@ fn show_am(
     }
 }
 
-/// Shows an RLC PDU of fewer than 2^28 octets by its layout, behind other records: nothing where no bearer is known.
+/// Shows an RLC PDU of fewer than 2^28 octets by its layout, behind other records: nothing where no
+/// bearer is known.
 #[tactic(auto, unfolding(crate::specs::Show::rlc_shown))]
 pub fn show_rlc(
     spares: &mut Spares,

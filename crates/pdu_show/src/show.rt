@@ -39,8 +39,8 @@ fn show_item(
 
 /// Shows a block of fewer than 2^28 octets behind other records.
 ///
-/// Of each SDU of a known bearer the RLC PDU is shown, and the PDCP PDUs that are whole in it. What can't be read is
-/// shown as such, in place of the records that it would have had.
+/// Of each SDU of a known bearer the RLC PDU is shown, and the PDCP PDUs that are whole in it. What
+/// can't be read is shown as such, in place of the records that it would have had.
 pub fn show_onto(
     alloc: Global,
     records: &mut Records,

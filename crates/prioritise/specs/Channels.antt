@@ -1,5 +1,6 @@
 -- Logical channels in the order in which a grant goes to them (TS 36.321 5.4.3.1).
-use Rattle.std.specs.Prelude.{ℕ, ◌+◌, ◌<◌, nat_lt, ◌==◌, Bool, ◌||◌, ◌&&◌, if◌then◌else◌, List, [], ◌∷◌, map}
+use Rattle.std.specs.Prelude.{ℕ, ◌+◌, ◌<◌, nat_lt, ◌==◌, Bool, ◌||◌, ◌&&◌, if◌then◌else◌, List, []}
+use Rattle.std.specs.Prelude.{◌∷◌, map}
 use Rattle.std.specs.List.{insert, All, IsDistinct, list_any}
 use Rattle.l2_types.specs.declared.channel.Channel.{Channel}
 
@@ -19,7 +20,8 @@ has lcid channels = list_any (λ c. lcid == c.lcid) channels
 
 -- a channel goes before another: by priority number, then by LCID
 abbrev pub goes_before : Channel → Channel → Bool
-goes_before a b = nat_lt a.priority b.priority || ((a.priority == b.priority) && nat_lt a.lcid b.lcid)
+goes_before a b = nat_lt a.priority b.priority
+    || ((a.priority == b.priority) && nat_lt a.lcid b.lcid)
 
 -- the place of a new channel: behind those that go before it
 abbrev pub place : Channel → List Channel → ℕ

@@ -1,5 +1,6 @@
 -- Buffer Size levels and the padding BSR (TS 36.321 5.4.5, 6.1.3.1).
-use Rattle.std.specs.Prelude.{ℕ, nat_lt, nat_le, if◌then◌else◌, Option, Some, None, unwrap_or, List, [], ◌∷◌, slice_index, position, count_by}
+use Rattle.std.specs.Prelude.{ℕ, nat_lt, nat_le, if◌then◌else◌, Option, Some, None, unwrap_or, List}
+use Rattle.std.specs.Prelude.{[], ◌∷◌, slice_index, position, count_by}
 use Rattle.mac_pdu.specs.declared.item.Bsr.{Bsr}
 use Rattle.mac_pdu.specs.declared.item.Bsr.TheVariants.{Truncated, Short, Long}
 
@@ -29,10 +30,14 @@ groups waiting = count_by (λ octets. nat_lt 0 octets) waiting
 abbrev pub first_group : List ℕ → ℕ
 first_group waiting = unwrap_or (position (λ octets. nat_lt 0 octets) waiting) 0
 
--- the report that fits into so many octets of padding: all groups, else one of several, else the only one
+-- the report that fits into so many octets of padding: all groups, else one of several, else the
+-- only one
 unfoldable pub report : List ℕ → ℕ → ℕ → Option Bsr
 report waiting top padding =
     if nat_lt padding 2 then None
-    else if nat_le 4 padding then Some (Long (level_at waiting 0 ∷ level_at waiting 1 ∷ level_at waiting 2 ∷ level_at waiting 3 ∷ []))
+    else if nat_le 4 padding
+    then Some
+    (Long (level_at waiting 0 ∷ level_at waiting 1 ∷ level_at waiting 2 ∷ level_at waiting 3
+    ∷ []))
     else if nat_lt 1 (groups waiting) then Some (Truncated top (level_at waiting top))
     else Some (Short (first_group waiting) (level_at waiting (first_group waiting)))

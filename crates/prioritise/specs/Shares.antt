@@ -1,5 +1,6 @@
 -- Shares of a grant by two rounds over the channels (TS 36.321 5.4.3.1).
-use Rattle.std.specs.Prelude.{ℕ, ◌+◌, ◌-◌, ◌*◌, min, Option, Some, None, List, [], ◌∷◌, slice_index, slice_set, replicate, sum_by}
+use Rattle.std.specs.Prelude.{ℕ, ◌+◌, ◌-◌, ◌*◌, min, Option, Some, None, List, [], ◌∷◌, slice_index}
+use Rattle.std.specs.Prelude.{slice_set, replicate, sum_by}
 use Rattle.l2_types.specs.declared.channel.Channel.{Channel}
 use Rattle.prioritise.specs.Channels.{put}
 
@@ -34,7 +35,8 @@ grown (Some rate) duration level = min (level + rate) (rate * duration)
 
 abbrev pub all_grown : List Channel → List ℕ → List ℕ
 all_grown [] levels = levels
-all_grown (c ∷ cs) levels = all_grown cs (slice_set levels c.lcid (grown c.pbr c.bucket (slice_index levels c.lcid)))
+all_grown (c ∷ cs) levels =
+    all_grown cs (slice_set levels c.lcid (grown c.pbr c.bucket (slice_index levels c.lcid)))
 
 unfoldable pub ticked : Bucketed → Bucketed
 ticked b = bucketed b.channels (all_grown b.channels b.levels)
@@ -59,7 +61,8 @@ fallen (Some rate) level x = level - x
 
 -- round one gives a channel the least of its need, its bucket and what is left
 abbrev pub first_part : Channel → List ℕ → Giving → ℕ
-first_part c needs g = bounded c.pbr (slice_index g.levels c.lcid) (min (slice_index needs c.lcid) g.left)
+first_part c needs g =
+    bounded c.pbr (slice_index g.levels c.lcid) (min (slice_index needs c.lcid) g.left)
 
 abbrev pub first_given : Channel → ℕ → Giving → Giving
 first_given c x g = record {

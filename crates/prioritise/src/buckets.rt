@@ -2,7 +2,8 @@
 ghost use Rattle.std.specs.Prelude.{◌≡◌, ◌<◌, ◌≤◌, length, false};
 ghost use Rattle.std.specs.List.{All};
 ghost use Rattle.prioritise.specs.Channels.{place};
-ghost use Rattle.prioritise.specs.Shares.{bucketed, shared, round_one, round_two, all_grown, grown, bounded, fallen};
+ghost use Rattle.prioritise.specs.Shares.{bucketed, shared, round_one, round_two, all_grown, grown};
+ghost use Rattle.prioritise.specs.Shares.{bounded, fallen};
 
 use crate::channel::is_before;
 use arrayvec::ArrayVec;
@@ -30,7 +31,8 @@ impl Gifts {
 
     fn give_first(&mut self, channel: &Channel, needs: &[u32; 11])
         requires { channel.now.lcid < 11 }
-        ensures { self.new ≡ first_given channel.now (first_part channel.now needs.now self.old) self.old }
+        ensures { self.new ≡ first_given channel.now (first_part channel.now needs.now self.old)
+            self.old }
     {
         let at = channel.lcid as usize;
         let level = self.levels[at];
@@ -42,7 +44,8 @@ impl Gifts {
 
     fn give_second(&mut self, channel: &Channel, needs: &[u32; 11])
         requires { channel.now.lcid < 11 }
-        ensures { self.new ≡ second_given channel.now (second_part channel.now needs.now self.old) self.old }
+        ensures { self.new ≡ second_given channel.now (second_part channel.now needs.now self.old)
+            self.old }
     {
         let at = channel.lcid as usize;
         let part = needs[at].saturating_sub(self.shares[at]).min(self.left);
@@ -72,7 +75,8 @@ impl Model for Buckets {
 
 impl Buckets {
     ghost use Rattle.prioritise.specs.Channels.{AreSound, has};
-    ghost use Rattle.prioritise.specs.Shares.{over, no_channels, added, emptied, ticked, allotted, after_allot};
+    ghost use Rattle.prioritise.specs.Shares.{over, no_channels, added, emptied, ticked, allotted};
+    ghost use Rattle.prioritise.specs.Shares.{after_allot};
 
     /// No channels.
     #[tactic(auto, unfolding(crate::specs::Shares::no_channels))]
@@ -95,7 +99,8 @@ impl Buckets {
             .any(|channel| lcid == channel.lcid)
     }
 
-    /// Adds a channel with an empty bucket, whose LCID is 0 to 10 and isn't there, and whose group is 0 to 3.
+    /// Adds a channel with an empty bucket, whose LCID is 0 to 10 and isn't there, and whose group
+    /// is 0 to 3.
     #[tactic(auto, unfolding(crate::specs::Shares::added))]
     pub fn add(&mut self, channel: Channel)
         requires lcid { channel.lcid < 11 }
@@ -131,8 +136,8 @@ impl Buckets {
         self.levels = [0; 11];
     }
 
-    /// The shares of a grant, in octets by LCID, for what each channel needs: 0 for an LCID that isn't
-    /// there. The buckets fall by what round one gave.
+    /// The shares of a grant, in octets by LCID, for what each channel needs: 0 for an LCID that
+    /// isn't there. The buckets fall by what round one gave.
     #[tactic(auto, unfolding(crate::specs::Shares::allotted, crate::specs::Shares::after_allot))]
     pub fn allot(&mut self, needs: &[u32; 11], grant: u32) -> [u32; 11]
         ensures shares { result ≡ allotted self.old needs.now grant }

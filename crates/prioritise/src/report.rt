@@ -38,9 +38,9 @@ fn first_reaching(edges: &[u32], octets: u64) -> Option<usize>
     edges.iter().position(|edge| octets <= *edge as u64)
 }
 
-/// The padding BSR for what waits in each group, in octets; `top` is the group of the highest-priority
-/// channel with data. Four octets of padding or more have room for all levels, two or three for one.
-/// None exactly where there are fewer than two.
+/// The padding BSR for what waits in each group, in octets; `top` is the group of the
+/// highest-priority channel with data. Four octets of padding or more have room for all levels, two
+/// or three for one. None exactly where there are fewer than two.
 #[tactic(auto, unfolding(crate::specs::Levels::report))]
 pub fn choose(waiting: &[u64; 4], top: u8, padding: u32) -> Option<Bsr>
     requires { top < 4 }

@@ -30,8 +30,8 @@ block_told side t kinds octets =
 
 -- a block of the grant's size, the canonical writing in it of at most one report and the PDUs that
 -- are told of as sent, channel by channel and in that order; it is read as padding of one or two
--- octets or none, these, and the other padding; each PDU is the one that is told, in the mode of its
--- channel
+-- octets or none, these, and the other padding; each PDU is the one that is told, in the mode of
+-- its channel
 pub record IsTold (side : Side) (grant : ℕ) (events : List Event) (octets : List ℕ) : Type 0 where
   pub size_is : length octets ≡ grant
   pub fronts : ℕ

@@ -1,5 +1,6 @@
 -- The entries of a STATUS, one by one, and its size.
-use Rattle.std.proofs.Common.{◌≡◌, ◌<◌, ◌≤◌, ℕ, suc, zero, ◌+◌, ◌-◌, ◌*◌, Bool, true, false, List, [], ◌∷◌, length, drop, map, Option, Some, None, is_some, refl, arith, drop-cons, get_or, cond, leb}
+use Rattle.std.proofs.Common.{◌≡◌, ◌<◌, ◌≤◌, ℕ, suc, zero, ◌+◌, ◌-◌, ◌*◌, Bool, true, false, List, [], ◌∷◌, length}
+use Rattle.std.proofs.Common.{drop, map, Option, Some, None, is_some, refl, arith, drop-cons, get_or, cond, leb}
 use Rattle.std.proofs.lemmas.Bool.{le-leb, lt-leb, leb-true}
 use Rattle.std.proofs.lemmas.List.Elements.{All-push, All-nil}
 use Rattle.rlc_pdu.specs.Pdus.{IsPart}
@@ -16,12 +17,14 @@ fits_one all i room d h g =
     let one : i + 1 ≡ suc i = omega arith in
     rw (here, one, le-leb (entry_bits (get_or all i d)) room g) refl
 
-pub fits_none : (all : List Missing) (i room : ℕ) (d : Missing) → i < length all → room < entry_bits (get_or all i d) → fitting room (drop i all) ≡ []
+pub fits_none : (all : List Missing) (i room : ℕ) (d : Missing) → i < length all → room < entry_bits (get_or all i d)
+    → fitting room (drop i all) ≡ []
 fits_none all i room d h g =
     let here : drop i all ≡ get_or all i d ∷ drop (suc i) all = drop-cons all i d h in
     rw (here, lt-leb (entry_bits (get_or all i d)) room g) refl
 
-pub ranges_at : (all : List Missing) (i : ℕ) (d : Missing) → i < length all → AreRanges all → IsPart (get_or all i d).part
+pub ranges_at : (all : List Missing) (i : ℕ) (d : Missing) → i < length all → AreRanges all
+    → IsPart (get_or all i d).part
 ranges_at [] i d h r = absurd (omega (arith, h))
 ranges_at (m ∷ ms) zero d h r = r.0
 ranges_at (m ∷ ms) (suc i) d h r = ranges_at ms i d (omega (arith, h)) r.1
@@ -47,11 +50,14 @@ fits_in : (room : ℕ) (ms : List Missing) → entries_bits (fitting room ms) �
 fits_in room [] = omega arith
 fits_in room (m ∷ ms) = go (leb (entry_bits m) room) refl (fits_in (room - entry_bits m) ms)
   where
-    go : (b : Bool) → leb (entry_bits m) room ≡ b → entries_bits (fitting (room - entry_bits m) ms) ≤ room - entry_bits m → entries_bits (cond b (m ∷ fitting (room - entry_bits m) ms) []) ≤ room
+    go : (b : Bool) → leb (entry_bits m) room ≡ b
+        → entries_bits (fitting (room - entry_bits m) ms) ≤ room - entry_bits m
+        → entries_bits (cond b (m ∷ fitting (room - entry_bits m) ms) []) ≤ room
     go true e rest = omega (arith, leb-true (entry_bits m) room e, rest)
     go false e rest = omega arith
 
-pub within_size : (size : ℕ) (ms : List Missing) → 2 ≤ size → status_size (map nack_of (fitting (room_in size) ms)) ≤ size
+pub within_size : (size : ℕ) (ms : List Missing) → 2 ≤ size
+    → status_size (map nack_of (fitting (room_in size) ms)) ≤ size
 within_size size ms h = omega (arith, sizes_of (fitting (8 * size - 15) ms), fits_in (8 * size - 15) ms, h)
 
 pub ruleset writing = (within_size)

@@ -1,5 +1,6 @@
 -- The receiver's calls: what each leaves and answers (TS 36.322 5.1.3.2, 5.2.3).
-use Rattle.std.specs.Prelude.{ℕ, ◌+◌, ◌-◌, Bool, true, false, ◌||◌, ◌&&◌, if◌then◌else◌, List, drop, Option, Some, None, option_map, is_none, nat_le, nat_lt}
+use Rattle.std.specs.Prelude.{ℕ, ◌+◌, ◌-◌, Bool, true, false, ◌||◌, ◌&&◌, if◌then◌else◌, List, drop}
+use Rattle.std.specs.Prelude.{Option, Some, None, option_map, is_none, nat_le, nat_lt}
 use Rattle.l2_num.specs.Timers.{Clock, begun, ceased, ticked, ends}
 use Rattle.rlc_pdu.specs.declared.Landed.{Landed}
 use Rattle.rlc_pdu.specs.declared.Landed.TheVariants.{Kept as Fresh, Repeat, Outside, Clash}
@@ -8,7 +9,9 @@ use Rattle.rlc_pdu.specs.declared.Expired.{Expired}
 use Rattle.rlc_pdu.specs.declared.Expired.TheVariants.{Done, NotRunning}
 use Rattle.rlc_pdu.specs.Pdus.{AmdPdu}
 use Rattle.rlc_am_rx_window.specs.Piece.{piece_of}
-use Rattle.rlc_am_rx_window.specs.Window.{Kept, top, offset_of, first_incomplete, polled_in, landed as landed_in, with_kept, handed_on, advanced, salvaged}
+use Rattle.rlc_am_rx_window.specs.Window.{Kept, top, offset_of, first_incomplete, polled_in}
+use Rattle.rlc_am_rx_window.specs.Window.{landed as landed_in, with_kept, handed_on, advanced}
+use Rattle.rlc_am_rx_window.specs.Window.{salvaged}
 use Rattle.rlc_am_rx.specs.State.{State}
 use Rattle.rlc_am_rx.specs.Status.{is_running}
 
@@ -36,7 +39,10 @@ abbrev pub clock_begun : Bool → Clock → Clock
 clock_begun started c = if started then begun c else c
 
 abbrev pub turned_by : Option ℕ → Kept → Turned
-turned_by mark w = record { stopped = stops mark w.front; started = starts (mark_left mark w.front) w.front (top w) }
+turned_by mark w = record {
+  stopped = stops mark w.front;
+  started = starts (mark_left mark w.front) w.front (top w);
+}
 
 -- ---- a PDU
 
@@ -53,7 +59,8 @@ bound_moved w bound = w.front + first_incomplete w.slots (bound - w.front)
 
 -- a polled number comes to lie below it
 abbrev pub poll_passed : Kept → ℕ → Bool
-poll_passed w bound = polled_in w.slots (bound - w.front) (first_incomplete w.slots (bound - w.front))
+poll_passed w bound =
+    polled_in w.slots (bound - w.front) (first_incomplete w.slots (bound - w.front))
 
 -- a poll in the number at a place lies below it
 abbrev pub poll_below : Kept → ℕ → ℕ → Bool → Bool
@@ -66,7 +73,8 @@ settled s w at poll = record s {
   out = handed_on s.out w.slots w.given;
   bound = bound_moved w s.bound;
   mark = mark_begun (mark_left s.mark (advanced w).front) (advanced w).front (top (advanced w));
-  reorder = clock_begun (turned_by s.mark (advanced w)).started (clock_left (turned_by s.mark (advanced w)).stopped s.reorder);
+  reorder = clock_begun (turned_by s.mark (advanced w)).started
+      (clock_left (turned_by s.mark (advanced w)).stopped s.reorder);
   due = s.due || poll_below w s.bound at poll || poll_passed w s.bound;
 }
 

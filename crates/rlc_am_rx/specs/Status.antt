@@ -1,5 +1,6 @@
 -- The STATUS that a receiver writes (TS 36.322 5.2.3).
-use Rattle.std.specs.Prelude.{ℕ, ◌-◌, ◌*◌, ◌%◌, ◌==◌, nat_le, slice_get, Bool, false, not, ◌&&◌, if◌then◌else◌, List, [], ◌∷◌, map, length, drop, Option, Some, None}
+use Rattle.std.specs.Prelude.{ℕ, ◌-◌, ◌*◌, ◌%◌, ◌==◌, nat_le, slice_get, Bool, false, not, ◌&&◌}
+use Rattle.std.specs.Prelude.{if◌then◌else◌, List, [], ◌∷◌, map, length, drop, Option, Some, None}
 use Rattle.rlc_pdu.specs.declared.Nack.{Nack}
 use Rattle.rlc_pdu.specs.Status.{status_size}
 use Rattle.l2_num.specs.Timers.{Clock, runs}
@@ -26,7 +27,8 @@ listed s = missing s.window s.bound
 -- the longest beginning of entries that fits into so many bits
 abbrev pub fitting : ℕ → List Missing → List Missing
 fitting room [] = []
-fitting room (m ∷ ms) = if nat_le (entry_bits m) room then m ∷ fitting (room - entry_bits m) ms else []
+fitting room (m ∷ ms) = if nat_le (entry_bits m) room then m ∷ fitting (room - entry_bits m) ms
+    else []
 
 -- what so many octets leave to entries: D/C, CPT, ACK_SN and E1 take 15 bits (TS 36.322 6.2.1.6)
 abbrev pub room_in : ℕ → ℕ
@@ -49,16 +51,19 @@ abbrev pub is_same : ℕ → Option ℕ → Bool
 is_same n None = false
 is_same n (Some m) = n == m
 
--- the first number of entries left out that isn't the last that has an entry; the bound where there is none
+-- the first number of entries left out that isn't the last that has an entry; the bound where there
+-- is none
 abbrev pub next_number : List Missing → Option ℕ → ℕ → ℕ
 next_number [] last bound = bound
-next_number (m ∷ ms) last bound = if is_same m.number last then next_number ms last bound else m.number
+next_number (m ∷ ms) last bound = if is_same m.number last then next_number ms last bound
+    else m.number
 
 -- the ACK behind the first so many entries
 abbrev pub ack_behind : List Missing → ℕ → ℕ → ℕ
 ack_behind ms count bound = next_number (drop count ms) (last_number ms count) bound
 
--- the ACK of a STATUS of at most so many octets: the next number that isn't complete and has no entry
+-- the ACK of a STATUS of at most so many octets: the next number that isn't complete and has no
+-- entry
 abbrev pub ack : State → ℕ → ℕ
 ack s size = ack_behind (listed s) (length (chosen s size)) s.bound
 

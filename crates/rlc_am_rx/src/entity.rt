@@ -1,4 +1,5 @@
-ghost use Rattle.std.specs.Prelude.{◌≡◌, ◌<◌, ◌≤◌, ◌^◌, ◌%◌, length, slice_get, OnOk, OnErr, IfOk, IfErr, IsErr, IsTrue};
+ghost use Rattle.std.specs.Prelude.{◌≡◌, ◌<◌, ◌≤◌, ◌^◌, ◌%◌, length, slice_get, OnOk, OnErr, IfOk};
+ghost use Rattle.std.specs.Prelude.{IfErr, IsErr, IsTrue};
 ghost use Rattle.l2_bits.specs.Bits.{bits_of};
 ghost use Rattle.l2_num.specs.Timers.{ends};
 ghost use Rattle.rlc_pdu.specs.Views.{amd_of};
@@ -6,7 +7,9 @@ ghost use Rattle.rlc_pdu.specs.Status.{status_size};
 ghost use Rattle.rlc_pdu.specs.Writing.{status_written};
 ghost use Rattle.rlc_am_rx.specs.State.{fresh};
 ghost use Rattle.rlc_am_rx.specs.Status.{may_write, ack, nacks, whole_size};
-ghost use Rattle.rlc_am_rx.specs.Machine.{landed, arrived, turned, after_reorder, reorder_answer, after_prohibit, prohibit_answer, reorder_ticked, prohibit_ticked, prohibit_ends, written, taken, finished};
+ghost use Rattle.rlc_am_rx.specs.Machine.{landed, arrived, turned, after_reorder, reorder_answer};
+ghost use Rattle.rlc_am_rx.specs.Machine.{after_prohibit, prohibit_answer, reorder_ticked};
+ghost use Rattle.rlc_am_rx.specs.Machine.{prohibit_ticked, prohibit_ends, written, taken, finished};
 ghost use Rattle.rlc_am_rx.specs.Entity.{alive};
 
 use crate::receiver::Receiver;
@@ -18,8 +21,8 @@ use std::marker::Model;
 
 /// The receiving side of an acknowledged RLC entity.
 ///
-/// Where memory runs out in a call, it answers `NoMemory` from then on to each call that can, and of its other
-/// answers nothing is said.
+/// Where memory runs out in a call, it answers `NoMemory` from then on to each call that can, and
+/// of its other answers nothing is said.
 #[derive(Drop)]
 pub struct AmRx {
     receiver: Receiver,
@@ -45,12 +48,14 @@ impl AmRx {
         })
     }
 
-    /// Takes an AMD PDU or a segment of one, whose number has 10 bits (TS 36.322 5.1.3.2.2, 5.1.3.2.3).
+    /// Takes an AMD PDU or a segment of one, whose number has 10 bits (TS 36.322 5.1.3.2.2,
+    /// 5.1.3.2.3).
     ///
-    /// It is `Outside` where its number isn't one of the 512 from VR(R) on; else a `Repeat` where no octet of it is
-    /// new; else a `Clash` where octets that are held disagree on the field's length or on a place where an SDU ends,
-    /// or where an octet lies past place 32766 of its field. Else it is `Kept`. A poll in a PDU that is dropped makes
-    /// a STATUS due, but not in a `Clash`. Also told is what became of the reordering timer.
+    /// It is `Outside` where its number isn't one of the 512 from VR(R) on; else a `Repeat` where
+    /// no octet of it is new; else a `Clash` where octets that are held disagree on the field's
+    /// length or on a place where an SDU ends, or where an octet lies past place 32766 of its
+    /// field. Else it is `Kept`. A poll in a PDU that is dropped makes a STATUS due, but not in a
+    /// `Clash`. Also told is what became of the reordering timer.
     pub fn arrive(&mut self, pdu: &Amd<'_>) -> Result<(Landed, Turned), NoMemory>
         requires { pdu.now.sn < 1024 }
         ensures landed { IfOk result (λ r. r.0 ≡ landed self.old.state (amd_of pdu.now)) }
@@ -89,14 +94,16 @@ impl AmRx {
         self.receiver.status_size()
     }
 
-    /// Writes a STATUS of at most so many octets, 2 or more, where one may be written (TS 36.322 5.2.3).
+    /// Writes a STATUS of at most so many octets, 2 or more, where one may be written (TS 36.322
+    /// 5.2.3).
     ///
-    /// It has the longest beginning of its entries that fits. Its ACK_SN is the next number that isn't complete and
-    /// has no entry. The prohibit timer starts, if it isn't off.
+    /// It has the longest beginning of its entries that fits. Its ACK_SN is the next number that
+    /// isn't complete and has no entry. The prohibit timer starts, if it isn't off.
     pub fn write_status(&mut self, size: u32) -> Result<Bytes, NoMemory>
         requires due { IsTrue (may_write self.old.state) }
         requires size { 2 ≤ size }
-        ensures bits { IfOk result (λ pdu. bits_of pdu ≡ status_written (ack self.old.state size % 1024) (nacks self.old.state size)) }
+        ensures bits { IfOk result (λ pdu. bits_of pdu
+            ≡ status_written (ack self.old.state size % 1024) (nacks self.old.state size)) }
         ensures size { IfOk result (λ pdu. length pdu ≡ status_size (nacks self.old.state size)) }
         ensures within { IfOk result (λ pdu. length pdu ≤ size) }
         ensures state { OnOk result (self.new ≡ alive (written self.old.state)) }
@@ -127,11 +134,15 @@ impl AmRx {
         self.receiver.tick_prohibit()
     }
 
-    /// The reordering timer expires (TS 36.322 5.1.3.2.4): VR(MS) becomes the first number at or above VR(X) that
-    /// isn't complete, a STATUS is due, and the timer starts again where VR(H) lies above VR(MS).
+    /// The reordering timer expires (TS 36.322 5.1.3.2.4): VR(MS) becomes the first number at or
+    /// above VR(X) that isn't complete, a STATUS is due, and the timer starts again where VR(H)
+    /// lies above VR(MS).
     pub fn expire_reorder(&mut self) -> Expired
         ensures answer { result ≡ reorder_answer self.old.state.mark self.old.state }
-        ensures state { self.new ≡ record self.old { state = after_reorder self.old.state.mark self.old.state } }
+        ensures state { self.new ≡ record self.old {
+          state =
+              after_reorder self.old.state.mark self.old.state;
+        } }
     {
         self.receiver.expire_reorder()
     }
@@ -144,8 +155,8 @@ impl AmRx {
         self.receiver.expire_prohibit()
     }
 
-    /// Ends the receiver (TS 36.322 5.4): the SDUs that are ready, and those that can still be put together from what
-    /// is held behind gaps.
+    /// Ends the receiver (TS 36.322 5.4): the SDUs that are ready, and those that can still be put
+    /// together from what is held behind gaps.
     pub fn finish(mut self) -> Result<Packets, (AmRx, NoMemory)>
         ensures sdus { IfOk result (λ sdus. sdus ≡ finished self.state) }
         ensures dead { IsTrue self.dead → IsErr result }

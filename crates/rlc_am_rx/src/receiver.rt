@@ -1,5 +1,7 @@
 //! The receiver's rules.
-ghost use Rattle.std.specs.Prelude.{◌≡◌, [], ◌∷◌, ◌++◌, ◌+◌, ◌*◌, ◌<◌, ◌≤◌, ◌^◌, ◌%◌, ◌||◌, ◌&&◌, length, drop, OnOk, IfOk, is_none, nat_lt, slice_get, option_map};
+ghost use Rattle.std.specs.Prelude.{◌≡◌, [], ◌∷◌, ◌++◌, ◌+◌, ◌*◌, ◌<◌, ◌≤◌, ◌^◌, ◌%◌, ◌||◌, ◌&&◌};
+ghost use Rattle.std.specs.Prelude.{length, drop, OnOk, IfOk, is_none, nat_lt, slice_get};
+ghost use Rattle.std.specs.Prelude.{option_map};
 ghost use Rattle.l2_bits.specs.Bits.{bits_of};
 ghost use Rattle.l2_num.specs.Timers.{Clock, stopped, runs, ends, begun, ceased};
 ghost use Rattle.rlc_pdu.specs.Pdus.{IsSegment};
@@ -9,8 +11,13 @@ ghost use Rattle.rlc_pdu.specs.Writing.{status_written};
 ghost use Rattle.rlc_am_rx_window.specs.Window.{offset_of, advanced, top};
 ghost use Rattle.rlc_am_rx_window.specs.Piece.{piece_of, end_of};
 ghost use Rattle.rlc_am_rx.specs.State.{fresh};
-ghost use Rattle.rlc_am_rx.specs.Status.{is_running, may_write, listed, chosen, ack, nacks, whole_size};
-ghost use Rattle.rlc_am_rx.specs.Machine.{stops, mark_left, starts, mark_begun, clock_left, clock_begun, turned_by, landed, window_with, bound_moved, settled, arrived, turned, after_reorder, reorder_answer, after_prohibit, prohibit_answer, reorder_ticked, prohibit_ticked, prohibit_ends, written, taken, finished};
+ghost use Rattle.rlc_am_rx.specs.Status.{is_running, may_write, listed, chosen, ack, nacks};
+ghost use Rattle.rlc_am_rx.specs.Status.{whole_size};
+ghost use Rattle.rlc_am_rx.specs.Machine.{stops, mark_left, starts, mark_begun, clock_left};
+ghost use Rattle.rlc_am_rx.specs.Machine.{clock_begun, turned_by, landed, window_with, bound_moved};
+ghost use Rattle.rlc_am_rx.specs.Machine.{settled, arrived, turned, after_reorder, reorder_answer};
+ghost use Rattle.rlc_am_rx.specs.Machine.{after_prohibit, prohibit_answer, reorder_ticked};
+ghost use Rattle.rlc_am_rx.specs.Machine.{prohibit_ticked, prohibit_ends, written, taken, finished};
 
 use crate::report::{ack_behind, choose};
 use l2_bits::{Bytes, NoMemory, Packets};
@@ -40,7 +47,15 @@ impl Model for Receiver {
 
     ghost Value = { State };
 
-    ghost view = { λ r. record { window = r.window; out = r.out; bound = r.bound; mark = r.mark; reorder = r.reorder; prohibit = r.prohibit; due = r.due } };
+    ghost view = { λ r. record {
+      window = r.window;
+      out = r.out;
+      bound = r.bound;
+      mark = r.mark;
+      reorder = r.reorder;
+      prohibit = r.prohibit;
+      due = r.due;
+    } };
 }
 
 impl Receiver {
@@ -87,8 +102,12 @@ impl Receiver {
         requires sn { pdu.now.sn < 1024 }
         requires within { offset_of self.old.window.front pdu.now.sn < 512 }
         requires fits { end_of (piece_of (amd_of pdu.now)) ≤ 32767 }
-        ensures state { OnOk result (self.new ≡ settled self.old (window_with self.old.window (amd_of pdu.now)) (offset_of self.old.window.front pdu.now.sn) pdu.now.poll) }
-        ensures turned { IfOk result (λ t. t ≡ turned_by self.old.mark (advanced (window_with self.old.window (amd_of pdu.now)))) }
+        ensures state { OnOk result
+            (self.new ≡ settled self.old (window_with self.old.window (amd_of pdu.now))
+            (offset_of self.old.window.front pdu.now.sn) pdu.now.poll) }
+        ensures turned { IfOk result
+            (λ t. t ≡ turned_by self.old.mark
+            (advanced (window_with self.old.window (amd_of pdu.now)))) }
     {
         let at = self.window.offset(pdu.sn);
         self.window.keep(at, pdu)?;
@@ -128,7 +147,8 @@ impl Receiver {
     #[tactic(auto, using(crate::proofs::ReportLemmas::writing))]
     pub(crate) fn write_status(&mut self, size: u32) -> Result<Bytes, NoMemory>
         requires { 2 ≤ size }
-        ensures bits { IfOk result (λ pdu. bits_of pdu ≡ status_written (ack self.old size % 1024) (nacks self.old size)) }
+        ensures bits { IfOk result (λ pdu. bits_of pdu
+            ≡ status_written (ack self.old size % 1024) (nacks self.old size)) }
         ensures size { IfOk result (λ pdu. length pdu ≡ status_size (nacks self.old size)) }
         ensures within { IfOk result (λ pdu. length pdu ≤ size) }
         ensures state { OnOk result (self.new ≡ written self.old) }
@@ -218,7 +238,9 @@ fn turn(mark: &mut Option<u64>, reorder: &mut Timer, front: u64, top: u64) -> Tu
     ensures mark { mark.new ≡ mark_begun (mark_left mark.old front) front top }
     ensures stopped { result.stopped ≡ stops mark.old front }
     ensures started { result.started ≡ starts (mark_left mark.old front) front top }
-    ensures reorder { reorder.new ≡ clock_begun (starts (mark_left mark.old front) front top) (clock_left (stops mark.old front) reorder.old) }
+    ensures reorder { reorder.new
+        ≡ clock_begun (starts (mark_left mark.old front) front top)
+        (clock_left (stops mark.old front) reorder.old) }
 {
     let stopped = mark.is_some_and(|x| x <= front);
     if stopped {

@@ -1,8 +1,10 @@
 //! The entries and the ACK of a STATUS.
-ghost use Rattle.std.specs.Prelude.{◌≡◌, ℕ, [], ◌∷◌, ◌++◌, ◌+◌, ◌-◌, ◌*◌, ◌<◌, ◌≤◌, ◌^◌, map, length, drop, OnOk, IfOk, All};
+ghost use Rattle.std.specs.Prelude.{◌≡◌, ℕ, [], ◌∷◌, ◌++◌, ◌+◌, ◌-◌, ◌*◌, ◌<◌, ◌≤◌, ◌^◌, map};
+ghost use Rattle.std.specs.Prelude.{length, drop, OnOk, IfOk, All};
 ghost use Rattle.rlc_pdu.specs.Pdus.{IsNack, IsPart};
 ghost use Rattle.rlc_am_rx_window.specs.Missing.{entry_bits, AreRanges};
-ghost use Rattle.rlc_am_rx.specs.Status.{nack_of, fitting, room_in, last_number, is_same, next_number, ack_behind};
+ghost use Rattle.rlc_am_rx.specs.Status.{nack_of, fitting, room_in, last_number, is_same};
+ghost use Rattle.rlc_am_rx.specs.Status.{next_number, ack_behind};
 
 use l2_bits::NoMemory;
 use rlc_am_rx_window::Missing;

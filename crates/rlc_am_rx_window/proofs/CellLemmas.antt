@@ -1,5 +1,7 @@
 -- New cells beside those that are held, and the places before the first that isn't.
-use Rattle.std.proofs.Common.{◌≡◌, ◌≤◌, ℕ, suc, zero, ◌+◌, ◌-◌, Bool, true, false, ◌&&◌, List, [], ◌∷◌, ◌++◌, length, take, drop, map, replicate, Option, Some, None, is_some, refl, ap, ◌∙◌, arith, length-drop, leb}
+use Rattle.std.proofs.Common.{◌≡◌, ◌≤◌, ℕ, suc, zero, ◌+◌, ◌-◌, Bool, true, false, ◌&&◌, List, [], ◌∷◌, ◌++◌, length}
+use Rattle.std.proofs.Common.{take, drop, map, replicate, Option, Some, None, is_some, refl, ap, ◌∙◌, arith}
+use Rattle.std.proofs.Common.{length-drop, leb}
 use Rattle.std.proofs.lemmas.Bool.{lt-leb}
 use Rattle.std.proofs.lemmas.Bool.Decides.{nat_tests}
 use Rattle.std.specs.List.{list_all}
@@ -13,7 +15,8 @@ over_nil [] = refl
 over_nil (c ∷ cs) = refl
 
 -- beside a gap new cells stand as they are
-pub over_gap : (g : ℕ) (xs ns ms : List (Option Cell)) → length ns ≤ g → over (replicate g None ++ xs) (ns ++ ms) ≡ ns ++ over (replicate (g - length ns) None ++ xs) ms
+pub over_gap : (g : ℕ) (xs ns ms : List (Option Cell)) → length ns ≤ g
+    → over (replicate g None ++ xs) (ns ++ ms) ≡ ns ++ over (replicate (g - length ns) None ++ xs) ms
 over_gap g xs [] ms h = let e : g - 0 ≡ g = omega arith in rw e refl
 over_gap zero xs (n ∷ ns) ms h = absurd (omega (arith, h))
 over_gap (suc g) xs (n ∷ ns) ms h =
@@ -21,7 +24,8 @@ over_gap (suc g) xs (n ∷ ns) ms h =
     rw e (ap (λ (os : List (Option Cell)). n ∷ os) (over_gap g xs ns ms (omega (arith, h))))
 
 -- behind all that is held too
-pub over_end : (r : ℕ) (ns ms : List (Option Cell)) → over (replicate r None) (ns ++ ms) ≡ ns ++ over (replicate (r - length ns) None) ms
+pub over_end : (r : ℕ) (ns ms : List (Option Cell))
+    → over (replicate r None) (ns ++ ms) ≡ ns ++ over (replicate (r - length ns) None) ms
 over_end r [] ms = let e : r - 0 ≡ r = omega arith in rw e refl
 over_end zero (n ∷ ns) ms = let e : 0 - suc (length ns) ≡ 0 = omega arith in rw e refl
 over_end (suc r) (n ∷ ns) ms =
@@ -29,7 +33,8 @@ over_end (suc r) (n ∷ ns) ms =
     rw e (ap (λ (os : List (Option Cell)). n ∷ os) (over_end r ns ms))
 
 -- octets that are held stay
-pub over_held : (cs : List Cell) (xs ms : List (Option Cell)) → over (map (λ c. Some c) cs ++ xs) ms ≡ map (λ c. Some c) cs ++ over xs (drop (length cs) ms)
+pub over_held : (cs : List Cell) (xs ms : List (Option Cell))
+    → over (map (λ c. Some c) cs ++ xs) ms ≡ map (λ c. Some c) cs ++ over xs (drop (length cs) ms)
 over_held [] xs ms = refl
 over_held (c ∷ cs) xs [] = ap (λ (os : List (Option Cell)). Some c ∷ os) (go cs)
   where
@@ -64,7 +69,8 @@ drop_nil (suc n) = refl
 pub drop_both : (n : ℕ) (xs ys : List (Option Cell)) → drop n (xs ++ ys) ≡ drop n xs ++ drop (n - length xs) ys
 drop_both n [] ys = let e : n - 0 ≡ n = omega arith in rw (e, drop_nil n) refl
 drop_both zero (x ∷ xs) ys = let e : 0 - suc (length xs) ≡ 0 = omega arith in rw e refl
-drop_both (suc n) (x ∷ xs) ys = let e : suc n - suc (length xs) ≡ n - length xs = omega arith in rw e (drop_both n xs ys)
+drop_both (suc n) (x ∷ xs) ys = let e : suc n - suc (length xs) ≡ n - length xs = omega arith in
+    rw e (drop_both n xs ys)
 
 pub drop_gap : (n k : ℕ) → drop n (replicate {A = Option Cell} k None) ≡ replicate (k - n) None
 drop_gap zero k = let e : k - 0 ≡ k = omega arith in rw e refl
@@ -78,11 +84,13 @@ lead_len [] = omega arith
 lead_len (None ∷ cs) = omega arith
 lead_len (Some c ∷ cs) = omega (arith, lead_len cs)
 
-pub lead_somes : (cs : List Cell) (xs : List (Option Cell)) → leading (map (λ c. Some c) cs ++ xs) ≡ map (λ c. Some c) cs ++ leading xs
+pub lead_somes : (cs : List Cell) (xs : List (Option Cell))
+    → leading (map (λ c. Some c) cs ++ xs) ≡ map (λ c. Some c) cs ++ leading xs
 lead_somes [] xs = refl
 lead_somes (c ∷ cs) xs = ap (λ (os : List (Option Cell)). Some c ∷ os) (lead_somes cs xs)
 
-pub lead_first : (cs : List (Option Cell)) (n : ℕ) → leb n (length (leading cs)) ≡ (leb n (length cs) && list_all is_some (take n cs))
+pub lead_first : (cs : List (Option Cell)) (n : ℕ)
+    → leb n (length (leading cs)) ≡ (leb n (length cs) && list_all is_some (take n cs))
 lead_first cs zero = grind (arith, nat_tests)
 lead_first [] (suc n) = refl_false (lt-leb (suc n) 0 (omega arith))
   where
@@ -108,11 +116,15 @@ leads_all cs lead n is =
 pub ruleset leads = (leads_all)
 
 -- all from a place on
-pub holds_reach : (cs : List (Option Cell)) (so n : ℕ) → (leb (so + n) (length cs) && leb (so + n) (so + length (leading (drop so cs)))) ≡ holds cs so n
+pub holds_reach : (cs : List (Option Cell)) (so n : ℕ)
+    → (leb (so + n) (length cs) && leb (so + n) (so + length (leading (drop so cs)))) ≡ holds cs so n
 holds_reach cs so n =
     let e : so + n - so ≡ n = omega arith in
-    let less : leb (so + n) (so + length (leading (drop so cs))) ≡ leb n (length (leading (drop so cs))) = grind (arith, nat_tests) in
-    rw (e, less, lead_first (drop so cs) n) (both (leb (so + n) (length cs)) (leb n (length (drop so cs))) (list_all is_some (take n (drop so cs))) (λ h. covers h))
+    let less : leb (so + n) (so + length (leading (drop so cs))) ≡ leb n (length (leading (drop so cs))) =
+    grind (arith, nat_tests) in
+    rw (e, less, lead_first (drop so cs) n)
+    (both (leb (so + n) (length cs)) (leb n (length (drop so cs))) (list_all is_some (take n (drop so cs)))
+    (λ h. covers h))
   where
     covers : leb (so + n) (length cs) ≡ true → leb n (length (drop so cs)) ≡ true
     covers h = grind (arith, nat_tests, length-drop so cs)

@@ -1,5 +1,7 @@
 -- The places of a number's data field of which octets have arrived (TS 36.322 5.1.3.2, 6.2.2).
-use Rattle.std.specs.Prelude.{ℕ, ◌+◌, ◌-◌, Bool, true, false, ◌||◌, ◌&&◌, List, [], ◌∷◌, ◌++◌, length, map, replicate, Option, Some, None, is_some, nat_le, nat_lt, slice_range, slice_index_or, if◌then◌else◌}
+use Rattle.std.specs.Prelude.{ℕ, ◌+◌, ◌-◌, Bool, true, false, ◌||◌, ◌&&◌, List, [], ◌∷◌, ◌++◌}
+use Rattle.std.specs.Prelude.{length, map, replicate, Option, Some, None, is_some, nat_le, nat_lt}
+use Rattle.std.specs.Prelude.{slice_range, slice_index_or, if◌then◌else◌}
 use Rattle.std.specs.List.{list_all}
 
 -- an octet that has arrived, and whether an SDU begins with it and ends with it
@@ -36,7 +38,8 @@ laid cells so new = over cells (placed so new)
 
 -- all of so many places from one on are held
 abbrev pub holds : List (Option Cell) → ℕ → ℕ → Bool
-holds cells so len = nat_le (so + len) (length cells) && list_all is_some (slice_range cells so (so + len))
+holds cells so len = nat_le (so + len) (length cells)
+    && list_all is_some (slice_range cells so (so + len))
 
 -- the places before the first that isn't held
 abbrev pub leading : List (Option Cell) → List (Option Cell)
@@ -46,7 +49,8 @@ leading (Some c ∷ cs) = Some c ∷ leading cs
 
 -- ---- boundaries
 
--- whether an SDU ends between two places that follow each other: known from the octet on either side
+-- whether an SDU ends between two places that follow each other: known from the octet on either
+-- side
 abbrev pub edge_between : Option Cell → Option Cell → Option Bool
 edge_between (Some c) next = Some c.ends
 edge_between None (Some c) = Some c.begins
@@ -68,7 +72,8 @@ denies (Some known) told = differ known told
 -- the boundaries behind cells from a place on are known otherwise
 abbrev pub ends_otherwise : List (Option Cell) → ℕ → List Cell → Bool
 ends_otherwise cells at [] = false
-ends_otherwise cells at (n ∷ ns) = denies (edge_behind cells at) n.ends || ends_otherwise cells (at + 1) ns
+ends_otherwise cells at (n ∷ ns) = denies (edge_behind cells at) n.ends
+    || ends_otherwise cells (at + 1) ns
 
 -- the boundary in front of a place is known otherwise; the one before place 0 isn't compared
 abbrev pub begins_otherwise : List (Option Cell) → ℕ → Bool → Bool

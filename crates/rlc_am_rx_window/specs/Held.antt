@@ -1,10 +1,12 @@
 -- What is held of one number (TS 36.322 5.1.3.2.3).
-use Rattle.std.specs.Prelude.{ℕ, ◌==◌, Bool, false, ◌||◌, ◌&&◌, List, [], length, Option, Some, None, nat_le, nat_lt, if◌then◌else◌}
-use Rattle.rlc_am_rx_window.specs.Cells.{Cell, laid, holds, begins_otherwise, ends_otherwise, differ}
+use Rattle.std.specs.Prelude.{ℕ, ◌==◌, Bool, false, ◌||◌, ◌&&◌, List, [], length, Option, Some}
+use Rattle.std.specs.Prelude.{None, nat_le, nat_lt, if◌then◌else◌}
+use Rattle.rlc_am_rx_window.specs.Cells.{Cell, laid, holds, begins_otherwise, ends_otherwise}
+use Rattle.rlc_am_rx_window.specs.Cells.{differ}
 use Rattle.rlc_am_rx_window.specs.Piece.{Piece, end_of}
 
--- the places of its field up to the last octet that has arrived, the field's length once that is told, and whether a poll came
--- with a PDU that was kept
+-- the places of its field up to the last octet that has arrived, the field's length once that is
+-- told, and whether a poll came with a PDU that was kept
 pub record Held : Type 0 where
   pub cells : List (Option Cell)
   pub size : Option ℕ
@@ -41,8 +43,9 @@ ends_at (Some n) have = n == have
 abbrev pub has_end : Held → Bool
 has_end h = ends_at h.size (length h.cells)
 
--- the field's length, or as long as it isn't told the octets that have arrived, speak against a piece that ends at a place and
--- is the last or isn't: a field goes on behind a piece that isn't the last
+-- the field's length, or as long as it isn't told the octets that have arrived, speak against a
+-- piece that ends at a place and is the last or isn't: a field goes on behind a piece that isn't
+-- the last
 abbrev pub size_differs : Option ℕ → ℕ → Bool → ℕ → Bool
 size_differs (Some n) have last end = nat_lt n end || differ last (n == end)
 size_differs None have last end = last && nat_le end have
@@ -51,6 +54,8 @@ size_differs None have last end = last && nat_le end have
 abbrev pub disagrees : List (Option Cell) → Piece → Bool
 disagrees cells p = begins_otherwise cells p.so p.begins || ends_otherwise cells p.so p.cells
 
--- what is held speaks against a piece, or an octet of it lies past the last place that a field may have
+-- what is held speaks against a piece, or an octet of it lies past the last place that a field may
+-- have
 abbrev pub clashes : Held → Piece → Bool
-clashes h p = nat_lt 32767 (end_of p) || size_differs h.size (length h.cells) p.last (end_of p) || disagrees h.cells p
+clashes h p = nat_lt 32767 (end_of p) || size_differs h.size (length h.cells) p.last (end_of p)
+    || disagrees h.cells p

@@ -1,8 +1,10 @@
 -- SDUs that are put together from places in their order (TS 36.322 5.1.3.2.3, 6.2.2.6).
-use Rattle.std.specs.Prelude.{ℕ, Bool, true, false, List, [], ◌∷◌, ◌++◌, Option, Some, None, if◌then◌else◌}
+use Rattle.std.specs.Prelude.{ℕ, Bool, true, false, List, [], ◌∷◌, ◌++◌, Option, Some, None}
+use Rattle.std.specs.Prelude.{if◌then◌else◌}
 use Rattle.rlc_am_rx_window.specs.Cells.{Cell}
 
--- SDUs that are whole and haven't gone up, and the octets so far of the next; nothing is known of its beginning behind a gap
+-- SDUs that are whole and haven't gone up, and the octets so far of the next; nothing is known of
+-- its beginning behind a gap
 pub record Joined : Type 0 where
   pub ready : List (List ℕ)
   pub part : Option (List ℕ)

@@ -1,5 +1,6 @@
 -- What a STATUS may say of the numbers of a window (TS 36.322 5.2.3, 6.2.2.12 to 6.2.2.18).
-use Rattle.std.specs.Prelude.{ℕ, ◌+◌, ◌-◌, Bool, true, false, if◌then◌else◌, List, [], ◌∷◌, ◌++◌, map, length, Option, Some, None, nat_lt, is_some, ◌==◌}
+use Rattle.std.specs.Prelude.{ℕ, ◌+◌, ◌-◌, Bool, true, false, if◌then◌else◌, List, [], ◌∷◌, ◌++◌}
+use Rattle.std.specs.Prelude.{map, length, Option, Some, None, nat_lt, is_some, ◌==◌}
 use Rattle.rlc_pdu.specs.declared.Part.{Part}
 use Rattle.rlc_pdu.specs.Pdus.{IsPart}
 use Rattle.rlc_am_rx_window.specs.declared.missing.Missing.{Missing}
@@ -7,7 +8,8 @@ use Rattle.rlc_am_rx_window.specs.Cells.{Cell}
 use Rattle.rlc_am_rx_window.specs.Held.{Held, is_complete, has_end}
 use Rattle.rlc_am_rx_window.specs.Window.{Kept}
 
--- the places at or above one and below another; a range that reaches the field's end has the end 32767
+-- the places at or above one and below another; a range that reaches the field's end has the end
+-- 32767
 abbrev pub range : ℕ → ℕ → Part
 range from to = record { start = from; end = to - 1 }
 
@@ -35,7 +37,8 @@ run_last at None false = tail at ∷ []
 -- the largest runs of places that haven't arrived
 abbrev pub runs : List (Option Cell) → ℕ → Option ℕ → Bool → List Part
 runs [] at gap ended = run_last at gap ended
-runs (c ∷ cs) at gap ended = run_ended (is_some c) at gap ++ runs cs (at + 1) (run_open (is_some c) at gap) ended
+runs (c ∷ cs) at gap ended = run_ended (is_some c) at gap
+    ++ runs cs (at + 1) (run_open (is_some c) at gap) ended
 
 abbrev pub whole : ℕ → Missing
 whole n = record { number = n; part = None }
@@ -57,7 +60,8 @@ missing_of n h =
 -- what is said of the numbers from n on below a bound
 abbrev pub missing_below : List Held → ℕ → ℕ → List Missing
 missing_below [] n bound = []
-missing_below (h ∷ hs) n bound = if nat_lt n bound then missing_of n h ++ missing_below hs (n + 1) bound else []
+missing_below (h ∷ hs) n bound = if nat_lt n bound
+    then missing_of n h ++ missing_below hs (n + 1) bound else []
 
 abbrev pub missing : Kept → ℕ → List Missing
 missing w bound = missing_below w.slots w.front bound

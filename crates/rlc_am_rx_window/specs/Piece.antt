@@ -1,5 +1,6 @@
 -- What a PDU brings of its number's data field.
-use Rattle.std.specs.Prelude.{ℕ, ◌+◌, ◌/◌, ◌%◌, ◌==◌, Bool, true, false, List, [], ◌∷◌, ◌++◌, length, Option, Some, None}
+use Rattle.std.specs.Prelude.{ℕ, ◌+◌, ◌/◌, ◌%◌, ◌==◌, Bool, true, false, List, [], ◌∷◌, ◌++◌}
+use Rattle.std.specs.Prelude.{length, Option, Some, None}
 use Rattle.rlc_pdu.specs.declared.Segment.{Segment}
 use Rattle.rlc_pdu.specs.Pdus.{AmdPdu}
 use Rattle.rlc_am_rx_window.specs.Cells.{Cell, cell}
@@ -27,7 +28,8 @@ data_cells begins ends [] = []
 data_cells begins ends (e ∷ []) = element_cells begins ends e
 data_cells begins ends (e ∷ f ∷ es) = element_cells begins true e ++ data_cells true ends (f ∷ es)
 
--- FI: its upper bit is 0 where the data begins an SDU, its lower bit where it ends one (TS 36.322 6.2.2.6)
+-- FI: its upper bit is 0 where the data begins an SDU, its lower bit where it ends one (TS 36.322
+-- 6.2.2.6)
 abbrev pub begins_in : ℕ → Bool
 begins_in fi = fi / 2 % 2 == 0
 

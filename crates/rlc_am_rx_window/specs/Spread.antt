@@ -1,5 +1,6 @@
 -- How the places of a number's data field are kept (TS 36.322 5.1.3.2.3).
-use Rattle.std.specs.Prelude.{ℕ, Bool, false, ◌||◌, List, [], ◌∷◌, ◌++◌, map, drop, replicate, Option, Some, None, zero, suc}
+use Rattle.std.specs.Prelude.{ℕ, Bool, false, ◌||◌, List, [], ◌∷◌, ◌++◌, map, drop, replicate}
+use Rattle.std.specs.Prelude.{Option, Some, None, zero, suc}
 use Rattle.rlc_am_rx_window.specs.Cells.{Cell, over, edge_between, cell_at, denies}
 use Rattle.rlc_am_rx_window.specs.Piece.{element_cells}
 
@@ -18,13 +19,16 @@ abbrev pub spread : List Stretched → ℕ → List (Option Cell)
 spread [] tail = replicate tail None
 spread (s ∷ ss) tail = replicate s.gap None ++ (cells_in s ++ spread ss tail)
 
--- behind places that are done, new ones beside those that follow; the first of the new ones were passed
-abbrev pub laid_on : List (Option Cell) → List (Option Cell) → ℕ → List (Option Cell) → List (Option Cell)
+-- behind places that are done, new ones beside those that follow; the first of the new ones were
+-- passed
+abbrev pub laid_on : List (Option Cell) → List (Option Cell) → ℕ → List (Option Cell)
+    → List (Option Cell)
 laid_on done rest passed new = done ++ over rest (drop passed new)
 
 -- an SDU is known to end behind a place at or above one and below another
 abbrev pub ends_within : List (Option Cell) → ℕ → ℕ → Bool
 ends_within [] from to = false
 ends_within (c ∷ cs) from zero = false
-ends_within (c ∷ cs) zero (suc to) = denies (edge_between c (cell_at cs 0)) false || ends_within cs 0 to
+ends_within (c ∷ cs) zero (suc to) = denies (edge_between c (cell_at cs 0)) false
+    || ends_within cs 0 to
 ends_within (c ∷ cs) (suc from) (suc to) = ends_within cs from to

@@ -1,5 +1,7 @@
 -- The window of an acknowledged receiver (TS 36.322 7.1).
-use Rattle.std.specs.Prelude.{ℕ, ◌+◌, ◌-◌, ◌%◌, Bool, true, false, if◌then◌else◌, List, [], ◌∷◌, ◌++◌, length, drop, replicate, Option, Some, None, nat_le, nat_lt, slice_get, slice_set, slice_index_or, slice_range}
+use Rattle.std.specs.Prelude.{ℕ, ◌+◌, ◌-◌, ◌%◌, Bool, true, false, if◌then◌else◌, List, [], ◌∷◌}
+use Rattle.std.specs.Prelude.{◌++◌, length, drop, replicate, Option, Some, None, nat_le, nat_lt}
+use Rattle.std.specs.Prelude.{slice_get, slice_set, slice_index_or, slice_range}
 use Rattle.std.specs.List.{list_any}
 use Rattle.rlc_pdu.specs.declared.Landed.{Landed}
 use Rattle.rlc_pdu.specs.declared.Landed.TheVariants.{Kept as Fresh, Repeat, Outside, Clash}
@@ -8,7 +10,8 @@ use Rattle.rlc_am_rx_window.specs.Piece.{Piece, end_of}
 use Rattle.rlc_am_rx_window.specs.Held.{Held, nothing, with_piece, is_complete, has_end, clashes}
 use Rattle.rlc_am_rx_window.specs.Joined.{Joined, joined, broken}
 
--- front is VR(R); slots have what is held of each number from there on below VR(H); so many octets of the front's field were handed on
+-- front is VR(R); slots have what is held of each number from there on below VR(H); so many octets
+-- of the front's field were handed on
 pub record Kept : Type 0 where
   pub front : ℕ
   pub slots : List Held
@@ -60,12 +63,15 @@ landing held p = if is_repeat held p then Repeat else if is_clash held p then Cl
 
 -- what comes of a piece of a number with these 10 bits (TS 36.322 5.1.3.2.2)
 abbrev pub landed : Kept → ℕ → Piece → Landed
-landed w sn p = if nat_le 512 (offset_of w.front sn) then Outside else landing (slice_get w.slots (offset_of w.front sn)) p
+landed w sn p = if nat_le 512 (offset_of w.front sn) then Outside
+    else landing (slice_get w.slots (offset_of w.front sn)) p
 
 -- a piece kept at a place
 abbrev pub with_kept : Kept → ℕ → Piece → Bool → Kept
 with_kept w at p poll = record w {
-  slots = slice_set (widened w.slots (at + 1)) at (with_piece (slot_at (widened w.slots (at + 1)) at) p poll);
+  slots =
+      slice_set (widened w.slots (at + 1)) at
+      (with_piece (slot_at (widened w.slots (at + 1)) at) p poll);
 }
 
 -- ---- in sequence: every octet before the first that hasn't arrived
@@ -78,7 +84,8 @@ handed_on j (h ∷ hs) given =
 
 abbrev pub given_after : List Held → ℕ → ℕ
 given_after [] given = given
-given_after (h ∷ hs) given = if is_complete h then given_after hs 0 else given + length (leading (drop given h.cells))
+given_after (h ∷ hs) given = if is_complete h then given_after hs 0
+    else given + length (leading (drop given h.cells))
 
 -- the window once they are handed on
 abbrev pub advanced : Kept → Kept
@@ -88,7 +95,8 @@ advanced w = record {
   given = given_after w.slots w.given;
 }
 
--- ---- at the end: every octet that hasn't been handed on; a field whose end hasn't arrived ends in a gap
+-- ---- at the end: every octet that hasn't been handed on; a field whose end hasn't arrived ends in
+-- a gap
 
 abbrev pub broken_unless : Bool → Joined → Joined
 broken_unless true j = j
@@ -96,4 +104,5 @@ broken_unless false j = broken j
 
 abbrev pub salvaged : Joined → List Held → ℕ → Joined
 salvaged j [] given = j
-salvaged j (h ∷ hs) given = salvaged (broken_unless (has_end h) (joined j (drop given h.cells))) hs 0
+salvaged j (h ∷ hs) given =
+    salvaged (broken_unless (has_end h) (joined j (drop given h.cells))) hs 0

@@ -1,5 +1,8 @@
-ghost use Rattle.std.specs.Prelude.{◌≡◌, ℕ, [], ◌∷◌, ◌++◌, ◌+◌, ◌-◌, ◌<◌, ◌≤◌, ◌^◌, length, map, drop, replicate, MatchOption, IfSome, OnOk, IfOk, Some, None, false};
-ghost use Rattle.rlc_am_rx_window.specs.Cells.{Cell, holds, leading, edge_behind, denies, ends_otherwise};
+ghost use Rattle.std.specs.Prelude.{◌≡◌, ℕ, [], ◌∷◌, ◌++◌, ◌+◌, ◌-◌, ◌<◌, ◌≤◌, ◌^◌, length, map};
+ghost use Rattle.std.specs.Prelude.{drop, replicate, MatchOption, IfSome, OnOk, IfOk, Some, None};
+ghost use Rattle.std.specs.Prelude.{false};
+ghost use Rattle.rlc_am_rx_window.specs.Cells.{Cell, holds, leading, edge_behind, denies};
+ghost use Rattle.rlc_am_rx_window.specs.Cells.{ends_otherwise};
 ghost use Rattle.rlc_am_rx_window.specs.Piece.{element_cells};
 ghost use Rattle.rlc_am_rx_window.specs.Spread.{Stretched, cells_in, spread, ends_within};
 ghost use Rattle.rlc_am_rx_window.specs.Joined.{joined};
@@ -101,7 +104,8 @@ impl Field {
         reading::edge_behind(&self.stretches, at)
     }
 
-    /// Whether a boundary inside an element's octets from a place on, or behind them, is known otherwise.
+    /// Whether a boundary inside an element's octets from a place on, or behind them, is known
+    /// otherwise.
     #[tactic(auto, using(crate::proofs::EdgeLemmas::otherwise))]
     pub(crate) fn ends_otherwise(&self, at: usize, element: &[u8], ends: bool) -> bool
         requires { at + length element.now < 2 ^ 63 }
@@ -129,8 +133,10 @@ impl Field {
     #[tactic(auto, using(crate::proofs::SpreadLemmas::keeping))]
     pub(crate) fn keep(&mut self, stretch: Stretch) -> Result<(), NoMemory>
         requires { length self.old + stretch.gap + length stretch.octets ≤ 32767 }
-        ensures cells { OnOk result (self.new ≡ self.old ++ (replicate stretch.gap None ++ cells_in stretch)) }
-        ensures size { OnOk result (length self.new ≡ length self.old + stretch.gap + length stretch.octets) }
+        ensures cells { OnOk result (self.new ≡ self.old
+            ++ (replicate stretch.gap None ++ cells_in stretch)) }
+        ensures size { OnOk result (length self.new
+            ≡ length self.old + stretch.gap + length stretch.octets) }
     {
         let gap = self.tail + stretch.gap();
         self.stretches.push_back(stretch.behind(gap))?;
@@ -141,7 +147,8 @@ impl Field {
     /// Adds a copy of octets of one element.
     pub(crate) fn push(&mut self, octets: &[u8], begins: bool, ends: bool) -> Result<(), NoMemory>
         requires { length self.old + length octets.now ≤ 32767 }
-        ensures cells { OnOk result (self.new ≡ self.old ++ map (λ c. Some c) (element_cells begins ends octets.now)) }
+        ensures cells { OnOk result (self.new ≡ self.old
+            ++ map (λ c. Some c) (element_cells begins ends octets.now)) }
         ensures size { OnOk result (length self.new ≡ length self.old + length octets.now) }
     {
         if octets.is_empty() {
@@ -156,7 +163,8 @@ impl Field {
         ensures cells { MatchOption result
             ((self.new ≡ self.old) × (self.new ≡ replicate (length self.new) None))
             (λ s. self.old ≡ replicate s.gap None ++ (cells_in s ++ self.new)) }
-        ensures size { IfSome result (λ s. length self.old ≡ s.gap + length s.octets + length self.new) }
+        ensures size { IfSome result (λ s. length self.old
+            ≡ s.gap + length s.octets + length self.new) }
         ensures few { length self.old ≤ 32767 }
     {
         self.stretches.pop_front()
@@ -166,8 +174,10 @@ impl Field {
     #[tactic(auto, using(crate::proofs::SpreadLemmas::growing))]
     pub(crate) fn put_back(&mut self, stretch: Stretch) -> Result<(), NoMemory>
         requires { stretch.gap + length stretch.octets + length self.old ≤ 32767 }
-        ensures cells { OnOk result (self.new ≡ replicate stretch.gap None ++ (cells_in stretch ++ self.old)) }
-        ensures size { OnOk result (length self.new ≡ stretch.gap + length stretch.octets + length self.old) }
+        ensures cells { OnOk result (self.new ≡ replicate stretch.gap None
+            ++ (cells_in stretch ++ self.old)) }
+        ensures size { OnOk result (length self.new
+            ≡ stretch.gap + length stretch.octets + length self.old) }
     {
         self.stretches.push_front(stretch)?;
         Ok(())
@@ -181,7 +191,8 @@ impl Field {
         reading::give(&self.stretches, from, out)
     }
 
-    /// Goes on with the same at the end of what is held of the number. An SDU's first octets aren't copied.
+    /// Goes on with the same at the end of what is held of the number. An SDU's first octets aren't
+    /// copied.
     #[tactic(auto, using(crate::proofs::SpreadLemmas::handing))]
     pub(crate) fn hand_on(self, from: usize, out: &mut Output) -> Result<(), NoMemory>
         ensures { OnOk result (out.new ≡ joined out.old (leading (drop from self))) }

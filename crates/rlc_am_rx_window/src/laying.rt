@@ -1,5 +1,6 @@
 //! New octets laid beside those that are held.
-ghost use Rattle.std.specs.Prelude.{◌≡◌, ℕ, [], ◌∷◌, ◌++◌, ◌+◌, ◌-◌, ◌<◌, ◌≤◌, List, Option, length, map, replicate, OnOk, IfOk, Some, None};
+ghost use Rattle.std.specs.Prelude.{◌≡◌, ℕ, [], ◌∷◌, ◌++◌, ◌+◌, ◌-◌, ◌<◌, ◌≤◌, List, Option};
+ghost use Rattle.std.specs.Prelude.{length, map, replicate, OnOk, IfOk, Some, None};
 ghost use Rattle.rlc_am_rx_window.specs.Cells.{Cell};
 ghost use Rattle.rlc_am_rx_window.specs.Piece.{element_cells};
 ghost use Rattle.rlc_am_rx_window.specs.Spread.{laid_on};
@@ -44,8 +45,11 @@ impl Laying {
         requires held { length self.old.done + length self.old.rest ≤ 32767 }
         requires within { length self.old.done + places ≤ 32767 }
         ensures held { OnOk result (length self.new.done + length self.new.rest ≤ 32767) }
-        ensures place { OnOk result (length self.new.done ≡ length self.old.done + places + self.new.passed) }
-        ensures cells { OnOk result ((xs : List (Option Cell)) → laid_on self.new.done self.new.rest self.new.passed xs ≡ laid_on self.old.done self.old.rest 0 (replicate places None ++ xs)) }
+        ensures place { OnOk result (length self.new.done
+            ≡ length self.old.done + places + self.new.passed) }
+        ensures cells { OnOk result ((xs : List (Option Cell))
+            → laid_on self.new.done self.new.rest self.new.passed xs
+            ≡ laid_on self.old.done self.old.rest 0 (replicate places None ++ xs)) }
     {
         let mut left = places;
         while let Some(first) = self.rest.pop() {
@@ -74,8 +78,12 @@ impl Laying {
         requires held { length self.old.done + length self.old.rest ≤ 32767 }
         requires within { length self.old.done + length element.now ≤ 32767 + self.old.passed }
         ensures held { OnOk result (length self.new.done + length self.new.rest ≤ 32767) }
-        ensures place { OnOk result (length self.new.done + self.old.passed ≡ length self.old.done + length element.now + self.new.passed) }
-        ensures cells { OnOk result ((xs : List (Option Cell)) → laid_on self.new.done self.new.rest self.new.passed xs ≡ laid_on self.old.done self.old.rest self.old.passed (map (λ c. Some c) (element_cells begins ends element.now) ++ xs)) }
+        ensures place { OnOk result (length self.new.done + self.old.passed
+            ≡ length self.old.done + length element.now + self.new.passed) }
+        ensures cells { OnOk result ((xs : List (Option Cell))
+            → laid_on self.new.done self.new.rest self.new.passed xs
+            ≡ laid_on self.old.done self.old.rest self.old.passed
+            (map (λ c. Some c) (element_cells begins ends element.now) ++ xs)) }
     {
         let passed = self.passed;
         if passed == 0 {
@@ -96,8 +104,12 @@ impl Laying {
         requires held { length self.old.done + length self.old.rest ≤ 32767 }
         requires within { length self.old.done + length octets.now ≤ 32767 }
         ensures held { OnOk result (length self.new.done + length self.new.rest ≤ 32767) }
-        ensures place { OnOk result (length self.new.done ≡ length self.old.done + length octets.now + self.new.passed) }
-        ensures cells { OnOk result ((xs : List (Option Cell)) → laid_on self.new.done self.new.rest self.new.passed xs ≡ laid_on self.old.done self.old.rest 0 (map (λ c. Some c) (element_cells begins ends octets.now) ++ xs)) }
+        ensures place { OnOk result (length self.new.done
+            ≡ length self.old.done + length octets.now + self.new.passed) }
+        ensures cells { OnOk result ((xs : List (Option Cell))
+            → laid_on self.new.done self.new.rest self.new.passed xs
+            ≡ laid_on self.old.done self.old.rest 0
+            (map (λ c. Some c) (element_cells begins ends octets.now) ++ xs)) }
     {
         let mut octets = octets;
         let mut begins = begins;

@@ -1,14 +1,17 @@
 //! What a STATUS may say of the numbers of a window.
-ghost use Rattle.std.specs.Prelude.{◌≡◌, if◌then◌else◌, ℕ, [], ◌∷◌, ◌++◌, ◌+◌, ◌*◌, ◌-◌, ◌<◌, ◌≤◌, ◌^◌, map, length, drop, OnOk, IfOk, IfSome, Some, None};
+ghost use Rattle.std.specs.Prelude.{◌≡◌, if◌then◌else◌, ℕ, [], ◌∷◌, ◌++◌, ◌+◌, ◌*◌, ◌-◌, ◌<◌, ◌≤◌};
+ghost use Rattle.std.specs.Prelude.{◌^◌, map, length, drop, OnOk, IfOk, IfSome, Some, None};
 ghost use Rattle.rlc_am_rx_window.specs.Held.{is_complete};
-ghost use Rattle.rlc_am_rx_window.specs.Missing.{runs, of_part, missing_of, AreRanges, entries_bits};
+ghost use Rattle.rlc_am_rx_window.specs.Missing.{runs, of_part, missing_of, AreRanges};
+ghost use Rattle.rlc_am_rx_window.specs.Missing.{entries_bits};
 
 use crate::field::Field;
 use crate::slot::Slot;
 use l2_bits::NoMemory;
 use rlc_pdu::Part;
 
-/// A number that isn't complete, of which nothing has arrived, or a range of its octets that haven't.
+/// A number that isn't complete, of which nothing has arrived, or a range of its octets that
+/// haven't.
 #[derive(Clone, Copy, Debug, PartialEq, Eq)]
 pub struct Missing {
     /// The number, counted from 0.
@@ -35,7 +38,8 @@ pub(crate) fn add(number: u64, slot: &Slot, out: &mut Vec<Missing>) -> Result<()
 
 #[tactic(auto, using(crate::proofs::MissingLemmas::adding))]
 fn add_runs(number: u64, field: &Field, ended: bool, out: &mut Vec<Missing>) -> Result<(), NoMemory>
-    ensures { OnOk result (out.new.items ≡ out.old.items ++ map (of_part number) (runs field.now 0 None ended)) }
+    ensures { OnOk result (out.new.items ≡ out.old.items
+        ++ map (of_part number) (runs field.now 0 None ended)) }
 {
     let (stretches, tail) = field.parts();
     let mut at = 0;
@@ -60,7 +64,8 @@ fn add_run(
 ) -> Result<(), NoMemory>
     requires start { start ≤ 32767 }
     requires end { end ≤ 32767 }
-    ensures { OnOk result (out.new.items ≡ out.old.items ++ (if is_missing then of_part number (record { start = start; end = end }) ∷ [] else [])) }
+    ensures { OnOk result (out.new.items ≡ out.old.items
+        ++ (if is_missing then of_part number (record { start = start; end = end }) ∷ [] else [])) }
 {
     if is_missing {
         let part = Part {

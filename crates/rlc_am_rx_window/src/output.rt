@@ -1,7 +1,9 @@
 //! SDUs put together in sequence.
-ghost use Rattle.std.specs.Prelude.{◌≡◌, ℕ, [], ◌++◌, ◌<◌, length, map, drop, slice_get, true, OnOk, Some, None};
+ghost use Rattle.std.specs.Prelude.{◌≡◌, ℕ, [], ◌++◌, ◌<◌, length, map, drop, slice_get, true};
+ghost use Rattle.std.specs.Prelude.{OnOk, Some, None};
 ghost use Rattle.rlc_am_rx_window.specs.Piece.{element_cells};
-ghost use Rattle.rlc_am_rx_window.specs.Joined.{Joined, empty, opened, extended, closed, joined, broken, pending};
+ghost use Rattle.rlc_am_rx_window.specs.Joined.{Joined, empty, opened, extended, closed, joined};
+ghost use Rattle.rlc_am_rx_window.specs.Joined.{broken, pending};
 
 use l2_bits::{Bytes, NoMemory, Packets};
 use std::alloc::Global;
@@ -62,7 +64,8 @@ impl Output {
     #[tactic(auto, using(crate::proofs::JoinLemmas::elements))]
     pub(crate) fn add(&mut self, octets: &[u8], begins: bool, ends: bool) -> Result<(), NoMemory>
         requires { 0 < length octets.now }
-        ensures { OnOk result (self.new ≡ joined self.old (map (λ c. Some c) (element_cells begins ends octets.now))) }
+        ensures { OnOk result
+            (self.new ≡ joined self.old (map (λ c. Some c) (element_cells begins ends octets.now))) }
     {
         self.open(begins);
         if ends {
@@ -76,7 +79,8 @@ impl Output {
     #[tactic(auto, using(crate::proofs::JoinLemmas::elements))]
     pub(crate) fn take(&mut self, octets: Bytes, begins: bool, ends: bool) -> Result<(), NoMemory>
         requires { 0 < length octets }
-        ensures { OnOk result (self.new ≡ joined self.old (map (λ c. Some c) (element_cells begins ends octets))) }
+        ensures { OnOk result
+            (self.new ≡ joined self.old (map (λ c. Some c) (element_cells begins ends octets))) }
     {
         self.open(begins);
         self.extend_by(octets)?;
@@ -121,7 +125,8 @@ impl Output {
 
     /// Ends the SDU with these octets.
     fn close(&mut self, octets: &[u8]) -> Result<(), NoMemory>
-        ensures { OnOk result (self.new ≡ closed true self.old.ready (extended self.old.part octets.now)) }
+        ensures { OnOk result
+            (self.new ≡ closed true self.old.ready (extended self.old.part octets.now)) }
     {
         let next = Some(Bytes::new(self.alloc));
         if let Some(mut sdu) = mem::replace(&mut self.part, next) {

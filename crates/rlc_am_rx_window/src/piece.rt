@@ -1,7 +1,9 @@
 //! What a PDU brings of its number's data field.
-ghost use Rattle.std.specs.Prelude.{◌≡◌, ℕ, [], ◌∷◌, ◌+◌, ◌<◌, ◌≤◌, ◌^◌, ◌||◌, not, List, length, MatchOption, IfSome, IfNone, Some, None};
+ghost use Rattle.std.specs.Prelude.{◌≡◌, ℕ, [], ◌∷◌, ◌+◌, ◌<◌, ◌≤◌, ◌^◌, ◌||◌, not, List, length};
+ghost use Rattle.std.specs.Prelude.{MatchOption, IfSome, IfNone, Some, None};
 ghost use Rattle.rlc_pdu.specs.Views.{elements_of, amd_of};
-ghost use Rattle.rlc_am_rx_window.specs.Piece.{begins_in, ends_in, so_of, is_last, piece_of, end_of, octets_in, is_end};
+ghost use Rattle.rlc_am_rx_window.specs.Piece.{begins_in, ends_in, so_of, is_last, piece_of};
+ghost use Rattle.rlc_am_rx_window.specs.Piece.{end_of, octets_in, is_end};
 
 use rlc_pdu::{Amd, Elements, Segment};
 use std::marker::Model;
@@ -51,7 +53,8 @@ pub(crate) fn is_last(segment: Option<Segment>) -> bool
     }
 }
 
-/// The place behind the last octet; `None` where an octet lies past the last place that a field may have.
+/// The place behind the last octet; `None` where an octet lies past the last place that a field may
+/// have.
 #[tactic(auto, using(crate::proofs::PieceLemmas::length_data))]
 pub(crate) fn end_of(pdu: &Amd<'_>) -> Option<usize>
     ensures some { IfSome result (λ end. end ≡ end_of (piece_of (amd_of pdu.now))) }
@@ -98,7 +101,8 @@ impl<'a> Walk<'a> {
     }
 
     pub(crate) fn next(&mut self) -> Option<(&'a [u8], bool)>
-        ensures { MatchOption result ((self.old ≡ []) × (self.new ≡ [])) (λ one. (self.old ≡ one.0.now ∷ self.new) × (one.1 ≡ is_end self.new)) }
+        ensures { MatchOption result ((self.old ≡ []) × (self.new ≡ []))
+            (λ one. (self.old ≡ one.0.now ∷ self.new) × (one.1 ≡ is_end self.new)) }
     {
         let one = self.next?;
         self.next = self.rest.next();

@@ -80,7 +80,8 @@ pub(crate) fn give(
     out: &mut Output,
 ) -> Result<(), NoMemory>
     requires { length (spread stretches.now.items 0) ≤ 32767 }
-    ensures { OnOk result (out.new ≡ joined out.old (leading (drop from (spread stretches.now.items 0)))) }
+    ensures { OnOk result
+        (out.new ≡ joined out.old (leading (drop from (spread stretches.now.items 0)))) }
 {
     let mut left = from;
     for stretch in stretches.iter() {

@@ -1,11 +1,15 @@
 //! The ring of what is held of the numbers from VR(R) below VR(H).
-ghost use Rattle.std.specs.Prelude.{◌≡◌, [], ◌∷◌, ◌++◌, ◌+◌, ◌<◌, ◌≤◌, ◌^◌, length, drop, OnOk, IfOk, max};
+ghost use Rattle.std.specs.Prelude.{◌≡◌, [], ◌∷◌, ◌++◌, ◌+◌, ◌<◌, ◌≤◌, ◌^◌, length, drop, OnOk};
+ghost use Rattle.std.specs.Prelude.{IfOk, max};
 ghost use Rattle.circular_buffer.specs.Buffer.{buffer};
 ghost use Rattle.rlc_am_rx_window.specs.Held.{nothing, is_complete, has_end};
 ghost use Rattle.rlc_am_rx_window.specs.Joined.{joined};
 ghost use Rattle.rlc_am_rx_window.specs.Cells.{leading};
-ghost use Rattle.rlc_am_rx_window.specs.Window.{first_incomplete, polled_in, widened, slot_at, handed_on, complete_first, given_after, salvaged, broken_unless};
-ghost use Rattle.rlc_am_rx_window.specs.Missing.{missing_of, missing_below, AreRanges, entries_bits};
+ghost use Rattle.rlc_am_rx_window.specs.Window.{first_incomplete, polled_in, widened, slot_at};
+ghost use Rattle.rlc_am_rx_window.specs.Window.{handed_on, complete_first, given_after, salvaged};
+ghost use Rattle.rlc_am_rx_window.specs.Window.{broken_unless};
+ghost use Rattle.rlc_am_rx_window.specs.Missing.{missing_of, missing_below, AreRanges};
+ghost use Rattle.rlc_am_rx_window.specs.Missing.{entries_bits};
 
 use crate::missing::{self, Missing};
 use crate::output::Output;
@@ -91,7 +95,8 @@ pub(crate) fn hand_on(
     ensures capacity { ring.new.capacity ≡ ring.old.capacity }
     ensures fewer { length ring.new.items ≤ length ring.old.items }
     ensures front { OnOk result (front.new ≡ front.old + complete_first ring.old.items) }
-    ensures slots { OnOk result (ring.new.items ≡ drop (complete_first ring.old.items) ring.old.items) }
+    ensures slots { OnOk result (ring.new.items
+        ≡ drop (complete_first ring.old.items) ring.old.items) }
     ensures given { OnOk result (given.new ≡ given_after ring.old.items given.old) }
     ensures out { OnOk result (out.new ≡ handed_on out.old ring.old.items given.old) }
 {
@@ -108,14 +113,16 @@ pub(crate) fn hand_on(
     Ok(())
 }
 
-/// Takes out the first number, and hands on its octets from a place on up to the first that hasn't arrived.
+/// Takes out the first number, and hands on its octets from a place on up to the first that hasn't
+/// arrived.
 fn pass_front(
     ring: &mut HeapCircularBuffer<Slot>,
     given: usize,
     out: &mut Output,
 ) -> Result<(), NoMemory>
     ensures ring { ring.new ≡ buffer (drop 1 ring.old.items) ring.old.capacity }
-    ensures out { OnOk result (out.new ≡ joined out.old (leading (drop given (slot_at ring.old.items 0).cells))) }
+    ensures out { OnOk result
+        (out.new ≡ joined out.old (leading (drop given (slot_at ring.old.items 0).cells))) }
 {
     match ring.pop_front() {
         Some(slot) => slot.hand_on(given, out),
@@ -167,7 +174,8 @@ fn add_missing_at(
     out: &mut Vec<Missing>,
 ) -> Result<(), NoMemory>
     requires { at < length ring.now.items }
-    ensures added { OnOk result (out.new.items ≡ out.old.items ++ missing_of number (slot_at ring.now.items at)) }
+    ensures added { OnOk result (out.new.items ≡ out.old.items
+        ++ missing_of number (slot_at ring.now.items at)) }
     ensures ranges { AreRanges (missing_of number (slot_at ring.now.items at)) }
 {
     match ring.get(at) {

@@ -1,8 +1,12 @@
-ghost use Rattle.std.specs.Prelude.{◌≡◌, ℕ, ◌+◌, ◌<◌, ◌≤◌, ◌^◌, ◌||◌, length, drop, OnOk, IfOk, Some, None};
+ghost use Rattle.std.specs.Prelude.{◌≡◌, ℕ, ◌+◌, ◌<◌, ◌≤◌, ◌^◌, ◌||◌, length, drop, OnOk, IfOk};
+ghost use Rattle.std.specs.Prelude.{Some, None};
 ghost use Rattle.rlc_pdu.specs.Views.{amd_of, elements_of};
-ghost use Rattle.rlc_am_rx_window.specs.Cells.{laid, holds, leading, differ, ends_otherwise, begins_otherwise};
-ghost use Rattle.rlc_am_rx_window.specs.Piece.{begins_in, ends_in, so_of, data_cells, piece_of, end_of};
-ghost use Rattle.rlc_am_rx_window.specs.Held.{nothing, with_piece, is_complete, has_end, clashes, size_differs};
+ghost use Rattle.rlc_am_rx_window.specs.Cells.{laid, holds, leading, differ, ends_otherwise};
+ghost use Rattle.rlc_am_rx_window.specs.Cells.{begins_otherwise};
+ghost use Rattle.rlc_am_rx_window.specs.Piece.{begins_in, ends_in, so_of, data_cells, piece_of};
+ghost use Rattle.rlc_am_rx_window.specs.Piece.{end_of};
+ghost use Rattle.rlc_am_rx_window.specs.Held.{nothing, with_piece, is_complete, has_end, clashes};
+ghost use Rattle.rlc_am_rx_window.specs.Held.{size_differs};
 ghost use Rattle.rlc_am_rx_window.specs.Joined.{joined};
 ghost use Rattle.rlc_am_rx_window.specs.Window.{landing, broken_unless};
 
@@ -127,7 +131,8 @@ impl Slot {
 
     /// Whether the boundary in front of a PDU's octets is known otherwise.
     fn begins_otherwise(&self, pdu: &Amd<'_>) -> bool
-        ensures { result ≡ begins_otherwise self.now.cells (so_of pdu.now.segment) (begins_in pdu.now.fi) }
+        ensures { result ≡ begins_otherwise self.now.cells (so_of pdu.now.segment)
+            (begins_in pdu.now.fi) }
     {
         let so = so_of(pdu.segment);
         so > 0 && denies(self.field.edge_behind(so - 1), begins_in(pdu.fi))
@@ -137,7 +142,8 @@ impl Slot {
     #[tactic(auto, using(crate::proofs::SlotLemmas::data_otherwise))]
     fn ends_otherwise(&self, pdu: &Amd<'_>) -> bool
         requires { end_of (piece_of (amd_of pdu.now)) ≤ 32767 }
-        ensures { result ≡ ends_otherwise self.now.cells (so_of pdu.now.segment) (data_cells (begins_in pdu.now.fi) (ends_in pdu.now.fi) (elements_of pdu.now.elements)) }
+        ensures { result ≡ ends_otherwise self.now.cells (so_of pdu.now.segment)
+            (data_cells (begins_in pdu.now.fi) (ends_in pdu.now.fi) (elements_of pdu.now.elements)) }
     {
         let ends = ends_in(pdu.fi);
         let mut at = so_of(pdu.segment);
@@ -157,7 +163,8 @@ impl Slot {
     /// Keeps a PDU's octets that are new, and what it tells.
     pub(crate) fn keep(&mut self, pdu: &Amd<'_>) -> Result<(), NoMemory>
         requires { end_of (piece_of (amd_of pdu.now)) ≤ 32767 }
-        ensures { OnOk result (self.new ≡ with_piece self.old (piece_of (amd_of pdu.now)) pdu.now.poll) }
+        ensures { OnOk result
+            (self.new ≡ with_piece self.old (piece_of (amd_of pdu.now)) pdu.now.poll) }
     {
         let laid = lay_data(&mut self.field, pdu);
         self.lead = self.field.reach(0);
@@ -169,7 +176,8 @@ impl Slot {
         Ok(())
     }
 
-    /// Hands on the octets from a place on up to the first that hasn't arrived, and returns its place.
+    /// Hands on the octets from a place on up to the first that hasn't arrived, and returns its
+    /// place.
     pub(crate) fn give(&self, given: usize, out: &mut Output) -> Result<usize, NoMemory>
         ensures place { IfOk result (λ n. n ≡ given + length (leading (drop given self.now.cells))) }
         ensures out { OnOk result (out.new ≡ joined out.old (leading (drop given self.now.cells))) }
@@ -188,7 +196,8 @@ impl Slot {
 
     /// Goes on with all octets that are held from a place on, and leaves out gaps.
     pub(crate) fn salvage(&self, from: usize, out: &mut Output) -> Result<(), NoMemory>
-        ensures { OnOk result (out.new ≡ broken_unless (has_end self.now) (joined out.old (drop from self.now.cells))) }
+        ensures { OnOk result
+            (out.new ≡ broken_unless (has_end self.now) (joined out.old (drop from self.now.cells))) }
     {
         self.field.salvage(from, out)?;
         if !self.has_end() {
@@ -203,7 +212,9 @@ impl Slot {
 fn lay_data(field: &mut Field, pdu: &Amd<'_>) -> Result<usize, NoMemory>
     requires { end_of (piece_of (amd_of pdu.now)) ≤ 32767 }
     ensures end { IfOk result (λ end. end ≡ end_of (piece_of (amd_of pdu.now))) }
-    ensures cells { OnOk result (field.new ≡ laid field.old (so_of pdu.now.segment) (data_cells (begins_in pdu.now.fi) (ends_in pdu.now.fi) (elements_of pdu.now.elements))) }
+    ensures cells { OnOk result
+        (field.new ≡ laid field.old (so_of pdu.now.segment)
+        (data_cells (begins_in pdu.now.fi) (ends_in pdu.now.fi) (elements_of pdu.now.elements))) }
 {
     let ends = ends_in(pdu.fi);
     let mut begins = begins_in(pdu.fi);

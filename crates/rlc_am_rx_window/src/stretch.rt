@@ -1,4 +1,5 @@
-ghost use Rattle.std.specs.Prelude.{◌≡◌, ◌+◌, ◌<◌, ◌≤◌, ◌&&◌, ◌||◌, nat_lt, nat_le, length, drop, OnOk, IfOk};
+ghost use Rattle.std.specs.Prelude.{◌≡◌, ◌+◌, ◌<◌, ◌≤◌, ◌&&◌, ◌||◌, nat_lt, nat_le, length, drop};
+ghost use Rattle.std.specs.Prelude.{OnOk, IfOk};
 ghost use Rattle.rlc_am_rx_window.specs.Spread.{cells_in};
 ghost use Rattle.rlc_am_rx_window.specs.Joined.{joined};
 
@@ -39,7 +40,12 @@ impl Stretch {
         ends: bool,
     ) -> Result<Stretch, NoMemory>
         requires { 0 < length octets.now }
-        ensures { IfOk result (λ s. s ≡ record { gap = 0; octets = octets.now; begins = begins; ends = ends }) }
+        ensures { IfOk result (λ s. s ≡ record {
+          gap = 0;
+          octets = octets.now;
+          begins = begins;
+          ends = ends;
+        }) }
     {
         let octets = Bytes::from_slice(alloc, octets)?;
         Ok(Stretch {
@@ -97,11 +103,15 @@ impl Stretch {
         self.ends
     }
 
-    /// Whether an SDU is known to end at either of its sides, behind a place at or above one and below another; both are
-    /// counted from the first place of the gap.
+    /// Whether an SDU is known to end at either of its sides, behind a place at or above one and
+    /// below another; both are counted from the first place of the gap.
     pub(crate) fn ends_within(&self, from: usize, to: usize) -> bool
         requires { self.now.gap + length self.now.octets ≤ 32767 }
-        ensures { result ≡ (self.now.begins && (nat_lt from self.now.gap && nat_le self.now.gap to) || self.now.ends && (nat_lt from (self.now.gap + length self.now.octets) && nat_le (self.now.gap + length self.now.octets) to)) }
+        ensures { result
+            ≡ (self.now.begins && (nat_lt from self.now.gap && nat_le self.now.gap to)
+            || self.now.ends
+            && (nat_lt from (self.now.gap + length self.now.octets)
+            && nat_le (self.now.gap + length self.now.octets) to)) }
     {
         let end = self.gap + self.len();
         self.begins && (from < self.gap && self.gap <= to) || self.ends && (from < end && end <= to)

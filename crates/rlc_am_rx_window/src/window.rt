@@ -1,7 +1,10 @@
-ghost use Rattle.std.specs.Prelude.{◌≡◌, [], ◌∷◌, ◌++◌, ◌+◌, ◌-◌, ◌<◌, ◌≤◌, ◌^◌, length, OnOk, IfOk, slice_get, max, None};
+ghost use Rattle.std.specs.Prelude.{◌≡◌, [], ◌∷◌, ◌++◌, ◌+◌, ◌-◌, ◌<◌, ◌≤◌, ◌^◌, length, OnOk};
+ghost use Rattle.std.specs.Prelude.{IfOk, slice_get, max, None};
 ghost use Rattle.rlc_pdu.specs.Views.{amd_of};
 ghost use Rattle.rlc_am_rx_window.specs.Piece.{piece_of, end_of};
-ghost use Rattle.rlc_am_rx_window.specs.Window.{no_numbers, top, offset_of, first_incomplete, polled_in, landed, landing, with_kept, handed_on, advanced, salvaged};
+ghost use Rattle.rlc_am_rx_window.specs.Window.{no_numbers, top, offset_of, first_incomplete};
+ghost use Rattle.rlc_am_rx_window.specs.Window.{polled_in, landed, landing, with_kept, handed_on};
+ghost use Rattle.rlc_am_rx_window.specs.Window.{advanced, salvaged};
 ghost use Rattle.rlc_am_rx_window.specs.Missing.{missing, AreRanges, entries_bits};
 
 use crate::missing::Missing;
@@ -38,7 +41,8 @@ impl Model for Window {
 
     ghost view = { λ w. record { front = w.front; slots = w.ring.items; given = w.given } };
 
-    ghost invariant = { λ w. (w.ring.capacity ≡ 512) × (length w.ring.items ≤ 512) × (w.front + length w.ring.items ≤ 2 ^ 63 + 512) };
+    ghost invariant = { λ w. (w.ring.capacity ≡ 512) × (length w.ring.items ≤ 512)
+        × (w.front + length w.ring.items ≤ 2 ^ 63 + 512) };
 }
 
 impl Window {
@@ -80,7 +84,8 @@ impl Window {
         ((sn as u64 + 1024 - self.front % 1024) % 1024) as usize
     }
 
-    /// What comes of a PDU: first `Outside`, then `Repeat`, then `Clash`, exactly where it is so; else `Kept`.
+    /// What comes of a PDU: first `Outside`, then `Repeat`, then `Clash`, exactly where it is so;
+    /// else `Kept`.
     pub fn landed(&self, pdu: &Amd<'_>) -> Landed
         requires { pdu.now.sn < 1024 }
         ensures { result ≡ landed self.now pdu.now.sn (piece_of (amd_of pdu.now)) }
@@ -118,7 +123,8 @@ impl Window {
         ring::missing(self.alloc, &self.ring, self.front, bound)
     }
 
-    /// How many bits the entries of a STATUS take that says all that it may of the numbers below a bound.
+    /// How many bits the entries of a STATUS take that says all that it may of the numbers below a
+    /// bound.
     pub fn missing_bits(&self, bound: u64) -> u32
         ensures value { result ≡ entries_bits (missing self.now bound) }
         ensures few { result ≤ 2 ^ 31 }
@@ -130,7 +136,8 @@ impl Window {
     pub fn keep(&mut self, at: usize, pdu: &Amd<'_>) -> Result<(), NoMemory>
         requires at { at < 512 }
         requires fits { end_of (piece_of (amd_of pdu.now)) ≤ 32767 }
-        ensures { OnOk result (self.new ≡ with_kept self.old at (piece_of (amd_of pdu.now)) pdu.now.poll) }
+        ensures { OnOk result
+            (self.new ≡ with_kept self.old at (piece_of (amd_of pdu.now)) pdu.now.poll) }
     {
         if self.front >= LIMIT {
             return Err(NoMemory);

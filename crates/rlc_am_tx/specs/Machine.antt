@@ -1,6 +1,8 @@
--- An acknowledged sender as a machine (TS 36.322 5.1.3.1, 5.2.1, 5.2.2, 5.3.2): its state, and what each call makes of it. Numbers are true
--- numbers, counted from 0.
-use Rattle.std.specs.Prelude.{◌≡◌, ◌≤◌, ◌<◌, ℕ, ◌+◌, ◌-◌, ◌%◌, Bool, true, false, not, ◌||◌, ◌&&◌, ◌==◌, if◌then◌else◌, List, [], ◌∷◌, ◌++◌, length, map, drop, Option, Some, None, nat_le, nat_lt}
+-- An acknowledged sender as a machine (TS 36.322 5.1.3.1, 5.2.1, 5.2.2, 5.3.2): its state, and what
+-- each call makes of it. Numbers are true numbers, counted from 0.
+use Rattle.std.specs.Prelude.{◌≡◌, ◌≤◌, ◌<◌, ℕ, ◌+◌, ◌-◌, ◌%◌, Bool, true, false, not, ◌||◌, ◌&&◌}
+use Rattle.std.specs.Prelude.{◌==◌, if◌then◌else◌, List, [], ◌∷◌, ◌++◌, length, map, drop, Option}
+use Rattle.std.specs.Prelude.{Some, None, nat_le, nat_lt}
 use Rattle.std.specs.List.{concat}
 use Rattle.l2_num.specs.Timers.{Clock, stopped, begun, ceased, runs, ticked}
 use Rattle.l2_types.specs.declared.config.AmTxConfig.{AmTxConfig}
@@ -10,10 +12,13 @@ use Rattle.rlc_pdu.specs.declared.pdu.Nack.{Nack}
 use Rattle.rlc_pdu.specs.Pdus.{StatusPdu}
 use Rattle.rlc_queue.specs.Waiting.{Waiting, nothing_waits, with_sdu}
 use Rattle.rlc_queue.specs.NewPdu.{elements, rest, partial}
-use Rattle.rlc_am_tx_window.specs.Sent.{Sent, fresh, all_wait, whole_size, is_spent, rested, sent_part, recalled, next_stretch}
+use Rattle.rlc_am_tx_window.specs.Sent.{Sent, fresh, all_wait, whole_size, is_spent, rested}
+use Rattle.rlc_am_tx_window.specs.Sent.{sent_part, recalled, next_stretch}
 use Rattle.rlc_am_tx_window.specs.Written.{whole_octets, part_octets}
 use Rattle.rlc_am_tx_window.specs.Ledger.{Ledger, empty_ledger, opened, swept}
-use Rattle.rlc_am_tx_window.specs.Window.{Kept, next, slot_at, with_slot, offset_of, leading_idle, some_wait, last_open, named_all, is_named, acked_from, credited_from, considered_all, spent_among, advanced}
+use Rattle.rlc_am_tx_window.specs.Window.{Kept, next, slot_at, with_slot, offset_of, leading_idle}
+use Rattle.rlc_am_tx_window.specs.Window.{some_wait, last_open, named_all, is_named, acked_from}
+use Rattle.rlc_am_tx_window.specs.Window.{credited_from, considered_all, spent_among, advanced}
 use Rattle.rlc_am_tx.specs.declared.turn.Turn.{Turn}
 use Rattle.rlc_am_tx.specs.declared.turn.Turn.TheVariants as turns
 use Rattle.rlc_am_tx.specs.declared.answers.Heard.{Heard}
@@ -29,8 +34,9 @@ pub record Polls : Type 0 where
   pub poll_number : ℕ
   pub timer : Clock
 
--- the PDUs from VT(A) below VT(S); what is offered and not sent, and the place among the SDUs offered of the first of it; what isn't
--- acknowledged; and whether the retransmission limit was reached
+-- the PDUs from VT(A) below VT(S); what is offered and not sent, and the place among the SDUs
+-- offered of the first of it; what isn't acknowledged; and whether the retransmission limit was
+-- reached
 pub record State : Type 0 where
   pub window : Kept
   pub queue : Waiting
@@ -46,7 +52,13 @@ start c = record {
   queue = nothing_waits;
   place = 0;
   accounts = empty_ledger;
-  polls = record { owed = false; pdus_without_poll = 0; octets_without_poll = 0; poll_number = 0; timer = stopped c.poll_retransmit };
+  polls = record {
+    owed = false;
+    pdus_without_poll = 0;
+    octets_without_poll = 0;
+    poll_number = 0;
+    timer = stopped c.poll_retransmit;
+  };
   config = c;
   failed = false;
 }
@@ -87,9 +99,11 @@ again s = slot_at s.window.slots (first_place s)
 
 -- ---- what a call of `take` comes to
 
--- the whole PDU if all its octets wait and it fits, else a segment if one octet behind a header of 4 fits
+-- the whole PDU if all its octets wait and it fits, else a segment if one octet behind a header of
+-- 4 fits
 abbrev pub resend_turn : Sent → ℕ → Turn
-resend_turn h size = if all_wait h && nat_le (whole_size h) size then turns.Whole else if nat_le 5 size then turns.Part else turns.Small
+resend_turn h size = if all_wait h && nat_le (whole_size h) size then turns.Whole
+    else if nat_le 5 size then turns.Part else turns.Small
 
 -- where nothing was offered although PDCP has more, nothing is sent either
 abbrev pub new_turn : State → ℕ → Option ℕ → Turn
@@ -149,13 +163,28 @@ is_wanted s more =
 
 -- POLL_SN is VT(S) - 1 as the timer starts
 abbrev pub with_timer : State → State
-with_timer s = record s { polls = record s.polls { poll_number = next s.window - 1; timer = begun s.polls.timer } }
+with_timer s =
+    record s {
+      polls = record s.polls {
+        poll_number = next s.window - 1;
+        timer = begun s.polls.timer;
+      };
+    }
 
 abbrev pub without_timer : State → State
 without_timer s = record s { polls = record s.polls { timer = ceased s.polls.timer } }
 
 abbrev pub with_poll : Bool → State → State
-with_poll true s = record s { polls = record { owed = false; pdus_without_poll = 0; octets_without_poll = 0; poll_number = next s.window - 1; timer = begun s.polls.timer } }
+with_poll true s =
+    record s {
+      polls = record {
+        owed = false;
+        pdus_without_poll = 0;
+        octets_without_poll = 0;
+        poll_number = next s.window - 1;
+        timer = begun s.polls.timer;
+      };
+    }
 with_poll false s = s
 
 abbrev pub polled : State → Bool → State
@@ -170,13 +199,21 @@ abbrev pub sent_whole : State → State
 sent_whole s = record s { window = with_slot s.window (first_place s) (rested (again s)) }
 
 abbrev pub sent_segment : State → ℕ → State
-sent_segment s size = record s { window = with_slot s.window (first_place s) (sent_part (again s) (next_stretch (again s) size).from (next_stretch (again s) size).to) }
+sent_segment s size =
+    record s {
+      window =
+          with_slot s.window (first_place s)
+          (sent_part (again s) (next_stretch (again s) size).from (next_stretch (again s) size).to);
+    }
 
 abbrev pub whole_taken : State → Bool → Taken
-whole_taken s poll = taken.Piece (number_again s) false poll (whole_octets (again s) (number_again s) poll)
+whole_taken s poll =
+    taken.Piece (number_again s) false poll (whole_octets (again s) (number_again s) poll)
 
 abbrev pub part_taken : State → ℕ → Bool → Taken
-part_taken s size poll = taken.Piece (number_again s) false poll (part_octets (again s) (number_again s) poll (next_stretch (again s) size))
+part_taken s size poll =
+    taken.Piece (number_again s) false poll
+    (part_octets (again s) (number_again s) poll (next_stretch (again s) size))
 
 -- ---- a new PDU is sent
 
@@ -188,14 +225,19 @@ abbrev pub new_partial : State → ℕ → Bool
 new_partial s size = partial 2 size 0 0 s.queue.begun s.queue.sdus
 
 abbrev pub new_slot : State → ℕ → Sent
-new_slot s size = fresh (concat (new_elements s size)) (map length (new_elements s size)) (not s.queue.begun) (not (new_partial s size)) s.place
+new_slot s size =
+    fresh (concat (new_elements s size)) (map length (new_elements s size)) (not s.queue.begun)
+    (not (new_partial s size)) s.place
 
 -- how many SDUs end in it
 abbrev pub ended_in : Bool → ℕ → ℕ
 ended_in ends n = if ends then n else n - 1
 
 abbrev pub counted : Polls → ℕ → Polls
-counted p octets = record p { pdus_without_poll = p.pdus_without_poll + 1; octets_without_poll = p.octets_without_poll + octets }
+counted p octets = record p {
+  pdus_without_poll = p.pdus_without_poll + 1;
+  octets_without_poll = p.octets_without_poll + octets;
+}
 
 abbrev pub sent_new : State → ℕ → State
 sent_new s size = record s {
@@ -206,7 +248,8 @@ sent_new s size = record s {
 }
 
 abbrev pub new_taken : State → ℕ → Bool → Taken
-new_taken s size poll = taken.Piece (next s.window) true poll (whole_octets (new_slot s size) (next s.window) poll)
+new_taken s size poll =
+    taken.Piece (next s.window) true poll (whole_octets (new_slot s size) (next s.window) poll)
 
 -- ---- what `take` leaves and answers
 
@@ -238,15 +281,21 @@ answer s size held more = answer_of (turn s size held more) s size more
 
 -- ---- a STATUS is heard (TS 36.322 5.2.1)
 
--- the entries are read; the numbers below a place that they don't name are acknowledged; those that they name are considered
+-- the entries are read; the numbers below a place that they don't name are acknowledged; those that
+-- they name are considered
 abbrev pub named_window : State → List Nack → Kept
 named_window s nacks = record s.window { slots = named_all s.window.base s.window.slots nacks }
 
 abbrev pub acked_window : State → ℕ → List Nack → Kept
-acked_window s below nacks = record s.window { slots = acked_from 0 below (named_window s nacks).slots }
+acked_window s below nacks =
+    record s.window { slots = acked_from 0 below (named_window s nacks).slots }
 
 abbrev pub read_window : State → ℕ → List Nack → Kept
-read_window s below nacks = record s.window { slots = considered_all s.window.base s.config.max_retx (acked_window s below nacks).slots nacks }
+read_window s below nacks =
+    record s.window {
+      slots =
+          considered_all s.window.base s.config.max_retx (acked_window s below nacks).slots nacks;
+    }
 
 -- and VT(A) moves
 abbrev pub read : State → ℕ → List Nack → State
@@ -261,12 +310,16 @@ limit_in failed base None = None
 limit_in failed base (Some at) = if failed then None else Some ((base + at) % 1024)
 
 abbrev pub limit_of : State → ℕ → List Nack → Option ℕ
-limit_of s below nacks = limit_in s.failed s.window.base (spent_among s.window.base s.config.max_retx (read_window s below nacks).slots None nacks)
+limit_of s below nacks =
+    limit_in s.failed s.window.base
+    (spent_among s.window.base s.config.max_retx (read_window s below nacks).slots None nacks)
 
 -- the poll timer runs, and POLL_SN lies below ACK_SN or has an entry
 abbrev pub stops : State → ℕ → List Nack → Bool
 stops s below nacks =
-    runs s.polls.timer && (nat_lt s.polls.poll_number (s.window.base + below) || is_named s.window.base (s.polls.poll_number - s.window.base) nacks)
+    runs s.polls.timer
+    && (nat_lt s.polls.poll_number (s.window.base + below)
+    || is_named s.window.base (s.polls.poll_number - s.window.base) nacks)
 
 abbrev pub failed_of : State → State
 failed_of s = record s { polls = record s.polls { timer = ceased s.polls.timer }; failed = true }
@@ -291,10 +344,12 @@ abbrev pub applied_heard : State → ℕ → List Nack → Heard
 applied_heard s below nacks = heard_of (limit_of s below nacks) (stops s below nacks)
 
 unfoldable pub after_status : State → StatusPdu → State
-after_status s status = if is_ignored s status.ack then s else applied s (offset_of s.window.base status.ack) status.nacks
+after_status s status = if is_ignored s status.ack then s
+    else applied s (offset_of s.window.base status.ack) status.nacks
 
 unfoldable pub heard : State → StatusPdu → Heard
-heard s status = if is_ignored s status.ack then hears.Ignored else applied_heard s (offset_of s.window.base status.ack) status.nacks
+heard s status = if is_ignored s status.ack then hears.Ignored
+    else applied_heard s (offset_of s.window.base status.ack) status.nacks
 
 -- ---- the poll timer (TS 36.322 5.2.2.3)
 
@@ -311,31 +366,40 @@ recalled_place s more = if is_quiet s more then last_open 0 None s.window.slots 
 
 abbrev pub with_recalled : Option ℕ → State → State
 with_recalled None s = s
-with_recalled (Some at) s = record s { window = with_slot s.window at (recalled s.config.max_retx (slot_at s.window.slots at)) }
+with_recalled (Some at) s =
+    record s {
+      window =
+          with_slot s.window at (recalled s.config.max_retx (slot_at s.window.slots at));
+    }
 
 abbrev pub expired : State → Bool → State
 expired s more = with_recalled (recalled_place s more) (with_owed s)
 
 abbrev pub spent_at : Option ℕ → State → Option ℕ
 spent_at None s = None
-spent_at (Some at) s = if is_spent (slot_at s.window.slots at).retransmissions s.config.max_retx then Some at else None
+spent_at (Some at) s = if is_spent (slot_at s.window.slots at).retransmissions s.config.max_retx
+    then Some at else None
 
 abbrev pub expiry_limit : State → Bool → Option ℕ
-expiry_limit s more = limit_in s.failed s.window.base (spent_at (recalled_place s more) (expired s more))
+expiry_limit s more =
+    limit_in s.failed s.window.base (spent_at (recalled_place s more) (expired s more))
 
 abbrev pub expiry_of : Option ℕ → PollExpired
 expiry_of None = expires.Done
 expiry_of (Some sn) = expires.Limit sn
 
 unfoldable pub after_expiry : State → Bool → State
-after_expiry s more = if runs s.polls.timer then ended (expiry_limit s more) false (expired s more) else s
+after_expiry s more = if runs s.polls.timer
+    then ended (expiry_limit s more) false (expired s more) else s
 
 unfoldable pub expiry : State → Bool → PollExpired
 expiry s more = if runs s.polls.timer then expiry_of (expiry_limit s more) else expires.NotRunning
 
--- the poll timer without a poll: nothing is left or waits, something isn't acknowledged, the limit isn't reached and the timer doesn't run
+-- the poll timer without a poll: nothing is left or waits, something isn't acknowledged, the limit
+-- isn't reached and the timer doesn't run
 unfoldable pub settles : State → Bool → Bool
-settles s more = not more && is_empty s && not (waits s) && not (length s.window.slots == 0) && not s.failed && not (runs s.polls.timer)
+settles s more = not more && is_empty s && not (waits s) && not (length s.window.slots == 0)
+    && not s.failed && not (runs s.polls.timer)
 
 abbrev pub settled_by : Bool → State → State
 settled_by true s = with_timer s

@@ -10,8 +10,8 @@ use Rattle.rlc_am_tx.specs.Machine.{State, waits, is_shut, is_held, again}
 abbrev pub new_need : ℕ → ℕ
 new_need total = if total == 0 then 0 else 3 + total
 
--- the data part of the need, with 3 octets for a MAC subheader: what is resent first, else what is left of each SDU and 2 octets more for it, if
--- a new PDU may go
+-- the data part of the need, with 3 octets for a MAC subheader: what is resent first, else what is
+-- left of each SDU and 2 octets more for it, if a new PDU may go
 unfoldable pub data_need : State → ℕ → Option ℕ → ℕ
 data_need s waiting held =
     if s.failed then 0
@@ -21,7 +21,8 @@ data_need s waiting held =
 
 -- a new PDU of a size may be built, and has room for an octet of a further SDU
 unfoldable pub hungry : State → ℕ → Option ℕ → Bool
-hungry s size held = not s.failed && not (waits s) && not (is_shut s) && not (is_held held (next s.window)) && fits_more 2 size 0 0 s.queue.sdus
+hungry s size held = not s.failed && not (waits s) && not (is_shut s)
+    && not (is_held held (next s.window)) && fits_more 2 size 0 0 s.queue.sdus
 
 -- what isn't sent yet, and what waits to be resent
 abbrev pub backlog : State → ℕ

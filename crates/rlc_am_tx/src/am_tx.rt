@@ -1,7 +1,10 @@
-ghost use Rattle.std.specs.Prelude.{◌≡◌, ◌-◌, ◌≤◌, ◌^◌, min, length, OnOk, OnErr, IfOk, IfErr, IsTrue, IsErr, slice_get};
+ghost use Rattle.std.specs.Prelude.{◌≡◌, ◌-◌, ◌≤◌, ◌^◌, min, length, OnOk, OnErr, IfOk, IfErr};
+ghost use Rattle.std.specs.Prelude.{IsTrue, IsErr, slice_get};
 ghost use Rattle.rlc_queue.specs.NewPdu.{IsWithin};
 ghost use Rattle.l2_num.specs.Timers.{ends};
-ghost use Rattle.rlc_am_tx.specs.Machine.{start, offered, confirmed, after_take, answer, after_status, heard, after_tick, after_expiry, expiry, settled, settles};
+ghost use Rattle.rlc_am_tx.specs.Machine.{start, offered, confirmed, after_take, answer};
+ghost use Rattle.rlc_am_tx.specs.Machine.{after_status, heard, after_tick, after_expiry, expiry};
+ghost use Rattle.rlc_am_tx.specs.Machine.{settled, settles};
 ghost use Rattle.rlc_am_tx.specs.Need.{data_need, hungry, backlog, left};
 ghost use Rattle.rlc_am_tx.specs.Entity.{alive};
 
@@ -15,8 +18,9 @@ use std::marker::Model;
 
 /// The sending side of an acknowledged RLC entity.
 ///
-/// One that has answered `NoMemory` is dead: from then on each call that can answers `NoMemory`. The calls that take no
-/// memory stay exact. Numbers of PDUs, and places of SDUs among those offered, are counted from 0 and aren't reduced.
+/// One that has answered `NoMemory` is dead: from then on each call that can answers `NoMemory`.
+/// The calls that take no memory stay exact. Numbers of PDUs, and places of SDUs among those
+/// offered, are counted from 0 and aren't reduced.
 #[derive(Drop)]
 pub struct AmTx {
     sender: Sender,
@@ -44,8 +48,8 @@ impl AmTx {
         })
     }
 
-    /// Whether a new PDU of at most `size` octets may be built and has room for an octet of a further SDU. `held` is the
-    /// lowest number of this bearer that HARQ holds.
+    /// Whether a new PDU of at most `size` octets may be built and has room for an octet of a
+    /// further SDU. `held` is the lowest number of this bearer that HARQ holds.
     pub fn hungry(&self, size: u32, held: Option<u64>) -> bool
         ensures { result ≡ hungry self.now.state size held }
     {
@@ -69,16 +73,16 @@ impl AmTx {
         answer
     }
 
-    /// The octets that are reckoned for the next data PDU, `waiting` being the sum of (length + 2) over what PDCP may hand
-    /// over. More than 2^32 - 1 are told as 2^32 - 1.
+    /// The octets that are reckoned for the next data PDU, `waiting` being the sum of (length + 2)
+    /// over what PDCP may hand over. More than 2^32 - 1 are told as 2^32 - 1.
     pub fn need(&self, waiting: u64, held: Option<u64>) -> u32
         ensures { result ≡ min (2 ^ 32 - 1) (data_need self.now.state waiting held) }
     {
         self.sender.need(waiting, held)
     }
 
-    /// Takes a data PDU of at most `size` octets, 9421 at most; `more` says that PDCP may hand over another SDU. All
-    /// answers but `Piece` change nothing.
+    /// Takes a data PDU of at most `size` octets, 9421 at most; `more` says that PDCP may hand over
+    /// another SDU. All answers but `Piece` change nothing.
     pub fn take(&mut self, size: u32, held: Option<u64>, more: bool) -> Result<Taken, NoMemory>
         requires { size ≤ 9421 }
         ensures state { OnOk result (self.new ≡ alive (after_take self.old.state size held more)) }
@@ -95,9 +99,11 @@ impl AmTx {
         answer
     }
 
-    /// Hears a STATUS. It costs the PDUs below its ACK_SN and its entries, however long the window is.
+    /// Hears a STATUS. It costs the PDUs below its ACK_SN and its entries, however long the window
+    /// is.
     pub fn status(&mut self, status: StatusRead<'_>) -> Result<Heard, NoMemory>
-        ensures state { OnOk result (self.new ≡ alive (after_status self.old.state (status_of status.entry))) }
+        ensures state { OnOk result
+            (self.new ≡ alive (after_status self.old.state (status_of status.entry))) }
         ensures heard { IfOk result (λ h. h ≡ heard self.old.state (status_of status.entry)) }
         ensures dead { IsTrue self.old.dead → IsErr result }
         ensures err { OnErr result (IsTrue self.new.dead) }
@@ -110,7 +116,8 @@ impl AmTx {
         answer
     }
 
-    /// A TTI begins. True exactly where the poll timer reaches its end; it runs until `expire_poll`.
+    /// A TTI begins. True exactly where the poll timer reaches its end; it runs until
+    /// `expire_poll`.
     pub fn tick(&mut self) -> bool
         ensures state { self.new ≡ record self.old { state = after_tick self.old.state } }
         ensures ends { result ≡ ends self.old.state.polls.timer }
@@ -126,8 +133,9 @@ impl AmTx {
         self.sender.expire_poll(more)
     }
 
-    /// Starts the poll timer without a poll, exactly where nothing is left to send or to take or waits to be resent,
-    /// something isn't acknowledged, the limit isn't reached and the timer doesn't run. Answers whether it does.
+    /// Starts the poll timer without a poll, exactly where nothing is left to send or to take or
+    /// waits to be resent, something isn't acknowledged, the limit isn't reached and the timer
+    /// doesn't run. Answers whether it does.
     pub fn settle(&mut self, more: bool) -> bool
         ensures state { self.new ≡ record self.old { state = settled self.old.state more } }
         ensures answer { result ≡ settles self.old.state more }
@@ -135,7 +143,8 @@ impl AmTx {
         self.sender.settle(more)
     }
 
-    /// Takes the place of an SDU that is wholly acknowledged, each once, in the order of their acknowledgement.
+    /// Takes the place of an SDU that is wholly acknowledged, each once, in the order of their
+    /// acknowledgement.
     pub fn confirmed(&mut self) -> Option<u64>
         ensures value { result ≡ slice_get self.old.state.accounts.news 0 }
         ensures state { self.new ≡ record self.old { state = confirmed self.old.state } }

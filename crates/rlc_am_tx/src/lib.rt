@@ -1,5 +1,6 @@
-//! The sending side of an acknowledged RLC entity (TS 36.322 5.1.3.1, 5.2): new PDUs, retransmissions and segments of
-//! them, polls, STATUS reports that are heard, and the retransmission limit.
+//! The sending side of an acknowledged RLC entity (TS 36.322 5.1.3.1, 5.2): new PDUs,
+//! retransmissions and segments of them, polls, STATUS reports that are heard, and the
+//! retransmission limit.
 //!
 //! Contracts speak of an exact machine over true numbers, which stands in `specs/Machine.antt`.
 #![tactic(auto)]

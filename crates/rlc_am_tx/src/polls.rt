@@ -24,15 +24,33 @@ impl Model for Polling {
 
     ghost Value = { Polls };
 
-    ghost view = { λ p. record { owed = p.owed; pdus_without_poll = p.pdus_without_poll; octets_without_poll = p.octets_without_poll; poll_number = p.poll_number; timer = p.timer } };
+    ghost view = { λ p. record {
+      owed = p.owed;
+      pdus_without_poll = p.pdus_without_poll;
+      octets_without_poll = p.octets_without_poll;
+      poll_number = p.poll_number;
+      timer = p.timer;
+    } };
 
-    ghost inverse = { λ r. record { owed = r.owed; pdus_without_poll = r.pdus_without_poll; octets_without_poll = r.octets_without_poll; poll_number = r.poll_number; timer = r.timer } };
+    ghost inverse = { λ r. record {
+      owed = r.owed;
+      pdus_without_poll = r.pdus_without_poll;
+      octets_without_poll = r.octets_without_poll;
+      poll_number = r.poll_number;
+      timer = r.timer;
+    } };
 }
 
 impl Polling {
     /// No poll is owed or was sent; the timer has a length in TTIs.
     pub(crate) fn new(poll_retransmit: u32) -> Polling
-        ensures { result ≡ record { owed = false; pdus_without_poll = 0; octets_without_poll = 0; poll_number = 0; timer = stopped poll_retransmit } }
+        ensures { result ≡ record {
+          owed = false;
+          pdus_without_poll = 0;
+          octets_without_poll = 0;
+          poll_number = 0;
+          timer = stopped poll_retransmit;
+        } }
     {
         Polling {
             owed: false,
@@ -58,7 +76,9 @@ impl Polling {
 
     /// Whether so many PDUs or octets without a poll ask for one, or one is owed.
     pub(crate) fn is_due(&self, poll_pdu: Option<u32>, poll_byte: Option<u32>) -> bool
-        ensures { result ≡ (reaches poll_pdu self.now.pdus_without_poll || reaches poll_byte self.now.octets_without_poll || self.now.owed) }
+        ensures { result
+            ≡ (reaches poll_pdu self.now.pdus_without_poll
+            || reaches poll_byte self.now.octets_without_poll || self.now.owed) }
     {
         reaches(poll_pdu, self.pdus_without_poll)
             || reaches(poll_byte, self.octets_without_poll)
@@ -67,7 +87,13 @@ impl Polling {
 
     /// A poll is sent, POLL_SN being as given.
     pub(crate) fn poll(&mut self, number: u64)
-        ensures { self.new ≡ record { owed = false; pdus_without_poll = 0; octets_without_poll = 0; poll_number = number; timer = begun self.old.timer } }
+        ensures { self.new ≡ record {
+          owed = false;
+          pdus_without_poll = 0;
+          octets_without_poll = 0;
+          poll_number = number;
+          timer = begun self.old.timer;
+        } }
     {
         self.owed = false;
         self.pdus_without_poll = 0;
@@ -77,7 +103,10 @@ impl Polling {
 
     /// The timer starts, POLL_SN being as given.
     pub(crate) fn begin(&mut self, number: u64)
-        ensures { self.new ≡ record self.old { poll_number = number; timer = begun self.old.timer } }
+        ensures { self.new ≡ record self.old {
+          poll_number = number;
+          timer = begun self.old.timer;
+        } }
     {
         self.poll_number = number;
         self.timer.begin();

@@ -1,9 +1,15 @@
-ghost use Rattle.std.specs.Prelude.{◌≡◌, ◌+◌, ◌-◌, ◌<◌, ◌≤◌, ◌^◌, OnOk, IfOk, IfErr, IfSome, length, Some, true, false, slice_get, min};
+ghost use Rattle.std.specs.Prelude.{◌≡◌, ◌+◌, ◌-◌, ◌<◌, ◌≤◌, ◌^◌, OnOk, IfOk, IfErr, IfSome};
+ghost use Rattle.std.specs.Prelude.{length, Some, true, false, slice_get, min};
 ghost use Rattle.l2_num.specs.Timers.{ends};
 ghost use Rattle.rlc_pdu.specs.Views.{nacks_of, status_of};
 ghost use Rattle.rlc_am_tx_window.specs.Sent.{resend_size};
 ghost use Rattle.rlc_am_tx_window.specs.Window.{next, leading_idle};
-ghost use Rattle.rlc_am_tx.specs.Machine.{State, start, offered, confirmed, waits, is_shut, is_held, again, is_quiet, read, limit_in, limit_of, stops, ended, heard_of, after_status, heard, after_tick, recalled_place, with_recalled, expired, spent_at, expiry_limit, expiry_of, after_expiry, expiry, settled, settles};
+ghost use Rattle.rlc_am_tx.specs.Machine.{State, start, offered, confirmed, waits, is_shut};
+ghost use Rattle.rlc_am_tx.specs.Machine.{is_held, again, is_quiet, read, limit_in, limit_of};
+ghost use Rattle.rlc_am_tx.specs.Machine.{stops, ended, heard_of, after_status, heard, after_tick};
+ghost use Rattle.rlc_am_tx.specs.Machine.{recalled_place, with_recalled, expired, spent_at};
+ghost use Rattle.rlc_am_tx.specs.Machine.{expiry_limit, expiry_of, after_expiry, expiry, settled};
+ghost use Rattle.rlc_am_tx.specs.Machine.{settles};
 ghost use Rattle.rlc_am_tx.specs.Need.{new_need, data_need, hungry, backlog, left};
 
 use crate::answers::{Heard, PollExpired};
@@ -38,7 +44,15 @@ impl Model for Sender {
 
     ghost Value = { State };
 
-    ghost view = { λ s. record { window = s.window; queue = s.queue; place = s.place; accounts = s.accounts; polls = s.polls; config = s.config; failed = s.failed } };
+    ghost view = { λ s. record {
+      window = s.window;
+      queue = s.queue;
+      place = s.place;
+      accounts = s.accounts;
+      polls = s.polls;
+      config = s.config;
+      failed = s.failed;
+    } };
 }
 
 impl Sender {
@@ -106,7 +120,8 @@ impl Sender {
         }
     }
 
-    // Whether nothing waits to be resent, and nothing is left to send or to take or the window is shut.
+    // Whether nothing waits to be resent, and nothing is left to send or to take or the window is
+    // shut.
     pub(crate) fn is_quiet(&self, more: bool) -> bool
         ensures { result ≡ is_quiet self.now more }
     {
@@ -183,7 +198,8 @@ impl Sender {
         ensures value { result ≡ recalled_place self.now more }
         ensures within { IfSome result (λ at. at < length self.now.window.slots) }
         ensures below { IfSome result (λ at. at < 1024) }
-        ensures quiet { IfSome result (λ _. leading_idle self.now.window.slots ≡ length self.now.window.slots) }
+        ensures quiet { IfSome result (λ _. leading_idle self.now.window.slots
+            ≡ length self.now.window.slots) }
     {
         if self.is_quiet(more) {
             self.window.last_open()
@@ -194,7 +210,8 @@ impl Sender {
 
     fn recall(&mut self, place: Option<usize>)
         requires within { IfSome place (λ at. at < length self.old.window.slots) }
-        requires quiet { IfSome place (λ _. leading_idle self.old.window.slots ≡ length self.old.window.slots) }
+        requires quiet { IfSome place (λ _. leading_idle self.old.window.slots
+            ≡ length self.old.window.slots) }
         ensures { self.new ≡ with_recalled place self.old }
     {
         match place {

@@ -4,11 +4,15 @@ ghost use Rattle.std.specs.Prelude.{ℕ, ◌≡◌, ◌<◌, ◌≤◌, ◌^◌,
 ghost use Rattle.rlc_queue.specs.NewPdu.{IsWithin};
 ghost use Rattle.std.specs.List.{sum};
 ghost use Rattle.rlc_pdu.specs.Pdus.{AreLens};
-ghost use Rattle.rlc_am_tx_window.specs.Sent.{is_waiting, whole_size, next_stretch, stretch_size, fresh};
+ghost use Rattle.rlc_am_tx_window.specs.Sent.{is_waiting, whole_size, next_stretch, stretch_size};
+ghost use Rattle.rlc_am_tx_window.specs.Sent.{fresh};
 ghost use Rattle.rlc_am_tx_window.specs.Written.{whole_octets, part_octets};
 ghost use Rattle.rlc_am_tx_window.specs.Window.{slot_at};
 ghost use Rattle.rlc_am_tx.specs.declared.turn.Turn.TheVariants as turns;
-ghost use Rattle.rlc_am_tx.specs.Machine.{waits, again, resend_turn, new_turn, turn, IsAgain, IsAble, is_wanted, polled, sent_whole, sent_segment, whole_taken, part_taken, new_slot, sent_new, new_taken, after_take, answer};
+ghost use Rattle.rlc_am_tx.specs.Machine.{waits, again, resend_turn, new_turn, turn, IsAgain};
+ghost use Rattle.rlc_am_tx.specs.Machine.{IsAble, is_wanted, polled, sent_whole, sent_segment};
+ghost use Rattle.rlc_am_tx.specs.Machine.{whole_taken, part_taken, new_slot, sent_new, new_taken};
+ghost use Rattle.rlc_am_tx.specs.Machine.{after_take, answer};
 
 use crate::sender::{HEAD, Sender};
 use crate::turn::Turn;
@@ -93,8 +97,10 @@ impl Sender {
     // Writes the PDU that lies so far above VT(A).
     fn write_whole(&self, at: usize, number: u64, poll: bool) -> Result<Bytes, NoMemory>
         requires { at < length self.now.window.slots }
-        ensures value { IfOk result (λ pdu. pdu ≡ whole_octets (slot_at self.now.window.slots at) number poll) }
-        ensures len { IfOk result (λ pdu. length pdu ≡ whole_size (slot_at self.now.window.slots at)) }
+        ensures value { IfOk result
+            (λ pdu. pdu ≡ whole_octets (slot_at self.now.window.slots at) number poll) }
+        ensures len { IfOk result (λ pdu. length pdu
+            ≡ whole_size (slot_at self.now.window.slots at)) }
     {
         match self.window.get(at) {
             Some(slot) => slot.write_whole(self.alloc, number, poll),
@@ -112,7 +118,8 @@ impl Sender {
     ) -> Result<Bytes, NoMemory>
         requires there { at < length self.now.window.slots }
         requires within { stretch.now.to ≤ length (slot_at self.now.window.slots at).field }
-        ensures value { IfOk result (λ pdu. pdu ≡ part_octets (slot_at self.now.window.slots at) number poll stretch.now) }
+        ensures value { IfOk result
+            (λ pdu. pdu ≡ part_octets (slot_at self.now.window.slots at) number poll stretch.now) }
         ensures len { IfOk result (λ pdu. length pdu ≡ stretch_size stretch.now) }
     {
         match self.window.get(at) {
@@ -125,8 +132,10 @@ impl Sender {
     fn send_whole(&mut self, more: bool) -> Result<Taken, NoMemory>
         requires { waits self.old ≡ true }
         ensures state { OnOk result (self.new ≡ polled (sent_whole self.old) more) }
-        ensures taken { IfOk result (λ t. t ≡ whole_taken self.old (is_wanted (sent_whole self.old) more)) }
-        ensures within { IfOk result (λ t. (size : ℕ) → whole_size (again self.old) ≤ size → IsWithin size t) }
+        ensures taken { IfOk result
+            (λ t. t ≡ whole_taken self.old (is_wanted (sent_whole self.old) more)) }
+        ensures within { IfOk result (λ t. (size : ℕ) → whole_size (again self.old) ≤ size
+            → IsWithin size t) }
     {
         let at = self.window.first_waiting();
         let number = self.window.base() + at as u64;
@@ -162,7 +171,8 @@ impl Sender {
         requires waits { waits self.old ≡ true }
         requires room { 5 ≤ size }
         ensures state { OnOk result (self.new ≡ polled (sent_segment self.old size) more) }
-        ensures taken { IfOk result (λ t. t ≡ part_taken self.old size (is_wanted (sent_segment self.old size) more)) }
+        ensures taken { IfOk result
+            (λ t. t ≡ part_taken self.old size (is_wanted (sent_segment self.old size) more)) }
         ensures within { IfOk result (λ t. IsWithin size t) }
     {
         let at = self.window.first_waiting();
@@ -206,7 +216,8 @@ impl Sender {
         requires room { 3 ≤ size }
         requires short { size ≤ 9421 }
         ensures state { OnOk result (self.new ≡ polled (sent_new self.old size) more) }
-        ensures taken { IfOk result (λ t. t ≡ new_taken self.old size (is_wanted (sent_new self.old size) more)) }
+        ensures taken { IfOk result
+            (λ t. t ≡ new_taken self.old size (is_wanted (sent_new self.old size) more)) }
         ensures within { IfOk result (λ t. IsWithin size t) }
     {
         let at = self.window.len();

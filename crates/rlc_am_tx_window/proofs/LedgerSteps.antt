@@ -10,7 +10,8 @@ left-open (p ∷ os) o = let ih = left-open os o in omega arith
 
 pub ruleset opens = (left-open)
 
-pub left-paid : (os : List Owed) (at n : ℕ) → left_in (paid_at (slice_get os at) os at n) + last_size (slice_get os at) n ≡ left_in os
+pub left-paid : (os : List Owed) (at n : ℕ)
+    → left_in (paid_at (slice_get os at) os at n) + last_size (slice_get os at) n ≡ left_in os
 left-paid [] at n = grind (arith, nat_tests, common_steps)
 left-paid (o ∷ os) zero n = grind (arith, nat_tests, common_steps)
 left-paid (o ∷ os) (suc at) n = let ih = left-paid os at n in grind (arith, nat_tests, common_steps, ih)

@@ -1,7 +1,9 @@
 -- Element lengths of a PDU or a segment that is cut to a room (TS 36.322 6.2.1.4, 6.2.1.5).
-use Rattle.std.specs.Prelude.{ℕ, ◌+◌, ◌-◌, Bool, true, false, not, ◌&&◌, ◌==◌, if◌then◌else◌, List, [], ◌∷◌, ◌++◌, min, nat_le, nat_lt}
+use Rattle.std.specs.Prelude.{ℕ, ◌+◌, ◌-◌, Bool, true, false, not, ◌&&◌, ◌==◌, if◌then◌else◌, List}
+use Rattle.std.specs.Prelude.{[], ◌∷◌, ◌++◌, min, nat_le, nat_lt}
 
--- the octets that one element more costs in the header: 12 bits, of which every second one finds half an octet free
+-- the octets that one element more costs in the header: 12 bits, of which every second one finds
+-- half an octet free
 abbrev pub cost : Bool → ℕ
 cost true = 1
 cost false = 2
@@ -10,10 +12,12 @@ cost false = 2
 abbrev pub goes_on : Bool → ℕ → ℕ → Bool
 goes_on half room l = nat_le l 2047 && nat_lt (l + cost half) room
 
--- the element lengths that fit into a room, of those that may follow each other: each as long as fits
+-- the element lengths that fit into a room, of those that may follow each other: each as long as
+-- fits
 abbrev pub cut : Bool → ℕ → List ℕ → List ℕ
 cut half room [] = []
-cut half room (l ∷ ls) = min l room ∷ (if goes_on half room l then cut (not half) (room - (l + cost half)) ls else [])
+cut half room (l ∷ ls) =
+    min l room ∷ (if goes_on half room l then cut (not half) (room - (l + cost half)) ls else [])
 
 abbrev pub some_length : ℕ → List ℕ
 some_length n = if n == 0 then [] else n ∷ []

@@ -1,12 +1,15 @@
 -- What of the offered SDUs isn't acknowledged yet (TS 36.322 5.1.3.1.1).
-use Rattle.std.specs.Prelude.{ℕ, ◌+◌, ◌-◌, Bool, false, ◌&&◌, ◌==◌, if◌then◌else◌, List, [], ◌∷◌, ◌++◌, length, drop, Option, Some, None, nat_le, nat_lt, slice_get, slice_set}
+use Rattle.std.specs.Prelude.{ℕ, ◌+◌, ◌-◌, Bool, false, ◌&&◌, ◌==◌, if◌then◌else◌, List, [], ◌∷◌}
+use Rattle.std.specs.Prelude.{◌++◌, length, drop, Option, Some, None, nat_le, nat_lt, slice_get}
+use Rattle.std.specs.Prelude.{slice_set}
 
 -- an SDU's octets, and those of them that aren't acknowledged
 pub record Owed : Type 0 where
   pub size : ℕ
   pub owed : ℕ
 
--- the place of the first SDU that isn't wholly acknowledged, what is owed of each from there on, and the places that are newly confirmed
+-- the place of the first SDU that isn't wholly acknowledged, what is owed of each from there on,
+-- and the places that are newly confirmed
 pub record Ledger : Type 0 where
   pub oldest : ℕ
   pub entries : List Owed
@@ -47,7 +50,8 @@ credited l place n =
     else record {
       oldest = l.oldest;
       entries = paid_at (slice_get l.entries (place - l.oldest)) l.entries (place - l.oldest) n;
-      news = if is_last_of (slice_get l.entries (place - l.oldest)) n then l.news ++ place ∷ [] else l.news;
+      news = if is_last_of (slice_get l.entries (place - l.oldest)) n then l.news ++ place ∷ []
+          else l.news;
     }
 
 -- elements of SDUs from a place on
@@ -61,7 +65,10 @@ leading_paid [] = 0
 leading_paid (o ∷ os) = if o.owed == 0 then leading_paid os + 1 else 0
 
 abbrev pub swept : Ledger → Ledger
-swept l = record l { oldest = l.oldest + leading_paid l.entries; entries = drop (leading_paid l.entries) l.entries }
+swept l = record l {
+  oldest = l.oldest + leading_paid l.entries;
+  entries = drop (leading_paid l.entries) l.entries;
+}
 
 -- the octets of the SDUs that aren't wholly acknowledged
 abbrev pub left_of : Owed → ℕ

@@ -1,5 +1,6 @@
 -- Ascending numbers (TS 36.322 7.1).
-use Rattle.std.specs.Prelude.{ℕ, ◌≤◌, Bool, true, ◌+◌, ◌==◌, if◌then◌else◌, List, [], ◌∷◌, Option, Some, None, nat_lt}
+use Rattle.std.specs.Prelude.{ℕ, ◌≤◌, Bool, true, ◌+◌, ◌==◌, if◌then◌else◌, List, [], ◌∷◌, Option}
+use Rattle.std.specs.Prelude.{Some, None, nat_lt}
 
 -- the first, if there is one, and the others
 abbrev pub numbers : Option ℕ → List ℕ → List ℕ
@@ -9,7 +10,8 @@ numbers (Some n) others = n ∷ others
 -- with a number
 abbrev pub inserted : ℕ → List ℕ → List ℕ
 inserted n [] = n ∷ []
-inserted n (x ∷ xs) = if nat_lt x n then x ∷ inserted n xs else if x == n then x ∷ xs else n ∷ x ∷ xs
+inserted n (x ∷ xs) = if nat_lt x n then x ∷ inserted n xs else if x == n then x ∷ xs
+    else n ∷ x ∷ xs
 
 -- without a number
 abbrev pub without : ℕ → List ℕ → List ℕ

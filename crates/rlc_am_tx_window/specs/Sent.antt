@@ -1,14 +1,18 @@
 -- What is kept of a PDU that was sent (TS 36.322 5.2.1).
-use Rattle.std.specs.Prelude.{ℕ, ◌≤◌, ◌<◌, ◌+◌, ◌-◌, Bool, true, false, not, ◌||◌, ◌&&◌, ◌==◌, if◌then◌else◌, List, [], ◌∷◌, length, Option, Some, None, is_some, nat_le, nat_lt, min, max}
+use Rattle.std.specs.Prelude.{ℕ, ◌≤◌, ◌<◌, ◌+◌, ◌-◌, Bool, true, false, not, ◌||◌, ◌&&◌, ◌==◌}
+use Rattle.std.specs.Prelude.{if◌then◌else◌, List, [], ◌∷◌, length, Option, Some, None, is_some}
+use Rattle.std.specs.Prelude.{nat_le, nat_lt, min, max}
 use Rattle.std.specs.List.{sum}
 use Rattle.rlc_pdu.specs.declared.pdu.Part.{Part}
 use Rattle.rlc_pdu.specs.Runs.{Run, run, added, removed, gap_in}
 use Rattle.rlc_pdu.specs.Writing.{header_len}
 use Rattle.rlc_am_tx_window.specs.Cut.{cut, clip}
 
--- the data field, the lengths of its elements, whether the first begins and the last ends an SDU, and the place of the first one's SDU among
--- those offered; the octets that don't wait to be resent; RETX_COUNT, none before the PDU was considered for retransmission; whether it is
--- acknowledged; and what a STATUS that is being read has said: nothing yet, or whether it named an octet that didn't wait
+-- the data field, the lengths of its elements, whether the first begins and the last ends an SDU,
+-- and the place of the first one's SDU among those offered; the octets that don't wait to be
+-- resent; RETX_COUNT, none before the PDU was considered for retransmission; whether it is
+-- acknowledged; and what a STATUS that is being read has said: nothing yet, or whether it named an
+-- octet that didn't wait
 pub record Sent : Type 0 where
   pub field : List ℕ
   pub lens : List ℕ
@@ -64,7 +68,8 @@ pub record Lies (from size : ℕ) (p : Part) : Type 0 where
 -- how many octets wait, from a place below another, of which some rest
 abbrev pub waiting_between : ℕ → ℕ → List Run → ℕ
 waiting_between at size [] = size - at
-waiting_between at size (r ∷ rs) = (min r.from size - at) + waiting_between (max at (max r.from r.to)) size rs
+waiting_between at size (r ∷ rs) =
+    (min r.from size - at) + waiting_between (max at (max r.from r.to)) size rs
 
 abbrev pub waiting_octets : Sent → ℕ
 waiting_octets h = waiting_between 0 (length h.field) h.resting
@@ -81,9 +86,11 @@ segment_size h from to = header_len 4 (length (clip from to h.lens)) + (to - fro
 
 abbrev pub resend_size_of : Option Part → Sent → ℕ
 resend_size_of None h = 0
-resend_size_of (Some p) h = if is_all (Some p) 0 (length h.field) then whole_size h else segment_size h p.start (p.end + 1)
+resend_size_of (Some p) h = if is_all (Some p) 0 (length h.field) then whole_size h
+    else segment_size h p.start (p.end + 1)
 
--- of what is resent first: the PDU where all its octets wait, else a segment with the first octets that wait
+-- of what is resent first: the PDU where all its octets wait, else a segment with the first octets
+-- that wait
 abbrev pub resend_size : Sent → ℕ
 resend_size h = resend_size_of (first_waiting h) h
 
@@ -102,7 +109,8 @@ stretch_size s = header_len 4 (length s.lens) + sum s.lens
 abbrev pub stretch_of : ℕ → List ℕ → Stretch
 stretch_of from lens = record { from = from; to = from + sum lens; lens = lens }
 
--- the longest one of at most so many octets that begins with a part and lies in it: behind a header of 4 octets and its LIs as much as fits
+-- the longest one of at most so many octets that begins with a part and lies in it: behind a header
+-- of 4 octets and its LIs as much as fits
 abbrev pub stretch_in : Sent → ℕ → Part → Stretch
 stretch_in h size p = stretch_of p.start (cut false (size - 4) (clip p.start (p.end + 1) h.lens))
 
@@ -140,7 +148,8 @@ named_range h from to =
     }
     else record h { named = Some (is_new h.named) }
 
--- the place where the octets begin that an entry names, and the one behind them, in a field of so many
+-- the place where the octets begin that an entry names, and the one behind them, in a field of so
+-- many
 abbrev pub start_of : Option Part → ℕ
 start_of None = 0
 start_of (Some p) = p.start
@@ -149,11 +158,14 @@ abbrev pub stop_of : Option Part → ℕ → ℕ
 stop_of None size = size
 stop_of (Some p) size = min (p.end + 1) size
 
--- an entry of a STATUS names a PDU that isn't acknowledged: all its octets, or a range that is cut to the field
+-- an entry of a STATUS names a PDU that isn't acknowledged: all its octets, or a range that is cut
+-- to the field
 abbrev pub with_name : Sent → Option Part → Sent
-with_name h part = if h.acked then h else named_range h (start_of part) (stop_of part (length h.field))
+with_name h part = if h.acked then h
+    else named_range h (start_of part) (stop_of part (length h.field))
 
--- RETX_COUNT: 0 the first time, later one more, but not where every octet named waited already; it isn't counted past the limit
+-- RETX_COUNT: 0 the first time, later one more, but not where every octet named waited already; it
+-- isn't counted past the limit
 abbrev pub counted : Option ℕ → ℕ → Bool → Option ℕ
 counted None most new = Some 0
 counted (Some k) most new = if new && nat_lt k most then Some (k + 1) else Some k
@@ -161,7 +173,8 @@ counted (Some k) most new = if new && nat_lt k most then Some (k + 1) else Some 
 -- a STATUS that named it has been read
 abbrev pub considered_by : Option Bool → ℕ → Sent → Sent
 considered_by None most h = h
-considered_by (Some new) most h = record h { retransmissions = counted h.retransmissions most new; named = None }
+considered_by (Some new) most h =
+    record h { retransmissions = counted h.retransmissions most new; named = None }
 
 abbrev pub considered : ℕ → Sent → Sent
 considered most h = considered_by h.named most h
@@ -171,7 +184,10 @@ abbrev pub gets_acked : Sent → Bool
 gets_acked h = not h.acked && not (is_some h.named)
 
 abbrev pub acknowledged : Sent → Sent
-acknowledged h = if gets_acked h then record h { acked = true; resting = run 0 (length h.field) ∷ [] } else h
+acknowledged h = if gets_acked h then record h {
+  acked = true;
+  resting = run 0 (length h.field) ∷ [];
+} else h
 
 -- an expiry of the poll timer names all octets
 abbrev pub recalled : ℕ → Sent → Sent

@@ -1,7 +1,10 @@
 -- The window of an acknowledged sender: the numbers from VT(A) below VT(S) (TS 36.322 7.1).
-use Rattle.std.specs.Prelude.{ℕ, ◌+◌, ◌-◌, ◌%◌, Bool, true, false, ◌==◌, if◌then◌else◌, List, [], ◌∷◌, length, drop, min, Option, Some, None, nat_lt, slice_set, slice_index_or}
+use Rattle.std.specs.Prelude.{ℕ, ◌+◌, ◌-◌, ◌%◌, Bool, true, false, ◌==◌, if◌then◌else◌, List, []}
+use Rattle.std.specs.Prelude.{◌∷◌, length, drop, min, Option, Some, None, nat_lt, slice_set}
+use Rattle.std.specs.Prelude.{slice_index_or}
 use Rattle.rlc_pdu.specs.declared.pdu.Nack.{Nack}
-use Rattle.rlc_am_tx_window.specs.Sent.{Sent, fresh, is_waiting, waiting_octets, is_spent, with_name, considered, gets_acked, acknowledged}
+use Rattle.rlc_am_tx_window.specs.Sent.{Sent, fresh, is_waiting, waiting_octets, is_spent}
+use Rattle.rlc_am_tx_window.specs.Sent.{with_name, considered, gets_acked, acknowledged}
 use Rattle.rlc_am_tx_window.specs.Ledger.{Ledger, credited_all}
 
 -- VT(A), and what is kept of each number from there on
@@ -39,7 +42,8 @@ some_wait slots = nat_lt (leading_idle slots) (length slots)
 -- the numbers of which octets wait, ascending
 abbrev pub waiting_from : ℕ → List Sent → List ℕ
 waiting_from n [] = []
-waiting_from n (h ∷ hs) = if is_waiting h then n ∷ waiting_from (n + 1) hs else waiting_from (n + 1) hs
+waiting_from n (h ∷ hs) = if is_waiting h then n ∷ waiting_from (n + 1) hs
+    else waiting_from (n + 1) hs
 
 -- how many octets wait
 abbrev pub waiting_in : List Sent → ℕ
@@ -55,7 +59,9 @@ last_open at found (h ∷ hs) = last_open (at + 1) (if h.acked then found else S
 
 abbrev pub named_one : ℕ → List Sent → Nack → List Sent
 named_one base slots n =
-    if nat_lt (offset_of base n.sn) (length slots) then slice_set slots (offset_of base n.sn) (with_name (slot_at slots (offset_of base n.sn)) n.part)
+    if nat_lt (offset_of base n.sn) (length slots)
+    then slice_set slots (offset_of base n.sn)
+    (with_name (slot_at slots (offset_of base n.sn)) n.part)
     else slots
 
 abbrev pub named_all : ℕ → List Sent → List Nack → List Sent
@@ -71,25 +77,30 @@ is_named base at (n ∷ ns) = if offset_of base n.sn == at then true else is_nam
 
 abbrev pub acked_from : ℕ → ℕ → List Sent → List Sent
 acked_from at below [] = []
-acked_from at below (h ∷ hs) = (if nat_lt at below then acknowledged h else h) ∷ acked_from (at + 1) below hs
+acked_from at below (h ∷ hs) = (if nat_lt at below then acknowledged h else h)
+    ∷ acked_from (at + 1) below hs
 
 abbrev pub credited_one : Ledger → Sent → Ledger
 credited_one l h = if gets_acked h then credited_all l h.place h.lens else l
 
 abbrev pub credited_from : Ledger → ℕ → ℕ → List Sent → Ledger
 credited_from l at below [] = l
-credited_from l at below (h ∷ hs) = credited_from (if nat_lt at below then credited_one l h else l) (at + 1) below hs
+credited_from l at below (h ∷ hs) =
+    credited_from (if nat_lt at below then credited_one l h else l) (at + 1) below hs
 
 -- ---- the numbers that it named are considered for retransmission
 
 abbrev pub considered_one : ℕ → ℕ → List Sent → Nack → List Sent
 considered_one base most slots n =
-    if nat_lt (offset_of base n.sn) (length slots) then slice_set slots (offset_of base n.sn) (considered most (slot_at slots (offset_of base n.sn)))
+    if nat_lt (offset_of base n.sn) (length slots)
+    then slice_set slots (offset_of base n.sn)
+    (considered most (slot_at slots (offset_of base n.sn)))
     else slots
 
 abbrev pub considered_all : ℕ → ℕ → List Sent → List Nack → List Sent
 considered_all base most slots [] = slots
-considered_all base most slots (n ∷ ns) = considered_all base most (considered_one base most slots n) ns
+considered_all base most slots (n ∷ ns) =
+    considered_all base most (considered_one base most slots n) ns
 
 -- the place of the least number named whose RETX_COUNT has reached the limit
 
@@ -98,11 +109,14 @@ least None at = Some at
 least (Some k) at = Some (min k at)
 
 abbrev pub or_spent : ℕ → ℕ → List Sent → Option ℕ → Nack → Option ℕ
-or_spent base most slots found n = if is_spent (slot_at slots (offset_of base n.sn)).retransmissions most then least found (offset_of base n.sn) else found
+or_spent base most slots found n =
+    if is_spent (slot_at slots (offset_of base n.sn)).retransmissions most
+    then least found (offset_of base n.sn) else found
 
 abbrev pub spent_among : ℕ → ℕ → List Sent → Option ℕ → List Nack → Option ℕ
 spent_among base most slots found [] = found
-spent_among base most slots found (n ∷ ns) = spent_among base most slots (or_spent base most slots found n) ns
+spent_among base most slots found (n ∷ ns) =
+    spent_among base most slots (or_spent base most slots found n) ns
 
 -- ---- VT(A) moves to the first number that isn't acknowledged
 
@@ -111,4 +125,7 @@ leading_acked [] = 0
 leading_acked (h ∷ hs) = if h.acked then leading_acked hs + 1 else 0
 
 abbrev pub advanced : Kept → Kept
-advanced w = record { base = w.base + leading_acked w.slots; slots = drop (leading_acked w.slots) w.slots }
+advanced w = record {
+  base = w.base + leading_acked w.slots;
+  slots = drop (leading_acked w.slots) w.slots;
+}

@@ -1,5 +1,6 @@
 -- The octets of a PDU that is sent, or of a segment of it (TS 36.322 6.2.1.4, 6.2.1.5).
-use Rattle.std.specs.Prelude.{ℕ, ◌%◌, Bool, ◌==◌, if◌then◌else◌, List, length, Some, None, slice_range}
+use Rattle.std.specs.Prelude.{ℕ, ◌%◌, Bool, ◌==◌, if◌then◌else◌, List, length, Some, None}
+use Rattle.std.specs.Prelude.{slice_range}
 use Rattle.rlc_pdu.specs.Writing.{amd_written}
 use Rattle.rlc_queue.specs.NewPdu.{framing}
 use Rattle.rlc_am_tx_window.specs.Cut.{is_cut}
@@ -14,10 +15,12 @@ ends_at h at = if at == length h.field then h.ends else is_cut at h.lens
 
 -- the whole PDU of a number
 abbrev pub whole_octets : Sent → ℕ → Bool → List ℕ
-whole_octets h number poll = amd_written (number % 1024) poll (framing h.begins h.ends) None h.lens h.field
+whole_octets h number poll =
+    amd_written (number % 1024) poll (framing h.begins h.ends) None h.lens h.field
 
 -- a segment of it
 abbrev pub part_octets : Sent → ℕ → Bool → Stretch → List ℕ
 part_octets h number poll s =
-    amd_written (number % 1024) poll (framing (begins_at h s.from) (ends_at h s.to)) (Some (record { last = s.to == length h.field; so = s.from }))
+    amd_written (number % 1024) poll (framing (begins_at h s.from) (ends_at h s.to))
+    (Some (record { last = s.to == length h.field; so = s.from }))
     s.lens (slice_range h.field s.from s.to)

@@ -1,5 +1,8 @@
-ghost use Rattle.std.specs.Prelude.{◌≡◌, ◌++◌, ◌+◌, ◌<◌, ◌≤◌, ◌^◌, OnOk, [], ◌∷◌, length, drop, slice_get};
-ghost use Rattle.rlc_am_tx_window.specs.Ledger.{empty_ledger, opened, offered, paid_at, is_last_of, credited, credited_all, leading_paid, swept, left_in, paid, size_done, last_size};
+ghost use Rattle.std.specs.Prelude.{◌≡◌, ◌++◌, ◌+◌, ◌<◌, ◌≤◌, ◌^◌, OnOk, [], ◌∷◌, length, drop};
+ghost use Rattle.std.specs.Prelude.{slice_get};
+ghost use Rattle.rlc_am_tx_window.specs.Ledger.{empty_ledger, opened, offered, paid_at, is_last_of};
+ghost use Rattle.rlc_am_tx_window.specs.Ledger.{credited, credited_all, leading_paid, swept};
+ghost use Rattle.rlc_am_tx_window.specs.Ledger.{left_in, paid, size_done, last_size};
 
 use l2_bits::NoMemory;
 use std::alloc::Global;
@@ -23,7 +26,8 @@ impl Model for Entry {
     ghost inverse = { λ r. record { size = r.size; owed = r.owed } };
 }
 
-/// What of the offered SDUs isn't acknowledged. An SDU goes by its place among those offered, counted from 0.
+/// What of the offered SDUs isn't acknowledged. An SDU goes by its place among those offered,
+/// counted from 0.
 #[derive(Drop)]
 pub struct Accounts {
     oldest: u64,
@@ -40,7 +44,8 @@ impl Model for Accounts {
 
     ghost view = { λ l. record { oldest = l.oldest; entries = l.entries.items; news = l.news.items } };
 
-    ghost invariant = { λ l. (l.oldest + length l.entries.items ≤ 2 ^ 62) × (left_in l.entries.items ≡ l.left) × (l.left ≤ 2 ^ 63) };
+    ghost invariant = { λ l. (l.oldest + length l.entries.items ≤ 2 ^ 62) × (left_in l.entries.items ≡ l.left)
+        × (l.left ≤ 2 ^ 63) };
 }
 
 impl Accounts {
@@ -142,7 +147,8 @@ fn is_last(entries: &VecDeque<Entry>, at: usize, len: u32) -> bool
 
 // Answers the octets of an SDU that is now wholly acknowledged.
 fn pay(entries: &mut VecDeque<Entry>, at: usize, len: u32) -> u64
-    ensures entries { entries.new.items ≡ paid_at (slice_get entries.old.items at) entries.old.items at len }
+    ensures entries { entries.new.items
+        ≡ paid_at (slice_get entries.old.items at) entries.old.items at len }
     ensures done { result ≡ last_size (slice_get entries.old.items at) len }
 {
     match entries.get_mut(at) {

@@ -1,5 +1,6 @@
-//! The window of an acknowledged sender (TS 36.322 5.2.1): what is kept of each PDU sent until it is acknowledged, which
-//! octets wait to be resent, and which of the offered SDUs are wholly acknowledged.
+//! The window of an acknowledged sender (TS 36.322 5.2.1): what is kept of each PDU sent until it
+//! is acknowledged, which octets wait to be resent, and which of the offered SDUs are wholly
+//! acknowledged.
 #![tactic(auto)]
 
 mod cut;

@@ -1,4 +1,5 @@
-ghost use Rattle.std.specs.Prelude.{◌≡◌, ◌≤◌, [], ◌∷◌, OnOk, OnErr, slice_get, slice_index_or, length, ◌<◌};
+ghost use Rattle.std.specs.Prelude.{◌≡◌, ◌≤◌, [], ◌∷◌, OnOk, OnErr, slice_get, slice_index_or};
+ghost use Rattle.std.specs.Prelude.{length, ◌<◌};
 ghost use Rattle.rlc_am_tx_window.specs.Numbers.{Ascend, inserted, without, lower, last_below};
 
 use l2_bits::NoMemory;

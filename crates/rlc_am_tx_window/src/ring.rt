@@ -1,10 +1,17 @@
 // What goes over the ring of a window. Beside the ring stand the numbers that wait, ascending.
-ghost use Rattle.std.specs.Prelude.{◌≡◌, ◌++◌, ◌+◌, ◌*◌, ◌<◌, ◌≤◌, ◌^◌, OnOk, OnErr, IfSome, [], ◌∷◌, length, drop, slice_get, slice_set, None, Some, true, false, if◌then◌else◌};
+ghost use Rattle.std.specs.Prelude.{◌≡◌, ◌++◌, ◌+◌, ◌*◌, ◌<◌, ◌≤◌, ◌^◌, OnOk, OnErr, IfSome, []};
+ghost use Rattle.std.specs.Prelude.{◌∷◌, length, drop, slice_get, slice_set, None, Some, true};
+ghost use Rattle.std.specs.Prelude.{false, if◌then◌else◌};
 ghost use Rattle.circular_buffer.specs.Buffer.{buffer};
 ghost use Rattle.rlc_pdu.specs.Views.{nacks_of};
 ghost use Rattle.rlc_am_tx_window.specs.Ledger.{credited_all};
-ghost use Rattle.rlc_am_tx_window.specs.Sent.{is_waiting, rested, sent_part, recalled, with_name, considered, is_spent, acknowledged, gets_acked};
-ghost use Rattle.rlc_am_tx_window.specs.Window.{slot_at, offset_of, waiting_from, leading_idle, waiting_in, last_open, named_one, named_all, is_named, acked_from, credited_one, credited_from, considered_one, considered_all, least, or_spent, spent_among, leading_acked};
+ghost use Rattle.rlc_am_tx_window.specs.Sent.{is_waiting, rested, sent_part, recalled, with_name};
+ghost use Rattle.rlc_am_tx_window.specs.Sent.{considered, is_spent, acknowledged, gets_acked};
+ghost use Rattle.rlc_am_tx_window.specs.Window.{slot_at, offset_of, waiting_from, leading_idle};
+ghost use Rattle.rlc_am_tx_window.specs.Window.{waiting_in, last_open, named_one, named_all};
+ghost use Rattle.rlc_am_tx_window.specs.Window.{is_named, acked_from, credited_one, credited_from};
+ghost use Rattle.rlc_am_tx_window.specs.Window.{considered_one, considered_all, least, or_spent};
+ghost use Rattle.rlc_am_tx_window.specs.Window.{spent_among, leading_acked};
 
 use crate::ledger::Accounts;
 use crate::numbers::Numbers;
@@ -108,7 +115,8 @@ pub(crate) fn rest(ring: &mut Ring, waiting: &mut Numbers, base: u64, at: usize)
     requires sync { waiting.old ≡ waiting_from base ring.old.items }
     ensures capacity { ring.new.capacity ≡ ring.old.capacity }
     ensures sync { waiting.new ≡ waiting_from base ring.new.items }
-    ensures items { ring.new.items ≡ slice_set ring.old.items at (rested (slot_at ring.old.items at)) }
+    ensures items { ring.new.items
+        ≡ slice_set ring.old.items at (rested (slot_at ring.old.items at)) }
 {
     rest_at(ring, at);
     waiting.remove(base + at as u64);
@@ -117,7 +125,8 @@ pub(crate) fn rest(ring: &mut Ring, waiting: &mut Numbers, base: u64, at: usize)
 fn rest_at(ring: &mut Ring, at: usize)
     requires { at < length ring.old.items }
     ensures capacity { ring.new.capacity ≡ ring.old.capacity }
-    ensures items { ring.new.items ≡ slice_set ring.old.items at (rested (slot_at ring.old.items at)) }
+    ensures items { ring.new.items
+        ≡ slice_set ring.old.items at (rested (slot_at ring.old.items at)) }
 {
     match ring.get_mut(at) {
         Some(slot) => slot.rest(),
@@ -134,7 +143,8 @@ pub(crate) fn recall(ring: &mut Ring, waiting: &mut Numbers, base: u64, at: usiz
     requires sync { waiting.old ≡ waiting_from base ring.old.items }
     ensures capacity { ring.new.capacity ≡ ring.old.capacity }
     ensures sync { waiting.new ≡ waiting_from base ring.new.items }
-    ensures items { ring.new.items ≡ slice_set ring.old.items at (recalled most (slot_at ring.old.items at)) }
+    ensures items { ring.new.items
+        ≡ slice_set ring.old.items at (recalled most (slot_at ring.old.items at)) }
 {
     recall_at(ring, at, most);
     if is_waiting_at(ring, at) {
@@ -145,7 +155,8 @@ pub(crate) fn recall(ring: &mut Ring, waiting: &mut Numbers, base: u64, at: usiz
 fn recall_at(ring: &mut Ring, at: usize, most: u32)
     requires { at < length ring.old.items }
     ensures capacity { ring.new.capacity ≡ ring.old.capacity }
-    ensures items { ring.new.items ≡ slice_set ring.old.items at (recalled most (slot_at ring.old.items at)) }
+    ensures items { ring.new.items
+        ≡ slice_set ring.old.items at (recalled most (slot_at ring.old.items at)) }
 {
     match ring.get_mut(at) {
         Some(slot) => slot.recall(most),
@@ -169,7 +180,8 @@ fn rest_part_at(ring: &mut Ring, at: usize, from: u32, to: u32) -> Result<(), No
     requires some { from < to }
     requires within { to ≤ length (slot_at ring.old.items at).field }
     ensures capacity { ring.new.capacity ≡ ring.old.capacity }
-    ensures items { OnOk result (ring.new.items ≡ slice_set ring.old.items at (sent_part (slot_at ring.old.items at) from to)) }
+    ensures items { OnOk result (ring.new.items
+        ≡ slice_set ring.old.items at (sent_part (slot_at ring.old.items at) from to)) }
     ensures same { OnErr result (ring.new.items ≡ ring.old.items) }
 {
     match ring.get_mut(at) {
@@ -197,7 +209,8 @@ pub(crate) fn rest_part(
     ensures capacity { ring.new.capacity ≡ ring.old.capacity }
     ensures sync { waiting.new ≡ waiting_from base ring.new.items }
     ensures same { length ring.new.items ≡ length ring.old.items }
-    ensures items { OnOk result (ring.new.items ≡ slice_set ring.old.items at (sent_part (slot_at ring.old.items at) from to)) }
+    ensures items { OnOk result (ring.new.items
+        ≡ slice_set ring.old.items at (sent_part (slot_at ring.old.items at) from to)) }
 {
     rest_part_at(ring, at, from, to)?;
     if !is_waiting_at(ring, at) {
@@ -210,7 +223,8 @@ pub(crate) fn rest_part(
 fn name_at(ring: &mut Ring, at: usize, nack: Nack) -> Result<(), NoMemory>
     requires { at < length ring.old.items }
     ensures capacity { ring.new.capacity ≡ ring.old.capacity }
-    ensures items { OnOk result (ring.new.items ≡ slice_set ring.old.items at (with_name (slot_at ring.old.items at) nack.part)) }
+    ensures items { OnOk result (ring.new.items
+        ≡ slice_set ring.old.items at (with_name (slot_at ring.old.items at) nack.part)) }
     ensures same { OnErr result (ring.new.items ≡ ring.old.items) }
 {
     match ring.get_mut(at) {
@@ -219,7 +233,8 @@ fn name_at(ring: &mut Ring, at: usize, nack: Nack) -> Result<(), NoMemory>
     }
 }
 
-// Names what an entry names. The number joins those that wait before its octets do, since that can fail.
+// Names what an entry names. The number joins those that wait before its octets do, since that can
+// fail.
 #[tactic(auto, using(crate::proofs::WaitingSteps::names))]
 fn name_one(ring: &mut Ring, waiting: &mut Numbers, base: u64, nack: Nack) -> Result<(), NoMemory>
     requires below { base + length ring.old.items < 2 ^ 64 }
@@ -253,7 +268,8 @@ pub(crate) fn name_all(
     ensures capacity { ring.new.capacity ≡ ring.old.capacity }
     ensures sync { waiting.new ≡ waiting_from base ring.new.items }
     ensures same { length ring.new.items ≡ length ring.old.items }
-    ensures items { OnOk result (ring.new.items ≡ named_all base ring.old.items (nacks_of nacks.entry)) }
+    ensures items { OnOk result (ring.new.items
+        ≡ named_all base ring.old.items (nacks_of nacks.entry)) }
 {
     let mut rest = nacks;
     while let Some(nack) = rest.next() {
@@ -274,7 +290,9 @@ fn gets_acked_at(ring: &Ring, at: usize) -> bool
 
 fn credit_at(ring: &Ring, at: usize, accounts: &mut Accounts) -> Result<(), NoMemory>
     requires { at < length ring.now.items }
-    ensures { OnOk result (accounts.new ≡ credited_all accounts.old (slot_at ring.now.items at).place (slot_at ring.now.items at).lens) }
+    ensures { OnOk result (accounts.new
+        ≡ credited_all accounts.old (slot_at ring.now.items at).place
+        (slot_at ring.now.items at).lens) }
 {
     match ring.get(at) {
         Some(slot) => accounts.credit_all(slot.place(), slot.lens()),
@@ -286,7 +304,8 @@ fn acknowledge_at(ring: &mut Ring, at: usize)
     requires there { at < length ring.old.items }
     requires gets_acked { gets_acked (slot_at ring.old.items at) ≡ true }
     ensures capacity { ring.new.capacity ≡ ring.old.capacity }
-    ensures items { ring.new.items ≡ slice_set ring.old.items at (acknowledged (slot_at ring.old.items at)) }
+    ensures items { ring.new.items
+        ≡ slice_set ring.old.items at (acknowledged (slot_at ring.old.items at)) }
 {
     match ring.get_mut(at) {
         Some(slot) => slot.acknowledge(),
@@ -309,8 +328,10 @@ fn acknowledge_one(
     ensures capacity { ring.new.capacity ≡ ring.old.capacity }
     ensures sync { waiting.new ≡ waiting_from base ring.new.items }
     ensures same { length ring.new.items ≡ length ring.old.items }
-    ensures items { OnOk result (ring.new.items ≡ slice_set ring.old.items at (acknowledged (slot_at ring.old.items at))) }
-    ensures accounts { OnOk result (accounts.new ≡ credited_one accounts.old (slot_at ring.old.items at)) }
+    ensures items { OnOk result (ring.new.items
+        ≡ slice_set ring.old.items at (acknowledged (slot_at ring.old.items at))) }
+    ensures accounts { OnOk result (accounts.new
+        ≡ credited_one accounts.old (slot_at ring.old.items at)) }
 {
     if !gets_acked_at(ring, at) {
         return Ok(());
@@ -338,7 +359,8 @@ pub(crate) fn acknowledge(
     ensures sync { waiting.new ≡ waiting_from base ring.new.items }
     ensures same { length ring.new.items ≡ length ring.old.items }
     ensures items { OnOk result (ring.new.items ≡ acked_from 0 below ring.old.items) }
-    ensures accounts { OnOk result (accounts.new ≡ credited_from accounts.old 0 below ring.old.items) }
+    ensures accounts { OnOk result (accounts.new
+        ≡ credited_from accounts.old 0 below ring.old.items) }
 {
     let mut at = 0;
     while at < ring.len() && at < below {
@@ -351,7 +373,8 @@ pub(crate) fn acknowledge(
 fn consider_at(ring: &mut Ring, at: usize, most: u32)
     requires { at < length ring.old.items }
     ensures capacity { ring.new.capacity ≡ ring.old.capacity }
-    ensures items { ring.new.items ≡ slice_set ring.old.items at (considered most (slot_at ring.old.items at)) }
+    ensures items { ring.new.items
+        ≡ slice_set ring.old.items at (considered most (slot_at ring.old.items at)) }
 {
     match ring.get_mut(at) {
         Some(slot) => slot.consider(most),
@@ -377,7 +400,8 @@ pub(crate) fn consider_all(ring: &mut Ring, base: u64, nacks: NackReader<'_>, mo
     ensures capacity { ring.new.capacity ≡ ring.old.capacity }
     ensures same { length ring.new.items ≡ length ring.old.items }
     ensures waits { waiting_from base ring.new.items ≡ waiting_from base ring.old.items }
-    ensures items { ring.new.items ≡ considered_all base most ring.old.items (nacks_of nacks.entry) }
+    ensures items { ring.new.items
+        ≡ considered_all base most ring.old.items (nacks_of nacks.entry) }
 {
     let mut rest = nacks;
     while let Some(nack) = rest.next() {

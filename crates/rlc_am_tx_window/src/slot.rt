@@ -1,10 +1,18 @@
-ghost use Rattle.std.specs.Prelude.{◌≡◌, ◌+◌, ◌-◌, ◌*◌, ◌<◌, ◌≤◌, ◌^◌, ◌==◌, ◌&&◌, not, OnOk, OnErr, IfOk, IfSome, MatchOption, min, [], ◌∷◌, length, false, true};
+ghost use Rattle.std.specs.Prelude.{◌≡◌, ◌+◌, ◌-◌, ◌*◌, ◌<◌, ◌≤◌, ◌^◌, ◌==◌, ◌&&◌, not, OnOk};
+ghost use Rattle.std.specs.Prelude.{OnErr, IfOk, IfSome, MatchOption, min, [], ◌∷◌, length, false};
+ghost use Rattle.std.specs.Prelude.{true};
 ghost use Rattle.std.specs.List.{sum};
 ghost use Rattle.rlc_pdu.specs.Pdus.{AreLens, IsSegment};
 ghost use Rattle.rlc_pdu.specs.Grammar.{has_segment};
 ghost use Rattle.rlc_pdu.specs.Runs.{gap_in, removed, run};
 ghost use Rattle.rlc_pdu.specs.Writing.{amd_written, header_len};
-ghost use Rattle.rlc_am_tx_window.specs.Sent.{fresh, first_waiting, is_waiting, is_all, all_wait, waiting_octets, whole_size, segment_size, resend_size, stretch_in, stretch_size, next_stretch, rested, sent_part, named_range, start_of, stop_of, with_name, counted, considered, gets_acked, acknowledged, recalled, is_spent, woken, waiting_between, Lies};
+ghost use Rattle.rlc_am_tx_window.specs.Sent.{fresh, first_waiting, is_waiting, is_all, all_wait};
+ghost use Rattle.rlc_am_tx_window.specs.Sent.{waiting_octets, whole_size, segment_size};
+ghost use Rattle.rlc_am_tx_window.specs.Sent.{resend_size, stretch_in, stretch_size, next_stretch};
+ghost use Rattle.rlc_am_tx_window.specs.Sent.{rested, sent_part, named_range, start_of, stop_of};
+ghost use Rattle.rlc_am_tx_window.specs.Sent.{with_name, counted, considered, gets_acked};
+ghost use Rattle.rlc_am_tx_window.specs.Sent.{acknowledged, recalled, is_spent, woken};
+ghost use Rattle.rlc_am_tx_window.specs.Sent.{waiting_between, Lies};
 ghost use Rattle.rlc_am_tx_window.specs.Written.{begins_at, ends_at, whole_octets, part_octets};
 
 use crate::cut::{clip, clip_count, cut, is_cut, total};
@@ -14,7 +22,8 @@ use rlc_queue::framing;
 use std::alloc::Global;
 use std::marker::Model;
 
-/// A segment to be sent: where it begins and ends in the data field, and the lengths of its elements.
+/// A segment to be sent: where it begins and ends in the data field, and the lengths of its
+/// elements.
 #[derive(Drop)]
 pub struct Stretch {
     from: u32,
@@ -77,14 +86,25 @@ impl Model for Slot {
 
     ghost Value = { Sent };
 
-    ghost view = { λ s. record { field = s.field; lens = s.lens.items; begins = s.begins; ends = s.ends; place = s.place; resting = resting_of s.idle (length s.field) s.resting; retransmissions = s.retransmissions; acked = s.acked; named = s.named } };
+    ghost view = { λ s. record {
+      field = s.field;
+      lens = s.lens.items;
+      begins = s.begins;
+      ends = s.ends;
+      place = s.place;
+      resting = resting_of s.idle (length s.field) s.resting;
+      retransmissions = s.retransmissions;
+      acked = s.acked;
+      named = s.named;
+    } };
 
-    ghost invariant = { λ s. AreLens s.lens.items × (sum s.lens.items ≡ length s.field) × (length s.field < 2 ^ 15) × (s.place < 2 ^ 63) };
+    ghost invariant = { λ s. AreLens s.lens.items × (sum s.lens.items ≡ length s.field)
+        × (length s.field < 2 ^ 15) × (s.place < 2 ^ 63) };
 }
 
 impl Slot {
-    /// A PDU that is sent now: its data field, the lengths of its elements, whether the first begins and the last ends an
-    /// SDU, and the place of the first one's SDU among those offered.
+    /// A PDU that is sent now: its data field, the lengths of its elements, whether the first
+    /// begins and the last ends an SDU, and the place of the first one's SDU among those offered.
     pub fn new(
         alloc: Global,
         field: Bytes,
@@ -189,8 +209,8 @@ impl Slot {
         header_len(2, self.lens.len()) + self.size()
     }
 
-    /// The octets of what is resent first: the PDU where all its octets wait, else a segment with the first octets that
-    /// wait.
+    /// The octets of what is resent first: the PDU where all its octets wait, else a segment with
+    /// the first octets that wait.
     pub fn resend_size(&self) -> u32
         ensures { result ≡ resend_size self.now }
     {
@@ -317,8 +337,8 @@ impl Slot {
         })
     }
 
-    /// Names octets for retransmission, as an entry of a STATUS does: all, or a range that is cut to the data field. An
-    /// `Err` changes nothing.
+    /// Names octets for retransmission, as an entry of a STATUS does: all, or a range that is cut
+    /// to the data field. An `Err` changes nothing.
     pub fn name(&mut self, part: Option<Part>) -> Result<(), NoMemory>
         ensures ok { OnOk result (self.new ≡ with_name self.old part) }
         ensures err { OnErr result (self.new ≡ self.old) }
@@ -360,7 +380,11 @@ impl Slot {
     fn wake(&mut self, from: u32, to: u32) -> Result<(), NoMemory>
         requires some { from < to }
         requires within { to ≤ length self.old.field }
-        ensures ok { OnOk result (self.new ≡ record self.old { resting = woken (length self.old.field) self.old.resting from to }) }
+        ensures ok { OnOk result
+            (self.new ≡ record self.old {
+              resting =
+                  woken (length self.old.field) self.old.resting from to;
+            }) }
         ensures err { OnErr result (self.new ≡ self.old) }
     {
         let size = self.size();
@@ -449,8 +473,10 @@ fn written(
     requires segment { IsSegment segment }
     requires lens { AreLens lens.now }
     requires whole { sum lens.now ≡ length field.now }
-    ensures value { IfOk result (λ octets. octets ≡ amd_written sn poll fi segment lens.now field.now) }
-    ensures len { IfOk result (λ octets. length octets ≡ header_len (2 + 2 * has_segment segment) (length lens.now) + sum lens.now) }
+    ensures value { IfOk result (λ octets. octets
+        ≡ amd_written sn poll fi segment lens.now field.now) }
+    ensures len { IfOk result (λ octets. length octets
+        ≡ header_len (2 + 2 * has_segment segment) (length lens.now) + sum lens.now) }
 {
     let octets = write_amd(alloc, sn, poll, fi, segment, lens, field)?;
     Ok(octets)
@@ -473,7 +499,9 @@ fn rest_but(alloc: Global, size: u32, from: u32, to: u32) -> Result<Intervals, N
 #[tactic(auto, using(crate::proofs::SlotSteps::gap_steps))]
 fn next_gap(resting: &Intervals, at: u32, size: u32) -> Option<Part>
     ensures lies { IfSome result (Lies at size) }
-    ensures rest { MatchOption result (waiting_between at size resting.now ≡ 0) (λ p. waiting_between at size resting.now ≡ (p.end + 1 - p.start) + waiting_between (p.end + 1) size resting.now) }
+    ensures rest { MatchOption result (waiting_between at size resting.now ≡ 0)
+        (λ p. waiting_between at size resting.now
+        ≡ (p.end + 1 - p.start) + waiting_between (p.end + 1) size resting.now) }
 {
     resting.gap(at, size)
 }

@@ -1,7 +1,12 @@
-ghost use Rattle.std.specs.Prelude.{◌≡◌, ◌++◌, ◌+◌, ◌<◌, ◌≤◌, ◌^◌, OnOk, OnErr, IfOk, IfSome, List, [], ◌∷◌, length, drop, slice_get, slice_set, None, Some, option_copied, true, false, if◌then◌else◌};
+ghost use Rattle.std.specs.Prelude.{◌≡◌, ◌++◌, ◌+◌, ◌<◌, ◌≤◌, ◌^◌, OnOk, OnErr, IfOk, IfSome, List};
+ghost use Rattle.std.specs.Prelude.{[], ◌∷◌, length, drop, slice_get, slice_set, None, Some};
+ghost use Rattle.std.specs.Prelude.{option_copied, true, false, if◌then◌else◌};
 ghost use Rattle.circular_buffer.specs.Buffer.{buffer};
 ghost use Rattle.rlc_am_tx_window.specs.Sent.{is_waiting, is_spent, rested, sent_part, recalled};
-ghost use Rattle.rlc_am_tx_window.specs.Window.{next, slot_at, with_slot, offset_of, leading_idle, waiting_in, last_open, named_all, acked_from, credited_from, considered_all, spent_among, advanced};
+ghost use Rattle.rlc_am_tx_window.specs.Window.{next, slot_at, with_slot, offset_of, leading_idle};
+ghost use Rattle.rlc_am_tx_window.specs.Window.{waiting_in, last_open, named_all, acked_from};
+ghost use Rattle.rlc_am_tx_window.specs.Window.{credited_from, considered_all, spent_among};
+ghost use Rattle.rlc_am_tx_window.specs.Window.{advanced};
 
 use crate::ledger::Accounts;
 use crate::numbers::Numbers;
@@ -36,7 +41,9 @@ impl Model for Window {
 
     ghost view = { λ w. record { base = w.base; slots = w.ring.items } };
 
-    ghost invariant = { λ w. (w.ring.capacity ≡ 512) × (length w.ring.items ≤ 512) × (w.base + length w.ring.items ≤ 2 ^ 62 + 512) × (w.waiting ≡ waiting_from w.base w.ring.items) };
+    ghost invariant = { λ w. (w.ring.capacity ≡ 512) × (length w.ring.items ≤ 512)
+        × (w.base + length w.ring.items ≤ 2 ^ 62 + 512)
+        × (w.waiting ≡ waiting_from w.base w.ring.items) };
 }
 
 impl Window {
@@ -157,12 +164,14 @@ impl Window {
         requires some { from < to }
         requires within { to ≤ length (slot_at self.old.slots at).field }
         requires waits { is_waiting (slot_at self.old.slots at) ≡ true }
-        ensures { OnOk result (self.new ≡ with_slot self.old at (sent_part (slot_at self.old.slots at) from to)) }
+        ensures { OnOk result
+            (self.new ≡ with_slot self.old at (sent_part (slot_at self.old.slots at) from to)) }
     {
         ring::rest_part(&mut self.ring, &mut self.waiting, self.base, at, from, to)
     }
 
-    /// An expiry of the poll timer names all octets of a number, where nothing waits. It takes no memory.
+    /// An expiry of the poll timer names all octets of a number, where nothing waits. It takes no
+    /// memory.
     pub fn recall(&mut self, at: usize, most: u32)
         requires there { at < length self.old.slots }
         requires quiet { leading_idle self.old.slots ≡ length self.old.slots }
@@ -173,15 +182,21 @@ impl Window {
 
     /// Names what the entries of a STATUS name.
     pub fn name_all(&mut self, nacks: NackReader<'_>) -> Result<(), NoMemory>
-        ensures { OnOk result (self.new ≡ record self.old { slots = named_all self.old.base self.old.slots (nacks_of nacks.entry) }) }
+        ensures { OnOk result
+            (self.new ≡ record self.old {
+              slots =
+                  named_all self.old.base self.old.slots (nacks_of nacks.entry);
+            }) }
     {
         ring::name_all(&mut self.ring, &mut self.waiting, self.base, nacks)
     }
 
     /// Acknowledges the numbers below a place that the STATUS didn't name.
     pub fn acknowledge(&mut self, below: usize, accounts: &mut Accounts) -> Result<(), NoMemory>
-        ensures state { OnOk result (self.new ≡ record self.old { slots = acked_from 0 below self.old.slots }) }
-        ensures accounts { OnOk result (accounts.new ≡ credited_from accounts.old 0 below self.old.slots) }
+        ensures state { OnOk result
+            (self.new ≡ record self.old { slots = acked_from 0 below self.old.slots }) }
+        ensures accounts { OnOk result (accounts.new
+            ≡ credited_from accounts.old 0 below self.old.slots) }
     {
         ring::acknowledge(
             &mut self.ring,
@@ -195,14 +210,18 @@ impl Window {
     /// Considers for retransmission what the entries of a STATUS named.
     #[tactic(auto, using(crate::proofs::WaitingSteps::considers))]
     pub fn consider_all(&mut self, nacks: NackReader<'_>, most: u32)
-        ensures { self.new ≡ record self.old { slots = considered_all self.old.base most self.old.slots (nacks_of nacks.entry) } }
+        ensures { self.new ≡ record self.old {
+          slots =
+              considered_all self.old.base most self.old.slots (nacks_of nacks.entry);
+        } }
     {
         ring::consider_all(&mut self.ring, self.base, nacks, most);
     }
 
     /// The place of the least number named whose RETX_COUNT has reached the limit.
     pub fn spent_among(&self, nacks: NackReader<'_>, most: u32) -> Option<usize>
-        ensures value { result ≡ spent_among self.now.base most self.now.slots None (nacks_of nacks.entry) }
+        ensures value { result ≡ spent_among self.now.base most self.now.slots None
+            (nacks_of nacks.entry) }
         ensures below { IfSome result (λ at. at < 1024) }
     {
         ring::spent_among(&self.ring, self.base, nacks, most)

@@ -1,5 +1,6 @@
 -- What was written is read again, and sizes.
-use Rattle.std.proofs.Common.{◌≡◌, inl, inr, ℕ, ◌+◌, ◌-◌, ◌*◌, ◌/◌, ◌<◌, Bool, true, false, cond, List, [], ◌∷◌, ◌++◌, length, take, drop, Option, Some, None, Result, Ok, refl, sym, ap, ◌∙◌, arith, eqb}
+use Rattle.std.proofs.Common.{◌≡◌, inl, inr, ℕ, ◌+◌, ◌-◌, ◌*◌, ◌/◌, ◌<◌, Bool, true, false, cond, List, [], ◌∷◌, ◌++◌}
+use Rattle.std.proofs.Common.{length, take, drop, Option, Some, None, Result, Ok, refl, sym, ap, ◌∙◌, arith, eqb}
 use Rattle.std.specs.List.{sum}
 use Rattle.std.proofs.lemmas.List.{length-append, length-take, length-drop, take-append-drop}
 use Rattle.std.proofs.lemmas.List.Sums.{sum_by-cons}
@@ -47,7 +48,8 @@ umd_again bits pdu width h =
     let read = umd_accepts bits pdu (umd_canonical bits pdu) width accepted in
     record {
       accepted = accepted;
-      only = λ other o. umd_is other pdu (umd_at bits (umd_canonical bits pdu)) (umd_accepts bits other (umd_canonical bits pdu) width o) read;
+      only = λ other o. umd_is other pdu (umd_at bits (umd_canonical bits pdu))
+          (umd_accepts bits other (umd_canonical bits pdu) width o) read;
       read = read;
     }
 
@@ -64,7 +66,8 @@ amd_again pdu h =
     } in
     record {
       accepted = accepted;
-      only = λ other o. amd_is other pdu (amd_at (amd_canonical pdu)) (amd_accepts other (amd_canonical pdu) o) (amd_accepts pdu (amd_canonical pdu) accepted);
+      only = λ other o. amd_is other pdu (amd_at (amd_canonical pdu)) (amd_accepts other (amd_canonical pdu) o)
+          (amd_accepts pdu (amd_canonical pdu) accepted);
       read = as_payload_of pdu (amd_canonical pdu) accepted;
     }
 
@@ -84,7 +87,9 @@ status_again pdu octets fits number nacks e =
     let read = am_accepts (Status pdu) octets fits accepted in
     record {
       accepted = accepted;
-      only = λ other o. status_is other pdu (am_is (Status other) (Status pdu) (am_at octets) (am_accepts (Status other) octets fits o) read);
+      only =
+          λ other o. status_is other pdu
+          (am_is (Status other) (Status pdu) (am_at octets) (am_accepts (Status other) octets fits o) read);
       read = read;
     }
 
@@ -128,18 +133,29 @@ length_umd : (bits more sn fi : ℕ) (b : Bool) → eqb bits 5 ≡ b → length 
 length_umd bits more sn fi true e = rw e refl
 length_umd bits more sn fi false e = rw e refl
 
-length_amd : (poll : Bool) (fi more sn : ℕ) (segment : Option Segment) → length (amd_header poll fi segment more sn) ≡ 2 + 2 * has_segment segment
+length_amd : (poll : Bool) (fi more sn : ℕ) (segment : Option Segment)
+    → length (amd_header poll fi segment more sn) ≡ 2 + 2 * has_segment segment
 length_amd poll fi more sn None = refl
 length_amd poll fi more sn (Some s) = refl
 
-sized : (header lens field : List ℕ) (fixed : ℕ) → AreLens lens → length header ≡ fixed → length (header ++ (units_octets 0 (but_last lens) ++ field)) ≡ header_len fixed (length lens) + length field
+sized : (header lens field : List ℕ) (fixed : ℕ) → AreLens lens → length header ≡ fixed
+    → length (header ++ (units_octets 0 (but_last lens) ++ field)) ≡ header_len fixed (length lens) + length field
 sized header lens field fixed h e =
-    omega (arith, e, length-append header (units_octets 0 (but_last lens) ++ field), length-append (units_octets 0 (but_last lens)) field, length_units (but_last lens), length_lis lens h)
+    omega (
+      arith,
+      e,
+      length-append header (units_octets 0 (but_last lens) ++ field),
+      length-append (units_octets 0 (but_last lens)) field,
+      length_units (but_last lens),
+      length_lis lens h,
+    )
 
 pub sizes : DataSizes
 sizes lens field h = record {
-  umd = λ bits sn fi. sized (umd_header bits 0 fi (has_units lens) sn) lens field (cond (eqb bits 5) 1 2) h (length_umd bits (has_units lens) sn fi (eqb bits 5) refl);
-  amd = λ sn poll fi segment. sized (amd_header poll fi segment (has_units lens) sn) lens field (2 + 2 * has_segment segment) h (length_amd poll fi (has_units lens) sn segment);
+  umd = λ bits sn fi. sized (umd_header bits 0 fi (has_units lens) sn) lens field (cond (eqb bits 5) 1 2) h
+      (length_umd bits (has_units lens) sn fi (eqb bits 5) refl);
+  amd = λ sn poll fi segment. sized (amd_header poll fi segment (has_units lens) sn) lens field
+      (2 + 2 * has_segment segment) h (length_amd poll fi (has_units lens) sn segment);
 }
 
 size_of : (ns : List Nack) → nacks_size ns ≡ 12 * length ns + 30 * ranges ns

@@ -1,5 +1,6 @@
 -- PDUs of an acknowledged bearer: in the grammar is read, and read is in the grammar.
-use Rattle.std.proofs.Common.{◌≡◌, ℕ, ◌/◌, ◌<◌, ◌≤◌, Bool, true, false, cond, List, [], ◌∷◌, length, Result, Ok, Err, refl, ap, arith, eqb, ltb}
+use Rattle.std.proofs.Common.{◌≡◌, ℕ, ◌/◌, ◌<◌, ◌≤◌, Bool, true, false, cond, List, [], ◌∷◌, length, Result, Ok, Err}
+use Rattle.std.proofs.Common.{refl, ap, arith, eqb, ltb}
 use Rattle.std.specs.Prelude.{IfOk, IsOkAnd, slice_index}
 use Rattle.std.proofs.lemmas.Bool.{eqb-true, ltb-false, lt-ltb, le-ltb}
 use Rattle.rlc_pdu.specs.declared.fault.RlcRefusal.{RlcRefusal}
@@ -24,9 +25,11 @@ payload_high pdu octets h =
 
 pub as_payload_of : (pdu : AmdPdu) (octets : List ℕ) → IsAmdPdu pdu octets → am_at octets ≡ Ok (Payload pdu)
 as_payload_of pdu [] h = let high = payload_high pdu [] h in absurd (omega (arith, high))
-as_payload_of pdu (a ∷ rest) h = rw (le-ltb a 128 (payload_high pdu (a ∷ rest) h)) (ap as_payload (amd_accepts pdu (a ∷ rest) h))
+as_payload_of pdu (a ∷ rest) h =
+    rw (le-ltb a 128 (payload_high pdu (a ∷ rest) h)) (ap as_payload (amd_accepts pdu (a ∷ rest) h))
 
-pub am_accepts : (pdu : AcknowledgedPdu) (octets : List ℕ) → AreOctets octets → IsAmPdu pdu octets → am_at octets ≡ Ok pdu
+pub am_accepts : (pdu : AcknowledgedPdu) (octets : List ℕ) → AreOctets octets → IsAmPdu pdu octets
+    → am_at octets ≡ Ok pdu
 am_accepts (Payload pdu) octets fits h = as_payload_of pdu octets h
 am_accepts (Status pdu) [] fits h = absurd (status_some pdu h)
 am_accepts (Status pdu) (a ∷ rest) fits h =
@@ -37,19 +40,25 @@ am_accepts (Status pdu) (a ∷ rest) fits h =
 abbrev IsSound : List ℕ → Result AcknowledgedPdu RlcRefusal → Type 0
 IsSound octets read = IfOk read (λ pdu. IsAmPdu pdu octets)
 
-status_found : (a : ℕ) (rest : List ℕ) (r : Result StatusPdu RlcRefusal) → a / 16 ≡ 0 → listed_at (length (a ∷ rest)) (listed (a ∷ rest)) ≡ r → IsSound (a ∷ rest) (as_status r)
+status_found : (a : ℕ) (rest : List ℕ) (r : Result StatusPdu RlcRefusal) → a / 16 ≡ 0
+    → listed_at (length (a ∷ rest)) (listed (a ∷ rest)) ≡ r → IsSound (a ∷ rest) (as_status r)
 status_found a rest (Ok s) z e = control_found a rest s z e
 status_found a rest (Err f) z e = tt
 
-cpt_found : (a : ℕ) (rest : List ℕ) (z : Bool) → eqb (a / 16) 0 ≡ z → IsSound (a ∷ rest) (as_status (cond z (listed_at (length (a ∷ rest)) (listed (a ∷ rest))) (Err (refusal 0 ReservedCpt))))
-cpt_found a rest true e = status_found a rest (listed_at (length (a ∷ rest)) (listed (a ∷ rest))) (eqb-true (a / 16) 0 e) refl
+cpt_found : (a : ℕ) (rest : List ℕ) (z : Bool) → eqb (a / 16) 0 ≡ z
+    → IsSound (a ∷ rest)
+    (as_status (cond z (listed_at (length (a ∷ rest)) (listed (a ∷ rest))) (Err (refusal 0 ReservedCpt))))
+cpt_found a rest true e =
+    status_found a rest (listed_at (length (a ∷ rest)) (listed (a ∷ rest))) (eqb-true (a / 16) 0 e) refl
 cpt_found a rest false e = tt
 
-payload_found : (a : ℕ) (rest : List ℕ) (r : Result AmdPdu RlcRefusal) → IsSoundAmd (a ∷ rest) r → IsSound (a ∷ rest) (as_payload r)
+payload_found : (a : ℕ) (rest : List ℕ) (r : Result AmdPdu RlcRefusal) → IsSoundAmd (a ∷ rest) r
+    → IsSound (a ∷ rest) (as_payload r)
 payload_found a rest (Ok pdu) h = h
 payload_found a rest (Err f) h = tt
 
-either_found : (a : ℕ) (rest : List ℕ) (low : Bool) → AreOctets (a ∷ rest) → ltb a 128 ≡ low → IsSound (a ∷ rest) (cond low (as_status (control_at a (a ∷ rest))) (as_payload (amd_at (a ∷ rest))))
+either_found : (a : ℕ) (rest : List ℕ) (low : Bool) → AreOctets (a ∷ rest) → ltb a 128 ≡ low
+    → IsSound (a ∷ rest) (cond low (as_status (control_at a (a ∷ rest))) (as_payload (amd_at (a ∷ rest))))
 either_found a rest true fits e = cpt_found a rest (eqb (a / 16) 0) refl
 either_found a rest false fits e = payload_found a rest (amd_at (a ∷ rest)) (amd_found a rest (ltb-false a 128 e) fits)
 
@@ -57,7 +66,8 @@ pub am_found : (octets : List ℕ) → AreOctets octets → IsSound octets (am_a
 am_found [] fits = tt
 am_found (a ∷ rest) fits = either_found a rest (ltb a 128) fits refl
 
-module _ (octets : List ℕ) (answer : Result AmPdu RlcRefusal) (told : Tells am_of answer (am_at octets)) (fits : AreOctets octets) where
+module _ (octets : List ℕ) (answer : Result AmPdu RlcRefusal) (told : Tells am_of answer (am_at octets))
+    (fits : AreOctets octets) where
   pub am_in_grammar : IfOk answer (λ pdu. IsAmPdu (am_of pdu) octets)
   am_in_grammar = found_in am_of (λ pdu. IsAmPdu pdu octets) answer (am_at octets) told (am_found octets fits)
 

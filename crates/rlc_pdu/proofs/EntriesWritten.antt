@@ -1,5 +1,6 @@
 -- Entries as they are written, one by one.
-use Rattle.std.proofs.Common.{◌≡◌, ℕ, zero, suc, ◌+◌, ◌-◌, ◌<◌, Bool, List, [], ◌∷◌, ◌++◌, length, drop, Some, None, refl, ap, ◌∙◌, arith, append_assoc, ltb}
+use Rattle.std.proofs.Common.{◌≡◌, ℕ, zero, suc, ◌+◌, ◌-◌, ◌<◌, Bool, List, [], ◌∷◌, ◌++◌, length, drop, Some, None}
+use Rattle.std.proofs.Common.{refl, ap, ◌∙◌, arith, append_assoc, ltb}
 use Rattle.std.specs.Prelude.{slice_get, All}
 use Rattle.std.proofs.lemmas.List.{length-append}
 use Rattle.std.proofs.lemmas.Bool.{lt-ltb}
@@ -22,7 +23,8 @@ more_there (suc at) (n ∷ ns) h =
     let left : length (n ∷ ns) - suc at ≡ length ns - at = omega arith in
     rw (step, left) (more_there at ns (omega (arith, h)))
 
-entry_at : (at : ℕ) (ns : List Nack) (n : Nack) → Some n ≡ slice_get ns at → nack_bits n (has_more (drop (at + 1) ns)) ++ nacks_bits (drop (at + 1) ns) ≡ nacks_bits (drop at ns)
+entry_at : (at : ℕ) (ns : List Nack) (n : Nack) → Some n ≡ slice_get ns at
+    → nack_bits n (has_more (drop (at + 1) ns)) ++ nacks_bits (drop (at + 1) ns) ≡ nacks_bits (drop at ns)
 entry_at zero [] n e = absurd cc
 entry_at zero (m ∷ ns) n e = let same : n ≡ m = cc in rw same refl
 entry_at (suc at) [] n e = absurd cc
@@ -33,7 +35,8 @@ pub entry_there : (out : List Bool) (at : ℕ) (ns : List Nack) (n : Nack) → a
     → (out ++ nack_bits n (ltb 1 (length ns - at))) ++ nacks_bits (drop (at + 1) ns) ≡ out ++ nacks_bits (drop at ns)
 entry_there out at ns n h e =
     let b = more_there at ns h in
-    append_assoc out (nack_bits n (ltb 1 (length ns - at))) (nacks_bits (drop (at + 1) ns)) ∙ ap (λ (xs : List Bool). out ++ xs) (rw b (entry_at at ns n e))
+    append_assoc out (nack_bits n (ltb 1 (length ns - at))) (nacks_bits (drop (at + 1) ns))
+    ∙ ap (λ (xs : List Bool). out ++ xs) (rw b (entry_at at ns n e))
 
 pub is_there : (at : ℕ) (ns : List Nack) → at < length ns → None ≡ slice_get ns at → ⊥
 is_there zero [] h e = omega (arith, h)
@@ -47,6 +50,14 @@ fits_there zero (m ∷ ns) n e fits = let same : n ≡ m = cc in rw same (fits 0
 fits_there (suc at) [] n e fits = absurd cc
 fits_there (suc at) (m ∷ ns) n e fits = fits_there at ns n e (All-tail IsNack m ns fits)
 
-pub status_size_is : (octets : List ℕ) (ack : ℕ) (ns : List Nack) → bits_of octets ≡ status_written ack ns → length octets ≡ status_size ns
+pub status_size_is : (octets : List ℕ) (ack : ℕ) (ns : List Nack) → bits_of octets ≡ status_written ack ns
+    → length octets ≡ status_size ns
 status_size_is octets ack ns e =
-    omega (arith, ap length e, length-bits_of octets, length_status ack ns, length-append (status_bits ack ns) (bits (filling (length (status_bits ack ns))) 0), length-bits (filling (length (status_bits ack ns))) 0)
+    omega (
+      arith,
+      ap length e,
+      length-bits_of octets,
+      length_status ack ns,
+      length-append (status_bits ack ns) (bits (filling (length (status_bits ack ns))) 0),
+      length-bits (filling (length (status_bits ack ns))) 0,
+    )

@@ -1,5 +1,6 @@
 -- STATUS PDUs: in the grammar is read, and read is in the grammar.
-use Rattle.std.proofs.Common.{◌≡◌, ℕ, ◌+◌, ◌*◌, ◌/◌, ◌%◌, ◌<◌, ◌^◌, Bool, true, false, List, [], ◌∷◌, ◌++◌, length, take, drop, Option, Some, None, Ok, refl, sym, ap, ◌∙◌, arith, eqb, append_assoc}
+use Rattle.std.proofs.Common.{◌≡◌, ℕ, ◌+◌, ◌*◌, ◌/◌, ◌%◌, ◌<◌, ◌^◌, Bool, true, false, List, [], ◌∷◌, ◌++◌, length}
+use Rattle.std.proofs.Common.{take, drop, Option, Some, None, Ok, refl, sym, ap, ◌∙◌, arith, eqb, append_assoc}
 use Rattle.std.specs.Prelude.{All}
 use Rattle.std.proofs.lemmas.Bool.{le-ltb}
 use Rattle.std.proofs.lemmas.List.{length-append, take_at, drop_at}
@@ -9,7 +10,8 @@ use Rattle.l2_bits.proofs.BitFields.{field_again, length-bits, length-bits_of, n
 use Rattle.rlc_pdu.specs.declared.pdu.Part.{Part}
 use Rattle.rlc_pdu.specs.declared.pdu.Nack.{Nack}
 use Rattle.rlc_pdu.specs.Pdus.{StatusPdu, IsNack, IsPart}
-use Rattle.rlc_pdu.specs.Status.{has_more, has_part, part_bits, nack_bits, nacks_bits, status_bits, IsStatusPdu, nack_size, nacks_size, status_size}
+use Rattle.rlc_pdu.specs.Status.{has_more, has_part, part_bits, nack_bits, nacks_bits, status_bits, IsStatusPdu}
+use Rattle.rlc_pdu.specs.Status.{nack_size, nacks_size, status_size}
 use Rattle.rlc_pdu.specs.Entries.{part_at, nack_at, with_nack, entries, ack_at, listed, is_backwards, backwards_from}
 use Rattle.rlc_pdu.specs.Refusals.{listed_refusal}
 use Rattle.rlc_pdu.specs.Reading.{control_at}
@@ -26,7 +28,8 @@ part_again : (p : Option Part) (rest : List Bool) → IsPart p → part_at (flag
 unfolding part_at flag
 part_again None rest h = refl
 part_again (Some p) rest h =
-    let e : (bits 15 p.start ++ bits 15 p.end) ++ rest ≡ bits 15 p.start ++ (bits 15 p.end ++ rest) = append_assoc (bits 15 p.start) (bits 15 p.end) rest in
+    let e : (bits 15 p.start ++ bits 15 p.end) ++ rest ≡ bits 15 p.start ++ (bits 15 p.end ++ rest) =
+    append_assoc (bits 15 p.start) (bits 15 p.end) rest in
     let fits : p.start < 2 ^ 15 = omega (arith, h.0, h.1) in
     ap (part_at true) e ∙ rw (field_again 15 p.start (bits 15 p.end ++ rest) fits, field_again 15 p.end rest h.1) refl
 
@@ -39,10 +42,12 @@ unfolding flag
 flag_is None = refl
 flag_is (Some p) = refl
 
-nack_again : (n : Nack) (more : Bool) (rest : List Bool) → IsNack n → nack_at (nack_bits n more ++ rest) ≡ Some ((n, more), rest)
+nack_again : (n : Nack) (more : Bool) (rest : List Bool) → IsNack n
+    → nack_at (nack_bits n more ++ rest) ≡ Some ((n, more), rest)
 unfolding nack_at
 nack_again n more rest h =
-    let regrouped : nack_bits n more ++ rest ≡ bits 10 n.sn ++ (bits 1 (digit more) ++ (bits 1 (has_part n.part) ++ (part_bits n.part ++ rest))) = simp append_assoc in
+    let regrouped : nack_bits n more ++ rest ≡ bits 10 n.sn
+    ++ (bits 1 (digit more) ++ (bits 1 (has_part n.part) ++ (part_bits n.part ++ rest))) = simp append_assoc in
     ap nack_at regrouped
     ∙ rw (
       field_again 10 n.sn (bits 1 (digit more) ++ (bits 1 (has_part n.part) ++ (part_bits n.part ++ rest))) h.number,
@@ -53,19 +58,27 @@ nack_again n more rest h =
       digit_test more,
     ) refl
 
-nacks_again : (ns : List Nack) (rest : List Bool) → All IsNack ns → entries 0 (has_more ns) (nacks_bits ns ++ rest) ≡ Some (ns, rest)
+nacks_again : (ns : List Nack) (rest : List Bool) → All IsNack ns
+    → entries 0 (has_more ns) (nacks_bits ns ++ rest) ≡ Some (ns, rest)
 unfolding entries
 nacks_again [] rest h = refl
 nacks_again (n ∷ ns) rest h =
     let one = nack_again n (has_more ns) (nacks_bits ns ++ rest) (All-head IsNack n ns h) in
     let e = append_assoc (nack_bits n (has_more ns)) (nacks_bits ns) rest in
     let later = nacks_again ns rest (All-tail IsNack n ns h) in
-    ap (entries 0 true) e ∙ (entries_next (nack_bits n (has_more ns) ++ (nacks_bits ns ++ rest)) (nacks_bits ns ++ rest) n (has_more ns) one ∙ ap (with_nack n) later)
+    ap (entries 0 true) e
+    ∙ (entries_next (nack_bits n (has_more ns) ++ (nacks_bits ns ++ rest)) (nacks_bits ns ++ rest) n (has_more ns)
+    one ∙ ap (with_nack n) later)
 
-ack_again : (ack : ℕ) (more : Bool) (rest : List Bool) → ack < 2 ^ 10 → ack_at (bits 10 ack ++ (bits 1 (digit more) ++ rest)) ≡ Some ((ack, more), rest)
+ack_again : (ack : ℕ) (more : Bool) (rest : List Bool) → ack < 2 ^ 10
+    → ack_at (bits 10 ack ++ (bits 1 (digit more) ++ rest)) ≡ Some ((ack, more), rest)
 unfolding ack_at
 ack_again ack more rest h =
-    rw (field_again 10 ack (bits 1 (digit more) ++ rest) h, field_again 1 (digit more) rest (digit_bit more), digit_test more) refl
+    rw (
+      field_again 10 ack (bits 1 (digit more) ++ rest) h,
+      field_again 1 (digit more) rest (digit_bit more),
+      digit_test more,
+    ) refl
 
 not_backwards : (p : Option Part) → IsPart p → is_backwards p ≡ false
 not_backwards None h = refl
@@ -80,7 +93,8 @@ no_backwards at (n ∷ ns) h =
 
 length_part : (p : Option Part) → length (part_bits p) ≡ 30 * has_part p
 length_part None = refl
-length_part (Some p) = omega (arith, length-append (bits 15 p.start) (bits 15 p.end), length-bits 15 p.start, length-bits 15 p.end)
+length_part (Some p) =
+    omega (arith, length-append (bits 15 p.start) (bits 15 p.end), length-bits 15 p.start, length-bits 15 p.end)
 
 pub length_nack : (n : Nack) (more : Bool) → length (nack_bits n more) ≡ nack_size n
 length_nack n more =
@@ -97,7 +111,13 @@ length_nack n more =
 
 pub length_nacks : (ns : List Nack) → length (nacks_bits ns) ≡ nacks_size ns
 length_nacks [] = refl
-length_nacks (n ∷ ns) = omega (arith, length_nack n (has_more ns), length_nacks ns, length-append (nack_bits n (has_more ns)) (nacks_bits ns))
+length_nacks (n ∷ ns) =
+    omega (
+      arith,
+      length_nack n (has_more ns),
+      length_nacks ns,
+      length-append (nack_bits n (has_more ns)) (nacks_bits ns),
+    )
 
 pub length_status : (ack : ℕ) (ns : List Nack) → length (status_bits ack ns) ≡ 15 + nacks_size ns
 length_status ack ns =
@@ -117,14 +137,23 @@ listed_again octets s h =
     let ns = s.nacks in
     let behind : List Bool = bits 10 s.ack ++ (bits 1 (digit (has_more ns)) ++ (nacks_bits ns ++ h.free)) in
     let regrouped : status_bits s.ack ns ++ h.free ≡ bits 4 0 ++ behind = simp append_assoc in
-    let front : drop 4 (bits_of octets) ≡ behind = ap (drop 4) (h.spelled ∙ regrouped) ∙ drop_at (bits 4 0) behind 4 (length-bits 4 0) in
+    let front : drop 4 (bits_of octets) ≡ behind = ap (drop 4) (h.spelled ∙ regrouped)
+    ∙ drop_at (bits 4 0) behind 4 (length-bits 4 0) in
     rw (front, ack_again s.ack (has_more ns) (nacks_bits ns ++ h.free) h.number, nacks_again ns h.free h.nacks) refl
 
 pub size_again : (octets : List ℕ) (s : StatusPdu) → IsStatusPdu s octets → length octets ≡ status_size s.nacks
 size_again octets s h =
-    omega (arith, ap length h.spelled, length-bits_of octets, length-append (status_bits s.ack s.nacks) h.free, length_status s.ack s.nacks, h.few)
+    omega (
+      arith,
+      ap length h.spelled,
+      length-bits_of octets,
+      length-append (status_bits s.ack s.nacks) h.free,
+      length_status s.ack s.nacks,
+      h.few,
+    )
 
-no_refusal : (total : ℕ) (s : StatusPdu) → All IsNack s.nacks → total ≡ status_size s.nacks → listed_refusal total (Some s) ≡ None
+no_refusal : (total : ℕ) (s : StatusPdu) → All IsNack s.nacks → total ≡ status_size s.nacks
+    → listed_refusal total (Some s) ≡ None
 no_refusal total s h e = rw (no_backwards 15 s.nacks h, le-ltb (status_size s.nacks) total (omega (arith, e))) refl
 
 -- the first four bits are those of the first octet
@@ -142,15 +171,18 @@ control_bits a rest s la h =
     let ns = s.nacks in
     let behind : List Bool = bits 10 s.ack ++ (bits 1 (digit (has_more ns)) ++ (nacks_bits ns ++ h.free)) in
     let regrouped : status_bits s.ack ns ++ h.free ≡ bits 4 0 ++ behind = simp append_assoc in
-    let front : take 4 (bits_of (a ∷ rest)) ≡ bits 4 0 = ap (take 4) (h.spelled ∙ regrouped) ∙ take_at (bits 4 0) behind 4 (length-bits 4 0) in
+    let front : take 4 (bits_of (a ∷ rest)) ≡ bits 4 0 =
+    ap (take 4) (h.spelled ∙ regrouped) ∙ take_at (bits 4 0) behind 4 (length-bits 4 0) in
     let same : bits 4 (a / 16) ≡ bits 4 0 = sym (nibble a rest) ∙ front in
     let values : number (bits 4 (a / 16)) ≡ number (bits 4 0) = ap number same in
     omega (arith, la, values, number-bits 4 (a / 16), number-bits 4 0)
 
-pub control_accepts : (a : ℕ) (rest : List ℕ) (s : StatusPdu) → a < 256 → IsStatusPdu s (a ∷ rest) → (a / 16 ≡ 0) × (control_at a (a ∷ rest) ≡ Ok s)
+pub control_accepts : (a : ℕ) (rest : List ℕ) (s : StatusPdu) → a < 256 → IsStatusPdu s (a ∷ rest)
+    → (a / 16 ≡ 0) × (control_at a (a ∷ rest) ≡ Ok s)
 control_accepts a rest s la h =
     let z = control_bits a rest s la h in
     (z, rw (z, listed_again (a ∷ rest) s h, no_refusal (length (a ∷ rest)) s h.nacks (size_again (a ∷ rest) s h)) refl)
 
 pub status_some : (s : StatusPdu) → IsStatusPdu s [] → ⊥
-status_some s h = omega (arith, ap length h.spelled, length-append (status_bits s.ack s.nacks) h.free, length_status s.ack s.nacks)
+status_some s h =
+    omega (arith, ap length h.spelled, length-append (status_bits s.ack s.nacks) h.free, length_status s.ack s.nacks)

@@ -1,5 +1,6 @@
 -- The entries of a STATUS PDU as they are read, bit for bit (TS 36.322 6.2.1.6).
-use Rattle.std.specs.Prelude.{ℕ, zero, suc, ◌+◌, ◌-◌, ◌==◌, ◌∷◌, length, drop, [], Bool, true, false, List, Option, Some, None, if◌then◌else◌, nat_lt}
+use Rattle.std.specs.Prelude.{ℕ, zero, suc, ◌+◌, ◌-◌, ◌==◌, ◌∷◌, length, drop, [], Bool, true}
+use Rattle.std.specs.Prelude.{false, List, Option, Some, None, if◌then◌else◌, nat_lt}
 use Rattle.l2_bits.specs.Bits.{take_field, bits_of}
 use Rattle.rlc_pdu.specs.declared.pdu.Part.{Part}
 use Rattle.rlc_pdu.specs.declared.pdu.Nack.{Nack}
@@ -46,7 +47,8 @@ unfoldable pub entries : ℕ → Bool → List Bool → Entries
 entries skip false bits = Some ([], drop skip bits)
 entries skip true [] = None
 entries (suc skip) true (b ∷ bs) = entries skip true bs
-entries zero true (b ∷ bs) = then_entries (length bs) (nack_at (b ∷ bs)) (λ skip more. entries skip more bs)
+entries zero true (b ∷ bs) =
+    then_entries (length bs) (nack_at (b ∷ bs)) (λ skip more. entries skip more bs)
 
 -- an ACK_SN and the E1 behind it
 unfoldable pub ack_at : List Bool → Option ((ℕ × Bool) × List Bool)
@@ -75,7 +77,8 @@ is_backwards (Some p) = nat_lt p.end p.start
 -- the place of the first such SOstart, of entries that begin at a place
 unfoldable pub backwards_from : ℕ → List Nack → Option ℕ
 backwards_from at [] = None
-backwards_from at (n ∷ ns) = if is_backwards n.part then Some (at + 12) else backwards_from (at + nack_size n) ns
+backwards_from at (n ∷ ns) = if is_backwards n.part then Some (at + 12)
+    else backwards_from (at + nack_size n) ns
 
 -- ---- a reader's steps
 

@@ -9,7 +9,8 @@ pub record IsCoverage (runs : List Run) (from to : ℕ) : Type 0 where
   pub only : ((i : ℕ) → from ≤ i → i < to → has runs i ≡ true) → covers runs from to ≡ true
 
 abbrev pub CoversAll : Type 0
-CoversAll = (runs : List Run) (from to : ℕ) → AreAscending 0 runs → from < to → IsCoverage runs from to
+CoversAll = (runs : List Run) (from to : ℕ) → AreAscending 0 runs → from < to
+    → IsCoverage runs from to
 
 -- the first largest run of places that aren't in the set, at or above one place and below another
 pub record IsGap (runs : List Run) (from size : ℕ) (p : Part) : Type 0 where
@@ -22,4 +23,5 @@ pub record IsGap (runs : List Run) (from size : ℕ) (p : Part) : Type 0 where
 
 abbrev pub GapsAreFirst : Type 0
 GapsAreFirst = (runs : List Run) (from size : ℕ) → AreAscending 0 runs
-    → MatchOption (gap_in runs from size) ((i : ℕ) → from ≤ i → i < size → has runs i ≡ true) (IsGap runs from size)
+    → MatchOption (gap_in runs from size) ((i : ℕ) → from ≤ i → i < size
+    → has runs i ≡ true) (IsGap runs from size)

@@ -1,11 +1,13 @@
 -- What a reader answers, as a function of the octets (TS 36.322 6.2.1). The laws say that this is
 -- the grammar and the first refusal.
-use Rattle.std.specs.Prelude.{ℕ, ◌/◌, ◌==◌, nat_lt, false, List, [], ◌∷◌, length, Option, None, Some, Result, Ok, Err, if◌then◌else◌}
+use Rattle.std.specs.Prelude.{ℕ, ◌/◌, ◌==◌, nat_lt, false, List, [], ◌∷◌, length, Option, None}
+use Rattle.std.specs.Prelude.{Some, Result, Ok, Err, if◌then◌else◌}
 use Rattle.rlc_pdu.specs.declared.fault.RlcRefusal.{RlcRefusal}
 use Rattle.rlc_pdu.specs.declared.fault.RlcWhy.TheVariants.{Short, ReservedCpt}
 use Rattle.rlc_pdu.specs.Units.{Units, units, cut}
 use Rattle.rlc_pdu.specs.Pdus.{UmdPdu, AmdPdu, StatusPdu, AcknowledgedPdu, Payload, Status}
-use Rattle.rlc_pdu.specs.Refusals.{Front, umd_front, amd_front, refusal, body_refusal, listed_refusal}
+use Rattle.rlc_pdu.specs.Refusals.{Front, umd_front, amd_front, refusal, body_refusal}
+use Rattle.rlc_pdu.specs.Refusals.{listed_refusal}
 use Rattle.rlc_pdu.specs.Entries.{listed}
 
 -- what was found, unless it is refused
@@ -35,7 +37,8 @@ abbrev pub umd_at : ℕ → List ℕ → Result UmdPdu RlcRefusal
 umd_at bits octets = umd_behind (length octets) (umd_front bits octets)
 
 abbrev pub amd_with : Front → Result (List (List ℕ)) RlcRefusal → Result AmdPdu RlcRefusal
-amd_with f (Ok elements) = Ok (record { sn = f.sn; poll = f.poll; fi = f.fi; segment = f.segment; elements = elements })
+amd_with f (Ok elements) =
+    Ok (record { sn = f.sn; poll = f.poll; fi = f.fi; segment = f.segment; elements = elements })
 amd_with f (Err refused) = Err refused
 
 abbrev pub amd_behind : ℕ → Option Front → Result AmdPdu RlcRefusal
@@ -58,7 +61,8 @@ listed_at total found = unless (listed_refusal total found) (or_none found)
 
 -- a control PDU with this first octet, whose D/C is 0
 abbrev pub control_at : ℕ → List ℕ → Result StatusPdu RlcRefusal
-control_at a octets = if a / 16 == 0 then listed_at (length octets) (listed octets) else Err (refusal 0 ReservedCpt)
+control_at a octets = if a / 16 == 0 then listed_at (length octets) (listed octets)
+    else Err (refusal 0 ReservedCpt)
 
 abbrev pub as_payload : Result AmdPdu RlcRefusal → Result AcknowledgedPdu RlcRefusal
 as_payload (Ok pdu) = Ok (Payload pdu)
@@ -71,4 +75,5 @@ as_status (Err refused) = Err refused
 -- a PDU of an acknowledged bearer
 abbrev pub am_at : List ℕ → Result AcknowledgedPdu RlcRefusal
 am_at [] = Err (refusal 0 Short)
-am_at (a ∷ rest) = if nat_lt a 128 then as_status (control_at a (a ∷ rest)) else as_payload (amd_at (a ∷ rest))
+am_at (a ∷ rest) = if nat_lt a 128 then as_status (control_at a (a ∷ rest))
+    else as_payload (amd_at (a ∷ rest))

@@ -1,5 +1,6 @@
 -- Sets of places as lists of runs (TS 36.322 6.2.2.7).
-use Rattle.std.specs.Prelude.{ℕ, ◌+◌, ◌-◌, ◌<◌, ◌≤◌, Bool, true, false, ◌||◌, ◌&&◌, if◌then◌else◌, List, [], ◌∷◌, ◌++◌, min, max, nat_le, nat_lt, Option, Some, None}
+use Rattle.std.specs.Prelude.{ℕ, ◌+◌, ◌-◌, ◌<◌, ◌≤◌, Bool, true, false, ◌||◌, ◌&&◌, if◌then◌else◌}
+use Rattle.std.specs.Prelude.{List, [], ◌∷◌, ◌++◌, min, max, nat_le, nat_lt, Option, Some, None}
 use Rattle.std.specs.List.{list_any, flat_map}
 use Rattle.rlc_pdu.specs.declared.pdu.Part.{Part}
 
@@ -108,4 +109,5 @@ between from to = if nat_lt from to then Some (record { start = from; end = to -
 -- the first largest run of places that aren't in the set, at or above one place and below another
 abbrev pub gap_in : List Run → ℕ → ℕ → Option Part
 gap_in [] from size = between from size
-gap_in (r ∷ rs) from size = if nat_lt from r.from then between from (min r.from size) else gap_in rs (max from r.to) size
+gap_in (r ∷ rs) from size = if nat_lt from r.from then between from (min r.from size)
+    else gap_in rs (max from r.to) size

@@ -1,5 +1,8 @@
--- Extension units of data PDUs: E(1) LI(11), two of them in three octets (TS 36.322 6.2.1.3 to 6.2.1.5, 6.2.2.5).
-use Rattle.std.specs.Prelude.{ℕ, ◌+◌, ◌-◌, ◌*◌, ◌/◌, ◌%◌, ◌==◌, nat_le, Bool, true, false, List, [], ◌∷◌, ◌++◌, take, drop, Option, Some, None, if◌then◌else◌, is_none, length, All, ◌<◌, ◌^◌}
+-- Extension units of data PDUs: E(1) LI(11), two of them in three octets (TS 36.322 6.2.1.3 to
+-- 6.2.1.5, 6.2.2.5).
+use Rattle.std.specs.Prelude.{ℕ, ◌+◌, ◌-◌, ◌*◌, ◌/◌, ◌%◌, ◌==◌, nat_le, Bool, true, false, List, []}
+use Rattle.std.specs.Prelude.{◌∷◌, ◌++◌, take, drop, Option, Some, None, if◌then◌else◌, is_none}
+use Rattle.std.specs.Prelude.{length, All, ◌<◌, ◌^◌}
 
 -- ---- written
 
@@ -41,14 +44,16 @@ abbrev pub with_li : ℕ → Option Units → Option Units
 with_li one None = None
 with_li one (Some u) = Some (record u { lis = one ∷ u.lis })
 
--- units, if there are more; none where they are cut. Behind an even unit the next one begins in the same octet.
+-- units, if there are more; none where they are cut. Behind an even unit the next one begins in the
+-- same octet.
 unfoldable pub units : Bool → Bool → List ℕ → Option Units
 units false false rest = Some (record { lis = []; rest = rest })
 units true false [] = None
 units true false (a ∷ rest) = Some (record { lis = []; rest = rest })
 units odd true [] = None
 units odd true (a ∷ []) = None
-units false true (a ∷ b ∷ rest) = with_li (li_of false a b) (units true (more_of false a) (b ∷ rest))
+units false true (a ∷ b ∷ rest) =
+    with_li (li_of false a b) (units true (more_of false a) (b ∷ rest))
 units true true (a ∷ b ∷ rest) = with_li (li_of true a b) (units false (more_of true a) rest)
 
 -- which LI is the first of 0, counted from k
@@ -78,8 +83,10 @@ pub record Unit : Type 0 where
 unfoldable pub unit_at : Bool → List ℕ → Option Unit
 unit_at odd [] = None
 unit_at odd (a ∷ []) = None
-unit_at false (a ∷ b ∷ rest) = Some (record { len = li_of false a b; more = more_of false a; rest = b ∷ rest })
-unit_at true (a ∷ b ∷ rest) = Some (record { len = li_of true a b; more = more_of true a; rest = rest })
+unit_at false (a ∷ b ∷ rest) =
+    Some (record { len = li_of false a b; more = more_of false a; rest = b ∷ rest })
+unit_at true (a ∷ b ∷ rest) =
+    Some (record { len = li_of true a b; more = more_of true a; rest = rest })
 
 -- the octets behind the last unit
 unfoldable pub field_at : Bool → List ℕ → Option (List ℕ)

@@ -9,7 +9,8 @@ use Rattle.rlc_pdu.specs.declared.pdu.AmPdu.{AmPdu}
 use Rattle.rlc_pdu.specs.declared.pdu.AmPdu.TheVariants as am
 use Rattle.rlc_pdu.specs.declared.entries.NackReader.{NackReader}
 use Rattle.rlc_pdu.specs.Units.{elements_in}
-use Rattle.rlc_pdu.specs.Pdus.{UmdPdu, AmdPdu, StatusPdu, AcknowledgedPdu, Payload, Status, IsSegment}
+use Rattle.rlc_pdu.specs.Pdus.{UmdPdu, AmdPdu, StatusPdu, AcknowledgedPdu, Payload, Status}
+use Rattle.rlc_pdu.specs.Pdus.{IsSegment}
 use Rattle.rlc_pdu.specs.declared.pdu.Nack.{Nack}
 use Rattle.rlc_pdu.specs.Entries.{entries, nacks_in}
 use Rattle.l2_bits.specs.Bits.{bits_of}
@@ -24,7 +25,13 @@ abbrev pub umd_of : Umd → UmdPdu
 umd_of u = record { sn = u.sn; fi = u.fi; elements = elements_of u.elements }
 
 abbrev pub amd_of : Amd → AmdPdu
-amd_of a = record { sn = a.sn; poll = a.poll; fi = a.fi; segment = a.segment; elements = elements_of a.elements }
+amd_of a = record {
+  sn = a.sn;
+  poll = a.poll;
+  fi = a.fi;
+  segment = a.segment;
+  elements = elements_of a.elements;
+}
 
 -- the entries that a reader has left
 abbrev pub nacks_of : NackReader → List Nack
@@ -38,7 +45,15 @@ am_of (am.Payload amd) = Payload (amd_of amd)
 am_of (am.Status status) = Status (status_of status)
 
 abbrev pub front_of : Header → Front
-front_of h = record { sn = h.sn; poll = h.poll; fi = h.fi; segment = h.segment; more = h.more; size = h.size; rest = h.units.now }
+front_of h = record {
+  sn = h.sn;
+  poll = h.poll;
+  fi = h.fi;
+  segment = h.segment;
+  more = h.more;
+  size = h.size;
+  rest = h.units.now;
+}
 
 -- the bounds of a header's fields, in a PDU of so many octets
 pub record IsHeader (bits total : ℕ) (h : Header) : Type 0 where

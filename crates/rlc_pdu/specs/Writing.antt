@@ -19,16 +19,20 @@ amd_written sn poll fi segment lens field = amd_octets 0 sn poll fi segment lens
 
 -- a UMD PDU by its elements
 abbrev pub umd_canonical : ℕ → UmdPdu → List ℕ
-umd_canonical bits pdu = umd_written bits pdu.sn pdu.fi (map length pdu.elements) (concat pdu.elements)
+umd_canonical bits pdu =
+    umd_written bits pdu.sn pdu.fi (map length pdu.elements) (concat pdu.elements)
 
 -- an AMD PDU by its elements
 abbrev pub amd_canonical : AmdPdu → List ℕ
-amd_canonical pdu = amd_written pdu.sn pdu.poll pdu.fi pdu.segment (map length pdu.elements) (concat pdu.elements)
+amd_canonical pdu =
+    amd_written pdu.sn pdu.poll pdu.fi pdu.segment (map length pdu.elements) (concat pdu.elements)
 
 -- the bits of a STATUS
 abbrev pub status_written : ℕ → List Nack → List Bool
-status_written ack nacks = status_bits ack nacks ++ bits (filling (length (status_bits ack nacks))) 0
+status_written ack nacks =
+    status_bits ack nacks ++ bits (filling (length (status_bits ack nacks))) 0
 
--- the octets of a header with a fixed part of so many and of n elements: 12 bits for each element but the last
+-- the octets of a header with a fixed part of so many and of n elements: 12 bits for each element
+-- but the last
 abbrev pub header_len : ℕ → ℕ → ℕ
 header_len fixed n = fixed + (12 * (n - 1) + 7) / 8

@@ -1,5 +1,8 @@
-ghost use Rattle.std.specs.Prelude.{◌≡◌, ◌+◌, ◌<◌, ◌≤◌, ◌^◌, [], ◌∷◌, length, None, Some, MatchOption, option_map, is_some, true, false, IfSome, IfNone, if◌then◌else◌, ◌==◌};
-ghost use Rattle.rlc_pdu.specs.Units.{li_of, more_of, unit_at, field_at, or_zero, scanned, past_in, is_sound, elements_in, units as units_of};
+ghost use Rattle.std.specs.Prelude.{◌≡◌, ◌+◌, ◌<◌, ◌≤◌, ◌^◌, [], ◌∷◌, length, None, Some};
+ghost use Rattle.std.specs.Prelude.{MatchOption, option_map, is_some, true, false, IfSome, IfNone};
+ghost use Rattle.std.specs.Prelude.{if◌then◌else◌, ◌==◌};
+ghost use Rattle.rlc_pdu.specs.Units.{li_of, more_of, unit_at, field_at, or_zero, scanned, past_in};
+ghost use Rattle.rlc_pdu.specs.Units.{is_sound, elements_in, units as units_of};
 
 /// The elements of a data PDU that haven't been taken.
 #[derive(Clone, Copy)]
@@ -35,7 +38,9 @@ impl<'a> Elements<'a> {
 
     /// Takes the next element, `None` exactly after the last.
     pub fn next(&mut self) -> Option<&'a [u8]>
-        ensures element { MatchOption result ((elements_of self.old ≡ []) × (elements_of self.new ≡ [])) (λ one. elements_of self.old ≡ one.now ∷ elements_of self.new) }
+        ensures element { MatchOption result ((elements_of self.old ≡ [])
+            × (elements_of self.new ≡ [])) (λ one. elements_of self.old
+            ≡ one.now ∷ elements_of self.new) }
         ensures short { IfSome result (λ one. length one.now < 2 ^ 28) }
     {
         if self.field.is_empty() {
@@ -83,10 +88,12 @@ fn more_at(odd: bool, first: u8) -> bool
     }
 }
 
-// The unit that begins in the first octet: its LI, whether another follows, and the octets from there on.
+// The unit that begins in the first octet: its LI, whether another follows, and the octets from
+// there on.
 #[tactic(auto, unfolding(crate::specs::Units::unit_at))]
 fn unit(odd: bool, octets: &[u8]) -> Option<(usize, bool, &[u8])>
-    ensures read { option_map (λ x. record { len = x.0; more = x.1; rest = x.2.now }) result ≡ unit_at odd octets.now }
+    ensures read { option_map (λ x. record { len = x.0; more = x.1; rest = x.2.now }) result
+        ≡ unit_at odd octets.now }
     ensures less { IfSome result (λ x. (length x.2.now < length octets.now) × (x.0 < 2 ^ 11)) }
 {
     match (odd, octets) {
@@ -127,8 +134,10 @@ fn first_zero(found: Option<usize>, k: usize, len: usize) -> Option<usize>
 
 // The first LI of 0 and the octets behind the units, or nothing where they are cut.
 pub(crate) fn scan(more: bool, units: &[u8]) -> Option<(Option<usize>, &[u8])>
-    ensures read { option_map (λ x. (x.0, x.1.now)) result ≡ scanned None 0 (units_of false more units.now) }
-    ensures within { IfSome result (λ x. (IfSome x.0 (λ k. k ≤ length units.now)) × (length x.1.now ≤ length units.now)) }
+    ensures read { option_map (λ x. (x.0, x.1.now)) result
+        ≡ scanned None 0 (units_of false more units.now) }
+    ensures within { IfSome result (λ x. (IfSome x.0 (λ k. k ≤ length units.now))
+        × (length x.1.now ≤ length units.now)) }
 {
     let mut odd = false;
     let mut follows = more;

@@ -1,8 +1,11 @@
-ghost use Rattle.std.specs.Prelude.{◌≡◌, ◌+◌, ◌*◌, ◌<◌, ◌≤◌, ◌^◌, [], ◌∷◌, drop, length, None, Some, MatchOption, IfSome, option_map, true, is_some, if◌then◌else◌};
+ghost use Rattle.std.specs.Prelude.{◌≡◌, ◌+◌, ◌*◌, ◌<◌, ◌≤◌, ◌^◌, [], ◌∷◌, drop, length, None};
+ghost use Rattle.std.specs.Prelude.{Some, MatchOption, IfSome, option_map, true, is_some};
+ghost use Rattle.std.specs.Prelude.{if◌then◌else◌};
 ghost use Rattle.l2_bits.specs.Bits.{bits_of, take_field};
 ghost use Rattle.rlc_pdu.specs.Pdus.{IsWide};
 ghost use Rattle.rlc_pdu.specs.Status.{nack_size};
-ghost use Rattle.rlc_pdu.specs.Entries.{part_at, nack_at, ack_at, entries, is_backwards, or_place, gone_through};
+ghost use Rattle.rlc_pdu.specs.Entries.{part_at, nack_at, ack_at, entries, is_backwards, or_place};
+ghost use Rattle.rlc_pdu.specs.Entries.{gone_through};
 
 use crate::pdu::{Nack, Part};
 use l2_bits::field;
@@ -37,7 +40,8 @@ impl<'a> NackReader<'a> {
 
     /// Takes the next entry, `None` exactly after the last.
     pub fn next(&mut self) -> Option<Nack>
-        ensures entry { MatchOption result ((nacks_of self.old ≡ []) × (nacks_of self.new ≡ [])) (λ nack. nacks_of self.old ≡ nack ∷ nacks_of self.new) }
+        ensures entry { MatchOption result ((nacks_of self.old ≡ []) × (nacks_of self.new ≡ []))
+            (λ nack. nacks_of self.old ≡ nack ∷ nacks_of self.new) }
         ensures wide { IfSome result IsWide }
     {
         if !self.more {
@@ -68,7 +72,8 @@ fn take(octets: &[u8], at: usize, n: u32) -> Option<u32>
     requires few { n ≤ 32 }
     requires within { at ≤ 8 * length octets.now }
     requires short { length octets.now < 2 ^ 28 }
-    ensures read { option_map (λ v. (v, drop (at + n) (bits_of octets.now))) result ≡ take_field n (drop at (bits_of octets.now)) }
+    ensures read { option_map (λ v. (v, drop (at + n) (bits_of octets.now))) result
+        ≡ take_field n (drop at (bits_of octets.now)) }
     ensures below { IfSome result (λ v. v < 2 ^ n) }
     ensures behind { IfSome result (λ _. at + n ≤ 8 * length octets.now) }
 {
@@ -83,7 +88,8 @@ fn take(octets: &[u8], at: usize, n: u32) -> Option<u32>
 fn part(has: bool, octets: &[u8], at: usize) -> Option<(Option<Part>, usize)>
     requires within { at ≤ 8 * length octets.now }
     requires short { length octets.now < 2 ^ 28 }
-    ensures read { option_map (λ x. (x.0, drop x.1 (bits_of octets.now))) result ≡ part_at has (drop at (bits_of octets.now)) }
+    ensures read { option_map (λ x. (x.0, drop x.1 (bits_of octets.now))) result
+        ≡ part_at has (drop at (bits_of octets.now)) }
     ensures wide { IfSome result (λ x. IfSome x.0 (λ p. (p.start < 2 ^ 15) × (p.end < 2 ^ 15))) }
     ensures behind { IfSome result (λ x. (at ≤ x.1) × (x.1 ≤ 8 * length octets.now)) }
     ensures size { IfSome result (λ x. MatchOption x.0 (x.1 ≡ at) (λ _. x.1 ≡ at + 30)) }
@@ -102,7 +108,8 @@ fn part(has: bool, octets: &[u8], at: usize) -> Option<(Option<Part>, usize)>
 fn entry(octets: &[u8], at: usize) -> Option<Found>
     requires within { at ≤ 8 * length octets.now }
     requires short { length octets.now < 2 ^ 28 }
-    ensures read { option_map (λ e. ((e.nack, e.more), drop e.next (bits_of octets.now))) result ≡ nack_at (drop at (bits_of octets.now)) }
+    ensures read { option_map (λ e. ((e.nack, e.more), drop e.next (bits_of octets.now))) result
+        ≡ nack_at (drop at (bits_of octets.now)) }
     ensures wide { IfSome result (λ e. IsWide e.nack) }
     ensures behind { IfSome result (λ e. (at + 12 ≤ e.next) × (e.next ≤ 8 * length octets.now)) }
     ensures size { IfSome result (λ e. e.next ≡ at + nack_size e.nack) }
@@ -125,7 +132,8 @@ fn entry(octets: &[u8], at: usize) -> Option<Found>
 pub(crate) fn ack(octets: &[u8], at: usize) -> Option<(u32, bool)>
     requires within { at ≤ 8 * length octets.now }
     requires short { length octets.now < 2 ^ 28 }
-    ensures read { option_map (λ x. (x, drop (at + 10 + 1) (bits_of octets.now))) result ≡ ack_at (drop at (bits_of octets.now)) }
+    ensures read { option_map (λ x. (x, drop (at + 10 + 1) (bits_of octets.now))) result
+        ≡ ack_at (drop at (bits_of octets.now)) }
     ensures below { IfSome result (λ x. x.0 < 2 ^ 10) }
     ensures behind { IfSome result (λ _. at + 11 ≤ 8 * length octets.now) }
 {
@@ -147,7 +155,8 @@ fn is_backwards(part: Option<Part>) -> bool
 // The first SOstart above its SOend, where the entry that begins with a bit is the next.
 fn first_backwards(found: Option<usize>, at: usize, nack: Nack) -> Option<usize>
     requires { at + 12 < 2 ^ 32 }
-    ensures first { result ≡ or_place found (if is_backwards nack.part then Some (at + 12) else None) }
+    ensures first { result
+        ≡ or_place found (if is_backwards nack.part then Some (at + 12) else None) }
     ensures within { IfSome result (λ z. MatchOption found (z ≡ at + 12) (λ f. z ≡ f)) }
 {
     match found {
@@ -162,7 +171,8 @@ pub(crate) fn go_through(octets: &[u8], at: usize, more: bool) -> Option<(Option
     requires within { at ≤ 8 * length octets.now }
     requires short { length octets.now < 2 ^ 28 }
     ensures read { result ≡ gone_through None at (entries 0 more (drop at (bits_of octets.now))) }
-    ensures bounds { IfSome result (λ x. (IfSome x.0 (λ b. b ≤ 8 * length octets.now)) × (x.1 ≤ 8 * length octets.now)) }
+    ensures bounds { IfSome result (λ x. (IfSome x.0 (λ b. b ≤ 8 * length octets.now))
+        × (x.1 ≤ 8 * length octets.now)) }
 {
     let mut backwards = None;
     let mut next = at;

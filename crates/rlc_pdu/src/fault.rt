@@ -22,7 +22,8 @@ pub enum RlcWhy {
 /// Why a PDU is refused, and at which of its octets, counted from 0.
 #[derive(Clone, Copy, Debug, PartialEq, Eq)]
 pub struct RlcRefusal {
-    /// The octet that holds the first bit of the field at fault; for `Short` and `EmptyData` the length of the PDU.
+    /// The octet that holds the first bit of the field at fault; for `Short` and `EmptyData` the
+    /// length of the PDU.
     pub at: u32,
     /// What is wrong there.
     pub why: RlcWhy,

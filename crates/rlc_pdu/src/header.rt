@@ -1,4 +1,5 @@
-ghost use Rattle.std.specs.Prelude.{◌≡◌, ◌+◌, ◌<◌, ◌^◌, length, IfSome, MatchResult, Ok, Err, option_map, false};
+ghost use Rattle.std.specs.Prelude.{◌≡◌, ◌+◌, ◌<◌, ◌^◌, length, IfSome, MatchResult, Ok, Err};
+ghost use Rattle.std.specs.Prelude.{option_map, false};
 ghost use Rattle.rlc_pdu.specs.Pdus.{IsUmBits};
 ghost use Rattle.rlc_pdu.specs.Units.{units as units_of};
 ghost use Rattle.rlc_pdu.specs.Refusals.{umd_front, amd_front, short_front, long_front};
@@ -116,8 +117,10 @@ pub(crate) fn elements_behind<'a>(
     requires whole { header.now.size + length header.now.units.now ≡ total }
     requires short { total < 2 ^ 28 }
     ensures { MatchResult result
-        (λ e. elements_at total header.now.size (units_of false header.now.more header.now.units.now) ≡ Ok (elements_of e))
-        (λ e. elements_at total header.now.size (units_of false header.now.more header.now.units.now) ≡ Err e) }
+        (λ e. elements_at total header.now.size
+        (units_of false header.now.more header.now.units.now) ≡ Ok (elements_of e))
+        (λ e. elements_at total header.now.size
+        (units_of false header.now.more header.now.units.now) ≡ Err e) }
 {
     let Some((zero, field)) = scan(header.more, header.units) else {
         return Err(RlcRefusal::new(total, RlcWhy::Short));

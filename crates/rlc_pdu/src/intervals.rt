@@ -1,5 +1,8 @@
-ghost use Rattle.std.specs.Prelude.{◌≡◌, ℕ, ◌<◌, ◌≤◌, ◌++◌, ◌||◌, ◌&&◌, true, not, nat_le, nat_lt, max, [], length, OnOk, OnErr, IfOk};
-ghost use Rattle.rlc_pdu.specs.Runs.{AreAscending, ends_below, last_begins_by, last_ends_below, stretched, run, lies_in, has, added, removed, merged, passing, passed, some_run, kept_of, covers, between, gap_in};
+ghost use Rattle.std.specs.Prelude.{◌≡◌, ℕ, ◌<◌, ◌≤◌, ◌++◌, ◌||◌, ◌&&◌, true, not, nat_le, nat_lt};
+ghost use Rattle.std.specs.Prelude.{max, [], length, OnOk, OnErr, IfOk};
+ghost use Rattle.rlc_pdu.specs.Runs.{AreAscending, ends_below, last_begins_by, last_ends_below};
+ghost use Rattle.rlc_pdu.specs.Runs.{stretched, run, lies_in, has, added, removed, merged, passing};
+ghost use Rattle.rlc_pdu.specs.Runs.{passed, some_run, kept_of, covers, between, gap_in};
 
 use crate::pdu::Part;
 use l2_bits::NoMemory;
@@ -23,7 +26,8 @@ impl Model for Span {
     ghost inverse = { λ r. record { from = r.from; to = r.to } };
 }
 
-/// A set of places of a data field, kept as ascending runs that don't touch. Contracts see these runs.
+/// A set of places of a data field, kept as ascending runs that don't touch. Contracts see these
+/// runs.
 ///
 /// Each call takes a time linear in the number of runs at most.
 #[derive(Drop)]
@@ -54,15 +58,18 @@ impl Intervals {
         }
     }
 
-    /// Adds the places from `start` to `end - 1`, and answers whether one of them is new. An `Err` changes nothing.
+    /// Adds the places from `start` to `end - 1`, and answers whether one of them is new. An `Err`
+    /// changes nothing.
     ///
-    /// Where no run but the last meets or touches these places, it takes the same time, however many runs there are.
+    /// Where no run but the last meets or touches these places, it takes the same time, however
+    /// many runs there are.
     #[tactic(auto, using(crate::proofs::RunSteps::adding))]
     pub fn add(&mut self, start: u32, end: u32) -> Result<bool, NoMemory>
         requires some { start < end }
         requires within { end ≤ 32767 }
         ensures runs { OnOk result (self.new ≡ added self.old start end) }
-        ensures places { OnOk result ((i : ℕ) → has self.new i ≡ (lies_in (run start end) i || has self.old i)) }
+        ensures places { OnOk result ((i : ℕ)
+            → has self.new i ≡ (lies_in (run start end) i || has self.old i)) }
         ensures fresh { IfOk result (λ fresh. fresh ≡ not (covers self.old start end)) }
         ensures err { OnErr result (self.new ≡ self.old) }
     {
@@ -75,7 +82,8 @@ impl Intervals {
         requires some { start < end }
         requires within { end ≤ 32767 }
         ensures runs { OnOk result (self.new ≡ removed self.old start end) }
-        ensures places { OnOk result ((i : ℕ) → has self.new i ≡ (not (lies_in (run start end) i) && has self.old i)) }
+        ensures places { OnOk result ((i : ℕ)
+            → has self.new i ≡ (not (lies_in (run start end) i) && has self.old i)) }
         ensures err { OnErr result (self.new ≡ self.old) }
     {
         self.runs = without(self.alloc, &self.runs, start, end)?;
@@ -89,8 +97,8 @@ impl Intervals {
         self.runs.clear();
     }
 
-    /// The first largest run of places that aren't in the set, at or above `from` and below `length`; its end is its
-    /// last place. `None` exactly where there is none.
+    /// The first largest run of places that aren't in the set, at or above `from` and below
+    /// `length`; its end is its last place. `None` exactly where there is none.
     pub fn gap(&self, from: u32, length: u32) -> Option<Part>
         ensures { result ≡ gap_in self.now from length }
     {
@@ -186,7 +194,8 @@ fn stretch(runs: &mut Vec<Span>, to: u32) -> bool
     }
 }
 
-// Adds a run, and answers whether one of its places is new: at the last run by itself, else by going through all.
+// Adds a run, and answers whether one of its places is new: at the last run by itself, else by
+// going through all.
 #[tactic(auto, using(crate::proofs::RunSteps::behind_all))]
 fn add_to(alloc: Global, runs: &mut Vec<Span>, from: u32, to: u32) -> Result<bool, NoMemory>
     requires ascending { AreAscending 0 runs.old.items }

@@ -1,4 +1,5 @@
-//! RLC PDUs (TS 36.322 section 6.2): data PDUs of the unacknowledged and the acknowledged mode, and STATUS PDUs.
+//! RLC PDUs (TS 36.322 section 6.2): data PDUs of the unacknowledged and the acknowledged mode, and
+//! STATUS PDUs.
 #![tactic(auto)]
 
 mod elements;

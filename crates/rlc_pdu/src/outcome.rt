@@ -3,7 +3,8 @@ use l2_bits::Bytes;
 /// What a sender answers where it is asked for a PDU.
 #[derive(Debug, Drop)]
 pub enum Taken {
-    /// A PDU of the number: whether it is sent for the first time, whether it asks for a STATUS, and its octets.
+    /// A PDU of the number: whether it is sent for the first time, whether it asks for a STATUS,
+    /// and its octets.
     Piece {
         number: u64,
         fresh: bool,

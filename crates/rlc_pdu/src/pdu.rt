@@ -16,8 +16,8 @@ pub struct Segment {
 pub struct Umd<'a> {
     /// The number, of 5 or 10 bits.
     pub sn: u32,
-    /// The framing info, below 4: its upper bit is 0 exactly where the field begins an SDU, its lower bit exactly where
-    /// it ends one.
+    /// The framing info, below 4: its upper bit is 0 exactly where the field begins an SDU, its
+    /// lower bit exactly where it ends one.
     pub fi: u8,
     pub elements: Elements<'a>,
 }
@@ -36,7 +36,8 @@ pub struct Amd<'a> {
     pub elements: Elements<'a>,
 }
 
-/// A range of octets of an AMD PDU's data field, each place below 2^15; an end of 32767 is the field's last octet.
+/// A range of octets of an AMD PDU's data field, each place below 2^15; an end of 32767 is the
+/// field's last octet.
 #[derive(Clone, Copy, Debug, PartialEq, Eq)]
 pub struct Part {
     pub start: u32,
@@ -58,7 +59,8 @@ pub type Nacks = Items<Nack>;
 /// A STATUS PDU (TS 36.322 6.2.1.6).
 #[derive(Clone, Copy)]
 pub struct StatusRead<'a> {
-    /// ACK_SN, of 10 bits: the number of the next AMD PDU that is neither received nor reported as missing.
+    /// ACK_SN, of 10 bits: the number of the next AMD PDU that is neither received nor reported as
+    /// missing.
     pub ack: u32,
     pub nacks: NackReader<'a>,
 }

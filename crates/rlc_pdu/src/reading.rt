@@ -1,4 +1,5 @@
-ghost use Rattle.std.specs.Prelude.{◌≡◌, ◌<◌, ◌≤◌, ◌^◌, length, slice_index, None, Some, Ok, Err, IfOk, IsOkAnd, MatchResult};
+ghost use Rattle.std.specs.Prelude.{◌≡◌, ◌<◌, ◌≤◌, ◌^◌, length, slice_index, None, Some, Ok, Err};
+ghost use Rattle.std.specs.Prelude.{IfOk, IsOkAnd, MatchResult};
 ghost use Rattle.rlc_pdu.specs.Pdus.{UmdPdu, AcknowledgedPdu, IsUmBits, IsSegment};
 ghost use Rattle.rlc_pdu.specs.Grammar.{IsUmdPdu, IsAmPdu};
 ghost use Rattle.rlc_pdu.specs.Refusals.{umd_refusal, am_refusal};
@@ -13,7 +14,8 @@ use crate::pdu::{AmPdu, Amd, StatusRead, Umd};
 fn umd_of_octets(bits: u32, from: &[u8]) -> Result<Umd<'_>, RlcRefusal>
     requires bits { IsUmBits bits }
     requires short { length from.now < 2 ^ 28 }
-    ensures exact { MatchResult result (λ umd. umd_at bits from.now ≡ Ok (umd_of umd)) (λ e. umd_at bits from.now ≡ Err e) }
+    ensures exact { MatchResult result (λ umd. umd_at bits from.now ≡ Ok (umd_of umd))
+        (λ e. umd_at bits from.now ≡ Err e) }
     ensures number { IfOk result (λ umd. umd.sn < 2 ^ bits) }
     ensures framing { IfOk result (λ umd. umd.fi < 4) }
 {
@@ -31,7 +33,8 @@ fn umd_of_octets(bits: u32, from: &[u8]) -> Result<Umd<'_>, RlcRefusal>
 // An AMD PDU or a segment, D/C being 1.
 fn amd_of_octets(from: &[u8]) -> Result<Amd<'_>, RlcRefusal>
     requires { length from.now < 2 ^ 28 }
-    ensures exact { MatchResult result (λ amd. amd_at from.now ≡ Ok (amd_of amd)) (λ e. amd_at from.now ≡ Err e) }
+    ensures exact { MatchResult result (λ amd. amd_at from.now ≡ Ok (amd_of amd))
+        (λ e. amd_at from.now ≡ Err e) }
     ensures number { IfOk result (λ amd. amd.sn < 2 ^ 10) }
     ensures framing { IfOk result (λ amd. amd.fi < 4) }
     ensures segment { IfOk result (λ amd. IsSegment amd.segment) }
@@ -49,15 +52,18 @@ fn amd_of_octets(from: &[u8]) -> Result<Amd<'_>, RlcRefusal>
     })
 }
 
-/// Reads a UMD PDU of fewer than 2^28 octets, whose number has 5 or 10 bits (TS 36.322 6.2.1.3). Reserved bits and
-/// padding are passed over. It takes no memory.
+/// Reads a UMD PDU of fewer than 2^28 octets, whose number has 5 or 10 bits (TS 36.322 6.2.1.3).
+/// Reserved bits and padding are passed over. It takes no memory.
 pub fn read_umd(bits: u32, from: &[u8]) -> Result<Umd<'_>, RlcRefusal>
     requires bits { IsUmBits bits }
     requires short { length from.now < 2 ^ 28 }
     ensures found { IfOk result (λ umd. IsUmdPdu bits (umd_of umd) from.now) }
-    ensures only { (pdu : UmdPdu) → IsUmdPdu bits pdu from.now → IsOkAnd result (λ umd. umd_of umd ≡ pdu) }
-    ensures refused { MatchResult result (λ _. umd_refusal bits from.now ≡ None) (λ e. umd_refusal bits from.now ≡ Some e) }
-    ensures exact { MatchResult result (λ umd. umd_at bits from.now ≡ Ok (umd_of umd)) (λ e. umd_at bits from.now ≡ Err e) }
+    ensures only { (pdu : UmdPdu) → IsUmdPdu bits pdu from.now
+        → IsOkAnd result (λ umd. umd_of umd ≡ pdu) }
+    ensures refused { MatchResult result (λ _. umd_refusal bits from.now ≡ None)
+        (λ e. umd_refusal bits from.now ≡ Some e) }
+    ensures exact { MatchResult result (λ umd. umd_at bits from.now ≡ Ok (umd_of umd))
+        (λ e. umd_at bits from.now ≡ Err e) }
     ensures number { IfOk result (λ umd. umd.sn < 2 ^ bits) }
     ensures framing { IfOk result (λ umd. umd.fi < 4) }
 {
@@ -68,7 +74,8 @@ pub fn read_umd(bits: u32, from: &[u8]) -> Result<Umd<'_>, RlcRefusal>
 fn status_of_octets(from: &[u8]) -> Result<StatusRead<'_>, RlcRefusal>
     requires some { 1 ≤ length from.now }
     requires short { length from.now < 2 ^ 28 }
-    ensures exact { MatchResult result (λ status. control_at (slice_index from.now 0) from.now ≡ Ok (status_of status)) (λ e. control_at (slice_index from.now 0) from.now ≡ Err e) }
+    ensures exact { MatchResult result (λ status. control_at (slice_index from.now 0) from.now
+        ≡ Ok (status_of status)) (λ e. control_at (slice_index from.now 0) from.now ≡ Err e) }
     ensures number { IfOk result (λ status. status.ack < 2 ^ 10) }
 {
     if from[0] >> 4 != 0 {
@@ -93,7 +100,8 @@ fn status_of_octets(from: &[u8]) -> Result<StatusRead<'_>, RlcRefusal>
 
 fn am_of_octets(from: &[u8]) -> Result<AmPdu<'_>, RlcRefusal>
     requires { length from.now < 2 ^ 28 }
-    ensures exact { MatchResult result (λ pdu. am_at from.now ≡ Ok (am_of pdu)) (λ e. am_at from.now ≡ Err e) }
+    ensures exact { MatchResult result (λ pdu. am_at from.now ≡ Ok (am_of pdu))
+        (λ e. am_at from.now ≡ Err e) }
     ensures ranges { IfOk result HasRanges }
 {
     if from.is_empty() {
@@ -107,14 +115,17 @@ fn am_of_octets(from: &[u8]) -> Result<AmPdu<'_>, RlcRefusal>
     Ok(AmPdu::Payload(amd))
 }
 
-/// Reads a PDU of an acknowledged bearer, of fewer than 2^28 octets: an AMD PDU, a segment of one, or a STATUS PDU
-/// (TS 36.322 6.2.1.4 to 6.2.1.6). Padding is passed over. It takes no memory.
+/// Reads a PDU of an acknowledged bearer, of fewer than 2^28 octets: an AMD PDU, a segment of one,
+/// or a STATUS PDU (TS 36.322 6.2.1.4 to 6.2.1.6). Padding is passed over. It takes no memory.
 pub fn read_am(from: &[u8]) -> Result<AmPdu<'_>, RlcRefusal>
     requires { length from.now < 2 ^ 28 }
     ensures found { IfOk result (λ pdu. IsAmPdu (am_of pdu) from.now) }
-    ensures only { (pdu : AcknowledgedPdu) → IsAmPdu pdu from.now → IsOkAnd result (λ read. am_of read ≡ pdu) }
-    ensures refused { MatchResult result (λ _. am_refusal from.now ≡ None) (λ e. am_refusal from.now ≡ Some e) }
-    ensures exact { MatchResult result (λ pdu. am_at from.now ≡ Ok (am_of pdu)) (λ e. am_at from.now ≡ Err e) }
+    ensures only { (pdu : AcknowledgedPdu) → IsAmPdu pdu from.now
+        → IsOkAnd result (λ read. am_of read ≡ pdu) }
+    ensures refused { MatchResult result (λ _. am_refusal from.now ≡ None)
+        (λ e. am_refusal from.now ≡ Some e) }
+    ensures exact { MatchResult result (λ pdu. am_at from.now ≡ Ok (am_of pdu))
+        (λ e. am_at from.now ≡ Err e) }
     ensures ranges { IfOk result HasRanges }
 {
     am_of_octets(from)

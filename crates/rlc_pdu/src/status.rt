@@ -1,4 +1,5 @@
-ghost use Rattle.std.specs.Prelude.{◌≡◌, ◌+◌, ◌<◌, ◌^◌, ◌++◌, length, drop, slice_get, All, Some, IfOk, OnOk};
+ghost use Rattle.std.specs.Prelude.{◌≡◌, ◌+◌, ◌<◌, ◌^◌, ◌++◌, length, drop, slice_get, All, Some};
+ghost use Rattle.std.specs.Prelude.{IfOk, OnOk};
 ghost use Rattle.l2_bits.specs.Bits.{bits_of, digit};
 ghost use Rattle.rlc_pdu.specs.Pdus.{IsNack};
 ghost use Rattle.rlc_pdu.specs.Status.{has_more, nack_bits, nacks_bits, status_bits, status_size};
@@ -45,7 +46,8 @@ fn nack_at(nacks: &Nacks, at: usize) -> Nack
 fn put_entry(out: &mut BitWriter, nacks: &Nacks, at: usize) -> Result<(), NoMemory>
     requires there { at < length nacks.now }
     requires nacks { All IsNack nacks.now }
-    ensures { OnOk result (out.new ++ nacks_bits (drop (at + 1) nacks.now) ≡ out.old ++ nacks_bits (drop at nacks.now)) }
+    ensures { OnOk result (out.new ++ nacks_bits (drop (at + 1) nacks.now)
+        ≡ out.old ++ nacks_bits (drop at nacks.now)) }
 {
     let more = nacks.len() - at > 1;
     let nack = nack_at(nacks, at);
@@ -77,8 +79,8 @@ fn write(alloc: Global, ack: u32, nacks: &Nacks) -> Result<Bytes, NoMemory>
     Ok(out.finish())
 }
 
-/// Writes a STATUS PDU (TS 36.322 6.2.1.6) with an ACK_SN of 10 bits and these entries in their order, each with its
-/// fields in range.
+/// Writes a STATUS PDU (TS 36.322 6.2.1.6) with an ACK_SN of 10 bits and these entries in their
+/// order, each with its fields in range.
 pub fn write_status(alloc: Global, ack: u32, nacks: &Nacks) -> Result<Bytes, NoMemory>
     requires number { ack < 2 ^ 10 }
     requires nacks { All IsNack nacks.now }

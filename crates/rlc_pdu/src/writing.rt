@@ -78,8 +78,8 @@ fn behind(alloc: Global, fixed: &[u8], lens: &[u32], field: &[u8]) -> Result<Byt
     Ok(out)
 }
 
-/// Writes a UMD PDU with a number of 5 or 10 bits (TS 36.322 6.2.1.3), of one element or more, whose lengths add up to
-/// the field's. None is 0, and each but the last is below 2^11.
+/// Writes a UMD PDU with a number of 5 or 10 bits (TS 36.322 6.2.1.3), of one element or more,
+/// whose lengths add up to the field's. None is 0, and each but the last is below 2^11.
 pub fn write_umd(
     alloc: Global,
     bits: u32,
@@ -103,8 +103,8 @@ pub fn write_umd(
     behind(alloc, &[first, (sn & 0xff) as u8], lens, field)
 }
 
-/// Writes an AMD PDU, or a segment of one (TS 36.322 6.2.1.4, 6.2.1.5). The number has 10 bits; lengths and field are
-/// as in `write_umd`.
+/// Writes an AMD PDU, or a segment of one (TS 36.322 6.2.1.4, 6.2.1.5). The number has 10 bits;
+/// lengths and field are as in `write_umd`.
 pub fn write_amd(
     alloc: Global,
     sn: u32,

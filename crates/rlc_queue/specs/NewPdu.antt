@@ -1,14 +1,16 @@
--- What a new data PDU takes from the SDUs that wait (TS 36.322 4.2.1.2.2, 4.2.1.3.2, 6.2.2.5): elements are added while the last one ended
--- its SDU, has at most 2047 octets, so that an LI can tell its length, and one octet of the next fits. Each is as long as fits.
-use Rattle.std.specs.Prelude.{ℕ, ◌+◌, ◌≤◌, ◌-◌, Bool, false, ◌&&◌, if◌then◌else◌, List, [], ◌∷◌, length, take, nat_le, nat_lt, ◌==◌}
+-- What a new data PDU takes from the SDUs that wait (TS 36.322 4.2.1.2.2, 4.2.1.3.2, 6.2.2.5):
+-- elements are added while the last one ended its SDU, has at most 2047 octets, so that an LI can
+-- tell its length, and one octet of the next fits. Each is as long as fits.
+use Rattle.std.specs.Prelude.{ℕ, ◌+◌, ◌≤◌, ◌-◌, Bool, false, ◌&&◌, if◌then◌else◌, List, [], ◌∷◌}
+use Rattle.std.specs.Prelude.{length, take, nat_le, nat_lt, ◌==◌}
 use Rattle.rlc_pdu.specs.Writing.{header_len}
 use Rattle.rlc_pdu.specs.declared.outcome.Taken.{Taken}
 use Rattle.rlc_pdu.specs.declared.outcome.Taken.TheVariants.{Piece}
 use Rattle.rlc_queue.specs.declared.cutting.NewPdu.{NewPdu}
 use Rattle.rlc_queue.specs.Waiting.{behind}
 
--- in a PDU of a size, the octets that a further element may have behind so many elements with so many octets; `head` is the
--- header's fixed part
+-- in a PDU of a size, the octets that a further element may have behind so many elements with so
+-- many octets; `head` is the header's fixed part
 abbrev pub room : ℕ → ℕ → ℕ → ℕ → ℕ
 room head size count used = size - (header_len head (count + 1) + used)
 
@@ -21,14 +23,17 @@ abbrev pub elements : ℕ → ℕ → ℕ → ℕ → List (List ℕ) → List (
 elements head size count used [] = []
 elements head size count used (x ∷ xs) =
     if room head size count used == 0 then []
-    else take (room head size count used) x ∷ (if may_follow (room head size count used) x then elements head size (count + 1) (used + length x) xs else [])
+    else take (room head size count used) x
+    ∷ (if may_follow (room head size count used) x
+    then elements head size (count + 1) (used + length x) xs else [])
 
 -- what is left of the SDUs then
 abbrev pub rest : ℕ → ℕ → ℕ → ℕ → List (List ℕ) → List (List ℕ)
 rest head size count used [] = []
 rest head size count used (x ∷ xs) =
     if room head size count used == 0 then x ∷ xs
-    else if may_follow (room head size count used) x then rest head size (count + 1) (used + length x) xs
+    else if may_follow (room head size count used) x
+    then rest head size (count + 1) (used + length x) xs
     else behind (room head size count used) (x ∷ xs)
 
 -- whether the first of them is partly sent then
@@ -36,15 +41,19 @@ abbrev pub partial : ℕ → ℕ → ℕ → ℕ → Bool → List (List ℕ) �
 partial head size count used begun [] = begun
 partial head size count used begun (x ∷ xs) =
     if room head size count used == 0 then begun
-    else if may_follow (room head size count used) x then partial head size (count + 1) (used + length x) false xs
+    else if may_follow (room head size count used) x
+    then partial head size (count + 1) (used + length x) false xs
     else nat_lt (room head size count used) (length x)
 
 -- all of them go whole into a PDU of a size, and an octet of a further SDU fits too
 abbrev pub fits_more : ℕ → ℕ → ℕ → ℕ → List (List ℕ) → Bool
 fits_more head size count used [] = nat_lt 0 (room head size count used)
-fits_more head size count used (x ∷ xs) = may_follow (room head size count used) x && nat_lt 0 (room head size count used) && fits_more head size (count + 1) (used + length x) xs
+fits_more head size count used (x ∷ xs) =
+    may_follow (room head size count used) x && nat_lt 0 (room head size count used)
+    && fits_more head size (count + 1) (used + length x) xs
 
--- FI: its upper bit is 0 exactly if the field begins an SDU, its lower bit exactly if it ends one (TS 36.322 6.2.2.6)
+-- FI: its upper bit is 0 exactly if the field begins an SDU, its lower bit exactly if it ends one
+-- (TS 36.322 6.2.2.6)
 abbrev pub framing : Bool → Bool → ℕ
 framing begins ends = (if begins then 0 else 2) + (if ends then 0 else 1)
 

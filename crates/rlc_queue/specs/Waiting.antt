@@ -1,5 +1,6 @@
 -- The SDUs that a sender was offered and hasn't wholly sent (TS 36.322 4.5, 5.1).
-use Rattle.std.specs.Prelude.{ℕ, ◌+◌, ◌*◌, ◌<◌, Bool, false, if◌then◌else◌, List, [], ◌∷◌, ◌++◌, length, drop, nat_lt}
+use Rattle.std.specs.Prelude.{ℕ, ◌+◌, ◌*◌, ◌<◌, Bool, false, if◌then◌else◌, List, [], ◌∷◌, ◌++◌}
+use Rattle.std.specs.Prelude.{length, drop, nat_lt}
 
 -- what is left of each, and whether the first is partly sent
 pub record Waiting : Type 0 where

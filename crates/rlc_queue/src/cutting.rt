@@ -1,5 +1,6 @@
 //! The cutting of new PDUs.
-ghost use Rattle.std.specs.Prelude.{◌≡◌, ◌<◌, ◌≤◌, ◌+◌, ◌^◌, ◌++◌, length, map, OnOk, IfOk, if◌then◌else◌, not, true};
+ghost use Rattle.std.specs.Prelude.{◌≡◌, ◌<◌, ◌≤◌, ◌+◌, ◌^◌, ◌++◌, length, map, OnOk, IfOk};
+ghost use Rattle.std.specs.Prelude.{if◌then◌else◌, not, true};
 ghost use Rattle.std.specs.List.{concat, sum};
 ghost use Rattle.rlc_pdu.specs.Pdus.{AreLens};
 ghost use Rattle.rlc_pdu.specs.Writing.{header_len};
@@ -46,8 +47,8 @@ impl NewPdu {
     }
 }
 
-/// FI of a field: its upper bit is 0 exactly where the field begins an SDU, its lower bit exactly where it ends one
-/// (TS 36.322 6.2.2.6).
+/// FI of a field: its upper bit is 0 exactly where the field begins an SDU, its lower bit exactly
+/// where it ends one (TS 36.322 6.2.2.6).
 pub fn framing(begins: bool, ends: bool) -> u8
     ensures value { result ≡ framing begins ends }
     ensures below { result < 4 }
@@ -55,11 +56,12 @@ pub fn framing(begins: bool, ends: bool) -> u8
     (if begins { 0 } else { 2 }) + (if ends { 0 } else { 1 })
 }
 
-/// Cuts the next new PDU of at most `size` octets from the SDUs that wait. `head` is the size of the header of a PDU of
-/// one element: 1 octet for a UMD PDU with a number of 5 bits, else 2.
+/// Cuts the next new PDU of at most `size` octets from the SDUs that wait. `head` is the size of
+/// the header of a PDU of one element: 1 octet for a UMD PDU with a number of 5 bits, else 2.
 ///
-/// Elements are added while the last one ended its SDU, has at most 2047 octets, and one octet of the next fits. Each
-/// is as long as fits. Octets are copied once, into the field. After an `Err` the queue holds no more than it held.
+/// Elements are added while the last one ended its SDU, has at most 2047 octets, and one octet of
+/// the next fits. Each is as long as fits. Octets are copied once, into the field. After an `Err`
+/// the queue holds no more than it held.
 #[tactic(auto, using(crate::proofs::Lens::lens))]
 pub fn new_pdu(
     queue: &mut Queue,
@@ -70,16 +72,21 @@ pub fn new_pdu(
     requires head { head ≤ 2 }
     requires size { size < 2 ^ 32 }
     ensures begins { IfOk result (λ p. p.begins ≡ not queue.old.begun) }
-    ensures ends { IfOk result (λ p. p.ends ≡ not (partial head size 0 0 queue.old.begun queue.old.sdus)) }
-    ensures lens { IfOk result (λ p. p.lens.items ≡ map length (elements head size 0 0 queue.old.sdus)) }
+    ensures ends { IfOk result
+        (λ p. p.ends ≡ not (partial head size 0 0 queue.old.begun queue.old.sdus)) }
+    ensures lens { IfOk result (λ p. p.lens.items
+        ≡ map length (elements head size 0 0 queue.old.sdus)) }
     ensures field { IfOk result (λ p. p.field ≡ concat (elements head size 0 0 queue.old.sdus)) }
     ensures sdus { OnOk result (queue.new.sdus ≡ rest head size 0 0 queue.old.sdus) }
-    ensures begun { OnOk result (queue.new.begun ≡ partial head size 0 0 queue.old.begun queue.old.sdus) }
+    ensures begun { OnOk result (queue.new.begun
+        ≡ partial head size 0 0 queue.old.begun queue.old.sdus) }
 
     // Where something waits and an octet of it fits, a PDU can be written of this, and fits.
-    ensures written { IfOk result (λ p. 0 < length queue.old.sdus → head < size → AreLens p.lens.items) }
+    ensures written { IfOk result (λ p. 0 < length queue.old.sdus → head < size
+        → AreLens p.lens.items) }
     ensures whole { IfOk result (λ p. sum p.lens.items ≡ length p.field) }
-    ensures within { IfOk result (λ p. 0 < length queue.old.sdus → head < size → header_len head (length p.lens.items) + length p.field ≤ size) }
+    ensures within { IfOk result (λ p. 0 < length queue.old.sdus → head < size
+        → header_len head (length p.lens.items) + length p.field ≤ size) }
 {
     let begins = !queue.is_begun();
     let most = queue.octets().min(size as u64) as usize;
@@ -104,10 +111,16 @@ fn fill(
 ) -> Result<(), NoMemory>
     requires head { head ≤ 2 }
     requires size { size < 2 ^ 32 }
-    ensures lens { OnOk result (lens.new.items ≡ lens.old.items ++ map length (elements head size (length lens.old.items) (length field.old) queue.old.sdus)) }
-    ensures field { OnOk result (field.new ≡ field.old ++ concat (elements head size (length lens.old.items) (length field.old) queue.old.sdus)) }
-    ensures sdus { OnOk result (queue.new.sdus ≡ rest head size (length lens.old.items) (length field.old) queue.old.sdus) }
-    ensures begun { OnOk result (queue.new.begun ≡ partial head size (length lens.old.items) (length field.old) queue.old.begun queue.old.sdus) }
+    ensures lens { OnOk result (lens.new.items ≡ lens.old.items
+        ++ map length (elements head size (length lens.old.items) (length field.old)
+        queue.old.sdus)) }
+    ensures field { OnOk result (field.new ≡ field.old
+        ++ concat (elements head size (length lens.old.items) (length field.old) queue.old.sdus)) }
+    ensures sdus { OnOk result (queue.new.sdus
+        ≡ rest head size (length lens.old.items) (length field.old) queue.old.sdus) }
+    ensures begun { OnOk result (queue.new.begun
+        ≡ partial head size (length lens.old.items) (length field.old) queue.old.begun
+        queue.old.sdus) }
 {
     'elements: while add_element(queue, head, size, lens, field)? {}
     Ok(())
@@ -124,11 +137,28 @@ fn add_element(
 ) -> Result<bool, NoMemory>
     requires head { head ≤ 2 }
     requires size { size < 2 ^ 32 }
-    ensures lens { IfOk result (λ more. (if more then lens.new.items ++ map length (elements head size (length lens.new.items) (length field.new) queue.new.sdus) else lens.new.items) ≡ lens.old.items ++ map length (elements head size (length lens.old.items) (length field.old) queue.old.sdus)) }
-    ensures field { IfOk result (λ more. (if more then field.new ++ concat (elements head size (length lens.new.items) (length field.new) queue.new.sdus) else field.new) ≡ field.old ++ concat (elements head size (length lens.old.items) (length field.old) queue.old.sdus)) }
-    ensures sdus { IfOk result (λ more. (if more then rest head size (length lens.new.items) (length field.new) queue.new.sdus else queue.new.sdus) ≡ rest head size (length lens.old.items) (length field.old) queue.old.sdus) }
-    ensures begun { IfOk result (λ more. (if more then partial head size (length lens.new.items) (length field.new) queue.new.begun queue.new.sdus else queue.new.begun) ≡ partial head size (length lens.old.items) (length field.old) queue.old.begun queue.old.sdus) }
-    ensures fewer { IfOk result (λ more. more ≡ true → length queue.new.sdus < length queue.old.sdus) }
+    ensures lens { IfOk result
+        (λ more. (if more then lens.new.items
+        ++ map length (elements head size (length lens.new.items) (length field.new) queue.new.sdus)
+        else lens.new.items) ≡ lens.old.items
+        ++ map length (elements head size (length lens.old.items) (length field.old)
+        queue.old.sdus)) }
+    ensures field { IfOk result
+        (λ more. (if more then field.new
+        ++ concat (elements head size (length lens.new.items) (length field.new) queue.new.sdus)
+        else field.new) ≡ field.old
+        ++ concat (elements head size (length lens.old.items) (length field.old) queue.old.sdus)) }
+    ensures sdus { IfOk result
+        (λ more. (if more then rest head size (length lens.new.items) (length field.new)
+        queue.new.sdus else queue.new.sdus)
+        ≡ rest head size (length lens.old.items) (length field.old) queue.old.sdus) }
+    ensures begun { IfOk result
+        (λ more. (if more then partial head size (length lens.new.items) (length field.new)
+        queue.new.begun queue.new.sdus else queue.new.begun)
+        ≡ partial head size (length lens.old.items) (length field.old) queue.old.begun
+        queue.old.sdus) }
+    ensures fewer { IfOk result (λ more. more ≡ true
+        → length queue.new.sdus < length queue.old.sdus) }
 {
     let space = space(head, size, lens.len(), field.as_slice().len());
     if space == 0 || queue.is_empty() {
@@ -140,7 +170,8 @@ fn add_element(
     Ok(left <= space && left <= LONGEST)
 }
 
-/// Whether all SDUs that wait would go whole into a new PDU of at most `size` octets, with an octet of a further SDU.
+/// Whether all SDUs that wait would go whole into a new PDU of at most `size` octets, with an octet
+/// of a further SDU.
 #[tactic(auto, using(crate::proofs::Steps::fits))]
 pub fn has_room(queue: &Queue, head: usize, size: usize) -> bool
     requires head { head ≤ 2 }

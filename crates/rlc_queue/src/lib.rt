@@ -1,5 +1,5 @@
-//! The SDUs that wait at an RLC sender, and the cutting of new data PDUs from them (TS 36.322 4.2.1.2.2, 4.2.1.3.2),
-//! which unacknowledged and acknowledged senders share.
+//! The SDUs that wait at an RLC sender, and the cutting of new data PDUs from them (TS 36.322
+//! 4.2.1.2.2, 4.2.1.3.2), which unacknowledged and acknowledged senders share.
 #![tactic(auto)]
 
 mod cutting;

@@ -1,6 +1,8 @@
 //! The SDUs that wait.
-ghost use Rattle.std.specs.Prelude.{◌≡◌, ◌<◌, ◌≤◌, ◌+◌, [], length, take, OnOk, OnErr, IfOk, IfErr, slice_index_or, ◌^◌, nat_lt, ◌==◌, ◌++◌};
-ghost use Rattle.rlc_queue.specs.Waiting.{nothing_waits, with_sdu, HaveOctets, first, behind, total, wanted};
+ghost use Rattle.std.specs.Prelude.{◌≡◌, ◌<◌, ◌≤◌, ◌+◌, [], length, take, OnOk, OnErr, IfOk, IfErr};
+ghost use Rattle.std.specs.Prelude.{slice_index_or, ◌^◌, nat_lt, ◌==◌, ◌++◌};
+ghost use Rattle.rlc_queue.specs.Waiting.{nothing_waits, with_sdu, HaveOctets, first, behind};
+ghost use Rattle.rlc_queue.specs.Waiting.{total, wanted};
 
 use l2_bits::{Bytes, NoMemory, Ring};
 use std::alloc::Global;
@@ -12,7 +14,8 @@ const LIMIT: u64 = 1 << 62;
 // So many SDUs at most wait.
 const COUNT: usize = 1 << 61;
 
-/// The SDUs that a sender was offered and hasn't wholly sent, in their order. Contracts see what is left of each.
+/// The SDUs that a sender was offered and hasn't wholly sent, in their order. Contracts see what is
+/// left of each.
 #[derive(Debug, Drop)]
 pub struct Queue {
     sdus: Ring<Bytes>,
@@ -28,7 +31,9 @@ impl Model for Queue {
 
     ghost view = { λ q. record { sdus = unsent q.sent q.sdus; begun = nat_lt 0 q.sent } };
 
-    ghost invariant = { λ q. (q.octets < 2 ^ 63) × (length q.sdus ≤ 2 ^ 61) × ((q.sent ≡ 0) ⊎ (q.sent < length (first q.sdus))) × (total (unsent q.sent q.sdus) ≡ q.octets) × (HaveOctets (unsent q.sent q.sdus)) };
+    ghost invariant = { λ q. (q.octets < 2 ^ 63) × (length q.sdus ≤ 2 ^ 61)
+        × ((q.sent ≡ 0) ⊎ (q.sent < length (first q.sdus)))
+        × (total (unsent q.sent q.sdus) ≡ q.octets) × (HaveOctets (unsent q.sent q.sdus)) };
 }
 
 impl Queue {
@@ -75,7 +80,8 @@ impl Queue {
         self.octets + 2 * self.sdus.len() as u64
     }
 
-    /// Adds an SDU of 1 to 8193 octets at the end, without copying it. An `Err` gives it back and changes nothing.
+    /// Adds an SDU of 1 to 8193 octets at the end, without copying it. An `Err` gives it back and
+    /// changes nothing.
     #[tactic(auto, using(crate::proofs::Steps::pushes))]
     pub fn offer(&mut self, sdu: Bytes) -> Result<(), (Bytes, NoMemory)>
         requires some { 1 ≤ length sdu }
@@ -129,14 +135,19 @@ impl Queue {
         }
     }
 
-    // Moves so many octets of the first SDU to the end of a field, or all that are left of it, and returns how many.
+    // Moves so many octets of the first SDU to the end of a field, or all that are left of it, and
+    // returns how many.
     #[tactic(auto, using(crate::proofs::Steps::pulls))]
     pub(crate) fn pull(&mut self, most: usize, field: &mut Bytes) -> Result<usize, NoMemory>
         requires { 0 < most }
         ensures taken { IfOk result (λ n. n ≡ length (take most (first self.old.sdus))) }
         ensures within { IfOk result (λ n. n ≤ most) }
         ensures field { OnOk result (field.new ≡ field.old ++ take most (first self.old.sdus)) }
-        ensures queue { OnOk result (self.new ≡ record { sdus = behind most self.old.sdus; begun = nat_lt most (length (first self.old.sdus)) }) }
+        ensures queue { OnOk result
+            (self.new ≡ record {
+              sdus = behind most self.old.sdus;
+              begun = nat_lt most (length (first self.old.sdus));
+            }) }
     {
         let left = self.first();
         let taken = left.len().min(most);

@@ -15,7 +15,9 @@ umd_some bits sn fi lens field h =
     let some = header-some (bits == 5) in
     omega arith
 
-pub umd_within : (bits sn fi size : ℕ) (lens field : List ℕ) → AreLens lens → header_len (head_of bits) (length lens) + length field ≤ size → length (umd_written bits sn fi lens field) ≤ size
+pub umd_within : (bits sn fi size : ℕ) (lens field : List ℕ) → AreLens lens
+    → header_len (head_of bits) (length lens) + length field ≤ size
+    → length (umd_written bits sn fi lens field) ≤ size
 umd_within bits sn fi size lens field h fits = let len = (sizes lens field h).umd bits sn fi in omega arith
 
 pub ruleset umd = (umd_some, umd_within)

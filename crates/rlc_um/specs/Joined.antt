@@ -1,5 +1,6 @@
 -- Joining the elements of PDUs that follow each other (TS 36.322 5.1.2.2.3).
-use Rattle.std.specs.Prelude.{ℕ, ◌%◌, Bool, true, false, ◌||◌, List, [], ◌∷◌, ◌++◌, length, Option, Some, None, nat_lt, ◌==◌}
+use Rattle.std.specs.Prelude.{ℕ, ◌%◌, Bool, true, false, ◌||◌, List, [], ◌∷◌, ◌++◌, length, Option}
+use Rattle.std.specs.Prelude.{Some, None, nat_lt, ◌==◌}
 use Rattle.rlc_pdu.specs.Pdus.{UmdPdu}
 
 -- what a PDU carries: its elements, whether the first begins an SDU, and whether the last ends one
@@ -12,7 +13,8 @@ pub record Parts : Type 0 where
 abbrev pub parts_of : UmdPdu → Parts
 parts_of pdu = record { begins = nat_lt pdu.fi 2; ends = pdu.fi % 2 == 0; elements = pdu.elements }
 
--- the SDUs that may go up, and the octets of one whose beginning has been joined and whose end hasn't
+-- the SDUs that may go up, and the octets of one whose beginning has been joined and whose end
+-- hasn't
 pub record Joined : Type 0 where
   pub ready : List (List ℕ)
   pub part : Option (List ℕ)
@@ -46,7 +48,8 @@ with_element begins ends octets j = record {
 -- the elements of a PDU: all but the first begin an SDU, all but the last end one
 abbrev pub with_elements : Bool → Bool → List (List ℕ) → Joined → Joined
 with_elements begins ends [] j = j
-with_elements begins ends (x ∷ xs) j = with_elements true ends xs (with_element begins (ends || nat_lt 0 (length xs)) x j)
+with_elements begins ends (x ∷ xs) j =
+    with_elements true ends xs (with_element begins (ends || nat_lt 0 (length xs)) x j)
 
 -- a number is passed: its PDU's elements are joined, or it is missing and what was open is lost
 abbrev pub with_number : Option Parts → Joined → Joined

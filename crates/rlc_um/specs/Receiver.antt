@@ -1,5 +1,6 @@
 -- The unacknowledged receiver as a machine (TS 36.322 5.1.2.2).
-use Rattle.std.specs.Prelude.{ℕ, ◌-◌, ◌*◌, Bool, false, ◌||◌, ◌&&◌, if◌then◌else◌, List, [], drop, take, Option, Some, None, is_some, is_none, nat_le, nat_lt}
+use Rattle.std.specs.Prelude.{ℕ, ◌-◌, ◌*◌, Bool, false, ◌||◌, ◌&&◌, if◌then◌else◌, List, [], drop}
+use Rattle.std.specs.Prelude.{take, Option, Some, None, is_some, is_none, nat_le, nat_lt}
 use Rattle.l2_num.specs.Timers.{Clock, stopped, begun, ceased, ticked}
 use Rattle.rlc_pdu.specs.Pdus.{UmdPdu}
 use Rattle.rlc_pdu.specs.declared.outcome.Landed.{Landed}
@@ -8,7 +9,8 @@ use Rattle.rlc_pdu.specs.declared.outcome.Turned.{Turned}
 use Rattle.rlc_pdu.specs.declared.outcome.Expired.{Expired}
 use Rattle.rlc_pdu.specs.declared.outcome.Expired.TheVariants.{Done, NotRunning}
 use Rattle.rlc_um.specs.Joined.{Parts, parts_of, Joined, nothing_joined, with_numbers}
-use Rattle.rlc_um.specs.Window.{Window, top_of, number_of, leading, slot_at, passed, fallen, with_placed}
+use Rattle.rlc_um.specs.Window.{Window, top_of, number_of, leading, slot_at, passed, fallen}
+use Rattle.rlc_um.specs.Window.{with_placed}
 
 -- `mark` is VR(UX), VR(UH) as the reordering timer started, while it runs; `clock` is that timer
 pub record State : Type 0 where
@@ -26,11 +28,19 @@ abbrev pub alive : State → Entity
 alive s = record { state = s; dead = false }
 
 abbrev pub start : ℕ → ℕ → State
-start width reorder = record { window = record { width = width; edge = 2 * width; slots = [] }; joined = nothing_joined; mark = None; clock = stopped reorder }
+start width reorder = record {
+  window = record { width = width; edge = 2 * width; slots = [] };
+  joined = nothing_joined;
+  mark = None;
+  clock = stopped reorder;
+}
 
 -- the first numbers are passed, and their elements joined
 abbrev pub pass : ℕ → State → State
-pass n s = record s { window = passed n s.window; joined = with_numbers (take n s.window.slots) s.joined }
+pass n s = record s {
+  window = passed n s.window;
+  joined = with_numbers (take n s.window.slots) s.joined;
+}
 
 -- VR(UR) moves past the received numbers that stand first
 abbrev pub advanced : State → State
@@ -39,10 +49,12 @@ advanced s = pass (leading s.window.slots) s
 -- What comes of a PDU (TS 36.322 5.1.2.2.2): one below VR(UR), or received before, is dropped.
 
 abbrev pub landed : State → ℕ → Landed
-landed s x = if nat_lt x s.window.edge || is_some (slot_at s.window.slots (x - s.window.edge)) then Repeat else Kept
+landed s x = if nat_lt x s.window.edge || is_some (slot_at s.window.slots (x - s.window.edge))
+    then Repeat else Kept
 
--- The reordering timer (TS 36.322 5.1.2.2.3): it stops where VR(UX) isn't above VR(UR). It stops too where VR(UX) lies below the window,
--- and then it isn't above VR(UR) either. If it doesn't run then and something is missing below VR(UH), it starts.
+-- The reordering timer (TS 36.322 5.1.2.2.3): it stops where VR(UX) isn't above VR(UR). It stops
+-- too where VR(UX) lies below the window, and then it isn't above VR(UR) either. If it doesn't run
+-- then and something is missing below VR(UH), it starts.
 
 abbrev pub mark_left : Option ℕ → ℕ → Option ℕ
 mark_left None edge = None
@@ -72,7 +84,10 @@ timed s = record s {
 
 -- a PDU is kept at a place above VR(UR): what falls out of the window is passed
 abbrev pub put : ℕ → Parts → State → State
-put at p s = record (pass (fallen s.window at) s) { window = with_placed (at - fallen s.window at) p (passed (fallen s.window at) s.window) }
+put at p s = record (pass (fallen s.window at) s) {
+  window =
+      with_placed (at - fallen s.window at) p (passed (fallen s.window at) s.window);
+}
 
 -- and VR(UR) moves
 abbrev pub kept : ℕ → Parts → State → State
@@ -106,7 +121,8 @@ turning pdu s = turned (number_of s.window pdu.sn) (parts_of pdu) s
 unfoldable pub arrival : UmdPdu → State → State
 arrival pdu s = arrived (number_of s.window pdu.sn) (parts_of pdu) s
 
--- What an expiry of the timer does (TS 36.322 5.1.2.2.4): VR(UR) moves to the first number at or above VR(UX) that wasn't received.
+-- What an expiry of the timer does (TS 36.322 5.1.2.2.4): VR(UR) moves to the first number at or
+-- above VR(UX) that wasn't received.
 
 abbrev pub at_mark : ℕ → State → State
 at_mark x s = record (advanced (pass (x - s.window.edge) s)) { mark = None; clock = ceased s.clock }

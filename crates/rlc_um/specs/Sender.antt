@@ -1,5 +1,7 @@
 -- The unacknowledged sender as a machine (TS 36.322 5.1.2.1).
-use Rattle.std.specs.Prelude.{ℕ, ◌+◌, ◌%◌, ◌-◌, ◌^◌, Bool, true, false, ◌||◌, ◌&&◌, not, if◌then◌else◌, List, length, Option, Some, None, nat_le, nat_lt, ◌==◌, min}
+use Rattle.std.specs.Prelude.{ℕ, ◌+◌, ◌%◌, ◌-◌, ◌^◌, Bool, true, false, ◌||◌, ◌&&◌, not}
+use Rattle.std.specs.Prelude.{if◌then◌else◌, List, length, Option, Some, None, nat_le, nat_lt, ◌==◌}
+use Rattle.std.specs.Prelude.{min}
 use Rattle.rlc_pdu.specs.Pdus.{UmdPdu}
 use Rattle.rlc_pdu.specs.Writing.{umd_canonical}
 use Rattle.rlc_pdu.specs.declared.outcome.Taken.{Taken}
@@ -61,13 +63,20 @@ ends_partly s size = partial (head_of s.bits) size 0 0 s.waiting.begun s.waiting
 
 -- the next PDU
 abbrev pub pdu_of : Sender → ℕ → UmdPdu
-pdu_of s size = record { sn = s.next % 2 ^ s.bits; fi = framing (not s.waiting.begun) (not (ends_partly s size)); elements = pieces s size }
+pdu_of s size = record {
+  sn = s.next % 2 ^ s.bits;
+  fi = framing (not s.waiting.begun) (not (ends_partly s size));
+  elements = pieces s size;
+}
 
 -- the sender behind it
 abbrev pub sent : Sender → ℕ → Sender
 sent s size = record s {
   next = s.next + 1;
-  waiting = record { sdus = rest (head_of s.bits) size 0 0 s.waiting.sdus; begun = ends_partly s size };
+  waiting = record {
+    sdus = rest (head_of s.bits) size 0 0 s.waiting.sdus;
+    begun = ends_partly s size;
+  };
 }
 
 abbrev pub answer : Turn → Sender → ℕ → Taken
@@ -97,7 +106,8 @@ offered sdu s = record s { waiting = with_sdu sdu s.waiting }
 abbrev pub is_hungry : Sender → ℕ → Option ℕ → Bool
 is_hungry s size held = not (is_held held s) && fits_more (head_of s.bits) size 0 0 s.waiting.sdus
 
--- what the sender needs of a grant: 3 octets for a subheader, and the octets of each SDU that waits or may be offered with 2 more
+-- what the sender needs of a grant: 3 octets for a subheader, and the octets of each SDU that waits
+-- or may be offered with 2 more
 abbrev pub need : Sender → ℕ → Option ℕ → ℕ
 need s more held =
     if is_held held s || (more + wanted s.waiting.sdus == 0) then 0

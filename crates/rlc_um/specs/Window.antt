@@ -1,10 +1,13 @@
--- The numbers from VR(UR) on (TS 36.322 7.1). They are counted from twice the window up, so that none is below 0: the number n of the
--- sender stands here as n and twice the window, and has the same sequence number.
-use Rattle.std.specs.Prelude.{ℕ, ◌+◌, ◌-◌, ◌*◌, ◌%◌, List, [], ◌∷◌, ◌++◌, length, drop, replicate, Option, Some, None, slice_set, slice_index_or, min}
+-- The numbers from VR(UR) on (TS 36.322 7.1). They are counted from twice the window up, so that
+-- none is below 0: the number n of the sender stands here as n and twice the window, and has the
+-- same sequence number.
+use Rattle.std.specs.Prelude.{ℕ, ◌+◌, ◌-◌, ◌*◌, ◌%◌, List, [], ◌∷◌, ◌++◌, length, drop, replicate}
+use Rattle.std.specs.Prelude.{Option, Some, None, slice_set, slice_index_or, min}
 use Rattle.l2_num.specs.Numbers.{ahead}
 use Rattle.rlc_um.specs.Joined.{Parts}
 
--- `edge` is VR(UR), the lowest number that is still awaited, and `slots` are those of the numbers from there below VR(UH)
+-- `edge` is VR(UR), the lowest number that is still awaited, and `slots` are those of the numbers
+-- from there below VR(UH)
 pub record Window : Type 0 where
   pub width : ℕ
   pub edge : ℕ
@@ -14,7 +17,8 @@ pub record Window : Type 0 where
 abbrev pub top_of : Window → ℕ
 top_of w = w.edge + length w.slots
 
--- the number with that sequence number, at or above VR(UH) less the window and below VR(UH) and the window
+-- the number with that sequence number, at or above VR(UH) less the window and below VR(UH) and the
+-- window
 abbrev pub number_of : Window → ℕ → ℕ
 number_of w sn = top_of w - w.width + ahead sn ((top_of w - w.width) % (2 * w.width)) (2 * w.width)
 

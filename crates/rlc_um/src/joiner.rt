@@ -1,5 +1,6 @@
 ghost use Rattle.std.specs.Prelude.{◌≡◌, ◌++◌, OnOk, slice_get, drop, true, None};
-ghost use Rattle.rlc_um.specs.Joined.{nothing_joined, with_element, with_elements, with_number, finished, opened};
+ghost use Rattle.rlc_um.specs.Joined.{nothing_joined, with_element, with_elements, with_number};
+ghost use Rattle.rlc_um.specs.Joined.{finished, opened};
 
 use crate::stored::Stored;
 use l2_bits::{Bytes, NoMemory, Packets};
@@ -89,7 +90,8 @@ impl Joiner {
 
     // An element that begins an SDU is moved; one that goes on with it is added to it.
     fn open(&mut self, begins: bool, octets: Bytes) -> Result<(), NoMemory>
-        ensures { OnOk result (self.new ≡ record self.old { part = opened begins octets self.old.part }) }
+        ensures { OnOk result
+            (self.new ≡ record self.old { part = opened begins octets self.old.part }) }
     {
         if begins {
             self.part = Some(octets);
@@ -102,7 +104,11 @@ impl Joiner {
     }
 
     fn close(&mut self) -> Result<(), NoMemory>
-        ensures { OnOk result (self.new ≡ record { ready = self.old.ready ++ finished true self.old.part; part = None }) }
+        ensures { OnOk result
+            (self.new ≡ record {
+              ready = self.old.ready ++ finished true self.old.part;
+              part = None;
+            }) }
     {
         match self.part.take() {
             Some(part) => self.ready.push(part),

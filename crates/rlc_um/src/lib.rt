@@ -1,7 +1,7 @@
 //! Unacknowledged and transparent RLC entities (TS 36.322 5.1.1, 5.1.2).
 //!
-//! Contracts speak of exact machines over whole numbers, which stand in `specs/Transparent.antt`, `specs/Sender.antt`
-//! and `specs/Receiver.antt`.
+//! Contracts speak of exact machines over whole numbers, which stand in `specs/Transparent.antt`,
+//! `specs/Sender.antt` and `specs/Receiver.antt`.
 #![tactic(auto)]
 
 mod joiner;

@@ -1,9 +1,13 @@
-ghost use Rattle.std.specs.Prelude.{◌≡◌, ◌-◌, ◌*◌, ◌<◌, ◌≤◌, OnOk, IfOk, slice_get, is_some, is_none, nat_lt, ◌&&◌};
+ghost use Rattle.std.specs.Prelude.{◌≡◌, ◌-◌, ◌*◌, ◌<◌, ◌≤◌, OnOk, IfOk, slice_get, is_some};
+ghost use Rattle.std.specs.Prelude.{is_none, nat_lt, ◌&&◌};
 ghost use Rattle.l2_num.specs.Timers.{ends};
 ghost use Rattle.rlc_pdu.specs.Views.{umd_of};
 ghost use Rattle.rlc_um.specs.Joined.{parts_of, with_numbers};
 ghost use Rattle.rlc_um.specs.Window.{number_of};
-ghost use Rattle.rlc_um.specs.Receiver.{start, pass, advanced, landed, mark_left, mark_begun, timed, turned_by, clock_turned, put, kept, at_mark, counted, handed, landing, turning, arrival, expiring, expired};
+ghost use Rattle.rlc_um.specs.Receiver.{start, pass, advanced, landed, mark_left, mark_begun};
+ghost use Rattle.rlc_um.specs.Receiver.{timed, turned_by, clock_turned, put, kept, at_mark};
+ghost use Rattle.rlc_um.specs.Receiver.{counted, handed, landing, turning, arrival, expiring};
+ghost use Rattle.rlc_um.specs.Receiver.{expired};
 
 use crate::joiner::Joiner;
 use crate::stored::Stored;
@@ -82,8 +86,12 @@ impl Receiver {
     }
 
     fn keep(&mut self, number: u64, pdu: &Umd<'_>) -> Result<Turned, NoMemory>
-        ensures state { OnOk result (self.new ≡ timed (kept (number - self.old.window.edge) (parts_of (umd_of pdu.now)) self.old)) }
-        ensures turned { IfOk result (λ t. t ≡ turned_by self.old.mark (kept (number - self.old.window.edge) (parts_of (umd_of pdu.now)) self.old).window) }
+        ensures state { OnOk result
+            (self.new
+            ≡ timed (kept (number - self.old.window.edge) (parts_of (umd_of pdu.now)) self.old)) }
+        ensures turned { IfOk result
+            (λ t. t ≡ turned_by self.old.mark
+            (kept (number - self.old.window.edge) (parts_of (umd_of pdu.now)) self.old).window) }
         ensures width { self.new.window.width ≡ self.old.window.width }
     {
         let at = number.saturating_sub(self.slots.edge()) as usize;
@@ -182,7 +190,8 @@ impl Receiver {
     /// Joins all that is kept.
     #[tactic(auto, using(crate::proofs::Steps::take_whole))]
     pub(crate) fn join_all(&mut self) -> Result<(), NoMemory>
-        ensures state { OnOk result (self.new.joined ≡ with_numbers self.old.window.slots self.old.joined) }
+        ensures state { OnOk result (self.new.joined
+            ≡ with_numbers self.old.window.slots self.old.joined) }
         ensures width { self.new.window.width ≡ self.old.window.width }
     {
         let count = self.slots.len();

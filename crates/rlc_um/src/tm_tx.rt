@@ -1,7 +1,9 @@
-ghost use Rattle.std.specs.Prelude.{◌≡◌, ◌+◌, ◌<◌, ◌≤◌, ◌^◌, length, OnOk, OnErr, IfErr, IfSome, IsNone, Some, None, option_map, slice_get};
+ghost use Rattle.std.specs.Prelude.{◌≡◌, ◌+◌, ◌<◌, ◌≤◌, ◌^◌, length, OnOk, OnErr, IfErr, IfSome};
+ghost use Rattle.std.specs.Prelude.{IsNone, Some, None, option_map, slice_get};
 ghost use Rattle.rlc_queue.specs.NewPdu.{IsWithin};
 ghost use Rattle.rlc_queue.specs.Waiting.{total};
-ghost use Rattle.rlc_um.specs.Transparent.{nothing_submitted, refusal, IsAnswer, submitted, taken, after_take, need};
+ghost use Rattle.rlc_um.specs.Transparent.{nothing_submitted, refusal, IsAnswer, submitted, taken};
+ghost use Rattle.rlc_um.specs.Transparent.{after_take, need};
 
 use l2_bits::{Bytes, NoMemory, Ring, SubmitRefusal};
 use l2_types::{GREATEST_SDU, MOST_WAITING};
@@ -30,7 +32,8 @@ impl Model for TmTx {
 
     ghost view = { λ s. record { next = s.next; waiting = s.waiting } };
 
-    ghost invariant = { λ s. (s.next + length s.waiting ≤ 2 ^ 62) × (s.octets < 2 ^ 63) × (total s.waiting ≡ s.octets) × HaveOctets s.waiting };
+    ghost invariant = { λ s. (s.next + length s.waiting ≤ 2 ^ 62) × (s.octets < 2 ^ 63)
+        × (total s.waiting ≡ s.octets) × HaveOctets s.waiting };
 }
 
 impl TmTx {
@@ -46,7 +49,8 @@ impl TmTx {
         }
     }
 
-    /// Takes over a copy of an SDU of 1 to 8188 octets, where fewer than 1024 wait. An `Err` changes nothing.
+    /// Takes over a copy of an SDU of 1 to 8188 octets, where fewer than 1024 wait. An `Err`
+    /// changes nothing.
     pub fn submit(&mut self, sdu: &[u8]) -> Result<(), SubmitRefusal>
         ensures fits { OnOk result (refusal self.old sdu.now ≡ None) }
         ensures ok { OnOk result (self.new ≡ submitted self.old sdu.now) }
@@ -104,8 +108,9 @@ impl TmTx {
         }
     }
 
-    /// Gives the next PDU of at most so many octets: `Idle` where nothing waits, `Small` where the first SDU is longer,
-    /// else a `Piece`, numbered from 0. All but the last change nothing. It takes no memory.
+    /// Gives the next PDU of at most so many octets: `Idle` where nothing waits, `Small` where the
+    /// first SDU is longer, else a `Piece`, numbered from 0. All but the last change nothing. It
+    /// takes no memory.
     #[tactic(auto, unfolding(crate::specs::Transparent::taken, crate::specs::Transparent::after_take))]
     pub fn take(&mut self, size: u32) -> Taken
         ensures taken { result ≡ taken self.old size }
@@ -132,8 +137,8 @@ impl TmTx {
         }
     }
 
-    /// What the sender needs of a grant of so many octets: 3 for a subheader and the octets of the first SDU, or 0
-    /// where nothing waits or a block of the grant can't hold it.
+    /// What the sender needs of a grant of so many octets: 3 for a subheader and the octets of the
+    /// first SDU, or 0 where nothing waits or a block of the grant can't hold it.
     pub fn need(&self, grant: u32) -> u32
         ensures { result ≡ need self.now grant }
     {

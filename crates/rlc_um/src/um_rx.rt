@@ -1,9 +1,11 @@
-ghost use Rattle.std.specs.Prelude.{◌≡◌, ◌*◌, ◌<◌, ◌≤◌, OnOk, OnErr, IfOk, IfErr, IsTrue, IsErr, slice_get};
+ghost use Rattle.std.specs.Prelude.{◌≡◌, ◌*◌, ◌<◌, ◌≤◌, OnOk, OnErr, IfOk, IfErr, IsTrue, IsErr};
+ghost use Rattle.std.specs.Prelude.{slice_get};
 ghost use Rattle.l2_num.specs.Timers.{ends};
 ghost use Rattle.rlc_pdu.specs.Pdus.{IsUmBits};
 ghost use Rattle.rlc_pdu.specs.Views.{umd_of};
 ghost use Rattle.rlc_um.specs.Sender.{width_of};
-ghost use Rattle.rlc_um.specs.Receiver.{start, alive, landing, turning, arrival, expiring, expired, counted, handed, all_joined};
+ghost use Rattle.rlc_um.specs.Receiver.{start, alive, landing, turning, arrival, expiring, expired};
+ghost use Rattle.rlc_um.specs.Receiver.{counted, handed, all_joined};
 
 use crate::receiver::Receiver;
 use l2_bits::{Bytes, NoMemory, Packets};
@@ -29,8 +31,8 @@ impl Model for UmRx {
 }
 
 impl UmRx {
-    /// A receiver of PDUs with numbers of 5 or 10 bits, of which none has arrived. `reorder` is the length of the
-    /// reordering timer in TTIs. Its window of 16 or 512 numbers is taken here.
+    /// A receiver of PDUs with numbers of 5 or 10 bits, of which none has arrived. `reorder` is the
+    /// length of the reordering timer in TTIs. Its window of 16 or 512 numbers is taken here.
     pub fn new(alloc: Global, bits: u32, reorder: u32) -> Result<UmRx, NoMemory>
         requires { IsUmBits bits }
         ensures { IfOk result (λ r. r ≡ alive (start (width_of bits) reorder)) }
@@ -41,8 +43,8 @@ impl UmRx {
         })
     }
 
-    /// Takes a PDU. It is dropped as `Repeat` where its number lies below VR(UR) or was received before, else `Kept`;
-    /// SDUs that go up are then given by `up`.
+    /// Takes a PDU. It is dropped as `Repeat` where its number lies below VR(UR) or was received
+    /// before, else `Kept`; SDUs that go up are then given by `up`.
     ///
     /// The number of the PDU has as many bits as `new` was told.
     pub fn arrive(&mut self, pdu: &Umd<'_>) -> Result<(Landed, Turned), NoMemory>
@@ -62,7 +64,8 @@ impl UmRx {
         answer
     }
 
-    /// A TTI begins. True exactly where the reordering timer reaches its end; `expire` is to follow.
+    /// A TTI begins. True exactly where the reordering timer reaches its end; `expire` is to
+    /// follow.
     pub fn tick(&mut self) -> bool
         ensures answer { result ≡ ends self.old.state.clock }
         ensures state { self.new ≡ record self.old { state = counted self.old.state } }
@@ -70,8 +73,8 @@ impl UmRx {
         self.receiver.tick()
     }
 
-    /// The reordering timer expires (TS 36.322 5.1.2.2.4). `NotRunning` comes exactly where it doesn't run, and nothing
-    /// then changes.
+    /// The reordering timer expires (TS 36.322 5.1.2.2.4). `NotRunning` comes exactly where it
+    /// doesn't run, and nothing then changes.
     pub fn expire(&mut self) -> Result<Expired, NoMemory>
         ensures answer { IfOk result (λ e. e ≡ expiring self.old.state) }
         ensures state { OnOk result (self.new ≡ alive (expired self.old.state)) }
@@ -95,8 +98,8 @@ impl UmRx {
         self.receiver.up()
     }
 
-    /// Ends the receiver, as at a re-establishment (TS 36.322 5.4): all SDUs that can be joined from what is kept,
-    /// behind those that were ready.
+    /// Ends the receiver, as at a re-establishment (TS 36.322 5.4): all SDUs that can be joined
+    /// from what is kept, behind those that were ready.
     #[tactic(auto, unfolding(crate::specs::Receiver::all_joined))]
     pub fn finish(mut self) -> Result<Packets, (UmRx, NoMemory)>
         ensures found { IfOk result (λ found. found ≡ all_joined self.state) }

@@ -1,10 +1,12 @@
-ghost use Rattle.std.specs.Prelude.{◌≡◌, ◌+◌, ◌-◌, ◌%◌, ◌<◌, ◌≤◌, ◌^◌, length, OnOk, OnErr, IfOk, IfErr, IsTrue, IsErr, min, ◌==◌};
+ghost use Rattle.std.specs.Prelude.{◌≡◌, ◌+◌, ◌-◌, ◌%◌, ◌<◌, ◌≤◌, ◌^◌, length, OnOk, OnErr, IfOk};
+ghost use Rattle.std.specs.Prelude.{IfErr, IsTrue, IsErr, min, ◌==◌};
 ghost use Rattle.std.specs.List.{sum};
 ghost use Rattle.rlc_pdu.specs.Pdus.{AreLens, IsUmBits};
 ghost use Rattle.rlc_pdu.specs.Writing.{header_len, umd_written};
 ghost use Rattle.rlc_queue.specs.NewPdu.{framing, IsWithin};
 ghost use Rattle.rlc_queue.specs.Waiting.{total};
-ghost use Rattle.rlc_um.specs.Sender.{idle_sender, head_of, is_held, turn, Gives, answer, sent, pdu_of, taken, after_take, is_hungry, need, offered, alive};
+ghost use Rattle.rlc_um.specs.Sender.{idle_sender, head_of, is_held, turn, Gives, answer, sent};
+ghost use Rattle.rlc_um.specs.Sender.{pdu_of, taken, after_take, is_hungry, need, offered, alive};
 
 use crate::um_rx::width;
 use l2_bits::{Bytes, NoMemory};
@@ -35,13 +37,17 @@ impl Model for UmTx {
 
     ghost Value = { Entity };
 
-    ghost view = { λ s. record { state = record { bits = s.bits; next = s.next; waiting = s.queue }; dead = s.dead } };
+    ghost view = { λ s. record {
+      state = record { bits = s.bits; next = s.next; waiting = s.queue };
+      dead = s.dead;
+    } };
 
     ghost invariant = { λ s. IsUmBits s.bits × (s.next ≤ 2 ^ 63) };
 }
 
 impl UmTx {
-    /// A sender of PDUs with numbers of 5 or 10 bits, to which nothing was offered. It takes no memory.
+    /// A sender of PDUs with numbers of 5 or 10 bits, to which nothing was offered. It takes no
+    /// memory.
     pub fn new(alloc: Global, bits: u32) -> UmTx
         requires { IsUmBits bits }
         ensures { result ≡ alive (idle_sender bits) }
@@ -55,11 +61,12 @@ impl UmTx {
         }
     }
 
-    /// What the sender needs of a grant, in octets: 3 for a subheader, and for each SDU that waits, or that may be
-    /// offered, its octets and 2; 0 where nothing waits, or where a number that HARQ holds forbids a new PDU.
+    /// What the sender needs of a grant, in octets: 3 for a subheader, and for each SDU that waits,
+    /// or that may be offered, its octets and 2; 0 where nothing waits, or where a number that HARQ
+    /// holds forbids a new PDU.
     ///
-    /// `waiting` is the sum of (length + 2) over the SDUs that may be offered, `held` the lowest number of this bearer
-    /// that HARQ holds. What is above 2^32 - 1 is given as 2^32 - 1.
+    /// `waiting` is the sum of (length + 2) over the SDUs that may be offered, `held` the lowest
+    /// number of this bearer that HARQ holds. What is above 2^32 - 1 is given as 2^32 - 1.
     pub fn need(&self, waiting: u64, held: Option<u64>) -> u32
         ensures { result ≡ need self.now.state waiting held }
     {
@@ -78,8 +85,8 @@ impl UmTx {
         self.queue.octets()
     }
 
-    /// Whether a new PDU may be made of so many octets, and has room for an octet of a further SDU. `held` is as in
-    /// `need`.
+    /// Whether a new PDU may be made of so many octets, and has room for an octet of a further SDU.
+    /// `held` is as in `need`.
     pub fn hungry(&self, size: u32, held: Option<u64>) -> bool
         ensures { result ≡ is_hungry self.now.state size held }
     {
@@ -103,9 +110,9 @@ impl UmTx {
         answer
     }
 
-    /// Gives the next PDU of at most so many octets: `Idle` where nothing waits, `Held` where HARQ holds a number so
-    /// low that it might be misread behind the next, `Small` below the least PDU, else a `Piece`. All but the last
-    /// change nothing. `held` is as in `need`.
+    /// Gives the next PDU of at most so many octets: `Idle` where nothing waits, `Held` where HARQ
+    /// holds a number so low that it might be misread behind the next, `Small` below the least PDU,
+    /// else a `Piece`. All but the last change nothing. `held` is as in `need`.
     #[tactic(auto, unfolding(crate::specs::Sender::taken, crate::specs::Sender::after_take))]
     pub fn take(&mut self, size: u32, held: Option<u64>) -> Result<Taken, NoMemory>
         ensures taken { IfOk result (λ t. t ≡ taken self.old.state size held) }
@@ -188,8 +195,11 @@ fn written(
     requires bits { IsUmBits bits }
     requires lens { AreLens pdu.now.lens.items }
     requires whole { sum pdu.now.lens.items ≡ length pdu.now.field }
-    requires within { header_len (head_of bits) (length pdu.now.lens.items) + length pdu.now.field ≤ size }
-    ensures value { IfOk result (λ octets. octets ≡ umd_written bits (number % 2 ^ bits) (framing pdu.now.begins pdu.now.ends) pdu.now.lens.items pdu.now.field) }
+    requires within { header_len (head_of bits) (length pdu.now.lens.items) + length pdu.now.field
+        ≤ size }
+    ensures value { IfOk result (λ octets. octets
+        ≡ umd_written bits (number % 2 ^ bits) (framing pdu.now.begins pdu.now.ends)
+        pdu.now.lens.items pdu.now.field) }
     ensures some { IfOk result (λ octets. 1 ≤ length octets) }
     ensures within { IfOk result (λ octets. length octets ≤ size) }
 {

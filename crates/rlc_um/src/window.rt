@@ -1,7 +1,9 @@
-ghost use Rattle.std.specs.Prelude.{◌≡◌, [], ◌∷◌, ◌++◌, ◌+◌, ◌-◌, ◌*◌, ◌%◌, ◌<◌, ◌≤◌, ◌^◌, length, drop, take, OnOk, IfOk, min, max, is_some, Some, None};
+ghost use Rattle.std.specs.Prelude.{◌≡◌, [], ◌∷◌, ◌++◌, ◌+◌, ◌-◌, ◌*◌, ◌%◌, ◌<◌, ◌≤◌, ◌^◌, length};
+ghost use Rattle.std.specs.Prelude.{drop, take, OnOk, IfOk, min, max, is_some, Some, None};
 ghost use Rattle.circular_buffer.specs.Buffer.{buffer};
 ghost use Rattle.rlc_um.specs.Joined.{with_number, with_numbers};
-ghost use Rattle.rlc_um.specs.Window.{Window, top_of, number_of, leading, slot_at, grown, passed, fallen, placed, with_placed};
+ghost use Rattle.rlc_um.specs.Window.{Window, top_of, number_of, leading, slot_at, grown, passed};
+ghost use Rattle.rlc_um.specs.Window.{fallen, placed, with_placed};
 
 use crate::joiner::Joiner;
 use crate::stored::Stored;
@@ -30,7 +32,8 @@ impl Model for Slots {
 
     ghost view = { λ w. record { width = w.width; edge = w.edge; slots = w.ring.items } };
 
-    ghost invariant = { λ w. (0 < w.width) × (w.width ≤ 512) × (w.ring.capacity ≡ w.width) × (length w.ring.items ≤ w.width) × (w.edge + length w.ring.items ≤ 2 ^ 63 + 1024) };
+    ghost invariant = { λ w. (0 < w.width) × (w.width ≤ 512) × (w.ring.capacity ≡ w.width)
+        × (length w.ring.items ≤ w.width) × (w.edge + length w.ring.items ≤ 2 ^ 63 + 1024) };
 }
 
 impl Slots {
@@ -113,7 +116,8 @@ impl Slots {
     pub fn pass(&mut self, count: usize, joiner: &mut Joiner) -> Result<(), NoMemory>
         ensures window { OnOk result (self.new ≡ passed count self.old) }
         ensures width { self.new.width ≡ self.old.width }
-        ensures joined { OnOk result (joiner.new ≡ with_numbers (take count self.old.slots) joiner.old) }
+        ensures joined { OnOk result
+            (joiner.new ≡ with_numbers (take count self.old.slots) joiner.old) }
     {
         let count = count.min(self.ring.len());
         pass_on(&mut self.ring, &mut self.edge, count, joiner)

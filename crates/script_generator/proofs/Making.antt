@@ -1,5 +1,6 @@
 -- How a script is made and given, piece by piece.
-use Rattle.std.proofs.Common.{◌≡◌, ◌≢◌, ℕ, zero, suc, ◌+◌, ◌-◌, ◌%◌, ◌≤◌, ◌∙◌, List, [], ◌++◌, ap, sym, length, take, replicate, arith, append_assoc, append-nil, length-append}
+use Rattle.std.proofs.Common.{◌≡◌, ◌≢◌, ℕ, zero, suc, ◌+◌, ◌-◌, ◌%◌, ◌≤◌, ◌∙◌, List, [], ◌++◌, ap, sym, length, take}
+use Rattle.std.proofs.Common.{replicate, arith, append_assoc, append-nil, length-append}
 use Rattle.std.specs.Prelude.{codes, Option, Some}
 use Rattle.std.proofs.Math.Seq.{take-append-add}
 use Rattle.hex.specs.Hex.{encode_lower}
@@ -13,7 +14,8 @@ pub sdu_made : (old front : List ℕ) (i x size : ℕ) → size ≡ 1 + drawn 14
 sdu_made old front i x size is =
     let digits : List ℕ = encode_lower (replicate (1 + drawn 1400 (next x)) (i % 256)) in
     ap (λ (n : ℕ). ((old ++ front) ++ encode_lower (replicate n (i % 256))) ++ codes "\n") is
-    ∙ ap (λ (t : List ℕ). t ++ codes "\n") (append_assoc old front digits) ∙ append_assoc old (front ++ digits) (codes "\n")
+    ∙ ap (λ (t : List ℕ). t ++ codes "\n") (append_assoc old front digits)
+    ∙ append_assoc old (front ++ digits) (codes "\n")
 
 -- a step, and those behind it
 steps_more : (n i x : ℕ) → n ≢ 0 → steps n i x ++ ending ≡ step i x ++ (steps (n - 1) (i + 1) (after_step x) ++ ending)
@@ -23,7 +25,8 @@ steps_more (suc n) i x some =
     let behind : suc n - 1 ≡ n = omega arith in
     rw behind (append_assoc (step i x) (steps n (i + 1) (after_step x)) ending)
 
-pub step_made : (left : Option ℕ) (n i x y : ℕ) (text : List ℕ) → left ≡ Some n → n ≢ 0 → text ≡ step i x → y ≡ after_step x
+pub step_made : (left : Option ℕ) (n i x y : ℕ) (text : List ℕ) → left ≡ Some n → n ≢ 0 → text ≡ step i x
+    → y ≡ after_step x
     → to_come left i x ≡ text ++ (steps (n - 1) (i + 1) y ++ ending)
 step_made left n i x y text is some made after = rw (is, made, after) (steps_more n i x some)
 

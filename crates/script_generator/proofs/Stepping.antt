@@ -21,4 +21,5 @@ unfolding steps_lines after_step
 from-more i x inside =
     let some : 2000 - i ≡ suc (1999 - i) = omega (arith, inside) in
     let fewer : 2000 - (i + 1) ≡ 1999 - i = omega (arith, inside) in
-    rw (some, fewer) (parted (handover_lines i) (sdu_lines (drawn 8 (next x)) i (next x)) (tti_line (at_tti x)) (steps_lines (1999 - i) (i + 1) (after_step x)) ending_lines)
+    rw (some, fewer) (parted (handover_lines i) (sdu_lines (drawn 8 (next x)) i (next x)) (tti_line (at_tti x))
+    (steps_lines (1999 - i) (i + 1) (after_step x)) ending_lines)

@@ -1,5 +1,7 @@
 -- What the text of a line is read as, from its words.
-use Rattle.std.proofs.Common.{◌≡◌, ◌<◌, ◌≤◌, ◌/◌, ◌%◌, ◌==◌, ◌∙◌, nat_lt, Bool, true, false, if◌then◌else◌, ℕ, zero, suc, List, [], ◌∷◌, ◌++◌, length, refl, ap, sym, arith, append_assoc, append-nil, slice_index, Ok, Some}
+use Rattle.std.proofs.Common.{◌≡◌, ◌<◌, ◌≤◌, ◌/◌, ◌%◌, ◌==◌, ◌∙◌, nat_lt, Bool, true, false, if◌then◌else◌, ℕ, zero}
+use Rattle.std.proofs.Common.{suc, List, [], ◌∷◌, ◌++◌, length, refl, ap, sym, arith, append_assoc, append-nil}
+use Rattle.std.proofs.Common.{slice_index, Ok, Some}
 use Rattle.hex.specs.Hex.{encode_lower, encode_with, lower_digits}
 use Rattle.l2_io.specs.Feeds.{until_feed, without_return}
 use Rattle.air_record.specs.declared.line.Line.{Line}
@@ -31,7 +33,8 @@ no-place o (x ∷ xs) some h (suc i) = no-place o xs some (no-parts o x xs h).1 
 pub no-hex : (o : ℕ) (xs : List ℕ) → (0 == o) ≡ false → has_no o lower_digits ≡ true → has_no o (encode_lower xs) ≡ true
 unfolding encode_with
 no-hex o [] some h = refl
-no-hex o (b ∷ rest) some h = rw (no-place o lower_digits some h (b / 16), no-place o lower_digits some h (b % 16)) (no-hex o rest some h)
+no-hex o (b ∷ rest) some h =
+    rw (no-place o lower_digits some h (b / 16), no-place o lower_digits some h (b % 16)) (no-hex o rest some h)
 
 pub until-none : (text : List ℕ) → has_no 10 text ≡ true → until_feed text ≡ text
 until-none [] h = refl
@@ -45,10 +48,12 @@ pub word-on : (w acc rest : List ℕ) → has_no 32 w ≡ true → words_behind 
 word-on [] acc rest h = ap (λ (a : List ℕ). words_behind a rest) (sym (append-nil acc))
 word-on (x ∷ xs) acc rest h =
     let p = no-parts 32 x xs h in
-    rw (p.0) (word-on xs (acc ++ x ∷ []) rest p.1 ∙ ap (λ (a : List ℕ). words_behind a rest) (append_assoc acc (x ∷ []) xs))
+    rw (p.0) (word-on xs (acc ++ x ∷ []) rest p.1
+    ∙ ap (λ (a : List ℕ). words_behind a rest) (append_assoc acc (x ∷ []) xs))
 
 -- a word, and a space behind it
-pub word-more : (w rest : List ℕ) → has_no 32 w ≡ true → 0 < length w → words_behind [] (w ++ 32 ∷ rest) ≡ w ∷ words_behind [] rest
+pub word-more : (w rest : List ℕ) → has_no 32 w ≡ true → 0 < length w
+    → words_behind [] (w ++ 32 ∷ rest) ≡ w ∷ words_behind [] rest
 word-more w rest h some =
     let long : (length w == 0) ≡ false = grind arith in
     word-on w [] (32 ∷ rest) h ∙ rw long refl
@@ -60,13 +65,15 @@ word-last w h some =
     ap (λ (t : List ℕ). words_behind [] t) (sym (append-nil w)) ∙ word-on w [] [] h ∙ rw long refl
 
 -- a text without line feeds and carriage returns, whose words say a line
-pub says-by : (text : List ℕ) (line : Line) → has_no 10 text ≡ true → has_no 13 text ≡ true → length text ≤ 20000 → read_words (words_of text) ≡ Ok (Some line) → Says text line
+pub says-by : (text : List ℕ) (line : Line) → has_no 10 text ≡ true → has_no 13 text ≡ true → length text ≤ 20000
+    → read_words (words_of text) ≡ Ok (Some line) → Says text line
 unfolding read_of
 says-by text line feed return few read =
     let short : nat_lt 20000 (length text) ≡ false = grind arith in
     record { one = until-none text feed; whole = without-none text return; read = rw short read }
 
-pub say-one : (octets text : List ℕ) (line : Line) → octets ≡ text ++ 10 ∷ [] → Says text line → SayAll octets (line ∷ [])
+pub say-one : (octets text : List ℕ) (line : Line) → octets ≡ text ++ 10 ∷ [] → Says text line
+    → SayAll octets (line ∷ [])
 say-one octets text line is said = (text, [], is, said, refl)
 
 -- octets that say lines, and more behind them

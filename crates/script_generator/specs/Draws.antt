@@ -1,4 +1,5 @@
--- Draws from a number: the linear congruential generator that C11 7.22.2.2 shows for `rand`, kept modulo 2^31.
+-- Draws from a number: the linear congruential generator that C11 7.22.2.2 shows for `rand`, kept
+-- modulo 2^31.
 use Rattle.std.specs.Prelude.{ℕ, ◌+◌, ◌*◌, ◌/◌, ◌%◌, ◌^◌}
 
 -- the number before the first draw

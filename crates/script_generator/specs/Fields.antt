@@ -4,7 +4,8 @@ use Rattle.air_record.specs.declared.line.Line.{Line}
 use Rattle.air_record.specs.declared.line.Line.TheVariants.{End}
 use Rattle.script_generator.specs.Draws.{next, drawn}
 use Rattle.script_generator.specs.Script.{steps, ending, at_tti}
-use Rattle.script_generator.specs.Lines.{harq_line, keys_line, am_line, um_line, sdu_lines, tti_line, steps_lines, ending_lines}
+use Rattle.script_generator.specs.Lines.{harq_line, keys_line, am_line, um_line, sdu_lines}
+use Rattle.script_generator.specs.Lines.{tti_line, steps_lines, ending_lines}
 use Rattle.script_generator.specs.declared.lines.Part.{Part}
 use Rattle.script_generator.specs.declared.lines.Part.TheVariants as parts
 

@@ -1,7 +1,8 @@
 -- The script of a number (docs/formats/SCRIPT.md): 2000 steps, each with an SDU or none and a TTI,
 -- and a handover before every 500th but the first. x is everywhere the number from which the next
 -- draw is made.
-use Rattle.std.specs.Prelude.{ℕ, zero, suc, ◌+◌, ◌*◌, ◌/◌, ◌%◌, ◌==◌, ◌&&◌, nat_lt, List, [], ◌++◌, replicate, codes, Option, None, Some, if◌then◌else◌}
+use Rattle.std.specs.Prelude.{ℕ, zero, suc, ◌+◌, ◌*◌, ◌/◌, ◌%◌, ◌==◌, ◌&&◌, nat_lt, List, [], ◌++◌}
+use Rattle.std.specs.Prelude.{replicate, codes, Option, None, Some, if◌then◌else◌}
 use Rattle.std.specs.Int.{w128, to_be_bytes}
 use Rattle.hex.specs.Hex.{encode_lower}
 use Rattle.script_generator.specs.Draws.{seeded, next, drawn}
@@ -19,9 +20,11 @@ opening = codes "harq 4\nkeys 2 " ++ keys 0 ++ codes "\nbearer 3 am maxretx=32\n
 
 -- the handover before step i, with keys of its own
 abbrev pub handover : ℕ → List ℕ
-handover i = if nat_lt 0 i && i % 500 == 0 then codes "handover " ++ keys (3 * i / 500) ++ codes "\n" else []
+handover i = if nat_lt 0 i && i % 500 == 0 then codes "handover " ++ keys (3 * i / 500)
+    ++ codes "\n" else []
 
--- how the line of a step's SDU begins, by a draw among 8: the bearer with acknowledgement each way, or the other one down
+-- how the line of a step's SDU begins, by a draw among 8: the bearer with acknowledgement each way,
+-- or the other one down
 abbrev pub sdu_front : ℕ → Option (List ℕ)
 sdu_front kind =
     if nat_lt kind 2 then Some (codes "submit nb 3 ")
@@ -32,7 +35,8 @@ sdu_front kind =
 -- the SDU of step i: 1 to 1400 octets of one value
 abbrev pub sdu : Option (List ℕ) → ℕ → ℕ → List ℕ
 sdu None i x = []
-sdu (Some front) i x = front ++ encode_lower (replicate (1 + drawn 1400 (next x)) (i % 256)) ++ codes "\n"
+sdu (Some front) i x = front ++ encode_lower (replicate (1 + drawn 1400 (next x)) (i % 256))
+    ++ codes "\n"
 
 -- only where there is an SDU, its size is drawn
 abbrev pub after_sdu : Option (List ℕ) → ℕ → ℕ
@@ -45,7 +49,8 @@ outcome kind = if kind == 0 then codes "bad" else if kind == 1 then codes "ok~" 
 
 -- a TTI with 1500 octets each way, the uplink first
 abbrev pub tti : ℕ → List ℕ
-tti x = codes "tti 1500 " ++ outcome (drawn 10 (next x)) ++ codes " 1500 " ++ outcome (drawn 10 (next (next x))) ++ codes "\n"
+tti x = codes "tti 1500 " ++ outcome (drawn 10 (next x)) ++ codes " 1500 "
+    ++ outcome (drawn 10 (next (next x))) ++ codes "\n"
 
 -- the number before a step's TTI, from that before the step
 abbrev pub at_tti : ℕ → ℕ

@@ -1,4 +1,5 @@
-//! The script of a number: a large workload for the program, made step by step as its octets are read, or as its lines are taken.
+//! The script of a number: a large workload for the program, made step by step as its octets are
+//! read, or as its lines are taken.
 #![tactic(auto)]
 
 mod draws;

@@ -4,7 +4,8 @@ ghost use Rattle.air_text.specs.Options.{config_of};
 ghost use Rattle.air_text.specs.Ranges.{IsInRange};
 ghost use Rattle.script_generator.specs.Draws.{next, drawn};
 ghost use Rattle.script_generator.specs.Script.{at_tti};
-ghost use Rattle.script_generator.specs.Lines.{key_at, keys_line, am_line, um_line, handover_lines, sdu_octets, sdu_lines, outcome_by, tti_line};
+ghost use Rattle.script_generator.specs.Lines.{key_at, keys_line, am_line, um_line, handover_lines};
+ghost use Rattle.script_generator.specs.Lines.{sdu_octets, sdu_lines, outcome_by, tti_line};
 ghost use Rattle.script_generator.specs.Fields.{given};
 
 use super::draws::Draws;
@@ -129,7 +130,8 @@ fn submit(
     i: u32,
     draws: &mut Draws,
 ) -> Result<Option<Line>, NoMemory>
-    ensures line { IfOk result (λ line. given line ≡ Line.Submit side lcid (sdu_octets i draws.old) ∷ []) }
+    ensures line { IfOk result (λ line. given line ≡ Line.Submit side lcid (sdu_octets i draws.old)
+        ∷ []) }
     ensures range { IfOk result (λ line. IfSome line IsInRange) }
     ensures draws { draws.new ≡ next draws.old }
 {
@@ -141,7 +143,8 @@ fn submit(
 
 /// The line of a step's SDU, where there is one.
 pub fn sdu_line(alloc: Global, i: u32, draws: &mut Draws) -> Result<Option<Line>, NoMemory>
-    ensures line { IfOk result (λ line. given line ≡ sdu_lines (drawn 8 (next draws.old)) i (next draws.old)) }
+    ensures line { IfOk result (λ line. given line
+        ≡ sdu_lines (drawn 8 (next draws.old)) i (next draws.old)) }
     ensures range { IfOk result (λ line. IfSome line IsInRange) }
     ensures draws { draws.new ≡ at_tti draws.old }
 {

@@ -1,7 +1,8 @@
 ghost use Rattle.std.specs.Prelude.{◌≡◌, ◌≤◌, ◌<◌, IfOk, IfSome, ◌∷◌, ◌++◌};
 ghost use Rattle.air_text.specs.Ranges.{IsInRange};
 ghost use Rattle.script_generator.specs.Lines.{lines};
-ghost use Rattle.script_generator.specs.Fields.{from_step, from_tti, from_sdu, lines_from, IsStep, Gave};
+ghost use Rattle.script_generator.specs.Fields.{from_step, from_tti, from_sdu, lines_from, IsStep};
+ghost use Rattle.script_generator.specs.Fields.{Gave};
 
 use super::draws::Draws;
 use super::line::{am_line, handover_line, keys_line, sdu_line, tti_line, um_line};
@@ -66,7 +67,8 @@ fn give_sdu(
     draws: &mut Draws,
 ) -> Result<Line, NoMemory>
     requires { at.old < 2000 }
-    ensures line { IfOk result (λ line. from_sdu at.old draws.old ≡ line ∷ lines_from part.new at.new draws.new) }
+    ensures line { IfOk result (λ line. from_sdu at.old draws.old
+        ≡ line ∷ lines_from part.new at.new draws.new) }
     ensures range { IfOk result (λ line. IsInRange line) }
     ensures place { IsStep part.new at.new }
 {
@@ -84,7 +86,8 @@ fn give_step(
     draws: &mut Draws,
 ) -> Result<Line, NoMemory>
     requires { at.old ≤ 2000 }
-    ensures line { IfOk result (λ line. from_step at.old draws.old ≡ line ∷ lines_from part.new at.new draws.new) }
+    ensures line { IfOk result (λ line. from_step at.old draws.old
+        ≡ line ∷ lines_from part.new at.new draws.new) }
     ensures range { IfOk result (λ line. IsInRange line) }
     ensures place { IsStep part.new at.new }
 {

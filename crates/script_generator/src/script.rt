@@ -1,4 +1,5 @@
-ghost use Rattle.std.specs.Prelude.{◌≡◌, ◌<◌, ◌≤◌, ◌+◌, ◌++◌, [], Some, length, take, drop, min, IfOk, IsOk, OnErr};
+ghost use Rattle.std.specs.Prelude.{◌≡◌, ◌<◌, ◌≤◌, ◌+◌, ◌++◌, [], Some, length, take, drop, min};
+ghost use Rattle.std.specs.Prelude.{IfOk, IsOk, OnErr};
 ghost use Rattle.l2_io.specs.Known.{before, IsAtEnd, HasRisen};
 ghost use Rattle.script_generator.specs.Script.{script};
 
@@ -9,8 +10,8 @@ use std::marker::Model;
 
 /// The script of a number, as a source of octets. It never fails, and takes no memory.
 ///
-/// A script has a bearer with acknowledgement and one without, 2000 TTIs with SDUs of up to 1400 octets between them,
-/// damaged blocks and wrong feedback, three handovers, and a drain at its end.
+/// A script has a bearer with acknowledgement and one without, 2000 TTIs with SDUs of up to 1400
+/// octets between them, damaged blocks and wrong feedback, three handovers, and a drain at its end.
 #[derive(Drop)]
 pub struct Script {
     // The lines at hand, and how many of their octets have been given.
@@ -32,7 +33,8 @@ impl Model for Script {
 // Makes the next lines, where those at hand have been given.
 fn make_more(text: &mut Text, at: &mut usize, behind: &mut Steps)
     requires { at.old ≤ length text.old.items }
-    ensures left { drop at.new text.new.items ++ behind.new ≡ drop at.old text.old.items ++ behind.old }
+    ensures left { drop at.new text.new.items ++ behind.new
+        ≡ drop at.old text.old.items ++ behind.old }
     ensures place { at.new ≤ length text.new.items }
     ensures end { at.new ≡ length text.new.items → behind.new ≡ [] }
 {
@@ -101,7 +103,8 @@ impl Source for Script {
         ensures cause { OnErr result (HasRisen 0 0) }
         ensures count { 0 ≤ 0 }
         ensures fails { IsOk result }
-        ensures read { IfOk result (λ n. (n ≡ min (length self.old) (length into.old)) × (self.new ≡ drop n self.old)) }
+        ensures read { IfOk result (λ n. (n ≡ min (length self.old) (length into.old))
+            × (self.new ≡ drop n self.old)) }
     {
         let mut count = 0;
         while count < into.len() {

@@ -1,8 +1,10 @@
-ghost use Rattle.std.specs.Prelude.{◌≡◌, ◌≤◌, ◌<◌, ◌+◌, ◌*◌, ◌++◌, ◌∷◌, [], length, replicate, IfSome, option_copied};
+ghost use Rattle.std.specs.Prelude.{◌≡◌, ◌≤◌, ◌<◌, ◌+◌, ◌*◌, ◌++◌, ◌∷◌, [], length, replicate};
+ghost use Rattle.std.specs.Prelude.{IfSome, option_copied};
 ghost use Rattle.hex.specs.Hex.{encode_lower};
 ghost use Rattle.arrayvec.specs.ArrayVec.{array_vec_len};
 ghost use Rattle.script_generator.specs.Draws.{next, drawn};
-ghost use Rattle.script_generator.specs.Script.{key, keys, opening, ending, handover, sdu_front, sdu, outcome, tti, at_tti, step, after_step};
+ghost use Rattle.script_generator.specs.Script.{key, keys, opening, ending, handover, sdu_front};
+ghost use Rattle.script_generator.specs.Script.{sdu, outcome, tti, at_tti, step, after_step};
 
 use super::draws::Draws;
 use arrayvec::ArrayVec;
@@ -126,7 +128,8 @@ fn sdu_front(kind: u64) -> Option<&'static [u8]>
 
 fn put_sdu(text: &mut Text, i: u32, draws: &mut Draws)
     requires { array_vec_len text.old ≤ 108 }
-    ensures items { text.new.items ≡ text.old.items ++ sdu (sdu_front (drawn 8 (next draws.old))) i (next draws.old) }
+    ensures items { text.new.items ≡ text.old.items
+        ++ sdu (sdu_front (drawn 8 (next draws.old))) i (next draws.old) }
     ensures len { array_vec_len text.new ≤ 2921 }
     ensures draws { draws.new ≡ at_tti draws.old }
 {

@@ -1,11 +1,14 @@
 -- What a test loop returns over any list of calls, told by what was kept (TS 36.509).
-use Rattle.std.specs.Prelude.{◌≡◌, ℕ, ◌+◌, ◌-◌, ◌≤◌, ◌==◌, nat_le, nat_lt, Bool, true, false, ◌||◌, ◌&&◌, is_some, if◌then◌else◌, Option, Some, None, List, [], ◌∷◌, ◌++◌, length}
+use Rattle.std.specs.Prelude.{◌≡◌, ℕ, ◌+◌, ◌-◌, ◌≤◌, ◌==◌, nat_le, nat_lt, Bool, true, false, ◌||◌}
+use Rattle.std.specs.Prelude.{◌&&◌, is_some, if◌then◌else◌, Option, Some, None, List, [], ◌∷◌, ◌++◌}
+use Rattle.std.specs.Prelude.{length}
 use Rattle.test_loop.specs.declared.Mode.{Mode}
 use Rattle.test_loop.specs.declared.Mode.TheVariants.{Off, A, B}
 use Rattle.test_loop.specs.declared.Kept.{Kept}
 use Rattle.test_loop.specs.declared.Kept.TheVariants.{Now, Later, Full}
 use Rattle.test_loop.specs.Items.{Item}
-use Rattle.test_loop.specs.Loops.{State, fresh, after_set, taken_answer, after_taken, after_tick, due_answer, after_due}
+use Rattle.test_loop.specs.Loops.{State, fresh, after_set, taken_answer, after_taken, after_tick}
+use Rattle.test_loop.specs.Loops.{due_answer, after_due}
 use Rattle.test_loop.specs.declared.TheConstants.{MOST_KEPT}
 
 pub data Call : Type 0 where
@@ -42,7 +45,10 @@ given_deeds (Some one) past = Gave one ∷ past
 
 abbrev pub called : World → Call → World
 called w (Set mode) = record { state = after_set w.state mode; past = Switched ∷ w.past }
-called w (Take one) = record { state = after_taken w.state one; past = taken_deeds (taken_answer w.state one.octets) w.state one w.past }
+called w (Take one) = record {
+  state = after_taken w.state one;
+  past = taken_deeds (taken_answer w.state one.octets) w.state one w.past;
+}
 called w Tick = record { state = after_tick w.state; past = Ticked ∷ w.past }
 called w Ask = record { state = after_due w.state; past = given_deeds (due_answer w.state) w.past }
 
@@ -98,11 +104,13 @@ is_switched (Stored new one ∷ past) = if waiting past == 0 then false else is_
 is_switched (Gave one ∷ past) = is_switched past
 is_switched (Ticked ∷ past) = is_switched past
 
--- whether an SDU is owed: one is kept, and since the first of them a mode was set or the delay has passed
+-- whether an SDU is owed: one is kept, and since the first of them a mode was set or the delay has
+-- passed
 abbrev pub owes : List Deed → Bool
 owes past = nat_lt 0 (waiting past) && (is_switched past || nat_le (delay past) (ticks past))
 
--- what is kept and not yet given back is kept in order and once, at most 1024 of them, and is owed exactly when it should be
+-- what is kept and not yet given back is kept in order and once, at most 1024 of them, and is owed
+-- exactly when it should be
 pub record Returns (w : World) : Type 0 where
   pub in_order : given w.past ++ w.state.kept ≡ stored w.past
   pub at_most : length w.state.kept ≤ MOST_KEPT

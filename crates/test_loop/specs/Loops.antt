@@ -1,5 +1,6 @@
 -- One step of a test loop (TS 36.509).
-use Rattle.std.specs.Prelude.{ℕ, ◌-◌, ◌==◌, nat_le, Bool, true, false, not, if◌then◌else◌, Option, None, List, [], ◌∷◌, ◌++◌, length, drop, slice_get}
+use Rattle.std.specs.Prelude.{ℕ, ◌-◌, ◌==◌, nat_le, Bool, true, false, not, if◌then◌else◌, Option}
+use Rattle.std.specs.Prelude.{None, List, [], ◌∷◌, ◌++◌, length, drop, slice_get}
 use Rattle.test_loop.specs.declared.Mode.{Mode}
 use Rattle.test_loop.specs.declared.Mode.TheVariants.{Off, A, B}
 use Rattle.test_loop.specs.declared.Kept.{Kept}
@@ -47,7 +48,8 @@ kept_answer kept = if is_full kept then Full else Later
 -- the first one that is kept sets the TTIs until all are owed
 abbrev pub after_kept : ℕ → Item → State → State
 after_kept delay one s =
-    state s.mode (if is_full s.kept then s.kept else s.kept ++ one ∷ []) (if length s.kept == 0 then delay else s.left)
+    state s.mode (if is_full s.kept then s.kept else s.kept ++ one ∷ [])
+    (if length s.kept == 0 then delay else s.left)
 
 abbrev pub answer_in : Mode → List ℕ → State → Kept
 answer_in Off sdu s = Full

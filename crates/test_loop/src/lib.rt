@@ -4,7 +4,8 @@
 //! together, so many TTIs after the first one was kept.
 #![tactic(auto)]
 
-ghost use Rattle.std.specs.Prelude.{◌≡◌, ◌<◌, true, length, IfOk, OnOk, OnErr, MatchOption, Some, None};
+ghost use Rattle.std.specs.Prelude.{◌≡◌, ◌<◌, true, length, IfOk, OnOk, OnErr, MatchOption, Some};
+ghost use Rattle.std.specs.Prelude.{None};
 
 mod cut;
 pub mod laws;
@@ -73,7 +74,9 @@ impl Model for Loop {
 
 impl Loop {
     ghost use Rattle.test_loop.specs.Items.{item};
-    ghost use Rattle.test_loop.specs.Loops.{fresh, after_set, is_on, is_keeping, taken_answer, after_taken, after_tick, due_answer, after_due, kept_answer, after_kept};
+    ghost use Rattle.test_loop.specs.Loops.{fresh, after_set, is_on, is_keeping, taken_answer};
+    ghost use Rattle.test_loop.specs.Loops.{after_taken, after_tick, due_answer, after_due};
+    ghost use Rattle.test_loop.specs.Loops.{kept_answer, after_kept};
 
     /// A loop in mode off that keeps nothing.
     #[tactic(auto, unfolding(crate::specs::Loops::fresh))]
@@ -117,8 +120,8 @@ impl Loop {
         }
     }
 
-    /// An SDU of 1 octet or more was handed up, in a mode other than off. `Full` comes exactly where
-    /// 1024 SDUs are kept and this one was to be, and changes nothing; nor does an `Err`.
+    /// An SDU of 1 octet or more was handed up, in a mode other than off. `Full` comes exactly
+    /// where 1024 SDUs are kept and this one was to be, and changes nothing; nor does an `Err`.
     #[tactic(auto, unfolding(crate::specs::Loops::taken_answer, crate::specs::Loops::after_taken))]
     pub fn taken(&mut self, lcid: u8, sdu: &[u8]) -> Result<Kept, NoMemory>
         requires on { is_on self.old.mode ≡ true }
@@ -147,7 +150,8 @@ impl Loop {
     #[tactic(auto, unfolding(crate::specs::Loops::due_answer, crate::specs::Loops::after_due))]
     pub fn due(&mut self) -> Option<(u8, Bytes)>
         ensures state { self.new ≡ after_due self.old }
-        ensures answer { MatchOption result (due_answer self.old ≡ None) (λ sdu. due_answer self.old ≡ Some (item sdu.0 sdu.1)) }
+        ensures answer { MatchOption result (due_answer self.old ≡ None)
+            (λ sdu. due_answer self.old ≡ Some (item sdu.0 sdu.1)) }
     {
         if self.left > 0 {
             return None;

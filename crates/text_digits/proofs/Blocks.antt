@@ -1,5 +1,6 @@
 -- The digits of octets, block by block.
-use Rattle.std.proofs.Common.{◌≡◌, ◌*◌, ◌/◌, ◌%◌, ℕ, zero, suc, List, [], ◌∷◌, ◌++◌, length, refl, ap, take, drop, sym, ◌∙◌, append_assoc, arith}
+use Rattle.std.proofs.Common.{◌≡◌, ◌*◌, ◌/◌, ◌%◌, ℕ, zero, suc, List, [], ◌∷◌, ◌++◌, length, refl, ap, take, drop, sym}
+use Rattle.std.proofs.Common.{◌∙◌, append_assoc, arith}
 use Rattle.std.specs.Prelude.{slice_index}
 use Rattle.std.proofs.lemmas.List.{take-append-drop}
 use Rattle.std.proofs.Math.Seq.{take-nil}
@@ -8,13 +9,16 @@ use Rattle.hex.specs.Hex.{encode_with, encode_lower, lower_digits}
 encode-append : (t a b : List ℕ) → encode_with t (a ++ b) ≡ encode_with t a ++ encode_with t b
 unfolding encode_with
 encode-append t [] b = refl
-encode-append t (x ∷ a) b = ap (λ (rest : List ℕ). slice_index t (x / 16) ∷ slice_index t (x % 16) ∷ rest) (encode-append t a b)
+encode-append t (x ∷ a) b =
+    ap (λ (rest : List ℕ). slice_index t (x / 16) ∷ slice_index t (x % 16) ∷ rest) (encode-append t a b)
 
 -- a block's digits, and then those of what is behind it
-pub block-written : (k : ℕ) (text rest : List ℕ) → (text ++ encode_lower (take k rest)) ++ encode_lower (drop k rest) ≡ text ++ encode_lower rest
+pub block-written : (k : ℕ) (text rest : List ℕ)
+    → (text ++ encode_lower (take k rest)) ++ encode_lower (drop k rest) ≡ text ++ encode_lower rest
 block-written k text rest =
     append_assoc text (encode_lower (take k rest)) (encode_lower (drop k rest))
-    ∙ ap (λ (t : List ℕ). text ++ t) (sym (encode-append lower_digits (take k rest) (drop k rest)) ∙ ap encode_lower (take-append-drop k rest))
+    ∙ ap (λ (t : List ℕ). text ++ t) (sym (encode-append lower_digits (take k rest) (drop k rest))
+    ∙ ap encode_lower (take-append-drop k rest))
 
 -- the digits of the first octets
 encode-take : (n : ℕ) (xs : List ℕ) → take (2 * n) (encode_lower xs) ≡ encode_lower (take n xs)
@@ -23,7 +27,10 @@ encode-take zero xs = refl
 encode-take (suc n) [] = take-nil (2 * suc n)
 encode-take (suc n) (x ∷ xs) =
     let more : 2 * suc n ≡ suc (suc (2 * n)) = omega arith in
-    rw more (ap (λ (rest : List ℕ). slice_index lower_digits (x / 16) ∷ slice_index lower_digits (x % 16) ∷ rest) (encode-take n xs))
+    rw more (ap (λ (rest : List ℕ). slice_index lower_digits (x / 16) ∷ slice_index lower_digits (x % 16) ∷ rest)
+    (encode-take n xs))
 
-pub few-digits : (few block digits : List ℕ) → take (length few) block ≡ few → digits ≡ encode_lower block → take (2 * length few) digits ≡ encode_lower few
-few-digits few block digits begins is = ap (take (2 * length few)) is ∙ encode-take (length few) block ∙ ap encode_lower begins
+pub few-digits : (few block digits : List ℕ) → take (length few) block ≡ few → digits ≡ encode_lower block
+    → take (2 * length few) digits ≡ encode_lower few
+few-digits few block digits begins is = ap (take (2 * length few)) is ∙ encode-take (length few) block
+    ∙ ap encode_lower begins

@@ -1,5 +1,6 @@
 -- Octets by pairs of digits: as far as they are digits, and where they aren't.
-use Rattle.std.proofs.Common.{◌≡◌, ◌<◌, ◌+◌, ◌*◌, ◌/◌, ◌%◌, ◌∙◌, ℕ, zero, suc, List, [], ◌∷◌, length, get_or, Option, Some, None, map, refl, sym, ap, arith, Bool, true, false, cond, ltb, ◌&&◌, w8, Fits}
+use Rattle.std.proofs.Common.{◌≡◌, ◌<◌, ◌+◌, ◌*◌, ◌/◌, ◌%◌, ◌∙◌, ℕ, zero, suc, List, [], ◌∷◌, length, get_or, Option}
+use Rattle.std.proofs.Common.{Some, None, map, refl, sym, ap, arith, Bool, true, false, cond, ltb, ◌&&◌, w8, Fits}
 use Rattle.std.specs.Prelude.{unwrap_or, nat_lt}
 use Rattle.std.proofs.lemmas.Bool.Decides.{nat_tests}
 use lib.Lanes.{Each1, number_l}
@@ -19,8 +20,10 @@ some-value : (v : ℕ) (o : Option ℕ) → unwrap_or o 255 ≡ cond (ltb v 16) 
 some-value v (Some u) is small = let same : u ≡ v = rw small at is in ap Some same
 some-value v None is small = let same : 255 ≡ v = rw small at is in absurd (grind (arith, nat_tests, small, same))
 
-none-value : (x v : ℕ) (o : Option ℕ) → o ≡ hex_digit_value x → unwrap_or o 255 ≡ cond (ltb v 16) v 255 → nat_lt v 16 ≡ false → o ≡ None
-none-value x v (Some u) here is large = let small : u < 16 = digit-small x u (sym here) in let same : u ≡ 255 = rw large at is in absurd (omega (arith, small, same))
+none-value : (x v : ℕ) (o : Option ℕ) → o ≡ hex_digit_value x → unwrap_or o 255 ≡ cond (ltb v 16) v 255
+    → nat_lt v 16 ≡ false → o ≡ None
+none-value x v (Some u) here is large = let small : u < 16 = digit-small x u (sym here) in
+    let same : u ≡ 255 = rw large at is in absurd (omega (arith, small, same))
 none-value x v None here is large = refl
 
 and-first : (a b : Bool) → (a && b) ≡ true → a ≡ true
@@ -35,14 +38,16 @@ joined-small : (v w : ℕ) → nat_lt v 16 ≡ true → nat_lt w 16 ≡ true →
 joined-small v w high low = grind (arith, nat_tests, high, low)
 
 -- digits alone say the octets of their values
-pub pairs-good : (xs : List ℕ) → AreOctets xs → length xs % 2 ≡ 0 → all_digits (map value xs) ≡ true → pairs xs ≡ Some (joined (map value xs))
+pub pairs-good : (xs : List ℕ) → AreOctets xs → length xs % 2 ≡ 0 → all_digits (map value xs) ≡ true
+    → pairs xs ≡ Some (joined (map value xs))
 pairs-good [] octets even all = refl
 pairs-good (x ∷ []) octets even all = absurd (omega (arith, even))
 pairs-good (x ∷ y ∷ rest) octets even all =
     let high = and-first (nat_lt (value x) 16) _ all in
     let behind = and-second (nat_lt (value x) 16) _ all in
     let low = and-first (nat_lt (value y) 16) _ behind in
-    let ih = pairs-good rest (λ i. octets (suc (suc i))) (omega (arith, even)) (and-second (nat_lt (value y) 16) _ behind) in
+    let ih = pairs-good rest (λ i. octets (suc (suc i))) (omega (arith, even))
+    (and-second (nat_lt (value y) 16) _ behind) in
     let first = some-value (value x) (hex_digit_value x) (value_is x (octets 0).fits) high in
     let second = some-value (value y) (hex_digit_value y) (value_is y (octets 1).fits) low in
     rw (first, second, ih, joined-small (value x) (value y) high low) refl
@@ -60,12 +65,19 @@ with-nothing None p = refl
 pub pairs-bad : (xs : List ℕ) → AreOctets xs → length xs % 2 ≡ 0 → all_digits (map value xs) ≡ false → pairs xs ≡ None
 pairs-bad [] octets even some = cc
 pairs-bad (x ∷ []) octets even some = refl
-pairs-bad (x ∷ y ∷ rest) octets even some = by (nat_lt (value x) 16) (nat_lt (value y) 16) refl refl some (pairs-bad rest (λ i. octets (suc (suc i))) (omega (arith, even)))
+pairs-bad (x ∷ y ∷ rest) octets even some =
+    by (nat_lt (value x) 16) (nat_lt (value y) 16) refl refl some
+    (pairs-bad rest (λ i. octets (suc (suc i))) (omega (arith, even)))
   where
-    by : (a b : Bool) → nat_lt (value x) 16 ≡ a → nat_lt (value y) 16 ≡ b → (a && (b && all_digits (map value rest))) ≡ false → (all_digits (map value rest) ≡ false → pairs rest ≡ None)
+    by : (a b : Bool) → nat_lt (value x) 16 ≡ a → nat_lt (value y) 16 ≡ b
+        → (a && (b && all_digits (map value rest))) ≡ false
+        → (all_digits (map value rest) ≡ false → pairs rest ≡ None)
         → pairs (x ∷ y ∷ rest) ≡ None
-    by false b high low some behind = rw (none-value x (value x) (hex_digit_value x) refl (value_is x (octets 0).fits) high) refl
-    by true false high low some behind = rw (none-value y (value y) (hex_digit_value y) refl (value_is y (octets 1).fits) low) (with-none (hex_digit_value x) (pairs rest))
+    by false b high low some behind =
+        rw (none-value x (value x) (hex_digit_value x) refl (value_is x (octets 0).fits) high) refl
+    by true false high low some behind =
+        rw (none-value y (value y) (hex_digit_value y) refl (value_is y (octets 1).fits) low)
+        (with-none (hex_digit_value x) (pairs rest))
     by true true high low some behind = rw (behind some) (with-nothing (hex_digit_value x) (hex_digit_value y))
 
 -- ---- lane by lane
@@ -85,7 +97,8 @@ abbrev pub products : ℕ → ℕ → List ℕ
 products zero m = []
 products (suc n) m = m % 65536 * 4097 % 65536 / 256 ∷ products n (m / 65536)
 
-pub joined-lanes : (n : ℕ) (vs : List ℕ) → length vs ≡ 2 * n → Each1 (Fits w8) vs → products n (number_l 256 vs) ≡ joined vs
+pub joined-lanes : (n : ℕ) (vs : List ℕ) → length vs ≡ 2 * n → Each1 (Fits w8) vs
+    → products n (number_l 256 vs) ≡ joined vs
 joined-lanes zero [] long fits = refl
 joined-lanes zero (v ∷ vs) long fits = absurd (omega (arith, long))
 joined-lanes (suc n) [] long fits = absurd (omega (arith, long))
@@ -93,12 +106,19 @@ joined-lanes (suc n) (v ∷ []) long fits = absurd (omega (arith, long))
 joined-lanes (suc n) (v ∷ w ∷ vs) long fits =
     let high = fits.0.fits in
     let low = fits.1.0.fits in
-    rw (first-word v w (number_l 256 vs) high low, other-words v w (number_l 256 vs) high low, word-joined v w high low, joined-lanes n vs (omega (arith, long)) fits.1.1) refl
+    rw (
+      first-word v w (number_l 256 vs) high low,
+      other-words v w (number_l 256 vs) high low,
+      word-joined v w high low,
+      joined-lanes n vs (omega (arith, long)) fits.1.1,
+    ) refl
 
-pub block-good : (xs vs octets : List ℕ) (good : Bool) → AreOctets xs → length xs % 2 ≡ 0 → vs ≡ map value xs → good ≡ all_digits vs → good ≡ true
+pub block-good : (xs vs octets : List ℕ) (good : Bool) → AreOctets xs → length xs % 2 ≡ 0 → vs ≡ map value xs
+    → good ≡ all_digits vs → good ≡ true
     → octets ≡ joined vs → pairs xs ≡ Some octets
 block-good xs vs octets good bytes even values all is read =
     pairs-good xs bytes even (sym (all ∙ ap all_digits values) ∙ is) ∙ ap Some (sym (read ∙ ap joined values))
 
-pub block-bad : (xs vs : List ℕ) (good : Bool) → AreOctets xs → length xs % 2 ≡ 0 → vs ≡ map value xs → good ≡ all_digits vs → good ≡ false → pairs xs ≡ None
+pub block-bad : (xs vs : List ℕ) (good : Bool) → AreOctets xs → length xs % 2 ≡ 0 → vs ≡ map value xs
+    → good ≡ all_digits vs → good ≡ false → pairs xs ≡ None
 block-bad xs vs good bytes even values all is = pairs-bad xs bytes even (sym (all ∙ ap all_digits values) ∙ is)

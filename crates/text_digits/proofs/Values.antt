@@ -1,5 +1,6 @@
 -- The values of digits, lane by lane.
-use Rattle.std.proofs.Common.{◌≡◌, ◌<◌, ◌+◌, ◌-◌, ◌*◌, ◌%◌, ◌^◌, ℕ, zero, suc, Bool, true, false, not, cond, ltb, leb, List, [], ◌∷◌, length, map, replicate, bit_and, refl, sym, ap, ◌∙◌, arith, w8, Fits, ◌&&◌}
+use Rattle.std.proofs.Common.{◌≡◌, ◌<◌, ◌+◌, ◌-◌, ◌*◌, ◌%◌, ◌^◌, ℕ, zero, suc, Bool, true, false, not, cond, ltb, leb}
+use Rattle.std.proofs.Common.{List, [], ◌∷◌, length, map, replicate, bit_and, refl, sym, ap, ◌∙◌, arith, w8, Fits, ◌&&◌}
 use Rattle.std.specs.Prelude.{nat_eq, nat_lt, unwrap_or}
 use Rattle.std.proofs.lemmas.Simd.{length-zip2, length-replicate, mask_l-mod}
 use Rattle.std.proofs.lemmas.Bool.Decides.{nat_tests}
@@ -36,7 +37,9 @@ abbrev from_a : ℕ → List ℕ → List ℕ
 from_a n v = zip2 less (zip2 bit_and v (replicate n 223)) (replicate n 65)
 
 pub numbers : (n : ℕ) (v : List ℕ) → length v ≡ n → Each1 (Fits w8) v
-    → zip2 less (zip2 less (sel_l (map (top 7) (zip2 below (from_colon n v) (replicate n 6))) (replicate n 6) (from_colon n v)) (replicate n 6)) (replicate n 240) ≡ map number_value v
+    → zip2 less
+    (zip2 less (sel_l (map (top 7) (zip2 below (from_colon n v) (replicate n 6))) (replicate n 6) (from_colon n v))
+    (replicate n 6)) (replicate n 240) ≡ map number_value v
 numbers zero [] long fits = refl
 numbers (suc n) [] long fits = absurd (omega (arith, long))
 numbers zero (x ∷ v) long fits = absurd (omega (arith, long))
@@ -45,7 +48,8 @@ numbers (suc n) (x ∷ v) long fits =
     rw (here, numbers n v (omega (arith, long)) fits.1) refl
 
 pub letters : (n : ℕ) (v : List ℕ) → length v ≡ n → Each1 (Fits w8) v
-    → zip2 add (sel_l (map (top 7) (zip2 below (from_a n v) (replicate n 245))) (from_a n v) (replicate n 245)) (replicate n 10) ≡ map letter_value v
+    → zip2 add (sel_l (map (top 7) (zip2 below (from_a n v) (replicate n 245))) (from_a n v) (replicate n 245))
+    (replicate n 10) ≡ map letter_value v
 letters zero [] long fits = refl
 letters (suc n) [] long fits = absurd (omega (arith, long))
 letters zero (x ∷ v) long fits = absurd (omega (arith, long))
@@ -54,7 +58,8 @@ letters (suc n) (x ∷ v) long fits =
     rw (here, letters n v (omega (arith, long)) fits.1) refl
 
 pub either : (v : List ℕ) → Each1 (Fits w8) v
-    → sel_l (map (top 7) (zip2 below (map number_value v) (map letter_value v))) (map number_value v) (map letter_value v) ≡ map value v
+    → sel_l (map (top 7) (zip2 below (map number_value v) (map letter_value v))) (map number_value v)
+    (map letter_value v) ≡ map value v
 either [] fits = refl
 either (x ∷ v) fits =
     let here = agree (λ x. least (number_value x) (letter_value x)) value 256 refl x fits.0.fits in
@@ -78,14 +83,19 @@ step true all m is =
     twice : (m : ℕ) → nat_eq (2 * m) 0 ≡ nat_eq m 0
     twice m = grind (arith, nat_tests)
 
-none-large : (n : ℕ) (v : List ℕ) → length v ≡ n → nat_eq (mask_l (map (top 7) (zip2 at_most (replicate n 16) v))) 0 ≡ all_digits v
+none-large : (n : ℕ) (v : List ℕ) → length v ≡ n
+    → nat_eq (mask_l (map (top 7) (zip2 at_most (replicate n 16) v))) 0 ≡ all_digits v
 none-large zero [] long = refl
 none-large zero (x ∷ v) long = absurd (omega (arith, long))
 none-large (suc n) [] long = absurd (omega (arith, long))
-none-large (suc n) (x ∷ v) long = rw (large-is x) (step (nat_lt x 16) (all_digits v) _ (none-large n v (omega (arith, long))))
+none-large (suc n) (x ∷ v) long =
+    rw (large-is x) (step (nat_lt x 16) (all_digits v) _ (none-large n v (omega (arith, long))))
 
-pub are-digits : (n : ℕ) (v : List ℕ) → length v ≡ n → n < 65 → nat_eq (mask_l (map (top 7) (zip2 at_most (replicate n 16) v)) % 2 ^ 64) 0 ≡ all_digits v
+pub are-digits : (n : ℕ) (v : List ℕ) → length v ≡ n → n < 65
+    → nat_eq (mask_l (map (top 7) (zip2 at_most (replicate n 16) v)) % 2 ^ 64) 0 ≡ all_digits v
 are-digits n v long fits =
-    let long_mask : length (map (top 7) (zip2 at_most (replicate n 16) v)) ≡ n = length-map (zip2 at_most (replicate n 16) v) (top 7)
-    ∙ length-zip2 at_most (replicate n 16) v (length-replicate {A = ℕ} n 16 ∙ sym long) ∙ length-replicate {A = ℕ} n 16 in
+    let long_mask : length (map (top 7) (zip2 at_most (replicate n 16) v)) ≡ n =
+    length-map (zip2 at_most (replicate n 16) v) (top 7)
+    ∙ length-zip2 at_most (replicate n 16) v (length-replicate {A = ℕ} n 16 ∙ sym long)
+    ∙ length-replicate {A = ℕ} n 16 in
     ap (λ m. nat_eq m 0) (mask_l-mod _ 64 (omega (arith, long_mask, fits))) ∙ none-large n v long

@@ -1,5 +1,6 @@
 -- Octets by pairs of hexadecimal digits, each of either case (docs/formats/SCRIPT.md).
-use Rattle.std.specs.Prelude.{ℕ, ◌+◌, ◌-◌, ◌*◌, ◌/◌, ◌%◌, List, [], ◌∷◌, ◌++◌, Bool, true, ◌&&◌, nat_lt, Option, Some, None, min, bit_and, slice_index}
+use Rattle.std.specs.Prelude.{ℕ, ◌+◌, ◌-◌, ◌*◌, ◌/◌, ◌%◌, List, [], ◌∷◌, ◌++◌, Bool, true, ◌&&◌}
+use Rattle.std.specs.Prelude.{nat_lt, Option, Some, None, min, bit_and, slice_index}
 use Rattle.hex.specs.Hex.{hex_digit_value, lower_digits}
 
 -- the value of a decimal digit, and 16 or more for any other octet

@@ -1,4 +1,5 @@
-//! Numbers and octets as text, and octets read from text: into lists that grow, with nothing allocated for a piece.
+//! Numbers and octets as text, and octets read from text: into lists that grow, with nothing
+//! allocated for a piece.
 #![tactic(auto)]
 
 mod hexadecimal;

@@ -1,6 +1,8 @@
-ghost use Rattle.std.specs.Prelude.{◌≡◌, ◌<◌, ◌-◌, ◌++◌, length, replicate, OnOk, IfOk, true, false, Some, None, MatchOption, MatchResult, map};
+ghost use Rattle.std.specs.Prelude.{◌≡◌, ◌<◌, ◌-◌, ◌++◌, length, replicate, OnOk, IfOk, true};
+ghost use Rattle.std.specs.Prelude.{false, Some, None, MatchOption, MatchResult, map};
 ghost use Rattle.hex.specs.Hex.{decode_of};
-ghost use Rattle.text_digits.specs.Pairs.{number_value, letter_value, value, all_digits, joined, pairs};
+ghost use Rattle.text_digits.specs.Pairs.{number_value, letter_value, value, all_digits, joined};
+ghost use Rattle.text_digits.specs.Pairs.{pairs};
 
 use l2_bits::{Bytes, NoMemory};
 use std::simd::prelude::*;
@@ -8,8 +10,9 @@ use std::simd::prelude::*;
 /// The digits that are read at a time.
 const BLOCK: usize = 64;
 
-// The value of each decimal digit, and 16 or more for anything else: less the octet behind `9` the digits are 246 to 255 and
-// all else is below, so that 6 less and 240 less they are 0 to 9, and all else is 16 to 255.
+// The value of each decimal digit, and 16 or more for anything else: less the octet behind `9` the
+// digits are 246 to 255 and all else is below, so that 6 less and 240 less they are 0 to 9, and all
+// else is 16 to 255.
 #[inline(always)]
 fn number_values(digits: u8x64) -> u8x64
     ensures { result ≡ map number_value digits }
@@ -17,8 +20,8 @@ fn number_values(digits: u8x64) -> u8x64
     (digits - u8x64::splat(b'9' + 1)).saturating_sub(u8x64::splat(6)) - u8x64::splat(240)
 }
 
-// The value of each letter, and 16 or more for anything else: the cases differ in one bit, and less `A` the letters are 0
-// to 5, so that with 10 more they are 10 to 15, and all else is 16 to 255.
+// The value of each letter, and 16 or more for anything else: the cases differ in one bit, and less
+// `A` the letters are 0 to 5, so that with 10 more they are 10 to 15, and all else is 16 to 255.
 #[inline(always)]
 fn letter_values(digits: u8x64) -> u8x64
     ensures { result ≡ map letter_value digits }
@@ -42,8 +45,8 @@ fn are_digits(values: u8x64) -> bool
     values.simd_ge(u8x64::splat(16)).to_bitmask() == 0
 }
 
-// The octets by the values of their digits. Of two digits the first is the low octet of a word, and 4096 times the word and
-// the word itself have the octet that the two say as their high one.
+// The octets by the values of their digits. Of two digits the first is the low octet of a word, and
+// 4096 times the word and the word itself have the octet that the two say as their high one.
 #[inline(always)]
 fn joined(values: u8x64) -> u8x32
     ensures { result ≡ joined values }
@@ -56,7 +59,8 @@ fn joined(values: u8x64) -> u8x32
 #[inline(always)]
 fn read_block(digits: &[u8]) -> Option<[u8; BLOCK / 2]>
     requires { length digits.now ≡ BLOCK }
-    ensures { MatchOption result (pairs digits.now ≡ None) (λ octets. pairs digits.now ≡ Some octets) }
+    ensures { MatchOption result (pairs digits.now ≡ None)
+        (λ octets. pairs digits.now ≡ Some octets) }
 {
     let values = values(u8x64::from_slice(digits));
     if are_digits(values) {
@@ -77,10 +81,13 @@ fn filled(few: &[u8]) -> [u8; BLOCK]
     block
 }
 
-// Adds the octets that fewer digits than a block say; `false` where they aren't pairs of digits alone.
+// Adds the octets that fewer digits than a block say; `false` where they aren't pairs of digits
+// alone.
 fn append_few(octets: &mut Bytes, digits: &[u8]) -> Result<bool, NoMemory>
     requires { length digits.now < BLOCK }
-    ensures { IfOk result (λ good. MatchOption (pairs digits.now) (good ≡ false) (λ few. (good ≡ true) × (octets.new ≡ octets.old ++ few))) }
+    ensures { IfOk result
+        (λ good. MatchOption (pairs digits.now) (good ≡ false) (λ few. (good ≡ true)
+        × (octets.new ≡ octets.old ++ few))) }
 {
     if digits.len() % 2 != 0 {
         return Ok(false);
@@ -92,11 +99,14 @@ fn append_few(octets: &mut Bytes, digits: &[u8]) -> Result<bool, NoMemory>
     Ok(true)
 }
 
-/// Reads hexadecimal digits of either case, two for each octet, into a list in place of what it holds.
+/// Reads hexadecimal digits of either case, two for each octet, into a list in place of what it
+/// holds.
 ///
 /// `false` exactly where the text is anything else.
 pub fn read_hex(text: &[u8], octets: &mut Bytes) -> Result<bool, NoMemory>
-    ensures { IfOk result (λ good. MatchResult (decode_of text.now) (λ read. (good ≡ true) × (octets.new ≡ read)) (λ _. good ≡ false)) }
+    ensures { IfOk result
+        (λ good. MatchResult (decode_of text.now) (λ read. (good ≡ true) × (octets.new ≡ read))
+        (λ _. good ≡ false)) }
 {
     octets.clear();
     let mut rest = text;

@@ -1,5 +1,6 @@
 -- A long gap isn't forgotten.
-use Rattle.std.proofs.Common.{◌≡◌, ℕ, ◌+◌, ◌==◌, ◌||◌, nat_lt, nat_le, Bool, true, false, if◌then◌else◌, List, [], ◌∷◌, Option, Some, None, slice_index_or, refl, ap, sym, ◌∙◌}
+use Rattle.std.proofs.Common.{◌≡◌, ℕ, ◌+◌, ◌==◌, ◌||◌, nat_lt, nat_le, Bool, true, false, if◌then◌else◌, List, [], ◌∷◌}
+use Rattle.std.proofs.Common.{Option, Some, None, slice_index_or, refl, ap, sym, ◌∙◌}
 use Rattle.rlc_um.specs.Receiver.{arrival, expired, all_joined}
 use Rattle.um_losses.specs.declared.flow.What.{What}
 use Rattle.um_losses.specs.declared.flow.What.TheVariants.{Renewed, Written, Arrived, Forged, Expired, Restarted}
@@ -16,26 +17,43 @@ first_false true y e = e
 first_false false y e = refl
 
 counted_long : (b : Bool) (tag : ℕ) (g : Gaps) → (tag == 0) ≡ b → (counted tag g).long ≡ false → g.long ≡ false
-counted_long true tag g q e = sym (ap (λ (b : Bool). (if b then g else record g { next = tag; long = g.long || nat_lt (g.next + g.counts) tag }).long) q) ∙ e
-counted_long false tag g q e = first_false g.long (nat_lt (g.next + g.counts) tag) (sym (ap (λ (b : Bool). (if b then g else record g { next = tag; long = g.long || nat_lt (g.next + g.counts) tag }).long) q) ∙ e)
+counted_long true tag g q e =
+    sym
+    (ap
+    (λ (b : Bool). (if b then g else record g { next = tag; long = g.long || nat_lt (g.next + g.counts) tag }).long)
+    q) ∙ e
+counted_long false tag g q e =
+    first_false g.long (nat_lt (g.next + g.counts) tag)
+    (sym
+    (ap
+    (λ (b : Bool). (if b then g else record g { next = tag; long = g.long || nat_lt (g.next + g.counts) tag }).long)
+    q) ∙ e)
 
 all_long : (sdus : List (List ℕ)) (g : Gaps) → (all_counted sdus g).long ≡ false → g.long ≡ false
 all_long [] g e = e
-all_long (sdu ∷ sdus) g e = counted_long (last_tag sdu == 0) (last_tag sdu) g refl (all_long sdus (counted (last_tag sdu) g) e)
+all_long (sdu ∷ sdus) g e =
+    counted_long (last_tag sdu == 0) (last_tag sdu) g refl (all_long sdus (counted (last_tag sdu) g) e)
 
-heard_by : (b : Bool) (first : Option ℕ) (p : Pdu) (f : Flow) → is_pdu f.bits p ≡ b → (heard first p f).gaps.long ≡ false → f.gaps.long ≡ false
+heard_by : (b : Bool) (first : Option ℕ) (p : Pdu) (f : Flow) → is_pdu f.bits p ≡ b
+    → (heard first p f).gaps.long ≡ false → f.gaps.long ≡ false
 heard_by true first p f q e =
     let g : Flow = record f { receiver = arrival (tagged first p) f.receiver } in
     all_long g.receiver.joined.ready f.gaps (sym (ap (λ (b : Bool). (if b then all_gone g else f).gaps.long) q) ∙ e)
-heard_by false first p f q e = sym (ap (λ (b : Bool). (if b then all_gone (record f { receiver = arrival (tagged first p) f.receiver }) else f).gaps.long) q) ∙ e
+heard_by false first p f q e =
+    sym
+    (ap
+    (λ (b : Bool). (if b then all_gone (record f { receiver = arrival (tagged first p) f.receiver })
+    else f).gaps.long) q) ∙ e
 
 arrived_by : (s : Option Sent) (f : Flow) → (arrived_if s f).gaps.long ≡ false → f.gaps.long ≡ false
 arrived_by None f e = e
 arrived_by (Some s) f e =
     let g : Flow = record f { gaps = numbered s.number f.gaps } in
-    first_false f.gaps.long (nat_le (f.gaps.top + f.gaps.width) s.number) (heard_by (is_pdu f.bits s.pdu) (Some s.first) s.pdu g refl e)
+    first_false f.gaps.long (nat_le (f.gaps.top + f.gaps.width) s.number)
+    (heard_by (is_pdu f.bits s.pdu) (Some s.first) s.pdu g refl e)
 
-written_by : (b : Bool) (process : ℕ) (p : Pdu) (f : Flow) → is_pdu f.bits p ≡ b → (written_in process p f).gaps.long ≡ f.gaps.long
+written_by : (b : Bool) (process : ℕ) (p : Pdu) (f : Flow) → is_pdu f.bits p ≡ b
+    → (written_in process p f).gaps.long ≡ f.gaps.long
 written_by true process p f q = rw q refl
 written_by false process p f q = rw q refl
 

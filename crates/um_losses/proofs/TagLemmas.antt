@@ -1,5 +1,6 @@
 -- The lengths of tags: 8 octets each.
-use Rattle.std.proofs.Common.{◌≡◌, ℕ, zero, suc, ◌+◌, ◌<◌, List, length, map, replicate, Option, Some, None, arith, refl, ap, sym, ◌∙◌}
+use Rattle.std.proofs.Common.{◌≡◌, ℕ, zero, suc, ◌+◌, ◌<◌, List, length, map, replicate, Option, Some, None, arith}
+use Rattle.std.proofs.Common.{refl, ap, sym, ◌∙◌}
 use Rattle.std.specs.List.{sum, concat}
 use Rattle.rlc_pdu.specs.Pdus.{AreLens}
 use Rattle.rlc_queue.proofs.Lens.{whole}

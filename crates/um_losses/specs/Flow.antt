@@ -1,10 +1,12 @@
 -- One direction of an unacknowledged bearer, as records show it.
-use Rattle.std.specs.Prelude.{ℕ, Bool, true, ◌&&◌, ◌==◌, if◌then◌else◌, [], Option, Some, None, slice_index_or}
+use Rattle.std.specs.Prelude.{ℕ, Bool, true, ◌&&◌, ◌==◌, if◌then◌else◌, [], Option, Some, None}
+use Rattle.std.specs.Prelude.{slice_index_or}
 use Rattle.mac_pdu.specs.declared.item.Direction.{Direction}
 use Rattle.rlc_um.specs.Receiver.{State as Receiver, start, arrival, expired, all_joined}
 use Rattle.rlc_um.specs.Sender.{width_of}
 use Rattle.um_losses.specs.declared.flow.What.{What}
-use Rattle.um_losses.specs.declared.flow.What.TheVariants.{Renewed, Written, Arrived, Forged, Expired, Restarted}
+use Rattle.um_losses.specs.declared.flow.What.TheVariants.{Renewed, Written, Arrived, Forged}
+use Rattle.um_losses.specs.declared.flow.What.TheVariants.{Expired, Restarted}
 use Rattle.um_losses.specs.declared.flow.Whose.{Whose}
 use Rattle.um_losses.specs.declared.flow.Whose.TheVariants.{All, Each, One}
 use Rattle.um_losses.specs.declared.gaps.Gaps.{Gaps}
@@ -44,11 +46,15 @@ none_ready r = record r { joined = record r.joined { ready = [] } }
 
 -- what the receiver has ready is handed up
 abbrev pub all_gone : Flow → Flow
-all_gone f = record f { receiver = none_ready f.receiver; gaps = all_counted f.receiver.joined.ready f.gaps }
+all_gone f = record f {
+  receiver = none_ready f.receiver;
+  gaps = all_counted f.receiver.joined.ready f.gaps;
+}
 
 -- the receiver hears a PDU, whose first element is of the SDU with this COUNT, or forged
 abbrev pub heard : Option ℕ → Pdu → Flow → Flow
-heard first p f = if is_pdu f.bits p then all_gone (record f { receiver = arrival (tagged first p) f.receiver }) else f
+heard first p f = if is_pdu f.bits p
+    then all_gone (record f { receiver = arrival (tagged first p) f.receiver }) else f
 
 -- a PDU of the sender arrives
 abbrev pub arrived : Sent → Flow → Flow
@@ -59,13 +65,15 @@ arrived_if None f = f
 arrived_if (Some s) f = arrived s f
 
 abbrev pub written_in : ℕ → Pdu → Flow → Flow
-written_in process p f = if is_pdu f.bits p then record f { sending = written process p f.sending } else f
+written_in process p f = if is_pdu f.bits p
+    then record f { sending = written process p f.sending } else f
 
 -- the reordering timer expires (TS 36.322 5.1.2.2.4)
 abbrev pub expires : Flow → Flow
 expires f = all_gone (record f { receiver = expired f.receiver })
 
--- both ends are re-established: what can be put together is handed up, and all begins again (TS 36.322 5.4)
+-- both ends are re-established: what can be put together is handed up, and all begins again (TS
+-- 36.322 5.4)
 abbrev pub restarts : Flow → Flow
 restarts f = record f {
   sending = nothing_written;

@@ -43,8 +43,9 @@ pub record AreAlike (p q : UmdPdu) : Type 0 where
   pub fi : p.fi ≡ q.fi
   pub elements : length p.elements ≡ length q.elements
 
--- receivers that differ in octets and clocks alone stay so, whether PDUs that are alike arrive, their timers expire, TTIs begin at one
--- of them, or SDUs go up; and they hand up as many SDUs, also as they end
+-- receivers that differ in octets and clocks alone stay so, whether PDUs that are alike arrive,
+-- their timers expire, TTIs begin at one of them, or SDUs go up; and they hand up as many SDUs,
+-- also as they end
 pub record StayAlike (s t : State) : Type 0 where
   pub arrives : (p q : UmdPdu) → AreAlike p q → outline (arrival p s) ≡ outline (arrival q t)
   pub expires : outline (expired s) ≡ outline (expired t)

@@ -1,6 +1,7 @@
 -- Whether the losses of unacknowledged bearers were long, by the records of a run
 -- (TS 36.322 5.1.2.2.1, TS 36.323 5.1.2.1).
-use Rattle.std.specs.Prelude.{ℕ, ◌^◌, Bool, ◌&&◌, ◌||◌, ◌==◌, not, nat_le, is_some, if◌then◌else◌, List, [], ◌∷◌, ◌++◌, map, Option, Some, None}
+use Rattle.std.specs.Prelude.{ℕ, ◌^◌, Bool, ◌&&◌, ◌||◌, ◌==◌, not, nat_le, is_some, if◌then◌else◌}
+use Rattle.std.specs.Prelude.{List, [], ◌∷◌, ◌++◌, map, Option, Some, None}
 use Rattle.air_record.specs.declared.record.Record.{Record}
 use Rattle.l2_types.specs.declared.side.Side.{Side}
 use Rattle.mac_pdu.specs.declared.item.Direction.{Direction}
@@ -23,15 +24,18 @@ none_seen = record { cursor = record { direction = Down; process = 0; channel = 
 -- whether the losses of a flow were long, if it is there
 abbrev pub is_long : Direction → ℕ → List Flow → Option Bool
 is_long direction lcid [] = None
-is_long direction lcid (f ∷ fs) = if is_of direction lcid f then Some f.gaps.long else is_long direction lcid fs
+is_long direction lcid (f ∷ fs) = if is_of direction lcid f then Some f.gaps.long
+    else is_long direction lcid fs
 
 -- ---- a bearer comes: its LCID, and the bits of the numbers of RLC and PDCP
 
 abbrev pub is_bearer : ℕ → ℕ → ℕ → Bool
-is_bearer lcid rlc_bits pdcp_bits = nat_le lcid 10 && ((rlc_bits == 5) || (rlc_bits == 10)) && ((pdcp_bits == 7) || (pdcp_bits == 12))
+is_bearer lcid rlc_bits pdcp_bits = nat_le lcid 10 && ((rlc_bits == 5) || (rlc_bits == 10))
+    && ((pdcp_bits == 7) || (pdcp_bits == 12))
 
 abbrev pub both : ℕ → ℕ → ℕ → List Flow
-both lcid rlc_bits pdcp_bits = begun Down lcid rlc_bits (2 ^ pdcp_bits) ∷ begun Up lcid rlc_bits (2 ^ pdcp_bits) ∷ []
+both lcid rlc_bits pdcp_bits = begun Down lcid rlc_bits (2 ^ pdcp_bits)
+    ∷ begun Up lcid rlc_bits (2 ^ pdcp_bits) ∷ []
 
 -- one that can't be, or whose channel has one, isn't added
 abbrev pub with_bearer : ℕ → ℕ → ℕ → Losses → Losses
@@ -50,12 +54,19 @@ changed (Some change) flows = map (changed_one change) flows
 
 -- the next record of a run is seen
 unfoldable pub seen : Record → Losses → Losses
-seen one l = record { cursor = passed one l.cursor; flows = changed (change_of one l.cursor) l.flows }
+seen one l = record {
+  cursor = passed one l.cursor;
+  flows = changed (change_of one l.cursor) l.flows;
+}
 
 -- the next record of a block that is forged at a side is seen
 unfoldable pub seen_forged : Side → Record → Losses → Losses
-seen_forged side one l = record { cursor = passed_forged one l.cursor; flows = changed (forged_change_of side one l.cursor) l.flows }
+seen_forged side one l = record {
+  cursor = passed_forged one l.cursor;
+  flows = changed (forged_change_of side one l.cursor) l.flows;
+}
 
 -- both ends begin another life
 unfoldable pub handed_over : Losses → Losses
-handed_over l = record l { flows = changed (Some (record { whose = All; what = Restarted })) l.flows }
+handed_over l =
+    record l { flows = changed (Some (record { whose = All; what = Restarted })) l.flows }

@@ -3,7 +3,8 @@
 use Rattle.std.specs.Prelude.{ℕ}
 use Rattle.um_losses.specs.declared.cursor.Cursor.{Cursor}
 use Rattle.um_losses.specs.declared.flow.What.{What}
-use Rattle.um_losses.specs.declared.flow.What.TheVariants.{Renewed, Written, Arrived, Expired, Restarted}
+use Rattle.um_losses.specs.declared.flow.What.TheVariants.{Renewed, Written, Arrived, Expired}
+use Rattle.um_losses.specs.declared.flow.What.TheVariants.{Restarted}
 use Rattle.um_losses.specs.declared.gaps.Gaps.{Gaps}
 use Rattle.um_losses.specs.declared.pdu.Pdu.{Pdu}
 use Rattle.um_losses.specs.declared.sending.Sent.{Sent}

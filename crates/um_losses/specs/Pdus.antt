@@ -6,6 +6,7 @@ use Rattle.um_losses.specs.declared.pdu.Pdu.{Pdu}
 abbrev pub is_pdu : ℕ → Pdu → Bool
 is_pdu bits p = nat_lt p.sn (2 ^ bits) && nat_lt p.fi 4 && nat_lt 0 p.elements
 
--- the SDUs that end in it: FI's second bit is 1 where the last element ends none (TS 36.322 6.2.2.6)
+-- the SDUs that end in it: FI's second bit is 1 where the last element ends none (TS 36.322
+-- 6.2.2.6)
 abbrev pub ends_in : Pdu → ℕ
 ends_in p = p.elements - p.fi % 2

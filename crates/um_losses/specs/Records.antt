@@ -11,7 +11,8 @@ use Rattle.mac_pdu.specs.declared.item.Direction.{Direction}
 use Rattle.um_losses.specs.declared.cursor.Change.{Change}
 use Rattle.um_losses.specs.declared.cursor.Cursor.{Cursor}
 use Rattle.um_losses.specs.declared.flow.What.{What}
-use Rattle.um_losses.specs.declared.flow.What.TheVariants.{Renewed, Written, Arrived, Forged, Expired}
+use Rattle.um_losses.specs.declared.flow.What.TheVariants.{Renewed, Written, Arrived, Forged}
+use Rattle.um_losses.specs.declared.flow.What.TheVariants.{Expired}
 use Rattle.um_losses.specs.declared.flow.Whose.TheVariants.{Each, One}
 use Rattle.bearer_types.specs.Sides.{heard_by}
 
@@ -27,15 +28,20 @@ on_channel direction (Some lcid) what = Some (record { whose = One direction lci
 
 -- the block and the channel that the next records are about
 abbrev pub passed : Record → Cursor → Cursor
-passed (records.Block direction process fresh rv octets) c = record { direction = direction; process = process; channel = None }
+passed (records.Block direction process fresh rv octets) c =
+    record { direction = direction; process = process; channel = None }
 passed (records.MacSdu lcid len) c = record c { channel = Some lcid }
 passed other c = c
 
 abbrev pub change_of : Record → Cursor → Option Change
 change_of (records.Block direction process fresh rv octets) c = renewal direction process fresh
-change_of (records.RlcUm sn fi lens) c = on_channel c.direction c.channel (Written c.process (record { sn = sn; fi = fi; elements = length lens }))
-change_of (records.Air direction Got heard) c = Some (record { whose = Each direction; what = Arrived c.process })
-change_of (records.Of side (events.Expired lcid Reorder)) c = Some (record { whose = One (heard_by side) lcid; what = Expired })
+change_of (records.RlcUm sn fi lens) c =
+    on_channel c.direction c.channel
+    (Written c.process (record { sn = sn; fi = fi; elements = length lens }))
+change_of (records.Air direction Got heard) c =
+    Some (record { whose = Each direction; what = Arrived c.process })
+change_of (records.Of side (events.Expired lcid Reorder)) c =
+    Some (record { whose = One (heard_by side) lcid; what = Expired })
 change_of other c = None
 
 -- ---- what is shown of a block that is forged at a side: its PDUs arrive at once
@@ -45,5 +51,7 @@ passed_forged (records.MacSdu lcid len) c = record c { channel = Some lcid }
 passed_forged other c = c
 
 abbrev pub forged_change_of : Side → Record → Cursor → Option Change
-forged_change_of side (records.RlcUm sn fi lens) c = on_channel (heard_by side) c.channel (Forged (record { sn = sn; fi = fi; elements = length lens }))
+forged_change_of side (records.RlcUm sn fi lens) c =
+    on_channel (heard_by side) c.channel
+    (Forged (record { sn = sn; fi = fi; elements = length lens }))
 forged_change_of side other c = None

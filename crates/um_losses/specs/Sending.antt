@@ -5,8 +5,9 @@ use Rattle.um_losses.specs.declared.pdu.Pdu.{Pdu}
 use Rattle.um_losses.specs.declared.sending.Sent.{Sent}
 use Rattle.um_losses.specs.Pdus.{ends_in}
 
--- how many PDUs were written, which is the whole number of the next one; how many SDUs ended in them, which is the COUNT of the SDU
--- that the next one begins with or goes on with; and for each HARQ process the PDU in its last new block
+-- how many PDUs were written, which is the whole number of the next one; how many SDUs ended in
+-- them, which is the COUNT of the SDU that the next one begins with or goes on with; and for each
+-- HARQ process the PDU in its last new block
 pub record Sending : Type 0 where
   pub sent : ℕ
   pub ended : ℕ
@@ -24,5 +25,6 @@ abbrev pub written : ℕ → Pdu → Sending → Sending
 written process p s = record {
   sent = s.sent + 1;
   ended = s.ended + ends_in p;
-  under_way = slice_set s.under_way process (Some (record { number = s.sent; first = s.ended; pdu = p }));
+  under_way =
+      slice_set s.under_way process (Some (record { number = s.sent; first = s.ended; pdu = p }));
 }

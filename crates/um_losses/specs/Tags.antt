@@ -2,7 +2,8 @@
 -- for each element hands up the same SDUs at the same moments, and what it hands up ends with the
 -- tag of the element that ends the SDU. A tag is one above the COUNT of its element's SDU, or 0
 -- where the element is forged.
-use Rattle.std.specs.Prelude.{ℕ, zero, suc, ◌+◌, ◌-◌, nat_lt, if◌then◌else◌, List, [], ◌∷◌, length, drop, Option, Some, None}
+use Rattle.std.specs.Prelude.{ℕ, zero, suc, ◌+◌, ◌-◌, nat_lt, if◌then◌else◌, List, [], ◌∷◌, length}
+use Rattle.std.specs.Prelude.{drop, Option, Some, None}
 use Rattle.std.specs.Int.{to_be_bytes, from_be_bytes, w64}
 use Rattle.rlc_pdu.specs.Pdus.{UmdPdu}
 use Rattle.um_losses.specs.declared.pdu.Pdu.{Pdu}

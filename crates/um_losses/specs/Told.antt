@@ -1,5 +1,6 @@
 -- What records tell of one direction of a channel, from where they stand on (TS 36.322 5.1.2.2).
-use Rattle.std.specs.Prelude.{ℕ, Bool, true, ◌&&◌, ◌==◌, if◌then◌else◌, List, [], ◌∷◌, ◌++◌, Option, Some, None}
+use Rattle.std.specs.Prelude.{ℕ, Bool, true, ◌&&◌, ◌==◌, if◌then◌else◌, List, [], ◌∷◌, ◌++◌, Option}
+use Rattle.std.specs.Prelude.{Some, None}
 use Rattle.air_record.specs.declared.record.Record.{Record}
 use Rattle.mac_pdu.specs.declared.item.Direction.{Direction}
 use Rattle.um_losses.specs.declared.cursor.Change.{Change}
@@ -34,7 +35,8 @@ abbrev pub block_place : Direction → ℕ → Cursor
 block_place direction process = record { direction = direction; process = process; channel = None }
 
 abbrev pub sdu_place : Direction → ℕ → ℕ → Cursor
-sdu_place direction process lcid = record { direction = direction; process = process; channel = Some lcid }
+sdu_place direction process lcid =
+    record { direction = direction; process = process; channel = Some lcid }
 
 -- what becomes of a flow
 abbrev pub all_after : List What → Flow → Flow

@@ -1,6 +1,7 @@
 // Where a reader of records stands, and what they mean for flows.
 ghost use Rattle.std.specs.Prelude.{◌≡◌};
-ghost use Rattle.um_losses.specs.Records.{renewal, on_channel, passed, change_of, passed_forged, forged_change_of};
+ghost use Rattle.um_losses.specs.Records.{renewal, on_channel, passed, change_of, passed_forged};
+ghost use Rattle.um_losses.specs.Records.{forged_change_of};
 ghost use Rattle.bearer_types.specs.Sides.{heard_by};
 
 use crate::flow::{What, Whose};

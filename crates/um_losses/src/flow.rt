@@ -3,7 +3,8 @@ ghost use Rattle.std.specs.Prelude.{◌≡◌, OnOk, IfOk};
 ghost use Rattle.rlc_pdu.specs.Pdus.{IsUmBits};
 ghost use Rattle.rlc_um.specs.Receiver.{State as Receiver};
 ghost use Rattle.um_losses.specs.Gaps.{all_counted};
-ghost use Rattle.um_losses.specs.Flow.{begun, none_ready, all_gone, heard, arrived, expires, restarts, written_in, after, is_of, concerns};
+ghost use Rattle.um_losses.specs.Flow.{begun, none_ready, all_gone, heard, arrived, expires};
+ghost use Rattle.um_losses.specs.Flow.{restarts, written_in, after, is_of, concerns};
 
 use crate::gaps::Gaps;
 use crate::pdu::Pdu;
@@ -61,7 +62,14 @@ impl Model for Flow {
 
     ghost Value = { Machine };
 
-    ghost view = { λ f. record { direction = f.direction; lcid = f.lcid; bits = f.bits; sending = f.sending; receiver = f.receiver.state; gaps = f.gaps } };
+    ghost view = { λ f. record {
+      direction = f.direction;
+      lcid = f.lcid;
+      bits = f.bits;
+      sending = f.sending;
+      receiver = f.receiver.state;
+      gaps = f.gaps;
+    } };
 
     ghost invariant = { λ f. IsUmBits f.bits × (f.receiver.state.window.width ≡ width_of f.bits) };
 }

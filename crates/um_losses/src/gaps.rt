@@ -13,7 +13,8 @@ pub(crate) struct Gaps {
     // UM_Window_Size, and how many sequence numbers PDCP has.
     pub(crate) width: u64,
     pub(crate) counts: u64,
-    // One above the highest number that arrived in this life, and one above the last COUNT handed up; 0 at first.
+    // One above the highest number that arrived in this life, and one above the last COUNT handed
+    // up; 0 at first.
     pub(crate) top: u64,
     pub(crate) next: u64,
     // Whether a gap was long.

@@ -6,8 +6,8 @@ pub fn tag_is_read()
     ensures { TagIsRead }
 {}
 
-/// The law that a receiver which hears tags in the place of octets, and whose timer expires at the same moments, hands up as
-/// many SDUs at the same moments.
+/// The law that a receiver which hears tags in the place of octets, and whose timer expires at the
+/// same moments, hands up as many SDUs at the same moments.
 pub fn tags_are_heard_alike()
     ensures { HearAlike }
 {}

@@ -1,6 +1,7 @@
 // The flows of a run.
 ghost use Rattle.std.specs.Prelude.{◌≡◌, OnOk, map};
-ghost use Rattle.um_losses.specs.Losses.{none_seen, is_bearer, is_long, with_bearer, changed_one, changed, seen, seen_forged, handed_over};
+ghost use Rattle.um_losses.specs.Losses.{none_seen, is_bearer, is_long, with_bearer, changed_one};
+ghost use Rattle.um_losses.specs.Losses.{changed, seen, seen_forged, handed_over};
 
 use crate::cursor::{Change, Cursor};
 use crate::flow::{Flow, What, Whose};
@@ -11,11 +12,13 @@ use mac_pdu::Direction;
 use std::alloc::Global;
 use std::marker::Model;
 
-/// Whether the losses of each direction of each unacknowledged bearer were long, by the records of a run.
+/// Whether the losses of each direction of each unacknowledged bearer were long, by the records of
+/// a run.
 ///
-/// They are long exactly where in some life of a bearer, which begins with it and at each handover, a UMD PDU of the sender
-/// arrived whose number lay a window or more above the highest one that had arrived, or as many COUNTs as PDCP has sequence
-/// numbers were left out between two SDUs that RLC handed to PDCP.
+/// They are long exactly where in some life of a bearer, which begins with it and at each handover,
+/// a UMD PDU of the sender arrived whose number lay a window or more above the highest one that had
+/// arrived, or as many COUNTs as PDCP has sequence numbers were left out between two SDUs that RLC
+/// handed to PDCP.
 ///
 /// After `NoMemory` nothing more is said of it.
 #[derive(Drop)]
@@ -49,8 +52,8 @@ impl Losses {
         }
     }
 
-    /// Adds both directions of an unacknowledged bearer on a logical channel, 0 to 10, that has none: RLC's numbers have 5 or
-    /// 10 bits, PDCP's 7 or 12. Another one isn't added.
+    /// Adds both directions of an unacknowledged bearer on a logical channel, 0 to 10, that has
+    /// none: RLC's numbers have 5 or 10 bits, PDCP's 7 or 12. Another one isn't added.
     pub fn add(&mut self, lcid: u8, rlc_bits: u32, pdcp_bits: u32) -> Result<(), NoMemory>
         ensures { OnOk result (self.new ≡ with_bearer lcid rlc_bits pdcp_bits self.old) }
     {
@@ -99,7 +102,8 @@ impl Losses {
         change_all(self.flows.as_mut_slice(), change)
     }
 
-    /// Whether the losses of a direction of a bearer were long; `None` exactly where no unacknowledged bearer is there.
+    /// Whether the losses of a direction of a bearer were long; `None` exactly where no
+    /// unacknowledged bearer is there.
     pub fn is_long(&self, direction: Direction, lcid: u8) -> Option<bool>
         ensures { result ≡ is_long direction lcid self.now.flows }
     {

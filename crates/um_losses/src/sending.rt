@@ -67,7 +67,10 @@ impl Sending {
 
     #[tactic(auto, using(crate::proofs::Processes::past))]
     fn put(&mut self, process: u32, sent: Option<Sent>)
-        ensures { self.new ≡ record self.old { under_way = slice_set self.old.under_way process sent } }
+        ensures { self.new ≡ record self.old {
+          under_way =
+              slice_set self.old.under_way process sent;
+        } }
     {
         if process < 8 {
             self.under_way[process as usize] = sent;

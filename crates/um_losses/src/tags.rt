@@ -11,7 +11,8 @@ use l2_bits::{Bytes, NoMemory};
 use rlc_pdu::write_umd;
 use std::alloc::Global;
 
-// The octets of a PDU whose elements are tags: of SDUs with COUNTs from `first` on, or of none. Of 2^28 octets it isn't made.
+// The octets of a PDU whose elements are tags: of SDUs with COUNTs from `first` on, or of none. Of
+// 2^28 octets it isn't made.
 #[tactic(auto, using(crate::proofs::TagLemmas::written))]
 pub(crate) fn tagged(
     alloc: Global,

@@ -1,6 +1,7 @@
 -- What a bearer hears (TS 36.322 5.1.3.2, 5.2, TS 36.323 5.1.2): data PDUs, STATUS PDUs, and what
 -- they carry.
-use Rattle.std.specs.Prelude.{ℕ, Bool, true, false, if◌then◌else◌, List, [], ◌∷◌, ◌++◌, Result, Ok, Err}
+use Rattle.std.specs.Prelude.{ℕ, Bool, true, false, if◌then◌else◌, List, [], ◌∷◌, ◌++◌, Result, Ok}
+use Rattle.std.specs.Prelude.{Err}
 use Rattle.bearer_types.specs.declared.Event.{Event}
 use Rattle.bearer_types.specs.declared.Event.TheVariants as events
 use Rattle.l2_types.specs.declared.Clock.TheVariants.{Poll}
@@ -26,16 +27,20 @@ abbrev pub started_told : ℕ → Bool → List Event
 started_told lcid starts = if starts then events.Start lcid Poll ∷ [] else []
 
 abbrev pub settled_work : Work → Work
-settled_work w = work w.pdcp (settled w.tx (has_more w.pdcp)) (w.events ++ started_told w.pdcp.lcid (settles w.tx (has_more w.pdcp)))
+settled_work w =
+    work w.pdcp (settled w.tx (has_more w.pdcp))
+    (w.events ++ started_told w.pdcp.lcid (settles w.tx (has_more w.pdcp)))
 
 abbrev pub settled_if : Bool → Work → Work
 settled_if true w = settled_work w
 settled_if false w = w
 
--- ---- SDUs that RLC hands up go to PDCP, one after the other; behind a report that is applied the sender settles
+-- ---- SDUs that RLC hands up go to PDCP, one after the other; behind a report that is applied the
+-- sender settles
 
 abbrev pub heard_work : List ℕ → Work → Work
-heard_work sdu w = work (after_hearing sdu Arrived w.pdcp) w.tx (w.events ++ heard_told sdu Arrived w.pdcp)
+heard_work sdu w =
+    work (after_hearing sdu Arrived w.pdcp) w.tx (w.events ++ heard_told sdu Arrived w.pdcp)
 
 abbrev pub hears : List ℕ → Work → Work
 hears sdu w = settled_if (applies sdu Arrived w.pdcp) (heard_work sdu w)
@@ -50,7 +55,9 @@ all_handed r = record r { out = record r.out { ready = [] } }
 -- ---- a data PDU
 
 abbrev pub land_work : AmdPdu → State → Work
-land_work p s = hears_all (arrived s.rx p).out.ready (work s.pdcp s.tx (landed_told s.pdcp.lcid (landed s.rx p) (turned s.rx p)))
+land_work p s =
+    hears_all (arrived s.rx p).out.ready
+    (work s.pdcp s.tx (landed_told s.pdcp.lcid (landed s.rx p) (turned s.rx p)))
 
 abbrev pub land_left : AmdPdu → State → State
 land_left p s = with_work (land_work p s) (record s { rx = all_handed (arrived s.rx p) })
@@ -68,12 +75,18 @@ abbrev pub stopped_told : ℕ → Bool → List Event
 stopped_told lcid stopped = if stopped then events.Stop lcid Poll ∷ [] else []
 
 abbrev pub status_work : Heard → Work → Work
-status_work heard_as.Ignored w = record w { events = w.events ++ events.Drop w.pdcp.lcid lost.Ignored ∷ [] }
-status_work (heard_as.Limit sn) w = record w { events = w.events ++ events.Fail w.pdcp.lcid sn ∷ [] }
-status_work (heard_as.Applied stopped) w = settled_work (record w { events = w.events ++ stopped_told w.pdcp.lcid stopped })
+status_work heard_as.Ignored w =
+    record w { events = w.events ++ events.Drop w.pdcp.lcid lost.Ignored ∷ [] }
+status_work (heard_as.Limit sn) w =
+    record w { events = w.events ++ events.Fail w.pdcp.lcid sn ∷ [] }
+status_work (heard_as.Applied stopped) w =
+    settled_work (record w { events = w.events ++ stopped_told w.pdcp.lcid stopped })
 
 abbrev pub heard_status : StatusPdu → State → Work
-heard_status p s = status_work (heard s.tx p) (work (confirms (after_status s.tx p).accounts.news s.pdcp) (all_confirmed (after_status s.tx p)) [])
+heard_status p s =
+    status_work (heard s.tx p)
+    (work (confirms (after_status s.tx p).accounts.news s.pdcp)
+    (all_confirmed (after_status s.tx p)) [])
 
 -- ---- a PDU arrives
 

@@ -27,11 +27,16 @@ pub record Ending : Type 0 where
 
 abbrev pub hears_last : List (List ℕ) → Ending → Ending
 hears_last [] e = e
-hears_last (sdu ∷ sdus) e = hears_last sdus (record { pdcp = after_hearing sdu Reestablished e.pdcp; events = e.events ++ heard_told sdu Reestablished e.pdcp })
+hears_last (sdu ∷ sdus) e =
+    hears_last sdus (record {
+      pdcp = after_hearing sdu Reestablished e.pdcp;
+      events = e.events ++ heard_told sdu Reestablished e.pdcp;
+    })
 
 -- of signalling each is dropped (TS 36.323 5.2.2.3)
 abbrev pub drops_last : List (List ℕ) → Ending → Ending
-drops_last sdus e = record e { events = e.events ++ map (λ sdu. events.Drop e.pdcp.lcid lost.Handover) sdus }
+drops_last sdus e =
+    record e { events = e.events ++ map (λ sdu. events.Drop e.pdcp.lcid lost.Handover) sdus }
 
 -- all that RLC can put together goes up
 abbrev pub ends_with : Bool → List (List ℕ) → Ending → Ending

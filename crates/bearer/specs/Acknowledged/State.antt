@@ -21,7 +21,8 @@ pub record State : Type 0 where
 
 -- a bearer over RLC entities that begin anew
 abbrev pub with_new_rlc : AmTxConfig → AmRxConfig → Ends → State
-with_new_rlc tc rc pdcp = record { pdcp = pdcp; tx = start tc; rx = fresh_receiver rc; tx_config = tc; rx_config = rc }
+with_new_rlc tc rc pdcp =
+    record { pdcp = pdcp; tx = start tc; rx = fresh_receiver rc; tx_config = tc; rx_config = rc }
 
 unfoldable pub fresh : BearerConfig → PdcpKind → Keys → Side → State
 fresh c kind keys side = with_new_rlc c.tx c.rx (begun c.channel.lcid kind c.first keys side)

@@ -1,5 +1,7 @@
--- A bearer writes within its share of a grant (TS 36.321 5.4.3.1): a STATUS that is due, and then at most one data PDU.
-use Rattle.std.specs.Prelude.{ℕ, ◌+◌, ◌-◌, ◌%◌, Bool, ◌&&◌, if◌then◌else◌, List, [], ◌∷◌, ◌++◌, Option, Some, None, is_some, length, nat_le}
+-- A bearer writes within its share of a grant (TS 36.321 5.4.3.1): a STATUS that is due, and then
+-- at most one data PDU.
+use Rattle.std.specs.Prelude.{ℕ, ◌+◌, ◌-◌, ◌%◌, Bool, ◌&&◌, if◌then◌else◌, List, [], ◌∷◌, ◌++◌}
+use Rattle.std.specs.Prelude.{Option, Some, None, is_some, length, nat_le}
 use Rattle.bearer_types.specs.declared.Event.{Event}
 use Rattle.bearer_types.specs.declared.Event.TheVariants as events
 use Rattle.l2_types.specs.declared.Clock.TheVariants.{Poll, Prohibit}
@@ -19,7 +21,8 @@ use Rattle.bearer_pdcp.specs.Telling.{pdus_of}
 use Rattle.bearer.specs.Acknowledged.State.{State, has_more, Work, work, with_work}
 use Rattle.bearer.specs.Acknowledged.Reports.{status_octets}
 
--- ---- the STATUS: it is written where it is due, may be sent, and 2 octets fit behind 3 for its subheader
+-- ---- the STATUS: it is written where it is due, may be sent, and 2 octets fit behind 3 for its
+-- subheader
 
 abbrev pub writes_status : Receiver → ℕ → Bool
 writes_status r share = may_write r && nat_le 5 share
@@ -35,7 +38,8 @@ abbrev pub prohibit_told : ℕ → Bool → List Event
 prohibit_told lcid has = if has then events.Start lcid Prohibit ∷ [] else []
 
 abbrev pub status_told : ℕ → Bool → Receiver → ℕ → List Event
-status_told lcid has r share = if writes_status r share then events.Send lcid how.Status (ack r (share - 3) % 1024) ∷ prohibit_told lcid has else []
+status_told lcid has r share = if writes_status r share
+    then events.Send lcid how.Status (ack r (share - 3) % 1024) ∷ prohibit_told lcid has else []
 
 abbrev pub has_prohibit : State → Bool
 has_prohibit s = is_some s.rx_config.prohibit
@@ -45,7 +49,8 @@ status_left r share = if writes_status r share then written r else r
 
 -- the share behind it
 abbrev pub share_left : Receiver → ℕ → ℕ
-share_left r share = if writes_status r share then share - (3 + length (status_pdu r share)) else share
+share_left r share = if writes_status r share then share - (3 + length (status_pdu r share))
+    else share
 
 -- ---- RLC takes what PDCP has, as long as the PDU has room for more
 
@@ -70,7 +75,8 @@ abbrev pub poll_told : ℕ → Bool → List Event
 poll_told lcid polled = if polled then events.Start lcid Poll ∷ [] else []
 
 abbrev pub data_told : ℕ → Taken → List Event
-data_told lcid (Piece number first polled octets) = events.Send lcid (how_of first) (number % 1024) ∷ poll_told lcid polled
+data_told lcid (Piece number first polled octets) =
+    events.Send lcid (how_of first) (number % 1024) ∷ poll_told lcid polled
 data_told lcid Idle = []
 data_told lcid Small = events.Wait lcid waits.Small ∷ []
 data_told lcid Shut = events.Wait lcid waits.Shut ∷ []
@@ -81,7 +87,9 @@ abbrev pub answer_of : Work → ℕ → Option ℕ → Taken
 answer_of w size held = rlc_answer w.tx size held (has_more w.pdcp)
 
 abbrev pub sent : Work → ℕ → Option ℕ → Work
-sent w size held = work w.pdcp (after_take w.tx size held (has_more w.pdcp)) (w.events ++ data_told w.pdcp.lcid (answer_of w size held))
+sent w size held =
+    work w.pdcp (after_take w.tx size held (has_more w.pdcp))
+    (w.events ++ data_told w.pdcp.lcid (answer_of w size held))
 
 -- ---- the whole
 
@@ -89,7 +97,9 @@ abbrev pub data_size : State → ℕ → ℕ
 data_size s share = share_left s.rx share - 3
 
 abbrev pub feeding : State → ℕ → Option ℕ → Work
-feeding s share held = feeds (offers s.pdcp.tx) (data_size s share) held (work s.pdcp s.tx (status_told s.pdcp.lcid (has_prohibit s) s.rx share))
+feeding s share held =
+    feeds (offers s.pdcp.tx) (data_size s share) held
+    (work s.pdcp s.tx (status_told s.pdcp.lcid (has_prohibit s) s.rx share))
 
 unfoldable pub answer : State → ℕ → Option ℕ → Taken
 answer s share held = answer_of (feeding s share held) (data_size s share) held
@@ -101,4 +111,6 @@ unfoldable pub taking : State → ℕ → Option ℕ → List Event
 taking s share held = (sent (feeding s share held) (data_size s share) held).events
 
 unfoldable pub after_taking : State → ℕ → Option ℕ → State
-after_taking s share held = with_work (sent (feeding s share held) (data_size s share) held) (record s { rx = status_left s.rx share })
+after_taking s share held =
+    with_work (sent (feeding s share held) (data_size s share) held)
+    (record s { rx = status_left s.rx share })

@@ -1,5 +1,6 @@
 -- Timers (TS 36.322 7.3, TS 36.323 7.2): an expiry, and the beginning of a TTI.
-use Rattle.std.specs.Prelude.{ℕ, Bool, if◌then◌else◌, List, [], ◌∷◌, ◌++◌, Option, Some, None, length, nat_lt}
+use Rattle.std.specs.Prelude.{ℕ, Bool, if◌then◌else◌, List, [], ◌∷◌, ◌++◌, Option, Some, None}
+use Rattle.std.specs.Prelude.{length, nat_lt}
 use Rattle.bearer_types.specs.declared.Event.{Event}
 use Rattle.bearer_types.specs.declared.Event.TheVariants as events
 use Rattle.l2_num.specs.Timers.{ends}
@@ -9,8 +10,10 @@ use Rattle.rlc_pdu.specs.declared.Expired.{Expired}
 use Rattle.rlc_pdu.specs.declared.Expired.TheVariants.{Done, NotRunning}
 use Rattle.rlc_am_tx.specs.declared.answers.PollExpired.{PollExpired}
 use Rattle.rlc_am_tx.specs.declared.answers.PollExpired.TheVariants as polls
-use Rattle.rlc_am_tx.specs.Machine.{after_tick as sender_ticked, expiry as poll_expiry, after_expiry as after_poll}
-use Rattle.rlc_am_rx.specs.Machine.{after_reorder, reorder_answer, after_prohibit, prohibit_answer, reorder_ticked, prohibit_ticked, prohibit_ends}
+use Rattle.rlc_am_tx.specs.Machine.{after_tick as sender_ticked, expiry as poll_expiry}
+use Rattle.rlc_am_tx.specs.Machine.{after_expiry as after_poll}
+use Rattle.rlc_am_rx.specs.Machine.{after_reorder, reorder_answer, after_prohibit, prohibit_answer}
+use Rattle.rlc_am_rx.specs.Machine.{reorder_ticked, prohibit_ticked, prohibit_ends}
 use Rattle.bearer_pdcp.specs.Discarding.{after_tick as after_discards, tick_told}
 use Rattle.bearer_pdcp.specs.Telling.{expired_told}
 use Rattle.bearer.specs.Acknowledged.State.{State, has_more, Work, work, with_work}
@@ -56,7 +59,10 @@ told_of (Some told) = told
 
 abbrev pub expires_if : Bool → Clock → Ticking → Ticking
 expires_if ended clock t =
-    if ended then record { bearer = after_expiry t.bearer clock; events = t.events ++ told_of (expiry t.bearer clock) } else t
+    if ended then record {
+      bearer = after_expiry t.bearer clock;
+      events = t.events ++ told_of (expiry t.bearer clock);
+    } else t
 
 abbrev pub counts : Clock → State → State
 counts Poll s = record s { tx = sender_ticked s.tx }
@@ -69,14 +75,21 @@ has_ended Reorder s = ends s.rx.reorder
 has_ended Prohibit s = prohibit_ends s.rx.prohibit
 
 abbrev pub ticks : Clock → Ticking → Ticking
-ticks clock t = expires_if (has_ended clock t.bearer) clock (record t { bearer = counts clock t.bearer })
+ticks clock t =
+    expires_if (has_ended clock t.bearer) clock (record t { bearer = counts clock t.bearer })
 
 -- behind discards the sender settles
 abbrev pub discard_work : State → List Event → Work
-discard_work s told = settled_if (nat_lt 0 (length (tick_told s.pdcp))) (work (after_discards s.pdcp) s.tx (told ++ tick_told s.pdcp))
+discard_work s told =
+    settled_if (nat_lt 0 (length (tick_told s.pdcp)))
+    (work (after_discards s.pdcp) s.tx (told ++ tick_told s.pdcp))
 
 abbrev pub discards : Ticking → Ticking
-discards t = record { bearer = with_work (discard_work t.bearer t.events) t.bearer; events = (discard_work t.bearer t.events).events }
+discards t = record {
+  bearer = with_work (discard_work t.bearer t.events) t.bearer;
+  events = (discard_work t.bearer t.events).events;
+}
 
 unfoldable pub ticked : State → Ticking
-ticked s = discards (ticks Prohibit (ticks Reorder (ticks Poll (record { bearer = s; events = [] }))))
+ticked s =
+    discards (ticks Prohibit (ticks Reorder (ticks Poll (record { bearer = s; events = [] }))))

@@ -1,6 +1,7 @@
 -- What a bearer hears (TS 36.322 5.1.2.2, 7.3, TS 36.323 5.1.2): a PDU, a timer's expiry, the
 -- beginning of a TTI.
-use Rattle.std.specs.Prelude.{ℕ, Bool, if◌then◌else◌, List, [], ◌∷◌, ◌++◌, Option, Some, None, Result, Ok, Err}
+use Rattle.std.specs.Prelude.{ℕ, Bool, if◌then◌else◌, List, [], ◌∷◌, ◌++◌, Option, Some, None}
+use Rattle.std.specs.Prelude.{Result, Ok, Err}
 use Rattle.bearer_types.specs.declared.Event.{Event}
 use Rattle.bearer_types.specs.declared.Event.TheVariants as events
 use Rattle.l2_num.specs.Timers.{ends}
@@ -13,7 +14,8 @@ use Rattle.rlc_pdu.specs.declared.Expired.TheVariants.{Done, NotRunning}
 use Rattle.rlc_pdu.specs.declared.RlcRefusal.{RlcRefusal}
 use Rattle.rlc_pdu.specs.Pdus.{UmdPdu}
 use Rattle.rlc_pdu.specs.Reading.{umd_at}
-use Rattle.rlc_um.specs.Receiver.{State as Receiver, landing, turning, arrival, expiring, expired, counted}
+use Rattle.rlc_um.specs.Receiver.{State as Receiver, landing, turning, arrival, expiring, expired}
+use Rattle.rlc_um.specs.Receiver.{counted}
 use Rattle.bearer_pdcp.specs.Ends.{Ends}
 use Rattle.bearer_pdcp.specs.Hearing.{heard_told, after_hearing}
 use Rattle.bearer_pdcp.specs.Discarding.{after_tick, tick_told}
@@ -27,7 +29,10 @@ pub record Hearing : Type 0 where
   pub events : List Event
 
 abbrev pub hears : List ℕ → Cause → Hearing → Hearing
-hears sdu cause h = record { pdcp = after_hearing sdu cause h.pdcp; events = h.events ++ heard_told sdu cause h.pdcp }
+hears sdu cause h = record {
+  pdcp = after_hearing sdu cause h.pdcp;
+  events = h.events ++ heard_told sdu cause h.pdcp;
+}
 
 abbrev pub hears_all : List (List ℕ) → Cause → Hearing → Hearing
 hears_all [] cause h = h
@@ -50,11 +55,13 @@ up_told r told s = (handing r s.pdcp told).events
 
 abbrev pub arrived_told : Result UmdPdu RlcRefusal → State → List Event
 arrived_told (Err fault) s = events.BadRlc s.pdcp.lcid fault ∷ []
-arrived_told (Ok pdu) s = up_told (arrival pdu s.rx) (landed_told s.pdcp.lcid (landing pdu s.rx) (turning pdu s.rx)) s
+arrived_told (Ok pdu) s =
+    up_told (arrival pdu s.rx) (landed_told s.pdcp.lcid (landing pdu s.rx) (turning pdu s.rx)) s
 
 abbrev pub arrived_left : Result UmdPdu RlcRefusal → State → State
 arrived_left (Err fault) s = s
-arrived_left (Ok pdu) s = up_left (arrival pdu s.rx) (landed_told s.pdcp.lcid (landing pdu s.rx) (turning pdu s.rx)) s
+arrived_left (Ok pdu) s =
+    up_left (arrival pdu s.rx) (landed_told s.pdcp.lcid (landing pdu s.rx) (turning pdu s.rx)) s
 
 unfoldable pub arriving : State → List ℕ → List Event
 arriving s pdu = arrived_told (umd_at s.bits pdu) s
@@ -66,7 +73,8 @@ after_arrival s pdu = arrived_left (umd_at s.bits pdu) s
 
 abbrev pub expiry_told : Expired → State → Option (List Event)
 expiry_told NotRunning s = None
-expiry_told (Done again) s = Some (up_told (expired s.rx) (expired_told s.pdcp.lcid Reorder again) s)
+expiry_told (Done again) s =
+    Some (up_told (expired s.rx) (expired_told s.pdcp.lcid Reorder again) s)
 
 abbrev pub expiry_left : Expired → State → State
 expiry_left NotRunning s = s
@@ -107,7 +115,8 @@ abbrev pub discards : State → State
 discards s = record s { pdcp = after_tick s.pdcp }
 
 unfoldable pub ticking : State → List Event
-ticking s = timed_told (ends s.rx.clock) (counted_down s) ++ tick_told (timed_left (ends s.rx.clock) (counted_down s)).pdcp
+ticking s = timed_told (ends s.rx.clock) (counted_down s)
+    ++ tick_told (timed_left (ends s.rx.clock) (counted_down s)).pdcp
 
 unfoldable pub after_ticking : State → State
 after_ticking s = discards (timed_left (ends s.rx.clock) (counted_down s))

@@ -18,7 +18,15 @@ pub record State : Type 0 where
 
 -- a bearer over RLC entities that begin anew
 abbrev pub with_new_rlc : ℕ → ℕ → Ends → State
-with_new_rlc bits reorder pdcp = record { bits = bits; reorder = reorder; pdcp = pdcp; tx = idle_sender bits; rx = start (width_of bits) reorder }
+with_new_rlc bits reorder pdcp =
+    record {
+      bits = bits;
+      reorder = reorder;
+      pdcp = pdcp;
+      tx = idle_sender bits;
+      rx = start (width_of bits) reorder;
+    }
 
 unfoldable pub fresh : BearerConfig → Keys → Side → State
-fresh c keys side = with_new_rlc c.rlc_bits c.rx.reorder (begun c.channel.lcid (Um c.pdcp_bits) c.first keys side)
+fresh c keys side =
+    with_new_rlc c.rlc_bits c.rx.reorder (begun c.channel.lcid (Um c.pdcp_bits) c.first keys side)

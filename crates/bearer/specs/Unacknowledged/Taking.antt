@@ -1,5 +1,7 @@
--- A bearer writes at most one data PDU (TS 36.321 5.4.3.1): RLC takes what PDCP has as long as it has room for more, and then cuts the PDU.
-use Rattle.std.specs.Prelude.{ℕ, ◌-◌, ◌%◌, ◌^◌, Bool, if◌then◌else◌, List, [], ◌∷◌, ◌++◌, Option, Some, None, is_some, slice_get}
+-- A bearer writes at most one data PDU (TS 36.321 5.4.3.1): RLC takes what PDCP has as long as it
+-- has room for more, and then cuts the PDU.
+use Rattle.std.specs.Prelude.{ℕ, ◌-◌, ◌%◌, ◌^◌, Bool, if◌then◌else◌, List, [], ◌∷◌, ◌++◌, Option}
+use Rattle.std.specs.Prelude.{Some, None, is_some, slice_get}
 use Rattle.bearer_types.specs.declared.Event.{Event}
 use Rattle.bearer_types.specs.declared.Event.TheVariants as events
 use Rattle.l2_types.specs.declared.How.TheVariants.{New}
@@ -25,7 +27,11 @@ given_to (Some pdu) tx = offered pdu tx
 
 -- RLC takes the first of what it may take
 abbrev pub fed : Feeding → Feeding
-fed f = record { pdcp = after_pdcp f.pdcp; tx = given_to (taken f.pdcp) f.tx; events = f.events ++ taking_told f.pdcp }
+fed f = record {
+  pdcp = after_pdcp f.pdcp;
+  tx = given_to (taken f.pdcp) f.tx;
+  events = f.events ++ taking_told f.pdcp;
+}
 
 -- as long as there is something, and the PDU of a size has room for more
 abbrev pub feeds : List Offer → ℕ → Option ℕ → Feeding → Feeding
@@ -40,7 +46,8 @@ abbrev pub idle_told : ℕ → Bool → Waits → List Event
 idle_told lcid more why = if more then events.Wait lcid why ∷ [] else []
 
 abbrev pub data_told : ℕ → ℕ → Bool → Waits → Taken → List Event
-data_told lcid bits more why (Piece number first polled octets) = events.Send lcid New (number % 2 ^ bits) ∷ []
+data_told lcid bits more why (Piece number first polled octets) =
+    events.Send lcid New (number % 2 ^ bits) ∷ []
 data_told lcid bits more why Idle = idle_told lcid more why
 data_told lcid bits more why Small = events.Wait lcid waits.Small ∷ []
 data_told lcid bits more why Shut = events.Wait lcid waits.Shut ∷ []
@@ -52,14 +59,18 @@ abbrev pub size_in : ℕ → ℕ
 size_in share = share - 3
 
 abbrev pub feeding : State → ℕ → Option ℕ → Feeding
-feeding s share held = feeds (offers s.pdcp.tx) (size_in share) held (record { pdcp = s.pdcp; tx = s.tx; events = [] })
+feeding s share held =
+    feeds (offers s.pdcp.tx) (size_in share) held
+    (record { pdcp = s.pdcp; tx = s.tx; events = [] })
 
 -- PDCP may hand over more
 abbrev pub has_more : Ends → Bool
 has_more e = is_some (slice_get (offers e.tx) 0)
 
 abbrev pub told_by : ℕ → Option ℕ → ℕ → Feeding → List Event
-told_by bits held size f = f.events ++ data_told f.pdcp.lcid bits (has_more f.pdcp) (why_idle f.tx held) (rlc_taken f.tx size held)
+told_by bits held size f =
+    f.events ++ data_told f.pdcp.lcid bits (has_more f.pdcp) (why_idle f.tx held)
+    (rlc_taken f.tx size held)
 
 abbrev pub left_by : Feeding → ℕ → Option ℕ → State → State
 left_by f size held s = record s { pdcp = f.pdcp; tx = after_take f.tx size held }

@@ -18,7 +18,8 @@ pub(crate) fn feed(
     held: Option<u64>,
     events: &mut Events,
 ) -> Result<(), NoMemory>
-    ensures { OnOk result (work pdcp.new tx.new.state events.new ≡ feeds (offers pdcp.old.tx) size held (work pdcp.old tx.old.state events.old)) }
+    ensures { OnOk result (work pdcp.new tx.new.state events.new
+        ≡ feeds (offers pdcp.old.tx) size held (work pdcp.old tx.old.state events.old)) }
 {
     'feeding: while feed_one(pdcp, tx, size, held, events)? {}
     Ok(())
@@ -32,9 +33,12 @@ fn feed_one(
     held: Option<u64>,
     events: &mut Events,
 ) -> Result<bool, NoMemory>
-    ensures goes { IfOk result (λ more. (if more then feeds (offers pdcp.new.tx) size held (work pdcp.new tx.new.state events.new) else work pdcp.new tx.new.state events.new)
+    ensures goes { IfOk result
+        (λ more. (if more then feeds (offers pdcp.new.tx) size held
+        (work pdcp.new tx.new.state events.new) else work pdcp.new tx.new.state events.new)
         ≡ feeds (offers pdcp.old.tx) size held (work pdcp.old tx.old.state events.old)) }
-    ensures fewer { IfOk result (λ more. more ≡ true → length (offers pdcp.new.tx) < length (offers pdcp.old.tx)) }
+    ensures fewer { IfOk result (λ more. more ≡ true
+        → length (offers pdcp.new.tx) < length (offers pdcp.old.tx)) }
 {
     if !tx.hungry(size, held) {
         return Ok(false);

@@ -3,7 +3,10 @@
 ghost use Rattle.std.specs.Prelude.{◌≡◌, ◌<◌, ◌^◌, length, OnOk, IfOk};
 ghost use Rattle.rlc_pdu.specs.Views.{amd_of, status_of};
 ghost use Rattle.bearer.specs.Acknowledged.State.{work, with_work};
-ghost use Rattle.bearer.specs.Acknowledged.Hearing.{settled_work, hears, hears_all, all_handed, land_work, land_left, confirms, all_confirmed, status_work, heard_status, arriving, after_arrival};
+ghost use Rattle.bearer.specs.Acknowledged.Hearing.{settled_work, hears, hears_all, all_handed};
+ghost use Rattle.bearer.specs.Acknowledged.Hearing.{land_work, land_left, confirms, all_confirmed};
+ghost use Rattle.bearer.specs.Acknowledged.Hearing.{status_work, heard_status, arriving};
+ghost use Rattle.bearer.specs.Acknowledged.Hearing.{after_arrival};
 
 use crate::acknowledged::running::AmBearer;
 use bearer_pdcp::{Pdcp, tell_landed};
@@ -48,8 +51,10 @@ impl AmBearer {
     }
 
     fn hear_status(&mut self, status: StatusRead<'_>) -> Result<Events, NoMemory>
-        ensures told { IfOk result (λ events. events ≡ (heard_status (status_of status.entry) self.old).events) }
-        ensures state { OnOk result (self.new ≡ with_work (heard_status (status_of status.entry) self.old) self.old) }
+        ensures told { IfOk result (λ events. events
+            ≡ (heard_status (status_of status.entry) self.old).events) }
+        ensures state { OnOk result
+            (self.new ≡ with_work (heard_status (status_of status.entry) self.old) self.old) }
     {
         let mut events = Events::new(self.alloc);
         let heard = self.tx.status(status)?;
@@ -75,7 +80,8 @@ fn tell_heard(
     tx: &mut AmTx,
     events: &mut Events,
 ) -> Result<(), NoMemory>
-    ensures { OnOk result (work pdcp.new tx.new.state events.new ≡ status_work heard (work pdcp.old tx.old.state events.old)) }
+    ensures { OnOk result (work pdcp.new tx.new.state events.new
+        ≡ status_work heard (work pdcp.old tx.old.state events.old)) }
 {
     let lcid = pdcp.lcid();
     match heard {
@@ -98,7 +104,8 @@ fn tell_heard(
 
 /// The sender settles, and tells where it starts the poll timer.
 pub(crate) fn settle(pdcp: &mut Pdcp, tx: &mut AmTx, events: &mut Events) -> Result<(), NoMemory>
-    ensures { OnOk result (work pdcp.new tx.new.state events.new ≡ settled_work (work pdcp.old tx.old.state events.old)) }
+    ensures { OnOk result (work pdcp.new tx.new.state events.new
+        ≡ settled_work (work pdcp.old tx.old.state events.old)) }
 {
     if tx.settle(pdcp.may_take()) {
         events.push(Event::Start {
@@ -118,7 +125,8 @@ fn hand_up(
     events: &mut Events,
 ) -> Result<(), NoMemory>
     ensures rx { OnOk result (rx.new.state ≡ all_handed rx.old.state) }
-    ensures work { OnOk result (work pdcp.new tx.new.state events.new ≡ hears_all rx.old.state.out.ready (work pdcp.old tx.old.state events.old)) }
+    ensures work { OnOk result (work pdcp.new tx.new.state events.new
+        ≡ hears_all rx.old.state.out.ready (work pdcp.old tx.old.state events.old)) }
 {
     while let Some(sdu) = rx.up() {
         hear_one(&sdu, pdcp, tx, events)?;
@@ -132,7 +140,8 @@ fn hear_one(
     tx: &mut AmTx,
     events: &mut Events,
 ) -> Result<(), NoMemory>
-    ensures { OnOk result (work pdcp.new tx.new.state events.new ≡ hears sdu.now (work pdcp.old tx.old.state events.old)) }
+    ensures { OnOk result (work pdcp.new tx.new.state events.new
+        ≡ hears sdu.now (work pdcp.old tx.old.state events.old)) }
 {
     if pdcp.hear(sdu.as_slice(), Cause::Arrived, events)? {
         return settle(pdcp, tx, events);

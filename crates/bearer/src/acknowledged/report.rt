@@ -1,6 +1,7 @@
 //! A STATUS is written.
 
-ghost use Rattle.std.specs.Prelude.{◌≡◌, ◌%◌, ◌^◌, ◌<◌, ◌≤◌, take, drop, length, OnOk, IfOk, IsTrue};
+ghost use Rattle.std.specs.Prelude.{◌≡◌, ◌%◌, ◌^◌, ◌<◌, ◌≤◌, take, drop, length, OnOk, IfOk};
+ghost use Rattle.std.specs.Prelude.{IsTrue};
 ghost use Rattle.l2_bits.specs.Bits.{bits_of, number};
 ghost use Rattle.rlc_am_rx.specs.Status.{may_write, ack, nacks};
 ghost use Rattle.rlc_am_rx.specs.Machine.{written};
@@ -15,7 +16,8 @@ pub(crate) fn write_status(rx: &mut AmRx, size: u32) -> Result<(Bytes, u32), NoM
     requires due { IsTrue (may_write rx.old.state) }
     requires low { 2 ≤ size }
     requires high { size ≤ 9421 }
-    ensures pdu { IfOk result (λ r. r.0 ≡ status_octets (ack rx.old.state size % 1024) (nacks rx.old.state size)) }
+    ensures pdu { IfOk result
+        (λ r. r.0 ≡ status_octets (ack rx.old.state size % 1024) (nacks rx.old.state size)) }
     ensures ack { IfOk result (λ r. r.1 ≡ ack rx.old.state size % 1024) }
     ensures some { IfOk result (λ r. 1 ≤ length r.0) }
     ensures within { IfOk result (λ r. length r.0 ≤ size) }
@@ -26,7 +28,8 @@ pub(crate) fn write_status(rx: &mut AmRx, size: u32) -> Result<(Bytes, u32), NoM
     Ok((pdu, ack))
 }
 
-// ACK_SN, which has 10 bits behind D/C and CPT (TS 36.322 6.2.1.6); and the octets are those that the bits write.
+// ACK_SN, which has 10 bits behind D/C and CPT (TS 36.322 6.2.1.6); and the octets are those that
+// the bits write.
 fn ack_of(pdu: &[u8]) -> u32
     requires some { 2 ≤ length pdu.now }
     requires few { length pdu.now < 2 ^ 28 }

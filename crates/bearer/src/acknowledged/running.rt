@@ -1,4 +1,5 @@
-ghost use Rattle.std.specs.Prelude.{◌≡◌, ◌≤◌, ◌-◌, ◌^◌, ◌==◌, ◌&&◌, not, min, Some, IfOk, IfErr, OnOk};
+ghost use Rattle.std.specs.Prelude.{◌≡◌, ◌≤◌, ◌-◌, ◌^◌, ◌==◌, ◌&&◌, not, min, Some, IfOk, IfErr};
+ghost use Rattle.std.specs.Prelude.{OnOk};
 ghost use Rattle.pdcp_pdu.specs.Kinds.{IsKind};
 ghost use Rattle.pdcp_tx.specs.State.{refusal, submitted, left as pdcp_left};
 ghost use Rattle.rlc_am_tx.specs.Need.{left as rlc_left};
@@ -17,7 +18,8 @@ use rlc_am_tx::AmTx;
 use std::alloc::Global;
 use std::marker::Model;
 
-/// A bearer over acknowledged RLC in a life. Of a bearer that has answered `NoMemory` nothing is said.
+/// A bearer over acknowledged RLC in a life. Of a bearer that has answered `NoMemory` nothing is
+/// said.
 #[derive(Drop)]
 pub struct AmBearer {
     pub(crate) alloc: Global,
@@ -33,12 +35,18 @@ impl Model for AmBearer {
 
     ghost Value = { State };
 
-    ghost view = { λ b. record { pdcp = b.pdcp; tx = b.tx.state; rx = b.rx.state; tx_config = b.tx_config; rx_config = b.rx_config } };
+    ghost view = { λ b. record {
+      pdcp = b.pdcp;
+      tx = b.tx.state;
+      rx = b.rx.state;
+      tx_config = b.tx_config;
+      rx_config = b.rx_config;
+    } };
 }
 
 impl AmBearer {
-    /// A bearer on LCID 1 to 10, as both ends are configured with it, and under the keys of its first life. `kind` is
-    /// that of its PDCP entities.
+    /// A bearer on LCID 1 to 10, as both ends are configured with it, and under the keys of its
+    /// first life. `kind` is that of its PDCP entities.
     #[tactic(auto, unfolding(crate::specs::Acknowledged::State::fresh))]
     pub fn new(
         alloc: Global,
@@ -66,15 +74,20 @@ impl AmBearer {
     /// Takes over a copy of an SDU, which then waits. The refusals are those of `PdcpTx::submit`.
     pub fn submit(&mut self, sdu: &[u8]) -> Result<(), SubmitRefusal>
         ensures fits { OnOk result (refusal self.old.pdcp.tx sdu.now ≡ None) }
-        ensures state { OnOk result (self.new ≡ record self.old { pdcp = record self.old.pdcp { tx = submitted self.old.pdcp.tx sdu.now } }) }
+        ensures state { OnOk result
+            (self.new ≡ record self.old {
+              pdcp =
+                  record self.old.pdcp { tx = submitted self.old.pdcp.tx sdu.now };
+            }) }
         ensures answer { IfErr result (λ e. Answers e (refusal self.old.pdcp.tx sdu.now)) }
         ensures refused { IfErr result (λ e. StaysOrDies e (self.new ≡ self.old)) }
     {
         self.pdcp.submit(sdu)
     }
 
-    /// What the bearer needs of a grant, in octets: for a STATUS that is due and for data, with 3 for each subheader; more
-    /// than 2^32 - 1 is told as that. `held` is the lowest number of this bearer that HARQ holds.
+    /// What the bearer needs of a grant, in octets: for a STATUS that is due and for data, with 3
+    /// for each subheader; more than 2^32 - 1 is told as that. `held` is the lowest number of this
+    /// bearer that HARQ holds.
     #[tactic(auto, unfolding(crate::specs::Acknowledged::Sums::need))]
     pub fn need(&self, held: Option<u64>) -> u32
         ensures { result ≡ need self.now held }
@@ -92,8 +105,8 @@ impl AmBearer {
         self.rx.status_size().saturating_add(3)
     }
 
-    /// The octets that a buffer status report counts: what RLC has left and what waits to be resent, what RLC may take,
-    /// and a STATUS that is due.
+    /// The octets that a buffer status report counts: what RLC has left and what waits to be
+    /// resent, what RLC may take, and a STATUS that is due.
     #[tactic(auto, unfolding(crate::specs::Acknowledged::Sums::backlog))]
     pub fn backlog(&self) -> u64
         ensures { result ≡ backlog self.now }
@@ -102,7 +115,8 @@ impl AmBearer {
         data.saturating_add(u64::from(self.rx.status_size()))
     }
 
-    /// The octets of SDUs that wait or aren't confirmed, and of PDUs that aren't wholly acknowledged.
+    /// The octets of SDUs that wait or aren't confirmed, and of PDUs that aren't wholly
+    /// acknowledged.
     #[tactic(auto, unfolding(crate::specs::Acknowledged::Sums::left))]
     pub fn left(&self) -> u64
         ensures { result ≡ left self.now }
@@ -119,7 +133,9 @@ impl AmBearer {
     }
 
     fn is_empty(&self) -> bool
-        ensures { result ≡ ((pdcp_left self.now.pdcp.tx == 0) && (rlc_left self.now.tx == 0) && not (has_more self.now.pdcp)) }
+        ensures { result
+            ≡ ((pdcp_left self.now.pdcp.tx == 0) && (rlc_left self.now.tx == 0)
+            && not (has_more self.now.pdcp)) }
     {
         self.pdcp.left() == 0 && self.tx.left() == 0 && !self.pdcp.may_take()
     }
@@ -133,7 +149,10 @@ impl AmBearer {
 
     /// Sets the length of the discard timers in TTIs.
     pub fn set_discard(&mut self, ttis: u32)
-        ensures { self.new ≡ record self.old { pdcp = record self.old.pdcp { tx = record self.old.pdcp.tx { discard = Some ttis } } } }
+        ensures { self.new ≡ record self.old {
+          pdcp =
+              record self.old.pdcp { tx = record self.old.pdcp.tx { discard = Some ttis } };
+        } }
     {
         self.pdcp.set_discard(ttis)
     }

@@ -5,7 +5,8 @@ ghost use Rattle.pdcp_pdu.specs.Kinds.{is_am};
 ghost use Rattle.rlc_am_rx.specs.State.{fresh as fresh_receiver};
 ghost use Rattle.rlc_am_rx.specs.Machine.{finished};
 ghost use Rattle.rlc_am_tx.specs.Machine.{start};
-ghost use Rattle.bearer.specs.Acknowledged.Lives.{hears_last, ends_with, stopped, stopping, restarted};
+ghost use Rattle.bearer.specs.Acknowledged.Lives.{hears_last, ends_with, stopped, stopping};
+ghost use Rattle.bearer.specs.Acknowledged.Lives.{restarted};
 
 use crate::acknowledged::running::AmBearer;
 use bearer_pdcp::{Pdcp, StoppedPdcp};
@@ -20,7 +21,8 @@ use std::alloc::Global;
 use std::marker::Model;
 use std::mem;
 
-/// A bearer over acknowledged RLC between two lives. The memory of its next RLC entities is taken already.
+/// A bearer over acknowledged RLC between two lives. The memory of its next RLC entities is taken
+/// already.
 #[derive(Drop)]
 pub struct StoppedAm {
     alloc: Global,
@@ -45,8 +47,9 @@ impl Model for StoppedAm {
 }
 
 impl AmBearer {
-    /// Ends the life (TS 36.322 5.4, TS 36.323 5.2): all that RLC can put together goes up, or is dropped on a signalling
-    /// bearer, and is told. An `Err` gives back a bearer of which nothing is said.
+    /// Ends the life (TS 36.322 5.4, TS 36.323 5.2): all that RLC can put together goes up, or is
+    /// dropped on a signalling bearer, and is told. An `Err` gives back a bearer of which nothing
+    /// is said.
     #[tactic(auto, unfolding(crate::specs::Acknowledged::Lives::stopped, crate::specs::Acknowledged::Lives::stopping))]
     pub fn stop(mut self) -> Result<(StoppedAm, Events), (AmBearer, NoMemory)>
         ensures told { IfOk result (λ r. r.1 ≡ stopping self) }
@@ -69,7 +72,12 @@ impl AmBearer {
         requires sender { self.tx ≡ start self.tx_config }
         requires receiver { self.rx ≡ fresh_receiver self.rx_config }
         ensures told { IfOk result (λ r. r.1 ≡ events) }
-        ensures state { IfOk result (λ r. r.0 ≡ record { pdcp = self.pdcp; tx_config = self.tx_config; rx_config = self.rx_config }) }
+        ensures state { IfOk result
+            (λ r. r.0 ≡ record {
+              pdcp = self.pdcp;
+              tx_config = self.tx_config;
+              rx_config = self.rx_config;
+            }) }
     {
         let AmBearer {
             alloc,
@@ -160,7 +168,9 @@ fn fresh_rlc(
 
 // All that a receiver can put together as it ends goes up, or is dropped.
 fn end_with(rx: AmRx, pdcp: &mut Pdcp, events: &mut Events) -> Result<(), NoMemory>
-    ensures { OnOk result (record { pdcp = pdcp.new; events = events.new } ≡ ends_with (is_am pdcp.old.kind) (finished rx.state) (record { pdcp = pdcp.old; events = events.old })) }
+    ensures { OnOk result (record { pdcp = pdcp.new; events = events.new }
+        ≡ ends_with (is_am pdcp.old.kind) (finished rx.state)
+        (record { pdcp = pdcp.old; events = events.old })) }
 {
     match rx.finish() {
         Ok(sdus) if pdcp.is_am() => hear_last(sdus, pdcp, events),
@@ -170,7 +180,8 @@ fn end_with(rx: AmRx, pdcp: &mut Pdcp, events: &mut Events) -> Result<(), NoMemo
 }
 
 fn hear_last(mut sdus: Packets, pdcp: &mut Pdcp, events: &mut Events) -> Result<(), NoMemory>
-    ensures { OnOk result (record { pdcp = pdcp.new; events = events.new } ≡ hears_last sdus (record { pdcp = pdcp.old; events = events.old })) }
+    ensures { OnOk result (record { pdcp = pdcp.new; events = events.new }
+        ≡ hears_last sdus (record { pdcp = pdcp.old; events = events.old })) }
 {
     while let Some(sdu) = sdus.pop_front() {
         pdcp.hear(sdu.as_slice(), Cause::Reestablished, events)?;
@@ -180,7 +191,8 @@ fn hear_last(mut sdus: Packets, pdcp: &mut Pdcp, events: &mut Events) -> Result<
 
 #[tactic(auto, using(crate::proofs::AmTimings::appends))]
 fn drop_last(mut sdus: Packets, lcid: u8, events: &mut Events) -> Result<(), NoMemory>
-    ensures { OnOk result (events.new ≡ events.old ++ map (λ sdu. events_of.Drop lcid Handover) sdus) }
+    ensures { OnOk result (events.new ≡ events.old
+        ++ map (λ sdu. events_of.Drop lcid Handover) sdus) }
 {
     'drops: while let Some(_sdu) = sdus.pop_front() {
         events.push(Event::Drop {

@@ -4,7 +4,10 @@ ghost use Rattle.std.specs.Prelude.{◌≡◌, ◌≤◌, ◌+◌, ◌-◌, ◌+
 ghost use Rattle.bearer_types.specs.declared.Event.TheVariants as events_of;
 ghost use Rattle.bearer_pdcp.specs.Shares.{FitsShare};
 ghost use Rattle.bearer_pdcp.specs.Telling.{pdus_of, number_of};
-ghost use Rattle.bearer.specs.Acknowledged.Taking.{writes_status, status_pdus, status_told, status_left, share_left, has_prohibit, prohibit_told, how_of, poll_told, data_told, answer, pdus, taking, after_taking};
+ghost use Rattle.bearer.specs.Acknowledged.Taking.{writes_status, status_pdus, status_told};
+ghost use Rattle.bearer.specs.Acknowledged.Taking.{status_left, share_left, has_prohibit};
+ghost use Rattle.bearer.specs.Acknowledged.Taking.{prohibit_told, how_of, poll_told, data_told};
+ghost use Rattle.bearer.specs.Acknowledged.Taking.{answer, pdus, taking, after_taking};
 
 use crate::acknowledged::feeding::feed;
 use crate::acknowledged::report::write_status;
@@ -16,8 +19,9 @@ use l2_types::{Clock, GREATEST_GRANT, How, Waits};
 use rlc_pdu::Taken;
 
 impl AmBearer {
-    /// Writes within a share of a grant, of at most 9424 octets: a STATUS that is due, and then at most one data PDU in what
-    /// is left, each with 3 octets for its subheader. Where data waits and none is written, the reason is told.
+    /// Writes within a share of a grant, of at most 9424 octets: a STATUS that is due, and then at
+    /// most one data PDU in what is left, each with 3 octets for its subheader. Where data waits
+    /// and none is written, the reason is told.
     #[tactic(auto, using(bearer_pdcp::proofs::Fitting::both), unfolding(crate::specs::Acknowledged::Taking::answer, crate::specs::Acknowledged::Taking::pdus, crate::specs::Acknowledged::Taking::taking, crate::specs::Acknowledged::Taking::after_taking))]
     pub fn take(&mut self, share: u32, held: Option<u64>) -> Result<Written, NoMemory>
         requires { share ≤ GREATEST_GRANT + 2 }
@@ -47,18 +51,24 @@ impl AmBearer {
         Ok(written)
     }
 
-    // Writes a STATUS where it is due, may be sent and fits, and answers what it leaves of the share.
+    // Writes a STATUS where it is due, may be sent and fits, and answers what it leaves of the
+    // share.
     #[tactic(auto, using(bearer_pdcp::proofs::Fitting::few))]
     fn report(&mut self, share: u32, written: &mut Written) -> Result<u32, NoMemory>
         requires { share ≤ GREATEST_GRANT + 2 }
         ensures left { IfOk result (λ left. left ≡ share_left self.old.rx share) }
         ensures few { IfOk result (λ left. left ≤ GREATEST_GRANT + 2) }
         ensures less { IfOk result (λ left. left ≤ share) }
-        ensures fits { IfOk result (λ left. FitsShare (share - left) (status_pdus self.old.rx share)) }
-        ensures pdus { OnOk result (written.new.pdus ≡ written.old.pdus ++ status_pdus self.old.rx share) }
-        ensures told { OnOk result (written.new.events ≡ written.old.events ++ status_told self.old.pdcp.lcid (has_prohibit self.old) self.old.rx share) }
+        ensures fits { IfOk result
+            (λ left. FitsShare (share - left) (status_pdus self.old.rx share)) }
+        ensures pdus { OnOk result (written.new.pdus ≡ written.old.pdus
+            ++ status_pdus self.old.rx share) }
+        ensures told { OnOk result (written.new.events
+            ≡ written.old.events ++ status_told self.old.pdcp.lcid (has_prohibit self.old)
+            self.old.rx share) }
         ensures number { OnOk result (written.new.number ≡ written.old.number) }
-        ensures state { OnOk result (self.new ≡ record self.old { rx = status_left self.old.rx share }) }
+        ensures state { OnOk result
+            (self.new ≡ record self.old { rx = status_left self.old.rx share }) }
     {
         if !self.rx.status_due() || share < 5 {
             return Ok(share);
@@ -77,7 +87,8 @@ impl AmBearer {
     }
 
     fn tell_prohibit(&self, events: &mut Events) -> Result<(), NoMemory>
-        ensures { OnOk result (events.new ≡ events.old ++ prohibit_told self.now.pdcp.lcid (has_prohibit self.now)) }
+        ensures { OnOk result (events.new ≡ events.old
+            ++ prohibit_told self.now.pdcp.lcid (has_prohibit self.now)) }
     {
         if self.rx_config.prohibit.is_none() {
             return Ok(());
@@ -114,7 +125,8 @@ fn tell_piece(
     polled: bool,
     events: &mut Events,
 ) -> Result<(), NoMemory>
-    ensures { OnOk result (events.new ≡ events.old ++ events_of.Send lcid (how_of fresh) (number % 1024) ∷ poll_told lcid polled) }
+    ensures { OnOk result (events.new ≡ events.old
+        ++ events_of.Send lcid (how_of fresh) (number % 1024) ∷ poll_told lcid polled) }
 {
     let how = if fresh { How::New } else { How::Re };
     let sn = (number % 1024) as u32;

@@ -1,7 +1,9 @@
 //! Timers of a bearer.
 
 ghost use Rattle.std.specs.Prelude.{◌≡◌, ◌++◌, OnOk, IfOk};
-ghost use Rattle.bearer.specs.Acknowledged.Timing.{poll_told, timer_told, expiry, after_expiry, told_of, counts, has_ended, ticks, discards, ticked};
+ghost use Rattle.bearer.specs.Acknowledged.Timing.{poll_told, timer_told, expiry, after_expiry};
+ghost use Rattle.bearer.specs.Acknowledged.Timing.{told_of, counts, has_ended, ticks, discards};
+ghost use Rattle.bearer.specs.Acknowledged.Timing.{ticked};
 
 use crate::acknowledged::hearing::settle;
 use crate::acknowledged::running::AmBearer;
@@ -13,7 +15,8 @@ use rlc_am_tx::PollExpired;
 use rlc_pdu::Expired;
 
 impl AmBearer {
-    /// A timer expires, and what that does is told; `None` exactly where it doesn't run, and nothing then changes.
+    /// A timer expires, and what that does is told; `None` exactly where it doesn't run, and
+    /// nothing then changes.
     #[tactic(auto, unfolding(crate::specs::Acknowledged::Timing::expiry, crate::specs::Acknowledged::Timing::after_expiry))]
     pub fn expire(&mut self, clock: Clock) -> Result<Option<Events>, NoMemory>
         ensures told { IfOk result (λ events. events ≡ expiry self.old clock) }
@@ -64,7 +67,8 @@ impl AmBearer {
         }
     }
 
-    /// A TTI begins: the timers may expire, in the order poll, reorder, prohibit, then discard timers may end.
+    /// A TTI begins: the timers may expire, in the order poll, reorder, prohibit, then discard
+    /// timers may end.
     #[tactic(auto, unfolding(crate::specs::Acknowledged::Timing::ticked))]
     pub fn tick(&mut self) -> Result<Events, NoMemory>
         ensures told { IfOk result (λ events. events ≡ (ticked self.old).events) }
@@ -79,7 +83,8 @@ impl AmBearer {
     }
 
     fn tick_clock(&mut self, clock: Clock, events: &mut Events) -> Result<(), NoMemory>
-        ensures { OnOk result (record { bearer = self.new; events = events.new } ≡ ticks clock (record { bearer = self.old; events = events.old })) }
+        ensures { OnOk result (record { bearer = self.new; events = events.new }
+            ≡ ticks clock (record { bearer = self.old; events = events.old })) }
     {
         if self.count(clock) {
             return self.expire_into(clock, events);
@@ -111,7 +116,8 @@ impl AmBearer {
     // Discard timers may end; behind discards the sender settles.
     #[tactic(auto, using(crate::proofs::AmTimings::steps))]
     fn discard(&mut self, events: &mut Events) -> Result<(), NoMemory>
-        ensures { OnOk result (record { bearer = self.new; events = events.new } ≡ discards (record { bearer = self.old; events = events.old })) }
+        ensures { OnOk result (record { bearer = self.new; events = events.new }
+            ≡ discards (record { bearer = self.old; events = events.old })) }
     {
         let before = events.len();
         self.pdcp.tick(events)?;

@@ -17,9 +17,17 @@ pub(crate) fn feed(
     held: Option<u64>,
     events: &mut Events,
 ) -> Result<(), NoMemory>
-    ensures pdcp { OnOk result (pdcp.new ≡ (feeds (offers pdcp.old.tx) size held (record { pdcp = pdcp.old; tx = tx.old.state; events = events.old })).pdcp) }
-    ensures tx { OnOk result (tx.new.state ≡ (feeds (offers pdcp.old.tx) size held (record { pdcp = pdcp.old; tx = tx.old.state; events = events.old })).tx) }
-    ensures told { OnOk result (events.new ≡ (feeds (offers pdcp.old.tx) size held (record { pdcp = pdcp.old; tx = tx.old.state; events = events.old })).events) }
+    ensures pdcp { OnOk result
+        (pdcp.new
+        ≡ (feeds (offers pdcp.old.tx) size held
+        (record { pdcp = pdcp.old; tx = tx.old.state; events = events.old })).pdcp) }
+    ensures tx { OnOk result (tx.new.state
+        ≡ (feeds (offers pdcp.old.tx) size held
+        (record { pdcp = pdcp.old; tx = tx.old.state; events = events.old })).tx) }
+    ensures told { OnOk result
+        (events.new
+        ≡ (feeds (offers pdcp.old.tx) size held
+        (record { pdcp = pdcp.old; tx = tx.old.state; events = events.old })).events) }
 {
     'feeding: while feed_one(pdcp, tx, size, held, events)? {}
     Ok(())
@@ -33,9 +41,14 @@ fn feed_one(
     held: Option<u64>,
     events: &mut Events,
 ) -> Result<bool, NoMemory>
-    ensures goes { IfOk result (λ more. (if more then feeds (offers pdcp.new.tx) size held (record { pdcp = pdcp.new; tx = tx.new.state; events = events.new }) else record { pdcp = pdcp.new; tx = tx.new.state; events = events.new })
-        ≡ feeds (offers pdcp.old.tx) size held (record { pdcp = pdcp.old; tx = tx.old.state; events = events.old })) }
-    ensures fewer { IfOk result (λ more. more ≡ true → length (offers pdcp.new.tx) < length (offers pdcp.old.tx)) }
+    ensures goes { IfOk result
+        (λ more. (if more then feeds (offers pdcp.new.tx) size held
+        (record { pdcp = pdcp.new; tx = tx.new.state; events = events.new })
+        else record { pdcp = pdcp.new; tx = tx.new.state; events = events.new })
+        ≡ feeds (offers pdcp.old.tx) size held
+        (record { pdcp = pdcp.old; tx = tx.old.state; events = events.old })) }
+    ensures fewer { IfOk result (λ more. more ≡ true
+        → length (offers pdcp.new.tx) < length (offers pdcp.old.tx)) }
 {
     if !tx.hungry(size, held) {
         return Ok(false);

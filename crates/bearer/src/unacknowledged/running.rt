@@ -1,4 +1,5 @@
-ghost use Rattle.std.specs.Prelude.{◌≡◌, ◌⊎◌, ◌+◌, ◌*◌, ◌-◌, ◌%◌, ◌^◌, ◌<◌, ◌≤◌, ◌++◌, length, min, Some, None, OnOk, IfOk, IfErr};
+ghost use Rattle.std.specs.Prelude.{◌≡◌, ◌⊎◌, ◌+◌, ◌*◌, ◌-◌, ◌%◌, ◌^◌, ◌<◌, ◌≤◌, ◌++◌, length, min};
+ghost use Rattle.std.specs.Prelude.{Some, None, OnOk, IfOk, IfErr};
 ghost use Rattle.pdcp_tx.specs.State.{refusal, submitted, offers, sizes, left};
 ghost use Rattle.rlc_pdu.specs.Pdus.{IsUmBits};
 ghost use Rattle.rlc_queue.specs.Waiting.{total};
@@ -11,8 +12,12 @@ ghost use Rattle.bearer_pdcp.specs.Shares.{FitsShare};
 ghost use Rattle.bearer_pdcp.specs.Submitting.{Answers, StaysOrDies};
 ghost use Rattle.bearer_pdcp.specs.Telling.{pdus_of, number_of, landed_told};
 ghost use Rattle.bearer.specs.Unacknowledged.State.{fresh};
-ghost use Rattle.bearer.specs.Unacknowledged.Taking.{answer, taking, after_taking, data_told, idle_told, has_more, why_idle};
-ghost use Rattle.bearer.specs.Unacknowledged.Hearing.{hears_all, all_handed, handing, arriving, after_arrival, up_left, up_told, expiry, after_expiry, expiry_told, expiry_left, told_of, ticking, after_ticking};
+ghost use Rattle.bearer.specs.Unacknowledged.Taking.{answer, taking, after_taking, data_told};
+ghost use Rattle.bearer.specs.Unacknowledged.Taking.{idle_told, has_more, why_idle};
+ghost use Rattle.bearer.specs.Unacknowledged.Hearing.{hears_all, all_handed, handing, arriving};
+ghost use Rattle.bearer.specs.Unacknowledged.Hearing.{after_arrival, up_left, up_told, expiry};
+ghost use Rattle.bearer.specs.Unacknowledged.Hearing.{after_expiry, expiry_told, expiry_left};
+ghost use Rattle.bearer.specs.Unacknowledged.Hearing.{told_of, ticking, after_ticking};
 ghost use Rattle.bearer.specs.Unacknowledged.Lives.{stopped, stopping};
 
 use crate::unacknowledged::feeding::feed;
@@ -30,7 +35,8 @@ use std::alloc::Global;
 use std::marker::Model;
 use std::mem;
 
-/// An unacknowledged data bearer in a life. Of a bearer that has answered `NoMemory` nothing is said.
+/// An unacknowledged data bearer in a life. Of a bearer that has answered `NoMemory` nothing is
+/// said.
 #[derive(Drop)]
 pub struct UmBearer {
     alloc: Global,
@@ -49,13 +55,20 @@ impl Model for UmBearer {
 
     ghost Value = { State };
 
-    ghost view = { λ b. record { bits = b.bits; reorder = b.reorder; pdcp = b.pdcp; tx = b.tx.state; rx = b.rx.state } };
+    ghost view = { λ b. record {
+      bits = b.bits;
+      reorder = b.reorder;
+      pdcp = b.pdcp;
+      tx = b.tx.state;
+      rx = b.rx.state;
+    } };
 
     ghost invariant = { λ b. IsUmBits b.bits × (b.rx.state.window.width ≡ width_of b.bits) };
 }
 
 impl UmBearer {
-    /// A bearer on LCID 3 to 10, as both ends are configured with it, and under the keys of its first life.
+    /// A bearer on LCID 3 to 10, as both ends are configured with it, and under the keys of its
+    /// first life.
     #[tactic(auto, unfolding(crate::specs::Unacknowledged::State::fresh))]
     pub fn new(
         alloc: Global,
@@ -88,24 +101,32 @@ impl UmBearer {
     /// Takes over a copy of an SDU, which then waits. The refusals are those of `PdcpTx::submit`.
     pub fn submit(&mut self, sdu: &[u8]) -> Result<(), SubmitRefusal>
         ensures fits { OnOk result (refusal self.old.pdcp.tx sdu.now ≡ None) }
-        ensures state { OnOk result (self.new ≡ record self.old { pdcp = record self.old.pdcp { tx = submitted self.old.pdcp.tx sdu.now } }) }
+        ensures state { OnOk result
+            (self.new ≡ record self.old {
+              pdcp =
+                  record self.old.pdcp { tx = submitted self.old.pdcp.tx sdu.now };
+            }) }
         ensures answer { IfErr result (λ e. Answers e (refusal self.old.pdcp.tx sdu.now)) }
         ensures refused { IfErr result (λ e. StaysOrDies e (self.new ≡ self.old)) }
     {
         self.pdcp.submit(sdu)
     }
 
-    /// What the bearer needs of a grant, in octets, with 3 for a subheader; more than 2^32 - 1 is told as that. `held` is
-    /// the lowest number of this bearer that HARQ holds.
+    /// What the bearer needs of a grant, in octets, with 3 for a subheader; more than 2^32 - 1 is
+    /// told as that. `held` is the lowest number of this bearer that HARQ holds.
     pub fn need(&self, held: Option<u64>) -> u32
-        ensures { result ≡ need self.now.tx (sizes self.now.pdcp.tx.kind (offers self.now.pdcp.tx) + 2 * length (offers self.now.pdcp.tx)) held }
+        ensures { result
+            ≡ need self.now.tx (sizes self.now.pdcp.tx.kind (offers self.now.pdcp.tx)
+            + 2 * length (offers self.now.pdcp.tx)) held }
     {
         self.tx.need(self.pdcp.waiting(), held)
     }
 
     /// The octets that a buffer status report counts: what RLC has left, and what it may take.
     pub fn backlog(&self) -> u64
-        ensures { result ≡ min (total self.now.tx.waiting.sdus + sizes self.now.pdcp.tx.kind (offers self.now.pdcp.tx)) (2 ^ 64 - 1) }
+        ensures { result
+            ≡ min (total self.now.tx.waiting.sdus
+            + sizes self.now.pdcp.tx.kind (offers self.now.pdcp.tx)) (2 ^ 64 - 1) }
     {
         self.tx.backlog().saturating_add(self.pdcp.octets())
     }
@@ -117,8 +138,8 @@ impl UmBearer {
         self.pdcp.left()
     }
 
-    /// Writes at most one data PDU within a share of a grant, of which 3 octets are for its subheader. Where data waits and
-    /// none is written, the reason is told.
+    /// Writes at most one data PDU within a share of a grant, of which 3 octets are for its
+    /// subheader. Where data waits and none is written, the reason is told.
     #[tactic(auto, using(bearer_pdcp::proofs::Fitting::fits), unfolding(crate::specs::Unacknowledged::Taking::answer, crate::specs::Unacknowledged::Taking::taking, crate::specs::Unacknowledged::Taking::after_taking))]
     pub fn take(&mut self, share: u32, held: Option<u64>) -> Result<Written, NoMemory>
         ensures pdus { IfOk result (λ w. w.pdus ≡ pdus_of (answer self.old share held)) }
@@ -137,7 +158,8 @@ impl UmBearer {
     }
 
     fn tell_data(&self, taken: &Taken, why: Waits, events: &mut Events) -> Result<(), NoMemory>
-        ensures { OnOk result (events.new ≡ events.old ++ data_told self.now.pdcp.lcid self.now.bits (has_more self.now.pdcp) why taken.now) }
+        ensures { OnOk result (events.new ≡ events.old
+            ++ data_told self.now.pdcp.lcid self.now.bits (has_more self.now.pdcp) why taken.now) }
     {
         let lcid = self.pdcp.lcid();
         match taken {
@@ -155,7 +177,8 @@ impl UmBearer {
     }
 
     fn tell_idle(&self, why: Waits, events: &mut Events) -> Result<(), NoMemory>
-        ensures { OnOk result (events.new ≡ events.old ++ idle_told self.now.pdcp.lcid (has_more self.now.pdcp) why) }
+        ensures { OnOk result (events.new ≡ events.old
+            ++ idle_told self.now.pdcp.lcid (has_more self.now.pdcp) why) }
     {
         if !self.pdcp.may_take() {
             return Ok(());
@@ -183,8 +206,14 @@ impl UmBearer {
 
     fn land(&mut self, umd: &Umd<'_>) -> Result<Events, NoMemory>
         requires { umd.now.sn < 2 ^ self.old.bits }
-        ensures told { IfOk result (λ events. events ≡ up_told (arrival (umd_of umd.now) self.old.rx) (landed_told self.old.pdcp.lcid (landing (umd_of umd.now) self.old.rx) (turning (umd_of umd.now) self.old.rx)) self.old) }
-        ensures state { OnOk result (self.new ≡ up_left (arrival (umd_of umd.now) self.old.rx) (landed_told self.old.pdcp.lcid (landing (umd_of umd.now) self.old.rx) (turning (umd_of umd.now) self.old.rx)) self.old) }
+        ensures told { IfOk result (λ events. events
+            ≡ up_told (arrival (umd_of umd.now) self.old.rx)
+            (landed_told self.old.pdcp.lcid (landing (umd_of umd.now) self.old.rx)
+            (turning (umd_of umd.now) self.old.rx)) self.old) }
+        ensures state { OnOk result
+            (self.new ≡ up_left (arrival (umd_of umd.now) self.old.rx)
+            (landed_told self.old.pdcp.lcid (landing (umd_of umd.now) self.old.rx)
+            (turning (umd_of umd.now) self.old.rx)) self.old) }
     {
         let mut events = Events::new(self.alloc);
         let (landed, turned) = self.rx.arrive(umd)?;
@@ -193,8 +222,8 @@ impl UmBearer {
         Ok(events)
     }
 
-    /// A timer expires, and what that does is told; `None` exactly where it doesn't run, and nothing then changes. Of an
-    /// unacknowledged bearer the reordering timer alone may run.
+    /// A timer expires, and what that does is told; `None` exactly where it doesn't run, and
+    /// nothing then changes. Of an unacknowledged bearer the reordering timer alone may run.
     #[tactic(auto, unfolding(crate::specs::Unacknowledged::Hearing::expiry, crate::specs::Unacknowledged::Hearing::after_expiry))]
     pub fn expire(&mut self, clock: Clock) -> Result<Option<Events>, NoMemory>
         ensures told { IfOk result (λ events. events ≡ expiry self.old clock) }
@@ -251,13 +280,16 @@ impl UmBearer {
 
     /// Sets the length of the discard timers in TTIs.
     pub fn set_discard(&mut self, ttis: u32)
-        ensures { self.new ≡ record self.old { pdcp = record self.old.pdcp { tx = record self.old.pdcp.tx { discard = Some ttis } } } }
+        ensures { self.new ≡ record self.old {
+          pdcp =
+              record self.old.pdcp { tx = record self.old.pdcp.tx { discard = Some ttis } };
+        } }
     {
         self.pdcp.set_discard(ttis)
     }
 
-    /// Ends the life (TS 36.322 5.4, TS 36.323 5.2): all that RLC can put together is handed up, and told. An `Err` gives
-    /// back a bearer of which nothing is said.
+    /// Ends the life (TS 36.322 5.4, TS 36.323 5.2): all that RLC can put together is handed up,
+    /// and told. An `Err` gives back a bearer of which nothing is said.
     #[tactic(auto, unfolding(crate::specs::Unacknowledged::Lives::stopped, crate::specs::Unacknowledged::Lives::stopping))]
     pub fn stop(mut self) -> Result<(StoppedUm, Events), (UmBearer, NoMemory)>
         ensures told { IfOk result (λ r. r.1 ≡ stopping self) }
@@ -306,7 +338,13 @@ impl UmBearer {
     ) -> UmBearer
         requires bits { IsUmBits bits }
         requires width { rx.state.window.width ≡ width_of bits }
-        ensures { result ≡ record { bits = bits; reorder = reorder; pdcp = pdcp; tx = tx.state; rx = rx.state } }
+        ensures { result ≡ record {
+          bits = bits;
+          reorder = reorder;
+          pdcp = pdcp;
+          tx = tx.state;
+          rx = rx.state;
+        } }
     {
         UmBearer {
             alloc,
@@ -319,8 +357,8 @@ impl UmBearer {
     }
 }
 
-// Why a sender that has nothing writes nothing although PDCP has something: a number that HARQ holds forbids a new one,
-// which shows in a need of 0, or nothing fits.
+// Why a sender that has nothing writes nothing although PDCP has something: a number that HARQ
+// holds forbids a new one, which shows in a need of 0, or nothing fits.
 fn why_idle(tx: &UmTx, held: Option<u64>) -> Waits
     ensures { result ≡ why_idle tx.now.state held }
 {
@@ -373,8 +411,14 @@ fn hand_up(rx: &mut UmRx, pdcp: &mut Pdcp, events: &mut Events) -> Result<(), No
 
 // Hands up all that a receiver that ends can put together.
 fn hear_last(rx: UmRx, pdcp: &mut Pdcp, events: &mut Events) -> Result<(), NoMemory>
-    ensures pdcp { OnOk result (pdcp.new ≡ (hears_all (all_joined rx.state) Reestablished (record { pdcp = pdcp.old; events = events.old })).pdcp) }
-    ensures told { OnOk result (events.new ≡ (hears_all (all_joined rx.state) Reestablished (record { pdcp = pdcp.old; events = events.old })).events) }
+    ensures pdcp { OnOk result
+        (pdcp.new
+        ≡ (hears_all (all_joined rx.state) Reestablished
+        (record { pdcp = pdcp.old; events = events.old })).pdcp) }
+    ensures told { OnOk result
+        (events.new
+        ≡ (hears_all (all_joined rx.state) Reestablished
+        (record { pdcp = pdcp.old; events = events.old })).events) }
 {
     match rx.finish() {
         Ok(sdus) => hear_all(sdus, pdcp, events),
@@ -383,8 +427,12 @@ fn hear_last(rx: UmRx, pdcp: &mut Pdcp, events: &mut Events) -> Result<(), NoMem
 }
 
 fn hear_all(mut sdus: Packets, pdcp: &mut Pdcp, events: &mut Events) -> Result<(), NoMemory>
-    ensures pdcp { OnOk result (pdcp.new ≡ (hears_all sdus Reestablished (record { pdcp = pdcp.old; events = events.old })).pdcp) }
-    ensures told { OnOk result (events.new ≡ (hears_all sdus Reestablished (record { pdcp = pdcp.old; events = events.old })).events) }
+    ensures pdcp { OnOk result
+        (pdcp.new
+        ≡ (hears_all sdus Reestablished (record { pdcp = pdcp.old; events = events.old })).pdcp) }
+    ensures told { OnOk result
+        (events.new
+        ≡ (hears_all sdus Reestablished (record { pdcp = pdcp.old; events = events.old })).events) }
 {
     while let Some(sdu) = sdus.pop_front() {
         pdcp.hear(sdu.as_slice(), Cause::Reestablished, events)?;

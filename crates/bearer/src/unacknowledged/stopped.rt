@@ -12,7 +12,8 @@ use rlc_um::{UmRx, UmTx};
 use std::alloc::Global;
 use std::marker::Model;
 
-/// An unacknowledged data bearer between two lives. The memory of its next RLC entities is taken already.
+/// An unacknowledged data bearer between two lives. The memory of its next RLC entities is taken
+/// already.
 #[derive(Drop)]
 pub struct StoppedUm {
     alloc: Global,

@@ -1,5 +1,6 @@
 -- How records are added: none, one, and one stage after another.
-use Rattle.std.proofs.Common.{◌≡◌, ◌<◌, ℕ, ◌+◌, Bool, true, false, cond, List, [], ◌∷◌, ◌++◌, length, append_assoc, append-nil, get_or-set_same, get_or-set_other, refl, ap, sym, ◌∙◌, subst, arith, inl, inr}
+use Rattle.std.proofs.Common.{◌≡◌, ◌<◌, ℕ, ◌+◌, Bool, true, false, cond, List, [], ◌∷◌, ◌++◌, length, append_assoc}
+use Rattle.std.proofs.Common.{append-nil, get_or-set_same, get_or-set_other, refl, ap, sym, ◌∙◌, subst, arith, inl, inr}
 use Rattle.std.specs.List.{filter}
 use Rattle.std.specs.Prelude.{slice_index}
 use Rattle.std.proofs.lemmas.Bool.{cases_eq}
@@ -20,10 +21,12 @@ use Rattle.law_air.specs.AnyCalls.Told.{Tells, Adds}
 pub same_grows : (by : ℕ → ℕ) (xs ys : List ℕ) → ys ≡ xs → ((k : ℕ) → by k ≡ 0) → Grows by xs ys
 same_grows by xs ys e z = record {
   same_length = ap length e;
-  grown = λ k lt. let now : slice_index ys k ≡ slice_index xs k = ap (λ (zs : List ℕ). slice_index zs k) e in omega (arith, now, z k);
+  grown = λ k lt. let now : slice_index ys k ≡ slice_index xs k = ap (λ (zs : List ℕ). slice_index zs k) e in
+      omega (arith, now, z k);
 }
 
-pub grows_then : (f g h : ℕ → ℕ) (xs ys zs : List ℕ) → ((k : ℕ) → h k ≡ f k + g k) → Grows f xs ys → Grows g ys zs → Grows h xs zs
+pub grows_then : (f g h : ℕ → ℕ) (xs ys zs : List ℕ) → ((k : ℕ) → h k ≡ f k + g k) → Grows f xs ys → Grows g ys zs
+    → Grows h xs zs
 grows_then f g h xs ys zs e p q = record {
   same_length = q.same_length ∙ p.same_length;
   grown = λ k lt.
@@ -42,7 +45,8 @@ here xs lcid k lt e =
 there : (xs : List ℕ) (lcid k : ℕ) → (lcid ≡ k → ⊥) → slice_index (one_more xs lcid) k ≡ slice_index xs k
 there xs lcid k apart = get_or-set_other xs lcid k (slice_index xs lcid + 1) 0 (λ (e : k ≡ lcid). apart (sym e))
 
-pub one_grows : (by : ℕ → ℕ) (xs : List ℕ) (lcid : ℕ) → by lcid ≡ 1 → ((k : ℕ) → (lcid ≡ k → ⊥) → by k ≡ 0) → Grows by xs (one_more xs lcid)
+pub one_grows : (by : ℕ → ℕ) (xs : List ℕ) (lcid : ℕ) → by lcid ≡ 1 → ((k : ℕ) → (lcid ≡ k → ⊥) → by k ≡ 0)
+    → Grows by xs (one_more xs lcid)
 one_grows by xs lcid one none = record {
   same_length = length-set xs lcid (slice_index xs lcid + 1);
   grown = λ k lt. elim (cases_eq lcid k) [
@@ -65,17 +69,26 @@ kept_one b one e = rw e refl
 pub kept_none : (b : Bool) (one : Record) → b ≡ false → length (cond b (one ∷ []) []) ≡ 0
 kept_none b one e = rw e refl
 
-pub count_then : (test : Record → Bool) (a b : List Record) → length (filter test (a ++ b)) ≡ length (filter test a) + length (filter test b)
+pub count_then : (test : Record → Bool) (a b : List Record)
+    → length (filter test (a ++ b)) ≡ length (filter test a) + length (filter test b)
 count_then test a b = ap length (filter-append test a b) ∙ length-append (filter test a) (filter test b)
 
 pub tells_then : (a b f g : List Record) (l m n : Link) → Tells a f l m → Tells b g m n → Tells (a ++ b) (f ++ g) l n
 tells_then a b f g l m n p q = record {
-  nb_delivered = grows_then (λ k. ups Nb k a) (λ k. ups Nb k b) (λ k. ups Nb k (a ++ b)) l.up.delivered m.up.delivered n.up.delivered (λ k. count_then (is_up Nb k) a b) p.nb_delivered q.nb_delivered;
-  ue_delivered = grows_then (λ k. ups Ue k a) (λ k. ups Ue k b) (λ k. ups Ue k (a ++ b)) l.down.delivered m.down.delivered n.down.delivered (λ k. count_then (is_up Ue k) a b) p.ue_delivered q.ue_delivered;
+  nb_delivered =
+      grows_then (λ k. ups Nb k a) (λ k. ups Nb k b) (λ k. ups Nb k (a ++ b)) l.up.delivered m.up.delivered
+      n.up.delivered (λ k. count_then (is_up Nb k) a b) p.nb_delivered q.nb_delivered;
+  ue_delivered =
+      grows_then (λ k. ups Ue k a) (λ k. ups Ue k b) (λ k. ups Ue k (a ++ b)) l.down.delivered m.down.delivered
+      n.down.delivered (λ k. count_then (is_up Ue k) a b) p.ue_delivered q.ue_delivered;
   nb_submitted = q.nb_submitted ∙ p.nb_submitted;
-  ue_submitted = grows_then (λ k. loopeds k a) (λ k. loopeds k b) (λ k. loopeds k (a ++ b)) l.up.submitted m.up.submitted n.up.submitted (λ k. count_then (is_looped k) a b) p.ue_submitted q.ue_submitted;
-  flown_is = filter-append is_of_air a b ∙ ap (λ (x : List Record). x ++ filter is_of_air b) p.flown_is ∙ ap (λ (x : List Record). f ++ x) q.flown_is;
-  none_of_run = filter-append is_of_run a b ∙ ap (λ (x : List Record). x ++ filter is_of_run b) p.none_of_run ∙ q.none_of_run;
+  ue_submitted =
+      grows_then (λ k. loopeds k a) (λ k. loopeds k b) (λ k. loopeds k (a ++ b)) l.up.submitted m.up.submitted
+      n.up.submitted (λ k. count_then (is_looped k) a b) p.ue_submitted q.ue_submitted;
+  flown_is = filter-append is_of_air a b ∙ ap (λ (x : List Record). x ++ filter is_of_air b) p.flown_is
+      ∙ ap (λ (x : List Record). f ++ x) q.flown_is;
+  none_of_run = filter-append is_of_run a b ∙ ap (λ (x : List Record). x ++ filter is_of_run b) p.none_of_run
+      ∙ q.none_of_run;
 }
 
 pub adds_then : (f g : List Record) (l m n : Link) → Adds f l m → Adds g m n → Adds (f ++ g) l n
@@ -117,10 +130,16 @@ stays l m e = record {
   out_is = ap (λ (b : Books). b.out) e ∙ sym (append-nil l.out);
   ttis_is = ap (λ (b : Books). b.ttis) e;
   told = record {
-    nb_delivered = same_grows (λ k. ups Nb k []) l.up.delivered m.up.delivered (ap (λ (b : Books). b.up_delivered) e) (λ k. refl);
-    ue_delivered = same_grows (λ k. ups Ue k []) l.down.delivered m.down.delivered (ap (λ (b : Books). b.down_delivered) e) (λ k. refl);
+    nb_delivered =
+        same_grows (λ k. ups Nb k []) l.up.delivered m.up.delivered (ap (λ (b : Books). b.up_delivered) e)
+        (λ k. refl);
+    ue_delivered =
+        same_grows (λ k. ups Ue k []) l.down.delivered m.down.delivered (ap (λ (b : Books). b.down_delivered) e)
+        (λ k. refl);
     nb_submitted = ap (λ (b : Books). b.down_submitted) e;
-    ue_submitted = same_grows (λ k. loopeds k []) l.up.submitted m.up.submitted (ap (λ (b : Books). b.up_submitted) e) (λ k. refl);
+    ue_submitted =
+        same_grows (λ k. loopeds k []) l.up.submitted m.up.submitted (ap (λ (b : Books). b.up_submitted) e)
+        (λ k. refl);
     flown_is = refl;
     none_of_run = refl;
   };
@@ -138,10 +157,16 @@ says_plain one l p = record {
   out_is = refl;
   ttis_is = refl;
   told = record {
-    nb_delivered = same_grows (λ k. ups Nb k (one ∷ [])) l.up.delivered l.up.delivered refl (λ k. kept_none (is_up Nb k one) one (p.no_up Nb k));
-    ue_delivered = same_grows (λ k. ups Ue k (one ∷ [])) l.down.delivered l.down.delivered refl (λ k. kept_none (is_up Ue k one) one (p.no_up Ue k));
+    nb_delivered =
+        same_grows (λ k. ups Nb k (one ∷ [])) l.up.delivered l.up.delivered refl
+        (λ k. kept_none (is_up Nb k one) one (p.no_up Nb k));
+    ue_delivered =
+        same_grows (λ k. ups Ue k (one ∷ [])) l.down.delivered l.down.delivered refl
+        (λ k. kept_none (is_up Ue k one) one (p.no_up Ue k));
     nb_submitted = refl;
-    ue_submitted = same_grows (λ k. loopeds k (one ∷ [])) l.up.submitted l.up.submitted refl (λ k. kept_none (is_looped k one) one (p.no_loop k));
+    ue_submitted =
+        same_grows (λ k. loopeds k (one ∷ [])) l.up.submitted l.up.submitted refl
+        (λ k. kept_none (is_looped k one) one (p.no_loop k));
     flown_is = refl;
     none_of_run = ap (λ (b : Bool). cond b (one ∷ []) []) p.no_run;
   };

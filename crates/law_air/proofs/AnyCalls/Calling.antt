@@ -1,5 +1,6 @@
 -- What each other call adds.
-use Rattle.std.proofs.Common.{ℕ, Option, Some, None, List, [], ◌∷◌, if◌then◌else◌, Bool, true, false, append-nil, refl, sym}
+use Rattle.std.proofs.Common.{ℕ, Option, Some, None, List, [], ◌∷◌, if◌then◌else◌, Bool, true, false, append-nil, refl}
+use Rattle.std.proofs.Common.{sym}
 use Rattle.std.specs.Prelude.{option_map}
 use Rattle.bearer_types.specs.declared.event.Event.{Event}
 use Rattle.eps_sec.specs.declared.Keys.{Keys}
@@ -17,9 +18,12 @@ use Rattle.bearer_types.specs.Lcids.{all_lcids}
 use Rattle.air_link.specs.Telling.{one_more, tells_all}
 use Rattle.air_link.specs.Loops.{loops}
 use Rattle.air_link.specs.Downlink.{hears}
-use Rattle.air_link.specs.Draining.{timer_expires, receiver_expires, all_receivers_expire, receivers_expire, all_senders_expire, senders_expire}
-use Rattle.air_link.specs.Lines.{bears, discards, visits, reports, listens, no_place, submits_by, submitting, expires_by, expiring, expires_alone, expires, forges, moves, hands_over}
-use Rattle.law_air.specs.AnyCalls.Calls.{Call, Bears, Discards, Visits, Reports, Listens, Loops, Expires, Forges, HandsOver, ReceiversExpire, SendersExpire, after}
+use Rattle.air_link.specs.Draining.{timer_expires, receiver_expires, all_receivers_expire, receivers_expire}
+use Rattle.air_link.specs.Draining.{all_senders_expire, senders_expire}
+use Rattle.air_link.specs.Lines.{bears, discards, visits, reports, listens, no_place, submits_by, submitting}
+use Rattle.air_link.specs.Lines.{expires_by, expiring, expires_alone, expires, forges, moves, hands_over}
+use Rattle.law_air.specs.AnyCalls.Calls.{Call, Bears, Discards, Visits, Reports, Listens, Loops, Expires, Forges}
+use Rattle.law_air.specs.AnyCalls.Calls.{HandsOver, ReceiversExpire, SendersExpire, after}
 use Rattle.law_air.specs.AnyCalls.Counts.{Grows}
 use Rattle.law_air.specs.AnyCalls.Told.{why_refused, accepted, Adds, AddsSubmitted}
 use Rattle.law_air.proofs.AnyCalls.Adding.{stays, adds_then, same_grows, one_grows}
@@ -37,7 +41,8 @@ pub expires_adds : (side : Side) (lcid : ℕ) (clock : Clock) (l : Link) → Add
 unfolding expires
 expires_adds side lcid clock l =
     let m = expires_alone side lcid clock l in
-    adds_then [] [] l m (expires_by (expiring side lcid clock l) side m) (end_stays side (expired lcid clock (end_of side l)) l) (expires_by_adds (expiring side lcid clock l) side m)
+    adds_then [] [] l m (expires_by (expiring side lcid clock l) side m)
+    (end_stays side (expired lcid clock (end_of side l)) l) (expires_by_adds (expiring side lcid clock l) side m)
 
 forges_adds : (side : Side) (block : List ℕ) (l : Link) → Adds [] l (forges side block l)
 unfolding forges
@@ -57,7 +62,8 @@ hands_over_adds keys l =
 
 -- ---- expiries of a drain
 
-ends_if : (b : Bool) (side : Side) (clock : Clock) (lcid : ℕ) (l : Link) → Adds [] l (if b then expires side lcid clock l else l)
+ends_if : (b : Bool) (side : Side) (clock : Clock) (lcid : ℕ) (l : Link)
+    → Adds [] l (if b then expires side lcid clock l else l)
 ends_if true side clock lcid l = expires_adds side lcid clock l
 ends_if false side clock lcid l = stays l l refl
 
@@ -68,7 +74,8 @@ timer_adds side clock lcid l = ends_if (has lcid (end_of side l).bearers) side c
 receiver_adds : (side : Side) (lcid : ℕ) (l : Link) → Adds [] l (receiver_expires side lcid l)
 receiver_adds side lcid l =
     let m = timer_expires side Reorder lcid l in
-    adds_then [] [] l m (timer_expires side Prohibit lcid m) (timer_adds side Reorder lcid l) (timer_adds side Prohibit lcid m)
+    adds_then [] [] l m (timer_expires side Prohibit lcid m) (timer_adds side Reorder lcid l)
+    (timer_adds side Prohibit lcid m)
 
 all_receivers_add : (side : Side) (lcids : List ℕ) (l : Link) → Adds [] l (all_receivers_expire side lcids l)
 all_receivers_add side [] l = stays l l refl
@@ -86,13 +93,15 @@ receivers_add : (l : Link) → Adds [] l (receivers_expire l)
 unfolding receivers_expire
 receivers_add l =
     let m = all_receivers_expire Nb all_lcids l in
-    adds_then [] [] l m (all_receivers_expire Ue all_lcids m) (all_receivers_add Nb all_lcids l) (all_receivers_add Ue all_lcids m)
+    adds_then [] [] l m (all_receivers_expire Ue all_lcids m) (all_receivers_add Nb all_lcids l)
+    (all_receivers_add Ue all_lcids m)
 
 senders_add : (l : Link) → Adds [] l (senders_expire l)
 unfolding senders_expire
 senders_add l =
     let m = all_senders_expire Nb all_lcids l in
-    adds_then [] [] l m (all_senders_expire Ue all_lcids m) (all_senders_add Nb all_lcids l) (all_senders_add Ue all_lcids m)
+    adds_then [] [] l m (all_senders_expire Ue all_lcids m) (all_senders_add Nb all_lcids l)
+    (all_senders_add Ue all_lcids m)
 
 -- ---- any call
 
@@ -113,9 +122,11 @@ calls_adds SendersExpire l = senders_add l
 -- ---- a submission
 
 one_accepted : (xs : List ℕ) (lcid : ℕ) → Grows (accepted lcid None) xs (one_more xs lcid)
-one_accepted xs lcid = one_grows (accepted lcid None) xs lcid (rw (is_eq lcid) refl) (λ k apart. rw (is_apart lcid k apart) refl)
+one_accepted xs lcid =
+    one_grows (accepted lcid None) xs lcid (rw (is_eq lcid) refl) (λ k apart. rw (is_apart lcid k apart) refl)
 
-submits_adds : (r : Option SubmitRefusal) (side : Side) (lcid : ℕ) (sdu : List ℕ) (l : Link) → AddsSubmitted side lcid (option_map no_place r) l (submits_by r side lcid sdu l)
+submits_adds : (r : Option SubmitRefusal) (side : Side) (lcid : ℕ) (sdu : List ℕ) (l : Link)
+    → AddsSubmitted side lcid (option_map no_place r) l (submits_by r side lcid sdu l)
 submits_adds None Nb lcid sdu l = record {
   out_is = sym (append-nil l.out);
   ttis_is = refl;
@@ -149,6 +160,7 @@ submits_adds (Some broken) Ue lcid sdu l = record {
   ue_delivered = refl;
 }
 
-pub submitting_adds : (side : Side) (lcid : ℕ) (sdu : List ℕ) (l : Link) → AddsSubmitted side lcid (why_refused side lcid sdu l) l (submitting side lcid sdu l)
+pub submitting_adds : (side : Side) (lcid : ℕ) (sdu : List ℕ) (l : Link)
+    → AddsSubmitted side lcid (why_refused side lcid sdu l) l (submitting side lcid sdu l)
 unfolding submitting
 submitting_adds side lcid sdu l = submits_adds (refusal lcid sdu (end_of side l)) side lcid sdu l

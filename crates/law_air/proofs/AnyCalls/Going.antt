@@ -1,10 +1,13 @@
--- How the ends of a link go on: by no call, by one, by those of one stage after another; and which stages leave the HARQ processes alone.
-use Rattle.std.proofs.Common.{◌≡◌, ℕ, ◌+◌, Bool, true, false, ◌&&◌, nat_le, cond, if◌then◌else◌, Option, Some, None, List, [], ◌∷◌, ◌++◌, length, map, append_assoc, append-nil, refl, ap, sym, subst, ◌∙◌}
+-- How the ends of a link go on: by no call, by one, by those of one stage after another; and which stages leave the
+-- HARQ processes alone.
+use Rattle.std.proofs.Common.{◌≡◌, ℕ, ◌+◌, Bool, true, false, ◌&&◌, nat_le, cond, if◌then◌else◌, Option, Some, None}
+use Rattle.std.proofs.Common.{List, [], ◌∷◌, ◌++◌, length, map, append_assoc, append-nil, refl, ap, sym, subst, ◌∙◌}
 use Rattle.std.specs.List.{filter}
 use Rattle.std.proofs.lemmas.List.Elements.{filter-append}
 use Rattle.air_link.specs.Link.{Link, says, end_of, with_end}
 use Rattle.bearer_types.specs.Sides.{other}
-use Rattle.air_link.specs.Loops.{loses, returns_by, returns, returns_all, kept_by, takes, takes_all, loops, owed, paid, pays}
+use Rattle.air_link.specs.Loops.{loses, returns_by, returns, returns_all, kept_by, takes, takes_all, loops, owed, paid}
+use Rattle.air_link.specs.Loops.{pays}
 use Rattle.air_link.specs.Telling.{delivers, gathers, fails, noted, tells, tells_all}
 use Rattle.air_link.specs.Downlink.{hears}
 use Rattle.air_link.specs.Ttis.{begins, tells_sleep, grows, times, keeps_first, timed}
@@ -19,7 +22,8 @@ use Rattle.l2_node.specs.Hearing.{ticked}
 use Rattle.l2_node.specs.Submitting.{refusal, submitted}
 use Rattle.l2_types.specs.declared.side.Side.{Side}
 use Rattle.l2_types.specs.declared.side.Side.TheVariants.{Nb, Ue}
-use Rattle.law_node.specs.Calls.{Call as EndCall, Submit, Tick, TickBuckets, Receive, after_submit, after as after_call, run as run_end, IsGiven as IsGivenTo, AreGiven}
+use Rattle.law_node.specs.Calls.{Call as EndCall, Submit, Tick, TickBuckets, Receive, after_submit, after as after_call}
+use Rattle.law_node.specs.Calls.{run as run_end, IsGiven as IsGivenTo, AreGiven}
 use Rattle.promises.specs.Events.{is_of_loop, TellNoLoop, is_of_writing}
 use Rattle.law_node.specs.Telling.{told_of, told_over}
 use Rattle.law_node.specs.Writing.{TellNone}
@@ -39,9 +43,12 @@ use Rattle.promises.specs.Records.{event_of, told_by, is_of_building}
 told_then : (side : Side) (xs ys : List Record) → told_by side (xs ++ ys) ≡ told_by side xs ++ told_by side ys
 told_then side [] ys = refl
 told_then side (x ∷ xs) ys =
-    ap (λ (es : List Event). event_of side x ++ es) (told_then side xs ys) ∙ sym (append_assoc (event_of side x) (told_by side xs) (told_by side ys))
+    ap (λ (es : List Event). event_of side x ++ es) (told_then side xs ys)
+    ∙ sym (append_assoc (event_of side x) (told_by side xs) (told_by side ys))
 
-own_by : (b : Bool) (side : Side) (e : Event) (es : List Event) → is_of_loop e ≡ b → cond b (e ∷ filter is_of_loop es) (filter is_of_loop es) ≡ [] → (TellNoLoop es → told_by side (map (records.Of side) es) ≡ es)
+own_by : (b : Bool) (side : Side) (e : Event) (es : List Event) → is_of_loop e ≡ b
+    → cond b (e ∷ filter is_of_loop es) (filter is_of_loop es) ≡ []
+    → (TellNoLoop es → told_by side (map (records.Of side) es) ≡ es)
     → told_by side (records.Of side e ∷ map (records.Of side) es) ≡ e ∷ es
 own_by true side e es is none rest = let no : e ∷ filter is_of_loop es ≡ [] = none in cc
 own_by false Nb e es is none rest = rw is (ap (λ (x : List Event). e ∷ x) (rest none))
@@ -59,8 +66,10 @@ other_told Nb (e ∷ es) = other_told Nb es
 other_told Ue (e ∷ es) = other_told Ue es
 
 -- what one side tells, and then the other
-pub told_both : (side : Side) (xs ys : List Record) (es fs : List Event) → told_by side xs ≡ es → told_by side ys ≡ fs → told_by side (xs ++ ys) ≡ es ++ fs
-told_both side xs ys es fs p q = told_then side xs ys ∙ ap (λ (x : List Event). x ++ told_by side ys) p ∙ ap (λ (x : List Event). es ++ x) q
+pub told_both : (side : Side) (xs ys : List Record) (es fs : List Event) → told_by side xs ≡ es → told_by side ys ≡ fs
+    → told_by side (xs ++ ys) ≡ es ++ fs
+told_both side xs ys es fs p q = told_then side xs ys ∙ ap (λ (x : List Event). x ++ told_by side ys) p
+    ∙ ap (λ (x : List Event). es ++ x) q
 
 -- ---- an end
 
@@ -73,20 +82,36 @@ by_none side e = record { by = record { calls = []; given = tt; end_is = refl; t
 
 -- records that tell nothing of it
 pub by_same : (side : Side) (told : List Record) (e f : End) → f ≡ e → told_by side told ≡ [] → KeepsOn side told e f
-by_same side told e f same none = record { by = record { calls = []; given = tt; end_is = same; told_is = none }; lives_are = refl }
+by_same side told e f same none =
+    record { by = record { calls = []; given = tt; end_is = same; told_is = none }; lives_are = refl }
 
-pub by_call : (lives : List EndCall) (side : Side) (told : List Record) (c : EndCall) (e f : End) → IsGivenTo c → filter begins_life (c ∷ []) ≡ lives → f ≡ after_call e c → told_by side told ≡ told_of e c
+pub by_call : (lives : List EndCall) (side : Side) (told : List Record) (c : EndCall) (e f : End) → IsGivenTo c
+    → filter begins_life (c ∷ []) ≡ lives → f ≡ after_call e c → told_by side told ≡ told_of e c
     → LivesOn lives side told e f
-by_call lives side told c e f g begun same is = record { by = record { calls = c ∷ []; given = (g, tt); end_is = same; told_is = is ∙ sym (append-nil (told_of e c)) }; lives_are = begun }
+by_call lives side told c e f g begun same is =
+    record {
+      by = record {
+        calls = c ∷ [];
+        given = (g, tt);
+        end_is = same;
+        told_is = is ∙ sym (append-nil (told_of e c));
+      };
+      lives_are = begun;
+    }
 
-pub by_one : (side : Side) (told : List Record) (c : EndCall) (e f : End) → IsGivenTo c → begins_life c ≡ false → f ≡ after_call e c → told_by side told ≡ told_of e c → KeepsOn side told e f
-by_one side told c e f g goes same is = by_call [] side told c e f g (ap (λ (b : Bool). cond b (c ∷ []) []) goes) same is
+pub by_one : (side : Side) (told : List Record) (c : EndCall) (e f : End) → IsGivenTo c → begins_life c ≡ false
+    → f ≡ after_call e c → told_by side told ≡ told_of e c → KeepsOn side told e f
+by_one side told c e f g goes same is =
+    by_call [] side told c e f g (ap (λ (b : Bool). cond b (c ∷ []) []) goes) same is
 
 -- an SDU that isn't refused is submitted
-pub by_submit : (side : Side) (told : List Record) (lcid : ℕ) (octets : List ℕ) (e : End) → refusal lcid octets e ≡ None → told_by side told ≡ [] → KeepsOn side told e (submitted lcid octets e)
+pub by_submit : (side : Side) (told : List Record) (lcid : ℕ) (octets : List ℕ) (e : End)
+    → refusal lcid octets e ≡ None → told_by side told ≡ [] → KeepsOn side told e (submitted lcid octets e)
 unfolding submitted
 by_submit side told lcid octets e allowed none =
-    by_one side told (Submit lcid octets) e _ tt refl (sym (ap (λ (r : Option SubmitRefusal). record e { bearers = (after_submit r lcid octets e).bearers }) allowed)) none
+    by_one side told (Submit lcid octets) e _ tt refl
+    (sym (ap (λ (r : Option SubmitRefusal). record e { bearers = (after_submit r lcid octets e).bearers })
+    allowed)) none
 
 pub run_on : (xs ys : List EndCall) (e : End) → run_end (xs ++ ys) e ≡ run_end ys (run_end xs e)
 run_on [] ys e = refl
@@ -102,7 +127,8 @@ over_on (x ∷ xs) ys e =
     ap (λ (es : List Event). told_of e x ++ es) (over_on xs ys (after_call e x))
     ∙ sym (append_assoc (told_of e x) (told_over xs (after_call e x)) (told_over ys (run_end xs (after_call e x))))
 
-pub lives_then : (xs ys : List EndCall) (side : Side) (f g : List Record) (a b c : End) → LivesOn xs side f a b → LivesOn ys side g b c → LivesOn (xs ++ ys) side (f ++ g) a c
+pub lives_then : (xs ys : List EndCall) (side : Side) (f g : List Record) (a b c : End) → LivesOn xs side f a b
+    → LivesOn ys side g b c → LivesOn (xs ++ ys) side (f ++ g) a c
 lives_then xs ys side f g a b c p q =
     let cs = p.by.calls in
     let ds = q.by.calls in
@@ -111,28 +137,38 @@ lives_then xs ys side f g a b c p q =
         calls = cs ++ ds;
         given = given_on cs ds p.by.given q.by.given;
         end_is = q.by.end_is ∙ ap (run_end ds) p.by.end_is ∙ sym (run_on cs ds a);
-        told_is = told_both side f g (told_over cs a) (told_over ds (run_end cs a)) p.by.told_is (q.by.told_is ∙ ap (told_over ds) p.by.end_is) ∙ sym (over_on cs ds a);
+        told_is = told_both side f g (told_over cs a) (told_over ds (run_end cs a)) p.by.told_is
+            (q.by.told_is ∙ ap (told_over ds) p.by.end_is) ∙ sym (over_on cs ds a);
       };
-      lives_are = filter-append begins_life cs ds ∙ ap (λ (x : List EndCall). x ++ filter begins_life ds) p.lives_are ∙ ap (λ (x : List EndCall). xs ++ x) q.lives_are;
+      lives_are = filter-append begins_life cs ds ∙ ap (λ (x : List EndCall). x ++ filter begins_life ds) p.lives_are
+          ∙ ap (λ (x : List EndCall). xs ++ x) q.lives_are;
     }
 
-pub by_then : (side : Side) (f g : List Record) (a b c : End) → ByCalls side f a b → ByCalls side g b c → ByCalls side (f ++ g) a c
+pub by_then : (side : Side) (f g : List Record) (a b c : End) → ByCalls side f a b → ByCalls side g b c
+    → ByCalls side (f ++ g) a c
 by_then side f g a b c p q =
-    (lives_then (filter begins_life p.calls) (filter begins_life q.calls) side f g a b c (record { by = p; lives_are = refl }) (record { by = q; lives_are = refl })).by
+    (lives_then (filter begins_life p.calls) (filter begins_life q.calls) side f g a b c
+    (record { by = p; lives_are = refl }) (record { by = q; lives_are = refl })).by
 
 -- and no other life begins
-keeps_then : (lives : List EndCall) (side : Side) (f g : List Record) (a b c : End) → LivesOn lives side f a b → KeepsOn side g b c → LivesOn lives side (f ++ g) a c
-keeps_then lives side f g a b c p q = subst (λ (x : List EndCall). LivesOn x side (f ++ g) a c) (append-nil lives) (lives_then lives [] side f g a b c p q)
+keeps_then : (lives : List EndCall) (side : Side) (f g : List Record) (a b c : End) → LivesOn lives side f a b
+    → KeepsOn side g b c → LivesOn lives side (f ++ g) a c
+keeps_then lives side f g a b c p q =
+    subst (λ (x : List EndCall). LivesOn x side (f ++ g) a c) (append-nil lives)
+    (lives_then lives [] side f g a b c p q)
 
 -- ---- both ends and the records
 
-pub through_then : (lives : List EndCall) (f g : List Record) (l m n : Link) → GoesThrough lives f l m → GoesOn g m n → GoesThrough lives (f ++ g) l n
+pub through_then : (lives : List EndCall) (f g : List Record) (l m n : Link) → GoesThrough lives f l m → GoesOn g m n
+    → GoesThrough lives (f ++ g) l n
 through_then lives f g l m n p q = record {
   more = p.more ++ q.more;
   out_is = q.out_is ∙ ap (λ (x : List Record). x ++ q.more) p.out_is ∙ append_assoc l.out p.more q.more;
   nb = keeps_then lives Nb p.more q.more l.nb m.nb n.nb p.nb q.nb;
   ue = keeps_then lives Ue p.more q.more l.ue m.ue n.ue p.ue q.ue;
-  blocks_are = filter-append is_of_building p.more q.more ∙ ap (λ (x : List Record). x ++ filter is_of_building q.more) p.blocks_are ∙ ap (λ (x : List Record). f ++ x) q.blocks_are;
+  blocks_are = filter-append is_of_building p.more q.more
+      ∙ ap (λ (x : List Record). x ++ filter is_of_building q.more) p.blocks_are
+      ∙ ap (λ (x : List Record). f ++ x) q.blocks_are;
   kinds_are = q.kinds_are ∙ p.kinds_are;
 }
 
@@ -157,7 +193,9 @@ seen l = record { nb = l.nb; ue = l.ue; out = l.out; kinds = l.kinds }
 abbrev pub behind : Link → End → End → List Record → Seen
 behind l nb ue more = record { nb = nb; ue = ue; out = l.out ++ more; kinds = l.kinds }
 
-pub through_seen : (lives : List EndCall) (blocks more : List Record) (l m : Link) (nb ue : End) → seen m ≡ behind l nb ue more → filter is_of_building more ≡ blocks → LivesOn lives Nb more l.nb nb → LivesOn lives Ue more l.ue ue
+pub through_seen : (lives : List EndCall) (blocks more : List Record) (l m : Link) (nb ue : End)
+    → seen m ≡ behind l nb ue more → filter is_of_building more ≡ blocks → LivesOn lives Nb more l.nb nb
+    → LivesOn lives Ue more l.ue ue
     → GoesThrough lives blocks l m
 through_seen lives blocks more l m nb ue is blocks_are p q = record {
   more = more;
@@ -168,7 +206,8 @@ through_seen lives blocks more l m nb ue is blocks_are p q = record {
   kinds_are = ap (λ (s : Seen). s.kinds) is;
 }
 
-pub goes_seen : (blocks more : List Record) (l m : Link) (nb ue : End) → seen m ≡ behind l nb ue more → filter is_of_building more ≡ blocks → KeepsOn Nb more l.nb nb → KeepsOn Ue more l.ue ue → GoesOn blocks l m
+pub goes_seen : (blocks more : List Record) (l m : Link) (nb ue : End) → seen m ≡ behind l nb ue more
+    → filter is_of_building more ≡ blocks → KeepsOn Nb more l.nb nb → KeepsOn Ue more l.ue ue → GoesOn blocks l m
 goes_seen blocks more l m nb ue is blocks_are p q = through_seen [] blocks more l m nb ue is blocks_are p q
 
 -- ---- a stage in which nothing is built, and that leaves the HARQ processes of both ends alone
@@ -178,7 +217,10 @@ pub record Rests (l m : Link) : Type 0 where
   pub entities_are : entities m ≡ entities l
 
 pub rests_then : (l m n : Link) → Rests l m → Rests m n → Rests l n
-rests_then l m n p q = record { goes = goes_then [] [] l m n p.goes q.goes; entities_are = q.entities_are ∙ p.entities_are }
+rests_then l m n p q = record {
+  goes = goes_then [] [] l m n p.goes q.goes;
+  entities_are = q.entities_are ∙ p.entities_are;
+}
 
 -- the processes of what is seen
 abbrev seen_entities : Seen → Entities
@@ -186,25 +228,35 @@ seen_entities s = record { nb = entity s.nb; ue = entity s.ue }
 
 pub unseen_rests : (l m : Link) → seen m ≡ seen l → Rests l m
 unseen_rests l m e = record {
-  goes = goes_seen [] [] l m l.nb l.ue (e ∙ ap (λ (x : List Record). record { nb = l.nb; ue = l.ue; out = x; kinds = l.kinds }) (sym (append-nil l.out))) refl (by_none Nb l.nb) (by_none Ue l.ue);
+  goes =
+      goes_seen [] [] l m l.nb l.ue
+      (e ∙ ap (λ (x : List Record). record { nb = l.nb; ue = l.ue; out = x; kinds = l.kinds })
+      (sym (append-nil l.out))) refl (by_none Nb l.nb) (by_none Ue l.ue);
   entities_are = ap seen_entities e;
 }
 
 -- a record that tells nothing of an end
-pub says_rests : (one : Record) (l : Link) → is_of_building one ≡ false → event_of Nb one ≡ [] → event_of Ue one ≡ [] → Rests l (says one l)
+pub says_rests : (one : Record) (l : Link) → is_of_building one ≡ false → event_of Nb one ≡ [] → event_of Ue one ≡ []
+    → Rests l (says one l)
 says_rests one l e nb ue = record {
   goes = goes_seen [] (one ∷ []) l (says one l) l.nb l.ue refl (ap (λ (b : Bool). cond b (one ∷ []) []) e)
-      (by_same Nb (one ∷ []) l.nb l.nb refl (ap (λ (x : List Event). x ++ []) nb)) (by_same Ue (one ∷ []) l.ue l.ue refl (ap (λ (x : List Event). x ++ []) ue));
+      (by_same Nb (one ∷ []) l.nb l.nb refl (ap (λ (x : List Event). x ++ []) nb))
+      (by_same Ue (one ∷ []) l.ue l.ue refl (ap (λ (x : List Event). x ++ []) ue));
   entities_are = refl;
 }
 
 -- an end goes on by a call in which it tells nothing
-pub call_goes : (side : Side) (c : EndCall) (l : Link) → IsGivenTo c → begins_life c ≡ false → told_of (end_of side l) c ≡ [] → GoesOn [] l (with_end side (after_call (end_of side l) c) l)
+pub call_goes : (side : Side) (c : EndCall) (l : Link) → IsGivenTo c → begins_life c ≡ false
+    → told_of (end_of side l) c ≡ [] → GoesOn [] l (with_end side (after_call (end_of side l) c) l)
 call_goes Nb c l g goes none =
-    goes_seen [] [] l _ (after_call l.nb c) l.ue (ap (λ (x : List Record). record { nb = after_call l.nb c; ue = l.ue; out = x; kinds = l.kinds }) (sym (append-nil l.out))) refl
+    goes_seen [] [] l _ (after_call l.nb c) l.ue
+    (ap (λ (x : List Record). record { nb = after_call l.nb c; ue = l.ue; out = x; kinds = l.kinds })
+    (sym (append-nil l.out))) refl
     (by_one Nb [] c l.nb (after_call l.nb c) g goes refl (sym none)) (by_none Ue l.ue)
 call_goes Ue c l g goes none =
-    goes_seen [] [] l _ l.nb (after_call l.ue c) (ap (λ (x : List Record). record { nb = l.nb; ue = after_call l.ue c; out = x; kinds = l.kinds }) (sym (append-nil l.out))) refl
+    goes_seen [] [] l _ l.nb (after_call l.ue c)
+    (ap (λ (x : List Record). record { nb = l.nb; ue = after_call l.ue c; out = x; kinds = l.kinds })
+    (sym (append-nil l.out))) refl
     (by_none Nb l.nb) (by_one Ue [] c l.ue (after_call l.ue c) g goes refl (sym none))
 
 -- ---- what an end tells
@@ -213,9 +265,12 @@ gathers_if : (b : Bool) (i : Item) (l : Link) → seen (if b then record l { ups
 gathers_if true i l = refl
 gathers_if false i l = refl
 
-up_noted : (side : Side) (lcid : ℕ) (octets : List ℕ) (l : Link) → seen (gathers side lcid octets (delivers side lcid l)) ≡ seen l
+up_noted : (side : Side) (lcid : ℕ) (octets : List ℕ) (l : Link)
+    → seen (gathers side lcid octets (delivers side lcid l)) ≡ seen l
 up_noted Nb lcid octets l = refl
-up_noted Ue lcid octets l = gathers_if ((is_on l.looping.mode && nat_le 3 lcid) && nat_le 1 (length octets)) (item lcid octets) (delivers Ue lcid l)
+up_noted Ue lcid octets l =
+    gathers_if ((is_on l.looping.mode && nat_le 3 lcid) && nat_le 1 (length octets)) (item lcid octets)
+    (delivers Ue lcid l)
 
 fail_noted : (side : Side) (lcid : ℕ) (l : Link) → seen (fails side lcid l) ≡ seen l
 fail_noted Nb lcid l = refl
@@ -238,31 +293,45 @@ noted_seen side (events.BadRlc lcid fault) l = refl
 noted_seen side (events.BadPdcp lcid fault) l = refl
 noted_seen side (events.Discard lcid len) l = refl
 
-pub told_seen : (side : Side) (es : List Event) (l : Link) → seen (tells_all side es l) ≡ behind l l.nb l.ue (map (records.Of side) es)
-told_seen side [] l = ap (λ (x : List Record). record { nb = l.nb; ue = l.ue; out = x; kinds = l.kinds }) (sym (append-nil l.out))
+pub told_seen : (side : Side) (es : List Event) (l : Link)
+    → seen (tells_all side es l) ≡ behind l l.nb l.ue (map (records.Of side) es)
+told_seen side [] l =
+    ap (λ (x : List Record). record { nb = l.nb; ue = l.ue; out = x; kinds = l.kinds }) (sym (append-nil l.out))
 told_seen side (e ∷ es) l =
     told_seen side es (tells side e l)
-    ∙ ap (λ (s : Seen). record { nb = s.nb; ue = s.ue; out = (s.out ++ records.Of side e ∷ []) ++ map (records.Of side) es; kinds = s.kinds }) (noted_seen side e l)
-    ∙ ap (λ (x : List Record). record { nb = l.nb; ue = l.ue; out = x; kinds = l.kinds }) (append_assoc l.out (records.Of side e ∷ []) (map (records.Of side) es))
+    ∙ ap (λ (s : Seen). record {
+      nb = s.nb;
+      ue = s.ue;
+      out = (s.out ++ records.Of side e ∷ []) ++ map (records.Of side) es;
+      kinds = s.kinds;
+    }) (noted_seen side e l)
+    ∙ ap (λ (x : List Record). record { nb = l.nb; ue = l.ue; out = x; kinds = l.kinds })
+    (append_assoc l.out (records.Of side e ∷ []) (map (records.Of side) es))
 
 blocks_if : (b : Bool) (side : Side) (e : Event) (es : List Event)
-    → cond b (records.Of side e ∷ map (records.Of side) (filter is_of_writing es)) (map (records.Of side) (filter is_of_writing es)) ≡ map (records.Of side) (cond b (e ∷ filter is_of_writing es) (filter is_of_writing es))
+    → cond b (records.Of side e ∷ map (records.Of side) (filter is_of_writing es))
+    (map (records.Of side) (filter is_of_writing es))
+    ≡ map (records.Of side) (cond b (e ∷ filter is_of_writing es) (filter is_of_writing es))
 blocks_if true side e es = refl
 blocks_if false side e es = refl
 
-pub blocks_of : (side : Side) (es : List Event) → filter is_of_building (map (records.Of side) es) ≡ map (records.Of side) (filter is_of_writing es)
+pub blocks_of : (side : Side) (es : List Event)
+    → filter is_of_building (map (records.Of side) es) ≡ map (records.Of side) (filter is_of_writing es)
 blocks_of side [] = refl
 blocks_of side (e ∷ es) = rw (blocks_of side es) (blocks_if (is_of_writing e) side e es)
 
 -- an end goes on by a call in which it writes nothing, and tells what it tells in it
-pub call_tells : (side : Side) (c : EndCall) (l : Link) → IsGivenTo c → begins_life c ≡ false → TellNone (told_of (end_of side l) c) → entity (after_call (end_of side l) c) ≡ entity (end_of side l)
+pub call_tells : (side : Side) (c : EndCall) (l : Link) → IsGivenTo c → begins_life c ≡ false
+    → TellNone (told_of (end_of side l) c) → entity (after_call (end_of side l) c) ≡ entity (end_of side l)
     → Rests l (tells_all side (told_of (end_of side l) c) (with_end side (after_call (end_of side l) c) l))
 call_tells Nb c l g goes none same =
     let es = told_of l.nb c in
     let e = told_seen Nb es (with_end Nb (after_call l.nb c) l) in
     record {
-      goes = goes_seen [] (map (records.Of Nb) es) l _ (after_call l.nb c) l.ue e (blocks_of Nb es ∙ ap (map (records.Of Nb)) none)
-          (by_one Nb (map (records.Of Nb) es) c l.nb (after_call l.nb c) g goes refl (own_told Nb es (tells_no_loop l.nb c)))
+      goes = goes_seen [] (map (records.Of Nb) es) l _ (after_call l.nb c) l.ue e
+          (blocks_of Nb es ∙ ap (map (records.Of Nb)) none)
+          (by_one Nb (map (records.Of Nb) es) c l.nb (after_call l.nb c) g goes refl
+          (own_told Nb es (tells_no_loop l.nb c)))
           (by_same Ue (map (records.Of Nb) es) l.ue l.ue refl (other_told Nb es));
       entities_are = ap seen_entities e ∙ ap (λ (x : Entity). record { nb = x; ue = entity l.ue }) same;
     }
@@ -270,9 +339,11 @@ call_tells Ue c l g goes none same =
     let es = told_of l.ue c in
     let e = told_seen Ue es (with_end Ue (after_call l.ue c) l) in
     record {
-      goes = goes_seen [] (map (records.Of Ue) es) l _ l.nb (after_call l.ue c) e (blocks_of Ue es ∙ ap (map (records.Of Ue)) none)
+      goes = goes_seen [] (map (records.Of Ue) es) l _ l.nb (after_call l.ue c) e
+          (blocks_of Ue es ∙ ap (map (records.Of Ue)) none)
           (by_same Nb (map (records.Of Ue) es) l.nb l.nb refl (other_told Ue es))
-          (by_one Ue (map (records.Of Ue) es) c l.ue (after_call l.ue c) g goes refl (own_told Ue es (tells_no_loop l.ue c)));
+          (by_one Ue (map (records.Of Ue) es) c l.ue (after_call l.ue c) g goes refl
+          (own_told Ue es (tells_no_loop l.ue c)));
       entities_are = ap seen_entities e ∙ ap (λ (x : Entity). record { nb = entity l.nb; ue = x }) same;
     }
 
@@ -281,23 +352,27 @@ told_rests side es l = ap seen_entities (told_seen side es l)
 
 -- a block is heard
 pub hears_rests : (side : Side) (block : List ℕ) (l : Link) → Rests l (hears side block l)
-hears_rests side block l = call_tells side (Receive block) l tt refl ((writes_nothing (end_of side l)).receiving block) refl
+hears_rests side block l =
+    call_tells side (Receive block) l tt refl ((writes_nothing (end_of side l)).receiving block) refl
 
 -- ---- the test loop
 
 loses_rests : (lcid : ℕ) (l : Link) → Rests l (loses lcid l)
 loses_rests lcid l = says_rests _ l refl refl refl
 
-returns_by_rests : (r : Option SubmitRefusal) (lcid : ℕ) (octets : List ℕ) (l : Link) → refusal lcid octets l.ue ≡ r → Rests l (returns_by r lcid octets l)
+returns_by_rests : (r : Option SubmitRefusal) (lcid : ℕ) (octets : List ℕ) (l : Link) → refusal lcid octets l.ue ≡ r
+    → Rests l (returns_by r lcid octets l)
 unfolding submitted
 returns_by_rests (Some broken) lcid octets l e = loses_rests lcid l
 returns_by_rests None lcid octets l e = record {
   goes = goes_seen [] (records.Looped lcid octets ∷ []) l _ l.nb (submitted lcid octets l.ue) refl refl
-      (by_same Nb (records.Looped lcid octets ∷ []) l.nb l.nb refl refl) (by_submit Ue (records.Looped lcid octets ∷ []) lcid octets l.ue e refl);
+      (by_same Nb (records.Looped lcid octets ∷ []) l.nb l.nb refl refl)
+      (by_submit Ue (records.Looped lcid octets ∷ []) lcid octets l.ue e refl);
   entities_are = refl;
 }
 
-returns_if : (b : Bool) (lcid : ℕ) (octets : List ℕ) (l : Link) → Rests l (if b then returns_by (refusal lcid octets l.ue) lcid octets l else loses lcid l)
+returns_if : (b : Bool) (lcid : ℕ) (octets : List ℕ) (l : Link)
+    → Rests l (if b then returns_by (refusal lcid octets l.ue) lcid octets l else loses lcid l)
 returns_if true lcid octets l = returns_by_rests (refusal lcid octets l.ue) lcid octets l refl
 returns_if false lcid octets l = loses_rests lcid l
 
@@ -315,7 +390,9 @@ kept_rests (Now octets) lcid l = returns_rests lcid octets l
 kept_rests Later lcid l = unseen_rests l l refl
 kept_rests Full lcid l = loses_rests lcid l
 
-takes_if : (b : Bool) (i : Item) (l : Link) → Rests l (if b then kept_by (taken_answer l.looping i.octets) i.lcid (record l { looping = after_taken l.looping i }) else l)
+takes_if : (b : Bool) (i : Item) (l : Link)
+    → Rests l (if b then kept_by (taken_answer l.looping i.octets) i.lcid
+    (record l { looping = after_taken l.looping i }) else l)
 takes_if true i l =
     let m : Link = record l { looping = after_taken l.looping i } in
     let k = taken_answer l.looping i.octets in

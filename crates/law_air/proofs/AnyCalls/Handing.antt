@@ -1,5 +1,6 @@
 -- As it builds a block an end hands nothing up.
-use Rattle.std.proofs.Common.{◌≡◌, ℕ, ◌-◌, Bool, true, false, if◌then◌else◌, Option, Some, None, Result, Ok, Err, List, [], ◌∷◌, ◌++◌, refl}
+use Rattle.std.proofs.Common.{◌≡◌, ℕ, ◌-◌, Bool, true, false, if◌then◌else◌, Option, Some, None, Result, Ok, Err, List}
+use Rattle.std.proofs.Common.{[], ◌∷◌, ◌++◌, refl}
 use Rattle.std.specs.List.{AllByRecursion}
 use Rattle.std.specs.Prelude.{slice_index}
 use Rattle.bearer.specs.Bearer.{Of, Life}
@@ -8,13 +9,17 @@ use Rattle.bearer.specs.declared.flow.Flow.TheVariants.{Tm, Um, Am}
 use Rattle.bearer.specs.Taking.{told}
 use Rattle.bearer.specs.Transparent.{data_told as tm_data_told}
 use Rattle.bearer.specs.Acknowledged.State.{State as AmBearer, Work, work}
-use Rattle.bearer.specs.Acknowledged.Taking.{writes_status, status_told, has_prohibit, fed as am_fed, feeds as am_feeds, data_told as am_data_told, data_size, feeding as am_feeding, answer_of, taking as am_taking}
+use Rattle.bearer.specs.Acknowledged.Taking.{writes_status, status_told, has_prohibit, fed as am_fed, feeds as am_feeds}
+use Rattle.bearer.specs.Acknowledged.Taking.{data_told as am_data_told, data_size, feeding as am_feeding, answer_of}
+use Rattle.bearer.specs.Acknowledged.Taking.{taking as am_taking}
 use Rattle.bearer_pdcp.specs.Ends.{Ends}
 use Rattle.bearer_pdcp.specs.Taking.{report_told, own_report_told, next_told, taken_told, taking_told}
 use Rattle.bearer_types.specs.declared.event.Event.{Event}
 use Rattle.bearer_types.specs.declared.event.Event.TheVariants as events
 use Rattle.bearer.specs.Unacknowledged.State.{State as UmBearer}
-use Rattle.bearer.specs.Unacknowledged.Taking.{Feeding, fed as um_fed, feeds as um_feeds, why_idle, data_told as um_data_told, size_in, feeding as um_feeding, has_more as um_has_more, taking as um_taking}
+use Rattle.bearer.specs.Unacknowledged.Taking.{Feeding, fed as um_fed, feeds as um_feeds, why_idle}
+use Rattle.bearer.specs.Unacknowledged.Taking.{data_told as um_data_told, size_in, feeding as um_feeding}
+use Rattle.bearer.specs.Unacknowledged.Taking.{has_more as um_has_more, taking as um_taking}
 use Rattle.harq.specs.declared.sender.Order.{Order}
 use Rattle.harq.specs.declared.sender.Visit.{Visit}
 use Rattle.harq.specs.declared.sender.Visit.TheVariants.{New, Resend, Silent}
@@ -22,7 +27,8 @@ use Rattle.harq.specs.Sending.{Sending}
 use Rattle.l2_node.specs.Building.{visited, visit, told_by, building}
 use Rattle.l2_node.specs.End.{End}
 use Rattle.l2_node.specs.Finding.{Numbers, find, has, bearer_at, lowest}
-use Rattle.l2_node.specs.Writing.{shares, Work as Writing, work as writing, nothing_written, wrote, writes, all_write, written}
+use Rattle.l2_node.specs.Writing.{shares, Work as Writing, work as writing, nothing_written, wrote, writes, all_write}
+use Rattle.l2_node.specs.Writing.{written}
 use Rattle.l2_types.specs.declared.channel.Channel.{Channel}
 use Rattle.l2_types.specs.declared.event.Clock.TheVariants.{Poll, Prohibit}
 use Rattle.l2_types.specs.declared.event.Waits.{Waits}
@@ -67,7 +73,8 @@ own_report_none lcid pdcp.Srb pdu = tt
 own_report_none lcid (pdcp.Um bits) pdu = report_none lcid (user_at bits pdu)
 own_report_none lcid (pdcp.Am bits) pdu = report_none lcid (user_at bits pdu)
 
-count_none : (lcid : ℕ) (kind : PdcpKind) (count : Option ℕ) (len : ℕ) (pdu : List ℕ) → HandUpNone (taken_told lcid kind count len pdu)
+count_none : (lcid : ℕ) (kind : PdcpKind) (count : Option ℕ) (len : ℕ) (pdu : List ℕ)
+    → HandUpNone (taken_told lcid kind count len pdu)
 count_none lcid kind (Some count) len pdu = (refl, tt)
 count_none lcid kind None len pdu = own_report_none lcid kind pdu
 
@@ -85,9 +92,12 @@ um_if : (t : Bool) (f g : Feeding) → HandUpNone f.events → HandUpNone g.even
 um_if true f g p q = q
 um_if false f g p q = p
 
-um_feeds_none : (os : List Offer) (size : ℕ) (held : Option ℕ) (f : Feeding) → HandUpNone f.events → HandUpNone (um_feeds os size held f).events
+um_feeds_none : (os : List Offer) (size : ℕ) (held : Option ℕ) (f : Feeding) → HandUpNone f.events
+    → HandUpNone (um_feeds os size held f).events
 um_feeds_none [] size held f p = p
-um_feeds_none (o ∷ os) size held f p = um_if (is_hungry f.tx size held) f (um_feeds os size held (um_fed f)) p (um_feeds_none os size held (um_fed f) (none_both f.events (taking_told f.pdcp) p (taking_none f.pdcp)))
+um_feeds_none (o ∷ os) size held f p =
+    um_if (is_hungry f.tx size held) f (um_feeds os size held (um_fed f)) p
+    (um_feeds_none os size held (um_fed f) (none_both f.events (taking_told f.pdcp) p (taking_none f.pdcp)))
 
 um_data_none : (lcid bits : ℕ) (more : Bool) (why : Waits) (t : Taken) → HandUpNone (um_data_told lcid bits more why t)
 um_data_none lcid bits more why (Piece number first polled octets) = (refl, tt)
@@ -103,7 +113,8 @@ um_none b size held =
     let f = um_feeding b size held in
     let t = um_taken f.tx (size_in size) held in
     none_both f.events (um_data_told f.pdcp.lcid b.bits (um_has_more f.pdcp) (why_idle f.tx held) t)
-    (um_feeds_none (offers b.pdcp.tx) (size_in size) held (record { pdcp = b.pdcp; tx = b.tx; events = [] }) tt) (um_data_none f.pdcp.lcid b.bits (um_has_more f.pdcp) (why_idle f.tx held) t)
+    (um_feeds_none (offers b.pdcp.tx) (size_in size) held (record { pdcp = b.pdcp; tx = b.tx; events = [] }) tt)
+    (um_data_none f.pdcp.lcid b.bits (um_has_more f.pdcp) (why_idle f.tx held) t)
 
 -- ---- an acknowledged bearer
 
@@ -111,9 +122,12 @@ am_if : (t : Bool) (f g : Work) → HandUpNone f.events → HandUpNone g.events 
 am_if true f g p q = q
 am_if false f g p q = p
 
-am_feeds_none : (os : List Offer) (size : ℕ) (held : Option ℕ) (w : Work) → HandUpNone w.events → HandUpNone (am_feeds os size held w).events
+am_feeds_none : (os : List Offer) (size : ℕ) (held : Option ℕ) (w : Work) → HandUpNone w.events
+    → HandUpNone (am_feeds os size held w).events
 am_feeds_none [] size held w p = p
-am_feeds_none (o ∷ os) size held w p = am_if (hungry w.tx size held) w (am_feeds os size held (am_fed w)) p (am_feeds_none os size held (am_fed w) (none_both w.events (taking_told w.pdcp) p (taking_none w.pdcp)))
+am_feeds_none (o ∷ os) size held w p =
+    am_if (hungry w.tx size held) w (am_feeds os size held (am_fed w)) p
+    (am_feeds_none os size held (am_fed w) (none_both w.events (taking_told w.pdcp) p (taking_none w.pdcp)))
 
 am_data_none : (lcid : ℕ) (t : Taken) → HandUpNone (am_data_told lcid t)
 am_data_none lcid (Piece number first polled octets) = (refl, none_if polled (events.Start lcid Poll ∷ []) (refl, tt))
@@ -124,7 +138,11 @@ am_data_none lcid Held = (refl, tt)
 am_data_none lcid Stopped = (refl, tt)
 
 status_none : (b : AmBearer) (size : ℕ) → HandUpNone (status_told b.pdcp.lcid (has_prohibit b) b.rx size)
-status_none b size = none_if (writes_status b.rx size) _ (refl, none_if (has_prohibit b) (events.Start b.pdcp.lcid Prohibit ∷ []) (refl, tt))
+status_none b size =
+    none_if (writes_status b.rx size) _ (
+      refl,
+      none_if (has_prohibit b) (events.Start b.pdcp.lcid Prohibit ∷ []) (refl, tt),
+    )
 
 am_none : (b : AmBearer) (size : ℕ) (held : Option ℕ) → HandUpNone (am_taking b size held)
 unfolding am_taking
@@ -133,7 +151,9 @@ am_none b size held =
     let w = am_feeding b size held in
     let t = answer_of w room held in
     none_both w.events (am_data_told w.pdcp.lcid t)
-    (am_feeds_none (offers b.pdcp.tx) room held (work b.pdcp b.tx (status_told b.pdcp.lcid (has_prohibit b) b.rx size)) (status_none b size)) (am_data_none w.pdcp.lcid t)
+    (am_feeds_none (offers b.pdcp.tx) room held
+    (work b.pdcp b.tx (status_told b.pdcp.lcid (has_prohibit b) b.rx size)) (status_none b size))
+    (am_data_none w.pdcp.lcid t)
 
 -- ---- a block
 
@@ -151,20 +171,26 @@ flow_none lcid (Tm b) size held = tm_none lcid (tm_taken b (size - 3))
 flow_none lcid (Um b) size held = um_none b size held
 flow_none lcid (Am b) size held = am_none b size held
 
-writes_if : (t : Bool) (b : Of Life) (at lcid share : ℕ) (held : Option ℕ) (w : Writing) → HandUpNone w.block.events → HandUpNone (if t then wrote at b lcid share held w else w).block.events
-writes_if true b at lcid share held w p = none_both w.block.events (told b.lcid b.state.flow share held) p (flow_none b.lcid b.state.flow share held)
+writes_if : (t : Bool) (b : Of Life) (at lcid share : ℕ) (held : Option ℕ) (w : Writing) → HandUpNone w.block.events
+    → HandUpNone (if t then wrote at b lcid share held w else w).block.events
+writes_if true b at lcid share held w p =
+    none_both w.block.events (told b.lcid b.state.flow share held) p (flow_none b.lcid b.state.flow share held)
 writes_if false b at lcid share held w p = p
 
-all_none : (sender : Sending) (numbers : Numbers) (amounts : List ℕ) (cs : List Channel) (w : Writing) → HandUpNone w.block.events → HandUpNone (all_write sender numbers amounts cs w).block.events
+all_none : (sender : Sending) (numbers : Numbers) (amounts : List ℕ) (cs : List Channel) (w : Writing)
+    → HandUpNone w.block.events → HandUpNone (all_write sender numbers amounts cs w).block.events
 all_none sender numbers amounts [] w p = p
 all_none sender numbers amounts (c ∷ cs) w p =
     let share = slice_index amounts c.lcid in
     let held = lowest sender numbers c.lcid in
-    all_none sender numbers amounts cs (writes c.lcid share held w) (writes_if (has c.lcid w.bearers) (bearer_at w.bearers (find c.lcid w.bearers)) (find c.lcid w.bearers) c.lcid share held w p)
+    all_none sender numbers amounts cs (writes c.lcid share held w)
+    (writes_if (has c.lcid w.bearers) (bearer_at w.bearers (find c.lcid w.bearers)) (find c.lcid w.bearers) c.lcid
+    share held w p)
 
 told_none : (v : Visit) (grant : ℕ) (e : End) → HandUpNone (told_by v grant e)
 unfolding written
-told_none New grant e = all_none e.sender e.numbers (shares e grant) e.buckets.channels (writing e.bearers (nothing_written e.side)) tt
+told_none New grant e =
+    all_none e.sender e.numbers (shares e grant) e.buckets.channels (writing e.bearers (nothing_written e.side)) tt
 told_none (Resend rv) grant e = tt
 told_none Silent grant e = tt
 

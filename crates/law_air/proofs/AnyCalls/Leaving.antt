@@ -8,17 +8,20 @@ use Rattle.l2_types.specs.declared.side.Side.TheVariants.{Nb, Ue}
 use Rattle.air_link.specs.Link.{Link}
 use Rattle.air_link.specs.Telling.{tells_all}
 use Rattle.air_link.specs.Lines.{bears, discards, visits, reports, listens, moves, hands_over}
-use Rattle.law_air.specs.AnyCalls.Calls.{Call, Bears, Discards, Visits, Reports, Listens, Loops, Expires, Forges, HandsOver, ReceiversExpire, SendersExpire, after}
+use Rattle.law_air.specs.AnyCalls.Calls.{Call, Bears, Discards, Visits, Reports, Listens, Loops, Expires, Forges}
+use Rattle.law_air.specs.AnyCalls.Calls.{HandsOver, ReceiversExpire, SendersExpire, after}
 use Rattle.law_air.specs.AnyCalls.Deeds.{entity, entities, cleared, left}
 use Rattle.law_air.proofs.AnyCalls.Going.{told_rests, loops_rests}
 use Rattle.law_air.proofs.AnyCalls.Advancing.{expires_rests, receivers_rest, senders_rest, forges_rests, loop_set_rests}
 
-hands_over_leaves : (keys : Keys) (l : Link) → entities (hands_over keys l) ≡ record { nb = cleared (entity l.nb); ue = cleared (entity l.ue) }
+hands_over_leaves : (keys : Keys) (l : Link)
+    → entities (hands_over keys l) ≡ record { nb = cleared (entity l.nb); ue = cleared (entity l.ue) }
 unfolding hands_over left_cell joined reset
 hands_over_leaves keys l =
     let j = moves keys l in
     let m = tells_all Nb (leaving l.nb) j in
-    (loops_rests (tells_all Ue (leaving l.ue) m)).entities_are ∙ told_rests Ue (leaving l.ue) m ∙ told_rests Nb (leaving l.nb) j
+    (loops_rests (tells_all Ue (leaving l.ue) m)).entities_are ∙ told_rests Ue (leaving l.ue) m
+    ∙ told_rests Nb (leaving l.nb) j
 
 pub calls_leave : (c : Call) (l : Link) → entities (after c l) ≡ left c (entities l)
 unfolding bears discards visits reports listens with_bearer with_visits discarding

@@ -14,18 +14,22 @@ use Rattle.test_loop.specs.Items.{Item}
 use Rattle.test_loop.specs.Loops.{is_on, taken_answer, after_taken, after_set}
 use Rattle.air_link.specs.Link.{Link, says}
 use Rattle.air_link.specs.Telling.{submits}
-use Rattle.air_link.specs.Loops.{loses, returns_by, returns, returns_all, kept_by, takes, takes_all, loops, owed, paid, pays, loop_set}
+use Rattle.air_link.specs.Loops.{loses, returns_by, returns, returns_all, kept_by, takes, takes_all, loops, owed, paid}
+use Rattle.air_link.specs.Loops.{pays, loop_set}
 use Rattle.law_air.specs.AnyCalls.Counts.{ups, loopeds}
 use Rattle.law_air.specs.AnyCalls.Told.{Adds}
 use Rattle.law_air.proofs.AnyCalls.Adding.{stays, adds_then, says_plain, same_grows, one_grows, kept_one, kept_none}
 use Rattle.law_air.proofs.AnyCalls.Telling.{is_eq, is_apart}
 
 loses_adds : (lcid : ℕ) (l : Link) → Adds [] l (loses lcid l)
-loses_adds lcid l = says_plain (records.Of Ue (Drop lcid losts.Loop)) l (record { no_up = λ s k. refl; no_loop = λ k. refl; no_run = refl })
+loses_adds lcid l =
+    says_plain (records.Of Ue (Drop lcid losts.Loop)) l
+    (record { no_up = λ s k. refl; no_loop = λ k. refl; no_run = refl })
 
 -- ---- an SDU comes back
 
-looped_adds : (lcid : ℕ) (octets : List ℕ) (l : Link) → Adds [] l (submits Ue lcid (says (records.Looped lcid octets) (record l { ue = submitted lcid octets l.ue })))
+looped_adds : (lcid : ℕ) (octets : List ℕ) (l : Link)
+    → Adds [] l (submits Ue lcid (says (records.Looped lcid octets) (record l { ue = submitted lcid octets l.ue })))
 looped_adds lcid octets l =
     let one = records.Looped lcid octets in
     record {
@@ -36,17 +40,21 @@ looped_adds lcid octets l =
         nb_delivered = same_grows (λ k. ups Nb k (one ∷ [])) l.up.delivered l.up.delivered refl (λ k. refl);
         ue_delivered = same_grows (λ k. ups Ue k (one ∷ [])) l.down.delivered l.down.delivered refl (λ k. refl);
         nb_submitted = refl;
-        ue_submitted = one_grows (λ k. loopeds k (one ∷ [])) l.up.submitted lcid (kept_one (lcid == lcid) one (is_eq lcid)) (λ k apart. kept_none (lcid == k) one (is_apart lcid k apart));
+        ue_submitted =
+            one_grows (λ k. loopeds k (one ∷ [])) l.up.submitted lcid (kept_one (lcid == lcid) one (is_eq lcid))
+            (λ k apart. kept_none (lcid == k) one (is_apart lcid k apart));
         flown_is = refl;
         none_of_run = refl;
       };
     }
 
-returns_by_adds : (r : Option SubmitRefusal) (lcid : ℕ) (octets : List ℕ) (l : Link) → Adds [] l (returns_by r lcid octets l)
+returns_by_adds : (r : Option SubmitRefusal) (lcid : ℕ) (octets : List ℕ) (l : Link)
+    → Adds [] l (returns_by r lcid octets l)
 returns_by_adds (Some broken) lcid octets l = loses_adds lcid l
 returns_by_adds None lcid octets l = looped_adds lcid octets l
 
-returns_if : (b : Bool) (lcid : ℕ) (octets : List ℕ) (l : Link) → Adds [] l (if b then returns_by (refusal lcid octets l.ue) lcid octets l else loses lcid l)
+returns_if : (b : Bool) (lcid : ℕ) (octets : List ℕ) (l : Link)
+    → Adds [] l (if b then returns_by (refusal lcid octets l.ue) lcid octets l else loses lcid l)
 returns_if true lcid octets l = returns_by_adds (refusal lcid octets l.ue) lcid octets l
 returns_if false lcid octets l = loses_adds lcid l
 
@@ -66,7 +74,9 @@ kept_adds (Now octets) lcid l = returns_adds lcid octets l
 kept_adds Later lcid l = stays l l refl
 kept_adds Full lcid l = loses_adds lcid l
 
-takes_if : (b : Bool) (i : Item) (l : Link) → Adds [] l (if b then kept_by (taken_answer l.looping i.octets) i.lcid (record l { looping = after_taken l.looping i }) else l)
+takes_if : (b : Bool) (i : Item) (l : Link)
+    → Adds [] l (if b then kept_by (taken_answer l.looping i.octets) i.lcid
+    (record l { looping = after_taken l.looping i }) else l)
 takes_if true i l =
     let k = taken_answer l.looping i.octets in
     let m : Link = record l { looping = after_taken l.looping i } in
@@ -78,7 +88,8 @@ takes_adds i l = takes_if (is_on l.looping.mode) i l
 
 takes_all_adds : (is : List Item) (l : Link) → Adds [] l (takes_all is l)
 takes_all_adds [] l = stays l l refl
-takes_all_adds (i ∷ is) l = adds_then [] [] l (takes i l) (takes_all is (takes i l)) (takes_adds i l) (takes_all_adds is (takes i l))
+takes_all_adds (i ∷ is) l =
+    adds_then [] [] l (takes i l) (takes_all is (takes i l)) (takes_adds i l) (takes_all_adds is (takes i l))
 
 -- ---- the stages
 

@@ -1,5 +1,6 @@
 -- What a TTI adds.
-use Rattle.std.proofs.Common.{ℕ, Bool, true, false, if◌then◌else◌, [], ◌∷◌, ◌++◌, length, append_assoc, refl, ap, sym, subst, ◌∙◌, ◌≡◌}
+use Rattle.std.proofs.Common.{ℕ, Bool, true, false, if◌then◌else◌, [], ◌∷◌, ◌++◌, length, append_assoc, refl, ap, sym}
+use Rattle.std.proofs.Common.{subst, ◌∙◌, ◌≡◌}
 use Rattle.air_record.specs.declared.line.Outcome.{Outcome}
 use Rattle.air_record.specs.declared.record.Record.TheVariants as records
 use Rattle.l2_node.specs.Hearing.{ticked}
@@ -36,7 +37,8 @@ pub times_adds : (side : Side) (l : Link) → Adds [] l (times side l)
 times_adds side l =
     let r = ticked (end_of side l) in
     let m = tells_all side r.events (ticks side l) in
-    adds_then [] [] l m (grows side m) (end_tells side (record (end_of side l) { bearers = r.bearers }) r.events l) (grows_adds side m)
+    adds_then [] [] l m (grows side m) (end_tells side (record (end_of side l) { bearers = r.bearers }) r.events l)
+    (grows_adds side m)
 
 keeps_if : (b : Bool) (l : Link) → Adds [] l (if b then loops l else l)
 keeps_if true l = loops_adds l
@@ -69,7 +71,8 @@ pub record Passes (t up_grant : ℕ) (up : Outcome) (down_grant : ℕ) (down : O
   pub upward : Ups t up_grant up (loops (downlink t down_grant down l)) m
   pub adds : Adds (downward.flown ++ upward.flown) l m
   pub down_turn : TakesTurn t (down_order down_grant) l.nb.sender m.nb.sender downward.flown
-  pub down_answer : length l.nb.sender.processes ≡ 8 → Answers t (ndi_of m.nb.sender t) (came_of downward.flown) l.ue.receiver m.ue.receiver
+  pub down_answer : length l.nb.sender.processes ≡ 8
+      → Answers t (ndi_of m.nb.sender t) (came_of downward.flown) l.ue.receiver m.ue.receiver
   pub up_turn : TakesTurn t (up_ordered up_grant up (grant_ndi l.nb.receiver t)) l.ue.sender m.ue.sender upward.flown
   pub up_heard : m.nb.receiver ≡ heard_up t (came_of upward.flown) l.nb.receiver
 
@@ -84,26 +87,36 @@ passes_adds t up_grant up down_grant down l =
     let last = uplink t up_grant up n in
     let down' = downlink_turn t down_grant down l in
     let up' = uplink_turn t up_grant up n in
-    let nb : last.nb.sender ≡ m.nb.sender = up'.nb_rests ∙ ap (λ (e : Entities). e.nb.sender) (loops_rests m).entities_are in
-    let ue : n.ue.sender ≡ l.ue.sender = ap (λ (e : Entities). e.ue.sender) (loops_rests m).entities_are ∙ down'.ue_rests in
-    let nb_hears : n.nb.receiver ≡ l.nb.receiver = ap (λ (e : Entities). e.nb.receiver) (loops_rests m).entities_are ∙ down'.nb_rests in
-    let ue_hears : last.ue.receiver ≡ m.ue.receiver = up'.ue_rests ∙ ap (λ (e : Entities). e.ue.receiver) (loops_rests m).entities_are in
+    let nb : last.nb.sender ≡ m.nb.sender = up'.nb_rests
+    ∙ ap (λ (e : Entities). e.nb.sender) (loops_rests m).entities_are in
+    let ue : n.ue.sender ≡ l.ue.sender = ap (λ (e : Entities). e.ue.sender) (loops_rests m).entities_are
+    ∙ down'.ue_rests in
+    let nb_hears : n.nb.receiver ≡ l.nb.receiver = ap (λ (e : Entities). e.nb.receiver) (loops_rests m).entities_are
+    ∙ down'.nb_rests in
+    let ue_hears : last.ue.receiver ≡ m.ue.receiver = up'.ue_rests
+    ∙ ap (λ (e : Entities). e.ue.receiver) (loops_rests m).entities_are in
     record {
       downward = d;
       upward = u;
       adds = adds_then d.flown u.flown l n last to_n u.adds;
-      down_turn = subst (λ (s : Sending). TakesTurn t (down_order down_grant) l.nb.sender s d.flown) (sym nb) down'.nb_turn;
+      down_turn = subst (λ (s : Sending). TakesTurn t (down_order down_grant) l.nb.sender s d.flown) (sym nb)
+          down'.nb_turn;
       down_answer = λ eight.
           subst (λ (s : Sending). Answers t (ndi_of s t) (came_of d.flown) l.ue.receiver last.ue.receiver) (sym nb)
-          (subst (λ (r : Receiving). Answers t (ndi_of m.nb.sender t) (came_of d.flown) l.ue.receiver r) (sym ue_hears) (down'.ue_answer eight));
-      up_turn = subst (λ (r : Receiving). TakesTurn t (up_ordered up_grant up (grant_ndi r t)) l.ue.sender last.ue.sender u.flown) nb_hears
-          (subst (λ (s : Sending). TakesTurn t (up_ordered up_grant up (grant_ndi n.nb.receiver t)) s last.ue.sender u.flown) ue up'.ue_turn);
+          (subst (λ (r : Receiving). Answers t (ndi_of m.nb.sender t) (came_of d.flown) l.ue.receiver r)
+          (sym ue_hears) (down'.ue_answer eight));
+      up_turn =
+          subst (λ (r : Receiving). TakesTurn t (up_ordered up_grant up (grant_ndi r t)) l.ue.sender last.ue.sender
+          u.flown) nb_hears
+          (subst (λ (s : Sending). TakesTurn t (up_ordered up_grant up (grant_ndi n.nb.receiver t)) s last.ue.sender
+          u.flown) ue up'.ue_turn);
       up_heard = up'.nb_heard ∙ ap (heard_up t (came_of u.flown)) nb_hears;
     }
 
 -- from the number of a TTI on
 begun : (asleep : Bool) (up_grant : ℕ) (up : Outcome) (down_grant : ℕ) (down : Outcome) (l r m : Link)
-    → Adds (sleeping asleep) (begins l) r → entities r ≡ entities l → Passes l.ttis up_grant (missed asleep up) down_grant (missed asleep down) r m
+    → Adds (sleeping asleep) (begins l) r → entities r ≡ entities l
+    → Passes l.ttis up_grant (missed asleep up) down_grant (missed asleep down) r m
     → AddsTti asleep up_grant up down_grant down l m
 begun asleep up_grant up down_grant down l r m to_r rests p =
     let b = begins l in
@@ -125,10 +138,18 @@ begun asleep up_grant up down_grant down l r m to_r rests p =
       };
       down_is = p.downward.is_down;
       up_is = p.upward.is_up;
-      down_turn = subst (λ (e : Entities). TakesTurn l.ttis (down_order down_grant) e.nb.sender m.nb.sender p.downward.flown) rests p.down_turn;
+      down_turn =
+          subst (λ (e : Entities). TakesTurn l.ttis (down_order down_grant) e.nb.sender m.nb.sender p.downward.flown)
+          rests p.down_turn;
       down_answer = λ eight.
-          subst (λ (e : Entities). Answers l.ttis (ndi_of m.nb.sender l.ttis) (came_of p.downward.flown) e.ue.receiver m.ue.receiver) rests (p.down_answer (ap (λ (e : Entities). length e.nb.sender.processes) rests ∙ eight));
-      up_turn = subst (λ (e : Entities). TakesTurn l.ttis (up_ordered up_grant (missed asleep up) (grant_ndi e.nb.receiver l.ttis)) e.ue.sender m.ue.sender p.upward.flown) rests p.up_turn;
+          subst (λ (e : Entities). Answers l.ttis (ndi_of m.nb.sender l.ttis) (came_of p.downward.flown) e.ue.receiver
+          m.ue.receiver) rests
+          (p.down_answer (ap (λ (e : Entities). length e.nb.sender.processes) rests ∙ eight));
+      up_turn =
+          subst
+          (λ (e : Entities). TakesTurn l.ttis
+          (up_ordered up_grant (missed asleep up) (grant_ndi e.nb.receiver l.ttis)) e.ue.sender m.ue.sender
+          p.upward.flown) rests p.up_turn;
       up_heard = p.up_heard ∙ ap (λ (e : Entities). heard_up l.ttis (came_of p.upward.flown) e.nb.receiver) rests;
     }
 
@@ -141,7 +162,9 @@ tti_adds up_grant up down_grant down l =
     let s = tells_sleep asleep b in
     let r = timed s in
     let to_r = then_still (sleeping asleep) b s r (sleep_adds asleep b) (timed_adds s) in
-    begun asleep up_grant up down_grant down l r (tti up_grant up down_grant down l) to_r (woken_rests asleep l).entities_are (passes_adds l.ttis up_grant (missed asleep up) down_grant (missed asleep down) r)
+    begun asleep up_grant up down_grant down l r (tti up_grant up down_grant down l) to_r
+    (woken_rests asleep l).entities_are
+    (passes_adds l.ttis up_grant (missed asleep up) down_grant (missed asleep down) r)
 
 pub drain_adds : (grant : ℕ) (l : Link) → AddsTti false grant intact grant intact l (drain_tti grant l)
 unfolding drain_tti
@@ -150,4 +173,5 @@ drain_adds grant l =
     let m = grows Nb b in
     let r = grows Ue m in
     let to_r = adds_then [] [] b m r (grows_adds Nb b) (grows_adds Ue m) in
-    begun false grant intact grant intact l r (drain_tti grant l) to_r (grown_rests l).entities_are (passes_adds l.ttis grant intact grant intact r)
+    begun false grant intact grant intact l r (drain_tti grant l) to_r (grown_rests l).entities_are
+    (passes_adds l.ttis grant intact grant intact r)

@@ -1,5 +1,6 @@
 -- SDUs that come back are part of those that went up: nothing is told, a record, records behind others.
-use Rattle.std.proofs.Common.{◌≡◌, ◌≤◌, ℕ, zero, suc, ◌+◌, ◌-◌, ◌==◌, List, [], ◌∷◌, ◌++◌, length, take, append_assoc, append-nil, refl, ap, sym, subst, ◌∙◌, arith, inl, inr}
+use Rattle.std.proofs.Common.{◌≡◌, ◌≤◌, ℕ, zero, suc, ◌+◌, ◌-◌, ◌==◌, List, [], ◌∷◌, ◌++◌, length, take, append_assoc}
+use Rattle.std.proofs.Common.{append-nil, refl, ap, sym, subst, ◌∙◌, arith, inl, inr}
 use Rattle.std.specs.List.{AllByRecursion, filter}
 use Rattle.std.proofs.lemmas.Bool.{cases_lt}
 use Rattle.std.proofs.lemmas.Grind.{flat_map-append}
@@ -43,19 +44,23 @@ part_both (x ∷ xs) (y ∷ ys) us vs (inr p) q = inr (part_both (x ∷ xs) ys u
 
 part_front : (xs ys zs : List Item) → ArePart (xs ++ ys) zs → ArePart xs zs
 part_front xs ys zs p =
-    part_then xs (xs ++ ys) zs (subst (λ (x : List Item). ArePart x (xs ++ ys)) (append-nil xs) (part_both xs xs [] ys (part_same xs) tt)) p
+    part_then xs (xs ++ ys) zs
+    (subst (λ (x : List Item). ArePart x (xs ++ ys)) (append-nil xs) (part_both xs xs [] ys (part_same xs) tt)) p
 
 -- a part, with what follows on the rest of it
-pub part_on : (xs ks us rs fs : List Item) → ArePart (xs ++ ks) us → ArePart rs (ks ++ fs) → ArePart (xs ++ rs) (us ++ fs)
+pub part_on : (xs ks us rs fs : List Item) → ArePart (xs ++ ks) us → ArePart rs (ks ++ fs)
+    → ArePart (xs ++ rs) (us ++ fs)
 part_on xs ks us rs fs p q =
     let mid : ArePart (xs ++ rs) (xs ++ (ks ++ fs)) = part_both xs xs rs (ks ++ fs) (part_same xs) q in
-    let near : ArePart (xs ++ rs) ((xs ++ ks) ++ fs) = subst (λ (z : List Item). ArePart (xs ++ rs) z) (sym (append_assoc xs ks fs)) mid in
+    let near : ArePart (xs ++ rs) ((xs ++ ks) ++ fs) =
+    subst (λ (z : List Item). ArePart (xs ++ rs) z) (sym (append_assoc xs ks fs)) mid in
     part_then (xs ++ rs) ((xs ++ ks) ++ fs) (us ++ fs) near (part_both (xs ++ ks) us fs fs p (part_same fs))
 
 -- ---- counts by channel
 
 pub on_both : (lcid : ℕ) (xs ys : List Item) → on lcid (xs ++ ys) ≡ on lcid xs + on lcid ys
-on_both lcid xs ys = ap (λ (zs : List Item). length zs) (filter-append (λ i. i.lcid == lcid) xs ys) ∙ length-append (filter (λ i. i.lcid == lcid) xs) (filter (λ i. i.lcid == lcid) ys)
+on_both lcid xs ys = ap (λ (zs : List Item). length zs) (filter-append (λ i. i.lcid == lcid) xs ys)
+    ∙ length-append (filter (λ i. i.lcid == lcid) xs) (filter (λ i. i.lcid == lcid) ys)
 
 -- ---- nothing is told
 
@@ -72,13 +77,15 @@ back_none mode w v e = record {
 
 -- ---- a record
 
-one_at : (mode : Mode) (w : List Item) (one : Record) (n : ℕ) → ArePart (looped one) (w ++ due mode one) → ArePart (returned (take n (one ∷ []))) (w ++ gone_up mode (take n (one ∷ [])))
+one_at : (mode : Mode) (w : List Item) (one : Record) (n : ℕ) → ArePart (looped one) (w ++ due mode one)
+    → ArePart (returned (take n (one ∷ []))) (w ++ gone_up mode (take n (one ∷ [])))
 one_at mode w one zero p = tt
 one_at mode w one (suc zero) p = rw (append-nil (looped one)) (rw (append-nil (due mode one)) p)
 one_at mode w one (suc (suc n)) p = rw (append-nil (looped one)) (rw (append-nil (due mode one)) p)
 
 pub back_one : (mode : Mode) (w v : List Item) (one : Record) → ArePart (looped one ++ v) (w ++ due mode one)
-    → ((lcid : ℕ) → on lcid w + on lcid (due mode one) ≤ (on lcid (looped one) + drops lcid (one ∷ [])) + on lcid v) → ComeBack mode w v (one ∷ [])
+    → ((lcid : ℕ) → on lcid w + on lcid (due mode one) ≤ (on lcid (looped one) + drops lcid (one ∷ [])) + on lcid v)
+    → ComeBack mode w v (one ∷ [])
 back_one mode w v one p q = record {
   each = λ n. one_at mode w one n (part_front (looped one) v (w ++ due mode one) p);
   whole = rw (append-nil (looped one)) (rw (append-nil (due mode one)) p);
@@ -87,7 +94,8 @@ back_one mode w v one p q = record {
 
 -- ---- records behind others
 
-behind : (mode : Mode) (w v u : List Item) (x y : List Record) → ArePart (returned x ++ v) (w ++ gone_up mode x) → ArePart (returned y ++ u) (v ++ gone_up mode y)
+behind : (mode : Mode) (w v u : List Item) (x y : List Record) → ArePart (returned x ++ v) (w ++ gone_up mode x)
+    → ArePart (returned y ++ u) (v ++ gone_up mode y)
     → ArePart (returned (x ++ y) ++ u) (w ++ gone_up mode (x ++ y))
 behind mode w v u x y p q =
     let a = returned x in
@@ -95,29 +103,42 @@ behind mode w v u x y p q =
     let f = gone_up mode x in
     let g = gone_up mode y in
     let whole : ArePart (a ++ (b ++ u)) ((w ++ f) ++ g) = part_on a v (w ++ f) (b ++ u) g p q in
-    let left : returned (x ++ y) ++ u ≡ a ++ (b ++ u) = ap (λ (z : List Item). z ++ u) (flat_map-append looped x y) ∙ append_assoc a b u in
-    let right : w ++ gone_up mode (x ++ y) ≡ (w ++ f) ++ g = ap (λ (z : List Item). w ++ z) (flat_map-append (due mode) x y) ∙ sym (append_assoc w f g) in
-    subst (λ (z : List Item). ArePart z (w ++ gone_up mode (x ++ y))) (sym left) (subst (λ (z : List Item). ArePart (a ++ (b ++ u)) z) (sym right) whole)
+    let left : returned (x ++ y) ++ u ≡ a ++ (b ++ u) = ap (λ (z : List Item). z ++ u) (flat_map-append looped x y)
+    ∙ append_assoc a b u in
+    let right : w ++ gone_up mode (x ++ y) ≡ (w ++ f) ++ g =
+    ap (λ (z : List Item). w ++ z) (flat_map-append (due mode) x y) ∙ sym (append_assoc w f g) in
+    subst (λ (z : List Item). ArePart z (w ++ gone_up mode (x ++ y))) (sym left)
+    (subst (λ (z : List Item). ArePart (a ++ (b ++ u)) z) (sym right) whole)
 
-then_at : (mode : Mode) (w v u : List Item) (x y : List Record) (n : ℕ) → ComeBack mode w v x → ComeBack mode v u y → ArePart (returned (take n (x ++ y))) (w ++ gone_up mode (take n (x ++ y)))
+then_at : (mode : Mode) (w v u : List Item) (x y : List Record) (n : ℕ) → ComeBack mode w v x → ComeBack mode v u y
+    → ArePart (returned (take n (x ++ y))) (w ++ gone_up mode (take n (x ++ y)))
 then_at mode w v u x y n p q = elim (cases_lt (length x) n) [
   | inl above ↦
       let k = n - length x in
       let at : length x + k ≡ n = omega arith in
       let front : take n (x ++ y) ≡ x ++ take k y = ap (λ (i : ℕ). take i (x ++ y)) (sym at) ∙ take-append-add x y k in
-      let some : ArePart (returned (take k y) ++ []) (v ++ gone_up mode (take k y)) = subst (λ (z : List Item). ArePart z (v ++ gone_up mode (take k y))) (sym (append-nil (returned (take k y)))) (q.each k) in
-      let all : ArePart (returned (x ++ take k y) ++ []) (w ++ gone_up mode (x ++ take k y)) = behind mode w v [] x (take k y) p.whole some in
-      subst (λ (z : List Record). ArePart (returned z) (w ++ gone_up mode z)) (sym front) (subst (λ (z : List Item). ArePart z (w ++ gone_up mode (x ++ take k y))) (append-nil (returned (x ++ take k y))) all)
-  | inr within ↦ subst (λ (z : List Record). ArePart (returned z) (w ++ gone_up mode z)) (sym (take-append-le n x y within)) (p.each n)
+      let some : ArePart (returned (take k y) ++ []) (v ++ gone_up mode (take k y)) =
+      subst (λ (z : List Item). ArePart z (v ++ gone_up mode (take k y))) (sym (append-nil (returned (take k y))))
+      (q.each k) in
+      let all : ArePart (returned (x ++ take k y) ++ []) (w ++ gone_up mode (x ++ take k y)) =
+      behind mode w v [] x (take k y) p.whole some in
+      subst (λ (z : List Record). ArePart (returned z) (w ++ gone_up mode z)) (sym front)
+      (subst (λ (z : List Item). ArePart z (w ++ gone_up mode (x ++ take k y)))
+      (append-nil (returned (x ++ take k y))) all)
+  | inr within ↦ subst (λ (z : List Record). ArePart (returned z) (w ++ gone_up mode z))
+      (sym (take-append-le n x y within)) (p.each n)
 ]
 
-pub back_then : (mode : Mode) (w v u : List Item) (x y : List Record) → ComeBack mode w v x → ComeBack mode v u y → ComeBack mode w u (x ++ y)
+pub back_then : (mode : Mode) (w v u : List Item) (x y : List Record) → ComeBack mode w v x → ComeBack mode v u y
+    → ComeBack mode w u (x ++ y)
 back_then mode w v u x y p q = record {
   each = λ n. then_at mode w v u x y n p q;
   whole = behind mode w v u x y p.whole q.whole;
   others = λ lcid.
-      let came : on lcid (returned (x ++ y)) ≡ on lcid (returned x) + on lcid (returned y) = ap (on lcid) (flat_map-append looped x y) ∙ on_both lcid (returned x) (returned y) in
-      let went : on lcid (gone_up mode (x ++ y)) ≡ on lcid (gone_up mode x) + on lcid (gone_up mode y) = ap (on lcid) (flat_map-append (due mode) x y) ∙ on_both lcid (gone_up mode x) (gone_up mode y) in
+      let came : on lcid (returned (x ++ y)) ≡ on lcid (returned x) + on lcid (returned y) =
+      ap (on lcid) (flat_map-append looped x y) ∙ on_both lcid (returned x) (returned y) in
+      let went : on lcid (gone_up mode (x ++ y)) ≡ on lcid (gone_up mode x) + on lcid (gone_up mode y) =
+      ap (on lcid) (flat_map-append (due mode) x y) ∙ on_both lcid (gone_up mode x) (gone_up mode y) in
       let lost : drops lcid (x ++ y) ≡ drops lcid x + drops lcid y = count_then (is_dropped lcid) x y in
       omega (arith, came, went, lost, p.others lcid, q.others lcid);
 }
@@ -127,11 +148,14 @@ back_then mode w v u x y p q = record {
 abbrev pub IsSilent : Record → Type 0
 IsSilent one = (looped one ≡ []) × ((mode : Mode) → due mode one ≡ [])
 
-pub back_silent : (mode : Mode) (w : List Item) (told : List Record) → AllByRecursion IsSilent told → ComeBack mode w w told
+pub back_silent : (mode : Mode) (w : List Item) (told : List Record) → AllByRecursion IsSilent told
+    → ComeBack mode w w told
 back_silent mode w [] a = back_none mode w w refl
 back_silent mode w (one ∷ more) a =
     let none = a.0.0 in
     let nothing = a.0.1 mode in
-    let told : ArePart (looped one ++ w) (w ++ due mode one) = rw none (rw nothing (part_of_same w (w ++ []) (append-nil w))) in
-    let count : (lcid : ℕ) → on lcid w + on lcid (due mode one) ≤ (on lcid (looped one) + drops lcid (one ∷ [])) + on lcid w = λ lcid. rw none (rw nothing (omega arith)) in
+    let told : ArePart (looped one ++ w) (w ++ due mode one) =
+    rw none (rw nothing (part_of_same w (w ++ []) (append-nil w))) in
+    let count : (lcid : ℕ) → on lcid w + on lcid (due mode one)
+    ≤ (on lcid (looped one) + drops lcid (one ∷ [])) + on lcid w = λ lcid. rw none (rw nothing (omega arith)) in
     back_then mode w w w (one ∷ []) more (back_one mode w w one told count) (back_silent mode w more a.1)

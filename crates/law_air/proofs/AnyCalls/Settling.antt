@@ -1,18 +1,25 @@
 -- The test loop through the stages and calls of a link.
-use Rattle.std.proofs.Common.{◌≡◌, ℕ, ◌+◌, ◌%◌, ◌==◌, Bool, true, false, ◌&&◌, nat_le, if◌then◌else◌, Option, Some, None, List, [], ◌∷◌, ◌++◌, length, map, append_assoc, append-nil, refl, ap, sym, subst, ◌∙◌, arith}
+use Rattle.std.proofs.Common.{◌≡◌, ℕ, ◌+◌, ◌%◌, ◌==◌, Bool, true, false, ◌&&◌, nat_le, if◌then◌else◌, Option, Some}
+use Rattle.std.proofs.Common.{None, List, [], ◌∷◌, ◌++◌, length, map, append_assoc, append-nil, refl, ap, sym, subst}
+use Rattle.std.proofs.Common.{◌∙◌, arith}
 use Rattle.std.specs.List.{AllByRecursion}
 use Rattle.std.specs.Prelude.{slice_index_or, slice_set}
 use Rattle.std.proofs.lemmas.List.{map-append}
-use Rattle.air_link.specs.Downlink.{visits as visits_process, builds, built_ndi, block_at, shows, sends, receives, hears, feeds, told_as, is_good, saw_new, sees, answer, comes, hears_by, aired, lands, unseen, down_order, down_by, downlink}
+use Rattle.air_link.specs.Downlink.{visits as visits_process, builds, built_ndi, block_at, shows, sends, receives}
+use Rattle.air_link.specs.Downlink.{hears, feeds, told_as, is_good, saw_new, sees, answer, comes, hears_by, aired}
+use Rattle.air_link.specs.Downlink.{lands, unseen, down_order, down_by, downlink}
 use Rattle.air_record.specs.Outcomes.{turned, intact, missed}
-use Rattle.air_link.specs.Draining.{drain_tti, timer_expires, receiver_expires, all_receivers_expire, receivers_expire, all_senders_expire, senders_expire}
-use Rattle.air_link.specs.Lines.{bears, discards, visits, reports, listens, no_place, submits_by, submitting, expires_by, expiring, expires_alone, expires, forges, moves, hands_over}
+use Rattle.air_link.specs.Draining.{drain_tti, timer_expires, receiver_expires, all_receivers_expire, receivers_expire}
+use Rattle.air_link.specs.Draining.{all_senders_expire, senders_expire}
+use Rattle.air_link.specs.Lines.{bears, discards, visits, reports, listens, no_place, submits_by, submitting}
+use Rattle.air_link.specs.Lines.{expires_by, expiring, expires_alone, expires, forges, moves, hands_over}
 use Rattle.air_link.specs.Link.{Link, fresh, says, end_of, with_end}
 use Rattle.bearer_types.specs.Lcids.{all_lcids}
 use Rattle.air_link.specs.Loops.{loops, pays, loop_set}
 use Rattle.air_link.specs.Telling.{delivers, noted, tells, tells_all}
 use Rattle.air_link.specs.Ttis.{begins, sleeps, tells_sleep, grows, ticks, times, keeps_first, timed, tti_by, tti}
-use Rattle.air_link.specs.Uplink.{up_order, is_intact, told_as as up_told_as, granted, hears_if, aired as up_aired, awake, up_by, grants, passes, uplink}
+use Rattle.air_link.specs.Uplink.{up_order, is_intact, told_as as up_told_as, granted, hears_if, aired as up_aired}
+use Rattle.air_link.specs.Uplink.{awake, up_by, grants, passes, uplink}
 use Rattle.air_record.specs.declared.line.Fate.{Fate}
 use Rattle.air_record.specs.declared.line.Fate.TheVariants.{Ok, Bad, Miss}
 use Rattle.air_record.specs.declared.line.Outcome.{Outcome}
@@ -47,10 +54,12 @@ use Rattle.pdu_show.specs.Show.{block_shown}
 use Rattle.test_loop.specs.declared.Mode.{Mode}
 use Rattle.test_loop.specs.Items.{Item, item}
 use Rattle.test_loop.specs.Loops.{fresh as no_loop, is_on, is_keeping, after_tick, after_set}
-use Rattle.law_air.specs.AnyCalls.Calls.{Call, Bears, Discards, Visits, Reports, Listens, Loops, Expires, Forges, HandsOver, ReceiversExpire, SendersExpire, after}
+use Rattle.law_air.specs.AnyCalls.Calls.{Call, Bears, Discards, Visits, Reports, Listens, Loops, Expires, Forges}
+use Rattle.law_air.specs.AnyCalls.Calls.{HandsOver, ReceiversExpire, SendersExpire, after}
 use Rattle.law_air.specs.AnyCalls.Loops.{ComeBack, IsAtRest, LoopsBack, mode_in}
 use Rattle.promises.specs.Loops.{back, due, looped, on}
-use Rattle.law_air.proofs.AnyCalls.Gathering.{Seen, seen, Rests, rests_then, rests_unseen, rests_says, waiting, Stands, Goes, goes_then, goes_resting, loops_go, loops_empty, pays_all, pays_go}
+use Rattle.law_air.proofs.AnyCalls.Gathering.{Seen, seen, Rests, rests_then, rests_unseen, rests_says, waiting, Stands}
+use Rattle.law_air.proofs.AnyCalls.Gathering.{Goes, goes_then, goes_resting, loops_go, loops_empty, pays_all, pays_go}
 use Rattle.law_air.proofs.AnyCalls.Handing.{is_up, building_none}
 use Rattle.law_air.proofs.AnyCalls.Returning.{part_of_same, on_both, back_one, back_then, IsSilent}
 use Rattle.law_air.proofs.AnyCalls.Showing.{block_is_silent}
@@ -84,13 +93,16 @@ noted_seen side e l h = refl
 tell_rests : (side : Side) (e : Event) (l : Link) → handed_up side e ≡ false → Rests l (tells side e l)
 tell_rests side e l h = record {
   more = records.Of side e ∷ [];
-  seen_is = ap (λ (s : Seen). record { mode = s.mode; kept = s.kept; ups = s.ups; out = s.out ++ records.Of side e ∷ [] }) (noted_seen side e l h);
+  seen_is =
+      ap (λ (s : Seen). record { mode = s.mode; kept = s.kept; ups = s.ups; out = s.out ++ records.Of side e ∷ [] })
+      (noted_seen side e l h);
   silent = (told_silent side e h, tt);
 }
 
 tells_rest : (side : Side) (es : List Event) (l : Link) → HandUpNone side es → Rests l (tells_all side es l)
 tells_rest side [] l h = rests_unseen l l refl
-tells_rest side (e ∷ es) l h = let m = tells side e l in rests_then l m (tells_all side es m) (tell_rests side e l h.0) (tells_rest side es m h.1)
+tells_rest side (e ∷ es) l h = let m = tells side e l in
+    rests_then l m (tells_all side es m) (tell_rests side e l h.0) (tells_rest side es m h.1)
 
 -- none goes up at the base station
 nb_none : (es : List Event) → HandUpNone Nb es
@@ -98,7 +110,8 @@ nb_none [] = tt
 nb_none (e ∷ es) = (refl, nb_none es)
 
 -- one that goes up waits where it may come back
-gathered : (b : Bool) (mode : Mode) (i : Item) (one : Record) (l : Link) → looped one ≡ [] → due mode one ≡ (if b then back mode i ∷ [] else []) → (b ≡ true → is_on mode ≡ true)
+gathered : (b : Bool) (mode : Mode) (i : Item) (one : Record) (l : Link) → looped one ≡ []
+    → due mode one ≡ (if b then back mode i ∷ [] else []) → (b ≡ true → is_on mode ≡ true)
     → Goes mode l (says one (if b then record l { ups = l.ups ++ i ∷ [] } else l))
 gathered false mode i one l none is on' s =
     let w = waiting mode l in
@@ -106,21 +119,29 @@ gathered false mode i one l none is on' s =
       more = one ∷ [];
       out_is = refl;
       stands = record { mode_is = s.mode_is; none_kept = s.none_kept; none_waits = s.none_waits };
-      come_back = back_one mode w w one (rw none (rw is (part_of_same w (w ++ []) (append-nil w)))) (λ lcid. rw none (rw is (omega arith)));
+      come_back = back_one mode w w one (rw none (rw is (part_of_same w (w ++ []) (append-nil w))))
+          (λ lcid. rw none (rw is (omega arith)));
     }
 gathered true mode i one l none is on' s =
     let kept = l.looping.kept in
     let before = kept ++ map (back mode) l.ups in
     let after' = kept ++ map (back mode) (l.ups ++ i ∷ []) in
     let same : before ++ (back mode i ∷ []) ≡ after' =
-    append_assoc kept (map (back mode) l.ups) (back mode i ∷ []) ∙ ap (λ (x : List Item). kept ++ x) (sym (map-append (back mode) l.ups (i ∷ []))) in
+    append_assoc kept (map (back mode) l.ups) (back mode i ∷ [])
+    ∙ ap (λ (x : List Item). kept ++ x) (sym (map-append (back mode) l.ups (i ∷ []))) in
     record {
       more = one ∷ [];
       out_is = refl;
-      stands = record { mode_is = s.mode_is; none_kept = s.none_kept; none_waits = λ h. let no : true ≡ false = sym (on' refl) ∙ h in cc };
-      come_back = back_one mode before after' one (rw none (rw is (part_of_same after' (before ++ (back mode i ∷ [])) same)))
+      stands = record {
+        mode_is = s.mode_is;
+        none_kept = s.none_kept;
+        none_waits = λ h. let no : true ≡ false = sym (on' refl) ∙ h in cc;
+      };
+      come_back =
+          back_one mode before after' one (rw none (rw is (part_of_same after' (before ++ (back mode i ∷ [])) same)))
           (λ lcid.
-          let both : on lcid after' ≡ on lcid before + on lcid (back mode i ∷ []) = ap (on lcid) (sym same) ∙ on_both lcid before (back mode i ∷ []) in
+          let both : on lcid after' ≡ on lcid before + on lcid (back mode i ∷ []) =
+          ap (on lcid) (sym same) ∙ on_both lcid before (back mode i ∷ []) in
           rw none (rw is (omega (arith, both))));
     }
 
@@ -138,8 +159,12 @@ up_goes mode lcid octets l s =
     let i = item lcid octets in
     let m = delivers Ue lcid l in
     let b = may_return l.looping.mode lcid octets in
-    let is : due mode one ≡ (if b then back mode i ∷ [] else []) = ap (λ (x : Mode). if may_return x lcid octets then back mode i ∷ [] else []) (sym s.mode_is) in
-    goes_then mode l m (says one (if b then record m { ups = m.ups ++ i ∷ [] } else m)) (goes_resting mode l m (rests_unseen l m refl)) (gathered b mode i one m refl is (λ e. ap is_on (sym s.mode_is) ∙ first_of (is_on l.looping.mode) (nat_le 3 lcid) (nat_le 1 (length octets)) e)) s
+    let is : due mode one ≡ (if b then back mode i ∷ [] else []) =
+    ap (λ (x : Mode). if may_return x lcid octets then back mode i ∷ [] else []) (sym s.mode_is) in
+    goes_then mode l m (says one (if b then record m { ups = m.ups ++ i ∷ [] } else m))
+    (goes_resting mode l m (rests_unseen l m refl))
+    (gathered b mode i one m refl is (λ e. ap is_on (sym s.mode_is)
+    ∙ first_of (is_on l.looping.mode) (nat_le 3 lcid) (nat_le 1 (length octets)) e)) s
 
 tell_goes : (mode : Mode) (e : Event) (l : Link) → Goes mode l (tells Ue e l)
 tell_goes mode (events.Up lcid octets) l = up_goes mode lcid octets l
@@ -147,7 +172,8 @@ tell_goes mode e l = goes_resting mode l (tells Ue e l) (tell_rests Ue e l refl)
 
 ue_tells_go : (mode : Mode) (es : List Event) (l : Link) → Goes mode l (tells_all Ue es l)
 ue_tells_go mode [] l = goes_resting mode l l (rests_unseen l l refl)
-ue_tells_go mode (e ∷ es) l = let m = tells Ue e l in goes_then mode l m (tells_all Ue es m) (tell_goes mode e l) (ue_tells_go mode es m)
+ue_tells_go mode (e ∷ es) l = let m = tells Ue e l in
+    goes_then mode l m (tells_all Ue es m) (tell_goes mode e l) (ue_tells_go mode es m)
 
 tells_go : (mode : Mode) (side : Side) (es : List Event) (l : Link) → Goes mode l (tells_all side es l)
 tells_go mode Nb es l = goes_resting mode l (tells_all Nb es l) (tells_rest Nb es l (nb_none es))
@@ -166,7 +192,9 @@ times_go mode side l =
     let es = (ticked (end_of side l)).events in
     let m = ticks side l in
     let n = tells_all side es m in
-    goes_then mode l n (grows side n) (goes_then mode l m n (goes_resting mode l m (rests_end side _ l)) (tells_go mode side es m)) (goes_resting mode n (grows side n) (rests_end side _ n))
+    goes_then mode l n (grows side n)
+    (goes_then mode l m n (goes_resting mode l m (rests_end side _ l)) (tells_go mode side es m))
+    (goes_resting mode n (grows side n) (rests_end side _ n))
 
 keeps_if : (b : Bool) (mode : Mode) (l : Link) → Goes mode l (if b then loops l else l)
 keeps_if true mode l = loops_go mode l
@@ -181,7 +209,8 @@ timed_goes mode l =
     let o = keeps_first n in
     let to_m = goes_then mode l j m (goes_resting mode l j (rests_unseen l j refl)) (times_go mode Nb j) in
     let to_n = goes_then mode l m n to_m (times_go mode Ue m) in
-    goes_then mode l o (pays o) (goes_then mode l n o to_n (keeps_if (is_keeping n.looping.mode) mode n)) (pays_go mode o)
+    goes_then mode l o (pays o) (goes_then mode l n o to_n (keeps_if (is_keeping n.looping.mode) mode n))
+    (pays_go mode o)
 
 sleep_rests : (asleep : Bool) (l : Link) → Rests l (tells_sleep asleep l)
 sleep_rests true l = rests_says records.Sleep l (refl, λ mode. refl)
@@ -200,21 +229,31 @@ builds_rest : (side : Side) (t grant : ℕ) (order : Order) (l : Link) → Rests
 builds_rest side t grant order l =
     let e = end_of side l in
     let m = visits_process side t grant order l in
-    rests_then l m (builds side t grant order l) (rests_end side _ l) (tells_rest side (building t grant order e) m (builds_none side t grant order e))
+    rests_then l m (builds side t grant order l) (rests_end side _ l)
+    (tells_rest side (building t grant order e) m (builds_none side t grant order e))
 
 shows_rest : (direction : Direction) (block : List ℕ) (l : Link) → Rests l (shows direction block l)
-shows_rest direction block l = record { more = block_shown direction l.kinds block; seen_is = refl; silent = block_is_silent direction l.kinds block }
+shows_rest direction block l =
+    record {
+      more = block_shown direction l.kinds block;
+      seen_is = refl;
+      silent = block_is_silent direction l.kinds block;
+    }
 
 sends_rest : (v : Visit) (side : Side) (t : ℕ) (block : List ℕ) (l : Link) → Rests l (sends v side t block l)
 sends_rest New side t block l =
     let m = says (records.Block (sent_by side) (t % 8) true 0 block) l in
-    rests_then l m (shows (sent_by side) block m) (rests_says (records.Block (sent_by side) (t % 8) true 0 block) l (refl, λ mode. refl)) (shows_rest (sent_by side) block m)
-sends_rest (Resend rv) side t block l = rests_says (records.Block (sent_by side) (t % 8) false rv block) l (refl, λ mode. refl)
+    rests_then l m (shows (sent_by side) block m)
+    (rests_says (records.Block (sent_by side) (t % 8) true 0 block) l (refl, λ mode. refl))
+    (shows_rest (sent_by side) block m)
+sends_rest (Resend rv) side t block l =
+    rests_says (records.Block (sent_by side) (t % 8) false rv block) l (refl, λ mode. refl)
 sends_rest Quiet side t block l = rests_unseen l l refl
 
 -- ---- the downlink
 
-first_if : (b : Bool) (t : ℕ) (l : Link) → seen (if b then l else saw_new t (record l { seen = slice_set l.seen (t % 8) true })) ≡ seen l
+first_if : (b : Bool) (t : ℕ) (l : Link)
+    → seen (if b then l else saw_new t (record l { seen = slice_set l.seen (t % 8) true })) ≡ seen l
 first_if true t l = refl
 first_if false t l = refl
 
@@ -224,8 +263,10 @@ sees_seen t false l = first_if (slice_index_or l.seen (t % 8) false) t l
 
 comes_seen : (f : Fate) (t : ℕ) (ndi : Bool) (l : Link) → seen (comes f t ndi l) ≡ seen l
 comes_seen Miss t ndi l = refl
-comes_seen Ok t ndi l = sees_seen t true (record l { ue = record l.ue { receiver = after_assigned l.ue.receiver t ndi true } })
-comes_seen Bad t ndi l = sees_seen t false (record l { ue = record l.ue { receiver = after_assigned l.ue.receiver t ndi false } })
+comes_seen Ok t ndi l =
+    sees_seen t true (record l { ue = record l.ue { receiver = after_assigned l.ue.receiver t ndi true } })
+comes_seen Bad t ndi l =
+    sees_seen t false (record l { ue = record l.ue { receiver = after_assigned l.ue.receiver t ndi false } })
 
 unseen_seen : (v : Visit) (t : ℕ) (l : Link) → seen (unseen v t l) ≡ seen l
 unseen_seen New t l = refl
@@ -238,24 +279,31 @@ hears_by_goes mode Again block l = goes_resting mode l l (rests_unseen l l refl)
 hears_by_goes mode Damaged block l = goes_resting mode l l (rests_unseen l l refl)
 hears_by_goes mode Nothing block l = goes_resting mode l l (rests_unseen l l refl)
 
-aired_goes : (mode : Mode) (t : ℕ) (flipped : Bool) (a : Answer) (block : List ℕ) (l : Link) → Goes mode l (aired t flipped a block l)
+aired_goes : (mode : Mode) (t : ℕ) (flipped : Bool) (a : Answer) (block : List ℕ) (l : Link)
+    → Goes mode l (aired t flipped a block l)
 aired_goes mode t flipped a block l =
     let good = turned flipped (is_good a) in
     let one = records.Air (sent_by Nb) (told_as a) (Some good) in
     let m = feeds Nb t good l in
     let n = says one m in
-    goes_then mode l n (hears_by a block n) (goes_resting mode l n (rests_then l m n (rests_end Nb _ l) (rests_says one m (refl, λ mode'. refl)))) (hears_by_goes mode a block n)
+    goes_then mode l n (hears_by a block n)
+    (goes_resting mode l n (rests_then l m n (rests_end Nb _ l) (rests_says one m (refl, λ mode'. refl))))
+    (hears_by_goes mode a block n)
 
-goes_down : (mode : Mode) (v : Visit) (t : ℕ) (o : Outcome) (ndi : Bool) (block : List ℕ) (l : Link) → Goes mode l (lands t o ndi block (sends v Nb t block (unseen v t l)))
+goes_down : (mode : Mode) (v : Visit) (t : ℕ) (o : Outcome) (ndi : Bool) (block : List ℕ) (l : Link)
+    → Goes mode l (lands t o ndi block (sends v Nb t block (unseen v t l)))
 goes_down mode v t o ndi block l =
     let m = unseen v t l in
     let n = sends v Nb t block m in
     let p = comes o.fate t ndi n in
     let a = answer o.fate t ndi n in
-    let to_p = rests_then l n p (rests_then l m n (rests_unseen l m (unseen_seen v t l)) (sends_rest v Nb t block m)) (rests_unseen n p (comes_seen o.fate t ndi n)) in
-    goes_then mode l p (aired t o.flipped a block p) (goes_resting mode l p to_p) (aired_goes mode t o.flipped a block p)
+    let to_p = rests_then l n p (rests_then l m n (rests_unseen l m (unseen_seen v t l)) (sends_rest v Nb t block m))
+    (rests_unseen n p (comes_seen o.fate t ndi n)) in
+    goes_then mode l p (aired t o.flipped a block p) (goes_resting mode l p to_p)
+    (aired_goes mode t o.flipped a block p)
 
-down_by_goes : (mode : Mode) (v : Visit) (t : ℕ) (o : Outcome) (ndi : Bool) (l : Link) → Goes mode l (down_by v t o ndi l)
+down_by_goes : (mode : Mode) (v : Visit) (t : ℕ) (o : Outcome) (ndi : Bool) (l : Link)
+    → Goes mode l (down_by v t o ndi l)
 down_by_goes mode New t o ndi l = goes_down mode New t o ndi (block_at t l.nb) l
 down_by_goes mode (Resend rv) t o ndi l = goes_down mode (Resend rv) t o ndi (block_at t l.nb) l
 down_by_goes mode Quiet t o ndi l = goes_resting mode l l (rests_unseen l l refl)
@@ -267,7 +315,8 @@ downlink_goes mode t grant o l =
     let v = visit t order l.nb in
     let ndi = built_ndi Nb t grant order l in
     let m = builds Nb t grant order l in
-    goes_then mode l m (down_by v t o ndi m) (goes_resting mode l m (builds_rest Nb t grant order l)) (down_by_goes mode v t o ndi m)
+    goes_then mode l m (down_by v t o ndi m) (goes_resting mode l m (builds_rest Nb t grant order l))
+    (down_by_goes mode v t o ndi m)
 
 -- ---- the uplink
 
@@ -283,7 +332,8 @@ hears_if_rests true block l =
     rests_then l m (tells_all Nb es m) (rests_unseen l m refl) (tells_rest Nb es m (nb_none es))
 hears_if_rests false block l = rests_unseen l l refl
 
-goes_up : (v : Visit) (t : ℕ) (o : Outcome) (block : List ℕ) (l : Link) → Rests l (up_aired t o.flipped (is_intact o.fate) block (sends v Ue t block (awake v t l)))
+goes_up : (v : Visit) (t : ℕ) (o : Outcome) (block : List ℕ) (l : Link)
+    → Rests l (up_aired t o.flipped (is_intact o.fate) block (sends v Ue t block (awake v t l)))
 goes_up v t o block l =
     let good = is_intact o.fate in
     let one = records.Air directions.Up (up_told_as good) (Some (turned o.flipped good)) in
@@ -292,22 +342,27 @@ goes_up v t o block l =
     let p = feeds Ue t (turned o.flipped good) (granted t (Some good) n) in
     let q = says one p in
     let to_n = rests_then l m n (rests_unseen l m (awake_seen v t l)) (sends_rest v Ue t block m) in
-    let to_q = rests_then l p q (rests_then l n p to_n (rests_unseen n p refl)) (rests_says one p (refl, λ mode. refl)) in
+    let to_q = rests_then l p q (rests_then l n p to_n (rests_unseen n p refl))
+    (rests_says one p (refl, λ mode. refl)) in
     rests_then l q (hears_if good block q) to_q (hears_if_rests good block q)
 
 up_by_rests : (v : Visit) (t : ℕ) (o : Outcome) (l : Link) → Rests l (up_by v t o l)
 up_by_rests New t o l = goes_up New t o (block_at t l.ue) l
 up_by_rests (Resend rv) t o l = goes_up (Resend rv) t o (block_at t l.ue) l
-up_by_rests Quiet t o l = let m = granted t None l in rests_then l m (up_by Quiet t o l) (rests_unseen l m refl) (rests_says (records.Air directions.Up arriveds.Nothing None) m (refl, λ mode. refl))
+up_by_rests Quiet t o l = let m = granted t None l in
+    rests_then l m (up_by Quiet t o l) (rests_unseen l m refl)
+    (rests_says (records.Air directions.Up arriveds.Nothing None) m (refl, λ mode. refl))
 
 uplink_if : (b : Bool) (t grant : ℕ) (o : Outcome) (l : Link) → Rests l (if b then passes t l else grants t grant o l)
-uplink_if true t grant o l = let m = builds Ue t 0 orders.Silent l in rests_then l m (passes t l) (builds_rest Ue t 0 orders.Silent l) (rests_unseen m (passes t l) refl)
+uplink_if true t grant o l = let m = builds Ue t 0 orders.Silent l in
+    rests_then l m (passes t l) (builds_rest Ue t 0 orders.Silent l) (rests_unseen m (passes t l) refl)
 uplink_if false t grant o l =
     let order = up_order o.fate (grant_ndi l.nb.receiver t) in
     let m : Link = record l { nb = record l.nb { receiver = after_grant l.nb.receiver t } } in
     let n = builds Ue t grant order m in
     let v = visit t order m.ue in
-    rests_then l n (up_by v t o n) (rests_then l m n (rests_unseen l m refl) (builds_rest Ue t grant order m)) (up_by_rests v t o n)
+    rests_then l n (up_by v t o n) (rests_then l m n (rests_unseen l m refl) (builds_rest Ue t grant order m))
+    (up_by_rests v t o n)
 
 uplink_rests : (t grant : ℕ) (o : Outcome) (l : Link) → Rests l (uplink t grant o l)
 unfolding uplink
@@ -320,27 +375,39 @@ record Settles (mode : Mode) (l m : Link) : Type 0 where
   empties : Stands mode l → l.ups ≡ [] → m.ups ≡ []
 
 settles_then : (mode : Mode) (l m n : Link) → Settles mode l m → Settles mode m n → Settles mode l n
-settles_then mode l m n p q = record { goes = goes_then mode l m n p.goes q.goes; empties = λ s e. q.empties (p.goes s).stands (p.empties s e) }
+settles_then mode l m n p q =
+    record { goes = goes_then mode l m n p.goes q.goes; empties = λ s e. q.empties (p.goes s).stands (p.empties s e) }
 
 settles_resting : (mode : Mode) (l m : Link) → Rests l m → Settles mode l m
-settles_resting mode l m r = record { goes = goes_resting mode l m r; empties = λ s e. ap (λ (x : Seen). x.ups) r.seen_is ∙ e }
+settles_resting mode l m r = record {
+  goes = goes_resting mode l m r;
+  empties = λ s e. ap (λ (x : Seen). x.ups) r.seen_is ∙ e;
+}
 
 settles_looping : (mode : Mode) (l m : Link) → Goes mode l m → Settles mode l (loops m)
-settles_looping mode l m g = record { goes = goes_then mode l m (loops m) g (loops_go mode m); empties = λ s e. loops_empty mode m (g s).stands }
+settles_looping mode l m g = record {
+  goes = goes_then mode l m (loops m) g (loops_go mode m);
+  empties = λ s e. loops_empty mode m (g s).stands;
+}
 
-by_blocks : (mode : Mode) (t up_grant : ℕ) (up : Outcome) (down_grant : ℕ) (down : Outcome) (l m : Link) → Goes mode l m → Settles mode l (uplink t up_grant up (loops (downlink t down_grant down m)))
+by_blocks : (mode : Mode) (t up_grant : ℕ) (up : Outcome) (down_grant : ℕ) (down : Outcome) (l m : Link)
+    → Goes mode l m → Settles mode l (uplink t up_grant up (loops (downlink t down_grant down m)))
 by_blocks mode t up_grant up down_grant down l m first =
     let n = downlink t down_grant down m in
-    settles_then mode l (loops n) (uplink t up_grant up (loops n)) (settles_looping mode l n (goes_then mode l m n first (downlink_goes mode t down_grant down m)))
+    settles_then mode l (loops n) (uplink t up_grant up (loops n))
+    (settles_looping mode l n (goes_then mode l m n first (downlink_goes mode t down_grant down m)))
     (settles_resting mode (loops n) (uplink t up_grant up (loops n)) (uplink_rests t up_grant up (loops n)))
 
-tti_settles : (mode : Mode) (up_grant : ℕ) (up : Outcome) (down_grant : ℕ) (down : Outcome) (l : Link) → Settles mode l (tti up_grant up down_grant down l)
+tti_settles : (mode : Mode) (up_grant : ℕ) (up : Outcome) (down_grant : ℕ) (down : Outcome) (l : Link)
+    → Settles mode l (tti up_grant up down_grant down l)
 unfolding tti tti_by
 tti_settles mode up_grant up down_grant down l =
     let asleep = sleeps l.ttis l in
     let m = begins l in
     let n = tells_sleep asleep m in
-    by_blocks mode l.ttis up_grant (missed asleep up) down_grant (missed asleep down) l (timed n) (goes_then mode l n (timed n) (goes_resting mode l n (rests_then l m n (begins_rests l) (sleep_rests asleep m))) (timed_goes mode n))
+    by_blocks mode l.ttis up_grant (missed asleep up) down_grant (missed asleep down) l (timed n)
+    (goes_then mode l n (timed n)
+    (goes_resting mode l n (rests_then l m n (begins_rests l) (sleep_rests asleep m))) (timed_goes mode n))
 
 drain_settles : (mode : Mode) (grant : ℕ) (l : Link) → Settles mode l (drain_tti grant l)
 unfolding drain_tti
@@ -348,53 +415,67 @@ drain_settles mode grant l =
     let m = begins l in
     let n = grows Nb m in
     let p = grows Ue n in
-    by_blocks mode l.ttis grant intact grant intact l p (goes_resting mode l p (rests_then l n p (rests_then l m n (begins_rests l) (rests_end Nb _ m)) (rests_end Ue _ n)))
+    by_blocks mode l.ttis grant intact grant intact l p
+    (goes_resting mode l p
+    (rests_then l n p (rests_then l m n (begins_rests l) (rests_end Nb _ m)) (rests_end Ue _ n)))
 
 -- ---- a timer expires, a block is forged, a handover
 
-expires_by_settles : (mode : Mode) (r : Option (List Event)) (side : Side) (l : Link) → Settles mode l (expires_by r side l)
+expires_by_settles : (mode : Mode) (r : Option (List Event)) (side : Side) (l : Link)
+    → Settles mode l (expires_by r side l)
 expires_by_settles mode None side l = settles_resting mode l l (rests_unseen l l refl)
 expires_by_settles mode (Some told) side l = settles_looping mode l (tells_all side told l) (tells_go mode side told l)
 
-expires_settles : (mode : Mode) (side : Side) (lcid : ℕ) (clock : Clock) (l : Link) → Settles mode l (expires side lcid clock l)
+expires_settles : (mode : Mode) (side : Side) (lcid : ℕ) (clock : Clock) (l : Link)
+    → Settles mode l (expires side lcid clock l)
 unfolding expires
 expires_settles mode side lcid clock l =
     let m = expires_alone side lcid clock l in
     let r = expiring side lcid clock l in
-    settles_then mode l m (expires_by r side m) (settles_resting mode l m (rests_end side _ l)) (expires_by_settles mode r side m)
+    settles_then mode l m (expires_by r side m) (settles_resting mode l m (rests_end side _ l))
+    (expires_by_settles mode r side m)
 
-timer_if : (b : Bool) (mode : Mode) (side : Side) (clock : Clock) (lcid : ℕ) (l : Link) → Settles mode l (if b then expires side lcid clock l else l)
+timer_if : (b : Bool) (mode : Mode) (side : Side) (clock : Clock) (lcid : ℕ) (l : Link)
+    → Settles mode l (if b then expires side lcid clock l else l)
 timer_if true mode side clock lcid l = expires_settles mode side lcid clock l
 timer_if false mode side clock lcid l = settles_resting mode l l (rests_unseen l l refl)
 
-timer_settles : (mode : Mode) (side : Side) (clock : Clock) (lcid : ℕ) (l : Link) → Settles mode l (timer_expires side clock lcid l)
+timer_settles : (mode : Mode) (side : Side) (clock : Clock) (lcid : ℕ) (l : Link)
+    → Settles mode l (timer_expires side clock lcid l)
 unfolding timer_expires
 timer_settles mode side clock lcid l = timer_if (has lcid (end_of side l).bearers) mode side clock lcid l
 
-all_receivers_settle : (mode : Mode) (side : Side) (lcids : List ℕ) (l : Link) → Settles mode l (all_receivers_expire side lcids l)
+all_receivers_settle : (mode : Mode) (side : Side) (lcids : List ℕ) (l : Link)
+    → Settles mode l (all_receivers_expire side lcids l)
 all_receivers_settle mode side [] l = settles_resting mode l l (rests_unseen l l refl)
 all_receivers_settle mode side (lcid ∷ lcids) l =
     let m = timer_expires side Reorder lcid l in
     let n = receiver_expires side lcid l in
-    settles_then mode l n (all_receivers_expire side lcids n) (settles_then mode l m n (timer_settles mode side Reorder lcid l) (timer_settles mode side Prohibit lcid m)) (all_receivers_settle mode side lcids n)
+    settles_then mode l n (all_receivers_expire side lcids n)
+    (settles_then mode l m n (timer_settles mode side Reorder lcid l) (timer_settles mode side Prohibit lcid m))
+    (all_receivers_settle mode side lcids n)
 
-all_senders_settle : (mode : Mode) (side : Side) (lcids : List ℕ) (l : Link) → Settles mode l (all_senders_expire side lcids l)
+all_senders_settle : (mode : Mode) (side : Side) (lcids : List ℕ) (l : Link)
+    → Settles mode l (all_senders_expire side lcids l)
 all_senders_settle mode side [] l = settles_resting mode l l (rests_unseen l l refl)
 all_senders_settle mode side (lcid ∷ lcids) l =
     let m = timer_expires side Poll lcid l in
-    settles_then mode l m (all_senders_expire side lcids m) (timer_settles mode side Poll lcid l) (all_senders_settle mode side lcids m)
+    settles_then mode l m (all_senders_expire side lcids m) (timer_settles mode side Poll lcid l)
+    (all_senders_settle mode side lcids m)
 
 receivers_settle : (mode : Mode) (l : Link) → Settles mode l (receivers_expire l)
 unfolding receivers_expire
 receivers_settle mode l =
     let m = all_receivers_expire Nb all_lcids l in
-    settles_then mode l m (all_receivers_expire Ue all_lcids m) (all_receivers_settle mode Nb all_lcids l) (all_receivers_settle mode Ue all_lcids m)
+    settles_then mode l m (all_receivers_expire Ue all_lcids m) (all_receivers_settle mode Nb all_lcids l)
+    (all_receivers_settle mode Ue all_lcids m)
 
 senders_settle : (mode : Mode) (l : Link) → Settles mode l (senders_expire l)
 unfolding senders_expire
 senders_settle mode l =
     let m = all_senders_expire Nb all_lcids l in
-    settles_then mode l m (all_senders_expire Ue all_lcids m) (all_senders_settle mode Nb all_lcids l) (all_senders_settle mode Ue all_lcids m)
+    settles_then mode l m (all_senders_expire Ue all_lcids m) (all_senders_settle mode Nb all_lcids l)
+    (all_senders_settle mode Ue all_lcids m)
 
 forges_settle : (mode : Mode) (side : Side) (block : List ℕ) (l : Link) → Settles mode l (forges side block l)
 unfolding forges
@@ -406,16 +487,23 @@ hands_over_settles mode keys l =
     let j = moves keys l in
     let m = tells_all Nb (leaving l.nb) j in
     let n = tells_all Ue (leaving l.ue) m in
-    settles_looping mode l n (goes_then mode l m n (goes_then mode l j m (goes_resting mode l j (rests_unseen l j refl)) (tells_go mode Nb (leaving l.nb) j)) (tells_go mode Ue (leaving l.ue) m))
+    settles_looping mode l n
+    (goes_then mode l m n
+    (goes_then mode l j m (goes_resting mode l j (rests_unseen l j refl)) (tells_go mode Nb (leaving l.nb) j))
+    (tells_go mode Ue (leaving l.ue) m))
 
-submits_by_rests : (r : Option SubmitRefusal) (side : Side) (lcid : ℕ) (sdu : List ℕ) (l : Link) → Rests l (submits_by r side lcid sdu l)
-submits_by_rests (Some broken) side lcid sdu l = rests_says (records.Refused side lcid (no_place broken)) l (refl, λ mode. refl)
+submits_by_rests : (r : Option SubmitRefusal) (side : Side) (lcid : ℕ) (sdu : List ℕ) (l : Link)
+    → Rests l (submits_by r side lcid sdu l)
+submits_by_rests (Some broken) side lcid sdu l =
+    rests_says (records.Refused side lcid (no_place broken)) l (refl, λ mode. refl)
 submits_by_rests None Nb lcid sdu l = rests_unseen l (submits_by None Nb lcid sdu l) refl
 submits_by_rests None Ue lcid sdu l = rests_unseen l (submits_by None Ue lcid sdu l) refl
 
-submitting_settles : (mode : Mode) (side : Side) (lcid : ℕ) (sdu : List ℕ) (l : Link) → Settles mode l (submitting side lcid sdu l)
+submitting_settles : (mode : Mode) (side : Side) (lcid : ℕ) (sdu : List ℕ) (l : Link)
+    → Settles mode l (submitting side lcid sdu l)
 unfolding submitting
-submitting_settles mode side lcid sdu l = settles_resting mode l _ (submits_by_rests (refusal lcid sdu (end_of side l)) side lcid sdu l)
+submitting_settles mode side lcid sdu l =
+    settles_resting mode l _ (submits_by_rests (refusal lcid sdu (end_of side l)) side lcid sdu l)
 
 -- ---- the laws
 
@@ -426,14 +514,23 @@ kept_alone mode l e = ap (λ (x : List Item). l.looping.kept ++ map (back mode) 
 loops_back : (l m : Link) → Settles l.looping.mode l m → IsAtRest l → LoopsBack l.looping.mode l m
 loops_back l m p rests =
     let mode = l.looping.mode in
-    let s : Stands mode l = record { mode_is = refl; none_kept = rests.none_kept; none_waits = λ h. rests.none_waits } in
+    let s : Stands mode l = record {
+      mode_is = refl;
+      none_kept = rests.none_kept;
+      none_waits = λ h. rests.none_waits;
+    } in
     let w = p.goes s in
     let nothing = p.empties s rests.none_waits in
     record {
       more = w.more;
       out_is = w.out_is;
       mode_is = w.stands.mode_is;
-      rests = record { none_waits = nothing; none_kept = λ h. w.stands.none_kept (ap is_keeping (sym w.stands.mode_is) ∙ h) };
+      rests =
+          record {
+            none_waits = nothing;
+            none_kept =
+                λ h. w.stands.none_kept (ap is_keeping (sym w.stands.mode_is) ∙ h);
+          };
       come_back =
           subst (λ (x : List Item). ComeBack mode x m.looping.kept w.more) (kept_alone mode l rests.none_waits)
           (subst (λ (x : List Item). ComeBack mode (waiting mode l) x w.more) (kept_alone mode m nothing) w.come_back);
@@ -472,23 +569,35 @@ first_rests = record { none_waits = refl; none_kept = λ h. refl }
 
 pub calls_loop_back : (c : Call) (l : Link) → IsAtRest l → LoopsBack (mode_in c l.looping.mode) l (after c l)
 unfolding bears discards visits reports listens
-calls_loop_back (Bears config keys) l = loops_back l (bears config keys l) (settles_resting l.looping.mode l _ (rests_unseen l (bears config keys l) refl))
-calls_loop_back (Discards lcid ttis) l = loops_back l (discards lcid ttis l) (settles_resting l.looping.mode l _ (rests_unseen l (discards lcid ttis l) refl))
-calls_loop_back (Visits maximum) l = loops_back l (visits maximum l) (settles_resting l.looping.mode l _ (rests_unseen l (visits maximum l) refl))
-calls_loop_back Reports l = loops_back l (reports l) (settles_resting l.looping.mode l _ (rests_unseen l (reports l) refl))
-calls_loop_back (Listens config) l = loops_back l (listens config l) (settles_resting l.looping.mode l _ (rests_unseen l (listens config l) refl))
+calls_loop_back (Bears config keys) l =
+    loops_back l (bears config keys l)
+    (settles_resting l.looping.mode l _ (rests_unseen l (bears config keys l) refl))
+calls_loop_back (Discards lcid ttis) l =
+    loops_back l (discards lcid ttis l)
+    (settles_resting l.looping.mode l _ (rests_unseen l (discards lcid ttis l) refl))
+calls_loop_back (Visits maximum) l =
+    loops_back l (visits maximum l) (settles_resting l.looping.mode l _ (rests_unseen l (visits maximum l) refl))
+calls_loop_back Reports l =
+    loops_back l (reports l) (settles_resting l.looping.mode l _ (rests_unseen l (reports l) refl))
+calls_loop_back (Listens config) l =
+    loops_back l (listens config l) (settles_resting l.looping.mode l _ (rests_unseen l (listens config l) refl))
 calls_loop_back (Loops mode) l = loop_set_back mode l
-calls_loop_back (Expires side lcid clock) l = loops_back l (expires side lcid clock l) (expires_settles l.looping.mode side lcid clock l)
+calls_loop_back (Expires side lcid clock) l =
+    loops_back l (expires side lcid clock l) (expires_settles l.looping.mode side lcid clock l)
 calls_loop_back (Forges side block) l = loops_back l (forges side block l) (forges_settle l.looping.mode side block l)
 calls_loop_back (HandsOver keys) l = loops_back l (hands_over keys l) (hands_over_settles l.looping.mode keys l)
 calls_loop_back ReceiversExpire l = loops_back l (receivers_expire l) (receivers_settle l.looping.mode l)
 calls_loop_back SendersExpire l = loops_back l (senders_expire l) (senders_settle l.looping.mode l)
 
-pub submissions_loop_back : (side : Side) (lcid : ℕ) (sdu : List ℕ) (l : Link) → IsAtRest l → LoopsBack l.looping.mode l (submitting side lcid sdu l)
-submissions_loop_back side lcid sdu l = loops_back l (submitting side lcid sdu l) (submitting_settles l.looping.mode side lcid sdu l)
+pub submissions_loop_back : (side : Side) (lcid : ℕ) (sdu : List ℕ) (l : Link) → IsAtRest l
+    → LoopsBack l.looping.mode l (submitting side lcid sdu l)
+submissions_loop_back side lcid sdu l =
+    loops_back l (submitting side lcid sdu l) (submitting_settles l.looping.mode side lcid sdu l)
 
-pub ttis_loop_back : (up_grant : ℕ) (up : Outcome) (down_grant : ℕ) (down : Outcome) (l : Link) → IsAtRest l → LoopsBack l.looping.mode l (tti up_grant up down_grant down l)
-ttis_loop_back up_grant up down_grant down l = loops_back l (tti up_grant up down_grant down l) (tti_settles l.looping.mode up_grant up down_grant down l)
+pub ttis_loop_back : (up_grant : ℕ) (up : Outcome) (down_grant : ℕ) (down : Outcome) (l : Link) → IsAtRest l
+    → LoopsBack l.looping.mode l (tti up_grant up down_grant down l)
+ttis_loop_back up_grant up down_grant down l =
+    loops_back l (tti up_grant up down_grant down l) (tti_settles l.looping.mode up_grant up down_grant down l)
 
 pub drains_loop_back : (grant : ℕ) (l : Link) → IsAtRest l → LoopsBack l.looping.mode l (drain_tti grant l)
 drains_loop_back grant l = loops_back l (drain_tti grant l) (drain_settles l.looping.mode grant l)

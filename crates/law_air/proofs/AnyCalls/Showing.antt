@@ -1,5 +1,6 @@
 -- What is shown of a block tells of no SDU, no flight and no run.
-use Rattle.std.proofs.Common.{◌≡◌, ℕ, Bool, true, false, Option, Some, None, Result, Ok, Err, List, [], ◌∷◌, ◌++◌, length, map, refl, ap}
+use Rattle.std.proofs.Common.{◌≡◌, ℕ, Bool, true, false, Option, Some, None, Result, Ok, Err, List, [], ◌∷◌, ◌++◌}
+use Rattle.std.proofs.Common.{length, map, refl, ap}
 use Rattle.std.specs.Prelude.{slice_index_or}
 use Rattle.std.specs.List.{filter, AllByRecursion}
 use Rattle.std.proofs.lemmas.Bool.{false≢true}
@@ -22,7 +23,9 @@ use Rattle.rlc_pdu.specs.Pdus.{UmdPdu, AmdPdu, AcknowledgedPdu, Payload, Status}
 use Rattle.rlc_pdu.specs.Reading.{umd_at, am_at}
 use Rattle.pdu_show.specs.declared.kinds.Layout.{Layout}
 use Rattle.pdu_show.specs.declared.kinds.Layout.TheVariants as layouts
-use Rattle.pdu_show.specs.Show.{user_shown, srb_shown, pdcp_shown, begins, ends, whole, wholes_shown, tm_shown, um_shown, amd_shown, am_shown, rlc_shown, item_shown, items_shown, shown_by, block_shown}
+use Rattle.pdu_show.specs.Show.{user_shown, srb_shown, pdcp_shown, begins, ends, whole, wholes_shown, tm_shown}
+use Rattle.pdu_show.specs.Show.{um_shown, amd_shown, am_shown, rlc_shown, item_shown, items_shown, shown_by}
+use Rattle.pdu_show.specs.Show.{block_shown}
 use Rattle.air_link.specs.Link.{Link}
 use Rattle.air_link.specs.Downlink.{shows}
 use Rattle.law_air.specs.AnyCalls.Counts.{ups, loopeds}
@@ -40,21 +43,46 @@ record IsStill (one : Record) : Type 0 where
   no_event : (side : Side) → event_of side one ≡ []
 
 still : (one : Record) → is_shown one ≡ true → IsStill one
-still records.MacFront h = record { no_up = λ s k. refl; no_loop = λ k. refl; no_run = refl; not_of_air = refl; no_event = λ s. refl }
-still (records.MacSdu lcid len) h = record { no_up = λ s k. refl; no_loop = λ k. refl; no_run = refl; not_of_air = refl; no_event = λ s. refl }
-still (records.MacPad octets) h = record { no_up = λ s k. refl; no_loop = λ k. refl; no_run = refl; not_of_air = refl; no_event = λ s. refl }
-still (records.MacControl control) h = record { no_up = λ s k. refl; no_loop = λ k. refl; no_run = refl; not_of_air = refl; no_event = λ s. refl }
-still (records.RlcTm len) h = record { no_up = λ s k. refl; no_loop = λ k. refl; no_run = refl; not_of_air = refl; no_event = λ s. refl }
-still (records.RlcUm sn fi lens) h = record { no_up = λ s k. refl; no_loop = λ k. refl; no_run = refl; not_of_air = refl; no_event = λ s. refl }
-still (records.RlcAm sn poll fi lens) h = record { no_up = λ s k. refl; no_loop = λ k. refl; no_run = refl; not_of_air = refl; no_event = λ s. refl }
-still (records.RlcSeg sn poll fi last so lens) h = record { no_up = λ s k. refl; no_loop = λ k. refl; no_run = refl; not_of_air = refl; no_event = λ s. refl }
-still (records.RlcStatus ack nacks) h = record { no_up = λ s k. refl; no_loop = λ k. refl; no_run = refl; not_of_air = refl; no_event = λ s. refl }
-still (records.PdcpData sn len) h = record { no_up = λ s k. refl; no_loop = λ k. refl; no_run = refl; not_of_air = refl; no_event = λ s. refl }
-still (records.PdcpSrb sn len tag) h = record { no_up = λ s k. refl; no_loop = λ k. refl; no_run = refl; not_of_air = refl; no_event = λ s. refl }
-still (records.PdcpReport fms bitmap) h = record { no_up = λ s k. refl; no_loop = λ k. refl; no_run = refl; not_of_air = refl; no_event = λ s. refl }
-still (records.BadMac fault) h = record { no_up = λ s k. refl; no_loop = λ k. refl; no_run = refl; not_of_air = refl; no_event = λ s. refl }
-still (records.BadRlc fault) h = record { no_up = λ s k. refl; no_loop = λ k. refl; no_run = refl; not_of_air = refl; no_event = λ s. refl }
-still (records.BadPdcp fault) h = record { no_up = λ s k. refl; no_loop = λ k. refl; no_run = refl; not_of_air = refl; no_event = λ s. refl }
+still records.MacFront h = record {
+  no_up = λ s k. refl;
+  no_loop = λ k. refl;
+  no_run = refl;
+  not_of_air = refl;
+  no_event = λ s. refl;
+}
+still (records.MacSdu lcid len) h =
+    record { no_up = λ s k. refl; no_loop = λ k. refl; no_run = refl; not_of_air = refl; no_event = λ s. refl }
+still (records.MacPad octets) h =
+    record { no_up = λ s k. refl; no_loop = λ k. refl; no_run = refl; not_of_air = refl; no_event = λ s. refl }
+still (records.MacControl control) h =
+    record { no_up = λ s k. refl; no_loop = λ k. refl; no_run = refl; not_of_air = refl; no_event = λ s. refl }
+still (records.RlcTm len) h = record {
+  no_up = λ s k. refl;
+  no_loop = λ k. refl;
+  no_run = refl;
+  not_of_air = refl;
+  no_event = λ s. refl;
+}
+still (records.RlcUm sn fi lens) h =
+    record { no_up = λ s k. refl; no_loop = λ k. refl; no_run = refl; not_of_air = refl; no_event = λ s. refl }
+still (records.RlcAm sn poll fi lens) h =
+    record { no_up = λ s k. refl; no_loop = λ k. refl; no_run = refl; not_of_air = refl; no_event = λ s. refl }
+still (records.RlcSeg sn poll fi last so lens) h =
+    record { no_up = λ s k. refl; no_loop = λ k. refl; no_run = refl; not_of_air = refl; no_event = λ s. refl }
+still (records.RlcStatus ack nacks) h =
+    record { no_up = λ s k. refl; no_loop = λ k. refl; no_run = refl; not_of_air = refl; no_event = λ s. refl }
+still (records.PdcpData sn len) h =
+    record { no_up = λ s k. refl; no_loop = λ k. refl; no_run = refl; not_of_air = refl; no_event = λ s. refl }
+still (records.PdcpSrb sn len tag) h =
+    record { no_up = λ s k. refl; no_loop = λ k. refl; no_run = refl; not_of_air = refl; no_event = λ s. refl }
+still (records.PdcpReport fms bitmap) h =
+    record { no_up = λ s k. refl; no_loop = λ k. refl; no_run = refl; not_of_air = refl; no_event = λ s. refl }
+still (records.BadMac fault) h =
+    record { no_up = λ s k. refl; no_loop = λ k. refl; no_run = refl; not_of_air = refl; no_event = λ s. refl }
+still (records.BadRlc fault) h =
+    record { no_up = λ s k. refl; no_loop = λ k. refl; no_run = refl; not_of_air = refl; no_event = λ s. refl }
+still (records.BadPdcp fault) h =
+    record { no_up = λ s k. refl; no_loop = λ k. refl; no_run = refl; not_of_air = refl; no_event = λ s. refl }
 still (records.Line number line) h = absurd (false≢true h)
 still (records.Tti tti) h = absurd (false≢true h)
 still records.Sleep h = absurd (false≢true h)
@@ -78,7 +106,8 @@ all_append : (a b : List Record) → AllShown a → AllShown b → AllShown (a +
 all_append [] b p q = q
 all_append (one ∷ more) b p q = (p.0, all_append more b p.1 q)
 
-none_kept : (test : Record → Bool) → ((one : Record) → is_shown one ≡ true → test one ≡ false) → (rs : List Record) → AllShown rs → filter test rs ≡ []
+none_kept : (test : Record → Bool) → ((one : Record) → is_shown one ≡ true → test one ≡ false) → (rs : List Record)
+    → AllShown rs → filter test rs ≡ []
 none_kept test h [] a = refl
 none_kept test h (one ∷ more) a = rw (h one a.0) (none_kept test h more a.1)
 
@@ -136,7 +165,8 @@ item_shows kinds (padding octets) = (refl, tt)
 
 items_show : (kinds : List (Option Layout)) (is : List MacItem) → AllShown (items_shown kinds is)
 items_show kinds [] = tt
-items_show kinds (i ∷ is) = all_append (item_shown kinds i) (items_shown kinds is) (item_shows kinds i) (items_show kinds is)
+items_show kinds (i ∷ is) =
+    all_append (item_shown kinds i) (items_shown kinds is) (item_shows kinds i) (items_show kinds is)
 
 pub block_shows : (kinds : List (Option Layout)) (r : Result (List MacItem) MacRefusal) → AllShown (shown_by kinds r)
 block_shows kinds (Ok items) = items_show kinds items
@@ -144,7 +174,8 @@ block_shows kinds (Err fault) = (refl, tt)
 
 -- ---- a block is shown
 
-none_counted : (test : Record → Bool) (rs : List Record) → ((one : Record) → is_shown one ≡ true → test one ≡ false) → AllShown rs → length (filter test rs) ≡ 0
+none_counted : (test : Record → Bool) (rs : List Record) → ((one : Record) → is_shown one ≡ true → test one ≡ false)
+    → AllShown rs → length (filter test rs) ≡ 0
 none_counted test rs h a = ap length (none_kept test h rs a)
 
 pub shows_adds : (direction : Direction) (block : List ℕ) (l : Link) → Adds [] l (shows direction block l)
@@ -156,10 +187,16 @@ shows_adds direction block l =
       out_is = refl;
       ttis_is = refl;
       told = record {
-        nb_delivered = same_grows (λ k. ups Nb k rs) l.up.delivered l.up.delivered refl (λ k. none_counted (is_up Nb k) rs (λ one h. (still one h).no_up Nb k) a);
-        ue_delivered = same_grows (λ k. ups Ue k rs) l.down.delivered l.down.delivered refl (λ k. none_counted (is_up Ue k) rs (λ one h. (still one h).no_up Ue k) a);
+        nb_delivered =
+            same_grows (λ k. ups Nb k rs) l.up.delivered l.up.delivered refl
+            (λ k. none_counted (is_up Nb k) rs (λ one h. (still one h).no_up Nb k) a);
+        ue_delivered =
+            same_grows (λ k. ups Ue k rs) l.down.delivered l.down.delivered refl
+            (λ k. none_counted (is_up Ue k) rs (λ one h. (still one h).no_up Ue k) a);
         nb_submitted = refl;
-        ue_submitted = same_grows (λ k. loopeds k rs) l.up.submitted l.up.submitted refl (λ k. none_counted (is_looped k) rs (λ one h. (still one h).no_loop k) a);
+        ue_submitted =
+            same_grows (λ k. loopeds k rs) l.up.submitted l.up.submitted refl
+            (λ k. none_counted (is_looped k) rs (λ one h. (still one h).no_loop k) a);
         flown_is = none_kept is_of_air (λ one h. (still one h).not_of_air) rs a;
         none_of_run = none_kept is_of_run (λ one h. (still one h).no_run) rs a;
       };
@@ -198,15 +235,19 @@ all_kept : (rs : List Record) → AllShown rs → filter is_of_building rs ≡ r
 all_kept [] a = refl
 all_kept (one ∷ more) a = rw (shown_is_built one a.0) (ap (λ (x : List Record). one ∷ x) (all_kept more a.1))
 
-pub block_is_shown : (direction : Direction) (kinds : List (Option Layout)) (block : List ℕ) → filter is_of_building (block_shown direction kinds block) ≡ block_shown direction kinds block
-block_is_shown direction kinds block = all_kept (block_shown direction kinds block) (block_shows kinds (reading direction block))
+pub block_is_shown : (direction : Direction) (kinds : List (Option Layout)) (block : List ℕ)
+    → filter is_of_building (block_shown direction kinds block) ≡ block_shown direction kinds block
+block_is_shown direction kinds block =
+    all_kept (block_shown direction kinds block) (block_shows kinds (reading direction block))
 
 none_told : (side : Side) (rs : List Record) → AllShown rs → told_by side rs ≡ []
 none_told side [] a = refl
 none_told side (one ∷ more) a = rw ((still one a.0).no_event side) (none_told side more a.1)
 
-pub shown_untold : (side : Side) (direction : Direction) (kinds : List (Option Layout)) (block : List ℕ) → told_by side (block_shown direction kinds block) ≡ []
-shown_untold side direction kinds block = none_told side (block_shown direction kinds block) (block_shows kinds (reading direction block))
+pub shown_untold : (side : Side) (direction : Direction) (kinds : List (Option Layout)) (block : List ℕ)
+    → told_by side (block_shown direction kinds block) ≡ []
+shown_untold side direction kinds block =
+    none_told side (block_shown direction kinds block) (block_shows kinds (reading direction block))
 
 -- ---- nothing that is shown tells of an SDU of the test loop
 
@@ -219,11 +260,19 @@ all_silent : (rs : List Record) → AllShown rs → AllByRecursion IsSilent rs
 all_silent [] a = tt
 all_silent (one ∷ more) a = (shown_is_silent one a.0, all_silent more a.1)
 
-pub block_is_silent : (direction : Direction) (kinds : List (Option Layout)) (block : List ℕ) → AllByRecursion IsSilent (block_shown direction kinds block)
-block_is_silent direction kinds block = all_silent (block_shown direction kinds block) (block_shows kinds (reading direction block))
+pub block_is_silent : (direction : Direction) (kinds : List (Option Layout)) (block : List ℕ)
+    → AllByRecursion IsSilent (block_shown direction kinds block)
+block_is_silent direction kinds block =
+    all_silent (block_shown direction kinds block) (block_shows kinds (reading direction block))
 
-pub block_hands_up_none : (direction : Direction) (kinds : List (Option Layout)) (block : List ℕ) (side : Side) (lcid : ℕ) → filter (is_up side lcid) (block_shown direction kinds block) ≡ []
-block_hands_up_none direction kinds block side lcid = none_kept (is_up side lcid) (λ one h. (still one h).no_up side lcid) (block_shown direction kinds block) (block_shows kinds (reading direction block))
+pub block_hands_up_none : (direction : Direction) (kinds : List (Option Layout)) (block : List ℕ) (side : Side)
+    (lcid : ℕ) → filter (is_up side lcid) (block_shown direction kinds block) ≡ []
+block_hands_up_none direction kinds block side lcid =
+    none_kept (is_up side lcid) (λ one h. (still one h).no_up side lcid) (block_shown direction kinds block)
+    (block_shows kinds (reading direction block))
 
-pub block_is_of_no_air : (direction : Direction) (kinds : List (Option Layout)) (block : List ℕ) → filter is_of_air (block_shown direction kinds block) ≡ []
-block_is_of_no_air direction kinds block = none_kept is_of_air (λ one h. (still one h).not_of_air) (block_shown direction kinds block) (block_shows kinds (reading direction block))
+pub block_is_of_no_air : (direction : Direction) (kinds : List (Option Layout)) (block : List ℕ)
+    → filter is_of_air (block_shown direction kinds block) ≡ []
+block_is_of_no_air direction kinds block =
+    none_kept is_of_air (λ one h. (still one h).not_of_air) (block_shown direction kinds block)
+    (block_shows kinds (reading direction block))

@@ -1,5 +1,6 @@
 -- A block comes that is under way; a visit; and what no process holds is let go.
-use Rattle.std.proofs.Common.{◌≡◌, ℕ, ◌%◌, Bool, ◌||◌, Option, Some, List, [], ◌∷◌, ◌++◌, map, append_assoc, append-nil, refl, ap, sym, subst, ◌∙◌}
+use Rattle.std.proofs.Common.{◌≡◌, ℕ, ◌%◌, Bool, ◌||◌, Option, Some, List, [], ◌∷◌, ◌++◌, map, append_assoc, append-nil}
+use Rattle.std.proofs.Common.{refl, ap, sym, subst, ◌∙◌}
 use Rattle.std.specs.Prelude.{slice_get}
 use Rattle.std.specs.List.{filter}
 use Rattle.air_link.specs.Downlink.{hears}
@@ -36,9 +37,12 @@ use Rattle.law_air.specs.TwoEnds.Shown.{IsShown}
 use Rattle.law_air.specs.TwoEnds.On.{until, IsStation}
 use Rattle.promises.specs.Arrival.{tells_in}
 use Rattle.law_air.proofs.TwoEnds.Showing.{Shows, got_own, got_hidden}
-use Rattle.law_air.proofs.TwoEnds.Going.{Marks, Behind, Any, Block', Fits, IsAt, last_in, no_whats, call_whats, come_whats, GoesBehind, TellNoAir, Brings, IsPlayed, none, goes_then, goes_call, goes_come, goes_off}
+use Rattle.law_air.proofs.TwoEnds.Going.{Marks, Behind, Any, Block', Fits, IsAt, last_in, no_whats, call_whats}
+use Rattle.law_air.proofs.TwoEnds.Going.{come_whats, GoesBehind, TellNoAir, Brings, IsPlayed, none, goes_then}
+use Rattle.law_air.proofs.TwoEnds.Going.{goes_call, goes_come, goes_off}
 use Rattle.law_air.proofs.TwoEnds.Stations.{Moment, Waits, Done, stays_by, left_by, lasts, turned_station, is_visiting}
-use Rattle.law_air.proofs.TwoEnds.Stages.{Stands, events_unlooped, unlooped_by, StageBehind, Stage, unlooped_goes, quiet_events, stands_on}
+use Rattle.law_air.proofs.TwoEnds.Stages.{Stands, events_unlooped, unlooped_by, StageBehind, Stage, unlooped_goes}
+use Rattle.law_air.proofs.TwoEnds.Stages.{quiet_events, stands_on}
 
 -- ---- a block comes that is under way
 
@@ -49,22 +53,33 @@ pub record Flown (octets : List ℕ) (p : ℕ) (s : Station) : Type 0 where
   pub there : slice_get s.blocks place ≡ Some block
   pub octets_are : block.octets ≡ octets
 
-heard_from : (l : ℕ) (side : Side) (e : End) (octets : List ℕ) → HasCome side e → heard_in l e (Receive octets) ≡ bringing (carried l (heard_by side) octets)
+heard_from : (l : ℕ) (side : Side) (e : End) (octets : List ℕ) → HasCome side e
+    → heard_in l e (Receive octets) ≡ bringing (carried l (heard_by side) octets)
 heard_from l side e octets h = ap (λ (s : Side). bringing (carried l (heard_by s) octets)) (come_side side e h)
 
-came_ue : (l p : ℕ) (e : End) (b : Block) (es : List Event) → b.process ≡ p → es ≡ told_of e (Receive b.octets) → (bits : ℕ) (from : Side) (c : Place) (heard : Option Bool) → c.process ≡ p
-    → told_in (sent_by from) l c (records.Air directions.Down arriveds.Got heard ∷ map (records.Of Ue) es) ≡ come_whats Ue l e b bits from
-came_ue l p e b es is same bits Nb c heard at = got_own Nb l c heard es ∙ ap (λ (n : ℕ). pdu_comes n ∷ expiries l es) (at ∙ sym is) ∙ ap (λ (xs : List Event). pdu_comes b.process ∷ expiries l xs) same
+came_ue : (l p : ℕ) (e : End) (b : Block) (es : List Event) → b.process ≡ p → es ≡ told_of e (Receive b.octets)
+    → (bits : ℕ) (from : Side) (c : Place) (heard : Option Bool) → c.process ≡ p
+    → told_in (sent_by from) l c (records.Air directions.Down arriveds.Got heard ∷ map (records.Of Ue) es)
+    ≡ come_whats Ue l e b bits from
+came_ue l p e b es is same bits Nb c heard at = got_own Nb l c heard es
+    ∙ ap (λ (n : ℕ). pdu_comes n ∷ expiries l es) (at ∙ sym is)
+    ∙ ap (λ (xs : List Event). pdu_comes b.process ∷ expiries l xs) same
 came_ue l p e b es is same bits Ue c heard at = got_hidden Nb l c heard es
 
-came_nb : (l p : ℕ) (e : End) (b : Block) (es : List Event) → b.process ≡ p → es ≡ told_of e (Receive b.octets) → (bits : ℕ) (from : Side) (c : Place) (heard : Option Bool) → c.process ≡ p
-    → told_in (sent_by from) l c (records.Air directions.Up arriveds.Got heard ∷ map (records.Of Nb) es) ≡ come_whats Nb l e b bits from
-came_nb l p e b es is same bits Ue c heard at = got_own Ue l c heard es ∙ ap (λ (n : ℕ). pdu_comes n ∷ expiries l es) (at ∙ sym is) ∙ ap (λ (xs : List Event). pdu_comes b.process ∷ expiries l xs) same
+came_nb : (l p : ℕ) (e : End) (b : Block) (es : List Event) → b.process ≡ p → es ≡ told_of e (Receive b.octets)
+    → (bits : ℕ) (from : Side) (c : Place) (heard : Option Bool) → c.process ≡ p
+    → told_in (sent_by from) l c (records.Air directions.Up arriveds.Got heard ∷ map (records.Of Nb) es)
+    ≡ come_whats Nb l e b bits from
+came_nb l p e b es is same bits Ue c heard at = got_own Ue l c heard es
+    ∙ ap (λ (n : ℕ). pdu_comes n ∷ expiries l es) (at ∙ sym is)
+    ∙ ap (λ (xs : List Event). pdu_comes b.process ∷ expiries l xs) same
 came_nb l p e b es is same bits Nb c heard at = got_hidden Ue l c heard es
 
 -- a block that was sent last is got, and comes
-pub hears_ue : (l : ℕ) (set : Marks) (octets : List ℕ) (v : ℕ) (heard : Option Bool) (k : Link) (P : Station → Type 0) (u : Moment) → ((s : Station) → P s → Flown octets v s)
-    → StageBehind l set (Block' octets v) Any P (Stands Ue u) P (Stands Ue u) k (hears Ue octets (says (records.Air directions.Down arriveds.Got heard) k))
+pub hears_ue : (l : ℕ) (set : Marks) (octets : List ℕ) (v : ℕ) (heard : Option Bool) (k : Link) (P : Station
+    → Type 0) (u : Moment) → ((s : Station) → P s → Flown octets v s)
+    → StageBehind l set (Block' octets v) Any P (Stands Ue u) P (Stands Ue u) k
+    (hears Ue octets (says (records.Air directions.Down arriveds.Got heard) k))
 hears_ue l set octets v heard k P u flown a h =
     let f = flown a.nb h.nb in
     let es = (received k.ue octets).events in
@@ -74,22 +89,30 @@ hears_ue l set octets v heard k P u flown a h =
     let m = with_end Ue (after_call w.ue (Receive octets)) w in
     let same = told_seen Ue es m in
     let b : Air = record a { ue = record a.ue { end = after_call a.ue.end (Receive octets) } } in
-    let told_is = own_told Ue es (tells_no_loop k.ue (Receive octets)) ∙ ap (λ (e : End). (received e octets).events) (sym h.ue_is) ∙ ap (λ (o : List ℕ). (received a.ue.end o).events) (sym f.octets_are) in
-    let es_are : es ≡ told_of a.ue.end (Receive f.block.octets) = ap (λ (e : End). (received e octets).events) (sym h.ue_is) ∙ ap (λ (o : List ℕ). (received a.ue.end o).events) (sym f.octets_are) in
+    let told_is = own_told Ue es (tells_no_loop k.ue (Receive octets))
+    ∙ ap (λ (e : End). (received e octets).events) (sym h.ue_is)
+    ∙ ap (λ (o : List ℕ). (received a.ue.end o).events) (sym f.octets_are) in
+    let es_are : es ≡ told_of a.ue.end (Receive f.block.octets) =
+    ap (λ (e : End). (received e octets).events) (sym h.ue_is)
+    ∙ ap (λ (o : List ℕ). (received a.ue.end o).events) (sym f.octets_are) in
     let quiet : TellNoAir (map (records.Of Ue) es) = quiet_events Ue es ((writes_nothing k.ue).receiving octets) in
     let brings : Brings l (Block' octets v) Ue told f.block.octets a.ue.end = record {
       own = λ bits sent fits. quiet bits l Ue sent;
       far = λ bits sent fits.
           ap (λ (hs : List Happening). bringing (carried l directions.Down sent) ++ hs) (quiet bits l Nb sent)
           ∙ (append-nil (bringing (carried l directions.Down sent))
-          ∙ (ap (λ (o : List ℕ). bringing (carried l directions.Down o)) (fits ∙ sym f.octets_are) ∙ sym (heard_from l Ue a.ue.end f.block.octets h.ue.is.come)));
+          ∙ (ap (λ (o : List ℕ). bringing (carried l directions.Down o)) (fits ∙ sym f.octets_are)
+          ∙ sym (heard_from l Ue a.ue.end f.block.octets h.ue.is.come)));
     } in
     record {
       air = b;
       more = told;
       out_is = ap (λ (s : Seen). s.out) same ∙ append_assoc k.out (one ∷ []) (map (records.Of Ue) es);
-      goes = unlooped_goes l set told a b (λ n. unlooped_by n one (map (records.Of Ue) es) refl (events_unlooped n Ue es))
-          (subst (λ (o : List ℕ). GoesBehind l set (Block' octets v) told none (come_whats Ue l a.ue.end f.block) a (record a { ue = record a.ue { end = after_call a.ue.end (Receive o) } })) f.octets_are
+      goes =
+          unlooped_goes l set told a b
+          (λ n. unlooped_by n one (map (records.Of Ue) es) refl (events_unlooped n Ue es))
+          (subst (λ (o : List ℕ). GoesBehind l set (Block' octets v) told none (come_whats Ue l a.ue.end f.block) a
+          (record a { ue = record a.ue { end = after_call a.ue.end (Receive o) } })) f.octets_are
           (goes_come l set (Block' octets v) Ue told f.place f.block a refl brings f.there told_is (other_told Ue es)));
       ws = come_whats Ue l a.ue.end f.block;
       left = λ sent fits. tt;
@@ -104,8 +127,10 @@ hears_ue l set octets v heard k P u flown a h =
       };
     }
 
-pub hears_nb : (l : ℕ) (set : Marks) (octets : List ℕ) (v : ℕ) (heard : Option Bool) (k : Link) (n : Moment) (Q : Station → Type 0) → ((s : Station) → Q s → Flown octets v s)
-    → StageBehind l set (Block' octets v) Any (Stands Nb n) Q (Stands Nb n) Q k (hears Nb octets (says (records.Air directions.Up arriveds.Got heard) k))
+pub hears_nb : (l : ℕ) (set : Marks) (octets : List ℕ) (v : ℕ) (heard : Option Bool) (k : Link) (n : Moment)
+    (Q : Station → Type 0) → ((s : Station) → Q s → Flown octets v s)
+    → StageBehind l set (Block' octets v) Any (Stands Nb n) Q (Stands Nb n) Q k
+    (hears Nb octets (says (records.Air directions.Up arriveds.Got heard) k))
 hears_nb l set octets v heard k n Q flown a h =
     let f = flown a.ue h.ue in
     let es = (received k.nb octets).events in
@@ -115,22 +140,30 @@ hears_nb l set octets v heard k n Q flown a h =
     let m = with_end Nb (after_call w.nb (Receive octets)) w in
     let same = told_seen Nb es m in
     let b : Air = record a { nb = record a.nb { end = after_call a.nb.end (Receive octets) } } in
-    let told_is = own_told Nb es (tells_no_loop k.nb (Receive octets)) ∙ ap (λ (e : End). (received e octets).events) (sym h.nb_is) ∙ ap (λ (o : List ℕ). (received a.nb.end o).events) (sym f.octets_are) in
-    let es_are : es ≡ told_of a.nb.end (Receive f.block.octets) = ap (λ (e : End). (received e octets).events) (sym h.nb_is) ∙ ap (λ (o : List ℕ). (received a.nb.end o).events) (sym f.octets_are) in
+    let told_is = own_told Nb es (tells_no_loop k.nb (Receive octets))
+    ∙ ap (λ (e : End). (received e octets).events) (sym h.nb_is)
+    ∙ ap (λ (o : List ℕ). (received a.nb.end o).events) (sym f.octets_are) in
+    let es_are : es ≡ told_of a.nb.end (Receive f.block.octets) =
+    ap (λ (e : End). (received e octets).events) (sym h.nb_is)
+    ∙ ap (λ (o : List ℕ). (received a.nb.end o).events) (sym f.octets_are) in
     let quiet : TellNoAir (map (records.Of Nb) es) = quiet_events Nb es ((writes_nothing k.nb).receiving octets) in
     let brings : Brings l (Block' octets v) Nb told f.block.octets a.nb.end = record {
       own = λ bits sent fits. quiet bits l Nb sent;
       far = λ bits sent fits.
           ap (λ (hs : List Happening). bringing (carried l directions.Up sent) ++ hs) (quiet bits l Ue sent)
           ∙ (append-nil (bringing (carried l directions.Up sent))
-          ∙ (ap (λ (o : List ℕ). bringing (carried l directions.Up o)) (fits ∙ sym f.octets_are) ∙ sym (heard_from l Nb a.nb.end f.block.octets h.nb.is.come)));
+          ∙ (ap (λ (o : List ℕ). bringing (carried l directions.Up o)) (fits ∙ sym f.octets_are)
+          ∙ sym (heard_from l Nb a.nb.end f.block.octets h.nb.is.come)));
     } in
     record {
       air = b;
       more = told;
       out_is = ap (λ (s : Seen). s.out) same ∙ append_assoc k.out (one ∷ []) (map (records.Of Nb) es);
-      goes = unlooped_goes l set told a b (λ i. unlooped_by i one (map (records.Of Nb) es) refl (events_unlooped i Nb es))
-          (subst (λ (o : List ℕ). GoesBehind l set (Block' octets v) told none (come_whats Nb l a.nb.end f.block) a (record a { nb = record a.nb { end = after_call a.nb.end (Receive o) } })) f.octets_are
+      goes =
+          unlooped_goes l set told a b
+          (λ i. unlooped_by i one (map (records.Of Nb) es) refl (events_unlooped i Nb es))
+          (subst (λ (o : List ℕ). GoesBehind l set (Block' octets v) told none (come_whats Nb l a.nb.end f.block) a
+          (record a { nb = record a.nb { end = after_call a.nb.end (Receive o) } })) f.octets_are
           (goes_come l set (Block' octets v) Nb told f.place f.block a refl brings f.there told_is (other_told Nb es)));
       ws = come_whats Nb l a.nb.end f.block;
       left = λ sent fits. tt;
@@ -178,12 +211,15 @@ pub record Visited (l : ℕ) (side : Side) (t : Turn) (told : List Record) (k m 
   pub other_told : told_by (other side) told ≡ []
   pub unlooped : (n : ℕ) → loops_in n told ≡ []
   -- what is told of the air, by an end of the side; and the block that is sent
-  pub says : (bits l : ℕ) (sent : List ℕ) → HasCome side (end_of side k) → said_in bits l (end_of side k) (Visits t) ≡ tells_in bits l side sent told
+  pub says : (bits l : ℕ) (sent : List ℕ) → HasCome side (end_of side k)
+      → said_in bits l (end_of side k) (Visits t) ≡ tells_in bits l side sent told
   pub hears : (bits l : ℕ) (sent : List ℕ) → [] ≡ tells_in bits l (other side) sent told
   pub kinds_are : m.kinds ≡ k.kinds
   pub shown : HasCome side (end_of side k) → Shows l k.kinds told (call_whats side l (end_of side k) (Visits t))
 
-pub visit_nb : (l : ℕ) (set : Marks) (d : Behind) (t : Turn) (told : List Record) (k m : Link) (Q : Station → Type 0) → ((sent : List ℕ) → Fits d (last_in told sent)) → ((p : Place) → IsAt d (place_behind p told)) → Visited l Nb t told k m
+pub visit_nb : (l : ℕ) (set : Marks) (d : Behind) (t : Turn) (told : List Record) (k m : Link) (Q : Station → Type 0)
+    → ((sent : List ℕ) → Fits d (last_in told sent)) → ((p : Place) → IsAt d (place_behind p told))
+    → Visited l Nb t told k m
     → StageBehind l set Any d (Stands Nb (Waits t.tti)) Q (Visiting Nb t k.nb) Q k m
 visit_nb l set d t told k m Q left stands x a h =
     let v = answer_to t a.nb.end in
@@ -195,20 +231,23 @@ visit_nb l set d t told k m Q left stands x a h =
       out_is = x.out_is;
       goes = unlooped_goes l set told a c x.unlooped
           (goes_then l set [] told none none a b c (goes_off l set Nb (stays_by v (t.tti % 8)) a)
-          (goes_call l set Nb told none (Visits t) b x.given (played l set t) (is_visiting Nb t a.nb h.nb.is v refl x.given.1 h.nb.idle)
+          (goes_call l set Nb told none (Visits t) b x.given (played l set t)
+          (is_visiting Nb t a.nb h.nb.is v refl x.given.1 h.nb.idle)
           (record {
             told_is = x.told_is ∙ ap (building t.tti t.grant t.order) (sym h.nb_is);
             other_told = x.other_told;
             submitted_is = λ n. refl;
             other_submitted = λ n. refl;
-            says = λ bits j sent. ap (λ (e : End). said_in bits j e (Visits t)) h.nb_is ∙ x.says bits j sent (subst (HasCome Nb) h.nb_is h.nb.is.come);
+            says = λ bits j sent. ap (λ (e : End). said_in bits j e (Visits t)) h.nb_is
+                ∙ x.says bits j sent (subst (HasCome Nb) h.nb_is h.nb.is.come);
             hears = λ bits j sent. x.hears bits j sent;
           })));
       ws = call_whats Nb l a.nb.end (Visits t);
       left = λ sent fits. left sent;
       stands = λ p at. stands p;
       stays = λ bits. subst (IsShown l bits) (sym x.kinds_are);
-      shown = λ bits s from p at. x.shown (subst (HasCome Nb) h.nb_is h.nb.is.come) bits s from p ∙ ap (λ (e : End). call_whats Nb l e (Visits t) bits from) (sym h.nb_is);
+      shown = λ bits s from p at. x.shown (subst (HasCome Nb) h.nb_is h.nb.is.come) bits s from p
+          ∙ ap (λ (e : End). call_whats Nb l e (Visits t) bits from) (sym h.nb_is);
       both = record {
         nb_is = ap (λ (e : End). after_call e (Visits t)) h.nb_is ∙ sym x.end_is;
         ue_is = h.ue_is ∙ sym x.other_is;
@@ -217,7 +256,9 @@ visit_nb l set d t told k m Q left stands x a h =
       };
     }
 
-pub visit_ue : (l : ℕ) (set : Marks) (d : Behind) (t : Turn) (told : List Record) (k m : Link) (P : Station → Type 0) → ((sent : List ℕ) → Fits d (last_in told sent)) → ((p : Place) → IsAt d (place_behind p told)) → Visited l Ue t told k m
+pub visit_ue : (l : ℕ) (set : Marks) (d : Behind) (t : Turn) (told : List Record) (k m : Link) (P : Station → Type 0)
+    → ((sent : List ℕ) → Fits d (last_in told sent)) → ((p : Place) → IsAt d (place_behind p told))
+    → Visited l Ue t told k m
     → StageBehind l set Any d P (Stands Ue (Waits t.tti)) P (Visiting Ue t k.ue) k m
 visit_ue l set d t told k m P left stands x a h =
     let v = answer_to t a.ue.end in
@@ -229,20 +270,23 @@ visit_ue l set d t told k m P left stands x a h =
       out_is = x.out_is;
       goes = unlooped_goes l set told a c x.unlooped
           (goes_then l set [] told none none a b c (goes_off l set Ue (stays_by v (t.tti % 8)) a)
-          (goes_call l set Ue told none (Visits t) b x.given (played l set t) (is_visiting Ue t a.ue h.ue.is v refl x.given.1 h.ue.idle)
+          (goes_call l set Ue told none (Visits t) b x.given (played l set t)
+          (is_visiting Ue t a.ue h.ue.is v refl x.given.1 h.ue.idle)
           (record {
             told_is = x.told_is ∙ ap (building t.tti t.grant t.order) (sym h.ue_is);
             other_told = x.other_told;
             submitted_is = λ n. refl;
             other_submitted = λ n. refl;
-            says = λ bits j sent. ap (λ (e : End). said_in bits j e (Visits t)) h.ue_is ∙ x.says bits j sent (subst (HasCome Ue) h.ue_is h.ue.is.come);
+            says = λ bits j sent. ap (λ (e : End). said_in bits j e (Visits t)) h.ue_is
+                ∙ x.says bits j sent (subst (HasCome Ue) h.ue_is h.ue.is.come);
             hears = λ bits j sent. x.hears bits j sent;
           })));
       ws = call_whats Ue l a.ue.end (Visits t);
       left = λ sent fits. left sent;
       stands = λ p at. stands p;
       stays = λ bits. subst (IsShown l bits) (sym x.kinds_are);
-      shown = λ bits s from p at. x.shown (subst (HasCome Ue) h.ue_is h.ue.is.come) bits s from p ∙ ap (λ (e : End). call_whats Ue l e (Visits t) bits from) (sym h.ue_is);
+      shown = λ bits s from p at. x.shown (subst (HasCome Ue) h.ue_is h.ue.is.come) bits s from p
+          ∙ ap (λ (e : End). call_whats Ue l e (Visits t) bits from) (sym h.ue_is);
       both = record {
         nb_is = h.nb_is ∙ sym x.other_is;
         ue_is = ap (λ (e : End). after_call e (Visits t)) h.ue_is ∙ sym x.end_is;
@@ -253,17 +297,27 @@ visit_ue l set d t told k m P left stands x a h =
 
 -- ---- what no process holds is let go
 
-let_go : (side : Side) (t : Turn) (e : End) (s : Station) → Visiting side t e s → Stands side (Done t.tti) (record s { blocks = filter (lasts s.end.sender) s.blocks })
+let_go : (side : Side) (t : Turn) (e : End) (s : Station) → Visiting side t e s
+    → Stands side (Done t.tti) (record s { blocks = filter (lasts s.end.sender) s.blocks })
 let_go side t e s h =
-    subst (λ (x : Station). Stands side (Done t.tti) (record x { blocks = filter (lasts x.end.sender) x.blocks })) (sym h.is)
-    (record { is = turned_station side t h.was h.stands (answer_to t h.was.end) (h.was.busy || is_new (answer_to t h.was.end)) refl h.given; idle = tt })
+    subst (λ (x : Station). Stands side (Done t.tti) (record x { blocks = filter (lasts x.end.sender) x.blocks }))
+    (sym h.is)
+    (record {
+      is =
+          turned_station side t h.was h.stands (answer_to t h.was.end) (h.was.busy || is_new (answer_to t h.was.end))
+          refl h.given;
+      idle = tt;
+    })
 
-pub done_nb : (l : ℕ) (set : Marks) (t : Turn) (e : End) (k : Link) (Q : Station → Type 0) → Stage l set (Visiting Nb t e) Q (Stands Nb (Done t.tti)) Q k k
+pub done_nb : (l : ℕ) (set : Marks) (t : Turn) (e : End) (k : Link) (Q : Station → Type 0)
+    → Stage l set (Visiting Nb t e) Q (Stands Nb (Done t.tti)) Q k k
 done_nb l set t e k Q a h = record {
   air = record a { nb = record a.nb { blocks = filter (lasts a.nb.end.sender) a.nb.blocks } };
   more = [];
   out_is = sym (append-nil k.out);
-  goes = unlooped_goes l set [] a (record a { nb = record a.nb { blocks = filter (lasts a.nb.end.sender) a.nb.blocks } }) (λ n. refl) (goes_off l set Nb (lasts a.nb.end.sender) a);
+  goes =
+      unlooped_goes l set [] a (record a { nb = record a.nb { blocks = filter (lasts a.nb.end.sender) a.nb.blocks } })
+      (λ n. refl) (goes_off l set Nb (lasts a.nb.end.sender) a);
   ws = no_whats;
   left = λ sent fits. tt;
   stands = λ c at. tt;
@@ -272,12 +326,15 @@ done_nb l set t e k Q a h = record {
   both = record { nb_is = h.nb_is; ue_is = h.ue_is; nb = let_go Nb t e a.nb h.nb; ue = h.ue };
 }
 
-pub done_ue : (l : ℕ) (set : Marks) (t : Turn) (e : End) (k : Link) (P : Station → Type 0) → Stage l set P (Visiting Ue t e) P (Stands Ue (Done t.tti)) k k
+pub done_ue : (l : ℕ) (set : Marks) (t : Turn) (e : End) (k : Link) (P : Station → Type 0)
+    → Stage l set P (Visiting Ue t e) P (Stands Ue (Done t.tti)) k k
 done_ue l set t e k P a h = record {
   air = record a { ue = record a.ue { blocks = filter (lasts a.ue.end.sender) a.ue.blocks } };
   more = [];
   out_is = sym (append-nil k.out);
-  goes = unlooped_goes l set [] a (record a { ue = record a.ue { blocks = filter (lasts a.ue.end.sender) a.ue.blocks } }) (λ n. refl) (goes_off l set Ue (lasts a.ue.end.sender) a);
+  goes =
+      unlooped_goes l set [] a (record a { ue = record a.ue { blocks = filter (lasts a.ue.end.sender) a.ue.blocks } })
+      (λ n. refl) (goes_off l set Ue (lasts a.ue.end.sender) a);
   ws = no_whats;
   left = λ sent fits. tt;
   stands = λ c at. tt;

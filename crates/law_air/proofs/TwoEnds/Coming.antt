@@ -38,8 +38,10 @@ same_on k m a nb ue ttis h = record {
   ue_idle = h.ue_idle;
 }
 
-abbrev pub ends_come_by : (l : ℕ) (told : List Record) (submitted : Side → ℕ → List (List ℕ)) (said : ℕ → Side → List Happening) (set : Bool) (k m : Link) (a : Air)
-    → m.nb ≡ k.nb → m.ue ≡ k.ue → m.ttis ≡ k.ttis → GoesByAir l told submitted said set k a → GoesByAir l told submitted said set m a
+abbrev pub ends_come_by : (l : ℕ) (told : List Record) (submitted : Side → ℕ → List (List ℕ)) (said : ℕ → Side
+    → List Happening) (set : Bool) (k m : Link) (a : Air)
+    → m.nb ≡ k.nb → m.ue ≡ k.ue → m.ttis ≡ k.ttis → GoesByAir l told submitted said set k a
+    → GoesByAir l told submitted said set m a
 ends_come_by l told submitted said set k m a nb_is ue_is ttis_is x = record {
   steps = x.steps;
   living = x.living;
@@ -50,17 +52,29 @@ ends_come_by l told submitted said set k m a nb_is ue_is ttis_is x = record {
   on = same_on k m (lives x.steps a) nb_is ue_is ttis_is x.on;
 }
 
-pub ends_come : (l : ℕ) (told : List Record) (submitted : Side → ℕ → List (List ℕ)) (said : ℕ → Side → List Happening) (set : Bool) (k m : Link) (a : Air)
-    → m.nb ≡ k.nb → m.ue ≡ k.ue → m.ttis ≡ k.ttis → (before : GoesByAir l told submitted said set k a) → ComesAs l told submitted said set m a before.steps
-ends_come l told submitted said set k m a nb_is ue_is ttis_is x = record { by = ends_come_by l told submitted said set k m a nb_is ue_is ttis_is x; same = refl }
+pub ends_come : (l : ℕ) (told : List Record) (submitted : Side → ℕ → List (List ℕ)) (said : ℕ → Side
+    → List Happening) (set : Bool) (k m : Link) (a : Air)
+    → m.nb ≡ k.nb → m.ue ≡ k.ue → m.ttis ≡ k.ttis → (before : GoesByAir l told submitted said set k a)
+    → ComesAs l told submitted said set m a before.steps
+ends_come l told submitted said set k m a nb_is ue_is ttis_is x =
+    record { by = ends_come_by l told submitted said set k m a nb_is ue_is ttis_is x; same = refl }
 
 -- ---- the bearers come
 
-pub bearers_begin : (config : BearerConfig) (keys : Keys) (k : Link) → IsConfig config → IsAtRest k → BearersBegin config keys k
+pub bearers_begin : (config : BearerConfig) (keys : Keys) (k : Link) → IsConfig config → IsAtRest k
+    → BearersBegin config keys k
 unfolding bears
 bearers_begin config keys k g h = record {
   out_is = refl;
-  by = record { steps = []; living = tt; told_is = λ side. refl; submitted_is = λ side n. refl; happened_is = λ bits from. refl; sets_none = λ off side. tt; on = calls_rest (Bears config keys) k g tt h };
+  by = record {
+    steps = [];
+    living = tt;
+    told_is = λ side. refl;
+    submitted_is = λ side n. refl;
+    happened_is = λ bits from. refl;
+    sets_none = λ off side. tt;
+    on = calls_rest (Bears config keys) k g tt h;
+  };
   no_steps = refl;
 }
 
@@ -74,17 +88,41 @@ either_off false y e = (refl, e)
 abbrev Goes : ℕ → Bool → List Record → (Side → ℕ → List (List ℕ)) → Whats → Air → Air → Type 0
 Goes l set told given ws a b = GoesBehind l (moving set) Unread told given ws a b
 
-by_goes : (l : ℕ) (told : List Record) (submitted : Side → ℕ → List (List ℕ)) (said : ℕ → Side → List Happening) (set whole : Bool) (m : Link) (a : Air) (x : GoesByAir l told submitted said set m a) → (whole ≡ false → set ≡ false)
+by_goes : (l : ℕ) (told : List Record) (submitted : Side → ℕ → List (List ℕ)) (said : ℕ → Side
+    → List Happening) (set whole : Bool) (m : Link) (a : Air) (x : GoesByAir l told submitted said set m a)
+    → (whole ≡ false → set ≡ false)
     → Goes l whole told submitted (λ bits from. whats from l bits x.steps a) a (lives x.steps a)
 by_goes l told submitted said set whole m a x off =
-    record { steps = x.steps; living = x.living; told_is = x.told_is; submitted_is = x.submitted_is; sets_none = λ e. x.sets_none (off e); stays = λ e. absurd cc; reads = λ bits from sent fits. absurd fits; whats_are = λ bits from. refl; air_is = refl }
+    record {
+      steps = x.steps;
+      living = x.living;
+      told_is = x.told_is;
+      submitted_is = x.submitted_is;
+      sets_none = λ e. x.sets_none (off e);
+      stays = λ e. absurd cc;
+      reads = λ bits from sent fits. absurd fits;
+      whats_are = λ bits from. refl;
+      air_is = refl;
+    }
 
-abbrev goes_by : (l : ℕ) (told : List Record) (submitted : Side → ℕ → List (List ℕ)) (said : ℕ → Side → List Happening) (set : Bool) (m : Link) {ws : Whats} (a b : Air) (x : Goes l set told submitted ws a b)
-    → ((bits : ℕ) (from : Side) → happened bits l from x.steps a ≡ said bits from) → IsOn m b → GoesByAir l told submitted said set m a
+abbrev goes_by : (l : ℕ) (told : List Record) (submitted : Side → ℕ → List (List ℕ)) (said : ℕ → Side
+    → List Happening) (set : Bool) (m : Link) {ws : Whats} (a b : Air) (x : Goes l set told submitted ws a b)
+    → ((bits : ℕ) (from : Side) → happened bits l from x.steps a ≡ said bits from) → IsOn m b
+    → GoesByAir l told submitted said set m a
 goes_by l told submitted said set m {ws} a b x happened on =
-    record { steps = x.steps; living = x.living; told_is = x.told_is; submitted_is = x.submitted_is; happened_is = happened; sets_none = x.sets_none; on = subst (IsOn m) (sym x.air_is) on }
+    record {
+      steps = x.steps;
+      living = x.living;
+      told_is = x.told_is;
+      submitted_is = x.submitted_is;
+      happened_is = happened;
+      sets_none = x.sets_none;
+      on = subst (IsOn m) (sym x.air_is) on;
+    }
 
-pub steps_come : (l : ℕ) (told : List Record) (submitted : Side → ℕ → List (List ℕ)) (said : ℕ → Side → List Happening) (set : Bool) (s : Step) (k : Link) (a : Air) → IsStepSince l s → (before : GoesByAir l told submitted said set k a)
+pub steps_come : (l : ℕ) (told : List Record) (submitted : Side → ℕ → List (List ℕ)) (said : ℕ → Side
+    → List Happening) (set : Bool) (s : Step) (k : Link) (a : Air) → IsStepSince l s
+    → (before : GoesByAir l told submitted said set k a)
     → ComesOn l told submitted said set s k a before
 unfolding by_goes
 steps_come l told submitted said set s k a g h =
@@ -98,16 +136,21 @@ steps_come l told submitted said set s k a g h =
     let c = lives y.steps b in
     let before = by_goes l told submitted said set sets_any k a h (λ e. (either_off set (sets l s) e).0) in
     let behind = by_goes l x.more more tells (sets l s) sets_any m b y (λ e. (either_off set (sets l s) e).1) in
-    let whole = behind_then l (moving sets_any) Unread Unread told x.more submitted more a b c refl (λ sent fits. absurd fits) before behind in
+    let whole = behind_then l (moving sets_any) Unread Unread told x.more submitted more a b c refl
+    (λ sent fits. absurd fits) before behind in
     let happens : (bits : ℕ) (from : Side) → happened bits l from whole.steps a ≡ said bits from ++ tells bits from =
     λ bits from.
-    happens_then bits from l (moving sets_any) Unread Unread told x.more submitted more a b c refl (λ sent fits. absurd fits) before behind
-    ∙ (ap (λ (hs : List Happening). hs ++ happened bits l from y.steps b) (h.happened_is bits from) ∙ ap (λ (hs : List Happening). said bits from ++ hs) (y.happened_is bits from)) in
+    happens_then bits from l (moving sets_any) Unread Unread told x.more submitted more a b c refl
+    (λ sent fits. absurd fits) before behind
+    ∙ (ap (λ (hs : List Happening). hs ++ happened bits l from y.steps b) (h.happened_is bits from)
+    ∙ ap (λ (hs : List Happening). said bits from ++ hs) (y.happened_is bits from)) in
     record {
       more = x.more;
       out_is = x.out_is;
       alone = x.alone;
-      by = goes_by l (told ++ x.more) (λ side n. submitted side n ++ more side n) (λ bits from. said bits from ++ tells bits from) sets_any m a c whole happens y.on;
+      by = goes_by l (told ++ x.more) (λ side n. submitted side n ++ more side n)
+          (λ bits from. said bits from ++ tells bits from) sets_any m a c whole happens y.on;
       stays = x.stays;
-      shown = λ bits s' from p. whole.whats_are bits from ∙ ap (λ (ws : List What). whats from l bits h.steps a ++ ws) (x.shown bits s' from p);
+      shown = λ bits s' from p. whole.whats_are bits from
+          ∙ ap (λ (ws : List What). whats from l bits h.steps a ++ ws) (x.shown bits s' from p);
     }

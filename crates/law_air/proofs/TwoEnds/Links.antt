@@ -44,7 +44,12 @@ before_rests : (cs : List Call) (r : Run) → AreCallsBefore cs → RestsYet r �
 before_rests [] r g h = h
 before_rests (c ∷ cs) r g h =
     let m = after c r.link in
-    before_rests cs (run_goes (Calls c) r) g.1 (record { rest = same_on m (emptied m) (outset m.nb m.ue) refl refl refl (calls_rest c r.link g.0.0 g.0.1 h.rest); none_yet = refl })
+    before_rests cs (run_goes (Calls c) r) g.1
+    (record {
+      rest =
+          same_on m (emptied m) (outset m.nb m.ue) refl refl refl (calls_rest c r.link g.0.0 g.0.1 h.rest);
+      none_yet = refl;
+    })
 
 abbrev at_first : Run
 at_first = record { link = fresh; journal = []; given = λ side k. 0 }
@@ -60,13 +65,17 @@ record RunsOn (l : ℕ) (k : Link) : Type 0 where
   runs : Runs l air
   on : IsOn k air
 
-add_begins : (side : Side) (e : End) (config : BearerConfig) (keys : Keys) → HasCome side e → IsConfig config → (h : HasBearer config.channel.lcid (after_call e (Add config keys)))
+add_begins : (side : Side) (e : End) (config : BearerConfig) (keys : Keys) → HasCome side e → IsConfig config
+    → (h : HasBearer config.channel.lcid (after_call e (Add config keys)))
     → Begins side config.channel.lcid (after_call e (Add config keys)) h.bearer
 add_begins side e config keys x g h =
     subst (λ (y : End). Begins side config.channel.lcid (after_call y (Add config keys)) h.bearer) (sym x.end_is)
-    (adds_begin side x.maximum x.reports x.past config keys h.bearer x.given g (ap (λ (y : End). flow config.channel.lcid (after_call y (Add config keys))) (sym x.end_is) ∙ h.bearer_is))
+    (adds_begin side x.maximum x.reports x.past config keys h.bearer x.given g
+    (ap (λ (y : End). flow config.channel.lcid (after_call y (Add config keys))) (sym x.end_is) ∙ h.bearer_is))
 
-first_runs : (config : BearerConfig) (keys : Keys) (k : Link) → IsConfig config → IsAtRest k → HasBearer config.channel.lcid (after_call k.nb (Add config keys)) → HasBearer config.channel.lcid (after_call k.ue (Add config keys))
+first_runs : (config : BearerConfig) (keys : Keys) (k : Link) → IsConfig config → IsAtRest k
+    → HasBearer config.channel.lcid (after_call k.nb (Add config keys))
+    → HasBearer config.channel.lcid (after_call k.ue (Add config keys))
     → Runs config.channel.lcid (outset (after_call k.nb (Add config keys)) (after_call k.ue (Add config keys)))
 first_runs config keys k g h nb ue = record {
   nb = after_call k.nb (Add config keys);
@@ -80,7 +89,8 @@ first_runs config keys k g h nb ue = record {
   air_is = refl;
 }
 
-run_since : (before : List Call) (config : BearerConfig) (keys : Keys) (ss : List Step) → IsRun before config ss → RunsOn config.channel.lcid (link_since before config keys ss)
+run_since : (before : List Call) (config : BearerConfig) (keys : Keys) (ss : List Step) → IsRun before config ss
+    → RunsOn config.channel.lcid (link_since before config keys ss)
 run_since before config keys ss g =
     let l = config.channel.lcid in
     let r = run_on (map Calls before) at_first in
@@ -91,10 +101,14 @@ run_since before config keys ss g =
     let nb_has = added_bearer k.nb config keys g.2 in
     let ue_has = added_bearer k.ue config keys g.2 in
     let first = first_runs config keys k g.1 yet.rest nb_has ue_has in
-    let nb_keeps : Keeps l Nb nb = record { come = come_more Nb k.nb (Add config keys) yet.rest.nb.come g.1; bearer = nb_has } in
-    let ue_keeps : Keeps l Ue ue = record { come = come_more Ue k.ue (Add config keys) yet.rest.ue.come g.1; bearer = ue_has } in
+    let nb_keeps : Keeps l Nb nb =
+    record { come = come_more Nb k.nb (Add config keys) yet.rest.nb.come g.1; bearer = nb_has } in
+    let ue_keeps : Keeps l Ue ue =
+    record { come = come_more Ue k.ue (Add config keys) yet.rest.ue.come g.1; bearer = ue_has } in
     let came = bearers_live config keys k g.1 g.2 yet.rest in
-    let x = runs_live l nb ue [] none_yet (λ bits from. []) false ss (run_goes (Calls (Bears config keys)) r) g.3 refl (ends_live l nb ue [] none_yet (λ bits from. []) false (bears config keys k) (emptied (bears config keys k)) refl refl refl came.lived) in
+    let x = runs_live l nb ue [] none_yet (λ bits from. []) false ss (run_goes (Calls (Bears config keys)) r) g.3 refl
+    (ends_live l nb ue [] none_yet (λ bits from. []) false (bears config keys k) (emptied (bears config keys k))
+    refl refl refl came.lived) in
     let h = x.lived.by in
     let same = run_more (map Calls before) (Calls (Bears config keys) ∷ ss) at_first in
     record {
@@ -105,10 +119,13 @@ run_since before config keys ss g =
 
 -- ---- so they are flows
 
-flows_at : (l : ℕ) (sending : AmTxConfig) (receiving : AmRxConfig) (from to e f : End) → from ≡ e → to ≡ f → IsFlowOn l sending receiving from to → IsFlowOn l sending receiving e f
-flows_at l sending receiving from to e f p q h = subst (λ (x : End). IsFlowOn l sending receiving x f) p (subst (IsFlowOn l sending receiving from) q h)
+flows_at : (l : ℕ) (sending : AmTxConfig) (receiving : AmRxConfig) (from to e f : End) → from ≡ e → to ≡ f
+    → IsFlowOn l sending receiving from to → IsFlowOn l sending receiving e f
+flows_at l sending receiving from to e f p q h =
+    subst (λ (x : End). IsFlowOn l sending receiving x f) p (subst (IsFlowOn l sending receiving from) q h)
 
-pub links_flow : (before : List Call) (config : BearerConfig) (keys : Keys) (ss : List Step) → IsRun before config ss → AreFlows config.channel.lcid (link_since before config keys ss)
+pub links_flow : (before : List Call) (config : BearerConfig) (keys : Keys) (ss : List Step) → IsRun before config ss
+    → AreFlows config.channel.lcid (link_since before config keys ss)
 links_flow before config keys ss g =
     let l = config.channel.lcid in
     let x = run_since before config keys ss g in
@@ -125,12 +142,15 @@ links_flow before config keys ss g =
       up = flows_at l r.ue_bearer.tx_config r.nb_bearer.rx_config a.ue.end a.nb.end k.ue k.nb ue_is nb_is f.up;
     }
 
-pub links_are_ordered : (before : List Call) (config : BearerConfig) (keys : Keys) (ss : List Step) → IsRun before config ss
-    → (nb ue : State) → flow config.channel.lcid (link_since before config keys ss).nb ≡ Am nb → flow config.channel.lcid (link_since before config keys ss).ue ≡ Am ue
+pub links_are_ordered : (before : List Call) (config : BearerConfig) (keys : Keys) (ss : List Step)
+    → IsRun before config ss
+    → (nb ue : State) → flow config.channel.lcid (link_since before config keys ss).nb ≡ Am nb
+    → flow config.channel.lcid (link_since before config keys ss).ue ≡ Am ue
     → AreOrdered nb.tx ue.rx × AreOrdered ue.tx nb.rx
 links_are_ordered before config keys ss g nb ue nb_is ue_is =
     let l = config.channel.lcid in
     let x = run_since before config keys ss g in
     let r = x.runs in
     numbers_are_ordered l r.nb r.ue r.nb_bearer r.ue_bearer r.steps r.nb_begins r.ue_begins r.given nb ue
-    (ap (λ (b : Air). flow l b.nb.end) r.air_is ∙ ap (flow l) x.on.nb_is ∙ nb_is) (ap (λ (b : Air). flow l b.ue.end) r.air_is ∙ ap (flow l) x.on.ue_is ∙ ue_is)
+    (ap (λ (b : Air). flow l b.nb.end) r.air_is ∙ ap (flow l) x.on.nb_is ∙ nb_is)
+    (ap (λ (b : Air). flow l b.ue.end) r.air_is ∙ ap (flow l) x.on.ue_is ∙ ue_is)

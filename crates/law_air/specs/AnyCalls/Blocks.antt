@@ -1,4 +1,5 @@
--- A new block, as the records tell it: what its end tells before it is what it has (TS 36.321 5.4.3.1, 6.1.2).
+-- A new block, as the records tell it: what its end tells before it is what it has (TS 36.321
+-- 5.4.3.1, 6.1.2).
 use Rattle.std.specs.Prelude.{◌≡◌, ◌⊎◌, ℕ, ◌≤◌, Bool, Option, List, []}
 use Rattle.air_record.specs.declared.record.Record.{Record}
 use Rattle.harq.specs.declared.sender.Order.{Order}
@@ -17,4 +18,7 @@ MayBuild side t grant kinds told = (told ≡ []) ⊎ IsNewBlock side t grant kin
 -- at any end that has come so far by calls
 abbrev pub BlocksAreTold : Type 0
 BlocksAreTold = (side : Side) (maximum : ℕ) (reports : Bool) (calls : List EndCall) → AreGiven calls
-    → (t grant : ℕ) (order : Order) (kinds : List (Option Layout)) → grant ≤ GREATEST_GRANT → IsEnough order grant → MayBuild side t grant kinds (visit_told side t grant order kinds (reached side maximum reports calls))
+    → (t grant : ℕ) (order : Order) (kinds : List (Option Layout)) → grant ≤ GREATEST_GRANT
+    → IsEnough order grant
+    → MayBuild side t grant kinds
+    (visit_told side t grant order kinds (reached side maximum reports calls))

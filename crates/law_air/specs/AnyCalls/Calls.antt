@@ -9,7 +9,8 @@ use Rattle.test_loop.specs.declared.Mode.{Mode}
 use Rattle.air_link.specs.Link.{Link}
 use Rattle.air_link.specs.Loops.{loop_set}
 use Rattle.air_link.specs.Draining.{receivers_expire, senders_expire}
-use Rattle.air_link.specs.Lines.{bears, discards, visits, reports, listens, expires, forges, hands_over}
+use Rattle.air_link.specs.Lines.{bears, discards, visits, reports, listens, expires, forges}
+use Rattle.air_link.specs.Lines.{hands_over}
 
 pub data Call : Type 0 where
   Bears : BearerConfig → Keys → Call

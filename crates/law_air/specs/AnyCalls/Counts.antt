@@ -14,4 +14,5 @@ loopeds lcid told = length (filter (is_looped lcid) told)
 -- a table of counts by LCID grows in each place by so much
 pub record Grows (by : ℕ → ℕ) (before after : List ℕ) : Type 0 where
   pub same_length : length after ≡ length before
-  pub grown : (lcid : ℕ) → lcid < length before → slice_index after lcid ≡ slice_index before lcid + by lcid
+  pub grown : (lcid : ℕ) → lcid < length before
+      → slice_index after lcid ≡ slice_index before lcid + by lcid

@@ -1,5 +1,6 @@
 -- What a HARQ process did in a TTI, read off what is told of the air (TS 36.321 5.3.2, 5.4.2).
-use Rattle.std.specs.Prelude.{◌≡◌, ℕ, ◌==◌, Bool, true, false, if◌then◌else◌, Option, Some, None, List, [], ◌∷◌, length}
+use Rattle.std.specs.Prelude.{◌≡◌, ℕ, ◌==◌, Bool, true, false, if◌then◌else◌, Option, Some, None}
+use Rattle.std.specs.Prelude.{List, [], ◌∷◌, length}
 use Rattle.air_record.specs.declared.line.Outcome.{Outcome}
 use Rattle.air_record.specs.declared.record.Arrived.{Arrived}
 use Rattle.air_record.specs.declared.record.Arrived.TheVariants as arriveds
@@ -9,7 +10,8 @@ use Rattle.harq.specs.declared.receiver.Answer.{Answer}
 use Rattle.harq.specs.declared.receiver.Answer.TheVariants.{Up, Again, Damaged}
 use Rattle.harq.specs.declared.sender.Order.{Order}
 use Rattle.harq.specs.declared.sender.Order.TheVariants.{Silent}
-use Rattle.harq.specs.Receiving.{Receiving, fresh as fresh_receiver, after_assigned, assigned_answer, after_grant, after_granted, after_pass}
+use Rattle.harq.specs.Receiving.{Receiving, fresh as fresh_receiver, after_assigned}
+use Rattle.harq.specs.Receiving.{assigned_answer, after_grant, after_granted, after_pass}
 use Rattle.harq.specs.Sending.{Sending, fresh}
 use Rattle.harq.specs.SendHistory.{Turn, Deed, Waited, Built, Resent, turned, deed}
 use Rattle.l2_node.specs.End.{End}
@@ -20,15 +22,18 @@ use Rattle.promises.specs.Awards.{grant_brought}
 
 -- a block that is sent, new or again, with the feedback that its sender reads; else it waited
 abbrev pub deed_of : List Record → Deed
-deed_of (records.Block direction process true version octets ∷ records.Air way what (Some good) ∷ []) = Built octets good
-deed_of (records.Block direction process false version octets ∷ records.Air way what (Some good) ∷ []) = Resent version octets good
+deed_of (records.Block direction process true version octets ∷ records.Air way what (Some good)
+    ∷ []) = Built octets good
+deed_of (records.Block direction process false version octets ∷ records.Air way what (Some good)
+    ∷ []) = Resent version octets good
 deed_of told = Waited
 
 abbrev pub turn : ℕ → Order → List ℕ → Bool → Turn
 turn tti order octets good = record { tti = tti; order = order; octets = octets; good = good }
 
 -- a sender takes a turn by an order, and that is what is told of it
-pub record TakesTurn (t : ℕ) (order : Order) (before after : Sending) (told : List Record) : Type 0 where
+pub record TakesTurn (t : ℕ) (order : Order) (before after : Sending) (told : List Record) : Type
+    0 where
   pub octets : List ℕ
   pub good : Bool
   pub sender_is : after ≡ turned (turn t order octets good) before
@@ -38,12 +43,14 @@ pub record TakesTurn (t : ℕ) (order : Order) (before after : Sending) (told : 
 
 -- what is told to have come of a visit: nothing where no block was due
 abbrev pub came_of : List Record → Option Arrived
-came_of (records.Block direction process fresh version octets ∷ records.Air way what good ∷ []) = Some what
+came_of (records.Block direction process fresh version octets ∷ records.Air way what good ∷ []) =
+    Some what
 came_of (records.Air way what good ∷ []) = Some what
 came_of told = None
 
 -- a block with this NDI is answered
-pub record IsAnswered (t : ℕ) (ndi good : Bool) (answer : Answer) (before after : Receiving) : Type 0 where
+pub record IsAnswered (t : ℕ) (ndi good : Bool) (answer : Answer) (before after : Receiving) :
+    Type 0 where
   pub receiver_is : after ≡ after_assigned before t ndi good
   pub answer_is : assigned_answer before t ndi good ≡ answer
 
@@ -55,7 +62,8 @@ Answers t ndi (Some arriveds.Bad) before after = IsAnswered t ndi false Damaged 
 Answers t ndi (Some arriveds.Nothing) before after = after ≡ before
 Answers t ndi None before after = after ≡ before
 
--- on the uplink the base station grants, and hears what the grant brought, or a visit passes with no grant
+-- on the uplink the base station grants, and hears what the grant brought, or a visit passes with
+-- no grant
 abbrev pub heard_up : ℕ → Option Arrived → Receiving → Receiving
 heard_up t None r = after_pass r t
 heard_up t (Some what) r = after_granted (after_grant r t) t (grant_brought what)

@@ -47,14 +47,15 @@ begins_life (Move keys) = true
 begins_life call = false
 
 -- an end goes on by calls, and these of them begin lives
-pub record LivesOn (lives : List EndCall) (side : Side) (told : List Record) (before after' : End) : Type 0 where
+pub record LivesOn (lives : List EndCall) (side : Side) (told : List Record)
+    (before after' : End) : Type 0 where
   pub by : ByCalls side told before after'
   pub lives_are : filter begins_life by.calls ≡ lives
 
 -- ---- what is told of new blocks
 
--- records are added, both ends go on by calls of which these tell, with lives that begin in both alike, and some of these records are
--- told of new blocks; how PDUs are shown stays
+-- records are added, both ends go on by calls of which these tell, with lives that begin in both
+-- alike, and some of these records are told of new blocks; how PDUs are shown stays
 pub record GoesThrough (lives : List EndCall) (blocks : List Record) (l m : Link) : Type 0 where
   pub more : List Record
   pub out_is : m.out ≡ l.out ++ more
@@ -70,15 +71,17 @@ GoesOn blocks l m = GoesThrough [] blocks l m
 -- ---- the visit of a process, by an order and a grant
 
 abbrev pub built_told : Visit → Side → ℕ → ℕ → Order → List (Option Layout) → End → List Record
-built_told New side t grant order kinds e = map (records.Of side) (filter is_of_writing (building t grant order e)) ++ block_told side t kinds (block_at t (built t grant order e))
+built_told New side t grant order kinds e =
+    map (records.Of side) (filter is_of_writing (building t grant order e))
+    ++ block_told side t kinds (block_at t (built t grant order e))
 built_told (Resend rv) side t grant order kinds e = []
 built_told Silent side t grant order kinds e = []
 
 abbrev pub visit_told : Side → ℕ → ℕ → Order → List (Option Layout) → End → List Record
 visit_told side t grant order kinds e = built_told (visit t order e) side t grant order kinds e
 
--- in a TTI the base station visits its process and then the terminal, each as it has come to that by calls in which no life begins,
--- with records of both
+-- in a TTI the base station visits its process and then the terminal, each as it has come to that
+-- by calls in which no life begins, with records of both
 pub record GoesOnByVisits (t up_grant down_grant : ℕ) (l m : Link) : Type 0 where
   pub nb : End
   pub nb_told : List Record
@@ -88,7 +91,8 @@ pub record GoesOnByVisits (t up_grant down_grant : ℕ) (l m : Link) : Type 0 wh
   pub ue_by : LivesOn [] Ue ue_told l.ue ue
   pub up_order : Order
   pub enough : IsEnough up_order up_grant
-  pub goes : GoesOn (visit_told Nb t down_grant (down_order down_grant) l.kinds nb ++ visit_told Ue t up_grant up_order l.kinds ue) l m
+  pub goes : GoesOn (visit_told Nb t down_grant (down_order down_grant) l.kinds nb
+      ++ visit_told Ue t up_grant up_order l.kinds ue) l m
 
 -- ---- the laws
 
@@ -112,12 +116,15 @@ abbrev pub CallsGoOn : Type 0
 CallsGoOn = (c : Call) (l : Link) → IsGiven c → GoesThrough (lives_in c) [] (known c l) (after c l)
 
 abbrev pub SubmissionsGoOn : Type 0
-SubmissionsGoOn = (side : Side) (lcid : ℕ) (sdu : List ℕ) (l : Link) → GoesOn [] l (submitting side lcid sdu l)
+SubmissionsGoOn = (side : Side) (lcid : ℕ) (sdu : List ℕ) (l : Link)
+    → GoesOn [] l (submitting side lcid sdu l)
 
 -- grants are those of transport blocks
 abbrev pub TtisGoOn : Type 0
-TtisGoOn = (up_grant : ℕ) (up : Outcome) (down_grant : ℕ) (down : Outcome) (l : Link) → up_grant ≤ GREATEST_GRANT → down_grant ≤ GREATEST_GRANT
+TtisGoOn = (up_grant : ℕ) (up : Outcome) (down_grant : ℕ) (down : Outcome) (l : Link)
+    → up_grant ≤ GREATEST_GRANT → down_grant ≤ GREATEST_GRANT
     → GoesOnByVisits l.ttis up_grant down_grant l (tti up_grant up down_grant down l)
 
 abbrev pub DrainsGoOn : Type 0
-DrainsGoOn = (grant : ℕ) (l : Link) → grant ≤ GREATEST_GRANT → GoesOnByVisits l.ttis grant grant l (drain_tti grant l)
+DrainsGoOn = (grant : ℕ) (l : Link) → grant ≤ GREATEST_GRANT
+    → GoesOnByVisits l.ttis grant grant l (drain_tti grant l)

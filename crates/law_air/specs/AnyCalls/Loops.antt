@@ -1,4 +1,5 @@
--- What the test loop of a link returns: SDUs that went up at the terminal before, in order and each at most once (TS 36.509 5.4).
+-- What the test loop of a link returns: SDUs that went up at the terminal before, in order and each
+-- at most once (TS 36.509 5.4).
 use Rattle.std.specs.Prelude.{◌≡◌, ℕ, ◌+◌, ◌≤◌, false, List, [], ◌++◌, take}
 use Rattle.air_record.specs.declared.line.Outcome.{Outcome}
 use Rattle.air_record.specs.declared.record.Record.{Record}
@@ -15,13 +16,15 @@ use Rattle.promises.specs.Loops.{ArePart, gone_up, returned, on, drops}
 
 -- ---- what records tell of the loop
 
--- with SDUs that were kept before: at each record those that have come back are part of them and of those that have gone up,
--- and in the end those that are kept then are another part, behind the ones that came back
+-- with SDUs that were kept before: at each record those that have come back are part of them and of
+-- those that have gone up, and in the end those that are kept then are another part, behind the
+-- ones that came back
 pub record ComeBack (mode : Mode) (before after' : List Item) (told : List Record) : Type 0 where
   pub each : (n : ℕ) → ArePart (returned (take n told)) (before ++ gone_up mode (take n told))
   pub whole : ArePart (returned told ++ after') (before ++ gone_up mode told)
   -- of each of the others it is told that it finds no place
-  pub others : (lcid : ℕ) → on lcid before + on lcid (gone_up mode told) ≤ (on lcid (returned told) + drops lcid told) + on lcid after'
+  pub others : (lcid : ℕ) → on lcid before + on lcid (gone_up mode told)
+      ≤ (on lcid (returned told) + drops lcid told) + on lcid after'
 
 -- between calls no SDU waits for the loop, and it keeps some only in a mode with a delay
 pub record IsAtRest (l : Link) : Type 0 where
@@ -47,13 +50,17 @@ abbrev pub FirstIsAtRest : Type 0
 FirstIsAtRest = IsAtRest fresh
 
 abbrev pub CallsLoopBack : Type 0
-CallsLoopBack = (c : Call) (l : Link) → IsAtRest l → LoopsBack (mode_in c l.looping.mode) l (after c l)
+CallsLoopBack = (c : Call) (l : Link) → IsAtRest l
+    → LoopsBack (mode_in c l.looping.mode) l (after c l)
 
 abbrev pub SubmissionsLoopBack : Type 0
-SubmissionsLoopBack = (side : Side) (lcid : ℕ) (sdu : List ℕ) (l : Link) → IsAtRest l → LoopsBack l.looping.mode l (submitting side lcid sdu l)
+SubmissionsLoopBack = (side : Side) (lcid : ℕ) (sdu : List ℕ) (l : Link) → IsAtRest l
+    → LoopsBack l.looping.mode l (submitting side lcid sdu l)
 
 abbrev pub TtisLoopBack : Type 0
-TtisLoopBack = (up_grant : ℕ) (up : Outcome) (down_grant : ℕ) (down : Outcome) (l : Link) → IsAtRest l → LoopsBack l.looping.mode l (tti up_grant up down_grant down l)
+TtisLoopBack = (up_grant : ℕ) (up : Outcome) (down_grant : ℕ) (down : Outcome) (l : Link)
+    → IsAtRest l → LoopsBack l.looping.mode l (tti up_grant up down_grant down l)
 
 abbrev pub DrainsLoopBack : Type 0
-DrainsLoopBack = (grant : ℕ) (l : Link) → IsAtRest l → LoopsBack l.looping.mode l (drain_tti grant l)
+DrainsLoopBack = (grant : ℕ) (l : Link) → IsAtRest l
+    → LoopsBack l.looping.mode l (drain_tti grant l)

@@ -1,4 +1,5 @@
--- Where the records of a call stand: what one end tells among what the other does, the blocks and the test loop (TS 36.321 5.3, 5.4, TS
+-- Where the records of a call stand: what one end tells among what the other does, the blocks and
+-- the test loop (TS 36.321 5.3, 5.4, TS
 -- 36.322 7.3, TS 36.509 5.4).
 use Rattle.std.specs.Prelude.{◌≡◌, ℕ, ◌≤◌, List, ◌++◌, map}
 use Rattle.air_link.specs.Draining.{drain_tti}
@@ -11,10 +12,13 @@ use Rattle.law_words.specs.Sequences.{nothing}
 use Rattle.l2_node.specs.End.{End}
 use Rattle.l2_types.specs.declared.side.Side.{Side}
 use Rattle.mac_pdu.specs.Items.{sdu}
-use Rattle.law_air.specs.AnyCalls.Calls.{Call, Loops, Expires, Forges, HandsOver, ReceiversExpire, SendersExpire, after}
+use Rattle.law_air.specs.AnyCalls.Calls.{Call, Loops, Expires, Forges, HandsOver, ReceiversExpire}
+use Rattle.law_air.specs.AnyCalls.Calls.{SendersExpire, after}
 use Rattle.law_air.specs.AnyCalls.Ends.{IsGiven}
 use Rattle.law_air.specs.AnyCalls.Zero.{HaveCome}
-use Rattle.promises.specs.Order.{Channels, OfRecords, LoopTells, TtiTells, DrainTtiTells, TimerTells, ReceiversTell, SendersTell, ForgeTells, HandoverTells, SubmitTells}
+use Rattle.promises.specs.Order.{Channels, OfRecords, LoopTells, TtiTells, DrainTtiTells}
+use Rattle.promises.specs.Order.{TimerTells, ReceiversTell, SendersTell, ForgeTells, HandoverTells}
+use Rattle.promises.specs.Order.{SubmitTells}
 use Rattle.l2_types.specs.declared.limits.TheConstants.{GREATEST_GRANT}
 
 -- ---- what an end tells in a call
@@ -46,15 +50,19 @@ abbrev pub both : Link → Side → Channels
 both l side = channels_of (end_of side l)
 
 abbrev pub CallsTellInOrder : Type 0
-CallsTellInOrder = (c : Call) (l : Link) → IsGiven c → HaveCome l → Leaves (CallTells c (both l)) l (after c l)
+CallsTellInOrder = (c : Call) (l : Link) → IsGiven c → HaveCome l
+    → Leaves (CallTells c (both l)) l (after c l)
 
 abbrev pub SubmissionsTellInOrder : Type 0
-SubmissionsTellInOrder = (side : Side) (lcid : ℕ) (sdu : List ℕ) (l : Link) → Leaves (SubmitTells side lcid) l (submitting side lcid sdu l)
+SubmissionsTellInOrder = (side : Side) (lcid : ℕ) (sdu : List ℕ) (l : Link)
+    → Leaves (SubmitTells side lcid) l (submitting side lcid sdu l)
 
 -- grants are those of transport blocks
 abbrev pub TtisTellInOrder : Type 0
-TtisTellInOrder = (up_grant : ℕ) (up : Outcome) (down_grant : ℕ) (down : Outcome) (l : Link) → up_grant ≤ GREATEST_GRANT → down_grant ≤ GREATEST_GRANT → HaveCome l
+TtisTellInOrder = (up_grant : ℕ) (up : Outcome) (down_grant : ℕ) (down : Outcome) (l : Link)
+    → up_grant ≤ GREATEST_GRANT → down_grant ≤ GREATEST_GRANT → HaveCome l
     → Leaves (TtiTells l.ttis l.kinds (both l)) l (tti up_grant up down_grant down l)
 
 abbrev pub DrainsTellInOrder : Type 0
-DrainsTellInOrder = (grant : ℕ) (l : Link) → grant ≤ GREATEST_GRANT → HaveCome l → Leaves (DrainTtiTells l.ttis l.kinds (both l)) l (drain_tti grant l)
+DrainsTellInOrder = (grant : ℕ) (l : Link) → grant ≤ GREATEST_GRANT → HaveCome l
+    → Leaves (DrainTtiTells l.ttis l.kinds (both l)) l (drain_tti grant l)

@@ -1,5 +1,6 @@
 -- A link from its beginning on through any calls, and the records of them all (TS 36.321 5.3, 5.4).
-use Rattle.std.specs.Prelude.{◌≡◌, ℕ, ◌+◌, ◌<◌, if◌then◌else◌, List, [], ◌∷◌, ◌++◌, length, map, slice_index}
+use Rattle.std.specs.Prelude.{◌≡◌, ℕ, ◌+◌, ◌<◌, if◌then◌else◌, List, [], ◌∷◌, ◌++◌, length, map}
+use Rattle.std.specs.Prelude.{slice_index}
 use Rattle.std.specs.List.{filter, range_with_len}
 use Rattle.air_record.specs.declared.line.Outcome.{Outcome}
 use Rattle.air_record.specs.declared.record.Record.{Record}
@@ -32,7 +33,8 @@ step (Calls c) l = after c l
 abbrev pub handed : Step → Side → ℕ → Link → ℕ
 handed (Tti up_grant up down_grant down) s k l = 0
 handed (Drains grant) s k l = 0
-handed (Submit side lcid sdu) s k l = if is_same s side then accepted lcid (why_refused side lcid sdu l) k else 0
+handed (Submit side lcid sdu) s k l = if is_same s side
+    then accepted lcid (why_refused side lcid sdu l) k else 0
 handed (Calls c) s k l = 0
 
 -- the link, the records so far, and the SDUs handed in so far
@@ -64,12 +66,14 @@ pub record IsTable (by : ℕ → ℕ) (table : List ℕ) : Type 0 where
   pub size : length table ≡ 11
   pub each : (lcid : ℕ) → lcid < 11 → slice_index table lcid ≡ by lcid
 
--- what is counted is what was told and handed in, and the TTIs are numbered from 0 on, each number once
+-- what is counted is what was told and handed in, and the TTIs are numbered from 0 on, each number
+-- once
 pub record IsCounted (r : Run) : Type 0 where
   pub nb_delivered : IsTable (λ lcid. ups Nb lcid r.journal) (delivered_at Nb r.link)
   pub ue_delivered : IsTable (λ lcid. ups Ue lcid r.journal) (delivered_at Ue r.link)
   pub nb_submitted : IsTable (r.given Nb) (submitted_at Nb r.link)
-  pub ue_submitted : IsTable (λ lcid. r.given Ue lcid + loopeds lcid r.journal) (submitted_at Ue r.link)
+  pub ue_submitted : IsTable (λ lcid. r.given Ue lcid + loopeds lcid r.journal)
+      (submitted_at Ue r.link)
   pub numbered : filter is_of_run r.journal ≡ map records.Tti (range_with_len 0 r.link.ttis)
 
 abbrev pub RunsAreCounted : Type 0

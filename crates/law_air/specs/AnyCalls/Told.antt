@@ -1,6 +1,7 @@
 -- What each call of a link adds to the records, and that these tell which SDUs were submitted and
 -- delivered (docs/formats/JOURNAL.md).
-use Rattle.std.specs.Prelude.{◌≡◌, ℕ, ◌+◌, ◌==◌, Bool, false, if◌then◌else◌, Option, Some, None, option_map, List, [], ◌∷◌, ◌++◌, length}
+use Rattle.std.specs.Prelude.{◌≡◌, ℕ, ◌+◌, ◌==◌, Bool, false, if◌then◌else◌, Option, Some, None}
+use Rattle.std.specs.Prelude.{option_map, List, [], ◌∷◌, ◌++◌, length}
 use Rattle.std.specs.List.{filter}
 use Rattle.air_record.specs.declared.line.Outcome.{Outcome}
 use Rattle.air_record.specs.declared.record.NoPlace.{NoPlace}
@@ -32,8 +33,8 @@ submitted_at side l = (sent_flows side l).submitted
 abbrev pub delivered_at : Side → Link → List ℕ
 delivered_at side l = (sent_flows (other side) l).delivered
 
--- from one link to another each `up` is an SDU delivered, and each `loop` one that the terminal submits; this is told of the
--- air, and nothing that only a run tells
+-- from one link to another each `up` is an SDU delivered, and each `loop` one that the terminal
+-- submits; this is told of the air, and nothing that only a run tells
 pub record Tells (more flown : List Record) (l m : Link) : Type 0 where
   pub nb_delivered : Grows (λ lcid. ups Nb lcid more) (delivered_at Nb l) (delivered_at Nb m)
   pub ue_delivered : Grows (λ lcid. ups Ue lcid more) (delivered_at Ue l) (delivered_at Ue m)
@@ -55,9 +56,11 @@ pub record Adds (flown : List Record) (l m : Link) : Type 0 where
 abbrev pub CallsAreTold : Type 0
 CallsAreTold = (c : Call) (l : Link) → Adds [] l (after c l)
 
--- a TTI adds its number first; a terminal that sleeps misses both blocks; that of the downlink flies before that of the uplink;
--- each is as the processes of its sender and of its receiver have it
-pub record AddsTti (asleep : Bool) (up_grant : ℕ) (up : Outcome) (down_grant : ℕ) (down : Outcome) (l m : Link) : Type 0 where
+-- a TTI adds its number first; a terminal that sleeps misses both blocks; that of the downlink
+-- flies before that of the uplink; each is as the processes of its sender and of its receiver have
+-- it
+pub record AddsTti (asleep : Bool) (up_grant : ℕ) (up : Outcome) (down_grant : ℕ) (down : Outcome)
+    (l m : Link) : Type 0 where
   pub more : List Record
   pub downward : List Record
   pub upward : List Record
@@ -67,8 +70,11 @@ pub record AddsTti (asleep : Bool) (up_grant : ℕ) (up : Outcome) (down_grant :
   pub down_is : IsDown l.ttis down_grant (missed asleep down) downward
   pub up_is : IsUp l.ttis up_grant (missed asleep up) upward
   pub down_turn : TakesTurn l.ttis (down_order down_grant) l.nb.sender m.nb.sender downward
-  pub down_answer : length l.nb.sender.processes ≡ 8 → Answers l.ttis (ndi_of m.nb.sender l.ttis) (came_of downward) l.ue.receiver m.ue.receiver
-  pub up_turn : TakesTurn l.ttis (up_ordered up_grant (missed asleep up) (grant_ndi l.nb.receiver l.ttis)) l.ue.sender m.ue.sender upward
+  pub down_answer : length l.nb.sender.processes ≡ 8
+      → Answers l.ttis (ndi_of m.nb.sender l.ttis) (came_of downward) l.ue.receiver m.ue.receiver
+  pub up_turn : TakesTurn l.ttis
+      (up_ordered up_grant (missed asleep up) (grant_ndi l.nb.receiver l.ttis)) l.ue.sender
+      m.ue.sender upward
   pub up_heard : m.nb.receiver ≡ heard_up l.ttis (came_of upward) l.nb.receiver
 
 abbrev pub TtisAreTold : Type 0
@@ -77,7 +83,8 @@ TtisAreTold = (up_grant : ℕ) (up : Outcome) (down_grant : ℕ) (down : Outcome
 
 -- in a drain nobody sleeps, and nothing is damaged
 abbrev pub DrainsAreTold : Type 0
-DrainsAreTold = (grant : ℕ) (l : Link) → AddsTti false grant intact grant intact l (drain_tti grant l)
+DrainsAreTold = (grant : ℕ) (l : Link)
+    → AddsTti false grant intact grant intact l (drain_tti grant l)
 
 -- why an SDU is refused, if it is
 abbrev pub why_refused : Side → ℕ → List ℕ → Link → Option NoPlace

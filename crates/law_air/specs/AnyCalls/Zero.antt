@@ -1,5 +1,5 @@
--- What goes up on LCID 0, whose bearer is transparent, is what the blocks carry that arrive: block by block, and in order
--- (TS 36.321 5.3.3 and 5.4.2, TS 36.322 5.1.1.2).
+-- What goes up on LCID 0, whose bearer is transparent, is what the blocks carry that arrive: block
+-- by block, and in order (TS 36.321 5.3.3 and 5.4.2, TS 36.322 5.1.1.2).
 use Rattle.std.specs.Prelude.{◌≡◌, ℕ, ◌≤◌, Bool, if◌then◌else◌, List, [], ◌∷◌, ◌++◌}
 use Rattle.air_link.specs.Draining.{drain_tti}
 use Rattle.air_link.specs.Lines.{submitting}
@@ -36,11 +36,14 @@ pub record HaveCome (l : Link) : Type 0 where
 abbrev pub has_zero : Side → Link → Bool
 has_zero side l = has 0 (end_of side l).bearers
 
--- at each side the SDUs go up that the blocks carry which are forged there, and which arrive; whatever block was told of before
+-- at each side the SDUs go up that the blocks carry which are forged there, and which arrive;
+-- whatever block was told of before
 pub record Brings (forged : Side → List (List ℕ)) (l m : Link) : Type 0 where
   pub more : List Record
   pub out_is : m.out ≡ l.out ++ more
-  pub ups_are : (side : Side) (sent : List ℕ) → ups_in side 0 more ≡ brought (has_zero side l) side (forged side ++ arrived side sent more)
+  pub ups_are : (side : Side) (sent : List ℕ)
+      → ups_in side 0 more ≡ brought (has_zero side l) side
+      (forged side ++ arrived side sent more)
 
 abbrev pub none_forged : Side → List (List ℕ)
 none_forged side = []
@@ -53,12 +56,15 @@ abbrev pub CallsBring : Type 0
 CallsBring = (c : Call) (l : Link) → IsGiven c → HaveCome l → Brings (forged_by c) l (after c l)
 
 abbrev pub SubmissionsBring : Type 0
-SubmissionsBring = (side : Side) (lcid : ℕ) (octets : List ℕ) (l : Link) → HaveCome l → Brings none_forged l (submitting side lcid octets l)
+SubmissionsBring = (side : Side) (lcid : ℕ) (octets : List ℕ) (l : Link) → HaveCome l
+    → Brings none_forged l (submitting side lcid octets l)
 
 -- grants are those of transport blocks
 abbrev pub TtisBring : Type 0
-TtisBring = (up_grant : ℕ) (up : Outcome) (down_grant : ℕ) (down : Outcome) (l : Link) → up_grant ≤ GREATEST_GRANT → down_grant ≤ GREATEST_GRANT → HaveCome l
+TtisBring = (up_grant : ℕ) (up : Outcome) (down_grant : ℕ) (down : Outcome) (l : Link)
+    → up_grant ≤ GREATEST_GRANT → down_grant ≤ GREATEST_GRANT → HaveCome l
     → Brings none_forged l (tti up_grant up down_grant down l)
 
 abbrev pub DrainsBring : Type 0
-DrainsBring = (grant : ℕ) (l : Link) → grant ≤ GREATEST_GRANT → HaveCome l → Brings none_forged l (drain_tti grant l)
+DrainsBring = (grant : ℕ) (l : Link) → grant ≤ GREATEST_GRANT → HaveCome l
+    → Brings none_forged l (drain_tti grant l)

@@ -1,5 +1,6 @@
--- What records tell of a direction of a channel: the PDUs of PDCP that the sending end tells of, those in its new blocks, and those in the blocks
--- that are got at the other end (TS 36.321 5.3.2, 5.4.2).
+-- What records tell of a direction of a channel: the PDUs of PDCP that the sending end tells of,
+-- those in its new blocks, and those in the blocks that are got at the other end (TS 36.321 5.3.2,
+-- 5.4.2).
 use Rattle.std.specs.Prelude.{ℕ, List, [], ◌∷◌, ◌++◌}
 use Rattle.air_record.specs.declared.record.Record.{Record}
 use Rattle.l2_types.specs.declared.side.Side.{Side}

@@ -32,7 +32,8 @@ use Rattle.l2_types.specs.declared.limits.TheConstants.{GREATEST_GRANT}
 abbrev pub handed_in : Side → ℕ → Step → Link → List (List ℕ)
 handed_in side n (Tti up_grant up down_grant down) k = []
 handed_in side n (Drains grant) k = []
-handed_in side n (Submit s lcid sdu) k = if is_same s side then accepted (refusal lcid sdu (end_of s k)) (lcid == n) sdu else []
+handed_in side n (Submit s lcid sdu) k =
+    if is_same s side then accepted (refusal lcid sdu (end_of s k)) (lcid == n) sdu else []
 handed_in side n (Calls c) k = []
 
 -- ---- a step sets a discard timer on a channel
@@ -45,29 +46,37 @@ sets l s = false
 
 -- what records tell of the air, whichever block was sent before them
 abbrev pub TellAlone : ℕ → List Record → Type 0
-TellAlone l told = (bits : ℕ) (from : Side) (sent : List ℕ) → tells_in bits l from sent told ≡ tells_in bits l from [] told
+TellAlone l told = (bits : ℕ) (from : Side) (sent : List ℕ)
+    → tells_in bits l from sent told ≡ tells_in bits l from [] told
 
--- steps that keep what is asked in lives of the channel's bearers bring the ends to those of a link; the records tell of each end exactly what
--- it tells in its calls, in these it is submitted exactly those SDUs on each channel, just so much is told of what goes from a side on the channel, and no
--- discard timer is set on it where `set` is false
-pub record GoesByAir (l : ℕ) (told : List Record) (submitted : Side → ℕ → List (List ℕ)) (said : ℕ → Side → List Happening) (set : Bool) (m : Link) (a : Air) : Type 0 where
+-- steps that keep what is asked in lives of the channel's bearers bring the ends to those of a
+-- link; the records tell of each end exactly what it tells in its calls, in these it is submitted
+-- exactly those SDUs on each channel, just so much is told of what goes from a side on the channel,
+-- and no discard timer is set on it where `set` is false
+pub record GoesByAir (l : ℕ) (told : List Record) (submitted : Side → ℕ → List (List ℕ)) (said : ℕ
+    → Side → List Happening) (set : Bool) (m : Link) (a : Air) : Type 0 where
   pub steps : List AirStep
   pub living : AreLiving l a steps
-  pub told_is : (side : Side) → told_by side told ≡ told_over (all_calls side steps a) (end_at side a)
-  pub submitted_is : (side : Side) (n : ℕ) → was_submitted n (all_calls side steps a) (end_at side a) ≡ submitted side n
+  pub told_is : (side : Side) → told_by side told
+      ≡ told_over (all_calls side steps a) (end_at side a)
+  pub submitted_is : (side : Side) (n : ℕ)
+      → was_submitted n (all_calls side steps a) (end_at side a) ≡ submitted side n
   pub happened_is : (bits : ℕ) (from : Side) → happened bits l from steps a ≡ said bits from
   pub sets_none : set ≡ false → (side : Side) → SetNone l (all_calls side steps a)
   pub on : IsOn m (lives steps a)
 
--- a step of a link goes on so, and adds these records, which tell of blocks that were sent before it nothing; where they show the PDUs of the
--- channel as those of unacknowledged RLC, they tell what the steps are to a flow from each side
+-- a step of a link goes on so, and adds these records, which tell of blocks that were sent before
+-- it nothing; where they show the PDUs of the channel as those of unacknowledged RLC, they tell
+-- what the steps are to a flow from each side
 pub record GoesOn (l : ℕ) (s : Step) (k : Link) (a : Air) : Type 0 where
   pub more : List Record
   pub out_is : (step s k).out ≡ k.out ++ more
   pub alone : TellAlone l more
-  pub by : GoesByAir l more (λ side n. handed_in side n s k ++ looped_at side n more) (λ bits from. told_by_step bits l from s more) (sets l s) (step s k) a
+  pub by : GoesByAir l more (λ side n. handed_in side n s k ++ looped_at side n more)
+      (λ bits from. told_by_step bits l from s more) (sets l s) (step s k) a
   pub stays : (bits : ℕ) → IsShown l bits k.kinds → IsShown l bits (step s k).kinds
-  pub shown : (bits : ℕ) → IsShown l bits k.kinds → (from : Side) (c : Place) → whats from l bits by.steps a ≡ anew s ++ told_in (sent_by from) l c more
+  pub shown : (bits : ℕ) → IsShown l bits k.kinds → (from : Side) (c : Place)
+      → whats from l bits by.steps a ≡ anew s ++ told_in (sent_by from) l c more
 
 -- ---- the law
 
@@ -80,7 +89,8 @@ IsCallSince l call = Unit {0}
 
 -- grants are those of transport blocks
 abbrev pub IsStepSince : ℕ → Step → Type 0
-IsStepSince l (Tti up_grant up down_grant down) = (up_grant ≤ GREATEST_GRANT) × (down_grant ≤ GREATEST_GRANT)
+IsStepSince l (Tti up_grant up down_grant down) = (up_grant ≤ GREATEST_GRANT)
+    × (down_grant ≤ GREATEST_GRANT)
 IsStepSince l (Drains grant) = grant ≤ GREATEST_GRANT
 IsStepSince l (Submit side lcid sdu) = Unit {0}
 IsStepSince l (Calls c) = IsCallSince l c

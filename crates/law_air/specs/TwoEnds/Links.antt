@@ -23,9 +23,11 @@ abbrev pub link_since : List Call → BearerConfig → Keys → List Step → Li
 link_since before config keys ss = (run (map Calls before ++ (Calls (Bears config keys) ∷ ss))).link
 
 abbrev pub IsRun : List Call → BearerConfig → List Step → Type 0
-IsRun before config ss = AreCallsBefore before × IsConfig config × IsAcknowledged config.kind × AreStepsSince config.channel.lcid ss
+IsRun before config ss = AreCallsBefore before × IsConfig config × IsAcknowledged config.kind
+    × AreStepsSince config.channel.lcid ss
 
--- so in each direction the acknowledged bearers of a channel are a flow, from the configurations with which the running life began
+-- so in each direction the acknowledged bearers of a channel are a flow, from the configurations
+-- with which the running life began
 pub record AreFlows (l : ℕ) (k : Link) : Type 0 where
   pub nb_bearer : State
   pub ue_bearer : State
@@ -33,10 +35,13 @@ pub record AreFlows (l : ℕ) (k : Link) : Type 0 where
   pub up : IsFlowOn l ue_bearer.tx_config nb_bearer.rx_config k.ue k.nb
 
 abbrev pub LinksAreFlows : Type 0
-LinksAreFlows = (before : List Call) (config : BearerConfig) (keys : Keys) (ss : List Step) → IsRun before config ss → AreFlows config.channel.lcid (link_since before config keys ss)
+LinksAreFlows = (before : List Call) (config : BearerConfig) (keys : Keys) (ss : List Step)
+    → IsRun before config ss → AreFlows config.channel.lcid (link_since before config keys ss)
 
 -- and their numbers are in order
 abbrev pub LinksAreOrdered : Type 0
-LinksAreOrdered = (before : List Call) (config : BearerConfig) (keys : Keys) (ss : List Step) → IsRun before config ss
-    → (nb ue : State) → flow config.channel.lcid (link_since before config keys ss).nb ≡ Am nb → flow config.channel.lcid (link_since before config keys ss).ue ≡ Am ue
+LinksAreOrdered = (before : List Call) (config : BearerConfig) (keys : Keys) (ss : List Step)
+    → IsRun before config ss
+    → (nb ue : State) → flow config.channel.lcid (link_since before config keys ss).nb ≡ Am nb
+    → flow config.channel.lcid (link_since before config keys ss).ue ≡ Am ue
     → AreOrdered nb.tx ue.rx × AreOrdered ue.tx nb.rx

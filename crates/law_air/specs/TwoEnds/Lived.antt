@@ -31,15 +31,19 @@ pub record HasBearer (l : ℕ) (e : End) : Type 0 where
   pub bearer : State
   pub bearer_is : flow l e ≡ Am bearer
 
--- since both ends were these a link has come by air, through lives, to what it is, and has the bearers still
-pub record Lived (l : ℕ) (nb ue : End) (told : List Record) (submitted : Side → ℕ → List (List ℕ)) (said : ℕ → Side → List Happening) (set : Bool) (k : Link) : Type 0 where
+-- since both ends were these a link has come by air, through lives, to what it is, and has the
+-- bearers still
+pub record Lived (l : ℕ) (nb ue : End) (told : List Record) (submitted : Side → ℕ
+    → List (List ℕ)) (said : ℕ → Side → List Happening) (set : Bool) (k : Link) : Type 0 where
   pub by : GoesByAir l told submitted said set k (outset nb ue)
   pub bearers : (side : Side) → HasBearer l (end_of side k)
 
 -- nothing else of a link matters
 abbrev pub EndsLive : Type 0
-EndsLive = (l : ℕ) (nb ue : End) (told : List Record) (submitted : Side → ℕ → List (List ℕ)) (said : ℕ → Side → List Happening) (set : Bool) (k m : Link)
-    → m.nb ≡ k.nb → m.ue ≡ k.ue → m.ttis ≡ k.ttis → Lived l nb ue told submitted said set k → Lived l nb ue told submitted said set m
+EndsLive = (l : ℕ) (nb ue : End) (told : List Record) (submitted : Side → ℕ
+    → List (List ℕ)) (said : ℕ → Side → List Happening) (set : Bool) (k m : Link)
+    → m.nb ≡ k.nb → m.ue ≡ k.ue → m.ttis ≡ k.ttis → Lived l nb ue told submitted said set k
+    → Lived l nb ue told submitted said set m
 
 -- ---- the bearers come
 
@@ -53,22 +57,32 @@ IsAcknowledged kinds.Am = Unit {0}
 -- nothing is told, nothing is submitted, and no discard timer is set yet
 pub record BearersCome (config : BearerConfig) (keys : Keys) (k : Link) : Type 0 where
   pub out_is : (bears config keys k).out ≡ k.out
-  pub lived : Lived config.channel.lcid (after_call k.nb (Add config keys)) (after_call k.ue (Add config keys)) [] none_yet (λ bits from. []) false (bears config keys k)
+  pub lived : Lived config.channel.lcid (after_call k.nb (Add config keys))
+      (after_call k.ue (Add config keys)) [] none_yet (λ bits from. []) false
+      (bears config keys k)
 
 abbrev pub BearersLive : Type 0
-BearersLive = (config : BearerConfig) (keys : Keys) (k : Link) → IsConfig config → IsAcknowledged config.kind → IsAtRest k → BearersCome config keys k
+BearersLive = (config : BearerConfig) (keys : Keys) (k : Link) → IsConfig config
+    → IsAcknowledged config.kind → IsAtRest k → BearersCome config keys k
 
 -- ---- a step since
 
-pub record LivesOn (l : ℕ) (nb ue : End) (told : List Record) (submitted : Side → ℕ → List (List ℕ)) (said : ℕ → Side → List Happening) (set : Bool) (s : Step) (k : Link) : Type 0 where
+pub record LivesOn (l : ℕ) (nb ue : End) (told : List Record) (submitted : Side → ℕ
+    → List (List ℕ)) (said : ℕ → Side → List Happening) (set : Bool) (s : Step) (k : Link) : Type
+    0 where
   pub more : List Record
   pub out_is : (step s k).out ≡ k.out ++ more
   pub alone : TellAlone l more
-  pub lived : Lived l nb ue (told ++ more) (λ side n. submitted side n ++ (handed_in side n s k ++ looped_at side n more)) (λ bits from. said bits from ++ told_by_step bits l from s more) (set || sets l s) (step s k)
+  pub lived : Lived l nb ue (told ++ more)
+      (λ side n. submitted side n ++ (handed_in side n s k ++ looped_at side n more))
+      (λ bits from. said bits from ++ told_by_step bits l from s more) (set || sets l s)
+      (step s k)
 
 abbrev pub StepsLive : Type 0
-StepsLive = (l : ℕ) (nb ue : End) (told : List Record) (submitted : Side → ℕ → List (List ℕ)) (said : ℕ → Side → List Happening) (set : Bool) (s : Step) (k : Link)
-    → IsStepSince l s → Lived l nb ue told submitted said set k → LivesOn l nb ue told submitted said set s k
+StepsLive = (l : ℕ) (nb ue : End) (told : List Record) (submitted : Side → ℕ
+    → List (List ℕ)) (said : ℕ → Side → List Happening) (set : Bool) (s : Step) (k : Link)
+    → IsStepSince l s → Lived l nb ue told submitted said set k
+    → LivesOn l nb ue told submitted said set s k
 
 -- ---- any steps since, the records of each taken before the next
 
@@ -78,22 +92,32 @@ AreStepsSince l (s ∷ ss) = IsStepSince l s × AreStepsSince l ss
 
 abbrev pub submitted_in : Side → ℕ → List Step → Run → List (List ℕ)
 submitted_in side n [] r = []
-submitted_in side n (s ∷ ss) r = (handed_in side n s r.link ++ looped_at side n (step s r.link).out) ++ submitted_in side n ss (goes s r)
+submitted_in side n (s ∷ ss) r =
+    (handed_in side n s r.link ++ looped_at side n (step s r.link).out)
+    ++ submitted_in side n ss (goes s r)
 
 abbrev pub said_in : ℕ → ℕ → Side → List Step → Run → List Happening
 said_in bits l from [] r = []
-said_in bits l from (s ∷ ss) r = told_by_step bits l from s (step s r.link).out ++ said_in bits l from ss (goes s r)
+said_in bits l from (s ∷ ss) r =
+    told_by_step bits l from s (step s r.link).out ++ said_in bits l from ss (goes s r)
 
 -- one of them sets a discard timer on the channel
 abbrev pub sets_in : ℕ → List Step → Bool
 sets_in l [] = false
 sets_in l (s ∷ ss) = sets l s || sets_in l ss
 
-pub record RunsOn (l : ℕ) (nb ue : End) (told : List Record) (submitted : Side → ℕ → List (List ℕ)) (said : ℕ → Side → List Happening) (set : Bool) (ss : List Step) (r : Run) : Type 0 where
+pub record RunsOn (l : ℕ) (nb ue : End) (told : List Record) (submitted : Side → ℕ
+    → List (List ℕ)) (said : ℕ → Side → List Happening) (set : Bool) (ss : List Step) (r : Run) :
+    Type 0 where
   pub more : List Record
   pub journal_is : (goes_on ss r).journal ≡ r.journal ++ more
-  pub lived : Lived l nb ue (told ++ more) (λ side n. submitted side n ++ submitted_in side n ss r) (λ bits from. said bits from ++ said_in bits l from ss r) (set || sets_in l ss) (goes_on ss r).link
+  pub lived : Lived l nb ue (told ++ more)
+      (λ side n. submitted side n ++ submitted_in side n ss r)
+      (λ bits from. said bits from ++ said_in bits l from ss r) (set || sets_in l ss)
+      (goes_on ss r).link
 
 abbrev pub RunsLive : Type 0
-RunsLive = (l : ℕ) (nb ue : End) (told : List Record) (submitted : Side → ℕ → List (List ℕ)) (said : ℕ → Side → List Happening) (set : Bool) (ss : List Step) (r : Run)
-    → AreStepsSince l ss → r.link.out ≡ [] → Lived l nb ue told submitted said set r.link → RunsOn l nb ue told submitted said set ss r
+RunsLive = (l : ℕ) (nb ue : End) (told : List Record) (submitted : Side → ℕ
+    → List (List ℕ)) (said : ℕ → Side → List Happening) (set : Bool) (ss : List Step) (r : Run)
+    → AreStepsSince l ss → r.link.out ≡ [] → Lived l nb ue told submitted said set r.link
+    → RunsOn l nb ue told submitted said set ss r

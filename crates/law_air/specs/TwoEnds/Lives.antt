@@ -32,11 +32,13 @@ abbrev pub CallsRest : Type 0
 CallsRest = (c : Call) (k : Link) → IsGiven c → IsFew c → IsAtRest k → IsAtRest (after c k)
 
 abbrev pub SubmissionsRest : Type 0
-SubmissionsRest = (side : Side) (lcid : ℕ) (sdu : List ℕ) (k : Link) → IsAtRest k → IsAtRest (submitting side lcid sdu k)
+SubmissionsRest = (side : Side) (lcid : ℕ) (sdu : List ℕ) (k : Link) → IsAtRest k
+    → IsAtRest (submitting side lcid sdu k)
 
 -- ---- a channel begins
 
 -- at an end that has no bearer of it
 abbrev pub ChannelsBegin : Type 0
-ChannelsBegin = (config : BearerConfig) (keys : Keys) (k : Link) → IsConfig config → IsAtRest k → (side : Side) → has config.channel.lcid (end_of side k).bearers ≡ false
+ChannelsBegin = (config : BearerConfig) (keys : Keys) (k : Link) → IsConfig config → IsAtRest k
+    → (side : Side) → has config.channel.lcid (end_of side k).bearers ≡ false
     → HasBegun side config.channel.lcid config keys (after_call (end_of side k) (Add config keys))

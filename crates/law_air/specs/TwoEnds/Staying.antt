@@ -42,7 +42,9 @@ pub record MovesOn (l : ℕ) (keys : Keys) (k : Link) (a : Air) : Type 0 where
   pub out_is : (step (Calls (HandsOver keys)) k).out ≡ k.out ++ (leaving ++ behind)
   pub told_is : (side : Side) → told_by side leaving ≡ told_of (end_at side a) (Move keys)
   pub none_looped : (side : Side) (n : ℕ) → looped_at side n leaving ≡ []
-  pub by : GoesByAir l behind (λ side n. looped_at side n behind) (λ bits from. tells_in bits l from [] behind) false (step (Calls (HandsOver keys)) k) (outset (after a.nb.end (Move keys)) (after a.ue.end (Move keys)))
+  pub by : GoesByAir l behind (λ side n. looped_at side n behind)
+      (λ bits from. tells_in bits l from [] behind) false (step (Calls (HandsOver keys)) k)
+      (outset (after a.nb.end (Move keys)) (after a.ue.end (Move keys)))
   pub in_life : AreInLife by.steps
 
 abbrev pub HandoversMove : Type 0

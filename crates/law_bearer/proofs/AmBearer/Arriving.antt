@@ -1,5 +1,6 @@
 -- What comes to a bearer, as deeds.
-use Rattle.std.proofs.Common.{◌≡◌, ℕ, Bool, true, false, List, [], ◌∷◌, ◌++◌, drop, Result, Ok, Err, append-nil, append_assoc, subst, refl, ap, sym, ◌∙◌}
+use Rattle.std.proofs.Common.{◌≡◌, ℕ, Bool, true, false, List, [], ◌∷◌, ◌++◌, drop, Result, Ok, Err, append-nil}
+use Rattle.std.proofs.Common.{append_assoc, subst, refl, ap, sym, ◌∙◌}
 use Rattle.bearer_types.specs.declared.Event.{Event}
 use Rattle.pdcp_pdu.specs.Kinds.{is_am}
 use Rattle.pdcp_rx.specs.declared.got.Cause.TheVariants.{Arrived}
@@ -20,9 +21,12 @@ use Rattle.bearer_pdcp.specs.Ends.{Ends}
 use Rattle.bearer_pdcp.specs.Hearing.{applies, heard_told}
 use Rattle.bearer_pdcp.specs.Telling.{turned_told, landed_told}
 use Rattle.bearer.specs.Acknowledged.State.{State, has_more, Work, work, with_work}
-use Rattle.bearer.specs.Acknowledged.Hearing.{started_told, stopped_told, settled_if, hears, hears_all, all_handed, confirms, all_confirmed, status_work, arrived_told, arrived_left}
-use Rattle.law_bearer.specs.AmBearer.Deeds.{Deed, Sends, Confirms, HandsUp, does, does_all, go_up, hands_first, confirms_first, raised_first, hears_one}
-use Rattle.law_bearer.specs.AmBearer.Calls.{IsIdle, only_if, settles, hands_up, settles_by, confirms_all, arrives, ups_in}
+use Rattle.bearer.specs.Acknowledged.Hearing.{started_told, stopped_told, settled_if, hears, hears_all, all_handed}
+use Rattle.bearer.specs.Acknowledged.Hearing.{confirms, all_confirmed, status_work, arrived_told, arrived_left}
+use Rattle.law_bearer.specs.AmBearer.Deeds.{Deed, Sends, Confirms, HandsUp, does, does_all, go_up, hands_first}
+use Rattle.law_bearer.specs.AmBearer.Deeds.{confirms_first, raised_first, hears_one}
+use Rattle.law_bearer.specs.AmBearer.Calls.{IsIdle, only_if, settles, hands_up, settles_by, confirms_all, arrives}
+use Rattle.law_bearer.specs.AmBearer.Calls.{ups_in}
 use Rattle.law_bearer.proofs.AmBearer.Ups.{does_then, ups_then, none_then, AreQuiet, quiet_then, quiet_each, quiet_up}
 use Rattle.law_bearer.proofs.AmBearer.Hearing.{hears_one_as, hearing_ups}
 use Rattle.law_bearer.proofs.AmBearer.Keeping.{settled_news}
@@ -43,7 +47,12 @@ none_ready : (r : Receiver) → r.out.ready ≡ [] → r ≡ all_handed r
 none_ready r q = subst (λ l. r ≡ record r { out = record r.out { ready = l } }) q refl
 
 none_handed : (w : Work) (b : State) (r : Receiver) → r.out.ready ≡ [] → w.pdcp.rx.ready ≡ [] → Handed [] w b r
-none_handed w b r q e = record { left = ap (λ (x : Receiver). standing w b x) (none_ready r q); ups = append-nil (ups_in w.events); raised = e; news = refl }
+none_handed w b r q e = record {
+  left = ap (λ (x : Receiver). standing w b x) (none_ready r q);
+  ups = append-nil (ups_in w.events);
+  raised = e;
+  news = refl;
+}
 
 -- the first of them, told so
 abbrev one_heard : List ℕ → List Event → Work → Work
@@ -54,30 +63,40 @@ started_none lcid true = refl
 started_none lcid false = refl
 
 -- the SDUs that the first makes ready
-told_one : (before told : List Event) (raised more : List (List ℕ)) → ups_in told ≡ raised → ups_in before ++ (raised ++ more) ≡ ups_in (before ++ told) ++ more
+told_one : (before told : List Event) (raised more : List (List ℕ)) → ups_in told ≡ raised
+    → ups_in before ++ (raised ++ more) ≡ ups_in (before ++ told) ++ more
 told_one before told raised more p =
     sym (append_assoc (ups_in before) raised more)
     ∙ ap (λ l. (ups_in before ++ l) ++ more) (sym p)
     ∙ ap (λ l. l ++ more) (sym (ups_then before told))
 
-told_with : (before told after : List Event) (raised more : List (List ℕ)) → ups_in told ≡ raised → ups_in after ≡ [] → ups_in before ++ (raised ++ more) ≡ ups_in ((before ++ told) ++ after) ++ more
+told_with : (before told after : List Event) (raised more : List (List ℕ)) → ups_in told ≡ raised → ups_in after ≡ []
+    → ups_in before ++ (raised ++ more) ≡ ups_in ((before ++ told) ++ after) ++ more
 told_with before told after raised more p q =
     told_one before told raised more p
-    ∙ ap (λ l. l ++ more) (sym (append-nil (ups_in (before ++ told))) ∙ ap (λ l. ups_in (before ++ told) ++ l) (sym q) ∙ sym (ups_then (before ++ told) after))
+    ∙ ap (λ l. l ++ more) (sym (append-nil (ups_in (before ++ told))) ∙ ap (λ l. ups_in (before ++ told) ++ l) (sym q)
+    ∙ sym (ups_then (before ++ told) after))
 
 -- deeds by the list that stands first
-handing : (sdu : List ℕ) (sdus : List (List ℕ)) (w : Work) (b : State) (r : Receiver) (deeds : List Deed) → r.out.ready ≡ sdu ∷ sdus
+handing : (sdu : List ℕ) (sdus : List (List ℕ)) (w : Work) (b : State) (r : Receiver) (deeds : List Deed)
+    → r.out.ready ≡ sdu ∷ sdus
     → does_all (HandsUp ∷ deeds) (standing w b r) ≡ does_all deeds (hands_first (sdu ∷ sdus) (standing w b r))
 handing sdu sdus w b r deeds q = ap (λ l. does_all deeds (hands_first l (standing w b r))) q
 
-raising : (sdu : List ℕ) (sdus : List (List ℕ)) (w : Work) (b : State) (r : Receiver) (deeds : List Deed) → r.out.ready ≡ sdu ∷ sdus
-    → go_up (HandsUp ∷ deeds) (standing w b r) ≡ (arrived_at w.pdcp.rx sdu Arrived).ready ++ go_up deeds (hands_first (sdu ∷ sdus) (standing w b r))
+raising : (sdu : List ℕ) (sdus : List (List ℕ)) (w : Work) (b : State) (r : Receiver) (deeds : List Deed)
+    → r.out.ready ≡ sdu ∷ sdus
+    → go_up (HandsUp ∷ deeds) (standing w b r) ≡ (arrived_at w.pdcp.rx sdu Arrived).ready
+    ++ go_up deeds (hands_first (sdu ∷ sdus) (standing w b r))
 raising sdu sdus w b r deeds q = ap (λ l. raised_first l w.pdcp.rx ++ go_up deeds (hands_first l (standing w b r))) q
 
-more_handed : (a : Bool) (sdu : List ℕ) (sdus : List (List ℕ)) (told : List Event) (w : Work) (b : State) (r : Receiver) → r.out.ready ≡ sdu ∷ sdus → ups_in told ≡ (arrived_at w.pdcp.rx sdu Arrived).ready
+more_handed : (a : Bool) (sdu : List ℕ) (sdus : List (List ℕ)) (told : List Event) (w : Work) (b : State)
+    (r : Receiver) → r.out.ready ≡ sdu ∷ sdus → ups_in told ≡ (arrived_at w.pdcp.rx sdu Arrived).ready
     → Handed sdus (settled_if a (one_heard sdu told w)) b (taken r)
-    → (does_all (HandsUp ∷ (only_if a (settles (hears_one sdu w.pdcp)) ++ hands_up sdus (hears_one sdu w.pdcp))) (standing w b r) ≡ standing (hears_all sdus (settled_if a (one_heard sdu told w))) b (all_handed r))
-    × (ups_in w.events ++ go_up (HandsUp ∷ (only_if a (settles (hears_one sdu w.pdcp)) ++ hands_up sdus (hears_one sdu w.pdcp))) (standing w b r) ≡ ups_in (hears_all sdus (settled_if a (one_heard sdu told w))).events)
+    → (does_all (HandsUp ∷ (only_if a (settles (hears_one sdu w.pdcp)) ++ hands_up sdus (hears_one sdu w.pdcp)))
+    (standing w b r) ≡ standing (hears_all sdus (settled_if a (one_heard sdu told w))) b (all_handed r))
+    × (ups_in w.events
+    ++ go_up (HandsUp ∷ (only_if a (settles (hears_one sdu w.pdcp)) ++ hands_up sdus (hears_one sdu w.pdcp)))
+    (standing w b r) ≡ ups_in (hears_all sdus (settled_if a (one_heard sdu told w))).events)
     × ((settled_if a (one_heard sdu told w)).tx.accounts.news ≡ w.tx.accounts.news)
 more_handed true sdu sdus told w b r q t h =
     let e = hears_one sdu w.pdcp in
@@ -85,7 +104,9 @@ more_handed true sdu sdus told w b r q t h =
     let v = settled_if true (one_heard sdu told w) in (
       handing sdu sdus w b r deeds q ∙ h.left,
       ap (λ l. ups_in w.events ++ l) (raising sdu sdus w b r deeds q)
-          ∙ told_with w.events told (started_told e.lcid (starts w.tx (has_more e))) (arrived_at w.pdcp.rx sdu Arrived).ready (go_up (hands_up sdus e) (standing v b (taken r))) t (started_none e.lcid (starts w.tx (has_more e)))
+          ∙ told_with w.events told (started_told e.lcid (starts w.tx (has_more e)))
+          (arrived_at w.pdcp.rx sdu Arrived).ready (go_up (hands_up sdus e) (standing v b (taken r))) t
+          (started_none e.lcid (starts w.tx (has_more e)))
           ∙ h.ups,
       settled_news w.tx (has_more e),
     )
@@ -95,7 +116,8 @@ more_handed false sdu sdus told w b r q t h =
     let v = settled_if false (one_heard sdu told w) in (
       handing sdu sdus w b r deeds q ∙ h.left,
       ap (λ l. ups_in w.events ++ l) (raising sdu sdus w b r deeds q)
-          ∙ told_one w.events told (arrived_at w.pdcp.rx sdu Arrived).ready (go_up (hands_up sdus e) (standing v b (taken r))) t
+          ∙ told_one w.events told (arrived_at w.pdcp.rx sdu Arrived).ready
+          (go_up (hands_up sdus e) (standing v b (taken r))) t
           ∙ h.ups,
       refl,
     )
@@ -105,17 +127,23 @@ settled_pdcp : (a : Bool) (w : Work) → (settled_if a w).pdcp ≡ w.pdcp
 settled_pdcp true w = refl
 settled_pdcp false w = refl
 
-hears_as : (sdu : List ℕ) (w : Work) → is_am w.pdcp.kind ≡ true → w.pdcp.rx.ready ≡ [] → settled_if (applies sdu Arrived w.pdcp) (one_heard sdu (heard_told sdu Arrived w.pdcp) w) ≡ hears sdu w
-hears_as sdu w am q = ap (λ (e : Ends). settled_if (applies sdu Arrived w.pdcp) (work e w.tx (w.events ++ heard_told sdu Arrived w.pdcp))) (sym (hears_one_as sdu w.pdcp am q))
+hears_as : (sdu : List ℕ) (w : Work) → is_am w.pdcp.kind ≡ true → w.pdcp.rx.ready ≡ []
+    → settled_if (applies sdu Arrived w.pdcp) (one_heard sdu (heard_told sdu Arrived w.pdcp) w) ≡ hears sdu w
+hears_as sdu w am q =
+    ap (λ (e : Ends). settled_if (applies sdu Arrived w.pdcp)
+    (work e w.tx (w.events ++ heard_told sdu Arrived w.pdcp))) (sym (hears_one_as sdu w.pdcp am q))
 
-all_handed_up : (sdus : List (List ℕ)) (w : Work) (b : State) (r : Receiver) → r.out.ready ≡ sdus → is_am w.pdcp.kind ≡ true → w.pdcp.rx.ready ≡ [] → Handed sdus w b r
+all_handed_up : (sdus : List (List ℕ)) (w : Work) (b : State) (r : Receiver) → r.out.ready ≡ sdus
+    → is_am w.pdcp.kind ≡ true → w.pdcp.rx.ready ≡ [] → Handed sdus w b r
 all_handed_up [] w b r q am e = none_handed w b r q e
 all_handed_up (sdu ∷ sdus) w b r q am e =
     let a = applies sdu Arrived w.pdcp in
     let told = heard_told sdu Arrived w.pdcp in
     let v : Work = settled_if a (one_heard sdu told w) in
     let next : v.pdcp ≡ hears_one sdu w.pdcp = settled_pdcp a (one_heard sdu told w) in
-    let rest : Handed sdus v b (taken r) = all_handed_up sdus v b (taken r) (ap (λ (l : List (List ℕ)). drop 1 l) q) (ap (λ (x : Ends). is_am x.kind) next ∙ am) (ap (λ (x : Ends). x.rx.ready) next) in
+    let rest : Handed sdus v b (taken r) =
+    all_handed_up sdus v b (taken r) (ap (λ (l : List (List ℕ)). drop 1 l) q)
+    (ap (λ (x : Ends). is_am x.kind) next ∙ am) (ap (λ (x : Ends). x.rx.ready) next) in
     let more = more_handed a sdu sdus told w b r q (hearing_ups sdu Arrived w.pdcp am e) rest in
     let same : v ≡ hears sdu w = hears_as sdu w am e in
     record {
@@ -130,14 +158,16 @@ all_handed_up (sdu ∷ sdus) w b r q am e =
 none_confirmed : (s : Sender) → s.accounts.news ≡ [] → s ≡ all_confirmed s
 none_confirmed s q = subst (λ l. s ≡ record s { accounts = record s.accounts { news = l } }) q refl
 
-pub confirm_each : (places : List ℕ) (b : State) → b.tx.accounts.news ≡ places → does_all (confirms_all places) b ≡ record b { pdcp = confirms places b.pdcp; tx = all_confirmed b.tx }
+pub confirm_each : (places : List ℕ) (b : State) → b.tx.accounts.news ≡ places
+    → does_all (confirms_all places) b ≡ record b { pdcp = confirms places b.pdcp; tx = all_confirmed b.tx }
 confirm_each [] b q = ap (λ (s : Sender). record b { tx = s }) (none_confirmed b.tx q)
 confirm_each (place ∷ places) b q =
     let d : State = confirms_first (place ∷ places) b in
     ap (λ l. does_all (confirms_all places) (confirms_first l b)) q
     ∙ confirm_each places d (ap (λ (l : List ℕ). drop 1 l) q)
 
-status_as : (h : Heard) (w : Work) (b : State) → does_all (settles_by h w.pdcp) (with_work w b) ≡ with_work (status_work h w) b
+status_as : (h : Heard) (w : Work) (b : State)
+    → does_all (settles_by h w.pdcp) (with_work w b) ≡ with_work (status_work h w) b
 status_as heard_as.Ignored w b = refl
 status_as (heard_as.Limit sn) w b = refl
 status_as (heard_as.Applied stopped) w b = refl
@@ -164,7 +194,8 @@ status_none : (h : Heard) (pdcp : Ends) (tx : Sender) → ups_in (status_work h 
 status_none heard_as.Ignored pdcp tx = refl
 status_none (heard_as.Limit sn) pdcp tx = refl
 status_none (heard_as.Applied stopped) pdcp tx =
-    none_then (stopped_told pdcp.lcid stopped) (started_told pdcp.lcid (starts tx (has_more pdcp))) (stopped_none pdcp.lcid stopped) (started_none pdcp.lcid (starts tx (has_more pdcp)))
+    none_then (stopped_told pdcp.lcid stopped) (started_told pdcp.lcid (starts tx (has_more pdcp)))
+    (stopped_none pdcp.lcid stopped) (started_none pdcp.lcid (starts tx (has_more pdcp)))
 
 settles_quiet : (h : Heard) (e : Ends) → AreQuiet (settles_by h e)
 settles_quiet heard_as.Ignored e = tt
@@ -202,7 +233,8 @@ data_comes p b am idle =
     let h : Handed r.out.ready w b r = all_handed_up r.out.ready w b r refl am idle.raised in
     record {
       left = h.left;
-      ups = ap (λ l. l ++ go_up (hands_up r.out.ready b.pdcp) (standing w b r)) (sym (landed_none b.pdcp.lcid (landed b.rx p) (turned b.rx p))) ∙ h.ups;
+      ups = ap (λ l. l ++ go_up (hands_up r.out.ready b.pdcp) (standing w b r))
+          (sym (landed_none b.pdcp.lcid (landed b.rx p) (turned b.rx p))) ∙ h.ups;
       idle = record { heard = refl; raised = h.raised; confirmed = h.news ∙ idle.confirmed };
     }
 
@@ -217,11 +249,13 @@ status_comes p b idle =
     record {
       left = does_then each last d ∙ ap (does_all last) (confirm_each s.accounts.news d refl) ∙ status_as h w b;
       ups =
-          quiet_up (each ++ last) d (quiet_then each last (quiet_each Confirms s.accounts.news tt) (settles_quiet h w.pdcp))
+          quiet_up (each ++ last) d
+          (quiet_then each last (quiet_each Confirms s.accounts.news tt) (settles_quiet h w.pdcp))
           ∙ sym (status_none h w.pdcp w.tx);
       idle = record {
         heard = idle.heard;
-        raised = ap (λ (e : Ends). e.rx.ready) (status_rx h w) ∙ ap (λ r. r.ready) (confirms_rx s.accounts.news b.pdcp) ∙ idle.raised;
+        raised = ap (λ (e : Ends). e.rx.ready) (status_rx h w)
+            ∙ ap (λ r. r.ready) (confirms_rx s.accounts.news b.pdcp) ∙ idle.raised;
         confirmed = status_news h w;
       };
     }

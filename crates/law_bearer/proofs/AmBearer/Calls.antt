@@ -19,7 +19,8 @@ use Rattle.law_bearer.proofs.AmBearer.Arriving.{comes}
 use Rattle.law_bearer.proofs.AmBearer.Timing.{expires_as, expires_quiet, expiry_none, tti_as, tti_quiet, tti_none}
 
 -- of quiet deeds
-quietly : (bits : ℕ) (b : State) (c : Call) → IsOfData bits b → IsIdle b → AreQuiet (deeds_of b c) → ups_in (tells b c) ≡ [] → after (Am b) c ≡ Am (does_all (deeds_of b c) b) → AreDeeds bits b c
+quietly : (bits : ℕ) (b : State) (c : Call) → IsOfData bits b → IsIdle b → AreQuiet (deeds_of b c)
+    → ups_in (tells b c) ≡ [] → after (Am b) c ≡ Am (does_all (deeds_of b c) b) → AreDeeds bits b c
 quietly bits b c h idle q none left = record {
   left = left;
   ups = quiet_up (deeds_of b c) b q ∙ sym none;
@@ -50,9 +51,12 @@ pub calls_are_deeds : (bits : ℕ) (b : State) (c : Call) → IsOfData bits b �
 unfolding submitted taken_from expired ticked with_discard
 calls_are_deeds bits b (Submit sdu) h idle = quietly bits b (Submit sdu) h idle (tt, tt) refl refl
 calls_are_deeds bits b (Take share held) h idle =
-    quietly bits b (Take share held) h idle (takes_quiet b share held) (taking_ups b share held) (ap (λ (d : State). Am d) (sym (takes_as b share held)))
+    quietly bits b (Take share held) h idle (takes_quiet b share held) (taking_ups b share held)
+    (ap (λ (d : State). Am d) (sym (takes_as b share held)))
 calls_are_deeds bits b (Arrive pdu) h idle = arriving_as bits b pdu h idle
 calls_are_deeds bits b (Expire clock) h idle =
-    quietly bits b (Expire clock) h idle (expires_quiet clock b, tt) (expiry_told b clock) (ap (λ (d : State). Am d) (sym (expires_as clock b)))
-calls_are_deeds bits b Tick h idle = quietly bits b Tick h idle (tti_quiet b) (tick_told b) (ap (λ (d : State). Am d) (sym (tti_as b)))
+    quietly bits b (Expire clock) h idle (expires_quiet clock b, tt) (expiry_told b clock)
+    (ap (λ (d : State). Am d) (sym (expires_as clock b)))
+calls_are_deeds bits b Tick h idle =
+    quietly bits b Tick h idle (tti_quiet b) (tick_told b) (ap (λ (d : State). Am d) (sym (tti_as b)))
 calls_are_deeds bits b (SetDiscard ttis) h idle = quietly bits b (SetDiscard ttis) h idle (tt, tt) refl refl

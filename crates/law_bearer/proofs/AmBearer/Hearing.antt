@@ -1,5 +1,6 @@
 -- An SDU of RLC comes to PDCP.
-use Rattle.std.proofs.Common.{◌≡◌, ℕ, ◌+◌, ◌^◌, Bool, true, false, ◌&&◌, ◌||◌, if◌then◌else◌, nat_le, List, [], ◌∷◌, ◌++◌, Option, Some, None, append-nil, subst, refl, ap, sym, ◌∙◌}
+use Rattle.std.proofs.Common.{◌≡◌, ℕ, ◌+◌, ◌^◌, Bool, true, false, ◌&&◌, ◌||◌, if◌then◌else◌, nat_le, List, [], ◌∷◌}
+use Rattle.std.proofs.Common.{◌++◌, Option, Some, None, append-nil, subst, refl, ap, sym, ◌∙◌}
 use Rattle.bearer_types.specs.declared.Event.TheVariants as events
 use Rattle.l2_types.specs.declared.Lost.TheVariants as lost
 use Rattle.pdcp_pdu.specs.Kinds.{is_am}
@@ -11,7 +12,8 @@ use Rattle.pdcp_rx.specs.declared.security.Opened.{Opened}
 use Rattle.pdcp_rx.specs.declared.security.Opened.TheVariants.{Sdu, Differs}
 use Rattle.pdcp_rx.specs.Heard.{Heard, Bad, Told, Data, heard}
 use Rattle.pdcp_rx.specs.Held.{stored}
-use Rattle.pdcp_rx.specs.State.{State as Receiving, got, arrived, above, passed_over, opened_at, waits, raised, got_heard, got_data, got_opened, left_heard, left_data, left_opened, width}
+use Rattle.pdcp_rx.specs.State.{State as Receiving, got, arrived, above, passed_over, opened_at, waits, raised}
+use Rattle.pdcp_rx.specs.State.{got_heard, got_data, got_opened, left_heard, left_data, left_opened, width}
 use Rattle.pdcp_rx.specs.Held.{is_held}
 use Rattle.pdcp_tx.specs.State.{State as Sending, reported}
 use Rattle.bearer_pdcp.specs.Ends.{Ends}
@@ -33,8 +35,10 @@ told_at Reestablished h s = s
 abbrev takes_as : Cause → Heard → Ends → Ends
 takes_as cause h e = record e { tx = told_at cause h e.tx; rx = all_raised (left_heard e.rx cause h) }
 
-same_raised : (cause : Cause) (e : Ends) (s : Sending) → e.rx.ready ≡ [] → s ≡ e.tx → record e { tx = s; rx = all_raised e.rx } ≡ e
-same_raised cause e s q p = ap (λ (r : Receiving). record e { tx = s; rx = r }) (none_ready e.rx q) ∙ ap (λ (t : Sending). record e { tx = t }) p
+same_raised : (cause : Cause) (e : Ends) (s : Sending) → e.rx.ready ≡ [] → s ≡ e.tx
+    → record e { tx = s; rx = all_raised e.rx } ≡ e
+same_raised cause e s q p = ap (λ (r : Receiving). record e { tx = s; rx = r }) (none_ready e.rx q)
+    ∙ ap (λ (t : Sending). record e { tx = t }) p
 
 -- ---- what comes of it
 
@@ -64,26 +68,45 @@ IsDrop (answers.Integrity found wanted) = Unit {0}
 IsDrop (answers.Report fms bitmap) = ⊥
 IsDrop (answers.Unreadable fault) = Unit {0}
 
-dropped : (cause : Cause) (h : Heard) (g : Got) (e : Ends) → IsDrop g → IsNoReport h → e.rx.ready ≡ [] → Comes cause h g e.rx e
+dropped : (cause : Cause) (h : Heard) (g : Got) (e : Ends) → IsDrop g → IsNoReport h → e.rx.ready ≡ []
+    → Comes cause h g e.rx e
 dropped cause h answers.Up e d n q = absurd d
 dropped cause h answers.Stored e d n q = absurd d
-dropped cause h answers.Old e d n q = record { left = sym (same_raised cause e (told_at cause h e.tx) q (untold cause h e.tx n)); ups = sym q }
-dropped cause h answers.OutOfRange e d n q = record { left = sym (same_raised cause e (told_at cause h e.tx) q (untold cause h e.tx n)); ups = sym q }
-dropped cause h (answers.Integrity found wanted) e d n q = record { left = sym (same_raised cause e (told_at cause h e.tx) q (untold cause h e.tx n)); ups = sym q }
+dropped cause h answers.Old e d n q =
+    record { left = sym (same_raised cause e (told_at cause h e.tx) q (untold cause h e.tx n)); ups = sym q }
+dropped cause h answers.OutOfRange e d n q =
+    record { left = sym (same_raised cause e (told_at cause h e.tx) q (untold cause h e.tx n)); ups = sym q }
+dropped cause h (answers.Integrity found wanted) e d n q =
+    record { left = sym (same_raised cause e (told_at cause h e.tx) q (untold cause h e.tx n)); ups = sym q }
 dropped cause h (answers.Report fms bitmap) e d n q = absurd d
-dropped cause h (answers.Unreadable fault) e d n q = record { left = sym (same_raised cause e (told_at cause h e.tx) q (untold cause h e.tx n)); ups = sym q }
+dropped cause h (answers.Unreadable fault) e d n q =
+    record { left = sym (same_raised cause e (told_at cause h e.tx) q (untold cause h e.tx n)); ups = sym q }
 
-upward : (cause : Cause) (h : Heard) (b : Bool) (r : Receiving) (e : Ends) → IsNoReport h → Comes cause h (if b then answers.Stored else answers.Up) r e
-upward cause h true r e n = record { left = ap (λ (t : Sending). record e { tx = t; rx = all_raised r }) (sym (untold cause h e.tx n)); ups = ups_are e.lcid r.ready }
-upward cause h false r e n = record { left = ap (λ (t : Sending). record e { tx = t; rx = all_raised r }) (sym (untold cause h e.tx n)); ups = ups_are e.lcid r.ready }
+upward : (cause : Cause) (h : Heard) (b : Bool) (r : Receiving) (e : Ends) → IsNoReport h
+    → Comes cause h (if b then answers.Stored else answers.Up) r e
+upward cause h true r e n =
+    record {
+      left = ap (λ (t : Sending). record e { tx = t; rx = all_raised r }) (sym (untold cause h e.tx n));
+      ups = ups_are e.lcid r.ready;
+    }
+upward cause h false r e n =
+    record {
+      left = ap (λ (t : Sending). record e { tx = t; rx = all_raised r }) (sym (untold cause h e.tx n));
+      ups = ups_are e.lcid r.ready;
+    }
 
-opened_comes : (cause : Cause) (h : Heard) (at : ℕ) (o : Opened) (e : Ends) → IsNoReport h → e.rx.ready ≡ [] → Comes cause h (got_opened e.rx cause at o) (left_opened e.rx cause at o) e
-opened_comes cause h at (Sdu sdu) e n q = upward cause h (waits e.rx.kind cause at) (left_opened e.rx cause at (Sdu sdu)) e n
+opened_comes : (cause : Cause) (h : Heard) (at : ℕ) (o : Opened) (e : Ends) → IsNoReport h → e.rx.ready ≡ []
+    → Comes cause h (got_opened e.rx cause at o) (left_opened e.rx cause at o) e
+opened_comes cause h at (Sdu sdu) e n q =
+    upward cause h (waits e.rx.kind cause at) (left_opened e.rx cause at (Sdu sdu)) e n
 opened_comes cause h at (Differs found wanted) e n q = dropped cause h (answers.Integrity found wanted) e tt n q
 
 -- it is passed over for one of two reasons
-data_comes : (cause : Cause) (h : Heard) (at : ℕ) (o : Opened) (old beyond : Bool) (e : Ends) → IsNoReport h → e.rx.ready ≡ []
-    → Comes cause h (got_data (if old then Some answers.Old else (if beyond then Some answers.OutOfRange else None)) e.rx cause at o) (left_data (if old then Some answers.Old else (if beyond then Some answers.OutOfRange else None)) e.rx cause at o) e
+data_comes : (cause : Cause) (h : Heard) (at : ℕ) (o : Opened) (old beyond : Bool) (e : Ends) → IsNoReport h
+    → e.rx.ready ≡ []
+    → Comes cause h (got_data (if old then Some answers.Old else (if beyond then Some answers.OutOfRange else None))
+    e.rx cause at o) (left_data (if old then Some answers.Old else (if beyond then Some answers.OutOfRange else None))
+    e.rx cause at o) e
 data_comes cause h at o true beyond e n q = dropped cause h answers.Old e tt n q
 data_comes cause h at o false true e n q = dropped cause h answers.OutOfRange e tt n q
 data_comes cause h at o false false e n q = opened_comes cause h at o e n q
@@ -92,7 +115,8 @@ report_told : (b : Bool) (lcid : ℕ) → ups_in (if b then [] else events.Drop 
 report_told true lcid = refl
 report_told false lcid = refl
 
-told_comes : (cause : Cause) (fms : ℕ) (bitmap : List ℕ) (e : Ends) → is_am e.kind ≡ true → e.rx.ready ≡ [] → Comes cause (Told fms bitmap) (answers.Report fms bitmap) e.rx e
+told_comes : (cause : Cause) (fms : ℕ) (bitmap : List ℕ) (e : Ends) → is_am e.kind ≡ true → e.rx.ready ≡ []
+    → Comes cause (Told fms bitmap) (answers.Report fms bitmap) e.rx e
 told_comes Arrived fms bitmap e am q = record {
   left =
       ap (λ (b : Bool). if b && true then record e { tx = reported e.tx fms bitmap } else e) am
@@ -106,24 +130,29 @@ told_comes Reestablished fms bitmap e am q = record {
   ups = report_told (is_applied e Reestablished fms) e.lcid ∙ sym q;
 }
 
-heard_comes : (cause : Cause) (h : Heard) (e : Ends) → is_am e.kind ≡ true → e.rx.ready ≡ [] → Comes cause h (got_heard e.rx cause h) (left_heard e.rx cause h) e
+heard_comes : (cause : Cause) (h : Heard) (e : Ends) → is_am e.kind ≡ true → e.rx.ready ≡ []
+    → Comes cause h (got_heard e.rx cause h) (left_heard e.rx cause h) e
 heard_comes cause (Bad refusal) e am q = dropped cause (Bad refusal) (answers.Unreadable refusal) e tt tt q
 heard_comes cause (Told fms bitmap) e am q = told_comes cause fms bitmap e am q
 heard_comes cause (Data sn body) e am q =
     let at = above e.rx sn in
-    data_comes cause (Data sn body) at (opened_at e.rx at body) (nat_le (width e.rx.kind) at || is_held e.rx.held at) (nat_le (2 ^ 32) (e.rx.next + at)) e tt q
+    data_comes cause (Data sn body) at (opened_at e.rx at body) (nat_le (width e.rx.kind) at || is_held e.rx.held at)
+    (nat_le (2 ^ 32) (e.rx.next + at)) e tt q
 
 -- ---- an SDU comes in a life, and at its end
 
-pub hears_one_as : (sdu : List ℕ) (e : Ends) → is_am e.kind ≡ true → e.rx.ready ≡ [] → after_hearing sdu Arrived e ≡ hears_one sdu e
+pub hears_one_as : (sdu : List ℕ) (e : Ends) → is_am e.kind ≡ true → e.rx.ready ≡ []
+    → after_hearing sdu Arrived e ≡ hears_one sdu e
 unfolding after_hearing got arrived
 hears_one_as sdu e am q = (heard_comes Arrived (heard e.rx.kind sdu) e am q).left
 
-pub hearing_ups : (sdu : List ℕ) (cause : Cause) (e : Ends) → is_am e.kind ≡ true → e.rx.ready ≡ [] → ups_in (heard_told sdu cause e) ≡ (arrived e.rx sdu cause).ready
+pub hearing_ups : (sdu : List ℕ) (cause : Cause) (e : Ends) → is_am e.kind ≡ true → e.rx.ready ≡ []
+    → ups_in (heard_told sdu cause e) ≡ (arrived e.rx sdu cause).ready
 unfolding heard_told got arrived
 hearing_ups sdu cause e am q = (heard_comes cause (heard e.rx.kind sdu) e am q).ups
 
-pub closes_one : (sdu : List ℕ) (e : Ends) → is_am e.kind ≡ true → e.rx.ready ≡ [] → after_hearing sdu Reestablished e ≡ record e { rx = all_raised (arrived e.rx sdu Reestablished) }
+pub closes_one : (sdu : List ℕ) (e : Ends) → is_am e.kind ≡ true → e.rx.ready ≡ []
+    → after_hearing sdu Reestablished e ≡ record e { rx = all_raised (arrived e.rx sdu Reestablished) }
 unfolding after_hearing got arrived
 closes_one sdu e am q = (heard_comes Reestablished (heard e.rx.kind sdu) e am q).left
 
@@ -137,23 +166,32 @@ nothing_behind r = ap (λ l. record r { ready = l }) (sym (append-nil r.ready))
 
 placed_apart : (r : Receiving) (b : Bool) (at : ℕ) (sdu : List ℕ)
     → (if b then record r { held = stored r.held at sdu } else raised r (stored r.held at sdu) (at + 1))
-    ≡ behind r.ready (if b then record (all_raised r) { held = stored r.held at sdu } else raised (all_raised r) (stored r.held at sdu) (at + 1))
+    ≡ behind r.ready (if b then record (all_raised r) { held = stored r.held at sdu }
+    else raised (all_raised r) (stored r.held at sdu) (at + 1))
 placed_apart r true at sdu = ap (λ l. record r { held = stored r.held at sdu; ready = l }) (sym (append-nil r.ready))
 placed_apart r false at sdu = refl
 
-opened_apart : (r : Receiving) (cause : Cause) (at : ℕ) (o : Opened) → left_opened r cause at o ≡ behind r.ready (left_opened (all_raised r) cause at o)
+opened_apart : (r : Receiving) (cause : Cause) (at : ℕ) (o : Opened)
+    → left_opened r cause at o ≡ behind r.ready (left_opened (all_raised r) cause at o)
 opened_apart r cause at (Sdu sdu) = placed_apart r (waits r.kind cause at) at sdu
 opened_apart r cause at (Differs found wanted) = nothing_behind r
 
-data_apart : (why : Option Got) (r : Receiving) (cause : Cause) (at : ℕ) (o : Opened) → left_data why r cause at o ≡ behind r.ready (left_data why (all_raised r) cause at o)
+data_apart : (why : Option Got) (r : Receiving) (cause : Cause) (at : ℕ) (o : Opened)
+    → left_data why r cause at o ≡ behind r.ready (left_data why (all_raised r) cause at o)
 data_apart (Some why) r cause at o = nothing_behind r
 data_apart None r cause at o = opened_apart r cause at o
 
-heard_apart : (h : Heard) (r : Receiving) (cause : Cause) → left_heard r cause h ≡ behind r.ready (left_heard (all_raised r) cause h)
+heard_apart : (h : Heard) (r : Receiving) (cause : Cause)
+    → left_heard r cause h ≡ behind r.ready (left_heard (all_raised r) cause h)
 heard_apart (Bad refusal) r cause = nothing_behind r
 heard_apart (Told fms bitmap) r cause = nothing_behind r
-heard_apart (Data sn body) r cause = data_apart (passed_over r (above r sn)) r cause (above r sn) (opened_at r (above r sn) body)
+heard_apart (Data sn body) r cause =
+    data_apart (passed_over r (above r sn)) r cause (above r sn) (opened_at r (above r sn) body)
 
-pub arrived_apart : (r : Receiving) (sdu : List ℕ) (cause : Cause) → arrived r sdu cause ≡ record (arrived (all_raised r) sdu cause) { ready = r.ready ++ (arrived (all_raised r) sdu cause).ready }
+pub arrived_apart : (r : Receiving) (sdu : List ℕ) (cause : Cause)
+    → arrived r sdu cause ≡ record (arrived (all_raised r) sdu cause) {
+      ready =
+          r.ready ++ (arrived (all_raised r) sdu cause).ready;
+    }
 unfolding arrived
 arrived_apart r sdu cause = heard_apart (heard r.kind sdu) r cause

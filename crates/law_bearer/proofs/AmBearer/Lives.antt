@@ -11,7 +11,8 @@ use Rattle.pdcp_pdu.specs.declared.PdcpKind.{PdcpKind}
 use Rattle.pdcp_pdu.specs.declared.PdcpKind.TheVariants.{Am as AmKind}
 use Rattle.pdcp_pdu.specs.Kinds.{is_am}
 use Rattle.pdcp_rx.specs.declared.got.Cause.TheVariants.{Reestablished}
-use Rattle.pdcp_rx.specs.State.{State as Receiving, arrived, report, restarted as restarted_receiving, fresh as fresh_receiving}
+use Rattle.pdcp_rx.specs.State.{State as Receiving, arrived, report, restarted as restarted_receiving}
+use Rattle.pdcp_rx.specs.State.{fresh as fresh_receiving}
 use Rattle.pdcp_sec.specs.Protection.{Protection, protection_of}
 use Rattle.pdcp_tx.specs.State.{restarted as restarted_sending, start as start_sending}
 use Rattle.rlc_am_rx.specs.Machine.{finished}
@@ -19,7 +20,8 @@ use Rattle.bearer_pdcp.specs.Ends.{Ends, begun, bearer_of, sends, hears}
 use Rattle.bearer_pdcp.specs.Hearing.{heard_told, after_hearing}
 use Rattle.bearer_pdcp.specs.Lives.{restarted as restarted_pdcp}
 use Rattle.bearer.specs.Acknowledged.State.{State, with_new_rlc, fresh as fresh_am}
-use Rattle.bearer.specs.Acknowledged.Lives.{Ending, hears_last, ends_with, last_ups, stopped as am_stopped, stopping as am_stopping, restarted as am_restarted}
+use Rattle.bearer.specs.Acknowledged.Lives.{Ending, hears_last, ends_with, last_ups, stopped as am_stopped}
+use Rattle.bearer.specs.Acknowledged.Lives.{stopping as am_stopping, restarted as am_restarted}
 use Rattle.bearer.specs.declared.flow.Flow.{Flow}
 use Rattle.bearer.specs.declared.flow.Flow.TheVariants.{Am}
 use Rattle.bearer.specs.Bearer.{flow_of}
@@ -27,7 +29,8 @@ use Rattle.bearer.specs.Lives.{stopped, stopping, restarted}
 use Rattle.law_bearer.specs.AnyBearer.Calls.{Step, Calls, Restart, after, goes, run, reached}
 use Rattle.law_bearer.specs.AmBearer.Deeds.{does_all, all_raised}
 use Rattle.law_bearer.specs.AmBearer.Calls.{deeds_of, IsOfData, IsIdle, ups_in}
-use Rattle.law_bearer.specs.AmBearer.Lives.{closes, closed, restarts, RestartsAs, StandsIdle, BeginAlike, other, BeginsAs, protection_at, AreProtectedAlike}
+use Rattle.law_bearer.specs.AmBearer.Lives.{closes, closed, restarts, RestartsAs, StandsIdle, BeginAlike, other}
+use Rattle.law_bearer.specs.AmBearer.Lives.{BeginsAs, protection_at, AreProtectedAlike}
 use Rattle.law_bearer.proofs.AmBearer.Ups.{ups_then}
 use Rattle.law_bearer.proofs.AmBearer.Hearing.{none_ready, closes_one, hearing_ups, arrived_apart}
 use Rattle.law_bearer.proofs.AmBearer.Keeping.{arrives_alike}
@@ -43,24 +46,30 @@ record Closes (sdus : List (List ℕ)) (e : Ends) (r : Receiving) (told : List E
   left : (hears_last sdus (record { pdcp = raised e r; events = told })).pdcp ≡ raised e (closes sdus r)
   ups : ups_in (hears_last sdus (record { pdcp = raised e r; events = told })).events ≡ (closes sdus r).ready
 
-one_closes : (sdu : List ℕ) (e : Ends) (r : Receiving) → is_am e.kind ≡ true → after_hearing sdu Reestablished (raised e r) ≡ raised e (arrived r sdu Reestablished)
-one_closes sdu e r am = closes_one sdu (raised e r) am refl ∙ ap (λ (x : Receiving). raised e x) (sym (arrived_apart r sdu Reestablished))
+one_closes : (sdu : List ℕ) (e : Ends) (r : Receiving) → is_am e.kind ≡ true
+    → after_hearing sdu Reestablished (raised e r) ≡ raised e (arrived r sdu Reestablished)
+one_closes sdu e r am = closes_one sdu (raised e r) am refl
+    ∙ ap (λ (x : Receiving). raised e x) (sym (arrived_apart r sdu Reestablished))
 
-one_told : (sdu : List ℕ) (e : Ends) (r : Receiving) (told : List Event) → is_am e.kind ≡ true → ups_in told ≡ r.ready → ups_in (told ++ heard_told sdu Reestablished (raised e r)) ≡ (arrived r sdu Reestablished).ready
+one_told : (sdu : List ℕ) (e : Ends) (r : Receiving) (told : List Event) → is_am e.kind ≡ true → ups_in told ≡ r.ready
+    → ups_in (told ++ heard_told sdu Reestablished (raised e r)) ≡ (arrived r sdu Reestablished).ready
 one_told sdu e r told am q =
     ups_then told (heard_told sdu Reestablished (raised e r))
     ∙ ap (λ l. l ++ ups_in (heard_told sdu Reestablished (raised e r))) q
     ∙ ap (λ l. r.ready ++ l) (hearing_ups sdu Reestablished (raised e r) am refl)
     ∙ ap (λ (x : Receiving). x.ready) (sym (arrived_apart r sdu Reestablished))
 
-all_close : (sdus : List (List ℕ)) (e : Ends) (r : Receiving) (told : List Event) → is_am e.kind ≡ true → ups_in told ≡ r.ready → Closes sdus e r told
+all_close : (sdus : List (List ℕ)) (e : Ends) (r : Receiving) (told : List Event) → is_am e.kind ≡ true
+    → ups_in told ≡ r.ready → Closes sdus e r told
 all_close [] e r told am q = record { left = refl; ups = q }
 all_close (sdu ∷ sdus) e r told am q =
     let more = told ++ heard_told sdu Reestablished (raised e r) in
     let h = all_close sdus e (arrived r sdu Reestablished) more am (one_told sdu e r told am q) in
     record {
-      left = ap (λ (x : Ends). (hears_last sdus (record { pdcp = x; events = more })).pdcp) (one_closes sdu e r am) ∙ h.left;
-      ups = ap (λ (x : Ends). ups_in (hears_last sdus (record { pdcp = x; events = more })).events) (one_closes sdu e r am) ∙ h.ups;
+      left = ap (λ (x : Ends). (hears_last sdus (record { pdcp = x; events = more })).pdcp) (one_closes sdu e r am)
+          ∙ h.left;
+      ups = ap (λ (x : Ends). ups_in (hears_last sdus (record { pdcp = x; events = more })).events)
+          (one_closes sdu e r am) ∙ h.ups;
     }
 
 record Ended (b : State) : Type 0 where
@@ -72,19 +81,22 @@ ends_as b am q =
     let h = all_close (finished b.rx) b.pdcp b.pdcp.rx [] am (sym q) in
     let from : last_ups b ≡ hears_last (finished b.rx) (record { pdcp = raised b.pdcp b.pdcp.rx; events = [] }) =
     ap (λ (a : Bool). ends_with a (finished b.rx) (record { pdcp = b.pdcp; events = [] })) am
-    ∙ ap (λ (r : Receiving). hears_last (finished b.rx) (record { pdcp = record b.pdcp { rx = r }; events = [] })) (sym (none_ready b.pdcp.rx q)) in
+    ∙ ap (λ (r : Receiving). hears_last (finished b.rx) (record { pdcp = record b.pdcp { rx = r }; events = [] }))
+    (sym (none_ready b.pdcp.rx q)) in
     record { left = ap (λ (x : Ending). x.pdcp) from ∙ h.left; ups = ap (λ (x : Ending). ups_in x.events) from ∙ h.ups }
 
 -- ---- the next life
 
-pdcp_restarts : (e : Ends) (r : Receiving) (keys : Keys) → is_am e.kind ≡ true → restarted_pdcp (raised e r) keys ≡ record e {
-  tx = record (restarted_sending e.tx keys) { owed = Some (report r); reporting = true };
-  rx = all_raised (restarted_receiving r keys);
-}
+pdcp_restarts : (e : Ends) (r : Receiving) (keys : Keys) → is_am e.kind ≡ true
+    → restarted_pdcp (raised e r) keys ≡ record e {
+      tx = record (restarted_sending e.tx keys) { owed = Some (report r); reporting = true };
+      rx = all_raised (restarted_receiving r keys);
+    }
 unfolding restarted_pdcp restarted_receiving report
 pdcp_restarts e r keys am = rw am refl
 
-goes_as : (b : State) (keys : Keys) → is_am b.pdcp.kind ≡ true → b.pdcp.rx.ready ≡ [] → goes (Am b) (Restart keys) ≡ Am (restarts b keys)
+goes_as : (b : State) (keys : Keys) → is_am b.pdcp.kind ≡ true → b.pdcp.rx.ready ≡ []
+    → goes (Am b) (Restart keys) ≡ Am (restarts b keys)
 unfolding stopped restarted am_stopped am_restarted
 goes_as b keys am q =
     ap (λ (e : Ends). Am (with_new_rlc b.tx_config b.rx_config (restarted_pdcp e keys))) (ends_as b am q).left
@@ -94,7 +106,8 @@ ends_told : (b : State) → is_am b.pdcp.kind ≡ true → b.pdcp.rx.ready ≡ [
 unfolding stopping am_stopping
 ends_told b am q = sym (ends_as b am q).ups
 
-closes_alike : (sdus : List (List ℕ)) (r : Receiving) → ((closes sdus r).kind ≡ r.kind) × ((closes sdus r).protection ≡ r.protection)
+closes_alike : (sdus : List (List ℕ)) (r : Receiving) → ((closes sdus r).kind ≡ r.kind)
+    × ((closes sdus r).protection ≡ r.protection)
 closes_alike [] r = (refl, refl)
 closes_alike (sdu ∷ sdus) r =
     let one = arrives_alike r sdu Reestablished in
@@ -103,7 +116,13 @@ closes_alike (sdu ∷ sdus) r =
 
 restarts_data : (bits : ℕ) (b : State) (keys : Keys) → IsOfData bits b → IsOfData bits (restarts b keys)
 unfolding restarted_sending restarted_receiving
-restarts_data bits b keys h = record { kind = h.kind; sending = h.sending; receiving = (closes_alike (finished b.rx) b.pdcp.rx).0 ∙ h.receiving }
+restarts_data bits b keys h =
+    record {
+      kind = h.kind;
+      sending = h.sending;
+      receiving =
+          (closes_alike (finished b.rx) b.pdcp.rx).0 ∙ h.receiving;
+    }
 
 pub restarts_are_deeds : (bits : ℕ) (b : State) (keys : Keys) → IsOfData bits b → IsIdle b → RestartsAs bits b keys
 restarts_are_deeds bits b keys h idle = record {
@@ -115,18 +134,23 @@ restarts_are_deeds bits b keys h idle = record {
 
 -- ---- under the same keys
 
-protected_as : (kind other : PdcpKind) (p q : Protection) (keys : Keys) → kind ≡ other → p ≡ q → protection_of kind keys p.bearer p.direction ≡ protection_of other keys q.bearer q.direction
-protected_as kind other p q keys same key = ap (λ k. protection_of k keys p.bearer p.direction) same ∙ ap (λ (x : Protection). protection_of other keys x.bearer x.direction) key
+protected_as : (kind other : PdcpKind) (p q : Protection) (keys : Keys) → kind ≡ other → p ≡ q
+    → protection_of kind keys p.bearer p.direction ≡ protection_of other keys q.bearer q.direction
+protected_as kind other p q keys same key = ap (λ k. protection_of k keys p.bearer p.direction) same
+    ∙ ap (λ (x : Protection). protection_of other keys x.bearer x.direction) key
 
-pub restarts_protect_alike : (bits : ℕ) (from to : State) (keys : Keys) → IsOfData bits from → IsOfData bits to → AreProtectedAlike from to → AreProtectedAlike (restarts from keys) (restarts to keys)
+pub restarts_protect_alike : (bits : ℕ) (from to : State) (keys : Keys) → IsOfData bits from → IsOfData bits to
+    → AreProtectedAlike from to → AreProtectedAlike (restarts from keys) (restarts to keys)
 unfolding restarted_sending restarted_receiving
 restarts_protect_alike bits from to keys h k q =
     let c = closes_alike (finished to.rx) to.pdcp.rx in
-    protected_as from.pdcp.tx.kind (closed to).kind from.pdcp.tx.protection (closed to).protection keys (h.sending ∙ sym k.receiving ∙ sym c.0) (q ∙ sym c.1)
+    protected_as from.pdcp.tx.kind (closed to).kind from.pdcp.tx.protection (closed to).protection keys
+    (h.sending ∙ sym k.receiving ∙ sym c.0) (q ∙ sym c.1)
 
 -- ---- the first life
 
-first_is : (kind : Kind) (c : BearerConfig) (keys : Keys) (side : Side) (b : State) → kind ≡ kinds.Am → flow_of kind c keys side ≡ Am b → fresh_am c (AmKind c.pdcp_bits) keys side ≡ b
+first_is : (kind : Kind) (c : BearerConfig) (keys : Keys) (side : Side) (b : State) → kind ≡ kinds.Am
+    → flow_of kind c keys side ≡ Am b → fresh_am c (AmKind c.pdcp_bits) keys side ≡ b
 first_is kind c keys side b k q =
     let is : Am (fresh_am c (AmKind c.pdcp_bits) keys side) ≡ Am b = ap (λ x. flow_of x c keys side) (sym k) ∙ q in
     cc
@@ -142,7 +166,8 @@ fresh_begins c keys side = record {
   idle = record { heard = refl; raised = refl; confirmed = refl };
 }
 
-pub first_life_begins : (c : BearerConfig) (keys : Keys) (side : Side) (b : State) → c.kind ≡ kinds.Am → flow_of c.kind c keys side ≡ Am b → BeginsAs c b
+pub first_life_begins : (c : BearerConfig) (keys : Keys) (side : Side) (b : State) → c.kind ≡ kinds.Am
+    → flow_of c.kind c keys side ≡ Am b → BeginsAs c b
 first_life_begins c keys side b k q = subst (BeginsAs c) (first_is c.kind c keys side b k q) (fresh_begins c keys side)
 
 -- ---- through any calls and lives
@@ -153,20 +178,24 @@ stands bits f b q h idle = record { bearer = b; is = q; stays = h; idle = idle }
 step_stands : (bits : ℕ) (f : Flow) (x : Step) → StandsIdle bits f → StandsIdle bits (goes f x)
 step_stands bits f (Calls c) h =
     let one = calls_are_deeds bits h.bearer c h.stays h.idle in
-    stands bits (after f c) (does_all (deeds_of h.bearer c) h.bearer) (ap (λ g. after g c) h.is ∙ one.left) one.stays one.idle
+    stands bits (after f c) (does_all (deeds_of h.bearer c) h.bearer) (ap (λ g. after g c) h.is ∙ one.left) one.stays
+    one.idle
 step_stands bits f (Restart keys) h =
     let one = restarts_are_deeds bits h.bearer keys h.stays h.idle in
-    stands bits (goes f (Restart keys)) (restarts h.bearer keys) (ap (λ g. goes g (Restart keys)) h.is ∙ one.left) one.stays one.idle
+    stands bits (goes f (Restart keys)) (restarts h.bearer keys) (ap (λ g. goes g (Restart keys)) h.is ∙ one.left)
+    one.stays one.idle
 
 run_stands : (bits : ℕ) (f : Flow) (xs : List Step) → StandsIdle bits f → StandsIdle bits (run xs f)
 run_stands bits f [] h = h
 run_stands bits f (x ∷ xs) h = run_stands bits (goes f x) xs (step_stands bits f x h)
 
-pub nothing_is_left_over : (c : BearerConfig) (keys : Keys) (side : Side) (steps : List Step) → c.kind ≡ kinds.Am → StandsIdle c.pdcp_bits (reached c keys side steps)
+pub nothing_is_left_over : (c : BearerConfig) (keys : Keys) (side : Side) (steps : List Step) → c.kind ≡ kinds.Am
+    → StandsIdle c.pdcp_bits (reached c keys side steps)
 nothing_is_left_over c keys side steps k =
     let b : State = fresh_am c (AmKind c.pdcp_bits) keys side in
     let h = fresh_begins c keys side in
-    run_stands c.pdcp_bits (flow_of c.kind c keys side) steps (stands c.pdcp_bits (flow_of c.kind c keys side) b (ap (λ x. flow_of x c keys side) k) h.stays h.idle)
+    run_stands c.pdcp_bits (flow_of c.kind c keys side) steps
+    (stands c.pdcp_bits (flow_of c.kind c keys side) b (ap (λ x. flow_of x c keys side) k) h.stays h.idle)
 
 -- ---- both ends
 
@@ -175,15 +204,23 @@ heard_as : (side : Side) → hears (other side) ≡ sends side
 heard_as Nb = refl
 heard_as Ue = refl
 
-fresh_alike : (c : BearerConfig) (keys : Keys) (side : Side) → BeginAlike c.pdcp_bits (protection_at c keys side) c.first (fresh_am c (AmKind c.pdcp_bits) keys side) (fresh_am c (AmKind c.pdcp_bits) keys (other side))
+fresh_alike : (c : BearerConfig) (keys : Keys) (side : Side)
+    → BeginAlike c.pdcp_bits (protection_at c keys side) c.first (fresh_am c (AmKind c.pdcp_bits) keys side)
+    (fresh_am c (AmKind c.pdcp_bits) keys (other side))
 unfolding fresh_am begun
 fresh_alike c keys side = record {
   sender = refl;
-  receiver = ap (λ direction. fresh_receiving (AmKind c.pdcp_bits) (protection_of (AmKind c.pdcp_bits) keys (bearer_of c.channel.lcid) direction) c.first) (heard_as side);
+  receiver =
+      ap (λ direction. fresh_receiving (AmKind c.pdcp_bits)
+      (protection_of (AmKind c.pdcp_bits) keys (bearer_of c.channel.lcid) direction) c.first) (heard_as side);
 }
 
-pub ends_begin_alike : (c : BearerConfig) (keys : Keys) (side : Side) (near far : State) → c.kind ≡ kinds.Am → flow_of c.kind c keys side ≡ Am near → flow_of c.kind c keys (other side) ≡ Am far
+pub ends_begin_alike : (c : BearerConfig) (keys : Keys) (side : Side) (near far : State) → c.kind ≡ kinds.Am
+    → flow_of c.kind c keys side ≡ Am near → flow_of c.kind c keys (other side) ≡ Am far
     → BeginAlike c.pdcp_bits (protection_at c keys side) c.first near far
 ends_begin_alike c keys side near far k p q =
-    subst (λ (x : State). BeginAlike c.pdcp_bits (protection_at c keys side) c.first x far) (first_is c.kind c keys side near k p)
-    (subst (λ (x : State). BeginAlike c.pdcp_bits (protection_at c keys side) c.first (fresh_am c (AmKind c.pdcp_bits) keys side) x) (first_is c.kind c keys (other side) far k q) (fresh_alike c keys side))
+    subst (λ (x : State). BeginAlike c.pdcp_bits (protection_at c keys side) c.first x far)
+    (first_is c.kind c keys side near k p)
+    (subst (λ (x : State). BeginAlike c.pdcp_bits (protection_at c keys side) c.first
+    (fresh_am c (AmKind c.pdcp_bits) keys side) x) (first_is c.kind c keys (other side) far k q)
+    (fresh_alike c keys side))

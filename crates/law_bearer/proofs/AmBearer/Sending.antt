@@ -1,5 +1,6 @@
 -- The calls of RLC's sender in deeds.
-use Rattle.std.proofs.Common.{◌≡◌, ◌≤◌, ℕ, zero, suc, Bool, true, false, List, [], ◌∷◌, ◌++◌, map, length, take, drop, Option, Some, None, append_assoc, refl, ap, sym, ◌∙◌, arith}
+use Rattle.std.proofs.Common.{◌≡◌, ◌≤◌, ℕ, zero, suc, Bool, true, false, List, [], ◌∷◌, ◌++◌, map, length, take, drop}
+use Rattle.std.proofs.Common.{Option, Some, None, append_assoc, refl, ap, sym, ◌∙◌, arith}
 use Rattle.pdcp_tx.specs.declared.sender.Next.{Next}
 use Rattle.pdcp_tx.specs.State.{State as Sending, Offer as PdcpOffer, offers, taking, took}
 use Rattle.rlc_am_tx.specs.Machine.{State as Sender}
@@ -13,7 +14,8 @@ use Rattle.law_bearer.specs.AnyBearer.Sending.{sends_on}
 use Rattle.law_bearer.specs.AnyBearer.Stream.{pdu_of}
 use Rattle.law_bearer.proofs.AnyBearer.Sender.{left_of, took_same, same_pdus}
 use Rattle.law_bearer.proofs.AnyBearer.SenderCalls.{sends_then}
-use Rattle.law_bearer.specs.AmBearer.Deeds.{Deed, Feeds, Sends, Confirms, Receives, HandsUp, Asks, Sets, does, does_all, offered_next, confirms_first, hands_first}
+use Rattle.law_bearer.specs.AmBearer.Deeds.{Deed, Feeds, Sends, Confirms, Receives, HandsUp, Asks, Sets, does, does_all}
+use Rattle.law_bearer.specs.AmBearer.Deeds.{offered_next, confirms_first, hands_first}
 use Rattle.law_bearer.specs.AmBearer.Calls.{only_if, deeds_of}
 use Rattle.law_bearer.specs.AmBearer.Sending.{offers_next, hands_over, sends_at, sends_in}
 use Rattle.law_bearer.proofs.AmBearer.Taking.{so_many, takes_so, writes_one}
@@ -50,15 +52,18 @@ deeds_are_its_calls b (deed ∷ deeds) =
 
 pub in_then : (xs ys : List Deed) (b : State) → sends_in (xs ++ ys) b ≡ sends_in xs b ++ sends_in ys (does_all xs b)
 in_then [] ys b = refl
-in_then (x ∷ xs) ys b = ap (λ l. sends_at b x ++ l) (in_then xs ys (does b x)) ∙ sym (append_assoc (sends_at b x) (sends_in xs (does b x)) (sends_in ys (does_all xs (does b x))))
+in_then (x ∷ xs) ys b = ap (λ l. sends_at b x ++ l) (in_then xs ys (does b x))
+    ∙ sym (append_assoc (sends_at b x) (sends_in xs (does b x)) (sends_in ys (does_all xs (does b x))))
 
 -- ---- a take
 
-first_offered : (s : Sending) (o : PdcpOffer) (os : List PdcpOffer) → offers s ≡ o ∷ os → offers_next (taking s) ≡ Offer (pdu_of s o) ∷ []
+first_offered : (s : Sending) (o : PdcpOffer) (os : List PdcpOffer) → offers s ≡ o ∷ os
+    → offers_next (taking s) ≡ Offer (pdu_of s o) ∷ []
 unfolding taking
 first_offered s o os q = rw q refl
 
-each_offered : (n : ℕ) (b : State) (os : List PdcpOffer) → offers b.pdcp.tx ≡ os → n ≤ length os → sends_in (so_many n) b ≡ map (λ pdu. Offer pdu) (map (pdu_of b.pdcp.tx) (take n os))
+each_offered : (n : ℕ) (b : State) (os : List PdcpOffer) → offers b.pdcp.tx ≡ os → n ≤ length os
+    → sends_in (so_many n) b ≡ map (λ pdu. Offer pdu) (map (pdu_of b.pdcp.tx) (take n os))
 each_offered zero b os q h = refl
 each_offered (suc n) b [] q h = absurd (omega (arith, h))
 each_offered (suc n) b (o ∷ os) q h =
@@ -73,7 +78,8 @@ written_none : (due : Bool) (b : State) → sends_in (only_if due (Receives Writ
 written_none true b = refl
 written_none false b = refl
 
-pub takes_are_its_calls : (b : State) (share : ℕ) (held : Option ℕ) → sends_in (deeds_of b (Take share held)) b ≡ sender_calls b (Take share held)
+pub takes_are_its_calls : (b : State) (share : ℕ) (held : Option ℕ)
+    → sends_in (deeds_of b (Take share held)) b ≡ sender_calls b (Take share held)
 takes_are_its_calls b share held =
     let so = takes_so b share held in
     let at : State = record b { rx = status_left b.rx share } in

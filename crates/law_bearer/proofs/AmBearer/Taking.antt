@@ -1,5 +1,7 @@
 -- What a bearer takes from PDCP and writes, as deeds.
-use Rattle.std.proofs.Common.{◌≡◌, ◌≤◌, ℕ, zero, suc, ◌-◌, ◌%◌, Bool, true, false, if◌then◌else◌, List, [], ◌∷◌, ◌++◌, map, length, take, drop, Option, Some, None, Result, Ok, Err, option_map, append-nil, refl, ap, sym, ◌∙◌, arith}
+use Rattle.std.proofs.Common.{◌≡◌, ◌≤◌, ℕ, zero, suc, ◌-◌, ◌%◌, Bool, true, false, if◌then◌else◌, List, [], ◌∷◌, ◌++◌}
+use Rattle.std.proofs.Common.{map, length, take, drop, Option, Some, None, Result, Ok, Err, option_map, append-nil}
+use Rattle.std.proofs.Common.{refl, ap, sym, ◌∙◌, arith}
 use Rattle.bearer_types.specs.declared.Event.TheVariants as events
 use Rattle.l2_types.specs.declared.How.TheVariants as how
 use Rattle.pdcp_pdu.specs.declared.PdcpKind.{PdcpKind}
@@ -18,9 +20,12 @@ use Rattle.rlc_am_tx.specs.Need.{hungry}
 use Rattle.law_rlc.specs.AmReceiver.Run.{Write}
 use Rattle.law_rlc.specs.AmSender.Run.{Take as Taking}
 use Rattle.bearer_pdcp.specs.Ends.{Ends}
-use Rattle.bearer_pdcp.specs.Taking.{taken, taking_told, after_taking as after_pdcp, report_told, own_report_told, taken_told, next_told}
+use Rattle.bearer_pdcp.specs.Taking.{taken, taking_told, after_taking as after_pdcp, report_told, own_report_told}
+use Rattle.bearer_pdcp.specs.Taking.{taken_told, next_told}
 use Rattle.bearer.specs.Acknowledged.State.{State, Work, work, with_work}
-use Rattle.bearer.specs.Acknowledged.Taking.{given_to, fed, feeds, feeding, data_size, status_told, status_left, writes_status, has_prohibit, prohibit_told, data_told, poll_told, answer_of, after_taking, taking as told_taking}
+use Rattle.bearer.specs.Acknowledged.Taking.{given_to, fed, feeds, feeding, data_size, status_told, status_left}
+use Rattle.bearer.specs.Acknowledged.Taking.{writes_status, has_prohibit, prohibit_told, data_told, poll_told}
+use Rattle.bearer.specs.Acknowledged.Taking.{answer_of, after_taking, taking as told_taking}
 use Rattle.bearer.specs.declared.flow.Flow.TheVariants.{Am}
 use Rattle.bearer.specs.Taking.{after as taken_from, told}
 use Rattle.law_bearer.specs.AnyBearer.Calls.{Take}
@@ -40,7 +45,9 @@ given_as (Some n) tx = refl
 
 feeds_one : (w : Work) (b : State) → does (with_work w b) Feeds ≡ with_work (fed w) b
 unfolding after_pdcp taken
-feeds_one w b = ap (λ (t : Sender). record b { pdcp = record w.pdcp { tx = took w.pdcp.tx }; tx = t }) (given_as (taking w.pdcp.tx) w.tx)
+feeds_one w b =
+    ap (λ (t : Sender). record b { pdcp = record w.pdcp { tx = took w.pdcp.tx }; tx = t })
+    (given_as (taking w.pdcp.tx) w.tx)
 
 report_none : (lcid : ℕ) (r : Result UserPdu PdcpRefusal) → ups_in (report_told lcid r) ≡ []
 report_none lcid (Err refusal) = refl
@@ -52,7 +59,8 @@ own_none lcid Srb pdu = refl
 own_none lcid (Um bits) pdu = report_none lcid (user_at bits pdu)
 own_none lcid (AmKind bits) pdu = report_none lcid (user_at bits pdu)
 
-taken_none : (lcid : ℕ) (kind : PdcpKind) (count : Option ℕ) (len : ℕ) (pdu : List ℕ) → ups_in (taken_told lcid kind count len pdu) ≡ []
+taken_none : (lcid : ℕ) (kind : PdcpKind) (count : Option ℕ) (len : ℕ) (pdu : List ℕ)
+    → ups_in (taken_told lcid kind count len pdu) ≡ []
 taken_none lcid kind (Some count) len pdu = refl
 taken_none lcid kind None len pdu = own_none lcid kind pdu
 
@@ -86,10 +94,12 @@ one_fed o os w v b f = record {
   few = omega (arith, f.few);
   left = ap (does_all (so_many f.n)) (feeds_one w b) ∙ f.left;
   offers' = f.offers';
-  ups = f.ups ∙ ups_then w.events (taking_told w.pdcp) ∙ ap (λ l. ups_in w.events ++ l) (taking_none w.pdcp) ∙ append-nil (ups_in w.events);
+  ups = f.ups ∙ ups_then w.events (taking_told w.pdcp) ∙ ap (λ l. ups_in w.events ++ l) (taking_none w.pdcp)
+      ∙ append-nil (ups_in w.events);
 }
 
-fed_by : (hungers : Bool) (o : Offer) (os : List Offer) (w v : Work) (b : State) → offers w.pdcp.tx ≡ o ∷ os → Fed os (fed w) v b → Fed (o ∷ os) w (if hungers then v else w) b
+fed_by : (hungers : Bool) (o : Offer) (os : List Offer) (w v : Work) (b : State) → offers w.pdcp.tx ≡ o ∷ os
+    → Fed os (fed w) v b → Fed (o ∷ os) w (if hungers then v else w) b
 fed_by true o os w v b q f = one_fed o os w v b f
 fed_by false o os w v b q f = none_fed (o ∷ os) w b q
 
@@ -97,7 +107,8 @@ pdcp_took : (e : Ends) → (after_pdcp e).tx ≡ took e.tx
 unfolding after_pdcp
 pdcp_took e = refl
 
-all_fed : (os : List Offer) (size : ℕ) (held : Option ℕ) (w : Work) (b : State) → offers w.pdcp.tx ≡ os → Fed os w (feeds os size held w) b
+all_fed : (os : List Offer) (size : ℕ) (held : Option ℕ) (w : Work) (b : State) → offers w.pdcp.tx ≡ os
+    → Fed os w (feeds os size held w) b
 all_fed [] size held w b q = none_fed [] w b q
 all_fed (o ∷ os) size held w b q =
     fed_by (hungry w.tx size held) o os w (feeds os size held (fed w)) b q
@@ -119,16 +130,21 @@ length_few (suc n) [] h = absurd (omega (arith, h))
 length_few (suc n) (x ∷ xs) h = ap suc (length_few n xs (omega (arith, h)))
 
 -- PDCP behind a take
-pub behind_as : (b : State) (share : ℕ) (held : Option ℕ) → (after_taking b share held).pdcp ≡ (feeding b share held).pdcp
+pub behind_as : (b : State) (share : ℕ) (held : Option ℕ)
+    → (after_taking b share held).pdcp ≡ (feeding b share held).pdcp
 unfolding after_taking
 behind_as b share held = refl
 
-taken_are : (b : State) (share : ℕ) (held : Option ℕ) (n : ℕ) → n ≤ length (offers b.pdcp.tx) → offers (feeding b share held).pdcp.tx ≡ drop n (offers b.pdcp.tx)
+taken_are : (b : State) (share : ℕ) (held : Option ℕ) (n : ℕ) → n ≤ length (offers b.pdcp.tx)
+    → offers (feeding b share held).pdcp.tx ≡ drop n (offers b.pdcp.tx)
     → taken_in (Am b) (Take share held) ≡ take n (offers b.pdcp.tx)
 unfolding taken_from
-taken_are b share held n few q = taken_off n (offers b.pdcp.tx) (offers (after_taking b share held).pdcp.tx) few (ap (λ (e : Ends). offers e.tx) (behind_as b share held) ∙ q)
+taken_are b share held n few q =
+    taken_off n (offers b.pdcp.tx) (offers (after_taking b share held).pdcp.tx) few
+    (ap (λ (e : Ends). offers e.tx) (behind_as b share held) ∙ q)
 
-feeds_are : (b : State) (share : ℕ) (held : Option ℕ) (n : ℕ) → n ≤ length (offers b.pdcp.tx) → offers (feeding b share held).pdcp.tx ≡ drop n (offers b.pdcp.tx)
+feeds_are : (b : State) (share : ℕ) (held : Option ℕ) (n : ℕ) → n ≤ length (offers b.pdcp.tx)
+    → offers (feeding b share held).pdcp.tx ≡ drop n (offers b.pdcp.tx)
     → map (λ pdu. Feeds) (offers_in b share held) ≡ so_many n
 feeds_are b share held n few q =
     many_as (offers_in b share held)
@@ -149,12 +165,19 @@ pub record TakesSo (b : State) (share : ℕ) (held : Option ℕ) : Type 0 where
 
 pub takes_so : (b : State) (share : ℕ) (held : Option ℕ) → TakesSo b share held
 takes_so b share held =
-    let f : Fed (offers b.pdcp.tx) (begun_work b share) (feeding b share held) b = all_fed (offers b.pdcp.tx) (data_size b share) held (begun_work b share) b refl in
-    record { n = f.n; few = f.few; taken_is = taken_are b share held f.n f.few f.offers'; feeds_is = feeds_are b share held f.n f.few f.offers' }
+    let f : Fed (offers b.pdcp.tx) (begun_work b share) (feeding b share held) b =
+    all_fed (offers b.pdcp.tx) (data_size b share) held (begun_work b share) b refl in
+    record {
+      n = f.n;
+      few = f.few;
+      taken_is = taken_are b share held f.n f.few f.offers';
+      feeds_is = feeds_are b share held f.n f.few f.offers';
+    }
 
 -- ---- the whole
 
-pub writes_one : (due : Bool) (b : State) (r : Receiver) → r ≡ (if due then (does b (Receives Write)).rx else b.rx) → does_all (only_if due (Receives Write)) b ≡ record b { rx = r }
+pub writes_one : (due : Bool) (b : State) (r : Receiver) → r ≡ (if due then (does b (Receives Write)).rx else b.rx)
+    → does_all (only_if due (Receives Write)) b ≡ record b { rx = r }
 writes_one true b r q = ap (λ (x : Receiver). record b { rx = x }) (sym q)
 writes_one false b r q = ap (λ (x : Receiver). record b { rx = x }) (sym q)
 
@@ -165,7 +188,8 @@ takes_as b share held =
     let at : State = record b { rx = r } in
     let size = data_size b share in
     let v = feeding b share held in
-    let f : Fed (offers b.pdcp.tx) (begun_work b share) v at = all_fed (offers b.pdcp.tx) size held (begun_work b share) at refl in
+    let f : Fed (offers b.pdcp.tx) (begun_work b share) v at =
+    all_fed (offers b.pdcp.tx) size held (begun_work b share) at refl in
     let status : List Deed = only_if (writes_status b.rx share) (Receives Write) in
     let fill : List Deed = map (λ pdu. Feeds) (offers_in b share held) in
     let last : Deed = Sends (Taking size held (has_more_behind b share held)) in
@@ -179,7 +203,8 @@ takes_as b share held =
 pub takes_quiet : (b : State) (share : ℕ) (held : Option ℕ) → AreQuiet (takes b share held)
 takes_quiet b share held =
     quiet_then (only_if (writes_status b.rx share) (Receives Write) ++ map (λ pdu. Feeds) (offers_in b share held)) _
-    (quiet_then (only_if (writes_status b.rx share) (Receives Write)) _ (by (writes_status b.rx share)) (quiet_each Feeds (offers_in b share held) tt))
+    (quiet_then (only_if (writes_status b.rx share) (Receives Write)) _ (by (writes_status b.rx share))
+    (quiet_each Feeds (offers_in b share held) tt))
     (tt, tt)
   where
     by : (due : Bool) → AreQuiet (only_if due (Receives Write))
@@ -188,7 +213,8 @@ takes_quiet b share held =
 
 -- ---- no SDU goes up
 
-status_none : (lcid sn : ℕ) (has due : Bool) → ups_in (if due then events.Send lcid how.Status sn ∷ prohibit_told lcid has else []) ≡ []
+status_none : (lcid sn : ℕ) (has due : Bool)
+    → ups_in (if due then events.Send lcid how.Status sn ∷ prohibit_told lcid has else []) ≡ []
 status_none lcid sn true true = refl
 status_none lcid sn false true = refl
 status_none lcid sn has false = refl
@@ -209,5 +235,8 @@ pub taking_ups : (b : State) (share : ℕ) (held : Option ℕ) → ups_in (told 
 unfolding told told_taking
 taking_ups b share held =
     let v = feeding b share held in
-    let f : Fed (offers b.pdcp.tx) (begun_work b share) v b = all_fed (offers b.pdcp.tx) (data_size b share) held (begun_work b share) b refl in
-    none_then v.events (data_told v.pdcp.lcid (answer_of v (data_size b share) held)) (f.ups ∙ status_none b.pdcp.lcid (ack b.rx (share - 3) % 1024) (has_prohibit b) (writes_status b.rx share)) (piece_none v.pdcp.lcid (answer_of v (data_size b share) held))
+    let f : Fed (offers b.pdcp.tx) (begun_work b share) v b =
+    all_fed (offers b.pdcp.tx) (data_size b share) held (begun_work b share) b refl in
+    none_then v.events (data_told v.pdcp.lcid (answer_of v (data_size b share) held))
+    (f.ups ∙ status_none b.pdcp.lcid (ack b.rx (share - 3) % 1024) (has_prohibit b) (writes_status b.rx share))
+    (piece_none v.pdcp.lcid (answer_of v (data_size b share) held))

@@ -6,7 +6,8 @@ use Rattle.bearer_pdcp.specs.Hearing.{ups}
 use Rattle.law_rlc.specs.AmReceiver.Run.{Arrive, Up, Write, ExpireReorder, ExpireProhibit, TickReorder, TickProhibit}
 use Rattle.law_rlc.specs.AmSender.Run.{Offer, Take, Status, Tick, Expire, Settle, Confirm}
 use Rattle.bearer.specs.Acknowledged.State.{State}
-use Rattle.law_bearer.specs.AmBearer.Deeds.{Deed, Feeds, Sends, Confirms, Receives, HandsUp, Asks, Sets, does, does_all, goes_up, go_up}
+use Rattle.law_bearer.specs.AmBearer.Deeds.{Deed, Feeds, Sends, Confirms, Receives, HandsUp, Asks, Sets, does, does_all}
+use Rattle.law_bearer.specs.AmBearer.Deeds.{goes_up, go_up}
 use Rattle.law_bearer.specs.AmBearer.Calls.{up_in, ups_in}
 
 -- ---- deeds one behind the other
@@ -73,4 +74,5 @@ quiet_one (Sets ttis) b q = refl
 
 pub quiet_up : (deeds : List Deed) (b : State) → AreQuiet deeds → go_up deeds b ≡ []
 quiet_up [] b q = refl
-quiet_up (deed ∷ deeds) b q = ap (λ l. l ++ go_up deeds (does b deed)) (quiet_one deed b q.0) ∙ quiet_up deeds (does b deed) q.1
+quiet_up (deed ∷ deeds) b q = ap (λ l. l ++ go_up deeds (does b deed)) (quiet_one deed b q.0)
+    ∙ quiet_up deeds (does b deed) q.1

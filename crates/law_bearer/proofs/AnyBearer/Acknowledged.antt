@@ -1,5 +1,6 @@
 -- Calls of a bearer over acknowledged RLC, as steps of PDCP's sender.
-use Rattle.std.proofs.Common.{◌≡◌, ℕ, zero, suc, ◌≤◌, Bool, true, false, if◌then◌else◌, nat_lt, List, [], ◌∷◌, ◌++◌, take, drop, map, length, Option, Some, Result, Ok, Err, subst, refl, ap, sym, ◌∙◌, arith}
+use Rattle.std.proofs.Common.{◌≡◌, ℕ, zero, suc, ◌≤◌, Bool, true, false, if◌then◌else◌, nat_lt, List, [], ◌∷◌, ◌++◌}
+use Rattle.std.proofs.Common.{take, drop, map, length, Option, Some, Result, Ok, Err, subst, refl, ap, sym, ◌∙◌, arith}
 use Rattle.l2_types.specs.declared.Clock.{Clock}
 use Rattle.l2_types.specs.declared.Clock.TheVariants.{Poll, Reorder, Prohibit}
 use Rattle.eps_sec.specs.declared.Keys.{Keys}
@@ -21,13 +22,17 @@ use Rattle.bearer_pdcp.specs.Discarding.{after_tick as after_discards, tick_told
 use Rattle.bearer_pdcp.specs.Telling.{landed_told}
 use Rattle.bearer_pdcp.specs.Taking.{after_taking as after_pdcp}
 use Rattle.bearer.specs.Acknowledged.State.{State, Work, work}
-use Rattle.bearer.specs.Acknowledged.Taking.{given_to, fed, feeds, feeding, data_size, status_told, has_prohibit, after_taking}
-use Rattle.bearer.specs.Acknowledged.Hearing.{settled_if, heard_work, hears, hears_all, confirms, status_work, arrived_left, after_arrival, all_confirmed}
+use Rattle.bearer.specs.Acknowledged.Taking.{given_to, fed, feeds, feeding, data_size, status_told, has_prohibit}
+use Rattle.bearer.specs.Acknowledged.Taking.{after_taking}
+use Rattle.bearer.specs.Acknowledged.Hearing.{settled_if, heard_work, hears, hears_all, confirms, status_work}
+use Rattle.bearer.specs.Acknowledged.Hearing.{arrived_left, after_arrival, all_confirmed}
 use Rattle.bearer.specs.Acknowledged.Lives.{Ending, hears_last, ends_with, stopped, restarted}
-use Rattle.bearer.specs.Acknowledged.Timing.{Ticking, expires_if, clock_left, counts, has_ended, ticks, discards, after_expiry, ticked}
+use Rattle.bearer.specs.Acknowledged.Timing.{Ticking, expires_if, clock_left, counts, has_ended, ticks, discards}
+use Rattle.bearer.specs.Acknowledged.Timing.{after_expiry, ticked}
 use Rattle.law_bearer.specs.AnyBearer.Stream.{pdu_of, am_offered}
 use Rattle.law_bearer.proofs.AnyBearer.Sender.{nothing, took_all, left_of, took_same, same_pdus, confirms_one}
-use Rattle.law_bearer.proofs.AnyBearer.Parts.{first_taken, pdcp_took, pdcp_rest, Passed, rests, by_tx, passed_then, hearing_moves, Ended, ends_as, ended_then, last_one}
+use Rattle.law_bearer.proofs.AnyBearer.Parts.{first_taken, pdcp_took, pdcp_rest, Passed, rests, by_tx, passed_then}
+use Rattle.law_bearer.proofs.AnyBearer.Parts.{hearing_moves, Ended, ends_as, ended_then, last_one}
 
 -- ---- RLC takes PDUs
 
@@ -52,25 +57,35 @@ one_fed o os w v q f = record {
   rx = f.rx ∙ (pdcp_rest w.pdcp).1;
   offered =
       f.offered
-      ∙ ap (λ tx. am_offered (map (pdu_of (after_pdcp w.pdcp).tx) (take f.n os)) (given_to tx w.tx)) (first_taken w.pdcp o os q)
-      ∙ ap (λ s. am_offered (map (pdu_of s) (take f.n os)) (given_to (Some (pdu_of w.pdcp.tx o)) w.tx)) (pdcp_took w.pdcp)
-      ∙ ap (λ l. am_offered l (given_to (Some (pdu_of w.pdcp.tx o)) w.tx)) (same_pdus w.pdcp.tx (took w.pdcp.tx) (take f.n os) (took_same w.pdcp.tx));
+      ∙ ap (λ tx. am_offered (map (pdu_of (after_pdcp w.pdcp).tx) (take f.n os)) (given_to tx w.tx))
+      (first_taken w.pdcp o os q)
+      ∙ ap (λ s. am_offered (map (pdu_of s) (take f.n os)) (given_to (Some (pdu_of w.pdcp.tx o)) w.tx))
+      (pdcp_took w.pdcp)
+      ∙ ap (λ l. am_offered l (given_to (Some (pdu_of w.pdcp.tx o)) w.tx))
+      (same_pdus w.pdcp.tx (took w.pdcp.tx) (take f.n os) (took_same w.pdcp.tx));
 }
 
-fed_by : (b : Bool) (o : Offer) (os : List Offer) (w v : Work) → offers w.pdcp.tx ≡ o ∷ os → Fed os (fed w) v → Fed (o ∷ os) w (if b then v else w)
+fed_by : (b : Bool) (o : Offer) (os : List Offer) (w v : Work) → offers w.pdcp.tx ≡ o ∷ os → Fed os (fed w) v
+    → Fed (o ∷ os) w (if b then v else w)
 fed_by true o os w v q f = one_fed o os w v q f
 fed_by false o os w v q f = none_fed (o ∷ os) w
 
-all_fed : (os : List Offer) (size : ℕ) (held : Option ℕ) (w : Work) → offers w.pdcp.tx ≡ os → Fed os w (feeds os size held w)
+all_fed : (os : List Offer) (size : ℕ) (held : Option ℕ) (w : Work) → offers w.pdcp.tx ≡ os
+    → Fed os w (feeds os size held w)
 all_fed [] size held w q = none_fed [] w
 all_fed (o ∷ os) size held w q =
     fed_by (hungry w.tx size held) o os w (feeds os size held (fed w)) q
     (all_fed os size held (fed w) (ap offers (pdcp_took w.pdcp) ∙ left_of 1 w.pdcp.tx ∙ ap (drop 1) q))
 
-pub all_fed_in : (s : State) (share : ℕ) (held : Option ℕ) → Fed (offers s.pdcp.tx) (work s.pdcp s.tx (status_told s.pdcp.lcid (has_prohibit s) s.rx share)) (feeding s share held)
-all_fed_in s share held = all_fed (offers s.pdcp.tx) (data_size s share) held (work s.pdcp s.tx (status_told s.pdcp.lcid (has_prohibit s) s.rx share)) refl
+pub all_fed_in : (s : State) (share : ℕ) (held : Option ℕ)
+    → Fed (offers s.pdcp.tx) (work s.pdcp s.tx (status_told s.pdcp.lcid (has_prohibit s) s.rx share))
+    (feeding s share held)
+all_fed_in s share held =
+    all_fed (offers s.pdcp.tx) (data_size s share) held
+    (work s.pdcp s.tx (status_told s.pdcp.lcid (has_prohibit s) s.rx share)) refl
 
-pub take_left : (s : State) (share : ℕ) (held : Option ℕ) → (after_taking s share held).pdcp ≡ (feeding s share held).pdcp
+pub take_left : (s : State) (share : ℕ) (held : Option ℕ)
+    → (after_taking s share held).pdcp ≡ (feeding s share held).pdcp
 unfolding after_taking
 take_left s share held = refl
 
@@ -84,14 +99,17 @@ hears_moves : (sdus : List (List ℕ)) (w : Work) → Passed w.pdcp (hears_all s
 hears_moves [] w = rests w.pdcp
 hears_moves (sdu ∷ sdus) w =
     let one : Passed w.pdcp (hears sdu w).pdcp nothing =
-    subst (λ (e : Ends). Passed w.pdcp e nothing) (sym (settled_same (applies sdu Arrived w.pdcp) (heard_work sdu w))) (hearing_moves sdu Arrived w.pdcp) in
-    passed_then w.pdcp (hears sdu w).pdcp (hears_all sdus (hears sdu w)).pdcp nothing nothing one (hears_moves sdus (hears sdu w))
+    subst (λ (e : Ends). Passed w.pdcp e nothing) (sym (settled_same (applies sdu Arrived w.pdcp) (heard_work sdu w)))
+    (hearing_moves sdu Arrived w.pdcp) in
+    passed_then w.pdcp (hears sdu w).pdcp (hears_all sdus (hears sdu w)).pdcp nothing nothing one
+    (hears_moves sdus (hears sdu w))
 
 confirms_move : (places : List ℕ) (e : Ends) → Passed e (confirms places e) nothing
 confirms_move [] e = rests e
 confirms_move (place ∷ places) e =
     let d : Ends = record e { tx = confirmed e.tx place } in
-    passed_then e d (confirms places d) nothing nothing (by_tx e (confirmed e.tx place) nothing (confirms_one e.tx place)) (confirms_move places d)
+    passed_then e d (confirms places d) nothing nothing
+    (by_tx e (confirmed e.tx place) nothing (confirms_one e.tx place)) (confirms_move places d)
 
 status_same : (h : Heard) (w : Work) → (status_work h w).pdcp ≡ w.pdcp
 status_same heard_as.Ignored w = refl
@@ -100,7 +118,9 @@ status_same (heard_as.Applied stopped) w = refl
 
 arrival_by : (r : Result AcknowledgedPdu RlcRefusal) (s : State) → Passed s.pdcp (arrived_left r s).pdcp nothing
 arrival_by (Err fault) s = rests s.pdcp
-arrival_by (Ok (Payload p)) s = hears_moves (arrived s.rx p).out.ready (work s.pdcp s.tx (landed_told s.pdcp.lcid (landed s.rx p) (turned s.rx p)))
+arrival_by (Ok (Payload p)) s =
+    hears_moves (arrived s.rx p).out.ready
+    (work s.pdcp s.tx (landed_told s.pdcp.lcid (landed s.rx p) (turned s.rx p)))
 arrival_by (Ok (Status p)) s =
     let news = (after_status s.tx p).accounts.news in
     let w : Work = work (confirms news s.pdcp) (all_confirmed (after_status s.tx p)) [] in
@@ -128,10 +148,13 @@ expires_same false clock t = refl
 ticks_same : (clock : Clock) (t : Ticking) → (ticks clock t).bearer.pdcp ≡ t.bearer.pdcp
 ticks_same Poll t = expires_same (has_ended Poll t.bearer) Poll (record t { bearer = counts Poll t.bearer })
 ticks_same Reorder t = expires_same (has_ended Reorder t.bearer) Reorder (record t { bearer = counts Reorder t.bearer })
-ticks_same Prohibit t = expires_same (has_ended Prohibit t.bearer) Prohibit (record t { bearer = counts Prohibit t.bearer })
+ticks_same Prohibit t =
+    expires_same (has_ended Prohibit t.bearer) Prohibit (record t { bearer = counts Prohibit t.bearer })
 
 discards_are : (t : Ticking) → (discards t).bearer.pdcp ≡ after_discards t.bearer.pdcp
-discards_are t = settled_same (nat_lt 0 (length (tick_told t.bearer.pdcp))) (work (after_discards t.bearer.pdcp) t.bearer.tx (t.events ++ tick_told t.bearer.pdcp))
+discards_are t =
+    settled_same (nat_lt 0 (length (tick_told t.bearer.pdcp)))
+    (work (after_discards t.bearer.pdcp) t.bearer.tx (t.events ++ tick_told t.bearer.pdcp))
 
 pub ticked_is : (s : State) → (ticked s).bearer.pdcp ≡ after_discards s.pdcp
 unfolding ticked
@@ -148,7 +171,10 @@ last_ended : (sdus : List (List ℕ)) (e : Ending) → Ended e.pdcp (hears_last 
 last_ended [] e = ends_as e.pdcp
 last_ended (sdu ∷ sdus) e =
     ended_then e.pdcp (after_hearing sdu Reestablished e.pdcp) (hears_last (sdu ∷ sdus) e).pdcp (last_one sdu e.pdcp)
-    (last_ended sdus (record { pdcp = after_hearing sdu Reestablished e.pdcp; events = e.events ++ heard_told sdu Reestablished e.pdcp }))
+    (last_ended sdus (record {
+      pdcp = after_hearing sdu Reestablished e.pdcp;
+      events = e.events ++ heard_told sdu Reestablished e.pdcp;
+    }))
 
 ended_by : (b : Bool) (sdus : List (List ℕ)) (e : Ending) → Ended e.pdcp (ends_with b sdus e).pdcp
 ended_by true sdus e = last_ended sdus e

@@ -1,5 +1,6 @@
 -- Through all lives no two texts meet under one key at one COUNT.
-use Rattle.std.proofs.Common.{◌≡◌, ◌⊎◌, inl, inr, ◌≤◌, ℕ, ◌+◌, List, [], ◌∷◌, ◌++◌, map, Option, Some, None, append_assoc, append-nil, subst, refl, ap, sym, ◌∙◌, arith}
+use Rattle.std.proofs.Common.{◌≡◌, ◌⊎◌, inl, inr, ◌≤◌, ℕ, ◌+◌, List, [], ◌∷◌, ◌++◌, map, Option, Some, None}
+use Rattle.std.proofs.Common.{append_assoc, append-nil, subst, refl, ap, sym, ◌∙◌, arith}
 use Rattle.std.specs.List.{AllByRecursion}
 use Rattle.bearer_types.specs.declared.BearerConfig.{BearerConfig}
 use Rattle.eps_sec.specs.declared.Keys.{Keys}
@@ -17,7 +18,8 @@ use Rattle.bearer_pdcp.specs.Ends.{Ends, begun, bearer_of, sends}
 use Rattle.bearer.specs.declared.flow.Flow.{Flow}
 use Rattle.bearer.specs.Bearer.{flow_of}
 use Rattle.law_bearer.specs.AnyBearer.Calls.{Call, after, after_all, Step, Calls, Restart, goes, run, reached, ends}
-use Rattle.law_bearer.specs.AnyBearer.Ciphering.{ciphered_of, ciphered_by, ciphered, ShareText, AllShareText, restarts, cipher_key, IsOneOf, IsOfBearer}
+use Rattle.law_bearer.specs.AnyBearer.Ciphering.{ciphered_of, ciphered_by, ciphered, ShareText, AllShareText, restarts}
+use Rattle.law_bearer.specs.AnyBearer.Ciphering.{cipher_key, IsOneOf, IsOfBearer}
 use Rattle.law_words.specs.Lists.{AreDistinct}
 use Rattle.law_bearer.specs.AnyBearer.Stream.{takes, taken, counts}
 use Rattle.law_bearer.specs.AnyBearer.Texts.{keys_after, IsUnder}
@@ -29,11 +31,13 @@ use Rattle.law_bearer.proofs.AnyBearer.Texts.{takes_once}
 
 -- ---- lists
 
-all_then : (P : Ciphering → Type 0) (xs ys : List Ciphering) → AllByRecursion P xs → AllByRecursion P ys → AllByRecursion P (xs ++ ys)
+all_then : (P : Ciphering → Type 0) (xs ys : List Ciphering) → AllByRecursion P xs → AllByRecursion P ys
+    → AllByRecursion P (xs ++ ys)
 all_then P [] ys p q = q
 all_then P (x ∷ xs) ys p q = (p.0, all_then P xs ys p.1 q)
 
-all_by : (P Q : Ciphering → Type 0) (xs : List Ciphering) → ((x : Ciphering) → P x → Q x) → AllByRecursion P xs → AllByRecursion Q xs
+all_by : (P Q : Ciphering → Type 0) (xs : List Ciphering) → ((x : Ciphering) → P x → Q x) → AllByRecursion P xs
+    → AllByRecursion Q xs
 all_by P Q [] h p = tt
 all_by P Q (x ∷ xs) h p = (h x p.0, all_by P Q xs h p.1)
 
@@ -45,34 +49,41 @@ share_then : (xs ys zs : List Ciphering) → AllShareText xs ys → AllShareText
 share_then [] ys zs p q = tt
 share_then (x ∷ xs) ys zs p q = (all_then (ShareText x) ys zs p.0 q.0, share_then xs ys zs p.1 q.1)
 
-share_first : (x : Ciphering) (xs ys : List Ciphering) → AllByRecursion (ShareText x) ys → AllShareText ys xs → AllShareText ys (x ∷ xs)
+share_first : (x : Ciphering) (xs ys : List Ciphering) → AllByRecursion (ShareText x) ys → AllShareText ys xs
+    → AllShareText ys (x ∷ xs)
 share_first x xs [] p q = tt
-share_first x xs (y ∷ ys) p q = ((λ k b d c. sym (p.0 (sym k) (sym b) (sym d) (sym c)), q.0), share_first x xs ys p.1 q.1)
+share_first x xs (y ∷ ys) p q =
+    ((λ k b d c. sym (p.0 (sym k) (sym b) (sym d) (sym c)), q.0), share_first x xs ys p.1 q.1)
 
 share_turned : (xs ys : List Ciphering) → AllShareText xs ys → AllShareText ys xs
 share_turned [] ys p = share_none ys
 share_turned (x ∷ xs) ys p = share_first x xs ys p.0 (share_turned xs ys p.1)
 
-share_both : (xs ys : List Ciphering) → AllShareText xs xs → AllShareText xs ys → AllShareText ys ys → AllShareText (xs ++ ys) (xs ++ ys)
+share_both : (xs ys : List Ciphering) → AllShareText xs xs → AllShareText xs ys → AllShareText ys ys
+    → AllShareText (xs ++ ys) (xs ++ ys)
 share_both xs ys p q r =
-    all_then (λ a. AllByRecursion (ShareText a) (xs ++ ys)) xs ys (share_then xs xs ys p q) (share_then ys xs ys (share_turned xs ys q) r)
+    all_then (λ a. AllByRecursion (ShareText a) (xs ++ ys)) xs ys (share_then xs xs ys p q)
+    (share_then ys xs ys (share_turned xs ys q) r)
 
 -- ---- COUNTs that ascend
 
 pub counts_more : (os ps : List Offer) → counts (os ++ ps) ≡ counts os ++ counts ps
 counts_more [] ps = refl
-counts_more (o ∷ os) ps = ap (λ (ns : List ℕ). counts_in o.count ++ ns) (counts_more os ps) ∙ sym (append_assoc (counts_in o.count) (counts os) (counts ps))
+counts_more (o ∷ os) ps = ap (λ (ns : List ℕ). counts_in o.count ++ ns) (counts_more os ps)
+    ∙ sym (append_assoc (counts_in o.count) (counts os) (counts ps))
 
 abbrev count_of : Ciphering → ℕ
 count_of x = x.count
 
-one_count : (p : Protection) (count : Option ℕ) (text : List ℕ) (xs : List Ciphering) → map count_of (ciphering_under p count text ++ xs) ≡ counts_in count ++ map count_of xs
+one_count : (p : Protection) (count : Option ℕ) (text : List ℕ) (xs : List Ciphering)
+    → map count_of (ciphering_under p count text ++ xs) ≡ counts_in count ++ map count_of xs
 one_count p None text xs = refl
 one_count p (Some count) text xs = refl
 
 counts_of : (p : Protection) (os : List Offer) → map count_of (ciphered_of p os) ≡ counts os
 counts_of p [] = refl
-counts_of p (o ∷ os) = one_count p o.count o.text (ciphered_of p os) ∙ ap (λ (ns : List ℕ). counts_in o.count ++ ns) (counts_of p os)
+counts_of p (o ∷ os) = one_count p o.count o.text (ciphered_of p os)
+    ∙ ap (λ (ns : List ℕ). counts_in o.count ++ ns) (counts_of p os)
 
 above : (low : ℕ) (ns : List ℕ) → IsAscending low ns → AllByRecursion (λ n. low ≤ n) ns
 above low [] h = tt
@@ -91,7 +102,8 @@ behind [] ms low h = lowered low ms h
 behind (n ∷ ns) ms low h = behind ns ms (n + 1) h.1
 
 -- one behind another in a list that ascends doesn't meet it
-never_meets : (x : Ciphering) (ys : List Ciphering) → AllByRecursion (λ n. x.count + 1 ≤ n) (map count_of ys) → AllByRecursion (ShareText x) ys
+never_meets : (x : Ciphering) (ys : List Ciphering) → AllByRecursion (λ n. x.count + 1 ≤ n) (map count_of ys)
+    → AllByRecursion (ShareText x) ys
 never_meets x [] h = tt
 never_meets x (y ∷ ys) h = ((λ k b d c. let over = h.0 in absurd (omega (arith, over, c))), never_meets x ys h.1)
 
@@ -100,10 +112,12 @@ last_of [] ms P h = h
 last_of (n ∷ ns) ms P h = last_of ns ms P h.1
 
 -- nor do those in its front those in its end
-apart : (low : ℕ) (xs ys : List Ciphering) (between : List ℕ) → IsAscending low (map count_of xs ++ (between ++ map count_of ys)) → AllShareText xs ys
+apart : (low : ℕ) (xs ys : List Ciphering) (between : List ℕ)
+    → IsAscending low (map count_of xs ++ (between ++ map count_of ys)) → AllShareText xs ys
 apart low [] ys between h = tt
 apart low (x ∷ xs) ys between h = (
-  never_meets x ys (last_of between (map count_of ys) (λ n. x.count + 1 ≤ n) (last_of (map count_of xs) (between ++ map count_of ys) (λ n. x.count + 1 ≤ n) (above (x.count + 1) _ h.1))),
+  never_meets x ys (last_of between (map count_of ys) (λ n. x.count + 1 ≤ n)
+      (last_of (map count_of xs) (between ++ map count_of ys) (λ n. x.count + 1 ≤ n) (above (x.count + 1) _ h.1))),
   apart (x.count + 1) xs ys between h.1,
 )
 
@@ -115,14 +129,16 @@ alone low (x ∷ xs) h =
 
 -- ---- keys
 
-pub none_of_them : (key : List ℕ) (keys : List (List ℕ)) → IsOneOf key keys → AllByRecursion (λ other. key ≡ other → ⊥) keys → ⊥
+pub none_of_them : (key : List ℕ) (keys : List (List ℕ)) → IsOneOf key keys
+    → AllByRecursion (λ other. key ≡ other → ⊥) keys → ⊥
 none_of_them key [] (is) h = is
 none_of_them key (other ∷ keys) (inl same) h = h.0 same
 none_of_them key (other ∷ keys) (inr more) h = none_of_them key keys more h.1
 
 -- ---- the bearer's key
 
-begins_with : (kind : PdcpKind) (lcid first : ℕ) (keys : Keys) (side : Side) (f : Flow) (xs : List Step) (e : Ends) → ends f ≡ Some (begun lcid kind first keys side) → ends (run xs f) ≡ Some e → e.tx.kind ≡ kind
+begins_with : (kind : PdcpKind) (lcid first : ℕ) (keys : Keys) (side : Side) (f : Flow) (xs : List Step) (e : Ends)
+    → ends f ≡ Some (begun lcid kind first keys side) → ends (run xs f) ≡ Some e → e.tx.kind ≡ kind
 unfolding begun
 begins_with kind lcid first keys side f xs e q is =
     let start = begun lcid kind first keys side in
@@ -132,21 +148,37 @@ begins_with kind lcid first keys side f xs e q is =
     let k = lives_kind start h.next (all_doings f xs) h.passed (begun_kind lcid kind first keys side) in
     ap (λ (x : Ends). x.tx.kind) (sym same) ∙ k.tx ∙ h.passed.kind
 
-key_is : (kind : Kind) (c : BearerConfig) (keys now : Keys) (side : Side) (xs : List Step) (e : Ends) → ends (run xs (flow_of kind c keys side)) ≡ Some e → (key_of e.tx.kind now).octets ≡ cipher_key kind now
-key_is kinds.Tm c keys now side xs e is = let no : None ≡ Some e = sym (none_steps (flow_of kinds.Tm c keys side) xs refl) ∙ is in cc
-key_is kinds.Srb c keys now side xs e is = ap (λ (k : PdcpKind). (key_of k now).octets) (begins_with pdcp.Srb c.channel.lcid c.first keys side (flow_of kinds.Srb c keys side) xs e (srb_begins c keys side) is)
-key_is kinds.Um c keys now side xs e is = ap (λ (k : PdcpKind). (key_of k now).octets) (begins_with (pdcp.Um c.pdcp_bits) c.channel.lcid c.first keys side (flow_of kinds.Um c keys side) xs e (um_begins c keys side) is)
-key_is kinds.Am c keys now side xs e is = ap (λ (k : PdcpKind). (key_of k now).octets) (begins_with (pdcp.Am c.pdcp_bits) c.channel.lcid c.first keys side (flow_of kinds.Am c keys side) xs e (am_begins c keys side) is)
+key_is : (kind : Kind) (c : BearerConfig) (keys now : Keys) (side : Side) (xs : List Step) (e : Ends)
+    → ends (run xs (flow_of kind c keys side)) ≡ Some e → (key_of e.tx.kind now).octets ≡ cipher_key kind now
+key_is kinds.Tm c keys now side xs e is = let no : None ≡ Some e =
+    sym (none_steps (flow_of kinds.Tm c keys side) xs refl) ∙ is in cc
+key_is kinds.Srb c keys now side xs e is =
+    ap (λ (k : PdcpKind). (key_of k now).octets)
+    (begins_with pdcp.Srb c.channel.lcid c.first keys side (flow_of kinds.Srb c keys side) xs e
+    (srb_begins c keys side) is)
+key_is kinds.Um c keys now side xs e is =
+    ap (λ (k : PdcpKind). (key_of k now).octets)
+    (begins_with (pdcp.Um c.pdcp_bits) c.channel.lcid c.first keys side (flow_of kinds.Um c keys side) xs e
+    (um_begins c keys side) is)
+key_is kinds.Am c keys now side xs e is =
+    ap (λ (k : PdcpKind). (key_of k now).octets)
+    (begins_with (pdcp.Am c.pdcp_bits) c.channel.lcid c.first keys side (flow_of kinds.Am c keys side) xs e
+    (am_begins c keys side) is)
 
 -- ---- what is ciphered in a call
 
-one_as : (p : Protection) (count : Option ℕ) (text : List ℕ) (P : Ciphering → Type 0) → ((x : Ciphering) → x.protection.key ≡ p.key → x.protection.bearer ≡ p.bearer → x.protection.direction ≡ p.direction → P x) → AllByRecursion P (ciphering_under p count text)
+one_as : (p : Protection) (count : Option ℕ) (text : List ℕ) (P : Ciphering → Type 0)
+    → ((x : Ciphering) → x.protection.key ≡ p.key → x.protection.bearer ≡ p.bearer
+    → x.protection.direction ≡ p.direction → P x) → AllByRecursion P (ciphering_under p count text)
 one_as p None text P h = tt
 one_as p (Some count) text P h = (h _ refl refl refl, tt)
 
-all_as : (p : Protection) (os : List Offer) (P : Ciphering → Type 0) → ((x : Ciphering) → x.protection.key ≡ p.key → x.protection.bearer ≡ p.bearer → x.protection.direction ≡ p.direction → P x) → AllByRecursion P (ciphered_of p os)
+all_as : (p : Protection) (os : List Offer) (P : Ciphering → Type 0)
+    → ((x : Ciphering) → x.protection.key ≡ p.key → x.protection.bearer ≡ p.bearer
+    → x.protection.direction ≡ p.direction → P x) → AllByRecursion P (ciphered_of p os)
 all_as p [] P h = tt
-all_as p (o ∷ os) P h = all_then P (ciphering_under p o.count o.text) (ciphered_of p os) (one_as p o.count o.text P h) (all_as p os P h)
+all_as p (o ∷ os) P h =
+    all_then P (ciphering_under p o.count o.text) (ciphered_of p os) (one_as p o.count o.text P h) (all_as p os P h)
 
 -- under the key of the life, with the bearer's own parameters
 pub record IsOfLife (c : BearerConfig) (side : Side) (now : Keys) (x : Ciphering) : Type 0 where
@@ -154,17 +186,25 @@ pub record IsOfLife (c : BearerConfig) (side : Side) (now : Keys) (x : Ciphering
   pub bearer : x.protection.bearer ≡ bearer_of c.channel.lcid
   pub direction : x.protection.direction ≡ sends side
 
-of_life_by : (c : BearerConfig) (keys : Keys) (side : Side) (xs : List Step) (o : Option Ends) (os : List Offer) → ends (reached c keys side xs) ≡ o → IsUnder (keys_after keys xs) c.channel.lcid side o
+of_life_by : (c : BearerConfig) (keys : Keys) (side : Side) (xs : List Step) (o : Option Ends) (os : List Offer)
+    → ends (reached c keys side xs) ≡ o → IsUnder (keys_after keys xs) c.channel.lcid side o
     → AllByRecursion (IsOfLife c side (keys_after keys xs)) (ciphered_by o os)
 of_life_by c keys side xs None os is under = tt
 of_life_by c keys side xs (Some e) os is under =
     let now = keys_after keys xs in
-    let k : e.tx.protection.key ≡ cipher_key c.kind now = ap (λ (p : Protection). p.key) under ∙ key_is c.kind c keys now side xs e is in
+    let k : e.tx.protection.key ≡ cipher_key c.kind now =
+    ap (λ (p : Protection). p.key) under ∙ key_is c.kind c keys now side xs e is in
     all_as e.tx.protection os (IsOfLife c side now)
-    (λ x key bearer direction. record { key = key ∙ k; bearer = bearer ∙ ap (λ (p : Protection). p.bearer) under; direction = direction ∙ ap (λ (p : Protection). p.direction) under })
+    (λ x key bearer direction. record {
+      key = key ∙ k;
+      bearer = bearer ∙ ap (λ (p : Protection). p.bearer) under;
+      direction = direction ∙ ap (λ (p : Protection). p.direction) under;
+    })
 
-of_life : (c : BearerConfig) (keys : Keys) (side : Side) (xs : List Step) (os : List Offer) → AllByRecursion (IsOfLife c side (keys_after keys xs)) (ciphered_by (ends (reached c keys side xs)) os)
-of_life c keys side xs os = of_life_by c keys side xs (ends (reached c keys side xs)) os refl (under_its_keys c keys side xs)
+of_life : (c : BearerConfig) (keys : Keys) (side : Side) (xs : List Step) (os : List Offer)
+    → AllByRecursion (IsOfLife c side (keys_after keys xs)) (ciphered_by (ends (reached c keys side xs)) os)
+of_life c keys side xs os =
+    of_life_by c keys side xs (ends (reached c keys side xs)) os refl (under_its_keys c keys side xs)
 
 none_ciphered : (o : Option Ends) → ciphered_by o [] ≡ []
 none_ciphered None = refl
@@ -172,7 +212,8 @@ none_ciphered (Some e) = refl
 
 -- ---- step by step
 
-steps_then : (c : BearerConfig) (keys : Keys) (side : Side) (xs : List Step) (x : Step) → reached c keys side (xs ++ x ∷ []) ≡ goes (reached c keys side xs) x
+steps_then : (c : BearerConfig) (keys : Keys) (side : Side) (xs : List Step) (x : Step)
+    → reached c keys side (xs ++ x ∷ []) ≡ goes (reached c keys side xs) x
 steps_then c keys side xs x = run_more (flow_of c.kind c keys side) xs (x ∷ [])
 
 keys_then : (keys : Keys) (xs ys : List Step) → keys_after keys (xs ++ ys) ≡ keys_after (keys_after keys xs) ys
@@ -180,14 +221,17 @@ keys_then keys [] ys = refl
 keys_then keys (Calls c ∷ xs) ys = keys_then keys xs ys
 keys_then keys (Restart next ∷ xs) ys = keys_then next xs ys
 
-of_first : (c : BearerConfig) (side : Side) (now : Keys) (keys : List Keys) (x : Ciphering) → IsOfLife c side now x → IsOfBearer c side (now ∷ keys) x
+of_first : (c : BearerConfig) (side : Side) (now : Keys) (keys : List Keys) (x : Ciphering) → IsOfLife c side now x
+    → IsOfBearer c side (now ∷ keys) x
 of_first c side now keys x h = record { key = inl h.key; bearer = h.bearer; direction = h.direction }
 
-of_more : (c : BearerConfig) (side : Side) (now : Keys) (keys : List Keys) (x : Ciphering) → IsOfBearer c side keys x → IsOfBearer c side (now ∷ keys) x
+of_more : (c : BearerConfig) (side : Side) (now : Keys) (keys : List Keys) (x : Ciphering) → IsOfBearer c side keys x
+    → IsOfBearer c side (now ∷ keys) x
 of_more c side now keys x h = record { key = inr h.key; bearer = h.bearer; direction = h.direction }
 
 -- from any moment on
-pub as_itself : (c : BearerConfig) (keys : Keys) (side : Side) (xs ys : List Step) → AllByRecursion (IsOfBearer c side (keys_after keys xs ∷ restarts ys)) (ciphered (reached c keys side xs) ys)
+pub as_itself : (c : BearerConfig) (keys : Keys) (side : Side) (xs ys : List Step)
+    → AllByRecursion (IsOfBearer c side (keys_after keys xs ∷ restarts ys)) (ciphered (reached c keys side xs) ys)
 as_itself c keys side xs [] = tt
 as_itself c keys side xs (Calls d ∷ ys) =
     let f = reached c keys side xs in
@@ -196,18 +240,27 @@ as_itself c keys side xs (Calls d ∷ ys) =
     let until = xs ++ Calls d ∷ [] in
     let rest : AllByRecursion P (ciphered (after f d) ys) =
     subst (λ (g : Flow). AllByRecursion P (ciphered g ys)) (steps_then c keys side xs (Calls d))
-    (subst (λ (k : Keys). AllByRecursion (IsOfBearer c side (k ∷ restarts ys)) (ciphered (reached c keys side until) ys)) (keys_then keys xs (Calls d ∷ [])) (as_itself c keys side until ys)) in
-    all_then P (ciphered_by (ends f) (takes f d)) (ciphered (after f d) ys) (all_by (IsOfLife c side now) P (ciphered_by (ends f) (takes f d)) (of_first c side now (restarts ys)) (of_life c keys side xs (takes f d))) rest
+    (subst (λ (k : Keys). AllByRecursion (IsOfBearer c side (k ∷ restarts ys))
+    (ciphered (reached c keys side until) ys)) (keys_then keys xs (Calls d ∷ []))
+    (as_itself c keys side until ys)) in
+    all_then P (ciphered_by (ends f) (takes f d)) (ciphered (after f d) ys)
+    (all_by (IsOfLife c side now) P (ciphered_by (ends f) (takes f d)) (of_first c side now (restarts ys))
+    (of_life c keys side xs (takes f d))) rest
 as_itself c keys side xs (Restart next ∷ ys) =
     let f = reached c keys side xs in
     let now = keys_after keys xs in
     let P = IsOfBearer c side (now ∷ next ∷ restarts ys) in
     let until = xs ++ Restart next ∷ [] in
     let rest : AllByRecursion (IsOfBearer c side (next ∷ restarts ys)) (ciphered (goes f (Restart next)) ys) =
-    subst (λ (g : Flow). AllByRecursion (IsOfBearer c side (next ∷ restarts ys)) (ciphered g ys)) (steps_then c keys side xs (Restart next))
-    (subst (λ (k : Keys). AllByRecursion (IsOfBearer c side (k ∷ restarts ys)) (ciphered (reached c keys side until) ys)) (keys_then keys xs (Restart next ∷ [])) (as_itself c keys side until ys)) in
-    subst (λ (zs : List Ciphering). AllByRecursion P (zs ++ ciphered (goes f (Restart next)) ys)) (sym (none_ciphered (ends f)))
-    (all_by (IsOfBearer c side (next ∷ restarts ys)) P (ciphered (goes f (Restart next)) ys) (of_more c side now (next ∷ restarts ys)) rest)
+    subst (λ (g : Flow). AllByRecursion (IsOfBearer c side (next ∷ restarts ys)) (ciphered g ys))
+    (steps_then c keys side xs (Restart next))
+    (subst (λ (k : Keys). AllByRecursion (IsOfBearer c side (k ∷ restarts ys))
+    (ciphered (reached c keys side until) ys)) (keys_then keys xs (Restart next ∷ []))
+    (as_itself c keys side until ys)) in
+    subst (λ (zs : List Ciphering). AllByRecursion P (zs ++ ciphered (goes f (Restart next)) ys))
+    (sym (none_ciphered (ends f)))
+    (all_by (IsOfBearer c side (next ∷ restarts ys)) P (ciphered (goes f (Restart next)) ys)
+    (of_more c side now (next ∷ restarts ys)) rest)
 
 -- ---- the texts of a life
 
@@ -219,8 +272,10 @@ run_calls : (f : Flow) (ds : List Call) → run (all_calls ds) f ≡ after_all f
 run_calls f [] = refl
 run_calls f (d ∷ ds) = run_calls (after f d) ds
 
-after_calls : (c : BearerConfig) (keys : Keys) (side : Side) (xs : List Step) (ds : List Call) → reached c keys side (xs ++ all_calls ds) ≡ after_all (reached c keys side xs) ds
-after_calls c keys side xs ds = run_more (flow_of c.kind c keys side) xs (all_calls ds) ∙ run_calls (reached c keys side xs) ds
+after_calls : (c : BearerConfig) (keys : Keys) (side : Side) (xs : List Step) (ds : List Call)
+    → reached c keys side (xs ++ all_calls ds) ≡ after_all (reached c keys side xs) ds
+after_calls c keys side xs ds = run_more (flow_of c.kind c keys side) xs (all_calls ds)
+    ∙ run_calls (reached c keys side xs) ds
 
 keys_calls : (keys : Keys) (ds : List Call) → keys_after keys (all_calls ds) ≡ keys
 keys_calls keys [] = refl
@@ -232,9 +287,11 @@ all_after f (d ∷ ds) es = all_after (after f d) ds es
 
 taken_then : (f : Flow) (ds : List Call) (e : Call) → taken f (ds ++ e ∷ []) ≡ taken f ds ++ takes (after_all f ds) e
 taken_then f [] e = append-nil (takes f e)
-taken_then f (d ∷ ds) e = ap (λ (os : List Offer). takes f d ++ os) (taken_then (after f d) ds e) ∙ sym (append_assoc (takes f d) (taken (after f d) ds) (takes (after_all (after f d) ds) e))
+taken_then f (d ∷ ds) e = ap (λ (os : List Offer). takes f d ++ os) (taken_then (after f d) ds e)
+    ∙ sym (append_assoc (takes f d) (taken (after f d) ds) (takes (after_all (after f d) ds) e))
 
-counts_by : (o : Option Ends) (os : List Offer) → (ciphered_by o os ≡ []) ⊎ (map count_of (ciphered_by o os) ≡ counts os)
+counts_by : (o : Option Ends) (os : List Offer) → (ciphered_by o os ≡ [])
+    ⊎ (map count_of (ciphered_by o os) ≡ counts os)
 counts_by None os = inl refl
 counts_by (Some e) os = inr (counts_of e.tx.protection os)
 
@@ -245,11 +302,15 @@ nothing_shares : (xs ys : List Ciphering) → xs ≡ [] → AllShareText xs ys
 nothing_shares xs ys none = subst (λ (zs : List Ciphering). AllShareText zs ys) (sym none) tt
 
 -- those of a call, among one another
-now_alone : (c : BearerConfig) (keys : Keys) (side : Side) (xs : List Step) (d : Call) → AllShareText (ciphered_by (ends (reached c keys side xs)) (takes (reached c keys side xs) d)) (ciphered_by (ends (reached c keys side xs)) (takes (reached c keys side xs) d))
+now_alone : (c : BearerConfig) (keys : Keys) (side : Side) (xs : List Step) (d : Call)
+    → AllShareText (ciphered_by (ends (reached c keys side xs)) (takes (reached c keys side xs) d))
+    (ciphered_by (ends (reached c keys side xs)) (takes (reached c keys side xs) d))
 now_alone c keys side xs d =
     let f = reached c keys side xs in
     let now = ciphered_by (ends f) (takes f d) in
-    let up : IsAscending 0 (counts (takes f d)) = subst (λ (os : List Offer). IsAscending 0 (counts os)) (append-nil (takes f d)) (takes_once c keys side xs (d ∷ [])) in
+    let up : IsAscending 0 (counts (takes f d)) =
+    subst (λ (os : List Offer). IsAscending 0 (counts os)) (append-nil (takes f d))
+    (takes_once c keys side xs (d ∷ [])) in
     elim (counts_by (ends f) (takes f d)) [
       | inl none ↦ nothing_shares now now none
       | inr are ↦ alone 0 now (subst (IsAscending 0) (sym are) up)
@@ -258,7 +319,8 @@ now_alone c keys side xs d =
 -- those of a call, and of a later one of the life
 now_later : (c : BearerConfig) (keys : Keys) (side : Side) (xs : List Step) (d : Call) (ds : List Call) (e : Call)
     → AllShareText (ciphered_by (ends (reached c keys side xs)) (takes (reached c keys side xs) d))
-    (ciphered_by (ends (after_all (reached c keys side xs) (d ∷ ds))) (takes (after_all (reached c keys side xs) (d ∷ ds)) e))
+    (ciphered_by (ends (after_all (reached c keys side xs) (d ∷ ds)))
+    (takes (after_all (reached c keys side xs) (d ∷ ds)) e))
 now_later c keys side xs d ds e =
     let f = reached c keys side xs in
     let g = after_all f (d ∷ ds) in
@@ -266,9 +328,11 @@ now_later c keys side xs d ds e =
     let later = ciphered_by (ends g) (takes g e) in
     let between = counts (taken (after f d) ds) in
     let are : counts (taken f (d ∷ (ds ++ e ∷ []))) ≡ counts (takes f d) ++ (between ++ counts (takes g e)) =
-    ap (λ (os : List Offer). counts (takes f d ++ os)) (taken_then (after f d) ds e) ∙ counts_more (takes f d) (taken (after f d) ds ++ takes g e)
+    ap (λ (os : List Offer). counts (takes f d ++ os)) (taken_then (after f d) ds e)
+    ∙ counts_more (takes f d) (taken (after f d) ds ++ takes g e)
     ∙ ap (λ (ns : List ℕ). counts (takes f d) ++ ns) (counts_more (taken (after f d) ds) (takes g e)) in
-    let up : IsAscending 0 (counts (takes f d) ++ (between ++ counts (takes g e))) = subst (IsAscending 0) are (takes_once c keys side xs (d ∷ (ds ++ e ∷ []))) in
+    let up : IsAscending 0 (counts (takes f d) ++ (between ++ counts (takes g e))) =
+    subst (IsAscending 0) are (takes_once c keys side xs (d ∷ (ds ++ e ∷ []))) in
     elim (counts_by (ends f) (takes f d)) [
       | inl none ↦ nothing_shares now later none
       | inr first ↦ elim (counts_by (ends g) (takes g e)) [
@@ -280,7 +344,8 @@ now_later c keys side xs d ds e =
 -- ---- through lives
 
 -- under another key none meets
-other_key : (c : BearerConfig) (side : Side) (now : Keys) (keys : List Keys) (xs ys : List Ciphering) → AllByRecursion (λ other. cipher_key c.kind now ≡ other → ⊥) (map (cipher_key c.kind) keys)
+other_key : (c : BearerConfig) (side : Side) (now : Keys) (keys : List Keys) (xs ys : List Ciphering)
+    → AllByRecursion (λ other. cipher_key c.kind now ≡ other → ⊥) (map (cipher_key c.kind) keys)
     → AllByRecursion (IsOfLife c side now) xs → AllByRecursion (IsOfBearer c side keys) ys → AllShareText xs ys
 other_key c side now keys [] ys h p q = tt
 other_key c side now keys (x ∷ xs) ys h p q = (with_each ys q, other_key c side now keys xs ys h p.1 q)
@@ -288,55 +353,77 @@ other_key c side now keys (x ∷ xs) ys h p q = (with_each ys q, other_key c sid
     with_each : (zs : List Ciphering) → AllByRecursion (IsOfBearer c side keys) zs → AllByRecursion (ShareText x) zs
     with_each [] r = tt
     with_each (z ∷ zs) r = (
-      (λ k b d n. absurd (none_of_them (cipher_key c.kind now) (map (cipher_key c.kind) keys) (subst (λ (key : List ℕ). IsOneOf key (map (cipher_key c.kind) keys)) (sym k ∙ p.0.key) r.0.key) h)),
+      (λ k b d n. absurd
+          (none_of_them (cipher_key c.kind now) (map (cipher_key c.kind) keys)
+          (subst (λ (key : List ℕ). IsOneOf key (map (cipher_key c.kind) keys)) (sym k ∙ p.0.key) r.0.key) h)),
       with_each zs r.1,
     )
 
 -- those of a call, and all that come behind it
 now_then : (c : BearerConfig) (keys : Keys) (side : Side) (xs : List Step) (d : Call) (ds : List Call) (ys : List Step)
-    → AllByRecursion (λ other. cipher_key c.kind (keys_after keys xs) ≡ other → ⊥) (map (cipher_key c.kind) (restarts ys))
-    → AllShareText (ciphered_by (ends (reached c keys side xs)) (takes (reached c keys side xs) d)) (ciphered (after_all (reached c keys side xs) (d ∷ ds)) ys)
-now_then c keys side xs d ds [] h = share_none (ciphered_by (ends (reached c keys side xs)) (takes (reached c keys side xs) d))
+    → AllByRecursion (λ other. cipher_key c.kind (keys_after keys xs) ≡ other
+    → ⊥) (map (cipher_key c.kind) (restarts ys))
+    → AllShareText (ciphered_by (ends (reached c keys side xs)) (takes (reached c keys side xs) d))
+    (ciphered (after_all (reached c keys side xs) (d ∷ ds)) ys)
+now_then c keys side xs d ds [] h =
+    share_none (ciphered_by (ends (reached c keys side xs)) (takes (reached c keys side xs) d))
 now_then c keys side xs d ds (Calls e ∷ ys) h =
     let f = reached c keys side xs in
     let g = after_all f (d ∷ ds) in
     let now = ciphered_by (ends f) (takes f d) in
     share_then now (ciphered_by (ends g) (takes g e)) (ciphered (after g e) ys) (now_later c keys side xs d ds e)
-    (subst (λ (x : Flow). AllShareText now (ciphered x ys)) (all_after (after f d) ds (e ∷ [])) (now_then c keys side xs d (ds ++ e ∷ []) ys h))
+    (subst (λ (x : Flow). AllShareText now (ciphered x ys)) (all_after (after f d) ds (e ∷ []))
+    (now_then c keys side xs d (ds ++ e ∷ []) ys h))
 now_then c keys side xs d ds (Restart next ∷ ys) h =
     let f = reached c keys side xs in
     let g = after_all f (d ∷ ds) in
     let now = ciphered_by (ends f) (takes f d) in
     let until = (xs ++ all_calls (d ∷ ds)) ++ Restart next ∷ [] in
-    let there : reached c keys side until ≡ goes g (Restart next) = steps_then c keys side (xs ++ all_calls (d ∷ ds)) (Restart next) ∙ ap (λ (x : Flow). goes x (Restart next)) (after_calls c keys side xs (d ∷ ds)) in
+    let there : reached c keys side until ≡ goes g (Restart next) =
+    steps_then c keys side (xs ++ all_calls (d ∷ ds)) (Restart next)
+    ∙ ap (λ (x : Flow). goes x (Restart next)) (after_calls c keys side xs (d ∷ ds)) in
     let later : AllByRecursion (IsOfBearer c side (next ∷ restarts ys)) (ciphered (goes g (Restart next)) ys) =
     subst (λ (x : Flow). AllByRecursion (IsOfBearer c side (next ∷ restarts ys)) (ciphered x ys)) there
-    (subst (λ (k : Keys). AllByRecursion (IsOfBearer c side (k ∷ restarts ys)) (ciphered (reached c keys side until) ys)) (keys_then keys (xs ++ all_calls (d ∷ ds)) (Restart next ∷ [])) (as_itself c keys side until ys)) in
-    subst (λ (zs : List Ciphering). AllShareText now (zs ++ ciphered (goes g (Restart next)) ys)) (sym (none_ciphered (ends g)))
-    (other_key c side (keys_after keys xs) (next ∷ restarts ys) now (ciphered (goes g (Restart next)) ys) h (of_life c keys side xs (takes f d)) later)
+    (subst (λ (k : Keys). AllByRecursion (IsOfBearer c side (k ∷ restarts ys))
+    (ciphered (reached c keys side until) ys)) (keys_then keys (xs ++ all_calls (d ∷ ds)) (Restart next ∷ []))
+    (as_itself c keys side until ys)) in
+    subst (λ (zs : List Ciphering). AllShareText now (zs ++ ciphered (goes g (Restart next)) ys))
+    (sym (none_ciphered (ends g)))
+    (other_key c side (keys_after keys xs) (next ∷ restarts ys) now (ciphered (goes g (Restart next)) ys) h
+    (of_life c keys side xs (takes f d)) later)
 
-all_share : (c : BearerConfig) (keys : Keys) (side : Side) (xs ys : List Step) → AreDistinct (map (cipher_key c.kind) (keys_after keys xs ∷ restarts ys))
+all_share : (c : BearerConfig) (keys : Keys) (side : Side) (xs ys : List Step)
+    → AreDistinct (map (cipher_key c.kind) (keys_after keys xs ∷ restarts ys))
     → AllShareText (ciphered (reached c keys side xs) ys) (ciphered (reached c keys side xs) ys)
 all_share c keys side xs [] h = tt
 all_share c keys side xs (Calls d ∷ ys) h =
     let f = reached c keys side xs in
     let until = xs ++ Calls d ∷ [] in
-    let distinct = subst (λ (k : Keys). AreDistinct (map (cipher_key c.kind) (k ∷ restarts ys))) (sym (keys_then keys xs (Calls d ∷ []))) h in
-    share_both (ciphered_by (ends f) (takes f d)) (ciphered (after f d) ys) (now_alone c keys side xs d) (now_then c keys side xs d [] ys h.0)
-    (subst (λ (g : Flow). AllShareText (ciphered g ys) (ciphered g ys)) (steps_then c keys side xs (Calls d)) (all_share c keys side until ys distinct))
+    let distinct =
+    subst (λ (k : Keys). AreDistinct (map (cipher_key c.kind) (k ∷ restarts ys)))
+    (sym (keys_then keys xs (Calls d ∷ []))) h in
+    share_both (ciphered_by (ends f) (takes f d)) (ciphered (after f d) ys) (now_alone c keys side xs d)
+    (now_then c keys side xs d [] ys h.0)
+    (subst (λ (g : Flow). AllShareText (ciphered g ys) (ciphered g ys)) (steps_then c keys side xs (Calls d))
+    (all_share c keys side until ys distinct))
 all_share c keys side xs (Restart next ∷ ys) h =
     let f = reached c keys side xs in
     let until = xs ++ Restart next ∷ [] in
-    let distinct = subst (λ (k : Keys). AreDistinct (map (cipher_key c.kind) (k ∷ restarts ys))) (sym (keys_then keys xs (Restart next ∷ []))) h.1 in
+    let distinct =
+    subst (λ (k : Keys). AreDistinct (map (cipher_key c.kind) (k ∷ restarts ys)))
+    (sym (keys_then keys xs (Restart next ∷ []))) h.1 in
     let rest = ciphered (goes f (Restart next)) ys in
     subst (λ (zs : List Ciphering). AllShareText (zs ++ rest) (zs ++ rest)) (sym (none_ciphered (ends f)))
-    (subst (λ (g : Flow). AllShareText (ciphered g ys) (ciphered g ys)) (steps_then c keys side xs (Restart next)) (all_share c keys side until ys distinct))
+    (subst (λ (g : Flow). AllShareText (ciphered g ys) (ciphered g ys)) (steps_then c keys side xs (Restart next))
+    (all_share c keys side until ys distinct))
 
 -- ---- the laws
 
-pub ciphers_as_itself : (c : BearerConfig) (keys : Keys) (side : Side) (xs : List Step) → AllByRecursion (IsOfBearer c side (keys ∷ restarts xs)) (ciphered (flow_of c.kind c keys side) xs)
+pub ciphers_as_itself : (c : BearerConfig) (keys : Keys) (side : Side) (xs : List Step)
+    → AllByRecursion (IsOfBearer c side (keys ∷ restarts xs)) (ciphered (flow_of c.kind c keys side) xs)
 ciphers_as_itself c keys side xs = as_itself c keys side [] xs
 
-pub one_text_a_key : (c : BearerConfig) (keys : Keys) (side : Side) (xs : List Step) → AreDistinct (map (cipher_key c.kind) (keys ∷ restarts xs))
+pub one_text_a_key : (c : BearerConfig) (keys : Keys) (side : Side) (xs : List Step)
+    → AreDistinct (map (cipher_key c.kind) (keys ∷ restarts xs))
     → AllShareText (ciphered (flow_of c.kind c keys side) xs) (ciphered (flow_of c.kind c keys side) xs)
 one_text_a_key c keys side xs h = all_share c keys side [] xs h

@@ -1,5 +1,6 @@
 -- Steps of any bearer, as steps of PDCP's sender.
-use Rattle.std.proofs.Common.{◌≡◌, ℕ, ◌+◌, ◌-◌, ◌≤◌, List, [], ◌∷◌, ◌++◌, take, drop, map, length, length-append, Option, Some, None, subst, refl, ap, sym, ◌∙◌, arith}
+use Rattle.std.proofs.Common.{◌≡◌, ℕ, ◌+◌, ◌-◌, ◌≤◌, List, [], ◌∷◌, ◌++◌, take, drop, map, length, length-append}
+use Rattle.std.proofs.Common.{Option, Some, None, subst, refl, ap, sym, ◌∙◌, arith}
 use Rattle.std.proofs.Math.Seq.{take-append_seam}
 use Rattle.std.proofs.lemmas.List.{append-nil, length-drop}
 use Rattle.eps_sec.specs.declared.Keys.{Keys}
@@ -9,7 +10,8 @@ use Rattle.bearer.specs.Unacknowledged.State.{State as UmState}
 use Rattle.bearer_pdcp.specs.Discarding.{after_tick}
 use Rattle.bearer_pdcp.specs.Lives.{restarted as restarted_pdcp}
 use Rattle.bearer.specs.Unacknowledged.Taking.{after_taking as um_after}
-use Rattle.bearer.specs.Unacknowledged.Hearing.{after_arrival as um_arrived, after_expiry as um_expired, after_ticking as um_ticked}
+use Rattle.bearer.specs.Unacknowledged.Hearing.{after_arrival as um_arrived, after_expiry as um_expired}
+use Rattle.bearer.specs.Unacknowledged.Hearing.{after_ticking as um_ticked}
 use Rattle.bearer.specs.Unacknowledged.Lives.{stopped as um_stopped}
 use Rattle.bearer.specs.Acknowledged.State.{State as AmState}
 use Rattle.bearer.specs.Acknowledged.Taking.{after_taking as am_after}
@@ -22,17 +24,22 @@ use Rattle.bearer.specs.Submitting.{submitted}
 use Rattle.bearer.specs.Taking.{after as taken_from}
 use Rattle.bearer.specs.Hearing.{arrived, expired, ticked, with_discard}
 use Rattle.bearer.specs.Lives.{stopped, restarted}
-use Rattle.law_bearer.specs.AnyBearer.Calls.{Call, Submit, Take, Arrive, Expire, Tick, SetDiscard, after, after_all, Step, Calls, Restart, goes, run, ends, ends_between}
-use Rattle.law_bearer.specs.AnyBearer.Stream.{offers_of, takes, taken, all_taken, pdu_of, IsOffered, um_offered, am_offered}
+use Rattle.law_bearer.specs.AnyBearer.Calls.{Call, Submit, Take, Arrive, Expire, Tick, SetDiscard, after, after_all}
+use Rattle.law_bearer.specs.AnyBearer.Calls.{Step, Calls, Restart, goes, run, ends, ends_between}
+use Rattle.law_bearer.specs.AnyBearer.Stream.{offers_of, takes, taken, all_taken, pdu_of, IsOffered, um_offered}
+use Rattle.law_bearer.specs.AnyBearer.Stream.{am_offered}
 use Rattle.law_bearer.specs.AnyBearer.Queue.{submits, off, news, drops, all_news, all_left, all_submitted}
-use Rattle.law_bearer.proofs.AnyBearer.Sender.{Doings, nothing, also, Moved, submitting, submits_one, sets, took_all, firsts, takings, takes_all, none_of, left_of, sdus, moved_queue, leaving}
-use Rattle.law_bearer.proofs.AnyBearer.Parts.{Passed, PassedLives, rests, by_tx, passed_then, passed_lives, lives_then, tick_moves, tick_lates, Ended, ended_restarts}
+use Rattle.law_bearer.proofs.AnyBearer.Sender.{Doings, nothing, also, Moved, submitting, submits_one, sets, took_all}
+use Rattle.law_bearer.proofs.AnyBearer.Sender.{firsts, takings, takes_all, none_of, left_of, sdus, moved_queue, leaving}
+use Rattle.law_bearer.proofs.AnyBearer.Parts.{Passed, PassedLives, rests, by_tx, passed_then, passed_lives, lives_then}
+use Rattle.law_bearer.proofs.AnyBearer.Parts.{tick_moves, tick_lates, Ended, ended_restarts}
 use Rattle.law_bearer.proofs.AnyBearer.Acknowledged as am
 use Rattle.law_bearer.proofs.AnyBearer.Unacknowledged as um
 
 -- ---- takes
 
-pub taken_off : (n : ℕ) (os left : List Offer) → n ≤ length os → left ≡ drop n os → take (length os - length left) os ≡ take n os
+pub taken_off : (n : ℕ) (os left : List Offer) → n ≤ length os → left ≡ drop n os
+    → take (length os - length left) os ≡ take n os
 taken_off n os left few q =
     let k : length left ≡ length os - n = ap length q ∙ length-drop n os in
     let m : length os - length left ≡ n = omega (arith, k, few) in
@@ -44,40 +51,52 @@ taken_front xs left before q =
     let m : length before - length left ≡ length xs = omega (arith, k) in
     ap (λ i. take i before) m ∙ ap (take (length xs)) (sym q) ∙ take-append_seam xs left
 
-am_takes : (b : AmState) (share : ℕ) (held : Option ℕ) → takes (Am b) (Take share held) ≡ take (am.all_fed_in b share held).n (offers b.pdcp.tx)
+am_takes : (b : AmState) (share : ℕ) (held : Option ℕ)
+    → takes (Am b) (Take share held) ≡ take (am.all_fed_in b share held).n (offers b.pdcp.tx)
 unfolding taken_from
 am_takes b share held =
     let f = am.all_fed_in b share held in
-    taken_off f.n (offers b.pdcp.tx) (offers (am_after b share held).pdcp.tx) f.few (ap (λ (e : Ends). offers e.tx) (am.take_left b share held) ∙ ap offers f.left ∙ left_of f.n b.pdcp.tx)
+    taken_off f.n (offers b.pdcp.tx) (offers (am_after b share held).pdcp.tx) f.few
+    (ap (λ (e : Ends). offers e.tx) (am.take_left b share held) ∙ ap offers f.left ∙ left_of f.n b.pdcp.tx)
 
-um_takes : (b : UmState) (share : ℕ) (held : Option ℕ) → takes (Um b) (Take share held) ≡ take (um.all_fed_in b share held).n (offers b.pdcp.tx)
+um_takes : (b : UmState) (share : ℕ) (held : Option ℕ)
+    → takes (Um b) (Take share held) ≡ take (um.all_fed_in b share held).n (offers b.pdcp.tx)
 unfolding taken_from
 um_takes b share held =
     let f = um.all_fed_in b share held in
-    taken_off f.n (offers b.pdcp.tx) (offers (um_after b share held).pdcp.tx) f.few (ap (λ (e : Ends). offers e.tx) (um.take_left b share held) ∙ ap offers f.left ∙ left_of f.n b.pdcp.tx)
+    taken_off f.n (offers b.pdcp.tx) (offers (um_after b share held).pdcp.tx) f.few
+    (ap (λ (e : Ends). offers e.tx) (um.take_left b share held) ∙ ap offers f.left ∙ left_of f.n b.pdcp.tx)
 
-am_news : (b : AmState) (share : ℕ) (held : Option ℕ) → news (Am b) (Take share held) ≡ firsts (am.all_fed_in b share held).n b.pdcp.tx
+am_news : (b : AmState) (share : ℕ) (held : Option ℕ)
+    → news (Am b) (Take share held) ≡ firsts (am.all_fed_in b share held).n b.pdcp.tx
 unfolding taken_from
 am_news b share held =
     let f = am.all_fed_in b share held in
-    let left : (am_after b share held).pdcp.tx ≡ took_all f.n b.pdcp.tx = ap (λ (e : Ends). e.tx) (am.take_left b share held) ∙ f.left in
+    let left : (am_after b share held).pdcp.tx ≡ took_all f.n b.pdcp.tx =
+    ap (λ (e : Ends). e.tx) (am.take_left b share held) ∙ f.left in
     taken_front (firsts f.n b.pdcp.tx) (sdus (am_after b share held).pdcp.tx.waiting) (sdus b.pdcp.tx.waiting)
     (ap (λ (t : Sending). firsts f.n b.pdcp.tx ++ sdus t.waiting) left
-    ∙ moved_queue b.pdcp.tx (took_all f.n b.pdcp.tx) (takings f.n b.pdcp.tx) (takes_all f.n b.pdcp.tx) ∙ append-nil (sdus b.pdcp.tx.waiting))
+    ∙ moved_queue b.pdcp.tx (took_all f.n b.pdcp.tx) (takings f.n b.pdcp.tx) (takes_all f.n b.pdcp.tx)
+    ∙ append-nil (sdus b.pdcp.tx.waiting))
 
-um_news : (b : UmState) (share : ℕ) (held : Option ℕ) → news (Um b) (Take share held) ≡ firsts (um.all_fed_in b share held).n b.pdcp.tx
+um_news : (b : UmState) (share : ℕ) (held : Option ℕ)
+    → news (Um b) (Take share held) ≡ firsts (um.all_fed_in b share held).n b.pdcp.tx
 unfolding taken_from
 um_news b share held =
     let f = um.all_fed_in b share held in
-    let left : (um_after b share held).pdcp.tx ≡ took_all f.n b.pdcp.tx = ap (λ (e : Ends). e.tx) (um.take_left b share held) ∙ f.left in
+    let left : (um_after b share held).pdcp.tx ≡ took_all f.n b.pdcp.tx =
+    ap (λ (e : Ends). e.tx) (um.take_left b share held) ∙ f.left in
     taken_front (firsts f.n b.pdcp.tx) (sdus (um_after b share held).pdcp.tx.waiting) (sdus b.pdcp.tx.waiting)
     (ap (λ (t : Sending). firsts f.n b.pdcp.tx ++ sdus t.waiting) left
-    ∙ moved_queue b.pdcp.tx (took_all f.n b.pdcp.tx) (takings f.n b.pdcp.tx) (takes_all f.n b.pdcp.tx) ∙ append-nil (sdus b.pdcp.tx.waiting))
+    ∙ moved_queue b.pdcp.tx (took_all f.n b.pdcp.tx) (takings f.n b.pdcp.tx) (takes_all f.n b.pdcp.tx)
+    ∙ append-nil (sdus b.pdcp.tx.waiting))
 
 pub is_offered : (f : Flow) (share : ℕ) (held : Option ℕ) → IsOffered f share held
 is_offered (Tm b) share held = tt
-is_offered (Um b) share held = (um.all_fed_in b share held).offered ∙ ap (λ l. um_offered (map (pdu_of b.pdcp.tx) l) b.tx) (sym (um_takes b share held))
-is_offered (Am b) share held = (am.all_fed_in b share held).offered ∙ ap (λ l. am_offered (map (pdu_of b.pdcp.tx) l) b.tx) (sym (am_takes b share held))
+is_offered (Um b) share held = (um.all_fed_in b share held).offered
+    ∙ ap (λ l. um_offered (map (pdu_of b.pdcp.tx) l) b.tx) (sym (um_takes b share held))
+is_offered (Am b) share held = (am.all_fed_in b share held).offered
+    ∙ ap (λ l. am_offered (map (pdu_of b.pdcp.tx) l) b.tx) (sym (am_takes b share held))
 
 -- ---- what a call does
 
@@ -96,7 +115,8 @@ abbrev pub all_doings : Flow → List Step → Doings
 all_doings f [] = nothing
 all_doings f (x ∷ xs) = also (step_doing f x) (all_doings (goes f x) xs)
 
-same_takings : (os : List Offer) (ns : List (List ℕ)) (n : ℕ) (s : Sending) → os ≡ take n (offers s) → ns ≡ firsts n s → record { taken = os; news = ns; submitted = []; left = ns ++ [] } ≡ takings n s
+same_takings : (os : List Offer) (ns : List (List ℕ)) (n : ℕ) (s : Sending) → os ≡ take n (offers s) → ns ≡ firsts n s
+    → record { taken = os; news = ns; submitted = []; left = ns ++ [] } ≡ takings n s
 same_takings os ns n s p q = let r = append-nil (firsts n s) in rw (p, q, r) refl
 
 -- ---- PDCP behind a call
@@ -107,16 +127,25 @@ pub record Called (d : Ends) (g : Flow) (a : Doings) : Type 0 where
   pub passed : Passed d next a
 
 -- the discard timers count behind what else a TTI brings
-tick_passed : (d m e : Ends) → Passed d m nothing → e ≡ after_tick m → Passed d e (leaving (off (sdus d.tx.waiting) (sdus e.tx.waiting)))
+tick_passed : (d m e : Ends) → Passed d m nothing → e ≡ after_tick m
+    → Passed d e (leaving (off (sdus d.tx.waiting) (sdus e.tx.waiting)))
 tick_passed d m e h q =
-    let all : Passed d (after_tick m) (leaving (tick_lates m)) = passed_then d m (after_tick m) nothing (leaving (tick_lates m)) h (tick_moves m) in
-    let front : tick_lates m ++ sdus (after_tick m).tx.waiting ≡ sdus d.tx.waiting = moved_queue d.tx (after_tick m).tx (leaving (tick_lates m)) all.tx ∙ append-nil (sdus d.tx.waiting) in
-    let same : off (sdus d.tx.waiting) (sdus (after_tick m).tx.waiting) ≡ tick_lates m = taken_front (tick_lates m) (sdus (after_tick m).tx.waiting) (sdus d.tx.waiting) front in
-    subst (λ (x : Ends). Passed d x (leaving (off (sdus d.tx.waiting) (sdus x.tx.waiting)))) (sym q) (subst (λ l. Passed d (after_tick m) (leaving l)) (sym same) all)
+    let all : Passed d (after_tick m) (leaving (tick_lates m)) =
+    passed_then d m (after_tick m) nothing (leaving (tick_lates m)) h (tick_moves m) in
+    let front : tick_lates m ++ sdus (after_tick m).tx.waiting ≡ sdus d.tx.waiting =
+    moved_queue d.tx (after_tick m).tx (leaving (tick_lates m)) all.tx ∙ append-nil (sdus d.tx.waiting) in
+    let same : off (sdus d.tx.waiting) (sdus (after_tick m).tx.waiting) ≡ tick_lates m =
+    taken_front (tick_lates m) (sdus (after_tick m).tx.waiting) (sdus d.tx.waiting) front in
+    subst (λ (x : Ends). Passed d x (leaving (off (sdus d.tx.waiting) (sdus x.tx.waiting)))) (sym q)
+    (subst (λ l. Passed d (after_tick m) (leaving l)) (sym same) all)
 
 am_called : (b : AmState) (c : Call) → Called b.pdcp (after (Am b) c) (doing (Am b) c)
 unfolding submitted taken_from arrived expired ticked with_discard
-am_called b (Submit sdu) = record { next = record b.pdcp { tx = pdcp_submitted b.pdcp.tx sdu }; is = refl; passed = by_tx b.pdcp (pdcp_submitted b.pdcp.tx sdu) (submitting sdu) (submits_one b.pdcp.tx sdu) }
+am_called b (Submit sdu) = record {
+  next = record b.pdcp { tx = pdcp_submitted b.pdcp.tx sdu };
+  is = refl;
+  passed = by_tx b.pdcp (pdcp_submitted b.pdcp.tx sdu) (submitting sdu) (submits_one b.pdcp.tx sdu);
+}
 am_called b (Take share held) =
     let f = am.all_fed_in b share held in
     let left = am.take_left b share held in
@@ -125,20 +154,40 @@ am_called b (Take share held) =
       is = refl;
       passed = record {
         tx =
-            subst (Moved b.pdcp.tx (am_after b share held).pdcp.tx) (sym (same_takings (takes (Am b) (Take share held)) (news (Am b) (Take share held)) f.n b.pdcp.tx (am_takes b share held) (am_news b share held)))
-            (subst (λ (t : Sending). Moved b.pdcp.tx t (takings f.n b.pdcp.tx)) (sym (ap (λ (e : Ends). e.tx) left ∙ f.left)) (takes_all f.n b.pdcp.tx));
+            subst (Moved b.pdcp.tx (am_after b share held).pdcp.tx)
+            (sym (same_takings (takes (Am b) (Take share held)) (news (Am b) (Take share held)) f.n b.pdcp.tx
+            (am_takes b share held) (am_news b share held)))
+            (subst (λ (t : Sending). Moved b.pdcp.tx t (takings f.n b.pdcp.tx))
+            (sym (ap (λ (e : Ends). e.tx) left ∙ f.left)) (takes_all f.n b.pdcp.tx));
         kind = ap (λ (e : Ends). e.kind) left ∙ f.kind;
         rx = ap (λ (e : Ends). e.rx.kind) left ∙ f.rx;
       };
     }
 am_called b (Arrive pdu) = record { next = (am_arrived b pdu).pdcp; is = refl; passed = am.arrival_moves b pdu }
-am_called b (Expire clock) = record { next = (am_expired b clock).pdcp; is = refl; passed = subst (λ (e : Ends). Passed b.pdcp e nothing) (sym (am.expiry_same b clock)) (rests b.pdcp) }
-am_called b Tick = record { next = (am_ticked b).bearer.pdcp; is = refl; passed = tick_passed b.pdcp b.pdcp (am_ticked b).bearer.pdcp (rests b.pdcp) (am.ticked_is b) }
-am_called b (SetDiscard ttis) = record { next = record b.pdcp { tx = record b.pdcp.tx { discard = Some ttis } }; is = refl; passed = by_tx b.pdcp (record b.pdcp.tx { discard = Some ttis }) nothing (sets b.pdcp.tx ttis) }
+am_called b (Expire clock) = record {
+  next = (am_expired b clock).pdcp;
+  is = refl;
+  passed = subst (λ (e : Ends). Passed b.pdcp e nothing) (sym (am.expiry_same b clock)) (rests b.pdcp);
+}
+am_called b Tick = record {
+  next = (am_ticked b).bearer.pdcp;
+  is = refl;
+  passed = tick_passed b.pdcp b.pdcp (am_ticked b).bearer.pdcp (rests b.pdcp) (am.ticked_is b);
+}
+am_called b (SetDiscard ttis) =
+    record {
+      next = record b.pdcp { tx = record b.pdcp.tx { discard = Some ttis } };
+      is = refl;
+      passed = by_tx b.pdcp (record b.pdcp.tx { discard = Some ttis }) nothing (sets b.pdcp.tx ttis);
+    }
 
 um_called : (b : UmState) (c : Call) → Called b.pdcp (after (Um b) c) (doing (Um b) c)
 unfolding submitted taken_from arrived expired ticked with_discard
-um_called b (Submit sdu) = record { next = record b.pdcp { tx = pdcp_submitted b.pdcp.tx sdu }; is = refl; passed = by_tx b.pdcp (pdcp_submitted b.pdcp.tx sdu) (submitting sdu) (submits_one b.pdcp.tx sdu) }
+um_called b (Submit sdu) = record {
+  next = record b.pdcp { tx = pdcp_submitted b.pdcp.tx sdu };
+  is = refl;
+  passed = by_tx b.pdcp (pdcp_submitted b.pdcp.tx sdu) (submitting sdu) (submits_one b.pdcp.tx sdu);
+}
 um_called b (Take share held) =
     let f = um.all_fed_in b share held in
     let left = um.take_left b share held in
@@ -147,21 +196,35 @@ um_called b (Take share held) =
       is = refl;
       passed = record {
         tx =
-            subst (Moved b.pdcp.tx (um_after b share held).pdcp.tx) (sym (same_takings (takes (Um b) (Take share held)) (news (Um b) (Take share held)) f.n b.pdcp.tx (um_takes b share held) (um_news b share held)))
-            (subst (λ (t : Sending). Moved b.pdcp.tx t (takings f.n b.pdcp.tx)) (sym (ap (λ (e : Ends). e.tx) left ∙ f.left)) (takes_all f.n b.pdcp.tx));
+            subst (Moved b.pdcp.tx (um_after b share held).pdcp.tx)
+            (sym (same_takings (takes (Um b) (Take share held)) (news (Um b) (Take share held)) f.n b.pdcp.tx
+            (um_takes b share held) (um_news b share held)))
+            (subst (λ (t : Sending). Moved b.pdcp.tx t (takings f.n b.pdcp.tx))
+            (sym (ap (λ (e : Ends). e.tx) left ∙ f.left)) (takes_all f.n b.pdcp.tx));
         kind = ap (λ (e : Ends). e.kind) left ∙ f.kind;
         rx = ap (λ (e : Ends). e.rx.kind) left ∙ f.rx;
       };
     }
 um_called b (Arrive pdu) = record { next = (um_arrived b pdu).pdcp; is = refl; passed = um.arrival_moves b pdu }
 um_called b (Expire clock) = record { next = (um_expired b clock).pdcp; is = refl; passed = um.expiry_moves b clock }
-um_called b Tick = record { next = (um_ticked b).pdcp; is = refl; passed = tick_passed b.pdcp (um.timed b).pdcp (um_ticked b).pdcp (um.before_discards b) (um.ticked_is b) }
-um_called b (SetDiscard ttis) = record { next = record b.pdcp { tx = record b.pdcp.tx { discard = Some ttis } }; is = refl; passed = by_tx b.pdcp (record b.pdcp.tx { discard = Some ttis }) nothing (sets b.pdcp.tx ttis) }
+um_called b Tick = record {
+  next = (um_ticked b).pdcp;
+  is = refl;
+  passed = tick_passed b.pdcp (um.timed b).pdcp (um_ticked b).pdcp (um.before_discards b) (um.ticked_is b);
+}
+um_called b (SetDiscard ttis) =
+    record {
+      next = record b.pdcp { tx = record b.pdcp.tx { discard = Some ttis } };
+      is = refl;
+      passed = by_tx b.pdcp (record b.pdcp.tx { discard = Some ttis }) nothing (sets b.pdcp.tx ttis);
+    }
 
 pub called : (f : Flow) (e : Ends) (c : Call) → ends f ≡ Some e → Called e (after f c) (doing f c)
 called (Tm b) e c q = let no : None ≡ Some e = q in cc
-called (Um b) e c q = let one : b.pdcp ≡ e = cc in subst (λ (d : Ends). Called d (after (Um b) c) (doing (Um b) c)) one (um_called b c)
-called (Am b) e c q = let one : b.pdcp ≡ e = cc in subst (λ (d : Ends). Called d (after (Am b) c) (doing (Am b) c)) one (am_called b c)
+called (Um b) e c q = let one : b.pdcp ≡ e = cc in
+    subst (λ (d : Ends). Called d (after (Um b) c) (doing (Um b) c)) one (um_called b c)
+called (Am b) e c q = let one : b.pdcp ≡ e = cc in
+    subst (λ (d : Ends). Called d (after (Am b) c) (doing (Am b) c)) one (am_called b c)
 
 -- ---- behind all calls of a life
 
@@ -170,7 +233,11 @@ life f e [] q = record { next = e; is = q; passed = rests e }
 life f e (c ∷ cs) q =
     let one = called f e c q in
     let more = life (after f c) one.next cs one.is in
-    record { next = more.next; is = more.is; passed = passed_then e one.next more.next (doing f c) (life_doings (after f c) cs) one.passed more.passed }
+    record {
+      next = more.next;
+      is = more.is;
+      passed = passed_then e one.next more.next (doing f c) (life_doings (after f c) cs) one.passed more.passed;
+    }
 
 -- ---- the next life
 
@@ -181,18 +248,35 @@ pub record Restarted (d : Ends) (m : Option Ends) (g : Flow) (keys : Keys) : Typ
   pub ended : Ended d between
   pub after : ends g ≡ Some (restarted_pdcp between keys)
 
-um_restarts : (b : UmState) (keys : Keys) → Restarted b.pdcp (ends_between (stopped (Um b))) (goes (Um b) (Restart keys)) keys
+um_restarts : (b : UmState) (keys : Keys)
+    → Restarted b.pdcp (ends_between (stopped (Um b))) (goes (Um b) (Restart keys)) keys
 unfolding stopped restarted
-um_restarts b keys = record { between = (um_stopped b).pdcp; is = refl; ended = um.stop_ends b; after = ap (λ (e : Ends). Some e) (um.restart_is b keys) }
+um_restarts b keys = record {
+  between = (um_stopped b).pdcp;
+  is = refl;
+  ended = um.stop_ends b;
+  after = ap (λ (e : Ends). Some e) (um.restart_is b keys);
+}
 
-am_restarts : (b : AmState) (keys : Keys) → Restarted b.pdcp (ends_between (stopped (Am b))) (goes (Am b) (Restart keys)) keys
+am_restarts : (b : AmState) (keys : Keys)
+    → Restarted b.pdcp (ends_between (stopped (Am b))) (goes (Am b) (Restart keys)) keys
 unfolding stopped restarted
-am_restarts b keys = record { between = (am_stopped b).pdcp; is = refl; ended = am.stop_ends b; after = ap (λ (e : Ends). Some e) (am.restart_is b keys) }
+am_restarts b keys = record {
+  between = (am_stopped b).pdcp;
+  is = refl;
+  ended = am.stop_ends b;
+  after = ap (λ (e : Ends). Some e) (am.restart_is b keys);
+}
 
-pub restarts_as : (f : Flow) (e : Ends) (keys : Keys) → ends f ≡ Some e → Restarted e (ends_between (stopped f)) (goes f (Restart keys)) keys
+pub restarts_as : (f : Flow) (e : Ends) (keys : Keys) → ends f ≡ Some e
+    → Restarted e (ends_between (stopped f)) (goes f (Restart keys)) keys
 restarts_as (Tm b) e keys q = let no : None ≡ Some e = q in cc
-restarts_as (Um b) e keys q = let one : b.pdcp ≡ e = cc in subst (λ (d : Ends). Restarted d (ends_between (stopped (Um b))) (goes (Um b) (Restart keys)) keys) one (um_restarts b keys)
-restarts_as (Am b) e keys q = let one : b.pdcp ≡ e = cc in subst (λ (d : Ends). Restarted d (ends_between (stopped (Am b))) (goes (Am b) (Restart keys)) keys) one (am_restarts b keys)
+restarts_as (Um b) e keys q = let one : b.pdcp ≡ e = cc in
+    subst (λ (d : Ends). Restarted d (ends_between (stopped (Um b))) (goes (Um b) (Restart keys)) keys) one
+    (um_restarts b keys)
+restarts_as (Am b) e keys q = let one : b.pdcp ≡ e = cc in
+    subst (λ (d : Ends). Restarted d (ends_between (stopped (Am b))) (goes (Am b) (Restart keys)) keys) one
+    (am_restarts b keys)
 
 -- ---- through lives
 
@@ -206,24 +290,37 @@ pub record Lives (d : Ends) (g : Flow) (a : Doings) : Type 0 where
   pub passed : PassedLives d next a
 
 lives_on : (f : Flow) (e : Ends) (x : Step) → ends f ≡ Some e → Lives e (goes f x) (step_doing f x)
-lives_on f e (Calls c) q = let one = called f e c q in record { next = one.next; is = one.is; passed = passed_lives e one.next (doing f c) one.passed }
+lives_on f e (Calls c) q = let one = called f e c q in
+    record { next = one.next; is = one.is; passed = passed_lives e one.next (doing f c) one.passed }
 lives_on f e (Restart keys) q =
     let one = restarts_as f e keys q in
-    record { next = restarted_pdcp one.between keys; is = one.after; passed = ended_restarts e one.between keys one.ended }
+    record {
+      next = restarted_pdcp one.between keys;
+      is = one.after;
+      passed = ended_restarts e one.between keys one.ended;
+    }
 
 pub history : (f : Flow) (e : Ends) (xs : List Step) → ends f ≡ Some e → Lives e (run xs f) (all_doings f xs)
 history f e [] q = record { next = e; is = q; passed = passed_lives e e nothing (rests e) }
 history f e (x ∷ xs) q =
     let one = lives_on f e x q in
     let more = history (goes f x) one.next xs one.is in
-    record { next = more.next; is = more.is; passed = lives_then e one.next more.next (step_doing f x) (all_doings (goes f x) xs) one.passed more.passed }
+    record {
+      next = more.next;
+      is = more.is;
+      passed = lives_then e one.next more.next (step_doing f x) (all_doings (goes f x) xs) one.passed more.passed;
+    }
 
 -- ---- a transparent bearer has no PDCP
 
 pub none_after : (f : Flow) (c : Call) → ends f ≡ None → (ends (after f c) ≡ None) × (takes f c ≡ [])
 unfolding submitted taken_from arrived expired ticked with_discard
 none_after (Tm b) (Submit sdu) q = (refl, refl)
-none_after (Tm b) (Take share held) q = (refl, none_of (length (offers_of (ends (Tm b))) - length (offers_of (ends (after (Tm b) (Take share held))))) [] refl)
+none_after (Tm b) (Take share held) q = (
+  refl,
+  none_of (length (offers_of (ends (Tm b))) - length (offers_of (ends (after (Tm b) (Take share held))))) []
+      refl,
+)
 none_after (Tm b) (Arrive pdu) q = (refl, refl)
 none_after (Tm b) (Expire clock) q = (refl, refl)
 none_after (Tm b) Tick q = (refl, refl)

@@ -1,5 +1,6 @@
 -- What the end of a life and the beginning of the next keep.
-use Rattle.std.proofs.Common.{◌≡◌, ◌⊎◌, inl, inr, ◌≤◌, ℕ, ◌+◌, Bool, true, false, List, [], ◌∷◌, ◌++◌, map, Option, Some, None, subst, refl, ap, sym, ◌∙◌, arith}
+use Rattle.std.proofs.Common.{◌≡◌, ◌⊎◌, inl, inr, ◌≤◌, ℕ, ◌+◌, Bool, true, false, List, [], ◌∷◌, ◌++◌, map, Option}
+use Rattle.std.proofs.Common.{Some, None, subst, refl, ap, sym, ◌∙◌, arith}
 use Rattle.bearer_types.specs.declared.BearerConfig.{BearerConfig}
 use Rattle.eps_sec.specs.declared.Keys.{Keys}
 use Rattle.l2_num.specs.Ascending.{AreBetween}
@@ -26,7 +27,8 @@ use Rattle.law_bearer.proofs.AnyBearer.Streams.{Arrived, arrives}
 
 -- ---- what is taken again begins at the first unconfirmed COUNT
 
-open_step : (s : Sent) (es : List Entry) (b : Bool) → s.acked ≡ b → first_open es ≡ first_unacked (data_of es) → first_open (Data s ∷ es) ≡ first_unacked (s ∷ data_of es)
+open_step : (s : Sent) (es : List Entry) (b : Bool) → s.acked ≡ b → first_open es ≡ first_unacked (data_of es)
+    → first_open (Data s ∷ es) ≡ first_unacked (s ∷ data_of es)
 open_step s es true a h = rw a h
 open_step s es false a h = rw a refl
 
@@ -36,16 +38,20 @@ open_is_unacked (Data s ∷ es) = open_step s es s.acked refl (open_is_unacked e
 open_is_unacked (Own ∷ es) = open_is_unacked es
 open_is_unacked (Gone ∷ es) = open_is_unacked es
 
-both_step : (x : Sent) (xs ys : List Sent) (n : ℕ) (b : Bool) → x.acked ≡ b → or_else (first_unacked (xs ++ ys)) n ≡ or_else (first_unacked xs) (or_else (first_unacked ys) n)
+both_step : (x : Sent) (xs ys : List Sent) (n : ℕ) (b : Bool) → x.acked ≡ b
+    → or_else (first_unacked (xs ++ ys)) n ≡ or_else (first_unacked xs) (or_else (first_unacked ys) n)
     → or_else (first_unacked (x ∷ (xs ++ ys))) n ≡ or_else (first_unacked (x ∷ xs)) (or_else (first_unacked ys) n)
 both_step x xs ys n true a h = rw a h
 both_step x xs ys n false a h = rw a refl
 
-both_unacked : (xs ys : List Sent) (n : ℕ) → or_else (first_unacked (xs ++ ys)) n ≡ or_else (first_unacked xs) (or_else (first_unacked ys) n)
+both_unacked : (xs ys : List Sent) (n : ℕ)
+    → or_else (first_unacked (xs ++ ys)) n ≡ or_else (first_unacked xs) (or_else (first_unacked ys) n)
 both_unacked [] ys n = refl
 both_unacked (x ∷ xs) ys n = both_step x xs ys n x.acked refl (both_unacked xs ys n)
 
-head_step : (x : Sent) (xs : List Sent) (n : ℕ) (b : Bool) → x.acked ≡ b → first_again (from_unacked xs) n ≡ or_else (first_unacked xs) n → first_again (from_unacked (x ∷ xs)) n ≡ or_else (first_unacked (x ∷ xs)) n
+head_step : (x : Sent) (xs : List Sent) (n : ℕ) (b : Bool) → x.acked ≡ b
+    → first_again (from_unacked xs) n ≡ or_else (first_unacked xs) n
+    → first_again (from_unacked (x ∷ xs)) n ≡ or_else (first_unacked (x ∷ xs)) n
 head_step x xs n true a h = rw a h
 head_step x xs n false a h = rw a refl
 
@@ -85,7 +91,8 @@ srb_forgets e keys k ordered =
       };
     }
 
-um_keeps : (d e : Ends) (keys : Keys) (bits : ℕ) → Ended d e → AreOfKind (Um bits) e → IsOrdered (restarted e keys).tx → KeepsWaiting d (restarted e keys)
+um_keeps : (d e : Ends) (keys : Keys) (bits : ℕ) → Ended d e → AreOfKind (Um bits) e → IsOrdered (restarted e keys).tx
+    → KeepsWaiting d (restarted e keys)
 unfolding restarted restarted_sending restarted_receiving
 um_keeps d e keys bits h k ordered =
     let zero_next : (restarted e keys).tx.next ≡ 0 = rw (k.here, k.tx) refl in
@@ -104,7 +111,8 @@ um_keeps d e keys bits h k ordered =
       };
     }
 
-am_continues : (d e : Ends) (keys : Keys) (bits : ℕ) → Ended d e → AreOfKind (Am bits) e → Continues d e (restarted e keys)
+am_continues : (d e : Ends) (keys : Keys) (bits : ℕ) → Ended d e → AreOfKind (Am bits) e
+    → Continues d e (restarted e keys)
 unfolding restarted restarted_sending restarted_receiving
 am_continues d e keys bits h k = record {
   again = rw k.here (ap kept_again h.tx);
@@ -120,7 +128,8 @@ am_continues d e keys bits h k = record {
   held = rw k.rx refl;
 }
 
-by_kind : (kind : PdcpKind) (d e : Ends) (keys : Keys) → Ended d e → AreOfKind kind e → IsOrdered (restarted e keys).tx → Keeps kind d e (restarted e keys)
+by_kind : (kind : PdcpKind) (d e : Ends) (keys : Keys) → Ended d e → AreOfKind kind e
+    → IsOrdered (restarted e keys).tx → Keeps kind d e (restarted e keys)
 by_kind Srb d e keys h k ordered = srb_forgets e keys k ordered
 by_kind (Um bits) d e keys h k ordered = um_keeps d e keys bits h k ordered
 by_kind (Am bits) d e keys h k ordered = am_continues d e keys bits h k
@@ -129,23 +138,30 @@ by_kind (Am bits) d e keys h k ordered = am_continues d e keys bits h k
 
 ordered_by : (f : Flow) (e : Ends) → ends f ≡ Some e → (ends f ≡ None) ⊎ Arrived f → IsOrdered e.tx
 ordered_by f e q (inl n) = let no : None ≡ Some e = sym n ∙ q in cc
-ordered_by f e q (inr a) = let some : Some a.now ≡ Some e = sym a.is ∙ q in let same : a.now ≡ e = cc in subst (λ (x : Ends). IsOrdered x.tx) same a.ordered
+ordered_by f e q (inr a) = let some : Some a.now ≡ Some e = sym a.is ∙ q in let same : a.now ≡ e = cc in
+    subst (λ (x : Ends). IsOrdered x.tx) same a.ordered
 
-next_ordered : (c : BearerConfig) (first : Keys) (side : Side) (xs : List Step) (keys : Keys) (e : Ends) → ends (goes (reached c first side xs) (Restart keys)) ≡ Some e → IsOrdered e.tx
+next_ordered : (c : BearerConfig) (first : Keys) (side : Side) (xs : List Step) (keys : Keys) (e : Ends)
+    → ends (goes (reached c first side xs) (Restart keys)) ≡ Some e → IsOrdered e.tx
 next_ordered c first side xs keys e q =
-    let more : reached c first side (xs ++ Restart keys ∷ []) ≡ goes (reached c first side xs) (Restart keys) = run_more (flow_of c.kind c first side) xs (Restart keys ∷ []) in
-    ordered_by (reached c first side (xs ++ Restart keys ∷ [])) e (ap ends more ∙ q) (arrives c first side (xs ++ Restart keys ∷ []))
+    let more : reached c first side (xs ++ Restart keys ∷ []) ≡ goes (reached c first side xs) (Restart keys) =
+    run_more (flow_of c.kind c first side) xs (Restart keys ∷ []) in
+    ordered_by (reached c first side (xs ++ Restart keys ∷ [])) e (ap ends more ∙ q)
+    (arrives c first side (xs ++ Restart keys ∷ []))
 
 kind_by : (f : Flow) (d : Ends) → ends f ≡ Some d → (ends f ≡ None) ⊎ Arrived f → AreOfKind d.kind d
 kind_by f d q (inl n) = let no : None ≡ Some d = sym n ∙ q in cc
-kind_by f d q (inr a) = let some : Some a.now ≡ Some d = sym a.is ∙ q in let same : a.now ≡ d = cc in subst (λ (x : Ends). AreOfKind x.kind x) same a.kinds
+kind_by f d q (inr a) = let some : Some a.now ≡ Some d = sym a.is ∙ q in let same : a.now ≡ d = cc in
+    subst (λ (x : Ends). AreOfKind x.kind x) same a.kinds
 
 ended_kind : (d m : Ends) → Ended d m → AreOfKind d.kind d → AreOfKind d.kind m
 ended_kind d m h k = record { here = h.kind; tx = ap (λ (t : State). t.kind) h.tx ∙ k.tx; rx = h.rx ∙ k.rx }
 
-keeps : (keys : Keys) (d m e : Ends) → AreOfKind d.kind d → Ended d m → e ≡ restarted m keys → IsOrdered e.tx → Keeps d.kind d m e
+keeps : (keys : Keys) (d m e : Ends) → AreOfKind d.kind d → Ended d m → e ≡ restarted m keys → IsOrdered e.tx
+    → Keeps d.kind d m e
 keeps keys d m e k h q ordered =
-    subst (λ (x : Ends). Keeps d.kind d m x) (sym q) (by_kind d.kind d m keys h (ended_kind d m h k) (subst (λ (x : Ends). IsOrdered x.tx) q ordered))
+    subst (λ (x : Ends). Keeps d.kind d m x) (sym q)
+    (by_kind d.kind d m keys h (ended_kind d m h k) (subst (λ (x : Ends). IsOrdered x.tx) q ordered))
 
 pub restart_keeps : (c : BearerConfig) (first : Keys) (side : Side) (xs : List Step) (keys : Keys) (d m e : Ends)
     → ends (reached c first side xs) ≡ Some d

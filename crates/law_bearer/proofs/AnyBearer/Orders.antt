@@ -1,10 +1,12 @@
 -- In a life the report is taken first, and then SDUs by ascending COUNTs.
-use Rattle.std.proofs.Common.{◌≡◌, ◌≤◌, ℕ, ◌+◌, ◌-◌, Bool, true, false, List, [], ◌∷◌, ◌++◌, map, take, Option, Some, None, subst, refl, arith}
+use Rattle.std.proofs.Common.{◌≡◌, ◌≤◌, ℕ, ◌+◌, ◌-◌, Bool, true, false, List, [], ◌∷◌, ◌++◌, map, take, Option, Some}
+use Rattle.std.proofs.Common.{None, subst, refl, arith}
 use Rattle.l2_num.specs.Ascending.{AreBetween}
 use Rattle.pdcp_tx_store.specs.declared.given.Sent.{Sent}
 use Rattle.pdcp_tx_store.specs.Waiting.{Waits}
 use Rattle.pdcp_tx_store.specs.Given.{tells, untold}
-use Rattle.pdcp_tx.specs.State.{State, Offer, offers, owed_offers, again_offer, new_offers, submitted, took, took_owed, took_again, took_new, confirmed, reported, reported_from, fms_count, after_late}
+use Rattle.pdcp_tx.specs.State.{State, Offer, offers, owed_offers, again_offer, new_offers, submitted, took, took_owed}
+use Rattle.pdcp_tx.specs.State.{took_again, took_new, confirmed, reported, reported_from, fms_count, after_late}
 use Rattle.pdcp_tx.specs.Runs.{Submit, Take, Confirm, Report, Owe, Tick, Late, IsOrdered}
 use Rattle.law_pdcp.specs.OneEnd.Lives.{Step, Calls, SetDiscard, Restart, goes}
 use Rattle.law_bearer.specs.AnyBearer.Stream.{AreSdus, AreInOrder}
@@ -29,16 +31,23 @@ lower : (a b : ℕ) (ns : List ℕ) (end : ℕ) → a ≤ b → AreBetween b ns 
 lower a b [] end le h = omega (arith, h)
 lower a b (n ∷ ns) end le h = (omega (arith, h.0), h.1)
 
-untold_step : (low from : ℕ) (bitmap : List ℕ) (s : Sent) (ss : List Sent) (end : ℕ) (b : Bool) → tells from bitmap s.count ≡ b
-    → low ≤ s.count → AreBetween (s.count + 1) (counts (untold from bitmap ss)) end → AreBetween low (counts (untold from bitmap (s ∷ ss))) end
-untold_step low from bitmap s ss end true e le h = rw e (lower low (s.count + 1) (counts (untold from bitmap ss)) end (omega arith) h)
+untold_step : (low from : ℕ) (bitmap : List ℕ) (s : Sent) (ss : List Sent) (end : ℕ) (b : Bool)
+    → tells from bitmap s.count ≡ b
+    → low ≤ s.count → AreBetween (s.count + 1) (counts (untold from bitmap ss)) end
+    → AreBetween low (counts (untold from bitmap (s ∷ ss))) end
+untold_step low from bitmap s ss end true e le h =
+    rw e (lower low (s.count + 1) (counts (untold from bitmap ss)) end (omega arith) h)
 untold_step low from bitmap s ss end false e le h = rw e (le, h)
 
-untold_between : (low from : ℕ) (bitmap : List ℕ) (ss : List Sent) (end : ℕ) → AreBetween low (counts ss) end → AreBetween low (counts (untold from bitmap ss)) end
+untold_between : (low from : ℕ) (bitmap : List ℕ) (ss : List Sent) (end : ℕ) → AreBetween low (counts ss) end
+    → AreBetween low (counts (untold from bitmap ss)) end
 untold_between low from bitmap [] end h = h
-untold_between low from bitmap (s ∷ ss) end h = untold_step low from bitmap s ss end (tells from bitmap s.count) refl h.0 (untold_between (s.count + 1) from bitmap ss end h.1)
+untold_between low from bitmap (s ∷ ss) end h =
+    untold_step low from bitmap s ss end (tells from bitmap s.count) refl h.0
+    (untold_between (s.count + 1) from bitmap ss end h.1)
 
-reported_stands : (low : ℕ) (c : Option ℕ) (s : State) (bitmap : List ℕ) → Stands low s → Stands low (reported_from c s bitmap)
+reported_stands : (low : ℕ) (c : Option ℕ) (s : State) (bitmap : List ℕ) → Stands low s
+    → Stands low (reported_from c s bitmap)
 reported_stands low None s bitmap h = h
 reported_stands low (Some c) s bitmap h = untold_between low c bitmap s.again s.next h
 
@@ -60,19 +69,28 @@ new_then low (w ∷ ws) s rest o a le f =
     let behind : AreSdus (s.next + 1) rest = subst (λ r. AreFrom (s.next + 1) r rest) o (f (s.next + 1) (rw a begin)) in
     (record { count = s.next; is = refl; from = le }, behind)
 
-again_then : (low : ℕ) (ss : List Sent) (s : State) (rest : List Offer) → s.owed ≡ None → s.again ≡ ss → AreBetween low (counts ss) s.next
-    → Follows (took_again ss s) rest → AreSdus low (take 1 (map again_offer ss ++ new_offers s.next (take (s.bound - s.next) s.waiting)) ++ rest)
+again_then : (low : ℕ) (ss : List Sent) (s : State) (rest : List Offer) → s.owed ≡ None → s.again ≡ ss
+    → AreBetween low (counts ss) s.next
+    → Follows (took_again ss s) rest
+    → AreSdus low (take 1 (map again_offer ss ++ new_offers s.next (take (s.bound - s.next) s.waiting)) ++ rest)
 again_then low [] s rest o a h f = new_then low (take (s.bound - s.next) s.waiting) s rest o a h f
-again_then low (x ∷ xs) s rest o a h f = (record { count = x.count; is = refl; from = h.0 }, subst (λ r. AreFrom (x.count + 1) r rest) o (f (x.count + 1) h.1))
+again_then low (x ∷ xs) s rest o a h f = (
+  record { count = x.count; is = refl; from = h.0 },
+  subst (λ r. AreFrom (x.count + 1) r rest) o (f (x.count + 1) h.1),
+)
 
 owed_then : (low : ℕ) (o : Option (List ℕ)) (s : State) (rest : List Offer) → s.owed ≡ o → Stands low s
-    → Follows (took_owed o s) rest → AreFrom low o (take 1 (owed_offers o ++ map again_offer s.again ++ new_offers s.next (take (s.bound - s.next) s.waiting)) ++ rest)
+    → Follows (took_owed o s) rest
+    → AreFrom low o
+    (take 1 (owed_offers o ++ map again_offer s.again ++ new_offers s.next (take (s.bound - s.next) s.waiting))
+    ++ rest)
 owed_then low None s rest o h f = again_then low s.again s rest o refl h f
 owed_then low (Some r) s rest o h f = (refl, f low h)
 
 -- ---- any steps
 
-pub from_on : (low : ℕ) (s : State) (xs : List Step) → AreOfLife xs → Stands low s → AreFrom low s.owed (doings s xs).taken
+pub from_on : (low : ℕ) (s : State) (xs : List Step) → AreOfLife xs → Stands low s
+    → AreFrom low s.owed (doings s xs).taken
 unfolding submitted took confirmed reported after_late offers
 from_on low s [] l h = nothing s.owed
   where
@@ -80,10 +98,12 @@ from_on low s [] l h = nothing s.owed
     nothing None = tt
     nothing (Some r) = tt
 from_on low s (Calls (Submit sdu) ∷ xs) l h = from_on low (submitted s sdu) xs l.1 h
-from_on low s (Calls Take ∷ xs) l h = owed_then low s.owed s (doings (took s) xs).taken refl h (λ n g. from_on n (took s) xs l.1 g)
+from_on low s (Calls Take ∷ xs) l h =
+    owed_then low s.owed s (doings (took s) xs).taken refl h (λ n g. from_on n (took s) xs l.1 g)
 from_on low s (Calls (Confirm place) ∷ xs) l h = from_on low (confirmed s place) xs l.1 h
 from_on low s (Calls (Report fms bitmap) ∷ xs) l h =
-    subst (λ r. AreFrom low r (doings (reported s fms bitmap) xs).taken) (report_owed (fms_count s.kind s.base fms) s bitmap)
+    subst (λ r. AreFrom low r (doings (reported s fms bitmap) xs).taken)
+    (report_owed (fms_count s.kind s.base fms) s bitmap)
     (from_on low (reported s fms bitmap) xs l.1 (reported_stands low (fms_count s.kind s.base fms) s bitmap h))
 from_on low s (Calls (Owe report) ∷ xs) l h = absurd l.0
 from_on low s (Calls Tick ∷ xs) l h = from_on low (goes s (Calls Tick)) xs l.1 h

@@ -1,5 +1,6 @@
 -- What PDCP's two ends do, as steps of the sender.
-use Rattle.std.proofs.Common.{◌≡◌, ℕ, Bool, true, false, ◌&&◌, if◌then◌else◌, List, [], ◌∷◌, ◌++◌, Option, Some, None, subst, refl, ap, sym, ◌∙◌}
+use Rattle.std.proofs.Common.{◌≡◌, ℕ, Bool, true, false, ◌&&◌, if◌then◌else◌, List, [], ◌∷◌, ◌++◌, Option, Some, None}
+use Rattle.std.proofs.Common.{subst, refl, ap, sym, ◌∙◌}
 use Rattle.eps_sec.specs.declared.Keys.{Keys}
 use Rattle.pdcp_pdu.specs.declared.PdcpKind.{PdcpKind}
 use Rattle.pdcp_pdu.specs.Kinds.{is_am}
@@ -10,7 +11,8 @@ use Rattle.pdcp_rx.specs.declared.Got.TheVariants as got_as
 use Rattle.pdcp_rx.specs.Laws.{Arrive, happens}
 use Rattle.pdcp_rx.specs.State.{State as Receiving, got, arrived, restarted as restarted_receiving}
 use Rattle.pdcp_tx_store.specs.Waiting.{Waits}
-use Rattle.pdcp_tx.specs.State.{State, Offer, offers, took, taking, is_overdue, after_late, reported, ticked, restarted as restarted_sending}
+use Rattle.pdcp_tx.specs.State.{State, Offer, offers, took, taking, is_overdue, after_late, reported, ticked}
+use Rattle.pdcp_tx.specs.State.{restarted as restarted_sending}
 use Rattle.law_pdcp.specs.OneEnd.Lives.{Step, Calls as Calling, goes, run, leaves}
 use Rattle.pdcp_tx.specs.Runs.{Late}
 use Rattle.law_pdcp.proofs.OneEnd.KindStays.{kind_stays as sending_kind}
@@ -22,7 +24,8 @@ use Rattle.bearer_pdcp.specs.Discarding.{without_late, after_tick}
 use Rattle.bearer_pdcp.specs.Lives.{report_of, owing_report, restarted}
 use Rattle.bearer_pdcp.specs.Taking.{taken, after_taking}
 use Rattle.law_bearer.specs.AnyBearer.Stream.{pdu_of}
-use Rattle.law_bearer.proofs.AnyBearer.Sender.{Doings, nothing, also, leaving, Moved, Lived, still, moved_then, lived, lived_then, reports, ticks_once, drops_one, restarts, owes}
+use Rattle.law_bearer.proofs.AnyBearer.Sender.{Doings, nothing, also, leaving, Moved, Lived, still, moved_then, lived}
+use Rattle.law_bearer.proofs.AnyBearer.Sender.{lived_then, reports, ticks_once, drops_one, restarts, owes}
 
 -- ---- PDCP of a bearer comes from one state to another, and PDUs are taken: within a life, or through lives
 
@@ -43,13 +46,21 @@ pub by_tx : (e : Ends) (t : State) (a : Doings) → Moved e.tx t a → Passed e 
 by_tx e t a m = record { tx = m; kind = refl; rx = refl }
 
 pub passed_then : (d e g : Ends) (a b : Doings) → Passed d e a → Passed e g b → Passed d g (also a b)
-passed_then d e g a b m n = record { tx = moved_then d.tx e.tx g.tx a b m.tx n.tx; kind = n.kind ∙ m.kind; rx = n.rx ∙ m.rx }
+passed_then d e g a b m n = record {
+  tx = moved_then d.tx e.tx g.tx a b m.tx n.tx;
+  kind = n.kind ∙ m.kind;
+  rx = n.rx ∙ m.rx;
+}
 
 pub passed_lives : (d e : Ends) (a : Doings) → Passed d e a → PassedLives d e a
 passed_lives d e a m = record { tx = lived d.tx e.tx a m.tx; kind = m.kind; rx = m.rx }
 
 pub lives_then : (d e g : Ends) (a b : Doings) → PassedLives d e a → PassedLives e g b → PassedLives d g (also a b)
-lives_then d e g a b m n = record { tx = lived_then d.tx e.tx g.tx a b m.tx n.tx; kind = n.kind ∙ m.kind; rx = n.rx ∙ m.rx }
+lives_then d e g a b m n = record {
+  tx = lived_then d.tx e.tx g.tx a b m.tx n.tx;
+  kind = n.kind ∙ m.kind;
+  rx = n.rx ∙ m.rx;
+}
 
 -- ---- a PDU is taken
 
@@ -67,7 +78,8 @@ pdcp_rest e = (refl, refl)
 
 -- ---- a PDU is heard
 
-report_by : (b : Bool) (e : Ends) (fms : ℕ) (bitmap : List ℕ) → Passed e (if b then record e { tx = reported e.tx fms bitmap } else e) nothing
+report_by : (b : Bool) (e : Ends) (fms : ℕ) (bitmap : List ℕ)
+    → Passed e (if b then record e { tx = reported e.tx fms bitmap } else e) nothing
 report_by true e fms bitmap = by_tx e (reported e.tx fms bitmap) nothing (reports e.tx fms bitmap)
 report_by false e fms bitmap = rests e
 
@@ -87,7 +99,8 @@ arrived_kind r pdu cause = kind_stays r (Calls (Arrive pdu cause))
 pub hearing_moves : (pdu : List ℕ) (cause : Cause) (e : Ends) → Passed e (after_hearing pdu cause e) nothing
 unfolding after_hearing
 hearing_moves pdu cause e =
-    passed_then e (with_arrived pdu cause e) (got_left (got e.rx pdu cause) cause (with_arrived pdu cause e)) nothing nothing
+    passed_then e (with_arrived pdu cause e) (got_left (got e.rx pdu cause) cause (with_arrived pdu cause e)) nothing
+    nothing
     (record { tx = still e.tx; kind = refl; rx = arrived_kind e.rx pdu cause })
     (got_moves (got e.rx pdu cause) cause (with_arrived pdu cause e))
 
@@ -104,7 +117,8 @@ ends_as e = record { tx = refl; kind = refl; rx = refl }
 pub ended_then : (d e g : Ends) → Ended d e → Ended e g → Ended d g
 ended_then d e g m n = record { tx = n.tx ∙ m.tx; kind = n.kind ∙ m.kind; rx = n.rx ∙ m.rx }
 
-last_by : (b : Bool) (e : Ends) (fms : ℕ) (bitmap : List ℕ) → Ended e (if b && false then record e { tx = reported e.tx fms bitmap } else e)
+last_by : (b : Bool) (e : Ends) (fms : ℕ) (bitmap : List ℕ)
+    → Ended e (if b && false then record e { tx = reported e.tx fms bitmap } else e)
 last_by true e fms bitmap = ends_as e
 last_by false e fms bitmap = ends_as e
 
@@ -120,7 +134,8 @@ got_last (got_as.Unreadable fault) e = ends_as e
 pub last_one : (pdu : List ℕ) (e : Ends) → Ended e (after_hearing pdu Reestablished e)
 unfolding after_hearing
 last_one pdu e =
-    ended_then e (with_arrived pdu Reestablished e) (got_left (got e.rx pdu Reestablished) Reestablished (with_arrived pdu Reestablished e))
+    ended_then e (with_arrived pdu Reestablished e)
+    (got_left (got e.rx pdu Reestablished) Reestablished (with_arrived pdu Reestablished e))
     (record { tx = refl; kind = refl; rx = arrived_kind e.rx pdu Reestablished })
     (got_last (got e.rx pdu Reestablished) (with_arrived pdu Reestablished e))
 
@@ -131,7 +146,8 @@ abbrev pub lates : List Waits → State → List (List ℕ)
 lates [] s = []
 lates (w ∷ ws) s = if is_overdue s then leaves s (Calling Late) ++ lates ws (after_late s) else []
 
-late_by : (b : Bool) (s t : State) (sdus : List (List ℕ)) → Moved s t (leaving sdus) → Moved s (if b then t else s) (leaving (if b then sdus else []))
+late_by : (b : Bool) (s t : State) (sdus : List (List ℕ)) → Moved s t (leaving sdus)
+    → Moved s (if b then t else s) (leaving (if b then sdus else []))
 late_by true s t sdus m = m
 late_by false s t sdus m = still s
 
@@ -139,7 +155,8 @@ lates_move : (ws : List Waits) (s : State) → Moved s (without_late ws s) (leav
 lates_move [] s = still s
 lates_move (w ∷ ws) s =
     late_by (is_overdue s) s (without_late ws (after_late s)) (leaves s (Calling Late) ++ lates ws (after_late s))
-    (moved_then s (after_late s) (without_late ws (after_late s)) (leaving (leaves s (Calling Late))) (leaving (lates ws (after_late s))) (drops_one s) (lates_move ws (after_late s)))
+    (moved_then s (after_late s) (without_late ws (after_late s)) (leaving (leaves s (Calling Late)))
+    (leaving (lates ws (after_late s))) (drops_one s) (lates_move ws (after_late s)))
 
 abbrev pub tick_lates : Ends → List (List ℕ)
 tick_lates e = lates e.tx.waiting (ticked e.tx)
@@ -148,7 +165,8 @@ pub tick_moves : (e : Ends) → Passed e (after_tick e) (leaving (tick_lates e))
 unfolding after_tick
 tick_moves e =
     by_tx e (without_late e.tx.waiting (ticked e.tx)) (leaving (tick_lates e))
-    (moved_then e.tx (ticked e.tx) (without_late e.tx.waiting (ticked e.tx)) nothing (leaving (tick_lates e)) (ticks_once e.tx) (lates_move e.tx.waiting (ticked e.tx)))
+    (moved_then e.tx (ticked e.tx) (without_late e.tx.waiting (ticked e.tx)) nothing (leaving (tick_lates e))
+    (ticks_once e.tx) (lates_move e.tx.waiting (ticked e.tx)))
 
 -- ---- the next life
 
@@ -160,7 +178,8 @@ pub pdcp_restarts : (e : Ends) (keys : Keys) → PassedLives e (restarted e keys
 unfolding restarted restarted_receiving
 pdcp_restarts e keys = record {
   tx =
-      lived_then e.tx (restarted_sending e.tx keys) (owing_report (report_of e.kind e.rx) (restarted_sending e.tx keys)) nothing nothing
+      lived_then e.tx (restarted_sending e.tx keys)
+      (owing_report (report_of e.kind e.rx) (restarted_sending e.tx keys)) nothing nothing
       (restarts e.tx keys) (owing_lives (report_of e.kind e.rx) (restarted_sending e.tx keys));
   kind = refl;
   rx = refl;
@@ -169,7 +188,11 @@ pdcp_restarts e keys = record {
 pub ended_restarts : (d e : Ends) (keys : Keys) → Ended d e → PassedLives d (restarted e keys) nothing
 ended_restarts d e keys h =
     let m = pdcp_restarts e keys in
-    record { tx = subst (λ (t : State). Lived t (restarted e keys).tx nothing) h.tx m.tx; kind = m.kind ∙ h.kind; rx = m.rx ∙ h.rx }
+    record {
+      tx = subst (λ (t : State). Lived t (restarted e keys).tx nothing) h.tx m.tx;
+      kind = m.kind ∙ h.kind;
+      rx = m.rx ∙ h.rx;
+    }
 
 -- the kinds of both ends are that of the bearer
 pub record AreOfKind (kind : PdcpKind) (e : Ends) : Type 0 where

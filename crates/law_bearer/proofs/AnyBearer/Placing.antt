@@ -1,5 +1,7 @@
 -- What PDCP keeps stands at its place in the stream.
-use Rattle.std.proofs.Common.{◌≡◌, ℕ, zero, suc, ◌+◌, ◌-◌, ◌≤◌, Bool, true, false, if◌then◌else◌, nat_lt, List, [], ◌∷◌, ◌++◌, map, take, drop, length, Option, Some, None, slice_get, slice_set, append_assoc, length-append, subst, refl, ap, sym, ◌∙◌, arith}
+use Rattle.std.proofs.Common.{◌≡◌, ℕ, zero, suc, ◌+◌, ◌-◌, ◌≤◌, Bool, true, false, if◌then◌else◌, nat_lt, List, [], ◌∷◌}
+use Rattle.std.proofs.Common.{◌++◌, map, take, drop, length, Option, Some, None, slice_get, slice_set, append_assoc}
+use Rattle.std.proofs.Common.{length-append, subst, refl, ap, sym, ◌∙◌, arith}
 use Rattle.std.proofs.lemmas.List.{append-nil, length-drop}
 use Rattle.bearer_types.specs.declared.BearerConfig.{BearerConfig}
 use Rattle.eps_sec.specs.declared.Keys.{Keys}
@@ -13,15 +15,19 @@ use Rattle.pdcp_tx_store.specs.declared.given.Sent.{Sent}
 use Rattle.pdcp_tx_store.specs.declared.given.Entry.{Entry}
 use Rattle.pdcp_tx_store.specs.declared.given.Entry.TheVariants.{Data, Own, Gone}
 use Rattle.pdcp_tx_store.specs.Waiting.{Waits}
-use Rattle.pdcp_tx_store.specs.Given.{Given, is_open, trimmed, closed, settled, with_entry, acked, acked_at, entry_at, with_ack, tells, heard, with_report}
-use Rattle.pdcp_tx.specs.State.{State, Offer, offers, owed_offers, again_offer, new_offers, start, submitted, took, took_owed, took_again, took_new, confirmed, reported, reported_from, fms_count, after_late, restarted as restarted_sending}
+use Rattle.pdcp_tx_store.specs.Given.{Given, is_open, trimmed, closed, settled, with_entry, acked, acked_at, entry_at}
+use Rattle.pdcp_tx_store.specs.Given.{with_ack, tells, heard, with_report}
+use Rattle.pdcp_tx.specs.State.{State, Offer, offers, owed_offers, again_offer, new_offers, start, submitted, took}
+use Rattle.pdcp_tx.specs.State.{took_owed, took_again, took_new, confirmed, reported, reported_from, fms_count}
+use Rattle.pdcp_tx.specs.State.{after_late, restarted as restarted_sending}
 use Rattle.pdcp_tx.specs.Runs.{Submit, Take, Confirm, Report, Owe, Tick, Late}
 use Rattle.law_pdcp.specs.OneEnd.Lives.{Step, Calls, SetDiscard, Restart, goes, run}
 use Rattle.bearer_pdcp.specs.Ends.{Ends, begun}
 use Rattle.bearer_pdcp.specs.Lives.{owing_report, report_of, restarted}
 use Rattle.bearer.specs.declared.flow.Flow.{Flow}
 use Rattle.bearer.specs.Bearer.{flow_of}
-use Rattle.law_bearer.specs.AnyBearer.Calls.{Step as BearerStep, Restart as Next, goes as bearer_goes, run as bearer_run, reached, ends}
+use Rattle.law_bearer.specs.AnyBearer.Calls.{Step as BearerStep, Restart as Next, goes as bearer_goes}
+use Rattle.law_bearer.specs.AnyBearer.Calls.{run as bearer_run, reached, ends}
 use Rattle.law_bearer.specs.AnyBearer.Stream.{taken}
 use Rattle.law_bearer.specs.AnyBearer.Places.{IsOf, AreOf, AreAtPlaces, KeepsPlaces}
 use Rattle.law_bearer.proofs.AnyBearer.Sender.{Doings, takes_at, doings, IsOfLife, AreOfLife, run_same, none_left}
@@ -31,7 +37,8 @@ use Rattle.law_bearer.proofs.AnyBearer.Streams.{begun_kind, am_begins}
 
 -- ---- entries
 
-one_more : (es : List Entry) (os : List Offer) (e : Entry) (o : Offer) → AreOf es os → IsOf e o → AreOf (es ++ e ∷ []) (os ++ o ∷ [])
+one_more : (es : List Entry) (os : List Offer) (e : Entry) (o : Offer) → AreOf es os → IsOf e o
+    → AreOf (es ++ e ∷ []) (os ++ o ∷ [])
 one_more [] [] e o h i = (i, tt)
 one_more [] (x ∷ os) e o h i = absurd h
 one_more (x ∷ es) [] e o h i = absurd h
@@ -42,20 +49,25 @@ drop_more zero os o h = refl
 drop_more (suc n) [] o h = absurd (omega (arith, h))
 drop_more (suc n) (x ∷ os) o h = drop_more n os o (omega (arith, h))
 
-entry_places : (g : Given) (os : List Offer) (e : Entry) (o : Offer) → AreAtPlaces g os → IsOf e o → AreAtPlaces (with_entry g e) (os ++ o ∷ [])
+entry_places : (g : Given) (os : List Offer) (e : Entry) (o : Offer) → AreAtPlaces g os → IsOf e o
+    → AreAtPlaces (with_entry g e) (os ++ o ∷ [])
 entry_places g os e o h i =
     let len = length-append os (o ∷ []) in
     record {
       few = omega (arith, len, h.few);
-      entries = subst (AreOf (g.entries ++ e ∷ [])) (sym (drop_more g.gone os o h.few)) (one_more g.entries (drop g.gone os) e o h.entries i);
+      entries = subst (AreOf (g.entries ++ e ∷ [])) (sym (drop_more g.gone os o h.few))
+          (one_more g.entries (drop g.gone os) e o h.entries i);
     }
 
 drop_further : (n m : ℕ) (os : List Offer) → drop (n + m) os ≡ drop m (drop n os)
 drop_further zero m os = let e : 0 + m ≡ m = omega arith in ap (λ k. drop k os) e
 drop_further (suc n) m [] = none_left (suc n + m) [] refl ∙ sym (none_left m (drop (suc n) []) refl)
-drop_further (suc n) m (x ∷ os) = let e : suc n + m ≡ suc (n + m) = omega arith in ap (λ k. drop k (x ∷ os)) e ∙ drop_further n m os
+drop_further (suc n) m (x ∷ os) = let e : suc n + m ≡ suc (n + m) = omega arith in
+    ap (λ k. drop k (x ∷ os)) e ∙ drop_further n m os
 
-closed_step : (e : Entry) (es : List Entry) (o : Offer) (os : List Offer) (b : Bool) → is_open e ≡ b → AreOf (e ∷ es) (o ∷ os) → AreOf (trimmed es) (drop (closed es) os) → AreOf (trimmed (e ∷ es)) (drop (closed (e ∷ es)) (o ∷ os))
+closed_step : (e : Entry) (es : List Entry) (o : Offer) (os : List Offer) (b : Bool) → is_open e ≡ b
+    → AreOf (e ∷ es) (o ∷ os) → AreOf (trimmed es) (drop (closed es) os)
+    → AreOf (trimmed (e ∷ es)) (drop (closed (e ∷ es)) (o ∷ os))
 closed_step e es o os true a h k = rw a h
 closed_step e es o os false a h k =
     let one : 1 + closed es ≡ suc (closed es) = omega arith in
@@ -67,7 +79,8 @@ trim_places [] (o ∷ os) h = absurd h
 trim_places (e ∷ es) [] h = absurd h
 trim_places (e ∷ es) (o ∷ os) h = closed_step e es o os (is_open e) refl h (trim_places es os h.1)
 
-few_step : (e : Entry) (es : List Entry) (b : Bool) → is_open e ≡ b → closed es ≤ length es → closed (e ∷ es) ≤ length (e ∷ es)
+few_step : (e : Entry) (es : List Entry) (b : Bool) → is_open e ≡ b → closed es ≤ length es
+    → closed (e ∷ es) ≤ length (e ∷ es)
 few_step e es true a h = rw a (omega arith)
 few_step e es false a h = rw a (omega (arith, h))
 
@@ -88,7 +101,8 @@ settled_places g os h =
     let few = few_closed g.entries in
     record {
       few = omega (arith, many, rest, few, h.few);
-      entries = subst (AreOf (trimmed g.entries)) (sym (drop_further g.gone (closed g.entries) os)) (trim_places g.entries (drop g.gone os) h.entries);
+      entries = subst (AreOf (trimmed g.entries)) (sym (drop_further g.gone (closed g.entries) os))
+          (trim_places g.entries (drop g.gone os) h.entries);
     }
 
 -- ---- a confirmation, and a report
@@ -98,7 +112,8 @@ acked_of (Data x) o h = h
 acked_of Own o h = tt
 acked_of Gone o h = tt
 
-set_places : (es : List Entry) (os : List Offer) (k : ℕ) (e : Entry) → AreOf es os → slice_get es k ≡ Some e → AreOf (slice_set es k (acked e)) os
+set_places : (es : List Entry) (os : List Offer) (k : ℕ) (e : Entry) → AreOf es os → slice_get es k ≡ Some e
+    → AreOf (slice_set es k (acked e)) os
 set_places [] os k e h q = let no : None ≡ Some e = q in cc
 set_places (x ∷ es) [] k e h q = absurd h
 set_places (x ∷ es) (o ∷ os) zero e h q =
@@ -107,21 +122,27 @@ set_places (x ∷ es) (o ∷ os) zero e h q =
     (acked_of e o (subst (λ (y : Entry). IsOf y o) same h.0), h.1)
 set_places (x ∷ es) (o ∷ os) (suc k) e h q = (h.0, set_places es os k e h.1 q)
 
-ack_by : (es : List Entry) (os : List Offer) (k : ℕ) (at : Option Entry) → ((e : Entry) → at ≡ Some e → slice_get es k ≡ Some e) → AreOf es os → AreOf (acked_at at es k) os
+ack_by : (es : List Entry) (os : List Offer) (k : ℕ) (at : Option Entry)
+    → ((e : Entry) → at ≡ Some e → slice_get es k ≡ Some e) → AreOf es os → AreOf (acked_at at es k) os
 ack_by es os k None f h = h
 ack_by es os k (Some e) f h = set_places es os k e h (f e refl)
 
-entry_is : (g : Given) (place : ℕ) (b : Bool) (e : Entry) → nat_lt place g.gone ≡ b → entry_at g place ≡ Some e → slice_get g.entries (place - g.gone) ≡ Some e
-entry_is g place true e a q = let no : None ≡ Some e = subst (λ (t : Bool). (if t then None else slice_get g.entries (place - g.gone)) ≡ Some e) a q in cc
-entry_is g place false e a q = subst (λ (t : Bool). (if t then None else slice_get g.entries (place - g.gone)) ≡ Some e) a q
+entry_is : (g : Given) (place : ℕ) (b : Bool) (e : Entry) → nat_lt place g.gone ≡ b → entry_at g place ≡ Some e
+    → slice_get g.entries (place - g.gone) ≡ Some e
+entry_is g place true e a q = let no : None ≡ Some e =
+    subst (λ (t : Bool). (if t then None else slice_get g.entries (place - g.gone)) ≡ Some e) a q in cc
+entry_is g place false e a q =
+    subst (λ (t : Bool). (if t then None else slice_get g.entries (place - g.gone)) ≡ Some e) a q
 
 ack_places : (g : Given) (place : ℕ) (os : List Offer) → AreAtPlaces g os → AreAtPlaces (with_ack g place) os
 ack_places g place os h = record {
   few = h.few;
-  entries = ack_by g.entries (drop g.gone os) (place - g.gone) (entry_at g place) (λ e q. entry_is g place (nat_lt place g.gone) e refl q) h.entries;
+  entries = ack_by g.entries (drop g.gone os) (place - g.gone) (entry_at g place)
+      (λ e q. entry_is g place (nat_lt place g.gone) e refl q) h.entries;
 }
 
-heard_step : (from : ℕ) (bitmap : List ℕ) (x : Sent) (o : Offer) (b : Bool) → tells from bitmap x.count ≡ b → IsOf (Data x) o → IsOf (heard from bitmap (Data x)) o
+heard_step : (from : ℕ) (bitmap : List ℕ) (x : Sent) (o : Offer) (b : Bool) → tells from bitmap x.count ≡ b
+    → IsOf (Data x) o → IsOf (heard from bitmap (Data x)) o
 heard_step from bitmap x o true a h = rw a tt
 heard_step from bitmap x o false a h = rw a h
 
@@ -130,46 +151,63 @@ heard_of from bitmap (Data x) o h = heard_step from bitmap x o (tells from bitma
 heard_of from bitmap Own o h = h
 heard_of from bitmap Gone o h = h
 
-hear_places : (from : ℕ) (bitmap : List ℕ) (es : List Entry) (os : List Offer) → AreOf es os → AreOf (map (heard from bitmap) es) os
+hear_places : (from : ℕ) (bitmap : List ℕ) (es : List Entry) (os : List Offer) → AreOf es os
+    → AreOf (map (heard from bitmap) es) os
 hear_places from bitmap [] os h = h
 hear_places from bitmap (e ∷ es) [] h = absurd h
 hear_places from bitmap (e ∷ es) (o ∷ os) h = (heard_of from bitmap e o h.0, hear_places from bitmap es os h.1)
 
-report_places : (s : State) (c : Option ℕ) (bitmap : List ℕ) (os : List Offer) → AreAtPlaces s.given os → AreAtPlaces (reported_from c s bitmap).given os
+report_places : (s : State) (c : Option ℕ) (bitmap : List ℕ) (os : List Offer) → AreAtPlaces s.given os
+    → AreAtPlaces (reported_from c s bitmap).given os
 report_places s None bitmap os h = h
-report_places s (Some from) bitmap os h = settled_places (with_report s.given from bitmap) os (record { few = h.few; entries = hear_places from bitmap s.given.entries (drop s.given.gone os) h.entries })
+report_places s (Some from) bitmap os h =
+    settled_places (with_report s.given from bitmap) os
+    (record { few = h.few; entries = hear_places from bitmap s.given.entries (drop s.given.gone os) h.entries })
 
 -- ---- a take
 
-new_places : (s : State) (ws : List Waits) (os : List Offer) → is_am s.kind ≡ true → AreAtPlaces s.given os → AreAtPlaces (took_new ws s).given (os ++ take 1 (new_offers s.next ws))
+new_places : (s : State) (ws : List Waits) (os : List Offer) → is_am s.kind ≡ true → AreAtPlaces s.given os
+    → AreAtPlaces (took_new ws s).given (os ++ take 1 (new_offers s.next ws))
 new_places s [] os am h = subst (AreAtPlaces s.given) (sym (append-nil os)) h
-new_places s (w ∷ ws) os am h = rw am (entry_places s.given os (Data (record { count = s.next; octets = w.sdu; acked = false })) (record { count = Some s.next; text = w.sdu }) h (refl, refl))
+new_places s (w ∷ ws) os am h =
+    rw am (entry_places s.given os (Data (record { count = s.next; octets = w.sdu; acked = false }))
+    (record { count = Some s.next; text = w.sdu }) h (refl, refl))
 
 again_places : (s : State) (ss : List Sent) (os : List Offer) → is_am s.kind ≡ true → AreAtPlaces s.given os
-    → AreAtPlaces (took_again ss s).given (os ++ take 1 (map again_offer ss ++ new_offers s.next (take (s.bound - s.next) s.waiting)))
+    → AreAtPlaces (took_again ss s).given
+    (os ++ take 1 (map again_offer ss ++ new_offers s.next (take (s.bound - s.next) s.waiting)))
 again_places s [] os am h = new_places s (take (s.bound - s.next) s.waiting) os am h
-again_places s (x ∷ xs) os am h = settled_places (with_entry s.given (Data x)) (os ++ again_offer x ∷ []) (entry_places s.given os (Data x) (again_offer x) h (refl, refl))
+again_places s (x ∷ xs) os am h =
+    settled_places (with_entry s.given (Data x)) (os ++ again_offer x ∷ [])
+    (entry_places s.given os (Data x) (again_offer x) h (refl, refl))
 
 owed_places : (s : State) (o : Option (List ℕ)) (os : List Offer) → is_am s.kind ≡ true → AreAtPlaces s.given os
-    → AreAtPlaces (took_owed o s).given (os ++ take 1 (owed_offers o ++ map again_offer s.again ++ new_offers s.next (take (s.bound - s.next) s.waiting)))
+    → AreAtPlaces (took_owed o s).given
+    (os ++ take 1 (owed_offers o ++ map again_offer s.again ++ new_offers s.next (take (s.bound - s.next) s.waiting)))
 owed_places s None os am h = again_places s s.again os am h
 owed_places s (Some report) os am h = entry_places s.given os Own (record { count = None; text = report }) h refl
 
 -- ---- any steps
 
-step_places : (s : State) (x : Step) (os : List Offer) → IsOfLife x → is_am s.kind ≡ true → AreAtPlaces s.given os → AreAtPlaces (goes s x).given (os ++ takes_at s x)
+step_places : (s : State) (x : Step) (os : List Offer) → IsOfLife x → is_am s.kind ≡ true → AreAtPlaces s.given os
+    → AreAtPlaces (goes s x).given (os ++ takes_at s x)
 unfolding submitted took confirmed reported after_late offers
 step_places s (Calls (Submit sdu)) os l am h = subst (AreAtPlaces s.given) (sym (append-nil os)) h
 step_places s (Calls Take) os l am h = owed_places s s.owed os am h
-step_places s (Calls (Confirm place)) os l am h = subst (AreAtPlaces (confirmed s place).given) (sym (append-nil os)) (settled_places (with_ack s.given place) os (ack_places s.given place os h))
-step_places s (Calls (Report fms bitmap)) os l am h = subst (AreAtPlaces (reported s fms bitmap).given) (sym (append-nil os)) (report_places s (fms_count s.kind s.base fms) bitmap os h)
+step_places s (Calls (Confirm place)) os l am h =
+    subst (AreAtPlaces (confirmed s place).given) (sym (append-nil os))
+    (settled_places (with_ack s.given place) os (ack_places s.given place os h))
+step_places s (Calls (Report fms bitmap)) os l am h =
+    subst (AreAtPlaces (reported s fms bitmap).given) (sym (append-nil os))
+    (report_places s (fms_count s.kind s.base fms) bitmap os h)
 step_places s (Calls (Owe report)) os l am h = absurd l
 step_places s (Calls Tick) os l am h = subst (AreAtPlaces s.given) (sym (append-nil os)) h
 step_places s (Calls Late) os l am h = subst (AreAtPlaces s.given) (sym (append-nil os)) h
 step_places s (SetDiscard ttis) os l am h = subst (AreAtPlaces s.given) (sym (append-nil os)) h
 step_places s (Restart keys) os l am h = absurd l
 
-run_places : (s : State) (xs : List Step) (os : List Offer) → AreOfLife xs → is_am s.kind ≡ true → AreAtPlaces s.given os → AreAtPlaces (run xs s).given (os ++ (doings s xs).taken)
+run_places : (s : State) (xs : List Step) (os : List Offer) → AreOfLife xs → is_am s.kind ≡ true
+    → AreAtPlaces s.given os → AreAtPlaces (run xs s).given (os ++ (doings s xs).taken)
 run_places s [] os l am h = subst (AreAtPlaces s.given) (sym (append-nil os)) h
 run_places s (x ∷ xs) os l am h =
     let kind = (run_same s (x ∷ []) (l.0, tt)).kind in
@@ -178,7 +216,8 @@ run_places s (x ∷ xs) os l am h =
 
 -- ---- a life from its beginning on
 
-life_places : (f : Flow) (e : Ends) → ends f ≡ Some e → is_am e.tx.kind ≡ true → e.tx.given ≡ record { gone = 0; entries = [] } → KeepsPlaces f
+life_places : (f : Flow) (e : Ends) → ends f ≡ Some e → is_am e.tx.kind ≡ true
+    → e.tx.given ≡ record { gone = 0; entries = [] } → KeepsPlaces f
 life_places f e q am g cs d r =
     let l = life f e cs q in
     let some : Some l.next ≡ Some d = sym l.is ∙ r in
@@ -191,7 +230,8 @@ life_places f e q am g cs d r =
     (subst (λ (t : State). AreAtPlaces t.given (doings e.tx l.passed.tx.steps).taken) (sym l.passed.tx.left) here) in
     subst (λ (x : Ends). AreAtPlaces x.tx.given (taken f cs)) same at
 
-start_given : (lcid : ℕ) (kind : PdcpKind) (first : ℕ) (keys : Keys) (side : Side) → (begun lcid kind first keys side).tx.given ≡ record { gone = 0; entries = [] }
+start_given : (lcid : ℕ) (kind : PdcpKind) (first : ℕ) (keys : Keys) (side : Side)
+    → (begun lcid kind first keys side).tx.given ≡ record { gone = 0; entries = [] }
 unfolding begun start
 start_given lcid kind first keys side = refl
 
@@ -203,7 +243,8 @@ next_given : (e : Ends) (keys : Keys) → (restarted e keys).tx.given ≡ record
 unfolding restarted restarted_sending
 next_given e keys = owing_given (report_of e.kind e.rx) (restarted_sending e.tx keys)
 
-am_start : (c : BearerConfig) (keys : Keys) (side : Side) → (begun c.channel.lcid (pdcp.Am c.pdcp_bits) c.first keys side).kind ≡ pdcp.Am c.pdcp_bits
+am_start : (c : BearerConfig) (keys : Keys) (side : Side)
+    → (begun c.channel.lcid (pdcp.Am c.pdcp_bits) c.first keys side).kind ≡ pdcp.Am c.pdcp_bits
 unfolding begun
 am_start c keys side = refl
 
@@ -211,24 +252,33 @@ first_life : (c : BearerConfig) (keys : Keys) (side : Side) → KeepsPlaces (flo
 first_life c keys side =
     let e : Ends = begun c.channel.lcid (pdcp.Am c.pdcp_bits) c.first keys side in
     let k = begun_kind c.channel.lcid (pdcp.Am c.pdcp_bits) c.first keys side in
-    life_places (flow_of kinds.Am c keys side) e (am_begins c keys side) (ap is_am (k.tx ∙ am_start c keys side)) (start_given c.channel.lcid (pdcp.Am c.pdcp_bits) c.first keys side)
+    life_places (flow_of kinds.Am c keys side) e (am_begins c keys side) (ap is_am (k.tx ∙ am_start c keys side))
+    (start_given c.channel.lcid (pdcp.Am c.pdcp_bits) c.first keys side)
 
-next_life : (c : BearerConfig) (keys : Keys) (side : Side) (xs : List BearerStep) (next : Keys) → KeepsPlaces (bearer_goes (bearer_run xs (flow_of kinds.Am c keys side)) (Next next))
+next_life : (c : BearerConfig) (keys : Keys) (side : Side) (xs : List BearerStep) (next : Keys)
+    → KeepsPlaces (bearer_goes (bearer_run xs (flow_of kinds.Am c keys side)) (Next next))
 next_life c keys side xs next =
     let f = flow_of kinds.Am c keys side in
     let e : Ends = begun c.channel.lcid (pdcp.Am c.pdcp_bits) c.first keys side in
     let h = history f e (xs ++ Next next ∷ []) (am_begins c keys side) in
-    let k = lives_kind e h.next (all_doings f (xs ++ Next next ∷ [])) h.passed (begun_kind c.channel.lcid (pdcp.Am c.pdcp_bits) c.first keys side) in
+    let k = lives_kind e h.next (all_doings f (xs ++ Next next ∷ [])) h.passed
+    (begun_kind c.channel.lcid (pdcp.Am c.pdcp_bits) c.first keys side) in
     let there = run_more f xs (Next next ∷ []) in
     let before = history f e xs (am_begins c keys side) in
     let z = restarts_as (bearer_run xs f) before.next next before.is in
     let some : Some h.next ≡ Some (restarted z.between next) = sym h.is ∙ ap ends there ∙ z.after in
     let same : h.next ≡ restarted z.between next = cc in
     let kind : h.next.tx.kind ≡ pdcp.Am c.pdcp_bits = k.tx ∙ h.passed.kind ∙ am_start c keys side in
-    life_places (bearer_goes (bearer_run xs f) (Next next)) h.next (ap ends (sym there) ∙ h.is) (ap is_am kind) (ap (λ (x : Ends). x.tx.given) same ∙ next_given z.between next)
+    life_places (bearer_goes (bearer_run xs f) (Next next)) h.next (ap ends (sym there) ∙ h.is) (ap is_am kind)
+    (ap (λ (x : Ends). x.tx.given) same ∙ next_given z.between next)
 
-pub in_the_first : (c : BearerConfig) (keys : Keys) (side : Side) → c.kind ≡ kinds.Am → KeepsPlaces (flow_of c.kind c keys side)
-in_the_first c keys side k = subst (λ (kind : Kind). KeepsPlaces (flow_of kind c keys side)) (sym k) (first_life c keys side)
+pub in_the_first : (c : BearerConfig) (keys : Keys) (side : Side) → c.kind ≡ kinds.Am
+    → KeepsPlaces (flow_of c.kind c keys side)
+in_the_first c keys side k =
+    subst (λ (kind : Kind). KeepsPlaces (flow_of kind c keys side)) (sym k) (first_life c keys side)
 
-pub in_the_others : (c : BearerConfig) (keys : Keys) (side : Side) (xs : List BearerStep) (next : Keys) → c.kind ≡ kinds.Am → KeepsPlaces (bearer_goes (reached c keys side xs) (Next next))
-in_the_others c keys side xs next k = subst (λ (kind : Kind). KeepsPlaces (bearer_goes (bearer_run xs (flow_of kind c keys side)) (Next next))) (sym k) (next_life c keys side xs next)
+pub in_the_others : (c : BearerConfig) (keys : Keys) (side : Side) (xs : List BearerStep) (next : Keys)
+    → c.kind ≡ kinds.Am → KeepsPlaces (bearer_goes (reached c keys side xs) (Next next))
+in_the_others c keys side xs next k =
+    subst (λ (kind : Kind). KeepsPlaces (bearer_goes (bearer_run xs (flow_of kind c keys side)) (Next next))) (sym k)
+    (next_life c keys side xs next)

@@ -36,7 +36,8 @@ start_waits : (kind : PdcpKind) (p : Protection) (first : ℕ) → (start kind p
 unfolding start
 start_waits kind p first = refl
 
-flow_order : (f : Flow) (kind : PdcpKind) (lcid first : ℕ) (keys : Keys) (side : Side) (xs : List Step) → kind ≢ pdcp.Srb → ends f ≡ Some (begun lcid kind first keys side)
+flow_order : (f : Flow) (kind : PdcpKind) (lcid first : ℕ) (keys : Keys) (side : Side) (xs : List Step)
+    → kind ≢ pdcp.Srb → ends f ≡ Some (begun lcid kind first keys side)
     → all_left f xs ++ queue (ends (run xs f)) ≡ all_submitted xs
 flow_order f kind lcid first keys side xs data' q =
     let p : Protection = protection_of kind keys (bearer_of lcid) (sends side) in
@@ -45,12 +46,17 @@ flow_order f kind lcid first keys side xs data' q =
     let h = history f e xs q in
     let steps = h.passed.tx.steps in
     let from : e.tx ≡ s = begun_tx lcid kind first keys side in
-    let law : left_in e.tx steps ++ map (λ w. w.sdu) h.next.tx.waiting ≡ map (λ w. w.sdu) e.tx.waiting ++ submitted_in steps =
-    subst (λ (t : State). left_in e.tx steps ++ map (λ w. w.sdu) t.waiting ≡ map (λ w. w.sdu) e.tx.waiting ++ submitted_in steps) (sym h.passed.tx.left)
-    (in_order e.tx steps (subst (λ k. k ≢ pdcp.Srb) (sym (ap (λ (t : State). t.kind) from ∙ start_kind kind p first)) data')) in
+    let law : left_in e.tx steps ++ map (λ w. w.sdu) h.next.tx.waiting
+    ≡ map (λ w. w.sdu) e.tx.waiting ++ submitted_in steps =
+    subst (λ (t : State). left_in e.tx steps ++ map (λ w. w.sdu) t.waiting
+    ≡ map (λ w. w.sdu) e.tx.waiting ++ submitted_in steps) (sym h.passed.tx.left)
+    (in_order e.tx steps
+    (subst (λ k. k ≢ pdcp.Srb) (sym (ap (λ (t : State). t.kind) from ∙ start_kind kind p first)) data')) in
     let waits : e.tx.waiting ≡ [] = ap (λ (t : State). t.waiting) from ∙ start_waits kind p first in
-    let left : all_left f xs ≡ left_in e.tx steps = sym (lives_left f xs) ∙ ap (λ (a : Doings). a.left) h.passed.tx.did ∙ left_is e.tx steps in
-    let given : submitted_in steps ≡ all_submitted xs = sym (submitted_is e.tx steps) ∙ sym (ap (λ (a : Doings). a.submitted) h.passed.tx.did) ∙ lives_submitted f xs in
+    let left : all_left f xs ≡ left_in e.tx steps = sym (lives_left f xs)
+    ∙ ap (λ (a : Doings). a.left) h.passed.tx.did ∙ left_is e.tx steps in
+    let given : submitted_in steps ≡ all_submitted xs = sym (submitted_is e.tx steps)
+    ∙ sym (ap (λ (a : Doings). a.submitted) h.passed.tx.did) ∙ lives_submitted f xs in
     ap (λ o. all_left f xs ++ queue o) h.is
     ∙ ap (λ l. l ++ map (λ w. w.sdu) h.next.tx.waiting) left
     ∙ law
@@ -58,13 +64,17 @@ flow_order f kind lcid first keys side xs data' q =
     ∙ given
 
 abbrev Leaves : Kind → BearerConfig → Keys → Side → List Step → Type 0
-Leaves kind c keys side xs = all_left (flow_of kind c keys side) xs ++ queue (ends (run xs (flow_of kind c keys side))) ≡ all_submitted xs
+Leaves kind c keys side xs = all_left (flow_of kind c keys side) xs
+    ++ queue (ends (run xs (flow_of kind c keys side))) ≡ all_submitted xs
 
-pub leaves_in_order : (c : BearerConfig) (keys : Keys) (side : Side) (xs : List Step) → (c.kind ≡ kinds.Um) ⊎ (c.kind ≡ kinds.Am)
+pub leaves_in_order : (c : BearerConfig) (keys : Keys) (side : Side) (xs : List Step)
+    → (c.kind ≡ kinds.Um) ⊎ (c.kind ≡ kinds.Am)
     → all_left (flow_of c.kind c keys side) xs ++ queue (ends (reached c keys side xs)) ≡ all_submitted xs
 leaves_in_order c keys side xs (inl k) =
     subst (λ (kind : Kind). Leaves kind c keys side xs) (sym k)
-    (flow_order (flow_of kinds.Um c keys side) (pdcp.Um c.pdcp_bits) c.channel.lcid c.first keys side xs (λ e. let no : pdcp.Um c.pdcp_bits ≡ pdcp.Srb = e in cc) (um_begins c keys side))
+    (flow_order (flow_of kinds.Um c keys side) (pdcp.Um c.pdcp_bits) c.channel.lcid c.first keys side xs
+    (λ e. let no : pdcp.Um c.pdcp_bits ≡ pdcp.Srb = e in cc) (um_begins c keys side))
 leaves_in_order c keys side xs (inr k) =
     subst (λ (kind : Kind). Leaves kind c keys side xs) (sym k)
-    (flow_order (flow_of kinds.Am c keys side) (pdcp.Am c.pdcp_bits) c.channel.lcid c.first keys side xs (λ e. let no : pdcp.Am c.pdcp_bits ≡ pdcp.Srb = e in cc) (am_begins c keys side))
+    (flow_order (flow_of kinds.Am c keys side) (pdcp.Am c.pdcp_bits) c.channel.lcid c.first keys side xs
+    (λ e. let no : pdcp.Am c.pdcp_bits ≡ pdcp.Srb = e in cc) (am_begins c keys side))

@@ -1,13 +1,16 @@
 -- A sender through steps, with what is taken.
-use Rattle.std.proofs.Common.{◌≡◌, Bool, true, false, if◌then◌else◌, ℕ, zero, suc, ◌-◌, List, [], ◌∷◌, ◌++◌, take, drop, map, Option, Some, None, append_assoc, subst, refl, ap, sym, ◌∙◌}
+use Rattle.std.proofs.Common.{◌≡◌, Bool, true, false, if◌then◌else◌, ℕ, zero, suc, ◌-◌, List, [], ◌∷◌, ◌++◌, take, drop}
+use Rattle.std.proofs.Common.{map, Option, Some, None, append_assoc, subst, refl, ap, sym, ◌∙◌}
 use Rattle.std.proofs.lemmas.List.{append-nil}
 use Rattle.eps_sec.specs.declared.Keys.{Keys}
 use Rattle.pdcp_tx_store.specs.declared.given.Sent.{Sent}
 use Rattle.pdcp_tx_store.specs.Waiting.{Waits}
-use Rattle.pdcp_tx.specs.State.{State, Offer, offers, submitted, took, took_owed, took_again, took_new, confirmed, reported, reported_from, fms_count, after_late, is_overdue, written}
+use Rattle.pdcp_tx.specs.State.{State, Offer, offers, submitted, took, took_owed, took_again, took_new, confirmed}
+use Rattle.pdcp_tx.specs.State.{reported, reported_from, fms_count, after_late, is_overdue, written}
 use Rattle.pdcp_tx.specs.Runs.{Submit, Take, Confirm, Report, Owe, Tick, Late}
 use Rattle.pdcp_tx.proofs.Head.{heads}
-use Rattle.law_pdcp.specs.OneEnd.Lives.{Step, Calls, SetDiscard, Restart, goes, run, takes_first, submits, first_sdu, new_behind, new_of, leaves}
+use Rattle.law_pdcp.specs.OneEnd.Lives.{Step, Calls, SetDiscard, Restart, goes, run, takes_first, submits, first_sdu}
+use Rattle.law_pdcp.specs.OneEnd.Lives.{new_behind, new_of, leaves}
 use Rattle.law_bearer.specs.AnyBearer.Stream.{pdu_of}
 
 -- ---- what steps do: what is taken, which of it for the first time, what is submitted, and what leaves the queue
@@ -22,7 +25,12 @@ abbrev pub nothing : Doings
 nothing = record { taken = []; news = []; submitted = []; left = [] }
 
 abbrev pub also : Doings → Doings → Doings
-also a b = record { taken = a.taken ++ b.taken; news = a.news ++ b.news; submitted = a.submitted ++ b.submitted; left = a.left ++ b.left }
+also a b = record {
+  taken = a.taken ++ b.taken;
+  news = a.news ++ b.news;
+  submitted = a.submitted ++ b.submitted;
+  left = a.left ++ b.left;
+}
 
 also_assoc : (a b c : Doings) → also (also a b) c ≡ also a (also b c)
 also_assoc a b c =
@@ -56,7 +64,8 @@ run_more s (x ∷ xs) ys = run_more (goes s x) xs ys
 
 pub doings_more : (s : State) (xs ys : List Step) → doings s (xs ++ ys) ≡ also (doings s xs) (doings (run xs s) ys)
 doings_more s [] ys = refl
-doings_more s (x ∷ xs) ys = ap (also (does s x)) (doings_more (goes s x) xs ys) ∙ sym (also_assoc (does s x) (doings (goes s x) xs) (doings (run xs (goes s x)) ys))
+doings_more s (x ∷ xs) ys = ap (also (does s x)) (doings_more (goes s x) xs ys)
+    ∙ sym (also_assoc (does s x) (doings (goes s x) xs) (doings (run xs (goes s x)) ys))
 
 -- ---- steps of one life
 
@@ -94,7 +103,8 @@ pub record Lived (s t : State) (d : Doings) : Type 0 where
 pub still : (s : State) → Moved s s nothing
 still s = record { steps = []; life = tt; left = refl; did = refl }
 
-did_then : (s t : State) (xs ys : List Step) (d e : Doings) → t ≡ run xs s → d ≡ doings s xs → e ≡ doings t ys → also d e ≡ doings s (xs ++ ys)
+did_then : (s t : State) (xs ys : List Step) (d e : Doings) → t ≡ run xs s → d ≡ doings s xs → e ≡ doings t ys
+    → also d e ≡ doings s (xs ++ ys)
 did_then s t xs ys d e q a b =
     ap (λ x. also x e) a ∙ ap (also (doings s xs)) (b ∙ ap (λ r. doings r ys) q) ∙ sym (doings_more s xs ys)
 
@@ -190,10 +200,14 @@ take_one s = record {
 pub takes_all : (n : ℕ) (s : State) → Moved s (took_all n s) (takings n s)
 takes_all zero s = still s
 takes_all (suc n) s =
-    let one : take 1 (offers s) ++ take n (offers (took s)) ≡ take (suc n) (offers s) = ap (λ l. take 1 (offers s) ++ take n l) (heads s) ∙ take_next n (offers s) in
-    let two : (new_of s.owed s ++ []) ++ firsts n (took s) ≡ firsts (suc n) s = ap (λ l. l ++ firsts n (took s)) (append-nil (new_of s.owed s)) in
+    let one : take 1 (offers s) ++ take n (offers (took s)) ≡ take (suc n) (offers s) =
+    ap (λ l. take 1 (offers s) ++ take n l) (heads s) ∙ take_next n (offers s) in
+    let two : (new_of s.owed s ++ []) ++ firsts n (took s) ≡ firsts (suc n) s =
+    ap (λ l. l ++ firsts n (took s)) (append-nil (new_of s.owed s)) in
     let same : also (takings 1 s) (takings n (took s)) ≡ takings (suc n) s = rw (one, two) refl in
-    subst (Moved s (took_all n (took s))) same (moved_then s (took s) (took_all n (took s)) (takings 1 s) (takings n (took s)) (take_one s) (takes_all n (took s)))
+    subst (Moved s (took_all n (took s))) same
+    (moved_then s (took s) (took_all n (took s)) (takings 1 s) (takings n (took s)) (take_one s)
+    (takes_all n (took s)))
 
 pub none_left : (n : ℕ) (os : List Offer) → os ≡ [] → drop n os ≡ []
 none_left zero os q = q
@@ -213,7 +227,8 @@ left_of (suc n) s = left_of n (took s) ∙ ap (drop n) (heads s) ∙ drop_next n
 abbrev pub sdus : List Waits → List (List ℕ)
 sdus ws = map (λ w. w.sdu) ws
 
-took_first : (s : State) (k : ℕ) (ws : List Waits) → s.waiting ≡ ws → first_sdu (take k ws) ++ sdus (took_new (take k ws) s).waiting ≡ sdus ws
+took_first : (s : State) (k : ℕ) (ws : List Waits) → s.waiting ≡ ws
+    → first_sdu (take k ws) ++ sdus (took_new (take k ws) s).waiting ≡ sdus ws
 took_first s zero ws e = ap sdus e
 took_first s (suc k) [] e = ap sdus e
 took_first s (suc k) (w ∷ ws) e = ap (λ l. w.sdu ∷ sdus (drop 1 l)) e
@@ -226,7 +241,8 @@ took_any : (s : State) (o : Option (List ℕ)) → new_of o s ++ sdus (took_owed
 took_any s None = took_behind s s.again
 took_any s (Some r) = refl
 
-late_front : (b : Bool) (ws : List Waits) → (if b then first_sdu ws else []) ++ sdus (if b then drop 1 ws else ws) ≡ sdus ws
+late_front : (b : Bool) (ws : List Waits) → (if b then first_sdu ws else []) ++ sdus (if b then drop 1 ws else ws)
+    ≡ sdus ws
 late_front true [] = refl
 late_front true (w ∷ ws) = refl
 late_front false ws = refl
@@ -244,14 +260,16 @@ unfolding submitted took confirmed reported after_late
 step_queue s (Calls (Submit sdu)) h = submit_last s.waiting (record { sdu = sdu; born = s.clock })
 step_queue s (Calls Take) h = took_any s s.owed ∙ sym (append-nil (sdus s.waiting))
 step_queue s (Calls (Confirm place)) h = sym (append-nil (sdus s.waiting))
-step_queue s (Calls (Report fms bitmap)) h = report_queue s (fms_count s.kind s.base fms) bitmap ∙ sym (append-nil (sdus s.waiting))
+step_queue s (Calls (Report fms bitmap)) h = report_queue s (fms_count s.kind s.base fms) bitmap
+    ∙ sym (append-nil (sdus s.waiting))
 step_queue s (Calls (Owe report)) h = absurd h
 step_queue s (Calls Tick) h = sym (append-nil (sdus s.waiting))
 step_queue s (Calls Late) h = late_front (is_overdue s) s.waiting ∙ sym (append-nil (sdus s.waiting))
 step_queue s (SetDiscard ttis) h = sym (append-nil (sdus s.waiting))
 step_queue s (Restart keys) h = absurd h
 
-run_queue : (s : State) (xs : List Step) → AreOfLife xs → (doings s xs).left ++ sdus (run xs s).waiting ≡ sdus s.waiting ++ (doings s xs).submitted
+run_queue : (s : State) (xs : List Step) → AreOfLife xs
+    → (doings s xs).left ++ sdus (run xs s).waiting ≡ sdus s.waiting ++ (doings s xs).submitted
 run_queue s [] h = sym (append-nil (sdus s.waiting))
 run_queue s (x ∷ xs) h =
     append_assoc (leaves s x) (doings (goes s x) xs).left (sdus (run xs (goes s x)).waiting)
@@ -262,7 +280,8 @@ run_queue s (x ∷ xs) h =
 
 pub moved_queue : (s t : State) (d : Doings) → Moved s t d → d.left ++ sdus t.waiting ≡ sdus s.waiting ++ d.submitted
 moved_queue s t d m =
-    let here : (doings s m.steps).left ++ sdus (run m.steps s).waiting ≡ sdus s.waiting ++ (doings s m.steps).submitted = run_queue s m.steps m.life in
+    let here : (doings s m.steps).left ++ sdus (run m.steps s).waiting
+    ≡ sdus s.waiting ++ (doings s m.steps).submitted = run_queue s m.steps m.life in
     rw (m.did, m.left) here
 
 -- ---- kind and keys stay in a life

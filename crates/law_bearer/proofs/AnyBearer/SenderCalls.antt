@@ -1,5 +1,6 @@
 -- What each call of an acknowledged bearer is to RLC's sender.
-use Rattle.std.proofs.Common.{◌≡◌, ℕ, Bool, true, false, nat_lt, List, [], ◌∷◌, ◌++◌, map, length, drop, Option, Some, Result, Ok, Err, subst, refl, ap, sym, ◌∙◌}
+use Rattle.std.proofs.Common.{◌≡◌, ℕ, Bool, true, false, nat_lt, List, [], ◌∷◌, ◌++◌, map, length, drop, Option, Some}
+use Rattle.std.proofs.Common.{Result, Ok, Err, subst, refl, ap, sym, ◌∙◌}
 use Rattle.std.specs.List.{AllByRecursion}
 use Rattle.l2_types.specs.declared.Clock.{Clock}
 use Rattle.l2_types.specs.declared.Clock.TheVariants.{Poll, Reorder, Prohibit}
@@ -12,14 +13,18 @@ use Rattle.rlc_am_rx.specs.Machine.{landed, turned, arrived}
 use Rattle.rlc_am_tx.specs.declared.answers.Heard.{Heard}
 use Rattle.rlc_am_tx.specs.declared.answers.Heard.TheVariants as heard_as
 use Rattle.rlc_am_tx.specs.Machine.{State as Sender, heard, after_status, after_take, answer as rlc_answer, confirmed}
-use Rattle.law_rlc.specs.AmSender.Run.{Call as SenderCall, Offer, Take as Taking, Status, Tick as Ticks, Expire as Expires, Settle, Confirm, after as sender_after}
+use Rattle.law_rlc.specs.AmSender.Run.{Call as SenderCall, Offer, Take as Taking, Status, Tick as Ticks}
+use Rattle.law_rlc.specs.AmSender.Run.{Expire as Expires, Settle, Confirm, after as sender_after}
 use Rattle.bearer_pdcp.specs.Hearing.{applies}
 use Rattle.bearer_pdcp.specs.Discarding.{after_tick as after_discards, tick_told}
 use Rattle.bearer_pdcp.specs.Telling.{landed_told, pdus_of}
 use Rattle.bearer.specs.Acknowledged.State.{State, has_more, Work, work}
-use Rattle.bearer.specs.Acknowledged.Taking.{feeding, data_size, after_taking, answer as am_answer, pdus as am_pdus, status_pdus}
-use Rattle.bearer.specs.Acknowledged.Hearing.{settled_if, heard_work, hears, hears_all, confirms, status_work, arrived_left, after_arrival, all_confirmed}
-use Rattle.bearer.specs.Acknowledged.Timing.{Ticking, expires_if, clock_left, counts, has_ended, ticks, discards, after_expiry, ticked}
+use Rattle.bearer.specs.Acknowledged.Taking.{feeding, data_size, after_taking, answer as am_answer, pdus as am_pdus}
+use Rattle.bearer.specs.Acknowledged.Taking.{status_pdus}
+use Rattle.bearer.specs.Acknowledged.Hearing.{settled_if, heard_work, hears, hears_all, confirms, status_work}
+use Rattle.bearer.specs.Acknowledged.Hearing.{arrived_left, after_arrival, all_confirmed}
+use Rattle.bearer.specs.Acknowledged.Timing.{Ticking, expires_if, clock_left, counts, has_ended, ticks, discards}
+use Rattle.bearer.specs.Acknowledged.Timing.{after_expiry, ticked}
 use Rattle.bearer.specs.declared.flow.Flow.TheVariants.{Am}
 use Rattle.bearer.specs.Submitting.{submitted}
 use Rattle.bearer.specs.Taking.{after as taken_from, pdus}
@@ -27,12 +32,14 @@ use Rattle.bearer.specs.Hearing.{arrived as flow_arrived, expired, ticked as flo
 use Rattle.law_bearer.specs.AnyBearer.Calls.{Call, Submit, Take, Arrive, Expire, Tick, SetDiscard, after}
 use Rattle.law_bearer.specs.AnyBearer.Stream.{am_offered}
 use Rattle.law_bearer.specs.AnyBearer.Sending.{sends_on}
-use Rattle.law_bearer.specs.AnyBearer.Acknowledged.{offers_in, offered_to, data_given, status_heard, sender_calls, IsOfSender, SenderGoes}
+use Rattle.law_bearer.specs.AnyBearer.Acknowledged.{offers_in, offered_to, data_given, status_heard, sender_calls}
+use Rattle.law_bearer.specs.AnyBearer.Acknowledged.{IsOfSender, SenderGoes}
 use Rattle.law_bearer.proofs.AnyBearer.Flows.{is_offered}
 
 -- ---- calls one behind the other
 
-pub all_then : {A : Type 0} (P : A → Type 0) (xs ys : List A) → AllByRecursion P xs → AllByRecursion P ys → AllByRecursion P (xs ++ ys)
+pub all_then : {A : Type 0} (P : A → Type 0) (xs ys : List A) → AllByRecursion P xs → AllByRecursion P ys
+    → AllByRecursion P (xs ++ ys)
 all_then P [] ys h k = k
 all_then P (x ∷ xs) ys h k = (h.0, all_then P xs ys h.1 k)
 
@@ -59,7 +66,8 @@ offers_all (sdu ∷ sdus) s = offers_all sdus (sender_after s (Offer sdu))
 fed_is : (b : State) (share : ℕ) (held : Option ℕ) → (feeding b share held).tx ≡ offered_to b share held
 fed_is b share held = is_offered (Am b) share held ∙ offers_all (offers_in b share held) b.tx
 
-pub takes_on : (b : State) (share : ℕ) (held : Option ℕ) → SenderGoes b.tx (after_taking b share held).tx (sender_calls b (Take share held))
+pub takes_on : (b : State) (share : ℕ) (held : Option ℕ)
+    → SenderGoes b.tx (after_taking b share held).tx (sender_calls b (Take share held))
 unfolding after_taking
 takes_on b share held =
     let w = feeding b share held in
@@ -69,14 +77,18 @@ takes_on b share held =
     record {
       own = [];
       are_own = tt;
-      left = ap (λ (s : Sender). after_take s size held (has_more w.pdcp)) (fed_is b share held) ∙ sym (sends_then b.tx offers last);
+      left = ap (λ (s : Sender). after_take s size held (has_more w.pdcp)) (fed_is b share held)
+          ∙ sym (sends_then b.tx offers last);
     }
 
 pub gives : (b : State) (share : ℕ) (held : Option ℕ) → am_answer b share held ≡ data_given b share held
 unfolding am_answer after_taking
-gives b share held = ap (λ (s : Sender). rlc_answer s (data_size b share) held (has_more (feeding b share held).pdcp)) (fed_is b share held)
+gives b share held =
+    ap (λ (s : Sender). rlc_answer s (data_size b share) held (has_more (feeding b share held).pdcp))
+    (fed_is b share held)
 
-pub writes_what_rlc_gives : (b : State) (share : ℕ) (held : Option ℕ) → pdus (Am b) share held ≡ status_pdus b.rx share ++ pdus_of (data_given b share held)
+pub writes_what_rlc_gives : (b : State) (share : ℕ) (held : Option ℕ)
+    → pdus (Am b) share held ≡ status_pdus b.rx share ++ pdus_of (data_given b share held)
 unfolding pdus am_pdus
 writes_what_rlc_gives b share held = ap (λ t. status_pdus b.rx share ++ pdus_of t) (gives b share held)
 
@@ -88,22 +100,32 @@ settles false w = rests w.tx
 
 hears_each : (sdus : List (List ℕ)) (w : Work) → SenderGoes w.tx (hears_all sdus w).tx []
 hears_each [] w = rests w.tx
-hears_each (sdu ∷ sdus) w = more_own w.tx (hears sdu w).tx (hears_all sdus (hears sdu w)).tx [] (settles (applies sdu Arrived w.pdcp) (heard_work sdu w)) (hears_each sdus (hears sdu w))
+hears_each (sdu ∷ sdus) w =
+    more_own w.tx (hears sdu w).tx (hears_all sdus (hears sdu w)).tx []
+    (settles (applies sdu Arrived w.pdcp) (heard_work sdu w)) (hears_each sdus (hears sdu w))
 
 confirms_each : (news : List ℕ) (s : Sender) → s.accounts.news ≡ news → SenderGoes s (all_confirmed s) []
-confirms_each [] s q = record { own = []; are_own = tt; left = subst (λ l. record s { accounts = record s.accounts { news = l } } ≡ s) q refl }
+confirms_each [] s q =
+    record {
+      own = [];
+      are_own = tt;
+      left = subst (λ l. record s { accounts = record s.accounts { news = l } } ≡ s) q refl;
+    }
 confirms_each (place ∷ news) s q =
     let one : SenderGoes s (confirmed s) [] = record { own = Confirm ∷ []; are_own = (tt, tt); left = refl } in
-    more_own s (confirmed s) (all_confirmed s) [] one (confirms_each news (confirmed s) (ap (λ (l : List ℕ). drop 1 l) q))
+    more_own s (confirmed s) (all_confirmed s) [] one
+    (confirms_each news (confirmed s) (ap (λ (l : List ℕ). drop 1 l) q))
 
 status_on : (h : Heard) (w : Work) → SenderGoes w.tx (status_work h w).tx []
 status_on heard_as.Ignored w = rests w.tx
 status_on (heard_as.Limit sn) w = rests w.tx
 status_on (heard_as.Applied stopped) w = record { own = Settle (has_more w.pdcp) ∷ []; are_own = (tt, tt); left = refl }
 
-arrives_by : (r : Result AcknowledgedPdu RlcRefusal) (b : State) → SenderGoes b.tx (arrived_left r b).tx (status_heard r)
+arrives_by : (r : Result AcknowledgedPdu RlcRefusal) (b : State)
+    → SenderGoes b.tx (arrived_left r b).tx (status_heard r)
 arrives_by (Err fault) b = rests b.tx
-arrives_by (Ok (Payload p)) b = hears_each (arrived b.rx p).out.ready (work b.pdcp b.tx (landed_told b.pdcp.lcid (landed b.rx p) (turned b.rx p)))
+arrives_by (Ok (Payload p)) b =
+    hears_each (arrived b.rx p).out.ready (work b.pdcp b.tx (landed_told b.pdcp.lcid (landed b.rx p) (turned b.rx p)))
 arrives_by (Ok (StatusRead p)) b =
     let s : Sender = after_status b.tx p in
     let w : Work = work (confirms s.accounts.news b.pdcp) (all_confirmed s) [] in
@@ -139,7 +161,8 @@ counts_on Prohibit b = rests b.tx
 ticks_on : (clock : Clock) (t : Ticking) → SenderGoes t.bearer.tx (ticks clock t).bearer.tx []
 ticks_on clock t =
     let n : Ticking = record t { bearer = counts clock t.bearer } in
-    more_own t.bearer.tx n.bearer.tx (ticks clock t).bearer.tx [] (counts_on clock t.bearer) (ended_on (has_ended clock t.bearer) clock n)
+    more_own t.bearer.tx n.bearer.tx (ticks clock t).bearer.tx [] (counts_on clock t.bearer)
+    (ended_on (has_ended clock t.bearer) clock n)
 
 ticked_on : (b : State) → SenderGoes b.tx (ticked b).bearer.tx []
 unfolding ticked
@@ -161,9 +184,13 @@ goes_to s b d cs q h = let same : b ≡ d = cc in subst (λ (x : State). SenderG
 
 pub sender_goes_on : (b d : State) (c : Call) → after (Am b) c ≡ Am d → SenderGoes b.tx d.tx (sender_calls b c)
 unfolding submitted taken_from flow_arrived expired flow_ticked with_discard
-sender_goes_on b d (Submit sdu) q = goes_to b.tx (record b { pdcp = record b.pdcp { tx = pdcp_submitted b.pdcp.tx sdu } }) d [] q (rests b.tx)
-sender_goes_on b d (Take share held) q = goes_to b.tx (after_taking b share held) d (sender_calls b (Take share held)) q (takes_on b share held)
+sender_goes_on b d (Submit sdu) q =
+    goes_to b.tx (record b { pdcp = record b.pdcp { tx = pdcp_submitted b.pdcp.tx sdu } }) d [] q (rests b.tx)
+sender_goes_on b d (Take share held) q =
+    goes_to b.tx (after_taking b share held) d (sender_calls b (Take share held)) q (takes_on b share held)
 sender_goes_on b d (Arrive pdu) q = goes_to b.tx (after_arrival b pdu) d (status_heard (am_at pdu)) q (arrives_on b pdu)
 sender_goes_on b d (Expire clock) q = goes_to b.tx (after_expiry b clock) d [] q (expires_on b clock)
 sender_goes_on b d Tick q = goes_to b.tx (ticked b).bearer d [] q (ticked_on b)
-sender_goes_on b d (SetDiscard ttis) q = goes_to b.tx (record b { pdcp = record b.pdcp { tx = record b.pdcp.tx { discard = Some ttis } } }) d [] q (rests b.tx)
+sender_goes_on b d (SetDiscard ttis) q =
+    goes_to b.tx (record b { pdcp = record b.pdcp { tx = record b.pdcp.tx { discard = Some ttis } } }) d [] q
+    (rests b.tx)

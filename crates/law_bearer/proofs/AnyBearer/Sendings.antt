@@ -1,5 +1,6 @@
 -- RLC's sender of an acknowledged bearer goes by calls of its own.
-use Rattle.std.proofs.Common.{◌≡◌, ℕ, Bool, true, false, nat_lt, List, [], ◌∷◌, ◌++◌, map, length, drop, Option, Some, Result, Ok, Err, subst, refl, ap, sym, ◌∙◌}
+use Rattle.std.proofs.Common.{◌≡◌, ℕ, Bool, true, false, nat_lt, List, [], ◌∷◌, ◌++◌, map, length, drop, Option, Some}
+use Rattle.std.proofs.Common.{Result, Ok, Err, subst, refl, ap, sym, ◌∙◌}
 use Rattle.std.proofs.lemmas.List.{append-nil}
 use Rattle.eps_sec.specs.declared.Keys.{Keys}
 use Rattle.l2_types.specs.declared.Clock.{Clock}
@@ -13,14 +14,17 @@ use Rattle.rlc_am_rx.specs.Machine.{landed, turned, arrived}
 use Rattle.rlc_am_tx.specs.declared.answers.Heard.{Heard}
 use Rattle.rlc_am_tx.specs.declared.answers.Heard.TheVariants as heard_as
 use Rattle.rlc_am_tx.specs.Machine.{State as Sender, start, heard, after_status, after_take, confirmed}
-use Rattle.law_rlc.specs.AmSender.Run.{Call as SenderCall, Offer, Take as Taking, Status, Tick as Ticks, Expire as Expires, Settle, Confirm, after as sender_after}
+use Rattle.law_rlc.specs.AmSender.Run.{Call as SenderCall, Offer, Take as Taking, Status, Tick as Ticks}
+use Rattle.law_rlc.specs.AmSender.Run.{Expire as Expires, Settle, Confirm, after as sender_after}
 use Rattle.bearer_pdcp.specs.Hearing.{applies}
 use Rattle.bearer_pdcp.specs.Discarding.{after_tick as after_discards, tick_told}
 use Rattle.bearer_pdcp.specs.Telling.{landed_told}
 use Rattle.bearer.specs.Acknowledged.State.{State, has_more, Work, work}
 use Rattle.bearer.specs.Acknowledged.Taking.{feeding, data_size, after_taking}
-use Rattle.bearer.specs.Acknowledged.Hearing.{settled_if, heard_work, hears, hears_all, confirms, status_work, arrived_left, after_arrival, all_confirmed}
-use Rattle.bearer.specs.Acknowledged.Timing.{Ticking, expires_if, clock_left, counts, has_ended, ticks, discards, after_expiry, ticked}
+use Rattle.bearer.specs.Acknowledged.Hearing.{settled_if, heard_work, hears, hears_all, confirms, status_work}
+use Rattle.bearer.specs.Acknowledged.Hearing.{arrived_left, after_arrival, all_confirmed}
+use Rattle.bearer.specs.Acknowledged.Timing.{Ticking, expires_if, clock_left, counts, has_ended, ticks, discards}
+use Rattle.bearer.specs.Acknowledged.Timing.{after_expiry, ticked}
 use Rattle.bearer.specs.Acknowledged.Lives.{stopped as am_stopped, restarted as am_restarted}
 use Rattle.bearer.specs.declared.flow.Flow.{Flow}
 use Rattle.bearer.specs.declared.flow.Flow.TheVariants.{Am}
@@ -28,7 +32,8 @@ use Rattle.bearer.specs.Submitting.{submitted}
 use Rattle.bearer.specs.Taking.{after as taken_from}
 use Rattle.bearer.specs.Hearing.{arrived as flow_arrived, expired, ticked as flow_ticked, with_discard}
 use Rattle.bearer.specs.Lives.{stopped, restarted}
-use Rattle.law_bearer.specs.AnyBearer.Calls.{Call, Submit, Take, Arrive, Expire, Tick, SetDiscard, after, after_all, Restart, goes, ends}
+use Rattle.law_bearer.specs.AnyBearer.Calls.{Call, Submit, Take, Arrive, Expire, Tick, SetDiscard, after, after_all}
+use Rattle.law_bearer.specs.AnyBearer.Calls.{Restart, goes, ends}
 use Rattle.law_bearer.specs.AnyBearer.Stream.{takes, pdus_of, pdu_of, stream, am_offered}
 use Rattle.law_bearer.specs.AnyBearer.Sending.{sends_on, offered_by, ComesBy}
 use Rattle.law_bearer.proofs.AnyBearer.Flows.{is_offered}
@@ -62,23 +67,30 @@ rests s = record { calls = []; offers = refl; left = refl }
 offers_all : (sdus : List (List ℕ)) (s : Sender) → ComesBy s (am_offered sdus s) sdus
 offers_all [] s = rests s
 offers_all (sdu ∷ sdus) s =
-    let one : ComesBy s (sender_after s (Offer sdu)) (sdu ∷ []) = record { calls = Offer sdu ∷ []; offers = refl; left = refl } in
-    comes_then s (sender_after s (Offer sdu)) (am_offered (sdu ∷ sdus) s) (sdu ∷ []) sdus one (offers_all sdus (sender_after s (Offer sdu)))
+    let one : ComesBy s (sender_after s (Offer sdu)) (sdu ∷ []) =
+    record { calls = Offer sdu ∷ []; offers = refl; left = refl } in
+    comes_then s (sender_after s (Offer sdu)) (am_offered (sdu ∷ sdus) s) (sdu ∷ []) sdus one
+    (offers_all sdus (sender_after s (Offer sdu)))
 
 -- ---- a take
 
-took_on : (b : State) (share : ℕ) (held : Option ℕ) (pdus : List (List ℕ)) → ComesBy b.tx (feeding b share held).tx pdus → ComesBy b.tx (after_taking b share held).tx pdus
+took_on : (b : State) (share : ℕ) (held : Option ℕ) (pdus : List (List ℕ))
+    → ComesBy b.tx (feeding b share held).tx pdus → ComesBy b.tx (after_taking b share held).tx pdus
 unfolding after_taking
 took_on b share held pdus fed =
     let w = feeding b share held in
     let size = data_size b share in
-    let last : ComesBy w.tx (after_take w.tx size held (has_more w.pdcp)) [] = record { calls = Taking size held (has_more w.pdcp) ∷ []; offers = refl; left = refl } in
-    subst (ComesBy b.tx (after_take w.tx size held (has_more w.pdcp))) (append-nil pdus) (comes_then b.tx w.tx (after_take w.tx size held (has_more w.pdcp)) pdus [] fed last)
+    let last : ComesBy w.tx (after_take w.tx size held (has_more w.pdcp)) [] =
+    record { calls = Taking size held (has_more w.pdcp) ∷ []; offers = refl; left = refl } in
+    subst (ComesBy b.tx (after_take w.tx size held (has_more w.pdcp))) (append-nil pdus)
+    (comes_then b.tx w.tx (after_take w.tx size held (has_more w.pdcp)) pdus [] fed last)
 
-takes_on : (b : State) (share : ℕ) (held : Option ℕ) → ComesBy b.tx (after_taking b share held).tx (map (pdu_of b.pdcp.tx) (takes (Am b) (Take share held)))
+takes_on : (b : State) (share : ℕ) (held : Option ℕ)
+    → ComesBy b.tx (after_taking b share held).tx (map (pdu_of b.pdcp.tx) (takes (Am b) (Take share held)))
 takes_on b share held =
     let pdus = map (pdu_of b.pdcp.tx) (takes (Am b) (Take share held)) in
-    took_on b share held pdus (subst (λ (s : Sender). ComesBy b.tx s pdus) (sym (is_offered (Am b) share held)) (offers_all pdus b.tx))
+    took_on b share held pdus
+    (subst (λ (s : Sender). ComesBy b.tx s pdus) (sym (is_offered (Am b) share held)) (offers_all pdus b.tx))
 
 -- ---- a PDU arrives
 
@@ -88,13 +100,21 @@ settles false w = rests w.tx
 
 hears_on : (sdus : List (List ℕ)) (w : Work) → ComesBy w.tx (hears_all sdus w).tx []
 hears_on [] w = rests w.tx
-hears_on (sdu ∷ sdus) w = comes_then w.tx (hears sdu w).tx (hears_all sdus (hears sdu w)).tx [] [] (settles (applies sdu Arrived w.pdcp) (heard_work sdu w)) (hears_on sdus (hears sdu w))
+hears_on (sdu ∷ sdus) w =
+    comes_then w.tx (hears sdu w).tx (hears_all sdus (hears sdu w)).tx [] []
+    (settles (applies sdu Arrived w.pdcp) (heard_work sdu w)) (hears_on sdus (hears sdu w))
 
 confirms_on : (news : List ℕ) (s : Sender) → s.accounts.news ≡ news → ComesBy s (all_confirmed s) []
-confirms_on [] s q = record { calls = []; offers = refl; left = subst (λ l. record s { accounts = record s.accounts { news = l } } ≡ s) q refl }
+confirms_on [] s q =
+    record {
+      calls = [];
+      offers = refl;
+      left = subst (λ l. record s { accounts = record s.accounts { news = l } } ≡ s) q refl;
+    }
 confirms_on (place ∷ news) s q =
     let one : ComesBy s (confirmed s) [] = record { calls = Confirm ∷ []; offers = refl; left = refl } in
-    comes_then s (confirmed s) (all_confirmed s) [] [] one (confirms_on news (confirmed s) (ap (λ (l : List ℕ). drop 1 l) q))
+    comes_then s (confirmed s) (all_confirmed s) [] [] one
+    (confirms_on news (confirmed s) (ap (λ (l : List ℕ). drop 1 l) q))
 
 status_on : (h : Heard) (w : Work) → ComesBy w.tx (status_work h w).tx []
 status_on heard_as.Ignored w = rests w.tx
@@ -103,7 +123,8 @@ status_on (heard_as.Applied stopped) w = record { calls = Settle (has_more w.pdc
 
 arrives_by : (r : Result AcknowledgedPdu RlcRefusal) (b : State) → ComesBy b.tx (arrived_left r b).tx []
 arrives_by (Err fault) b = rests b.tx
-arrives_by (Ok (Payload p)) b = hears_on (arrived b.rx p).out.ready (work b.pdcp b.tx (landed_told b.pdcp.lcid (landed b.rx p) (turned b.rx p)))
+arrives_by (Ok (Payload p)) b =
+    hears_on (arrived b.rx p).out.ready (work b.pdcp b.tx (landed_told b.pdcp.lcid (landed b.rx p) (turned b.rx p)))
 arrives_by (Ok (StatusRead p)) b =
     let s : Sender = after_status b.tx p in
     let w : Work = work (confirms s.accounts.news b.pdcp) (all_confirmed s) [] in
@@ -139,7 +160,8 @@ counts_on Prohibit b = rests b.tx
 ticks_on : (clock : Clock) (t : Ticking) → ComesBy t.bearer.tx (ticks clock t).bearer.tx []
 ticks_on clock t =
     let n : Ticking = record t { bearer = counts clock t.bearer } in
-    comes_then t.bearer.tx n.bearer.tx (ticks clock t).bearer.tx [] [] (counts_on clock t.bearer) (ended_on (has_ended clock t.bearer) clock n)
+    comes_then t.bearer.tx n.bearer.tx (ticks clock t).bearer.tx [] [] (counts_on clock t.bearer)
+    (ended_on (has_ended clock t.bearer) clock n)
 
 ticked_on : (b : State) → ComesBy b.tx (ticked b).bearer.tx []
 unfolding ticked
@@ -164,20 +186,31 @@ record Goes (b : State) (f : Flow) (pdus : List (List ℕ)) : Type 0 where
 
 one_call : (b : State) (c : Call) → Goes b (after (Am b) c) (pdus_of (ends (Am b)) (takes (Am b) c))
 unfolding submitted taken_from flow_arrived expired flow_ticked with_discard
-one_call b (Submit sdu) = record { next = record b { pdcp = record b.pdcp { tx = pdcp_submitted b.pdcp.tx sdu } }; is = refl; comes = rests b.tx }
+one_call b (Submit sdu) = record {
+  next = record b { pdcp = record b.pdcp { tx = pdcp_submitted b.pdcp.tx sdu } };
+  is = refl;
+  comes = rests b.tx;
+}
 one_call b (Take share held) = record { next = after_taking b share held; is = refl; comes = takes_on b share held }
 one_call b (Arrive pdu) = record { next = after_arrival b pdu; is = refl; comes = arrives_on b pdu }
 one_call b (Expire clock) = record { next = after_expiry b clock; is = refl; comes = expires_on b clock }
 one_call b Tick = record { next = (ticked b).bearer; is = refl; comes = ticked_on b }
-one_call b (SetDiscard ttis) = record { next = record b { pdcp = record b.pdcp { tx = record b.pdcp.tx { discard = Some ttis } } }; is = refl; comes = rests b.tx }
+one_call b (SetDiscard ttis) =
+    record {
+      next = record b { pdcp = record b.pdcp { tx = record b.pdcp.tx { discard = Some ttis } } };
+      is = refl;
+      comes = rests b.tx;
+    }
 
-pub offers_the_stream : (b d : State) (cs : List Call) → after_all (Am b) cs ≡ Am d → ComesBy b.tx d.tx (stream (Am b) cs)
+pub offers_the_stream : (b d : State) (cs : List Call) → after_all (Am b) cs ≡ Am d
+    → ComesBy b.tx d.tx (stream (Am b) cs)
 offers_the_stream b d [] q =
     let same : b ≡ d = cc in
     subst (λ (x : State). ComesBy b.tx x.tx []) same (rests b.tx)
 offers_the_stream b d (c ∷ cs) q =
     let one = one_call b c in
-    let rest : ComesBy one.next.tx d.tx (stream (Am one.next) cs) = offers_the_stream one.next d cs (ap (λ f. after_all f cs) (sym one.is) ∙ q) in
+    let rest : ComesBy one.next.tx d.tx (stream (Am one.next) cs) =
+    offers_the_stream one.next d cs (ap (λ f. after_all f cs) (sym one.is) ∙ q) in
     subst (λ f. ComesBy b.tx d.tx (pdus_of (ends (Am b)) (takes (Am b) c) ++ stream f cs)) (sym one.is)
     (comes_then b.tx one.next.tx d.tx (pdus_of (ends (Am b)) (takes (Am b) c)) (stream (Am one.next) cs) one.comes rest)
 

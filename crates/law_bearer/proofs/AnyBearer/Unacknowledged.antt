@@ -1,5 +1,6 @@
 -- Calls of a bearer over unacknowledged RLC, as steps of PDCP's sender.
-use Rattle.std.proofs.Common.{◌≡◌, ℕ, zero, suc, ◌≤◌, Bool, true, false, if◌then◌else◌, List, [], ◌∷◌, take, drop, map, length, Option, Some, Result, Ok, Err, refl, ap, ◌∙◌, arith}
+use Rattle.std.proofs.Common.{◌≡◌, ℕ, zero, suc, ◌≤◌, Bool, true, false, if◌then◌else◌, List, [], ◌∷◌, take, drop, map}
+use Rattle.std.proofs.Common.{length, Option, Some, Result, Ok, Err, refl, ap, ◌∙◌, arith}
 use Rattle.bearer_types.specs.declared.Event.{Event}
 use Rattle.l2_num.specs.Timers.{ends}
 use Rattle.l2_types.specs.declared.Clock.{Clock}
@@ -21,11 +22,14 @@ use Rattle.bearer_pdcp.specs.Taking.{after_taking as after_pdcp}
 use Rattle.bearer_pdcp.specs.Telling.{landed_told, expired_told}
 use Rattle.bearer.specs.Unacknowledged.State.{State}
 use Rattle.bearer.specs.Unacknowledged.Taking.{Feeding, given_to, fed, feeds, feeding, size_in, after_taking}
-use Rattle.bearer.specs.Unacknowledged.Hearing.{Hearing, hears, hears_all, up_left, arrived_left, after_arrival, expiry_left, clock_left, after_expiry, counted_down, timed_left, after_ticking}
+use Rattle.bearer.specs.Unacknowledged.Hearing.{Hearing, hears, hears_all, up_left, arrived_left, after_arrival}
+use Rattle.bearer.specs.Unacknowledged.Hearing.{expiry_left, clock_left, after_expiry, counted_down, timed_left}
+use Rattle.bearer.specs.Unacknowledged.Hearing.{after_ticking}
 use Rattle.bearer.specs.Unacknowledged.Lives.{stopped, restarted}
 use Rattle.law_bearer.specs.AnyBearer.Stream.{pdu_of, um_offered}
 use Rattle.law_bearer.proofs.AnyBearer.Sender.{nothing, took_all, left_of, took_same, same_pdus}
-use Rattle.law_bearer.proofs.AnyBearer.Parts.{first_taken, pdcp_took, pdcp_rest, Passed, rests, passed_then, hearing_moves, Ended, ends_as, ended_then, last_one}
+use Rattle.law_bearer.proofs.AnyBearer.Parts.{first_taken, pdcp_took, pdcp_rest, Passed, rests, passed_then}
+use Rattle.law_bearer.proofs.AnyBearer.Parts.{hearing_moves, Ended, ends_as, ended_then, last_one}
 
 -- ---- RLC takes PDUs
 
@@ -41,7 +45,8 @@ pub record Fed (os : List Offer) (w v : Feeding) : Type 0 where
 none_fed : (os : List Offer) (w : Feeding) → Fed os w w
 none_fed os w = record { n = zero; few = omega arith; left = refl; kind = refl; rx = refl; offered = refl }
 
-one_fed : (o : Offer) (os : List Offer) (w v : Feeding) → offers w.pdcp.tx ≡ o ∷ os → Fed os (fed w) v → Fed (o ∷ os) w v
+one_fed : (o : Offer) (os : List Offer) (w v : Feeding) → offers w.pdcp.tx ≡ o ∷ os → Fed os (fed w) v
+    → Fed (o ∷ os) w v
 one_fed o os w v q f = record {
   n = suc f.n;
   few = omega (arith, f.few);
@@ -50,25 +55,33 @@ one_fed o os w v q f = record {
   rx = f.rx ∙ (pdcp_rest w.pdcp).1;
   offered =
       f.offered
-      ∙ ap (λ tx. um_offered (map (pdu_of (after_pdcp w.pdcp).tx) (take f.n os)) (given_to tx w.tx)) (first_taken w.pdcp o os q)
-      ∙ ap (λ s. um_offered (map (pdu_of s) (take f.n os)) (given_to (Some (pdu_of w.pdcp.tx o)) w.tx)) (pdcp_took w.pdcp)
-      ∙ ap (λ l. um_offered l (given_to (Some (pdu_of w.pdcp.tx o)) w.tx)) (same_pdus w.pdcp.tx (took w.pdcp.tx) (take f.n os) (took_same w.pdcp.tx));
+      ∙ ap (λ tx. um_offered (map (pdu_of (after_pdcp w.pdcp).tx) (take f.n os)) (given_to tx w.tx))
+      (first_taken w.pdcp o os q)
+      ∙ ap (λ s. um_offered (map (pdu_of s) (take f.n os)) (given_to (Some (pdu_of w.pdcp.tx o)) w.tx))
+      (pdcp_took w.pdcp)
+      ∙ ap (λ l. um_offered l (given_to (Some (pdu_of w.pdcp.tx o)) w.tx))
+      (same_pdus w.pdcp.tx (took w.pdcp.tx) (take f.n os) (took_same w.pdcp.tx));
 }
 
-fed_by : (b : Bool) (o : Offer) (os : List Offer) (w v : Feeding) → offers w.pdcp.tx ≡ o ∷ os → Fed os (fed w) v → Fed (o ∷ os) w (if b then v else w)
+fed_by : (b : Bool) (o : Offer) (os : List Offer) (w v : Feeding) → offers w.pdcp.tx ≡ o ∷ os → Fed os (fed w) v
+    → Fed (o ∷ os) w (if b then v else w)
 fed_by true o os w v q f = one_fed o os w v q f
 fed_by false o os w v q f = none_fed (o ∷ os) w
 
-all_fed : (os : List Offer) (size : ℕ) (held : Option ℕ) (w : Feeding) → offers w.pdcp.tx ≡ os → Fed os w (feeds os size held w)
+all_fed : (os : List Offer) (size : ℕ) (held : Option ℕ) (w : Feeding) → offers w.pdcp.tx ≡ os
+    → Fed os w (feeds os size held w)
 all_fed [] size held w q = none_fed [] w
 all_fed (o ∷ os) size held w q =
     fed_by (is_hungry w.tx size held) o os w (feeds os size held (fed w)) q
     (all_fed os size held (fed w) (ap offers (pdcp_took w.pdcp) ∙ left_of 1 w.pdcp.tx ∙ ap (drop 1) q))
 
-pub all_fed_in : (s : State) (share : ℕ) (held : Option ℕ) → Fed (offers s.pdcp.tx) (record { pdcp = s.pdcp; tx = s.tx; events = [] }) (feeding s share held)
-all_fed_in s share held = all_fed (offers s.pdcp.tx) (size_in share) held (record { pdcp = s.pdcp; tx = s.tx; events = [] }) refl
+pub all_fed_in : (s : State) (share : ℕ) (held : Option ℕ)
+    → Fed (offers s.pdcp.tx) (record { pdcp = s.pdcp; tx = s.tx; events = [] }) (feeding s share held)
+all_fed_in s share held =
+    all_fed (offers s.pdcp.tx) (size_in share) held (record { pdcp = s.pdcp; tx = s.tx; events = [] }) refl
 
-pub take_left : (s : State) (share : ℕ) (held : Option ℕ) → (after_taking s share held).pdcp ≡ (feeding s share held).pdcp
+pub take_left : (s : State) (share : ℕ) (held : Option ℕ)
+    → (after_taking s share held).pdcp ≡ (feeding s share held).pdcp
 unfolding after_taking
 take_left s share held = refl
 
@@ -77,7 +90,8 @@ take_left s share held = refl
 hears_move : (sdus : List (List ℕ)) (cause : Cause) (h : Hearing) → Passed h.pdcp (hears_all sdus cause h).pdcp nothing
 hears_move [] cause h = rests h.pdcp
 hears_move (sdu ∷ sdus) cause h =
-    passed_then h.pdcp (hears sdu cause h).pdcp (hears_all sdus cause (hears sdu cause h)).pdcp nothing nothing (hearing_moves sdu cause h.pdcp) (hears_move sdus cause (hears sdu cause h))
+    passed_then h.pdcp (hears sdu cause h).pdcp (hears_all sdus cause (hears sdu cause h)).pdcp nothing nothing
+    (hearing_moves sdu cause h.pdcp) (hears_move sdus cause (hears sdu cause h))
 
 up_moves : (r : Receiver) (told : List Event) (s : State) → Passed s.pdcp (up_left r told s).pdcp nothing
 up_moves r told s = hears_move r.joined.ready Arrived (record { pdcp = s.pdcp; events = told })
@@ -125,7 +139,8 @@ ticked_is s = refl
 last_ended : (sdus : List (List ℕ)) (h : Hearing) → Ended h.pdcp (hears_all sdus Reestablished h).pdcp
 last_ended [] h = ends_as h.pdcp
 last_ended (sdu ∷ sdus) h =
-    ended_then h.pdcp (hears sdu Reestablished h).pdcp (hears_all sdus Reestablished (hears sdu Reestablished h)).pdcp (last_one sdu h.pdcp)
+    ended_then h.pdcp (hears sdu Reestablished h).pdcp (hears_all sdus Reestablished (hears sdu Reestablished h)).pdcp
+    (last_one sdu h.pdcp)
     (last_ended sdus (hears sdu Reestablished h))
 
 pub stop_ends : (s : State) → Ended s.pdcp (stopped s).pdcp

@@ -1,5 +1,6 @@
 -- Which deeds each call of a bearer of acknowledged data is (TS 36.322 5.1.3, 5.2, TS 36.323 5.1).
-use Rattle.std.specs.Prelude.{◌≡◌, ℕ, Bool, true, false, List, [], ◌∷◌, ◌++◌, map, length, Option, Result, Ok, Err, nat_lt}
+use Rattle.std.specs.Prelude.{◌≡◌, ℕ, Bool, true, false, List, [], ◌∷◌, ◌++◌, map, length, Option}
+use Rattle.std.specs.Prelude.{Result, Ok, Err, nat_lt}
 use Rattle.bearer_types.specs.declared.Event.{Event}
 use Rattle.bearer_types.specs.declared.Event.TheVariants as events
 use Rattle.l2_types.specs.declared.Clock.{Clock}
@@ -14,8 +15,10 @@ use Rattle.rlc_am_tx.specs.declared.answers.Heard.{Heard}
 use Rattle.rlc_am_tx.specs.declared.answers.Heard.TheVariants as heard_as
 use Rattle.rlc_am_tx.specs.Machine.{heard as heard_status, after_status}
 use Rattle.rlc_am_rx.specs.Machine.{arrived as landed_in}
-use Rattle.law_rlc.specs.AmSender.Run.{Take as Taking, Status, Tick as TickSender, Expire as ExpireSender, Settle}
-use Rattle.law_rlc.specs.AmReceiver.Run.{Arrive as Hears, Write, ExpireReorder, ExpireProhibit, TickReorder, TickProhibit}
+use Rattle.law_rlc.specs.AmSender.Run.{Take as Taking, Status, Tick as TickSender}
+use Rattle.law_rlc.specs.AmSender.Run.{Expire as ExpireSender, Settle}
+use Rattle.law_rlc.specs.AmReceiver.Run.{Arrive as Hears, Write, ExpireReorder, ExpireProhibit}
+use Rattle.law_rlc.specs.AmReceiver.Run.{TickReorder, TickProhibit}
 use Rattle.bearer_pdcp.specs.Discarding.{after_tick as after_discards, tick_told}
 use Rattle.bearer_pdcp.specs.Ends.{Ends}
 use Rattle.bearer_pdcp.specs.Hearing.{applies}
@@ -27,8 +30,10 @@ use Rattle.bearer.specs.declared.flow.Flow.TheVariants.{Am}
 use Rattle.bearer.specs.Hearing.{arriving, expiry, ticking}
 use Rattle.bearer.specs.Taking.{told}
 use Rattle.law_bearer.specs.AnyBearer.Acknowledged.{offers_in, has_more_behind}
-use Rattle.law_bearer.specs.AnyBearer.Calls.{Call, Submit, Take, Arrive, Expire, Tick, SetDiscard, after}
-use Rattle.law_bearer.specs.AmBearer.Deeds.{Deed, Feeds, Sends, Confirms, Receives, HandsUp, Asks, Sets, does_all, go_up, hears_one}
+use Rattle.law_bearer.specs.AnyBearer.Calls.{Call, Submit, Take, Arrive, Expire, Tick, SetDiscard}
+use Rattle.law_bearer.specs.AnyBearer.Calls.{after}
+use Rattle.law_bearer.specs.AmBearer.Deeds.{Deed, Feeds, Sends, Confirms, Receives, HandsUp, Asks}
+use Rattle.law_bearer.specs.AmBearer.Deeds.{Sets, does_all, go_up, hears_one}
 
 abbrev pub only_if : Bool → Deed → List Deed
 only_if true deed = deed ∷ []
@@ -51,7 +56,9 @@ takes b share held =
 -- each SDU that RLC hands up; behind a report that is applied the sender settles
 abbrev pub hands_up : List (List ℕ) → Ends → List Deed
 hands_up [] e = []
-hands_up (sdu ∷ sdus) e = HandsUp ∷ (only_if (applies sdu Arrived e) (settles (hears_one sdu e)) ++ hands_up sdus (hears_one sdu e))
+hands_up (sdu ∷ sdus) e =
+    HandsUp ∷ (only_if (applies sdu Arrived e) (settles (hears_one sdu e))
+    ++ hands_up sdus (hears_one sdu e))
 
 -- behind a STATUS that is applied it settles too
 abbrev pub settles_by : Heard → Ends → List Deed
@@ -68,7 +75,8 @@ arrives (Err refused) b = []
 arrives (Ok (Payload pdu)) b = Receives (Hears pdu) ∷ hands_up (landed_in b.rx pdu).out.ready b.pdcp
 arrives (Ok (Control pdu)) b =
     Sends (Status pdu)
-    ∷ (confirms_all (after_status b.tx pdu).accounts.news ++ settles_by (heard_status b.tx pdu) (confirms (after_status b.tx pdu).accounts.news b.pdcp))
+    ∷ (confirms_all (after_status b.tx pdu).accounts.news
+    ++ settles_by (heard_status b.tx pdu) (confirms (after_status b.tx pdu).accounts.news b.pdcp))
 
 -- ---- timers
 
@@ -88,7 +96,10 @@ ticks clock b = counted clock ∷ only_if (has_ended clock b) (expires clock b)
 
 -- each SDU whose discard timer ends is dropped; behind that the sender settles
 abbrev pub discards : List Event → Ends → List Deed
-discards told e = Asks TickPdcp ∷ (map (λ event. Asks Late) told ++ only_if (nat_lt 0 (length told)) (settles (after_discards e)))
+discards told e =
+    Asks TickPdcp
+    ∷ (map (λ event. Asks Late) told ++ only_if (nat_lt 0 (length told))
+    (settles (after_discards e)))
 
 -- ---- any call
 
@@ -97,7 +108,8 @@ deeds_of b (Submit sdu) = Asks (Submits sdu) ∷ []
 deeds_of b (Take share held) = takes b share held
 deeds_of b (Arrive pdu) = arrives (am_at pdu) b
 deeds_of b (Expire clock) = expires clock b ∷ []
-deeds_of b Tick = ticks Poll b ++ ticks Reorder b ++ ticks Prohibit b ++ discards (tick_told b.pdcp) b.pdcp
+deeds_of b Tick = ticks Poll b ++ ticks Reorder b ++ ticks Prohibit b
+    ++ discards (tick_told b.pdcp) b.pdcp
 deeds_of b (SetDiscard ttis) = Sets ttis ∷ []
 
 -- ---- what a call tells, and the SDUs of which it tells that they go up

@@ -1,5 +1,6 @@
--- What the calls of a bearer of acknowledged data are made of: deeds of its four entities, PDCP's sender and receiver and RLC's sender and
--- receiver. A deed is a call of one of them, or ties two of them to each other (TS 36.323 4.2.2, TS 36.322 4.2.1.3).
+-- What the calls of a bearer of acknowledged data are made of: deeds of its four entities, PDCP's
+-- sender and receiver and RLC's sender and receiver. A deed is a call of one of them, or ties two
+-- of them to each other (TS 36.323 4.2.2, TS 36.322 4.2.1.3).
 use Rattle.std.specs.Prelude.{ℕ, List, [], ◌∷◌, ◌++◌, Option, Some, None}
 use Rattle.pdcp_rx.specs.declared.got.Cause.TheVariants.{Arrived}
 use Rattle.pdcp_rx.specs.Heard.{Heard, Bad, Told, Data, heard}
@@ -8,7 +9,8 @@ use Rattle.pdcp_tx.specs.declared.sender.Next.{Next}
 use Rattle.pdcp_tx.specs.Runs.{Call as PdcpCall, Take, Confirm, Report, after}
 use Rattle.pdcp_tx.specs.State.{State as Sending, taking}
 use Rattle.rlc_am_tx.specs.Machine.{State as Sender}
-use Rattle.law_rlc.specs.AmSender.Run.{Call as SenderCall, Offer, Confirm as HandOver, after as sender_after}
+use Rattle.law_rlc.specs.AmSender.Run.{Call as SenderCall, Offer, Confirm as HandOver}
+use Rattle.law_rlc.specs.AmSender.Run.{after as sender_after}
 use Rattle.law_rlc.specs.AmReceiver.Run.{Call as ReceiverCall, Up, state_after}
 use Rattle.bearer_pdcp.specs.Ends.{Ends}
 use Rattle.bearer.specs.Acknowledged.State.{State}
@@ -22,8 +24,8 @@ pub data Deed : Type 0 where
   Confirms : Deed
   -- a call of RLC's receiver
   Receives : ReceiverCall → Deed
-  -- RLC's receiver hands up the first SDU that is ready, to PDCP's receiver; what then is ready there goes up, and a status report goes to
-  -- PDCP's sender
+  -- RLC's receiver hands up the first SDU that is ready, to PDCP's receiver; what then is ready
+  -- there goes up, and a status report goes to PDCP's sender
   HandsUp : Deed
   -- a call of PDCP's sender
   Asks : PdcpCall → Deed
@@ -40,12 +42,14 @@ offered_next None tx = tx
 offered_next (Some pdu) tx = sender_after tx (Offer pdu.octets)
 
 abbrev pub feeds : State → State
-feeds b = with_sending (after b.pdcp.tx Take) (record b { tx = offered_next (taking b.pdcp.tx) b.tx })
+feeds b =
+    with_sending (after b.pdcp.tx Take) (record b { tx = offered_next (taking b.pdcp.tx) b.tx })
 
 -- by the places that are newly confirmed
 abbrev pub confirms_first : List ℕ → State → State
 confirms_first [] b = b
-confirms_first (place ∷ places) b = with_sending (after b.pdcp.tx (Confirm place)) (record b { tx = sender_after b.tx HandOver })
+confirms_first (place ∷ places) b =
+    with_sending (after b.pdcp.tx (Confirm place)) (record b { tx = sender_after b.tx HandOver })
 
 -- what PDCP's receiver reads is for PDCP's sender where it is a status report (TS 36.323 5.3.2)
 abbrev pub told_by : Heard → Sending → Sending
@@ -57,7 +61,10 @@ abbrev pub all_raised : Receiving → Receiving
 all_raised r = record r { ready = [] }
 
 abbrev pub hears_one : List ℕ → Ends → Ends
-hears_one sdu e = record e { tx = told_by (heard e.rx.kind sdu) e.tx; rx = all_raised (arrived e.rx sdu Arrived) }
+hears_one sdu e = record e {
+  tx = told_by (heard e.rx.kind sdu) e.tx;
+  rx = all_raised (arrived e.rx sdu Arrived);
+}
 
 -- by the SDUs that are ready
 abbrev pub hands_first : List (List ℕ) → State → State

@@ -1,4 +1,5 @@
--- A life of a bearer of acknowledged data ends, and the next one begins (TS 36.322 5.4, TS 36.323 5.2); both ends of a bearer begin alike.
+-- A life of a bearer of acknowledged data ends, and the next one begins (TS 36.322 5.4, TS 36.323
+-- 5.2); both ends of a bearer begin alike.
 use Rattle.std.specs.Prelude.{◌≡◌, ℕ, List, [], ◌∷◌}
 use Rattle.bearer_types.specs.declared.BearerConfig.{BearerConfig}
 use Rattle.eps_sec.specs.declared.Keys.{Keys}
@@ -7,7 +8,8 @@ use Rattle.l2_types.specs.declared.Side.{Side}
 use Rattle.l2_types.specs.declared.Side.TheVariants.{Nb, Ue}
 use Rattle.pdcp_pdu.specs.declared.PdcpKind.TheVariants.{Am as AmKind}
 use Rattle.pdcp_rx.specs.declared.got.Cause.TheVariants.{Reestablished}
-use Rattle.pdcp_rx.specs.State.{State as Receiving, arrived, report, restarted as restarted_receiving, fresh as fresh_receiving}
+use Rattle.pdcp_rx.specs.State.{State as Receiving, arrived, report}
+use Rattle.pdcp_rx.specs.State.{restarted as restarted_receiving, fresh as fresh_receiving}
 use Rattle.pdcp_sec.specs.Protection.{Protection, protection_of}
 use Rattle.pdcp_tx.specs.Runs.{Owe, after as asked}
 use Rattle.pdcp_tx.specs.State.{restarted as restarted_sending, start as start_sending}
@@ -35,7 +37,8 @@ closes (sdu ∷ sdus) r = closes sdus (arrived r sdu Reestablished)
 abbrev pub closed : State → Receiving
 closed b = closes (finished b.rx) b.pdcp.rx
 
--- all that is ready then goes up; PDCP keeps COUNTs, what it holds and what is to be taken, and owes a status report; RLC begins anew
+-- all that is ready then goes up; PDCP keeps COUNTs, what it holds and what is to be taken, and
+-- owes a status report; RLC begins anew
 abbrev pub restarts : State → Keys → State
 restarts b keys = record b {
   pdcp = record b.pdcp {
@@ -53,7 +56,8 @@ pub record RestartsAs (bits : ℕ) (b : State) (keys : Keys) : Type 0 where
   pub idle : IsIdle (restarts b keys)
 
 abbrev pub RestartsAreDeeds : Type 0
-RestartsAreDeeds = (bits : ℕ) (b : State) (keys : Keys) → IsOfData bits b → IsIdle b → RestartsAs bits b keys
+RestartsAreDeeds = (bits : ℕ) (b : State) (keys : Keys) → IsOfData bits b → IsIdle b
+    → RestartsAs bits b keys
 
 -- ---- the first life
 
@@ -77,15 +81,18 @@ pub record BeginsAs (c : BearerConfig) (b : State) : Type 0 where
 
 -- the protection of what a side sends
 abbrev pub protection_at : BearerConfig → Keys → Side → Protection
-protection_at c keys side = protection_of (AmKind c.pdcp_bits) keys (bearer_of c.channel.lcid) (sends side)
+protection_at c keys side =
+    protection_of (AmKind c.pdcp_bits) keys (bearer_of c.channel.lcid) (sends side)
 
 abbrev pub EndsBeginAlike : Type 0
-EndsBeginAlike = (c : BearerConfig) (keys : Keys) (side : Side) (near far : State) → c.kind ≡ kinds.Am
+EndsBeginAlike = (c : BearerConfig) (keys : Keys) (side : Side) (near far : State)
+    → c.kind ≡ kinds.Am
     → flow_of c.kind c keys side ≡ Am near → flow_of c.kind c keys (other side) ≡ Am far
     → BeginAlike c.pdcp_bits (protection_at c keys side) c.first near far
 
 abbrev pub FirstLifeBegins : Type 0
-FirstLifeBegins = (c : BearerConfig) (keys : Keys) (side : Side) (b : State) → c.kind ≡ kinds.Am → flow_of c.kind c keys side ≡ Am b → BeginsAs c b
+FirstLifeBegins = (c : BearerConfig) (keys : Keys) (side : Side) (b : State) → c.kind ≡ kinds.Am
+    → flow_of c.kind c keys side ≡ Am b → BeginsAs c b
 
 -- ---- through any calls and lives it stays so
 
@@ -96,7 +103,8 @@ pub record StandsIdle (bits : ℕ) (f : Flow) : Type 0 where
   pub idle : IsIdle bearer
 
 abbrev pub NothingIsLeftOver : Type 0
-NothingIsLeftOver = (c : BearerConfig) (keys : Keys) (side : Side) (steps : List Step) → c.kind ≡ kinds.Am → StandsIdle c.pdcp_bits (reached c keys side steps)
+NothingIsLeftOver = (c : BearerConfig) (keys : Keys) (side : Side) (steps : List Step)
+    → c.kind ≡ kinds.Am → StandsIdle c.pdcp_bits (reached c keys side steps)
 
 -- ---- what is sent from an end and heard at the other is protected alike
 
@@ -113,5 +121,6 @@ DeedsKeepProtection = (b : State) (deed : Deed) → KeepsProtection b (does b de
 
 -- the next life of both ends under the same keys
 abbrev pub RestartsProtectAlike : Type 0
-RestartsProtectAlike = (bits : ℕ) (from to : State) (keys : Keys) → IsOfData bits from → IsOfData bits to → AreProtectedAlike from to
+RestartsProtectAlike = (bits : ℕ) (from to : State) (keys : Keys) → IsOfData bits from
+    → IsOfData bits to → AreProtectedAlike from to
     → AreProtectedAlike (restarts from keys) (restarts to keys)

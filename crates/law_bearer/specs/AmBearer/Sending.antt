@@ -7,7 +7,8 @@ use Rattle.bearer.specs.Acknowledged.State.{State}
 use Rattle.law_bearer.specs.AnyBearer.Acknowledged.{sender_calls}
 use Rattle.law_bearer.specs.AnyBearer.Calls.{Take}
 use Rattle.law_bearer.specs.AnyBearer.Sending.{sends_on}
-use Rattle.law_bearer.specs.AmBearer.Deeds.{Deed, Feeds, Sends, Confirms, Receives, HandsUp, Asks, Sets, does, does_all}
+use Rattle.law_bearer.specs.AmBearer.Deeds.{Deed, Feeds, Sends, Confirms, Receives, HandsUp, Asks}
+use Rattle.law_bearer.specs.AmBearer.Deeds.{Sets, does, does_all}
 use Rattle.law_bearer.specs.AmBearer.Calls.{deeds_of}
 
 abbrev pub offers_next : Option Next → List SenderCall
@@ -33,8 +34,10 @@ sends_in (deed ∷ deeds) b = sends_at b deed ++ sends_in deeds (does b deed)
 
 -- nothing else changes RLC's sender
 abbrev pub DeedsAreItsCalls : Type 0
-DeedsAreItsCalls = (b : State) (deeds : List Deed) → (does_all deeds b).tx ≡ sends_on (sends_in deeds b) b.tx
+DeedsAreItsCalls = (b : State) (deeds : List Deed)
+    → (does_all deeds b).tx ≡ sends_on (sends_in deeds b) b.tx
 
 -- as a bearer writes, each PDU that PDCP gives is offered, in order, and then a data PDU is taken
 abbrev pub TakesAreItsCalls : Type 0
-TakesAreItsCalls = (b : State) (share : ℕ) (held : Option ℕ) → sends_in (deeds_of b (Take share held)) b ≡ sender_calls b (Take share held)
+TakesAreItsCalls = (b : State) (share : ℕ) (held : Option ℕ)
+    → sends_in (deeds_of b (Take share held)) b ≡ sender_calls b (Take share held)

@@ -1,5 +1,7 @@
--- What each call of an acknowledged bearer is to RLC's sender and to RLC's receiver, by calls of their own (TS 36.322 4.2.1.3).
-use Rattle.std.specs.Prelude.{◌≡◌, ℕ, Bool, if◌then◌else◌, List, [], ◌∷◌, ◌++◌, map, Option, Result, Ok, Err}
+-- What each call of an acknowledged bearer is to RLC's sender and to RLC's receiver, by calls of
+-- their own (TS 36.322 4.2.1.3).
+use Rattle.std.specs.Prelude.{◌≡◌, ℕ, Bool, if◌then◌else◌, List, [], ◌∷◌, ◌++◌, map, Option, Result}
+use Rattle.std.specs.Prelude.{Ok, Err}
 use Rattle.std.specs.List.{AllByRecursion}
 use Rattle.rlc_pdu.specs.declared.fault.RlcRefusal.{RlcRefusal}
 use Rattle.rlc_pdu.specs.declared.outcome.Taken.{Taken}
@@ -7,15 +9,19 @@ use Rattle.rlc_pdu.specs.Pdus.{AcknowledgedPdu, Payload, Status as Control}
 use Rattle.rlc_pdu.specs.Reading.{am_at}
 use Rattle.rlc_am_tx.specs.Machine.{State as Sender, answer as rlc_answer}
 use Rattle.rlc_am_rx.specs.State.{State as Receiver, fresh}
-use Rattle.law_rlc.specs.AmSender.Run.{Call as SenderCall, Offer, Take as Taking, Status, Tick as Ticks, Expire as Expires, Settle, Confirm}
-use Rattle.law_rlc.specs.AmReceiver.Run.{Call as ReceiverCall, Arrive as Hears, Up, Write, ExpireReorder, ExpireProhibit, TickReorder, TickProhibit, state_after}
+use Rattle.law_rlc.specs.AmSender.Run.{Call as SenderCall, Offer, Take as Taking, Status}
+use Rattle.law_rlc.specs.AmSender.Run.{Tick as Ticks, Expire as Expires, Settle, Confirm}
+use Rattle.law_rlc.specs.AmReceiver.Run.{Call as ReceiverCall, Arrive as Hears, Up, Write}
+use Rattle.law_rlc.specs.AmReceiver.Run.{ExpireReorder, ExpireProhibit, TickReorder, TickProhibit}
+use Rattle.law_rlc.specs.AmReceiver.Run.{state_after}
 use Rattle.eps_sec.specs.declared.Keys.{Keys}
 use Rattle.bearer_pdcp.specs.Telling.{pdus_of}
 use Rattle.bearer.specs.Acknowledged.State.{State, has_more}
 use Rattle.bearer.specs.Acknowledged.Taking.{writes_status, status_pdus, data_size, after_taking}
 use Rattle.bearer.specs.declared.flow.Flow.TheVariants.{Am}
 use Rattle.bearer.specs.Taking.{pdus}
-use Rattle.law_bearer.specs.AnyBearer.Calls.{Call, Submit, Take, Arrive, Expire, Tick, SetDiscard, after, Restart, goes}
+use Rattle.law_bearer.specs.AnyBearer.Calls.{Call, Submit, Take, Arrive, Expire, Tick, SetDiscard}
+use Rattle.law_bearer.specs.AnyBearer.Calls.{after, Restart, goes}
 use Rattle.law_bearer.specs.AnyBearer.Stream.{takes, pdu_of}
 use Rattle.law_bearer.specs.AnyBearer.Sending.{sends_on}
 
@@ -35,7 +41,8 @@ has_more_behind b share held = has_more (after_taking b share held).pdcp
 
 -- the data PDU that it then gives
 abbrev pub data_given : State → ℕ → Option ℕ → Taken
-data_given b share held = rlc_answer (offered_to b share held) (data_size b share) held (has_more_behind b share held)
+data_given b share held =
+    rlc_answer (offered_to b share held) (data_size b share) held (has_more_behind b share held)
 
 abbrev pub status_heard : Result AcknowledgedPdu RlcRefusal → List SenderCall
 status_heard (Ok (Control pdu)) = Status pdu ∷ []
@@ -45,7 +52,9 @@ status_heard (Err refused) = []
 -- what brings something to the sender, or takes it from there
 abbrev pub sender_calls : State → Call → List SenderCall
 sender_calls b (Submit sdu) = []
-sender_calls b (Take share held) = map (λ sdu. Offer sdu) (offers_in b share held) ++ Taking (data_size b share) held (has_more_behind b share held) ∷ []
+sender_calls b (Take share held) =
+    map (λ sdu. Offer sdu) (offers_in b share held)
+    ++ Taking (data_size b share) held (has_more_behind b share held) ∷ []
 sender_calls b (Arrive pdu) = status_heard (am_at pdu)
 sender_calls b (Expire clock) = []
 sender_calls b Tick = []
@@ -105,15 +114,20 @@ pub record ReceiverGoes (r t : Receiver) (calls : List ReceiverCall) : Type 0 wh
 -- ---- the laws
 
 abbrev pub SenderGoesOn : Type 0
-SenderGoesOn = (b d : State) (c : Call) → after (Am b) c ≡ Am d → SenderGoes b.tx d.tx (sender_calls b c)
+SenderGoesOn = (b d : State) (c : Call) → after (Am b) c ≡ Am d
+    → SenderGoes b.tx d.tx (sender_calls b c)
 
 abbrev pub ReceiverGoesOn : Type 0
-ReceiverGoesOn = (b d : State) (c : Call) → after (Am b) c ≡ Am d → ReceiverGoes b.rx d.rx (receiver_calls b c)
+ReceiverGoesOn = (b d : State) (c : Call) → after (Am b) c ≡ Am d
+    → ReceiverGoes b.rx d.rx (receiver_calls b c)
 
--- the PDUs that it writes are the receiver's STATUS, where it writes one, and the data PDU that the sender gives
+-- the PDUs that it writes are the receiver's STATUS, where it writes one, and the data PDU that the
+-- sender gives
 abbrev pub WritesWhatRlcGives : Type 0
-WritesWhatRlcGives = (b : State) (share : ℕ) (held : Option ℕ) → pdus (Am b) share held ≡ status_pdus b.rx share ++ pdus_of (data_given b share held)
+WritesWhatRlcGives = (b : State) (share : ℕ) (held : Option ℕ)
+    → pdus (Am b) share held ≡ status_pdus b.rx share ++ pdus_of (data_given b share held)
 
 -- each life begins with a receiver that begins
 abbrev pub HearsAnew : Type 0
-HearsAnew = (b d : State) (keys : Keys) → goes (Am b) (Restart keys) ≡ Am d → d.rx ≡ fresh b.rx_config
+HearsAnew = (b d : State) (keys : Keys) → goes (Am b) (Restart keys) ≡ Am d
+    → d.rx ≡ fresh b.rx_config

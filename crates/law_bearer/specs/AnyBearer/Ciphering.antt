@@ -1,4 +1,5 @@
--- What a bearer ciphers through its lives, and when no two of its texts meet under one key at one COUNT (TS 36.323 5.6, TS 33.401 B.1).
+-- What a bearer ciphers through its lives, and when no two of its texts meet under one key at one
+-- COUNT (TS 36.323 5.6, TS 33.401 B.1).
 use Rattle.std.specs.Prelude.{◌≡◌, ◌⊎◌, ℕ, List, [], ◌∷◌, ◌++◌, map, Option, Some, None}
 use Rattle.std.specs.List.{AllByRecursion}
 use Rattle.bearer_types.specs.declared.BearerConfig.{BearerConfig}
@@ -36,7 +37,8 @@ ciphered f (x ∷ xs) = ciphered_by (ends f) (takes_in f x) ++ ciphered (goes f 
 -- two that have key, BEARER, DIRECTION and COUNT in common have one text
 abbrev pub ShareText : Ciphering → Ciphering → Type 0
 ShareText a b =
-    a.protection.key ≡ b.protection.key → a.protection.bearer ≡ b.protection.bearer → a.protection.direction ≡ b.protection.direction → a.count ≡ b.count
+    a.protection.key ≡ b.protection.key → a.protection.bearer ≡ b.protection.bearer
+    → a.protection.direction ≡ b.protection.direction → a.count ≡ b.count
     → a.sdu ≡ b.sdu
 
 abbrev pub AllShareText : List Ciphering → List Ciphering → Type 0
@@ -63,17 +65,21 @@ IsOneOf key (other ∷ keys) = (key ≡ other) ⊎ IsOneOf key keys
 
 -- ---- the laws
 
--- a bearer ciphers under the keys of its lives, with its own BEARER and with the DIRECTION of its side
-pub record IsOfBearer (c : BearerConfig) (side : Side) (keys : List Keys) (x : Ciphering) : Type 0 where
-  pub key : IsOneOf x.protection.key (map (cipher_key c.kind) keys)
-  pub bearer : x.protection.bearer ≡ bearer_of c.channel.lcid
-  pub direction : x.protection.direction ≡ sends side
+-- a bearer ciphers under the keys of its lives, with its own BEARER and with the DIRECTION of its
+-- side
+pub record IsOfBearer (c : BearerConfig) (side : Side) (keys : List Keys) (x : Ciphering) : Type 0
+  where
+    pub key : IsOneOf x.protection.key (map (cipher_key c.kind) keys)
+    pub bearer : x.protection.bearer ≡ bearer_of c.channel.lcid
+    pub direction : x.protection.direction ≡ sends side
 
 abbrev pub CiphersAsItself : Type 0
 CiphersAsItself = (c : BearerConfig) (keys : Keys) (side : Side) (steps : List Step)
-    → AllByRecursion (IsOfBearer c side (keys ∷ restarts steps)) (ciphered (flow_of c.kind c keys side) steps)
+    → AllByRecursion (IsOfBearer c side (keys ∷ restarts steps))
+    (ciphered (flow_of c.kind c keys side) steps)
 
 -- where no two lives have the same key, no two texts meet
 abbrev pub OneTextAKey : Type 0
 OneTextAKey = (c : BearerConfig) (keys : Keys) (side : Side) (steps : List Step) → AreDistinct (map (cipher_key c.kind) (keys ∷ restarts steps))
-    → AllShareText (ciphered (flow_of c.kind c keys side) steps) (ciphered (flow_of c.kind c keys side) steps)
+    → AllShareText (ciphered (flow_of c.kind c keys side) steps)
+    (ciphered (flow_of c.kind c keys side) steps)

@@ -17,7 +17,8 @@ pub record Waits (s t : Sending) : Type 0 where
   pub clock : t.clock ≡ s.clock
   pub discard : t.discard ≡ s.discard
 
--- COUNT begins at 0 again on both sides, nothing is taken again, nothing is held, and no report is owed
+-- COUNT begins at 0 again on both sides, nothing is taken again, nothing is held, and no report is
+-- owed
 pub record Anew (e : Ends) : Type 0 where
   pub next : e.tx.next ≡ 0
   pub again : e.tx.again ≡ []
@@ -25,8 +26,9 @@ pub record Anew (e : Ends) : Type 0 where
   pub expected : e.rx.next ≡ 0
   pub held : e.rx.held ≡ []
 
--- acknowledged data: with their COUNTs the SDUs are taken again that no report confirmed, from the first on that isn't confirmed; the
--- receiver keeps the COUNT that it expects and what it holds, as the end of the life left it, and a report of that is owed first
+-- acknowledged data: with their COUNTs the SDUs are taken again that no report confirmed, from the
+-- first on that isn't confirmed; the receiver keeps the COUNT that it expects and what it holds, as
+-- the end of the life left it, and a report of that is owed first
 pub record Continues (before between after : Ends) : Type 0 where
   pub again : after.tx.again ≡ kept_again before.tx
   pub first : first_again after.tx.again after.tx.next ≡ low before.tx
@@ -53,7 +55,9 @@ Keeps (Am bits) before between after = Continues before between after
 
 -- PDCP before the end of a life, between the lives, and in the next one
 abbrev pub RestartKeeps : Type 0
-RestartKeeps = (c : BearerConfig) (first : Keys) (side : Side) (steps : List Step) (keys : Keys) (d m e : Ends)
+RestartKeeps =
+    (c : BearerConfig) (first : Keys) (side : Side) (steps : List Step) (keys : Keys)
+    (d m e : Ends)
     → ends (reached c first side steps) ≡ Some d
     → ends_between (stopped (reached c first side steps)) ≡ Some m
     → ends (goes (reached c first side steps) (Restart keys)) ≡ Some e

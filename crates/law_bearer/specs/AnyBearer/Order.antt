@@ -1,4 +1,5 @@
--- In which order a bearer tells: the events of each of its calls are one of a set of sequences (TS 36.321 5.4.3.1, TS 36.322 5.1 to 5.4, 7.3, TS 36.323 5).
+-- In which order a bearer tells: the events of each of its calls are one of a set of sequences (TS
+-- 36.321 5.4.3.1, TS 36.322 5.1 to 5.4, 7.3, TS 36.323 5).
 use Rattle.std.specs.Prelude.{ℕ, Bool, false, not, Option, IfSome, List}
 use Rattle.bearer.specs.declared.flow.Flow.{Flow}
 use Rattle.bearer.specs.declared.flow.Flow.TheVariants as flows
@@ -30,4 +31,5 @@ pub record IsToldInOrder (lcid : ℕ) (f : Flow) : Type 0 where
 
 -- of any bearer that has come by calls, and through lives
 abbrev pub BearersTellInOrder : Type 0
-BearersTellInOrder = (c : BearerConfig) (keys : Keys) (side : Side) (steps : List Step) → IsToldInOrder c.channel.lcid (reached c keys side steps)
+BearersTellInOrder = (c : BearerConfig) (keys : Keys) (side : Side) (steps : List Step)
+    → IsToldInOrder c.channel.lcid (reached c keys side steps)

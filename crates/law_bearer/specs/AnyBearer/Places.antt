@@ -15,7 +15,8 @@ use Rattle.bearer.specs.Bearer.{flow_of}
 use Rattle.law_bearer.specs.AnyBearer.Calls.{Call, after_all, Step, Restart, goes, reached, ends}
 use Rattle.law_bearer.specs.AnyBearer.Stream.{taken}
 
--- what PDCP keeps of a taken PDU: the SDU with its COUNT, or that it was the own report; nothing once it is confirmed
+-- what PDCP keeps of a taken PDU: the SDU with its COUNT, or that it was the own report; nothing
+-- once it is confirmed
 abbrev pub IsOf : Entry → Offer → Type 0
 IsOf (Data x) o = (o.count ≡ Some x.count) × (o.text ≡ x.octets)
 IsOf Own o = o.count ≡ None
@@ -34,11 +35,14 @@ pub record AreAtPlaces (given : Given) (stream : List Offer) : Type 0 where
 
 -- in a life from its beginning on
 abbrev pub KeepsPlaces : Flow → Type 0
-KeepsPlaces f = (calls : List Call) (e : Ends) → ends (after_all f calls) ≡ Some e → AreAtPlaces e.tx.given (taken f calls)
+KeepsPlaces f = (calls : List Call) (e : Ends) → ends (after_all f calls) ≡ Some e
+    → AreAtPlaces e.tx.given (taken f calls)
 
 -- in the first life of an acknowledged data bearer, and in each that follows
 abbrev pub InTheFirst : Type 0
-InTheFirst = (c : BearerConfig) (keys : Keys) (side : Side) → c.kind ≡ kinds.Am → KeepsPlaces (flow_of c.kind c keys side)
+InTheFirst = (c : BearerConfig) (keys : Keys) (side : Side) → c.kind ≡ kinds.Am
+    → KeepsPlaces (flow_of c.kind c keys side)
 
 abbrev pub InTheOthers : Type 0
-InTheOthers = (c : BearerConfig) (keys : Keys) (side : Side) (steps : List Step) (next : Keys) → c.kind ≡ kinds.Am → KeepsPlaces (goes (reached c keys side steps) (Restart next))
+InTheOthers = (c : BearerConfig) (keys : Keys) (side : Side) (steps : List Step) (next : Keys)
+    → c.kind ≡ kinds.Am → KeepsPlaces (goes (reached c keys side steps) (Restart next))

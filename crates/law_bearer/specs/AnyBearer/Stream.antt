@@ -1,5 +1,6 @@
 -- What PDCP hands to RLC (TS 36.323 5.1.1, 5.3.1).
-use Rattle.std.specs.Prelude.{◌≡◌, ℕ, ◌+◌, ◌-◌, ◌≤◌, List, [], ◌∷◌, ◌++◌, map, length, take, Option, Some, None}
+use Rattle.std.specs.Prelude.{◌≡◌, ℕ, ◌+◌, ◌-◌, ◌≤◌, List, [], ◌∷◌, ◌++◌, map, length, take, Option}
+use Rattle.std.specs.Prelude.{Some, None}
 use Rattle.bearer_types.specs.declared.BearerConfig.{BearerConfig}
 use Rattle.eps_sec.specs.declared.Keys.{Keys}
 use Rattle.l2_types.specs.declared.Side.{Side}
@@ -13,7 +14,8 @@ use Rattle.bearer.specs.Unacknowledged.Taking.{feeding as um_feeding}
 use Rattle.bearer.specs.Acknowledged.Taking.{feeding as am_feeding}
 use Rattle.bearer.specs.declared.flow.Flow.{Flow}
 use Rattle.bearer.specs.declared.flow.Flow.TheVariants.{Tm, Um, Am}
-use Rattle.law_bearer.specs.AnyBearer.Calls.{Call, Submit, Take, Arrive, Expire, Tick, SetDiscard, after, Step, Calls, Restart, goes, reached, ends}
+use Rattle.law_bearer.specs.AnyBearer.Calls.{Call, Submit, Take, Arrive, Expire, Tick, SetDiscard}
+use Rattle.law_bearer.specs.AnyBearer.Calls.{after, Step, Calls, Restart, goes, reached, ends}
 
 -- ---- what RLC takes
 
@@ -25,7 +27,9 @@ offers_of (Some e) = offers e.tx
 -- what it takes in a call: the first that it may take, without those that it may take afterwards
 abbrev pub takes : Flow → Call → List Offer
 takes f (Submit sdu) = []
-takes f (Take share held) = take (length (offers_of (ends f)) - length (offers_of (ends (after f (Take share held))))) (offers_of (ends f))
+takes f (Take share held) =
+    take (length (offers_of (ends f)) - length (offers_of (ends (after f (Take share held)))))
+    (offers_of (ends f))
 takes f (Arrive pdu) = []
 takes f (Expire clock) = []
 takes f Tick = []
@@ -45,7 +49,8 @@ abbrev pub all_taken : Flow → List Step → List Offer
 all_taken f [] = []
 all_taken f (x ∷ xs) = takes_in f x ++ all_taken (goes f x) xs
 
--- ---- as PDUs, by PDCP's definitions: a report as it is, an SDU with its header, ciphered under the life's key by its COUNT
+-- ---- as PDUs, by PDCP's definitions: a report as it is, an SDU with its header, ciphered under
+-- the life's key by its COUNT
 
 abbrev pub pdu_of : Sending → Offer → List ℕ
 pdu_of s o = (written s.kind s.protection o.count o.text).octets
@@ -71,8 +76,10 @@ am_offered (pdu ∷ pdus) tx = am_offered pdus (offered_am tx pdu)
 
 abbrev pub IsOffered : Flow → ℕ → Option ℕ → Type 0
 IsOffered (Tm b) share held = Unit {0}
-IsOffered (Um b) share held = (um_feeding b share held).tx ≡ um_offered (map (pdu_of b.pdcp.tx) (takes (Um b) (Take share held))) b.tx
-IsOffered (Am b) share held = (am_feeding b share held).tx ≡ am_offered (map (pdu_of b.pdcp.tx) (takes (Am b) (Take share held))) b.tx
+IsOffered (Um b) share held = (um_feeding b share held).tx
+    ≡ um_offered (map (pdu_of b.pdcp.tx) (takes (Um b) (Take share held))) b.tx
+IsOffered (Am b) share held = (am_feeding b share held).tx
+    ≡ am_offered (map (pdu_of b.pdcp.tx) (takes (Am b) (Take share held))) b.tx
 
 -- ---- the order of a life
 
@@ -105,7 +112,9 @@ pub record IsStream (f : Flow) (calls : List Call) : Type 0 where
 -- ---- the laws
 
 abbrev pub OffersInOrder : Type 0
-OffersInOrder = (c : BearerConfig) (keys : Keys) (side : Side) (steps : List Step) (calls : List Call) → IsStream (reached c keys side steps) calls
+OffersInOrder =
+    (c : BearerConfig) (keys : Keys) (side : Side) (steps : List Step) (calls : List Call)
+    → IsStream (reached c keys side steps) calls
 
 -- the COUNTs of what is taken; a report has none
 abbrev pub counts : List Offer → List ℕ
@@ -113,4 +122,5 @@ counts [] = []
 counts (o ∷ os) = counts_in o.count ++ counts os
 
 abbrev pub TakesOnce : Type 0
-TakesOnce = (c : BearerConfig) (keys : Keys) (side : Side) (steps : List Step) (calls : List Call) → IsAscending 0 (counts (taken (reached c keys side steps) calls))
+TakesOnce = (c : BearerConfig) (keys : Keys) (side : Side) (steps : List Step) (calls : List Call)
+    → IsAscending 0 (counts (taken (reached c keys side steps) calls))

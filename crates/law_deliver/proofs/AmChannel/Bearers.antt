@@ -1,5 +1,6 @@
 -- A bearer of acknowledged data between two calls, and what it hands up.
-use Rattle.std.proofs.Common.{◌≡◌, ℕ, ◌==◌, if◌then◌else◌, cond, Bool, true, false, unwrap_or, Option, Some, None, List, [], ◌∷◌, ◌++◌, append-nil, refl, ap, sym, subst, ◌∙◌}
+use Rattle.std.proofs.Common.{◌≡◌, ℕ, ◌==◌, if◌then◌else◌, cond, Bool, true, false, unwrap_or, Option, Some, None, List}
+use Rattle.std.proofs.Common.{[], ◌∷◌, ◌++◌, append-nil, refl, ap, sym, subst, ◌∙◌}
 use Rattle.bearer.specs.declared.flow.Flow.{Flow}
 use Rattle.bearer.specs.declared.flow.Flow.TheVariants.{Am}
 use Rattle.bearer.specs.Hearing.{arriving, expiry}
@@ -10,7 +11,9 @@ use Rattle.bearer.specs.Acknowledged.Timing.{told_of}
 use Rattle.law_bearer.specs.AnyBearer.Calls.{Call, Submit, Take, Arrive, Expire, Tick, SetDiscard, Restart, after, goes}
 use Rattle.law_bearer.proofs.AnyBearer.Between.{IsBetween, submits, takes, arrives, expires, ticks_of, discards, moves}
 use Rattle.bearer_types.specs.declared.event.Event.{Event}
-use Rattle.bearer_types.specs.declared.event.Event.TheVariants.{Take as TakeTold, Report, Send, Wait, Start, Stop, Expired, Up, Fail, Drop, Integrity, BadMac, BadRlc, BadPdcp, Discard}
+use Rattle.bearer_types.specs.declared.event.Event.TheVariants.{Take as TakeTold, Report, Send, Wait, Start, Stop}
+use Rattle.bearer_types.specs.declared.event.Event.TheVariants.{Expired, Up, Fail, Drop, Integrity, BadMac, BadRlc}
+use Rattle.bearer_types.specs.declared.event.Event.TheVariants.{BadPdcp, Discard}
 use Rattle.eps_sec.specs.declared.Keys.{Keys}
 use Rattle.law_bearer.specs.AmBearer.Deeds.{does_all}
 use Rattle.law_bearer.specs.AmBearer.Calls.{deeds_of, tells, up_in, ups_in, IsOfData, IsIdle}
@@ -44,7 +47,8 @@ same_bearer b d q = cc
 pub called_steady : (bits l : ℕ) (b : State) (c : Call) → IsSteady bits l b → IsSteady bits l (called b c)
 called_steady bits l b c h =
     let one = calls_are_deeds bits b c h.data' h.idle in
-    let is : does_all (deeds_of b c) b ≡ called b c = same_bearer (does_all (deeds_of b c) b) (called b c) (sym one.left ∙ is_called b c) in
+    let is : does_all (deeds_of b c) b ≡ called b c =
+    same_bearer (does_all (deeds_of b c) b) (called b c) (sym one.left ∙ is_called b c) in
     record {
       data' = subst (IsOfData bits) is one.stays;
       idle = subst IsIdle is one.idle;
@@ -58,11 +62,19 @@ pub record RestartsSo (bits l : ℕ) (b : State) (keys : Keys) : Type 0 where
 pub restarts_steady : (bits l : ℕ) (b : State) (keys : Keys) → IsSteady bits l b → RestartsSo bits l b keys
 restarts_steady bits l b keys h =
     let one = restarts_are_deeds bits b keys h.data' h.idle in
-    record { left = one.left; steady = record { data' = one.stays; idle = one.idle; between = subst (IsBetween l) one.left (moves l (Am b) keys h.between) } }
+    record {
+      left = one.left;
+      steady = record {
+        data' = one.stays;
+        idle = one.idle;
+        between = subst (IsBetween l) one.left (moves l (Am b) keys h.between);
+      };
+    }
 
 -- ---- what it tells is of its own channel
 
-up_if : (here : Bool) (l lcid : ℕ) (sdu : List ℕ) (xs : List Event) → (lcid == l) ≡ here → ups_in (cond here (Up lcid sdu ∷ xs) xs) ≡ (if here then sdu ∷ [] else []) ++ ups_in xs
+up_if : (here : Bool) (l lcid : ℕ) (sdu : List ℕ) (xs : List Event) → (lcid == l) ≡ here
+    → ups_in (cond here (Up lcid sdu ∷ xs) xs) ≡ (if here then sdu ∷ [] else []) ++ ups_in xs
 up_if true l lcid sdu xs e = refl
 up_if false l lcid sdu xs e = refl
 

@@ -1,5 +1,6 @@
 -- What a channel delivers.
-use Rattle.std.proofs.Common.{◌≡◌, ◌≤◌, inr, ℕ, ◌-◌, refl, Bool, length, drop, Some, None, false, List, [], ◌∷◌, ◌++◌, append_assoc, length-append, ap, sym, subst, ◌∙◌, arith}
+use Rattle.std.proofs.Common.{◌≡◌, ◌≤◌, inr, ℕ, ◌-◌, refl, Bool, length, drop, Some, None, false, List, [], ◌∷◌, ◌++◌}
+use Rattle.std.proofs.Common.{append_assoc, length-append, ap, sym, subst, ◌∙◌, arith}
 use Rattle.std.proofs.lemmas.List.{take-append-le}
 use Rattle.std.specs.List.{AllByRecursion, flat_map}
 use Rattle.bearer.specs.Bearer.{flow_of}
@@ -43,7 +44,9 @@ use Rattle.law_deliver.specs.AmDelivery.Arrival.{down_in, up_in, IsWhatCame}
 use Rattle.law_deliver.specs.AmChannel.Arrival.{happened, told_from}
 use Rattle.law_deliver.proofs.AmDelivery.Laws.{delivers_what_was_taken, what_came_is_delivered}
 use Rattle.law_deliver.specs.AmDelivery.Lives.{LifeStep, over}
-use Rattle.law_deliver.specs.AmChannel.Delivery.{HasBegun, BeginAlike, was_taken, was_submitted, steps_over, DiscardsNone, SetNone, ups_at, submitted_at, taken_at, DiscardsNoneAt, SetNoneAt}
+use Rattle.law_deliver.specs.AmChannel.Delivery.{HasBegun, BeginAlike, was_taken, was_submitted, steps_over}
+use Rattle.law_deliver.specs.AmChannel.Delivery.{DiscardsNone, SetNone, ups_at, submitted_at, taken_at, DiscardsNoneAt}
+use Rattle.law_deliver.specs.AmChannel.Delivery.{SetNoneAt}
 use Rattle.law_deliver.specs.AmChannel.Lives.{AirStep, AreLiving, end_at, all_calls}
 use Rattle.law_deliver.proofs.AmChannel.Bearers.{IsSteady}
 use Rattle.law_bearer.proofs.AnyBearer.Streams.{am_begins, begun_tx}
@@ -66,33 +69,45 @@ use Rattle.law_deliver.proofs.AmChannel.Walk.{BothMatch, WalksOn, walks_on}
 abbrev pub first_of : BearerConfig → Keys → Side → State
 first_of c keys side = fresh_am c (AmKind c.pdcp_bits) keys side
 
-first_is : (c : BearerConfig) (keys : Keys) (side : Side) → c.kind ≡ kinds.Am → flow_of c.kind c keys side ≡ Am (first_of c keys side)
+first_is : (c : BearerConfig) (keys : Keys) (side : Side) → c.kind ≡ kinds.Am
+    → flow_of c.kind c keys side ≡ Am (first_of c keys side)
 first_is c keys side k = ap (λ (x : Kind). flow_of x c keys side) k
 
 life_begins : (c : BearerConfig) (b : State) → BeginsAs c b → BeginsLife b
-life_begins c b h = record { sends = h.tx ∙ ap start_sender (sym h.tx_config); hears = h.rx ∙ ap fresh_receiver (sym h.rx_config) }
+life_begins c b h = record {
+  sends = h.tx ∙ ap start_sender (sym h.tx_config);
+  hears = h.rx ∙ ap fresh_receiver (sym h.rx_config);
+}
 
-pub stands_so : (side : Side) (l : ℕ) (c : BearerConfig) (keys : Keys) (e : End) → HasBegun side l c keys e → Stands side l e
+pub stands_so : (side : Side) (l : ℕ) (c : BearerConfig) (keys : Keys) (e : End) → HasBegun side l c keys e
+    → Stands side l e
 stands_so side l c keys e h =
     let come = h.come in
     let is = come.end_is in
-    subst (Stands side l) (sym is) (stands side come.maximum come.reports come.past l come.given h.new (ap (λ (x : End). has l x.bearers) (sym is) ∙ h.there))
+    subst (Stands side l) (sym is)
+    (stands side come.maximum come.reports come.past l come.given h.new
+    (ap (λ (x : End). has l x.bearers) (sym is) ∙ h.there))
 
-steady_so : (side : Side) (l : ℕ) (c : BearerConfig) (keys : Keys) (e : End) → c.kind ≡ kinds.Am → HasBegun side l c keys e → IsSteady c.pdcp_bits l (first_of c keys side)
+steady_so : (side : Side) (l : ℕ) (c : BearerConfig) (keys : Keys) (e : End) → c.kind ≡ kinds.Am
+    → HasBegun side l c keys e → IsSteady c.pdcp_bits l (first_of c keys side)
 steady_so side l c keys e k h =
     let first = first_life_begins c keys side (first_of c keys side) k (first_is c keys side k) in
     record {
       data' = first.stays;
       idle = first.idle;
-      between = subst (λ (f : Flow). IsBetween l f) (h.bearer_is ∙ first_is c keys side k) (between_at l e.bearers h.there (come_between side e h.come));
+      between = subst (λ (f : Flow). IsBetween l f) (h.bearer_is ∙ first_is c keys side k)
+          (between_at l e.bearers h.there (come_between side e h.come));
     }
 
-begins_life : (side : Side) (l : ℕ) (c : BearerConfig) (keys : Keys) (e : End) → c.kind ≡ kinds.Am → HasBegun side l c keys e → Begins side l e (first_of c keys side)
+begins_life : (side : Side) (l : ℕ) (c : BearerConfig) (keys : Keys) (e : End) → c.kind ≡ kinds.Am
+    → HasBegun side l c keys e → Begins side l e (first_of c keys side)
 begins_life side l c keys e k h = record {
   come = h.come;
   there = h.there;
   bearer_is = h.bearer_is ∙ first_is c keys side k;
-  life = life_begins c (first_of c keys side) (first_life_begins c keys side (first_of c keys side) k (first_is c keys side k));
+  life =
+      life_begins c (first_of c keys side)
+      (first_life_begins c keys side (first_of c keys side) k (first_is c keys side k));
 }
 
 -- ---- two ends go on as a pair
@@ -116,7 +131,13 @@ module _ (l : ℕ) (c : BearerConfig) (keys : Keys) (nb ue : End) (h : BeginAlik
   }
 
   pub both_ends : AreBothEnds c keys (first_of c keys Nb) (first_of c keys Ue)
-  both_ends = record { config = h.config; first = h.first; kind = h.kind; nb_is = first_is c keys Nb h.kind; ue_is = first_is c keys Ue h.kind }
+  both_ends = record {
+    config = h.config;
+    first = h.first;
+    kind = h.kind;
+    nb_is = first_is c keys Nb h.kind;
+    ue_is = first_is c keys Ue h.kind;
+  }
 
   pub walk : (xs : List AirStep) → AreLiving l (outset nb ue) xs → WalksOn c.pdcp_bits l (outset nb ue) xs pair
   walk xs g = walks_on c.pdcp_bits l xs (outset nb ue) pair g both_match
@@ -130,7 +151,8 @@ module _ (l : ℕ) (c : BearerConfig) (keys : Keys) (nb ue : End) (h : BeginAlik
   own_is Ue = h.ue_begun.bearer_is ∙ first_is c keys Ue h.kind
 
   pub does_is : (side : Side) (xs : List AirStep) (g : AreLiving l (outset nb ue) xs)
-      → all_does side (walk xs g).steps pair ≡ steps_over l (all_calls side xs (outset nb ue)) (end_at side (outset nb ue))
+      → all_does side (walk xs g).steps pair
+      ≡ steps_over l (all_calls side xs (outset nb ue)) (end_at side (outset nb ue))
   does_is Nb xs g = (walk xs g).nb_does
   does_is Ue xs g = (walk xs g).ue_does
 
@@ -155,14 +177,19 @@ module _ (l : ℕ) (c : BearerConfig) (keys : Keys) (nb ue : End) (h : BeginAlik
 
   pair_delivers : (from : Side) (xs : List AirStep) (g : AreLiving l (outset nb ue) xs)
       → IsFront (over (ups_in_at (other from)) (walk xs g).steps pair) (over (news_in_at from) (walk xs g).steps pair)
-  pair_delivers Nb xs g = (delivers_what_was_taken c keys (first_of c keys Nb) (first_of c keys Ue) (walk xs g).steps both_ends (walk xs g).living).down
-  pair_delivers Ue xs g = (delivers_what_was_taken c keys (first_of c keys Nb) (first_of c keys Ue) (walk xs g).steps both_ends (walk xs g).living).up
+  pair_delivers Nb xs g =
+      (delivers_what_was_taken c keys (first_of c keys Nb) (first_of c keys Ue) (walk xs g).steps both_ends
+      (walk xs g).living).down
+  pair_delivers Ue xs g =
+      (delivers_what_was_taken c keys (first_of c keys Nb) (first_of c keys Ue) (walk xs g).steps both_ends
+      (walk xs g).living).up
 
   delivers : (from : Side) (xs : List AirStep) → AreLiving l (outset nb ue) xs
       → IsFront (ups_at l (other from) xs (outset nb ue)) (taken_at l from xs (outset nb ue))
   delivers from xs g =
       subst (λ (up : List (List ℕ)). IsFront up (taken_at l from xs (outset nb ue))) (ups_is (other from) xs g)
-      (subst (IsFront (over (ups_in_at (other from)) (walk xs g).steps pair)) (news_is from xs g) (pair_delivers from xs g))
+      (subst (IsFront (over (ups_in_at (other from)) (walk xs g).steps pair)) (news_is from xs g)
+      (pair_delivers from xs g))
 
   -- ---- exactly which
 
@@ -171,33 +198,50 @@ module _ (l : ℕ) (c : BearerConfig) (keys : Keys) (nb ue : End) (h : BeginAlik
   told_at Nb = down_in
   told_at Ue = up_in
 
-  told_is : (from : Side) (xs : List AirStep) (g : AreLiving l (outset nb ue) xs) → over (told_at from) (walk xs g).steps pair ≡ happened c.pdcp_bits l from xs (outset nb ue)
+  told_is : (from : Side) (xs : List AirStep) (g : AreLiving l (outset nb ue) xs)
+      → over (told_at from) (walk xs g).steps pair ≡ happened c.pdcp_bits l from xs (outset nb ue)
   told_is Nb xs g = (walk xs g).down_is
   told_is Ue xs g = (walk xs g).up_is
 
   pair_came : (from : Side) (xs : List AirStep) (g : AreLiving l (outset nb ue) xs)
-      → IsWhatCame c.first (account (over (told_at from) (walk xs g).steps pair) no_account) (over (news_in_at from) (walk xs g).steps pair) (over (ups_in_at (other from)) (walk xs g).steps pair)
-  pair_came Nb xs g = (what_came_is_delivered c keys (first_of c keys Nb) (first_of c keys Ue) (walk xs g).steps both_ends (walk xs g).living).down
-  pair_came Ue xs g = (what_came_is_delivered c keys (first_of c keys Nb) (first_of c keys Ue) (walk xs g).steps both_ends (walk xs g).living).up
+      → IsWhatCame c.first (account (over (told_at from) (walk xs g).steps pair) no_account)
+      (over (news_in_at from) (walk xs g).steps pair) (over (ups_in_at (other from)) (walk xs g).steps pair)
+  pair_came Nb xs g =
+      (what_came_is_delivered c keys (first_of c keys Nb) (first_of c keys Ue) (walk xs g).steps both_ends
+      (walk xs g).living).down
+  pair_came Ue xs g =
+      (what_came_is_delivered c keys (first_of c keys Nb) (first_of c keys Ue) (walk xs g).steps both_ends
+      (walk xs g).living).up
 
   pub came : (from : Side) (xs : List AirStep) → AreLiving l (outset nb ue) xs
-      → IsWhatCame c.first (told_from c l from xs (outset nb ue)) (taken_at l from xs (outset nb ue)) (ups_at l (other from) xs (outset nb ue))
+      → IsWhatCame c.first (told_from c l from xs (outset nb ue)) (taken_at l from xs (outset nb ue))
+      (ups_at l (other from) xs (outset nb ue))
   came from xs g =
-      subst (λ (up : List (List ℕ)). IsWhatCame c.first (told_from c l from xs (outset nb ue)) (taken_at l from xs (outset nb ue)) up) (ups_is (other from) xs g)
-      (subst (λ (all : List (List ℕ)). IsWhatCame c.first (told_from c l from xs (outset nb ue)) all (over (ups_in_at (other from)) (walk xs g).steps pair)) (news_is from xs g)
-      (subst (λ (hs : List Happening). IsWhatCame c.first (account hs no_account) (over (news_in_at from) (walk xs g).steps pair) (over (ups_in_at (other from)) (walk xs g).steps pair)) (told_is from xs g)
+      subst (λ (up : List (List ℕ)). IsWhatCame c.first (told_from c l from xs (outset nb ue))
+      (taken_at l from xs (outset nb ue)) up) (ups_is (other from) xs g)
+      (subst (λ (all : List (List ℕ)). IsWhatCame c.first (told_from c l from xs (outset nb ue)) all
+      (over (ups_in_at (other from)) (walk xs g).steps pair)) (news_is from xs g)
+      (subst (λ (hs : List Happening). IsWhatCame c.first (account hs no_account)
+      (over (news_in_at from) (walk xs g).steps pair) (over (ups_in_at (other from)) (walk xs g).steps pair))
+      (told_is from xs g)
       (pair_came from xs g)))
 
 -- ---- of what is submitted
 
 front_more : (front all more : List (List ℕ)) → IsFront front all → IsFront front (all ++ more)
-front_more front all more h = record { rest = h.rest ++ more; is = ap (λ (l : List (List ℕ)). l ++ more) h.is ∙ append_assoc front h.rest more }
+front_more front all more h =
+    record { rest = h.rest ++ more; is = ap (λ (l : List (List ℕ)). l ++ more) h.is ∙ append_assoc front h.rest more }
 
-first_unset : (side : Side) (c : BearerConfig) (keys : Keys) → c.kind ≡ kinds.Am → (first_of c keys side).pdcp.tx.discard ≡ None
+first_unset : (side : Side) (c : BearerConfig) (keys : Keys) → c.kind ≡ kinds.Am
+    → (first_of c keys side).pdcp.tx.discard ≡ None
 unfolding start
-first_unset side c keys k = ap (λ (s : Sending). s.discard) (ends_begin_alike c keys side (first_of c keys side) (first_of c keys (other side)) k (first_is c keys side k) (first_is c keys (other side) k)).sender
+first_unset side c keys k =
+    ap (λ (s : Sending). s.discard)
+    (ends_begin_alike c keys side (first_of c keys side) (first_of c keys (other side)) k (first_is c keys side k)
+    (first_is c keys (other side) k)).sender
 
-module _ (side : Side) (l : ℕ) (c : BearerConfig) (keys : Keys) (e : End) (cs : List Call) (k : c.kind ≡ kinds.Am) (h : HasBegun side l c keys e) where
+module _ (side : Side) (l : ℕ) (c : BearerConfig) (keys : Keys) (e : End) (cs : List Call) (k : c.kind ≡ kinds.Am)
+    (h : HasBegun side l c keys e) where
   -- the steps of the bearer, and what still waits in the end
   abbrev own_steps : List BearerStep
   own_steps = steps_over l cs e
@@ -224,11 +268,13 @@ module _ (side : Side) (l : ℕ) (c : BearerConfig) (keys : Keys) (e : End) (cs 
   none_told g none =
       (all_goes g).discards_are
       ∙ ap (λ (f : Flow). all_discards l f own_steps) starts_as
-      ∙ none_discarded c.pdcp_bits l own_steps first_bearer (steady_so side l c keys e k h) (first_unset side c keys k) (steps_unset l cs e none)
+      ∙ none_discarded c.pdcp_bits l own_steps first_bearer (steady_so side l c keys e k h)
+      (first_unset side c keys k) (steps_unset l cs e none)
 
   pub taken_then : AllByRecursion (IsCall l) cs → DiscardsNone l cs e → was_taken l cs e ++ waits ≡ was_submitted l cs e
   taken_then g none =
-      let told : all_discards l (Am first_bearer) own_steps ≡ [] = ap (λ (f : Flow). all_discards l f own_steps) (sym starts_as) ∙ sym (all_goes g).discards_are ∙ none in
+      let told : all_discards l (Am first_bearer) own_steps ≡ [] =
+      ap (λ (f : Flow). all_discards l f own_steps) (sym starts_as) ∙ sym (all_goes g).discards_are ∙ none in
       let left : all_left (flow l e) own_steps ≡ was_taken l cs e =
       ap (λ (f : Flow). all_left f own_steps) starts_as
       ∙ all_taken c.pdcp_bits l own_steps first_bearer (steady_so side l c keys e k h) told
@@ -238,7 +284,8 @@ module _ (side : Side) (l : ℕ) (c : BearerConfig) (keys : Keys) (e : End) (cs 
   taken_thin : IsSubsequence (was_taken l cs e) (was_submitted l cs e)
   taken_thin =
       let left = all_left (flow l e) own_steps in
-      subst (IsSubsequence (was_taken l cs e)) leaves_then (thinner (was_taken l cs e) left (left ++ waits) (news_leave own_steps (flow l e)) (front_thin left waits))
+      subst (IsSubsequence (was_taken l cs e)) leaves_then
+      (thinner (was_taken l cs e) left (left ++ waits) (news_leave own_steps (flow l e)) (front_thin left waits))
 
   -- what it takes is told
   abbrev guard : Protection
@@ -246,7 +293,8 @@ module _ (side : Side) (l : ℕ) (c : BearerConfig) (keys : Keys) (e : End) (cs 
 
   first_sender : first_bearer.pdcp.tx ≡ start (AmKind c.pdcp_bits) guard c.first
   first_sender =
-      let some : Some first_bearer.pdcp ≡ Some (begun_ends c.channel.lcid (AmKind c.pdcp_bits) c.first keys side) = am_begins c keys side in
+      let some : Some first_bearer.pdcp ≡ Some (begun_ends c.channel.lcid (AmKind c.pdcp_bits) c.first keys side) =
+      am_begins c keys side in
       let same : first_bearer.pdcp ≡ begun_ends c.channel.lcid (AmKind c.pdcp_bits) c.first keys side = cc in
       ap (λ (x : Ends). x.tx) same ∙ begun_tx c.channel.lcid (AmKind c.pdcp_bits) c.first keys side
 
@@ -254,21 +302,27 @@ module _ (side : Side) (l : ℕ) (c : BearerConfig) (keys : Keys) (e : End) (cs 
   unfolding start
   start_next = refl
 
-  flags_are : AllByRecursion (IsCall l) cs → were_taken c.first (flat_map (leaving_in l) (told_over cs e)) ≡ all_flags (flow l e) own_steps
+  flags_are : AllByRecursion (IsCall l) cs → were_taken c.first (flat_map (leaving_in l) (told_over cs e))
+      ≡ all_flags (flow l e) own_steps
   flags_are g =
       ap (were_taken c.first) (all_goes g).leaving_are
       ∙ (ap (λ (f : Flow). were_taken c.first (all_leaving l f own_steps)) starts_as
-      ∙ (ap (λ (n : ℕ). were_taken n (all_leaving l (Am first_bearer) own_steps)) (sym (ap (λ s. s.next) first_sender ∙ start_next))
-      ∙ (flags_told (AmKind c.pdcp_bits) guard c.first c.pdcp_bits l own_steps first_bearer (steady_so side l c keys e k h) (record { steps = []; is = first_sender })
+      ∙ (ap (λ (n : ℕ). were_taken n (all_leaving l (Am first_bearer) own_steps))
+      (sym (ap (λ s. s.next) first_sender ∙ start_next))
+      ∙ (flags_told (AmKind c.pdcp_bits) guard c.first c.pdcp_bits l own_steps first_bearer
+      (steady_so side l c keys e k h) (record { steps = []; is = first_sender })
       ∙ ap (λ (f : Flow). all_flags f own_steps) (sym starts_as))))
 
-  pub taken_is_told : AllByRecursion (IsCall l) cs → was_taken l cs e ≡ taken_of l c.first (told_over cs e) (was_submitted l cs e)
+  pub taken_is_told : AllByRecursion (IsCall l) cs
+      → was_taken l cs e ≡ taken_of l c.first (told_over cs e) (was_submitted l cs e)
   taken_is_told g =
       sym (flags_choose own_steps (flow l e) waits)
-      ∙ (ap (chosen (all_flags (flow l e) own_steps)) leaves_then ∙ ap (λ (bs : List Bool). chosen bs (was_submitted l cs e)) (sym (flags_are g)))
+      ∙ (ap (chosen (all_flags (flow l e) own_steps)) leaves_then
+      ∙ ap (λ (bs : List Bool). chosen bs (was_submitted l cs e)) (sym (flags_are g)))
 
   -- none leaves that wasn't submitted
-  pub none_beyond : AllByRecursion (IsCall l) cs → length (leaves l c.first (told_over cs e)) ≤ length (was_submitted l cs e)
+  pub none_beyond : AllByRecursion (IsCall l) cs
+      → length (leaves l c.first (told_over cs e)) ≤ length (was_submitted l cs e)
   none_beyond g =
       let all = ap length leaves_then in
       let parts = length-append (all_left (flow l e) own_steps) waits in
@@ -277,31 +331,42 @@ module _ (side : Side) (l : ℕ) (c : BearerConfig) (keys : Keys) (e : End) (cs 
       omega (arith, all, parts, many, told)
 
   -- and so is what it doesn't discard
-  pub kept_is_told : AllByRecursion (IsCall l) cs → was_taken l cs e ++ waits ≡ kept_of l c.first (told_over cs e) (was_submitted l cs e)
+  pub kept_is_told : AllByRecursion (IsCall l) cs
+      → was_taken l cs e ++ waits ≡ kept_of l c.first (told_over cs e) (was_submitted l cs e)
   kept_is_told g =
-      let still : waits ≡ drop (length (were_taken c.first (flat_map (leaving_in l) (told_over cs e)))) (was_submitted l cs e) =
+      let still : waits ≡ drop (length (were_taken c.first (flat_map (leaving_in l) (told_over cs e))))
+      (was_submitted l cs e) =
       sym (flags_leave own_steps (flow l e) waits)
-      ∙ (ap (drop (length (all_flags (flow l e) own_steps))) leaves_then ∙ ap (λ (bs : List Bool). drop (length bs) (was_submitted l cs e)) (sym (flags_are g))) in
-      ap (λ (taken : List (List ℕ)). taken ++ waits) (taken_is_told g) ∙ ap (λ (ws : List (List ℕ)). taken_of l c.first (told_over cs e) (was_submitted l cs e) ++ ws) still
+      ∙ (ap (drop (length (all_flags (flow l e) own_steps))) leaves_then
+      ∙ ap (λ (bs : List Bool). drop (length bs) (was_submitted l cs e)) (sym (flags_are g))) in
+      ap (λ (taken : List (List ℕ)). taken ++ waits) (taken_is_told g)
+      ∙ ap (λ (ws : List (List ℕ)). taken_of l c.first (told_over cs e) (was_submitted l cs e) ++ ws) still
 
 -- ---- the laws
 
-pub channels_tell_what_is_taken : (l : ℕ) (c : BearerConfig) (keys : Keys) (nb ue : End) (from : Side) (steps : List AirStep)
+pub channels_tell_what_is_taken : (l : ℕ) (c : BearerConfig) (keys : Keys) (nb ue : End) (from : Side)
+    (steps : List AirStep)
     → BeginAlike l c keys nb ue → AreLiving l (outset nb ue) steps
-    → AreTold l c.first (told_over (all_calls from steps (outset nb ue)) (end_at from (outset nb ue))) (submitted_at l from steps (outset nb ue)) (taken_at l from steps (outset nb ue))
+    → AreTold l c.first (told_over (all_calls from steps (outset nb ue)) (end_at from (outset nb ue)))
+    (submitted_at l from steps (outset nb ue)) (taken_at l from steps (outset nb ue))
 channels_tell_what_is_taken l c keys nb ue from steps h g =
     let e = end_at from (outset nb ue) in
     let cs = all_calls from steps (outset nb ue) in
     let b = begun l c keys nb ue h from in
     let calls = are_calls l from steps (outset nb ue) g in
-    record { taken_are = taken_is_told from l c keys e cs h.kind b calls; were_submitted = none_beyond from l c keys e cs h.kind b calls }
+    record {
+      taken_are = taken_is_told from l c keys e cs h.kind b calls;
+      were_submitted = none_beyond from l c keys e cs h.kind b calls;
+    }
 
-pub channels_deliver_what_is_taken : (l : ℕ) (c : BearerConfig) (keys : Keys) (nb ue : End) (from : Side) (steps : List AirStep)
+pub channels_deliver_what_is_taken : (l : ℕ) (c : BearerConfig) (keys : Keys) (nb ue : End) (from : Side)
+    (steps : List AirStep)
     → BeginAlike l c keys nb ue → AreLiving l (outset nb ue) steps
     → IsFront (ups_at l (other from) steps (outset nb ue)) (taken_at l from steps (outset nb ue))
 channels_deliver_what_is_taken l c keys nb ue from steps h g = delivers l c keys nb ue h from steps g
 
-pub channels_deliver_in_order : (l : ℕ) (c : BearerConfig) (keys : Keys) (nb ue : End) (from : Side) (steps : List AirStep)
+pub channels_deliver_in_order : (l : ℕ) (c : BearerConfig) (keys : Keys) (nb ue : End) (from : Side)
+    (steps : List AirStep)
     → BeginAlike l c keys nb ue → AreLiving l (outset nb ue) steps
     → IsSubsequence (ups_at l (other from) steps (outset nb ue)) (submitted_at l from steps (outset nb ue))
 channels_deliver_in_order l c keys nb ue from steps h g =
@@ -309,9 +374,12 @@ channels_deliver_in_order l c keys nb ue from steps h g =
     let e = end_at from (outset nb ue) in
     let up = ups_at l (other from) steps (outset nb ue) in
     let front : IsFront up (was_taken l cs e) = delivers l c keys nb ue h from steps g in
-    thinner up (was_taken l cs e) (was_submitted l cs e) (subst (IsSubsequence up) (sym front.is) (front_thin up front.rest)) (taken_thin from l c keys e cs h.kind (begun l c keys nb ue h from))
+    thinner up (was_taken l cs e) (was_submitted l cs e)
+    (subst (IsSubsequence up) (sym front.is) (front_thin up front.rest))
+    (taken_thin from l c keys e cs h.kind (begun l c keys nb ue h from))
 
-pub channels_deliver_undiscarded : (l : ℕ) (c : BearerConfig) (keys : Keys) (nb ue : End) (from : Side) (steps : List AirStep)
+pub channels_deliver_undiscarded : (l : ℕ) (c : BearerConfig) (keys : Keys) (nb ue : End) (from : Side)
+    (steps : List AirStep)
     → BeginAlike l c keys nb ue → AreLiving l (outset nb ue) steps → DiscardsNoneAt l from steps (outset nb ue)
     → IsFront (ups_at l (other from) steps (outset nb ue)) (submitted_at l from steps (outset nb ue))
 channels_deliver_undiscarded l c keys nb ue from steps h g none =
@@ -326,7 +394,8 @@ pub unset_discards_none : (l : ℕ) (c : BearerConfig) (keys : Keys) (nb ue : En
     → BeginAlike l c keys nb ue → AreLiving l (outset nb ue) steps → SetNoneAt l side steps (outset nb ue)
     → DiscardsNoneAt l side steps (outset nb ue)
 unset_discards_none l c keys nb ue side steps h g none =
-    none_told side l c keys (end_at side (outset nb ue)) (all_calls side steps (outset nb ue)) h.kind (begun l c keys nb ue h side) (are_calls l side steps (outset nb ue) g) none
+    none_told side l c keys (end_at side (outset nb ue)) (all_calls side steps (outset nb ue)) h.kind
+    (begun l c keys nb ue h side) (are_calls l side steps (outset nb ue) g) none
 
 pub channels_deliver : (l : ℕ) (c : BearerConfig) (keys : Keys) (nb ue : End) (from : Side) (steps : List AirStep)
     → BeginAlike l c keys nb ue → AreLiving l (outset nb ue) steps → SetNoneAt l from steps (outset nb ue)
@@ -336,12 +405,14 @@ channels_deliver l c keys nb ue from steps h g none =
 
 -- ---- as a bearer is added
 
-new_on : (l : ℕ) (cs : List Call) (c : Call) (e : End) → AreNew l cs e → IsNew l (run cs e) c → AreNew l (cs ++ c ∷ []) e
+new_on : (l : ℕ) (cs : List Call) (c : Call) (e : End) → AreNew l cs e → IsNew l (run cs e) c
+    → AreNew l (cs ++ c ∷ []) e
 new_on l [] c e h new = (new, tt)
 new_on l (x ∷ xs) c e h new = (h.0, new_on l xs c (after e x) h.1 new)
 
 pub channels_begin : (side : Side) (maximum : ℕ) (reports : Bool) (past : List Call) (c : BearerConfig) (keys : Keys)
-    → AreGiven past → AreNew c.channel.lcid past (fresh side maximum reports) → has c.channel.lcid (reached side maximum reports past).bearers ≡ false → IsConfig c
+    → AreGiven past → AreNew c.channel.lcid past (fresh side maximum reports)
+    → has c.channel.lcid (reached side maximum reports past).bearers ≡ false → IsConfig c
     → HasBegun side c.channel.lcid c keys (after (reached side maximum reports past) (Add c keys))
 channels_begin side maximum reports past c keys given new none is =
     let e = reached side maximum reports past in
@@ -361,13 +432,16 @@ channels_begin side maximum reports past c keys given new none is =
 
 -- ---- exactly which
 
-pub channels_deliver_what_came : (l : ℕ) (c : BearerConfig) (keys : Keys) (nb ue : End) (from : Side) (steps : List AirStep)
+pub channels_deliver_what_came : (l : ℕ) (c : BearerConfig) (keys : Keys) (nb ue : End) (from : Side)
+    (steps : List AirStep)
     → BeginAlike l c keys nb ue → AreLiving l (outset nb ue) steps
-    → IsWhatCame c.first (told_from c l from steps (outset nb ue)) (taken_at l from steps (outset nb ue)) (ups_at l (other from) steps (outset nb ue))
+    → IsWhatCame c.first (told_from c l from steps (outset nb ue)) (taken_at l from steps (outset nb ue))
+    (ups_at l (other from) steps (outset nb ue))
 channels_deliver_what_came l c keys nb ue from steps h g = came l c keys nb ue h from steps g
 
 -- with more behind what was taken
-came_more : (first : ℕ) (a : Account) (news more ups : List (List ℕ)) → IsWhatCame first a news ups → IsWhatCame first a (news ++ more) ups
+came_more : (first : ℕ) (a : Account) (news more ups : List (List ℕ)) → IsWhatCame first a news ups
+    → IsWhatCame first a (news ++ more) ups
 came_more first a news more ups h =
     let t = h.taken in
     let l = length-append news more in
@@ -378,14 +452,17 @@ came_more first a news more ups h =
       ups_are = h.ups_are ∙ sym (take-append-le (h.next - first) news more (omega (arith, t)));
     }
 
-pub channels_deliver_what_came_undiscarded : (l : ℕ) (c : BearerConfig) (keys : Keys) (nb ue : End) (from : Side) (steps : List AirStep)
+pub channels_deliver_what_came_undiscarded : (l : ℕ) (c : BearerConfig) (keys : Keys) (nb ue : End) (from : Side)
+    (steps : List AirStep)
     → BeginAlike l c keys nb ue → AreLiving l (outset nb ue) steps → DiscardsNoneAt l from steps (outset nb ue)
-    → IsWhatCame c.first (told_from c l from steps (outset nb ue)) (submitted_at l from steps (outset nb ue)) (ups_at l (other from) steps (outset nb ue))
+    → IsWhatCame c.first (told_from c l from steps (outset nb ue)) (submitted_at l from steps (outset nb ue))
+    (ups_at l (other from) steps (outset nb ue))
 channels_deliver_what_came_undiscarded l c keys nb ue from steps h g none =
     let cs = all_calls from steps (outset nb ue) in
     let e = end_at from (outset nb ue) in
     let b = begun l c keys nb ue h from in
     let up = ups_at l (other from) steps (outset nb ue) in
     let a = told_from c l from steps (outset nb ue) in
-    subst (λ (all : List (List ℕ)). IsWhatCame c.first a all up) (taken_then from l c keys e cs h.kind b (are_calls l from steps (outset nb ue) g) none)
+    subst (λ (all : List (List ℕ)). IsWhatCame c.first a all up)
+    (taken_then from l c keys e cs h.kind b (are_calls l from steps (outset nb ue) g) none)
     (came_more c.first a (was_taken l cs e) (waits from l c keys e cs h.kind b) up (came l c keys nb ue h from steps g))

@@ -27,20 +27,25 @@ use Rattle.law_deliver.proofs.AmDelivery.Reached.{ends_are_reached}
 use Rattle.law_deliver.specs.AmChannel.Delivery.{BeginAlike, was_taken, steps_over, ups_at, taken_at}
 use Rattle.law_deliver.specs.AmChannel.Drained.{DrainedEndsHaveDelivered, has_failed, IsDrained, HasDelivered}
 use Rattle.law_deliver.specs.AmChannel.Lives.{AirStep, AreLiving, lives, end_at, all_calls}
-use Rattle.law_deliver.proofs.AmChannel.Delivery.{first_of, stands_so, pair, begun, both_ends, walk, does_is, ups_is, news_is, waits, taken_then, kept_is_told}
+use Rattle.law_deliver.proofs.AmChannel.Delivery.{first_of, stands_so, pair, begun, both_ends, walk, does_is, ups_is}
+use Rattle.law_deliver.proofs.AmChannel.Delivery.{news_is, waits, taken_then, kept_is_told}
 use Rattle.law_deliver.proofs.AmChannel.Ends.{ends_go_by_calls, are_calls, all_go}
 use Rattle.law_deliver.proofs.AmChannel.Pairs.{own, ups_in_at, news_in_at}
 
 -- a bearer of an end that is drained
 drained_so : (l : ℕ) (e : End) (b : State) → flow l e ≡ Am b → IsDrained l e → IsDrainedBearer b
 unfolding is_drained
-drained_so l e b is h = record { drained = sym (ap is_drained is) ∙ h.drained; unfailed = sym (ap has_failed is) ∙ h.unfailed }
+drained_so l e b is h = record {
+  drained = sym (ap is_drained is) ∙ h.drained;
+  unfailed = sym (ap has_failed is) ∙ h.unfailed;
+}
 
 record PairDelivers (up taken : List (List ℕ)) (b : State) : Type 0 where
   same : up ≡ taken
   gone : b.pdcp.tx.waiting ≡ []
 
-module _ (l : ℕ) (c : BearerConfig) (keys : Keys) (nb ue : End) (h : BeginAlike l c keys nb ue) (xs : List AirStep) (g : AreLiving l (outset nb ue) xs) where
+module _ (l : ℕ) (c : BearerConfig) (keys : Keys) (nb ue : End) (h : BeginAlike l c keys nb ue) (xs : List AirStep)
+    (g : AreLiving l (outset nb ue) xs) where
   -- the bearer of an end that the steps leave
   abbrev last : Side → State
   last side = (own side (pair_lives (walk l c keys nb ue h xs g).steps (pair l c keys nb ue h))).bearer
@@ -51,17 +56,20 @@ module _ (l : ℕ) (c : BearerConfig) (keys : Keys) (nb ue : End) (h : BeginAlik
   pair_reaches : (side : Side) → bearer_reached c keys side (does side) ≡ Am (last side)
   pair_reaches Nb =
       ap (bearer_reached c keys Nb) (sym (does_is l c keys nb ue h Nb xs g))
-      ∙ (ends_are_reached c keys (first_of c keys Nb) (first_of c keys Ue) (walk l c keys nb ue h xs g).steps (both_ends l c keys nb ue h)).nb_is
+      ∙ (ends_are_reached c keys (first_of c keys Nb) (first_of c keys Ue) (walk l c keys nb ue h xs g).steps
+      (both_ends l c keys nb ue h)).nb_is
   pair_reaches Ue =
       ap (bearer_reached c keys Ue) (sym (does_is l c keys nb ue h Ue xs g))
-      ∙ (ends_are_reached c keys (first_of c keys Nb) (first_of c keys Ue) (walk l c keys nb ue h xs g).steps (both_ends l c keys nb ue h)).ue_is
+      ∙ (ends_are_reached c keys (first_of c keys Nb) (first_of c keys Ue) (walk l c keys nb ue h xs g).steps
+      (both_ends l c keys nb ue h)).ue_is
 
   last_is : (side : Side) → flow l (end_at side (lives xs (outset nb ue))) ≡ Am (last side)
   last_is side =
       let e = end_at side (outset nb ue) in
       let b = begun l c keys nb ue h side in
       ap (flow l) (ends_go_by_calls nb ue side xs)
-      ∙ (all_go side l e (all_calls side xs (outset nb ue)) (stands_so side l c keys e b) (are_calls l side xs (outset nb ue) g)).bearer_is
+      ∙ (all_go side l e (all_calls side xs (outset nb ue)) (stands_so side l c keys e b)
+      (are_calls l side xs (outset nb ue) g)).bearer_is
       ∙ ap (bearer_run (does side)) b.bearer_is
       ∙ pair_reaches side
 
@@ -70,14 +78,19 @@ module _ (l : ℕ) (c : BearerConfig) (keys : Keys) (nb ue : End) (h : BeginAlik
       (over (news_in_at from) (walk l c keys nb ue h xs g).steps (pair l c keys nb ue h)) (last from)
   pair_delivers Nb d =
       let w = walk l c keys nb ue h xs g in
-      let all = (drained_has_delivered c keys (first_of c keys Nb) (first_of c keys Ue) w.steps (both_ends l c keys nb ue h) w.living).down d in
+      let all =
+      (drained_has_delivered c keys (first_of c keys Nb) (first_of c keys Ue) w.steps (both_ends l c keys nb ue h)
+      w.living).down d in
       record { same = all.taken; gone = all.waits }
   pair_delivers Ue d =
       let w = walk l c keys nb ue h xs g in
-      let all = (drained_has_delivered c keys (first_of c keys Nb) (first_of c keys Ue) w.steps (both_ends l c keys nb ue h) w.living).up d in
+      let all =
+      (drained_has_delivered c keys (first_of c keys Nb) (first_of c keys Ue) w.steps (both_ends l c keys nb ue h)
+      w.living).up d in
       record { same = all.taken; gone = all.waits }
 
-  has_delivered : (from : Side) → IsDrained l (end_at from (lives xs (outset nb ue))) → HasDelivered l c.first from xs (outset nb ue)
+  has_delivered : (from : Side) → IsDrained l (end_at from (lives xs (outset nb ue)))
+      → HasDelivered l c.first from xs (outset nb ue)
   has_delivered from d =
       let cs = all_calls from xs (outset nb ue) in
       let e = end_at from (outset nb ue) in
@@ -96,18 +109,22 @@ module _ (l : ℕ) (c : BearerConfig) (keys : Keys) (nb ue : End) (h : BeginAlik
         submitted = λ unlost. all ∙ taken_then from l c keys e cs h.kind b calls unlost;
       }
 
-pub drained_channels_have_delivered : (l : ℕ) (c : BearerConfig) (keys : Keys) (nb ue : End) (from : Side) (steps : List AirStep)
-    → BeginAlike l c keys nb ue → AreLiving l (outset nb ue) steps → IsDrained l (end_at from (lives steps (outset nb ue)))
+pub drained_channels_have_delivered : (l : ℕ) (c : BearerConfig) (keys : Keys) (nb ue : End) (from : Side)
+    (steps : List AirStep)
+    → BeginAlike l c keys nb ue → AreLiving l (outset nb ue) steps
+    → IsDrained l (end_at from (lives steps (outset nb ue)))
     → HasDelivered l c.first from steps (outset nb ue)
 drained_channels_have_delivered l c keys nb ue from steps h g d = has_delivered l c keys nb ue h steps g from d
 
 -- ---- of an end that is drained
 
-all_drained : (bs : List (Of Life)) (at : ℕ) → list_all (λ b. is_drained b.state.flow) bs ≡ true → is_drained (bearer_at bs at).state.flow ≡ true
+all_drained : (bs : List (Of Life)) (at : ℕ) → list_all (λ b. is_drained b.state.flow) bs ≡ true
+    → is_drained (bearer_at bs at).state.flow ≡ true
 unfolding is_drained
 all_drained [] at q = refl
 all_drained (b ∷ bs) zero q = (and_parts (is_drained b.state.flow) (list_all (λ b. is_drained b.state.flow) bs) q).0
-all_drained (b ∷ bs) (suc at) q = all_drained bs at (and_parts (is_drained b.state.flow) (list_all (λ b. is_drained b.state.flow) bs) q).1
+all_drained (b ∷ bs) (suc at) q =
+    all_drained bs at (and_parts (is_drained b.state.flow) (list_all (λ b. is_drained b.state.flow) bs) q).1
 
 pub channel_drained : (l : ℕ) (e : End) → end_drained e ≡ true → is_drained (flow l e) ≡ true
 unfolding end_drained
@@ -116,4 +133,5 @@ channel_drained l e q = all_drained e.bearers (find l e.bearers) q
 pub drained_ends_have_delivered : DrainedEndsHaveDelivered
 drained_ends_have_delivered l c keys nb ue from steps h g d unfailed =
     let e = end_at from (lives steps (outset nb ue)) in
-    drained_channels_have_delivered l c keys nb ue from steps h g (record { drained = channel_drained l e d; unfailed = unfailed })
+    drained_channels_have_delivered l c keys nb ue from steps h g
+    (record { drained = channel_drained l e d; unfailed = unfailed })

@@ -1,29 +1,36 @@
 -- What the calls of an end through lives are to its bearer of a channel.
-use Rattle.std.proofs.Common.{◌≡◌, ◌⊎◌, inl, inr, ℕ, true, false, Option, Some, None, List, [], ◌∷◌, ◌++◌, map, append-nil, append_assoc, slice_get, refl, ap, sym, subst, ◌∙◌, Bool, if◌then◌else◌}
+use Rattle.std.proofs.Common.{◌≡◌, ◌⊎◌, inl, inr, ℕ, true, false, Option, Some, None, List, [], ◌∷◌, ◌++◌, map}
+use Rattle.std.proofs.Common.{append-nil, append_assoc, slice_get, refl, ap, sym, subst, ◌∙◌, Bool, if◌then◌else◌}
 use Rattle.std.proofs.lemmas.Grind.{flat_map-append}
 use Rattle.std.specs.List.{AllByRecursion, flat_map}
 use Rattle.bearer.specs.declared.flow.Flow.{Flow}
 use Rattle.bearer.specs.Lives.{stopping}
-use Rattle.law_bearer.specs.AnyBearer.Calls.{Call as BearerCall, Step as BearerStep, Calls as CallsIt, Restart, after as called, after_all, goes as bearer_goes, run as bearer_run}
+use Rattle.law_bearer.specs.AnyBearer.Calls.{Call as BearerCall, Step as BearerStep, Calls as CallsIt, Restart}
+use Rattle.law_bearer.specs.AnyBearer.Calls.{after as called, after_all, goes as bearer_goes, run as bearer_run}
 use Rattle.bearer_types.specs.declared.event.Event.{Event}
 use Rattle.eps_sec.specs.declared.Keys.{Keys}
 use Rattle.l2_node.specs.End.{End}
 use Rattle.l2_types.specs.declared.side.Side.{Side}
 use Rattle.l2_types.specs.declared.side.Side.TheVariants.{Nb, Ue}
-use Rattle.law_node.specs.Calls.{Call, SetVisits, SetReports, Add, Submit, SetDiscard, Tick, TickBuckets, Visits, Grants, Granted, Assigned, Pass, Receive, Expire, Move, IsGiven as IsGivenCall, after, run}
+use Rattle.law_node.specs.Calls.{Call, SetVisits, SetReports, Add, Submit, SetDiscard, Tick, TickBuckets, Visits}
+use Rattle.law_node.specs.Calls.{Grants, Granted, Assigned, Pass, Receive, Expire, Move, IsGiven as IsGivenCall, after}
+use Rattle.law_node.specs.Calls.{run}
 use Rattle.law_node.specs.Holding.{flow}
 use Rattle.law_node.specs.Telling.{told_of, told_over}
-use Rattle.law_deliver.specs.AmFlow.Air.{Block, Station, Air, Act, Calls, Comes, Goes, AtNb, AtUe, Passes, calls, comes, does, outset, IsDone}
+use Rattle.law_deliver.specs.AmFlow.Air.{Block, Station, Air, Act, Calls, Comes, Goes, AtNb, AtUe, Passes, calls, comes}
+use Rattle.law_deliver.specs.AmFlow.Air.{does, outset, IsDone}
 use Rattle.law_deliver.specs.AmFlow.Channels.{calls_of, GoesOnInLife}
 use Rattle.bearer_types.specs.declared.event.Event.TheVariants as events
-use Rattle.law_deliver.specs.AmFlow.Ups.{ups_in, ups_on, of_calls, tells_in, tells_over, goes_up_in, discarded_in, IsNew}
+use Rattle.law_deliver.specs.AmFlow.Ups.{ups_in, ups_on, of_calls, tells_in, tells_over, goes_up_in, discarded_in}
+use Rattle.law_deliver.specs.AmFlow.Ups.{IsNew}
 use Rattle.promises.specs.Events.{is_on, discards_in, discards_on}
 use Rattle.law_deliver.proofs.AmFlow.Events.{picked_as, picked_over}
 use Rattle.promises.specs.Taken.{leaving_in}
 use Rattle.law_deliver.proofs.AmFlow.Channels.{call_by}
 use Rattle.law_deliver.proofs.AmFlow.Stations.{run_on, come_sound}
 use Rattle.law_deliver.proofs.AmFlow.Ups.{between_at, come_between, Stands, stands_more, tells_of, the_end}
-use Rattle.law_deliver.specs.AmChannel.Lives.{AirStep, InLife, Moves, lives_on, lives, AreLiving, IsLiving, end_at, brought, calls_by, calls_at, all_calls}
+use Rattle.law_deliver.specs.AmChannel.Lives.{AirStep, InLife, Moves, lives_on, lives, AreLiving, IsLiving, end_at}
+use Rattle.law_deliver.specs.AmChannel.Lives.{brought, calls_by, calls_at, all_calls}
 use Rattle.law_deliver.specs.AmChannel.Delivery.{went_up, steps_in, steps_over}
 
 -- ---- an end goes by its calls
@@ -54,7 +61,8 @@ act_end other s (Calls c) = calls_end s c
 act_end other s (Comes k) = comes_end s (slice_get other.blocks k)
 act_end other s (Goes k) = refl
 
-pub step_end : (side : Side) (a : Air) (x : AirStep) → end_at side (lives_on a x) ≡ run (calls_at side a x) (end_at side a)
+pub step_end : (side : Side) (a : Air) (x : AirStep)
+    → end_at side (lives_on a x) ≡ run (calls_at side a x) (end_at side a)
 step_end Nb a (InLife (AtNb x)) = act_end a.ue a.nb x
 step_end Nb a (InLife (AtUe x)) = refl
 step_end Nb a (InLife Passes) = refl
@@ -64,14 +72,16 @@ step_end Ue a (InLife (AtUe x)) = act_end a.nb a.ue x
 step_end Ue a (InLife Passes) = refl
 step_end Ue a (Moves keys) = refl
 
-pub goes_by_calls : (side : Side) (xs : List AirStep) (a : Air) → end_at side (lives xs a) ≡ run (all_calls side xs a) (end_at side a)
+pub goes_by_calls : (side : Side) (xs : List AirStep) (a : Air)
+    → end_at side (lives xs a) ≡ run (all_calls side xs a) (end_at side a)
 goes_by_calls side [] a = refl
 goes_by_calls side (x ∷ xs) a =
     goes_by_calls side xs (lives_on a x)
     ∙ ap (run (all_calls side xs (lives_on a x))) (step_end side a x)
     ∙ sym (run_on (calls_at side a x) (all_calls side xs (lives_on a x)) (end_at side a))
 
-pub ends_go_by_calls : (nb ue : End) (side : Side) (xs : List AirStep) → end_at side (lives xs (outset nb ue)) ≡ run (all_calls side xs (outset nb ue)) (end_at side (outset nb ue))
+pub ends_go_by_calls : (nb ue : End) (side : Side) (xs : List AirStep)
+    → end_at side (lives xs (outset nb ue)) ≡ run (all_calls side xs (outset nb ue)) (end_at side (outset nb ue))
 ends_go_by_calls nb ue side xs = goes_by_calls side xs (outset nb ue)
 
 -- ---- which are calls of a life, or end it
@@ -79,7 +89,8 @@ ends_go_by_calls nb ue side xs = goes_by_calls side xs (outset nb ue)
 abbrev pub IsCall : ℕ → Call → Type 0
 IsCall l c = (IsGivenCall c × GoesOnInLife l c) ⊎ ((keys : Keys) × (c ≡ Move keys))
 
-pub all_more : {A : Type 0} (P : A → Type 0) (xs ys : List A) → AllByRecursion P xs → AllByRecursion P ys → AllByRecursion P (xs ++ ys)
+pub all_more : {A : Type 0} (P : A → Type 0) (xs ys : List A) → AllByRecursion P xs → AllByRecursion P ys
+    → AllByRecursion P (xs ++ ys)
 all_more P [] ys h k = k
 all_more P (x ∷ xs) ys h k = (h.0, all_more P xs ys h.1 k)
 
@@ -92,7 +103,8 @@ act_so l other s (Calls c) g = (inl (g.0, g.1), tt)
 act_so l other s (Comes k) g = brought_so l (slice_get other.blocks k)
 act_so l other s (Goes k) g = tt
 
-pub step_so : (l : ℕ) (side : Side) (a : Air) (x : AirStep) → IsLiving l a x → AllByRecursion (IsCall l) (calls_at side a x)
+pub step_so : (l : ℕ) (side : Side) (a : Air) (x : AirStep) → IsLiving l a x
+    → AllByRecursion (IsCall l) (calls_at side a x)
 step_so l Nb a (InLife (AtNb x)) g = act_so l a.ue a.nb x g
 step_so l Nb a (InLife (AtUe x)) g = tt
 step_so l Nb a (InLife Passes) g = tt
@@ -102,14 +114,17 @@ step_so l Ue a (InLife (AtUe x)) g = act_so l a.nb a.ue x g
 step_so l Ue a (InLife Passes) g = tt
 step_so l Ue a (Moves keys) g = (inr (keys, refl), tt)
 
-pub are_calls : (l : ℕ) (side : Side) (xs : List AirStep) (a : Air) → AreLiving l a xs → AllByRecursion (IsCall l) (all_calls side xs a)
+pub are_calls : (l : ℕ) (side : Side) (xs : List AirStep) (a : Air) → AreLiving l a xs
+    → AllByRecursion (IsCall l) (all_calls side xs a)
 are_calls l side [] a g = tt
 are_calls l side (x ∷ xs) a g =
-    all_more (IsCall l) (calls_at side a x) (all_calls side xs (lives_on a x)) (step_so l side a x g.0) (are_calls l side xs (lives_on a x) g.1)
+    all_more (IsCall l) (calls_at side a x) (all_calls side xs (lives_on a x)) (step_so l side a x g.0)
+    (are_calls l side xs (lives_on a x) g.1)
 
 -- ---- steps of a bearer, one behind the other
 
-pub steps_more : (l : ℕ) (cs ds : List Call) (e : End) → steps_over l (cs ++ ds) e ≡ steps_over l cs e ++ steps_over l ds (run cs e)
+pub steps_more : (l : ℕ) (cs ds : List Call) (e : End)
+    → steps_over l (cs ++ ds) e ≡ steps_over l cs e ++ steps_over l ds (run cs e)
 steps_more l [] ds e = refl
 steps_more l (c ∷ cs) ds e =
     ap (λ (xs : List BearerStep). steps_in l e c ++ xs) (steps_more l cs ds (after e c))
@@ -129,11 +144,13 @@ module _ {X : Type 0} (of_call : ℕ → Flow → BearerCall → List X) (of_end
   of_steps l f [] = []
   of_steps l f (x ∷ xs) = of_step l f x ++ of_steps l (bearer_goes f x) xs
 
-  comes_more : (l : ℕ) (xs ys : List BearerStep) (f : Flow) → of_steps l f (xs ++ ys) ≡ of_steps l f xs ++ of_steps l (bearer_run xs f) ys
+  comes_more : (l : ℕ) (xs ys : List BearerStep) (f : Flow)
+      → of_steps l f (xs ++ ys) ≡ of_steps l f xs ++ of_steps l (bearer_run xs f) ys
   comes_more l [] ys f = refl
   comes_more l (x ∷ xs) ys f =
       ap (λ (found : List X). of_step l f x ++ found) (comes_more l xs ys (bearer_goes f x))
-      ∙ sym (append_assoc (of_step l f x) (of_steps l (bearer_goes f x) xs) (of_steps l (bearer_run xs (bearer_goes f x)) ys))
+      ∙ sym (append_assoc (of_step l f x) (of_steps l (bearer_goes f x) xs)
+      (of_steps l (bearer_run xs (bearer_goes f x)) ys))
 
   of_life : (l : ℕ) (cs : List BearerCall) (f : Flow) → of_steps l f (map (λ x. CallsIt x) cs) ≡ of_calls of_call l f cs
   of_life l [] f = refl
@@ -193,19 +210,26 @@ record GoesOne (l : ℕ) (e : End) (c : Call) : Type 0 where
   given : IsGivenCall c
 
 pub in_life : (l : ℕ) (e : End) (c : Call) → GoesOnInLife l c → steps_in l e c ≡ map (λ x. CallsIt x) (calls_of l e c)
-in_life l e c g = ap (λ (ks : List Keys). map (λ x. CallsIt x) (calls_of l e c) ++ map (λ k. Restart k) ks) g.moves_none ∙ append-nil (map (λ x. CallsIt x) (calls_of l e c))
+in_life l e c g =
+    ap (λ (ks : List Keys). map (λ x. CallsIt x) (calls_of l e c) ++ map (λ k. Restart k) ks) g.moves_none
+    ∙ append-nil (map (λ x. CallsIt x) (calls_of l e c))
 
 one_goes : (side : Side) (l : ℕ) (e : End) (c : Call) → Stands side l e → IsCall l c → GoesOne l e c
 one_goes side l e c s (inl g) =
     let cs = calls_of l e c in
     let same = in_life l e c g.1 in
     record {
-      bearer_is = call_by l e c (come_sound side e s.come) g.1 s.there ∙ sym (bearer_calls cs (flow l e)) ∙ ap (λ (xs : List BearerStep). bearer_run xs (flow l e)) (sym same);
-      ups_are = (tells_of side l e c s g.1).ups_are ∙ sym (of_life goes_up_in ends_up l cs (flow l e)) ∙ ap (all_ups l (flow l e)) (sym same);
-      discards_are = (tells_of side l e c s g.1).discards_are ∙ sym (of_life discarded_in ends_discarded l cs (flow l e)) ∙ ap (all_discards l (flow l e)) (sym same);
+      bearer_is = call_by l e c (come_sound side e s.come) g.1 s.there ∙ sym (bearer_calls cs (flow l e))
+          ∙ ap (λ (xs : List BearerStep). bearer_run xs (flow l e)) (sym same);
+      ups_are = (tells_of side l e c s g.1).ups_are ∙ sym (of_life goes_up_in ends_up l cs (flow l e))
+          ∙ ap (all_ups l (flow l e)) (sym same);
+      discards_are = (tells_of side l e c s g.1).discards_are
+          ∙ sym (of_life discarded_in ends_discarded l cs (flow l e)) ∙ ap (all_discards l (flow l e)) (sym same);
       leaving_are =
-          picked_as leaving_in leaving_off l (told_of e c) (tells_over l (flow l e) cs) (tells_of side l e c s g.1).told_is
-          ∙ picked_over leaving_in leaving_off marked_in (λ m f d k. refl) l (flow l e) cs (between_at l e.bearers s.there (come_between side e s.come))
+          picked_as leaving_in leaving_off l (told_of e c) (tells_over l (flow l e) cs)
+          (tells_of side l e c s g.1).told_is
+          ∙ picked_over leaving_in leaving_off marked_in (λ m f d k. refl) l (flow l e) cs
+          (between_at l e.bearers s.there (come_between side e s.come))
           ∙ sym (of_life marked_in ends_marked l cs (flow l e)) ∙ ap (all_leaving l (flow l e)) (sym same);
       new = λ q. let no : true ≡ false = sym q ∙ g.1.adds_none in absurd cc;
       given = g.0;
@@ -217,7 +241,8 @@ one_goes side l e c s (inr (keys, q)) =
       bearer_is = h.bearer_is;
       ups_are = h.ups_are ∙ sym (append-nil (ends_up l (flow l e)));
       discards_are = h.discards_are;
-      leaving_are = picked_as leaving_in leaving_off l (told_of e (Move keys)) (stopping (flow l e)) h.told_is ∙ sym (append-nil (ends_marked l (flow l e)));
+      leaving_are = picked_as leaving_in leaving_off l (told_of e (Move keys)) (stopping (flow l e)) h.told_is
+          ∙ sym (append-nil (ends_marked l (flow l e)));
       new = λ p. let no : false ≡ true = p in absurd cc;
       given = tt;
     })
@@ -234,15 +259,18 @@ pub record GoesAll (l : ℕ) (e : End) (cs : List Call) : Type 0 where
   pub discards_are : discards_on l (told_over cs e) ≡ all_discards l (flow l e) (steps_over l cs e)
   pub leaving_are : flat_map (leaving_in l) (told_over cs e) ≡ all_leaving l (flow l e) (steps_over l cs e)
 
-pub all_go : (side : Side) (l : ℕ) (e : End) (cs : List Call) → Stands side l e → AllByRecursion (IsCall l) cs → GoesAll l e cs
+pub all_go : (side : Side) (l : ℕ) (e : End) (cs : List Call) → Stands side l e → AllByRecursion (IsCall l) cs
+    → GoesAll l e cs
 all_go side l e [] s g = record { bearer_is = refl; ups_are = refl; discards_are = refl; leaving_are = refl }
 all_go side l e (c ∷ cs) s g =
     let one = one_goes side l e c s g.0 in
     let rest = all_go side l (after e c) cs (stands_more side l e c s one.given one.new) g.1 in
     let more = steps_over l cs (after e c) in
     record {
-      bearer_is = rest.bearer_is ∙ ap (bearer_run more) one.bearer_is ∙ sym (runs_then (steps_in l e c) more (flow l e));
+      bearer_is = rest.bearer_is ∙ ap (bearer_run more) one.bearer_is
+          ∙ sym (runs_then (steps_in l e c) more (flow l e));
       ups_are = told_then goes_up_in ends_up ups_in l e c cs one.bearer_is one.ups_are rest.ups_are;
-      discards_are = told_then discarded_in ends_discarded discards_in l e c cs one.bearer_is one.discards_are rest.discards_are;
+      discards_are =
+          told_then discarded_in ends_discarded discards_in l e c cs one.bearer_is one.discards_are rest.discards_are;
       leaving_are = told_then marked_in ends_marked leaving_in l e c cs one.bearer_is one.leaving_are rest.leaving_are;
     }

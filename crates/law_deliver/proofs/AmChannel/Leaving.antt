@@ -1,5 +1,7 @@
 -- The SDUs that a bearer takes are told by what it tells as they leave the queue.
-use Rattle.std.proofs.Common.{◌≡◌, ℕ, zero, suc, ◌==◌, Bool, true, false, if◌then◌else◌, nat_lt, Option, Some, None, Result, Ok, Err, List, [], ◌∷◌, ◌++◌, map, length, take, drop, append-nil, append_assoc, slice_get, option_map, refl, ap, sym, subst, ◌∙◌, arith}
+use Rattle.std.proofs.Common.{◌≡◌, ℕ, zero, suc, ◌==◌, Bool, true, false, if◌then◌else◌, nat_lt, Option, Some, None}
+use Rattle.std.proofs.Common.{Result, Ok, Err, List, [], ◌∷◌, ◌++◌, map, length, take, drop, append-nil, append_assoc}
+use Rattle.std.proofs.Common.{slice_get, option_map, refl, ap, sym, subst, ◌∙◌, arith}
 use Rattle.std.specs.List.{AllByRecursion, flat_map}
 use Rattle.std.proofs.lemmas.Bool.Decides.{nat_tests}
 use Rattle.std.proofs.lemmas.Grind.{flat_map-append}
@@ -10,8 +12,10 @@ use Rattle.bearer.specs.Hearing.{ticked, ticking}
 use Rattle.bearer.specs.Lives.{stopping}
 use Rattle.bearer.specs.Acknowledged.Hearing.{settled_if, started_told}
 use Rattle.bearer.specs.Acknowledged.State.{State, has_more, Work, work}
-use Rattle.bearer.specs.Acknowledged.Timing.{Ticking, poll_told, timer_told, told_of, expiry, expires_if, counts, has_ended, ticks as ticked_by, ticked as am_ticked}
-use Rattle.law_bearer.specs.AnyBearer.Calls.{Call, Submit, Take, Arrive, Expire, Tick, SetDiscard, Step, Calls, Restart, after, goes, ends}
+use Rattle.bearer.specs.Acknowledged.Timing.{Ticking, poll_told, timer_told, told_of, expiry, expires_if, counts}
+use Rattle.bearer.specs.Acknowledged.Timing.{has_ended, ticks as ticked_by, ticked as am_ticked}
+use Rattle.law_bearer.specs.AnyBearer.Calls.{Call, Submit, Take, Arrive, Expire, Tick, SetDiscard, Step, Calls, Restart}
+use Rattle.law_bearer.specs.AnyBearer.Calls.{after, goes, ends}
 use Rattle.law_bearer.specs.AnyBearer.Queue.{queue, news, drops, all_news, all_left}
 use Rattle.law_bearer.specs.AnyBearer.Stream.{takes}
 use Rattle.law_bearer.proofs.AnyBearer.Flows.{called as call_goes, restarts_as, taken_front}
@@ -33,7 +37,8 @@ use Rattle.pdcp_pdu.specs.declared.pdu.PdcpKind.{PdcpKind}
 use Rattle.pdcp_pdu.specs.declared.pdu.PdcpKind.TheVariants.{Srb, Um, Am as AmKind}
 use Rattle.pdcp_pdu.specs.declared.pdu.PdcpRefusal.{PdcpRefusal}
 use Rattle.pdcp_sec.specs.Protection.{Protection}
-use Rattle.pdcp_tx.specs.State.{State as Sending, Offer, offers, written, taking as pdcp_taking, is_overdue, after_late, ticked as pdcp_ticked, next_from, restarted as restarted_sending}
+use Rattle.pdcp_tx.specs.State.{State as Sending, Offer, offers, written, taking as pdcp_taking, is_overdue, after_late}
+use Rattle.pdcp_tx.specs.State.{ticked as pdcp_ticked, next_from, restarted as restarted_sending}
 use Rattle.rlc_am_tx.specs.Machine.{settles}
 use Rattle.rlc_am_tx.specs.declared.answers.PollExpired.{PollExpired}
 use Rattle.rlc_am_tx.specs.declared.answers.PollExpired.TheVariants as polls
@@ -46,7 +51,8 @@ use Rattle.law_deliver.proofs.AmFlow.Events.{OfHearing, none_arriving, none_expi
 use Rattle.law_deliver.proofs.AmFlow.Sending.{is_called}
 use Rattle.promises.specs.Taken.{leaving_in, were_taken, chosen}
 use Rattle.law_deliver.proofs.AmChannel.Bearers.{IsSteady, called_steady, restarts_steady}
-use Rattle.law_deliver.proofs.AmChannel.Choosing.{yes, no, chosen_yes, chosen_no, marked, marks, Takes, WasReached, reached_more, takes_told}
+use Rattle.law_deliver.proofs.AmChannel.Choosing.{yes, no, chosen_yes, chosen_no, marked, marks, Takes, WasReached}
+use Rattle.law_deliver.proofs.AmChannel.Choosing.{reached_more, takes_told}
 use Rattle.law_deliver.proofs.AmChannel.Ends.{marked_in, all_leaving, leaving_off}
 use Rattle.law_deliver.proofs.AmChannel.Waiting.{ticks_pdcp}
 
@@ -69,10 +75,13 @@ one_told l lcid kind own p (Some count) text same =
     let here : (lcid == l) ≡ true = grind (arith, nat_tests, same) in
     ap (λ (b : Bool). (if b then Some count ∷ [] else []) ++ []) here
 
-first_told : (l : ℕ) (e : Ends) (o : Offer) (os : List Offer) → e.lcid ≡ l → offers e.tx ≡ o ∷ os → flat_map (leaving_in l) (taking_told e) ≡ marked o.count
+first_told : (l : ℕ) (e : Ends) (o : Offer) (os : List Offer) → e.lcid ≡ l → offers e.tx ≡ o ∷ os
+    → flat_map (leaving_in l) (taking_told e) ≡ marked o.count
 unfolding taking_told pdcp_taking
 first_told l e o os same q =
-    ap (λ (xs : List Offer). flat_map (leaving_in l) (next_told e.lcid e.kind (option_map (λ o. written e.tx.kind e.tx.protection o.count o.text) (slice_get xs 0)))) q
+    ap (λ (xs : List Offer). flat_map (leaving_in l)
+    (next_told e.lcid e.kind
+    (option_map (λ o. written e.tx.kind e.tx.protection o.count o.text) (slice_get xs 0)))) q
     ∙ one_told l e.lcid e.kind e.tx.kind e.tx.protection o.count o.text same
 
 stays_on : (l : ℕ) (d : Ends) → d.lcid ≡ l → (after_taking d).lcid ≡ l
@@ -83,11 +92,14 @@ any_offers : (os : List Offer) → AllByRecursion (λ o. Unit {0}) os
 any_offers [] = tt
 any_offers (o ∷ os) = (tt, any_offers os)
 
-takes_marked : (l : ℕ) (b : State) (share : ℕ) (held : Option ℕ) → b.pdcp.lcid ≡ l → marked_in l (Am b) (Take share held) ≡ marks (takes (Am b) (Take share held))
+takes_marked : (l : ℕ) (b : State) (share : ℕ) (held : Option ℕ) → b.pdcp.lcid ≡ l
+    → marked_in l (Am b) (Take share held) ≡ marks (takes (Am b) (Take share held))
 takes_marked l b share held same =
     subst (λ (n : ℕ). marked_in n (Am b) (Take share held) ≡ marks (takes (Am b) (Take share held))) same
-    (takes_tell (leaving_in b.pdcp.lcid) (λ s o. marked o.count) (λ e. e.lcid ≡ b.pdcp.lcid) (λ o. Unit {0}) (stays_on b.pdcp.lcid) (λ s t o h. refl)
-    (λ e o os fits fine q. first_told b.pdcp.lcid e o os fits q) (λ lcid way sn. refl) (λ lcid clock. refl) (λ lcid why. refl)
+    (takes_tell (leaving_in b.pdcp.lcid) (λ s o. marked o.count) (λ e. e.lcid ≡ b.pdcp.lcid) (λ o. Unit {0})
+    (stays_on b.pdcp.lcid) (λ s t o h. refl)
+    (λ e o os fits fine q. first_told b.pdcp.lcid e o os fits q) (λ lcid way sn. refl) (λ lcid clock. refl)
+    (λ lcid why. refl)
     b share held refl (any_offers (offers b.pdcp.tx)))
 
 -- ---- as a TTI begins
@@ -97,7 +109,8 @@ poll_none l lcid polls.NotRunning = refl
 poll_none l lcid polls.Done = refl
 poll_none l lcid (polls.Limit sn) = refl
 
-timer_none : (l lcid : ℕ) (clock : Clock) (x : Expired) → flat_map (leaving_in l) (told_of (timer_told lcid clock x)) ≡ []
+timer_none : (l lcid : ℕ) (clock : Clock) (x : Expired)
+    → flat_map (leaving_in l) (told_of (timer_told lcid clock x)) ≡ []
 timer_none l lcid clock NotRunning = refl
 timer_none l lcid clock (Done true) = refl
 timer_none l lcid clock (Done false) = refl
@@ -108,13 +121,16 @@ clock_none l Poll b = poll_none l b.pdcp.lcid _
 clock_none l Reorder b = timer_none l b.pdcp.lcid Reorder _
 clock_none l Prohibit b = timer_none l b.pdcp.lcid Prohibit _
 
-ended_none : (l : ℕ) (ended : Bool) (clock : Clock) (t : Ticking) → flat_map (leaving_in l) (expires_if ended clock t).events ≡ flat_map (leaving_in l) t.events
+ended_none : (l : ℕ) (ended : Bool) (clock : Clock) (t : Ticking)
+    → flat_map (leaving_in l) (expires_if ended clock t).events ≡ flat_map (leaving_in l) t.events
 ended_none l true clock t =
     flat_map-append (leaving_in l) t.events (told_of (expiry t.bearer clock))
-    ∙ (ap (λ (xs : List (Option ℕ)). flat_map (leaving_in l) t.events ++ xs) (clock_none l clock t.bearer) ∙ append-nil (flat_map (leaving_in l) t.events))
+    ∙ (ap (λ (xs : List (Option ℕ)). flat_map (leaving_in l) t.events ++ xs) (clock_none l clock t.bearer)
+    ∙ append-nil (flat_map (leaving_in l) t.events))
 ended_none l false clock t = refl
 
-ticks_none : (l : ℕ) (clock : Clock) (t : Ticking) → flat_map (leaving_in l) (ticked_by clock t).events ≡ flat_map (leaving_in l) t.events
+ticks_none : (l : ℕ) (clock : Clock) (t : Ticking)
+    → flat_map (leaving_in l) (ticked_by clock t).events ≡ flat_map (leaving_in l) t.events
 ticks_none l clock t = ended_none l (has_ended clock t.bearer) clock (record t { bearer = counts clock t.bearer })
 
 -- so many are dropped
@@ -123,7 +139,8 @@ record Gone (l lcid : ℕ) (ws : List Waits) (s : Sending) : Type 0 where
   left : (without_late ws s).waiting ≡ drop n ws
   told : flat_map (leaving_in l) (late_told lcid ws s) ≡ nones (take n ws)
 
-gone_by : (late : Bool) (l lcid : ℕ) (w : Waits) (ws : List Waits) (s : Sending) → is_overdue s ≡ late → lcid ≡ l → s.waiting ≡ w ∷ ws
+gone_by : (late : Bool) (l lcid : ℕ) (w : Waits) (ws : List Waits) (s : Sending) → is_overdue s ≡ late → lcid ≡ l
+    → s.waiting ≡ w ∷ ws
     → (is_overdue s ≡ true → Gone l lcid ws (after_late s)) → Gone l lcid (w ∷ ws) s
 gone_by true l lcid w ws s e same q rest =
     let here : (lcid == l) ≡ true = grind (arith, nat_tests, same) in
@@ -134,26 +151,34 @@ gone_by true l lcid w ws s e same q rest =
       left = ap (λ (b : Bool). (if b then without_late ws (after_late s) else s).waiting) e ∙ g.left;
       told =
           ap (λ (b : Bool). flat_map (leaving_in l) (if b then events.Discard lcid (length w.sdu) ∷ more else [])) e
-          ∙ (ap (λ (b : Bool). (if b then None ∷ [] else []) ++ flat_map (leaving_in l) more) here ∙ ap (λ (xs : List (Option ℕ)). None ∷ xs) g.told);
+          ∙ (ap (λ (b : Bool). (if b then None ∷ [] else []) ++ flat_map (leaving_in l) more) here
+          ∙ ap (λ (xs : List (Option ℕ)). None ∷ xs) g.told);
     }
 gone_by false l lcid w ws s e same q rest = record {
   n = zero;
   left = ap (λ (b : Bool). (if b then without_late ws (after_late s) else s).waiting) e ∙ q;
-  told = ap (λ (b : Bool). flat_map (leaving_in l) (if b then events.Discard lcid (length w.sdu) ∷ late_told lcid ws (after_late s) else [])) e;
+  told =
+      ap (λ (b : Bool). flat_map (leaving_in l)
+      (if b then events.Discard lcid (length w.sdu) ∷ late_told lcid ws (after_late s) else [])) e;
 }
 
-late_waiting : (w : Waits) (ws : List Waits) (s : Sending) → is_overdue s ≡ true → s.waiting ≡ w ∷ ws → (after_late s).waiting ≡ ws
+late_waiting : (w : Waits) (ws : List Waits) (s : Sending) → is_overdue s ≡ true → s.waiting ≡ w ∷ ws
+    → (after_late s).waiting ≡ ws
 unfolding after_late
 late_waiting w ws s e q = ap (λ (b : Bool). if b then drop 1 s.waiting else s.waiting) e ∙ ap (drop 1) q
 
 gone : (l lcid : ℕ) (ws : List Waits) (s : Sending) → lcid ≡ l → s.waiting ≡ ws → Gone l lcid ws s
 gone l lcid [] s same q = record { n = zero; left = q; told = refl }
-gone l lcid (w ∷ ws) s same q = gone_by (is_overdue s) l lcid w ws s refl same q (λ e. gone l lcid ws (after_late s) same (late_waiting w ws s e q))
+gone l lcid (w ∷ ws) s same q =
+    gone_by (is_overdue s) l lcid w ws s refl same q
+    (λ e. gone l lcid ws (after_late s) same (late_waiting w ws s e q))
 
-settled_marked : (settles' : Bool) (l : ℕ) (w : Work) → flat_map (leaving_in l) (settled_if settles' w).events ≡ flat_map (leaving_in l) w.events
+settled_marked : (settles' : Bool) (l : ℕ) (w : Work)
+    → flat_map (leaving_in l) (settled_if settles' w).events ≡ flat_map (leaving_in l) w.events
 settled_marked true l w =
     flat_map-append (leaving_in l) w.events (started_told w.pdcp.lcid (settles w.tx (has_more w.pdcp)))
-    ∙ (ap (λ (xs : List (Option ℕ)). flat_map (leaving_in l) w.events ++ xs) (started (settles w.tx (has_more w.pdcp))) ∙ append-nil (flat_map (leaving_in l) w.events))
+    ∙ (ap (λ (xs : List (Option ℕ)). flat_map (leaving_in l) w.events ++ xs)
+    (started (settles w.tx (has_more w.pdcp))) ∙ append-nil (flat_map (leaving_in l) w.events))
   where
     started : (b : Bool) → flat_map (leaving_in l) (started_told w.pdcp.lcid b) ≡ []
     started true = refl
@@ -164,7 +189,8 @@ settled_pdcp : (settles' : Bool) (w : Work) → (settled_if settles' w).pdcp ≡
 settled_pdcp true w = refl
 settled_pdcp false w = refl
 
-front_and_rest : (n : ℕ) (ws : List Waits) → map (λ w. w.sdu) (take n ws) ++ map (λ w. w.sdu) (drop n ws) ≡ map (λ w. w.sdu) ws
+front_and_rest : (n : ℕ) (ws : List Waits)
+    → map (λ w. w.sdu) (take n ws) ++ map (λ w. w.sdu) (drop n ws) ≡ map (λ w. w.sdu) ws
 front_and_rest zero ws = refl
 front_and_rest (suc n) [] = refl
 front_and_rest (suc n) (w ∷ ws) = ap (λ (xs : List (List ℕ)). w.sdu ∷ xs) (front_and_rest n ws)
@@ -186,16 +212,21 @@ ticks_marked l b own =
     let settles' = nat_lt 0 (length told) in
     let w : Work = work (after_discards d) t3.bearer.tx (t3.events ++ told) in
     let g = gone l d.lcid d.tx.waiting (pdcp_ticked d.tx) (ap (λ (e : Ends). e.lcid) same ∙ own) refl in
-    let silent : flat_map (leaving_in l) t3.events ≡ [] = ticks_none l Prohibit t2 ∙ ticks_none l Reorder t1 ∙ ticks_none l Poll t0 in
-    let left : (am_ticked b).bearer.pdcp.tx.waiting ≡ drop g.n d.tx.waiting = ap (λ (e : Ends). e.tx.waiting) (settled_pdcp settles' w) ∙ g.left in
+    let silent : flat_map (leaving_in l) t3.events ≡ [] =
+    ticks_none l Prohibit t2 ∙ ticks_none l Reorder t1 ∙ ticks_none l Poll t0 in
+    let left : (am_ticked b).bearer.pdcp.tx.waiting ≡ drop g.n d.tx.waiting =
+    ap (λ (e : Ends). e.tx.waiting) (settled_pdcp settles' w) ∙ g.left in
     let before : map (λ w. w.sdu) (take g.n d.tx.waiting) ++ queue (ends (after (Am b) Tick)) ≡ queue (ends (Am b)) =
-    ap (λ (ws : List Waits). map (λ w. w.sdu) (take g.n d.tx.waiting) ++ map (λ w. w.sdu) ws) left ∙ (front_and_rest g.n d.tx.waiting ∙ ap (λ (e : Ends). map (λ w. w.sdu) e.tx.waiting) same) in
+    ap (λ (ws : List Waits). map (λ w. w.sdu) (take g.n d.tx.waiting) ++ map (λ w. w.sdu) ws) left
+    ∙ (front_and_rest g.n d.tx.waiting ∙ ap (λ (e : Ends). map (λ w. w.sdu) e.tx.waiting) same) in
     settled_marked settles' l w
     ∙ (flat_map-append (leaving_in l) t3.events told
     ∙ (ap (λ (xs : List (Option ℕ)). xs ++ flat_map (leaving_in l) told) silent
     ∙ (g.told
     ∙ (sym (nones_of (take g.n d.tx.waiting))
-    ∙ ap nones (sym (taken_front (map (λ w. w.sdu) (take g.n d.tx.waiting)) (queue (ends (after (Am b) Tick))) (queue (ends (Am b))) before))))))
+    ∙ ap nones
+    (sym (taken_front (map (λ w. w.sdu) (take g.n d.tx.waiting)) (queue (ends (after (Am b) Tick)))
+    (queue (ends (Am b))) before))))))
 
 -- ---- a call
 
@@ -212,7 +243,8 @@ hears_no_leaving l m = record {
   bad_pdcp = λ fault. refl;
 }
 
-nones_told : (ds : List (List ℕ)) (n : ℕ) (more : List (Option ℕ)) → were_taken n (nones ds ++ more) ≡ no ds ++ were_taken n more
+nones_told : (ds : List (List ℕ)) (n : ℕ) (more : List (Option ℕ))
+    → were_taken n (nones ds ++ more) ≡ no ds ++ were_taken n more
 nones_told [] n more = refl
 nones_told (d ∷ ds) n more = ap (λ (bs : List Bool). false ∷ bs) (nones_told ds n more)
 
@@ -222,16 +254,20 @@ all_flags f [] = []
 all_flags f (Calls c ∷ xs) = (yes (news f c) ++ no (drops f c)) ++ all_flags (after f c) xs
 all_flags f (Restart keys ∷ xs) = all_flags (goes f (Restart keys)) xs
 
-chosen_both : (ns ds left rest : List (List ℕ)) (bs : List Bool) → chosen ((yes ns ++ no ds) ++ bs) (((ns ++ ds) ++ left) ++ rest) ≡ ns ++ chosen bs (left ++ rest)
+chosen_both : (ns ds left rest : List (List ℕ)) (bs : List Bool)
+    → chosen ((yes ns ++ no ds) ++ bs) (((ns ++ ds) ++ left) ++ rest) ≡ ns ++ chosen bs (left ++ rest)
 chosen_both ns ds left rest bs =
     ap (λ (xs : List Bool). chosen xs (((ns ++ ds) ++ left) ++ rest)) (append_assoc (yes ns) (no ds) bs)
     ∙ (ap (chosen (yes ns ++ (no ds ++ bs))) (append_assoc (ns ++ ds) left rest ∙ append_assoc ns ds (left ++ rest))
-    ∙ (chosen_yes ns (ds ++ (left ++ rest)) (no ds ++ bs) ∙ ap (λ (xs : List (List ℕ)). ns ++ xs) (chosen_no ds (left ++ rest) bs)))
+    ∙ (chosen_yes ns (ds ++ (left ++ rest)) (no ds ++ bs)
+    ∙ ap (λ (xs : List (List ℕ)). ns ++ xs) (chosen_no ds (left ++ rest) bs)))
 
-pub flags_choose : (xs : List Step) (f : Flow) (rest : List (List ℕ)) → chosen (all_flags f xs) (all_left f xs ++ rest) ≡ all_news f xs
+pub flags_choose : (xs : List Step) (f : Flow) (rest : List (List ℕ))
+    → chosen (all_flags f xs) (all_left f xs ++ rest) ≡ all_news f xs
 flags_choose [] f rest = refl
 flags_choose (Calls c ∷ xs) f rest =
-    chosen_both (news f c) (drops f c) (all_left (after f c) xs) rest (all_flags (after f c) xs) ∙ ap (λ (ys : List (List ℕ)). news f c ++ ys) (flags_choose xs (after f c) rest)
+    chosen_both (news f c) (drops f c) (all_left (after f c) xs) rest (all_flags (after f c) xs)
+    ∙ ap (λ (ys : List (List ℕ)). news f c ++ ys) (flags_choose xs (after f c) rest)
 flags_choose (Restart keys ∷ xs) f rest = flags_choose xs (goes f (Restart keys)) rest
 
 pub flags_many : (xs : List Step) (f : Flow) → length (all_flags f xs) ≡ length (all_left f xs)
@@ -249,37 +285,50 @@ flags_many (Calls c ∷ xs) f =
     omega (arith, a, b, d, e, y, n, rest)
 flags_many (Restart keys ∷ xs) f = flags_many xs (goes f (Restart keys))
 
-pub flags_leave : (xs : List Step) (f : Flow) (rest : List (List ℕ)) → drop (length (all_flags f xs)) (all_left f xs ++ rest) ≡ rest
+pub flags_leave : (xs : List Step) (f : Flow) (rest : List (List ℕ))
+    → drop (length (all_flags f xs)) (all_left f xs ++ rest) ≡ rest
 flags_leave xs f rest = drop_at (all_left f xs) rest (length (all_flags f xs)) (sym (flags_many xs f))
 
 module _ (kind : PdcpKind) (p : Protection) (first : ℕ) where
   record CallLeaves (l : ℕ) (b : State) (c : Call) : Type 0 where
     reached : WasReached kind p first (called b c).pdcp.tx
     told : (more : List (Option ℕ))
-        → were_taken b.pdcp.tx.next (marked_in l (Am b) c ++ more) ≡ (yes (news (Am b) c) ++ no (drops (Am b) c)) ++ were_taken (called b c).pdcp.tx.next more
+        → were_taken b.pdcp.tx.next (marked_in l (Am b) c ++ more)
+        ≡ (yes (news (Am b) c) ++ no (drops (Am b) c)) ++ were_taken (called b c).pdcp.tx.next more
 
-  told_by : (bits l : ℕ) (b : State) (c : Call) (n : ℕ) → IsSteady bits l b → Takes b.pdcp.tx (takes (Am b) c) (news (Am b) c) n
-      → (more : List (Option ℕ)) → were_taken b.pdcp.tx.next (marked_in l (Am b) c ++ more) ≡ (yes (news (Am b) c) ++ no (drops (Am b) c)) ++ were_taken n more
+  told_by : (bits l : ℕ) (b : State) (c : Call) (n : ℕ) → IsSteady bits l b
+      → Takes b.pdcp.tx (takes (Am b) c) (news (Am b) c) n
+      → (more : List (Option ℕ)) → were_taken b.pdcp.tx.next (marked_in l (Am b) c ++ more)
+      ≡ (yes (news (Am b) c) ++ no (drops (Am b) c)) ++ were_taken n more
   told_by bits l b (Take share held) n h t more =
       ap (λ (xs : List (Option ℕ)). were_taken b.pdcp.tx.next (xs ++ more)) (takes_marked l b share held h.between.own)
-      ∙ (t.told more ∙ ap (λ (bs : List Bool). bs ++ were_taken n more) (sym (append-nil (yes (news (Am b) (Take share held))))))
+      ∙ (t.told more ∙ ap (λ (bs : List Bool). bs ++ were_taken n more)
+      (sym (append-nil (yes (news (Am b) (Take share held))))))
   told_by bits l b Tick n h t more =
       let is = t.next in
       let same : b.pdcp.tx.next ≡ n = omega (arith, is) in
       ap (λ (xs : List (Option ℕ)). were_taken b.pdcp.tx.next (xs ++ more)) (ticks_marked l b h.between.own)
-      ∙ (nones_told (drops (Am b) Tick) b.pdcp.tx.next more ∙ ap (λ (k : ℕ). no (drops (Am b) Tick) ++ were_taken k more) same)
-  told_by bits l b (Submit sdu) n h t more = let is = t.next in let same : b.pdcp.tx.next ≡ n = omega (arith, is) in ap (λ (k : ℕ). were_taken k more) same
+      ∙ (nones_told (drops (Am b) Tick) b.pdcp.tx.next more
+      ∙ ap (λ (k : ℕ). no (drops (Am b) Tick) ++ were_taken k more) same)
+  told_by bits l b (Submit sdu) n h t more = let is = t.next in let same : b.pdcp.tx.next ≡ n = omega (arith, is) in
+      ap (λ (k : ℕ). were_taken k more) same
   told_by bits l b (Arrive pdu) n h t more =
       let is = t.next in
       let same : b.pdcp.tx.next ≡ n = omega (arith, is) in
-      ap (λ (xs : List (Option ℕ)). were_taken b.pdcp.tx.next (xs ++ more)) (none_arriving leaving_in leaving_off l (Am b) h.between (hears_no_leaving l l) pdu) ∙ ap (λ (k : ℕ). were_taken k more) same
+      ap (λ (xs : List (Option ℕ)). were_taken b.pdcp.tx.next (xs ++ more))
+      (none_arriving leaving_in leaving_off l (Am b) h.between (hears_no_leaving l l) pdu)
+      ∙ ap (λ (k : ℕ). were_taken k more) same
   told_by bits l b (Expire clock) n h t more =
       let is = t.next in
       let same : b.pdcp.tx.next ≡ n = omega (arith, is) in
-      ap (λ (xs : List (Option ℕ)). were_taken b.pdcp.tx.next (xs ++ more)) (none_expiring leaving_in leaving_off l (Am b) h.between (hears_no_leaving l l) clock) ∙ ap (λ (k : ℕ). were_taken k more) same
-  told_by bits l b (SetDiscard ttis) n h t more = let is = t.next in let same : b.pdcp.tx.next ≡ n = omega (arith, is) in ap (λ (k : ℕ). were_taken k more) same
+      ap (λ (xs : List (Option ℕ)). were_taken b.pdcp.tx.next (xs ++ more))
+      (none_expiring leaving_in leaving_off l (Am b) h.between (hears_no_leaving l l) clock)
+      ∙ ap (λ (k : ℕ). were_taken k more) same
+  told_by bits l b (SetDiscard ttis) n h t more = let is = t.next in
+      let same : b.pdcp.tx.next ≡ n = omega (arith, is) in ap (λ (k : ℕ). were_taken k more) same
 
-  call_leaves : (bits l : ℕ) (b : State) (c : Call) → IsSteady bits l b → WasReached kind p first b.pdcp.tx → CallLeaves l b c
+  call_leaves : (bits l : ℕ) (b : State) (c : Call) → IsSteady bits l b → WasReached kind p first b.pdcp.tx
+      → CallLeaves l b c
   call_leaves bits l b c h r =
       let x = call_goes (Am b) b.pdcp c refl in
       let some : Some x.next ≡ Some (called b c).pdcp = sym x.is ∙ ap ends (is_called b c) in
@@ -300,15 +349,18 @@ module _ (kind : PdcpKind) (p : Protection) (first : ℕ) where
   owing_next None s = refl
   owing_next (Some report) s = refl
 
-  restarted_next : (bits : ℕ) (e : Ends) (keys : Keys) → e.tx.kind ≡ AmKind bits → (restarted_pdcp e keys).tx.next ≡ e.tx.next
+  restarted_next : (bits : ℕ) (e : Ends) (keys : Keys) → e.tx.kind ≡ AmKind bits
+      → (restarted_pdcp e keys).tx.next ≡ e.tx.next
   unfolding restarted_pdcp restarted_sending
-  restarted_next bits e keys k = owing_next (report_of e.kind e.rx) (restarted_sending e.tx keys) ∙ ap (λ (x : PdcpKind). next_from x e.tx.next) k
+  restarted_next bits e keys k = owing_next (report_of e.kind e.rx) (restarted_sending e.tx keys)
+      ∙ ap (λ (x : PdcpKind). next_from x e.tx.next) k
 
   record LifeLeaves (b : State) (keys : Keys) : Type 0 where
     reached : WasReached kind p first (restarts b keys).pdcp.tx
     next : (restarts b keys).pdcp.tx.next ≡ b.pdcp.tx.next
 
-  life_leaves : (bits l : ℕ) (b : State) (keys : Keys) → IsSteady bits l b → WasReached kind p first b.pdcp.tx → LifeLeaves b keys
+  life_leaves : (bits l : ℕ) (b : State) (keys : Keys) → IsSteady bits l b → WasReached kind p first b.pdcp.tx
+      → LifeLeaves b keys
   life_leaves bits l b keys h r =
       let x = restarts_as (Am b) b.pdcp keys refl in
       let one = restarts_steady bits l b keys h in
@@ -317,16 +369,19 @@ module _ (kind : PdcpKind) (p : Protection) (first : ℕ) where
       let m = (pdcp_restarts x.between keys).tx in
       let was : WasReached kind p first x.between.tx = subst (WasReached kind p first) (sym x.ended.tx) r in
       record {
-        reached = subst (λ (e : Ends). WasReached kind p first e.tx) same (subst (WasReached kind p first) (sym m.left) (reached_more kind p first x.between.tx m.steps was));
+        reached = subst (λ (e : Ends). WasReached kind p first e.tx) same
+            (subst (WasReached kind p first) (sym m.left) (reached_more kind p first x.between.tx m.steps was));
         next =
-            ap (λ (e : Ends). e.tx.next) (sym same) ∙ restarted_next bits x.between keys (ap (λ (s : Sending). s.kind) x.ended.tx ∙ h.data'.sending)
+            ap (λ (e : Ends). e.tx.next) (sym same)
+            ∙ restarted_next bits x.between keys (ap (λ (s : Sending). s.kind) x.ended.tx ∙ h.data'.sending)
             ∙ ap (λ (s : Sending). s.next) x.ended.tx;
       }
 
   -- ---- through lives
 
   -- what is told says of each that leaves whether it is taken
-  pub flags_told : (bits l : ℕ) (xs : List Step) (b : State) → IsSteady bits l b → WasReached kind p first b.pdcp.tx → were_taken b.pdcp.tx.next (all_leaving l (Am b) xs) ≡ all_flags (Am b) xs
+  pub flags_told : (bits l : ℕ) (xs : List Step) (b : State) → IsSteady bits l b → WasReached kind p first b.pdcp.tx
+      → were_taken b.pdcp.tx.next (all_leaving l (Am b) xs) ≡ all_flags (Am b) xs
   flags_told bits l [] b h r = refl
   flags_told bits l (Calls c ∷ xs) b h r =
       let is = is_called b c in
@@ -335,12 +390,15 @@ module _ (kind : PdcpKind) (p : Protection) (first : ℕ) where
       let here = yes (news (Am b) c) ++ no (drops (Am b) c) in
       ap (λ (f : Flow). were_taken b.pdcp.tx.next (marked_in l (Am b) c ++ all_leaving l f xs)) is
       ∙ (one.told (all_leaving l (Am d) xs)
-      ∙ (ap (λ (bs : List Bool). here ++ bs) (flags_told bits l xs d (called_steady bits l b c h) one.reached) ∙ ap (λ (f : Flow). here ++ all_flags f xs) (sym is)))
+      ∙ (ap (λ (bs : List Bool). here ++ bs) (flags_told bits l xs d (called_steady bits l b c h) one.reached)
+      ∙ ap (λ (f : Flow). here ++ all_flags f xs) (sym is)))
   flags_told bits l (Restart keys ∷ xs) b h r =
       let one = life_leaves bits l b keys h r in
       let s = restarts_steady bits l b keys h in
       let d = restarts b keys in
-      ap (λ (f : Flow). were_taken b.pdcp.tx.next (flat_map (leaving_in l) (stopping (Am b)) ++ all_leaving l f xs)) s.left
-      ∙ (ap (λ (ms : List (Option ℕ)). were_taken b.pdcp.tx.next (ms ++ all_leaving l (Am d) xs)) (none_ending leaving_in leaving_off l (Am b) h.between (hears_no_leaving l l))
+      ap (λ (f : Flow). were_taken b.pdcp.tx.next (flat_map (leaving_in l) (stopping (Am b)) ++ all_leaving l f xs))
+      s.left
+      ∙ (ap (λ (ms : List (Option ℕ)). were_taken b.pdcp.tx.next (ms ++ all_leaving l (Am d) xs))
+      (none_ending leaving_in leaving_off l (Am b) h.between (hears_no_leaving l l))
       ∙ (ap (λ (n : ℕ). were_taken n (all_leaving l (Am d) xs)) (sym one.next)
       ∙ (flags_told bits l xs d s.steady one.reached ∙ ap (λ (f : Flow). all_flags f xs) (sym s.left))))

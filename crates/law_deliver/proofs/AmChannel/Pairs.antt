@@ -12,7 +12,9 @@ use Rattle.law_bearer.specs.AmBearer.Calls.{tells, ups_in}
 use Rattle.law_bearer.specs.AmBearer.Lives.{restarts}
 use Rattle.law_deliver.specs.AmFlow.Pair.{BearerEnd, Pair, happens}
 use Rattle.law_deliver.proofs.AmFlow.Sending.{is_called}
-use Rattle.law_deliver.specs.AmDelivery.Lives.{LifeStep, InLife, Restarts, lives_on, lives, near_calls, far_calls, ups_by, news_by, near_ups_in, far_ups_in, near_news_in, far_news_in, over}
+use Rattle.law_deliver.specs.AmDelivery.Lives.{LifeStep, InLife, Restarts, lives_on, lives, near_calls, far_calls}
+use Rattle.law_deliver.specs.AmDelivery.Lives.{ups_by, news_by, near_ups_in, far_ups_in, near_news_in, far_news_in}
+use Rattle.law_deliver.specs.AmDelivery.Lives.{over}
 use Rattle.law_deliver.specs.AmDelivery.Ends.{near_steps_in, far_steps_in}
 use Rattle.law_deliver.proofs.AmDelivery.Reached.{Turns, near_turns, far_turns}
 use Rattle.law_deliver.proofs.AmChannel.Bearers.{IsSteady, called_steady, restarts_steady, call_ups, end_ups}
@@ -47,13 +49,16 @@ record Few (bits l : ℕ) (cs : List Call) (b d : State) (xs : List BearerStep) 
   ups_are : all_ups l (Am b) (map (λ c. CallsIt c) cs ++ xs) ≡ ups_by b cs ++ all_ups l (Am d) xs
   news_are : all_news (Am b) (map (λ c. CallsIt c) cs ++ xs) ≡ news_by b cs ++ all_news (Am d) xs
 
-few_so : (bits l : ℕ) (cs : List Call) (b d : State) (xs : List BearerStep) → Turns b cs d → IsSteady bits l b → Few bits l cs b d xs
-few_so bits l [] b d xs t h = subst (λ (x : State). Few bits l [] b x xs) (sym t) (record { steady = h; ups_are = refl; news_are = refl })
+few_so : (bits l : ℕ) (cs : List Call) (b d : State) (xs : List BearerStep) → Turns b cs d → IsSteady bits l b
+    → Few bits l cs b d xs
+few_so bits l [] b d xs t h =
+    subst (λ (x : State). Few bits l [] b x xs) (sym t) (record { steady = h; ups_are = refl; news_are = refl })
 few_so bits l (c ∷ []) b d xs t h =
     subst (λ (x : State). Few bits l (c ∷ []) b x xs) (sym t)
     (record {
       steady = called_steady bits l b c h;
-      ups_are = ap (λ (up : List (List ℕ)). up ++ all_ups l (after (Am b) c) xs) (sym (call_ups l b c h.between)) ∙ ap (λ (f : Flow). ups_in (tells b c) ++ all_ups l f xs) (is_called b c);
+      ups_are = ap (λ (up : List (List ℕ)). up ++ all_ups l (after (Am b) c) xs) (sym (call_ups l b c h.between))
+          ∙ ap (λ (f : Flow). ups_in (tells b c) ++ all_ups l f xs) (is_called b c);
       news_are = ap (λ (f : Flow). news (Am b) c ++ all_news f xs) (is_called b c);
     })
 few_so bits l (c ∷ x ∷ cs) b d xs t h = absurd t
@@ -62,16 +67,20 @@ few_so bits l (c ∷ x ∷ cs) b d xs t h = absurd t
 
 record StepGoes (bits l : ℕ) (side : Side) (p : Pair) (x : LifeStep) (xs : List BearerStep) : Type 0 where
   steady : IsSteady bits l (own side (lives_on p x)).bearer
-  ups_are : all_ups l (Am (own side p).bearer) (does_at side p x ++ xs) ≡ ups_in_at side p x ++ all_ups l (Am (own side (lives_on p x)).bearer) xs
-  news_are : all_news (Am (own side p).bearer) (does_at side p x ++ xs) ≡ news_in_at side p x ++ all_news (Am (own side (lives_on p x)).bearer) xs
+  ups_are : all_ups l (Am (own side p).bearer) (does_at side p x ++ xs)
+      ≡ ups_in_at side p x ++ all_ups l (Am (own side (lives_on p x)).bearer) xs
+  news_are : all_news (Am (own side p).bearer) (does_at side p x ++ xs)
+      ≡ news_in_at side p x ++ all_news (Am (own side (lives_on p x)).bearer) xs
 
-restart_goes : (bits l : ℕ) (side : Side) (p : Pair) (keys : Keys) (xs : List BearerStep) → IsSteady bits l (own side p).bearer → StepGoes bits l side p (Restarts keys) xs
+restart_goes : (bits l : ℕ) (side : Side) (p : Pair) (keys : Keys) (xs : List BearerStep)
+    → IsSteady bits l (own side p).bearer → StepGoes bits l side p (Restarts keys) xs
 restart_goes bits l Nb p keys xs h =
     let b = p.near.bearer in
     let r = restarts_steady bits l b keys h in
     record {
       steady = r.steady;
-      ups_are = ap (λ (f : Flow). ends_up l (Am b) ++ all_ups l f xs) r.left ∙ ap (λ (up : List (List ℕ)). up ++ all_ups l (Am (restarts b keys)) xs) (sym (end_ups l b h.between));
+      ups_are = ap (λ (f : Flow). ends_up l (Am b) ++ all_ups l f xs) r.left
+          ∙ ap (λ (up : List (List ℕ)). up ++ all_ups l (Am (restarts b keys)) xs) (sym (end_ups l b h.between));
       news_are = ap (λ (f : Flow). all_news f xs) r.left;
     }
 restart_goes bits l Ue p keys xs h =
@@ -79,11 +88,13 @@ restart_goes bits l Ue p keys xs h =
     let r = restarts_steady bits l b keys h in
     record {
       steady = r.steady;
-      ups_are = ap (λ (f : Flow). ends_up l (Am b) ++ all_ups l f xs) r.left ∙ ap (λ (up : List (List ℕ)). up ++ all_ups l (Am (restarts b keys)) xs) (sym (end_ups l b h.between));
+      ups_are = ap (λ (f : Flow). ends_up l (Am b) ++ all_ups l f xs) r.left
+          ∙ ap (λ (up : List (List ℕ)). up ++ all_ups l (Am (restarts b keys)) xs) (sym (end_ups l b h.between));
       news_are = ap (λ (f : Flow). all_news f xs) r.left;
     }
 
-step_goes : (bits l : ℕ) (side : Side) (p : Pair) (x : LifeStep) (xs : List BearerStep) → IsSteady bits l (own side p).bearer → StepGoes bits l side p x xs
+step_goes : (bits l : ℕ) (side : Side) (p : Pair) (x : LifeStep) (xs : List BearerStep)
+    → IsSteady bits l (own side p).bearer → StepGoes bits l side p x xs
 step_goes bits l Nb p (InLife s) xs h =
     let few = few_so bits l (near_calls p s) p.near.bearer (happens p s).near.bearer xs (near_turns p s) h in
     record { steady = few.steady; ups_are = few.ups_are; news_are = few.news_are }
@@ -97,7 +108,8 @@ pub record LivesGo (bits l : ℕ) (side : Side) (p : Pair) (xs : List LifeStep) 
   pub ups_are : over (ups_in_at side) xs p ≡ all_ups l (Am (own side p).bearer) (all_does side xs p)
   pub news_are : over (news_in_at side) xs p ≡ all_news (Am (own side p).bearer) (all_does side xs p)
 
-pub lives_go : (bits l : ℕ) (side : Side) (xs : List LifeStep) (p : Pair) → IsSteady bits l (own side p).bearer → LivesGo bits l side p xs
+pub lives_go : (bits l : ℕ) (side : Side) (xs : List LifeStep) (p : Pair) → IsSteady bits l (own side p).bearer
+    → LivesGo bits l side p xs
 lives_go bits l side [] p h = record { steady = h; ups_are = refl; news_are = refl }
 lives_go bits l side (x ∷ xs) p h =
     let q : Pair = lives_on p x in
@@ -115,8 +127,10 @@ pub lives_more : (xs ys : List LifeStep) (p : Pair) → lives (xs ++ ys) p ≡ l
 lives_more [] ys p = refl
 lives_more (x ∷ xs) ys p = lives_more xs ys (lives_on p x)
 
-pub does_more : (side : Side) (xs ys : List LifeStep) (p : Pair) → all_does side (xs ++ ys) p ≡ all_does side xs p ++ all_does side ys (lives xs p)
+pub does_more : (side : Side) (xs ys : List LifeStep) (p : Pair)
+    → all_does side (xs ++ ys) p ≡ all_does side xs p ++ all_does side ys (lives xs p)
 does_more side [] ys p = refl
 does_more side (x ∷ xs) ys p =
     ap (λ (ds : List BearerStep). does_at side p x ++ ds) (does_more side xs ys (lives_on p x))
-    ∙ sym (append_assoc (does_at side p x) (all_does side xs (lives_on p x)) (all_does side ys (lives xs (lives_on p x))))
+    ∙ sym (append_assoc (does_at side p x) (all_does side xs (lives_on p x))
+    (all_does side ys (lives xs (lives_on p x))))

@@ -1,11 +1,13 @@
 -- What is told of an act of an end is what its bearer's calls tell.
-use Rattle.std.proofs.Common.{◌≡◌, ◌≤◌, ℕ, ◌==◌, Bool, true, false, if◌then◌else◌, Option, Some, None, List, [], ◌∷◌, ◌++◌, map, append-nil, append_assoc, slice_get, refl, ap, sym, subst, ◌∙◌}
+use Rattle.std.proofs.Common.{◌≡◌, ◌≤◌, ℕ, ◌==◌, Bool, true, false, if◌then◌else◌, Option, Some, None, List, [], ◌∷◌}
+use Rattle.std.proofs.Common.{◌++◌, map, append-nil, append_assoc, slice_get, refl, ap, sym, subst, ◌∙◌}
 use Rattle.std.specs.List.{flat_map}
 use Rattle.bearer.specs.declared.flow.Flow.{Flow}
 use Rattle.bearer.specs.declared.flow.Flow.TheVariants.{Am}
 use Rattle.bearer.specs.Taking.{pdus, told}
 use Rattle.bearer.specs.Acknowledged.State.{State}
-use Rattle.law_bearer.specs.AnyBearer.Calls.{Call as BearerCall, Submit as Submits, Take as Takes, Arrive as Arrives, Expire as Expires, SetDiscard as SetsDiscard}
+use Rattle.law_bearer.specs.AnyBearer.Calls.{Call as BearerCall, Submit as Submits, Take as Takes, Arrive as Arrives}
+use Rattle.law_bearer.specs.AnyBearer.Calls.{Expire as Expires, SetDiscard as SetsDiscard}
 use Rattle.bearer_types.specs.declared.event.Event.{Event}
 use Rattle.harq.specs.declared.sender.Order.{Order}
 use Rattle.harq.specs.declared.sender.Visit.{Visit}
@@ -18,23 +20,30 @@ use Rattle.l2_node.specs.Finding.{has}
 use Rattle.l2_node.specs.Submitting.{refusal}
 use Rattle.l2_node.specs.Writing.{new_block}
 use Rattle.l2_types.specs.declared.side.Side.{Side}
-use Rattle.law_node.specs.Calls.{Turn, Call, SetVisits, SetReports, Add, Submit, SetDiscard, Tick, TickBuckets, Visits, Grants, Granted, Assigned, Pass, Receive, Expire, Move, IsGiven as IsGivenCall}
+use Rattle.law_node.specs.Calls.{Turn, Call, SetVisits, SetReports, Add, Submit, SetDiscard, Tick, TickBuckets, Visits}
+use Rattle.law_node.specs.Calls.{Grants, Granted, Assigned, Pass, Receive, Expire, Move, IsGiven as IsGivenCall}
 use Rattle.law_node.specs.Holding.{flow}
 use Rattle.pdcp_pdu.specs.Kinds.{bits_of}
 use Rattle.prioritise.specs.Channels.{has as has_channel}
 use Rattle.law_words.specs.Arrivals.{Happening}
-use Rattle.law_deliver.specs.AmFlow.Air.{Block, Station, Act, Calls, Comes, Goes, built_at, IsVisiting, IsCalling, IsDone, HasCome}
-use Rattle.law_deliver.specs.AmFlow.Channels.{only, share_of, held_of, takes_of, submits_of, calls_of, written_by, GoesOnInLife}
+use Rattle.law_deliver.specs.AmFlow.Air.{Block, Station, Act, Calls, Comes, Goes, built_at, IsVisiting, IsCalling}
+use Rattle.law_deliver.specs.AmFlow.Air.{IsDone, HasCome}
+use Rattle.law_deliver.specs.AmFlow.Channels.{only, share_of, held_of, takes_of, submits_of, calls_of, written_by}
+use Rattle.law_deliver.specs.AmFlow.Channels.{GoesOnInLife}
 use Rattle.promises.specs.Pdus.{carried}
 use Rattle.law_rlc.specs.AmPair.Flow.{Copy}
-use Rattle.law_deliver.specs.AmFlow.Pair.{Sent, BearerEnd, Pair, Deed, Calls as CallsBearer, DataComes, StatusComes, DataGoes, StatusGoes, Near, Far, called, data_comes, status_comes, does, happens}
+use Rattle.law_deliver.specs.AmFlow.Pair.{Sent, BearerEnd, Pair, Deed, Calls as CallsBearer, DataComes, StatusComes}
+use Rattle.law_deliver.specs.AmFlow.Pair.{DataGoes, StatusGoes, Near, Far, called, data_comes, status_comes, does}
+use Rattle.law_deliver.specs.AmFlow.Pair.{happens}
 use Rattle.law_deliver.specs.AmFlow.Ups.{tells_over}
 use Rattle.law_deliver.proofs.AmFlow.Air.{calls_in as act_calls}
 use Rattle.law_deliver.proofs.AmFlow.Channels.{blocks_carry_pdus}
-use Rattle.law_deliver.proofs.AmFlow.Runs.{near_steps, far_steps, data_call, status_call, all_calls_in, calls_in as deed_calls}
+use Rattle.law_deliver.proofs.AmFlow.Runs.{near_steps, far_steps, data_call, status_call, all_calls_in}
+use Rattle.law_deliver.proofs.AmFlow.Runs.{calls_in as deed_calls}
 use Rattle.law_deliver.proofs.AmFlow.Stations.{come_side, calls_by as block_calls}
 use Rattle.law_deliver.proofs.AmFlow.Ups.{Stands, tells_of}
-use Rattle.law_deliver.specs.AmDelivery.Arrival.{said_in as bearer_says, heard_in as bearer_hears, said_by, heard_by as bearers_hear, down_in, up_in}
+use Rattle.law_deliver.specs.AmDelivery.Arrival.{said_in as bearer_says, heard_in as bearer_hears, said_by}
+use Rattle.law_deliver.specs.AmDelivery.Arrival.{heard_by as bearers_hear, down_in, up_in}
 use Rattle.promises.specs.Given.{gives, writing, bringing}
 use Rattle.law_deliver.specs.AmDelivery.Lives.{over, calls_in}
 use Rattle.law_deliver.specs.AmChannel.Arrival.{built_in, said_in, heard_in, said_over, heard_over}
@@ -54,21 +63,25 @@ hears (c ∷ cs) = bearer_hears c ++ hears cs
 
 hears_then : (cs ds : List BearerCall) → hears (cs ++ ds) ≡ hears cs ++ hears ds
 hears_then [] ds = refl
-hears_then (c ∷ cs) ds = ap (λ (hs : List Happening). bearer_hears c ++ hs) (hears_then cs ds) ∙ sym (append_assoc (bearer_hears c) (hears cs) (hears ds))
+hears_then (c ∷ cs) ds = ap (λ (hs : List Happening). bearer_hears c ++ hs) (hears_then cs ds)
+    ∙ sym (append_assoc (bearer_hears c) (hears cs) (hears ds))
 
 -- ---- deeds of an end of a pair
 
 deed_says : (other e : BearerEnd) (d : Deed) (cs : List BearerCall)
-    → says e.bearer (deed_calls other d ++ cs) ≡ said_by e.bearer (deed_calls other d) ++ says (does other e d).bearer cs
+    → says e.bearer (deed_calls other d ++ cs) ≡ said_by e.bearer (deed_calls other d)
+    ++ says (does other e d).bearer cs
 deed_says other e (CallsBearer c) cs = refl
 deed_says other e (DataComes k) cs = by (slice_get other.copies k)
   where
-    by : (x : Option Copy) → says e.bearer (data_call x ++ cs) ≡ said_by e.bearer (data_call x) ++ says (data_comes e x).bearer cs
+    by : (x : Option Copy) → says e.bearer (data_call x ++ cs)
+        ≡ said_by e.bearer (data_call x) ++ says (data_comes e x).bearer cs
     by None = refl
     by (Some c) = refl
 deed_says other e (StatusComes k) cs = by (slice_get other.reports k)
   where
-    by : (x : Option Sent) → says e.bearer (status_call x ++ cs) ≡ said_by e.bearer (status_call x) ++ says (status_comes e x).bearer cs
+    by : (x : Option Sent) → says e.bearer (status_call x ++ cs)
+        ≡ said_by e.bearer (status_call x) ++ says (status_comes e x).bearer cs
     by None = refl
     by (Some s) = refl
 deed_says other e (DataGoes k) cs = refl
@@ -89,21 +102,26 @@ deed_hears other (StatusComes k) = by (slice_get other.reports k)
 deed_hears other (DataGoes k) = refl
 deed_hears other (StatusGoes k) = refl
 
-pub near_says : (p : Pair) (ds : List Deed) → over down_in (in_life_all (near_steps ds)) p ≡ says p.near.bearer (all_calls_in p.far ds)
+pub near_says : (p : Pair) (ds : List Deed)
+    → over down_in (in_life_all (near_steps ds)) p ≡ says p.near.bearer (all_calls_in p.far ds)
 near_says p [] = refl
 near_says p (d ∷ ds) =
     ap (λ (hs : List Happening). said_by p.near.bearer (calls_in p.far d) ++ hs) (near_says (happens p (Near d)) ds)
-    ∙ (ap (λ (cs : List BearerCall). said_by p.near.bearer cs ++ says (does p.far p.near d).bearer (all_calls_in p.far ds)) (calls_same p.far d)
+    ∙ (ap (λ (cs : List BearerCall). said_by p.near.bearer cs
+    ++ says (does p.far p.near d).bearer (all_calls_in p.far ds)) (calls_same p.far d)
     ∙ sym (deed_says p.far p.near d (all_calls_in p.far ds)))
 
-pub far_says : (p : Pair) (ds : List Deed) → over up_in (in_life_all (far_steps ds)) p ≡ says p.far.bearer (all_calls_in p.near ds)
+pub far_says : (p : Pair) (ds : List Deed)
+    → over up_in (in_life_all (far_steps ds)) p ≡ says p.far.bearer (all_calls_in p.near ds)
 far_says p [] = refl
 far_says p (d ∷ ds) =
     ap (λ (hs : List Happening). said_by p.far.bearer (calls_in p.near d) ++ hs) (far_says (happens p (Far d)) ds)
-    ∙ (ap (λ (cs : List BearerCall). said_by p.far.bearer cs ++ says (does p.near p.far d).bearer (all_calls_in p.near ds)) (calls_same p.near d)
+    ∙ (ap (λ (cs : List BearerCall). said_by p.far.bearer cs
+    ++ says (does p.near p.far d).bearer (all_calls_in p.near ds)) (calls_same p.near d)
     ∙ sym (deed_says p.near p.far d (all_calls_in p.near ds)))
 
-pub near_hears : (p : Pair) (ds : List Deed) → over up_in (in_life_all (near_steps ds)) p ≡ hears (all_calls_in p.far ds)
+pub near_hears : (p : Pair) (ds : List Deed)
+    → over up_in (in_life_all (near_steps ds)) p ≡ hears (all_calls_in p.far ds)
 near_hears p [] = refl
 near_hears p (d ∷ ds) =
     ap (λ (hs : List Happening). bearers_hear (calls_in p.far d) ++ hs) (near_hears (happens p (Near d)) ds)
@@ -111,7 +129,8 @@ near_hears p (d ∷ ds) =
     ∙ (ap (λ (hs : List Happening). hs ++ hears (all_calls_in p.far ds)) (sym (deed_hears p.far d))
     ∙ sym (hears_then (deed_calls p.far d) (all_calls_in p.far ds))))
 
-pub far_hears : (p : Pair) (ds : List Deed) → over down_in (in_life_all (far_steps ds)) p ≡ hears (all_calls_in p.near ds)
+pub far_hears : (p : Pair) (ds : List Deed)
+    → over down_in (in_life_all (far_steps ds)) p ≡ hears (all_calls_in p.near ds)
 far_hears p [] = refl
 far_hears p (d ∷ ds) =
     ap (λ (hs : List Happening). bearers_hear (calls_in p.near d) ++ hs) (far_hears (happens p (Far d)) ds)
@@ -125,7 +144,8 @@ says_only : (here : Bool) (b : State) (c : BearerCall) → bearer_says b c ≡ [
 says_only true b c e = ap (λ (hs : List Happening). hs ++ []) e
 says_only false b c e = refl
 
-says_submits : (r : Option SubmitRefusal) (here : Bool) (b : State) (octets : List ℕ) → says b (submits_of r here octets) ≡ []
+says_submits : (r : Option SubmitRefusal) (here : Bool) (b : State) (octets : List ℕ)
+    → says b (submits_of r here octets) ≡ []
 says_submits None here b octets = says_only here b (Submits octets) refl
 says_submits (Some why) here b octets = refl
 
@@ -138,19 +158,24 @@ unfolding visited
 visited_flow l tti order e = refl
 
 -- the block that is built has the PDUs that the bearer writes
-carries : (side : Side) (l : ℕ) (e : End) (tti : ℕ) (order : Order) (grant : ℕ) → HasCome side e → has l e.bearers ≡ true → 1 ≤ grant → grant ≤ 9422
+carries : (side : Side) (l : ℕ) (e : End) (tti : ℕ) (order : Order) (grant : ℕ) → HasCome side e
+    → has l e.bearers ≡ true → 1 ≤ grant → grant ≤ 9422
     → carried l (sent_by e.side) (new_block (visited tti order e) grant) ≡ written_by (visited tti order e) grant l
 carries side l e tti order grant h there some most =
     let is = sym h.end_is in
     ap (λ (s : Side). carried l (sent_by s) (new_block (visited tti order e) grant)) (come_side side e h)
-    ∙ subst (λ (x : End). has l x.bearers ≡ true → carried l (sent_by side) (new_block (visited tti order x) grant) ≡ written_by (visited tti order x) grant l) is
+    ∙ subst (λ (x : End). has l x.bearers ≡ true
+    → carried l (sent_by side) (new_block (visited tti order x) grant) ≡ written_by (visited tti order x) grant l) is
     (λ t. blocks_carry_pdus side h.maximum h.reports h.past h.given tti order grant l some most t) there
 
-says_visit : (v : Visit) (bits l : ℕ) (side : Side) (e : End) (b : State) (t : Turn) → visit t.tti t.order e ≡ v → Stands side l e → flow l e ≡ Am b
+says_visit : (v : Visit) (bits l : ℕ) (side : Side) (e : End) (b : State) (t : Turn) → visit t.tti t.order e ≡ v
+    → Stands side l e → flow l e ≡ Am b
     → IsSteady bits l b → IsGivenCall (Visits t)
     → (v ≡ New → 1 ≤ t.grant)
     → says b (takes_of v t (visited t.tti t.order e) l)
-    ≡ gives bits (tells_over l (flow l e) (takes_of v t (visited t.tti t.order e) l)) ++ writing (flat_map (carried l (sent_by e.side)) (map (λ (x : Block). x.octets) (built_at v t (visited t.tti t.order e))))
+    ≡ gives bits (tells_over l (flow l e) (takes_of v t (visited t.tti t.order e) l))
+    ++ writing
+    (flat_map (carried l (sent_by e.side)) (map (λ (x : Block). x.octets) (built_at v t (visited t.tti t.order e))))
 says_visit New bits l side e b t is s bearer steady g some = by (has_channel l f.buckets.channels) refl
   where
     f : End
@@ -172,7 +197,8 @@ says_visit New bits l side e b t is s bearer steady g some = by (has_channel l f
     here = visited_flow l t.tti t.order e ∙ bearer
 
     by : (c : Bool) → has_channel l (visited t.tti t.order e).buckets.channels ≡ c
-        → says b (only c (Takes share held)) ≡ gives bits (tells_over l (flow l e) (only c (Takes share held))) ++ writing (carried l (sent_by e.side) block ++ [])
+        → says b (only c (Takes share held)) ≡ gives bits (tells_over l (flow l e) (only c (Takes share held)))
+        ++ writing (carried l (sent_by e.side) block ++ [])
     by true q =
         let own : b.pdcp.lcid ≡ l = steady.between.own in
         let kind : bits_of b.pdcp.kind ≡ bits = ap bits_of steady.data'.kind in
@@ -185,11 +211,14 @@ says_visit New bits l side e b t is s bearer steady g some = by (has_channel l f
         ∙ (ap (λ (n : ℕ). gives n (told b.pdcp.lcid (Am b) share held) ++ writing (pdus (Am b) share held)) kind
         ∙ (ap (λ (n : ℕ). gives bits (told n (Am b) share held) ++ writing (pdus (Am b) share held)) own
         ∙ (ap (λ (x : Flow). gives bits (told l x share held) ++ writing (pdus (Am b) share held)) (sym bearer)
-        ∙ (ap (λ (es : List Event). gives bits es ++ writing (pdus (Am b) share held)) (sym (append-nil (told l (flow l e) share held)))
-        ∙ ap (λ (ps : List (List ℕ)). gives bits (tells_over l (flow l e) (Takes share held ∷ [])) ++ writing ps) (sym one)))))
+        ∙ (ap (λ (es : List Event). gives bits es ++ writing (pdus (Am b) share held))
+        (sym (append-nil (told l (flow l e) share held)))
+        ∙ ap (λ (ps : List (List ℕ)). gives bits (tells_over l (flow l e) (Takes share held ∷ [])) ++ writing ps)
+        (sym one)))))
     by false q =
         let none : carried l (sent_by e.side) block ++ [] ≡ [] =
-        append-nil (carried l (sent_by e.side) block) ∙ (is_carried ∙ ap (λ (x : Bool). if x then pdus (flow l f) share held else []) q) in
+        append-nil (carried l (sent_by e.side) block)
+        ∙ (is_carried ∙ ap (λ (x : Bool). if x then pdus (flow l f) share held else []) q) in
         ap (λ (ps : List (List ℕ)). writing ps) (sym none)
 says_visit (Resend rv) bits l side e b t is s bearer steady g some = refl
 says_visit Silent bits l side e b t is s bearer steady g some = refl
@@ -199,27 +228,34 @@ visiting_some New s t h e = h.some
 visiting_some (Resend rv) s t h e = cc
 visiting_some Silent s t h e = cc
 
-call_says : (bits l : ℕ) (side : Side) (s : Station) (b : State) (c : Call) → Stands side l s.end → flow l s.end ≡ Am b → IsSteady bits l b → IsGivenCall c
+call_says : (bits l : ℕ) (side : Side) (s : Station) (b : State) (c : Call) → Stands side l s.end
+    → flow l s.end ≡ Am b → IsSteady bits l b → IsGivenCall c
     → GoesOnInLife l c → IsCalling s c
     → says b (calls_of l s.end c) ≡ said_in bits l s.end c
 call_says bits l side s b (SetVisits maximum) stands bearer steady g life calling = refl
 call_says bits l side s b (SetReports reports) stands bearer steady g life calling = refl
 call_says bits l side s b (Add c keys) stands bearer steady g life calling = refl
-call_says bits l side s b (Submit lcid octets) stands bearer steady g life calling = says_submits (refusal lcid octets s.end) (lcid == l) b octets
-call_says bits l side s b (SetDiscard lcid ttis) stands bearer steady g life calling = says_only (lcid == l) b (SetsDiscard ttis) refl
+call_says bits l side s b (Submit lcid octets) stands bearer steady g life calling =
+    says_submits (refusal lcid octets s.end) (lcid == l) b octets
+call_says bits l side s b (SetDiscard lcid ttis) stands bearer steady g life calling =
+    says_only (lcid == l) b (SetsDiscard ttis) refl
 call_says bits l side s b Tick stands bearer steady g life calling = refl
 call_says bits l side s b TickBuckets stands bearer steady g life calling = refl
 call_says bits l side s b (Visits t) stands bearer steady g life calling =
     let e = s.end in
     let v = visit t.tti t.order e in
     says_visit v bits l side e b t refl stands bearer steady g (visiting_some v s t calling)
-    ∙ ap (λ (es : List Event). gives bits es ++ writing (flat_map (carried l (sent_by e.side)) (built_in e (Visits t)))) (sym (tells_of side l e (Visits t) stands life).told_is)
+    ∙ ap (λ (es : List Event). gives bits es
+    ++ writing (flat_map (carried l (sent_by e.side)) (built_in e (Visits t))))
+    (sym (tells_of side l e (Visits t) stands life).told_is)
 call_says bits l side s b (Grants tti) stands bearer steady g life calling = refl
 call_says bits l side s b (Granted tti good) stands bearer steady g life calling = refl
 call_says bits l side s b (Assigned tti ndi good) stands bearer steady g life calling = refl
 call_says bits l side s b (Pass tti) stands bearer steady g life calling = refl
-call_says bits l side s b (Receive block) stands bearer steady g life calling = says_arrives (carried l (heard_by s.end.side) block) b
-call_says bits l side s b (Expire lcid clock) stands bearer steady g life calling = says_only (lcid == l) b (Expires clock) refl
+call_says bits l side s b (Receive block) stands bearer steady g life calling =
+    says_arrives (carried l (heard_by s.end.side) block) b
+call_says bits l side s b (Expire lcid clock) stands bearer steady g life calling =
+    says_only (lcid == l) b (Expires clock) refl
 call_says bits l side s b (Move keys) stands bearer steady g life calling = cc
 
 hears_only : (here : Bool) (c : BearerCall) → bearer_hears c ≡ [] → hears (only here c) ≡ []
@@ -258,7 +294,8 @@ call_hears l e (Move keys) = refl
 
 -- ---- an act
 
-brought_says : (bits l : ℕ) (e : End) (b : State) (o : Option Block) → says b (block_calls l e o) ≡ said_over bits l (brought o) e
+brought_says : (bits l : ℕ) (e : End) (b : State) (o : Option Block)
+    → says b (block_calls l e o) ≡ said_over bits l (brought o) e
 brought_says bits l e b None = refl
 brought_says bits l e b (Some x) = says_arrives (carried l (heard_by e.side) x.octets) b
 
@@ -266,9 +303,11 @@ brought_hears : (l : ℕ) (e : End) (o : Option Block) → hears (block_calls l 
 brought_hears l e None = refl
 brought_hears l e (Some x) = call_hears l e (Receive x.octets) ∙ sym (append-nil (heard_in l e (Receive x.octets)))
 
-pub act_says : (bits l : ℕ) (side : Side) (o s : Station) (b : State) (x : Act) → Stands side l s.end → flow l s.end ≡ Am b → IsSteady bits l b → IsDone l s x
+pub act_says : (bits l : ℕ) (side : Side) (o s : Station) (b : State) (x : Act) → Stands side l s.end
+    → flow l s.end ≡ Am b → IsSteady bits l b → IsDone l s x
     → says b (act_calls l o s x) ≡ said_over bits l (calls_by o x) s.end
-act_says bits l side o s b (Calls c) stands bearer steady g = call_says bits l side s b c stands bearer steady g.0 g.1 g.2 ∙ sym (append-nil (said_in bits l s.end c))
+act_says bits l side o s b (Calls c) stands bearer steady g =
+    call_says bits l side s b c stands bearer steady g.0 g.1 g.2 ∙ sym (append-nil (said_in bits l s.end c))
 act_says bits l side o s b (Comes k) stands bearer steady g = brought_says bits l s.end b (slice_get o.blocks k)
 act_says bits l side o s b (Goes k) stands bearer steady g = refl
 

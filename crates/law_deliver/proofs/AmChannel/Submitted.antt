@@ -1,7 +1,10 @@
 -- What is submitted at an end is submitted to its bearer of the channel.
-use Rattle.std.proofs.Common.{◌≡◌, ℕ, ◌==◌, Bool, true, false, Option, Some, None, List, [], ◌∷◌, ◌++◌, map, append-nil, append_assoc, refl, ap, sym, ◌∙◌}
+use Rattle.std.proofs.Common.{◌≡◌, ℕ, ◌==◌, Bool, true, false, Option, Some, None, List, [], ◌∷◌, ◌++◌, map, append-nil}
+use Rattle.std.proofs.Common.{append_assoc, refl, ap, sym, ◌∙◌}
 use Rattle.std.specs.List.{AllByRecursion}
-use Rattle.law_bearer.specs.AnyBearer.Calls.{Call as BearerCall, Submit as Submits, Take as Takes, Arrive as Arrives, Expire as Expires, SetDiscard as SetsDiscard, Step as BearerStep, Calls as CallsIt, Restart}
+use Rattle.law_bearer.specs.AnyBearer.Calls.{Call as BearerCall, Submit as Submits, Take as Takes, Arrive as Arrives}
+use Rattle.law_bearer.specs.AnyBearer.Calls.{Expire as Expires, SetDiscard as SetsDiscard, Step as BearerStep}
+use Rattle.law_bearer.specs.AnyBearer.Calls.{Calls as CallsIt, Restart}
 use Rattle.law_bearer.specs.AnyBearer.Queue.{submits, all_submitted}
 use Rattle.eps_sec.specs.declared.Keys.{Keys}
 use Rattle.harq.specs.declared.sender.Visit.{Visit}
@@ -12,11 +15,13 @@ use Rattle.l2_node.specs.End.{End}
 use Rattle.bearer_types.specs.Sides.{heard_by}
 use Rattle.l2_node.specs.Submitting.{refusal}
 use Rattle.law_node.specs.Bearers.{keys_in}
-use Rattle.law_node.specs.Calls.{Turn, Call, SetVisits, SetReports, Add, Submit, SetDiscard, Tick, TickBuckets, Visits, Grants, Granted, Assigned, Pass, Receive, Expire, Move, after}
+use Rattle.law_node.specs.Calls.{Turn, Call, SetVisits, SetReports, Add, Submit, SetDiscard, Tick, TickBuckets, Visits}
+use Rattle.law_node.specs.Calls.{Grants, Granted, Assigned, Pass, Receive, Expire, Move, after}
 use Rattle.prioritise.specs.Channels.{has as has_channel}
 use Rattle.law_deliver.specs.AmFlow.Channels.{only, share_of, held_of, takes_of, submits_of, calls_of}
 use Rattle.promises.specs.Pdus.{carried}
-use Rattle.law_deliver.specs.AmChannel.Delivery.{accepted, submitted_in, was_submitted, steps_in, steps_over, sets_discard, SetNone}
+use Rattle.law_deliver.specs.AmChannel.Delivery.{accepted, submitted_in, was_submitted, steps_in, steps_over}
+use Rattle.law_deliver.specs.AmChannel.Delivery.{sets_discard, SetNone}
 use Rattle.law_deliver.proofs.AmChannel.Acting.{as_steps}
 use Rattle.law_deliver.proofs.AmChannel.Ends.{all_more}
 use Rattle.law_deliver.proofs.AmChannel.Unset.{IsUnset, IsUnsetStep}
@@ -25,7 +30,8 @@ use Rattle.law_deliver.proofs.AmChannel.Unset.{IsUnset, IsUnsetStep}
 
 submitted_more : (xs ys : List BearerStep) → all_submitted (xs ++ ys) ≡ all_submitted xs ++ all_submitted ys
 submitted_more [] ys = refl
-submitted_more (CallsIt c ∷ xs) ys = ap (λ (sdus : List (List ℕ)). submits c ++ sdus) (submitted_more xs ys) ∙ sym (append_assoc (submits c) (all_submitted xs) (all_submitted ys))
+submitted_more (CallsIt c ∷ xs) ys = ap (λ (sdus : List (List ℕ)). submits c ++ sdus) (submitted_more xs ys)
+    ∙ sym (append_assoc (submits c) (all_submitted xs) (all_submitted ys))
 submitted_more (Restart keys ∷ xs) ys = submitted_more xs ys
 
 lives_none : (ks : List Keys) → all_submitted (map (λ keys. Restart keys) ks) ≡ []
@@ -45,7 +51,8 @@ takes_none New t e l = only_none (has_channel l e.buckets.channels) (Takes (shar
 takes_none (Resend rv) t e l = refl
 takes_none Silent t e l = refl
 
-submits_one : (r : Option SubmitRefusal) (here : Bool) (octets : List ℕ) → all_submitted (as_steps (submits_of r here octets)) ≡ accepted r here octets
+submits_one : (r : Option SubmitRefusal) (here : Bool) (octets : List ℕ)
+    → all_submitted (as_steps (submits_of r here octets)) ≡ accepted r here octets
 submits_one None true octets = refl
 submits_one None false octets = refl
 submits_one (Some why) here octets = refl
@@ -103,7 +110,8 @@ takes_unset New t e l = only_unset (has_channel l e.buckets.channels) (Takes (sh
 takes_unset (Resend rv) t e l = tt
 takes_unset Silent t e l = tt
 
-submits_unset : (r : Option SubmitRefusal) (here : Bool) (octets : List ℕ) → AreUnset (as_steps (submits_of r here octets))
+submits_unset : (r : Option SubmitRefusal) (here : Bool) (octets : List ℕ)
+    → AreUnset (as_steps (submits_of r here octets))
 submits_unset None here octets = only_unset here (Submits octets) tt
 submits_unset (Some why) here octets = tt
 
@@ -132,5 +140,6 @@ pub steps_unset : (l : ℕ) (cs : List Call) (e : End) → SetNone l cs → AllB
 steps_unset l [] e q = tt
 steps_unset l (c ∷ cs) e q =
     all_more IsUnsetStep (steps_in l e c) (steps_over l cs (after e c))
-    (all_more IsUnsetStep (as_steps (calls_of l e c)) (map (λ keys. Restart keys) (keys_in c)) (calls_unset l e c q.0) (lives_unset (keys_in c)))
+    (all_more IsUnsetStep (as_steps (calls_of l e c)) (map (λ keys. Restart keys) (keys_in c)) (calls_unset l e c q.0)
+    (lives_unset (keys_in c)))
     (steps_unset l cs (after e c) q.1)

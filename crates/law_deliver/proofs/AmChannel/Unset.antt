@@ -1,5 +1,6 @@
 -- Where no discard timer is set none is discarded.
-use Rattle.std.proofs.Common.{◌≡◌, ◌-◌, ℕ, nat_lt, Bool, true, false, List, [], ◌∷◌, ◌++◌, map, length, take, Option, Some, None, Result, Ok, Err, refl, ap, sym, ◌∙◌}
+use Rattle.std.proofs.Common.{◌≡◌, ◌-◌, ℕ, nat_lt, Bool, true, false, List, [], ◌∷◌, ◌++◌, map, length, take, Option}
+use Rattle.std.proofs.Common.{Some, None, Result, Ok, Err, refl, ap, sym, ◌∙◌}
 use Rattle.std.specs.List.{AllByRecursion}
 use Rattle.bearer.specs.declared.flow.Flow.{Flow}
 use Rattle.bearer.specs.declared.flow.Flow.TheVariants.{Am}
@@ -8,7 +9,8 @@ use Rattle.bearer.specs.Acknowledged.Hearing.{confirms}
 use Rattle.bearer.specs.Acknowledged.Taking.{writes_status, data_size}
 use Rattle.bearer.specs.Acknowledged.Timing.{has_ended}
 use Rattle.law_bearer.specs.AnyBearer.Acknowledged.{offers_in, has_more_behind}
-use Rattle.law_bearer.specs.AnyBearer.Calls.{Call, Submit, Take, Arrive, Expire, Tick, SetDiscard, Step, Calls, Restart, after}
+use Rattle.law_bearer.specs.AnyBearer.Calls.{Call, Submit, Take, Arrive, Expire, Tick, SetDiscard, Step, Calls, Restart}
+use Rattle.law_bearer.specs.AnyBearer.Calls.{after}
 use Rattle.bearer_pdcp.specs.Discarding.{tick_told}
 use Rattle.bearer_pdcp.specs.Ends.{Ends}
 use Rattle.bearer_pdcp.specs.Hearing.{applies}
@@ -20,8 +22,10 @@ use Rattle.pdcp_rx.specs.declared.got.Cause.TheVariants.{Arrived}
 use Rattle.pdcp_rx.specs.Heard.{Heard, Bad, Told, Data, heard}
 use Rattle.pdcp_tx_store.specs.declared.given.Sent.{Sent}
 use Rattle.pdcp_tx_store.specs.Waiting.{Waits}
-use Rattle.pdcp_tx.specs.Runs.{Call as PdcpCall, Submit as Submits, Take as Takes, Confirm, Report, Owe, Tick as Ticks, Late, after as asked}
-use Rattle.pdcp_tx.specs.State.{State as Sending, submitted, took, took_new, took_again, took_owed, confirmed, reported, reported_from, fms_count, after_late, restarted}
+use Rattle.pdcp_tx.specs.Runs.{Call as PdcpCall, Submit as Submits, Take as Takes, Confirm, Report, Owe, Tick as Ticks}
+use Rattle.pdcp_tx.specs.Runs.{Late, after as asked}
+use Rattle.pdcp_tx.specs.State.{State as Sending, submitted, took, took_new, took_again, took_owed, confirmed, reported}
+use Rattle.pdcp_tx.specs.State.{reported_from, fms_count, after_late, restarted}
 use Rattle.rlc_am_tx.specs.declared.answers.Heard.{Heard as HeardStatus}
 use Rattle.rlc_am_tx.specs.declared.answers.Heard.TheVariants as heard_as
 use Rattle.rlc_am_tx.specs.Machine.{heard as heard_status, after_status}
@@ -31,8 +35,10 @@ use Rattle.rlc_pdu.specs.Pdus.{AcknowledgedPdu, Payload, Status as Control}
 use Rattle.rlc_pdu.specs.Reading.{am_at}
 use Rattle.law_rlc.specs.AmSender.Run.{Take as Taking}
 use Rattle.law_rlc.specs.AmReceiver.Run.{Write}
-use Rattle.law_bearer.specs.AmBearer.Calls.{deeds_of, only_if, settles, hands_up, settles_by, confirms_all, arrives, expires, ticks, discards}
-use Rattle.law_bearer.specs.AmBearer.Deeds.{Deed, Feeds, Sends, Confirms, Receives, HandsUp, Asks, Sets, does, does_all, told_by, confirms_first, hands_first, hears_one}
+use Rattle.law_bearer.specs.AmBearer.Calls.{deeds_of, only_if, settles, hands_up, settles_by, confirms_all, arrives}
+use Rattle.law_bearer.specs.AmBearer.Calls.{expires, ticks, discards}
+use Rattle.law_bearer.specs.AmBearer.Deeds.{Deed, Feeds, Sends, Confirms, Receives, HandsUp, Asks, Sets, does, does_all}
+use Rattle.law_bearer.specs.AmBearer.Deeds.{told_by, confirms_first, hands_first, hears_one}
 use Rattle.law_bearer.specs.AmBearer.Lives.{restarts}
 use Rattle.law_bearer.proofs.AmBearer.Calls.{calls_are_deeds}
 use Rattle.law_deliver.specs.AmFlow.Pair.{called}
@@ -42,7 +48,8 @@ use Rattle.std.proofs.lemmas.Grind.{flat_map-append}
 use Rattle.bearer.specs.Hearing.{ticking}
 use Rattle.bearer.specs.Acknowledged.State.{has_more, Work, work}
 use Rattle.bearer.specs.Acknowledged.Hearing.{settled_if, started_told}
-use Rattle.bearer.specs.Acknowledged.Timing.{Ticking, told_of, poll_told, timer_told, expiry, expires_if, counts, ticks as ticked_by, ticked as am_ticked}
+use Rattle.bearer.specs.Acknowledged.Timing.{Ticking, told_of, poll_told, timer_told, expiry, expires_if, counts}
+use Rattle.bearer.specs.Acknowledged.Timing.{ticks as ticked_by, ticked as am_ticked}
 use Rattle.bearer_pdcp.specs.Discarding.{after_tick as after_discards, late_told}
 use Rattle.bearer_pdcp.specs.Telling.{expired_told}
 use Rattle.pdcp_tx.specs.State.{ticked as pdcp_ticked}
@@ -121,13 +128,15 @@ does_keep b HandsUp q = hands_keep b.rx.out.ready b
 does_keep b (Asks c) q = asked_keeps b.pdcp.tx c
 does_keep b (Sets ttis) q = absurd q
 
-all_keep : (deeds : List Deed) (b : State) → AllByRecursion SetsNone deeds → KeepsLength b.pdcp.tx (does_all deeds b).pdcp.tx
+all_keep : (deeds : List Deed) (b : State) → AllByRecursion SetsNone deeds
+    → KeepsLength b.pdcp.tx (does_all deeds b).pdcp.tx
 all_keep [] b q = refl
 all_keep (deed ∷ deeds) b q = all_keep deeds (does b deed) q.1 ∙ does_keep b deed q.0
 
 -- ---- which deeds a call is
 
-then : (xs ys : List Deed) → AllByRecursion SetsNone xs → AllByRecursion SetsNone ys → AllByRecursion SetsNone (xs ++ ys)
+then : (xs ys : List Deed) → AllByRecursion SetsNone xs → AllByRecursion SetsNone ys
+    → AllByRecursion SetsNone (xs ++ ys)
 then [] ys h k = k
 then (x ∷ xs) ys h k = (h.0, then xs ys h.1 k)
 
@@ -142,8 +151,11 @@ if_so false deed q = tt
 hands_none : (sdus : List (List ℕ)) (e : Ends) → AllByRecursion SetsNone (hands_up sdus e)
 hands_none [] e = tt
 hands_none (sdu ∷ sdus) e =
-    let d = hears_one sdu e in
-    (tt, then (only_if (applies sdu Arrived e) (settles d)) (hands_up sdus d) (if_so (applies sdu Arrived e) (settles d) tt) (hands_none sdus d))
+    let d = hears_one sdu e in (
+      tt,
+      then (only_if (applies sdu Arrived e) (settles d)) (hands_up sdus d)
+          (if_so (applies sdu Arrived e) (settles d) tt) (hands_none sdus d),
+    )
 
 settles_none : (h : HeardStatus) (e : Ends) → AllByRecursion SetsNone (settles_by h e)
 settles_none heard_as.Ignored e = tt
@@ -155,8 +167,11 @@ arrives_none (Err refused) b = tt
 arrives_none (Ok (Payload pdu)) b = (tt, hands_none (landed_in b.rx pdu).out.ready b.pdcp)
 arrives_none (Ok (Control pdu)) b =
     let places = (after_status b.tx pdu).accounts.news in
-    let d = confirms places b.pdcp in
-    (tt, then (confirms_all places) (settles_by (heard_status b.tx pdu) d) (each Confirms places tt) (settles_none (heard_status b.tx pdu) d))
+    let d = confirms places b.pdcp in (
+      tt,
+      then (confirms_all places) (settles_by (heard_status b.tx pdu) d) (each Confirms places tt)
+          (settles_none (heard_status b.tx pdu) d),
+    )
 
 expires_none : (clock : Clock) (b : State) → SetsNone (expires clock b)
 expires_none Poll b = tt
@@ -169,8 +184,11 @@ ticks_none Reorder b = (tt, if_so (has_ended Reorder b) (expires Reorder b) tt)
 ticks_none Prohibit b = (tt, if_so (has_ended Prohibit b) (expires Prohibit b) tt)
 
 discards_none : (told : List Event) (e : Ends) → AllByRecursion SetsNone (discards told e)
-discards_none told e =
-    (tt, then (map (λ event. Asks Late) told) (only_if (nat_lt 0 (length told)) (settles (after_discards e))) (each (Asks Late) told tt) (if_so (nat_lt 0 (length told)) (settles (after_discards e)) tt))
+discards_none told e = (
+  tt,
+  then (map (λ event. Asks Late) told) (only_if (nat_lt 0 (length told)) (settles (after_discards e)))
+      (each (Asks Late) told tt) (if_so (nat_lt 0 (length told)) (settles (after_discards e)) tt),
+)
 
 -- ---- any call
 
@@ -188,21 +206,27 @@ call_sets b (Take share held) h =
     let status = only_if (writes_status b.rx share) (Receives Write) in
     let feeds = map (λ (pdu : List ℕ). Feeds) (offers_in b share held) in
     then (status ++ feeds) (Sends (Taking (data_size b share) held (has_more_behind b share held)) ∷ [])
-    (then status feeds (if_so (writes_status b.rx share) (Receives Write) tt) (each Feeds (offers_in b share held) tt)) (tt, tt)
+    (then status feeds (if_so (writes_status b.rx share) (Receives Write) tt)
+    (each Feeds (offers_in b share held) tt)) (tt, tt)
 call_sets b (Arrive pdu) h = arrives_none (am_at pdu) b
 call_sets b (Expire clock) h = (expires_none clock b, tt)
 call_sets b Tick h =
     let last = discards (tick_told b.pdcp) b.pdcp in
     then (ticks Poll b ++ ticks Reorder b ++ ticks Prohibit b) last
-    (then (ticks Poll b ++ ticks Reorder b) (ticks Prohibit b) (then (ticks Poll b) (ticks Reorder b) (ticks_none Poll b) (ticks_none Reorder b)) (ticks_none Prohibit b))
+    (then (ticks Poll b ++ ticks Reorder b) (ticks Prohibit b)
+    (then (ticks Poll b) (ticks Reorder b) (ticks_none Poll b) (ticks_none Reorder b)) (ticks_none Prohibit b))
     (discards_none (tick_told b.pdcp) b.pdcp)
 call_sets b (SetDiscard ttis) h = absurd h
 
 left_is : (bits l : ℕ) (b : State) (c : Call) → IsSteady bits l b → does_all (deeds_of b c) b ≡ called b c
-left_is bits l b c h = same_bearer (does_all (deeds_of b c) b) (called b c) (sym (calls_are_deeds bits b c h.data' h.idle).left ∙ is_called b c)
+left_is bits l b c h =
+    same_bearer (does_all (deeds_of b c) b) (called b c) (sym (calls_are_deeds bits b c h.data' h.idle).left
+    ∙ is_called b c)
 
-called_unset : (bits l : ℕ) (b : State) (c : Call) → IsSteady bits l b → IsUnset c → b.pdcp.tx.discard ≡ None → (called b c).pdcp.tx.discard ≡ None
-called_unset bits l b c h u q = ap (λ (d : State). d.pdcp.tx.discard) (sym (left_is bits l b c h)) ∙ all_keep (deeds_of b c) b (call_sets b c u) ∙ q
+called_unset : (bits l : ℕ) (b : State) (c : Call) → IsSteady bits l b → IsUnset c → b.pdcp.tx.discard ≡ None
+    → (called b c).pdcp.tx.discard ≡ None
+called_unset bits l b c h u q = ap (λ (d : State). d.pdcp.tx.discard) (sym (left_is bits l b c h))
+    ∙ all_keep (deeds_of b c) b (call_sets b c u) ∙ q
 
 -- ---- nothing is discarded as a TTI begins
 
@@ -232,7 +256,8 @@ expiry_tells l Poll b = poll_tells l b.pdcp.lcid (poll_expiry b.tx (has_more b.p
 expiry_tells l Reorder b = timer_tells l b.pdcp.lcid Reorder (reorder_answer b.rx.mark b.rx)
 expiry_tells l Prohibit b = timer_tells l b.pdcp.lcid Prohibit (prohibit_answer b.rx)
 
-ended_tells : (ended : Bool) (l : ℕ) (clock : Clock) (t : Ticking) → discards_on l t.events ≡ [] → discards_on l (expires_if ended clock t).events ≡ []
+ended_tells : (ended : Bool) (l : ℕ) (clock : Clock) (t : Ticking) → discards_on l t.events ≡ []
+    → discards_on l (expires_if ended clock t).events ≡ []
 ended_tells true l clock t q = both_none l t.events (told_of (expiry t.bearer clock)) q (expiry_tells l clock t.bearer)
 ended_tells false l clock t q = q
 
@@ -240,8 +265,11 @@ late_tells : (l lcid : ℕ) (ws : List Waits) (s : Sending) → s.discard ≡ No
 late_tells l lcid [] s q = refl
 late_tells l lcid (w ∷ ws) s q = rw q refl
 
-settled_tells : (settles' : Bool) (l : ℕ) (w : Work) → discards_on l w.events ≡ [] → discards_on l (settled_if settles' w).events ≡ []
-settled_tells true l w q = both_none l w.events (started_told w.pdcp.lcid (sender_settles w.tx (has_more w.pdcp))) q (start_tells (sender_settles w.tx (has_more w.pdcp)) l w.pdcp.lcid)
+settled_tells : (settles' : Bool) (l : ℕ) (w : Work) → discards_on l w.events ≡ []
+    → discards_on l (settled_if settles' w).events ≡ []
+settled_tells true l w q =
+    both_none l w.events (started_told w.pdcp.lcid (sender_settles w.tx (has_more w.pdcp))) q
+    (start_tells (sender_settles w.tx (has_more w.pdcp)) l w.pdcp.lcid)
 settled_tells false l w q = q
 
 tti_tells : (l : ℕ) (b : State) → b.pdcp.tx.discard ≡ None → discards_on l (ticking (Am b)) ≡ []
@@ -251,13 +279,19 @@ tti_tells l b q =
     let t2 = ticked_by Reorder t1 in
     let t3 = ticked_by Prohibit t2 in
     let d = t3.bearer.pdcp in
-    let same : d ≡ b.pdcp = ticks_pdcp Prohibit t2 ∙ ticks_pdcp Reorder t1 ∙ ticks_pdcp Poll (record { bearer = b; events = [] }) in
-    let first : discards_on l t1.events ≡ [] = ended_tells (has_ended Poll b) l Poll (record { bearer = counts Poll b; events = [] }) refl in
-    let second : discards_on l t2.events ≡ [] = ended_tells (has_ended Reorder t1.bearer) l Reorder (record t1 { bearer = counts Reorder t1.bearer }) first in
-    let third : discards_on l t3.events ≡ [] = ended_tells (has_ended Prohibit t2.bearer) l Prohibit (record t2 { bearer = counts Prohibit t2.bearer }) second in
+    let same : d ≡ b.pdcp = ticks_pdcp Prohibit t2 ∙ ticks_pdcp Reorder t1
+    ∙ ticks_pdcp Poll (record { bearer = b; events = [] }) in
+    let first : discards_on l t1.events ≡ [] =
+    ended_tells (has_ended Poll b) l Poll (record { bearer = counts Poll b; events = [] }) refl in
+    let second : discards_on l t2.events ≡ [] =
+    ended_tells (has_ended Reorder t1.bearer) l Reorder (record t1 { bearer = counts Reorder t1.bearer }) first in
+    let third : discards_on l t3.events ≡ [] =
+    ended_tells (has_ended Prohibit t2.bearer) l Prohibit (record t2 { bearer = counts Prohibit t2.bearer })
+    second in
     let off : d.tx.discard ≡ None = ap (λ (e : Ends). e.tx.discard) same ∙ q in
     let told = late_told d.lcid d.tx.waiting (pdcp_ticked d.tx) in
-    settled_tells (nat_lt 0 (length told)) l (work (after_discards d) t3.bearer.tx (t3.events ++ told)) (both_none l t3.events told third (late_tells l d.lcid d.tx.waiting (pdcp_ticked d.tx) off))
+    settled_tells (nat_lt 0 (length told)) l (work (after_discards d) t3.bearer.tx (t3.events ++ told))
+    (both_none l t3.events told third (late_tells l d.lcid d.tx.waiting (pdcp_ticked d.tx) off))
 
 discards_in_none : (l : ℕ) (b : State) (c : Call) → b.pdcp.tx.discard ≡ None → discarded_in l (Am b) c ≡ []
 discards_in_none l b (Submit sdu) q = refl
@@ -277,7 +311,8 @@ restarts_unset : (b : State) (keys : Keys) → b.pdcp.tx.discard ≡ None → (r
 unfolding restarted
 restarts_unset b keys q = q
 
-pub none_discarded : (bits l : ℕ) (xs : List Step) (b : State) → IsSteady bits l b → b.pdcp.tx.discard ≡ None → AllByRecursion IsUnsetStep xs → all_discards l (Am b) xs ≡ []
+pub none_discarded : (bits l : ℕ) (xs : List Step) (b : State) → IsSteady bits l b → b.pdcp.tx.discard ≡ None
+    → AllByRecursion IsUnsetStep xs → all_discards l (Am b) xs ≡ []
 none_discarded bits l [] b h q u = refl
 none_discarded bits l (Calls c ∷ xs) b h q u =
     ap (λ (found : List ℕ). found ++ all_discards l (after (Am b) c) xs) (discards_in_none l b c q)
@@ -285,4 +320,5 @@ none_discarded bits l (Calls c ∷ xs) b h q u =
     ∙ none_discarded bits l xs (called b c) (called_steady bits l b c h) (called_unset bits l b c h u.0 q) u.1
 none_discarded bits l (Restart keys ∷ xs) b h q u =
     let r = restarts_steady bits l b keys h in
-    ap (λ (f : Flow). all_discards l f xs) r.left ∙ none_discarded bits l xs (restarts b keys) r.steady (restarts_unset b keys q) u.1
+    ap (λ (f : Flow). all_discards l f xs) r.left
+    ∙ none_discarded bits l xs (restarts b keys) r.steady (restarts_unset b keys q) u.1

@@ -1,5 +1,6 @@
 -- What leaves a bearer's queue: what it takes for the first time, and what it discards.
-use Rattle.std.proofs.Common.{◌≡◌, ◌-◌, ◌==◌, ℕ, nat_lt, if◌then◌else◌, Bool, true, false, inl, List, [], ◌∷◌, ◌++◌, map, length, take, append-nil, append_assoc, refl, ap, sym, subst, ◌∙◌, arith}
+use Rattle.std.proofs.Common.{◌≡◌, ◌-◌, ◌==◌, ℕ, nat_lt, if◌then◌else◌, Bool, true, false, inl, List, [], ◌∷◌, ◌++◌}
+use Rattle.std.proofs.Common.{map, length, take, append-nil, append_assoc, refl, ap, sym, subst, ◌∙◌, arith}
 use Rattle.std.proofs.lemmas.Bool.Decides.{nat_tests}
 use Rattle.std.proofs.lemmas.Grind.{flat_map-append}
 use Rattle.bearer.specs.declared.flow.Flow.{Flow}
@@ -7,8 +8,10 @@ use Rattle.bearer.specs.declared.flow.Flow.TheVariants.{Am}
 use Rattle.bearer.specs.Hearing.{ticked, ticking}
 use Rattle.bearer.specs.Acknowledged.Hearing.{settled_if, started_told}
 use Rattle.bearer.specs.Acknowledged.State.{State, has_more, Work, work}
-use Rattle.bearer.specs.Acknowledged.Timing.{Ticking, after_expiry, expires_if, counts, has_ended, ticks as ticked_by, ticked as am_ticked}
-use Rattle.law_bearer.specs.AnyBearer.Calls.{Call, Submit, Take, Arrive, Expire, Tick, SetDiscard, Step, Calls, Restart, after, goes, ends}
+use Rattle.bearer.specs.Acknowledged.Timing.{Ticking, after_expiry, expires_if, counts, has_ended, ticks as ticked_by}
+use Rattle.bearer.specs.Acknowledged.Timing.{ticked as am_ticked}
+use Rattle.law_bearer.specs.AnyBearer.Calls.{Call, Submit, Take, Arrive, Expire, Tick, SetDiscard, Step, Calls, Restart}
+use Rattle.law_bearer.specs.AnyBearer.Calls.{after, goes, ends}
 use Rattle.law_bearer.specs.AnyBearer.Queue.{queue, off, news, drops, all_news, all_left}
 use Rattle.bearer_pdcp.specs.Discarding.{without_late, late_told, after_tick as after_discards, tick_told}
 use Rattle.bearer_pdcp.specs.Ends.{Ends}
@@ -43,7 +46,8 @@ news_leave [] f = tt
 news_leave (Calls c ∷ xs) f =
     let more = all_left (after f c) xs in
     subst (IsSubsequence (news f c ++ all_news (after f c) xs)) (sym (append_assoc (news f c) (drops f c) more))
-    (behind (news f c) (all_news (after f c) xs) (drops f c ++ more) (skips (drops f c) (all_news (after f c) xs) more (news_leave xs (after f c))))
+    (behind (news f c) (all_news (after f c) xs) (drops f c ++ more)
+    (skips (drops f c) (all_news (after f c) xs) more (news_leave xs (after f c))))
 news_leave (Restart keys ∷ xs) f = news_leave xs (goes f (Restart keys))
 
 -- ---- where no discard is told nothing is dropped
@@ -72,9 +76,11 @@ ended_pdcp true clock t = clock_pdcp clock t.bearer
 ended_pdcp false clock t = refl
 
 pub ticks_pdcp : (clock : Clock) (t : Ticking) → (ticked_by clock t).bearer.pdcp ≡ t.bearer.pdcp
-ticks_pdcp clock t = ended_pdcp (has_ended clock t.bearer) clock (record t { bearer = counts clock t.bearer }) ∙ counts_pdcp clock t.bearer
+ticks_pdcp clock t = ended_pdcp (has_ended clock t.bearer) clock (record t { bearer = counts clock t.bearer })
+    ∙ counts_pdcp clock t.bearer
 
-late_by : (late : Bool) (l lcid : ℕ) (w : Waits) (ws : List Waits) (s : Sending) → is_overdue s ≡ late → lcid ≡ l → discards_on l (late_told lcid (w ∷ ws) s) ≡ [] → (without_late (w ∷ ws) s).waiting ≡ s.waiting
+late_by : (late : Bool) (l lcid : ℕ) (w : Waits) (ws : List Waits) (s : Sending) → is_overdue s ≡ late → lcid ≡ l
+    → discards_on l (late_told lcid (w ∷ ws) s) ≡ [] → (without_late (w ∷ ws) s).waiting ≡ s.waiting
 late_by true l lcid w ws s e same q =
     let here : (lcid == l) ≡ true = grind (arith, nat_tests) in
     let more = late_told lcid ws (after_late s) in
@@ -85,11 +91,13 @@ late_by true l lcid w ws s e same q =
     absurd cc
 late_by false l lcid w ws s e same q = rw e refl
 
-late_off : (l lcid : ℕ) (ws : List Waits) (s : Sending) → lcid ≡ l → discards_on l (late_told lcid ws s) ≡ [] → (without_late ws s).waiting ≡ s.waiting
+late_off : (l lcid : ℕ) (ws : List Waits) (s : Sending) → lcid ≡ l → discards_on l (late_told lcid ws s) ≡ []
+    → (without_late ws s).waiting ≡ s.waiting
 late_off l lcid [] s same q = refl
 late_off l lcid (w ∷ ws) s same q = late_by (is_overdue s) l lcid w ws s refl same q
 
-settled_off : (settles' : Bool) (l : ℕ) (w : Work) → discards_on l (settled_if settles' w).events ≡ [] → discards_on l w.events ≡ []
+settled_off : (settles' : Bool) (l : ℕ) (w : Work) → discards_on l (settled_if settles' w).events ≡ []
+    → discards_on l w.events ≡ []
 settled_off true l w q =
     let told = started_told w.pdcp.lcid (settles w.tx (has_more w.pdcp)) in
     none_before (discards_on l w.events) (discards_on l told) (sym (flat_map-append (discards_in l) w.events told) ∙ q)
@@ -99,7 +107,8 @@ settled_pdcp : (settles' : Bool) (w : Work) → (settled_if settles' w).pdcp ≡
 settled_pdcp true w = refl
 settled_pdcp false w = refl
 
-tti_waits : (l : ℕ) (b : State) → b.pdcp.lcid ≡ l → discards_on l (ticking (Am b)) ≡ [] → (am_ticked b).bearer.pdcp.tx.waiting ≡ b.pdcp.tx.waiting
+tti_waits : (l : ℕ) (b : State) → b.pdcp.lcid ≡ l → discards_on l (ticking (Am b)) ≡ []
+    → (am_ticked b).bearer.pdcp.tx.waiting ≡ b.pdcp.tx.waiting
 unfolding ticking am_ticked after_discards tick_told
 tti_waits l b own q =
     let t0 : Ticking = record { bearer = b; events = [] } in
@@ -111,7 +120,9 @@ tti_waits l b own q =
     let told = late_told d.lcid d.tx.waiting (pdcp_ticked d.tx) in
     let settles' = nat_lt 0 (length told) in
     let w : Work = work (after_discards d) t3.bearer.tx (t3.events ++ told) in
-    let none : discards_on l told ≡ [] = none_behind (discards_on l t3.events) (discards_on l told) (sym (flat_map-append (discards_in l) t3.events told) ∙ settled_off settles' l w q) in
+    let none : discards_on l told ≡ [] =
+    none_behind (discards_on l t3.events) (discards_on l told)
+    (sym (flat_map-append (discards_in l) t3.events told) ∙ settled_off settles' l w q) in
     ap (λ (e : Ends). e.tx.waiting) (settled_pdcp settles' w)
     ∙ late_off l d.lcid d.tx.waiting (pdcp_ticked d.tx) (ap (λ (e : Ends). e.lcid) same ∙ own) none
     ∙ ap (λ (e : Ends). e.tx.waiting) same
@@ -127,20 +138,30 @@ drops_none l b (Submit sdu) own q = refl
 drops_none l b (Take share held) own q = refl
 drops_none l b (Arrive pdu) own q = refl
 drops_none l b (Expire clock) own q = refl
-drops_none l b Tick own q = none_off (queue (ends (Am b))) (queue (ends (after (Am b) Tick))) (ap (λ (ws : List Waits). map (λ w. w.sdu) ws) (tti_waits l b own q))
+drops_none l b Tick own q =
+    none_off (queue (ends (Am b))) (queue (ends (after (Am b) Tick)))
+    (ap (λ (ws : List Waits). map (λ w. w.sdu) ws) (tti_waits l b own q))
 drops_none l b (SetDiscard ttis) own q = refl
 
-pub all_taken : (bits l : ℕ) (xs : List Step) (b : State) → IsSteady bits l b → all_discards l (Am b) xs ≡ [] → all_left (Am b) xs ≡ all_news (Am b) xs
+pub all_taken : (bits l : ℕ) (xs : List Step) (b : State) → IsSteady bits l b → all_discards l (Am b) xs ≡ []
+    → all_left (Am b) xs ≡ all_news (Am b) xs
 all_taken bits l [] b h q = refl
 all_taken bits l (Calls c ∷ xs) b h q =
     let is = is_called b c in
-    let first : discarded_in l (Am b) c ≡ [] = none_before (discarded_in l (Am b) c) (all_discards l (after (Am b) c) xs) q in
-    let more : all_discards l (Am (called b c)) xs ≡ [] = ap (λ (f : Flow). all_discards l f xs) (sym is) ∙ none_behind (discarded_in l (Am b) c) (all_discards l (after (Am b) c) xs) q in
-    let rest : all_left (Am (called b c)) xs ≡ all_news (Am (called b c)) xs = all_taken bits l xs (called b c) (called_steady bits l b c h) more in
-    ap (λ (ds : List (List ℕ)). (news (Am b) c ++ ds) ++ all_left (after (Am b) c) xs) (drops_none l b c h.between.own first)
+    let first : discarded_in l (Am b) c ≡ [] =
+    none_before (discarded_in l (Am b) c) (all_discards l (after (Am b) c) xs) q in
+    let more : all_discards l (Am (called b c)) xs ≡ [] =
+    ap (λ (f : Flow). all_discards l f xs) (sym is)
+    ∙ none_behind (discarded_in l (Am b) c) (all_discards l (after (Am b) c) xs) q in
+    let rest : all_left (Am (called b c)) xs ≡ all_news (Am (called b c)) xs =
+    all_taken bits l xs (called b c) (called_steady bits l b c h) more in
+    ap (λ (ds : List (List ℕ)). (news (Am b) c ++ ds) ++ all_left (after (Am b) c) xs)
+    (drops_none l b c h.between.own first)
     ∙ ap (λ (ns : List (List ℕ)). ns ++ all_left (after (Am b) c) xs) (append-nil (news (Am b) c))
-    ∙ ap (λ (later : List (List ℕ)). news (Am b) c ++ later) (ap (λ (f : Flow). all_left f xs) is ∙ rest ∙ sym (ap (λ (f : Flow). all_news f xs) is))
+    ∙ ap (λ (later : List (List ℕ)). news (Am b) c ++ later) (ap (λ (f : Flow). all_left f xs) is ∙ rest
+    ∙ sym (ap (λ (f : Flow). all_news f xs) is))
 all_taken bits l (Restart keys ∷ xs) b h q =
     let r = restarts_steady bits l b keys h in
-    let rest : all_left (Am (restarts b keys)) xs ≡ all_news (Am (restarts b keys)) xs = all_taken bits l xs (restarts b keys) r.steady (ap (λ (f : Flow). all_discards l f xs) (sym r.left) ∙ q) in
+    let rest : all_left (Am (restarts b keys)) xs ≡ all_news (Am (restarts b keys)) xs =
+    all_taken bits l xs (restarts b keys) r.steady (ap (λ (f : Flow). all_discards l f xs) (sym r.left) ∙ q) in
     ap (λ (f : Flow). all_left f xs) r.left ∙ rest ∙ sym (ap (λ (f : Flow). all_news f xs) r.left)

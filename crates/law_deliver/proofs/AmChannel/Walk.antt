@@ -1,6 +1,7 @@
 -- Steps of two ends through lives are steps of a pair through lives.
 use Rattle.std.specs.List.{AllByRecursion}
-use Rattle.std.proofs.Common.{◌≡◌, inl, inr, ℕ, true, false, List, [], ◌∷◌, ◌++◌, append-nil, append_assoc, refl, ap, sym, subst, ◌∙◌}
+use Rattle.std.proofs.Common.{◌≡◌, inl, inr, ℕ, true, false, List, [], ◌∷◌, ◌++◌, append-nil, append_assoc, refl, ap}
+use Rattle.std.proofs.Common.{sym, subst, ◌∙◌}
 use Rattle.bearer.specs.declared.flow.Flow.{Flow}
 use Rattle.bearer.specs.declared.flow.Flow.TheVariants.{Am}
 use Rattle.bearer.specs.Acknowledged.State.{State}
@@ -23,14 +24,18 @@ use Rattle.law_deliver.proofs.AmFlow.Air.{calls_in as act_calls, acts, passes, y
 use Rattle.law_deliver.proofs.AmFlow.Lives.{moved_flow, moved_bearers, moves_begin}
 use Rattle.law_deliver.proofs.AmFlow.Runs.{does_all, near_steps, far_steps, near_goes, far_goes}
 use Rattle.law_deliver.proofs.AmFlow.Stations.{Matches, Acts}
-use Rattle.law_deliver.specs.AmDelivery.Lives.{LifeStep, InLife as InPairLife, Restarts, lives as pair_lives, lives_on as pair_lives_on, AreLiving as AreLivingPair, over}
-use Rattle.law_deliver.specs.AmChannel.Lives.{AirStep, InLife, Moves, lives_on, IsLiving, AreLiving, end_at, calls_by, calls_at, all_calls}
+use Rattle.law_deliver.specs.AmDelivery.Lives.{LifeStep, InLife as InPairLife, Restarts, lives as pair_lives}
+use Rattle.law_deliver.specs.AmDelivery.Lives.{lives_on as pair_lives_on, AreLiving as AreLivingPair, over}
+use Rattle.law_deliver.specs.AmChannel.Lives.{AirStep, InLife, Moves, lives_on, IsLiving, AreLiving, end_at, calls_by}
+use Rattle.law_deliver.specs.AmChannel.Lives.{calls_at, all_calls}
 use Rattle.law_deliver.specs.AmChannel.Delivery.{steps_over}
-use Rattle.law_deliver.proofs.AmChannel.Acting.{AreAccepted, in_life_all, lives_in, near_living, far_living, as_steps, near_does, far_does, near_rests, far_rests, act_steps, act_accepted}
+use Rattle.law_deliver.proofs.AmChannel.Acting.{AreAccepted, in_life_all, lives_in, near_living, far_living, as_steps}
+use Rattle.law_deliver.proofs.AmChannel.Acting.{near_does, far_does, near_rests, far_rests, act_steps, act_accepted}
 use Rattle.law_deliver.proofs.AmChannel.Bearers.{IsSteady, restarts_steady}
 use Rattle.law_deliver.proofs.AmChannel.Ends.{step_end, steps_more, IsCall, step_so}
 use Rattle.law_deliver.specs.AmChannel.Arrival.{said_over, happens_in, happened}
-use Rattle.law_deliver.proofs.AmChannel.Saying.{says, hears, near_says, far_says, near_hears, far_hears, act_says, act_hears}
+use Rattle.law_deliver.proofs.AmChannel.Saying.{says, hears, near_says, far_says, near_hears, far_hears, act_says}
+use Rattle.law_deliver.proofs.AmChannel.Saying.{act_hears}
 use Rattle.law_deliver.proofs.AmChannel.Pairs.{all_does, lives_go, does_more}
 
 pub record BothMatch (bits l : ℕ) (a : Air) (p : Pair) : Type 0 where
@@ -53,59 +58,85 @@ record Walks (bits l : ℕ) (a : Air) (x : AirStep) (p : Pair) : Type 0 where
   down_is : over down_in steps p ≡ happens_in bits l Nb a x
   up_is : over up_in steps p ≡ happens_in bits l Ue a x
 
-walks_nb : (bits l : ℕ) (a : Air) (x : Act) (p : Pair) → IsDone l a.nb x → Matches Nb l a.nb p.near → Matches Ue l a.ue p.far → Stands Nb l a.nb.end
+walks_nb : (bits l : ℕ) (a : Air) (x : Act) (p : Pair) → IsDone l a.nb x → Matches Nb l a.nb p.near
+    → Matches Ue l a.ue p.far → Stands Nb l a.nb.end
     → IsSteady bits l p.near.bearer
     → Walks bits l a (InLife (AtNb x)) p
 walks_nb bits l a x p g h k stands steady =
-    let r : Acts Nb l (does a.ue a.nb x) p.far p.near (act_calls l a.ue a.nb x) = acts Nb Ue l a.nb a.ue p.near p.far x refl h k g in
-    let same : pair_lives (in_life_all (near_steps r.deeds)) p ≡ record { near = does_all p.far p.near r.deeds; far = p.far } = lives_in (near_steps r.deeds) p ∙ near_goes p r.deeds in
+    let r : Acts Nb l (does a.ue a.nb x) p.far p.near (act_calls l a.ue a.nb x) =
+    acts Nb Ue l a.nb a.ue p.near p.far x refl h k g in
+    let same : pair_lives (in_life_all (near_steps r.deeds)) p
+    ≡ record { near = does_all p.far p.near r.deeds; far = p.far } =
+    lives_in (near_steps r.deeds) p ∙ near_goes p r.deeds in
     record {
       steps = in_life_all (near_steps r.deeds);
-      living = near_living p r.deeds r.done (subst (AreAccepted p.near.bearer) (sym r.calls_are) (act_accepted l a.ue a.nb x p.near.bearer h.bearer_is));
+      living =
+          near_living p r.deeds r.done
+          (subst (AreAccepted p.near.bearer) (sym r.calls_are)
+          (act_accepted l a.ue a.nb x p.near.bearer h.bearer_is));
       nb = subst (λ (q : Pair). Matches Nb l (does a.ue a.nb x) q.near) (sym same) r.matches;
       ue = subst (λ (q : Pair). Matches Ue l a.ue q.far) (sym same) k;
       nb_does = near_does p r.deeds ∙ ap as_steps r.calls_are ∙ sym (act_steps l a.ue a.nb x g);
       ue_does = far_rests p r.deeds;
-      down_is = near_says p r.deeds ∙ (ap (says p.near.bearer) r.calls_are ∙ (act_says bits l Nb a.ue a.nb p.near.bearer x stands h.bearer_is steady g ∙ sym (append-nil (said_over bits l (calls_by a.ue x) a.nb.end))));
+      down_is = near_says p r.deeds
+          ∙ (ap (says p.near.bearer) r.calls_are
+          ∙ (act_says bits l Nb a.ue a.nb p.near.bearer x stands h.bearer_is steady g
+          ∙ sym (append-nil (said_over bits l (calls_by a.ue x) a.nb.end))));
       up_is = near_hears p r.deeds ∙ (ap hears r.calls_are ∙ act_hears l a.ue a.nb x);
     }
 
-walks_ue : (bits l : ℕ) (a : Air) (x : Act) (p : Pair) → IsDone l a.ue x → Matches Nb l a.nb p.near → Matches Ue l a.ue p.far → Stands Ue l a.ue.end
+walks_ue : (bits l : ℕ) (a : Air) (x : Act) (p : Pair) → IsDone l a.ue x → Matches Nb l a.nb p.near
+    → Matches Ue l a.ue p.far → Stands Ue l a.ue.end
     → IsSteady bits l p.far.bearer
     → Walks bits l a (InLife (AtUe x)) p
 walks_ue bits l a x p g h k stands steady =
-    let r : Acts Ue l (does a.nb a.ue x) p.near p.far (act_calls l a.nb a.ue x) = acts Ue Nb l a.ue a.nb p.far p.near x refl k h g in
-    let same : pair_lives (in_life_all (far_steps r.deeds)) p ≡ record { near = p.near; far = does_all p.near p.far r.deeds } = lives_in (far_steps r.deeds) p ∙ far_goes p r.deeds in
+    let r : Acts Ue l (does a.nb a.ue x) p.near p.far (act_calls l a.nb a.ue x) =
+    acts Ue Nb l a.ue a.nb p.far p.near x refl k h g in
+    let same : pair_lives (in_life_all (far_steps r.deeds)) p
+    ≡ record { near = p.near; far = does_all p.near p.far r.deeds } =
+    lives_in (far_steps r.deeds) p ∙ far_goes p r.deeds in
     record {
       steps = in_life_all (far_steps r.deeds);
-      living = far_living p r.deeds r.done (subst (AreAccepted p.far.bearer) (sym r.calls_are) (act_accepted l a.nb a.ue x p.far.bearer k.bearer_is));
+      living =
+          far_living p r.deeds r.done
+          (subst (AreAccepted p.far.bearer) (sym r.calls_are) (act_accepted l a.nb a.ue x p.far.bearer k.bearer_is));
       nb = subst (λ (q : Pair). Matches Nb l a.nb q.near) (sym same) h;
       ue = subst (λ (q : Pair). Matches Ue l (does a.nb a.ue x) q.far) (sym same) r.matches;
       nb_does = near_rests p r.deeds;
       ue_does = far_does p r.deeds ∙ ap as_steps r.calls_are ∙ sym (act_steps l a.nb a.ue x g);
       down_is = far_hears p r.deeds ∙ (ap hears r.calls_are ∙ act_hears l a.nb a.ue x);
-      up_is = far_says p r.deeds ∙ (ap (says p.far.bearer) r.calls_are ∙ (act_says bits l Ue a.nb a.ue p.far.bearer x stands k.bearer_is steady g ∙ sym (append-nil (said_over bits l (calls_by a.nb x) a.ue.end))));
+      up_is = far_says p r.deeds
+          ∙ (ap (says p.far.bearer) r.calls_are
+          ∙ (act_says bits l Ue a.nb a.ue p.far.bearer x stands k.bearer_is steady g
+          ∙ sym (append-nil (said_over bits l (calls_by a.nb x) a.ue.end))));
     }
 
 -- ---- both ends move
 
-begins_again : (side : Side) (l : ℕ) (e : End) (keys : Keys) (b : State) → HasCome side e → has l e.bearers ≡ true → flow l (after e (Move keys)) ≡ Am b → Begins side l (after e (Move keys)) b
+begins_again : (side : Side) (l : ℕ) (e : End) (keys : Keys) (b : State) → HasCome side e → has l e.bearers ≡ true
+    → flow l (after e (Move keys)) ≡ Am b → Begins side l (after e (Move keys)) b
 begins_again side l e keys b h there q =
     let s = sym h.end_is in
-    subst (λ (x : End). has l x.bearers ≡ true → flow l (after x (Move keys)) ≡ Am b → Begins side l (after x (Move keys)) b) s
+    subst (λ (x : End). has l x.bearers ≡ true → flow l (after x (Move keys)) ≡ Am b
+    → Begins side l (after x (Move keys)) b) s
     (λ t i. moves_begin side h.maximum h.reports h.past keys l b h.given t i) there q
 
-moves_match : (bits : ℕ) (side : Side) (l : ℕ) (s : Station) (n : BearerEnd) (keys : Keys) → Matches side l s n → IsSteady bits l n.bearer → Matches side l (begins (after s.end (Move keys))) (pair_begins (restarts n.bearer keys))
+moves_match : (bits : ℕ) (side : Side) (l : ℕ) (s : Station) (n : BearerEnd) (keys : Keys) → Matches side l s n
+    → IsSteady bits l n.bearer
+    → Matches side l (begins (after s.end (Move keys))) (pair_begins (restarts n.bearer keys))
 moves_match bits side l s n keys h steady =
     let e = s.end in
     let b = restarts n.bearer keys in
     let is : flow l (after e (Move keys)) ≡ Am b =
-    ap (flow_at l) (moved_bearers e keys) ∙ moved_flow l e.bearers keys h.there ∙ ap (λ (f : Flow). bearer_goes f (Restart keys)) h.bearer_is ∙ (restarts_steady bits l n.bearer keys steady).left in
+    ap (flow_at l) (moved_bearers e keys) ∙ moved_flow l e.bearers keys h.there
+    ∙ ap (λ (f : Flow). bearer_goes f (Restart keys)) h.bearer_is
+    ∙ (restarts_steady bits l n.bearer keys steady).left in
     begins_so side l (after e (Move keys)) b (begins_again side l e keys b h.come h.there is)
 
 -- ---- any step
 
-step_walks : (bits l : ℕ) (a : Air) (x : AirStep) (p : Pair) → IsLiving l a x → BothMatch bits l a p → Walks bits l a x p
+step_walks : (bits l : ℕ) (a : Air) (x : AirStep) (p : Pair) → IsLiving l a x → BothMatch bits l a p
+    → Walks bits l a x p
 step_walks bits l a (InLife (AtNb x)) p g h = walks_nb bits l a x p g h.nb h.ue h.nb_stands h.nb_steady
 step_walks bits l a (InLife (AtUe x)) p g h = walks_ue bits l a x p g h.nb h.ue h.ue_stands h.ue_steady
 step_walks bits l a (InLife Passes) p g h = record {
@@ -139,42 +170,61 @@ pub record WalksOn (bits l : ℕ) (a : Air) (xs : List AirStep) (p : Pair) : Typ
   pub down_is : over down_in steps p ≡ happened bits l Nb xs a
   pub up_is : over up_in steps p ≡ happened bits l Ue xs a
 
-living_more : (xs ys : List LifeStep) (p : Pair) → AreLivingPair p xs → AreLivingPair (pair_lives xs p) ys → AreLivingPair p (xs ++ ys)
+living_more : (xs ys : List LifeStep) (p : Pair) → AreLivingPair p xs → AreLivingPair (pair_lives xs p) ys
+    → AreLivingPair p (xs ++ ys)
 living_more [] ys p g h = h
 living_more (x ∷ xs) ys p g h = (g.0, living_more xs ys (pair_lives_on p x) g.1 h)
 
 does_then : (side : Side) (l : ℕ) (a : Air) (x : AirStep) (xs : List AirStep) (p : Pair) (one more : List LifeStep)
     → all_does side one p ≡ steps_over l (calls_at side a x) (end_at side a)
-    → all_does side more (pair_lives one p) ≡ steps_over l (all_calls side xs (lives_on a x)) (end_at side (lives_on a x))
+    → all_does side more (pair_lives one p)
+    ≡ steps_over l (all_calls side xs (lives_on a x)) (end_at side (lives_on a x))
     → all_does side (one ++ more) p ≡ steps_over l (all_calls side (x ∷ xs) a) (end_at side a)
 does_then side l a x xs p one more q r =
     let cs = all_calls side xs (lives_on a x) in
     does_more side one more p
     ∙ ap (λ (ds : List BearerStep). ds ++ all_does side more (pair_lives one p)) q
-    ∙ ap (λ (ds : List BearerStep). steps_over l (calls_at side a x) (end_at side a) ++ ds) (r ∙ ap (steps_over l cs) (step_end side a x))
+    ∙ ap (λ (ds : List BearerStep). steps_over l (calls_at side a x) (end_at side a) ++ ds)
+    (r ∙ ap (steps_over l cs) (step_end side a x))
     ∙ sym (steps_more l (calls_at side a x) cs (end_at side a))
 
-over_more : (what : Pair → LifeStep → List Happening) (xs ys : List LifeStep) (p : Pair) → over what (xs ++ ys) p ≡ over what xs p ++ over what ys (pair_lives xs p)
+over_more : (what : Pair → LifeStep → List Happening) (xs ys : List LifeStep) (p : Pair)
+    → over what (xs ++ ys) p ≡ over what xs p ++ over what ys (pair_lives xs p)
 over_more what [] ys p = refl
 over_more what (x ∷ xs) ys p =
     ap (λ (hs : List Happening). what p x ++ hs) (over_more what xs ys (pair_lives_on p x))
-    ∙ sym (append_assoc (what p x) (over what xs (pair_lives_on p x)) (over what ys (pair_lives xs (pair_lives_on p x))))
+    ∙ sym (append_assoc (what p x) (over what xs (pair_lives_on p x))
+    (over what ys (pair_lives xs (pair_lives_on p x))))
 
 -- an end still stands behind calls of a life, and where one ends
 call_stands : (side : Side) (l : ℕ) (e : End) (c : Call) → IsCall l c → Stands side l e → Stands side l (after e c)
-call_stands side l e c (inl g) s = stands_more side l e c s g.0 (λ q. let no : true ≡ false = sym q ∙ g.1.adds_none in absurd cc)
+call_stands side l e c (inl g) s =
+    stands_more side l e c s g.0 (λ q. let no : true ≡ false = sym q ∙ g.1.adds_none in absurd cc)
 call_stands side l e c (inr (keys, q)) s =
-    subst (λ (d : Call). Stands side l (after e d)) (sym q) (stands_more side l e (Move keys) s tt (λ p. let no : false ≡ true = p in absurd cc))
+    subst (λ (d : Call). Stands side l (after e d)) (sym q)
+    (stands_more side l e (Move keys) s tt (λ p. let no : false ≡ true = p in absurd cc))
 
-calls_stand : (side : Side) (l : ℕ) (cs : List Call) (e : End) → AllByRecursion (IsCall l) cs → Stands side l e → Stands side l (run cs e)
+calls_stand : (side : Side) (l : ℕ) (cs : List Call) (e : End) → AllByRecursion (IsCall l) cs → Stands side l e
+    → Stands side l (run cs e)
 calls_stand side l [] e g s = s
 calls_stand side l (c ∷ cs) e g s = calls_stand side l cs (after e c) g.1 (call_stands side l e c g.0 s)
 
-stands_on : (side : Side) (l : ℕ) (a : Air) (x : AirStep) → IsLiving l a x → Stands side l (end_at side a) → Stands side l (end_at side (lives_on a x))
-stands_on side l a x g s = subst (Stands side l) (sym (step_end side a x)) (calls_stand side l (calls_at side a x) (end_at side a) (step_so l side a x g) s)
+stands_on : (side : Side) (l : ℕ) (a : Air) (x : AirStep) → IsLiving l a x → Stands side l (end_at side a)
+    → Stands side l (end_at side (lives_on a x))
+stands_on side l a x g s =
+    subst (Stands side l) (sym (step_end side a x))
+    (calls_stand side l (calls_at side a x) (end_at side a) (step_so l side a x g) s)
 
-pub walks_on : (bits l : ℕ) (xs : List AirStep) (a : Air) (p : Pair) → AreLiving l a xs → BothMatch bits l a p → WalksOn bits l a xs p
-walks_on bits l [] a p g h = record { steps = []; living = tt; nb_does = refl; ue_does = refl; down_is = refl; up_is = refl }
+pub walks_on : (bits l : ℕ) (xs : List AirStep) (a : Air) (p : Pair) → AreLiving l a xs → BothMatch bits l a p
+    → WalksOn bits l a xs p
+walks_on bits l [] a p g h = record {
+  steps = [];
+  living = tt;
+  nb_does = refl;
+  ue_does = refl;
+  down_is = refl;
+  up_is = refl;
+}
 walks_on bits l (x ∷ xs) a p g h =
     let one = step_walks bits l a x p g.0 h in
     let q : Pair = pair_lives one.steps p in
@@ -191,6 +241,10 @@ walks_on bits l (x ∷ xs) a p g h =
       living = living_more one.steps rest.steps p one.living rest.living;
       nb_does = does_then Nb l a x xs p one.steps rest.steps one.nb_does rest.nb_does;
       ue_does = does_then Ue l a x xs p one.steps rest.steps one.ue_does rest.ue_does;
-      down_is = over_more down_in one.steps rest.steps p ∙ (ap (λ (hs : List Happening). hs ++ over down_in rest.steps q) one.down_is ∙ ap (λ (hs : List Happening). happens_in bits l Nb a x ++ hs) rest.down_is);
-      up_is = over_more up_in one.steps rest.steps p ∙ (ap (λ (hs : List Happening). hs ++ over up_in rest.steps q) one.up_is ∙ ap (λ (hs : List Happening). happens_in bits l Ue a x ++ hs) rest.up_is);
+      down_is = over_more down_in one.steps rest.steps p
+          ∙ (ap (λ (hs : List Happening). hs ++ over down_in rest.steps q) one.down_is
+          ∙ ap (λ (hs : List Happening). happens_in bits l Nb a x ++ hs) rest.down_is);
+      up_is = over_more up_in one.steps rest.steps p
+          ∙ (ap (λ (hs : List Happening). hs ++ over up_in rest.steps q) one.up_is
+          ∙ ap (λ (hs : List Happening). happens_in bits l Ue a x ++ hs) rest.up_is);
     }

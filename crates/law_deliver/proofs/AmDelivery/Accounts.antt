@@ -1,8 +1,11 @@
 -- What is told of a way belongs to its flows.
-use Rattle.std.proofs.Common.{◌≡◌, ℕ, zero, suc, ◌+◌, ◌≤◌, Bool, true, false, ◌||◌, ◌==◌, List, [], ◌∷◌, ◌++◌, map, length, take, Option, Some, None, slice_get, refl, ap, sym, subst, ◌∙◌, arith, append_assoc}
+use Rattle.std.proofs.Common.{◌≡◌, ℕ, zero, suc, ◌+◌, ◌≤◌, Bool, true, false, ◌||◌, ◌==◌, List, [], ◌∷◌, ◌++◌, map}
+use Rattle.std.proofs.Common.{length, take, Option, Some, None, slice_get, refl, ap, sym, subst, ◌∙◌, arith}
+use Rattle.std.proofs.Common.{append_assoc}
 use Rattle.std.proofs.lemmas.Bool.Decides.{nat_tests}
 use Rattle.pdcp_tx.specs.declared.sender.Next.{Next}
-use Rattle.law_rlc.specs.AmPair.Flow.{Flow as Rlc, Step as RlcStep, happens as rlc_happens, goes as rlc_goes, outset as rlc_outset}
+use Rattle.law_rlc.specs.AmPair.Flow.{Flow as Rlc, Step as RlcStep, happens as rlc_happens, goes as rlc_goes}
+use Rattle.law_rlc.specs.AmPair.Flow.{outset as rlc_outset}
 use Rattle.law_pdcp.specs.AmPair.Flow.{Flow as Pdcp, with_count, outset as pdcp_outset}
 use Rattle.law_pdcp.proofs.AmPair.Sound.{IsSound as IsSoundPdcp}
 use Rattle.law_pdcp.proofs.AmPair.Laws.{run_sound, outset_sound}
@@ -14,7 +17,9 @@ use Rattle.promises.specs.Given.{passing}
 use Rattle.law_deliver.proofs.AmDelivery.Joined.{Way, IsWay, rlc, pdcp}
 
 pub sound_pdcp : (w : Way) → IsWay w → IsSoundPdcp w.bits (pdcp w)
-sound_pdcp w h = run_sound w.bits w.events (pdcp_outset w.bits w.protection w.first) h.events (outset_sound w.bits w.protection w.first h.kind h.first)
+sound_pdcp w h =
+    run_sound w.bits w.events (pdcp_outset w.bits w.protection w.first) h.events
+    (outset_sound w.bits w.protection w.first h.kind h.first)
 
 -- ---- what RLC's PDUs tell in the life that runs
 
@@ -23,12 +28,16 @@ told_of w = with_passings (passed w.steps (rlc_outset w.sending w.receiving)) no
 
 passed_more : (xs ys : List RlcStep) (f : Rlc) → passed (xs ++ ys) f ≡ passed xs f ++ passed ys (rlc_goes xs f)
 passed_more [] ys f = refl
-passed_more (x ∷ xs) ys f = ap (λ (l : List Passing). passing_in f x ++ l) (passed_more xs ys (rlc_happens f x)) ∙ sym (append_assoc (passing_in f x) (passed xs (rlc_happens f x)) (passed ys (rlc_goes xs (rlc_happens f x))))
+passed_more (x ∷ xs) ys f = ap (λ (l : List Passing). passing_in f x ++ l) (passed_more xs ys (rlc_happens f x))
+    ∙ sym (append_assoc (passing_in f x) (passed xs (rlc_happens f x)) (passed ys (rlc_goes xs (rlc_happens f x))))
 
-pub told_more : (w : Way) (ss : List RlcStep) → with_passings (passed (w.steps ++ ss) (rlc_outset w.sending w.receiving)) nothing_told ≡ with_passings (passed ss (rlc w)) (told_of w)
+pub told_more : (w : Way) (ss : List RlcStep)
+    → with_passings (passed (w.steps ++ ss) (rlc_outset w.sending w.receiving)) nothing_told
+    ≡ with_passings (passed ss (rlc w)) (told_of w)
 told_more w ss =
     let f = rlc_outset w.sending w.receiving in
-    ap (λ (l : List Passing). with_passings l nothing_told) (passed_more w.steps ss f) ∙ told_then (passed w.steps f) (passed ss (rlc w)) nothing_told
+    ap (λ (l : List Passing). with_passings l nothing_told) (passed_more w.steps ss f)
+    ∙ told_then (passed w.steps f) (passed ss (rlc w)) nothing_told
 
 -- ---- an account agrees with the flows
 
@@ -39,8 +48,8 @@ abbrev pub is_among : List Next → ℕ → Bool
 is_among [] count = false
 is_among (n ∷ ns) count = is_count n.count count || is_among ns count
 
--- what RLC was given and what its PDUs tell are those of this life; PDCP heard the COUNTs that came whole in ended lives, and those of what
--- RLC has handed up in this one
+-- what RLC was given and what its PDUs tell are those of this life; PDCP heard the COUNTs that came whole in ended
+-- lives, and those of what RLC has handed up in this one
 pub record Agrees (a : Account) (g : Pdcp) (r : Told) : Type 0 where
   pub given_are : map given_of g.stream ≡ a.given
   pub rlc_is : r ≡ a.rlc
@@ -54,8 +63,10 @@ pub account_then : (xs ys : List Happening) (a : Account) → account (xs ++ ys)
 account_then [] ys a = refl
 account_then (x ∷ xs) ys a = account_then xs ys (accounted x a)
 
-pub tells_then : (xs ys : List Happening) (f g h : Pdcp) (r s t : Told) → TellsOn xs f r g s → TellsOn ys g s h t → TellsOn (xs ++ ys) f r h t
-tells_then xs ys f g h r s t x y = λ a k. subst (λ (b : Account). Agrees b h t) (sym (account_then xs ys a)) (y (account xs a) (x a k))
+pub tells_then : (xs ys : List Happening) (f g h : Pdcp) (r s t : Told) → TellsOn xs f r g s → TellsOn ys g s h t
+    → TellsOn (xs ++ ys) f r h t
+tells_then xs ys f g h r s t x y =
+    λ a k. subst (λ (b : Account). Agrees b h t) (sym (account_then xs ys a)) (y (account xs a) (x a k))
 
 -- ---- only PDUs of RLC pass
 
@@ -63,7 +74,8 @@ account_passing : (ps : List Passing) (a : Account) → account (passing ps) a �
 account_passing [] a = refl
 account_passing (p ∷ ps) a = account_passing ps (accounted (Passes p) a)
 
-pub tells_passing : (ps : List Passing) (g h : Pdcp) (r : Told) → h.stream ≡ g.stream → h.passed ≡ g.passed → ((count : ℕ) → h.handed count ≡ g.handed count)
+pub tells_passing : (ps : List Passing) (g h : Pdcp) (r : Told) → h.stream ≡ g.stream → h.passed ≡ g.passed
+    → ((count : ℕ) → h.handed count ≡ g.handed count)
     → TellsOn (passing ps) g r h (with_passings ps r)
 tells_passing ps g h r stream place handed = λ a k.
     subst (λ (b : Account). Agrees b h (with_passings ps r)) (sym (account_passing ps a)) (record {
@@ -85,20 +97,24 @@ given_end : (xs : List Next) (n : Next) → map given_of (xs ++ n ∷ []) ≡ ma
 given_end [] n = refl
 given_end (x ∷ xs) n = ap (λ (l : List Given). given_of x ∷ l) (given_end xs n)
 
-pub tells_given : (g h : Pdcp) (n : Next) (r : Told) → g.passed ≤ length g.stream → h.stream ≡ g.stream ++ n ∷ [] → h.passed ≡ g.passed
+pub tells_given : (g h : Pdcp) (n : Next) (r : Told) → g.passed ≤ length g.stream → h.stream ≡ g.stream ++ n ∷ []
+    → h.passed ≡ g.passed
     → ((count : ℕ) → h.handed count ≡ g.handed count)
     → TellsOn (Gives (given_of n) ∷ []) g r h r
 tells_given g h n r few stream place handed = λ a k. record {
-  given_are = ap (λ (l : List Next). map given_of l) stream ∙ given_end g.stream n ∙ ap (λ (l : List Given). l ++ given_of n ∷ []) k.given_are;
+  given_are = ap (λ (l : List Next). map given_of l) stream ∙ given_end g.stream n
+      ∙ ap (λ (l : List Given). l ++ given_of n ∷ []) k.given_are;
   rlc_is = k.rlc_is;
   handed_are = λ count. handed count ∙ k.handed_are count
-      ∙ ap (λ (l : List Next). a.ended count || is_among l count) (sym (take_front g.passed g.stream (n ∷ []) few) ∙ ap (take g.passed) (sym stream))
+      ∙ ap (λ (l : List Next). a.ended count || is_among l count)
+      (sym (take_front g.passed g.stream (n ∷ []) few) ∙ ap (take g.passed) (sym stream))
       ∙ ap (λ (m : ℕ). a.ended count || is_among (take m h.stream) count) (sym place);
 }
 
 -- ---- RLC hands one up
 
-among_next : (k : ℕ) (xs : List Next) (n : Next) (count : ℕ) → slice_get xs k ≡ Some n → is_among (take (k + 1) xs) count ≡ (is_among (take k xs) count || is_count n.count count)
+among_next : (k : ℕ) (xs : List Next) (n : Next) (count : ℕ) → slice_get xs k ≡ Some n
+    → is_among (take (k + 1) xs) count ≡ (is_among (take k xs) count || is_count n.count count)
 among_next k [] n count e = let no : None ≡ Some n = e in cc
 among_next zero (x ∷ xs) n count e =
     let same : Some x ≡ Some n = e in
@@ -111,13 +127,15 @@ among_next zero (x ∷ xs) n count e =
 among_next (suc k) (x ∷ xs) n count e =
     let ih = among_next k xs n count e in
     let s : suc k + 1 ≡ suc (k + 1) = omega arith in
-    ap (λ (m : ℕ). is_among (take m (x ∷ xs)) count) s ∙ ap (λ (b : Bool). is_count x.count count || b) ih ∙ sides (is_count x.count count) (is_among (take k xs) count) (is_count n.count count)
+    ap (λ (m : ℕ). is_among (take m (x ∷ xs)) count) s ∙ ap (λ (b : Bool). is_count x.count count || b) ih
+    ∙ sides (is_count x.count count) (is_among (take k xs) count) (is_count n.count count)
   where
     sides : (a b c : Bool) → (a || (b || c)) ≡ ((a || b) || c)
     sides true b c = refl
     sides false b c = refl
 
-pub handed_too : (o : Option ℕ) (handed : ℕ → Bool) (count : ℕ) → with_count o handed count ≡ (handed count || is_count o count)
+pub handed_too : (o : Option ℕ) (handed : ℕ → Bool) (count : ℕ)
+    → with_count o handed count ≡ (handed count || is_count o count)
 handed_too None handed count = by (handed count)
   where
     by : (b : Bool) → b ≡ (b || false)
@@ -133,7 +151,8 @@ handed_too (Some own) handed count = by (count == own) (own == count) (handed co
     by false false true e = refl
     by false false false e = refl
 
-pub tells_handed : (g h : Pdcp) (n : Next) (r : Told) → slice_get g.stream g.passed ≡ Some n → h.stream ≡ g.stream → h.passed ≡ g.passed + 1
+pub tells_handed : (g h : Pdcp) (n : Next) (r : Told) → slice_get g.stream g.passed ≡ Some n → h.stream ≡ g.stream
+    → h.passed ≡ g.passed + 1
     → ((count : ℕ) → h.handed count ≡ with_count n.count g.handed count)
     → TellsOn [] g r h r
 tells_handed g h n r at stream place handed = λ a k. record {

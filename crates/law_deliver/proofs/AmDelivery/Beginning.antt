@@ -23,23 +23,46 @@ use Rattle.law_deliver.specs.AmDelivery.Delivery.{AreBothEnds}
 use Rattle.law_deliver.proofs.AmDelivery.Joined.{Way, IsWay, Joins, Reports, JoinedPair}
 
 -- nothing has arrived
-pub none_arrives : (sending : AmTxConfig) (receiving : AmRxConfig) (k : ℕ) (b : Bool) → arrives (rlc_outset sending receiving) k ≡ b → false ≡ b
+pub none_arrives : (sending : AmTxConfig) (receiving : AmRxConfig) (k : ℕ) (b : Bool)
+    → arrives (rlc_outset sending receiving) k ≡ b → false ≡ b
 none_arrives sending receiving k true e = absurd (omega (arith, arrived-was-offered sending receiving [] tt k e))
 none_arrives sending receiving k false e = refl
 
 abbrev pub first_way : BearerConfig → Protection → Way
-first_way c p = record { bits = c.pdcp_bits; protection = p; first = c.first; events = []; sending = c.tx; receiving = c.rx; steps = [] }
+first_way c p = record {
+  bits = c.pdcp_bits;
+  protection = p;
+  first = c.first;
+  events = [];
+  sending = c.tx;
+  receiving = c.rx;
+  steps = [];
+}
 
 kind_is : (kind : Kind) (bits : ℕ) → kind ≡ kinds.Am → ArePdcpBits kind bits → IsKind (AmKind bits)
 kind_is kind bits k h = subst (λ (x : Kind). ArePdcpBits x bits) k h
 
-first_is_way : (c : BearerConfig) (keys : Keys) (nb ue : State) (p : Protection) → AreBothEnds c keys nb ue → IsWay (first_way c p)
-first_is_way c keys nb ue p h = record { kind = kind_is c.kind c.pdcp_bits h.kind h.config.pdcp_bits; first = omega (arith, h.first); events = tt; steps = tt }
+first_is_way : (c : BearerConfig) (keys : Keys) (nb ue : State) (p : Protection) → AreBothEnds c keys nb ue
+    → IsWay (first_way c p)
+first_is_way c keys nb ue p h =
+    record {
+      kind = kind_is c.kind c.pdcp_bits h.kind h.config.pdcp_bits;
+      first = omega (arith, h.first);
+      events = tt;
+      steps = tt;
+    }
 
-first_joins : (c : BearerConfig) (p : Protection) (from to : State) → BeginAlike c.pdcp_bits p c.first from to → BeginsAs c from → BeginsAs c to
+first_joins : (c : BearerConfig) (p : Protection) (from to : State) → BeginAlike c.pdcp_bits p c.first from to
+    → BeginsAs c from → BeginsAs c to
     → Joins (first_way c p) (begins from) (begins to)
 first_joins c p from to h f t = record {
-  rlc_is = record { sender_is = sym f.tx; receiver_is = sym t.rx; copies_are = refl; reports_are = refl; busy_is = refl };
+  rlc_is = record {
+    sender_is = sym f.tx;
+    receiver_is = sym t.rx;
+    copies_are = refl;
+    reports_are = refl;
+    busy_is = refl;
+  };
   sender_is = sym h.sender;
   receiver_is = sym h.receiver;
   stream_is = refl;
@@ -53,7 +76,8 @@ unfolding start_sending
 first_reports c p q = record { owed = λ r e. cc; sent = tt }
 
 pub begins_joined : (c : BearerConfig) (keys : Keys) (nb ue : State) → AreBothEnds c keys nb ue
-    → JoinedPair c.pdcp_bits (first_way c (protection_at c keys Nb)) (first_way c (protection_at c keys Ue)) (outset nb ue)
+    → JoinedPair c.pdcp_bits (first_way c (protection_at c keys Nb)) (first_way c (protection_at c keys Ue))
+    (outset nb ue)
 begins_joined c keys nb ue h =
     let near = first_life_begins c keys Nb nb h.kind h.nb_is in
     let far = first_life_begins c keys Ue ue h.kind h.ue_is in
@@ -62,8 +86,12 @@ begins_joined c keys nb ue h =
       up_is = first_is_way c keys nb ue (protection_at c keys Ue) h;
       down_bits = refl;
       up_bits = refl;
-      down_joins = first_joins c (protection_at c keys Nb) nb ue (ends_begin_alike c keys Nb nb ue h.kind h.nb_is h.ue_is) near far;
-      up_joins = first_joins c (protection_at c keys Ue) ue nb (ends_begin_alike c keys Ue ue nb h.kind h.ue_is h.nb_is) far near;
+      down_joins =
+          first_joins c (protection_at c keys Nb) nb ue (ends_begin_alike c keys Nb nb ue h.kind h.nb_is h.ue_is) near
+          far;
+      up_joins =
+          first_joins c (protection_at c keys Ue) ue nb (ends_begin_alike c keys Ue ue nb h.kind h.ue_is h.nb_is) far
+          near;
       down_reports = first_reports c (protection_at c keys Nb) (protection_at c keys Ue);
       up_reports = first_reports c (protection_at c keys Ue) (protection_at c keys Nb);
       near_data = near.stays;

@@ -7,7 +7,8 @@ use Rattle.bearer.specs.Acknowledged.State.{State}
 use Rattle.law_deliver.specs.AmFlow.Pair.{BearerEnd}
 use Rattle.law_deliver.proofs.AmDelivery.Joined.{Way, IsWay, Joins, Reports}
 use Rattle.law_deliver.proofs.AmDelivery.Promises.{GoesOn}
-use Rattle.law_deliver.proofs.AmDelivery.Meeting.{Extends, standing, Extended, extended, reports_stay, goes_then, goes_not}
+use Rattle.law_deliver.proofs.AmDelivery.Meeting.{Extends, standing, Extended, extended, reports_stay, goes_then}
+use Rattle.law_deliver.proofs.AmDelivery.Meeting.{goes_not}
 
 -- the way from an end and the way to it
 pub record Between (bits : ℕ) (out inn : Way) (e o : BearerEnd) : Type 0 where
@@ -21,18 +22,22 @@ pub record Between (bits : ℕ) (out inn : Way) (e o : BearerEnd) : Type 0 where
   pub inn_reports : Reports inn out
 
 -- they go on to an end of which these SDUs went up, and so much is told of what it heard
-pub record GoesBetween (bits : ℕ) (out inn : Way) (e o : BearerEnd) (ups : List (List ℕ)) (heard : List Happening) : Type 0 where
+pub record GoesBetween (bits : ℕ) (out inn : Way) (e o : BearerEnd) (ups : List (List ℕ)) (heard : List Happening) :
+    Type 0 where
   pub out_after : Way
   pub inn_after : Way
   pub between : Between bits out_after inn_after e o
   pub out_goes : GoesOn out out_after [] [] []
   pub inn_goes : GoesOn inn inn_after [] ups heard
 
-pub none_goes : (bits : ℕ) (out inn : Way) (e o : BearerEnd) → Between bits out inn e o → GoesBetween bits out inn e o [] []
-none_goes bits out inn e o h = record { out_after = out; inn_after = inn; between = h; out_goes = goes_not out; inn_goes = goes_not inn }
+pub none_goes : (bits : ℕ) (out inn : Way) (e o : BearerEnd) → Between bits out inn e o
+    → GoesBetween bits out inn e o [] []
+none_goes bits out inn e o h =
+    record { out_after = out; inn_after = inn; between = h; out_goes = goes_not out; inn_goes = goes_not inn }
 
 -- each way by itself
-pub both_go : {heard : List Happening} (bits : ℕ) (out inn : Way) (d e o : BearerEnd) (ups : List (List ℕ)) → Between bits out inn d o
+pub both_go : {heard : List Happening} (bits : ℕ) (out inn : Way) (d e o : BearerEnd) (ups : List (List ℕ))
+    → Between bits out inn d o
     → Extends out (standing e o) [] [] → Extends inn (standing o e) ups heard → GoesBetween bits out inn e o ups heard
 both_go {heard} bits out inn d e o ups h there back =
     let x : Extended out e o [] [] = extended out e o [] [] h.out_is there in
@@ -54,8 +59,10 @@ both_go {heard} bits out inn d e o ups h there back =
       inn_goes = y.goes;
     }
 
-pub then_goes : {x y : List Happening} (bits : ℕ) (out inn : Way) (d e o : BearerEnd) (ups more : List (List ℕ)) → GoesBetween bits out inn d o ups x
-    → ((v w : Way) → Between bits v w d o → GoesBetween bits v w e o more y) → GoesBetween bits out inn e o (ups ++ more) (x ++ y)
+pub then_goes : {x y : List Happening} (bits : ℕ) (out inn : Way) (d e o : BearerEnd) (ups more : List (List ℕ))
+    → GoesBetween bits out inn d o ups x
+    → ((v w : Way) → Between bits v w d o → GoesBetween bits v w e o more y)
+    → GoesBetween bits out inn e o (ups ++ more) (x ++ y)
 then_goes bits out inn d e o ups more h rest =
     let k = rest h.out_after h.inn_after h.between in
     record {
@@ -72,9 +79,11 @@ abbrev pub with_bearer : BearerEnd → State → BearerEnd
 with_bearer e b = record e { bearer = b }
 
 abbrev pub DeedGoes : ℕ → Deed → Type 0
-DeedGoes bits deed = (out inn : Way) (e o : BearerEnd) → Between bits out inn e o → GoesBetween bits out inn (with_bearer e (deed_does e.bearer deed)) o (goes_up e.bearer deed) []
+DeedGoes bits deed = (out inn : Way) (e o : BearerEnd) → Between bits out inn e o
+    → GoesBetween bits out inn (with_bearer e (deed_does e.bearer deed)) o (goes_up e.bearer deed) []
 
-pub deeds_go : (bits : ℕ) (deeds : List Deed) → AllByRecursion (DeedGoes bits) deeds → (out inn : Way) (e o : BearerEnd) → Between bits out inn e o
+pub deeds_go : (bits : ℕ) (deeds : List Deed) → AllByRecursion (DeedGoes bits) deeds
+    → (out inn : Way) (e o : BearerEnd) → Between bits out inn e o
     → GoesBetween bits out inn (with_bearer e (does_all deeds e.bearer)) o (go_up deeds e.bearer) []
 deeds_go bits [] all out inn e o h = none_goes bits out inn e o h
 deeds_go bits (deed ∷ deeds) all out inn e o h =

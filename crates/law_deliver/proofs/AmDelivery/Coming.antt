@@ -1,5 +1,6 @@
 -- What the other end has under way comes to an end: both ways go on.
-use Rattle.std.proofs.Common.{◌≡◌, ℕ, Bool, true, false, List, [], ◌∷◌, ◌++◌, Option, Some, None, Result, Ok, slice_get, refl, ap, sym, subst, ◌∙◌}
+use Rattle.std.proofs.Common.{◌≡◌, ℕ, Bool, true, false, List, [], ◌∷◌, ◌++◌, Option, Some, None, Result, Ok, slice_get}
+use Rattle.std.proofs.Common.{refl, ap, sym, subst, ◌∙◌}
 use Rattle.std.specs.List.{AllByRecursion}
 use Rattle.pdcp_rx.specs.declared.got.Cause.TheVariants.{Arrived}
 use Rattle.pdcp_rx.specs.Heard.{heard}
@@ -25,10 +26,13 @@ use Rattle.bearer.specs.Acknowledged.State.{State}
 use Rattle.bearer.specs.Acknowledged.Hearing.{confirms as confirms_places}
 use Rattle.bearer.specs.declared.flow.Flow.{Flow}
 use Rattle.law_bearer.specs.AnyBearer.Calls.{Arrive}
-use Rattle.law_bearer.specs.AmBearer.Deeds.{Deed, Sends, Confirms, Receives, HandsUp, does as deed_does, does_all, go_up, confirms_first, hands_first, raised_first, hears_one}
-use Rattle.law_bearer.specs.AmBearer.Calls.{only_if, settles as settles_now, hands_up, settles_by, confirms_all, arrives as arrive_deeds, AreDeeds}
+use Rattle.law_bearer.specs.AmBearer.Deeds.{Deed, Sends, Confirms, Receives, HandsUp, does as deed_does, does_all}
+use Rattle.law_bearer.specs.AmBearer.Deeds.{go_up, confirms_first, hands_first, raised_first, hears_one}
+use Rattle.law_bearer.specs.AmBearer.Calls.{only_if, settles as settles_now, hands_up, settles_by, confirms_all}
+use Rattle.law_bearer.specs.AmBearer.Calls.{arrives as arrive_deeds, AreDeeds}
 use Rattle.law_bearer.proofs.AmBearer.Calls.{calls_are_deeds}
-use Rattle.law_deliver.specs.AmFlow.Pair.{Sent, BearerEnd, Deed as EndDeed, DataComes, StatusComes, acknowledged, called, arrives, data_comes, status_comes, does, Calls, DataGoes, StatusGoes}
+use Rattle.law_deliver.specs.AmFlow.Pair.{Sent, BearerEnd, Deed as EndDeed, DataComes, StatusComes, acknowledged}
+use Rattle.law_deliver.specs.AmFlow.Pair.{called, arrives, data_comes, status_comes, does, Calls, DataGoes, StatusGoes}
 use Rattle.law_deliver.specs.AmFlow.Flows.{HasFlow}
 use Rattle.law_deliver.proofs.AmFlow.Flows.{data_read, status_read}
 use Rattle.law_deliver.specs.AmDelivery.Arrival.{heard_by}
@@ -38,7 +42,8 @@ use Rattle.law_deliver.proofs.AmDelivery.Joined.{Way, IsWay, Joins, rlc, pdcp}
 use Rattle.law_deliver.proofs.AmDelivery.Promises.{GoesOn}
 use Rattle.law_deliver.proofs.AmDelivery.Ends.{JoinedEnds, EndsGoOn}
 use Rattle.law_deliver.proofs.AmDelivery.Meeting.{Standing, Extends, standing, meets_as, rests, goes_not}
-use Rattle.law_deliver.proofs.AmDelivery.Between.{Between, GoesBetween, none_goes, both_go, then_goes, with_bearer, DeedGoes, deeds_go}
+use Rattle.law_deliver.proofs.AmDelivery.Between.{Between, GoesBetween, none_goes, both_go, then_goes, with_bearer}
+use Rattle.law_deliver.proofs.AmDelivery.Between.{DeedGoes, deeds_go}
 use Rattle.law_deliver.proofs.AmDelivery.Arrivals.{data_arrives}
 use Rattle.law_deliver.proofs.AmDelivery.HandingUp.{IsNext, next_is, goes_up_one}
 use Rattle.law_deliver.proofs.AmDelivery.Telling.{hears_report}
@@ -56,7 +61,8 @@ settle_goes bits more out inn e o h =
 confirm_goes : (bits : ℕ) → DeedGoes bits Confirms
 confirm_goes bits out inn e o h = by e.bearer.tx.accounts.news refl
   where
-    by : (l : List ℕ) → e.bearer.tx.accounts.news ≡ l → GoesBetween bits out inn (with_bearer e (confirms_first l e.bearer)) o [] []
+    by : (l : List ℕ) → e.bearer.tx.accounts.news ≡ l
+        → GoesBetween bits out inn (with_bearer e (confirms_first l e.bearer)) o [] []
     by [] q = none_goes bits out inn e o h
     by (place ∷ places) q =
         let b = e.bearer in
@@ -67,7 +73,8 @@ confirm_goes bits out inn e o h = by e.bearer.tx.accounts.news refl
 hand_up_goes : (bits : ℕ) → DeedGoes bits HandsUp
 hand_up_goes bits out inn e o h = by e.bearer.rx.out.ready refl
   where
-    by : (l : List (List ℕ)) → e.bearer.rx.out.ready ≡ l → GoesBetween bits out inn (with_bearer e (hands_first l e.bearer)) o (raised_first l e.bearer.pdcp.rx) []
+    by : (l : List (List ℕ)) → e.bearer.rx.out.ready ≡ l
+        → GoesBetween bits out inn (with_bearer e (hands_first l e.bearer)) o (raised_first l e.bearer.pdcp.rx) []
     by [] q = none_goes bits out inn e o h
     by (sdu ∷ sdus) q =
         let b = e.bearer in
@@ -75,7 +82,8 @@ hand_up_goes bits out inn e o h = by e.bearer.rx.out.ready refl
         let next : IsNext inn sdu = next_is inn (standing o e) sdu sdus h.inn_is q m in
         let kind = ap (λ (r : Receiving). heard r.kind sdu) h.inn_joins.receiver_is in
         both_go bits out inn e (with_bearer e (hands_first (sdu ∷ sdus) b)) o (arrived b.pdcp.rx sdu Arrived).ready h
-        (hears_report out inn (standing e o) sdu (heard b.pdcp.rx.kind sdu) kind h.out_is h.inn_is (h.out_bits ∙ sym h.inn_bits) h.out_reports next
+        (hears_report out inn (standing e o) sdu (heard b.pdcp.rx.kind sdu) kind h.out_is h.inn_is
+        (h.out_bits ∙ sym h.inn_bits) h.out_reports next
         (meets_as out e o h.out_joins))
         (goes_up_one inn (standing o e) sdu sdus h.inn_is q next m)
 
@@ -83,7 +91,8 @@ hand_up_goes bits out inn e o h = by e.bearer.rx.out.ready refl
 
 all_hand_up : (bits : ℕ) (sdus : List (List ℕ)) (e : Ends) → AllByRecursion (DeedGoes bits) (hands_up sdus e)
 all_hand_up bits [] e = tt
-all_hand_up bits (sdu ∷ sdus) e = (hand_up_goes bits, settling (applies sdu Arrived e) (all_hand_up bits sdus (hears_one sdu e)))
+all_hand_up bits (sdu ∷ sdus) e =
+    (hand_up_goes bits, settling (applies sdu Arrived e) (all_hand_up bits sdus (hears_one sdu e)))
   where
     settling : (b : Bool) → AllByRecursion (DeedGoes bits) (hands_up sdus (hears_one sdu e))
         → AllByRecursion (DeedGoes bits) (only_if b (settles_now (hears_one sdu e)) ++ hands_up sdus (hears_one sdu e))
@@ -95,7 +104,8 @@ all_settle bits heard_as.Ignored e = tt
 all_settle bits (heard_as.Limit sn) e = tt
 all_settle bits (heard_as.Applied stopped) e = (λ out inn d o h. settle_goes bits _ out inn d o h, tt)
 
-all_confirm : (bits : ℕ) (places : List ℕ) (deeds : List Deed) → AllByRecursion (DeedGoes bits) deeds → AllByRecursion (DeedGoes bits) (confirms_all places ++ deeds)
+all_confirm : (bits : ℕ) (places : List ℕ) (deeds : List Deed) → AllByRecursion (DeedGoes bits) deeds
+    → AllByRecursion (DeedGoes bits) (confirms_all places ++ deeds)
 all_confirm bits [] deeds h = h
 all_confirm bits (place ∷ places) deeds h = (confirm_goes bits, all_confirm bits places deeds h)
 
@@ -117,16 +127,19 @@ abbrev flow_of_way : (w : Way) (from to : BearerEnd) → IsWay w → Joins w fro
 flow_of_way w from to h j = record { steps = w.steps; given = h.steps; is = j.rlc_is }
 
 -- as its deeds do, so does its call
-as_called : {heard : List Happening} (bits : ℕ) (out inn : Way) (e o : BearerEnd) (pdu : List ℕ) (x : Result AcknowledgedPdu RlcRefusal) → am_at pdu ≡ x
+as_called : {heard : List Happening} (bits : ℕ) (out inn : Way) (e o : BearerEnd) (pdu : List ℕ)
+    (x : Result AcknowledgedPdu RlcRefusal) → am_at pdu ≡ x
     → JoinedEnds bits out inn e o
-    → GoesBetween bits out inn (with_bearer e (does_all (arrive_deeds x e.bearer) e.bearer)) o (go_up (arrive_deeds x e.bearer) e.bearer) heard
+    → GoesBetween bits out inn (with_bearer e (does_all (arrive_deeds x e.bearer) e.bearer)) o
+    (go_up (arrive_deeds x e.bearer) e.bearer) heard
     → EndsGoOn bits out inn (arrives e pdu) o [] (ups_by e.bearer (Arrive pdu ∷ [])) [] heard
 as_called {heard} bits out inn e o pdu x read h g =
     let b = e.bearer in
     let a : AreDeeds bits b (Arrive pdu) = calls_are_deeds bits b (Arrive pdu) h.of_data h.idle in
     let d : State = does_all (arrive_deeds (am_at pdu) b) b in
     let k : GoesBetween bits out inn (with_bearer e d) o (go_up (arrive_deeds (am_at pdu) b) b) heard =
-    subst (λ (y : Result AcknowledgedPdu RlcRefusal). GoesBetween bits out inn (with_bearer e (does_all (arrive_deeds y b) b)) o (go_up (arrive_deeds y b) b) heard) (sym read) g in
+    subst (λ (y : Result AcknowledgedPdu RlcRefusal). GoesBetween bits out inn
+    (with_bearer e (does_all (arrive_deeds y b) b)) o (go_up (arrive_deeds y b) b) heard) (sym read) g in
     let is : called b (Arrive pdu) ≡ d = ap (λ (f : Flow). acknowledged b f) a.left in
     let joined : JoinedEnds bits k.out_after k.inn_after (with_bearer e d) o = record {
       out_is = k.between.out_is;
@@ -150,11 +163,14 @@ as_called {heard} bits out inn e o pdu x read h g =
       inn_goes = subst (λ (l : List (List ℕ)). GoesOn inn k.inn_after [] l heard) a.ups k.inn_goes;
     }
 
-none_comes : (bits : ℕ) (out inn : Way) (e o : BearerEnd) → JoinedEnds bits out inn e o → EndsGoOn bits out inn e o [] [] [] []
-none_comes bits out inn e o h = record { out_after = out; inn_after = inn; joined = h; out_goes = goes_not out; inn_goes = goes_not inn }
+none_comes : (bits : ℕ) (out inn : Way) (e o : BearerEnd) → JoinedEnds bits out inn e o
+    → EndsGoOn bits out inn e o [] [] [] []
+none_comes bits out inn e o h =
+    record { out_after = out; inn_after = inn; joined = h; out_goes = goes_not out; inn_goes = goes_not inn }
 
 -- a data PDU that the other end sent
-data_goes : (bits : ℕ) (out inn : Way) (e o : BearerEnd) (k : ℕ) (x : Option Copy) → slice_get o.copies k ≡ x → JoinedEnds bits out inn e o
+data_goes : (bits : ℕ) (out inn : Way) (e o : BearerEnd) (k : ℕ) (x : Option Copy) → slice_get o.copies k ≡ x
+    → JoinedEnds bits out inn e o
     → EndsGoOn bits out inn (data_comes e x) o [] (ups_by e.bearer (call_by x)) [] (heard_by (call_by x))
 data_goes bits out inn e o k None at h = none_comes bits out inn e o h
 data_goes bits out inn e o k (Some c) at h =
@@ -172,10 +188,12 @@ data_goes bits out inn e o k (Some c) at h =
     (λ v w n. deeds_go bits rest (all_hand_up bits (landed_in b.rx pdu).out.ready b.pdcp) v w d o n))
 
 -- a STATUS tells nothing of what comes this way
-silent : (octets : List ℕ) (pdu : StatusPdu) (a : Account) → am_at octets ≡ Ok (Control pdu) → accounted (Passes (Comes octets)) a ≡ a
+silent : (octets : List ℕ) (pdu : StatusPdu) (a : Account) → am_at octets ≡ Ok (Control pdu)
+    → accounted (Passes (Comes octets)) a ≡ a
 silent octets pdu a read = ap (λ (x : Result AcknowledgedPdu RlcRefusal). record a { rlc = come_as x a.rlc }) read
 
-silently : (w : Way) (a : Standing) (octets : List ℕ) (pdu : StatusPdu) → am_at octets ≡ Ok (Control pdu) → Extends w a [] [] → Extends w a [] (Passes (Comes octets) ∷ [])
+silently : (w : Way) (a : Standing) (octets : List ℕ) (pdu : StatusPdu) → am_at octets ≡ Ok (Control pdu)
+    → Extends w a [] [] → Extends w a [] (Passes (Comes octets) ∷ [])
 silently w a octets pdu read x = record {
   events = x.events;
   steps = x.steps;
@@ -184,11 +202,14 @@ silently w a octets pdu read x = record {
   meets = x.meets;
   stays = x.stays;
   ups_are = x.ups_are;
-  tells = λ b k. subst (λ (c : Account). Agrees c (run_pdcp x.events (pdcp w)) (with_passings (passed x.steps (rlc w)) (told_of w))) (sym (silent octets pdu b read)) (x.tells b k);
+  tells =
+      λ b k. subst (λ (c : Account). Agrees c (run_pdcp x.events (pdcp w))
+      (with_passings (passed x.steps (rlc w)) (told_of w))) (sym (silent octets pdu b read)) (x.tells b k);
 }
 
 -- a STATUS that it wrote
-status_goes : (bits : ℕ) (out inn : Way) (e o : BearerEnd) (k : ℕ) (x : Option Sent) → slice_get o.reports k ≡ x → JoinedEnds bits out inn e o
+status_goes : (bits : ℕ) (out inn : Way) (e o : BearerEnd) (k : ℕ) (x : Option Sent) → slice_get o.reports k ≡ x
+    → JoinedEnds bits out inn e o
     → EndsGoOn bits out inn (status_comes e x) o [] (ups_by e.bearer (call_of x)) [] (heard_by (call_of x))
 status_goes bits out inn e o k None at h = none_comes bits out inn e o h
 status_goes bits out inn e o k (Some s) at h =
@@ -206,7 +227,9 @@ status_goes bits out inn e o k (Some s) at h =
     (silently inn (standing o e) s.octets pdu read (rests inn (standing o e) (meets_as inn o e h.inn_joins))) in
     as_called bits out inn e o s.octets (Ok (Control pdu)) read h
     (then_goes bits out inn d (with_bearer d (does_all rest d.bearer)) o [] (go_up rest d.bearer) first
-    (λ v w n. deeds_go bits rest (all_confirm bits places last (all_settle bits (heard_status b.tx pdu) (confirms_places places b.pdcp))) v w d o n))
+    (λ v w n. deeds_go bits rest
+    (all_confirm bits places last (all_settle bits (heard_status b.tx pdu) (confirms_places places b.pdcp))) v w d
+    o n))
 
 -- ---- a deed by which something comes
 

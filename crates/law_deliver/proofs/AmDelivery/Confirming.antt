@@ -1,5 +1,6 @@
 -- RLC's sender: a STATUS comes to it, it hands over what is confirmed, and it settles.
-use Rattle.std.proofs.Common.{◌≡◌, ℕ, Bool, false, List, [], ◌∷◌, ◌++◌, map, length, Option, Some, Result, Ok, slice_get, append-nil, refl, ap, sym, subst, ◌∙◌}
+use Rattle.std.proofs.Common.{◌≡◌, ℕ, Bool, false, List, [], ◌∷◌, ◌++◌, map, length, Option, Some, Result, Ok}
+use Rattle.std.proofs.Common.{slice_get, append-nil, refl, ap, sym, subst, ◌∙◌}
 use Rattle.pdcp_tx.specs.declared.sender.Next.{Next}
 use Rattle.pdcp_tx.specs.Runs.{Confirm as ConfirmPlace, after}
 use Rattle.pdcp_tx.specs.State.{State as Sending, confirmed}
@@ -9,7 +10,8 @@ use Rattle.rlc_pdu.specs.Reading.{am_at}
 use Rattle.rlc_am_tx.specs.Machine.{State as Sender}
 use Rattle.law_rlc.specs.AmSender.Run.{Status, Settle, Confirm, World as SenderWorld, after as sender_after}
 use Rattle.law_rlc.specs.AmSender.Octets.{Octets}
-use Rattle.law_rlc.specs.AmPair.Flow.{Report, Flow as Rlc, Step as RlcStep, Sends, StatusComes, sender, status_read, status_comes, happens as rlc_happens}
+use Rattle.law_rlc.specs.AmPair.Flow.{Report, Flow as Rlc, Step as RlcStep, Sends, StatusComes, sender, status_read}
+use Rattle.law_rlc.specs.AmPair.Flow.{status_comes, happens as rlc_happens}
 use Rattle.law_rlc.specs.AmPair.Given.{IsGiven}
 use Rattle.law_rlc.specs.AmPair.Sdus.{offered}
 use Rattle.law_rlc.specs.AmPair.Arrives.{brings}
@@ -37,7 +39,8 @@ record IsQuiet (f : Rlc) (step : RlcStep) : Type 0 where
   takes_none : takes_up step ≡ false
   offers_none : offers step ≡ []
 
-quietly : (w : Way) (step : RlcStep) (a : Standing) (tx : Sender) → IsWay w → IsQuiet (rlc w) step → Stands tx a.rx a.copies a.reports a.busy (rlc_happens (rlc w) step)
+quietly : (w : Way) (step : RlcStep) (a : Standing) (tx : Sender) → IsWay w → IsQuiet (rlc w) step
+    → Stands tx a.rx a.copies a.reports a.busy (rlc_happens (rlc w) step)
     → MeetsNow w a → Meets (rlc_happens (rlc w) step) (pdcp w) (record a { tx = tx })
 quietly w step a tx h q stands m =
     let f : Rlc = rlc w in
@@ -46,13 +49,17 @@ quietly w step a tx h q stands m =
       stands = stands;
       sender_is = m.sender_is;
       receiver_is = m.receiver_is;
-      stream_is = m.stream_is ∙ sym (step-offers f step ∙ ap (λ (l : List (List ℕ)). offered f ++ l) q.offers_none ∙ append-nil (offered f));
-      passed_is = m.passed_is ∙ ap (λ (l : List (List ℕ)). length l) (sym ((goes-up f).stays step q.given q.takes_none));
+      stream_is = m.stream_is
+          ∙ sym (step-offers f step ∙ ap (λ (l : List (List ℕ)). offered f ++ l) q.offers_none
+          ∙ append-nil (offered f));
+      passed_is = m.passed_is
+          ∙ ap (λ (l : List (List ℕ)). length l) (sym ((goes-up f).stays step q.given q.takes_none));
       whole_is = λ k. m.whole_is k ∙ sym (arrivals-same f step k ok q.given q.brings_none);
     }
 
 -- PDCP does nothing
-of_rlc : (w : Way) (step : RlcStep) (a : Standing) (tx : Sender) → IsWay w → IsQuiet (rlc w) step → Stands tx a.rx a.copies a.reports a.busy (rlc_happens (rlc w) step)
+of_rlc : (w : Way) (step : RlcStep) (a : Standing) (tx : Sender) → IsWay w → IsQuiet (rlc w) step
+    → Stands tx a.rx a.copies a.reports a.busy (rlc_happens (rlc w) step)
     → MeetsNow w a → Extends w (record a { tx = tx }) [] (passing (passed (step ∷ []) (rlc w)))
 of_rlc w step a tx h q stands m = record {
   events = [];
@@ -67,36 +74,44 @@ of_rlc w step a tx h q stands m = record {
 
 -- ---- it settles
 
-pub settles : (w : Way) (more : Bool) (a : Standing) → IsWay w → MeetsNow w a → Extends w (record a { tx = sender_after a.tx (Settle more) }) [] []
+pub settles : (w : Way) (more : Bool) (a : Standing) → IsWay w → MeetsNow w a
+    → Extends w (record a { tx = sender_after a.tx (Settle more) }) [] []
 settles w more a h m =
     let f : Rlc = rlc w in
     let tx : Sender = sender_after a.tx (Settle more) in
-    of_rlc w (Sends (Settle more)) a tx h (record { given = tt; brings_none = refl; takes_none = refl; offers_none = refl })
-    (subst (λ (b : Bool). Stands tx a.rx a.copies a.reports b (rlc_happens f (Sends (Settle more)))) (sym (or_none a.busy))
+    of_rlc w (Sends (Settle more)) a tx h
+    (record { given = tt; brings_none = refl; takes_none = refl; offers_none = refl })
+    (subst (λ (b : Bool). Stands tx a.rx a.copies a.reports b (rlc_happens f (Sends (Settle more))))
+    (sym (or_none a.busy))
     (sent_one f (Settle more) a.tx a.rx a.copies a.reports a.busy m.stands)) m
 
 -- ---- a STATUS that stands at a place comes
 
-status_is : (f : Rlc) (k : ℕ) (x : Report) (pdu : StatusPdu) → slice_get f.reports k ≡ Some x → am_at x.octets ≡ Ok (Control pdu)
+status_is : (f : Rlc) (k : ℕ) (x : Report) (pdu : StatusPdu) → slice_get f.reports k ≡ Some x
+    → am_at x.octets ≡ Ok (Control pdu)
     → rlc_happens f (StatusComes k) ≡ status_read f (Ok (Control pdu))
-status_is f k x pdu at read = ap (λ (o : Option Report). status_comes f o) at ∙ ap (λ (o : Result AcknowledgedPdu RlcRefusal). status_read f o) read
+status_is f k x pdu at read = ap (λ (o : Option Report). status_comes f o) at
+    ∙ ap (λ (o : Result AcknowledgedPdu RlcRefusal). status_read f o) read
 
 status_stands : (f : Rlc) (pdu : StatusPdu) (a : Standing) → Stands a.tx a.rx a.copies a.reports a.busy f
     → Stands (sender_after a.tx (Status pdu)) a.rx a.copies a.reports a.busy (status_read f (Ok (Control pdu)))
 status_stands f pdu a h = record {
-  sender_is = ap (λ (w : SenderWorld Octets). w.state) (sender-more f (Status pdu)) ∙ ap (λ (x : Sender). sender_after x (Status pdu)) h.sender_is;
+  sender_is = ap (λ (w : SenderWorld Octets). w.state) (sender-more f (Status pdu))
+      ∙ ap (λ (x : Sender). sender_after x (Status pdu)) h.sender_is;
   receiver_is = h.receiver_is;
   copies_are = h.copies_are;
   reports_are = h.reports_are;
   busy_is = h.busy_is;
 }
 
-pub status_arrives : (w : Way) (k : ℕ) (x : Report) (pdu : StatusPdu) (a : Standing) → IsWay w → slice_get (rlc w).reports k ≡ Some x → am_at x.octets ≡ Ok (Control pdu)
+pub status_arrives : (w : Way) (k : ℕ) (x : Report) (pdu : StatusPdu) (a : Standing) → IsWay w
+    → slice_get (rlc w).reports k ≡ Some x → am_at x.octets ≡ Ok (Control pdu)
     → MeetsNow w a → Extends w (record a { tx = sender_after a.tx (Status pdu) }) [] []
 status_arrives w k x pdu a h at read m =
     let tx : Sender = sender_after a.tx (Status pdu) in
     of_rlc w (StatusComes k) a tx h (record { given = tt; brings_none = refl; takes_none = refl; offers_none = refl })
-    (subst (λ (f : Rlc). Stands tx a.rx a.copies a.reports a.busy f) (sym (status_is (rlc w) k x pdu at read)) (status_stands (rlc w) pdu a m.stands)) m
+    (subst (λ (f : Rlc). Stands tx a.rx a.copies a.reports a.busy f) (sym (status_is (rlc w) k x pdu at read))
+    (status_stands (rlc w) pdu a m.stands)) m
 
 -- ---- the first place that is newly confirmed
 
@@ -104,7 +119,8 @@ owed_stays : (s : Sending) (place : ℕ) → (after s (ConfirmPlace place)).owed
 unfolding confirmed
 owed_stays s place = refl
 
-pub confirms : (w : Way) (place : ℕ) (places : List ℕ) (a : Standing) → IsWay w → a.tx.accounts.news ≡ place ∷ places → MeetsNow w a
+pub confirms : (w : Way) (place : ℕ) (places : List ℕ) (a : Standing) → IsWay w → a.tx.accounts.news ≡ place ∷ places
+    → MeetsNow w a
     → Extends w (record a { tx = sender_after a.tx Confirm; sending = after a.sending (ConfirmPlace place) }) [] []
 confirms w place places a h q m =
     let f : Rlc = rlc w in
@@ -114,12 +130,16 @@ confirms w place places a h q m =
     let first : slice_get (sender f).state.accounts.news 0 ≡ Some place =
     ap (λ (x : Sender). slice_get x.accounts.news 0) m.stands.sender_is ∙ ap (λ (l : List ℕ). slice_get l 0) q in
     let stands : Stands tx a.rx a.copies a.reports a.busy (rlc_happens f step) =
-    subst (λ (b : Bool). Stands tx a.rx a.copies a.reports b (rlc_happens f step)) (sym (or_none a.busy)) (sent_one f Confirm a.tx a.rx a.copies a.reports a.busy m.stands) in
-    let n : Meets (rlc_happens f step) g (record a { tx = tx }) = quietly w step a tx h (record { given = tt; brings_none = refl; takes_none = refl; offers_none = refl }) stands m in
+    subst (λ (b : Bool). Stands tx a.rx a.copies a.reports b (rlc_happens f step)) (sym (or_none a.busy))
+    (sent_one f Confirm a.tx a.rx a.copies a.reports a.busy m.stands) in
+    let n : Meets (rlc_happens f step) g (record a { tx = tx }) =
+    quietly w step a tx h (record { given = tt; brings_none = refl; takes_none = refl; offers_none = refl })
+    stands m in
     record {
       events = PdcpSends (ConfirmPlace place) ∷ [];
       steps = step ∷ [];
-      events_given = (m.whole_is place ∙ (confirms-arrived f 0 place (sound w.sending w.receiving w.steps h.steps) first).0, tt);
+      events_given =
+          (m.whole_is place ∙ (confirms-arrived f 0 place (sound w.sending w.receiving w.steps h.steps) first).0, tt);
       steps_given = (tt, tt);
       meets = record {
         stands = n.stands;
@@ -129,7 +149,13 @@ confirms w place places a h q m =
         passed_is = n.passed_is;
         whole_is = n.whole_is;
       };
-      stays = record { sdus = append-nil g.sdus; stream = append-nil g.stream; report = refl; owed = owed_stays g.sender place };
+      stays = record {
+        sdus = append-nil g.sdus;
+        stream = append-nil g.stream;
+        report = refl;
+        owed = owed_stays g.sender place;
+      };
       ups_are = sym (append-nil g.up);
-      tells = tells_passing [] g (run_pdcp (PdcpSends (ConfirmPlace place) ∷ []) g) (told_of w) (append-nil g.stream) refl (λ count. refl);
+      tells = tells_passing [] g (run_pdcp (PdcpSends (ConfirmPlace place) ∷ []) g) (told_of w) (append-nil g.stream)
+          refl (λ count. refl);
     }

@@ -65,9 +65,11 @@ pub record Tells (report : Option (List ℕ)) (g : Pdcp) : Type 0 where
 pub tells : (w back : Way) → Reports w back → Tells (pdcp w).report (pdcp back)
 tells w back h = record { owed = h.owed; sent = h.sent }
 
-pub reports_so : (w v u : Way) (g : Pdcp) → (pdcp v).report ≡ (pdcp w).report → pdcp u ≡ g → Tells (pdcp w).report g → Reports v u
+pub reports_so : (w v u : Way) (g : Pdcp) → (pdcp v).report ≡ (pdcp w).report → pdcp u ≡ g → Tells (pdcp w).report g
+    → Reports v u
 reports_so w v u g same is t =
-    let here : Tells (pdcp v).report (pdcp u) = subst (λ (r : Option (List ℕ)). Tells r (pdcp u)) (sym same) (subst (Tells (pdcp w).report) (sym is) t) in
+    let here : Tells (pdcp v).report (pdcp u) =
+    subst (λ (r : Option (List ℕ)). Tells r (pdcp u)) (sym same) (subst (Tells (pdcp w).report) (sym is) t) in
     record { owed = here.owed; sent = here.sent }
 
 -- ---- an end goes on
@@ -77,7 +79,8 @@ pub record IsBetween (bits : ℕ) (e : BearerEnd) : Type 0 where
   pub of_data : IsOfData bits e.bearer
   pub idle : IsIdle e.bearer
 
-pub out_goes_on : (bits : ℕ) (out inn : Way) (e o d : BearerEnd) (xs : List Event) (ss : List RlcStep) (news : List (List ℕ)) (said : List Happening)
+pub out_goes_on : (bits : ℕ) (out inn : Way) (e o d : BearerEnd) (xs : List Event) (ss : List RlcStep)
+    (news : List (List ℕ)) (said : List Happening)
     → JoinedEnds bits out inn e o → Moves out xs ss d o news [] said → HearsAlike e d → IsBetween bits d
     → (run_pdcp xs (pdcp out)).report ≡ (pdcp out).report → Tells (pdcp inn).report (run_pdcp xs (pdcp out))
     → EndsGoOn bits out inn d o news [] said []
@@ -108,7 +111,8 @@ out_goes_on bits out inn e o d xs ss news said h moves alike between report told
 
 -- by a step of RLC alone
 pub inn_goes_on : (bits : ℕ) (out inn : Way) (e o d : BearerEnd) (ss : List RlcStep)
-    → JoinedEnds bits out inn e o → Moves inn [] ss o d [] [] [] → SendsAlike e d → IsBetween bits d → EndsGoOn bits out inn d o [] [] [] []
+    → JoinedEnds bits out inn e o → Moves inn [] ss o d [] [] [] → SendsAlike e d → IsBetween bits d
+    → EndsGoOn bits out inn d o [] [] [] []
 inn_goes_on bits out inn e o d ss h moves alike between =
     let v = with_more [] ss inn in
     let m : HasMoved inn v [] o d [] [] [] = moves_on inn [] ss o d [] [] [] h.inn_is moves in
@@ -123,7 +127,9 @@ inn_goes_on bits out inn e o d ss h moves alike between =
         out_joins = sends_so out e d o alike h.out_joins;
         inn_joins = m.joins;
         out_reports = reports_so out out v (pdcp inn) refl m.pdcp_is (tells out inn h.out_reports);
-        inn_reports = reports_so inn v out (pdcp out) (ap (λ (g : Pdcp). g.report) m.pdcp_is) refl (tells inn out h.inn_reports);
+        inn_reports =
+            reports_so inn v out (pdcp out) (ap (λ (g : Pdcp). g.report) m.pdcp_is) refl
+            (tells inn out h.inn_reports);
         of_data = between.of_data;
         other_of_data = h.other_of_data;
         idle = between.idle;
@@ -135,11 +141,15 @@ inn_goes_on bits out inn e o d ss h moves alike between =
 
 -- ---- one behind the other
 
-pub stays_joined : (bits : ℕ) (out inn : Way) (e o : BearerEnd) → JoinedEnds bits out inn e o → EndsGoOn bits out inn e o [] [] [] []
-stays_joined bits out inn e o h = record { out_after = out; inn_after = inn; joined = h; out_goes = stays_so out; inn_goes = stays_so inn }
+pub stays_joined : (bits : ℕ) (out inn : Way) (e o : BearerEnd) → JoinedEnds bits out inn e o
+    → EndsGoOn bits out inn e o [] [] [] []
+stays_joined bits out inn e o h =
+    record { out_after = out; inn_after = inn; joined = h; out_goes = stays_so out; inn_goes = stays_so inn }
 
-pub ends_then : {a b x y : List Happening} (bits : ℕ) (out inn : Way) (e o d p : BearerEnd) (news more ups later : List (List ℕ)) (m : EndsGoOn bits out inn e o news ups a x)
-    → EndsGoOn bits m.out_after m.inn_after d p more later b y → EndsGoOn bits out inn d p (news ++ more) (ups ++ later) (a ++ b) (x ++ y)
+pub ends_then : {a b x y : List Happening} (bits : ℕ) (out inn : Way) (e o d p : BearerEnd)
+    (news more ups later : List (List ℕ)) (m : EndsGoOn bits out inn e o news ups a x)
+    → EndsGoOn bits m.out_after m.inn_after d p more later b y
+    → EndsGoOn bits out inn d p (news ++ more) (ups ++ later) (a ++ b) (x ++ y)
 ends_then bits out inn e o d p news more ups later m n = record {
   out_after = n.out_after;
   inn_after = n.inn_after;

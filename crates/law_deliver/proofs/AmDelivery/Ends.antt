@@ -21,8 +21,10 @@ pub record JoinedEnds (bits : ℕ) (out inn : Way) (e o : BearerEnd) : Type 0 wh
   pub idle : IsIdle e.bearer
   pub other_idle : IsIdle o.bearer
 
--- both ends as an end has acted: it took these SDUs for the first time, and these went up there; so much is told of what it sent and heard
-pub record EndsGoOn (bits : ℕ) (out inn : Way) (e o : BearerEnd) (news ups : List (List ℕ)) (said heard : List Happening) : Type 0 where
+-- both ends as an end has acted: it took these SDUs for the first time, and these went up there; so much is told of
+-- what it sent and heard
+pub record EndsGoOn (bits : ℕ) (out inn : Way) (e o : BearerEnd) (news ups : List (List ℕ))
+    (said heard : List Happening) : Type 0 where
   pub out_after : Way
   pub inn_after : Way
   pub joined : JoinedEnds bits out_after inn_after e o

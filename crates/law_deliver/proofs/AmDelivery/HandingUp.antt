@@ -1,5 +1,6 @@
 -- RLC hands up an SDU: PDCP receives it, and all that is ready behind it goes up.
-use Rattle.std.proofs.Common.{◌≡◌, ℕ, ◌+◌, true, List, [], ◌∷◌, ◌++◌, map, length, take, drop, Option, Some, slice_get, append-nil, append_assoc, length-append, refl, ap, sym, ◌∙◌, arith}
+use Rattle.std.proofs.Common.{◌≡◌, ℕ, ◌+◌, true, List, [], ◌∷◌, ◌++◌, map, length, take, drop, Option, Some, slice_get}
+use Rattle.std.proofs.Common.{append-nil, append_assoc, length-append, refl, ap, sym, ◌∙◌, arith}
 use Rattle.pdcp_tx.specs.declared.sender.Next.{Next}
 use Rattle.pdcp_rx.specs.declared.got.Cause.TheVariants.{Arrived}
 use Rattle.pdcp_rx.specs.State.{State as Receiving, arrived}
@@ -13,7 +14,8 @@ use Rattle.law_rlc.proofs.AmPair.Laws.{sound}
 use Rattle.law_rlc.proofs.AmPair.ByPlace.{has-ready}
 use Rattle.law_rlc.proofs.AmPair.Later.{arrivals-same}
 use Rattle.law_rlc.proofs.AmPair.Steps.{goes-up}
-use Rattle.law_pdcp.specs.AmPair.Flow.{Flow as Pdcp, Event, HandUp, Raise, passes, with_count, happens as pdcp_happens, run as run_pdcp, AreGiven as AreGivenEvents}
+use Rattle.law_pdcp.specs.AmPair.Flow.{Flow as Pdcp, Event, HandUp, Raise, passes, with_count, happens as pdcp_happens}
+use Rattle.law_pdcp.specs.AmPair.Flow.{run as run_pdcp, AreGiven as AreGivenEvents}
 use Rattle.law_bearer.specs.AmBearer.Deeds.{all_raised}
 use Rattle.law_deliver.proofs.AmFlow.Standing.{at_place}
 use Rattle.law_deliver.proofs.AmFlow.Hearing.{receives_one}
@@ -52,7 +54,8 @@ pub record IsNext (w : Way) (sdu : List ℕ) : Type 0 where
   pub octets : pdu.octets ≡ sdu
   pub whole : (pdcp w).whole (pdcp w).passed ≡ true
 
-pub next_is : (w : Way) (a : Standing) (sdu : List ℕ) (sdus : List (List ℕ)) → IsWay w → a.rx.out.ready ≡ sdu ∷ sdus → MeetsNow w a → IsNext w sdu
+pub next_is : (w : Way) (a : Standing) (sdu : List ℕ) (sdus : List (List ℕ)) → IsWay w → a.rx.out.ready ≡ sdu ∷ sdus
+    → MeetsNow w a → IsNext w sdu
 next_is w a sdu sdus h q m =
     let f : Rlc = rlc w in
     let g : Pdcp = pdcp w in
@@ -62,9 +65,15 @@ next_is w a sdu sdus h q m =
     let first : slice_get (ready f) 0 ≡ Some sdu = ap (λ (l : List (List ℕ)). slice_get l 0) held in
     let here : IsWholeAt f (n + 0) sdu = has.places 0 sdu first in
     let place : n + 0 ≡ g.passed = nothing_more n ∙ sym m.passed_is in
-    let given = ap (λ (l : List (List ℕ)). slice_get l g.passed) m.stream_is ∙ ap (λ (k : ℕ). slice_get (offered f) k) (sym place) ∙ here.is in
+    let given = ap (λ (l : List (List ℕ)). slice_get l g.passed) m.stream_is
+    ∙ ap (λ (k : ℕ). slice_get (offered f) k) (sym place) ∙ here.is in
     let stands = at_place (λ (x : Next). x.octets) g.stream g.passed sdu given in
-    record { pdu = stands.0; at = stands.1; octets = stands.2; whole = m.whole_is g.passed ∙ ap (arrives f) (sym place) ∙ here.arrived }
+    record {
+      pdu = stands.0;
+      at = stands.1;
+      octets = stands.2;
+      whole = m.whole_is g.passed ∙ ap (arrives f) (sym place) ∙ here.arrived;
+    }
   where
     nothing_more : (n : ℕ) → n + 0 ≡ n
     nothing_more n = omega arith
@@ -74,15 +83,19 @@ next_is w a sdu sdus h q m =
 abbrev passed_by : Receiving → Next → Pdcp → Pdcp
 passed_by r pdu g = record g { receiver = r; passed = g.passed + 1; handed = with_count pdu.count g.handed }
 
-hands_up : (g : Pdcp) (pdu : Next) (r : Receiving) → slice_get g.stream g.passed ≡ Some pdu → arrived g.receiver pdu.octets Arrived ≡ r
+hands_up : (g : Pdcp) (pdu : Next) (r : Receiving) → slice_get g.stream g.passed ≡ Some pdu
+    → arrived g.receiver pdu.octets Arrived ≡ r
     → run_pdcp (HandUp ∷ raises r.ready) g ≡ raised r.ready (passed_by r pdu g)
 hands_up g pdu r at q =
     ap (λ (o : Option Next). run_pdcp (raises r.ready) (passes o g)) at
     ∙ ap (λ (x : Receiving). run_pdcp (raises r.ready) (passed_by x pdu g)) q
     ∙ all_raise r.ready (passed_by r pdu g) refl
 
-pub goes_up_one : (w : Way) (a : Standing) (sdu : List ℕ) (sdus : List (List ℕ)) → IsWay w → a.rx.out.ready ≡ sdu ∷ sdus → IsNext w sdu
-    → MeetsNow w a → Extends w (record a { rx = state_after a.rx Up; receiving = all_raised (arrived a.receiving sdu Arrived) }) (arrived a.receiving sdu Arrived).ready []
+pub goes_up_one : (w : Way) (a : Standing) (sdu : List ℕ) (sdus : List (List ℕ)) → IsWay w
+    → a.rx.out.ready ≡ sdu ∷ sdus → IsNext w sdu
+    → MeetsNow w a
+    → Extends w (record a { rx = state_after a.rx Up; receiving = all_raised (arrived a.receiving sdu Arrived) })
+    (arrived a.receiving sdu Arrived).ready []
 goes_up_one w a sdu sdus h q next m =
     let f : Rlc = rlc w in
     let g : Pdcp = pdcp w in
@@ -90,10 +103,14 @@ goes_up_one w a sdu sdus h q next m =
     let v : Receiving = arrived a.receiving sdu Arrived in
     let ok : IsSound f = sound w.sending w.receiving w.steps h.steps in
     let got_so : arrived g.receiver next.pdu.octets Arrived ≡ v =
-    ap (λ (x : Receiving). arrived x next.pdu.octets Arrived) m.receiver_is ∙ ap (λ (l : List ℕ). arrived a.receiving l Arrived) next.octets in
-    let same : run_pdcp (HandUp ∷ raises v.ready) g ≡ raised v.ready (passed_by v next.pdu g) = hands_up g next.pdu v next.at got_so in
-    let held : ready f ≡ sdu ∷ sdus = (has-ready f ok).held ∙ ap (λ (x : Receiver). x.out.ready) m.stands.receiver_is ∙ q in
-    let gone : handed_up (rlc_happens f step) ≡ handed_up f ++ sdu ∷ [] = (goes-up f).gone ∙ ap (λ (l : List (List ℕ)). handed_up f ++ take 1 l) held in
+    ap (λ (x : Receiving). arrived x next.pdu.octets Arrived) m.receiver_is
+    ∙ ap (λ (l : List ℕ). arrived a.receiving l Arrived) next.octets in
+    let same : run_pdcp (HandUp ∷ raises v.ready) g ≡ raised v.ready (passed_by v next.pdu g) =
+    hands_up g next.pdu v next.at got_so in
+    let held : ready f ≡ sdu ∷ sdus = (has-ready f ok).held ∙ ap (λ (x : Receiver). x.out.ready) m.stands.receiver_is
+    ∙ q in
+    let gone : handed_up (rlc_happens f step) ≡ handed_up f ++ sdu ∷ [] =
+    (goes-up f).gone ∙ ap (λ (l : List (List ℕ)). handed_up f ++ take 1 l) held in
     record {
       events = HandUp ∷ raises v.ready;
       steps = step ∷ [];
@@ -115,6 +132,7 @@ goes_up_one w a sdu sdus h q next m =
         owed = ap (λ (x : Pdcp). x.sender.owed) same;
       };
       ups_are = ap (λ (x : Pdcp). x.up) same;
-      tells = tells_handed g (run_pdcp (HandUp ∷ raises v.ready) g) next.pdu (told_of w) next.at (ap (λ (x : Pdcp). x.stream) same) (ap (λ (x : Pdcp). x.passed) same)
+      tells = tells_handed g (run_pdcp (HandUp ∷ raises v.ready) g) next.pdu (told_of w) next.at
+          (ap (λ (x : Pdcp). x.stream) same) (ap (λ (x : Pdcp). x.passed) same)
           (λ count. ap (λ (x : Pdcp). x.handed count) same);
     }

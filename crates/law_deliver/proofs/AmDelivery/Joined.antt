@@ -12,7 +12,8 @@ use Rattle.law_rlc.specs.AmPair.Flow.{Flow as Rlc, Step as RlcStep, goes as rlc_
 use Rattle.law_rlc.specs.AmPair.Given.{AreGiven as AreGivenSteps}
 use Rattle.law_rlc.specs.AmPair.Sdus.{offered, handed_up}
 use Rattle.law_rlc.specs.AmPair.Arrives.{arrives}
-use Rattle.law_pdcp.specs.AmPair.Flow.{Flow as Pdcp, Event, run as run_pdcp, outset as pdcp_outset, AreGiven as AreGivenEvents}
+use Rattle.law_pdcp.specs.AmPair.Flow.{Flow as Pdcp, Event, run as run_pdcp, outset as pdcp_outset}
+use Rattle.law_pdcp.specs.AmPair.Flow.{AreGiven as AreGivenEvents}
 use Rattle.law_deliver.specs.AmFlow.Flows.{IsFlow}
 use Rattle.law_deliver.specs.AmFlow.Pair.{BearerEnd, Pair}
 

@@ -12,7 +12,8 @@ use Rattle.law_deliver.proofs.AmDelivery.Stepping.{steps_go_on}
 use Rattle.law_deliver.proofs.AmDelivery.Submitted.{delivers_submitted}
 
 all_steps : StepsGoOn
-all_steps = steps_go_on (λ k bits out inn e o h. comes_go_on bits out inn e o (DataComes k) tt h) (λ k bits out inn e o h. comes_go_on bits out inn e o (StatusComes k) tt h)
+all_steps = steps_go_on (λ k bits out inn e o h. comes_go_on bits out inn e o (DataComes k) tt h)
+    (λ k bits out inn e o h. comes_go_on bits out inn e o (StatusComes k) tt h)
 
 pub bearers_are_pdcp_flows : BearersArePdcpFlows
 bearers_are_pdcp_flows = are_pdcp_flows all_steps

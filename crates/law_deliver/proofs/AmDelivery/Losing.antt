@@ -1,7 +1,8 @@
 -- What is under way is let go, and a TTI ends.
 use Rattle.std.proofs.Common.{◌≡◌, ℕ, List, [], ◌∷◌, map, refl, ap, sym, subst, ◌∙◌}
 use Rattle.std.specs.List.{AllByRecursion}
-use Rattle.law_rlc.specs.AmPair.Flow.{DataGoes as LetsDataGo, StatusGoes as LetsStatusGo, Passes as TtiPasses, except, happens as rlc_happens}
+use Rattle.law_rlc.specs.AmPair.Flow.{DataGoes as LetsDataGo, StatusGoes as LetsStatusGo, Passes as TtiPasses, except}
+use Rattle.law_rlc.specs.AmPair.Flow.{happens as rlc_happens}
 use Rattle.law_bearer.specs.AmBearer.Calls.{IsOfData, IsIdle}
 use Rattle.law_pdcp.specs.AmPair.Flow.{Flow as Pdcp}
 use Rattle.law_deliver.specs.AmFlow.Pair.{Sent, BearerEnd, Pair, Passes, older, passed, IsYoung, IsGiven}
@@ -17,10 +18,13 @@ use Rattle.law_deliver.proofs.AmDelivery.Doing.{tells, reports_so, IsBetween, ou
 
 -- ---- an end lets go of something
 
-between : (bits : ℕ) (out inn : Way) (e o d : BearerEnd) → JoinedEnds bits out inn e o → d.bearer ≡ e.bearer → IsBetween bits d
-between bits out inn e o d h q = record { of_data = subst (IsOfData bits) (sym q) h.of_data; idle = subst IsIdle (sym q) h.idle }
+between : (bits : ℕ) (out inn : Way) (e o d : BearerEnd) → JoinedEnds bits out inn e o → d.bearer ≡ e.bearer
+    → IsBetween bits d
+between bits out inn e o d h q =
+    record { of_data = subst (IsOfData bits) (sym q) h.of_data; idle = subst IsIdle (sym q) h.idle }
 
-pub data_goes : (bits : ℕ) (out inn : Way) (e o : BearerEnd) (k : ℕ) → JoinedEnds bits out inn e o → EndsGoOn bits out inn (record e { copies = except k e.copies }) o [] [] [] []
+pub data_goes : (bits : ℕ) (out inn : Way) (e o : BearerEnd) (k : ℕ) → JoinedEnds bits out inn e o
+    → EndsGoOn bits out inn (record e { copies = except k e.copies }) o [] [] [] []
 data_goes bits out inn e o k h =
     let d : BearerEnd = record e { copies = except k e.copies } in
     let f = h.out_joins.rlc_is in
@@ -32,8 +36,10 @@ data_goes bits out inn e o k h =
       busy_is = f.busy_is;
     } in
     out_goes_on bits out inn e o d [] (LetsDataGo k ∷ []) [] [] h
-    (rlc_moves out (LetsDataGo k) e o d o h.out_is h.out_joins tt (record { stays = refl; none = refl }) refl flow refl refl)
-    (record { rx = refl; reports = refl; pdcp = refl }) (between bits out inn e o d h refl) refl (tells inn out h.inn_reports)
+    (rlc_moves out (LetsDataGo k) e o d o h.out_is h.out_joins tt (record { stays = refl; none = refl }) refl flow
+    refl refl)
+    (record { rx = refl; reports = refl; pdcp = refl }) (between bits out inn e o d h refl) refl
+    (tells inn out h.inn_reports)
 
 pub status_goes : (bits : ℕ) (out inn : Way) (e o : BearerEnd) (k : ℕ) → JoinedEnds bits out inn e o
     → EndsGoOn bits out inn (record e { reports = except k e.reports }) o [] [] [] []
@@ -48,12 +54,14 @@ status_goes bits out inn e o k h =
       busy_is = f.busy_is;
     } in
     inn_goes_on bits out inn e o d (LetsStatusGo k ∷ []) h
-    (rlc_moves inn (LetsStatusGo k) o e o d h.inn_is h.inn_joins tt (record { stays = refl; none = refl }) refl flow refl refl)
+    (rlc_moves inn (LetsStatusGo k) o e o d h.inn_is h.inn_joins tt (record { stays = refl; none = refl }) refl flow
+    refl refl)
     (record { tx = refl; copies = refl; busy = refl; pdcp = refl }) (between bits out inn e o d h refl)
 
 -- ---- a TTI ends, at both ends
 
-passes_move : (w : Way) (e o : BearerEnd) → IsWay w → Joins w e o → AllByRecursion IsYoung o.reports → Moves w [] (TtiPasses ∷ []) (passed e) (passed o) [] [] []
+passes_move : (w : Way) (e o : BearerEnd) → IsWay w → Joins w e o → AllByRecursion IsYoung o.reports
+    → Moves w [] (TtiPasses ∷ []) (passed e) (passed o) [] [] []
 passes_move w e o h joins young =
     let f = joins.rlc_is in
     let flow : IsFlow (passed e) (passed o) (rlc_happens (rlc w) TtiPasses) = record {
@@ -64,16 +72,20 @@ passes_move w e o h joins young =
       busy_is = refl;
     } in
     rlc_moves w TtiPasses e o (passed e) (passed o) h joins
-    (are_young (rlc w).reports (subst (λ (l : List Sent). AllByRecursion IsYoung l) (sym f.reports_are) young)) (record { stays = refl; none = refl }) refl flow refl refl
+    (are_young (rlc w).reports (subst (λ (l : List Sent). AllByRecursion IsYoung l) (sym f.reports_are) young))
+    (record { stays = refl; none = refl }) refl flow refl refl
 
-pub passes_go_on : (bits : ℕ) (down up : Way) (p : Pair) → JoinedPair bits down up p → IsGiven p Passes → BothGoOn bits down up p (InLife Passes)
+pub passes_go_on : (bits : ℕ) (down up : Way) (p : Pair) → JoinedPair bits down up p → IsGiven p Passes
+    → BothGoOn bits down up p (InLife Passes)
 passes_go_on bits down up p h g =
     let v = with_more [] (TtiPasses ∷ []) down in
     let u = with_more [] (TtiPasses ∷ []) up in
     let m : HasMoved down v [] (passed p.near) (passed p.far) [] [] [] =
-    moves_on down [] (TtiPasses ∷ []) (passed p.near) (passed p.far) [] [] [] h.down_is (passes_move down p.near p.far h.down_is h.down_joins g.1) in
+    moves_on down [] (TtiPasses ∷ []) (passed p.near) (passed p.far) [] [] [] h.down_is
+    (passes_move down p.near p.far h.down_is h.down_joins g.1) in
     let n : HasMoved up u [] (passed p.far) (passed p.near) [] [] [] =
-    moves_on up [] (TtiPasses ∷ []) (passed p.far) (passed p.near) [] [] [] h.up_is (passes_move up p.far p.near h.up_is h.up_joins g.0) in
+    moves_on up [] (TtiPasses ∷ []) (passed p.far) (passed p.near) [] [] [] h.up_is
+    (passes_move up p.far p.near h.up_is h.up_joins g.0) in
     record {
       down_after = v;
       up_after = u;
@@ -84,8 +96,11 @@ passes_go_on bits down up p h g =
         up_bits = h.up_bits;
         down_joins = m.joins;
         up_joins = n.joins;
-        down_reports = reports_so down v u (pdcp up) (ap (λ (x : Pdcp). x.report) m.pdcp_is) n.pdcp_is (tells down up h.down_reports);
-        up_reports = reports_so up u v (pdcp down) (ap (λ (x : Pdcp). x.report) n.pdcp_is) m.pdcp_is (tells up down h.up_reports);
+        down_reports =
+            reports_so down v u (pdcp up) (ap (λ (x : Pdcp). x.report) m.pdcp_is) n.pdcp_is
+            (tells down up h.down_reports);
+        up_reports = reports_so up u v (pdcp down) (ap (λ (x : Pdcp). x.report) n.pdcp_is) m.pdcp_is
+            (tells up down h.up_reports);
         near_data = h.near_data;
         far_data = h.far_data;
         near_idle = h.near_idle;

@@ -1,5 +1,6 @@
 -- What the flows of a way stand at, and how a way goes on where PDCP takes no new SDU and gives nothing to RLC.
-use Rattle.std.proofs.Common.{◌≡◌, ℕ, Bool, List, [], ◌++◌, map, length, append-nil, append_assoc, refl, ap, sym, subst, ◌∙◌}
+use Rattle.std.proofs.Common.{◌≡◌, ℕ, Bool, List, [], ◌++◌, map, length, append-nil, append_assoc, refl, ap, sym, subst}
+use Rattle.std.proofs.Common.{◌∙◌}
 use Rattle.std.specs.List.{AllByRecursion}
 use Rattle.pdcp_tx.specs.declared.sender.Next.{Next}
 use Rattle.pdcp_tx.specs.State.{State as Sending}
@@ -95,7 +96,8 @@ pub record Extends (w : Way) (a : Standing) (ups : List (List ℕ)) (told : List
   pub meets : Meets (rlc_goes steps (rlc w)) (run_pdcp events (pdcp w)) a
   pub stays : Stays (pdcp w) (run_pdcp events (pdcp w))
   pub ups_are : (run_pdcp events (pdcp w)).up ≡ (pdcp w).up ++ ups
-  pub tells : TellsOn told (pdcp w) (told_of w) (run_pdcp events (pdcp w)) (with_passings (passed steps (rlc w)) (told_of w))
+  pub tells : TellsOn told (pdcp w) (told_of w) (run_pdcp events (pdcp w))
+      (with_passings (passed steps (rlc w)) (told_of w))
 
 -- nothing happens
 pub rests : (w : Way) (a : Standing) → MeetsNow w a → Extends w a [] []
@@ -119,7 +121,8 @@ pub record Extended (w : Way) (from to : BearerEnd) (ups : List (List ℕ)) (tol
   pub stays : Stays (pdcp w) (pdcp after)
   pub goes : GoesOn w after [] ups told
 
-pub extended : (w : Way) (from to : BearerEnd) (ups : List (List ℕ)) (told : List Happening) → IsWay w → Extends w (standing from to) ups told → Extended w from to ups told
+pub extended : (w : Way) (from to : BearerEnd) (ups : List (List ℕ)) (told : List Happening) → IsWay w
+    → Extends w (standing from to) ups told → Extended w from to ups told
 extended w from to ups told h x =
     let v : Way = with_more x.events x.steps w in
     let more = goes_on x.events x.steps w h x.events_given x.steps_given in
@@ -129,7 +132,10 @@ extended w from to ups told h x =
       after = v;
       is = more.is;
       bits = refl;
-      joins = joins_as v from to (subst (λ (f : Rlc). Meets f (pdcp v) a) (sym more.rlc_is) (subst (λ (q : Pdcp). Meets (rlc_goes x.steps (rlc w)) q a) (sym more.pdcp_is) x.meets));
+      joins =
+          joins_as v from to
+          (subst (λ (f : Rlc). Meets f (pdcp v) a) (sym more.rlc_is)
+          (subst (λ (q : Pdcp). Meets (rlc_goes x.steps (rlc w)) q a) (sym more.pdcp_is) x.meets));
       stays = stays;
       goes = record {
         bits = refl;
@@ -137,11 +143,14 @@ extended w from to ups told h x =
         first = refl;
         sdus_are = stays.sdus ∙ sym (append-nil (pdcp w).sdus);
         ups_are = ap (λ (q : Pdcp). q.up) more.pdcp_is ∙ x.ups_are;
-        tells = λ b k. agrees_at (account told b) (run_pdcp x.events (pdcp w)) (pdcp v) (with_passings (passed x.steps (rlc w)) (told_of w)) (told_of v) more.pdcp_is (told_more w x.steps) (x.tells b k);
+        tells = λ b k. agrees_at (account told b) (run_pdcp x.events (pdcp w)) (pdcp v)
+            (with_passings (passed x.steps (rlc w)) (told_of w)) (told_of v) more.pdcp_is (told_more w x.steps)
+            (x.tells b k);
       };
     }
 
-pub reports_stay : (w back v under : Way) → Stays (pdcp w) (pdcp v) → Stays (pdcp back) (pdcp under) → Reports w back → Reports v under
+pub reports_stay : (w back v under : Way) → Stays (pdcp w) (pdcp v) → Stays (pdcp back) (pdcp under) → Reports w back
+    → Reports v under
 reports_stay w back v under s b h = record {
   owed = λ r e. s.report ∙ h.owed r (sym b.owed ∙ e);
   sent = subst (λ (l : List Next). AllByRecursion (IsReportOf (pdcp v).report) l) (sym b.stream)
@@ -150,7 +159,8 @@ reports_stay w back v under s b h = record {
 
 -- ---- one after the other
 
-pub goes_then : {xs ys : List Happening} (u v w : Way) (news more ups last : List (List ℕ)) → GoesOn u v news ups xs → GoesOn v w more last ys
+pub goes_then : {xs ys : List Happening} (u v w : Way) (news more ups last : List (List ℕ)) → GoesOn u v news ups xs
+    → GoesOn v w more last ys
     → GoesOn u w (news ++ more) (ups ++ last) (xs ++ ys)
 goes_then {xs} {ys} u v w news more ups last h k = record {
   bits = k.bits ∙ h.bits;
@@ -162,4 +172,11 @@ goes_then {xs} {ys} u v w news more ups last h k = record {
 }
 
 pub goes_not : (w : Way) → GoesOn w w [] [] []
-goes_not w = record { bits = refl; protection = refl; first = refl; sdus_are = sym (append-nil (pdcp w).sdus); ups_are = sym (append-nil (pdcp w).up); tells = λ b k. k }
+goes_not w = record {
+  bits = refl;
+  protection = refl;
+  first = refl;
+  sdus_are = sym (append-nil (pdcp w).sdus);
+  ups_are = sym (append-nil (pdcp w).up);
+  tells = λ b k. k;
+}

@@ -43,7 +43,8 @@ joins_so w from to h = record {
 
 -- ---- it goes on by events and steps
 
-pub record Moves (w : Way) (xs : List Event) (ss : List RlcStep) (from to : BearerEnd) (news ups : List (List ℕ)) (told : List Happening) : Type 0 where
+pub record Moves (w : Way) (xs : List Event) (ss : List RlcStep) (from to : BearerEnd) (news ups : List (List ℕ))
+    (told : List Happening) : Type 0 where
   pub events : AreGivenEvents (pdcp w) xs
   pub steps : AreGivenSteps (rlc w) ss
   pub meets : Meets (run_pdcp xs (pdcp w)) (rlc_goes ss (rlc w)) from to
@@ -51,20 +52,23 @@ pub record Moves (w : Way) (xs : List Event) (ss : List RlcStep) (from to : Bear
   pub ups_are : (run_pdcp xs (pdcp w)).up ≡ (pdcp w).up ++ ups
   pub tells : TellsOn told (pdcp w) (told_of w) (run_pdcp xs (pdcp w)) (with_passings (passed ss (rlc w)) (told_of w))
 
-pub record HasMoved (w v : Way) (xs : List Event) (from to : BearerEnd) (news ups : List (List ℕ)) (told : List Happening) : Type 0 where
+pub record HasMoved (w v : Way) (xs : List Event) (from to : BearerEnd) (news ups : List (List ℕ))
+    (told : List Happening) : Type 0 where
   pub is : IsWay v
   pub pdcp_is : pdcp v ≡ run_pdcp xs (pdcp w)
   pub joins : Joins v from to
   pub goes : GoesOn w v news ups told
 
-pub moves_on : (w : Way) (xs : List Event) (ss : List RlcStep) (from to : BearerEnd) (news ups : List (List ℕ)) (told : List Happening) → IsWay w
+pub moves_on : (w : Way) (xs : List Event) (ss : List RlcStep) (from to : BearerEnd) (news ups : List (List ℕ))
+    (told : List Happening) → IsWay w
     → Moves w xs ss from to news ups told
     → HasMoved w (with_more xs ss w) xs from to news ups told
 moves_on w xs ss from to news ups told h m =
     let v = with_more xs ss w in
     let more : IsMore xs ss w = goes_on xs ss w h m.events m.steps in
     let meets : Meets (pdcp v) (rlc v) from to =
-    subst (λ (g : Pdcp). Meets g (rlc v) from to) (sym more.pdcp_is) (subst (λ (f : Rlc). Meets (run_pdcp xs (pdcp w)) f from to) (sym more.rlc_is) m.meets) in
+    subst (λ (g : Pdcp). Meets g (rlc v) from to) (sym more.pdcp_is)
+    (subst (λ (f : Rlc). Meets (run_pdcp xs (pdcp w)) f from to) (sym more.rlc_is) m.meets) in
     record {
       is = more.is;
       pdcp_is = more.pdcp_is;
@@ -75,16 +79,25 @@ moves_on w xs ss from to news ups told h m =
         first = refl;
         sdus_are = ap (λ (g : Pdcp). g.sdus) more.pdcp_is ∙ m.sdus_are;
         ups_are = ap (λ (g : Pdcp). g.up) more.pdcp_is ∙ m.ups_are;
-        tells = λ a k. agrees_at (account told a) (run_pdcp xs (pdcp w)) (pdcp v) (with_passings (passed ss (rlc w)) (told_of w)) (told_of v) more.pdcp_is (told_more w ss) (m.tells a k);
+        tells = λ a k. agrees_at (account told a) (run_pdcp xs (pdcp w)) (pdcp v)
+            (with_passings (passed ss (rlc w)) (told_of w)) (told_of v) more.pdcp_is (told_more w ss) (m.tells a k);
       };
     }
 
 -- ---- one behind the other
 
 pub stays_so : (w : Way) → GoesOn w w [] [] []
-stays_so w = record { bits = refl; protection = refl; first = refl; sdus_are = sym (append-nil (pdcp w).sdus); ups_are = sym (append-nil (pdcp w).up); tells = λ a k. k }
+stays_so w = record {
+  bits = refl;
+  protection = refl;
+  first = refl;
+  sdus_are = sym (append-nil (pdcp w).sdus);
+  ups_are = sym (append-nil (pdcp w).up);
+  tells = λ a k. k;
+}
 
-pub goes_then : {xs ys : List Happening} (w v u : Way) (news more ups later : List (List ℕ)) → GoesOn w v news ups xs → GoesOn v u more later ys
+pub goes_then : {xs ys : List Happening} (w v u : Way) (news more ups later : List (List ℕ)) → GoesOn w v news ups xs
+    → GoesOn v u more later ys
     → GoesOn w u (news ++ more) (ups ++ later) (xs ++ ys)
 goes_then {xs} {ys} w v u news more ups later h k = record {
   bits = k.bits ∙ h.bits;
@@ -113,7 +126,8 @@ rests w s h given calm = record {
   arrived = λ k. only-data-arrives w.sending w.receiving w.steps h.steps s k given calm.none;
 }
 
-pub rlc_moves : (w : Way) (s : RlcStep) (from to d p : BearerEnd) → IsWay w → Joins w from to → IsGivenStep (rlc w) s → IsCalm s → offers s ≡ []
+pub rlc_moves : (w : Way) (s : RlcStep) (from to d p : BearerEnd) → IsWay w → Joins w from to → IsGivenStep (rlc w) s
+    → IsCalm s → offers s ≡ []
     → IsFlow d p (rlc_happens (rlc w) s) → d.bearer.pdcp.tx ≡ from.bearer.pdcp.tx → p.bearer.pdcp.rx ≡ to.bearer.pdcp.rx
     → Moves w [] (s ∷ []) d p [] [] (passing (passed (s ∷ []) (rlc w)))
 rlc_moves w s from to d p h joins given calm none flow tx rx =
@@ -125,7 +139,8 @@ rlc_moves w s from to d p h joins given calm none flow tx rx =
         rlc_is = flow;
         sender_is = joins.sender_is ∙ sym tx;
         receiver_is = joins.receiver_is ∙ sym rx;
-        stream_is = joins.stream_is ∙ sym (append-nil (offered (rlc w))) ∙ ap (λ l. offered (rlc w) ++ l) (sym none) ∙ sym (step-offers (rlc w) s);
+        stream_is = joins.stream_is ∙ sym (append-nil (offered (rlc w))) ∙ ap (λ l. offered (rlc w) ++ l) (sym none)
+            ∙ sym (step-offers (rlc w) s);
         passed_is = joins.passed_is ∙ ap length (sym r.handed);
         whole_is = λ k. joins.whole_is k ∙ sym (r.arrived k);
       };

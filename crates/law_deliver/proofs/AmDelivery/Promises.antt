@@ -2,7 +2,8 @@
 use Rattle.std.specs.Prelude.{◌≡◌, ℕ, List, ◌++◌}
 use Rattle.eps_sec.specs.declared.Keys.{Keys}
 use Rattle.law_deliver.specs.AmFlow.Pair.{Pair, Step, IsGiven}
-use Rattle.law_deliver.specs.AmDelivery.Lives.{LifeStep, InLife, Restarts, lives_on, MayHappen, far_ups_in, near_ups_in, near_news_in, far_news_in}
+use Rattle.law_deliver.specs.AmDelivery.Lives.{LifeStep, InLife, Restarts, lives_on, MayHappen, far_ups_in, near_ups_in}
+use Rattle.law_deliver.specs.AmDelivery.Lives.{near_news_in, far_news_in}
 use Rattle.law_words.specs.Arrivals.{Happening}
 use Rattle.law_deliver.specs.AmDelivery.Arrival.{down_in, up_in}
 use Rattle.law_deliver.proofs.AmDelivery.Joined.{Way, JoinedPair, pdcp}
@@ -25,7 +26,9 @@ pub record BothGoOn (bits : ℕ) (down up : Way) (p : Pair) (x : LifeStep) : Typ
   pub up_goes : GoesOn up up_after (far_news_in p x) (near_ups_in p x) (up_in p x)
 
 abbrev pub StepsGoOn : Type 0
-StepsGoOn = (bits : ℕ) (down up : Way) (p : Pair) (s : Step) → JoinedPair bits down up p → IsGiven p s → MayHappen p s → BothGoOn bits down up p (InLife s)
+StepsGoOn = (bits : ℕ) (down up : Way) (p : Pair) (s : Step) → JoinedPair bits down up p → IsGiven p s → MayHappen p s
+    → BothGoOn bits down up p (InLife s)
 
 abbrev pub RestartsGoOn : Type 0
-RestartsGoOn = (bits : ℕ) (down up : Way) (p : Pair) (keys : Keys) → JoinedPair bits down up p → BothGoOn bits down up p (Restarts keys)
+RestartsGoOn = (bits : ℕ) (down up : Way) (p : Pair) (keys : Keys) → JoinedPair bits down up p
+    → BothGoOn bits down up p (Restarts keys)

@@ -1,5 +1,6 @@
 -- Each end is what its bearer comes to by its own calls and lives.
-use Rattle.std.proofs.Common.{◌≡◌, ℕ, List, [], ◌∷◌, ◌++◌, map, Option, Some, None, slice_get, subst, refl, ap, sym, ◌∙◌}
+use Rattle.std.proofs.Common.{◌≡◌, ℕ, List, [], ◌∷◌, ◌++◌, map, Option, Some, None, slice_get, subst, refl, ap, sym}
+use Rattle.std.proofs.Common.{◌∙◌}
 use Rattle.bearer.specs.declared.flow.Flow.{Flow}
 use Rattle.bearer.specs.declared.flow.Flow.TheVariants.{Am}
 use Rattle.bearer.specs.Acknowledged.State.{State}
@@ -17,9 +18,12 @@ use Rattle.law_bearer.proofs.AmBearer.Calls.{calls_are_deeds}
 use Rattle.law_bearer.proofs.AmBearer.Lives.{restarts_are_deeds, first_life_begins}
 use Rattle.law_rlc.specs.AmPair.Flow.{Copy}
 use Rattle.law_deliver.proofs.AmFlow.Sending.{is_called}
-use Rattle.law_deliver.specs.AmFlow.Pair.{Sent, BearerEnd, Pair, Deed, Calls as Asks, DataComes, StatusComes, DataGoes, StatusGoes, Step, Near, Far, Passes, called, data_comes, status_comes, does, happens, outset}
+use Rattle.law_deliver.specs.AmFlow.Pair.{Sent, BearerEnd, Pair, Deed, Calls as Asks, DataComes, StatusComes, DataGoes}
+use Rattle.law_deliver.specs.AmFlow.Pair.{StatusGoes, Step, Near, Far, Passes, called, data_comes, status_comes, does}
+use Rattle.law_deliver.specs.AmFlow.Pair.{happens, outset}
 use Rattle.law_deliver.specs.AmDelivery.Ends.{near_steps_in, far_steps_in, EndsAreReached}
-use Rattle.law_deliver.specs.AmDelivery.Lives.{LifeStep, InLife, Restarts, lives_on, lives, call_by, call_of, calls_in, near_calls, far_calls, over}
+use Rattle.law_deliver.specs.AmDelivery.Lives.{LifeStep, InLife, Restarts, lives_on, lives, call_by, call_of, calls_in}
+use Rattle.law_deliver.specs.AmDelivery.Lives.{near_calls, far_calls, over}
 
 -- ---- a step is at most a call of an end's bearer
 
@@ -117,13 +121,15 @@ pub record Runs (bits : ℕ) (e : End) (p : Pair) (x : LifeStep) : Type 0 where
 
 pub runs_on : (bits : ℕ) (e : End) (p : Pair) (x : LifeStep) → Stands bits (e.at p) → Runs bits e p x
 runs_on bits e p (InLife s) h = record {
-  runs = ap (λ (l : List BearerStep). run_bearer l (Am (e.at p))) (e.in_life p s) ∙ turn_runs (e.at p) (e.at (happens p s)) (e.calls p s) (e.turns p s);
+  runs = ap (λ (l : List BearerStep). run_bearer l (Am (e.at p))) (e.in_life p s)
+      ∙ turn_runs (e.at p) (e.at (happens p s)) (e.calls p s) (e.turns p s);
   stands = turn_stands bits (e.at p) (e.at (happens p s)) (e.calls p s) (e.turns p s) h;
 }
 runs_on bits e p (Restarts keys) h =
     let a = restarts_are_deeds bits (e.at p) keys h.of_data h.idle in
     record {
-      runs = ap (λ (l : List BearerStep). run_bearer l (Am (e.at p))) (e.between p keys) ∙ a.left ∙ ap (λ (b : State). Am b) (sym (e.renewed p keys));
+      runs = ap (λ (l : List BearerStep). run_bearer l (Am (e.at p))) (e.between p keys) ∙ a.left
+          ∙ ap (λ (b : State). Am b) (sym (e.renewed p keys));
       stands = subst (Stands bits) (sym (e.renewed p keys)) (record { of_data = a.stays; idle = a.idle });
     }
 
@@ -133,20 +139,26 @@ run_then : (f : Flow) (xs ys : List BearerStep) → run_bearer (xs ++ ys) f ≡ 
 run_then f [] ys = refl
 run_then f (x ∷ xs) ys = run_then (goes f x) xs ys
 
-lives_run : (bits : ℕ) (e : End) (xs : List LifeStep) (p : Pair) → Stands bits (e.at p) → run_bearer (over e.steps xs p) (Am (e.at p)) ≡ Am (e.at (lives xs p))
+lives_run : (bits : ℕ) (e : End) (xs : List LifeStep) (p : Pair) → Stands bits (e.at p)
+    → run_bearer (over e.steps xs p) (Am (e.at p)) ≡ Am (e.at (lives xs p))
 lives_run bits e [] p h = refl
 lives_run bits e (x ∷ xs) p h =
     let r = runs_on bits e p x h in
     let q = lives_on p x in
-    run_then (Am (e.at p)) (e.steps p x) (over e.steps xs q) ∙ ap (run_bearer (over e.steps xs q)) r.runs ∙ lives_run bits e xs q r.stands
+    run_then (Am (e.at p)) (e.steps p x) (over e.steps xs q) ∙ ap (run_bearer (over e.steps xs q)) r.runs
+    ∙ lives_run bits e xs q r.stands
 
-pub begins_so : (c : BearerConfig) (keys : Keys) (side : Side) (b : State) → c.kind ≡ kinds.Am → flow_of c.kind c keys side ≡ Am b → Stands c.pdcp_bits b
-begins_so c keys side b kind is = let first = first_life_begins c keys side b kind is in record { of_data = first.stays; idle = first.idle }
+pub begins_so : (c : BearerConfig) (keys : Keys) (side : Side) (b : State) → c.kind ≡ kinds.Am
+    → flow_of c.kind c keys side ≡ Am b → Stands c.pdcp_bits b
+begins_so c keys side b kind is = let first = first_life_begins c keys side b kind is in
+    record { of_data = first.stays; idle = first.idle }
 
 pub ends_are_reached : EndsAreReached
 ends_are_reached c keys nb ue steps h =
     let p = outset nb ue in
     record {
-      nb_is = ap (run_bearer (over near_steps_in steps p)) h.nb_is ∙ lives_run c.pdcp_bits near_end steps p (begins_so c keys Nb nb h.kind h.nb_is);
-      ue_is = ap (run_bearer (over far_steps_in steps p)) h.ue_is ∙ lives_run c.pdcp_bits far_end steps p (begins_so c keys Ue ue h.kind h.ue_is);
+      nb_is = ap (run_bearer (over near_steps_in steps p)) h.nb_is
+          ∙ lives_run c.pdcp_bits near_end steps p (begins_so c keys Nb nb h.kind h.nb_is);
+      ue_is = ap (run_bearer (over far_steps_in steps p)) h.ue_is
+          ∙ lives_run c.pdcp_bits far_end steps p (begins_so c keys Ue ue h.kind h.ue_is);
     }

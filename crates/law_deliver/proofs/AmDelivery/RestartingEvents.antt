@@ -1,6 +1,7 @@
--- One direction of PDCP as a life ends and the next one begins: what RLC can put together comes, all that is ready goes up, and the sender owes
--- a report.
-use Rattle.std.proofs.Common.{◌≡◌, ℕ, ◌+◌, Bool, true, false, List, [], ◌∷◌, ◌++◌, map, drop, append-nil, subst, refl, ap, sym, ◌∙◌}
+-- One direction of PDCP as a life ends and the next one begins: what RLC can put together comes, all that is ready goes
+-- up, and the sender owes a report.
+use Rattle.std.proofs.Common.{◌≡◌, ℕ, ◌+◌, Bool, true, false, List, [], ◌∷◌, ◌++◌, map, drop, append-nil, subst, refl}
+use Rattle.std.proofs.Common.{ap, sym, ◌∙◌}
 use Rattle.std.specs.Prelude.{if◌then◌else◌}
 use Rattle.std.proofs.lemmas.List.{drop-map}
 use Rattle.eps_sec.specs.declared.Keys.{Keys}
@@ -27,7 +28,8 @@ octets_of pdus = map octets pdus
 one_closes : (whole arrives : ℕ → Bool) (pdu : Next) (pdus : List Next) (k : ℕ) (r : Receiving) (b : Bool)
     → ((s : Receiving) → closing whole (k + 1) pdus s ≡ closes (whole_from arrives (k + 1) (octets_of pdus)) s)
     → closing whole (k + 1) pdus (if b then arrived r pdu.octets Reestablished else r)
-    ≡ closes (if b then pdu.octets ∷ whole_from arrives (k + 1) (octets_of pdus) else whole_from arrives (k + 1) (octets_of pdus)) r
+    ≡ closes (if b then pdu.octets ∷ whole_from arrives (k + 1) (octets_of pdus)
+    else whole_from arrives (k + 1) (octets_of pdus)) r
 one_closes whole arrives pdu pdus k r true rest = rest (arrived r pdu.octets Reestablished)
 one_closes whole arrives pdu pdus k r false rest = rest r
 
@@ -39,11 +41,13 @@ closing_is whole arrives same (pdu ∷ pdus) k r =
     ∙ one_closes whole arrives pdu pdus k r (arrives k) (closing_is whole arrives same pdus (k + 1))
 
 -- those that RLC hasn't handed up, of all that it was given
-pub ended_is : (f : Flow) (arrives : ℕ → Bool) (sdus : List (List ℕ)) → ((k : ℕ) → f.whole k ≡ arrives k) → octets_of f.stream ≡ sdus
+pub ended_is : (f : Flow) (arrives : ℕ → Bool) (sdus : List (List ℕ)) → ((k : ℕ) → f.whole k ≡ arrives k)
+    → octets_of f.stream ≡ sdus
     → (ended f).receiver ≡ closes (whole_from arrives f.passed (drop f.passed sdus)) f.receiver
 ended_is f arrives sdus same q =
     closing_is f.whole arrives same (drop f.passed f.stream) f.passed f.receiver
-    ∙ ap (λ (l : List (List ℕ)). closes (whole_from arrives f.passed l) f.receiver) (sym (drop-map octets f.passed f.stream) ∙ ap (drop f.passed) q)
+    ∙ ap (λ (l : List (List ℕ)). closes (whole_from arrives f.passed l) f.receiver)
+    (sym (drop-map octets f.passed f.stream) ∙ ap (drop f.passed) q)
 
 -- ---- the life ends, all that is ready goes up, and the sender of the next one owes a report
 
@@ -64,18 +68,22 @@ stays_ready : (r : Receiving) (keys : Keys) → (restarted_receiving r keys).rea
 unfolding restarted_receiving
 stays_ready r keys = refl
 
-begun_rises : (f : Flow) (keys : Keys) → run (raises (ended f).receiver.ready) (begun (ended f) keys) ≡ raised (ended f).receiver.ready (begun (ended f) keys)
+begun_rises : (f : Flow) (keys : Keys) → run (raises (ended f).receiver.ready) (begun (ended f) keys)
+    ≡ raised (ended f).receiver.ready (begun (ended f) keys)
 begun_rises f keys = all_raise (ended f).receiver.ready (begun (ended f) keys) (stays_ready (ended f).receiver keys)
 
-pub restarts_as : (f : Flow) (keys : Keys) (report : List ℕ) → run (restarting f keys report) f ≡ next_life f keys report
+pub restarts_as : (f : Flow) (keys : Keys) (report : List ℕ)
+    → run (restarting f keys report) f ≡ next_life f keys report
 restarts_as f keys report =
     run_more (begun (ended f) keys) (raises (ended f).receiver.ready) (owes report)
     ∙ ap (λ (g : Flow). run (owes report) g) (begun_rises f keys)
     ∙ ap (λ (l : List (List ℕ)). record (next_life f keys report) { sdus = l }) (append-nil f.sdus)
 
-pub restarting_given : (f : Flow) (keys : Keys) (report : List ℕ) → IsReport (restarted_sending f.sender keys).kind report → AreGiven f (restarting f keys report)
+pub restarting_given : (f : Flow) (keys : Keys) (report : List ℕ)
+    → IsReport (restarted_sending f.sender keys).kind report → AreGiven f (restarting f keys report)
 restarting_given f keys report is =
     let rises = raises (ended f).receiver.ready in
     let g = begun (ended f) keys in
-    let rest : AreGiven (run rises g) (owes report) = subst (λ (x : Flow). AreGiven x (owes report)) (sym (begun_rises f keys)) (is, tt) in
+    let rest : AreGiven (run rises g) (owes report) =
+    subst (λ (x : Flow). AreGiven x (owes report)) (sym (begun_rises f keys)) (is, tt) in
     (tt, given_events_more g rises (owes report) (raises_given (ended f).receiver.ready g) rest)

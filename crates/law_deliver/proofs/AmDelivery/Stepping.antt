@@ -3,7 +3,8 @@ use Rattle.std.proofs.Common.{◌≡◌, ℕ, List, [], Option, Some, None, slic
 use Rattle.law_words.specs.Arrivals.{Happening}
 use Rattle.law_rlc.specs.AmPair.Flow.{Copy}
 use Rattle.bearer.specs.Acknowledged.State.{State}
-use Rattle.law_deliver.specs.AmFlow.Pair.{Sent, BearerEnd, Pair, Deed, Calls, DataComes, StatusComes, DataGoes, StatusGoes, Near, Far, Passes, does, happens, IsDone}
+use Rattle.law_deliver.specs.AmFlow.Pair.{Sent, BearerEnd, Pair, Deed, Calls, DataComes, StatusComes, DataGoes}
+use Rattle.law_deliver.specs.AmFlow.Pair.{StatusGoes, Near, Far, Passes, does, happens, IsDone}
 use Rattle.law_deliver.specs.AmDelivery.Arrival.{said_by, heard_by}
 use Rattle.law_deliver.specs.AmDelivery.Lives.{InLife, MayBeDone, call_by, call_of, calls_in, news_by, ups_by}
 use Rattle.law_deliver.proofs.AmDelivery.Joined.{Way}
@@ -13,12 +14,15 @@ use Rattle.law_deliver.proofs.AmDelivery.Calling.{calls_go_on}
 use Rattle.law_deliver.proofs.AmDelivery.Losing.{data_goes, status_goes, passes_go_on}
 
 abbrev DeedGoesOn : Deed → Type 0
-DeedGoesOn d = (bits : ℕ) (out inn : Way) (e o : BearerEnd) → JoinedEnds bits out inn e o → IsDone e d → MayBeDone e.bearer d
-    → EndsGoOn bits out inn (does o e d) o (news_by e.bearer (calls_in o d)) (ups_by e.bearer (calls_in o d)) (said_by e.bearer (calls_in o d)) (heard_by (calls_in o d))
+DeedGoesOn d = (bits : ℕ) (out inn : Way) (e o : BearerEnd) → JoinedEnds bits out inn e o → IsDone e d
+    → MayBeDone e.bearer d
+    → EndsGoOn bits out inn (does o e d) o (news_by e.bearer (calls_in o d)) (ups_by e.bearer (calls_in o d))
+    (said_by e.bearer (calls_in o d)) (heard_by (calls_in o d))
 
 -- nothing is taken as something comes
 abbrev pub ComesSo : Deed → Type 0
-ComesSo d = (bits : ℕ) (out inn : Way) (e o : BearerEnd) → JoinedEnds bits out inn e o → EndsGoOn bits out inn (does o e d) o [] (ups_by e.bearer (calls_in o d)) [] (heard_by (calls_in o d))
+ComesSo d = (bits : ℕ) (out inn : Way) (e o : BearerEnd) → JoinedEnds bits out inn e o
+    → EndsGoOn bits out inn (does o e d) o [] (ups_by e.bearer (calls_in o d)) [] (heard_by (calls_in o d))
 
 data_news : (b : State) (x : Option Copy) → [] ≡ news_by b (call_by x)
 data_news b None = refl
@@ -39,7 +43,8 @@ status_said b (Some s) = refl
 -- ---- a deed at an end is a step
 
 near_goes_on : (bits : ℕ) (down up : Way) (p : Pair) (d : Deed)
-    → EndsGoOn bits down up (does p.far p.near d) p.far (news_by p.near.bearer (calls_in p.far d)) (ups_by p.near.bearer (calls_in p.far d)) (said_by p.near.bearer (calls_in p.far d)) (heard_by (calls_in p.far d))
+    → EndsGoOn bits down up (does p.far p.near d) p.far (news_by p.near.bearer (calls_in p.far d))
+    (ups_by p.near.bearer (calls_in p.far d)) (said_by p.near.bearer (calls_in p.far d)) (heard_by (calls_in p.far d))
     → BothGoOn bits down up p (InLife (Near d))
 near_goes_on bits down up p d m = record {
   down_after = m.out_after;
@@ -50,7 +55,9 @@ near_goes_on bits down up p d m = record {
 }
 
 far_goes_on : (bits : ℕ) (down up : Way) (p : Pair) (d : Deed)
-    → EndsGoOn bits up down (does p.near p.far d) p.near (news_by p.far.bearer (calls_in p.near d)) (ups_by p.far.bearer (calls_in p.near d)) (said_by p.far.bearer (calls_in p.near d)) (heard_by (calls_in p.near d))
+    → EndsGoOn bits up down (does p.near p.far d) p.near (news_by p.far.bearer (calls_in p.near d))
+    (ups_by p.far.bearer (calls_in p.near d)) (said_by p.far.bearer (calls_in p.near d))
+    (heard_by (calls_in p.near d))
     → BothGoOn bits down up p (InLife (Far d))
 far_goes_on bits down up p d m = record {
   down_after = m.inn_after;
@@ -66,16 +73,25 @@ deeds_go_on : ((k : ℕ) → ComesSo (DataComes k)) → ((k : ℕ) → ComesSo (
 deeds_go_on data_so status_so (Calls c) bits out inn e o h g ok = calls_go_on bits out inn e o c h g ok
 deeds_go_on data_so status_so (DataComes k) bits out inn e o h g ok =
     let d : Deed = DataComes k in
-    subst (λ (said : List Happening). EndsGoOn bits out inn (does o e d) o (news_by e.bearer (calls_in o d)) (ups_by e.bearer (calls_in o d)) said (heard_by (calls_in o d))) (data_said e.bearer (slice_get o.copies k))
-    (subst (λ (l : List (List ℕ)). EndsGoOn bits out inn (does o e d) o l (ups_by e.bearer (calls_in o d)) [] (heard_by (calls_in o d))) (data_news e.bearer (slice_get o.copies k)) (data_so k bits out inn e o h))
+    subst (λ (said : List Happening). EndsGoOn bits out inn (does o e d) o (news_by e.bearer (calls_in o d))
+    (ups_by e.bearer (calls_in o d)) said (heard_by (calls_in o d))) (data_said e.bearer (slice_get o.copies k))
+    (subst (λ (l : List (List ℕ)). EndsGoOn bits out inn (does o e d) o l (ups_by e.bearer (calls_in o d)) []
+    (heard_by (calls_in o d))) (data_news e.bearer (slice_get o.copies k)) (data_so k bits out inn e o h))
 deeds_go_on data_so status_so (StatusComes k) bits out inn e o h g ok =
     let d : Deed = StatusComes k in
-    subst (λ (said : List Happening). EndsGoOn bits out inn (does o e d) o (news_by e.bearer (calls_in o d)) (ups_by e.bearer (calls_in o d)) said (heard_by (calls_in o d))) (status_said e.bearer (slice_get o.reports k))
-    (subst (λ (l : List (List ℕ)). EndsGoOn bits out inn (does o e d) o l (ups_by e.bearer (calls_in o d)) [] (heard_by (calls_in o d))) (status_news e.bearer (slice_get o.reports k)) (status_so k bits out inn e o h))
+    subst (λ (said : List Happening). EndsGoOn bits out inn (does o e d) o (news_by e.bearer (calls_in o d))
+    (ups_by e.bearer (calls_in o d)) said (heard_by (calls_in o d)))
+    (status_said e.bearer (slice_get o.reports k))
+    (subst (λ (l : List (List ℕ)). EndsGoOn bits out inn (does o e d) o l (ups_by e.bearer (calls_in o d)) []
+    (heard_by (calls_in o d))) (status_news e.bearer (slice_get o.reports k)) (status_so k bits out inn e o h))
 deeds_go_on data_so status_so (DataGoes k) bits out inn e o h g ok = data_goes bits out inn e o k h
 deeds_go_on data_so status_so (StatusGoes k) bits out inn e o h g ok = status_goes bits out inn e o k h
 
 pub steps_go_on : ((k : ℕ) → ComesSo (DataComes k)) → ((k : ℕ) → ComesSo (StatusComes k)) → StepsGoOn
-steps_go_on data_so status_so bits down up p (Near d) h g ok = near_goes_on bits down up p d (deeds_go_on data_so status_so d bits down up p.near p.far (near_ends bits down up p h) g ok)
-steps_go_on data_so status_so bits down up p (Far d) h g ok = far_goes_on bits down up p d (deeds_go_on data_so status_so d bits up down p.far p.near (far_ends bits down up p h) g ok)
+steps_go_on data_so status_so bits down up p (Near d) h g ok =
+    near_goes_on bits down up p d
+    (deeds_go_on data_so status_so d bits down up p.near p.far (near_ends bits down up p h) g ok)
+steps_go_on data_so status_so bits down up p (Far d) h g ok =
+    far_goes_on bits down up p d
+    (deeds_go_on data_so status_so d bits up down p.far p.near (far_ends bits down up p h) g ok)
 steps_go_on data_so status_so bits down up p Passes h g ok = passes_go_on bits down up p h g

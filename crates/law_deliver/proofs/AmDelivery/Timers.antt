@@ -1,20 +1,25 @@
 -- What an end does by itself: calls of PDCP's sender, and timers of RLC.
-use Rattle.std.proofs.Common.{◌≡◌, ℕ, Bool, false, ◌||◌, List, [], ◌∷◌, ◌++◌, map, Option, Some, refl, ap, sym, subst, ◌∙◌}
+use Rattle.std.proofs.Common.{◌≡◌, ℕ, Bool, false, ◌||◌, List, [], ◌∷◌, ◌++◌, map, Option, Some, refl, ap, sym, subst}
+use Rattle.std.proofs.Common.{◌∙◌}
 use Rattle.std.proofs.lemmas.List.{append-nil}
 use Rattle.std.specs.List.{AllByRecursion}
 use Rattle.pdcp_tx.specs.declared.sender.Next.{Next}
-use Rattle.pdcp_tx.specs.Runs.{Call as PdcpCall, Submit, Take as TakePdcp, Confirm as ConfirmPdcp, Report as ReportPdcp, Owe, Tick as TickPdcp, Late, after as pdcp_after}
+use Rattle.pdcp_tx.specs.Runs.{Call as PdcpCall, Submit, Take as TakePdcp, Confirm as ConfirmPdcp, Report as ReportPdcp}
+use Rattle.pdcp_tx.specs.Runs.{Owe, Tick as TickPdcp, Late, after as pdcp_after}
 use Rattle.pdcp_tx.specs.State.{State as Sending, submitted, after_late}
 use Rattle.law_rlc.specs.AmSender.Run.{Call as SenderCall, Offer, Take, Status, Tick, Expire, Settle, Confirm}
-use Rattle.law_rlc.specs.AmReceiver.Run.{Call as ReceiverCall, Arrive, Up, Write, ExpireReorder, ExpireProhibit, TickReorder, TickProhibit}
+use Rattle.law_rlc.specs.AmReceiver.Run.{Call as ReceiverCall, Arrive, Up, Write, ExpireReorder, ExpireProhibit}
+use Rattle.law_rlc.specs.AmReceiver.Run.{TickReorder, TickProhibit}
 use Rattle.law_bearer.specs.AmBearer.Deeds.{Deed, Feeds, Sends, Confirms, Receives, HandsUp, Asks, Sets, does, does_all}
 use Rattle.law_bearer.proofs.AmBearer.Ups.{IsQuiet}
 use Rattle.law_bearer.proofs.AmBearer.Keeping.{data_stays, quiet_idle}
-use Rattle.law_rlc.specs.AmPair.Flow.{Flow as Rlc, Sends as SendsOn, Receives as ReceivesOn, copies_with, is_new, given, happens as rlc_happens}
+use Rattle.law_rlc.specs.AmPair.Flow.{Flow as Rlc, Sends as SendsOn, Receives as ReceivesOn, copies_with, is_new, given}
+use Rattle.law_rlc.specs.AmPair.Flow.{happens as rlc_happens}
 use Rattle.law_rlc.specs.AmPair.Given.{IsGiven as IsGivenStep}
 use Rattle.law_rlc.specs.AmPair.Steps.{is_up, offers}
 use Rattle.law_rlc.specs.AmArrival.Arrival.{passed}
-use Rattle.law_pdcp.specs.AmPair.Flow.{Flow as Pdcp, Sends as SendsEvent, SetDiscard as SetsDiscard, CanCall, run as run_pdcp}
+use Rattle.law_pdcp.specs.AmPair.Flow.{Flow as Pdcp, Sends as SendsEvent, SetDiscard as SetsDiscard, CanCall}
+use Rattle.law_pdcp.specs.AmPair.Flow.{run as run_pdcp}
 use Rattle.law_bearer.specs.AnyBearer.Acknowledged.{IsOfSender}
 use Rattle.law_deliver.specs.AmFlow.Pair.{BearerEnd}
 use Rattle.law_deliver.specs.AmFlow.Flows.{IsFlow}
@@ -27,14 +32,16 @@ use Rattle.law_deliver.proofs.AmDelivery.Accounts.{told_of, tells_passing}
 use Rattle.law_deliver.proofs.AmDelivery.Joined.{Way, Joins, IsReportOf, rlc, pdcp}
 use Rattle.law_deliver.proofs.AmDelivery.Ends.{JoinedEnds, EndsGoOn}
 use Rattle.law_deliver.proofs.AmDelivery.Moving.{Moves, rlc_moves}
-use Rattle.law_deliver.proofs.AmDelivery.Doing.{Tells, tells, IsBetween, out_goes_on, inn_goes_on, stays_joined, ends_then}
+use Rattle.law_deliver.proofs.AmDelivery.Doing.{Tells, tells, IsBetween, out_goes_on, inn_goes_on, stays_joined}
+use Rattle.law_deliver.proofs.AmDelivery.Doing.{ends_then}
 
 -- ---- an end with another bearer
 
 abbrev pub with_bearer : List Deed → BearerEnd → BearerEnd
 with_bearer deeds e = record e { bearer = does_all deeds e.bearer }
 
-pub stays_between : (bits : ℕ) (out inn : Way) (e o : BearerEnd) (deed : Deed) → JoinedEnds bits out inn e o → IsQuiet deed → IsBetween bits (with_bearer (deed ∷ []) e)
+pub stays_between : (bits : ℕ) (out inn : Way) (e o : BearerEnd) (deed : Deed) → JoinedEnds bits out inn e o
+    → IsQuiet deed → IsBetween bits (with_bearer (deed ∷ []) e)
 stays_between bits out inn e o deed h quiet = record {
   of_data = data_stays bits (deed ∷ []) e.bearer h.of_data;
   idle = quiet_idle (deed ∷ []) e.bearer (quiet, tt) h.idle;
@@ -73,7 +80,8 @@ alike_tells report f g a t = record {
   sent = subst (λ (l : List Next). AllByRecursion (IsReportOf report) l) (sym a.stream) t.sent;
 }
 
-asks_move : (w : Way) (c : PdcpCall) (e o : BearerEnd) → Joins w e o → CanCall (pdcp w) c → IsAside c → Moves w (SendsEvent c ∷ []) [] (with_bearer (Asks c ∷ []) e) o [] [] []
+asks_move : (w : Way) (c : PdcpCall) (e o : BearerEnd) → Joins w e o → CanCall (pdcp w) c → IsAside c
+    → Moves w (SendsEvent c ∷ []) [] (with_bearer (Asks c ∷ []) e) o [] [] []
 asks_move w c e o h can a =
     let alike = aside_alike (pdcp w) c a in
     record {
@@ -95,19 +103,24 @@ asks_move w c e o h can a =
       };
       sdus_are = alike.sdus;
       ups_are = sym (append-nil (pdcp w).up);
-      tells = tells_passing [] (pdcp w) (run_pdcp (SendsEvent c ∷ []) (pdcp w)) (told_of w) alike.stream refl (λ count. refl);
+      tells = tells_passing [] (pdcp w) (run_pdcp (SendsEvent c ∷ []) (pdcp w)) (told_of w) alike.stream refl
+          (λ count. refl);
     }
 
-pub asks_go_on : (bits : ℕ) (out inn : Way) (e o : BearerEnd) (c : PdcpCall) → JoinedEnds bits out inn e o → CanCall (pdcp out) c → IsAside c
+pub asks_go_on : (bits : ℕ) (out inn : Way) (e o : BearerEnd) (c : PdcpCall) → JoinedEnds bits out inn e o
+    → CanCall (pdcp out) c → IsAside c
     → EndsGoOn bits out inn (with_bearer (Asks c ∷ []) e) o [] [] [] []
 asks_go_on bits out inn e o c h can a =
     out_goes_on bits out inn e o (with_bearer (Asks c ∷ []) e) (SendsEvent c ∷ []) [] [] []
-    h (asks_move out c e o h.out_joins can a) (record { rx = refl; reports = refl; pdcp = refl }) (stays_between bits out inn e o (Asks c) h tt)
-    refl (alike_tells (pdcp inn).report (pdcp out) (run_pdcp (SendsEvent c ∷ []) (pdcp out)) (aside_alike (pdcp out) c a) (tells inn out h.inn_reports))
+    h (asks_move out c e o h.out_joins can a) (record { rx = refl; reports = refl; pdcp = refl })
+    (stays_between bits out inn e o (Asks c) h tt)
+    refl (alike_tells (pdcp inn).report (pdcp out) (run_pdcp (SendsEvent c ∷ []) (pdcp out))
+    (aside_alike (pdcp out) c a) (tells inn out h.inn_reports))
 
 -- ---- discard timers get another length
 
-sets_move : (w : Way) (ttis : ℕ) (e o : BearerEnd) → Joins w e o → Moves w (SetsDiscard ttis ∷ []) [] (with_bearer (Sets ttis ∷ []) e) o [] [] []
+sets_move : (w : Way) (ttis : ℕ) (e o : BearerEnd) → Joins w e o
+    → Moves w (SetsDiscard ttis ∷ []) [] (with_bearer (Sets ttis ∷ []) e) o [] [] []
 sets_move w ttis e o h = record {
   events = (tt, tt);
   steps = tt;
@@ -130,11 +143,13 @@ sets_move w ttis e o h = record {
   tells = tells_passing [] (pdcp w) (run_pdcp (SetsDiscard ttis ∷ []) (pdcp w)) (told_of w) refl refl (λ count. refl);
 }
 
-pub sets_go_on : (bits : ℕ) (out inn : Way) (e o : BearerEnd) (ttis : ℕ) → JoinedEnds bits out inn e o → EndsGoOn bits out inn (with_bearer (Sets ttis ∷ []) e) o [] [] [] []
+pub sets_go_on : (bits : ℕ) (out inn : Way) (e o : BearerEnd) (ttis : ℕ) → JoinedEnds bits out inn e o
+    → EndsGoOn bits out inn (with_bearer (Sets ttis ∷ []) e) o [] [] [] []
 sets_go_on bits out inn e o ttis h =
     let t = tells inn out h.inn_reports in
     out_goes_on bits out inn e o (with_bearer (Sets ttis ∷ []) e) (SetsDiscard ttis ∷ []) [] [] []
-    h (sets_move out ttis e o h.out_joins) (record { rx = refl; reports = refl; pdcp = refl }) (stays_between bits out inn e o (Sets ttis) h tt)
+    h (sets_move out ttis e o h.out_joins) (record { rx = refl; reports = refl; pdcp = refl })
+    (stays_between bits out inn e o (Sets ttis) h tt)
     refl (record { owed = t.owed; sent = t.sent })
 
 -- ---- a call of RLC's sender
@@ -147,33 +162,47 @@ sent_by c e = record e {
   busy = e.busy || is_new (given e.bearer.tx c);
 }
 
-pub sends_flow : (e o : BearerEnd) (f : Rlc) (c : SenderCall) → IsFlow e o f → IsFlow (sent_by c e) o (rlc_happens f (SendsOn c))
-sends_flow e o f c h = is_flow (sent_by c e) o (rlc_happens f (SendsOn c)) (sent_one f c e.bearer.tx o.bearer.rx e.copies o.reports e.busy (stands_as e o f h))
+pub sends_flow : (e o : BearerEnd) (f : Rlc) (c : SenderCall) → IsFlow e o f
+    → IsFlow (sent_by c e) o (rlc_happens f (SendsOn c))
+sends_flow e o f c h =
+    is_flow (sent_by c e) o (rlc_happens f (SendsOn c))
+    (sent_one f c e.bearer.tx o.bearer.rx e.copies o.reports e.busy (stands_as e o f h))
 
-pub sends_on : (bits : ℕ) (out inn : Way) (e o : BearerEnd) (c : SenderCall) → JoinedEnds bits out inn e o → IsGivenStep (rlc out) (SendsOn c) → offers (SendsOn c) ≡ [] → IsQuiet (Sends c)
+pub sends_on : (bits : ℕ) (out inn : Way) (e o : BearerEnd) (c : SenderCall) → JoinedEnds bits out inn e o
+    → IsGivenStep (rlc out) (SendsOn c) → offers (SendsOn c) ≡ [] → IsQuiet (Sends c)
     → EndsGoOn bits out inn (sent_by c e) o [] [] (passing (passed (SendsOn c ∷ []) (rlc out))) []
 sends_on bits out inn e o c h can none quiet =
     let between = stays_between bits out inn e o (Sends c) h quiet in
     let t = tells inn out h.inn_reports in
     out_goes_on bits out inn e o (sent_by c e) [] (SendsOn c ∷ []) [] (passing (passed (SendsOn c ∷ []) (rlc out))) h
-    (rlc_moves out (SendsOn c) e o (sent_by c e) o h.out_is h.out_joins can (record { stays = refl; none = refl }) none (sends_flow e o (rlc out) c h.out_joins.rlc_is) refl refl)
+    (rlc_moves out (SendsOn c) e o (sent_by c e) o h.out_is h.out_joins can (record { stays = refl; none = refl })
+    none (sends_flow e o (rlc out) c h.out_joins.rlc_is) refl refl)
     (record { rx = refl; reports = refl; pdcp = refl }) (record { of_data = between.of_data; idle = between.idle })
     refl t
 
 -- one that gives no PDU
 by_itself : (bits : ℕ) (out inn : Way) (d o : BearerEnd) (busy : Bool)
-    → EndsGoOn bits out inn (record d { busy = busy || false }) o [] [] [] [] → EndsGoOn bits out inn (record d { busy = busy }) o [] [] [] []
-by_itself bits out inn d o busy h = subst (λ (b : Bool). EndsGoOn bits out inn (record d { busy = b }) o [] [] [] []) (sym (or_none busy)) h
+    → EndsGoOn bits out inn (record d { busy = busy || false }) o [] [] [] []
+    → EndsGoOn bits out inn (record d { busy = busy }) o [] [] [] []
+by_itself bits out inn d o busy h =
+    subst (λ (b : Bool). EndsGoOn bits out inn (record d { busy = b }) o [] [] [] []) (sym (or_none busy)) h
 
 sends_own : (bits : ℕ) (out inn : Way) (e o : BearerEnd) (c : SenderCall) → JoinedEnds bits out inn e o → IsOfSender c
     → EndsGoOn bits out inn (with_bearer (Sends c ∷ []) e) o [] [] [] []
 sends_own bits out inn e o (Offer sdu) h own = absurd own
 sends_own bits out inn e o (Take size held more) h own = absurd own
 sends_own bits out inn e o (Status status) h own = absurd own
-sends_own bits out inn e o Tick h own = by_itself bits out inn (with_bearer (Sends Tick ∷ []) e) o e.busy (sends_on bits out inn e o Tick h tt refl tt)
-sends_own bits out inn e o (Expire more) h own = by_itself bits out inn (with_bearer (Sends (Expire more) ∷ []) e) o e.busy (sends_on bits out inn e o (Expire more) h tt refl tt)
-sends_own bits out inn e o (Settle more) h own = by_itself bits out inn (with_bearer (Sends (Settle more) ∷ []) e) o e.busy (sends_on bits out inn e o (Settle more) h tt refl tt)
-sends_own bits out inn e o Confirm h own = by_itself bits out inn (with_bearer (Sends Confirm ∷ []) e) o e.busy (sends_on bits out inn e o Confirm h tt refl tt)
+sends_own bits out inn e o Tick h own =
+    by_itself bits out inn (with_bearer (Sends Tick ∷ []) e) o e.busy (sends_on bits out inn e o Tick h tt refl tt)
+sends_own bits out inn e o (Expire more) h own =
+    by_itself bits out inn (with_bearer (Sends (Expire more) ∷ []) e) o e.busy
+    (sends_on bits out inn e o (Expire more) h tt refl tt)
+sends_own bits out inn e o (Settle more) h own =
+    by_itself bits out inn (with_bearer (Sends (Settle more) ∷ []) e) o e.busy
+    (sends_on bits out inn e o (Settle more) h tt refl tt)
+sends_own bits out inn e o Confirm h own =
+    by_itself bits out inn (with_bearer (Sends Confirm ∷ []) e) o e.busy
+    (sends_on bits out inn e o Confirm h tt refl tt)
 
 -- ---- a timer of RLC's receiver
 
@@ -186,16 +215,20 @@ IsTimed ExpireProhibit = Unit {0}
 IsTimed TickReorder = Unit {0}
 IsTimed TickProhibit = Unit {0}
 
-receives_on : (bits : ℕ) (out inn : Way) (e o : BearerEnd) (c : ReceiverCall) → JoinedEnds bits out inn e o → IsGivenStep (rlc inn) (ReceivesOn c) → is_up c ≡ false → IsQuiet (Receives c)
+receives_on : (bits : ℕ) (out inn : Way) (e o : BearerEnd) (c : ReceiverCall) → JoinedEnds bits out inn e o
+    → IsGivenStep (rlc inn) (ReceivesOn c) → is_up c ≡ false → IsQuiet (Receives c)
     → EndsGoOn bits out inn (with_bearer (Receives c ∷ []) e) o [] [] [] []
 receives_on bits out inn e o c h can stays quiet =
     let d = with_bearer (Receives c ∷ []) e in
     let f = rlc inn in
     let flow : IsFlow o d (rlc_happens f (ReceivesOn c)) =
-    is_flow o d (rlc_happens f (ReceivesOn c)) (receives_one f c o.bearer.tx e.bearer.rx o.copies e.reports o.busy (stands_as o e f h.inn_joins.rlc_is)) in
+    is_flow o d (rlc_happens f (ReceivesOn c))
+    (receives_one f c o.bearer.tx e.bearer.rx o.copies e.reports o.busy (stands_as o e f h.inn_joins.rlc_is)) in
     inn_goes_on bits out inn e o d (ReceivesOn c ∷ []) h
-    (rlc_moves inn (ReceivesOn c) o e o d h.inn_is h.inn_joins can (record { stays = stays; none = refl }) refl flow refl refl)
-    (record { tx = refl; copies = refl; busy = refl; pdcp = refl }) (stays_between bits out inn e o (Receives c) h quiet)
+    (rlc_moves inn (ReceivesOn c) o e o d h.inn_is h.inn_joins can (record { stays = stays; none = refl }) refl flow
+    refl refl)
+    (record { tx = refl; copies = refl; busy = refl; pdcp = refl })
+    (stays_between bits out inn e o (Receives c) h quiet)
 
 receives_own : (bits : ℕ) (out inn : Way) (e o : BearerEnd) (c : ReceiverCall) → JoinedEnds bits out inn e o → IsTimed c
     → EndsGoOn bits out inn (with_bearer (Receives c ∷ []) e) o [] [] [] []
@@ -237,7 +270,8 @@ IsOwn HandsUp = ⊥
 IsOwn (Asks c) = IsCounting c
 IsOwn (Sets ttis) = Unit {0}
 
-own_one : (bits : ℕ) (out inn : Way) (e o : BearerEnd) (deed : Deed) → JoinedEnds bits out inn e o → IsOwn deed → EndsGoOn bits out inn (with_bearer (deed ∷ []) e) o [] [] [] []
+own_one : (bits : ℕ) (out inn : Way) (e o : BearerEnd) (deed : Deed) → JoinedEnds bits out inn e o → IsOwn deed
+    → EndsGoOn bits out inn (with_bearer (deed ∷ []) e) o [] [] [] []
 own_one bits out inn e o Feeds h own = absurd own
 own_one bits out inn e o (Sends c) h own = sends_own bits out inn e o c h own
 own_one bits out inn e o Confirms h own = absurd own
@@ -249,10 +283,12 @@ own_one bits out inn e o (Sets ttis) h own = sets_go_on bits out inn e o ttis h
 abbrev pub AreOwn : List Deed → Type 0
 AreOwn deeds = AllByRecursion IsOwn deeds
 
-pub own_all : (bits : ℕ) (out inn : Way) (e o : BearerEnd) (deeds : List Deed) → JoinedEnds bits out inn e o → AreOwn deeds
+pub own_all : (bits : ℕ) (out inn : Way) (e o : BearerEnd) (deeds : List Deed) → JoinedEnds bits out inn e o
+    → AreOwn deeds
     → EndsGoOn bits out inn (with_bearer deeds e) o [] [] [] []
 own_all bits out inn e o [] h own = stays_joined bits out inn e o h
 own_all bits out inn e o (deed ∷ deeds) h own =
     let m = own_one bits out inn e o deed h own.0 in
     let d = with_bearer (deed ∷ []) e in
-    ends_then bits out inn d o (with_bearer deeds d) o [] [] [] [] m (own_all bits m.out_after m.inn_after d o deeds m.joined own.1)
+    ends_then bits out inn d o (with_bearer deeds d) o [] [] [] [] m
+    (own_all bits m.out_after m.inn_after d o deeds m.joined own.1)

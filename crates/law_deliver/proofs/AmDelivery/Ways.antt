@@ -2,7 +2,8 @@
 use Rattle.std.proofs.Common.{◌≡◌, List, [], ◌∷◌, ◌++◌, refl}
 use Rattle.law_rlc.specs.AmPair.Flow.{Step as RlcStep, goes as rlc_goes, outset as rlc_outset}
 use Rattle.law_rlc.specs.AmPair.Given.{AreGiven as AreGivenSteps}
-use Rattle.law_pdcp.specs.AmPair.Flow.{Flow as Pdcp, Event, happens as pdcp_happens, run as run_pdcp, outset as pdcp_outset, AreGiven as AreGivenEvents}
+use Rattle.law_pdcp.specs.AmPair.Flow.{Flow as Pdcp, Event, happens as pdcp_happens, run as run_pdcp}
+use Rattle.law_pdcp.specs.AmPair.Flow.{outset as pdcp_outset, AreGiven as AreGivenEvents}
 use Rattle.law_deliver.proofs.AmFlow.Standing.{goes_more, given_more}
 use Rattle.law_deliver.proofs.AmDelivery.Joined.{Way, IsWay, rlc, pdcp}
 
@@ -10,7 +11,8 @@ pub run_more : (g : Pdcp) (xs ys : List Event) → run_pdcp (xs ++ ys) g ≡ run
 run_more g [] ys = refl
 run_more g (x ∷ xs) ys = run_more (pdcp_happens g x) xs ys
 
-pub given_events_more : (g : Pdcp) (xs ys : List Event) → AreGivenEvents g xs → AreGivenEvents (run_pdcp xs g) ys → AreGivenEvents g (xs ++ ys)
+pub given_events_more : (g : Pdcp) (xs ys : List Event) → AreGivenEvents g xs → AreGivenEvents (run_pdcp xs g) ys
+    → AreGivenEvents g (xs ++ ys)
 given_events_more g [] ys (given) more = more
 given_events_more g (x ∷ xs) ys (given) more = (given.0, given_events_more (pdcp_happens g x) xs ys given.1 more)
 
@@ -25,7 +27,8 @@ pub record IsMore (xs : List Event) (ss : List RlcStep) (w : Way) : Type 0 where
   pub pdcp_is : pdcp (with_more xs ss w) ≡ run_pdcp xs (pdcp w)
   pub rlc_is : rlc (with_more xs ss w) ≡ rlc_goes ss (rlc w)
 
-pub goes_on : (xs : List Event) (ss : List RlcStep) (w : Way) → IsWay w → AreGivenEvents (pdcp w) xs → AreGivenSteps (rlc w) ss → IsMore xs ss w
+pub goes_on : (xs : List Event) (ss : List RlcStep) (w : Way) → IsWay w → AreGivenEvents (pdcp w) xs
+    → AreGivenSteps (rlc w) ss → IsMore xs ss w
 goes_on xs ss w h events steps = record {
   is = record {
     kind = h.kind;

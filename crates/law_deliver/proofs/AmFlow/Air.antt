@@ -7,12 +7,18 @@ use Rattle.l2_node.specs.End.{End}
 use Rattle.bearer_types.specs.Sides.{heard_by, sent_by}
 use Rattle.l2_types.specs.declared.side.Side.{Side}
 use Rattle.l2_types.specs.declared.side.Side.TheVariants.{Nb, Ue}
-use Rattle.law_node.specs.Calls.{SetVisits, SetReports, Add, Submit, SetDiscard, Tick, TickBuckets, Visits, Grants, Granted, Assigned, Pass, Receive, Expire, Move}
-use Rattle.law_deliver.specs.AmFlow.Air.{Station, Air, Act, Calls, Comes, Goes, Step, AtNb, AtUe, Passes, does, passed, older, happens, goes, begins, outset, IsYoung, IsDone, IsGiven, AreGiven, Begins, IsPair}
+use Rattle.law_node.specs.Calls.{SetVisits, SetReports, Add, Submit, SetDiscard, Tick, TickBuckets, Visits, Grants}
+use Rattle.law_node.specs.Calls.{Granted, Assigned, Pass, Receive, Expire, Move}
+use Rattle.law_deliver.specs.AmFlow.Air.{Station, Air, Act, Calls, Comes, Goes, Step, AtNb, AtUe, Passes, does, passed}
+use Rattle.law_deliver.specs.AmFlow.Air.{older, happens, goes, begins, outset, IsYoung, IsDone, IsGiven, AreGiven}
+use Rattle.law_deliver.specs.AmFlow.Air.{Begins, IsPair}
 use Rattle.law_deliver.specs.AmFlow.Channels.{calls_of}
-use Rattle.law_deliver.specs.AmFlow.Pair.{BearerEnd, Pair, Step as PairStep, Passes as PairPasses, goes as pair_goes, outset as pair_outset, begins as pair_begins, passed as pair_passed, older as older_sent, AreGiven as AreGivenPair, IsYoung as IsYoungSent}
+use Rattle.law_deliver.specs.AmFlow.Pair.{BearerEnd, Pair, Step as PairStep, Passes as PairPasses, goes as pair_goes}
+use Rattle.law_deliver.specs.AmFlow.Pair.{outset as pair_outset, begins as pair_begins, passed as pair_passed}
+use Rattle.law_deliver.specs.AmFlow.Pair.{older as older_sent, AreGiven as AreGivenPair, IsYoung as IsYoungSent}
 use Rattle.law_deliver.proofs.AmFlow.Loads.{aged_load, aged_copies, aged_reports, aged_blocks, aged_all, young_all}
-use Rattle.law_deliver.proofs.AmFlow.Runs.{near_steps, far_steps, near_goes, far_goes, near_given, far_given, goes_more, given_more}
+use Rattle.law_deliver.proofs.AmFlow.Runs.{near_steps, far_steps, near_goes, far_goes, near_given, far_given, goes_more}
+use Rattle.law_deliver.proofs.AmFlow.Runs.{given_more}
 use Rattle.law_deliver.proofs.AmFlow.Stations.{Matches, Acts, calls_by, hears, lets_go, plain_call}
 use Rattle.law_deliver.proofs.AmFlow.Visiting.{visits}
 
@@ -23,28 +29,42 @@ calls_in l other s (Calls c) = calls_of l s.end c
 calls_in l other s (Comes k) = calls_by l s.end (slice_get other.blocks k)
 calls_in l other s (Goes k) = []
 
-pub acts : (side oside : Side) (l : ℕ) (s o : Station) (n m : BearerEnd) (x : Act) → heard_by side ≡ sent_by oside → Matches side l s n → Matches oside l o m → IsDone l s x → Acts side l (does o s x) m n (calls_in l o s x)
-acts side oside l s o n m (Calls (SetVisits maximum)) dir h k g = plain_call side l s n m (SetVisits maximum) h g.0 g.1 (λ t q. cc) (λ b q. cc)
-acts side oside l s o n m (Calls (SetReports reports)) dir h k g = plain_call side l s n m (SetReports reports) h g.0 g.1 (λ t q. cc) (λ b q. cc)
-acts side oside l s o n m (Calls (Add c keys)) dir h k g = plain_call side l s n m (Add c keys) h g.0 g.1 (λ t q. cc) (λ b q. cc)
-acts side oside l s o n m (Calls (Submit lcid octets)) dir h k g = plain_call side l s n m (Submit lcid octets) h g.0 g.1 (λ t q. cc) (λ b q. cc)
-acts side oside l s o n m (Calls (SetDiscard lcid ttis)) dir h k g = plain_call side l s n m (SetDiscard lcid ttis) h g.0 g.1 (λ t q. cc) (λ b q. cc)
+pub acts : (side oside : Side) (l : ℕ) (s o : Station) (n m : BearerEnd) (x : Act) → heard_by side ≡ sent_by oside
+    → Matches side l s n → Matches oside l o m → IsDone l s x → Acts side l (does o s x) m n (calls_in l o s x)
+acts side oside l s o n m (Calls (SetVisits maximum)) dir h k g =
+    plain_call side l s n m (SetVisits maximum) h g.0 g.1 (λ t q. cc) (λ b q. cc)
+acts side oside l s o n m (Calls (SetReports reports)) dir h k g =
+    plain_call side l s n m (SetReports reports) h g.0 g.1 (λ t q. cc) (λ b q. cc)
+acts side oside l s o n m (Calls (Add c keys)) dir h k g =
+    plain_call side l s n m (Add c keys) h g.0 g.1 (λ t q. cc) (λ b q. cc)
+acts side oside l s o n m (Calls (Submit lcid octets)) dir h k g =
+    plain_call side l s n m (Submit lcid octets) h g.0 g.1 (λ t q. cc) (λ b q. cc)
+acts side oside l s o n m (Calls (SetDiscard lcid ttis)) dir h k g =
+    plain_call side l s n m (SetDiscard lcid ttis) h g.0 g.1 (λ t q. cc) (λ b q. cc)
 acts side oside l s o n m (Calls Tick) dir h k g = plain_call side l s n m Tick h g.0 g.1 (λ t q. cc) (λ b q. cc)
-acts side oside l s o n m (Calls TickBuckets) dir h k g = plain_call side l s n m TickBuckets h g.0 g.1 (λ t q. cc) (λ b q. cc)
+acts side oside l s o n m (Calls TickBuckets) dir h k g =
+    plain_call side l s n m TickBuckets h g.0 g.1 (λ t q. cc) (λ b q. cc)
 acts side oside l s o n m (Calls (Visits t)) dir h k g = visits side l s n m t h g.0 g.2
-acts side oside l s o n m (Calls (Grants tti)) dir h k g = plain_call side l s n m (Grants tti) h g.0 g.1 (λ t q. cc) (λ b q. cc)
-acts side oside l s o n m (Calls (Granted tti good)) dir h k g = plain_call side l s n m (Granted tti good) h g.0 g.1 (λ t q. cc) (λ b q. cc)
-acts side oside l s o n m (Calls (Assigned tti ndi good)) dir h k g = plain_call side l s n m (Assigned tti ndi good) h g.0 g.1 (λ t q. cc) (λ b q. cc)
-acts side oside l s o n m (Calls (Pass tti)) dir h k g = plain_call side l s n m (Pass tti) h g.0 g.1 (λ t q. cc) (λ b q. cc)
+acts side oside l s o n m (Calls (Grants tti)) dir h k g =
+    plain_call side l s n m (Grants tti) h g.0 g.1 (λ t q. cc) (λ b q. cc)
+acts side oside l s o n m (Calls (Granted tti good)) dir h k g =
+    plain_call side l s n m (Granted tti good) h g.0 g.1 (λ t q. cc) (λ b q. cc)
+acts side oside l s o n m (Calls (Assigned tti ndi good)) dir h k g =
+    plain_call side l s n m (Assigned tti ndi good) h g.0 g.1 (λ t q. cc) (λ b q. cc)
+acts side oside l s o n m (Calls (Pass tti)) dir h k g =
+    plain_call side l s n m (Pass tti) h g.0 g.1 (λ t q. cc) (λ b q. cc)
 acts side oside l s o n m (Calls (Receive block)) dir h k g = absurd g.2
-acts side oside l s o n m (Calls (Expire lcid clock)) dir h k g = plain_call side l s n m (Expire lcid clock) h g.0 g.1 (λ t q. cc) (λ b q. cc)
-acts side oside l s o n m (Calls (Move keys)) dir h k g = plain_call side l s n m (Move keys) h g.0 g.1 (λ t q. cc) (λ b q. cc)
+acts side oside l s o n m (Calls (Expire lcid clock)) dir h k g =
+    plain_call side l s n m (Expire lcid clock) h g.0 g.1 (λ t q. cc) (λ b q. cc)
+acts side oside l s o n m (Calls (Move keys)) dir h k g =
+    plain_call side l s n m (Move keys) h g.0 g.1 (λ t q. cc) (λ b q. cc)
 acts side oside l s o n m (Comes k) dir h g d = hears side oside l k s o n m (slice_get o.blocks k) dir h g refl
 acts side oside l s o n m (Goes k) dir h g d = lets_go side l k s n m h (slice_get h.loads k) refl
 
 -- ---- a TTI passes
 
-pub passes : (side : Side) (l : ℕ) (s : Station) (n : BearerEnd) → Matches side l s n → Matches side l (passed s) (pair_passed n)
+pub passes : (side : Side) (l : ℕ) (s : Station) (n : BearerEnd) → Matches side l s n
+    → Matches side l (passed s) (pair_passed n)
 passes side l s n h = record {
   come = h.come;
   there = h.there;
@@ -57,10 +77,12 @@ passes side l s n h = record {
   busy = λ q. q;
 }
 
-pub young : (side : Side) (l : ℕ) (s : Station) (n : BearerEnd) → Matches side l s n → AllByRecursion IsYoung s.blocks → AllByRecursion IsYoungSent n.reports
+pub young : (side : Side) (l : ℕ) (s : Station) (n : BearerEnd) → Matches side l s n → AllByRecursion IsYoung s.blocks
+    → AllByRecursion IsYoungSent n.reports
 young side l s n h y =
     subst (λ rs. AllByRecursion IsYoungSent rs) (sym h.reports_are)
-    (young_all l (sent_by side) s.end.sender s.end.numbers h.loads (subst (λ bs. AllByRecursion IsYoung bs) (sym h.blocks_are) y) h.are)
+    (young_all l (sent_by side) s.end.sender s.end.numbers h.loads
+    (subst (λ bs. AllByRecursion IsYoung bs) (sym h.blocks_are) y) h.are)
 
 -- ---- both ends
 
@@ -71,8 +93,10 @@ record BothMatch (l : ℕ) (b d : State) (a : Air) : Type 0 where
   ue : Matches Ue l a.ue (pair_goes steps (pair_outset b d)).far
 
 -- steps more of the pair
-more_match : (l : ℕ) (b d : State) (a c : Air) (h : BothMatch l b d a) (ts : List PairStep) → AreGivenPair (pair_goes h.steps (pair_outset b d)) ts
-    → Matches Nb l c.nb (pair_goes ts (pair_goes h.steps (pair_outset b d))).near → Matches Ue l c.ue (pair_goes ts (pair_goes h.steps (pair_outset b d))).far → BothMatch l b d c
+more_match : (l : ℕ) (b d : State) (a c : Air) (h : BothMatch l b d a) (ts : List PairStep)
+    → AreGivenPair (pair_goes h.steps (pair_outset b d)) ts
+    → Matches Nb l c.nb (pair_goes ts (pair_goes h.steps (pair_outset b d))).near
+    → Matches Ue l c.ue (pair_goes ts (pair_goes h.steps (pair_outset b d))).far → BothMatch l b d c
 more_match l b d a c h ts g x y = record {
   steps = h.steps ++ ts;
   given = given_more (pair_outset b d) h.steps ts h.given g;
@@ -80,31 +104,37 @@ more_match l b d a c h ts g x y = record {
   ue = subst (λ (p : Pair). Matches Ue l c.ue p.far) (sym (goes_more (pair_outset b d) h.steps ts)) y;
 }
 
-happens_on : (l : ℕ) (b d : State) (a : Air) (s : Step) → IsGiven l a s → BothMatch l b d a → BothMatch l b d (happens a s)
+happens_on : (l : ℕ) (b d : State) (a : Air) (s : Step) → IsGiven l a s → BothMatch l b d a
+    → BothMatch l b d (happens a s)
 happens_on l b d a (AtNb x) g h =
     let p : Pair = pair_goes h.steps (pair_outset b d) in
-    let r : Acts Nb l (does a.ue a.nb x) p.far p.near (calls_in l a.ue a.nb x) = acts Nb Ue l a.nb a.ue p.near p.far x refl h.nb h.ue g in
+    let r : Acts Nb l (does a.ue a.nb x) p.far p.near (calls_in l a.ue a.nb x) =
+    acts Nb Ue l a.nb a.ue p.near p.far x refl h.nb h.ue g in
     let same = near_goes p r.deeds in
     more_match l b d a (happens a (AtNb x)) h (near_steps r.deeds) (near_given p r.deeds r.done)
     (subst (λ (q : Pair). Matches Nb l (does a.ue a.nb x) q.near) (sym same) r.matches)
     (subst (λ (q : Pair). Matches Ue l a.ue q.far) (sym same) h.ue)
 happens_on l b d a (AtUe x) g h =
     let p : Pair = pair_goes h.steps (pair_outset b d) in
-    let r : Acts Ue l (does a.nb a.ue x) p.near p.far (calls_in l a.nb a.ue x) = acts Ue Nb l a.ue a.nb p.far p.near x refl h.ue h.nb g in
+    let r : Acts Ue l (does a.nb a.ue x) p.near p.far (calls_in l a.nb a.ue x) =
+    acts Ue Nb l a.ue a.nb p.far p.near x refl h.ue h.nb g in
     let same = far_goes p r.deeds in
     more_match l b d a (happens a (AtUe x)) h (far_steps r.deeds) (far_given p r.deeds r.done)
     (subst (λ (q : Pair). Matches Nb l a.nb q.near) (sym same) h.nb)
     (subst (λ (q : Pair). Matches Ue l (does a.nb a.ue x) q.far) (sym same) r.matches)
 happens_on l b d a Passes g h =
     let p : Pair = pair_goes h.steps (pair_outset b d) in
-    more_match l b d a (happens a Passes) h (PairPasses ∷ []) ((young Nb l a.nb p.near h.nb g.0, young Ue l a.ue p.far h.ue g.1), tt)
+    more_match l b d a (happens a Passes) h (PairPasses ∷ [])
+    ((young Nb l a.nb p.near h.nb g.0, young Ue l a.ue p.far h.ue g.1), tt)
     (passes Nb l a.nb p.near h.nb) (passes Ue l a.ue p.far h.ue)
 
-goes_on : (l : ℕ) (b d : State) (steps : List Step) (a : Air) → AreGiven l a steps → BothMatch l b d a → BothMatch l b d (goes steps a)
+goes_on : (l : ℕ) (b d : State) (steps : List Step) (a : Air) → AreGiven l a steps → BothMatch l b d a
+    → BothMatch l b d (goes steps a)
 goes_on l b d [] a g h = h
 goes_on l b d (s ∷ ss) a g h = goes_on l b d ss (happens a s) g.1 (happens_on l b d a s g.0 h)
 
-pub begins_so : (side : Side) (l : ℕ) (e : End) (b : State) → Begins side l e b → Matches side l (begins e) (pair_begins b)
+pub begins_so : (side : Side) (l : ℕ) (e : End) (b : State) → Begins side l e b
+    → Matches side l (begins e) (pair_begins b)
 begins_so side l e b h = record {
   come = h.come;
   there = h.there;
@@ -117,7 +147,10 @@ begins_so side l e b h = record {
   busy = λ q. q;
 }
 
-pub channels_are_pairs : (l : ℕ) (nb ue : End) (b d : State) (steps : List Step) → Begins Nb l nb b → Begins Ue l ue d → AreGiven l (outset nb ue) steps → IsPair l b d (goes steps (outset nb ue))
+pub channels_are_pairs : (l : ℕ) (nb ue : End) (b d : State) (steps : List Step) → Begins Nb l nb b → Begins Ue l ue d
+    → AreGiven l (outset nb ue) steps → IsPair l b d (goes steps (outset nb ue))
 channels_are_pairs l nb ue b d steps x y g =
-    let h = goes_on l b d steps (outset nb ue) g (record { steps = []; given = tt; nb = begins_so Nb l nb b x; ue = begins_so Ue l ue d y }) in
+    let h =
+    goes_on l b d steps (outset nb ue) g
+    (record { steps = []; given = tt; nb = begins_so Nb l nb b x; ue = begins_so Ue l ue d y }) in
     record { steps = h.steps; given = h.given; nb_is = h.nb.bearer_is; ue_is = h.ue.bearer_is }

@@ -1,5 +1,7 @@
--- What a bearer tells it tells of its own channel; as it writes it hands nothing up, and it discards only as a TTI begins.
-use Rattle.std.proofs.Common.{◌≡◌, ℕ, ◌==◌, Bool, true, false, cond, if◌then◌else◌, Option, Some, None, IfSome, unwrap_or, List, [], ◌∷◌, ◌++◌, append_assoc, refl, ap, sym, subst, ◌∙◌, arith, inl, inr}
+-- What a bearer tells it tells of its own channel; as it writes it hands nothing up, and it discards only as a TTI
+-- begins.
+use Rattle.std.proofs.Common.{◌≡◌, ℕ, ◌==◌, Bool, true, false, cond, if◌then◌else◌, Option, Some, None, IfSome}
+use Rattle.std.proofs.Common.{unwrap_or, List, [], ◌∷◌, ◌++◌, append_assoc, refl, ap, sym, subst, ◌∙◌, arith, inl, inr}
 use Rattle.std.proofs.lemmas.Bool.Decides.{nat_tests}
 use Rattle.std.proofs.lemmas.List.Elements.{filter-append, recursion_from_All}
 use Rattle.std.proofs.lemmas.Grind.{flat_map-append}
@@ -10,12 +12,17 @@ use Rattle.bearer.specs.Lives.{stopping}
 use Rattle.bearer.specs.Taking.{told}
 use Rattle.law_bearer.proofs.AnyBearer.Between.{IsBetween, submits, discards, takes, arrives, expires, ticks_of}
 use Rattle.law_bearer.proofs.AnyBearer.Told.{told_in_order}
-use Rattle.law_bearer.specs.AnyBearer.Calls.{Call as BearerCall, Submit as Submits, Take as Takes, Arrive as Arrives, Expire as Expires, Tick as Ticks, SetDiscard as SetsDiscard, after as called, after_all}
+use Rattle.law_bearer.specs.AnyBearer.Calls.{Call as BearerCall, Submit as Submits, Take as Takes, Arrive as Arrives}
+use Rattle.law_bearer.specs.AnyBearer.Calls.{Expire as Expires, Tick as Ticks, SetDiscard as SetsDiscard}
+use Rattle.law_bearer.specs.AnyBearer.Calls.{after as called, after_all}
 use Rattle.law_bearer.specs.AnyBearer.Order.{is_signalling}
-use Rattle.law_words.specs.BearerOrder.{OfEvents as Sequences, a_status, a_report, a_take, a_data_pdu, a_wait, in_a_block, an_up, of_an_sdu, of_an_arrived_sdu, of_a_data_pdu, of_a_status, of_a_pdu, of_an_expiry, a_discard, of_discards, in_a_tti, at_the_end}
+use Rattle.law_words.specs.BearerOrder.{OfEvents as Sequences, a_status, a_report, a_take, a_data_pdu, a_wait}
+use Rattle.law_words.specs.BearerOrder.{in_a_block, an_up, of_an_sdu, of_an_arrived_sdu, of_a_data_pdu, of_a_status}
+use Rattle.law_words.specs.BearerOrder.{of_a_pdu, of_an_expiry, a_discard, of_discards, in_a_tti, at_the_end}
 use Rattle.law_words.specs.Sequences.{nothing, just, ◌then◌, ◌or◌, maybe, many, joined, any}
 use Rattle.bearer_types.specs.declared.event.Event.{Event}
-use Rattle.bearer_types.specs.declared.event.Event.TheVariants.{Take, Report, Send, Wait, Start, Stop, Expired, Up, Fail, Drop, Integrity, BadMac, BadRlc, BadPdcp, Discard}
+use Rattle.bearer_types.specs.declared.event.Event.TheVariants.{Take, Report, Send, Wait, Start, Stop, Expired, Up}
+use Rattle.bearer_types.specs.declared.event.Event.TheVariants.{Fail, Drop, Integrity, BadMac, BadRlc, BadPdcp, Discard}
 use Rattle.l2_types.specs.declared.event.Clock.{Clock}
 use Rattle.l2_types.specs.declared.event.Clock.TheVariants.{Poll, Reorder, Prohibit}
 use Rattle.l2_types.specs.declared.event.How.{How}
@@ -25,7 +32,8 @@ use Rattle.l2_types.specs.declared.event.Lost.TheVariants as lost
 use Rattle.l2_types.specs.declared.event.Waits.{Waits}
 use Rattle.pdcp_pdu.specs.declared.PdcpRefusal.{PdcpRefusal}
 use Rattle.rlc_pdu.specs.declared.fault.RlcRefusal.{RlcRefusal}
-use Rattle.law_deliver.specs.AmFlow.Ups.{ups_in, ups_on, of_calls, tells_in, tells_over, goes_up_in, go_up_over, discarded_in, discarded_over}
+use Rattle.law_deliver.specs.AmFlow.Ups.{ups_in, ups_on, of_calls, tells_in, tells_over, goes_up_in, go_up_over}
+use Rattle.law_deliver.specs.AmFlow.Ups.{discarded_in, discarded_over}
 use Rattle.promises.specs.Events.{is_on, told_on, discards_in, discards_on}
 
 -- ---- what holds of each event of any sequence of a set
@@ -48,7 +56,9 @@ module _ (P : Event → Type 0) where
   one x p events e = the_same events (x ∷ []) e (p, tt)
 
   behind : (A B : Sequences) → Hold A → Hold B → Hold (A then B)
-  behind A B a b events r = the_same events (r.first ++ r.second) r.told_are (both r.first r.second (a r.first r.is_first) (b r.second r.is_second))
+  behind A B a b events r =
+      the_same events (r.first ++ r.second) r.told_are
+      (both r.first r.second (a r.first r.is_first) (b r.second r.is_second))
 
   either : (A B : Sequences) → Hold A → Hold B → Hold (A or B)
   either A B a b events (inl p) = a events p
@@ -57,12 +67,14 @@ module _ (P : Event → Type 0) where
   perhaps : (A : Sequences) → Hold A → Hold (maybe A)
   perhaps A a = either nothing A never a
 
-  each_part : (A : Sequences) → Hold A → (parts : List (List Event)) → AllByRecursion A parts → AllByRecursion P (joined parts)
+  each_part : (A : Sequences) → Hold A → (parts : List (List Event)) → AllByRecursion A parts
+      → AllByRecursion P (joined parts)
   each_part A a [] h = tt
   each_part A a (x ∷ xs) h = both x (joined xs) (a x h.0) (each_part A a xs h.1)
 
   each : (A : Sequences) → Hold A → Hold (many A)
-  each A a events r = the_same events (joined r.parts) r.told_are (each_part A a r.parts (recursion_from_All A r.parts r.are_each))
+  each A a events r =
+      the_same events (joined r.parts) r.told_are (each_part A a r.parts (recursion_from_All A r.parts r.are_each))
 
   whichever : {Y : Type 0} (f : Y → Sequences) → ((y : Y) → Hold (f y)) → Hold (any f)
   whichever f a events r = a r.0 events r.1
@@ -80,22 +92,34 @@ module _ (P : Event → Type 0) where
   block_holds m w =
       let status : Hold (a_status m) =
       behind (any (λ (ack : ℕ). just (Send m how.Status ack))) (maybe (just (Start m Prohibit)))
-      (whichever (λ (ack : ℕ). just (Send m how.Status ack)) (λ ack. one (Send m how.Status ack) (w.send how.Status ack))) (perhaps (just (Start m Prohibit)) (one (Start m Prohibit) (w.start Prohibit))) in
+      (whichever (λ (ack : ℕ). just (Send m how.Status ack))
+      (λ ack. one (Send m how.Status ack) (w.send how.Status ack)))
+      (perhaps (just (Start m Prohibit)) (one (Start m Prohibit) (w.start Prohibit))) in
       let report : Hold (a_report m) =
-      whichever (λ (fms : ℕ). any (λ (bitmap : List ℕ). just (Report m fms bitmap))) (λ fms. whichever (λ (bitmap : List ℕ). just (Report m fms bitmap)) (λ bitmap. one (Report m fms bitmap) (w.report fms bitmap))) in
+      whichever (λ (fms : ℕ). any (λ (bitmap : List ℕ). just (Report m fms bitmap)))
+      (λ fms. whichever (λ (bitmap : List ℕ). just (Report m fms bitmap))
+      (λ bitmap. one (Report m fms bitmap) (w.report fms bitmap))) in
       let take : Hold (a_take m) =
-      whichever (λ (count : Option ℕ). any (λ (len : ℕ). just (Take m count len))) (λ count. whichever (λ (len : ℕ). just (Take m count len)) (λ len. one (Take m count len) (w.take count len))) in
+      whichever (λ (count : Option ℕ). any (λ (len : ℕ). just (Take m count len)))
+      (λ count. whichever (λ (len : ℕ). just (Take m count len))
+      (λ len. one (Take m count len) (w.take count len))) in
       let numbered : (sn : ℕ) → Sequences = λ sn. just (Send m how.New sn) or just (Send m how.Re sn) in
-      let poll : Hold (maybe (just (Start m Poll))) = perhaps (just (Start m Poll)) (one (Start m Poll) (w.start Poll)) in
+      let poll : Hold (maybe (just (Start m Poll))) =
+      perhaps (just (Start m Poll)) (one (Start m Poll) (w.start Poll)) in
       let pdu : Hold (a_data_pdu m) =
-      either (just (Send m how.Tm 0)) (any numbered then maybe (just (Start m Poll))) (one (Send m how.Tm 0) (w.send how.Tm 0))
+      either (just (Send m how.Tm 0)) (any numbered then maybe (just (Start m Poll)))
+      (one (Send m how.Tm 0) (w.send how.Tm 0))
       (behind (any numbered) (maybe (just (Start m Poll)))
-      (whichever numbered (λ sn. either (just (Send m how.New sn)) (just (Send m how.Re sn)) (one (Send m how.New sn) (w.send how.New sn)) (one (Send m how.Re sn) (w.send how.Re sn)))) poll) in
-      let wait : Hold (a_wait m) = whichever (λ (why : Waits). just (Wait m why)) (λ why. one (Wait m why) (w.wait why)) in
+      (whichever numbered
+      (λ sn. either (just (Send m how.New sn)) (just (Send m how.Re sn))
+      (one (Send m how.New sn) (w.send how.New sn)) (one (Send m how.Re sn) (w.send how.Re sn)))) poll) in
+      let wait : Hold (a_wait m) =
+      whichever (λ (why : Waits). just (Wait m why)) (λ why. one (Wait m why) (w.wait why)) in
       let last : Sequences = maybe (a_data_pdu m or a_wait m) in
       behind (maybe (a_status m)) (maybe (a_report m) then many (a_take m) then last) (perhaps (a_status m) status)
       (behind (maybe (a_report m)) (many (a_take m) then last) (perhaps (a_report m) report)
-      (behind (many (a_take m)) last (each (a_take m) take) (perhaps (a_data_pdu m or a_wait m) (either (a_data_pdu m) (a_wait m) pdu wait))))
+      (behind (many (a_take m)) last (each (a_take m) take)
+      (perhaps (a_data_pdu m or a_wait m) (either (a_data_pdu m) (a_wait m) pdu wait))))
 
   -- ---- as it hears
 
@@ -117,19 +141,29 @@ module _ (P : Event → Type 0) where
     integrity_holds : Hold (any (λ (found : List ℕ). any (λ (wanted : List ℕ). just (Integrity m found wanted))))
     integrity_holds =
         whichever (λ (found : List ℕ). any (λ (wanted : List ℕ). just (Integrity m found wanted)))
-        (λ found. whichever (λ (wanted : List ℕ). just (Integrity m found wanted)) (λ wanted. one (Integrity m found wanted) (w.integrity found wanted)))
+        (λ found. whichever (λ (wanted : List ℕ). just (Integrity m found wanted))
+        (λ wanted. one (Integrity m found wanted) (w.integrity found wanted)))
 
     unread_holds : Hold (any (λ (fault : PdcpRefusal). just (BadPdcp m fault)))
-    unread_holds = whichever (λ (fault : PdcpRefusal). just (BadPdcp m fault)) (λ fault. one (BadPdcp m fault) (w.bad_pdcp fault))
+    unread_holds =
+        whichever (λ (fault : PdcpRefusal). just (BadPdcp m fault))
+        (λ fault. one (BadPdcp m fault) (w.bad_pdcp fault))
 
     sdu_holds : Hold (of_an_sdu m)
     sdu_holds =
         let unread : Sequences = any (λ (fault : PdcpRefusal). just (BadPdcp m fault)) in
-        let integrity : Sequences = any (λ (found : List ℕ). any (λ (wanted : List ℕ). just (Integrity m found wanted))) in
-        either (many (an_up m)) (just (Drop m lost.Old) or just (Drop m lost.Range) or just (Drop m lost.Report) or integrity or unread) (each (an_up m) up_holds)
-        (either (just (Drop m lost.Old)) (just (Drop m lost.Range) or just (Drop m lost.Report) or integrity or unread) (one (Drop m lost.Old) (w.drop lost.Old))
-        (either (just (Drop m lost.Range)) (just (Drop m lost.Report) or integrity or unread) (one (Drop m lost.Range) (w.drop lost.Range))
-        (either (just (Drop m lost.Report)) (integrity or unread) (one (Drop m lost.Report) (w.drop lost.Report)) (either integrity unread integrity_holds unread_holds))))
+        let integrity : Sequences =
+        any (λ (found : List ℕ). any (λ (wanted : List ℕ). just (Integrity m found wanted))) in
+        either (many (an_up m))
+        (just (Drop m lost.Old) or just (Drop m lost.Range) or just (Drop m lost.Report) or integrity or unread)
+        (each (an_up m) up_holds)
+        (either (just (Drop m lost.Old))
+        (just (Drop m lost.Range) or just (Drop m lost.Report) or integrity or unread)
+        (one (Drop m lost.Old) (w.drop lost.Old))
+        (either (just (Drop m lost.Range)) (just (Drop m lost.Report) or integrity or unread)
+        (one (Drop m lost.Range) (w.drop lost.Range))
+        (either (just (Drop m lost.Report)) (integrity or unread) (one (Drop m lost.Report) (w.drop lost.Report))
+        (either integrity unread integrity_holds unread_holds))))
 
     arrived_sdu_holds : Hold (of_an_arrived_sdu m)
     arrived_sdu_holds = either (of_an_sdu m) (just (Start m Poll)) sdu_holds (one (Start m Poll) (w.start Poll))
@@ -139,11 +173,14 @@ module _ (P : Event → Type 0) where
         let stops : Sequences = maybe (just (Stop m Reorder)) in
         let starts : Sequences = maybe (just (Start m Reorder)) in
         let sdus : Sequences = many (of_an_arrived_sdu m) in
-        either (just (Drop m lost.Repeat)) (just (Drop m lost.Outside) or just (Drop m lost.Clash) or stops then starts then sdus) (one (Drop m lost.Repeat) (w.drop lost.Repeat))
-        (either (just (Drop m lost.Outside)) (just (Drop m lost.Clash) or stops then starts then sdus) (one (Drop m lost.Outside) (w.drop lost.Outside))
+        either (just (Drop m lost.Repeat)) (just (Drop m lost.Outside) or just (Drop m lost.Clash) or stops
+        then starts then sdus) (one (Drop m lost.Repeat) (w.drop lost.Repeat))
+        (either (just (Drop m lost.Outside)) (just (Drop m lost.Clash) or stops then starts then sdus)
+        (one (Drop m lost.Outside) (w.drop lost.Outside))
         (either (just (Drop m lost.Clash)) (stops then starts then sdus) (one (Drop m lost.Clash) (w.drop lost.Clash))
         (behind stops (starts then sdus) (perhaps (just (Stop m Reorder)) (one (Stop m Reorder) (w.stop Reorder)))
-        (behind starts sdus (perhaps (just (Start m Reorder)) (one (Start m Reorder) (w.start Reorder))) (each (of_an_arrived_sdu m) arrived_sdu_holds)))))
+        (behind starts sdus (perhaps (just (Start m Reorder)) (one (Start m Reorder) (w.start Reorder)))
+        (each (of_an_arrived_sdu m) arrived_sdu_holds)))))
 
     fail_holds : Hold (any (λ (sn : ℕ). just (Fail m sn)))
     fail_holds = whichever (λ (sn : ℕ). just (Fail m sn)) (λ sn. one (Fail m sn) (w.fail sn))
@@ -156,13 +193,17 @@ module _ (P : Event → Type 0) where
         let fails : Sequences = any (λ (sn : ℕ). just (Fail m sn)) in
         let stops : Sequences = maybe (just (Stop m Poll)) in
         let starts : Sequences = maybe (just (Start m Poll)) in
-        either (just (Drop m lost.Ignored)) (fails or stops then starts) (one (Drop m lost.Ignored) (w.drop lost.Ignored))
-        (either fails (stops then starts) fail_holds (behind stops starts (perhaps (just (Stop m Poll)) (one (Stop m Poll) (w.stop Poll))) poll_holds))
+        either (just (Drop m lost.Ignored)) (fails or stops then starts)
+        (one (Drop m lost.Ignored) (w.drop lost.Ignored))
+        (either fails (stops then starts) fail_holds
+        (behind stops starts (perhaps (just (Stop m Poll)) (one (Stop m Poll) (w.stop Poll))) poll_holds))
 
     pdu_holds : Hold (of_a_pdu m)
     pdu_holds =
         let unread : Sequences = any (λ (fault : RlcRefusal). just (BadRlc m fault)) in
-        either unread (of_a_data_pdu m or of_a_status m) (whichever (λ (fault : RlcRefusal). just (BadRlc m fault)) (λ fault. one (BadRlc m fault) (w.bad_rlc fault)))
+        either unread (of_a_data_pdu m or of_a_status m)
+        (whichever (λ (fault : RlcRefusal). just (BadRlc m fault))
+        (λ fault. one (BadRlc m fault) (w.bad_rlc fault)))
         (either (of_a_data_pdu m) (of_a_status m) data_pdu_holds status_holds)
 
     expiry_holds : (clock : Clock) → Hold (of_an_expiry m clock)
@@ -172,7 +213,9 @@ module _ (P : Event → Type 0) where
     expiry_holds Reorder =
         let starts : Sequences = maybe (just (Start m Reorder)) in
         behind (just (Expired m Reorder)) (starts then many (of_an_sdu m)) (one (Expired m Reorder) (w.expired Reorder))
-        (behind starts (many (of_an_sdu m)) (perhaps (just (Start m Reorder)) (one (Start m Reorder) (w.start Reorder))) (each (of_an_sdu m) sdu_holds))
+        (behind starts (many (of_an_sdu m))
+        (perhaps (just (Start m Reorder)) (one (Start m Reorder) (w.start Reorder)))
+        (each (of_an_sdu m) sdu_holds))
     expiry_holds Prohibit = one (Expired m Prohibit) (w.expired Prohibit)
 
     discard_holds : ((len : ℕ) → P (Discard m len)) → Hold (a_discard m)
@@ -181,15 +224,18 @@ module _ (P : Event → Type 0) where
     discards_holds : ((len : ℕ) → P (Discard m len)) → Hold (of_discards m)
     discards_holds d =
         let starts : Sequences = maybe (just (Start m Poll)) in
-        behind (a_discard m) (many (a_discard m) then starts) (discard_holds d) (behind (many (a_discard m)) starts (each (a_discard m) (discard_holds d)) poll_holds)
+        behind (a_discard m) (many (a_discard m) then starts) (discard_holds d)
+        (behind (many (a_discard m)) starts (each (a_discard m) (discard_holds d)) poll_holds)
 
     tti_holds : ((len : ℕ) → P (Discard m len)) → Hold (in_a_tti m)
     tti_holds d =
         let expires : Clock → Sequences = λ clock. maybe (of_an_expiry m clock) in
         let late : Sequences = maybe (of_discards m) in
-        behind (expires Poll) (expires Reorder then expires Prohibit then late) (perhaps (of_an_expiry m Poll) (expiry_holds Poll))
+        behind (expires Poll) (expires Reorder then expires Prohibit then late)
+        (perhaps (of_an_expiry m Poll) (expiry_holds Poll))
         (behind (expires Reorder) (expires Prohibit then late) (perhaps (of_an_expiry m Reorder) (expiry_holds Reorder))
-        (behind (expires Prohibit) late (perhaps (of_an_expiry m Prohibit) (expiry_holds Prohibit)) (perhaps (of_discards m) (discards_holds d))))
+        (behind (expires Prohibit) late (perhaps (of_an_expiry m Prohibit) (expiry_holds Prohibit))
+        (perhaps (of_discards m) (discards_holds d))))
 
     end_holds : (signalling : Bool) → Hold (at_the_end signalling m)
     end_holds true = each (just (Drop m lost.Handover)) (one (Drop m lost.Handover) (w.drop lost.Handover))
@@ -207,22 +253,42 @@ same_on : (m : ℕ) → (m == m) ≡ true
 same_on m = grind (arith, nat_tests)
 
 writing_on : (m : ℕ) → OfWriting (IsOn m) m
-writing_on m = let s = same_on m in record { send = λ way sn. s; start = λ clock. s; report = λ fms bitmap. s; take = λ count len. s; wait = λ why. s }
+writing_on m = let s = same_on m in
+    record {
+      send = λ way sn. s;
+      start = λ clock. s;
+      report = λ fms bitmap. s;
+      take = λ count len. s;
+      wait = λ why. s;
+    }
 
 hearing_on : (m : ℕ) → OfHearing (IsOn m) m
 hearing_on m =
     let s = same_on m in
-    record { start = λ clock. s; stop = λ clock. s; expired = λ clock. s; up = λ sdu. s; fail = λ sn. s; drop = λ why. s; integrity = λ found wanted. s; bad_rlc = λ fault. s; bad_pdcp = λ fault. s }
+    record {
+      start = λ clock. s;
+      stop = λ clock. s;
+      expired = λ clock. s;
+      up = λ sdu. s;
+      fail = λ sn. s;
+      drop = λ why. s;
+      integrity = λ found wanted. s;
+      bad_rlc = λ fault. s;
+      bad_pdcp = λ fault. s;
+    }
 
-some_hold : (P : Event → Type 0) (m : ℕ) → OfHearing P m → (clock : Clock) (events : Option (List Event)) → IfSome events (of_an_expiry m clock) → AllByRecursion P (unwrap_or events [])
+some_hold : (P : Event → Type 0) (m : ℕ) → OfHearing P m → (clock : Clock) (events : Option (List Event))
+    → IfSome events (of_an_expiry m clock) → AllByRecursion P (unwrap_or events [])
 some_hold P m w clock None p = tt
 some_hold P m w clock (Some events) p = expiry_holds P m w clock events p
 
 call_on : (m : ℕ) (f : Flow) (c : BearerCall) → IsBetween m f → AreOn m (tells_in m f c)
 call_on m f (Submits sdu) k = tt
-call_on m f (Takes share held) k = block_holds (IsOn m) m (writing_on m) (told m f share held) ((told_in_order m f k).building share held)
+call_on m f (Takes share held) k =
+    block_holds (IsOn m) m (writing_on m) (told m f share held) ((told_in_order m f k).building share held)
 call_on m f (Arrives pdu) k = pdu_holds (IsOn m) m (hearing_on m) _ ((told_in_order m f k).receiving pdu)
-call_on m f (Expires clock) k = some_hold (IsOn m) m (hearing_on m) clock (expiry f clock) ((told_in_order m f k).expiring clock)
+call_on m f (Expires clock) k =
+    some_hold (IsOn m) m (hearing_on m) clock (expiry f clock) ((told_in_order m f k).expiring clock)
 call_on m f Ticks k = tti_holds (IsOn m) m (hearing_on m) (λ len. same_on m) _ (told_in_order m f k).ticking
 call_on m f (SetsDiscard ttis) k = tt
 
@@ -247,7 +313,8 @@ told_then l xs ys = filter-append (is_on l) xs ys
 
 pub all_on : (m : ℕ) (xs : List Event) → AreOn m xs → told_on m xs ≡ xs
 all_on m [] p = refl
-all_on m (x ∷ xs) p = ap (λ (b : Bool). cond b (x ∷ told_on m xs) (told_on m xs)) p.0 ∙ ap (λ (ys : List Event). x ∷ ys) (all_on m xs p.1)
+all_on m (x ∷ xs) p = ap (λ (b : Bool). cond b (x ∷ told_on m xs) (told_on m xs)) p.0
+    ∙ ap (λ (ys : List Event). x ∷ ys) (all_on m xs p.1)
 
 apart : (n m l : ℕ) → (m ≡ l → ⊥) → (n == m) ≡ true → (n == l) ≡ false
 apart n m l other e = grind (arith, nat_tests)
@@ -271,17 +338,21 @@ off_by l m (Discard lcid len) o e = apart lcid m l o e
 
 pub none_on : (l m : ℕ) (xs : List Event) → (m ≡ l → ⊥) → AreOn m xs → told_on l xs ≡ []
 none_on l m [] o p = refl
-none_on l m (x ∷ xs) o p = ap (λ (b : Bool). cond b (x ∷ told_on l xs) (told_on l xs)) (off_by l m x o p.0) ∙ none_on l m xs o p.1
+none_on l m (x ∷ xs) o p = ap (λ (b : Bool). cond b (x ∷ told_on l xs) (told_on l xs)) (off_by l m x o p.0)
+    ∙ none_on l m xs o p.1
 
 -- a bearer's own channel, and another
-pub own_told : (l m : ℕ) (f g : Flow) (c : BearerCall) → m ≡ l → f ≡ g → IsBetween m f → told_on l (tells_in m f c) ≡ tells_in l g c
+pub own_told : (l m : ℕ) (f g : Flow) (c : BearerCall) → m ≡ l → f ≡ g → IsBetween m f
+    → told_on l (tells_in m f c) ≡ tells_in l g c
 own_told l m f g c same is k =
-    ap (λ (n : ℕ). told_on n (tells_in m f c)) (sym same) ∙ all_on m (tells_in m f c) (call_on m f c k) ∙ ap (λ (n : ℕ). tells_in n f c) same ∙ ap (λ (h : Flow). tells_in l h c) is
+    ap (λ (n : ℕ). told_on n (tells_in m f c)) (sym same) ∙ all_on m (tells_in m f c) (call_on m f c k)
+    ∙ ap (λ (n : ℕ). tells_in n f c) same ∙ ap (λ (h : Flow). tells_in l h c) is
 
 pub other_told : (l m : ℕ) (f : Flow) (c : BearerCall) → (m ≡ l → ⊥) → IsBetween m f → told_on l (tells_in m f c) ≡ []
 other_told l m f c other k = none_on l m (tells_in m f c) other (call_on m f c k)
 
-pub tells_more : (l : ℕ) (f : Flow) (cs ds : List BearerCall) → tells_over l f (cs ++ ds) ≡ tells_over l f cs ++ tells_over l (after_all f cs) ds
+pub tells_more : (l : ℕ) (f : Flow) (cs ds : List BearerCall)
+    → tells_over l f (cs ++ ds) ≡ tells_over l f cs ++ tells_over l (after_all f cs) ds
 tells_more l f [] ds = refl
 tells_more l f (c ∷ cs) ds =
     ap (λ (events : List Event). tells_in l f c ++ events) (tells_more l (called f c) cs ds)
@@ -293,13 +364,15 @@ module _ {X : Type 0} (pick : ℕ → Event → List X) (off : (l : ℕ) (x : Ev
   abbrev picked : ℕ → List Event → List X
   picked l xs = flat_map (pick l) xs
 
-  first_picked : (b : Bool) (l : ℕ) (x : Event) (xs : List Event) → is_on l x ≡ b → picked l (cond b (x ∷ xs) xs) ≡ pick l x ++ picked l xs
+  first_picked : (b : Bool) (l : ℕ) (x : Event) (xs : List Event) → is_on l x ≡ b
+      → picked l (cond b (x ∷ xs) xs) ≡ pick l x ++ picked l xs
   first_picked true l x xs e = refl
   first_picked false l x xs e = ap (λ (found : List X). found ++ picked l xs) (sym (off l x e))
 
   picked_told : (l : ℕ) (xs : List Event) → picked l (told_on l xs) ≡ picked l xs
   picked_told l [] = refl
-  picked_told l (x ∷ xs) = first_picked (is_on l x) l x (told_on l xs) refl ∙ ap (λ (found : List X). pick l x ++ found) (picked_told l xs)
+  picked_told l (x ∷ xs) = first_picked (is_on l x) l x (told_on l xs) refl
+      ∙ ap (λ (found : List X). pick l x ++ found) (picked_told l xs)
 
   -- what is told of the channel says it
   pub picked_as : (l : ℕ) (xs ys : List Event) → told_on l xs ≡ ys → picked l xs ≡ picked l ys
@@ -309,8 +382,10 @@ module _ {X : Type 0} (pick : ℕ → Event → List X) (off : (l : ℕ) (x : Ev
   none_picked l [] p = refl
   none_picked l (x ∷ xs) p = ap (λ (found : List X). found ++ picked l xs) p.0 ∙ none_picked l xs p.1
 
-  module _ (of_call : ℕ → Flow → BearerCall → List X) (is : (l : ℕ) (f : Flow) (c : BearerCall) → IsBetween l f → picked l (tells_in l f c) ≡ of_call l f c) where
-    pub picked_over : (l : ℕ) (f : Flow) (cs : List BearerCall) → IsBetween l f → picked l (tells_over l f cs) ≡ of_calls of_call l f cs
+  module _ (of_call : ℕ → Flow → BearerCall → List X) (is : (l : ℕ) (f : Flow) (c : BearerCall) → IsBetween l f
+      → picked l (tells_in l f c) ≡ of_call l f c) where
+    pub picked_over : (l : ℕ) (f : Flow) (cs : List BearerCall) → IsBetween l f
+        → picked l (tells_over l f cs) ≡ of_calls of_call l f cs
     picked_over l f [] k = refl
     picked_over l f (c ∷ cs) k =
         flat_map-append (pick l) (tells_in l f c) (tells_over l (called f c) cs)
@@ -337,12 +412,20 @@ up_off l (BadPdcp lcid fault) e = refl
 up_off l (Discard lcid len) e = refl
 
 writing_up : (l m : ℕ) → OfWriting (λ x. ups_in l x ≡ []) m
-writing_up l m = record { send = λ way sn. refl; start = λ clock. refl; report = λ fms bitmap. refl; take = λ count len. refl; wait = λ why. refl }
+writing_up l m = record {
+  send = λ way sn. refl;
+  start = λ clock. refl;
+  report = λ fms bitmap. refl;
+  take = λ count len. refl;
+  wait = λ why. refl;
+}
 
 call_up : (l : ℕ) (f : Flow) (c : BearerCall) → IsBetween l f → ups_on l (tells_in l f c) ≡ goes_up_in l f c
 call_up l f (Submits sdu) k = refl
 call_up l f (Takes share held) k =
-    none_picked ups_in up_off l (told l f share held) (block_holds (λ x. ups_in l x ≡ []) l (writing_up l l) (told l f share held) ((told_in_order l f k).building share held))
+    none_picked ups_in up_off l (told l f share held)
+    (block_holds (λ x. ups_in l x ≡ []) l (writing_up l l) (told l f share held)
+    ((told_in_order l f k).building share held))
 call_up l f (Arrives pdu) k = refl
 call_up l f (Expires clock) k = refl
 call_up l f Ticks k = refl
@@ -351,7 +434,8 @@ call_up l f (SetsDiscard ttis) k = refl
 pub ups_as : (l : ℕ) (xs ys : List Event) → told_on l xs ≡ ys → ups_on l xs ≡ ups_on l ys
 ups_as l xs ys e = picked_as ups_in up_off l xs ys e
 
-pub ups_over : (l : ℕ) (f : Flow) (cs : List BearerCall) (xs : List Event) → IsBetween l f → told_on l xs ≡ tells_over l f cs → ups_on l xs ≡ go_up_over l f cs
+pub ups_over : (l : ℕ) (f : Flow) (cs : List BearerCall) (xs : List Event) → IsBetween l f
+    → told_on l xs ≡ tells_over l f cs → ups_on l xs ≡ go_up_over l f cs
 ups_over l f cs xs k e = ups_as l xs (tells_over l f cs) e ∙ picked_over ups_in up_off goes_up_in call_up l f cs k
 
 -- ---- what is discarded
@@ -377,7 +461,13 @@ abbrev DiscardsNone : ℕ → Event → Type 0
 DiscardsNone l x = discards_in l x ≡ []
 
 writing_discards : (l m : ℕ) → OfWriting (DiscardsNone l) m
-writing_discards l m = record { send = λ way sn. refl; start = λ clock. refl; report = λ fms bitmap. refl; take = λ count len. refl; wait = λ why. refl }
+writing_discards l m = record {
+  send = λ way sn. refl;
+  start = λ clock. refl;
+  report = λ fms bitmap. refl;
+  take = λ count len. refl;
+  wait = λ why. refl;
+}
 
 hearing_discards : (l m : ℕ) → OfHearing (DiscardsNone l) m
 hearing_discards l m = record {
@@ -395,32 +485,48 @@ hearing_discards l m = record {
 none_discarded : (l : ℕ) (xs : List Event) → AllByRecursion (DiscardsNone l) xs → discards_on l xs ≡ []
 none_discarded l xs p = none_picked discards_in discard_off l xs p
 
-call_discards : (l : ℕ) (f : Flow) (c : BearerCall) → IsBetween l f → discards_on l (tells_in l f c) ≡ discarded_in l f c
+call_discards : (l : ℕ) (f : Flow) (c : BearerCall) → IsBetween l f
+    → discards_on l (tells_in l f c) ≡ discarded_in l f c
 call_discards l f (Submits sdu) k = refl
 call_discards l f (Takes share held) k =
-    none_discarded l (told l f share held) (block_holds (DiscardsNone l) l (writing_discards l l) (told l f share held) ((told_in_order l f k).building share held))
-call_discards l f (Arrives pdu) k = none_discarded l _ (pdu_holds (DiscardsNone l) l (hearing_discards l l) _ ((told_in_order l f k).receiving pdu))
+    none_discarded l (told l f share held)
+    (block_holds (DiscardsNone l) l (writing_discards l l) (told l f share held)
+    ((told_in_order l f k).building share held))
+call_discards l f (Arrives pdu) k =
+    none_discarded l _ (pdu_holds (DiscardsNone l) l (hearing_discards l l) _ ((told_in_order l f k).receiving pdu))
 call_discards l f (Expires clock) k =
-    none_discarded l (unwrap_or (expiry f clock) []) (some_hold (DiscardsNone l) l (hearing_discards l l) clock (expiry f clock) ((told_in_order l f k).expiring clock))
+    none_discarded l (unwrap_or (expiry f clock) [])
+    (some_hold (DiscardsNone l) l (hearing_discards l l) clock (expiry f clock)
+    ((told_in_order l f k).expiring clock))
 call_discards l f Ticks k = refl
 call_discards l f (SetsDiscard ttis) k = refl
 
-pub discards_over : (l : ℕ) (f : Flow) (cs : List BearerCall) (xs : List Event) → IsBetween l f → told_on l xs ≡ tells_over l f cs → discards_on l xs ≡ discarded_over l f cs
-discards_over l f cs xs k e = picked_as discards_in discard_off l xs (tells_over l f cs) e ∙ picked_over discards_in discard_off discarded_in call_discards l f cs k
+pub discards_over : (l : ℕ) (f : Flow) (cs : List BearerCall) (xs : List Event) → IsBetween l f
+    → told_on l xs ≡ tells_over l f cs → discards_on l xs ≡ discarded_over l f cs
+discards_over l f cs xs k e = picked_as discards_in discard_off l xs (tells_over l f cs) e
+    ∙ picked_over discards_in discard_off discarded_in call_discards l f cs k
 
-pub end_discards : (l : ℕ) (f : Flow) (xs : List Event) → IsBetween l f → told_on l xs ≡ stopping f → discards_on l xs ≡ []
+pub end_discards : (l : ℕ) (f : Flow) (xs : List Event) → IsBetween l f → told_on l xs ≡ stopping f
+    → discards_on l xs ≡ []
 end_discards l f xs k e =
     picked_as discards_in discard_off l xs (stopping f) e
-    ∙ none_discarded l (stopping f) (end_holds (DiscardsNone l) l (hearing_discards l l) (is_signalling f) (stopping f) (told_in_order l f k).ending)
+    ∙ none_discarded l (stopping f)
+    (end_holds (DiscardsNone l) l (hearing_discards l l) (is_signalling f) (stopping f) (told_in_order l f k).ending)
 
 -- ---- what nothing is told of as a bearer hears
 
-module _ {X : Type 0} (pick : ℕ → Event → List X) (off : (l : ℕ) (x : Event) → is_on l x ≡ false → pick l x ≡ []) (l : ℕ) (f : Flow) (k : IsBetween l f) (w : OfHearing (λ x. pick l x ≡ []) l) where
+module _ {X : Type 0} (pick : ℕ → Event → List X) (off : (l : ℕ) (x : Event) → is_on l x ≡ false
+    → pick l x ≡ []) (l : ℕ) (f : Flow) (k : IsBetween l f) (w : OfHearing (λ x. pick l x ≡ []) l) where
   pub none_arriving : (pdu : List ℕ) → flat_map (pick l) (tells_in l f (Arrives pdu)) ≡ []
-  none_arriving pdu = none_picked pick off l _ (pdu_holds (λ x. pick l x ≡ []) l w _ ((told_in_order l f k).receiving pdu))
+  none_arriving pdu =
+      none_picked pick off l _ (pdu_holds (λ x. pick l x ≡ []) l w _ ((told_in_order l f k).receiving pdu))
 
   pub none_expiring : (clock : Clock) → flat_map (pick l) (tells_in l f (Expires clock)) ≡ []
-  none_expiring clock = none_picked pick off l _ (some_hold (λ x. pick l x ≡ []) l w clock (expiry f clock) ((told_in_order l f k).expiring clock))
+  none_expiring clock =
+      none_picked pick off l _
+      (some_hold (λ x. pick l x ≡ []) l w clock (expiry f clock) ((told_in_order l f k).expiring clock))
 
   pub none_ending : flat_map (pick l) (stopping f) ≡ []
-  none_ending = none_picked pick off l (stopping f) (end_holds (λ x. pick l x ≡ []) l w (is_signalling f) (stopping f) (told_in_order l f k).ending)
+  none_ending =
+      none_picked pick off l (stopping f)
+      (end_holds (λ x. pick l x ≡ []) l w (is_signalling f) (stopping f) (told_in_order l f k).ending)

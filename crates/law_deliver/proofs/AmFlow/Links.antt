@@ -20,7 +20,8 @@ use Rattle.law_deliver.specs.AmFlow.Pair.{BearerEnd}
 use Rattle.law_deliver.proofs.AmFlow.Air.{channels_are_pairs}
 use Rattle.law_deliver.proofs.AmFlow.Flows.{bearers_are_flows}
 
-on_ends : (l : ℕ) (a : AmTxConfig) (b : AmRxConfig) (e o : BearerEnd) (from to : End) → flow l from ≡ Am e.bearer → flow l to ≡ Am o.bearer → HasFlow a b e o → IsFlowOn l a b from to
+on_ends : (l : ℕ) (a : AmTxConfig) (b : AmRxConfig) (e o : BearerEnd) (from to : End) → flow l from ≡ Am e.bearer
+    → flow l to ≡ Am o.bearer → HasFlow a b e o → IsFlowOn l a b from to
 on_ends l a b e o from to p q h = record {
   from_bearer = e.bearer;
   from_is = p;
@@ -32,7 +33,8 @@ on_ends l a b e o from to p q h = record {
   receiver_is = h.is.receiver_is;
 }
 
-pub channels_are_flows : (l : ℕ) (nb ue : End) (b d : State) (steps : List Step) → Begins Nb l nb b → Begins Ue l ue d → AreGiven l (outset nb ue) steps → AreFlowsOn l b d (goes steps (outset nb ue))
+pub channels_are_flows : (l : ℕ) (nb ue : End) (b d : State) (steps : List Step) → Begins Nb l nb b → Begins Ue l ue d
+    → AreGiven l (outset nb ue) steps → AreFlowsOn l b d (goes steps (outset nb ue))
 channels_are_flows l nb ue b d steps x y g =
     let p = channels_are_pairs l nb ue b d steps x y g in
     let h = bearers_are_flows b d p.steps x.life y.life p.given in
@@ -44,24 +46,31 @@ channels_are_flows l nb ue b d steps x y g =
 
 -- ---- the numbers
 
-ordered_as : (f : Flow) (tx : Sender) (rx : Receiver) → (sender f).state ≡ tx → (receiver f).state ≡ rx → IsOrdered f → AreOrdered tx rx
+ordered_as : (f : Flow) (tx : Sender) (rx : Receiver) → (sender f).state ≡ tx → (receiver f).state ≡ rx → IsOrdered f
+    → AreOrdered tx rx
 ordered_as f tx rx p q h =
-    let here : AreOrdered (sender f).state (receiver f).state = record { least = h.least; bound = h.bound; highest = h.highest; sent = h.sent; window = h.window } in
+    let here : AreOrdered (sender f).state (receiver f).state =
+    record { least = h.least; bound = h.bound; highest = h.highest; sent = h.sent; window = h.window } in
     subst (λ (r : Receiver). AreOrdered tx r) q (subst (λ (s : Sender). AreOrdered s (receiver f).state) p here)
 
 same_bearer : (f : BearerFlow) (x y : State) → f ≡ Am x → f ≡ Am y → x ≡ y
 same_bearer f x y p q = let same : Am x ≡ Am y = sym p ∙ q in cc
 
-on_channel : (l : ℕ) (a : AmTxConfig) (b : AmRxConfig) (from to : End) (x y : State) → IsFlowOn l a b from to → flow l from ≡ Am x → flow l to ≡ Am y → AreOrdered x.tx y.rx
+on_channel : (l : ℕ) (a : AmTxConfig) (b : AmRxConfig) (from to : End) (x y : State) → IsFlowOn l a b from to
+    → flow l from ≡ Am x → flow l to ≡ Am y → AreOrdered x.tx y.rx
 on_channel l a b from to x y h p q =
     ordered_as (flow_goes h.steps (flow_outset a b)) x.tx y.rx
     (h.sender_is ∙ ap (λ (s : State). s.tx) (same_bearer (flow l from) h.from_bearer x h.from_is p))
     (h.receiver_is ∙ ap (λ (s : State). s.rx) (same_bearer (flow l to) h.to_bearer y h.to_is q))
     (keeps-order a b h.steps h.given)
 
-pub numbers_are_ordered : (l : ℕ) (nb ue : End) (b d : State) (steps : List Step) → Begins Nb l nb b → Begins Ue l ue d → AreGiven l (outset nb ue) steps
-    → (x y : State) → flow l (goes steps (outset nb ue)).nb.end ≡ Am x → flow l (goes steps (outset nb ue)).ue.end ≡ Am y → AreOrdered x.tx y.rx × AreOrdered y.tx x.rx
+pub numbers_are_ordered : (l : ℕ) (nb ue : End) (b d : State) (steps : List Step) → Begins Nb l nb b
+    → Begins Ue l ue d → AreGiven l (outset nb ue) steps
+    → (x y : State) → flow l (goes steps (outset nb ue)).nb.end ≡ Am x
+    → flow l (goes steps (outset nb ue)).ue.end ≡ Am y → AreOrdered x.tx y.rx × AreOrdered y.tx x.rx
 numbers_are_ordered l nb ue b d steps begins-nb begins-ue g x y p q =
     let h = channels_are_flows l nb ue b d steps begins-nb begins-ue g in
-    let air = goes steps (outset nb ue) in
-    (on_channel l b.tx_config d.rx_config air.nb.end air.ue.end x y h.down p q, on_channel l d.tx_config b.rx_config air.ue.end air.nb.end y x h.up q p)
+    let air = goes steps (outset nb ue) in (
+      on_channel l b.tx_config d.rx_config air.nb.end air.ue.end x y h.down p q,
+      on_channel l d.tx_config b.rx_config air.ue.end air.nb.end y x h.up q p,
+    )

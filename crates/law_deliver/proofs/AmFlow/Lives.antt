@@ -36,11 +36,14 @@ fresh_begins c kind keys side = record { sends = refl; hears = refl }
 begins_as : (b d : State) → Am b ≡ Am d → BeginsLife b → BeginsLife d
 begins_as b d q h = let same : b ≡ d = cc in subst BeginsLife same h
 
-added_begins : (k : Kind) (c : BearerConfig) (keys : Keys) (side : Side) (b : State) → flow_of k c keys side ≡ Am b → BeginsLife b
+added_begins : (k : Kind) (c : BearerConfig) (keys : Keys) (side : Side) (b : State) → flow_of k c keys side ≡ Am b
+    → BeginsLife b
 added_begins kinds.Tm c keys side b q = cc
 added_begins kinds.Um c keys side b q = cc
-added_begins kinds.Srb c keys side b q = begins_as (fresh_am c pdcp.Srb keys side) b q (fresh_begins c pdcp.Srb keys side)
-added_begins kinds.Am c keys side b q = begins_as (fresh_am c (pdcp.Am c.pdcp_bits) keys side) b q (fresh_begins c (pdcp.Am c.pdcp_bits) keys side)
+added_begins kinds.Srb c keys side b q =
+    begins_as (fresh_am c pdcp.Srb keys side) b q (fresh_begins c pdcp.Srb keys side)
+added_begins kinds.Am c keys side b q =
+    begins_as (fresh_am c (pdcp.Am c.pdcp_bits) keys side) b q (fresh_begins c (pdcp.Am c.pdcp_bits) keys side)
 
 restart_begins : (b : State) (keys : Keys) → BeginsLife (am_restarted (am_stopped b) keys)
 unfolding am_restarted am_stopped
@@ -54,10 +57,13 @@ restarted_begins (Am x) keys b q = begins_as (am_restarted (am_stopped x) keys) 
 
 -- ---- an end
 
-pub come_so : (side : Side) (maximum : ℕ) (reports : Bool) (past : List Call) → AreGiven past → HasCome side (reached side maximum reports past)
-come_so side maximum reports past g = record { maximum = maximum; reports = reports; past = past; given = g; end_is = refl }
+pub come_so : (side : Side) (maximum : ℕ) (reports : Bool) (past : List Call) → AreGiven past
+    → HasCome side (reached side maximum reports past)
+come_so side maximum reports past g =
+    record { maximum = maximum; reports = reports; past = past; given = g; end_is = refl }
 
-pub adds_begin : (side : Side) (maximum : ℕ) (reports : Bool) (past : List Call) (config : BearerConfig) (keys : Keys) (b : State) → AreGiven past → IsConfig config
+pub adds_begin : (side : Side) (maximum : ℕ) (reports : Bool) (past : List Call) (config : BearerConfig) (keys : Keys)
+    (b : State) → AreGiven past → IsConfig config
     → flow config.channel.lcid (after (reached side maximum reports past) (Add config keys)) ≡ Am b
     → Begins side config.channel.lcid (after (reached side maximum reports past) (Add config keys)) b
 adds_begin side maximum reports past config keys b g is q =
@@ -73,9 +79,11 @@ adds_begin side maximum reports past config keys b g is q =
 pub moved_has : (l : ℕ) (bs : List (Of Life)) (keys : Keys) → has l (all_restarted (all_stopped bs) keys) ≡ has l bs
 moved_has l bs keys =
     let ds = all_restarted (all_stopped bs) keys in
-    ap (λ (n : ℕ). nat_lt n (length ds)) (restarted_find l bs keys) ∙ ap (λ (n : ℕ). nat_lt (find l bs) n) (restarted_length bs keys)
+    ap (λ (n : ℕ). nat_lt n (length ds)) (restarted_find l bs keys)
+    ∙ ap (λ (n : ℕ). nat_lt (find l bs) n) (restarted_length bs keys)
 
-pub moved_flow : (l : ℕ) (bs : List (Of Life)) (keys : Keys) → has l bs ≡ true → flow_at l (all_restarted (all_stopped bs) keys) ≡ restarted (stopped (flow_at l bs)) keys
+pub moved_flow : (l : ℕ) (bs : List (Of Life)) (keys : Keys) → has l bs ≡ true
+    → flow_at l (all_restarted (all_stopped bs) keys) ≡ restarted (stopped (flow_at l bs)) keys
 moved_flow l bs keys h =
     let ds = all_restarted (all_stopped bs) keys in
     let lt : find l bs < length bs = grind (arith, nat_tests) in
@@ -85,7 +93,8 @@ pub moved_bearers : (e : End) (keys : Keys) → (after e (Move keys)).bearers �
 unfolding joined left_cell
 moved_bearers e keys = refl
 
-pub moves_begin : (side : Side) (maximum : ℕ) (reports : Bool) (past : List Call) (keys : Keys) (l : ℕ) (b : State) → AreGiven past → has l (reached side maximum reports past).bearers ≡ true
+pub moves_begin : (side : Side) (maximum : ℕ) (reports : Bool) (past : List Call) (keys : Keys) (l : ℕ) (b : State)
+    → AreGiven past → has l (reached side maximum reports past).bearers ≡ true
     → flow l (after (reached side maximum reports past) (Move keys)) ≡ Am b
     → Begins side l (after (reached side maximum reports past) (Move keys)) b
 moves_begin side maximum reports past keys l b g there q =
@@ -95,5 +104,7 @@ moves_begin side maximum reports past keys l b g there q =
       come = come_more side e (Move keys) (come_so side maximum reports past g) tt;
       there = ap (has l) same ∙ moved_has l e.bearers keys ∙ there;
       bearer_is = q;
-      life = restarted_begins (flow_at l e.bearers) keys b (sym (ap (flow_at l) same ∙ moved_flow l e.bearers keys there) ∙ q);
+      life =
+          restarted_begins (flow_at l e.bearers) keys b (sym (ap (flow_at l) same ∙ moved_flow l e.bearers keys there)
+          ∙ q);
     }

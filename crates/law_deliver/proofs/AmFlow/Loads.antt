@@ -1,5 +1,6 @@
 -- What the blocks under way carry of a channel.
-use Rattle.std.proofs.Common.{◌≡◌, ◌<◌, ℕ, zero, suc, ◌+◌, List, [], ◌∷◌, ◌++◌, map, get_or, Option, Some, None, slice_get, append_assoc, refl, ap, sym, subst, ◌∙◌, arith}
+use Rattle.std.proofs.Common.{◌≡◌, ◌<◌, ℕ, zero, suc, ◌+◌, List, [], ◌∷◌, ◌++◌, map, get_or, Option, Some, None}
+use Rattle.std.proofs.Common.{slice_get, append_assoc, refl, ap, sym, subst, ◌∙◌, arith}
 use Rattle.std.specs.List.{AllByRecursion}
 use Rattle.law_rlc.specs.AmPair.Flow.{Copy, except}
 use Rattle.law_rlc.specs.AmPair.Given.{IsHeld as IsAtLeastHeld}
@@ -64,7 +65,16 @@ split_at [] k x q = let no : None ≡ Some x = q in absurd cc
 split_at (y ∷ ys) zero x q =
     let same : Some y ≡ Some x = q in
     let is : y ≡ x = cc in
-    subst (Split (y ∷ ys) zero) is (record { before = []; behind = all_copies ys; pre = []; post = all_reports ys; copies_are = refl; reports_are = refl; fewer_copies = refl; fewer_reports = refl })
+    subst (Split (y ∷ ys) zero) is (record {
+      before = [];
+      behind = all_copies ys;
+      pre = [];
+      post = all_reports ys;
+      copies_are = refl;
+      reports_are = refl;
+      fewer_copies = refl;
+      fewer_reports = refl;
+    })
 split_at (y ∷ ys) (suc k) x q =
     let h = split_at ys k x q in
     record {
@@ -72,10 +82,14 @@ split_at (y ∷ ys) (suc k) x q =
       behind = h.behind;
       pre = y.reports ++ h.pre;
       post = h.post;
-      copies_are = ap (λ (l : List Copy). y.copies ++ l) h.copies_are ∙ sym (append_assoc y.copies h.before (x.copies ++ h.behind));
-      reports_are = ap (λ (l : List Sent). y.reports ++ l) h.reports_are ∙ sym (append_assoc y.reports h.pre (x.reports ++ h.post));
-      fewer_copies = ap (λ (l : List Copy). y.copies ++ l) h.fewer_copies ∙ sym (append_assoc y.copies h.before h.behind);
-      fewer_reports = ap (λ (l : List Sent). y.reports ++ l) h.fewer_reports ∙ sym (append_assoc y.reports h.pre h.post);
+      copies_are = ap (λ (l : List Copy). y.copies ++ l) h.copies_are
+          ∙ sym (append_assoc y.copies h.before (x.copies ++ h.behind));
+      reports_are = ap (λ (l : List Sent). y.reports ++ l) h.reports_are
+          ∙ sym (append_assoc y.reports h.pre (x.reports ++ h.post));
+      fewer_copies = ap (λ (l : List Copy). y.copies ++ l) h.fewer_copies
+          ∙ sym (append_assoc y.copies h.before h.behind);
+      fewer_reports = ap (λ (l : List Sent). y.reports ++ l) h.fewer_reports
+          ∙ sym (append_assoc y.reports h.pre h.post);
     }
 
 pub except_blocks : (xs : List Load) (k : ℕ) → blocks_in (except k xs) ≡ except k (blocks_in xs)
@@ -83,17 +97,20 @@ except_blocks [] k = refl
 except_blocks (x ∷ xs) zero = refl
 except_blocks (x ∷ xs) (suc k) = ap (λ (l : List Block). x.block ∷ l) (except_blocks xs k)
 
-pub except_all : {A : Type 0} (P : A → Type 0) (k : ℕ) (xs : List A) → AllByRecursion P xs → AllByRecursion P (except k xs)
+pub except_all : {A : Type 0} (P : A → Type 0) (k : ℕ) (xs : List A) → AllByRecursion P xs
+    → AllByRecursion P (except k xs)
 except_all P k [] h = tt
 except_all P zero (x ∷ xs) h = h.1
 except_all P (suc k) (x ∷ xs) h = (h.0, except_all P k xs h.1)
 
-pub all_at : {A : Type 0} (P : A → Type 0) (xs : List A) (k : ℕ) (x : A) → AllByRecursion P xs → slice_get xs k ≡ Some x → P x
+pub all_at : {A : Type 0} (P : A → Type 0) (xs : List A) (k : ℕ) (x : A) → AllByRecursion P xs
+    → slice_get xs k ≡ Some x → P x
 all_at P [] k x h e = let no : None ≡ Some x = e in absurd cc
 all_at P (y ∷ ys) zero x h e = let same : Some y ≡ Some x = e in let is : y ≡ x = cc in subst P is h.0
 all_at P (y ∷ ys) (suc k) x h e = all_at P ys k x h.1 e
 
-pub each : {A : Type 0} (P : A → Type 0) (Q : A → Type 0) → ((x : A) → P x → Q x) → (xs : List A) → AllByRecursion P xs → AllByRecursion Q xs
+pub each : {A : Type 0} (P : A → Type 0) (Q : A → Type 0) → ((x : A) → P x → Q x) → (xs : List A)
+    → AllByRecursion P xs → AllByRecursion Q xs
 each P Q more [] h = tt
 each P Q more (x ∷ xs) h = (more x h.0, each P Q more xs h.1)
 
@@ -112,7 +129,8 @@ map_more (r ∷ rs) ss = ap (λ (l : List Sent). older_sent r ∷ l) (map_more r
 
 pub aged_reports : (xs : List Load) → all_reports (map aged_load xs) ≡ map older_sent (all_reports xs)
 aged_reports [] = refl
-aged_reports (x ∷ xs) = ap (λ (l : List Sent). map older_sent x.reports ++ l) (aged_reports xs) ∙ sym (map_more x.reports (all_reports xs))
+aged_reports (x ∷ xs) = ap (λ (l : List Sent). map older_sent x.reports ++ l) (aged_reports xs)
+    ∙ sym (map_more x.reports (all_reports xs))
 
 pub aged_blocks : (xs : List Load) → blocks_in (map aged_load xs) ≡ map older (blocks_in xs)
 aged_blocks [] = refl
@@ -122,11 +140,13 @@ same_texts : (rs : List Sent) → texts_of (map older_sent rs) ≡ texts_of rs
 same_texts [] = refl
 same_texts (r ∷ rs) = ap (λ (l : List (List ℕ)). r.octets ∷ l) (same_texts rs)
 
-next_ages : (age : ℕ) (rs : List Sent) → AllByRecursion (HasAge age) rs → AllByRecursion (HasAge (age + 1)) (map older_sent rs)
+next_ages : (age : ℕ) (rs : List Sent) → AllByRecursion (HasAge age) rs
+    → AllByRecursion (HasAge (age + 1)) (map older_sent rs)
 next_ages age [] h = tt
 next_ages age (r ∷ rs) h = (ap (λ (n : ℕ). n + 1) h.0, next_ages age rs h.1)
 
-pub aged_all : (l : ℕ) (d : Direction) (s : Sending) (numbers : Numbers) (xs : List Load) → AllByRecursion (IsLoad l d s numbers) xs → AllByRecursion (IsLoad l d s numbers) (map aged_load xs)
+pub aged_all : (l : ℕ) (d : Direction) (s : Sending) (numbers : Numbers) (xs : List Load)
+    → AllByRecursion (IsLoad l d s numbers) xs → AllByRecursion (IsLoad l d s numbers) (map aged_load xs)
 aged_all l d s numbers [] h = tt
 aged_all l d s numbers (x ∷ xs) h =
     let q = h.0 in (
@@ -144,11 +164,14 @@ young_of : (age : ℕ) (rs : List Sent) → age < 216 → AllByRecursion (HasAge
 young_of age [] lt h = tt
 young_of age (r ∷ rs) lt h = let e = h.0 in (omega (arith, lt, e), young_of age rs lt h.1)
 
-pub young_all : (l : ℕ) (d : Direction) (s : Sending) (numbers : Numbers) (xs : List Load) → AllByRecursion IsYoung (blocks_in xs) → AllByRecursion (IsLoad l d s numbers) xs → AllByRecursion IsYoungSent (all_reports xs)
+pub young_all : (l : ℕ) (d : Direction) (s : Sending) (numbers : Numbers) (xs : List Load)
+    → AllByRecursion IsYoung (blocks_in xs) → AllByRecursion (IsLoad l d s numbers) xs
+    → AllByRecursion IsYoungSent (all_reports xs)
 young_all l d s numbers [] y h = tt
 young_all l d s numbers (x ∷ xs) y h =
     let q = h.0 in
-    all_then IsYoungSent x.reports (all_reports xs) (young_of x.block.age x.reports y.0 q.aged) (young_all l d s numbers xs y.1 h.1)
+    all_then IsYoungSent x.reports (all_reports xs) (young_of x.block.age x.reports y.0 q.aged)
+    (young_all l d s numbers xs y.1 h.1)
 
 -- ---- the lowest number under way
 
@@ -160,23 +183,31 @@ at_least : (low : Option ℕ) (c : Copy) → IsAtLeast low c.number → IsAtLeas
 at_least None c h = h
 at_least (Some n) c h = h
 
-lowest_one : (l p : ℕ) (s : Sending) (numbers : Numbers) (cs : List Copy) → p < 8 → (held_of s p ≡ None → ⊥) → AllByRecursion (IsNoted numbers l p) cs → AllByRecursion (IsAtLeastHeld (lowest s numbers l)) cs
+lowest_one : (l p : ℕ) (s : Sending) (numbers : Numbers) (cs : List Copy) → p < 8 → (held_of s p ≡ None → ⊥)
+    → AllByRecursion (IsNoted numbers l p) cs → AllByRecursion (IsAtLeastHeld (lowest s numbers l)) cs
 lowest_one l p s numbers [] lt held h = tt
-lowest_one l p s numbers (c ∷ cs) lt held h =
-    (at_least (lowest s numbers l) c (lowest_least s numbers l p c.number lt (held_noted (held_of s p) (noted_of numbers l p) c.number held h.0)), lowest_one l p s numbers cs lt held h.1)
+lowest_one l p s numbers (c ∷ cs) lt held h = (
+  at_least (lowest s numbers l) c
+      (lowest_least s numbers l p c.number lt (held_noted (held_of s p) (noted_of numbers l p) c.number held h.0)),
+  lowest_one l p s numbers cs lt held h.1,
+)
 
 -- a process other than one holds a block under way
 pub record IsHeldBy (process : ℕ) (s : Sending) (b : Block) : Type 0 where
   pub other : b.process ≡ process → ⊥
   pub held : IsHeld s b
 
-pub held_by : (process : ℕ) (s : Sending) (bs : List Block) → held_of s process ≡ None → AllByRecursion (IsHeld s) bs → AllByRecursion (IsHeldBy process s) bs
+pub held_by : (process : ℕ) (s : Sending) (bs : List Block) → held_of s process ≡ None → AllByRecursion (IsHeld s) bs
+    → AllByRecursion (IsHeldBy process s) bs
 held_by process s [] none h = tt
-held_by process s (b ∷ bs) none h = (record { other = λ q. h.0 (ap (held_of s) q ∙ none); held = h.0 }, held_by process s bs none h.1)
+held_by process s (b ∷ bs) none h =
+    (record { other = λ q. h.0 (ap (held_of s) q ∙ none); held = h.0 }, held_by process s bs none h.1)
 
 -- of an end whose processes hold less than before
-pub lowest_all : (l at : ℕ) (d : Direction) (s t : Sending) (numbers : Numbers) (xs : List Load) → ((p : ℕ) → held_of s p ≡ None → held_of t p ≡ None)
-    → AllByRecursion (IsHeldBy at t) (blocks_in xs) → AllByRecursion (IsLoad l d s numbers) xs → AllByRecursion (IsAtLeastHeld (lowest t numbers l)) (all_copies xs)
+pub lowest_all : (l at : ℕ) (d : Direction) (s t : Sending) (numbers : Numbers) (xs : List Load)
+    → ((p : ℕ) → held_of s p ≡ None → held_of t p ≡ None)
+    → AllByRecursion (IsHeldBy at t) (blocks_in xs) → AllByRecursion (IsLoad l d s numbers) xs
+    → AllByRecursion (IsAtLeastHeld (lowest t numbers l)) (all_copies xs)
 lowest_all l at d s t numbers [] fewer b h = tt
 lowest_all l at d s t numbers (x ∷ xs) fewer b h =
     let q = h.0 in

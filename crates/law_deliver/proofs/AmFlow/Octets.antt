@@ -1,5 +1,6 @@
 -- Each PDU that PDCP gives RLC at an end has an octet.
-use Rattle.std.proofs.Common.{◌≡◌, ℕ, zero, suc, ◌+◌, ◌-◌, List, [], ◌∷◌, ◌++◌, map, take, length, Option, Some, None, sym, subst}
+use Rattle.std.proofs.Common.{◌≡◌, ℕ, zero, suc, ◌+◌, ◌-◌, List, [], ◌∷◌, ◌++◌, map, take, length, Option, Some, None}
+use Rattle.std.proofs.Common.{sym, subst}
 use Rattle.std.specs.Prelude.{Bool, IfSome}
 use Rattle.std.specs.List.{AllByRecursion}
 use Rattle.bearer.specs.declared.flow.Flow.TheVariants.{Am}
@@ -24,7 +25,8 @@ use Rattle.pdcp_pdu.specs.Kinds.{IsKind}
 use Rattle.pdcp_tx.specs.State.{State as Sending, Offer, offers, owed_offers, again_offer, new_offers, written}
 use Rattle.law_deliver.specs.AmFlow.Pair.{HasOctet}
 
-owed_all : (kind : PdcpKind) (o : Option (List ℕ)) → IfSome o (IsPdcp kind) → AllByRecursion (IsOffered kind) (owed_offers o)
+owed_all : (kind : PdcpKind) (o : Option (List ℕ)) → IfSome o (IsPdcp kind)
+    → AllByRecursion (IsOffered kind) (owed_offers o)
 owed_all kind None h = tt
 owed_all kind (Some report) h = (h, tt)
 
@@ -41,26 +43,36 @@ unfolding offers
 offers_all kind s h =
     let news : List Offer = new_offers s.next (take (s.bound - s.next) s.waiting) in
     all_then (IsOffered kind) (owed_offers s.owed ++ map again_offer s.again) news
-    (all_then (IsOffered kind) (owed_offers s.owed) (map again_offer s.again) (owed_all kind s.owed h.owed) (again_all kind s.again h.again))
+    (all_then (IsOffered kind) (owed_offers s.owed) (map again_offer s.again) (owed_all kind s.owed h.owed)
+    (again_all kind s.again h.again))
     (new_all kind s.next (take (s.bound - s.next) s.waiting) (take_waits (s.bound - s.next) s.waiting h.waiting))
 
-pub take_all : (kind : PdcpKind) (n : ℕ) (os : List Offer) → AllByRecursion (IsOffered kind) os → AllByRecursion (IsOffered kind) (take n os)
+pub take_all : (kind : PdcpKind) (n : ℕ) (os : List Offer) → AllByRecursion (IsOffered kind) os
+    → AllByRecursion (IsOffered kind) (take n os)
 take_all kind zero os h = tt
 take_all kind (suc n) [] h = tt
 take_all kind (suc n) (o ∷ os) h = (h.0, take_all kind n os h.1)
 
-pub pdus_all : (kind : PdcpKind) (s : Sending) (os : List Offer) → IsKind kind → s.kind ≡ kind → AllByRecursion (IsOffered kind) os → AllByRecursion HasOctet (map (pdu_of s) os)
+pub pdus_all : (kind : PdcpKind) (s : Sending) (os : List Offer) → IsKind kind → s.kind ≡ kind
+    → AllByRecursion (IsOffered kind) os → AllByRecursion HasOctet (map (pdu_of s) os)
 pdus_all kind s [] known same h = tt
 pdus_all kind s (o ∷ os) known same h =
-    let one : HasOctet (written kind s.protection o.count o.text).octets = pdu_some kind (written kind s.protection o.count o.text).octets (written_is kind s.protection o.count o.text known h.0) in
-    (subst (λ (k : PdcpKind). HasOctet (written k s.protection o.count o.text).octets) (sym same) one, pdus_all kind s os known same h.1)
+    let one : HasOctet (written kind s.protection o.count o.text).octets =
+    pdu_some kind (written kind s.protection o.count o.text).octets
+    (written_is kind s.protection o.count o.text known h.0) in (
+      subst (λ (k : PdcpKind). HasOctet (written k s.protection o.count o.text).octets) (sym same) one,
+      pdus_all kind s os known same h.1,
+    )
 
-some_of : (b : State) (share : ℕ) (held : Option ℕ) (l : ℕ) → WritesWell l (Am b) → AllByRecursion HasOctet (offers_in b share held)
+some_of : (b : State) (share : ℕ) (held : Option ℕ) (l : ℕ) → WritesWell l (Am b)
+    → AllByRecursion HasOctet (offers_in b share held)
 some_of b share held l w =
     let n : ℕ = length (offers_of (ends (Am b))) - length (offers_of (ends (after (Am b) (Take share held)))) in
-    pdus_all w.kind b.pdcp.tx (take n (offers b.pdcp.tx)) w.known w.offers'.tx.kind_is (take_all w.kind n (offers b.pdcp.tx) (offers_all w.kind b.pdcp.tx w.offers'.tx))
+    pdus_all w.kind b.pdcp.tx (take n (offers b.pdcp.tx)) w.known w.offers'.tx.kind_is
+    (take_all w.kind n (offers b.pdcp.tx) (offers_all w.kind b.pdcp.tx w.offers'.tx))
 
-pub some_octets : (side : Side) (maximum : ℕ) (reports : Bool) (past : List Call) (l : ℕ) (b : State) (share : ℕ) (held : Option ℕ) → AreGiven past → flow l (reached side maximum reports past) ≡ Am b
+pub some_octets : (side : Side) (maximum : ℕ) (reports : Bool) (past : List Call) (l : ℕ) (b : State) (share : ℕ)
+    (held : Option ℕ) → AreGiven past → flow l (reached side maximum reports past) ≡ Am b
     → AllByRecursion HasOctet (offers_in b share held)
 some_octets side maximum reports past l b share held g q =
     let bs = (reached side maximum reports past).bearers in

@@ -1,5 +1,6 @@
 -- The bearer of a channel among those of an end, as it and others are called.
-use Rattle.std.proofs.Common.{◌≡◌, ◌≤◌, ◌<◌, ℕ, suc, ◌+◌, ◌==◌, nat_lt, if◌then◌else◌, Bool, true, false, List, [], ◌∷◌, ◌++◌, length, insert, set, get_or-set_same, get_or-set_other, refl, ap, sym, ◌∙◌, arith}
+use Rattle.std.proofs.Common.{◌≡◌, ◌≤◌, ◌<◌, ℕ, suc, ◌+◌, ◌==◌, nat_lt, if◌then◌else◌, Bool, true, false, List, [], ◌∷◌}
+use Rattle.std.proofs.Common.{◌++◌, length, insert, set, get_or-set_same, get_or-set_other, refl, ap, sym, ◌∙◌, arith}
 use Rattle.std.proofs.lemmas.Bool.Decides.{nat_tests}
 use Rattle.std.proofs.lemmas.List.{set_past}
 use Rattle.bearer.specs.Bearer.{Of, of, Life, alive}
@@ -27,15 +28,18 @@ pub record GoesBy (l : ℕ) (bs ds : List (Of Life)) (cs : List BearerCall) : Ty
 pub rests : (l : ℕ) (bs : List (Of Life)) → GoesBy l bs bs []
 rests l bs = record { has_is = refl; goes = λ h. refl }
 
-pub goes_then : (l : ℕ) (bs ds es : List (Of Life)) (cs more : List BearerCall) → GoesBy l bs ds cs → GoesBy l ds es more → GoesBy l bs es (cs ++ more)
+pub goes_then : (l : ℕ) (bs ds es : List (Of Life)) (cs more : List BearerCall) → GoesBy l bs ds cs
+    → GoesBy l ds es more → GoesBy l bs es (cs ++ more)
 goes_then l bs ds es cs more a b = record {
   has_is = b.has_is ∙ a.has_is;
-  goes = λ h. b.goes (a.has_is ∙ h) ∙ ap (λ (f : Flow). after_all f more) (a.goes h) ∙ sym (after_more (flow_at l bs) cs more);
+  goes = λ h. b.goes (a.has_is ∙ h) ∙ ap (λ (f : Flow). after_all f more) (a.goes h)
+      ∙ sym (after_more (flow_at l bs) cs more);
 }
 
 -- ---- the bearer at a place is called
 
-pub set_here : (l at : ℕ) (bs : List (Of Life)) (x : Of Life) (c : BearerCall) → (bearer_at bs at).lcid ≡ x.lcid → x.state.flow ≡ called (bearer_at bs at).state.flow c → at ≡ find l bs
+pub set_here : (l at : ℕ) (bs : List (Of Life)) (x : Of Life) (c : BearerCall) → (bearer_at bs at).lcid ≡ x.lcid
+    → x.state.flow ≡ called (bearer_at bs at).state.flow c → at ≡ find l bs
     → GoesBy l bs (set bs at x) (c ∷ [])
 set_here l at bs x c same e q = record {
   has_is = has_set l bs at x same;
@@ -47,7 +51,8 @@ set_here l at bs x c same e q = record {
       ∙ e ∙ ap (λ (k : ℕ). called (bearer_at bs k).state.flow c) q;
 }
 
-pub set_apart : (l at : ℕ) (bs : List (Of Life)) (x : Of Life) → (bearer_at bs at).lcid ≡ x.lcid → (has l bs ≡ true → at ≡ find l bs → ⊥) → GoesBy l bs (set bs at x) []
+pub set_apart : (l at : ℕ) (bs : List (Of Life)) (x : Of Life) → (bearer_at bs at).lcid ≡ x.lcid
+    → (has l bs ≡ true → at ≡ find l bs → ⊥) → GoesBy l bs (set bs at x) []
 set_apart l at bs x same apart = record {
   has_is = has_set l bs at x same;
   goes = λ h.
@@ -64,18 +69,24 @@ pub other_lcid : (m l : ℕ) → (m == l) ≡ false → m ≡ l → ⊥
 other_lcid m l e q = grind (arith, nat_tests)
 
 -- where there is none, nothing changes
-pub absent_by : (here : Bool) (l m : ℕ) (bs : List (Of Life)) (c : BearerCall) → (m == l) ≡ here → has m bs ≡ false → GoesBy l bs bs (only here c)
+pub absent_by : (here : Bool) (l m : ℕ) (bs : List (Of Life)) (c : BearerCall) → (m == l) ≡ here → has m bs ≡ false
+    → GoesBy l bs bs (only here c)
 absent_by true l m bs c e none = record {
   has_is = refl;
   goes = λ h. let no : false ≡ true = sym none ∙ ap (λ (k : ℕ). has k bs) (same_lcid m l e) ∙ h in absurd cc;
 }
 absent_by false l m bs c e none = rests l bs
 
-pub on_by : (here there : Bool) (l m : ℕ) (bs : List (Of Life)) (x : Of Life) (c : BearerCall) → (m == l) ≡ here → has m bs ≡ there
-    → (bearer_at bs (find m bs)).lcid ≡ x.lcid → x.state.flow ≡ called (flow_at m bs) c → GoesBy l bs (set bs (find m bs) x) (only here c)
-on_by true true l m bs x c e h same q = set_here l (find m bs) bs x c same q (ap (λ (k : ℕ). find k bs) (same_lcid m l e))
+pub on_by : (here there : Bool) (l m : ℕ) (bs : List (Of Life)) (x : Of Life) (c : BearerCall) → (m == l) ≡ here
+    → has m bs ≡ there
+    → (bearer_at bs (find m bs)).lcid ≡ x.lcid → x.state.flow ≡ called (flow_at m bs) c
+    → GoesBy l bs (set bs (find m bs) x) (only here c)
+on_by true true l m bs x c e h same q =
+    set_here l (find m bs) bs x c same q (ap (λ (k : ℕ). find k bs) (same_lcid m l e))
 on_by false true l m bs x c e h same q =
-    set_apart l (find m bs) bs x same (λ there at. other_lcid m l e (sym (found m bs h) ∙ ap (λ (k : ℕ). (bearer_at bs k).lcid) at ∙ found l bs there))
+    set_apart l (find m bs) bs x same
+    (λ there at. other_lcid m l e (sym (found m bs h) ∙ ap (λ (k : ℕ). (bearer_at bs k).lcid) at
+    ∙ found l bs there))
 on_by here false l m bs x c e h same q =
     let past : length bs ≤ find m bs = grind (arith, nat_tests) in
     rw (set_past bs (find m bs) x past) (absent_by here l m bs c e h)
@@ -91,13 +102,18 @@ has_first l b bs e = rw e (grind (arith, nat_tests))
 pub has_behind : (l : ℕ) (b : Of Life) (bs : List (Of Life)) → (b.lcid == l) ≡ false → has l (b ∷ bs) ≡ has l bs
 has_behind l b bs e = rw e (lt_more (find l bs) (length bs))
 
-pub flow_behind : (l : ℕ) (b : Of Life) (bs : List (Of Life)) → (b.lcid == l) ≡ false → flow_at l (b ∷ bs) ≡ flow_at l bs
+pub flow_behind : (l : ℕ) (b : Of Life) (bs : List (Of Life)) → (b.lcid == l) ≡ false
+    → flow_at l (b ∷ bs) ≡ flow_at l bs
 flow_behind l b bs e =
     let next : find l bs + 1 ≡ suc (find l bs) = omega arith in
     rw (flow_at, e, next) refl
 
-cons_by : (t : Bool) (l : ℕ) (b : Of Life) (bs ds : List (Of Life)) → (b.lcid == l) ≡ t → GoesBy l bs ds [] → GoesBy l (b ∷ bs) (b ∷ ds) []
-cons_by true l b bs ds e g = record { has_is = has_first l b ds e ∙ sym (has_first l b bs e); goes = λ h. rw (flow_at, e) refl }
+cons_by : (t : Bool) (l : ℕ) (b : Of Life) (bs ds : List (Of Life)) → (b.lcid == l) ≡ t → GoesBy l bs ds []
+    → GoesBy l (b ∷ bs) (b ∷ ds) []
+cons_by true l b bs ds e g = record {
+  has_is = has_first l b ds e ∙ sym (has_first l b bs e);
+  goes = λ h. rw (flow_at, e) refl;
+}
 cons_by false l b bs ds e g = record {
   has_is = has_behind l b ds e ∙ g.has_is ∙ sym (has_behind l b bs e);
   goes = λ h. flow_behind l b ds e ∙ g.goes (sym (has_behind l b bs e) ∙ h) ∙ sym (flow_behind l b bs e);
@@ -106,13 +122,15 @@ cons_by false l b bs ds e g = record {
 before_by : (l : ℕ) (x : Of Life) (bs : List (Of Life)) → (x.lcid == l) ≡ false → GoesBy l bs (x ∷ bs) []
 before_by l x bs e = record { has_is = has_behind l x bs e; goes = λ h. flow_behind l x bs e }
 
-other_by : (t : Bool) (l m : ℕ) (x b : Of Life) (bs : List (Of Life)) → (x.lcid == l) ≡ false → GoesBy l bs (insert bs (place m bs) x) []
+other_by : (t : Bool) (l m : ℕ) (x b : Of Life) (bs : List (Of Life)) → (x.lcid == l) ≡ false
+    → GoesBy l bs (insert bs (place m bs) x) []
     → GoesBy l (b ∷ bs) (insert (b ∷ bs) (if t then place m bs + 1 else 0) x) []
 other_by true l m x b bs e g =
     let next : place m bs + 1 ≡ suc (place m bs) = omega arith in
     rw next (cons_by (b.lcid == l) l b bs (insert bs (place m bs) x) refl g)
 other_by false l m x b bs e g = before_by l x (b ∷ bs) e
 
-pub insert_by : (l m : ℕ) (x : Of Life) (bs : List (Of Life)) → (x.lcid == l) ≡ false → GoesBy l bs (insert bs (place m bs) x) []
+pub insert_by : (l m : ℕ) (x : Of Life) (bs : List (Of Life)) → (x.lcid == l) ≡ false
+    → GoesBy l bs (insert bs (place m bs) x) []
 insert_by l m x [] e = before_by l x [] e
 insert_by l m x (b ∷ bs) e = other_by (nat_lt b.lcid m) l m x b bs e (insert_by l m x bs e)

@@ -1,11 +1,14 @@
 -- What an end of a pair does in several deeds, one after the other.
-use Rattle.std.proofs.Common.{◌≡◌, ℕ, List, [], ◌∷◌, ◌++◌, map, length, Option, Some, None, slice_get, append_assoc, refl, ap, sym, subst, ◌∙◌}
+use Rattle.std.proofs.Common.{◌≡◌, ℕ, List, [], ◌∷◌, ◌++◌, map, length, Option, Some, None, slice_get, append_assoc}
+use Rattle.std.proofs.Common.{refl, ap, sym, subst, ◌∙◌}
 use Rattle.law_rlc.specs.AmPair.Flow.{Copy, except}
 use Rattle.bearer.specs.declared.flow.Flow.{Flow}
 use Rattle.bearer.specs.declared.flow.Flow.TheVariants.{Am}
 use Rattle.bearer.specs.Acknowledged.State.{State}
 use Rattle.law_bearer.specs.AnyBearer.Calls.{Call, Arrive, after_all}
-use Rattle.law_deliver.specs.AmFlow.Pair.{Sent, BearerEnd, Pair, Deed, Calls, DataComes, StatusComes, DataGoes, StatusGoes, Step, Near, Far, arrives, data_comes, status_comes, does, happens, goes, IsDone, AreGiven}
+use Rattle.law_deliver.specs.AmFlow.Pair.{Sent, BearerEnd, Pair, Deed, Calls, DataComes, StatusComes, DataGoes}
+use Rattle.law_deliver.specs.AmFlow.Pair.{StatusGoes, Step, Near, Far, arrives, data_comes, status_comes, does, happens}
+use Rattle.law_deliver.specs.AmFlow.Pair.{goes, IsDone, AreGiven}
 use Rattle.law_deliver.proofs.AmFlow.Sending.{is_called}
 
 -- ---- deeds at one end
@@ -24,11 +27,13 @@ near_steps ds = map (λ d. Near d) ds
 abbrev pub far_steps : List Deed → List Step
 far_steps ds = map (λ d. Far d) ds
 
-pub near_goes : (p : Pair) (ds : List Deed) → goes (near_steps ds) p ≡ record { near = does_all p.far p.near ds; far = p.far }
+pub near_goes : (p : Pair) (ds : List Deed)
+    → goes (near_steps ds) p ≡ record { near = does_all p.far p.near ds; far = p.far }
 near_goes p [] = refl
 near_goes p (d ∷ ds) = near_goes (happens p (Near d)) ds
 
-pub far_goes : (p : Pair) (ds : List Deed) → goes (far_steps ds) p ≡ record { near = p.near; far = does_all p.near p.far ds }
+pub far_goes : (p : Pair) (ds : List Deed)
+    → goes (far_steps ds) p ≡ record { near = p.near; far = does_all p.near p.far ds }
 far_goes p [] = refl
 far_goes p (d ∷ ds) = far_goes (happens p (Far d)) ds
 
@@ -87,7 +92,8 @@ pub record Hears (other e : BearerEnd) (pdus : List (List ℕ)) : Type 0 where
 none_hears : (other e : BearerEnd) → Hears other e []
 none_hears other e = record { deeds = []; done = tt; bearer = e.bearer; is = refl; flow_is = refl; calls_are = refl }
 
-one_hears : (other e : BearerEnd) (d : Deed) (pdu : List ℕ) (pdus : List (List ℕ)) → IsDone e d → does other e d ≡ arrives e pdu → calls_in other d ≡ Arrive pdu ∷ [] → Hears other (arrives e pdu) pdus
+one_hears : (other e : BearerEnd) (d : Deed) (pdu : List ℕ) (pdus : List (List ℕ)) → IsDone e d
+    → does other e d ≡ arrives e pdu → calls_in other d ≡ Arrive pdu ∷ [] → Hears other (arrives e pdu) pdus
     → Hears other e (pdu ∷ pdus)
 one_hears other e d pdu pdus g q i h = record {
   deeds = d ∷ h.deeds;
@@ -95,7 +101,8 @@ one_hears other e d pdu pdus g q i h = record {
   bearer = h.bearer;
   is = ap (λ (x : BearerEnd). does_all other x h.deeds) q ∙ h.is;
   flow_is = ap (λ (f : Flow). after_all f (map (λ p. Arrive p) pdus)) (is_called e.bearer (Arrive pdu)) ∙ h.flow_is;
-  calls_are = ap (λ (cs : List Call). cs ++ all_calls_in other h.deeds) i ∙ ap (λ (cs : List Call). Arrive pdu ∷ cs) h.calls_are;
+  calls_are = ap (λ (cs : List Call). cs ++ all_calls_in other h.deeds) i
+      ∙ ap (λ (cs : List Call). Arrive pdu ∷ cs) h.calls_are;
 }
 
 abbrev pub octets_of : List Copy → List (List ℕ)
@@ -104,23 +111,32 @@ octets_of cs = map (λ (c : Copy). c.octets) cs
 abbrev pub texts_of : List Sent → List (List ℕ)
 texts_of rs = map (λ (r : Sent). r.octets) rs
 
-pub data_hears : (other e : BearerEnd) (pre cs post : List Copy) → other.copies ≡ pre ++ (cs ++ post) → Hears other e (octets_of cs)
+pub data_hears : (other e : BearerEnd) (pre cs post : List Copy) → other.copies ≡ pre ++ (cs ++ post)
+    → Hears other e (octets_of cs)
 data_hears other e pre [] post q = none_hears other e
 data_hears other e pre (c ∷ cs) post q =
-    let at : slice_get other.copies (length pre) ≡ Some c = ap (λ (l : List Copy). slice_get l (length pre)) q ∙ at_front pre c (cs ++ post) in
-    one_hears other e (DataComes (length pre)) c.octets (octets_of cs) tt (ap (λ (o : Option Copy). data_comes e o) at) (ap data_call at)
+    let at : slice_get other.copies (length pre) ≡ Some c =
+    ap (λ (l : List Copy). slice_get l (length pre)) q ∙ at_front pre c (cs ++ post) in
+    one_hears other e (DataComes (length pre)) c.octets (octets_of cs) tt
+    (ap (λ (o : Option Copy). data_comes e o) at) (ap data_call at)
     (data_hears other (arrives e c.octets) (pre ++ c ∷ []) cs post (q ∙ sym (append_assoc pre (c ∷ []) (cs ++ post))))
 
-pub all_hears : (other e : BearerEnd) (pre rs post : List Sent) (before cs behind : List Copy) → other.reports ≡ pre ++ (rs ++ post) → other.copies ≡ before ++ (cs ++ behind) → Hears other e (texts_of rs ++ octets_of cs)
+pub all_hears : (other e : BearerEnd) (pre rs post : List Sent) (before cs behind : List Copy)
+    → other.reports ≡ pre ++ (rs ++ post) → other.copies ≡ before ++ (cs ++ behind)
+    → Hears other e (texts_of rs ++ octets_of cs)
 all_hears other e pre [] post before cs behind q p = data_hears other e before cs behind p
 all_hears other e pre (r ∷ rs) post before cs behind q p =
-    let at : slice_get other.reports (length pre) ≡ Some r = ap (λ (l : List Sent). slice_get l (length pre)) q ∙ at_front pre r (rs ++ post) in
-    one_hears other e (StatusComes (length pre)) r.octets (texts_of rs ++ octets_of cs) tt (ap (λ (o : Option Sent). status_comes e o) at) (ap status_call at)
-    (all_hears other (arrives e r.octets) (pre ++ r ∷ []) rs post before cs behind (q ∙ sym (append_assoc pre (r ∷ []) (rs ++ post))) p)
+    let at : slice_get other.reports (length pre) ≡ Some r =
+    ap (λ (l : List Sent). slice_get l (length pre)) q ∙ at_front pre r (rs ++ post) in
+    one_hears other e (StatusComes (length pre)) r.octets (texts_of rs ++ octets_of cs) tt
+    (ap (λ (o : Option Sent). status_comes e o) at) (ap status_call at)
+    (all_hears other (arrives e r.octets) (pre ++ r ∷ []) rs post before cs behind
+    (q ∙ sym (append_assoc pre (r ∷ []) (rs ++ post))) p)
 
 -- ---- several PDUs are let go
 
-pub except_front : {A : Type 0} (pre : List A) (x : A) (post : List A) → except (length pre) (pre ++ x ∷ post) ≡ pre ++ post
+pub except_front : {A : Type 0} (pre : List A) (x : A) (post : List A)
+    → except (length pre) (pre ++ x ∷ post) ≡ pre ++ post
 except_front [] x post = refl
 except_front (p ∷ pre) x post = ap (λ l. p ∷ l) (except_front pre x post)
 
@@ -130,7 +146,9 @@ pub record Drops (other e : BearerEnd) (copies : List Copy) (reports : List Sent
   pub is : does_all other e deeds ≡ record e { copies = copies; reports = reports }
   pub calls_none : all_calls_in other deeds ≡ []
 
-one_drops : (other e : BearerEnd) (d : Deed) (x : BearerEnd) (copies : List Copy) (reports : List Sent) → IsDone e d → calls_in other d ≡ [] → does other e d ≡ x → record x { copies = copies; reports = reports } ≡ record e { copies = copies; reports = reports }
+one_drops : (other e : BearerEnd) (d : Deed) (x : BearerEnd) (copies : List Copy) (reports : List Sent) → IsDone e d
+    → calls_in other d ≡ [] → does other e d ≡ x
+    → record x { copies = copies; reports = reports } ≡ record e { copies = copies; reports = reports }
     → Drops other x copies reports → Drops other e copies reports
 one_drops other e d x copies reports g i q same h = record {
   deeds = d ∷ h.deeds;
@@ -139,18 +157,25 @@ one_drops other e d x copies reports g i q same h = record {
   calls_none = ap (λ (cs : List Call). cs ++ all_calls_in other h.deeds) i ∙ h.calls_none;
 }
 
-pub data_drops : (other e : BearerEnd) (before cs behind : List Copy) → e.copies ≡ before ++ (cs ++ behind) → Drops other e (before ++ behind) e.reports
-data_drops other e before [] behind p = record { deeds = []; done = tt; is = ap (λ (l : List Copy). record e { copies = l }) p; calls_none = refl }
+pub data_drops : (other e : BearerEnd) (before cs behind : List Copy) → e.copies ≡ before ++ (cs ++ behind)
+    → Drops other e (before ++ behind) e.reports
+data_drops other e before [] behind p =
+    record { deeds = []; done = tt; is = ap (λ (l : List Copy). record e { copies = l }) p; calls_none = refl }
 data_drops other e before (c ∷ cs) behind p =
     let x : BearerEnd = record e { copies = before ++ (cs ++ behind) } in
     one_drops other e (DataGoes (length before)) x (before ++ behind) e.reports tt refl
-    (ap (λ (l : List Copy). record e { copies = l }) (ap (except (length before)) p ∙ except_front before c (cs ++ behind))) refl
+    (ap (λ (l : List Copy). record e { copies = l }) (ap (except (length before)) p
+    ∙ except_front before c (cs ++ behind))) refl
     (data_drops other x before cs behind refl)
 
-pub all_drops : (other e : BearerEnd) (pre rs post : List Sent) (before cs behind : List Copy) → e.reports ≡ pre ++ (rs ++ post) → e.copies ≡ before ++ (cs ++ behind) → Drops other e (before ++ behind) (pre ++ post)
-all_drops other e pre [] post before cs behind q p = subst (λ (l : List Sent). Drops other e (before ++ behind) l) q (data_drops other e before cs behind p)
+pub all_drops : (other e : BearerEnd) (pre rs post : List Sent) (before cs behind : List Copy)
+    → e.reports ≡ pre ++ (rs ++ post) → e.copies ≡ before ++ (cs ++ behind)
+    → Drops other e (before ++ behind) (pre ++ post)
+all_drops other e pre [] post before cs behind q p =
+    subst (λ (l : List Sent). Drops other e (before ++ behind) l) q (data_drops other e before cs behind p)
 all_drops other e pre (r ∷ rs) post before cs behind q p =
     let x : BearerEnd = record e { reports = pre ++ (rs ++ post) } in
     one_drops other e (StatusGoes (length pre)) x (before ++ behind) (pre ++ post) tt refl
-    (ap (λ (l : List Sent). record e { reports = l }) (ap (except (length pre)) q ∙ except_front pre r (rs ++ post))) refl
+    (ap (λ (l : List Sent). record e { reports = l }) (ap (except (length pre)) q ∙ except_front pre r (rs ++ post)))
+    refl
     (all_drops other x pre rs post before cs behind refl p)

@@ -1,5 +1,6 @@
 -- What a flow stands at, and steps that bring it on.
-use Rattle.std.proofs.Common.{◌≡◌, ℕ, zero, suc, Bool, true, false, ◌||◌, List, [], ◌∷◌, ◌++◌, map, Some, None, slice_get, refl, sym, subst}
+use Rattle.std.proofs.Common.{◌≡◌, ℕ, zero, suc, Bool, true, false, ◌||◌, List, [], ◌∷◌, ◌++◌, map, Some, None}
+use Rattle.std.proofs.Common.{slice_get, refl, sym, subst}
 use Rattle.rlc_am_tx.specs.Machine.{State as Sender}
 use Rattle.rlc_am_rx.specs.State.{State as Receiver}
 use Rattle.law_rlc.specs.AmPair.Flow.{Copy, Flow, Step, sender, receiver, happens, goes}
@@ -7,7 +8,8 @@ use Rattle.law_rlc.specs.AmPair.Given.{IsGiven, AreGiven}
 use Rattle.law_deliver.specs.AmFlow.Pair.{Sent}
 use Rattle.law_deliver.specs.AmFlow.Flows.{sent_as}
 
-pub record Stands (tx : Sender) (rx : Receiver) (copies : List Copy) (reports : List Sent) (busy : Bool) (f : Flow) : Type 0 where
+pub record Stands (tx : Sender) (rx : Receiver) (copies : List Copy) (reports : List Sent) (busy : Bool) (f : Flow) :
+    Type 0 where
   pub sender_is : (sender f).state ≡ tx
   pub receiver_is : (receiver f).state ≡ rx
   pub copies_are : f.copies ≡ copies
@@ -15,7 +17,8 @@ pub record Stands (tx : Sender) (rx : Receiver) (copies : List Copy) (reports : 
   pub busy_is : f.busy ≡ busy
 
 -- steps bring a flow there
-pub record Goes (f : Flow) (tx : Sender) (rx : Receiver) (copies : List Copy) (reports : List Sent) (busy : Bool) : Type 0 where
+pub record Goes (f : Flow) (tx : Sender) (rx : Receiver) (copies : List Copy) (reports : List Sent) (busy : Bool) :
+    Type 0 where
   pub steps : List Step
   pub given : AreGiven f steps
   pub stands : Stands tx rx copies reports busy (goes steps f)
@@ -28,10 +31,12 @@ pub given_more : (f : Flow) (ss ts : List Step) → AreGiven f ss → AreGiven (
 given_more f [] ts g h = h
 given_more f (s ∷ ss) ts g h = (g.0, given_more (happens f s) ss ts g.1 h)
 
-pub stays : (f : Flow) (tx : Sender) (rx : Receiver) (cs : List Copy) (rs : List Sent) (b : Bool) → Stands tx rx cs rs b f → Goes f tx rx cs rs b
+pub stays : (f : Flow) (tx : Sender) (rx : Receiver) (cs : List Copy) (rs : List Sent) (b : Bool)
+    → Stands tx rx cs rs b f → Goes f tx rx cs rs b
 stays f tx rx cs rs b h = record { steps = []; given = tt; stands = h }
 
-pub steps_once : (f : Flow) (s : Step) (tx : Sender) (rx : Receiver) (cs : List Copy) (rs : List Sent) (b : Bool) → IsGiven f s → Stands tx rx cs rs b (happens f s) → Goes f tx rx cs rs b
+pub steps_once : (f : Flow) (s : Step) (tx : Sender) (rx : Receiver) (cs : List Copy) (rs : List Sent) (b : Bool)
+    → IsGiven f s → Stands tx rx cs rs b (happens f s) → Goes f tx rx cs rs b
 steps_once f s tx rx cs rs b g h = record { steps = s ∷ []; given = (g, tt); stands = h }
 
 pub goes_on : (f : Flow) (tx ty : Sender) (rx ry : Receiver) (cs ds : List Copy) (rs ss : List Sent) (b c : Bool)
@@ -49,12 +54,14 @@ or_none true = refl
 or_none false = refl
 
 -- nothing new was sent
-pub none_new : (f : Flow) (tx : Sender) (rx : Receiver) (cs : List Copy) (rs : List Sent) (b : Bool) → Goes f tx rx cs rs b → Goes f tx rx cs rs (b || false)
+pub none_new : (f : Flow) (tx : Sender) (rx : Receiver) (cs : List Copy) (rs : List Sent) (b : Bool)
+    → Goes f tx rx cs rs b → Goes f tx rx cs rs (b || false)
 none_new f tx rx cs rs b h = subst (Goes f tx rx cs rs) (or_none b) h
 
 -- ---- places of lists
 
-pub at_place : {A : Type 0} {B : Type 0} (g : A → B) (xs : List A) (k : ℕ) (y : B) → slice_get (map g xs) k ≡ Some y → (x : A) × (slice_get xs k ≡ Some x) × (g x ≡ y)
+pub at_place : {A : Type 0} {B : Type 0} (g : A → B) (xs : List A) (k : ℕ) (y : B) → slice_get (map g xs) k ≡ Some y
+    → (x : A) × (slice_get xs k ≡ Some x) × (g x ≡ y)
 at_place g [] k y e = let no : None ≡ Some y = e in absurd cc
 at_place g (x ∷ xs) zero y e = let same : Some (g x) ≡ Some y = e in (x, refl, cc)
 at_place g (x ∷ xs) (suc k) y e = at_place g xs k y e

@@ -1,11 +1,13 @@
 -- What an end and its bearer of a channel do together.
-use Rattle.std.proofs.Common.{◌≡◌, ℕ, zero, suc, ◌==◌, Bool, true, false, List, [], ◌∷◌, ◌++◌, map, Option, Some, None, slice_get, refl, ap, sym, subst, ◌∙◌}
+use Rattle.std.proofs.Common.{◌≡◌, ℕ, zero, suc, ◌==◌, Bool, true, false, List, [], ◌∷◌, ◌++◌, map, Option, Some, None}
+use Rattle.std.proofs.Common.{slice_get, refl, ap, sym, subst, ◌∙◌}
 use Rattle.std.specs.List.{AllByRecursion}
 use Rattle.law_rlc.specs.AmPair.Flow.{except}
 use Rattle.bearer.specs.declared.flow.Flow.{Flow}
 use Rattle.bearer.specs.declared.flow.Flow.TheVariants.{Am}
 use Rattle.bearer.specs.Acknowledged.State.{State}
-use Rattle.law_bearer.specs.AnyBearer.Calls.{Call as BearerCall, Submit as Submits, Take as Takes, Arrive as Arrives, Expire as Expires, Tick as Ticks, SetDiscard as SetsDiscard, after_all}
+use Rattle.law_bearer.specs.AnyBearer.Calls.{Call as BearerCall, Submit as Submits, Take as Takes, Arrive as Arrives}
+use Rattle.law_bearer.specs.AnyBearer.Calls.{Expire as Expires, Tick as Ticks, SetDiscard as SetsDiscard, after_all}
 use Rattle.harq.specs.Sending.{Sending, fresh as fresh_sender}
 use Rattle.l2_bits.specs.declared.fault.SubmitRefusal.{SubmitRefusal}
 use Rattle.l2_node.specs.End.{End, fresh, with_visits, with_bearer}
@@ -15,7 +17,9 @@ use Rattle.l2_node.specs.Hearing.{expired}
 use Rattle.l2_node.specs.Submitting.{refusal, discarding}
 use Rattle.l2_types.specs.declared.side.Side.{Side}
 use Rattle.mac_pdu.specs.declared.item.Direction.{Direction}
-use Rattle.law_node.specs.Calls.{Turn, Call, SetVisits, SetReports, Add, Submit, SetDiscard, Tick, TickBuckets, Visits, Grants, Granted, Assigned, Pass, Receive, Expire, Move, IsGiven as IsGivenCall, AreGiven as AreGivenCalls, after, run}
+use Rattle.law_node.specs.Calls.{Turn, Call, SetVisits, SetReports, Add, Submit, SetDiscard, Tick, TickBuckets, Visits}
+use Rattle.law_node.specs.Calls.{Grants, Granted, Assigned, Pass, Receive, Expire, Move, IsGiven as IsGivenCall}
+use Rattle.law_node.specs.Calls.{AreGiven as AreGivenCalls, after, run}
 use Rattle.law_node.specs.Holding.{flow}
 use Rattle.law_node.proofs.Holders.{Fewer, fresh_none}
 use Rattle.law_node.proofs.Living.{reached_side}
@@ -26,7 +30,8 @@ use Rattle.law_deliver.specs.AmFlow.Channels.{only, submits_of, calls_of, GoesOn
 use Rattle.promises.specs.Pdus.{carried}
 use Rattle.law_deliver.specs.AmFlow.Pair.{BearerEnd, Deed, Calls, called, calls, IsDone}
 use Rattle.law_deliver.proofs.AmFlow.Channels.{receive_by, plain_by}
-use Rattle.law_deliver.proofs.AmFlow.Loads.{Load, all_copies, all_reports, blocks_in, IsLoad, Split, split_at, except_blocks, except_all, all_at}
+use Rattle.law_deliver.proofs.AmFlow.Loads.{Load, all_copies, all_reports, blocks_in, IsLoad, Split, split_at}
+use Rattle.law_deliver.proofs.AmFlow.Loads.{except_blocks, except_all, all_at}
 use Rattle.law_deliver.proofs.AmFlow.Places.{GoesBy}
 use Rattle.law_deliver.proofs.AmFlow.Runs.{does_all, AreDone, all_calls_in, all_hears, all_drops, Drops}
 use Rattle.law_deliver.proofs.AmFlow.Sending.{is_called}
@@ -74,7 +79,8 @@ pub come_side : (side : Side) (e : End) → HasCome side e → e.side ≡ side
 come_side side e h = ap (λ (x : End). x.side) h.end_is ∙ reached_side side h.maximum h.reports h.past
 
 pub come_sound : (side : Side) (e : End) → HasCome side e → IsSound e.buckets
-come_sound side e h = subst (λ (x : End). IsSound x.buckets) (sym h.end_is) (reached_sound side h.maximum h.reports h.past h.given)
+come_sound side e h =
+    subst (λ (x : End). IsSound x.buckets) (sym h.end_is) (reached_sound side h.maximum h.reports h.past h.given)
 
 -- ---- a block comes
 
@@ -82,16 +88,19 @@ abbrev pub calls_by : ℕ → End → Option Block → List BearerCall
 calls_by l e None = []
 calls_by l e (Some b) = calls_of l e (Receive b.octets)
 
-pub hears : (side oside : Side) (l k : ℕ) (s o : Station) (n m : BearerEnd) (x : Option Block) → heard_by side ≡ sent_by oside → Matches side l s n → Matches oside l o m → slice_get o.blocks k ≡ x
+pub hears : (side oside : Side) (l k : ℕ) (s o : Station) (n m : BearerEnd) (x : Option Block)
+    → heard_by side ≡ sent_by oside → Matches side l s n → Matches oside l o m → slice_get o.blocks k ≡ x
     → Acts side l (comes s x) m n (calls_by l s.end x)
 hears side oside l k s o n m None dir h g q = record { deeds = []; done = tt; calls_are = refl; matches = h }
 hears side oside l k s o n m (Some b) dir h g q =
     let e = s.end in
     let at = at_place (λ (x : Load). x.block) g.loads k b (ap (λ (bs : List Block). slice_get bs k) g.blocks_are ∙ q) in
     let x : Load = at.0 in
-    let load : IsLoad l (sent_by oside) o.end.sender o.end.numbers x = all_at (IsLoad l (sent_by oside) o.end.sender o.end.numbers) g.loads k x g.are at.1 in
+    let load : IsLoad l (sent_by oside) o.end.sender o.end.numbers x =
+    all_at (IsLoad l (sent_by oside) o.end.sender o.end.numbers) g.loads k x g.are at.1 in
     let sp : Split g.loads k x = split_at g.loads k x at.1 in
-    let hr = all_hears m n sp.pre x.reports sp.post sp.before x.copies sp.behind (g.reports_are ∙ sp.reports_are) (g.copies_are ∙ sp.copies_are) in
+    let hr = all_hears m n sp.pre x.reports sp.post sp.before x.copies sp.behind (g.reports_are ∙ sp.reports_are)
+    (g.copies_are ∙ sp.copies_are) in
     let by = receive_by l e b.octets in
     let carries = ap (λ (z : Side). carried l (heard_by z) b.octets) (come_side side e h.come)
     ∙ ap (λ (d : Direction). carried l d b.octets) dir
@@ -114,7 +123,13 @@ hears side oside l k s o n m (Some b) dir h g q =
       are = h.are;
       busy = h.busy;
     } in
-    record { deeds = hr.deeds; done = hr.done; calls_are = hr.calls_are ∙ ap (λ (ps : List (List ℕ)). map (λ p. Arrives p) ps) (sym carries); matches = subst (Matches side l t) (sym hr.is) now }
+    record {
+      deeds = hr.deeds;
+      done = hr.done;
+      calls_are =
+          hr.calls_are ∙ ap (λ (ps : List (List ℕ)). map (λ p. Arrives p) ps) (sym carries);
+      matches = subst (Matches side l t) (sym hr.is) now;
+    }
 
 -- ---- a block is let go
 
@@ -123,13 +138,22 @@ except_none [] k q = refl
 except_none (x ∷ xs) zero q = let no : Some x ≡ None = q in absurd cc
 except_none (x ∷ xs) (suc k) q = ap (λ l. x ∷ l) (except_none xs k q)
 
-pub lets_go : (side : Side) (l k : ℕ) (s : Station) (n m : BearerEnd) (h : Matches side l s n) (o : Option Load) → slice_get h.loads k ≡ o → Acts side l (record s { blocks = except k s.blocks }) m n []
+pub lets_go : (side : Side) (l k : ℕ) (s : Station) (n m : BearerEnd) (h : Matches side l s n) (o : Option Load)
+    → slice_get h.loads k ≡ o → Acts side l (record s { blocks = except k s.blocks }) m n []
 lets_go side l k s n m h None q =
-    let same : except k s.blocks ≡ s.blocks = ap (except k) (sym h.blocks_are) ∙ sym (except_blocks h.loads k) ∙ ap blocks_in (except_none h.loads k q) ∙ h.blocks_are in
-    record { deeds = []; done = tt; calls_are = refl; matches = subst (λ (bs : List Block). Matches side l (record s { blocks = bs }) n) (sym same) h }
+    let same : except k s.blocks ≡ s.blocks = ap (except k) (sym h.blocks_are) ∙ sym (except_blocks h.loads k)
+    ∙ ap blocks_in (except_none h.loads k q) ∙ h.blocks_are in
+    record {
+      deeds = [];
+      done = tt;
+      calls_are = refl;
+      matches = subst (λ (bs : List Block). Matches side l (record s { blocks = bs }) n) (sym same) h;
+    }
 lets_go side l k s n m h (Some x) q =
     let sp : Split h.loads k x = split_at h.loads k x q in
-    let d : Drops m n (sp.before ++ sp.behind) (sp.pre ++ sp.post) = all_drops m n sp.pre x.reports sp.post sp.before x.copies sp.behind (h.reports_are ∙ sp.reports_are) (h.copies_are ∙ sp.copies_are) in
+    let d : Drops m n (sp.before ++ sp.behind) (sp.pre ++ sp.post) =
+    all_drops m n sp.pre x.reports sp.post sp.before x.copies sp.behind (h.reports_are ∙ sp.reports_are)
+    (h.copies_are ∙ sp.copies_are) in
     let t : Station = record s { blocks = except k s.blocks } in
     let now : Matches side l t (record n { copies = sp.before ++ sp.behind; reports = sp.pre ++ sp.post }) = record {
       come = h.come;
@@ -142,7 +166,12 @@ lets_go side l k s n m h (Some x) q =
       are = except_all (IsLoad l (sent_by side) s.end.sender s.end.numbers) k h.loads h.are;
       busy = h.busy;
     } in
-    record { deeds = d.deeds; done = d.done; calls_are = d.calls_none; matches = subst (Matches side l t) (sym d.is) now }
+    record {
+      deeds = d.deeds;
+      done = d.done;
+      calls_are = d.calls_none;
+      matches = subst (Matches side l t) (sym d.is) now;
+    }
 
 -- ---- calls that write nothing and bring no PDU
 
@@ -155,12 +184,15 @@ IsPlain Ticks = Unit {0}
 IsPlain (SetsDiscard ttis) = Unit {0}
 
 plain_is : (n : BearerEnd) (c : BearerCall) → IsPlain c → calls n c ≡ record n { bearer = called n.bearer c }
-plain_is n (Submits sdu) p = ap (λ (b : Bool). record n { bearer = called n.bearer (Submits sdu); busy = b }) (sym (or_none n.busy))
+plain_is n (Submits sdu) p =
+    ap (λ (b : Bool). record n { bearer = called n.bearer (Submits sdu); busy = b }) (sym (or_none n.busy))
 plain_is n (Takes share held) p = absurd p
 plain_is n (Arrives pdu) p = absurd p
-plain_is n (Expires clock) p = ap (λ (b : Bool). record n { bearer = called n.bearer (Expires clock); busy = b }) (sym (or_none n.busy))
+plain_is n (Expires clock) p =
+    ap (λ (b : Bool). record n { bearer = called n.bearer (Expires clock); busy = b }) (sym (or_none n.busy))
 plain_is n Ticks p = ap (λ (b : Bool). record n { bearer = called n.bearer Ticks; busy = b }) (sym (or_none n.busy))
-plain_is n (SetsDiscard ttis) p = ap (λ (b : Bool). record n { bearer = called n.bearer (SetsDiscard ttis); busy = b }) (sym (or_none n.busy))
+plain_is n (SetsDiscard ttis) p =
+    ap (λ (b : Bool). record n { bearer = called n.bearer (SetsDiscard ttis); busy = b }) (sym (or_none n.busy))
 
 plain_done : (n : BearerEnd) (c : BearerCall) → IsPlain c → IsDone n (Calls c)
 plain_done n (Submits sdu) p = tt
@@ -193,7 +225,8 @@ plain_runs m n (c ∷ cs) p =
       calls_are = ap (λ (ds : List BearerCall). c ∷ ds) h.calls_are;
     }
 
-pub plain_acts : (side : Side) (l : ℕ) (s : Station) (n m : BearerEnd) (e : End) (cs : List BearerCall) (h : Matches side l s n) → HasCome side e → GoesBy l s.end.bearers e.bearers cs → AllByRecursion IsPlain cs
+pub plain_acts : (side : Side) (l : ℕ) (s : Station) (n m : BearerEnd) (e : End) (cs : List BearerCall)
+    (h : Matches side l s n) → HasCome side e → GoesBy l s.end.bearers e.bearers cs → AllByRecursion IsPlain cs
     → AllByRecursion (IsLoad l (sent_by side) e.sender e.numbers) h.loads → Acts side l (record s { end = e }) m n cs
 plain_acts side l s n m e cs h come by p are =
     let r : Runs m n cs = plain_runs m n cs p in
@@ -209,7 +242,12 @@ plain_acts side l s n m e cs h come by p are =
       are = are;
       busy = h.busy;
     } in
-    record { deeds = r.deeds; done = r.done; calls_are = r.calls_are; matches = subst (Matches side l t) (sym r.is) now }
+    record {
+      deeds = r.deeds;
+      done = r.done;
+      calls_are = r.calls_are;
+      matches = subst (Matches side l t) (sym r.is) now;
+    }
 
 plain_only : (t : Bool) (c : BearerCall) → IsPlain c → AllByRecursion IsPlain (only t c)
 plain_only true c p = (p, tt)
@@ -220,21 +258,38 @@ plain_submits None t octets = plain_only t (Submits octets) tt
 plain_submits (Some why) t octets = tt
 
 -- processes that hold less
-pub fewer_keep : (l : ℕ) (d : Direction) (s t : Sending) (numbers : Numbers) (xs : List Load) → Fewer s t → AllByRecursion (IsLoad l d s numbers) xs → AllByRecursion (IsLoad l d t numbers) xs
+pub fewer_keep : (l : ℕ) (d : Direction) (s t : Sending) (numbers : Numbers) (xs : List Load) → Fewer s t
+    → AllByRecursion (IsLoad l d s numbers) xs → AllByRecursion (IsLoad l d t numbers) xs
 fewer_keep l d s t numbers [] f h = tt
 fewer_keep l d s t numbers (x ∷ xs) f h =
-    let q = h.0 in
-    (record { carries = q.carries; process = q.process; aged = q.aged; noted = λ held. q.noted (λ none. held (f x.block.process none)) }, fewer_keep l d s t numbers xs f h.1)
+    let q = h.0 in (
+      record {
+        carries = q.carries;
+        process = q.process;
+        aged = q.aged;
+        noted = λ held. q.noted (λ none. held (f x.block.process none));
+      },
+      fewer_keep l d s t numbers xs f h.1,
+    )
 
-emptied_keep : (l maximum : ℕ) (d : Direction) (s : Sending) (numbers more : Numbers) (xs : List Load) → AllByRecursion (IsLoad l d s numbers) xs → AllByRecursion (IsLoad l d (fresh_sender maximum) more) xs
+emptied_keep : (l maximum : ℕ) (d : Direction) (s : Sending) (numbers more : Numbers) (xs : List Load)
+    → AllByRecursion (IsLoad l d s numbers) xs → AllByRecursion (IsLoad l d (fresh_sender maximum) more) xs
 emptied_keep l maximum d s numbers more [] h = tt
 emptied_keep l maximum d s numbers more (x ∷ xs) h =
-    let q = h.0 in
-    (record { carries = q.carries; process = q.process; aged = q.aged; noted = λ held. absurd (held (fresh_none maximum x.block.process)) }, emptied_keep l maximum d s numbers more xs h.1)
+    let q = h.0 in (
+      record {
+        carries = q.carries;
+        process = q.process;
+        aged = q.aged;
+        noted = λ held. absurd (held (fresh_none maximum x.block.process));
+      },
+      emptied_keep l maximum d s numbers more xs h.1,
+    )
 
 -- ---- a call that is no visit and brings no block
 
-pub plain_calls : (l : ℕ) (e : End) (c : Call) → GoesOnInLife l c → ((t : Turn) → c ≡ Visits t → ⊥) → ((block : List ℕ) → c ≡ Receive block → ⊥) → AllByRecursion IsPlain (calls_of l e c)
+pub plain_calls : (l : ℕ) (e : End) (c : Call) → GoesOnInLife l c → ((t : Turn) → c ≡ Visits t → ⊥)
+    → ((block : List ℕ) → c ≡ Receive block → ⊥) → AllByRecursion IsPlain (calls_of l e c)
 plain_calls l e (SetVisits maximum) g v r = tt
 plain_calls l e (SetReports reports) g v r = tt
 plain_calls l e (Add c keys) g v r = tt
@@ -251,10 +306,12 @@ plain_calls l e (Receive block) g v r = absurd (r block refl)
 plain_calls l e (Expire lcid clock) g v r = plain_only (lcid == l) (Expires clock) tt
 plain_calls l e (Move keys) g v r = tt
 
-pub plain_keep : (l : ℕ) (d : Direction) (e : End) (c : Call) (xs : List Load) → GoesOnInLife l c → ((t : Turn) → c ≡ Visits t → ⊥) → AllByRecursion (IsLoad l d e.sender e.numbers) xs
+pub plain_keep : (l : ℕ) (d : Direction) (e : End) (c : Call) (xs : List Load) → GoesOnInLife l c
+    → ((t : Turn) → c ≡ Visits t → ⊥) → AllByRecursion (IsLoad l d e.sender e.numbers) xs
     → AllByRecursion (IsLoad l d (after e c).sender (after e c).numbers) xs
 unfolding with_visits with_bearer discarding expired
-plain_keep l d e (SetVisits maximum) xs g v h = emptied_keep l maximum d e.sender e.numbers (with_visits maximum e).numbers xs h
+plain_keep l d e (SetVisits maximum) xs g v h =
+    emptied_keep l maximum d e.sender e.numbers (with_visits maximum e).numbers xs h
 plain_keep l d e (SetReports reports) xs g v h = h
 plain_keep l d e (Add c keys) xs g v h = h
 plain_keep l d e (Submit lcid octets) xs g v h = h
@@ -270,8 +327,10 @@ plain_keep l d e (Receive block) xs g v h = h
 plain_keep l d e (Expire lcid clock) xs g v h = h
 plain_keep l d e (Move keys) xs g v h = let no : keys ∷ [] ≡ [] = g.moves_none in absurd cc
 
-pub plain_call : (side : Side) (l : ℕ) (s : Station) (n m : BearerEnd) (c : Call) → Matches side l s n → IsGivenCall c → GoesOnInLife l c → ((t : Turn) → c ≡ Visits t → ⊥) → ((block : List ℕ) → c ≡ Receive block → ⊥)
+pub plain_call : (side : Side) (l : ℕ) (s : Station) (n m : BearerEnd) (c : Call) → Matches side l s n → IsGivenCall c
+    → GoesOnInLife l c → ((t : Turn) → c ≡ Visits t → ⊥) → ((block : List ℕ) → c ≡ Receive block → ⊥)
     → Acts side l (record s { end = after s.end c }) m n (calls_of l s.end c)
 plain_call side l s n m c h g life v r =
-    plain_acts side l s n m (after s.end c) (calls_of l s.end c) h (come_more side s.end c h.come g) (plain_by l s.end c life v r) (plain_calls l s.end c life v r)
+    plain_acts side l s n m (after s.end c) (calls_of l s.end c) h (come_more side s.end c h.come g)
+    (plain_by l s.end c life v r) (plain_calls l s.end c life v r)
     (plain_keep l (sent_by side) s.end c h.loads life v h.are)

@@ -1,5 +1,7 @@
 -- An end visits a process, and its bearer of a channel writes into a new block.
-use Rattle.std.proofs.Common.{◌≡◌, ◌≤◌, ◌<◌, ℕ, ◌+◌, ◌-◌, ◌%◌, ◌&&◌, Bool, true, false, ◌||◌, if◌then◌else◌, List, [], ◌∷◌, ◌++◌, length, map, get_or, set, get_or-set_same, get_or-set_other, Option, Some, None, refl, ap, sym, subst, ◌∙◌, arith, inl, inr, option_map}
+use Rattle.std.proofs.Common.{◌≡◌, ◌≤◌, ◌<◌, ℕ, ◌+◌, ◌-◌, ◌%◌, ◌&&◌, Bool, true, false, ◌||◌, if◌then◌else◌, List, []}
+use Rattle.std.proofs.Common.{◌∷◌, ◌++◌, length, map, get_or, set, get_or-set_same, get_or-set_other, Option, Some}
+use Rattle.std.proofs.Common.{None, refl, ap, sym, subst, ◌∙◌, arith, inl, inr, option_map}
 use Rattle.std.specs.List.{AllByRecursion}
 use Rattle.std.proofs.lemmas.Bool.{cases_lt}
 use Rattle.std.proofs.lemmas.List.{get_or_past}
@@ -19,7 +21,9 @@ use Rattle.harq.specs.declared.sender.Order.{Order}
 use Rattle.harq.specs.declared.sender.Visit.{Visit}
 use Rattle.harq.specs.declared.sender.Visit.TheVariants.{New, Resend, Silent}
 use Rattle.harq.specs.declared.sender.Order.TheVariants as orders
-use Rattle.harq.specs.Sending.{Sending, SendProcess, Block as HeldBlock, empty, resent, seen, visited as process_visited, resend_or, answered as process_answer, process_at, held_of, visit_answer, after_visit, after_feedback}
+use Rattle.harq.specs.Sending.{Sending, SendProcess, Block as HeldBlock, empty, resent, seen}
+use Rattle.harq.specs.Sending.{visited as process_visited, resend_or, answered as process_answer, process_at, held_of}
+use Rattle.harq.specs.Sending.{visit_answer, after_visit, after_feedback}
 use Rattle.l2_node.specs.Building.{visited, loaded, built_by, built, visit}
 use Rattle.l2_node.specs.End.{End}
 use Rattle.bearer_types.specs.Sides.{sent_by}
@@ -37,12 +41,14 @@ use Rattle.law_node.proofs.Sound.{visited_sound}
 use Rattle.prioritise.specs.Channels.{has as has_channel}
 use Rattle.rlc_pdu.specs.declared.outcome.Taken.{Taken}
 use Rattle.rlc_pdu.specs.declared.outcome.Taken.TheVariants as taken
-use Rattle.law_deliver.specs.AmFlow.Air.{Block, Station, built_at, is_new as is_new_visit, calls as station_calls, HasCome, IsHeld, IsBuilding, IsVisiting}
+use Rattle.law_deliver.specs.AmFlow.Air.{Block, Station, built_at, is_new as is_new_visit, calls as station_calls}
+use Rattle.law_deliver.specs.AmFlow.Air.{HasCome, IsHeld, IsBuilding, IsVisiting}
 use Rattle.law_deliver.specs.AmFlow.Channels.{only, share_of, held_of as told_held, takes_of, calls_of, written_by}
 use Rattle.promises.specs.Pdus.{carried}
 use Rattle.law_deliver.specs.AmFlow.Pair.{Sent, BearerEnd, Calls, written_now, HasOctet, IsTaking}
 use Rattle.law_deliver.proofs.AmFlow.Channels.{turn_by, blocks_carry_pdus}
-use Rattle.law_deliver.proofs.AmFlow.Loads.{Load, blocks_in, noted_of, IsNoted, HasAge, IsLoad, lowest_all, IsHeldBy, held_by}
+use Rattle.law_deliver.proofs.AmFlow.Loads.{Load, blocks_in, noted_of, IsNoted, HasAge, IsLoad, lowest_all, IsHeldBy}
+use Rattle.law_deliver.proofs.AmFlow.Loads.{held_by}
 use Rattle.law_deliver.proofs.AmFlow.Octets.{some_octets}
 use Rattle.law_deliver.proofs.AmFlow.Places.{GoesBy}
 use Rattle.law_deliver.proofs.AmFlow.Runs.{octets_of, texts_of}
@@ -69,7 +75,8 @@ octets_given taken.Held = refl
 octets_given taken.Stopped = refl
 
 module _ (numbers : Numbers) (l p : ℕ) where
-  pub noted_given : (t : Taken) → noted_of numbers l p ≡ number_of t → AllByRecursion (IsNoted numbers l p) (copies_with t [])
+  pub noted_given : (t : Taken) → noted_of numbers l p ≡ number_of t
+      → AllByRecursion (IsNoted numbers l p) (copies_with t [])
   noted_given (taken.Piece number fresh polled octets) e = (e, tt)
   noted_given taken.Idle e = tt
   noted_given taken.Small e = tt
@@ -87,17 +94,25 @@ ages_written (x ∷ xs) = (refl, ages_written xs)
 
 -- ---- an end that has come so far
 
-pub carries_so : (side : Side) (e : End) (h : HasCome side e) (tti : ℕ) (order : Order) (grant l : ℕ) → 1 ≤ grant → grant ≤ 9422 → has l e.bearers ≡ true
+pub carries_so : (side : Side) (e : End) (h : HasCome side e) (tti : ℕ) (order : Order) (grant l : ℕ) → 1 ≤ grant
+    → grant ≤ 9422 → has l e.bearers ≡ true
     → carried l (sent_by side) (new_block (visited tti order e) grant) ≡ written_by (visited tti order e) grant l
 carries_so side e h tti order grant l some most there =
-    subst (λ (x : End). has l x.bearers ≡ true → carried l (sent_by side) (new_block (visited tti order x) grant) ≡ written_by (visited tti order x) grant l) (sym h.end_is)
+    subst (λ (x : End). has l x.bearers ≡ true
+    → carried l (sent_by side) (new_block (visited tti order x) grant) ≡ written_by (visited tti order x) grant l)
+    (sym h.end_is)
     (blocks_carry_pdus side h.maximum h.reports h.past h.given tti order grant l some most) there
 
-pub rows_so : (side : Side) (e : End) (h : HasCome side e) (tti : ℕ) (order : Order) → length (visited tti order e).numbers ≡ 8
-rows_so side e h tti order = subst (λ (x : End). length (visited tti order x).numbers ≡ 8) (sym h.end_is) (visiting_young side h.maximum h.reports h.past tti order).rows
+pub rows_so : (side : Side) (e : End) (h : HasCome side e) (tti : ℕ) (order : Order)
+    → length (visited tti order e).numbers ≡ 8
+rows_so side e h tti order =
+    subst (λ (x : End). length (visited tti order x).numbers ≡ 8) (sym h.end_is)
+    (visiting_young side h.maximum h.reports h.past tti order).rows
 
-octets_so : (side : Side) (e : End) (h : HasCome side e) (l : ℕ) (b : State) (share : ℕ) (held : Option ℕ) → flow l e ≡ Am b → AllByRecursion HasOctet (offers_in b share held)
-octets_so side e h l b share held q = some_octets side h.maximum h.reports h.past l b share held h.given (ap (λ (x : End). flow l x) (sym h.end_is) ∙ q)
+octets_so : (side : Side) (e : End) (h : HasCome side e) (l : ℕ) (b : State) (share : ℕ) (held : Option ℕ)
+    → flow l e ≡ Am b → AllByRecursion HasOctet (offers_in b share held)
+octets_so side e h l b share held q =
+    some_octets side h.maximum h.reports h.past l b share held h.given (ap (λ (x : End). flow l x) (sym h.end_is) ∙ q)
 
 -- ---- a process that is visited for a new block holds none
 
@@ -115,7 +130,8 @@ process_empty orders.Unseen p q = absurd (no_visit p.held q)
 process_empty orders.Free p q = ap (option_map resent) (none_held p.held q)
 process_empty (orders.Grant ndi) p q = ap (option_map resent) (none_held (seen ndi p).held q)
 
-pub new_empty : (tti : ℕ) (order : Order) (e : End) → visit tti order e ≡ New → held_of (visited tti order e).sender (tti % 8) ≡ None
+pub new_empty : (tti : ℕ) (order : Order) (e : End) → visit tti order e ≡ New
+    → held_of (visited tti order e).sender (tti % 8) ≡ None
 unfolding visited after_visit visit_answer held_of
 new_empty tti order e q =
     let at = tti % 8 in
@@ -123,8 +139,10 @@ new_empty tti order e q =
     let x : SendProcess = process_visited order (process_at e.sender tti) in
     let none : Option HeldBlock → Option (List ℕ) = λ o. option_map (λ (b : HeldBlock). b.octets) o in
     elim (cases_lt at (length ps)) [
-      | inl lt ↦ ap (λ (p : SendProcess). none p.held) (get_or-set_same ps at x empty lt) ∙ ap none (process_empty order (process_at e.sender tti) q)
-      | inr ge ↦ ap (λ (p : SendProcess). none p.held) (get_or_past (set ps at x) at empty (omega (arith, ge, length-set ps at x)))
+      | inl lt ↦ ap (λ (p : SendProcess). none p.held) (get_or-set_same ps at x empty lt)
+          ∙ ap none (process_empty order (process_at e.sender tti) q)
+      | inr ge ↦ ap (λ (p : SendProcess). none p.held)
+          (get_or_past (set ps at x) at empty (omega (arith, ge, length-set ps at x)))
     ]
 
 -- ---- a new block
@@ -143,14 +161,17 @@ or_true true = refl
 or_true false = refl
 
 -- what was noted of other processes stays
-pub others_keep : (l at : ℕ) (d : Direction) (s t : Sending) (r : Sending) (numbers : Numbers) (row : List (Option ℕ)) (xs : List Load) → ((p : ℕ) → held_of s p ≡ None → held_of r p ≡ None)
-    → AllByRecursion (IsHeldBy at r) (blocks_in xs) → AllByRecursion (IsLoad l d s numbers) xs → AllByRecursion (IsLoad l d t (set numbers at row)) xs
+pub others_keep : (l at : ℕ) (d : Direction) (s t : Sending) (r : Sending) (numbers : Numbers) (row : List (Option ℕ))
+    (xs : List Load) → ((p : ℕ) → held_of s p ≡ None → held_of r p ≡ None)
+    → AllByRecursion (IsHeldBy at r) (blocks_in xs) → AllByRecursion (IsLoad l d s numbers) xs
+    → AllByRecursion (IsLoad l d t (set numbers at row)) xs
 others_keep l at d s t r numbers row [] fewer b h = tt
 others_keep l at d s t r numbers row (x ∷ xs) fewer b h =
     let q = h.0 in
     let held = b.0 in
     let p = x.block.process in
-    let same : get_or (set numbers at row) p [] ≡ get_or numbers p [] = get_or-set_other numbers at p row [] held.other in
+    let same : get_or (set numbers at row) p [] ≡ get_or numbers p [] =
+    get_or-set_other numbers at p row [] held.other in
     let was = q.noted (λ none. held.held (fewer p none)) in (
       record {
         carries = q.carries;
@@ -161,7 +182,9 @@ others_keep l at d s t r numbers row (x ∷ xs) fewer b h =
       others_keep l at d s t r numbers row xs fewer b.1 h.1,
     )
   where
-    rows_keep : (cs : List Copy) → get_or (set numbers at row) x.block.process [] ≡ get_or numbers x.block.process [] → AllByRecursion (IsNoted numbers l x.block.process) cs → AllByRecursion (IsNoted (set numbers at row) l x.block.process) cs
+    rows_keep : (cs : List Copy) → get_or (set numbers at row) x.block.process [] ≡ get_or numbers x.block.process []
+        → AllByRecursion (IsNoted numbers l x.block.process) cs
+        → AllByRecursion (IsNoted (set numbers at row) l x.block.process) cs
     rows_keep [] same h = tt
     rows_keep (c ∷ cs) same h = (ap (λ (y : List (Option ℕ)). get_or y l None) same ∙ h.0, rows_keep cs same h.1)
 
@@ -174,7 +197,11 @@ module _ (side : Side) (l : ℕ) (s : Station) (n m : BearerEnd) (t : Turn) wher
   built_end = answered New t (built_by New t.tti t.grant (visited t.tti t.order s.end))
 
   abbrev built_station : Station
-  built_station = record { end = answered New t (built_by New t.tti t.grant (visited t.tti t.order s.end)); blocks = built_at New t (visited t.tti t.order s.end) ++ s.blocks; busy = s.busy || true }
+  built_station = record {
+    end = answered New t (built_by New t.tti t.grant (visited t.tti t.order s.end));
+    blocks = built_at New t (visited t.tti t.order s.end) ++ s.blocks;
+    busy = s.busy || true;
+  }
 
   abbrev at : ℕ
   at = t.tti % 8
@@ -192,12 +219,15 @@ module _ (side : Side) (l : ℕ) (s : Station) (n m : BearerEnd) (t : Turn) wher
   unfolding visited
   fewer p e = visit_fewer s.end.sender t.tti t.order p e
 
-  blocks_held : visit t.tti t.order s.end ≡ New → IsBuilding s t → (h : Matches side l s n) → AllByRecursion (IsHeldBy (t.tti % 8) (visited t.tti t.order s.end).sender) (blocks_in h.loads)
+  blocks_held : visit t.tti t.order s.end ≡ New → IsBuilding s t → (h : Matches side l s n)
+      → AllByRecursion (IsHeldBy (t.tti % 8) (visited t.tti t.order s.end).sender) (blocks_in h.loads)
   blocks_held v b h =
       held_by (t.tti % 8) (visited t.tti t.order s.end).sender (blocks_in h.loads) (new_empty t.tti t.order s.end v)
-      (subst (λ (bs : List Block). AllByRecursion (IsHeld (visited t.tti t.order s.end).sender) bs) (sym h.blocks_are) b.held)
+      (subst (λ (bs : List Block). AllByRecursion (IsHeld (visited t.tti t.order s.end).sender) bs) (sym h.blocks_are)
+      b.held)
 
-  is_taking : visit t.tti t.order s.end ≡ New → Matches side l s n → IsBuilding s t → t.grant ≤ 9422 → IsTaking n part low
+  is_taking : visit t.tti t.order s.end ≡ New → Matches side l s n → IsBuilding s t → t.grant ≤ 9422
+      → IsTaking n part low
   unfolding visited
   is_taking v h b most =
       let sound = visited_sound t.tti t.order s.end (come_sound side s.end h.come) in
@@ -205,13 +235,17 @@ module _ (side : Side) (l : ℕ) (s : Station) (n m : BearerEnd) (t : Turn) wher
         few = size_most n.bearer part (share_most (visited t.tti t.order s.end) t.grant l sound most);
         some = octets_so side s.end h.come l n.bearer part low h.bearer_is;
         lowest = subst (λ (cs : List Copy). AllByRecursion (IsAtLeastHeld low) cs) (sym h.copies_are)
-            (lowest_all l at (sent_by side) s.end.sender (visited t.tti t.order s.end).sender s.end.numbers h.loads fewer (blocks_held v b h) h.are);
+            (lowest_all l at (sent_by side) s.end.sender (visited t.tti t.order s.end).sender s.end.numbers h.loads
+            fewer (blocks_held v b h) h.are);
         one = λ q. let yes : s.busy ≡ true = h.busy q in let no : s.busy ≡ false = b.one in absurd cc;
       }
 
-  old_loads : visit t.tti t.order s.end ≡ New → (h : Matches side l s n) → IsBuilding s t → AllByRecursion (IsLoad l (sent_by side) built_end.sender built_end.numbers) h.loads
+  old_loads : visit t.tti t.order s.end ≡ New → (h : Matches side l s n) → IsBuilding s t
+      → AllByRecursion (IsLoad l (sent_by side) built_end.sender built_end.numbers) h.loads
   unfolding visited loaded
-  old_loads v h b = others_keep l at (sent_by side) s.end.sender built_end.sender (visited t.tti t.order s.end).sender s.end.numbers (written (visited t.tti t.order s.end) t.grant).block.numbers h.loads fewer (blocks_held v b h) h.are
+  old_loads v h b =
+      others_keep l at (sent_by side) s.end.sender built_end.sender (visited t.tti t.order s.end).sender s.end.numbers
+      (written (visited t.tti t.order s.end) t.grant).block.numbers h.loads fewer (blocks_held v b h) h.are
 
   row_so : (h : Matches side l s n) → noted_of built_end.numbers l at ≡ given_by (visited t.tti t.order s.end) t.grant l
   unfolding loaded
@@ -220,9 +254,11 @@ module _ (side : Side) (l : ℕ) (s : Station) (n m : BearerEnd) (t : Turn) wher
       let row = (written (visited t.tti t.order s.end) t.grant).block.numbers in
       let lt : at < length (visited t.tti t.order s.end).numbers = omega (arith, rows) in
       ap (λ (r : List (Option ℕ)). get_or r l None) (get_or-set_same (visited t.tti t.order s.end).numbers at row [] lt)
-      ∙ row_is (visited t.tti t.order s.end) t.grant l (visited_sound t.tti t.order s.end (come_sound side s.end h.come))
+      ∙ row_is (visited t.tti t.order s.end) t.grant l
+      (visited_sound t.tti t.order s.end (come_sound side s.end h.come))
 
-  given_so : (h : Matches side l s n) → has_channel l (visited t.tti t.order s.end).buckets.channels ≡ true → given_by (visited t.tti t.order s.end) t.grant l ≡ number_of (data_given n.bearer part low)
+  given_so : (h : Matches side l s n) → has_channel l (visited t.tti t.order s.end).buckets.channels ≡ true
+      → given_by (visited t.tti t.order s.end) t.grant l ≡ number_of (data_given n.bearer part low)
   unfolding visited number
   given_so h q =
       ap (λ (b : Bool). if b && has l s.end.bearers then number (flow l s.end) part low else None) q
@@ -230,25 +266,34 @@ module _ (side : Side) (l : ℕ) (s : Station) (n m : BearerEnd) (t : Turn) wher
       ∙ ap (λ (f : Flow). number f part low) h.bearer_is
       ∙ ap number_of (gives n.bearer part low)
 
-  carries_new : (h : Matches side l s n) → 1 ≤ t.grant → t.grant ≤ 9422 → carried l (sent_by side) (new_block (visited t.tti t.order s.end) t.grant) ≡ written_by (visited t.tti t.order s.end) t.grant l
+  carries_new : (h : Matches side l s n) → 1 ≤ t.grant → t.grant ≤ 9422
+      → carried l (sent_by side) (new_block (visited t.tti t.order s.end) t.grant)
+      ≡ written_by (visited t.tti t.order s.end) t.grant l
   carries_new h some most = carries_so side s.end h.come t.tti t.order t.grant l some most h.there
 
   written_so : (h : Matches side l s n) → has_channel l (visited t.tti t.order s.end).buckets.channels ≡ true
-      → written_by (visited t.tti t.order s.end) t.grant l ≡ texts_of (map written_now (status_pdus n.bearer.rx part)) ++ octets_of (copies_with (data_given n.bearer part low) [])
+      → written_by (visited t.tti t.order s.end) t.grant l ≡ texts_of (map written_now (status_pdus n.bearer.rx part))
+      ++ octets_of (copies_with (data_given n.bearer part low) [])
   unfolding visited
   written_so h q =
       ap (λ (b : Bool). if b then pdus (flow l s.end) part low else []) q
       ∙ ap (λ (f : Flow). pdus f part low) h.bearer_is
       ∙ writes_what_rlc_gives n.bearer part low
-      ∙ ap (λ (x : List (List ℕ)). x ++ pdus_of (data_given n.bearer part low)) (texts_written (status_pdus n.bearer.rx part))
-      ∙ ap (λ (x : List (List ℕ)). texts_of (map written_now (status_pdus n.bearer.rx part)) ++ x) (octets_given (data_given n.bearer part low))
+      ∙ ap (λ (x : List (List ℕ)). x ++ pdus_of (data_given n.bearer part low))
+      (texts_written (status_pdus n.bearer.rx part))
+      ∙ ap (λ (x : List (List ℕ)). texts_of (map written_now (status_pdus n.bearer.rx part)) ++ x)
+      (octets_given (data_given n.bearer part low))
 
-  builds_by : (here : Bool) → visit t.tti t.order s.end ≡ New → has_channel l (visited t.tti t.order s.end).buckets.channels ≡ here → Matches side l s n → HasCome side built_end → IsBuilding s t → t.grant ≤ 9422
+  builds_by : (here : Bool) → visit t.tti t.order s.end ≡ New
+      → has_channel l (visited t.tti t.order s.end).buckets.channels ≡ here → Matches side l s n
+      → HasCome side built_end → IsBuilding s t → t.grant ≤ 9422
       → Acts side l built_station m n (only here (Takes part low))
   unfolding visited
   builds_by true v q h come b most =
       let by : GoesBy l s.end.bearers built_end.bearers (Takes part low ∷ []) =
-      subst (λ (x : Bool). GoesBy l s.end.bearers built_end.bearers (only x (Takes part low))) q (turn_by New t (visited t.tti t.order s.end) l (visited_sound t.tti t.order s.end (come_sound side s.end h.come))) in
+      subst (λ (x : Bool). GoesBy l s.end.bearers built_end.bearers (only x (Takes part low))) q
+      (turn_by New t (visited t.tti t.order s.end) l
+      (visited_sound t.tti t.order s.end (come_sound side s.end h.come))) in
       let data' = data_given n.bearer part low in
       let status = status_pdus n.bearer.rx part in
       let load : Load = record { block = new_of; copies = copies_with data' []; reports = map written_now status } in
@@ -259,7 +304,8 @@ module _ (side : Side) (l : ℕ) (s : Station) (n m : BearerEnd) (t : Turn) wher
         matches = record {
           come = come;
           there = by.has_is ∙ h.there;
-          bearer_is = by.goes h.there ∙ ap (λ (f : Flow). after_all f (Takes part low ∷ [])) h.bearer_is ∙ is_called n.bearer (Takes part low);
+          bearer_is = by.goes h.there ∙ ap (λ (f : Flow). after_all f (Takes part low ∷ [])) h.bearer_is
+              ∙ is_called n.bearer (Takes part low);
           loads = load ∷ h.loads;
           blocks_are = ap (λ (bs : List Block). new_of ∷ bs) h.blocks_are;
           copies_are = copies_split data' n.copies ∙ ap (λ (cs : List Copy). copies_with data' [] ++ cs) h.copies_are;
@@ -278,9 +324,12 @@ module _ (side : Side) (l : ℕ) (s : Station) (n m : BearerEnd) (t : Turn) wher
       }
   builds_by false v q h come b most =
       let by : GoesBy l s.end.bearers built_end.bearers [] =
-      subst (λ (x : Bool). GoesBy l s.end.bearers built_end.bearers (only x (Takes part low))) q (turn_by New t (visited t.tti t.order s.end) l (visited_sound t.tti t.order s.end (come_sound side s.end h.come))) in
+      subst (λ (x : Bool). GoesBy l s.end.bearers built_end.bearers (only x (Takes part low))) q
+      (turn_by New t (visited t.tti t.order s.end) l
+      (visited_sound t.tti t.order s.end (come_sound side s.end h.come))) in
       let load : Load = record { block = new_of; copies = []; reports = [] } in
-      let none : written_by (visited t.tti t.order s.end) t.grant l ≡ [] = ap (λ (x : Bool). if x then pdus (flow l s.end) part low else []) q in
+      let none : written_by (visited t.tti t.order s.end) t.grant l ≡ [] =
+      ap (λ (x : Bool). if x then pdus (flow l s.end) part low else []) q in
       record {
         deeds = [];
         done = tt;
@@ -293,17 +342,34 @@ module _ (side : Side) (l : ℕ) (s : Station) (n m : BearerEnd) (t : Turn) wher
           blocks_are = ap (λ (bs : List Block). new_of ∷ bs) h.blocks_are;
           copies_are = h.copies_are;
           reports_are = h.reports_are;
-          are = (record { carries = carries_new h b.some most ∙ none; process = omega arith; aged = tt; noted = λ held. tt }, old_loads v h b);
+          are = (
+            record {
+              carries = carries_new h b.some most ∙ none;
+              process = omega arith;
+              aged = tt;
+              noted = λ held. tt;
+            },
+            old_loads v h b,
+          );
           busy = λ x. or_true s.busy;
         };
       }
 
 -- ---- any visit
 
-visits_by : (side : Side) (l : ℕ) (s : Station) (n m : BearerEnd) (t : Turn) (v : Visit) → visit t.tti t.order s.end ≡ v → Matches side l s n → HasCome side (answered v t (built_by v t.tti t.grant (visited t.tti t.order s.end))) → IsVisiting v s t → t.grant ≤ 9422
-    → Acts side l (record { end = answered v t (built_by v t.tti t.grant (visited t.tti t.order s.end)); blocks = built_at v t (visited t.tti t.order s.end) ++ s.blocks; busy = s.busy || is_new_visit v }) m n (takes_of v t (visited t.tti t.order s.end) l)
+visits_by : (side : Side) (l : ℕ) (s : Station) (n m : BearerEnd) (t : Turn) (v : Visit)
+    → visit t.tti t.order s.end ≡ v → Matches side l s n
+    → HasCome side (answered v t (built_by v t.tti t.grant (visited t.tti t.order s.end))) → IsVisiting v s t
+    → t.grant ≤ 9422
+    → Acts side l (record {
+      end = answered v t (built_by v t.tti t.grant (visited t.tti t.order s.end));
+      blocks = built_at v t (visited t.tti t.order s.end) ++ s.blocks;
+      busy = s.busy || is_new_visit v;
+    }) m n
+    (takes_of v t (visited t.tti t.order s.end) l)
 unfolding visited
-visits_by side l s n m t New v h come b most = builds_by side l s n m t (has_channel l (visited t.tti t.order s.end).buckets.channels) v refl h come b most
+visits_by side l s n m t New v h come b most =
+    builds_by side l s n m t (has_channel l (visited t.tti t.order s.end).buckets.channels) v refl h come b most
 visits_by side l s n m t (Resend rv) v h come b most = record {
   deeds = [];
   done = tt;
@@ -316,8 +382,11 @@ visits_by side l s n m t (Resend rv) v h come b most = record {
     blocks_are = h.blocks_are;
     copies_are = h.copies_are;
     reports_are = h.reports_are;
-    are = fewer_keep l (sent_by side) s.end.sender (after_feedback (after_visit s.end.sender t.tti t.order) t.tti t.good) s.end.numbers h.loads
-        (λ p none. feedback_fewer (after_visit s.end.sender t.tti t.order) t.tti t.good p (visit_fewer s.end.sender t.tti t.order p none)) h.are;
+    are =
+        fewer_keep l (sent_by side) s.end.sender
+        (after_feedback (after_visit s.end.sender t.tti t.order) t.tti t.good) s.end.numbers h.loads
+        (λ p none. feedback_fewer (after_visit s.end.sender t.tti t.order) t.tti t.good p
+        (visit_fewer s.end.sender t.tti t.order p none)) h.are;
     busy = λ x. sym (or_none s.busy) ∙ h.busy x;
   };
 }
@@ -333,11 +402,15 @@ visits_by side l s n m t Silent v h come b most = record {
     blocks_are = h.blocks_are;
     copies_are = h.copies_are;
     reports_are = h.reports_are;
-    are = fewer_keep l (sent_by side) s.end.sender (after_visit s.end.sender t.tti t.order) s.end.numbers h.loads (visit_fewer s.end.sender t.tti t.order) h.are;
+    are = fewer_keep l (sent_by side) s.end.sender (after_visit s.end.sender t.tti t.order) s.end.numbers h.loads
+        (visit_fewer s.end.sender t.tti t.order) h.are;
     busy = λ x. sym (or_none s.busy) ∙ h.busy x;
   };
 }
 
-pub visits : (side : Side) (l : ℕ) (s : Station) (n m : BearerEnd) (t : Turn) → Matches side l s n → IsGivenCall (Visits t) → IsVisiting (visit t.tti t.order s.end) s t → Acts side l (station_calls s (Visits t)) m n (calls_of l s.end (Visits t))
+pub visits : (side : Side) (l : ℕ) (s : Station) (n m : BearerEnd) (t : Turn) → Matches side l s n
+    → IsGivenCall (Visits t) → IsVisiting (visit t.tti t.order s.end) s t
+    → Acts side l (station_calls s (Visits t)) m n (calls_of l s.end (Visits t))
 unfolding built
-visits side l s n m t h g b = visits_by side l s n m t (visit t.tti t.order s.end) refl h (come_more side s.end (Visits t) h.come g) b g.0
+visits side l s n m t h g b =
+    visits_by side l s n m t (visit t.tti t.order s.end) refl h (come_more side s.end (Visits t) h.come g) b g.0

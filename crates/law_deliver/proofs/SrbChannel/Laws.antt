@@ -13,12 +13,16 @@ use Rattle.law_deliver.specs.AmFlow.Ups.{ups_on}
 use Rattle.promises.specs.Events.{told_on, losses}
 use Rattle.law_deliver.specs.AmChannel.Delivery.{SetNone}
 use Rattle.law_deliver.specs.AmChannel.Drained.{IsDrained}
-use Rattle.law_deliver.specs.AmChannel.Lives.{AirStep, InLife, Moves, lives_on, lives, AreLiving, end_at, calls_at, all_calls}
+use Rattle.law_deliver.specs.AmChannel.Lives.{AirStep, InLife, Moves, lives_on, lives, AreLiving, end_at, calls_at}
+use Rattle.law_deliver.specs.AmChannel.Lives.{all_calls}
 use Rattle.law_deliver.proofs.AmChannel.Ends.{IsCall, are_calls, all_more}
 use Rattle.law_deliver.specs.AmFlow.Air.{Air, Step as LinkStep, outset}
-use Rattle.law_deliver.specs.SrbChannel.Delivery.{BeginAlike, NoneSet, life_of, ChannelsDeliverTheFront, DrainedChannelsHaveDelivered, NothingGoesUpBetween, NothingIsLost}
+use Rattle.law_deliver.specs.SrbChannel.Delivery.{BeginAlike, NoneSet, life_of, ChannelsDeliverTheFront}
+use Rattle.law_deliver.specs.SrbChannel.Delivery.{DrainedChannelsHaveDelivered, NothingGoesUpBetween, NothingIsLost}
 use Rattle.law_deliver.specs.SrbChannel.Running.{Life, start, now, goes_on, running, first_life}
-use Rattle.law_deliver.proofs.SrbChannel.Running.{Start, Runs, begins_run, runs_on, lives_more, calls_more, down, up, all_down, all_up, starts_anew, none_between, none_lost, none_lost_between, starts_first}
+use Rattle.law_deliver.proofs.SrbChannel.Running.{Start, Runs, begins_run, runs_on, lives_more, calls_more, down, up}
+use Rattle.law_deliver.proofs.SrbChannel.Running.{all_down, all_up, starts_anew, none_between, none_lost}
+use Rattle.law_deliver.proofs.SrbChannel.Running.{none_lost_between, starts_first}
 use Rattle.law_deliver.proofs.SrbChannel.Walk.{SetsNone}
 
 pub record Living (l : ℕ) (life : Life) : Type 0 where
@@ -29,7 +33,8 @@ pub record Living (l : ℕ) (life : Life) : Type 0 where
   pub calls : (side : Side) → AllByRecursion (IsCall l) (all_calls side life.steps (start life))
 
 pub first_living : (l : ℕ) (nb ue : End) (near far : State) → Start l nb ue near far → Living l (first_life nb ue)
-first_living l nb ue near far s = record { near = near; far = far; begun = s; runs = begins_run l nb ue near far s; calls = λ side. tt }
+first_living l nb ue near far s =
+    record { near = near; far = far; begun = s; runs = begins_run l nb ue near far s; calls = λ side. tt }
 
 -- ---- one step
 
@@ -49,13 +54,16 @@ sets_none l a x xs h = record {
 none_rest : (l : ℕ) (a : Air) (x : AirStep) (xs : List AirStep) → NoneFrom l (x ∷ xs) a → NoneFrom l xs (lives_on a x)
 none_rest l a x xs h = λ side. (none_first l (calls_at side a x) (all_calls side xs (lives_on a x)) (h side)).1
 
-calls_on : (l : ℕ) (life : Life) (x : LinkStep) (side : Side) → AreLiving l (now life) (InLife x ∷ []) → AllByRecursion (IsCall l) (all_calls side life.steps (start life))
+calls_on : (l : ℕ) (life : Life) (x : LinkStep) (side : Side) → AreLiving l (now life) (InLife x ∷ [])
+    → AllByRecursion (IsCall l) (all_calls side life.steps (start life))
     → AllByRecursion (IsCall l) (all_calls side (life.steps ++ InLife x ∷ []) (start life))
 calls_on l life x side g h =
     subst (AllByRecursion (IsCall l)) (sym (calls_more side (start life) life.steps (InLife x ∷ [])))
-    (all_more (IsCall l) (all_calls side life.steps (start life)) (all_calls side (InLife x ∷ []) (now life)) h (are_calls l side (InLife x ∷ []) (now life) g))
+    (all_more (IsCall l) (all_calls side life.steps (start life)) (all_calls side (InLife x ∷ []) (now life)) h
+    (are_calls l side (InLife x ∷ []) (now life) g))
 
-pub lives_in : (l : ℕ) (life : Life) (x : LinkStep) → AreLiving l (now life) (InLife x ∷ []) → SetsNone l (now life) (InLife x) → Living l life → Living l (goes_on life (InLife x))
+pub lives_in : (l : ℕ) (life : Life) (x : LinkStep) → AreLiving l (now life) (InLife x ∷ [])
+    → SetsNone l (now life) (InLife x) → Living l life → Living l (goes_on life (InLife x))
 lives_in l life x g none h = record {
   near = h.near;
   far = h.far;
@@ -73,15 +81,18 @@ one_on : (life : Life) (x : AirStep) → now (goes_on life x) ≡ lives_on (now 
 one_on life (InLife s) = lives_more (start life) life.steps (InLife s ∷ [])
 one_on life (Moves keys) = refl
 
-one_lives : (l : ℕ) (life : Life) (x : AirStep) (xs : List AirStep) → AreLiving l (now life) (x ∷ xs) → NoneFrom l (x ∷ xs) (now life) → Living l life → Living l (goes_on life x)
+one_lives : (l : ℕ) (life : Life) (x : AirStep) (xs : List AirStep) → AreLiving l (now life) (x ∷ xs)
+    → NoneFrom l (x ∷ xs) (now life) → Living l life → Living l (goes_on life x)
 one_lives l life (InLife s) xs g none h = lives_in l life s (g.0, tt) (sets_none l (now life) (InLife s) xs none) h
 one_lives l life (Moves keys) xs g none h = lives_anew l life keys h
 
-pub all_live : (l : ℕ) (xs : List AirStep) (life : Life) → AreLiving l (now life) xs → NoneFrom l xs (now life) → Living l life → Living l (running xs life)
+pub all_live : (l : ℕ) (xs : List AirStep) (life : Life) → AreLiving l (now life) xs → NoneFrom l xs (now life)
+    → Living l life → Living l (running xs life)
 all_live l [] life g none h = h
 all_live l (x ∷ xs) life g none h =
     let same = sym (one_on life x) in
-    all_live l xs (goes_on life x) (subst (λ (a : Air). AreLiving l a xs) same g.1) (subst (NoneFrom l xs) same (none_rest l (now life) x xs none)) (one_lives l life x xs g none h)
+    all_live l xs (goes_on life x) (subst (λ (a : Air). AreLiving l a xs) same g.1)
+    (subst (NoneFrom l xs) same (none_rest l (now life) x xs none)) (one_lives l life x xs g none h)
 
 pub running_is : (xs : List AirStep) (life : Life) → now (running xs life) ≡ lives xs (now life)
 running_is [] life = refl
@@ -89,9 +100,12 @@ running_is (x ∷ xs) life = running_is xs (goes_on life x) ∙ ap (lives xs) (o
 
 -- ---- the laws
 
-living : (l : ℕ) (c : BearerConfig) (keys : Keys) (nb ue : End) (steps : List AirStep) → BeginAlike l c keys nb ue → AreLiving l (outset nb ue) steps → NoneSet l steps nb ue
+living : (l : ℕ) (c : BearerConfig) (keys : Keys) (nb ue : End) (steps : List AirStep) → BeginAlike l c keys nb ue
+    → AreLiving l (outset nb ue) steps → NoneSet l steps nb ue
     → Living l (life_of steps nb ue)
-living l c keys nb ue steps h g none = all_live l steps (first_life nb ue) g none (first_living l nb ue _ _ (starts_first l c keys nb ue h.kind h.first h.nb_begun h.ue_begun))
+living l c keys nb ue steps h g none =
+    all_live l steps (first_life nb ue) g none
+    (first_living l nb ue _ _ (starts_first l c keys nb ue h.kind h.first h.nb_begun h.ue_begun))
 
 pub delivers_front : ChannelsDeliverTheFront
 delivers_front l c keys nb ue Nb steps h g none =
@@ -107,11 +121,13 @@ pub drained_delivers : DrainedChannelsHaveDelivered
 drained_delivers l c keys nb ue Nb steps h g none d =
     let k = living l c keys nb ue steps h g none in
     let life = life_of steps nb ue in
-    all_down l life.nb life.ue k.near k.far k.begun life.steps k.runs k.calls (subst (λ (a : Air). IsDrained l a.nb.end) (sym (running_is steps (first_life nb ue))) d)
+    all_down l life.nb life.ue k.near k.far k.begun life.steps k.runs k.calls
+    (subst (λ (a : Air). IsDrained l a.nb.end) (sym (running_is steps (first_life nb ue))) d)
 drained_delivers l c keys nb ue Ue steps h g none d =
     let k = living l c keys nb ue steps h g none in
     let life = life_of steps nb ue in
-    all_up l life.nb life.ue k.near k.far k.begun life.steps k.runs k.calls (subst (λ (a : Air). IsDrained l a.ue.end) (sym (running_is steps (first_life nb ue))) d)
+    all_up l life.nb life.ue k.near k.far k.begun life.steps k.runs k.calls
+    (subst (λ (a : Air). IsDrained l a.ue.end) (sym (running_is steps (first_life nb ue))) d)
 
 pub nothing_between : NothingGoesUpBetween
 nothing_between l c keys next nb ue side steps h g none =
@@ -127,6 +143,7 @@ loses_none l c keys nb ue side steps h g none =
     record {
       in_life = none_lost l life.nb life.ue k.near k.far k.begun life.steps k.runs k.calls side;
       between = λ next.
-          subst (λ (a : Air). losses (told_on l (told_of (end_at side a) (Move next))) ≡ []) (running_is steps (first_life nb ue))
+          subst (λ (a : Air). losses (told_on l (told_of (end_at side a) (Move next))) ≡ [])
+          (running_is steps (first_life nb ue))
           (none_lost_between l life.nb life.ue k.near k.far k.begun life.steps k.runs k.calls side next);
     }

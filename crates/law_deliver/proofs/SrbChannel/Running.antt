@@ -1,5 +1,6 @@
 -- The running life of a channel of signalling: as it begins, step by step, and as it ends.
-use Rattle.std.proofs.Common.{◌≡◌, ◌≤◌, ℕ, true, false, List, [], ◌∷◌, ◌++◌, append-nil, append_assoc, refl, ap, sym, subst, ◌∙◌}
+use Rattle.std.proofs.Common.{◌≡◌, ◌≤◌, ℕ, true, false, List, [], ◌∷◌, ◌++◌, append-nil, append_assoc, refl, ap, sym}
+use Rattle.std.proofs.Common.{subst, ◌∙◌}
 use Rattle.std.specs.List.{AllByRecursion}
 use Rattle.bearer.specs.Bearer.{flow_of}
 use Rattle.bearer.specs.declared.flow.Flow.{Flow}
@@ -88,25 +89,31 @@ pub lives_more : (a : Air) (xs ys : List AirStep) → lives (xs ++ ys) a ≡ liv
 lives_more a [] ys = refl
 lives_more a (x ∷ xs) ys = lives_more (lives_on a x) xs ys
 
-pub calls_more : (side : Side) (a : Air) (xs ys : List AirStep) → all_calls side (xs ++ ys) a ≡ all_calls side xs a ++ all_calls side ys (lives xs a)
+pub calls_more : (side : Side) (a : Air) (xs ys : List AirStep)
+    → all_calls side (xs ++ ys) a ≡ all_calls side xs a ++ all_calls side ys (lives xs a)
 calls_more side a [] ys = refl
 calls_more side a (x ∷ xs) ys =
     ap (λ (cs : List Call). calls_at side a x ++ cs) (calls_more side (lives_on a x) xs ys)
-    ∙ sym (append_assoc (calls_at side a x) (all_calls side xs (lives_on a x)) (all_calls side ys (lives xs (lives_on a x))))
+    ∙ sym (append_assoc (calls_at side a x) (all_calls side xs (lives_on a x))
+    (all_calls side ys (lives xs (lives_on a x))))
 
 does_then : (side : Side) (l : ℕ) (a : Air) (p : Pair) (xs : List AirStep) (x : LinkStep) (ss ts : List Step)
-    → does side ss p ≡ steps_over l (all_calls side xs a) (end_at side a) → does side ts (goes ss p) ≡ steps_over l (calls_at side (lives xs a) (InLife x)) (end_at side (lives xs a))
+    → does side ss p ≡ steps_over l (all_calls side xs a) (end_at side a)
+    → does side ts (goes ss p) ≡ steps_over l (calls_at side (lives xs a) (InLife x)) (end_at side (lives xs a))
     → does side (ss ++ ts) p ≡ steps_over l (all_calls side (xs ++ InLife x ∷ []) a) (end_at side a)
 does_then side l a p xs x ss ts q r =
     let cs = all_calls side xs a in
     let b = lives xs a in
     let ds = calls_at side b (InLife x) in
     does_more side ss ts p ∙ ap (λ (ys : List BearerStep). ys ++ does side ts (goes ss p)) q
-    ∙ ap (λ (ys : List BearerStep). steps_over l cs (end_at side a) ++ ys) (r ∙ ap (steps_over l ds) (goes_by_calls side xs a))
+    ∙ ap (λ (ys : List BearerStep). steps_over l cs (end_at side a) ++ ys)
+    (r ∙ ap (steps_over l ds) (goes_by_calls side xs a))
     ∙ sym (steps_more l cs ds (end_at side a))
-    ∙ ap (λ (all : List Call). steps_over l all (end_at side a)) (ap (λ (ys : List Call). cs ++ ys) (sym (append-nil ds)) ∙ sym (calls_more side a xs (InLife x ∷ [])))
+    ∙ ap (λ (all : List Call). steps_over l all (end_at side a))
+    (ap (λ (ys : List Call). cs ++ ys) (sym (append-nil ds)) ∙ sym (calls_more side a xs (InLife x ∷ [])))
 
-pub runs_on : (l : ℕ) (nb ue : End) (near far : State) (xs : List AirStep) (x : LinkStep) → IsLiving l (lives xs (outset nb ue)) (InLife x) → SetsNone l (lives xs (outset nb ue)) (InLife x)
+pub runs_on : (l : ℕ) (nb ue : End) (near far : State) (xs : List AirStep) (x : LinkStep)
+    → IsLiving l (lives xs (outset nb ue)) (InLife x) → SetsNone l (lives xs (outset nb ue)) (InLife x)
     → Runs l nb ue near far xs → Runs l nb ue near far (xs ++ InLife x ∷ [])
 runs_on l nb ue near far xs x g none r =
     let a = outset nb ue in
@@ -118,15 +125,18 @@ runs_on l nb ue near far xs x g none r =
     record {
       steps = r.steps ++ w.steps;
       lived = lived_more r.steps w.steps p r.lived w.lived;
-      nb_is = subst (λ (c : Air). Matches Nb l c.nb (goes (r.steps ++ w.steps) p).near) same (subst (λ (q : Pair). Matches Nb l (lives_on b (InLife x)).nb q.near) pairs w.nb);
-      ue_is = subst (λ (c : Air). Matches Ue l c.ue (goes (r.steps ++ w.steps) p).far) same (subst (λ (q : Pair). Matches Ue l (lives_on b (InLife x)).ue q.far) pairs w.ue);
+      nb_is = subst (λ (c : Air). Matches Nb l c.nb (goes (r.steps ++ w.steps) p).near) same
+          (subst (λ (q : Pair). Matches Nb l (lives_on b (InLife x)).nb q.near) pairs w.nb);
+      ue_is = subst (λ (c : Air). Matches Ue l c.ue (goes (r.steps ++ w.steps) p).far) same
+          (subst (λ (q : Pair). Matches Ue l (lives_on b (InLife x)).ue q.far) pairs w.ue);
       nb_does = does_then Nb l a p xs x r.steps w.steps r.nb_does w.nb_does;
       ue_does = does_then Ue l a p xs x r.steps w.steps r.ue_does w.ue_does;
     }
 
 -- ---- what has gone up in it
 
-module _ (l : ℕ) (nb ue : End) (near far : State) (s : Start l nb ue near far) (xs : List AirStep) (r : Runs l nb ue near far xs)
+module _ (l : ℕ) (nb ue : End) (near far : State) (s : Start l nb ue near far) (xs : List AirStep)
+    (r : Runs l nb ue near far xs)
     (calls : (side : Side) → AllByRecursion (IsCall l) (all_calls side xs (outset nb ue))) where
   abbrev a : Air
   a = outset nb ue
@@ -135,27 +145,33 @@ module _ (l : ℕ) (nb ue : End) (near far : State) (s : Start l nb ue near far)
   last = goes r.steps (pair near far)
 
   between_first : (side : Side) (e : End) (b : State) → Begins side l e b → IsBetween l (Am b)
-  between_first side e b h = subst (IsBetween l) h.bearer_is (between_at l e.bearers h.there (come_between side e h.come))
+  between_first side e b h =
+      subst (IsBetween l) h.bearer_is (between_at l e.bearers h.there (come_between side e h.come))
 
   nb_ups : over near_ups r.steps (pair near far) ≡ went_up l (all_calls Nb xs a) nb
   nb_ups =
-      (sums l Nb r.steps (pair near far) (between_first Nb nb near s.nb_begins)).ups_are ∙ ap (all_ups l (Am near)) r.nb_does
+      (sums l Nb r.steps (pair near far) (between_first Nb nb near s.nb_begins)).ups_are
+      ∙ ap (all_ups l (Am near)) r.nb_does
       ∙ ap (λ (f : Flow). all_ups l f (steps_over l (all_calls Nb xs a) nb)) (sym s.nb_begins.bearer_is)
       ∙ sym (all_go Nb l nb (all_calls Nb xs a) s.nb_stands (calls Nb)).ups_are
 
   ue_ups : over far_ups r.steps (pair near far) ≡ went_up l (all_calls Ue xs a) ue
   ue_ups =
-      (sums l Ue r.steps (pair near far) (between_first Ue ue far s.ue_begins)).ups_are ∙ ap (all_ups l (Am far)) r.ue_does
+      (sums l Ue r.steps (pair near far) (between_first Ue ue far s.ue_begins)).ups_are
+      ∙ ap (all_ups l (Am far)) r.ue_does
       ∙ ap (λ (f : Flow). all_ups l f (steps_over l (all_calls Ue xs a) ue)) (sym s.ue_begins.bearer_is)
       ∙ sym (all_go Ue l ue (all_calls Ue xs a) s.ue_stands (calls Ue)).ups_are
 
   nb_submitted : over near_submits r.steps (pair near far) ≡ was_submitted l (all_calls Nb xs a) nb
-  nb_submitted = (sums l Nb r.steps (pair near far) (between_first Nb nb near s.nb_begins)).submitted_are ∙ ap all_submitted r.nb_does ∙ sym (submitted_is l (all_calls Nb xs a) nb)
+  nb_submitted = (sums l Nb r.steps (pair near far) (between_first Nb nb near s.nb_begins)).submitted_are
+      ∙ ap all_submitted r.nb_does ∙ sym (submitted_is l (all_calls Nb xs a) nb)
 
   ue_submitted : over far_submits r.steps (pair near far) ≡ was_submitted l (all_calls Ue xs a) ue
-  ue_submitted = (sums l Ue r.steps (pair near far) (between_first Ue ue far s.ue_begins)).submitted_are ∙ ap all_submitted r.ue_does ∙ sym (submitted_is l (all_calls Ue xs a) ue)
+  ue_submitted = (sums l Ue r.steps (pair near far) (between_first Ue ue far s.ue_begins)).submitted_are
+      ∙ ap all_submitted r.ue_does ∙ sym (submitted_is l (all_calls Ue xs a) ue)
 
-  as_told : {us vs ss ts : List (List ℕ)} (P : List (List ℕ) → List (List ℕ) → Type 0) → us ≡ vs → ss ≡ ts → P us ss → P vs ts
+  as_told : {us vs ss ts : List (List ℕ)} (P : List (List ℕ) → List (List ℕ) → Type 0) → us ≡ vs → ss ≡ ts → P us ss
+      → P vs ts
   as_told {us} {vs} {ss} {ts} P e f p = subst (λ zs. P zs ts) e (subst (P us) f p)
 
   pub down : IsFront (went_up l (all_calls Ue xs a) ue) (was_submitted l (all_calls Nb xs a) nb)
@@ -166,38 +182,56 @@ module _ (l : ℕ) (nb ue : End) (near far : State) (s : Start l nb ue near far)
 
   drained_so : (e : End) (b : State) → flow l e ≡ Am b → IsDrained l e → IsDrainedBearer b
   unfolding is_drained
-  drained_so e b is h = record { drained = sym (ap is_drained is) ∙ h.drained; unfailed = sym (ap has_failed is) ∙ h.unfailed }
+  drained_so e b is h = record {
+    drained = sym (ap is_drained is) ∙ h.drained;
+    unfailed = sym (ap has_failed is) ∙ h.unfailed;
+  }
 
-  pub all_down : IsDrained l (lives xs a).nb.end → went_up l (all_calls Ue xs a) ue ≡ was_submitted l (all_calls Nb xs a) nb
-  all_down d = sym ue_ups ∙ (drained_delivers near far r.steps s.both r.lived).there (drained_so (lives xs a).nb.end last.near.bearer r.nb_is.bearer_is d) ∙ nb_submitted
+  pub all_down : IsDrained l (lives xs a).nb.end
+      → went_up l (all_calls Ue xs a) ue ≡ was_submitted l (all_calls Nb xs a) nb
+  all_down d = sym ue_ups ∙ (drained_delivers near far r.steps s.both r.lived).there
+      (drained_so (lives xs a).nb.end last.near.bearer r.nb_is.bearer_is d) ∙ nb_submitted
 
-  pub all_up : IsDrained l (lives xs a).ue.end → went_up l (all_calls Nb xs a) nb ≡ was_submitted l (all_calls Ue xs a) ue
-  all_up d = sym nb_ups ∙ (drained_delivers near far r.steps s.both r.lived).back (drained_so (lives xs a).ue.end last.far.bearer r.ue_is.bearer_is d) ∙ ue_submitted
+  pub all_up : IsDrained l (lives xs a).ue.end
+      → went_up l (all_calls Nb xs a) nb ≡ was_submitted l (all_calls Ue xs a) ue
+  all_up d = sym nb_ups ∙ (drained_delivers near far r.steps s.both r.lived).back
+      (drained_so (lives xs a).ue.end last.far.bearer r.ue_is.bearer_is d) ∙ ue_submitted
 
   -- ---- nothing is lost
 
-  lost_by : (side : Side) (e : End) (b : State) (cs : List Call) (found : List Event) → flow l e ≡ Am b → Stands side l e → AllByRecursion (IsCall l) cs
-      → found ≡ all_losses l (Am b) (does side r.steps (pair near far)) → does side r.steps (pair near far) ≡ steps_over l cs e → found ≡ [] → losses (told_on l (told_over cs e)) ≡ []
+  lost_by : (side : Side) (e : End) (b : State) (cs : List Call) (found : List Event) → flow l e ≡ Am b
+      → Stands side l e → AllByRecursion (IsCall l) cs
+      → found ≡ all_losses l (Am b) (does side r.steps (pair near far))
+      → does side r.steps (pair near far) ≡ steps_over l cs e → found ≡ [] → losses (told_on l (told_over cs e)) ≡ []
   lost_by side e b cs found is st g found_is does_is none =
-      end_losses side l cs e st g ∙ ap (λ (f : Flow). all_losses l f (steps_over l cs e)) is ∙ ap (all_losses l (Am b)) (sym does_is) ∙ sym found_is ∙ none
+      end_losses side l cs e st g ∙ ap (λ (f : Flow). all_losses l f (steps_over l cs e)) is
+      ∙ ap (all_losses l (Am b)) (sym does_is) ∙ sym found_is ∙ none
 
   pub none_lost : (side : Side) → losses (told_on l (told_over (all_calls side xs a) (end_at side a))) ≡ []
   none_lost Nb =
-      lost_by Nb nb near (all_calls Nb xs a) (over near_losses r.steps (pair near far)) s.nb_begins.bearer_is s.nb_stands (calls Nb)
-      (pair_losses l Nb r.steps (pair near far) (between_first Nb nb near s.nb_begins)) r.nb_does (nothing_is_lost near far r.steps s.both r.lived).near_none
+      lost_by Nb nb near (all_calls Nb xs a) (over near_losses r.steps (pair near far)) s.nb_begins.bearer_is
+      s.nb_stands (calls Nb)
+      (pair_losses l Nb r.steps (pair near far) (between_first Nb nb near s.nb_begins)) r.nb_does
+      (nothing_is_lost near far r.steps s.both r.lived).near_none
   none_lost Ue =
-      lost_by Ue ue far (all_calls Ue xs a) (over far_losses r.steps (pair near far)) s.ue_begins.bearer_is s.ue_stands (calls Ue)
-      (pair_losses l Ue r.steps (pair near far) (between_first Ue ue far s.ue_begins)) r.ue_does (nothing_is_lost near far r.steps s.both r.lived).far_none
+      lost_by Ue ue far (all_calls Ue xs a) (over far_losses r.steps (pair near far)) s.ue_begins.bearer_is
+      s.ue_stands (calls Ue)
+      (pair_losses l Ue r.steps (pair near far) (between_first Ue ue far s.ue_begins)) r.ue_does
+      (nothing_is_lost near far r.steps s.both r.lived).far_none
 
   -- ---- as it ends
 
-  stand_on : (side : Side) (e : End) (cs : List Call) → Stands side l e → AllByRecursion (IsCall l) cs → Stands side l (run cs e)
+  stand_on : (side : Side) (e : End) (cs : List Call) → Stands side l e → AllByRecursion (IsCall l) cs
+      → Stands side l (run cs e)
   stand_on side e [] st g = st
-  stand_on side e (c ∷ cs) st g = let one = call_new l e c g.0 in stand_on side (after e c) cs (stands_more side l e c st one.0 one.1) g.1
+  stand_on side e (c ∷ cs) st g = let one = call_new l e c g.0 in
+      stand_on side (after e c) cs (stands_more side l e c st one.0 one.1) g.1
 
   pub stands_at : (side : Side) → Stands side l (end_at side (lives xs a))
-  stands_at Nb = subst (Stands Nb l) (sym (goes_by_calls Nb xs a)) (stand_on Nb nb (all_calls Nb xs a) s.nb_stands (calls Nb))
-  stands_at Ue = subst (Stands Ue l) (sym (goes_by_calls Ue xs a)) (stand_on Ue ue (all_calls Ue xs a) s.ue_stands (calls Ue))
+  stands_at Nb =
+      subst (Stands Nb l) (sym (goes_by_calls Nb xs a)) (stand_on Nb nb (all_calls Nb xs a) s.nb_stands (calls Nb))
+  stands_at Ue =
+      subst (Stands Ue l) (sym (goes_by_calls Ue xs a)) (stand_on Ue ue (all_calls Ue xs a) s.ue_stands (calls Ue))
 
   anew : (keys : Keys) → BothBeginAnew last.near.bearer last.far.bearer keys
   anew keys = next_life near far r.steps keys s.both r.lived
@@ -205,7 +239,8 @@ module _ (l : ℕ) (nb ue : End) (near far : State) (s : Start l nb ue near far)
   moved_stands : (side : Side) (e : End) (keys : Keys) → Stands side l e → Stands side l (after e (Move keys))
   moved_stands side e keys st = stands_more side l e (Move keys) st tt (λ p. let no : false ≡ true = p in absurd cc)
 
-  moved : (side : Side) (e : End) (b : State) (keys : Keys) → Stands side l e → flow l e ≡ Am b → bearer_goes (Am b) (Restart keys) ≡ Am (renews b keys) → Begins side l (after e (Move keys)) (renews b keys)
+  moved : (side : Side) (e : End) (b : State) (keys : Keys) → Stands side l e → flow l e ≡ Am b
+      → bearer_goes (Am b) (Restart keys) ≡ Am (renews b keys) → Begins side l (after e (Move keys)) (renews b keys)
   moved side e b keys st is left =
       let h = the_end side l e keys st in
       record {
@@ -215,32 +250,48 @@ module _ (l : ℕ) (nb ue : End) (near far : State) (s : Start l nb ue near far)
         life = record { sends = refl; hears = refl };
       }
 
-  pub starts_anew : (keys : Keys) → Start l (after (lives xs a).nb.end (Move keys)) (after (lives xs a).ue.end (Move keys)) (renews last.near.bearer keys) (renews last.far.bearer keys)
+  pub starts_anew : (keys : Keys)
+      → Start l (after (lives xs a).nb.end (Move keys)) (after (lives xs a).ue.end (Move keys))
+      (renews last.near.bearer keys) (renews last.far.bearer keys)
   starts_anew keys =
       let n = anew keys in
       record {
         both = n.both;
-        nb_begins = moved Nb (lives xs a).nb.end last.near.bearer keys (stands_at Nb) r.nb_is.bearer_is n.near_anew.left;
+        nb_begins = moved Nb (lives xs a).nb.end last.near.bearer keys (stands_at Nb) r.nb_is.bearer_is
+            n.near_anew.left;
         ue_begins = moved Ue (lives xs a).ue.end last.far.bearer keys (stands_at Ue) r.ue_is.bearer_is n.far_anew.left;
         nb_stands = moved_stands Nb (lives xs a).nb.end keys (stands_at Nb);
         ue_stands = moved_stands Ue (lives xs a).ue.end keys (stands_at Ue);
       }
 
-  none_by : (side : Side) (e : End) (b : State) (keys : Keys) → Stands side l e → flow l e ≡ Am b → ups_in (stopping (Am b)) ≡ [] → ups_on l (told_of e (Move keys)) ≡ []
+  none_by : (side : Side) (e : End) (b : State) (keys : Keys) → Stands side l e → flow l e ≡ Am b
+      → ups_in (stopping (Am b)) ≡ [] → ups_on l (told_of e (Move keys)) ≡ []
   none_by side e b keys st is none =
       (the_end side l e keys st).ups_are ∙ ap (λ (f : Flow). ups_on l (stopping f)) is
-      ∙ sym (end_ups l b (subst (IsBetween l) is (between_at l e.bearers st.there (come_between side e st.come)))) ∙ none
+      ∙ sym (end_ups l b (subst (IsBetween l) is (between_at l e.bearers st.there (come_between side e st.come))))
+      ∙ none
 
   pub none_between : (side : Side) (keys : Keys) → ups_on l (told_of (end_at side (lives xs a)) (Move keys)) ≡ []
-  none_between Nb keys = none_by Nb (lives xs a).nb.end last.near.bearer keys (stands_at Nb) r.nb_is.bearer_is (anew keys).near_anew.none_up
-  none_between Ue keys = none_by Ue (lives xs a).ue.end last.far.bearer keys (stands_at Ue) r.ue_is.bearer_is (anew keys).far_anew.none_up
+  none_between Nb keys =
+      none_by Nb (lives xs a).nb.end last.near.bearer keys (stands_at Nb) r.nb_is.bearer_is
+      (anew keys).near_anew.none_up
+  none_between Ue keys =
+      none_by Ue (lives xs a).ue.end last.far.bearer keys (stands_at Ue) r.ue_is.bearer_is
+      (anew keys).far_anew.none_up
 
-  lost_at_the_end : (side : Side) (e : End) (b : State) (keys : Keys) → Stands side l e → flow l e ≡ Am b → losses (stopping (Am b)) ≡ [] → losses (told_on l (told_of e (Move keys))) ≡ []
-  lost_at_the_end side e b keys st is none = ap losses (the_end side l e keys st).told_is ∙ ap (λ (f : Flow). losses (stopping f)) is ∙ none
+  lost_at_the_end : (side : Side) (e : End) (b : State) (keys : Keys) → Stands side l e → flow l e ≡ Am b
+      → losses (stopping (Am b)) ≡ [] → losses (told_on l (told_of e (Move keys))) ≡ []
+  lost_at_the_end side e b keys st is none = ap losses (the_end side l e keys st).told_is
+      ∙ ap (λ (f : Flow). losses (stopping f)) is ∙ none
 
-  pub none_lost_between : (side : Side) (keys : Keys) → losses (told_on l (told_of (end_at side (lives xs a)) (Move keys))) ≡ []
-  none_lost_between Nb keys = lost_at_the_end Nb (lives xs a).nb.end last.near.bearer keys (stands_at Nb) r.nb_is.bearer_is (anew keys).near_anew.none_lost
-  none_lost_between Ue keys = lost_at_the_end Ue (lives xs a).ue.end last.far.bearer keys (stands_at Ue) r.ue_is.bearer_is (anew keys).far_anew.none_lost
+  pub none_lost_between : (side : Side) (keys : Keys)
+      → losses (told_on l (told_of (end_at side (lives xs a)) (Move keys))) ≡ []
+  none_lost_between Nb keys =
+      lost_at_the_end Nb (lives xs a).nb.end last.near.bearer keys (stands_at Nb) r.nb_is.bearer_is
+      (anew keys).near_anew.none_lost
+  none_lost_between Ue keys =
+      lost_at_the_end Ue (lives xs a).ue.end last.far.bearer keys (stands_at Ue) r.ue_is.bearer_is
+      (anew keys).far_anew.none_lost
 
 -- ---- the first life
 
@@ -248,14 +299,23 @@ module _ (l : ℕ) (nb ue : End) (near far : State) (s : Start l nb ue near far)
 abbrev pub first_of : BearerConfig → Keys → Side → State
 first_of c keys side = fresh_am c Srb keys side
 
-first_is : (c : BearerConfig) (keys : Keys) (side : Side) → c.kind ≡ kinds.Srb → flow_of c.kind c keys side ≡ Am (first_of c keys side)
+first_is : (c : BearerConfig) (keys : Keys) (side : Side) → c.kind ≡ kinds.Srb
+    → flow_of c.kind c keys side ≡ Am (first_of c keys side)
 first_is c keys side k = ap (λ (x : Kind). flow_of x c keys side) k
 
-begins_first : (side : Side) (l : ℕ) (c : BearerConfig) (keys : Keys) (e : End) → c.kind ≡ kinds.Srb → HasBegun side l c keys e → Begins side l e (first_of c keys side)
+begins_first : (side : Side) (l : ℕ) (c : BearerConfig) (keys : Keys) (e : End) → c.kind ≡ kinds.Srb
+    → HasBegun side l c keys e → Begins side l e (first_of c keys side)
 unfolding fresh_am
-begins_first side l c keys e k h = record { come = h.come; there = h.there; bearer_is = h.bearer_is ∙ first_is c keys side k; life = record { sends = refl; hears = refl } }
+begins_first side l c keys e k h =
+    record {
+      come = h.come;
+      there = h.there;
+      bearer_is = h.bearer_is ∙ first_is c keys side k;
+      life = record { sends = refl; hears = refl };
+    }
 
-pub starts_first : (l : ℕ) (c : BearerConfig) (keys : Keys) (nb ue : End) → c.kind ≡ kinds.Srb → c.first ≤ 4294967296 → HasBegun Nb l c keys nb → HasBegun Ue l c keys ue
+pub starts_first : (l : ℕ) (c : BearerConfig) (keys : Keys) (nb ue : End) → c.kind ≡ kinds.Srb → c.first ≤ 4294967296
+    → HasBegun Nb l c keys nb → HasBegun Ue l c keys ue
     → Start l nb ue (first_of c keys Nb) (first_of c keys Ue)
 starts_first l c keys nb ue k few x y = record {
   both = fresh_begin c keys few;

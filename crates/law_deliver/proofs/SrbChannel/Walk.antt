@@ -5,15 +5,20 @@ use Rattle.law_rlc.specs.AmPair.Flow.{Copy}
 use Rattle.bearer.specs.Acknowledged.State.{State}
 use Rattle.law_bearer.specs.AnyBearer.Calls.{Call as BearerCall, Submit, Take, Arrive, Expire, Tick, SetDiscard}
 use Rattle.l2_types.specs.declared.side.Side.TheVariants.{Nb, Ue}
-use Rattle.law_deliver.specs.AmFlow.Air.{Station, Air, Act, Step as LinkStep, AtNb, AtUe, Passes, does as station_does, IsDone, IsGiven}
-use Rattle.law_deliver.specs.AmFlow.Pair.{Sent, BearerEnd, Pair, Deed, Calls as CallsBearer, DataComes, StatusComes, DataGoes, StatusGoes, Step, Near, Far, Passes as PairPasses, called, data_comes, status_comes, does as deed_does, happens, goes}
+use Rattle.law_deliver.specs.AmFlow.Air.{Station, Air, Act, Step as LinkStep, AtNb, AtUe, Passes, does as station_does}
+use Rattle.law_deliver.specs.AmFlow.Air.{IsDone, IsGiven}
+use Rattle.law_deliver.specs.AmFlow.Pair.{Sent, BearerEnd, Pair, Deed, Calls as CallsBearer, DataComes, StatusComes}
+use Rattle.law_deliver.specs.AmFlow.Pair.{DataGoes, StatusGoes, Step, Near, Far, Passes as PairPasses, called}
+use Rattle.law_deliver.specs.AmFlow.Pair.{data_comes, status_comes, does as deed_does, happens, goes}
 use Rattle.law_deliver.proofs.AmFlow.Air.{calls_in as act_calls, acts, passes, young}
-use Rattle.law_deliver.proofs.AmFlow.Runs.{does_all, AreDone, near_steps, far_steps, near_goes, far_goes, data_call, status_call, calls_in as deed_calls, all_calls_in}
+use Rattle.law_deliver.proofs.AmFlow.Runs.{does_all, AreDone, near_steps, far_steps, near_goes, far_goes, data_call}
+use Rattle.law_deliver.proofs.AmFlow.Runs.{status_call, calls_in as deed_calls, all_calls_in}
 use Rattle.law_deliver.proofs.AmFlow.Stations.{Matches, Acts}
 use Rattle.law_deliver.specs.AmDelivery.Lives.{IsAccepted as IsTaken}
 use Rattle.law_deliver.specs.AmChannel.Delivery.{steps_over, SetNone}
 use Rattle.law_deliver.specs.AmChannel.Lives.{AirStep, InLife, calls_by, calls_at, lives_on}
-use Rattle.law_deliver.proofs.AmChannel.Acting.{AreAccepted, as_steps, near_does, far_does, near_rests, far_rests, act_steps, act_accepted}
+use Rattle.law_deliver.proofs.AmChannel.Acting.{AreAccepted, as_steps, near_does, far_does, near_rests, far_rests}
+use Rattle.law_deliver.proofs.AmChannel.Acting.{act_steps, act_accepted}
 use Rattle.law_deliver.proofs.AmChannel.Submitted.{steps_unset}
 use Rattle.law_deliver.proofs.AmChannel.Unset.{IsUnset, IsUnsetStep}
 use Rattle.law_deliver.specs.SrbDelivery.Life.{IsAccepted, MayBeDone, AreLived}
@@ -41,37 +46,44 @@ unset_calls : (cs : List BearerCall) → AllByRecursion IsUnsetStep (as_steps cs
 unset_calls [] u = tt
 unset_calls (c ∷ cs) u = (u.0, unset_calls cs u.1)
 
-data_rest : (o : Option Copy) (e : BearerEnd) (cs : List BearerCall) → AreAllowed e.bearer (data_call o ++ cs) → AreAllowed (data_comes e o).bearer cs
+data_rest : (o : Option Copy) (e : BearerEnd) (cs : List BearerCall) → AreAllowed e.bearer (data_call o ++ cs)
+    → AreAllowed (data_comes e o).bearer cs
 data_rest None e cs h = h
 data_rest (Some c) e cs h = h.1
 
-status_rest : (o : Option Sent) (e : BearerEnd) (cs : List BearerCall) → AreAllowed e.bearer (status_call o ++ cs) → AreAllowed (status_comes e o).bearer cs
+status_rest : (o : Option Sent) (e : BearerEnd) (cs : List BearerCall) → AreAllowed e.bearer (status_call o ++ cs)
+    → AreAllowed (status_comes e o).bearer cs
 status_rest None e cs h = h
 status_rest (Some s) e cs h = h.1
 
-deed_rest : (other e : BearerEnd) (d : Deed) (cs : List BearerCall) → AreAllowed e.bearer (deed_calls other d ++ cs) → MayBeDone e.bearer d × AreAllowed (deed_does other e d).bearer cs
+deed_rest : (other e : BearerEnd) (d : Deed) (cs : List BearerCall) → AreAllowed e.bearer (deed_calls other d ++ cs)
+    → MayBeDone e.bearer d × AreAllowed (deed_does other e d).bearer cs
 deed_rest other e (CallsBearer c) cs h = h
 deed_rest other e (DataComes k) cs h = (tt, data_rest (slice_get other.copies k) e cs h)
 deed_rest other e (StatusComes k) cs h = (tt, status_rest (slice_get other.reports k) e cs h)
 deed_rest other e (DataGoes k) cs h = (tt, h)
 deed_rest other e (StatusGoes k) cs h = (tt, h)
 
-near_lived : (p : Pair) (ds : List Deed) → AreDone p.far p.near ds → AreAllowed p.near.bearer (all_calls_in p.far ds) → AreLived p (near_steps ds)
+near_lived : (p : Pair) (ds : List Deed) → AreDone p.far p.near ds → AreAllowed p.near.bearer (all_calls_in p.far ds)
+    → AreLived p (near_steps ds)
 near_lived p [] g h = tt
 near_lived p (d ∷ ds) g h =
     let one = deed_rest p.far p.near d (all_calls_in p.far ds) h in
     ((g.0, one.0), near_lived (happens p (Near d)) ds g.1 one.1)
 
-far_lived : (p : Pair) (ds : List Deed) → AreDone p.near p.far ds → AreAllowed p.far.bearer (all_calls_in p.near ds) → AreLived p (far_steps ds)
+far_lived : (p : Pair) (ds : List Deed) → AreDone p.near p.far ds → AreAllowed p.far.bearer (all_calls_in p.near ds)
+    → AreLived p (far_steps ds)
 far_lived p [] g h = tt
 far_lived p (d ∷ ds) g h =
     let one = deed_rest p.near p.far d (all_calls_in p.near ds) h in
     ((g.0, one.0), far_lived (happens p (Far d)) ds g.1 one.1)
 
-act_allowed : (l : ℕ) (other s : Station) (x : Act) (b : State) → IsDone l s x → SetNone l (calls_by other x) → AreAccepted b (act_calls l other s x) → AreAllowed b (act_calls l other s x)
+act_allowed : (l : ℕ) (other s : Station) (x : Act) (b : State) → IsDone l s x → SetNone l (calls_by other x)
+    → AreAccepted b (act_calls l other s x) → AreAllowed b (act_calls l other s x)
 act_allowed l other s x b g none h =
     allowed (act_calls l other s x) b h
-    (unset_calls (act_calls l other s x) (subst (AllByRecursion IsUnsetStep) (act_steps l other s x g) (steps_unset l (calls_by other x) s.end none)))
+    (unset_calls (act_calls l other s x)
+    (subst (AllByRecursion IsUnsetStep) (act_steps l other s x g) (steps_unset l (calls_by other x) s.end none)))
 
 -- ---- one step
 
@@ -88,24 +100,31 @@ pub record SetsNone (l : ℕ) (a : Air) (x : AirStep) : Type 0 where
   pub nb : SetNone l (calls_at Nb a x)
   pub ue : SetNone l (calls_at Ue a x)
 
-walks_nb : (l : ℕ) (a : Air) (x : Act) (p : Pair) → IsDone l a.nb x → SetNone l (calls_by a.ue x) → Matches Nb l a.nb p.near → Matches Ue l a.ue p.far → Walks l a (AtNb x) p
+walks_nb : (l : ℕ) (a : Air) (x : Act) (p : Pair) → IsDone l a.nb x → SetNone l (calls_by a.ue x)
+    → Matches Nb l a.nb p.near → Matches Ue l a.ue p.far → Walks l a (AtNb x) p
 walks_nb l a x p g none h k =
-    let r : Acts Nb l (station_does a.ue a.nb x) p.far p.near (act_calls l a.ue a.nb x) = acts Nb Ue l a.nb a.ue p.near p.far x refl h k g in
-    let same : goes (near_steps r.deeds) p ≡ record { near = does_all p.far p.near r.deeds; far = p.far } = near_goes p r.deeds in
+    let r : Acts Nb l (station_does a.ue a.nb x) p.far p.near (act_calls l a.ue a.nb x) =
+    acts Nb Ue l a.nb a.ue p.near p.far x refl h k g in
+    let same : goes (near_steps r.deeds) p ≡ record { near = does_all p.far p.near r.deeds; far = p.far } =
+    near_goes p r.deeds in
     let may = act_allowed l a.ue a.nb x p.near.bearer g none (act_accepted l a.ue a.nb x p.near.bearer h.bearer_is) in
     record {
       steps = near_steps r.deeds;
       lived = near_lived p r.deeds r.done (subst (AreAllowed p.near.bearer) (sym r.calls_are) may);
       nb = subst (λ (q : Pair). Matches Nb l (station_does a.ue a.nb x) q.near) (sym same) r.matches;
       ue = subst (λ (q : Pair). Matches Ue l a.ue q.far) (sym same) k;
-      nb_does = does_as Nb (near_steps r.deeds) p ∙ near_does p r.deeds ∙ ap as_steps r.calls_are ∙ sym (act_steps l a.ue a.nb x g);
+      nb_does = does_as Nb (near_steps r.deeds) p ∙ near_does p r.deeds ∙ ap as_steps r.calls_are
+          ∙ sym (act_steps l a.ue a.nb x g);
       ue_does = does_as Ue (near_steps r.deeds) p ∙ far_rests p r.deeds;
     }
 
-walks_ue : (l : ℕ) (a : Air) (x : Act) (p : Pair) → IsDone l a.ue x → SetNone l (calls_by a.nb x) → Matches Nb l a.nb p.near → Matches Ue l a.ue p.far → Walks l a (AtUe x) p
+walks_ue : (l : ℕ) (a : Air) (x : Act) (p : Pair) → IsDone l a.ue x → SetNone l (calls_by a.nb x)
+    → Matches Nb l a.nb p.near → Matches Ue l a.ue p.far → Walks l a (AtUe x) p
 walks_ue l a x p g none h k =
-    let r : Acts Ue l (station_does a.nb a.ue x) p.near p.far (act_calls l a.nb a.ue x) = acts Ue Nb l a.ue a.nb p.far p.near x refl k h g in
-    let same : goes (far_steps r.deeds) p ≡ record { near = p.near; far = does_all p.near p.far r.deeds } = far_goes p r.deeds in
+    let r : Acts Ue l (station_does a.nb a.ue x) p.near p.far (act_calls l a.nb a.ue x) =
+    acts Ue Nb l a.ue a.nb p.far p.near x refl k h g in
+    let same : goes (far_steps r.deeds) p ≡ record { near = p.near; far = does_all p.near p.far r.deeds } =
+    far_goes p r.deeds in
     let may = act_allowed l a.nb a.ue x p.far.bearer g none (act_accepted l a.nb a.ue x p.far.bearer k.bearer_is) in
     record {
       steps = far_steps r.deeds;
@@ -113,10 +132,12 @@ walks_ue l a x p g none h k =
       nb = subst (λ (q : Pair). Matches Nb l a.nb q.near) (sym same) h;
       ue = subst (λ (q : Pair). Matches Ue l (station_does a.nb a.ue x) q.far) (sym same) r.matches;
       nb_does = does_as Nb (far_steps r.deeds) p ∙ near_rests p r.deeds;
-      ue_does = does_as Ue (far_steps r.deeds) p ∙ far_does p r.deeds ∙ ap as_steps r.calls_are ∙ sym (act_steps l a.nb a.ue x g);
+      ue_does = does_as Ue (far_steps r.deeds) p ∙ far_does p r.deeds ∙ ap as_steps r.calls_are
+          ∙ sym (act_steps l a.nb a.ue x g);
     }
 
-pub walks : (l : ℕ) (a : Air) (x : LinkStep) (p : Pair) → IsGiven l a x → SetsNone l a (InLife x) → Matches Nb l a.nb p.near → Matches Ue l a.ue p.far → Walks l a x p
+pub walks : (l : ℕ) (a : Air) (x : LinkStep) (p : Pair) → IsGiven l a x → SetsNone l a (InLife x)
+    → Matches Nb l a.nb p.near → Matches Ue l a.ue p.far → Walks l a x p
 walks l a (AtNb x) p g none h k = walks_nb l a x p g none.nb h k
 walks l a (AtUe x) p g none h k = walks_ue l a x p g none.ue h k
 walks l a Passes p g none h k = record {

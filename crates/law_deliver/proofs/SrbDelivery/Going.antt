@@ -1,9 +1,11 @@
 -- Steps that bring a flow of RLC on, with what they offer and what they bring up.
-use Rattle.std.proofs.Common.{◌≡◌, ℕ, Bool, true, false, ◌||◌, List, [], ◌∷◌, ◌++◌, take, drop, append-nil, append_assoc, refl, ap, sym, subst, ◌∙◌}
+use Rattle.std.proofs.Common.{◌≡◌, ℕ, Bool, true, false, ◌||◌, List, [], ◌∷◌, ◌++◌, take, drop, append-nil}
+use Rattle.std.proofs.Common.{append_assoc, refl, ap, sym, subst, ◌∙◌}
 use Rattle.std.proofs.lemmas.List.{take-append-drop}
 use Rattle.rlc_am_tx.specs.Machine.{State as Sender}
 use Rattle.rlc_am_rx.specs.State.{State as Receiver}
-use Rattle.law_rlc.specs.AmReceiver.Run.{Call as ReceiverCall, Arrive, Up, Write, ExpireReorder, ExpireProhibit, TickReorder, TickProhibit}
+use Rattle.law_rlc.specs.AmReceiver.Run.{Call as ReceiverCall, Arrive, Up, Write, ExpireReorder, ExpireProhibit}
+use Rattle.law_rlc.specs.AmReceiver.Run.{TickReorder, TickProhibit}
 use Rattle.law_rlc.specs.AmPair.Flow.{Copy, Flow, Step, Receives, happens, goes}
 use Rattle.law_rlc.specs.AmPair.Given.{IsGiven, AreGiven}
 use Rattle.law_rlc.specs.AmPair.Sdus.{offered, handed_up, ready}
@@ -18,15 +20,23 @@ use Rattle.law_deliver.proofs.AmFlow.Standing.{Stands, given_more, goes_more}
 abbrev pub total : Flow → List (List ℕ)
 total f = handed_up f ++ ready f
 
-pub record Goes (f : Flow) (tx : Sender) (rx : Receiver) (copies : List Copy) (reports : List Sent) (busy : Bool) (sdus ups : List (List ℕ)) : Type 0 where
+pub record Goes (f : Flow) (tx : Sender) (rx : Receiver) (copies : List Copy) (reports : List Sent) (busy : Bool)
+    (sdus ups : List (List ℕ)) : Type 0 where
   pub steps : List Step
   pub given : AreGiven f steps
   pub stands : Stands tx rx copies reports busy (goes steps f)
   pub offered_is : offered (goes steps f) ≡ offered f ++ sdus
   pub total_is : total (goes steps f) ≡ total f ++ ups
 
-pub stays : (f : Flow) (tx : Sender) (rx : Receiver) (cs : List Copy) (rs : List Sent) (b : Bool) → Stands tx rx cs rs b f → Goes f tx rx cs rs b [] []
-stays f tx rx cs rs b h = record { steps = []; given = tt; stands = h; offered_is = sym (append-nil (offered f)); total_is = sym (append-nil (total f)) }
+pub stays : (f : Flow) (tx : Sender) (rx : Receiver) (cs : List Copy) (rs : List Sent) (b : Bool)
+    → Stands tx rx cs rs b f → Goes f tx rx cs rs b [] []
+stays f tx rx cs rs b h = record {
+  steps = [];
+  given = tt;
+  stands = h;
+  offered_is = sym (append-nil (offered f));
+  total_is = sym (append-nil (total f));
+}
 
 -- ---- a step that neither brings a data PDU nor takes an SDU up
 
@@ -39,7 +49,8 @@ calm_total f s g c =
     let h = goes-up f in
     ap (λ l. l ++ ready (happens f s)) (h.stays s g c.stays) ∙ ap (λ l. handed_up f ++ l) (h.same s g c.stays c.none)
 
-pub calm_goes : (f : Flow) (s : Step) (tx : Sender) (rx : Receiver) (cs : List Copy) (rs : List Sent) (b : Bool) → IsGiven f s → IsCalm s → Stands tx rx cs rs b (happens f s) → Goes f tx rx cs rs b (offers s) []
+pub calm_goes : (f : Flow) (s : Step) (tx : Sender) (rx : Receiver) (cs : List Copy) (rs : List Sent) (b : Bool)
+    → IsGiven f s → IsCalm s → Stands tx rx cs rs b (happens f s) → Goes f tx rx cs rs b (offers s) []
 calm_goes f s tx rx cs rs b g c h = record {
   steps = s ∷ [];
   given = (g, tt);
@@ -54,7 +65,8 @@ up_total : (f : Flow) → total (happens f (Receives Up)) ≡ total f
 up_total f =
     let h = goes-up f in
     ap (λ l. l ++ ready (happens f (Receives Up))) h.gone ∙ ap (λ l. (handed_up f ++ take 1 (ready f)) ++ l) h.rest
-    ∙ append_assoc (handed_up f) (take 1 (ready f)) (drop 1 (ready f)) ∙ ap (λ l. handed_up f ++ l) (take-append-drop 1 (ready f))
+    ∙ append_assoc (handed_up f) (take 1 (ready f)) (drop 1 (ready f))
+    ∙ ap (λ l. handed_up f ++ l) (take-append-drop 1 (ready f))
 
 pub own_total : (f : Flow) (c : ReceiverCall) → IsOfReceiver c → total (happens f (Receives c)) ≡ total f
 own_total f (Arrive pdu) own = absurd own
@@ -70,8 +82,10 @@ own_total f TickProhibit own = calm_total f (Receives TickProhibit) tt (record {
 more_is : (xs ys zs a b : List (List ℕ)) → ys ≡ xs ++ a → zs ≡ ys ++ b → zs ≡ xs ++ (a ++ b)
 more_is xs ys zs a b p q = q ∙ ap (λ (l : List (List ℕ)). l ++ b) p ∙ append_assoc xs a b
 
-pub goes_then : (f : Flow) (tx ty : Sender) (rx ry : Receiver) (cs ds : List Copy) (rs ss : List Sent) (b c : Bool) (sdus more ups later : List (List ℕ))
-    → Goes f tx rx cs rs b sdus ups → ((g : Flow) → Stands tx rx cs rs b g → Goes g ty ry ds ss c more later) → Goes f ty ry ds ss c (sdus ++ more) (ups ++ later)
+pub goes_then : (f : Flow) (tx ty : Sender) (rx ry : Receiver) (cs ds : List Copy) (rs ss : List Sent) (b c : Bool)
+    (sdus more ups later : List (List ℕ))
+    → Goes f tx rx cs rs b sdus ups → ((g : Flow) → Stands tx rx cs rs b g → Goes g ty ry ds ss c more later)
+    → Goes f ty ry ds ss c (sdus ++ more) (ups ++ later)
 goes_then f tx ty rx ry cs ds rs ss b c sdus more ups later m go =
     let g = goes m.steps f in
     let n : Goes g ty ry ds ss c more later = go g m.stands in
@@ -80,12 +94,15 @@ goes_then f tx ty rx ry cs ds rs ss b c sdus more ups later m go =
       steps = m.steps ++ n.steps;
       given = given_more f m.steps n.steps m.given n.given;
       stands = subst (Stands ty ry ds ss c) same n.stands;
-      offered_is = ap offered (sym same) ∙ more_is (offered f) (offered g) (offered (goes n.steps g)) sdus more m.offered_is n.offered_is;
-      total_is = ap total (sym same) ∙ more_is (total f) (total g) (total (goes n.steps g)) ups later m.total_is n.total_is;
+      offered_is = ap offered (sym same)
+          ∙ more_is (offered f) (offered g) (offered (goes n.steps g)) sdus more m.offered_is n.offered_is;
+      total_is = ap total (sym same)
+          ∙ more_is (total f) (total g) (total (goes n.steps g)) ups later m.total_is n.total_is;
     }
 
 -- the same in another form
-pub goes_as : (f : Flow) (tx : Sender) (rx : Receiver) (cs : List Copy) (rs : List Sent) (b : Bool) (sdus more ups later : List (List ℕ)) → sdus ≡ more → ups ≡ later
+pub goes_as : (f : Flow) (tx : Sender) (rx : Receiver) (cs : List Copy) (rs : List Sent) (b : Bool)
+    (sdus more ups later : List (List ℕ)) → sdus ≡ more → ups ≡ later
     → Goes f tx rx cs rs b sdus ups → Goes f tx rx cs rs b more later
 goes_as f tx rx cs rs b sdus more ups later p q m = record {
   steps = m.steps;

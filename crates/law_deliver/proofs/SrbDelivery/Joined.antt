@@ -1,5 +1,6 @@
 -- How both ends of a direction belong together in a life, and how it goes on by what either end does.
-use Rattle.std.proofs.Common.{◌≡◌, ◌≤◌, ℕ, ◌+◌, ◌^◌, List, [], ◌∷◌, ◌++◌, length, append-nil, append_assoc, length-append, refl, ap, sym, subst, ◌∙◌, arith}
+use Rattle.std.proofs.Common.{◌≡◌, ◌≤◌, ℕ, ◌+◌, ◌^◌, List, [], ◌∷◌, ◌++◌, length, append-nil, append_assoc}
+use Rattle.std.proofs.Common.{length-append, refl, ap, sym, subst, ◌∙◌, arith}
 use Rattle.l2_types.specs.declared.config.AmTxConfig.{AmTxConfig}
 use Rattle.l2_types.specs.declared.AmRxConfig.{AmRxConfig}
 use Rattle.pdcp_pdu.specs.declared.PdcpKind.TheVariants.{Srb}
@@ -34,7 +35,8 @@ pub record Way : Type 0 where
 abbrev pub flow_by : Way → List RlcStep → Rlc
 flow_by w steps = rlc_goes steps (rlc_outset w.sending w.receiving)
 
--- from an end to the other: RLC is a flow, to which the PDUs of the SDUs taken were offered; those that went up, and `later` taken ones
+-- from an end to the other: RLC is a flow, to which the PDUs of the SDUs taken were offered; those that went up, and
+-- `later` taken ones
 pub record Joined (w : Way) (from to : BearerEnd) (submitted ups : List (List ℕ)) : Type 0 where
   pub steps : List RlcStep
   pub given : AreGivenSteps (rlc_outset w.sending w.receiving) steps
@@ -46,14 +48,16 @@ pub record Joined (w : Way) (from to : BearerEnd) (submitted ups : List (List �
   pub hears : Hears w.first w.protection (length ups) to.bearer.pdcp.rx
   pub submitted_is : submitted ≡ (ups ++ later) ++ queue from.bearer.pdcp.tx
 
-abbrev pub has_flow : (w : Way) (from to : BearerEnd) (submitted ups : List (List ℕ)) → Joined w from to submitted ups → HasFlow w.sending w.receiving from to
+abbrev pub has_flow : (w : Way) (from to : BearerEnd) (submitted ups : List (List ℕ)) → Joined w from to submitted ups
+    → HasFlow w.sending w.receiving from to
 has_flow w from to submitted ups j = record { steps = j.steps; given = j.given; is = j.is }
 
 pub stands_so : (w : Way) (from to : BearerEnd) (submitted ups : List (List ℕ)) (j : Joined w from to submitted ups)
     → Stands from.bearer.tx to.bearer.rx from.copies to.reports from.busy (flow_by w j.steps)
 stands_so w from to submitted ups j = stands_as from to (flow_by w j.steps) j.is
 
-pub sound_so : (w : Way) (from to : BearerEnd) (submitted ups : List (List ℕ)) (j : Joined w from to submitted ups) → IsSound (flow_by w j.steps)
+pub sound_so : (w : Way) (from to : BearerEnd) (submitted ups : List (List ℕ)) (j : Joined w from to submitted ups)
+    → IsSound (flow_by w j.steps)
 sound_so w from to submitted ups j = sound w.sending w.receiving j.steps j.given
 
 -- ---- it goes on
@@ -66,8 +70,10 @@ record Further (w : Way) (from to : BearerEnd) (steps : List RlcStep) (sdus ups 
   offered_is : offered (flow_by w all) ≡ offered (flow_by w steps) ++ sdus
   total_is : total (flow_by w all) ≡ total (flow_by w steps) ++ ups
 
-further : (w : Way) (from to d p : BearerEnd) (submitted ups : List (List ℕ)) (j : Joined w from to submitted ups) (sdus more : List (List ℕ))
-    → Goes (flow_by w j.steps) d.bearer.tx p.bearer.rx d.copies p.reports d.busy sdus more → Further w d p j.steps sdus more
+further : (w : Way) (from to d p : BearerEnd) (submitted ups : List (List ℕ)) (j : Joined w from to submitted ups)
+    (sdus more : List (List ℕ))
+    → Goes (flow_by w j.steps) d.bearer.tx p.bearer.rx d.copies p.reports d.busy sdus more
+    → Further w d p j.steps sdus more
 further w from to d p submitted ups j sdus more m =
     let f = flow_by w j.steps in
     let same = sym (goes_more (rlc_outset w.sending w.receiving) j.steps m.steps) in
@@ -87,7 +93,8 @@ pub record SendsOn (w : Way) (sdus : List (List ℕ)) (s t : Sending) (submitted
   pub offers_are : offers ≡ pdus_from w.protection (w.first + length sdus) news
 
 -- at the end that sends
-pub out_goes : (w : Way) (from to d p : BearerEnd) (submitted ups more offers : List (List ℕ)) (j : Joined w from to submitted ups)
+pub out_goes : (w : Way) (from to d p : BearerEnd) (submitted ups more offers : List (List ℕ))
+    (j : Joined w from to submitted ups)
     → Goes (flow_by w j.steps) d.bearer.tx p.bearer.rx d.copies p.reports d.busy offers []
     → SendsOn w (ups ++ j.later) from.bearer.pdcp.tx d.bearer.pdcp.tx more offers → p.bearer.pdcp.rx ≡ to.bearer.pdcp.rx
     → Joined w d p (submitted ++ more) ups
@@ -102,11 +109,13 @@ out_goes w from to d p submitted ups more offers j m s rx =
       is = on.is;
       later = j.later ++ s.news;
       sends = subst (λ l. Sends w.first q l d.bearer.pdcp.tx) all s.sends;
-      offered_is = on.offered_is ∙ ap (λ l. l ++ offers) j.offered_is ∙ ap (λ l. pdus_from q w.first sdus ++ l) s.offers_are
+      offered_is = on.offered_is ∙ ap (λ l. l ++ offers) j.offered_is
+          ∙ ap (λ l. pdus_from q w.first sdus ++ l) s.offers_are
           ∙ sym (pdus_both q w.first sdus s.news) ∙ ap (pdus_from q w.first) all;
       total_is = on.total_is ∙ append-nil (total (flow_by w j.steps)) ∙ j.total_is;
       hears = subst (Hears w.first q (length ups)) (sym rx) j.hears;
-      submitted_is = ap (λ l. l ++ more) j.submitted_is ∙ append_assoc sdus (queue from.bearer.pdcp.tx) more ∙ ap (λ l. sdus ++ l) s.queued
+      submitted_is = ap (λ l. l ++ more) j.submitted_is ∙ append_assoc sdus (queue from.bearer.pdcp.tx) more
+          ∙ ap (λ l. sdus ++ l) s.queued
           ∙ sym (append_assoc sdus s.news (queue d.bearer.pdcp.tx)) ∙ ap (λ l. l ++ queue d.bearer.pdcp.tx) all;
     }
 
@@ -117,25 +126,31 @@ pub record HearsOn (w : Way) (ups later brought : List (List ℕ)) : Type 0 wher
   pub later_is : later ≡ news ++ rest
   pub brought_is : brought ≡ pdus_from w.protection (w.first + length ups) news
 
-pub inn_goes : (w : Way) (from to d p : BearerEnd) (submitted ups brought : List (List ℕ)) (j : Joined w from to submitted ups) (h : HearsOn w ups j.later brought)
+pub inn_goes : (w : Way) (from to d p : BearerEnd) (submitted ups brought : List (List ℕ))
+    (j : Joined w from to submitted ups) (h : HearsOn w ups j.later brought)
     → Goes (flow_by w j.steps) d.bearer.tx p.bearer.rx d.copies p.reports d.busy [] brought
     → Hears w.first w.protection (length ups + length h.news) p.bearer.pdcp.rx → d.bearer.pdcp.tx ≡ from.bearer.pdcp.tx
     → Joined w d p submitted (ups ++ h.news)
 inn_goes w from to d p submitted ups brought j h m hears tx =
     let q = w.protection in
     let on = further w from to d p submitted ups j [] brought m in
-    let all : ups ++ j.later ≡ (ups ++ h.news) ++ h.rest = ap (λ l. ups ++ l) h.later_is ∙ sym (append_assoc ups h.news h.rest) in
+    let all : ups ++ j.later ≡ (ups ++ h.news) ++ h.rest =
+    ap (λ l. ups ++ l) h.later_is ∙ sym (append_assoc ups h.news h.rest) in
     let size : length ups + length h.news ≡ length (ups ++ h.news) = sym (length-append ups h.news) in
     record {
       steps = on.all;
       given = on.given;
       is = on.is;
       later = h.rest;
-      sends = subst (Sends w.first q ((ups ++ h.news) ++ h.rest)) (sym tx) (subst (λ l. Sends w.first q l from.bearer.pdcp.tx) all j.sends);
-      offered_is = on.offered_is ∙ append-nil (offered (flow_by w j.steps)) ∙ j.offered_is ∙ ap (pdus_from q w.first) all;
-      total_is = on.total_is ∙ ap (λ l. l ++ brought) j.total_is ∙ ap (λ l. pdus_from q w.first ups ++ l) h.brought_is ∙ sym (pdus_both q w.first ups h.news);
+      sends = subst (Sends w.first q ((ups ++ h.news) ++ h.rest)) (sym tx)
+          (subst (λ l. Sends w.first q l from.bearer.pdcp.tx) all j.sends);
+      offered_is = on.offered_is ∙ append-nil (offered (flow_by w j.steps)) ∙ j.offered_is
+          ∙ ap (pdus_from q w.first) all;
+      total_is = on.total_is ∙ ap (λ l. l ++ brought) j.total_is ∙ ap (λ l. pdus_from q w.first ups ++ l) h.brought_is
+          ∙ sym (pdus_both q w.first ups h.news);
       hears = subst (λ n. Hears w.first q n p.bearer.pdcp.rx) size hears;
-      submitted_is = j.submitted_is ∙ ap (λ l. l ++ queue from.bearer.pdcp.tx) all ∙ ap (λ (s : Sending). ((ups ++ h.news) ++ h.rest) ++ queue s) (sym tx);
+      submitted_is = j.submitted_is ∙ ap (λ l. l ++ queue from.bearer.pdcp.tx) all
+          ∙ ap (λ (s : Sending). ((ups ++ h.news) ++ h.rest) ++ queue s) (sym tx);
     }
 
 -- ---- what RLC brings up are the next PDUs of those that it was offered
@@ -156,26 +171,36 @@ record Parts (p : Protection) (count : ℕ) (sdus brought : List (List ℕ)) : T
   sdus_are : sdus ≡ news ++ rest
   brought_is : brought ≡ pdus_from p count news
 
-split : (p : Protection) (count : ℕ) (sdus brought rest : List (List ℕ)) → pdus_from p count sdus ≡ brought ++ rest → Parts p count sdus brought
+split : (p : Protection) (count : ℕ) (sdus brought rest : List (List ℕ)) → pdus_from p count sdus ≡ brought ++ rest
+    → Parts p count sdus brought
 split p count sdus [] rest e = record { news = []; rest = sdus; sdus_are = refl; brought_is = refl }
 split p count [] (b ∷ brought) rest e = absurd cc
 split p count (x ∷ sdus) (b ∷ brought) rest e =
-    let more = split p (count + 1) sdus brought rest (tails_same (pdu Srb p count x) b (pdus_from p (count + 1) sdus) (brought ++ rest) e) in
+    let more =
+    split p (count + 1) sdus brought rest
+    (tails_same (pdu Srb p count x) b (pdus_from p (count + 1) sdus) (brought ++ rest) e) in
     record {
       news = x ∷ more.news;
       rest = more.rest;
       sdus_are = ap (λ l. x ∷ l) more.sdus_are;
-      brought_is = ap (λ y. y ∷ brought) (sym (heads_same (pdu Srb p count x) b (pdus_from p (count + 1) sdus) (brought ++ rest) e)) ∙ ap (λ l. pdu Srb p count x ∷ l) more.brought_is;
+      brought_is =
+          ap (λ y. y ∷ brought)
+          (sym (heads_same (pdu Srb p count x) b (pdus_from p (count + 1) sdus) (brought ++ rest) e))
+          ∙ ap (λ l. pdu Srb p count x ∷ l) more.brought_is;
     }
 
-pub next_are : (w : Way) (from to d p : BearerEnd) (submitted ups brought : List (List ℕ)) (j : Joined w from to submitted ups)
-    → Goes (flow_by w j.steps) d.bearer.tx p.bearer.rx d.copies p.reports d.busy [] brought → HearsOn w ups j.later brought
+pub next_are : (w : Way) (from to d p : BearerEnd) (submitted ups brought : List (List ℕ))
+    (j : Joined w from to submitted ups)
+    → Goes (flow_by w j.steps) d.bearer.tx p.bearer.rx d.copies p.reports d.busy [] brought
+    → HearsOn w ups j.later brought
 next_are w from to d p submitted ups brought j m =
     let q = w.protection in
     let on = further w from to d p submitted ups j [] brought m in
-    let front : IsFront (total (flow_by w on.all)) (offered (flow_by w on.all)) = hands-up-the-front w.sending w.receiving on.all on.given in
+    let front : IsFront (total (flow_by w on.all)) (offered (flow_by w on.all)) =
+    hands-up-the-front w.sending w.receiving on.all on.given in
     let whole : pdus_from q w.first (ups ++ j.later) ≡ (pdus_from q w.first ups ++ brought) ++ front.rest =
-    sym j.offered_is ∙ sym (append-nil (offered (flow_by w j.steps))) ∙ sym on.offered_is ∙ front.is ∙ ap (λ l. l ++ front.rest) (on.total_is ∙ ap (λ l. l ++ brought) j.total_is) in
+    sym j.offered_is ∙ sym (append-nil (offered (flow_by w j.steps))) ∙ sym on.offered_is ∙ front.is
+    ∙ ap (λ l. l ++ front.rest) (on.total_is ∙ ap (λ l. l ++ brought) j.total_is) in
     let tail : pdus_from q (w.first + length ups) j.later ≡ brought ++ front.rest =
     cancel (pdus_from q w.first ups) (pdus_from q (w.first + length ups) j.later) (brought ++ front.rest)
     (sym (pdus_both q w.first ups j.later) ∙ whole ∙ append_assoc (pdus_from q w.first ups) brought front.rest) in
@@ -191,7 +216,8 @@ some_then : (xs ys : List (List ℕ)) → AreNonempty (xs ++ ys) → AreNonempty
 some_then [] ys h = (tt, h)
 some_then (x ∷ xs) ys h = let rest = some_then xs ys h.1 in ((h.0, rest.0), rest.1)
 
-pub are_next : (w : Way) (from to : BearerEnd) (submitted ups brought : List (List ℕ)) (j : Joined w from to submitted ups) (h : HearsOn w ups j.later brought) → AreNext w ups h.news
+pub are_next : (w : Way) (from to : BearerEnd) (submitted ups brought : List (List ℕ))
+    (j : Joined w from to submitted ups) (h : HearsOn w ups j.later brought) → AreNext w ups h.news
 are_next w from to submitted ups brought j h =
     let all = some_then ups j.later j.sends.some in
     let size : length (ups ++ j.later) ≡ length ups + length j.later = length-append ups j.later in

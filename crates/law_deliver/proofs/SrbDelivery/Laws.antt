@@ -1,5 +1,7 @@
 -- Through the steps of a life both directions go on, so what has gone up is the front of what was submitted.
-use Rattle.std.proofs.Common.{◌≡◌, ℕ, ◌+◌, ◌==◌, Bool, true, false, not, ◌&&◌, ◌||◌, List, [], ◌∷◌, ◌++◌, map, length, is_some, slice_get, append-nil, append_assoc, length-append, refl, ap, sym, subst, ◌∙◌, arith}
+use Rattle.std.proofs.Common.{◌≡◌, ℕ, ◌+◌, ◌==◌, Bool, true, false, not, ◌&&◌, ◌||◌, List, [], ◌∷◌, ◌++◌, map, length}
+use Rattle.std.proofs.Common.{is_some, slice_get, append-nil, append_assoc, length-append, refl, ap, sym, subst, ◌∙◌}
+use Rattle.std.proofs.Common.{arith}
 use Rattle.std.proofs.lemmas.Bool.Decides.{nat_tests}
 use Rattle.law_rlc.specs.AmPair.Flow.{sender}
 use Rattle.law_rlc.specs.AmPair.Sdus.{offered}
@@ -12,7 +14,8 @@ use Rattle.law_deliver.specs.AmDelivery.Drained.{IsDrained}
 use Rattle.law_deliver.specs.AmDelivery.Ends.{submitted_by}
 use Rattle.law_deliver.specs.AmDelivery.Lives.{calls_in, ups_by}
 use Rattle.law_deliver.specs.AmFlow.Flows.{BeginsLife}
-use Rattle.law_deliver.specs.AmFlow.Pair.{BearerEnd, Pair, Step, Near, Far, Passes, happens, goes, begins, outset, IsGiven}
+use Rattle.law_deliver.specs.AmFlow.Pair.{BearerEnd, Pair, Step, Near, Far, Passes, happens, goes, begins, outset}
+use Rattle.law_deliver.specs.AmFlow.Pair.{IsGiven}
 use Rattle.law_pdcp.specs.OneEnd.Lives.{queue}
 use Rattle.pdcp_tx_store.specs.Waiting.{Waits}
 use Rattle.pdcp_rx.specs.State.{State as Receiving}
@@ -23,7 +26,8 @@ use Rattle.law_pdcp.specs.SrbPair.Flow.{BeginAlike}
 use Rattle.law_pdcp.proofs.SrbPair.Laws.{Hears, begins_sends}
 use Rattle.law_pdcp.proofs.SrbPair.Sending.{offers_by}
 use Rattle.law_deliver.specs.SrbDelivery.Delivery.{AreTheFront, AreAll}
-use Rattle.law_deliver.specs.SrbDelivery.Life.{BothBegin, MayHappen, AreLived, near_ups, far_ups, near_submits, far_submits, over}
+use Rattle.law_deliver.specs.SrbDelivery.Life.{BothBegin, MayHappen, AreLived, near_ups, far_ups, near_submits}
+use Rattle.law_deliver.specs.SrbDelivery.Life.{far_submits, over}
 use Rattle.law_deliver.specs.SrbDelivery.Losses.{near_losses, far_losses, LoseNone}
 use Rattle.bearer_types.specs.declared.Event.{Event}
 use Rattle.law_deliver.proofs.SrbDelivery.Doing.{IsSignalling, Both, does_on, passes_on}
@@ -39,44 +43,70 @@ pub record BothWays (there back : Way) (p : Pair) (near_sent far_up far_sent nea
   pub near_is : IsSignalling p.near.bearer
   pub far_is : IsSignalling p.far.bearer
 
-from_near : (there back : Way) (p : Pair) (e : BearerEnd) (ns fu fs nu : List (List ℕ)) → Both there back e p.far ns fu nu fs → BothWays there back (record p { near = e }) ns fu fs nu
-from_near there back p e ns fu fs nu h = record { out = h.out_joins; inn = h.inn_joins; near_is = h.own; far_is = h.other }
+from_near : (there back : Way) (p : Pair) (e : BearerEnd) (ns fu fs nu : List (List ℕ))
+    → Both there back e p.far ns fu nu fs → BothWays there back (record p { near = e }) ns fu fs nu
+from_near there back p e ns fu fs nu h =
+    record { out = h.out_joins; inn = h.inn_joins; near_is = h.own; far_is = h.other }
 
-from_far : (there back : Way) (p : Pair) (e : BearerEnd) (ns fu fs nu : List (List ℕ)) → Both back there e p.near fs nu fu ns → BothWays there back (record p { far = e }) ns fu fs nu
-from_far there back p e ns fu fs nu h = record { out = h.inn_joins; inn = h.out_joins; near_is = h.other; far_is = h.own }
+from_far : (there back : Way) (p : Pair) (e : BearerEnd) (ns fu fs nu : List (List ℕ))
+    → Both back there e p.near fs nu fu ns → BothWays there back (record p { far = e }) ns fu fs nu
+from_far there back p e ns fu fs nu h =
+    record { out = h.inn_joins; inn = h.out_joins; near_is = h.other; far_is = h.own }
 
 -- what goes up nowhere
-same_ways : (there back : Way) (p : Pair) (ns fu fs nu : List (List ℕ)) → BothWays there back p ns fu fs nu → BothWays there back p (ns ++ []) (fu ++ []) (fs ++ []) (nu ++ [])
+same_ways : (there back : Way) (p : Pair) (ns fu fs nu : List (List ℕ)) → BothWays there back p ns fu fs nu
+    → BothWays there back p (ns ++ []) (fu ++ []) (fs ++ []) (nu ++ [])
 same_ways there back p ns fu fs nu h =
     subst (λ l. BothWays there back p l (fu ++ []) (fs ++ []) (nu ++ [])) (sym (append-nil ns))
     (subst (λ l. BothWays there back p ns l (fs ++ []) (nu ++ [])) (sym (append-nil fu))
-    (subst (λ l. BothWays there back p ns fu l (nu ++ [])) (sym (append-nil fs)) (subst (BothWays there back p ns fu fs) (sym (append-nil nu)) h)))
+    (subst (λ l. BothWays there back p ns fu l (nu ++ [])) (sym (append-nil fs))
+    (subst (BothWays there back p ns fu fs) (sym (append-nil nu)) h)))
 
-near_end : (there back : Way) (p : Pair) (ns fu fs nu more news : List (List ℕ)) → BothWays there back p (ns ++ more) fu fs (nu ++ news) → BothWays there back p (ns ++ more) (fu ++ []) (fs ++ []) (nu ++ news)
+near_end : (there back : Way) (p : Pair) (ns fu fs nu more news : List (List ℕ))
+    → BothWays there back p (ns ++ more) fu fs (nu ++ news)
+    → BothWays there back p (ns ++ more) (fu ++ []) (fs ++ []) (nu ++ news)
 near_end there back p ns fu fs nu more news h =
-    subst (λ l. BothWays there back p (ns ++ more) l (fs ++ []) (nu ++ news)) (sym (append-nil fu)) (subst (λ l. BothWays there back p (ns ++ more) fu l (nu ++ news)) (sym (append-nil fs)) h)
+    subst (λ l. BothWays there back p (ns ++ more) l (fs ++ []) (nu ++ news)) (sym (append-nil fu))
+    (subst (λ l. BothWays there back p (ns ++ more) fu l (nu ++ news)) (sym (append-nil fs)) h)
 
-far_end : (there back : Way) (p : Pair) (ns fu fs nu more news : List (List ℕ)) → BothWays there back p ns (fu ++ news) (fs ++ more) nu → BothWays there back p (ns ++ []) (fu ++ news) (fs ++ more) (nu ++ [])
+far_end : (there back : Way) (p : Pair) (ns fu fs nu more news : List (List ℕ))
+    → BothWays there back p ns (fu ++ news) (fs ++ more) nu
+    → BothWays there back p (ns ++ []) (fu ++ news) (fs ++ more) (nu ++ [])
 far_end there back p ns fu fs nu more news h =
-    subst (λ l. BothWays there back p l (fu ++ news) (fs ++ more) (nu ++ [])) (sym (append-nil ns)) (subst (BothWays there back p ns (fu ++ news) (fs ++ more)) (sym (append-nil nu)) h)
+    subst (λ l. BothWays there back p l (fu ++ news) (fs ++ more) (nu ++ [])) (sym (append-nil ns))
+    (subst (BothWays there back p ns (fu ++ news) (fs ++ more)) (sym (append-nil nu)) h)
 
-pub step_on : (there back : Way) (p : Pair) (s : Step) (ns fu fs nu : List (List ℕ)) → IsGiven p s → MayHappen p s → BothWays there back p ns fu fs nu
-    → BothWays there back (happens p s) (ns ++ near_submits p s) (fu ++ far_ups p s) (fs ++ far_submits p s) (nu ++ near_ups p s)
+pub step_on : (there back : Way) (p : Pair) (s : Step) (ns fu fs nu : List (List ℕ)) → IsGiven p s → MayHappen p s
+    → BothWays there back p ns fu fs nu
+    → BothWays there back (happens p s) (ns ++ near_submits p s) (fu ++ far_ups p s) (fs ++ far_submits p s)
+    (nu ++ near_ups p s)
 step_on there back p (Near d) ns fu fs nu g may h =
-    near_end there back (happens p (Near d)) ns fu fs nu (submitted_by (calls_in p.far d)) (ups_by p.near.bearer (calls_in p.far d))
-    (from_near there back p (happens p (Near d)).near (ns ++ submitted_by (calls_in p.far d)) fu fs (nu ++ ups_by p.near.bearer (calls_in p.far d))
-    (does_on there back p.near p.far ns fu nu fs d g may (record { out_joins = h.out; inn_joins = h.inn; own = h.near_is; other = h.far_is })).both)
+    near_end there back (happens p (Near d)) ns fu fs nu (submitted_by (calls_in p.far d))
+    (ups_by p.near.bearer (calls_in p.far d))
+    (from_near there back p (happens p (Near d)).near (ns ++ submitted_by (calls_in p.far d)) fu fs
+    (nu ++ ups_by p.near.bearer (calls_in p.far d))
+    (does_on there back p.near p.far ns fu nu fs d g may
+    (record { out_joins = h.out; inn_joins = h.inn; own = h.near_is; other = h.far_is })).both)
 step_on there back p (Far d) ns fu fs nu g may h =
-    far_end there back (happens p (Far d)) ns fu fs nu (submitted_by (calls_in p.near d)) (ups_by p.far.bearer (calls_in p.near d))
-    (from_far there back p (happens p (Far d)).far ns (fu ++ ups_by p.far.bearer (calls_in p.near d)) (fs ++ submitted_by (calls_in p.near d)) nu
-    (does_on back there p.far p.near fs nu fu ns d g may (record { out_joins = h.inn; inn_joins = h.out; own = h.far_is; other = h.near_is })).both)
+    far_end there back (happens p (Far d)) ns fu fs nu (submitted_by (calls_in p.near d))
+    (ups_by p.far.bearer (calls_in p.near d))
+    (from_far there back p (happens p (Far d)).far ns (fu ++ ups_by p.far.bearer (calls_in p.near d))
+    (fs ++ submitted_by (calls_in p.near d)) nu
+    (does_on back there p.far p.near fs nu fu ns d g may
+    (record { out_joins = h.inn; inn_joins = h.out; own = h.far_is; other = h.near_is })).both)
 step_on there back p Passes ns fu fs nu g may h =
     same_ways there back (happens p Passes) ns fu fs nu
-    (record { out = passes_on there p.near p.far ns fu g.1 h.out; inn = passes_on back p.far p.near fs nu g.0 h.inn; near_is = h.near_is; far_is = h.far_is })
+    (record {
+      out = passes_on there p.near p.far ns fu g.1 h.out;
+      inn = passes_on back p.far p.near fs nu g.0 h.inn;
+      near_is = h.near_is;
+      far_is = h.far_is;
+    })
 
 -- ---- any steps
 
-more_on : (there back : Way) (p : Pair) (ns a b fu c d fs e f nu g k : List (List ℕ)) → BothWays there back p ((ns ++ a) ++ b) ((fu ++ c) ++ d) ((fs ++ e) ++ f) ((nu ++ g) ++ k)
+more_on : (there back : Way) (p : Pair) (ns a b fu c d fs e f nu g k : List (List ℕ))
+    → BothWays there back p ((ns ++ a) ++ b) ((fu ++ c) ++ d) ((fs ++ e) ++ f) ((nu ++ g) ++ k)
     → BothWays there back p (ns ++ (a ++ b)) (fu ++ (c ++ d)) (fs ++ (e ++ f)) (nu ++ (g ++ k))
 more_on there back p ns a b fu c d fs e f nu g k h =
     subst (λ l. BothWays there back p l (fu ++ (c ++ d)) (fs ++ (e ++ f)) (nu ++ (g ++ k))) (append_assoc ns a b)
@@ -84,27 +114,43 @@ more_on there back p ns a b fu c d fs e f nu g k h =
     (subst (λ l. BothWays there back p ((ns ++ a) ++ b) ((fu ++ c) ++ d) l (nu ++ (g ++ k))) (append_assoc fs e f)
     (subst (λ l. BothWays there back p ((ns ++ a) ++ b) ((fu ++ c) ++ d) ((fs ++ e) ++ f) l) (append_assoc nu g k) h)))
 
-pub steps_on : (there back : Way) (ss : List Step) (p : Pair) (ns fu fs nu : List (List ℕ)) → AreLived p ss → BothWays there back p ns fu fs nu
-    → BothWays there back (goes ss p) (ns ++ over near_submits ss p) (fu ++ over far_ups ss p) (fs ++ over far_submits ss p) (nu ++ over near_ups ss p)
+pub steps_on : (there back : Way) (ss : List Step) (p : Pair) (ns fu fs nu : List (List ℕ)) → AreLived p ss
+    → BothWays there back p ns fu fs nu
+    → BothWays there back (goes ss p) (ns ++ over near_submits ss p) (fu ++ over far_ups ss p)
+    (fs ++ over far_submits ss p) (nu ++ over near_ups ss p)
 steps_on there back [] p ns fu fs nu g h = same_ways there back p ns fu fs nu h
 steps_on there back (s ∷ ss) p ns fu fs nu g h =
     let q = happens p s in
-    more_on there back (goes ss q) ns (near_submits p s) (over near_submits ss q) fu (far_ups p s) (over far_ups ss q) fs (far_submits p s) (over far_submits ss q) nu (near_ups p s) (over near_ups ss q)
-    (steps_on there back ss q (ns ++ near_submits p s) (fu ++ far_ups p s) (fs ++ far_submits p s) (nu ++ near_ups p s) g.1 (step_on there back p s ns fu fs nu g.0.0 g.0.1 h))
+    more_on there back (goes ss q) ns (near_submits p s) (over near_submits ss q) fu (far_ups p s) (over far_ups ss q)
+    fs (far_submits p s) (over far_submits ss q) nu (near_ups p s) (over near_ups ss q)
+    (steps_on there back ss q (ns ++ near_submits p s) (fu ++ far_ups p s) (fs ++ far_submits p s)
+    (nu ++ near_ups p s) g.1 (step_on there back p s ns fu fs nu g.0.0 g.0.1 h))
 
 -- ---- as the life begins
 
 abbrev pub way : State → State → Way
-way from to = record { first = from.pdcp.tx.next; protection = from.pdcp.tx.protection; sending = from.tx_config; receiving = to.rx_config }
+way from to = record {
+  first = from.pdcp.tx.next;
+  protection = from.pdcp.tx.protection;
+  sending = from.tx_config;
+  receiving = to.rx_config;
+}
 
 begins_hears : (s : Sending) (r : Receiving) → BeginAlike s r → Hears s.next s.protection 0 r
 begins_hears s r h = record { srb = h.hears; key = h.key; none_held = h.none_held; next = omega (arith, h.awaited) }
 
-joined_first : (from to : State) → BeginsLife from → BeginsLife to → BeginAlike from.pdcp.tx to.pdcp.rx → Joined (way from to) (begins from) (begins to) [] []
+joined_first : (from to : State) → BeginsLife from → BeginsLife to → BeginAlike from.pdcp.tx to.pdcp.rx
+    → Joined (way from to) (begins from) (begins to) [] []
 joined_first from to h k b = record {
   steps = [];
   given = tt;
-  is = record { sender_is = sym h.sends; receiver_is = sym k.hears; copies_are = refl; reports_are = refl; busy_is = refl };
+  is = record {
+    sender_is = sym h.sends;
+    receiver_is = sym k.hears;
+    copies_are = refl;
+    reports_are = refl;
+    busy_is = refl;
+  };
   later = [];
   sends = begins_sends from.pdcp.tx to.pdcp.rx b;
   offered_is = refl;
@@ -114,9 +160,14 @@ joined_first from to h k b = record {
 }
 
 begins_idle : (b : State) → BeginsLife b → b.pdcp.rx.ready ≡ [] → IsIdle b
-begins_idle b h q = record { heard = ap (λ r. r.out.ready) h.hears; raised = q; confirmed = ap (λ s. s.accounts.news) h.sends }
+begins_idle b h q = record {
+  heard = ap (λ r. r.out.ready) h.hears;
+  raised = q;
+  confirmed = ap (λ s. s.accounts.news) h.sends;
+}
 
-pub begin_both : (near far : State) → BothBegin near far → BothWays (way near far) (way far near) (outset near far) [] [] [] []
+pub begin_both : (near far : State) → BothBegin near far
+    → BothWays (way near far) (way far near) (outset near far) [] [] [] []
 begin_both near far h = record {
   out = joined_first near far h.near_life h.far_life h.there;
   inn = joined_first far near h.far_life h.near_life h.back;
@@ -125,27 +176,37 @@ begin_both near far h = record {
 }
 
 pub lived : (near far : State) (steps : List Step) → BothBegin near far → AreLived (outset near far) steps
-    → BothWays (way near far) (way far near) (goes steps (outset near far)) (over near_submits steps (outset near far)) (over far_ups steps (outset near far))
+    → BothWays (way near far) (way far near) (goes steps (outset near far))
+    (over near_submits steps (outset near far)) (over far_ups steps (outset near far))
     (over far_submits steps (outset near far)) (over near_ups steps (outset near far))
-lived near far steps h g = steps_on (way near far) (way far near) steps (outset near far) [] [] [] [] g (begin_both near far h)
+lived near far steps h g =
+    steps_on (way near far) (way far near) steps (outset near far) [] [] [] [] g (begin_both near far h)
 
 -- ---- the laws
 
 pub front_of : (w : Way) (from to : BearerEnd) (sent up : List (List ℕ)) → Joined w from to sent up → IsFront up sent
-front_of w from to sent up j = record { rest = j.later ++ queue from.bearer.pdcp.tx; is = j.submitted_is ∙ append_assoc up j.later (queue from.bearer.pdcp.tx) }
+front_of w from to sent up j =
+    record {
+      rest = j.later ++ queue from.bearer.pdcp.tx;
+      is = j.submitted_is ∙ append_assoc up j.later (queue from.bearer.pdcp.tx);
+    }
 
-pub delivers_front : (near far : State) (steps : List Step) → BothBegin near far → AreLived (outset near far) steps → AreTheFront near far steps
+pub delivers_front : (near far : State) (steps : List Step) → BothBegin near far → AreLived (outset near far) steps
+    → AreTheFront near far steps
 delivers_front near far steps h g =
     let l = lived near far steps h g in
     let q = goes steps (outset near far) in
     record {
-      there = front_of (way near far) q.near q.far (over near_submits steps (outset near far)) (over far_ups steps (outset near far)) l.out;
-      back = front_of (way far near) q.far q.near (over far_submits steps (outset near far)) (over near_ups steps (outset near far)) l.inn;
+      there = front_of (way near far) q.near q.far (over near_submits steps (outset near far))
+          (over far_ups steps (outset near far)) l.out;
+      back = front_of (way far near) q.far q.near (over far_submits steps (outset near far))
+          (over near_ups steps (outset near far)) l.inn;
     }
 
 -- ---- where nothing is left
 
-drained_parts : (f m : Bool) (p r : ℕ) → (f || ((p == 0) && (r == 0) && not m)) ≡ true → f ≡ false → (r ≡ 0) × (m ≡ false)
+drained_parts : (f m : Bool) (p r : ℕ) → (f || ((p == 0) && (r == 0) && not m)) ≡ true → f ≡ false
+    → (r ≡ 0) × (m ≡ false)
 drained_parts f m p r e u = (grind (arith, nat_tests), grind (arith, nat_tests))
 
 record NoneLeft (b : State) : Type 0 where
@@ -155,22 +216,33 @@ record NoneLeft (b : State) : Type 0 where
 none_left : (b : State) → IsDrained b → NoneLeft b
 unfolding is_drained
 none_left b h =
-    let parts = drained_parts b.tx.failed (has_more b.pdcp) (pdcp_left b.pdcp.tx) (rlc_left b.tx) h.drained h.unfailed in
+    let parts = drained_parts b.tx.failed (has_more b.pdcp) (pdcp_left b.pdcp.tx) (rlc_left b.tx) h.drained h.unfailed
+    in
     record { rlc_none = parts.0; no_more = parts.1 }
 
-none_offered : (n : ℕ) (ws : List Waits) → is_some (slice_get (new_offers n ws) 0) ≡ false → map (λ (w : Waits). w.sdu) ws ≡ []
+none_offered : (n : ℕ) (ws : List Waits) → is_some (slice_get (new_offers n ws) 0) ≡ false
+    → map (λ (w : Waits). w.sdu) ws ≡ []
 none_offered n [] e = refl
 none_offered n (w ∷ ws) e = absurd cc
 
-none_later : (p : Protection) (count : ℕ) (up later : List (List ℕ)) → pdus_from p count up ≡ pdus_from p count (up ++ later) → later ≡ []
+none_later : (p : Protection) (count : ℕ) (up later : List (List ℕ))
+    → pdus_from p count up ≡ pdus_from p count (up ++ later) → later ≡ []
 none_later p count up [] e = refl
-none_later p count up (x ∷ later) e = absurd (omega (arith, length_pdus p count up, length_pdus p count (up ++ (x ∷ later)), ap length e, length-append up (x ∷ later)))
+none_later p count up (x ∷ later) e =
+    absurd (omega (
+      arith,
+      length_pdus p count up,
+      length_pdus p count (up ++ (x ∷ later)),
+      ap length e,
+      length-append up (x ∷ later),
+    ))
   where
     length_pdus : (p : Protection) (count : ℕ) (xs : List (List ℕ)) → length (pdus_from p count xs) ≡ length xs
     length_pdus p count [] = refl
     length_pdus p count (y ∷ xs) = let rest = length_pdus p (count + 1) xs in omega (arith, rest)
 
-pub all_of : (w : Way) (from to : BearerEnd) (sent up : List (List ℕ)) → Joined w from to sent up → IsDrained from.bearer → up ≡ sent
+pub all_of : (w : Way) (from to : BearerEnd) (sent up : List (List ℕ)) → Joined w from to sent up
+    → IsDrained from.bearer → up ≡ sent
 all_of w from to sent up j d =
     let none = none_left from.bearer d in
     let f = flow_by w j.steps in
@@ -178,16 +250,23 @@ all_of w from to sent up j d =
     let all : total f ≡ offered f = hands-up-all w.sending w.receiving j.steps j.given left in
     let later : j.later ≡ [] = none_later w.protection w.first up j.later (sym j.total_is ∙ all ∙ j.offered_is) in
     let s = from.bearer.pdcp.tx in
-    let waits : queue s ≡ [] = none_offered s.next s.waiting (ap (λ (l : List Offer). is_some (slice_get l 0)) (sym (offers_by w.first w.protection (up ++ j.later) s j.sends)) ∙ none.no_more) in
-    sym (append-nil up) ∙ ap (λ l. up ++ l) (sym later) ∙ sym (append-nil (up ++ j.later)) ∙ ap (λ l. (up ++ j.later) ++ l) (sym waits) ∙ sym j.submitted_is
+    let waits : queue s ≡ [] =
+    none_offered s.next s.waiting
+    (ap (λ (l : List Offer). is_some (slice_get l 0))
+    (sym (offers_by w.first w.protection (up ++ j.later) s j.sends)) ∙ none.no_more) in
+    sym (append-nil up) ∙ ap (λ l. up ++ l) (sym later) ∙ sym (append-nil (up ++ j.later))
+    ∙ ap (λ l. (up ++ j.later) ++ l) (sym waits) ∙ sym j.submitted_is
 
-pub drained_delivers : (near far : State) (steps : List Step) → BothBegin near far → AreLived (outset near far) steps → AreAll near far steps
+pub drained_delivers : (near far : State) (steps : List Step) → BothBegin near far → AreLived (outset near far) steps
+    → AreAll near far steps
 drained_delivers near far steps h g =
     let l = lived near far steps h g in
     let q = goes steps (outset near far) in
     record {
-      there = λ d. all_of (way near far) q.near q.far (over near_submits steps (outset near far)) (over far_ups steps (outset near far)) l.out d;
-      back = λ d. all_of (way far near) q.far q.near (over far_submits steps (outset near far)) (over near_ups steps (outset near far)) l.inn d;
+      there = λ d. all_of (way near far) q.near q.far (over near_submits steps (outset near far))
+          (over far_ups steps (outset near far)) l.out d;
+      back = λ d. all_of (way far near) q.far q.near (over far_submits steps (outset near far))
+          (over near_ups steps (outset near far)) l.inn d;
     }
 
 -- ---- nothing is lost
@@ -196,14 +275,19 @@ record StepLosesNone (p : Pair) (s : Step) : Type 0 where
   near_none : near_losses p s ≡ []
   far_none : far_losses p s ≡ []
 
-step_loses_none : (there back : Way) (p : Pair) (s : Step) (ns fu fs nu : List (List ℕ)) → IsGiven p s → MayHappen p s → BothWays there back p ns fu fs nu → StepLosesNone p s
+step_loses_none : (there back : Way) (p : Pair) (s : Step) (ns fu fs nu : List (List ℕ)) → IsGiven p s → MayHappen p s
+    → BothWays there back p ns fu fs nu → StepLosesNone p s
 step_loses_none there back p (Near d) ns fu fs nu g may h = record {
-  near_none = (does_on there back p.near p.far ns fu nu fs d g may (record { out_joins = h.out; inn_joins = h.inn; own = h.near_is; other = h.far_is })).none;
+  near_none =
+      (does_on there back p.near p.far ns fu nu fs d g may
+      (record { out_joins = h.out; inn_joins = h.inn; own = h.near_is; other = h.far_is })).none;
   far_none = refl;
 }
 step_loses_none there back p (Far d) ns fu fs nu g may h = record {
   near_none = refl;
-  far_none = (does_on back there p.far p.near fs nu fu ns d g may (record { out_joins = h.inn; inn_joins = h.out; own = h.far_is; other = h.near_is })).none;
+  far_none =
+      (does_on back there p.far p.near fs nu fu ns d g may
+      (record { out_joins = h.inn; inn_joins = h.out; own = h.far_is; other = h.near_is })).none;
 }
 step_loses_none there back p Passes ns fu fs nu g may h = record { near_none = refl; far_none = refl }
 
@@ -211,18 +295,22 @@ record Loses (ss : List Step) (p : Pair) : Type 0 where
   near_none : over near_losses ss p ≡ []
   far_none : over far_losses ss p ≡ []
 
-steps_lose_none : (there back : Way) (ss : List Step) (p : Pair) (ns fu fs nu : List (List ℕ)) → AreLived p ss → BothWays there back p ns fu fs nu → Loses ss p
+steps_lose_none : (there back : Way) (ss : List Step) (p : Pair) (ns fu fs nu : List (List ℕ)) → AreLived p ss
+    → BothWays there back p ns fu fs nu → Loses ss p
 steps_lose_none there back [] p ns fu fs nu g h = record { near_none = refl; far_none = refl }
 steps_lose_none there back (s ∷ ss) p ns fu fs nu g h =
     let q = happens p s in
     let one = step_loses_none there back p s ns fu fs nu g.0.0 g.0.1 h in
-    let rest = steps_lose_none there back ss q (ns ++ near_submits p s) (fu ++ far_ups p s) (fs ++ far_submits p s) (nu ++ near_ups p s) g.1 (step_on there back p s ns fu fs nu g.0.0 g.0.1 h) in
+    let rest = steps_lose_none there back ss q (ns ++ near_submits p s) (fu ++ far_ups p s) (fs ++ far_submits p s)
+    (nu ++ near_ups p s) g.1 (step_on there back p s ns fu fs nu g.0.0 g.0.1 h) in
     record {
       near_none = ap (λ (l : List Event). l ++ over near_losses ss q) one.near_none ∙ rest.near_none;
       far_none = ap (λ (l : List Event). l ++ over far_losses ss q) one.far_none ∙ rest.far_none;
     }
 
-pub nothing_is_lost : (near far : State) (steps : List Step) → BothBegin near far → AreLived (outset near far) steps → LoseNone near far steps
+pub nothing_is_lost : (near far : State) (steps : List Step) → BothBegin near far → AreLived (outset near far) steps
+    → LoseNone near far steps
 nothing_is_lost near far steps h g =
-    let l = steps_lose_none (way near far) (way far near) steps (outset near far) [] [] [] [] g (begin_both near far h) in
+    let l = steps_lose_none (way near far) (way far near) steps (outset near far) [] [] [] [] g
+    (begin_both near far h) in
     record { near_none = l.near_none; far_none = l.far_none }

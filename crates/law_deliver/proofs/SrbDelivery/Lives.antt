@@ -5,7 +5,8 @@ use Rattle.bearer_types.specs.declared.BearerConfig.{BearerConfig}
 use Rattle.eps_sec.specs.declared.Keys.{Keys}
 use Rattle.law_deliver.specs.AmFlow.Pair.{Pair, outset}
 use Rattle.law_deliver.specs.SrbDelivery.Life.{near_ups, far_ups, near_submits, far_submits}
-use Rattle.law_deliver.specs.SrbDelivery.Lives.{renews, AreBothEnds, LifeStep, InLife, Restarts, lives_on, lives, IsLiving, AreLiving, since_by, since, AreOfThisLife}
+use Rattle.law_deliver.specs.SrbDelivery.Lives.{renews, AreBothEnds, LifeStep, InLife, Restarts, lives_on, lives}
+use Rattle.law_deliver.specs.SrbDelivery.Lives.{IsLiving, AreLiving, since_by, since, AreOfThisLife}
 use Rattle.law_deliver.proofs.SrbDelivery.Joined.{Way}
 use Rattle.law_deliver.proofs.SrbDelivery.Laws.{BothWays, way, begin_both, step_on, front_of, all_of}
 use Rattle.law_deliver.proofs.SrbDelivery.Renewing.{both_anew, first_life_begins}
@@ -17,20 +18,29 @@ record Lives (p : Pair) (near_sent far_up far_sent near_up : List (List ℕ)) : 
   ways : BothWays there back p near_sent far_up far_sent near_up
 
 one_lives : (p : Pair) (x : LifeStep) (ns fu fs nu : List (List ℕ)) → IsLiving p x → Lives p ns fu fs nu
-    → Lives (lives_on p x) (since_by near_submits ns p x) (since_by far_ups fu p x) (since_by far_submits fs p x) (since_by near_ups nu p x)
-one_lives p (InLife s) ns fu fs nu g h = record { there = h.there; back = h.back; ways = step_on h.there h.back p s ns fu fs nu g.0 g.1 h.ways }
+    → Lives (lives_on p x) (since_by near_submits ns p x) (since_by far_ups fu p x) (since_by far_submits fs p x)
+    (since_by near_ups nu p x)
+one_lives p (InLife s) ns fu fs nu g h =
+    record { there = h.there; back = h.back; ways = step_on h.there h.back p s ns fu fs nu g.0 g.1 h.ways }
 one_lives p (Restarts keys) ns fu fs nu g h =
     let near = renews p.near.bearer keys in
     let far = renews p.far.bearer keys in
-    record { there = way near far; back = way far near; ways = begin_both near far (both_anew h.there h.back p ns fu fs nu keys h.ways).both }
+    record {
+      there = way near far;
+      back = way far near;
+      ways = begin_both near far (both_anew h.there h.back p ns fu fs nu keys h.ways).both;
+    }
 
 all_live : (xs : List LifeStep) (p : Pair) (ns fu fs nu : List (List ℕ)) → AreLiving p xs → Lives p ns fu fs nu
-    → Lives (lives xs p) (since near_submits ns xs p) (since far_ups fu xs p) (since far_submits fs xs p) (since near_ups nu xs p)
+    → Lives (lives xs p) (since near_submits ns xs p) (since far_ups fu xs p) (since far_submits fs xs p)
+    (since near_ups nu xs p)
 all_live [] p ns fu fs nu g h = h
 all_live (x ∷ xs) p ns fu fs nu g h =
-    all_live xs (lives_on p x) (since_by near_submits ns p x) (since_by far_ups fu p x) (since_by far_submits fs p x) (since_by near_ups nu p x) g.1 (one_lives p x ns fu fs nu g.0 h)
+    all_live xs (lives_on p x) (since_by near_submits ns p x) (since_by far_ups fu p x) (since_by far_submits fs p x)
+    (since_by near_ups nu p x) g.1 (one_lives p x ns fu fs nu g.0 h)
 
-pub delivers_in_each_life : (c : BearerConfig) (keys : Keys) (nb ue : State) (steps : List LifeStep) → AreBothEnds c keys nb ue → AreLiving (outset nb ue) steps
+pub delivers_in_each_life : (c : BearerConfig) (keys : Keys) (nb ue : State) (steps : List LifeStep)
+    → AreBothEnds c keys nb ue → AreLiving (outset nb ue) steps
     → AreOfThisLife nb ue steps
 delivers_in_each_life c keys nb ue steps h g =
     let p = outset nb ue in
@@ -39,7 +49,12 @@ delivers_in_each_life c keys nb ue steps h g =
     let fu = since far_ups [] steps p in
     let fs = since far_submits [] steps p in
     let nu = since near_ups [] steps p in
-    let l = all_live steps p [] [] [] [] g (record { there = way nb ue; back = way ue nb; ways = begin_both nb ue (first_life_begins c keys nb ue h) }) in
+    let l =
+    all_live steps p [] [] [] [] g (record {
+      there = way nb ue;
+      back = way ue nb;
+      ways = begin_both nb ue (first_life_begins c keys nb ue h);
+    }) in
     record {
       down = front_of l.there q.near q.far ns fu l.ways.out;
       up = front_of l.back q.far q.near fs nu l.ways.inn;

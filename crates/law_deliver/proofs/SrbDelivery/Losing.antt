@@ -1,5 +1,6 @@
 -- Of what a bearer tells nothing is a loss of PDCP but what its receiver tells.
-use Rattle.std.proofs.Common.{◌≡◌, ℕ, ◌-◌, ◌%◌, Bool, true, false, if◌then◌else◌, nat_lt, List, [], ◌∷◌, ◌++◌, length, Option, Some, None, Result, Ok, Err, refl, ap, ◌∙◌}
+use Rattle.std.proofs.Common.{◌≡◌, ℕ, ◌-◌, ◌%◌, Bool, true, false, if◌then◌else◌, nat_lt, List, [], ◌∷◌, ◌++◌, length}
+use Rattle.std.proofs.Common.{Option, Some, None, Result, Ok, Err, refl, ap, ◌∙◌}
 use Rattle.std.proofs.lemmas.List.Elements.{filter-append}
 use Rattle.bearer_types.specs.declared.Event.{Event}
 use Rattle.bearer_types.specs.declared.Event.TheVariants as events
@@ -36,8 +37,11 @@ use Rattle.bearer_pdcp.specs.Taking.{report_told, own_report_told, taken_told, n
 use Rattle.bearer_pdcp.specs.Telling.{turned_told, landed_told, expired_told}
 use Rattle.bearer.specs.Acknowledged.State.{State, has_more, Work, work}
 use Rattle.bearer.specs.Acknowledged.Hearing.{settled_if, started_told, stopped_told, status_work}
-use Rattle.bearer.specs.Acknowledged.Taking.{fed, feeds, feeding, data_size, status_told, writes_status, has_prohibit, prohibit_told, data_told, answer_of, taking as told_taking}
-use Rattle.bearer.specs.Acknowledged.Timing.{poll_told as polled_told, timer_told, clock_told, expiry, Ticking, told_of, expires_if as expired_if, counts, has_ended, ticks as ticked_by, discards as discarded, ticked}
+use Rattle.bearer.specs.Acknowledged.Taking.{fed, feeds, feeding, data_size, status_told, writes_status, has_prohibit}
+use Rattle.bearer.specs.Acknowledged.Taking.{prohibit_told, data_told, answer_of, taking as told_taking}
+use Rattle.bearer.specs.Acknowledged.Timing.{poll_told as polled_told, timer_told, clock_told, expiry, Ticking, told_of}
+use Rattle.bearer.specs.Acknowledged.Timing.{expires_if as expired_if, counts, has_ended, ticks as ticked_by}
+use Rattle.bearer.specs.Acknowledged.Timing.{discards as discarded, ticked}
 use Rattle.bearer.specs.declared.flow.Flow.TheVariants.{Am}
 use Rattle.bearer.specs.Hearing.{expiry as flow_expiry, ticking}
 use Rattle.bearer.specs.Taking.{told}
@@ -82,7 +86,8 @@ pub status_none : (h : Heard) (pdcp : Ends) (tx : Sender) → losses (status_wor
 status_none heard_as.Ignored pdcp tx = refl
 status_none (heard_as.Limit sn) pdcp tx = refl
 status_none (heard_as.Applied stopped) pdcp tx =
-    none_then (stopped_told pdcp.lcid stopped) (started_told pdcp.lcid (starts tx (has_more pdcp))) (stopped_none pdcp.lcid stopped) (started_none pdcp.lcid (starts tx (has_more pdcp)))
+    none_then (stopped_told pdcp.lcid stopped) (started_told pdcp.lcid (starts tx (has_more pdcp)))
+    (stopped_none pdcp.lcid stopped) (started_none pdcp.lcid (starts tx (has_more pdcp)))
 
 -- ---- a timer expires
 
@@ -110,39 +115,47 @@ expiry_none clock b = clock_none clock b
 
 -- ---- a TTI begins
 
-ended_none : (ended : Bool) (clock : Clock) (t : Ticking) → losses t.events ≡ [] → losses (expired_if ended clock t).events ≡ []
+ended_none : (ended : Bool) (clock : Clock) (t : Ticking) → losses t.events ≡ []
+    → losses (expired_if ended clock t).events ≡ []
 ended_none true clock t q = none_then t.events (told_of (expiry t.bearer clock)) q (expiry_none clock t.bearer)
 ended_none false clock t q = q
 
 ticks_none : (clock : Clock) (t : Ticking) → losses t.events ≡ [] → losses (ticked_by clock t).events ≡ []
 ticks_none clock t q = ended_none (has_ended clock t.bearer) clock (record t { bearer = counts clock t.bearer }) q
 
-late_by : (overdue : Bool) (lcid len : ℕ) (more : List Event) → losses more ≡ [] → losses (if overdue then events.Discard lcid len ∷ more else []) ≡ []
+late_by : (overdue : Bool) (lcid len : ℕ) (more : List Event) → losses more ≡ []
+    → losses (if overdue then events.Discard lcid len ∷ more else []) ≡ []
 late_by true lcid len more q = q
 late_by false lcid len more q = refl
 
 late_none : (lcid : ℕ) (ws : List Waits) (s : Sending) → losses (late_told lcid ws s) ≡ []
 late_none lcid [] s = refl
-late_none lcid (w ∷ ws) s = late_by (is_overdue s) lcid (length w.sdu) (late_told lcid ws (after_late s)) (late_none lcid ws (after_late s))
+late_none lcid (w ∷ ws) s =
+    late_by (is_overdue s) lcid (length w.sdu) (late_told lcid ws (after_late s)) (late_none lcid ws (after_late s))
 
 tick_none : (e : Ends) → losses (tick_told e) ≡ []
 unfolding tick_told
 tick_none e = late_none e.lcid e.tx.waiting (pdcp_ticked e.tx)
 
 settled_none : (a : Bool) (w : Work) → losses w.events ≡ [] → losses (settled_if a w).events ≡ []
-settled_none true w q = none_then w.events (started_told w.pdcp.lcid (starts w.tx (has_more w.pdcp))) q (started_none w.pdcp.lcid (starts w.tx (has_more w.pdcp)))
+settled_none true w q =
+    none_then w.events (started_told w.pdcp.lcid (starts w.tx (has_more w.pdcp))) q
+    (started_none w.pdcp.lcid (starts w.tx (has_more w.pdcp)))
 settled_none false w q = q
 
 discards_none : (t : Ticking) → losses t.events ≡ [] → losses (discarded t).events ≡ []
 discards_none t q =
     let told = tick_told t.bearer.pdcp in
-    settled_none (nat_lt 0 (length told)) (work (after_discards t.bearer.pdcp) t.bearer.tx (t.events ++ told)) (none_then t.events told q (tick_none t.bearer.pdcp))
+    settled_none (nat_lt 0 (length told)) (work (after_discards t.bearer.pdcp) t.bearer.tx (t.events ++ told))
+    (none_then t.events told q (tick_none t.bearer.pdcp))
 
 tti_none : (b : State) → losses (ticked b).events ≡ []
 unfolding ticked
 tti_none b =
     let t0 : Ticking = record { bearer = b; events = [] } in
-    discards_none (ticked_by Prohibit (ticked_by Reorder (ticked_by Poll t0))) (ticks_none Prohibit (ticked_by Reorder (ticked_by Poll t0)) (ticks_none Reorder (ticked_by Poll t0) (ticks_none Poll t0 refl)))
+    discards_none (ticked_by Prohibit (ticked_by Reorder (ticked_by Poll t0)))
+    (ticks_none Prohibit (ticked_by Reorder (ticked_by Poll t0))
+    (ticks_none Reorder (ticked_by Poll t0) (ticks_none Poll t0 refl)))
 
 -- ---- a new block
 
@@ -156,7 +169,8 @@ own_none lcid Srb pdu = refl
 own_none lcid (Um bits) pdu = report_none lcid (user_at bits pdu)
 own_none lcid (AmKind bits) pdu = report_none lcid (user_at bits pdu)
 
-taken_none : (lcid : ℕ) (kind : PdcpKind) (count : Option ℕ) (len : ℕ) (pdu : List ℕ) → losses (taken_told lcid kind count len pdu) ≡ []
+taken_none : (lcid : ℕ) (kind : PdcpKind) (count : Option ℕ) (len : ℕ) (pdu : List ℕ)
+    → losses (taken_told lcid kind count len pdu) ≡ []
 taken_none lcid kind (Some count) len pdu = refl
 taken_none lcid kind None len pdu = own_none lcid kind pdu
 
@@ -168,21 +182,26 @@ taking_none : (e : Ends) → losses (taking_told e) ≡ []
 unfolding taking_told
 taking_none e = next_none e.lcid e.kind (taking e.tx)
 
-hungry_by : (b : Bool) (v w : Work) → losses v.events ≡ [] → losses w.events ≡ [] → losses (if b then v else w).events ≡ []
+hungry_by : (b : Bool) (v w : Work) → losses v.events ≡ [] → losses w.events ≡ []
+    → losses (if b then v else w).events ≡ []
 hungry_by true v w p q = p
 hungry_by false v w p q = q
 
-feeds_none : (os : List Offer) (size : ℕ) (held : Option ℕ) (w : Work) → losses w.events ≡ [] → losses (feeds os size held w).events ≡ []
+feeds_none : (os : List Offer) (size : ℕ) (held : Option ℕ) (w : Work) → losses w.events ≡ []
+    → losses (feeds os size held w).events ≡ []
 feeds_none [] size held w q = q
 feeds_none (o ∷ os) size held w q =
-    hungry_by (hungry w.tx size held) (feeds os size held (fed w)) w (feeds_none os size held (fed w) (none_then w.events (taking_told w.pdcp) q (taking_none w.pdcp))) q
+    hungry_by (hungry w.tx size held) (feeds os size held (fed w)) w
+    (feeds_none os size held (fed w) (none_then w.events (taking_told w.pdcp) q (taking_none w.pdcp))) q
 
-due_none : (lcid sn : ℕ) (has due : Bool) → losses (if due then events.Send lcid how.Status sn ∷ prohibit_told lcid has else []) ≡ []
+due_none : (lcid sn : ℕ) (has due : Bool)
+    → losses (if due then events.Send lcid how.Status sn ∷ prohibit_told lcid has else []) ≡ []
 due_none lcid sn true true = refl
 due_none lcid sn false true = refl
 due_none lcid sn has false = refl
 
-sent_none : (lcid : ℕ) (first : Bool) (number : ℕ) (polled : Bool) → losses (data_told lcid (Piece number first polled [])) ≡ []
+sent_none : (lcid : ℕ) (first : Bool) (number : ℕ) (polled : Bool)
+    → losses (data_told lcid (Piece number first polled [])) ≡ []
 sent_none lcid true number true = refl
 sent_none lcid true number false = refl
 sent_none lcid false number true = refl
@@ -202,7 +221,8 @@ block_none b share held =
     let v = feeding b share held in
     let first : Work = work b.pdcp b.tx (status_told b.pdcp.lcid (has_prohibit b) b.rx share) in
     none_then v.events (data_told v.pdcp.lcid (answer_of v (data_size b share) held))
-    (feeds_none (offers b.pdcp.tx) (data_size b share) held first (due_none b.pdcp.lcid (ack b.rx (share - 3) % 1024) (has_prohibit b) (writes_status b.rx share)))
+    (feeds_none (offers b.pdcp.tx) (data_size b share) held first
+    (due_none b.pdcp.lcid (ack b.rx (share - 3) % 1024) (has_prohibit b) (writes_status b.rx share)))
     (data_none v.pdcp.lcid (answer_of v (data_size b share) held))
 
 -- ---- any call that brings no PDU

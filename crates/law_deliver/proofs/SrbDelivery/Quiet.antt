@@ -14,11 +14,14 @@ use Rattle.law_bearer.specs.AnyBearer.Calls.{Call, Submit, Take, Arrive, Expire,
 use Rattle.bearer_pdcp.specs.Discarding.{after_tick as after_discards, tick_told}
 use Rattle.bearer_pdcp.specs.Ends.{Ends}
 use Rattle.pdcp_sec.specs.Protection.{Protection}
-use Rattle.pdcp_tx.specs.Runs.{Submit as Submits, Take as Takes, Confirm as Confirms-place, Report, Owe, Tick as TickPdcp, Late, after}
+use Rattle.pdcp_tx.specs.Runs.{Submit as Submits, Take as Takes, Confirm as Confirms-place, Report, Owe}
+use Rattle.pdcp_tx.specs.Runs.{Tick as TickPdcp, Late, after}
 use Rattle.pdcp_tx.specs.State.{State as Sending}
 use Rattle.law_pdcp.specs.OneEnd.Lives.{queue}
-use Rattle.law_bearer.specs.AmBearer.Deeds.{Deed, Feeds, Sends as SendsIt, Confirms, Receives, HandsUp, Asks, Sets, confirms_first, does, does_all}
-use Rattle.law_bearer.specs.AmBearer.Calls.{IsIdle, only_if, settles, expires, counted, ticks, discards, deeds_of, tells, ups_in}
+use Rattle.law_bearer.specs.AmBearer.Deeds.{Deed, Feeds, Sends as SendsIt, Confirms, Receives, HandsUp, Asks, Sets}
+use Rattle.law_bearer.specs.AmBearer.Deeds.{confirms_first, does, does_all}
+use Rattle.law_bearer.specs.AmBearer.Calls.{IsIdle, only_if, settles, expires, counted, ticks, discards, deeds_of}
+use Rattle.law_bearer.specs.AmBearer.Calls.{tells, ups_in}
 use Rattle.law_bearer.proofs.AmBearer.Keeping.{quiet_idle}
 use Rattle.law_bearer.proofs.AmBearer.Taking.{takes_as, takes_quiet, taking_ups}
 use Rattle.law_bearer.proofs.AmBearer.Timing.{expires_as, expires_quiet, expiry_none, tti_as, tti_quiet, tti_none}
@@ -96,7 +99,8 @@ pub record Stays (b d : State) : Type 0 where
 pub calls_stay : (b : State) (c : Call) → IsCall c → IsIdle b → Stays b (called b c)
 calls_stay b c g idle =
     let r = all_rest (deeds_of b c) b (calls_quiet b c g) in
-    subst (Stays b) (sym (calls_as b c g)) (record { rx = r.rx; kind = r.kind; idle = quiet_idle (deeds_of b c) b (calls_quiet b c g) idle })
+    subst (Stays b) (sym (calls_as b c g))
+    (record { rx = r.rx; kind = r.kind; idle = quiet_idle (deeds_of b c) b (calls_quiet b c g) idle })
 
 -- ---- timers change nothing of what the sender has
 
@@ -119,10 +123,12 @@ pub record Keeps (first : ℕ) (p : Protection) (sdus : List (List ℕ)) (s t : 
   pub sends : Sends first p sdus t
   pub queued : queue t ≡ queue s
 
-pub keeps_itself : (first : ℕ) (p : Protection) (sdus : List (List ℕ)) (s : Sending) → Sends first p sdus s → Keeps first p sdus s s
+pub keeps_itself : (first : ℕ) (p : Protection) (sdus : List (List ℕ)) (s : Sending) → Sends first p sdus s
+    → Keeps first p sdus s s
 keeps_itself first p sdus s h = record { sends = h; queued = refl }
 
-calm_one : (first : ℕ) (p : Protection) (sdus : List (List ℕ)) (deed : Deed) (b : State) → IsCalm deed → Sends first p sdus b.pdcp.tx → Keeps first p sdus b.pdcp.tx (does b deed).pdcp.tx
+calm_one : (first : ℕ) (p : Protection) (sdus : List (List ℕ)) (deed : Deed) (b : State) → IsCalm deed
+    → Sends first p sdus b.pdcp.tx → Keeps first p sdus b.pdcp.tx (does b deed).pdcp.tx
 calm_one first p sdus Feeds b g h = absurd g
 calm_one first p sdus (SendsIt c) b g h = keeps_itself first p sdus b.pdcp.tx h
 calm_one first p sdus Confirms b g h = absurd g
@@ -133,11 +139,15 @@ calm_one first p sdus (Asks Takes) b g h = absurd g
 calm_one first p sdus (Asks (Confirms-place place)) b g h = absurd g
 calm_one first p sdus (Asks (Report fms bitmap)) b g h = absurd g
 calm_one first p sdus (Asks (Owe report)) b g h = absurd g
-calm_one first p sdus (Asks TickPdcp) b g h = record { sends = clock_sends first p sdus b.pdcp.tx (after b.pdcp.tx TickPdcp).clock h; queued = refl }
-calm_one first p sdus (Asks Late) b g h = subst (Keeps first p sdus b.pdcp.tx) (sym (never_late b.pdcp.tx h.unset)) (keeps_itself first p sdus b.pdcp.tx h)
+calm_one first p sdus (Asks TickPdcp) b g h =
+    record { sends = clock_sends first p sdus b.pdcp.tx (after b.pdcp.tx TickPdcp).clock h; queued = refl }
+calm_one first p sdus (Asks Late) b g h =
+    subst (Keeps first p sdus b.pdcp.tx) (sym (never_late b.pdcp.tx h.unset)) (keeps_itself first p sdus b.pdcp.tx h)
 calm_one first p sdus (Sets ttis) b g h = absurd g
 
-calm_all : (first : ℕ) (p : Protection) (sdus : List (List ℕ)) (deeds : List Deed) (b : State) → AllByRecursion IsCalm deeds → Sends first p sdus b.pdcp.tx → Keeps first p sdus b.pdcp.tx (does_all deeds b).pdcp.tx
+calm_all : (first : ℕ) (p : Protection) (sdus : List (List ℕ)) (deeds : List Deed) (b : State)
+    → AllByRecursion IsCalm deeds → Sends first p sdus b.pdcp.tx
+    → Keeps first p sdus b.pdcp.tx (does_all deeds b).pdcp.tx
 calm_all first p sdus [] b g h = keeps_itself first p sdus b.pdcp.tx h
 calm_all first p sdus (deed ∷ deeds) b g h =
     let one = calm_one first p sdus deed b g.0 h in
@@ -170,17 +180,28 @@ lates_calm [] = tt
 lates_calm (x ∷ told) = (tt, lates_calm told)
 
 discards_calm : (told : List Event) (e : Ends) → AllByRecursion IsCalm (discards told e)
-discards_calm told e = (tt, calm_then (map (λ event. Asks Late) told) (only_if (nat_lt 0 (length told)) (settles (after_discards e))) (lates_calm told) (calm_if (nat_lt 0 (length told)) (settles (after_discards e)) tt))
+discards_calm told e = (
+  tt,
+  calm_then (map (λ event. Asks Late) told) (only_if (nat_lt 0 (length told)) (settles (after_discards e)))
+      (lates_calm told) (calm_if (nat_lt 0 (length told)) (settles (after_discards e)) tt),
+)
 
 tick_calm : (b : State) → AllByRecursion IsCalm (deeds_of b Tick)
 tick_calm b =
     calm_then (ticks Poll b ++ ticks Reorder b ++ ticks Prohibit b) (discards (tick_told b.pdcp) b.pdcp)
-    (calm_then (ticks Poll b ++ ticks Reorder b) (ticks Prohibit b) (calm_then (ticks Poll b) (ticks Reorder b) (ticks_calm Poll b) (ticks_calm Reorder b)) (ticks_calm Prohibit b))
+    (calm_then (ticks Poll b ++ ticks Reorder b) (ticks Prohibit b)
+    (calm_then (ticks Poll b) (ticks Reorder b) (ticks_calm Poll b) (ticks_calm Reorder b))
+    (ticks_calm Prohibit b))
     (discards_calm (tick_told b.pdcp) b.pdcp)
 
-pub tick_keeps : (first : ℕ) (p : Protection) (sdus : List (List ℕ)) (b : State) → Sends first p sdus b.pdcp.tx → Keeps first p sdus b.pdcp.tx (called b Tick).pdcp.tx
-tick_keeps first p sdus b h = subst (λ (d : State). Keeps first p sdus b.pdcp.tx d.pdcp.tx) (sym (calls_as b Tick tt)) (calm_all first p sdus (deeds_of b Tick) b (tick_calm b) h)
+pub tick_keeps : (first : ℕ) (p : Protection) (sdus : List (List ℕ)) (b : State) → Sends first p sdus b.pdcp.tx
+    → Keeps first p sdus b.pdcp.tx (called b Tick).pdcp.tx
+tick_keeps first p sdus b h =
+    subst (λ (d : State). Keeps first p sdus b.pdcp.tx d.pdcp.tx) (sym (calls_as b Tick tt))
+    (calm_all first p sdus (deeds_of b Tick) b (tick_calm b) h)
 
-pub expire_keeps : (first : ℕ) (p : Protection) (sdus : List (List ℕ)) (b : State) (clock : Clock) → Sends first p sdus b.pdcp.tx → Keeps first p sdus b.pdcp.tx (called b (Expire clock)).pdcp.tx
+pub expire_keeps : (first : ℕ) (p : Protection) (sdus : List (List ℕ)) (b : State) (clock : Clock)
+    → Sends first p sdus b.pdcp.tx → Keeps first p sdus b.pdcp.tx (called b (Expire clock)).pdcp.tx
 expire_keeps first p sdus b clock h =
-    subst (λ (d : State). Keeps first p sdus b.pdcp.tx d.pdcp.tx) (sym (calls_as b (Expire clock) tt)) (calm_all first p sdus (deeds_of b (Expire clock)) b (expires_calm clock b, tt) h)
+    subst (λ (d : State). Keeps first p sdus b.pdcp.tx d.pdcp.tx) (sym (calls_as b (Expire clock) tt))
+    (calm_all first p sdus (deeds_of b (Expire clock)) b (expires_calm clock b, tt) h)

@@ -10,7 +10,8 @@ use Rattle.l2_types.specs.declared.Side.{Side}
 use Rattle.l2_types.specs.declared.Side.TheVariants.{Nb, Ue}
 use Rattle.bearer_pdcp.specs.Ends.{Ends, begun, bearer_of}
 use Rattle.bearer_pdcp.specs.Lives.{restarted as restarted_pdcp, report_of, owing_report}
-use Rattle.bearer.specs.Acknowledged.Lives.{Ending, drops_last, ends_with, last_ups, stopped as am_stopped, stopping as am_stopping, restarted as am_restarted}
+use Rattle.bearer.specs.Acknowledged.Lives.{Ending, drops_last, ends_with, last_ups, stopped as am_stopped}
+use Rattle.bearer.specs.Acknowledged.Lives.{stopping as am_stopping, restarted as am_restarted}
 use Rattle.bearer.specs.Acknowledged.State.{State, with_new_rlc, fresh as fresh_am}
 use Rattle.bearer.specs.Bearer.{flow_of}
 use Rattle.bearer.specs.declared.flow.Flow.TheVariants.{Am}
@@ -39,12 +40,18 @@ drops_none : (lcid : ℕ) (sdus : List (List ℕ)) → ups_in (map (λ sdu. even
 drops_none lcid [] = refl
 drops_none lcid (sdu ∷ sdus) = drops_none lcid sdus
 
-last_is : (b : State) → b.pdcp.kind ≡ Srb → last_ups b ≡ drops_last (finished b.rx) (record { pdcp = b.pdcp; events = [] })
+last_is : (b : State) → b.pdcp.kind ≡ Srb
+    → last_ups b ≡ drops_last (finished b.rx) (record { pdcp = b.pdcp; events = [] })
 last_is b k = ap (λ (a : Bool). ends_with a (finished b.rx) (record { pdcp = b.pdcp; events = [] })) (ap is_am k)
 
-renewed_pdcp : (e : Ends) (keys : Keys) → e.kind ≡ Srb → restarted_pdcp e keys ≡ record e { tx = restarted_sending e.tx keys; rx = restarted_receiving e.rx keys }
+renewed_pdcp : (e : Ends) (keys : Keys) → e.kind ≡ Srb
+    → restarted_pdcp e keys ≡ record e { tx = restarted_sending e.tx keys; rx = restarted_receiving e.rx keys }
 unfolding restarted_pdcp
-renewed_pdcp e keys k = ap (λ (x : PdcpKind). record e { tx = owing_report (report_of x e.rx) (restarted_sending e.tx keys); rx = restarted_receiving e.rx keys }) k
+renewed_pdcp e keys k =
+    ap (λ (x : PdcpKind). record e {
+      tx = owing_report (report_of x e.rx) (restarted_sending e.tx keys);
+      rx = restarted_receiving e.rx keys;
+    }) k
 
 pub renews_as : (b : State) (keys : Keys) → b.pdcp.kind ≡ Srb → bearer_goes (Am b) (Restart keys) ≡ Am (renews b keys)
 unfolding stopped restarted am_stopped am_restarted
@@ -62,14 +69,23 @@ drops_lose_none lcid (sdu ∷ sdus) = drops_lose_none lcid sdus
 
 none_lost_at_the_end : (b : State) → b.pdcp.kind ≡ Srb → losses (stopping (Am b)) ≡ []
 unfolding stopping am_stopping
-none_lost_at_the_end b k = ap (λ (x : Ending). losses x.events) (last_is b k) ∙ drops_lose_none b.pdcp.lcid (finished b.rx)
+none_lost_at_the_end b k = ap (λ (x : Ending). losses x.events) (last_is b k)
+    ∙ drops_lose_none b.pdcp.lcid (finished b.rx)
 
 -- ---- at both ends
 
-anew : (b : State) (keys : Keys) → b.pdcp.kind ≡ Srb → (renews b keys).pdcp.tx.next ≡ 0 → (renews b keys).pdcp.rx.next ≡ 0 → BeginsAnew b keys
-anew b keys k s r = record { left = renews_as b keys k; none_up = none_up_at_the_end b k; none_lost = none_lost_at_the_end b k; count = s; awaited = r }
+anew : (b : State) (keys : Keys) → b.pdcp.kind ≡ Srb → (renews b keys).pdcp.tx.next ≡ 0
+    → (renews b keys).pdcp.rx.next ≡ 0 → BeginsAnew b keys
+anew b keys k s r = record {
+  left = renews_as b keys k;
+  none_up = none_up_at_the_end b k;
+  none_lost = none_lost_at_the_end b k;
+  count = s;
+  awaited = r;
+}
 
-pub both_anew : (there back : Way) (p : Pair) (ns fu fs nu : List (List ℕ)) (keys : Keys) → BothWays there back p ns fu fs nu → BothBeginAnew p.near.bearer p.far.bearer keys
+pub both_anew : (there back : Way) (p : Pair) (ns fu fs nu : List (List ℕ)) (keys : Keys)
+    → BothWays there back p ns fu fs nu → BothBeginAnew p.near.bearer p.far.bearer keys
 both_anew there back p ns fu fs nu keys h =
     let near = p.near.bearer in
     let far = p.far.bearer in
@@ -92,19 +108,24 @@ both_anew there back p ns fu fs nu keys h =
       };
     }
 
-pub next_life : (near far : State) (steps : List Step) (keys : Keys) → BothBegin near far → AreLived (outset near far) steps
+pub next_life : (near far : State) (steps : List Step) (keys : Keys) → BothBegin near far
+    → AreLived (outset near far) steps
     → BothBeginAnew (goes steps (outset near far)).near.bearer (goes steps (outset near far)).far.bearer keys
-next_life near far steps keys h g = both_anew (way near far) (way far near) (goes steps (outset near far)) _ _ _ _ keys (lived near far steps h g)
+next_life near far steps keys h g =
+    both_anew (way near far) (way far near) (goes steps (outset near far)) _ _ _ _ keys (lived near far steps h g)
 
 -- ---- the first life
 
 same_bearer : (b d : State) → Am b ≡ Am d → b ≡ d
 same_bearer b d e = cc
 
-first_is : (c : BearerConfig) (keys : Keys) (side : Side) (b : State) → c.kind ≡ kinds.Srb → flow_of c.kind c keys side ≡ Am b → fresh_am c Srb keys side ≡ b
-first_is c keys side b k q = same_bearer (fresh_am c Srb keys side) b (ap (λ (x : Kind). flow_of x c keys side) (sym k) ∙ q)
+first_is : (c : BearerConfig) (keys : Keys) (side : Side) (b : State) → c.kind ≡ kinds.Srb
+    → flow_of c.kind c keys side ≡ Am b → fresh_am c Srb keys side ≡ b
+first_is c keys side b k q =
+    same_bearer (fresh_am c Srb keys side) b (ap (λ (x : Kind). flow_of x c keys side) (sym k) ∙ q)
 
-pub fresh_begin : (c : BearerConfig) (keys : Keys) → c.first ≤ 4294967296 → BothBegin (fresh_am c Srb keys Nb) (fresh_am c Srb keys Ue)
+pub fresh_begin : (c : BearerConfig) (keys : Keys) → c.first ≤ 4294967296
+    → BothBegin (fresh_am c Srb keys Nb) (fresh_am c Srb keys Ue)
 unfolding fresh_am begun
 fresh_begin c keys few = record {
   near_kind = refl;

@@ -1,5 +1,6 @@
 -- RLC takes SDUs of a signalling bearer: their PDUs, with the next COUNTs.
-use Rattle.std.proofs.Common.{◌≡◌, ◌≤◌, ℕ, zero, suc, ◌+◌, Bool, true, false, List, [], ◌∷◌, ◌++◌, map, length, take, Option, append-nil, append_assoc, refl, ap, sym, subst, ◌∙◌, arith}
+use Rattle.std.proofs.Common.{◌≡◌, ◌≤◌, ℕ, zero, suc, ◌+◌, Bool, true, false, List, [], ◌∷◌, ◌++◌, map, length, take}
+use Rattle.std.proofs.Common.{Option, append-nil, append_assoc, refl, ap, sym, subst, ◌∙◌, arith}
 use Rattle.pdcp_pdu.specs.declared.PdcpKind.{PdcpKind}
 use Rattle.pdcp_pdu.specs.declared.PdcpKind.TheVariants.{Srb}
 use Rattle.pdcp_sec.specs.Protection.{Protection}
@@ -27,11 +28,13 @@ abbrev pub pdus_from : Protection → ℕ → List (List ℕ) → List (List ℕ
 pdus_from p count [] = []
 pdus_from p count (sdu ∷ sdus) = pdu Srb p count sdu ∷ pdus_from p (count + 1) sdus
 
-pub pdus_both : (p : Protection) (count : ℕ) (xs ys : List (List ℕ)) → pdus_from p count (xs ++ ys) ≡ pdus_from p count xs ++ pdus_from p (count + length xs) ys
+pub pdus_both : (p : Protection) (count : ℕ) (xs ys : List (List ℕ))
+    → pdus_from p count (xs ++ ys) ≡ pdus_from p count xs ++ pdus_from p (count + length xs) ys
 pdus_both p count [] ys = let same : count ≡ count + 0 = omega arith in ap (λ n. pdus_from p n ys) same
 pdus_both p count (x ∷ xs) ys =
     let same : count + 1 + length xs ≡ count + suc (length xs) = omega arith in
-    ap (λ l. pdu Srb p count x ∷ l) (pdus_both p (count + 1) xs ys ∙ ap (λ n. pdus_from p (count + 1) xs ++ pdus_from p n ys) same)
+    ap (λ l. pdu Srb p count x ∷ l) (pdus_both p (count + 1) xs ys
+    ∙ ap (λ n. pdus_from p (count + 1) xs ++ pdus_from p n ys) same)
 
 -- ---- some calls of PDCP's sender
 
@@ -46,40 +49,54 @@ record TakesMany (first : ℕ) (p : Protection) (sdus : List (List ℕ)) (n : �
   queued : queue s ≡ news ++ queue (taken_times n s)
   first_are : news ≡ map (λ (w : Waits). w.sdu) (take n s.waiting)
 
-none_taken : (first : ℕ) (p : Protection) (sdus : List (List ℕ)) (s : Sending) → Sends first p sdus s → TakesMany first p sdus zero s
-none_taken first p sdus s h = record { news = []; sends = subst (λ l. Sends first p l s) (sym (append-nil sdus)) h; queued = refl; first_are = refl }
+none_taken : (first : ℕ) (p : Protection) (sdus : List (List ℕ)) (s : Sending) → Sends first p sdus s
+    → TakesMany first p sdus zero s
+none_taken first p sdus s h = record {
+  news = [];
+  sends = subst (λ l. Sends first p l s) (sym (append-nil sdus)) h;
+  queued = refl;
+  first_are = refl;
+}
 
 abbrev sdus_of : List Waits → List (List ℕ)
 sdus_of ws = map (λ (w : Waits). w.sdu) ws
 
-more_taken : (first : ℕ) (p : Protection) (sdus : List (List ℕ)) (n : ℕ) (s : Sending) (w : Waits) (ws : List Waits) → s.waiting ≡ w ∷ ws → TakesOne p s w ws
+more_taken : (first : ℕ) (p : Protection) (sdus : List (List ℕ)) (n : ℕ) (s : Sending) (w : Waits) (ws : List Waits)
+    → s.waiting ≡ w ∷ ws → TakesOne p s w ws
     → TakesMany first p (sdus ++ w.sdu ∷ []) n (with_new ws s) → TakesMany first p sdus (suc n) s
 more_taken first p sdus n s w ws q t m =
     let rest : Sending = taken_times n (with_new ws s) in
     let left : taken_times (suc n) s ≡ rest = ap (taken_times n) t.left in
     record {
       news = w.sdu ∷ m.news;
-      sends = subst (Sends first p (sdus ++ (w.sdu ∷ m.news))) (sym left) (subst (λ l. Sends first p l rest) (append_assoc sdus (w.sdu ∷ []) m.news) m.sends);
-      queued = ap sdus_of q ∙ ap (λ l. w.sdu ∷ l) m.queued ∙ ap (λ (x : Sending). (w.sdu ∷ m.news) ++ queue x) (sym left);
+      sends = subst (Sends first p (sdus ++ (w.sdu ∷ m.news))) (sym left)
+          (subst (λ l. Sends first p l rest) (append_assoc sdus (w.sdu ∷ []) m.news) m.sends);
+      queued = ap sdus_of q ∙ ap (λ l. w.sdu ∷ l) m.queued
+          ∙ ap (λ (x : Sending). (w.sdu ∷ m.news) ++ queue x) (sym left);
       first_are = ap (λ l. w.sdu ∷ l) m.first_are ∙ ap (λ (l : List Waits). sdus_of (take (suc n) l)) (sym q);
     }
 
-takes_many : (first : ℕ) (p : Protection) (n : ℕ) (sdus : List (List ℕ)) (s : Sending) (ws : List Waits) → s.waiting ≡ ws → n ≤ length ws → Sends first p sdus s → TakesMany first p sdus n s
+takes_many : (first : ℕ) (p : Protection) (n : ℕ) (sdus : List (List ℕ)) (s : Sending) (ws : List Waits)
+    → s.waiting ≡ ws → n ≤ length ws → Sends first p sdus s → TakesMany first p sdus n s
 takes_many first p zero sdus s ws q few h = none_taken first p sdus s h
 takes_many first p (suc n) sdus s [] q few h = absurd (omega (arith, few))
 takes_many first p (suc n) sdus s (w ∷ ws) q few h =
     more_taken first p sdus n s w ws q (takes_one first p sdus s w ws h q)
-    (takes_many first p n (sdus ++ w.sdu ∷ []) (with_new ws s) ws refl (omega (arith, few)) (new_sends first p sdus s w ws h q))
+    (takes_many first p n (sdus ++ w.sdu ∷ []) (with_new ws s) ws refl (omega (arith, few))
+    (new_sends first p sdus s w ws h q))
 
 -- ---- their PDUs
 
 offered_pdus : (k : PdcpKind) (r p : Protection) → k ≡ Srb → r ≡ p → (n count : ℕ) (ws : List Waits)
-    → map (λ (o : Offer). (written k r o.count o.text).octets) (take n (new_offers count ws)) ≡ pdus_from p count (sdus_of (take n ws))
+    → map (λ (o : Offer). (written k r o.count o.text).octets) (take n (new_offers count ws))
+    ≡ pdus_from p count (sdus_of (take n ws))
 offered_pdus k r p e q zero count ws = refl
 offered_pdus k r p e q (suc n) count [] = refl
 offered_pdus k r p e q (suc n) count (w ∷ ws) =
-    ap (λ (x : PdcpKind). pdu x r count w.sdu ∷ map (λ (o : Offer). (written k r o.count o.text).octets) (take n (new_offers (count + 1) ws))) e
-    ∙ ap (λ (x : Protection). pdu Srb x count w.sdu ∷ map (λ (o : Offer). (written k r o.count o.text).octets) (take n (new_offers (count + 1) ws))) q
+    ap (λ (x : PdcpKind). pdu x r count w.sdu
+    ∷ map (λ (o : Offer). (written k r o.count o.text).octets) (take n (new_offers (count + 1) ws))) e
+    ∙ ap (λ (x : Protection). pdu Srb x count w.sdu
+    ∷ map (λ (o : Offer). (written k r o.count o.text).octets) (take n (new_offers (count + 1) ws))) q
     ∙ ap (λ l. pdu Srb p count w.sdu ∷ l) (offered_pdus k r p e q n (count + 1) ws)
 
 -- ---- the deeds of a take
@@ -92,7 +109,8 @@ writes_pdcp : (due : Bool) (b : State) → (does_all (only_if due (Receives Writ
 writes_pdcp true b = refl
 writes_pdcp false b = refl
 
-taken_tx : (b : State) (share : ℕ) (held : Option ℕ) (n : ℕ) → map (λ pdu. Feeds) (offers_in b share held) ≡ so_many n → (called b (Take share held)).pdcp.tx ≡ taken_times n b.pdcp.tx
+taken_tx : (b : State) (share : ℕ) (held : Option ℕ) (n : ℕ) → map (λ pdu. Feeds) (offers_in b share held) ≡ so_many n
+    → (called b (Take share held)).pdcp.tx ≡ taken_times n b.pdcp.tx
 taken_tx b share held n q =
     let status : List Deed = only_if (writes_status b.rx share) (Receives Write) in
     let fill : List Deed = map (λ pdu. Feeds) (offers_in b share held) in
@@ -105,7 +123,8 @@ taken_tx b share held n q =
     ∙ feeds_pdcp n d
     ∙ ap (λ e. taken_times n e.tx) (writes_pdcp (writes_status b.rx share) b)
 
-pub record TakesOn (first : ℕ) (p : Protection) (sdus : List (List ℕ)) (b : State) (share : ℕ) (held : Option ℕ) : Type 0 where
+pub record TakesOn (first : ℕ) (p : Protection) (sdus : List (List ℕ)) (b : State) (share : ℕ) (held : Option ℕ) :
+    Type 0 where
   pub news : List (List ℕ)
   pub sends : Sends first p (sdus ++ news) (called b (Take share held)).pdcp.tx
   pub queued : queue b.pdcp.tx ≡ news ++ queue (called b (Take share held)).pdcp.tx
@@ -115,7 +134,8 @@ length_new : (count : ℕ) (ws : List Waits) → length (new_offers count ws) �
 length_new count [] = refl
 length_new count (w ∷ ws) = ap suc (length_new (count + 1) ws)
 
-pub takes_on : (first : ℕ) (p : Protection) (sdus : List (List ℕ)) (b : State) (share : ℕ) (held : Option ℕ) → Sends first p sdus b.pdcp.tx → TakesOn first p sdus b share held
+pub takes_on : (first : ℕ) (p : Protection) (sdus : List (List ℕ)) (b : State) (share : ℕ) (held : Option ℕ)
+    → Sends first p sdus b.pdcp.tx → TakesOn first p sdus b share held
 takes_on first p sdus b share held h =
     let s = b.pdcp.tx in
     let t : TakesSo b share held = takes_so b share held in
@@ -127,6 +147,8 @@ takes_on first p sdus b share held h =
       news = m.news;
       sends = subst (Sends first p (sdus ++ m.news)) (sym left) m.sends;
       queued = m.queued ∙ ap (λ (x : Sending). m.news ++ queue x) (sym left);
-      offers_are = ap (map (pdu_of s)) (t.taken_is ∙ ap (take t.n) all) ∙ offered_pdus s.kind s.protection p h.srb h.key t.n s.next s.waiting
-          ∙ ap (λ n. pdus_from p n (sdus_of (take t.n s.waiting))) h.count ∙ ap (pdus_from p (first + length sdus)) (sym m.first_are);
+      offers_are = ap (map (pdu_of s)) (t.taken_is ∙ ap (take t.n) all)
+          ∙ offered_pdus s.kind s.protection p h.srb h.key t.n s.next s.waiting
+          ∙ ap (λ n. pdus_from p n (sdus_of (take t.n s.waiting))) h.count
+          ∙ ap (pdus_from p (first + length sdus)) (sym m.first_are);
     }

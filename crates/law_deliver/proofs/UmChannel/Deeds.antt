@@ -1,5 +1,6 @@
 -- What an end of an unacknowledged bearer does in several deeds, one after the other.
-use Rattle.std.proofs.Common.{◌≡◌, ℕ, ◌+◌, List, [], ◌∷◌, ◌++◌, map, length, Option, Some, slice_get, append_assoc, length-append, refl, ap, sym, subst, ◌∙◌}
+use Rattle.std.proofs.Common.{◌≡◌, ℕ, ◌+◌, List, [], ◌∷◌, ◌++◌, map, length, Option, Some, slice_get, append_assoc}
+use Rattle.std.proofs.Common.{length-append, refl, ap, sym, subst, ◌∙◌}
 use Rattle.law_rlc.specs.AmPair.Flow.{Copy, except}
 use Rattle.bearer.specs.declared.flow.Flow.{Flow}
 use Rattle.bearer.specs.declared.flow.Flow.TheVariants.{Um}
@@ -7,7 +8,8 @@ use Rattle.bearer.specs.Unacknowledged.State.{State}
 use Rattle.law_bearer.specs.AnyBearer.Calls.{Call, Arrive, after_all}
 use Rattle.law_deliver.proofs.AmFlow.Runs.{octets_of, at_front, except_front}
 use Rattle.law_deliver.specs.UmFlow.Calls.{arrives, calls_in, near_calls, far_calls}
-use Rattle.law_deliver.specs.UmFlow.Pair.{BearerEnd, Pair, Deed, Comes, Goes, Step, Near, Far, called, comes, does, happens, goes, IsDone, AreGiven}
+use Rattle.law_deliver.specs.UmFlow.Pair.{BearerEnd, Pair, Deed, Comes, Goes, Step, Near, Far, called, comes, does}
+use Rattle.law_deliver.specs.UmFlow.Pair.{happens, goes, IsDone, AreGiven}
 use Rattle.law_deliver.proofs.UmFlow.Sending.{is_called}
 use Rattle.law_deliver.specs.UmChannel.Pairs.{come_from, go_from}
 
@@ -32,11 +34,13 @@ near_steps ds = map (λ d. Near d) ds
 abbrev pub far_steps : List Deed → List Step
 far_steps ds = map (λ d. Far d) ds
 
-pub near_goes : (p : Pair) (ds : List Deed) → goes (near_steps ds) p ≡ record { near = does_all p.far p.near ds; far = p.far }
+pub near_goes : (p : Pair) (ds : List Deed)
+    → goes (near_steps ds) p ≡ record { near = does_all p.far p.near ds; far = p.far }
 near_goes p [] = refl
 near_goes p (d ∷ ds) = near_goes (happens p (Near d)) ds
 
-pub far_goes : (p : Pair) (ds : List Deed) → goes (far_steps ds) p ≡ record { near = p.near; far = does_all p.near p.far ds }
+pub far_goes : (p : Pair) (ds : List Deed)
+    → goes (far_steps ds) p ≡ record { near = p.near; far = does_all p.near p.far ds }
 far_goes p [] = refl
 far_goes p (d ∷ ds) = far_goes (happens p (Far d)) ds
 
@@ -88,22 +92,27 @@ pub record Hears (other e : BearerEnd) (ds : List Deed) (pdus : List (List ℕ))
 next_place : (pre : List Copy) (c : Copy) → length (pre ++ c ∷ []) ≡ length pre + 1
 next_place pre c = length-append pre (c ∷ [])
 
-pub all_hears : (other e : BearerEnd) (pre cs post : List Copy) → other.copies ≡ pre ++ (cs ++ post) → Hears other e (come_from (length pre) (length cs)) (octets_of cs)
+pub all_hears : (other e : BearerEnd) (pre cs post : List Copy) → other.copies ≡ pre ++ (cs ++ post)
+    → Hears other e (come_from (length pre) (length cs)) (octets_of cs)
 all_hears other e pre [] post q = record { done = tt; bearer = e.bearer; is = refl; flow_is = refl; calls_are = refl }
 all_hears other e pre (c ∷ cs) post q =
     let place = length pre in
-    let at : slice_get other.copies place ≡ Some c = ap (λ (l : List Copy). slice_get l place) q ∙ at_front pre c (cs ++ post) in
+    let at : slice_get other.copies place ≡ Some c = ap (λ (l : List Copy). slice_get l place) q
+    ∙ at_front pre c (cs ++ post) in
     let x : BearerEnd = record e { bearer = called e.bearer (Arrive c.octets) } in
     let first : does other e (Comes place) ≡ x = ap (λ (o : Option Copy). comes e o) at in
     let more : List Deed = come_from (place + 1) (length cs) in
     let h : Hears other x more (octets_of cs) =
-    subst (λ (n : ℕ). Hears other x (come_from n (length cs)) (octets_of cs)) (next_place pre c) (all_hears other x (pre ++ c ∷ []) cs post (q ∙ sym (append_assoc pre (c ∷ []) (cs ++ post)))) in
+    subst (λ (n : ℕ). Hears other x (come_from n (length cs)) (octets_of cs)) (next_place pre c)
+    (all_hears other x (pre ++ c ∷ []) cs post (q ∙ sym (append_assoc pre (c ∷ []) (cs ++ post)))) in
     record {
       done = (tt, subst (λ (y : BearerEnd). AreDone other y more) (sym first) h.done);
       bearer = h.bearer;
       is = ap (λ (y : BearerEnd). does_all other y more) first ∙ h.is;
-      flow_is = ap (λ (f : Flow). after_all f (map (λ p. Arrive p) (octets_of cs))) (is_called e.bearer (Arrive c.octets)) ∙ h.flow_is;
-      calls_are = ap (λ (o : Option Copy). arrives o ++ all_calls_in other more) at ∙ ap (λ (ds : List Call). Arrive c.octets ∷ ds) h.calls_are;
+      flow_is = ap (λ (f : Flow). after_all f (map (λ p. Arrive p) (octets_of cs)))
+          (is_called e.bearer (Arrive c.octets)) ∙ h.flow_is;
+      calls_are = ap (λ (o : Option Copy). arrives o ++ all_calls_in other more) at
+          ∙ ap (λ (ds : List Call). Arrive c.octets ∷ ds) h.calls_are;
     }
 
 -- ---- several PDUs are let go
@@ -113,12 +122,16 @@ pub record Drops (other e : BearerEnd) (ds : List Deed) (copies : List Copy) : T
   pub is : does_all other e ds ≡ record e { copies = copies }
   pub calls_none : all_calls_in other ds ≡ []
 
-pub all_drops : (other e : BearerEnd) (before cs behind : List Copy) → e.copies ≡ before ++ (cs ++ behind) → Drops other e (go_from (length before) (length cs)) (before ++ behind)
-all_drops other e before [] behind q = record { done = tt; is = ap (λ (l : List Copy). record e { copies = l }) q; calls_none = refl }
+pub all_drops : (other e : BearerEnd) (before cs behind : List Copy) → e.copies ≡ before ++ (cs ++ behind)
+    → Drops other e (go_from (length before) (length cs)) (before ++ behind)
+all_drops other e before [] behind q =
+    record { done = tt; is = ap (λ (l : List Copy). record e { copies = l }) q; calls_none = refl }
 all_drops other e before (c ∷ cs) behind q =
     let place = length before in
     let x : BearerEnd = record e { copies = before ++ (cs ++ behind) } in
-    let first : does other e (Goes place) ≡ x = ap (λ (l : List Copy). record e { copies = l }) (ap (except place) q ∙ except_front before c (cs ++ behind)) in
+    let first : does other e (Goes place) ≡ x =
+    ap (λ (l : List Copy). record e { copies = l }) (ap (except place) q ∙ except_front before c (cs ++ behind))
+    in
     let h = all_drops other x before cs behind refl in
     record {
       done = (tt, subst (λ (y : BearerEnd). AreDone other y (go_from place (length cs))) (sym first) h.done);

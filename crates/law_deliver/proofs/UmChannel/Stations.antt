@@ -1,11 +1,13 @@
 -- An end and the unacknowledged bearer of a channel: its calls, blocks that come, and blocks that are let go.
-use Rattle.std.proofs.Common.{◌≡◌, ℕ, zero, suc, List, [], ◌∷◌, ◌++◌, map, length, true, Option, Some, None, slice_get, refl, ap, sym, subst, ◌∙◌}
+use Rattle.std.proofs.Common.{◌≡◌, ℕ, zero, suc, List, [], ◌∷◌, ◌++◌, map, length, true, Option, Some, None, slice_get}
+use Rattle.std.proofs.Common.{refl, ap, sym, subst, ◌∙◌}
 use Rattle.std.specs.List.{AllByRecursion}
 use Rattle.law_rlc.specs.AmPair.Flow.{except}
 use Rattle.bearer.specs.declared.flow.Flow.{Flow}
 use Rattle.bearer.specs.declared.flow.Flow.TheVariants.{Um}
 use Rattle.bearer.specs.Unacknowledged.State.{State}
-use Rattle.law_bearer.specs.AnyBearer.Calls.{Call as BearerCall, Submit as Submits, Take as Takes, Arrive as Arrives, Expire as Expires, Tick as Ticks, SetDiscard as SetsDiscard, after_all}
+use Rattle.law_bearer.specs.AnyBearer.Calls.{Call as BearerCall, Submit as Submits, Take as Takes, Arrive as Arrives}
+use Rattle.law_bearer.specs.AnyBearer.Calls.{Expire as Expires, Tick as Ticks, SetDiscard as SetsDiscard, after_all}
 use Rattle.bearer_types.specs.Sides.{heard_by, sent_by}
 use Rattle.l2_node.specs.Finding.{has}
 use Rattle.l2_types.specs.declared.side.Side.{Side}
@@ -16,7 +18,8 @@ use Rattle.law_deliver.specs.AmFlow.Air.{Block, Station, older, passed, comes, H
 use Rattle.law_deliver.specs.AmFlow.Channels.{calls_of, GoesOnInLife}
 use Rattle.promises.specs.Pdus.{carried}
 use Rattle.law_deliver.proofs.AmFlow.Channels.{receive_by, plain_by}
-use Rattle.law_deliver.proofs.AmFlow.Loads.{Load, all_copies, blocks_in, aged_load, aged_copies, aged_blocks, aged_all, IsLoad, except_blocks, except_all, all_at}
+use Rattle.law_deliver.proofs.AmFlow.Loads.{Load, all_copies, blocks_in, aged_load, aged_copies, aged_blocks, aged_all}
+use Rattle.law_deliver.proofs.AmFlow.Loads.{IsLoad, except_blocks, except_all, all_at}
 use Rattle.law_deliver.proofs.AmFlow.Places.{GoesBy}
 use Rattle.law_deliver.proofs.AmFlow.Runs.{octets_of}
 use Rattle.law_deliver.proofs.AmFlow.Standing.{at_place}
@@ -39,20 +42,25 @@ pub record Matches (side : Side) (l : ℕ) (s : Station) (n : BearerEnd) : Type 
   pub are : AllByRecursion (IsLoad l (sent_by side) s.end.sender s.end.numbers) loads
 
 -- by these deeds, which are these calls of the bearer
-pub record Acts (side : Side) (l : ℕ) (s : Station) (m n : BearerEnd) (ds : List Deed) (cs : List BearerCall) : Type 0 where
-  pub done : AreDone m n ds
-  pub calls_are : all_calls_in m ds ≡ cs
-  pub matches : Matches side l s (does_all m n ds)
+pub record Acts (side : Side) (l : ℕ) (s : Station) (m n : BearerEnd) (ds : List Deed) (cs : List BearerCall) : Type 0
+  where
+    pub done : AreDone m n ds
+    pub calls_are : all_calls_in m ds ≡ cs
+    pub matches : Matches side l s (does_all m n ds)
 
 -- ---- a block comes
 
-deeds_same : (l : ℕ) (d e : Direction) (k : ℕ) (blocks : List Block) (b : Block) (x : Load) (sp : ℕ) → d ≡ e → x.block ≡ b → Carries l e x → sp ≡ count_before l e k blocks
+deeds_same : (l : ℕ) (d e : Direction) (k : ℕ) (blocks : List Block) (b : Block) (x : Load) (sp : ℕ) → d ≡ e
+    → x.block ≡ b → Carries l e x → sp ≡ count_before l e k blocks
     → come_from sp (length x.copies) ≡ come_from (count_before l d k blocks) (length (carried l d b.octets))
 deeds_same l d e k blocks b x sp dir is carries count =
     ap (λ (n : ℕ). come_from n (length x.copies)) (count ∙ ap (λ (y : Direction). count_before l y k blocks) (sym dir))
-    ∙ ap (come_from (count_before l d k blocks)) (sym (many_in l e x carries) ∙ ap (λ (y : Block). length (carried l e y.octets)) is ∙ ap (λ (y : Direction). length (carried l y b.octets)) (sym dir))
+    ∙ ap (come_from (count_before l d k blocks)) (sym (many_in l e x carries)
+    ∙ ap (λ (y : Block). length (carried l e y.octets)) is
+    ∙ ap (λ (y : Direction). length (carried l y b.octets)) (sym dir))
 
-pub hears : (side oside : Side) (l k : ℕ) (s o : Station) (n m : BearerEnd) (x : Option Block) → heard_by side ≡ sent_by oside → Matches side l s n → Matches oside l o m → slice_get o.blocks k ≡ x
+pub hears : (side oside : Side) (l k : ℕ) (s o : Station) (n m : BearerEnd) (x : Option Block)
+    → heard_by side ≡ sent_by oside → Matches side l s n → Matches oside l o m → slice_get o.blocks k ≡ x
     → Acts side l (comes s x) m n (comes_with l (heard_by side) k o.blocks x) (calls_by l s.end x)
 hears side oside l k s o n m None dir h g q = record { done = tt; calls_are = refl; matches = h }
 hears side oside l k s o n m (Some b) dir h g q =
@@ -66,9 +74,11 @@ hears side oside l k s o n m (Some b) dir h g q =
     let sp : Split l out g.loads k x = split_at l out g.loads k x all at.1 in
     let ds : List Deed = comes_with l d k o.blocks (Some b) in
     let same : come_from (length sp.before) (length x.copies) ≡ ds =
-    deeds_same l d out k o.blocks b x (length sp.before) dir at.2 carries (sp.count_is ∙ ap (count_before l out k) g.blocks_are) in
+    deeds_same l d out k o.blocks b x (length sp.before) dir at.2 carries
+    (sp.count_is ∙ ap (count_before l out k) g.blocks_are) in
     let hr : Hears m n ds (octets_of x.copies) =
-    subst (λ (l : List Deed). Hears m n l (octets_of x.copies)) same (all_hears m n sp.before x.copies sp.behind (g.copies_are ∙ sp.copies_are)) in
+    subst (λ (l : List Deed). Hears m n l (octets_of x.copies)) same
+    (all_hears m n sp.before x.copies sp.behind (g.copies_are ∙ sp.copies_are)) in
     let by = receive_by l e b.octets in
     let carries' = ap (λ (z : Side). carried l (heard_by z) b.octets) (come_side side e h.come)
     ∙ ap (λ (z : Direction). carried l z b.octets) dir
@@ -90,7 +100,12 @@ hears side oside l k s o n m (Some b) dir h g q =
       copies_are = h.copies_are;
       are = h.are;
     } in
-    record { done = hr.done; calls_are = hr.calls_are ∙ ap (λ (ps : List (List ℕ)). map (λ p. Arrives p) ps) (sym carries'); matches = subst (Matches side l t) (sym hr.is) now }
+    record {
+      done = hr.done;
+      calls_are = hr.calls_are
+          ∙ ap (λ (ps : List (List ℕ)). map (λ p. Arrives p) ps) (sym carries');
+      matches = subst (Matches side l t) (sym hr.is) now;
+    }
 
 -- ---- a block is let go
 
@@ -99,10 +114,16 @@ except_none [] k q = refl
 except_none (x ∷ xs) zero q = let no : Some x ≡ None = q in absurd cc
 except_none (x ∷ xs) (suc k) q = ap (λ l. x ∷ l) (except_none xs k q)
 
-pub lets_go : (side : Side) (l k : ℕ) (s : Station) (n m : BearerEnd) (o : Option Block) → Matches side l s n → slice_get s.blocks k ≡ o
+pub lets_go : (side : Side) (l k : ℕ) (s : Station) (n m : BearerEnd) (o : Option Block) → Matches side l s n
+    → slice_get s.blocks k ≡ o
     → Acts side l (record s { blocks = except k s.blocks }) m n (goes_with l (sent_by side) k s.blocks o) []
 lets_go side l k s n m None h q =
-    record { done = tt; calls_are = refl; matches = subst (λ (bs : List Block). Matches side l (record s { blocks = bs }) n) (sym (except_none s.blocks k q)) h }
+    record {
+      done = tt;
+      calls_are = refl;
+      matches = subst (λ (bs : List Block). Matches side l (record s { blocks = bs }) n)
+          (sym (except_none s.blocks k q)) h;
+    }
 lets_go side l k s n m (Some b) h q =
     let d = sent_by side in
     let all = carries_all l d s.end.sender s.end.numbers h.loads h.are h.bare in
@@ -113,9 +134,11 @@ lets_go side l k s n m (Some b) h q =
     let ds : List Deed = goes_with l d k s.blocks (Some b) in
     let same : go_from (length sp.before) (length x.copies) ≡ ds =
     ap (λ (n : ℕ). go_from n (length x.copies)) (sp.count_is ∙ ap (count_before l d k) h.blocks_are)
-    ∙ ap (go_from (count_before l d k s.blocks)) (sym (many_in l d x carries) ∙ ap (λ (y : Block). length (carried l d y.octets)) at.2) in
+    ∙ ap (go_from (count_before l d k s.blocks)) (sym (many_in l d x carries)
+    ∙ ap (λ (y : Block). length (carried l d y.octets)) at.2) in
     let r : Drops m n ds (sp.before ++ sp.behind) =
-    subst (λ (l : List Deed). Drops m n l (sp.before ++ sp.behind)) same (all_drops m n sp.before x.copies sp.behind (h.copies_are ∙ sp.copies_are)) in
+    subst (λ (l : List Deed). Drops m n l (sp.before ++ sp.behind)) same
+    (all_drops m n sp.before x.copies sp.behind (h.copies_are ∙ sp.copies_are)) in
     let t : Station = record s { blocks = except k s.blocks } in
     let now : Matches side l t (record n { copies = sp.before ++ sp.behind }) = record {
       come = h.come;
@@ -169,7 +192,8 @@ plain_runs m n (c ∷ cs) p =
       calls_are = ap (λ (ds : List BearerCall). c ∷ ds) h.calls_are;
     }
 
-pub plain_call : (side : Side) (l : ℕ) (s : Station) (n m : BearerEnd) (c : Call) → Matches side l s n → IsGivenCall c → GoesOnInLife l c → ((t : Turn) → c ≡ Visits t → ⊥) → ((block : List ℕ) → c ≡ Receive block → ⊥)
+pub plain_call : (side : Side) (l : ℕ) (s : Station) (n m : BearerEnd) (c : Call) → Matches side l s n → IsGivenCall c
+    → GoesOnInLife l c → ((t : Turn) → c ≡ Visits t → ⊥) → ((block : List ℕ) → c ≡ Receive block → ⊥)
     → Acts side l (record s { end = after s.end c }) m n (map (λ x. Calls x) (calls_of l s.end c)) (calls_of l s.end c)
 plain_call side l s n m c h g life v r =
     let e = after s.end c in

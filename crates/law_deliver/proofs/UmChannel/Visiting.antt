@@ -1,5 +1,7 @@
 -- An end visits a process, and its unacknowledged bearer of a channel writes into a new block.
-use Rattle.std.proofs.Common.{◌≡◌, ◌≤◌, ◌<◌, ℕ, ◌-◌, ◌%◌, ◌&&◌, Bool, true, false, ◌||◌, if◌then◌else◌, List, [], ◌∷◌, ◌++◌, length, map, take, get_or, get_or-set_same, Option, None, refl, ap, sym, subst, ◌∙◌, arith}
+use Rattle.std.proofs.Common.{◌≡◌, ◌≤◌, ◌<◌, ℕ, ◌-◌, ◌%◌, ◌&&◌, Bool, true, false, ◌||◌, if◌then◌else◌, List, [], ◌∷◌}
+use Rattle.std.proofs.Common.{◌++◌, length, map, take, get_or, get_or-set_same, Option, None, refl, ap, sym, subst, ◌∙◌}
+use Rattle.std.proofs.Common.{arith}
 use Rattle.std.specs.List.{AllByRecursion}
 use Rattle.law_rlc.specs.AmPair.Flow.{Copy, copies_with}
 use Rattle.law_rlc.specs.AmPair.Given.{IsHeld as IsAtLeastHeld}
@@ -29,7 +31,8 @@ use Rattle.law_node.proofs.Ready.{WritesWell, ready_kept}
 use Rattle.law_node.proofs.Sound.{visited_sound}
 use Rattle.pdcp_tx.specs.State.{offers}
 use Rattle.prioritise.specs.Channels.{has as has_channel}
-use Rattle.law_deliver.specs.AmFlow.Air.{Block, Station, built_at, is_new as is_new_visit, calls as station_calls, HasCome, IsHeld, IsBuilding, IsVisiting}
+use Rattle.law_deliver.specs.AmFlow.Air.{Block, Station, built_at, is_new as is_new_visit, calls as station_calls}
+use Rattle.law_deliver.specs.AmFlow.Air.{HasCome, IsHeld, IsBuilding, IsVisiting}
 use Rattle.law_deliver.specs.AmFlow.Channels.{only, share_of, held_of as told_held, takes_of, calls_of, written_by}
 use Rattle.law_deliver.proofs.AmFlow.Channels.{turn_by}
 use Rattle.law_deliver.proofs.AmFlow.Loads.{Load, blocks_in, noted_of, IsLoad, lowest_all, IsHeldBy, held_by}
@@ -37,24 +40,31 @@ use Rattle.law_deliver.proofs.AmFlow.Octets.{offers_all, take_all, pdus_all}
 use Rattle.law_deliver.proofs.AmFlow.Places.{GoesBy}
 use Rattle.law_deliver.proofs.AmFlow.Runs.{octets_of}
 use Rattle.law_deliver.proofs.AmFlow.Stations.{come_sound, come_more, fewer_keep}
-use Rattle.law_deliver.proofs.AmFlow.Visiting.{copies_split, octets_given, noted_given, carries_so, rows_so, new_empty, others_keep}
+use Rattle.law_deliver.proofs.AmFlow.Visiting.{copies_split, octets_given, noted_given, carries_so, rows_so, new_empty}
+use Rattle.law_deliver.proofs.AmFlow.Visiting.{others_keep}
 use Rattle.law_deliver.specs.UmFlow.Pair.{BearerEnd, Calls, HasOctet, IsTaking}
 use Rattle.law_deliver.proofs.UmFlow.Sending.{is_called}
 use Rattle.law_deliver.proofs.UmChannel.Stations.{Matches, Acts}
 
 -- ---- each PDU of PDCP has an octet
 
-some_of : (b : State) (share : ℕ) (held : Option ℕ) (l : ℕ) → WritesWell l (Um b) → AllByRecursion HasOctet (map (pdu_of b.pdcp.tx) (takes (Um b) (Takes share held)))
+some_of : (b : State) (share : ℕ) (held : Option ℕ) (l : ℕ) → WritesWell l (Um b)
+    → AllByRecursion HasOctet (map (pdu_of b.pdcp.tx) (takes (Um b) (Takes share held)))
 some_of b share held l w =
     let n : ℕ = length (offers_of (ends (Um b))) - length (offers_of (ends (after (Um b) (Takes share held)))) in
-    pdus_all w.kind b.pdcp.tx (take n (offers b.pdcp.tx)) w.known w.offers'.tx.kind_is (take_all w.kind n (offers b.pdcp.tx) (offers_all w.kind b.pdcp.tx w.offers'.tx))
+    pdus_all w.kind b.pdcp.tx (take n (offers b.pdcp.tx)) w.known w.offers'.tx.kind_is
+    (take_all w.kind n (offers b.pdcp.tx) (offers_all w.kind b.pdcp.tx w.offers'.tx))
 
-some_octets : (side : Side) (e : End) (h : HasCome side e) (l : ℕ) (b : State) (share : ℕ) (held : Option ℕ) → flow l e ≡ Um b → AllByRecursion HasOctet (map (pdu_of b.pdcp.tx) (takes (Um b) (Takes share held)))
+some_octets : (side : Side) (e : End) (h : HasCome side e) (l : ℕ) (b : State) (share : ℕ) (held : Option ℕ)
+    → flow l e ≡ Um b → AllByRecursion HasOctet (map (pdu_of b.pdcp.tx) (takes (Um b) (Takes share held)))
 some_octets side e h l b share held q =
     let bs = (reached side h.maximum h.reports h.past).bearers in
     let at = find l bs in
-    let w = at_is WritesWell bs at ready_kept (reached_are WritesWell ready_kept side h.maximum h.reports h.past h.given) in
-    some_of b share held (bearer_at bs at).lcid (subst (WritesWell (bearer_at bs at).lcid) (ap (λ (x : End). flow l x) (sym h.end_is) ∙ q) w)
+    let w =
+    at_is WritesWell bs at ready_kept (reached_are WritesWell ready_kept side h.maximum h.reports h.past h.given)
+    in
+    some_of b share held (bearer_at bs at).lcid
+    (subst (WritesWell (bearer_at bs at).lcid) (ap (λ (x : End). flow l x) (sym h.end_is) ∙ q) w)
 
 -- ---- a new block
 
@@ -64,7 +74,11 @@ module _ (side : Side) (l : ℕ) (s : Station) (n m : BearerEnd) (t : Turn) wher
   built_end = answered New t (built_by New t.tti t.grant (visited t.tti t.order s.end))
 
   abbrev built_station : Station
-  built_station = record { end = answered New t (built_by New t.tti t.grant (visited t.tti t.order s.end)); blocks = built_at New t (visited t.tti t.order s.end) ++ s.blocks; busy = s.busy || true }
+  built_station = record {
+    end = answered New t (built_by New t.tti t.grant (visited t.tti t.order s.end));
+    blocks = built_at New t (visited t.tti t.order s.end) ++ s.blocks;
+    busy = s.busy || true;
+  }
 
   abbrev at : ℕ
   at = t.tti % 8
@@ -82,22 +96,28 @@ module _ (side : Side) (l : ℕ) (s : Station) (n m : BearerEnd) (t : Turn) wher
   unfolding visited
   fewer p e = visit_fewer s.end.sender t.tti t.order p e
 
-  pub blocks_held : visit t.tti t.order s.end ≡ New → IsBuilding s t → (h : Matches side l s n) → AllByRecursion (IsHeldBy (t.tti % 8) (visited t.tti t.order s.end).sender) (blocks_in h.loads)
+  pub blocks_held : visit t.tti t.order s.end ≡ New → IsBuilding s t → (h : Matches side l s n)
+      → AllByRecursion (IsHeldBy (t.tti % 8) (visited t.tti t.order s.end).sender) (blocks_in h.loads)
   blocks_held v b h =
       held_by (t.tti % 8) (visited t.tti t.order s.end).sender (blocks_in h.loads) (new_empty t.tti t.order s.end v)
-      (subst (λ (bs : List Block). AllByRecursion (IsHeld (visited t.tti t.order s.end).sender) bs) (sym h.blocks_are) b.held)
+      (subst (λ (bs : List Block). AllByRecursion (IsHeld (visited t.tti t.order s.end).sender) bs) (sym h.blocks_are)
+      b.held)
 
   is_taking : visit t.tti t.order s.end ≡ New → Matches side l s n → IsBuilding s t → IsTaking n part low
   unfolding visited
   is_taking v h b = record {
     some = some_octets side s.end h.come l n.bearer part low h.bearer_is;
     lowest = subst (λ (cs : List Copy). AllByRecursion (IsAtLeastHeld low) cs) (sym h.copies_are)
-        (lowest_all l at (sent_by side) s.end.sender (visited t.tti t.order s.end).sender s.end.numbers h.loads fewer (blocks_held v b h) h.are);
+        (lowest_all l at (sent_by side) s.end.sender (visited t.tti t.order s.end).sender s.end.numbers h.loads fewer
+        (blocks_held v b h) h.are);
   }
 
-  old_loads : visit t.tti t.order s.end ≡ New → (h : Matches side l s n) → IsBuilding s t → AllByRecursion (IsLoad l (sent_by side) built_end.sender built_end.numbers) h.loads
+  old_loads : visit t.tti t.order s.end ≡ New → (h : Matches side l s n) → IsBuilding s t
+      → AllByRecursion (IsLoad l (sent_by side) built_end.sender built_end.numbers) h.loads
   unfolding visited loaded
-  old_loads v h b = others_keep l at (sent_by side) s.end.sender built_end.sender (visited t.tti t.order s.end).sender s.end.numbers (written (visited t.tti t.order s.end) t.grant).block.numbers h.loads fewer (blocks_held v b h) h.are
+  old_loads v h b =
+      others_keep l at (sent_by side) s.end.sender built_end.sender (visited t.tti t.order s.end).sender s.end.numbers
+      (written (visited t.tti t.order s.end) t.grant).block.numbers h.loads fewer (blocks_held v b h) h.are
 
   row_so : (h : Matches side l s n) → noted_of built_end.numbers l at ≡ given_by (visited t.tti t.order s.end) t.grant l
   unfolding loaded
@@ -106,9 +126,11 @@ module _ (side : Side) (l : ℕ) (s : Station) (n m : BearerEnd) (t : Turn) wher
       let row = (written (visited t.tti t.order s.end) t.grant).block.numbers in
       let lt : at < length (visited t.tti t.order s.end).numbers = omega (arith, rows) in
       ap (λ (r : List (Option ℕ)). get_or r l None) (get_or-set_same (visited t.tti t.order s.end).numbers at row [] lt)
-      ∙ row_is (visited t.tti t.order s.end) t.grant l (visited_sound t.tti t.order s.end (come_sound side s.end h.come))
+      ∙ row_is (visited t.tti t.order s.end) t.grant l
+      (visited_sound t.tti t.order s.end (come_sound side s.end h.come))
 
-  given_so : (h : Matches side l s n) → has_channel l (visited t.tti t.order s.end).buckets.channels ≡ true → given_by (visited t.tti t.order s.end) t.grant l ≡ number_of (answer n.bearer part low)
+  given_so : (h : Matches side l s n) → has_channel l (visited t.tti t.order s.end).buckets.channels ≡ true
+      → given_by (visited t.tti t.order s.end) t.grant l ≡ number_of (answer n.bearer part low)
   unfolding visited number
   given_so h q =
       ap (λ (b : Bool). if b && has l s.end.bearers then number (flow l s.end) part low else None) q
@@ -123,12 +145,16 @@ module _ (side : Side) (l : ℕ) (s : Station) (n m : BearerEnd) (t : Turn) wher
       ∙ ap (λ (f : Flow). pdus f part low) h.bearer_is
       ∙ octets_given (answer n.bearer part low)
 
-  builds_by : (here : Bool) → visit t.tti t.order s.end ≡ New → has_channel l (visited t.tti t.order s.end).buckets.channels ≡ here → Matches side l s n → HasCome side built_end → IsBuilding s t → t.grant ≤ 9422
+  builds_by : (here : Bool) → visit t.tti t.order s.end ≡ New
+      → has_channel l (visited t.tti t.order s.end).buckets.channels ≡ here → Matches side l s n
+      → HasCome side built_end → IsBuilding s t → t.grant ≤ 9422
       → Acts side l built_station m n (map (λ c. Calls c) (only here (Takes part low))) (only here (Takes part low))
   unfolding visited
   builds_by true v q h come b most =
       let by : GoesBy l s.end.bearers built_end.bearers (Takes part low ∷ []) =
-      subst (λ (x : Bool). GoesBy l s.end.bearers built_end.bearers (only x (Takes part low))) q (turn_by New t (visited t.tti t.order s.end) l (visited_sound t.tti t.order s.end (come_sound side s.end h.come))) in
+      subst (λ (x : Bool). GoesBy l s.end.bearers built_end.bearers (only x (Takes part low))) q
+      (turn_by New t (visited t.tti t.order s.end) l
+      (visited_sound t.tti t.order s.end (come_sound side s.end h.come))) in
       let data' = answer n.bearer part low in
       let load : Load = record { block = new_of; copies = copies_with data' []; reports = [] } in
       record {
@@ -137,7 +163,8 @@ module _ (side : Side) (l : ℕ) (s : Station) (n m : BearerEnd) (t : Turn) wher
         matches = record {
           come = come;
           there = by.has_is ∙ h.there;
-          bearer_is = by.goes h.there ∙ ap (λ (f : Flow). after_all f (Takes part low ∷ [])) h.bearer_is ∙ is_called n.bearer (Takes part low);
+          bearer_is = by.goes h.there ∙ ap (λ (f : Flow). after_all f (Takes part low ∷ [])) h.bearer_is
+              ∙ is_called n.bearer (Takes part low);
           loads = load ∷ h.loads;
           bare = (refl, h.bare);
           blocks_are = ap (λ (bs : List Block). new_of ∷ bs) h.blocks_are;
@@ -155,9 +182,12 @@ module _ (side : Side) (l : ℕ) (s : Station) (n m : BearerEnd) (t : Turn) wher
       }
   builds_by false v q h come b most =
       let by : GoesBy l s.end.bearers built_end.bearers [] =
-      subst (λ (x : Bool). GoesBy l s.end.bearers built_end.bearers (only x (Takes part low))) q (turn_by New t (visited t.tti t.order s.end) l (visited_sound t.tti t.order s.end (come_sound side s.end h.come))) in
+      subst (λ (x : Bool). GoesBy l s.end.bearers built_end.bearers (only x (Takes part low))) q
+      (turn_by New t (visited t.tti t.order s.end) l
+      (visited_sound t.tti t.order s.end (come_sound side s.end h.come))) in
       let load : Load = record { block = new_of; copies = []; reports = [] } in
-      let none : written_by (visited t.tti t.order s.end) t.grant l ≡ [] = ap (λ (x : Bool). if x then pdus (flow l s.end) part low else []) q in
+      let none : written_by (visited t.tti t.order s.end) t.grant l ≡ [] =
+      ap (λ (x : Bool). if x then pdus (flow l s.end) part low else []) q in
       record {
         done = tt;
         calls_are = refl;
@@ -169,17 +199,33 @@ module _ (side : Side) (l : ℕ) (s : Station) (n m : BearerEnd) (t : Turn) wher
           bare = (refl, h.bare);
           blocks_are = ap (λ (bs : List Block). new_of ∷ bs) h.blocks_are;
           copies_are = h.copies_are;
-          are = (record { carries = carries_so side s.end h.come t.tti t.order t.grant l b.some most h.there ∙ none; process = omega arith; aged = tt; noted = λ held. tt }, old_loads v h b);
+          are = (
+            record {
+              carries = carries_so side s.end h.come t.tti t.order t.grant l b.some most h.there ∙ none;
+              process = omega arith;
+              aged = tt;
+              noted = λ held. tt;
+            },
+            old_loads v h b,
+          );
         };
       }
 
 -- ---- any visit
 
-visits_by : (side : Side) (l : ℕ) (s : Station) (n m : BearerEnd) (t : Turn) (v : Visit) → visit t.tti t.order s.end ≡ v → Matches side l s n → HasCome side (answered v t (built_by v t.tti t.grant (visited t.tti t.order s.end))) → IsVisiting v s t → t.grant ≤ 9422
-    → Acts side l (record { end = answered v t (built_by v t.tti t.grant (visited t.tti t.order s.end)); blocks = built_at v t (visited t.tti t.order s.end) ++ s.blocks; busy = s.busy || is_new_visit v }) m n
+visits_by : (side : Side) (l : ℕ) (s : Station) (n m : BearerEnd) (t : Turn) (v : Visit)
+    → visit t.tti t.order s.end ≡ v → Matches side l s n
+    → HasCome side (answered v t (built_by v t.tti t.grant (visited t.tti t.order s.end))) → IsVisiting v s t
+    → t.grant ≤ 9422
+    → Acts side l (record {
+      end = answered v t (built_by v t.tti t.grant (visited t.tti t.order s.end));
+      blocks = built_at v t (visited t.tti t.order s.end) ++ s.blocks;
+      busy = s.busy || is_new_visit v;
+    }) m n
     (map (λ c. Calls c) (takes_of v t (visited t.tti t.order s.end) l)) (takes_of v t (visited t.tti t.order s.end) l)
 unfolding visited
-visits_by side l s n m t New v h come b most = builds_by side l s n m t (has_channel l (visited t.tti t.order s.end).buckets.channels) v refl h come b most
+visits_by side l s n m t New v h come b most =
+    builds_by side l s n m t (has_channel l (visited t.tti t.order s.end).buckets.channels) v refl h come b most
 visits_by side l s n m t (Resend rv) v h come b most = record {
   done = tt;
   calls_are = refl;
@@ -191,8 +237,11 @@ visits_by side l s n m t (Resend rv) v h come b most = record {
     bare = h.bare;
     blocks_are = h.blocks_are;
     copies_are = h.copies_are;
-    are = fewer_keep l (sent_by side) s.end.sender (after_feedback (after_visit s.end.sender t.tti t.order) t.tti t.good) s.end.numbers h.loads
-        (λ p none. feedback_fewer (after_visit s.end.sender t.tti t.order) t.tti t.good p (visit_fewer s.end.sender t.tti t.order p none)) h.are;
+    are =
+        fewer_keep l (sent_by side) s.end.sender
+        (after_feedback (after_visit s.end.sender t.tti t.order) t.tti t.good) s.end.numbers h.loads
+        (λ p none. feedback_fewer (after_visit s.end.sender t.tti t.order) t.tti t.good p
+        (visit_fewer s.end.sender t.tti t.order p none)) h.are;
   };
 }
 visits_by side l s n m t Silent v h come b most = record {
@@ -206,11 +255,15 @@ visits_by side l s n m t Silent v h come b most = record {
     bare = h.bare;
     blocks_are = h.blocks_are;
     copies_are = h.copies_are;
-    are = fewer_keep l (sent_by side) s.end.sender (after_visit s.end.sender t.tti t.order) s.end.numbers h.loads (visit_fewer s.end.sender t.tti t.order) h.are;
+    are = fewer_keep l (sent_by side) s.end.sender (after_visit s.end.sender t.tti t.order) s.end.numbers h.loads
+        (visit_fewer s.end.sender t.tti t.order) h.are;
   };
 }
 
-pub visits : (side : Side) (l : ℕ) (s : Station) (n m : BearerEnd) (t : Turn) → Matches side l s n → IsGivenCall (Visits t) → IsVisiting (visit t.tti t.order s.end) s t
-    → Acts side l (station_calls s (Visits t)) m n (map (λ c. Calls c) (calls_of l s.end (Visits t))) (calls_of l s.end (Visits t))
+pub visits : (side : Side) (l : ℕ) (s : Station) (n m : BearerEnd) (t : Turn) → Matches side l s n
+    → IsGivenCall (Visits t) → IsVisiting (visit t.tti t.order s.end) s t
+    → Acts side l (station_calls s (Visits t)) m n (map (λ c. Calls c) (calls_of l s.end (Visits t)))
+    (calls_of l s.end (Visits t))
 unfolding built
-visits side l s n m t h g b = visits_by side l s n m t (visit t.tti t.order s.end) refl h (come_more side s.end (Visits t) h.come g) b g.0
+visits side l s n m t h g b =
+    visits_by side l s n m t (visit t.tti t.order s.end) refl h (come_more side s.end (Visits t) h.come g) b g.0

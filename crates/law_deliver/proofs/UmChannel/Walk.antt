@@ -5,9 +5,11 @@ use Rattle.bearer.specs.declared.flow.Flow.{Flow}
 use Rattle.bearer.specs.declared.flow.Flow.TheVariants.{Um}
 use Rattle.bearer.specs.Unacknowledged.State.{State}
 use Rattle.bearer.specs.Unacknowledged.Lives.{stopped, restarted}
-use Rattle.law_bearer.specs.AnyBearer.Calls.{Call as BearerCall, Step as BearerStep, Calls as CallsIt, Restart, goes as bearer_goes}
+use Rattle.law_bearer.specs.AnyBearer.Calls.{Call as BearerCall, Step as BearerStep, Calls as CallsIt, Restart}
+use Rattle.law_bearer.specs.AnyBearer.Calls.{goes as bearer_goes}
 use Rattle.law_deliver.specs.AmChannel.Delivery.{steps_over}
-use Rattle.law_deliver.specs.AmChannel.Lives.{AirStep, InLife, Moves, lives_on, AreLiving as AreLivingAir, end_at, calls_at, all_calls}
+use Rattle.law_deliver.specs.AmChannel.Lives.{AirStep, InLife, Moves, lives_on, AreLiving as AreLivingAir, end_at}
+use Rattle.law_deliver.specs.AmChannel.Lives.{calls_at, all_calls}
 use Rattle.law_deliver.proofs.AmChannel.Acting.{as_steps, act_steps}
 use Rattle.law_deliver.proofs.AmChannel.Ends.{step_end, steps_more}
 use Rattle.eps_sec.specs.declared.Keys.{Keys}
@@ -18,18 +20,21 @@ use Rattle.l2_types.specs.declared.side.Side.TheVariants.{Nb, Ue}
 use Rattle.law_node.specs.Calls.{Move, after}
 use Rattle.law_node.specs.Holding.{flow}
 use Rattle.law_node.proofs.Holding.{flow_at}
-use Rattle.law_deliver.specs.AmFlow.Air.{Station, Air, Act, Step, AtNb, AtUe, Passes, does, happens, begins, IsDone, IsGiven, HasCome}
+use Rattle.law_deliver.specs.AmFlow.Air.{Station, Air, Act, Step, AtNb, AtUe, Passes, does, happens, begins, IsDone}
+use Rattle.law_deliver.specs.AmFlow.Air.{IsGiven, HasCome}
 use Rattle.law_deliver.proofs.AmFlow.Air.{calls_in as act_calls}
 use Rattle.law_deliver.proofs.AmFlow.Lives.{moved_flow, moved_bearers, moved_has}
 use Rattle.law_deliver.proofs.AmFlow.Stations.{come_more}
 use Rattle.law_deliver.specs.UmDelivery.Lives.{Life, IsLiving, AreLiving, AreAccepted, next_near, next_far}
 use Rattle.law_deliver.specs.UmFlow.Calls.{near_calls, far_calls}
-use Rattle.law_deliver.specs.UmFlow.Pair.{BearerEnd, Pair, Step as PairStep, goes, outset as pair_outset, begins as pair_begins}
+use Rattle.law_deliver.specs.UmFlow.Pair.{BearerEnd, Pair, Step as PairStep, goes, outset as pair_outset}
+use Rattle.law_deliver.specs.UmFlow.Pair.{begins as pair_begins}
 use Rattle.law_deliver.proofs.UmFlow.Calls.{near_then, far_then}
 use Rattle.law_deliver.specs.UmChannel.Pairs.{deeds_in, steps_in, walk}
 use Rattle.law_deliver.proofs.UmChannel.Acting.{acts, accepted_then, act_accepted}
 use Rattle.law_deliver.proofs.UmChannel.Bearers.{steps_through, near_end, far_end, restarts}
-use Rattle.law_deliver.proofs.UmChannel.Deeds.{does_all, near_steps, far_steps, near_goes, far_goes, near_given, far_given, near_own, far_own, near_none, far_none, goes_more, given_more}
+use Rattle.law_deliver.proofs.UmChannel.Deeds.{does_all, near_steps, far_steps, near_goes, far_goes, near_given}
+use Rattle.law_deliver.proofs.UmChannel.Deeds.{far_given, near_own, far_own, near_none, far_none, goes_more, given_more}
 use Rattle.law_deliver.proofs.UmChannel.Stations.{Matches, Acts, passes}
 
 -- where a life stands: the bearers as it began, and the steps so far
@@ -42,11 +47,15 @@ pub record Stands (l : ℕ) (a : Air) (near far : State) (so_far : List PairStep
 
 pub record Grows (l : ℕ) (a : Air) (s : Step) (near far : State) (so_far : List PairStep) : Type 0 where
   pub stands : Stands l (happens a s) near far (so_far ++ steps_in l a s)
-  pub nb_calls : as_steps (near_calls (pair_outset near far) (so_far ++ steps_in l a s)) ≡ as_steps (near_calls (pair_outset near far) so_far) ++ steps_over l (calls_at Nb a (InLife s)) a.nb.end
-  pub ue_calls : as_steps (far_calls (pair_outset near far) (so_far ++ steps_in l a s)) ≡ as_steps (far_calls (pair_outset near far) so_far) ++ steps_over l (calls_at Ue a (InLife s)) a.ue.end
+  pub nb_calls : as_steps (near_calls (pair_outset near far) (so_far ++ steps_in l a s))
+      ≡ as_steps (near_calls (pair_outset near far) so_far) ++ steps_over l (calls_at Nb a (InLife s)) a.nb.end
+  pub ue_calls : as_steps (far_calls (pair_outset near far) (so_far ++ steps_in l a s))
+      ≡ as_steps (far_calls (pair_outset near far) so_far) ++ steps_over l (calls_at Ue a (InLife s)) a.ue.end
 
-both_calls : (xs ys zs : List BearerCall) (more : List BearerStep) → zs ≡ xs ++ ys → as_steps ys ≡ more → as_steps zs ≡ as_steps xs ++ more
-both_calls xs ys zs more q r = ap as_steps q ∙ map-append (λ (c : BearerCall). CallsIt c) xs ys ∙ ap (λ (ds : List BearerStep). as_steps xs ++ ds) r
+both_calls : (xs ys zs : List BearerCall) (more : List BearerStep) → zs ≡ xs ++ ys → as_steps ys ≡ more
+    → as_steps zs ≡ as_steps xs ++ more
+both_calls xs ys zs more q r = ap as_steps q ∙ map-append (λ (c : BearerCall). CallsIt c) xs ys
+    ∙ ap (λ (ds : List BearerStep). as_steps xs ++ ds) r
 
 module _ (l : ℕ) (a : Air) (near far : State) (so_far : List PairStep) (h : Stands l a near far so_far) where
   abbrev now : Pair
@@ -56,13 +65,20 @@ module _ (l : ℕ) (a : Air) (near far : State) (so_far : List PairStep) (h : St
   grows_nb x g =
       let ds = deeds_in l Nb a.ue a.nb x in
       let cs = act_calls l a.ue a.nb x in
-      let r : Acts Nb l (does a.ue a.nb x) now.far now.near ds cs = acts Nb Ue l a.nb a.ue now.near now.far x refl h.nb h.ue g in
-      let there : goes (so_far ++ near_steps ds) (pair_outset near far) ≡ record { near = does_all now.far now.near ds; far = now.far } =
+      let r : Acts Nb l (does a.ue a.nb x) now.far now.near ds cs =
+      acts Nb Ue l a.nb a.ue now.near now.far x refl h.nb h.ue g in
+      let there : goes (so_far ++ near_steps ds) (pair_outset near far)
+      ≡ record { near = does_all now.far now.near ds; far = now.far } =
       goes_more (pair_outset near far) so_far (near_steps ds) ∙ near_goes now ds in
-      let own : near_calls (pair_outset near far) (so_far ++ near_steps ds) ≡ near_calls (pair_outset near far) so_far ++ cs =
-      near_then so_far (near_steps ds) (pair_outset near far) ∙ ap (λ (more : List BearerCall). near_calls (pair_outset near far) so_far ++ more) (near_own now ds ∙ r.calls_are) in
-      let other : far_calls (pair_outset near far) (so_far ++ near_steps ds) ≡ far_calls (pair_outset near far) so_far ++ [] =
-      far_then so_far (near_steps ds) (pair_outset near far) ∙ ap (λ (more : List BearerCall). far_calls (pair_outset near far) so_far ++ more) (far_none now ds) in
+      let own : near_calls (pair_outset near far) (so_far ++ near_steps ds)
+      ≡ near_calls (pair_outset near far) so_far ++ cs =
+      near_then so_far (near_steps ds) (pair_outset near far)
+      ∙ ap (λ (more : List BearerCall). near_calls (pair_outset near far) so_far ++ more)
+      (near_own now ds ∙ r.calls_are) in
+      let other : far_calls (pair_outset near far) (so_far ++ near_steps ds)
+      ≡ far_calls (pair_outset near far) so_far ++ [] =
+      far_then so_far (near_steps ds) (pair_outset near far)
+      ∙ ap (λ (more : List BearerCall). far_calls (pair_outset near far) so_far ++ more) (far_none now ds) in
       record {
         stands = record {
           nb = subst (λ (q : Pair). Matches Nb l (does a.ue a.nb x) q.near) (sym there) r.matches;
@@ -70,8 +86,12 @@ module _ (l : ℕ) (a : Air) (near far : State) (so_far : List PairStep) (h : St
           living = record {
             given = given_more (pair_outset near far) so_far (near_steps ds) h.living.given (near_given now ds r.done);
             near_accepts = subst (AreAccepted near) (sym own)
-                (accepted_then near (near_calls (pair_outset near far) so_far) cs h.living.near_accepts (subst (λ (b : State). AreAccepted b cs) (sym (near_end near far so_far)) (act_accepted l a.ue a.nb x now.near.bearer h.nb.bearer_is)));
-            far_accepts = subst (AreAccepted far) (sym (other ∙ append-nil (far_calls (pair_outset near far) so_far))) h.living.far_accepts;
+                (accepted_then near (near_calls (pair_outset near far) so_far) cs h.living.near_accepts
+                (subst (λ (b : State). AreAccepted b cs) (sym (near_end near far so_far))
+                (act_accepted l a.ue a.nb x now.near.bearer h.nb.bearer_is)));
+            far_accepts =
+                subst (AreAccepted far) (sym (other ∙ append-nil (far_calls (pair_outset near far) so_far)))
+                h.living.far_accepts;
           };
         };
         nb_calls = both_calls (near_calls (pair_outset near far) so_far) cs _ _ own (sym (act_steps l a.ue a.nb x g));
@@ -82,22 +102,33 @@ module _ (l : ℕ) (a : Air) (near far : State) (so_far : List PairStep) (h : St
   grows_ue x g =
       let ds = deeds_in l Ue a.nb a.ue x in
       let cs = act_calls l a.nb a.ue x in
-      let r : Acts Ue l (does a.nb a.ue x) now.near now.far ds cs = acts Ue Nb l a.ue a.nb now.far now.near x refl h.ue h.nb g in
-      let there : goes (so_far ++ far_steps ds) (pair_outset near far) ≡ record { near = now.near; far = does_all now.near now.far ds } =
+      let r : Acts Ue l (does a.nb a.ue x) now.near now.far ds cs =
+      acts Ue Nb l a.ue a.nb now.far now.near x refl h.ue h.nb g in
+      let there : goes (so_far ++ far_steps ds) (pair_outset near far)
+      ≡ record { near = now.near; far = does_all now.near now.far ds } =
       goes_more (pair_outset near far) so_far (far_steps ds) ∙ far_goes now ds in
-      let own : far_calls (pair_outset near far) (so_far ++ far_steps ds) ≡ far_calls (pair_outset near far) so_far ++ cs =
-      far_then so_far (far_steps ds) (pair_outset near far) ∙ ap (λ (more : List BearerCall). far_calls (pair_outset near far) so_far ++ more) (far_own now ds ∙ r.calls_are) in
-      let other : near_calls (pair_outset near far) (so_far ++ far_steps ds) ≡ near_calls (pair_outset near far) so_far ++ [] =
-      near_then so_far (far_steps ds) (pair_outset near far) ∙ ap (λ (more : List BearerCall). near_calls (pair_outset near far) so_far ++ more) (near_none now ds) in
+      let own : far_calls (pair_outset near far) (so_far ++ far_steps ds)
+      ≡ far_calls (pair_outset near far) so_far ++ cs =
+      far_then so_far (far_steps ds) (pair_outset near far)
+      ∙ ap (λ (more : List BearerCall). far_calls (pair_outset near far) so_far ++ more)
+      (far_own now ds ∙ r.calls_are) in
+      let other : near_calls (pair_outset near far) (so_far ++ far_steps ds)
+      ≡ near_calls (pair_outset near far) so_far ++ [] =
+      near_then so_far (far_steps ds) (pair_outset near far)
+      ∙ ap (λ (more : List BearerCall). near_calls (pair_outset near far) so_far ++ more) (near_none now ds) in
       record {
         stands = record {
           nb = subst (λ (q : Pair). Matches Nb l a.nb q.near) (sym there) h.nb;
           ue = subst (λ (q : Pair). Matches Ue l (does a.nb a.ue x) q.far) (sym there) r.matches;
           living = record {
             given = given_more (pair_outset near far) so_far (far_steps ds) h.living.given (far_given now ds r.done);
-            near_accepts = subst (AreAccepted near) (sym (other ∙ append-nil (near_calls (pair_outset near far) so_far))) h.living.near_accepts;
+            near_accepts =
+                subst (AreAccepted near) (sym (other ∙ append-nil (near_calls (pair_outset near far) so_far)))
+                h.living.near_accepts;
             far_accepts = subst (AreAccepted far) (sym own)
-                (accepted_then far (far_calls (pair_outset near far) so_far) cs h.living.far_accepts (subst (λ (b : State). AreAccepted b cs) (sym (far_end near far so_far)) (act_accepted l a.nb a.ue x now.far.bearer h.ue.bearer_is)));
+                (accepted_then far (far_calls (pair_outset near far) so_far) cs h.living.far_accepts
+                (subst (λ (b : State). AreAccepted b cs) (sym (far_end near far so_far))
+                (act_accepted l a.nb a.ue x now.far.bearer h.ue.bearer_is)));
           };
         };
         nb_calls = both_calls (near_calls (pair_outset near far) so_far) [] _ _ other refl;
@@ -108,9 +139,12 @@ module _ (l : ℕ) (a : Air) (near far : State) (so_far : List PairStep) (h : St
   grows_passes =
       let same : so_far ++ [] ≡ so_far = append-nil so_far in
       record {
-        stands = subst (Stands l (happens a Passes) near far) (sym same) (record { nb = passes Nb l a.nb now.near h.nb; ue = passes Ue l a.ue now.far h.ue; living = h.living });
-        nb_calls = ap (λ (ss : List PairStep). as_steps (near_calls (pair_outset near far) ss)) same ∙ sym (append-nil (as_steps (near_calls (pair_outset near far) so_far)));
-        ue_calls = ap (λ (ss : List PairStep). as_steps (far_calls (pair_outset near far) ss)) same ∙ sym (append-nil (as_steps (far_calls (pair_outset near far) so_far)));
+        stands = subst (Stands l (happens a Passes) near far) (sym same)
+            (record { nb = passes Nb l a.nb now.near h.nb; ue = passes Ue l a.ue now.far h.ue; living = h.living });
+        nb_calls = ap (λ (ss : List PairStep). as_steps (near_calls (pair_outset near far) ss)) same
+            ∙ sym (append-nil (as_steps (near_calls (pair_outset near far) so_far)));
+        ue_calls = ap (λ (ss : List PairStep). as_steps (far_calls (pair_outset near far) ss)) same
+            ∙ sym (append-nil (as_steps (far_calls (pair_outset near far) so_far)));
       }
 
   pub grows : (s : Step) → IsGiven l a s → Grows l a s near far so_far
@@ -120,23 +154,38 @@ module _ (l : ℕ) (a : Air) (near far : State) (so_far : List PairStep) (h : St
 
 -- ---- both ends move
 
-pub begins_so : (side : Side) (l : ℕ) (e : End) (b : State) → HasCome side e → has l e.bearers ≡ true → flow l e ≡ Um b → Matches side l (begins e) (pair_begins b)
-begins_so side l e b come there is = record { come = come; there = there; bearer_is = is; loads = []; bare = tt; blocks_are = refl; copies_are = refl; are = tt }
+pub begins_so : (side : Side) (l : ℕ) (e : End) (b : State) → HasCome side e → has l e.bearers ≡ true
+    → flow l e ≡ Um b → Matches side l (begins e) (pair_begins b)
+begins_so side l e b come there is =
+    record {
+      come = come;
+      there = there;
+      bearer_is = is;
+      loads = [];
+      bare = tt;
+      blocks_are = refl;
+      copies_are = refl;
+      are = tt;
+    }
 
-pub moves_so : (side : Side) (l : ℕ) (s : Station) (n : BearerEnd) (keys : Keys) → Matches side l s n → Matches side l (begins (after s.end (Move keys))) (pair_begins (restarted (stopped n.bearer) keys))
+pub moves_so : (side : Side) (l : ℕ) (s : Station) (n : BearerEnd) (keys : Keys) → Matches side l s n
+    → Matches side l (begins (after s.end (Move keys))) (pair_begins (restarted (stopped n.bearer) keys))
 moves_so side l s n keys h =
     let e = s.end in
     let bearers = moved_bearers e keys in
     begins_so side l (after e (Move keys)) (restarted (stopped n.bearer) keys) (come_more side e (Move keys) h.come tt)
     (ap (has l) bearers ∙ moved_has l e.bearers keys ∙ h.there)
-    (ap (flow_at l) bearers ∙ moved_flow l e.bearers keys h.there ∙ ap (λ (f : Flow). bearer_goes f (Restart keys)) h.bearer_is ∙ restarts n.bearer keys)
+    (ap (flow_at l) bearers ∙ moved_flow l e.bearers keys h.there
+    ∙ ap (λ (f : Flow). bearer_goes f (Restart keys)) h.bearer_is ∙ restarts n.bearer keys)
 
 -- ---- any steps
 
 pub record WalksOn (l : ℕ) (a : Air) (near far : State) (so_far : List PairStep) (xs : List AirStep) : Type 0 where
   pub living : AreLiving near far (walk l so_far xs a).lives (walk l so_far xs a).steps
-  pub nb_does : steps_through Nb near far (walk l so_far xs a).lives (walk l so_far xs a).steps ≡ as_steps (near_calls (pair_outset near far) so_far) ++ steps_over l (all_calls Nb xs a) a.nb.end
-  pub ue_does : steps_through Ue near far (walk l so_far xs a).lives (walk l so_far xs a).steps ≡ as_steps (far_calls (pair_outset near far) so_far) ++ steps_over l (all_calls Ue xs a) a.ue.end
+  pub nb_does : steps_through Nb near far (walk l so_far xs a).lives (walk l so_far xs a).steps
+      ≡ as_steps (near_calls (pair_outset near far) so_far) ++ steps_over l (all_calls Nb xs a) a.nb.end
+  pub ue_does : steps_through Ue near far (walk l so_far xs a).lives (walk l so_far xs a).steps
+      ≡ as_steps (far_calls (pair_outset near far) so_far) ++ steps_over l (all_calls Ue xs a) a.ue.end
 
 then_does : (side : Side) (l : ℕ) (a : Air) (x : AirStep) (xs : List AirStep) (before between whole : List BearerStep)
     → between ≡ before ++ steps_over l (calls_at side a x) (end_at side a)
@@ -150,7 +199,8 @@ then_does side l a x xs before between whole q r =
     ∙ ap (λ (e : End). before ++ (one ++ steps_over l cs e)) (step_end side a x)
     ∙ ap (λ (ds : List BearerStep). before ++ ds) (sym (steps_more l (calls_at side a x) cs (end_at side a)))
 
-pub walks_on : (l : ℕ) (xs : List AirStep) (a : Air) (near far : State) (so_far : List PairStep) → AreLivingAir l a xs → Stands l a near far so_far → WalksOn l a near far so_far xs
+pub walks_on : (l : ℕ) (xs : List AirStep) (a : Air) (near far : State) (so_far : List PairStep) → AreLivingAir l a xs
+    → Stands l a near far so_far → WalksOn l a near far so_far xs
 walks_on l [] a near far so_far g h = record {
   living = h.living;
   nb_does = sym (append-nil (as_steps (near_calls (pair_outset near far) so_far)));
@@ -175,6 +225,9 @@ walks_on l (Moves keys ∷ xs) a near far so_far g h =
     }) in
     record {
       living = (h.living, rest.living);
-      nb_does = ap (λ (ds : List BearerStep). as_steps (near_calls (pair_outset near far) so_far) ++ Restart keys ∷ ds) rest.nb_does;
-      ue_does = ap (λ (ds : List BearerStep). as_steps (far_calls (pair_outset near far) so_far) ++ Restart keys ∷ ds) rest.ue_does;
+      nb_does =
+          ap (λ (ds : List BearerStep). as_steps (near_calls (pair_outset near far) so_far) ++ Restart keys ∷ ds)
+          rest.nb_does;
+      ue_does = ap (λ (ds : List BearerStep). as_steps (far_calls (pair_outset near far) so_far) ++ Restart keys ∷ ds)
+          rest.ue_does;
     }

@@ -26,20 +26,25 @@ use Rattle.law_pdcp.specs.UmPair.Delivery.{IsWhatCame as IsWhatCameOf}
 use Rattle.law_pdcp.specs.UmPair.Flow.{Flow, run, outset as pdcp_outset}
 use Rattle.law_pdcp.proofs.UmPair.Laws.{what_came}
 use Rattle.law_pdcp.proofs.UmPair.Submitted.{delivers_some}
-use Rattle.law_deliver.specs.UmDelivery.Delivery.{AreBothEnds, AreShort, all_places, IsWhatCame, AreSome, DeliversWhatCame, DeliversInOrder}
-use Rattle.law_deliver.specs.UmDelivery.Lives.{Life, Direction, There, Back, AreLiving, ended, last, all_ups, all_taken, all_submitted}
+use Rattle.law_deliver.specs.UmDelivery.Delivery.{AreBothEnds, AreShort, all_places, IsWhatCame, AreSome}
+use Rattle.law_deliver.specs.UmDelivery.Delivery.{DeliversWhatCame, DeliversInOrder}
+use Rattle.law_deliver.specs.UmDelivery.Lives.{Life, Direction, There, Back, AreLiving, ended, last, all_ups, all_taken}
+use Rattle.law_deliver.specs.UmDelivery.Lives.{all_submitted}
 use Rattle.law_deliver.proofs.UmDelivery.Through.{Begin, JoinsIn, Through, through}
 
 -- ---- both ends as they are configured
 
-first_is : (kind : Kind) (c : BearerConfig) (keys : Keys) (side : Side) (b : State) → kind ≡ kinds.Um → flow_of kind c keys side ≡ Um b → fresh c keys side ≡ b
+first_is : (kind : Kind) (c : BearerConfig) (keys : Keys) (side : Side) (b : State) → kind ≡ kinds.Um
+    → flow_of kind c keys side ≡ Um b → fresh c keys side ≡ b
 first_is kind c keys side b k q =
     let is : Um (fresh c keys side) ≡ Um b = ap (λ x. flow_of x c keys side) (sym k) ∙ q in
     cc
 
-pub first_begins : (c : BearerConfig) (keys : Keys) (side : Side) → Begin c.pdcp_bits c.rlc_bits c.rx.reorder (fresh c keys side)
+pub first_begins : (c : BearerConfig) (keys : Keys) (side : Side)
+    → Begin c.pdcp_bits c.rlc_bits c.rx.reorder (fresh c keys side)
 unfolding fresh
-first_begins c keys side = let h = first_life_begins c keys side in record { begins = h.begins; reorder_is = refl; of_data = h.of_data }
+first_begins c keys side = let h = first_life_begins c keys side in
+    record { begins = h.begins; reorder_is = refl; of_data = h.of_data }
 
 abbrev sender_of : Direction → Side
 sender_of There = Nb
@@ -51,7 +56,8 @@ protection_in c keys d = protection_of (UmKind c.pdcp_bits) keys (bearer_of c.ch
 abbrev first_flow : BearerConfig → Keys → Direction → Flow
 first_flow c keys d = pdcp_outset c.pdcp_bits (protection_in c keys d) c.first
 
-first_joins : (c : BearerConfig) (keys : Keys) (d : Direction) → JoinsIn c.pdcp_bits d (fresh c keys Nb) (fresh c keys Ue) (first_flow c keys d)
+first_joins : (c : BearerConfig) (keys : Keys) (d : Direction)
+    → JoinsIn c.pdcp_bits d (fresh c keys Nb) (fresh c keys Ue) (first_flow c keys d)
 unfolding fresh begun fresh_receiving
 first_joins c keys There = record {
   sender_is = refl;
@@ -80,55 +86,77 @@ rlc_bits_are kind bits k h = subst (λ (x : Kind). AreRlcBits x bits) k h
 pdcp_bits_are : (kind : Kind) (bits : ℕ) → kind ≡ kinds.Um → ArePdcpBits kind bits → IsKind (UmKind bits)
 pdcp_bits_are kind bits k h = subst (λ (x : Kind). ArePdcpBits x bits) k h
 
-from_the_first : (c : BearerConfig) (keys : Keys) (nb ue : State) (ls : List Life) (list : List Step) (d : Direction) → AreBothEnds c keys nb ue
-    → AreLiving nb ue ls list → AreShort c d nb ue ls list → Through c (ended d nb ue ls) (last d nb ue ls list) (first_flow c keys d)
+from_the_first : (c : BearerConfig) (keys : Keys) (nb ue : State) (ls : List Life) (list : List Step) (d : Direction)
+    → AreBothEnds c keys nb ue
+    → AreLiving nb ue ls list → AreShort c d nb ue ls list
+    → Through c (ended d nb ue ls) (last d nb ue ls list) (first_flow c keys d)
 from_the_first c keys nb ue ls list d h living short =
     let near : fresh c keys Nb ≡ nb = first_is c.kind c keys Nb nb h.kind h.nb_is in
     let far : fresh c keys Ue ≡ ue = first_is c.kind c keys Ue ue h.kind h.ue_is in
     through c d ls nb ue list (first_flow c keys d) (rlc_bits_are c.kind c.rlc_bits h.kind h.config.rlc_bits)
     (subst (Begin c.pdcp_bits c.rlc_bits c.rx.reorder) near (first_begins c keys Nb))
     (subst (Begin c.pdcp_bits c.rlc_bits c.rx.reorder) far (first_begins c keys Ue))
-    (subst (λ (x : State). JoinsIn c.pdcp_bits d nb x (first_flow c keys d)) far (subst (λ (x : State). JoinsIn c.pdcp_bits d x (fresh c keys Ue) (first_flow c keys d)) near (first_joins c keys d)))
+    (subst (λ (x : State). JoinsIn c.pdcp_bits d nb x (first_flow c keys d)) far
+    (subst (λ (x : State). JoinsIn c.pdcp_bits d x (fresh c keys Ue) (first_flow c keys d)) near
+    (first_joins c keys d)))
     living short
 
 -- ---- what comes of PDCP's laws
 
-module _ (c : BearerConfig) (keys : Keys) (d : Direction) (vs : List Way) (w : Way) (kind : IsKind (UmKind c.pdcp_bits)) (first : c.first ≤ 2 ^ 32) (t : Through c vs w (first_flow c keys d)) where
+module _ (c : BearerConfig) (keys : Keys) (d : Direction) (vs : List Way) (w : Way)
+    (kind : IsKind (UmKind c.pdcp_bits)) (first : c.first ≤ 2 ^ 32) (t : Through c vs w (first_flow c keys d)) where
   ups_are : t.after.up ++ t.after.receiver.ready ≡ all_ups vs w
   ups_are = ap (λ (l : List (List ℕ)). t.after.up ++ l) t.idle ∙ append-nil t.after.up ∙ t.goes_on.ups_are
 
   came : IsWhatCameOf t.after
-  came = subst IsWhatCameOf t.goes_on.left (what_came c.pdcp_bits (protection_in c keys d) c.first t.goes_on.events kind first t.goes_on.may t.goes_on.short)
+  came =
+      subst IsWhatCameOf t.goes_on.left
+      (what_came c.pdcp_bits (protection_in c keys d) c.first t.goes_on.events kind first t.goes_on.may
+      t.goes_on.short)
 
   what_went_up : IsWhatCame c vs w
   what_went_up = record {
-    order = subst (λ (l : List ℕ). AreBetween 0 l (length (all_taken vs w))) t.goes_on.handed_are (subst (λ (l : List (List ℕ)). AreBetween 0 t.after.handed (length l)) t.goes_on.sdus_are came.order);
-    ups_are = sym ups_are ∙ came.delivered ∙ ap (λ (l : List ℕ). those l t.after.sdus) t.goes_on.handed_are ∙ ap (those (all_places c 0 vs w)) t.goes_on.sdus_are;
+    order = subst (λ (l : List ℕ). AreBetween 0 l (length (all_taken vs w))) t.goes_on.handed_are
+        (subst (λ (l : List (List ℕ)). AreBetween 0 t.after.handed (length l)) t.goes_on.sdus_are came.order);
+    ups_are = sym ups_are ∙ came.delivered ∙ ap (λ (l : List ℕ). those l t.after.sdus) t.goes_on.handed_are
+        ∙ ap (those (all_places c 0 vs w)) t.goes_on.sdus_are;
   }
 
   some_went_up : AreSome vs w
   some_went_up =
-      let some = delivers_some c.pdcp_bits (protection_in c keys d) c.first t.goes_on.events kind first t.goes_on.may t.goes_on.short in
-      let higher : (run t.goes_on.events (first_flow c keys d)).up ++ (run t.goes_on.events (first_flow c keys d)).receiver.ready ≡ all_ups vs w =
+      let some = delivers_some c.pdcp_bits (protection_in c keys d) c.first t.goes_on.events kind first t.goes_on.may
+      t.goes_on.short in
+      let higher : (run t.goes_on.events (first_flow c keys d)).up
+      ++ (run t.goes_on.events (first_flow c keys d)).receiver.ready ≡ all_ups vs w =
       ap (λ (f : Flow). f.up ++ f.receiver.ready) t.goes_on.left ∙ ups_are in
-      let sdus : (run t.goes_on.events (first_flow c keys d)).sdus ≡ all_taken vs w = ap (λ (f : Flow). f.sdus) t.goes_on.left ∙ t.goes_on.sdus_are in
+      let sdus : (run t.goes_on.events (first_flow c keys d)).sdus ≡ all_taken vs w =
+      ap (λ (f : Flow). f.sdus) t.goes_on.left ∙ t.goes_on.sdus_are in
       record {
         taken =
             subst (λ (l : List (List ℕ)). IsSubsequence l (all_taken vs w)) higher
-            (subst (λ (l : List (List ℕ)). IsSubsequence ((run t.goes_on.events (first_flow c keys d)).up ++ (run t.goes_on.events (first_flow c keys d)).receiver.ready) l) sdus some.taken);
+            (subst
+            (λ (l : List (List ℕ)). IsSubsequence
+            ((run t.goes_on.events (first_flow c keys d)).up
+            ++ (run t.goes_on.events (first_flow c keys d)).receiver.ready) l) sdus some.taken);
         submitted =
             subst (λ (l : List (List ℕ)). IsSubsequence l (all_submitted vs w)) higher
-            (subst (λ (l : List (List ℕ)). IsSubsequence ((run t.goes_on.events (first_flow c keys d)).up ++ (run t.goes_on.events (first_flow c keys d)).receiver.ready) l) t.goes_on.submitted_is some.submitted);
+            (subst
+            (λ (l : List (List ℕ)). IsSubsequence
+            ((run t.goes_on.events (first_flow c keys d)).up
+            ++ (run t.goes_on.events (first_flow c keys d)).receiver.ready) l) t.goes_on.submitted_is
+            some.submitted);
       }
 
 -- ---- the laws
 
 pub delivers_what_came : DeliversWhatCame
 delivers_what_came c keys nb ue ls list d h living short =
-    what_went_up c keys d (ended d nb ue ls) (last d nb ue ls list) (pdcp_bits_are c.kind c.pdcp_bits h.kind h.config.pdcp_bits) (omega (arith, h.first))
+    what_went_up c keys d (ended d nb ue ls) (last d nb ue ls list)
+    (pdcp_bits_are c.kind c.pdcp_bits h.kind h.config.pdcp_bits) (omega (arith, h.first))
     (from_the_first c keys nb ue ls list d h living short)
 
 pub delivers_in_order : DeliversInOrder
 delivers_in_order c keys nb ue ls list d h living short =
-    some_went_up c keys d (ended d nb ue ls) (last d nb ue ls list) (pdcp_bits_are c.kind c.pdcp_bits h.kind h.config.pdcp_bits) (omega (arith, h.first))
+    some_went_up c keys d (ended d nb ue ls) (last d nb ue ls list)
+    (pdcp_bits_are c.kind c.pdcp_bits h.kind h.config.pdcp_bits) (omega (arith, h.first))
     (from_the_first c keys nb ue ls list d h living short)

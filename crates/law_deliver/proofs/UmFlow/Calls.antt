@@ -1,13 +1,16 @@
 -- The bearer at each end is what its own calls make of it.
-use Rattle.std.proofs.Common.{◌≡◌, ℕ, List, [], ◌∷◌, ◌++◌, Option, Some, None, slice_get, append_assoc, refl, ap, sym, ◌∙◌}
+use Rattle.std.proofs.Common.{◌≡◌, ℕ, List, [], ◌∷◌, ◌++◌, Option, Some, None, slice_get, append_assoc, refl, ap, sym}
+use Rattle.std.proofs.Common.{◌∙◌}
 use Rattle.bearer.specs.declared.flow.Flow.{Flow}
 use Rattle.bearer.specs.declared.flow.Flow.TheVariants.{Um}
 use Rattle.bearer.specs.Unacknowledged.State.{State}
 use Rattle.law_bearer.specs.AnyBearer.Calls.{Call, after_all, ends}
 use Rattle.law_bearer.specs.AnyBearer.Stream.{takes, pdus_of, stream}
 use Rattle.law_rlc.specs.AmPair.Flow.{Copy}
-use Rattle.law_deliver.specs.UmFlow.Pair.{BearerEnd, Pair, Deed, Calls, Comes, Goes, Step, Near, Far, called, comes, does, happens, goes, outset}
-use Rattle.law_deliver.specs.UmFlow.Calls.{arrives, calls_in, near_calls_in, far_calls_in, near_calls, far_calls, AreTheirCalls}
+use Rattle.law_deliver.specs.UmFlow.Pair.{BearerEnd, Pair, Deed, Calls, Comes, Goes, Step, Near, Far, called, comes}
+use Rattle.law_deliver.specs.UmFlow.Pair.{does, happens, goes, outset}
+use Rattle.law_deliver.specs.UmFlow.Calls.{arrives, calls_in, near_calls_in, far_calls_in, near_calls, far_calls}
+use Rattle.law_deliver.specs.UmFlow.Calls.{AreTheirCalls}
 use Rattle.law_deliver.specs.UmFlow.Handing.{hands, handed, all_called}
 use Rattle.law_deliver.specs.UmFlow.Runs.{sender_steps, all_sender_steps, receiver_calls, all_receiver_calls}
 use Rattle.law_deliver.proofs.UmFlow.Sending.{is_called}
@@ -24,27 +27,36 @@ called_then b (x ∷ xs) ys = called_then (called b x) xs ys
 
 pub handed_then : (b : State) (xs ys : List Call) → handed b (xs ++ ys) ≡ handed b xs ++ handed (all_called b xs) ys
 handed_then b [] ys = refl
-handed_then b (x ∷ xs) ys = ap (λ l. hands b x ++ l) (handed_then (called b x) xs ys) ∙ sym (append_assoc (hands b x) (handed (called b x) xs) (handed (all_called (called b x) xs) ys))
+handed_then b (x ∷ xs) ys = ap (λ l. hands b x ++ l) (handed_then (called b x) xs ys)
+    ∙ sym (append_assoc (hands b x) (handed (called b x) xs) (handed (all_called (called b x) xs) ys))
 
-pub steps_then : (b : State) (xs ys : List Call) → all_sender_steps b (xs ++ ys) ≡ all_sender_steps b xs ++ all_sender_steps (all_called b xs) ys
+pub steps_then : (b : State) (xs ys : List Call)
+    → all_sender_steps b (xs ++ ys) ≡ all_sender_steps b xs ++ all_sender_steps (all_called b xs) ys
 steps_then b [] ys = refl
-steps_then b (x ∷ xs) ys = ap (λ l. sender_steps b x ++ l) (steps_then (called b x) xs ys) ∙ sym (append_assoc (sender_steps b x) (all_sender_steps (called b x) xs) (all_sender_steps (all_called (called b x) xs) ys))
+steps_then b (x ∷ xs) ys = ap (λ l. sender_steps b x ++ l) (steps_then (called b x) xs ys)
+    ∙ sym (append_assoc (sender_steps b x) (all_sender_steps (called b x) xs)
+    (all_sender_steps (all_called (called b x) xs) ys))
 
-pub receives_then : (b : State) (xs ys : List Call) → all_receiver_calls b (xs ++ ys) ≡ all_receiver_calls b xs ++ all_receiver_calls (all_called b xs) ys
+pub receives_then : (b : State) (xs ys : List Call)
+    → all_receiver_calls b (xs ++ ys) ≡ all_receiver_calls b xs ++ all_receiver_calls (all_called b xs) ys
 receives_then b [] ys = refl
 receives_then b (x ∷ xs) ys =
-    ap (λ l. receiver_calls b x ++ l) (receives_then (called b x) xs ys) ∙ sym (append_assoc (receiver_calls b x) (all_receiver_calls (called b x) xs) (all_receiver_calls (all_called (called b x) xs) ys))
+    ap (λ l. receiver_calls b x ++ l) (receives_then (called b x) xs ys)
+    ∙ sym (append_assoc (receiver_calls b x) (all_receiver_calls (called b x) xs)
+    (all_receiver_calls (all_called (called b x) xs) ys))
 
 abbrev pub given_in : State → Call → List (List ℕ)
 given_in b c = pdus_of (ends (Um b)) (takes (Um b) c)
 
-pub stream_then : (b : State) (xs ys : List Call) → stream (Um b) (xs ++ ys) ≡ stream (Um b) xs ++ stream (Um (all_called b xs)) ys
+pub stream_then : (b : State) (xs ys : List Call)
+    → stream (Um b) (xs ++ ys) ≡ stream (Um b) xs ++ stream (Um (all_called b xs)) ys
 stream_then b [] ys = refl
 stream_then b (x ∷ xs) ys =
     ap (λ (f : Flow). given_in b x ++ stream f (xs ++ ys)) (is_called b x)
     ∙ ap (λ l. given_in b x ++ l) (stream_then (called b x) xs ys)
     ∙ sym (append_assoc (given_in b x) (stream (Um (called b x)) xs) (stream (Um (all_called (called b x) xs)) ys))
-    ∙ ap (λ (f : Flow). (given_in b x ++ stream f xs) ++ stream (Um (all_called (called b x) xs)) ys) (sym (is_called b x))
+    ∙ ap (λ (f : Flow). (given_in b x ++ stream f xs) ++ stream (Um (all_called (called b x) xs)) ys)
+    (sym (is_called b x))
 
 -- ---- a deed
 
@@ -79,14 +91,18 @@ far_is (Far d ∷ ss) p =
 
 pub near_then : (xs ys : List Step) (p : Pair) → near_calls p (xs ++ ys) ≡ near_calls p xs ++ near_calls (goes xs p) ys
 near_then [] ys p = refl
-near_then (x ∷ xs) ys p = ap (λ l. near_calls_in p x ++ l) (near_then xs ys (happens p x)) ∙ sym (append_assoc (near_calls_in p x) (near_calls (happens p x) xs) (near_calls (goes (x ∷ xs) p) ys))
+near_then (x ∷ xs) ys p = ap (λ l. near_calls_in p x ++ l) (near_then xs ys (happens p x))
+    ∙ sym (append_assoc (near_calls_in p x) (near_calls (happens p x) xs) (near_calls (goes (x ∷ xs) p) ys))
 
 pub far_then : (xs ys : List Step) (p : Pair) → far_calls p (xs ++ ys) ≡ far_calls p xs ++ far_calls (goes xs p) ys
 far_then [] ys p = refl
-far_then (x ∷ xs) ys p = ap (λ l. far_calls_in p x ++ l) (far_then xs ys (happens p x)) ∙ sym (append_assoc (far_calls_in p x) (far_calls (happens p x) xs) (far_calls (goes (x ∷ xs) p) ys))
+far_then (x ∷ xs) ys p = ap (λ l. far_calls_in p x ++ l) (far_then xs ys (happens p x))
+    ∙ sym (append_assoc (far_calls_in p x) (far_calls (happens p x) xs) (far_calls (goes (x ∷ xs) p) ys))
 
 pub ends_are_their_calls : (near far : State) (steps : List Step) → AreTheirCalls near far (outset near far) steps
 ends_are_their_calls near far steps = record {
-  near_is = all_are_called near (near_calls (outset near far) steps) ∙ ap (λ (b : State). Um b) (near_is steps (outset near far));
-  far_is = all_are_called far (far_calls (outset near far) steps) ∙ ap (λ (b : State). Um b) (far_is steps (outset near far));
+  near_is = all_are_called near (near_calls (outset near far) steps)
+      ∙ ap (λ (b : State). Um b) (near_is steps (outset near far));
+  far_is = all_are_called far (far_calls (outset near far) steps)
+      ∙ ap (λ (b : State). Um b) (far_is steps (outset near far));
 }

@@ -35,7 +35,8 @@ begins_anew : (b : State) (keys : Keys) → BeginsLife b.bits b.reorder (restart
 unfolding restarted stopped
 begins_anew b keys = record { bits_are = refl; sends = refl; receives = refl }
 
-pdcp_anew : (e : Ends) (keys : Keys) → ((restarted_pdcp e keys).kind ≡ e.kind) × ((restarted_pdcp e keys).rx.ready ≡ e.rx.ready)
+pdcp_anew : (e : Ends) (keys : Keys) → ((restarted_pdcp e keys).kind ≡ e.kind)
+    × ((restarted_pdcp e keys).rx.ready ≡ e.rx.ready)
 unfolding restarted_pdcp restarted_receiving
 pdcp_anew e keys = (refl, refl)
 
@@ -45,12 +46,14 @@ data_anew bits b keys h =
     let p = pdcp_anew (stopped b).pdcp keys in
     record { kind = p.0 ∙ ap (λ (e : Ends). e.kind) (rest_ready bits b h) ∙ h.kind; idle = p.1 ∙ still_idle bits b h }
 
-pub next_life_begins : (pdcp_bits : ℕ) (b : State) (cs : List Call) (keys : Keys) → IsOfData pdcp_bits b → BeginsAgain b.bits b.reorder pdcp_bits (restarted (stopped (all_called b cs)) keys)
+pub next_life_begins : (pdcp_bits : ℕ) (b : State) (cs : List Call) (keys : Keys) → IsOfData pdcp_bits b
+    → BeginsAgain b.bits b.reorder pdcp_bits (restarted (stopped (all_called b cs)) keys)
 next_life_begins pdcp_bits b cs keys h =
     let d : State = all_called b cs in
     let set = all_stay_set b cs in
     let next : State = restarted (stopped d) keys in
     record {
-      begins = subst (λ (n : ℕ). BeginsLife n b.reorder next) set.bits_are (subst (λ (n : ℕ). BeginsLife d.bits n next) set.reorder_is (begins_anew d keys));
+      begins = subst (λ (n : ℕ). BeginsLife n b.reorder next) set.bits_are
+          (subst (λ (n : ℕ). BeginsLife d.bits n next) set.reorder_is (begins_anew d keys));
       of_data = data_anew pdcp_bits d keys (hears_what_is_handed pdcp_bits b cs h).stays;
     }

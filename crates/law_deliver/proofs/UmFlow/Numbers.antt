@@ -1,5 +1,6 @@
 -- Lists, and runs one behind the other.
-use Rattle.std.proofs.Common.{◌≡◌, ◌<◌, inl, inr, ℕ, zero, suc, ◌+◌, Bool, true, false, if◌then◌else◌, List, [], ◌∷◌, ◌++◌, length, drop, Some, None, slice_get, refl, arith, nat_lt, ◌==◌}
+use Rattle.std.proofs.Common.{◌≡◌, ◌<◌, inl, inr, ℕ, zero, suc, ◌+◌, Bool, true, false, if◌then◌else◌, List, [], ◌∷◌}
+use Rattle.std.proofs.Common.{◌++◌, length, drop, Some, None, slice_get, refl, arith, nat_lt, ◌==◌}
 use Rattle.std.proofs.lemmas.List.{length-drop}
 use Rattle.std.proofs.lemmas.Bool.Decides.{nat_tests}
 use Rattle.rlc_pdu.specs.Pdus.{UmdPdu}
@@ -37,19 +38,24 @@ pub run_more : (cs ds : List Call) (w : World) → run (cs ++ ds) w ≡ run ds (
 run_more [] ds w = refl
 run_more (c ∷ cs) ds w = run_more cs ds (happens w c)
 
-one_grows : (made more : List UmdPdu) (width : ℕ) (w : World) (pdu : UmdPdu) → IsSent made width w pdu → IsSent (made ++ more) width w pdu
-one_grows made more width w pdu s = record { number = s.number; is = at_left made more s.number pdu s.is; low = s.low; below = s.below }
+one_grows : (made more : List UmdPdu) (width : ℕ) (w : World) (pdu : UmdPdu) → IsSent made width w pdu
+    → IsSent (made ++ more) width w pdu
+one_grows made more width w pdu s =
+    record { number = s.number; is = at_left made more s.number pdu s.is; low = s.low; below = s.below }
 
 -- more PDUs are made
-pub sent_grows : (made more : List UmdPdu) (width : ℕ) (cs : List Call) (w : World) → AreSent made width cs w → AreSent (made ++ more) width cs w
+pub sent_grows : (made more : List UmdPdu) (width : ℕ) (cs : List Call) (w : World) → AreSent made width cs w
+    → AreSent (made ++ more) width cs w
 sent_grows made more width [] w h = tt
-sent_grows made more width (Arrive pdu ∷ cs) w h = (one_grows made more width w pdu h.0, sent_grows made more width cs (happens w (Arrive pdu)) h.1)
+sent_grows made more width (Arrive pdu ∷ cs) w h =
+    (one_grows made more width w pdu h.0, sent_grows made more width cs (happens w (Arrive pdu)) h.1)
 sent_grows made more width (Expire ∷ cs) w h = sent_grows made more width cs (happens w Expire) h
 sent_grows made more width (Tick ∷ cs) w h = sent_grows made more width cs (happens w Tick) h
 sent_grows made more width (Up ∷ cs) w h = sent_grows made more width cs (happens w Up) h
 
 -- more calls come
-pub sent_more : (made : List UmdPdu) (width : ℕ) (cs ds : List Call) (w : World) → AreSent made width cs w → AreSent made width ds (run cs w) → AreSent made width (cs ++ ds) w
+pub sent_more : (made : List UmdPdu) (width : ℕ) (cs ds : List Call) (w : World) → AreSent made width cs w
+    → AreSent made width ds (run cs w) → AreSent made width (cs ++ ds) w
 sent_more made width [] ds w h k = k
 sent_more made width (Arrive pdu ∷ cs) ds w h k = (h.0, sent_more made width cs ds (happens w (Arrive pdu)) h.1 k)
 sent_more made width (Expire ∷ cs) ds w h k = sent_more made width cs ds (happens w Expire) h k
@@ -62,23 +68,27 @@ pub octets_push : (sdus : List (List ℕ)) (x : List ℕ) → 0 < length x → H
 octets_push [] x some h = (some, tt)
 octets_push (y ∷ ys) x some h = (h.0, octets_push ys x some h.1)
 
-behind_by : (b : Bool) (n : ℕ) (x : List ℕ) (xs : List (List ℕ)) → nat_lt n (length x) ≡ b → HaveOctets xs → HaveOctets (if b then drop n x ∷ xs else xs)
+behind_by : (b : Bool) (n : ℕ) (x : List ℕ) (xs : List (List ℕ)) → nat_lt n (length x) ≡ b → HaveOctets xs
+    → HaveOctets (if b then drop n x ∷ xs else xs)
 behind_by true n x xs e h =
     let l = length-drop n x in
     let more : n < length x = grind (arith, nat_tests, e) in
     (omega arith, h)
 behind_by false n x xs e h = h
 
-rest_by : (z f : Bool) (n : ℕ) (x : List ℕ) (xs rs : List (List ℕ)) → HaveOctets (x ∷ xs) → HaveOctets rs → HaveOctets (if z then x ∷ xs else if f then rs else behind n (x ∷ xs))
+rest_by : (z f : Bool) (n : ℕ) (x : List ℕ) (xs rs : List (List ℕ)) → HaveOctets (x ∷ xs) → HaveOctets rs
+    → HaveOctets (if z then x ∷ xs else if f then rs else behind n (x ∷ xs))
 rest_by true f n x xs rs h k = h
 rest_by false true n x xs rs h k = k
 rest_by false false n x xs rs h k = behind_by (nat_lt n (length x)) n x xs refl h.1
 
-pub octets_left : (head size count used : ℕ) (sdus : List (List ℕ)) → HaveOctets sdus → HaveOctets (rest head size count used sdus)
+pub octets_left : (head size count used : ℕ) (sdus : List (List ℕ)) → HaveOctets sdus
+    → HaveOctets (rest head size count used sdus)
 octets_left head size count used [] h = tt
 octets_left head size count used (x ∷ xs) h =
     let n = room head size count used in
-    rest_by (n == 0) (may_follow n x) n x xs (rest head size (count + 1) (used + length x) xs) h (octets_left head size (count + 1) (used + length x) xs h.1)
+    rest_by (n == 0) (may_follow n x) n x xs (rest head size (count + 1) (used + length x) xs) h
+    (octets_left head size (count + 1) (used + length x) xs h.1)
 
 -- ---- items left out
 

@@ -1,5 +1,6 @@
 -- What happens at an end is, to the run of RLC's sender there, offers and a take.
-use Rattle.std.proofs.Common.{◌≡◌, ℕ, Bool, true, false, List, [], ◌∷◌, ◌++◌, map, Option, Result, Ok, Err, append_assoc, append-nil, refl, sym, subst}
+use Rattle.std.proofs.Common.{◌≡◌, ℕ, Bool, true, false, List, [], ◌∷◌, ◌++◌, map, Option, Result, Ok, Err}
+use Rattle.std.proofs.Common.{append_assoc, append-nil, refl, sym, subst}
 use Rattle.std.specs.List.{AllByRecursion}
 use Rattle.l2_num.specs.Timers.{ends as ends_now}
 use Rattle.l2_types.specs.declared.Clock.{Clock}
@@ -14,7 +15,8 @@ use Rattle.rlc_um.specs.Sender.{Sender, taken as rlc_taken, after_take, offered}
 use Rattle.rlc_um.specs.Receiver.{State as Receiver, expiring}
 use Rattle.bearer.specs.Unacknowledged.State.{State}
 use Rattle.bearer.specs.Unacknowledged.Taking.{feeding, size_in, answer, after_taking}
-use Rattle.bearer.specs.Unacknowledged.Hearing.{arrived_left, after_arrival, expiry_left, clock_left, after_expiry, counted_down, timed_left, after_ticking}
+use Rattle.bearer.specs.Unacknowledged.Hearing.{arrived_left, after_arrival, expiry_left, clock_left, after_expiry}
+use Rattle.bearer.specs.Unacknowledged.Hearing.{counted_down, timed_left, after_ticking}
 use Rattle.bearer.specs.declared.flow.Flow.TheVariants.{Um}
 use Rattle.bearer.specs.Submitting.{submitted}
 use Rattle.bearer.specs.Taking.{after as taken_from}
@@ -81,7 +83,8 @@ called_alike b (Submit sdu) n = record { tx_is = refl; bits_are = refl; reorder_
 called_alike b (Take share held) n = absurd n
 called_alike b (Arrive pdu) n = arrived_alike (umd_at b.bits pdu) b
 called_alike b (Expire clock) n = clock_alike clock b
-called_alike b Tick n = let t = timed_alike (ends_now b.rx.clock) (counted_down b) in record { tx_is = t.tx_is; bits_are = t.bits_are; reorder_is = t.reorder_is }
+called_alike b Tick n = let t = timed_alike (ends_now b.rx.clock) (counted_down b) in
+    record { tx_is = t.tx_is; bits_are = t.bits_are; reorder_is = t.reorder_is }
 called_alike b (SetDiscard ttis) n = record { tx_is = refl; bits_are = refl; reorder_is = refl }
 
 -- how it is set
@@ -108,56 +111,84 @@ stays_set b (SetDiscard ttis) = set_by b (called b (SetDiscard ttis)) (called_al
 
 module _ (bits reorder : ℕ) (calls : List ReceiverCall) (rx : Receiver) (heard : List (List ℕ)) where
   offers_all : (pdus : List (List ℕ)) (steps : List SenderStep) (tx : Sender) (cs : List Copy) (given : List (List ℕ))
-      → AllByRecursion HasOctet pdus → Stands bits reorder steps calls tx rx cs given heard → Stands bits reorder (steps ++ map (λ pdu. Offer pdu) pdus) calls (um_offered pdus tx) rx cs (given ++ pdus) heard
+      → AllByRecursion HasOctet pdus → Stands bits reorder steps calls tx rx cs given heard
+      → Stands bits reorder (steps ++ map (λ pdu. Offer pdu) pdus) calls (um_offered pdus tx) rx cs (given ++ pdus)
+      heard
   offers_all [] steps tx cs given some h =
       subst (λ (l : List (List ℕ)). Stands bits reorder (steps ++ []) calls tx rx cs l heard) (sym (append-nil given))
       (subst (λ (l : List SenderStep). Stands bits reorder l calls tx rx cs given heard) (sym (append-nil steps)) h)
   offers_all (pdu ∷ pdus) steps tx cs given some h =
       let offers : List SenderStep = map (λ pdu. Offer pdu) pdus in
-      subst (λ (l : List (List ℕ)). Stands bits reorder (steps ++ Offer pdu ∷ offers) calls (um_offered pdus (offered pdu tx)) rx cs l heard) (append_assoc given (pdu ∷ []) pdus)
-      (subst (λ (l : List SenderStep). Stands bits reorder l calls (um_offered pdus (offered pdu tx)) rx cs ((given ++ pdu ∷ []) ++ pdus) heard) (append_assoc steps (Offer pdu ∷ []) offers)
-      (offers_all pdus (steps ++ Offer pdu ∷ []) (offered pdu tx) cs (given ++ pdu ∷ []) some.1 (offers_one bits reorder steps calls tx rx cs given heard pdu some.0 h)))
+      subst (λ (l : List (List ℕ)). Stands bits reorder (steps ++ Offer pdu ∷ offers) calls
+      (um_offered pdus (offered pdu tx)) rx cs l heard) (append_assoc given (pdu ∷ []) pdus)
+      (subst (λ (l : List SenderStep). Stands bits reorder l calls (um_offered pdus (offered pdu tx)) rx cs
+      ((given ++ pdu ∷ []) ++ pdus) heard) (append_assoc steps (Offer pdu ∷ []) offers)
+      (offers_all pdus (steps ++ Offer pdu ∷ []) (offered pdu tx) cs (given ++ pdu ∷ []) some.1
+      (offers_one bits reorder steps calls tx rx cs given heard pdu some.0 h)))
 
-  take_tx : (b : State) (share : ℕ) (held : Option ℕ) → (called b (Take share held)).tx ≡ after_take (feeding b share held).tx (size_in share) held
+  take_tx : (b : State) (share : ℕ) (held : Option ℕ)
+      → (called b (Take share held)).tx ≡ after_take (feeding b share held).tx (size_in share) held
   unfolding taken_from after_taking
   take_tx b share held = refl
 
-  take_answers : (b : State) (share : ℕ) (held : Option ℕ) → answer b share held ≡ rlc_taken (feeding b share held).tx (size_in share) held
+  take_answers : (b : State) (share : ℕ) (held : Option ℕ)
+      → answer b share held ≡ rlc_taken (feeding b share held).tx (size_in share) held
   unfolding answer
   take_answers b share held = refl
 
-  takes_all : (e : BearerEnd) (share : ℕ) (held : Option ℕ) (steps : List SenderStep) (given : List (List ℕ)) → IsUmBits bits → IsTaking e share held → Stands bits reorder steps calls e.bearer.tx rx e.copies given heard
-      → Stands bits reorder (steps ++ sender_steps e.bearer (Take share held)) calls (called e.bearer (Take share held)).tx rx (copies_with (answer e.bearer share held) e.copies)
+  takes_all : (e : BearerEnd) (share : ℕ) (held : Option ℕ) (steps : List SenderStep) (given : List (List ℕ))
+      → IsUmBits bits → IsTaking e share held → Stands bits reorder steps calls e.bearer.tx rx e.copies given heard
+      → Stands bits reorder (steps ++ sender_steps e.bearer (Take share held)) calls
+      (called e.bearer (Take share held)).tx rx (copies_with (answer e.bearer share held) e.copies)
       (given ++ map (pdu_of e.bearer.pdcp.tx) (takes (Um e.bearer) (Take share held))) heard
   takes_all e share held steps given u t h =
       let b = e.bearer in
       let pdus : List (List ℕ) = map (pdu_of b.pdcp.tx) (takes (Um b) (Take share held)) in
       let offers : List SenderStep = map (λ pdu. Offer pdu) pdus in
       let last : List SenderStep = Takes (size_in share) held ∷ [] in
-      let fed : Stands bits reorder (steps ++ offers) calls (feeding b share held).tx rx e.copies (given ++ pdus) heard =
-      subst (λ (tx : Sender). Stands bits reorder (steps ++ offers) calls tx rx e.copies (given ++ pdus) heard) (sym (is_offered (Um b) share held)) (offers_all pdus steps b.tx e.copies given t.some h) in
-      subst (λ (l : List SenderStep). Stands bits reorder l calls (called b (Take share held)).tx rx (copies_with (answer b share held) e.copies) (given ++ pdus) heard) (append_assoc steps offers last)
-      (subst (λ (tx : Sender). Stands bits reorder ((steps ++ offers) ++ last) calls tx rx (copies_with (answer b share held) e.copies) (given ++ pdus) heard) (sym (take_tx b share held))
-      (subst (λ (a : Taken). Stands bits reorder ((steps ++ offers) ++ last) calls (after_take (feeding b share held).tx (size_in share) held) rx (copies_with a e.copies) (given ++ pdus) heard) (sym (take_answers b share held))
-      (takes_one bits reorder (steps ++ offers) calls (feeding b share held).tx rx e.copies (given ++ pdus) heard (size_in share) held u t.lowest fed)))
+      let fed : Stands bits reorder (steps ++ offers) calls (feeding b share held).tx rx e.copies (given ++ pdus)
+      heard =
+      subst (λ (tx : Sender). Stands bits reorder (steps ++ offers) calls tx rx e.copies (given ++ pdus) heard)
+      (sym (is_offered (Um b) share held)) (offers_all pdus steps b.tx e.copies given t.some h) in
+      subst (λ (l : List SenderStep). Stands bits reorder l calls (called b (Take share held)).tx rx
+      (copies_with (answer b share held) e.copies) (given ++ pdus) heard) (append_assoc steps offers last)
+      (subst (λ (tx : Sender). Stands bits reorder ((steps ++ offers) ++ last) calls tx rx
+      (copies_with (answer b share held) e.copies) (given ++ pdus) heard) (sym (take_tx b share held))
+      (subst (λ (a : Taken). Stands bits reorder ((steps ++ offers) ++ last) calls
+      (after_take (feeding b share held).tx (size_in share) held) rx (copies_with a e.copies) (given ++ pdus)
+      heard) (sym (take_answers b share held))
+      (takes_one bits reorder (steps ++ offers) calls (feeding b share held).tx rx e.copies (given ++ pdus) heard
+      (size_in share) held u t.lowest fed)))
 
   -- ---- any call
 
-  pub sends_none : (b d : State) (steps : List SenderStep) (cs : List Copy) (given : List (List ℕ)) → d.tx ≡ b.tx → Stands bits reorder steps calls b.tx rx cs given heard
+  pub sends_none : (b d : State) (steps : List SenderStep) (cs : List Copy) (given : List (List ℕ)) → d.tx ≡ b.tx
+      → Stands bits reorder steps calls b.tx rx cs given heard
       → Stands bits reorder (steps ++ []) calls d.tx rx cs (given ++ []) heard
   sends_none b d steps cs given q h =
       subst (λ (tx : Sender). Stands bits reorder (steps ++ []) calls tx rx cs (given ++ []) heard) (sym q)
-      (subst (λ (l : List (List ℕ)). Stands bits reorder (steps ++ []) calls b.tx rx cs l heard) (sym (append-nil given))
+      (subst (λ (l : List (List ℕ)). Stands bits reorder (steps ++ []) calls b.tx rx cs l heard)
+      (sym (append-nil given))
       (subst (λ (l : List SenderStep). Stands bits reorder l calls b.tx rx cs given heard) (sym (append-nil steps)) h))
 
-  pub calls_send : (e : BearerEnd) (c : Call) (steps : List SenderStep) (given : List (List ℕ)) → IsUmBits bits → IsCalling e c → Stands bits reorder steps calls e.bearer.tx rx e.copies given heard
-      → Stands bits reorder (steps ++ sender_steps e.bearer c) calls (called e.bearer c).tx rx (copies_with (written_by e.bearer c) e.copies) (given ++ pdus_of (ends (Um e.bearer)) (takes (Um e.bearer) c)) heard
-  calls_send e (Submit sdu) steps given u g h = sends_none e.bearer (called e.bearer (Submit sdu)) steps e.copies given (called_alike e.bearer (Submit sdu) tt).tx_is h
+  pub calls_send : (e : BearerEnd) (c : Call) (steps : List SenderStep) (given : List (List ℕ)) → IsUmBits bits
+      → IsCalling e c → Stands bits reorder steps calls e.bearer.tx rx e.copies given heard
+      → Stands bits reorder (steps ++ sender_steps e.bearer c) calls (called e.bearer c).tx rx
+      (copies_with (written_by e.bearer c) e.copies) (given ++ pdus_of (ends (Um e.bearer)) (takes (Um e.bearer) c))
+      heard
+  calls_send e (Submit sdu) steps given u g h =
+      sends_none e.bearer (called e.bearer (Submit sdu)) steps e.copies given
+      (called_alike e.bearer (Submit sdu) tt).tx_is h
   calls_send e (Take share held) steps given u g h = takes_all e share held steps given u g h
   calls_send e (Arrive pdu) steps given u g h = absurd g
-  calls_send e (Expire clock) steps given u g h = sends_none e.bearer (called e.bearer (Expire clock)) steps e.copies given (called_alike e.bearer (Expire clock) tt).tx_is h
-  calls_send e Tick steps given u g h = sends_none e.bearer (called e.bearer Tick) steps e.copies given (called_alike e.bearer Tick tt).tx_is h
-  calls_send e (SetDiscard ttis) steps given u g h = sends_none e.bearer (called e.bearer (SetDiscard ttis)) steps e.copies given (called_alike e.bearer (SetDiscard ttis) tt).tx_is h
+  calls_send e (Expire clock) steps given u g h =
+      sends_none e.bearer (called e.bearer (Expire clock)) steps e.copies given
+      (called_alike e.bearer (Expire clock) tt).tx_is h
+  calls_send e Tick steps given u g h =
+      sends_none e.bearer (called e.bearer Tick) steps e.copies given (called_alike e.bearer Tick tt).tx_is h
+  calls_send e (SetDiscard ttis) steps given u g h =
+      sends_none e.bearer (called e.bearer (SetDiscard ttis)) steps e.copies given
+      (called_alike e.bearer (SetDiscard ttis) tt).tx_is h
 
 pub arrival_sends : (b : State) (pdu : List ℕ) → (called b (Arrive pdu)).tx ≡ b.tx
 arrival_sends b pdu = (called_alike b (Arrive pdu) tt).tx_is

@@ -1,5 +1,7 @@
 -- A run of RLC's sender and one of RLC's receiver that have come to what stands at both ends, and what leads them on.
-use Rattle.std.proofs.Common.{◌≡◌, ◌<◌, ◌≤◌, inl, inr, ℕ, zero, suc, ◌+◌, ◌*◌, ◌^◌, Bool, true, false, not, if◌then◌else◌, List, [], ◌∷◌, ◌++◌, length, take, drop, max, Option, Some, None, Ok, slice_get, append_assoc, append-nil, nat_lt, ◌==◌, refl, ap, sym, subst, ◌∙◌, arith}
+use Rattle.std.proofs.Common.{◌≡◌, ◌<◌, ◌≤◌, inl, inr, ℕ, zero, suc, ◌+◌, ◌*◌, ◌^◌, Bool, true, false, not}
+use Rattle.std.proofs.Common.{if◌then◌else◌, List, [], ◌∷◌, ◌++◌, length, take, drop, max, Option, Some, None, Ok}
+use Rattle.std.proofs.Common.{slice_get, append_assoc, append-nil, nat_lt, ◌==◌, refl, ap, sym, subst, ◌∙◌, arith}
 use Rattle.std.proofs.lemmas.Bool.Decides.{nat_tests}
 use Rattle.std.proofs.Math.Nat.{mod-lt}
 use Rattle.std.specs.List.{AllByRecursion}
@@ -13,10 +15,13 @@ use Rattle.rlc_pdu.proofs.Again.{umd_again}
 use Rattle.rlc_queue.specs.NewPdu.{framing}
 use Rattle.rlc_queue.specs.Waiting.{HaveOctets}
 use Rattle.rlc_queue.proofs.Lens.{written}
-use Rattle.rlc_um.specs.Sender.{Sender, Turn, Gives, IsIdle, IsHeld as TurnsHeld, IsSmall, width_of, head_of, is_held, ends_partly, turn, pdu_of, sent, answer, after_turn, taken, after_take, offered, idle_sender}
+use Rattle.rlc_um.specs.Sender.{Sender, Turn, Gives, IsIdle, IsHeld as TurnsHeld, IsSmall, width_of, head_of, is_held}
+use Rattle.rlc_um.specs.Sender.{ends_partly, turn, pdu_of, sent, answer, after_turn, taken, after_take, offered}
+use Rattle.rlc_um.specs.Sender.{idle_sender}
 use Rattle.rlc_um.specs.Joined.{Parts, parts_of}
 use Rattle.rlc_um.specs.Window.{top_of, number_of}
-use Rattle.rlc_um.specs.Receiver.{State as Receiver, start, landed, arrival, after_landing, after_expiry, expired, counted, handed}
+use Rattle.rlc_um.specs.Receiver.{State as Receiver, start, landed, arrival, after_landing, after_expiry, expired}
+use Rattle.rlc_um.specs.Receiver.{counted, handed}
 use Rattle.bearer.specs.Unacknowledged.Hearing.{all_handed}
 use Rattle.law_rlc.specs.AmPair.Flow.{Copy, copies_with, except}
 use Rattle.law_rlc.specs.AmPair.Given.{IsHeld}
@@ -26,7 +31,8 @@ use Rattle.law_rlc.specs.UmPair.Air.{IsSent, AreSent, IsReadTruly}
 use Rattle.law_rlc.proofs.UmPair.Air.{read_truly}
 use Rattle.law_rlc.proofs.UmPair.Edge.{edge}
 use Rattle.law_deliver.specs.UmFlow.Runs.{ups}
-use Rattle.law_deliver.proofs.UmFlow.Numbers.{at_left, at_last, is_below, flow_more, run_more, sent_grows, sent_more, octets_push, octets_left}
+use Rattle.law_deliver.proofs.UmFlow.Numbers.{at_left, at_last, is_below, flow_more, run_more, sent_grows, sent_more}
+use Rattle.law_deliver.proofs.UmFlow.Numbers.{octets_push, octets_left}
 
 -- a PDU under way is that of its number, is read as that, and has no number below the next less a window
 pub record IsCopyOf (bits : ℕ) (made : List UmdPdu) (c : Copy) : Type 0 where
@@ -35,7 +41,8 @@ pub record IsCopyOf (bits : ℕ) (made : List UmdPdu) (c : Copy) : Type 0 where
   pub read : umd_at bits c.octets ≡ Ok pdu
   pub recent : length made ≤ c.number + width_of bits
 
-pub record Stands (bits reorder : ℕ) (steps : List Step) (calls : List Call) (tx : Sender) (rx : Receiver) (copies : List Copy) (given heard : List (List ℕ)) : Type 0 where
+pub record Stands (bits reorder : ℕ) (steps : List Step) (calls : List Call) (tx : Sender) (rx : Receiver)
+    (copies : List Copy) (given heard : List (List ℕ)) : Type 0 where
   pub f : Flow
   pub w : World
   pub f_is : flow steps (at_first bits) ≡ f
@@ -75,8 +82,10 @@ begun bits reorder = record {
 
 -- ---- an SDU is offered
 
-pub offers_one : (bits reorder : ℕ) (steps : List Step) (calls : List Call) (tx : Sender) (rx : Receiver) (cs : List Copy) (given heard : List (List ℕ)) (sdu : List ℕ)
-    → 0 < length sdu → Stands bits reorder steps calls tx rx cs given heard → Stands bits reorder (steps ++ Offer sdu ∷ []) calls (offered sdu tx) rx cs (given ++ sdu ∷ []) heard
+pub offers_one : (bits reorder : ℕ) (steps : List Step) (calls : List Call) (tx : Sender) (rx : Receiver)
+    (cs : List Copy) (given heard : List (List ℕ)) (sdu : List ℕ)
+    → 0 < length sdu → Stands bits reorder steps calls tx rx cs given heard
+    → Stands bits reorder (steps ++ Offer sdu ∷ []) calls (offered sdu tx) rx cs (given ++ sdu ∷ []) heard
 offers_one bits reorder steps calls tx rx cs given heard sdu octet h = record {
   f = goes h.f (Offer sdu);
   w = h.w;
@@ -102,7 +111,8 @@ pub record Given (tx : Sender) (size : ℕ) (held : Option ℕ) : Type 0 where
   pub free : is_held held tx ≡ false
   pub room' : head_of tx.bits < size
 
-given_by : (a b c : Bool) → (if a then IsIdle else if b then TurnsHeld else if c then IsSmall else Gives) ≡ Gives → (a ≡ false) × (b ≡ false) × (c ≡ false)
+given_by : (a b c : Bool) → (if a then IsIdle else if b then TurnsHeld else if c then IsSmall else Gives) ≡ Gives
+    → (a ≡ false) × (b ≡ false) × (c ≡ false)
 given_by true b c e = absurd cc
 given_by false true c e = absurd cc
 given_by false false true e = absurd cc
@@ -123,7 +133,8 @@ positive : (bits : ℕ) → IsUmBits bits → 0 < 2 ^ bits
 positive bits (inl e) = subst (λ (b : ℕ). 0 < 2 ^ b) (sym e) (omega arith)
 positive bits (inr e) = subst (λ (b : ℕ). 0 < 2 ^ b) (sym e) (omega arith)
 
-pub in_range : (tx : Sender) (size : ℕ) (held : Option ℕ) → IsUmBits tx.bits → HaveOctets tx.waiting.sdus → Given tx size held → IsUmdInRange tx.bits (pdu_of tx size)
+pub in_range : (tx : Sender) (size : ℕ) (held : Option ℕ) → IsUmBits tx.bits → HaveOctets tx.waiting.sdus
+    → Given tx size held → IsUmdInRange tx.bits (pdu_of tx size)
 in_range tx size held u some g = record {
   number = mod-lt tx.next (positive tx.bits u);
   framing = framed (not tx.waiting.begun) (not (ends_partly tx size));
@@ -131,21 +142,32 @@ in_range tx size held u some g = record {
 }
 
 -- no PDU under way lies a window below the next number
-still_recent : (tx : Sender) (held : Option ℕ) (n : ℕ) (c : Copy) → is_held held tx ≡ false → IsHeld held c → tx.next ≡ n → n + 1 ≤ c.number + width_of tx.bits
+still_recent : (tx : Sender) (held : Option ℕ) (n : ℕ) (c : Copy) → is_held held tx ≡ false → IsHeld held c
+    → tx.next ≡ n → n + 1 ≤ c.number + width_of tx.bits
 still_recent tx None n c free low e = absurd low
-still_recent tx (Some number) n c free low e = let above : tx.next < number + width_of tx.bits = grind (arith, nat_tests, free) in omega arith
+still_recent tx (Some number) n c free low e = let above : tx.next < number + width_of tx.bits =
+    grind (arith, nat_tests, free) in omega arith
 
 grows_by_one : (made : List UmdPdu) (p : UmdPdu) → length (made ++ p ∷ []) ≡ length made + 1
 grows_by_one [] p = refl
 grows_by_one (x ∷ made) p = let ih = grows_by_one made p in omega arith
 
-copies_grow : (bits : ℕ) (tx : Sender) (held : Option ℕ) (made : List UmdPdu) (p : UmdPdu) (cs : List Copy) → tx.bits ≡ bits → is_held held tx ≡ false → tx.next ≡ length made
-    → AllByRecursion (IsHeld held) cs → AllByRecursion (IsCopyOf bits made) cs → AllByRecursion (IsCopyOf bits (made ++ p ∷ [])) cs
+copies_grow : (bits : ℕ) (tx : Sender) (held : Option ℕ) (made : List UmdPdu) (p : UmdPdu) (cs : List Copy)
+    → tx.bits ≡ bits → is_held held tx ≡ false → tx.next ≡ length made
+    → AllByRecursion (IsHeld held) cs → AllByRecursion (IsCopyOf bits made) cs
+    → AllByRecursion (IsCopyOf bits (made ++ p ∷ [])) cs
 copies_grow bits tx held made p [] b free e low h = tt
 copies_grow bits tx held made p (c ∷ cs) b free e low h =
-    let still : length made + 1 ≤ c.number + width_of bits = subst (λ (n : ℕ). length made + 1 ≤ c.number + width_of n) b (still_recent tx held (length made) c free low.0 e) in
+    let still : length made + 1 ≤ c.number + width_of bits =
+    subst (λ (n : ℕ). length made + 1 ≤ c.number + width_of n) b
+    (still_recent tx held (length made) c free low.0 e) in
     let more = grows_by_one made p in (
-      record { pdu = h.0.pdu; is = at_left made (p ∷ []) c.number h.0.pdu h.0.is; read = h.0.read; recent = omega (arith, still, more) },
+      record {
+        pdu = h.0.pdu;
+        is = at_left made (p ∷ []) c.number h.0.pdu h.0.is;
+        read = h.0.read;
+        recent = omega (arith, still, more);
+      },
       copies_grow bits tx held made p cs b free e low.1 h.1,
     )
 
@@ -153,8 +175,10 @@ some_numbers : (bits : ℕ) → IsUmBits bits → 0 < width_of bits
 some_numbers bits (inl e) = subst (λ (b : ℕ). 0 < width_of b) (sym e) (omega arith)
 some_numbers bits (inr e) = subst (λ (b : ℕ). 0 < width_of b) (sym e) (omega arith)
 
-new_copy : (bits : ℕ) (tx : Sender) (size : ℕ) (held : Option ℕ) (made : List UmdPdu) → IsUmBits bits → tx.bits ≡ bits → HaveOctets tx.waiting.sdus → Given tx size held → tx.next ≡ length made
-    → IsCopyOf bits (made ++ pdu_of tx size ∷ []) (record { number = tx.next; octets = umd_canonical tx.bits (pdu_of tx size) })
+new_copy : (bits : ℕ) (tx : Sender) (size : ℕ) (held : Option ℕ) (made : List UmdPdu) → IsUmBits bits → tx.bits ≡ bits
+    → HaveOctets tx.waiting.sdus → Given tx size held → tx.next ≡ length made
+    → IsCopyOf bits (made ++ pdu_of tx size ∷ [])
+    (record { number = tx.next; octets = umd_canonical tx.bits (pdu_of tx size) })
 new_copy bits tx size held made u b some g e =
     let p = pdu_of tx size in
     let v : IsUmBits tx.bits = subst IsUmBits (sym b) u in
@@ -163,7 +187,8 @@ new_copy bits tx size held made u b some g e =
     record {
       pdu = p;
       is = subst (λ (n : ℕ). slice_get (made ++ p ∷ []) n ≡ Some p) (sym e) (at_last made p);
-      read = subst (λ (n : ℕ). umd_at n (umd_canonical tx.bits p) ≡ Ok p) b (umd_again tx.bits p v (in_range tx size held v some g)).read;
+      read = subst (λ (n : ℕ). umd_at n (umd_canonical tx.bits p) ≡ Ok p) b
+          (umd_again tx.bits p v (in_range tx size held v some g)).read;
       recent = omega (arith, wide, more, e);
     }
 
@@ -171,20 +196,27 @@ new_copy bits tx size held made u b some g e =
 abbrev pub taken_by : Turn → Flow → Sender → ℕ → Flow
 taken_by t f tx size = record f { sender = after_turn t tx size; made = f.made ++ made_by t tx size }
 
-pub goes_take : (f : Flow) (tx : Sender) (size : ℕ) (held : Option ℕ) (t : Turn) → f.sender ≡ tx → turn tx size held ≡ t → goes f (Take size held) ≡ taken_by t f tx size
+pub goes_take : (f : Flow) (tx : Sender) (size : ℕ) (held : Option ℕ) (t : Turn) → f.sender ≡ tx
+    → turn tx size held ≡ t → goes f (Take size held) ≡ taken_by t f tx size
 unfolding after_take
 goes_take f tx size held t e q =
-    ap (λ (s : Sender). record f { sender = after_turn (turn s size held) s size; made = f.made ++ made_by (turn s size held) s size }) e
+    ap (λ (s : Sender). record f {
+      sender = after_turn (turn s size held) s size;
+      made = f.made ++ made_by (turn s size held) s size;
+    }) e
     ∙ ap (λ (x : Turn). taken_by x f tx size) q
 
-takes_none : (t : Turn) (bits reorder : ℕ) (steps : List Step) (calls : List Call) (tx : Sender) (rx : Receiver) (cs : List Copy) (given heard : List (List ℕ)) (size : ℕ) (held : Option ℕ)
-    → turn tx size held ≡ t → (h : Stands bits reorder steps calls tx rx cs given heard) → taken_by t h.f tx size ≡ record h.f { sender = tx; made = h.f.made ++ [] }
+takes_none : (t : Turn) (bits reorder : ℕ) (steps : List Step) (calls : List Call) (tx : Sender) (rx : Receiver)
+    (cs : List Copy) (given heard : List (List ℕ)) (size : ℕ) (held : Option ℕ)
+    → turn tx size held ≡ t → (h : Stands bits reorder steps calls tx rx cs given heard)
+    → taken_by t h.f tx size ≡ record h.f { sender = tx; made = h.f.made ++ [] }
     → Stands bits reorder (steps ++ Take size held ∷ []) calls tx rx cs given heard
 takes_none t bits reorder steps calls tx rx cs given heard size held q h none = record {
   f = record h.f { sender = tx };
   w = h.w;
   f_is =
-      flow_more steps (Take size held ∷ []) (at_first bits) ∙ ap (λ (x : Flow). goes x (Take size held)) h.f_is ∙ goes_take h.f tx size held t h.sender_is q ∙ none
+      flow_more steps (Take size held ∷ []) (at_first bits) ∙ ap (λ (x : Flow). goes x (Take size held)) h.f_is
+      ∙ goes_take h.f tx size held t h.sender_is q ∙ none
       ∙ ap (λ (l : List UmdPdu). record h.f { sender = tx; made = l }) (append-nil h.f.made);
   w_is = h.w_is;
   sent' = h.sent';
@@ -200,12 +232,18 @@ takes_none t bits reorder steps calls tx rx cs given heard size held q h none = 
   copies_are = h.copies_are;
 }
 
-taken_turn : (t : Turn) (bits reorder : ℕ) (steps : List Step) (calls : List Call) (tx : Sender) (rx : Receiver) (cs : List Copy) (given heard : List (List ℕ)) (size : ℕ) (held : Option ℕ)
-    → turn tx size held ≡ t → IsUmBits bits → AllByRecursion (IsHeld held) cs → Stands bits reorder steps calls tx rx cs given heard
-    → Stands bits reorder (steps ++ Take size held ∷ []) calls (after_turn t tx size) rx (copies_with (answer t tx size) cs) given heard
-taken_turn IsIdle bits reorder steps calls tx rx cs given heard size held q u low h = takes_none IsIdle bits reorder steps calls tx rx cs given heard size held q h refl
-taken_turn TurnsHeld bits reorder steps calls tx rx cs given heard size held q u low h = takes_none TurnsHeld bits reorder steps calls tx rx cs given heard size held q h refl
-taken_turn IsSmall bits reorder steps calls tx rx cs given heard size held q u low h = takes_none IsSmall bits reorder steps calls tx rx cs given heard size held q h refl
+taken_turn : (t : Turn) (bits reorder : ℕ) (steps : List Step) (calls : List Call) (tx : Sender) (rx : Receiver)
+    (cs : List Copy) (given heard : List (List ℕ)) (size : ℕ) (held : Option ℕ)
+    → turn tx size held ≡ t → IsUmBits bits → AllByRecursion (IsHeld held) cs
+    → Stands bits reorder steps calls tx rx cs given heard
+    → Stands bits reorder (steps ++ Take size held ∷ []) calls (after_turn t tx size) rx
+    (copies_with (answer t tx size) cs) given heard
+taken_turn IsIdle bits reorder steps calls tx rx cs given heard size held q u low h =
+    takes_none IsIdle bits reorder steps calls tx rx cs given heard size held q h refl
+taken_turn TurnsHeld bits reorder steps calls tx rx cs given heard size held q u low h =
+    takes_none TurnsHeld bits reorder steps calls tx rx cs given heard size held q h refl
+taken_turn IsSmall bits reorder steps calls tx rx cs given heard size held q u low h =
+    takes_none IsSmall bits reorder steps calls tx rx cs given heard size held q h refl
 taken_turn Gives bits reorder steps calls tx rx cs given heard size held q u low h =
     let g = gives tx size held q in
     let p = pdu_of tx size in
@@ -215,7 +253,8 @@ taken_turn Gives bits reorder steps calls tx rx cs given heard size held q u low
     record {
       f = taken_by Gives h.f tx size;
       w = h.w;
-      f_is = flow_more steps (Take size held ∷ []) (at_first bits) ∙ ap (λ (x : Flow). goes x (Take size held)) h.f_is ∙ goes_take h.f tx size held Gives h.sender_is q;
+      f_is = flow_more steps (Take size held ∷ []) (at_first bits) ∙ ap (λ (x : Flow). goes x (Take size held)) h.f_is
+          ∙ goes_take h.f tx size held Gives h.sender_is q;
       w_is = h.w_is;
       sent' = sent_grows h.f.made (p ∷ []) (width_of bits) calls (fresh (width_of bits) reorder) h.sent';
       sender_is = refl;
@@ -227,14 +266,20 @@ taken_turn Gives bits reorder steps calls tx rx cs given heard size held q u low
       next_is = omega (arith, before, more);
       width_is = h.width_is;
       top_is = omega (arith, top, more);
-      copies_are = (new_copy bits tx size held h.f.made u h.bits_are h.some g h.next_is, copies_grow bits tx held h.f.made p cs h.bits_are g.free h.next_is low h.copies_are);
+      copies_are = (
+        new_copy bits tx size held h.f.made u h.bits_are h.some g h.next_is,
+        copies_grow bits tx held h.f.made p cs h.bits_are g.free h.next_is low h.copies_are,
+      );
     }
 
-pub takes_one : (bits reorder : ℕ) (steps : List Step) (calls : List Call) (tx : Sender) (rx : Receiver) (cs : List Copy) (given heard : List (List ℕ)) (size : ℕ) (held : Option ℕ)
+pub takes_one : (bits reorder : ℕ) (steps : List Step) (calls : List Call) (tx : Sender) (rx : Receiver)
+    (cs : List Copy) (given heard : List (List ℕ)) (size : ℕ) (held : Option ℕ)
     → IsUmBits bits → AllByRecursion (IsHeld held) cs → Stands bits reorder steps calls tx rx cs given heard
-    → Stands bits reorder (steps ++ Take size held ∷ []) calls (after_take tx size held) rx (copies_with (taken tx size held) cs) given heard
+    → Stands bits reorder (steps ++ Take size held ∷ []) calls (after_take tx size held) rx
+    (copies_with (taken tx size held) cs) given heard
 unfolding after_take taken
-takes_one bits reorder steps calls tx rx cs given heard size held u low h = taken_turn (turn tx size held) bits reorder steps calls tx rx cs given heard size held refl u low h
+takes_one bits reorder steps calls tx rx cs given heard size held u low h =
+    taken_turn (turn tx size held) bits reorder steps calls tx rx cs given heard size held refl u low h
 
 -- ---- what is under way is let go
 
@@ -243,7 +288,9 @@ each_except P k [] h = h
 each_except P zero (x ∷ xs) h = h.1
 each_except P (suc k) (x ∷ xs) h = (h.0, each_except P k xs h.1)
 
-pub lets_go : (bits reorder : ℕ) (steps : List Step) (calls : List Call) (tx : Sender) (rx : Receiver) (cs : List Copy) (given heard : List (List ℕ)) (k : ℕ) → Stands bits reorder steps calls tx rx cs given heard → Stands bits reorder steps calls tx rx (except k cs) given heard
+pub lets_go : (bits reorder : ℕ) (steps : List Step) (calls : List Call) (tx : Sender) (rx : Receiver)
+    (cs : List Copy) (given heard : List (List ℕ)) (k : ℕ) → Stands bits reorder steps calls tx rx cs given heard
+    → Stands bits reorder steps calls tx rx (except k cs) given heard
 lets_go bits reorder steps calls tx rx cs given heard k h = record {
   f = h.f;
   w = h.w;
@@ -283,24 +330,33 @@ unfolding expired
 width_expired r = width_marked r.mark r
 
 -- VR(UH)
-pub tops : (bits reorder : ℕ) (steps : List Step) (calls : List Call) (tx : Sender) (rx : Receiver) (cs : List Copy) (given heard : List (List ℕ)) → IsUmBits bits → (h : Stands bits reorder steps calls tx rx cs given heard) → top_of rx.window ≡ h.w.top
+pub tops : (bits reorder : ℕ) (steps : List Step) (calls : List Call) (tx : Sender) (rx : Receiver) (cs : List Copy)
+    (given heard : List (List ℕ)) → IsUmBits bits → (h : Stands bits reorder steps calls tx rx cs given heard)
+    → top_of rx.window ≡ h.w.top
 tops bits reorder steps calls tx rx cs given heard u h =
-    let here : top_of h.w.state.window ≡ h.w.top = subst (λ (x : World). top_of x.state.window ≡ x.top) h.w_is (edge (width_of bits) reorder (some_numbers bits u) calls).top in
+    let here : top_of h.w.state.window ≡ h.w.top =
+    subst (λ (x : World). top_of x.state.window ≡ x.top) h.w_is
+    (edge (width_of bits) reorder (some_numbers bits u) calls).top in
     ap (λ (r : Receiver). top_of r.window) (sym h.receiver_is) ∙ here
 
-pub reads_so : (bits reorder : ℕ) (steps : List Step) (calls : List Call) (f : Flow) (w : World) (pdu : UmdPdu) → IsUmBits bits → flow steps (at_first bits) ≡ f → run calls (fresh (width_of bits) reorder) ≡ w
+pub reads_so : (bits reorder : ℕ) (steps : List Step) (calls : List Call) (f : Flow) (w : World) (pdu : UmdPdu)
+    → IsUmBits bits → flow steps (at_first bits) ≡ f → run calls (fresh (width_of bits) reorder) ≡ w
     → AreSent f.made (width_of bits) calls (fresh (width_of bits) reorder) → IsReadTruly f.made (width_of bits) w pdu
 reads_so bits reorder steps calls f w pdu u p q sent =
     subst (λ (x : World). IsReadTruly f.made (width_of bits) x pdu) q
     (subst (λ (g : Flow). IsReadTruly g.made (width_of bits) (run calls (fresh (width_of bits) reorder)) pdu) p
-    (read_truly bits reorder steps calls u (subst (λ (g : Flow). AreSent g.made (width_of bits) calls (fresh (width_of bits) reorder)) (sym p) sent) pdu))
+    (read_truly bits reorder steps calls u
+    (subst (λ (g : Flow). AreSent g.made (width_of bits) calls (fresh (width_of bits) reorder)) (sym p) sent)
+    pdu))
 
 highest : (top n low made : ℕ) → top ≤ low + made → n < made → max top (low + n + 1) ≤ low + made
 highest top n low made a b = grind (arith, nat_tests)
 
 -- one that is under way arrives
-pub arrives_one : (bits reorder : ℕ) (steps : List Step) (calls : List Call) (tx : Sender) (rx : Receiver) (cs : List Copy) (given heard : List (List ℕ)) (c : Copy) → IsUmBits bits
-    → (h : Stands bits reorder steps calls tx rx cs given heard) → (k : IsCopyOf bits h.f.made c) → 2 * rx.window.width + c.number < top_of rx.window + rx.window.width
+pub arrives_one : (bits reorder : ℕ) (steps : List Step) (calls : List Call) (tx : Sender) (rx : Receiver)
+    (cs : List Copy) (given heard : List (List ℕ)) (c : Copy) → IsUmBits bits
+    → (h : Stands bits reorder steps calls tx rx cs given heard) → (k : IsCopyOf bits h.f.made c)
+    → 2 * rx.window.width + c.number < top_of rx.window + rx.window.width
     → Stands bits reorder steps (calls ++ Arrive k.pdu ∷ []) tx (arrival k.pdu rx) cs given heard
 arrives_one bits reorder steps calls tx rx cs given heard c u h k short =
     let width : ℕ = width_of bits in
@@ -312,15 +368,19 @@ arrives_one bits reorder steps calls tx rx cs given heard c u h k short =
       number = c.number;
       is = k.is;
       low = omega (arith, top, recent);
-      below = subst (λ (n : ℕ). 2 * width + c.number < n + width) at (subst (λ (n : ℕ). 2 * n + c.number < top_of rx.window + n) wide short);
+      below = subst (λ (n : ℕ). 2 * width + c.number < n + width) at
+          (subst (λ (n : ℕ). 2 * n + c.number < top_of rx.window + n) wide short);
     } in
-    let read : read_number k.pdu h.w ≡ 2 * width + c.number = reads_so bits reorder steps calls h.f h.w k.pdu u h.f_is h.w_is h.sent' s in
+    let read : read_number k.pdu h.w ≡ 2 * width + c.number =
+    reads_so bits reorder steps calls h.f h.w k.pdu u h.f_is h.w_is h.sent' s in
     record {
       f = h.f;
       w = happens h.w (Arrive k.pdu);
       f_is = h.f_is;
-      w_is = run_more calls (Arrive k.pdu ∷ []) (fresh width reorder) ∙ ap (λ (x : World). happens x (Arrive k.pdu)) h.w_is;
-      sent' = sent_more h.f.made width calls (Arrive k.pdu ∷ []) (fresh width reorder) h.sent' (subst (λ (x : World). IsSent h.f.made width x k.pdu) (sym h.w_is) s, tt);
+      w_is = run_more calls (Arrive k.pdu ∷ []) (fresh width reorder)
+          ∙ ap (λ (x : World). happens x (Arrive k.pdu)) h.w_is;
+      sent' = sent_more h.f.made width calls (Arrive k.pdu ∷ []) (fresh width reorder) h.sent'
+          (subst (λ (x : World). IsSent h.f.made width x k.pdu) (sym h.w_is) s, tt);
       sender_is = h.sender_is;
       given_is = h.given_is;
       receiver_is = ap (arrival k.pdu) h.receiver_is;
@@ -329,12 +389,15 @@ arrives_one bits reorder steps calls tx rx cs given heard c u h k short =
       some = h.some;
       next_is = h.next_is;
       width_is = width_arrival k.pdu rx ∙ wide;
-      top_is = subst (λ (n : ℕ). max h.w.top (n + 1) ≤ 2 * width + length h.f.made) (sym read) (highest h.w.top c.number (2 * width) (length h.f.made) top (is_below h.f.made c.number k.pdu k.is));
+      top_is = subst (λ (n : ℕ). max h.w.top (n + 1) ≤ 2 * width + length h.f.made) (sym read)
+          (highest h.w.top c.number (2 * width) (length h.f.made) top (is_below h.f.made c.number k.pdu k.is));
       copies_are = h.copies_are;
     }
 
 -- the reordering timer expires, or counts
-pub expires_one : (bits reorder : ℕ) (steps : List Step) (calls : List Call) (tx : Sender) (rx : Receiver) (cs : List Copy) (given heard : List (List ℕ)) → Stands bits reorder steps calls tx rx cs given heard → Stands bits reorder steps (calls ++ Expire ∷ []) tx (expired rx) cs given heard
+pub expires_one : (bits reorder : ℕ) (steps : List Step) (calls : List Call) (tx : Sender) (rx : Receiver)
+    (cs : List Copy) (given heard : List (List ℕ)) → Stands bits reorder steps calls tx rx cs given heard
+    → Stands bits reorder steps (calls ++ Expire ∷ []) tx (expired rx) cs given heard
 expires_one bits reorder steps calls tx rx cs given heard h = record {
   f = h.f;
   w = happens h.w Expire;
@@ -353,7 +416,9 @@ expires_one bits reorder steps calls tx rx cs given heard h = record {
   copies_are = h.copies_are;
 }
 
-pub counts_one : (bits reorder : ℕ) (steps : List Step) (calls : List Call) (tx : Sender) (rx : Receiver) (cs : List Copy) (given heard : List (List ℕ)) → Stands bits reorder steps calls tx rx cs given heard → Stands bits reorder steps (calls ++ Tick ∷ []) tx (counted rx) cs given heard
+pub counts_one : (bits reorder : ℕ) (steps : List Step) (calls : List Call) (tx : Sender) (rx : Receiver)
+    (cs : List Copy) (given heard : List (List ℕ)) → Stands bits reorder steps calls tx rx cs given heard
+    → Stands bits reorder steps (calls ++ Tick ∷ []) tx (counted rx) cs given heard
 counts_one bits reorder steps calls tx rx cs given heard h = record {
   f = h.f;
   w = happens h.w Tick;
@@ -373,8 +438,10 @@ counts_one bits reorder steps calls tx rx cs given heard h = record {
 }
 
 -- the first that is ready goes up
-hands_one : (bits reorder : ℕ) (steps : List Step) (calls : List Call) (tx : Sender) (rx : Receiver) (cs : List Copy) (given heard : List (List ℕ)) (x : List ℕ) (more : List (List ℕ)) → rx.joined.ready ≡ x ∷ more
-    → Stands bits reorder steps calls tx rx cs given heard → Stands bits reorder steps (calls ++ Up ∷ []) tx (handed rx) cs given (heard ++ x ∷ [])
+hands_one : (bits reorder : ℕ) (steps : List Step) (calls : List Call) (tx : Sender) (rx : Receiver) (cs : List Copy)
+    (given heard : List (List ℕ)) (x : List ℕ) (more : List (List ℕ)) → rx.joined.ready ≡ x ∷ more
+    → Stands bits reorder steps calls tx rx cs given heard
+    → Stands bits reorder steps (calls ++ Up ∷ []) tx (handed rx) cs given (heard ++ x ∷ [])
 hands_one bits reorder steps calls tx rx cs given heard x more q h = record {
   f = h.f;
   w = happens h.w Up;
@@ -400,13 +467,19 @@ none_ready : (r : Receiver) → r.joined.ready ≡ [] → all_handed r ≡ r
 none_ready r q = ap (λ (l : List (List ℕ)). record r { joined = record r.joined { ready = l } }) (sym q)
 
 -- all that is ready goes up
-pub hands_all : (bits reorder : ℕ) (steps : List Step) (calls : List Call) (tx : Sender) (rx : Receiver) (cs : List Copy) (given heard : List (List ℕ)) (ready : List (List ℕ)) → rx.joined.ready ≡ ready
-    → Stands bits reorder steps calls tx rx cs given heard → Stands bits reorder steps (calls ++ ups ready) tx (all_handed rx) cs given (heard ++ ready)
+pub hands_all : (bits reorder : ℕ) (steps : List Step) (calls : List Call) (tx : Sender) (rx : Receiver)
+    (cs : List Copy) (given heard : List (List ℕ)) (ready : List (List ℕ)) → rx.joined.ready ≡ ready
+    → Stands bits reorder steps calls tx rx cs given heard
+    → Stands bits reorder steps (calls ++ ups ready) tx (all_handed rx) cs given (heard ++ ready)
 hands_all bits reorder steps calls tx rx cs given heard [] q h =
-    subst (λ (r : Receiver). Stands bits reorder steps (calls ++ []) tx r cs given (heard ++ [])) (sym (none_ready rx q))
+    subst (λ (r : Receiver). Stands bits reorder steps (calls ++ []) tx r cs given (heard ++ []))
+    (sym (none_ready rx q))
     (subst (λ (l : List (List ℕ)). Stands bits reorder steps (calls ++ []) tx rx cs given l) (sym (append-nil heard))
     (subst (λ (l : List Call). Stands bits reorder steps l tx rx cs given heard) (sym (append-nil calls)) h))
 hands_all bits reorder steps calls tx rx cs given heard (x ∷ more) q h =
-    subst (λ (l : List (List ℕ)). Stands bits reorder steps (calls ++ ups (x ∷ more)) tx (all_handed rx) cs given l) (append_assoc heard (x ∷ []) more)
-    (subst (λ (l : List Call). Stands bits reorder steps l tx (all_handed rx) cs given ((heard ++ x ∷ []) ++ more)) (append_assoc calls (Up ∷ []) (ups more))
-    (hands_all bits reorder steps (calls ++ Up ∷ []) tx (handed rx) cs given (heard ++ x ∷ []) more (ap (drop 1) q) (hands_one bits reorder steps calls tx rx cs given heard x more q h)))
+    subst (λ (l : List (List ℕ)). Stands bits reorder steps (calls ++ ups (x ∷ more)) tx (all_handed rx) cs given l)
+    (append_assoc heard (x ∷ []) more)
+    (subst (λ (l : List Call). Stands bits reorder steps l tx (all_handed rx) cs given ((heard ++ x ∷ []) ++ more))
+    (append_assoc calls (Up ∷ []) (ups more))
+    (hands_all bits reorder steps (calls ++ Up ∷ []) tx (handed rx) cs given (heard ++ x ∷ []) more (ap (drop 1) q)
+    (hands_one bits reorder steps calls tx rx cs given heard x more q h)))

@@ -1,5 +1,6 @@
 -- What an end does in several deeds, beside what is told of a direction.
-use Rattle.std.proofs.Common.{◌≡◌, ℕ, zero, suc, ◌+◌, List, [], ◌∷◌, ◌++◌, map, Option, Some, None, slice_get, append-nil, append_assoc, refl, sym, subst, ◌∙◌}
+use Rattle.std.proofs.Common.{◌≡◌, ℕ, zero, suc, ◌+◌, List, [], ◌∷◌, ◌++◌, map, Option, Some, None, slice_get}
+use Rattle.std.proofs.Common.{append-nil, append_assoc, refl, sym, subst, ◌∙◌}
 use Rattle.std.specs.List.{AllByRecursion}
 use Rattle.law_rlc.specs.AmPair.Flow.{Copy}
 use Rattle.bearer.specs.Unacknowledged.State.{State}
@@ -18,7 +19,8 @@ use Rattle.um_losses.specs.Told.{all_after}
 use Rattle.law_deliver.proofs.UmGaps.Telling.{outs}
 use Rattle.law_deliver.proofs.UmGaps.Tracking.{Tracks, out_of, IsNoArrival, to_calls}
 
--- ---- at the end that sends: calls that take nothing, and PDUs of the other direction that come, leave what is under way
+-- ---- at the end that sends: calls that take nothing, and PDUs of the other direction that come, leave what is under
+-- way
 
 pub no_take : (cs : List Call) → AllByRecursion IsPlain cs → AllByRecursion IsNoTake cs
 no_take [] h = tt
@@ -40,7 +42,8 @@ call_copies m n (Expire clock) p = refl
 call_copies m n Tick p = refl
 call_copies m n (SetDiscard ttis) p = refl
 
-pub calls_copies : (m n : BearerEnd) (cs : List Call) → AllByRecursion IsPlain cs → (does_all m n (map (λ c. Calls c) cs)).copies ≡ n.copies
+pub calls_copies : (m n : BearerEnd) (cs : List Call) → AllByRecursion IsPlain cs
+    → (does_all m n (map (λ c. Calls c) cs)).copies ≡ n.copies
 calls_copies m n [] p = refl
 calls_copies m n (c ∷ cs) p = calls_copies m (does m n (Calls c)) cs p.1 ∙ call_copies m n c p.0
 
@@ -50,7 +53,8 @@ come_copies e (Some c) = refl
 
 pub comes_copies : (m n : BearerEnd) (place count : ℕ) → (does_all m n (come_from place count)).copies ≡ n.copies
 comes_copies m n place zero = refl
-comes_copies m n place (suc k) = comes_copies m (does m n (Comes place)) (place + 1) k ∙ come_copies n (slice_get m.copies place)
+comes_copies m n place (suc k) = comes_copies m (does m n (Comes place)) (place + 1) k
+    ∙ come_copies n (slice_get m.copies place)
 
 pub arrivals_take_none : (pdus : List (List ℕ)) → AllByRecursion IsNoTake (map (λ p. Arrive p) pdus)
 arrivals_take_none [] = tt
@@ -76,23 +80,34 @@ after_then (x ∷ xs) ys f = after_then xs ys _
 
 module _ (bits reorder counts : ℕ) (u : IsUmBits bits) where
   -- calls that bring no PDU
-  pub to_all_calls : (l : ℕ) (a : State) (xs : List Call) (b : State) (ys : List Call) (n m : BearerEnd) (loads : List Load) (f : Flow) (cs : List Call) → AreDone n m (map (λ c. Calls c) cs) → AllByRecursion IsNoArrival cs
-      → Tracks bits reorder counts a xs b ys n m loads f → Tracks bits reorder counts a xs b (ys ++ cs) n (does_all n m (map (λ c. Calls c) cs)) loads (all_after (outs l m.bearer cs) f)
-  to_all_calls l a xs b ys n m loads f [] g none h = subst (λ (zs : List Call). Tracks bits reorder counts a xs b zs n m loads f) (sym (append-nil ys)) h
+  pub to_all_calls : (l : ℕ) (a : State) (xs : List Call) (b : State) (ys : List Call) (n m : BearerEnd)
+      (loads : List Load) (f : Flow) (cs : List Call) → AreDone n m (map (λ c. Calls c) cs)
+      → AllByRecursion IsNoArrival cs
+      → Tracks bits reorder counts a xs b ys n m loads f
+      → Tracks bits reorder counts a xs b (ys ++ cs) n (does_all n m (map (λ c. Calls c) cs)) loads
+      (all_after (outs l m.bearer cs) f)
+  to_all_calls l a xs b ys n m loads f [] g none h =
+      subst (λ (zs : List Call). Tracks bits reorder counts a xs b zs n m loads f) (sym (append-nil ys)) h
   to_all_calls l a xs b ys n m loads f (c ∷ cs) g none h =
       let d : BearerEnd = does n m (Calls c) in
       let one = to_calls bits reorder counts u a xs b ys n m loads f c g.0 none.0 h in
-      subst (λ (zs : List Call). Tracks bits reorder counts a xs b zs n (does_all n d (map (λ c. Calls c) cs)) loads (all_after (outs l m.bearer (c ∷ cs)) f)) (append_assoc ys (c ∷ []) cs)
-      (subst (Tracks bits reorder counts a xs b ((ys ++ c ∷ []) ++ cs) n (does_all n d (map (λ c. Calls c) cs)) loads) (sym (after_then (out_of m.bearer c) (outs l d.bearer cs) f))
+      subst (λ (zs : List Call). Tracks bits reorder counts a xs b zs n (does_all n d (map (λ c. Calls c) cs)) loads
+      (all_after (outs l m.bearer (c ∷ cs)) f)) (append_assoc ys (c ∷ []) cs)
+      (subst (Tracks bits reorder counts a xs b ((ys ++ c ∷ []) ++ cs) n (does_all n d (map (λ c. Calls c) cs)) loads)
+      (sym (after_then (out_of m.bearer c) (outs l d.bearer cs) f))
       (to_all_calls l a xs b (ys ++ c ∷ []) n d loads (all_after (out_of m.bearer c) f) cs g.1 none.1 one))
 
   -- what it has under way itself is let go
-  to_on_go : (a : State) (xs : List Call) (b : State) (ys : List Call) (n m : BearerEnd) (place count : ℕ) → IsOn bits reorder a xs b ys n m → IsOn bits reorder a xs b ys n (does_all n m (go_from place count))
+  to_on_go : (a : State) (xs : List Call) (b : State) (ys : List Call) (n m : BearerEnd) (place count : ℕ)
+      → IsOn bits reorder a xs b ys n m → IsOn bits reorder a xs b ys n (does_all n m (go_from place count))
   to_on_go a xs b ys n m place zero h = h
   to_on_go a xs b ys n m place (suc k) h =
-      to_on_go a xs b ys n (does n m (Goes place)) place k (subst (λ (zs : List Call). IsOn bits reorder a xs b zs n (does n m (Goes place))) (append-nil ys) (to_on bits reorder u a xs b ys n m (Goes place) tt tt h))
+      to_on_go a xs b ys n (does n m (Goes place)) place k
+      (subst (λ (zs : List Call). IsOn bits reorder a xs b zs n (does n m (Goes place))) (append-nil ys)
+      (to_on bits reorder u a xs b ys n m (Goes place) tt tt h))
 
-  pub to_goes : (a : State) (xs : List Call) (b : State) (ys : List Call) (n m : BearerEnd) (loads : List Load) (f : Flow) (place count : ℕ) → Tracks bits reorder counts a xs b ys n m loads f
+  pub to_goes : (a : State) (xs : List Call) (b : State) (ys : List Call) (n m : BearerEnd) (loads : List Load)
+      (f : Flow) (place count : ℕ) → Tracks bits reorder counts a xs b ys n m loads f
       → Tracks bits reorder counts a xs b ys n (does_all n m (go_from place count)) loads f
   to_goes a xs b ys n m loads f place count h = record {
     on = to_on_go a xs b ys n m place count h.on;

@@ -38,7 +38,8 @@ module _ (bits : ℕ) (b : State) (cs : List Call) (h : Begins bits b) (ok : Are
   pub few_given : length (stream (Um b) cs) ≤ 2 ^ 32
   few_given =
       let many : length (h.flow.stream ++ sending.nexts) ≡ length (stream (Um b) cs) =
-      ap (λ (ns : List Next). length (ns ++ sending.nexts)) h.stream_is ∙ sym (octets_many sending.nexts) ∙ ap length sending.given_is in
+      ap (λ (ns : List Next). length (ns ++ sending.nexts)) h.stream_is ∙ sym (octets_many sending.nexts)
+      ∙ ap length sending.given_is in
       let count = still_writes.count in
       let room = still_writes.sends.room in
       omega (arith, many, count, room)

@@ -1,5 +1,6 @@
 -- Where what is told of a direction shows no long losses, its losses are short.
-use Rattle.std.proofs.Common.{◌≡◌, inl, inr, ◌<◌, ◌≤◌, ℕ, ◌^◌, false, List, [], ◌∷◌, ◌++◌, refl, ap, sym, subst, ◌∙◌, arith}
+use Rattle.std.proofs.Common.{◌≡◌, inl, inr, ◌<◌, ◌≤◌, ℕ, ◌^◌, false, List, [], ◌∷◌, ◌++◌, refl, ap, sym, subst, ◌∙◌}
+use Rattle.std.proofs.Common.{arith}
 use Rattle.bearer.specs.Bearer.{flow_of}
 use Rattle.bearer.specs.declared.flow.Flow.TheVariants.{Um}
 use Rattle.bearer.specs.Lives.{stopping}
@@ -8,7 +9,8 @@ use Rattle.bearer.specs.Unacknowledged.State.{State, fresh}
 use Rattle.bearer.specs.Unacknowledged.Lives.{stopped, restarted}
 use Rattle.bearer_types.specs.Configs.{ArePdcpBits, AreRlcBits}
 use Rattle.bearer_types.specs.declared.config.BearerConfig.{BearerConfig}
-use Rattle.law_deliver.specs.AmChannel.Lives.{AirStep, InLife, Moves, lives_on, IsLiving as IsLivingAir, AreLiving as AreLivingAir}
+use Rattle.law_deliver.specs.AmChannel.Lives.{AirStep, InLife, Moves, lives_on, IsLiving as IsLivingAir}
+use Rattle.law_deliver.specs.AmChannel.Lives.{AreLiving as AreLivingAir}
 use Rattle.law_deliver.proofs.AmChannel.Delivery.{stands_so}
 use Rattle.eps_sec.specs.declared.Keys.{Keys}
 use Rattle.law_deliver.specs.AmFlow.Air.{Air, happens, outset}
@@ -58,37 +60,60 @@ still_short : (ws : List Happening) (f : Flow) → (all_after ws f).gaps.long �
 still_short [] f e = e
 still_short (w ∷ ws) f e = unlong w f (still_short ws (after w f) e)
 
-new_again : (bits counts : ℕ) (f : Flow) → f.bits ≡ bits → f.gaps.width ≡ width_of bits → f.gaps.counts ≡ counts → IsNewFlow bits counts (restarts f)
+new_again : (bits counts : ℕ) (f : Flow) → f.bits ≡ bits → f.gaps.width ≡ width_of bits → f.gaps.counts ≡ counts
+    → IsNewFlow bits counts (restarts f)
 new_again bits counts f b w k =
     let counted = all_counted_so (all_joined f.receiver) f.gaps in
-    record { bits_are = b; sending_is = refl; receiver_is = ap fresh_receiver b; width_is = counted.width_is ∙ w; counts_are = counted.counts_are ∙ k; top_is = refl; next_is = refl }
+    record {
+      bits_are = b;
+      sending_is = refl;
+      receiver_is = ap fresh_receiver b;
+      width_is = counted.width_is ∙ w;
+      counts_are = counted.counts_are ∙ k;
+      top_is = refl;
+      next_is = refl;
+    }
 
 module _ (l : ℕ) (c : BearerConfig) (u : IsUmBits c.rlc_bits) (some : 0 < 2 ^ c.pdcp_bits) where
   -- both ends move
-  moves : (from : Side) (a : Air) (keys : Keys) (near far : State) (so_far : List PairStep) (f : Flow) → IsLivingAir l a (Moves keys) → Follows l c from a near far so_far f
-      → Follows l c from (lives_on a (Moves keys)) (next_near near far (record { steps = so_far; keys = keys })) (next_far near far (record { steps = so_far; keys = keys })) []
+  moves : (from : Side) (a : Air) (keys : Keys) (near far : State) (so_far : List PairStep) (f : Flow)
+      → IsLivingAir l a (Moves keys) → Follows l c from a near far so_far f
+      → Follows l c from (lives_on a (Moves keys)) (next_near near far (record { steps = so_far; keys = keys }))
+      (next_far near far (record { steps = so_far; keys = keys })) []
       (all_after (whats_in from l c.rlc_bits a (Moves keys)) f)
   moves Nb a keys near far so_far f g h =
       let p : Pair = goes so_far (pair_outset near far) in
       let near' : State = restarted (stopped p.near.bearer) keys in
       let far' : State = restarted (stopped p.far.bearer) keys in
       let quiet : expiries l (told_of a.ue.end (Move keys)) ≡ [] =
-      none_ends l (told_of a.ue.end (Move keys)) p.far.bearer ((the_end Ue l a.ue.end keys h.alone).told_is ∙ ap stopping h.stands.ue.bearer_is) in
-      let nb_begins = begin_next c.pdcp_bits c.rlc_bits c.rx.reorder near p.near.bearer (near_calls (pair_outset near far) so_far) keys (near_end near far so_far) h.near_begin in
-      let ue_begins = begin_next c.pdcp_bits c.rlc_bits c.rx.reorder far p.far.bearer (far_calls (pair_outset near far) so_far) keys (far_end near far so_far) h.far_begin in
+      none_ends l (told_of a.ue.end (Move keys)) p.far.bearer ((the_end Ue l a.ue.end keys h.alone).told_is
+      ∙ ap stopping h.stands.ue.bearer_is) in
+      let nb_begins =
+      begin_next c.pdcp_bits c.rlc_bits c.rx.reorder near p.near.bearer (near_calls (pair_outset near far) so_far)
+      keys (near_end near far so_far) h.near_begin in
+      let ue_begins =
+      begin_next c.pdcp_bits c.rlc_bits c.rx.reorder far p.far.bearer (far_calls (pair_outset near far) so_far)
+      keys (far_end near far so_far) h.far_begin in
       let t = h.tracks.heard in
-      subst (λ (ws : List Happening). Follows l c Nb (lives_on a (Moves keys)) near' far' [] (all_after ws (restarts f))) (sym quiet)
+      subst (λ (ws : List Happening). Follows l c Nb (lives_on a (Moves keys)) near' far' []
+      (all_after ws (restarts f))) (sym quiet)
       (record {
-        stands = record { nb = moves_so Nb l a.nb p.near keys h.stands.nb; ue = moves_so Ue l a.ue p.far keys h.stands.ue; living = record { given = tt; near_accepts = tt; far_accepts = tt } };
+        stands = record {
+          nb = moves_so Nb l a.nb p.near keys h.stands.nb;
+          ue = moves_so Ue l a.ue p.far keys h.stands.ue;
+          living = record { given = tt; near_accepts = tt; far_accepts = tt };
+        };
         alone = alone_on Ue l a (Moves keys) g h.alone;
         near_begin = nb_begins;
         far_begin = ue_begins;
         begins = subst (λ (b : State). Begins c.pdcp_bits (restarted (stopped b) keys)) (near_end near far so_far)
-            (begins_next c.pdcp_bits near (near_calls (pair_outset near far) so_far) h.begins h.stands.living.near_accepts keys);
+            (begins_next c.pdcp_bits near (near_calls (pair_outset near far) so_far) h.begins
+            h.stands.living.near_accepts keys);
         loads = [];
         blocks_are = refl;
         carry = tt;
-        tracks = first_tracks c.pdcp_bits c.rlc_bits c.rx.reorder (2 ^ c.pdcp_bits) near' far' (restarts f) u nb_begins ue_begins
+        tracks = first_tracks c.pdcp_bits c.rlc_bits c.rx.reorder (2 ^ c.pdcp_bits) near' far' (restarts f) u
+            nb_begins ue_begins
             (new_again c.rlc_bits (2 ^ c.pdcp_bits) f t.bits_are t.width_is t.counts_are);
         short = tt;
       })
@@ -97,55 +122,93 @@ module _ (l : ℕ) (c : BearerConfig) (u : IsUmBits c.rlc_bits) (some : 0 < 2 ^ 
       let near' : State = restarted (stopped p.near.bearer) keys in
       let far' : State = restarted (stopped p.far.bearer) keys in
       let quiet : expiries l (told_of a.nb.end (Move keys)) ≡ [] =
-      none_ends l (told_of a.nb.end (Move keys)) p.near.bearer ((the_end Nb l a.nb.end keys h.alone).told_is ∙ ap stopping h.stands.nb.bearer_is) in
-      let nb_begins = begin_next c.pdcp_bits c.rlc_bits c.rx.reorder near p.near.bearer (near_calls (pair_outset near far) so_far) keys (near_end near far so_far) h.near_begin in
-      let ue_begins = begin_next c.pdcp_bits c.rlc_bits c.rx.reorder far p.far.bearer (far_calls (pair_outset near far) so_far) keys (far_end near far so_far) h.far_begin in
+      none_ends l (told_of a.nb.end (Move keys)) p.near.bearer
+      ((the_end Nb l a.nb.end keys h.alone).told_is ∙ ap stopping h.stands.nb.bearer_is) in
+      let nb_begins =
+      begin_next c.pdcp_bits c.rlc_bits c.rx.reorder near p.near.bearer (near_calls (pair_outset near far) so_far)
+      keys (near_end near far so_far) h.near_begin in
+      let ue_begins =
+      begin_next c.pdcp_bits c.rlc_bits c.rx.reorder far p.far.bearer (far_calls (pair_outset near far) so_far)
+      keys (far_end near far so_far) h.far_begin in
       let t = h.tracks.heard in
-      subst (λ (ws : List Happening). Follows l c Ue (lives_on a (Moves keys)) near' far' [] (all_after ws (restarts f))) (sym quiet)
+      subst (λ (ws : List Happening). Follows l c Ue (lives_on a (Moves keys)) near' far' []
+      (all_after ws (restarts f))) (sym quiet)
       (record {
-        stands = record { nb = moves_so Nb l a.nb p.near keys h.stands.nb; ue = moves_so Ue l a.ue p.far keys h.stands.ue; living = record { given = tt; near_accepts = tt; far_accepts = tt } };
+        stands = record {
+          nb = moves_so Nb l a.nb p.near keys h.stands.nb;
+          ue = moves_so Ue l a.ue p.far keys h.stands.ue;
+          living = record { given = tt; near_accepts = tt; far_accepts = tt };
+        };
         alone = alone_on Nb l a (Moves keys) g h.alone;
         near_begin = nb_begins;
         far_begin = ue_begins;
         begins = subst (λ (b : State). Begins c.pdcp_bits (restarted (stopped b) keys)) (far_end near far so_far)
-            (begins_next c.pdcp_bits far (far_calls (pair_outset near far) so_far) h.begins h.stands.living.far_accepts keys);
+            (begins_next c.pdcp_bits far (far_calls (pair_outset near far) so_far) h.begins
+            h.stands.living.far_accepts keys);
         loads = [];
         blocks_are = refl;
         carry = tt;
-        tracks = first_tracks c.pdcp_bits c.rlc_bits c.rx.reorder (2 ^ c.pdcp_bits) far' near' (restarts f) u ue_begins nb_begins
+        tracks = first_tracks c.pdcp_bits c.rlc_bits c.rx.reorder (2 ^ c.pdcp_bits) far' near' (restarts f) u
+            ue_begins nb_begins
             (new_again c.rlc_bits (2 ^ c.pdcp_bits) f t.bits_are t.width_is t.counts_are);
         short = tt;
       })
 
-  walk_short : (from : Side) (xs : List AirStep) (a : Air) (near far : State) (so_far : List PairStep) (f : Flow) → AreLivingAir l a xs → Follows l c from a near far so_far f
+  walk_short : (from : Side) (xs : List AirStep) (a : Air) (near far : State) (so_far : List PairStep) (f : Flow)
+      → AreLivingAir l a xs → Follows l c from a near far so_far f
       → (all_after (whats from l c.rlc_bits xs a) f).gaps.long ≡ false
       → AreShort c (direction_from from) near far (walk l so_far xs a).lives (walk l so_far xs a).steps
-  walk_short Nb [] a near far so_far f g h e =
-      (h.short, few_now c.rlc_bits c.rx.reorder c.pdcp_bits u some near (near_calls (pair_outset near far) so_far) far (far_calls (pair_outset near far) so_far) _ _ h.loads f h.begins h.stands.living.near_accepts h.tracks e)
-  walk_short Ue [] a near far so_far f g h e =
-      (h.short, few_now c.rlc_bits c.rx.reorder c.pdcp_bits u some far (far_calls (pair_outset near far) so_far) near (near_calls (pair_outset near far) so_far) _ _ h.loads f h.begins h.stands.living.far_accepts h.tracks e)
+  walk_short Nb [] a near far so_far f g h e = (
+    h.short,
+    few_now c.rlc_bits c.rx.reorder c.pdcp_bits u some near (near_calls (pair_outset near far) so_far) far
+        (far_calls (pair_outset near far) so_far) _ _ h.loads f h.begins h.stands.living.near_accepts h.tracks e,
+  )
+  walk_short Ue [] a near far so_far f g h e = (
+    h.short,
+    few_now c.rlc_bits c.rx.reorder c.pdcp_bits u some far (far_calls (pair_outset near far) so_far) near
+        (near_calls (pair_outset near far) so_far) _ _ h.loads f h.begins h.stands.living.far_accepts h.tracks e,
+  )
   walk_short from (InLife s ∷ xs) a near far so_far f g h e =
       let ws = whats_in from l c.rlc_bits a (InLife s) in
       let more = whats from l c.rlc_bits xs (happens a s) in
-      let then' : (all_after more (all_after ws f)).gaps.long ≡ false = ap (λ (x : Flow). x.gaps.long) (sym (after_then ws more f)) ∙ e in
+      let then' : (all_after more (all_after ws f)).gaps.long ≡ false =
+      ap (λ (x : Flow). x.gaps.long) (sym (after_then ws more f)) ∙ e in
       walk_short from xs (happens a s) near far (so_far ++ steps_in l a s) (all_after ws f) g.1
       (follow l c u some from a s near far so_far f g.0 h (still_short more (all_after ws f) then')) then'
   walk_short Nb (Moves keys ∷ xs) a near far so_far f g h e =
       let ws = whats_in Nb l c.rlc_bits a (Moves keys) in
       let more = whats Nb l c.rlc_bits xs (lives_on a (Moves keys)) in
-      let then' : (all_after more (all_after ws f)).gaps.long ≡ false = ap (λ (x : Flow). x.gaps.long) (sym (after_then ws more f)) ∙ e in
-      let now : (restarts f).gaps.long ≡ false = still_short (expiries l (told_of a.ue.end (Move keys))) (restarts f) (still_short more (all_after ws f) then') in (
-        (h.short, few_to_end c.rlc_bits c.rx.reorder c.pdcp_bits u some near (near_calls (pair_outset near far) so_far) far (far_calls (pair_outset near far) so_far) _ _ h.loads f h.begins h.stands.living.near_accepts h.tracks now),
-        walk_short Nb xs (lives_on a (Moves keys)) (next_near near far (record { steps = so_far; keys = keys })) (next_far near far (record { steps = so_far; keys = keys })) [] (all_after ws f) g.1
+      let then' : (all_after more (all_after ws f)).gaps.long ≡ false =
+      ap (λ (x : Flow). x.gaps.long) (sym (after_then ws more f)) ∙ e in
+      let now : (restarts f).gaps.long ≡ false =
+      still_short (expiries l (told_of a.ue.end (Move keys))) (restarts f)
+      (still_short more (all_after ws f) then') in (
+        (
+          h.short,
+          few_to_end c.rlc_bits c.rx.reorder c.pdcp_bits u some near
+              (near_calls (pair_outset near far) so_far) far (far_calls (pair_outset near far) so_far) _ _ h.loads f
+              h.begins h.stands.living.near_accepts h.tracks now,
+        ),
+        walk_short Nb xs (lives_on a (Moves keys)) (next_near near far (record { steps = so_far; keys = keys }))
+            (next_far near far (record { steps = so_far; keys = keys })) [] (all_after ws f) g.1
             (moves Nb a keys near far so_far f g.0 h) then',
       )
   walk_short Ue (Moves keys ∷ xs) a near far so_far f g h e =
       let ws = whats_in Ue l c.rlc_bits a (Moves keys) in
       let more = whats Ue l c.rlc_bits xs (lives_on a (Moves keys)) in
-      let then' : (all_after more (all_after ws f)).gaps.long ≡ false = ap (λ (x : Flow). x.gaps.long) (sym (after_then ws more f)) ∙ e in
-      let now : (restarts f).gaps.long ≡ false = still_short (expiries l (told_of a.nb.end (Move keys))) (restarts f) (still_short more (all_after ws f) then') in (
-        (h.short, few_to_end c.rlc_bits c.rx.reorder c.pdcp_bits u some far (far_calls (pair_outset near far) so_far) near (near_calls (pair_outset near far) so_far) _ _ h.loads f h.begins h.stands.living.far_accepts h.tracks now),
-        walk_short Ue xs (lives_on a (Moves keys)) (next_near near far (record { steps = so_far; keys = keys })) (next_far near far (record { steps = so_far; keys = keys })) [] (all_after ws f) g.1
+      let then' : (all_after more (all_after ws f)).gaps.long ≡ false =
+      ap (λ (x : Flow). x.gaps.long) (sym (after_then ws more f)) ∙ e in
+      let now : (restarts f).gaps.long ≡ false =
+      still_short (expiries l (told_of a.nb.end (Move keys))) (restarts f)
+      (still_short more (all_after ws f) then') in (
+        (
+          h.short,
+          few_to_end c.rlc_bits c.rx.reorder c.pdcp_bits u some far (far_calls (pair_outset near far) so_far)
+              near (near_calls (pair_outset near far) so_far) _ _ h.loads f h.begins h.stands.living.far_accepts
+              h.tracks now,
+        ),
+        walk_short Ue xs (lives_on a (Moves keys)) (next_near near far (record { steps = so_far; keys = keys }))
+            (next_far near far (record { steps = so_far; keys = keys })) [] (all_after ws f) g.1
             (moves Ue a keys near far so_far f g.0 h) then',
       )
 
@@ -161,10 +224,12 @@ some_counts : (bits : ℕ) → IsKind (UmKind bits) → 0 < 2 ^ bits
 some_counts bits (inl e) = subst (λ (n : ℕ). 0 < 2 ^ n) (sym e) (omega arith)
 some_counts bits (inr e) = subst (λ (n : ℕ). 0 < 2 ^ n) (sym e) (omega arith)
 
-first_is : (c : BearerConfig) (keys : Keys) (side : Side) → c.kind ≡ kinds.Um → flow_of c.kind c keys side ≡ Um (fresh c keys side)
+first_is : (c : BearerConfig) (keys : Keys) (side : Side) → c.kind ≡ kinds.Um
+    → flow_of c.kind c keys side ≡ Um (fresh c keys side)
 first_is c keys side k = ap (λ (x : Kind). flow_of x c keys side) k
 
-first_counts : (c : BearerConfig) (keys : Keys) (side : Side) → c.first ≤ 2 ^ 32 → Begins c.pdcp_bits (fresh c keys side)
+first_counts : (c : BearerConfig) (keys : Keys) (side : Side) → c.first ≤ 2 ^ 32
+    → Begins c.pdcp_bits (fresh c keys side)
 unfolding fresh begun start
 first_counts c keys side most =
     let p = protection_of (UmKind c.pdcp_bits) keys (bearer_of c.channel.lcid) (sends side) in
@@ -197,7 +262,15 @@ module _ (l : ℕ) (c : BearerConfig) (keys : Keys) (nb ue : End) (h : BeginAlik
   }
 
   new_flow : (from : Side) → IsNewFlow c.rlc_bits (2 ^ c.pdcp_bits) (first_flow from l c)
-  new_flow from = record { bits_are = refl; sending_is = refl; receiver_is = refl; width_is = refl; counts_are = refl; top_is = refl; next_is = refl }
+  new_flow from = record {
+    bits_are = refl;
+    sending_is = refl;
+    receiver_is = refl;
+    width_is = refl;
+    counts_are = refl;
+    top_is = refl;
+    next_is = refl;
+  }
 
   first_follows : (from : Side) → Follows l c from (outset nb ue) near far [] (first_flow from l c)
   first_follows Nb = record {
@@ -209,7 +282,8 @@ module _ (l : ℕ) (c : BearerConfig) (keys : Keys) (nb ue : End) (h : BeginAlik
     loads = [];
     blocks_are = refl;
     carry = tt;
-    tracks = first_tracks c.pdcp_bits c.rlc_bits c.rx.reorder (2 ^ c.pdcp_bits) near far (first_flow Nb l c) u (first_begins c keys Nb) (first_begins c keys Ue) (new_flow Nb);
+    tracks = first_tracks c.pdcp_bits c.rlc_bits c.rx.reorder (2 ^ c.pdcp_bits) near far (first_flow Nb l c) u
+        (first_begins c keys Nb) (first_begins c keys Ue) (new_flow Nb);
     short = tt;
   }
   first_follows Ue = record {
@@ -221,13 +295,16 @@ module _ (l : ℕ) (c : BearerConfig) (keys : Keys) (nb ue : End) (h : BeginAlik
     loads = [];
     blocks_are = refl;
     carry = tt;
-    tracks = first_tracks c.pdcp_bits c.rlc_bits c.rx.reorder (2 ^ c.pdcp_bits) far near (first_flow Ue l c) u (first_begins c keys Ue) (first_begins c keys Nb) (new_flow Ue);
+    tracks = first_tracks c.pdcp_bits c.rlc_bits c.rx.reorder (2 ^ c.pdcp_bits) far near (first_flow Ue l c) u
+        (first_begins c keys Ue) (first_begins c keys Nb) (new_flow Ue);
     short = tt;
   }
 
 pub losses_are_told : LossesAreTold
 losses_are_told l c keys nb ue from steps h g told =
-    walk_short l c (u l c keys nb ue h) (some l c keys nb ue h) from steps (outset nb ue) (fresh c keys Nb) (fresh c keys Ue) [] (first_flow from l c) g (first_follows l c keys nb ue h from) told
+    walk_short l c (u l c keys nb ue h) (some l c keys nb ue h) from steps (outset nb ue) (fresh c keys Nb)
+    (fresh c keys Ue) [] (first_flow from l c) g (first_follows l c keys nb ue h from) told
 
 pub channels_deliver_as_told : ChannelsDeliverAsTold
-channels_deliver_as_told l c keys nb ue from steps h g told = channels_deliver_in_order l c keys nb ue from steps h g (losses_are_told l c keys nb ue from steps h g told)
+channels_deliver_as_told l c keys nb ue from steps h g told =
+    channels_deliver_in_order l c keys nb ue from steps h g (losses_are_told l c keys nb ue from steps h g told)

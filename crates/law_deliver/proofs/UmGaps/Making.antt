@@ -1,5 +1,8 @@
 -- A direction of an unacknowledged bearer in a life, beside what is told of its losses: what its end that sends does.
-use Rattle.std.proofs.Common.{◌≡◌, ◌⊎◌, inl, inr, ◌<◌, ◌≤◌, ℕ, zero, suc, ◌+◌, ◌-◌, ◌%◌, ◌^◌, Bool, true, false, not, if◌then◌else◌, List, [], ◌∷◌, ◌++◌, map, length, get_or-set_same, get_or-set_other, Option, Some, None, is_some, Ok, slice_get, slice_set, slice_index_or, append-nil, append_assoc, length-append, refl, ap, sym, subst, ◌∙◌, arith}
+use Rattle.std.proofs.Common.{◌≡◌, ◌⊎◌, inl, inr, ◌<◌, ◌≤◌, ℕ, zero, suc, ◌+◌, ◌-◌, ◌%◌, ◌^◌, Bool, true, false, not}
+use Rattle.std.proofs.Common.{if◌then◌else◌, List, [], ◌∷◌, ◌++◌, map, length, get_or-set_same, get_or-set_other}
+use Rattle.std.proofs.Common.{Option, Some, None, is_some, Ok, slice_get, slice_set, slice_index_or, append-nil}
+use Rattle.std.proofs.Common.{append_assoc, length-append, refl, ap, sym, subst, ◌∙◌, arith}
 use Rattle.std.proofs.lemmas.Bool.Decides.{nat_tests}
 use Rattle.std.proofs.Math.ListN.{length-set}
 use Rattle.std.specs.List.{AllByRecursion}
@@ -19,7 +22,8 @@ use Rattle.rlc_pdu.specs.Reading.{umd_at}
 use Rattle.rlc_queue.specs.NewPdu.{framing}
 use Rattle.rlc_queue.specs.Waiting.{HaveOctets}
 use Rattle.rlc_um.specs.Joined.{Parts, parts_of, Joined, with_elements, with_number}
-use Rattle.rlc_um.specs.Sender.{Sender, Turn, Gives, IsIdle, IsHeld as TurnsHeld, IsSmall, turn, taken, answer as turn_answer, after_turn, after_take, pdu_of, ends_partly, offered, width_of}
+use Rattle.rlc_um.specs.Sender.{Sender, Turn, Gives, IsIdle, IsHeld as TurnsHeld, IsSmall, turn, taken}
+use Rattle.rlc_um.specs.Sender.{answer as turn_answer, after_turn, after_take, pdu_of, ends_partly, offered, width_of}
 use Rattle.law_deliver.specs.UmFlow.Calls.{calls_in}
 use Rattle.law_deliver.specs.UmFlow.Handing.{all_called}
 use Rattle.law_deliver.specs.UmFlow.Pair.{BearerEnd, Deed, Calls, called, does, HasOctet, IsDone}
@@ -45,15 +49,20 @@ use Rattle.law_deliver.proofs.UmGaps.Tracking.{made_in, Written, IsUnder, Tracks
 
 -- ---- the PDUs that are made
 
-made_then : (bits : ℕ) (a : State) (xs more : List Call) (d : State) → all_called a xs ≡ d → made_in bits a (xs ++ more) ≡ (flow (all_sender_steps d more) (flow (all_sender_steps a xs) (at_first bits))).made
+made_then : (bits : ℕ) (a : State) (xs more : List Call) (d : State) → all_called a xs ≡ d
+    → made_in bits a (xs ++ more)
+    ≡ (flow (all_sender_steps d more) (flow (all_sender_steps a xs) (at_first bits))).made
 made_then bits a xs more d q =
     ap (λ (ss : List Step). (flow ss (at_first bits)).made) (steps_then a xs more)
-    ∙ ap (λ (f : Made). f.made) (flow_more (all_sender_steps a xs) (all_sender_steps (all_called a xs) more) (at_first bits))
+    ∙ ap (λ (f : Made). f.made)
+    (flow_more (all_sender_steps a xs) (all_sender_steps (all_called a xs) more) (at_first bits))
     ∙ ap (λ (s : State). (flow (all_sender_steps s more) (flow (all_sender_steps a xs) (at_first bits))).made) q
 
 -- none where nothing is taken
-made_none : (bits : ℕ) (a : State) (xs more : List Call) (d : State) → all_called a xs ≡ d → all_sender_steps d more ≡ [] → made_in bits a (xs ++ more) ≡ made_in bits a xs
-made_none bits a xs more d q none = made_then bits a xs more d q ∙ ap (λ (ss : List Step). (flow ss (flow (all_sender_steps a xs) (at_first bits))).made) none
+made_none : (bits : ℕ) (a : State) (xs more : List Call) (d : State) → all_called a xs ≡ d
+    → all_sender_steps d more ≡ [] → made_in bits a (xs ++ more) ≡ made_in bits a xs
+made_none bits a xs more d q none = made_then bits a xs more d q
+    ∙ ap (λ (ss : List Step). (flow ss (flow (all_sender_steps a xs) (at_first bits))).made) none
 
 steps_none : (b : State) (c : Call) → IsNoTake c → sender_steps b c ≡ []
 steps_none b (Submit sdu) n = refl
@@ -65,7 +74,8 @@ steps_none b (SetDiscard ttis) n = refl
 
 quiet_steps : (b : State) (cs : List Call) → AllByRecursion IsNoTake cs → all_sender_steps b cs ≡ []
 quiet_steps b [] q = refl
-quiet_steps b (c ∷ cs) q = ap (λ (ss : List Step). ss ++ all_sender_steps (called b c) cs) (steps_none b c q.0) ∙ quiet_steps (called b c) cs q.1
+quiet_steps b (c ∷ cs) q = ap (λ (ss : List Step). ss ++ all_sender_steps (called b c) cs) (steps_none b c q.0)
+    ∙ quiet_steps (called b c) cs q.1
 
 quiet_tx : (b : State) (cs : List Call) → AllByRecursion IsNoTake cs → (all_called b cs).tx ≡ b.tx
 quiet_tx b [] q = refl
@@ -75,7 +85,8 @@ offers_flow : (pdus : List (List ℕ)) (f : Made) → (flow (map (λ pdu. Offer 
 offers_flow [] f = refl
 offers_flow (pdu ∷ pdus) f = offers_flow pdus (goes f (Offer pdu))
 
-offers_sender : (pdus : List (List ℕ)) (f : Made) → (flow (map (λ pdu. Offer pdu) pdus) f).sender ≡ um_offered pdus f.sender
+offers_sender : (pdus : List (List ℕ)) (f : Made)
+    → (flow (map (λ pdu. Offer pdu) pdus) f).sender ≡ um_offered pdus f.sender
 offers_sender [] f = refl
 offers_sender (pdu ∷ pdus) f = offers_sender pdus (goes f (Offer pdu))
 
@@ -91,16 +102,21 @@ offers_bits : (pdus : List (List ℕ)) (s : Sender) → (um_offered pdus s).bits
 offers_bits [] s = refl
 offers_bits (pdu ∷ pdus) s = offers_bits pdus (offered pdu s)
 
-offers_octets : (pdus : List (List ℕ)) (s : Sender) → AllByRecursion HasOctet pdus → HaveOctets s.waiting.sdus → HaveOctets (um_offered pdus s).waiting.sdus
+offers_octets : (pdus : List (List ℕ)) (s : Sender) → AllByRecursion HasOctet pdus → HaveOctets s.waiting.sdus
+    → HaveOctets (um_offered pdus s).waiting.sdus
 offers_octets [] s some h = h
-offers_octets (pdu ∷ pdus) s some h = offers_octets pdus (offered pdu s) some.1 (octets_push s.waiting.sdus pdu some.0 h)
+offers_octets (pdu ∷ pdus) s some h =
+    offers_octets pdus (offered pdu s) some.1 (octets_push s.waiting.sdus pdu some.0 h)
 
-write_is : (p : ℕ) (pdu : Fields) (f : Flow) → is_pdu f.bits pdu ≡ true → after (writes p pdu) f ≡ record f { sending = written_into p pdu f.sending }
+write_is : (p : ℕ) (pdu : Fields) (f : Flow) → is_pdu f.bits pdu ≡ true
+    → after (writes p pdu) f ≡ record f { sending = written_into p pdu f.sending }
 write_is p pdu f e = rw e refl
 
 -- ---- a new PDU with tags
 
-framed : (begins ends : Bool) (sn : ℕ) (elements : List (List ℕ)) → parts_of (record { sn = sn; fi = framing begins ends; elements = elements }) ≡ record { begins = begins; ends = ends; elements = elements }
+framed : (begins ends : Bool) (sn : ℕ) (elements : List (List ℕ))
+    → parts_of (record { sn = sn; fi = framing begins ends; elements = elements })
+    ≡ record { begins = begins; ends = ends; elements = elements }
 framed true true sn elements = refl
 framed true false sn elements = refl
 framed false true sn elements = refl
@@ -130,9 +146,15 @@ last_few : (b : Bool) → (if b then 0 else 1) ≤ 1
 last_few true = omega arith
 last_few false = omega arith
 
-tag_pdu : (n ended sn : ℕ) (begun partly : Bool) (elements : List (List ℕ)) (j : Joined) → length elements ≡ suc n → AreTagged ended begun j
-    → AreTagged (ended + ends_in (fields (record { sn = sn; fi = framing (not begun) (not partly); elements = elements }))) partly
-    (with_number (Some (parts_of (tagged (Some ended) (fields (record { sn = sn; fi = framing (not begun) (not partly); elements = elements }))))) j)
+tag_pdu : (n ended sn : ℕ) (begun partly : Bool) (elements : List (List ℕ)) (j : Joined) → length elements ≡ suc n
+    → AreTagged ended begun j
+    → AreTagged
+    (ended + ends_in (fields (record { sn = sn; fi = framing (not begun) (not partly); elements = elements }))) partly
+    (with_number
+    (Some
+    (parts_of
+    (tagged (Some ended)
+    (fields (record { sn = sn; fi = framing (not begun) (not partly); elements = elements }))))) j)
 tag_pdu n ended sn begun partly elements j many h =
     let p : UmdPdu = record { sn = sn; fi = framing (not begun) (not partly); elements = elements } in
     let last : ℕ = if not partly then 0 else 1 in
@@ -143,12 +165,16 @@ tag_pdu n ended sn begun partly elements j many h =
     let rest : p.fi % 2 ≡ last = rest_of (not begun) (not partly) in
     let few = last_few (not partly) in
     let same : (t + n) - last ≡ ended + ends_in (fields p) = omega (arith, many, rest, few) in
-    let elements_are : with_elements (not begun) (not partly) (tags t 1 (suc n)) j ≡ with_number (Some (parts_of (tagged (Some ended) (fields p)))) j =
+    let elements_are : with_elements (not begun) (not partly) (tags t 1 (suc n)) j
+    ≡ with_number (Some (parts_of (tagged (Some ended) (fields p)))) j =
     ap (λ (m : ℕ). with_elements (not begun) (not partly) (tags t 1 m) j) (sym many)
-    ∙ ap (λ (x : Parts). with_number (Some x) j) (sym (framed (not begun) (not partly) sn (tags t 1 (length elements)))) in
+    ∙ ap (λ (x : Parts). with_number (Some x) j)
+    (sym (framed (not begun) (not partly) sn (tags t 1 (length elements)))) in
     subst (AreTagged (ended + ends_in (fields p)) partly) elements_are
-    (subst (λ (b : Bool). AreTagged (ended + ends_in (fields p)) b (with_elements (not begun) (not partly) (tags t 1 (suc n)) j)) (not_not partly)
-    (subst (λ (m : ℕ). AreTagged m (not (not partly)) (with_elements (not begun) (not partly) (tags t 1 (suc n)) j)) same all))
+    (subst (λ (b : Bool). AreTagged (ended + ends_in (fields p)) b
+    (with_elements (not begun) (not partly) (tags t 1 (suc n)) j)) (not_not partly)
+    (subst (λ (m : ℕ). AreTagged m (not (not partly)) (with_elements (not begun) (not partly) (tags t 1 (suc n)) j))
+    same all))
 
 some_lens : (elements : List (List ℕ)) → AreLens (map length elements) → 0 < length elements
 some_lens [] h = absurd h
@@ -162,7 +188,8 @@ ranged bits p a b c = grind (arith, nat_tests, a, b, c)
 
 -- ---- what is under way
 
-under_more : (bits : ℕ) (tm : List UmdPdu) (q : UmdPdu) (under : List (Option Flying)) (loads : List Load) → AllByRecursion (IsUnder bits tm under) loads → AllByRecursion (IsUnder bits (tm ++ q ∷ []) under) loads
+under_more : (bits : ℕ) (tm : List UmdPdu) (q : UmdPdu) (under : List (Option Flying)) (loads : List Load)
+    → AllByRecursion (IsUnder bits tm under) loads → AllByRecursion (IsUnder bits (tm ++ q ∷ []) under) loads
 under_more bits tm q under [] h = tt
 under_more bits tm q under (x ∷ xs) h = (one h.0, under_more bits tm q under xs h.1)
   where
@@ -178,7 +205,8 @@ under_more bits tm q under (x ∷ xs) h = (one h.0, under_more bits tm q under x
       range = f.range;
     })
 
-under_set : (bits : ℕ) (tm : List UmdPdu) (under : List (Option Flying)) (p : ℕ) (y : Option Flying) (loads : List Load) → AllByRecursion (λ (x : Load). x.block.process ≡ p → ⊥) loads
+under_set : (bits : ℕ) (tm : List UmdPdu) (under : List (Option Flying)) (p : ℕ) (y : Option Flying)
+    (loads : List Load) → AllByRecursion (λ (x : Load). x.block.process ≡ p → ⊥) loads
     → AllByRecursion (IsUnder bits tm under) loads → AllByRecursion (IsUnder bits tm (slice_set under p y)) loads
 under_set bits tm under p y [] apart h = tt
 under_set bits tm under p y (x ∷ xs) apart h = (one h.0, under_set bits tm under p y xs apart.1 h.1)
@@ -188,9 +216,19 @@ under_set bits tm under p y (x ∷ xs) apart h = (one h.0, under_set bits tm und
 
     one : IsUnder bits tm under x → IsUnder bits tm (slice_set under p y) x
     one (inl none) = inl (none.0, same ∙ none.1)
-    one (inr f) = inr (record { copy = f.copy; copies_are = f.copies_are; flying = f.flying; is = same ∙ f.is; number_is = f.number_is; there = f.there; range = f.range })
+    one (inr f) =
+        inr (record {
+          copy = f.copy;
+          copies_are = f.copies_are;
+          flying = f.flying;
+          is = same ∙ f.is;
+          number_is = f.number_is;
+          there = f.there;
+          range = f.range;
+        })
 
-pub under_except : (bits : ℕ) (tm : List UmdPdu) (under : List (Option Flying)) (k : ℕ) (loads : List Load) → AllByRecursion (IsUnder bits tm under) loads → AllByRecursion (IsUnder bits tm under) (except k loads)
+pub under_except : (bits : ℕ) (tm : List UmdPdu) (under : List (Option Flying)) (k : ℕ) (loads : List Load)
+    → AllByRecursion (IsUnder bits tm under) loads → AllByRecursion (IsUnder bits tm under) (except k loads)
 under_except bits tm under k [] h = h
 under_except bits tm under zero (x ∷ xs) h = h.1
 under_except bits tm under (suc k) (x ∷ xs) h = (h.0, under_except bits tm under k xs h.1)
@@ -198,28 +236,38 @@ under_except bits tm under (suc k) (x ∷ xs) h = (h.0, under_except bits tm und
 module _ (bits reorder counts : ℕ) (u : IsUmBits bits) where
   -- ---- deeds that make no PDU
 
-  from_on_all : (a : State) (xs : List Call) (b : State) (ys : List Call) (n m : BearerEnd) (ds : List Deed) → AreDone m n ds → IsOn bits reorder a xs b ys n m → IsOn bits reorder a (xs ++ all_calls_in m ds) b ys (does_all m n ds) m
+  from_on_all : (a : State) (xs : List Call) (b : State) (ys : List Call) (n m : BearerEnd) (ds : List Deed)
+      → AreDone m n ds → IsOn bits reorder a xs b ys n m
+      → IsOn bits reorder a (xs ++ all_calls_in m ds) b ys (does_all m n ds) m
   from_on_all a xs b ys n m [] g h = subst (λ (cs : List Call). IsOn bits reorder a cs b ys n m) (sym (append-nil xs)) h
   from_on_all a xs b ys n m (d ∷ ds) g h =
-      subst (λ (cs : List Call). IsOn bits reorder a cs b ys (does_all m (does m n d) ds) m) (append_assoc xs (calls_in m d) (all_calls_in m ds))
+      subst (λ (cs : List Call). IsOn bits reorder a cs b ys (does_all m (does m n d) ds) m)
+      (append_assoc xs (calls_in m d) (all_calls_in m ds))
       (from_on_all a (xs ++ calls_in m d) b ys (does m n d) m ds g.1 (from_on bits reorder u a xs b ys n m d g.0 h))
 
-  pub from_quiet : (a : State) (xs : List Call) (b : State) (ys : List Call) (n m : BearerEnd) (loads more : List Load) (f : Flow) (ds : List Deed) (cs : List Call) → AreDone m n ds → all_calls_in m ds ≡ cs → AllByRecursion IsNoTake cs
-      → (h : Tracks bits reorder counts a xs b ys n m loads f) → (does_all m n ds).copies ≡ all_copies more → AllByRecursion (IsUnder bits h.tm f.sending.under_way) more
+  pub from_quiet : (a : State) (xs : List Call) (b : State) (ys : List Call) (n m : BearerEnd)
+      (loads more : List Load) (f : Flow) (ds : List Deed) (cs : List Call) → AreDone m n ds → all_calls_in m ds ≡ cs
+      → AllByRecursion IsNoTake cs
+      → (h : Tracks bits reorder counts a xs b ys n m loads f) → (does_all m n ds).copies ≡ all_copies more
+      → AllByRecursion (IsUnder bits h.tm f.sending.under_way) more
       → Tracks bits reorder counts a (xs ++ cs) b ys (does_all m n ds) m more f
   from_quiet a xs b ys n m loads more f ds cs g are quiet h copies under =
-      let on : IsOn bits reorder a (xs ++ cs) b ys (does_all m n ds) m = subst (λ (l : List Call). IsOn bits reorder a (xs ++ l) b ys (does_all m n ds) m) are (from_on_all a xs b ys n m ds g h.on) in
+      let on : IsOn bits reorder a (xs ++ cs) b ys (does_all m n ds) m =
+      subst (λ (l : List Call). IsOn bits reorder a (xs ++ l) b ys (does_all m n ds) m) are
+      (from_on_all a xs b ys n m ds g h.on) in
       let none = quiet_steps n.bearer cs quiet in
       let left : all_called n.bearer cs ≡ (does_all m n ds).bearer =
       ap (λ (s : State). all_called s cs) (sym h.on.from_is) ∙ sym (called_then a xs cs) ∙ on.from_is in
-      let tx : (does_all m n ds).bearer.tx ≡ n.bearer.tx = ap (λ (s : State). s.tx) (sym left) ∙ quiet_tx n.bearer cs quiet in
+      let tx : (does_all m n ds).bearer.tx ≡ n.bearer.tx =
+      ap (λ (s : State). s.tx) (sym left) ∙ quiet_tx n.bearer cs quiet in
       record {
         on = on;
         tm = h.tm;
         calls = h.calls;
         heard = h.heard;
         idle = h.idle;
-        written = subst (λ (made : List UmdPdu). Written made h.tm (does_all m n ds).bearer.tx.waiting.begun f) (sym (made_none bits a xs cs n.bearer h.on.from_is none))
+        written = subst (λ (made : List UmdPdu). Written made h.tm (does_all m n ds).bearer.tx.waiting.begun f)
+            (sym (made_none bits a xs cs n.bearer h.on.from_is none))
             (subst (λ (s : Sender). Written (made_in bits a xs) h.tm s.waiting.begun f) (sym tx) h.written);
         copies_are = copies;
         under = under;
@@ -227,8 +275,10 @@ module _ (bits reorder counts : ℕ) (u : IsUmBits bits) where
 
   -- ---- a process begins a new block
 
-  pub begins_block : (a : State) (xs : List Call) (b : State) (ys : List Call) (n m : BearerEnd) (loads : List Load) (f : Flow) (x : Load) → x.copies ≡ [] → x.block.process < 8
-      → AllByRecursion (λ (y : Load). y.block.process ≡ x.block.process → ⊥) loads → Tracks bits reorder counts a xs b ys n m loads f
+  pub begins_block : (a : State) (xs : List Call) (b : State) (ys : List Call) (n m : BearerEnd) (loads : List Load)
+      (f : Flow) (x : Load) → x.copies ≡ [] → x.block.process < 8
+      → AllByRecursion (λ (y : Load). y.block.process ≡ x.block.process → ⊥) loads
+      → Tracks bits reorder counts a xs b ys n m loads f
       → Tracks bits reorder counts a xs b ys n m (x ∷ loads) (after (renews x.block.process) f)
   begins_block a xs b ys n m loads f x none few apart h =
       let p = x.block.process in
@@ -250,18 +300,26 @@ module _ (bits reorder counts : ℕ) (u : IsUmBits bits) where
           long_is = h.heard.long_is;
         };
         idle = h.idle;
-        written = record { alike = h.written.alike; tagged' = h.written.tagged'; number_is = h.written.number_is; many = length-set old p None ∙ h.written.many };
+        written = record {
+          alike = h.written.alike;
+          tagged' = h.written.tagged';
+          number_is = h.written.number_is;
+          many = length-set old p None ∙ h.written.many;
+        };
         copies_are = h.copies_are ∙ ap (λ (cs : List Copy). cs ++ all_copies loads) (sym none);
         under = (inl (none, get_or-set_same old p None None lt), under_set bits h.tm old p None loads apart h.under);
       }
 
   -- ---- a PDU is taken, behind that
 
-  takes_so : (b : State) (share : ℕ) (held : Option ℕ) → (called b (Take share held)).tx ≡ after_take (feeding b share held).tx (size_in share) held
+  takes_so : (b : State) (share : ℕ) (held : Option ℕ)
+      → (called b (Take share held)).tx ≡ after_take (feeding b share held).tx (size_in share) held
   unfolding taken_from after_taking
   takes_so b share held = refl
 
-  answers_so : (b : State) (share : ℕ) (held : Option ℕ) → answer b share held ≡ turn_answer (turn (feeding b share held).tx (size_in share) held) (feeding b share held).tx (size_in share)
+  answers_so : (b : State) (share : ℕ) (held : Option ℕ)
+      → answer b share held ≡ turn_answer (turn (feeding b share held).tx (size_in share) held)
+      (feeding b share held).tx (size_in share)
   unfolding answer taken
   answers_so b share held = refl
 
@@ -270,8 +328,11 @@ module _ (bits reorder counts : ℕ) (u : IsUmBits bits) where
   after_so s size held = refl
 
   -- what the sender makes as it takes
-  made_taken : (a : State) (xs : List Call) (b : State) (ys : List Call) (n m : BearerEnd) (share : ℕ) (held : Option ℕ) (t : Turn) → turn (feeding n.bearer share held).tx (size_in share) held ≡ t → IsOn bits reorder a xs b ys n m
-      → made_in bits a (xs ++ Take share held ∷ []) ≡ made_in bits a xs ++ made_by t (feeding n.bearer share held).tx (size_in share)
+  made_taken : (a : State) (xs : List Call) (b : State) (ys : List Call) (n m : BearerEnd) (share : ℕ)
+      (held : Option ℕ) (t : Turn) → turn (feeding n.bearer share held).tx (size_in share) held ≡ t
+      → IsOn bits reorder a xs b ys n m
+      → made_in bits a (xs ++ Take share held ∷ []) ≡ made_in bits a xs
+      ++ made_by t (feeding n.bearer share held).tx (size_in share)
   made_taken a xs b ys n m share held t q on =
       let d : State = n.bearer in
       let size = size_in share in
@@ -280,18 +341,27 @@ module _ (bits reorder counts : ℕ) (u : IsUmBits bits) where
       let offers : List Step = map (λ pdu. Offer pdu) pdus in
       let g : Made = flow (all_sender_steps a xs) (at_first bits) in
       let sender : g.sender ≡ d.tx = ap (λ (f : Made). f.sender) on.stands.f_is ∙ on.stands.sender_is in
-      let fed : (flow offers g).sender ≡ s = offers_sender pdus g ∙ ap (um_offered pdus) sender ∙ sym (is_offered (Um d) share held) in
+      let fed : (flow offers g).sender ≡ s = offers_sender pdus g ∙ ap (um_offered pdus) sender
+      ∙ sym (is_offered (Um d) share held) in
       made_then bits a xs (Take share held ∷ []) d on.from_is
       ∙ ap (λ (ss : List Step). (flow ss g).made) (append-nil (offers ++ Takes size held ∷ []))
-      ∙ ap (λ (f : Made). f.made) (flow_more offers (Takes size held ∷ []) g ∙ goes_take (flow offers g) s size held t fed q)
+      ∙ ap (λ (f : Made). f.made) (flow_more offers (Takes size held ∷ []) g
+      ∙ goes_take (flow offers g) s size held t fed q)
       ∙ ap (λ (l : List UmdPdu). l ++ made_by t s size) (offers_flow pdus g)
 
   -- where none is given
-  takes_none : (a : State) (xs : List Call) (b : State) (ys : List Call) (n m : BearerEnd) (loads : List Load) (f : Flow) (share : ℕ) (held : Option ℕ) (x : Load) (t : Turn) → turn (feeding n.bearer share held).tx (size_in share) held ≡ t
-      → ((s : Sender) (size : ℕ) (cs : List Copy) → copies_with (turn_answer t s size) cs ≡ cs) → ((s : Sender) (size : ℕ) → made_by t s size ≡ []) → ((s : Sender) (size : ℕ) → after_turn t s size ≡ s)
-      → IsDone n (Calls (Take share held)) → x.copies ≡ copies_with (answer n.bearer share held) [] → x.block.process < 8
-      → AllByRecursion (λ (y : Load). y.block.process ≡ x.block.process → ⊥) loads → Tracks bits reorder counts a xs b ys n m loads f
-      → Tracks bits reorder counts a (xs ++ Take share held ∷ []) b ys (does m n (Calls (Take share held))) m (x ∷ loads) (all_after (written_whats bits x.block.process (octets_of x.copies)) (after (renews x.block.process) f))
+  takes_none : (a : State) (xs : List Call) (b : State) (ys : List Call) (n m : BearerEnd) (loads : List Load)
+      (f : Flow) (share : ℕ) (held : Option ℕ) (x : Load) (t : Turn)
+      → turn (feeding n.bearer share held).tx (size_in share) held ≡ t
+      → ((s : Sender) (size : ℕ) (cs : List Copy) → copies_with (turn_answer t s size) cs ≡ cs)
+      → ((s : Sender) (size : ℕ) → made_by t s size ≡ []) → ((s : Sender) (size : ℕ) → after_turn t s size ≡ s)
+      → IsDone n (Calls (Take share held)) → x.copies ≡ copies_with (answer n.bearer share held) []
+      → x.block.process < 8
+      → AllByRecursion (λ (y : Load). y.block.process ≡ x.block.process → ⊥) loads
+      → Tracks bits reorder counts a xs b ys n m loads f
+      → Tracks bits reorder counts a (xs ++ Take share held ∷ []) b ys (does m n (Calls (Take share held))) m
+      (x ∷ loads) (all_after (written_whats bits x.block.process (octets_of x.copies))
+      (after (renews x.block.process) f))
   takes_none a xs b ys n m loads f share held x t q same none stays g copies few apart h =
       let d : State = n.bearer in
       let size = size_in share in
@@ -299,30 +369,45 @@ module _ (bits reorder counts : ℕ) (u : IsUmBits bits) where
       let pdus = map (pdcp_pdu d.pdcp.tx) (takes (Um d) (Take share held)) in
       let p = x.block.process in
       let k : Flow = after (renews p) f in
-      let gives_so : answer d share held ≡ turn_answer t s size = answers_so d share held ∙ ap (λ (y : Turn). turn_answer y s size) q in
+      let gives_so : answer d share held ≡ turn_answer t s size =
+      answers_so d share held ∙ ap (λ (y : Turn). turn_answer y s size) q in
       let empty : x.copies ≡ [] = copies ∙ ap (λ y. copies_with y []) gives_so ∙ same s size [] in
-      let one : Tracks bits reorder counts a xs b ys n m (x ∷ loads) k = begins_block a xs b ys n m loads f x empty few apart h in
-      let tx : (called d (Take share held)).tx ≡ s = takes_so d share held ∙ after_so s size held ∙ ap (λ (y : Turn). after_turn y s size) q ∙ stays s size in
-      let begun : (called d (Take share held)).tx.waiting.begun ≡ d.tx.waiting.begun = ap (λ (y : Sender). y.waiting.begun) (tx ∙ is_offered (Um d) share held) ∙ offers_begun pdus d.tx in
-      let made : made_in bits a (xs ++ Take share held ∷ []) ≡ made_in bits a xs = made_taken a xs b ys n m share held t q h.on ∙ ap (λ (l : List UmdPdu). made_in bits a xs ++ l) (none s size) ∙ append-nil (made_in bits a xs) in
-      let last : k ≡ all_after (written_whats bits p (octets_of x.copies)) k = ap (λ (cs : List Copy). all_after (written_whats bits p (octets_of cs)) k) (sym empty) in
-      subst (Tracks bits reorder counts a (xs ++ Take share held ∷ []) b ys (does m n (Calls (Take share held))) m (x ∷ loads)) last
+      let one : Tracks bits reorder counts a xs b ys n m (x ∷ loads) k =
+      begins_block a xs b ys n m loads f x empty few apart h in
+      let tx : (called d (Take share held)).tx ≡ s = takes_so d share held ∙ after_so s size held
+      ∙ ap (λ (y : Turn). after_turn y s size) q ∙ stays s size in
+      let begun : (called d (Take share held)).tx.waiting.begun ≡ d.tx.waiting.begun =
+      ap (λ (y : Sender). y.waiting.begun) (tx ∙ is_offered (Um d) share held) ∙ offers_begun pdus d.tx in
+      let made : made_in bits a (xs ++ Take share held ∷ []) ≡ made_in bits a xs =
+      made_taken a xs b ys n m share held t q h.on
+      ∙ ap (λ (l : List UmdPdu). made_in bits a xs ++ l) (none s size) ∙ append-nil (made_in bits a xs) in
+      let last : k ≡ all_after (written_whats bits p (octets_of x.copies)) k =
+      ap (λ (cs : List Copy). all_after (written_whats bits p (octets_of cs)) k) (sym empty) in
+      subst (Tracks bits reorder counts a (xs ++ Take share held ∷ []) b ys (does m n (Calls (Take share held))) m
+      (x ∷ loads)) last
       (record {
         on = from_on bits reorder u a xs b ys n m (Calls (Take share held)) g h.on;
         tm = one.tm;
         calls = one.calls;
         heard = one.heard;
         idle = one.idle;
-        written = subst (λ (l : List UmdPdu). Written l one.tm (called d (Take share held)).tx.waiting.begun k) (sym made) (subst (λ (y : Bool). Written (made_in bits a xs) one.tm y k) (sym begun) one.written);
+        written = subst (λ (l : List UmdPdu). Written l one.tm (called d (Take share held)).tx.waiting.begun k)
+            (sym made) (subst (λ (y : Bool). Written (made_in bits a xs) one.tm y k) (sym begun) one.written);
         copies_are = ap (λ y. copies_with y n.copies) gives_so ∙ same s size n.copies ∙ one.copies_are;
         under = one.under;
       })
 
   -- where one is
-  takes_one : (a : State) (xs : List Call) (b : State) (ys : List Call) (n m : BearerEnd) (loads : List Load) (f : Flow) (share : ℕ) (held : Option ℕ) (x : Load) → turn (feeding n.bearer share held).tx (size_in share) held ≡ Gives
-      → IsDone n (Calls (Take share held)) → x.copies ≡ copies_with (answer n.bearer share held) [] → x.block.process < 8
-      → AllByRecursion (λ (y : Load). y.block.process ≡ x.block.process → ⊥) loads → Tracks bits reorder counts a xs b ys n m loads f
-      → Tracks bits reorder counts a (xs ++ Take share held ∷ []) b ys (does m n (Calls (Take share held))) m (x ∷ loads) (all_after (written_whats bits x.block.process (octets_of x.copies)) (after (renews x.block.process) f))
+  takes_one : (a : State) (xs : List Call) (b : State) (ys : List Call) (n m : BearerEnd) (loads : List Load)
+      (f : Flow) (share : ℕ) (held : Option ℕ) (x : Load)
+      → turn (feeding n.bearer share held).tx (size_in share) held ≡ Gives
+      → IsDone n (Calls (Take share held)) → x.copies ≡ copies_with (answer n.bearer share held) []
+      → x.block.process < 8
+      → AllByRecursion (λ (y : Load). y.block.process ≡ x.block.process → ⊥) loads
+      → Tracks bits reorder counts a xs b ys n m loads f
+      → Tracks bits reorder counts a (xs ++ Take share held ∷ []) b ys (does m n (Calls (Take share held))) m
+      (x ∷ loads) (all_after (written_whats bits x.block.process (octets_of x.copies))
+      (after (renews x.block.process) f))
   takes_one a xs b ys n m loads f share held x q g copies few apart h =
       let d : State = n.bearer in
       let size = size_in share in
@@ -333,34 +418,44 @@ module _ (bits reorder counts : ℕ) (u : IsUmBits bits) where
       let on = from_on bits reorder u a xs b ys n m (Calls (Take share held)) g h.on in
       let st = on.stands in
       let old = h.on.stands in
-      let gives_so : answer d share held ≡ turn_answer Gives s size = answers_so d share held ∙ ap (λ (y : Turn). turn_answer y s size) q in
+      let gives_so : answer d share held ≡ turn_answer Gives s size =
+      answers_so d share held ∙ ap (λ (y : Turn). turn_answer y s size) q in
       let c : Copy = record { number = s.next; octets = _ } in
       let own : x.copies ≡ c ∷ [] = copies ∙ ap (λ y. copies_with y []) gives_so in
       let all : copies_with (answer d share held) n.copies ≡ c ∷ n.copies = ap (λ y. copies_with y n.copies) gives_so in
-      let made : made_in bits a (xs ++ Take share held ∷ []) ≡ made_in bits a xs ++ pdu ∷ [] = made_taken a xs b ys n m share held Gives q h.on in
-      let copy : IsCopyOf bits st.f.made c = (subst (λ (cs : List Copy). AllByRecursion (IsCopyOf bits st.f.made) cs) all st.copies_are).0 in
+      let made : made_in bits a (xs ++ Take share held ∷ []) ≡ made_in bits a xs ++ pdu ∷ [] =
+      made_taken a xs b ys n m share held Gives q h.on in
+      let copy : IsCopyOf bits st.f.made c =
+      (subst (λ (cs : List Copy). AllByRecursion (IsCopyOf bits st.f.made) cs) all st.copies_are).0 in
       let fed : s ≡ um_offered pdus d.tx = is_offered (Um d) share held in
-      let begun : d.tx.waiting.begun ≡ s.waiting.begun = sym (ap (λ (y : Sender). y.waiting.begun) fed ∙ offers_begun pdus d.tx) in
+      let begun : d.tx.waiting.begun ≡ s.waiting.begun =
+      sym (ap (λ (y : Sender). y.waiting.begun) fed ∙ offers_begun pdus d.tx) in
       let before : List UmdPdu = made_in bits a xs in
       let long : s.next ≡ length before =
-      ap (λ (y : Sender). y.next) fed ∙ offers_next pdus d.tx ∙ old.next_is ∙ ap (λ (g : Made). length g.made) (sym old.f_is) in
+      ap (λ (y : Sender). y.next) fed ∙ offers_next pdus d.tx ∙ old.next_is
+      ∙ ap (λ (g : Made). length g.made) (sym old.f_is) in
       let now : st.f.made ≡ before ++ pdu ∷ [] = ap (λ (g : Made). g.made) (sym st.f_is) ∙ made in
       let found : Some copy.pdu ≡ Some pdu =
-      sym copy.is ∙ ap (λ (l : List UmdPdu). slice_get l s.next) now ∙ ap (slice_get (before ++ pdu ∷ [])) long ∙ at_last before pdu in
+      sym copy.is ∙ ap (λ (l : List UmdPdu). slice_get l s.next) now ∙ ap (slice_get (before ++ pdu ∷ [])) long
+      ∙ at_last before pdu in
       let which : copy.pdu ≡ pdu = cc in
       let read : umd_at bits c.octets ≡ Ok pdu = copy.read ∙ ap (λ (y : UmdPdu). Ok y) which in
-      let known : IsUmBits s.bits = subst IsUmBits (sym (ap (λ (y : Sender). y.bits) fed ∙ offers_bits pdus d.tx ∙ old.bits_are)) u in
-      let octets : HaveOctets s.waiting.sdus = subst (λ (y : Sender). HaveOctets y.waiting.sdus) (sym fed) (offers_octets pdus d.tx g.some old.some) in
+      let known : IsUmBits s.bits =
+      subst IsUmBits (sym (ap (λ (y : Sender). y.bits) fed ∙ offers_bits pdus d.tx ∙ old.bits_are)) u in
+      let octets : HaveOctets s.waiting.sdus =
+      subst (λ (y : Sender). HaveOctets y.waiting.sdus) (sym fed) (offers_octets pdus d.tx g.some old.some) in
       let in' : IsUmdInRange s.bits pdu = in_range s size held known octets (gives s size held q) in
       let bits_are : s.bits ≡ bits = ap (λ (y : Sender). y.bits) fed ∙ offers_bits pdus d.tx ∙ old.bits_are in
       let range : is_pdu bits (fields pdu) ≡ true =
-      ranged bits pdu (subst (λ (v : ℕ). pdu.sn < 2 ^ v) bits_are in'.number) (few_of (not s.waiting.begun) (not (ends_partly s size))) (some_lens pdu.elements in'.lens) in
+      ranged bits pdu (subst (λ (v : ℕ). pdu.sn < 2 ^ v) bits_are in'.number)
+      (few_of (not s.waiting.begun) (not (ends_partly s size))) (some_lens pdu.elements in'.lens) in
       let k : Flow = after (renews p) f in
       let told : written_whats bits p (octets_of x.copies) ≡ writes p (fields pdu) ∷ [] =
       ap (λ (cs : List Copy). written_whats bits p (octets_of cs)) own ∙ ap (λ r. as_written p r ++ []) read in
       let next : Flow = record k { sending = written_into p (fields pdu) k.sending } in
       let goes_to : all_after (written_whats bits p (octets_of x.copies)) k ≡ next =
-      ap (λ (ws : List Happening). all_after ws k) told ∙ write_is p (fields pdu) k (ap (λ (v : ℕ). is_pdu v (fields pdu)) h.heard.bits_are ∙ range) in
+      ap (λ (ws : List Happening). all_after ws k) told
+      ∙ write_is p (fields pdu) k (ap (λ (v : ℕ). is_pdu v (fields pdu)) h.heard.bits_are ∙ range) in
       let first = f.sending.ended in
       let tag : UmdPdu = tagged (Some first) (fields pdu) in
       let tm : List UmdPdu = h.tm ++ tag ∷ [] in
@@ -371,12 +466,16 @@ module _ (bits reorder counts : ℕ) (u : IsUmBits bits) where
       let lt : p < length empty = omega (arith, few, many) in
       let same_many = alike_many before h.tm h.written.alike in
       let number : f.sending.sent ≡ s.next = h.written.number_is ∙ sym same_many ∙ sym long in
-      let tx : (called d (Take share held)).tx ≡ after_turn Gives s size = takes_so d share held ∙ after_so s size held ∙ ap (λ (y : Turn). after_turn y s size) q in
+      let tx : (called d (Take share held)).tx ≡ after_turn Gives s size =
+      takes_so d share held ∙ after_so s size held ∙ ap (λ (y : Turn). after_turn y s size) q in
       let some : 0 < length pdu.elements = some_lens pdu.elements in'.lens in
       let tagged_now : AreTagged (first + ends_in (fields pdu)) (ends_partly s size) (joined tm) =
       subst (AreTagged (first + ends_in (fields pdu)) (ends_partly s size)) (sym (joined-more h.tm tag))
-      (tag_pdu (length pdu.elements - 1) first pdu.sn s.waiting.begun (ends_partly s size) pdu.elements (joined h.tm) (less_one (length pdu.elements) some) (subst (λ (y : Bool). AreTagged first y (joined h.tm)) begun h.written.tagged')) in
-      subst (Tracks bits reorder counts a (xs ++ Take share held ∷ []) b ys (does m n (Calls (Take share held))) m (x ∷ loads)) (sym goes_to)
+      (tag_pdu (length pdu.elements - 1) first pdu.sn s.waiting.begun (ends_partly s size) pdu.elements (joined h.tm)
+      (less_one (length pdu.elements) some)
+      (subst (λ (y : Bool). AreTagged first y (joined h.tm)) begun h.written.tagged')) in
+      subst (Tracks bits reorder counts a (xs ++ Take share held ∷ []) b ys (does m n (Calls (Take share held))) m
+      (x ∷ loads)) (sym goes_to)
       (record {
         on = on;
         tm = tm;
@@ -394,12 +493,15 @@ module _ (bits reorder counts : ℕ) (u : IsUmBits bits) where
         };
         idle = h.idle;
         written = record {
-          alike = subst (λ (l : List UmdPdu). AllAlike l tm) (sym made) (alike_push before h.tm pdu tag h.written.alike (tagged_alike first pdu));
-          tagged' = subst (λ (y : Sender). AreTagged (first + ends_in (fields pdu)) y.waiting.begun (joined tm)) (sym tx) tagged_now;
+          alike = subst (λ (l : List UmdPdu). AllAlike l tm) (sym made)
+              (alike_push before h.tm pdu tag h.written.alike (tagged_alike first pdu));
+          tagged' = subst (λ (y : Sender). AreTagged (first + ends_in (fields pdu)) y.waiting.begun (joined tm))
+              (sym tx) tagged_now;
           number_is = ap (λ (v : ℕ). v + 1) h.written.number_is ∙ sym (length-append h.tm (tag ∷ []));
           many = length-set empty p (Some flying) ∙ many;
         };
-        copies_are = all ∙ ap (λ (cs : List Copy). c ∷ cs) h.copies_are ∙ ap (λ (cs : List Copy). cs ++ all_copies loads) (sym own);
+        copies_are = all ∙ ap (λ (cs : List Copy). c ∷ cs) h.copies_are
+            ∙ ap (λ (cs : List Copy). cs ++ all_copies loads) (sym own);
         under = (
           inr (record {
             copy = c;
@@ -410,22 +512,43 @@ module _ (bits reorder counts : ℕ) (u : IsUmBits bits) where
             there = ap (slice_get tm) (long ∙ same_many) ∙ at_last h.tm tag;
             range = range;
           }),
-          under_set bits tm empty p (Some flying) loads apart (under_set bits tm under p None loads apart (under_more bits h.tm tag under loads h.under)),
+          under_set bits tm empty p (Some flying) loads apart
+              (under_set bits tm under p None loads apart (under_more bits h.tm tag under loads h.under)),
         );
       })
 
   -- either
-  taken_by_turn : (a : State) (xs : List Call) (b : State) (ys : List Call) (n m : BearerEnd) (loads : List Load) (f : Flow) (share : ℕ) (held : Option ℕ) (x : Load) (t : Turn) → turn (feeding n.bearer share held).tx (size_in share) held ≡ t
-      → IsDone n (Calls (Take share held)) → x.copies ≡ copies_with (answer n.bearer share held) [] → x.block.process < 8
-      → AllByRecursion (λ (y : Load). y.block.process ≡ x.block.process → ⊥) loads → Tracks bits reorder counts a xs b ys n m loads f
-      → Tracks bits reorder counts a (xs ++ Take share held ∷ []) b ys (does m n (Calls (Take share held))) m (x ∷ loads) (all_after (written_whats bits x.block.process (octets_of x.copies)) (after (renews x.block.process) f))
-  taken_by_turn a xs b ys n m loads f share held x Gives q g copies few apart h = takes_one a xs b ys n m loads f share held x q g copies few apart h
-  taken_by_turn a xs b ys n m loads f share held x IsIdle q g copies few apart h = takes_none a xs b ys n m loads f share held x IsIdle q (λ s size cs. refl) (λ s size. refl) (λ s size. refl) g copies few apart h
-  taken_by_turn a xs b ys n m loads f share held x TurnsHeld q g copies few apart h = takes_none a xs b ys n m loads f share held x TurnsHeld q (λ s size cs. refl) (λ s size. refl) (λ s size. refl) g copies few apart h
-  taken_by_turn a xs b ys n m loads f share held x IsSmall q g copies few apart h = takes_none a xs b ys n m loads f share held x IsSmall q (λ s size cs. refl) (λ s size. refl) (λ s size. refl) g copies few apart h
+  taken_by_turn : (a : State) (xs : List Call) (b : State) (ys : List Call) (n m : BearerEnd) (loads : List Load)
+      (f : Flow) (share : ℕ) (held : Option ℕ) (x : Load) (t : Turn)
+      → turn (feeding n.bearer share held).tx (size_in share) held ≡ t
+      → IsDone n (Calls (Take share held)) → x.copies ≡ copies_with (answer n.bearer share held) []
+      → x.block.process < 8
+      → AllByRecursion (λ (y : Load). y.block.process ≡ x.block.process → ⊥) loads
+      → Tracks bits reorder counts a xs b ys n m loads f
+      → Tracks bits reorder counts a (xs ++ Take share held ∷ []) b ys (does m n (Calls (Take share held))) m
+      (x ∷ loads) (all_after (written_whats bits x.block.process (octets_of x.copies))
+      (after (renews x.block.process) f))
+  taken_by_turn a xs b ys n m loads f share held x Gives q g copies few apart h =
+      takes_one a xs b ys n m loads f share held x q g copies few apart h
+  taken_by_turn a xs b ys n m loads f share held x IsIdle q g copies few apart h =
+      takes_none a xs b ys n m loads f share held x IsIdle q (λ s size cs. refl) (λ s size. refl) (λ s size. refl) g
+      copies few apart h
+  taken_by_turn a xs b ys n m loads f share held x TurnsHeld q g copies few apart h =
+      takes_none a xs b ys n m loads f share held x TurnsHeld q (λ s size cs. refl) (λ s size. refl) (λ s size. refl)
+      g copies few apart h
+  taken_by_turn a xs b ys n m loads f share held x IsSmall q g copies few apart h =
+      takes_none a xs b ys n m loads f share held x IsSmall q (λ s size cs. refl) (λ s size. refl) (λ s size. refl) g
+      copies few apart h
 
-  pub from_takes : (a : State) (xs : List Call) (b : State) (ys : List Call) (n m : BearerEnd) (loads : List Load) (f : Flow) (share : ℕ) (held : Option ℕ) (x : Load)
-      → IsDone n (Calls (Take share held)) → x.copies ≡ copies_with (answer n.bearer share held) [] → x.block.process < 8
-      → AllByRecursion (λ (y : Load). y.block.process ≡ x.block.process → ⊥) loads → Tracks bits reorder counts a xs b ys n m loads f
-      → Tracks bits reorder counts a (xs ++ Take share held ∷ []) b ys (does m n (Calls (Take share held))) m (x ∷ loads) (all_after (written_whats bits x.block.process (octets_of x.copies)) (after (renews x.block.process) f))
-  from_takes a xs b ys n m loads f share held x g copies few apart h = taken_by_turn a xs b ys n m loads f share held x (turn (feeding n.bearer share held).tx (size_in share) held) refl g copies few apart h
+  pub from_takes : (a : State) (xs : List Call) (b : State) (ys : List Call) (n m : BearerEnd) (loads : List Load)
+      (f : Flow) (share : ℕ) (held : Option ℕ) (x : Load)
+      → IsDone n (Calls (Take share held)) → x.copies ≡ copies_with (answer n.bearer share held) []
+      → x.block.process < 8
+      → AllByRecursion (λ (y : Load). y.block.process ≡ x.block.process → ⊥) loads
+      → Tracks bits reorder counts a xs b ys n m loads f
+      → Tracks bits reorder counts a (xs ++ Take share held ∷ []) b ys (does m n (Calls (Take share held))) m
+      (x ∷ loads) (all_after (written_whats bits x.block.process (octets_of x.copies))
+      (after (renews x.block.process) f))
+  from_takes a xs b ys n m loads f share held x g copies few apart h =
+      taken_by_turn a xs b ys n m loads f share held x (turn (feeding n.bearer share held).tx (size_in share) held)
+      refl g copies few apart h

@@ -1,5 +1,6 @@
 -- The reordering timer of an unacknowledged bearer expires just where its end tells so.
-use Rattle.std.proofs.Common.{◌≡◌, ℕ, ◌==◌, Bool, true, false, if◌then◌else◌, cond, unwrap_or, length, List, [], ◌∷◌, ◌++◌, Option, Some, None, Result, Ok, Err, append-nil, refl, ap, sym, subst, ◌∙◌, arith}
+use Rattle.std.proofs.Common.{◌≡◌, ℕ, ◌==◌, Bool, true, false, if◌then◌else◌, cond, unwrap_or, length, List, [], ◌∷◌}
+use Rattle.std.proofs.Common.{◌++◌, Option, Some, None, Result, Ok, Err, append-nil, refl, ap, sym, subst, ◌∙◌, arith}
 use Rattle.std.proofs.lemmas.Bool.Decides.{nat_tests}
 use Rattle.std.proofs.lemmas.List.Concat.{flat_map-append}
 use Rattle.bearer.specs.declared.flow.Flow.{Flow as Bearer}
@@ -16,10 +17,13 @@ use Rattle.bearer_pdcp.specs.Discarding.{late_told, tick_told}
 use Rattle.bearer_pdcp.specs.Telling.{landed_told, expired_told}
 use Rattle.bearer_types.specs.declared.event.Event.{Event}
 use Rattle.bearer_types.specs.declared.event.Event.TheVariants as events
-use Rattle.bearer.specs.Unacknowledged.Hearing.{Hearing, hears_all, arrived_told, arriving as um_arriving, expiry_told, clock_told, expiry as um_expiry, told_of, counted_down, timed_told, timed_left, ticking as um_ticking}
+use Rattle.bearer.specs.Unacknowledged.Hearing.{Hearing, hears_all, arrived_told, arriving as um_arriving, expiry_told}
+use Rattle.bearer.specs.Unacknowledged.Hearing.{clock_told, expiry as um_expiry, told_of, counted_down, timed_told}
+use Rattle.bearer.specs.Unacknowledged.Hearing.{timed_left, ticking as um_ticking}
 use Rattle.bearer.specs.Unacknowledged.Lives.{stopping as um_stopping}
 use Rattle.bearer.specs.Unacknowledged.State.{State}
-use Rattle.bearer.specs.Unacknowledged.Taking.{Feeding, fed, feeds, feeding, size_in, has_more, why_idle, idle_told, data_told, taking as um_taking}
+use Rattle.bearer.specs.Unacknowledged.Taking.{Feeding, fed, feeds, feeding, size_in, has_more, why_idle, idle_told}
+use Rattle.bearer.specs.Unacknowledged.Taking.{data_told, taking as um_taking}
 use Rattle.law_deliver.proofs.AmChannel.Bearers.{between_after}
 use Rattle.law_deliver.specs.AmFlow.Ups.{tells_in, tells_over}
 use Rattle.promises.specs.Events.{is_on, told_on}
@@ -89,13 +93,17 @@ module _ (l : ℕ) where
   unfolding heard_told
   heard_out pdu cause e = got_out (got e.rx pdu cause) cause (with_arrived pdu cause e)
 
-  all_out : (pdus : List (List ℕ)) (cause : Cause) (h : Hearing) → expiries l (hears_all pdus cause h).events ≡ expiries l h.events
+  all_out : (pdus : List (List ℕ)) (cause : Cause) (h : Hearing)
+      → expiries l (hears_all pdus cause h).events ≡ expiries l h.events
   all_out [] cause h = refl
-  all_out (pdu ∷ pdus) cause h = all_out pdus cause _ ∙ none_out h.events (heard_told pdu cause h.pdcp) (heard_out pdu cause h.pdcp)
+  all_out (pdu ∷ pdus) cause h = all_out pdus cause _
+      ∙ none_out h.events (heard_told pdu cause h.pdcp) (heard_out pdu cause h.pdcp)
 
   -- ---- a PDU arrives
 
-  turned_by : (stops starts : Bool) (lcid : ℕ) → expiries l ((if stops then events.Stop lcid Reorder ∷ [] else []) ++ (if starts then events.Start lcid Reorder ∷ [] else [])) ≡ []
+  turned_by : (stops starts : Bool) (lcid : ℕ)
+      → expiries l ((if stops then events.Stop lcid Reorder ∷ [] else [])
+      ++ (if starts then events.Start lcid Reorder ∷ [] else [])) ≡ []
   turned_by true true lcid = refl
   turned_by true false lcid = refl
   turned_by false true lcid = refl
@@ -110,7 +118,8 @@ module _ (l : ℕ) where
   arrived_out : (r : Result UmdPdu RlcRefusal) (b : State) → expiries l (arrived_told r b) ≡ []
   arrived_out (Err fault) b = refl
   arrived_out (Ok pdu) b =
-      all_out (arrival pdu b.rx).joined.ready Arrived (record { pdcp = b.pdcp; events = landed_told b.pdcp.lcid (landing pdu b.rx) (turning pdu b.rx) })
+      all_out (arrival pdu b.rx).joined.ready Arrived
+      (record { pdcp = b.pdcp; events = landed_told b.pdcp.lcid (landing pdu b.rx) (turning pdu b.rx) })
       ∙ landed_out (landing pdu b.rx) b.pdcp.lcid (turning pdu b.rx)
 
   -- ---- the timer expires
@@ -125,9 +134,11 @@ module _ (l : ℕ) where
   expired_out : (x : Expired) (b : State) → b.pdcp.lcid ≡ l → expiries l (told_of (expiry_told x b)) ≡ out_expired x
   expired_out NotRunning b q = refl
   expired_out (Done again) b q =
-      all_out (expired b.rx).joined.ready Arrived (record { pdcp = b.pdcp; events = expired_told b.pdcp.lcid Reorder again }) ∙ again_out again b.pdcp.lcid q
+      all_out (expired b.rx).joined.ready Arrived
+      (record { pdcp = b.pdcp; events = expired_told b.pdcp.lcid Reorder again }) ∙ again_out again b.pdcp.lcid q
 
-  clock_out : (clock : Clock) (b : State) → b.pdcp.lcid ≡ l → expiries l (told_of (clock_told clock b)) ≡ out_timed clock b.rx
+  clock_out : (clock : Clock) (b : State) → b.pdcp.lcid ≡ l
+      → expiries l (told_of (clock_told clock b)) ≡ out_timed clock b.rx
   clock_out Poll b q = refl
   clock_out Reorder b q = expired_out (expiring b.rx) b q
   clock_out Prohibit b q = refl
@@ -136,20 +147,23 @@ module _ (l : ℕ) where
   or_none None = refl
   or_none (Some told) = refl
 
-  timed_out : (now : Bool) (b : State) → b.pdcp.lcid ≡ l → expiries l (timed_told now b) ≡ (if now then out_timed Reorder b.rx else [])
+  timed_out : (now : Bool) (b : State) → b.pdcp.lcid ≡ l
+      → expiries l (timed_told now b) ≡ (if now then out_timed Reorder b.rx else [])
   unfolding um_expiry
   timed_out true b q = clock_out Reorder b q
   timed_out false b q = refl
 
   -- ---- SDUs are discarded
 
-  late_by : (b : Bool) (lcid len : ℕ) (more : List Event) → expiries l more ≡ [] → expiries l (if b then events.Discard lcid len ∷ more else []) ≡ []
+  late_by : (b : Bool) (lcid len : ℕ) (more : List Event) → expiries l more ≡ []
+      → expiries l (if b then events.Discard lcid len ∷ more else []) ≡ []
   late_by true lcid len more e = e
   late_by false lcid len more e = refl
 
   late_out : (lcid : ℕ) (ws : List Waiting) (s : Sending) → expiries l (late_told lcid ws s) ≡ []
   late_out lcid [] s = refl
-  late_out lcid (w ∷ ws) s = late_by (is_overdue s) lcid (length w.sdu) (late_told lcid ws (after_late s)) (late_out lcid ws (after_late s))
+  late_out lcid (w ∷ ws) s =
+      late_by (is_overdue s) lcid (length w.sdu) (late_told lcid ws (after_late s)) (late_out lcid ws (after_late s))
 
   tick_out : (e : Ends) → expiries l (tick_told e) ≡ []
   unfolding tick_told
@@ -167,7 +181,8 @@ module _ (l : ℕ) where
   own_report_out lcid (kinds.Um bits) pdu = report_out lcid (user_at bits pdu)
   own_report_out lcid (kinds.Am bits) pdu = report_out lcid (user_at bits pdu)
 
-  count_out : (lcid : ℕ) (kind : PdcpKind) (count : Option ℕ) (len : ℕ) (pdu : List ℕ) → expiries l (taken_told lcid kind count len pdu) ≡ []
+  count_out : (lcid : ℕ) (kind : PdcpKind) (count : Option ℕ) (len : ℕ) (pdu : List ℕ)
+      → expiries l (taken_told lcid kind count len pdu) ≡ []
   count_out lcid kind (Some n) len pdu = refl
   count_out lcid kind None len pdu = own_report_out lcid kind pdu
 
@@ -179,14 +194,18 @@ module _ (l : ℕ) where
   unfolding taking_told
   taking_out e = next_out e.lcid e.kind (taking e.tx)
 
-  feeds_by : (b : Bool) (os : List Offer) (size : ℕ) (held : Option ℕ) (f : Feeding) → ((g : Feeding) → expiries l g.events ≡ [] → expiries l (feeds os size held g).events ≡ []) → expiries l f.events ≡ []
+  feeds_by : (b : Bool) (os : List Offer) (size : ℕ) (held : Option ℕ) (f : Feeding)
+      → ((g : Feeding) → expiries l g.events ≡ [] → expiries l (feeds os size held g).events ≡ [])
+      → expiries l f.events ≡ []
       → expiries l (if b then feeds os size held (fed f) else f).events ≡ []
   feeds_by true os size held f rest e = rest (fed f) (none_out f.events (taking_told f.pdcp) (taking_out f.pdcp) ∙ e)
   feeds_by false os size held f rest e = e
 
-  feeds_out : (os : List Offer) (size : ℕ) (held : Option ℕ) (f : Feeding) → expiries l f.events ≡ [] → expiries l (feeds os size held f).events ≡ []
+  feeds_out : (os : List Offer) (size : ℕ) (held : Option ℕ) (f : Feeding) → expiries l f.events ≡ []
+      → expiries l (feeds os size held f).events ≡ []
   feeds_out [] size held f e = e
-  feeds_out (o ∷ os) size held f e = feeds_by (is_hungry f.tx size held) os size held f (λ g h. feeds_out os size held g h) e
+  feeds_out (o ∷ os) size held f e =
+      feeds_by (is_hungry f.tx size held) os size held f (λ g h. feeds_out os size held g h) e
 
   idle_out : (b : Bool) (lcid : ℕ) (why : Waits) → expiries l (idle_told lcid b why) ≡ []
   idle_out true lcid why = refl
@@ -204,8 +223,10 @@ module _ (l : ℕ) where
   unfolding told um_taking
   take_out b share held =
       let f : Feeding = feeding b share held in
-      let more = data_told f.pdcp.lcid b.bits (has_more f.pdcp) (why_idle f.tx held) (rlc_taken f.tx (size_in share) held) in
-      none_out f.events more (data_out (rlc_taken f.tx (size_in share) held) f.pdcp.lcid b.bits (has_more f.pdcp) (why_idle f.tx held))
+      let more = data_told f.pdcp.lcid b.bits (has_more f.pdcp) (why_idle f.tx held)
+      (rlc_taken f.tx (size_in share) held) in
+      none_out f.events more
+      (data_out (rlc_taken f.tx (size_in share) held) f.pdcp.lcid b.bits (has_more f.pdcp) (why_idle f.tx held))
       ∙ feeds_out (offers b.pdcp.tx) (size_in share) held (record { pdcp = b.pdcp; tx = b.tx; events = [] }) refl
 
   -- ---- any call
@@ -217,7 +238,9 @@ module _ (l : ℕ) where
   call_out b (Arrive pdu) q = arrived_out (umd_at b.bits pdu) b
   call_out b (Expire clock) q = ap (expiries l) (or_none (clock_told clock b)) ∙ clock_out clock b q
   call_out b Tick q =
-      none_out (timed_told (ends b.rx.clock) (counted_down b)) (tick_told (timed_left (ends b.rx.clock) (counted_down b)).pdcp) (tick_out (timed_left (ends b.rx.clock) (counted_down b)).pdcp)
+      none_out (timed_told (ends b.rx.clock) (counted_down b))
+      (tick_told (timed_left (ends b.rx.clock) (counted_down b)).pdcp)
+      (tick_out (timed_left (ends b.rx.clock) (counted_down b)).pdcp)
       ∙ timed_out (ends b.rx.clock) (counted_down b) q
   call_out b (SetDiscard ttis) q = refl
 
@@ -237,7 +260,8 @@ module _ (l : ℕ) where
       ∙ ap (λ (o : List Happening). out_of b c ++ o) (calls_out (called b c) cs (between_called b c k))
 
   -- of what an end tells, just what is told of the channel
-  event_on : (b : Bool) (x : Event) (xs : List Event) → is_on l x ≡ b → expiries l (cond b (x ∷ xs) xs) ≡ expiry_in l x ++ expiries l xs
+  event_on : (b : Bool) (x : Event) (xs : List Event) → is_on l x ≡ b
+      → expiries l (cond b (x ∷ xs) xs) ≡ expiry_in l x ++ expiries l xs
   event_on true x xs e = refl
   event_on false x xs e = ap (λ (o : List Happening). o ++ expiries l xs) (sym (off x e))
     where
@@ -264,9 +288,11 @@ module _ (l : ℕ) where
 
   on_out : (told' : List Event) → expiries l (told_on l told') ≡ expiries l told'
   on_out [] = refl
-  on_out (x ∷ xs) = event_on (is_on l x) x (told_on l xs) refl ∙ ap (λ (o : List Happening). expiry_in l x ++ o) (on_out xs)
+  on_out (x ∷ xs) = event_on (is_on l x) x (told_on l xs) refl
+      ∙ ap (λ (o : List Happening). expiry_in l x ++ o) (on_out xs)
 
-  pub told_out : (told' : List Event) (b : State) (cs : List Call) → IsBetween l (Um b) → told_on l told' ≡ tells_over l (Um b) cs → expiries l told' ≡ outs b cs
+  pub told_out : (told' : List Event) (b : State) (cs : List Call) → IsBetween l (Um b)
+      → told_on l told' ≡ tells_over l (Um b) cs → expiries l told' ≡ outs b cs
   told_out told' b cs k e = sym (on_out told') ∙ ap (expiries l) e ∙ calls_out b cs k
 
   -- ---- as a life ends none expires

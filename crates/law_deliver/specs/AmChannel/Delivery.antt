@@ -1,5 +1,7 @@
--- What a channel of acknowledged data delivers, in each direction and through lives (TS 36.323 5.1, 5.2).
-use Rattle.std.specs.Prelude.{◌≡◌, ℕ, ◌<◌, ◌^◌, ◌==◌, if◌then◌else◌, Bool, true, false, Option, Some, None, List, [], ◌∷◌, ◌++◌, map}
+-- What a channel of acknowledged data delivers, in each direction and through lives (TS 36.323 5.1,
+-- 5.2).
+use Rattle.std.specs.Prelude.{◌≡◌, ℕ, ◌<◌, ◌^◌, ◌==◌, if◌then◌else◌, Bool, true, false, Option}
+use Rattle.std.specs.Prelude.{Some, None, List, [], ◌∷◌, ◌++◌, map}
 use Rattle.std.specs.List.{AllByRecursion}
 use Rattle.bearer_types.specs.Configs.{IsConfig}
 use Rattle.bearer_types.specs.declared.config.BearerConfig.{BearerConfig}
@@ -28,7 +30,8 @@ use Rattle.law_deliver.specs.AmChannel.Lives.{AirStep, AreLiving, lives, end_at,
 
 -- ---- where a channel begins
 
--- an end that has come so far by any calls, where a bearer is added only to a channel that has none, and has a bearer of the channel that begins
+-- an end that has come so far by any calls, where a bearer is added only to a channel that has
+-- none, and has a bearer of the channel that begins
 pub record HasBegun (side : Side) (l : ℕ) (c : BearerConfig) (keys : Keys) (e : End) : Type 0 where
   pub come : HasCome side e
   pub new : AreNew l come.past (fresh side come.maximum come.reports)
@@ -107,38 +110,54 @@ SetNoneAt l side steps a = SetNone l (all_calls side steps a)
 -- the calls of an end are what the end comes by
 abbrev pub EndsGoByCalls : Type 0
 EndsGoByCalls = (nb ue : End) (side : Side) (steps : List AirStep)
-    → end_at side (lives steps (outset nb ue)) ≡ run (all_calls side steps (outset nb ue)) (end_at side (outset nb ue))
+    → end_at side (lives steps (outset nb ue))
+    ≡ run (all_calls side steps (outset nb ue)) (end_at side (outset nb ue))
 
 -- a channel begins so at an end as a bearer is added
 abbrev pub ChannelsBegin : Type 0
-ChannelsBegin = (side : Side) (maximum : ℕ) (reports : Bool) (past : List Call) (c : BearerConfig) (keys : Keys)
-    → AreGiven past → AreNew c.channel.lcid past (fresh side maximum reports) → has c.channel.lcid (reached side maximum reports past).bearers ≡ false → IsConfig c
+ChannelsBegin =
+    (side : Side) (maximum : ℕ) (reports : Bool) (past : List Call) (c : BearerConfig)
+    (keys : Keys)
+    → AreGiven past → AreNew c.channel.lcid past (fresh side maximum reports)
+    → has c.channel.lcid (reached side maximum reports past).bearers ≡ false → IsConfig c
     → HasBegun side c.channel.lcid c keys (after (reached side maximum reports past) (Add c keys))
 
--- from an end to the other: what goes up at the other are SDUs that were submitted at the one, in their order, each once and unchanged
+-- from an end to the other: what goes up at the other are SDUs that were submitted at the one, in
+-- their order, each once and unchanged
 abbrev pub ChannelsDeliverInOrder : Type 0
-ChannelsDeliverInOrder = (l : ℕ) (c : BearerConfig) (keys : Keys) (nb ue : End) (from : Side) (steps : List AirStep)
+ChannelsDeliverInOrder =
+    (l : ℕ) (c : BearerConfig) (keys : Keys) (nb ue : End) (from : Side) (steps : List AirStep)
     → BeginAlike l c keys nb ue → AreLiving l (outset nb ue) steps
-    → IsSubsequence (ups_at l (other from) steps (outset nb ue)) (submitted_at l from steps (outset nb ue))
+    → IsSubsequence (ups_at l (other from) steps (outset nb ue))
+    (submitted_at l from steps (outset nb ue))
 
 -- of those that its bearer takes for the first time they are the first, with none left out
 abbrev pub ChannelsDeliverWhatIsTaken : Type 0
-ChannelsDeliverWhatIsTaken = (l : ℕ) (c : BearerConfig) (keys : Keys) (nb ue : End) (from : Side) (steps : List AirStep)
+ChannelsDeliverWhatIsTaken =
+    (l : ℕ) (c : BearerConfig) (keys : Keys) (nb ue : End) (from : Side) (steps : List AirStep)
     → BeginAlike l c keys nb ue → AreLiving l (outset nb ue) steps
     → IsFront (ups_at l (other from) steps (outset nb ue)) (taken_at l from steps (outset nb ue))
 
 -- where none is discarded, of those that were submitted
 abbrev pub ChannelsDeliverUndiscarded : Type 0
-ChannelsDeliverUndiscarded = (l : ℕ) (c : BearerConfig) (keys : Keys) (nb ue : End) (from : Side) (steps : List AirStep)
-    → BeginAlike l c keys nb ue → AreLiving l (outset nb ue) steps → DiscardsNoneAt l from steps (outset nb ue)
-    → IsFront (ups_at l (other from) steps (outset nb ue)) (submitted_at l from steps (outset nb ue))
+ChannelsDeliverUndiscarded =
+    (l : ℕ) (c : BearerConfig) (keys : Keys) (nb ue : End) (from : Side) (steps : List AirStep)
+    → BeginAlike l c keys nb ue → AreLiving l (outset nb ue) steps
+    → DiscardsNoneAt l from steps (outset nb ue)
+    → IsFront (ups_at l (other from) steps (outset nb ue))
+    (submitted_at l from steps (outset nb ue))
 
 -- none is where no discard timer is set
 abbrev pub UnsetDiscardsNone : Type 0
-UnsetDiscardsNone = (l : ℕ) (c : BearerConfig) (keys : Keys) (nb ue : End) (side : Side) (steps : List AirStep)
-    → BeginAlike l c keys nb ue → AreLiving l (outset nb ue) steps → SetNoneAt l side steps (outset nb ue) → DiscardsNoneAt l side steps (outset nb ue)
+UnsetDiscardsNone =
+    (l : ℕ) (c : BearerConfig) (keys : Keys) (nb ue : End) (side : Side) (steps : List AirStep)
+    → BeginAlike l c keys nb ue → AreLiving l (outset nb ue) steps
+    → SetNoneAt l side steps (outset nb ue) → DiscardsNoneAt l side steps (outset nb ue)
 
 abbrev pub ChannelsDeliver : Type 0
-ChannelsDeliver = (l : ℕ) (c : BearerConfig) (keys : Keys) (nb ue : End) (from : Side) (steps : List AirStep)
-    → BeginAlike l c keys nb ue → AreLiving l (outset nb ue) steps → SetNoneAt l from steps (outset nb ue)
-    → IsFront (ups_at l (other from) steps (outset nb ue)) (submitted_at l from steps (outset nb ue))
+ChannelsDeliver =
+    (l : ℕ) (c : BearerConfig) (keys : Keys) (nb ue : End) (from : Side) (steps : List AirStep)
+    → BeginAlike l c keys nb ue → AreLiving l (outset nb ue) steps
+    → SetNoneAt l from steps (outset nb ue)
+    → IsFront (ups_at l (other from) steps (outset nb ue))
+    (submitted_at l from steps (outset nb ue))

@@ -1,4 +1,5 @@
--- Which SDUs a channel of acknowledged data takes, and which it discards, as an end tells (TS 36.323 5.1.1, 5.4).
+-- Which SDUs a channel of acknowledged data takes, and which it discards, as an end tells (TS
+-- 36.323 5.1.1, 5.4).
 use Rattle.std.specs.Prelude.{◌≡◌, ◌≤◌, ℕ, List, length}
 use Rattle.bearer_types.specs.declared.config.BearerConfig.{BearerConfig}
 use Rattle.bearer_types.specs.declared.event.Event.{Event}
@@ -14,11 +15,15 @@ use Rattle.promises.specs.Taken.{leaves, taken_of}
 -- ---- the law
 
 -- those that a bearer takes, and none leaves its queue that wasn't submitted
-pub record AreTold (l first : ℕ) (events : List Event) (submitted taken : List (List ℕ)) : Type 0 where
-  pub taken_are : taken ≡ taken_of l first events submitted
-  pub were_submitted : length (leaves l first events) ≤ length submitted
+pub record AreTold (l first : ℕ) (events : List Event) (submitted taken : List (List ℕ)) : Type 0
+  where
+    pub taken_are : taken ≡ taken_of l first events submitted
+    pub were_submitted : length (leaves l first events) ≤ length submitted
 
 abbrev pub ChannelsTellWhatIsTaken : Type 0
-ChannelsTellWhatIsTaken = (l : ℕ) (c : BearerConfig) (keys : Keys) (nb ue : End) (from : Side) (steps : List AirStep)
+ChannelsTellWhatIsTaken =
+    (l : ℕ) (c : BearerConfig) (keys : Keys) (nb ue : End) (from : Side) (steps : List AirStep)
     → BeginAlike l c keys nb ue → AreLiving l (outset nb ue) steps
-    → AreTold l c.first (told_over (all_calls from steps (outset nb ue)) (end_at from (outset nb ue))) (submitted_at l from steps (outset nb ue)) (taken_at l from steps (outset nb ue))
+    → AreTold l c.first
+    (told_over (all_calls from steps (outset nb ue)) (end_at from (outset nb ue)))
+    (submitted_at l from steps (outset nb ue)) (taken_at l from steps (outset nb ue))

@@ -1,11 +1,13 @@
--- Two ends of a link and the blocks under way between them, through lives of their bearers (TS 36.322 5.4, TS 36.323 5.2).
+-- Two ends of a link and the blocks under way between them, through lives of their bearers (TS
+-- 36.322 5.4, TS 36.323 5.2).
 use Rattle.std.specs.Prelude.{ℕ, List, [], ◌∷◌, ◌++◌, Option, Some, None, slice_get}
 use Rattle.eps_sec.specs.declared.Keys.{Keys}
 use Rattle.l2_node.specs.End.{End}
 use Rattle.l2_types.specs.declared.side.Side.{Side}
 use Rattle.l2_types.specs.declared.side.Side.TheVariants.{Nb, Ue}
 use Rattle.law_node.specs.Calls.{Call, Receive, Move, after}
-use Rattle.law_deliver.specs.AmFlow.Air.{Block, Station, Air, Act, Calls, Comes, Goes, Step, AtNb, AtUe, Passes, happens, outset, IsGiven}
+use Rattle.law_deliver.specs.AmFlow.Air.{Block, Station, Air, Act, Calls, Comes, Goes, Step, AtNb}
+use Rattle.law_deliver.specs.AmFlow.Air.{AtUe, Passes, happens, outset, IsGiven}
 
 pub data AirStep : Type 0 where
   InLife : Step → AirStep

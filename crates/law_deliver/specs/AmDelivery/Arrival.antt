@@ -1,5 +1,5 @@
--- Which SDUs have gone up at an end, told by what the PDUs of both ends tell: those up to the first whose COUNT hasn't come (TS 36.322 5.1.3.2, 5.4,
--- TS 36.323 5.1.2.1.2, 5.2).
+-- Which SDUs have gone up at an end, told by what the PDUs of both ends tell: those up to the first
+-- whose COUNT hasn't come (TS 36.322 5.1.3.2, 5.4, TS 36.323 5.1.2.1.2, 5.2).
 use Rattle.std.specs.Prelude.{◌≡◌, ℕ, ◌+◌, ◌-◌, ◌≤◌, List, [], ◌∷◌, ◌++◌, length, take}
 use Rattle.l2_num.specs.Least.{IsLeast}
 use Rattle.bearer.specs.declared.flow.Flow.TheVariants.{Am}
@@ -12,15 +12,18 @@ use Rattle.pdcp_pdu.specs.Kinds.{bits_of}
 use Rattle.law_words.specs.Arrivals.{Happening, Renews, Account, no_account, has_come, account}
 use Rattle.law_deliver.specs.AmFlow.Pair.{Pair, Near, Far, Passes as Ends, outset}
 use Rattle.law_deliver.specs.AmDelivery.Delivery.{AreBothEnds}
-use Rattle.law_deliver.specs.AmDelivery.Lives.{LifeStep, InLife, Restarts, AreLiving, calls_in, far_ups_in, near_ups_in, near_news_in, far_news_in, over}
+use Rattle.law_deliver.specs.AmDelivery.Lives.{LifeStep, InLife, Restarts, AreLiving, calls_in}
+use Rattle.law_deliver.specs.AmDelivery.Lives.{far_ups_in, near_ups_in, near_news_in, far_news_in}
+use Rattle.law_deliver.specs.AmDelivery.Lives.{over}
 use Rattle.promises.specs.Given.{gives, writing, bringing}
 
--- ---- what a call of an end's bearer tells: of what it sends, the PDUs that PDCP gives, and those that RLC writes; of what it hears, the PDU that
--- comes
+-- ---- what a call of an end's bearer tells: of what it sends, the PDUs that PDCP gives, and those
+-- that RLC writes; of what it hears, the PDU that comes
 
 abbrev pub said_in : State → Call → List Happening
 said_in b (Submit sdu) = []
-said_in b (Take share held) = gives (bits_of b.pdcp.kind) (told b.pdcp.lcid (Am b) share held) ++ writing (pdus (Am b) share held)
+said_in b (Take share held) = gives (bits_of b.pdcp.kind) (told b.pdcp.lcid (Am b) share held)
+    ++ writing (pdus (Am b) share held)
 said_in b (Arrive pdu) = []
 said_in b (Expire clock) = []
 said_in b Tick = []
@@ -57,7 +60,8 @@ up_in p (Restarts keys) = Renews ∷ []
 
 -- ---- the law
 
--- what went up are the SDUs that were taken first, up to the first whose COUNT hasn't come; none of which it has is held back
+-- what went up are the SDUs that were taken first, up to the first whose COUNT hasn't come; none of
+-- which it has is held back
 pub record IsWhatCame (first : ℕ) (a : Account) (news ups : List (List ℕ)) : Type 0 where
   pub next : ℕ
   pub least : IsLeast (has_come a) first next
@@ -71,9 +75,12 @@ abbrev pub told_up : List LifeStep → Pair → Account
 told_up steps p = account (over up_in steps p) no_account
 
 pub record DeliverWhatCame (first : ℕ) (nb ue : State) (steps : List LifeStep) : Type 0 where
-  pub down : IsWhatCame first (told_down steps (outset nb ue)) (over near_news_in steps (outset nb ue)) (over far_ups_in steps (outset nb ue))
-  pub up : IsWhatCame first (told_up steps (outset nb ue)) (over far_news_in steps (outset nb ue)) (over near_ups_in steps (outset nb ue))
+  pub down : IsWhatCame first (told_down steps (outset nb ue))
+      (over near_news_in steps (outset nb ue)) (over far_ups_in steps (outset nb ue))
+  pub up : IsWhatCame first (told_up steps (outset nb ue)) (over far_news_in steps (outset nb ue))
+      (over near_ups_in steps (outset nb ue))
 
 abbrev pub DeliversWhatCame : Type 0
-DeliversWhatCame = (c : BearerConfig) (keys : Keys) (nb ue : State) (steps : List LifeStep) → AreBothEnds c keys nb ue → AreLiving (outset nb ue) steps
+DeliversWhatCame = (c : BearerConfig) (keys : Keys) (nb ue : State) (steps : List LifeStep)
+    → AreBothEnds c keys nb ue → AreLiving (outset nb ue) steps
     → DeliverWhatCame c.first nb ue steps

@@ -12,7 +12,8 @@ use Rattle.l2_types.specs.declared.Side.TheVariants.{Nb, Ue}
 use Rattle.law_words.specs.Lists.{IsFront}
 use Rattle.law_deliver.specs.AmFlow.Pair.{Pair, outset}
 use Rattle.law_deliver.specs.AmDelivery.Delivery.{AreBothEnds}
-use Rattle.law_deliver.specs.AmDelivery.Lives.{LifeStep, InLife, Restarts, lives, AreLiving, near_calls, far_calls, far_ups_in, near_ups_in, over}
+use Rattle.law_deliver.specs.AmDelivery.Lives.{LifeStep, InLife, Restarts, lives, AreLiving}
+use Rattle.law_deliver.specs.AmDelivery.Lives.{near_calls, far_calls, far_ups_in, near_ups_in, over}
 
 -- ---- what happens to the bearer of an end
 
@@ -25,12 +26,16 @@ far_steps_in p (InLife s) = map (λ c. Calls c) (far_calls p s)
 far_steps_in p (Restarts keys) = Restart keys ∷ []
 
 -- each end is what its bearer comes to by them, as both are configured
-pub record AreReached (c : BearerConfig) (keys : Keys) (nb ue : State) (steps : List LifeStep) : Type 0 where
-  pub nb_is : reached c keys Nb (over near_steps_in steps (outset nb ue)) ≡ Am (lives steps (outset nb ue)).near.bearer
-  pub ue_is : reached c keys Ue (over far_steps_in steps (outset nb ue)) ≡ Am (lives steps (outset nb ue)).far.bearer
+pub record AreReached (c : BearerConfig) (keys : Keys) (nb ue : State) (steps : List LifeStep) :
+    Type 0 where
+  pub nb_is : reached c keys Nb (over near_steps_in steps (outset nb ue))
+      ≡ Am (lives steps (outset nb ue)).near.bearer
+  pub ue_is : reached c keys Ue (over far_steps_in steps (outset nb ue))
+      ≡ Am (lives steps (outset nb ue)).far.bearer
 
 abbrev pub EndsAreReached : Type 0
-EndsAreReached = (c : BearerConfig) (keys : Keys) (nb ue : State) (steps : List LifeStep) → AreBothEnds c keys nb ue → AreReached c keys nb ue steps
+EndsAreReached = (c : BearerConfig) (keys : Keys) (nb ue : State) (steps : List LifeStep)
+    → AreBothEnds c keys nb ue → AreReached c keys nb ue steps
 
 -- ---- what is submitted at an end, and what is discarded there before it is taken
 
@@ -58,11 +63,17 @@ abbrev pub far_drops_in : Pair → LifeStep → List (List ℕ)
 far_drops_in p (InLife s) = drops_by p.far.bearer (far_calls p s)
 far_drops_in p (Restarts keys) = []
 
--- where none is discarded, what went up at the other end are the SDUs that were submitted first: in their order, each once and unchanged
+-- where none is discarded, what went up at the other end are the SDUs that were submitted first: in
+-- their order, each once and unchanged
 pub record AreOfTheSubmitted (nb ue : State) (steps : List LifeStep) : Type 0 where
-  pub down : over near_drops_in steps (outset nb ue) ≡ [] → IsFront (over far_ups_in steps (outset nb ue)) (over near_submitted_in steps (outset nb ue))
-  pub up : over far_drops_in steps (outset nb ue) ≡ [] → IsFront (over near_ups_in steps (outset nb ue)) (over far_submitted_in steps (outset nb ue))
+  pub down : over near_drops_in steps (outset nb ue) ≡ []
+      → IsFront (over far_ups_in steps (outset nb ue))
+      (over near_submitted_in steps (outset nb ue))
+  pub up : over far_drops_in steps (outset nb ue) ≡ []
+      → IsFront (over near_ups_in steps (outset nb ue))
+      (over far_submitted_in steps (outset nb ue))
 
 abbrev pub DeliversSubmitted : Type 0
-DeliversSubmitted = (c : BearerConfig) (keys : Keys) (nb ue : State) (steps : List LifeStep) → AreBothEnds c keys nb ue → AreLiving (outset nb ue) steps
+DeliversSubmitted = (c : BearerConfig) (keys : Keys) (nb ue : State) (steps : List LifeStep)
+    → AreBothEnds c keys nb ue → AreLiving (outset nb ue) steps
     → AreOfTheSubmitted nb ue steps

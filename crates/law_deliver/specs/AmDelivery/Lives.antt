@@ -1,4 +1,5 @@
--- Both ends of a bearer of acknowledged data through lives: in a life their steps, then both begin the next one under the same keys (TS 36.322
+-- Both ends of a bearer of acknowledged data through lives: in a life their steps, then both begin
+-- the next one under the same keys (TS 36.322
 -- 5.4, TS 36.323 5.2).
 use Rattle.std.specs.Prelude.{◌≡◌, ℕ, List, [], ◌∷◌, ◌++◌, Option, Some, None, slice_get}
 use Rattle.eps_sec.specs.declared.Keys.{Keys}
@@ -11,7 +12,9 @@ use Rattle.law_bearer.specs.AnyBearer.Queue.{news}
 use Rattle.law_bearer.specs.AmBearer.Calls.{tells, ups_in}
 use Rattle.law_bearer.specs.AmBearer.Lives.{restarts}
 use Rattle.law_rlc.specs.AmPair.Flow.{Copy}
-use Rattle.law_deliver.specs.AmFlow.Pair.{Sent, BearerEnd, Pair, Deed, Calls, DataComes, StatusComes, DataGoes, StatusGoes, Step, Near, Far, Passes, happens, outset, IsGiven}
+use Rattle.law_deliver.specs.AmFlow.Pair.{Sent, BearerEnd, Pair, Deed, Calls, DataComes}
+use Rattle.law_deliver.specs.AmFlow.Pair.{StatusComes, DataGoes, StatusGoes, Step, Near, Far}
+use Rattle.law_deliver.specs.AmFlow.Pair.{Passes, happens, outset, IsGiven}
 
 pub data LifeStep : Type 0 where
   InLife : Step → LifeStep
@@ -25,7 +28,8 @@ abbrev pub lives : List LifeStep → Pair → Pair
 lives [] p = p
 lives (x ∷ xs) p = lives xs (lives_on p x)
 
--- ---- what is asked of them: besides what is asked of the steps of a life, that PDCP doesn't refuse what is submitted
+-- ---- what is asked of them: besides what is asked of the steps of a life, that PDCP doesn't
+-- refuse what is submitted
 
 abbrev pub IsAccepted : State → Call → Type 0
 IsAccepted b (Submit sdu) = refusal b.pdcp.tx sdu ≡ None

@@ -1,6 +1,7 @@
--- Two ends of a link, and the blocks that are under way between them (TS 36.321 5.3.2, 5.4.2). HARQ may lose a block, bring it late, and more
--- than once; no other block comes.
-use Rattle.std.specs.Prelude.{◌≡◌, ℕ, ◌+◌, ◌%◌, ◌<◌, ◌≤◌, Bool, true, false, ◌||◌, List, [], ◌∷◌, ◌++◌, map, Option, Some, None, slice_get}
+-- Two ends of a link, and the blocks that are under way between them (TS 36.321 5.3.2, 5.4.2). HARQ
+-- may lose a block, bring it late, and more than once; no other block comes.
+use Rattle.std.specs.Prelude.{◌≡◌, ℕ, ◌+◌, ◌%◌, ◌<◌, ◌≤◌, Bool, true, false, ◌||◌, List, [], ◌∷◌}
+use Rattle.std.specs.Prelude.{◌++◌, map, Option, Some, None, slice_get}
 use Rattle.std.specs.List.{AllByRecursion}
 use Rattle.law_rlc.specs.AmPair.Flow.{except}
 use Rattle.bearer.specs.declared.flow.Flow.TheVariants.{Am}
@@ -14,20 +15,24 @@ use Rattle.l2_node.specs.Finding.{has}
 use Rattle.l2_node.specs.Writing.{new_block}
 use Rattle.l2_types.specs.declared.side.Side.{Side}
 use Rattle.l2_types.specs.declared.side.Side.TheVariants.{Nb, Ue}
-use Rattle.law_node.specs.Calls.{Turn, Call, Visits, Receive, IsGiven as IsGivenCall, AreGiven as AreGivenCalls, after, reached}
+use Rattle.law_node.specs.Calls.{Turn, Call, Visits, Receive, IsGiven as IsGivenCall}
+use Rattle.law_node.specs.Calls.{AreGiven as AreGivenCalls, after, reached}
 use Rattle.law_node.specs.Holding.{flow}
 use Rattle.law_deliver.specs.AmFlow.Channels.{GoesOnInLife}
 use Rattle.law_deliver.specs.AmFlow.Flows.{BeginsLife}
-use Rattle.law_deliver.specs.AmFlow.Pair.{Step as PairStep, goes as pair_goes, outset as pair_outset, AreGiven as AreGivenPair}
+use Rattle.law_deliver.specs.AmFlow.Pair.{Step as PairStep, goes as pair_goes}
+use Rattle.law_deliver.specs.AmFlow.Pair.{outset as pair_outset, AreGiven as AreGivenPair}
 use Rattle.law_rlc.specs.AmPair.Given.{age_end}
 
--- a block that may still come to the other end: the process that it was built for, its octets, and the TTIs since
+-- a block that may still come to the other end: the process that it was built for, its octets, and
+-- the TTIs since
 pub record Block : Type 0 where
   pub process : ℕ
   pub octets : List ℕ
   pub age : ℕ
 
--- an end, the blocks that it built and that may still come to the other, and whether it built one in this TTI
+-- an end, the blocks that it built and that may still come to the other, and whether it built one
+-- in this TTI
 pub record Station : Type 0 where
   pub end : End
   pub blocks : List Block
@@ -39,7 +44,8 @@ pub record Air : Type 0 where
 
 -- ---- what may happen
 
--- at an end: a call that brings no block; the block at a place of what the other has under way comes; one of its own is let go
+-- at an end: a call that brings no block; the block at a place of what the other has under way
+-- comes; one of its own is let go
 pub data Act : Type 0 where
   Calls : Call → Act
   Comes : ℕ → Act
@@ -105,7 +111,8 @@ outset nb ue = record { nb = begins nb; ue = begins ue }
 abbrev pub IsHeld : Sending → Block → Type 0
 IsHeld s b = held_of s b.process ≡ None → ⊥
 
--- as a new block is built the blocks under way are those that processes hold, and it is the only one in its TTI
+-- as a new block is built the blocks under way are those that processes hold, and it is the only
+-- one in its TTI
 pub record IsBuilding (s : Station) (t : Turn) : Type 0 where
   pub some : 1 ≤ t.grant
   pub one : s.busy ≡ false
@@ -165,5 +172,6 @@ pub record IsPair (l : ℕ) (nb ue : State) (a : Air) : Type 0 where
   pub ue_is : flow l a.ue.end ≡ Am (pair_goes steps (pair_outset nb ue)).far.bearer
 
 abbrev pub ChannelsArePairs : Type 0
-ChannelsArePairs = (l : ℕ) (nb ue : End) (b d : State) (steps : List Step) → Begins Nb l nb b → Begins Ue l ue d → AreGiven l (outset nb ue) steps
+ChannelsArePairs = (l : ℕ) (nb ue : End) (b d : State) (steps : List Step) → Begins Nb l nb b
+    → Begins Ue l ue d → AreGiven l (outset nb ue) steps
     → IsPair l b d (goes steps (outset nb ue))

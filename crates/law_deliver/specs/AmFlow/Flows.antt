@@ -6,7 +6,8 @@ use Rattle.l2_types.specs.declared.AmRxConfig.{AmRxConfig}
 use Rattle.rlc_am_tx.specs.Machine.{start}
 use Rattle.rlc_am_rx.specs.State.{fresh}
 use Rattle.bearer.specs.Acknowledged.State.{State}
-use Rattle.law_rlc.specs.AmPair.Flow.{Report, Flow, Step as FlowStep, sender, receiver, goes as flow_goes, outset as flow_outset}
+use Rattle.law_rlc.specs.AmPair.Flow.{Report, Flow, Step as FlowStep, sender, receiver}
+use Rattle.law_rlc.specs.AmPair.Flow.{goes as flow_goes, outset as flow_outset}
 use Rattle.law_rlc.specs.AmPair.Given.{AreGiven as AreGivenSteps}
 use Rattle.law_deliver.specs.AmFlow.Pair.{Sent, BearerEnd, Pair, Step, goes, outset, AreGiven}
 
@@ -22,10 +23,11 @@ pub record IsFlow (from to : BearerEnd) (f : Flow) : Type 0 where
   pub busy_is : f.busy ≡ from.busy
 
 -- one that has come so by steps that keep what is asked of them
-pub record HasFlow (sending : AmTxConfig) (receiving : AmRxConfig) (from to : BearerEnd) : Type 0 where
-  pub steps : List FlowStep
-  pub given : AreGivenSteps (flow_outset sending receiving) steps
-  pub is : IsFlow from to (flow_goes steps (flow_outset sending receiving))
+pub record HasFlow (sending : AmTxConfig) (receiving : AmRxConfig) (from to : BearerEnd) : Type 0
+  where
+    pub steps : List FlowStep
+    pub given : AreGivenSteps (flow_outset sending receiving) steps
+    pub is : IsFlow from to (flow_goes steps (flow_outset sending receiving))
 
 -- RLC begins with a life
 pub record BeginsLife (b : State) : Type 0 where
@@ -37,5 +39,6 @@ pub record HasFlows (near far : State) (p : Pair) : Type 0 where
   pub back : HasFlow far.tx_config near.rx_config p.far p.near
 
 abbrev pub BearersAreFlows : Type 0
-BearersAreFlows = (near far : State) (steps : List Step) → BeginsLife near → BeginsLife far → AreGiven (outset near far) steps
+BearersAreFlows = (near far : State) (steps : List Step) → BeginsLife near → BeginsLife far
+    → AreGiven (outset near far) steps
     → HasFlows near far (goes steps (outset near far))

@@ -3,7 +3,8 @@
 use Rattle.std.specs.Prelude.{◌≡◌, ℕ, ◌+◌, ◌≤◌, List}
 use Rattle.l2_types.specs.declared.config.AmTxConfig.{AmTxConfig}
 use Rattle.l2_types.specs.declared.AmRxConfig.{AmRxConfig}
-use Rattle.law_rlc.specs.AmPair.Flow.{Step as FlowStep, sender, receiver, goes as flow_goes, outset as flow_outset}
+use Rattle.law_rlc.specs.AmPair.Flow.{Step as FlowStep, sender, receiver, goes as flow_goes}
+use Rattle.law_rlc.specs.AmPair.Flow.{outset as flow_outset}
 use Rattle.rlc_am_tx_window.specs.Window.{next}
 use Rattle.rlc_am_rx_window.specs.Window.{top}
 use Rattle.rlc_am_rx.specs.State.{State as Receiver}
@@ -16,9 +17,10 @@ use Rattle.l2_types.specs.declared.side.Side.TheVariants.{Nb, Ue}
 use Rattle.law_node.specs.Holding.{flow}
 use Rattle.law_deliver.specs.AmFlow.Air.{Air, Step, goes, outset, AreGiven, Begins}
 
--- on a channel, from an end to another: RLC's sender at the one and RLC's receiver at the other are those of a flow, which has come so by steps
--- that keep what is asked of them
-pub record IsFlowOn (l : ℕ) (sending : AmTxConfig) (receiving : AmRxConfig) (from to : End) : Type 0 where
+-- on a channel, from an end to another: RLC's sender at the one and RLC's receiver at the other are
+-- those of a flow, which has come so by steps that keep what is asked of them
+pub record IsFlowOn (l : ℕ) (sending : AmTxConfig) (receiving : AmRxConfig) (from to : End) : Type
+    0 where
   pub from_bearer : State
   pub from_is : flow l from ≡ Am from_bearer
   pub to_bearer : State
@@ -26,7 +28,8 @@ pub record IsFlowOn (l : ℕ) (sending : AmTxConfig) (receiving : AmRxConfig) (f
   pub steps : List FlowStep
   pub given : AreGivenSteps (flow_outset sending receiving) steps
   pub sender_is : (sender (flow_goes steps (flow_outset sending receiving))).state ≡ from_bearer.tx
-  pub receiver_is : (receiver (flow_goes steps (flow_outset sending receiving))).state ≡ to_bearer.rx
+  pub receiver_is : (receiver (flow_goes steps (flow_outset sending receiving))).state
+      ≡ to_bearer.rx
 
 -- down and up
 pub record AreFlowsOn (l : ℕ) (nb ue : State) (a : Air) : Type 0 where
@@ -34,10 +37,12 @@ pub record AreFlowsOn (l : ℕ) (nb ue : State) (a : Air) : Type 0 where
   pub up : IsFlowOn l ue.tx_config nb.rx_config a.ue.end a.nb.end
 
 abbrev pub ChannelsAreFlows : Type 0
-ChannelsAreFlows = (l : ℕ) (nb ue : End) (b d : State) (steps : List Step) → Begins Nb l nb b → Begins Ue l ue d → AreGiven l (outset nb ue) steps
+ChannelsAreFlows = (l : ℕ) (nb ue : End) (b d : State) (steps : List Step) → Begins Nb l nb b
+    → Begins Ue l ue d → AreGiven l (outset nb ue) steps
     → AreFlowsOn l b d (goes steps (outset nb ue))
 
--- ---- so the numbers at both ends are in order: VT(A) ≤ VR(R) ≤ VR(MS) ≤ VR(H) ≤ VT(S) ≤ VT(A) + 512
+-- ---- so the numbers at both ends are in order: VT(A) ≤ VR(R) ≤ VR(MS) ≤ VR(H) ≤ VT(S) ≤ VT(A) +
+-- 512
 
 pub record AreOrdered (tx : Sender) (rx : Receiver) : Type 0 where
   pub least : tx.window.base ≤ rx.window.front
@@ -47,5 +52,8 @@ pub record AreOrdered (tx : Sender) (rx : Receiver) : Type 0 where
   pub window : next tx.window ≤ tx.window.base + 512
 
 abbrev pub NumbersAreOrdered : Type 0
-NumbersAreOrdered = (l : ℕ) (nb ue : End) (b d : State) (steps : List Step) → Begins Nb l nb b → Begins Ue l ue d → AreGiven l (outset nb ue) steps
-    → (x y : State) → flow l (goes steps (outset nb ue)).nb.end ≡ Am x → flow l (goes steps (outset nb ue)).ue.end ≡ Am y → AreOrdered x.tx y.rx × AreOrdered y.tx x.rx
+NumbersAreOrdered = (l : ℕ) (nb ue : End) (b d : State) (steps : List Step) → Begins Nb l nb b
+    → Begins Ue l ue d → AreGiven l (outset nb ue) steps
+    → (x y : State) → flow l (goes steps (outset nb ue)).nb.end ≡ Am x
+    → flow l (goes steps (outset nb ue)).ue.end ≡ Am y
+    → AreOrdered x.tx y.rx × AreOrdered y.tx x.rx

@@ -1,6 +1,8 @@
--- Both ends of an acknowledged bearer in one life, and what is under way between them (TS 36.322 4.2.1.3). HARQ may lose what is under way,
--- bring it late, in another order, and more than once; nothing else comes.
-use Rattle.std.specs.Prelude.{◌≡◌, ℕ, ◌+◌, ◌<◌, ◌≤◌, Bool, true, false, ◌||◌, List, [], ◌∷◌, ◌++◌, map, length, Option, Some, None, slice_get}
+-- Both ends of an acknowledged bearer in one life, and what is under way between them (TS 36.322
+-- 4.2.1.3). HARQ may lose what is under way, bring it late, in another order, and more than once;
+-- nothing else comes.
+use Rattle.std.specs.Prelude.{◌≡◌, ℕ, ◌+◌, ◌<◌, ◌≤◌, Bool, true, false, ◌||◌, List, [], ◌∷◌, ◌++◌}
+use Rattle.std.specs.Prelude.{map, length, Option, Some, None, slice_get}
 use Rattle.std.specs.List.{AllByRecursion}
 use Rattle.rlc_pdu.specs.declared.outcome.Taken.{Taken}
 use Rattle.rlc_pdu.specs.declared.outcome.Taken.TheVariants as taken
@@ -8,7 +10,8 @@ use Rattle.bearer.specs.declared.flow.Flow.{Flow}
 use Rattle.bearer.specs.declared.flow.Flow.TheVariants.{Tm, Um, Am}
 use Rattle.bearer.specs.Acknowledged.State.{State}
 use Rattle.bearer.specs.Acknowledged.Taking.{status_pdus, data_size}
-use Rattle.law_bearer.specs.AnyBearer.Calls.{Call, Submit, Take, Arrive, Expire, Tick, SetDiscard, after}
+use Rattle.law_bearer.specs.AnyBearer.Calls.{Call, Submit, Take, Arrive, Expire, Tick, SetDiscard}
+use Rattle.law_bearer.specs.AnyBearer.Calls.{after}
 use Rattle.law_bearer.specs.AnyBearer.Acknowledged.{offers_in, data_given}
 use Rattle.law_rlc.specs.AmPair.Flow.{Copy, copies_with, is_new, except}
 use Rattle.law_rlc.specs.AmPair.Given.{IsHeld}
@@ -19,8 +22,8 @@ pub record Sent : Type 0 where
   pub octets : List ℕ
   pub age : ℕ
 
--- the bearer at an end, the data PDUs and STATUS PDUs that it wrote and that may still come to the other end, and whether it sent a new data
--- PDU in this TTI
+-- the bearer at an end, the data PDUs and STATUS PDUs that it wrote and that may still come to the
+-- other end, and whether it sent a new data PDU in this TTI
 pub record BearerEnd : Type 0 where
   pub bearer : State
   pub copies : List Copy
@@ -138,8 +141,9 @@ outset near far = record { near = begins near; far = begins far }
 abbrev pub HasOctet : List ℕ → Type 0
 HasOctet pdu = 0 < length pdu
 
--- a data field has at most 32767 octets, since SO has 15 bits (TS 36.322 6.2.2.7); a PDU of PDCP has an octet; `take` is told the lowest number
--- under way, or a lower one; and there is at most one new data PDU in a TTI
+-- a data field has at most 32767 octets, since SO has 15 bits (TS 36.322 6.2.2.7); a PDU of PDCP
+-- has an octet; `take` is told the lowest number under way, or a lower one; and there is at most
+-- one new data PDU in a TTI
 pub record IsTaking (e : BearerEnd) (share : ℕ) (held : Option ℕ) : Type 0 where
   pub few : data_size e.bearer share ≤ 32767
   pub some : AllByRecursion HasOctet (offers_in e.bearer share held)

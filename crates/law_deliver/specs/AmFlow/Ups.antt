@@ -1,12 +1,16 @@
--- What an end tells of a channel in its calls is what the calls of its bearer tell, so what goes up on the channel is what these hand up
--- (TS 36.322 5.1, TS 36.323 5.1.2).
-use Rattle.std.specs.Prelude.{◌≡◌, ℕ, ◌==◌, if◌then◌else◌, Bool, true, false, List, [], ◌∷◌, ◌++◌, unwrap_or}
+-- What an end tells of a channel in its calls is what the calls of its bearer tell, so what goes up
+-- on the channel is what these hand up (TS 36.322 5.1, TS 36.323 5.1.2).
+use Rattle.std.specs.Prelude.{◌≡◌, ℕ, ◌==◌, if◌then◌else◌, Bool, true, false, List, [], ◌∷◌, ◌++◌}
+use Rattle.std.specs.Prelude.{unwrap_or}
 use Rattle.std.specs.List.{AllByRecursion, flat_map}
 use Rattle.bearer.specs.declared.flow.Flow.{Flow}
 use Rattle.bearer.specs.Hearing.{arriving, expiry, ticking}
 use Rattle.bearer.specs.Lives.{stopping}
 use Rattle.bearer.specs.Taking.{told}
-use Rattle.law_bearer.specs.AnyBearer.Calls.{Call as BearerCall, Submit as Submits, Take as Takes, Arrive as Arrives, Expire as Expires, Tick as Ticks, SetDiscard as SetsDiscard, Restart, after as called, after_all, goes}
+use Rattle.law_bearer.specs.AnyBearer.Calls.{Call as BearerCall, Submit as Submits, Take as Takes}
+use Rattle.law_bearer.specs.AnyBearer.Calls.{Arrive as Arrives, Expire as Expires, Tick as Ticks}
+use Rattle.law_bearer.specs.AnyBearer.Calls.{SetDiscard as SetsDiscard, Restart, after as called}
+use Rattle.law_bearer.specs.AnyBearer.Calls.{after_all, goes}
 use Rattle.bearer_types.specs.declared.event.Event.{Event}
 use Rattle.bearer_types.specs.declared.event.Event.TheVariants.{Up}
 use Rattle.eps_sec.specs.declared.Keys.{Keys}
@@ -93,7 +97,8 @@ pub record TellsOf (l : ℕ) (e : End) (c : Call) : Type 0 where
 
 -- of any end that has a bearer of the channel
 abbrev pub EndsTellWhatGoesUp : Type 0
-EndsTellWhatGoesUp = (side : Side) (maximum : ℕ) (reports : Bool) (past : List Call) (c : Call) (l : ℕ)
+EndsTellWhatGoesUp =
+    (side : Side) (maximum : ℕ) (reports : Bool) (past : List Call) (c : Call) (l : ℕ)
     → AreGiven past → AreNew l past (fresh side maximum reports) → IsGiven c → GoesOnInLife l c
     → has l (reached side maximum reports past).bearers ≡ true
     → TellsOf l (reached side maximum reports past) c
@@ -104,11 +109,13 @@ pub record TellsOver (l : ℕ) (e : End) (cs : List Call) : Type 0 where
   pub bearer_is : flow l (run cs e) ≡ after_all (flow l e) (calls_over l cs e)
   pub told_is : told_on l (told_over cs e) ≡ tells_over l (flow l e) (calls_over l cs e)
   pub ups_are : ups_on l (told_over cs e) ≡ go_up_over l (flow l e) (calls_over l cs e)
-  pub discards_are : discards_on l (told_over cs e) ≡ discarded_over l (flow l e) (calls_over l cs e)
+  pub discards_are : discards_on l (told_over cs e)
+      ≡ discarded_over l (flow l e) (calls_over l cs e)
 
 abbrev pub EndsTellOver : Type 0
 EndsTellOver = (side : Side) (maximum : ℕ) (reports : Bool) (past cs : List Call) (l : ℕ)
-    → AreGiven past → AreNew l past (fresh side maximum reports) → AreGiven cs → AllByRecursion (GoesOnInLife l) cs
+    → AreGiven past → AreNew l past (fresh side maximum reports) → AreGiven cs
+    → AllByRecursion (GoesOnInLife l) cs
     → has l (reached side maximum reports past).bearers ≡ true
     → TellsOver l (reached side maximum reports past) cs
 
@@ -121,7 +128,8 @@ pub record TellsTheEnd (l : ℕ) (e : End) (keys : Keys) : Type 0 where
   pub discards_are : discards_on l (told_of e (Move keys)) ≡ []
 
 abbrev pub MovesTellTheEnd : Type 0
-MovesTellTheEnd = (side : Side) (maximum : ℕ) (reports : Bool) (past : List Call) (keys : Keys) (l : ℕ)
+MovesTellTheEnd =
+    (side : Side) (maximum : ℕ) (reports : Bool) (past : List Call) (keys : Keys) (l : ℕ)
     → AreGiven past → AreNew l past (fresh side maximum reports)
     → has l (reached side maximum reports past).bearers ≡ true
     → TellsTheEnd l (reached side maximum reports past) keys

@@ -18,7 +18,8 @@ use Rattle.law_deliver.specs.AmFlow.Ups.{ups_on}
 use Rattle.promises.specs.Events.{told_on, losses}
 use Rattle.law_deliver.specs.SrbChannel.Running.{Life, start, running, first_life}
 
--- two ends that begin the channel under one configuration of signalling and the same keys; a COUNT has 32 bits
+-- two ends that begin the channel under one configuration of signalling and the same keys; a COUNT
+-- has 32 bits
 pub record BeginAlike (l : ℕ) (c : BearerConfig) (keys : Keys) (nb ue : End) : Type 0 where
   pub kind : c.kind ≡ kinds.Srb
   pub first : c.first ≤ 2 ^ 32
@@ -39,30 +40,42 @@ ups_in_life l side life = ups_at l side life.steps (start life)
 abbrev pub submitted_in_life : ℕ → Side → Life → List (List ℕ)
 submitted_in_life l side life = submitted_at l side life.steps (start life)
 
--- from an end to the other: what has gone up at the other are the SDUs that were submitted first at the one: in their order, each once and
--- unchanged, with none left out
+-- from an end to the other: what has gone up at the other are the SDUs that were submitted first at
+-- the one: in their order, each once and unchanged, with none left out
 abbrev pub ChannelsDeliverTheFront : Type 0
-ChannelsDeliverTheFront = (l : ℕ) (c : BearerConfig) (keys : Keys) (nb ue : End) (from : Side) (steps : List AirStep)
+ChannelsDeliverTheFront =
+    (l : ℕ) (c : BearerConfig) (keys : Keys) (nb ue : End) (from : Side) (steps : List AirStep)
     → BeginAlike l c keys nb ue → AreLiving l (outset nb ue) steps → NoneSet l steps nb ue
     → IsFront (ups_in_life l (other from) (life_of steps nb ue)) (submitted_in_life l from (life_of steps nb ue))
 
 -- and all of them, once the channel is drained at the one, and its sender there hasn't failed
 abbrev pub DrainedChannelsHaveDelivered : Type 0
-DrainedChannelsHaveDelivered = (l : ℕ) (c : BearerConfig) (keys : Keys) (nb ue : End) (from : Side) (steps : List AirStep)
-    → BeginAlike l c keys nb ue → AreLiving l (outset nb ue) steps → NoneSet l steps nb ue → IsDrained l (end_at from (lives steps (outset nb ue)))
-    → ups_in_life l (other from) (life_of steps nb ue) ≡ submitted_in_life l from (life_of steps nb ue)
+DrainedChannelsHaveDelivered =
+    (l : ℕ) (c : BearerConfig) (keys : Keys) (nb ue : End) (from : Side) (steps : List AirStep)
+    → BeginAlike l c keys nb ue → AreLiving l (outset nb ue) steps → NoneSet l steps nb ue
+    → IsDrained l (end_at from (lives steps (outset nb ue)))
+    → ups_in_life l (other from) (life_of steps nb ue)
+    ≡ submitted_in_life l from (life_of steps nb ue)
 
 -- as a life ends nothing goes up
 abbrev pub NothingGoesUpBetween : Type 0
-NothingGoesUpBetween = (l : ℕ) (c : BearerConfig) (keys next : Keys) (nb ue : End) (side : Side) (steps : List AirStep)
+NothingGoesUpBetween =
+    (l : ℕ) (c : BearerConfig) (keys next : Keys) (nb ue : End) (side : Side)
+    (steps : List AirStep)
     → BeginAlike l c keys nb ue → AreLiving l (outset nb ue) steps → NoneSet l steps nb ue
     → ups_on l (told_of (end_at side (lives steps (outset nb ue))) (Move next)) ≡ []
 
 -- and in no life a PDU of PDCP is lost as an end receives it, nor as the life ends
 pub record LosesNone (l : ℕ) (side : Side) (steps : List AirStep) (nb ue : End) : Type 0 where
-  pub in_life : losses (told_on l (told_over (all_calls side (life_of steps nb ue).steps (start (life_of steps nb ue))) (end_at side (start (life_of steps nb ue))))) ≡ []
-  pub between : (next : Keys) → losses (told_on l (told_of (end_at side (lives steps (outset nb ue))) (Move next))) ≡ []
+  pub in_life : losses
+      (told_on l
+      (told_over (all_calls side (life_of steps nb ue).steps (start (life_of steps nb ue)))
+      (end_at side (start (life_of steps nb ue))))) ≡ []
+  pub between : (next : Keys)
+      → losses (told_on l (told_of (end_at side (lives steps (outset nb ue))) (Move next))) ≡ []
 
 abbrev pub NothingIsLost : Type 0
-NothingIsLost = (l : ℕ) (c : BearerConfig) (keys : Keys) (nb ue : End) (side : Side) (steps : List AirStep)
-    → BeginAlike l c keys nb ue → AreLiving l (outset nb ue) steps → NoneSet l steps nb ue → LosesNone l side steps nb ue
+NothingIsLost =
+    (l : ℕ) (c : BearerConfig) (keys : Keys) (nb ue : End) (side : Side) (steps : List AirStep)
+    → BeginAlike l c keys nb ue → AreLiving l (outset nb ue) steps → NoneSet l steps nb ue
+    → LosesNone l side steps nb ue

@@ -1,4 +1,5 @@
--- The running life of a channel's bearers in steps of two ends of a link: where it began, and the steps since (TS 36.322 5.4, TS 36.323 5.2).
+-- The running life of a channel's bearers in steps of two ends of a link: where it began, and the
+-- steps since (TS 36.322 5.4, TS 36.323 5.2).
 use Rattle.std.specs.Prelude.{List, [], ◌∷◌, ◌++◌}
 use Rattle.law_deliver.specs.AmChannel.Lives.{AirStep, InLife, Moves, lives}
 use Rattle.law_deliver.specs.AmFlow.Air.{Air, outset}
@@ -20,7 +21,12 @@ now life = lives life.steps (start life)
 
 abbrev pub goes_on : Life → AirStep → Life
 goes_on life (InLife s) = record life { steps = life.steps ++ InLife s ∷ [] }
-goes_on life (Moves keys) = record { nb = after (now life).nb.end (Move keys); ue = after (now life).ue.end (Move keys); steps = [] }
+goes_on life (Moves keys) =
+    record {
+      nb = after (now life).nb.end (Move keys);
+      ue = after (now life).ue.end (Move keys);
+      steps = [];
+    }
 
 abbrev pub running : List AirStep → Life → Life
 running [] life = life

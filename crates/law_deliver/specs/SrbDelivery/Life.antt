@@ -1,11 +1,13 @@
--- Both ends of a signalling bearer in a life, with what is under way between them (TS 36.323 5.1, TS 36.322 4.2.1.3).
+-- Both ends of a signalling bearer in a life, with what is under way between them (TS 36.323 5.1,
+-- TS 36.322 4.2.1.3).
 use Rattle.std.specs.Prelude.{◌≡◌, ℕ, List, [], ◌∷◌, ◌++◌, None}
 use Rattle.bearer.specs.Acknowledged.State.{State}
 use Rattle.law_bearer.specs.AnyBearer.Calls.{Call, Submit, Take, Arrive, Expire, Tick, SetDiscard}
 use Rattle.law_deliver.specs.AmDelivery.Ends.{submitted_by}
 use Rattle.law_deliver.specs.AmDelivery.Lives.{near_calls, far_calls, ups_by}
 use Rattle.law_deliver.specs.AmFlow.Flows.{BeginsLife}
-use Rattle.law_deliver.specs.AmFlow.Pair.{Pair, Deed, Calls, DataComes, StatusComes, DataGoes, StatusGoes, Step, Near, Far, Passes, happens, IsGiven}
+use Rattle.law_deliver.specs.AmFlow.Pair.{Pair, Deed, Calls, DataComes, StatusComes, DataGoes}
+use Rattle.law_deliver.specs.AmFlow.Pair.{StatusGoes, Step, Near, Far, Passes, happens, IsGiven}
 use Rattle.pdcp_pdu.specs.declared.PdcpKind.TheVariants.{Srb}
 use Rattle.pdcp_tx.specs.State.{refusal}
 use Rattle.law_pdcp.specs.SrbPair.Flow.{BeginAlike}
@@ -20,7 +22,8 @@ pub record BothBegin (near far : State) : Type 0 where
   pub there : BeginAlike near.pdcp.tx far.pdcp.rx
   pub back : BeginAlike far.pdcp.tx near.pdcp.rx
 
--- ---- what is asked of its steps: besides what RLC asks, that PDCP doesn't refuse what is submitted, and that no discard timers are set
+-- ---- what is asked of its steps: besides what RLC asks, that PDCP doesn't refuse what is
+-- submitted, and that no discard timers are set
 
 abbrev pub IsAccepted : State → Call → Type 0
 IsAccepted b (Submit sdu) = refusal b.pdcp.tx sdu ≡ None

@@ -1,4 +1,5 @@
--- A signalling bearer from life to life: both ends begin anew under the same keys, with COUNT 0, and drop what waits (TS 36.323 5.2.1.3, 5.2.2.3).
+-- A signalling bearer from life to life: both ends begin anew under the same keys, with COUNT 0,
+-- and drop what waits (TS 36.323 5.2.1.3, 5.2.2.3).
 use Rattle.std.specs.Prelude.{◌≡◌, ℕ, ◌≤◌, ◌^◌, List, [], ◌∷◌, ◌++◌}
 use Rattle.law_bearer.specs.AmBearer.Calls.{ups_in}
 use Rattle.law_words.specs.Lists.{IsFront}
@@ -16,12 +17,18 @@ use Rattle.l2_types.specs.declared.Side.TheVariants.{Nb, Ue}
 use Rattle.pdcp_rx.specs.State.{restarted as restarted_receiving}
 use Rattle.pdcp_tx.specs.State.{restarted as restarted_sending}
 use Rattle.promises.specs.Events.{losses}
-use Rattle.law_deliver.specs.SrbDelivery.Life.{BothBegin, MayHappen, AreLived, near_ups, far_ups, near_submits, far_submits}
+use Rattle.law_deliver.specs.SrbDelivery.Life.{BothBegin, MayHappen, AreLived, near_ups, far_ups}
+use Rattle.law_deliver.specs.SrbDelivery.Life.{near_submits, far_submits}
 
 -- ---- a life ends, and the next one begins
 
 abbrev pub renews : State → Keys → State
-renews b keys = with_new_rlc b.tx_config b.rx_config (record b.pdcp { tx = restarted_sending b.pdcp.tx keys; rx = restarted_receiving b.pdcp.rx keys })
+renews b keys =
+    with_new_rlc b.tx_config b.rx_config
+    (record b.pdcp {
+      tx = restarted_sending b.pdcp.tx keys;
+      rx = restarted_receiving b.pdcp.rx keys;
+    })
 
 -- at an end: what RLC can still put together is dropped, so nothing goes up
 pub record BeginsAnew (b : State) (keys : Keys) : Type 0 where
@@ -37,8 +44,10 @@ pub record BothBeginAnew (near far : State) (keys : Keys) : Type 0 where
   pub both : BothBegin (renews near keys) (renews far keys)
 
 abbrev pub NextLifeBegins : Type 0
-NextLifeBegins = (near far : State) (steps : List Step) (keys : Keys) → BothBegin near far → AreLived (outset near far) steps
-    → BothBeginAnew (goes steps (outset near far)).near.bearer (goes steps (outset near far)).far.bearer keys
+NextLifeBegins = (near far : State) (steps : List Step) (keys : Keys) → BothBegin near far
+    → AreLived (outset near far) steps
+    → BothBeginAnew (goes steps (outset near far)).near.bearer
+    (goes steps (outset near far)).far.bearer keys
 
 -- ---- the first life, as both ends are configured; a COUNT has 32 bits
 
@@ -49,7 +58,8 @@ pub record AreBothEnds (c : BearerConfig) (keys : Keys) (nb ue : State) : Type 0
   pub ue_is : flow_of c.kind c keys Ue ≡ Am ue
 
 abbrev pub FirstLifeBegins : Type 0
-FirstLifeBegins = (c : BearerConfig) (keys : Keys) (nb ue : State) → AreBothEnds c keys nb ue → BothBegin nb ue
+FirstLifeBegins = (c : BearerConfig) (keys : Keys) (nb ue : State) → AreBothEnds c keys nb ue
+    → BothBegin nb ue
 
 -- ---- any lives
 
@@ -74,21 +84,29 @@ AreLiving p [] = Unit {0}
 AreLiving p (x ∷ xs) = IsLiving p x × AreLiving (lives_on p x) xs
 
 -- what comes of the running life, behind what had come of it before
-abbrev pub since_by : (Pair → Step → List (List ℕ)) → List (List ℕ) → Pair → LifeStep → List (List ℕ)
+abbrev pub since_by : (Pair → Step → List (List ℕ)) → List (List ℕ) → Pair → LifeStep
+    → List (List ℕ)
 since_by what before p (InLife s) = before ++ what p s
 since_by what before p (Restarts keys) = []
 
-abbrev pub since : (Pair → Step → List (List ℕ)) → List (List ℕ) → List LifeStep → Pair → List (List ℕ)
+abbrev pub since : (Pair → Step → List (List ℕ)) → List (List ℕ) → List LifeStep → Pair
+    → List (List ℕ)
 since what before [] p = before
 since what before (x ∷ xs) p = since what (since_by what before p x) xs (lives_on p x)
 
--- in each life what has gone up at an end are the SDUs that the other submitted first in it; and all, once it is drained
+-- in each life what has gone up at an end are the SDUs that the other submitted first in it; and
+-- all, once it is drained
 pub record AreOfThisLife (nb ue : State) (steps : List LifeStep) : Type 0 where
-  pub down : IsFront (since far_ups [] steps (outset nb ue)) (since near_submits [] steps (outset nb ue))
-  pub up : IsFront (since near_ups [] steps (outset nb ue)) (since far_submits [] steps (outset nb ue))
-  pub all_down : IsDrained (lives steps (outset nb ue)).near.bearer → since far_ups [] steps (outset nb ue) ≡ since near_submits [] steps (outset nb ue)
-  pub all_up : IsDrained (lives steps (outset nb ue)).far.bearer → since near_ups [] steps (outset nb ue) ≡ since far_submits [] steps (outset nb ue)
+  pub down : IsFront (since far_ups [] steps (outset nb ue))
+      (since near_submits [] steps (outset nb ue))
+  pub up : IsFront (since near_ups [] steps (outset nb ue))
+      (since far_submits [] steps (outset nb ue))
+  pub all_down : IsDrained (lives steps (outset nb ue)).near.bearer
+      → since far_ups [] steps (outset nb ue) ≡ since near_submits [] steps (outset nb ue)
+  pub all_up : IsDrained (lives steps (outset nb ue)).far.bearer
+      → since near_ups [] steps (outset nb ue) ≡ since far_submits [] steps (outset nb ue)
 
 abbrev pub DeliversInEachLife : Type 0
-DeliversInEachLife = (c : BearerConfig) (keys : Keys) (nb ue : State) (steps : List LifeStep) → AreBothEnds c keys nb ue → AreLiving (outset nb ue) steps
+DeliversInEachLife = (c : BearerConfig) (keys : Keys) (nb ue : State) (steps : List LifeStep)
+    → AreBothEnds c keys nb ue → AreLiving (outset nb ue) steps
     → AreOfThisLife nb ue steps

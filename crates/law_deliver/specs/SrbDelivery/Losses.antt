@@ -1,4 +1,5 @@
--- What PDCP's receiver of a signalling bearer might lose, and in a life doesn't (TS 36.323 5.1.2.2, 5.7).
+-- What PDCP's receiver of a signalling bearer might lose, and in a life doesn't (TS 36.323 5.1.2.2,
+-- 5.7).
 use Rattle.std.specs.Prelude.{◌≡◌, List, [], ◌∷◌}
 use Rattle.bearer.specs.Acknowledged.State.{State}
 use Rattle.law_bearer.specs.AnyBearer.Calls.{Call}
@@ -26,4 +27,5 @@ pub record LoseNone (near far : State) (steps : List Step) : Type 0 where
   pub far_none : over far_losses steps (outset near far) ≡ []
 
 abbrev pub NothingIsLost : Type 0
-NothingIsLost = (near far : State) (steps : List Step) → BothBegin near far → AreLived (outset near far) steps → LoseNone near far steps
+NothingIsLost = (near far : State) (steps : List Step) → BothBegin near far
+    → AreLived (outset near far) steps → LoseNone near far steps

@@ -1,4 +1,5 @@
--- What a channel of unacknowledged data delivers while losses are short, in each direction and through lives (TS 36.322 5.1.2.2, TS 36.323
+-- What a channel of unacknowledged data delivers while losses are short, in each direction and
+-- through lives (TS 36.322 5.1.2.2, TS 36.323
 -- 5.1.2.1.3).
 use Rattle.std.specs.Prelude.{◌≡◌, ℕ, ◌<◌, ◌^◌, List, [], length}
 use Rattle.bearer_types.specs.Configs.{IsConfig}
@@ -32,31 +33,45 @@ abbrev pub direction_from : Side → Direction
 direction_from Nb = There
 direction_from Ue = Back
 
--- losses are short from a side to the other: for RLC in each life, of which each PDU that comes has a number less than a window above the
--- highest that came, and for PDCP, of which RLC hands up PDUs with fewer COUNTs between them than there are sequence numbers
+-- losses are short from a side to the other: for RLC in each life, of which each PDU that comes has
+-- a number less than a window above the highest that came, and for PDCP, of which RLC hands up PDUs
+-- with fewer COUNTs between them than there are sequence numbers
 abbrev pub AreShortFrom : Side → ℕ → BearerConfig → Keys → List AirStep → Air → Type 0
-AreShortFrom from l c keys steps a = AreShort c (direction_from from) (fresh c keys Nb) (fresh c keys Ue) (walk l [] steps a).lives (walk l [] steps a).steps
+AreShortFrom from l c keys steps a =
+    AreShort c (direction_from from) (fresh c keys Nb) (fresh c keys Ue) (walk l [] steps a).lives
+    (walk l [] steps a).steps
 
 -- the places of those PDUs among the SDUs that the side took
 abbrev pub places_from : Side → ℕ → BearerConfig → Keys → List AirStep → Air → List ℕ
 places_from from l c keys steps a =
-    all_places c 0 (ended (direction_from from) (fresh c keys Nb) (fresh c keys Ue) (walk l [] steps a).lives)
-    (last (direction_from from) (fresh c keys Nb) (fresh c keys Ue) (walk l [] steps a).lives (walk l [] steps a).steps)
+    all_places c 0
+    (ended (direction_from from) (fresh c keys Nb) (fresh c keys Ue)
+    (walk l [] steps a).lives)
+    (last (direction_from from) (fresh c keys Nb) (fresh c keys Ue) (walk l [] steps a).lives
+    (walk l [] steps a).steps)
 
 -- ---- the laws, from an end to the other
 
--- what goes up at the other are just the SDUs whose PDUs RLC hands up there: in their order, each once and unchanged
-pub record IsWhatCame (l : ℕ) (c : BearerConfig) (keys : Keys) (from : Side) (steps : List AirStep) (a : Air) : Type 0 where
+-- what goes up at the other are just the SDUs whose PDUs RLC hands up there: in their order, each
+-- once and unchanged
+pub record IsWhatCame (l : ℕ) (c : BearerConfig) (keys : Keys) (from : Side)
+    (steps : List AirStep) (a : Air) : Type 0 where
   pub order : AreBetween 0 (places_from from l c keys steps a) (length (taken_at l from steps a))
-  pub ups_are : ups_at l (other from) steps a ≡ those (places_from from l c keys steps a) (taken_at l from steps a)
+  pub ups_are : ups_at l (other from) steps a
+      ≡ those (places_from from l c keys steps a) (taken_at l from steps a)
 
 abbrev pub ChannelsDeliverWhatCame : Type 0
-ChannelsDeliverWhatCame = (l : ℕ) (c : BearerConfig) (keys : Keys) (nb ue : End) (from : Side) (steps : List AirStep)
-    → BeginAlike l c keys nb ue → AreLiving l (outset nb ue) steps → AreShortFrom from l c keys steps (outset nb ue)
+ChannelsDeliverWhatCame =
+    (l : ℕ) (c : BearerConfig) (keys : Keys) (nb ue : End) (from : Side) (steps : List AirStep)
+    → BeginAlike l c keys nb ue → AreLiving l (outset nb ue) steps
+    → AreShortFrom from l c keys steps (outset nb ue)
     → IsWhatCame l c keys from steps (outset nb ue)
 
 -- so they are some of those that were submitted at the one
 abbrev pub ChannelsDeliverInOrder : Type 0
-ChannelsDeliverInOrder = (l : ℕ) (c : BearerConfig) (keys : Keys) (nb ue : End) (from : Side) (steps : List AirStep)
-    → BeginAlike l c keys nb ue → AreLiving l (outset nb ue) steps → AreShortFrom from l c keys steps (outset nb ue)
-    → IsSubsequence (ups_at l (other from) steps (outset nb ue)) (submitted_at l from steps (outset nb ue))
+ChannelsDeliverInOrder =
+    (l : ℕ) (c : BearerConfig) (keys : Keys) (nb ue : End) (from : Side) (steps : List AirStep)
+    → BeginAlike l c keys nb ue → AreLiving l (outset nb ue) steps
+    → AreShortFrom from l c keys steps (outset nb ue)
+    → IsSubsequence (ups_at l (other from) steps (outset nb ue))
+    (submitted_at l from steps (outset nb ue))

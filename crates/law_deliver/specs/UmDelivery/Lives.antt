@@ -1,4 +1,5 @@
--- Both ends of a bearer of unacknowledged data through lives: in a life their steps, then both begin the next one under the same keys (TS 36.322
+-- Both ends of a bearer of unacknowledged data through lives: in a life their steps, then both
+-- begin the next one under the same keys (TS 36.322
 -- 5.4, TS 36.323 5.2).
 use Rattle.std.specs.Prelude.{◌≡◌, ℕ, List, [], ◌∷◌, ◌++◌, None}
 use Rattle.eps_sec.specs.declared.Keys.{Keys}
@@ -10,7 +11,8 @@ use Rattle.bearer.specs.Unacknowledged.Lives.{stopped, restarted}
 use Rattle.law_bearer.specs.AnyBearer.Calls.{Call, Submit, Take, Arrive, Expire, Tick, SetDiscard}
 use Rattle.law_bearer.specs.AnyBearer.Queue.{news, submits}
 use Rattle.law_bearer.specs.AmBearer.Calls.{ups_in}
-use Rattle.law_deliver.specs.UmFlow.Pair.{Pair, Step, called, goes, outset, AreGiven, AreShortThere, AreShortBack}
+use Rattle.law_deliver.specs.UmFlow.Pair.{Pair, Step, called, goes, outset, AreGiven, AreShortThere}
+use Rattle.law_deliver.specs.UmFlow.Pair.{AreShortBack}
 use Rattle.law_deliver.specs.UmFlow.Calls.{near_calls, far_calls}
 use Rattle.law_deliver.specs.UmFlow.Flows.{Way, there, back}
 use Rattle.law_deliver.specs.UmFlow.Handing.{tells_all}
@@ -20,7 +22,8 @@ pub record Life : Type 0 where
   pub steps : List Step
   pub keys : Keys
 
--- ---- the next life: all that RLC can put together has gone up, and nothing that is under way comes any more
+-- ---- the next life: all that RLC can put together has gone up, and nothing that is under way
+-- comes any more
 
 abbrev pub next_near : State → State → Life → State
 next_near near far l = restarted (stopped (goes l.steps (outset near far)).near.bearer) l.keys
@@ -28,7 +31,8 @@ next_near near far l = restarted (stopped (goes l.steps (outset near far)).near.
 abbrev pub next_far : State → State → Life → State
 next_far near far l = restarted (stopped (goes l.steps (outset near far)).far.bearer) l.keys
 
--- ---- what is asked of them: besides what is asked of the steps of a life, that PDCP doesn't refuse what is submitted
+-- ---- what is asked of them: besides what is asked of the steps of a life, that PDCP doesn't
+-- refuse what is submitted
 
 abbrev pub IsAccepted : State → Call → Type 0
 IsAccepted b (Submit sdu) = refusal b.pdcp.tx sdu ≡ None
@@ -50,7 +54,8 @@ pub record IsLiving (near far : State) (steps : List Step) : Type 0 where
 -- lives that have ended, and the steps of the last one so far
 abbrev pub AreLiving : State → State → List Life → List Step → Type 0
 AreLiving near far [] steps = IsLiving near far steps
-AreLiving near far (l ∷ ls) steps = IsLiving near far l.steps × AreLiving (next_near near far l) (next_far near far l) ls steps
+AreLiving near far (l ∷ ls) steps = IsLiving near far l.steps
+    × AreLiving (next_near near far l) (next_far near far l) ls steps
 
 -- ---- a direction of each life
 
@@ -69,13 +74,15 @@ AreShortIn Back p steps = AreShortBack p steps
 
 abbrev pub ended : Direction → State → State → List Life → List Way
 ended d near far [] = []
-ended d near far (l ∷ ls) = way d near far l.steps ∷ ended d (next_near near far l) (next_far near far l) ls
+ended d near far (l ∷ ls) =
+    way d near far l.steps ∷ ended d (next_near near far l) (next_far near far l) ls
 
 abbrev pub last : Direction → State → State → List Life → List Step → Way
 last d near far [] steps = way d near far steps
 last d near far (l ∷ ls) steps = last d (next_near near far l) (next_far near far l) ls steps
 
--- ---- what goes up at the end that hears, and what the end that sends takes for the first time and is given
+-- ---- what goes up at the end that hears, and what the end that sends takes for the first time and
+-- is given
 
 abbrev pub ups : Way → List (List ℕ)
 ups w = ups_in (tells_all w.to w.to_calls)

@@ -4,7 +4,8 @@ use Rattle.bearer.specs.declared.flow.Flow.TheVariants.{Um}
 use Rattle.bearer.specs.Unacknowledged.State.{State}
 use Rattle.law_bearer.specs.AnyBearer.Calls.{Call, Arrive, after_all}
 use Rattle.law_rlc.specs.AmPair.Flow.{Copy}
-use Rattle.law_deliver.specs.UmFlow.Pair.{BearerEnd, Pair, Deed, Calls, Comes, Goes, Step, Near, Far, happens, goes, outset}
+use Rattle.law_deliver.specs.UmFlow.Pair.{BearerEnd, Pair, Deed, Calls, Comes, Goes, Step, Near}
+use Rattle.law_deliver.specs.UmFlow.Pair.{Far, happens, goes, outset}
 
 abbrev pub arrives : Option Copy → List Call
 arrives None = []
@@ -39,4 +40,5 @@ pub record AreTheirCalls (near far : State) (p : Pair) (steps : List Step) : Typ
   pub far_is : after_all (Um far) (far_calls p steps) ≡ Um (goes steps p).far.bearer
 
 abbrev pub EndsAreTheirCalls : Type 0
-EndsAreTheirCalls = (near far : State) (steps : List Step) → AreTheirCalls near far (outset near far) steps
+EndsAreTheirCalls = (near far : State) (steps : List Step)
+    → AreTheirCalls near far (outset near far) steps

@@ -18,13 +18,15 @@ use Rattle.law_rlc.specs.UmPair.Run.{World, run, fresh}
 use Rattle.law_rlc.specs.UmPair.Send.{Flow, flow, at_first}
 use Rattle.law_rlc.specs.UmPair.Air.{AreSent}
 use Rattle.law_rlc.specs.UmPair.Which.{places_up, places_below, those}
-use Rattle.law_deliver.specs.UmFlow.Pair.{BearerEnd, Step, goes, outset, AreGiven, AreShortThere, AreShortBack}
+use Rattle.law_deliver.specs.UmFlow.Pair.{BearerEnd, Step, goes, outset, AreGiven, AreShortThere}
+use Rattle.law_deliver.specs.UmFlow.Pair.{AreShortBack}
 use Rattle.law_deliver.specs.UmFlow.Calls.{near_calls, far_calls}
 use Rattle.law_deliver.specs.UmFlow.Handing.{handed}
 use Rattle.law_deliver.specs.UmFlow.Runs.{all_sender_steps, all_receiver_calls}
 use Rattle.law_deliver.specs.UmFlow.Lives.{BeginsLife}
 
--- one direction of a life: the bearers at both ends as it begins, their calls so far, and what the ends have come to
+-- one direction of a life: the bearers at both ends as it begins, their calls so far, and what the
+-- ends have come to
 pub record Way : Type 0 where
   pub from : State
   pub to : State
@@ -69,7 +71,8 @@ abbrev pub receives : ℕ → ℕ → Way → World
 receives bits reorder w = run (all_receiver_calls w.to w.to_calls) (fresh (width_of bits) reorder)
 
 pub record IsFlow (bits reorder : ℕ) (w : Way) : Type 0 where
-  pub sent : AreSent (sends bits w).made (width_of bits) (all_receiver_calls w.to w.to_calls) (fresh (width_of bits) reorder)
+  pub sent : AreSent (sends bits w).made (width_of bits) (all_receiver_calls w.to w.to_calls)
+      (fresh (width_of bits) reorder)
   pub sender_is : (sends bits w).sender ≡ w.from_end.bearer.tx
   pub given_is : (sends bits w).offered ≡ given w
   pub receiver_is : (receives bits reorder w).state ≡ w.to_end.bearer.rx
@@ -89,18 +92,22 @@ pub record IsDelivered (bits reorder : ℕ) (w : Way) : Type 0 where
   pub some : IsSubsequence (heard w) (given w)
   pub at_end : IsSubsequence (heard w ++ all_joined w.to_end.bearer.rx) (given w)
 
--- the places, among those that PDCP gave, of the PDUs that came whole: in numbers below VR(UR), and as the life ends in any
+-- the places, among those that PDCP gave, of the PDUs that came whole: in numbers below VR(UR), and
+-- as the life ends in any
 abbrev pub places : ℕ → ℕ → Way → List ℕ
 places bits reorder w = places_up (width_of bits) (receives bits reorder w) (sends bits w).made
 
 abbrev pub last_places : ℕ → ℕ → Way → List ℕ
-last_places bits reorder w = places_below (width_of bits) (receives bits reorder w) (receives bits reorder w).top (sends bits w).made
+last_places bits reorder w =
+    places_below (width_of bits) (receives bits reorder w) (receives bits reorder w).top
+    (sends bits w).made
 
 pub record IsWhatCame (bits reorder : ℕ) (w : Way) : Type 0 where
   pub order : AreBetween 0 (places bits reorder w) (length (given w))
   pub heard_is : heard w ≡ those (places bits reorder w) (given w)
   pub last_order : AreBetween 0 (last_places bits reorder w) (length (given w))
-  pub last_is : heard w ++ all_joined w.to_end.bearer.rx ≡ those (last_places bits reorder w) (given w)
+  pub last_is : heard w ++ all_joined w.to_end.bearer.rx
+      ≡ those (last_places bits reorder w) (given w)
 
 -- the place behind the last of some
 abbrev pub behind : ℕ → List ℕ → ℕ
@@ -115,15 +122,20 @@ pub record Follow (so_far later : List ℕ) (old new pdus : List (List ℕ)) : T
   pub new_is : new ≡ old ++ those rest pdus
 
 pub record GoesOn (bits reorder : ℕ) (w later : Way) : Type 0 where
-  pub up : Follow (places bits reorder w) (places bits reorder later) (heard w) (heard later) (given later)
-  pub last : Follow (places bits reorder w) (last_places bits reorder later) (heard w) (heard later ++ all_joined later.to_end.bearer.rx) (given later)
+  pub up : Follow (places bits reorder w) (places bits reorder later) (heard w) (heard later)
+      (given later)
+  pub last : Follow (places bits reorder w) (last_places bits reorder later) (heard w)
+      (heard later ++ all_joined later.to_end.bearer.rx) (given later)
 
 -- ---- the laws, of both ends in a life, in each direction in which losses are short
 
 abbrev pub InEachDirection : (ℕ → ℕ → Way → Type 0) → Type 0
-InEachDirection Holds = (bits reorder_near reorder_far : ℕ) (near far : State) (steps : List Step) → IsUmBits bits
-    → BeginsLife bits reorder_near near → BeginsLife bits reorder_far far → AreGiven (outset near far) steps
-    → (AreShortThere (outset near far) steps → Holds bits reorder_far (there near far steps)) × (AreShortBack (outset near far) steps → Holds bits reorder_near (back near far steps))
+InEachDirection Holds = (bits reorder_near reorder_far : ℕ) (near far : State) (steps : List Step)
+    → IsUmBits bits
+    → BeginsLife bits reorder_near near → BeginsLife bits reorder_far far
+    → AreGiven (outset near far) steps
+    → (AreShortThere (outset near far) steps → Holds bits reorder_far (there near far steps))
+    × (AreShortBack (outset near far) steps → Holds bits reorder_near (back near far steps))
 
 abbrev pub BearersAreFlows : Type 0
 BearersAreFlows = InEachDirection IsFlow
@@ -138,7 +150,11 @@ abbrev pub HandsUpWhatCame : Type 0
 HandsUpWhatCame = InEachDirection IsWhatCame
 
 abbrev pub MoreComesLater : Type 0
-MoreComesLater = (bits reorder_near reorder_far : ℕ) (near far : State) (steps more : List Step) → IsUmBits bits
-    → BeginsLife bits reorder_near near → BeginsLife bits reorder_far far → AreGiven (outset near far) (steps ++ more)
-    → (AreShortThere (outset near far) (steps ++ more) → GoesOn bits reorder_far (there near far steps) (there near far (steps ++ more)))
-    × (AreShortBack (outset near far) (steps ++ more) → GoesOn bits reorder_near (back near far steps) (back near far (steps ++ more)))
+MoreComesLater = (bits reorder_near reorder_far : ℕ) (near far : State) (steps more : List Step)
+    → IsUmBits bits
+    → BeginsLife bits reorder_near near → BeginsLife bits reorder_far far
+    → AreGiven (outset near far) (steps ++ more)
+    → (AreShortThere (outset near far) (steps ++ more)
+    → GoesOn bits reorder_far (there near far steps) (there near far (steps ++ more)))
+    × (AreShortBack (outset near far) (steps ++ more)
+    → GoesOn bits reorder_near (back near far steps) (back near far (steps ++ more)))

@@ -1,4 +1,5 @@
--- What RLC's receiver hands up to PDCP's receiver, and what goes up from there (TS 36.322 5.1.2.2.3, 5.4, TS 36.323 5.1.2).
+-- What RLC's receiver hands up to PDCP's receiver, and what goes up from there (TS 36.322
+-- 5.1.2.2.3, 5.4, TS 36.323 5.1.2).
 use Rattle.std.specs.Prelude.{◌≡◌, ℕ, if◌then◌else◌, List, [], ◌∷◌, ◌++◌, Result, Ok, Err}
 use Rattle.bearer_types.specs.declared.Event.{Event}
 use Rattle.l2_num.specs.Timers.{ends}
@@ -13,7 +14,8 @@ use Rattle.rlc_pdu.specs.declared.Expired.TheVariants.{Done, NotRunning}
 use Rattle.rlc_pdu.specs.declared.RlcRefusal.{RlcRefusal}
 use Rattle.rlc_pdu.specs.Pdus.{UmdPdu}
 use Rattle.rlc_pdu.specs.Reading.{umd_at}
-use Rattle.rlc_um.specs.Receiver.{State as Receiver, arrival, expiring, expired, counted, all_joined}
+use Rattle.rlc_um.specs.Receiver.{State as Receiver, arrival, expiring, expired, counted}
+use Rattle.rlc_um.specs.Receiver.{all_joined}
 use Rattle.bearer.specs.declared.flow.Flow.TheVariants.{Um}
 use Rattle.bearer.specs.Hearing.{arriving, expiry, ticking}
 use Rattle.bearer.specs.Lives.{stopping}
@@ -69,7 +71,8 @@ hears cause (pdu ∷ pdus) r = hears cause pdus (hears_one cause pdu r)
 
 abbrev pub raises : Cause → List (List ℕ) → Receiving → List (List ℕ)
 raises cause [] r = []
-raises cause (pdu ∷ pdus) r = (arrived r pdu cause).ready ++ raises cause pdus (hears_one cause pdu r)
+raises cause (pdu ∷ pdus) r = (arrived r pdu cause).ready
+    ++ raises cause pdus (hears_one cause pdu r)
 
 -- ---- what calls tell
 
@@ -87,12 +90,14 @@ tells_all b (c ∷ cs) = tells b c ++ tells_all (called b c) cs
 
 -- ---- the laws
 
--- a bearer of unacknowledged data, with SNs of PDCP of so many bits; nothing that is ready to go up is left over
+-- a bearer of unacknowledged data, with SNs of PDCP of so many bits; nothing that is ready to go up
+-- is left over
 pub record IsOfData (bits : ℕ) (b : State) : Type 0 where
   pub kind : b.pdcp.kind ≡ UmKind bits
   pub idle : b.pdcp.rx.ready ≡ []
 
--- PDCP's receiver hears just what RLC hands up, and of just what it makes of that the calls tell that it goes up
+-- PDCP's receiver hears just what RLC hands up, and of just what it makes of that the calls tell
+-- that it goes up
 pub record HearsJust (bits : ℕ) (b : State) (cs : List Call) : Type 0 where
   pub heard : (all_called b cs).pdcp.rx ≡ hears Arrived (handed b cs) b.pdcp.rx
   pub ups : ups_in (tells_all b cs) ≡ raises Arrived (handed b cs) b.pdcp.rx

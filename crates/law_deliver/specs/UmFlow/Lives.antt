@@ -1,4 +1,5 @@
--- A life of an unacknowledged bearer begins with entities of RLC that begin (TS 36.322 5.4, TS 36.323 5.2).
+-- A life of an unacknowledged bearer begins with entities of RLC that begin (TS 36.322 5.4, TS
+-- 36.323 5.2).
 use Rattle.std.specs.Prelude.{◌≡◌, ℕ, List}
 use Rattle.bearer_types.specs.declared.BearerConfig.{BearerConfig}
 use Rattle.eps_sec.specs.declared.Keys.{Keys}
@@ -30,4 +31,5 @@ abbrev pub FirstLifeBegins : Type 0
 FirstLifeBegins = (c : BearerConfig) (keys : Keys) (side : Side) → IsAdded c (fresh c keys side)
 
 abbrev pub NextLifeBegins : Type 0
-NextLifeBegins = (pdcp_bits : ℕ) (b : State) (cs : List Call) (keys : Keys) → IsOfData pdcp_bits b → BeginsAgain b.bits b.reorder pdcp_bits (restarted (stopped (all_called b cs)) keys)
+NextLifeBegins = (pdcp_bits : ℕ) (b : State) (cs : List Call) (keys : Keys) → IsOfData pdcp_bits b
+    → BeginsAgain b.bits b.reorder pdcp_bits (restarted (stopped (all_called b cs)) keys)

@@ -1,6 +1,8 @@
--- Both ends of an unacknowledged bearer in one life, and what is under way between them (TS 36.322 4.2.1.2). HARQ may lose what is under way,
--- bring it late, in another order, and more than once; nothing else comes.
-use Rattle.std.specs.Prelude.{ℕ, ◌+◌, ◌*◌, ◌<◌, List, [], ◌∷◌, map, length, Option, Some, None, slice_get}
+-- Both ends of an unacknowledged bearer in one life, and what is under way between them (TS 36.322
+-- 4.2.1.2). HARQ may lose what is under way, bring it late, in another order, and more than once;
+-- nothing else comes.
+use Rattle.std.specs.Prelude.{ℕ, ◌+◌, ◌*◌, ◌<◌, List, [], ◌∷◌, map, length, Option, Some, None}
+use Rattle.std.specs.Prelude.{slice_get}
 use Rattle.std.specs.List.{AllByRecursion}
 use Rattle.rlc_pdu.specs.declared.outcome.Taken.{Taken}
 use Rattle.rlc_pdu.specs.declared.outcome.Taken.TheVariants as taken
@@ -10,7 +12,8 @@ use Rattle.bearer.specs.declared.flow.Flow.{Flow}
 use Rattle.bearer.specs.declared.flow.Flow.TheVariants.{Tm, Um, Am}
 use Rattle.bearer.specs.Unacknowledged.State.{State}
 use Rattle.bearer.specs.Unacknowledged.Taking.{answer}
-use Rattle.law_bearer.specs.AnyBearer.Calls.{Call, Submit, Take, Arrive, Expire, Tick, SetDiscard, after}
+use Rattle.law_bearer.specs.AnyBearer.Calls.{Call, Submit, Take, Arrive, Expire, Tick, SetDiscard}
+use Rattle.law_bearer.specs.AnyBearer.Calls.{after}
 use Rattle.law_bearer.specs.AnyBearer.Stream.{takes, pdu_of}
 use Rattle.law_rlc.specs.AmPair.Flow.{Copy, copies_with, except}
 use Rattle.law_rlc.specs.AmPair.Given.{IsHeld}
@@ -60,7 +63,10 @@ written_by b Tick = taken.Idle
 written_by b (SetDiscard ttis) = taken.Idle
 
 abbrev pub calls : BearerEnd → Call → BearerEnd
-calls e c = record { bearer = called e.bearer c; copies = copies_with (written_by e.bearer c) e.copies }
+calls e c = record {
+  bearer = called e.bearer c;
+  copies = copies_with (written_by e.bearer c) e.copies;
+}
 
 -- ---- any steps
 
@@ -95,7 +101,8 @@ HasOctet pdu = 0 < length pdu
 
 -- a PDU of PDCP has an octet; and `take` is told the lowest number under way, or a lower one
 pub record IsTaking (e : BearerEnd) (share : ℕ) (held : Option ℕ) : Type 0 where
-  pub some : AllByRecursion HasOctet (map (pdu_of e.bearer.pdcp.tx) (takes (Um e.bearer) (Take share held)))
+  pub some : AllByRecursion HasOctet
+      (map (pdu_of e.bearer.pdcp.tx) (takes (Um e.bearer) (Take share held)))
   pub lowest : AllByRecursion (IsHeld held) e.copies
 
 abbrev pub IsCalling : BearerEnd → Call → Type 0
@@ -121,7 +128,8 @@ AreGiven p (s ∷ ss) = IsGiven p s × AreGiven (happens p s) ss
 
 -- ---- losses are short
 
--- the number of a PDU that comes lies below VR(UH) and a window; the numbers of a receiver are counted from twice the window up
+-- the number of a PDU that comes lies below VR(UH) and a window; the numbers of a receiver are
+-- counted from twice the window up
 abbrev pub IsNear : Receiver → Option Copy → Type 0
 IsNear r None = Unit {0}
 IsNear r (Some c) = 2 * r.window.width + c.number < top_of r.window + r.window.width

@@ -1,4 +1,5 @@
--- What each call of a bearer is to RLC's sender and to RLC's receiver, by steps and calls of their own (TS 36.322 4.2.1.2).
+-- What each call of a bearer is to RLC's sender and to RLC's receiver, by steps and calls of their
+-- own (TS 36.322 4.2.1.2).
 use Rattle.std.specs.Prelude.{ℕ, if◌then◌else◌, List, [], ◌∷◌, ◌++◌, map, Option, Result, Ok, Err}
 use Rattle.l2_num.specs.Timers.{ends}
 use Rattle.l2_types.specs.declared.Clock.{Clock}
@@ -14,7 +15,8 @@ use Rattle.bearer.specs.Unacknowledged.State.{State}
 use Rattle.bearer.specs.Unacknowledged.Taking.{size_in}
 use Rattle.law_bearer.specs.AnyBearer.Calls.{Call, Submit, Take, Arrive, Expire, Tick, SetDiscard}
 use Rattle.law_bearer.specs.AnyBearer.Stream.{takes, pdu_of}
-use Rattle.law_rlc.specs.UmPair.Run.{Call as ReceiverCall, Arrive as Arrives, Expire as Expires, Tick as Ticks, Up}
+use Rattle.law_rlc.specs.UmPair.Run.{Call as ReceiverCall, Arrive as Arrives, Expire as Expires}
+use Rattle.law_rlc.specs.UmPair.Run.{Tick as Ticks, Up}
 use Rattle.law_rlc.specs.UmPair.Send.{Step as SenderStep, Offer, Take as Takes}
 use Rattle.law_deliver.specs.UmFlow.Pair.{called}
 
@@ -25,7 +27,8 @@ offers_and_take pdus share held = map (λ pdu. Offer pdu) pdus ++ Takes (size_in
 
 abbrev pub sender_steps : State → Call → List SenderStep
 sender_steps b (Submit sdu) = []
-sender_steps b (Take share held) = offers_and_take (map (pdu_of b.pdcp.tx) (takes (Um b) (Take share held))) share held
+sender_steps b (Take share held) =
+    offers_and_take (map (pdu_of b.pdcp.tx) (takes (Um b) (Take share held))) share held
 sender_steps b (Arrive pdu) = []
 sender_steps b (Expire clock) = []
 sender_steps b Tick = []

@@ -1,4 +1,5 @@
--- Where what happens to a flow tells no long losses, losses are short for RLC and for PDCP (TS 36.322 7.1, 7.2, TS 36.323 6.2.3).
+-- Where what happens to a flow tells no long losses, losses are short for RLC and for PDCP (TS
+-- 36.322 7.1, 7.2, TS 36.323 6.2.3).
 use Rattle.std.specs.Prelude.{◌≡◌, ℕ, ◌^◌, false, List}
 use Rattle.law_bearer.specs.AmBearer.Lives.{other}
 use Rattle.bearer_types.specs.declared.config.BearerConfig.{BearerConfig}
@@ -26,12 +27,17 @@ TellsNoLong from l c steps nb ue = (all_after (whats from l c.rlc_bits steps (ou
 -- ---- the laws
 
 abbrev pub LossesAreTold : Type 0
-LossesAreTold = (l : ℕ) (c : BearerConfig) (keys : Keys) (nb ue : End) (from : Side) (steps : List AirStep)
-    → BeginAlike l c keys nb ue → AreLiving l (outset nb ue) steps → TellsNoLong from l c steps nb ue
+LossesAreTold =
+    (l : ℕ) (c : BearerConfig) (keys : Keys) (nb ue : End) (from : Side) (steps : List AirStep)
+    → BeginAlike l c keys nb ue → AreLiving l (outset nb ue) steps
+    → TellsNoLong from l c steps nb ue
     → AreShortFrom from l c keys steps (outset nb ue)
 
 -- so what goes up at the other end are some of the SDUs that were submitted at the one
 abbrev pub ChannelsDeliverAsTold : Type 0
-ChannelsDeliverAsTold = (l : ℕ) (c : BearerConfig) (keys : Keys) (nb ue : End) (from : Side) (steps : List AirStep)
-    → BeginAlike l c keys nb ue → AreLiving l (outset nb ue) steps → TellsNoLong from l c steps nb ue
-    → IsSubsequence (ups_at l (other from) steps (outset nb ue)) (submitted_at l from steps (outset nb ue))
+ChannelsDeliverAsTold =
+    (l : ℕ) (c : BearerConfig) (keys : Keys) (nb ue : End) (from : Side) (steps : List AirStep)
+    → BeginAlike l c keys nb ue → AreLiving l (outset nb ue) steps
+    → TellsNoLong from l c steps nb ue
+    → IsSubsequence (ups_at l (other from) steps (outset nb ue))
+    (submitted_at l from steps (outset nb ue))

@@ -1,11 +1,14 @@
--- What the steps of two ends are to the losses of an unacknowledged flow, from a side to the other: the PDUs that its sender writes, those that
--- arrive, and where the reordering timer of its receiver expires (TS 36.322 5.1.2).
-use Rattle.std.specs.Prelude.{ℕ, ◌%◌, ◌==◌, if◌then◌else◌, List, [], ◌∷◌, ◌++◌, length, Option, Some, None, Result, Ok, Err, slice_get}
+-- What the steps of two ends are to the losses of an unacknowledged flow, from a side to the other:
+-- the PDUs that its sender writes, those that arrive, and where the reordering timer of its
+-- receiver expires (TS 36.322 5.1.2).
+use Rattle.std.specs.Prelude.{ℕ, ◌%◌, ◌==◌, if◌then◌else◌, List, [], ◌∷◌, ◌++◌, length, Option}
+use Rattle.std.specs.Prelude.{Some, None, Result, Ok, Err, slice_get}
 use Rattle.std.specs.List.{flat_map}
 use Rattle.bearer_types.specs.declared.event.Event.{Event}
 use Rattle.bearer_types.specs.declared.event.Event.TheVariants as events
 use Rattle.law_deliver.specs.AmChannel.Lives.{AirStep, InLife, Moves, lives_on}
-use Rattle.law_deliver.specs.AmFlow.Air.{Block, Station, Air, Act, Calls, Comes, Goes, AtNb, AtUe, Passes}
+use Rattle.law_deliver.specs.AmFlow.Air.{Block, Station, Air, Act, Calls, Comes, Goes, AtNb, AtUe}
+use Rattle.law_deliver.specs.AmFlow.Air.{Passes}
 use Rattle.promises.specs.Pdus.{carried}
 use Rattle.harq.specs.declared.sender.Visit.{Visit}
 use Rattle.harq.specs.declared.sender.Visit.TheVariants.{New, Resend, Silent}
@@ -38,15 +41,18 @@ as_written process (Err refused) = []
 -- a new block of a process carries PDUs of the channel
 abbrev pub written : ℕ → ℕ → List (List ℕ) → List Happening
 written bits process [] = []
-written bits process (pdu ∷ pdus) = as_written process (umd_at bits pdu) ++ written bits process pdus
+written bits process (pdu ∷ pdus) =
+    as_written process (umd_at bits pdu) ++ written bits process pdus
 
 abbrev pub built : ℕ → ℕ → Direction → Visit → Turn → End → List Happening
-built l bits d New t e = renews (t.tti % 8) ∷ written bits (t.tti % 8) (carried l d (new_block e t.grant))
+built l bits d New t e =
+    renews (t.tti % 8) ∷ written bits (t.tti % 8) (carried l d (new_block e t.grant))
 built l bits d (Resend rv) t e = []
 built l bits d Silent t e = []
 
 abbrev pub sent_in : Side → ℕ → ℕ → End → Call → List Happening
-sent_in side l bits e (Visits t) = built l bits (sent_by side) (visit t.tti t.order e) t (visited t.tti t.order e)
+sent_in side l bits e (Visits t) =
+    built l bits (sent_by side) (visit t.tti t.order e) t (visited t.tti t.order e)
 sent_in side l bits e c = []
 
 abbrev pub sends : Side → ℕ → ℕ → End → Act → List Happening

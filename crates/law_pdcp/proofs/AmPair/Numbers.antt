@@ -1,5 +1,6 @@
 -- Lists of COUNTs that ascend.
-use Rattle.std.proofs.Common.{◌≡◌, ◌<◌, ◌≤◌, ℕ, ◌+◌, Bool, true, false, ◌||◌, List, [], ◌∷◌, ◌++◌, map, refl, ap, sym, ◌∙◌, arith, append_assoc}
+use Rattle.std.proofs.Common.{◌≡◌, ◌<◌, ◌≤◌, ℕ, ◌+◌, Bool, true, false, ◌||◌, List, [], ◌∷◌, ◌++◌, map, refl, ap, sym}
+use Rattle.std.proofs.Common.{◌∙◌, arith, append_assoc}
 use Rattle.std.specs.Prelude.{◌==◌, if◌then◌else◌, Option, Some, None}
 use Rattle.std.proofs.lemmas.Bool.Decides.{nat_tests}
 use Rattle.l2_num.specs.Ascending.{AreBetween}
@@ -30,7 +31,8 @@ between_from low (x ∷ xs) end n h e = grind (arith, nat_tests, h.0, between_fr
 
 pub between_below : (low : ℕ) (xs : List ℕ) (end n : ℕ) → AreBetween low xs end → among xs n ≡ true → n < end
 between_below low [] end n h e = let no : false ≡ true = e in cc
-between_below low (x ∷ xs) end n h e = let last = between_end (x + 1) xs end h.1 in grind (arith, nat_tests, last, between_below (x + 1) xs end n h.1)
+between_below low (x ∷ xs) end n h e = let last = between_end (x + 1) xs end h.1 in
+    grind (arith, nat_tests, last, between_below (x + 1) xs end n h.1)
 
 pub between_push : (low : ℕ) (xs : List ℕ) (end : ℕ) → AreBetween low xs end → AreBetween low (xs ++ end ∷ []) (end + 1)
 between_push low [] end h = (h, omega arith)
@@ -38,7 +40,8 @@ between_push low (x ∷ xs) end h = (h.0, between_push (x + 1) xs end h.1)
 
 pub between_rest : (low : ℕ) (xs ys : List ℕ) (end : ℕ) → AreBetween low (xs ++ ys) end → AreBetween low ys end
 between_rest low [] ys end h = h
-between_rest low (x ∷ xs) ys end h = between_lower low (x + 1) ys end (omega (arith, h.0)) (between_rest (x + 1) xs ys end h.1)
+between_rest low (x ∷ xs) ys end h =
+    between_lower low (x + 1) ys end (omega (arith, h.0)) (between_rest (x + 1) xs ys end h.1)
 
 -- ---- the COUNTs of PDUs, and of what is taken again
 
@@ -48,7 +51,8 @@ counts (pdu ∷ pdus) = counts_in pdu.count ++ counts pdus
 
 pub counts_more : (xs ys : List Next) → counts (xs ++ ys) ≡ counts xs ++ counts ys
 counts_more [] ys = refl
-counts_more (x ∷ xs) ys = ap (λ l. counts_in x.count ++ l) (counts_more xs ys) ∙ sym (append_assoc (counts_in x.count) (counts xs) (counts ys))
+counts_more (x ∷ xs) ys = ap (λ l. counts_in x.count ++ l) (counts_more xs ys)
+    ∙ sym (append_assoc (counts_in x.count) (counts xs) (counts ys))
 
 abbrev pub again_counts : List Sent → List ℕ
 again_counts ss = map (λ x. x.count) ss

@@ -1,12 +1,15 @@
 -- What the sender keeps stands at its place in what RLC was given.
-use Rattle.std.proofs.Common.{◌≡◌, ℕ, zero, suc, ◌+◌, ◌-◌, ◌≤◌, Bool, true, false, ◌||◌, if◌then◌else◌, nat_lt, List, [], ◌∷◌, ◌++◌, map, drop, length, Option, Some, None, slice_get, slice_set, length-append, subst, refl, ap, sym, ◌∙◌, arith}
+use Rattle.std.proofs.Common.{◌≡◌, ℕ, zero, suc, ◌+◌, ◌-◌, ◌≤◌, Bool, true, false, ◌||◌, if◌then◌else◌, nat_lt, List}
+use Rattle.std.proofs.Common.{[], ◌∷◌, ◌++◌, map, drop, length, Option, Some, None, slice_get, slice_set, length-append}
+use Rattle.std.proofs.Common.{subst, refl, ap, sym, ◌∙◌, arith}
 use Rattle.std.specs.Prelude.{◌==◌}
 use Rattle.std.proofs.lemmas.Bool.Decides.{nat_tests}
 use Rattle.std.proofs.lemmas.List.{length-drop}
 use Rattle.pdcp_tx_store.specs.declared.given.Sent.{Sent}
 use Rattle.pdcp_tx_store.specs.declared.given.Entry.{Entry}
 use Rattle.pdcp_tx_store.specs.declared.given.Entry.TheVariants.{Data, Own, Gone}
-use Rattle.pdcp_tx_store.specs.Given.{Given, is_open, trimmed, closed, settled, with_entry, acked, acked_at, entry_at, with_ack, tells, heard, with_report, data_of}
+use Rattle.pdcp_tx_store.specs.Given.{Given, is_open, trimmed, closed, settled, with_entry, acked, acked_at, entry_at}
+use Rattle.pdcp_tx_store.specs.Given.{with_ack, tells, heard, with_report, data_of}
 use Rattle.pdcp_tx.specs.declared.sender.Next.{Next}
 use Rattle.law_pdcp.proofs.AmPair.Numbers.{has, came}
 use Rattle.law_pdcp.proofs.AmPair.Opens.{is_among}
@@ -27,7 +30,8 @@ pub record AreAtPlaces (given : Given) (stream : List Next) : Type 0 where
   pub few : given.gone ≤ length stream
   pub entries : AreOf given.entries (drop given.gone stream)
 
-one_more : (es : List Entry) (os : List Next) (e : Entry) (o : Next) → AreOf es os → IsOf e o → AreOf (es ++ e ∷ []) (os ++ o ∷ [])
+one_more : (es : List Entry) (os : List Next) (e : Entry) (o : Next) → AreOf es os → IsOf e o
+    → AreOf (es ++ e ∷ []) (os ++ o ∷ [])
 one_more [] [] e o h i = (i, tt)
 one_more [] (x ∷ os) e o h i = absurd h
 one_more (x ∷ es) [] e o h i = absurd h
@@ -38,12 +42,14 @@ drop_more zero os o h = refl
 drop_more (suc n) [] o h = absurd (omega (arith, h))
 drop_more (suc n) (x ∷ os) o h = drop_more n os o (omega (arith, h))
 
-pub entry_places : (g : Given) (os : List Next) (e : Entry) (o : Next) → AreAtPlaces g os → IsOf e o → AreAtPlaces (with_entry g e) (os ++ o ∷ [])
+pub entry_places : (g : Given) (os : List Next) (e : Entry) (o : Next) → AreAtPlaces g os → IsOf e o
+    → AreAtPlaces (with_entry g e) (os ++ o ∷ [])
 entry_places g os e o h i =
     let len = length-append os (o ∷ []) in
     record {
       few = omega (arith, len, h.few);
-      entries = subst (AreOf (g.entries ++ e ∷ [])) (sym (drop_more g.gone os o h.few)) (one_more g.entries (drop g.gone os) e o h.entries i);
+      entries = subst (AreOf (g.entries ++ e ∷ [])) (sym (drop_more g.gone os o h.few))
+          (one_more g.entries (drop g.gone os) e o h.entries i);
     }
 
 none_left : (n : ℕ) (os : List Next) → os ≡ [] → drop n os ≡ []
@@ -54,9 +60,12 @@ none_left (suc n) (x ∷ os) e = absurd cc
 drop_further : (n m : ℕ) (os : List Next) → drop (n + m) os ≡ drop m (drop n os)
 drop_further zero m os = let e : 0 + m ≡ m = omega arith in ap (λ k. drop k os) e
 drop_further (suc n) m [] = none_left (suc n + m) [] refl ∙ sym (none_left m (drop (suc n) []) refl)
-drop_further (suc n) m (x ∷ os) = let e : suc n + m ≡ suc (n + m) = omega arith in ap (λ k. drop k (x ∷ os)) e ∙ drop_further n m os
+drop_further (suc n) m (x ∷ os) = let e : suc n + m ≡ suc (n + m) = omega arith in
+    ap (λ k. drop k (x ∷ os)) e ∙ drop_further n m os
 
-closed_step : (e : Entry) (es : List Entry) (o : Next) (os : List Next) (b : Bool) → is_open e ≡ b → AreOf (e ∷ es) (o ∷ os) → AreOf (trimmed es) (drop (closed es) os) → AreOf (trimmed (e ∷ es)) (drop (closed (e ∷ es)) (o ∷ os))
+closed_step : (e : Entry) (es : List Entry) (o : Next) (os : List Next) (b : Bool) → is_open e ≡ b
+    → AreOf (e ∷ es) (o ∷ os) → AreOf (trimmed es) (drop (closed es) os)
+    → AreOf (trimmed (e ∷ es)) (drop (closed (e ∷ es)) (o ∷ os))
 closed_step e es o os true a h k = rw a h
 closed_step e es o os false a h k =
     let one : 1 + closed es ≡ suc (closed es) = omega arith in
@@ -68,7 +77,8 @@ trim_places [] (o ∷ os) h = absurd h
 trim_places (e ∷ es) [] h = absurd h
 trim_places (e ∷ es) (o ∷ os) h = closed_step e es o os (is_open e) refl h (trim_places es os h.1)
 
-few_step : (e : Entry) (es : List Entry) (b : Bool) → is_open e ≡ b → closed es ≤ length es → closed (e ∷ es) ≤ length (e ∷ es)
+few_step : (e : Entry) (es : List Entry) (b : Bool) → is_open e ≡ b → closed es ≤ length es
+    → closed (e ∷ es) ≤ length (e ∷ es)
 few_step e es true a h = rw a (omega arith)
 few_step e es false a h = rw a (omega (arith, h))
 
@@ -89,7 +99,8 @@ settled_places g os h =
     let few = few_closed g.entries in
     record {
       few = omega (arith, many, rest, few, h.few);
-      entries = subst (AreOf (trimmed g.entries)) (sym (drop_further g.gone (closed g.entries) os)) (trim_places g.entries (drop g.gone os) h.entries);
+      entries = subst (AreOf (trimmed g.entries)) (sym (drop_further g.gone (closed g.entries) os))
+          (trim_places g.entries (drop g.gone os) h.entries);
     }
 
 -- ---- a confirmation, and a report
@@ -99,7 +110,8 @@ acked_of (Data x) o h = h
 acked_of Own o h = tt
 acked_of Gone o h = tt
 
-set_places : (es : List Entry) (os : List Next) (k : ℕ) (e : Entry) → AreOf es os → slice_get es k ≡ Some e → AreOf (slice_set es k (acked e)) os
+set_places : (es : List Entry) (os : List Next) (k : ℕ) (e : Entry) → AreOf es os → slice_get es k ≡ Some e
+    → AreOf (slice_set es k (acked e)) os
 set_places [] os k e h q = let no : None ≡ Some e = q in cc
 set_places (x ∷ es) [] k e h q = absurd h
 set_places (x ∷ es) (o ∷ os) zero e h q =
@@ -108,21 +120,27 @@ set_places (x ∷ es) (o ∷ os) zero e h q =
     (acked_of e o (subst (λ (y : Entry). IsOf y o) same h.0), h.1)
 set_places (x ∷ es) (o ∷ os) (suc k) e h q = (h.0, set_places es os k e h.1 q)
 
-ack_by : (es : List Entry) (os : List Next) (k : ℕ) (at : Option Entry) → ((e : Entry) → at ≡ Some e → slice_get es k ≡ Some e) → AreOf es os → AreOf (acked_at at es k) os
+ack_by : (es : List Entry) (os : List Next) (k : ℕ) (at : Option Entry)
+    → ((e : Entry) → at ≡ Some e → slice_get es k ≡ Some e) → AreOf es os → AreOf (acked_at at es k) os
 ack_by es os k None f h = h
 ack_by es os k (Some e) f h = set_places es os k e h (f e refl)
 
-entry_is : (g : Given) (place : ℕ) (b : Bool) (e : Entry) → nat_lt place g.gone ≡ b → entry_at g place ≡ Some e → slice_get g.entries (place - g.gone) ≡ Some e
-entry_is g place true e a q = let no : None ≡ Some e = subst (λ (t : Bool). (if t then None else slice_get g.entries (place - g.gone)) ≡ Some e) a q in cc
-entry_is g place false e a q = subst (λ (t : Bool). (if t then None else slice_get g.entries (place - g.gone)) ≡ Some e) a q
+entry_is : (g : Given) (place : ℕ) (b : Bool) (e : Entry) → nat_lt place g.gone ≡ b → entry_at g place ≡ Some e
+    → slice_get g.entries (place - g.gone) ≡ Some e
+entry_is g place true e a q = let no : None ≡ Some e =
+    subst (λ (t : Bool). (if t then None else slice_get g.entries (place - g.gone)) ≡ Some e) a q in cc
+entry_is g place false e a q =
+    subst (λ (t : Bool). (if t then None else slice_get g.entries (place - g.gone)) ≡ Some e) a q
 
 pub ack_places : (g : Given) (place : ℕ) (os : List Next) → AreAtPlaces g os → AreAtPlaces (with_ack g place) os
 ack_places g place os h = record {
   few = h.few;
-  entries = ack_by g.entries (drop g.gone os) (place - g.gone) (entry_at g place) (λ e q. entry_is g place (nat_lt place g.gone) e refl q) h.entries;
+  entries = ack_by g.entries (drop g.gone os) (place - g.gone) (entry_at g place)
+      (λ e q. entry_is g place (nat_lt place g.gone) e refl q) h.entries;
 }
 
-heard_step : (from : ℕ) (bitmap : List ℕ) (x : Sent) (o : Next) (b : Bool) → tells from bitmap x.count ≡ b → IsOf (Data x) o → IsOf (heard from bitmap (Data x)) o
+heard_step : (from : ℕ) (bitmap : List ℕ) (x : Sent) (o : Next) (b : Bool) → tells from bitmap x.count ≡ b
+    → IsOf (Data x) o → IsOf (heard from bitmap (Data x)) o
 heard_step from bitmap x o true a h = rw a tt
 heard_step from bitmap x o false a h = rw a h
 
@@ -131,17 +149,21 @@ heard_of from bitmap (Data x) o h = heard_step from bitmap x o (tells from bitma
 heard_of from bitmap Own o h = h
 heard_of from bitmap Gone o h = h
 
-hear_places : (from : ℕ) (bitmap : List ℕ) (es : List Entry) (os : List Next) → AreOf es os → AreOf (map (heard from bitmap) es) os
+hear_places : (from : ℕ) (bitmap : List ℕ) (es : List Entry) (os : List Next) → AreOf es os
+    → AreOf (map (heard from bitmap) es) os
 hear_places from bitmap [] os h = h
 hear_places from bitmap (e ∷ es) [] h = absurd h
 hear_places from bitmap (e ∷ es) (o ∷ os) h = (heard_of from bitmap e o h.0, hear_places from bitmap es os h.1)
 
-pub report_places : (g : Given) (from : ℕ) (bitmap : List ℕ) (os : List Next) → AreAtPlaces g os → AreAtPlaces (with_report g from bitmap) os
-report_places g from bitmap os h = record { few = h.few; entries = hear_places from bitmap g.entries (drop g.gone os) h.entries }
+pub report_places : (g : Given) (from : ℕ) (bitmap : List ℕ) (os : List Next) → AreAtPlaces g os
+    → AreAtPlaces (with_report g from bitmap) os
+report_places g from bitmap os h =
+    record { few = h.few; entries = hear_places from bitmap g.entries (drop g.gone os) h.entries }
 
 -- ---- what RLC has acknowledged at a place has come
 
-acked_first : (x : Entry) (es : List Entry) (ss : List Sent) (o : Next) (n : ℕ) → IsOf x o → is_among (data_of (x ∷ es) ++ ss) n ≡ true → has o.count n || is_among (data_of (acked x ∷ es) ++ ss) n ≡ true
+acked_first : (x : Entry) (es : List Entry) (ss : List Sent) (o : Next) (n : ℕ) → IsOf x o
+    → is_among (data_of (x ∷ es) ++ ss) n ≡ true → has o.count n || is_among (data_of (acked x ∷ es) ++ ss) n ≡ true
 acked_first (Data x) es ss o n h e = by_same (has o.count n) (ap (λ c. has c n) h)
   where
     by_same : (b : Bool) → b ≡ (n == x.count) → b || is_among (data_of (acked (Data x) ∷ es) ++ ss) n ≡ true
@@ -149,7 +171,8 @@ acked_first (Data x) es ss o n h e = by_same (has o.count n) (ap (λ c. has c n)
 acked_first Own es ss o n h e = grind (arith, nat_tests)
 acked_first Gone es ss o n h e = grind (arith, nat_tests)
 
-set_came : (es : List Entry) (os : List Next) (ss : List Sent) (whole : ℕ → Bool) (at k n : ℕ) (e : Entry) → AreOf es os → slice_get es k ≡ Some e → whole (at + k) ≡ true → is_among (data_of es ++ ss) n ≡ true
+set_came : (es : List Entry) (os : List Next) (ss : List Sent) (whole : ℕ → Bool) (at k n : ℕ) (e : Entry)
+    → AreOf es os → slice_get es k ≡ Some e → whole (at + k) ≡ true → is_among (data_of es ++ ss) n ≡ true
     → came whole at os n || is_among (data_of (slice_set es k (acked e)) ++ ss) n ≡ true
 set_came [] os ss whole at k n e h q w i = let no : None ≡ Some e = q in cc
 set_came (x ∷ es) [] ss whole at k n e h q w i = absurd h
@@ -158,7 +181,8 @@ set_came (x ∷ es) (o ∷ os) ss whole at zero n e h q w i =
     let same : x ≡ e = cc in
     let here : whole at ≡ true = (let z : at + 0 ≡ at = omega arith in subst (λ m. whole m ≡ true) z w) in
     subst (λ y. came whole at (o ∷ os) n || is_among (data_of (acked y ∷ es) ++ ss) n ≡ true) same
-    (rw here (or_more (has o.count n) (came whole (at + 1) os n) (is_among (data_of (acked x ∷ es) ++ ss) n) (acked_first x es ss o n h.0 i)))
+    (rw here (or_more (has o.count n) (came whole (at + 1) os n) (is_among (data_of (acked x ∷ es) ++ ss) n)
+    (acked_first x es ss o n h.0 i)))
   where
     or_more : (a b c : Bool) → a || c ≡ true → a || b || c ≡ true
     or_more true b c e = refl
@@ -168,26 +192,40 @@ set_came (x ∷ es) (o ∷ os) ss whole at (suc k) n e h q w i =
     let there : at + suc k ≡ at + 1 + k = omega arith in
     later x (set_came es os ss whole (at + 1) k n e h.1 q (subst (λ m. whole m ≡ true) there w)) i
   where
-    later : (y : Entry) → (is_among (data_of es ++ ss) n ≡ true → came whole (at + 1) os n || is_among (data_of (slice_set es k (acked e)) ++ ss) n ≡ true) → is_among (data_of (y ∷ es) ++ ss) n ≡ true
+    later : (y : Entry)
+        → (is_among (data_of es ++ ss) n ≡ true
+        → came whole (at + 1) os n || is_among (data_of (slice_set es k (acked e)) ++ ss) n ≡ true)
+        → is_among (data_of (y ∷ es) ++ ss) n ≡ true
         → came whole at (o ∷ os) n || is_among (data_of (y ∷ slice_set es k (acked e)) ++ ss) n ≡ true
     later (Data x) f i = grind (arith, nat_tests, f)
     later Own f i = grind (arith, nat_tests, f)
     later Gone f i = grind (arith, nat_tests, f)
 
-pub acked_came : (g : Given) (os : List Next) (ss : List Sent) (whole : ℕ → Bool) (place n : ℕ) → AreAtPlaces g os → whole place ≡ true → is_among (data_of g.entries ++ ss) n ≡ true
+pub acked_came : (g : Given) (os : List Next) (ss : List Sent) (whole : ℕ → Bool) (place n : ℕ) → AreAtPlaces g os
+    → whole place ≡ true → is_among (data_of g.entries ++ ss) n ≡ true
     → came whole g.gone (drop g.gone os) n || is_among (data_of (with_ack g place).entries ++ ss) n ≡ true
 acked_came g os ss whole place n h w i = by_place (nat_lt place g.gone) refl
   where
-    none : entry_at g place ≡ None → came whole g.gone (drop g.gone os) n || is_among (data_of (with_ack g place).entries ++ ss) n ≡ true
-    none e = subst (λ (o : Option Entry). came whole g.gone (drop g.gone os) n || is_among (data_of (acked_at o g.entries (place - g.gone)) ++ ss) n ≡ true) (sym e) (grind (arith, nat_tests))
+    none : entry_at g place ≡ None → came whole g.gone (drop g.gone os) n
+        || is_among (data_of (with_ack g place).entries ++ ss) n ≡ true
+    none e =
+        subst (λ (o : Option Entry). came whole g.gone (drop g.gone os) n
+        || is_among (data_of (acked_at o g.entries (place - g.gone)) ++ ss) n ≡ true) (sym e)
+        (grind (arith, nat_tests))
 
-    by_entry : (o : Option Entry) → slice_get g.entries (place - g.gone) ≡ o → g.gone ≤ place → entry_at g place ≡ o → came whole g.gone (drop g.gone os) n || is_among (data_of (with_ack g place).entries ++ ss) n ≡ true
+    by_entry : (o : Option Entry) → slice_get g.entries (place - g.gone) ≡ o → g.gone ≤ place → entry_at g place ≡ o
+        → came whole g.gone (drop g.gone os) n || is_among (data_of (with_ack g place).entries ++ ss) n ≡ true
     by_entry None q le e = none e
     by_entry (Some x) q le e =
         let at : g.gone + (place - g.gone) ≡ place = omega arith in
-        subst (λ (o : Option Entry). came whole g.gone (drop g.gone os) n || is_among (data_of (acked_at o g.entries (place - g.gone)) ++ ss) n ≡ true) (sym e)
-        (set_came g.entries (drop g.gone os) ss whole g.gone (place - g.gone) n x h.entries q (subst (λ m. whole m ≡ true) (sym at) w) i)
+        subst (λ (o : Option Entry). came whole g.gone (drop g.gone os) n
+        || is_among (data_of (acked_at o g.entries (place - g.gone)) ++ ss) n ≡ true) (sym e)
+        (set_came g.entries (drop g.gone os) ss whole g.gone (place - g.gone) n x h.entries q
+        (subst (λ m. whole m ≡ true) (sym at) w) i)
 
-    by_place : (b : Bool) → nat_lt place g.gone ≡ b → came whole g.gone (drop g.gone os) n || is_among (data_of (with_ack g place).entries ++ ss) n ≡ true
+    by_place : (b : Bool) → nat_lt place g.gone ≡ b
+        → came whole g.gone (drop g.gone os) n || is_among (data_of (with_ack g place).entries ++ ss) n ≡ true
     by_place true a = none (ap (λ (t : Bool). if t then None else slice_get g.entries (place - g.gone)) a)
-    by_place false a = by_entry (slice_get g.entries (place - g.gone)) refl (grind (arith, nat_tests)) (ap (λ (t : Bool). if t then None else slice_get g.entries (place - g.gone)) a)
+    by_place false a =
+        by_entry (slice_get g.entries (place - g.gone)) refl (grind (arith, nat_tests))
+        (ap (λ (t : Bool). if t then None else slice_get g.entries (place - g.gone)) a)

@@ -1,5 +1,6 @@
 -- What holds between events.
-use Rattle.std.proofs.Common.{◌≡◌, ◌≢◌, ◌<◌, ◌≤◌, ℕ, ◌+◌, ◌-◌, ◌^◌, Bool, true, ◌||◌, List, [], ◌∷◌, ◌++◌, length, take, drop, Option, Some, None}
+use Rattle.std.proofs.Common.{◌≡◌, ◌≢◌, ◌<◌, ◌≤◌, ℕ, ◌+◌, ◌-◌, ◌^◌, Bool, true, ◌||◌, List, [], ◌∷◌, ◌++◌, length, take}
+use Rattle.std.proofs.Common.{drop, Option, Some, None}
 use Rattle.l2_num.specs.Ascending.{AreBetween}
 use Rattle.pdcp_pdu.specs.declared.PdcpKind.{PdcpKind}
 use Rattle.pdcp_pdu.specs.declared.PdcpKind.TheVariants.{Am}
@@ -40,7 +41,8 @@ pub record Sends (bits first : ℕ) (sdus : List (List ℕ)) (s : State) : Type 
   pub lag : s.bound ≤ or_else (first_unacked (all_of s)) s.next + 2 ^ (bits - 1)
 
 -- the PDU of an SDU
-pub record IsData (first : ℕ) (sdus : List (List ℕ)) (kind : PdcpKind) (p : Protection) (count : ℕ) (octets : List ℕ) : Type 0 where
+pub record IsData (first : ℕ) (sdus : List (List ℕ)) (kind : PdcpKind) (p : Protection) (count : ℕ)
+    (octets : List ℕ) : Type 0 where
   pub sdu : List ℕ
   pub named : Names first sdus count sdu
   pub some : sdu ≢ []
@@ -59,7 +61,8 @@ abbrev pub rest : List Next → State → List ℕ
 rest pdus s = counts pdus ++ again_counts s.again
 
 -- the sender, and what has come: `pdus` are those from place k on, which RLC hasn't handed up
-pub record Links (bits first : ℕ) (sdus : List (List ℕ)) (s : State) (handed whole : ℕ → Bool) (k : ℕ) (pdus : List Next) : Type 0 where
+pub record Links (bits first : ℕ) (sdus : List (List ℕ)) (s : State) (handed whole : ℕ
+    → Bool) (k : ℕ) (pdus : List Next) : Type 0 where
   pub within : (n : ℕ) → handed n ≡ true → (first ≤ n) × (n < s.next)
   pub order : AreBetween 0 (rest pdus s) s.next
   pub covered : (n : ℕ) → first ≤ n → n < s.next → handed n || among (rest pdus s) n ≡ true
@@ -70,7 +73,8 @@ pub record Links (bits first : ℕ) (sdus : List (List ℕ)) (s : State) (handed
 
 -- what the report of the receiver's end tells has come
 abbrev pub IsTrueReport : Option (List ℕ) → ℕ → (ℕ → Bool) → State → Type 0
-IsTrueReport report first handed s = (fms : ℕ) (bitmap : List ℕ) (from n : ℕ) → Comes report s.kind fms bitmap → fms_count s.kind s.base fms ≡ Some from → tells from bitmap n ≡ true → first ≤ n → handed n ≡ true
+IsTrueReport report first handed s = (fms : ℕ) (bitmap : List ℕ) (from n : ℕ) → Comes report s.kind fms bitmap
+    → fms_count s.kind s.base fms ≡ Some from → tells from bitmap n ≡ true → first ≤ n → handed n ≡ true
 
 pub record IsSound (bits : ℕ) (f : Flow) : Type 0 where
   pub width : IsKind (Am bits)

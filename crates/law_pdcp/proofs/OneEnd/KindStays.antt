@@ -2,7 +2,8 @@
 use Rattle.std.proofs.Common.{◌≡◌, ℕ, ◌-◌, List, [], ◌∷◌, take, Option, Some, None, refl}
 use Rattle.pdcp_tx_store.specs.declared.given.Sent.{Sent}
 use Rattle.pdcp_tx_store.specs.Waiting.{Waits}
-use Rattle.pdcp_tx.specs.State.{State, submitted, took, took_owed, took_again, took_new, confirmed, reported, reported_from, fms_count, after_late, restarted}
+use Rattle.pdcp_tx.specs.State.{State, submitted, took, took_owed, took_again, took_new, confirmed, reported}
+use Rattle.pdcp_tx.specs.State.{reported_from, fms_count, after_late, restarted}
 use Rattle.pdcp_tx.specs.Runs.{Submit, Take, Confirm, Report, Owe, Tick, Late}
 use Rattle.law_pdcp.specs.OneEnd.Lives.{Step, Calls, SetDiscard, Restart, goes}
 

@@ -34,5 +34,6 @@ mapped f (y ∷ ys) (x ∷ xs) (inr h) = inr (mapped f (y ∷ ys) xs h)
 pub all_left : {A : Type 0} (P : A → Type 0) (ys xs : List A) → IsSubsequence ys xs → All P xs → All P ys
 all_left P [] xs t h = All-nil P
 all_left P (y ∷ ys) [] t h = absurd t
-all_left P (y ∷ ys) (x ∷ xs) (inl t) h = All-cons P y ys (subst P (sym t.0) (All-head P x xs h)) (all_left P ys xs t.1 (All-tail P x xs h))
+all_left P (y ∷ ys) (x ∷ xs) (inl t) h =
+    All-cons P y ys (subst P (sym t.0) (All-head P x xs h)) (all_left P ys xs t.1 (All-tail P x xs h))
 all_left P (y ∷ ys) (x ∷ xs) (inr t) h = all_left P (y ∷ ys) xs t (All-tail P x xs h)

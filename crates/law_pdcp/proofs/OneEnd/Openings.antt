@@ -24,13 +24,21 @@ below bits count (inl e) = rw e (omega arith)
 below bits count (inr (inl e)) = rw e (omega arith)
 below bits count (inr (inr e)) = rw e (omega arith)
 
-user_heard : (bits : ℕ) (p : Protection) (count : ℕ) (sdu : List ℕ) → IsUserBits bits → sdu ≢ [] → heard_user (user_at bits (user_spelling bits (Data-pdu (count % 2 ^ bits) (ciphered_with p count sdu)))) ≡ Data (count % 2 ^ bits) (ciphered_with p count sdu)
-user_heard bits p count sdu is some = ap heard_user (user_again bits (Data-pdu (count % 2 ^ bits) (ciphered_with p count sdu)) is (below bits count is, some_ciphered p count sdu some)).read
+user_heard : (bits : ℕ) (p : Protection) (count : ℕ) (sdu : List ℕ) → IsUserBits bits → sdu ≢ []
+    → heard_user (user_at bits (user_spelling bits (Data-pdu (count % 2 ^ bits) (ciphered_with p count sdu))))
+    ≡ Data (count % 2 ^ bits) (ciphered_with p count sdu)
+user_heard bits p count sdu is some =
+    ap heard_user (user_again bits (Data-pdu (count % 2 ^ bits) (ciphered_with p count sdu)) is (
+      below bits count is,
+      some_ciphered p count sdu some,
+    )).read
 
-pub heard_as_written : (bits : ℕ) (p : Protection) (count : ℕ) (sdu : List ℕ) → IsKind (Am bits) → sdu ≢ [] → heard (Am bits) (pdu (Am bits) p count sdu) ≡ as_written (Am bits) p count sdu
+pub heard_as_written : (bits : ℕ) (p : Protection) (count : ℕ) (sdu : List ℕ) → IsKind (Am bits) → sdu ≢ []
+    → heard (Am bits) (pdu (Am bits) p count sdu) ≡ as_written (Am bits) p count sdu
 unfolding heard pdu
 heard_as_written bits p count sdu is some = user_heard bits p count sdu (inr is) some
 
-pub opened_again : (bits : ℕ) (p : Protection) (count : ℕ) (sdu : List ℕ) → opened (Am bits) p count (body_of (Am bits) p count sdu) ≡ Sdu sdu
+pub opened_again : (bits : ℕ) (p : Protection) (count : ℕ) (sdu : List ℕ)
+    → opened (Am bits) p count (body_of (Am bits) p count sdu) ≡ Sdu sdu
 unfolding opened
 opened_again bits p count sdu = ap Sdu (ciphered_twice p count sdu)

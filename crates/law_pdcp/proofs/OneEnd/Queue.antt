@@ -1,13 +1,16 @@
 -- SDUs leave the queue in order.
-use Rattle.std.proofs.Common.{◌≡◌, ◌≢◌, ℕ, zero, suc, ◌-◌, Bool, true, false, if◌then◌else◌, List, [], ◌∷◌, ◌++◌, map, take, drop, Option, Some, None, append_assoc, subst, refl, ap, sym, ◌∙◌}
+use Rattle.std.proofs.Common.{◌≡◌, ◌≢◌, ℕ, zero, suc, ◌-◌, Bool, true, false, if◌then◌else◌, List, [], ◌∷◌, ◌++◌, map}
+use Rattle.std.proofs.Common.{take, drop, Option, Some, None, append_assoc, subst, refl, ap, sym, ◌∙◌}
 use Rattle.std.proofs.lemmas.List.{append-nil}
 use Rattle.pdcp_pdu.specs.declared.PdcpKind.{PdcpKind}
 use Rattle.pdcp_pdu.specs.declared.PdcpKind.TheVariants.{Srb, Um, Am}
 use Rattle.pdcp_tx_store.specs.declared.given.Sent.{Sent}
 use Rattle.pdcp_tx_store.specs.Waiting.{Waits}
-use Rattle.pdcp_tx.specs.State.{State, submitted, took, took_owed, took_again, took_new, confirmed, reported, reported_from, fms_count, after_late, is_overdue, restarted, waiting_on}
+use Rattle.pdcp_tx.specs.State.{State, submitted, took, took_owed, took_again, took_new, confirmed, reported}
+use Rattle.pdcp_tx.specs.State.{reported_from, fms_count, after_late, is_overdue, restarted, waiting_on}
 use Rattle.pdcp_tx.specs.Runs.{Submit, Take, Confirm, Report, Owe, Tick, Late}
-use Rattle.law_pdcp.specs.OneEnd.Lives.{Step, Calls, SetDiscard, Restart, goes, run, first_sdu, new_behind, new_of, submits, submitted_in, leaves, left_in, queue}
+use Rattle.law_pdcp.specs.OneEnd.Lives.{Step, Calls, SetDiscard, Restart, goes, run, first_sdu, new_behind, new_of}
+use Rattle.law_pdcp.specs.OneEnd.Lives.{submits, submitted_in, leaves, left_in, queue}
 use Rattle.law_pdcp.proofs.OneEnd.KindStays.{kind_stays}
 
 abbrev sdus : List Waits → List (List ℕ)
@@ -22,7 +25,8 @@ first_leaves : (ws : List Waits) → first_sdu ws ++ sdus (drop 1 ws) ≡ sdus w
 first_leaves [] = refl
 first_leaves (w ∷ ws) = refl
 
-took_first : (s : State) (k : ℕ) (ws : List Waits) → s.waiting ≡ ws → first_sdu (take k ws) ++ queue (took_new (take k ws) s) ≡ sdus ws
+took_first : (s : State) (k : ℕ) (ws : List Waits) → s.waiting ≡ ws
+    → first_sdu (take k ws) ++ queue (took_new (take k ws) s) ≡ sdus ws
 took_first s zero ws e = ap sdus e
 took_first s (suc k) [] e = ap sdus e
 took_first s (suc k) (w ∷ ws) e = ap (λ l. w.sdu ∷ sdus (drop 1 l)) e
@@ -35,7 +39,8 @@ took_any : (s : State) (o : Option (List ℕ)) → new_of o s ++ queue (took_owe
 took_any s None = took_behind s s.again
 took_any s (Some r) = refl
 
-late_any : (b : Bool) (ws : List Waits) → (if b then first_sdu ws else []) ++ sdus (if b then drop 1 ws else ws) ≡ sdus ws
+late_any : (b : Bool) (ws : List Waits) → (if b then first_sdu ws else []) ++ sdus (if b then drop 1 ws else ws)
+    ≡ sdus ws
 late_any true ws = first_leaves ws
 late_any false ws = refl
 
@@ -60,7 +65,8 @@ step s (Calls Late) h = late_any (is_overdue s) s.waiting ∙ sym (append-nil (q
 step s (SetDiscard ttis) h = sym (append-nil (queue s))
 step s (Restart keys) h = ap sdus (kept_waiting s.kind s.waiting h) ∙ sym (append-nil (queue s))
 
-pub in_order : (s : State) (xs : List Step) → s.kind ≢ Srb → left_in s xs ++ queue (run xs s) ≡ queue s ++ submitted_in xs
+pub in_order : (s : State) (xs : List Step) → s.kind ≢ Srb
+    → left_in s xs ++ queue (run xs s) ≡ queue s ++ submitted_in xs
 in_order s [] h = sym (append-nil (queue s))
 in_order s (x ∷ xs) h =
     append_assoc (leaves s x) (left_in (goes s x) xs) (queue (run xs (goes s x)))

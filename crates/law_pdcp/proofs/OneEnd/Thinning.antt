@@ -1,11 +1,14 @@
 -- What was taken and may be taken again: a call or a new life only leaves some of it out, or adds a new SDU behind.
-use Rattle.std.proofs.Common.{◌≡◌, ◌≤◌, ℕ, suc, zero, ◌+◌, ◌-◌, Bool, true, false, if◌then◌else◌, List, [], ◌∷◌, ◌++◌, map, Option, Some, None, slice_get, nat_lt, inl, inr, append_assoc, subst, refl, ap, sym, ◌∙◌, arith}
+use Rattle.std.proofs.Common.{◌≡◌, ◌≤◌, ℕ, suc, zero, ◌+◌, ◌-◌, Bool, true, false, if◌then◌else◌, List, [], ◌∷◌, ◌++◌}
+use Rattle.std.proofs.Common.{map, Option, Some, None, slice_get, nat_lt, inl, inr, append_assoc, subst, refl, ap, sym}
+use Rattle.std.proofs.Common.{◌∙◌, arith}
 use Rattle.std.proofs.lemmas.List.{append-nil}
 use Rattle.l2_num.specs.Ascending.{AreBetween}
 use Rattle.pdcp_tx_store.specs.declared.given.Sent.{Sent}
 use Rattle.pdcp_tx_store.specs.declared.given.Entry.{Entry}
 use Rattle.pdcp_tx_store.specs.declared.given.Entry.TheVariants.{Data, Own, Gone}
-use Rattle.pdcp_tx_store.specs.Given.{Given, trimmed, acked, acked_at, entry_at, tells, heard, untold, from_unacked, data_of}
+use Rattle.pdcp_tx_store.specs.Given.{Given, trimmed, acked, acked_at, entry_at, tells, heard, untold, from_unacked}
+use Rattle.pdcp_tx_store.specs.Given.{data_of}
 use Rattle.law_words.specs.Lists.{IsSubsequence}
 use Rattle.law_pdcp.proofs.OneEnd.Lists.{same, without_first, mapped}
 
@@ -34,8 +37,13 @@ ends_above low (x ∷ xs) end h = omega (arith, h.0, ends_above (x.count + 1) xs
 pub thin_in : (low : ℕ) (ys xs : List Named) (end : ℕ) → IsSubsequence ys xs → In low xs end → In low ys end
 thin_in low [] xs end t h = ends_above low xs end h
 thin_in low (y ∷ ys) [] end t h = absurd t
-thin_in low (y ∷ ys) (x ∷ xs) end (inl t) h = subst (λ (n : Named). (low ≤ n.count) × In (n.count + 1) ys end) (sym t.0) (h.0, thin_in (x.count + 1) ys xs end t.1 h.1)
-thin_in low (y ∷ ys) (x ∷ xs) end (inr t) h = lower low (x.count + 1) (y ∷ ys) end (omega (arith, h.0)) (thin_in (x.count + 1) (y ∷ ys) xs end t h.1)
+thin_in low (y ∷ ys) (x ∷ xs) end (inl t) h =
+    subst (λ (n : Named). (low ≤ n.count) × In (n.count + 1) ys end) (sym t.0) (
+      h.0,
+      thin_in (x.count + 1) ys xs end t.1 h.1,
+    )
+thin_in low (y ∷ ys) (x ∷ xs) end (inr t) h =
+    lower low (x.count + 1) (y ∷ ys) end (omega (arith, h.0)) (thin_in (x.count + 1) (y ∷ ys) xs end t h.1)
 
 pub higher : (low : ℕ) (xs : List Named) (end new : ℕ) → end ≤ new → In low xs end → In low xs new
 higher low [] end new le h = omega (arith, h)
@@ -62,7 +70,8 @@ names_more [] ys = refl
 names_more (x ∷ xs) ys = ap (λ l. named x ∷ l) (names_more xs ys)
 
 -- one more entry
-pub of_more : (es : List Entry) (e : Entry) (ss : List Sent) → of (es ++ e ∷ []) ss ≡ names (data_of es ++ data_of (e ∷ []) ++ ss)
+pub of_more : (es : List Entry) (e : Entry) (ss : List Sent)
+    → of (es ++ e ∷ []) ss ≡ names (data_of es ++ data_of (e ∷ []) ++ ss)
 of_more es e ss = ap (λ l. names (l ++ ss)) (data_more es (e ∷ []))
 
 -- the first of those to be taken again is taken
@@ -71,13 +80,16 @@ of_again es x xs = of_more es (Data x) xs ∙ ap names (append_assoc (data_of es
 
 -- a new one is
 pub of_new : (es : List Entry) (x : Sent) → of (es ++ Data x ∷ []) [] ≡ of es [] ++ named x ∷ []
-of_new es x = of_more es (Data x) [] ∙ ap names (append_assoc (data_of es) (x ∷ []) []) ∙ names_more (data_of es) (x ∷ []) ∙ ap (λ l. l ++ named x ∷ []) (ap names (sym (append-nil (data_of es))))
+of_new es x = of_more es (Data x) [] ∙ ap names (append_assoc (data_of es) (x ∷ []) [])
+    ∙ names_more (data_of es) (x ∷ []) ∙ ap (λ l. l ++ named x ∷ []) (ap names (sym (append-nil (data_of es))))
 
 -- the own report is
 pub of_own : (es : List Entry) (ss : List Sent) → of (es ++ Own ∷ []) ss ≡ of es ss
 of_own es ss = of_more es Own ss ∙ ap (λ l. names (l ++ ss)) (append-nil (data_of es))
 
-trim_step : (s : Sent) (es : List Entry) (ss : List Sent) (b : Bool) → s.acked ≡ b → IsSubsequence (of (trimmed es) ss) (of es ss) → IsSubsequence (of (trimmed (Data s ∷ es)) ss) (of (Data s ∷ es) ss)
+trim_step : (s : Sent) (es : List Entry) (ss : List Sent) (b : Bool) → s.acked ≡ b
+    → IsSubsequence (of (trimmed es) ss) (of es ss)
+    → IsSubsequence (of (trimmed (Data s ∷ es)) ss) (of (Data s ∷ es) ss)
 trim_step s es ss false e h = rw e (same (of (Data s ∷ es) ss))
 trim_step s es ss true e h = rw e (without_first (of (trimmed es) ss) (named s) (of es ss) h)
 
@@ -92,7 +104,8 @@ acked_first x (Data s) xs ss q = rw q refl
 acked_first x Own xs ss q = rw q refl
 acked_first x Gone xs ss q = rw q refl
 
-acks : (o : Option Entry) (es : List Entry) (k : ℕ) (ss : List Sent) → ((e : Entry) → o ≡ Some e → slice_get es k ≡ Some e) → of (acked_at o es k) ss ≡ of es ss
+acks : (o : Option Entry) (es : List Entry) (k : ℕ) (ss : List Sent)
+    → ((e : Entry) → o ≡ Some e → slice_get es k ≡ Some e) → of (acked_at o es k) ss ≡ of es ss
 acks None es k ss g = refl
 acks (Some e) [] k ss g = let no : None ≡ Some e = g e refl in cc
 acks (Some e) (x ∷ xs) zero ss g = let here : Some x ≡ Some e = g e refl in acked_first x e xs ss cc
@@ -100,15 +113,21 @@ acks (Some e) (Data s ∷ xs) (suc k) ss g = ap (λ l. named s ∷ l) (acks (Som
 acks (Some e) (Own ∷ xs) (suc k) ss g = acks (Some e) xs k ss g
 acks (Some e) (Gone ∷ xs) (suc k) ss g = acks (Some e) xs k ss g
 
-entry_is : (g : Given) (place : ℕ) (b : Bool) (e : Entry) → nat_lt place g.gone ≡ b → entry_at g place ≡ Some e → slice_get g.entries (place - g.gone) ≡ Some e
-entry_is g place true e b q = let no : None ≡ Some e = subst (λ (t : Bool). (if t then None else slice_get g.entries (place - g.gone)) ≡ Some e) b q in cc
-entry_is g place false e b q = subst (λ (t : Bool). (if t then None else slice_get g.entries (place - g.gone)) ≡ Some e) b q
+entry_is : (g : Given) (place : ℕ) (b : Bool) (e : Entry) → nat_lt place g.gone ≡ b → entry_at g place ≡ Some e
+    → slice_get g.entries (place - g.gone) ≡ Some e
+entry_is g place true e b q = let no : None ≡ Some e =
+    subst (λ (t : Bool). (if t then None else slice_get g.entries (place - g.gone)) ≡ Some e) b q in cc
+entry_is g place false e b q =
+    subst (λ (t : Bool). (if t then None else slice_get g.entries (place - g.gone)) ≡ Some e) b q
 
 -- RLC has acknowledged a place
-pub of_acked : (g : Given) (place : ℕ) (ss : List Sent) → of (acked_at (entry_at g place) g.entries (place - g.gone)) ss ≡ of g.entries ss
-of_acked g place ss = acks (entry_at g place) g.entries (place - g.gone) ss (λ e q. entry_is g place (nat_lt place g.gone) e refl q)
+pub of_acked : (g : Given) (place : ℕ) (ss : List Sent)
+    → of (acked_at (entry_at g place) g.entries (place - g.gone)) ss ≡ of g.entries ss
+of_acked g place ss =
+    acks (entry_at g place) g.entries (place - g.gone) ss (λ e q. entry_is g place (nat_lt place g.gone) e refl q)
 
-untold_step : (from : ℕ) (bitmap : List ℕ) (s : Sent) (ss : List Sent) (b : Bool) → tells from bitmap s.count ≡ b → IsSubsequence (untold from bitmap ss) ss → IsSubsequence (untold from bitmap (s ∷ ss)) (s ∷ ss)
+untold_step : (from : ℕ) (bitmap : List ℕ) (s : Sent) (ss : List Sent) (b : Bool) → tells from bitmap s.count ≡ b
+    → IsSubsequence (untold from bitmap ss) ss → IsSubsequence (untold from bitmap (s ∷ ss)) (s ∷ ss)
 untold_step from bitmap s ss true e h = rw e (without_first (untold from bitmap ss) s ss h)
 untold_step from bitmap s ss false e h = rw e (inl (refl, h))
 
@@ -117,19 +136,26 @@ pub untolds : (from : ℕ) (bitmap : List ℕ) (ss : List Sent) → IsSubsequenc
 untolds from bitmap [] = tt
 untolds from bitmap (s ∷ ss) = untold_step from bitmap s ss (tells from bitmap s.count) refl (untolds from bitmap ss)
 
-hear_step : (from : ℕ) (bitmap : List ℕ) (s : Sent) (es : List Entry) (rest ss : List Sent) (b : Bool) → tells from bitmap s.count ≡ b → IsSubsequence (of (map (heard from bitmap) es) rest) (of es ss) → IsSubsequence (of (map (heard from bitmap) (Data s ∷ es)) rest) (of (Data s ∷ es) ss)
-hear_step from bitmap s es rest ss true e h = rw e (without_first (of (map (heard from bitmap) es) rest) (named s) (of es ss) h)
+hear_step : (from : ℕ) (bitmap : List ℕ) (s : Sent) (es : List Entry) (rest ss : List Sent) (b : Bool)
+    → tells from bitmap s.count ≡ b → IsSubsequence (of (map (heard from bitmap) es) rest) (of es ss)
+    → IsSubsequence (of (map (heard from bitmap) (Data s ∷ es)) rest) (of (Data s ∷ es) ss)
+hear_step from bitmap s es rest ss true e h =
+    rw e (without_first (of (map (heard from bitmap) es) rest) (named s) (of es ss) h)
 hear_step from bitmap s es rest ss false e h = rw e (inl (refl, h))
 
 -- a report has come
-pub hears : (from : ℕ) (bitmap : List ℕ) (es : List Entry) (ss : List Sent) → IsSubsequence (of (map (heard from bitmap) es) (untold from bitmap ss)) (of es ss)
+pub hears : (from : ℕ) (bitmap : List ℕ) (es : List Entry) (ss : List Sent)
+    → IsSubsequence (of (map (heard from bitmap) es) (untold from bitmap ss)) (of es ss)
 hears from bitmap [] ss = mapped named (untold from bitmap ss) ss (untolds from bitmap ss)
-hears from bitmap (Data s ∷ es) ss = hear_step from bitmap s es (untold from bitmap ss) ss (tells from bitmap s.count) refl (hears from bitmap es ss)
+hears from bitmap (Data s ∷ es) ss =
+    hear_step from bitmap s es (untold from bitmap ss) ss (tells from bitmap s.count) refl (hears from bitmap es ss)
 hears from bitmap (Own ∷ es) ss = hears from bitmap es ss
 hears from bitmap (Gone ∷ es) ss = hears from bitmap es ss
 
 -- a new life begins
-unacked_step : (s : Sent) (ss : List Sent) (b : Bool) → s.acked ≡ b → IsSubsequence (names (from_unacked ss)) (names ss) → IsSubsequence (names (from_unacked (s ∷ ss))) (names (s ∷ ss))
+unacked_step : (s : Sent) (ss : List Sent) (b : Bool) → s.acked ≡ b
+    → IsSubsequence (names (from_unacked ss)) (names ss)
+    → IsSubsequence (names (from_unacked (s ∷ ss))) (names (s ∷ ss))
 unacked_step s ss true e h = rw e (without_first (names (from_unacked ss)) (named s) (names ss) h)
 unacked_step s ss false e h = rw e (same (names (s ∷ ss)))
 

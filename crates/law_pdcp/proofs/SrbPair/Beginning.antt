@@ -8,7 +8,8 @@ use Rattle.pdcp_pdu.specs.Kinds.{is_am}
 use Rattle.pdcp_sec.specs.Protection.{Protection, protection_of}
 use Rattle.pdcp_tx_store.specs.declared.given.Sent.{Sent}
 use Rattle.pdcp_tx_store.specs.Given.{from_unacked, data_of}
-use Rattle.pdcp_tx.specs.State.{State as Sending, start, kept_again, next_from, waiting_on, first_again, restarted as restarted_sending}
+use Rattle.pdcp_tx.specs.State.{State as Sending, start, kept_again, next_from, waiting_on, first_again}
+use Rattle.pdcp_tx.specs.State.{restarted as restarted_sending}
 use Rattle.pdcp_tx.specs.Pdus.{width}
 use Rattle.pdcp_rx.specs.State.{State as Receiving, fresh, restarted as restarted_receiving}
 use Rattle.law_pdcp.specs.SrbPair.Beginning.{BeginAnew}
@@ -35,14 +36,17 @@ first_life p first few = record {
 }
 
 -- where a life has come so far that all that is ready has gone up, the next one begins
-pub begins_anew : (first : ℕ) (p : Protection) (sdus : List (List ℕ)) (passed : ℕ) (s : Sending) (r : Receiving) (keys : Keys) → Sends first p sdus s → Hears first p passed r → r.ready ≡ []
+pub begins_anew : (first : ℕ) (p : Protection) (sdus : List (List ℕ)) (passed : ℕ) (s : Sending) (r : Receiving)
+    (keys : Keys) → Sends first p sdus s → Hears first p passed r → r.ready ≡ []
     → BeginAnew (restarted_sending s keys) (restarted_receiving r keys)
 unfolding restarted_sending restarted_receiving
 begins_anew first p sdus passed s r keys h k ready =
-    let again : kept_again s ≡ [] = ap (λ l. from_unacked (data_of l ++ s.again)) h.none_given ∙ ap from_unacked h.none_again in
+    let again : kept_again s ≡ [] = ap (λ l. from_unacked (data_of l ++ s.again)) h.none_given
+    ∙ ap from_unacked h.none_again in
     let next : next_from s.kind s.next ≡ 0 = ap (λ (k : PdcpKind). next_from k s.next) h.srb in
     let zero' : (restarted_receiving r keys).next ≡ 0 = ap (λ (k : PdcpKind). if is_am k then r.next else 0) k.srb in
-    let from : first_again (kept_again s) (next_from s.kind s.next) ≡ 0 = ap (λ (l : List Sent). first_again l (next_from s.kind s.next)) again ∙ next in
+    let from : first_again (kept_again s) (next_from s.kind s.next) ≡ 0 =
+    ap (λ (l : List Sent). first_again l (next_from s.kind s.next)) again ∙ next in
     record {
       alike = record {
         sends = h.srb;
@@ -51,7 +55,8 @@ begins_anew first p sdus passed s r keys h k ready =
             ∙ ap (λ (q : Protection). protection_of s.kind keys q.bearer q.direction) (k.key ∙ sym h.key);
         awaited = zero' ∙ sym next;
         few = omega (arith, next);
-        bound = ap (λ n. n + width s.kind) from ∙ ap (λ (k : PdcpKind). 0 + width k) h.srb ∙ ap (λ n. n + 2 ^ 32) (sym next);
+        bound = ap (λ n. n + width s.kind) from ∙ ap (λ (k : PdcpKind). 0 + width k) h.srb
+            ∙ ap (λ n. n + 2 ^ 32) (sym next);
         owes_none = refl;
         none_again = again;
         none_given = refl;
@@ -63,9 +68,11 @@ begins_anew first p sdus passed s r keys h k ready =
       anew = next;
     }
 
-pub next_life : (s : Sending) (r : Receiving) (events : List Event) (keys : Keys) → BeginAlike s r → AreGiven (outset s r) events
+pub next_life : (s : Sending) (r : Receiving) (events : List Event) (keys : Keys) → BeginAlike s r
+    → AreGiven (outset s r) events
     → (run events (outset s r)).receiver.ready ≡ []
-    → BeginAnew (restarted_sending (run events (outset s r)).sender keys) (restarted_receiving (run events (outset s r)).receiver keys)
+    → BeginAnew (restarted_sending (run events (outset s r)).sender keys)
+    (restarted_receiving (run events (outset s r)).receiver keys)
 next_life s r events keys h g ready =
     let f = run events (outset s r) in
     let k = sound s r events h g in

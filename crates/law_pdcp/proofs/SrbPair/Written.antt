@@ -1,16 +1,19 @@
 -- The PDUs of SDUs by their places.
-use Rattle.std.proofs.Common.{◌≡◌, ◌≢◌, ◌<◌, ◌≤◌, ℕ, zero, suc, ◌+◌, List, [], ◌∷◌, ◌++◌, length, take, Some, slice_get, refl, ap, ◌∙◌, subst, arith}
+use Rattle.std.proofs.Common.{◌≡◌, ◌≢◌, ◌<◌, ◌≤◌, ℕ, zero, suc, ◌+◌, List, [], ◌∷◌, ◌++◌, length, take, Some, slice_get}
+use Rattle.std.proofs.Common.{refl, ap, ◌∙◌, subst, arith}
 use Rattle.pdcp_pdu.specs.declared.PdcpKind.TheVariants.{Srb}
 use Rattle.pdcp_sec.specs.Protection.{Protection}
 use Rattle.pdcp_tx.specs.State.{written}
 use Rattle.law_pdcp.specs.SrbPair.Delivery.{written_from}
 use Rattle.law_pdcp.proofs.SrbPair.Sending.{AreNonempty}
 
-pub written_more : (p : Protection) (count : ℕ) (xs : List (List ℕ)) (x : List ℕ) → written_from p count (xs ++ x ∷ []) ≡ written_from p count xs ++ written Srb p (Some (count + length xs)) x ∷ []
+pub written_more : (p : Protection) (count : ℕ) (xs : List (List ℕ)) (x : List ℕ)
+    → written_from p count (xs ++ x ∷ []) ≡ written_from p count xs ++ written Srb p (Some (count + length xs)) x ∷ []
 written_more p count [] x = let same : count ≡ count + 0 = omega arith in ap (λ n. written Srb p (Some n) x ∷ []) same
 written_more p count (y ∷ xs) x =
     let same : count + 1 + length xs ≡ count + suc (length xs) = omega arith in
-    ap (λ l. written Srb p (Some count) y ∷ l) (written_more p (count + 1) xs x ∙ ap (λ n. written_from p (count + 1) xs ++ written Srb p (Some n) x ∷ []) same)
+    ap (λ l. written Srb p (Some count) y ∷ l) (written_more p (count + 1) xs x
+    ∙ ap (λ n. written_from p (count + 1) xs ++ written Srb p (Some n) x ∷ []) same)
 
 pub length_written : (p : Protection) (count : ℕ) (xs : List (List ℕ)) → length (written_from p count xs) ≡ length xs
 length_written p count [] = refl
@@ -22,7 +25,8 @@ pub record IsWrittenAt (p : Protection) (count : ℕ) (sdus : List (List ℕ)) (
   pub taken : slice_get sdus k ≡ Some sdu
   pub at : slice_get (written_from p count sdus) k ≡ Some (written Srb p (Some (count + k)) sdu)
 
-pub written_at : (p : Protection) (count : ℕ) (sdus : List (List ℕ)) (k : ℕ) → k < length sdus → IsWrittenAt p count sdus k
+pub written_at : (p : Protection) (count : ℕ) (sdus : List (List ℕ)) (k : ℕ) → k < length sdus
+    → IsWrittenAt p count sdus k
 written_at p count [] k lt = absurd (omega (arith, lt))
 written_at p count (x ∷ sdus) zero lt =
     let same : count ≡ count + 0 = omega arith in
@@ -37,7 +41,8 @@ some_at [] k sdu h e = absurd cc
 some_at (x ∷ sdus) zero sdu h e = let same : x ≡ sdu = cc in subst (λ y. y ≢ []) same h.0
 some_at (x ∷ sdus) (suc k) sdu h e = some_at sdus k sdu h.1 e
 
-pub take_next : (sdus : List (List ℕ)) (k : ℕ) (sdu : List ℕ) → slice_get sdus k ≡ Some sdu → take (suc k) sdus ≡ take k sdus ++ sdu ∷ []
+pub take_next : (sdus : List (List ℕ)) (k : ℕ) (sdu : List ℕ) → slice_get sdus k ≡ Some sdu
+    → take (suc k) sdus ≡ take k sdus ++ sdu ∷ []
 take_next [] k sdu e = absurd cc
 take_next (x ∷ sdus) zero sdu e = let same : x ≡ sdu = cc in ap (λ y. y ∷ []) same
 take_next (x ∷ sdus) (suc k) sdu e = ap (λ l. x ∷ l) (take_next sdus k sdu e)

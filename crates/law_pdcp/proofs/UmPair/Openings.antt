@@ -29,8 +29,10 @@ pub heard_as_written : (bits : ℕ) (p : Protection) (count : ℕ) (sdu : List �
     → heard (Um bits) (pdu (Um bits) p count sdu) ≡ as_written (Um bits) p count sdu
 unfolding heard pdu
 heard_as_written bits p count sdu is some =
-    ap heard_user (user_again bits (Data-pdu (count % 2 ^ bits) (ciphered_with p count sdu)) (user_bits bits is) (below bits count is, some_ciphered p count sdu some)).read
+    ap heard_user (user_again bits (Data-pdu (count % 2 ^ bits) (ciphered_with p count sdu)) (user_bits bits is)
+    (below bits count is, some_ciphered p count sdu some)).read
 
-pub opened_again : (bits : ℕ) (p : Protection) (count : ℕ) (sdu : List ℕ) → opened (Um bits) p count (body_of (Um bits) p count sdu) ≡ Sdu sdu
+pub opened_again : (bits : ℕ) (p : Protection) (count : ℕ) (sdu : List ℕ)
+    → opened (Um bits) p count (body_of (Um bits) p count sdu) ≡ Sdu sdu
 unfolding opened
 opened_again bits p count sdu = ap Sdu (ciphered_twice p count sdu)

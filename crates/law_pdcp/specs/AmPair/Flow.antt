@@ -1,23 +1,29 @@
--- Both ends of the PDCP of an acknowledged data bearer, in one direction, through lives (TS 36.323 5.1, 5.2, 5.3). Between them RLC
--- hands up the PDUs that it was given, in order and unchanged; at the end of a life it gives besides exactly those others that arrived
--- whole (TS 36.322 5.1.3.2, 5.4).
-use Rattle.std.specs.Prelude.{◌≡◌, ℕ, ◌+◌, ◌<◌, Bool, true, false, ◌==◌, ◌||◌, if◌then◌else◌, List, [], ◌∷◌, ◌++◌, length, take, drop, Option, Some, None, slice_get}
+-- Both ends of the PDCP of an acknowledged data bearer, in one direction, through lives (TS 36.323
+-- 5.1, 5.2, 5.3). Between them RLC hands up the PDUs that it was given, in order and unchanged; at
+-- the end of a life it gives besides exactly those others that arrived whole (TS 36.322 5.1.3.2,
+-- 5.4).
+use Rattle.std.specs.Prelude.{◌≡◌, ℕ, ◌+◌, ◌<◌, Bool, true, false, ◌==◌, ◌||◌, if◌then◌else◌, List}
+use Rattle.std.specs.Prelude.{[], ◌∷◌, ◌++◌, length, take, drop, Option, Some, None, slice_get}
 use Rattle.eps_sec.specs.declared.Keys.{Keys}
 use Rattle.pdcp_pdu.specs.declared.PdcpKind.{PdcpKind}
 use Rattle.pdcp_pdu.specs.declared.PdcpKind.TheVariants.{Am}
 use Rattle.pdcp_sec.specs.Protection.{Protection}
 use Rattle.pdcp_tx.specs.declared.sender.Next.{Next}
-use Rattle.pdcp_tx.specs.State.{State as Sending, start, taking, refusal, restarted as restarted_sending}
+use Rattle.pdcp_tx.specs.State.{State as Sending, start, taking, refusal}
+use Rattle.pdcp_tx.specs.State.{restarted as restarted_sending}
 use Rattle.pdcp_tx.specs.Runs.{Call, Submit, Take, Confirm, Report, Owe, Tick, Late, after}
 use Rattle.pdcp_rx.specs.declared.got.Cause.TheVariants.{Arrived, Reestablished}
 use Rattle.pdcp_rx.specs.Heard.{Told, heard}
-use Rattle.pdcp_rx.specs.State.{State as Receiving, fresh, arrived, report, restarted as restarted_receiving}
+use Rattle.pdcp_rx.specs.State.{State as Receiving, fresh, arrived, report}
+use Rattle.pdcp_rx.specs.State.{restarted as restarted_receiving}
 use Rattle.law_pdcp.specs.OneEnd.Lives.{takes_new}
 
--- `first` is the first COUNT, `sdus` the SDUs that were taken for the first time, in their order, so that SDU k has the COUNT first + k.
--- `up` is what was taken from the receiver. Of this life `stream` is what RLC was given, `whole` the places in it of the PDUs that have
--- arrived whole, `passed` how many of them RLC has handed up in sequence. `handed` is the COUNTs of the PDUs that came in sequence in
--- this life or whole in an ended one. `report` is the status report that the receiver made as the last life ended.
+-- `first` is the first COUNT, `sdus` the SDUs that were taken for the first time, in their order,
+-- so that SDU k has the COUNT first + k. `up` is what was taken from the receiver. Of this life
+-- `stream` is what RLC was given, `whole` the places in it of the PDUs that have arrived whole,
+-- `passed` how many of them RLC has handed up in sequence. `handed` is the COUNTs of the PDUs that
+-- came in sequence in this life or whole in an ended one. `report` is the status report that the
+-- receiver made as the last life ended.
 pub record Flow : Type 0 where
   pub first : ℕ
   pub sdus : List (List ℕ)
@@ -70,11 +76,13 @@ passes (Some pdu) f = record f {
 -- those of some PDUs, of places from one on, that have arrived whole come at the end of the life
 abbrev pub closing : (ℕ → Bool) → ℕ → List Next → Receiving → Receiving
 closing whole place [] r = r
-closing whole place (pdu ∷ pdus) r = closing whole (place + 1) pdus (if whole place then arrived r pdu.octets Reestablished else r)
+closing whole place (pdu ∷ pdus) r =
+    closing whole (place + 1) pdus (if whole place then arrived r pdu.octets Reestablished else r)
 
 abbrev pub closed : (ℕ → Bool) → ℕ → List Next → (ℕ → Bool) → ℕ → Bool
 closed whole place [] handed n = handed n
-closed whole place (pdu ∷ pdus) handed n = closed whole (place + 1) pdus (if whole place then with_count pdu.count handed else handed) n
+closed whole place (pdu ∷ pdus) handed n =
+    closed whole (place + 1) pdus (if whole place then with_count pdu.count handed else handed) n
 
 abbrev pub ended : Flow → Flow
 ended f = record f {
@@ -93,11 +101,18 @@ begun f keys = record f {
 }
 
 abbrev pub happens : Flow → Event → Flow
-happens f (Sends c) = record f { sender = after f.sender c; sdus = f.sdus ++ takes_new f.sender c; stream = f.stream ++ gives f.sender c }
+happens f (Sends c) = record f {
+  sender = after f.sender c;
+  sdus = f.sdus ++ takes_new f.sender c;
+  stream = f.stream ++ gives f.sender c;
+}
 happens f (SetDiscard ttis) = record f { sender = record f.sender { discard = Some ttis } }
 happens f (Arrive place) = record f { whole = λ n. n == place || f.whole n }
 happens f HandUp = passes (slice_get f.stream f.passed) f
-happens f Raise = record f { receiver = record f.receiver { ready = drop 1 f.receiver.ready }; up = f.up ++ take 1 f.receiver.ready }
+happens f Raise = record f {
+  receiver = record f.receiver { ready = drop 1 f.receiver.ready };
+  up = f.up ++ take 1 f.receiver.ready;
+}
 happens f (Restart keys) = begun (ended f) keys
 
 abbrev pub run : List Event → Flow → Flow
@@ -131,7 +146,8 @@ abbrev pub Comes : Option (List ℕ) → PdcpKind → ℕ → List ℕ → Type 
 Comes None kind fms bitmap = ⊥
 Comes (Some pdu) kind fms bitmap = heard kind pdu ≡ Told fms bitmap
 
--- what the sender doesn't refuse is submitted; RLC confirms what has arrived whole; what the sender owes is a status report
+-- what the sender doesn't refuse is submitted; RLC confirms what has arrived whole; what the sender
+-- owes is a status report
 abbrev pub CanCall : Flow → Call → Type 0
 CanCall f (Submit sdu) = refusal f.sender sdu ≡ None
 CanCall f Take = Unit {0}

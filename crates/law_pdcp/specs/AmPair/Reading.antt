@@ -1,5 +1,6 @@
 -- Each PDU that comes is read as the COUNT that it was written with (TS 36.323 5.1.2.1.2).
-use Rattle.std.specs.Prelude.{◌≡◌, ℕ, ◌+◌, ◌≤◌, ◌^◌, Bool, true, if◌then◌else◌, nat_lt, List, [], ◌∷◌, drop, Option, Some, None, slice_get}
+use Rattle.std.specs.Prelude.{◌≡◌, ℕ, ◌+◌, ◌≤◌, ◌^◌, Bool, true, if◌then◌else◌, nat_lt, List, []}
+use Rattle.std.specs.Prelude.{◌∷◌, drop, Option, Some, None, slice_get}
 use Rattle.pdcp_pdu.specs.declared.PdcpKind.TheVariants.{Am}
 use Rattle.pdcp_pdu.specs.Kinds.{IsKind}
 use Rattle.pdcp_sec.specs.Protection.{Protection}
@@ -11,7 +12,8 @@ use Rattle.pdcp_rx.specs.declared.got.Got.TheVariants as answers
 use Rattle.pdcp_rx.specs.State.{State as Receiving, got, arrived}
 use Rattle.law_pdcp.specs.AmPair.Flow.{Flow, Event, run, outset, AreGiven, with_count}
 
--- the SDU of a COUNT that hasn't come goes up; at the end of a life it waits where one below it hasn't come
+-- the SDU of a COUNT that hasn't come goes up; at the end of a life it waits where one below it
+-- hasn't come
 abbrev pub fresh_answer : Cause → Receiving → ℕ → Got
 fresh_answer Arrived r count = answers.Up
 fresh_answer Reestablished r count = if nat_lt r.next count then answers.Stored else answers.Up
@@ -40,12 +42,14 @@ abbrev pub AreRead : (ℕ → Bool) → ℕ → List Next → (ℕ → Bool) →
 AreRead whole place [] handed r = Unit {0}
 AreRead whole place (pdu ∷ pdus) handed r =
     (whole place ≡ true → IsRead handed Reestablished r pdu.octets pdu.count)
-    × AreRead whole (place + 1) pdus (if whole place then with_count pdu.count handed else handed) (if whole place then arrived r pdu.octets Reestablished else r)
+    × AreRead whole (place + 1) pdus (if whole place then with_count pdu.count handed else handed)
+    (if whole place then arrived r pdu.octets Reestablished else r)
 
 pub record ReadsEach (f : Flow) : Type 0 where
   pub in_sequence : IsNextRead (slice_get f.stream f.passed) f
   pub at_the_end : AreRead f.whole f.passed (drop f.passed f.stream) f.handed f.receiver
 
 abbrev pub ReadsEachCount : Type 0
-ReadsEachCount = (bits : ℕ) (p : Protection) (first : ℕ) (events : List Event) → IsKind (Am bits) → first ≤ 2 ^ 32 → AreGiven (outset bits p first) events
+ReadsEachCount = (bits : ℕ) (p : Protection) (first : ℕ) (events : List Event) → IsKind (Am bits)
+    → first ≤ 2 ^ 32 → AreGiven (outset bits p first) events
     → ReadsEach (run events (outset bits p first))

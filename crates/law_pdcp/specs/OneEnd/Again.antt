@@ -1,5 +1,6 @@
 -- What a life takes again, and what a status report leaves out of it (TS 36.323 5.2.1.1, 5.3.2).
-use Rattle.std.specs.Prelude.{◌≡◌, ◌⊎◌, ℕ, Bool, true, false, ◌||◌, List, [], ◌∷◌, ◌++◌, Option, Some, None, take, All, Contains}
+use Rattle.std.specs.Prelude.{◌≡◌, ◌⊎◌, ℕ, Bool, true, false, ◌||◌, List, [], ◌∷◌, ◌++◌, Option}
+use Rattle.std.specs.Prelude.{Some, None, take, All, Contains}
 use Rattle.pdcp_tx_store.specs.declared.given.Sent.{Sent}
 use Rattle.pdcp_tx_store.specs.Given.{tells}
 use Rattle.pdcp_tx.specs.State.{State, fms_count, reported}
@@ -50,10 +51,12 @@ abbrev pub told_in : State → List Call → Sent → Bool
 told_in s [] x = false
 told_in s (c ∷ cs) x = told_by s c x || told_in (after s c) cs x
 
--- of the SDUs that were to be taken again, in order and each once, only those are left out that a report told
+-- of the SDUs that were to be taken again, in order and each once, only those are left out that a
+-- report told
 pub record LeavesOutWhatIsTold (s : State) (cs : List Call) : Type 0 where
   pub order : IsSubsequence (all_again s cs) s.again
-  pub others : (x : Sent) → Contains s.again x → Contains (all_again s cs) x ⊎ (told_in s cs x ≡ true)
+  pub others : (x : Sent) → Contains s.again x → Contains (all_again s cs) x
+      ⊎ (told_in s cs x ≡ true)
 
 -- a report doesn't tell that an SDU was received
 abbrev pub IsUntold : Option ℕ → List ℕ → Sent → Type 0
@@ -61,4 +64,5 @@ IsUntold from bitmap x = told_from from bitmap x ≡ false
 
 -- what a report told before it was reached isn't taken again
 abbrev pub LeavesOutTheTold : State → ℕ → List ℕ → List Call → Type 0
-LeavesOutTheTold s fms bitmap cs = All (IsUntold (fms_count s.kind s.base fms) bitmap) (all_again (reported s fms bitmap) cs)
+LeavesOutTheTold s fms bitmap cs =
+    All (IsUntold (fms_count s.kind s.base fms) bitmap) (all_again (reported s fms bitmap) cs)

@@ -4,7 +4,8 @@ use Rattle.pdcp_tx.specs.Pdus.{width}
 use Rattle.pdcp_tx.specs.State.{State, low}
 use Rattle.pdcp_tx.specs.Runs.{Call, after}
 
--- once RLC has acknowledged the own status report, the bound lies half the sequence numbers above the first unconfirmed COUNT
+-- once RLC has acknowledged the own status report, the bound lies half the sequence numbers above
+-- the first unconfirmed COUNT
 abbrev pub IsBounded : State → Type 0
 IsBounded s = s.reporting ≡ false → s.bound ≡ low s + width s.kind
 

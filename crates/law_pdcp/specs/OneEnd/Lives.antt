@@ -1,5 +1,6 @@
 -- A sender through lives: calls, and re-establishments under other keys (TS 36.323 5.2).
-use Rattle.std.specs.Prelude.{◌≡◌, ℕ, ◌-◌, ◌≤◌, if◌then◌else◌, List, [], ◌∷◌, ◌++◌, map, take, Option, Some, None, slice_get, All}
+use Rattle.std.specs.Prelude.{◌≡◌, ℕ, ◌-◌, ◌≤◌, if◌then◌else◌, List, [], ◌∷◌, ◌++◌, map, take}
+use Rattle.std.specs.Prelude.{Option, Some, None, slice_get, All}
 use Rattle.eps_sec.specs.declared.Keys.{Keys}
 use Rattle.pdcp_sec.specs.Protection.{Protection}
 use Rattle.pdcp_tx_store.specs.declared.given.Sent.{Sent}

@@ -28,7 +28,8 @@ abbrev pub ups_of : State → List Hearing → List ℕ
 ups_of s [] = []
 ups_of s (x ∷ xs) = ups_in s x ++ ups_of (goes s x) xs
 
--- what a PDU has for its receiver to open: of signalling the whole, else what stands behind the header
+-- what a PDU has for its receiver to open: of signalling the whole, else what stands behind the
+-- header
 abbrev pub body_of : PdcpKind → Protection → ℕ → List ℕ → List ℕ
 body_of Srb p count sdu = pdu Srb p count sdu
 body_of (Um bits) p count sdu = ciphered_with p count sdu

@@ -1,4 +1,5 @@
--- How a life of the PDCP of a signalling bearer begins, in one direction (TS 36.323 5.2.1.3, 5.2.2.3).
+-- How a life of the PDCP of a signalling bearer begins, in one direction (TS 36.323 5.2.1.3,
+-- 5.2.2.3).
 use Rattle.std.specs.Prelude.{◌≡◌, ℕ, ◌^◌, ◌≤◌, List, []}
 use Rattle.eps_sec.specs.declared.Keys.{Keys}
 use Rattle.pdcp_pdu.specs.declared.PdcpKind.TheVariants.{Srb}
@@ -8,7 +9,8 @@ use Rattle.pdcp_rx.specs.State.{State as Receiving, fresh, restarted as restarte
 use Rattle.law_pdcp.specs.SrbPair.Flow.{Event, run, outset, AreGiven, BeginAlike}
 
 abbrev pub FirstLifeBegins : Type 0
-FirstLifeBegins = (p : Protection) (first : ℕ) → first ≤ 2 ^ 32 → BeginAlike (start Srb p first) (fresh Srb p first)
+FirstLifeBegins = (p : Protection) (first : ℕ) → first ≤ 2 ^ 32
+    → BeginAlike (start Srb p first) (fresh Srb p first)
 
 -- the next life begins with COUNT 0, under the same keys at both ends
 pub record BeginAnew (s : Sending) (r : Receiving) : Type 0 where
@@ -16,6 +18,8 @@ pub record BeginAnew (s : Sending) (r : Receiving) : Type 0 where
   pub anew : s.next ≡ 0
 
 abbrev pub NextLifeBegins : Type 0
-NextLifeBegins = (s : Sending) (r : Receiving) (events : List Event) (keys : Keys) → BeginAlike s r → AreGiven (outset s r) events
+NextLifeBegins = (s : Sending) (r : Receiving) (events : List Event) (keys : Keys)
+    → BeginAlike s r → AreGiven (outset s r) events
     → (run events (outset s r)).receiver.ready ≡ []
-    → BeginAnew (restarted_sending (run events (outset s r)).sender keys) (restarted_receiving (run events (outset s r)).receiver keys)
+    → BeginAnew (restarted_sending (run events (outset s r)).sender keys)
+    (restarted_receiving (run events (outset s r)).receiver keys)

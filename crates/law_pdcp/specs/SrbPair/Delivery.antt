@@ -1,5 +1,7 @@
--- What a signalling bearer's PDCP writes, reads and delivers in a life (TS 36.323 5.1.1, 5.1.2.2, 5.6, 5.7).
-use Rattle.std.specs.Prelude.{◌≡◌, ◌≢◌, ℕ, ◌+◌, ◌%◌, ◌<◌, List, [], ◌∷◌, ◌++◌, length, take, Some, slice_get}
+-- What a signalling bearer's PDCP writes, reads and delivers in a life (TS 36.323 5.1.1, 5.1.2.2,
+-- 5.6, 5.7).
+use Rattle.std.specs.Prelude.{◌≡◌, ◌≢◌, ℕ, ◌+◌, ◌%◌, ◌<◌, List, [], ◌∷◌, ◌++◌, length, take, Some}
+use Rattle.std.specs.Prelude.{slice_get}
 use Rattle.pdcp_pdu.specs.declared.PdcpKind.TheVariants.{Srb}
 use Rattle.pdcp_sec.specs.Protection.{Protection}
 use Rattle.pdcp_tx.specs.declared.sender.Next.{Next}
@@ -12,7 +14,8 @@ use Rattle.pdcp_rx.specs.declared.security.Opened.TheVariants.{Sdu}
 use Rattle.pdcp_rx.specs.Heard.{Data, heard}
 use Rattle.pdcp_rx.specs.State.{State as Receiving, above, opened_at, got, arrived}
 use Rattle.law_pdcp.specs.OneEnd.Lives.{queue}
-use Rattle.law_pdcp.specs.SrbPair.Flow.{Flow, Event, Sends, HandUp, Raise, run, outset, BeginAlike, AreGiven}
+use Rattle.law_pdcp.specs.SrbPair.Flow.{Flow, Event, Sends, HandUp, Raise, run, outset, BeginAlike}
+use Rattle.law_pdcp.specs.SrbPair.Flow.{AreGiven}
 
 -- ---- as it is written
 
@@ -22,12 +25,15 @@ written_from p count [] = []
 written_from p count (sdu ∷ sdus) = written Srb p (Some count) sdu ∷ written_from p (count + 1) sdus
 
 abbrev pub WritesEachCount : Type 0
-WritesEachCount = (s : Sending) (r : Receiving) (events : List Event) → BeginAlike s r → AreGiven (outset s r) events
-    → (run events (outset s r)).stream ≡ written_from s.protection s.next (run events (outset s r)).sdus
+WritesEachCount = (s : Sending) (r : Receiving) (events : List Event) → BeginAlike s r
+    → AreGiven (outset s r) events
+    → (run events (outset s r)).stream
+    ≡ written_from s.protection s.next (run events (outset s r)).sdus
 
 -- ---- as it is read
 
--- octets are found to be those of a COUNT, and open to an SDU, as their MAC-I agrees; it goes up, and the next COUNT is expected
+-- octets are found to be those of a COUNT, and open to an SDU, as their MAC-I agrees; it goes up,
+-- and the next COUNT is expected
 pub record AreReadAs (r : Receiving) (octets : List ℕ) (count : ℕ) (sdu : List ℕ) : Type 0 where
   pub heard_as : heard r.kind octets ≡ Data (count % 32) octets
   pub found : r.next + above r (count % 32) ≡ count
@@ -46,19 +52,23 @@ pub record IsReadNext (f : Flow) : Type 0 where
   pub read : AreReadAs f.receiver x.octets (f.first + f.passed) sdu
 
 abbrev pub ReadsEachCount : Type 0
-ReadsEachCount = (s : Sending) (r : Receiving) (events : List Event) → BeginAlike s r → AreGiven (outset s r) events
-    → (run events (outset s r)).passed < length (run events (outset s r)).stream → IsReadNext (run events (outset s r))
+ReadsEachCount = (s : Sending) (r : Receiving) (events : List Event) → BeginAlike s r
+    → AreGiven (outset s r) events
+    → (run events (outset s r)).passed < length (run events (outset s r)).stream
+    → IsReadNext (run events (outset s r))
 
 -- ---- what goes up
 
--- as many of the SDUs that were taken as RLC handed up PDUs, from the first on; the receiver expects the COUNT of the next, and holds nothing
+-- as many of the SDUs that were taken as RLC handed up PDUs, from the first on; the receiver
+-- expects the COUNT of the next, and holds nothing
 pub record IsTheFront (f : Flow) : Type 0 where
   pub delivered : f.up ++ f.receiver.ready ≡ take f.passed f.sdus
   pub next : f.receiver.next ≡ f.first + f.passed
   pub none_held : f.receiver.held ≡ []
 
 abbrev pub DeliversTheFront : Type 0
-DeliversTheFront = (s : Sending) (r : Receiving) (events : List Event) → BeginAlike s r → AreGiven (outset s r) events → IsTheFront (run events (outset s r))
+DeliversTheFront = (s : Sending) (r : Receiving) (events : List Event) → BeginAlike s r
+    → AreGiven (outset s r) events → IsTheFront (run events (outset s r))
 
 -- ---- of what was submitted
 
@@ -78,5 +88,6 @@ submitted_in (HandUp ∷ es) = submitted_in es
 submitted_in (Raise ∷ es) = submitted_in es
 
 abbrev pub TakesAll : Type 0
-TakesAll = (s : Sending) (r : Receiving) (events : List Event) → BeginAlike s r → AreGiven (outset s r) events
+TakesAll = (s : Sending) (r : Receiving) (events : List Event) → BeginAlike s r
+    → AreGiven (outset s r) events
     → (run events (outset s r)).sdus ++ queue (run events (outset s r)).sender ≡ submitted_in events

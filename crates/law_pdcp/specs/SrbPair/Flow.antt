@@ -1,6 +1,8 @@
--- Both ends of the PDCP of a signalling bearer, in one direction and in a life (TS 36.323 5.1.1, 5.1.2.2). Between them RLC hands up the PDUs
--- that it was given: in their order, each once and unchanged (TS 36.322 5.1.3.2).
-use Rattle.std.specs.Prelude.{◌≡◌, ℕ, ◌+◌, ◌^◌, ◌<◌, ◌≤◌, List, [], ◌∷◌, ◌++◌, length, take, drop, Option, Some, None, slice_get}
+-- Both ends of the PDCP of a signalling bearer, in one direction and in a life (TS 36.323 5.1.1,
+-- 5.1.2.2). Between them RLC hands up the PDUs that it was given: in their order, each once and
+-- unchanged (TS 36.322 5.1.3.2).
+use Rattle.std.specs.Prelude.{◌≡◌, ℕ, ◌+◌, ◌^◌, ◌<◌, ◌≤◌, List, [], ◌∷◌, ◌++◌, length, take, drop}
+use Rattle.std.specs.Prelude.{Option, Some, None, slice_get}
 use Rattle.pdcp_pdu.specs.declared.PdcpKind.TheVariants.{Srb}
 use Rattle.pdcp_tx.specs.declared.sender.Next.{Next}
 use Rattle.pdcp_tx.specs.State.{State as Sending, taking, refusal}
@@ -9,8 +11,9 @@ use Rattle.pdcp_rx.specs.declared.got.Cause.TheVariants.{Arrived}
 use Rattle.pdcp_rx.specs.State.{State as Receiving, arrived}
 use Rattle.law_pdcp.specs.OneEnd.Lives.{takes_new}
 
--- `first` is the first COUNT of the life, `sdus` the SDUs that were taken in it, `stream` what RLC was given, `passed` how many PDUs of that
--- RLC has handed up, and `up` what was taken from the receiver
+-- `first` is the first COUNT of the life, `sdus` the SDUs that were taken in it, `stream` what RLC
+-- was given, `passed` how many PDUs of that RLC has handed up, and `up` what was taken from the
+-- receiver
 pub record Flow : Type 0 where
   pub first : ℕ
   pub sdus : List (List ℕ)
@@ -43,12 +46,22 @@ gives s Late = []
 
 abbrev pub passes : Option Next → Flow → Flow
 passes None f = f
-passes (Some pdu) f = record f { receiver = arrived f.receiver pdu.octets Arrived; passed = f.passed + 1 }
+passes (Some pdu) f = record f {
+  receiver = arrived f.receiver pdu.octets Arrived;
+  passed = f.passed + 1;
+}
 
 abbrev pub happens : Flow → Event → Flow
-happens f (Sends c) = record f { sender = after f.sender c; sdus = f.sdus ++ takes_new f.sender c; stream = f.stream ++ gives f.sender c }
+happens f (Sends c) = record f {
+  sender = after f.sender c;
+  sdus = f.sdus ++ takes_new f.sender c;
+  stream = f.stream ++ gives f.sender c;
+}
 happens f HandUp = passes (slice_get f.stream f.passed) f
-happens f Raise = record f { receiver = record f.receiver { ready = drop 1 f.receiver.ready }; up = f.up ++ take 1 f.receiver.ready }
+happens f Raise = record f {
+  receiver = record f.receiver { ready = drop 1 f.receiver.ready };
+  up = f.up ++ take 1 f.receiver.ready;
+}
 
 abbrev pub run : List Event → Flow → Flow
 run [] f = f
@@ -56,11 +69,20 @@ run (e ∷ es) f = run es (happens f e)
 
 -- a life begins
 abbrev pub outset : Sending → Receiving → Flow
-outset s r = record { first = s.next; sdus = []; sender = s; receiver = r; stream = []; passed = 0; up = [] }
+outset s r = record {
+  first = s.next;
+  sdus = [];
+  sender = s;
+  receiver = r;
+  stream = [];
+  passed = 0;
+  up = [];
+}
 
 -- ---- how it begins
 
--- of signalling, with the same COUNT and under the same keys, without discard timers; nothing waits, is kept, held or ready
+-- of signalling, with the same COUNT and under the same keys, without discard timers; nothing
+-- waits, is kept, held or ready
 pub record BeginAlike (s : Sending) (r : Receiving) : Type 0 where
   pub sends : s.kind ≡ Srb
   pub hears : r.kind ≡ Srb

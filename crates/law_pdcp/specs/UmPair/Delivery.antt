@@ -1,12 +1,15 @@
--- What a receiver of an unacknowledged data bearer hands up, while the losses below it are short (TS 36.323 5.1.2.1.3).
-use Rattle.std.specs.Prelude.{◌≡◌, ℕ, ◌+◌, ◌≤◌, ◌^◌, List, [], ◌∷◌, ◌++◌, map, length, slice_index_or}
+-- What a receiver of an unacknowledged data bearer hands up, while the losses below it are short
+-- (TS 36.323 5.1.2.1.3).
+use Rattle.std.specs.Prelude.{◌≡◌, ℕ, ◌+◌, ◌≤◌, ◌^◌, List, [], ◌∷◌, ◌++◌, map, length}
+use Rattle.std.specs.Prelude.{slice_index_or}
 use Rattle.l2_num.specs.Ascending.{AreBetween}
 use Rattle.pdcp_pdu.specs.declared.PdcpKind.TheVariants.{Um}
 use Rattle.pdcp_pdu.specs.Kinds.{IsKind}
 use Rattle.pdcp_sec.specs.Protection.{Protection}
 use Rattle.law_words.specs.Lists.{IsSubsequence}
 use Rattle.law_pdcp.specs.OneEnd.Lives.{submitted_in, queue}
-use Rattle.law_pdcp.specs.UmPair.Flow.{Flow, Event, Sends, SetDiscard, HandUp, Raise, Restart, run, outset, steps, AreGiven, AreShort}
+use Rattle.law_pdcp.specs.UmPair.Flow.{Flow, Event, Sends, SetDiscard, HandUp, Raise, Restart, run}
+use Rattle.law_pdcp.specs.UmPair.Flow.{outset, steps, AreGiven, AreShort}
 
 -- ---- by what RLC handed up
 
@@ -14,15 +17,16 @@ use Rattle.law_pdcp.specs.UmPair.Flow.{Flow, Event, Sends, SetDiscard, HandUp, R
 abbrev pub those : List ℕ → List (List ℕ) → List (List ℕ)
 those places sdus = map (λ place. slice_index_or sdus place []) places
 
--- what went up and what is ready to go up are the SDUs whose PDUs RLC handed up: in their order, each once and unchanged. The receiver
--- expects the COUNT behind the last of them in this life.
+-- what went up and what is ready to go up are the SDUs whose PDUs RLC handed up: in their order,
+-- each once and unchanged. The receiver expects the COUNT behind the last of them in this life.
 pub record IsWhatCame (f : Flow) : Type 0 where
   pub order : AreBetween 0 f.handed (length f.sdus)
   pub delivered : f.up ++ f.receiver.ready ≡ those f.handed f.sdus
   pub next : f.receiver.next ≡ f.first + f.passed
 
 abbrev pub DeliversWhatCame : Type 0
-DeliversWhatCame = (bits : ℕ) (p : Protection) (first : ℕ) (events : List Event) → IsKind (Um bits) → first ≤ 2 ^ 32
+DeliversWhatCame = (bits : ℕ) (p : Protection) (first : ℕ) (events : List Event)
+    → IsKind (Um bits) → first ≤ 2 ^ 32
     → AreGiven (outset bits p first) events → AreShort (outset bits p first) events
     → IsWhatCame (run events (outset bits p first))
 
@@ -34,7 +38,8 @@ pub record AreSome (events : List Event) (f : Flow) : Type 0 where
   pub submitted : IsSubsequence (f.up ++ f.receiver.ready) (submitted_in (steps events))
 
 abbrev pub DeliversSome : Type 0
-DeliversSome = (bits : ℕ) (p : Protection) (first : ℕ) (events : List Event) → IsKind (Um bits) → first ≤ 2 ^ 32
+DeliversSome = (bits : ℕ) (p : Protection) (first : ℕ) (events : List Event) → IsKind (Um bits)
+    → first ≤ 2 ^ 32
     → AreGiven (outset bits p first) events → AreShort (outset bits p first) events
     → AreSome events (run events (outset bits p first))
 
@@ -50,4 +55,5 @@ SetNone (Restart keys ∷ es) = SetNone es
 -- then the SDUs that were taken, and behind them those that wait, are all that were submitted
 abbrev pub TakesAll : Type 0
 TakesAll = (bits : ℕ) (p : Protection) (first : ℕ) (events : List Event) → SetNone events
-    → (run events (outset bits p first)).sdus ++ queue (run events (outset bits p first)).sender ≡ submitted_in (steps events)
+    → (run events (outset bits p first)).sdus ++ queue (run events (outset bits p first)).sender
+    ≡ submitted_in (steps events)

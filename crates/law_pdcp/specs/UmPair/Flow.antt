@@ -1,21 +1,27 @@
--- Both ends of the PDCP of an unacknowledged data bearer, in one direction, through lives (TS 36.323 5.1, 5.2). Between them RLC hands
--- up some of the PDUs that it was given, in order, each once and unchanged (TS 36.322 5.1.2.2, 5.4).
-use Rattle.std.specs.Prelude.{◌≡◌, ℕ, ◌+◌, ◌-◌, ◌^◌, ◌<◌, ◌≤◌, List, [], ◌∷◌, ◌++◌, length, take, drop, Option, Some, None, slice_get}
+-- Both ends of the PDCP of an unacknowledged data bearer, in one direction, through lives (TS
+-- 36.323 5.1, 5.2). Between them RLC hands up some of the PDUs that it was given, in order, each
+-- once and unchanged (TS 36.322 5.1.2.2, 5.4).
+use Rattle.std.specs.Prelude.{◌≡◌, ℕ, ◌+◌, ◌-◌, ◌^◌, ◌<◌, ◌≤◌, List, [], ◌∷◌, ◌++◌, length, take}
+use Rattle.std.specs.Prelude.{drop, Option, Some, None, slice_get}
 use Rattle.eps_sec.specs.declared.Keys.{Keys}
 use Rattle.pdcp_pdu.specs.declared.PdcpKind.TheVariants.{Um}
 use Rattle.pdcp_pdu.specs.Kinds.{bits_of}
 use Rattle.pdcp_sec.specs.Protection.{Protection}
 use Rattle.pdcp_tx.specs.declared.sender.Next.{Next}
-use Rattle.pdcp_tx.specs.State.{State as Sending, start, taking, refusal, restarted as restarted_sending}
+use Rattle.pdcp_tx.specs.State.{State as Sending, start, taking, refusal}
+use Rattle.pdcp_tx.specs.State.{restarted as restarted_sending}
 use Rattle.pdcp_tx.specs.Runs.{Call, Submit, Take, Confirm, Report, Owe, Tick, Late, after}
 use Rattle.pdcp_rx.specs.declared.got.Cause.{Cause}
-use Rattle.pdcp_rx.specs.State.{State as Receiving, fresh, arrived, restarted as restarted_receiving}
-use Rattle.law_pdcp.specs.OneEnd.Lives.{Step, Calls, SetDiscard as SetsDiscard, Restart as Restarts, takes_new}
+use Rattle.pdcp_rx.specs.State.{State as Receiving, fresh, arrived}
+use Rattle.pdcp_rx.specs.State.{restarted as restarted_receiving}
+use Rattle.law_pdcp.specs.OneEnd.Lives.{Step, Calls, SetDiscard as SetsDiscard, Restart as Restarts}
+use Rattle.law_pdcp.specs.OneEnd.Lives.{takes_new}
 
--- `sdus` are the SDUs that were taken, in their order, through all lives; `up` is what was taken from the receiver. Of this life
--- `first` is the first COUNT, `earlier` how many SDUs were taken before it, `stream` what RLC was given, and `passed` how many places
--- of that lie at or below the last one that RLC handed up. `handed` tells by its place in `sdus` each SDU whose PDU RLC handed up, in
--- the order in which it did.
+-- `sdus` are the SDUs that were taken, in their order, through all lives; `up` is what was taken
+-- from the receiver. Of this life `first` is the first COUNT, `earlier` how many SDUs were taken
+-- before it, `stream` what RLC was given, and `passed` how many places of that lie at or below the
+-- last one that RLC handed up. `handed` tells by its place in `sdus` each SDU whose PDU RLC handed
+-- up, in the order in which it did.
 pub record Flow : Type 0 where
   pub sdus : List (List ℕ)
   pub sender : Sending
@@ -70,10 +76,17 @@ begun f keys = record f {
 }
 
 abbrev pub happens : Flow → Event → Flow
-happens f (Sends c) = record f { sender = after f.sender c; sdus = f.sdus ++ takes_new f.sender c; stream = f.stream ++ gives f.sender c }
+happens f (Sends c) = record f {
+  sender = after f.sender c;
+  sdus = f.sdus ++ takes_new f.sender c;
+  stream = f.stream ++ gives f.sender c;
+}
 happens f (SetDiscard ttis) = record f { sender = record f.sender { discard = Some ttis } }
 happens f (HandUp cause place) = comes (slice_get f.stream place) cause place f
-happens f Raise = record f { receiver = record f.receiver { ready = drop 1 f.receiver.ready }; up = f.up ++ take 1 f.receiver.ready }
+happens f Raise = record f {
+  receiver = record f.receiver { ready = drop 1 f.receiver.ready };
+  up = f.up ++ take 1 f.receiver.ready;
+}
 happens f (Restart keys) = begun f keys
 
 abbrev pub run : List Event → Flow → Flow
@@ -123,7 +136,8 @@ AreGiven f (e ∷ es) = IsGiven f e × AreGiven (happens f e) es
 
 -- ---- which losses are short
 
--- how many COUNTs lie between that of a place and the last one that was handed up, or the beginning of the life
+-- how many COUNTs lie between that of a place and the last one that was handed up, or the beginning
+-- of the life
 abbrev pub left_out : Flow → ℕ → ℕ
 left_out f place = place - f.passed
 

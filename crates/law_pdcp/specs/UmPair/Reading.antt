@@ -1,4 +1,5 @@
--- Which COUNT each PDU is written with, and that it is read as this COUNT (TS 36.323 5.1.1, 5.1.2.1.3).
+-- Which COUNT each PDU is written with, and that it is read as this COUNT (TS 36.323 5.1.1,
+-- 5.1.2.1.3).
 use Rattle.std.specs.Prelude.{◌≡◌, ◌≢◌, ℕ, ◌+◌, ◌<◌, ◌≤◌, ◌^◌, List, [], ◌∷◌, ◌++◌, Some, slice_get}
 use Rattle.pdcp_pdu.specs.declared.PdcpKind.{PdcpKind}
 use Rattle.pdcp_pdu.specs.declared.PdcpKind.TheVariants.{Um}
@@ -11,12 +12,15 @@ use Rattle.pdcp_rx.specs.declared.got.Got.TheVariants as answers
 use Rattle.pdcp_rx.specs.declared.security.Opened.TheVariants.{Sdu}
 use Rattle.pdcp_rx.specs.Heard.{Data, heard}
 use Rattle.pdcp_rx.specs.State.{State as Receiving, above, opened_at, got, arrived}
-use Rattle.law_pdcp.specs.UmPair.Flow.{Flow, Event, HandUp, run, outset, IsLater, IsGiven, AreGiven, left_out, IsShort, AreShort}
+use Rattle.law_pdcp.specs.UmPair.Flow.{Flow, Event, HandUp, run, outset, IsLater, IsGiven, AreGiven}
+use Rattle.law_pdcp.specs.UmPair.Flow.{left_out, IsShort, AreShort}
 
 -- ---- as it is written
 
--- the PDU at a place is that of the SDU at this place among those that were taken in this life, and its COUNT lies so far above the first one
-pub record IsWritten (first earlier : ℕ) (sdus : List (List ℕ)) (kind : PdcpKind) (p : Protection) (place : ℕ) (x : Next) : Type 0 where
+-- the PDU at a place is that of the SDU at this place among those that were taken in this life, and
+-- its COUNT lies so far above the first one
+pub record IsWritten (first earlier : ℕ) (sdus : List (List ℕ)) (kind : PdcpKind) (p : Protection)
+    (place : ℕ) (x : Next) : Type 0 where
   pub sdu : List ℕ
   pub some : sdu ≢ []
   pub taken : slice_get sdus (earlier + place) ≡ Some sdu
@@ -24,17 +28,21 @@ pub record IsWritten (first earlier : ℕ) (sdus : List (List ℕ)) (kind : Pdcp
   pub octets : x.octets ≡ pdu kind p (first + place) sdu
 
 abbrev pub AreWritten : Flow → Type 0
-AreWritten f = (place : ℕ) (x : Next) → slice_get f.stream place ≡ Some x → IsWritten f.first f.earlier f.sdus f.sender.kind f.sender.protection place x
+AreWritten f = (place : ℕ) (x : Next) → slice_get f.stream place ≡ Some x
+    → IsWritten f.first f.earlier f.sdus f.sender.kind f.sender.protection place x
 
 -- whatever is lost
 abbrev pub WritesEachCount : Type 0
-WritesEachCount = (bits : ℕ) (p : Protection) (first : ℕ) (events : List Event) → first ≤ 2 ^ 32 → AreGiven (outset bits p first) events
+WritesEachCount = (bits : ℕ) (p : Protection) (first : ℕ) (events : List Event) → first ≤ 2 ^ 32
+    → AreGiven (outset bits p first) events
     → AreWritten (run events (outset bits p first))
 
 -- ---- as it is read
 
--- octets are found to be those of a COUNT, which open to an SDU; it goes up, and the next COUNT is expected
-pub record AreReadAs (r : Receiving) (octets : List ℕ) (cause : Cause) (count : ℕ) (sdu : List ℕ) : Type 0 where
+-- octets are found to be those of a COUNT, which open to an SDU; it goes up, and the next COUNT is
+-- expected
+pub record AreReadAs (r : Receiving) (octets : List ℕ) (cause : Cause) (count : ℕ)
+    (sdu : List ℕ) : Type 0 where
   pub sn : ℕ
   pub body : List ℕ
   pub heard_as : heard r.kind octets ≡ Data sn body
@@ -52,9 +60,12 @@ pub record IsReadAt (f : Flow) (cause : Cause) (place : ℕ) : Type 0 where
 
 -- where the losses are short, also that before it
 abbrev pub ReadsEachCount : Type 0
-ReadsEachCount = (bits : ℕ) (p : Protection) (first : ℕ) (events : List Event) (cause : Cause) (place : ℕ) → IsKind (Um bits) → first ≤ 2 ^ 32
+ReadsEachCount =
+    (bits : ℕ) (p : Protection) (first : ℕ) (events : List Event) (cause : Cause) (place : ℕ)
+    → IsKind (Um bits) → first ≤ 2 ^ 32
     → AreGiven (outset bits p first) events → AreShort (outset bits p first) events
-    → IsGiven (run events (outset bits p first)) (HandUp cause place) → IsShort (run events (outset bits p first)) (HandUp cause place)
+    → IsGiven (run events (outset bits p first)) (HandUp cause place)
+    → IsShort (run events (outset bits p first)) (HandUp cause place)
     → IsReadAt (run events (outset bits p first)) cause place
 
 -- it is taken for one of a lower COUNT
@@ -68,7 +79,9 @@ pub record IsMisread (f : Flow) (place : ℕ) : Type 0 where
 
 -- and so is the first one before which the loss isn't short
 abbrev pub MisreadsOthers : Type 0
-MisreadsOthers = (bits : ℕ) (p : Protection) (first : ℕ) (events : List Event) (place : ℕ) → IsKind (Um bits) → first ≤ 2 ^ 32
+MisreadsOthers = (bits : ℕ) (p : Protection) (first : ℕ) (events : List Event) (place : ℕ)
+    → IsKind (Um bits) → first ≤ 2 ^ 32
     → AreGiven (outset bits p first) events → AreShort (outset bits p first) events
-    → IsLater (run events (outset bits p first)) place → 2 ^ bits ≤ left_out (run events (outset bits p first)) place
+    → IsLater (run events (outset bits p first)) place
+    → 2 ^ bits ≤ left_out (run events (outset bits p first)) place
     → IsMisread (run events (outset bits p first)) place

@@ -1,5 +1,7 @@
 -- A data PDU that comes brings just the places of the stretch that it tells.
-use Rattle.std.proofs.Common.{◌≡◌, ◌<◌, ◌≤◌, ℕ, ◌+◌, ◌%◌, Bool, true, false, ◌&&◌, ◌||◌, ◌==◌, List, [], ◌∷◌, ◌++◌, length, slice_get, slice_range, slice_index_or, Some, Ok, nat_le, nat_lt, refl, ap, sym, subst, ◌∙◌, arith}
+use Rattle.std.proofs.Common.{◌≡◌, ◌<◌, ◌≤◌, ℕ, ◌+◌, ◌%◌, Bool, true, false, ◌&&◌, ◌||◌, ◌==◌, List, [], ◌∷◌, ◌++◌}
+use Rattle.std.proofs.Common.{length, slice_get, slice_range, slice_index_or, Some, Ok, nat_le, nat_lt, refl, ap, sym}
+use Rattle.std.proofs.Common.{subst, ◌∙◌, arith}
 use Rattle.std.proofs.lemmas.Bool.Decides.{nat_tests}
 use Rattle.rlc_pdu.specs.declared.Landed.{Landed}
 use Rattle.rlc_pdu.specs.declared.Landed.TheVariants.{Kept as Fresh, Repeat, Outside, Clash}
@@ -12,7 +14,9 @@ use Rattle.rlc_am_rx_window.proofs.PieceLemmas.{length_data}
 use Rattle.rlc_am_rx.specs.State.{State}
 use Rattle.rlc_am_rx.specs.Machine.{landed}
 use Rattle.law_rlc.specs.AmSender.Octets.{Place, segment_of}
-use Rattle.law_rlc.specs.AmReceiver.Run.{Call, Arrive, Up, Write, ExpireReorder, ExpireProhibit, TickReorder, TickProhibit, World, Came, begin, has_come, kept_after, kept_with, number_read, happens as heard_by, run as run_receiver}
+use Rattle.law_rlc.specs.AmReceiver.Run.{Call, Arrive, Up, Write, ExpireReorder, ExpireProhibit, TickReorder}
+use Rattle.law_rlc.specs.AmReceiver.Run.{TickProhibit, World, Came, begin, has_come, kept_after, kept_with, number_read}
+use Rattle.law_rlc.specs.AmReceiver.Run.{happens as heard_by, run as run_receiver}
 use Rattle.law_rlc.specs.AmReceiver.Stream.{IsPart, NoneClashes}
 use Rattle.law_rlc.proofs.AmReceiver.Clash.{none_clashes}
 use Rattle.law_rlc.specs.AmPair.Fields.{cells_of, field_of}
@@ -24,7 +28,8 @@ use Rattle.law_rlc.proofs.AmPair.Parts.{cells-length, stretch-part}
 use Rattle.law_rlc.proofs.AmPair.Reading.{read_as, stretch-read}
 use Rattle.law_rlc.proofs.AmPair.Sending.{sent-number}
 use Rattle.law_rlc.proofs.AmPair.Sound.{IsTrueCopy, IsSound}
-use Rattle.law_rlc.proofs.AmArrival.Kept.{IsNear, read_in, far_below, Landing, landing_is, repeat_held, holds_range, keeps_of, kept_below}
+use Rattle.law_rlc.proofs.AmArrival.Kept.{IsNear, read_in, far_below, Landing, landing_is, repeat_held, holds_range}
+use Rattle.law_rlc.proofs.AmArrival.Kept.{keeps_of, kept_below}
 
 -- ---- a copy that is under way, as it is read
 
@@ -34,7 +39,8 @@ pub record IsRead (sent : List (List Place)) (number : ℕ) (octets : List ℕ) 
   pub sn : pdu.sn ≡ number % 1024
   pub part : IsPart (cells_of (slice_index_or sent number [])) (piece_of pdu)
 
-pub reads_copy : (f : Flow) (c : Copy) → IsSound f → IsTrueCopy (sender f).past.sent c → IsRead (sender f).past.sent c.number c.octets
+pub reads_copy : (f : Flow) (c : Copy) → IsSound f → IsTrueCopy (sender f).past.sent c
+    → IsRead (sender f).past.sent c.number c.octets
 reads_copy f c h q =
     let ps = slice_index_or (sender f).past.sent c.number [] in
     let aired = h.aired c.number q.known in
@@ -49,13 +55,15 @@ reads_copy f c h q =
 pub cells_are : (p : AmdPdu) → length (piece_of p).cells ≡ octets_in p.elements
 cells_are p = length_data (begins_in p.fi) (ends_in p.fi) p.elements
 
-pub part_end : (ps : List Place) (p : AmdPdu) → IsPart (cells_of ps) (piece_of p) → so_of p.segment + octets_in p.elements ≤ length ps
+pub part_end : (ps : List Place) (p : AmdPdu) → IsPart (cells_of ps) (piece_of p)
+    → so_of p.segment + octets_in p.elements ≤ length ps
 part_end ps p part =
     let l = cells-length ps in
     let c = cells_are p in
     by (piece_of p).last refl l c
   where
-    by : (b : Bool) → (piece_of p).last ≡ b → length (cells_of ps) ≡ length ps → length (piece_of p).cells ≡ octets_in p.elements
+    by : (b : Bool) → (piece_of p).last ≡ b → length (cells_of ps) ≡ length ps
+        → length (piece_of p).cells ≡ octets_in p.elements
         → so_of p.segment + octets_in p.elements ≤ length ps
     by true e l c = let x = part.last e in omega (arith, x, l, c)
     by false e l c = let x = part.on e in omega (arith, x, l, c)
@@ -66,7 +74,8 @@ abbrev pub brings : AmdPdu → ℕ → ℕ → ℕ → Bool
 brings p number n i = (number == n) && (nat_le (so_of p.segment) i && nat_lt i (so_of p.segment + octets_in p.elements))
 
 -- nothing clashes
-last_clashes : (cs : List Call) (p : AmdPdu) (w : World) → NoneClashes w.state (cs ++ Arrive p ∷ []) → landed (run_receiver cs w).state p ≡ Clash → ⊥
+last_clashes : (cs : List Call) (p : AmdPdu) (w : World) → NoneClashes w.state (cs ++ Arrive p ∷ [])
+    → landed (run_receiver cs w).state p ≡ Clash → ⊥
 last_clashes [] p w n e = n.0 e
 last_clashes (Arrive q ∷ cs) p w n e = last_clashes cs p (heard_by w (Arrive q)) n.1 e
 last_clashes (Up ∷ cs) p w n e = last_clashes cs p (heard_by w Up) n e
@@ -80,14 +89,18 @@ pub is_received : (f : Flow) (octets : List ℕ) (p : AmdPdu) → am_at octets �
     → data_comes f (Some (record { number = number; octets = octets })) ≡ receives f (Arrive p)
 is_received f octets p read number = ap (λ r. data_read f r) read
 
-never_clashes : (f : Flow) (c : Copy) (p : AmdPdu) → IsSound f → IsTrueCopy (sender f).past.sent c → am_at c.octets ≡ Ok (Payload p) → landed (receiver f).state p ≡ Clash → ⊥
+never_clashes : (f : Flow) (c : Copy) (p : AmdPdu) → IsSound f → IsTrueCopy (sender f).past.sent c
+    → am_at c.octets ≡ Ok (Payload p) → landed (receiver f).state p ≡ Clash → ⊥
 never_clashes f c p h q read e =
     let sent = (sender f).past.sent in
-    let ok : IsSound (receives f (Arrive p)) = subst IsSound (is_received f c.octets p read c.number) (comes-sound f c q h) in
+    let ok : IsSound (receives f (Arrive p)) =
+    subst IsSound (is_received f c.octets p read c.number) (comes-sound f c q h) in
     last_clashes f.heard p (begin f.receiving)
-    (none_clashes (field_of sent) f.receiving (f.heard ++ Arrive p ∷ []) (are-fields sent h.aired) (ok.honest (field_of sent) (sent-field sent))) e
+    (none_clashes (field_of sent) f.receiving (f.heard ++ Arrive p ∷ []) (are-fields sent h.aired)
+    (ok.honest (field_of sent) (sent-field sent))) e
 
-pub is_near : (f : Flow) (c : Copy) (p : AmdPdu) → IsSound f → IsTrueCopy (sender f).past.sent c → p.sn ≡ c.number % 1024 → IsNear (receiver f).state p c.number
+pub is_near : (f : Flow) (c : Copy) (p : AmdPdu) → IsSound f → IsTrueCopy (sender f).past.sent c
+    → p.sn ≡ c.number % 1024 → IsNear (receiver f).state p c.number
 is_near f c p h q sn =
     let o : AreInOrder f = in-order f h in
     let t = h.top in
@@ -101,8 +114,10 @@ is_near f c p h q sn =
     record { sn = sn; from = omega (arith, a, b, t, y); below = omega (arith, l, w, n, k) }
 
 -- what is kept then
-pub keeps_brings : (f : Flow) (c : Copy) (p : AmdPdu) → IsSound f → IsTrueCopy (sender f).past.sent c → am_at c.octets ≡ Ok (Payload p) → p.sn ≡ c.number % 1024
-    → IsPart (cells_of (slice_index_or (sender f).past.sent c.number [])) (piece_of p) → (n i : ℕ) → i < length (slice_index_or (sender f).past.sent n [])
+pub keeps_brings : (f : Flow) (c : Copy) (p : AmdPdu) → IsSound f → IsTrueCopy (sender f).past.sent c
+    → am_at c.octets ≡ Ok (Payload p) → p.sn ≡ c.number % 1024
+    → IsPart (cells_of (slice_index_or (sender f).past.sent c.number [])) (piece_of p) → (n i : ℕ)
+    → i < length (slice_index_or (sender f).past.sent n [])
     → has_come (kept_with (receiver f) (Arrive p)) n i ≡ (brings p c.number n i || has_come (receiver f).kept n i)
 keeps_brings f c p h q read sn part n i lt = by (landed s p) refl
   where
@@ -124,11 +139,17 @@ keeps_brings f c p h q read sn part n i lt = by (landed s p) refl
     size : length (piece_of p).cells ≡ octets_in p.elements
     size = cells_are p
 
-    tests : (l : Landed) → landed (receiver f).state p ≡ l → Landing (nat_le 512 at) (is_repeat (slice_get slots at) (piece_of p)) (is_clash (slice_get slots at) (piece_of p)) l
-    tests l e = subst (λ (x : Landed). Landing (nat_le 512 at) (is_repeat (slice_get slots at) (piece_of p)) (is_clash (slice_get slots at) (piece_of p)) x) e
-        (landing_is (nat_le 512 at) (is_repeat (slice_get slots at) (piece_of p)) (is_clash (slice_get slots at) (piece_of p)))
+    tests : (l : Landed) → landed (receiver f).state p ≡ l
+        → Landing (nat_le 512 at) (is_repeat (slice_get slots at) (piece_of p))
+        (is_clash (slice_get slots at) (piece_of p)) l
+    tests l e =
+        subst (λ (x : Landed). Landing (nat_le 512 at) (is_repeat (slice_get slots at) (piece_of p))
+        (is_clash (slice_get slots at) (piece_of p)) x) e
+        (landing_is (nat_le 512 at) (is_repeat (slice_get slots at) (piece_of p))
+        (is_clash (slice_get slots at) (piece_of p)))
 
-    here : (b : Bool) → (c.number == n) ≡ b → (c.number ≡ n → has_come kept n i ≡ true) → has_come kept n i ≡ (brings p c.number n i || has_come kept n i)
+    here : (b : Bool) → (c.number == n) ≡ b → (c.number ≡ n → has_come kept n i ≡ true)
+        → has_come kept n i ≡ (brings p c.number n i || has_come kept n i)
     here true e all =
         let same : c.number ≡ n = grind (arith, nat_tests, e) in
         let a = all same in
@@ -136,26 +157,34 @@ keeps_brings f c p h q read sn part n i lt = by (landed s p) refl
     here false e all = grind (arith, nat_tests, e)
 
     by : (l : Landed) → landed (receiver f).state p ≡ l
-        → has_come (kept_after l (receiver f).state p (receiver f).kept) n i ≡ (brings p c.number n i || has_come (receiver f).kept n i)
+        → has_come (kept_after l (receiver f).state p (receiver f).kept) n i
+        ≡ (brings p c.number n i || has_come (receiver f).kept n i)
     by Fresh e =
         let t = (tests Fresh e).inside (λ no. cc) in
         let off : at < 512 = grind (arith, nat_tests, t) in
         let is : number_read s p ≡ c.number = read_in s p c.number near off in
-        let ends : end_of (piece_of p) ≡ so_of p.segment + octets_in p.elements = ap (λ (k : ℕ). so_of p.segment + k) size in
-        ap (λ (m : ℕ). ((m == n) && (nat_le (so_of p.segment) i && nat_lt i (end_of (piece_of p)))) || has_come kept n i) is
+        let ends : end_of (piece_of p) ≡ so_of p.segment + octets_in p.elements =
+        ap (λ (k : ℕ). so_of p.segment + k) size in
+        ap (λ (m : ℕ). ((m == n) && (nat_le (so_of p.segment) i && nat_lt i (end_of (piece_of p))))
+        || has_come kept n i) is
         ∙ ap (λ (m : ℕ). ((c.number == n) && (nat_le (so_of p.segment) i && nat_lt i m)) || has_come kept n i) ends
     by Repeat e =
         let t = (tests Repeat e).inside (λ no. cc) in
         let off : at < 512 = grind (arith, nat_tests, t) in
         let is : number_read s p ≡ c.number = read_in s p c.number near off in
         let held = repeat_held slots at (piece_of p) part.some ((tests Repeat e).again refl) in
-        let all : c.number ≡ n → so_of p.segment ≤ i → i < so_of p.segment + octets_in p.elements → has_come kept n i ≡ true = λ same a b.
-        let there' = holds_range (slot_at slots at).cells (so_of p.segment) (length (piece_of p).cells) i held a (omega (arith, b, size)) in
+        let all : c.number ≡ n → so_of p.segment ≤ i → i < so_of p.segment + octets_in p.elements
+        → has_come kept n i ≡ true = λ same a b.
+        let there' = holds_range (slot_at slots at).cells (so_of p.segment) (length (piece_of p).cells) i held a
+        (omega (arith, b, size)) in
         let number : s.window.front + at ≡ n = is ∙ same in
-        ap (λ (m : ℕ). has_come kept m i) (sym number) ∙ (sym (((keeps_of f).agrees.slots_match at).cells i) ∙ there') in
+        ap (λ (m : ℕ). has_come kept m i) (sym number)
+        ∙ (sym (((keeps_of f).agrees.slots_match at).cells i) ∙ there') in
         some (c.number == n) refl all
       where
-        some : (b : Bool) → (c.number == n) ≡ b → (c.number ≡ n → so_of p.segment ≤ i → i < so_of p.segment + octets_in p.elements → has_come kept n i ≡ true)
+        some : (b : Bool) → (c.number == n) ≡ b
+            → (c.number ≡ n → so_of p.segment ≤ i → i < so_of p.segment + octets_in p.elements
+            → has_come kept n i ≡ true)
             → has_come kept n i ≡ (brings p c.number n i || has_come kept n i)
         some true e all =
             let same : c.number ≡ n = grind (arith, nat_tests, e) in

@@ -1,5 +1,6 @@
 -- Places of the stream, and places of the fields of numbers.
-use Rattle.std.proofs.Common.{◌≡◌, ◌<◌, ◌≤◌, inl, inr, ℕ, zero, suc, ◌+◌, Bool, false, ◌&&◌, ◌||◌, ◌==◌, List, [], ◌∷◌, length, nat_le, nat_lt, slice_index, refl, ap, ◌∙◌, arith}
+use Rattle.std.proofs.Common.{◌≡◌, ◌<◌, ◌≤◌, inl, inr, ℕ, zero, suc, ◌+◌, Bool, false, ◌&&◌, ◌||◌, ◌==◌, List, [], ◌∷◌}
+use Rattle.std.proofs.Common.{length, nat_le, nat_lt, slice_index, refl, ap, ◌∙◌, arith}
 use Rattle.std.specs.List.{AllByRecursion}
 use Rattle.std.proofs.lemmas.Bool.Decides.{nat_tests}
 use Rattle.std.proofs.lemmas.Bool.{cases_lt, cases_eq}
@@ -7,7 +8,8 @@ use Rattle.law_words.specs.Stretches.{Stretch, place_of, covers, octet_has_come,
 
 -- ---- sizes one behind the other
 
-pub place_next : (sizes : List ℕ) (n : ℕ) → n < length sizes → place_of sizes (n + 1) ≡ place_of sizes n + slice_index sizes n
+pub place_next : (sizes : List ℕ) (n : ℕ) → n < length sizes
+    → place_of sizes (n + 1) ≡ place_of sizes n + slice_index sizes n
 place_next [] n lt = absurd (omega (arith, lt))
 place_next (s ∷ sizes) zero lt = by sizes
   where
@@ -39,7 +41,8 @@ abbrev pub covered : List Stretch → ℕ → ℕ → Bool
 covered [] n i = false
 covered (s ∷ came) n i = lies s n i || covered came n i
 
-covers_lies : (fields : List ℕ) (s : Stretch) (n i : ℕ) → IsWithin fields s → n < length fields → i < slice_index fields n → covers fields s (place_of fields n + i) ≡ lies s n i
+covers_lies : (fields : List ℕ) (s : Stretch) (n i : ℕ) → IsWithin fields s → n < length fields
+    → i < slice_index fields n → covers fields s (place_of fields n + i) ≡ lies s n i
 covers_lies fields s n i w known lt = elim (cases_eq s.number n) [
   | inl same ↦
       let e : place_of fields s.number ≡ place_of fields n = ap (place_of fields) same in
@@ -59,7 +62,8 @@ covers_lies fields s n i w known lt = elim (cases_eq s.number n) [
   ]
 ]
 
-pub come_covered : (fields : List ℕ) (came : List Stretch) (n i : ℕ) → AllByRecursion (IsWithin fields) came → n < length fields → i < slice_index fields n
+pub come_covered : (fields : List ℕ) (came : List Stretch) (n i : ℕ) → AllByRecursion (IsWithin fields) came
+    → n < length fields → i < slice_index fields n
     → octet_has_come fields came (place_of fields n + i) ≡ covered came n i
 come_covered fields [] n i h known lt = refl
 come_covered fields (s ∷ came) n i h known lt =
@@ -68,7 +72,8 @@ come_covered fields (s ∷ came) n i h known lt =
     ap (λ (b : Bool). b || octet_has_come fields came (place_of fields n + i)) a ∙ ap (λ (b : Bool). lies s n i || b) ih
 
 -- none lies behind all fields
-pub none_behind : (fields : List ℕ) (came : List Stretch) (place : ℕ) → AllByRecursion (IsWithin fields) came → place_of fields (length fields) ≤ place
+pub none_behind : (fields : List ℕ) (came : List Stretch) (place : ℕ) → AllByRecursion (IsWithin fields) came
+    → place_of fields (length fields) ≤ place
     → octet_has_come fields came place ≡ false
 none_behind fields [] place h le = refl
 none_behind fields (s ∷ came) place h le =
@@ -82,9 +87,11 @@ none_behind fields (s ∷ came) place h le =
 
 -- ---- all of some places
 
-pub all_from_false : (p : ℕ → Bool) (place n at : ℕ) → place ≤ at → at < place + n → p at ≡ false → all_from p place n ≡ false
+pub all_from_false : (p : ℕ → Bool) (place n at : ℕ) → place ≤ at → at < place + n → p at ≡ false
+    → all_from p place n ≡ false
 all_from_false p place zero at a b e = absurd (omega (arith, a, b))
 all_from_false p place (suc n) at a b e = elim (cases_eq place at) [
   | inl same ↦ let f : p place ≡ false = ap p same ∙ e in grind (arith, nat_tests, f)
-  | inr other ↦ let ih = all_from_false p (place + 1) n at (omega (arith, a, other)) (omega (arith, b)) e in grind (arith, nat_tests, ih)
+  | inr other ↦ let ih = all_from_false p (place + 1) n at (omega (arith, a, other)) (omega (arith, b)) e in
+      grind (arith, nat_tests, ih)
 ]

@@ -1,5 +1,7 @@
 -- The SDUs that are ready, those that come at the end and those that are confirmed, by their places.
-use Rattle.std.proofs.Common.{◌≡◌, ◌<◌, ◌≤◌, ℕ, suc, zero, ◌+◌, ◌-◌, Bool, true, false, ◌&&◌, if◌then◌else◌, List, [], ◌∷◌, ◌++◌, length, map, drop, slice_get, slice_index_or, Some, None, refl, ap, sym, subst, ◌∙◌, arith, nat_lt}
+use Rattle.std.proofs.Common.{◌≡◌, ◌<◌, ◌≤◌, ℕ, suc, zero, ◌+◌, ◌-◌, Bool, true, false, ◌&&◌, if◌then◌else◌, List, []}
+use Rattle.std.proofs.Common.{◌∷◌, ◌++◌, length, map, drop, slice_get, slice_index_or, Some, None, refl, ap, sym, subst}
+use Rattle.std.proofs.Common.{◌∙◌, arith, nat_lt}
 use Rattle.std.proofs.lemmas.Bool.Decides.{nat_tests}
 use Rattle.std.proofs.lemmas.Bool.{false_from_ne_true}
 use Rattle.std.proofs.lemmas.List.{length-append, length-map, length-drop, get_or-drop, drop-append-le, drop-map}
@@ -51,14 +53,18 @@ get-right (x ∷ xs) ys k =
     ap (λ (n : ℕ). slice_get (x ∷ (xs ++ ys)) n) e ∙ get-right xs ys k
 
 -- an SDU in sequence is the one at its place
-in-sequence-at : (sdus : List (List Place)) (k : ℕ) (x : List ℕ) → slice_get (in_sequence sdus) k ≡ Some x → IsThere sdus k × (slice_get (map octets_of sdus) k ≡ Some x)
+in-sequence-at : (sdus : List (List Place)) (k : ℕ) (x : List ℕ) → slice_get (in_sequence sdus) k ≡ Some x
+    → IsThere sdus k × (slice_get (map octets_of sdus) k ≡ Some x)
 in-sequence-at [] k x e = let no' : None ≡ Some x = e in cc
 in-sequence-at (s ∷ ss) k x e = by (all_come s) k refl (λ j. in-sequence-at ss j x) e
   where
-    by : (b : Bool) (k : ℕ) → all_come s ≡ b → ((j : ℕ) → slice_get (in_sequence ss) j ≡ Some x → IsThere ss j × (slice_get (map octets_of ss) j ≡ Some x))
-        → slice_get (if b then octets_of s ∷ in_sequence ss else []) k ≡ Some x → IsThere (s ∷ ss) k × (slice_get (map octets_of (s ∷ ss)) k ≡ Some x)
+    by : (b : Bool) (k : ℕ) → all_come s ≡ b
+        → ((j : ℕ) → slice_get (in_sequence ss) j ≡ Some x → IsThere ss j × (slice_get (map octets_of ss) j ≡ Some x))
+        → slice_get (if b then octets_of s ∷ in_sequence ss else []) k ≡ Some x
+        → IsThere (s ∷ ss) k × (slice_get (map octets_of (s ∷ ss)) k ≡ Some x)
     by true zero a rest e = (record { ends = omega arith; octets = a }, e)
-    by true (suc k) a rest e = let r = rest k e in let lt = r.0.ends in (record { ends = omega (arith, lt); octets = r.0.octets }, r.1)
+    by true (suc k) a rest e = let r = rest k e in let lt = r.0.ends in
+        (record { ends = omega (arith, lt); octets = r.0.octets }, r.1)
     by false k a rest e = let no' : None ≡ Some x = e in cc
 
 -- the first behind them isn't whole
@@ -66,7 +72,8 @@ sequence-stops : (sdus : List (List Place)) → IsThere sdus (length (in_sequenc
 sequence-stops [] t = let lt = t.ends in absurd (omega (arith, lt))
 sequence-stops (s ∷ ss) t = by (all_come s) refl (sequence-stops ss) t
   where
-    by : (b : Bool) → all_come s ≡ b → (IsThere ss (length (in_sequence ss)) → ⊥) → IsThere (s ∷ ss) (length (if b then octets_of s ∷ in_sequence ss else [])) → ⊥
+    by : (b : Bool) → all_come s ≡ b → (IsThere ss (length (in_sequence ss)) → ⊥)
+        → IsThere (s ∷ ss) (length (if b then octets_of s ∷ in_sequence ss else [])) → ⊥
     by true a rest t = let lt = t.ends in rest (record { ends = omega (arith, lt); octets = t.octets })
     by false a rest t = let no' : true ≡ false = sym t.octets ∙ a in cc
 
@@ -75,7 +82,8 @@ has-ready f h = record {
   held = ap (λ s. s.out.ready) (heard-state f);
   places = λ k sdu e.
       let at : slice_get (in_sequence (seen f)) (length (handed_up f) + k) ≡ Some sdu =
-      ap (λ (xs : List (List ℕ)). slice_get xs (length (handed_up f) + k)) (sym up) ∙ (get-right (handed_up f) (ready f) k ∙ e) in
+      ap (λ (xs : List (List ℕ)). slice_get xs (length (handed_up f) + k)) (sym up)
+      ∙ (get-right (handed_up f) (ready f) k ∙ e) in
       let r = in-sequence-at (seen f) (length (handed_up f) + k) sdu at in
       record {
         is = ap (λ (xs : List (List ℕ)). slice_get xs (length (handed_up f) + k)) first.is
@@ -83,8 +91,11 @@ has-ready f h = record {
         arrived = there-arrives (seen f) (length (handed_up f) + k) r.0;
       };
   stops = false_from_ne_true (arrives f (length (handed_up f) + length (ready f))) (λ e.
-      let n : length (handed_up f) + length (ready f) ≡ length (in_sequence (seen f)) = sym (length-append (handed_up f) (ready f)) ∙ ap (λ (xs : List (List ℕ)). length xs) up in
-      sequence-stops (seen f) (subst (λ (k : ℕ). IsThere (seen f) k) n (arrives-there (seen f) (length (handed_up f) + length (ready f)) e)));
+      let n : length (handed_up f) + length (ready f) ≡ length (in_sequence (seen f)) =
+      sym (length-append (handed_up f) (ready f)) ∙ ap (λ (xs : List (List ℕ)). length xs) up in
+      sequence-stops (seen f)
+      (subst (λ (k : ℕ). IsThere (seen f) k) n
+      (arrives-there (seen f) (length (handed_up f) + length (ready f)) e)));
 }
   where
     up : handed_up f ++ ready f ≡ in_sequence (seen f)
@@ -99,21 +110,25 @@ sequence-few : (sdus : List (List Place)) → length (in_sequence sdus) ≤ leng
 sequence-few [] = omega arith
 sequence-few (s ∷ ss) = by (all_come s) (sequence-few ss)
   where
-    by : (b : Bool) → length (in_sequence ss) ≤ length ss → length (if b then octets_of s ∷ in_sequence ss else []) ≤ length (s ∷ ss)
+    by : (b : Bool) → length (in_sequence ss) ≤ length ss
+        → length (if b then octets_of s ∷ in_sequence ss else []) ≤ length (s ∷ ss)
     by true le = omega (arith, le)
     by false le = omega arith
 
-drop-whole : (n : ℕ) (sdus : List (List Place)) → n ≤ length (in_sequence sdus) → drop n (whole_of sdus) ≡ whole_of (drop n sdus)
+drop-whole : (n : ℕ) (sdus : List (List Place)) → n ≤ length (in_sequence sdus)
+    → drop n (whole_of sdus) ≡ whole_of (drop n sdus)
 drop-whole zero sdus le = refl
 drop-whole (suc n) [] le = absurd (omega (arith, le))
 drop-whole (suc n) (s ∷ ss) le = by (all_come s) le (drop-whole n ss)
   where
-    by : (b : Bool) → suc n ≤ length (if b then octets_of s ∷ in_sequence ss else []) → (n ≤ length (in_sequence ss) → drop n (whole_of ss) ≡ whole_of (drop n ss))
+    by : (b : Bool) → suc n ≤ length (if b then octets_of s ∷ in_sequence ss else [])
+        → (n ≤ length (in_sequence ss) → drop n (whole_of ss) ≡ whole_of (drop n ss))
         → drop (suc n) (if b then octets_of s ∷ whole_of ss else whole_of ss) ≡ whole_of (drop n ss)
     by true le rest = rest (omega (arith, le))
     by false le rest = absurd (omega (arith, le))
 
-none-whole : (whole : ℕ → Bool) (n : ℕ) (xs : List (List ℕ)) → ((j : ℕ) → whole (n + j) ≡ false) → whole_from whole n xs ≡ []
+none-whole : (whole : ℕ → Bool) (n : ℕ) (xs : List (List ℕ)) → ((j : ℕ) → whole (n + j) ≡ false)
+    → whole_from whole n xs ≡ []
 none-whole whole n [] none = refl
 none-whole whole n (x ∷ xs) none =
     let z : n ≡ n + 0 = omega arith in
@@ -124,7 +139,8 @@ none-whole whole n (x ∷ xs) none =
 abbrev is_whole : List (List Place) → ℕ → Bool
 is_whole sdus k = nat_lt k (length sdus) && all_come (slice_index_or sdus k [])
 
-whole-places : (whole : ℕ → Bool) (n : ℕ) (sdus : List (List Place)) (more : List (List ℕ)) → ((j : ℕ) → whole (n + j) ≡ is_whole sdus j)
+whole-places : (whole : ℕ → Bool) (n : ℕ) (sdus : List (List Place)) (more : List (List ℕ))
+    → ((j : ℕ) → whole (n + j) ≡ is_whole sdus j)
     → whole_of sdus ≡ whole_from whole n (map octets_of sdus ++ more)
 whole-places whole n [] more same = sym (none-whole whole n more (λ j. same j ∙ none j))
   where
@@ -133,7 +149,9 @@ whole-places whole n [] more same = sym (none-whole whole n more (λ j. same j �
 whole-places whole n (s ∷ ss) more same =
     let z : n ≡ n + 0 = omega arith in
     let here : whole n ≡ all_come s = ap whole z ∙ (same 0 ∙ now) in
-    by (all_come s) (whole n) here (whole-places whole (n + 1) ss more (λ j. let e : n + 1 + j ≡ n + suc j = omega arith in ap whole e ∙ (same (suc j) ∙ later j)))
+    by (all_come s) (whole n) here
+    (whole-places whole (n + 1) ss more (λ j. let e : n + 1 + j ≡ n + suc j = omega arith in
+    ap whole e ∙ (same (suc j) ∙ later j)))
   where
     now : is_whole (s ∷ ss) 0 ≡ all_come s
     now = grind (arith, nat_tests)
@@ -143,13 +161,16 @@ whole-places whole n (s ∷ ss) more same =
 
     by : (a b : Bool) → b ≡ a → whole_of ss ≡ whole_from whole (n + 1) (map octets_of ss ++ more)
         → (if a then octets_of s ∷ whole_of ss else whole_of ss)
-        ≡ (if b then octets_of s ∷ whole_from whole (n + 1) (map octets_of ss ++ more) else whole_from whole (n + 1) (map octets_of ss ++ more))
+        ≡ (if b then octets_of s ∷ whole_from whole (n + 1) (map octets_of ss ++ more)
+        else whole_from whole (n + 1) (map octets_of ss ++ more))
     by true true e rest = ap (λ (xs : List (List ℕ)). octets_of s ∷ xs) rest
     by true false e rest = cc
     by false true e rest = cc
     by false false e rest = rest
 
-pub finish-places : (f : Flow) → IsSound f → finished (receiver f).state ≡ whole_from (arrives f) (length (handed_up f)) (drop (length (handed_up f)) (offered f))
+pub finish-places : (f : Flow) → IsSound f
+    → finished (receiver f).state ≡ whole_from (arrives f) (length (handed_up f))
+    (drop (length (handed_up f)) (offered f))
 finish-places f h =
     sym (drop-append_seam (handed_up f) (finished (receiver f).state))
     ∙ (ap (λ (xs : List (List ℕ)). drop n xs) w.whole
@@ -164,13 +185,15 @@ finish-places f h =
     w = gives-the-whole f h
 
     few : length (handed_up f) ≤ length (in_sequence (seen f))
-    few = let l = length-append (handed_up f) (ready f) in let e = ap (λ (xs : List (List ℕ)). length xs) (goes-up-in-sequence f h) in omega (arith, l, e)
+    few = let l = length-append (handed_up f) (ready f) in
+        let e = ap (λ (xs : List (List ℕ)). length xs) (goes-up-in-sequence f h) in omega (arith, l, e)
 
     dropped : (j : ℕ) → is_whole (drop n (seen f)) j ≡ arrives f (n + j)
     dropped j =
         let a = get_or-drop n (seen f) j [] in let l = length-drop n (seen f) in
         ap (λ (s : List Place). nat_lt j (length (drop n (seen f))) && all_come s) a
-        ∙ ap (λ (b : Bool). b && all_come (slice_index_or (seen f) (n + j) [])) (below (length (drop n (seen f))) (length (seen f)) l)
+        ∙ ap (λ (b : Bool). b && all_come (slice_index_or (seen f) (n + j) []))
+        (below (length (drop n (seen f))) (length (seen f)) l)
       where
         below : (a b : ℕ) → a ≡ b - n → nat_lt j a ≡ nat_lt (n + j) b
         below a b l = grind (arith, nat_tests)
@@ -186,14 +209,18 @@ finish-places f h =
 
 times-at : (ps : List ℕ) (k place : ℕ) → slice_get ps k ≡ Some place → 0 < times place ps
 times-at [] k place e = let no' : None ≡ Some place = e in cc
-times-at (p ∷ ps) zero place e = let same : Some p ≡ Some place = e in let is : p ≡ place = cc in grind (arith, nat_tests)
+times-at (p ∷ ps) zero place e = let same : Some p ≡ Some place = e in let is : p ≡ place = cc in
+    grind (arith, nat_tests)
 times-at (p ∷ ps) (suc k) place e = let ih = times-at ps k place e in omega (arith, ih)
 
-pub confirms-arrived : (f : Flow) (k place : ℕ) → IsSound f → slice_get (sender f).state.accounts.news k ≡ Some place → (arrives f place ≡ true) × (place < length (offered f))
+pub confirms-arrived : (f : Flow) (k place : ℕ) → IsSound f → slice_get (sender f).state.accounts.news k ≡ Some place
+    → (arrives f place ≡ true) × (place < length (offered f))
 confirms-arrived f k place h e =
     let same : (confirmations f).state ≡ (sender f).state =
-    same-state confirmations_after octets_after f.sent (begun f.sending unconfirmed) (begun f.sending nothing_sent) refl in
-    let news : slice_get (confirmations f).state.accounts.news k ≡ Some place = ap (λ (s : Sending). slice_get s.accounts.news k) same ∙ e in
+    same-state confirmations_after octets_after f.sent (begun f.sending unconfirmed) (begun f.sending nothing_sent)
+    refl in
+    let news : slice_get (confirmations f).state.accounts.news k ≡ Some place =
+    ap (λ (s : Sending). slice_get s.accounts.news k) same ∙ e in
     let a = times-append place (confirmations f).past.given (confirmations f).state.accounts.news in
     let b = times-at (confirmations f).state.accounts.news k place news in
     let r : Arrives f place = confirmed-there f place h (omega (arith, a, b)) in
@@ -206,5 +233,6 @@ pub is-offered : (f : Flow) → IsSound f → IsOffered f
 is-offered f h = record {
   more = λ s. step-offers f s;
   fresh = λ sdu given. arrivals-same f (Sends (Offer sdu)) (length (offered f)) h given refl
-      ∙ false_from_ne_true (arrives f (length (offered f))) (λ e. let lt = arrived-offered f (length (offered f)) h e in absurd (omega (arith, lt)));
+      ∙ false_from_ne_true (arrives f (length (offered f))) (λ e. let lt =
+      arrived-offered f (length (offered f)) h e in absurd (omega (arith, lt)));
 }

@@ -1,5 +1,6 @@
 -- Any steps keep what holds of a flow.
-use Rattle.std.proofs.Common.{◌≡◌, ℕ, suc, zero, Bool, false, List, [], ◌∷◌, length, Option, Some, None, slice_get, refl, sym, subst, arith}
+use Rattle.std.proofs.Common.{◌≡◌, ℕ, suc, zero, Bool, false, List, [], ◌∷◌, length, Option, Some, None, slice_get}
+use Rattle.std.proofs.Common.{refl, sym, subst, arith}
 use Rattle.std.specs.List.{AllByRecursion}
 use Rattle.l2_types.specs.declared.config.AmTxConfig.{AmTxConfig}
 use Rattle.l2_types.specs.declared.AmRxConfig.{AmRxConfig}
@@ -11,7 +12,9 @@ use Rattle.law_rlc.proofs.AmSender.Watches.{watches}
 use Rattle.law_rlc.proofs.AmSender.Writes.{start-keeps}
 use Rattle.law_rlc.specs.AmReceiver.Run.{Came}
 use Rattle.law_rlc.proofs.AmReceiver.Clash.{none_clashes}
-use Rattle.law_rlc.specs.AmPair.Flow.{Copy, Report, Flow, Step, Sends, Receives, Reports, DataComes, StatusComes, DataGoes, StatusGoes, Passes, sender, receiver, except, older, data_comes, status_comes, happens, goes, outset}
+use Rattle.law_rlc.specs.AmPair.Flow.{Copy, Report, Flow, Step, Sends, Receives, Reports, DataComes, StatusComes}
+use Rattle.law_rlc.specs.AmPair.Flow.{DataGoes, StatusGoes, Passes, sender, receiver, except, older, data_comes}
+use Rattle.law_rlc.specs.AmPair.Flow.{status_comes, happens, goes, outset}
 use Rattle.law_rlc.specs.AmPair.Given.{IsYoung, IsGiven, AreGiven}
 use Rattle.law_rlc.specs.AmPair.Fields.{field_of, HearsWhatWasSent, NothingClashes}
 use Rattle.law_rlc.specs.AmPair.Numbers.{KeepsOrder, AckedHasArrived}
@@ -19,7 +22,8 @@ use Rattle.law_rlc.specs.AmPair.Statuses.{IsReadRight, ReadsEachNumber}
 use Rattle.law_rlc.specs.AmPair.Confirmed.{ConfirmedArrives}
 use Rattle.law_rlc.specs.AmPair.Sdus.{HandsUpTheFront}
 use Rattle.law_rlc.specs.AmPair.Seen.{HandsUpInSequence, FinishGivesTheWhole}
-use Rattle.law_rlc.specs.AmPair.Arrives.{ArrivedWasOffered, ArrivalsStay, OnlyDataArrives, NextIsReady, FinishGivesByPlaces, ConfirmsWhatArrived}
+use Rattle.law_rlc.specs.AmPair.Arrives.{ArrivedWasOffered, ArrivalsStay, OnlyDataArrives, NextIsReady}
+use Rattle.law_rlc.specs.AmPair.Arrives.{FinishGivesByPlaces, ConfirmsWhatArrived}
 use Rattle.law_rlc.specs.AmPair.Steps.{OffersAreSent}
 use Rattle.law_rlc.specs.AmPair.Left.{HandsUpAll}
 use Rattle.law_rlc.specs.AmPair.Watched.{PollTimerRuns}
@@ -41,7 +45,8 @@ use Rattle.law_rlc.proofs.AmPair.Statuses.{read-right, reports-sound, status-sou
 
 -- ---- what is under way
 
-each-at : {A : Type 0} (P : A → Type 0) (xs : List A) (k : ℕ) (x : A) → AllByRecursion P xs → slice_get xs k ≡ Some x → P x
+each-at : {A : Type 0} (P : A → Type 0) (xs : List A) (k : ℕ) (x : A) → AllByRecursion P xs → slice_get xs k ≡ Some x
+    → P x
 each-at P [] k x h e = let no' : None ≡ Some x = e in cc
 each-at P (y ∷ ys) zero x h e = let same : Some y ≡ Some x = e in let is : y ≡ x = cc in subst P is h.0
 each-at P (y ∷ ys) (suc k) x h e = each-at P ys k x h.1 e
@@ -51,17 +56,21 @@ each-except P k [] h = h
 each-except P zero (x ∷ xs) h = h.1
 each-except P (suc k) (x ∷ xs) h = (h.0, each-except P k xs h.1)
 
-data-sound : (f : Flow) (o : Option Copy) → ((c : Copy) → o ≡ Some c → IsTrueCopy (sender f).past.sent c) → IsSound f → IsSound (data_comes f o)
+data-sound : (f : Flow) (o : Option Copy) → ((c : Copy) → o ≡ Some c → IsTrueCopy (sender f).past.sent c) → IsSound f
+    → IsSound (data_comes f o)
 data-sound f None at h = h
 data-sound f (Some c) at h = comes-sound f c (at c refl) h
 
-report-sound : (f : Flow) (o : Option Report) → ((r : Report) → o ≡ Some r → IsTrueReport (receiver f).kept (length (sender f).past.sent) f.busy r) → ((r : Report) → o ≡ Some r → HasTrueEntries (sender f).past.sent r)
+report-sound : (f : Flow) (o : Option Report)
+    → ((r : Report) → o ≡ Some r → IsTrueReport (receiver f).kept (length (sender f).past.sent) f.busy r)
+    → ((r : Report) → o ≡ Some r → HasTrueEntries (sender f).past.sent r)
     → IsSound f → IsSound (status_comes f o)
 report-sound f None at names h = h
 report-sound f (Some r) at names h = status-sound f r (at r refl) (names r refl) h
 
 -- a TTI later
-reports-older : (kept : List Came) (next : ℕ) (busy : Bool) (rs : List Report) → AllByRecursion IsYoung rs → AllByRecursion (IsTrueReport kept next busy) rs → AllByRecursion (IsTrueReport kept next false) (older rs)
+reports-older : (kept : List Came) (next : ℕ) (busy : Bool) (rs : List Report) → AllByRecursion IsYoung rs
+    → AllByRecursion (IsTrueReport kept next busy) rs → AllByRecursion (IsTrueReport kept next false) (older rs)
 reports-older kept next busy [] y h = tt
 reports-older kept next busy (r ∷ rs) y h =
     let q = h.0 in let young = q.young in let few = at-most-one busy in let a = y.0 in (
@@ -76,7 +85,8 @@ reports-older kept next busy (r ∷ rs) y h =
       reports-older kept next busy rs y.1 h.1,
     )
 
-entries-older : (sent : List (List Place)) (rs : List Report) → AllByRecursion (HasTrueEntries sent) rs → AllByRecursion (HasTrueEntries sent) (older rs)
+entries-older : (sent : List (List Place)) (rs : List Report) → AllByRecursion (HasTrueEntries sent) rs
+    → AllByRecursion (HasTrueEntries sent) (older rs)
 entries-older sent [] h = tt
 entries-older sent (r ∷ rs) h = (record { below = h.0.below; octets = h.0.octets }, entries-older sent rs h.1)
 
@@ -86,8 +96,11 @@ pub happens-sound : (f : Flow) (s : Step) → IsGiven f s → IsSound f → IsSo
 happens-sound f (Sends c) g h = sends-sound f c g h
 happens-sound f (Receives c) g h = receives-sound f c g h
 happens-sound f (Reports size octets) g h = reports-sound f size octets g h
-happens-sound f (DataComes k) g h = data-sound f (slice_get f.copies k) (λ c e. each-at (IsTrueCopy (sender f).past.sent) f.copies k c h.copies e) h
-happens-sound f (StatusComes k) g h = report-sound f (slice_get f.reports k) (λ r e. each-at (IsTrueReport (receiver f).kept (length (sender f).past.sent) f.busy) f.reports k r h.reports e)
+happens-sound f (DataComes k) g h =
+    data-sound f (slice_get f.copies k) (λ c e. each-at (IsTrueCopy (sender f).past.sent) f.copies k c h.copies e) h
+happens-sound f (StatusComes k) g h =
+    report-sound f (slice_get f.reports k)
+    (λ r e. each-at (IsTrueReport (receiver f).kept (length (sender f).past.sent) f.busy) f.reports k r h.reports e)
     (λ r e. each-at (HasTrueEntries (sender f).past.sent) f.reports k r h.entries e) h
 happens-sound f (DataGoes k) g h = record {
   offered = h.offered;
@@ -156,74 +169,97 @@ outset-sound sending receiving = record {
   honest = λ field agree. tt;
 }
 
-pub sound : (sending : AmTxConfig) (receiving : AmRxConfig) (steps : List Step) → AreGiven (outset sending receiving) steps → IsSound (goes steps (outset sending receiving))
+pub sound : (sending : AmTxConfig) (receiving : AmRxConfig) (steps : List Step)
+    → AreGiven (outset sending receiving) steps → IsSound (goes steps (outset sending receiving))
 sound sending receiving steps g = goes-sound steps (outset sending receiving) g (outset-sound sending receiving)
 
 -- ---- the laws
 
 pub keeps-order : KeepsOrder
-keeps-order sending receiving steps g = in-order (goes steps (outset sending receiving)) (sound sending receiving steps g)
+keeps-order sending receiving steps g =
+    in-order (goes steps (outset sending receiving)) (sound sending receiving steps g)
 
 pub acked-has-arrived : AckedHasArrived
-acked-has-arrived sending receiving steps n g a = has-arrived (goes steps (outset sending receiving)) n (sound sending receiving steps g) a
+acked-has-arrived sending receiving steps n g a =
+    has-arrived (goes steps (outset sending receiving)) n (sound sending receiving steps g) a
 
 pub reads-each-number : ReadsEachNumber
 reads-each-number sending receiving steps g =
     let f : Flow = goes steps (outset sending receiving) in
     let h : IsSound (goes steps (outset sending receiving)) = sound sending receiving steps g in
-    each (IsTrueReport (receiver f).kept (length (sender f).past.sent) f.busy) (IsReadRight (sender f).state) (λ r q. read-right (goes steps (outset sending receiving)) h r q) f.reports h.reports
+    each (IsTrueReport (receiver f).kept (length (sender f).past.sent) f.busy) (IsReadRight (sender f).state)
+    (λ r q. read-right (goes steps (outset sending receiving)) h r q) f.reports h.reports
 
 pub nothing-clashes : NothingClashes
 nothing-clashes sending receiving steps g =
     let h : IsSound (goes steps (outset sending receiving)) = sound sending receiving steps g in
-    none_clashes (field_of (sender (goes steps (outset sending receiving))).past.sent) (goes steps (outset sending receiving)).receiving (goes steps (outset sending receiving)).heard
-    (are-fields (sender (goes steps (outset sending receiving))).past.sent h.aired) (h.honest (field_of (sender (goes steps (outset sending receiving))).past.sent) (sent-field (sender (goes steps (outset sending receiving))).past.sent))
+    none_clashes (field_of (sender (goes steps (outset sending receiving))).past.sent)
+    (goes steps (outset sending receiving)).receiving (goes steps (outset sending receiving)).heard
+    (are-fields (sender (goes steps (outset sending receiving))).past.sent h.aired)
+    (h.honest (field_of (sender (goes steps (outset sending receiving))).past.sent)
+    (sent-field (sender (goes steps (outset sending receiving))).past.sent))
 
 pub hears-what-was-sent : HearsWhatWasSent
 hears-what-was-sent sending receiving steps g =
     let h : IsSound (goes steps (outset sending receiving)) = sound sending receiving steps g in
     record {
       stream = flow-stream (goes steps (outset sending receiving)) h;
-      parts = h.honest (field_of (sender (goes steps (outset sending receiving))).past.sent) (sent-field (sender (goes steps (outset sending receiving))).past.sent);
+      parts = h.honest (field_of (sender (goes steps (outset sending receiving))).past.sent)
+          (sent-field (sender (goes steps (outset sending receiving))).past.sent);
     }
 
 pub hands-up-the-front : HandsUpTheFront
-hands-up-the-front sending receiving steps g = hands-up (goes steps (outset sending receiving)) (sound sending receiving steps g)
+hands-up-the-front sending receiving steps g =
+    hands-up (goes steps (outset sending receiving)) (sound sending receiving steps g)
 
 pub finish-gives-the-whole : FinishGivesTheWhole
-finish-gives-the-whole sending receiving steps g = gives-the-whole (goes steps (outset sending receiving)) (sound sending receiving steps g)
+finish-gives-the-whole sending receiving steps g =
+    gives-the-whole (goes steps (outset sending receiving)) (sound sending receiving steps g)
 
 pub confirmed-arrives : ConfirmedArrives
-confirmed-arrives sending receiving steps place g some = arrives (goes steps (outset sending receiving)) place (sound sending receiving steps g) some
+confirmed-arrives sending receiving steps place g some =
+    arrives (goes steps (outset sending receiving)) place (sound sending receiving steps g) some
 
 pub hands-up-in-sequence : HandsUpInSequence
-hands-up-in-sequence sending receiving steps g = goes-up-in-sequence (goes steps (outset sending receiving)) (sound sending receiving steps g)
+hands-up-in-sequence sending receiving steps g =
+    goes-up-in-sequence (goes steps (outset sending receiving)) (sound sending receiving steps g)
 
 pub arrived-was-offered : ArrivedWasOffered
-arrived-was-offered sending receiving steps g = λ place e. arrived-offered (goes steps (outset sending receiving)) place (sound sending receiving steps g) e
+arrived-was-offered sending receiving steps g =
+    λ place e. arrived-offered (goes steps (outset sending receiving)) place (sound sending receiving steps g) e
 
 pub arrived-stays : ArrivalsStay
-arrived-stays sending receiving steps g = λ s place given e. arrivals-stay (goes steps (outset sending receiving)) s place (sound sending receiving steps g) given e
+arrived-stays sending receiving steps g =
+    λ s place given e. arrivals-stay (goes steps (outset sending receiving)) s place (sound sending receiving steps g)
+    given e
 
 pub only-data-arrives : OnlyDataArrives
-only-data-arrives sending receiving steps g = λ s place given e. arrivals-same (goes steps (outset sending receiving)) s place (sound sending receiving steps g) given e
+only-data-arrives sending receiving steps g =
+    λ s place given e. arrivals-same (goes steps (outset sending receiving)) s place (sound sending receiving steps g)
+    given e
 
 pub next-is-ready : NextIsReady
-next-is-ready sending receiving steps g = has-ready (goes steps (outset sending receiving)) (sound sending receiving steps g)
+next-is-ready sending receiving steps g =
+    has-ready (goes steps (outset sending receiving)) (sound sending receiving steps g)
 
 pub finish-gives-by-places : FinishGivesByPlaces
-finish-gives-by-places sending receiving steps g = finish-places (goes steps (outset sending receiving)) (sound sending receiving steps g)
+finish-gives-by-places sending receiving steps g =
+    finish-places (goes steps (outset sending receiving)) (sound sending receiving steps g)
 
 pub confirms-what-arrived : ConfirmsWhatArrived
-confirms-what-arrived sending receiving steps g = λ k place e. confirms-arrived (goes steps (outset sending receiving)) k place (sound sending receiving steps g) e
+confirms-what-arrived sending receiving steps g =
+    λ k place e. confirms-arrived (goes steps (outset sending receiving)) k place (sound sending receiving steps g) e
 
 pub offers-are-sent : OffersAreSent
-offers-are-sent sending receiving steps g = is-offered (goes steps (outset sending receiving)) (sound sending receiving steps g)
+offers-are-sent sending receiving steps g =
+    is-offered (goes steps (outset sending receiving)) (sound sending receiving steps g)
 
 pub hands-up-all : HandsUpAll
-hands-up-all sending receiving steps g = has-all-up (goes steps (outset sending receiving)) (sound sending receiving steps g)
+hands-up-all sending receiving steps g =
+    has-all-up (goes steps (outset sending receiving)) (sound sending receiving steps g)
 
 pub poll-timer-runs : PollTimerRuns
 poll-timer-runs sending receiving steps g =
     let f : Flow = goes steps (outset sending receiving) in
-    subst (λ (s : State). IsWatched s) (sym (sender-state f)) (watches f.sending f.sent (sound sending receiving steps g).fair)
+    subst (λ (s : State). IsWatched s) (sym (sender-state f))
+    (watches f.sending f.sent (sound sending receiving steps g).fair)

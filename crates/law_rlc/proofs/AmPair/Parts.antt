@@ -1,5 +1,6 @@
 -- A data PDU carries a part of the field that its number was sent with.
-use Rattle.std.proofs.Common.{◌≡◌, ◌<◌, ◌≤◌, ℕ, suc, zero, ◌+◌, ◌-◌, Bool, true, false, ◌==◌, if◌then◌else◌, List, [], ◌∷◌, length, slice_range, slice_get, Some, None, refl, ap, sym, subst, ◌∙◌, arith}
+use Rattle.std.proofs.Common.{◌≡◌, ◌<◌, ◌≤◌, ℕ, suc, zero, ◌+◌, ◌-◌, Bool, true, false, ◌==◌, if◌then◌else◌, List, []}
+use Rattle.std.proofs.Common.{◌∷◌, length, slice_range, slice_get, Some, None, refl, ap, sym, subst, ◌∙◌, arith}
 use Rattle.std.proofs.lemmas.Bool.Decides.{nat_tests}
 use Rattle.std.proofs.lemmas.List.{length-map}
 use Rattle.rlc_queue.specs.NewPdu.{framing}
@@ -43,13 +44,15 @@ aired-field ps a = record {
 
 -- ---- a stretch of a field
 
-joined-range : (ps : List Place) (from to : ℕ) → Joined ps → from < to → to ≤ length ps → Joined (slice_range ps from to)
+joined-range : (ps : List Place) (from to : ℕ) → Joined ps → from < to → to ≤ length ps
+    → Joined (slice_range ps from to)
 joined-range ps from to j lt le = by (slice_range ps from to) 0 (λ i l. here i (omega (arith, l, long)))
   where
     long : length (slice_range ps from to) ≡ to - from
     long = range-length ps from to le
 
-    here : (i : ℕ) → i + 1 < to - from → (place_at (slice_range ps from to) i).ends ≡ (place_at (slice_range ps from to) (i + 1)).begins
+    here : (i : ℕ) → i + 1 < to - from → (place_at (slice_range ps from to) i).ends
+        ≡ (place_at (slice_range ps from to) (i + 1)).begins
     here i l =
         let n : from + i + 1 ≡ from + (i + 1) = omega arith in
         ap (λ (p : Place). p.ends) (range-at ps from to i nowhere (omega arith))
@@ -57,23 +60,32 @@ joined-range ps from to j lt le = by (slice_range ps from to) 0 (λ i l. here i 
         ∙ (ap (λ (k : ℕ). (place_at ps k).begins) n
         ∙ sym (ap (λ (p : Place). p.begins) (range-at ps from to (i + 1) nowhere l))))
 
-    by : (qs : List Place) (z : ℕ) → ((i : ℕ) → i + 1 < length qs → (place_at qs i).ends ≡ (place_at qs (i + 1)).begins) → Joined qs
+    by : (qs : List Place) (z : ℕ)
+        → ((i : ℕ) → i + 1 < length qs → (place_at qs i).ends ≡ (place_at qs (i + 1)).begins) → Joined qs
     by [] z h = tt
     by (p ∷ []) z h = tt
-    by (p ∷ q ∷ qs) z h = (h 0 (omega arith), by (q ∷ qs) z (λ i l. let n : suc i + 1 ≡ suc (i + 1) = omega arith in subst (λ (k : ℕ). (place_at (p ∷ q ∷ qs) (suc i)).ends ≡ (place_at (p ∷ q ∷ qs) k).begins) n (h (suc i) (omega (arith, l)))))
+    by (p ∷ q ∷ qs) z h = (
+      h 0 (omega arith),
+      by (q ∷ qs) z (λ i l. let n : suc i + 1 ≡ suc (i + 1) = omega arith in
+          subst (λ (k : ℕ). (place_at (p ∷ q ∷ qs) (suc i)).ends ≡ (place_at (p ∷ q ∷ qs) k).begins) n
+          (h (suc i) (omega (arith, l)))),
+    )
 
 so-is : (from to size : ℕ) → from < to → to ≤ size → so_of (segment_of from to size) ≡ from
 so-is from to size lt le = by (to - from == size) refl
   where
-    by : (b : Bool) → (to - from == size) ≡ b → so_of (if b then None else Some (record { last = to == size; so = from })) ≡ from
+    by : (b : Bool) → (to - from == size) ≡ b
+        → so_of (if b then None else Some (record { last = to == size; so = from })) ≡ from
     by true e = let n : to - from ≡ size = grind (arith, nat_tests) in omega (arith, n, lt, le)
     by false e = refl
 
 last-is : (from to size : ℕ) → from < to → to ≤ size → is_last (segment_of from to size) ≡ (to == size)
 last-is from to size lt le = by (to - from == size) refl
   where
-    by : (b : Bool) → (to - from == size) ≡ b → is_last (if b then None else Some (record { last = to == size; so = from })) ≡ (to == size)
-    by true e = let n : to - from ≡ size = grind (arith, nat_tests) in let m : to ≡ size = omega (arith, n, lt, le) in grind (arith, nat_tests)
+    by : (b : Bool) → (to - from == size) ≡ b
+        → is_last (if b then None else Some (record { last = to == size; so = from })) ≡ (to == size)
+    by true e = let n : to - from ≡ size = grind (arith, nat_tests) in let m : to ≡ size = omega (arith, n, lt, le) in
+        grind (arith, nat_tests)
     by false e = refl
 
 -- the piece that is read of a stretch
@@ -116,8 +128,12 @@ stretch-part number poll ps from to a lt le = record {
 
     cells : p.cells ≡ cells_of (slice_range ps from to)
     cells =
-        ap (λ (b : Bool). data_cells b (ends_in (framing (first_begins qs) (last_ends qs))) (read_as number poll (segment_of from to (length ps)) qs).elements) (framing-begins (first_begins qs) (last_ends qs))
-        ∙ (ap (λ (b : Bool). data_cells (first_begins qs) b (read_as number poll (segment_of from to (length ps)) qs).elements) (framing-ends (first_begins qs) (last_ends qs))
+        ap (λ (b : Bool). data_cells b (ends_in (framing (first_begins qs) (last_ends qs)))
+        (read_as number poll (segment_of from to (length ps)) qs).elements)
+        (framing-begins (first_begins qs) (last_ends qs))
+        ∙ (ap (λ (b : Bool). data_cells (first_begins qs) b
+        (read_as number poll (segment_of from to (length ps)) qs).elements)
+        (framing-ends (first_begins qs) (last_ends qs))
         ∙ cells-read qs (omega (arith, long, lt)) joined)
 
     count : length p.cells ≡ to - from

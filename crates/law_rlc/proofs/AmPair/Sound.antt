@@ -1,12 +1,14 @@
 -- What holds of a flow along any steps.
-use Rattle.std.proofs.Common.{◌≡◌, ◌<◌, ◌≤◌, ℕ, ◌+◌, ◌%◌, Bool, true, false, List, [], ◌∷◌, ◌++◌, length, map, slice_range, slice_index_or, Ok, sym, subst, arith}
+use Rattle.std.proofs.Common.{◌≡◌, ◌<◌, ◌≤◌, ℕ, ◌+◌, ◌%◌, Bool, true, false, List, [], ◌∷◌, ◌++◌, length, map}
+use Rattle.std.proofs.Common.{slice_range, slice_index_or, Ok, sym, subst, arith}
 use Rattle.std.specs.List.{AllByRecursion}
 use Rattle.rlc_pdu.specs.Pdus.{Status as Control}
 use Rattle.rlc_pdu.specs.Reading.{am_at}
 use Rattle.rlc_am_rx_window.specs.Cells.{Cell}
 use Rattle.rlc_am_rx_window.specs.Window.{top}
 use Rattle.rlc_am_tx.specs.Machine.{State, start}
-use Rattle.law_rlc.specs.AmSender.Run.{Call as SenderCall, Offer, Take, Status, Tick, Expire, Settle, Confirm, World as SenderWorld, run as run_sender, begun}
+use Rattle.law_rlc.specs.AmSender.Run.{Call as SenderCall, Offer, Take, Status, Tick, Expire, Settle, Confirm}
+use Rattle.law_rlc.specs.AmSender.Run.{World as SenderWorld, run as run_sender, begun}
 use Rattle.law_rlc.specs.AmSender.Namings.{in_part}
 use Rattle.law_rlc.specs.AmSender.Watched.{IsFair, AreFair}
 use Rattle.law_rlc.specs.AmSender.Octets.{Place, Octets, octets_after, written, segment_of, HasOctets}
@@ -15,7 +17,8 @@ use Rattle.law_rlc.proofs.AmSender.Least.{Fits}
 use Rattle.law_rlc.proofs.AmSender.Writes.{Keeps}
 use Rattle.rlc_am_rx_window.specs.declared.missing.Missing.{Missing}
 use Rattle.rlc_am_rx.specs.Status.{nack_of}
-use Rattle.law_rlc.specs.AmReceiver.Run.{Call as ReceiverCall, World as ReceiverWorld, Came, happens as heard_by, IsComplete}
+use Rattle.law_rlc.specs.AmReceiver.Run.{Call as ReceiverCall, World as ReceiverWorld, Came, happens as heard_by}
+use Rattle.law_rlc.specs.AmReceiver.Run.{IsComplete}
 use Rattle.law_rlc.specs.AmReceiver.Status.{BringSome, has_entry}
 use Rattle.law_rlc.specs.AmReceiver.Stream.{IsPart, AreHonest, initial}
 use Rattle.law_rlc.specs.AmPair.Flow.{Copy, Report, Flow, sender, receiver}
@@ -37,7 +40,8 @@ pub record IsTrueCopy (sent : List (List Place)) (c : Copy) : Type 0 where
   pub poll : Bool
   pub some : from < to
   pub within : to ≤ length (slice_index_or sent c.number [])
-  pub is : c.octets ≡ written c.number poll (segment_of from to (length (slice_index_or sent c.number []))) (slice_range (slice_index_or sent c.number []) from to)
+  pub is : c.octets ≡ written c.number poll (segment_of from to (length (slice_index_or sent c.number [])))
+      (slice_range (slice_index_or sent c.number []) from to)
 
 abbrev pub one : Bool → ℕ
 one true = 1
@@ -47,7 +51,8 @@ pub at-most-one : (b : Bool) → one b ≤ 1
 at-most-one true = omega arith
 at-most-one false = omega arith
 
--- a STATUS under way: below its ACK each number without an entry is complete, and VT(S) went up by at most one in each TTI since
+-- a STATUS under way: below its ACK each number without an entry is complete, and VT(S) went up by at most one in each
+-- TTI since
 pub record IsTrueReport (kept : List Came) (next : ℕ) (busy : Bool) (r : Report) : Type 0 where
   pub reads : am_at r.octets ≡ Ok (Control (record { ack = r.ack % 1024; nacks = map nack_of r.entries }))
   pub known : r.ack ≤ next
@@ -106,33 +111,45 @@ has-octets s (Expire more) fair = tt
 has-octets s (Settle more) fair = tt
 has-octets s Confirm fair = tt
 
-pub stays-fair : (f : Flow) (c : SenderCall) → IsSound f → IsFair (sender f).state c → AreFair (start f.sending) (f.sent ++ c ∷ [])
-stays-fair f c h fair = fair-more f.sent c (start f.sending) h.fair (subst (λ (s : State). IsFair s c) (sender-state f) fair)
+pub stays-fair : (f : Flow) (c : SenderCall) → IsSound f → IsFair (sender f).state c
+    → AreFair (start f.sending) (f.sent ++ c ∷ [])
+stays-fair f c h fair =
+    fair-more f.sent c (start f.sending) h.fair (subst (λ (s : State). IsFair s c) (sender-state f) fair)
 
 pub sent-sound : (f : Flow) (c : SenderCall) (copies : List Copy) (busy : Bool)
-    → Sound (called octets_after (sender f) c) (acked_after (sender f).state c (is_acked f)) (receiver f) (record f { sent = f.sent ++ c ∷ []; copies = copies; busy = busy })
+    → Sound (called octets_after (sender f) c) (acked_after (sender f).state c (is_acked f)) (receiver f)
+    (record f { sent = f.sent ++ c ∷ []; copies = copies; busy = busy })
     → IsSound (record f { sent = f.sent ++ c ∷ []; copies = copies; busy = busy })
 sent-sound f c copies busy h =
-    subst (λ (w : SenderWorld Octets). Sound w (run_sender acked_after (f.sent ++ c ∷ []) (begun f.sending (λ n. false))).past (receiver f) (record f { sent = f.sent ++ c ∷ []; copies = copies; busy = busy })) (sym (sender-more f c))
-    (subst (λ (a : ℕ → Bool). Sound (called octets_after (sender f) c) a (receiver f) (record f { sent = f.sent ++ c ∷ []; copies = copies; busy = busy })) (sym (acked-more f c)) h)
+    subst
+    (λ (w : SenderWorld Octets). Sound w
+    (run_sender acked_after (f.sent ++ c ∷ []) (begun f.sending (λ n. false))).past (receiver f)
+    (record f { sent = f.sent ++ c ∷ []; copies = copies; busy = busy })) (sym (sender-more f c))
+    (subst (λ (a : ℕ → Bool). Sound (called octets_after (sender f) c) a (receiver f)
+    (record f { sent = f.sent ++ c ∷ []; copies = copies; busy = busy })) (sym (acked-more f c)) h)
 
 pub heard-sound : (f : Flow) (c : ReceiverCall) (reports : List Report)
-    → Sound (sender f) (is_acked f) (heard_by (receiver f) c) (record f { heard = f.heard ++ c ∷ []; reports = reports })
+    → Sound (sender f) (is_acked f) (heard_by (receiver f) c)
+    (record f { heard = f.heard ++ c ∷ []; reports = reports })
     → IsSound (record f { heard = f.heard ++ c ∷ []; reports = reports })
 heard-sound f c reports h =
-    subst (λ (w : ReceiverWorld). Sound (sender f) (is_acked f) w (record f { heard = f.heard ++ c ∷ []; reports = reports })) (sym (receiver-more f c)) h
+    subst (λ (w : ReceiverWorld). Sound (sender f) (is_acked f) w
+    (record f { heard = f.heard ++ c ∷ []; reports = reports })) (sym (receiver-more f c)) h
 
 -- ---- lists of what is under way
 
-pub each : {A : Type 0} (P : A → Type 0) (Q : A → Type 0) → ((x : A) → P x → Q x) → (xs : List A) → AllByRecursion P xs → AllByRecursion Q xs
+pub each : {A : Type 0} (P : A → Type 0) (Q : A → Type 0) → ((x : A) → P x → Q x) → (xs : List A)
+    → AllByRecursion P xs → AllByRecursion Q xs
 each P Q more [] h = tt
 each P Q more (x ∷ xs) h = (more x h.0, each P Q more xs h.1)
 
 -- VT(S) goes up by one at most, and not without a new PDU
-pub reports-later : (kept : List Came) (next next' : ℕ) (busy busy' : Bool) → next ≤ next' → next' + one busy ≤ next + one busy' → (rs : List Report)
+pub reports-later : (kept : List Came) (next next' : ℕ) (busy busy' : Bool) → next ≤ next'
+    → next' + one busy ≤ next + one busy' → (rs : List Report)
     → AllByRecursion (IsTrueReport kept next busy) rs → AllByRecursion (IsTrueReport kept next' busy') rs
 reports-later kept next next' busy busy' up few rs h =
-    each (IsTrueReport kept next busy) (IsTrueReport kept next' busy') (λ r q. let a = q.known in let b = q.young in record {
+    each (IsTrueReport kept next busy) (IsTrueReport kept next' busy') (λ r q. let a = q.known in let b = q.young in
+    record {
       reads = q.reads;
       known = omega (arith, a, up);
       age = q.age;

@@ -1,5 +1,6 @@
 -- What a step makes of the SDUs offered, handed up and ready.
-use Rattle.std.proofs.Common.{◌≡◌, ℕ, Bool, true, false, List, [], ◌∷◌, ◌++◌, drop, slice_get, Option, Some, None, Result, Ok, Err, if◌then◌else◌, refl, ap, sym, subst, ◌∙◌}
+use Rattle.std.proofs.Common.{◌≡◌, ℕ, Bool, true, false, List, [], ◌∷◌, ◌++◌, drop, slice_get, Option, Some, None}
+use Rattle.std.proofs.Common.{Result, Ok, Err, if◌then◌else◌, refl, ap, sym, subst, ◌∙◌}
 use Rattle.std.proofs.lemmas.List.{append-nil}
 use Rattle.rlc_pdu.specs.declared.Landed.{Landed}
 use Rattle.rlc_pdu.specs.declared.Landed.TheVariants.{Kept as Fresh, Repeat, Outside, Clash}
@@ -13,9 +14,12 @@ use Rattle.rlc_am_rx_window.specs.Window.{handed_on}
 use Rattle.rlc_am_rx.specs.State.{State}
 use Rattle.rlc_am_rx.specs.Machine.{landed, after_landing, after_reorder, window_with}
 use Rattle.law_rlc.specs.AmSender.Run.{Call as SenderCall, Offer, Take, Status, Tick, Expire, Settle, Confirm}
-use Rattle.law_rlc.specs.AmReceiver.Run.{Call, Arrive, Up, Write, ExpireReorder, ExpireProhibit, TickReorder, TickProhibit}
+use Rattle.law_rlc.specs.AmReceiver.Run.{Call, Arrive, Up, Write, ExpireReorder, ExpireProhibit, TickReorder}
+use Rattle.law_rlc.specs.AmReceiver.Run.{TickProhibit}
 use Rattle.law_rlc.specs.AmReceiver.Stream.{Flow as Output, flows, flow, initial}
-use Rattle.law_rlc.specs.AmPair.Flow.{Copy, Report, Flow, Step, Sends, Receives, Reports, DataComes, StatusComes, DataGoes, StatusGoes, Passes, data_read, data_comes, status_read, status_comes, happens}
+use Rattle.law_rlc.specs.AmPair.Flow.{Copy, Report, Flow, Step, Sends, Receives, Reports, DataComes, StatusComes}
+use Rattle.law_rlc.specs.AmPair.Flow.{DataGoes, StatusGoes, Passes, data_read, data_comes, status_read, status_comes}
+use Rattle.law_rlc.specs.AmPair.Flow.{happens}
 use Rattle.law_rlc.specs.AmPair.Given.{IsReceiving, IsGiven}
 use Rattle.law_rlc.specs.AmPair.Sdus.{offers_with, offered_in, offered, handed_up, ready}
 use Rattle.law_words.specs.Lists.{IsFront}
@@ -34,12 +38,18 @@ output f = flow f.heard (initial f.receiving)
 
 handed-grows : (j : Joined) (slots : List Held) (given : ℕ) → IsFront j.ready (handed_on j slots given).ready
 handed-grows j [] given = front-itself j.ready
-handed-grows j (h ∷ hs) given = by (is_complete h) (joined-grows j (leading (drop given h.cells))) (handed-grows (joined j (leading (drop given h.cells))) hs 0)
+handed-grows j (h ∷ hs) given =
+    by (is_complete h) (joined-grows j (leading (drop given h.cells)))
+    (handed-grows (joined j (leading (drop given h.cells))) hs 0)
   where
     by : (b : Bool) → IsFront j.ready (joined j (leading (drop given h.cells))).ready
-        → IsFront (joined j (leading (drop given h.cells))).ready (handed_on (joined j (leading (drop given h.cells))) hs 0).ready
-        → IsFront j.ready (if b then handed_on (joined j (leading (drop given h.cells))) hs 0 else joined j (leading (drop given h.cells))).ready
-    by true own rest = front-more j.ready (joined j (leading (drop given h.cells))).ready (handed_on (joined j (leading (drop given h.cells))) hs 0).ready own rest
+        → IsFront (joined j (leading (drop given h.cells))).ready
+        (handed_on (joined j (leading (drop given h.cells))) hs 0).ready
+        → IsFront j.ready (if b then handed_on (joined j (leading (drop given h.cells))) hs 0
+        else joined j (leading (drop given h.cells))).ready
+    by true own rest =
+        front-more j.ready (joined j (leading (drop given h.cells))).ready
+        (handed_on (joined j (leading (drop given h.cells))) hs 0).ready own rest
     by false own rest = own
 
 landing-grows : (l : Landed) (s : State) (p : AmdPdu) → IsFront s.out.ready (after_landing l s p).out.ready
@@ -60,8 +70,11 @@ hears-rests : (f g : Flow) (c : Call) → IsReceiving c → is_up c ≡ false �
 hears-rests f g (Arrive p) given e o = absurd given
 hears-rests f g Up given e o = cc
 hears-rests f g Write given e o = absurd given
-hears-rests f g ExpireReorder given e o =
-    (ap (λ (x : Output). x.gone) o, ap (λ (x : Output). x.state.out.ready) o ∙ expiry-ready (output f).state.mark (output f).state)
+hears-rests f g ExpireReorder given e o = (
+  ap (λ (x : Output). x.gone) o,
+  ap (λ (x : Output). x.state.out.ready) o
+      ∙ expiry-ready (output f).state.mark (output f).state,
+)
 hears-rests f g ExpireProhibit given e o = (ap (λ (x : Output). x.gone) o, ap (λ (x : Output). x.state.out.ready) o)
 hears-rests f g TickReorder given e o = (ap (λ (x : Output). x.gone) o, ap (λ (x : Output). x.state.out.ready) o)
 hears-rests f g TickProhibit given e o = (ap (λ (x : Output). x.gone) o, ap (λ (x : Output). x.state.out.ready) o)
@@ -77,9 +90,11 @@ status-rests f (Some r) = by (am_at r.octets)
 
 step-rests : (f : Flow) (s : Step) → IsGiven f s → takes_up s ≡ false → brings s ≡ false → Rests f (happens f s)
 step-rests f (Sends c) given e b = (refl, refl)
-step-rests f (Receives c) given e b = hears-rests f (happens f (Receives c)) c given e (flow-more f.heard c (initial f.receiving))
+step-rests f (Receives c) given e b =
+    hears-rests f (happens f (Receives c)) c given e (flow-more f.heard c (initial f.receiving))
 step-rests f (Reports size octets) given e b =
-    let o = flow-more f.heard Write (initial f.receiving) in (ap (λ (x : Output). x.gone) o, ap (λ (x : Output). x.state.out.ready) o)
+    let o = flow-more f.heard Write (initial f.receiving) in
+    (ap (λ (x : Output). x.gone) o, ap (λ (x : Output). x.state.out.ready) o)
 step-rests f (DataComes k) given e b = cc
 step-rests f (StatusComes k) given e b = status-rests f (slice_get f.reports k)
 step-rests f (DataGoes k) given e b = (refl, refl)
@@ -96,9 +111,11 @@ data-grows f (Some c) = by (am_at c.octets)
   where
     by : (x : Result AcknowledgedPdu RlcRefusal) → Grows f (data_read f x)
     by (Ok (Payload pdu)) =
-        let o : output (data_read f (Ok (Payload pdu))) ≡ flows (output f) (Arrive pdu) = flow-more f.heard (Arrive pdu) (initial f.receiving) in (
+        let o : output (data_read f (Ok (Payload pdu))) ≡ flows (output f) (Arrive pdu) =
+        flow-more f.heard (Arrive pdu) (initial f.receiving) in (
           ap (λ (x : Output). x.gone) o,
-          subst (λ (x : Output). IsFront (ready f) x.state.out.ready) (sym o) (landing-grows (landed (output f).state pdu) (output f).state pdu),
+          subst (λ (x : Output). IsFront (ready f) x.state.out.ready) (sym o)
+              (landing-grows (landed (output f).state pdu) (output f).state pdu),
         )
     by (Ok (Control pdu)) = (refl, front-itself (ready f))
     by (Err refused) = (refl, front-itself (ready f))
@@ -109,11 +126,14 @@ rests-grows f g r = (r.0, subst (λ (xs : List (List ℕ)). IsFront (ready f) xs
 step-grows : (f : Flow) (s : Step) → IsGiven f s → takes_up s ≡ false → Grows f (happens f s)
 step-grows f (Sends c) given e = rests-grows f (happens f (Sends c)) (step-rests f (Sends c) given e refl)
 step-grows f (Receives c) given e = rests-grows f (happens f (Receives c)) (step-rests f (Receives c) given e refl)
-step-grows f (Reports size octets) given e = rests-grows f (happens f (Reports size octets)) (step-rests f (Reports size octets) given e refl)
+step-grows f (Reports size octets) given e =
+    rests-grows f (happens f (Reports size octets)) (step-rests f (Reports size octets) given e refl)
 step-grows f (DataComes k) given e = data-grows f (slice_get f.copies k)
-step-grows f (StatusComes k) given e = rests-grows f (happens f (StatusComes k)) (step-rests f (StatusComes k) given e refl)
+step-grows f (StatusComes k) given e =
+    rests-grows f (happens f (StatusComes k)) (step-rests f (StatusComes k) given e refl)
 step-grows f (DataGoes k) given e = rests-grows f (happens f (DataGoes k)) (step-rests f (DataGoes k) given e refl)
-step-grows f (StatusGoes k) given e = rests-grows f (happens f (StatusGoes k)) (step-rests f (StatusGoes k) given e refl)
+step-grows f (StatusGoes k) given e =
+    rests-grows f (happens f (StatusGoes k)) (step-rests f (StatusGoes k) given e refl)
 step-grows f Passes given e = rests-grows f (happens f Passes) (step-rests f Passes given e refl)
 
 pub goes-up : (f : Flow) → GoesUp f

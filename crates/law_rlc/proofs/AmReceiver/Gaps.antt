@@ -1,5 +1,6 @@
 -- The runs of a number's places are its gaps.
-use Rattle.std.proofs.Common.{◌≡◌, ◌<◌, ◌≤◌, inl, inr, ℕ, suc, zero, ◌+◌, ◌-◌, Bool, true, false, List, [], ◌∷◌, length, Option, Some, None, is_some, refl, subst, arith}
+use Rattle.std.proofs.Common.{◌≡◌, ◌<◌, ◌≤◌, inl, inr, ℕ, suc, zero, ◌+◌, ◌-◌, Bool, true, false, List, [], ◌∷◌, length}
+use Rattle.std.proofs.Common.{Option, Some, None, is_some, refl, subst, arith}
 use Rattle.std.proofs.lemmas.Bool.{cases_lt}
 use Rattle.rlc_am_rx_window.specs.Cells.{Cell}
 use Rattle.rlc_am_rx_window.specs.Missing.{run_last, runs}
@@ -9,16 +10,20 @@ use Rattle.law_rlc.proofs.AmReceiver.Places.{there}
 -- what is known in front of a place: the run that is open there
 abbrev pub Open : (ℕ → Bool) → Option ℕ → ℕ → ℕ → Type 0
 Open come None from at = (from ≤ at) × ((i : ℕ) → from ≤ i → i < at → come i ≡ true)
-Open come (Some g) from at = (from ≤ g) × (g < at) × ((i : ℕ) → from ≤ i → i < g → come i ≡ true) × ((i : ℕ) → g ≤ i → i < at → come i ≡ false)
+Open come (Some g) from at = (from ≤ g) × (g < at) × ((i : ℕ) → from ≤ i → i < g → come i ≡ true)
+    × ((i : ℕ) → g ≤ i → i < at → come i ≡ false)
 
 abbrev pub Ends : Bool → Option ℕ → ℕ → Type 0
 Ends true size at = size ≡ Some at
 Ends false size at = size ≡ None
 
 past_all : (come : ℕ → Bool) (at : ℕ) → ((j : ℕ) → come (at + j) ≡ there [] j) → (i : ℕ) → at ≤ i → come i ≡ false
-past_all come at link i h = let e : at + (i - at) ≡ i = omega (arith, h) in subst (λ (k : ℕ). come k ≡ false) e (link (i - at))
+past_all come at link i h = let e : at + (i - at) ≡ i = omega (arith, h) in
+    subst (λ (k : ℕ). come k ≡ false) e (link (i - at))
 
-last_gap : (come : ℕ → Bool) (size : Option ℕ) (at : ℕ) (gap : Option ℕ) (from : ℕ) (e : Bool) → ((j : ℕ) → come (at + j) ≡ there [] j) → Ends e size at → Open come gap from at → AreGaps come size from (run_last at gap e)
+last_gap : (come : ℕ → Bool) (size : Option ℕ) (at : ℕ) (gap : Option ℕ) (from : ℕ) (e : Bool)
+    → ((j : ℕ) → come (at + j) ≡ there [] j) → Ends e size at → Open come gap from at
+    → AreGaps come size from (run_last at gap e)
 last_gap come size at (Some g) from e link ends o = inr (
   record {
     above = o.0;
@@ -54,30 +59,37 @@ last_gap come size at None from false link ends o = inr (
     none None h = tt
     none (Some n) h = let no : Some n ≡ None = h in cc
 
-next_link : (come : ℕ → Bool) (at : ℕ) (c : Option Cell) (cs : List (Option Cell)) → ((j : ℕ) → come (at + j) ≡ there (c ∷ cs) j) → (j : ℕ) → come (at + 1 + j) ≡ there cs j
-next_link come at c cs link j = let e : at + suc j ≡ at + 1 + j = omega arith in subst (λ (k : ℕ). come k ≡ there cs j) e (link (suc j))
+next_link : (come : ℕ → Bool) (at : ℕ) (c : Option Cell) (cs : List (Option Cell))
+    → ((j : ℕ) → come (at + j) ≡ there (c ∷ cs) j) → (j : ℕ) → come (at + 1 + j) ≡ there cs j
+next_link come at c cs link j = let e : at + suc j ≡ at + 1 + j = omega arith in
+    subst (λ (k : ℕ). come k ≡ there cs j) e (link (suc j))
 
-first_link : (come : ℕ → Bool) (at : ℕ) (c : Option Cell) (cs : List (Option Cell)) → ((j : ℕ) → come (at + j) ≡ there (c ∷ cs) j) → come at ≡ is_some c
+first_link : (come : ℕ → Bool) (at : ℕ) (c : Option Cell) (cs : List (Option Cell))
+    → ((j : ℕ) → come (at + j) ≡ there (c ∷ cs) j) → come at ≡ is_some c
 first_link come at c cs link = let e : at + 0 ≡ at = omega arith in subst (λ (k : ℕ). come k ≡ is_some c) e (link 0)
 
 next_ends : (e : Bool) (size : Option ℕ) (at n : ℕ) → Ends e size (at + suc n) → Ends e size (at + 1 + n)
 next_ends true size at n h = let e : at + suc n ≡ at + 1 + n = omega arith in subst (λ (k : ℕ). size ≡ Some k) e h
 next_ends false size at n h = h
 
-here_or_before : (come : ℕ → Bool) (from at : ℕ) (b : Bool) → come at ≡ b → ((i : ℕ) → from ≤ i → i < at → come i ≡ b) → (i : ℕ) → from ≤ i → i < at + 1 → come i ≡ b
+here_or_before : (come : ℕ → Bool) (from at : ℕ) (b : Bool) → come at ≡ b → ((i : ℕ) → from ≤ i → i < at → come i ≡ b)
+    → (i : ℕ) → from ≤ i → i < at + 1 → come i ≡ b
 here_or_before come from at b here before i a l = elim (cases_lt i at) [
   | inl under ↦ before i a under
   | inr past ↦ let e : at ≡ i = omega (arith, past, l) in subst (λ (k : ℕ). come k ≡ b) e here
 ]
 
-pub runs_are_gaps : (come : ℕ → Bool) (size : Option ℕ) (cs : List (Option Cell)) (at : ℕ) (gap : Option ℕ) (from : ℕ) (e : Bool) → ((j : ℕ) → come (at + j) ≡ there cs j) → Ends e size (at + length cs) → Open come gap from at → AreGaps come size from (runs cs at gap e)
+pub runs_are_gaps : (come : ℕ → Bool) (size : Option ℕ) (cs : List (Option Cell)) (at : ℕ) (gap : Option ℕ) (from : ℕ)
+    (e : Bool) → ((j : ℕ) → come (at + j) ≡ there cs j) → Ends e size (at + length cs) → Open come gap from at
+    → AreGaps come size from (runs cs at gap e)
 runs_are_gaps come size [] at gap from e link ends o = last_gap come size at gap from e link (same e ends) o
   where
     same : (e : Bool) → Ends e size (at + 0) → Ends e size at
     same true h = let z : at + 0 ≡ at = omega arith in subst (λ (k : ℕ). size ≡ Some k) z h
     same false h = h
 runs_are_gaps come size (Some c ∷ cs) at None from e link ends o =
-    runs_are_gaps come size cs (at + 1) None from e (next_link come at (Some c) cs link) (next_ends e size at (length cs) ends)
+    runs_are_gaps come size cs (at + 1) None from e (next_link come at (Some c) cs link)
+    (next_ends e size at (length cs) ends)
     (omega (arith, o.0), here_or_before come from at true (first_link come at (Some c) cs link) o.1)
 runs_are_gaps come size (Some c ∷ cs) at (Some g) from e link ends o =
     let last : at - 1 + 1 ≡ at = omega (arith, o.1) in
@@ -89,14 +101,24 @@ runs_are_gaps come size (Some c ∷ cs) at (Some g) from e link ends o =
         missing = λ i a b. o.3 i a (omega (arith, b, o.1));
         behind = rw last (first_link come at (Some c) cs link);
       },
-      rw last (runs_are_gaps come size cs (at + 1) None at e (next_link come at (Some c) cs link) (next_ends e size at (length cs) ends)
-          (omega arith, here_or_before come at at true (first_link come at (Some c) cs link) (λ i a l. absurd (omega (arith, a, l))))),
+      rw last (runs_are_gaps come size cs (at + 1) None at e (next_link come at (Some c) cs link)
+          (next_ends e size at (length cs) ends) (
+            omega arith,
+            here_or_before come at at true (first_link come at (Some c) cs link)
+                (λ i a l. absurd (omega (arith, a, l))),
+          )),
     )
 runs_are_gaps come size (None ∷ cs) at None from e link ends o =
-    runs_are_gaps come size cs (at + 1) (Some at) from e (next_link come at None cs link) (next_ends e size at (length cs) ends)
-    (o.0, omega arith, o.1, here_or_before come at at false (first_link come at None cs link) (λ i a l. absurd (omega (arith, a, l))))
+    runs_are_gaps come size cs (at + 1) (Some at) from e (next_link come at None cs link)
+    (next_ends e size at (length cs) ends) (
+      o.0,
+      omega arith,
+      o.1,
+      here_or_before come at at false (first_link come at None cs link) (λ i a l. absurd (omega (arith, a, l))),
+    )
 runs_are_gaps come size (None ∷ cs) at (Some g) from e link ends o =
-    runs_are_gaps come size cs (at + 1) (Some g) from e (next_link come at None cs link) (next_ends e size at (length cs) ends)
+    runs_are_gaps come size cs (at + 1) (Some g) from e (next_link come at None cs link)
+    (next_ends e size at (length cs) ends)
     (o.0, omega (arith, o.1), o.2, here_or_before come g at false (first_link come at None cs link) o.3)
 
 -- there is none only where the field is known to end
@@ -115,7 +137,8 @@ some_run (Some c ∷ cs) at g e h = cc
 some_run (None ∷ cs) at g e h = some_run cs (at + 1) g e h
 
 -- and where all is there
-pub no_runs_full : (cs : List (Option Cell)) (at : ℕ) (e : Bool) → runs cs at None e ≡ [] → (i : ℕ) → i < length cs → there cs i ≡ true
+pub no_runs_full : (cs : List (Option Cell)) (at : ℕ) (e : Bool) → runs cs at None e ≡ [] → (i : ℕ) → i < length cs
+    → there cs i ≡ true
 no_runs_full [] at e h i below = absurd (omega (arith, below))
 no_runs_full (Some c ∷ cs) at e h zero below = refl
 no_runs_full (Some c ∷ cs) at e h (suc i) below = no_runs_full cs (at + 1) e h i (omega (arith, below))

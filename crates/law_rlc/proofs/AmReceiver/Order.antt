@@ -1,5 +1,6 @@
 -- VR(R) ≤ VR(MS) ≤ VR(H) along every run.
-use Rattle.std.proofs.Common.{◌≡◌, ◌≤◌, ℕ, suc, zero, ◌+◌, ◌-◌, Bool, List, [], ◌∷◌, length, drop, replicate, Option, Some, None, refl, arith, length-append, length-drop}
+use Rattle.std.proofs.Common.{◌≡◌, ◌≤◌, ℕ, suc, zero, ◌+◌, ◌-◌, Bool, List, [], ◌∷◌, length, drop, replicate, Option}
+use Rattle.std.proofs.Common.{Some, None, refl, arith, length-append, length-drop}
 use Rattle.std.proofs.Math.ListN.{length-set}
 use Rattle.std.proofs.lemmas.Grind.{common_steps}
 use Rattle.l2_types.specs.declared.AmRxConfig.{AmRxConfig}
@@ -8,10 +9,12 @@ use Rattle.rlc_pdu.specs.declared.Landed.TheVariants.{Kept as Fresh, Repeat, Out
 use Rattle.rlc_pdu.specs.Pdus.{AmdPdu}
 use Rattle.rlc_am_rx_window.specs.Piece.{Piece, piece_of}
 use Rattle.rlc_am_rx_window.specs.Held.{Held, nothing, with_piece}
-use Rattle.rlc_am_rx_window.specs.Window.{Kept, top, offset_of, complete_first, first_incomplete, widened, with_kept, advanced, slot_at}
+use Rattle.rlc_am_rx_window.specs.Window.{Kept, top, offset_of, complete_first, first_incomplete, widened, with_kept}
+use Rattle.rlc_am_rx_window.specs.Window.{advanced, slot_at}
 use Rattle.rlc_am_rx.specs.State.{State}
 use Rattle.rlc_am_rx.specs.Machine.{landed, after_landing, after_reorder, settled, window_with, mark_left, mark_begun}
-use Rattle.law_rlc.specs.AmReceiver.Run.{Call, Arrive, Up, Write, ExpireReorder, ExpireProhibit, TickReorder, TickProhibit, World, state_after, happens, run, begin, IsOrdered}
+use Rattle.law_rlc.specs.AmReceiver.Run.{Call, Arrive, Up, Write, ExpireReorder, ExpireProhibit, TickReorder}
+use Rattle.law_rlc.specs.AmReceiver.Run.{TickProhibit, World, state_after, happens, run, begin, IsOrdered}
 
 -- a mark is a number that VR(H) has been
 abbrev pub MarkBelow : Option ℕ → ℕ → Type 0
@@ -39,11 +42,13 @@ incomplete-length slots k h = omega (arith, first-length (drop k slots), length-
 pub top-advanced : (w : Kept) → top (advanced w) ≡ top w
 top-advanced w = omega (arith, first-length w.slots, length-drop (complete_first w.slots) w.slots)
 
-mark-turned : (m : Option ℕ) (front top : ℕ) → MarkBelow m top → MarkBelow (mark_begun (mark_left m front) front top) top
+mark-turned : (m : Option ℕ) (front top : ℕ) → MarkBelow m top
+    → MarkBelow (mark_begun (mark_left m front) front top) top
 mark-turned None front top h = grind (arith, common_steps)
 mark-turned (Some x) front top h = grind (arith, common_steps)
 
-settled-order : (s : State) (w : Kept) (at : ℕ) (poll : Bool) → w.front ≡ s.window.front → length s.window.slots ≤ length w.slots → InOrder s → InOrder (settled s w at poll)
+settled-order : (s : State) (w : Kept) (at : ℕ) (poll : Bool) → w.front ≡ s.window.front
+    → length s.window.slots ≤ length w.slots → InOrder s → InOrder (settled s w at poll)
 settled-order s w at poll same more h = record {
   front = omega (arith, first-least w.slots (s.bound - w.front));
   bound =
@@ -51,7 +56,8 @@ settled-order s w at poll same more h = record {
       omega (arith, incomplete-length w.slots (s.bound - w.front) within, top-advanced w);
   mark =
       let top_is : top (advanced w) ≡ top w = top-advanced w in
-      mark-turned s.mark (advanced w).front (top (advanced w)) (higher s.mark (top s.window) (top (advanced w)) (omega (arith, top_is, same, more)) h.mark);
+      mark-turned s.mark (advanced w).front (top (advanced w))
+      (higher s.mark (top s.window) (top (advanced w)) (omega (arith, top_is, same, more)) h.mark);
 }
   where
     higher : (m : Option ℕ) (a b : ℕ) → a ≤ b → MarkBelow m a → MarkBelow m b
@@ -59,10 +65,17 @@ settled-order s w at poll same more h = record {
     higher (Some x) a b le h = omega (arith, le, h)
 
 pub kept-length : (w : Kept) (at : ℕ) (p : Piece) (poll : Bool) → length w.slots ≤ length (with_kept w at p poll).slots
-kept-length w at p poll = omega (arith, length-set (widened w.slots (at + 1)) at (with_piece (slot_at (widened w.slots (at + 1)) at) p poll), length-append w.slots (replicate (at + 1 - length w.slots) nothing))
+kept-length w at p poll =
+    omega (
+      arith,
+      length-set (widened w.slots (at + 1)) at (with_piece (slot_at (widened w.slots (at + 1)) at) p poll),
+      length-append w.slots (replicate (at + 1 - length w.slots) nothing),
+    )
 
 landing-order : (l : Landed) (s : State) (p : AmdPdu) → InOrder s → InOrder (after_landing l s p)
-landing-order Fresh s p h = settled-order s (window_with s.window p) (offset_of s.window.front p.sn) p.poll refl (kept-length s.window (offset_of s.window.front p.sn) (piece_of p) p.poll) h
+landing-order Fresh s p h =
+    settled-order s (window_with s.window p) (offset_of s.window.front p.sn) p.poll refl
+    (kept-length s.window (offset_of s.window.front p.sn) (piece_of p) p.poll) h
 landing-order Repeat s p h = record { front = h.front; bound = h.bound; mark = h.mark }
 landing-order Outside s p h = record { front = h.front; bound = h.bound; mark = h.mark }
 landing-order Clash s p h = h
@@ -94,4 +107,5 @@ pub fresh-order : (config : AmRxConfig) → InOrder (begin config).state
 fresh-order config = record { front = omega arith; bound = omega arith; mark = tt }
 
 pub ordered : (config : AmRxConfig) (calls : List Call) → IsOrdered (run calls (begin config))
-ordered config calls = let h : InOrder (run calls (begin config)).state = run-order calls (begin config) (fresh-order config) in record { front = h.front; bound = h.bound }
+ordered config calls = let h : InOrder (run calls (begin config)).state =
+    run-order calls (begin config) (fresh-order config) in record { front = h.front; bound = h.bound }

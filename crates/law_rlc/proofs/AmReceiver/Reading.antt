@@ -12,7 +12,8 @@ some-element b e (o ∷ p ∷ os) h = omega arith
 some-data : (b e : Bool) (es : List (List ℕ)) → AreLens (map length es) → 1 ≤ length (data_cells b e es)
 some-data b e [] lens = absurd lens
 some-data b e (x ∷ []) lens = some-element b e x lens
-some-data b e (x ∷ y ∷ es) lens = omega (arith, length-append (element_cells b true x) (data_cells true e (y ∷ es)), some-element b true x lens.0)
+some-data b e (x ∷ y ∷ es) lens =
+    omega (arith, length-append (element_cells b true x) (data_cells true e (y ∷ es)), some-element b true x lens.0)
 
 pub read_bring_some : ReadBringSome
 read_bring_some pdu octets is = some-data (begins_in pdu.fi) (ends_in pdu.fi) pdu.elements is.lens

@@ -1,5 +1,6 @@
 -- The reordering timer runs exactly where it has a mark.
-use Rattle.std.proofs.Common.{◌≡◌, ℕ, Bool, true, false, ◌&&◌, List, [], ◌∷◌, Option, Some, None, is_some, is_none, refl, ◌∙◌, nat_le, nat_lt, if◌then◌else◌}
+use Rattle.std.proofs.Common.{◌≡◌, ℕ, Bool, true, false, ◌&&◌, List, [], ◌∷◌, Option, Some, None, is_some, is_none}
+use Rattle.std.proofs.Common.{refl, ◌∙◌, nat_le, nat_lt, if◌then◌else◌}
 use Rattle.l2_num.specs.Timers.{Clock, runs, counted}
 use Rattle.l2_types.specs.declared.AmRxConfig.{AmRxConfig}
 use Rattle.rlc_pdu.specs.declared.Landed.{Landed}
@@ -7,14 +8,17 @@ use Rattle.rlc_pdu.specs.declared.Landed.TheVariants.{Kept as Fresh, Repeat, Out
 use Rattle.rlc_pdu.specs.Pdus.{AmdPdu}
 use Rattle.rlc_am_rx_window.specs.Window.{top, advanced}
 use Rattle.rlc_am_rx.specs.State.{State}
-use Rattle.rlc_am_rx.specs.Machine.{landed, after_landing, after_reorder, window_with, bound_moved, stops, mark_left, starts, mark_begun, clock_left, clock_begun}
-use Rattle.law_rlc.specs.AmReceiver.Run.{Call, Arrive, Up, Write, ExpireReorder, ExpireProhibit, TickReorder, TickProhibit, World, state_after, happens, run, begin}
+use Rattle.rlc_am_rx.specs.Machine.{landed, after_landing, after_reorder, window_with, bound_moved, stops, mark_left}
+use Rattle.rlc_am_rx.specs.Machine.{starts, mark_begun, clock_left, clock_begun}
+use Rattle.law_rlc.specs.AmReceiver.Run.{Call, Arrive, Up, Write, ExpireReorder, ExpireProhibit, TickReorder}
+use Rattle.law_rlc.specs.AmReceiver.Run.{TickProhibit, World, state_after, happens, run, begin}
 
 abbrev pub Runs : State → Type 0
 Runs s = runs s.reorder ≡ is_some s.mark
 
 turned : (m : Option ℕ) (front high : ℕ) (c : Clock) → runs c ≡ is_some m
-    → runs (clock_begun (starts (mark_left m front) front high) (clock_left (stops m front) c)) ≡ is_some (mark_begun (mark_left m front) front high)
+    → runs (clock_begun (starts (mark_left m front) front high) (clock_left (stops m front) c))
+    ≡ is_some (mark_begun (mark_left m front) front high)
 turned None front high c h = go (nat_lt front high)
   where
     go : (b : Bool) → runs (clock_begun b c) ≡ is_some (if b then Some high else None)
@@ -22,13 +26,15 @@ turned None front high c h = go (nat_lt front high)
     go false = h
 turned (Some x) front high c h = go (nat_le x front) (nat_lt front high)
   where
-    go : (a b : Bool) → runs (clock_begun (is_none (if a then None else Some x) && b) (clock_left a c)) ≡ is_some (if is_none (if a then None else Some x) && b then Some high else (if a then None else Some x))
+    go : (a b : Bool) → runs (clock_begun (is_none (if a then None else Some x) && b) (clock_left a c))
+        ≡ is_some (if is_none (if a then None else Some x) && b then Some high else (if a then None else Some x))
     go true true = refl
     go true false = refl
     go false b = h
 
 landing-runs : (l : Landed) (s : State) (p : AmdPdu) → Runs s → Runs (after_landing l s p)
-landing-runs Fresh s p h = turned s.mark (advanced (window_with s.window p)).front (top (advanced (window_with s.window p))) s.reorder h
+landing-runs Fresh s p h =
+    turned s.mark (advanced (window_with s.window p)).front (top (advanced (window_with s.window p))) s.reorder h
 landing-runs Repeat s p h = h
 landing-runs Outside s p h = h
 landing-runs Clash s p h = h
@@ -37,7 +43,8 @@ expiry-runs : (m : Option ℕ) (s : State) → Runs s → Runs (after_reorder m 
 expiry-runs None s h = h
 expiry-runs (Some x) s h = go (nat_lt (bound_moved s.window x) (top s.window))
   where
-    go : (b : Bool) → runs (clock_begun b (record s.reorder { left = None })) ≡ is_some (if b then Some (top s.window) else None)
+    go : (b : Bool) → runs (clock_begun b (record s.reorder { left = None }))
+        ≡ is_some (if b then Some (top s.window) else None)
     go true = refl
     go false = refl
 
@@ -58,5 +65,6 @@ run-runs : (calls : List Call) (w : World) → Runs w.state → Runs (run calls 
 run-runs [] w h = h
 run-runs (c ∷ cs) w h = run-runs cs (happens w c) (call-runs w.state c h)
 
-pub runs_with_mark : (config : AmRxConfig) (calls : List Call) → runs (run calls (begin config)).state.reorder ≡ is_some (run calls (begin config)).state.mark
+pub runs_with_mark : (config : AmRxConfig) (calls : List Call)
+    → runs (run calls (begin config)).state.reorder ≡ is_some (run calls (begin config)).state.mark
 runs_with_mark config calls = run-runs calls (begin config) refl

@@ -1,5 +1,7 @@
 -- Octets that are named, place by place.
-use Rattle.std.proofs.Common.{◌≡◌, ◌<◌, ◌≤◌, inl, inr, ℕ, suc, zero, ◌+◌, Bool, true, false, not, ◌||◌, ◌&&◌, ◌==◌, if◌then◌else◌, List, [], Option, Some, None, refl, ap, sym, subst, ◌∙◌, arith, nat_le, nat_lt}
+use Rattle.std.proofs.Common.{◌≡◌, ◌<◌, ◌≤◌, inl, inr, ℕ, suc, zero, ◌+◌, Bool, true, false, not, ◌||◌, ◌&&◌, ◌==◌}
+use Rattle.std.proofs.Common.{if◌then◌else◌, List, [], Option, Some, None, refl, ap, sym, subst, ◌∙◌, arith, nat_le}
+use Rattle.std.proofs.Common.{nat_lt}
 use Rattle.std.proofs.lemmas.Bool.Decides.{nat_tests}
 use Rattle.std.proofs.lemmas.Bool.{cases_lt, cases_eq}
 use Rattle.std.specs.Prelude.{MatchOption}
@@ -41,7 +43,8 @@ bool-four false false false d = refl
 
 pub any-or : (size : ℕ) (f g : ℕ → Bool) → (any_below size f || any_below size g) ≡ any_below size (λ i. f i || g i)
 any-or zero f g = refl
-any-or (suc k) f g = bool-four (f k) (any_below k f) (g k) (any_below k g) ∙ ap (λ (b : Bool). (f k || g k) || b) (any-or k f g)
+any-or (suc k) f g = bool-four (f k) (any_below k f) (g k) (any_below k g)
+    ∙ ap (λ (b : Bool). (f k || g k) || b) (any-or k f g)
 
 -- a range of a field is named
 
@@ -64,14 +67,18 @@ bool-none : (a b : Bool) → b ≡ true → false ≡ (a && not b)
 bool-none true b e = rw e refl
 bool-none false b e = refl
 
-pub woken-has : (size : ℕ) (runs : List Run) (from to i : ℕ) → from < to → i < size → has (woken size runs from to) i ≡ (has runs i && not (nat_le from i && nat_lt i to))
+pub woken-has : (size : ℕ) (runs : List Run) (from to i : ℕ) → from < to → i < size
+    → has (woken size runs from to) i ≡ (has runs i && not (nat_le from i && nat_lt i to))
 woken-has size runs from to i lt h = step ((from == 0) && (to == size)) (whole-test from to size)
   where
-    step : (b : Bool) → (b ≡ true → (from ≡ 0) × (to ≡ size)) → has (if b then [] else removed runs from to) i ≡ (has runs i && not (nat_le from i && nat_lt i to))
-    step true w = let p = w refl in let a = p.0 in let b = p.1 in bool-none (has runs i) (nat_le from i && nat_lt i to) (within from to i (omega arith) (omega arith))
+    step : (b : Bool) → (b ≡ true → (from ≡ 0) × (to ≡ size))
+        → has (if b then [] else removed runs from to) i ≡ (has runs i && not (nat_le from i && nat_lt i to))
+    step true w = let p = w refl in let a = p.0 in let b = p.1 in
+        bool-none (has runs i) (nat_le from i && nat_lt i to) (within from to i (omega arith) (omega arith))
     step false w = removed_has runs from to lt i ∙ bool-swap (lies_in (run from to) i) (has runs i)
 
-pub woken-ascends : (size : ℕ) (runs : List Run) (from to : ℕ) → from < to → AreAscending 0 runs → AreAscending 0 (woken size runs from to)
+pub woken-ascends : (size : ℕ) (runs : List Run) (from to : ℕ) → from < to → AreAscending 0 runs
+    → AreAscending 0 (woken size runs from to)
 woken-ascends size runs from to lt h = step ((from == 0) && (to == size))
   where
     step : (b : Bool) → AreAscending 0 (if b then [] else removed runs from to)
@@ -80,11 +87,15 @@ woken-ascends size runs from to lt h = step ((from == 0) && (to == size))
 
 -- not all of a range waits exactly where some octet of it rests
 
-all-test : (p : Part) (from to : ℕ) → ((p.start == from) && (p.end + 1 == to)) ≡ true → (p.start ≡ from) × (p.end + 1 ≡ to)
+all-test : (p : Part) (from to : ℕ) → ((p.start == from) && (p.end + 1 == to)) ≡ true
+    → (p.start ≡ from) × (p.end + 1 ≡ to)
 all-test p from to e = (grind (arith, nat_tests), grind (arith, nat_tests))
 
-part-test : (p : Part) (from to : ℕ) → ((p.start == from) && (p.end + 1 == to)) ≡ false → p.start ≡ from → p.end + 1 ≡ to → ⊥
-part-test p from to e a b = let s : (p.start == from) ≡ true = grind (arith, nat_tests) in let t : (p.end + 1 == to) ≡ true = grind (arith, nat_tests) in let no' : true ≡ false = sym (rw (s, t) refl) ∙ e in cc
+part-test : (p : Part) (from to : ℕ) → ((p.start == from) && (p.end + 1 == to)) ≡ false → p.start ≡ from
+    → p.end + 1 ≡ to → ⊥
+part-test p from to e a b = let s : (p.start == from) ≡ true = grind (arith, nat_tests) in
+    let t : (p.end + 1 == to) ≡ true = grind (arith, nat_tests) in
+    let no' : true ≡ false = sym (rw (s, t) refl) ∙ e in cc
 
 bool-and : (a b : Bool) → a ≡ true → b ≡ true → (a && b) ≡ true
 bool-and a b e f = rw (e, f) refl
@@ -93,24 +104,32 @@ pub rests-some : (size : ℕ) (runs : List Run) (from to : ℕ) → AreAscending
     → not (is_all (gap_in runs from to) from to) ≡ any_below size (λ i. (nat_le from i && nat_lt i to) && has runs i)
 rests-some size runs from to asc lt le = step (gap_in runs from to) (gaps_are_first runs from to asc)
   where
-    some : (i : ℕ) → from ≤ i → i < to → has runs i ≡ true → true ≡ any_below size (λ i. (nat_le from i && nat_lt i to) && has runs i)
-    some i a b e = sym (any-true size (λ i. (nat_le from i && nat_lt i to) && has runs i) i (omega arith) (bool-and (nat_le from i && nat_lt i to) (has runs i) (within from to i a b) e))
+    some : (i : ℕ) → from ≤ i → i < to → has runs i ≡ true
+        → true ≡ any_below size (λ i. (nat_le from i && nat_lt i to) && has runs i)
+    some i a b e =
+        sym (any-true size (λ i. (nat_le from i && nat_lt i to) && has runs i) i (omega arith)
+        (bool-and (nat_le from i && nat_lt i to) (has runs i) (within from to i a b) e))
 
     none : (i : ℕ) → (b : Bool) → (b ≡ true → has runs i ≡ false) → (b && has runs i) ≡ false
     none i true h = h refl
     none i false h = refl
 
-    part : (p : Part) (b : Bool) → ((p.start == from) && (p.end + 1 == to)) ≡ b → IsGap runs from to p → not b ≡ any_below size (λ i. (nat_le from i && nat_lt i to) && has runs i)
+    part : (p : Part) (b : Bool) → ((p.start == from) && (p.end + 1 == to)) ≡ b → IsGap runs from to p
+        → not b ≡ any_below size (λ i. (nat_le from i && nat_lt i to) && has runs i)
     part p true e g = let w = all-test p from to e in let w0 = w.0 in let w1 = w.1 in
-        sym (any-false size (λ i. (nat_le from i && nat_lt i to) && has runs i) (λ i lt'. none i (nat_le from i && nat_lt i to) (λ t. let c = inside from to i t in let c0 = c.0 in let c1 = c.1 in g.missing i (omega arith) (omega arith))))
+        sym (any-false size (λ i. (nat_le from i && nat_lt i to) && has runs i)
+        (λ i lt'. none i (nat_le from i && nat_lt i to) (λ t. let c = inside from to i t in let c0 = c.0 in
+        let c1 = c.1 in g.missing i (omega arith) (omega arith))))
     part p false e g = elim (cases_lt from p.start) [
       | inl above ↦ some from (omega arith) lt (g.first from (omega arith) above)
       | inr not_above ↦ elim (cases_lt (p.end + 1) to) [
         | inl below ↦ some (p.end + 1) (let a = g.above in let b = g.some in omega arith) below (g.largest below)
-        | inr not_below ↦ absurd (part-test p from to e (let a = g.above in omega arith) (let a = g.below in omega arith))
+        | inr not_below ↦ absurd (part-test p from to e (let a = g.above in omega arith) (let a = g.below in
+            omega arith))
       ]
     ]
 
-    step : (o : Option Part) → MatchOption o ((i : ℕ) → from ≤ i → i < to → has runs i ≡ true) (IsGap runs from to) → not (is_all o from to) ≡ any_below size (λ i. (nat_le from i && nat_lt i to) && has runs i)
+    step : (o : Option Part) → MatchOption o ((i : ℕ) → from ≤ i → i < to → has runs i ≡ true) (IsGap runs from to)
+        → not (is_all o from to) ≡ any_below size (λ i. (nat_le from i && nat_lt i to) && has runs i)
     step None h = some from (omega arith) lt (h from (omega arith) lt)
     step (Some p) h = part p ((p.start == from) && (p.end + 1 == to)) refl h

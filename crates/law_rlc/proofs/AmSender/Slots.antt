@@ -1,5 +1,7 @@
 -- What a STATUS makes of each slot.
-use Rattle.std.proofs.Common.{◌≡◌, ◌<◌, ◌≤◌, inl, inr, ℕ, suc, zero, ◌+◌, Bool, true, false, not, ◌||◌, ◌&&◌, ◌==◌, if◌then◌else◌, List, [], ◌∷◌, length, drop, Option, Some, None, is_some, refl, ap, sym, ◌∙◌, arith, set, nat_lt, get_or-set_same, get_or-set_other}
+use Rattle.std.proofs.Common.{◌≡◌, ◌<◌, ◌≤◌, inl, inr, ℕ, suc, zero, ◌+◌, Bool, true, false, not, ◌||◌, ◌&&◌, ◌==◌}
+use Rattle.std.proofs.Common.{if◌then◌else◌, List, [], ◌∷◌, length, drop, Option, Some, None, is_some, refl, ap, sym}
+use Rattle.std.proofs.Common.{◌∙◌, arith, set, nat_lt, get_or-set_same, get_or-set_other}
 use Rattle.std.proofs.lemmas.Grind.{common_steps}
 use Rattle.std.proofs.lemmas.Bool.Decides.{nat_tests}
 use Rattle.std.proofs.lemmas.Bool.{cases_eq}
@@ -7,7 +9,8 @@ use Rattle.std.proofs.Math.ListN.{length-set}
 use Rattle.rlc_pdu.specs.declared.pdu.Nack.{Nack}
 use Rattle.rlc_pdu.specs.declared.pdu.Part.{Part}
 use Rattle.rlc_am_tx_window.specs.Sent.{Sent, with_name, considered, considered_by, acknowledged}
-use Rattle.rlc_am_tx_window.specs.Window.{nothing, slot_at, offset_of, named_one, named_all, acked_from, considered_one, considered_all, is_named, leading_acked}
+use Rattle.rlc_am_tx_window.specs.Window.{nothing, slot_at, offset_of, named_one, named_all, acked_from, considered_one}
+use Rattle.rlc_am_tx_window.specs.Window.{considered_all, is_named, leading_acked}
 
 -- the slot of an offset is set, if it is there
 abbrev pub set_one : List Sent → ℕ → Sent → List Sent
@@ -29,9 +32,11 @@ itself k = grind (arith, nat_tests)
 apart : (a b : ℕ) → (b ≡ a → ⊥) → (a == b) ≡ false
 apart a b away = grind (arith, nat_tests)
 
-pub set_one-at : (slots : List Sent) (at : ℕ) (x : Sent) (k : ℕ) → k < length slots → slot_at (set_one slots at x) k ≡ (if at == k then x else slot_at slots k)
+pub set_one-at : (slots : List Sent) (at : ℕ) (x : Sent) (k : ℕ) → k < length slots
+    → slot_at (set_one slots at x) k ≡ (if at == k then x else slot_at slots k)
 set_one-at slots at x k h = elim (cases_eq k at) [
-  | inl same ↦ rw (same, itself at, is-less at (length slots) (omega (arith, same, h))) (get_or-set_same slots at x nothing (omega (arith, same, h)))
+  | inl same ↦ rw (same, itself at, is-less at (length slots) (omega (arith, same, h)))
+      (get_or-set_same slots at x nothing (omega (arith, same, h)))
   | inr other ↦ rw (apart at k other) (step (nat_lt at (length slots)) other)
 ]
   where
@@ -40,7 +45,8 @@ set_one-at slots at x k h = elim (cases_eq k at) [
     step false other = refl
 
 -- what a fact says of the slot that is set, and of the others
-pub set_one-keeps : {B : Type 0} (f : Sent → B) (slots : List Sent) (at : ℕ) (x : Sent) (k : ℕ) → k < length slots → f x ≡ f (slot_at slots at) → f (slot_at (set_one slots at x) k) ≡ f (slot_at slots k)
+pub set_one-keeps : {B : Type 0} (f : Sent → B) (slots : List Sent) (at : ℕ) (x : Sent) (k : ℕ) → k < length slots
+    → f x ≡ f (slot_at slots at) → f (slot_at (set_one slots at x) k) ≡ f (slot_at slots k)
 set_one-keeps f slots at x k h e = ap f (set_one-at slots at x k h) ∙ elim (cases_eq k at) [
   | inl same ↦ rw (same, itself at) e
   | inr other ↦ rw (apart at k other) refl
@@ -56,10 +62,15 @@ named-now h part = grind (arith, common_steps)
 
 pub named-length : (base : ℕ) (slots : List Sent) (ns : List Nack) → length (named_all base slots ns) ≡ length slots
 named-length base slots [] = refl
-named-length base slots (n ∷ ns) = named-length base (named_one base slots n) ns ∙ set_one-length slots (offset_of base n.sn) (with_name (slot_at slots (offset_of base n.sn)) n.part)
+named-length base slots (n ∷ ns) = named-length base (named_one base slots n) ns
+    ∙ set_one-length slots (offset_of base n.sn) (with_name (slot_at slots (offset_of base n.sn)) n.part)
 
-pub one-acked : (base : ℕ) (slots : List Sent) (n : Nack) (k : ℕ) → k < length slots → (slot_at (named_one base slots n) k).acked ≡ (slot_at slots k).acked
-one-acked base slots n k h = set_one-keeps (λ (x : Sent). x.acked) slots (offset_of base n.sn) (with_name (slot_at slots (offset_of base n.sn)) n.part) k h (same-acked (slot_at slots (offset_of base n.sn)) n.part)
+pub one-acked : (base : ℕ) (slots : List Sent) (n : Nack) (k : ℕ) → k < length slots
+    → (slot_at (named_one base slots n) k).acked ≡ (slot_at slots k).acked
+one-acked base slots n k h =
+    set_one-keeps (λ (x : Sent). x.acked) slots (offset_of base n.sn)
+    (with_name (slot_at slots (offset_of base n.sn)) n.part) k h
+    (same-acked (slot_at slots (offset_of base n.sn)) n.part)
 
 bool-own : (a b : Bool) → a ≡ (a || (false && b))
 bool-own true b = refl
@@ -76,25 +87,44 @@ bool-mix false false true false = refl
 bool-mix false false false true = refl
 bool-mix false false false false = refl
 
-pub one-named : (base : ℕ) (slots : List Sent) (n : Nack) (k : ℕ) → k < length slots → is_some (slot_at (named_one base slots n) k).named ≡ (is_some (slot_at slots k).named || ((offset_of base n.sn == k) && not (slot_at slots k).acked))
-one-named base slots n k h = ap (λ (x : Sent). is_some x.named) (set_one-at slots (offset_of base n.sn) (with_name (slot_at slots (offset_of base n.sn)) n.part) k h) ∙ elim (cases_eq k (offset_of base n.sn)) [
-  | inl same ↦ rw (sym same, itself k) (named-now (slot_at slots k) n.part)
-  | inr other ↦ rw (apart (offset_of base n.sn) k other) (bool-own (is_some (slot_at slots k).named) (not (slot_at slots k).acked))
-]
+pub one-named : (base : ℕ) (slots : List Sent) (n : Nack) (k : ℕ) → k < length slots
+    → is_some (slot_at (named_one base slots n) k).named
+    ≡ (is_some (slot_at slots k).named || ((offset_of base n.sn == k) && not (slot_at slots k).acked))
+one-named base slots n k h =
+    ap (λ (x : Sent). is_some x.named)
+    (set_one-at slots (offset_of base n.sn) (with_name (slot_at slots (offset_of base n.sn)) n.part) k h)
+    ∙ elim (cases_eq k (offset_of base n.sn)) [
+      | inl same ↦ rw (sym same, itself k) (named-now (slot_at slots k) n.part)
+      | inr other ↦ rw (apart (offset_of base n.sn) k other)
+          (bool-own (is_some (slot_at slots k).named) (not (slot_at slots k).acked))
+    ]
 
-pub all-acked : (base : ℕ) (slots : List Sent) (ns : List Nack) (k : ℕ) → k < length slots → (slot_at (named_all base slots ns) k).acked ≡ (slot_at slots k).acked
+pub all-acked : (base : ℕ) (slots : List Sent) (ns : List Nack) (k : ℕ) → k < length slots
+    → (slot_at (named_all base slots ns) k).acked ≡ (slot_at slots k).acked
 all-acked base slots [] k h = refl
 all-acked base slots (n ∷ ns) k h =
-    all-acked base (named_one base slots n) ns k (omega (arith, set_one-length slots (offset_of base n.sn) (with_name (slot_at slots (offset_of base n.sn)) n.part)))
+    all-acked base (named_one base slots n) ns k
+    (omega (
+      arith,
+      set_one-length slots (offset_of base n.sn) (with_name (slot_at slots (offset_of base n.sn)) n.part),
+    ))
     ∙ one-acked base slots n k h
 
-pub all-named : (base : ℕ) (slots : List Sent) (ns : List Nack) (k : ℕ) → k < length slots → is_some (slot_at (named_all base slots ns) k).named ≡ (is_some (slot_at slots k).named || (is_named base k ns && not (slot_at slots k).acked))
+pub all-named : (base : ℕ) (slots : List Sent) (ns : List Nack) (k : ℕ) → k < length slots
+    → is_some (slot_at (named_all base slots ns) k).named
+    ≡ (is_some (slot_at slots k).named || (is_named base k ns && not (slot_at slots k).acked))
 all-named base slots [] k h = bool-own (is_some (slot_at slots k).named) (not (slot_at slots k).acked)
 all-named base slots (n ∷ ns) k h =
-    all-named base (named_one base slots n) ns k (omega (arith, set_one-length slots (offset_of base n.sn) (with_name (slot_at slots (offset_of base n.sn)) n.part)))
-    ∙ ap (λ (b : Bool). is_some (slot_at (named_one base slots n) k).named || (is_named base k ns && not b)) (one-acked base slots n k h)
+    all-named base (named_one base slots n) ns k
+    (omega (
+      arith,
+      set_one-length slots (offset_of base n.sn) (with_name (slot_at slots (offset_of base n.sn)) n.part),
+    ))
+    ∙ ap (λ (b : Bool). is_some (slot_at (named_one base slots n) k).named || (is_named base k ns && not b))
+    (one-acked base slots n k h)
     ∙ ap (λ (b : Bool). b || (is_named base k ns && not (slot_at slots k).acked)) (one-named base slots n k h)
-    ∙ bool-mix (is_some (slot_at slots k).named) (offset_of base n.sn == k) (is_named base k ns) (not (slot_at slots k).acked)
+    ∙ bool-mix (is_some (slot_at slots k).named) (offset_of base n.sn == k) (is_named base k ns)
+    (not (slot_at slots k).acked)
 
 -- the numbers below ACK_SN
 
@@ -105,7 +135,8 @@ acked-length at below (h ∷ hs) = ap suc (acked-length (at + 1) below hs)
 abbrev pub acked_if : Bool → Sent → Sent
 acked_if b h = if b then acknowledged h else h
 
-pub acked-at : (at below : ℕ) (slots : List Sent) (k : ℕ) → k < length slots → slot_at (acked_from at below slots) k ≡ acked_if (nat_lt (at + k) below) (slot_at slots k)
+pub acked-at : (at below : ℕ) (slots : List Sent) (k : ℕ) → k < length slots
+    → slot_at (acked_from at below slots) k ≡ acked_if (nat_lt (at + k) below) (slot_at slots k)
 acked-at at below [] k h = absurd (omega arith)
 acked-at at below (x ∷ xs) zero h = ap (λ (n : ℕ). acked_if (nat_lt n below) x) (omega arith)
 acked-at at below (x ∷ xs) (suc k) h =
@@ -129,15 +160,24 @@ consider-named : (o : Option Bool) (most : ℕ) (h : Sent) → h.named ≡ o →
 consider-named None most h e = ap is_some e
 consider-named (Some new) most h e = refl
 
-pub considered-length : (base most : ℕ) (slots : List Sent) (ns : List Nack) → length (considered_all base most slots ns) ≡ length slots
+pub considered-length : (base most : ℕ) (slots : List Sent) (ns : List Nack)
+    → length (considered_all base most slots ns) ≡ length slots
 considered-length base most slots [] = refl
-considered-length base most slots (n ∷ ns) = considered-length base most (considered_one base most slots n) ns ∙ set_one-length slots (offset_of base n.sn) (considered most (slot_at slots (offset_of base n.sn)))
+considered-length base most slots (n ∷ ns) = considered-length base most (considered_one base most slots n) ns
+    ∙ set_one-length slots (offset_of base n.sn) (considered most (slot_at slots (offset_of base n.sn)))
 
-pub considered-acked : (base most : ℕ) (slots : List Sent) (ns : List Nack) (k : ℕ) → k < length slots → (slot_at (considered_all base most slots ns) k).acked ≡ (slot_at slots k).acked
+pub considered-acked : (base most : ℕ) (slots : List Sent) (ns : List Nack) (k : ℕ) → k < length slots
+    → (slot_at (considered_all base most slots ns) k).acked ≡ (slot_at slots k).acked
 considered-acked base most slots [] k h = refl
 considered-acked base most slots (n ∷ ns) k h =
-    considered-acked base most (considered_one base most slots n) ns k (omega (arith, set_one-length slots (offset_of base n.sn) (considered most (slot_at slots (offset_of base n.sn)))))
-    ∙ set_one-keeps (λ (x : Sent). x.acked) slots (offset_of base n.sn) (considered most (slot_at slots (offset_of base n.sn))) k h (consider-acked (slot_at slots (offset_of base n.sn)).named most (slot_at slots (offset_of base n.sn)))
+    considered-acked base most (considered_one base most slots n) ns k
+    (omega (
+      arith,
+      set_one-length slots (offset_of base n.sn) (considered most (slot_at slots (offset_of base n.sn))),
+    ))
+    ∙ set_one-keeps (λ (x : Sent). x.acked) slots (offset_of base n.sn)
+    (considered most (slot_at slots (offset_of base n.sn))) k h
+    (consider-acked (slot_at slots (offset_of base n.sn)).named most (slot_at slots (offset_of base n.sn)))
 
 bool-less : (a b c : Bool) → ((if b then false else a) && not c) ≡ (a && not (if b then true else c))
 bool-less true true true = refl
@@ -151,18 +191,28 @@ bool-all : (a : Bool) → a ≡ (a && not false)
 bool-all true = refl
 bool-all false = refl
 
-pub considered-named : (base most : ℕ) (slots : List Sent) (ns : List Nack) (k : ℕ) → k < length slots → is_some (slot_at (considered_all base most slots ns) k).named ≡ (is_some (slot_at slots k).named && not (is_named base k ns))
+pub considered-named : (base most : ℕ) (slots : List Sent) (ns : List Nack) (k : ℕ) → k < length slots
+    → is_some (slot_at (considered_all base most slots ns) k).named
+    ≡ (is_some (slot_at slots k).named && not (is_named base k ns))
 considered-named base most slots [] k h = bool-all (is_some (slot_at slots k).named)
 considered-named base most slots (n ∷ ns) k h =
-    considered-named base most (considered_one base most slots n) ns k (omega (arith, set_one-length slots (offset_of base n.sn) (considered most (slot_at slots (offset_of base n.sn)))))
+    considered-named base most (considered_one base most slots n) ns k
+    (omega (
+      arith,
+      set_one-length slots (offset_of base n.sn) (considered most (slot_at slots (offset_of base n.sn))),
+    ))
     ∙ ap (λ (b : Bool). b && not (is_named base k ns)) (one n)
     ∙ bool-less (is_some (slot_at slots k).named) (offset_of base n.sn == k) (is_named base k ns)
   where
-    one : (n : Nack) → is_some (slot_at (considered_one base most slots n) k).named ≡ (if offset_of base n.sn == k then false else is_some (slot_at slots k).named)
-    one n = ap (λ (x : Sent). is_some x.named) (set_one-at slots (offset_of base n.sn) (considered most (slot_at slots (offset_of base n.sn))) k h) ∙ elim (cases_eq k (offset_of base n.sn)) [
-      | inl same ↦ rw (sym same, itself k) (consider-named (slot_at slots k).named most (slot_at slots k) refl)
-      | inr other ↦ rw (apart (offset_of base n.sn) k other) refl
-    ]
+    one : (n : Nack) → is_some (slot_at (considered_one base most slots n) k).named
+        ≡ (if offset_of base n.sn == k then false else is_some (slot_at slots k).named)
+    one n =
+        ap (λ (x : Sent). is_some x.named)
+        (set_one-at slots (offset_of base n.sn) (considered most (slot_at slots (offset_of base n.sn))) k h)
+        ∙ elim (cases_eq k (offset_of base n.sn)) [
+          | inl same ↦ rw (sym same, itself k) (consider-named (slot_at slots k).named most (slot_at slots k) refl)
+          | inr other ↦ rw (apart (offset_of base n.sn) k other) refl
+        ]
 
 -- the numbers that stand first are acknowledged, and the next one isn't
 pub leading-acked : (slots : List Sent) (k : ℕ) → k < leading_acked slots → (slot_at slots k).acked ≡ true
@@ -170,12 +220,15 @@ leading-acked [] k h = absurd (omega arith)
 leading-acked (x ∷ xs) zero h = grind arith
 leading-acked (x ∷ xs) (suc k) h = leading-acked xs k (grind arith)
 
-pub leading-stop : (slots : List Sent) → leading_acked slots < length slots → (slot_at slots (leading_acked slots)).acked ≡ false
+pub leading-stop : (slots : List Sent) → leading_acked slots < length slots
+    → (slot_at slots (leading_acked slots)).acked ≡ false
 leading-stop [] h = absurd (omega arith)
 leading-stop (x ∷ xs) h = by x.acked refl (leading-stop xs)
   where
-    by : (b : Bool) → x.acked ≡ b → (leading_acked xs < length xs → (slot_at xs (leading_acked xs)).acked ≡ false) → (slot_at (x ∷ xs) (leading_acked (x ∷ xs))).acked ≡ false
-    by true e rest = let n : leading_acked (x ∷ xs) ≡ suc (leading_acked xs) = grind (arith, e) in rw n (rest (grind arith))
+    by : (b : Bool) → x.acked ≡ b → (leading_acked xs < length xs → (slot_at xs (leading_acked xs)).acked ≡ false)
+        → (slot_at (x ∷ xs) (leading_acked (x ∷ xs))).acked ≡ false
+    by true e rest = let n : leading_acked (x ∷ xs) ≡ suc (leading_acked xs) = grind (arith, e) in
+        rw n (rest (grind arith))
     by false e rest = let n : leading_acked (x ∷ xs) ≡ 0 = grind (arith, e) in rw n e
 
 pub leading-length : (slots : List Sent) → leading_acked slots ≤ length slots

@@ -1,5 +1,8 @@
 -- Where the poll timer runs, along every fair run.
-use Rattle.std.proofs.Common.{◌≡◌, ◌<◌, ◌≤◌, inl, inr, ℕ, suc, zero, ◌+◌, ◌-◌, Bool, true, false, ◌||◌, ◌&&◌, ◌==◌, if◌then◌else◌, List, [], ◌∷◌, ◌++◌, length, map, drop, Option, Some, None, is_some, refl, ap, sym, subst, ◌∙◌, arith, nat_le, nat_lt, length-append, length-drop, set, get_or-set_same, get_or-set_other}
+use Rattle.std.proofs.Common.{◌≡◌, ◌<◌, ◌≤◌, inl, inr, ℕ, suc, zero, ◌+◌, ◌-◌, Bool, true, false, ◌||◌, ◌&&◌, ◌==◌}
+use Rattle.std.proofs.Common.{if◌then◌else◌, List, [], ◌∷◌, ◌++◌, length, map, drop, Option, Some, None, is_some, refl}
+use Rattle.std.proofs.Common.{ap, sym, subst, ◌∙◌, arith, nat_le, nat_lt, length-append, length-drop, set}
+use Rattle.std.proofs.Common.{get_or-set_same, get_or-set_other}
 use Rattle.std.proofs.lemmas.Grind.{common_steps}
 use Rattle.std.proofs.lemmas.Bool.Decides.{nat_tests}
 use Rattle.std.proofs.lemmas.Bool.{cases_lt, cases_eq}
@@ -9,11 +12,17 @@ use Rattle.std.specs.List.{sum, concat}
 use Rattle.l2_num.specs.Timers.{Clock, runs, ticked, counted}
 use Rattle.rlc_pdu.specs.declared.pdu.Nack.{Nack}
 use Rattle.rlc_pdu.specs.Pdus.{StatusPdu}
-use Rattle.rlc_am_tx_window.specs.Sent.{Sent, is_waiting, recalled, considered, considered_by, rested, sent_part, next_stretch}
-use Rattle.rlc_am_tx_window.specs.Window.{Kept, next, nothing, slot_at, offset_of, leading_idle, leading_acked, some_wait, last_open, is_named}
+use Rattle.rlc_am_tx_window.specs.Sent.{Sent, is_waiting, recalled, considered, considered_by, rested, sent_part}
+use Rattle.rlc_am_tx_window.specs.Sent.{next_stretch}
+use Rattle.rlc_am_tx_window.specs.Window.{Kept, next, nothing, slot_at, offset_of, leading_idle, leading_acked}
+use Rattle.rlc_am_tx_window.specs.Window.{some_wait, last_open, is_named}
 use Rattle.rlc_am_tx.specs.declared.turn.Turn.{Turn}
 use Rattle.rlc_am_tx.specs.declared.turn.Turn.TheVariants as turns
-use Rattle.rlc_am_tx.specs.Machine.{State, start, turn, waits, is_shut, is_quiet, after_turn, after_status, after_expiry, is_ignored, with_poll, is_wanted, reaches, first_place, again, new_slot, sent_whole, sent_segment, sent_new, ended, limit_of, stops, read, applied, with_recalled, with_owed, expired, recalled_place, expiry_limit, settled, settled_by, settles}
+use Rattle.rlc_am_tx.specs.Machine.{State, start, turn, waits, is_shut, is_quiet, after_turn, after_status}
+use Rattle.rlc_am_tx.specs.Machine.{after_expiry, is_ignored, with_poll, is_wanted, reaches, first_place, again}
+use Rattle.rlc_am_tx.specs.Machine.{new_slot, sent_whole, sent_segment, sent_new, ended, limit_of, stops, read, applied}
+use Rattle.rlc_am_tx.specs.Machine.{with_recalled, with_owed, expired, recalled_place, expiry_limit, settled}
+use Rattle.rlc_am_tx.specs.Machine.{settled_by, settles}
 use Rattle.rlc_pdu.specs.Pdus.{AreLens}
 use Rattle.rlc_queue.specs.Waiting.{HaveOctets, behind}
 use Rattle.rlc_queue.specs.NewPdu.{elements, rest, room, may_follow}
@@ -26,34 +35,43 @@ use Rattle.law_rlc.specs.AmSender.Acked.{acks, acked_after}
 use Rattle.law_rlc.specs.AmSender.Namings.{Marks, unmarked, names, heard_waits, heard_namings, marks_after}
 use Rattle.law_rlc.specs.AmSender.Watched.{IsHonest, IsFair, AreFair, state_after, RunsThePollTimer}
 use Rattle.law_rlc.proofs.AmSender.Slots.{acked_if, slot-drop}
-use Rattle.law_rlc.proofs.AmSender.Least.{at-old, at-new, heard, Fits, after-fits, fresh-fits, heard_slots, heard-length}
+use Rattle.law_rlc.proofs.AmSender.Least.{at-old, at-new, heard, Fits, after-fits, fresh-fits, heard_slots}
+use Rattle.law_rlc.proofs.AmSender.Least.{heard-length}
 use Rattle.law_rlc.proofs.AmSender.Named.{parts_at, some_parts, named-parts, named_by, named-acked, all-named-by}
-use Rattle.law_rlc.proofs.AmSender.Marked.{Holds, Stands, after-stands, start-stands, final, final-slot, heard-slot, recalled-within, back, open-is}
+use Rattle.law_rlc.proofs.AmSender.Marked.{Holds, Stands, after-stands, start-stands, final, final-slot, heard-slot}
+use Rattle.law_rlc.proofs.AmSender.Marked.{recalled-within, back, open-is}
 use Rattle.law_rlc.proofs.AmSender.Carried.{applied-next, ended-next, recalled-next}
 use Rattle.law_rlc.proofs.AmSender.Resends.{rest-none, is-below}
 
 -- something waits where some slot does
 
-some-waits : (slots : List Sent) (k : ℕ) → k < length slots → is_waiting (slot_at slots k) ≡ true → leading_idle slots < length slots
+some-waits : (slots : List Sent) (k : ℕ) → k < length slots → is_waiting (slot_at slots k) ≡ true
+    → leading_idle slots < length slots
 some-waits [] k h w = absurd (omega arith)
 some-waits (x ∷ xs) k h w = step (is_waiting x) refl k h w (some-waits xs)
   where
-    step : (b : Bool) → is_waiting x ≡ b → (k : ℕ) → k < suc (length xs) → is_waiting (slot_at (x ∷ xs) k) ≡ true → ((j : ℕ) → j < length xs → is_waiting (slot_at xs j) ≡ true → leading_idle xs < length xs) → (if b then 0 else leading_idle xs + 1) < suc (length xs)
+    step : (b : Bool) → is_waiting x ≡ b → (k : ℕ) → k < suc (length xs) → is_waiting (slot_at (x ∷ xs) k) ≡ true
+        → ((j : ℕ) → j < length xs → is_waiting (slot_at xs j) ≡ true → leading_idle xs < length xs)
+        → (if b then 0 else leading_idle xs + 1) < suc (length xs)
     step true e k h w ih = omega arith
     step false e zero h w ih = let no' : false ≡ true = sym e ∙ w in cc
     step false e (suc k) h w ih = let l = ih k (omega arith) w in omega arith
 
-never : (s : State) (k : ℕ) → k < length s.window.slots → is_waiting (slot_at s.window.slots k) ≡ true → waits s ≡ false → ⊥
-never s k lt w e = let l = some-waits s.window.slots k lt w in let no' : waits s ≡ true = grind (arith, nat_tests) in let no'' : true ≡ false = sym no' ∙ e in cc
+never : (s : State) (k : ℕ) → k < length s.window.slots → is_waiting (slot_at s.window.slots k) ≡ true
+    → waits s ≡ false → ⊥
+never s k lt w e = let l = some-waits s.window.slots k lt w in let no' : waits s ≡ true = grind (arith, nat_tests) in
+    let no'' : true ≡ false = sym no' ∙ e in cc
 
 -- what is known of the poll timer
 abbrev Watched : State → Type 0
-Watched s = s.failed ≡ false → length s.window.slots ≡ 512 → waits s ≡ false → (runs s.polls.timer ≡ true) × (s.window.base ≤ s.polls.poll_number)
+Watched s = s.failed ≡ false → length s.window.slots ≡ 512 → waits s ≡ false
+    → (runs s.polls.timer ≡ true) × (s.window.base ≤ s.polls.poll_number)
 
 -- a poll with a PDU
 polled-watched : (b : Bool) (u : State) (more : Bool) → is_wanted u more ≡ b → Watched (with_poll b u)
 polled-watched true u more e f shut quiet = (refl, omega (arith, shut))
-polled-watched false u more e f shut quiet = let w : is_wanted u more ≡ true = wanted in let no' : true ≡ false = sym w ∙ e in cc
+polled-watched false u more e f shut quiet = let w : is_wanted u more ≡ true = wanted in
+    let no' : true ≡ false = sym w ∙ e in cc
   where
     or-last : (a b c : Bool) → (a || b || c || true) ≡ true
     or-last true true true = refl
@@ -69,12 +87,15 @@ polled-watched false u more e f shut quiet = let w : is_wanted u more ≡ true =
     is-quiet = grind (arith, nat_tests, common_steps)
 
     wanted : is_wanted u more ≡ true
-    wanted = rw is-quiet (or-last (reaches u.config.poll_pdu u.polls.pdus_without_poll) (reaches u.config.poll_byte u.polls.octets_without_poll) u.polls.owed)
+    wanted =
+        rw is-quiet (or-last (reaches u.config.poll_pdu u.polls.pdus_without_poll)
+        (reaches u.config.poll_byte u.polls.octets_without_poll) u.polls.owed)
 
 turn-watched : (t : Turn) (s : State) (size : ℕ) (more : Bool) → Watched s → Watched (after_turn t s size more)
 unfolding after_turn
 turn-watched turns.Whole s size more h = polled-watched (is_wanted (sent_whole s) more) (sent_whole s) more refl
-turn-watched turns.Part s size more h = polled-watched (is_wanted (sent_segment s size) more) (sent_segment s size) more refl
+turn-watched turns.Part s size more h =
+    polled-watched (is_wanted (sent_segment s size) more) (sent_segment s size) more refl
 turn-watched turns.New s size more h = polled-watched (is_wanted (sent_new s size) more) (sent_new s size) more refl
 turn-watched turns.Idle s size more h = h
 turn-watched turns.Stopped s size more h = h
@@ -92,9 +113,20 @@ polled-polled false u h = h
 
 turn-polled : (t : Turn) (s : State) (size : ℕ) (more : Bool) → Polled s → Polled (after_turn t s size more)
 unfolding after_turn
-turn-polled turns.Whole s size more h = polled-polled (is_wanted (sent_whole s) more) (sent_whole s) (omega (arith, h, length-set s.window.slots (first_place s) (rested (again s))))
-turn-polled turns.Part s size more h = polled-polled (is_wanted (sent_segment s size) more) (sent_segment s size) (omega (arith, h, length-set s.window.slots (first_place s) (sent_part (again s) (next_stretch (again s) size).from (next_stretch (again s) size).to)))
-turn-polled turns.New s size more h = polled-polled (is_wanted (sent_new s size) more) (sent_new s size) (omega (arith, h, length-append s.window.slots (new_slot s size ∷ [])))
+turn-polled turns.Whole s size more h =
+    polled-polled (is_wanted (sent_whole s) more) (sent_whole s)
+    (omega (arith, h, length-set s.window.slots (first_place s) (rested (again s))))
+turn-polled turns.Part s size more h =
+    polled-polled (is_wanted (sent_segment s size) more) (sent_segment s size)
+    (omega (
+      arith,
+      h,
+      length-set s.window.slots (first_place s)
+          (sent_part (again s) (next_stretch (again s) size).from (next_stretch (again s) size).to),
+    ))
+turn-polled turns.New s size more h =
+    polled-polled (is_wanted (sent_new s size) more) (sent_new s size)
+    (omega (arith, h, length-append s.window.slots (new_slot s size ∷ [])))
 turn-polled turns.Idle s size more h = h
 turn-polled turns.Stopped s size more h = h
 turn-polled turns.Small s size more h = h
@@ -106,11 +138,16 @@ record IsFull (s : State) : Type 0 where
   slots : (k : ℕ) → k < length s.window.slots → 0 < length (slot_at s.window.slots k).field
   queue : HaveOctets s.queue.sdus
 
-set-full : (slots : List Sent) (at : ℕ) (h : Sent) → h.field ≡ (slot_at slots at).field → ((k : ℕ) → k < length slots → 0 < length (slot_at slots k).field) → (k : ℕ) → k < length (set slots at h) → 0 < length (slot_at (set slots at h) k).field
+set-full : (slots : List Sent) (at : ℕ) (h : Sent) → h.field ≡ (slot_at slots at).field
+    → ((k : ℕ) → k < length slots → 0 < length (slot_at slots k).field) → (k : ℕ) → k < length (set slots at h)
+    → 0 < length (slot_at (set slots at h) k).field
 set-full slots at h e f k lt =
     let l : k < length slots = omega (arith, length-set slots at h) in
     elim (cases_eq k at) [
-      | inl same ↦ rw same (subst (λ (x : Sent). 0 < length x.field) (sym (get_or-set_same slots at h nothing (omega (arith, l, same)))) (subst (λ (xs : List ℕ). 0 < length xs) (sym e) (f at (omega (arith, l, same)))))
+      | inl same ↦ rw same
+          (subst (λ (x : Sent). 0 < length x.field)
+          (sym (get_or-set_same slots at h nothing (omega (arith, l, same))))
+          (subst (λ (xs : List ℕ). 0 < length xs) (sym e) (f at (omega (arith, l, same)))))
       | inr other ↦ subst (λ (x : Sent). 0 < length x.field) (sym (get_or-set_other slots at k h nothing other)) (f k l)
     ]
 
@@ -120,20 +157,28 @@ some-append (y ∷ ys) x h s = (h.0, some-append ys x h.1 s)
 
 rest-full : (size count used : ℕ) (sdus : List (List ℕ)) → HaveOctets sdus → HaveOctets (rest 2 size count used sdus)
 rest-full size count used [] h = tt
-rest-full size count used (x ∷ xs) h = step (room 2 size count used == 0) (may_follow (room 2 size count used) x) (rest-full size (count + 1) (used + length x) xs h.1)
+rest-full size count used (x ∷ xs) h =
+    step (room 2 size count used == 0) (may_follow (room 2 size count used) x)
+    (rest-full size (count + 1) (used + length x) xs h.1)
   where
-    step : (a b : Bool) → HaveOctets (rest 2 size (count + 1) (used + length x) xs) → HaveOctets (if a then x ∷ xs else if b then rest 2 size (count + 1) (used + length x) xs else behind (room 2 size count used) (x ∷ xs))
+    step : (a b : Bool) → HaveOctets (rest 2 size (count + 1) (used + length x) xs)
+        → HaveOctets (if a then x ∷ xs else if b then rest 2 size (count + 1) (used + length x) xs
+        else behind (room 2 size count used) (x ∷ xs))
     step true b ih = h
     step false true ih = ih
     step false false ih = some-behind (room 2 size count used) (x ∷ xs) h
 
-elements-some : (size : ℕ) (sdus : List (List ℕ)) → HaveOctets sdus → 0 < length sdus → 3 ≤ size → 0 < length (concat (elements 2 size 0 0 sdus))
-elements-some size sdus h some three = by (elements 2 size 0 0 sdus) (written 2 size sdus h some (omega arith)) (whole (elements 2 size 0 0 sdus))
+elements-some : (size : ℕ) (sdus : List (List ℕ)) → HaveOctets sdus → 0 < length sdus → 3 ≤ size
+    → 0 < length (concat (elements 2 size 0 0 sdus))
+elements-some size sdus h some three =
+    by (elements 2 size 0 0 sdus) (written 2 size sdus h some (omega arith)) (whole (elements 2 size 0 0 sdus))
   where
-    by : (es : List (List ℕ)) → AreLens (map length es) → sum (map length es) ≡ length (concat es) → 0 < length (concat es)
+    by : (es : List (List ℕ)) → AreLens (map length es) → sum (map length es) ≡ length (concat es)
+        → 0 < length (concat es)
     by es l w = let p = lens-some (map length es) l in omega (arith, p, w)
 
-is-new : (s : State) (size : ℕ) (held : Option ℕ) (more : Bool) → turn s size held more ≡ turns.New → (0 < length s.queue.sdus) × (3 ≤ size)
+is-new : (s : State) (size : ℕ) (held : Option ℕ) (more : Bool) → turn s size held more ≡ turns.New
+    → (0 < length s.queue.sdus) × (3 ≤ size)
 unfolding turn
 is-new s size held more e = (grind (arith, common_steps, nat_tests), grind (arith, common_steps, nat_tests))
 
@@ -144,18 +189,33 @@ polled-full false u h = h
 new-full : (s : State) (size : ℕ) → (0 < length s.queue.sdus) × (3 ≤ size) → IsFull s → IsFull (sent_new s size)
 new-full s size able h = record {
   slots = λ k lt. elim (cases_lt k (length s.window.slots)) [
-    | inl old ↦ subst (λ (x : Sent). 0 < length x.field) (sym (at-old s.window.slots (new_slot s size) k old)) (h.slots k old)
-    | inr past ↦ subst (λ (x : Sent). 0 < length x.field) (sym (at-new s.window.slots (new_slot s size) k (omega (arith, length-append s.window.slots (new_slot s size ∷ [])))))
+    | inl old ↦ subst (λ (x : Sent). 0 < length x.field) (sym (at-old s.window.slots (new_slot s size) k old))
+        (h.slots k old)
+    | inr past ↦ subst (λ (x : Sent). 0 < length x.field)
+        (sym
+        (at-new s.window.slots (new_slot s size) k
+        (omega (arith, length-append s.window.slots (new_slot s size ∷ [])))))
         (elements-some size s.queue.sdus h.queue able.0 able.1)
   ];
   queue = rest-full size 0 0 s.queue.sdus h.queue;
 }
 
-turn-full : (t : Turn) (s : State) (size : ℕ) (more : Bool) → (t ≡ turns.New → (0 < length s.queue.sdus) × (3 ≤ size)) → IsFull s → IsFull (after_turn t s size more)
+turn-full : (t : Turn) (s : State) (size : ℕ) (more : Bool) → (t ≡ turns.New → (0 < length s.queue.sdus) × (3 ≤ size))
+    → IsFull s → IsFull (after_turn t s size more)
 unfolding after_turn
-turn-full turns.Whole s size more able h = polled-full (is_wanted (sent_whole s) more) (sent_whole s) (record { slots = set-full s.window.slots (first_place s) (rested (again s)) refl h.slots; queue = h.queue })
-turn-full turns.Part s size more able h = polled-full (is_wanted (sent_segment s size) more) (sent_segment s size) (record { slots = set-full s.window.slots (first_place s) (sent_part (again s) (next_stretch (again s) size).from (next_stretch (again s) size).to) refl h.slots; queue = h.queue })
-turn-full turns.New s size more able h = polled-full (is_wanted (sent_new s size) more) (sent_new s size) (new-full s size (able refl) h)
+turn-full turns.Whole s size more able h =
+    polled-full (is_wanted (sent_whole s) more) (sent_whole s)
+    (record { slots = set-full s.window.slots (first_place s) (rested (again s)) refl h.slots; queue = h.queue })
+turn-full turns.Part s size more able h =
+    polled-full (is_wanted (sent_segment s size) more) (sent_segment s size)
+    (record {
+      slots =
+          set-full s.window.slots (first_place s)
+          (sent_part (again s) (next_stretch (again s) size).from (next_stretch (again s) size).to) refl h.slots;
+      queue = h.queue;
+    })
+turn-full turns.New s size more able h =
+    polled-full (is_wanted (sent_new s size) more) (sent_new s size) (new-full s size (able refl) h)
 turn-full turns.Idle s size more able h = h
 turn-full turns.Stopped s size more able h = h
 turn-full turns.Small s size more able h = h
@@ -164,7 +224,8 @@ turn-full turns.Held s size more able h = h
 
 -- ---- an expiry
 
-found-some : (at : ℕ) (found : Option ℕ) (slots : List Sent) → is_some found ≡ true → is_some (last_open at found slots) ≡ true
+found-some : (at : ℕ) (found : Option ℕ) (slots : List Sent) → is_some found ≡ true
+    → is_some (last_open at found slots) ≡ true
 found-some at found [] e = e
 found-some at found (x ∷ xs) e = found-some (at + 1) (if x.acked then found else Some at) xs (step x.acked)
   where
@@ -172,14 +233,16 @@ found-some at found (x ∷ xs) e = found-some (at + 1) (if x.acked then found el
     step true = e
     step false = refl
 
-open-some : (slots : List Sent) → 0 < length slots → (slot_at slots 0).acked ≡ false → is_some (last_open 0 None slots) ≡ true
+open-some : (slots : List Sent) → 0 < length slots → (slot_at slots 0).acked ≡ false
+    → is_some (last_open 0 None slots) ≡ true
 open-some [] h e = absurd (omega arith)
 open-some (x ∷ xs) h e = found-some 1 (if x.acked then None else Some 0) xs (rw e refl)
 
 recalled-waits : (most : ℕ) (h : Sent) → 0 < length h.field → is_waiting (recalled most h) ≡ true
 recalled-waits most h some = let e : nat_lt 0 (length h.field) ≡ true = grind (arith, nat_tests) in rw e refl
 
-expired-watched : (o : Option ℕ) (s : State) (more : Bool) → recalled_place s more ≡ o → IsFull s → (0 < length s.window.slots → (slot_at s.window.slots 0).acked ≡ false)
+expired-watched : (o : Option ℕ) (s : State) (more : Bool) → recalled_place s more ≡ o → IsFull s
+    → (0 < length s.window.slots → (slot_at s.window.slots 0).acked ≡ false)
     → length (with_recalled o (with_owed s)).window.slots ≡ 512 → waits (with_recalled o (with_owed s)) ≡ false → ⊥
 expired-watched None s more e full front shut quiet =
     let q : is_quiet s more ≡ true = grind (arith, nat_tests, common_steps) in
@@ -188,8 +251,10 @@ expired-watched None s more e full front shut quiet =
     let no' : false ≡ true = sym (ap is_some is) ∙ some in cc
 expired-watched (Some at) s more e full front shut quiet =
     let lt : at < length s.window.slots = within (recalled_place s more) (recalled-within s more) e in
-    never (with_recalled (Some at) (with_owed s)) at (omega (arith, lt, length-set s.window.slots at (recalled s.config.max_retx (slot_at s.window.slots at))))
-    (ap is_waiting (get_or-set_same s.window.slots at (recalled s.config.max_retx (slot_at s.window.slots at)) nothing lt) ∙ recalled-waits s.config.max_retx (slot_at s.window.slots at) (full.slots at lt)) quiet
+    never (with_recalled (Some at) (with_owed s)) at
+    (omega (arith, lt, length-set s.window.slots at (recalled s.config.max_retx (slot_at s.window.slots at))))
+    (ap is_waiting (get_or-set_same s.window.slots at (recalled s.config.max_retx (slot_at s.window.slots at)) nothing
+    lt) ∙ recalled-waits s.config.max_retx (slot_at s.window.slots at) (full.slots at lt)) quiet
   where
     within : (o : Option ℕ) → IfSome o (λ k. k < length s.window.slots) → o ≡ Some at → at < length s.window.slots
     within None h x = let no' : None ≡ Some at = x in cc
@@ -207,12 +272,15 @@ ended-window None false s = refl
 waits-of : (s t : State) → t.window ≡ s.window → waits t ≡ waits s
 waits-of s t e = ap (λ (w : Kept). some_wait w.slots) e
 
-expiry-watched : (b : Bool) (s : State) (more : Bool) → IsFull s → (0 < length s.window.slots → (slot_at s.window.slots 0).acked ≡ false) → Watched s
+expiry-watched : (b : Bool) (s : State) (more : Bool) → IsFull s
+    → (0 < length s.window.slots → (slot_at s.window.slots 0).acked ≡ false) → Watched s
     → Watched (if b then ended (expiry_limit s more) false (expired s more) else s)
 expiry-watched false s more full front h = h
 expiry-watched true s more full front h = λ f shut quiet.
     let w = ended-window (expiry_limit s more) false (expired s more) in
-    absurd (expired-watched (recalled_place s more) s more refl full front (sym (ap (λ (k : Kept). length k.slots) w) ∙ shut) (sym (waits-of (expired s more) (ended (expiry_limit s more) false (expired s more)) w) ∙ quiet))
+    absurd (expired-watched (recalled_place s more) s more refl full front
+    (sym (ap (λ (k : Kept). length k.slots) w) ∙ shut)
+    (sym (waits-of (expired s more) (ended (expiry_limit s more) false (expired s more)) w) ∙ quiet))
 
 -- ---- a STATUS
 
@@ -234,19 +302,29 @@ considered-field : (o : Option Bool) (most : ℕ) (h : Sent) → (considered_by 
 considered-field None most h = refl
 considered-field (Some new) most h = refl
 
-final-field : (w : Kept) (below most : ℕ) (ns : List Nack) (k : ℕ) → (slot_at w.slots k).acked ≡ false → (final w below most ns k).field ≡ (slot_at w.slots k).field
+final-field : (w : Kept) (below most : ℕ) (ns : List Nack) (k : ℕ) → (slot_at w.slots k).acked ≡ false
+    → (final w below most ns k).field ≡ (slot_at w.slots k).field
 final-field w below most ns k e = step (some_parts (parts_at w.base k ns))
   where
-    kept : (acked_if (nat_lt k below) (named_by (parts_at w.base k ns) (slot_at w.slots k))).field ≡ (slot_at w.slots k).field
-    kept = if-field (nat_lt k below) (named_by (parts_at w.base k ns) (slot_at w.slots k)) ∙ (all-named-by (parts_at w.base k ns) (slot_at w.slots k) e).field
+    kept : (acked_if (nat_lt k below) (named_by (parts_at w.base k ns) (slot_at w.slots k))).field
+        ≡ (slot_at w.slots k).field
+    kept = if-field (nat_lt k below) (named_by (parts_at w.base k ns) (slot_at w.slots k))
+        ∙ (all-named-by (parts_at w.base k ns) (slot_at w.slots k) e).field
 
-    step : (b : Bool) → (if b then considered most (acked_if (nat_lt k below) (named_by (parts_at w.base k ns) (slot_at w.slots k))) else acked_if (nat_lt k below) (named_by (parts_at w.base k ns) (slot_at w.slots k))).field ≡ (slot_at w.slots k).field
-    step true = considered-field (acked_if (nat_lt k below) (named_by (parts_at w.base k ns) (slot_at w.slots k))).named most (acked_if (nat_lt k below) (named_by (parts_at w.base k ns) (slot_at w.slots k))) ∙ kept
+    step : (b : Bool)
+        → (if b then considered most (acked_if (nat_lt k below) (named_by (parts_at w.base k ns) (slot_at w.slots k)))
+        else acked_if (nat_lt k below) (named_by (parts_at w.base k ns) (slot_at w.slots k))).field
+        ≡ (slot_at w.slots k).field
+    step true =
+        considered-field (acked_if (nat_lt k below) (named_by (parts_at w.base k ns) (slot_at w.slots k))).named most
+        (acked_if (nat_lt k below) (named_by (parts_at w.base k ns) (slot_at w.slots k))) ∙ kept
     step false = kept
 
 -- what a STATUS names waits
-named-waits : (w : Kept) (below most : ℕ) (ns : List Nack) (m : Marks) (k i : ℕ) → Holds w m most → k < length w.slots → is_named w.base k ns ≡ true → (slot_at w.slots k).acked ≡ false
-    → i < length (slot_at w.slots k).field → names w.base k ns (length (slot_at w.slots k).field) i ≡ true → is_waiting (slot_at (heard_slots w below most ns) k) ≡ true
+named-waits : (w : Kept) (below most : ℕ) (ns : List Nack) (m : Marks) (k i : ℕ) → Holds w m most → k < length w.slots
+    → is_named w.base k ns ≡ true → (slot_at w.slots k).acked ≡ false
+    → i < length (slot_at w.slots k).field → names w.base k ns (length (slot_at w.slots k).field) i ≡ true
+    → is_waiting (slot_at (heard_slots w below most ns) k) ≡ true
 named-waits w below most ns m k i h lt e a i_in nm = by (is_waiting (slot_at (heard_slots w below most ns) k)) refl
   where
     here : heard_waits w below ns m.waits (w.base + k) i ≡ true
@@ -255,8 +333,11 @@ named-waits w below most ns m k i h lt e a i_in nm = by (is_waiting (slot_at (he
     by : (b : Bool) → is_waiting (slot_at (heard_slots w below most ns) k) ≡ b → b ≡ true
     by true q = refl
     by false q =
-        let n = rest-none (slot_at (heard_slots w below most ns) k) (heard_waits w below ns m.waits (w.base + k)) (heard_namings w ns m (w.base + k)) most (heard-slot w below most ns m k lt (h.slots k lt)) q i
-        (subst (λ (xs : List ℕ). i < length xs) (sym (ap (λ (x : Sent). x.field) (final-slot w below most ns k lt) ∙ final-field w below most ns k a)) i_in) in
+        let n = rest-none (slot_at (heard_slots w below most ns) k) (heard_waits w below ns m.waits (w.base + k))
+        (heard_namings w ns m (w.base + k)) most (heard-slot w below most ns m k lt (h.slots k lt)) q i
+        (subst (λ (xs : List ℕ). i < length xs)
+        (sym (ap (λ (x : Sent). x.field) (final-slot w below most ns k lt) ∙ final-field w below most ns k a))
+        i_in) in
         sym n ∙ here
 
 none-parts : (ps : List _) → some_parts ps ≡ false → ps ≡ []
@@ -264,17 +345,24 @@ none-parts [] e = refl
 none-parts (p ∷ ps) e = let no' : true ≡ false = e in cc
 
 -- what it doesn't name, and that doesn't lie below its ACK_SN, stays
-still-slot : (w : Kept) (below most : ℕ) (ns : List Nack) (k : ℕ) → k < length w.slots → is_named w.base k ns ≡ false → below ≡ 0 → slot_at (heard_slots w below most ns) k ≡ slot_at w.slots k
+still-slot : (w : Kept) (below most : ℕ) (ns : List Nack) (k : ℕ) → k < length w.slots → is_named w.base k ns ≡ false
+    → below ≡ 0 → slot_at (heard_slots w below most ns) k ≡ slot_at w.slots k
 still-slot w below most ns k lt e z =
-    final-slot w below most ns k lt ∙ (ap (λ (ps : List _). if some_parts ps then considered most (acked_if (nat_lt k below) (named_by ps (slot_at w.slots k))) else acked_if (nat_lt k below) (named_by ps (slot_at w.slots k))) (none-parts (parts_at w.base k ns) (sym (named-parts w.base k ns) ∙ e))
+    final-slot w below most ns k lt
+    ∙ (ap (λ (ps : List _). if some_parts ps
+    then considered most (acked_if (nat_lt k below) (named_by ps (slot_at w.slots k)))
+    else acked_if (nat_lt k below) (named_by ps (slot_at w.slots k)))
+    (none-parts (parts_at w.base k ns) (sym (named-parts w.base k ns) ∙ e))
     ∙ ap (λ (b : Bool). acked_if b (slot_at w.slots k)) (off z))
   where
     off : below ≡ 0 → nat_lt k below ≡ false
     off z = grind (arith, nat_tests)
 
-still : (s : State) (status : StatusPdu) (below : ℕ) (m : Marks) (acked : ℕ → Bool) → offset_of s.window.base status.ack ≡ below → Stands s m → IsHonest s status → Fits s.window acked
+still : (s : State) (status : StatusPdu) (below : ℕ) (m : Marks) (acked : ℕ → Bool)
+    → offset_of s.window.base status.ack ≡ below → Stands s m → IsHonest s status → Fits s.window acked
     → Fits (read s below status.nacks).window (λ n. acked n || (true && acks s.window.base below status.nacks n))
-    → length (read s below status.nacks).window.slots ≡ 512 → waits (read s below status.nacks) ≡ false → IsStill s below status.nacks
+    → length (read s below status.nacks).window.slots ≡ 512 → waits (read s below status.nacks) ≡ false
+    → IsStill s below status.nacks
 still s status below m acked is h honest fits after' shut quiet = record {
   few = omega (arith, few, len, len-drop, shut);
   none = unnamed;
@@ -315,7 +403,8 @@ still s status below m acked is h honest fits after' shut quiet = record {
         step true e =
             let o = (honest 0 many e).octet open' in
             absurd (never (read s below status.nacks) 0 (omega (arith, many, len, len-drop, none-lead))
-            (ap is_waiting (same 0) ∙ named-waits s.window below s.config.max_retx status.nacks m 0 o.0 h many e open' o.1 o.2) quiet)
+            (ap is_waiting (same 0) ∙ named-waits s.window below s.config.max_retx status.nacks m 0 o.0 h many e open'
+            o.1 o.2) quiet)
 
     zero_below : below ≡ 0
     zero_below = by (nat_lt 0 below) refl
@@ -324,13 +413,18 @@ still s status below m acked is h honest fits after' shut quiet = record {
         by false e = grind (arith, nat_tests)
         by true e =
             let some : 0 < length (read s below status.nacks).window.slots = omega (arith, shut) in
-            let front : (acked (s.window.base + leading_acked all + 0) || (true && acks s.window.base below status.nacks (s.window.base + leading_acked all + 0))) ≡ false = sym (after'.slots 0 some) ∙ after'.front some in
+            let front : (acked (s.window.base + leading_acked all + 0)
+            || (true && acks s.window.base below status.nacks (s.window.base + leading_acked all + 0))) ≡ false =
+            sym (after'.slots 0 some) ∙ after'.front some in
             let at : s.window.base + leading_acked all + 0 ≡ s.window.base = omega (arith, none-lead) in
             let low : nat_le s.window.base s.window.base ≡ true = grind (arith, nat_tests) in
             let high : nat_lt s.window.base (s.window.base + below) ≡ true = grind (arith, nat_tests) in
             let zero' : s.window.base - s.window.base ≡ 0 = omega arith in
-            let is : (acked s.window.base || (true && acks s.window.base below status.nacks s.window.base)) ≡ true = rw (low, high, zero', first) (or-true (acked s.window.base)) in
-            let no' : true ≡ false = sym is ∙ subst (λ (n : ℕ). (acked n || (true && acks s.window.base below status.nacks n)) ≡ false) at front in cc
+            let is : (acked s.window.base || (true && acks s.window.base below status.nacks s.window.base)) ≡ true =
+            rw (low, high, zero', first) (or-true (acked s.window.base)) in
+            let no' : true ≡ false =
+            sym is ∙ subst (λ (n : ℕ). (acked n || (true && acks s.window.base below status.nacks n)) ≡ false) at
+            front in cc
 
     unnamed : (k : ℕ) → k < length s.window.slots → is_named s.window.base k status.nacks ≡ false
     unnamed k lt = step (is_named s.window.base k status.nacks) refl
@@ -339,7 +433,8 @@ still s status below m acked is h honest fits after' shut quiet = record {
         step false e = refl
         step true e = let b = (honest k lt e).below in absurd (omega (arith, b, is, zero_below))
 
-still-waits : (s : State) (below : ℕ) (ns : List Nack) → IsStill s below ns → waits (read s below ns) ≡ false → waits s ≡ false
+still-waits : (s : State) (below : ℕ) (ns : List Nack) → IsStill s below ns → waits (read s below ns) ≡ false
+    → waits s ≡ false
 still-waits s below ns t quiet = by (waits s) refl
   where
     by : (b : Bool) → waits s ≡ b → b ≡ false
@@ -347,12 +442,23 @@ still-waits s below ns t quiet = by (waits s) refl
     by true e =
         let lt = is-below s e in
         let k = leading_idle s.window.slots in
-        let at = slot-drop (heard_slots s.window below s.config.max_retx ns) (leading_acked (heard_slots s.window below s.config.max_retx ns)) (leading_idle s.window.slots) ∙ ap (λ (j : ℕ). slot_at (heard_slots s.window below s.config.max_retx ns) j) (omega (arith, t.lead)) in
+        let at = slot-drop (heard_slots s.window below s.config.max_retx ns)
+        (leading_acked (heard_slots s.window below s.config.max_retx ns)) (leading_idle s.window.slots)
+        ∙ ap (λ (j : ℕ). slot_at (heard_slots s.window below s.config.max_retx ns) j) (omega (arith, t.lead)) in
         absurd (never (read s below ns) (leading_idle s.window.slots)
-        (omega (arith, lt, t.lead, heard-length s.window below s.config.max_retx ns, length-drop (leading_acked (heard_slots s.window below s.config.max_retx ns)) (heard_slots s.window below s.config.max_retx ns)))
-        (ap is_waiting (at ∙ still-slot s.window below s.config.max_retx ns (leading_idle s.window.slots) lt (t.none (leading_idle s.window.slots) lt) t.nothing_below) ∙ first-waits s.window.slots lt) quiet)
+        (omega (
+          arith,
+          lt,
+          t.lead,
+          heard-length s.window below s.config.max_retx ns,
+          length-drop (leading_acked (heard_slots s.window below s.config.max_retx ns))
+              (heard_slots s.window below s.config.max_retx ns),
+        ))
+        (ap is_waiting (at ∙ still-slot s.window below s.config.max_retx ns (leading_idle s.window.slots) lt
+        (t.none (leading_idle s.window.slots) lt) t.nothing_below) ∙ first-waits s.window.slots lt) quiet)
 
-still-stops : (s : State) (below : ℕ) (ns : List Nack) → IsStill s below ns → s.window.base ≤ s.polls.poll_number → Polled s → stops s below ns ≡ false
+still-stops : (s : State) (below : ℕ) (ns : List Nack) → IsStill s below ns → s.window.base ≤ s.polls.poll_number
+    → Polled s → stops s below ns ≡ false
 still-stops s below ns t le polled =
     let k_in : s.polls.poll_number - s.window.base < length s.window.slots = omega (arith, le, polled, t.few) in
     let n = t.none (s.polls.poll_number - s.window.base) k_in in
@@ -366,7 +472,9 @@ still-stops s below ns t le polled =
     off true = refl
     off false = refl
 
-ended-watched : (l : Option ℕ) (b : Bool) (r : State) → l ≡ None → b ≡ false → (runs r.polls.timer ≡ true) × (r.window.base ≤ r.polls.poll_number) → (runs (ended l b r).polls.timer ≡ true) × ((ended l b r).window.base ≤ (ended l b r).polls.poll_number)
+ended-watched : (l : Option ℕ) (b : Bool) (r : State) → l ≡ None → b ≡ false
+    → (runs r.polls.timer ≡ true) × (r.window.base ≤ r.polls.poll_number)
+    → (runs (ended l b r).polls.timer ≡ true) × ((ended l b r).window.base ≤ (ended l b r).polls.poll_number)
 ended-watched (Some sn) b r e f h = let no' : Some sn ≡ None = e in cc
 ended-watched None true r e f h = let no' : true ≡ false = f in cc
 ended-watched None false r e f h = h
@@ -389,14 +497,21 @@ record Guards (s : State) (m : Marks) (acked : ℕ → Bool) : Type 0 where
   polled : Polled s
   watched : Watched s
 
-status-watched : (b : Bool) (s : State) (status : StatusPdu) (m : Marks) (acked : ℕ → Bool) → is_ignored s status.ack ≡ b → IsHonest s status → Guards s m acked → Watched (if b then s else applied s (offset_of s.window.base status.ack) status.nacks)
+status-watched : (b : Bool) (s : State) (status : StatusPdu) (m : Marks) (acked : ℕ → Bool)
+    → is_ignored s status.ack ≡ b → IsHonest s status → Guards s m acked
+    → Watched (if b then s else applied s (offset_of s.window.base status.ack) status.nacks)
 status-watched true s status m acked e honest g = g.watched
 status-watched false s status m acked e honest g = λ f shut quiet.
     let w = ended-window (limit_of s below status.nacks) (stops s below status.nacks) (read s below status.nacks) in
-    let shut' : length (read s below status.nacks).window.slots ≡ 512 = sym (ap (λ (k : Kept). length k.slots) w) ∙ shut in
-    let quiet' : waits (read s below status.nacks) ≡ false = sym (waits-of (read s below status.nacks) (applied s below status.nacks) w) ∙ quiet in
-    let t = still s status below m acked refl g.stands honest g.fits (heard s.window acked below s.config.max_retx status.nacks within g.fits) shut' quiet' in
-    let old = g.watched (ended-failed (limit_of s below status.nacks) (stops s below status.nacks) (read s below status.nacks) f) t.few (still-waits s below status.nacks t quiet') in
+    let shut' : length (read s below status.nacks).window.slots ≡ 512 =
+    sym (ap (λ (k : Kept). length k.slots) w) ∙ shut in
+    let quiet' : waits (read s below status.nacks) ≡ false =
+    sym (waits-of (read s below status.nacks) (applied s below status.nacks) w) ∙ quiet in
+    let t = still s status below m acked refl g.stands honest g.fits
+    (heard s.window acked below s.config.max_retx status.nacks within g.fits) shut' quiet' in
+    let old =
+    g.watched (ended-failed (limit_of s below status.nacks) (stops s below status.nacks)
+    (read s below status.nacks) f) t.few (still-waits s below status.nacks t quiet') in
     ended-watched (limit_of s below status.nacks) (stops s below status.nacks) (read s below status.nacks)
     (ended-none (limit_of s below status.nacks) (stops s below status.nacks) (read s below status.nacks) f)
     (still-stops s below status.nacks t old.1 g.polled)
@@ -408,25 +523,37 @@ status-watched false s status m acked e honest g = λ f shut quiet.
     within : offset_of s.window.base status.ack ≤ length s.window.slots
     within = grind (arith, nat_tests)
 
-any-field : (w : Kept) (below most : ℕ) (ns : List Nack) (k : ℕ) → (final w below most ns k).field ≡ (slot_at w.slots k).field
+any-field : (w : Kept) (below most : ℕ) (ns : List Nack) (k : ℕ)
+    → (final w below most ns k).field ≡ (slot_at w.slots k).field
 any-field w below most ns k = by (slot_at w.slots k).acked refl
   where
-    kept : (slot_at w.slots k).acked ≡ true → (acked_if (nat_lt k below) (named_by (parts_at w.base k ns) (slot_at w.slots k))).field ≡ (slot_at w.slots k).field
-    kept e = if-field (nat_lt k below) (named_by (parts_at w.base k ns) (slot_at w.slots k)) ∙ ap (λ (x : Sent). x.field) (named-acked (parts_at w.base k ns) (slot_at w.slots k) e)
+    kept : (slot_at w.slots k).acked ≡ true
+        → (acked_if (nat_lt k below) (named_by (parts_at w.base k ns) (slot_at w.slots k))).field
+        ≡ (slot_at w.slots k).field
+    kept e = if-field (nat_lt k below) (named_by (parts_at w.base k ns) (slot_at w.slots k))
+        ∙ ap (λ (x : Sent). x.field) (named-acked (parts_at w.base k ns) (slot_at w.slots k) e)
 
-    step : (b : Bool) → (slot_at w.slots k).acked ≡ true → (if b then considered most (acked_if (nat_lt k below) (named_by (parts_at w.base k ns) (slot_at w.slots k))) else acked_if (nat_lt k below) (named_by (parts_at w.base k ns) (slot_at w.slots k))).field ≡ (slot_at w.slots k).field
-    step true e = considered-field (acked_if (nat_lt k below) (named_by (parts_at w.base k ns) (slot_at w.slots k))).named most (acked_if (nat_lt k below) (named_by (parts_at w.base k ns) (slot_at w.slots k))) ∙ kept e
+    step : (b : Bool) → (slot_at w.slots k).acked ≡ true
+        → (if b then considered most (acked_if (nat_lt k below) (named_by (parts_at w.base k ns) (slot_at w.slots k)))
+        else acked_if (nat_lt k below) (named_by (parts_at w.base k ns) (slot_at w.slots k))).field
+        ≡ (slot_at w.slots k).field
+    step true e =
+        considered-field (acked_if (nat_lt k below) (named_by (parts_at w.base k ns) (slot_at w.slots k))).named most
+        (acked_if (nat_lt k below) (named_by (parts_at w.base k ns) (slot_at w.slots k))) ∙ kept e
     step false e = kept e
 
     by : (a : Bool) → (slot_at w.slots k).acked ≡ a → (final w below most ns k).field ≡ (slot_at w.slots k).field
     by true e = step (some_parts (parts_at w.base k ns)) e
     by false e = final-field w below most ns k e
 
-status-full : (b : Bool) (s : State) (status : StatusPdu) → IsFull s → IsFull (if b then s else applied s (offset_of s.window.base status.ack) status.nacks)
+status-full : (b : Bool) (s : State) (status : StatusPdu) → IsFull s
+    → IsFull (if b then s else applied s (offset_of s.window.base status.ack) status.nacks)
 status-full true s status h = h
 status-full false s status h = record {
   slots = λ k lt. subst (λ (w : Kept). k < length w.slots → 0 < length (slot_at w.slots k).field) (sym w) (here k) lt;
-  queue = subst (λ (q : _). HaveOctets q.sdus) (sym (queue-same (limit_of s below status.nacks) (stops s below status.nacks))) h.queue;
+  queue =
+      subst (λ (q : _). HaveOctets q.sdus)
+      (sym (queue-same (limit_of s below status.nacks) (stops s below status.nacks))) h.queue;
 }
   where
     below : ℕ
@@ -446,16 +573,24 @@ status-full false s status h = record {
     queue-same None true = refl
     queue-same None false = refl
 
-    here : (k : ℕ) → k < length (read s below status.nacks).window.slots → 0 < length (slot_at (read s below status.nacks).window.slots k).field
+    here : (k : ℕ) → k < length (read s below status.nacks).window.slots
+        → 0 < length (slot_at (read s below status.nacks).window.slots k).field
     here k lt =
-        let j : leading_acked all + k < length s.window.slots = omega (arith, lt, len, length-drop (leading_acked all) all) in
-        let e = ap (λ (x : Sent). x.field) (slot-drop all (leading_acked all) k ∙ final-slot s.window below s.config.max_retx status.nacks (leading_acked all + k) j) ∙ any-field s.window below s.config.max_retx status.nacks (leading_acked all + k) in
+        let j : leading_acked all + k < length s.window.slots =
+        omega (arith, lt, len, length-drop (leading_acked all) all) in
+        let e =
+        ap (λ (x : Sent). x.field) (slot-drop all (leading_acked all) k
+        ∙ final-slot s.window below s.config.max_retx status.nacks (leading_acked all + k) j)
+        ∙ any-field s.window below s.config.max_retx status.nacks (leading_acked all + k) in
         subst (λ (xs : List ℕ). 0 < length xs) (sym e) (h.slots (leading_acked all + k) j)
 
-status-polled : (b : Bool) (s : State) (status : StatusPdu) → Polled s → Polled (if b then s else applied s (offset_of s.window.base status.ack) status.nacks)
+status-polled : (b : Bool) (s : State) (status : StatusPdu) → Polled s
+    → Polled (if b then s else applied s (offset_of s.window.base status.ack) status.nacks)
 status-polled true s status h = h
 status-polled false s status h = let n = applied-next s (offset_of s.window.base status.ack) status in
-    let p = ended-number (limit_of s (offset_of s.window.base status.ack) status.nacks) (stops s (offset_of s.window.base status.ack) status.nacks) (read s (offset_of s.window.base status.ack) status.nacks) in
+    let p = ended-number (limit_of s (offset_of s.window.base status.ack) status.nacks)
+    (stops s (offset_of s.window.base status.ack) status.nacks)
+    (read s (offset_of s.window.base status.ack) status.nacks) in
     omega (arith, n, p, h)
 
 -- ---- the other calls
@@ -464,25 +599,35 @@ recalled-number : (o : Option ℕ) (s : State) → (with_recalled o s).polls.pol
 recalled-number None s = refl
 recalled-number (Some at) s = refl
 
-expiry-polled : (b : Bool) (s : State) (more : Bool) → Polled s → Polled (if b then ended (expiry_limit s more) false (expired s more) else s)
+expiry-polled : (b : Bool) (s : State) (more : Bool) → Polled s
+    → Polled (if b then ended (expiry_limit s more) false (expired s more) else s)
 expiry-polled false s more h = h
 expiry-polled true s more h =
-    let a = ended-next (expiry_limit s more) false (expired s more) in let b = recalled-next (recalled_place s more) (with_owed s) in
-    let c = ended-number (expiry_limit s more) false (expired s more) in let d = recalled-number (recalled_place s more) (with_owed s) in
+    let a = ended-next (expiry_limit s more) false (expired s more) in
+    let b = recalled-next (recalled_place s more) (with_owed s) in
+    let c = ended-number (expiry_limit s more) false (expired s more) in
+    let d = recalled-number (recalled_place s more) (with_owed s) in
     omega (arith, a, b, c, d, h)
 
 recalled-full : (o : Option ℕ) (s : State) → IsFull s → IsFull (with_recalled o s)
 recalled-full None s h = h
-recalled-full (Some at) s h = record { slots = set-full s.window.slots at (recalled s.config.max_retx (slot_at s.window.slots at)) refl h.slots; queue = h.queue }
+recalled-full (Some at) s h =
+    record {
+      slots = set-full s.window.slots at (recalled s.config.max_retx (slot_at s.window.slots at)) refl h.slots;
+      queue = h.queue;
+    }
 
 ended-full : (l : Option ℕ) (b : Bool) (s : State) → IsFull s → IsFull (ended l b s)
 ended-full (Some sn) b s h = record { slots = h.slots; queue = h.queue }
 ended-full None true s h = record { slots = h.slots; queue = h.queue }
 ended-full None false s h = h
 
-expiry-full : (b : Bool) (s : State) (more : Bool) → IsFull s → IsFull (if b then ended (expiry_limit s more) false (expired s more) else s)
+expiry-full : (b : Bool) (s : State) (more : Bool) → IsFull s
+    → IsFull (if b then ended (expiry_limit s more) false (expired s more) else s)
 expiry-full false s more h = h
-expiry-full true s more h = ended-full (expiry_limit s more) false (expired s more) (recalled-full (recalled_place s more) (with_owed s) (record { slots = h.slots; queue = h.queue }))
+expiry-full true s more h =
+    ended-full (expiry_limit s more) false (expired s more)
+    (recalled-full (recalled_place s more) (with_owed s) (record { slots = h.slots; queue = h.queue }))
 
 settled-full : (b : Bool) (s : State) → IsFull s → IsFull (settled_by b s)
 settled-full true s h = record { slots = h.slots; queue = h.queue }
@@ -523,28 +668,33 @@ polled-after s (Expire more) h = expiry-polled (runs s.polls.timer) s more h
 polled-after s (Settle more) h = settled-polled (settles s more) s h
 polled-after s Confirm h = h
 
-watched-after : (s : State) (c : Call) (m : Marks) (acked : ℕ → Bool) → IsFair s c → Guards s m acked → Watched (after s c)
+watched-after : (s : State) (c : Call) (m : Marks) (acked : ℕ → Bool) → IsFair s c → Guards s m acked
+    → Watched (after s c)
 unfolding after_status after_expiry
 watched-after s (Offer sdu) m acked fair g = g.watched
 watched-after s (Take size held more) m acked fair g = turn-watched (turn s size held more) s size more g.watched
 watched-after s (Status status) m acked fair g = status-watched (is_ignored s status.ack) s status m acked refl fair g
-watched-after s Tick m acked fair g = λ f shut quiet. let h = g.watched f shut quiet in (ticked-runs s.polls.timer ∙ h.0, h.1)
+watched-after s Tick m acked fair g = λ f shut quiet. let h = g.watched f shut quiet in
+    (ticked-runs s.polls.timer ∙ h.0, h.1)
 watched-after s (Expire more) m acked fair g = expiry-watched (runs s.polls.timer) s more g.full g.fits.front g.watched
 watched-after s (Settle more) m acked fair g = settled-watched (settles s more) s g.watched
 watched-after s Confirm m acked fair g = g.watched
 
-run-guards : (calls : List Call) (s : State) (m : Marks) (acked : ℕ → Bool) → AreFair s calls → Guards s m acked → Watched (state_after calls s)
+run-guards : (calls : List Call) (s : State) (m : Marks) (acked : ℕ → Bool) → AreFair s calls → Guards s m acked
+    → Watched (state_after calls s)
 run-guards [] s m acked fair g = g.watched
-run-guards (c ∷ cs) s m acked fair g = run-guards cs (after s c) (marks_after s c m) (acked_after s c acked) fair.1 (record {
-  stands = after-stands s c m g.stands;
-  fits = after-fits s c acked g.fits;
-  full = full-after s c fair.0 g.full;
-  polled = polled-after s c g.polled;
-  watched = watched-after s c m acked fair.0 g;
-})
+run-guards (c ∷ cs) s m acked fair g =
+    run-guards cs (after s c) (marks_after s c m) (acked_after s c acked) fair.1 (record {
+      stands = after-stands s c m g.stands;
+      fits = after-fits s c acked g.fits;
+      full = full-after s c fair.0 g.full;
+      polled = polled-after s c g.polled;
+      watched = watched-after s c m acked fair.0 g;
+    })
 
 -- `settle` sees to the rest
-settled-runs : (s : State) (more : Bool) → Watched s → s.failed ≡ false → 0 < length s.window.slots → is_quiet s more ≡ true → runs (settled s more).polls.timer ≡ true
+settled-runs : (s : State) (more : Bool) → Watched s → s.failed ≡ false → 0 < length s.window.slots
+    → is_quiet s more ≡ true → runs (settled s more).polls.timer ≡ true
 unfolding settles
 settled-runs s more h f some quiet = by (settles s more) refl
   where
@@ -560,7 +710,8 @@ settled-runs s more h f some quiet = by (settles s more) refl
             let w = h f shut idle in sym x ∙ w.0
         two false false x y =
             let none : (length s.window.slots == 0) ≡ false = grind (arith, nat_tests) in
-            let t : settles s more ≡ true = grind (arith, nat_tests, common_steps) in let no' : false ≡ true = sym e ∙ t in cc
+            let t : settles s more ≡ true = grind (arith, nat_tests, common_steps) in
+            let no' : false ≡ true = sym e ∙ t in cc
 
 pub watches : RunsThePollTimer
 watches config calls fair = record {

@@ -1,5 +1,8 @@
 -- What data PDUs carry, along every run.
-use Rattle.std.proofs.Common.{◌≡◌, ◌<◌, ◌≤◌, inl, inr, ℕ, ◌+◌, ◌-◌, ◌%◌, Bool, true, false, ◌&&◌, ◌==◌, if◌then◌else◌, List, [], ◌∷◌, ◌++◌, length, map, take, drop, slice_range, slice_index_or, Option, Some, None, is_some, refl, ap, sym, subst, ◌∙◌, arith, nat_lt, nat_le, length-append, length-drop}
+use Rattle.std.proofs.Common.{◌≡◌, ◌<◌, ◌≤◌, inl, inr, ℕ, ◌+◌, ◌-◌, ◌%◌, Bool, true, false, ◌&&◌, ◌==◌, if◌then◌else◌}
+use Rattle.std.proofs.Common.{List, [], ◌∷◌, ◌++◌, length, map, take, drop, slice_range, slice_index_or, Option, Some}
+use Rattle.std.proofs.Common.{None, is_some, refl, ap, sym, subst, ◌∙◌, arith, nat_lt, nat_le, length-append}
+use Rattle.std.proofs.Common.{length-drop}
 use Rattle.std.specs.Prelude.{IfSome, MatchOption}
 use Rattle.std.specs.List.{AllByRecursion, sum}
 use Rattle.std.proofs.lemmas.Grind.{common_steps}
@@ -21,7 +24,8 @@ use Rattle.rlc_queue.specs.NewPdu.{rest, framing}
 use Rattle.rlc_queue.specs.Waiting.{HaveOctets}
 use Rattle.rlc_queue.proofs.Lens.{whole, written as new-lens}
 use Rattle.rlc_am_tx_window.specs.Cut.{clip, is_cut}
-use Rattle.rlc_am_tx_window.specs.Sent.{Sent, Stretch, Lies, first_waiting, is_waiting, is_all, all_wait, whole_size, next_stretch, stretch_from, stretch_in, rested, sent_part, recalled}
+use Rattle.rlc_am_tx_window.specs.Sent.{Sent, Stretch, Lies, first_waiting, is_waiting, is_all, all_wait, whole_size}
+use Rattle.rlc_am_tx_window.specs.Sent.{next_stretch, stretch_from, stretch_in, rested, sent_part, recalled}
 use Rattle.rlc_am_tx_window.specs.Window.{next, slot_at, offset_of, leading_acked}
 use Rattle.rlc_am_tx_window.specs.Written.{begins_at, ends_at, whole_octets, part_octets}
 use Rattle.rlc_am_tx_window.proofs.CutFits.{cut-fits, written-len}
@@ -29,11 +33,18 @@ use Rattle.rlc_am_tx_window.proofs.CutSteps.{lens-some, clip-sum, clip-lens}
 use Rattle.rlc_am_tx_window.proofs.SlotSteps.{gap-lies}
 use Rattle.rlc_am_tx.specs.declared.turn.Turn.{Turn}
 use Rattle.rlc_am_tx.specs.declared.turn.Turn.TheVariants as turns
-use Rattle.rlc_am_tx.specs.Machine.{State, turn, waits, answer_of, after_turn, after_status, after_expiry, is_ignored, with_poll, is_wanted, again, number_again, first_place, sent_whole, sent_segment, sent_new, new_slot, new_elements, new_partial, ended, limit_of, stops, read, applied, with_recalled, with_owed, expired, recalled_place, expiry_limit, settled_by, settles}
+use Rattle.rlc_am_tx.specs.Machine.{State, turn, waits, answer_of, after_turn, after_status, after_expiry, is_ignored}
+use Rattle.rlc_am_tx.specs.Machine.{with_poll, is_wanted, again, number_again, first_place, sent_whole, sent_segment}
+use Rattle.rlc_am_tx.specs.Machine.{sent_new, new_slot, new_elements, new_partial, ended, limit_of, stops, read}
+use Rattle.rlc_am_tx.specs.Machine.{applied, with_recalled, with_owed, expired, recalled_place, expiry_limit}
+use Rattle.rlc_am_tx.specs.Machine.{settled_by, settles}
 use Rattle.rlc_am_tx.proofs.SendSteps.{first-waits}
-use Rattle.law_rlc.specs.AmSender.Run.{Call, Offer, Take, Status, Tick, Expire, Settle, Confirm, World, after, run as run_all, begun}
+use Rattle.law_rlc.specs.AmSender.Run.{Call, Offer, Take, Status, Tick, Expire, Settle, Confirm, World, after}
+use Rattle.law_rlc.specs.AmSender.Run.{run as run_all, begun}
 use Rattle.law_rlc.specs.AmSender.Resent.{IsResent, IsSegment, IsWhole}
-use Rattle.law_rlc.specs.AmSender.Octets.{Place, places, first_begins, last_ends, lengths, written, segment_of, again_octets, Octets, nothing_sent, sent_with, new_count, octets_by, moved, octets_after, IsAgain, IsWritten, HasOctets, WritesTheStream}
+use Rattle.law_rlc.specs.AmSender.Octets.{Place, places, first_begins, last_ends, lengths, written, segment_of}
+use Rattle.law_rlc.specs.AmSender.Octets.{again_octets, Octets, nothing_sent, sent_with, new_count, octets_by, moved}
+use Rattle.law_rlc.specs.AmSender.Octets.{octets_after, IsAgain, IsWritten, HasOctets, WritesTheStream}
 use Rattle.law_rlc.proofs.AmSender.Slots.{leading-length, slot-drop}
 use Rattle.law_rlc.proofs.AmSender.Least.{heard_slots, heard-length, at-old, at-new}
 use Rattle.law_rlc.proofs.AmSender.Keys.{Key, key, keys, set-keys, heard-keys, keys-length, same-keys}
@@ -41,7 +52,8 @@ use Rattle.law_rlc.proofs.AmSender.Marked.{IsSlot, Stands, after-stands, start-s
 use Rattle.law_rlc.proofs.AmSender.Resends.{whole-waits, resent-of, is-below, not-true}
 use Rattle.law_rlc.proofs.AmSender.Longest.{longest}
 use Rattle.law_rlc.proofs.AmSender.SegmentLens.{cuts, clip-clip}
-use Rattle.law_rlc.proofs.AmSender.Stretches.{place_at, Joined, joined-at, joined-front, first-at, last-at, cut-of, clip-range, range-at, range-all, range-length, range-octets, nowhere}
+use Rattle.law_rlc.proofs.AmSender.Stretches.{place_at, Joined, joined-at, joined-front, first-at, last-at, cut-of}
+use Rattle.law_rlc.proofs.AmSender.Stretches.{clip-range, range-at, range-all, range-length, range-octets, nowhere}
 use Rattle.law_rlc.proofs.AmSender.Dealing.{IsTaken, stream, stream-end, stream-joined, taken as dealt}
 
 -- ---- a PDU by what it carries
@@ -59,9 +71,11 @@ pub face-length : (k : Key) (ps : List Place) → IsFace k ps → length k.field
 face-length k ps f = ap (λ (xs : List ℕ). length xs) f.field ∙ length-map ps (λ (p : Place). p.octet)
 
 pub face-some : (k : Key) (ps : List Place) → IsFace k ps → 0 < length ps
-face-some k ps f = let a = lens-some k.lens f.written in let b = f.whole in let c = face-length k ps f in omega (arith, a, b, c)
+face-some k ps f = let a = lens-some k.lens f.written in let b = f.whole in let c = face-length k ps f in
+    omega (arith, a, b, c)
 
-same-written : (sn : ℕ) (poll b b' e e' : Bool) (segment : Option Segment) (ls ls' xs xs' : List ℕ) → b ≡ b' → e ≡ e' → ls ≡ ls' → xs ≡ xs'
+same-written : (sn : ℕ) (poll b b' e e' : Bool) (segment : Option Segment) (ls ls' xs xs' : List ℕ) → b ≡ b' → e ≡ e'
+    → ls ≡ ls' → xs ≡ xs'
     → amd_written sn poll (framing b e) segment ls xs ≡ amd_written sn poll (framing b' e') segment ls' xs'
 same-written sn poll b b' e e' segment ls ls' xs xs' p q r t =
     ap (λ (c : Bool). amd_written sn poll (framing c e) segment ls xs) p
@@ -69,73 +83,104 @@ same-written sn poll b b' e e' segment ls ls' xs xs' p q r t =
     ∙ (ap (λ (ks : List ℕ). amd_written sn poll (framing b' e') segment ks xs) r
     ∙ ap (λ (ys : List ℕ). amd_written sn poll (framing b' e') segment ls' ys) t))
 
-whole-is : (h : Sent) (ps : List Place) (number : ℕ) (poll : Bool) → IsFace (key h) ps → whole_octets h number poll ≡ written number poll None ps
-whole-is h ps number poll f = same-written (number % 1024) poll h.begins (first_begins ps) h.ends (last_ends ps) None h.lens (lengths 0 ps) h.field (map (λ (p : Place). p.octet) ps) f.begins f.ends f.lens f.field
+whole-is : (h : Sent) (ps : List Place) (number : ℕ) (poll : Bool) → IsFace (key h) ps
+    → whole_octets h number poll ≡ written number poll None ps
+whole-is h ps number poll f =
+    same-written (number % 1024) poll h.begins (first_begins ps) h.ends (last_ends ps) None h.lens (lengths 0 ps)
+    h.field (map (λ (p : Place). p.octet) ps) f.begins f.ends f.lens f.field
 
 -- a stretch begins and ends an SDU where the PDU says so
-first-of : (ps : List Place) (from to : ℕ) → from < to → to ≤ length ps → first_begins (slice_range ps from to) ≡ (place_at ps from).begins
+first-of : (ps : List Place) (from to : ℕ) → from < to → to ≤ length ps
+    → first_begins (slice_range ps from to) ≡ (place_at ps from).begins
 first-of ps from to lt le =
     let q : from + 0 ≡ from = omega arith in
-    first-at (slice_range ps from to) ∙ ap (λ (p : Place). p.begins) (range-at ps from to 0 nowhere (omega arith) ∙ ap (λ (i : ℕ). place_at ps i) q)
+    first-at (slice_range ps from to)
+    ∙ ap (λ (p : Place). p.begins) (range-at ps from to 0 nowhere (omega arith) ∙ ap (λ (i : ℕ). place_at ps i) q)
 
-last-of : (ps : List Place) (from to : ℕ) → from < to → to ≤ length ps → last_ends (slice_range ps from to) ≡ (place_at ps (to - 1)).ends
+last-of : (ps : List Place) (from to : ℕ) → from < to → to ≤ length ps
+    → last_ends (slice_range ps from to) ≡ (place_at ps (to - 1)).ends
 last-of ps from to lt le =
     let l = range-length ps from to le in
     let q : from + (to - from - 1) ≡ to - 1 = omega arith in
-    last-at (slice_range ps from to) (to - from - 1) (omega (arith, l)) ∙ ap (λ (p : Place). p.ends) (range-at ps from to (to - from - 1) nowhere (omega arith) ∙ ap (λ (i : ℕ). place_at ps i) q)
+    last-at (slice_range ps from to) (to - from - 1) (omega (arith, l))
+    ∙ ap (λ (p : Place). p.ends) (range-at ps from to (to - from - 1) nowhere (omega arith)
+    ∙ ap (λ (i : ℕ). place_at ps i) q)
 
-is-cut : (h : Sent) (ps : List Place) (k : ℕ) → IsFace (key h) ps → 0 < k → k < length ps → is_cut k h.lens ≡ (place_at ps (k - 1)).ends
+is-cut : (h : Sent) (ps : List Place) (k : ℕ) → IsFace (key h) ps → 0 < k → k < length ps
+    → is_cut k h.lens ≡ (place_at ps (k - 1)).ends
 is-cut h ps k f some lt =
     ap (λ (ls : List ℕ). is_cut k ls) f.lens ∙ (cut-of 0 k ps some (omega arith)
-    ∙ (always (place_at ps (k - (0 + 1))).ends ∙ (let q : k - (0 + 1) ≡ k - 1 = omega arith in ap (λ (i : ℕ). (place_at ps i).ends) q)))
+    ∙ (always (place_at ps (k - (0 + 1))).ends
+    ∙ (let q : k - (0 + 1) ≡ k - 1 = omega arith in ap (λ (i : ℕ). (place_at ps i).ends) q)))
   where
     always : (b : Bool) → (nat_lt 0 k && b) ≡ b
     always b = grind (arith, nat_tests)
 
-begins-is : (h : Sent) (ps : List Place) (from to : ℕ) → IsFace (key h) ps → from < to → to ≤ length ps → begins_at h from ≡ first_begins (slice_range ps from to)
+begins-is : (h : Sent) (ps : List Place) (from to : ℕ) → IsFace (key h) ps → from < to → to ≤ length ps
+    → begins_at h from ≡ first_begins (slice_range ps from to)
 begins-is h ps from to f lt le = by (from == 0) refl ∙ sym (first-of ps from to lt le)
   where
     by : (b : Bool) → (from == 0) ≡ b → (if b then h.begins else is_cut from h.lens) ≡ (place_at ps from).begins
-    by true e = let z : 0 ≡ from = grind (arith, nat_tests) in f.begins ∙ (first-at ps ∙ ap (λ (i : ℕ). (place_at ps i).begins) z)
+    by true e = let z : 0 ≡ from = grind (arith, nat_tests) in
+        f.begins ∙ (first-at ps ∙ ap (λ (i : ℕ). (place_at ps i).begins) z)
     by false e =
         let some : 0 < from = grind (arith, nat_tests) in
         let q : from - 1 + 1 ≡ from = omega arith in
-        is-cut h ps from f some (omega arith) ∙ (joined-at ps (from - 1) f.joined (omega arith) ∙ ap (λ (i : ℕ). (place_at ps i).begins) q)
+        is-cut h ps from f some (omega arith)
+        ∙ (joined-at ps (from - 1) f.joined (omega arith) ∙ ap (λ (i : ℕ). (place_at ps i).begins) q)
 
-ends-is : (h : Sent) (ps : List Place) (from to : ℕ) → IsFace (key h) ps → from < to → to ≤ length ps → ends_at h to ≡ last_ends (slice_range ps from to)
+ends-is : (h : Sent) (ps : List Place) (from to : ℕ) → IsFace (key h) ps → from < to → to ≤ length ps
+    → ends_at h to ≡ last_ends (slice_range ps from to)
 ends-is h ps from to f lt le = by (to == length h.field) refl ∙ sym (last-of ps from to lt le)
   where
-    by : (b : Bool) → (to == length h.field) ≡ b → (if b then h.ends else is_cut to h.lens) ≡ (place_at ps (to - 1)).ends
-    by true e = let n : to ≡ length h.field = grind (arith, nat_tests) in let l = face-length (key h) ps f in f.ends ∙ last-at ps (to - 1) (omega (arith, n, l))
+    by : (b : Bool) → (to == length h.field) ≡ b
+        → (if b then h.ends else is_cut to h.lens) ≡ (place_at ps (to - 1)).ends
+    by true e = let n : to ≡ length h.field = grind (arith, nat_tests) in let l = face-length (key h) ps f in
+        f.ends ∙ last-at ps (to - 1) (omega (arith, n, l))
     by false e =
         let n : to ≡ length h.field → ⊥ = λ i. grind (arith, nat_tests) in
         let l = face-length (key h) ps f in
         is-cut h ps to f (omega arith) (omega (arith, n, l))
 
-part-is : (h : Sent) (ps : List Place) (number : ℕ) (poll : Bool) (t : Stretch) → IsFace (key h) ps → t.from < t.to → t.to ≤ length ps → t.lens ≡ clip t.from t.to h.lens
-    → part_octets h number poll t ≡ written number poll (Some (record { last = t.to == length ps; so = t.from })) (slice_range ps t.from t.to)
+part-is : (h : Sent) (ps : List Place) (number : ℕ) (poll : Bool) (t : Stretch) → IsFace (key h) ps → t.from < t.to
+    → t.to ≤ length ps → t.lens ≡ clip t.from t.to h.lens
+    → part_octets h number poll t ≡ written number poll (Some (record { last = t.to == length ps; so = t.from }))
+    (slice_range ps t.from t.to)
 part-is h ps number poll t f lt le lens =
-    ap (λ (n : ℕ). amd_written (number % 1024) poll (framing (begins_at h t.from) (ends_at h t.to)) (Some (record { last = t.to == n; so = t.from })) t.lens (slice_range h.field t.from t.to)) (face-length (key h) ps f)
-    ∙ same-written (number % 1024) poll (begins_at h t.from) (first_begins (slice_range ps t.from t.to)) (ends_at h t.to) (last_ends (slice_range ps t.from t.to)) (Some (record { last = t.to == length ps; so = t.from }))
-    t.lens (lengths 0 (slice_range ps t.from t.to)) (slice_range h.field t.from t.to) (map (λ (p : Place). p.octet) (slice_range ps t.from t.to))
+    ap (λ (n : ℕ). amd_written (number % 1024) poll (framing (begins_at h t.from) (ends_at h t.to))
+    (Some (record { last = t.to == n; so = t.from })) t.lens (slice_range h.field t.from t.to))
+    (face-length (key h) ps f)
+    ∙ same-written (number % 1024) poll (begins_at h t.from) (first_begins (slice_range ps t.from t.to))
+    (ends_at h t.to) (last_ends (slice_range ps t.from t.to))
+    (Some (record { last = t.to == length ps; so = t.from }))
+    t.lens (lengths 0 (slice_range ps t.from t.to)) (slice_range h.field t.from t.to)
+    (map (λ (p : Place). p.octet) (slice_range ps t.from t.to))
     (begins-is h ps t.from t.to f lt le) (ends-is h ps t.from t.to f lt le)
     (lens ∙ (ap (λ (ls : List ℕ). clip t.from t.to ls) f.lens ∙ clip-range t.from t.to ps le))
     (ap (λ (xs : List ℕ). slice_range xs t.from t.to) f.field ∙ range-octets ps t.from t.to)
 
 -- ---- how long it is
 
-whole-len : (h : Sent) (ps : List Place) (number : ℕ) (poll : Bool) → IsFace (key h) ps → length (written number poll None ps) ≡ whole_size h
+whole-len : (h : Sent) (ps : List Place) (number : ℕ) (poll : Bool) → IsFace (key h) ps
+    → length (written number poll None ps) ≡ whole_size h
 whole-len h ps number poll f =
     let w = f.whole in
-    ap (λ (xs : List ℕ). length xs) (sym (whole-is h ps number poll f)) ∙ (written-len (number % 1024) poll (framing h.begins h.ends) None h.lens h.field f.written f.whole ∙ omega (arith, w))
+    ap (λ (xs : List ℕ). length xs) (sym (whole-is h ps number poll f))
+    ∙ (written-len (number % 1024) poll (framing h.begins h.ends) None h.lens h.field f.written f.whole
+    ∙ omega (arith, w))
 
-part-len : (h : Sent) (ps : List Place) (number : ℕ) (poll : Bool) (segment : Segment) (from to : ℕ) → IsFace (key h) ps → from < to → to ≤ length ps
-    → length (written number poll (Some segment) (slice_range ps from to)) ≡ header_len 4 (length (clip from to h.lens)) + (to - from)
+part-len : (h : Sent) (ps : List Place) (number : ℕ) (poll : Bool) (segment : Segment) (from to : ℕ)
+    → IsFace (key h) ps → from < to → to ≤ length ps
+    → length (written number poll (Some segment) (slice_range ps from to))
+    ≡ header_len 4 (length (clip from to h.lens)) + (to - from)
 part-len h ps number poll segment from to f lt le =
-    written-len (number % 1024) poll (framing (first_begins (slice_range ps from to)) (last_ends (slice_range ps from to))) (Some segment) (lengths 0 (slice_range ps from to)) (map (λ (p : Place). p.octet) (slice_range ps from to))
+    written-len (number % 1024) poll
+    (framing (first_begins (slice_range ps from to)) (last_ends (slice_range ps from to))) (Some segment)
+    (lengths 0 (slice_range ps from to)) (map (λ (p : Place). p.octet) (slice_range ps from to))
     (subst (λ (ls : List ℕ). AreLens ls) lens (clip-lens from to h.lens f.written lt (omega (arith, le, w, l))))
     (omega (arith, total, many, long))
-    ∙ (ap (λ (ls : List ℕ). header_len 4 (length ls) + sum (lengths 0 (slice_range ps from to))) (sym lens) ∙ ap (λ (n : ℕ). header_len 4 (length (clip from to h.lens)) + n) total)
+    ∙ (ap (λ (ls : List ℕ). header_len 4 (length ls) + sum (lengths 0 (slice_range ps from to))) (sym lens)
+    ∙ ap (λ (n : ℕ). header_len 4 (length (clip from to h.lens)) + n) total)
   where
     w : sum h.lens ≡ length h.field
     w = f.whole
@@ -162,10 +207,13 @@ record IsShare (h : Sent) (size : ℕ) (t : Stretch) (all : Bool) (waiting : ℕ
   lens : t.lens ≡ clip t.from t.to h.lens
   fits : header_len 4 (length t.lens) + sum t.lens ≤ size
   all' : t.from ≡ 0 → ((i : ℕ) → i < length h.field → waiting i ≡ true) → all ≡ true
-  most : (k : ℕ) → t.from < k → k ≤ length h.field → ((i : ℕ) → t.from ≤ i → i < k → waiting i ≡ true) → header_len 4 (length (clip t.from k h.lens)) + (k - t.from) ≤ size → k ≤ t.to
+  most : (k : ℕ) → t.from < k → k ≤ length h.field → ((i : ℕ) → t.from ≤ i → i < k → waiting i ≡ true)
+      → header_len 4 (length (clip t.from k h.lens)) + (k - t.from) ≤ size → k ≤ t.to
 
 -- octets that wait from the first on don't pass the first that does not
-gap-most : (h : Sent) (f : ℕ → Bool) (n most : ℕ) → IsSlot h f n most → (p : Part) → IsGap h.resting 0 (length h.field) p → (k : ℕ) → p.start < k → k ≤ length h.field → ((i : ℕ) → p.start ≤ i → i < k → f i ≡ true) → k ≤ p.end + 1
+gap-most : (h : Sent) (f : ℕ → Bool) (n most : ℕ) → IsSlot h f n most → (p : Part)
+    → IsGap h.resting 0 (length h.field) p → (k : ℕ) → p.start < k → k ≤ length h.field
+    → ((i : ℕ) → p.start ≤ i → i < k → f i ≡ true) → k ≤ p.end + 1
 gap-most h f n most s p g k lt le all = elim (cases_lt (p.end + 1) k) [
   | inl beyond ↦
       let a = g.some in
@@ -175,56 +223,78 @@ gap-most h f n most s p g k lt le all = elim (cases_lt (p.end + 1) k) [
   | inr within ↦ within
 ]
 
-share : (h : Sent) (size : ℕ) (f : ℕ → Bool) (n most : ℕ) → IsSlot h f n most → AreLens h.lens → is_waiting h ≡ true → 5 ≤ size → IsShare h size (next_stretch h size) (all_wait h) f
-share h size f n most s lens w five = by (first_waiting h) (gap-lies h.resting 0 (length h.field)) (λ some. gaps_are_first h.resting 0 (length h.field) (s.ascends some)) w
+share : (h : Sent) (size : ℕ) (f : ℕ → Bool) (n most : ℕ) → IsSlot h f n most → AreLens h.lens → is_waiting h ≡ true
+    → 5 ≤ size → IsShare h size (next_stretch h size) (all_wait h) f
+share h size f n most s lens w five =
+    by (first_waiting h) (gap-lies h.resting 0 (length h.field))
+    (λ some. gaps_are_first h.resting 0 (length h.field) (s.ascends some)) w
   where
     total : sum h.lens ≡ length h.field
     total = s.whole
 
-    ends : (p : Part) → p.start ≡ 0 → p.end + 1 ≡ length h.field → ((p.start == 0) && (p.end + 1 == length h.field)) ≡ true
+    ends : (p : Part) → p.start ≡ 0 → p.end + 1 ≡ length h.field
+        → ((p.start == 0) && (p.end + 1 == length h.field)) ≡ true
     ends p a b = grind (arith, nat_tests, a, b)
 
-    longest-from : (p : Part) → IsGap h.resting 0 (length h.field) p → (k : ℕ) → p.start < k → k ≤ p.end + 1 → header_len 4 (length (clip p.start k h.lens)) + (k - p.start) ≤ size → k ≤ (stretch_in h size p).to
+    longest-from : (p : Part) → IsGap h.resting 0 (length h.field) p → (k : ℕ) → p.start < k → k ≤ p.end + 1
+        → header_len 4 (length (clip p.start k h.lens)) + (k - p.start) ≤ size → k ≤ (stretch_in h size p).to
     longest-from p g k lt le fit =
         let a = g.some in let b = g.below in
         let q : p.start + (k - p.start) ≡ k = omega (arith, lt) in
         let c = clip-sum p.start (p.end + 1) h.lens in
-        let e : clip 0 (k - p.start) (clip p.start (p.end + 1) h.lens) ≡ clip p.start k h.lens = clip-clip p.start (p.end + 1) (k - p.start) h.lens (omega (arith, lt, le)) ∙ ap (λ (j : ℕ). clip p.start j h.lens) q in
-        let small : header_len 4 (length (clip 0 (k - p.start) (clip p.start (p.end + 1) h.lens))) + (k - p.start) ≤ size = subst (λ (ls : List ℕ). header_len 4 (length ls) + (k - p.start) ≤ size) (sym e) fit in
-        let m = (longest size (clip p.start (p.end + 1) h.lens) (clip-lens p.start (p.end + 1) h.lens lens (omega (arith, a)) (omega (arith, b, total)))).most (k - p.start) (omega (arith, c, lt, le, b, total)) small in
+        let e : clip 0 (k - p.start) (clip p.start (p.end + 1) h.lens) ≡ clip p.start k h.lens =
+        clip-clip p.start (p.end + 1) (k - p.start) h.lens (omega (arith, lt, le))
+        ∙ ap (λ (j : ℕ). clip p.start j h.lens) q in
+        let small : header_len 4 (length (clip 0 (k - p.start) (clip p.start (p.end + 1) h.lens))) + (k - p.start)
+        ≤ size = subst (λ (ls : List ℕ). header_len 4 (length ls) + (k - p.start) ≤ size) (sym e) fit in
+        let m =
+        (longest size (clip p.start (p.end + 1) h.lens)
+        (clip-lens p.start (p.end + 1) h.lens lens (omega (arith, a)) (omega (arith, b, total)))).most
+        (k - p.start) (omega (arith, c, lt, le, b, total)) small in
         omega (arith, m, lt)
 
-    here : (p : Part) → IsGap h.resting 0 (length h.field) p → IsShare h size (stretch_in h size p) ((p.start == 0) && (p.end + 1 == length h.field)) f
+    here : (p : Part) → IsGap h.resting 0 (length h.field) p
+        → IsShare h size (stretch_in h size p) ((p.start == 0) && (p.end + 1 == length h.field)) f
     here p g =
         let a = g.some in let b = g.below in
         record {
           lens = cuts size p.start (p.end + 1) h.lens lens (omega (arith, a)) (omega (arith, b, total)) five;
           fits = cut-fits size (clip p.start (p.end + 1) h.lens) five;
           all' = λ z all.
-              let m = gap-most h f n most s p g (length h.field) (omega (arith, a, b)) (omega arith) (λ i lo hi. all i hi) in
+              let m = gap-most h f n most s p g (length h.field) (omega (arith, a, b)) (omega arith)
+              (λ i lo hi. all i hi) in
               ends p z (omega (arith, m, b));
           most = λ k lt le all fit. longest-from p g k lt (gap-most h f n most s p g k lt le all) fit;
         }
 
-    by : (o : Option Part) → IfSome o (Lies 0 (length h.field)) → (0 < length h.field → MatchOption o ((j : ℕ) → 0 ≤ j → j < length h.field → has h.resting j ≡ true) (IsGap h.resting 0 (length h.field))) → is_some o ≡ true → IsShare h size (stretch_from o h size) (is_all o 0 (length h.field)) f
+    by : (o : Option Part) → IfSome o (Lies 0 (length h.field))
+        → (0 < length h.field
+        → MatchOption o ((j : ℕ) → 0 ≤ j → j < length h.field → has h.resting j ≡ true)
+        (IsGap h.resting 0 (length h.field))) → is_some o ≡ true
+        → IsShare h size (stretch_from o h size) (is_all o 0 (length h.field)) f
     by None l g w = let no' : false ≡ true = w in cc
     by (Some p) l g w = here p (g (let b = l.below in omega arith))
 
 -- where all octets wait, a segment has room for less
-part-case : (s : State) (size : ℕ) (held : Option ℕ) (more : Bool) → turn s size held more ≡ turns.Part → (all_wait (again s) && nat_le (whole_size (again s)) size) ≡ false
+part-case : (s : State) (size : ℕ) (held : Option ℕ) (more : Bool) → turn s size held more ≡ turns.Part
+    → (all_wait (again s) && nat_le (whole_size (again s)) size) ≡ false
 unfolding turn
 part-case s size held more e = grind (arith, common_steps, nat_tests)
 
-whole-fits : (s : State) (size : ℕ) (held : Option ℕ) (more : Bool) → turn s size held more ≡ turns.Whole → whole_size (again s) ≤ size
+whole-fits : (s : State) (size : ℕ) (held : Option ℕ) (more : Bool) → turn s size held more ≡ turns.Whole
+    → whole_size (again s) ≤ size
 unfolding turn
 whole-fits s size held more e = grind (arith, common_steps, nat_tests)
 
-clash : (h : Sent) (size : ℕ) → all_wait h ≡ true → whole_size h ≤ size → (all_wait h && nat_le (whole_size h) size) ≡ false → ⊥
+clash : (h : Sent) (size : ℕ) → all_wait h ≡ true → whole_size h ≤ size
+    → (all_wait h && nat_le (whole_size h) size) ≡ false → ⊥
 clash h size all small part =
     let fits : nat_le (whole_size h) size ≡ true = grind (arith, nat_tests) in
     let no' : true ≡ false = sym (ap (λ (c : Bool). c && nat_le (whole_size h) size) all ∙ fits) ∙ part in cc
 
-less : (h : Sent) (ps : List Place) (size : ℕ) (t : Stretch) (f : ℕ → Bool) → IsFace (key h) ps → IsShare h size t (all_wait h) f → t.from < t.to → t.to ≤ length ps → ((i : ℕ) → t.from ≤ i → i < t.to → f i ≡ true)
+less : (h : Sent) (ps : List Place) (size : ℕ) (t : Stretch) (f : ℕ → Bool) → IsFace (key h) ps
+    → IsShare h size t (all_wait h) f → t.from < t.to → t.to ≤ length ps
+    → ((i : ℕ) → t.from ≤ i → i < t.to → f i ≡ true)
     → (all_wait h && nat_le (whole_size h) size) ≡ false → (t.to - t.from == length ps) ≡ false
 less h ps size t waiting f sh lt le all part = by (t.to - t.from == length ps) refl
   where
@@ -235,10 +305,16 @@ less h ps size t waiting f sh lt le all part = by (t.to - t.from == length ps) r
         let l = face-length (key h) ps f in
         let z : t.from ≡ 0 = omega arith in
         let m : t.to ≡ length ps = omega arith in
-        let lens : t.lens ≡ h.lens = sh.lens ∙ (ap (λ (ls : List ℕ). clip t.from t.to ls) f.lens ∙ (clip-range t.from t.to ps le ∙ (ap (λ (qs : List Place). lengths 0 qs) (ap (λ (k : ℕ). slice_range ps k t.to) z ∙ range-all ps t.to m) ∙ sym f.lens))) in
-        let fits : header_len 4 (length h.lens) + sum h.lens ≤ size = subst (λ (ls : List ℕ). header_len 4 (length ls) + sum ls ≤ size) lens sh.fits in
+        let lens : t.lens ≡ h.lens =
+        sh.lens ∙ (ap (λ (ls : List ℕ). clip t.from t.to ls) f.lens
+        ∙ (clip-range t.from t.to ps le
+        ∙ (ap (λ (qs : List Place). lengths 0 qs) (ap (λ (k : ℕ). slice_range ps k t.to) z ∙ range-all ps t.to m)
+        ∙ sym f.lens))) in
+        let fits : header_len 4 (length h.lens) + sum h.lens ≤ size =
+        subst (λ (ls : List ℕ). header_len 4 (length ls) + sum ls ≤ size) lens sh.fits in
         let w = f.whole in
-        absurd (clash h size (sh.all' z (λ i i_in. all i (omega (arith, z)) (omega (arith, i_in, m, l)))) (omega (arith, fits, w)) part)
+        absurd (clash h size (sh.all' z (λ i i_in. all i (omega (arith, z)) (omega (arith, i_in, m, l))))
+        (omega (arith, fits, w)) part)
 
 -- ---- any call
 
@@ -248,18 +324,22 @@ pub record Faces (s : State) (unsent : List Place) (sent : List (List Place)) : 
   pub octets : HaveOctets s.queue.sdus
   pub idle : length s.queue.sdus ≡ 0 → s.queue.begun ≡ false
   pub number : length sent ≡ next s.window
-  pub slots : (k : ℕ) → k < length s.window.slots → IsFace (key (slot_at s.window.slots k)) (slice_index_or sent (s.window.base + k) [])
+  pub slots : (k : ℕ) → k < length s.window.slots
+      → IsFace (key (slot_at s.window.slots k)) (slice_index_or sent (s.window.base + k) [])
 
 -- a step that leaves what waits and what PDUs carry alone
-same-faces : (s t : State) (u : List Place) (p : List (List Place)) → t.queue ≡ s.queue → t.window.base ≡ s.window.base → keys t.window.slots ≡ keys s.window.slots → Faces s u p → Faces t u p
+same-faces : (s t : State) (u : List Place) (p : List (List Place)) → t.queue ≡ s.queue
+    → t.window.base ≡ s.window.base → keys t.window.slots ≡ keys s.window.slots → Faces s u p → Faces t u p
 same-faces s t u p a b e f = record {
   unsent' = f.unsent' ∙ sym (ap (λ (q : _). stream q.begun q.sdus) a);
   octets = subst (λ (q : _). HaveOctets q.sdus) (sym a) f.octets;
   idle = subst (λ (q : _). length q.sdus ≡ 0 → q.begun ≡ false) (sym a) f.idle;
   number = f.number ∙ omega (arith, long, b);
   slots = λ k lt.
-      subst (λ (x : Key). IsFace x (slice_index_or p (t.window.base + k) [])) (sym (same-keys t.window.slots s.window.slots e k))
-      (subst (λ (n : ℕ). IsFace (key (slot_at s.window.slots k)) (slice_index_or p (n + k) [])) (sym b) (f.slots k (omega (arith, long, lt))));
+      subst (λ (x : Key). IsFace x (slice_index_or p (t.window.base + k) []))
+      (sym (same-keys t.window.slots s.window.slots e k))
+      (subst (λ (n : ℕ). IsFace (key (slot_at s.window.slots k)) (slice_index_or p (n + k) [])) (sym b)
+      (f.slots k (omega (arith, long, lt))));
 }
   where
     long : length t.window.slots ≡ length s.window.slots
@@ -271,8 +351,12 @@ polled-faces false s u p f = f
 
 -- what a new PDU takes
 new-front : (s : State) (size : ℕ) (u : List Place) (p : List (List Place)) (f : Faces s u p)
-    → (take (new_count s size) u ≡ (dealt size 0 0 s.queue.begun s.queue.sdus f.octets f.idle).front) × (drop (new_count s size) u ≡ stream (new_partial s size) (sent_new s size).queue.sdus)
-new-front s size u p f = (ap (λ (ps : List Place). take (new_count s size) ps) split ∙ take_at d.front behind (new_count s size) long, ap (λ (ps : List Place). drop (new_count s size) ps) split ∙ drop_at d.front behind (new_count s size) long)
+    → (take (new_count s size) u ≡ (dealt size 0 0 s.queue.begun s.queue.sdus f.octets f.idle).front)
+    × (drop (new_count s size) u ≡ stream (new_partial s size) (sent_new s size).queue.sdus)
+new-front s size u p f = (
+  ap (λ (ps : List Place). take (new_count s size) ps) split ∙ take_at d.front behind (new_count s size) long,
+  ap (λ (ps : List Place). drop (new_count s size) ps) split ∙ drop_at d.front behind (new_count s size) long,
+)
   where
     d : IsTaken (new_elements s size) (rest 2 size 0 0 s.queue.sdus) s.queue.sdus s.queue.begun (new_partial s size)
     d = dealt size 0 0 s.queue.begun s.queue.sdus f.octets f.idle
@@ -286,13 +370,17 @@ new-front s size u p f = (ap (λ (ps : List Place). take (new_count s size) ps) 
     long : length d.front ≡ new_count s size
     long = sym (length-map d.front (λ (q : Place). q.octet)) ∙ ap (λ (xs : List ℕ). length xs) d.octets
 
-new-lens-are : (s : State) (size : ℕ) (u : List Place) (p : List (List Place)) → Faces s u p → (0 < length s.queue.sdus) × (3 ≤ size) → AreLens (new_slot s size).lens
+new-lens-are : (s : State) (size : ℕ) (u : List Place) (p : List (List Place)) → Faces s u p
+    → (0 < length s.queue.sdus) × (3 ≤ size) → AreLens (new_slot s size).lens
 new-lens-are s size u p f able = new-lens 2 size s.queue.sdus f.octets able.0 (let a = able.1 in omega (arith, a))
 
-pub new-some : (s : State) (size : ℕ) (u : List Place) (p : List (List Place)) → Faces s u p → (0 < length s.queue.sdus) × (3 ≤ size) → 0 < new_count s size
-new-some s size u p f able = let a = lens-some (new_slot s size).lens (new-lens-are s size u p f able) in let b = whole (new_elements s size) in omega (arith, a, b)
+pub new-some : (s : State) (size : ℕ) (u : List Place) (p : List (List Place)) → Faces s u p
+    → (0 < length s.queue.sdus) × (3 ≤ size) → 0 < new_count s size
+new-some s size u p f able = let a = lens-some (new_slot s size).lens (new-lens-are s size u p f able) in
+    let b = whole (new_elements s size) in omega (arith, a, b)
 
-pub new-there : (s : State) (size : ℕ) (u : List Place) (p : List (List Place)) → Faces s u p → new_count s size ≤ length u
+pub new-there : (s : State) (size : ℕ) (u : List Place) (p : List (List Place)) → Faces s u p
+    → new_count s size ≤ length u
 new-there s size u p f =
     let d = dealt size 0 0 s.queue.begun s.queue.sdus f.octets f.idle in
     let a = ap (λ (ps : List Place). length ps) (f.unsent' ∙ d.split) in
@@ -301,52 +389,79 @@ new-there s size u p f =
     let e = ap (λ (xs : List ℕ). length xs) d.octets in
     omega (arith, a, b, c, e)
 
-pub new-face : (s : State) (size : ℕ) (u : List Place) (p : List (List Place)) → Faces s u p → (0 < length s.queue.sdus) × (3 ≤ size) → IsFace (key (new_slot s size)) (take (new_count s size) u)
-new-face s size u p f able = subst (λ (ps : List Place). IsFace (key (new_slot s size)) ps) (sym (new-front s size u p f).0) (record {
-  field = sym d.octets;
-  lens = sym d.lens;
-  begins = sym (d.begins some);
-  ends = sym (d.ends some);
-  joined = joined-front d.front (stream (new_partial s size) (rest 2 size 0 0 s.queue.sdus)) (subst (λ (ps : List Place). Joined ps) d.split (stream-joined s.queue.begun s.queue.sdus f.octets));
-  written = new-lens-are s size u p f able;
-  whole = whole (new_elements s size);
-})
+pub new-face : (s : State) (size : ℕ) (u : List Place) (p : List (List Place)) → Faces s u p
+    → (0 < length s.queue.sdus) × (3 ≤ size) → IsFace (key (new_slot s size)) (take (new_count s size) u)
+new-face s size u p f able =
+    subst (λ (ps : List Place). IsFace (key (new_slot s size)) ps) (sym (new-front s size u p f).0) (record {
+      field = sym d.octets;
+      lens = sym d.lens;
+      begins = sym (d.begins some);
+      ends = sym (d.ends some);
+      joined = joined-front d.front (stream (new_partial s size) (rest 2 size 0 0 s.queue.sdus))
+          (subst (λ (ps : List Place). Joined ps) d.split (stream-joined s.queue.begun s.queue.sdus f.octets));
+      written = new-lens-are s size u p f able;
+      whole = whole (new_elements s size);
+    })
   where
     d : IsTaken (new_elements s size) (rest 2 size 0 0 s.queue.sdus) s.queue.sdus s.queue.begun (new_partial s size)
     d = dealt size 0 0 s.queue.begun s.queue.sdus f.octets f.idle
 
     some : 0 < length d.front
-    some = let a = new-some s size u p f able in let b = length-map d.front (λ (q : Place). q.octet) in let c = ap (λ (xs : List ℕ). length xs) d.octets in omega (arith, a, b, c)
+    some = let a = new-some s size u p f able in let b = length-map d.front (λ (q : Place). q.octet) in
+        let c = ap (λ (xs : List ℕ). length xs) d.octets in omega (arith, a, b, c)
 
-new-faces : (s : State) (size : ℕ) (u : List Place) (p : List (List Place)) → Faces s u p → (0 < length s.queue.sdus) × (3 ≤ size)
+new-faces : (s : State) (size : ℕ) (u : List Place) (p : List (List Place)) → Faces s u p
+    → (0 < length s.queue.sdus) × (3 ≤ size)
     → Faces (sent_new s size) (drop (new_count s size) u) (p ++ take (new_count s size) u ∷ [])
 new-faces s size u p f able = record {
   unsent' = (new-front s size u p f).1;
   octets = (dealt size 0 0 s.queue.begun s.queue.sdus f.octets f.idle).rest;
   idle = (dealt size 0 0 s.queue.begun s.queue.sdus f.octets f.idle).idle;
-  number = let n = f.number in let a = length-append p (take (new_count s size) u ∷ []) in let b = length-append s.window.slots (new_slot s size ∷ []) in omega (arith, n, a, b);
-  slots = λ k lt. let b = length-append s.window.slots (new_slot s size ∷ []) in let n = f.number in elim (cases_lt k (length s.window.slots)) [
-    | inl old ↦
-        subst (λ (x : Sent). IsFace (key x) (slice_index_or (p ++ take (new_count s size) u ∷ []) (s.window.base + k) [])) (sym (at-old s.window.slots (new_slot s size) k old))
-        (subst (λ (ps : List Place). IsFace (key (slot_at s.window.slots k)) ps) (sym (get_or_append_left p (take (new_count s size) u ∷ []) [] (s.window.base + k) (omega (arith, n, old)))) (f.slots k old))
-    | inr new ↦
-        let e : k ≡ length s.window.slots = omega (arith, b, lt, new) in
-        subst (λ (x : Sent). IsFace (key x) (slice_index_or (p ++ take (new_count s size) u ∷ []) (s.window.base + k) [])) (sym (at-new s.window.slots (new_slot s size) k e))
-        (subst (λ (ps : List Place). IsFace (key (new_slot s size)) ps) (sym (get_or_push p (take (new_count s size) u) [] (s.window.base + k) (omega (arith, n, e)))) (new-face s size u p f able))
-  ];
+  number = let n = f.number in let a = length-append p (take (new_count s size) u ∷ []) in
+      let b = length-append s.window.slots (new_slot s size ∷ []) in omega (arith, n, a, b);
+  slots = λ k lt. let b = length-append s.window.slots (new_slot s size ∷ []) in let n = f.number in
+      elim (cases_lt k (length s.window.slots)) [
+        | inl old ↦
+            subst
+            (λ (x : Sent). IsFace (key x)
+            (slice_index_or (p ++ take (new_count s size) u ∷ []) (s.window.base + k) []))
+            (sym (at-old s.window.slots (new_slot s size) k old))
+            (subst (λ (ps : List Place). IsFace (key (slot_at s.window.slots k)) ps)
+            (sym (get_or_append_left p (take (new_count s size) u ∷ []) [] (s.window.base + k)
+            (omega (arith, n, old)))) (f.slots k old))
+        | inr new ↦
+            let e : k ≡ length s.window.slots = omega (arith, b, lt, new) in
+            subst
+            (λ (x : Sent). IsFace (key x)
+            (slice_index_or (p ++ take (new_count s size) u ∷ []) (s.window.base + k) []))
+            (sym (at-new s.window.slots (new_slot s size) k e))
+            (subst (λ (ps : List Place). IsFace (key (new_slot s size)) ps)
+            (sym (get_or_push p (take (new_count s size) u) [] (s.window.base + k) (omega (arith, n, e))))
+            (new-face s size u p f able))
+      ];
 }
 
-pub new-able : (s : State) (size : ℕ) (held : Option ℕ) (more : Bool) → turn s size held more ≡ turns.New → (0 < length s.queue.sdus) × (3 ≤ size)
+pub new-able : (s : State) (size : ℕ) (held : Option ℕ) (more : Bool) → turn s size held more ≡ turns.New
+    → (0 < length s.queue.sdus) × (3 ≤ size)
 unfolding turn
 new-able s size held more e = (grind (arith, common_steps, nat_tests), grind (arith, common_steps, nat_tests))
 
-turn-faces : (t : Turn) (s : State) (size : ℕ) (more : Bool) (o : Octets) → (t ≡ turns.New → (0 < length s.queue.sdus) × (3 ≤ size)) → Faces s o.unsent o.sent → Faces (after_turn t s size more) (octets_by t s size o).unsent (octets_by t s size o).sent
+turn-faces : (t : Turn) (s : State) (size : ℕ) (more : Bool) (o : Octets)
+    → (t ≡ turns.New → (0 < length s.queue.sdus) × (3 ≤ size)) → Faces s o.unsent o.sent
+    → Faces (after_turn t s size more) (octets_by t s size o).unsent (octets_by t s size o).sent
 unfolding after_turn
-turn-faces turns.Whole s size more o able f = polled-faces (is_wanted (sent_whole s) more) (sent_whole s) o.unsent o.sent
-    (same-faces s (sent_whole s) o.unsent o.sent refl refl (set-keys s.window.slots (first_place s) (rested (again s)) refl) f)
-turn-faces turns.Part s size more o able f = polled-faces (is_wanted (sent_segment s size) more) (sent_segment s size) o.unsent o.sent
-    (same-faces s (sent_segment s size) o.unsent o.sent refl refl (set-keys s.window.slots (first_place s) (sent_part (again s) (next_stretch (again s) size).from (next_stretch (again s) size).to) refl) f)
-turn-faces turns.New s size more o able f = polled-faces (is_wanted (sent_new s size) more) (sent_new s size) (drop (new_count s size) o.unsent) (o.sent ++ take (new_count s size) o.unsent ∷ [])
+turn-faces turns.Whole s size more o able f =
+    polled-faces (is_wanted (sent_whole s) more) (sent_whole s) o.unsent o.sent
+    (same-faces s (sent_whole s) o.unsent o.sent refl refl
+    (set-keys s.window.slots (first_place s) (rested (again s)) refl) f)
+turn-faces turns.Part s size more o able f =
+    polled-faces (is_wanted (sent_segment s size) more) (sent_segment s size) o.unsent o.sent
+    (same-faces s (sent_segment s size) o.unsent o.sent refl refl
+    (set-keys s.window.slots (first_place s)
+    (sent_part (again s) (next_stretch (again s) size).from (next_stretch (again s) size).to) refl) f)
+turn-faces turns.New s size more o able f =
+    polled-faces (is_wanted (sent_new s size) more) (sent_new s size) (drop (new_count s size) o.unsent)
+    (o.sent ++ take (new_count s size) o.unsent ∷ [])
     (new-faces s size o.unsent o.sent f (able refl))
 turn-faces turns.Idle s size more o able f = f
 turn-faces turns.Stopped s size more o able f = f
@@ -354,12 +469,14 @@ turn-faces turns.Small s size more o able f = f
 turn-faces turns.Shut s size more o able f = f
 turn-faces turns.Held s size more o able f = f
 
-ended-faces : (l : Option ℕ) (c : Bool) (s : State) (u : List Place) (p : List (List Place)) → Faces s u p → Faces (ended l c s) u p
+ended-faces : (l : Option ℕ) (c : Bool) (s : State) (u : List Place) (p : List (List Place)) → Faces s u p
+    → Faces (ended l c s) u p
 ended-faces (Some n) c s u p f = same-faces s (ended (Some n) c s) u p refl refl refl f
 ended-faces None true s u p f = same-faces s (ended None true s) u p refl refl refl f
 ended-faces None false s u p f = f
 
-read-faces : (s : State) (below : ℕ) (ns : List Nack) (u : List Place) (p : List (List Place)) → Faces s u p → Faces (read s below ns) u p
+read-faces : (s : State) (below : ℕ) (ns : List Nack) (u : List Place) (p : List (List Place)) → Faces s u p
+    → Faces (read s below ns) u p
 read-faces s below ns u p f = record {
   unsent' = f.unsent';
   octets = f.octets;
@@ -368,8 +485,10 @@ read-faces s below ns u p f = record {
   slots = λ k lt.
       let e : s.window.base + (lead + k) ≡ s.window.base + lead + k = omega arith in
       subst (λ (x : Sent). IsFace (key x) (slice_index_or p (s.window.base + lead + k) [])) (sym (slot-drop all lead k))
-      (subst (λ (x : Key). IsFace x (slice_index_or p (s.window.base + lead + k) [])) (sym (same-keys all s.window.slots (heard-keys s.window below s.config.max_retx ns) (lead + k)))
-      (subst (λ (n : ℕ). IsFace (key (slot_at s.window.slots (lead + k))) (slice_index_or p n [])) e (f.slots (lead + k) (omega (arith, lt, dropped, long)))));
+      (subst (λ (x : Key). IsFace x (slice_index_or p (s.window.base + lead + k) []))
+      (sym (same-keys all s.window.slots (heard-keys s.window below s.config.max_retx ns) (lead + k)))
+      (subst (λ (n : ℕ). IsFace (key (slot_at s.window.slots (lead + k))) (slice_index_or p n [])) e
+      (f.slots (lead + k) (omega (arith, lt, dropped, long)))));
 }
   where
     all : List Sent
@@ -387,21 +506,30 @@ read-faces s below ns u p f = record {
     long : length all ≡ length s.window.slots
     long = heard-length s.window below s.config.max_retx ns
 
-status-faces : (c : Bool) (s : State) (status : StatusPdu) (u : List Place) (p : List (List Place)) → Faces s u p → Faces (if c then s else applied s (offset_of s.window.base status.ack) status.nacks) u p
+status-faces : (c : Bool) (s : State) (status : StatusPdu) (u : List Place) (p : List (List Place)) → Faces s u p
+    → Faces (if c then s else applied s (offset_of s.window.base status.ack) status.nacks) u p
 status-faces true s status u p f = f
-status-faces false s status u p f = ended-faces (limit_of s (offset_of s.window.base status.ack) status.nacks) (stops s (offset_of s.window.base status.ack) status.nacks) (read s (offset_of s.window.base status.ack) status.nacks) u p
+status-faces false s status u p f =
+    ended-faces (limit_of s (offset_of s.window.base status.ack) status.nacks)
+    (stops s (offset_of s.window.base status.ack) status.nacks)
+    (read s (offset_of s.window.base status.ack) status.nacks) u p
     (read-faces s (offset_of s.window.base status.ack) status.nacks u p f)
 
-recalled-faces : (l : Option ℕ) (s : State) (u : List Place) (p : List (List Place)) → Faces s u p → Faces (with_recalled l s) u p
+recalled-faces : (l : Option ℕ) (s : State) (u : List Place) (p : List (List Place)) → Faces s u p
+    → Faces (with_recalled l s) u p
 recalled-faces None s u p f = f
-recalled-faces (Some at) s u p f = same-faces s (with_recalled (Some at) s) u p refl refl (set-keys s.window.slots at (recalled s.config.max_retx (slot_at s.window.slots at)) refl) f
+recalled-faces (Some at) s u p f =
+    same-faces s (with_recalled (Some at) s) u p refl refl
+    (set-keys s.window.slots at (recalled s.config.max_retx (slot_at s.window.slots at)) refl) f
 
-expiry-faces : (c : Bool) (s : State) (more : Bool) (u : List Place) (p : List (List Place)) → Faces s u p → Faces (if c then ended (expiry_limit s more) false (expired s more) else s) u p
+expiry-faces : (c : Bool) (s : State) (more : Bool) (u : List Place) (p : List (List Place)) → Faces s u p
+    → Faces (if c then ended (expiry_limit s more) false (expired s more) else s) u p
 expiry-faces false s more u p f = f
 expiry-faces true s more u p f = ended-faces (expiry_limit s more) false (expired s more) u p
     (recalled-faces (recalled_place s more) (with_owed s) u p (same-faces s (with_owed s) u p refl refl refl f))
 
-settled-faces : (c : Bool) (s : State) (u : List Place) (p : List (List Place)) → Faces s u p → Faces (settled_by c s) u p
+settled-faces : (c : Bool) (s : State) (u : List Place) (p : List (List Place)) → Faces s u p
+    → Faces (settled_by c s) u p
 settled-faces true s u p f = same-faces s (settled_by true s) u p refl refl refl f
 settled-faces false s u p f = f
 
@@ -409,16 +537,19 @@ some-append : (xs : List (List ℕ)) (x : List ℕ) → HaveOctets xs → 0 < le
 some-append [] x h one = (one, tt)
 some-append (y ∷ ys) x h one = (h.0, some-append ys x h.1 one)
 
-after-faces : (s : State) (c : Call) (o : Octets) → HasOctets c → Faces s o.unsent o.sent → Faces (after s c) (moved s c o).unsent (moved s c o).sent
+after-faces : (s : State) (c : Call) (o : Octets) → HasOctets c → Faces s o.unsent o.sent
+    → Faces (after s c) (moved s c o).unsent (moved s c o).sent
 unfolding after_status after_expiry
 after-faces s (Offer sdu) o has f = record {
-  unsent' = ap (λ (ps : List Place). ps ++ places true sdu) f.unsent' ∙ sym (stream-end s.queue.begun s.queue.sdus sdu f.idle);
+  unsent' = ap (λ (ps : List Place). ps ++ places true sdu) f.unsent'
+      ∙ sym (stream-end s.queue.begun s.queue.sdus sdu f.idle);
   octets = some-append s.queue.sdus sdu f.octets has;
   idle = λ e. absurd (let l = length-append s.queue.sdus (sdu ∷ []) in omega (arith, e, l));
   number = f.number;
   slots = f.slots;
 }
-after-faces s (Take size held more) o has f = turn-faces (turn s size held more) s size more o (new-able s size held more) f
+after-faces s (Take size held more) o has f =
+    turn-faces (turn s size held more) s size more o (new-able s size held more) f
 after-faces s (Status status) o has f = status-faces (is_ignored s status.ack) s status o.unsent o.sent f
 after-faces s Tick o has f = same-faces s (after s Tick) o.unsent o.sent refl refl refl f
 after-faces s (Expire more) o has f = expiry-faces (runs s.polls.timer) s more o.unsent o.sent f
@@ -441,25 +572,42 @@ all-of : (n : ℕ) → (n - 0 == n) ≡ true
 all-of n = grind (arith, nat_tests)
 
 -- all octets of a PDU
-pub again-whole : (o : Octets) (number : ℕ) (poll : Bool) → again_octets o number 0 (length (sent_with o number)) poll ≡ written number poll None (sent_with o number)
+pub again-whole : (o : Octets) (number : ℕ) (poll : Bool)
+    → again_octets o number 0 (length (sent_with o number)) poll ≡ written number poll None (sent_with o number)
 again-whole o number poll =
-    ap (λ (qs : List Place). written number poll (segment_of 0 (length (sent_with o number)) (length (sent_with o number))) qs) (range-all (sent_with o number) (length (sent_with o number)) refl)
-    ∙ ap (λ (c : Bool). written number poll (if c then None else Some (record { last = length (sent_with o number) == length (sent_with o number); so = 0 })) (sent_with o number)) (all-of (length (sent_with o number)))
+    ap (λ (qs : List Place). written number poll
+    (segment_of 0 (length (sent_with o number)) (length (sent_with o number))) qs)
+    (range-all (sent_with o number) (length (sent_with o number)) refl)
+    ∙ ap
+    (λ (c : Bool). written number poll (if c then None
+    else Some (record { last = length (sent_with o number) == length (sent_with o number); so = 0 }))
+    (sent_with o number)) (all-of (length (sent_with o number)))
 
 -- those of a segment
 again-part : (o : Octets) (number from to : ℕ) (poll : Bool) → (to - from == length (sent_with o number)) ≡ false
-    → again_octets o number from to poll ≡ written number poll (Some (record { last = to == length (sent_with o number); so = from })) (slice_range (sent_with o number) from to)
-again-part o number from to poll e = ap (λ (c : Bool). written number poll (if c then None else Some (record { last = to == length (sent_with o number); so = from })) (slice_range (sent_with o number) from to)) e
+    → again_octets o number from to poll
+    ≡ written number poll (Some (record { last = to == length (sent_with o number); so = from }))
+    (slice_range (sent_with o number) from to)
+again-part o number from to poll e =
+    ap (λ (c : Bool). written number poll (if c then None
+    else Some (record { last = to == length (sent_with o number); so = from }))
+    (slice_range (sent_with o number) from to)) e
 
-whole-again : (s : State) (size : ℕ) (o : Octets) (poll : Bool) → Keeps s o → waits s ≡ true → whole_size (again s) ≤ size → IsWhole s o.marks
-    → IsAgain s size 0 (length (sent_with o (number_again s))) o (taken.Piece (number_again s) false poll (whole_octets (again s) (number_again s) poll))
+whole-again : (s : State) (size : ℕ) (o : Octets) (poll : Bool) → Keeps s o → waits s ≡ true
+    → whole_size (again s) ≤ size → IsWhole s o.marks
+    → IsAgain s size 0 (length (sent_with o (number_again s))) o
+    (taken.Piece (number_again s) false poll (whole_octets (again s) (number_again s) poll))
 whole-again s size o poll k w small r = record {
   sent = again-known s o k w;
   some = face-some (key (again s)) (sent_with o (number_again s)) f;
   within = omega arith;
   waits = λ i lo lt. r.waits i (omega (arith, lt, l));
-  is = ap (λ (xs : List ℕ). taken.Piece (number_again s) false poll xs) (whole-is (again s) (sent_with o (number_again s)) (number_again s) poll f ∙ sym (again-whole o (number_again s) poll));
-  fits = let e = ap (λ (xs : List ℕ). length xs) (again-whole o (number_again s) poll) in let n = whole-len (again s) (sent_with o (number_again s)) (number_again s) poll f in omega (arith, e, n, small);
+  is = ap (λ (xs : List ℕ). taken.Piece (number_again s) false poll xs)
+      (whole-is (again s) (sent_with o (number_again s)) (number_again s) poll f
+      ∙ sym (again-whole o (number_again s) poll));
+  fits = let e = ap (λ (xs : List ℕ). length xs) (again-whole o (number_again s) poll) in
+      let n = whole-len (again s) (sent_with o (number_again s)) (number_again s) poll f in
+      omega (arith, e, n, small);
   most = λ j lt le all fit. le;
 }
   where
@@ -469,18 +617,23 @@ whole-again s size o poll k w small r = record {
     l : length (again s).field ≡ length (sent_with o (number_again s))
     l = face-length (key (again s)) (sent_with o (number_again s)) f
 
-part-again : (s : State) (size : ℕ) (o : Octets) (poll : Bool) → Keeps s o → (waits s ≡ true) × (5 ≤ size) → (all_wait (again s) && nat_le (whole_size (again s)) size) ≡ false → IsSegment s size o.marks
-    → IsAgain s size (next_stretch (again s) size).from (next_stretch (again s) size).to o (taken.Piece (number_again s) false poll (part_octets (again s) (number_again s) poll (next_stretch (again s) size)))
+part-again : (s : State) (size : ℕ) (o : Octets) (poll : Bool) → Keeps s o → (waits s ≡ true) × (5 ≤ size)
+    → (all_wait (again s) && nat_le (whole_size (again s)) size) ≡ false → IsSegment s size o.marks
+    → IsAgain s size (next_stretch (again s) size).from (next_stretch (again s) size).to o
+    (taken.Piece (number_again s) false poll
+    (part_octets (again s) (number_again s) poll (next_stretch (again s) size)))
 part-again s size o poll k w part r = record {
   sent = again-known s o k w.0;
   some = r.some;
   within = within;
   waits = r.waits;
   is = ap (λ (xs : List ℕ). taken.Piece (number_again s) false poll xs)
-      (part-is (again s) ps (number_again s) poll t f r.some within sh.lens ∙ sym (again-part o (number_again s) t.from t.to poll short));
+      (part-is (again s) ps (number_again s) poll t f r.some within sh.lens
+      ∙ sym (again-part o (number_again s) t.from t.to poll short));
   fits =
       let e = ap (λ (xs : List ℕ). length xs) (again-part o (number_again s) t.from t.to poll short) in
-      let n = part-len (again s) ps (number_again s) poll (record { last = t.to == length ps; so = t.from }) t.from t.to f r.some within in
+      let n = part-len (again s) ps (number_again s) poll (record { last = t.to == length ps; so = t.from }) t.from
+      t.to f r.some within in
       let c = ap (λ (ls : List ℕ). header_len 4 (length ls) + sum ls) sh.lens in
       let d = clip-sum t.from t.to (again s).lens in
       let x = sh.fits in let v = f.whole in let lt = r.some in
@@ -504,15 +657,20 @@ part-again s size o poll k w part r = record {
     within = let i = r.within in omega (arith, l, i)
 
     sh : IsShare (again s) size t (all_wait (again s)) (o.marks.waits (number_again s))
-    sh = share (again s) size (o.marks.waits (number_again s)) (o.marks.namings (number_again s)) s.config.max_retx (k.stands.slots (first_place s) (is-below s w.0)) f.written (first-waits s.window.slots (is-below s w.0)) w.1
+    sh = share (again s) size (o.marks.waits (number_again s)) (o.marks.namings (number_again s)) s.config.max_retx
+        (k.stands.slots (first_place s) (is-below s w.0)) f.written (first-waits s.window.slots (is-below s w.0)) w.1
 
     short : (t.to - t.from == length ps) ≡ false
     short = less (again s) ps size t (o.marks.waits (number_again s)) f sh r.some within r.waits part
 
-    by : (j : ℕ) → t.from < j → j ≤ length ps → ((i : ℕ) → t.from ≤ i → i < j → o.marks.waits (number_again s) i ≡ true) → length (again_octets o (number_again s) t.from j poll) ≤ size → (b : Bool) → (j - t.from == length ps) ≡ b → j ≤ t.to
+    by : (j : ℕ) → t.from < j → j ≤ length ps
+        → ((i : ℕ) → t.from ≤ i → i < j → o.marks.waits (number_again s) i ≡ true)
+        → length (again_octets o (number_again s) t.from j poll) ≤ size → (b : Bool) → (j - t.from == length ps) ≡ b
+        → j ≤ t.to
     by j lt le all fit false e =
         let p = ap (λ (xs : List ℕ). length xs) (again-part o (number_again s) t.from j poll e) in
-        let n = part-len (again s) ps (number_again s) poll (record { last = j == length ps; so = t.from }) t.from j f lt le in
+        let n = part-len (again s) ps (number_again s) poll (record { last = j == length ps; so = t.from }) t.from j f
+        lt le in
         sh.most j lt (omega (arith, le, l)) all (omega (arith, p, n, fit))
     by j lt le all fit true e =
         let m : j - t.from ≡ length ps = grind (arith, nat_tests) in
@@ -522,35 +680,53 @@ part-again s size o poll k w part r = record {
         let q = ap (λ (i : ℕ). length (again_octets o (number_again s) 0 i poll)) y in
         let v = ap (λ (xs : List ℕ). length xs) (again-whole o (number_again s) poll) in
         let n = whole-len (again s) ps (number_again s) poll f in
-        absurd (clash (again s) size (sh.all' z (λ i i_in. all i (omega (arith, z)) (omega (arith, i_in, y, l)))) (omega (arith, p, q, v, n, fit)) part)
+        absurd (clash (again s) size (sh.all' z (λ i i_in. all i (omega (arith, z)) (omega (arith, i_in, y, l))))
+        (omega (arith, p, q, v, n, fit)) part)
 
-written-of : (t : Turn) (s : State) (size : ℕ) (more : Bool) (o : Octets) → Keeps s o → (t ≡ turns.New → (0 < length s.queue.sdus) × (3 ≤ size)) → (t ≡ turns.Whole → (waits s ≡ true) × (whole_size (again s) ≤ size)) → (t ≡ turns.Part → (waits s ≡ true) × (5 ≤ size))
-    → (t ≡ turns.Part → (all_wait (again s) && nat_le (whole_size (again s)) size) ≡ false) → IsResent t s size o.marks → IsWritten t s size o (answer_of t s size more)
+written-of : (t : Turn) (s : State) (size : ℕ) (more : Bool) (o : Octets) → Keeps s o
+    → (t ≡ turns.New → (0 < length s.queue.sdus) × (3 ≤ size))
+    → (t ≡ turns.Whole → (waits s ≡ true) × (whole_size (again s) ≤ size))
+    → (t ≡ turns.Part → (waits s ≡ true) × (5 ≤ size))
+    → (t ≡ turns.Part → (all_wait (again s) && nat_le (whole_size (again s)) size) ≡ false)
+    → IsResent t s size o.marks → IsWritten t s size o (answer_of t s size more)
 unfolding answer_of
 written-of turns.New s size more o k new whole' part' short r =
     let f = k.faces in
     record {
       some = new-some s size o.unsent o.sent f (new refl);
       there = new-there s size o.unsent o.sent f;
-      is = ap (λ (n : ℕ). taken.Piece n true (is_wanted (sent_new s size) more) (whole_octets (new_slot s size) n (is_wanted (sent_new s size) more))) (sym f.number)
+      is =
+          ap (λ (n : ℕ). taken.Piece n true (is_wanted (sent_new s size) more)
+          (whole_octets (new_slot s size) n (is_wanted (sent_new s size) more))) (sym f.number)
           ∙ ap (λ (xs : List ℕ). taken.Piece (length o.sent) true (is_wanted (sent_new s size) more) xs)
-          (whole-is (new_slot s size) (take (new_count s size) o.unsent) (length o.sent) (is_wanted (sent_new s size) more) (new-face s size o.unsent o.sent f (new refl)));
+          (whole-is (new_slot s size) (take (new_count s size) o.unsent) (length o.sent)
+          (is_wanted (sent_new s size) more) (new-face s size o.unsent o.sent f (new refl)));
     }
-written-of turns.Whole s size more o k new whole' part' short r = whole-again s size o (is_wanted (sent_whole s) more) k (whole' refl).0 (whole' refl).1 r
-written-of turns.Part s size more o k new whole' part' short r = part-again s size o (is_wanted (sent_segment s size) more) k (part' refl) (short refl) r
+written-of turns.Whole s size more o k new whole' part' short r =
+    whole-again s size o (is_wanted (sent_whole s) more) k (whole' refl).0 (whole' refl).1 r
+written-of turns.Part s size more o k new whole' part' short r =
+    part-again s size o (is_wanted (sent_segment s size) more) k (part' refl) (short refl) r
 written-of turns.Idle s size more o k new whole' part' short r = tt
 written-of turns.Stopped s size more o k new whole' part' short r = tt
 written-of turns.Small s size more o k new whole' part' short r = tt
 written-of turns.Shut s size more o k new whole' part' short r = tt
 written-of turns.Held s size more o k new whole' part' short r = tt
 
-pub run-keeps : (calls : List Call) (w : World Octets) → AllByRecursion HasOctets calls → Keeps w.state w.past → Keeps (run_all octets_after calls w).state (run_all octets_after calls w).past
+pub run-keeps : (calls : List Call) (w : World Octets) → AllByRecursion HasOctets calls → Keeps w.state w.past
+    → Keeps (run_all octets_after calls w).state (run_all octets_after calls w).past
 run-keeps [] w h k = k
-run-keeps (c ∷ cs) w h k = run-keeps cs (record { state = after w.state c; past = octets_after w.state c w.past }) h.1 (after-keeps w.state c w.past h.0 k)
+run-keeps (c ∷ cs) w h k =
+    run-keeps cs (record { state = after w.state c; past = octets_after w.state c w.past }) h.1
+    (after-keeps w.state c w.past h.0 k)
 
-taking : (s : State) (size : ℕ) (held : Option ℕ) (more : Bool) (o : Octets) → Keeps s o → IsWritten (turn s size held more) s size o (answer_of (turn s size held more) s size more)
-taking s size held more o k = written-of (turn s size held more) s size more o k (new-able s size held more) (λ e. ((whole-waits s size held more e).0, whole-fits s size held more e)) (is-part s size held more) (part-case s size held more)
-    (resent-of (turn s size held more) s size o.marks k.stands (whole-waits s size held more) (is-part s size held more))
+taking : (s : State) (size : ℕ) (held : Option ℕ) (more : Bool) (o : Octets) → Keeps s o
+    → IsWritten (turn s size held more) s size o (answer_of (turn s size held more) s size more)
+taking s size held more o k =
+    written-of (turn s size held more) s size more o k (new-able s size held more)
+    (λ e. ((whole-waits s size held more e).0, whole-fits s size held more e)) (is-part s size held more)
+    (part-case s size held more)
+    (resent-of (turn s size held more) s size o.marks k.stands (whole-waits s size held more)
+    (is-part s size held more))
 
 pub start-keeps : (config : AmTxConfig) → Keeps (begun config nothing_sent).state (begun config nothing_sent).past
 start-keeps config = record {
@@ -560,5 +736,6 @@ start-keeps config = record {
 
 pub writes : WritesTheStream
 writes config calls size held more h =
-    taking (run_all octets_after calls (begun config nothing_sent)).state size held more (run_all octets_after calls (begun config nothing_sent)).past
+    taking (run_all octets_after calls (begun config nothing_sent)).state size held more
+    (run_all octets_after calls (begun config nothing_sent)).past
     (run-keeps calls (begun config nothing_sent) h (start-keeps config))

@@ -1,5 +1,6 @@
 -- The reordering timer runs exactly while a number is missing.
-use Rattle.std.proofs.Common.{◌≡◌, ◌<◌, ◌≤◌, ℕ, ◌+◌, ◌*◌, ◌-◌, Bool, true, false, ◌&&◌, if◌then◌else◌, List, [], ◌∷◌, Option, Some, None, is_some, is_none, refl, ap, sym, subst, ◌∙◌, arith, nat_lt, nat_le}
+use Rattle.std.proofs.Common.{◌≡◌, ◌<◌, ◌≤◌, ℕ, ◌+◌, ◌*◌, ◌-◌, Bool, true, false, ◌&&◌, if◌then◌else◌, List, [], ◌∷◌}
+use Rattle.std.proofs.Common.{Option, Some, None, is_some, is_none, refl, ap, sym, subst, ◌∙◌, arith, nat_lt, nat_le}
 use Rattle.std.proofs.lemmas.Bool.Decides.{nat_tests}
 use Rattle.l2_num.specs.Timers.{Clock, runs, begun, ceased, counted}
 use Rattle.rlc_pdu.specs.Pdus.{UmdPdu}
@@ -7,7 +8,8 @@ use Rattle.rlc_pdu.specs.declared.outcome.Landed.{Landed}
 use Rattle.rlc_pdu.specs.declared.outcome.Landed.TheVariants.{Kept, Repeat, Outside, Clash}
 use Rattle.rlc_um.specs.Joined.{Parts, parts_of}
 use Rattle.rlc_um.specs.Window.{top_of}
-use Rattle.rlc_um.specs.Receiver.{State, landed, kept, mark_begun, clock_turned, timed, at_mark, after_landing, after_expiry}
+use Rattle.rlc_um.specs.Receiver.{State, landed, kept, mark_begun, clock_turned, timed, at_mark, after_landing}
+use Rattle.rlc_um.specs.Receiver.{after_expiry}
 use Rattle.law_rlc.specs.UmPair.Run.{Call, Arrive, Expire, Tick, Up, World, fresh, happens, run, read_number, IsTimed}
 use Rattle.law_rlc.proofs.UmPair.Edge.{or_zero, Keeps, came, comes-is, ends-is, happens-keeps, at-start}
 
@@ -18,7 +20,8 @@ record Runs (c : Clock) (mark : Option ℕ) (edge top : ℕ) : Type 0 where
   within : (x : ℕ) → mark ≡ Some x → x ≤ top
 
 -- where it doesn't run, or has stopped
-none-runs : (c : Clock) (edge top : ℕ) (b stopped : Bool) → nat_lt edge top ≡ b → runs (if stopped then ceased c else c) ≡ false
+none-runs : (c : Clock) (edge top : ℕ) (b stopped : Bool) → nat_lt edge top ≡ b
+    → runs (if stopped then ceased c else c) ≡ false
     → Runs (if b then begun c else if stopped then ceased c else c) (if b then Some top else None) edge top
 none-runs c edge top true stopped e r = record {
   runs_with_mark = refl;
@@ -26,11 +29,17 @@ none-runs c edge top true stopped e r = record {
   above = λ x f. let g : top ≡ x = ap or_zero f in grind (arith, nat_tests, e);
   within = λ x f. let g : top ≡ x = ap or_zero f in omega arith;
 }
-none-runs c edge top false stopped e r = record { runs_with_mark = r; runs_at_gap = sym e; above = λ x f. absurd cc; within = λ x f. absurd cc }
+none-runs c edge top false stopped e r =
+    record { runs_with_mark = r; runs_at_gap = sym e; above = λ x f. absurd cc; within = λ x f. absurd cc }
 
 -- where it runs
 some-runs : (c : Clock) (x edge top : ℕ) (le : Bool) → nat_le x edge ≡ le → runs c ≡ true → x ≤ top
-    → Runs (clock_turned (record { stopped = true && is_none (if le then None else Some x); started = is_none (if le then None else Some x) && nat_lt edge top }) c) (mark_begun (if le then None else Some x) edge top) edge top
+    → Runs
+    (clock_turned (record {
+      stopped = true && is_none (if le then None else Some x);
+      started = is_none (if le then None else Some x) && nat_lt edge top;
+    }) c)
+    (mark_begun (if le then None else Some x) edge top) edge top
 some-runs c x edge top true e r h = none-runs c edge top (nat_lt edge top) true refl refl
 some-runs c x edge top false e r h =
     let more : edge < x = grind (arith, nat_tests, e) in
@@ -44,19 +53,27 @@ some-runs c x edge top false e r h =
 abbrev RunsIn : State → Type 0
 RunsIn s = Runs s.clock s.mark s.window.edge (top_of s.window)
 
-timed-runs : (s : State) (mark : Option ℕ) → s.mark ≡ mark → runs s.clock ≡ is_some s.mark → or_zero s.mark ≤ top_of s.window → RunsIn (timed s)
+timed-runs : (s : State) (mark : Option ℕ) → s.mark ≡ mark → runs s.clock ≡ is_some s.mark
+    → or_zero s.mark ≤ top_of s.window → RunsIn (timed s)
 timed-runs s None e r h = go s.mark e (r ∙ ap is_some e)
   where
-    go : (m : Option ℕ) → m ≡ None → runs s.clock ≡ false → Runs (timed (record s { mark = m })).clock (timed (record s { mark = m })).mark s.window.edge (top_of s.window)
-    go None e r = none-runs s.clock s.window.edge (top_of s.window) (nat_lt s.window.edge (top_of s.window)) false refl r
+    go : (m : Option ℕ) → m ≡ None → runs s.clock ≡ false
+        → Runs (timed (record s { mark = m })).clock (timed (record s { mark = m })).mark s.window.edge
+        (top_of s.window)
+    go None e r = none-runs s.clock s.window.edge (top_of s.window) (nat_lt s.window.edge (top_of s.window)) false
+        refl r
     go (Some x) e r = absurd cc
 timed-runs s (Some x) e r h = go s.mark e (r ∙ ap is_some e) (subst (λ (o : Option ℕ). or_zero o ≤ top_of s.window) e h)
   where
-    go : (m : Option ℕ) → m ≡ Some x → runs s.clock ≡ true → x ≤ top_of s.window → Runs (timed (record s { mark = m })).clock (timed (record s { mark = m })).mark s.window.edge (top_of s.window)
+    go : (m : Option ℕ) → m ≡ Some x → runs s.clock ≡ true → x ≤ top_of s.window
+        → Runs (timed (record s { mark = m })).clock (timed (record s { mark = m })).mark s.window.edge
+        (top_of s.window)
     go None e r h = absurd cc
-    go (Some y) e r h = let g : y ≡ x = ap or_zero e in some-runs s.clock y s.window.edge (top_of s.window) (nat_le y s.window.edge) refl r (omega arith)
+    go (Some y) e r h = let g : y ≡ x = ap or_zero e in
+        some-runs s.clock y s.window.edge (top_of s.window) (nat_le y s.window.edge) refl r (omega arith)
 
-landing-runs : (l : Landed) (x : ℕ) (p : Parts) (s : State) → or_zero s.mark ≤ top_of (after_landing l x p s).window → RunsIn s → RunsIn (after_landing l x p s)
+landing-runs : (l : Landed) (x : ℕ) (p : Parts) (s : State) → or_zero s.mark ≤ top_of (after_landing l x p s).window
+    → RunsIn s → RunsIn (after_landing l x p s)
 landing-runs Kept x p s h r = timed-runs (kept (x - s.window.edge) p s) s.mark refl r.runs_with_mark h
 landing-runs Repeat x p s h r = r
 landing-runs Outside x p s h r = r
@@ -82,7 +99,9 @@ both-arrive w pdu b =
     let m = b.keeps.rests.stands.marked in
     record {
       keeps = k;
-      runs_in = subst (λ (v : World). RunsIn v.state) (sym (comes-is w pdu)) (landing-runs (landed w.state (read_number pdu w)) (read_number pdu w) (parts_of pdu) w.state (omega arith) b.runs_in);
+      runs_in = subst (λ (v : World). RunsIn v.state) (sym (comes-is w pdu))
+          (landing-runs (landed w.state (read_number pdu w)) (read_number pdu w) (parts_of pdu) w.state (omega arith)
+          b.runs_in);
     }
 
 both-happens : (w : World) (c : Call) → Both w → Both (happens w c)
@@ -93,11 +112,21 @@ both-happens w Expire b = record {
 }
 both-happens w Tick b = record {
   keeps = happens-keeps w Tick b.keeps;
-  runs_in = record { runs_with_mark = counted-runs w.state.clock.left ∙ b.runs_in.runs_with_mark; runs_at_gap = b.runs_in.runs_at_gap; above = b.runs_in.above; within = b.runs_in.within };
+  runs_in = record {
+    runs_with_mark = counted-runs w.state.clock.left ∙ b.runs_in.runs_with_mark;
+    runs_at_gap = b.runs_in.runs_at_gap;
+    above = b.runs_in.above;
+    within = b.runs_in.within;
+  };
 }
 both-happens w Up b = record {
   keeps = happens-keeps w Up b.keeps;
-  runs_in = record { runs_with_mark = b.runs_in.runs_with_mark; runs_at_gap = b.runs_in.runs_at_gap; above = b.runs_in.above; within = b.runs_in.within };
+  runs_in = record {
+    runs_with_mark = b.runs_in.runs_with_mark;
+    runs_at_gap = b.runs_in.runs_at_gap;
+    above = b.runs_in.above;
+    within = b.runs_in.within;
+  };
 }
 
 both-run : (calls : List Call) (w : World) → Both w → Both (run calls w)
@@ -107,5 +136,20 @@ both-run (c ∷ cs) w b = both-run cs (happens w c) (both-happens w c b)
 pub is_timed : (width reorder : ℕ) → 0 < width → (calls : List Call) → IsTimed (run calls (fresh width reorder))
 is_timed width reorder h calls =
     let gap : false ≡ nat_lt (2 * width) (2 * width + 0) = grind (arith, nat_tests) in
-    let b : Both (run calls (fresh width reorder)) = both-run calls (fresh width reorder) (record { keeps = at-start width reorder h; runs_in = record { runs_with_mark = refl; runs_at_gap = gap; above = λ x f. absurd cc; within = λ x f. absurd cc } }) in
-    record { runs_with_mark = b.runs_in.runs_with_mark; runs_at_gap = b.runs_in.runs_at_gap; above = b.runs_in.above; within = b.runs_in.within }
+    let b : Both (run calls (fresh width reorder)) =
+    both-run calls (fresh width reorder)
+    (record {
+      keeps = at-start width reorder h;
+      runs_in = record {
+        runs_with_mark = refl;
+        runs_at_gap = gap;
+        above = λ x f. absurd cc;
+        within = λ x f. absurd cc;
+      };
+    }) in
+    record {
+      runs_with_mark = b.runs_in.runs_with_mark;
+      runs_at_gap = b.runs_in.runs_at_gap;
+      above = b.runs_in.above;
+      within = b.runs_in.within;
+    }

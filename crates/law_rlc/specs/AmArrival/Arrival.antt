@@ -1,11 +1,14 @@
 -- Which SDUs of a flow have arrived, told by the PDUs that were written and that came
 -- (TS 36.322 5.1.3.2.3).
-use Rattle.std.specs.Prelude.{◌≡◌, ℕ, List, [], ◌∷◌, ◌++◌, map, length, Option, Some, None, slice_get}
+use Rattle.std.specs.Prelude.{◌≡◌, ℕ, List, [], ◌∷◌, ◌++◌, map, length, Option, Some, None}
+use Rattle.std.specs.Prelude.{slice_get}
 use Rattle.l2_types.specs.declared.config.AmTxConfig.{AmTxConfig}
 use Rattle.l2_types.specs.declared.AmRxConfig.{AmRxConfig}
 use Rattle.rlc_pdu.specs.declared.outcome.Taken.{Taken}
 use Rattle.rlc_pdu.specs.declared.outcome.Taken.TheVariants as taken
-use Rattle.law_rlc.specs.AmPair.Flow.{Copy, Flow, Step, Sends, Receives, Reports, DataComes, StatusComes, DataGoes, StatusGoes, Passes, sender, given, happens, goes, outset}
+use Rattle.law_rlc.specs.AmPair.Flow.{Copy, Flow, Step, Sends, Receives, Reports, DataComes}
+use Rattle.law_rlc.specs.AmPair.Flow.{StatusComes, DataGoes, StatusGoes, Passes, sender, given}
+use Rattle.law_rlc.specs.AmPair.Flow.{happens, goes, outset}
 use Rattle.law_rlc.specs.AmPair.Given.{AreGiven}
 use Rattle.law_rlc.specs.AmPair.Sdus.{offered}
 use Rattle.law_rlc.specs.AmPair.Arrives.{arrives}
@@ -47,5 +50,7 @@ abbrev pub ArrivesAsTold : Flow → Told → Type 0
 ArrivesAsTold f t = (place : ℕ) → arrives f place ≡ has_arrived (map length (offered f)) t.fields t.came place
 
 abbrev pub PdusTellWhatArrives : Type 0
-PdusTellWhatArrives = (sending : AmTxConfig) (receiving : AmRxConfig) (steps : List Step) → AreGiven (outset sending receiving) steps
-    → ArrivesAsTold (goes steps (outset sending receiving)) (with_passings (passed steps (outset sending receiving)) nothing_told)
+PdusTellWhatArrives = (sending : AmTxConfig) (receiving : AmRxConfig) (steps : List Step)
+    → AreGiven (outset sending receiving) steps
+    → ArrivesAsTold (goes steps (outset sending receiving))
+    (with_passings (passed steps (outset sending receiving)) nothing_told)

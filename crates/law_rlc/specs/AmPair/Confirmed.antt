@@ -3,7 +3,8 @@ use Rattle.std.specs.Prelude.{◌≡◌, ℕ, ◌<◌, true, List, [], length, s
 use Rattle.l2_types.specs.declared.config.AmTxConfig.{AmTxConfig}
 use Rattle.l2_types.specs.declared.AmRxConfig.{AmRxConfig}
 use Rattle.law_rlc.specs.AmSender.Run.{World, run, begun}
-use Rattle.law_rlc.specs.AmSender.Confirmed.{Confirmations, unconfirmed, confirmations_after, places, times}
+use Rattle.law_rlc.specs.AmSender.Confirmed.{Confirmations, unconfirmed, confirmations_after}
+use Rattle.law_rlc.specs.AmSender.Confirmed.{places, times}
 use Rattle.law_rlc.specs.AmReceiver.Finish.{all_come}
 use Rattle.law_rlc.specs.AmPair.Flow.{Flow, Step, goes, outset}
 use Rattle.law_rlc.specs.AmPair.Given.{AreGiven}
@@ -16,11 +17,14 @@ confirmations f = run confirmations_after f.sent (begun f.sending unconfirmed)
 abbrev pub confirmed : Flow → List ℕ
 confirmed f = places (confirmations f).state (confirmations f).past
 
--- the SDU of a place is one of which all octets have arrived, so one that went up or that `finish` gives
+-- the SDU of a place is one of which all octets have arrived, so one that went up or that `finish`
+-- gives
 pub record Arrives (f : Flow) (place : ℕ) : Type 0 where
   pub ends : place < length (seen f)
   pub octets : all_come (slice_index_or (seen f) place []) ≡ true
 
 abbrev pub ConfirmedArrives : Type 0
-ConfirmedArrives = (sending : AmTxConfig) (receiving : AmRxConfig) (steps : List Step) (place : ℕ) → AreGiven (outset sending receiving) steps
-    → 0 < times place (confirmed (goes steps (outset sending receiving))) → Arrives (goes steps (outset sending receiving)) place
+ConfirmedArrives = (sending : AmTxConfig) (receiving : AmRxConfig) (steps : List Step) (place : ℕ)
+    → AreGiven (outset sending receiving) steps
+    → 0 < times place (confirmed (goes steps (outset sending receiving)))
+    → Arrives (goes steps (outset sending receiving)) place

@@ -1,6 +1,8 @@
--- Both ends of an acknowledged bearer in one direction and one life, and what is under way between them (TS 36.322 4.2.1.3). HARQ may lose
--- what is under way, bring it late, in another order, and more than once.
-use Rattle.std.specs.Prelude.{ℕ, zero, suc, ◌+◌, Bool, false, ◌||◌, List, [], ◌∷◌, ◌++◌, Option, Some, None, Result, Ok, Err, slice_get}
+-- Both ends of an acknowledged bearer in one direction and one life, and what is under way between
+-- them (TS 36.322 4.2.1.3). HARQ may lose what is under way, bring it late, in another order, and
+-- more than once.
+use Rattle.std.specs.Prelude.{ℕ, zero, suc, ◌+◌, Bool, false, ◌||◌, List, [], ◌∷◌, ◌++◌, Option}
+use Rattle.std.specs.Prelude.{Some, None, Result, Ok, Err, slice_get}
 use Rattle.l2_types.specs.declared.config.AmTxConfig.{AmTxConfig}
 use Rattle.l2_types.specs.declared.AmRxConfig.{AmRxConfig}
 use Rattle.rlc_pdu.specs.declared.outcome.Taken.{Taken}
@@ -11,24 +13,29 @@ use Rattle.rlc_pdu.specs.Reading.{am_at}
 use Rattle.rlc_am_rx_window.specs.declared.missing.Missing.{Missing}
 use Rattle.rlc_am_tx.specs.Machine.{State, answer}
 use Rattle.rlc_am_rx.specs.Status.{ack, chosen}
-use Rattle.law_rlc.specs.AmSender.Run.{Call as SenderCall, Offer, Take, Status, Tick, Expire, Settle, Confirm, World as SenderWorld, run as run_sender, begun}
+use Rattle.law_rlc.specs.AmSender.Run.{Call as SenderCall, Offer, Take, Status, Tick, Expire}
+use Rattle.law_rlc.specs.AmSender.Run.{Settle, Confirm, World as SenderWorld, run as run_sender}
+use Rattle.law_rlc.specs.AmSender.Run.{begun}
 use Rattle.law_rlc.specs.AmSender.Octets.{Octets, nothing_sent, octets_after}
-use Rattle.law_rlc.specs.AmReceiver.Run.{Call as ReceiverCall, Arrive, Write, World as ReceiverWorld, run as run_receiver, begin}
+use Rattle.law_rlc.specs.AmReceiver.Run.{Call as ReceiverCall, Arrive, Write}
+use Rattle.law_rlc.specs.AmReceiver.Run.{World as ReceiverWorld, run as run_receiver, begin}
 
--- a data PDU that may still come: its octets, and beside them the number that the sender gave it, counted from 0
+-- a data PDU that may still come: its octets, and beside them the number that the sender gave it,
+-- counted from 0
 pub record Copy : Type 0 where
   pub number : ℕ
   pub octets : List ℕ
 
--- a STATUS that may still come: its octets, and the TTIs since it was written; beside them its ACK and the entries that it was written with,
--- their numbers counted from 0
+-- a STATUS that may still come: its octets, and the TTIs since it was written; beside them its ACK
+-- and the entries that it was written with, their numbers counted from 0
 pub record Report : Type 0 where
   pub octets : List ℕ
   pub age : ℕ
   pub ack : ℕ
   pub entries : List Missing
 
--- how both ends are set, the calls of each so far, in their order, what is under way, and whether a new PDU was sent in this TTI
+-- how both ends are set, the calls of each so far, in their order, what is under way, and whether a
+-- new PDU was sent in this TTI
 pub record Flow : Type 0 where
   pub sending : AmTxConfig
   pub receiving : AmRxConfig
@@ -66,7 +73,8 @@ pub data Step : Type 0 where
 
 -- what `take` answers is under way
 abbrev pub copies_with : Taken → List Copy → List Copy
-copies_with (taken.Piece number fresh polled octets) copies = record { number = number; octets = octets } ∷ copies
+copies_with (taken.Piece number fresh polled octets) copies =
+    record { number = number; octets = octets } ∷ copies
 copies_with taken.Idle copies = copies
 copies_with taken.Small copies = copies
 copies_with taken.Shut copies = copies
@@ -93,7 +101,11 @@ given s (Settle more) = taken.Idle
 given s Confirm = taken.Idle
 
 abbrev pub sends : Flow → SenderCall → Flow
-sends f c = record f { sent = f.sent ++ c ∷ []; copies = copies_with (given (sender f).state c) f.copies; busy = f.busy || is_new (given (sender f).state c) }
+sends f c = record f {
+  sent = f.sent ++ c ∷ [];
+  copies = copies_with (given (sender f).state c) f.copies;
+  busy = f.busy || is_new (given (sender f).state c);
+}
 
 -- ---- the receiver
 
@@ -103,7 +115,12 @@ receives f c = record f { heard = f.heard ++ c ∷ [] }
 abbrev pub reports : Flow → ℕ → List ℕ → Flow
 reports f size octets = record f {
   heard = f.heard ++ Write ∷ [];
-  reports = record { octets = octets; age = 0; ack = ack (receiver f).state size; entries = chosen (receiver f).state size } ∷ f.reports;
+  reports = record {
+    octets = octets;
+    age = 0;
+    ack = ack (receiver f).state size;
+    entries = chosen (receiver f).state size;
+  } ∷ f.reports;
 }
 
 -- ---- what is under way
@@ -154,4 +171,13 @@ goes [] f = f
 goes (s ∷ ss) f = goes ss (happens f s)
 
 abbrev pub outset : AmTxConfig → AmRxConfig → Flow
-outset sending receiving = record { sending = sending; receiving = receiving; sent = []; heard = []; copies = []; reports = []; busy = false }
+outset sending receiving =
+    record {
+      sending = sending;
+      receiving = receiving;
+      sent = [];
+      heard = [];
+      copies = [];
+      reports = [];
+      busy = false;
+    }

@@ -1,22 +1,28 @@
--- What is asked of the steps of a flow: that HARQ keeps its bounds (TS 36.321 5.3.2, 5.4.2), and that `take` is told what HARQ holds, so that
--- no new number is given while one that lies 512 below it, or lower, is under way.
-use Rattle.std.specs.Prelude.{◌≡◌, ℕ, ◌%◌, ◌<◌, ◌≤◌, Bool, true, false, List, [], ◌∷◌, length, Option, Some, None, slice_index}
+-- What is asked of the steps of a flow: that HARQ keeps its bounds (TS 36.321 5.3.2, 5.4.2), and
+-- that `take` is told what HARQ holds, so that no new number is given while one that lies 512 below
+-- it, or lower, is under way.
+use Rattle.std.specs.Prelude.{◌≡◌, ℕ, ◌%◌, ◌<◌, ◌≤◌, Bool, true, false, List, [], ◌∷◌, length}
+use Rattle.std.specs.Prelude.{Option, Some, None, slice_index}
 use Rattle.std.specs.List.{AllByRecursion}
 use Rattle.l2_bits.specs.Bits.{bits_of}
 use Rattle.rlc_pdu.specs.Writing.{status_written}
 use Rattle.rlc_am_tx.specs.Machine.{answer}
 use Rattle.rlc_am_rx.specs.Status.{ack, nacks}
-use Rattle.law_rlc.specs.AmSender.Run.{Call as SenderCall, Offer, Take, Status, Tick, Expire, Settle, Confirm}
-use Rattle.law_rlc.specs.AmReceiver.Run.{Call as ReceiverCall, Arrive, Up, Write, ExpireReorder, ExpireProhibit, TickReorder, TickProhibit}
-use Rattle.law_rlc.specs.AmPair.Flow.{Copy, Report, Flow, Step, Sends, Receives, Reports, DataComes, StatusComes, DataGoes, StatusGoes, Passes, sender, receiver, is_new, happens}
+use Rattle.law_rlc.specs.AmSender.Run.{Call as SenderCall, Offer, Take, Status, Tick, Expire}
+use Rattle.law_rlc.specs.AmSender.Run.{Settle, Confirm}
+use Rattle.law_rlc.specs.AmReceiver.Run.{Call as ReceiverCall, Arrive, Up, Write, ExpireReorder}
+use Rattle.law_rlc.specs.AmReceiver.Run.{ExpireProhibit, TickReorder, TickProhibit}
+use Rattle.law_rlc.specs.AmPair.Flow.{Copy, Report, Flow, Step, Sends, Receives, Reports, DataComes}
+use Rattle.law_rlc.specs.AmPair.Flow.{StatusComes, DataGoes, StatusGoes, Passes, sender, receiver}
+use Rattle.law_rlc.specs.AmPair.Flow.{is_new, happens}
 
 -- no data PDU under way has a number below the one that `take` is told
 abbrev pub IsHeld : Option ℕ → Copy → Type 0
 IsHeld None c = ⊥
 IsHeld (Some held) c = held ≤ c.number
 
--- a data field has at most 32767 octets, since SO has 15 bits (TS 36.322 6.2.2.7); `take` is told the lowest number under way, or a lower one;
--- and there is at most one new PDU in a TTI
+-- a data field has at most 32767 octets, since SO has 15 bits (TS 36.322 6.2.2.7); `take` is told
+-- the lowest number under way, or a lower one; and there is at most one new PDU in a TTI
 pub record IsTaking (f : Flow) (size : ℕ) (held : Option ℕ) (more : Bool) : Type 0 where
   pub few : size ≤ 32767
   pub lowest : AllByRecursion (IsHeld held) f.copies
@@ -32,7 +38,8 @@ IsSending f (Expire more) = Unit {0}
 IsSending f (Settle more) = Unit {0}
 IsSending f Confirm = Unit {0}
 
--- a data PDU comes to the receiver only if it is under way, and a STATUS that is written is under way
+-- a data PDU comes to the receiver only if it is under way, and a STATUS that is written is under
+-- way
 abbrev pub IsReceiving : ReceiverCall → Type 0
 IsReceiving (Arrive pdu) = ⊥
 IsReceiving Up = Unit {0}
@@ -45,7 +52,8 @@ IsReceiving TickProhibit = Unit {0}
 -- the octets of a STATUS are what the receiver writes
 pub record IsReporting (f : Flow) (size : ℕ) (octets : List ℕ) : Type 0 where
   pub bytes : (i : ℕ) → slice_index octets i < 256
-  pub bits : bits_of octets ≡ status_written (ack (receiver f).state size % 1024) (nacks (receiver f).state size)
+  pub bits : bits_of octets ≡ status_written (ack (receiver f).state size % 1024)
+      (nacks (receiver f).state size)
 
 -- a STATUS is under way for fewer TTIs after the one in which it was written: a block is sent at
 -- most 28 times, 8 TTIs apart (TS 36.321 5.4.2.2)

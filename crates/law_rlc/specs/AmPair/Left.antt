@@ -5,7 +5,8 @@ use Rattle.law_rlc.specs.AmPair.Flow.{Flow, sender}
 use Rattle.law_rlc.specs.AmPair.Sdus.{offered, handed_up, ready}
 use Rattle.law_rlc.specs.AmPair.Arrives.{Always}
 
--- what was handed up and what is ready are all SDUs that were offered: in their order, each once, unchanged
+-- what was handed up and what is ready are all SDUs that were offered: in their order, each once,
+-- unchanged
 abbrev pub HasAllUp : Flow → Type 0
 HasAllUp f = left (sender f).state ≡ 0 → handed_up f ++ ready f ≡ offered f
 

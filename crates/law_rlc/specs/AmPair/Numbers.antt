@@ -20,7 +20,9 @@ pub record IsOrdered (f : Flow) : Type 0 where
   pub window : next (sender f).state.window ≤ (sender f).state.window.base + 512
 
 abbrev pub KeepsOrder : Type 0
-KeepsOrder = (sending : AmTxConfig) (receiving : AmRxConfig) (steps : List Step) → AreGiven (outset sending receiving) steps → IsOrdered (goes steps (outset sending receiving))
+KeepsOrder = (sending : AmTxConfig) (receiving : AmRxConfig) (steps : List Step)
+    → AreGiven (outset sending receiving) steps
+    → IsOrdered (goes steps (outset sending receiving))
 
 -- the sender has heard that a number is acknowledged
 abbrev pub is_acked : Flow → ℕ → Bool
@@ -30,9 +32,12 @@ is_acked f = (run_sender acked_after f.sent (begun f.sending (λ n. false))).pas
 pub record HasArrived (f : Flow) (n : ℕ) : Type 0 where
   pub sent : n < length (sender f).past.sent
   pub size : told (receiver f).kept n ≡ Some (length (sent_with (sender f).past n))
-  pub octets : (i : ℕ) → i < length (sent_with (sender f).past n) → has_come (receiver f).kept n i ≡ true
+  pub octets : (i : ℕ) → i < length (sent_with (sender f).past n)
+      → has_come (receiver f).kept n i ≡ true
 
 -- each number that is acknowledged has arrived
 abbrev pub AckedHasArrived : Type 0
-AckedHasArrived = (sending : AmTxConfig) (receiving : AmRxConfig) (steps : List Step) (n : ℕ) → AreGiven (outset sending receiving) steps
-    → is_acked (goes steps (outset sending receiving)) n ≡ true → HasArrived (goes steps (outset sending receiving)) n
+AckedHasArrived = (sending : AmTxConfig) (receiving : AmRxConfig) (steps : List Step) (n : ℕ)
+    → AreGiven (outset sending receiving) steps
+    → is_acked (goes steps (outset sending receiving)) n ≡ true
+    → HasArrived (goes steps (outset sending receiving)) n

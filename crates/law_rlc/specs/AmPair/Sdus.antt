@@ -3,7 +3,8 @@
 use Rattle.std.specs.Prelude.{ℕ, List, [], ◌∷◌, ◌++◌}
 use Rattle.l2_types.specs.declared.config.AmTxConfig.{AmTxConfig}
 use Rattle.l2_types.specs.declared.AmRxConfig.{AmRxConfig}
-use Rattle.law_rlc.specs.AmSender.Run.{Call as SenderCall, Offer, Take, Status, Tick, Expire, Settle, Confirm}
+use Rattle.law_rlc.specs.AmSender.Run.{Call as SenderCall, Offer, Take, Status, Tick, Expire}
+use Rattle.law_rlc.specs.AmSender.Run.{Settle, Confirm}
 use Rattle.law_rlc.specs.AmReceiver.Stream.{flow, initial}
 use Rattle.law_rlc.specs.AmPair.Flow.{Flow, Step, goes, outset}
 use Rattle.law_rlc.specs.AmPair.Given.{AreGiven}
@@ -33,7 +34,11 @@ handed_up f = (flow f.heard (initial f.receiving)).gone
 abbrev pub ready : Flow → List (List ℕ)
 ready f = (flow f.heard (initial f.receiving)).state.out.ready
 
--- what was handed up and what is ready are the SDUs that were offered first: in their order, each once, unchanged
+-- what was handed up and what is ready are the SDUs that were offered first: in their order, each
+-- once, unchanged
 abbrev pub HandsUpTheFront : Type 0
-HandsUpTheFront = (sending : AmTxConfig) (receiving : AmRxConfig) (steps : List Step) → AreGiven (outset sending receiving) steps
-    → IsFront (handed_up (goes steps (outset sending receiving)) ++ ready (goes steps (outset sending receiving))) (offered (goes steps (outset sending receiving)))
+HandsUpTheFront = (sending : AmTxConfig) (receiving : AmRxConfig) (steps : List Step)
+    → AreGiven (outset sending receiving) steps
+    → IsFront (handed_up (goes steps (outset sending receiving))
+    ++ ready (goes steps (outset sending receiving)))
+    (offered (goes steps (outset sending receiving)))

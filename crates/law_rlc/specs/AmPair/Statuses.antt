@@ -16,14 +16,17 @@ use Rattle.law_rlc.specs.AmPair.Given.{AreGiven}
 abbrev pub reduced : Report → StatusPdu
 reduced r = record { ack = r.ack % 1024; nacks = map nack_of r.entries }
 
--- its octets are read as what it was written with; it is ignored exactly where its ACK lies below VT(A), else its ACK_SN stands for its ACK, and
--- each NACK_SN for the number of its entry
+-- its octets are read as what it was written with; it is ignored exactly where its ACK lies below
+-- VT(A), else its ACK_SN stands for its ACK, and each NACK_SN for the number of its entry
 pub record IsReadRight (s : State) (r : Report) : Type 0 where
   pub reads : am_at r.octets ≡ Ok (Status (reduced r))
   pub ignored : (is_ignored s (reduced r).ack ≡ true) ↔ (r.ack < s.window.base)
   pub ack : s.window.base ≤ r.ack → s.window.base + offset_of s.window.base (reduced r).ack ≡ r.ack
-  pub entries : (n : ℕ) → s.window.base ≤ n → n < next s.window → is_named s.window.base (n - s.window.base) (reduced r).nacks ≡ has_entry r.entries n
+  pub entries : (n : ℕ) → s.window.base ≤ n → n < next s.window
+      → is_named s.window.base (n - s.window.base) (reduced r).nacks ≡ has_entry r.entries n
 
 abbrev pub ReadsEachNumber : Type 0
-ReadsEachNumber = (sending : AmTxConfig) (receiving : AmRxConfig) (steps : List Step) → AreGiven (outset sending receiving) steps
-    → AllByRecursion (IsReadRight (sender (goes steps (outset sending receiving))).state) (goes steps (outset sending receiving)).reports
+ReadsEachNumber = (sending : AmTxConfig) (receiving : AmRxConfig) (steps : List Step)
+    → AreGiven (outset sending receiving) steps
+    → AllByRecursion (IsReadRight (sender (goes steps (outset sending receiving))).state)
+    (goes steps (outset sending receiving)).reports

@@ -2,7 +2,9 @@
 use Rattle.std.specs.Prelude.{ℕ, ◌<◌, ◌≤◌, List, [], ◌∷◌, Option, Some, None, max}
 use Rattle.l2_types.specs.declared.AmRxConfig.{AmRxConfig}
 use Rattle.rlc_am_rx.specs.State.{State}
-use Rattle.law_rlc.specs.AmReceiver.Run.{Call, Arrive, Up, Write, ExpireReorder, ExpireProhibit, TickReorder, TickProhibit, World, happens, begin, IsComplete}
+use Rattle.law_rlc.specs.AmReceiver.Run.{Call, Arrive, Up, Write, ExpireReorder, ExpireProhibit}
+use Rattle.law_rlc.specs.AmReceiver.Run.{TickReorder, TickProhibit, World, happens, begin}
+use Rattle.law_rlc.specs.AmReceiver.Run.{IsComplete}
 
 -- a receiver, and the greatest mark, VR(X), whose timer has expired
 pub record Marked : Type 0 where

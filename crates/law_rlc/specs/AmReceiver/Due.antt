@@ -1,5 +1,6 @@
 -- When a STATUS is due, by the events since the last one (TS 36.322 5.2.3).
-use Rattle.std.specs.Prelude.{ℕ, ◌||◌, Bool, true, false, List, [], ◌∷◌, Option, Some, None, nat_lt, if◌then◌else◌}
+use Rattle.std.specs.Prelude.{ℕ, ◌||◌, Bool, true, false, List, [], ◌∷◌, Option, Some, None, nat_lt}
+use Rattle.std.specs.Prelude.{if◌then◌else◌}
 use Rattle.std.specs.List.{list_any}
 use Rattle.l2_types.specs.declared.AmRxConfig.{AmRxConfig}
 use Rattle.rlc_pdu.specs.declared.Landed.{Landed}
@@ -7,10 +8,11 @@ use Rattle.rlc_pdu.specs.declared.Landed.TheVariants.{Kept as Fresh, Repeat, Out
 use Rattle.rlc_pdu.specs.Pdus.{AmdPdu}
 use Rattle.rlc_am_rx.specs.State.{State, fresh}
 use Rattle.rlc_am_rx.specs.Machine.{landed}
-use Rattle.law_rlc.specs.AmReceiver.Run.{Call, Arrive, Up, Write, ExpireReorder, ExpireProhibit, TickReorder, TickProhibit, state_after, number_read}
+use Rattle.law_rlc.specs.AmReceiver.Run.{Call, Arrive, Up, Write, ExpireReorder, ExpireProhibit}
+use Rattle.law_rlc.specs.AmReceiver.Run.{TickReorder, TickProhibit, state_after, number_read}
 
--- a receiver; whether since the last STATUS the timer expired, a polled PDU was dropped (but for a clash), or a polled number came to lie
--- below VR(MS); and the polled numbers that haven't
+-- a receiver; whether since the last STATUS the timer expired, a polled PDU was dropped (but for a
+-- clash), or a polled number came to lie below VR(MS); and the polled numbers that haven't
 pub record Asked : Type 0 where
   pub state : State
   pub asked : Bool
@@ -31,7 +33,8 @@ with_poll false n ns = ns
 
 -- VR(MS) has come to lie at a bound, with these polled numbers
 abbrev pub passing : ℕ → Bool → List ℕ → State → Asked
-passing bound asked polls s = record { state = s; asked = asked || some_below bound polls; polls = not_below bound polls }
+passing bound asked polls s =
+    record { state = s; asked = asked || some_below bound polls; polls = not_below bound polls }
 
 abbrev pub asked_on : Landed → Asked → AmdPdu → State → Asked
 asked_on Fresh a p s = passing s.bound a.asked (with_poll p.poll (number_read a.state p) a.polls) s
@@ -48,9 +51,21 @@ asks a (Arrive p) = asked_on (landed a.state p) a p (state_after a.state (Arrive
 asks a Up = record { state = state_after a.state Up; asked = a.asked; polls = a.polls }
 asks a Write = record { state = state_after a.state Write; asked = false; polls = a.polls }
 asks a ExpireReorder = asked_at a.state.mark a (state_after a.state ExpireReorder)
-asks a ExpireProhibit = record { state = state_after a.state ExpireProhibit; asked = a.asked; polls = a.polls }
-asks a TickReorder = record { state = state_after a.state TickReorder; asked = a.asked; polls = a.polls }
-asks a TickProhibit = record { state = state_after a.state TickProhibit; asked = a.asked; polls = a.polls }
+asks a ExpireProhibit = record {
+  state = state_after a.state ExpireProhibit;
+  asked = a.asked;
+  polls = a.polls;
+}
+asks a TickReorder = record {
+  state = state_after a.state TickReorder;
+  asked = a.asked;
+  polls = a.polls;
+}
+asks a TickProhibit = record {
+  state = state_after a.state TickProhibit;
+  asked = a.asked;
+  polls = a.polls;
+}
 
 abbrev pub ask : List Call → Asked → Asked
 ask [] a = a

@@ -1,5 +1,6 @@
 -- What went up with what comes up as the receiver ends (TS 36.322 5.4).
-use Rattle.std.specs.Prelude.{◌≡◌, ℕ, suc, zero, ◌+◌, ◌-◌, ◌||◌, Bool, true, List, [], ◌∷◌, ◌++◌, length, map, Some, nat_lt, if◌then◌else◌, slice_get}
+use Rattle.std.specs.Prelude.{◌≡◌, ℕ, suc, zero, ◌+◌, ◌-◌, ◌||◌, Bool, true, List, [], ◌∷◌, ◌++◌}
+use Rattle.std.specs.Prelude.{length, map, Some, nat_lt, if◌then◌else◌, slice_get}
 use Rattle.std.specs.List.{list_all}
 use Rattle.rlc_am_rx_window.specs.Cells.{Cell}
 use Rattle.rlc_am_rx_window.specs.Window.{top}
@@ -7,11 +8,13 @@ use Rattle.rlc_am_rx.specs.Machine.{finished}
 use Rattle.law_rlc.specs.AmReceiver.Run.{World, has_come}
 use Rattle.law_rlc.specs.AmReceiver.Stream.{IsField}
 
--- fields one behind the other: place 0 of number 0 begins an SDU, and where a field ends an SDU the next begins one
+-- fields one behind the other: place 0 of number 0 begins an SDU, and where a field ends an SDU the
+-- next begins one
 pub record IsStream (field : ℕ → List Cell) : Type 0 where
   pub fields : (n : ℕ) → IsField (field n)
   pub begins : (c : Cell) → slice_get (field 0) 0 ≡ Some c → c.begins ≡ true
-  pub edges : (n : ℕ) (c d : Cell) → slice_get (field n) (length (field n) - 1) ≡ Some c → slice_get (field (n + 1)) 0 ≡ Some d → c.ends ≡ d.begins
+  pub edges : (n : ℕ) (c d : Cell) → slice_get (field n) (length (field n) - 1) ≡ Some c
+      → slice_get (field (n + 1)) 0 ≡ Some d → c.ends ≡ d.begins
 
 -- a place of the stream, and whether it has arrived
 pub record Place : Type 0 where
@@ -30,7 +33,8 @@ places field come (suc n) = places field come n ++ marked (field n) (come n) 0
 -- the SDUs that end among places, behind what is known of the first
 abbrev pub cut : List Place → List Place → List (List Place)
 cut current [] = []
-cut current (p ∷ ps) = if p.cell.ends then (current ++ p ∷ []) ∷ cut [] ps else cut (current ++ p ∷ []) ps
+cut current (p ∷ ps) = if p.cell.ends then (current ++ p ∷ []) ∷ cut [] ps
+    else cut (current ++ p ∷ []) ps
 
 -- those of which all octets have arrived
 abbrev pub all_come : List Place → Bool
@@ -47,6 +51,8 @@ whole_of (s ∷ ss) = if all_come s then octets_of s ∷ whole_of ss else whole_
 abbrev pub arrived_in : World → ℕ → ℕ → Bool
 arrived_in w n i = nat_lt n w.state.window.front || has_come w.kept n i
 
--- What went up and what comes up now are the SDUs all of whose octets have arrived: in their order, each once and unchanged.
+-- What went up and what comes up now are the SDUs all of whose octets have arrived: in their order,
+-- each once and unchanged.
 pub record IsFinished (field : ℕ → List Cell) (w : World) (gone : List (List ℕ)) : Type 0 where
-  pub sdus : gone ++ finished w.state ≡ whole_of (cut [] (places field (arrived_in w) (top w.state.window)))
+  pub sdus : gone ++ finished w.state
+      ≡ whole_of (cut [] (places field (arrived_in w) (top w.state.window)))

@@ -1,5 +1,6 @@
 -- Runs of a receiver, and which places have arrived in one (TS 36.322 5.1.3.2).
-use Rattle.std.specs.Prelude.{◌≡◌, ℕ, ◌+◌, ◌<◌, ◌≤◌, Bool, true, false, ◌||◌, ◌&&◌, if◌then◌else◌, List, [], ◌∷◌, Option, Some, None, nat_le, nat_lt, ◌==◌}
+use Rattle.std.specs.Prelude.{◌≡◌, ℕ, ◌+◌, ◌<◌, ◌≤◌, Bool, true, false, ◌||◌, ◌&&◌, if◌then◌else◌}
+use Rattle.std.specs.Prelude.{List, [], ◌∷◌, Option, Some, None, nat_le, nat_lt, ◌==◌}
 use Rattle.l2_types.specs.declared.AmRxConfig.{AmRxConfig}
 use Rattle.rlc_pdu.specs.declared.Landed.{Landed}
 use Rattle.rlc_pdu.specs.declared.Landed.TheVariants.{Kept as Fresh, Repeat, Outside, Clash}
@@ -7,7 +8,8 @@ use Rattle.rlc_pdu.specs.Pdus.{AmdPdu}
 use Rattle.rlc_am_rx_window.specs.Piece.{Piece, piece_of, end_of}
 use Rattle.rlc_am_rx_window.specs.Window.{top, offset_of}
 use Rattle.rlc_am_rx.specs.State.{State, fresh}
-use Rattle.rlc_am_rx.specs.Machine.{landed, arrived, after_reorder, after_prohibit, reorder_ticked, prohibit_ticked, written, taken}
+use Rattle.rlc_am_rx.specs.Machine.{landed, arrived, after_reorder, after_prohibit, reorder_ticked}
+use Rattle.rlc_am_rx.specs.Machine.{prohibit_ticked, written, taken}
 
 -- what may be called of a receiver
 pub data Call : Type 0 where
@@ -91,7 +93,8 @@ told (p ∷ ps) n = told_by (told ps n) p n
 
 -- all places of the number have arrived
 abbrev pub IsComplete : List Came → ℕ → Type 0
-IsComplete ps n = (size : ℕ) × (told ps n ≡ Some size) × ((i : ℕ) → i < size → has_come ps n i ≡ true)
+IsComplete ps n = (size : ℕ) × (told ps n ≡ Some size)
+    × ((i : ℕ) → i < size → has_come ps n i ≡ true)
 
 -- VR(R) is the least number that isn't complete
 pub record IsFirst (w : World) : Type 0 where

@@ -1,5 +1,6 @@
 -- The STATUS that a receiver writes, by what has arrived (TS 36.322 5.2.3, 6.2.1.6).
-use Rattle.std.specs.Prelude.{◌≡◌, ◌⊎◌, ℕ, suc, zero, ◌+◌, ◌-◌, ◌==◌, ◌<◌, ◌≤◌, Bool, true, false, List, [], ◌∷◌, ◌++◌, length, map, Option, Some, None}
+use Rattle.std.specs.Prelude.{◌≡◌, ◌⊎◌, ℕ, suc, zero, ◌+◌, ◌-◌, ◌==◌, ◌<◌, ◌≤◌, Bool, true, false}
+use Rattle.std.specs.Prelude.{List, [], ◌∷◌, ◌++◌, length, map, Option, Some, None}
 use Rattle.std.specs.List.{list_any}
 use Rattle.rlc_pdu.specs.declared.Part.{Part}
 use Rattle.rlc_pdu.specs.Pdus.{AmdPdu}
@@ -8,7 +9,9 @@ use Rattle.rlc_am_rx_window.specs.declared.Missing.{Missing}
 use Rattle.rlc_am_rx_window.specs.Piece.{piece_of}
 use Rattle.rlc_am_rx_window.specs.Missing.{whole, of_part, entry_bits, entries_bits}
 use Rattle.rlc_am_rx.specs.Status.{listed, chosen, room_in, ack}
-use Rattle.law_rlc.specs.AmReceiver.Run.{Call, Arrive, Up, Write, ExpireReorder, ExpireProhibit, TickReorder, TickProhibit, World, Came, has_come, told, IsComplete}
+use Rattle.law_rlc.specs.AmReceiver.Run.{Call, Arrive, Up, Write, ExpireReorder, ExpireProhibit}
+use Rattle.law_rlc.specs.AmReceiver.Run.{TickReorder, TickProhibit, World, Came, has_come, told}
+use Rattle.law_rlc.specs.AmReceiver.Run.{IsComplete}
 
 -- each PDU brings an octet
 abbrev pub BringsSome : Call → Type 0
@@ -54,18 +57,23 @@ pub record IsTail (come : ℕ → Bool) (size : Option ℕ) (from : ℕ) (p : Pa
 -- all largest runs of missing places at or above a place
 abbrev pub AreGaps : (ℕ → Bool) → Option ℕ → ℕ → List Part → Type 0
 AreGaps come size from [] = (i : ℕ) → from ≤ i → InField size i → come i ≡ true
-AreGaps come size from (p ∷ ps) = (IsInner come from p × AreGaps come size (p.end + 1) ps) ⊎ (IsTail come size from p × (ps ≡ []))
+AreGaps come size from (p ∷ ps) = (IsInner come from p × AreGaps come size (p.end + 1) ps)
+    ⊎ (IsTail come size from p × (ps ≡ []))
 
--- of a number nothing is said if it is complete; else that all of it is missing if nothing has arrived, or each largest run that is
+-- of a number nothing is said if it is complete; else that all of it is missing if nothing has
+-- arrived, or each largest run that is
 pub data IsSaid (ps : List Came) (n : ℕ) (ms : List Missing) : Type 0 where
   Complete : IsComplete ps n → ms ≡ [] → IsSaid ps n ms
-  Nothing : (IsComplete ps n → ⊥) → ((i : ℕ) → has_come ps n i ≡ false) → ms ≡ whole n ∷ [] → IsSaid ps n ms
-  Ranges : (IsComplete ps n → ⊥) → (i : ℕ) → has_come ps n i ≡ true → (parts : List Part) → ms ≡ map (of_part n) parts → AreGaps (has_come ps n) (told ps n) 0 parts → IsSaid ps n ms
+  Nothing : (IsComplete ps n → ⊥) → ((i : ℕ) → has_come ps n i ≡ false) → ms ≡ whole n ∷ []
+      → IsSaid ps n ms
+  Ranges : (IsComplete ps n → ⊥) → (i : ℕ) → has_come ps n i ≡ true → (parts : List Part)
+      → ms ≡ map (of_part n) parts → AreGaps (has_come ps n) (told ps n) 0 parts → IsSaid ps n ms
 
 -- what is said of so many numbers from n on
 abbrev pub AreSaid : List Came → ℕ → ℕ → List Missing → Type 0
 AreSaid ps n zero ms = ms ≡ []
-AreSaid ps n (suc k) ms = (here : List Missing) × (rest : List Missing) × (ms ≡ here ++ rest) × IsSaid ps n here × AreSaid ps (n + 1) k rest
+AreSaid ps n (suc k) ms = (here : List Missing) × (rest : List Missing) × (ms ≡ here ++ rest)
+    × IsSaid ps n here × AreSaid ps (n + 1) k rest
 
 -- ---- the STATUS
 
@@ -73,10 +81,12 @@ AreSaid ps n (suc k) ms = (here : List Missing) × (rest : List Missing) × (ms 
 abbrev pub has_entry : List Missing → ℕ → Bool
 has_entry ms n = list_any (λ (m : Missing). m.number == n) ms
 
--- Its entries are the longest beginning that fits of all that is missing from VR(R) on below VR(MS). Its ACK is the least number from
--- VR(R) on that isn't complete and has no entry, and lies above each that has one.
+-- Its entries are the longest beginning that fits of all that is missing from VR(R) on below
+-- VR(MS). Its ACK is the least number from VR(R) on that isn't complete and has no entry, and lies
+-- above each that has one.
 pub record IsTrueStatus (w : World) (size : ℕ) : Type 0 where
-  pub all : AreSaid w.kept w.state.window.front (w.state.bound - w.state.window.front) (listed w.state)
+  pub all : AreSaid w.kept w.state.window.front (w.state.bound - w.state.window.front)
+      (listed w.state)
   pub rest : List Missing
   pub begins : listed w.state ≡ chosen w.state size ++ rest
   pub fits : entries_bits (chosen w.state size) ≤ room_in size
@@ -85,4 +95,5 @@ pub record IsTrueStatus (w : World) (size : ℕ) : Type 0 where
   pub ack_missing : IsComplete w.kept (ack w.state size) → ⊥
   pub ack_left : has_entry (chosen w.state size) (ack w.state size) ≡ false
   pub ack_over : (n : ℕ) → has_entry (chosen w.state size) n ≡ true → n < ack w.state size
-  pub ack_least : (n : ℕ) → w.state.window.front ≤ n → n < ack w.state size → has_entry (chosen w.state size) n ≡ false → IsComplete w.kept n
+  pub ack_least : (n : ℕ) → w.state.window.front ≤ n → n < ack w.state size
+      → has_entry (chosen w.state size) n ≡ false → IsComplete w.kept n

@@ -1,5 +1,6 @@
 -- What comes out of a receiver to which the pieces of a list of fields come (TS 36.322 5.1.3.2.3).
-use Rattle.std.specs.Prelude.{◌≡◌, ℕ, suc, zero, ◌+◌, ◌%◌, ◌<◌, ◌≤◌, true, false, List, [], ◌∷◌, ◌++◌, length, map, take, Option, Some, None, slice_get}
+use Rattle.std.specs.Prelude.{◌≡◌, ℕ, suc, zero, ◌+◌, ◌%◌, ◌<◌, ◌≤◌, true, false, List, [], ◌∷◌}
+use Rattle.std.specs.Prelude.{◌++◌, length, map, take, Option, Some, None, slice_get}
 use Rattle.l2_types.specs.declared.AmRxConfig.{AmRxConfig}
 use Rattle.rlc_pdu.specs.declared.Landed.TheVariants.{Clash}
 use Rattle.rlc_pdu.specs.Pdus.{AmdPdu}
@@ -9,13 +10,15 @@ use Rattle.rlc_am_rx_window.specs.Joined.{empty, joined}
 use Rattle.rlc_am_rx_window.specs.Window.{slot_at}
 use Rattle.rlc_am_rx.specs.State.{State, fresh}
 use Rattle.rlc_am_rx.specs.Machine.{landed}
-use Rattle.law_rlc.specs.AmReceiver.Run.{Call, Arrive, Up, Write, ExpireReorder, ExpireProhibit, TickReorder, TickProhibit, state_after}
+use Rattle.law_rlc.specs.AmReceiver.Run.{Call, Arrive, Up, Write, ExpireReorder, ExpireProhibit}
+use Rattle.law_rlc.specs.AmReceiver.Run.{TickReorder, TickProhibit, state_after}
 
 -- a field has 1 to 32767 octets, and where an SDU ends inside it the next begins
 pub record IsField (cells : List Cell) : Type 0 where
   pub some : 1 ≤ length cells
   pub few : length cells ≤ 32767
-  pub edges : (i : ℕ) (c d : Cell) → slice_get cells i ≡ Some c → slice_get cells (i + 1) ≡ Some d → c.ends ≡ d.begins
+  pub edges : (i : ℕ) (c d : Cell) → slice_get cells i ≡ Some c → slice_get cells (i + 1) ≡ Some d
+      → c.ends ≡ d.begins
 
 -- a piece is a part of a field, and tells of it what is so
 pub record IsPart (cells : List Cell) (p : Piece) : Type 0 where
@@ -82,11 +85,14 @@ stream_to field n i = stream field n ++ take i (field n)
 abbrev pub somes : List Cell → List (Option Cell)
 somes cells = map (λ c. Some c) cells
 
--- The SDUs that went up and those that may go up are the SDUs of the stream up to the first place that hasn't arrived: in their
--- order, each once and unchanged. What is put together of the next is the rest of it up to there.
+-- The SDUs that went up and those that may go up are the SDUs of the stream up to the first place
+-- that hasn't arrived: in their order, each once and unchanged. What is put together of the next is
+-- the rest of it up to there.
 pub record IsInSequence (field : ℕ → List Cell) (f : Flow) : Type 0 where
-  pub sdus : f.gone ++ f.state.out.ready ≡ (joined empty (somes (stream_to field f.state.window.front f.state.window.given))).ready
-  pub part : f.state.out.part ≡ (joined empty (somes (stream_to field f.state.window.front f.state.window.given))).part
+  pub sdus : f.gone ++ f.state.out.ready
+      ≡ (joined empty (somes (stream_to field f.state.window.front f.state.window.given))).ready
+  pub part : f.state.out.part
+      ≡ (joined empty (somes (stream_to field f.state.window.front f.state.window.given))).part
   pub missing : cell_at (slot_at f.state.window.slots 0).cells f.state.window.given ≡ None
 
 -- no PDU clashes

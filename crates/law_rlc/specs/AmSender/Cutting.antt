@@ -13,7 +13,8 @@ size_of ls k = header_len 4 (length (clip 0 k ls)) + k
 pub record IsLongest (size : ℕ) (ls : List ℕ) : Type 0 where
   pub fits : 5 ≤ size → size_of ls (sum (cut false (size - 4) ls)) ≤ size
   pub most : (k : ℕ) → k ≤ sum ls → size_of ls k ≤ size → k ≤ sum (cut false (size - 4) ls)
-  pub only : (k : ℕ) → 5 ≤ size → k ≤ sum ls → size_of ls k ≤ size → ((j : ℕ) → j ≤ sum ls → size_of ls j ≤ size → j ≤ k) → k ≡ sum (cut false (size - 4) ls)
+  pub only : (k : ℕ) → 5 ≤ size → k ≤ sum ls → size_of ls k ≤ size
+      → ((j : ℕ) → j ≤ sum ls → size_of ls j ≤ size → j ≤ k) → k ≡ sum (cut false (size - 4) ls)
 
 abbrev pub CutIsLongest : Type 0
 CutIsLongest = (size : ℕ) (ls : List ℕ) → AreLens ls → IsLongest size ls
@@ -21,4 +22,5 @@ CutIsLongest = (size : ℕ) (ls : List ℕ) → AreLens ls → IsLongest size ls
 -- the element lengths of a segment are those of the elements' parts that lie in it
 abbrev pub CutsElements : Type 0
 CutsElements = (size from to : ℕ) (ls : List ℕ) → AreLens ls → from < to → to ≤ sum ls → 5 ≤ size
-    → cut false (size - 4) (clip from to ls) ≡ clip from (from + sum (cut false (size - 4) (clip from to ls))) ls
+    → cut false (size - 4) (clip from to ls)
+    ≡ clip from (from + sum (cut false (size - 4) (clip from to ls))) ls

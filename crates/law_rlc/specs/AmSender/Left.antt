@@ -4,13 +4,16 @@ use Rattle.std.specs.List.{AllByRecursion}
 use Rattle.l2_types.specs.declared.config.AmTxConfig.{AmTxConfig}
 use Rattle.rlc_am_tx.specs.Need.{left}
 use Rattle.law_rlc.specs.AmSender.Run.{Call, World, run, begun}
-use Rattle.law_rlc.specs.AmSender.Confirmed.{Confirmations, unconfirmed, confirmations_after, times, places}
+use Rattle.law_rlc.specs.AmSender.Confirmed.{Confirmations, unconfirmed, confirmations_after, times}
+use Rattle.law_rlc.specs.AmSender.Confirmed.{places}
 use Rattle.law_rlc.specs.AmSender.Octets.{HasOctets}
 
 -- the place of each stands among those that `confirmed` gave and will give next
 abbrev pub AllAreConfirmed : World Confirmations → Type 0
-AllAreConfirmed w = left w.state ≡ 0 → (place : ℕ) → place < w.past.offered → times place (places w.state w.past) ≡ 1
+AllAreConfirmed w = left w.state ≡ 0 → (place : ℕ) → place < w.past.offered
+    → times place (places w.state w.past) ≡ 1
 
 -- each SDU offered has an octet
 abbrev pub LeavesOnlyUnconfirmed : Type 0
-LeavesOnlyUnconfirmed = (config : AmTxConfig) (calls : List Call) → AllByRecursion HasOctets calls → AllAreConfirmed (run confirmations_after calls (begun config unconfirmed))
+LeavesOnlyUnconfirmed = (config : AmTxConfig) (calls : List Call) → AllByRecursion HasOctets calls
+    → AllAreConfirmed (run confirmations_after calls (begun config unconfirmed))

@@ -1,5 +1,6 @@
 -- The retransmission limit (TS 36.322 5.2.1).
-use Rattle.std.specs.Prelude.{◌≡◌, ℕ, ◌+◌, ◌%◌, ◌<◌, ◌≤◌, Bool, true, false, List, Option, Some, None}
+use Rattle.std.specs.Prelude.{◌≡◌, ℕ, ◌+◌, ◌%◌, ◌<◌, ◌≤◌, Bool, true, false, List, Option, Some}
+use Rattle.std.specs.Prelude.{None}
 use Rattle.l2_types.specs.declared.config.AmTxConfig.{AmTxConfig}
 use Rattle.rlc_pdu.specs.Pdus.{StatusPdu}
 use Rattle.rlc_am_tx.specs.declared.turn.Turn.{Turn}
@@ -53,14 +54,20 @@ IsSilent turns.Small = Unit {0}
 IsSilent turns.Shut = Unit {0}
 IsSilent turns.Held = Unit {0}
 
--- the limit comes exactly with the (maxRetxThreshold + 1)-th counted naming of a number, the least such; it comes once, and after it no data
--- PDU is sent
+-- the limit comes exactly with the (maxRetxThreshold + 1)-th counted naming of a number, the least
+-- such; it comes once, and after it no data PDU is sent
 pub record ComesAtLimit (w : World Marks) : Type 0 where
   pub before : w.state.failed ≡ false → AreFew w.past.namings w.state.config.max_retx
-  pub status : (status : StatusPdu) → w.state.failed ≡ false → LimitHeard (heard w.state status) (marks_after w.state (Status status) w.past).namings w.state.config.max_retx
-  pub expiry : (more : Bool) → w.state.failed ≡ false → LimitExpired (expiry w.state more) (marks_after w.state (Expire more) w.past).namings w.state.config.max_retx
+  pub status : (status : StatusPdu) → w.state.failed ≡ false
+      → LimitHeard (heard w.state status) (marks_after w.state (Status status) w.past).namings
+      w.state.config.max_retx
+  pub expiry : (more : Bool) → w.state.failed ≡ false
+      → LimitExpired (expiry w.state more) (marks_after w.state (Expire more) w.past).namings
+      w.state.config.max_retx
   pub once : (status : StatusPdu) → w.state.failed ≡ true → NoLimit (heard w.state status)
-  pub after : (size : ℕ) (held : Option ℕ) (more : Bool) → w.state.failed ≡ true → IsSilent (turn w.state size held more)
+  pub after : (size : ℕ) (held : Option ℕ) (more : Bool) → w.state.failed ≡ true
+      → IsSilent (turn w.state size held more)
 
 abbrev pub FailsAtLimit : Type 0
-FailsAtLimit = (config : AmTxConfig) (calls : List Call) → ComesAtLimit (run marks_after calls (begun config unmarked))
+FailsAtLimit = (config : AmTxConfig) (calls : List Call)
+    → ComesAtLimit (run marks_after calls (begun config unmarked))

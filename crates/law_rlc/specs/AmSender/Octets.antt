@@ -1,5 +1,7 @@
 -- What data PDUs carry, octet for octet (TS 36.322 5.1.3.1.1, 5.2.1, 6.2.2.5 to 6.2.2.8).
-use Rattle.std.specs.Prelude.{◌≡◌, ℕ, ◌+◌, ◌-◌, ◌%◌, ◌<◌, ◌≤◌, ◌==◌, Bool, true, false, if◌then◌else◌, List, [], ◌∷◌, ◌++◌, length, map, take, drop, Option, Some, None, slice_range, slice_index_or}
+use Rattle.std.specs.Prelude.{◌≡◌, ℕ, ◌+◌, ◌-◌, ◌%◌, ◌<◌, ◌≤◌, ◌==◌, Bool, true, false}
+use Rattle.std.specs.Prelude.{if◌then◌else◌, List, [], ◌∷◌, ◌++◌, length, map, take, drop, Option}
+use Rattle.std.specs.Prelude.{Some, None, slice_range, slice_index_or}
 use Rattle.std.specs.List.{AllByRecursion}
 use Rattle.l2_types.specs.declared.config.AmTxConfig.{AmTxConfig}
 use Rattle.rlc_pdu.specs.declared.outcome.Taken.{Taken}
@@ -12,7 +14,8 @@ use Rattle.rlc_am_tx_window.specs.Sent.{next_stretch}
 use Rattle.rlc_am_tx.specs.declared.turn.Turn.{Turn}
 use Rattle.rlc_am_tx.specs.declared.turn.Turn.TheVariants as turns
 use Rattle.rlc_am_tx.specs.Machine.{State, turn, answer, again, number_again, new_slot}
-use Rattle.law_rlc.specs.AmSender.Run.{Call, Offer, Take, Status, Tick, Expire, Settle, Confirm, run, begun}
+use Rattle.law_rlc.specs.AmSender.Run.{Call, Offer, Take, Status, Tick, Expire, Settle, Confirm}
+use Rattle.law_rlc.specs.AmSender.Run.{run, begun}
 use Rattle.law_rlc.specs.AmSender.Namings.{Marks, unmarked, marks_after}
 use Rattle.law_rlc.specs.AmSender.Polled.{poll_of}
 
@@ -26,7 +29,8 @@ pub record Place : Type 0 where
 abbrev pub places : Bool → List ℕ → List Place
 places begins [] = []
 places begins (x ∷ []) = record { octet = x; begins = begins; ends = true } ∷ []
-places begins (x ∷ y ∷ ys) = record { octet = x; begins = begins; ends = false } ∷ places false (y ∷ ys)
+places begins (x ∷ y ∷ ys) = record { octet = x; begins = begins; ends = false }
+    ∷ places false (y ∷ ys)
 
 abbrev pub first_begins : List Place → Bool
 first_begins [] = false
@@ -42,17 +46,21 @@ abbrev pub lengths : ℕ → List Place → List ℕ
 lengths n [] = some_length n
 lengths n (p ∷ ps) = if p.ends then (n + 1) ∷ lengths 0 ps else lengths (n + 1) ps
 
--- a data PDU that carries octets of SDUs: FI tells whether the first begins and the last ends one, and the LIs the lengths of all elements
--- but the last
+-- a data PDU that carries octets of SDUs: FI tells whether the first begins and the last ends one,
+-- and the LIs the lengths of all elements but the last
 abbrev pub written : ℕ → Bool → Option Segment → List Place → List ℕ
-written number poll segment ps = amd_written (number % 1024) poll (framing (first_begins ps) (last_ends ps)) segment (lengths 0 ps) (map (λ (p : Place). p.octet) ps)
+written number poll segment ps =
+    amd_written (number % 1024) poll (framing (first_begins ps) (last_ends ps)) segment
+    (lengths 0 ps) (map (λ (p : Place). p.octet) ps)
 
--- octets from a place below another of a data field of so many: SO tells where they begin, and LSF whether the last of the field is among
--- them; all of them aren't a segment
+-- octets from a place below another of a data field of so many: SO tells where they begin, and LSF
+-- whether the last of the field is among them; all of them aren't a segment
 abbrev pub segment_of : ℕ → ℕ → ℕ → Option Segment
-segment_of from to size = if to - from == size then None else Some (record { last = to == size; so = from })
+segment_of from to size = if to - from == size then None
+    else Some (record { last = to == size; so = from })
 
--- the octets offered that aren't sent, those that the new PDU of each number carried, and which of these wait to be sent again
+-- the octets offered that aren't sent, those that the new PDU of each number carried, and which of
+-- these wait to be sent again
 pub record Octets : Type 0 where
   pub unsent : List Place
   pub sent : List (List Place)
@@ -95,21 +103,27 @@ octets_after s c o = record (moved s c o) { marks = marks_after s c o.marks }
 pub record IsNew (s : State) (size : ℕ) (o : Octets) (t : Taken) : Type 0 where
   pub some : 0 < new_count s size
   pub there : new_count s size ≤ length o.unsent
-  pub is : t ≡ taken.Piece (length o.sent) true (poll_of t) (written (length o.sent) (poll_of t) None (take (new_count s size) o.unsent))
+  pub is : t ≡ taken.Piece (length o.sent) true (poll_of t)
+      (written (length o.sent) (poll_of t) None (take (new_count s size) o.unsent))
 
 -- a PDU of a number, or a segment of it, with the octets from a place below another
 abbrev pub again_octets : Octets → ℕ → ℕ → ℕ → Bool → List ℕ
-again_octets o number from to poll = written number poll (segment_of from to (length (sent_with o number))) (slice_range (sent_with o number) from to)
+again_octets o number from to poll =
+    written number poll (segment_of from to (length (sent_with o number)))
+    (slice_range (sent_with o number) from to)
 
--- octets of its number are sent again, one or more, from a place below another, which all wait; and no more of those that wait from there on fit
+-- octets of its number are sent again, one or more, from a place below another, which all wait; and
+-- no more of those that wait from there on fit
 pub record IsAgain (s : State) (size from to : ℕ) (o : Octets) (t : Taken) : Type 0 where
   pub sent : number_again s < length o.sent
   pub some : from < to
   pub within : to ≤ length (sent_with o (number_again s))
   pub waits : (i : ℕ) → from ≤ i → i < to → o.marks.waits (number_again s) i ≡ true
-  pub is : t ≡ taken.Piece (number_again s) false (poll_of t) (again_octets o (number_again s) from to (poll_of t))
+  pub is : t ≡ taken.Piece (number_again s) false (poll_of t)
+      (again_octets o (number_again s) from to (poll_of t))
   pub fits : length (again_octets o (number_again s) from to (poll_of t)) ≤ size
-  pub most : (k : ℕ) → from < k → k ≤ length (sent_with o (number_again s)) → ((i : ℕ) → from ≤ i → i < k → o.marks.waits (number_again s) i ≡ true)
+  pub most : (k : ℕ) → from < k → k ≤ length (sent_with o (number_again s))
+      → ((i : ℕ) → from ≤ i → i < k → o.marks.waits (number_again s) i ≡ true)
       → length (again_octets o (number_again s) from k (poll_of t)) ≤ size → k ≤ to
 
 -- no data PDU
@@ -124,7 +138,8 @@ IsNone taken.Stopped = Unit {0}
 abbrev pub IsWritten : Turn → State → ℕ → Octets → Taken → Type 0
 IsWritten turns.New s size o t = IsNew s size o t
 IsWritten turns.Whole s size o t = IsAgain s size 0 (length (sent_with o (number_again s))) o t
-IsWritten turns.Part s size o t = IsAgain s size (next_stretch (again s) size).from (next_stretch (again s) size).to o t
+IsWritten turns.Part s size o t =
+    IsAgain s size (next_stretch (again s) size).from (next_stretch (again s) size).to o t
 IsWritten turns.Idle s size o t = IsNone t
 IsWritten turns.Stopped s size o t = IsNone t
 IsWritten turns.Small s size o t = IsNone t
@@ -135,9 +150,13 @@ abbrev pub HasOctets : Call → Type 0
 HasOctets (Offer sdu) = 0 < length sdu
 HasOctets call = Unit {0}
 
--- each SDU offered has an octet: what `take` answers is a new PDU with the next octets of the stream, or a PDU or a largest segment with octets of
--- its number that wait, or no data PDU
+-- each SDU offered has an octet: what `take` answers is a new PDU with the next octets of the
+-- stream, or a PDU or a largest segment with octets of its number that wait, or no data PDU
 abbrev pub WritesTheStream : Type 0
-WritesTheStream = (config : AmTxConfig) (calls : List Call) (size : ℕ) (held : Option ℕ) (more : Bool) → AllByRecursion HasOctets calls
-    → IsWritten (turn (run octets_after calls (begun config nothing_sent)).state size held more) (run octets_after calls (begun config nothing_sent)).state size
-    (run octets_after calls (begun config nothing_sent)).past (answer (run octets_after calls (begun config nothing_sent)).state size held more)
+WritesTheStream =
+    (config : AmTxConfig) (calls : List Call) (size : ℕ) (held : Option ℕ) (more : Bool)
+    → AllByRecursion HasOctets calls
+    → IsWritten (turn (run octets_after calls (begun config nothing_sent)).state size held more)
+    (run octets_after calls (begun config nothing_sent)).state size
+    (run octets_after calls (begun config nothing_sent)).past
+    (answer (run octets_after calls (begun config nothing_sent)).state size held more)

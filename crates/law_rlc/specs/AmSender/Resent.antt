@@ -10,7 +10,8 @@ use Rattle.law_rlc.specs.AmSender.Namings.{Marks, unmarked, marks_after, size_at
 
 -- no octet of a lower number waits
 abbrev pub IsLowest : State → Marks → Type 0
-IsLowest s m = (n i : ℕ) → s.window.base ≤ n → n < number_again s → i < size_at s.window n → m.waits n i ≡ false
+IsLowest s m = (n i : ℕ) → s.window.base ≤ n → n < number_again s → i < size_at s.window n
+    → m.waits n i ≡ false
 
 -- a PDU is sent again: all its octets wait
 pub record IsWhole (s : State) (m : Marks) : Type 0 where
@@ -22,7 +23,8 @@ pub record IsSegment (s : State) (size : ℕ) (m : Marks) : Type 0 where
   pub lowest : IsLowest s m
   pub some : (next_stretch (again s) size).from < (next_stretch (again s) size).to
   pub within : (next_stretch (again s) size).to ≤ length (again s).field
-  pub waits : (i : ℕ) → (next_stretch (again s) size).from ≤ i → i < (next_stretch (again s) size).to → m.waits (number_again s) i ≡ true
+  pub waits : (i : ℕ) → (next_stretch (again s) size).from ≤ i
+      → i < (next_stretch (again s) size).to → m.waits (number_again s) i ≡ true
   pub first : (i : ℕ) → i < (next_stretch (again s) size).from → m.waits (number_again s) i ≡ false
 
 abbrev pub IsResent : Turn → State → ℕ → Marks → Type 0
@@ -37,5 +39,8 @@ IsResent turns.Held s size m = Unit {0}
 
 -- what is sent again is what waits first, of the lowest number that waits
 abbrev pub ResendsTheFirst : Type 0
-ResendsTheFirst = (config : AmTxConfig) (calls : List Call) (size : ℕ) (held : Option ℕ) (more : Bool)
-    → IsResent (turn (run marks_after calls (begun config unmarked)).state size held more) (run marks_after calls (begun config unmarked)).state size (run marks_after calls (begun config unmarked)).past
+ResendsTheFirst =
+    (config : AmTxConfig) (calls : List Call) (size : ℕ) (held : Option ℕ) (more : Bool)
+    → IsResent (turn (run marks_after calls (begun config unmarked)).state size held more)
+    (run marks_after calls (begun config unmarked)).state size
+    (run marks_after calls (begun config unmarked)).past

@@ -3,7 +3,8 @@
 use Rattle.std.specs.Prelude.{ℕ, Bool, List, [], ◌∷◌, Option}
 use Rattle.l2_types.specs.declared.config.AmTxConfig.{AmTxConfig}
 use Rattle.rlc_pdu.specs.Pdus.{StatusPdu}
-use Rattle.rlc_am_tx.specs.Machine.{State, start, offered, after_take, after_status, after_tick, after_expiry, settled, confirmed}
+use Rattle.rlc_am_tx.specs.Machine.{State, start, offered, after_take, after_status, after_tick}
+use Rattle.rlc_am_tx.specs.Machine.{after_expiry, settled, confirmed}
 
 pub data Call : Type 0 where
   Offer : List ℕ → Call

@@ -6,16 +6,19 @@ use Rattle.rlc_am_tx_window.specs.Window.{next}
 use Rattle.rlc_am_tx.specs.declared.turn.Turn.{Turn}
 use Rattle.rlc_am_tx.specs.declared.turn.Turn.TheVariants as turns
 use Rattle.rlc_am_tx.specs.Machine.{State, turn, new_slot}
-use Rattle.law_rlc.specs.AmSender.Run.{Call, Offer, Take, Status, Tick, Expire, Settle, Confirm, World, run, begun}
+use Rattle.law_rlc.specs.AmSender.Run.{Call, Offer, Take, Status, Tick, Expire, Settle, Confirm}
+use Rattle.law_rlc.specs.AmSender.Run.{World, run, begun}
 
--- the octets of all SDUs offered, one behind the other, those of all new PDUs, and how many new PDUs there were
+-- the octets of all SDUs offered, one behind the other, those of all new PDUs, and how many new
+-- PDUs there were
 pub record Streams : Type 0 where
   pub offered : List ℕ
   pub carried : List ℕ
   pub sent : ℕ
 
 abbrev pub streams_by : Turn → State → ℕ → Streams → Streams
-streams_by turns.New s size p = record p { carried = p.carried ++ (new_slot s size).field; sent = p.sent + 1 }
+streams_by turns.New s size p =
+    record p { carried = p.carried ++ (new_slot s size).field; sent = p.sent + 1 }
 streams_by turns.Whole s size p = p
 streams_by turns.Part s size p = p
 streams_by turns.Idle s size p = p
@@ -33,10 +36,13 @@ streams_after s (Expire more) p = p
 streams_after s (Settle more) p = p
 streams_after s Confirm p = p
 
--- new PDUs carry the octets offered, in their order, each once, and what is left follows; VT(S) is the number of the next new PDU
+-- new PDUs carry the octets offered, in their order, each once, and what is left follows; VT(S) is
+-- the number of the next new PDU
 pub record IsCarried (w : World Streams) : Type 0 where
   pub octets : w.past.carried ++ concat w.state.queue.sdus ≡ w.past.offered
   pub number : next w.state.window ≡ w.past.sent
 
 abbrev pub CarriesTheStream : Type 0
-CarriesTheStream = (config : AmTxConfig) (calls : List Call) → IsCarried (run streams_after calls (begun config (record { offered = []; carried = []; sent = 0 })))
+CarriesTheStream = (config : AmTxConfig) (calls : List Call)
+    → IsCarried
+    (run streams_after calls (begun config (record { offered = []; carried = []; sent = 0 })))

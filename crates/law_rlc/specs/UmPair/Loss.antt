@@ -21,6 +21,8 @@ missing (b ∷ bs) [] = []
 missing (true ∷ bs) (s ∷ ss) = None ∷ missing bs ss
 missing (false ∷ bs) (s ∷ ss) = s ∷ missing bs ss
 
--- whatever is lost, what is joined are some of the SDUs that were offered, in their order, each once and unchanged
+-- whatever is lost, what is joined are some of the SDUs that were offered, in their order, each
+-- once and unchanged
 pub record IsOrdered (f : Flow) : Type 0 where
-  pub some : (lost : List Bool) → IsSome (with_numbers (missing lost (carried f.made)) nothing_joined).ready f.offered
+  pub some : (lost : List Bool)
+      → IsSome (with_numbers (missing lost (carried f.made)) nothing_joined).ready f.offered

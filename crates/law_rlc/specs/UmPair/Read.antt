@@ -7,4 +7,5 @@ pub record IsRead (w : Window) (sn : ℕ) : Type 0 where
   pub same : number_of w sn % (2 * w.width) ≡ sn
   pub low : top_of w ≤ number_of w sn + w.width
   pub below : number_of w sn < top_of w + w.width
-  pub only : (n : ℕ) → n % (2 * w.width) ≡ sn → top_of w ≤ n + w.width → n < top_of w + w.width → n ≡ number_of w sn
+  pub only : (n : ℕ) → n % (2 * w.width) ≡ sn → top_of w ≤ n + w.width → n < top_of w + w.width
+      → n ≡ number_of w sn

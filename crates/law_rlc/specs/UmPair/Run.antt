@@ -1,12 +1,15 @@
 -- Runs of a receiver, and which numbers have been accepted in one (TS 36.322 5.1.2.2).
-use Rattle.std.specs.Prelude.{◌≡◌, ℕ, suc, zero, ◌+◌, ◌-◌, ◌*◌, ◌<◌, ◌≤◌, Bool, true, false, List, [], ◌∷◌, ◌++◌, length, take, Option, Some, None, is_some, max, nat_lt, ◌==◌, if◌then◌else◌}
+use Rattle.std.specs.Prelude.{◌≡◌, ℕ, suc, zero, ◌+◌, ◌-◌, ◌*◌, ◌<◌, ◌≤◌, Bool, true, false, List}
+use Rattle.std.specs.Prelude.{[], ◌∷◌, ◌++◌, length, take, Option, Some, None, is_some, max, nat_lt}
+use Rattle.std.specs.Prelude.{◌==◌, if◌then◌else◌}
 use Rattle.l2_num.specs.Timers.{runs}
 use Rattle.rlc_pdu.specs.Pdus.{UmdPdu}
 use Rattle.rlc_pdu.specs.declared.outcome.Landed.{Landed}
 use Rattle.rlc_pdu.specs.declared.outcome.Landed.TheVariants.{Kept, Repeat, Outside, Clash}
 use Rattle.rlc_um.specs.Joined.{Parts, parts_of, Joined, nothing_joined, with_numbers}
 use Rattle.rlc_um.specs.Window.{top_of, number_of}
-use Rattle.rlc_um.specs.Receiver.{State, start, landing, arrival, expired, counted, handed, all_joined}
+use Rattle.rlc_um.specs.Receiver.{State, start, landing, arrival, expired, counted, handed}
+use Rattle.rlc_um.specs.Receiver.{all_joined}
 
 pub data Call : Type 0 where
   Arrive : UmdPdu → Call
@@ -19,8 +22,9 @@ pub record Accepted : Type 0 where
   pub number : ℕ
   pub parts : Parts
 
--- the state with what was accepted (the latest first), one above the greatest number that was read, the greatest mark at which the timer
--- expired, and what went up. Numbers are counted from twice the window up, as those of the state are.
+-- the state with what was accepted (the latest first), one above the greatest number that was read,
+-- the greatest mark at which the timer expired, and what went up. Numbers are counted from twice
+-- the window up, as those of the state are.
 pub record World : Type 0 where
   pub state : State
   pub accepted : List Accepted
@@ -29,7 +33,13 @@ pub record World : Type 0 where
   pub gone : List (List ℕ)
 
 abbrev pub fresh : ℕ → ℕ → World
-fresh width reorder = record { state = start width reorder; accepted = []; top = 2 * width; mark = 2 * width; gone = [] }
+fresh width reorder = record {
+  state = start width reorder;
+  accepted = [];
+  top = 2 * width;
+  mark = 2 * width;
+  gone = [];
+}
 
 abbrev pub accepts : Landed → ℕ → Parts → List Accepted → List Accepted
 accepts Kept x p log = record { number = x; parts = p } ∷ log
@@ -67,7 +77,8 @@ found (a ∷ log) n = if a.number == n then Some a.parts else found log n
 abbrev pub is_accepted : List Accepted → ℕ → Bool
 is_accepted log n = is_some (found log n)
 
--- the base: the first number of all, the top less the window, and each mark at which the timer expired, whichever is greatest
+-- the base: the first number of all, the top less the window, and each mark at which the timer
+-- expired, whichever is greatest
 abbrev pub base : World → ℕ
 base w = max w.mark (w.top - w.state.window.width)
 
@@ -89,18 +100,22 @@ joined_below log first edge = with_numbers (numbers log first (edge - first)) no
 
 -- what went up and may go up is what the accepted numbers below VR(UR) join to
 pub record IsHandedUp (w : World) : Type 0 where
-  pub ready : w.gone ++ w.state.joined.ready ≡ (joined_below w.accepted (2 * w.state.window.width) w.state.window.edge).ready
-  pub part : w.state.joined.part ≡ (joined_below w.accepted (2 * w.state.window.width) w.state.window.edge).part
+  pub ready : w.gone ++ w.state.joined.ready
+      ≡ (joined_below w.accepted (2 * w.state.window.width) w.state.window.edge).ready
+  pub part : w.state.joined.part
+      ≡ (joined_below w.accepted (2 * w.state.window.width) w.state.window.edge).part
 
 -- as the receiver ends, what went up and what it hands over is what all accepted numbers join to
 abbrev pub IsFinished : World → Type 0
-IsFinished w = w.gone ++ all_joined w.state ≡ (joined_below w.accepted (2 * w.state.window.width) w.top).ready
+IsFinished w = w.gone ++ all_joined w.state
+    ≡ (joined_below w.accepted (2 * w.state.window.width) w.top).ready
 
 -- no more PDUs are kept than the window has numbers
 abbrev pub IsBounded : World → Type 0
 IsBounded w = length w.state.window.slots ≤ w.state.window.width
 
--- the reordering timer runs exactly while a number below VR(UH) is missing, and then VR(UX) lies above VR(UR) and not above VR(UH)
+-- the reordering timer runs exactly while a number below VR(UH) is missing, and then VR(UX) lies
+-- above VR(UR) and not above VR(UH)
 pub record IsTimed (w : World) : Type 0 where
   pub runs_with_mark : runs w.state.clock ≡ is_some w.state.mark
   pub runs_at_gap : is_some w.state.mark ≡ nat_lt w.state.window.edge (top_of w.state.window)

@@ -1,6 +1,7 @@
 -- The joined SDUs as a search (TS 36.322 5.1.2.2.3): elements that follow each other, the first of
 -- which begins an SDU, the last of which ends it, and none of which does so between.
-use Rattle.std.specs.Prelude.{◌≡◌, ℕ, Bool, true, false, ◌||◌, List, [], ◌∷◌, ◌++◌, length, Option, Some, None, nat_lt}
+use Rattle.std.specs.Prelude.{◌≡◌, ℕ, Bool, true, false, ◌||◌, List, [], ◌∷◌, ◌++◌, length, Option}
+use Rattle.std.specs.Prelude.{Some, None, nat_lt}
 use Rattle.rlc_um.specs.Joined.{Parts, nothing_joined, with_numbers}
 
 -- what stands in the row of numbers: an element, or a number that is missing
@@ -10,7 +11,8 @@ pub data Piece : Type 0 where
 
 abbrev pub elements_of : Bool → Bool → List (List ℕ) → List Piece → List Piece
 elements_of begins ends [] more = more
-elements_of begins ends (x ∷ xs) more = Element x begins (ends || nat_lt 0 (length xs)) ∷ elements_of true ends xs more
+elements_of begins ends (x ∷ xs) more =
+    Element x begins (ends || nat_lt 0 (length xs)) ∷ elements_of true ends xs more
 
 abbrev pub pieces : List (Option Parts) → List Piece
 pieces [] = []

@@ -1,8 +1,10 @@
 -- Runs of a sender (TS 36.322 5.1.2.1).
-use Rattle.std.specs.Prelude.{◌≡◌, ℕ, ◌+◌, ◌%◌, ◌^◌, List, [], ◌∷◌, ◌++◌, length, Option, Some, None}
+use Rattle.std.specs.Prelude.{◌≡◌, ℕ, ◌+◌, ◌%◌, ◌^◌, List, [], ◌∷◌, ◌++◌, length, Option, Some}
+use Rattle.std.specs.Prelude.{None}
 use Rattle.rlc_pdu.specs.Pdus.{UmdPdu}
 use Rattle.rlc_um.specs.Joined.{Parts, parts_of, Joined, nothing_joined, with_numbers}
-use Rattle.rlc_um.specs.Sender.{Sender, Turn, Gives, IsIdle, IsHeld, IsSmall, turn, pdu_of, after_take, offered, idle_sender}
+use Rattle.rlc_um.specs.Sender.{Sender, Turn, Gives, IsIdle, IsHeld, IsSmall, turn, pdu_of}
+use Rattle.rlc_um.specs.Sender.{after_take, offered, idle_sender}
 
 pub data Step : Type 0 where
   Offer : (sdu : List ℕ) → Step
@@ -22,7 +24,11 @@ made_by IsSmall s size = []
 
 abbrev pub goes : Flow → Step → Flow
 goes f (Offer sdu) = record f { sender = offered sdu f.sender; offered = f.offered ++ sdu ∷ [] }
-goes f (Take size held) = record f { sender = after_take f.sender size held; made = f.made ++ made_by (turn f.sender size held) f.sender size }
+goes f (Take size held) =
+    record f {
+      sender = after_take f.sender size held;
+      made = f.made ++ made_by (turn f.sender size held) f.sender size;
+    }
 
 abbrev pub flow : List Step → Flow → Flow
 flow [] f = f
@@ -51,9 +57,10 @@ abbrev pub AreNumbered : ℕ → ℕ → List UmdPdu → Type 0
 AreNumbered bits from [] = Unit {0}
 AreNumbered bits from (pdu ∷ pdus) = (pdu.sn ≡ from % 2 ^ bits) × AreNumbered bits (from + 1) pdus
 
--- joined without a loss, the PDUs give the SDUs that were offered, each once and unchanged, up to those that wait; and they are
--- numbered from 0
+-- joined without a loss, the PDUs give the SDUs that were offered, each once and unchanged, up to
+-- those that wait; and they are numbered from 0
 pub record IsWhole (bits : ℕ) (f : Flow) : Type 0 where
-  pub sdus : (joined f.made).ready ++ completed (joined f.made).part f.sender.waiting.sdus ≡ f.offered
+  pub sdus : (joined f.made).ready ++ completed (joined f.made).part f.sender.waiting.sdus
+      ≡ f.offered
   pub next : f.sender.next ≡ length f.made
   pub numbered : AreNumbered bits 0 f.made

@@ -6,5 +6,6 @@ use Rattle.air_run.proofs.draining.for_ttis.Given as goal
 abbrev pub invariant-loop-done : goal.invariant-loop-done
 invariant-loop-done l = record {
   link : (ttis (l.most - l.done) l.grant l.link).link ≡ (ttis l.most l.grant l.initial.link).link;
-  journal : told (ttis (l.most - l.done) l.grant l.link).journal l.journal ≡ told (ttis l.most l.grant l.initial.link).journal l.initial.journal;
+  journal : told (ttis (l.most - l.done) l.grant l.link).journal l.journal
+      ≡ told (ttis l.most l.grant l.initial.link).journal l.initial.journal;
 }

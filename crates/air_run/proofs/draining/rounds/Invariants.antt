@@ -7,5 +7,6 @@ abbrev pub invariant-loop-done : goal.invariant-loop-done
 invariant-loop-done l = record {
   link : (rounds (l.most - l.done) l.grant l.link).link ≡ (rounds l.most l.grant l.initial.link).link;
   done : l.done + (rounds (l.most - l.done) l.grant l.link).done ≡ (rounds l.most l.grant l.initial.link).done;
-  journal : told (rounds (l.most - l.done) l.grant l.link).journal l.journal ≡ told (rounds l.most l.grant l.initial.link).journal l.initial.journal;
+  journal : told (rounds (l.most - l.done) l.grant l.link).journal l.journal
+      ≡ told (rounds l.most l.grant l.initial.link).journal l.initial.journal;
 }

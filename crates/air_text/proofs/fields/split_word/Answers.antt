@@ -6,4 +6,6 @@ pub returns-in-None : goal.returns-in-None
 returns-in-None c = sym c.without_spaces-text.ensures.words ∙ one-word _ (search rules) c.in-None.ensures
 
 pub returns-in-Some : goal.returns-in-Some
-returns-in-Some c = sym c.without_spaces-text.ensures.words ∙ rw (c.split_at.ensures.front, c.split_at.ensures.back) (first-word _ _ c.without_spaces-text.ensures.begins c.in-Some.ensures)
+returns-in-Some c = sym c.without_spaces-text.ensures.words
+    ∙ rw (c.split_at.ensures.front, c.split_at.ensures.back)
+    (first-word _ _ c.without_spaces-text.ensures.begins c.in-Some.ensures)

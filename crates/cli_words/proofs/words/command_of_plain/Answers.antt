@@ -10,9 +10,11 @@ pub returns-in-Ok : goal.returns-in-Ok
 returns-in-Ok c =
     let at : app_of c.in_ok-line.line ≡ line_app = search rules in
     let words : List (List ℕ) = map string_bytes c.args.words.now in
-    let taken : fault_of line_app words ≡ [] = ap (λ (a : App). fault_of a words) (sym at) ∙ c.in-Ok.ensures.kinds (ap is_simple_and_free at ∙ simple) in
+    let taken : fault_of line_app words ≡ [] = ap (λ (a : App). fault_of a words) (sym at)
+    ∙ c.in-Ok.ensures.kinds (ap is_simple_and_free at ∙ simple) in
     let found = (c.in-Ok.ensures.matches (ap is_simple at ∙ is_simple-line)).1 in
-    c.command_in.ensures ∙ ap command_in (found ∙ ap (λ (a : App). subcommand_of a words) at) ∙ reads words c.requires taken
+    c.command_in.ensures ∙ ap command_in (found ∙ ap (λ (a : App). subcommand_of a words) at)
+    ∙ reads words c.requires taken
 
 pub returns-else-eq : goal.returns-else-eq
 returns-else-eq c =

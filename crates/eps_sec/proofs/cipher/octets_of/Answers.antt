@@ -5,4 +5,6 @@ use Rattle.eps_sec.proofs.cipher.octets_of.Goals as goal
 pub returns : goal.returns
 unfolding column
 returns c =
-    octets_are c.args.words.now c.to_be_bytes.result c.to_be_bytes-2.result c.to_be_bytes-3.result c.to_be_bytes-4.result c.to_be_bytes.ensures c.to_be_bytes-2.ensures c.to_be_bytes-3.ensures c.to_be_bytes-4.ensures
+    octets_are c.args.words.now c.to_be_bytes.result c.to_be_bytes-2.result c.to_be_bytes-3.result
+    c.to_be_bytes-4.result c.to_be_bytes.ensures c.to_be_bytes-2.ensures c.to_be_bytes-3.ensures
+    c.to_be_bytes-4.ensures

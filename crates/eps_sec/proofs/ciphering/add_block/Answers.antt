@@ -11,4 +11,7 @@ loop-k-preserved c =
     let first = c.args.first in
     let k = c.loop-k.k in
     done-more (stream_octet key first) k _ c.args.text.now c.loop-k.text (omega arith) c.loop-k.invariant
-    (ap (bit_xor (slice_index c.loop-k.text k)) (stream_octet_is key c.octets_of-block.result first 0 k k (c.octets_of-block.ensures ∙ c.encrypt_words.ensures ∙ ap (aes key) (c.words_of.ensures ∙ c.counter_block.ensures)) (omega arith) (omega arith)))
+    (ap (bit_xor (slice_index c.loop-k.text k))
+    (stream_octet_is key c.octets_of-block.result first 0 k k
+    (c.octets_of-block.ensures ∙ c.encrypt_words.ensures
+    ∙ ap (aes key) (c.words_of.ensures ∙ c.counter_block.ensures)) (omega arith) (omega arith)))

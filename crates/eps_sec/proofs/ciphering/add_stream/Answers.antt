@@ -14,7 +14,8 @@ loop-k-preserved c =
     let whole = length c.args.text.now / 16 in
     done-more (stream_octet key first) k _ c.args.text.now c.loop-k.text (omega arith) c.loop-k.invariant
     (ap (bit_xor (slice_index c.loop-k.text k))
-    (stream_octet_is key c.octets_of-block.result first whole (k - 16 * whole) k (c.octets_of-block.ensures ∙ c.stream_words.ensures) (omega arith) (omega arith)))
+    (stream_octet_is key c.octets_of-block.result first whole (k - 16 * whole) k
+    (c.octets_of-block.ensures ∙ c.stream_words.ensures) (omega arith) (omega arith)))
 
 pub loop-i-preserved : goal.loop-i-preserved
 loop-i-preserved c =
@@ -24,7 +25,10 @@ loop-i-preserved c =
     let block = state c.stream_words-stream.result in
     let next : 16 * (i + 1) ≡ 16 * i + 16 = omega arith in
     record {
-      text = rw (next, c.add_words.ensures) (block-more (stream_octet key first) (16 * i) c.args.text.now c.loop-i.text block (omega arith) c.loop-i.invariant.text (state-length c.stream_words-stream.result)
+      text =
+          rw (next, c.add_words.ensures)
+          (block-more (stream_octet key first) (16 * i) c.args.text.now c.loop-i.text block (omega arith)
+          c.loop-i.invariant.text (state-length c.stream_words-stream.result)
           (λ j low. stream_octet_is key block first i j (16 * i + j) c.stream_words-stream.ensures refl low));
       front = search rules;
     }

@@ -8,6 +8,8 @@ pub returns-clause-head : goal.returns-clause-head
 unfolding counter_block
 returns-clause-head c = λ e.
     let now = (c.args.first + c.args.i) % 2 ^ 128 in
-    let last : slice_index c.counter_block.result 15 ≡ now % 2 ^ 8 = ap (λ (l : List ℕ). slice_index l 15) c.counter_block.ensures in
-    let differ : slice_index c.counter_block.result 15 ≢ 255 = eqb-false (slice_index c.counter_block.result 15) 255 e in
+    let last : slice_index c.counter_block.result 15 ≡ now % 2 ^ 8 =
+    ap (λ (l : List ℕ). slice_index l 15) c.counter_block.ensures in
+    let differ : slice_index c.counter_block.result 15 ≢ 255 =
+    eqb-false (slice_index c.counter_block.result 15) 255 e in
     same_head ((c.args.first + (c.args.i + 1)) % 2 ^ 128) now (omega (arith, last, differ))

@@ -7,10 +7,12 @@ use Rattle.eps_sec.proofs.integrity.add_blocks.Goals as goal
 pub loop-j-preserved : goal.loop-j-preserved
 loop-j-preserved c = record {
   len = search rules;
-  places = wrote (λ k. bit_xor (slice_index c.args.s.now k) (slice_index c.args.k.now k)) c.loop-j.sum c.loop-j.j _ (omega arith) refl c.loop-j.invariant.places;
+  places = wrote (λ k. bit_xor (slice_index c.args.s.now k) (slice_index c.args.k.now k)) c.loop-j.sum c.loop-j.j _
+      (omega arith) refl c.loop-j.invariant.places;
 }
 
 pub returns : goal.returns
 unfolding add_round_key
 returns c =
-    all_written (λ k. bit_xor (slice_index c.args.s.now k) (slice_index c.args.k.now k)) c.loop-j.sum c.loop-j.invariant.len (λ k lt. c.loop-j.invariant.places k (omega arith))
+    all_written (λ k. bit_xor (slice_index c.args.s.now k) (slice_index c.args.k.now k)) c.loop-j.sum
+    c.loop-j.invariant.len (λ k lt. c.loop-j.invariant.places k (omega arith))

@@ -11,5 +11,6 @@ returns-in_default-clause-played g c = unplayed (journal_by (played_from (now_in
 pub returns-clause-played : goal.returns-clause-played
 returns-clause-played g c =
     let over = c.play_end.ensures.over in
-    ends (played_from (now_in c.args.engine)) (journal_by (played_from (now_in c.args.engine))) _ _ _ _ _ _ _ _ _ _ _ over.1 _ c.in_default-play_lines.ensures.played never-risen over.2
+    ends (played_from (now_in c.args.engine)) (journal_by (played_from (now_in c.args.engine))) _ _ _ _ _ _ _ _ _ _ _
+    over.1 _ c.in_default-play_lines.ensures.played never-risen over.2
     (puts-by _ _ _ _ _ _ _ (risen_from _ _ _ c.play_lines.ensures.out_count) over.3)

@@ -2,7 +2,8 @@ use Rattle.std.proofs.Common.{refl, arith}
 use Rattle.air_run.specs.Journal.{journal_by}
 use Rattle.l2_commands.specs.Engines.{played_from, now_in}
 use Rattle.l2_io.proofs.Written.{risen_from}
-use Rattle.l2_commands.proofs.Gathering.{gathers-first, gathers-put, gathers-on, gathers-over, fails, runs-out, stops, never-risen, puts-by, puts-failed, puts-none}
+use Rattle.l2_commands.proofs.Gathering.{gathers-first, gathers-put, gathers-on, gathers-over, fails, runs-out, stops}
+use Rattle.l2_commands.proofs.Gathering.{never-risen, puts-by, puts-failed, puts-none}
 use Rattle.l2_commands.proofs.playing.play_lines.Goals as goal
 
 pub loop-number-init : goal.loop-number-init
@@ -17,34 +18,47 @@ loop-number-init g c = record {
 
 pub returns-in-Err-Failed-clause-played : goal.returns-in-Err-Failed-clause-played
 returns-in-Err-Failed-clause-played g c =
-    let put = puts-failed _ c.make_room.new.gathered.octets _ _ _ _ c.in-Err-Failed.field-0-is c.in-Err-Failed.ensures.put in
-    fails (played_from (now_in c.args.engine.now)) (journal_by (played_from (now_in c.args.engine.now))) _ _ _ _ _ _ _ _ _ _ _ c.loop-number.invariant.gathers put.0 (risen_from _ _ _ c.loop-number.invariant.out_count put.1)
+    let put = puts-failed _ c.make_room.new.gathered.octets _ _ _ _ c.in-Err-Failed.field-0-is
+    c.in-Err-Failed.ensures.put in
+    fails (played_from (now_in c.args.engine.now)) (journal_by (played_from (now_in c.args.engine.now))) _ _ _ _ _ _ _
+    _ _ _ _ c.loop-number.invariant.gathers put.0 (risen_from _ _ _ c.loop-number.invariant.out_count put.1)
 
 pub returns-in-Err-NoMemory-clause-played : goal.returns-in-Err-NoMemory-clause-played
 returns-in-Err-NoMemory-clause-played g c =
-    runs-out (played_from (now_in c.args.engine.now)) (journal_by (played_from (now_in c.args.engine.now))) _ _ _ _ _ _ _ _ _ _ _ c.loop-number.invariant.gathers
+    runs-out (played_from (now_in c.args.engine.now)) (journal_by (played_from (now_in c.args.engine.now))) _ _ _ _ _
+    _ _ _ _ _ _ c.loop-number.invariant.gathers
     (puts-none _ c.make_room.new.gathered.octets _ _ _ _ c.in-Err-NoMemory.field-0-is c.in-Err-NoMemory.ensures.put)
 
 pub returns-in-Over-clause-played : goal.returns-in-Over-clause-played
 returns-in-Over-clause-played g c =
     let room = c.in-Ok.ensures.put in
-    let gathers = gathers-put (played_from (now_in c.args.engine.now)) (journal_by (played_from (now_in c.args.engine.now))) _ _ _ _ _ _ room.0 _ _ _ _ c.loop-number.invariant.gathers room.1 room.2 in
-    gathers-over (played_from (now_in c.args.engine.now)) (journal_by (played_from (now_in c.args.engine.now))) _ _ _ _ _ _ _ _ _ _ _ gathers (c.in-Over.ensures.turn (now_in c.args.engine.now))
+    let gathers =
+    gathers-put (played_from (now_in c.args.engine.now)) (journal_by (played_from (now_in c.args.engine.now))) _ _
+    _ _ _ _ room.0 _ _ _ _ c.loop-number.invariant.gathers room.1 room.2 in
+    gathers-over (played_from (now_in c.args.engine.now)) (journal_by (played_from (now_in c.args.engine.now))) _ _ _
+    _ _ _ _ _ _ _ _ gathers (c.in-Over.ensures.turn (now_in c.args.engine.now))
 
 pub returns-in-Stop-clause-played : goal.returns-in-Stop-clause-played
 returns-in-Stop-clause-played g c =
     let room = c.in-Ok.ensures.put in
-    let gathers = gathers-put (played_from (now_in c.args.engine.now)) (journal_by (played_from (now_in c.args.engine.now))) _ _ _ _ _ _ room.0 _ _ _ _ c.loop-number.invariant.gathers room.1 room.2 in
-    stops (played_from (now_in c.args.engine.now)) (journal_by (played_from (now_in c.args.engine.now))) _ _ _ _ _ _ _ _ _ _ _ _ _ _ _ _ _ gathers (risen_from _ _ _ c.loop-number.invariant.source_count) never-risen (c.in-Stop.ensures.turn (now_in c.args.engine.now))
+    let gathers =
+    gathers-put (played_from (now_in c.args.engine.now)) (journal_by (played_from (now_in c.args.engine.now))) _ _
+    _ _ _ _ room.0 _ _ _ _ c.loop-number.invariant.gathers room.1 room.2 in
+    stops (played_from (now_in c.args.engine.now)) (journal_by (played_from (now_in c.args.engine.now))) _ _ _ _ _ _ _
+    _ _ _ _ _ _ _ _ _ _ gathers (risen_from _ _ _ c.loop-number.invariant.source_count) never-risen
+    (c.in-Stop.ensures.turn (now_in c.args.engine.now))
     (puts-by _ _ _ _ _ _ _ (risen_from _ _ _ (omega arith)) c.put_rest.ensures.put)
 
 pub loop-number-preserved : goal.loop-number-preserved
 loop-number-preserved g c =
     let room = c.in-Ok.ensures.put in
-    let gathers = gathers-put (played_from (now_in c.args.engine.now)) (journal_by (played_from (now_in c.args.engine.now))) _ _ _ _ _ _ room.0 _ _ _ _ c.loop-number.invariant.gathers room.1 room.2 in
+    let gathers =
+    gathers-put (played_from (now_in c.args.engine.now)) (journal_by (played_from (now_in c.args.engine.now))) _ _
+    _ _ _ _ room.0 _ _ _ _ c.loop-number.invariant.gathers room.1 room.2 in
     let next = c.in-Next.ensures.turn (now_in c.args.engine.now) in
     record {
-      gathers = gathers-on (played_from (now_in c.args.engine.now)) (journal_by (played_from (now_in c.args.engine.now))) _ _ _ _ _ _ _ _ _ _ _ _ _ gathers next;
+      gathers = gathers-on (played_from (now_in c.args.engine.now))
+          (journal_by (played_from (now_in c.args.engine.now))) _ _ _ _ _ _ _ _ _ _ _ _ _ gathers next;
       few = omega (arith, c.in-Next.ensures.few refl);
       longest = c.in-Next.ensures.longest;
       open_ = c.in-Next.ensures.open refl;

@@ -8,8 +8,10 @@ use Rattle.l2_commands.proofs.playing.play_lines.Given as goal
 
 abbrev pub invariant-loop-number : goal.invariant-loop-number
 invariant-loop-number g l = record {
-  gathers : HasGathered (played_from (now_in l.fn.engine)) (journal_by (played_from (now_in l.fn.engine))) (g.S.Source.left l.initial.source) (g.S.Source.left l.source)
-      (g.K.Sink.written l.initial.out) (g.K.Sink.written l.out) l.gathered.octets (Some (now_in l.engine)) l.number l.lines.kept;
+  gathers : HasGathered (played_from (now_in l.fn.engine)) (journal_by (played_from (now_in l.fn.engine)))
+      (g.S.Source.left l.initial.source) (g.S.Source.left l.source)
+      (g.K.Sink.written l.initial.out) (g.K.Sink.written l.out) l.gathered.octets (Some (now_in l.engine)) l.number
+      l.lines.kept;
   few : l.number ≤ 1000001;
   longest : l.lines.longest ≡ 20000;
   open_ : l.lines.stand ≡ Open;

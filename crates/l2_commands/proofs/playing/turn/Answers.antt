@@ -1,8 +1,11 @@
 use Rattle.std.proofs.Common.{◌≡◌, ◌<◌, ◌≤◌, ◌∙◌, arith, rules, refl}
 use Rattle.l2_commands.specs.Engines.{played_from, now_in}
-use Rattle.l2_commands.proofs.Turning.{came-next, many-at-line, many-at-long, many-at-fault, too-long, faulty, nothing-left, line-over, line-refused, line-part, line-fault, line-goes, line-last}
+use Rattle.l2_commands.proofs.Turning.{came-next, many-at-line, many-at-long, many-at-fault, too-long, faulty}
+use Rattle.l2_commands.proofs.Turning.{nothing-left, line-over, line-refused, line-part, line-fault, line-goes}
+use Rattle.l2_commands.proofs.Turning.{line-last}
 use Rattle.l2_commands.proofs.playing.turn.Goals as goal
-use Rattle.l2_commands.proofs.playing.turn.Goals.{else-number-gt-MOST_LINES-3-via-then-number-gt-MOST_LINES-3+else-kept-gt0, else-number-gt-MOST_LINES-3-via-else-number-gt-MOST_LINES-3}
+use Rattle.l2_commands.proofs.playing.turn.Goals.{else-number-gt-MOST_LINES-3-via-then-number-gt-MOST_LINES-3+else-kept-gt0}
+use Rattle.l2_commands.proofs.playing.turn.Goals.{else-number-gt-MOST_LINES-3-via-else-number-gt-MOST_LINES-3}
 
 pub returns-then-number-gt-MOST_LINES-clause-turn : goal.returns-then-number-gt-MOST_LINES-clause-turn
 returns-then-number-gt-MOST_LINES-clause-turn g c first =
@@ -26,7 +29,8 @@ returns-then-kept-gt0-clause-turn g c first =
     let s = now_in c.args.engine.now in
     let new = c.advance.new.self in
     let next = came-next c.args.lines.now _ _ _ _ new c.requires.open c.in-ReadFault.ensures.next in
-    many-at-fault (played_from first) s c.args.number c.args.lines.now new _ _ _ _ _ next (omega arith) (omega (arith, c.kept.ensures.count))
+    many-at-fault (played_from first) s c.args.number c.args.lines.now new _ _ _ _ _ next (omega arith)
+    (omega (arith, c.kept.ensures.count))
 
 pub returns-then-eq-clause-turn : goal.returns-then-eq-clause-turn
 returns-then-eq-clause-turn g c first =
@@ -35,7 +39,8 @@ returns-then-eq-clause-turn g c first =
     let next = came-next c.args.lines.now _ _ _ _ new c.requires.open c.in-Line.ensures.next in
     let longest : new.longest ≡ 20000 = c.in-Line.ensures.longest ∙ c.requires.longest in
     let few : c.args.number ≤ 1000000 = omega arith in
-    line-goes (played_from first) s c.args.number c.args.lines.now new _ _ _ _ _ _ next few longest (search rules) (rw c.line.ensures at c.in-Next.ensures.line)
+    line-goes (played_from first) s c.args.number c.args.lines.now new _ _ _ _ _ _ next few longest (search rules)
+    (rw c.line.ensures at c.in-Next.ensures.line)
 
 pub returns-else-eq-clause-turn : goal.returns-else-eq-clause-turn
 returns-else-eq-clause-turn g c first =
@@ -44,7 +49,8 @@ returns-else-eq-clause-turn g c first =
     let next = came-next c.args.lines.now _ _ _ _ new c.requires.open c.in-Line.ensures.next in
     let longest : new.longest ≡ 20000 = c.in-Line.ensures.longest ∙ c.requires.longest in
     let few : c.args.number ≤ 1000000 = omega arith in
-    line-last (played_from first) s c.args.number c.args.lines.now new _ _ _ _ _ _ next few longest (search rules) (rw c.line.ensures at c.in-Next.ensures.line)
+    line-last (played_from first) s c.args.number c.args.lines.now new _ _ _ _ _ _ next few longest (search rules)
+    (rw c.line.ensures at c.in-Next.ensures.line)
 
 pub returns-in-Ended-clause-turn : goal.returns-in-Ended-clause-turn
 returns-in-Ended-clause-turn g c first =
@@ -53,7 +59,8 @@ returns-in-Ended-clause-turn g c first =
     let next = came-next c.args.lines.now _ _ _ _ new c.requires.open c.in-Line.ensures.next in
     let longest : new.longest ≡ 20000 = c.in-Line.ensures.longest ∙ c.requires.longest in
     let few : c.args.number ≤ 1000000 = omega arith in
-    line-over (played_from first) s c.args.number c.args.lines.now new _ _ _ _ _ _ next few longest (rw c.line.ensures at c.in-Ended.ensures.line)
+    line-over (played_from first) s c.args.number c.args.lines.now new _ _ _ _ _ _ next few longest
+    (rw c.line.ensures at c.in-Ended.ensures.line)
 
 pub returns-in-Refused-clause-turn : goal.returns-in-Refused-clause-turn
 returns-in-Refused-clause-turn g c first =
@@ -62,7 +69,9 @@ returns-in-Refused-clause-turn g c first =
     let next = came-next c.args.lines.now _ _ _ _ new c.requires.open c.in-Line.ensures.next in
     let longest : new.longest ≡ 20000 = c.in-Line.ensures.longest ∙ c.requires.longest in
     let few : c.args.number ≤ 1000000 = omega arith in
-    let has = rw c.line.ensures at c.in-Refused.ensures.line in line-refused (played_from first) s c.args.number c.args.lines.now new _ _ _ _ _ _ _ next few longest has.0 has.1
+    let has = rw c.line.ensures at c.in-Refused.ensures.line in
+    line-refused (played_from first) s c.args.number c.args.lines.now new _ _ _ _ _ _ _ next few longest has.0
+    has.1
 
 pub returns-in-WriteFault-clause-turn : goal.returns-in-WriteFault-clause-turn
 returns-in-WriteFault-clause-turn g c first =
@@ -71,7 +80,8 @@ returns-in-WriteFault-clause-turn g c first =
     let next = came-next c.args.lines.now _ _ _ _ new c.requires.open c.in-Line.ensures.next in
     let longest : new.longest ≡ 20000 = c.in-Line.ensures.longest ∙ c.requires.longest in
     let few : c.args.number ≤ 1000000 = omega arith in
-    let has = rw c.line.ensures at c.in-WriteFault.ensures.line in line-fault (played_from first) s c.args.number c.args.lines.now new _ _ _ _ _ _ next few longest has.1 has.0
+    let has = rw c.line.ensures at c.in-WriteFault.ensures.line in
+    line-fault (played_from first) s c.args.number c.args.lines.now new _ _ _ _ _ _ next few longest has.1 has.0
 
 pub returns-in-NoMemory-clause-turn : goal.returns-in-NoMemory-clause-turn
 returns-in-NoMemory-clause-turn g c first =
@@ -80,7 +90,8 @@ returns-in-NoMemory-clause-turn g c first =
     let next = came-next c.args.lines.now _ _ _ _ new c.requires.open c.in-Line.ensures.next in
     let longest : new.longest ≡ 20000 = c.in-Line.ensures.longest ∙ c.requires.longest in
     let few : c.args.number ≤ 1000000 = omega arith in
-    line-part (played_from first) s c.args.number c.args.lines.now new _ _ _ _ _ _ next few longest (rw c.line.ensures at c.in-NoMemory.ensures.line)
+    line-part (played_from first) s c.args.number c.args.lines.now new _ _ _ _ _ _ next few longest
+    (rw c.line.ensures at c.in-NoMemory.ensures.line)
 
 pub returns-else-number-gt-MOST_LINES-2-clause-turn : goal.returns-else-number-gt-MOST_LINES-2-clause-turn
 returns-else-number-gt-MOST_LINES-2-clause-turn g c first =
@@ -104,4 +115,11 @@ returns-else-number-gt-MOST_LINES-3-clause-turn g c first =
     let new = c.advance.new.self in
     let next = came-next c.args.lines.now _ _ _ _ new c.requires.open c.in-ReadFault.ensures.next in
     let longest : new.longest ≡ 20000 = c.in-ReadFault.ensures.longest ∙ c.requires.longest in
-    faulty (played_from first) s c.args.number c.args.lines.now new _ _ _ _ _ next longest (λ some. elim c.else-number-gt-MOST_LINES-3.branch [ else-number-gt-MOST_LINES-3-via-then-number-gt-MOST_LINES-3+else-kept-gt0 w ↦ omega (arith, w.kept.ensures.count) | else-number-gt-MOST_LINES-3-via-else-number-gt-MOST_LINES-3 w ↦ omega arith ])
+    faulty (played_from first) s c.args.number c.args.lines.now new _ _ _ _ _ next longest
+    (λ some. elim c.else-number-gt-MOST_LINES-3.branch [
+      | else-number-gt-MOST_LINES-3-via-then-number-gt-MOST_LINES-3+else-kept-gt0 w ↦ omega (
+        arith,
+        w.kept.ensures.count,
+      )
+      | else-number-gt-MOST_LINES-3-via-else-number-gt-MOST_LINES-3 w ↦ omega arith
+    ])

@@ -8,10 +8,14 @@ use Rattle.l2_commands.proofs.summing.sum_script.Goals as goal
 
 pub returns-in-Some-clause-played : goal.returns-in-Some-clause-played
 returns-in-Some-clause-played g c =
-    let said : SayAll (script_of c.args.number) c.new-lines.result = rw c.new-lines.ensures (say-script c.args.number) in
-    stopped (script_of c.args.number) (state_of script c.pass_lines.new.run) _ _ _ (c.in-Some.ensures (script_of c.args.number) said)
+    let said : SayAll (script_of c.args.number) c.new-lines.result =
+    rw c.new-lines.ensures (say-script c.args.number) in
+    stopped (script_of c.args.number) (state_of script c.pass_lines.new.run) _ _ _
+    (c.in-Some.ensures (script_of c.args.number) said)
 
 pub returns-in-None-clause-played : goal.returns-in-None-clause-played
 returns-in-None-clause-played g c =
-    let said : SayAll (script_of c.args.number) c.new-lines.result = rw c.new-lines.ensures (say-script c.args.number) in
-    summed (script_of c.args.number) (state_of script c.pass_lines.new.run) _ _ _ _ (c.in-None.ensures (script_of c.args.number) said) c.finish.ensures.over
+    let said : SayAll (script_of c.args.number) c.new-lines.result =
+    rw c.new-lines.ensures (say-script c.args.number) in
+    summed (script_of c.args.number) (state_of script c.pass_lines.new.run) _ _ _ _
+    (c.in-None.ensures (script_of c.args.number) said) c.finish.ensures.over

@@ -6,4 +6,5 @@ use Rattle.pdcp_tx_store.proofs.given.hear_all.Goals as goal
 pub loop-at-preserved : goal.loop-at-preserved
 loop-at-preserved c =
     ap (mapped_from (heard c.args.from c.args.bitmap.now) (c.loop-at.at + 1)) c.hear_at.ensures
-    ∙ (mapped_step (heard c.args.from c.args.bitmap.now) c.loop-at.entries.items c.loop-at.at (search rules) ∙ c.loop-at.invariant)
+    ∙ (mapped_step (heard c.args.from c.args.bitmap.now) c.loop-at.entries.items c.loop-at.at (search rules)
+    ∙ c.loop-at.invariant)

@@ -8,5 +8,6 @@ abbrev pub invariant-loop-stretch : goal.invariant-loop-stretch
 invariant-loop-stretch l = record {
   place : l.at + length (spread (deque_iter_rest l.stretch-iterator) l.tail) ≡ length l.field;
   few : l.count ≤ l.at;
-  rest : l.count + length (runs (spread (deque_iter_rest l.stretch-iterator) l.tail) l.at None l.ended) ≡ length (runs l.field 0 None l.ended);
+  rest : l.count + length (runs (spread (deque_iter_rest l.stretch-iterator) l.tail) l.at None l.ended)
+      ≡ length (runs l.field 0 None l.ended);
 }

@@ -7,5 +7,6 @@ use Rattle.rlc_am_rx_window.proofs.reading.edge_behind.Given as goal
 abbrev pub invariant-loop-stretch : goal.invariant-loop-stretch
 invariant-loop-stretch l = record {
   few : length (spread (deque_iter_rest l.stretch-iterator) 0) ≤ 32767;
-  rest : edge_behind (spread (deque_iter_rest l.stretch-iterator) 0) l.left ≡ edge_behind (spread l.stretches.items 0) l.at;
+  rest : edge_behind (spread (deque_iter_rest l.stretch-iterator) 0) l.left
+      ≡ edge_behind (spread l.stretches.items 0) l.at;
 }

@@ -7,5 +7,6 @@ use Rattle.rlc_am_rx_window.proofs.reading.reach.Given as goal
 abbrev pub invariant-loop-stretch : goal.invariant-loop-stretch
 invariant-loop-stretch l = record {
   few : length (spread (deque_iter_rest l.stretch-iterator) 0) ≤ 32767;
-  rest : l.count + length (leading (drop l.left (spread (deque_iter_rest l.stretch-iterator) 0))) ≡ length (leading (drop l.from (spread l.stretches.items 0)));
+  rest : l.count + length (leading (drop l.left (spread (deque_iter_rest l.stretch-iterator) 0)))
+      ≡ length (leading (drop l.from (spread l.stretches.items 0)));
 }

@@ -5,7 +5,8 @@ use Rattle.rlc_am_rx_window.proofs.ring.missing.Given as goal
 abbrev pub invariant-numbers : goal.invariant-numbers
 invariant-numbers l = record {
   ranges : AreRanges l.all.items;
-  added : l.all.items ++ missing_below (drop l.at l.ring.items) (l.front + l.at) l.bound ≡ missing_below l.ring.items l.front l.bound;
+  added : l.all.items ++ missing_below (drop l.at l.ring.items) (l.front + l.at) l.bound
+      ≡ missing_below l.ring.items l.front l.bound;
 }
 
 abbrev pub decreases-numbers : goal.decreases-numbers

@@ -6,7 +6,8 @@ abbrev pub invariant-numbers : goal.invariant-numbers
 invariant-numbers l = record {
   within : l.at ≤ length l.ring.items;
   few : l.bits ≤ 2 ^ 22 * l.at;
-  rest : l.bits + entries_bits (missing_below (drop l.at l.ring.items) (l.front + l.at) l.bound) ≡ entries_bits (missing_below l.ring.items l.front l.bound);
+  rest : l.bits + entries_bits (missing_below (drop l.at l.ring.items) (l.front + l.at) l.bound)
+      ≡ entries_bits (missing_below l.ring.items l.front l.bound);
 }
 
 abbrev pub decreases-numbers : goal.decreases-numbers

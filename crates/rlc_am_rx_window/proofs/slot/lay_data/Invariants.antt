@@ -10,7 +10,9 @@ invariant-loop-element l = record {
   count : l.at + octets_in l.walk ≡ so_of l.pdu.segment + octets_in (elements_of l.pdu.elements);
   place : length l.laying.done ≡ l.at + l.laying.passed;
   held : length l.laying.done + length l.laying.rest ≤ 32767;
-  rest : laid_on l.laying.done l.laying.rest l.laying.passed (map (λ c. Some c) (data_cells l.begins l.ends l.walk)) ≡ laid l.fn.field (so_of l.pdu.segment) (data_cells (begins_in l.pdu.fi) (ends_in l.pdu.fi) (elements_of l.pdu.elements));
+  rest : laid_on l.laying.done l.laying.rest l.laying.passed (map (λ c. Some c) (data_cells l.begins l.ends l.walk))
+      ≡ laid l.fn.field (so_of l.pdu.segment)
+      (data_cells (begins_in l.pdu.fi) (ends_in l.pdu.fi) (elements_of l.pdu.elements));
 }
 
 abbrev pub decreases-loop-element : goal.decreases-loop-element

@@ -8,7 +8,8 @@ invariant-loop-nack l = record {
   capacity : l.ring.capacity ≡ l.fn.ring.capacity;
   same : length l.ring.items ≡ length l.fn.ring.items;
   waits : waiting_from l.base l.ring.items ≡ waiting_from l.base l.fn.ring.items;
-  items : considered_all l.base l.most l.ring.items (nacks_of l.rest) ≡ considered_all l.base l.most l.fn.ring.items (nacks_of l.nacks);
+  items : considered_all l.base l.most l.ring.items (nacks_of l.rest)
+      ≡ considered_all l.base l.most l.fn.ring.items (nacks_of l.nacks);
 }
 
 abbrev pub decreases-loop-nack : goal.decreases-loop-nack

@@ -5,7 +5,8 @@ use Rattle.rlc_am_tx_window.proofs.ring.spent_among.Given as goal
 
 abbrev pub invariant-loop-nack : goal.invariant-loop-nack
 invariant-loop-nack l = record {
-  rest : spent_among l.base l.most l.ring.items l.found (nacks_of l.rest) ≡ spent_among l.base l.most l.ring.items None (nacks_of l.nacks);
+  rest : spent_among l.base l.most l.ring.items l.found (nacks_of l.rest)
+      ≡ spent_among l.base l.most l.ring.items None (nacks_of l.nacks);
   below : IfSome l.found (λ k. k < 1024);
 }
 

@@ -6,4 +6,5 @@ use Rattle.rlc_am_tx_window.proofs.slot.written.Goals as goal
 pub returns-clause-len : goal.returns-clause-len
 returns-clause-len c =
     ap length c.in_ok-octets.ensures
-    ∙ written-len c.args.sn c.args.poll c.args.fi c.args.segment c.args.lens.now c.args.field.now c.requires.lens c.requires.whole
+    ∙ written-len c.args.sn c.args.poll c.args.fi c.args.segment c.args.lens.now c.args.field.now c.requires.lens
+    c.requires.whole

@@ -4,7 +4,8 @@ use Rattle.rlc_pdu.specs.Units.{units, scanned}
 use Rattle.rlc_pdu.proofs.elements.scan.Given as goal
 
 abbrev pub invariant-loop-follows : goal.invariant-loop-follows
-invariant-loop-follows l = (scanned l.zero l.k (units l.odd l.follows l.rest) ≡ scanned None 0 (units false l.more l.units))
+invariant-loop-follows l =
+    (scanned l.zero l.k (units l.odd l.follows l.rest) ≡ scanned None 0 (units false l.more l.units))
     × (l.k + length l.rest ≤ length l.units)
     × IfSome l.zero (λ z. z ≤ length l.units)
 

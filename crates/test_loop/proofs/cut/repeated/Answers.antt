@@ -17,7 +17,13 @@ pub returns : goal.returns
 returns c =
     let kept = c.loop-left.invariant in
     let few : c.loop-left.left ≤ length c.args.sdu.now = omega arith in
-    let more : c.append-2.new.self ≡ c.loop-left.octets ++ take c.loop-left.left c.args.sdu.now = c.in_ok-append-2.ensures.ok in
+    let more : c.append-2.new.self ≡ c.loop-left.octets ++ take c.loop-left.left c.args.sdu.now =
+    c.in_ok-append-2.ensures.ok in
     rw more (repeated_all c.args.sdu.now (c.loop-left.octets ++ take c.loop-left.left c.args.sdu.now) c.args.size
-    (omega (arith, kept.size, length-append c.loop-left.octets (take c.loop-left.left c.args.sdu.now), length-take-le c.loop-left.left c.args.sdu.now few))
+    (omega (
+      arith,
+      kept.size,
+      length-append c.loop-left.octets (take c.loop-left.left c.args.sdu.now),
+      length-take-le c.loop-left.left c.args.sdu.now few,
+    ))
     (repeats_more c.args.sdu.now c.loop-left.octets kept.rows.0 c.loop-left.left kept.rows.1 few kept.repeats))

@@ -13,5 +13,7 @@ swizzle c = low_ok 4 64 c.args.octets refl c.fits-octets.0
 pub returns : goal.returns
 returns c =
     let v = c.args.octets in
-    looked_up 4 64 DIGITS lower_digits (λ x. bit_and x 15) low_digit v _ refl c.fits-octets.0 c.fits-octets.1 (zip2_splat bit_and v 64 15 c.fits-octets.0) (λ x h. omega (arith, and_le_r x 15))
-    (agree (λ k. get_or DIGITS k 0) (λ k. get_or lower_digits (k % 16) 0) 64 refl) (agree (λ x. get_or lower_digits (bit_and x 15) 0) low_digit 256 refl)
+    looked_up 4 64 DIGITS lower_digits (λ x. bit_and x 15) low_digit v _ refl c.fits-octets.0 c.fits-octets.1
+    (zip2_splat bit_and v 64 15 c.fits-octets.0) (λ x h. omega (arith, and_le_r x 15))
+    (agree (λ k. get_or DIGITS k 0) (λ k. get_or lower_digits (k % 16) 0) 64 refl)
+    (agree (λ x. get_or lower_digits (bit_and x 15) 0) low_digit 256 refl)

@@ -6,7 +6,10 @@ pub returns-then-digits-ne0 : goal.returns-then-digits-ne0
 returns-then-digits-ne0 c = few-odd c.args.digits.now _ _ (omega (arith, c.if-digits-ne0.true))
 
 pub returns-in_default : goal.returns-in_default
-returns-in_default c = few-bad c.args.digits.now _ _ _ (64 - length c.args.digits.now) (omega (arith, c.if-digits-ne0.false)) (omega (arith, c.requires, c.if-digits-ne0.false)) c.filled.ensures c.in_default.ensures
+returns-in_default c =
+    few-bad c.args.digits.now _ _ _ (64 - length c.args.digits.now) (omega (arith, c.if-digits-ne0.false))
+    (omega (arith, c.requires, c.if-digits-ne0.false)) c.filled.ensures c.in_default.ensures
 
 pub returns : goal.returns
-returns c = few-good c.args.digits.now _ _ _ _ (64 - length c.args.digits.now) (omega (arith, c.if-digits-ne0.false)) c.filled.ensures c.in-Some.ensures c.in_ok-append.ensures.ok
+returns c = few-good c.args.digits.now _ _ _ _ (64 - length c.args.digits.now) (omega (arith, c.if-digits-ne0.false))
+    c.filled.ensures c.in-Some.ensures c.in_ok-append.ensures.ok

@@ -3,4 +3,5 @@ use Rattle.air_link.specs.Draining.{all_senders_expire}
 use Rattle.air_link.proofs.link.Link.end_senders.Given as goal
 
 abbrev pub invariant-loop-lcid : goal.invariant-loop-lcid
-invariant-loop-lcid l = all_senders_expire l.side (drop l.lcid-index l.lcids) l.self ≡ all_senders_expire l.side l.lcids l.initial.self
+invariant-loop-lcid l = all_senders_expire l.side (drop l.lcid-index l.lcids) l.self
+    ≡ all_senders_expire l.side l.lcids l.initial.self

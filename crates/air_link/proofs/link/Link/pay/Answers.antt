@@ -11,4 +11,5 @@ loop-lcid-smaller c =
 pub loop-lcid-preserved : goal.loop-lcid-preserved
 loop-lcid-preserved c =
     let due = c.in-Some.ensures in
-    turn_pays (item c.in-Some.lcid c.in-Some.octets) c.self.view_is due.state due.answer c.in_ok-give_back.ensures ∙ c.loop-lcid.invariant
+    turn_pays (item c.in-Some.lcid c.in-Some.octets) c.self.view_is due.state due.answer c.in_ok-give_back.ensures
+    ∙ c.loop-lcid.invariant

@@ -5,7 +5,10 @@ use Rattle.bearer.proofs.acknowledged.hearing.confirm_all.Given as goal
 abbrev pub invariant-loop-place : goal.invariant-loop-place
 invariant-loop-place l = record {
   confirms' : confirms l.tx.state.accounts.news l.pdcp ≡ confirms l.fn.tx.state.accounts.news l.fn.pdcp;
-  same : l.tx.state ≡ record l.fn.tx.state { accounts = record l.fn.tx.state.accounts { news = l.tx.state.accounts.news } };
+  same : l.tx.state ≡ record l.fn.tx.state {
+    accounts =
+        record l.fn.tx.state.accounts { news = l.tx.state.accounts.news };
+  };
 }
 
 abbrev pub decreases-loop-place : goal.decreases-loop-place

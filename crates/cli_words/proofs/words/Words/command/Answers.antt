@@ -12,4 +12,5 @@ pub returns-else-are_plain : goal.returns-else-are_plain
 returns-else-are_plain c =
     let no : c.are_plain.result ≡ false = search rules in
     let same : c.args.self.now ≡ map string_bytes c.as_slice-words.result.now = search rules in
-    sym (ap command_of same ∙ hyphens (map string_bytes c.as_slice-words.result.now) (sym (plain_strings string_bytes c.as_slice-words.result.now) ∙ (sym c.are_plain.ensures ∙ no)))
+    sym (ap command_of same ∙ hyphens (map string_bytes c.as_slice-words.result.now)
+    (sym (plain_strings string_bytes c.as_slice-words.result.now) ∙ (sym c.are_plain.ensures ∙ no)))

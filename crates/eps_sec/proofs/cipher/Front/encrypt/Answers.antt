@@ -7,8 +7,10 @@ pub returns : goal.returns
 returns c =
     let key = c.args.schedule.now in
     let b = c.args.block.now in
-    let octet = c.row_3.ensures ∙ rw c.schedule.view_is at (last_octet (slice_index_or c.schedule.inside.keys 0 []) b) in
-    let word = first_word key b c.args.self.now.word c.from_row_3.result c.row_3.result c.requires.0 c.from_row_3.ensures octet in
+    let octet = c.row_3.ensures
+    ∙ rw c.schedule.view_is at (last_octet (slice_index_or c.schedule.inside.keys 0 []) b) in
+    let word = first_word key b c.args.self.now.word c.from_row_3.result c.row_3.result c.requires.0
+    c.from_row_3.ensures octet in
     c.encrypt_from.ensures (state b)
     (two_rounds key b c.args.self.now.words _ _ _ _ _ word c.requires.1
     (rw c.row_0.ensures at c.from_row_0.ensures)

@@ -18,13 +18,15 @@ loop-n-preserved c =
     record {
       len = search rules;
       power = power_more c.loop-n.n _ _ old.power c.times-power.ensures;
-      keys = keys_more c.loop-n.keys c.args.key.now.octets c.next_key.result c.loop-n.n (omega arith) old.keys (c.next_key.ensures c.loop-n.n old.power);
+      keys = keys_more c.loop-n.keys c.args.key.now.octets c.next_key.result c.loop-n.n (omega arith) old.keys
+          (c.next_key.ensures c.loop-n.n old.power);
     }
 
 pub invariant_of-result : goal.invariant_of-result
 unfolding round_key
 invariant_of-result c = λ n le.
-    let first : state (slice_index_or c.loop-n.keys 0 []) ≡ c.args.key.now.octets = c.loop-n.invariant.keys 0 (omega arith) in
+    let first : state (slice_index_or c.loop-n.keys 0 []) ≡ c.args.key.now.octets =
+    c.loop-n.invariant.keys 0 (omega arith) in
     rw first (c.loop-n.invariant.keys n (omega arith))
 
 pub returns : goal.returns

@@ -11,4 +11,5 @@ returns c =
     let len : length c.args.self ≡ 8 * length i.octets.items + i.count =
     rw (← c.self.view_is, length-append, length-bits, length-bits_of) (omega arith) in
     let none : i.count ≡ 0 = omega arith in
-    rw c.from_vec.ensures (sym (append-nil (bits_of i.octets.items)) ∙ ap (λ (k : ℕ). bits_of i.octets.items ++ bits k i.pending) (sym none) ∙ c.self.view_is)
+    rw c.from_vec.ensures (sym (append-nil (bits_of i.octets.items))
+    ∙ ap (λ (k : ℕ). bits_of i.octets.items ++ bits k i.pending) (sym none) ∙ c.self.view_is)

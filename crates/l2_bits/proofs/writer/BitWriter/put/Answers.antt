@@ -15,7 +15,8 @@ returns-clause-ok c =
     let i = c.self.inside in
     let n = c.args.n in
     let acc : i.pending * 2 ^ n % 2 ^ 64 + c.from.result ≡ i.pending * 2 ^ n + c.args.value =
-    rw (put_is i.count n i.pending c.self.invariant.0 c.requires.few c.self.invariant.1, c.from.ensures) (omega arith) in
+    rw (put_is i.count n i.pending c.self.invariant.0 c.requires.few c.self.invariant.1, c.from.ensures) (omega arith)
+    in
     c.settle-pending.ensures.same
     ∙ rw (c.in_ok-reserve.ensures.items) (ap (λ (p : ℕ). bits_of i.octets.items ++ bits (i.count + n) p) acc)
     ∙ ap (λ (w : List Bool). bits_of i.octets.items ++ w) (bits-cat i.count n i.pending c.args.value c.requires.fits)

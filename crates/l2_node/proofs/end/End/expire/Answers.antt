@@ -13,9 +13,12 @@ returns-clause-idle c =
     let read = c.index_mut-bearer.result.now in
     let items : c.self.inside.bearers.items ≡ c.args.self.now.bearers = ap (λ (e : End). e.bearers) c.self.view_is in
     let place = c.find-at.ensures.find ∙ ap (find c.args.lcid) (c.as_slice.ensures.value ∙ items) in
-    let here = subst (λ (bs : List (Of Life)). read ≡ slice_index_or bs c.find-at.result read) items c.index_mut-bearer.ensures.value in
-    let same : bearer_of c.args.lcid c.args.self.now ≡ read = found c.args.lcid c.args.self.now.bearers c.find-at.result read place c.requires here in
+    let here = subst (λ (bs : List (Of Life)). read ≡ slice_index_or bs c.find-at.result read) items
+    c.index_mut-bearer.ensures.value in
+    let same : bearer_of c.args.lcid c.args.self.now ≡ read =
+    found c.args.lcid c.args.self.now.bearers c.find-at.result read place c.requires here in
     idle_if_ok c.args.lcid c.args.clock c.args.self.now _ c.expire.result
     (λ dead. c.expire.ensures.dead (subst (λ (b : Of Life). IsTrue b.state.dead) same dead))
-    (subst (λ (b : Of Life). IfOk c.expire.result (λ events. events ≡ flow_expiry b.state.flow c.args.clock)) (sym same) c.expire.ensures.told)
+    (subst (λ (b : Of Life). IfOk c.expire.result (λ events. events ≡ flow_expiry b.state.flow c.args.clock))
+    (sym same) c.expire.ensures.told)
     (search rules)

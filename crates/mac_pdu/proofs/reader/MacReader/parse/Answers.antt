@@ -4,7 +4,8 @@ use Rattle.mac_pdu.proofs.Found.{found_in, refused_in, refused}
 use Rattle.mac_pdu.proofs.reader.MacReader.parse.Goals as goal
 
 pub returns-clause-items : goal.returns-clause-items
-returns-clause-items c = found_in c.args.direction c.args.block.now c.read.result (λ i. omega (arith, c.type_inv.block i)) c.read.ensures
+returns-clause-items c =
+    found_in c.args.direction c.args.block.now c.read.result (λ i. omega (arith, c.type_inv.block i)) c.read.ensures
 
 pub returns-clause-refused : goal.returns-clause-refused
 returns-clause-refused c = refused_in c.args.direction c.args.block.now c.read.result c.read.ensures

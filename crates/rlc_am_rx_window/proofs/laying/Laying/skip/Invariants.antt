@@ -8,7 +8,8 @@ invariant-loop-first l = record {
   start : l.self.passed ≡ 0;
   held : length l.self.done + length l.self.rest ≤ 32767;
   place : length l.self.done + l.left ≡ length l.fn.self.done + l.places;
-  cells : (xs : List (Option Cell)) → laid_on l.self.done l.self.rest 0 (replicate l.left None ++ xs) ≡ laid_on l.fn.self.done l.fn.self.rest 0 (replicate l.places None ++ xs);
+  cells : (xs : List (Option Cell)) → laid_on l.self.done l.self.rest 0 (replicate l.left None ++ xs)
+      ≡ laid_on l.fn.self.done l.fn.self.rest 0 (replicate l.places None ++ xs);
 }
 
 abbrev pub decreases-loop-first : goal.decreases-loop-first

@@ -19,12 +19,14 @@ pub invariant_of-self : goal.invariant_of-self
 invariant_of-self c =
     let r = c.args.self.now in
     let e = c.in-Some.entry in
-    let n = next_is e.nack e.more (drop e.next (bits_of r.octets.now)) (drop r.at (bits_of r.octets.now)) (sym c.in-Some.ensures.read) (rw c.if-not-self.false at r.sound) in
+    let n = next_is e.nack e.more (drop e.next (bits_of r.octets.now)) (drop r.at (bits_of r.octets.now))
+    (sym c.in-Some.ensures.read) (rw c.if-not-self.false at r.sound) in
     record { sound = n.sound; within = c.in-Some.ensures.behind.1; short = r.short }
 
 pub returns-clause-entry : goal.returns-clause-entry
 returns-clause-entry c =
     let r = c.args.self.now in
     let e = c.in-Some.entry in
-    let n = next_is e.nack e.more (drop e.next (bits_of r.octets.now)) (drop r.at (bits_of r.octets.now)) (sym c.in-Some.ensures.read) (rw c.if-not-self.false at r.sound) in
+    let n = next_is e.nack e.more (drop e.next (bits_of r.octets.now)) (drop r.at (bits_of r.octets.now))
+    (sym c.in-Some.ensures.read) (rw c.if-not-self.false at r.sound) in
     rw c.if-not-self.false n.found

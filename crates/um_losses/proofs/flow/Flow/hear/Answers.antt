@@ -6,8 +6,12 @@ use Rattle.um_losses.proofs.flow.Flow.hear.Goals as goal
 
 pub returns : goal.returns
 returns c =
-    let same : umd_of c.in-Ok.umd ≡ tagged c.args.first c.args.pdu = read_is _ _ _ _ _ c.self.invariant.0 (search rules) (c.as_slice.ensures ∙ c.in_ok-octets.ensures.octets) c.in-Ok.ensures.exact in
+    let same : umd_of c.in-Ok.umd ≡ tagged c.args.first c.args.pdu =
+    read_is _ _ _ _ _ c.self.invariant.0 (search rules) (c.as_slice.ensures ∙ c.in_ok-octets.ensures.octets)
+    c.in-Ok.ensures.exact in
     search rules
 
 pub unreachable-requires : goal.unreachable-requires
-unreachable-requires c = none_refused _ _ _ _ c.in_default.field-0 c.self.invariant.0 (search rules) (c.as_slice.ensures ∙ c.in_ok-octets.ensures.octets) c.in_default.ensures.exact
+unreachable-requires c =
+    none_refused _ _ _ _ c.in_default.field-0 c.self.invariant.0 (search rules)
+    (c.as_slice.ensures ∙ c.in_ok-octets.ensures.octets) c.in_default.ensures.exact
