@@ -41,45 +41,83 @@ fn input(alloc: Global, text: &str) -> Result<Vec<u8>, Fault> {
     Ok(octets)
 }
 
+/// The program's words, its input, and the calls that fail.
+#[derive(Drop)]
+struct Run {
+    words: Words,
+    source: MemSource,
+    out: MemSink,
+    errs: MemSink,
+}
+
+impl Run {
+    fn read(alloc: Global, line: &str) -> Result<Run, Fault> {
+        let parts: Vec<&str> = line.splitn(6, ' ').collect(alloc)?;
+        let [_, chunk, read, put, tell, rest] = *parts.as_slice() else {
+            return Err(Fault::Words);
+        };
+        let mut words = Words::new(alloc);
+        for word in rest.split('"').skip(1).step_by(2) {
+            words.push(word)?;
+        }
+        let text = rest.rsplit('"').next().unwrap_or(rest).trim_start();
+        let chunk = chunk.parse::<usize>()?.max(1);
+        Ok(Run {
+            words,
+            source: MemSource::new(alloc, &input(alloc, text)?, chunk, &fails(alloc, read)?)?,
+            out: MemSink::new(alloc, &fails(alloc, put)?)?,
+            errs: MemSink::new(alloc, &fails(alloc, tell)?)?,
+        })
+    }
+
+    /// A session with all parts, of which so many octets are read at a time.
+    fn session(alloc: Global, chunk: u32) -> Result<Run, Fault> {
+        let mut words = Words::new(alloc);
+        words.push("run")?;
+        let script = session::script(alloc)?;
+        Ok(Run {
+            words,
+            source: MemSource::new(alloc, script.as_bytes(), chunk.max(1) as usize, &[])?,
+            out: MemSink::new(alloc, &[])?,
+            errs: MemSink::new(alloc, &[])?,
+        })
+    }
+
+    /// What is written, what is told, and how the run ends.
+    fn play(self, alloc: Global) -> Result<String, Fault> {
+        let Run {
+            words,
+            source,
+            out,
+            errs,
+        } = self;
+        let (mut source, mut out, mut errs) = (source, out, errs);
+        let status = l2_main(alloc, &words, &mut source, &mut out, &mut errs);
+        let (written, told) = (
+            str::from_utf8(out.written())?,
+            str::from_utf8(errs.written())?,
+        );
+        Ok(format!(in alloc; "{written}{told}{status:?} {}", status.code())?)
+    }
+}
+
 /// What the program writes and tells, and how it ends. A line has how many octets a read gives,
 /// which read, which put to the output and which put to the errors fails (`-` for none, counted
 /// from 0), and then the program's words in quotes and its input.
 pub fn l2(alloc: Global, line: &str) -> Result<String, Fault> {
-    let parts: Vec<&str> = line.splitn(6, ' ').collect(alloc)?;
-    let [_, chunk, read, put, tell, rest] = *parts.as_slice() else {
-        return Err(Fault::Words);
-    };
-    let mut words = Words::new(alloc);
-    for word in rest.split('"').skip(1).step_by(2) {
-        words.push(word)?;
-    }
-    let text = rest.rsplit('"').next().unwrap_or(rest).trim_start();
-    let chunk = chunk.parse::<usize>()?.max(1);
-    let mut source = MemSource::new(alloc, &input(alloc, text)?, chunk, &fails(alloc, read)?)?;
-    let mut out = MemSink::new(alloc, &fails(alloc, put)?)?;
-    let mut errs = MemSink::new(alloc, &fails(alloc, tell)?)?;
-    let status = l2_main(alloc, &words, &mut source, &mut out, &mut errs);
-    let (written, told) = (
-        str::from_utf8(out.written())?,
-        str::from_utf8(errs.written())?,
-    );
-    Ok(format!(in alloc; "\n{written}{told}{status:?} {}", status.code())?)
+    let told = Run::read(alloc, line)?.play(alloc)?;
+    Ok(format!(in alloc; "\n{told}")?)
 }
 
-/// The sums of a session with all parts, read by so many octets at a time.
+/// The sums of a session with all parts, read by so many octets at a time, and how it ends.
 pub fn session(alloc: Global, chunk: u32) -> Result<String, Fault> {
-    let mut words = Words::new(alloc);
-    words.push("run")?;
-    let script = session::script(alloc)?;
-    let mut source = MemSource::new(alloc, script.as_bytes(), chunk.max(1) as usize, &[])?;
-    let (mut out, mut errs) = (MemSink::new(alloc, &[])?, MemSink::new(alloc, &[])?);
-    let status = l2_main(alloc, &words, &mut source, &mut out, &mut errs);
+    let told = Run::session(alloc, chunk)?.play(alloc)?;
     let mut text = String::new(alloc);
-    for line in str::from_utf8(out.written())?.lines() {
-        if line.starts_with("sum ") {
+    for line in told.lines() {
+        if line.starts_with("sum ") || line.starts_with("Done") {
             text.push_str("\n")?;
             text.push_str(line)?;
         }
     }
-    Ok(format!(in alloc; "{text}\n{status:?} {}", status.code())?)
+    Ok(text)
 }
