@@ -11,6 +11,7 @@ ghost use Rattle.air_link.specs.Downlink.{first_seen, decoded, damaged, sees, as
 ghost use Rattle.air_link.specs.Downlink.{comes, hears_by, aired, lands, unseen, goes_down};
 ghost use Rattle.air_link.specs.Downlink.{down_order, down_by, downlink};
 ghost use Rattle.air_record.specs.Outcomes.{turned};
+ghost use Rattle.l2_bits.specs.declared.limits.TheConstants.{OCTETS_LIMIT};
 
 use crate::link::Link;
 use air_record::{Arrived, Fate, Outcome, Record};
@@ -78,7 +79,7 @@ impl Link {
 
     // What the terminal sees of a block, by its outcome.
     fn land(&mut self, tti: u64, outcome: Outcome, ndi: bool, block: &[u8]) -> Result<(), NoMemory>
-        requires { length block.now < 2 ^ 28 }
+        requires { length block.now < OCTETS_LIMIT }
         ensures { OnOk result (self.new ≡ lands tti outcome ndi block.now self.old) }
     {
         let answer = match outcome.fate {
@@ -126,7 +127,7 @@ impl Link {
 
     // Feedback, the record of the air, and what the terminal makes of the block.
     fn air(&mut self, tti: u64, flipped: bool, answer: Answer, block: &[u8]) -> Result<(), NoMemory>
-        requires { length block.now < 2 ^ 28 }
+        requires { length block.now < OCTETS_LIMIT }
         ensures { OnOk result (self.new ≡ aired tti flipped answer block.now self.old) }
     {
         let heard = turned(flipped, is_good(answer));
@@ -188,7 +189,7 @@ impl Link {
         tti: u64,
         block: &[u8],
     ) -> Result<(), NoMemory>
-        requires { length block.now < 2 ^ 28 }
+        requires { length block.now < OCTETS_LIMIT }
         ensures { OnOk result (self.new ≡ sends visit side tti block.now self.old) }
     {
         let direction = sent_by(side);
@@ -227,7 +228,7 @@ impl Link {
 
     // An end hears a block.
     pub(crate) fn hear(&mut self, side: Side, block: &[u8]) -> Result<(), NoMemory>
-        requires { length block.now < 2 ^ 28 }
+        requires { length block.now < OCTETS_LIMIT }
         ensures { OnOk result (self.new ≡ hears side block.now self.old) }
     {
         let events = self.receive(side, block)?;
@@ -235,7 +236,7 @@ impl Link {
     }
 
     fn receive(&mut self, side: Side, block: &[u8]) -> Result<Events, NoMemory>
-        requires { length block.now < 2 ^ 28 }
+        requires { length block.now < OCTETS_LIMIT }
         ensures link { OnOk result (self.new ≡ receives side block.now self.old) }
         ensures told { IfOk result (λ events. events
             ≡ (received (end_of side self.old) block.now).events) }
@@ -250,7 +251,7 @@ impl Link {
 // A copy of the block that a process of a TTI holds, in place of what the memory for it holds.
 pub(crate) fn block_at(memory: Bytes, tti: u64, node: &Node<Attached>) -> Result<Bytes, NoMemory>
     ensures block { IfOk result (λ block. block ≡ block_at tti node.now.end) }
-    ensures short { IfOk result (λ block. length block < 2 ^ 28) }
+    ensures short { IfOk result (λ block. length block < OCTETS_LIMIT) }
 {
     let mut block = memory;
     block.clear();

@@ -11,6 +11,7 @@ ghost use Rattle.air_link.specs.Lines.{listens, no_place, submits_by, submitting
 ghost use Rattle.air_link.specs.Lines.{expiring, expires, forges, unfailed, begins_life, moved};
 ghost use Rattle.air_link.specs.Lines.{moves, hands_over};
 ghost use Rattle.l2_node.specs.Moving.{leaving};
+ghost use Rattle.l2_bits.specs.declared.limits.TheConstants.{OCTETS_LIMIT};
 
 use crate::link::Link;
 use air_record::{NoPlace, Record};
@@ -156,7 +157,7 @@ impl Link {
     /// A block of fewer than 2^28 octets arrives at an end as if it were intact.
     #[tactic(auto, unfolding(crate::specs::Lines::forges))]
     pub fn forge(&mut self, side: Side, block: &[u8]) -> Result<(), NoMemory>
-        requires { length block.now < 2 ^ 28 }
+        requires { length block.now < OCTETS_LIMIT }
         ensures { OnOk result (self.new ≡ forges side block.now self.old) }
     {
         self.hear(side, block)?;

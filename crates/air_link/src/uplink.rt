@@ -5,6 +5,7 @@ ghost use Rattle.l2_node.specs.Building.{IsEnough};
 ghost use Rattle.air_link.specs.Downlink.{block_at};
 ghost use Rattle.air_link.specs.Uplink.{up_order, is_intact, told_as, granted, hears_if, aired};
 ghost use Rattle.air_link.specs.Uplink.{awake, goes_up, up_by, answers, grants, passes, uplink};
+ghost use Rattle.l2_bits.specs.declared.limits.TheConstants.{OCTETS_LIMIT};
 
 use crate::downlink::{block_at, turned};
 use crate::link::Link;
@@ -88,7 +89,7 @@ impl Link {
 
     // What came, feedback, the record of the air, and what the base station makes of the block.
     fn come(&mut self, tti: u64, flipped: bool, good: bool, block: &[u8]) -> Result<(), NoMemory>
-        requires { length block.now < 2 ^ 28 }
+        requires { length block.now < OCTETS_LIMIT }
         ensures { OnOk result (self.new ≡ aired tti flipped good block.now self.old) }
     {
         self.nb.granted(tti, Some(good));

@@ -8,6 +8,7 @@ ghost use Rattle.air_text.specs.Ranges.{IsInRange};
 ghost use Rattle.bearer_types.specs.Sides.{heard_by};
 ghost use Rattle.pdu_show.specs.Show.{block_shown};
 ghost use Rattle.um_losses.specs.Losses.{none_seen, is_long};
+ghost use Rattle.l2_bits.specs.declared.limits.TheConstants.{OCTETS_LIMIT};
 
 use air_link::Link;
 use air_text::{Line, Record, append_accepted, append_record};
@@ -146,7 +147,7 @@ impl Journal {
     }
 
     fn note_forged(&mut self, side: Side, block: &[u8], link: &Link) -> Result<(), NoMemory>
-        requires { length block.now < 2 ^ 28 }
+        requires { length block.now < OCTETS_LIMIT }
         ensures { OnOk result
             (self.new ≡ record self.old {
               losses =

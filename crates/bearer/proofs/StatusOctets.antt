@@ -7,6 +7,7 @@ use Rattle.rlc_pdu.specs.declared.Nack.{Nack}
 use Rattle.rlc_pdu.specs.Status.{status_size, status_bits, nacks_bits, has_more}
 use Rattle.rlc_pdu.specs.Writing.{status_written}
 use Rattle.bearer.specs.Acknowledged.Reports.{octets_in, octets_of}
+use Rattle.rlc_pdu.specs.declared.constants.TheConstants.{AM_MODULUS}
 
 first_bits : (xs ys : List Bool) (n : ℕ) → length xs ≡ n → take n (xs ++ ys) ≡ xs
 first_bits [] ys zero e = refl
@@ -39,7 +40,7 @@ written_is xs w e q =
     let n : length w / 8 ≡ length xs = omega (arith, length-bits_of xs, ap length q) in
     e ∙ ap (octets_in (length xs)) q ∙ ap (λ (k : ℕ). octets_in k w) (sym n)
 
-ack_bits : (ack : ℕ) (nacks : List Nack) → ack < 1024 → number (take 10 (drop 4 (status_written ack nacks))) ≡ ack
+ack_bits : (ack : ℕ) (nacks : List Nack) → ack < AM_MODULUS → number (take 10 (drop 4 (status_written ack nacks))) ≡ ack
 ack_bits ack nacks lt =
     let rest : List Bool = bits 1 (digit (has_more nacks)) ++ nacks_bits nacks in
     let fill : List Bool = bits (filling (length (status_bits ack nacks))) 0 in
@@ -57,9 +58,10 @@ ack_bits ack nacks lt =
     front ack rest fill = ap (drop 4) (assoc3 (bits 4 0) (bits 10 ack) rest fill)
         ∙ other_bits (bits 4 0) (bits 10 ack ++ (rest ++ fill)) 4 (length-bits 4 0)
 
-pub ack_is : (xs : List ℕ) (n : ℕ) (nacks : List Nack) → bits_of xs ≡ status_written (n % 1024) nacks
-    → number (take 10 (drop 4 (bits_of xs))) ≡ n % 1024
-ack_is xs n nacks e = ap (λ (b : List Bool). number (take 10 (drop 4 b))) e ∙ ack_bits (n % 1024) nacks (omega arith)
+pub ack_is : (xs : List ℕ) (n : ℕ) (nacks : List Nack) → bits_of xs ≡ status_written (n % AM_MODULUS) nacks
+    → number (take 10 (drop 4 (bits_of xs))) ≡ n % AM_MODULUS
+ack_is xs n nacks e =
+    ap (λ (b : List Bool). number (take 10 (drop 4 b))) e ∙ ack_bits (n % AM_MODULUS) nacks (omega arith)
 
 pub two_octets : (xs : List ℕ) (nacks : List Nack) → length xs ≡ status_size nacks → 2 ≤ length xs
 two_octets xs nacks e = omega (arith, e)

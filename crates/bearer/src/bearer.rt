@@ -11,6 +11,7 @@ ghost use Rattle.bearer.specs.Taking.{pdus, number, told, after};
 ghost use Rattle.bearer.specs.Hearing.{arriving, arrived, expiry, expired, ticking, ticked};
 ghost use Rattle.bearer.specs.Hearing.{with_discard};
 ghost use Rattle.bearer.specs.Lives.{stopped, stopping, restarted};
+ghost use Rattle.l2_bits.specs.declared.limits.TheConstants.{OCTETS_LIMIT};
 
 use crate::flow::{Flow, StoppedFlow};
 use bearer_pdcp::Written;
@@ -196,7 +197,7 @@ impl Bearer<Running> {
 
     /// A PDU of fewer than 2^28 octets arrives, and what comes of it is told.
     pub fn arrive(&mut self, pdu: &[u8]) -> Result<Events, NoMemory>
-        requires { length pdu.now < 2 ^ 28 }
+        requires { length pdu.now < OCTETS_LIMIT }
         ensures told { IfOk result (λ events. events
             ≡ arriving self.old.lcid self.old.state.flow pdu.now) }
         ensures state { OnOk result

@@ -10,6 +10,7 @@ ghost use Rattle.bearer.specs.Sums.{need, backlog, left, is_drained};
 ghost use Rattle.bearer.specs.Taking.{pdus, number, told, after};
 ghost use Rattle.bearer.specs.Hearing.{arriving, arrived, expiry, expired, ticking, ticked};
 ghost use Rattle.bearer.specs.Hearing.{with_discard};
+ghost use Rattle.l2_bits.specs.declared.limits.TheConstants.{OCTETS_LIMIT};
 
 use crate::acknowledged::{AmBearer, StoppedAm};
 use crate::transparent::TmBearer;
@@ -137,7 +138,7 @@ impl Flow {
 
     #[tactic(auto, unfolding(crate::specs::Hearing::arriving, crate::specs::Hearing::arrived))]
     pub fn arrive(&mut self, lcid: u8, pdu: &[u8]) -> Result<Events, NoMemory>
-        requires { length pdu.now < 2 ^ 28 }
+        requires { length pdu.now < OCTETS_LIMIT }
         ensures told { IfOk result (λ events. events ≡ arriving lcid self.old pdu.now) }
         ensures state { OnOk result (self.new ≡ arrived self.old pdu.now) }
     {

@@ -1,5 +1,6 @@
 // The processes of one direction, at its sender.
 ghost use Rattle.std.specs.Prelude.{◌≡◌, ◌<◌, ◌^◌, ◌==◌, length, option_copied, option_map, IfSome};
+ghost use Rattle.l2_bits.specs.declared.limits.TheConstants.{OCTETS_LIMIT};
 
 use arrayvec::ArrayVec;
 use l2_bits::Bytes;
@@ -43,6 +44,7 @@ struct Load {
 }
 
 impl Model for Load {
+    ghost use Rattle.l2_bits.specs.declared.limits.TheConstants.{OCTETS_LIMIT};
     ghost use Rattle.std.specs.Prelude.{◌<◌, ◌^◌, length};
     ghost use Rattle.harq.specs.Sending.{Block, block};
 
@@ -50,7 +52,7 @@ impl Model for Load {
 
     ghost view = { λ l. block l.octets l.left l.sent };
 
-    ghost invariant = { λ l. (l.sent < 4) × (length l.octets < 2 ^ 28) };
+    ghost invariant = { λ l. (l.sent < 4) × (length l.octets < OCTETS_LIMIT) };
 }
 
 impl Load {
@@ -134,7 +136,7 @@ impl Process {
     }
 
     fn load(&mut self, maximum: u32, octets: Bytes)
-        requires { length octets < 2 ^ 28 }
+        requires { length octets < OCTETS_LIMIT }
         ensures { self.new ≡ loaded maximum octets self.old }
     {
         self.held = Some(Load {
@@ -207,7 +209,7 @@ impl Process {
     }
 
     fn octets(&self) -> Option<&[u8]>
-        ensures short { IfSome result (λ octets. length octets.now < 2 ^ 28) }
+        ensures short { IfSome result (λ octets. length octets.now < OCTETS_LIMIT) }
         ensures octets { option_copied result ≡ option_map (λ b. b.octets) self.now.held }
     {
         match &self.held {
@@ -264,7 +266,7 @@ impl Sender {
     /// Brings the new block of the TTI's visit, which is its first. It has fewer than 2^28 octets.
     #[tactic(auto, unfolding(crate::specs::Sending::after_load))]
     pub fn load(&mut self, tti: u64, block: Bytes)
-        requires { length block < 2 ^ 28 }
+        requires { length block < OCTETS_LIMIT }
         ensures { self.new ≡ after_load self.old tti block }
     {
         let maximum = self.maximum;
@@ -296,7 +298,7 @@ impl Sender {
     #[tactic(auto, unfolding(crate::specs::Sending::held_of))]
     pub fn held(&self, process: u32) -> Option<&[u8]>
         requires { process < 8 }
-        ensures short { IfSome result (λ block. length block.now < 2 ^ 28) }
+        ensures short { IfSome result (λ block. length block.now < OCTETS_LIMIT) }
         ensures block { option_copied result ≡ held_of self.now process }
     {
         let process = &self.processes[process as usize];

@@ -6,6 +6,7 @@ mod bytes;
 mod fault;
 mod items;
 mod laws;
+mod limits;
 mod reader;
 #[cfg(test)]
 mod tests;
@@ -16,6 +17,7 @@ pub use bytes::Bytes;
 pub use fault::{NoMemory, Short, SubmitRefusal};
 pub use items::{Items, Packets};
 pub use laws::reads_what_was_written;
+pub use limits::OCTETS_LIMIT;
 pub use reader::{BitReader, field};
 pub use waiting::Ring;
 pub use writer::BitWriter;

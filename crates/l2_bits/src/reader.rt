@@ -1,6 +1,7 @@
 ghost use Rattle.std.specs.Prelude.{◌≡◌, ◌+◌, ◌*◌, ◌/◌, ◌%◌, ◌^◌, ◌<◌, ◌≤◌, take, drop, length};
 ghost use Rattle.std.specs.Prelude.{IfOk, IfErr};
 ghost use Rattle.l2_bits.specs.Bits.{number, bits_of, left, take_field};
+ghost use Rattle.l2_bits.specs.declared.limits.TheConstants.{OCTETS_LIMIT};
 
 use crate::fault::Short;
 use std::marker::Model;
@@ -15,6 +16,7 @@ pub struct BitReader<'a> {
 }
 
 impl<'a> Model for BitReader<'a> {
+    ghost use Rattle.l2_bits.specs.declared.limits.TheConstants.{OCTETS_LIMIT};
     ghost use Rattle.std.specs.Prelude.{◌*◌, ◌^◌, ◌≤◌, ◌<◌, length};
     ghost use Rattle.l2_bits.specs.Bits.{Reading};
 
@@ -22,13 +24,14 @@ impl<'a> Model for BitReader<'a> {
 
     ghost view = { λ r. record { octets = r.octets.now; at = r.at } };
 
-    ghost invariant = { λ r. (r.at ≤ 8 * length r.octets.now) × (length r.octets.now < 2 ^ 28) };
+    ghost invariant = { λ r. (r.at ≤ 8 * length r.octets.now)
+        × (length r.octets.now < OCTETS_LIMIT) };
 }
 
 impl<'a> BitReader<'a> {
     /// A reader in front of the first bit of fewer than 2^28 octets.
     pub fn new(from: &'a [u8]) -> BitReader<'a>
-        requires { length from.now < 2 ^ 28 }
+        requires { length from.now < OCTETS_LIMIT }
         ensures { result ≡ record { octets = from.now; at = 0 } }
     {
         BitReader {
@@ -76,7 +79,7 @@ impl<'a> BitReader<'a> {
 pub fn field(octets: &[u8], at: usize, n: u32) -> u32
     requires few { n ≤ 32 }
     requires within { at + n ≤ 8 * length octets.now }
-    requires short { length octets.now < 2 ^ 28 }
+    requires short { length octets.now < OCTETS_LIMIT }
     ensures number { result ≡ number (take n (drop at (bits_of octets.now))) }
     ensures below { result < 2 ^ n }
 {

@@ -8,16 +8,10 @@ ghost use Rattle.l2_commands.specs.Streams.{input, output};
 
 use crate::engine::{Engine, LineEnd};
 use air_run::Reason;
-use air_text::LineRefusal;
+use air_text::{LONGEST_LINE, LineRefusal, MOST_LINES};
 use l2_bits::NoMemory;
 use l2_io::{GatherSink, Lines, PutFault, Sink, Source, Stand, Turn};
 use std::alloc::Global;
-
-/// The most octets of a line, without its line feed.
-const LONGEST: u32 = 20_000;
-
-/// The most lines of an input.
-pub const MOST_LINES: u32 = 1_000_000;
 
 /// How the reading of an input ended.
 #[derive(Clone, Copy, Debug, PartialEq, Eq)]
@@ -46,13 +40,13 @@ fn turn<S: Source, K: Sink>(
     out: &mut K,
 ) -> TurnEnd
     requires number { number ≤ MOST_LINES + 1 }
-    requires longest { lines.old.longest ≡ LONGEST }
+    requires longest { lines.old.longest ≡ LONGEST_LINE }
     requires open { lines.old.stand ≡ Stand.Open }
     ensures turn { (first : Between) → TurnsOn first (now_in engine.old) number lines.old.kept
         (input S.Source source.old) (input S.Source source.new) (output K.Sink out.old)
         (output K.Sink out.new) (now_in engine.new) lines.new.kept result }
     ensures open { result ≡ TurnEnd.Next → lines.new.stand ≡ Stand.Open }
-    ensures longest { lines.new.longest ≡ LONGEST }
+    ensures longest { lines.new.longest ≡ LONGEST_LINE }
     ensures few { result ≡ TurnEnd.Next → number ≤ MOST_LINES }
     ensures source_count { S.faults source.old ≤ S.faults source.new }
     ensures out_count { K.faults out.old ≤ K.faults out.new }
@@ -149,7 +143,7 @@ fn play_lines<S: Source, K: Sink>(
     out: &mut K,
 ) -> Option<Ending>
     requires kept { lines.old.kept ≡ [] }
-    requires longest { lines.old.longest ≡ LONGEST }
+    requires longest { lines.old.longest ≡ LONGEST_LINE }
     requires open { lines.old.stand ≡ Stand.Open }
     requires empty { gathered.old.octets ≡ [] }
     ensures played { PlaysAll (now_in engine.old) (input S.Source source.old)
@@ -175,9 +169,10 @@ fn play_lines<S: Source, K: Sink>(
 
 // The lines of an input, before the first.
 fn open_lines(alloc: Global) -> Result<Lines, NoMemory>
-    ensures { IfOk result (λ m. (m.kept ≡ []) × (m.longest ≡ LONGEST) × (m.stand ≡ Stand.Open)) }
+    ensures { IfOk result (λ m. (m.kept ≡ []) × (m.longest ≡ LONGEST_LINE)
+        × (m.stand ≡ Stand.Open)) }
 {
-    Lines::new(alloc, LONGEST)
+    Lines::new(alloc, LONGEST_LINE as u32)
 }
 
 // Writes what stands at the end of an input, after what is gathered of it.

@@ -9,9 +9,9 @@ ghost use Rattle.l2_commands.specs.Plays.{RunsLine, HasPlayed, state_of};
 ghost use Rattle.l2_commands.specs.Engines.{PassesLines, sums_of};
 
 use crate::engine::{LineEnd, finish};
-use crate::playing::{Ending, MOST_LINES};
+use crate::playing::Ending;
 use air_run::{Reason, Run, StepFault};
-use air_text::Line;
+use air_text::{Line, MOST_LINES};
 use l2_io::Sink;
 use script_generator::ScriptLines;
 use std::alloc::Global;

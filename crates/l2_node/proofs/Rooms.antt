@@ -12,6 +12,7 @@ use Rattle.mac_pdu.specs.Items.{MacItem, element, sdu, sdu_item, report_octets, 
 use Rattle.mac_pdu.specs.Writing.{Parts, items_of, writing, inner, payload, length_field, report_size, with_control}
 use Rattle.bearer_pdcp.specs.Shares.{in_block}
 use Rattle.l2_node.specs.Writing.{taken_up, sdus_of, with_sdus}
+use Rattle.l2_bits.specs.declared.limits.TheConstants.{OCTETS_LIMIT}
 
 pub taken_up-append : (ss ts : List Sdu) → taken_up (ss ++ ts) ≡ taken_up ss + taken_up ts
 taken_up-append [] ts = omega arith
@@ -47,7 +48,7 @@ items-append (t ∷ ss) s = ap (λ (xs : List MacItem). sdu_item t ∷ xs) (item
 
 -- an SDU more
 pub sdu_fits : (p : Parts) (s : Sdu) → p.controls ≡ [] → taken_up p.sdus + (length s.octets + 3) ≤ 9424
-    → length (writing (items_of p ++ sdu s.lcid s.octets ∷ [])) < 2 ^ 28
+    → length (writing (items_of p ++ sdu s.lcid s.octets ∷ [])) < OCTETS_LIMIT
 sdu_fits p s plain room =
     rw plain (rw (items-append p.sdus s) (omega (arith, tight (p.sdus ++ s ∷ []), taken_up-append p.sdus (s ∷ []))))
 

@@ -8,6 +8,7 @@ ghost use Rattle.l2_node.specs.Finding.{has};
 ghost use Rattle.l2_node.specs.Hearing.{Heard, heard, hears, hears_sdu, hears_all, heard_items};
 ghost use Rattle.l2_node.specs.Hearing.{received, ticks_at, ticks_over, ticked, expiry, expired};
 ghost use Rattle.mac_pdu.specs.Views.{item_in, IsShort};
+ghost use Rattle.l2_bits.specs.declared.limits.TheConstants.{OCTETS_LIMIT};
 
 use crate::end::End;
 use crate::finding::find;
@@ -20,7 +21,7 @@ impl End {
     // used.
     #[tactic(auto, unfolding(crate::specs::Hearing::received))]
     pub fn receive(&mut self, block: &[u8]) -> Result<Events, NoMemory>
-        requires { length block.now < 2 ^ 28 }
+        requires { length block.now < OCTETS_LIMIT }
         ensures end { OnOk result
             (self.new ≡ record self.old { bearers = (received self.old block.now).bearers }) }
         ensures events { IfOk result (λ events. events ≡ (received self.old block.now).events) }
@@ -111,7 +112,7 @@ fn hear_sdu(
     octets: &[u8],
     events: &mut Events,
 ) -> Result<(), NoMemory>
-    requires { length octets.now < 2 ^ 28 }
+    requires { length octets.now < OCTETS_LIMIT }
     ensures bearers { OnOk result (bearers.new.items
         ≡ (hears_sdu lcid octets.now (heard bearers.old.items events.old)).bearers) }
     ensures events { OnOk result

@@ -15,6 +15,7 @@ ghost use Rattle.l2_node.specs.Moving.{left_cell, leaving, joined};
 ghost use Rattle.l2_node.specs.Submitting.{refusal, submitted, discarding};
 ghost use Rattle.l2_node.specs.Sums.{is_drained, left};
 ghost use Rattle.prioritise.specs.Shares.{ticked as grown};
+ghost use Rattle.l2_bits.specs.declared.limits.TheConstants.{OCTETS_LIMIT};
 
 use crate::end::End;
 use crate::finding::has;
@@ -235,7 +236,7 @@ impl Node<Attached> {
     /// The block that a sending process, 0 to 7, holds; `None` exactly where it is empty.
     pub fn held(&self, process: u32) -> Option<&[u8]>
         requires { process < 8 }
-        ensures short { IfSome result (λ block. length block.now < 2 ^ 28) }
+        ensures short { IfSome result (λ block. length block.now < OCTETS_LIMIT) }
         ensures block { option_copied result ≡ held_of self.now.end.sender process }
     {
         self.state.end.sender.held(process)
@@ -298,7 +299,7 @@ impl Node<Attached> {
     /// Of a block that can't be read nothing is used; an SDU whose logical channel has no bearer is
     /// dropped; both are told.
     pub fn receive(&mut self, block: &[u8]) -> Result<Events, NoMemory>
-        requires { length block.now < 2 ^ 28 }
+        requires { length block.now < OCTETS_LIMIT }
         ensures node { OnOk result
             (self.new
             ≡ attached

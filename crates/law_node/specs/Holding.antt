@@ -19,6 +19,7 @@ use Rattle.l2_node.specs.Hearing.{bearer_of}
 use Rattle.l2_node.specs.Writing.{shares}
 use Rattle.law_node.specs.Calls.{Turn, Call, AreGiven}
 use Rattle.law_node.specs.Watching.{Doing, Turns, Empties, Rests, Watched, watched}
+use Rattle.rlc_pdu.specs.declared.constants.TheConstants.{AM_WINDOW_SIZE}
 
 -- the number of the next new PDU, VT(US) or VT(S); a transparent PDU has none
 abbrev pub next_number : Flow → ℕ
@@ -30,7 +31,7 @@ next_number (Am b) = next b.tx.window
 abbrev pub width : Flow → ℕ
 width (Tm b) = 0
 width (Um b) = width_of b.tx.bits
-width (Am b) = 512
+width (Am b) = AM_WINDOW_SIZE
 
 abbrev pub flow : ℕ → End → Flow
 flow lcid e = (bearer_of lcid e).state.flow

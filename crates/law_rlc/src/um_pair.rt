@@ -10,8 +10,8 @@ ghost use Rattle.law_rlc.specs.UmPair.Run.{IsBounded, IsTimed};
 ghost use Rattle.law_rlc.specs.UmPair.Send.{Step, flow, at_first, IsWhole};
 ghost use Rattle.law_rlc.specs.UmPair.Loss.{IsOrdered};
 ghost use Rattle.law_rlc.specs.UmPair.Search.{IsSearch};
-ghost use Rattle.law_rlc.specs.UmPair.Air.{AreSent, IsDelivered, IsReadTruly};
-ghost use Rattle.law_rlc.specs.UmPair.Read.{IsRead};
+ghost use Rattle.law_rlc.specs.UmPair.Air.{GoUpInOrder, ReadsTrueNumbers};
+ghost use Rattle.law_rlc.specs.UmPair.Read.{ReadsNumbers};
 ghost use Rattle.law_rlc.specs.UmPair.Which.{HandsUpWhatCame, MoreGoUpLater};
 
 /// Whatever calls come, VR(UR) is the least number at or above the base that isn't accepted, and
@@ -55,10 +55,7 @@ pub fn joining_is_a_search()
 
 /// A sequence number is read as the one number in the window around the top that has it.
 pub fn number_is_read()
-    ensures short { (edge : ℕ) (slots : List (Option Parts)) (sn : ℕ) → 32 ≤ edge → sn < 32
-        → IsRead (record { width = 16; edge = edge; slots = slots }) sn }
-    ensures long { (edge : ℕ) (slots : List (Option Parts)) (sn : ℕ) → 1024 ≤ edge → sn < 1024
-        → IsRead (record { width = 512; edge = edge; slots = slots }) sn }
+    ensures { ReadsNumbers }
 {}
 
 /// Whatever is offered and taken, the PDUs, numbered from 0, join to the SDUs that were offered,
@@ -77,20 +74,12 @@ pub fn joined_is_in_order()
 /// the SDUs that go up, also as the receiver ends, are some of those that were offered, in order,
 /// each once and unchanged.
 pub fn delivered_in_order()
-    ensures { (bits reorder : ℕ) (steps : List Step) (calls : List Call) → IsUmBits bits
-        → AreSent (flow steps (at_first bits)).made (width_of bits) calls
-        (fresh (width_of bits) reorder)
-        → IsDelivered (width_of bits) (flow steps (at_first bits))
-        (run calls (fresh (width_of bits) reorder)) }
+    ensures { GoUpInOrder }
 {}
 
 /// Over such an air each PDU is read as the number that it has.
 pub fn reads_true_numbers()
-    ensures { (bits reorder : ℕ) (steps : List Step) (calls : List Call) → IsUmBits bits
-        → AreSent (flow steps (at_first bits)).made (width_of bits) calls
-        (fresh (width_of bits) reorder) → (pdu : UmdPdu)
-        → IsReadTruly (flow steps (at_first bits)).made (width_of bits)
-        (run calls (fresh (width_of bits) reorder)) pdu }
+    ensures { ReadsTrueNumbers }
 {}
 
 /// Over such an air the SDUs that go up are just those all of whose elements came in numbers below

@@ -7,6 +7,7 @@ use Rattle.rlc_pdu.specs.Pdus.{AmdPdu, AcknowledgedPdu, Payload, Status}
 use Rattle.rlc_am_rx_window.specs.Piece.{octets_in, so_of}
 use Rattle.rlc_pdu.specs.declared.fault.RlcRefusal.{RlcRefusal}
 use Rattle.rlc_pdu.specs.Reading.{am_at}
+use Rattle.rlc_pdu.specs.declared.constants.TheConstants.{AM_MODULUS}
 
 -- the octets of a PDU that the sender writes, and of one that comes to the receiver
 pub data Passing : Type 0 where
@@ -24,13 +25,13 @@ nothing_told = record { fields = []; came = [] }
 -- a data PDU is new where its SN is that of the next number
 abbrev pub with_field : AmdPdu → Told → Told
 with_field pdu t =
-    if pdu.sn == length t.fields % 1024
+    if pdu.sn == length t.fields % AM_MODULUS
     then record t { fields = t.fields ++ octets_in pdu.elements ∷ [] }
     else t
 
 -- the last of so many numbers that has an SN
 abbrev pub last_with : ℕ → ℕ → ℕ
-last_with sn count = count - 1 - (count + 1023 - sn) % 1024
+last_with sn count = count - 1 - (count + (AM_MODULUS - 1) - sn) % AM_MODULUS
 
 abbrev pub stretch_of : AmdPdu → ℕ → Stretch
 stretch_of pdu count =

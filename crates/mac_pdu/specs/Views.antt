@@ -3,6 +3,7 @@ use Rattle.std.specs.Prelude.{ℕ, ◌<◌, ◌^◌, length}
 use Rattle.mac_pdu.specs.declared.item.Item.{Item}
 use Rattle.mac_pdu.specs.declared.item.Item.TheVariants.{Front, Element, Sdu, Padding}
 use Rattle.mac_pdu.specs.Items.{MacItem, front, element, sdu, padding}
+use Rattle.l2_bits.specs.declared.limits.TheConstants.{OCTETS_LIMIT}
 
 abbrev pub item_in : Item → MacItem
 item_in Front = front
@@ -12,5 +13,5 @@ item_in (Padding n) = padding n
 
 -- an SDU of a block is no longer than a block may be
 abbrev pub IsShort : MacItem → Type 0
-IsShort (sdu lcid octets) = length octets < 2 ^ 28
+IsShort (sdu lcid octets) = length octets < OCTETS_LIMIT
 IsShort item = Unit {0}

@@ -11,6 +11,7 @@ use Rattle.mac_pdu.specs.declared.item.Control.TheVariants as control
 use Rattle.mac_pdu.specs.declared.builder.Sdu.{Sdu}
 use Rattle.mac_pdu.specs.Items.{MacItem, front, element, sdu, padding, control_lcid, control_octets}
 use Rattle.mac_pdu.specs.Items.{IsControl, sdu_item}
+use Rattle.l2_bits.specs.declared.limits.TheConstants.{OCTETS_LIMIT}
 
 -- how many octets a control element has
 abbrev pub report_size : Bsr → ℕ
@@ -113,4 +114,4 @@ with_control c b = record b { controls = b.controls ++ c ∷ [] }
 pub record IsBuilder (b : Parts) : Type 0 where
   pub controls : All (IsControl b.direction) b.controls
   pub sdus : All IsSdu b.sdus
-  pub short : length (writing (items_of b)) < 2 ^ 28
+  pub short : length (writing (items_of b)) < OCTETS_LIMIT

@@ -4,6 +4,7 @@ ghost use Rattle.mac_pdu.specs.Items.{sdu, IsControl};
 ghost use Rattle.mac_pdu.specs.Grammar.{MacPdu};
 ghost use Rattle.mac_pdu.specs.Writing.{full_size, saved, writing, padded, canonical, items_of};
 ghost use Rattle.mac_pdu.specs.Writing.{with_control};
+ghost use Rattle.l2_bits.specs.declared.limits.TheConstants.{OCTETS_LIMIT};
 
 use crate::item::{Control, Direction};
 use crate::octets::{put_fronted, put_padded};
@@ -61,7 +62,8 @@ impl MacBuilder {
     /// An `Err` changes nothing.
     pub fn control(&mut self, element: &Control) -> Result<(), NoMemory>
         requires fields { IsControl self.old.direction element.now }
-        requires fits { length (writing (items_of (with_control element.now self.old))) < 2 ^ 28 }
+        requires fits { length (writing (items_of (with_control element.now self.old)))
+            < OCTETS_LIMIT }
         ensures ok { OnOk result (self.new ≡ with_control element.now self.old) }
         ensures err { OnErr result (self.new ≡ self.old) }
     {
@@ -75,7 +77,8 @@ impl MacBuilder {
         requires channel { lcid ≤ 10 }
         requires some { 1 ≤ length octets.now }
         requires short { length octets.now < 2 ^ 15 }
-        requires fits { length (writing (items_of self.old ++ sdu lcid octets.now ∷ [])) < 2 ^ 28 }
+        requires fits { length (writing (items_of self.old ++ sdu lcid octets.now ∷ []))
+            < OCTETS_LIMIT }
         ensures ok { OnOk result
             (self.new ≡ record self.old {
               sdus =
@@ -91,7 +94,8 @@ impl MacBuilder {
         requires channel { lcid ≤ 10 }
         requires some { 1 ≤ length octets }
         requires short { length octets < 2 ^ 15 }
-        requires fits { length (writing (items_of self.old ++ sdu lcid octets ∷ [])) < 2 ^ 28 }
+        requires fits { length (writing (items_of self.old ++ sdu lcid octets ∷ []))
+            < OCTETS_LIMIT }
         ensures ok { OnOk result
             (self.new ≡ record self.old {
               sdus =
@@ -118,7 +122,7 @@ impl MacBuilder {
     pub fn build(self, size: u32) -> Result<Bytes, (MacBuilder, NoMemory)>
         requires room { length (writing (items_of self)) ≤ size }
         requires some { 1 ≤ size }
-        requires short { size < 2 ^ 28 }
+        requires short { size < OCTETS_LIMIT }
         ensures canonical { IfOk result (λ block. block ≡ canonical (items_of self) size) }
         ensures size { IfOk result (λ block. length block ≡ size) }
         // A reader of the block finds its items.
@@ -145,7 +149,7 @@ impl MacBuilder {
     fn block(&self, size: u32) -> Result<Bytes, NoMemory>
         requires room { length (writing (items_of self.now)) ≤ size }
         requires some { 1 ≤ size }
-        requires short { size < 2 ^ 28 }
+        requires short { size < OCTETS_LIMIT }
         ensures { IfOk result (λ block. block ≡ canonical (items_of self.now) size) }
     {
         let least = self.least();

@@ -8,6 +8,7 @@ ghost use Rattle.mac_pdu.specs.Refusals.{MacRefused, subheaders, first_fault, ov
 ghost use Rattle.mac_pdu.specs.Reading.{reading, item_of, behind};
 ghost use Rattle.mac_pdu.specs.Subheaders.{payload_len};
 ghost use Rattle.mac_pdu.specs.Views.{item_in, IsShort};
+ghost use Rattle.l2_bits.specs.declared.limits.TheConstants.{OCTETS_LIMIT};
 
 use crate::fault::{MacRefusal, MacWhy};
 use crate::item::{Direction, Item};
@@ -25,6 +26,7 @@ pub struct MacReader<'a> {
 }
 
 impl<'a> Model for MacReader<'a> {
+    ghost use Rattle.l2_bits.specs.declared.limits.TheConstants.{OCTETS_LIMIT};
     ghost use Rattle.std.specs.Prelude.{◌≡◌, ◌<◌, ◌^◌, List, None, length};
     ghost use Rattle.mac_pdu.specs.Items.{MacItem};
     ghost use Rattle.mac_pdu.specs.Refusals.{subheaders, overrun};
@@ -36,7 +38,7 @@ impl<'a> Model for MacReader<'a> {
 
     ghost invariant = { λ r.
         (overrun 0 (subheaders r.direction 0 r.headers.now) r.payloads.now ≡ None)
-        × (length r.payloads.now < 2 ^ 28) };
+        × (length r.payloads.now < OCTETS_LIMIT) };
 }
 
 impl<'a> MacReader<'a> {
@@ -44,7 +46,7 @@ impl<'a> MacReader<'a> {
     ///
     /// The whole block is checked, and no memory is taken.
     pub fn parse(direction: Direction, block: &'a [u8]) -> Result<MacReader<'a>, MacRefusal>
-        requires { length block.now < 2 ^ 28 }
+        requires { length block.now < OCTETS_LIMIT }
         // What is answered: the items that the grammar gives, or the first fault.
         ensures items { IfOk result (λ items. MacPdu direction items block.now) }
         ensures refused { IfErr result (λ refusal. MacRefused direction block.now refusal) }
@@ -77,7 +79,7 @@ impl<'a> MacReader<'a> {
 
     /// What `parse` answers, as a function of the octets.
     fn read(direction: Direction, block: &'a [u8]) -> Result<MacReader<'a>, MacRefusal>
-        requires { length block.now < 2 ^ 28 }
+        requires { length block.now < OCTETS_LIMIT }
         ensures { result ≡ reading direction block.now }
     {
         let header = header_len(direction, block)?;
@@ -99,7 +101,7 @@ impl<'a> MacReader<'a> {
 /// How many octets the subheaders have, or the first fault among them.
 #[tactic(auto, unfolding(crate::specs::Refusals::first_fault))]
 fn header_len(direction: Direction, block: &[u8]) -> Result<usize, MacRefusal>
-    requires { length block.now < 2 ^ 28 }
+    requires { length block.now < OCTETS_LIMIT }
     ensures fault { MatchResult result
         (λ n. (first_fault stage.Start 0 (length block.now) (subheaders direction 0 block.now)
         ≡ None)
@@ -131,7 +133,7 @@ fn header_len(direction: Direction, block: &[u8]) -> Result<usize, MacRefusal>
 /// Where the first subheader stands whose payload runs past the block.
 #[tactic(auto, unfolding(crate::specs::Refusals::overrun))]
 fn first_overrun(direction: Direction, headers: &[u8], payloads: &[u8]) -> Option<usize>
-    requires { length headers.now < 2 ^ 28 }
+    requires { length headers.now < OCTETS_LIMIT }
     ensures at { result ≡ overrun 0 (subheaders direction 0 headers.now) payloads.now }
     ensures within { IfSome result (λ at. at ≤ length headers.now) }
 {
@@ -157,7 +159,7 @@ fn first_overrun(direction: Direction, headers: &[u8], payloads: &[u8]) -> Optio
 #[tactic(auto, unfolding(crate::specs::Reading::item_of, crate::specs::Subheaders::payload_len))]
 fn item<'a>(one: &Subheader, payload: &'a [u8]) -> Item<'a>
     requires whole { length payload.now ≡ payload_len one.now (length payload.now) }
-    requires short { length payload.now < 2 ^ 28 }
+    requires short { length payload.now < OCTETS_LIMIT }
     ensures item { item_in result ≡ item_of one.now payload.now }
     ensures short { IsShort (item_in result) }
 {

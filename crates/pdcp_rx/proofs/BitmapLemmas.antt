@@ -15,136 +15,63 @@ few_step false = omega arith
 few : (held : List (Option (List ℕ))) (at : ℕ) → bit held at ≤ 1
 few held at = few_step (is_held held at)
 
-bit0 : (held : List (Option (List ℕ))) (at : ℕ) → octet held at / 128 % 2 ≡ bit held at
-bit0 held at =
-    omega (
-      arith,
-      few held at,
-      few held (at + 1),
-      few held (at + 2),
-      few held (at + 3),
-      few held (at + 4),
-      few held (at + 5),
-      few held (at + 6),
-      few held (at + 7),
-    )
+-- the binary digits of an octet, the highest first
+pub record AreDigits (n a b c d e f g h : ℕ) : Type 0 where
+  pub first : n / 128 % 2 ≡ a
+  pub second : n / 64 % 2 ≡ b
+  pub third : n / 32 % 2 ≡ c
+  pub fourth : n / 16 % 2 ≡ d
+  pub fifth : n / 8 % 2 ≡ e
+  pub sixth : n / 4 % 2 ≡ f
+  pub seventh : n / 2 % 2 ≡ g
+  pub last : n / 1 % 2 ≡ h
 
-bit1 : (held : List (Option (List ℕ))) (at : ℕ) → octet held at / 64 % 2 ≡ bit held (at + 1)
-bit1 held at =
-    omega (
-      arith,
-      few held at,
-      few held (at + 1),
-      few held (at + 2),
-      few held (at + 3),
-      few held (at + 4),
-      few held (at + 5),
-      few held (at + 6),
-      few held (at + 7),
-    )
+are_digits : (a b c d e f g h : ℕ) → a ≤ 1 → b ≤ 1 → c ≤ 1 → d ≤ 1 → e ≤ 1 → f ≤ 1 → g ≤ 1 → h ≤ 1
+    → AreDigits (128 * a + 64 * b + 32 * c + 16 * d + 8 * e + 4 * f + 2 * g + h) a b c d e f g h
+are_digits a b c d e f g h la lb lc ld le lf lg lh = record {
+  first = omega arith;
+  second = omega arith;
+  third = omega arith;
+  fourth = omega arith;
+  fifth = omega arith;
+  sixth = omega arith;
+  seventh = omega arith;
+  last = omega arith;
+}
 
-bit2 : (held : List (Option (List ℕ))) (at : ℕ) → octet held at / 32 % 2 ≡ bit held (at + 2)
-bit2 held at =
-    omega (
-      arith,
-      few held at,
-      few held (at + 1),
-      few held (at + 2),
-      few held (at + 3),
-      few held (at + 4),
-      few held (at + 5),
-      few held (at + 6),
-      few held (at + 7),
-    )
-
-bit3 : (held : List (Option (List ℕ))) (at : ℕ) → octet held at / 16 % 2 ≡ bit held (at + 3)
-bit3 held at =
-    omega (
-      arith,
-      few held at,
-      few held (at + 1),
-      few held (at + 2),
-      few held (at + 3),
-      few held (at + 4),
-      few held (at + 5),
-      few held (at + 6),
-      few held (at + 7),
-    )
-
-bit4 : (held : List (Option (List ℕ))) (at : ℕ) → octet held at / 8 % 2 ≡ bit held (at + 4)
-bit4 held at =
-    omega (
-      arith,
-      few held at,
-      few held (at + 1),
-      few held (at + 2),
-      few held (at + 3),
-      few held (at + 4),
-      few held (at + 5),
-      few held (at + 6),
-      few held (at + 7),
-    )
-
-bit5 : (held : List (Option (List ℕ))) (at : ℕ) → octet held at / 4 % 2 ≡ bit held (at + 5)
-bit5 held at =
-    omega (
-      arith,
-      few held at,
-      few held (at + 1),
-      few held (at + 2),
-      few held (at + 3),
-      few held (at + 4),
-      few held (at + 5),
-      few held (at + 6),
-      few held (at + 7),
-    )
-
-bit6 : (held : List (Option (List ℕ))) (at : ℕ) → octet held at / 2 % 2 ≡ bit held (at + 6)
-bit6 held at =
-    omega (
-      arith,
-      few held at,
-      few held (at + 1),
-      few held (at + 2),
-      few held (at + 3),
-      few held (at + 4),
-      few held (at + 5),
-      few held (at + 6),
-      few held (at + 7),
-    )
-
-bit7 : (held : List (Option (List ℕ))) (at : ℕ) → octet held at % 2 ≡ bit held (at + 7)
-bit7 held at =
-    omega (
-      arith,
-      few held at,
-      few held (at + 1),
-      few held (at + 2),
-      few held (at + 3),
-      few held (at + 4),
-      few held (at + 5),
-      few held (at + 6),
-      few held (at + 7),
-    )
+digits : (held : List (Option (List ℕ))) (at : ℕ)
+    → AreDigits (octet held at) (bit held at) (bit held (at + 1)) (bit held (at + 2)) (bit held (at + 3))
+    (bit held (at + 4)) (bit held (at + 5)) (bit held (at + 6)) (bit held (at + 7))
+digits held at =
+    are_digits (bit held at) (bit held (at + 1)) (bit held (at + 2)) (bit held (at + 3)) (bit held (at + 4))
+    (bit held (at + 5)) (bit held (at + 6)) (bit held (at + 7)) (few held at) (few held (at + 1)) (few held (at + 2))
+    (few held (at + 3)) (few held (at + 4)) (few held (at + 5)) (few held (at + 6)) (few held (at + 7))
 
 is_bit : (b : Bool) → ((if b then 1 else 0) == 1) ≡ b
 is_bit true = refl
 is_bit false = refl
 
+read_from : (n : ℕ) (b : Bool) → n ≡ (if b then 1 else 0) → (n == 1) ≡ b
+read_from n b e = ap (λ (v : ℕ). v == 1) e ∙ is_bit b
+
 reads : (held : List (Option (List ℕ))) (at k : ℕ) → k < 8
     → (octet held at / 2 ^ (7 - k) % 2 == 1) ≡ is_held held (at + k)
 reads held at zero lt = let e : at + 0 ≡ at = omega arith in
-    rw e (ap (λ (n : ℕ). n == 1) (bit0 held at) ∙ is_bit (is_held held at))
-reads held at (suc zero) lt = (ap (λ (n : ℕ). n == 1) (bit1 held at) ∙ is_bit (is_held held (at + 1)))
-reads held at (suc (suc zero)) lt = (ap (λ (n : ℕ). n == 1) (bit2 held at) ∙ is_bit (is_held held (at + 2)))
-reads held at (suc (suc (suc zero))) lt = (ap (λ (n : ℕ). n == 1) (bit3 held at) ∙ is_bit (is_held held (at + 3)))
-reads held at (suc (suc (suc (suc zero)))) lt = (ap (λ (n : ℕ). n == 1) (bit4 held at) ∙ is_bit (is_held held (at + 4)))
+    rw e (read_from (octet held at / 128 % 2) (is_held held at) (digits held at).first)
+reads held at (suc zero) lt =
+    read_from (octet held at / 64 % 2) (is_held held (at + 1)) (digits held at).second
+reads held at (suc (suc zero)) lt =
+    read_from (octet held at / 32 % 2) (is_held held (at + 2)) (digits held at).third
+reads held at (suc (suc (suc zero))) lt =
+    read_from (octet held at / 16 % 2) (is_held held (at + 3)) (digits held at).fourth
+reads held at (suc (suc (suc (suc zero)))) lt =
+    read_from (octet held at / 8 % 2) (is_held held (at + 4)) (digits held at).fifth
 reads held at (suc (suc (suc (suc (suc zero))))) lt =
-    (ap (λ (n : ℕ). n == 1) (bit5 held at) ∙ is_bit (is_held held (at + 5)))
+    read_from (octet held at / 4 % 2) (is_held held (at + 5)) (digits held at).sixth
 reads held at (suc (suc (suc (suc (suc (suc zero)))))) lt =
-    (ap (λ (n : ℕ). n == 1) (bit6 held at) ∙ is_bit (is_held held (at + 6)))
-reads held at (suc (suc (suc (suc (suc (suc (suc zero))))))) lt = let e : octet held at / 1 ≡ octet held at =
-    omega arith in rw e (ap (λ (n : ℕ). n == 1) (bit7 held at) ∙ is_bit (is_held held (at + 7)))
+    read_from (octet held at / 2 % 2) (is_held held (at + 6)) (digits held at).seventh
+reads held at (suc (suc (suc (suc (suc (suc (suc zero))))))) lt =
+    read_from (octet held at / 1 % 2) (is_held held (at + 7)) (digits held at).last
 reads held at (suc (suc (suc (suc (suc (suc (suc (suc k)))))))) lt = absurd (omega arith)
 
 step : (held : List (Option (List ℕ))) (at n k : ℕ) (b : Bool) → nat_lt k 8 ≡ b

@@ -2,6 +2,7 @@ ghost use Rattle.std.specs.Prelude.{◌≡◌, ◌≤◌, ◌<◌, ◌^◌, ◌+
 ghost use Rattle.air_record.specs.Text.{texts_of};
 ghost use Rattle.pdu_show.specs.Show.{block_shown};
 ghost use Rattle.pdu_show.specs.Decoding.{Decodes, undecoded};
+ghost use Rattle.l2_bits.specs.declared.limits.TheConstants.{OCTETS_LIMIT};
 
 use crate::entry::{Head, read_entry};
 use crate::kinds::Kinds;
@@ -65,7 +66,7 @@ fn append_block(
     kinds: &Kinds,
     block: &[u8],
 ) -> Result<(), NoMemory>
-    requires { length block.now < 2 ^ 28 }
+    requires { length block.now < OCTETS_LIMIT }
     ensures { OnOk result (text.new ≡ text.old
         ++ texts_of (Record.Shown number direction (length block.now)
         ∷ block_shown direction kinds.now block.now)) }

@@ -3,6 +3,7 @@ ghost use Rattle.pdcp_pdu.specs.Pdus.{IsUserBits};
 ghost use Rattle.pdcp_pdu.specs.Reading.{user_at, srb_at};
 ghost use Rattle.pdu_show.specs.Kinds.{IsPdcp};
 ghost use Rattle.pdu_show.specs.Show.{user_shown, srb_shown, pdcp_shown};
+ghost use Rattle.l2_bits.specs.declared.limits.TheConstants.{OCTETS_LIMIT};
 
 use crate::spares::Spares;
 use air_text::Record;
@@ -11,7 +12,7 @@ use pdcp_pdu::{PdcpKind, User, read_srb, read_user};
 
 fn user(spares: &mut Spares, bits: u32, octets: &[u8]) -> Result<Record, NoMemory>
     requires bits { IsUserBits bits }
-    requires short { length octets.now < 2 ^ 28 }
+    requires short { length octets.now < OCTETS_LIMIT }
     ensures { IfOk result (λ one. one ≡ user_shown (user_at bits octets.now)) }
 {
     match read_user(bits, octets) {
@@ -28,7 +29,7 @@ fn user(spares: &mut Spares, bits: u32, octets: &[u8]) -> Result<Record, NoMemor
 }
 
 fn signalling(octets: &[u8]) -> Record
-    requires { length octets.now < 2 ^ 28 }
+    requires { length octets.now < OCTETS_LIMIT }
     ensures { result ≡ srb_shown (srb_at octets.now) }
 {
     match read_srb(octets) {
@@ -44,7 +45,7 @@ fn signalling(octets: &[u8]) -> Record
 /// Shows a PDCP PDU of fewer than 2^28 octets.
 pub fn show_pdcp(spares: &mut Spares, kind: PdcpKind, octets: &[u8]) -> Result<Record, NoMemory>
     requires kind { IsPdcp kind }
-    requires short { length octets.now < 2 ^ 28 }
+    requires short { length octets.now < OCTETS_LIMIT }
     ensures { IfOk result (λ one. one ≡ pdcp_shown kind octets.now) }
 {
     match kind {

@@ -7,6 +7,7 @@ ghost use Rattle.pdu_show.specs.Kinds.{IsLayout, IsPdcp};
 ghost use Rattle.pdu_show.specs.Show.{whole, whole_by, one_where, listed, begins, ends, pdcp_shown};
 ghost use Rattle.pdu_show.specs.Show.{wholes_shown, tm_shown, um_shown, amd_shown, am_shown};
 ghost use Rattle.pdu_show.specs.Show.{rlc_shown};
+ghost use Rattle.l2_bits.specs.declared.limits.TheConstants.{OCTETS_LIMIT};
 
 use crate::kinds::Layout;
 use crate::pdcp::show_pdcp;
@@ -44,7 +45,7 @@ fn nacks(spares: &mut Spares, entries: NackReader<'_>) -> Result<Nacks, NoMemory
 // Takes the next element, `None` after the last.
 fn take<'a>(elements: &mut Elements<'a>) -> Option<&'a [u8]>
     ensures rest { elements_of elements.old ≡ listed result (elements_of elements.new) }
-    ensures short { IfSome result (λ one. length one.now < 2 ^ 28) }
+    ensures short { IfSome result (λ one. length one.now < OCTETS_LIMIT) }
 {
     elements.next()
 }
@@ -65,7 +66,7 @@ fn show_one(
     element: &[u8],
 ) -> Result<(), NoMemory>
     requires kind { IsPdcp kind }
-    requires short { length element.now < 2 ^ 28 }
+    requires short { length element.now < OCTETS_LIMIT }
     ensures { OnOk result (records.new ≡ records.old
         ++ map (pdcp_shown kind) (one_where is_whole element.now)) }
 {
@@ -100,7 +101,7 @@ fn show_wholes(
 }
 
 fn show_tm(octets: &[u8]) -> Record
-    requires { length octets.now < 2 ^ 28 }
+    requires { length octets.now < OCTETS_LIMIT }
     ensures { result ∷ [] ≡ tm_shown octets.now }
 {
     if octets.is_empty() {
@@ -125,7 +126,7 @@ fn show_um(
 ) -> Result<(), NoMemory>
     requires bits { IsUmBits bits }
     requires kind { IsPdcp kind }
-    requires short { length octets.now < 2 ^ 28 }
+    requires short { length octets.now < OCTETS_LIMIT }
     ensures { OnOk result (records.new ≡ records.old ++ um_shown kind (umd_at bits octets.now)) }
 {
     match read_umd(bits, octets) {
@@ -178,7 +179,7 @@ fn show_am(
     octets: &[u8],
 ) -> Result<(), NoMemory>
     requires kind { IsPdcp kind }
-    requires short { length octets.now < 2 ^ 28 }
+    requires short { length octets.now < OCTETS_LIMIT }
     ensures { OnOk result (records.new ≡ records.old ++ am_shown kind (am_at octets.now)) }
 {
     match read_am(octets) {
@@ -201,7 +202,7 @@ pub fn show_rlc(
     octets: &[u8],
 ) -> Result<(), NoMemory>
     requires layout { IfSome layout IsLayout }
-    requires short { length octets.now < 2 ^ 28 }
+    requires short { length octets.now < OCTETS_LIMIT }
     ensures { OnOk result (records.new ≡ records.old ++ rlc_shown layout octets.now) }
 {
     match layout {

@@ -1,6 +1,7 @@
 ghost use Rattle.std.specs.Prelude.{◌≡◌, ◌<◌, ◌^◌, ◌++◌, IfOk, OnOk, length};
 ghost use Rattle.mac_pdu.specs.Views.{item_in, IsShort};
 ghost use Rattle.pdu_show.specs.Show.{item_shown, items_shown, block_shown};
+ghost use Rattle.l2_bits.specs.declared.limits.TheConstants.{OCTETS_LIMIT};
 
 use crate::kinds::Kinds;
 use crate::rlc::show_rlc;
@@ -48,7 +49,7 @@ pub fn show_onto(
     kinds: &Kinds,
     block: &[u8],
 ) -> Result<(), NoMemory>
-    requires { length block.now < 2 ^ 28 }
+    requires { length block.now < OCTETS_LIMIT }
     ensures { OnOk result (records.new ≡ records.old ++ block_shown direction kinds.now block.now) }
 {
     show_with(&mut Spares::new(alloc), records, direction, kinds, block)
@@ -62,7 +63,7 @@ pub(crate) fn show_with(
     kinds: &Kinds,
     block: &[u8],
 ) -> Result<(), NoMemory>
-    requires { length block.now < 2 ^ 28 }
+    requires { length block.now < OCTETS_LIMIT }
     ensures { OnOk result (records.new ≡ records.old ++ block_shown direction kinds.now block.now) }
 {
     match MacReader::parse(direction, block) {
@@ -83,7 +84,7 @@ pub fn show_block(
     kinds: &Kinds,
     block: &[u8],
 ) -> Result<Records, NoMemory>
-    requires { length block.now < 2 ^ 28 }
+    requires { length block.now < OCTETS_LIMIT }
     ensures { IfOk result (λ records. records ≡ block_shown direction kinds.now block.now) }
 {
     let mut records = Records::new(alloc);

@@ -7,6 +7,7 @@ use Rattle.l2_num.specs.Timers.{Clock, runs}
 use Rattle.rlc_am_rx_window.specs.declared.Missing.{Missing}
 use Rattle.rlc_am_rx_window.specs.Missing.{missing, entry_bits}
 use Rattle.rlc_am_rx.specs.State.{State}
+use Rattle.rlc_pdu.specs.declared.constants.TheConstants.{AM_MODULUS}
 
 abbrev pub is_running : Option Clock → Bool
 is_running None = false
@@ -18,7 +19,7 @@ may_write s = s.due && not (is_running s.prohibit)
 
 -- an entry, with the 10 bits of its number
 abbrev pub nack_of : Missing → Nack
-nack_of m = record { sn = m.number % 1024; part = m.part }
+nack_of m = record { sn = m.number % AM_MODULUS; part = m.part }
 
 -- all that may be said: of each number that isn't complete, from VR(R) on below VR(MS)
 abbrev pub listed : State → List Missing

@@ -11,6 +11,7 @@ ghost use Rattle.rlc_am_rx.specs.Machine.{landed, arrived, turned, after_reorder
 ghost use Rattle.rlc_am_rx.specs.Machine.{after_prohibit, prohibit_answer, reorder_ticked};
 ghost use Rattle.rlc_am_rx.specs.Machine.{prohibit_ticked, prohibit_ends, written, taken, finished};
 ghost use Rattle.rlc_am_rx.specs.Entity.{alive};
+ghost use Rattle.rlc_pdu.specs.declared.constants.TheConstants.{AM_MODULUS};
 
 use crate::receiver::Receiver;
 use l2_bits::{Bytes, NoMemory, Packets};
@@ -57,7 +58,7 @@ impl AmRx {
     /// field. Else it is `Kept`. A poll in a PDU that is dropped makes a STATUS due, but not in a
     /// `Clash`. Also told is what became of the reordering timer.
     pub fn arrive(&mut self, pdu: &Amd<'_>) -> Result<(Landed, Turned), NoMemory>
-        requires { pdu.now.sn < 1024 }
+        requires { pdu.now.sn < AM_MODULUS }
         ensures landed { IfOk result (λ r. r.0 ≡ landed self.old.state (amd_of pdu.now)) }
         ensures turned { IfOk result (λ r. r.1 ≡ turned self.old.state (amd_of pdu.now)) }
         ensures state { OnOk result (self.new ≡ alive (arrived self.old.state (amd_of pdu.now))) }
@@ -103,7 +104,7 @@ impl AmRx {
         requires due { IsTrue (may_write self.old.state) }
         requires size { 2 ≤ size }
         ensures bits { IfOk result (λ pdu. bits_of pdu
-            ≡ status_written (ack self.old.state size % 1024) (nacks self.old.state size)) }
+            ≡ status_written (ack self.old.state size % AM_MODULUS) (nacks self.old.state size)) }
         ensures size { IfOk result (λ pdu. length pdu ≡ status_size (nacks self.old.state size)) }
         ensures within { IfOk result (λ pdu. length pdu ≤ size) }
         ensures state { OnOk result (self.new ≡ alive (written self.old.state)) }

@@ -18,13 +18,14 @@ ghost use Rattle.rlc_am_rx.specs.Machine.{clock_begun, turned_by, landed, window
 ghost use Rattle.rlc_am_rx.specs.Machine.{settled, arrived, turned, after_reorder, reorder_answer};
 ghost use Rattle.rlc_am_rx.specs.Machine.{after_prohibit, prohibit_answer, reorder_ticked};
 ghost use Rattle.rlc_am_rx.specs.Machine.{prohibit_ticked, prohibit_ends, written, taken, finished};
+ghost use Rattle.rlc_pdu.specs.declared.constants.TheConstants.{AM_WINDOW_SIZE};
 
 use crate::report::{ack_behind, choose};
 use l2_bits::{Bytes, NoMemory, Packets};
 use l2_num::Timer;
 use l2_types::AmRxConfig;
 use rlc_am_rx_window::{Output, Window};
-use rlc_pdu::{Amd, Expired, Landed, Nacks, Turned, write_status};
+use rlc_pdu::{AM_MODULUS, Amd, Expired, Landed, Nacks, Turned, write_status};
 use std::alloc::Global;
 use std::marker::Model;
 
@@ -76,7 +77,7 @@ impl Receiver {
     }
 
     pub(crate) fn arrive(&mut self, pdu: &Amd<'_>) -> Result<(Landed, Turned), NoMemory>
-        requires { pdu.now.sn < 1024 }
+        requires { pdu.now.sn < AM_MODULUS }
         ensures landed { IfOk result (λ r. r.0 ≡ landed self.old (amd_of pdu.now)) }
         ensures turned { IfOk result (λ r. r.1 ≡ turned self.old (amd_of pdu.now)) }
         ensures state { OnOk result (self.new ≡ arrived self.old (amd_of pdu.now)) }
@@ -99,8 +100,8 @@ impl Receiver {
     }
 
     fn keep(&mut self, pdu: &Amd<'_>) -> Result<Turned, NoMemory>
-        requires sn { pdu.now.sn < 1024 }
-        requires within { offset_of self.old.window.front pdu.now.sn < 512 }
+        requires sn { pdu.now.sn < AM_MODULUS }
+        requires within { offset_of self.old.window.front pdu.now.sn < AM_WINDOW_SIZE }
         requires fits { end_of (piece_of (amd_of pdu.now)) ≤ 32767 }
         ensures state { OnOk result
             (self.new ≡ settled self.old (window_with self.old.window (amd_of pdu.now))
@@ -148,7 +149,7 @@ impl Receiver {
     pub(crate) fn write_status(&mut self, size: u32) -> Result<Bytes, NoMemory>
         requires { 2 ≤ size }
         ensures bits { IfOk result (λ pdu. bits_of pdu
-            ≡ status_written (ack self.old size % 1024) (nacks self.old size)) }
+            ≡ status_written (ack self.old size % AM_MODULUS) (nacks self.old size)) }
         ensures size { IfOk result (λ pdu. length pdu ≡ status_size (nacks self.old size)) }
         ensures within { IfOk result (λ pdu. length pdu ≤ size) }
         ensures state { OnOk result (self.new ≡ written self.old) }
@@ -157,7 +158,7 @@ impl Receiver {
         let mut nacks = Nacks::new(self.alloc);
         let count = choose(&all, size, &mut nacks)?;
         let ack = ack_behind(&all, count, self.bound);
-        let pdu = write_status(self.alloc, (ack % 1024) as u32, &nacks)?;
+        let pdu = write_status(self.alloc, (ack % AM_MODULUS) as u32, &nacks)?;
         self.due = false;
         begin(&mut self.prohibit);
         Ok(pdu)

@@ -8,7 +8,7 @@ ghost use Rattle.rlc_am_rx.specs.Status.{next_number, ack_behind};
 
 use l2_bits::NoMemory;
 use rlc_am_rx_window::Missing;
-use rlc_pdu::{Nack, Nacks};
+use rlc_pdu::{AM_MODULUS, Nack, Nacks};
 
 /// Adds the entries that fit into so many octets, and returns how many do.
 #[tactic(auto, using(crate::proofs::ReportLemmas::choosing))]
@@ -46,7 +46,7 @@ fn nack_of(missing: &Missing) -> Nack
     ensures sound { IsNack result }
 {
     Nack {
-        sn: (missing.number % 1024) as u32,
+        sn: (missing.number % AM_MODULUS) as u32,
         part: missing.part,
     }
 }

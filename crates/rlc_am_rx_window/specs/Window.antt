@@ -9,6 +9,7 @@ use Rattle.rlc_am_rx_window.specs.Cells.{leading, holds}
 use Rattle.rlc_am_rx_window.specs.Piece.{Piece, end_of}
 use Rattle.rlc_am_rx_window.specs.Held.{Held, nothing, with_piece, is_complete, has_end, clashes}
 use Rattle.rlc_am_rx_window.specs.Joined.{Joined, joined, broken}
+use Rattle.rlc_pdu.specs.declared.constants.TheConstants.{AM_MODULUS, AM_WINDOW_SIZE}
 
 -- front is VR(R); slots have what is held of each number from there on below VR(H); so many octets
 -- of the front's field were handed on
@@ -26,7 +27,7 @@ top w = w.front + length w.slots
 
 -- how far a number of 10 bits lies above the front
 abbrev pub offset_of : ℕ → ℕ → ℕ
-offset_of front sn = (sn + 1024 - front % 1024) % 1024
+offset_of front sn = (sn + AM_MODULUS - front % AM_MODULUS) % AM_MODULUS
 
 -- how many complete numbers stand first
 abbrev pub complete_first : List Held → ℕ
@@ -63,7 +64,7 @@ landing held p = if is_repeat held p then Repeat else if is_clash held p then Cl
 
 -- what comes of a piece of a number with these 10 bits (TS 36.322 5.1.3.2.2)
 abbrev pub landed : Kept → ℕ → Piece → Landed
-landed w sn p = if nat_le 512 (offset_of w.front sn) then Outside
+landed w sn p = if nat_le AM_WINDOW_SIZE (offset_of w.front sn) then Outside
     else landing (slice_get w.slots (offset_of w.front sn)) p
 
 -- a piece kept at a place

@@ -20,4 +20,4 @@ mod window;
 
 pub use missing::Missing;
 pub use output::Output;
-pub use window::{WINDOW, Window};
+pub use window::Window;

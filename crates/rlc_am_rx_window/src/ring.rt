@@ -10,6 +10,7 @@ ghost use Rattle.rlc_am_rx_window.specs.Window.{handed_on, complete_first, given
 ghost use Rattle.rlc_am_rx_window.specs.Window.{broken_unless};
 ghost use Rattle.rlc_am_rx_window.specs.Missing.{missing_of, missing_below, AreRanges};
 ghost use Rattle.rlc_am_rx_window.specs.Missing.{entries_bits};
+ghost use Rattle.rlc_pdu.specs.declared.constants.TheConstants.{AM_WINDOW_SIZE};
 
 use crate::missing::{self, Missing};
 use crate::output::Output;
@@ -188,7 +189,7 @@ fn add_missing_at(
 #[tactic(auto, using(crate::proofs::RingLemmas::bits_stop))]
 pub(crate) fn missing_bits(ring: &HeapCircularBuffer<Slot>, front: u64, bound: u64) -> u32
     requires fits { front + length ring.now.items < 2 ^ 64 }
-    requires few { length ring.now.items ≤ 512 }
+    requires few { length ring.now.items ≤ AM_WINDOW_SIZE }
     ensures value { result ≡ entries_bits (missing_below ring.now.items front bound) }
     ensures few { result ≤ 2 ^ 31 }
 {

@@ -14,12 +14,9 @@ use crate::ring;
 use crate::slot::Slot;
 use circular_buffer::HeapCircularBuffer;
 use l2_bits::NoMemory;
-use rlc_pdu::{Amd, Landed};
+use rlc_pdu::{AM_MODULUS, AM_WINDOW_SIZE, Amd, Landed};
 use std::alloc::Global;
 use std::marker::Model;
-
-/// How many numbers the window has (AM_Window_Size, TS 36.322 7.2).
-pub const WINDOW: usize = 512;
 
 /// From this number on the window takes no more.
 const LIMIT: u64 = 1 << 63;
@@ -34,6 +31,7 @@ pub struct Window {
 }
 
 impl Model for Window {
+    ghost use Rattle.rlc_pdu.specs.declared.constants.TheConstants.{AM_WINDOW_SIZE};
     ghost use Rattle.std.specs.Prelude.{◌≡◌, ◌≤◌, ◌+◌, ◌^◌, length};
     ghost use Rattle.rlc_am_rx_window.specs.Window.{Kept};
 
@@ -41,8 +39,9 @@ impl Model for Window {
 
     ghost view = { λ w. record { front = w.front; slots = w.ring.items; given = w.given } };
 
-    ghost invariant = { λ w. (w.ring.capacity ≡ 512) × (length w.ring.items ≤ 512)
-        × (w.front + length w.ring.items ≤ 2 ^ 63 + 512) };
+    ghost invariant = { λ w. (w.ring.capacity ≡ AM_WINDOW_SIZE)
+        × (length w.ring.items ≤ AM_WINDOW_SIZE)
+        × (w.front + length w.ring.items ≤ 2 ^ 63 + AM_WINDOW_SIZE) };
 }
 
 impl Window {
@@ -50,7 +49,7 @@ impl Window {
     pub fn new(alloc: Global) -> Result<Window, NoMemory>
         ensures { IfOk result (λ w. w ≡ no_numbers) }
     {
-        let ring = HeapCircularBuffer::with_capacity(alloc, WINDOW)?;
+        let ring = HeapCircularBuffer::with_capacity(alloc, AM_WINDOW_SIZE)?;
         Ok(Window {
             alloc,
             ring,
@@ -62,7 +61,7 @@ impl Window {
     /// VR(R), the first number that isn't complete.
     pub fn front(&self) -> u64
         ensures value { result ≡ self.now.front }
-        ensures below { result ≤ 2 ^ 63 + 512 }
+        ensures below { result ≤ 2 ^ 63 + AM_WINDOW_SIZE }
     {
         self.front
     }
@@ -70,28 +69,28 @@ impl Window {
     /// VR(H), one above the highest number of which an octet has arrived.
     pub fn top(&self) -> u64
         ensures value { result ≡ top self.now }
-        ensures below { result ≤ 2 ^ 63 + 512 }
+        ensures below { result ≤ 2 ^ 63 + AM_WINDOW_SIZE }
     {
         self.front + self.ring.len() as u64
     }
 
     /// How far a number of 10 bits lies above the front.
     pub fn offset(&self, sn: u32) -> usize
-        requires { sn < 1024 }
+        requires { sn < AM_MODULUS }
         ensures value { result ≡ offset_of self.now.front sn }
-        ensures below { result < 1024 }
+        ensures below { result < AM_MODULUS }
     {
-        ((sn as u64 + 1024 - self.front % 1024) % 1024) as usize
+        ((sn as u64 + AM_MODULUS - self.front % AM_MODULUS) % AM_MODULUS) as usize
     }
 
     /// What comes of a PDU: first `Outside`, then `Repeat`, then `Clash`, exactly where it is so;
     /// else `Kept`.
     pub fn landed(&self, pdu: &Amd<'_>) -> Landed
-        requires { pdu.now.sn < 1024 }
+        requires { pdu.now.sn < AM_MODULUS }
         ensures { result ≡ landed self.now pdu.now.sn (piece_of (amd_of pdu.now)) }
     {
         let at = self.offset(pdu.sn);
-        if WINDOW <= at {
+        if AM_WINDOW_SIZE <= at {
             return Landed::Outside;
         }
         match self.ring.get(at) {
@@ -103,7 +102,7 @@ impl Window {
     /// The first place at or above another whose number isn't complete.
     pub fn first_incomplete(&self, from: usize) -> usize
         ensures value { result ≡ first_incomplete self.now.slots from }
-        ensures within { result ≤ max from 512 }
+        ensures within { result ≤ max from AM_WINDOW_SIZE }
     {
         ring::first_incomplete(&self.ring, from)
     }
@@ -134,7 +133,7 @@ impl Window {
 
     /// Keeps a PDU at a place.
     pub fn keep(&mut self, at: usize, pdu: &Amd<'_>) -> Result<(), NoMemory>
-        requires at { at < 512 }
+        requires at { at < AM_WINDOW_SIZE }
         requires fits { end_of (piece_of (amd_of pdu.now)) ≤ 32767 }
         ensures { OnOk result
             (self.new ≡ with_kept self.old at (piece_of (amd_of pdu.now)) pdu.now.poll) }

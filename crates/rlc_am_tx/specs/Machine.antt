@@ -25,6 +25,7 @@ use Rattle.rlc_am_tx.specs.declared.answers.Heard.{Heard}
 use Rattle.rlc_am_tx.specs.declared.answers.Heard.TheVariants as hears
 use Rattle.rlc_am_tx.specs.declared.answers.PollExpired.{PollExpired}
 use Rattle.rlc_am_tx.specs.declared.answers.PollExpired.TheVariants as expires
+use Rattle.rlc_pdu.specs.declared.constants.TheConstants.{AM_MODULUS, AM_WINDOW_SIZE}
 
 -- a poll is owed by an expiry; PDU_WITHOUT_POLL, BYTE_WITHOUT_POLL, POLL_SN and t-PollRetransmit
 pub record Polls : Type 0 where
@@ -83,12 +84,12 @@ is_empty s = length s.queue.sdus == 0
 
 -- VT(S) = VT(A) + 512
 abbrev pub is_shut : State → Bool
-is_shut s = length s.window.slots == 512
+is_shut s = length s.window.slots == AM_WINDOW_SIZE
 
 -- HARQ holds a number so far back that a new one could be misread
 abbrev pub is_held : Option ℕ → ℕ → Bool
 is_held None n = false
-is_held (Some held) n = nat_le 512 n && nat_le held (n - 512)
+is_held (Some held) n = nat_le AM_WINDOW_SIZE n && nat_le held (n - AM_WINDOW_SIZE)
 
 -- the place of the first number that waits, and what is kept of it
 abbrev pub first_place : State → ℕ
@@ -307,7 +308,7 @@ read s below nacks = record s {
 -- the sequence number at which the limit comes, once, at a place above a number
 abbrev pub limit_in : Bool → ℕ → Option ℕ → Option ℕ
 limit_in failed base None = None
-limit_in failed base (Some at) = if failed then None else Some ((base + at) % 1024)
+limit_in failed base (Some at) = if failed then None else Some ((base + at) % AM_MODULUS)
 
 abbrev pub limit_of : State → ℕ → List Nack → Option ℕ
 limit_of s below nacks =

@@ -16,8 +16,8 @@ use crate::answers::{Heard, PollExpired};
 use crate::polls::Polling;
 use l2_bits::{Bytes, NoMemory};
 use l2_types::AmTxConfig;
-use rlc_am_tx_window::{Accounts, WINDOW, Window, is_named};
-use rlc_pdu::{NackReader, StatusRead};
+use rlc_am_tx_window::{Accounts, Window, is_named};
+use rlc_pdu::{AM_MODULUS, AM_WINDOW_SIZE, NackReader, StatusRead};
 use rlc_queue::{Queue, has_room};
 use std::alloc::Global;
 use std::marker::Model;
@@ -106,9 +106,9 @@ impl Sender {
 
     pub(crate) fn is_shut(&self) -> bool
         ensures value { result ≡ is_shut self.now }
-        ensures room { result ≡ false → length self.now.window.slots < 512 }
+        ensures room { result ≡ false → length self.now.window.slots < AM_WINDOW_SIZE }
     {
-        self.window.len() == WINDOW
+        self.window.len() == AM_WINDOW_SIZE
     }
 
     pub(crate) fn is_held(&self, held: Option<u64>) -> bool
@@ -148,7 +148,7 @@ impl Sender {
     }
 
     fn stops(&self, below: usize, nacks: NackReader<'_>) -> bool
-        requires { below < 1024 }
+        requires { below < AM_MODULUS }
         ensures { result ≡ stops self.now below (nacks_of nacks.entry) }
     {
         let base = self.window.base();
@@ -197,7 +197,7 @@ impl Sender {
     fn recalled_place(&self, more: bool) -> Option<usize>
         ensures value { result ≡ recalled_place self.now more }
         ensures within { IfSome result (λ at. at < length self.now.window.slots) }
-        ensures below { IfSome result (λ at. at < 1024) }
+        ensures below { IfSome result (λ at. at < AM_MODULUS) }
         ensures quiet { IfSome result (λ _. leading_idle self.now.window.slots
             ≡ length self.now.window.slots) }
     {
@@ -222,9 +222,9 @@ impl Sender {
 
     // The place, where it has reached the limit.
     fn spent_at(&self, place: Option<usize>) -> Option<usize>
-        requires { IfSome place (λ at. at < 1024) }
+        requires { IfSome place (λ at. at < AM_MODULUS) }
         ensures value { result ≡ spent_at place self.now }
-        ensures below { IfSome result (λ at. at < 1024) }
+        ensures below { IfSome result (λ at. at < AM_MODULUS) }
     {
         match place {
             Some(at) => {
@@ -336,8 +336,8 @@ impl Sender {
 
 // The sequence number at which the limit comes, at a place above a number.
 fn limit_in(failed: bool, base: u64, place: Option<usize>) -> Option<u32>
-    requires base { base ≤ 2 ^ 62 + 512 }
-    requires place { IfSome place (λ at. at < 1024) }
+    requires base { base ≤ 2 ^ 62 + AM_WINDOW_SIZE }
+    requires place { IfSome place (λ at. at < AM_MODULUS) }
     ensures { result ≡ limit_in failed base place }
 {
     match place {
@@ -345,7 +345,7 @@ fn limit_in(failed: bool, base: u64, place: Option<usize>) -> Option<u32>
             if failed {
                 None
             } else {
-                Some(((base + at as u64) % 1024) as u32)
+                Some(((base + at as u64) % AM_MODULUS) as u32)
             }
         }
         None => None,
@@ -386,5 +386,6 @@ fn new_need(wanted: u64, waiting: u64) -> u32
 fn is_held(held: u64, next: u64) -> bool
     ensures { result ≡ is_held (Some held) next }
 {
-    512 <= next && held <= next - 512
+    let window = AM_WINDOW_SIZE as u64;
+    window <= next && held <= next - window
 }

@@ -13,6 +13,7 @@ ghost use Rattle.rlc_am_tx.specs.Machine.{waits, again, resend_turn, new_turn, t
 ghost use Rattle.rlc_am_tx.specs.Machine.{IsAble, is_wanted, polled, sent_whole, sent_segment};
 ghost use Rattle.rlc_am_tx.specs.Machine.{whole_taken, part_taken, new_slot, sent_new, new_taken};
 ghost use Rattle.rlc_am_tx.specs.Machine.{after_take, answer};
+ghost use Rattle.rlc_pdu.specs.declared.constants.TheConstants.{AM_WINDOW_SIZE};
 
 use crate::sender::{HEAD, Sender};
 use crate::turn::Turn;
@@ -41,7 +42,7 @@ impl Sender {
     fn new_turn(&self, size: u32, held: Option<u64>) -> Turn
         ensures value { result ≡ new_turn self.now size held }
         ensures able { IsAble self.now size result }
-        ensures open { result ≡ turns.New → length self.now.window.slots < 512 }
+        ensures open { result ≡ turns.New → length self.now.window.slots < AM_WINDOW_SIZE }
     {
         if self.is_shut() {
             Turn::Shut
@@ -60,7 +61,7 @@ impl Sender {
     fn turn(&self, size: u32, held: Option<u64>, more: bool) -> Turn
         ensures value { result ≡ turn self.now size held more }
         ensures able { IsAble self.now size result }
-        ensures open { result ≡ turns.New → length self.now.window.slots < 512 }
+        ensures open { result ≡ turns.New → length self.now.window.slots < AM_WINDOW_SIZE }
     {
         let waits = self.waits();
         if !waits && self.queue.is_empty() && !more {
@@ -193,7 +194,7 @@ impl Sender {
     #[tactic(auto, using(crate::proofs::SendSteps::news))]
     fn add_new(&mut self, size: u32) -> Result<(), NoMemory>
         requires some { 0 < length self.old.queue.sdus }
-        requires open { length self.old.window.slots < 512 }
+        requires open { length self.old.window.slots < AM_WINDOW_SIZE }
         requires room { 3 ≤ size }
         requires short { size ≤ 9421 }
         ensures state { OnOk result (self.new ≡ sent_new self.old size) }
@@ -212,7 +213,7 @@ impl Sender {
     #[tactic(auto, using(crate::proofs::SendSteps::news))]
     fn send_new(&mut self, size: u32, more: bool) -> Result<Taken, NoMemory>
         requires some { 0 < length self.old.queue.sdus }
-        requires open { length self.old.window.slots < 512 }
+        requires open { length self.old.window.slots < AM_WINDOW_SIZE }
         requires room { 3 ≤ size }
         requires short { size ≤ 9421 }
         ensures state { OnOk result (self.new ≡ polled (sent_new self.old size) more) }

@@ -6,6 +6,7 @@ use Rattle.rlc_pdu.specs.declared.pdu.Nack.{Nack}
 use Rattle.rlc_am_tx_window.specs.Sent.{Sent, fresh, is_waiting, waiting_octets, is_spent}
 use Rattle.rlc_am_tx_window.specs.Sent.{with_name, considered, gets_acked, acknowledged}
 use Rattle.rlc_am_tx_window.specs.Ledger.{Ledger, credited_all}
+use Rattle.rlc_pdu.specs.declared.constants.TheConstants.{AM_MODULUS}
 
 -- VT(A), and what is kept of each number from there on
 pub record Kept : Type 0 where
@@ -27,7 +28,7 @@ with_slot w at h = record w { slots = slice_set w.slots at h }
 
 -- how far a sequence number of 10 bits lies above a number
 abbrev pub offset_of : ℕ → ℕ → ℕ
-offset_of base sn = (sn + 1024 - base % 1024) % 1024
+offset_of base sn = (sn + AM_MODULUS - base % AM_MODULUS) % AM_MODULUS
 
 -- ---- what waits to be resent
 

@@ -13,4 +13,4 @@ mod window;
 pub use ledger::Accounts;
 pub use ring::is_named;
 pub use slot::{Slot, Stretch};
-pub use window::{WINDOW, Window};
+pub use window::Window;

@@ -12,13 +12,14 @@ ghost use Rattle.rlc_am_tx_window.specs.Window.{waiting_in, last_open, named_one
 ghost use Rattle.rlc_am_tx_window.specs.Window.{is_named, acked_from, credited_one, credited_from};
 ghost use Rattle.rlc_am_tx_window.specs.Window.{considered_one, considered_all, least, or_spent};
 ghost use Rattle.rlc_am_tx_window.specs.Window.{spent_among, leading_acked};
+ghost use Rattle.rlc_pdu.specs.declared.constants.TheConstants.{AM_WINDOW_SIZE};
 
 use crate::ledger::Accounts;
 use crate::numbers::Numbers;
 use crate::slot::Slot;
 use circular_buffer::HeapCircularBuffer;
 use l2_bits::NoMemory;
-use rlc_pdu::{Nack, NackReader};
+use rlc_pdu::{AM_MODULUS, Nack, NackReader};
 
 /// A ring of PDUs.
 pub(crate) type Ring = HeapCircularBuffer<Slot>;
@@ -26,9 +27,9 @@ pub(crate) type Ring = HeapCircularBuffer<Slot>;
 /// How far a sequence number of 10 bits lies above a number.
 pub(crate) fn offset(base: u64, sn: u32) -> usize
     ensures value { result ≡ offset_of base sn }
-    ensures below { result < 1024 }
+    ensures below { result < AM_MODULUS }
 {
-    ((u64::from(sn) + 1024 - base % 1024) % 1024) as usize
+    ((u64::from(sn) + AM_MODULUS - base % AM_MODULUS) % AM_MODULUS) as usize
 }
 
 /// Whether an entry has the number of a place.
@@ -46,7 +47,7 @@ pub fn is_named(base: u64, at: usize, nacks: NackReader<'_>) -> bool
 
 /// How many octets wait to be resent.
 pub(crate) fn waiting_octets(ring: &Ring) -> u64
-    requires { length ring.now.items ≤ 512 }
+    requires { length ring.now.items ≤ AM_WINDOW_SIZE }
     ensures value { result ≡ waiting_in ring.now.items }
     ensures below { result ≤ 2 ^ 32 }
 {
@@ -432,10 +433,10 @@ fn is_spent_within(ring: &Ring, at: usize, most: u32) -> bool
 }
 
 fn least(found: Option<usize>, at: usize) -> Option<usize>
-    requires at { at < 1024 }
-    requires found { IfSome found (λ k. k < 1024) }
+    requires at { at < AM_MODULUS }
+    requires found { IfSome found (λ k. k < AM_MODULUS) }
     ensures value { result ≡ least found at }
-    ensures below { IfSome result (λ k. k < 1024) }
+    ensures below { IfSome result (λ k. k < AM_MODULUS) }
 {
     match found {
         Some(found) => Some(found.min(at)),
@@ -444,9 +445,9 @@ fn least(found: Option<usize>, at: usize) -> Option<usize>
 }
 
 fn or_spent(ring: &Ring, base: u64, most: u32, found: Option<usize>, nack: Nack) -> Option<usize>
-    requires { IfSome found (λ k. k < 1024) }
+    requires { IfSome found (λ k. k < AM_MODULUS) }
     ensures value { result ≡ or_spent base most ring.now.items found nack }
-    ensures below { IfSome result (λ k. k < 1024) }
+    ensures below { IfSome result (λ k. k < AM_MODULUS) }
 {
     let at = offset(base, nack.sn);
     if is_spent_at(ring, at, most) {
@@ -459,7 +460,7 @@ fn or_spent(ring: &Ring, base: u64, most: u32, found: Option<usize>, nack: Nack)
 /// The place of the least number named whose RETX_COUNT has reached the limit.
 pub(crate) fn spent_among(ring: &Ring, base: u64, nacks: NackReader<'_>, most: u32) -> Option<usize>
     ensures value { result ≡ spent_among base most ring.now.items None (nacks_of nacks.entry) }
-    ensures below { IfSome result (λ k. k < 1024) }
+    ensures below { IfSome result (λ k. k < AM_MODULUS) }
 {
     let mut found = None;
     let mut rest = nacks;

@@ -17,7 +17,7 @@ ghost use Rattle.rlc_am_tx_window.specs.Written.{begins_at, ends_at, whole_octet
 
 use crate::cut::{clip, clip_count, cut, is_cut, total};
 use l2_bits::{Bytes, NoMemory};
-use rlc_pdu::{Intervals, Part, Segment, write_amd};
+use rlc_pdu::{AM_MODULUS, Intervals, Part, Segment, write_amd};
 use rlc_queue::framing;
 use std::alloc::Global;
 use std::marker::Model;
@@ -274,7 +274,7 @@ impl Slot {
         ensures value { IfOk result (λ pdu. pdu ≡ whole_octets self.now number poll) }
         ensures len { IfOk result (λ pdu. length pdu ≡ whole_size self.now) }
     {
-        let sn = (number % 1024) as u32;
+        let sn = (number % AM_MODULUS) as u32;
         let fi = framing(self.begins, self.ends);
         written(alloc, sn, poll, fi, None, &self.lens, self.field.as_slice())
     }
@@ -291,7 +291,7 @@ impl Slot {
         ensures value { IfOk result (λ pdu. pdu ≡ part_octets self.now number poll stretch.now) }
         ensures len { IfOk result (λ pdu. length pdu ≡ stretch_size stretch.now) }
     {
-        let sn = (number % 1024) as u32;
+        let sn = (number % AM_MODULUS) as u32;
         let fi = framing(self.begins_at(stretch.from), self.ends_at(stretch.to));
         let segment = Segment {
             last: stretch.to == self.size(),

@@ -7,6 +7,7 @@ ghost use Rattle.rlc_am_tx_window.specs.Window.{next, slot_at, with_slot, offset
 ghost use Rattle.rlc_am_tx_window.specs.Window.{waiting_in, last_open, named_all, acked_from};
 ghost use Rattle.rlc_am_tx_window.specs.Window.{credited_from, considered_all, spent_among};
 ghost use Rattle.rlc_am_tx_window.specs.Window.{advanced};
+ghost use Rattle.rlc_pdu.specs.declared.constants.TheConstants.{AM_MODULUS};
 
 use crate::ledger::Accounts;
 use crate::numbers::Numbers;
@@ -14,12 +15,9 @@ use crate::ring;
 use crate::slot::Slot;
 use circular_buffer::HeapCircularBuffer;
 use l2_bits::NoMemory;
-use rlc_pdu::NackReader;
+use rlc_pdu::{AM_WINDOW_SIZE, NackReader};
 use std::alloc::Global;
 use std::marker::Model;
-
-/// How many numbers the window has (AM_Window_Size, TS 36.322 7.2).
-pub const WINDOW: usize = 512;
 
 // From this number on the window takes nothing more.
 const LIMIT: u64 = 1 << 62;
@@ -34,6 +32,7 @@ pub struct Window {
 }
 
 impl Model for Window {
+    ghost use Rattle.rlc_pdu.specs.declared.constants.TheConstants.{AM_WINDOW_SIZE};
     ghost use Rattle.std.specs.Prelude.{◌≡◌, ◌≤◌, ◌+◌, ◌^◌, length};
     ghost use Rattle.rlc_am_tx_window.specs.Window.{Kept, waiting_from};
 
@@ -41,8 +40,9 @@ impl Model for Window {
 
     ghost view = { λ w. record { base = w.base; slots = w.ring.items } };
 
-    ghost invariant = { λ w. (w.ring.capacity ≡ 512) × (length w.ring.items ≤ 512)
-        × (w.base + length w.ring.items ≤ 2 ^ 62 + 512)
+    ghost invariant = { λ w. (w.ring.capacity ≡ AM_WINDOW_SIZE)
+        × (length w.ring.items ≤ AM_WINDOW_SIZE)
+        × (w.base + length w.ring.items ≤ 2 ^ 62 + AM_WINDOW_SIZE)
         × (w.waiting ≡ waiting_from w.base w.ring.items) };
 }
 
@@ -53,7 +53,7 @@ impl Window {
     pub fn new(alloc: Global) -> Result<Window, NoMemory>
         ensures { IfOk result (λ w. w ≡ record { base = 0; slots = [] }) }
     {
-        let ring = HeapCircularBuffer::with_capacity(alloc, WINDOW)?;
+        let ring = HeapCircularBuffer::with_capacity(alloc, AM_WINDOW_SIZE)?;
         Ok(Window {
             ring,
             base: 0,
@@ -64,7 +64,7 @@ impl Window {
     /// VT(A).
     pub fn base(&self) -> u64
         ensures value { result ≡ self.now.base }
-        ensures below { result ≤ 2 ^ 62 + 512 }
+        ensures below { result ≤ 2 ^ 62 + AM_WINDOW_SIZE }
     {
         self.base
     }
@@ -72,7 +72,7 @@ impl Window {
     /// VT(S).
     pub fn next(&self) -> u64
         ensures value { result ≡ next self.now }
-        ensures below { result ≤ 2 ^ 62 + 512 }
+        ensures below { result ≤ 2 ^ 62 + AM_WINDOW_SIZE }
     {
         self.base + self.ring.len() as u64
     }
@@ -80,7 +80,7 @@ impl Window {
     /// How many numbers lie from VT(A) below VT(S).
     pub fn len(&self) -> usize
         ensures value { result ≡ length self.now.slots }
-        ensures below { result ≤ 512 }
+        ensures below { result ≤ AM_WINDOW_SIZE }
     {
         self.ring.len()
     }
@@ -95,7 +95,7 @@ impl Window {
     /// How far a sequence number lies above VT(A).
     pub fn offset(&self, sn: u32) -> usize
         ensures value { result ≡ offset_of self.now.base sn }
-        ensures below { result < 1024 }
+        ensures below { result < AM_MODULUS }
     {
         ring::offset(self.base, sn)
     }
@@ -105,7 +105,7 @@ impl Window {
     pub fn first_waiting(&self) -> usize
         ensures value { result ≡ leading_idle self.now.slots }
         ensures within { result ≤ length self.now.slots }
-        ensures below { result ≤ 512 }
+        ensures below { result ≤ AM_WINDOW_SIZE }
     {
         match self.waiting.first() {
             Some(number) => number.saturating_sub(self.base) as usize,
@@ -125,7 +125,7 @@ impl Window {
     pub fn last_open(&self) -> Option<usize>
         ensures value { result ≡ last_open 0 None self.now.slots }
         ensures within { IfSome result (λ at. at < length self.now.slots) }
-        ensures below { IfSome result (λ at. at < 1024) }
+        ensures below { IfSome result (λ at. at < AM_MODULUS) }
     {
         ring::last_open(&self.ring)
     }
@@ -139,7 +139,7 @@ impl Window {
 
     /// Adds a PDU with the number VT(S), of which no octet waits.
     pub fn add(&mut self, slot: Slot) -> Result<(), NoMemory>
-        requires room { length self.old.slots < 512 }
+        requires room { length self.old.slots < AM_WINDOW_SIZE }
         requires idle { is_waiting slot ≡ false }
         ensures { OnOk result (self.new ≡ record self.old { slots = self.old.slots ++ slot ∷ [] }) }
     {
@@ -222,7 +222,7 @@ impl Window {
     pub fn spent_among(&self, nacks: NackReader<'_>, most: u32) -> Option<usize>
         ensures value { result ≡ spent_among self.now.base most self.now.slots None
             (nacks_of nacks.entry) }
-        ensures below { IfSome result (λ at. at < 1024) }
+        ensures below { IfSome result (λ at. at < AM_MODULUS) }
     {
         ring::spent_among(&self.ring, self.base, nacks, most)
     }

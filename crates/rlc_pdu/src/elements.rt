@@ -3,6 +3,7 @@ ghost use Rattle.std.specs.Prelude.{MatchOption, option_map, is_some, true, fals
 ghost use Rattle.std.specs.Prelude.{if◌then◌else◌, ◌==◌};
 ghost use Rattle.rlc_pdu.specs.Units.{li_of, more_of, unit_at, field_at, or_zero, scanned, past_in};
 ghost use Rattle.rlc_pdu.specs.Units.{is_sound, elements_in, units as units_of};
+ghost use Rattle.l2_bits.specs.declared.limits.TheConstants.{OCTETS_LIMIT};
 
 /// The elements of a data PDU that haven't been taken.
 #[derive(Clone, Copy)]
@@ -16,7 +17,7 @@ pub struct Elements<'a> {
     /// What is left of the data field; nothing after the last element.
     field: &'a [u8],
     ghost sound: { is_sound odd more units.now field.now ≡ true },
-    ghost short: { length field.now < 2 ^ 28 },
+    ghost short: { length field.now < OCTETS_LIMIT },
 }
 
 impl<'a> Elements<'a> {
@@ -25,7 +26,7 @@ impl<'a> Elements<'a> {
     // The elements of a field, by units that are whole and leave something of it to each.
     pub(crate) fn of(more: bool, units: &'a [u8], field: &'a [u8]) -> Elements<'a>
         requires sound { is_sound false more units.now field.now ≡ true }
-        requires short { length field.now < 2 ^ 28 }
+        requires short { length field.now < OCTETS_LIMIT }
         ensures { elements_of result ≡ elements_in false more units.now field.now }
     {
         Elements {
@@ -41,7 +42,7 @@ impl<'a> Elements<'a> {
         ensures element { MatchOption result ((elements_of self.old ≡ [])
             × (elements_of self.new ≡ [])) (λ one. elements_of self.old
             ≡ one.now ∷ elements_of self.new) }
-        ensures short { IfSome result (λ one. length one.now < 2 ^ 28) }
+        ensures short { IfSome result (λ one. length one.now < OCTETS_LIMIT) }
     {
         if self.field.is_empty() {
             return None;

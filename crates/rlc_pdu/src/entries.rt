@@ -6,6 +6,7 @@ ghost use Rattle.rlc_pdu.specs.Pdus.{IsWide};
 ghost use Rattle.rlc_pdu.specs.Status.{nack_size};
 ghost use Rattle.rlc_pdu.specs.Entries.{part_at, nack_at, ack_at, entries, is_backwards, or_place};
 ghost use Rattle.rlc_pdu.specs.Entries.{gone_through};
+ghost use Rattle.l2_bits.specs.declared.limits.TheConstants.{OCTETS_LIMIT};
 
 use crate::pdu::{Nack, Part};
 use l2_bits::field;
@@ -20,7 +21,7 @@ pub struct NackReader<'a> {
     more: bool,
     ghost sound: { is_some (entries 0 more (drop at (bits_of octets.now))) ≡ true },
     ghost within: { at ≤ 8 * length octets.now },
-    ghost short: { length octets.now < 2 ^ 28 },
+    ghost short: { length octets.now < OCTETS_LIMIT },
 }
 
 impl<'a> NackReader<'a> {
@@ -30,7 +31,7 @@ impl<'a> NackReader<'a> {
     pub(crate) fn from(octets: &'a [u8], at: usize, more: bool) -> NackReader<'a>
         requires sound { is_some (entries 0 more (drop at (bits_of octets.now))) ≡ true }
         requires within { at ≤ 8 * length octets.now }
-        requires short { length octets.now < 2 ^ 28 }
+        requires short { length octets.now < OCTETS_LIMIT }
         ensures octets { result.octets.now ≡ octets.now }
         ensures at { result.at ≡ at }
         ensures more { result.more ≡ more }
@@ -71,7 +72,7 @@ pub(crate) struct Found {
 fn take(octets: &[u8], at: usize, n: u32) -> Option<u32>
     requires few { n ≤ 32 }
     requires within { at ≤ 8 * length octets.now }
-    requires short { length octets.now < 2 ^ 28 }
+    requires short { length octets.now < OCTETS_LIMIT }
     ensures read { option_map (λ v. (v, drop (at + n) (bits_of octets.now))) result
         ≡ take_field n (drop at (bits_of octets.now)) }
     ensures below { IfSome result (λ v. v < 2 ^ n) }
@@ -87,7 +88,7 @@ fn take(octets: &[u8], at: usize, n: u32) -> Option<u32>
 #[tactic(auto, unfolding(crate::specs::Entries::part_at))]
 fn part(has: bool, octets: &[u8], at: usize) -> Option<(Option<Part>, usize)>
     requires within { at ≤ 8 * length octets.now }
-    requires short { length octets.now < 2 ^ 28 }
+    requires short { length octets.now < OCTETS_LIMIT }
     ensures read { option_map (λ x. (x.0, drop x.1 (bits_of octets.now))) result
         ≡ part_at has (drop at (bits_of octets.now)) }
     ensures wide { IfSome result (λ x. IfSome x.0 (λ p. (p.start < 2 ^ 15) × (p.end < 2 ^ 15))) }
@@ -107,7 +108,7 @@ fn part(has: bool, octets: &[u8], at: usize) -> Option<(Option<Part>, usize)>
 #[tactic(auto, unfolding(crate::specs::Entries::nack_at))]
 fn entry(octets: &[u8], at: usize) -> Option<Found>
     requires within { at ≤ 8 * length octets.now }
-    requires short { length octets.now < 2 ^ 28 }
+    requires short { length octets.now < OCTETS_LIMIT }
     ensures read { option_map (λ e. ((e.nack, e.more), drop e.next (bits_of octets.now))) result
         ≡ nack_at (drop at (bits_of octets.now)) }
     ensures wide { IfSome result (λ e. IsWide e.nack) }
@@ -131,7 +132,7 @@ fn entry(octets: &[u8], at: usize) -> Option<Found>
 #[tactic(auto, unfolding(crate::specs::Entries::ack_at))]
 pub(crate) fn ack(octets: &[u8], at: usize) -> Option<(u32, bool)>
     requires within { at ≤ 8 * length octets.now }
-    requires short { length octets.now < 2 ^ 28 }
+    requires short { length octets.now < OCTETS_LIMIT }
     ensures read { option_map (λ x. (x, drop (at + 10 + 1) (bits_of octets.now))) result
         ≡ ack_at (drop at (bits_of octets.now)) }
     ensures below { IfSome result (λ x. x.0 < 2 ^ 10) }
@@ -169,7 +170,7 @@ fn first_backwards(found: Option<usize>, at: usize, nack: Nack) -> Option<usize>
 // The first SOstart above its SOend, and the bit behind the entries; nothing where they are cut.
 pub(crate) fn go_through(octets: &[u8], at: usize, more: bool) -> Option<(Option<usize>, usize)>
     requires within { at ≤ 8 * length octets.now }
-    requires short { length octets.now < 2 ^ 28 }
+    requires short { length octets.now < OCTETS_LIMIT }
     ensures read { result ≡ gone_through None at (entries 0 more (drop at (bits_of octets.now))) }
     ensures bounds { IfSome result (λ x. (IfSome x.0 (λ b. b ≤ 8 * length octets.now))
         × (x.1 ≤ 8 * length octets.now)) }

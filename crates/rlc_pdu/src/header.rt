@@ -5,6 +5,7 @@ ghost use Rattle.rlc_pdu.specs.Units.{units as units_of};
 ghost use Rattle.rlc_pdu.specs.Refusals.{umd_front, amd_front, short_front, long_front};
 ghost use Rattle.rlc_pdu.specs.Reading.{elements_at};
 ghost use Rattle.rlc_pdu.specs.Views.{elements_of, front_of, IsHeader};
+ghost use Rattle.l2_bits.specs.declared.limits.TheConstants.{OCTETS_LIMIT};
 
 use crate::elements::{Elements, first_past, scan};
 use crate::fault::{RlcRefusal, RlcWhy};
@@ -115,7 +116,7 @@ pub(crate) fn elements_behind<'a>(
     header: &Header<'a>,
 ) -> Result<Elements<'a>, RlcRefusal>
     requires whole { header.now.size + length header.now.units.now ≡ total }
-    requires short { total < 2 ^ 28 }
+    requires short { total < OCTETS_LIMIT }
     ensures { MatchResult result
         (λ e. elements_at total header.now.size
         (units_of false header.now.more header.now.units.now) ≡ Ok (elements_of e))

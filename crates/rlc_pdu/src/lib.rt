@@ -2,6 +2,7 @@
 //! STATUS PDUs.
 #![tactic(auto)]
 
+mod constants;
 mod elements;
 mod entries;
 mod fault;
@@ -14,6 +15,7 @@ mod reading;
 mod status;
 mod writing;
 
+pub use constants::{AM_MODULUS, AM_WINDOW_SIZE};
 pub use elements::Elements;
 pub use entries::NackReader;
 pub use fault::{RlcRefusal, RlcWhy};

@@ -5,6 +5,7 @@ ghost use Rattle.rlc_pdu.specs.Grammar.{IsUmdPdu, IsAmPdu};
 ghost use Rattle.rlc_pdu.specs.Refusals.{umd_refusal, am_refusal};
 ghost use Rattle.rlc_pdu.specs.Reading.{umd_at, amd_at, control_at, am_at};
 ghost use Rattle.rlc_pdu.specs.Views.{umd_of, amd_of, status_of, am_of, HasRanges};
+ghost use Rattle.l2_bits.specs.declared.limits.TheConstants.{OCTETS_LIMIT};
 
 use crate::entries::{NackReader, ack, go_through};
 use crate::fault::{RlcRefusal, RlcWhy};
@@ -13,7 +14,7 @@ use crate::pdu::{AmPdu, Amd, StatusRead, Umd};
 
 fn umd_of_octets(bits: u32, from: &[u8]) -> Result<Umd<'_>, RlcRefusal>
     requires bits { IsUmBits bits }
-    requires short { length from.now < 2 ^ 28 }
+    requires short { length from.now < OCTETS_LIMIT }
     ensures exact { MatchResult result (λ umd. umd_at bits from.now ≡ Ok (umd_of umd))
         (λ e. umd_at bits from.now ≡ Err e) }
     ensures number { IfOk result (λ umd. umd.sn < 2 ^ bits) }
@@ -32,7 +33,7 @@ fn umd_of_octets(bits: u32, from: &[u8]) -> Result<Umd<'_>, RlcRefusal>
 
 // An AMD PDU or a segment, D/C being 1.
 fn amd_of_octets(from: &[u8]) -> Result<Amd<'_>, RlcRefusal>
-    requires { length from.now < 2 ^ 28 }
+    requires { length from.now < OCTETS_LIMIT }
     ensures exact { MatchResult result (λ amd. amd_at from.now ≡ Ok (amd_of amd))
         (λ e. amd_at from.now ≡ Err e) }
     ensures number { IfOk result (λ amd. amd.sn < 2 ^ 10) }
@@ -56,7 +57,7 @@ fn amd_of_octets(from: &[u8]) -> Result<Amd<'_>, RlcRefusal>
 /// Reserved bits and padding are passed over. It takes no memory.
 pub fn read_umd(bits: u32, from: &[u8]) -> Result<Umd<'_>, RlcRefusal>
     requires bits { IsUmBits bits }
-    requires short { length from.now < 2 ^ 28 }
+    requires short { length from.now < OCTETS_LIMIT }
     ensures found { IfOk result (λ umd. IsUmdPdu bits (umd_of umd) from.now) }
     ensures only { (pdu : UmdPdu) → IsUmdPdu bits pdu from.now
         → IsOkAnd result (λ umd. umd_of umd ≡ pdu) }
@@ -73,7 +74,7 @@ pub fn read_umd(bits: u32, from: &[u8]) -> Result<Umd<'_>, RlcRefusal>
 // A control PDU of one octet or more, D/C being 0.
 fn status_of_octets(from: &[u8]) -> Result<StatusRead<'_>, RlcRefusal>
     requires some { 1 ≤ length from.now }
-    requires short { length from.now < 2 ^ 28 }
+    requires short { length from.now < OCTETS_LIMIT }
     ensures exact { MatchResult result (λ status. control_at (slice_index from.now 0) from.now
         ≡ Ok (status_of status)) (λ e. control_at (slice_index from.now 0) from.now ≡ Err e) }
     ensures number { IfOk result (λ status. status.ack < 2 ^ 10) }
@@ -99,7 +100,7 @@ fn status_of_octets(from: &[u8]) -> Result<StatusRead<'_>, RlcRefusal>
 }
 
 fn am_of_octets(from: &[u8]) -> Result<AmPdu<'_>, RlcRefusal>
-    requires { length from.now < 2 ^ 28 }
+    requires { length from.now < OCTETS_LIMIT }
     ensures exact { MatchResult result (λ pdu. am_at from.now ≡ Ok (am_of pdu))
         (λ e. am_at from.now ≡ Err e) }
     ensures ranges { IfOk result HasRanges }
@@ -118,7 +119,7 @@ fn am_of_octets(from: &[u8]) -> Result<AmPdu<'_>, RlcRefusal>
 /// Reads a PDU of an acknowledged bearer, of fewer than 2^28 octets: an AMD PDU, a segment of one,
 /// or a STATUS PDU (TS 36.322 6.2.1.4 to 6.2.1.6). Padding is passed over. It takes no memory.
 pub fn read_am(from: &[u8]) -> Result<AmPdu<'_>, RlcRefusal>
-    requires { length from.now < 2 ^ 28 }
+    requires { length from.now < OCTETS_LIMIT }
     ensures found { IfOk result (λ pdu. IsAmPdu (am_of pdu) from.now) }
     ensures only { (pdu : AcknowledgedPdu) → IsAmPdu pdu from.now
         → IsOkAnd result (λ read. am_of read ≡ pdu) }

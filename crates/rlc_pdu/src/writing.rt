@@ -4,6 +4,7 @@ ghost use Rattle.rlc_pdu.specs.Pdus.{IsUmBits, AreLens, IsSegment, but_last};
 ghost use Rattle.rlc_pdu.specs.Units.{follows, pair_octets, units_octets, AreLis};
 ghost use Rattle.rlc_pdu.specs.Grammar.{has_units, body_octets};
 ghost use Rattle.rlc_pdu.specs.Writing.{umd_written, amd_written};
+ghost use Rattle.l2_bits.specs.declared.limits.TheConstants.{OCTETS_LIMIT};
 
 use crate::pdu::Segment;
 use l2_bits::{Bytes, NoMemory};
@@ -66,7 +67,7 @@ fn but_last(lens: &[u32]) -> &[u32]
 // A data PDU of the fixed part of its header and of what follows it.
 fn behind(alloc: Global, fixed: &[u8], lens: &[u32], field: &[u8]) -> Result<Bytes, NoMemory>
     requires lens { AreLens lens.now }
-    requires short { length fixed.now < 2 ^ 28 }
+    requires short { length fixed.now < OCTETS_LIMIT }
     ensures { IfOk result (λ pdu. pdu ≡ fixed.now ++ body_octets 0 lens.now field.now) }
 {
     let lis = but_last(lens);

@@ -5,6 +5,7 @@ ghost use Rattle.std.specs.List.{concat, sum};
 ghost use Rattle.rlc_pdu.specs.Pdus.{AreLens};
 ghost use Rattle.rlc_pdu.specs.Writing.{header_len};
 ghost use Rattle.rlc_queue.specs.NewPdu.{room, elements, rest, partial, fits_more, framing, ended};
+ghost use Rattle.rlc_queue.specs.NewPdu.{filling, IsFilled, IsFuller};
 
 use crate::queue::Queue;
 use l2_bits::{Bytes, NoMemory};
@@ -111,16 +112,8 @@ fn fill(
 ) -> Result<(), NoMemory>
     requires head { head ≤ 2 }
     requires size { size < 2 ^ 32 }
-    ensures lens { OnOk result (lens.new.items ≡ lens.old.items
-        ++ map length (elements head size (length lens.old.items) (length field.old)
-        queue.old.sdus)) }
-    ensures field { OnOk result (field.new ≡ field.old
-        ++ concat (elements head size (length lens.old.items) (length field.old) queue.old.sdus)) }
-    ensures sdus { OnOk result (queue.new.sdus
-        ≡ rest head size (length lens.old.items) (length field.old) queue.old.sdus) }
-    ensures begun { OnOk result (queue.new.begun
-        ≡ partial head size (length lens.old.items) (length field.old) queue.old.begun
-        queue.old.sdus) }
+    ensures { OnOk result (IsFilled head size (filling lens.old.items field.old queue.old)
+        (filling lens.new.items field.new queue.new)) }
 {
     'elements: while add_element(queue, head, size, lens, field)? {}
     Ok(())
@@ -137,26 +130,9 @@ fn add_element(
 ) -> Result<bool, NoMemory>
     requires head { head ≤ 2 }
     requires size { size < 2 ^ 32 }
-    ensures lens { IfOk result
-        (λ more. (if more then lens.new.items
-        ++ map length (elements head size (length lens.new.items) (length field.new) queue.new.sdus)
-        else lens.new.items) ≡ lens.old.items
-        ++ map length (elements head size (length lens.old.items) (length field.old)
-        queue.old.sdus)) }
-    ensures field { IfOk result
-        (λ more. (if more then field.new
-        ++ concat (elements head size (length lens.new.items) (length field.new) queue.new.sdus)
-        else field.new) ≡ field.old
-        ++ concat (elements head size (length lens.old.items) (length field.old) queue.old.sdus)) }
-    ensures sdus { IfOk result
-        (λ more. (if more then rest head size (length lens.new.items) (length field.new)
-        queue.new.sdus else queue.new.sdus)
-        ≡ rest head size (length lens.old.items) (length field.old) queue.old.sdus) }
-    ensures begun { IfOk result
-        (λ more. (if more then partial head size (length lens.new.items) (length field.new)
-        queue.new.begun queue.new.sdus else queue.new.begun)
-        ≡ partial head size (length lens.old.items) (length field.old) queue.old.begun
-        queue.old.sdus) }
+    ensures element { IfOk result (λ more. IsFuller head size more
+        (filling lens.old.items field.old queue.old)
+        (filling lens.new.items field.new queue.new)) }
     ensures fewer { IfOk result (λ more. more ≡ true
         → length queue.new.sdus < length queue.old.sdus) }
 {

@@ -11,7 +11,7 @@ ghost use Rattle.rlc_um.specs.Receiver.{expired};
 
 use crate::joiner::Joiner;
 use crate::stored::Stored;
-use crate::window::Slots;
+use crate::window::{Slots, WIDEST};
 use l2_bits::{Bytes, NoMemory, Packets};
 use l2_num::Timer;
 use rlc_pdu::{Expired, Landed, Turned, Umd};
@@ -44,7 +44,7 @@ impl Model for Receiver {
 impl Receiver {
     pub(crate) fn new(alloc: Global, width: usize, reorder: u32) -> Result<Receiver, NoMemory>
         requires low { 0 < width }
-        requires high { width ≤ 512 }
+        requires high { width ≤ WIDEST }
         ensures { IfOk result (λ r. r ≡ start width reorder) }
     {
         Ok(Receiver {

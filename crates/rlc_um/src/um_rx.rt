@@ -8,6 +8,7 @@ ghost use Rattle.rlc_um.specs.Receiver.{start, alive, landing, turning, arrival,
 ghost use Rattle.rlc_um.specs.Receiver.{counted, handed, all_joined};
 
 use crate::receiver::Receiver;
+use crate::window::WIDEST;
 use l2_bits::{Bytes, NoMemory, Packets};
 use rlc_pdu::{Expired, Landed, Turned, Umd};
 use std::alloc::Global;
@@ -127,7 +128,7 @@ impl UmRx {
 pub(crate) fn width(bits: u32) -> u32
     ensures value { result ≡ width_of bits }
     ensures low { 0 < result }
-    ensures high { result ≤ 512 }
+    ensures high { result ≤ WIDEST }
 {
-    if bits == 5 { 16 } else { 512 }
+    if bits == 5 { 16 } else { WIDEST as u32 }
 }

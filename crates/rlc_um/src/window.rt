@@ -13,6 +13,9 @@ use l2_num::ahead;
 use std::alloc::Global;
 use std::marker::Model;
 
+/// The most numbers of a window: UM_Window_Size of numbers of 10 bits (TS 36.322 7.2).
+pub(crate) const WIDEST: usize = 512;
+
 // From this number on the window takes nothing more.
 const LIMIT: u64 = 1 << 63;
 
@@ -25,22 +28,23 @@ pub struct Slots {
 }
 
 impl Model for Slots {
-    ghost use Rattle.std.specs.Prelude.{◌≡◌, ◌<◌, ◌≤◌, ◌+◌, ◌^◌, length};
+    ghost use Rattle.std.specs.Prelude.{◌≡◌, ◌<◌, ◌≤◌, ◌+◌, ◌*◌, ◌^◌, length};
     ghost use Rattle.rlc_um.specs.Window.{Window};
+    ghost use Rattle.rlc_um.specs.declared.window.TheConstants.{WIDEST};
 
     ghost Value = { Window };
 
     ghost view = { λ w. record { width = w.width; edge = w.edge; slots = w.ring.items } };
 
-    ghost invariant = { λ w. (0 < w.width) × (w.width ≤ 512) × (w.ring.capacity ≡ w.width)
-        × (length w.ring.items ≤ w.width) × (w.edge + length w.ring.items ≤ 2 ^ 63 + 1024) };
+    ghost invariant = { λ w. (0 < w.width) × (w.width ≤ WIDEST) × (w.ring.capacity ≡ w.width)
+        × (length w.ring.items ≤ w.width) × (w.edge + length w.ring.items ≤ 2 ^ 63 + 2 * WIDEST) };
 }
 
 impl Slots {
     /// No number is received yet.
     pub fn new(alloc: Global, width: usize) -> Result<Slots, NoMemory>
         requires low { 0 < width }
-        requires high { width ≤ 512 }
+        requires high { width ≤ WIDEST }
         ensures { IfOk result (λ w. w ≡ record { width = width; edge = 2 * width; slots = [] }) }
     {
         let ring = HeapCircularBuffer::with_capacity(alloc, width)?;
@@ -54,7 +58,7 @@ impl Slots {
     /// VR(UR).
     pub fn edge(&self) -> u64
         ensures value { result ≡ self.now.edge }
-        ensures below { result ≤ 2 ^ 63 + 1024 }
+        ensures below { result ≤ 2 ^ 63 + 2 * WIDEST }
     {
         self.edge
     }
@@ -62,7 +66,7 @@ impl Slots {
     /// VR(UH).
     pub fn top(&self) -> u64
         ensures value { result ≡ top_of self.now }
-        ensures below { result ≤ 2 ^ 63 + 1024 }
+        ensures below { result ≤ 2 ^ 63 + 2 * WIDEST }
     {
         self.edge + self.ring.len() as u64
     }

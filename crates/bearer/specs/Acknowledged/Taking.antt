@@ -20,6 +20,7 @@ use Rattle.bearer_pdcp.specs.Taking.{taken, taking_told, after_taking as after_p
 use Rattle.bearer_pdcp.specs.Telling.{pdus_of}
 use Rattle.bearer.specs.Acknowledged.State.{State, has_more, Work, work, with_work}
 use Rattle.bearer.specs.Acknowledged.Reports.{status_octets}
+use Rattle.rlc_pdu.specs.declared.constants.TheConstants.{AM_MODULUS}
 
 -- ---- the STATUS: it is written where it is due, may be sent, and 2 octets fit behind 3 for its
 -- subheader
@@ -28,7 +29,7 @@ abbrev pub writes_status : Receiver → ℕ → Bool
 writes_status r share = may_write r && nat_le 5 share
 
 abbrev pub status_pdu : Receiver → ℕ → List ℕ
-status_pdu r share = status_octets (ack r (share - 3) % 1024) (nacks r (share - 3))
+status_pdu r share = status_octets (ack r (share - 3) % AM_MODULUS) (nacks r (share - 3))
 
 abbrev pub status_pdus : Receiver → ℕ → List (List ℕ)
 status_pdus r share = if writes_status r share then status_pdu r share ∷ [] else []
@@ -39,7 +40,8 @@ prohibit_told lcid has = if has then events.Start lcid Prohibit ∷ [] else []
 
 abbrev pub status_told : ℕ → Bool → Receiver → ℕ → List Event
 status_told lcid has r share = if writes_status r share
-    then events.Send lcid how.Status (ack r (share - 3) % 1024) ∷ prohibit_told lcid has else []
+    then events.Send lcid how.Status (ack r (share - 3) % AM_MODULUS)
+    ∷ prohibit_told lcid has else []
 
 abbrev pub has_prohibit : State → Bool
 has_prohibit s = is_some s.rx_config.prohibit
@@ -76,7 +78,7 @@ poll_told lcid polled = if polled then events.Start lcid Poll ∷ [] else []
 
 abbrev pub data_told : ℕ → Taken → List Event
 data_told lcid (Piece number first polled octets) =
-    events.Send lcid (how_of first) (number % 1024) ∷ poll_told lcid polled
+    events.Send lcid (how_of first) (number % AM_MODULUS) ∷ poll_told lcid polled
 data_told lcid Idle = []
 data_told lcid Small = events.Wait lcid waits.Small ∷ []
 data_told lcid Shut = events.Wait lcid waits.Shut ∷ []

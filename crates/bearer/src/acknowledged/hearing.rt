@@ -7,6 +7,8 @@ ghost use Rattle.bearer.specs.Acknowledged.Hearing.{settled_work, hears, hears_a
 ghost use Rattle.bearer.specs.Acknowledged.Hearing.{land_work, land_left, confirms, all_confirmed};
 ghost use Rattle.bearer.specs.Acknowledged.Hearing.{status_work, heard_status, arriving};
 ghost use Rattle.bearer.specs.Acknowledged.Hearing.{after_arrival};
+ghost use Rattle.l2_bits.specs.declared.limits.TheConstants.{OCTETS_LIMIT};
+ghost use Rattle.rlc_pdu.specs.declared.constants.TheConstants.{AM_MODULUS};
 
 use crate::acknowledged::running::AmBearer;
 use bearer_pdcp::{Pdcp, tell_landed};
@@ -22,7 +24,7 @@ impl AmBearer {
     /// A PDU arrives, and what comes of it is told.
     #[tactic(auto, unfolding(crate::specs::Acknowledged::Hearing::arriving, crate::specs::Acknowledged::Hearing::after_arrival))]
     pub fn arrive(&mut self, pdu: &[u8]) -> Result<Events, NoMemory>
-        requires { length pdu.now < 2 ^ 28 }
+        requires { length pdu.now < OCTETS_LIMIT }
         ensures told { IfOk result (λ events. events ≡ arriving self.old pdu.now) }
         ensures state { OnOk result (self.new ≡ after_arrival self.old pdu.now) }
     {
@@ -39,7 +41,7 @@ impl AmBearer {
     }
 
     fn land(&mut self, amd: &Amd<'_>) -> Result<Events, NoMemory>
-        requires { amd.now.sn < 1024 }
+        requires { amd.now.sn < AM_MODULUS }
         ensures told { IfOk result (λ events. events ≡ (land_work (amd_of amd.now) self.old).events) }
         ensures state { OnOk result (self.new ≡ land_left (amd_of amd.now) self.old) }
     {

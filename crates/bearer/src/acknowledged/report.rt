@@ -6,6 +6,8 @@ ghost use Rattle.l2_bits.specs.Bits.{bits_of, number};
 ghost use Rattle.rlc_am_rx.specs.Status.{may_write, ack, nacks};
 ghost use Rattle.rlc_am_rx.specs.Machine.{written};
 ghost use Rattle.bearer.specs.Acknowledged.Reports.{octets_in, status_octets};
+ghost use Rattle.l2_bits.specs.declared.limits.TheConstants.{OCTETS_LIMIT};
+ghost use Rattle.rlc_pdu.specs.declared.constants.TheConstants.{AM_MODULUS};
 
 use l2_bits::{Bytes, NoMemory, field};
 use rlc_am_rx::AmRx;
@@ -17,8 +19,8 @@ pub(crate) fn write_status(rx: &mut AmRx, size: u32) -> Result<(Bytes, u32), NoM
     requires low { 2 ≤ size }
     requires high { size ≤ 9421 }
     ensures pdu { IfOk result
-        (λ r. r.0 ≡ status_octets (ack rx.old.state size % 1024) (nacks rx.old.state size)) }
-    ensures ack { IfOk result (λ r. r.1 ≡ ack rx.old.state size % 1024) }
+        (λ r. r.0 ≡ status_octets (ack rx.old.state size % AM_MODULUS) (nacks rx.old.state size)) }
+    ensures ack { IfOk result (λ r. r.1 ≡ ack rx.old.state size % AM_MODULUS) }
     ensures some { IfOk result (λ r. 1 ≤ length r.0) }
     ensures within { IfOk result (λ r. length r.0 ≤ size) }
     ensures state { OnOk result (rx.new.state ≡ written rx.old.state) }
@@ -32,7 +34,7 @@ pub(crate) fn write_status(rx: &mut AmRx, size: u32) -> Result<(Bytes, u32), NoM
 // the bits write.
 fn ack_of(pdu: &[u8]) -> u32
     requires some { 2 ≤ length pdu.now }
-    requires few { length pdu.now < 2 ^ 28 }
+    requires few { length pdu.now < OCTETS_LIMIT }
     ensures value { result ≡ number (take 10 (drop 4 (bits_of pdu.now))) }
     ensures octets { pdu.now ≡ octets_in (length pdu.now) (bits_of pdu.now) }
 {

@@ -16,7 +16,7 @@ use bearer_pdcp::{Written, tell_wait};
 use bearer_types::{Event, Events};
 use l2_bits::{NoMemory, Packets};
 use l2_types::{Clock, GREATEST_GRANT, How, Waits};
-use rlc_pdu::Taken;
+use rlc_pdu::{AM_MODULUS, Taken};
 
 impl AmBearer {
     /// Writes within a share of a grant, of at most 9424 octets: a STATUS that is due, and then at
@@ -126,10 +126,10 @@ fn tell_piece(
     events: &mut Events,
 ) -> Result<(), NoMemory>
     ensures { OnOk result (events.new ≡ events.old
-        ++ events_of.Send lcid (how_of fresh) (number % 1024) ∷ poll_told lcid polled) }
+        ++ events_of.Send lcid (how_of fresh) (number % AM_MODULUS) ∷ poll_told lcid polled) }
 {
     let how = if fresh { How::New } else { How::Re };
-    let sn = (number % 1024) as u32;
+    let sn = (number % AM_MODULUS) as u32;
     events.push(Event::Send { lcid, how, sn })?;
     if polled {
         events.push(Event::Start {

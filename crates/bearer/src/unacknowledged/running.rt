@@ -19,6 +19,7 @@ ghost use Rattle.bearer.specs.Unacknowledged.Hearing.{after_arrival, up_left, up
 ghost use Rattle.bearer.specs.Unacknowledged.Hearing.{after_expiry, expiry_told, expiry_left};
 ghost use Rattle.bearer.specs.Unacknowledged.Hearing.{told_of, ticking, after_ticking};
 ghost use Rattle.bearer.specs.Unacknowledged.Lives.{stopped, stopping};
+ghost use Rattle.l2_bits.specs.declared.limits.TheConstants.{OCTETS_LIMIT};
 
 use crate::unacknowledged::feeding::feed;
 use crate::unacknowledged::stopped::StoppedUm;
@@ -189,7 +190,7 @@ impl UmBearer {
     /// A PDU arrives, and what comes of it is told.
     #[tactic(auto, unfolding(crate::specs::Unacknowledged::Hearing::arriving, crate::specs::Unacknowledged::Hearing::after_arrival))]
     pub fn arrive(&mut self, pdu: &[u8]) -> Result<Events, NoMemory>
-        requires { length pdu.now < 2 ^ 28 }
+        requires { length pdu.now < OCTETS_LIMIT }
         ensures told { IfOk result (λ events. events ≡ arriving self.old pdu.now) }
         ensures state { OnOk result (self.new ≡ after_arrival self.old pdu.now) }
     {

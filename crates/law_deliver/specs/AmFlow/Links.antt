@@ -16,6 +16,7 @@ use Rattle.l2_node.specs.End.{End}
 use Rattle.l2_types.specs.declared.side.Side.TheVariants.{Nb, Ue}
 use Rattle.law_node.specs.Holding.{flow}
 use Rattle.law_deliver.specs.AmFlow.Air.{Air, Step, goes, outset, AreGiven, Begins}
+use Rattle.rlc_pdu.specs.declared.constants.TheConstants.{AM_WINDOW_SIZE}
 
 -- on a channel, from an end to another: RLC's sender at the one and RLC's receiver at the other are
 -- those of a flow, which has come so by steps that keep what is asked of them
@@ -49,7 +50,7 @@ pub record AreOrdered (tx : Sender) (rx : Receiver) : Type 0 where
   pub bound : rx.window.front ≤ rx.bound
   pub highest : rx.bound ≤ top rx.window
   pub sent : top rx.window ≤ next tx.window
-  pub window : next tx.window ≤ tx.window.base + 512
+  pub window : next tx.window ≤ tx.window.base + AM_WINDOW_SIZE
 
 abbrev pub NumbersAreOrdered : Type 0
 NumbersAreOrdered = (l : ℕ) (nb ue : End) (b d : State) (steps : List Step) → Begins Nb l nb b

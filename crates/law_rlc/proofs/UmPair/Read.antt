@@ -1,9 +1,10 @@
 -- The number that a sequence number is read as, in both windows.
-use Rattle.std.proofs.Common.{◌<◌, ◌≤◌, ℕ, arith, List, Option}
+use Rattle.std.proofs.Common.{◌<◌, ◌≤◌, ◌^◌, ℕ, arith, List, Option, subst, sym, inl, inr}
 use Rattle.rlc_um.specs.Joined.{Parts}
-use Rattle.law_rlc.specs.UmPair.Read.{IsRead}
+use Rattle.rlc_um.specs.Sender.{width_of}
+use Rattle.law_rlc.specs.UmPair.Read.{IsRead, ReadsNumbers}
 
-pub short-read : (edge : ℕ) (slots : List (Option Parts)) (sn : ℕ) → 32 ≤ edge → sn < 32
+short-read : (edge : ℕ) (slots : List (Option Parts)) (sn : ℕ) → 32 ≤ edge → sn < 32
     → IsRead (record { width = 16; edge = edge; slots = slots }) sn
 short-read edge slots sn h g = record {
   same = omega arith;
@@ -12,7 +13,7 @@ short-read edge slots sn h g = record {
   only = λ n a b c. omega arith;
 }
 
-pub long-read : (edge : ℕ) (slots : List (Option Parts)) (sn : ℕ) → 1024 ≤ edge → sn < 1024
+long-read : (edge : ℕ) (slots : List (Option Parts)) (sn : ℕ) → 1024 ≤ edge → sn < 1024
     → IsRead (record { width = 512; edge = edge; slots = slots }) sn
 long-read edge slots sn h g = record {
   same = omega arith;
@@ -20,3 +21,11 @@ long-read edge slots sn h g = record {
   below = omega arith;
   only = λ n a b c. omega arith;
 }
+
+pub reads_numbers : ReadsNumbers
+reads_numbers bits edge sn slots (inl e) =
+    subst (λ (b : ℕ). 2 ^ b ≤ edge → sn < 2 ^ b
+    → IsRead (record { width = width_of b; edge = edge; slots = slots }) sn) (sym e) (short-read edge slots sn)
+reads_numbers bits edge sn slots (inr e) =
+    subst (λ (b : ℕ). 2 ^ b ≤ edge → sn < 2 ^ b
+    → IsRead (record { width = width_of b; edge = edge; slots = slots }) sn) (sym e) (long-read edge slots sn)

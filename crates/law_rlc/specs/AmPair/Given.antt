@@ -15,6 +15,7 @@ use Rattle.law_rlc.specs.AmReceiver.Run.{ExpireProhibit, TickReorder, TickProhib
 use Rattle.law_rlc.specs.AmPair.Flow.{Copy, Report, Flow, Step, Sends, Receives, Reports, DataComes}
 use Rattle.law_rlc.specs.AmPair.Flow.{StatusComes, DataGoes, StatusGoes, Passes, sender, receiver}
 use Rattle.law_rlc.specs.AmPair.Flow.{is_new, happens}
+use Rattle.rlc_pdu.specs.declared.constants.TheConstants.{AM_MODULUS}
 
 -- no data PDU under way has a number below the one that `take` is told
 abbrev pub IsHeld : Option ℕ → Copy → Type 0
@@ -52,7 +53,7 @@ IsReceiving TickProhibit = Unit {0}
 -- the octets of a STATUS are what the receiver writes
 pub record IsReporting (f : Flow) (size : ℕ) (octets : List ℕ) : Type 0 where
   pub bytes : (i : ℕ) → slice_index octets i < 256
-  pub bits : bits_of octets ≡ status_written (ack (receiver f).state size % 1024)
+  pub bits : bits_of octets ≡ status_written (ack (receiver f).state size % AM_MODULUS)
       (nacks (receiver f).state size)
 
 -- a STATUS is under way for fewer TTIs after the one in which it was written: a block is sent at

@@ -10,6 +10,7 @@ use Rattle.law_rlc.specs.AmSender.Octets.{sent_with}
 use Rattle.law_rlc.specs.AmReceiver.Run.{told, has_come}
 use Rattle.law_rlc.specs.AmPair.Flow.{Flow, Step, sender, receiver, goes, outset}
 use Rattle.law_rlc.specs.AmPair.Given.{AreGiven}
+use Rattle.rlc_pdu.specs.declared.constants.TheConstants.{AM_WINDOW_SIZE}
 
 -- VT(A) ≤ VR(R) ≤ VR(MS) ≤ VR(H) ≤ VT(S) ≤ VT(A) + 512
 pub record IsOrdered (f : Flow) : Type 0 where
@@ -17,7 +18,7 @@ pub record IsOrdered (f : Flow) : Type 0 where
   pub bound : (receiver f).state.window.front ≤ (receiver f).state.bound
   pub highest : (receiver f).state.bound ≤ top (receiver f).state.window
   pub sent : top (receiver f).state.window ≤ next (sender f).state.window
-  pub window : next (sender f).state.window ≤ (sender f).state.window.base + 512
+  pub window : next (sender f).state.window ≤ (sender f).state.window.base + AM_WINDOW_SIZE
 
 abbrev pub KeepsOrder : Type 0
 KeepsOrder = (sending : AmTxConfig) (receiving : AmRxConfig) (steps : List Step)

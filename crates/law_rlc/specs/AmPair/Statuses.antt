@@ -11,10 +11,11 @@ use Rattle.rlc_am_rx.specs.Status.{nack_of}
 use Rattle.law_rlc.specs.AmReceiver.Status.{has_entry}
 use Rattle.law_rlc.specs.AmPair.Flow.{Report, Step, sender, goes, outset}
 use Rattle.law_rlc.specs.AmPair.Given.{AreGiven}
+use Rattle.rlc_pdu.specs.declared.constants.TheConstants.{AM_MODULUS}
 
 -- the ACK and the entries with 10 bits of their numbers
 abbrev pub reduced : Report → StatusPdu
-reduced r = record { ack = r.ack % 1024; nacks = map nack_of r.entries }
+reduced r = record { ack = r.ack % AM_MODULUS; nacks = map nack_of r.entries }
 
 -- its octets are read as what it was written with; it is ignored exactly where its ACK lies below
 -- VT(A), else its ACK_SN stands for its ACK, and each NACK_SN for the number of its entry

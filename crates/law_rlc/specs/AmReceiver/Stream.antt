@@ -12,6 +12,7 @@ use Rattle.rlc_am_rx.specs.State.{State, fresh}
 use Rattle.rlc_am_rx.specs.Machine.{landed}
 use Rattle.law_rlc.specs.AmReceiver.Run.{Call, Arrive, Up, Write, ExpireReorder, ExpireProhibit}
 use Rattle.law_rlc.specs.AmReceiver.Run.{TickReorder, TickProhibit, state_after}
+use Rattle.rlc_pdu.specs.declared.constants.TheConstants.{AM_MODULUS, AM_WINDOW_SIZE}
 
 -- a field has 1 to 32767 octets, and where an SDU ends inside it the next begins
 pub record IsField (cells : List Cell) : Type 0 where
@@ -30,9 +31,9 @@ pub record IsPart (cells : List Cell) (p : Piece) : Type 0 where
 
 -- a PDU carries a part of the field of a number that is less than 512 away from VR(R)
 pub record IsSent (field : ℕ → List Cell) (s : State) (p : AmdPdu) (n : ℕ) : Type 0 where
-  pub sn : p.sn ≡ n % 1024
-  pub from : s.window.front ≤ n + 512
-  pub below : n < s.window.front + 512
+  pub sn : p.sn ≡ n % AM_MODULUS
+  pub from : s.window.front ≤ n + AM_WINDOW_SIZE
+  pub below : n < s.window.front + AM_WINDOW_SIZE
   pub part : IsPart (field n) (piece_of p)
 
 abbrev pub IsHonest : (ℕ → List Cell) → State → Call → Type 0

@@ -8,6 +8,7 @@ use Rattle.rlc_am_tx_window.specs.Window.{next, offset_of, is_named}
 use Rattle.rlc_am_tx.specs.Machine.{State, is_ignored}
 use Rattle.law_rlc.specs.AmSender.Run.{Call, Offer, Take, Status, Tick, Expire, Settle, Confirm}
 use Rattle.law_rlc.specs.AmSender.Run.{World, run, begun}
+use Rattle.rlc_pdu.specs.declared.constants.TheConstants.{AM_WINDOW_SIZE}
 
 -- a STATUS acknowledges the numbers below its ACK_SN that it doesn't name
 abbrev pub acks : ℕ → ℕ → List Nack → ℕ → Bool
@@ -33,7 +34,7 @@ acked_after s Confirm acked = acked
 pub record IsLeast (w : World (ℕ → Bool)) : Type 0 where
   pub below : (n : ℕ) → n < w.state.window.base → w.past n ≡ true
   pub here : w.past w.state.window.base ≡ false
-  pub window : next w.state.window ≤ w.state.window.base + 512
+  pub window : next w.state.window ≤ w.state.window.base + AM_WINDOW_SIZE
 
 abbrev pub BaseIsLeast : Type 0
 BaseIsLeast = (config : AmTxConfig) (calls : List Call)

@@ -12,6 +12,7 @@ use Rattle.rlc_am_tx.specs.declared.PollExpired.TheVariants as expires
 use Rattle.rlc_am_tx.specs.Machine.{turn, heard, expiry}
 use Rattle.law_rlc.specs.AmSender.Run.{Call, Status, Expire, World, run, begun}
 use Rattle.law_rlc.specs.AmSender.Namings.{Marks, unmarked, marks_after}
+use Rattle.rlc_pdu.specs.declared.constants.TheConstants.{AM_MODULUS}
 
 -- no number has had more counted namings than the limit
 abbrev pub AreFew : (ℕ → ℕ) → ℕ → Type 0
@@ -20,7 +21,7 @@ AreFew namings most = (n : ℕ) → namings n ≤ most
 -- the least number with one counted naming more than the limit has a sequence number
 pub record IsReached (sn : ℕ) (namings : ℕ → ℕ) (most : ℕ) : Type 0 where
   pub number : ℕ
-  pub is : sn ≡ number % 1024
+  pub is : sn ≡ number % AM_MODULUS
   pub reached : namings number ≡ most + 1
   pub least : (n : ℕ) → n < number → namings n ≤ most
 

@@ -18,6 +18,7 @@ use Rattle.law_rlc.specs.AmSender.Run.{Call, Offer, Take, Status, Tick, Expire, 
 use Rattle.law_rlc.specs.AmSender.Run.{run, begun}
 use Rattle.law_rlc.specs.AmSender.Namings.{Marks, unmarked, marks_after}
 use Rattle.law_rlc.specs.AmSender.Polled.{poll_of}
+use Rattle.rlc_pdu.specs.declared.constants.TheConstants.{AM_MODULUS}
 
 -- an octet of an SDU, and whether the SDU begins and ends with it
 pub record Place : Type 0 where
@@ -50,7 +51,7 @@ lengths n (p ∷ ps) = if p.ends then (n + 1) ∷ lengths 0 ps else lengths (n +
 -- and the LIs the lengths of all elements but the last
 abbrev pub written : ℕ → Bool → Option Segment → List Place → List ℕ
 written number poll segment ps =
-    amd_written (number % 1024) poll (framing (first_begins ps) (last_ends ps)) segment
+    amd_written (number % AM_MODULUS) poll (framing (first_begins ps) (last_ends ps)) segment
     (lengths 0 ps) (map (λ (p : Place). p.octet) ps)
 
 -- octets from a place below another of a data field of so many: SO tells where they begin, and LSF

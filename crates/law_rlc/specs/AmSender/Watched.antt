@@ -8,6 +8,7 @@ use Rattle.rlc_am_tx.specs.Machine.{State, start, waits, is_quiet, settled as se
 use Rattle.law_rlc.specs.AmSender.Run.{Call, Offer, Take, Status, Tick, Expire, Settle, Confirm}
 use Rattle.law_rlc.specs.AmSender.Run.{after}
 use Rattle.law_rlc.specs.AmSender.Namings.{names}
+use Rattle.rlc_pdu.specs.declared.constants.TheConstants.{AM_WINDOW_SIZE}
 
 -- a STATUS as a receiver writes it, however late it comes: each number in the window that it names
 -- lies below its ACK_SN, and it names an octet of it unless it is acknowledged
@@ -43,7 +44,7 @@ state_after (c ∷ cs) s = state_after cs (after s c)
 -- POLL_SN isn't below VT(A); and once `settle` was called, it runs wherever something isn't
 -- acknowledged, nothing waits, and nothing is left to send or to take or the window is shut
 pub record IsWatched (s : State) : Type 0 where
-  pub shut : s.failed ≡ false → length s.window.slots ≡ 512 → waits s ≡ false
+  pub shut : s.failed ≡ false → length s.window.slots ≡ AM_WINDOW_SIZE → waits s ≡ false
       → (runs s.polls.timer ≡ true) × (s.window.base ≤ s.polls.poll_number)
   pub settled : (more : Bool) → s.failed ≡ false → 0 < length s.window.slots
       → is_quiet s more ≡ true → runs (settled_state s more).polls.timer ≡ true

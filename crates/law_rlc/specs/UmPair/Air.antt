@@ -2,12 +2,13 @@
 -- the top (TS 36.322 5.1.2).
 use Rattle.std.specs.Prelude.{◌≡◌, ℕ, ◌+◌, ◌*◌, ◌<◌, ◌≤◌, List, [], ◌∷◌, ◌++◌, Some, None}
 use Rattle.std.specs.Prelude.{slice_get, slice_index_or}
-use Rattle.rlc_pdu.specs.Pdus.{UmdPdu}
+use Rattle.rlc_pdu.specs.Pdus.{UmdPdu, IsUmBits}
 use Rattle.rlc_um.specs.Joined.{Parts}
 use Rattle.rlc_um.specs.Receiver.{all_joined}
+use Rattle.rlc_um.specs.Sender.{width_of}
 use Rattle.law_rlc.specs.UmPair.Run.{Call, Arrive, Expire, Tick, Up, World, happens, found}
-use Rattle.law_rlc.specs.UmPair.Run.{read_number}
-use Rattle.law_rlc.specs.UmPair.Send.{Flow, carried}
+use Rattle.law_rlc.specs.UmPair.Run.{read_number, run, fresh}
+use Rattle.law_rlc.specs.UmPair.Send.{Step, Flow, flow, at_first, carried}
 use Rattle.law_rlc.specs.UmPair.Loss.{IsSome}
 
 -- what arrives is the PDU of a number that was made, and this number lies in the window around the
@@ -40,3 +41,18 @@ pub record IsDelivered (width : ℕ) (f : Flow) (w : World) : Type 0 where
 abbrev pub IsReadTruly : List UmdPdu → ℕ → World → UmdPdu → Type 0
 IsReadTruly made width w pdu = (s : IsSent made width w pdu)
     → read_number pdu w ≡ 2 * width + s.number
+
+-- whatever is offered and taken, and whatever arrives of it
+abbrev pub GoUpInOrder : Type 0
+GoUpInOrder = (bits reorder : ℕ) (steps : List Step) (calls : List Call) → IsUmBits bits
+    → AreSent (flow steps (at_first bits)).made (width_of bits) calls
+    (fresh (width_of bits) reorder)
+    → IsDelivered (width_of bits) (flow steps (at_first bits))
+    (run calls (fresh (width_of bits) reorder))
+
+abbrev pub ReadsTrueNumbers : Type 0
+ReadsTrueNumbers = (bits reorder : ℕ) (steps : List Step) (calls : List Call) → IsUmBits bits
+    → AreSent (flow steps (at_first bits)).made (width_of bits) calls
+    (fresh (width_of bits) reorder) → (pdu : UmdPdu)
+    → IsReadTruly (flow steps (at_first bits)).made (width_of bits)
+    (run calls (fresh (width_of bits) reorder)) pdu
