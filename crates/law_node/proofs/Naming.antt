@@ -64,9 +64,9 @@ use Rattle.law_node.specs.Blocks.{pdus_by, sdus_by, all_sdus}
 use Rattle.law_node.specs.Calls.{Call, AreGiven, reached}
 use Rattle.law_node.specs.Holding.{flow}
 use Rattle.law_node.specs.Names.{mode, modes_of}
-use Rattle.promises.specs.Names.{Sent, sends, IsPdcp, IsUmd, Mode, IsNamed, AreNamed, sent_on}
+use Rattle.promises.specs.Names.{SentPdu, sends, IsPdcp, IsUmd, Mode, IsNamed, AreNamed, sent_on}
 use Rattle.law_node.specs.Sharing.{share, held}
-use Rattle.law_node.specs.Waiting.{told_by, all_told}
+use Rattle.law_node.specs.Waiting.{told_on_channel, all_told}
 use Rattle.law_node.proofs.AmWithin.{able}
 use Rattle.law_node.proofs.Keeping.{AllAre, at_is, visiting_are}
 use Rattle.law_node.proofs.Offers.{Offers}
@@ -84,7 +84,7 @@ use Rattle.law_node.proofs.Within.{IsAbleUm, able as able_um}
 sends_then : (xs ys : List Event) → sends (xs ++ ys) ≡ sends xs ++ sends ys
 sends_then [] ys = refl
 sends_then (events.Send lcid how sn ∷ xs) ys =
-    ap (λ (l : List Sent). record { lcid = lcid; how = how; sn = sn } ∷ l) (sends_then xs ys)
+    ap (λ (l : List SentPdu). record { lcid = lcid; how = how; sn = sn } ∷ l) (sends_then xs ys)
 sends_then (events.Take lcid count len ∷ xs) ys = sends_then xs ys
 sends_then (events.Report lcid fms bitmap ∷ xs) ys = sends_then xs ys
 sends_then (events.Wait lcid why ∷ xs) ys = sends_then xs ys
@@ -105,22 +105,22 @@ none_if true e p = p
 none_if false e p = refl
 
 -- PDUs of a bearer and what is told of them, each of its place
-abbrev AreOf : ℕ → Flow → List Sent → List (List ℕ) → Type 0
+abbrev AreOf : ℕ → Flow → List SentPdu → List (List ℕ) → Type 0
 AreOf lcid f [] [] = Unit {0}
 AreOf lcid f (s ∷ ss) (p ∷ ps) = (s.lcid ≡ lcid) × IsNamed (Some (mode f)) s.how s.sn p × AreOf lcid f ss ps
 AreOf lcid f ss ps = ⊥
 
-of_then : (lcid : ℕ) (f : Flow) (ss ts : List Sent) (ps qs : List (List ℕ)) → AreOf lcid f ss ps → AreOf lcid f ts qs
+of_then : (lcid : ℕ) (f : Flow) (ss ts : List SentPdu) (ps qs : List (List ℕ)) → AreOf lcid f ss ps → AreOf lcid f ts qs
     → AreOf lcid f (ss ++ ts) (ps ++ qs)
 of_then lcid f [] ts [] qs a b = b
 of_then lcid f [] ts (p ∷ ps) qs a b = absurd a
 of_then lcid f (s ∷ ss) ts [] qs a b = absurd a
 of_then lcid f (s ∷ ss) ts (p ∷ ps) qs a b = (a.0, a.1, of_then lcid f ss ts ps qs a.2 b)
 
-of_none : (lcid : ℕ) (f : Flow) (ss : List Sent) → ss ≡ [] → AreOf lcid f ss []
+of_none : (lcid : ℕ) (f : Flow) (ss : List SentPdu) → ss ≡ [] → AreOf lcid f ss []
 of_none lcid f ss e = rw e tt
 
-of_one : (lcid : ℕ) (f : Flow) (s : Sent) (ss : List Sent) (p : List ℕ) → ss ≡ [] → s.lcid ≡ lcid
+of_one : (lcid : ℕ) (f : Flow) (s : SentPdu) (ss : List SentPdu) (p : List ℕ) → ss ≡ [] → s.lcid ≡ lcid
     → IsNamed (Some (mode f)) s.how s.sn p → AreOf lcid f (s ∷ ss) (p ∷ [])
 of_one lcid f s ss p e l n = (l, n, of_none lcid f ss e)
 
@@ -161,7 +161,7 @@ um_fed_feeds f =
     record {
       lcid_is = refl;
       sent_is = sends_then f.events (taking_told f.pdcp)
-          ∙ ap (λ (l : List Sent). sends f.events ++ l) (taking_none f.pdcp) ∙ append-nil (sends f.events);
+          ∙ ap (λ (l : List SentPdu). sends f.events ++ l) (taking_none f.pdcp) ∙ append-nil (sends f.events);
     }
 
 feeds_then : (f g h : Feeding) → Feeds f g → Feeds g h → Feeds f h
@@ -214,9 +214,9 @@ um_named b size held' known o r =
     let is : sends (f.events ++ um_data_told f.pdcp.lcid b.bits more why given)
     ≡ sends (um_data_told b.pdcp.lcid b.bits more why given) =
     sends_then f.events (um_data_told f.pdcp.lcid b.bits more why given)
-    ∙ ap (λ (l : List Sent). l ++ sends (um_data_told f.pdcp.lcid b.bits more why given)) k.sent_is
+    ∙ ap (λ (l : List SentPdu). l ++ sends (um_data_told f.pdcp.lcid b.bits more why given)) k.sent_is
     ∙ ap (λ (l : ℕ). sends (um_data_told l b.bits more why given)) k.lcid_is in
-    subst (λ (ss : List Sent). AreOf b.pdcp.lcid (Um b) ss (pdus_of given)) (sym is)
+    subst (λ (ss : List SentPdu). AreOf b.pdcp.lcid (Um b) ss (pdus_of given)) (sym is)
     (um_data_named t f.tx (size_in size) b.pdcp.lcid b more why (able_um f.tx (size_in size) held')
     (fed.bits ∙ r.same) r.bits (fed.octets r.octets) (fed.queue r.queue))
 
@@ -232,7 +232,7 @@ am_fed_works w =
     record {
       lcid_is = refl;
       sent_is = sends_then w.events (taking_told w.pdcp)
-          ∙ ap (λ (l : List Sent). sends w.events ++ l) (taking_none w.pdcp) ∙ append-nil (sends w.events);
+          ∙ ap (λ (l : List SentPdu). sends w.events ++ l) (taking_none w.pdcp) ∙ append-nil (sends w.events);
     }
 
 works_then : (f g h : Work) → Works f g → Works g h → Works f h
@@ -309,9 +309,9 @@ am_named b size held' known o r =
     let given = am_answer_of t w.tx room more in
     let is : sends (w.events ++ am_data_told w.pdcp.lcid given) ≡ sends status ++ sends (am_data_told lcid given) =
     sends_then w.events (am_data_told w.pdcp.lcid given)
-    ∙ ap (λ (l : List Sent). l ++ sends (am_data_told w.pdcp.lcid given)) k.sent_is
+    ∙ ap (λ (l : List SentPdu). l ++ sends (am_data_told w.pdcp.lcid given)) k.sent_is
     ∙ ap (λ (l : ℕ). sends status ++ sends (am_data_told l given)) k.lcid_is in
-    subst (λ (ss : List Sent). AreOf lcid (Am b) ss (status_pdus b.rx size ++ pdus_of given)) (sym is)
+    subst (λ (ss : List SentPdu). AreOf lcid (Am b) ss (status_pdus b.rx size ++ pdus_of given)) (sym is)
     (of_then lcid (Am b) (sends status) (sends (am_data_told lcid given)) (status_pdus b.rx size) (pdus_of given)
     (status_by (writes_status b.rx size) b size r.cells)
     (am_data_named t w.tx room lcid more b (able w.tx room held' more)
@@ -353,7 +353,7 @@ flow_named lcid (Am b) size held' own w =
 
 -- ---- a block
 
-named_of : (e : End) (lcid : ℕ) (f : Flow) (ss : List Sent) (ps : List (List ℕ)) → modes_of e lcid ≡ Some (mode f)
+named_of : (e : End) (lcid : ℕ) (f : Flow) (ss : List SentPdu) (ps : List (List ℕ)) → modes_of e lcid ≡ Some (mode f)
     → AreOf lcid f ss ps → AreNamed (modes_of e) ss (sdus_of lcid ps)
 named_of e lcid f [] [] q a = tt
 named_of e lcid f [] (p ∷ ps) q a = a
@@ -367,7 +367,7 @@ named_of e lcid f (s ∷ ss) (p ∷ ps) q a = (
 mode_is : (e : End) (lcid : ℕ) → has lcid e.bearers ≡ true → modes_of e lcid ≡ Some (mode (flow lcid e))
 mode_is e lcid h = rw h refl
 
-named_then : (modes : ℕ → Option Mode) (ss ts : List Sent) (ds fs : List Sdu) → AreNamed modes ss ds
+named_then : (modes : ℕ → Option Mode) (ss ts : List SentPdu) (ds fs : List Sdu) → AreNamed modes ss ds
     → AreNamed modes ts fs → AreNamed modes (ss ++ ts) (ds ++ fs)
 named_then modes [] ts [] fs a b = b
 named_then modes [] ts (d ∷ ds) fs a b = absurd a
@@ -375,7 +375,7 @@ named_then modes (s ∷ ss) ts [] fs a b = absurd a
 named_then modes (s ∷ ss) ts (d ∷ ds) fs a b = (a.0, a.1, named_then modes ss ts ds fs a.2 b)
 
 one_named : (t : Bool) (e : End) (grant : ℕ) (c : Channel) → has c.lcid e.bearers ≡ t → AllAre IsOwn e.bearers
-    → AllAre WritesWell e.bearers → AreNamed (modes_of e) (sends (told_by e grant c)) (sdus_by e grant c)
+    → AllAre WritesWell e.bearers → AreNamed (modes_of e) (sends (told_on_channel e grant c)) (sdus_by e grant c)
 one_named true e grant c h own well =
     let f = flow c.lcid e in
     let at = find c.lcid e.bearers in
@@ -390,9 +390,9 @@ all_named : (e : End) (grant : ℕ) (cs : List Channel) → AllAre IsOwn e.beare
     → AreNamed (modes_of e) (sends (all_told e grant cs)) (all_sdus e grant cs)
 all_named e grant [] own well = tt
 all_named e grant (c ∷ cs) own well =
-    subst (λ (ss : List Sent). AreNamed (modes_of e) ss (sdus_by e grant c ++ all_sdus e grant cs))
-    (sym (sends_then (told_by e grant c) (all_told e grant cs)))
-    (named_then (modes_of e) (sends (told_by e grant c)) (sends (all_told e grant cs)) (sdus_by e grant c)
+    subst (λ (ss : List SentPdu). AreNamed (modes_of e) ss (sdus_by e grant c ++ all_sdus e grant cs))
+    (sym (sends_then (told_on_channel e grant c) (all_told e grant cs)))
+    (named_then (modes_of e) (sends (told_on_channel e grant c)) (sends (all_told e grant cs)) (sdus_by e grant c)
     (all_sdus e grant cs)
     (one_named (has c.lcid e.bearers) e grant c refl own well) (all_named e grant cs own well))
 
@@ -412,12 +412,12 @@ names_what_it_sends side maximum reports calls g tti grant order new =
 
 -- ---- so are their channels
 
-channels_are : (modes : ℕ → Option Mode) (ss : List Sent) (ds : List Sdu) → AreNamed modes ss ds
-    → map (λ (s : Sent). s.lcid) ss ≡ map (λ (d : Sdu). d.lcid) ds
+channels_are : (modes : ℕ → Option Mode) (ss : List SentPdu) (ds : List Sdu) → AreNamed modes ss ds
+    → map (λ (s : SentPdu). s.lcid) ss ≡ map (λ (d : Sdu). d.lcid) ds
 channels_are modes [] [] a = refl
 channels_are modes [] (d ∷ ds) a = absurd a
 channels_are modes (s ∷ ss) [] a = absurd a
-channels_are modes (s ∷ ss) (d ∷ ds) a = ap (λ (l : ℕ). l ∷ map (λ (s : Sent). s.lcid) ss) (sym a.0)
+channels_are modes (s ∷ ss) (d ∷ ds) a = ap (λ (l : ℕ). l ∷ map (λ (s : SentPdu). s.lcid) ss) (sym a.0)
     ∙ ap (λ (ls : List ℕ). d.lcid ∷ ls) (channels_are modes ss ds a.2)
 
 pub tells_what_it_sends : (side : Side) (maximum : ℕ) (reports : Bool) (calls : List Call) → AreGiven calls

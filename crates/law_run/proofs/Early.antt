@@ -14,10 +14,10 @@ use Rattle.air_text.specs.Ranges.{IsInRange}
 use Rattle.l2_types.specs.declared.side.Side.{Side}
 use Rattle.l2_types.specs.declared.side.Side.TheVariants.{Nb, Ue}
 use Rattle.law_air.specs.AnyCalls.Calls as calls
-use Rattle.promises.specs.Records.{told_by}
+use Rattle.promises.specs.Records.{events_of}
 use Rattle.law_air.proofs.AnyCalls.Going.{told_both}
 use Rattle.promises.specs.Arrival.{tells_in, ended_by, happened}
-use Rattle.law_words.specs.Arrivals.{Happening}
+use Rattle.law_words.specs.Arrivals.{AccountEntry}
 use Rattle.law_air.specs.TwoEnds.Lives.{IsAtRest}
 use Rattle.law_air.proofs.TwoEnds.Lives.{first_rests, calls_rest}
 use Rattle.promises.specs.Flows.{handed_in, looped_at, submitted}
@@ -76,7 +76,7 @@ unbegun line r e = absurd cc
 pub record IsEarly (past : List Group) : Type 0 where
   pub rest : IsAtRest (link_behind past)
   pub silent : (link_behind past).out ≡ []
-  pub none_told : (side : Side) → told_by side (history past) ≡ []
+  pub none_told : (side : Side) → events_of side (history past) ≡ []
   pub none_submitted : (side : Side) (lcid : ℕ) → submitted side lcid past ≡ []
   pub none_happened : (bits lcid : ℕ) (from : Side) → happened bits lcid from past ≡ []
 
@@ -97,7 +97,7 @@ still_early past g h s e =
       rest = shown_rests (behind_line g.line (state_behind past)) s.rest;
       silent = refl;
       none_told = λ side. told_both side (history past) (records.Line g.number g.line ∷ g.events) [] []
-          (h.none_told side) (ap (told_by side) none);
+          (h.none_told side) (ap (events_of side) none);
       none_submitted = λ side lcid.
           ap (λ (xs : List (List ℕ)). xs
           ++ (handed_in side lcid (part g.line) g.events ++ looped_at side lcid g.events))
@@ -105,9 +105,9 @@ still_early past g h s e =
           ∙ ap (λ p. handed_in side lcid p g.events ++ looped_at side lcid g.events) s.part_is
           ∙ ap (λ (x : List Record). looped_at side lcid x) none ∙ none_looped side lcid;
       none_happened = λ bits lcid from.
-          ap (λ (hs : List Happening). hs ++ (ended_by g.line ++ tells_in bits lcid from [] g.events))
+          ap (λ (hs : List AccountEntry). hs ++ (ended_by g.line ++ tells_in bits lcid from [] g.events))
           (h.none_happened bits lcid from)
-          ∙ ap (λ (hs : List Happening). hs ++ tells_in bits lcid from [] g.events) s.lives_on
+          ∙ ap (λ (hs : List AccountEntry). hs ++ tells_in bits lcid from [] g.events) s.lives_on
           ∙ ap (λ (x : List Record). tells_in bits lcid from [] x) none;
     }
 

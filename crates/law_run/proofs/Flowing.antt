@@ -25,19 +25,19 @@ use Rattle.l2_types.specs.declared.side.Side.{Side}
 use Rattle.l2_types.specs.declared.side.Side.TheVariants.{Nb, Ue}
 use Rattle.law_air.specs.AnyCalls.Calls as calls
 use Rattle.bearer_types.specs.Sides.{is_same, sent_by}
-use Rattle.promises.specs.Records.{is_looped, told_by as told_of, sdu_of}
+use Rattle.promises.specs.Records.{is_looped, events_of, sdu_of}
 use Rattle.law_air.proofs.AnyCalls.Going.{told_both}
 use Rattle.law_air.specs.AnyCalls.Runs.{Step, Tti, Drains, Submit, Calls, step}
 use Rattle.law_air.specs.AnyCalls.Told.{refusals}
 use Rattle.law_air.proofs.AnyCalls.Calling.{submitting_adds}
 use Rattle.l2_node.specs.End.{End}
 use Rattle.law_deliver.specs.AmFlow.Air.{outset}
-use Rattle.law_air.specs.TwoEnds.Arrival.{renews, told_by_step}
+use Rattle.law_air.specs.TwoEnds.Arrival.{renewals_in, told_by_step}
 use Rattle.promises.specs.Arrival.{tells_in, ended_by}
-use Rattle.law_words.specs.Arrivals.{Happening}
+use Rattle.law_words.specs.Arrivals.{AccountEntry}
 use Rattle.law_air.specs.TwoEnds.Going.{TellAlone, GoesByAir, sets, handed_in as handed_by, IsStepSince}
 use Rattle.law_air.proofs.TwoEnds.Going.{last_in, tells_more}
-use Rattle.law_air.specs.TwoEnds.Staying.{hands_over as moves}
+use Rattle.law_air.specs.TwoEnds.Staying.{is_handover_step}
 use Rattle.law_air.proofs.TwoEnds.Coming.{ends_come_by, steps_come}
 use Rattle.law_air.proofs.TwoEnds.Staying.{LivedIn, ends_live_in, lived_in_as, steps_live_in}
 use Rattle.law_air.specs.TwoEnds.Shown.{IsShown, anew}
@@ -48,7 +48,7 @@ use Rattle.um_losses.specs.Told.{told_in, place_behind}
 use Rattle.law_deliver.specs.UmGaps.Whats.{whats}
 use Rattle.test_loop.specs.declared.Mode.TheVariants.{Off, A, B}
 use Rattle.promises.specs.Delivery.{forges, sets_timer}
-use Rattle.promises.specs.Parts.{hands_over, Part, Submits, Rests, part}
+use Rattle.promises.specs.Parts.{is_handover, Part, Submits, Rests, part}
 use Rattle.promises.specs.Flows.{handed_in, looped_at}
 use Rattle.law_run.proofs.Early.{none_looped}
 use Rattle.law_run.proofs.Texts.{adds_one}
@@ -59,7 +59,7 @@ Sdus = Side → ℕ → List (List ℕ)
 
 -- what happens to the PDUs that go from each side, by the bits of PDCP's numbers
 abbrev pub Happened : Type 0
-Happened = ℕ → Side → List Happening
+Happened = ℕ → Side → List AccountEntry
 
 -- what is told of an unacknowledged flow from each side
 abbrev pub Haps : Type 0
@@ -117,12 +117,12 @@ unlooped_end side n said is_done done = looped_then side n said (ending is_done 
     none Ue false = refl
 
 untold_end : (side : Side) (said : List Record) (is_done : Bool) (done : ℕ)
-    → told_of side (said ++ ending is_done done ∷ []) ≡ told_of side said
+    → events_of side (said ++ ending is_done done ∷ []) ≡ events_of side said
 untold_end side said is_done done =
-    told_both side said (ending is_done done ∷ []) (told_of side said) [] refl (none is_done)
-    ∙ append-nil (told_of side said)
+    told_both side said (ending is_done done ∷ []) (events_of side said) [] refl (none is_done)
+    ∙ append-nil (events_of side said)
   where
-    none : (b : Bool) → told_of side (ending b done ∷ []) ≡ []
+    none : (b : Bool) → events_of side (ending b done ∷ []) ≡ []
     none true = refl
     none false = refl
 
@@ -137,26 +137,26 @@ or_false false = refl
 pub tells_both : (l : ℕ) (f g : List Record) → TellAlone l g → (bits : ℕ) (from : Side)
     → tells_in bits l from [] (f ++ g) ≡ tells_in bits l from [] f ++ tells_in bits l from [] g
 tells_both l f g h bits from = tells_more bits l from [] f g
-    ∙ ap (λ (hs : List Happening). tells_in bits l from [] f ++ hs) (h bits from (last_in f []))
+    ∙ ap (λ (hs : List AccountEntry). tells_in bits l from [] f ++ hs) (h bits from (last_in f []))
 
 alone_both : (l : ℕ) (f g : List Record) → TellAlone l f → TellAlone l g → TellAlone l (f ++ g)
 alone_both l f g p q bits from sent =
     tells_more bits l from sent f g
-    ∙ (ap (λ (hs : List Happening). hs ++ tells_in bits l from (last_in f sent) g) (p bits from sent)
-    ∙ (ap (λ (hs : List Happening). tells_in bits l from [] f ++ hs) (q bits from (last_in f sent))
+    ∙ (ap (λ (hs : List AccountEntry). hs ++ tells_in bits l from (last_in f sent) g) (p bits from sent)
+    ∙ (ap (λ (hs : List AccountEntry). tells_in bits l from [] f ++ hs) (q bits from (last_in f sent))
     ∙ sym (tells_both l f g q bits from)))
 
-both_flown : (l : ℕ) (all : List Happening) (f g : List Record) → TellAlone l g → (bits : ℕ) (from : Side)
+both_flown : (l : ℕ) (all : List AccountEntry) (f g : List Record) → TellAlone l g → (bits : ℕ) (from : Side)
     → (all ++ tells_in bits l from [] f) ++ tells_in bits l from [] g ≡ all ++ tells_in bits l from [] (f ++ g)
 both_flown l all f g h bits from =
     append_assoc all (tells_in bits l from [] f) (tells_in bits l from [] g)
-    ∙ ap (λ (hs : List Happening). all ++ hs) (sym (tells_both l f g h bits from))
+    ∙ ap (λ (hs : List AccountEntry). all ++ hs) (sym (tells_both l f g h bits from))
 
 unflown_end : (bits l : ℕ) (from : Side) (said : List Record) (is_done : Bool) (done : ℕ)
     → tells_in bits l from [] (said ++ ending is_done done ∷ []) ≡ tells_in bits l from [] said
 unflown_end bits l from said is_done done =
     tells_more bits l from [] said (ending is_done done ∷ [])
-    ∙ (ap (λ (hs : List Happening). tells_in bits l from [] said ++ hs) (none is_done (last_in said []))
+    ∙ (ap (λ (hs : List AccountEntry). tells_in bits l from [] said ++ hs) (none is_done (last_in said []))
     ∙ append-nil (tells_in bits l from [] said))
   where
     none : (b : Bool) (sent : List ℕ) → tells_in bits l from sent (ending b done ∷ []) ≡ []
@@ -194,7 +194,8 @@ pub record GoesThrough (l : ℕ) (Live : List Record → Sdus → Happened → B
   pub unseen : (told : List Record) (handed : Sdus) (flown : Happened) (set : Bool) (k : Link) (out : List Record)
       → Live told handed flown set k → Live told handed flown set (record k { out = out })
   pub steps : (told : List Record) (handed : Sdus) (flown : Happened) (set : Bool) (s : Step) (k : Link)
-      → IsStepSince l s → moves s ≡ false → Live told handed flown set k → StepLives l Live told handed flown set s k
+      → IsStepSince l s → is_handover_step s ≡ false → Live told handed flown set k
+      → StepLives l Live told handed flown set s k
 
 module _ (l : ℕ) (Live : List Record → Sdus → Happened → Bool → Link → Type 0) (through : GoesThrough l Live) where
   -- steps that hand in nothing
@@ -206,7 +207,7 @@ module _ (l : ℕ) (Live : List Record → Sdus → Happened → Bool → Link �
         (λ bits from. flown bits from ++ tells_in bits l from [] more) set m
 
   goes_by : (told : List Record) (handed : Sdus) (flown : Happened) (set : Bool) (s : Step) (k : Link)
-      → IsStepSince l s → moves s ≡ false → sets l s ≡ false → renews s ≡ []
+      → IsStepSince l s → is_handover_step s ≡ false → sets l s ≡ false → renewals_in s ≡ []
       → ((side : Side) (n : ℕ) → handed_by side n s k ≡ []) → Live told handed flown set k
       → GoesOn told handed flown set k (step s k)
   goes_by told handed flown set s k g own unset stays none h =
@@ -217,7 +218,8 @@ module _ (l : ℕ) (Live : List Record → Sdus → Happened → Bool → Link �
         alone = x.alone;
         lived = through.same _ _ _ _ _ _ (set || sets l s) set (step s k) refl
             (λ side n. ap (λ (ys : List (List ℕ)). handed side n ++ (ys ++ looped_at side n x.more)) (none side n))
-            (λ bits from. ap (λ (hs : List Happening). flown bits from ++ (hs ++ tells_in bits l from [] x.more)) stays)
+            (λ bits from. ap (λ (hs : List AccountEntry). flown bits from ++ (hs ++ tells_in bits l from [] x.more))
+            stays)
             (ap (λ (b : Bool). set || b) unset ∙ or_false set) x.lived;
       }
 
@@ -377,18 +379,18 @@ module _ (l : ℕ) (Live : List Record → Sdus → Happened → Bool → Link �
 
   -- ---- a line
 
-  pub record PartLives (told : List Record) (handed : Sdus) (flown : Happened) (set : Bool) (ends : List Happening)
+  pub record PartLives (told : List Record) (handed : Sdus) (flown : Happened) (set : Bool) (ends : List AccountEntry)
       (p : Part) (m : Link) : Type 0 where
     pub more : List Record
     pub lived : Live (told ++ more) (λ side n. handed side n ++ (handed_in side n p m.out ++ looped_at side n m.out))
         (λ bits from. flown bits from ++ (ends ++ tells_in bits l from [] m.out)) set m
-    pub told_are : (side : Side) → told_of side m.out ≡ told_of side more
+    pub told_are : (side : Side) → events_of side m.out ≡ events_of side more
     pub haps_are : (d : Direction) (place : Place) → told_in d l place m.out ≡ told_in d l place more
 
   pub step_plays : (told : List Record) (handed : Sdus) (flown : Happened) (set : Bool) (s : Step) (k : Link)
       (p : Part) → k.out ≡ [] → ((side : Side) (n : ℕ) → handed_by side n s k ≡ handed_in side n p (step s k).out)
       → StepLives l Live told handed flown set s k
-      → PartLives told handed flown (set || sets l s) (renews s) p (step s k)
+      → PartLives told handed flown (set || sets l s) (renewals_in s) p (step s k)
   step_plays told handed flown set s k p nothing given x =
       let m = step s k in
       let same : m.out ≡ x.more = x.out_is ∙ ap (λ (y : List Record). y ++ x.more) nothing in
@@ -400,7 +402,7 @@ module _ (l : ℕ) (Live : List Record → Sdus → Happened → Bool → Link �
             ap (λ (ys : List (List ℕ)). handed side n ++ (handed_by side n s k ++ ys))
             (ap (looped_at side n) (sym same))
             ∙ ap (λ (ys : List (List ℕ)). handed side n ++ (ys ++ looped_at side n m.out)) (given side n))
-            (λ bits from. ap (λ (y : List Record). flown bits from ++ (renews s ++ tells_in bits l from [] y))
+            (λ bits from. ap (λ (y : List Record). flown bits from ++ (renewals_in s ++ tells_in bits l from [] y))
             (sym same))
             refl x.lived;
         told_are = λ side. refl;
@@ -409,14 +411,14 @@ module _ (l : ℕ) (Live : List Record → Sdus → Happened → Bool → Link �
 
   line_by : (told : List Record) (handed : Sdus) (flown : Happened) (set : Bool) (s : Step) (k : Link) (p : Part)
       → k.out ≡ [] → ((side : Side) (n : ℕ) → handed_by side n s k ≡ handed_in side n p (step s k).out)
-      → IsStepSince l s → moves s ≡ false → Live told handed flown set k
-      → PartLives told handed flown (set || sets l s) (renews s) p (step s k)
+      → IsStepSince l s → is_handover_step s ≡ false → Live told handed flown set k
+      → PartLives told handed flown (set || sets l s) (renewals_in s) p (step s k)
   line_by told handed flown set s k p nothing given g own h =
       step_plays told handed flown set s k p nothing given (through.steps told handed flown set s k g own h)
 
   rests_by : (told : List Record) (handed : Sdus) (flown : Happened) (set : Bool) (c : calls.Call) (k : Link)
-      → k.out ≡ [] → IsStepSince l (Calls c) → moves (Calls c) ≡ false → Live told handed flown set k
-      → PartLives told handed flown (set || sets l (Calls c)) (renews (Calls c)) Rests (calls.after c k)
+      → k.out ≡ [] → IsStepSince l (Calls c) → is_handover_step (Calls c) ≡ false → Live told handed flown set k
+      → PartLives told handed flown (set || sets l (Calls c)) (renewals_in (Calls c)) Rests (calls.after c k)
   rests_by told handed flown set c k nothing g own h =
       line_by told handed flown set (Calls c) k Rests nothing (λ side n. refl) g own h
 
@@ -430,7 +432,7 @@ module _ (l : ℕ) (Live : List Record → Sdus → Happened → Bool → Link �
         (λ bits from. sym (append-nil (flown bits from))
         ∙ ap (λ (y : List Record). flown bits from ++ tells_in bits l from [] y) (sym nothing))
         (sym (or_false set)) h;
-    told_are = λ side. ap (told_of side) nothing;
+    told_are = λ side. ap (events_of side) nothing;
     haps_are = λ d place. ap (told_in d l place) nothing;
   }
 
@@ -459,17 +461,17 @@ module _ (l : ℕ) (Live : List Record → Sdus → Happened → Bool → Link �
         lived = through.same _ _ _ _ _ _ set (set || false) (record d.link { out = d.journal }) refl
             (λ side n. ap (λ (ys : List (List ℕ)). handed side n ++ ys)
             (sym (ap (looped_at side n) w.journal_is ∙ unlooped_end side n w.said w.is_done w.done)))
-            (λ bits from. ap (λ (hs : List Happening). flown bits from ++ hs)
+            (λ bits from. ap (λ (hs : List AccountEntry). flown bits from ++ hs)
             (sym (ap (tells_in bits l from []) w.journal_is ∙ unflown_end bits l from w.said w.is_done w.done)))
             (sym (or_false set)) (through.unseen _ _ _ set d.link d.journal w.lived);
-        told_are = λ side. ap (told_of side) w.journal_is ∙ untold_end side w.said w.is_done w.done;
+        told_are = λ side. ap (events_of side) w.journal_is ∙ untold_end side w.said w.is_done w.done;
         haps_are = λ d place. ap (told_in d l place) w.journal_is ∙ unsaid_end d l place w.said w.is_done w.done;
       }
 
   -- any line but a handover
   pub line_stays : (told : List Record) (handed : Sdus) (flown : Happened) (set : Bool) (line : Line)
       (keys : Option Keys) (k : Link) → k.out ≡ [] → IsInRange line → adds_one l line ≡ false → forges line ≡ false
-      → hands_over line ≡ false → Live told handed flown set k
+      → is_handover line ≡ false → Live told handed flown set k
       → PartLives told handed flown (set || sets_timer l line) (ended_by line) (part line) (played line keys k)
   unfolding acted
   line_stays told handed flown set (lines.Harq maximum) keys k nothing fits other own here h =
@@ -512,7 +514,7 @@ cancel : (first xs ys : List Record) → first ++ xs ≡ first ++ ys → xs ≡ 
 cancel [] xs ys e = e
 cancel (one ∷ first) xs ys e = let rest : first ++ xs ≡ first ++ ys = cc in cancel first xs ys rest
 
-not_anew : (s : Step) → moves s ≡ false → anew s ≡ []
+not_anew : (s : Step) → is_handover_step s ≡ false → anew s ≡ []
 not_anew (Calls (calls.HandsOver keys)) own = absurd cc
 not_anew s own = refl
 
@@ -542,7 +544,7 @@ module _ (l : ℕ) (nb ue : End) (bits : ℕ) (Um : Type 0) where
   same_by told told' handed handed' flown flown' set set' k e f a g h = record {
     steps = h.steps;
     living = h.living;
-    told_is = λ side. ap (told_of side) (sym e) ∙ h.told_is side;
+    told_is = λ side. ap (events_of side) (sym e) ∙ h.told_is side;
     submitted_is = λ side n. h.submitted_is side n ∙ f side n;
     happened_is = λ bits from. h.happened_is bits from ∙ a bits from;
     sets_none = λ off. h.sets_none (g ∙ off);
@@ -586,7 +588,7 @@ module _ (l : ℕ) (nb ue : End) (bits : ℕ) (Um : Type 0) where
 
   module _ (first : List Record) (haps : Haps) where
     steps_on : (told : List Record) (handed : Sdus) (flown : Happened) (set : Bool) (s : Step) (k : Link)
-        → IsStepSince l s → moves s ≡ false → LivesOn first haps told handed flown set k
+        → IsStepSince l s → is_handover_step s ≡ false → LivesOn first haps told handed flown set k
         → StepLives l (LivesOn first haps) told handed flown set s k
     steps_on told handed flown set s k g own h =
         let x = steps_come l told handed flown set s k (outset nb ue) g h.by in
@@ -632,7 +634,7 @@ module _ (l : ℕ) (nb ue : End) (bits : ℕ) (Um : Type 0) where
       steps = steps_on;
     }
 
-    abbrev pub LineLives : List Record → Sdus → Happened → Bool → List Happening → Part → Link → Type 0
+    abbrev pub LineLives : List Record → Sdus → Happened → Bool → List AccountEntry → Part → Link → Type 0
     LineLives = PartLives l (LivesOn first haps) through
 
     -- behind a line
@@ -683,7 +685,7 @@ module _ (l : ℕ) (nb ue : End) where
   InOneLife told handed flown set k = LivedIn l nb ue told handed set k
 
   life_steps : (told : List Record) (handed : Sdus) (flown : Happened) (set : Bool) (s : Step) (k : Link)
-      → IsStepSince l s → moves s ≡ false → LivedIn l nb ue told handed set k
+      → IsStepSince l s → is_handover_step s ≡ false → LivedIn l nb ue told handed set k
       → StepLives l InOneLife told handed flown set s k
   life_steps told handed flown set s k g own h = let x = steps_live_in l nb ue told handed set s k g own h in
       record { more = x.more; out_is = x.out_is; alone = x.alone; lived = x.lived }

@@ -27,7 +27,7 @@ use Rattle.l2_types.specs.declared.side.Side.{Side}
 use Rattle.l2_types.specs.declared.side.Side.TheVariants.{Nb, Ue}
 use Rattle.law_air.specs.AnyCalls.Calls as calls
 use Rattle.law_air.specs.AnyCalls.Ends.{LivesOn, GoesThrough, GoesOn, GoesOnByVisits, visit_told, known, lives_in}
-use Rattle.promises.specs.Records.{told_by as told_of, is_of_building}
+use Rattle.promises.specs.Records.{events_of, is_of_building}
 use Rattle.law_air.proofs.AnyCalls.Advancing.{call_goes_on, submitting_goes, tti_goes, drain_goes}
 use Rattle.law_air.proofs.AnyCalls.Going.{by_none, by_same, lives_then, goes_by, unseen_rests}
 use Rattle.law_node.specs.Calls.{Call as EndCall}
@@ -269,7 +269,7 @@ none_built : (is_done : Bool) (done : ℕ) → filter is_of_building (ending is_
 none_built true done = refl
 none_built false done = refl
 
-untold_end : (side : Side) (is_done : Bool) (done : ℕ) → told_of side (ending is_done done ∷ []) ≡ []
+untold_end : (side : Side) (is_done : Bool) (done : ℕ) → events_of side (ending is_done done ∷ []) ≡ []
 untold_end side true done = refl
 untold_end side false done = refl
 

@@ -20,7 +20,7 @@ use Rattle.air_text.specs.Groups.{Group, history}
 use Rattle.air_text.specs.Ranges.{IsInRange}
 use Rattle.bearer.specs.Bearer.{flow_of}
 use Rattle.bearer.specs.declared.flow.Flow.{Flow}
-use Rattle.law_bearer.specs.AnyBearer.Calls.{Step, run as go, reached as bearer_reached}
+use Rattle.law_bearer.specs.AnyBearer.Calls.{Step, run_bearer, reached as bearer_reached}
 use Rattle.law_bearer.specs.AnyBearer.Ciphering.{ciphered, ShareText, AllShareText, restarts, cipher_key, IsOneOf}
 use Rattle.law_bearer.specs.AnyBearer.Ciphering.{IsOfBearer}
 use Rattle.law_words.specs.Lists.{AreDistinct}
@@ -37,11 +37,11 @@ use Rattle.l2_types.specs.declared.channel.Kind.TheVariants as kind
 use Rattle.l2_types.specs.declared.side.Side.{Side}
 use Rattle.l2_types.specs.declared.side.Side.TheVariants.{Nb, Ue}
 use Rattle.law_air.specs.AnyCalls.Ends.{begins_life}
-use Rattle.promises.specs.Records.{told_by, is_of_building}
+use Rattle.promises.specs.Records.{events_of, is_of_building}
 use Rattle.law_air.proofs.AnyCalls.Going.{run_on, given_on, over_on, told_both}
 use Rattle.law_node.specs.Bearers.{keys_in, moves, adds, AddNone}
 use Rattle.promises.specs.Counts.{counts_on, counts_taken}
-use Rattle.law_node.specs.Calls.{Call, Add, Move, AreGiven, after, run, reached}
+use Rattle.law_node.specs.Calls.{Call, Add, Move, AreGiven, after, run_end, reached}
 use Rattle.law_node.specs.Holding.{flow}
 use Rattle.law_node.specs.Telling.{told_over}
 use Rattle.law_node.proofs.Counted.{counts_then}
@@ -122,9 +122,9 @@ over_groups : (side : Side) (lcid : ℕ) (g : Group) (past : List Group)
     ++ counts_taken side lcid g.events
 over_groups side lcid g past =
     ap (counts_on lcid)
-    (told_both side (history past) (records.Line g.number g.line ∷ g.events) (told_by side (history past))
-    (told_by side g.events) refl refl)
-    ∙ counts_then lcid (told_by side (history past)) (told_by side g.events)
+    (told_both side (history past) (records.Line g.number g.line ∷ g.events) (events_of side (history past))
+    (events_of side g.events) refl refl)
+    ∙ counts_then lcid (events_of side (history past)) (events_of side g.events)
 
 -- as long as nothing has begun, nothing is taken, and at most one line gave keys
 record Early (past : List Group) : Type 0 where
@@ -274,7 +274,7 @@ goes_there side lcid past g config right order free t =
     let on = go_on side 4 false p.calls calls lcid p.given k.by.given
     (ap (λ (x : End). has lcid x.bearers) (sym p.end_is) ∙ t.there) none in
     let here = reached side 4 false p.calls in
-    let there : run calls here ≡ m = ap (run calls) (sym p.end_is) ∙ sym k.by.end_is in
+    let there : run_end calls here ≡ m = ap (run_end calls) (sym p.end_is) ∙ sym k.by.end_is in
     let told : counts_on lcid (told_over calls here) ≡ counts_taken side lcid g.events =
     ap (λ (x : End). counts_on lcid (told_over calls x)) (sym p.end_is)
     ∙ ap (counts_on lcid) (sym k.by.told_is) in
@@ -286,7 +286,7 @@ goes_there side lcid past g config right order free t =
     let now : Takes (flow lcid e) (flow lcid m) (moves calls) (counts_taken side lcid g.events) = record {
       steps = on.comes.steps;
       flow_is = ap (flow lcid) (sym there) ∙ on.comes.flow_is
-          ∙ ap (λ (x : End). go on.comes.steps (flow lcid x)) (sym p.end_is);
+          ∙ ap (λ (x : End). run_bearer on.comes.steps (flow lcid x)) (sym p.end_is);
       lives_are = on.comes.lives_are;
       counts_are = ap (λ (x : End). counts (all_taken (flow lcid x) on.comes.steps)) p.end_is ∙ on.comes.counts_are
           ∙ told;
@@ -367,11 +367,11 @@ begin_there side past g config options line_is right order wants =
     given_on (p.calls ++ s.before) (Add config ks ∷ []) (given_on p.calls s.before p.given all.0) (all.1.0, tt) in
     let none = adds_are lcid s.behind (subst (AddNone lcid) (sym s.none_behind) tt) in
     let on = go_on side 4 false until s.behind lcid given_until all.1.1 has_it none in
-    let come_here : run s.before e ≡ here = ap (run s.before) p.end_is
+    let come_here : run_end s.before e ≡ here = ap (run_end s.before) p.end_is
     ∙ sym (run_on p.calls s.before (fresh_end side 4 false)) in
-    let there : run s.behind begun ≡ m =
-    ap (run s.behind) (begun_is ∙ ap (λ (x : End). after x (Add config ks)) (sym come_here))
-    ∙ sym (run_on s.before (Add config ks ∷ s.behind) e) ∙ ap (λ (cs : List Call). run cs e) (sym s.calls_are)
+    let there : run_end s.behind begun ≡ m =
+    ap (run_end s.behind) (begun_is ∙ ap (λ (x : End). after x (Add config ks)) (sym come_here))
+    ∙ sym (run_on s.before (Add config ks ∷ s.behind) e) ∙ ap (λ (cs : List Call). run_end cs e) (sym s.calls_are)
     ∙ sym k.by.end_is in
     let unbuilt_here : counts_taken side lcid g.events ≡ [] =
     none_taken side lcid g.events
@@ -379,14 +379,14 @@ begin_there side past g config options line_is right order wants =
     let told : counts_on lcid (told_over s.before e) ++ counts_on lcid (told_over s.behind begun) ≡ [] =
     ap (λ (x : End). counts_on lcid (told_over s.before e) ++ counts_on lcid (told_over s.behind x))
     (begun_is ∙ ap (λ (x : End). after x (Add config ks)) (sym come_here))
-    ∙ sym (counts_then lcid (told_over s.before e) (told_over s.behind (after (run s.before e) (Add config ks))))
+    ∙ sym (counts_then lcid (told_over s.before e) (told_over s.behind (after (run_end s.before e) (Add config ks))))
     ∙ ap (counts_on lcid) (sym (over_on s.before (Add config ks ∷ s.behind) e)
     ∙ ap (λ (cs : List Call). told_over cs e) (sym s.calls_are) ∙ sym k.by.told_is) ∙ unbuilt_here in
     record {
       keys = ks;
       steps = on.comes.steps;
       there = ap (λ (x : End). has lcid x.bearers) (sym there) ∙ on.there;
-      flow_is = ap (flow lcid) (sym there) ∙ on.comes.flow_is ∙ ap (go on.comes.steps) flow_first;
+      flow_is = ap (flow lcid) (sym there) ∙ on.comes.flow_is ∙ ap (run_bearer on.comes.steps) flow_first;
       keyed = still_keyed g.line r (ap is_some may.keyed);
       lives_are =
           ap (λ (l : List Keys). ks ∷ l) (on.comes.lives_are ∙ moves_are s.behind ∙ ap moves s.none_behind)

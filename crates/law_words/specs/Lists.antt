@@ -3,7 +3,7 @@ use Rattle.std.specs.Prelude.{◌≡◌, ℕ, List, ◌++◌, ◌⊎◌, [], ◌
 use Rattle.std.specs.List.{AllByRecursion}
 
 -- one list is the front of another
-pub record IsFront (front all : List (List ℕ)) : Type 0 where
+pub record AreFirstSdus (front all : List (List ℕ)) : Type 0 where
   pub rest : List (List ℕ)
   pub is : all ≡ front ++ rest
 

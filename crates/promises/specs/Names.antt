@@ -21,12 +21,12 @@ use Rattle.l2_types.specs.declared.event.How.TheVariants as how
 
 -- ---- what is told of the PDUs that are sent
 
-pub record Sent : Type 0 where
+pub record SentPdu : Type 0 where
   pub lcid : ℕ
   pub how : How
   pub sn : ℕ
 
-abbrev pub sends : List Event → List Sent
+abbrev pub sends : List Event → List SentPdu
 sends [] = []
 sends (Send lcid how sn ∷ events) = record { lcid = lcid; how = how; sn = sn } ∷ sends events
 sends (event ∷ events) = sends events
@@ -109,7 +109,7 @@ IsNamed channel how sn octets = ⊥
 
 -- ---- the law: PDUs and what is told of them, each of its place, by the modes of the channels
 
-abbrev pub AreNamed : (ℕ → Option Mode) → List Sent → List Sdu → Type 0
+abbrev pub AreNamed : (ℕ → Option Mode) → List SentPdu → List Sdu → Type 0
 AreNamed modes [] [] = Unit {0}
 AreNamed modes (s ∷ sent) (d ∷ sdus) =
     (d.lcid ≡ s.lcid) × IsNamed (modes s.lcid) s.how s.sn d.octets × AreNamed modes sent sdus
@@ -119,4 +119,4 @@ AreNamed modes sent sdus = ⊥
 
 -- the channels of the PDUs that are told of
 abbrev pub sent_on : List Event → List ℕ
-sent_on events = map (λ (s : Sent). s.lcid) (sends events)
+sent_on events = map (λ (s : SentPdu). s.lcid) (sends events)

@@ -20,6 +20,6 @@ part line = Rests
 -- ---- a sender gives up at its limit of retransmissions, for the sequence number that it tells
 
 -- and begins anew in a handover (TS 36.322 5.4)
-abbrev pub hands_over : Line → Bool
-hands_over (lines.Handover user rrc integrity) = true
-hands_over line = false
+abbrev pub is_handover : Line → Bool
+is_handover (lines.Handover user rrc integrity) = true
+is_handover line = false

@@ -26,7 +26,7 @@ use Rattle.l2_types.specs.declared.side.Side.{Side}
 use Rattle.l2_types.specs.declared.side.Side.TheVariants.{Nb, Ue}
 use Rattle.law_node.specs.Calls.{SetVisits, Add, Move, after as after_call}
 use Rattle.law_node.specs.Telling.{told_of}
-use Rattle.promises.specs.Records.{told_by}
+use Rattle.promises.specs.Records.{events_of}
 use Rattle.law_air.specs.AnyCalls.Calls.{Call, Bears, Discards, Visits, Reports, Listens, Loops, Expires, Forges}
 use Rattle.law_air.specs.AnyCalls.Calls.{HandsOver, ReceiversExpire, SendersExpire, after}
 use Rattle.law_air.specs.AnyCalls.Runs.{Step as LinkStep, Tti, Drains, Submit, Calls as LinkCalls, step}
@@ -34,11 +34,11 @@ use Rattle.law_air.proofs.AnyCalls.Calling.{calls_adds, submitting_adds}
 use Rattle.law_air.proofs.AnyCalls.Passing.{tti_adds, drain_adds}
 use Rattle.law_deliver.specs.AmFlow.Air.{Block, Station, Air, outset, older, passed}
 use Rattle.law_deliver.proofs.AmFlow.Stations.{come_more}
-use Rattle.law_words.specs.Arrivals.{Happening}
+use Rattle.law_words.specs.Arrivals.{AccountEntry}
 use Rattle.law_deliver.specs.AmChannel.Lives.{end_at}
-use Rattle.law_air.specs.TwoEnds.Arrival.{renews}
+use Rattle.law_air.specs.TwoEnds.Arrival.{renewals_in}
 use Rattle.promises.specs.Arrival.{tells_in}
-use Rattle.law_air.specs.TwoEnds.Staying.{hands_over, Stays, MovesOn}
+use Rattle.law_air.specs.TwoEnds.Staying.{is_handover_step, Stays, MovesOn}
 use Rattle.law_air.specs.TwoEnds.Going.{handed_in, sets, GoesOn, IsCallSince, IsStepSince}
 use Rattle.promises.specs.Flows.{looped_at}
 use Rattle.law_air.specs.TwoEnds.Shown.{IsShown, anew}
@@ -78,16 +78,17 @@ both_on t m a same h = record {
 
 -- what a step may do
 abbrev marks : ℕ → LinkStep → Marks
-marks l s = record { sets = sets l s; moves = hands_over s }
+marks l s = record { sets = sets l s; moves = is_handover_step s }
 
-same_behind : (c : Behind) (xs ys : List Happening) → ended c ++ xs ≡ ended c ++ ys → xs ≡ ys
+same_behind : (c : Behind) (xs ys : List AccountEntry) → ended c ++ xs ≡ ended c ++ ys → xs ≡ ys
 same_behind Any xs ys e = e
 same_behind (Block' octets process) xs ys e = e
 same_behind Renewed xs ys e = cc
 same_behind Unread xs ys e = e
 
 -- behind what a step ends
-goes_behind : (l t : ℕ) (c : Behind) (s : LinkStep) (k : Link) (a : Air) → ended c ≡ renews s → first_whats c ≡ anew s
+goes_behind : (l t : ℕ) (c : Behind) (s : LinkStep) (k : Link) (a : Air) → ended c ≡ renewals_in s
+    → first_whats c ≡ anew s
     → ((sent : List ℕ) → Fits c sent) → ((p : Place) → IsAt c p)
     → Reaches l (marks l s) c Any (λ side n. handed_in side n s k) (Stands Nb (Waits t)) (Stands Ue (Waits t)) k
     (step s k) a → (step s k).ttis ≡ t → Stays l s k a
@@ -104,7 +105,7 @@ goes_behind l t c s k a ends firsts fits at r same = record {
       told_is = r.goes.told_is;
       submitted_is = r.goes.submitted_is;
       happened_is = λ bits from. r.goes.reads bits from [] (fits [])
-          ∙ ap (λ (hs : List Happening). hs ++ tells_in bits l from [] r.more) ends;
+          ∙ ap (λ (hs : List AccountEntry). hs ++ tells_in bits l from [] r.more) ends;
       sets_none = r.goes.sets_none;
       on = subst (IsOn (step s k)) (sym r.goes.air_is) (both_on t (step s k) r.air same r.both);
     };
@@ -117,7 +118,7 @@ goes_behind l t c s k a ends firsts fits at r same = record {
   in_life = r.goes.stays;
 }
 
-goes_so : (l t : ℕ) (s : LinkStep) (k : Link) (a : Air) → renews s ≡ [] → anew s ≡ []
+goes_so : (l t : ℕ) (s : LinkStep) (k : Link) (a : Air) → renewals_in s ≡ [] → anew s ≡ []
     → Reaches l (marks l s) Any Any (λ side n. handed_in side n s k) (Stands Nb (Waits t)) (Stands Ue (Waits t)) k
     (step s k) a → (step s k).ttis ≡ t → Stays l s k a
 goes_so l t s k a stays still r same = goes_behind l t Any s k a (sym stays) (sym still) (λ sent. tt) (λ p. tt) r same
@@ -360,7 +361,7 @@ bears_rests l set config keys k g apart =
 -- ---- any call
 
 -- in which both ends stay in their cell
-stays_by : (l : ℕ) (c : Call) (k : Link) (a : Air) → renews (LinkCalls c) ≡ [] → anew (LinkCalls c) ≡ []
+stays_by : (l : ℕ) (c : Call) (k : Link) (a : Air) → renewals_in (LinkCalls c) ≡ [] → anew (LinkCalls c) ≡ []
     → Rests l (marks l (LinkCalls c)) k (after c k) → IsOn k a → Stays l (LinkCalls c) k a
 stays_by l c k a stays still f h =
     goes_so l k.ttis (LinkCalls c) k a stays still (f (Waits k.ttis) (Waits k.ttis) a (on_both k a h))
@@ -413,7 +414,8 @@ handovers_move l keys k a h =
       leaving = left_told k;
       behind = r.more;
       out_is = r.out_is ∙ ap (λ (o : List Record). o ++ r.more) m.out_is ∙ append_assoc k.out (left_told k) r.more;
-      told_is = by_sides (λ side. told_by side (left_told k) ≡ told_of (end_at side a) (Move keys)) m.nb_told m.ue_told;
+      told_is =
+          by_sides (λ side. events_of side (left_told k) ≡ told_of (end_at side a) (Move keys)) m.nb_told m.ue_told;
       none_looped = by_sides (λ side. (i : ℕ) → looped_at side i (left_told k) ≡ []) (λ i. refl) m.unlooped;
       by = record {
         steps = r.goes.steps;

@@ -18,9 +18,9 @@ use Rattle.l2_types.specs.declared.side.Side.TheVariants.{Nb, Ue}
 use Rattle.law_node.specs.Calls.{Turn, Visits, Receive, IsGiven as IsGivenTo, after as after_call}
 use Rattle.law_node.specs.Telling.{told_of}
 use Rattle.law_node.proofs.Looping.{tells_no_loop}
-use Rattle.promises.specs.Records.{told_by}
-use Rattle.law_words.specs.Arrivals.{Happening}
-use Rattle.promises.specs.Given.{bringing}
+use Rattle.promises.specs.Records.{events_of}
+use Rattle.law_words.specs.Arrivals.{AccountEntry}
+use Rattle.promises.specs.Given.{entries_come}
 use Rattle.promises.specs.Pdus.{carried}
 use Rattle.law_deliver.proofs.AmFlow.Stations.{come_side}
 use Rattle.law_deliver.specs.AmChannel.Arrival.{said_in, heard_in}
@@ -54,8 +54,8 @@ pub record Flown (octets : List ℕ) (p : ℕ) (s : Station) : Type 0 where
   pub octets_are : block.octets ≡ octets
 
 heard_from : (l : ℕ) (side : Side) (e : End) (octets : List ℕ) → HasCome side e
-    → heard_in l e (Receive octets) ≡ bringing (carried l (heard_by side) octets)
-heard_from l side e octets h = ap (λ (s : Side). bringing (carried l (heard_by s) octets)) (come_side side e h)
+    → heard_in l e (Receive octets) ≡ entries_come (carried l (heard_by side) octets)
+heard_from l side e octets h = ap (λ (s : Side). entries_come (carried l (heard_by s) octets)) (come_side side e h)
 
 came_ue : (l p : ℕ) (e : End) (b : Block) (es : List Event) → b.process ≡ p → es ≡ told_of e (Receive b.octets)
     → (bits : ℕ) (from : Side) (c : Place) (heard : Option Bool) → c.process ≡ p
@@ -99,9 +99,9 @@ hears_ue l set octets v heard k P u flown a h =
     let brings : Brings l (Block' octets v) Ue told f.block.octets a.ue.end = record {
       own = λ bits sent fits. quiet bits l Ue sent;
       far = λ bits sent fits.
-          ap (λ (hs : List Happening). bringing (carried l directions.Down sent) ++ hs) (quiet bits l Nb sent)
-          ∙ (append-nil (bringing (carried l directions.Down sent))
-          ∙ (ap (λ (o : List ℕ). bringing (carried l directions.Down o)) (fits ∙ sym f.octets_are)
+          ap (λ (hs : List AccountEntry). entries_come (carried l directions.Down sent) ++ hs) (quiet bits l Nb sent)
+          ∙ (append-nil (entries_come (carried l directions.Down sent))
+          ∙ (ap (λ (o : List ℕ). entries_come (carried l directions.Down o)) (fits ∙ sym f.octets_are)
           ∙ sym (heard_from l Ue a.ue.end f.block.octets h.ue.is.come)));
     } in
     record {
@@ -150,9 +150,9 @@ hears_nb l set octets v heard k n Q flown a h =
     let brings : Brings l (Block' octets v) Nb told f.block.octets a.nb.end = record {
       own = λ bits sent fits. quiet bits l Nb sent;
       far = λ bits sent fits.
-          ap (λ (hs : List Happening). bringing (carried l directions.Up sent) ++ hs) (quiet bits l Ue sent)
-          ∙ (append-nil (bringing (carried l directions.Up sent))
-          ∙ (ap (λ (o : List ℕ). bringing (carried l directions.Up o)) (fits ∙ sym f.octets_are)
+          ap (λ (hs : List AccountEntry). entries_come (carried l directions.Up sent) ++ hs) (quiet bits l Ue sent)
+          ∙ (append-nil (entries_come (carried l directions.Up sent))
+          ∙ (ap (λ (o : List ℕ). entries_come (carried l directions.Up o)) (fits ∙ sym f.octets_are)
           ∙ sym (heard_from l Nb a.nb.end f.block.octets h.nb.is.come)));
     } in
     record {
@@ -207,8 +207,8 @@ pub record Visited (l : ℕ) (side : Side) (t : Turn) (told : List Record) (k m 
   pub end_is : end_of side m ≡ after_call (end_of side k) (Visits t)
   pub other_is : end_of (other side) m ≡ end_of (other side) k
   pub out_is : m.out ≡ k.out ++ told
-  pub told_is : told_by side told ≡ building t.tti t.grant t.order (end_of side k)
-  pub other_told : told_by (other side) told ≡ []
+  pub told_is : events_of side told ≡ building t.tti t.grant t.order (end_of side k)
+  pub other_told : events_of (other side) told ≡ []
   pub unlooped : (n : ℕ) → loops_in n told ≡ []
   -- what is told of the air, by an end of the side; and the block that is sent
   pub says : (bits l : ℕ) (sent : List ℕ) → HasCome side (end_of side k)

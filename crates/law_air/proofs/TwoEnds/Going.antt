@@ -15,14 +15,14 @@ use Rattle.l2_types.specs.declared.side.Side.TheVariants.{Nb, Ue}
 use Rattle.law_node.specs.Bearers.{adds, keys_in}
 use Rattle.law_node.specs.Calls.{Call as EndCall, SetVisits, SetReports, Add, Submit, SetDiscard, Tick, TickBuckets}
 use Rattle.law_node.specs.Calls.{Visits, Grants, Granted, Assigned, Pass, Receive, Expire, Move, IsGiven as IsGivenTo}
-use Rattle.law_node.specs.Calls.{after as after_call, run as run_end}
+use Rattle.law_node.specs.Calls.{after as after_call, run_end}
 use Rattle.law_node.specs.Telling.{told_of, told_over}
-use Rattle.promises.specs.Records.{told_by, sent_last}
+use Rattle.promises.specs.Records.{events_of, sent_last}
 use Rattle.law_air.proofs.AnyCalls.Going.{told_both, run_on, over_on}
 use Rattle.law_deliver.specs.AmFlow.Air.{Block, Station, Air, Act, Calls, Comes, Goes as LetsGo, AtNb, AtUe, Passes}
 use Rattle.law_deliver.specs.AmFlow.Air.{calls, comes, does, passed, outset, IsCalling, IsYoung}
 use Rattle.law_deliver.specs.AmFlow.Channels.{GoesOnInLife}
-use Rattle.law_words.specs.Arrivals.{Happening, Renews}
+use Rattle.law_words.specs.Arrivals.{AccountEntry, Renews}
 use Rattle.law_deliver.specs.AmChannel.Arrival.{said_in, heard_in, said_over, heard_over, happens_in, happened}
 use Rattle.promises.specs.Arrival.{tells_at, tells_in}
 use Rattle.law_deliver.specs.AmChannel.Delivery.{submitted_in, was_submitted, sets_discard, SetNone}
@@ -146,7 +146,7 @@ submitted_more side n a xs ys =
 -- ---- steps that tell what records tell, in which each side is submitted so much
 
 abbrev Tells : List Record → List AirStep → Air → Side → Type 0
-Tells told steps a side = told_by side told ≡ told_over (all_calls side steps a) (end_at side a)
+Tells told steps a side = events_of side told ≡ told_over (all_calls side steps a) (end_at side a)
 
 abbrev Submits : (Side → ℕ → List (List ℕ)) → List AirStep → Air → Side → Type 0
 Submits given steps a side = (n : ℕ) → was_submitted n (all_calls side steps a) (end_at side a) ≡ given side n
@@ -194,7 +194,7 @@ IsAt (Block' octets process) p = p.process ≡ process
 IsAt Renewed p = Unit {0}
 IsAt Unread p = ⊥
 
-abbrev pub ended : Behind → List Happening
+abbrev pub ended : Behind → List AccountEntry
 ended Any = []
 ended (Block' octets process) = []
 ended Renewed = Renews ∷ []
@@ -254,7 +254,7 @@ happened_more : (bits l : ℕ) (from : Side) (xs ys : List AirStep) (a : Air)
     → happened bits l from (xs ++ ys) a ≡ happened bits l from xs a ++ happened bits l from ys (lives xs a)
 happened_more bits l from [] ys a = refl
 happened_more bits l from (x ∷ xs) ys a =
-    ap (λ (hs : List Happening). happens_in bits l from a x ++ hs) (happened_more bits l from xs ys (lives_on a x))
+    ap (λ (hs : List AccountEntry). happens_in bits l from a x ++ hs) (happened_more bits l from xs ys (lives_on a x))
     ∙ sym (append_assoc (happens_in bits l from a x) (happened bits l from xs (lives_on a x))
     (happened bits l from ys (lives xs (lives_on a x))))
 
@@ -262,7 +262,8 @@ pub tells_more : (bits l : ℕ) (from : Side) (sent : List ℕ) (f g : List Reco
     → tells_in bits l from sent (f ++ g) ≡ tells_in bits l from sent f ++ tells_in bits l from (last_in f sent) g
 tells_more bits l from sent [] g = refl
 tells_more bits l from sent (one ∷ f) g =
-    ap (λ (hs : List Happening). tells_at bits l from sent one ++ hs) (tells_more bits l from (sent_last one sent) f g)
+    ap (λ (hs : List AccountEntry). tells_at bits l from sent one ++ hs)
+    (tells_more bits l from (sent_last one sent) f g)
     ∙ sym (append_assoc (tells_at bits l from sent one) (tells_in bits l from (sent_last one sent) f)
     (tells_in bits l from (last_in f (sent_last one sent)) g))
 
@@ -301,13 +302,13 @@ behind_then l set c d f g x y {v} {w} a b e none left p q =
           let two = tells_in bits l from (last_in f sent) g in
           let second : happened bits l from ts z ≡ two =
           ap (λ (w : Air). happened bits l from ts w) p.air_is
-          ∙ (q.reads bits from (last_in f sent) (left sent fits) ∙ ap (λ (hs : List Happening). hs ++ two) none)
+          ∙ (q.reads bits from (last_in f sent) (left sent fits) ∙ ap (λ (hs : List AccountEntry). hs ++ two) none)
           in
           happened_more bits l from ss ts a
-          ∙ (ap (λ (hs : List Happening). hs ++ happened bits l from ts z) (p.reads bits from sent fits)
-          ∙ (ap (λ (hs : List Happening). (ended c ++ one) ++ hs) second
+          ∙ (ap (λ (hs : List AccountEntry). hs ++ happened bits l from ts z) (p.reads bits from sent fits)
+          ∙ (ap (λ (hs : List AccountEntry). (ended c ++ one) ++ hs) second
           ∙ (append_assoc (ended c) one two
-          ∙ ap (λ (hs : List Happening). ended c ++ hs) (sym (tells_more bits l from sent f g)))));
+          ∙ ap (λ (hs : List AccountEntry). ended c ++ hs) (sym (tells_more bits l from sent f g)))));
       whats_are = λ bits from.
           let second = ap (λ (u : Air). whats from l bits ts u) p.air_is ∙ q.whats_are bits from in
           whats_more l bits from a ss ts
@@ -345,7 +346,7 @@ weaken l set c told given {ws} a b open' p = record {
   sets_none = p.sets_none;
   stays = p.stays;
   reads = λ bits from sent fits. p.reads bits from sent tt
-      ∙ sym (ap (λ (hs : List Happening). hs ++ tells_in bits l from sent told) open');
+      ∙ sym (ap (λ (hs : List AccountEntry). hs ++ tells_in bits l from sent told) open');
   whats_are = p.whats_are;
   air_is = p.air_is;
 }
@@ -376,7 +377,7 @@ TellNoAir told = (bits l : ℕ) (from : Side) (sent : List ℕ) → tells_in bit
 
 -- records that tell nothing of an end
 pub goes_none : (l : ℕ) (set : Marks) (c : Behind) (told : List Record) (a : Air) → ended c ≡ []
-    → ((side : Side) → told_by side told ≡ []) → TellNoAir told → GoesBehind l set c told none no_whats a a
+    → ((side : Side) → events_of side told ≡ []) → TellNoAir told → GoesBehind l set c told none no_whats a a
 goes_none l set c told a open' untold unflown = record {
   steps = [];
   living = tt;
@@ -385,7 +386,7 @@ goes_none l set c told a open' untold unflown = record {
   sets_none = λ off side. tt;
   stays = λ off. tt;
   reads =
-      λ bits from sent fits. sym (ap (λ (hs : List Happening). hs ++ tells_in bits l from sent told) open'
+      λ bits from sent fits. sym (ap (λ (hs : List AccountEntry). hs ++ tells_in bits l from sent told) open'
       ∙ unflown bits l from sent);
   whats_are = λ bits from. refl;
   air_is = refl;
@@ -401,8 +402,8 @@ by_sides P nb ue Ue = ue
 -- is submitted none
 pub record Says (side : Side) (told : List Record) (given : Side → ℕ
     → List (List ℕ)) (e : End) (c : EndCall) : Type 0 where
-  pub told_is : told_by side told ≡ told_of e c
-  pub other_told : told_by (other side) told ≡ []
+  pub told_is : events_of side told ≡ told_of e c
+  pub other_told : events_of (other side) told ≡ []
   pub submitted_is : (n : ℕ) → submitted_in n e c ≡ given side n
   pub other_submitted : (n : ℕ) → [] ≡ given (other side) n
   pub says : (bits l : ℕ) (sent : List ℕ) → said_in bits l e c ≡ tells_in bits l side sent told
@@ -513,7 +514,7 @@ come_unset l (Some b) = (refl, tt)
 pub goes_come : (l : ℕ) (set : Marks) (c : Behind) (side : Side) (told : List Record) (k : ℕ) (b : Block) (a : Air)
     → ended c ≡ [] → Brings l c side told b.octets (station side a).end
     → slice_get (station (other side) a).blocks k ≡ Some b
-    → told_by side told ≡ told_of (station side a).end (Receive b.octets) → told_by (other side) told ≡ []
+    → events_of side told ≡ told_of (station side a).end (Receive b.octets) → events_of (other side) told ≡ []
     → GoesBehind l set c told none (come_whats side l (station side a).end b) a
     (with_station side (record (station side a) { end = after_call (station side a).end (Receive b.octets) }) a)
 goes_come l set c Nb told k b a open' brings there is untold =
@@ -534,11 +535,11 @@ goes_come l set c Nb told k b a open' brings there is untold =
           λ bits from sent fits. by_sides (λ (s : Side). happened bits l s xs a
           ≡ ended c ++ tells_in bits l s sent told)
           (none_said bits l (slice_get a.ue.blocks k) e
-          ∙ sym (ap (λ (hs : List Happening). hs ++ tells_in bits l Nb sent told) open'
+          ∙ sym (ap (λ (hs : List AccountEntry). hs ++ tells_in bits l Nb sent told) open'
           ∙ brings.own bits sent fits))
           (ap (λ (o : Option Block). ([] ++ heard_over l (brought o) e) ++ []) there
           ∙ (heard_one l e (Receive b.octets)
-          ∙ sym (ap (λ (hs : List Happening). hs ++ tells_in bits l Ue sent told) open'
+          ∙ sym (ap (λ (hs : List AccountEntry). hs ++ tells_in bits l Ue sent told) open'
           ∙ brings.far bits sent fits))) from;
       whats_are = whats_by l xs a (come_whats Nb l e b) (λ bits. refl)
           (λ bits. append-nil (what_came l e (slice_get a.ue.blocks k)) ∙ ap (what_came l e) there);
@@ -563,10 +564,10 @@ goes_come l set c Ue told k b a open' brings there is untold =
           ≡ ended c ++ tells_in bits l s sent told)
           (ap (λ (o : Option Block). ([] ++ heard_over l (brought o) e) ++ []) there
           ∙ (heard_one l e (Receive b.octets)
-          ∙ sym (ap (λ (hs : List Happening). hs ++ tells_in bits l Nb sent told) open'
+          ∙ sym (ap (λ (hs : List AccountEntry). hs ++ tells_in bits l Nb sent told) open'
           ∙ brings.far bits sent fits)))
           (none_said bits l (slice_get a.nb.blocks k) e
-          ∙ sym (ap (λ (hs : List Happening). hs ++ tells_in bits l Ue sent told) open'
+          ∙ sym (ap (λ (hs : List AccountEntry). hs ++ tells_in bits l Ue sent told) open'
           ∙ brings.own bits sent fits)) from;
       whats_are =
           whats_by l xs a (come_whats Ue l e b) (λ bits. append-nil (what_came l e (slice_get a.nb.blocks k))
@@ -577,7 +578,7 @@ goes_come l set c Ue told k b a open' brings there is untold =
 -- both ends move
 
 pub goes_move : (l : ℕ) (set : Bool) (told : List Record) (keys : Keys) (a : Air) → TellNoAir told
-    → told_by Nb told ≡ leaving a.nb.end → told_by Ue told ≡ leaving a.ue.end
+    → events_of Nb told ≡ leaving a.nb.end → events_of Ue told ≡ leaving a.ue.end
     → GoesBehind l (moving set) Renewed told none (move_whats l a keys) a
     (outset (after_call a.nb.end (Move keys)) (after_call a.ue.end (Move keys)))
 goes_move l set told keys a unflown nb ue =
@@ -593,8 +594,8 @@ goes_move l set told keys a unflown nb ue =
       reads =
           λ bits from sent fits. by_sides (λ (s : Side). happened bits l s xs a
           ≡ Renews ∷ tells_in bits l s sent told)
-          (ap (λ (hs : List Happening). Renews ∷ hs) (sym (unflown bits l Nb sent)))
-          (ap (λ (hs : List Happening). Renews ∷ hs) (sym (unflown bits l Ue sent))) from;
+          (ap (λ (hs : List AccountEntry). Renews ∷ hs) (sym (unflown bits l Nb sent)))
+          (ap (λ (hs : List AccountEntry). Renews ∷ hs) (sym (unflown bits l Ue sent))) from;
       whats_are = whats_by l xs a (move_whats l a keys) (λ bits. append-nil (move_whats l a keys bits Nb))
           (λ bits. append-nil (move_whats l a keys bits Ue));
       air_is = refl;

@@ -36,7 +36,7 @@ use Rattle.air_link.specs.Downlink.{hears_by, lands, unseen, down_order, down_by
 use Rattle.air_record.specs.Outcomes.{turned}
 use Rattle.air_link.specs.Uplink.{up_order, is_intact, told_as as up_told_as, granted, hears_if, aired as up_aired}
 use Rattle.air_link.specs.Uplink.{awake, up_by, answers, grants, passes, uplink}
-use Rattle.promises.specs.Records.{is_looped, told_by, is_shown, sent_last}
+use Rattle.promises.specs.Records.{is_looped, events_of, is_shown, sent_last}
 use Rattle.promises.specs.Loops.{looped}
 use Rattle.law_air.proofs.AnyCalls.Blocks.{block_is}
 use Rattle.law_air.proofs.AnyCalls.Going.{own_told, other_told, told_both, Seen}
@@ -48,8 +48,8 @@ use Rattle.law_air.proofs.AnyCalls.Visiting.{sent, visit_records, comes_seen, bu
 use Rattle.law_air.proofs.AnyCalls.Visiting.{builds_up, sent_up}
 use Rattle.law_deliver.specs.AmFlow.Air.{HasCome, Block, Station, built_at}
 use Rattle.promises.specs.Flows.{loops_in}
-use Rattle.law_words.specs.Arrivals.{Given, Happening, Gives}
-use Rattle.promises.specs.Given.{given_in, giving, gives, writing}
+use Rattle.law_words.specs.Arrivals.{Given, AccountEntry, Gives}
+use Rattle.promises.specs.Given.{given_in, entries_of, entries_given, entries_written}
 use Rattle.promises.specs.Pdus.{carried}
 use Rattle.promises.specs.Events.{is_on, told_on}
 use Rattle.law_deliver.proofs.AmFlow.Stations.{come_side}
@@ -111,24 +111,24 @@ flown_again rv side t e is s h =
 -- ---- what the records of a visit tell
 
 building_own : (side : Side) (t : Turn) (e : End)
-    → told_by side (map (records.Of side) (building t.tti t.grant t.order e)) ≡ building t.tti t.grant t.order e
+    → events_of side (map (records.Of side) (building t.tti t.grant t.order e)) ≡ building t.tti t.grant t.order e
 building_own side t e = own_told side (building t.tti t.grant t.order e) (tells_no_loop e (Visits t))
 
 sent_untold : (v : Visit) (side by : Side) (t : ℕ) (kinds : List (Option Layout)) (octets : List ℕ)
-    → told_by side (sent v by t kinds octets) ≡ []
+    → events_of side (sent v by t kinds octets) ≡ []
 sent_untold New side by t kinds octets = shown_untold side (sent_by by) kinds octets
 sent_untold (Resend rv) side by t kinds octets = refl
 sent_untold Quiet side by t kinds octets = refl
 
 visit_own : (v : Visit) (side : Side) (t : Turn) (kinds : List (Option Layout)) (octets : List ℕ) (e : End)
-    → told_by side (visit_records v side t.tti t.grant t.order kinds octets e) ≡ building t.tti t.grant t.order e
+    → events_of side (visit_records v side t.tti t.grant t.order kinds octets e) ≡ building t.tti t.grant t.order e
 visit_own v side t kinds octets e =
     let es = building t.tti t.grant t.order e in
     told_both side (map (records.Of side) es) (sent v side t.tti kinds octets) es [] (building_own side t e)
     (sent_untold v side side t.tti kinds octets) ∙ append-nil es
 
 visit_other : (v : Visit) (side : Side) (t : Turn) (kinds : List (Option Layout)) (octets : List ℕ) (e : End)
-    → told_by (other side) (visit_records v side t.tti t.grant t.order kinds octets e) ≡ []
+    → events_of (other side) (visit_records v side t.tti t.grant t.order kinds octets e) ≡ []
 visit_other v side t kinds octets e =
     let es = building t.tti t.grant t.order e in
     told_both (other side) (map (records.Of side) es) (sent v side t.tti kinds octets) [] [] (other_told side es)
@@ -137,8 +137,9 @@ visit_other v side t kinds octets e =
 -- ---- and of what goes by air
 
 -- one event after the other
-gives_then : (bits : ℕ) (xs ys : List Event) → gives bits (xs ++ ys) ≡ gives bits xs ++ gives bits ys
-gives_then bits xs ys = ap giving (flat_map-append (given_in bits) xs ys)
+gives_then : (bits : ℕ) (xs ys : List Event) → entries_given bits (xs ++ ys)
+    ≡ entries_given bits xs ++ entries_given bits ys
+gives_then bits xs ys = ap entries_of (flat_map-append (given_in bits) xs ys)
     ∙ map-append (λ (g : Given). Gives g) (flat_map (given_in bits) xs) (flat_map (given_in bits) ys)
 
 told_first : (l : ℕ) (e : Event) (es : List Event) → told_on l (e ∷ es) ≡ told_on l (e ∷ []) ++ told_on l es
@@ -149,13 +150,13 @@ told_first l e es = by (is_on l e)
     by false = refl
 
 own_tell : (bits l : ℕ) (side : Side) (es : List Event) (sent : List ℕ)
-    → tells_in bits l side sent (map (records.Of side) es) ≡ gives bits (told_on l es)
+    → tells_in bits l side sent (map (records.Of side) es) ≡ entries_given bits (told_on l es)
 own_tell bits l side [] sent = refl
 own_tell bits l side (e ∷ es) sent =
-    ap (λ (b : Bool). only_if b (gives bits (told_on l (e ∷ [])))
+    ap (λ (b : Bool). only_if b (entries_given bits (told_on l (e ∷ [])))
     ++ tells_in bits l side sent (map (records.Of side) es)) (itself side)
-    ∙ (ap (λ (hs : List Happening). gives bits (told_on l (e ∷ [])) ++ hs) (own_tell bits l side es sent)
-    ∙ (sym (gives_then bits (told_on l (e ∷ [])) (told_on l es)) ∙ ap (gives bits) (sym (told_first l e es))))
+    ∙ (ap (λ (hs : List AccountEntry). entries_given bits (told_on l (e ∷ [])) ++ hs) (own_tell bits l side es sent)
+    ∙ (sym (gives_then bits (told_on l (e ∷ [])) (told_on l es)) ∙ ap (entries_given bits) (sym (told_first l e es))))
   where
     itself : (s : Side) → is_same s s ≡ true
     itself Nb = refl
@@ -165,7 +166,7 @@ others_tell : (bits l : ℕ) (side : Side) (es : List Event) (sent : List ℕ)
     → tells_in bits l (other side) sent (map (records.Of side) es) ≡ []
 others_tell bits l side [] sent = refl
 others_tell bits l side (e ∷ es) sent =
-    ap (λ (b : Bool). only_if b (gives bits (told_on l (e ∷ [])))
+    ap (λ (b : Bool). only_if b (entries_given bits (told_on l (e ∷ [])))
     ++ tells_in bits l (other side) sent (map (records.Of side) es)) (apart side)
     ∙ others_tell bits l side es sent
   where
@@ -189,7 +190,7 @@ shown_tell : (told : List Record) → AllShown told → (bits l : ℕ) (from : S
     → tells_in bits l from sent told ≡ []
 shown_tell [] a bits l from sent = refl
 shown_tell (one ∷ told) a bits l from sent =
-    ap (λ (hs : List Happening). hs ++ tells_in bits l from (sent_last one sent) told)
+    ap (λ (hs : List AccountEntry). hs ++ tells_in bits l from (sent_last one sent) told)
     (shown_at bits l from sent one a.0) ∙ shown_tell told a.1 bits l from (sent_last one sent)
 
 shown_leave : (told : List Record) → AllShown told → (sent : List ℕ) → last_in told sent ≡ sent
@@ -219,21 +220,22 @@ sent_tells : (v : Visit) (bits l : ℕ) (side : Side) (t : Turn) (kinds : List (
     (e : End) (sent' : List ℕ) → visit t.tti t.order e ≡ v → HasCome side e
     → octets ≡ block_at t.tti (built t.tti t.grant t.order e)
     → tells_in bits l side sent' (sent v side t.tti kinds octets)
-    ≡ writing
+    ≡ entries_written
     (flat_map (carried l (sent_by e.side)) (map (λ (x : Block). x.octets) (built_at v t (visited t.tti t.order e))))
 sent_tells New bits l side t kinds octets e sent' is come are =
     let own : (new_block (visited t.tti t.order e) t.grant) ≡ octets =
     sym (block_is t.tti t.grant t.order e (come_eight side e come) is) ∙ sym are in
-    ap (λ (b : Bool). only_if b (writing (carried l (sent_by side) octets))
+    ap (λ (b : Bool). only_if b (entries_written (carried l (sent_by side) octets))
     ++ tells_in bits l side octets (block_shown (sent_by side) kinds octets)) (itself side)
-    ∙ (ap (λ (hs : List Happening). writing (carried l (sent_by side) octets) ++ hs)
+    ∙ (ap (λ (hs : List AccountEntry). entries_written (carried l (sent_by side) octets) ++ hs)
     (shown_tell (block_shown (sent_by side) kinds octets) (block_shows kinds (reading (sent_by side) octets)) bits l
     side octets)
-    ∙ (append-nil (writing (carried l (sent_by side) octets))
-    ∙ (ap (λ (o : List ℕ). writing (carried l (sent_by side) o)) (sym own)
-    ∙ (ap (λ (s : Side). writing (carried l (sent_by s) (new_block (visited t.tti t.order e) t.grant)))
+    ∙ (append-nil (entries_written (carried l (sent_by side) octets))
+    ∙ (ap (λ (o : List ℕ). entries_written (carried l (sent_by side) o)) (sym own)
+    ∙ (ap (λ (s : Side). entries_written (carried l (sent_by s) (new_block (visited t.tti t.order e) t.grant)))
     (sym (come_side side e come))
-    ∙ ap writing (sym (append-nil (carried l (sent_by e.side) (new_block (visited t.tti t.order e) t.grant))))))))
+    ∙ ap entries_written (sym (append-nil (carried l (sent_by e.side)
+    (new_block (visited t.tti t.order e) t.grant))))))))
   where
     itself : (s : Side) → (true && is_same (sender_of (sent_by s)) s) ≡ true
     itself Nb = refl
@@ -251,17 +253,17 @@ visit_says v bits l side t kinds octets e sent' is come are =
     let xs = map (records.Of side) es in
     let ys = sent v side t.tti kinds octets in
     let f = visited t.tti t.order e in
-    ap (λ (w : Visit). gives bits (told_on l es)
-    ++ writing (flat_map (carried l (sent_by e.side)) (map (λ (x : Block). x.octets) (built_at w t f)))) is
-    ∙ (ap (λ (hs : List Happening). gives bits (told_on l es) ++ hs)
+    ap (λ (w : Visit). entries_given bits (told_on l es)
+    ++ entries_written (flat_map (carried l (sent_by e.side)) (map (λ (x : Block). x.octets) (built_at w t f)))) is
+    ∙ (ap (λ (hs : List AccountEntry). entries_given bits (told_on l es) ++ hs)
     (sym (sent_tells v bits l side t kinds octets e (last_in xs sent') is come are))
-    ∙ (ap (λ (hs : List Happening). hs ++ tells_in bits l side (last_in xs sent') ys)
+    ∙ (ap (λ (hs : List AccountEntry). hs ++ tells_in bits l side (last_in xs sent') ys)
     (sym (own_tell bits l side es sent')) ∙ sym (tells_more bits l side sent' xs ys)))
 
 sent_hears : (v : Visit) (bits l : ℕ) (side : Side) (t : ℕ) (kinds : List (Option Layout)) (octets sent' : List ℕ)
     → tells_in bits l (other side) sent' (sent v side t kinds octets) ≡ []
 sent_hears New bits l side t kinds octets sent' =
-    ap (λ (b : Bool). only_if b (writing (carried l (sent_by side) octets))
+    ap (λ (b : Bool). only_if b (entries_written (carried l (sent_by side) octets))
     ++ tells_in bits l (other side) octets (block_shown (sent_by side) kinds octets)) (apart side)
     ∙ shown_tell (block_shown (sent_by side) kinds octets) (block_shows kinds (reading (sent_by side) octets)) bits l
     (other side) octets
@@ -280,7 +282,7 @@ visit_hears v bits l side t kinds octets e sent' =
     let xs = map (records.Of side) es in
     let ys = sent v side t.tti kinds octets in
     tells_more bits l (other side) sent' xs ys
-    ∙ (ap (λ (hs : List Happening). hs ++ tells_in bits l (other side) (last_in xs sent') ys)
+    ∙ (ap (λ (hs : List AccountEntry). hs ++ tells_in bits l (other side) (last_in xs sent') ys)
     (others_tell bits l side es sent') ∙ sent_hears v bits l side t.tti kinds octets (last_in xs sent'))
 
 quiet_says : (bits l : ℕ) (side : Side) (t : Turn) (e : End) (sent' : List ℕ) → visit t.tti t.order e ≡ Quiet
@@ -288,11 +290,11 @@ quiet_says : (bits l : ℕ) (side : Side) (t : Turn) (e : End) (sent' : List ℕ
     ≡ tells_in bits l side sent' (map (records.Of side) (building t.tti t.grant t.order e))
 quiet_says bits l side t e sent' is =
     let es = building t.tti t.grant t.order e in
-    ap (λ (w : Visit). gives bits (told_on l es)
-    ++ writing
+    ap (λ (w : Visit). entries_given bits (told_on l es)
+    ++ entries_written
     (flat_map (carried l (sent_by e.side))
     (map (λ (x : Block). x.octets) (built_at w t (visited t.tti t.order e))))) is
-    ∙ (append-nil (gives bits (told_on l es)) ∙ sym (own_tell bits l side es sent'))
+    ∙ (append-nil (entries_given bits (told_on l es)) ∙ sym (own_tell bits l side es sent'))
 
 -- and of no SDU of the test loop
 not_looped : (n : ℕ) (one : Record) → looped one ≡ [] → is_looped n one ≡ false

@@ -25,7 +25,7 @@ use Rattle.bearer.specs.Taking.{after as taken_from}
 use Rattle.bearer.specs.Hearing.{arrived, expired, ticked, with_discard}
 use Rattle.bearer.specs.Lives.{stopped, restarted}
 use Rattle.law_bearer.specs.AnyBearer.Calls.{Call, Submit, Take, Arrive, Expire, Tick, SetDiscard, after, after_all}
-use Rattle.law_bearer.specs.AnyBearer.Calls.{Step, Calls, Restart, goes, run, ends, ends_between}
+use Rattle.law_bearer.specs.AnyBearer.Calls.{Step, Calls, Restart, goes, run_bearer, ends, ends_between}
 use Rattle.law_bearer.specs.AnyBearer.Stream.{offers_of, takes, taken, all_taken, pdu_of, IsOffered, um_offered}
 use Rattle.law_bearer.specs.AnyBearer.Stream.{am_offered}
 use Rattle.law_bearer.specs.AnyBearer.Queue.{submits, off, news, drops, all_news, all_left, all_submitted}
@@ -280,7 +280,7 @@ restarts_as (Am b) e keys q = let one : b.pdcp ≡ e = cc in
 
 -- ---- through lives
 
-pub run_more : (f : Flow) (xs ys : List Step) → run (xs ++ ys) f ≡ run ys (run xs f)
+pub run_more : (f : Flow) (xs ys : List Step) → run_bearer (xs ++ ys) f ≡ run_bearer ys (run_bearer xs f)
 run_more f [] ys = refl
 run_more f (x ∷ xs) ys = run_more (goes f x) xs ys
 
@@ -300,7 +300,7 @@ lives_on f e (Restart keys) q =
       passed = ended_restarts e one.between keys one.ended;
     }
 
-pub history : (f : Flow) (e : Ends) (xs : List Step) → ends f ≡ Some e → Lives e (run xs f) (all_doings f xs)
+pub history : (f : Flow) (e : Ends) (xs : List Step) → ends f ≡ Some e → Lives e (run_bearer xs f) (all_doings f xs)
 history f e [] q = record { next = e; is = q; passed = passed_lives e e nothing (rests e) }
 history f e (x ∷ xs) q =
     let one = lives_on f e x q in
@@ -335,7 +335,7 @@ none_step (Tm b) (Restart keys) q = refl
 none_step (Um b) (Restart keys) q = let no : Some b.pdcp ≡ None = q in cc
 none_step (Am b) (Restart keys) q = let no : Some b.pdcp ≡ None = q in cc
 
-pub none_steps : (f : Flow) (xs : List Step) → ends f ≡ None → ends (run xs f) ≡ None
+pub none_steps : (f : Flow) (xs : List Step) → ends f ≡ None → ends (run_bearer xs f) ≡ None
 none_steps f [] q = q
 none_steps f (x ∷ xs) q = none_steps (goes f x) xs (none_step f x q)
 

@@ -21,13 +21,13 @@ use Rattle.pdcp_tx.specs.State.{State, Offer, offers, owed_offers, again_offer, 
 use Rattle.pdcp_tx.specs.State.{took_owed, took_again, took_new, confirmed, reported, reported_from, fms_count}
 use Rattle.pdcp_tx.specs.State.{after_late, restarted as restarted_sending}
 use Rattle.pdcp_tx.specs.Runs.{Submit, Take, Confirm, Report, Owe, Tick, Late}
-use Rattle.law_pdcp.specs.OneEnd.Lives.{Step, Calls, SetDiscard, Restart, goes, run}
+use Rattle.law_pdcp.specs.OneEnd.Lives.{Step, Calls, SetDiscard, Restart, goes, run_pdcp_sender}
 use Rattle.bearer_pdcp.specs.Ends.{Ends, begun}
 use Rattle.bearer_pdcp.specs.Lives.{owing_report, report_of, restarted}
 use Rattle.bearer.specs.declared.flow.Flow.{Flow}
 use Rattle.bearer.specs.Bearer.{flow_of}
 use Rattle.law_bearer.specs.AnyBearer.Calls.{Step as BearerStep, Restart as Next, goes as bearer_goes}
-use Rattle.law_bearer.specs.AnyBearer.Calls.{run as bearer_run, reached, ends}
+use Rattle.law_bearer.specs.AnyBearer.Calls.{run_bearer, reached, ends}
 use Rattle.law_bearer.specs.AnyBearer.Stream.{taken}
 use Rattle.law_bearer.specs.AnyBearer.Places.{IsOf, AreOf, AreAtPlaces, KeepsPlaces}
 use Rattle.law_bearer.proofs.AnyBearer.Sender.{Doings, takes_at, doings, IsOfLife, AreOfLife, run_same, none_left}
@@ -207,11 +207,12 @@ step_places s (SetDiscard ttis) os l am h = subst (AreAtPlaces s.given) (sym (ap
 step_places s (Restart keys) os l am h = absurd l
 
 run_places : (s : State) (xs : List Step) (os : List Offer) → AreOfLife xs → is_am s.kind ≡ true
-    → AreAtPlaces s.given os → AreAtPlaces (run xs s).given (os ++ (doings s xs).taken)
+    → AreAtPlaces s.given os → AreAtPlaces (run_pdcp_sender xs s).given (os ++ (doings s xs).taken)
 run_places s [] os l am h = subst (AreAtPlaces s.given) (sym (append-nil os)) h
 run_places s (x ∷ xs) os l am h =
     let kind = (run_same s (x ∷ []) (l.0, tt)).kind in
-    subst (AreAtPlaces (run xs (goes s x)).given) (append_assoc os (takes_at s x) (doings (goes s x) xs).taken)
+    subst (AreAtPlaces (run_pdcp_sender xs (goes s x)).given)
+    (append_assoc os (takes_at s x) (doings (goes s x) xs).taken)
     (run_places (goes s x) xs (os ++ takes_at s x) l.1 (ap is_am kind ∙ am) (step_places s x os l.0 am h))
 
 -- ---- a life from its beginning on
@@ -223,7 +224,7 @@ life_places f e q am g cs d r =
     let some : Some l.next ≡ Some d = sym l.is ∙ r in
     let same : l.next ≡ d = cc in
     let none : AreAtPlaces (record { gone = 0; entries = [] }) [] = record { few = omega arith; entries = tt } in
-    let here : AreAtPlaces (run l.passed.tx.steps e.tx).given (doings e.tx l.passed.tx.steps).taken =
+    let here : AreAtPlaces (run_pdcp_sender l.passed.tx.steps e.tx).given (doings e.tx l.passed.tx.steps).taken =
     run_places e.tx l.passed.tx.steps [] l.passed.tx.life am (subst (λ (x : Given). AreAtPlaces x []) (sym g) none) in
     let at : AreAtPlaces l.next.tx.given (taken f cs) =
     subst (λ os. AreAtPlaces l.next.tx.given os) (sym (ap (λ (a : Doings). a.taken) l.passed.tx.did) ∙ life_taken f cs)
@@ -256,7 +257,7 @@ first_life c keys side =
     (start_given c.channel.lcid (pdcp.Am c.pdcp_bits) c.first keys side)
 
 next_life : (c : BearerConfig) (keys : Keys) (side : Side) (xs : List BearerStep) (next : Keys)
-    → KeepsPlaces (bearer_goes (bearer_run xs (flow_of kinds.Am c keys side)) (Next next))
+    → KeepsPlaces (bearer_goes (run_bearer xs (flow_of kinds.Am c keys side)) (Next next))
 next_life c keys side xs next =
     let f = flow_of kinds.Am c keys side in
     let e : Ends = begun c.channel.lcid (pdcp.Am c.pdcp_bits) c.first keys side in
@@ -265,11 +266,11 @@ next_life c keys side xs next =
     (begun_kind c.channel.lcid (pdcp.Am c.pdcp_bits) c.first keys side) in
     let there = run_more f xs (Next next ∷ []) in
     let before = history f e xs (am_begins c keys side) in
-    let z = restarts_as (bearer_run xs f) before.next next before.is in
+    let z = restarts_as (run_bearer xs f) before.next next before.is in
     let some : Some h.next ≡ Some (restarted z.between next) = sym h.is ∙ ap ends there ∙ z.after in
     let same : h.next ≡ restarted z.between next = cc in
     let kind : h.next.tx.kind ≡ pdcp.Am c.pdcp_bits = k.tx ∙ h.passed.kind ∙ am_start c keys side in
-    life_places (bearer_goes (bearer_run xs f) (Next next)) h.next (ap ends (sym there) ∙ h.is) (ap is_am kind)
+    life_places (bearer_goes (run_bearer xs f) (Next next)) h.next (ap ends (sym there) ∙ h.is) (ap is_am kind)
     (ap (λ (x : Ends). x.tx.given) same ∙ next_given z.between next)
 
 pub in_the_first : (c : BearerConfig) (keys : Keys) (side : Side) → c.kind ≡ kinds.Am
@@ -280,5 +281,5 @@ in_the_first c keys side k =
 pub in_the_others : (c : BearerConfig) (keys : Keys) (side : Side) (xs : List BearerStep) (next : Keys)
     → c.kind ≡ kinds.Am → KeepsPlaces (bearer_goes (reached c keys side xs) (Next next))
 in_the_others c keys side xs next k =
-    subst (λ (kind : Kind). KeepsPlaces (bearer_goes (bearer_run xs (flow_of kind c keys side)) (Next next))) (sym k)
+    subst (λ (kind : Kind). KeepsPlaces (bearer_goes (run_bearer xs (flow_of kind c keys side)) (Next next))) (sym k)
     (next_life c keys side xs next)

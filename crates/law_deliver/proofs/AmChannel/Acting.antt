@@ -27,7 +27,8 @@ use Rattle.prioritise.specs.Channels.{has as has_channel}
 use Rattle.law_deliver.specs.AmFlow.Air.{Block, Station, Act, Calls, Comes, Goes, IsDone}
 use Rattle.law_deliver.specs.AmFlow.Channels.{only, share_of, held_of, takes_of, submits_of, calls_of}
 use Rattle.promises.specs.Pdus.{carried}
-use Rattle.law_deliver.specs.AmFlow.Pair.{Sent, BearerEnd, Pair, Deed, Calls as CallsBearer, DataComes, StatusComes}
+use Rattle.law_deliver.specs.AmFlow.Pair.{SentStatus, BearerEnd, Pair, Deed, Calls as CallsBearer, DataComes}
+use Rattle.law_deliver.specs.AmFlow.Pair.{StatusComes}
 use Rattle.law_deliver.specs.AmFlow.Pair.{DataGoes, StatusGoes, Step, Near, Far, called, data_comes, status_comes, does}
 use Rattle.law_deliver.specs.AmFlow.Pair.{happens, goes}
 use Rattle.law_deliver.proofs.AmFlow.Air.{calls_in as act_calls}
@@ -53,7 +54,8 @@ data_rest : (o : Option Copy) (e : BearerEnd) (cs : List BearerCall) → AreAcce
 data_rest None e cs h = h
 data_rest (Some c) e cs h = h.1
 
-status_rest : (o : Option Sent) (e : BearerEnd) (cs : List BearerCall) → AreAccepted e.bearer (status_call o ++ cs)
+status_rest : (o : Option SentStatus) (e : BearerEnd) (cs : List BearerCall)
+    → AreAccepted e.bearer (status_call o ++ cs)
     → AreAccepted (status_comes e o).bearer cs
 status_rest None e cs h = h
 status_rest (Some s) e cs h = h.1
@@ -93,7 +95,7 @@ data_same : (o : Option Copy) → call_by o ≡ data_call o
 data_same None = refl
 data_same (Some c) = refl
 
-status_same : (o : Option Sent) → call_of o ≡ status_call o
+status_same : (o : Option SentStatus) → call_of o ≡ status_call o
 status_same None = refl
 status_same (Some s) = refl
 

@@ -14,7 +14,7 @@ use Rattle.law_deliver.specs.AmFlow.Air.{older, happens, goes, begins, outset, I
 use Rattle.law_deliver.specs.AmFlow.Air.{Begins, IsPair}
 use Rattle.law_deliver.specs.AmFlow.Channels.{calls_of}
 use Rattle.law_deliver.specs.AmFlow.Pair.{BearerEnd, Pair, Step as PairStep, Passes as PairPasses, goes as pair_goes}
-use Rattle.law_deliver.specs.AmFlow.Pair.{outset as pair_outset, begins as pair_begins, passed as pair_passed}
+use Rattle.law_deliver.specs.AmFlow.Pair.{am_pair_outset, begins as pair_begins, passed as pair_passed}
 use Rattle.law_deliver.specs.AmFlow.Pair.{older as older_sent, AreGiven as AreGivenPair, IsYoung as IsYoungSent}
 use Rattle.law_deliver.proofs.AmFlow.Loads.{aged_load, aged_copies, aged_reports, aged_blocks, aged_all, young_all}
 use Rattle.law_deliver.proofs.AmFlow.Runs.{near_steps, far_steps, near_goes, far_goes, near_given, far_given, goes_more}
@@ -88,26 +88,26 @@ young side l s n h y =
 
 record BothMatch (l : ℕ) (b d : State) (a : Air) : Type 0 where
   steps : List PairStep
-  given : AreGivenPair (pair_outset b d) steps
-  nb : Matches Nb l a.nb (pair_goes steps (pair_outset b d)).near
-  ue : Matches Ue l a.ue (pair_goes steps (pair_outset b d)).far
+  given : AreGivenPair (am_pair_outset b d) steps
+  nb : Matches Nb l a.nb (pair_goes steps (am_pair_outset b d)).near
+  ue : Matches Ue l a.ue (pair_goes steps (am_pair_outset b d)).far
 
 -- steps more of the pair
 more_match : (l : ℕ) (b d : State) (a c : Air) (h : BothMatch l b d a) (ts : List PairStep)
-    → AreGivenPair (pair_goes h.steps (pair_outset b d)) ts
-    → Matches Nb l c.nb (pair_goes ts (pair_goes h.steps (pair_outset b d))).near
-    → Matches Ue l c.ue (pair_goes ts (pair_goes h.steps (pair_outset b d))).far → BothMatch l b d c
+    → AreGivenPair (pair_goes h.steps (am_pair_outset b d)) ts
+    → Matches Nb l c.nb (pair_goes ts (pair_goes h.steps (am_pair_outset b d))).near
+    → Matches Ue l c.ue (pair_goes ts (pair_goes h.steps (am_pair_outset b d))).far → BothMatch l b d c
 more_match l b d a c h ts g x y = record {
   steps = h.steps ++ ts;
-  given = given_more (pair_outset b d) h.steps ts h.given g;
-  nb = subst (λ (p : Pair). Matches Nb l c.nb p.near) (sym (goes_more (pair_outset b d) h.steps ts)) x;
-  ue = subst (λ (p : Pair). Matches Ue l c.ue p.far) (sym (goes_more (pair_outset b d) h.steps ts)) y;
+  given = given_more (am_pair_outset b d) h.steps ts h.given g;
+  nb = subst (λ (p : Pair). Matches Nb l c.nb p.near) (sym (goes_more (am_pair_outset b d) h.steps ts)) x;
+  ue = subst (λ (p : Pair). Matches Ue l c.ue p.far) (sym (goes_more (am_pair_outset b d) h.steps ts)) y;
 }
 
 happens_on : (l : ℕ) (b d : State) (a : Air) (s : Step) → IsGiven l a s → BothMatch l b d a
     → BothMatch l b d (happens a s)
 happens_on l b d a (AtNb x) g h =
-    let p : Pair = pair_goes h.steps (pair_outset b d) in
+    let p : Pair = pair_goes h.steps (am_pair_outset b d) in
     let r : Acts Nb l (does a.ue a.nb x) p.far p.near (calls_in l a.ue a.nb x) =
     acts Nb Ue l a.nb a.ue p.near p.far x refl h.nb h.ue g in
     let same = near_goes p r.deeds in
@@ -115,7 +115,7 @@ happens_on l b d a (AtNb x) g h =
     (subst (λ (q : Pair). Matches Nb l (does a.ue a.nb x) q.near) (sym same) r.matches)
     (subst (λ (q : Pair). Matches Ue l a.ue q.far) (sym same) h.ue)
 happens_on l b d a (AtUe x) g h =
-    let p : Pair = pair_goes h.steps (pair_outset b d) in
+    let p : Pair = pair_goes h.steps (am_pair_outset b d) in
     let r : Acts Ue l (does a.nb a.ue x) p.near p.far (calls_in l a.nb a.ue x) =
     acts Ue Nb l a.ue a.nb p.far p.near x refl h.ue h.nb g in
     let same = far_goes p r.deeds in
@@ -123,7 +123,7 @@ happens_on l b d a (AtUe x) g h =
     (subst (λ (q : Pair). Matches Nb l a.nb q.near) (sym same) h.nb)
     (subst (λ (q : Pair). Matches Ue l (does a.nb a.ue x) q.far) (sym same) r.matches)
 happens_on l b d a Passes g h =
-    let p : Pair = pair_goes h.steps (pair_outset b d) in
+    let p : Pair = pair_goes h.steps (am_pair_outset b d) in
     more_match l b d a (happens a Passes) h (PairPasses ∷ [])
     ((young Nb l a.nb p.near h.nb g.0, young Ue l a.ue p.far h.ue g.1), tt)
     (passes Nb l a.nb p.near h.nb) (passes Ue l a.ue p.far h.ue)

@@ -15,7 +15,7 @@ use Rattle.bearer.specs.Acknowledged.State.{State}
 use Rattle.bearer.specs.Acknowledged.Taking.{data_size, status_pdus, writes_status, status_pdu}
 use Rattle.law_bearer.specs.AnyBearer.Acknowledged.{offers_in, data_given}
 use Rattle.law_bearer.specs.AnyBearer.Calls.{Take as Takes, after_all}
-use Rattle.law_bearer.proofs.AnyBearer.SenderCalls.{gives, writes_what_rlc_gives}
+use Rattle.law_bearer.proofs.AnyBearer.SenderCalls.{answers_given, writes_what_rlc_gives}
 use Rattle.bearer_pdcp.specs.Telling.{pdus_of, number_of}
 use Rattle.harq.specs.declared.sender.Order.{Order}
 use Rattle.harq.specs.declared.sender.Visit.{Visit}
@@ -45,7 +45,7 @@ use Rattle.law_deliver.specs.AmFlow.Air.{Block, Station, built_at, is_new as is_
 use Rattle.law_deliver.specs.AmFlow.Air.{HasCome, IsHeld, IsBuilding, IsVisiting}
 use Rattle.law_deliver.specs.AmFlow.Channels.{only, share_of, held_of as told_held, takes_of, calls_of, written_by}
 use Rattle.promises.specs.Pdus.{carried}
-use Rattle.law_deliver.specs.AmFlow.Pair.{Sent, BearerEnd, Calls, written_now, HasOctet, IsTaking}
+use Rattle.law_deliver.specs.AmFlow.Pair.{SentStatus, BearerEnd, Calls, written_now, HasOctet, IsTaking}
 use Rattle.law_deliver.proofs.AmFlow.Channels.{turn_by, blocks_carry_pdus}
 use Rattle.law_deliver.proofs.AmFlow.Loads.{Load, blocks_in, noted_of, IsNoted, HasAge, IsLoad, lowest_all, IsHeldBy}
 use Rattle.law_deliver.proofs.AmFlow.Loads.{held_by}
@@ -264,7 +264,7 @@ module _ (side : Side) (l : ℕ) (s : Station) (n m : BearerEnd) (t : Turn) wher
       ap (λ (b : Bool). if b && has l s.end.bearers then number (flow l s.end) part low else None) q
       ∙ ap (λ (b : Bool). if b then number (flow l s.end) part low else None) h.there
       ∙ ap (λ (f : Flow). number f part low) h.bearer_is
-      ∙ ap number_of (gives n.bearer part low)
+      ∙ ap number_of (answers_given n.bearer part low)
 
   carries_new : (h : Matches side l s n) → 1 ≤ t.grant → t.grant ≤ 9422
       → carried l (sent_by side) (new_block (visited t.tti t.order s.end) t.grant)
@@ -309,7 +309,7 @@ module _ (side : Side) (l : ℕ) (s : Station) (n m : BearerEnd) (t : Turn) wher
           loads = load ∷ h.loads;
           blocks_are = ap (λ (bs : List Block). new_of ∷ bs) h.blocks_are;
           copies_are = copies_split data' n.copies ∙ ap (λ (cs : List Copy). copies_with data' [] ++ cs) h.copies_are;
-          reports_are = ap (λ (rs : List Sent). map written_now status ++ rs) h.reports_are;
+          reports_are = ap (λ (rs : List SentStatus). map written_now status ++ rs) h.reports_are;
           are = (
             record {
               carries = carries_new h b.some most ∙ written_so h q;

@@ -29,7 +29,7 @@ use Rattle.pdcp_tx.specs.State.{start}
 use Rattle.rlc_pdu.specs.Pdus.{IsUmBits}
 use Rattle.rlc_um.specs.Receiver.{all_joined}
 use Rattle.rlc_um.specs.Sender.{width_of}
-use Rattle.law_deliver.specs.UmChannel.Delivery.{BeginAlike, direction_from}
+use Rattle.law_deliver.specs.UmChannel.Delivery.{UmEndsBeginAlike, direction_from}
 use Rattle.law_deliver.specs.UmChannel.Pairs.{steps_in, walk}
 use Rattle.law_deliver.proofs.UmChannel.Bearers.{near_end, far_end}
 use Rattle.law_deliver.proofs.UmChannel.Delivery.{channels_deliver_in_order}
@@ -39,7 +39,7 @@ use Rattle.law_deliver.specs.UmDelivery.Lives.{next_near, next_far}
 use Rattle.law_deliver.proofs.UmDelivery.Laws.{first_begins}
 use Rattle.law_deliver.proofs.UmDelivery.Through.{begins_next as begin_next}
 use Rattle.law_deliver.specs.UmFlow.Calls.{near_calls, far_calls}
-use Rattle.law_deliver.specs.UmFlow.Pair.{Pair, Step as PairStep, goes, outset as pair_outset}
+use Rattle.law_deliver.specs.UmFlow.Pair.{Pair, Step as PairStep, goes, um_pair_outset}
 use Rattle.um_losses.specs.Flow.{Flow, fresh_receiver, after, restarts}
 use Rattle.um_losses.specs.Names.{Happening}
 use Rattle.um_losses.proofs.Long.{unlong}
@@ -52,7 +52,7 @@ use Rattle.law_deliver.proofs.UmGaps.Gaps.{all_counted_so}
 use Rattle.law_deliver.proofs.UmGaps.Places.{few_now, few_to_end}
 use Rattle.law_deliver.proofs.UmGaps.Telling.{none_ends}
 use Rattle.law_deliver.proofs.UmGaps.Walking.{alone_on, Follows, IsNewFlow, first_tracks, follow}
-use Rattle.law_pdcp.specs.UmPair.Flow.{outset as pdcp_outset}
+use Rattle.law_pdcp.specs.UmPair.Flow.{um_pdcp_outset}
 use Rattle.law_pdcp.proofs.UmPair.Laws.{outset_writes}
 
 -- what is told later doesn't make a long gap short
@@ -82,17 +82,17 @@ module _ (l : ℕ) (c : BearerConfig) (u : IsUmBits c.rlc_bits) (some : 0 < 2 ^ 
       (next_far near far (record { steps = so_far; keys = keys })) []
       (all_after (whats_in from l c.rlc_bits a (Moves keys)) f)
   moves Nb a keys near far so_far f g h =
-      let p : Pair = goes so_far (pair_outset near far) in
+      let p : Pair = goes so_far (um_pair_outset near far) in
       let near' : State = restarted (stopped p.near.bearer) keys in
       let far' : State = restarted (stopped p.far.bearer) keys in
       let quiet : expiries l (told_of a.ue.end (Move keys)) ≡ [] =
       none_ends l (told_of a.ue.end (Move keys)) p.far.bearer ((the_end Ue l a.ue.end keys h.alone).told_is
       ∙ ap stopping h.stands.ue.bearer_is) in
       let nb_begins =
-      begin_next c.pdcp_bits c.rlc_bits c.rx.reorder near p.near.bearer (near_calls (pair_outset near far) so_far)
+      begin_next c.pdcp_bits c.rlc_bits c.rx.reorder near p.near.bearer (near_calls (um_pair_outset near far) so_far)
       keys (near_end near far so_far) h.near_begin in
       let ue_begins =
-      begin_next c.pdcp_bits c.rlc_bits c.rx.reorder far p.far.bearer (far_calls (pair_outset near far) so_far)
+      begin_next c.pdcp_bits c.rlc_bits c.rx.reorder far p.far.bearer (far_calls (um_pair_outset near far) so_far)
       keys (far_end near far so_far) h.far_begin in
       let t = h.tracks.heard in
       subst (λ (ws : List Happening). Follows l c Nb (lives_on a (Moves keys)) near' far' []
@@ -107,7 +107,7 @@ module _ (l : ℕ) (c : BearerConfig) (u : IsUmBits c.rlc_bits) (some : 0 < 2 ^ 
         near_begin = nb_begins;
         far_begin = ue_begins;
         begins = subst (λ (b : State). Begins c.pdcp_bits (restarted (stopped b) keys)) (near_end near far so_far)
-            (begins_next c.pdcp_bits near (near_calls (pair_outset near far) so_far) h.begins
+            (begins_next c.pdcp_bits near (near_calls (um_pair_outset near far) so_far) h.begins
             h.stands.living.near_accepts keys);
         loads = [];
         blocks_are = refl;
@@ -118,17 +118,17 @@ module _ (l : ℕ) (c : BearerConfig) (u : IsUmBits c.rlc_bits) (some : 0 < 2 ^ 
         short = tt;
       })
   moves Ue a keys near far so_far f g h =
-      let p : Pair = goes so_far (pair_outset near far) in
+      let p : Pair = goes so_far (um_pair_outset near far) in
       let near' : State = restarted (stopped p.near.bearer) keys in
       let far' : State = restarted (stopped p.far.bearer) keys in
       let quiet : expiries l (told_of a.nb.end (Move keys)) ≡ [] =
       none_ends l (told_of a.nb.end (Move keys)) p.near.bearer
       ((the_end Nb l a.nb.end keys h.alone).told_is ∙ ap stopping h.stands.nb.bearer_is) in
       let nb_begins =
-      begin_next c.pdcp_bits c.rlc_bits c.rx.reorder near p.near.bearer (near_calls (pair_outset near far) so_far)
+      begin_next c.pdcp_bits c.rlc_bits c.rx.reorder near p.near.bearer (near_calls (um_pair_outset near far) so_far)
       keys (near_end near far so_far) h.near_begin in
       let ue_begins =
-      begin_next c.pdcp_bits c.rlc_bits c.rx.reorder far p.far.bearer (far_calls (pair_outset near far) so_far)
+      begin_next c.pdcp_bits c.rlc_bits c.rx.reorder far p.far.bearer (far_calls (um_pair_outset near far) so_far)
       keys (far_end near far so_far) h.far_begin in
       let t = h.tracks.heard in
       subst (λ (ws : List Happening). Follows l c Ue (lives_on a (Moves keys)) near' far' []
@@ -143,7 +143,7 @@ module _ (l : ℕ) (c : BearerConfig) (u : IsUmBits c.rlc_bits) (some : 0 < 2 ^ 
         near_begin = nb_begins;
         far_begin = ue_begins;
         begins = subst (λ (b : State). Begins c.pdcp_bits (restarted (stopped b) keys)) (far_end near far so_far)
-            (begins_next c.pdcp_bits far (far_calls (pair_outset near far) so_far) h.begins
+            (begins_next c.pdcp_bits far (far_calls (um_pair_outset near far) so_far) h.begins
             h.stands.living.far_accepts keys);
         loads = [];
         blocks_are = refl;
@@ -160,13 +160,13 @@ module _ (l : ℕ) (c : BearerConfig) (u : IsUmBits c.rlc_bits) (some : 0 < 2 ^ 
       → AreShort c (direction_from from) near far (walk l so_far xs a).lives (walk l so_far xs a).steps
   walk_short Nb [] a near far so_far f g h e = (
     h.short,
-    few_now c.rlc_bits c.rx.reorder c.pdcp_bits u some near (near_calls (pair_outset near far) so_far) far
-        (far_calls (pair_outset near far) so_far) _ _ h.loads f h.begins h.stands.living.near_accepts h.tracks e,
+    few_now c.rlc_bits c.rx.reorder c.pdcp_bits u some near (near_calls (um_pair_outset near far) so_far) far
+        (far_calls (um_pair_outset near far) so_far) _ _ h.loads f h.begins h.stands.living.near_accepts h.tracks e,
   )
   walk_short Ue [] a near far so_far f g h e = (
     h.short,
-    few_now c.rlc_bits c.rx.reorder c.pdcp_bits u some far (far_calls (pair_outset near far) so_far) near
-        (near_calls (pair_outset near far) so_far) _ _ h.loads f h.begins h.stands.living.far_accepts h.tracks e,
+    few_now c.rlc_bits c.rx.reorder c.pdcp_bits u some far (far_calls (um_pair_outset near far) so_far) near
+        (near_calls (um_pair_outset near far) so_far) _ _ h.loads f h.begins h.stands.living.far_accepts h.tracks e,
   )
   walk_short from (InLife s ∷ xs) a near far so_far f g h e =
       let ws = whats_in from l c.rlc_bits a (InLife s) in
@@ -186,7 +186,8 @@ module _ (l : ℕ) (c : BearerConfig) (u : IsUmBits c.rlc_bits) (some : 0 < 2 ^ 
         (
           h.short,
           few_to_end c.rlc_bits c.rx.reorder c.pdcp_bits u some near
-              (near_calls (pair_outset near far) so_far) far (far_calls (pair_outset near far) so_far) _ _ h.loads f
+              (near_calls (um_pair_outset near far) so_far) far
+              (far_calls (um_pair_outset near far) so_far) _ _ h.loads f
               h.begins h.stands.living.near_accepts h.tracks now,
         ),
         walk_short Nb xs (lives_on a (Moves keys)) (next_near near far (record { steps = so_far; keys = keys }))
@@ -203,8 +204,8 @@ module _ (l : ℕ) (c : BearerConfig) (u : IsUmBits c.rlc_bits) (some : 0 < 2 ^ 
       (still_short more (all_after ws f) then') in (
         (
           h.short,
-          few_to_end c.rlc_bits c.rx.reorder c.pdcp_bits u some far (far_calls (pair_outset near far) so_far)
-              near (near_calls (pair_outset near far) so_far) _ _ h.loads f h.begins h.stands.living.far_accepts
+          few_to_end c.rlc_bits c.rx.reorder c.pdcp_bits u some far (far_calls (um_pair_outset near far) so_far)
+              near (near_calls (um_pair_outset near far) so_far) _ _ h.loads f h.begins h.stands.living.far_accepts
               h.tracks now,
         ),
         walk_short Ue xs (lives_on a (Moves keys)) (next_near near far (record { steps = so_far; keys = keys }))
@@ -234,14 +235,14 @@ unfolding fresh begun start
 first_counts c keys side most =
     let p = protection_of (UmKind c.pdcp_bits) keys (bearer_of c.channel.lcid) (sends side) in
     record {
-      flow = pdcp_outset c.pdcp_bits p c.first;
+      flow = um_pdcp_outset c.pdcp_bits p c.first;
       writes = outset_writes c.pdcp_bits p c.first most;
       sender_is = refl;
       stream_is = refl;
       of_data = (first_begins c keys side).of_data;
     }
 
-module _ (l : ℕ) (c : BearerConfig) (keys : Keys) (nb ue : End) (h : BeginAlike l c keys nb ue) where
+module _ (l : ℕ) (c : BearerConfig) (keys : Keys) (nb ue : End) (h : UmEndsBeginAlike l c keys nb ue) where
   abbrev near : State
   near = fresh c keys Nb
 

@@ -12,7 +12,7 @@ use Rattle.l2_node.specs.End.{End}
 use Rattle.bearer_types.specs.Sides.{sent_by}
 use Rattle.l2_types.specs.declared.side.Side.{Side}
 use Rattle.l2_types.specs.declared.side.Side.TheVariants.{Nb, Ue}
-use Rattle.law_node.specs.Calls.{Call, Move, after as after_call, run as run_end}
+use Rattle.law_node.specs.Calls.{Call, Move, after as after_call, run_end}
 use Rattle.law_deliver.specs.AmFlow.Air.{Station, Air, Act, Step, AtNb, AtUe, Passes, happens, older, IsDone, IsGiven}
 use Rattle.law_deliver.proofs.AmFlow.Air.{calls_in as act_calls}
 use Rattle.law_deliver.proofs.AmFlow.Loads.{Load, blocks_in, aged_load, aged_copies, aged_blocks}
@@ -31,7 +31,7 @@ use Rattle.law_deliver.specs.UmDelivery.Lives.{AreShortIn}
 use Rattle.law_deliver.proofs.UmDelivery.Through.{Begin}
 use Rattle.law_deliver.specs.UmFlow.Calls.{near_calls, far_calls}
 use Rattle.law_deliver.specs.UmFlow.Pair.{BearerEnd, Pair, Deed, Step as PairStep, Near, Far, goes}
-use Rattle.law_deliver.specs.UmFlow.Pair.{happens as pair_happens, outset as pair_outset, begins as pair_begins}
+use Rattle.law_deliver.specs.UmFlow.Pair.{happens as pair_happens, um_pair_outset, begins as pair_begins}
 use Rattle.law_deliver.specs.UmFlow.Pair.{AreShortThere, AreShortBack}
 use Rattle.law_deliver.proofs.UmFlow.Calls.{near_then, far_then}
 use Rattle.law_deliver.proofs.UmFlow.Flows.{begins_so}
@@ -115,9 +115,10 @@ pub record Follows (l : ℕ) (c : BearerConfig) (from : Side) (a : Air) (near fa
   pub carry : AllByRecursion (Carries l (sent_by from)) loads
   pub tracks : Tracks c.rlc_bits c.rx.reorder (2 ^ c.pdcp_bits) (own from near far) (own_calls from near far so_far)
       (own (other from) near far) (own_calls (other from) near far so_far)
-      (own_end from (goes so_far (pair_outset near far))) (own_end (other from) (goes so_far (pair_outset near far)))
+      (own_end from (goes so_far (um_pair_outset near far)))
+      (own_end (other from) (goes so_far (um_pair_outset near far)))
       loads f
-  pub short : AreShortIn (direction_from from) (pair_outset near far) so_far
+  pub short : AreShortIn (direction_from from) (um_pair_outset near far) so_far
 
 -- ---- a flow as a life begins
 
@@ -166,59 +167,59 @@ first_tracks pdcp_bits bits reorder counts a b f u x y h = record {
 -- ---- a step of a life
 
 record NbMoves (l : ℕ) (a : Air) (near far : State) (so_far : List PairStep) (x : Act) : Type 0 where
-  there : goes (so_far ++ steps_in l a (AtNb x)) (pair_outset near far)
+  there : goes (so_far ++ steps_in l a (AtNb x)) (um_pair_outset near far)
       ≡ record {
         near =
-            does_all (goes so_far (pair_outset near far)).far (goes so_far (pair_outset near far)).near
+            does_all (goes so_far (um_pair_outset near far)).far (goes so_far (um_pair_outset near far)).near
             (deeds_in l Nb a.ue a.nb x);
-        far = (goes so_far (pair_outset near far)).far;
+        far = (goes so_far (um_pair_outset near far)).far;
       }
-  nb_calls : near_calls (pair_outset near far) (so_far ++ steps_in l a (AtNb x))
-      ≡ near_calls (pair_outset near far) so_far ++ act_calls l a.ue a.nb x
-  ue_calls : far_calls (pair_outset near far) (so_far ++ steps_in l a (AtNb x))
-      ≡ far_calls (pair_outset near far) so_far
+  nb_calls : near_calls (um_pair_outset near far) (so_far ++ steps_in l a (AtNb x))
+      ≡ near_calls (um_pair_outset near far) so_far ++ act_calls l a.ue a.nb x
+  ue_calls : far_calls (um_pair_outset near far) (so_far ++ steps_in l a (AtNb x))
+      ≡ far_calls (um_pair_outset near far) so_far
 
 nb_moves : (l : ℕ) (a : Air) (near far : State) (so_far : List PairStep) (x : Act) → Stands l a near far so_far
     → IsDone l a.nb x → NbMoves l a near far so_far x
 nb_moves l a near far so_far x h g =
-    let p : Pair = goes so_far (pair_outset near far) in
+    let p : Pair = goes so_far (um_pair_outset near far) in
     let ds = deeds_in l Nb a.ue a.nb x in
     let r = acts Nb Ue l a.nb a.ue p.near p.far x refl h.nb h.ue g in
     record {
-      there = goes_more (pair_outset near far) so_far (near_steps ds) ∙ near_goes p ds;
-      nb_calls = near_then so_far (near_steps ds) (pair_outset near far)
-          ∙ ap (λ (more : List BearerCall). near_calls (pair_outset near far) so_far ++ more)
+      there = goes_more (um_pair_outset near far) so_far (near_steps ds) ∙ near_goes p ds;
+      nb_calls = near_then so_far (near_steps ds) (um_pair_outset near far)
+          ∙ ap (λ (more : List BearerCall). near_calls (um_pair_outset near far) so_far ++ more)
           (near_own p ds ∙ r.calls_are);
-      ue_calls = far_then so_far (near_steps ds) (pair_outset near far)
-          ∙ ap (λ (more : List BearerCall). far_calls (pair_outset near far) so_far ++ more) (far_none p ds)
-          ∙ append-nil (far_calls (pair_outset near far) so_far);
+      ue_calls = far_then so_far (near_steps ds) (um_pair_outset near far)
+          ∙ ap (λ (more : List BearerCall). far_calls (um_pair_outset near far) so_far ++ more) (far_none p ds)
+          ∙ append-nil (far_calls (um_pair_outset near far) so_far);
     }
 
 record UeMoves (l : ℕ) (a : Air) (near far : State) (so_far : List PairStep) (x : Act) : Type 0 where
-  there : goes (so_far ++ steps_in l a (AtUe x)) (pair_outset near far)
+  there : goes (so_far ++ steps_in l a (AtUe x)) (um_pair_outset near far)
       ≡ record {
-        near = (goes so_far (pair_outset near far)).near;
-        far = does_all (goes so_far (pair_outset near far)).near (goes so_far (pair_outset near far)).far
+        near = (goes so_far (um_pair_outset near far)).near;
+        far = does_all (goes so_far (um_pair_outset near far)).near (goes so_far (um_pair_outset near far)).far
             (deeds_in l Ue a.nb a.ue x);
       }
-  nb_calls : near_calls (pair_outset near far) (so_far ++ steps_in l a (AtUe x))
-      ≡ near_calls (pair_outset near far) so_far
-  ue_calls : far_calls (pair_outset near far) (so_far ++ steps_in l a (AtUe x))
-      ≡ far_calls (pair_outset near far) so_far ++ act_calls l a.nb a.ue x
+  nb_calls : near_calls (um_pair_outset near far) (so_far ++ steps_in l a (AtUe x))
+      ≡ near_calls (um_pair_outset near far) so_far
+  ue_calls : far_calls (um_pair_outset near far) (so_far ++ steps_in l a (AtUe x))
+      ≡ far_calls (um_pair_outset near far) so_far ++ act_calls l a.nb a.ue x
 
 ue_moves : (l : ℕ) (a : Air) (near far : State) (so_far : List PairStep) (x : Act) → Stands l a near far so_far
     → IsDone l a.ue x → UeMoves l a near far so_far x
 ue_moves l a near far so_far x h g =
-    let p : Pair = goes so_far (pair_outset near far) in
+    let p : Pair = goes so_far (um_pair_outset near far) in
     let ds = deeds_in l Ue a.nb a.ue x in
     let r = acts Ue Nb l a.ue a.nb p.far p.near x refl h.ue h.nb g in
     record {
-      there = goes_more (pair_outset near far) so_far (far_steps ds) ∙ far_goes p ds;
-      nb_calls = near_then so_far (far_steps ds) (pair_outset near far)
-          ∙ ap (λ (more : List BearerCall). near_calls (pair_outset near far) so_far ++ more) (near_none p ds)
-          ∙ append-nil (near_calls (pair_outset near far) so_far);
-      ue_calls = far_then so_far (far_steps ds) (pair_outset near far)
-          ∙ ap (λ (more : List BearerCall). far_calls (pair_outset near far) so_far ++ more)
+      there = goes_more (um_pair_outset near far) so_far (far_steps ds) ∙ far_goes p ds;
+      nb_calls = near_then so_far (far_steps ds) (um_pair_outset near far)
+          ∙ ap (λ (more : List BearerCall). near_calls (um_pair_outset near far) so_far ++ more) (near_none p ds)
+          ∙ append-nil (near_calls (um_pair_outset near far) so_far);
+      ue_calls = far_then so_far (far_steps ds) (um_pair_outset near far)
+          ∙ ap (λ (more : List BearerCall). far_calls (um_pair_outset near far) so_far ++ more)
           (far_own p ds ∙ r.calls_are);
     }
 
@@ -268,10 +269,10 @@ module _ (l : ℕ) (c : BearerConfig) (u : IsUmBits c.rlc_bits) (some : 0 < 2 ^ 
       → Follows l c from (happens a x) near far (so_far ++ steps_in l a x)
       (all_after (whats_in from l c.rlc_bits a (InLife x)) f)
   follow Nb a (AtNb x) near far so_far f g h e =
-      let p : Pair = goes so_far (pair_outset near far) in
+      let p : Pair = goes so_far (um_pair_outset near far) in
       let v = nb_moves l a near far so_far x h.stands g in
       let r = sends_on l c.rlc_bits c.rx.reorder (2 ^ c.pdcp_bits) u Nb Ue refl near
-      (near_calls (pair_outset near far) so_far) far (far_calls (pair_outset near far) so_far) a.nb a.ue p.near
+      (near_calls (um_pair_outset near far) so_far) far (far_calls (um_pair_outset near far) so_far) a.nb a.ue p.near
       p.far h.stands.nb h.stands.ue
       h.loads f h.blocks_are h.carry h.tracks x g in
       record {
@@ -285,14 +286,14 @@ module _ (l : ℕ) (c : BearerConfig) (u : IsUmBits c.rlc_bits) (some : 0 < 2 ^ 
         carry = r.carry;
         tracks = told_as near far _ _ _ _ _ _ _ _ r.loads _ v.nb_calls v.ue_calls (ap (λ (q : Pair). q.near) v.there)
             (ap (λ (q : Pair). q.far) v.there) r.tracks;
-        short = short_there (pair_outset near far) so_far (near_steps (deeds_in l Nb a.ue a.nb x)) h.short
+        short = short_there (um_pair_outset near far) so_far (near_steps (deeds_in l Nb a.ue a.nb x)) h.short
             (sent_there p (deeds_in l Nb a.ue a.nb x));
       }
   follow Nb a (AtUe x) near far so_far f g h e =
-      let p : Pair = goes so_far (pair_outset near far) in
+      let p : Pair = goes so_far (um_pair_outset near far) in
       let v = ue_moves l a near far so_far x h.stands g in
       let r = hears_on l c.rlc_bits c.rx.reorder (2 ^ c.pdcp_bits) u Ue Nb refl near
-      (near_calls (pair_outset near far) so_far) far (far_calls (pair_outset near far) so_far) a.ue a.nb p.near
+      (near_calls (um_pair_outset near far) so_far) far (far_calls (um_pair_outset near far) so_far) a.ue a.nb p.near
       p.far h.stands.ue h.stands.nb h.alone
       h.loads f h.blocks_are h.carry h.tracks x g e in
       record {
@@ -306,14 +307,14 @@ module _ (l : ℕ) (c : BearerConfig) (u : IsUmBits c.rlc_bits) (some : 0 < 2 ^ 
         carry = h.carry;
         tracks = told_as near far _ _ _ _ _ _ _ _ h.loads _ v.nb_calls v.ue_calls (ap (λ (q : Pair). q.near) v.there)
             (ap (λ (q : Pair). q.far) v.there) r.tracks;
-        short = short_there (pair_outset near far) so_far (far_steps (deeds_in l Ue a.nb a.ue x)) h.short
+        short = short_there (um_pair_outset near far) so_far (far_steps (deeds_in l Ue a.nb a.ue x)) h.short
             (heard_there p (deeds_in l Ue a.nb a.ue x) r.near);
       }
   follow Ue a (AtUe x) near far so_far f g h e =
-      let p : Pair = goes so_far (pair_outset near far) in
+      let p : Pair = goes so_far (um_pair_outset near far) in
       let v = ue_moves l a near far so_far x h.stands g in
       let r = sends_on l c.rlc_bits c.rx.reorder (2 ^ c.pdcp_bits) u Ue Nb refl far
-      (far_calls (pair_outset near far) so_far) near (near_calls (pair_outset near far) so_far) a.ue a.nb p.far
+      (far_calls (um_pair_outset near far) so_far) near (near_calls (um_pair_outset near far) so_far) a.ue a.nb p.far
       p.near h.stands.ue h.stands.nb
       h.loads f h.blocks_are h.carry h.tracks x g in
       record {
@@ -327,14 +328,14 @@ module _ (l : ℕ) (c : BearerConfig) (u : IsUmBits c.rlc_bits) (some : 0 < 2 ^ 
         carry = r.carry;
         tracks = told_as far near _ _ _ _ _ _ _ _ r.loads _ v.ue_calls v.nb_calls (ap (λ (q : Pair). q.far) v.there)
             (ap (λ (q : Pair). q.near) v.there) r.tracks;
-        short = short_back (pair_outset near far) so_far (far_steps (deeds_in l Ue a.nb a.ue x)) h.short
+        short = short_back (um_pair_outset near far) so_far (far_steps (deeds_in l Ue a.nb a.ue x)) h.short
             (sent_back p (deeds_in l Ue a.nb a.ue x));
       }
   follow Ue a (AtNb x) near far so_far f g h e =
-      let p : Pair = goes so_far (pair_outset near far) in
+      let p : Pair = goes so_far (um_pair_outset near far) in
       let v = nb_moves l a near far so_far x h.stands g in
       let r = hears_on l c.rlc_bits c.rx.reorder (2 ^ c.pdcp_bits) u Nb Ue refl far
-      (far_calls (pair_outset near far) so_far) near (near_calls (pair_outset near far) so_far) a.nb a.ue p.far
+      (far_calls (um_pair_outset near far) so_far) near (near_calls (um_pair_outset near far) so_far) a.nb a.ue p.far
       p.near h.stands.nb h.stands.ue h.alone
       h.loads f h.blocks_are h.carry h.tracks x g e in
       record {
@@ -348,7 +349,7 @@ module _ (l : ℕ) (c : BearerConfig) (u : IsUmBits c.rlc_bits) (some : 0 < 2 ^ 
         carry = h.carry;
         tracks = told_as far near _ _ _ _ _ _ _ _ h.loads _ v.ue_calls v.nb_calls (ap (λ (q : Pair). q.far) v.there)
             (ap (λ (q : Pair). q.near) v.there) r.tracks;
-        short = short_back (pair_outset near far) so_far (near_steps (deeds_in l Nb a.ue a.nb x)) h.short
+        short = short_back (um_pair_outset near far) so_far (near_steps (deeds_in l Nb a.ue a.nb x)) h.short
             (heard_back p (deeds_in l Nb a.ue a.nb x) r.near);
       }
   follow Nb a Passes near far so_far f g h e =
@@ -363,11 +364,11 @@ module _ (l : ℕ) (c : BearerConfig) (u : IsUmBits c.rlc_bits) (some : 0 < 2 ^ 
         blocks_are = aged_blocks h.loads ∙ ap (map older) h.blocks_are;
         carry = aged_carry l (sent_by Nb) h.loads h.carry;
         tracks =
-            subst (λ (ss : List PairStep). Told near (near_calls (pair_outset near far) ss) far
-            (far_calls (pair_outset near far) ss) (goes ss (pair_outset near far)).near
-            (goes ss (pair_outset near far)).far (map aged_load h.loads) f) (sym same)
+            subst (λ (ss : List PairStep). Told near (near_calls (um_pair_outset near far) ss) far
+            (far_calls (um_pair_outset near far) ss) (goes ss (um_pair_outset near far)).near
+            (goes ss (um_pair_outset near far)).far (map aged_load h.loads) f) (sym same)
             (aged near far _ _ _ _ h.loads f h.tracks);
-        short = subst (AreShortThere (pair_outset near far)) (sym same) h.short;
+        short = subst (AreShortThere (um_pair_outset near far)) (sym same) h.short;
       }
     where
       aged : (a b : State) (xs ys : List BearerCall) (n m : BearerEnd) (loads : List Load) (f : Flow)
@@ -394,11 +395,11 @@ module _ (l : ℕ) (c : BearerConfig) (u : IsUmBits c.rlc_bits) (some : 0 < 2 ^ 
         blocks_are = aged_blocks h.loads ∙ ap (map older) h.blocks_are;
         carry = aged_carry l (sent_by Ue) h.loads h.carry;
         tracks =
-            subst (λ (ss : List PairStep). Told far (far_calls (pair_outset near far) ss) near
-            (near_calls (pair_outset near far) ss) (goes ss (pair_outset near far)).far
-            (goes ss (pair_outset near far)).near (map aged_load h.loads) f) (sym same)
+            subst (λ (ss : List PairStep). Told far (far_calls (um_pair_outset near far) ss) near
+            (near_calls (um_pair_outset near far) ss) (goes ss (um_pair_outset near far)).far
+            (goes ss (um_pair_outset near far)).near (map aged_load h.loads) f) (sym same)
             (aged far near _ _ _ _ h.loads f h.tracks);
-        short = subst (AreShortBack (pair_outset near far)) (sym same) h.short;
+        short = subst (AreShortBack (um_pair_outset near far)) (sym same) h.short;
       }
     where
       aged : (a b : State) (xs ys : List BearerCall) (n m : BearerEnd) (loads : List Load) (f : Flow)

@@ -11,7 +11,7 @@ use Rattle.pdcp_tx.specs.declared.sender.Next.{Next}
 use Rattle.pdcp_tx.specs.Pdus.{pdu}
 use Rattle.pdcp_tx.specs.State.{State, or_else, fms_count}
 use Rattle.law_pdcp.specs.OneEnd.Lives.{Names, queue}
-use Rattle.law_pdcp.proofs.OneEnd.Naming.{Kept}
+use Rattle.law_pdcp.proofs.OneEnd.Naming.{NamesKept}
 use Rattle.law_pdcp.proofs.OneEnd.Thinning.{In, names}
 use Rattle.law_pdcp.specs.AmPair.Flow.{Flow, IsReport, Comes}
 use Rattle.law_pdcp.proofs.AmPair.Numbers.{among, counts, again_counts, came}
@@ -35,7 +35,7 @@ pub record Sends (bits first : ℕ) (sdus : List (List ℕ)) (s : State) : Type 
   pub some : AreSome sdus
   pub waits_some : AreSome (queue s)
   pub owes : Owes s.kind s.owed
-  pub kept : Kept first sdus s
+  pub kept : NamesKept first sdus s
   pub order : In 0 (names (all_of s)) s.next
   pub near : s.next ≤ s.bound
   pub lag : s.bound ≤ or_else (first_unacked (all_of s)) s.next + 2 ^ (bits - 1)

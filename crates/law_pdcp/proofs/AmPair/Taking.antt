@@ -17,7 +17,7 @@ use Rattle.pdcp_tx_store.specs.Given.{settled, with_entry, data_of, first_unacke
 use Rattle.pdcp_tx.specs.declared.sender.Next.{Next}
 use Rattle.pdcp_tx.specs.State.{State, or_else, sent, written}
 use Rattle.law_pdcp.specs.OneEnd.Lives.{Names}
-use Rattle.law_pdcp.proofs.OneEnd.Naming.{Kept, get_more, get_behind, more, each_behind, Is}
+use Rattle.law_pdcp.proofs.OneEnd.Naming.{NamesKept, get_more, get_behind, more, each_behind, Is}
 use Rattle.law_pdcp.proofs.OneEnd.Thinning.{In, names}
 use Rattle.pdcp_rx.specs.State.{State as Receiving}
 use Rattle.law_pdcp.specs.AmPair.Flow.{Flow, IsReport}
@@ -122,7 +122,7 @@ own_links bits first sdus s handed whole k pdus report is h =
       written = written_more first sdus s.kind s.protection pdus o h.written is;
     }
 
-own_sends : (bits first : ℕ) (sdus : List (List ℕ)) (s : State) → Kept first sdus (without_report s)
+own_sends : (bits first : ℕ) (sdus : List (List ℕ)) (s : State) → NamesKept first sdus (without_report s)
     → In 0 (names (all_of (without_report s))) s.next → Sends bits first sdus s
     → Sends bits first sdus (without_report s)
 own_sends bits first sdus s kept order h =
@@ -140,7 +140,7 @@ own_sends bits first sdus s kept order h =
     }
 
 pub own_sound : (bits : ℕ) (f : Flow) (report : List ℕ) → IsReport f.sender.kind report
-    → Kept f.first f.sdus (without_report f.sender) → In 0 (names (all_of (without_report f.sender))) f.sender.next
+    → NamesKept f.first f.sdus (without_report f.sender) → In 0 (names (all_of (without_report f.sender))) f.sender.next
     → IsSound bits f
     → IsSound bits (record f {
       sender = without_report f.sender;
@@ -195,7 +195,7 @@ again_links bits first sdus s handed whole k pdus x xs e is h =
     }
 
 again_sends : (bits first : ℕ) (sdus : List (List ℕ)) (s : State) (x : Sent) (xs : List Sent) → s.again ≡ x ∷ xs
-    → Kept first sdus (without_first s x xs) → In 0 (names (all_of (without_first s x xs))) s.next
+    → NamesKept first sdus (without_first s x xs) → In 0 (names (all_of (without_first s x xs))) s.next
     → Sends bits first sdus s
     → Sends bits first sdus (without_first s x xs)
 again_sends bits first sdus s x xs e kept order h = record {
@@ -216,7 +216,7 @@ again_sends bits first sdus s x xs e kept order h = record {
 }
 
 pub again_sound : (bits : ℕ) (f : Flow) (x : Sent) (xs : List Sent) → f.sender.again ≡ x ∷ xs
-    → Kept f.first f.sdus (without_first f.sender x xs)
+    → NamesKept f.first f.sdus (without_first f.sender x xs)
     → In 0 (names (all_of (without_first f.sender x xs))) f.sender.next → IsSound bits f
     → IsSound bits (record f {
       sender = without_first f.sender x xs;
@@ -303,7 +303,7 @@ queue_drop [] h = h
 queue_drop (w ∷ ws) h = h.1
 
 new_sends : (bits first : ℕ) (sdus : List (List ℕ)) (s : State) (sdu : List ℕ) → s.again ≡ [] → sdu ≢ []
-    → 0 < length s.waiting → s.next < s.bound → Kept first (sdus ++ sdu ∷ []) (with_new s sdu)
+    → 0 < length s.waiting → s.next < s.bound → NamesKept first (sdus ++ sdu ∷ []) (with_new s sdu)
     → In 0 (names (all_of (with_new s sdu))) (s.next + 1) → Sends bits first sdus s
     → Sends bits first (sdus ++ sdu ∷ []) (with_new s sdu)
 new_sends bits first sdus s sdu e some' waits lt kept order h =
@@ -355,7 +355,7 @@ receiver_below bits f h =
     few_next f.first f.sdus f.handed f.up f.receiver f.sender.next h.sends.kept.next h.links.within h.receives
 
 pub new_sound : (bits : ℕ) (f : Flow) (sdu : List ℕ) → f.sender.again ≡ [] → sdu ≢ [] → 0 < length f.sender.waiting
-    → f.sender.next < f.sender.bound → Kept f.first (f.sdus ++ sdu ∷ []) (with_new f.sender sdu)
+    → f.sender.next < f.sender.bound → NamesKept f.first (f.sdus ++ sdu ∷ []) (with_new f.sender sdu)
     → In 0 (names (all_of (with_new f.sender sdu))) (f.sender.next + 1) → IsSound bits f
     → IsSound bits (record f {
       sender = with_new f.sender sdu;

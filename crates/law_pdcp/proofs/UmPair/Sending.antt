@@ -18,7 +18,8 @@ use Rattle.pdcp_tx.specs.State.{kept_again, next_from, waiting_on}
 use Rattle.pdcp_tx.specs.Runs.{Submit, Take, Tick, Late}
 use Rattle.law_pdcp.specs.OneEnd.Lives.{takes_new, new_of, new_behind, first_sdu}
 use Rattle.law_pdcp.proofs.OneEnd.Naming.{get_more, get_behind}
-use Rattle.law_pdcp.specs.UmPair.Flow.{Flow, Sends as Sending, SetDiscard, Restart, one, happens}
+use Rattle.law_pdcp.specs.UmPair.Flow.{Flow, Sends as Sending, SetDiscard, Restart, happens}
+use Rattle.law_pdcp.specs.OneEnd.Given.{nexts_of}
 use Rattle.law_pdcp.specs.UmPair.Reading.{IsWritten}
 use Rattle.law_pdcp.proofs.UmPair.Choice.{get_push, between_more}
 use Rattle.law_pdcp.proofs.UmPair.Sound.{AreNonempty, Writes}
@@ -239,17 +240,17 @@ by_first : (bits : ℕ) (f : Flow) (ws : List Waits) → take (f.sender.bound - 
     → Writes bits (happens f (Sending Take))
 by_first bits f [] c h =
     let s = f.sender in
-    by_same (Writes bits) f (took s) s (takes_new s Take) [] (one (taking s)) []
+    by_same (Writes bits) f (took s) s (takes_new s Take) [] (nexts_of (taking s)) []
     (took_by s [] h.sends.owes_none h.sends.none_again c) (new_by s [] h.sends.owes_none h.sends.none_again c)
-    (ap one (taking_by s [] h.sends.owes_none h.sends.none_again c)) (gives_none bits f s h)
+    (ap nexts_of (taking_by s [] h.sends.owes_none h.sends.none_again c)) (gives_none bits f s h)
 by_first bits f (w ∷ ws) c h =
     let s = f.sender in
     let can = first_waits (s.bound - s.next) s.waiting w ws c h.sends.waits_some in
-    by_same (Writes bits) f (took s) (with_new s) (takes_new s Take) (w.sdu ∷ []) (one (taking s))
+    by_same (Writes bits) f (took s) (with_new s) (takes_new s Take) (w.sdu ∷ []) (nexts_of (taking s))
     (written s.kind s.protection (Some s.next) w.sdu ∷ [])
     (took_by s (w ∷ ws) h.sends.owes_none h.sends.none_again c ∙ took_one s w ws (ap is_am h.sends.um))
     (new_by s (w ∷ ws) h.sends.owes_none h.sends.none_again c)
-    (ap one (taking_by s (w ∷ ws) h.sends.owes_none h.sends.none_again c)) (new_writes bits f w.sdu can.1 can.0 h)
+    (ap nexts_of (taking_by s (w ∷ ws) h.sends.owes_none h.sends.none_again c)) (new_writes bits f w.sdu can.1 can.0 h)
 
 pub take_writes : (bits : ℕ) (f : Flow) → Writes bits f → Writes bits (happens f (Sending Take))
 take_writes bits f h = by_first bits f (take (f.sender.bound - f.sender.next) f.sender.waiting) refl h

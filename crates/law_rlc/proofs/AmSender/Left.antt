@@ -11,7 +11,8 @@ use Rattle.rlc_am_tx_window.specs.Sent.{Sent, gets_acked}
 use Rattle.rlc_am_tx_window.specs.Window.{offset_of, named_all, credited_one, credited_from}
 use Rattle.rlc_am_tx.specs.Machine.{State, turn, after_status, after_expiry, is_ignored, limit_of, stops, read, applied}
 use Rattle.rlc_am_tx.specs.Machine.{settles}
-use Rattle.law_rlc.specs.AmSender.Run.{Call, Offer, Take, Status, Tick, Expire, Settle, Confirm, World, after, run}
+use Rattle.law_rlc.specs.AmSender.Run.{Call, Offer, Take, Status, Tick, Expire, Settle, Confirm, World, after}
+use Rattle.law_rlc.specs.AmSender.Run.{run_am_sender}
 use Rattle.law_rlc.specs.AmSender.Run.{begun}
 use Rattle.law_rlc.specs.AmSender.Confirmed.{Confirmations, unconfirmed, confirmations_after, times}
 use Rattle.law_rlc.specs.AmSender.Left.{AllAreConfirmed, LeavesOnlyUnconfirmed}
@@ -159,7 +160,7 @@ all-are w b k h some none p lt =
 
 run-all : (calls : List Call) (w : World Confirmations) (b : Books) → AllByRecursion HasOctets calls
     → Keeps w.state w.past b → Sized w.state → HaveSome b.sizes
-    → AllAreConfirmed (run confirmations_after calls w)
+    → AllAreConfirmed (run_am_sender confirmations_after calls w)
 run-all [] w b g k h some = all-are w b k h some
 run-all (c ∷ cs) w b g k h some =
     run-all cs (record { state = after w.state c; past = confirmations_after w.state c w.past })

@@ -25,7 +25,7 @@ use Rattle.rlc_am_tx.specs.Machine.{settled_by, is_ignored, with_poll, is_wanted
 use Rattle.rlc_am_tx.specs.Machine.{sent_whole, sent_segment, sent_new, new_slot, ended, limit_of, stops, read, applied}
 use Rattle.rlc_am_tx.specs.Machine.{with_recalled, with_owed, expired, recalled_place, expiry_limit}
 use Rattle.law_rlc.specs.AmSender.Run.{Call, Offer, Take, Status, Tick, Expire, Settle, Confirm, World, after}
-use Rattle.law_rlc.specs.AmSender.Run.{run as run_all, begun}
+use Rattle.law_rlc.specs.AmSender.Run.{run_am_sender, begun}
 use Rattle.law_rlc.specs.AmSender.Namings.{Marks, unmarked, names, any_below, with_naming, is_open, heard_waits}
 use Rattle.law_rlc.specs.AmSender.Namings.{heard_namings, heard_marks, resent, marks_by, recalled_marks, marks_after}
 use Rattle.law_rlc.specs.AmSender.Namings.{count_of, IsMarked, CountsNamings}
@@ -650,7 +650,7 @@ after-stands s (Settle more) m f = settled-stands (settles s more) s m f
 after-stands s Confirm m f = f
 
 run-stands : (calls : List Call) (w : World Marks) → Stands w.state w.past
-    → Stands (run_all marks_after calls w).state (run_all marks_after calls w).past
+    → Stands (run_am_sender marks_after calls w).state (run_am_sender marks_after calls w).past
 run-stands [] w f = f
 run-stands (c ∷ cs) w f =
     run-stands cs (record { state = after w.state c; past = marks_after w.state c w.past })
@@ -663,8 +663,8 @@ start-stands c = record {
 }
 
 pub stands : (config : AmTxConfig) (calls : List Call)
-    → Stands (run_all marks_after calls (begun config unmarked)).state
-    (run_all marks_after calls (begun config unmarked)).past
+    → Stands (run_am_sender marks_after calls (begun config unmarked)).state
+    (run_am_sender marks_after calls (begun config unmarked)).past
 stands config calls = run-stands calls (begun config unmarked) (start-stands config)
 
 not-not : (b : Bool) → not (not b) ≡ b
@@ -678,4 +678,4 @@ marked-of w f = record {
 }
 
 pub marked : CountsNamings
-marked config calls = marked-of (run_all marks_after calls (begun config unmarked)) (stands config calls)
+marked config calls = marked-of (run_am_sender marks_after calls (begun config unmarked)) (stands config calls)

@@ -40,7 +40,7 @@ use Rattle.rlc_am_tx.specs.Machine.{applied, with_recalled, with_owed, expired, 
 use Rattle.rlc_am_tx.specs.Machine.{settled_by, settles}
 use Rattle.rlc_am_tx.proofs.SendSteps.{first-waits}
 use Rattle.law_rlc.specs.AmSender.Run.{Call, Offer, Take, Status, Tick, Expire, Settle, Confirm, World, after}
-use Rattle.law_rlc.specs.AmSender.Run.{run as run_all, begun}
+use Rattle.law_rlc.specs.AmSender.Run.{run_am_sender, begun}
 use Rattle.law_rlc.specs.AmSender.Resent.{IsResent, IsSegment, IsWhole}
 use Rattle.law_rlc.specs.AmSender.Octets.{Place, places, first_begins, last_ends, lengths, written, segment_of}
 use Rattle.law_rlc.specs.AmSender.Octets.{again_octets, Octets, nothing_sent, sent_with, new_count, octets_by, moved}
@@ -713,7 +713,7 @@ written-of turns.Shut s size more o k new whole' part' short r = tt
 written-of turns.Held s size more o k new whole' part' short r = tt
 
 pub run-keeps : (calls : List Call) (w : World Octets) → AllByRecursion HasOctets calls → Keeps w.state w.past
-    → Keeps (run_all octets_after calls w).state (run_all octets_after calls w).past
+    → Keeps (run_am_sender octets_after calls w).state (run_am_sender octets_after calls w).past
 run-keeps [] w h k = k
 run-keeps (c ∷ cs) w h k =
     run-keeps cs (record { state = after w.state c; past = octets_after w.state c w.past }) h.1
@@ -736,6 +736,6 @@ start-keeps config = record {
 
 pub writes : WritesTheStream
 writes config calls size held more h =
-    taking (run_all octets_after calls (begun config nothing_sent)).state size held more
-    (run_all octets_after calls (begun config nothing_sent)).past
+    taking (run_am_sender octets_after calls (begun config nothing_sent)).state size held more
+    (run_am_sender octets_after calls (begun config nothing_sent)).past
     (run-keeps calls (begun config nothing_sent) h (start-keeps config))
