@@ -3,3 +3,4 @@ pub mod Bounds
 pub mod Receiving
 pub mod Again
 pub mod Given
+pub mod Places

@@ -37,7 +37,8 @@ use Rattle.law_deliver.specs.AmFlow.Pair.{called}
 use Rattle.law_pdcp.specs.SrbPair.Delivery.{AreReadAs}
 use Rattle.law_pdcp.proofs.SrbPair.Laws.{Hears}
 use Rattle.law_pdcp.proofs.SrbPair.Receives.{reads}
-use Rattle.law_pdcp.proofs.SrbPair.Sending.{AreNonempty, Sends, confirm_sends, confirm_queues}
+use Rattle.law_pdcp.proofs.OneEnd.Submitting.{AreNonempty}
+use Rattle.law_pdcp.proofs.SrbPair.Sending.{Sends, confirm_sends, confirm_queues}
 use Rattle.promises.specs.Events.{losses}
 use Rattle.law_deliver.proofs.SrbDelivery.Losing.{none_then as none_lost_then, landed_none as landed_loses_none}
 use Rattle.law_deliver.proofs.SrbDelivery.Losing.{ups_none as ups_lose_none, status_none as status_loses_none}

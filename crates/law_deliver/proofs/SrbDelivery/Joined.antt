@@ -19,7 +19,8 @@ use Rattle.law_deliver.specs.AmFlow.Pair.{BearerEnd}
 use Rattle.law_deliver.proofs.AmFlow.Flows.{stands_as, is_flow}
 use Rattle.law_deliver.proofs.AmFlow.Standing.{Stands, given_more, goes_more}
 use Rattle.law_pdcp.proofs.SrbPair.Laws.{Hears}
-use Rattle.law_pdcp.proofs.SrbPair.Sending.{AreNonempty, Sends}
+use Rattle.law_pdcp.proofs.OneEnd.Submitting.{AreNonempty}
+use Rattle.law_pdcp.proofs.SrbPair.Sending.{Sends}
 use Rattle.law_deliver.proofs.SrbDelivery.Going.{total, Goes}
 use Rattle.law_deliver.proofs.SrbDelivery.Taking.{pdus_from, pdus_both}
 

@@ -22,7 +22,8 @@ use Rattle.law_pdcp.specs.AmPair.Flow.{Flow, Sends as Sending, happens}
 use Rattle.law_pdcp.proofs.AmPair.Numbers.{among, among_more, counts, has, came}
 use Rattle.law_pdcp.proofs.AmPair.Opens.{all_of, is_among, low_is, first_rises, first_below, first_end, trimmed_among}
 use Rattle.law_pdcp.proofs.AmPair.Places.{settled_places, ack_places, acked_came}
-use Rattle.law_pdcp.proofs.AmPair.Sound.{AreSome, Owes, Sends, IsSound}
+use Rattle.law_pdcp.proofs.OneEnd.Submitting.{AreNonempty}
+use Rattle.law_pdcp.proofs.AmPair.Sound.{Owes, Sends, IsSound}
 use Rattle.law_pdcp.proofs.AmPair.Takings.{kept_after, order_after, none_given}
 
 -- ---- the bound moves
@@ -45,8 +46,8 @@ moved_is s bits am = ap (λ n. if s.reporting then s.bound else n) (moved_first 
 pub record Before (bits first : ℕ) (sdus : List (List ℕ)) (s : State) : Type 0 where
   pub am : s.kind ≡ Am bits
   pub room : s.next + length s.waiting ≤ 2 ^ 32
-  pub some : AreSome sdus
-  pub waits_some : AreSome (map (λ w. w.sdu) s.waiting)
+  pub some : AreNonempty sdus
+  pub waits_some : AreNonempty (map (λ w. w.sdu) s.waiting)
   pub owes : Owes s.kind s.owed
   pub near : s.next ≤ s.bound
   pub lag : s.bound ≤ or_else (first_unacked (all_of s)) s.next + 2 ^ (bits - 1)

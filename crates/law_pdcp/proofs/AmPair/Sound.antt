@@ -10,6 +10,7 @@ use Rattle.pdcp_tx_store.specs.Given.{tells, first_unacked}
 use Rattle.pdcp_tx.specs.declared.sender.Next.{Next}
 use Rattle.pdcp_tx.specs.Pdus.{pdu}
 use Rattle.pdcp_tx.specs.State.{State, or_else, fms_count}
+use Rattle.law_pdcp.proofs.OneEnd.Submitting.{AreNonempty}
 use Rattle.law_pdcp.specs.OneEnd.Lives.{Names, queue}
 use Rattle.law_pdcp.proofs.OneEnd.Naming.{NamesKept}
 use Rattle.law_pdcp.proofs.OneEnd.Thinning.{In, names}
@@ -20,10 +21,6 @@ use Rattle.law_pdcp.proofs.AmPair.Places.{AreAtPlaces}
 use Rattle.law_pdcp.proofs.AmPair.Receives.{Receives}
 
 -- no SDU is empty
-abbrev pub AreSome : List (List ℕ) → Type 0
-AreSome [] = Unit {0}
-AreSome (x ∷ xs) = (x ≢ []) × AreSome xs
-
 abbrev pub Owes : PdcpKind → Option (List ℕ) → Type 0
 Owes kind None = Unit {0}
 Owes kind (Some report) = IsReport kind report
@@ -32,8 +29,8 @@ Owes kind (Some report) = IsReport kind report
 pub record Sends (bits first : ℕ) (sdus : List (List ℕ)) (s : State) : Type 0 where
   pub am : s.kind ≡ Am bits
   pub room : s.next + length s.waiting ≤ 2 ^ 32
-  pub some : AreSome sdus
-  pub waits_some : AreSome (queue s)
+  pub some : AreNonempty sdus
+  pub waits_some : AreNonempty (queue s)
   pub owes : Owes s.kind s.owed
   pub kept : NamesKept first sdus s
   pub order : In 0 (names (all_of s)) s.next

@@ -26,7 +26,8 @@ use Rattle.law_pdcp.proofs.AmPair.Opens.{all_of, is_among, is_among_more, rises,
 use Rattle.law_pdcp.proofs.AmPair.Opens.{trimmed_among}
 use Rattle.law_pdcp.proofs.AmPair.Places.{AreAtPlaces, entry_places, settled_places, drop_more}
 use Rattle.law_pdcp.proofs.AmPair.Receives.{Receives}
-use Rattle.law_pdcp.proofs.AmPair.Sound.{AreSome, Sends, IsData, IsWritten, AreWritten, rest, Links, IsTrueReport}
+use Rattle.law_pdcp.proofs.OneEnd.Submitting.{AreNonempty}
+use Rattle.law_pdcp.proofs.AmPair.Sound.{Sends, IsData, IsWritten, AreWritten, rest, Links, IsTrueReport}
 use Rattle.law_pdcp.proofs.AmPair.Sound.{IsSound}
 
 -- ---- lists
@@ -63,11 +64,11 @@ all_named_more first sdus g kind p [] h = tt
 all_named_more first sdus g kind p (x ∷ xs) h =
     (named_more first sdus g kind p x.count x.octets h.0, all_named_more first sdus g kind p xs h.1)
 
-pub some_push : (xs : List (List ℕ)) (x : List ℕ) → AreSome xs → x ≢ [] → AreSome (xs ++ x ∷ [])
+pub some_push : (xs : List (List ℕ)) (x : List ℕ) → AreNonempty xs → x ≢ [] → AreNonempty (xs ++ x ∷ [])
 some_push [] x h i = (i, tt)
 some_push (y ∷ xs) x h i = (h.0, some_push xs x h.1 i)
 
-some_at : (xs : List (List ℕ)) (k : ℕ) (x : List ℕ) → AreSome xs → slice_get xs k ≡ Some x → x ≢ []
+some_at : (xs : List (List ℕ)) (k : ℕ) (x : List ℕ) → AreNonempty xs → slice_get xs k ≡ Some x → x ≢ []
 some_at [] k x h e = let no : None ≡ Some x = e in cc
 some_at (y ∷ xs) zero x h e = let some : Some y ≡ Some x = e in let same : y ≡ x = cc in subst (λ z. z ≢ []) same h.0
 some_at (y ∷ xs) (suc k) x h e = some_at xs k x h.1 e
@@ -298,7 +299,7 @@ new_links bits first sdus s handed whole k pdus sdu e is h =
           (all_named_more first sdus (sdu ∷ []) s.kind s.protection pdus h.written) is;
     }
 
-queue_drop : (ws : List Waits) → AreSome (map (λ w. w.sdu) ws) → AreSome (map (λ w. w.sdu) (drop 1 ws))
+queue_drop : (ws : List Waits) → AreNonempty (map (λ w. w.sdu) ws) → AreNonempty (map (λ w. w.sdu) (drop 1 ws))
 queue_drop [] h = h
 queue_drop (w ∷ ws) h = h.1
 

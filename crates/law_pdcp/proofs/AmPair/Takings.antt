@@ -2,10 +2,9 @@
 use Rattle.std.proofs.Common.{◌≡◌, ◌≢◌, ◌<◌, ◌≤◌, ℕ, suc, zero, ◌+◌, ◌-◌, ◌^◌, Bool, true, false, List, [], ◌∷◌, ◌++◌}
 use Rattle.std.proofs.Common.{length, take, drop, map, Option, Some, None, slice_get, length-append, subst, refl, ap}
 use Rattle.std.proofs.Common.{sym, ◌∙◌, arith}
-use Rattle.std.specs.Prelude.{if◌then◌else◌, option_map, nat_lt, nat_le, ◌==◌}
+use Rattle.std.specs.Prelude.{if◌then◌else◌, option_map}
 use Rattle.std.proofs.lemmas.Bool.Decides.{nat_tests}
 use Rattle.std.proofs.lemmas.List.{append-nil}
-use Rattle.l2_bits.specs.declared.fault.SubmitRefusal.TheVariants.{Empty, TooLong, Full, CountEnd}
 use Rattle.pdcp_pdu.specs.declared.PdcpKind.TheVariants.{Am}
 use Rattle.pdcp_pdu.specs.Kinds.{is_am}
 use Rattle.pdcp_tx_store.specs.declared.given.Sent.{Sent}
@@ -24,7 +23,8 @@ use Rattle.law_pdcp.proofs.OneEnd.Thinning.{In, names}
 use Rattle.law_pdcp.specs.AmPair.Flow.{Flow, Sends as Sending, SetDiscard, happens, IsReport}
 use Rattle.law_pdcp.specs.OneEnd.Given.{nexts_of}
 use Rattle.law_pdcp.proofs.AmPair.Opens.{all_of}
-use Rattle.law_pdcp.proofs.AmPair.Sound.{AreSome, Owes, IsSound}
+use Rattle.law_pdcp.proofs.OneEnd.Submitting.{AreNonempty, accepted, not_empty, queue_push, late_room, late_some}
+use Rattle.law_pdcp.proofs.AmPair.Sound.{Owes, IsSound}
 use Rattle.law_pdcp.proofs.AmPair.Taking.{without_report, own_sound, without_first, again_sound, with_new, new_sound}
 
 -- ---- what any step keeps
@@ -104,7 +104,7 @@ took_by_new : (s : State) (ws : List Waits) → s.owed ≡ None → s.again ≡ 
 took_by_new s ws a b c = took_by_again s [] a b ∙ ap (λ l. took_new l s) c
 
 first_waits : (n : ℕ) (xs : List Waits) (w : Waits) (ws : List Waits) → take n xs ≡ w ∷ ws
-    → AreSome (map (λ w. w.sdu) xs) → (0 < n) × (0 < length xs) × (w.sdu ≢ [])
+    → AreNonempty (map (λ w. w.sdu) xs) → (0 < n) × (0 < length xs) × (w.sdu ≢ [])
 first_waits zero xs w ws e h = absurd cc
 first_waits (suc n) [] w ws e h = absurd cc
 first_waits (suc n) (x ∷ xs) w ws e h = let same : x ≡ w = cc in
@@ -175,7 +175,7 @@ quiet s waiting owed reporting clock discard =
     record s { waiting = waiting; owed = owed; reporting = reporting; clock = clock; discard = discard }
 
 quiet_sound : (bits : ℕ) (f : Flow) (waiting : List Waits) (owed : Option (List ℕ)) (reporting : Bool) (clock : ℕ)
-    (discard : Option ℕ) → f.sender.next + length waiting ≤ 2 ^ 32 → AreSome (map (λ w. w.sdu) waiting)
+    (discard : Option ℕ) → f.sender.next + length waiting ≤ 2 ^ 32 → AreNonempty (map (λ w. w.sdu) waiting)
     → Owes f.sender.kind owed
     → IsSound bits f → IsSound bits (record f { sender = quiet f.sender waiting owed reporting clock discard })
 quiet_sound bits f waiting owed reporting clock discard room some owes h = record {
@@ -209,32 +209,6 @@ quiet_sound bits f waiting owed reporting clock discard room some owes h = recor
   told = h.told;
 }
 
-refused_by : (a b c d : Bool)
-    → (if a then Some Empty
-    else (if b then Some TooLong else (if c then Some Full else (if d then Some CountEnd else None)))) ≡ None
-    → (a ≡ false) × (d ≡ false)
-refused_by true b c d e = absurd cc
-refused_by false true c d e = absurd cc
-refused_by false false true d e = absurd cc
-refused_by false false false true e = absurd cc
-refused_by false false false false e = (refl, refl)
-
-accepted : (s : State) (sdu : List ℕ) → refusal s sdu ≡ None
-    → ((length sdu == 0) ≡ false) × ((s.next + length s.waiting == 2 ^ 32) ≡ false)
-unfolding refusal
-accepted s sdu e =
-    refused_by (length sdu == 0) (nat_lt 8188 (length sdu)) (nat_le 1024 (length s.waiting))
-    (s.next + length s.waiting == 2 ^ 32) e
-
-not_empty : (sdu : List ℕ) → (length sdu == 0) ≡ false → sdu ≢ []
-not_empty [] e = absurd cc
-not_empty (x ∷ xs) e = λ q. absurd cc
-
-queue_push : (ws : List Waits) (w : Waits) → AreSome (map (λ w. w.sdu) ws) → w.sdu ≢ []
-    → AreSome (map (λ w. w.sdu) (ws ++ w ∷ []))
-queue_push [] w h i = (i, tt)
-queue_push (x ∷ ws) w h i = (h.0, queue_push ws w h.1 i)
-
 pub submit_sound : (bits : ℕ) (f : Flow) (sdu : List ℕ) → refusal f.sender sdu ≡ None → IsSound bits f
     → IsSound bits (happens f (Sending (Submit sdu)))
 unfolding submitted
@@ -260,18 +234,6 @@ tick_sound bits f h =
     none_given bits f (goes f.sender (Calls Tick))
     (quiet_sound bits f f.sender.waiting f.sender.owed f.sender.reporting (goes f.sender (Calls Tick)).clock
     f.sender.discard h.sends.room h.sends.waits_some h.sends.owes h)
-
-late_room : (b : Bool) (ws : List Waits) (n : ℕ) → n + length ws ≤ 2 ^ 32
-    → n + length (if b then drop 1 ws else ws) ≤ 2 ^ 32
-late_room true [] n h = h
-late_room true (w ∷ ws) n h = omega (arith, h)
-late_room false ws n h = h
-
-late_some : (b : Bool) (ws : List Waits) → AreSome (map (λ w. w.sdu) ws)
-    → AreSome (map (λ w. w.sdu) (if b then drop 1 ws else ws))
-late_some true [] h = h
-late_some true (w ∷ ws) h = h.1
-late_some false ws h = h
 
 pub late_sound : (bits : ℕ) (f : Flow) → IsSound bits f → IsSound bits (happens f (Sending Late))
 unfolding after_late

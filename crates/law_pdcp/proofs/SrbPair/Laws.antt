@@ -18,7 +18,8 @@ use Rattle.law_pdcp.specs.OneEnd.Given.{nexts_of, pdus_given}
 use Rattle.law_pdcp.specs.SrbPair.Flow.{run_srb_pdcp}
 use Rattle.law_pdcp.specs.SrbPair.Flow.{srb_pdcp_outset, SrbPdcpBeginAlike, CanCall, AreGiven}
 use Rattle.law_pdcp.proofs.SrbPair.Receives.{reads}
-use Rattle.law_pdcp.proofs.SrbPair.Sending.{AreNonempty, Sends, submit_sends, submit_queues, TakesNone, takes_none}
+use Rattle.law_pdcp.proofs.OneEnd.Submitting.{AreNonempty}
+use Rattle.law_pdcp.proofs.SrbPair.Sending.{Sends, submit_sends, submit_queues, TakesNone, takes_none}
 use Rattle.law_pdcp.proofs.SrbPair.Sending.{TakesOne, takes_one, new_sends, confirm_sends, confirm_queues, clock_sends}
 use Rattle.law_pdcp.proofs.SrbPair.Sending.{never_late}
 use Rattle.law_pdcp.proofs.SrbPair.Written.{length_written, written_at, some_at, take_next, take_more}
