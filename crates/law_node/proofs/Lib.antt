@@ -17,6 +17,7 @@ pub mod Holders
 pub mod Holding
 pub mod Noting
 pub mod Silences
+pub mod Built
 pub mod Looping
 pub mod Keeping
 pub mod Pdcp

@@ -13,7 +13,7 @@ use Rattle.bearer.specs.Acknowledged.Taking.{has_prohibit, poll_told, fed as am_
 use Rattle.bearer.specs.Acknowledged.Taking.{data_told as am_data_told, data_size, feeding as am_feeding}
 use Rattle.bearer.specs.Acknowledged.Taking.{answer as am_answer, pdus as am_pdus, taking as am_taking}
 use Rattle.bearer_pdcp.specs.Ends.{Ends}
-use Rattle.bearer_pdcp.specs.Taking.{report_told, own_report_told, next_told, taken_told, taking_told}
+use Rattle.bearer_pdcp.specs.Taking.{after_taking, report_told, own_report_told, next_told, taken_told, taking_told}
 use Rattle.bearer_pdcp.specs.Telling.{pdus_of}
 use Rattle.bearer_types.specs.declared.event.Event.{Event}
 use Rattle.bearer_types.specs.declared.event.Event.TheVariants as events
@@ -149,34 +149,35 @@ taking_none : (e : Ends) → sends (taking_told e) ≡ []
 unfolding taking_told
 taking_none e = next_none e.lcid e.kind (taking e.tx)
 
+-- as RLC takes PDUs, its bearer tells of the same channel, and of none that is sent
+record Feeds (e d : Ends) (before behind : List Event) : Type 0 where
+  lcid_is : d.lcid ≡ e.lcid
+  sent_is : sends behind ≡ sends before
+
+none_fed : (e : Ends) (xs : List Event) → Feeds e e xs xs
+none_fed e xs = record { lcid_is = refl; sent_is = refl }
+
+one_fed : (e d : Ends) (xs ys : List Event) → Feeds (after_taking e) d (xs ++ taking_told e) ys → Feeds e d xs ys
+unfolding after_taking
+one_fed e d xs ys more = record {
+  lcid_is = more.lcid_is;
+  sent_is = more.sent_is ∙ sends_then xs (taking_told e)
+      ∙ ap (λ (l : List SentPdu). sends xs ++ l) (taking_none e) ∙ append-nil (sends xs);
+}
+
 -- ---- an unacknowledged bearer
 
-record Feeds (f g : Feeding) : Type 0 where
-  lcid_is : g.pdcp.lcid ≡ f.pdcp.lcid
-  sent_is : sends g.events ≡ sends f.events
+um_feeds_if : (t : Bool) (f g : Feeding) → Feeds f.pdcp g.pdcp f.events g.events
+    → Feeds f.pdcp (if t then g else f).pdcp f.events (if t then g else f).events
+um_feeds_if true f g k = k
+um_feeds_if false f g k = none_fed f.pdcp f.events
 
-um_fed_feeds : (f : Feeding) → Feeds f (um_fed f)
-unfolding Rattle.bearer_pdcp.specs.Taking.after_taking
-um_fed_feeds f =
-    record {
-      lcid_is = refl;
-      sent_is = sends_then f.events (taking_told f.pdcp)
-          ∙ ap (λ (l : List SentPdu). sends f.events ++ l) (taking_none f.pdcp) ∙ append-nil (sends f.events);
-    }
-
-feeds_then : (f g h : Feeding) → Feeds f g → Feeds g h → Feeds f h
-feeds_then f g h one more = record { lcid_is = more.lcid_is ∙ one.lcid_is; sent_is = more.sent_is ∙ one.sent_is }
-
-feeds_if : (t : Bool) (f g : Feeding) → Feeds f g → Feeds f (if t then g else f)
-feeds_if true f g k = k
-feeds_if false f g k = record { lcid_is = refl; sent_is = refl }
-
-um_all_feed : (os : List Offer) (size : ℕ) (held' : Option ℕ) (f : Feeding) → Feeds f (um_feeds os size held' f)
-um_all_feed [] size held' f = record { lcid_is = refl; sent_is = refl }
+um_all_feed : (os : List Offer) (size : ℕ) (held' : Option ℕ) (f : Feeding)
+    → Feeds f.pdcp (um_feeds os size held' f).pdcp f.events (um_feeds os size held' f).events
+um_all_feed [] size held' f = none_fed f.pdcp f.events
 um_all_feed (o ∷ os) size held' f =
-    feeds_if (is_hungry f.tx size held') f (um_feeds os size held' (um_fed f))
-    (feeds_then f (um_fed f) (um_feeds os size held' (um_fed f)) (um_fed_feeds f)
-    (um_all_feed os size held' (um_fed f)))
+    um_feeds_if (is_hungry f.tx size held') f (um_feeds os size held' (um_fed f))
+    (one_fed f.pdcp _ f.events _ (um_all_feed os size held' (um_fed f)))
 
 head_fits : (s : UmSender) (size : ℕ) → IsAbleUm s size → head_of s.bits < size
 head_fits s size a = omega (arith, a.fits)
@@ -222,32 +223,17 @@ um_named b size held' known o r =
 
 -- ---- an acknowledged bearer
 
-record Works (f g : Work) : Type 0 where
-  lcid_is : g.pdcp.lcid ≡ f.pdcp.lcid
-  sent_is : sends g.events ≡ sends f.events
+am_feeds_if : (t : Bool) (w v : Work) → Feeds w.pdcp v.pdcp w.events v.events
+    → Feeds w.pdcp (if t then v else w).pdcp w.events (if t then v else w).events
+am_feeds_if true w v k = k
+am_feeds_if false w v k = none_fed w.pdcp w.events
 
-am_fed_works : (w : Work) → Works w (am_fed w)
-unfolding Rattle.bearer_pdcp.specs.Taking.after_taking
-am_fed_works w =
-    record {
-      lcid_is = refl;
-      sent_is = sends_then w.events (taking_told w.pdcp)
-          ∙ ap (λ (l : List SentPdu). sends w.events ++ l) (taking_none w.pdcp) ∙ append-nil (sends w.events);
-    }
-
-works_then : (f g h : Work) → Works f g → Works g h → Works f h
-works_then f g h one more = record { lcid_is = more.lcid_is ∙ one.lcid_is; sent_is = more.sent_is ∙ one.sent_is }
-
-works_if : (t : Bool) (f g : Work) → Works f g → Works f (if t then g else f)
-works_if true f g k = k
-works_if false f g k = record { lcid_is = refl; sent_is = refl }
-
-am_all_work : (os : List Offer) (size : ℕ) (held' : Option ℕ) (w : Work) → Works w (am_feeds os size held' w)
-am_all_work [] size held' w = record { lcid_is = refl; sent_is = refl }
-am_all_work (o ∷ os) size held' w =
-    works_if (hungry w.tx size held') w (am_feeds os size held' (am_fed w))
-    (works_then w (am_fed w) (am_feeds os size held' (am_fed w)) (am_fed_works w)
-    (am_all_work os size held' (am_fed w)))
+am_all_feed : (os : List Offer) (size : ℕ) (held' : Option ℕ) (w : Work)
+    → Feeds w.pdcp (am_feeds os size held' w).pdcp w.events (am_feeds os size held' w).events
+am_all_feed [] size held' w = none_fed w.pdcp w.events
+am_all_feed (o ∷ os) size held' w =
+    am_feeds_if (hungry w.tx size held') w (am_feeds os size held' (am_fed w))
+    (one_fed w.pdcp _ w.events _ (am_all_feed os size held' (am_fed w)))
 
 there : (s : AmSender) → waits s ≡ true → leading_idle s.window.slots < length s.window.slots
 there s e = grind (arith, nat_tests)
@@ -303,7 +289,7 @@ am_named b size held' known o r =
     let status = status_told lcid (has_prohibit b) b.rx size in
     let room = data_size b size in
     let w = am_feeding b size held' in
-    let k = am_all_work (offers b.pdcp.tx) room held' (work b.pdcp b.tx status) in
+    let k = am_all_feed (offers b.pdcp.tx) room held' (work b.pdcp b.tx status) in
     let more = has_more w.pdcp in
     let t = am_turn w.tx room held' more in
     let given = am_answer_of t w.tx room more in
