@@ -7,8 +7,6 @@ use Rattle.l2_node.specs.End.{End}
 use Rattle.bearer_types.specs.Sides.{heard_by, sent_by}
 use Rattle.l2_types.specs.declared.side.Side.{Side}
 use Rattle.l2_types.specs.declared.side.Side.TheVariants.{Nb, Ue}
-use Rattle.law_node.specs.Calls.{SetVisits, SetReports, Add, Submit, SetDiscard, Tick, TickBuckets, Visits, Grants}
-use Rattle.law_node.specs.Calls.{Granted, Assigned, Pass, Receive, Expire, Move}
 use Rattle.law_deliver.specs.AmFlow.Air.{Station, Air, Act, Calls, Comes, Goes, Step, AtNb, AtUe, Passes, does, passed}
 use Rattle.law_deliver.specs.AmFlow.Air.{older, happens, goes, begins, outset, IsYoung, IsDone, IsGiven, AreGiven}
 use Rattle.law_deliver.specs.AmFlow.Air.{Begins, IsPair}
@@ -16,6 +14,7 @@ use Rattle.law_deliver.specs.AmFlow.Channels.{calls_of}
 use Rattle.law_deliver.specs.AmFlow.Pair.{BearerEnd, Pair, Step as PairStep, Passes as PairPasses, goes as pair_goes}
 use Rattle.law_deliver.specs.AmFlow.Pair.{am_pair_outset, begins as pair_begins, passed as pair_passed}
 use Rattle.law_deliver.specs.AmFlow.Pair.{older as older_sent, AreGiven as AreGivenPair, IsYoung as IsYoungSent}
+use Rattle.law_deliver.proofs.AmFlow.Acts.{act_by}
 use Rattle.law_deliver.proofs.AmFlow.Loads.{aged_load, aged_copies, aged_reports, aged_blocks, aged_all, young_all}
 use Rattle.law_deliver.proofs.AmFlow.Runs.{near_steps, far_steps, near_goes, far_goes, near_given, far_given, goes_more}
 use Rattle.law_deliver.proofs.AmFlow.Runs.{given_more}
@@ -31,35 +30,12 @@ calls_in l other s (Goes k) = []
 
 pub acts : (side oside : Side) (l : ℕ) (s o : Station) (n m : BearerEnd) (x : Act) → heard_by side ≡ sent_by oside
     → Matches side l s n → Matches oside l o m → IsDone l s x → Acts side l (does o s x) m n (calls_in l o s x)
-acts side oside l s o n m (Calls (SetVisits maximum)) dir h k g =
-    plain_call side l s n m (SetVisits maximum) h g.0 g.1 (λ t q. cc) (λ b q. cc)
-acts side oside l s o n m (Calls (SetReports reports)) dir h k g =
-    plain_call side l s n m (SetReports reports) h g.0 g.1 (λ t q. cc) (λ b q. cc)
-acts side oside l s o n m (Calls (Add c keys)) dir h k g =
-    plain_call side l s n m (Add c keys) h g.0 g.1 (λ t q. cc) (λ b q. cc)
-acts side oside l s o n m (Calls (Submit lcid octets)) dir h k g =
-    plain_call side l s n m (Submit lcid octets) h g.0 g.1 (λ t q. cc) (λ b q. cc)
-acts side oside l s o n m (Calls (SetDiscard lcid ttis)) dir h k g =
-    plain_call side l s n m (SetDiscard lcid ttis) h g.0 g.1 (λ t q. cc) (λ b q. cc)
-acts side oside l s o n m (Calls Tick) dir h k g = plain_call side l s n m Tick h g.0 g.1 (λ t q. cc) (λ b q. cc)
-acts side oside l s o n m (Calls TickBuckets) dir h k g =
-    plain_call side l s n m TickBuckets h g.0 g.1 (λ t q. cc) (λ b q. cc)
-acts side oside l s o n m (Calls (Visits t)) dir h k g = visits side l s n m t h g.0 g.2
-acts side oside l s o n m (Calls (Grants tti)) dir h k g =
-    plain_call side l s n m (Grants tti) h g.0 g.1 (λ t q. cc) (λ b q. cc)
-acts side oside l s o n m (Calls (Granted tti good)) dir h k g =
-    plain_call side l s n m (Granted tti good) h g.0 g.1 (λ t q. cc) (λ b q. cc)
-acts side oside l s o n m (Calls (Assigned tti ndi good)) dir h k g =
-    plain_call side l s n m (Assigned tti ndi good) h g.0 g.1 (λ t q. cc) (λ b q. cc)
-acts side oside l s o n m (Calls (Pass tti)) dir h k g =
-    plain_call side l s n m (Pass tti) h g.0 g.1 (λ t q. cc) (λ b q. cc)
-acts side oside l s o n m (Calls (Receive block)) dir h k g = absurd g.2
-acts side oside l s o n m (Calls (Expire lcid clock)) dir h k g =
-    plain_call side l s n m (Expire lcid clock) h g.0 g.1 (λ t q. cc) (λ b q. cc)
-acts side oside l s o n m (Calls (Move keys)) dir h k g =
-    plain_call side l s n m (Move keys) h g.0 g.1 (λ t q. cc) (λ b q. cc)
-acts side oside l s o n m (Comes k) dir h g d = hears side oside l k s o n m (slice_get o.blocks k) dir h g refl
-acts side oside l s o n m (Goes k) dir h g d = lets_go side l k s n m h (slice_get h.loads k) refl
+acts side oside l s o n m x dir h k =
+    act_by l o s (λ v y. Acts side l v m n (calls_in l o s y))
+    (λ c given life no_turn no_block. plain_call side l s n m c h given life no_turn no_block)
+    (λ t given turn. visits side l s n m t h given turn)
+    (λ place. hears side oside l place s o n m (slice_get o.blocks place) dir h k refl)
+    (λ place. lets_go side l place s n m h (slice_get h.loads place) refl) x
 
 -- ---- a TTI passes
 

@@ -29,14 +29,14 @@ use Rattle.law_deliver.proofs.AmFlow.Loads.{Load, all_copies, blocks_in, except_
 use Rattle.law_deliver.proofs.AmFlow.Runs.{octets_of}
 use Rattle.law_deliver.proofs.AmFlow.Standing.{at_place}
 use Rattle.law_deliver.proofs.AmFlow.Stations.{plain_calls, calls_by as block_calls}
-use Rattle.law_deliver.proofs.AmFlow.Visiting.{carries_so}
+use Rattle.law_deliver.proofs.AmFlow.Visiting.{carries_so, blocks_held}
 use Rattle.rlc_pdu.specs.Pdus.{IsUmBits}
 use Rattle.law_deliver.specs.UmChannel.Pairs.{count_before, go_from, comes_with, goes_with, deeds_in}
 use Rattle.law_deliver.proofs.UmChannel.Acting.{acts}
 use Rattle.law_deliver.proofs.UmChannel.Deeds.{does_all, AreDone, all_calls_in, Drops, all_drops}
 use Rattle.law_deliver.proofs.UmChannel.Loads.{Carries, many_in, Split, split_at}
 use Rattle.law_deliver.proofs.UmChannel.Stations.{Matches}
-use Rattle.law_deliver.proofs.UmChannel.Visiting.{blocks_held, written_so}
+use Rattle.law_deliver.proofs.UmChannel.Visiting.{written_so}
 use Rattle.law_deliver.specs.UmFlow.Pair.{BearerEnd, Deed, Calls as CallsBearer}
 use Rattle.um_losses.specs.Flow.{Flow, after}
 use Rattle.um_losses.specs.Names.{Happening, renews}
@@ -151,7 +151,7 @@ module _ (l bits reorder counts : ℕ) (u : IsUmBits bits) (side oside : Side) (
         carries_so side s.end h.come v.tti v.order v.grant l building.some g.0.0 h.there
         ∙ written_so side l s n m v h q in
         let apart = apart_by p _ loads (blocks_in h.loads) (blocks ∙ sym h.blocks_are)
-        (blocks_held side l s n m v is building h) in
+        (blocks_held s v h.loads is building h.blocks_are) in
         let r = from_takes bits reorder counts u a xs b ys n m loads f share held x done.0 refl (omega arith) apart t in
         record {
           loads = x ∷ loads;
@@ -170,7 +170,7 @@ module _ (l bits reorder counts : ℕ) (u : IsUmBits bits) (side oside : Side) (
         let carries : carried l (sent_by side) new_of.octets ≡ [] =
         carries_so side s.end h.come v.tti v.order v.grant l building.some g.0.0 h.there ∙ none in
         let apart = apart_by p _ loads (blocks_in h.loads) (blocks ∙ sym h.blocks_are)
-        (blocks_held side l s n m v is building h) in
+        (blocks_held s v h.loads is building h.blocks_are) in
         let r = begins_block bits reorder counts u a xs b ys n m loads f x refl (omega arith) apart t in
         record {
           loads = x ∷ loads;
