@@ -13,21 +13,22 @@ use Rattle.l2_node.specs.Moving.{leaving}
 use Rattle.l2_types.specs.declared.side.Side.{Side}
 use Rattle.l2_types.specs.declared.side.Side.TheVariants.{Nb, Ue}
 use Rattle.law_node.specs.Bearers.{adds, keys_in}
-use Rattle.law_node.specs.Calls.{Call as EndCall, SetVisits, SetReports, Add, Submit, SetDiscard, Tick, TickBuckets}
-use Rattle.law_node.specs.Calls.{Visits, Grants, Granted, Assigned, Pass, Receive, Expire, Move, IsGiven as IsGivenTo}
+use Rattle.law_node.specs.Calls.{Call as EndCall}
+use Rattle.law_node.specs.Calls.{Receive, Move, IsGiven as IsGivenTo}
 use Rattle.law_node.specs.Calls.{after as after_call, run_end}
 use Rattle.law_node.specs.Telling.{told_of, told_over}
 use Rattle.promises.specs.Records.{events_of, sent_last}
-use Rattle.law_air.proofs.AnyCalls.Going.{told_both, run_on, over_on}
-use Rattle.law_deliver.specs.AmFlow.Air.{Block, Station, Air, Act, Calls, Comes, Goes as LetsGo, AtNb, AtUe, Passes}
-use Rattle.law_deliver.specs.AmFlow.Air.{calls, comes, does, passed, outset, IsCalling, IsYoung}
+use Rattle.law_air.proofs.AnyCalls.Going.{told_both, over_on}
+use Rattle.law_deliver.specs.AmFlow.Air.{Block, Station, Air, Calls, Comes, Goes as LetsGo, AtNb, AtUe, Passes}
+use Rattle.law_deliver.specs.AmFlow.Air.{calls, comes, passed, outset, IsCalling, IsYoung}
 use Rattle.law_deliver.specs.AmFlow.Channels.{GoesOnInLife}
 use Rattle.law_words.specs.Arrivals.{AccountEntry, Renews}
 use Rattle.law_deliver.specs.AmChannel.Arrival.{said_in, heard_in, said_over, heard_over, happens_in, happened}
 use Rattle.promises.specs.Arrival.{tells_at, tells_in}
 use Rattle.law_deliver.specs.AmChannel.Delivery.{submitted_in, was_submitted, sets_discard, SetNone}
 use Rattle.law_deliver.specs.AmChannel.Lives.{AirStep, InLife, Moves, AreLiving, lives_on, lives, end_at, brought}
-use Rattle.law_deliver.specs.AmChannel.Lives.{calls_by, calls_at, all_calls}
+use Rattle.law_deliver.specs.AmChannel.Lives.{calls_at, all_calls}
+use Rattle.law_deliver.proofs.AmChannel.Ends.{goes_by_calls}
 use Rattle.law_rlc.specs.AmPair.Flow.{except}
 use Rattle.um_losses.specs.Names.{Place, Happening as What, begins_anew}
 use Rattle.law_deliver.specs.UmGaps.Whats.{sent_in, expiries, brought as what_came, whats_in, whats}
@@ -45,52 +46,6 @@ station Ue a = a.ue
 abbrev pub with_station : Side → Station → Air → Air
 with_station Nb s a = record a { nb = s }
 with_station Ue s a = record a { ue = s }
-
--- ---- an end runs through its calls
-
-pub call_end : (s : Station) (c : EndCall) → (calls s c).end ≡ after_call s.end c
-call_end s (SetVisits maximum) = refl
-call_end s (SetReports reports) = refl
-call_end s (Add c keys) = refl
-call_end s (Submit lcid octets) = refl
-call_end s (SetDiscard lcid ttis) = refl
-call_end s Tick = refl
-call_end s TickBuckets = refl
-call_end s (Visits t) = refl
-call_end s (Grants tti) = refl
-call_end s (Granted tti good) = refl
-call_end s (Assigned tti ndi good) = refl
-call_end s (Pass tti) = refl
-call_end s (Receive block) = refl
-call_end s (Expire lcid clock) = refl
-call_end s (Move keys) = refl
-
-come_end : (s : Station) (o : Option Block) → (comes s o).end ≡ run_end (brought o) s.end
-come_end s None = refl
-come_end s (Some b) = refl
-
-act_end : (o s : Station) (x : Act) → (does o s x).end ≡ run_end (calls_by o x) s.end
-act_end o s (Calls c) = call_end s c
-act_end o s (Comes k) = come_end s (slice_get o.blocks k)
-act_end o s (LetsGo k) = refl
-
-step_end : (side : Side) (a : Air) (x : AirStep)
-    → end_at side (lives_on a x) ≡ run_end (calls_at side a x) (end_at side a)
-step_end Nb a (InLife (AtNb x)) = act_end a.ue a.nb x
-step_end Nb a (InLife (AtUe x)) = refl
-step_end Nb a (InLife Passes) = refl
-step_end Nb a (Moves keys) = refl
-step_end Ue a (InLife (AtNb x)) = refl
-step_end Ue a (InLife (AtUe x)) = act_end a.nb a.ue x
-step_end Ue a (InLife Passes) = refl
-step_end Ue a (Moves keys) = refl
-
-steps_end : (side : Side) (xs : List AirStep) (a : Air)
-    → end_at side (lives xs a) ≡ run_end (all_calls side xs a) (end_at side a)
-steps_end side [] a = refl
-steps_end side (x ∷ xs) a =
-    steps_end side xs (lives_on a x) ∙ ap (run_end (all_calls side xs (lives_on a x))) (step_end side a x)
-    ∙ sym (run_on (calls_at side a x) (all_calls side xs (lives_on a x)) (end_at side a))
 
 -- ---- steps, and then others
 
@@ -121,7 +76,7 @@ over_more side a xs ys =
     let cs = all_calls side xs a in
     let ds = all_calls side ys (lives xs a) in
     ap (λ (all : List EndCall). told_over all e) (calls_more side a xs ys) ∙ over_on cs ds e
-    ∙ ap (λ (x : End). told_over cs e ++ told_over ds x) (sym (steps_end side xs a))
+    ∙ ap (λ (x : End). told_over cs e ++ told_over ds x) (sym (goes_by_calls side xs a))
 
 -- and what it is submitted
 submitted_on : (n : ℕ) (cs ds : List EndCall) (e : End)
@@ -141,7 +96,7 @@ submitted_more side n a xs ys =
     let cs = all_calls side xs a in
     let ds = all_calls side ys (lives xs a) in
     ap (λ (all : List EndCall). was_submitted n all e) (calls_more side a xs ys) ∙ submitted_on n cs ds e
-    ∙ ap (λ (x : End). was_submitted n cs e ++ was_submitted n ds x) (sym (steps_end side xs a))
+    ∙ ap (λ (x : End). was_submitted n cs e ++ was_submitted n ds x) (sym (goes_by_calls side xs a))
 
 -- ---- steps that tell what records tell, in which each side is submitted so much
 

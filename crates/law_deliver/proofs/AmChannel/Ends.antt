@@ -35,7 +35,7 @@ use Rattle.law_deliver.specs.AmChannel.Delivery.{went_up, steps_in, steps_over}
 
 -- ---- an end goes by its calls
 
-calls_end : (s : Station) (c : Call) → (calls s c).end ≡ after s.end c
+pub calls_end : (s : Station) (c : Call) → (calls s c).end ≡ after s.end c
 calls_end s (SetVisits maximum) = refl
 calls_end s (SetReports reports) = refl
 calls_end s (Add c keys) = refl

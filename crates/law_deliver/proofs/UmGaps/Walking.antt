@@ -99,7 +99,7 @@ abbrev own_end : Side → Pair → BearerEnd
 own_end Nb p = p.near
 own_end Ue p = p.far
 
-abbrev station : Side → Air → Station
+abbrev pub station : Side → Air → Station
 station Nb a = a.nb
 station Ue a = a.ue
 
@@ -263,6 +263,46 @@ module _ (l : ℕ) (c : BearerConfig) (u : IsUmBits c.rlc_bits) (some : 0 < 2 ^ 
       (subst (λ (e : BearerEnd). Told a xs b ys e m' loads f) (sym r)
       (subst (λ (e : BearerEnd). Told a xs b ys n e loads f) (sym s) h)))
 
+  -- of a direction, by the steps of the life so far
+  abbrev pub ToldIn : Side → State → State → List PairStep → List Load → Flow → Type 0
+  ToldIn from near far ss loads f =
+      Told (own from near far) (own_calls from near far ss) (own (other from) near far)
+      (own_calls (other from) near far ss) (own_end from (goes ss (um_pair_outset near far)))
+      (own_end (other from) (goes ss (um_pair_outset near far))) loads f
+
+  -- where the life stands behind a step
+  follows_on : (from : Side) (a : Air) (x : Step) (near far : State) (so_far : List PairStep) (f g : Flow)
+      → IsGiven l a x → Follows l c from a near far so_far f → (loads : List Load)
+      → blocks_in loads ≡ (station from (happens a x)).blocks → AllByRecursion (Carries l (sent_by from)) loads
+      → ToldIn from near far (so_far ++ steps_in l a x) loads g
+      → AreShortIn (direction_from from) (um_pair_outset near far) (so_far ++ steps_in l a x)
+      → Follows l c from (happens a x) near far (so_far ++ steps_in l a x) g
+  follows_on from a x near far so_far f g given h loads blocks carry tracks short = record {
+    stands = (grows l a near far so_far h.stands x given).stands;
+    alone = alone_on (other from) l a (InLife x) given h.alone;
+    near_begin = h.near_begin;
+    far_begin = h.far_begin;
+    begins = h.begins;
+    loads = loads;
+    blocks_are = blocks;
+    carry = carry;
+    tracks = tracks;
+    short = short;
+  }
+
+  aged_told : (a b : State) (xs ys : List BearerCall) (n m : BearerEnd) (loads : List Load) (f : Flow)
+      → Told a xs b ys n m loads f → Told a xs b ys n m (map aged_load loads) f
+  aged_told a b xs ys n m loads f t = record {
+    on = t.on;
+    tm = t.tm;
+    calls = t.calls;
+    heard = t.heard;
+    idle = t.idle;
+    written = t.written;
+    copies_are = t.copies_are ∙ sym (aged_copies loads);
+    under = aged_under c.rlc_bits t.tm f.sending.under_way loads t.under;
+  }
+
   pub follow : (from : Side) (a : Air) (x : Step) (near far : State) (so_far : List PairStep) (f : Flow)
       → IsGiven l a x → Follows l c from a near far so_far f
       → (all_after (whats_in from l c.rlc_bits a (InLife x)) f).gaps.long ≡ false
@@ -273,144 +313,60 @@ module _ (l : ℕ) (c : BearerConfig) (u : IsUmBits c.rlc_bits) (some : 0 < 2 ^ 
       let v = nb_moves l a near far so_far x h.stands g in
       let r = sends_on l c.rlc_bits c.rx.reorder (2 ^ c.pdcp_bits) u Nb Ue refl near
       (near_calls (um_pair_outset near far) so_far) far (far_calls (um_pair_outset near far) so_far) a.nb a.ue p.near
-      p.far h.stands.nb h.stands.ue
-      h.loads f h.blocks_are h.carry h.tracks x g in
-      record {
-        stands = (grows l a near far so_far h.stands (AtNb x) g).stands;
-        alone = alone_on Ue l a (InLife (AtNb x)) g h.alone;
-        near_begin = h.near_begin;
-        far_begin = h.far_begin;
-        begins = h.begins;
-        loads = r.loads;
-        blocks_are = r.blocks_are;
-        carry = r.carry;
-        tracks = told_as near far _ _ _ _ _ _ _ _ r.loads _ v.nb_calls v.ue_calls (ap (λ (q : Pair). q.near) v.there)
-            (ap (λ (q : Pair). q.far) v.there) r.tracks;
-        short = short_there (um_pair_outset near far) so_far (near_steps (deeds_in l Nb a.ue a.nb x)) h.short
-            (sent_there p (deeds_in l Nb a.ue a.nb x));
-      }
+      p.far h.stands.nb h.stands.ue h.loads f h.blocks_are h.carry h.tracks x g in
+      follows_on Nb a (AtNb x) near far so_far f (all_after (whats_in Nb l c.rlc_bits a (InLife (AtNb x))) f) g h
+      r.loads r.blocks_are r.carry
+      (told_as near far _ _ _ _ _ _ _ _ r.loads _ v.nb_calls v.ue_calls (ap (λ (q : Pair). q.near) v.there)
+      (ap (λ (q : Pair). q.far) v.there) r.tracks)
+      (short_there (um_pair_outset near far) so_far (near_steps (deeds_in l Nb a.ue a.nb x)) h.short
+      (sent_there p (deeds_in l Nb a.ue a.nb x)))
   follow Nb a (AtUe x) near far so_far f g h e =
       let p : Pair = goes so_far (um_pair_outset near far) in
       let v = ue_moves l a near far so_far x h.stands g in
       let r = hears_on l c.rlc_bits c.rx.reorder (2 ^ c.pdcp_bits) u Ue Nb refl near
       (near_calls (um_pair_outset near far) so_far) far (far_calls (um_pair_outset near far) so_far) a.ue a.nb p.near
-      p.far h.stands.ue h.stands.nb h.alone
-      h.loads f h.blocks_are h.carry h.tracks x g e in
-      record {
-        stands = (grows l a near far so_far h.stands (AtUe x) g).stands;
-        alone = alone_on Ue l a (InLife (AtUe x)) g h.alone;
-        near_begin = h.near_begin;
-        far_begin = h.far_begin;
-        begins = h.begins;
-        loads = h.loads;
-        blocks_are = h.blocks_are;
-        carry = h.carry;
-        tracks = told_as near far _ _ _ _ _ _ _ _ h.loads _ v.nb_calls v.ue_calls (ap (λ (q : Pair). q.near) v.there)
-            (ap (λ (q : Pair). q.far) v.there) r.tracks;
-        short = short_there (um_pair_outset near far) so_far (far_steps (deeds_in l Ue a.nb a.ue x)) h.short
-            (heard_there p (deeds_in l Ue a.nb a.ue x) r.near);
-      }
+      p.far h.stands.ue h.stands.nb h.alone h.loads f h.blocks_are h.carry h.tracks x g e in
+      follows_on Nb a (AtUe x) near far so_far f (all_after (whats_in Nb l c.rlc_bits a (InLife (AtUe x))) f) g h
+      h.loads h.blocks_are h.carry
+      (told_as near far _ _ _ _ _ _ _ _ h.loads _ v.nb_calls v.ue_calls (ap (λ (q : Pair). q.near) v.there)
+      (ap (λ (q : Pair). q.far) v.there) r.tracks)
+      (short_there (um_pair_outset near far) so_far (far_steps (deeds_in l Ue a.nb a.ue x)) h.short
+      (heard_there p (deeds_in l Ue a.nb a.ue x) r.near))
   follow Ue a (AtUe x) near far so_far f g h e =
       let p : Pair = goes so_far (um_pair_outset near far) in
       let v = ue_moves l a near far so_far x h.stands g in
       let r = sends_on l c.rlc_bits c.rx.reorder (2 ^ c.pdcp_bits) u Ue Nb refl far
       (far_calls (um_pair_outset near far) so_far) near (near_calls (um_pair_outset near far) so_far) a.ue a.nb p.far
-      p.near h.stands.ue h.stands.nb
-      h.loads f h.blocks_are h.carry h.tracks x g in
-      record {
-        stands = (grows l a near far so_far h.stands (AtUe x) g).stands;
-        alone = alone_on Nb l a (InLife (AtUe x)) g h.alone;
-        near_begin = h.near_begin;
-        far_begin = h.far_begin;
-        begins = h.begins;
-        loads = r.loads;
-        blocks_are = r.blocks_are;
-        carry = r.carry;
-        tracks = told_as far near _ _ _ _ _ _ _ _ r.loads _ v.ue_calls v.nb_calls (ap (λ (q : Pair). q.far) v.there)
-            (ap (λ (q : Pair). q.near) v.there) r.tracks;
-        short = short_back (um_pair_outset near far) so_far (far_steps (deeds_in l Ue a.nb a.ue x)) h.short
-            (sent_back p (deeds_in l Ue a.nb a.ue x));
-      }
+      p.near h.stands.ue h.stands.nb h.loads f h.blocks_are h.carry h.tracks x g in
+      follows_on Ue a (AtUe x) near far so_far f (all_after (whats_in Ue l c.rlc_bits a (InLife (AtUe x))) f) g h
+      r.loads r.blocks_are r.carry
+      (told_as far near _ _ _ _ _ _ _ _ r.loads _ v.ue_calls v.nb_calls (ap (λ (q : Pair). q.far) v.there)
+      (ap (λ (q : Pair). q.near) v.there) r.tracks)
+      (short_back (um_pair_outset near far) so_far (far_steps (deeds_in l Ue a.nb a.ue x)) h.short
+      (sent_back p (deeds_in l Ue a.nb a.ue x)))
   follow Ue a (AtNb x) near far so_far f g h e =
       let p : Pair = goes so_far (um_pair_outset near far) in
       let v = nb_moves l a near far so_far x h.stands g in
       let r = hears_on l c.rlc_bits c.rx.reorder (2 ^ c.pdcp_bits) u Nb Ue refl far
       (far_calls (um_pair_outset near far) so_far) near (near_calls (um_pair_outset near far) so_far) a.nb a.ue p.far
-      p.near h.stands.nb h.stands.ue h.alone
-      h.loads f h.blocks_are h.carry h.tracks x g e in
-      record {
-        stands = (grows l a near far so_far h.stands (AtNb x) g).stands;
-        alone = alone_on Nb l a (InLife (AtNb x)) g h.alone;
-        near_begin = h.near_begin;
-        far_begin = h.far_begin;
-        begins = h.begins;
-        loads = h.loads;
-        blocks_are = h.blocks_are;
-        carry = h.carry;
-        tracks = told_as far near _ _ _ _ _ _ _ _ h.loads _ v.ue_calls v.nb_calls (ap (λ (q : Pair). q.far) v.there)
-            (ap (λ (q : Pair). q.near) v.there) r.tracks;
-        short = short_back (um_pair_outset near far) so_far (near_steps (deeds_in l Nb a.ue a.nb x)) h.short
-            (heard_back p (deeds_in l Nb a.ue a.nb x) r.near);
-      }
+      p.near h.stands.nb h.stands.ue h.alone h.loads f h.blocks_are h.carry h.tracks x g e in
+      follows_on Ue a (AtNb x) near far so_far f (all_after (whats_in Ue l c.rlc_bits a (InLife (AtNb x))) f) g h
+      h.loads h.blocks_are h.carry
+      (told_as far near _ _ _ _ _ _ _ _ h.loads _ v.ue_calls v.nb_calls (ap (λ (q : Pair). q.far) v.there)
+      (ap (λ (q : Pair). q.near) v.there) r.tracks)
+      (short_back (um_pair_outset near far) so_far (near_steps (deeds_in l Nb a.ue a.nb x)) h.short
+      (heard_back p (deeds_in l Nb a.ue a.nb x) r.near))
   follow Nb a Passes near far so_far f g h e =
       let same : so_far ++ [] ≡ so_far = append-nil so_far in
-      record {
-        stands = (grows l a near far so_far h.stands Passes g).stands;
-        alone = h.alone;
-        near_begin = h.near_begin;
-        far_begin = h.far_begin;
-        begins = h.begins;
-        loads = map aged_load h.loads;
-        blocks_are = aged_blocks h.loads ∙ ap (map older) h.blocks_are;
-        carry = aged_carry l (sent_by Nb) h.loads h.carry;
-        tracks =
-            subst (λ (ss : List PairStep). Told near (near_calls (um_pair_outset near far) ss) far
-            (far_calls (um_pair_outset near far) ss) (goes ss (um_pair_outset near far)).near
-            (goes ss (um_pair_outset near far)).far (map aged_load h.loads) f) (sym same)
-            (aged near far _ _ _ _ h.loads f h.tracks);
-        short = subst (AreShortThere (um_pair_outset near far)) (sym same) h.short;
-      }
-    where
-      aged : (a b : State) (xs ys : List BearerCall) (n m : BearerEnd) (loads : List Load) (f : Flow)
-          → Told a xs b ys n m loads f → Told a xs b ys n m (map aged_load loads) f
-      aged a b xs ys n m loads f t = record {
-        on = t.on;
-        tm = t.tm;
-        calls = t.calls;
-        heard = t.heard;
-        idle = t.idle;
-        written = t.written;
-        copies_are = t.copies_are ∙ sym (aged_copies loads);
-        under = aged_under c.rlc_bits t.tm f.sending.under_way loads t.under;
-      }
+      follows_on Nb a Passes near far so_far f f g h (map aged_load h.loads)
+      (aged_blocks h.loads ∙ ap (map older) h.blocks_are) (aged_carry l (sent_by Nb) h.loads h.carry)
+      (subst (λ (ss : List PairStep). ToldIn Nb near far ss (map aged_load h.loads) f) (sym same)
+      (aged_told near far _ _ _ _ h.loads f h.tracks))
+      (subst (AreShortThere (um_pair_outset near far)) (sym same) h.short)
   follow Ue a Passes near far so_far f g h e =
       let same : so_far ++ [] ≡ so_far = append-nil so_far in
-      record {
-        stands = (grows l a near far so_far h.stands Passes g).stands;
-        alone = h.alone;
-        near_begin = h.near_begin;
-        far_begin = h.far_begin;
-        begins = h.begins;
-        loads = map aged_load h.loads;
-        blocks_are = aged_blocks h.loads ∙ ap (map older) h.blocks_are;
-        carry = aged_carry l (sent_by Ue) h.loads h.carry;
-        tracks =
-            subst (λ (ss : List PairStep). Told far (far_calls (um_pair_outset near far) ss) near
-            (near_calls (um_pair_outset near far) ss) (goes ss (um_pair_outset near far)).far
-            (goes ss (um_pair_outset near far)).near (map aged_load h.loads) f) (sym same)
-            (aged far near _ _ _ _ h.loads f h.tracks);
-        short = subst (AreShortBack (um_pair_outset near far)) (sym same) h.short;
-      }
-    where
-      aged : (a b : State) (xs ys : List BearerCall) (n m : BearerEnd) (loads : List Load) (f : Flow)
-          → Told a xs b ys n m loads f → Told a xs b ys n m (map aged_load loads) f
-      aged a b xs ys n m loads f t = record {
-        on = t.on;
-        tm = t.tm;
-        calls = t.calls;
-        heard = t.heard;
-        idle = t.idle;
-        written = t.written;
-        copies_are = t.copies_are ∙ sym (aged_copies loads);
-        under = aged_under c.rlc_bits t.tm f.sending.under_way loads t.under;
-      }
+      follows_on Ue a Passes near far so_far f f g h (map aged_load h.loads)
+      (aged_blocks h.loads ∙ ap (map older) h.blocks_are) (aged_carry l (sent_by Ue) h.loads h.carry)
+      (subst (λ (ss : List PairStep). ToldIn Ue near far ss (map aged_load h.loads) f) (sym same)
+      (aged_told far near _ _ _ _ h.loads f h.tracks))
+      (subst (AreShortBack (um_pair_outset near far)) (sym same) h.short)
