@@ -46,7 +46,7 @@ use Rattle.law_air.specs.TwoEnds.On.{until, IsHeld, IsFlying, IsStation, IsOn}
 use Rattle.law_air.proofs.TwoEnds.Flying.{keep_all}
 use Rattle.law_air.proofs.TwoEnds.Going.{Marks, calm, setting, none, by_sides, Any, Block', Renewed, Unread, Behind}
 use Rattle.law_air.proofs.TwoEnds.Going.{Fits, IsAt, ended, first_whats, no_whats, call_whats, goes_then, goes_off}
-use Rattle.law_air.proofs.TwoEnds.Going.{goes_pass}
+use Rattle.law_air.proofs.TwoEnds.Going.{Goes, station, with_station, goes_pass}
 use Rattle.law_air.proofs.TwoEnds.Moving.{fresh_at, left_told, moved_link, moved_so, handover_stage}
 use Rattle.law_air.proofs.TwoEnds.Resting.{call_rests, loops_rests, loop_set_rests, woken_rests, grown_rests}
 use Rattle.law_air.proofs.TwoEnds.Resting.{expires_rests, receivers_rest, senders_rest, discards_rests, reports_rests}
@@ -253,75 +253,73 @@ emptied_stands side (Waits t) s maximum h some few =
 emptied_stands side (Done t) s maximum h some few =
     record { is = emptied_station side (wait (Done t)) s maximum h.is some few; idle = tt }
 
+-- the array of HARQ processes of an end begins anew, and what was under way from it is let go
+abbrev emptied_at : ℕ → Station → Station
+emptied_at maximum s = record {
+  end = after_call s.end (SetVisits maximum);
+  blocks = filter keeps_none s.blocks;
+  busy = s.busy;
+}
+
+emptied_by : (l : ℕ) (set : Marks) (side : Side) (maximum : ℕ) (b : Air) → 1 ≤ maximum
+    → Goes l set [] none (call_whats side l (station side b).end (SetVisits maximum)) b
+    (with_station side (record (station side b) { end = after_call (station side b).end (SetVisits maximum) }) b)
+emptied_by l set side maximum b some =
+    goes_plain l set side [] none (SetVisits maximum) b tt some
+    (record { adds_none = refl; moves_none = refl; unset = λ off. refl })
+    (says_so side [] none (station side b).end (SetVisits maximum) tt refl none_flown refl refl (λ i. refl) (λ i. refl))
+
+emptied_goes : (l : ℕ) (set : Marks) (side : Side) (maximum : ℕ) (a : Air) → 1 ≤ maximum
+    → Goes l set [] (λ at n. looped_at at n []) (call_whats side l (station side a).end (SetVisits maximum)) a
+    (with_station side (emptied_at maximum (station side a)) a)
+emptied_goes l set Nb maximum a some =
+    let b : Air = record a { nb = record a.nb { blocks = filter keeps_none a.nb.blocks } } in
+    let c : Air = record a { nb = emptied_at maximum a.nb } in
+    unlooped_goes l set [] a c (λ i. refl)
+    (goes_then l set [] [] none none a b c (goes_off l set Nb keeps_none a) (emptied_by l set Nb maximum b some))
+emptied_goes l set Ue maximum a some =
+    let b : Air = record a { ue = record a.ue { blocks = filter keeps_none a.ue.blocks } } in
+    let c : Air = record a { ue = emptied_at maximum a.ue } in
+    unlooped_goes l set [] a c (λ i. refl)
+    (goes_then l set [] [] none none a b c (goes_off l set Ue keeps_none a) (emptied_by l set Ue maximum b some))
+
+emptied_stage : (l : ℕ) (set : Marks) (side : Side) (maximum : ℕ) (R S : Station → Type 0) (k m : Link) (a : Air)
+    → 1 ≤ maximum → m.out ≡ k.out → m.kinds ≡ k.kinds
+    → Both R S m (with_station side (emptied_at maximum (station side a)) a) → Reaches l set Any Any none R S k m a
+emptied_stage l set side maximum R S k m a some out kinds both = record {
+  air = with_station side (emptied_at maximum (station side a)) a;
+  more = [];
+  out_is = out ∙ sym (append-nil k.out);
+  goes = emptied_goes l set side maximum a some;
+  ws = call_whats side l (station side a).end (SetVisits maximum);
+  left = λ sent fits. tt;
+  stands = λ p at. tt;
+  stays = λ bits. subst (IsShown l bits) (sym kinds);
+  shown = λ bits s from p at. shows_nothing l side (station side a).end (SetVisits maximum) tt refl bits from p;
+  both = both;
+}
+
 visits_nb : (l : ℕ) (set : Marks) (maximum : ℕ) (k : Link) → 1 ≤ maximum → maximum ≤ 28
     → Rests l set k (with_end Nb (after_call k.nb (SetVisits maximum)) k)
 visits_nb l set maximum k some few n u a h =
-    let b : Air = record a { nb = record a.nb { blocks = filter keeps_none a.nb.blocks } } in
-    let c : Air =
-    record a {
-      nb = record {
-        end = after_call a.nb.end (SetVisits maximum);
-        blocks = filter keeps_none a.nb.blocks;
-        busy = a.nb.busy;
-      };
-    } in
-    record {
-      air = c;
-      more = [];
-      out_is = sym (append-nil k.out);
-      goes = unlooped_goes l set [] a c (λ i. refl)
-          (goes_then l set [] [] none none a b c (goes_off l set Nb keeps_none a)
-          (goes_plain l set Nb [] none (SetVisits maximum) b tt some
-          (record { adds_none = refl; moves_none = refl; unset = λ off. refl })
-          (says_so Nb [] none b.nb.end (SetVisits maximum) tt refl none_flown refl refl (λ i. refl)
-          (λ i. refl))));
-      ws = call_whats Nb l a.nb.end (SetVisits maximum);
-      left = λ sent fits. tt;
-      stands = λ p at. tt;
-      stays = λ bits s. s;
-      shown = λ bits s from p at. shows_nothing l Nb a.nb.end (SetVisits maximum) tt refl bits from p;
-      both = record {
-        nb_is = ap (λ (e : End). after_call e (SetVisits maximum)) h.nb_is;
-        ue_is = h.ue_is;
-        nb = emptied_stands Nb n a.nb maximum h.nb some few;
-        ue = h.ue;
-      };
-    }
+    emptied_stage l set Nb maximum (Stands Nb n) (Stands Ue u) k (with_end Nb (after_call k.nb (SetVisits maximum)) k) a
+    some refl refl (record {
+      nb_is = ap (λ (e : End). after_call e (SetVisits maximum)) h.nb_is;
+      ue_is = h.ue_is;
+      nb = emptied_stands Nb n a.nb maximum h.nb some few;
+      ue = h.ue;
+    })
 
 visits_ue : (l : ℕ) (set : Marks) (maximum : ℕ) (k : Link) → 1 ≤ maximum → maximum ≤ 28
     → Rests l set k (with_end Ue (after_call k.ue (SetVisits maximum)) k)
 visits_ue l set maximum k some few n u a h =
-    let b : Air = record a { ue = record a.ue { blocks = filter keeps_none a.ue.blocks } } in
-    let c : Air =
-    record a {
-      ue = record {
-        end = after_call a.ue.end (SetVisits maximum);
-        blocks = filter keeps_none a.ue.blocks;
-        busy = a.ue.busy;
-      };
-    } in
-    record {
-      air = c;
-      more = [];
-      out_is = sym (append-nil k.out);
-      goes = unlooped_goes l set [] a c (λ i. refl)
-          (goes_then l set [] [] none none a b c (goes_off l set Ue keeps_none a)
-          (goes_plain l set Ue [] none (SetVisits maximum) b tt some
-          (record { adds_none = refl; moves_none = refl; unset = λ off. refl })
-          (says_so Ue [] none b.ue.end (SetVisits maximum) tt refl none_flown refl refl (λ i. refl)
-          (λ i. refl))));
-      ws = call_whats Ue l a.ue.end (SetVisits maximum);
-      left = λ sent fits. tt;
-      stands = λ p at. tt;
-      stays = λ bits s. s;
-      shown = λ bits s from p at. shows_nothing l Ue a.ue.end (SetVisits maximum) tt refl bits from p;
-      both = record {
-        nb_is = h.nb_is;
-        ue_is = ap (λ (e : End). after_call e (SetVisits maximum)) h.ue_is;
-        nb = h.nb;
-        ue = emptied_stands Ue u a.ue maximum h.ue some few;
-      };
-    }
+    emptied_stage l set Ue maximum (Stands Nb n) (Stands Ue u) k (with_end Ue (after_call k.ue (SetVisits maximum)) k) a
+    some refl refl (record {
+      nb_is = h.nb_is;
+      ue_is = ap (λ (e : End). after_call e (SetVisits maximum)) h.ue_is;
+      nb = h.nb;
+      ue = emptied_stands Ue u a.ue maximum h.ue some few;
+    })
 
 visits_rests : (l : ℕ) (set : Marks) (maximum : ℕ) (k : Link) → 1 ≤ maximum → maximum ≤ 28
     → Rests l set k (visits maximum k)
