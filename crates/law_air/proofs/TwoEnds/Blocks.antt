@@ -28,7 +28,7 @@ use Rattle.mac_pdu.specs.declared.item.Direction.TheVariants as directions
 use Rattle.air_record.specs.declared.record.Arrived.TheVariants as arriveds
 use Rattle.law_node.proofs.Silences.{writes_nothing}
 use Rattle.law_air.proofs.AnyCalls.Going.{own_told, other_told, Seen, told_seen}
-use Rattle.law_deliver.specs.AmFlow.Air.{Block, Station, Air, built_at, is_new, HasCome}
+use Rattle.law_deliver.specs.AmFlow.Air.{Block, Station, Air, calls, built_at, is_new, IsCalling, HasCome}
 use Rattle.um_losses.specs.Names.{Place, comes as pdu_comes}
 use Rattle.um_losses.specs.Told.{told_in, place_behind}
 use Rattle.law_deliver.specs.UmGaps.Whats.{expiries}
@@ -38,7 +38,8 @@ use Rattle.law_air.specs.TwoEnds.On.{until, IsStation}
 use Rattle.promises.specs.Arrival.{tells_in}
 use Rattle.law_air.proofs.TwoEnds.Showing.{Shows, got_own, got_hidden}
 use Rattle.law_air.proofs.TwoEnds.Going.{Marks, Behind, Any, Block', Fits, IsAt, last_in, no_whats, call_whats}
-use Rattle.law_air.proofs.TwoEnds.Going.{station, with_station, come_whats, GoesBehind, TellNoAir, Brings, IsPlayed}
+use Rattle.law_air.proofs.TwoEnds.Going.{Goes, station, with_station, come_whats, GoesBehind, TellNoAir, Brings}
+use Rattle.law_air.proofs.TwoEnds.Going.{IsPlayed}
 use Rattle.law_air.proofs.TwoEnds.Going.{none, goes_then}
 use Rattle.law_air.proofs.TwoEnds.Going.{goes_call, goes_come, goes_off}
 use Rattle.law_air.proofs.TwoEnds.Stations.{Moment, Waits, Done, stays_by, left_by, lasts, turned_station, is_visiting}
@@ -208,83 +209,85 @@ pub record Visited (l : ℕ) (side : Side) (t : Turn) (told : List Record) (k m 
   pub kinds_are : m.kinds ≡ k.kinds
   pub shown : HasCome side (end_of side k) → Shows l k.kinds told (call_whats side l (end_of side k) (Visits t))
 
+visit_by : (l : ℕ) (set : Marks) (side : Side) (t : Turn) (told : List Record) (k m : Link) (b : Air)
+    → IsCalling (station side b) (Visits t) → (station side b).end ≡ end_of side k → HasCome side (end_of side k)
+    → Visited l side t told k m
+    → Goes l set told none (call_whats side l (station side b).end (Visits t)) b
+    (with_station side (calls (station side b) (Visits t)) b)
+visit_by l set side t told k m b calling end_is come x =
+    goes_call l set side told none (Visits t) b x.given (played l set t) calling
+    (record {
+      told_is = x.told_is ∙ ap (building t.tti t.grant t.order) (sym end_is);
+      other_told = x.other_told;
+      submitted_is = λ n. refl;
+      other_submitted = λ n. refl;
+      says = λ bits j sent. ap (λ (e : End). said_in bits j e (Visits t)) end_is ∙ x.says bits j sent come;
+      hears = λ bits j sent. x.hears bits j sent;
+    })
+
+visit_goes : (l : ℕ) (set : Marks) (side : Side) (t : Turn) (told : List Record) (k m : Link) (a : Air)
+    → Stands side (Waits t.tti) (station side a) → (station side a).end ≡ end_of side k → Visited l side t told k m
+    → Goes l set told (λ at n. looped_at at n told) (call_whats side l (station side a).end (Visits t)) a
+    (with_station side (visiting t (station side a)) a)
+visit_goes l set Nb t told k m a h end_is x =
+    let v = answer_to t a.nb.end in
+    let b : Air = record a { nb = record a.nb { blocks = left_by v t.tti a.nb } } in
+    let c : Air = record a { nb = visiting t a.nb } in
+    unlooped_goes l set told a c x.unlooped
+    (goes_then l set [] told none none a b c (goes_off l set Nb (stays_by v (t.tti % 8)) a)
+    (visit_by l set Nb t told k m b (is_visiting Nb t a.nb h.is v refl x.given.1 h.idle) end_is
+    (subst (HasCome Nb) end_is h.is.come) x))
+visit_goes l set Ue t told k m a h end_is x =
+    let v = answer_to t a.ue.end in
+    let b : Air = record a { ue = record a.ue { blocks = left_by v t.tti a.ue } } in
+    let c : Air = record a { ue = visiting t a.ue } in
+    unlooped_goes l set told a c x.unlooped
+    (goes_then l set [] told none none a b c (goes_off l set Ue (stays_by v (t.tti % 8)) a)
+    (visit_by l set Ue t told k m b (is_visiting Ue t a.ue h.is v refl x.given.1 h.idle) end_is
+    (subst (HasCome Ue) end_is h.is.come) x))
+
+visit_stage : (l : ℕ) (set : Marks) (side : Side) (d : Behind) (t : Turn) (told : List Record) (k m : Link)
+    (R S : Station → Type 0) (a : Air) → ((sent : List ℕ) → Fits d (last_in told sent))
+    → ((p : Place) → IsAt d (place_behind p told)) → Visited l side t told k m
+    → Stands side (Waits t.tti) (station side a) → (station side a).end ≡ end_of side k
+    → Both R S m (with_station side (visiting t (station side a)) a) → Reaches l set Any d none R S k m a
+visit_stage l set side d t told k m R S a left stands x h end_is both = record {
+  air = with_station side (visiting t (station side a)) a;
+  more = told;
+  out_is = x.out_is;
+  goes = visit_goes l set side t told k m a h end_is x;
+  ws = call_whats side l (station side a).end (Visits t);
+  left = λ sent fits. left sent;
+  stands = λ p at. stands p;
+  stays = λ bits. subst (IsShown l bits) (sym x.kinds_are);
+  shown = λ bits s from p at. x.shown (subst (HasCome side) end_is h.is.come) bits s from p
+      ∙ ap (λ (e : End). call_whats side l e (Visits t) bits from) (sym end_is);
+  both = both;
+}
+
 pub visit_nb : (l : ℕ) (set : Marks) (d : Behind) (t : Turn) (told : List Record) (k m : Link) (Q : Station → Type 0)
     → ((sent : List ℕ) → Fits d (last_in told sent)) → ((p : Place) → IsAt d (place_behind p told))
     → Visited l Nb t told k m
     → StageBehind l set Any d (Stands Nb (Waits t.tti)) Q (Visiting Nb t k.nb) Q k m
 visit_nb l set d t told k m Q left stands x a h =
-    let v = answer_to t a.nb.end in
-    let b : Air = record a { nb = record a.nb { blocks = left_by v t.tti a.nb } } in
-    let c : Air = record a { nb = visiting t a.nb } in
-    record {
-      air = c;
-      more = told;
-      out_is = x.out_is;
-      goes = unlooped_goes l set told a c x.unlooped
-          (goes_then l set [] told none none a b c (goes_off l set Nb (stays_by v (t.tti % 8)) a)
-          (goes_call l set Nb told none (Visits t) b x.given (played l set t)
-          (is_visiting Nb t a.nb h.nb.is v refl x.given.1 h.nb.idle)
-          (record {
-            told_is = x.told_is ∙ ap (building t.tti t.grant t.order) (sym h.nb_is);
-            other_told = x.other_told;
-            submitted_is = λ n. refl;
-            other_submitted = λ n. refl;
-            says = λ bits j sent. ap (λ (e : End). said_in bits j e (Visits t)) h.nb_is
-                ∙ x.says bits j sent (subst (HasCome Nb) h.nb_is h.nb.is.come);
-            hears = λ bits j sent. x.hears bits j sent;
-          })));
-      ws = call_whats Nb l a.nb.end (Visits t);
-      left = λ sent fits. left sent;
-      stands = λ p at. stands p;
-      stays = λ bits. subst (IsShown l bits) (sym x.kinds_are);
-      shown = λ bits s from p at. x.shown (subst (HasCome Nb) h.nb_is h.nb.is.come) bits s from p
-          ∙ ap (λ (e : End). call_whats Nb l e (Visits t) bits from) (sym h.nb_is);
-      both = record {
-        nb_is = ap (λ (e : End). after_call e (Visits t)) h.nb_is ∙ sym x.end_is;
-        ue_is = h.ue_is ∙ sym x.other_is;
-        nb = record { was = a.nb; stands = h.nb.is; end_is = h.nb_is; given = x.given; is = refl };
-        ue = h.ue;
-      };
-    }
+    visit_stage l set Nb d t told k m (Visiting Nb t k.nb) Q a left stands x h.nb h.nb_is (record {
+      nb_is = ap (λ (e : End). after_call e (Visits t)) h.nb_is ∙ sym x.end_is;
+      ue_is = h.ue_is ∙ sym x.other_is;
+      nb = record { was = a.nb; stands = h.nb.is; end_is = h.nb_is; given = x.given; is = refl };
+      ue = h.ue;
+    })
 
 pub visit_ue : (l : ℕ) (set : Marks) (d : Behind) (t : Turn) (told : List Record) (k m : Link) (P : Station → Type 0)
     → ((sent : List ℕ) → Fits d (last_in told sent)) → ((p : Place) → IsAt d (place_behind p told))
     → Visited l Ue t told k m
     → StageBehind l set Any d P (Stands Ue (Waits t.tti)) P (Visiting Ue t k.ue) k m
 visit_ue l set d t told k m P left stands x a h =
-    let v = answer_to t a.ue.end in
-    let b : Air = record a { ue = record a.ue { blocks = left_by v t.tti a.ue } } in
-    let c : Air = record a { ue = visiting t a.ue } in
-    record {
-      air = c;
-      more = told;
-      out_is = x.out_is;
-      goes = unlooped_goes l set told a c x.unlooped
-          (goes_then l set [] told none none a b c (goes_off l set Ue (stays_by v (t.tti % 8)) a)
-          (goes_call l set Ue told none (Visits t) b x.given (played l set t)
-          (is_visiting Ue t a.ue h.ue.is v refl x.given.1 h.ue.idle)
-          (record {
-            told_is = x.told_is ∙ ap (building t.tti t.grant t.order) (sym h.ue_is);
-            other_told = x.other_told;
-            submitted_is = λ n. refl;
-            other_submitted = λ n. refl;
-            says = λ bits j sent. ap (λ (e : End). said_in bits j e (Visits t)) h.ue_is
-                ∙ x.says bits j sent (subst (HasCome Ue) h.ue_is h.ue.is.come);
-            hears = λ bits j sent. x.hears bits j sent;
-          })));
-      ws = call_whats Ue l a.ue.end (Visits t);
-      left = λ sent fits. left sent;
-      stands = λ p at. stands p;
-      stays = λ bits. subst (IsShown l bits) (sym x.kinds_are);
-      shown = λ bits s from p at. x.shown (subst (HasCome Ue) h.ue_is h.ue.is.come) bits s from p
-          ∙ ap (λ (e : End). call_whats Ue l e (Visits t) bits from) (sym h.ue_is);
-      both = record {
-        nb_is = h.nb_is ∙ sym x.other_is;
-        ue_is = ap (λ (e : End). after_call e (Visits t)) h.ue_is ∙ sym x.end_is;
-        nb = h.nb;
-        ue = record { was = a.ue; stands = h.ue.is; end_is = h.ue_is; given = x.given; is = refl };
-      };
-    }
+    visit_stage l set Ue d t told k m P (Visiting Ue t k.ue) a left stands x h.ue h.ue_is (record {
+      nb_is = h.nb_is ∙ sym x.other_is;
+      ue_is = ap (λ (e : End). after_call e (Visits t)) h.ue_is ∙ sym x.end_is;
+      nb = h.nb;
+      ue = record { was = a.ue; stands = h.ue.is; end_is = h.ue_is; given = x.given; is = refl };
+    })
 
 -- ---- what no process holds is let go
 
