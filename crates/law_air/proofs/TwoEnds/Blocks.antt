@@ -32,7 +32,7 @@ use Rattle.law_deliver.specs.AmFlow.Air.{Block, Station, Air, calls, built_at, i
 use Rattle.um_losses.specs.Names.{Place, comes as pdu_comes}
 use Rattle.um_losses.specs.Told.{told_in, place_behind}
 use Rattle.law_deliver.specs.UmGaps.Whats.{expiries}
-use Rattle.promises.specs.Flows.{loops_in}
+use Rattle.promises.specs.Flows.{loops_in, looped_at}
 use Rattle.law_air.specs.TwoEnds.Shown.{IsShown}
 use Rattle.law_air.specs.TwoEnds.On.{until, IsStation}
 use Rattle.promises.specs.Arrival.{tells_in}
