@@ -27,7 +27,7 @@ use Rattle.law_words.specs.Lists.{IsSubsequence}
 use Rattle.law_deliver.specs.UmDelivery.Delivery.{AreBothEnds}
 use Rattle.law_deliver.specs.UmDelivery.Lives.{ended, last, all_ups, all_taken, all_submitted}
 use Rattle.law_deliver.proofs.UmDelivery.Laws.{delivers_what_came, delivers_in_order}
-use Rattle.law_rlc.specs.UmPair.Which.{those}
+use Rattle.law_words.specs.Lists.{those}
 use Rattle.law_deliver.specs.UmChannel.Delivery.{UmEndsBeginAlike, direction_from, AreShortFrom, places_from}
 use Rattle.law_deliver.specs.UmChannel.Delivery.{IsWhatCameOnChannel}
 use Rattle.law_deliver.specs.UmChannel.Delivery.{ChannelsDeliverWhatCame, ChannelsDeliverInOrder}

@@ -10,7 +10,7 @@ use Rattle.pdcp_rx.specs.State.{State as Receiving, arrived}
 use Rattle.pdcp_tx.specs.declared.sender.Next.{Next}
 use Rattle.law_pdcp.specs.OneEnd.Lives.{submitted_in}
 use Rattle.law_bearer.proofs.AmBearer.Keeping.{arrives_alike}
-use Rattle.law_rlc.specs.UmPair.Which.{those}
+use Rattle.law_words.specs.Lists.{those}
 use Rattle.law_deliver.specs.UmFlow.Flows.{behind}
 use Rattle.law_deliver.specs.UmFlow.Handing.{hears_one, hears, raises}
 use Rattle.law_pdcp.specs.UmPair.Flow.{Flow, Event, HandUp, Raise, run_um_pdcp, comes, IsLater, AreGiven, AreShort}

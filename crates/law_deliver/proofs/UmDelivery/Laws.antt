@@ -18,7 +18,7 @@ use Rattle.bearer_pdcp.specs.Ends.{begun, bearer_of, sends}
 use Rattle.bearer.specs.Bearer.{flow_of}
 use Rattle.bearer.specs.declared.flow.Flow.TheVariants.{Um}
 use Rattle.bearer.specs.Unacknowledged.State.{State, fresh}
-use Rattle.law_rlc.specs.UmPair.Which.{those}
+use Rattle.law_words.specs.Lists.{those}
 use Rattle.law_deliver.specs.UmFlow.Flows.{Way}
 use Rattle.law_deliver.specs.UmFlow.Pair.{Step}
 use Rattle.law_deliver.proofs.UmFlow.Lives.{first_life_begins}

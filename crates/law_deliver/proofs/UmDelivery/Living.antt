@@ -11,7 +11,7 @@ use Rattle.bearer.specs.declared.flow.Flow.TheVariants.{Um}
 use Rattle.bearer.specs.Lives.{stopping}
 use Rattle.bearer.specs.Unacknowledged.State.{State}
 use Rattle.law_bearer.specs.AmBearer.Calls.{ups_among}
-use Rattle.law_rlc.specs.UmPair.Which.{those}
+use Rattle.law_words.specs.Lists.{those}
 use Rattle.law_deliver.specs.UmFlow.Flows.{Way, given, heard, places, last_places, behind, IsWhatCameInLife, GoesOn}
 use Rattle.law_deliver.specs.UmFlow.Handing.{IsOfData, all_called, hears, raises, HearsTheRest}
 use Rattle.law_deliver.proofs.UmFlow.Handing.{hears_what_is_handed, hears_the_rest_at_the_end}

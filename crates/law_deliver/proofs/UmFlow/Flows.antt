@@ -16,7 +16,7 @@ use Rattle.law_rlc.specs.AmPair.Flow.{Copy, except}
 use Rattle.law_rlc.specs.UmPair.Run.{Call as ReceiverCall, World, fresh}
 use Rattle.law_rlc.specs.UmPair.Send.{Step as SenderStep, Flow}
 use Rattle.law_rlc.specs.UmPair.Air.{AreSent}
-use Rattle.law_rlc.specs.UmPair.Which.{those}
+use Rattle.law_words.specs.Lists.{those}
 use Rattle.law_rlc.proofs.UmPair.Air.{delivered}
 use Rattle.law_rlc.proofs.UmPair.Which.{hands_up_what_came as run_hands_up}
 use Rattle.law_deliver.specs.UmFlow.Pair.{BearerEnd, Pair, Deed, Calls, Comes, Goes, Step, Near, Far, called, comes}

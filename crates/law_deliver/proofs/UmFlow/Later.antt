@@ -10,7 +10,8 @@ use Rattle.law_bearer.specs.AnyBearer.Calls.{Call}
 use Rattle.law_bearer.specs.AnyBearer.Stream.{stream}
 use Rattle.law_rlc.specs.UmPair.Run.{Call as ReceiverCall, World, run_um_receiver, fresh}
 use Rattle.law_rlc.specs.UmPair.Send.{Step as SenderStep, Flow, flow, at_first}
-use Rattle.law_rlc.specs.UmPair.Which.{those, HasMore, GoesOn as RunGoesOn}
+use Rattle.law_rlc.specs.UmPair.Which.{HasMore, GoesOn as RunGoesOn}
+use Rattle.law_words.specs.Lists.{those}
 use Rattle.law_rlc.proofs.UmPair.Which.{those_left, those_then}
 use Rattle.law_rlc.proofs.UmPair.Later.{more_go_up_later}
 use Rattle.law_deliver.specs.UmFlow.Pair.{Pair, Step, Near, Far, happens, goes, um_pair_outset, AreGiven, AreShortThere}

@@ -16,7 +16,7 @@ use Rattle.law_deliver.specs.AmFlow.Air.{Air, outset}
 use Rattle.law_deliver.specs.AmChannel.Delivery.{HasBegun, ups_at, submitted_at, taken_at}
 use Rattle.law_deliver.specs.AmChannel.Lives.{AirStep, AreLiving}
 use Rattle.law_words.specs.Lists.{IsSubsequence}
-use Rattle.law_rlc.specs.UmPair.Which.{those}
+use Rattle.law_words.specs.Lists.{those}
 use Rattle.law_deliver.specs.UmDelivery.Delivery.{AreShort, all_places}
 use Rattle.law_deliver.specs.UmDelivery.Lives.{Direction, There, Back, ended, last}
 use Rattle.law_deliver.specs.UmChannel.Pairs.{walk}

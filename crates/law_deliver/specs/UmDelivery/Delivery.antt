@@ -11,7 +11,7 @@ use Rattle.bearer.specs.Bearer.{flow_of}
 use Rattle.bearer.specs.declared.flow.Flow.TheVariants.{Um}
 use Rattle.bearer.specs.Unacknowledged.State.{State}
 use Rattle.law_words.specs.Lists.{IsSubsequence}
-use Rattle.law_rlc.specs.UmPair.Which.{those}
+use Rattle.law_words.specs.Lists.{those}
 use Rattle.law_deliver.specs.UmFlow.Pair.{Step, um_pair_outset}
 use Rattle.law_deliver.specs.UmFlow.Flows.{Way, places, last_places}
 use Rattle.law_deliver.specs.UmDelivery.Lives.{Life, Direction, way, AreShortIn, AreLiving}

@@ -17,7 +17,8 @@ use Rattle.law_rlc.specs.AmPair.Flow.{Copy}
 use Rattle.law_rlc.specs.UmPair.Run.{World, run_um_receiver, fresh}
 use Rattle.law_rlc.specs.UmPair.Send.{Flow, flow, at_first}
 use Rattle.law_rlc.specs.UmPair.Air.{AreSent}
-use Rattle.law_rlc.specs.UmPair.Which.{places_up, places_below, those}
+use Rattle.law_rlc.specs.UmPair.Which.{places_up, places_below}
+use Rattle.law_words.specs.Lists.{those}
 use Rattle.law_deliver.specs.UmFlow.Pair.{BearerEnd, Step, goes, um_pair_outset, AreGiven}
 use Rattle.law_deliver.specs.UmFlow.Pair.{AreShortThere}
 use Rattle.law_deliver.specs.UmFlow.Pair.{AreShortBack}

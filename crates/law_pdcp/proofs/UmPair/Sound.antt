@@ -5,7 +5,7 @@ use Rattle.pdcp_pdu.specs.declared.PdcpKind.TheVariants.{Um}
 use Rattle.pdcp_tx.specs.State.{State}
 use Rattle.law_pdcp.proofs.OneEnd.Submitting.{AreNonempty}
 use Rattle.law_pdcp.specs.OneEnd.Lives.{queue}
-use Rattle.law_pdcp.specs.UmPair.Delivery.{those}
+use Rattle.law_words.specs.Lists.{those}
 use Rattle.law_pdcp.specs.UmPair.Flow.{Flow}
 use Rattle.law_pdcp.specs.UmPair.Reading.{AreWritten}
 

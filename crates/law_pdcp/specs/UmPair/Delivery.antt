@@ -1,22 +1,17 @@
 -- What a receiver of an unacknowledged data bearer hands up, while the losses below it are short
 -- (TS 36.323 5.1.2.1.3).
-use Rattle.std.specs.Prelude.{◌≡◌, ℕ, ◌+◌, ◌≤◌, ◌^◌, List, [], ◌∷◌, ◌++◌, map, length}
-use Rattle.std.specs.Prelude.{slice_index_or}
+use Rattle.std.specs.Prelude.{◌≡◌, ℕ, ◌+◌, ◌≤◌, ◌^◌, List, [], ◌∷◌, ◌++◌, length}
 use Rattle.l2_num.specs.Ascending.{AreBetween}
 use Rattle.pdcp_pdu.specs.declared.PdcpKind.TheVariants.{Um}
 use Rattle.pdcp_pdu.specs.Kinds.{IsKind}
 use Rattle.pdcp_sec.specs.Protection.{Protection}
-use Rattle.law_words.specs.Lists.{IsSubsequence}
+use Rattle.law_words.specs.Lists.{those, IsSubsequence}
 use Rattle.law_pdcp.specs.OneEnd.Lives.{submitted_in, queue}
 use Rattle.law_pdcp.specs.UmPair.Flow.{Flow, Event, Sends, SetDiscard, HandUp, Raise, Restart}
 use Rattle.law_pdcp.specs.UmPair.Flow.{run_um_pdcp}
 use Rattle.law_pdcp.specs.UmPair.Flow.{um_pdcp_outset, steps, AreGiven, AreShort}
 
 -- ---- by what RLC handed up
-
--- the SDUs at some places
-abbrev pub those : List ℕ → List (List ℕ) → List (List ℕ)
-those places sdus = map (λ place. slice_index_or sdus place []) places
 
 -- what went up and what is ready to go up are the SDUs whose PDUs RLC handed up: in their order,
 -- each once and unchanged. The receiver expects the COUNT behind the last of them in this life.

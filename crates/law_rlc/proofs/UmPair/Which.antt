@@ -13,7 +13,8 @@ use Rattle.law_rlc.specs.UmPair.Run.{joined_below}
 use Rattle.law_rlc.specs.UmPair.Send.{Step, Flow, flow, at_first, carried, completed, joined}
 use Rattle.law_rlc.specs.UmPair.Air.{AreSent}
 use Rattle.law_rlc.specs.UmPair.Which.{Row, nothing_sent, with_element as row_element, with_elements as row_elements}
-use Rattle.law_rlc.specs.UmPair.Which.{with_parts, with_pdus, places_below, those, IsWhatCameToRlc}
+use Rattle.law_rlc.specs.UmPair.Which.{with_parts, with_pdus, places_below, IsWhatCameToRlc}
+use Rattle.law_words.specs.Lists.{those}
 use Rattle.law_rlc.proofs.UmPair.Air.{Agrees, shifted, Meets, met, some-numbers}
 use Rattle.law_rlc.proofs.UmPair.Edge.{finished_all}
 use Rattle.law_rlc.proofs.UmPair.Whole.{whole}

@@ -1,13 +1,14 @@
 -- Which SDUs go up (TS 36.322 5.1.2.2.3): those all of whose elements came, told by their places
 -- among the SDUs that were offered.
 use Rattle.std.specs.Prelude.{◌≡◌, ℕ, zero, suc, ◌+◌, ◌-◌, ◌*◌, Bool, true, false, not, ◌||◌, ◌&&◌}
-use Rattle.std.specs.Prelude.{if◌then◌else◌, List, [], ◌∷◌, ◌++◌, map, length, slice_index_or}
+use Rattle.std.specs.Prelude.{if◌then◌else◌, List, [], ◌∷◌, ◌++◌, length}
 use Rattle.std.specs.Prelude.{nat_lt}
 use Rattle.l2_num.specs.Ascending.{AreBetween}
 use Rattle.rlc_pdu.specs.Pdus.{UmdPdu, IsUmBits}
 use Rattle.rlc_um.specs.Joined.{Parts, parts_of}
 use Rattle.rlc_um.specs.Receiver.{all_joined}
 use Rattle.rlc_um.specs.Sender.{width_of}
+use Rattle.law_words.specs.Lists.{those}
 use Rattle.law_rlc.specs.UmPair.Run.{Call, Accepted, World, run_um_receiver, fresh, is_accepted}
 use Rattle.law_rlc.specs.UmPair.Send.{Step, Flow, flow, at_first}
 use Rattle.law_rlc.specs.UmPair.Air.{AreSent}
@@ -58,9 +59,6 @@ places_below width w edge made =
 -- below VR(UR)
 abbrev pub places_up : ℕ → World → List UmdPdu → List ℕ
 places_up width w made = places_below width w w.state.window.edge made
-
-abbrev pub those : List ℕ → List (List ℕ) → List (List ℕ)
-those places sdus = map (λ place. slice_index_or sdus place []) places
 
 -- what went up and may go up are the SDUs that came whole in the numbers below VR(UR), and as the
 -- receiver ends those in any numbers
