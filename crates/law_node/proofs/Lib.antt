@@ -32,6 +32,7 @@ pub mod Segments
 pub mod Texts
 pub mod Offers
 pub mod Receiving
+pub mod Senders
 pub mod Ready
 pub mod Reading
 pub mod Naming

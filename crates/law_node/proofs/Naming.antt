@@ -74,7 +74,8 @@ use Rattle.law_node.proofs.Owning.{IsOwn, own_kept}
 use Rattle.law_node.proofs.Pieces.{AreWhole}
 use Rattle.law_node.proofs.Places.{found}
 use Rattle.law_node.proofs.Reading.{um_reads, whole_reads, part_reads, report_reads, at_spelled}
-use Rattle.law_node.proofs.Ready.{UmReady, AmReady, CanSend, WritesWell, ready_kept, um_fed_ready, am_fed_can, new_sdus}
+use Rattle.law_node.proofs.Ready.{AmReady, WritesWell, ready_kept}
+use Rattle.law_node.proofs.Senders.{UmReady, CanSend, um_fed_ready, am_fed_can, new_sdus}
 use Rattle.law_node.proofs.Receiving.{AreShort}
 use Rattle.law_node.proofs.Telling.{tells_in_order}
 use Rattle.law_node.proofs.Within.{IsAbleUm, able as able_um}

@@ -57,8 +57,8 @@ use Rattle.promises.specs.Parts.{part}
 use Rattle.promises.specs.Configs.{config_by, config_of}
 use Rattle.law_run.proofs.Early.{is_early}
 use Rattle.law_run.proofs.Failed.{HasSender, sender_goes, sender_begins}
-use Rattle.law_run.proofs.Flowing.{Sdus, Happened, Haps, word_of, with_word, Lived, unseen, LineLives, lived_now}
-use Rattle.law_run.proofs.Flowing.{line_lives}
+use Rattle.law_run.proofs.Flowing.{Sdus, Happened, Haps, word_of, with_word}
+use Rattle.law_run.proofs.Lives.{Lived, LineLives, lived_now, unseen, line_lives}
 use Rattle.law_run.proofs.Keys.{not_first, not_second, no_cause}
 use Rattle.law_run.proofs.Past.{behind, link_behind}
 use Rattle.law_run.proofs.Reaching.{kinds_behind}

@@ -63,7 +63,8 @@ use Rattle.law_run.proofs.Delivering.{ups_are_told, ups_told, is_first, at_each}
 use Rattle.law_run.proofs.Early.{is_early}
 use Rattle.law_run.proofs.Failed.{HasSender, sender_goes, signalling_begins}
 use Rattle.law_run.proofs.Drains.{link_drained, none_forged, side_drained}
-use Rattle.law_run.proofs.Flowing.{Sdus, Happened, looped_then, PartLives, line_stays, InOneLife, through_life}
+use Rattle.law_run.proofs.Flowing.{Sdus, Happened, looped_then, PartLives, line_stays}
+use Rattle.law_run.proofs.Lives.{InOneLife, through_life}
 use Rattle.law_run.proofs.Keys.{not_first, not_second, no_cause}
 use Rattle.law_run.proofs.Past.{behind, link_behind}
 use Rattle.law_run.proofs.Texts.{adds_one, adds_it, unchanged}

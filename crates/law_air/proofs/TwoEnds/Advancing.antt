@@ -44,9 +44,12 @@ use Rattle.promises.specs.Flows.{looped_at}
 use Rattle.law_air.specs.TwoEnds.Shown.{IsShown, anew}
 use Rattle.law_air.specs.TwoEnds.On.{until, IsHeld, IsFlying, IsStation, IsOn}
 use Rattle.law_air.proofs.TwoEnds.Flying.{keep_all}
-use Rattle.law_air.proofs.TwoEnds.Going.{Marks, calm, setting, none, by_sides, Any, Block', Renewed, Unread, Behind}
-use Rattle.law_air.proofs.TwoEnds.Going.{Fits, IsAt, ended, first_whats, no_whats, call_whats, goes_then, goes_off}
-use Rattle.law_air.proofs.TwoEnds.Going.{Goes, station, with_station, goes_pass}
+use Rattle.law_air.proofs.TwoEnds.Going.{Marks, calm, setting, none, Any, Block', Renewed, Unread, Behind}
+use Rattle.law_air.proofs.TwoEnds.Steps.{by_sides}
+use Rattle.law_air.proofs.TwoEnds.Going.{Fits, IsAt, ended, first_whats, no_whats, goes_then}
+use Rattle.law_air.proofs.TwoEnds.Steps.{call_whats, goes_off}
+use Rattle.law_air.proofs.TwoEnds.Going.{Goes, station, with_station}
+use Rattle.law_air.proofs.TwoEnds.Steps.{goes_pass}
 use Rattle.law_air.proofs.TwoEnds.Moving.{fresh_at, left_told, moved_link, moved_so, handover_stage}
 use Rattle.law_air.proofs.TwoEnds.Resting.{call_rests, loops_rests, loop_set_rests, woken_rests, grown_rests}
 use Rattle.law_air.proofs.TwoEnds.Resting.{expires_rests, receivers_rest, senders_rest, discards_rests, reports_rests}

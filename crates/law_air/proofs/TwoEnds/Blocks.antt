@@ -37,11 +37,13 @@ use Rattle.law_air.specs.TwoEnds.Shown.{IsShown}
 use Rattle.law_air.specs.TwoEnds.On.{until, IsStation}
 use Rattle.promises.specs.Arrival.{tells_in}
 use Rattle.law_air.proofs.TwoEnds.Showing.{Shows, got_own, got_hidden}
-use Rattle.law_air.proofs.TwoEnds.Going.{Marks, Behind, Any, Block', Fits, IsAt, last_in, no_whats, call_whats}
-use Rattle.law_air.proofs.TwoEnds.Going.{Goes, station, with_station, come_whats, GoesBehind, TellNoAir, Brings}
-use Rattle.law_air.proofs.TwoEnds.Going.{IsPlayed}
+use Rattle.law_air.proofs.TwoEnds.Going.{Marks, Behind, Any, Block', Fits, IsAt, last_in, no_whats}
+use Rattle.law_air.proofs.TwoEnds.Steps.{call_whats}
+use Rattle.law_air.proofs.TwoEnds.Going.{Goes, station, with_station, GoesBehind, TellNoAir}
+use Rattle.law_air.proofs.TwoEnds.Steps.{come_whats, Brings}
+use Rattle.law_air.proofs.TwoEnds.Steps.{IsPlayed}
 use Rattle.law_air.proofs.TwoEnds.Going.{none, goes_then}
-use Rattle.law_air.proofs.TwoEnds.Going.{goes_call, goes_come, goes_off}
+use Rattle.law_air.proofs.TwoEnds.Steps.{goes_call, goes_come, goes_off}
 use Rattle.law_air.proofs.TwoEnds.Stations.{Moment, Waits, Done, stays_by, left_by, lasts, turned_station, is_visiting}
 use Rattle.law_air.proofs.TwoEnds.Stages.{Both, Reaches, Stands, events_unlooped, unlooped_by, StageBehind, Stage}
 use Rattle.law_air.proofs.TwoEnds.Stages.{unlooped_goes}

@@ -29,7 +29,8 @@ use Rattle.law_air.specs.TwoEnds.On.{until, block_at, IsStation}
 use Rattle.law_words.specs.Arrivals.{AccountEntry}
 use Rattle.law_node.proofs.Silences.{writes_nothing}
 use Rattle.promises.specs.Arrival.{tells_in}
-use Rattle.law_air.proofs.TwoEnds.Going.{moving, Any, Renewed, last_in, TellNoAir, tells_more, goes_move, move_whats}
+use Rattle.law_air.proofs.TwoEnds.Going.{moving, Any, Renewed, last_in, TellNoAir, tells_more}
+use Rattle.law_air.proofs.TwoEnds.Steps.{goes_move, move_whats}
 use Rattle.law_air.proofs.TwoEnds.Showing.{in_both, events_own, events_hidden}
 use Rattle.law_air.proofs.TwoEnds.Resting.{loops_rests}
 use Rattle.law_air.proofs.TwoEnds.Stages.{Both, StageBehind, stages_then, quiet_events, Stands, events_unlooped}

@@ -42,7 +42,8 @@ use Rattle.law_air.specs.TwoEnds.Going.{handed_in}
 use Rattle.promises.specs.Flows.{looped_at}
 use Rattle.um_losses.specs.Names.{Place}
 use Rattle.um_losses.specs.Told.{told_in}
-use Rattle.law_air.proofs.TwoEnds.Going.{Marks, Says, IsPlayed, none, by_sides, call_whats}
+use Rattle.law_air.proofs.TwoEnds.Going.{Marks, none}
+use Rattle.law_air.proofs.TwoEnds.Steps.{Says, IsPlayed, by_sides, call_whats}
 use Rattle.law_node.specs.Writing.{TellNone}
 use Rattle.law_node.proofs.Silences.{writes_nothing}
 use Rattle.bearer_types.specs.declared.event.Event.TheVariants.{Drop}

@@ -37,9 +37,12 @@ use Rattle.law_air.specs.TwoEnds.On.{IsStation}
 use Rattle.promises.specs.Arrival.{only_if, tells_at, tells_in}
 use Rattle.law_air.proofs.TwoEnds.Showing.{in_then, behind_then as place_then, events_own, events_hidden}
 use Rattle.law_air.proofs.TwoEnds.Going.{Marks, station, with_station, Behind, Any, Block', Renewed, Unread, Fits, IsAt}
-use Rattle.law_air.proofs.TwoEnds.Going.{ended, first_whats, last_in, Whats, no_whats, call_whats, GoesBehind, Goes}
-use Rattle.law_air.proofs.TwoEnds.Going.{TellNoAir, Says, IsPlayed, none, by_sides, weaken, behind_then, goes_as}
-use Rattle.law_air.proofs.TwoEnds.Going.{goes_none, goes_call}
+use Rattle.law_air.proofs.TwoEnds.Going.{ended, first_whats, last_in, Whats, no_whats, GoesBehind, Goes}
+use Rattle.law_air.proofs.TwoEnds.Steps.{call_whats}
+use Rattle.law_air.proofs.TwoEnds.Going.{TellNoAir, none, weaken, behind_then, goes_as}
+use Rattle.law_air.proofs.TwoEnds.Steps.{Says, IsPlayed, by_sides}
+use Rattle.law_air.proofs.TwoEnds.Going.{goes_none}
+use Rattle.law_air.proofs.TwoEnds.Steps.{goes_call}
 use Rattle.law_air.proofs.TwoEnds.Stations.{Moment, Waits, Done, wait, IsIdle, station_goes}
 
 -- ---- a link on its way, and its air

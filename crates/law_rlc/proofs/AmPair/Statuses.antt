@@ -19,7 +19,8 @@ use Rattle.law_rlc.specs.AmSender.Namings.{names, in_part}
 use Rattle.law_rlc.specs.AmSender.Octets.{Place}
 use Rattle.law_rlc.specs.AmSender.Watched.{IsHonest}
 use Rattle.law_rlc.proofs.AmSender.Keys.{key}
-use Rattle.law_rlc.proofs.AmSender.Writes.{face-length, after-keeps}
+use Rattle.law_rlc.proofs.AmSender.Writes.{after-keeps}
+use Rattle.law_rlc.proofs.AmSender.Pdus.{face-length}
 use Rattle.rlc_am_rx_window.specs.declared.missing.Missing.{Missing}
 use Rattle.rlc_am_rx_window.specs.Held.{Held}
 use Rattle.rlc_am_rx_window.specs.Missing.{missing_of, missing_below, entry_bits, AreRanges}

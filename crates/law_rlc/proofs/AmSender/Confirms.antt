@@ -32,7 +32,8 @@ use Rattle.law_rlc.proofs.AmSender.Least.{Fits, after-fits, fresh-fits, heard_sl
 use Rattle.law_rlc.proofs.AmSender.Credits.{one, octets_at, at-append, times-append, ascends}
 use Rattle.law_rlc.proofs.AmSender.Keys.{Key, key, keys, set-keys, heard-keys, append-keys, Chained, chain-end}
 use Rattle.law_rlc.proofs.AmSender.Keys.{chain-drop}
-use Rattle.law_rlc.proofs.AmSender.Books.{Books, books_after, Follows, marks, map-end, map-long, unacked_in, unacked}
+use Rattle.law_rlc.proofs.AmSender.Books.{Follows, marks, map-end, map-long}
+use Rattle.law_rlc.proofs.AmSender.Owed.{Books, books_after, unacked_in, unacked}
 use Rattle.law_rlc.proofs.AmSender.Books.{dealt, after-follows, after-later}
 
 -- ---- octets by their SDU

@@ -18,7 +18,8 @@ use Rattle.law_rlc.specs.AmSender.Confirmed.{Confirmations, unconfirmed, confirm
 use Rattle.law_rlc.specs.AmSender.Left.{AllAreConfirmed, LeavesOnlyUnconfirmed}
 use Rattle.law_rlc.specs.AmSender.Octets.{HasOctets}
 use Rattle.law_rlc.proofs.AmSender.Credits.{octets_at, one, one-same, owed_in, paid-zero, paid-suc, paid-none}
-use Rattle.law_rlc.proofs.AmSender.Books.{Books, books_after, turn-accounts, ended-accounts, expiry-accounts}
+use Rattle.law_rlc.proofs.AmSender.Books.{turn-accounts, ended-accounts, expiry-accounts}
+use Rattle.law_rlc.proofs.AmSender.Owed.{Books, books_after}
 use Rattle.law_rlc.proofs.AmSender.Books.{settled-accounts}
 use Rattle.law_rlc.proofs.AmSender.Confirms.{Keeps, after-keeps, begun-keeps}
 

@@ -28,7 +28,8 @@ use Rattle.law_rlc.specs.AmSender.Namings.{heard_namings, heard_marks, recalled_
 use Rattle.law_rlc.specs.AmSender.Limit.{AreFew, IsLimit, LimitHeard, LimitExpired, NoLimit, IsSilent, ComesAtLimit}
 use Rattle.law_rlc.specs.AmSender.Limit.{FailsAtLimit}
 use Rattle.law_rlc.proofs.AmSender.Least.{heard_slots, heard-length}
-use Rattle.law_rlc.proofs.AmSender.Marked.{Holds, heard-slot, recalled-within, recalled-slot, Stands, after-stands}
+use Rattle.law_rlc.proofs.AmSender.Marked.{recalled-within, recalled-slot, Stands, after-stands}
+use Rattle.law_rlc.proofs.AmSender.Heard.{Holds, heard-slot}
 use Rattle.law_rlc.proofs.AmSender.Marked.{start-stands, same-number, turn-config, ended-config, recalled-config}
 
 is-less : (n m : ℕ) → nat_lt n m ≡ true → n < m

@@ -21,7 +21,8 @@ use Rattle.rlc_am_tx.proofs.SendSteps.{first-waits}
 use Rattle.law_rlc.specs.AmSender.Run.{run_am_sender, begun}
 use Rattle.law_rlc.specs.AmSender.Namings.{Marks, unmarked, marks_after}
 use Rattle.law_rlc.specs.AmSender.Resent.{IsLowest, IsResent, ResendsTheFirst}
-use Rattle.law_rlc.proofs.AmSender.Marked.{IsSlot, Stands, stands, stretch-some, is-part}
+use Rattle.law_rlc.proofs.AmSender.Marked.{Stands, stands, stretch-some, is-part}
+use Rattle.law_rlc.proofs.AmSender.Heard.{IsSlot}
 
 -- no octet of a slot waits that stands before the first
 leading-rest : (slots : List Sent) (k : ℕ) → k < leading_idle slots → is_waiting (slot_at slots k) ≡ false
