@@ -16,12 +16,13 @@ pub mod Takings
 pub mod Holders
 pub mod Holding
 pub mod Noting
-pub mod Silences
-pub mod Built
-pub mod Looping
 pub mod Keeping
 pub mod Pdcp
 pub mod Owning
+pub mod Elsewhere
+pub mod Silences
+pub mod Built
+pub mod Looping
 pub mod KindsStay
 pub mod Counted
 pub mod Steps
