@@ -15,7 +15,7 @@ use Rattle.law_deliver.proofs.AmChannel.Delivery.{channels_tell_what_is_taken, c
 use Rattle.law_deliver.proofs.AmChannel.Delivery.{channels_deliver_what_came_undiscarded}
 use Rattle.law_deliver.specs.AmDelivery.Arrival.{IsWhatCame}
 use Rattle.promises.specs.Events.{discards_on}
-use Rattle.promises.specs.Arrival.{taken as taken_told, told_of, AllHandUpWhatCame, HandUpWhatCame}
+use Rattle.promises.specs.Arrival.{taken as taken_told, account_of, AllHandUpWhatCame, HandUpWhatCame}
 use Rattle.law_run.specs.Order.{KeepsOrder}
 use Rattle.law_run.proofs.Delivering.{alike, is_delivering, tells, went_up_is, was_submitted_is, happened_from}
 
@@ -36,7 +36,7 @@ came past order from l c e kind own =
     let taken = taken_at l from steps a in
     let all = submitted_at l from steps a in
     let ups = ups_at l (other_end from) steps a in
-    let said = told_of c l from past in
+    let said = account_of c l from past in
     let from_told : (news : List (List ℕ)) → IsWhatCame c.first (told_from c l from steps a) news ups
     → IsWhatCame c.first said news ups =
     λ news x. subst (λ (hs : List AccountEntry). IsWhatCame c.first (account hs no_account) news ups)

@@ -34,7 +34,7 @@ use Rattle.law_node.proofs.Counted.{counts_then}
 use Rattle.law_node.proofs.Living.{counts_ascend, none_taken as none_without}
 use Rattle.pdu_show.specs.declared.kinds.Layout.{Layout}
 use Rattle.promises.specs.Blocks.{AreTold}
-use Rattle.promises.specs.Parts.{is_handover, part}
+use Rattle.promises.specs.Parts.{is_handover, part_of_line}
 use Rattle.law_run.specs.Order.{state_behind, IsRight, KeepsOrder}
 use Rattle.law_run.proofs.Keys.{not_first, not_second, no_cause}
 use Rattle.law_run.proofs.Past.{link_behind}
@@ -82,7 +82,7 @@ stays lcid line free = refl
 
 -- it builds none
 begins_unbuilt : (lcid : ℕ) (line : Line) (t : ℕ) (kinds : List (Option Layout)) (told : List Record)
-    → begins lcid line ≡ true → AreTold t kinds (part line) told → filter is_of_building told ≡ []
+    → begins lcid line ≡ true → AreTold t kinds (part_of_line line) told → filter is_of_building told ≡ []
 begins_unbuilt lcid (lines.Bearer config options) t kinds told e none = none
 begins_unbuilt lcid (lines.Handover user rrc integrity) t kinds told e none = none
 begins_unbuilt lcid line t kinds told e none = absurd cc

@@ -39,7 +39,7 @@ use Rattle.law_node.specs.Telling.{told_over}
 use Rattle.promises.specs.Records.{is_up, event_of, events_of, sdu_of, ups_in}
 use Rattle.law_air.proofs.AnyCalls.Going.{told_both}
 use Rattle.prioritise.proofs.ChannelLemmas.{both_false}
-use Rattle.promises.specs.Arrival.{tells_in, ended_by, happened}
+use Rattle.promises.specs.Arrival.{entries_in, entries_ended, entries_from}
 use Rattle.law_words.specs.Arrivals.{AccountEntry}
 use Rattle.law_air.proofs.TwoEnds.Coming.{bearers_begin, ends_come_by}
 use Rattle.air_run.specs.Written.{all_seen, noticed, with_um}
@@ -53,7 +53,7 @@ use Rattle.law_air.proofs.TwoEnds.Lives.{channels_begin}
 use Rattle.promises.specs.Delivery.{forges, is_forged, sets_timer, is_timed, discarded, DeliverAll, DeliversInOrder}
 use Rattle.promises.specs.Flows.{handed_in, looped_at, submitted, delivered}
 use Rattle.law_run.specs.Order.{state_behind, IsRight, KeepsOrder}
-use Rattle.promises.specs.Parts.{part}
+use Rattle.promises.specs.Parts.{part_of_line}
 use Rattle.promises.specs.Configs.{config_by, config_of}
 use Rattle.law_run.proofs.Early.{is_early}
 use Rattle.law_run.proofs.Failed.{HasSender, sender_goes, sender_begins}
@@ -133,7 +133,7 @@ pub record IsDelivering (l : ℕ) (c : BearerConfig) (past : List Group) : Type 
   pub unset : is_timed l past ≡ false → set ≡ false
   pub told_is : (side : Side) → events_of side (history past) ≡ events_of side told
   pub submitted_is : (side : Side) → submitted side l past ≡ handed side l
-  pub happened_is : (bits : ℕ) (from : Side) → happened bits l from past ≡ flown bits from
+  pub happened_is : (bits : ℕ) (from : Side) → entries_from bits l from past ≡ flown bits from
   pub senders : c.kind ≡ Am → (side : Side) → HasSender side l past
   -- and what is told is what became of the flow from each side
   pub flows : c.kind ≡ Um → (from : Side) → flow_at (sent_by from) l (state_behind past).losses.flows
@@ -156,12 +156,13 @@ goes_on : (l : ℕ) (c : BearerConfig) (past : List Group) (g : Group) → IsRig
 goes_on l c past g right order other own d =
     let k = link_behind past in
     let m = behind_line g.line (state_behind past) in
-    let p = part g.line in
+    let p = part_of_line g.line in
     let set = d.set || sets_timer l g.line in
     let w = (state_behind past).losses in
     let word = word_of g.line in
     let haps = with_word word d.haps in
-    let x : LineLives l d.nb d.ue c.rlc_bits (c.kind ≡ Um) d.told haps d.told d.handed d.flown set (ended_by g.line) p
+    let x : LineLives l d.nb d.ue c.rlc_bits (c.kind ≡ Um) d.told haps d.told d.handed d.flown set
+        (entries_ended g.line) p
     m =
     line_lives l d.nb d.ue c.rlc_bits (c.kind ≡ Um) d.told d.handed d.flown d.haps d.set g.line
     (state_behind past).rules.keys k (behind past order).nothing right.in_range other own d.lived in
@@ -175,7 +176,7 @@ goes_on l c past g right order other own d =
       ue_begun = d.ue_begun;
       told = d.told ++ x.more;
       handed = λ side n. d.handed side n ++ (handed_in side n p m.out ++ looped_at side n m.out);
-      flown = λ bits from. d.flown bits from ++ (ended_by g.line ++ tells_in bits l from [] m.out);
+      flown = λ bits from. d.flown bits from ++ (entries_ended g.line ++ entries_in bits l from [] m.out);
       haps = λ from. haps from ++ told_in (sent_by from) l w.cursor x.more;
       set = set;
       lived = unseen l d.nb d.ue c.rlc_bits (c.kind ≡ Um) (d.told ++ x.more) _ _ _ set m []
@@ -192,9 +193,9 @@ goes_on l c past g right order other own d =
           ∙ ap (λ (ys : List Record). d.handed side l ++ (handed_in side l p ys ++ looped_at side l ys))
           right.events_are;
       happened_is = λ bits from.
-          ap (λ (hs : List AccountEntry). hs ++ (ended_by g.line ++ tells_in bits l from [] g.events))
+          ap (λ (hs : List AccountEntry). hs ++ (entries_ended g.line ++ entries_in bits l from [] g.events))
           (d.happened_is bits from)
-          ∙ ap (λ (ys : List Record). d.flown bits from ++ (ended_by g.line ++ tells_in bits l from [] ys))
+          ∙ ap (λ (ys : List Record). d.flown bits from ++ (entries_ended g.line ++ entries_in bits l from [] ys))
           right.events_are;
       senders = λ kind side. sender_goes side l past g right order other (d.senders kind side);
       flows = λ kind from.
@@ -339,7 +340,7 @@ module _ (l : ℕ) (c : BearerConfig) (past : List Group) (d : IsDelivering l c 
       ≡ submitted from l past
   was_submitted_is from = d.lived.by.submitted_is from l ∙ sym (d.submitted_is from)
 
-  pub happened_from : (bits : ℕ) (from : Side) → flown_in bits l from steps start ≡ happened bits l from past
+  pub happened_from : (bits : ℕ) (from : Side) → flown_in bits l from steps start ≡ entries_from bits l from past
   happened_from bits from = d.lived.by.happened_is bits from ∙ sym (d.happened_is bits from)
 
 delivers : (past : List Group) → KeepsOrder past → DeliverAll past

@@ -31,7 +31,7 @@ use Rattle.law_air.specs.AnyCalls.Told.{refusals}
 use Rattle.law_air.proofs.AnyCalls.Calling.{submitting_adds}
 use Rattle.l2_node.specs.End.{End}
 use Rattle.law_air.specs.TwoEnds.Arrival.{renewals_in, told_by_step}
-use Rattle.promises.specs.Arrival.{tells_in, ended_by}
+use Rattle.promises.specs.Arrival.{entries_in, entries_ended}
 use Rattle.law_words.specs.Arrivals.{AccountEntry}
 use Rattle.law_air.specs.TwoEnds.Going.{TellAlone, sets, handed_in as handed_by, IsStepSince}
 use Rattle.law_air.proofs.TwoEnds.Going.{last_in, tells_more}
@@ -42,7 +42,7 @@ use Rattle.um_losses.specs.Names.{Place, Happening as What, begins_anew}
 use Rattle.um_losses.specs.Told.{told_in, place_behind}
 use Rattle.test_loop.specs.declared.Mode.TheVariants.{Off, A, B}
 use Rattle.promises.specs.Delivery.{forges, sets_timer}
-use Rattle.promises.specs.Parts.{is_handover, Part, Submits, Rests, part}
+use Rattle.promises.specs.Parts.{is_handover, Part, Submits, Rests, part_of_line}
 use Rattle.promises.specs.Flows.{handed_in, looped_at}
 use Rattle.law_run.proofs.Early.{none_looped}
 use Rattle.law_run.proofs.Texts.{adds_one}
@@ -129,31 +129,31 @@ or_false false = refl
 -- ---- what records tell of the air
 
 pub tells_both : (l : ℕ) (f g : List Record) → TellAlone l g → (bits : ℕ) (from : Side)
-    → tells_in bits l from [] (f ++ g) ≡ tells_in bits l from [] f ++ tells_in bits l from [] g
+    → entries_in bits l from [] (f ++ g) ≡ entries_in bits l from [] f ++ entries_in bits l from [] g
 tells_both l f g h bits from = tells_more bits l from [] f g
-    ∙ ap (λ (hs : List AccountEntry). tells_in bits l from [] f ++ hs) (h bits from (last_in f []))
+    ∙ ap (λ (hs : List AccountEntry). entries_in bits l from [] f ++ hs) (h bits from (last_in f []))
 
 alone_both : (l : ℕ) (f g : List Record) → TellAlone l f → TellAlone l g → TellAlone l (f ++ g)
 alone_both l f g p q bits from sent =
     tells_more bits l from sent f g
-    ∙ (ap (λ (hs : List AccountEntry). hs ++ tells_in bits l from (last_in f sent) g) (p bits from sent)
-    ∙ (ap (λ (hs : List AccountEntry). tells_in bits l from [] f ++ hs) (q bits from (last_in f sent))
+    ∙ (ap (λ (hs : List AccountEntry). hs ++ entries_in bits l from (last_in f sent) g) (p bits from sent)
+    ∙ (ap (λ (hs : List AccountEntry). entries_in bits l from [] f ++ hs) (q bits from (last_in f sent))
     ∙ sym (tells_both l f g q bits from)))
 
 both_flown : (l : ℕ) (all : List AccountEntry) (f g : List Record) → TellAlone l g → (bits : ℕ) (from : Side)
-    → (all ++ tells_in bits l from [] f) ++ tells_in bits l from [] g ≡ all ++ tells_in bits l from [] (f ++ g)
+    → (all ++ entries_in bits l from [] f) ++ entries_in bits l from [] g ≡ all ++ entries_in bits l from [] (f ++ g)
 both_flown l all f g h bits from =
-    append_assoc all (tells_in bits l from [] f) (tells_in bits l from [] g)
+    append_assoc all (entries_in bits l from [] f) (entries_in bits l from [] g)
     ∙ ap (λ (hs : List AccountEntry). all ++ hs) (sym (tells_both l f g h bits from))
 
 unflown_end : (bits l : ℕ) (from : Side) (said : List Record) (is_done : Bool) (done : ℕ)
-    → tells_in bits l from [] (said ++ ending is_done done ∷ []) ≡ tells_in bits l from [] said
+    → entries_in bits l from [] (said ++ ending is_done done ∷ []) ≡ entries_in bits l from [] said
 unflown_end bits l from said is_done done =
     tells_more bits l from [] said (ending is_done done ∷ [])
-    ∙ (ap (λ (hs : List AccountEntry). tells_in bits l from [] said ++ hs) (none is_done (last_in said []))
-    ∙ append-nil (tells_in bits l from [] said))
+    ∙ (ap (λ (hs : List AccountEntry). entries_in bits l from [] said ++ hs) (none is_done (last_in said []))
+    ∙ append-nil (entries_in bits l from [] said))
   where
-    none : (b : Bool) (sent : List ℕ) → tells_in bits l from sent (ending b done ∷ []) ≡ []
+    none : (b : Bool) (sent : List ℕ) → entries_in bits l from sent (ending b done ∷ []) ≡ []
     none true sent = refl
     none false sent = refl
 
@@ -198,7 +198,7 @@ module _ (l : ℕ) (Live : List Record → Sdus → Happened → Bool → Link �
     out_is : m.out ≡ k.out ++ more
     alone : TellAlone l more
     lived : Live (told ++ more) (λ side n. handed side n ++ looped_at side n more)
-        (λ bits from. flown bits from ++ tells_in bits l from [] more) set m
+        (λ bits from. flown bits from ++ entries_in bits l from [] more) set m
 
   goes_by : (told : List Record) (handed : Sdus) (flown : Happened) (set : Bool) (s : Step) (k : Link)
       → IsStepSince l s → is_handover_step s ≡ false → sets l s ≡ false → renewals_in s ≡ []
@@ -212,7 +212,7 @@ module _ (l : ℕ) (Live : List Record → Sdus → Happened → Bool → Link �
         alone = x.alone;
         lived = through.same _ _ _ _ _ _ (set || sets l s) set (step s k) refl
             (λ side n. ap (λ (ys : List (List ℕ)). handed side n ++ (ys ++ looped_at side n x.more)) (none side n))
-            (λ bits from. ap (λ (hs : List AccountEntry). flown bits from ++ (hs ++ tells_in bits l from [] x.more))
+            (λ bits from. ap (λ (hs : List AccountEntry). flown bits from ++ (hs ++ entries_in bits l from [] x.more))
             stays)
             (ap (λ (b : Bool). set || b) unset ∙ or_false set) x.lived;
       }
@@ -230,7 +230,7 @@ module _ (l : ℕ) (Live : List Record → Sdus → Happened → Bool → Link �
   then_goes : (told : List Record) (handed : Sdus) (flown : Happened) (set : Bool) (k m o : Link)
       (g : GoesOn told handed flown set k m)
       → GoesOn (told ++ g.more) (λ side n. handed side n ++ looped_at side n g.more)
-      (λ bits from. flown bits from ++ tells_in bits l from [] g.more) set m o → GoesOn told handed flown set k o
+      (λ bits from. flown bits from ++ entries_in bits l from [] g.more) set m o → GoesOn told handed flown set k o
   then_goes told handed flown set k m o g q = record {
     more = g.more ++ q.more;
     out_is = q.out_is ∙ ap (λ (x : List Record). x ++ q.more) g.out_is ∙ append_assoc k.out g.more q.more;
@@ -272,7 +272,7 @@ module _ (l : ℕ) (Live : List Record → Sdus → Happened → Bool → Link �
     nothing : d.link.out ≡ []
     alone : TellAlone l d.journal
     lived : Live (told ++ d.journal) (λ side n. handed side n ++ looped_at side n d.journal)
-        (λ bits from. flown bits from ++ tells_in bits l from [] d.journal) set d.link
+        (λ bits from. flown bits from ++ entries_in bits l from [] d.journal) set d.link
 
   none_drained : (told : List Record) (handed : Sdus) (flown : Happened) (set : Bool) (k : Link) → k.out ≡ []
       → Live told handed flown set k → DrainLives told handed flown set (at_once k)
@@ -286,7 +286,7 @@ module _ (l : ℕ) (Live : List Record → Sdus → Happened → Bool → Link �
   first_drained : (told : List Record) (handed : Sdus) (flown : Happened) (set : Bool) (done : ℕ)
       (first : List Record) (d : Drained) → TellAlone l first
       → DrainLives (told ++ first) (λ side n. handed side n ++ looped_at side n first)
-      (λ bits from. flown bits from ++ tells_in bits l from [] first) set d
+      (λ bits from. flown bits from ++ entries_in bits l from [] first) set d
       → DrainLives told handed flown set (behind first done d)
   first_drained told handed flown set done first d yet q = record {
     nothing = q.nothing;
@@ -300,7 +300,7 @@ module _ (l : ℕ) (Live : List Record → Sdus → Happened → Bool → Link �
   record First (told : List Record) (handed : Sdus) (flown : Happened) (set : Bool) (m : Link) : Type 0 where
     alone : TellAlone l m.out
     lived : Live (told ++ m.out) (λ side n. handed side n ++ looped_at side n m.out)
-        (λ bits from. flown bits from ++ tells_in bits l from [] m.out) set m
+        (λ bits from. flown bits from ++ entries_in bits l from [] m.out) set m
 
   at_first : (told : List Record) (handed : Sdus) (flown : Happened) (set : Bool) (k m : Link) → k.out ≡ []
       → GoesOn told handed flown set k m → First told handed flown set m
@@ -310,7 +310,7 @@ module _ (l : ℕ) (Live : List Record → Sdus → Happened → Bool → Link �
         alone = subst (TellAlone l) (sym same) g.alone;
         lived = through.same _ _ _ _ _ _ set set m (ap (λ (x : List Record). told ++ x) (sym same))
             (λ side n. ap (λ (x : List Record). handed side n ++ looped_at side n x) (sym same))
-            (λ bits from. ap (λ (x : List Record). flown bits from ++ tells_in bits l from [] x) (sym same)) refl
+            (λ bits from. ap (λ (x : List Record). flown bits from ++ entries_in bits l from [] x) (sym same)) refl
             g.lived;
       }
 
@@ -348,7 +348,7 @@ module _ (l : ℕ) (Live : List Record → Sdus → Happened → Bool → Link �
   record WholeLives (told : List Record) (handed : Sdus) (flown : Happened) (set : Bool) (d : Drained) : Type 0 where
     said : List Record
     lived : Live (told ++ said) (λ side n. handed side n ++ looped_at side n said)
-        (λ bits from. flown bits from ++ tells_in bits l from [] said) set d.link
+        (λ bits from. flown bits from ++ entries_in bits l from [] said) set d.link
     is_done : Bool
     done : ℕ
     journal_is : d.journal ≡ said ++ ending is_done done ∷ []
@@ -377,7 +377,7 @@ module _ (l : ℕ) (Live : List Record → Sdus → Happened → Bool → Link �
       (p : Part) (m : Link) : Type 0 where
     pub more : List Record
     pub lived : Live (told ++ more) (λ side n. handed side n ++ (handed_in side n p m.out ++ looped_at side n m.out))
-        (λ bits from. flown bits from ++ (ends ++ tells_in bits l from [] m.out)) set m
+        (λ bits from. flown bits from ++ (ends ++ entries_in bits l from [] m.out)) set m
     pub told_are : (side : Side) → events_of side m.out ≡ events_of side more
     pub haps_are : (d : Direction) (place : Place) → told_in d l place m.out ≡ told_in d l place more
 
@@ -396,7 +396,7 @@ module _ (l : ℕ) (Live : List Record → Sdus → Happened → Bool → Link �
             ap (λ (ys : List (List ℕ)). handed side n ++ (handed_by side n s k ++ ys))
             (ap (looped_at side n) (sym same))
             ∙ ap (λ (ys : List (List ℕ)). handed side n ++ (ys ++ looped_at side n m.out)) (given side n))
-            (λ bits from. ap (λ (y : List Record). flown bits from ++ (renewals_in s ++ tells_in bits l from [] y))
+            (λ bits from. ap (λ (y : List Record). flown bits from ++ (renewals_in s ++ entries_in bits l from [] y))
             (sym same))
             refl x.lived;
         told_are = λ side. refl;
@@ -424,7 +424,7 @@ module _ (l : ℕ) (Live : List Record → Sdus → Happened → Bool → Link �
         (λ side n. sym (no_more side n (handed side n))
         ∙ ap (λ (y : List Record). handed side n ++ looped_at side n y) (sym nothing))
         (λ bits from. sym (append-nil (flown bits from))
-        ∙ ap (λ (y : List Record). flown bits from ++ tells_in bits l from [] y) (sym nothing))
+        ∙ ap (λ (y : List Record). flown bits from ++ entries_in bits l from [] y) (sym nothing))
         (sym (or_false set)) h;
     told_are = λ side. ap (events_of side) nothing;
     haps_are = λ d place. ap (told_in d l place) nothing;
@@ -445,7 +445,7 @@ module _ (l : ℕ) (Live : List Record → Sdus → Happened → Bool → Link �
 
   drain_lives : (told : List Record) (handed : Sdus) (flown : Happened) (set : Bool) (grant : ℕ) (k : Link)
       → grant ≤ 9422 → k.out ≡ [] → Live told handed flown set k
-      → PartLives told handed flown (set || false) [] (part (lines.Drain grant))
+      → PartLives told handed flown (set || false) [] (part_of_line (lines.Drain grant))
       (record (drained grant k).link { out = (drained grant k).journal })
   drain_lives told handed flown set grant k within nothing h =
       let w = drained_lives told handed flown set grant k within nothing h in
@@ -456,7 +456,7 @@ module _ (l : ℕ) (Live : List Record → Sdus → Happened → Bool → Link �
             (λ side n. ap (λ (ys : List (List ℕ)). handed side n ++ ys)
             (sym (ap (looped_at side n) w.journal_is ∙ unlooped_end side n w.said w.is_done w.done)))
             (λ bits from. ap (λ (hs : List AccountEntry). flown bits from ++ hs)
-            (sym (ap (tells_in bits l from []) w.journal_is ∙ unflown_end bits l from w.said w.is_done w.done)))
+            (sym (ap (entries_in bits l from []) w.journal_is ∙ unflown_end bits l from w.said w.is_done w.done)))
             (sym (or_false set)) (through.unseen _ _ _ set d.link d.journal w.lived);
         told_are = λ side. ap (events_of side) w.journal_is ∙ untold_end side w.said w.is_done w.done;
         haps_are = λ d place. ap (told_in d l place) w.journal_is ∙ unsaid_end d l place w.said w.is_done w.done;
@@ -466,7 +466,8 @@ module _ (l : ℕ) (Live : List Record → Sdus → Happened → Bool → Link �
   pub line_stays : (told : List Record) (handed : Sdus) (flown : Happened) (set : Bool) (line : Line)
       (keys : Option Keys) (k : Link) → k.out ≡ [] → IsInRange line → adds_one l line ≡ false → forges line ≡ false
       → is_handover line ≡ false → Live told handed flown set k
-      → PartLives told handed flown (set || sets_timer l line) (ended_by line) (part line) (played line keys k)
+      → PartLives told handed flown (set || sets_timer l line) (entries_ended line) (part_of_line line)
+      (played line keys k)
   unfolding acted
   line_stays told handed flown set (lines.Harq maximum) keys k nothing fits other own here h =
       rests_by told handed flown set (calls.Visits maximum) k nothing (fits.some, fits.few) refl h

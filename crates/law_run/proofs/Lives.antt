@@ -17,7 +17,7 @@ use Rattle.promises.specs.Records.{events_of}
 use Rattle.law_air.specs.AnyCalls.Runs.{Step, Calls}
 use Rattle.l2_node.specs.End.{End}
 use Rattle.law_deliver.specs.AmFlow.Air.{outset}
-use Rattle.promises.specs.Arrival.{ended_by}
+use Rattle.promises.specs.Arrival.{entries_ended}
 use Rattle.law_words.specs.Arrivals.{AccountEntry}
 use Rattle.law_air.specs.TwoEnds.Going.{GoesByAir, IsStepSince}
 use Rattle.law_air.specs.TwoEnds.Staying.{is_handover_step}
@@ -29,7 +29,7 @@ use Rattle.um_losses.specs.Names.{Place, Happening as What}
 use Rattle.um_losses.specs.Told.{told_in, place_behind}
 use Rattle.law_deliver.specs.UmGaps.Whats.{whats}
 use Rattle.promises.specs.Delivery.{forges, sets_timer}
-use Rattle.promises.specs.Parts.{Part, Rests, part}
+use Rattle.promises.specs.Parts.{Part, Rests, part_of_line}
 use Rattle.law_run.proofs.Texts.{adds_one}
 use Rattle.law_run.proofs.Flowing.{Sdus, Happened, Haps, word_of, with_word, StepLives, GoesThrough, PartLives}
 use Rattle.law_run.proofs.Flowing.{step_plays, line_stays}
@@ -192,8 +192,8 @@ module _ (l : ℕ) (nb ue : End) (bits : ℕ) (Um : Type 0) where
   pub line_lives : (told : List Record) (handed : Sdus) (flown : Happened) (haps : Haps) (set : Bool) (line : Line)
       (keys : Option Keys) (k : Link) → k.out ≡ [] → IsInRange line → adds_one l line ≡ false → forges line ≡ false
       → Lived told handed flown haps set k
-      → LineLives told (with_word (word_of line) haps) told handed flown (set || sets_timer l line) (ended_by line)
-      (part line) (played line keys k)
+      → LineLives told (with_word (word_of line) haps) told handed flown (set || sets_timer l line) (entries_ended line)
+      (part_of_line line) (played line keys k)
   unfolding acted
   line_lives told handed flown haps set (lines.Handover user rrc integrity) keys k nothing fits other own h =
       let s = Calls (calls.HandsOver (next_keys user rrc integrity (keys_or_none keys))) in

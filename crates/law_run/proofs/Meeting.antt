@@ -25,7 +25,7 @@ use Rattle.l2_types.specs.declared.side.Side.TheVariants.{Nb, Ue}
 use Rattle.law_pdcp.specs.OneEnd.Lives.{Ciphering}
 use Rattle.law_run.specs.Order.{KeepsOrder}
 use Rattle.law_run.specs.Texts.{AreTexts, AreTextsOf, AreCiphered, NoneMeet}
-use Rattle.promises.specs.Keys.{given}
+use Rattle.promises.specs.Keys.{keys_given}
 use Rattle.promises.specs.Configs.{config_of}
 use Rattle.law_run.proofs.Counts.{same_lcid}
 use Rattle.law_run.proofs.Distinct.{rrc_key, AreKeys, are_keys}
@@ -39,7 +39,7 @@ record AreKnown (side : Side) (lcid : ℕ) (past : List Group) (xs : List Cipher
   config : BearerConfig
   configured : IsConfigured lcid config
   wants : wants_keys config.kind ≡ true
-  own : AllByRecursion (IsOfBearer config side (given past)) xs
+  own : AllByRecursion (IsOfBearer config side (keys_given past)) xs
   alone : AllShareText xs xs
 
 abbrev AreNoneOrKnown : Side → ℕ → List Group → List Ciphering → Type 0
@@ -64,19 +64,19 @@ two_data m n i j differ bearer = differ (grind (arith, nat_tests, i.0, i.1, j.0,
 -- signalling and data have other keys, and two of either another BEARER
 other_bearer : (k l : Kind) (past : List Group) (m n : ℕ) → AreKeys past → IsChannelOf k m → IsChannelOf l n
     → (m ≡ n → ⊥) → wants_keys k ≡ true → wants_keys l ≡ true → (x y : List ℕ)
-    → IsOneOf x (map (cipher_key k) (given past)) → IsOneOf y (map (cipher_key l) (given past))
+    → IsOneOf x (map (cipher_key k) (keys_given past)) → IsOneOf y (map (cipher_key l) (keys_given past))
     → x ≡ y → bearer_of m ≡ bearer_of n → ⊥
 other_bearer kind.Tm l past m n a i j differ v w x y p q same bearer = absurd cc
 other_bearer k kind.Tm past m n a i j differ v w x y p q same bearer = absurd cc
 other_bearer kind.Srb kind.Srb past m n a i j differ v w x y p q same bearer = two_signalling m n i j differ bearer
 other_bearer kind.Srb kind.Um past m n a i j differ v w x y p q same bearer =
-    a.apart y q (subst (λ (z : List ℕ). IsOneOf z (map rrc_key (given past))) same p)
+    a.apart y q (subst (λ (z : List ℕ). IsOneOf z (map rrc_key (keys_given past))) same p)
 other_bearer kind.Srb kind.Am past m n a i j differ v w x y p q same bearer =
-    a.apart y q (subst (λ (z : List ℕ). IsOneOf z (map rrc_key (given past))) same p)
+    a.apart y q (subst (λ (z : List ℕ). IsOneOf z (map rrc_key (keys_given past))) same p)
 other_bearer kind.Um kind.Srb past m n a i j differ v w x y p q same bearer =
-    a.apart x p (subst (λ (z : List ℕ). IsOneOf z (map rrc_key (given past))) (sym same) q)
+    a.apart x p (subst (λ (z : List ℕ). IsOneOf z (map rrc_key (keys_given past))) (sym same) q)
 other_bearer kind.Am kind.Srb past m n a i j differ v w x y p q same bearer =
-    a.apart x p (subst (λ (z : List ℕ). IsOneOf z (map rrc_key (given past))) (sym same) q)
+    a.apart x p (subst (λ (z : List ℕ). IsOneOf z (map rrc_key (keys_given past))) (sym same) q)
 other_bearer kind.Um kind.Um past m n a i j differ v w x y p q same bearer = two_data m n i j differ bearer
 other_bearer kind.Um kind.Am past m n a i j differ v w x y p q same bearer = two_data m n i j differ bearer
 other_bearer kind.Am kind.Um past m n a i j differ v w x y p q same bearer = two_data m n i j differ bearer
@@ -98,7 +98,7 @@ two_sides Ue Ue = inl refl
 apart_by_side : (s t : Side) (m n : ℕ) (past : List Group) (xs ys : List Ciphering) → (s ≡ t → ⊥)
     → AreKnown s m past xs → AreKnown t n past ys → AllShareText xs ys
 apart_by_side s t m n past xs ys differ a b =
-    never xs ys (IsOfBearer a.config s (given past)) (IsOfBearer b.config t (given past))
+    never xs ys (IsOfBearer a.config s (keys_given past)) (IsOfBearer b.config t (keys_given past))
     (λ x y p q key bearer direction count. absurd
     (differ (other_side s t (sym p.direction ∙ direction ∙ q.direction)))) a.own b.own
 
@@ -109,7 +109,7 @@ apart_by_channel s m n past xs ys keys differ a b =
     let d = b.config in
     let other : c.channel.lcid ≡ d.channel.lcid → ⊥ =
     λ e. differ (sym a.configured.lcid_is ∙ e ∙ b.configured.lcid_is) in
-    never xs ys (IsOfBearer c s (given past)) (IsOfBearer d s (given past))
+    never xs ys (IsOfBearer c s (keys_given past)) (IsOfBearer d s (keys_given past))
     (λ x y p q key bearer direction count. absurd
     (other_bearer c.kind d.kind past c.channel.lcid d.channel.lcid keys a.configured.in_range.lcid
     b.configured.in_range.lcid other a.wants b.wants x.protection.key y.protection.key p.key q.key key
@@ -123,7 +123,7 @@ record Chosen (side : Side) (lcid : ℕ) (past : List Group) (P : List Ciphering
   are : P texts
   known : AreNoneOrKnown side lcid past texts
 
-differ_by : (k : Kind) (past : List Group) → AreKeys past → AreDistinct (map (cipher_key k) (given past))
+differ_by : (k : Kind) (past : List Group) → AreKeys past → AreDistinct (map (cipher_key k) (keys_given past))
 differ_by kind.Tm past h = h.users_differ
 differ_by kind.Srb past h = h.rrcs_differ
 differ_by kind.Um past h = h.users_differ

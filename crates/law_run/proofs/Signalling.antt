@@ -50,13 +50,13 @@ use Rattle.law_deliver.specs.SrbChannel.Running.{Life, running, first_life}
 use Rattle.law_deliver.proofs.SrbChannel.Laws.{Living, first_living, all_live}
 use Rattle.law_deliver.proofs.SrbChannel.Running.{Start, down, up, all_down, all_up, none_between, none_lost}
 use Rattle.law_deliver.proofs.SrbChannel.Running.{none_lost_between, starts_first, starts_anew}
-use Rattle.promises.specs.Arrival.{ended_by}
+use Rattle.promises.specs.Arrival.{entries_ended}
 use Rattle.promises.specs.Delivery.{forges, is_forged, sets_timer}
-use Rattle.promises.specs.Parts.{is_handover, part}
+use Rattle.promises.specs.Parts.{is_handover, part_of_line}
 use Rattle.promises.specs.Drained.{failed}
 use Rattle.promises.specs.Flows.{handed_in, looped_at, submitted, delivered}
 use Rattle.law_run.specs.Order.{state_behind, IsRight, KeepsOrder}
-use Rattle.promises.specs.Signalling.{submitted_since, delivered_since, lost, SignalAll, DeliversEachLife}
+use Rattle.promises.specs.Signalling.{submitted_since, delivered_since, losses_since, SignalAll, DeliversEachLife}
 use Rattle.promises.specs.Signalling.{LeavesNoSignal, DrainsLeaveNoSignal, BringsNoSignal, HandoversBringNoSignal}
 use Rattle.promises.specs.Configs.{config_by, config_of}
 use Rattle.law_run.proofs.Delivering.{ups_are_told, ups_told, is_first, at_each}
@@ -83,7 +83,7 @@ lost_both l side xs ys =
     ∙ filter-append is_lost (told_on l (events_of side xs)) (told_on l (events_of side ys))
 
 lost_then : (l : ℕ) (side : Side) (past : List Group) (g : Group)
-    → lost side l (g ∷ past) ≡ lost side l past ++ losses_on l (events_of side g.events)
+    → losses_since side l (g ∷ past) ≡ losses_since side l past ++ losses_on l (events_of side g.events)
 lost_then l side past g = lost_both l side (history past) (records.Line g.number g.line ∷ g.events)
 
 -- ---- a channel of signalling, behind groups
@@ -104,7 +104,7 @@ pub record IsSignalling (l : ℕ) (past : List Group) : Type 0 where
   pub lived : LivedIn l nb ue told handed false (link_behind past)
   pub delivered_is : (side : Side) → delivered_since side l past ≡ ups_on l (events_of side told)
   pub submitted_is : (side : Side) → submitted_since side l past ≡ handed side l
-  pub lost_is : (side : Side) → lost side l past ≡ losses_on l (events_of side told)
+  pub lost_is : (side : Side) → losses_since side l past ≡ losses_on l (events_of side told)
   pub senders : (side : Side) → HasSender side l past
 
 -- ---- no discard timers are set on it
@@ -146,11 +146,11 @@ stays_on : (l : ℕ) (past : List Group) (g : Group) → IsRight past g → Keep
 stays_on l past g right order other own here d =
     let k = link_behind past in
     let m = behind_line g.line (state_behind past) in
-    let p = part g.line in
+    let p = part_of_line g.line in
     let set = false || sets_timer l g.line in
     let off : set ≡ false = sets_none l g.line (state_behind past).rules k d.low right.allowed in
     let x : PartLives l (InOneLife l d.nb d.ue) (through_life l d.nb d.ue) d.told d.handed unread set
-    (ended_by g.line) p m =
+    (entries_ended g.line) p m =
     line_stays l (InOneLife l d.nb d.ue) (through_life l d.nb d.ue) d.told d.handed unread false g.line
     (state_behind past).rules.keys k (behind past order).nothing right.in_range other own here d.lived in
     let lived = (through_life l d.nb d.ue).unseen _ _ unread set m [] x.lived in
@@ -222,7 +222,7 @@ module _ (l : ℕ) (past : List Group) (d : IsSignalling l past) where
       ≡ submitted_since side l past
   was_submitted_is side = d.lived.by.submitted_is side l ∙ sym (d.submitted_is side)
 
-  pub none_is_lost : (side : Side) → lost side l past ≡ []
+  pub none_is_lost : (side : Side) → losses_since side l past ≡ []
   none_is_lost side =
       d.lost_is side ∙ ap (losses_on l) (d.lived.by.told_is side)
       ∙ none_lost l d.nb d.ue living.near living.far living.begun steps living.runs living.calls side
@@ -336,9 +336,10 @@ none_submitted : (side : Side) (l : ℕ) (past : List Group) → submitted side 
 none_submitted side l [] e = refl
 none_submitted side l (g ∷ past) e =
     let parts =
-    none_both (submitted side l past) (handed_in side l (part g.line) g.events ++ looped_at side l g.events) e in
+    none_both (submitted side l past) (handed_in side l (part_of_line g.line) g.events ++ looped_at side l g.events) e
+    in
     if_none (is_handover g.line) (submitted_since side l past)
-    (handed_in side l (part g.line) g.events ++ looped_at side l g.events) (none_submitted side l past parts.0)
+    (handed_in side l (part_of_line g.line) g.events ++ looped_at side l g.events) (none_submitted side l past parts.0)
     parts.1
 
 -- ---- the line in which its bearers come
@@ -455,7 +456,7 @@ front_of_none : (xs ys : List (List ℕ)) → ys ≡ [] → AreFirstSdus xs ys �
 front_of_none xs ys none f = (none_both xs f.rest (sym f.is ∙ none)).0
 
 moves_none : (line : Line) → is_handover line ≡ true → (side : Side) (l : ℕ) (told : List Record)
-    → handed_in side l (part line) told ≡ []
+    → handed_in side l (part_of_line line) told ≡ []
 moves_none (lines.Handover user rrc integrity) h side l told = refl
 moves_none line h side l told = absurd cc
 
@@ -470,7 +471,7 @@ forges_none line h = absurd cc
 none_submitted_in : (side : Side) (l : ℕ) (past : List Group) (g : Group) → l < 3 → KeepsOrder (g ∷ past)
     → is_handover g.line ≡ true → submitted_since side l (g ∷ past) ≡ []
 none_submitted_in side l past g low order here =
-    ap (λ (xs : List (List ℕ)). xs ++ (handed_in side l (part g.line) g.events ++ looped_at side l g.events))
+    ap (λ (xs : List (List ℕ)). xs ++ (handed_in side l (part_of_line g.line) g.events ++ looped_at side l g.events))
     (dropped_by (is_handover g.line) (submitted_since side l past) here)
     ∙ ap (λ (xs : List (List ℕ)). xs ++ looped_at side l g.events) (moves_none g.line here side l g.events)
     ∙ none_looped side l past g low order

@@ -43,8 +43,8 @@ use Rattle.law_node.proofs.Steps.{Takes, then_takes}
 use Rattle.promises.specs.Air.{ttis}
 use Rattle.promises.specs.Blocks.{kinds, AreTold}
 use Rattle.law_run.specs.Order.{state_behind, IsRight, KeepsOrder}
-use Rattle.promises.specs.Parts.{part}
-use Rattle.promises.specs.Keys.{in_force_by, in_force, gives_keys, given}
+use Rattle.promises.specs.Parts.{part_of_line}
+use Rattle.promises.specs.Keys.{keys_in_force_by, keys_in_force, gives_keys, keys_given}
 use Rattle.promises.specs.Configs.{config_by, config_of}
 use Rattle.law_run.proofs.Counts.{same_lcid, come, goes, none_taken}
 use Rattle.law_run.proofs.Keys.{not_first, not_second, no_cause}
@@ -60,19 +60,20 @@ keys_list (Some keys) = keys ∷ []
 -- a line behind which nothing has begun configures, and tells of no new block
 record Configures (line : Line) (r : Rules) (past : List Group) : Type 0 where
   early : r.begun ≡ false
-  given_is : given past ≡ keys_list r.keys
-      → given past ++ (if gives_keys line then in_force_by line (in_force past) ∷ [] else [])
+  given_is : keys_given past ≡ keys_list r.keys
+      → keys_given past ++ (if gives_keys line then keys_in_force_by line (keys_in_force past) ∷ [] else [])
       ≡ keys_list (accepted line r).keys
 
-stays_given : (past : List Group) (o : Option Keys) → given past ≡ keys_list o → given past ++ [] ≡ keys_list o
-stays_given past o e = append-nil (given past) ∙ e
+stays_given : (past : List Group) (o : Option Keys) → keys_given past ≡ keys_list o
+    → keys_given past ++ [] ≡ keys_list o
+stays_given past o e = append-nil (keys_given past) ∙ e
 
 none_twice : (o : Option Keys) → is_some o ≡ false → o ≡ None
 none_twice None e = refl
 none_twice (Some keys) e = absurd cc
 
-first_given : (keys : Keys) (past : List Group) (o : Option Keys) → o ≡ None → given past ≡ keys_list o
-    → given past ++ keys ∷ [] ≡ keys ∷ []
+first_given : (keys : Keys) (past : List Group) (o : Option Keys) → o ≡ None → keys_given past ≡ keys_list o
+    → keys_given past ++ keys ∷ [] ≡ keys ∷ []
 first_given keys past o none e = ap (λ (ks : List Keys). ks ++ keys ∷ []) (e ∙ ap keys_list none)
 
 configures : (line : Line) (r : Rules) (l : Link) (past : List Group) → refusal line r l ≡ None
@@ -95,7 +96,7 @@ configures (lines.Drx config) r l past allowed early = record { early = early; g
 configures line r l past allowed early = absurd cc
 
 unbuilt : (line : Line) (r : Rules) (t : ℕ) (kinds' : _) (told : List Record) → (accepted line r).begun ≡ false
-    → AreTold t kinds' (part line) told → filter is_of_building told ≡ []
+    → AreTold t kinds' (part_of_line line) told → filter is_of_building told ≡ []
 unfolding accepted
 unbuilt (lines.Harq visits) r t ks told early none = none
 unbuilt lines.Bsr r t ks told early none = none
@@ -119,7 +120,7 @@ over_groups side lcid g past =
 -- as long as nothing has begun, nothing is taken, and at most one line gave keys
 record Early (past : List Group) : Type 0 where
   none_taken : (side : Side) (lcid : ℕ) → counts_taken side lcid (history past) ≡ []
-  given_is : given past ≡ keys_list (state_behind past).rules.keys
+  given_is : keys_given past ≡ keys_list (state_behind past).rules.keys
 
 nothing_begun : (past : List Group) → KeepsOrder past → (state_behind past).rules.begun ≡ false → Early past
 unfolding fresh no_rules
@@ -139,16 +140,16 @@ nothing_begun (g ∷ past) (right, order) early =
 -- ---- the cipher stays
 
 cipher_by : (line : Line) (r : Rules) (before : Keys) → before.alg ≡ (keys_or_none r.keys).alg
-    → (in_force_by line before).alg ≡ (keys_or_none (accepted line r).keys).alg
+    → (keys_in_force_by line before).alg ≡ (keys_or_none (accepted line r).keys).alg
 unfolding accepted
 cipher_by (lines.Keys keys) r before e = refl
 cipher_by (lines.Handover user rrc integrity) r before e = e
 cipher_by line r before e = e
 
-cipher_stays : (past : List Group) → (in_force past).alg ≡ (keys_or_none (state_behind past).rules.keys).alg
+cipher_stays : (past : List Group) → (keys_in_force past).alg ≡ (keys_or_none (state_behind past).rules.keys).alg
 unfolding fresh no_rules
 cipher_stays [] = refl
-cipher_stays (g ∷ past) = cipher_by g.line (state_behind past).rules (in_force past) (cipher_stays past)
+cipher_stays (g ∷ past) = cipher_by g.line (state_behind past).rules (keys_in_force past) (cipher_stays past)
 
 -- ---- calls with which lives begin
 
@@ -216,7 +217,7 @@ record IsThere (side : Side) (lcid : ℕ) (past : List Group) (config : BearerCo
   there : has lcid (end_of side (link_behind past)).bearers ≡ true
   flow_is : flow lcid (end_of side (link_behind past)) ≡ bearer_reached config keys side steps
   keyed : is_some (state_behind past).rules.keys ≡ true
-  lives_are : keys ∷ restarts steps ≡ given past
+  lives_are : keys ∷ restarts steps ≡ keys_given past
   counts_are : counts (all_taken (flow_of config.kind config keys side) steps) ≡ counts_taken side lcid (history past)
 
 still_keyed : (line : Line) (r : Rules) → is_some r.keys ≡ true → is_some (accepted line r).keys ≡ true
@@ -227,8 +228,8 @@ still_keyed line r e = e
 
 -- the keys that a line gives begin lives, where there were keys before
 moved_by : (line : Line) (r : Rules) (l : Link) (past : List Group) → refusal line r l ≡ None → is_some r.keys ≡ true
-    → (in_force past).alg ≡ (keys_or_none r.keys).alg
-    → moves (lives_by line r.keys) ≡ (if gives_keys line then in_force_by line (in_force past) ∷ [] else [])
+    → (keys_in_force past).alg ≡ (keys_or_none r.keys).alg
+    → moves (lives_by line r.keys) ≡ (if gives_keys line then keys_in_force_by line (keys_in_force past) ∷ [] else [])
 unfolding rule_broken
 moved_by (lines.Keys keys) r l past allowed keyed e =
     let twice = not_second (late r) (refused_if (is_some r.keys) SetTwice)
@@ -268,7 +269,7 @@ goes_there side lcid past g config right order free t =
     let told : counts_on lcid (told_over calls here) ≡ counts_taken side lcid g.events =
     ap (λ (x : End). counts_on lcid (told_over calls x)) (sym p.end_is)
     ∙ ap (counts_on lcid) (sym k.by.told_is) in
-    let lives : moves calls ≡ (if gives_keys g.line then in_force_by g.line (in_force past) ∷ [] else []) =
+    let lives : moves calls ≡ (if gives_keys g.line then keys_in_force_by g.line (keys_in_force past) ∷ [] else []) =
     moves_are calls ∙ ap moves k.lives_are
     ∙ moved_by g.line r (link_behind past) past right.allowed t.keyed (cipher_stays past) in
     let before : Takes f (flow lcid e) (restarts t.steps) (counts_taken side lcid (history past)) =
@@ -292,7 +293,8 @@ goes_there side lcid past g config right order free t =
       lives_are =
           ap (λ (ks : List Keys). t.keys ∷ ks) (both.lives_are
           ∙ ap (λ (ks : List Keys). restarts t.steps ++ ks) lives)
-          ∙ ap (λ (ks : List Keys). ks ++ (if gives_keys g.line then in_force_by g.line (in_force past) ∷ [] else []))
+          ∙ ap (λ (ks : List Keys). ks ++ (if gives_keys g.line then keys_in_force_by g.line (keys_in_force past)
+          ∷ [] else []))
           t.lives_are;
       counts_are = both.counts_are ∙ sym (over_groups side lcid g past);
     }
@@ -365,7 +367,7 @@ begin_there side past g config options line_is right order wants =
     ∙ sym k.by.end_is in
     let unbuilt_here : counts_taken side lcid g.events ≡ [] =
     none_taken side lcid g.events
-    (subst (λ (line : Line). AreTold (ttis past) (kinds past) (part line) g.events) line_is right.blocks) in
+    (subst (λ (line : Line). AreTold (ttis past) (kinds past) (part_of_line line) g.events) line_is right.blocks) in
     let told : counts_on lcid (told_over s.before e) ++ counts_on lcid (told_over s.behind begun) ≡ [] =
     ap (λ (x : End). counts_on lcid (told_over s.before e) ++ counts_on lcid (told_over s.behind x))
     (begun_is ∙ ap (λ (x : End). after x (Add config ks)) (sym come_here))
@@ -381,8 +383,9 @@ begin_there side past g config options line_is right order wants =
       lives_are =
           ap (λ (l : List Keys). ks ∷ l) (on.comes.lives_are ∙ moves_are s.behind ∙ ap moves s.none_behind)
           ∙ sym
-          (ap (λ (line : Line). given past ++ (if gives_keys line then in_force_by line (in_force past) ∷ [] else []))
-          line_is ∙ append-nil (given past) ∙ early.given_is ∙ ap keys_list may.keyed);
+          (ap (λ (line : Line). keys_given past ++ (if gives_keys line then keys_in_force_by line (keys_in_force past)
+          ∷ [] else []))
+          line_is ∙ append-nil (keys_given past) ∙ early.given_is ∙ ap keys_list may.keyed);
       counts_are =
           ap (λ (f : Flow). counts (all_taken f on.comes.steps)) (sym flow_first) ∙ on.comes.counts_are
           ∙ none_last (counts_on lcid (told_over s.before e)) (counts_on lcid (told_over s.behind begun)) told

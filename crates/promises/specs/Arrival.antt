@@ -27,37 +27,38 @@ only_if here hs = if here then hs else []
 
 -- a record, of what goes from a side, behind the block that was sent last; numbers of PDCP have so
 -- many bits
-abbrev pub tells_at : ℕ → ℕ → Side → List ℕ → Record → List AccountEntry
-tells_at bits l from sent (records.Of side event) =
+abbrev pub entries_at : ℕ → ℕ → Side → List ℕ → Record → List AccountEntry
+entries_at bits l from sent (records.Of side event) =
     only_if (is_same side from) (entries_given bits (told_on l (event ∷ [])))
-tells_at bits l from sent (records.Block direction process fresh version octets) =
+entries_at bits l from sent (records.Block direction process fresh version octets) =
     only_if (fresh && is_same (sender_of direction) from)
     (entries_written (carried l direction octets))
-tells_at bits l from sent (records.Air direction what heard) =
+entries_at bits l from sent (records.Air direction what heard) =
     only_if (is_got what && is_same (sender_of direction) from)
     (entries_come (carried l direction sent))
-tells_at bits l from sent one = []
+entries_at bits l from sent one = []
 
 -- records, behind a block that was sent
-abbrev pub tells_in : ℕ → ℕ → Side → List ℕ → List Record → List AccountEntry
-tells_in bits l from sent [] = []
-tells_in bits l from sent (one ∷ told) =
-    tells_at bits l from sent one ++ tells_in bits l from (sent_last one sent) told
+abbrev pub entries_in : ℕ → ℕ → Side → List ℕ → List Record → List AccountEntry
+entries_in bits l from sent [] = []
+entries_in bits l from sent (one ∷ told) =
+    entries_at bits l from sent one ++ entries_in bits l from (sent_last one sent) told
 
 -- a handover ends a life of each bearer
-abbrev pub ended_by : Line → List AccountEntry
-ended_by (lines.Handover user rrc integrity) = Renews ∷ []
-ended_by line = []
+abbrev pub entries_ended : Line → List AccountEntry
+entries_ended (lines.Handover user rrc integrity) = Renews ∷ []
+entries_ended line = []
 
 -- what is told of the PDUs that go from a side on a channel, as it writes them and as they come;
 -- numbers of PDCP have so many bits
-abbrev pub happened : ℕ → ℕ → Side → List Group → List AccountEntry
-happened bits lcid from [] = []
-happened bits lcid from (g ∷ past) =
-    happened bits lcid from past ++ (ended_by g.line ++ tells_in bits lcid from [] g.events)
+abbrev pub entries_from : ℕ → ℕ → Side → List Group → List AccountEntry
+entries_from bits lcid from [] = []
+entries_from bits lcid from (g ∷ past) =
+    entries_from bits lcid from past ++ (entries_ended g.line
+    ++ entries_in bits lcid from [] g.events)
 
-abbrev pub told_of : BearerConfig → ℕ → Side → List Group → Account
-told_of config lcid from past = account (happened config.pdcp_bits lcid from past) no_account
+abbrev pub account_of : BearerConfig → ℕ → Side → List Group → Account
+account_of config lcid from past = account (entries_from config.pdcp_bits lcid from past) no_account
 
 -- of those that it submitted, the SDUs that a side takes, as its `take` and `discard` records tell
 -- (TS 36.323 5.1.1, 5.4)
@@ -72,7 +73,7 @@ taken config lcid from past =
 pub record HandsUpWhatCame (config : BearerConfig) (from : Side) (lcid : ℕ)
     (past : List Group) : Type 0 where
   pub next : ℕ
-  pub least : IsLeast (has_come (told_of config lcid from past)) config.first next
+  pub least : IsLeast (has_come (account_of config lcid from past)) config.first next
   pub many : length (delivered (other from) lcid past) ≡ next - config.first
   pub which : delivered (other from) lcid past
       ≡ take (next - config.first) (taken config lcid from past)

@@ -26,10 +26,11 @@ pub record SentPdu : Type 0 where
   pub how : How
   pub sn : ℕ
 
-abbrev pub sends : List Event → List SentPdu
-sends [] = []
-sends (Send lcid how sn ∷ events) = record { lcid = lcid; how = how; sn = sn } ∷ sends events
-sends (event ∷ events) = sends events
+abbrev pub sent_pdus : List Event → List SentPdu
+sent_pdus [] = []
+sent_pdus (Send lcid how sn ∷ events) =
+    record { lcid = lcid; how = how; sn = sn } ∷ sent_pdus events
+sent_pdus (event ∷ events) = sent_pdus events
 
 -- ---- an SDU of RLC is a PDU of PDCP, as senders write it and as it is read (TS 36.323 6.2)
 
@@ -118,5 +119,5 @@ AreNamed modes sent sdus = ⊥
 -- ---- a new block has the PDUs that its bearers tell of, channel by channel and in their order
 
 -- the channels of the PDUs that are told of
-abbrev pub sent_on : List Event → List ℕ
-sent_on events = map (λ (s : SentPdu). s.lcid) (sends events)
+abbrev pub sent_lcids : List Event → List ℕ
+sent_lcids events = map (λ (s : SentPdu). s.lcid) (sent_pdus events)

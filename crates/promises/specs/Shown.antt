@@ -9,7 +9,7 @@ use Rattle.pdcp_pdu.specs.Pdus.{Sdu as DataPdu, Report}
 use Rattle.pdcp_pdu.specs.declared.pdu.PdcpKind.{PdcpKind}
 use Rattle.promises.specs.Names.{whole_sdus, Mode, Transparent, Unacknowledged, Acknowledged}
 use Rattle.promises.specs.Names.{SentPdu}
-use Rattle.promises.specs.Names.{sends}
+use Rattle.promises.specs.Names.{sent_pdus}
 use Rattle.rlc_pdu.specs.Pdus.{UmdPdu, AmdPdu, Payload, Status}
 use Rattle.rlc_pdu.specs.Reading.{umd_at, am_at}
 use Rattle.rlc_pdu.specs.declared.pdu.Segment.{Segment}
@@ -152,6 +152,6 @@ pub record IsShownBlock (side : Side) (t grant : ℕ) (kinds : List (Option Layo
     (told : List Record) : Type 0 where
   pub block : IsNewBlock side t grant kinds told
   pub known : AreKnown kinds block.block_is.modes
-  pub shown : AreShown block.block_is.modes (sends (events_of side told)) block.block_is.sdus
+  pub shown : AreShown block.block_is.modes (sent_pdus (events_of side told)) block.block_is.sdus
       (pdus_shown told)
   pub read : filter is_bad told ≡ []

@@ -3,7 +3,7 @@
 use Rattle.std.specs.Prelude.{ℕ, if◌then◌else◌, List, [], ◌∷◌, ◌++◌, ◌≡◌, false, Some, true}
 use Rattle.air_text.specs.Groups.{Group, history}
 use Rattle.l2_types.specs.declared.side.Side.{Side}
-use Rattle.promises.specs.Parts.{is_handover, part}
+use Rattle.promises.specs.Parts.{is_handover, part_of_line}
 use Rattle.promises.specs.Flows.{handed_in, looped_at}
 use Rattle.promises.specs.Records.{ups_in, events_of}
 use Rattle.bearer_types.specs.declared.Event.{Event}
@@ -23,7 +23,7 @@ abbrev pub submitted_since : Side → ℕ → List Group → List (List ℕ)
 submitted_since side lcid [] = []
 submitted_since side lcid (g ∷ past) =
     (if is_handover g.line then [] else submitted_since side lcid past)
-    ++ (handed_in side lcid (part g.line) g.events ++ looped_at side lcid g.events)
+    ++ (handed_in side lcid (part_of_line g.line) g.events ++ looped_at side lcid g.events)
 
 abbrev pub delivered_since : Side → ℕ → List Group → List (List ℕ)
 delivered_since side lcid [] = []
@@ -33,8 +33,8 @@ delivered_since side lcid (g ∷ past) =
 -- ---- what a side's PDCP lost there as it received it: PDUs that it couldn't read, whose COUNT it
 -- had before, or whose MAC-I differs (TS 36.323 5.1.2.2, 5.7)
 
-abbrev pub lost : Side → ℕ → List Group → List Event
-lost side lcid past = losses (told_on lcid (events_of side (history past)))
+abbrev pub losses_since : Side → ℕ → List Group → List Event
+losses_since side lcid past = losses (told_on lcid (events_of side (history past)))
 
 -- ---- on a channel
 
@@ -43,7 +43,7 @@ lost side lcid past = losses (told_on lcid (events_of side (history past)))
 pub record DeliversSignals (from : Side) (lcid : ℕ) (past : List Group) : Type 0 where
   pub front : AreFirstSdus (delivered_since (other from) lcid past) (submitted_since from lcid past)
   -- and it has lost nothing
-  pub none_lost : lost (other from) lcid past ≡ []
+  pub none_lost : losses_since (other from) lcid past ≡ []
 
 -- on each channel with a signalling bearer, where no block was forged
 abbrev pub SignalAll : List Group → Type 0

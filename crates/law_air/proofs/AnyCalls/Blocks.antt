@@ -27,7 +27,7 @@ use Rattle.law_node.specs.Calls.{Turn, Call as EndCall, SetVisits, SetReports, A
 use Rattle.law_node.specs.Calls.{TickBuckets, Visits, Grants, Granted, Assigned, Pass, Receive, Expire, Move, AreGiven}
 use Rattle.law_node.specs.Calls.{answered, after as after_call, run_end, reached}
 use Rattle.law_node.specs.Names.{modes_of}
-use Rattle.promises.specs.Names.{SentPdu, sends, AreNamed}
+use Rattle.promises.specs.Names.{SentPdu, sent_pdus, AreNamed}
 use Rattle.promises.specs.Events.{is_of_writing}
 use Rattle.law_node.proofs.Blocks.{has_what_was_written}
 use Rattle.law_node.proofs.Naming.{names_what_it_sends, tells_what_it_sends}
@@ -109,7 +109,7 @@ some_by t grant (orders.Grant ndi) e enough new = enough
 
 -- ---- what is told
 
-pub sends_kept : (es : List Event) → sends (filter is_of_writing es) ≡ sends es
+pub sends_kept : (es : List Event) → sent_pdus (filter is_of_writing es) ≡ sent_pdus es
 sends_kept [] = refl
 sends_kept (events.Send lcid how sn ∷ es) =
     ap (λ (l : List SentPdu). record { lcid = lcid; how = how; sn = sn } ∷ l) (sends_kept es)

@@ -25,7 +25,7 @@ use Rattle.mac_pdu.specs.declared.item.Direction.TheVariants as directions
 use Rattle.test_loop.specs.declared.Mode.{Mode}
 use Rattle.test_loop.specs.Items.{Item, item}
 use Rattle.test_loop.specs.Loops.{is_on, is_keeping, after_tick}
-use Rattle.promises.specs.Loops.{back, due, looped, on}
+use Rattle.promises.specs.Loops.{item_back, items_due, looped, item_count}
 use Rattle.law_air.proofs.AnyCalls.Gathering.{Seen, seen, Rests, rests_then, rests_unseen, rests_says, waiting}
 use Rattle.law_air.proofs.AnyCalls.Gathering.{Goes, goes_then, goes_resting, loops_go, pays_go}
 use Rattle.law_air.proofs.AnyCalls.Handing.{is_up}
@@ -78,7 +78,7 @@ nb_none (e ∷ es) = (refl, nb_none es)
 
 -- one that goes up waits where it may come back
 gathered : (b : Bool) (mode : Mode) (i : Item) (one : Record) (l : Link) → looped one ≡ []
-    → due mode one ≡ (if b then back mode i ∷ [] else []) → (b ≡ true → is_on mode ≡ true)
+    → items_due mode one ≡ (if b then item_back mode i ∷ [] else []) → (b ≡ true → is_on mode ≡ true)
     → Goes mode l (says one (if b then record l { ups = l.ups ++ i ∷ [] } else l))
 gathered false mode i one l none is on' s =
     let w = waiting mode l in
@@ -91,11 +91,11 @@ gathered false mode i one l none is on' s =
     }
 gathered true mode i one l none is on' s =
     let kept = l.looping.kept in
-    let before = kept ++ map (back mode) l.ups in
-    let after' = kept ++ map (back mode) (l.ups ++ i ∷ []) in
-    let same : before ++ (back mode i ∷ []) ≡ after' =
-    append_assoc kept (map (back mode) l.ups) (back mode i ∷ [])
-    ∙ ap (λ (x : List Item). kept ++ x) (sym (map-append (back mode) l.ups (i ∷ []))) in
+    let before = kept ++ map (item_back mode) l.ups in
+    let after' = kept ++ map (item_back mode) (l.ups ++ i ∷ []) in
+    let same : before ++ (item_back mode i ∷ []) ≡ after' =
+    append_assoc kept (map (item_back mode) l.ups) (item_back mode i ∷ [])
+    ∙ ap (λ (x : List Item). kept ++ x) (sym (map-append (item_back mode) l.ups (i ∷ []))) in
     record {
       more = one ∷ [];
       out_is = refl;
@@ -105,10 +105,11 @@ gathered true mode i one l none is on' s =
         none_waits = λ h. let no : true ≡ false = sym (on' refl) ∙ h in cc;
       };
       come_back =
-          back_one mode before after' one (rw none (rw is (part_of_same after' (before ++ (back mode i ∷ [])) same)))
+          back_one mode before after' one (rw none (rw is
+          (part_of_same after' (before ++ (item_back mode i ∷ [])) same)))
           (λ lcid.
-          let both : on lcid after' ≡ on lcid before + on lcid (back mode i ∷ []) =
-          ap (on lcid) (sym same) ∙ on_both lcid before (back mode i ∷ []) in
+          let both : item_count lcid after' ≡ item_count lcid before + item_count lcid (item_back mode i ∷ []) =
+          ap (item_count lcid) (sym same) ∙ on_both lcid before (item_back mode i ∷ []) in
           rw none (rw is (omega (arith, both))));
     }
 
@@ -126,8 +127,8 @@ up_goes mode lcid octets l s =
     let i = item lcid octets in
     let m = delivers Ue lcid l in
     let b = may_return l.looping.mode lcid octets in
-    let is : due mode one ≡ (if b then back mode i ∷ [] else []) =
-    ap (λ (x : Mode). if may_return x lcid octets then back mode i ∷ [] else []) (sym s.mode_is) in
+    let is : items_due mode one ≡ (if b then item_back mode i ∷ [] else []) =
+    ap (λ (x : Mode). if may_return x lcid octets then item_back mode i ∷ [] else []) (sym s.mode_is) in
     goes_then mode l m (says one (if b then record m { ups = m.ups ++ i ∷ [] } else m))
     (goes_resting mode l m (rests_unseen l m refl))
     (gathered b mode i one m refl is (λ e. ap is_on (sym s.mode_is)

@@ -55,7 +55,7 @@ use Rattle.test_loop.specs.Loops.{fresh as no_loop, is_keeping, after_set}
 use Rattle.law_air.specs.AnyCalls.Calls.{Call, Bears, Discards, Visits, Reports, Listens, Loops, Expires, Forges}
 use Rattle.law_air.specs.AnyCalls.Calls.{HandsOver, ReceiversExpire, SendersExpire, after}
 use Rattle.law_air.specs.AnyCalls.Loops.{ComeBack, IsAtRest, LoopsBack, mode_in}
-use Rattle.promises.specs.Loops.{back}
+use Rattle.promises.specs.Loops.{item_back}
 use Rattle.law_air.proofs.AnyCalls.Gathering.{Seen, seen, Rests, rests_then, rests_unseen, rests_says, waiting, Stands}
 use Rattle.law_air.proofs.AnyCalls.Gathering.{Goes, goes_then, goes_resting, loops_go, loops_empty, pays_all}
 use Rattle.law_air.proofs.AnyCalls.Handing.{building_none}
@@ -354,7 +354,7 @@ submitting_settles mode side lcid sdu l =
 
 -- where nothing waits, what may come back is what is kept
 kept_alone : (mode : Mode) (l : Link) → l.ups ≡ [] → waiting mode l ≡ l.looping.kept
-kept_alone mode l e = ap (λ (x : List Item). l.looping.kept ++ map (back mode) x) e ∙ append-nil l.looping.kept
+kept_alone mode l e = ap (λ (x : List Item). l.looping.kept ++ map (item_back mode) x) e ∙ append-nil l.looping.kept
 
 loops_back : (l m : Link) → Settles l.looping.mode l m → IsAtRest l → LoopsBack l.looping.mode l m
 loops_back l m p rests =
@@ -387,7 +387,7 @@ loop_set_back mode l rests =
     let m = loop_set mode l in
     let p = pays_all mode 0 l in
     let none : m.looping.kept ≡ [] = ap (λ (x : Seen). x.kept) p.seen_is in
-    let left : map (back mode) l.ups ≡ m.looping.kept = ap (map (back mode)) rests.none_waits ∙ sym none in
+    let left : map (item_back mode) l.ups ≡ m.looping.kept = ap (map (item_back mode)) rests.none_waits ∙ sym none in
     record {
       more = p.more;
       out_is = ap (λ (x : Seen). x.out) p.seen_is;

@@ -37,7 +37,7 @@ use Rattle.law_deliver.proofs.AmFlow.Stations.{come_more}
 use Rattle.law_words.specs.Arrivals.{AccountEntry}
 use Rattle.law_deliver.specs.AmChannel.Lives.{end_at}
 use Rattle.law_air.specs.TwoEnds.Arrival.{renewals_in}
-use Rattle.promises.specs.Arrival.{tells_in}
+use Rattle.promises.specs.Arrival.{entries_in}
 use Rattle.law_air.specs.TwoEnds.Staying.{is_handover_step, Stays, MovesOn}
 use Rattle.law_air.specs.TwoEnds.Going.{handed_in, sets, GoesOn, IsCallSince, IsStepSince}
 use Rattle.promises.specs.Flows.{looped_at}
@@ -108,7 +108,7 @@ goes_behind l t c s k a ends firsts fits at r same = record {
       told_is = r.goes.told_is;
       submitted_is = r.goes.submitted_is;
       happened_is = λ bits from. r.goes.reads bits from [] (fits [])
-          ∙ ap (λ (hs : List AccountEntry). hs ++ tells_in bits l from [] r.more) ends;
+          ∙ ap (λ (hs : List AccountEntry). hs ++ entries_in bits l from [] r.more) ends;
       sets_none = r.goes.sets_none;
       on = subst (IsOn (step s k)) (sym r.goes.air_is) (both_on t (step s k) r.air same r.both);
     };

@@ -35,7 +35,7 @@ use Rattle.law_deliver.specs.UmGaps.Whats.{expiries}
 use Rattle.promises.specs.Flows.{loops_in, looped_at}
 use Rattle.law_air.specs.TwoEnds.Shown.{IsShown}
 use Rattle.law_air.specs.TwoEnds.On.{until, IsStation}
-use Rattle.promises.specs.Arrival.{tells_in}
+use Rattle.promises.specs.Arrival.{entries_in}
 use Rattle.law_air.proofs.TwoEnds.Showing.{Shows, got_own, got_hidden}
 use Rattle.law_air.proofs.TwoEnds.Going.{Marks, Behind, Any, Block', Fits, IsAt, last_in, no_whats}
 use Rattle.law_air.proofs.TwoEnds.Steps.{call_whats}
@@ -80,13 +80,13 @@ came l p Nb e b es is same bits Nb c heard at = got_hidden Ue l c heard es
 
 -- of the side where it comes that tells nothing, of the other what it carries
 own_air : (bits l : ℕ) (side : Side) (sent : List ℕ) (heard : Option Bool) (es : List Event)
-    → TellNoAir (map (records.Of side) es) → tells_in bits l side sent (heard_as side heard es) ≡ []
+    → TellNoAir (map (records.Of side) es) → entries_in bits l side sent (heard_as side heard es) ≡ []
 own_air bits l Nb sent heard es quiet = quiet bits l Nb sent
 own_air bits l Ue sent heard es quiet = quiet bits l Ue sent
 
 other_air : (bits l : ℕ) (side : Side) (sent : List ℕ) (heard : Option Bool) (es : List Event)
     → TellNoAir (map (records.Of side) es)
-    → tells_in bits l (other side) sent (heard_as side heard es) ≡ entries_come (carried l (heard_by side) sent)
+    → entries_in bits l (other side) sent (heard_as side heard es) ≡ entries_come (carried l (heard_by side) sent)
 other_air bits l Nb sent heard es quiet =
     ap (λ (hs : List AccountEntry). entries_come (carried l directions.Up sent) ++ hs) (quiet bits l Ue sent)
     ∙ append-nil (entries_come (carried l directions.Up sent))
@@ -206,8 +206,8 @@ pub record Visited (l : ℕ) (side : Side) (t : Turn) (told : List Record) (k m 
   pub unlooped : (n : ℕ) → loops_in n told ≡ []
   -- what is told of the air, by an end of the side; and the block that is sent
   pub says : (bits l : ℕ) (sent : List ℕ) → HasCome side (end_of side k)
-      → said_in bits l (end_of side k) (Visits t) ≡ tells_in bits l side sent told
-  pub hears : (bits l : ℕ) (sent : List ℕ) → [] ≡ tells_in bits l (other side) sent told
+      → said_in bits l (end_of side k) (Visits t) ≡ entries_in bits l side sent told
+  pub hears : (bits l : ℕ) (sent : List ℕ) → [] ≡ entries_in bits l (other side) sent told
   pub kinds_are : m.kinds ≡ k.kinds
   pub shown : HasCome side (end_of side k) → Shows l k.kinds told (call_whats side l (end_of side k) (Visits t))
 

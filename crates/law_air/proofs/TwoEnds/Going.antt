@@ -14,7 +14,7 @@ use Rattle.law_air.proofs.AnyCalls.Going.{told_both, over_on}
 use Rattle.law_deliver.specs.AmFlow.Air.{Station, Air}
 use Rattle.law_words.specs.Arrivals.{AccountEntry, Renews}
 use Rattle.law_deliver.specs.AmChannel.Arrival.{happens_in, happened}
-use Rattle.promises.specs.Arrival.{tells_at, tells_in}
+use Rattle.promises.specs.Arrival.{entries_at, entries_in}
 use Rattle.law_deliver.specs.AmChannel.Delivery.{submitted_in, was_submitted, SetNone}
 use Rattle.law_deliver.specs.AmChannel.Lives.{AirStep, InLife, Moves, AreLiving, lives_on, lives, end_at}
 use Rattle.law_deliver.specs.AmChannel.Lives.{calls_at, all_calls}
@@ -154,7 +154,7 @@ last_in (one ∷ told) sent = last_in told (sent_last one sent)
 
 abbrev pub Reads : ℕ → Behind → List Record → List AirStep → Air → Type 0
 Reads l c told steps a = (bits : ℕ) (from : Side) (sent : List ℕ) → Fits c sent
-    → happened bits l from steps a ≡ ended c ++ tells_in bits l from sent told
+    → happened bits l from steps a ≡ ended c ++ entries_in bits l from sent told
 
 -- what steps are to an unacknowledged flow from each side, by the bits of its numbers
 abbrev pub Whats : Type 0
@@ -200,13 +200,13 @@ happened_more bits l from (x ∷ xs) ys a =
     (happened bits l from ys (lives xs (lives_on a x))))
 
 pub tells_more : (bits l : ℕ) (from : Side) (sent : List ℕ) (f g : List Record)
-    → tells_in bits l from sent (f ++ g) ≡ tells_in bits l from sent f ++ tells_in bits l from (last_in f sent) g
+    → entries_in bits l from sent (f ++ g) ≡ entries_in bits l from sent f ++ entries_in bits l from (last_in f sent) g
 tells_more bits l from sent [] g = refl
 tells_more bits l from sent (one ∷ f) g =
-    ap (λ (hs : List AccountEntry). tells_at bits l from sent one ++ hs)
+    ap (λ (hs : List AccountEntry). entries_at bits l from sent one ++ hs)
     (tells_more bits l from (sent_last one sent) f g)
-    ∙ sym (append_assoc (tells_at bits l from sent one) (tells_in bits l from (sent_last one sent) f)
-    (tells_in bits l from (last_in f (sent_last one sent)) g))
+    ∙ sym (append_assoc (entries_at bits l from sent one) (entries_in bits l from (sent_last one sent) f)
+    (entries_in bits l from (last_in f (sent_last one sent)) g))
 
 pub behind_then : (l : ℕ) (set : Marks) (c d : Behind) (f g : List Record) (x y : Side → ℕ
     → List (List ℕ)) {v w : Whats} (a b e : Air) → ended d ≡ []
@@ -239,8 +239,8 @@ behind_then l set c d f g x y {v} {w} a b e none left p q =
           (unset_more l (all_calls side ss a) (all_calls side ts z) (p.sets_none off side) second);
       stays = λ off. in_life_more ss ts (p.stays off) (q.stays off);
       reads = λ bits from sent fits.
-          let one = tells_in bits l from sent f in
-          let two = tells_in bits l from (last_in f sent) g in
+          let one = entries_in bits l from sent f in
+          let two = entries_in bits l from (last_in f sent) g in
           let second : happened bits l from ts z ≡ two =
           ap (λ (w : Air). happened bits l from ts w) p.air_is
           ∙ (q.reads bits from (last_in f sent) (left sent fits) ∙ ap (λ (hs : List AccountEntry). hs ++ two) none)
@@ -287,7 +287,7 @@ weaken l set c told given {ws} a b open' p = record {
   sets_none = p.sets_none;
   stays = p.stays;
   reads = λ bits from sent fits. p.reads bits from sent tt
-      ∙ sym (ap (λ (hs : List AccountEntry). hs ++ tells_in bits l from sent told) open');
+      ∙ sym (ap (λ (hs : List AccountEntry). hs ++ entries_in bits l from sent told) open');
   whats_are = p.whats_are;
   air_is = p.air_is;
 }
@@ -314,7 +314,7 @@ none side n = []
 
 -- records that tell of nothing that goes by air
 abbrev pub TellNoAir : List Record → Type 0
-TellNoAir told = (bits l : ℕ) (from : Side) (sent : List ℕ) → tells_in bits l from sent told ≡ []
+TellNoAir told = (bits l : ℕ) (from : Side) (sent : List ℕ) → entries_in bits l from sent told ≡ []
 
 -- records that tell nothing of an end
 pub goes_none : (l : ℕ) (set : Marks) (c : Behind) (told : List Record) (a : Air) → ended c ≡ []
@@ -327,7 +327,7 @@ goes_none l set c told a open' untold unflown = record {
   sets_none = λ off side. tt;
   stays = λ off. tt;
   reads =
-      λ bits from sent fits. sym (ap (λ (hs : List AccountEntry). hs ++ tells_in bits l from sent told) open'
+      λ bits from sent fits. sym (ap (λ (hs : List AccountEntry). hs ++ entries_in bits l from sent told) open'
       ∙ unflown bits l from sent);
   whats_are = λ bits from. refl;
   air_is = refl;

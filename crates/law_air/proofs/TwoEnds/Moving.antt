@@ -28,7 +28,7 @@ use Rattle.law_air.specs.TwoEnds.Shown.{IsShown}
 use Rattle.law_air.specs.TwoEnds.On.{until, block_at, IsStation}
 use Rattle.law_words.specs.Arrivals.{AccountEntry}
 use Rattle.law_node.proofs.Silences.{writes_nothing}
-use Rattle.promises.specs.Arrival.{tells_in}
+use Rattle.promises.specs.Arrival.{entries_in}
 use Rattle.law_air.proofs.TwoEnds.Going.{moving, Any, Renewed, last_in, TellNoAir, tells_more}
 use Rattle.law_air.proofs.TwoEnds.Steps.{goes_move, move_whats}
 use Rattle.law_air.proofs.TwoEnds.Showing.{in_both, events_own, events_hidden}
@@ -84,7 +84,7 @@ moved_stands side w t s keys h =
 
 both_quiet : (f g : List Record) → TellNoAir f → TellNoAir g → TellNoAir (f ++ g)
 both_quiet f g p q bits l from sent = tells_more bits l from sent f g
-    ∙ (ap (λ (hs : List AccountEntry). hs ++ tells_in bits l from (last_in f sent) g) (p bits l from sent)
+    ∙ (ap (λ (hs : List AccountEntry). hs ++ entries_in bits l from (last_in f sent) g) (p bits l from sent)
     ∙ q bits l from (last_in f sent))
 
 -- what they hand up as they leave is told

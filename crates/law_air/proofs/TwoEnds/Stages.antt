@@ -34,7 +34,7 @@ use Rattle.law_deliver.specs.UmGaps.Whats.{sent_in, expiries}
 use Rattle.promises.specs.Flows.{loops_in, looped_at}
 use Rattle.law_air.specs.TwoEnds.Shown.{IsShown}
 use Rattle.law_air.specs.TwoEnds.On.{IsStation}
-use Rattle.promises.specs.Arrival.{only_if, tells_at, tells_in}
+use Rattle.promises.specs.Arrival.{only_if, entries_at, entries_in}
 use Rattle.law_air.proofs.TwoEnds.Showing.{in_then, behind_then as place_then, events_own, events_hidden}
 use Rattle.law_air.proofs.TwoEnds.Going.{Marks, station, with_station, Behind, Any, Block', Renewed, Unread, Fits, IsAt}
 use Rattle.law_air.proofs.TwoEnds.Going.{ended, first_whats, last_in, Whats, no_whats, GoesBehind, Goes}
@@ -236,7 +236,7 @@ told_stage l set c d told k m P Q open' left stands unflown nb ue out untold unl
 
 -- a record that tells of nothing that goes by air
 abbrev pub IsNoAir : Record → Type 0
-IsNoAir one = (bits l : ℕ) (from : Side) (sent : List ℕ) → tells_at bits l from sent one ≡ []
+IsNoAir one = (bits l : ℕ) (from : Side) (sent : List ℕ) → entries_at bits l from sent one ≡ []
 
 abbrev pub IsNoChange : Record → Type 0
 IsNoChange one = (p : Place) → change_of one p ≡ None
@@ -534,9 +534,9 @@ quiet_events side (e ∷ es) q bits l from sent =
     by (is_of_writing e) refl q (λ r. quiet_events side es r bits l from sent)
   where
     by : (b : Bool) → is_of_writing e ≡ b → cond b (e ∷ filter is_of_writing es) (filter is_of_writing es) ≡ []
-        → (TellNone es → tells_in bits l from sent (map (records.Of side) es) ≡ [])
-        → tells_in bits l from sent (map (records.Of side) (e ∷ es)) ≡ []
+        → (TellNone es → entries_in bits l from sent (map (records.Of side) es) ≡ [])
+        → entries_in bits l from sent (map (records.Of side) (e ∷ es)) ≡ []
     by true p r rest = cc
     by false p r rest =
-        ap (λ (hs : List AccountEntry). hs ++ tells_in bits l from sent (map (records.Of side) es))
+        ap (λ (hs : List AccountEntry). hs ++ entries_in bits l from sent (map (records.Of side) es))
         (none_if (is_same side from) (entries_given bits (told_on l (e ∷ []))) (unwritten bits l e p)) ∙ rest r

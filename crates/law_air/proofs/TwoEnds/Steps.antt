@@ -22,7 +22,7 @@ use Rattle.law_deliver.specs.AmFlow.Air.{calls, comes, passed, outset, IsCalling
 use Rattle.law_deliver.specs.AmFlow.Channels.{GoesOnInLife}
 use Rattle.law_words.specs.Arrivals.{AccountEntry, Renews}
 use Rattle.law_deliver.specs.AmChannel.Arrival.{said_in, heard_in, said_over, heard_over, happened}
-use Rattle.promises.specs.Arrival.{tells_in}
+use Rattle.promises.specs.Arrival.{entries_in}
 use Rattle.law_deliver.specs.AmChannel.Delivery.{submitted_in, was_submitted, sets_discard, SetNone}
 use Rattle.law_deliver.specs.AmChannel.Lives.{AirStep, InLife, Moves, brought}
 use Rattle.law_rlc.specs.AmPair.Flow.{except}
@@ -49,8 +49,8 @@ pub record Says (side : Side) (told : List Record) (given : Side → ℕ
   pub other_told : events_of (other side) told ≡ []
   pub submitted_is : (n : ℕ) → submitted_in n e c ≡ given side n
   pub other_submitted : (n : ℕ) → [] ≡ given (other side) n
-  pub says : (bits l : ℕ) (sent : List ℕ) → said_in bits l e c ≡ tells_in bits l side sent told
-  pub hears : (bits l : ℕ) (sent : List ℕ) → heard_in l e c ≡ tells_in bits l (other side) sent told
+  pub says : (bits l : ℕ) (sent : List ℕ) → said_in bits l e c ≡ entries_in bits l side sent told
+  pub hears : (bits l : ℕ) (sent : List ℕ) → heard_in l e c ≡ entries_in bits l (other side) sent told
 
 -- an end's one call, by what it sends and by what it hears
 said_one : (bits l : ℕ) (e : End) (c : EndCall) → ((said_in bits l e c ++ []) ++ []) ++ [] ≡ said_in bits l e c
@@ -112,7 +112,7 @@ goes_call l set Nb told given c a g life calling x =
       stays = λ off. tt;
       reads =
           λ bits from sent fits. by_sides (λ (side : Side). happened bits l side xs a
-          ≡ tells_in bits l side sent told) (said_one bits l a.nb.end c ∙ x.says bits l sent)
+          ≡ entries_in bits l side sent told) (said_one bits l a.nb.end c ∙ x.says bits l sent)
           (heard_one l a.nb.end c ∙ x.hears bits l sent) from;
       whats_are = whats_by l xs a (call_whats Nb l a.nb.end c) (λ bits. append-nil (sent_in Nb l bits a.nb.end c))
           (λ bits. append-nil (expiries l (told_of a.nb.end c)));
@@ -131,7 +131,7 @@ goes_call l set Ue told given c a g life calling x =
       stays = λ off. tt;
       reads =
           λ bits from sent fits. by_sides (λ (side : Side). happened bits l side xs a
-          ≡ tells_in bits l side sent told) (heard_one l a.ue.end c ∙ x.hears bits l sent)
+          ≡ entries_in bits l side sent told) (heard_one l a.ue.end c ∙ x.hears bits l sent)
           (said_one bits l a.ue.end c ∙ x.says bits l sent) from;
       whats_are = whats_by l xs a (call_whats Ue l a.ue.end c) (λ bits. append-nil (expiries l (told_of a.ue.end c)))
           (λ bits. append-nil (sent_in Ue l bits a.ue.end c));
@@ -142,9 +142,9 @@ goes_call l set Ue told given c a g life calling x =
 
 -- the records tell that it comes, of what the other end sends
 pub record Brings (l : ℕ) (c : Behind) (side : Side) (told : List Record) (octets : List ℕ) (e : End) : Type 0 where
-  pub own : (bits : ℕ) (sent : List ℕ) → Fits c sent → tells_in bits l side sent told ≡ []
+  pub own : (bits : ℕ) (sent : List ℕ) → Fits c sent → entries_in bits l side sent told ≡ []
   pub far : (bits : ℕ) (sent : List ℕ) → Fits c sent
-      → tells_in bits l (other side) sent told ≡ heard_in l e (Receive octets)
+      → entries_in bits l (other side) sent told ≡ heard_in l e (Receive octets)
 
 none_said : (bits l : ℕ) (o : Option Block) (e : End) → (said_over bits l (brought o) e ++ []) ++ [] ≡ []
 none_said bits l None e = refl
@@ -176,13 +176,13 @@ goes_come l set c Nb told k b a open' brings there is untold =
       stays = λ off. tt;
       reads =
           λ bits from sent fits. by_sides (λ (s : Side). happened bits l s xs a
-          ≡ ended c ++ tells_in bits l s sent told)
+          ≡ ended c ++ entries_in bits l s sent told)
           (none_said bits l (slice_get a.ue.blocks k) e
-          ∙ sym (ap (λ (hs : List AccountEntry). hs ++ tells_in bits l Nb sent told) open'
+          ∙ sym (ap (λ (hs : List AccountEntry). hs ++ entries_in bits l Nb sent told) open'
           ∙ brings.own bits sent fits))
           (ap (λ (o : Option Block). ([] ++ heard_over l (brought o) e) ++ []) there
           ∙ (heard_one l e (Receive b.octets)
-          ∙ sym (ap (λ (hs : List AccountEntry). hs ++ tells_in bits l Ue sent told) open'
+          ∙ sym (ap (λ (hs : List AccountEntry). hs ++ entries_in bits l Ue sent told) open'
           ∙ brings.far bits sent fits))) from;
       whats_are = whats_by l xs a (come_whats Nb l e b) (λ bits. refl)
           (λ bits. append-nil (what_came l e (slice_get a.ue.blocks k)) ∙ ap (what_came l e) there);
@@ -204,13 +204,13 @@ goes_come l set c Ue told k b a open' brings there is untold =
       stays = λ off. tt;
       reads =
           λ bits from sent fits. by_sides (λ (s : Side). happened bits l s xs a
-          ≡ ended c ++ tells_in bits l s sent told)
+          ≡ ended c ++ entries_in bits l s sent told)
           (ap (λ (o : Option Block). ([] ++ heard_over l (brought o) e) ++ []) there
           ∙ (heard_one l e (Receive b.octets)
-          ∙ sym (ap (λ (hs : List AccountEntry). hs ++ tells_in bits l Nb sent told) open'
+          ∙ sym (ap (λ (hs : List AccountEntry). hs ++ entries_in bits l Nb sent told) open'
           ∙ brings.far bits sent fits)))
           (none_said bits l (slice_get a.nb.blocks k) e
-          ∙ sym (ap (λ (hs : List AccountEntry). hs ++ tells_in bits l Ue sent told) open'
+          ∙ sym (ap (λ (hs : List AccountEntry). hs ++ entries_in bits l Ue sent told) open'
           ∙ brings.own bits sent fits)) from;
       whats_are =
           whats_by l xs a (come_whats Ue l e b) (λ bits. append-nil (what_came l e (slice_get a.nb.blocks k))
@@ -236,7 +236,7 @@ goes_move l set told keys a unflown nb ue =
       stays = λ off. absurd cc;
       reads =
           λ bits from sent fits. by_sides (λ (s : Side). happened bits l s xs a
-          ≡ Renews ∷ tells_in bits l s sent told)
+          ≡ Renews ∷ entries_in bits l s sent told)
           (ap (λ (hs : List AccountEntry). Renews ∷ hs) (sym (unflown bits l Nb sent)))
           (ap (λ (hs : List AccountEntry). Renews ∷ hs) (sym (unflown bits l Ue sent))) from;
       whats_are = whats_by l xs a (move_whats l a keys) (λ bits. append-nil (move_whats l a keys bits Nb))

@@ -43,7 +43,7 @@ use Rattle.law_deliver.proofs.AmFlow.Stations.{come_side}
 use Rattle.law_deliver.specs.AmChannel.Arrival.{said_in}
 use Rattle.mac_pdu.specs.Reading.{reading}
 use Rattle.l2_node.specs.Writing.{new_block}
-use Rattle.promises.specs.Arrival.{only_if, tells_at, tells_in}
+use Rattle.promises.specs.Arrival.{only_if, entries_at, entries_in}
 use Rattle.law_air.proofs.TwoEnds.Going.{last_in, tells_more}
 use Rattle.law_air.proofs.TwoEnds.Showing.{IsSending}
 use Rattle.law_air.proofs.TwoEnds.Stages.{last_more}
@@ -135,11 +135,11 @@ told_first l e es = by (is_on l e)
     by false = refl
 
 own_tell : (bits l : ℕ) (side : Side) (es : List Event) (sent : List ℕ)
-    → tells_in bits l side sent (map (records.Of side) es) ≡ entries_given bits (told_on l es)
+    → entries_in bits l side sent (map (records.Of side) es) ≡ entries_given bits (told_on l es)
 own_tell bits l side [] sent = refl
 own_tell bits l side (e ∷ es) sent =
     ap (λ (b : Bool). only_if b (entries_given bits (told_on l (e ∷ [])))
-    ++ tells_in bits l side sent (map (records.Of side) es)) (itself side)
+    ++ entries_in bits l side sent (map (records.Of side) es)) (itself side)
     ∙ (ap (λ (hs : List AccountEntry). entries_given bits (told_on l (e ∷ [])) ++ hs) (own_tell bits l side es sent)
     ∙ (sym (gives_then bits (told_on l (e ∷ [])) (told_on l es)) ∙ ap (entries_given bits) (sym (told_first l e es))))
   where
@@ -148,11 +148,11 @@ own_tell bits l side (e ∷ es) sent =
     itself Ue = refl
 
 pub others_tell : (bits l : ℕ) (side : Side) (es : List Event) (sent : List ℕ)
-    → tells_in bits l (other side) sent (map (records.Of side) es) ≡ []
+    → entries_in bits l (other side) sent (map (records.Of side) es) ≡ []
 others_tell bits l side [] sent = refl
 others_tell bits l side (e ∷ es) sent =
     ap (λ (b : Bool). only_if b (entries_given bits (told_on l (e ∷ [])))
-    ++ tells_in bits l (other side) sent (map (records.Of side) es)) (apart side)
+    ++ entries_in bits l (other side) sent (map (records.Of side) es)) (apart side)
     ∙ others_tell bits l side es sent
   where
     apart : (s : Side) → is_same s (other s) ≡ false
@@ -161,7 +161,7 @@ others_tell bits l side (e ∷ es) sent =
 
 -- nor does what shows a block
 shown_at : (bits l : ℕ) (from : Side) (sent : List ℕ) (one : Record) → is_shown one ≡ true
-    → tells_at bits l from sent one ≡ []
+    → entries_at bits l from sent one ≡ []
 shown_at bits l from sent (records.Of side event) e = cc
 shown_at bits l from sent (records.Block direction process fresh version octets) e = cc
 shown_at bits l from sent (records.Air direction what heard) e = cc
@@ -172,10 +172,10 @@ shown_last (records.Block direction process fresh version octets) sent e = cc
 shown_last one sent e = refl
 
 shown_tell : (told : List Record) → AllShown told → (bits l : ℕ) (from : Side) (sent : List ℕ)
-    → tells_in bits l from sent told ≡ []
+    → entries_in bits l from sent told ≡ []
 shown_tell [] a bits l from sent = refl
 shown_tell (one ∷ told) a bits l from sent =
-    ap (λ (hs : List AccountEntry). hs ++ tells_in bits l from (sent_last one sent) told)
+    ap (λ (hs : List AccountEntry). hs ++ entries_in bits l from (sent_last one sent) told)
     (shown_at bits l from sent one a.0) ∙ shown_tell told a.1 bits l from (sent_last one sent)
 
 shown_leave : (told : List Record) → AllShown told → (sent : List ℕ) → last_in told sent ≡ sent
@@ -204,14 +204,14 @@ visit_last v side t kinds octets e sent' s =
 sent_tells : (v : Visit) (bits l : ℕ) (side : Side) (t : Turn) (kinds : List (Option Layout)) (octets : List ℕ)
     (e : End) (sent' : List ℕ) → visit t.tti t.order e ≡ v → HasCome side e
     → octets ≡ block_at t.tti (built t.tti t.grant t.order e)
-    → tells_in bits l side sent' (sent v side t.tti kinds octets)
+    → entries_in bits l side sent' (sent v side t.tti kinds octets)
     ≡ entries_written
     (flat_map (carried l (sent_by e.side)) (map (λ (x : Block). x.octets) (built_at v t (visited t.tti t.order e))))
 sent_tells New bits l side t kinds octets e sent' is come are =
     let own : (new_block (visited t.tti t.order e) t.grant) ≡ octets =
     sym (block_is t.tti t.grant t.order e (come_eight side e come) is) ∙ sym are in
     ap (λ (b : Bool). only_if b (entries_written (carried l (sent_by side) octets))
-    ++ tells_in bits l side octets (block_shown (sent_by side) kinds octets)) (itself side)
+    ++ entries_in bits l side octets (block_shown (sent_by side) kinds octets)) (itself side)
     ∙ (ap (λ (hs : List AccountEntry). entries_written (carried l (sent_by side) octets) ++ hs)
     (shown_tell (block_shown (sent_by side) kinds octets) (block_shows kinds (reading (sent_by side) octets)) bits l
     side octets)
@@ -232,7 +232,7 @@ pub visit_says : (v : Visit) (bits l : ℕ) (side : Side) (t : Turn) (kinds : Li
     (e : End) (sent' : List ℕ) → visit t.tti t.order e ≡ v → HasCome side e
     → octets ≡ block_at t.tti (built t.tti t.grant t.order e)
     → said_in bits l e (Visits t)
-    ≡ tells_in bits l side sent' (visit_records v side t.tti t.grant t.order kinds octets e)
+    ≡ entries_in bits l side sent' (visit_records v side t.tti t.grant t.order kinds octets e)
 visit_says v bits l side t kinds octets e sent' is come are =
     let es = building t.tti t.grant t.order e in
     let xs = map (records.Of side) es in
@@ -242,14 +242,14 @@ visit_says v bits l side t kinds octets e sent' is come are =
     ++ entries_written (flat_map (carried l (sent_by e.side)) (map (λ (x : Block). x.octets) (built_at w t f)))) is
     ∙ (ap (λ (hs : List AccountEntry). entries_given bits (told_on l es) ++ hs)
     (sym (sent_tells v bits l side t kinds octets e (last_in xs sent') is come are))
-    ∙ (ap (λ (hs : List AccountEntry). hs ++ tells_in bits l side (last_in xs sent') ys)
+    ∙ (ap (λ (hs : List AccountEntry). hs ++ entries_in bits l side (last_in xs sent') ys)
     (sym (own_tell bits l side es sent')) ∙ sym (tells_more bits l side sent' xs ys)))
 
 sent_hears : (v : Visit) (bits l : ℕ) (side : Side) (t : ℕ) (kinds : List (Option Layout)) (octets sent' : List ℕ)
-    → tells_in bits l (other side) sent' (sent v side t kinds octets) ≡ []
+    → entries_in bits l (other side) sent' (sent v side t kinds octets) ≡ []
 sent_hears New bits l side t kinds octets sent' =
     ap (λ (b : Bool). only_if b (entries_written (carried l (sent_by side) octets))
-    ++ tells_in bits l (other side) octets (block_shown (sent_by side) kinds octets)) (apart side)
+    ++ entries_in bits l (other side) octets (block_shown (sent_by side) kinds octets)) (apart side)
     ∙ shown_tell (block_shown (sent_by side) kinds octets) (block_shows kinds (reading (sent_by side) octets)) bits l
     (other side) octets
   where
@@ -261,18 +261,18 @@ sent_hears Quiet bits l side t kinds octets sent' = refl
 
 pub visit_hears : (v : Visit) (bits l : ℕ) (side : Side) (t : Turn) (kinds : List (Option Layout)) (octets : List ℕ)
     (e : End) (sent' : List ℕ)
-    → tells_in bits l (other side) sent' (visit_records v side t.tti t.grant t.order kinds octets e) ≡ []
+    → entries_in bits l (other side) sent' (visit_records v side t.tti t.grant t.order kinds octets e) ≡ []
 visit_hears v bits l side t kinds octets e sent' =
     let es = building t.tti t.grant t.order e in
     let xs = map (records.Of side) es in
     let ys = sent v side t.tti kinds octets in
     tells_more bits l (other side) sent' xs ys
-    ∙ (ap (λ (hs : List AccountEntry). hs ++ tells_in bits l (other side) (last_in xs sent') ys)
+    ∙ (ap (λ (hs : List AccountEntry). hs ++ entries_in bits l (other side) (last_in xs sent') ys)
     (others_tell bits l side es sent') ∙ sent_hears v bits l side t.tti kinds octets (last_in xs sent'))
 
 pub quiet_says : (bits l : ℕ) (side : Side) (t : Turn) (e : End) (sent' : List ℕ) → visit t.tti t.order e ≡ Quiet
     → said_in bits l e (Visits t)
-    ≡ tells_in bits l side sent' (map (records.Of side) (building t.tti t.grant t.order e))
+    ≡ entries_in bits l side sent' (map (records.Of side) (building t.tti t.grant t.order e))
 quiet_says bits l side t e sent' is =
     let es = building t.tti t.grant t.order e in
     ap (λ (w : Visit). entries_given bits (told_on l es)

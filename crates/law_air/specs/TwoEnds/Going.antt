@@ -17,7 +17,7 @@ use Rattle.law_deliver.specs.AmChannel.Arrival.{happened}
 use Rattle.law_deliver.specs.AmChannel.Delivery.{accepted, was_submitted, SetNone}
 use Rattle.law_deliver.specs.AmChannel.Lives.{AirStep, AreLiving, lives, end_at, all_calls}
 use Rattle.law_air.specs.TwoEnds.Arrival.{told_by_step}
-use Rattle.promises.specs.Arrival.{tells_in}
+use Rattle.promises.specs.Arrival.{entries_in}
 use Rattle.um_losses.specs.Names.{Place}
 use Rattle.um_losses.specs.Told.{told_in}
 use Rattle.law_deliver.specs.UmGaps.Whats.{whats}
@@ -47,7 +47,7 @@ sets l s = false
 -- what records tell of the air, whichever block was sent before them
 abbrev pub TellAlone : ℕ → List Record → Type 0
 TellAlone l told = (bits : ℕ) (from : Side) (sent : List ℕ)
-    → tells_in bits l from sent told ≡ tells_in bits l from [] told
+    → entries_in bits l from sent told ≡ entries_in bits l from [] told
 
 -- steps that keep what is asked in lives of the channel's bearers bring the ends to those of a
 -- link; the records tell of each end exactly what it tells in its calls, in these it is submitted

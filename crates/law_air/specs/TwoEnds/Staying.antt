@@ -12,7 +12,7 @@ use Rattle.promises.specs.Records.{events_of}
 use Rattle.law_air.specs.AnyCalls.Runs.{Step, Calls, step}
 use Rattle.law_deliver.specs.AmFlow.Air.{Air, outset}
 use Rattle.law_deliver.specs.AmChannel.Lives.{AirStep, InLife, Moves, end_at}
-use Rattle.promises.specs.Arrival.{tells_in}
+use Rattle.promises.specs.Arrival.{entries_in}
 use Rattle.law_air.specs.TwoEnds.Going.{GoesByAir, GoesOn, IsStepSince}
 use Rattle.promises.specs.Flows.{looped_at}
 use Rattle.law_air.specs.TwoEnds.On.{IsOn}
@@ -43,7 +43,7 @@ pub record MovesOn (l : ℕ) (keys : Keys) (k : Link) (a : Air) : Type 0 where
   pub told_is : (side : Side) → events_of side leaving ≡ told_of (end_at side a) (Move keys)
   pub none_looped : (side : Side) (n : ℕ) → looped_at side n leaving ≡ []
   pub by : GoesByAir l behind (λ side n. looped_at side n behind)
-      (λ bits from. tells_in bits l from [] behind) false (step (Calls (HandsOver keys)) k)
+      (λ bits from. entries_in bits l from [] behind) false (step (Calls (HandsOver keys)) k)
       (outset (after a.nb.end (Move keys)) (after a.ue.end (Move keys)))
   pub in_life : AreInLife by.steps
 
