@@ -16,6 +16,7 @@ pub mod Blocks
 pub mod Named
 pub mod Gathering
 pub mod Handing
+pub mod Ends
 pub mod Settling
 pub mod Others
 pub mod Bringing

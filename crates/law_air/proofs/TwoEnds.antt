@@ -2,10 +2,12 @@ pub mod Processes
 pub mod Flying
 pub mod Stations
 pub mod Going
+pub mod Steps
 pub mod Showing
 pub mod Stages
 pub mod Blocks
 pub mod Resting
+pub mod Visits
 pub mod Visiting
 pub mod Moving
 pub mod Advancing

@@ -1,6 +1,7 @@
 pub mod Sender
 pub mod Orders
 pub mod Parts
+pub mod Feeding
 pub mod Acknowledged
 pub mod Unacknowledged
 pub mod Flows

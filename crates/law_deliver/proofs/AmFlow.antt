@@ -9,7 +9,9 @@ pub mod Octets
 pub mod Loads
 pub mod Stations
 pub mod Visiting
+pub mod Acts
 pub mod Air
+pub mod Accepting
 pub mod Links
 pub mod Lives
 pub mod Events

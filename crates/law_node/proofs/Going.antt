@@ -36,7 +36,7 @@ use Rattle.law_node.specs.Bearers.{keys_in, moves, adds, AddNone}
 use Rattle.promises.specs.Counts.{counts_on}
 use Rattle.law_node.specs.Calls.{Turn, Call, SetVisits, SetReports, Add, Submit, SetDiscard, Tick, TickBuckets, Visits}
 use Rattle.law_node.specs.Calls.{Grants, Granted, Assigned, Pass, Receive, Expire, Move, IsGiven, AreGiven, answered}
-use Rattle.law_node.specs.Calls.{after_submit, after, run}
+use Rattle.law_node.specs.Calls.{after_submit, after, run_end}
 use Rattle.law_node.specs.Telling.{told_of, told_over}
 use Rattle.law_node.specs.Writing.{TellNone}
 use Rattle.law_node.proofs.Counted.{only, counts_then, none_counts, told_counts}
@@ -242,13 +242,13 @@ call_goes l e (Move keys) g s a free =
     (writes_nothing e).moving (moved_goes l e.bearers keys)
 
 pub run_goes : (l : ℕ) (cs : List Call) (e : End) → AreGiven cs → IsSound e.buckets → AllAre IsOwn e.bearers
-    → AddNone l cs → Goes l e.bearers (run cs e).bearers (moves cs) (counts_on l (told_over cs e))
+    → AddNone l cs → Goes l e.bearers (run_end cs e).bearers (moves cs) (counts_on l (told_over cs e))
 run_goes l [] e g s a free = rests l e.bearers
 run_goes l (c ∷ cs) e g s a free =
     let more = told_over cs (after e c) in
-    subst (λ (ns : List ℕ). Goes l e.bearers (run cs (after e c)).bearers (keys_in c ++ moves cs) ns)
+    subst (λ (ns : List ℕ). Goes l e.bearers (run_end cs (after e c)).bearers (keys_in c ++ moves cs) ns)
     (sym (counts_then l (told_of e c) more))
-    (goes_then l e.bearers (after e c).bearers (run cs (after e c)).bearers (keys_in c) (moves cs)
+    (goes_then l e.bearers (after e c).bearers (run_end cs (after e c)).bearers (keys_in c) (moves cs)
     (counts_on l (told_of e c)) (counts_on l more)
     (call_goes l e c g.0 s a free.0)
     (run_goes l cs (after e c) g.1 (call_sound e c g.0 s) (call_are IsOwn own_kept e c g.0 s a) free.1))

@@ -37,7 +37,7 @@ use Rattle.l2_node.specs.Submitting.{refusal, submitted, discarding}
 use Rattle.l2_node.specs.Writing.{shares, Work, work, nothing_written, noted, writes, all_write, written, new_block}
 use Rattle.law_node.specs.Calls.{Turn, Call, SetVisits, SetReports, Add, Submit, SetDiscard, Tick, TickBuckets, Visits}
 use Rattle.law_node.specs.Calls.{Grants, Granted, Assigned, Pass, Receive, Expire, Move, answered, after_submit, after}
-use Rattle.law_node.specs.Calls.{run, reached}
+use Rattle.law_node.specs.Calls.{run_end, reached}
 use Rattle.law_node.specs.Holding.{next_number, width}
 use Rattle.law_node.proofs.Ages.{Stands, Ages, stays, ages_then, submitted_ages, discard_ages, arrived_ages}
 use Rattle.law_node.proofs.Ages.{expired_ages, ticked_ages, begun_ages, restarted_stands}
@@ -402,7 +402,7 @@ unfolding fresh
 fresh_young side maximum reports = emptied [] maximum (λ l. tt)
 
 run_young : (cs : List Call) (e : End) → Young e.bearers e.sender e.numbers
-    → Young (run cs e).bearers (run cs e).sender (run cs e).numbers
+    → Young (run_end cs e).bearers (run_end cs e).sender (run_end cs e).numbers
 run_young [] e y = y
 run_young (c ∷ cs) e y = run_young cs (after e c) (call_young e c y)
 

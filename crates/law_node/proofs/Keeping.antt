@@ -36,7 +36,7 @@ use Rattle.prioritise.specs.ShareLaws.{IsSound}
 use Rattle.rlc_um.specs.Transparent.{nothing_submitted}
 use Rattle.law_node.specs.Calls.{Turn, Call, SetVisits, SetReports, Add, Submit, SetDiscard, Tick, TickBuckets, Visits}
 use Rattle.law_node.specs.Calls.{Grants, Granted, Assigned, Pass, Receive, Expire, Move, IsGiven, AreGiven, answered}
-use Rattle.law_node.specs.Calls.{after_submit, after, run, reached}
+use Rattle.law_node.specs.Calls.{after_submit, after, run_end, reached}
 use Rattle.law_node.proofs.Sharing.{shared_of}
 use Rattle.law_node.proofs.Sound.{none_sound, visited_sound, call_sound}
 
@@ -204,7 +204,7 @@ call_are P k e (Expire lcid clock) g s a =
 call_are P k e (Move keys) g s a = moved_are P k e.bearers keys a
 
 run_are : (P : ℕ → Flow → Type 0) (k : IsKept P) (cs : List Call) (e : End) → AreGiven cs → IsSound e.buckets
-    → AllAre P e.bearers → AllAre P (run cs e).bearers
+    → AllAre P e.bearers → AllAre P (run_end cs e).bearers
 run_are P k [] e g s a = a
 run_are P k (c ∷ cs) e g s a = run_are P k cs (after e c) g.1 (call_sound e c g.0 s) (call_are P k e c g.0 s a)
 

@@ -16,11 +16,13 @@ pub mod Takings
 pub mod Holders
 pub mod Holding
 pub mod Noting
-pub mod Silences
-pub mod Looping
 pub mod Keeping
 pub mod Pdcp
 pub mod Owning
+pub mod Elsewhere
+pub mod Silences
+pub mod Built
+pub mod Looping
 pub mod KindsStay
 pub mod Counted
 pub mod Steps
@@ -31,6 +33,7 @@ pub mod Segments
 pub mod Texts
 pub mod Offers
 pub mod Receiving
+pub mod Senders
 pub mod Ready
 pub mod Reading
 pub mod Naming

@@ -26,7 +26,8 @@ use Rattle.pdcp_tx.specs.State.{Offer}
 use Rattle.law_node.specs.Bearers.{keys_in, moves, restarts, Comes, adds, AddNone, GoesOn, IsAdded}
 use Rattle.promises.specs.Counts.{counts_on}
 use Rattle.law_node.specs.Calls.{Turn, Call, SetVisits, SetReports, Add, Submit, SetDiscard, Tick, TickBuckets, Visits}
-use Rattle.law_node.specs.Calls.{Grants, Granted, Assigned, Pass, Receive, Expire, Move, AreGiven, answered, after, run}
+use Rattle.law_node.specs.Calls.{Grants, Granted, Assigned, Pass, Receive, Expire, Move, AreGiven, answered, after}
+use Rattle.law_node.specs.Calls.{run_end}
 use Rattle.law_node.specs.Calls.{reached}
 use Rattle.law_node.specs.Counts.{begins}
 use Rattle.law_node.specs.Telling.{told_over}
@@ -61,7 +62,7 @@ go_on side maximum reports past calls lcid past_given given h free =
     (own_bearers side maximum reports past past_given) free in
     record {
       there = g.has_is ∙ h;
-      comes = comes_by (flow_at lcid e.bearers) (flow_at lcid (run calls e).bearers) calls
+      comes = comes_by (flow_at lcid e.bearers) (flow_at lcid (run_end calls e).bearers) calls
           (counts_on lcid (told_over calls e)) (g.goes h);
     }
 
@@ -91,7 +92,7 @@ call_side e (Receive block) = refl
 call_side e (Expire lcid clock) = refl
 call_side e (Move keys) = refl
 
-run_side : (cs : List Call) (e : End) → (run cs e).side ≡ e.side
+run_side : (cs : List Call) (e : End) → (run_end cs e).side ≡ e.side
 run_side [] e = refl
 run_side (c ∷ cs) e = run_side cs (after e c) ∙ call_side e c
 
@@ -111,7 +112,7 @@ record IsLast (lcid : ℕ) (calls : List Call) : Type 0 where
   channel_is : config.channel.lcid ≡ lcid
   last : AddNone lcid since
 
-run_on : (xs ys : List Call) (e : End) → run (xs ++ ys) e ≡ run ys (run xs e)
+run_on : (xs ys : List Call) (e : End) → run_end (xs ++ ys) e ≡ run_end ys (run_end xs e)
 run_on [] ys e = refl
 run_on (x ∷ xs) ys e = run_on xs ys (after e x)
 
@@ -191,9 +192,9 @@ lives_on side maximum reports calls lcid g k =
     ap (λ (l : ℕ). flow_at l d.bearers) (sym k.channel_is) ∙ stands.flow_is
     ∙ ap (λ (s : Side). flow_of k.config.kind k.config k.keys s) (reached_side side maximum reports k.before) in
     let there : has lcid d.bearers ≡ true = ap (λ (l : ℕ). has l d.bearers) (sym k.channel_is) ∙ stands.there in
-    let end_is : run k.since d ≡ reached side maximum reports calls =
-    ap (run k.since) d_is ∙ sym (run_on k.before (Add k.config k.keys ∷ k.since) begin)
-    ∙ ap (λ (cs : List Call). run cs begin) (sym k.calls_are) in
+    let end_is : run_end k.since d ≡ reached side maximum reports calls =
+    ap (run_end k.since) d_is ∙ sym (run_on k.before (Add k.config k.keys ∷ k.since) begin)
+    ∙ ap (λ (cs : List Call). run_end cs begin) (sym k.calls_are) in
     let told = counts_on lcid (told_over k.since d) in
     let one =
     (run_goes lcid k.since d given.1 (reached_sound side maximum reports until given.0)
@@ -210,7 +211,7 @@ lives_on side maximum reports calls lcid g k =
           subst (λ (f : Flow). Comes f (flow_at lcid (reached side maximum reports calls).bearers) k.since told)
           begun_is
           (subst (λ (x : End). Comes (flow_at lcid d.bearers) (flow_at lcid x.bearers) k.since told) end_is
-          (comes_by (flow_at lcid d.bearers) (flow_at lcid (run k.since d).bearers) k.since told one));
+          (comes_by (flow_at lcid d.bearers) (flow_at lcid (run_end k.since d).bearers) k.since told one));
     }
 
 -- an end without bearers
@@ -282,7 +283,7 @@ all_neither lcid (c ∷ cs) b =
 -- through calls that begin none
 neither_goes : (side : Side) (maximum : ℕ) (reports : Bool) (past calls : List Call) (lcid : ℕ) → AreGiven past
     → AreGiven calls → AllNeither lcid calls
-    → Goes lcid (reached side maximum reports past).bearers (run calls (reached side maximum reports past)).bearers
+    → Goes lcid (reached side maximum reports past).bearers (run_end calls (reached side maximum reports past)).bearers
     (moves calls) (counts_on lcid (told_over calls (reached side maximum reports past)))
 neither_goes side maximum reports past calls lcid past_given given k =
     run_goes lcid calls (reached side maximum reports past) given (reached_sound side maximum reports past past_given)
@@ -313,7 +314,7 @@ counts_ascend side maximum reports past calls lcid past_given given b =
 pub none_taken : (side : Side) (maximum : ℕ) (reports : Bool) (past calls : List Call) (lcid : ℕ) → AreGiven past
     → AreGiven calls
     → AllByRecursion (λ c. begins lcid c ≡ false) calls
-    → has lcid (run calls (reached side maximum reports past)).bearers ≡ false
+    → has lcid (run_end calls (reached side maximum reports past)).bearers ≡ false
     → counts_on lcid (told_over calls (reached side maximum reports past)) ≡ []
 none_taken side maximum reports past calls lcid past_given given b absent =
     let g = neither_goes side maximum reports past calls lcid past_given given (all_neither lcid calls b) in

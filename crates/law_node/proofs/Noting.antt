@@ -55,20 +55,20 @@ row_apart true m share l held w h apart =
 row_apart false m share l held w h apart = rw h refl
 
 -- what the bearer of a channel gives
-abbrev gives : Sending → Numbers → List ℕ → List (Of Life) → ℕ → Option ℕ
-gives s numbers amounts bs l = if has l bs then number (flow_at l bs) (get_or amounts l 0) (lowest s numbers l)
+abbrev number_given : Sending → Numbers → List ℕ → List (Of Life) → ℕ → Option ℕ
+number_given s numbers amounts bs l = if has l bs then number (flow_at l bs) (get_or amounts l 0) (lowest s numbers l)
     else None
 
 row_here : (t : Bool) (m : ℕ) (s : Sending) (numbers : Numbers) (amounts : List ℕ) (w : Work) → has m w.bearers ≡ t
     → m < length w.block.numbers → get_or w.block.numbers m None ≡ None
     → get_or (writes m (get_or amounts m 0) (lowest s numbers m) w).block.numbers m None
-    ≡ gives s numbers amounts w.bearers m
+    ≡ number_given s numbers amounts w.bearers m
 row_here true m s numbers amounts w h lt e =
     rw h (noted_here w.block.numbers m (number (flow_at m w.bearers) (get_or amounts m 0) (lowest s numbers m)) lt e)
 row_here false m s numbers amounts w h lt e = rw h e
 
 gives_same : (t : Bool) (s : Sending) (numbers : Numbers) (amounts : List ℕ) (l : ℕ) (bs ds : List (Of Life))
-    → has l bs ≡ t → Stays l bs ds → gives s numbers amounts ds l ≡ gives s numbers amounts bs l
+    → has l bs ≡ t → Stays l bs ds → number_given s numbers amounts ds l ≡ number_given s numbers amounts bs l
 gives_same true s numbers amounts l bs ds h k =
     rw (k.has_is, h) (ap (λ (b : Of Life). number b.state.flow (get_or amounts l 0) (lowest s numbers l))
     (k.bearer_is h))
@@ -88,7 +88,7 @@ others_row s numbers amounts (c ∷ cs) w l e =
 
 all_row : (s : Sending) (numbers : Numbers) (amounts : List ℕ) (cs : List Channel) (w : Work) (l : ℕ) → Apart cs
     → length w.block.numbers ≡ 11 → get_or w.block.numbers l None ≡ None → has_channel l cs ≡ true
-    → get_or (all_write s numbers amounts cs w).block.numbers l None ≡ gives s numbers amounts w.bearers l
+    → get_or (all_write s numbers amounts cs w).block.numbers l None ≡ number_given s numbers amounts w.bearers l
 all_row s numbers amounts [] w l a len e h = absurd cc
 all_row s numbers amounts (c ∷ cs) w l a len e h =
     let share = get_or amounts c.lcid 0 in
@@ -97,7 +97,7 @@ all_row s numbers amounts (c ∷ cs) w l a len e h =
     elim (cases_eq l c.lcid) [
       | inl same ↦
           subst (λ (m : ℕ). get_or (all_write s numbers amounts cs w').block.numbers m None
-          ≡ gives s numbers amounts w.bearers m) (sym same)
+          ≡ number_given s numbers amounts w.bearers m) (sym same)
           (others_row s numbers amounts cs w' c.lcid a.1
           ∙ row_here (has c.lcid w.bearers) c.lcid s numbers amounts w refl (omega (arith, a.0, len))
           (subst (λ (m : ℕ). get_or w.block.numbers m None ≡ None) same e))

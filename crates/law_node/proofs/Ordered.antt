@@ -241,8 +241,8 @@ stops_in e a r = all_stop_in e.bearers a r
 
 -- ---- an end
 
-pub told_in : (e : End) → AllAre IsBetween e.bearers → AllAre IsRight e.bearers → IsToldInOrder e
-told_in e a r = record {
+pub end_told_in_order : (e : End) → AllAre IsBetween e.bearers → AllAre IsRight e.bearers → IsToldInOrder e
+end_told_in_order e a r = record {
   building = λ tti grant order new. builds_in tti grant order e a new;
   receiving = λ block. hears_in e block a;
   ticking = ticks_in e a;
@@ -253,5 +253,6 @@ told_in e a r = record {
 pub tells_in_its_order : (side : Side) (maximum : ℕ) (reports : Bool) (calls : List Call) → AreGiven calls
     → IsToldInOrder (reached side maximum reports calls)
 tells_in_its_order side maximum reports calls g =
-    told_in (reached side maximum reports calls) (reached_are IsBetween between_kept side maximum reports calls g)
+    end_told_in_order (reached side maximum reports calls)
+    (reached_are IsBetween between_kept side maximum reports calls g)
     (reached_are IsRight right_kept side maximum reports calls g)

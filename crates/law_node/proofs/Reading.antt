@@ -40,7 +40,7 @@ use Rattle.rlc_queue.specs.Waiting.{HaveOctets}
 use Rattle.rlc_um.specs.Sender.{Sender as UmSender, head_of, pdu_of, ends_partly}
 use Rattle.promises.specs.Names.{IsPdcp, IsUmd, IsAmd, IsStatus}
 use Rattle.law_node.proofs.Pieces.{Whole, AreWhole, new_whole, whole_is}
-use Rattle.law_node.proofs.Ready.{IsSpelled, AreSpelled}
+use Rattle.law_node.proofs.Senders.{IsSpelled, AreSpelled}
 use Rattle.law_node.proofs.Receiving.{AreShort}
 use Rattle.law_node.proofs.Segments.{part_whole}
 

@@ -22,7 +22,8 @@ use Rattle.l2_node.specs.Moving.{left_cell, joined}
 use Rattle.l2_node.specs.Submitting.{submitted, discarding}
 use Rattle.l2_node.specs.Writing.{needs}
 use Rattle.law_node.specs.Calls.{Turn, Call, SetVisits, SetReports, Add, Submit, SetDiscard, Tick, TickBuckets, Visits}
-use Rattle.law_node.specs.Calls.{Grants, Granted, Assigned, Pass, Receive, Expire, Move, answered, after, run, reached}
+use Rattle.law_node.specs.Calls.{Grants, Granted, Assigned, Pass, Receive, Expire, Move, answered, after, run_end}
+use Rattle.law_node.specs.Calls.{reached}
 use Rattle.law_node.specs.Calls.{IsGiven, AreGiven}
 
 -- ---- each step of the buckets
@@ -113,7 +114,7 @@ call_sound e (Receive block) g s = s
 call_sound e (Expire lcid clock) g s = s
 call_sound e (Move keys) g s = emptied_sound e.buckets s
 
-run_sound : (cs : List Call) (e : End) → AreGiven cs → IsSound e.buckets → IsSound (run cs e).buckets
+run_sound : (cs : List Call) (e : End) → AreGiven cs → IsSound e.buckets → IsSound (run_end cs e).buckets
 run_sound [] e g s = s
 run_sound (c ∷ cs) e g s = run_sound cs (after e c) g.1 (call_sound e c g.0 s)
 

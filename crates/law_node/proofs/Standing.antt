@@ -31,7 +31,7 @@ use Rattle.prioritise.specs.Channels.{has as has_channel, goes_before, place as 
 use Rattle.prioritise.specs.Shares.{Bucketed, no_channels, added, emptied, ticked as grown, after_allot}
 use Rattle.law_node.specs.Calls.{Turn, Call, SetVisits, SetReports, Add, Submit, SetDiscard, Tick, TickBuckets, Visits}
 use Rattle.law_node.specs.Calls.{Grants, Granted, Assigned, Pass, Receive, Expire, Move, answered, after_submit, after}
-use Rattle.law_node.specs.Calls.{run, reached}
+use Rattle.law_node.specs.Calls.{run_end, reached}
 use Rattle.law_node.specs.Order.{AreOrdered, StandsInOrder}
 
 -- ---- a list with one more in its place
@@ -234,7 +234,7 @@ call_in e (Expire lcid clock) s =
     }
 call_in e (Move keys) s = record { channels = s.channels; bearers = moved_in e.bearers keys s.bearers }
 
-run_in : (cs : List Call) (e : End) → StandsInOrder e → StandsInOrder (run cs e)
+run_in : (cs : List Call) (e : End) → StandsInOrder e → StandsInOrder (run_end cs e)
 run_in [] e s = s
 run_in (c ∷ cs) e s = run_in cs (after e c) (call_in e c s)
 

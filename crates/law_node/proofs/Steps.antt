@@ -9,7 +9,8 @@ use Rattle.bearer.specs.declared.flow.Flow.{Flow}
 use Rattle.bearer.specs.declared.flow.Flow.TheVariants.{Tm}
 use Rattle.bearer.specs.Lives.{stopped, restarted}
 use Rattle.law_bearer.proofs.AnyBearer.Flows.{run_more}
-use Rattle.law_bearer.specs.AnyBearer.Calls.{Call as BearerCall, Step, Calls, Restart, after as called, goes, run as go}
+use Rattle.law_bearer.specs.AnyBearer.Calls.{Call as BearerCall, Step, Calls, Restart, after as called, goes}
+use Rattle.law_bearer.specs.AnyBearer.Calls.{run_bearer}
 use Rattle.law_bearer.specs.AnyBearer.Stream.{takes, takes_in, all_taken, counts}
 use Rattle.eps_sec.specs.declared.Keys.{Keys}
 use Rattle.l2_node.specs.Finding.{find, has, place, bearer_at}
@@ -25,7 +26,7 @@ use Rattle.law_node.proofs.Places.{find_set, has_set}
 
 pub record Takes (f g : Flow) (lives : List Keys) (taken : List ℕ) : Type 0 where
   pub steps : List Step
-  pub flow_is : g ≡ go steps f
+  pub flow_is : g ≡ run_bearer steps f
   pub lives_are : restarts steps ≡ lives
   pub counts_are : counts (all_taken f steps) ≡ taken
 
@@ -37,22 +38,22 @@ restarts_more [] ys = refl
 restarts_more (Calls c ∷ xs) ys = restarts_more xs ys
 restarts_more (Restart keys ∷ xs) ys = ap (λ (ks : List Keys). keys ∷ ks) (restarts_more xs ys)
 
-taken_more : (f : Flow) (xs ys : List Step) → all_taken f (xs ++ ys) ≡ all_taken f xs ++ all_taken (go xs f) ys
+taken_more : (f : Flow) (xs ys : List Step) → all_taken f (xs ++ ys) ≡ all_taken f xs ++ all_taken (run_bearer xs f) ys
 taken_more f [] ys = refl
 taken_more f (x ∷ xs) ys = ap (λ (os : List Offer). takes_in f x ++ os) (taken_more (goes f x) xs ys)
-    ∙ sym (append_assoc (takes_in f x) (all_taken (goes f x) xs) (all_taken (go xs (goes f x)) ys))
+    ∙ sym (append_assoc (takes_in f x) (all_taken (goes f x) xs) (all_taken (run_bearer xs (goes f x)) ys))
 
 pub then_takes : (f g h : Flow) (ks ls : List Keys) (ns ms : List ℕ) → Takes f g ks ns → Takes g h ls ms
     → Takes f h (ks ++ ls) (ns ++ ms)
 then_takes f g h ks ls ns ms a b = record {
   steps = a.steps ++ b.steps;
-  flow_is = b.flow_is ∙ ap (go b.steps) a.flow_is ∙ sym (run_more f a.steps b.steps);
+  flow_is = b.flow_is ∙ ap (run_bearer b.steps) a.flow_is ∙ sym (run_more f a.steps b.steps);
   lives_are = restarts_more a.steps b.steps ∙ ap (λ (l : List Keys). l ++ restarts b.steps) a.lives_are
       ∙ ap (λ (l : List Keys). ks ++ l) b.lives_are;
   counts_are =
       ap counts (taken_more f a.steps b.steps)
-      ∙ counts_more (all_taken f a.steps) (all_taken (go a.steps f) b.steps)
-      ∙ ap (λ (l : List ℕ). l ++ counts (all_taken (go a.steps f) b.steps)) a.counts_are
+      ∙ counts_more (all_taken f a.steps) (all_taken (run_bearer a.steps f) b.steps)
+      ∙ ap (λ (l : List ℕ). l ++ counts (all_taken (run_bearer a.steps f) b.steps)) a.counts_are
       ∙ ap (λ (l : List ℕ). ns ++ l) (ap (λ (x : Flow). counts (all_taken x b.steps)) (sym a.flow_is) ∙ b.counts_are);
 }
 

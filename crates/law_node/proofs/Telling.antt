@@ -17,7 +17,7 @@ use Rattle.l2_node.specs.Finding.{Numbers, find, has, bearer_at, lowest}
 use Rattle.l2_node.specs.Writing.{shares, Work, work, nothing_written, writes, all_write, written}
 use Rattle.law_node.specs.Calls.{Call, AreGiven, reached}
 use Rattle.law_node.specs.Sharing.{share, held}
-use Rattle.law_node.specs.Waiting.{told_by, all_told}
+use Rattle.law_node.specs.Waiting.{told_on_channel, all_told}
 use Rattle.law_node.proofs.Places.{found}
 use Rattle.law_node.proofs.Sharing.{Apart, sound_apart}
 use Rattle.law_node.proofs.Sound.{visiting_sound}
@@ -27,7 +27,7 @@ abbrev teller : Sending → Numbers → List ℕ → Of Life → Channel → Lis
 teller sender numbers amounts b c = told b.lcid b.state.flow (get_or amounts c.lcid 0) (lowest sender numbers c.lcid)
 
 one_is : (e : End) (grant : ℕ) (c : Channel) (t : Bool) → has c.lcid e.bearers ≡ t
-    → one_by (teller e.sender e.numbers (shares e grant)) e.bearers c ≡ told_by e grant c
+    → one_by (teller e.sender e.numbers (shares e grant)) e.bearers c ≡ told_on_channel e grant c
 one_is e grant c true h =
     rw h (ap (λ (l : ℕ). told l (bearer_at e.bearers (find c.lcid e.bearers)).state.flow (share e grant c) (held e c))
     (found c.lcid e.bearers h))
@@ -39,7 +39,7 @@ all_are e grant [] = refl
 all_are e grant (c ∷ cs) =
     ap (λ (es : List Event). es ++ all_by (teller e.sender e.numbers (shares e grant)) e.bearers cs)
     (one_is e grant c (has c.lcid e.bearers) refl)
-    ∙ ap (λ (es : List Event). told_by e grant c ++ es) (all_are e grant cs)
+    ∙ ap (λ (es : List Event). told_on_channel e grant c ++ es) (all_are e grant cs)
 
 tells_by : (sender : Sending) (numbers : Numbers) (amounts : List ℕ) (c : Channel) (w : Work) (t : Bool)
     → has c.lcid w.bearers ≡ t

@@ -4,7 +4,7 @@ use Rattle.std.specs.Prelude.{◌≡◌, ℕ, ◌==◌, Bool, true, false, List,
 use Rattle.std.specs.List.{AllByRecursion}
 use Rattle.bearer.specs.Bearer.{flow_of}
 use Rattle.bearer.specs.declared.flow.Flow.{Flow}
-use Rattle.law_bearer.specs.AnyBearer.Calls.{Step, run as go}
+use Rattle.law_bearer.specs.AnyBearer.Calls.{Step, run_bearer}
 pub use Rattle.law_bearer.specs.AnyBearer.Ciphering.{restarts}
 use Rattle.law_bearer.specs.AnyBearer.Stream.{all_taken, counts}
 use Rattle.bearer_types.specs.declared.config.BearerConfig.{BearerConfig}
@@ -12,7 +12,7 @@ use Rattle.eps_sec.specs.declared.Keys.{Keys}
 use Rattle.l2_node.specs.End.{End}
 use Rattle.l2_node.specs.Finding.{has}
 use Rattle.l2_types.specs.declared.side.Side.{Side}
-use Rattle.law_node.specs.Calls.{Call, Add, Move, AreGiven, run, reached}
+use Rattle.law_node.specs.Calls.{Call, Add, Move, AreGiven, run_end, reached}
 use Rattle.law_node.specs.Holding.{flow}
 use Rattle.law_node.specs.Telling.{told_over}
 use Rattle.promises.specs.Counts.{counts_on}
@@ -31,7 +31,7 @@ moves (c ∷ cs) = keys_in c ++ moves cs
 -- each move and under its keys, and SDUs were taken with these COUNTs
 pub record Comes (f g : Flow) (calls : List Call) (told : List ℕ) : Type 0 where
   pub steps : List Step
-  pub flow_is : g ≡ go steps f
+  pub flow_is : g ≡ run_bearer steps f
   pub lives_are : restarts steps ≡ moves calls
   pub counts_are : counts (all_taken f steps) ≡ told
 
@@ -47,8 +47,8 @@ AddNone lcid calls = AllByRecursion (λ c. adds lcid c ≡ false) calls
 
 -- a bearer that is there goes on, and what is told of its channel is what its steps take
 pub record GoesOn (lcid : ℕ) (calls : List Call) (e : End) : Type 0 where
-  pub there : has lcid (run calls e).bearers ≡ true
-  pub comes : Comes (flow lcid e) (flow lcid (run calls e)) calls
+  pub there : has lcid (run_end calls e).bearers ≡ true
+  pub comes : Comes (flow lcid e) (flow lcid (run_end calls e)) calls
       (counts_on lcid (told_over calls e))
 
 -- from any moment on

@@ -74,13 +74,13 @@ after e (Receive block) = record e { bearers = (received e block).bearers }
 after e (Expire lcid clock) = expired lcid clock e
 after e (Move keys) = joined (left_cell e) keys
 
-abbrev pub run : List Call → End → End
-run [] e = e
-run (c ∷ cs) e = run cs (after e c)
+abbrev pub run_end : List Call → End → End
+run_end [] e = e
+run_end (c ∷ cs) e = run_end cs (after e c)
 
 -- an end after any calls
 abbrev pub reached : Side → ℕ → Bool → List Call → End
-reached side maximum reports calls = run calls (fresh side maximum reports)
+reached side maximum reports calls = run_end calls (fresh side maximum reports)
 
 -- what a call is given: some visits of a block, a configuration in its ranges, the grant of a
 -- transport block

@@ -12,7 +12,8 @@ use Rattle.l2_types.specs.declared.side.Side.{Side}
 use Rattle.law_node.specs.Blocks.{all_sdus}
 use Rattle.law_node.specs.Calls.{Call, AreGiven, reached}
 use Rattle.law_node.specs.Holding.{flow}
-use Rattle.promises.specs.Names.{sends, Mode, Transparent, Unacknowledged, Acknowledged, AreNamed}
+use Rattle.promises.specs.Names.{sent_pdus, Mode, Transparent, Unacknowledged, Acknowledged}
+use Rattle.promises.specs.Names.{AreNamed}
 
 -- ---- a PDU of a number, as senders write it and as it is read, on a bearer of a kind
 
@@ -33,6 +34,6 @@ NamesWhatItSends = (side : Side) (maximum : ℕ) (reports : Bool) (calls : List 
     → AreGiven calls → (tti grant : ℕ) (order : Order)
     → visit tti order (reached side maximum reports calls) ≡ New
     → AreNamed (modes_of (visited tti order (reached side maximum reports calls)))
-    (sends (building tti grant order (reached side maximum reports calls)))
+    (sent_pdus (building tti grant order (reached side maximum reports calls)))
     (all_sdus (visited tti order (reached side maximum reports calls)) grant
     (visited tti order (reached side maximum reports calls)).buckets.channels)

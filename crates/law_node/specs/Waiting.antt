@@ -113,13 +113,13 @@ TellsWhyItWaits = (lcid : ℕ) (f : Flow) (share : ℕ) (held : Option ℕ)
 -- ---- a block
 
 -- what the bearer of a channel tells, and all of them, in the order of the channels
-abbrev pub told_by : End → ℕ → Channel → List Event
-told_by e grant c = if has c.lcid e.bearers
+abbrev pub told_on_channel : End → ℕ → Channel → List Event
+told_on_channel e grant c = if has c.lcid e.bearers
     then told c.lcid (bearer_of c.lcid e).state.flow (share e grant c) (held e c) else []
 
 abbrev pub all_told : End → ℕ → List Channel → List Event
 all_told e grant [] = []
-all_told e grant (c ∷ cs) = told_by e grant c ++ all_told e grant cs
+all_told e grant (c ∷ cs) = told_on_channel e grant c ++ all_told e grant cs
 
 -- what is told of a new block, at any end
 abbrev pub TellsInOrder : Type 0

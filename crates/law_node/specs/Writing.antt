@@ -14,7 +14,7 @@ use Rattle.l2_types.specs.declared.side.Side.{Side}
 use Rattle.law_node.specs.Blocks.{all_sdus}
 use Rattle.law_node.specs.Calls.{Call, AreGiven, reached}
 use Rattle.promises.specs.Events.{is_of_writing}
-use Rattle.promises.specs.Names.{sent_on}
+use Rattle.promises.specs.Names.{sent_lcids}
 
 abbrev pub TellNone : List Event → Type 0
 TellNone events = filter is_of_writing events ≡ []
@@ -36,7 +36,7 @@ abbrev pub TellsWhatItSends : Type 0
 TellsWhatItSends = (side : Side) (maximum : ℕ) (reports : Bool) (calls : List Call)
     → AreGiven calls → (tti grant : ℕ) (order : Order)
     → visit tti order (reached side maximum reports calls) ≡ New
-    → sent_on (building tti grant order (reached side maximum reports calls))
+    → sent_lcids (building tti grant order (reached side maximum reports calls))
     ≡ map (λ s. s.lcid)
     (all_sdus (visited tti order (reached side maximum reports calls)) grant
     (visited tti order (reached side maximum reports calls)).buckets.channels)

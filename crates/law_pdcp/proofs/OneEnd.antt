@@ -8,3 +8,5 @@ pub mod Bounding
 pub mod Hearings
 pub mod Openings
 pub mod Told
+pub mod Places
+pub mod Submitting

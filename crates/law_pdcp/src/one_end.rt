@@ -18,7 +18,8 @@ ghost use Rattle.pdcp_rx.specs.declared.security.Opened.TheVariants.{Sdu};
 ghost use Rattle.law_pdcp.specs.OneEnd.Again.{LeavesOutWhatIsTold, LeavesOutTheTold};
 ghost use Rattle.law_pdcp.specs.OneEnd.Bounds.{IsBounded, StandsStill};
 ghost use Rattle.law_pdcp.specs.OneEnd.Receiving.{Hearing, ups_of, body_of, as_written};
-ghost use Rattle.law_pdcp.specs.OneEnd.Lives.{Step, run, cipherings, first_taken, AreNamed, queue};
+ghost use Rattle.law_pdcp.specs.OneEnd.Lives.{Step, run_pdcp_sender, cipherings, first_taken};
+ghost use Rattle.law_pdcp.specs.OneEnd.Lives.{AreNamed, queue};
 ghost use Rattle.law_pdcp.specs.OneEnd.Lives.{left_in, submitted_in};
 
 /// Through lives, what is to be taken again ascends below the next new COUNT; so in each life the
@@ -26,7 +27,7 @@ ghost use Rattle.law_pdcp.specs.OneEnd.Lives.{left_in, submitted_in};
 #[tactic(auto, using(crate::proofs::OneEnd::Lives::lives_are_ordered))]
 pub fn lives_in_order()
     ensures { (kind : PdcpKind) (p : Protection) (first : ℕ) (steps : List Step)
-        → IsOrdered (run steps (start kind p first)) }
+        → IsOrdered (run_pdcp_sender steps (start kind p first)) }
 {}
 
 /// On an acknowledged data bearer a COUNT names one SDU, through all lives: that of its place among
@@ -45,7 +46,7 @@ pub fn counts_name_sdus()
 #[tactic(auto, using(crate::proofs::OneEnd::Queue::in_order))]
 pub fn queue_keeps_order()
     ensures { (s : State) (steps : List Step) → s.kind ≢ Srb
-        → left_in s steps ++ queue (run steps s) ≡ queue s ++ submitted_in steps }
+        → left_in s steps ++ queue (run_pdcp_sender steps s) ≡ queue s ++ submitted_in steps }
 {}
 
 /// On an acknowledged data bearer an SDU is taken only while its COUNT lies less than half the
@@ -53,7 +54,7 @@ pub fn queue_keeps_order()
 #[tactic(auto, using(crate::proofs::OneEnd::Bounding::bounded))]
 pub fn bound_follows_confirmation()
     ensures { (kind : PdcpKind) (p : Protection) (first : ℕ) (steps : List Step)
-        → IsTrue (is_am kind) → IsBounded (run steps (start kind p first)) }
+        → IsTrue (is_am kind) → IsBounded (run_pdcp_sender steps (start kind p first)) }
 {}
 
 /// As long as RLC hasn't acknowledged the own status report, that bound stands still.

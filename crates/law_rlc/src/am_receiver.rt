@@ -5,8 +5,8 @@ ghost use Rattle.std.specs.Prelude.{◌≡◌, ℕ, List, is_some};
 ghost use Rattle.l2_num.specs.Timers.{runs};
 ghost use Rattle.rlc_am_rx_window.specs.Cells.{Cell};
 ghost use Rattle.l2_types.specs.declared.AmRxConfig.{AmRxConfig};
-ghost use Rattle.law_rlc.specs.AmReceiver.Run.{Call, run, begin, IsFirst, IsOrdered};
-ghost use Rattle.law_rlc.specs.AmReceiver.Bound.{go, outset, IsBound};
+ghost use Rattle.law_rlc.specs.AmReceiver.Run.{Call, run_am_receiver, begin, IsFirst, IsOrdered};
+ghost use Rattle.law_rlc.specs.AmReceiver.Bound.{go, marked_outset, IsBound};
 ghost use Rattle.law_rlc.specs.AmReceiver.Status.{BringSome, ReadBringSome, IsTrueStatus};
 ghost use Rattle.law_rlc.specs.AmReceiver.Due.{ask, unasked};
 ghost use Rattle.law_rlc.specs.AmReceiver.Finish.{IsStream, IsFinished};
@@ -16,15 +16,17 @@ ghost use Rattle.law_rlc.specs.AmReceiver.Stream.{NoneClashes};
 /// Whatever calls come, VR(R) is the least number of which some place hasn't arrived, and VR(R) ≤
 /// VR(MS) ≤ VR(H).
 pub fn first_is_least()
-    ensures least { (config : AmRxConfig) (calls : List Call) → IsFirst (run calls (begin config)) }
+    ensures least { (config : AmRxConfig) (calls : List Call)
+        → IsFirst (run_am_receiver calls (begin config)) }
     ensures ordered { (config : AmRxConfig) (calls : List Call)
-        → IsOrdered (run calls (begin config)) }
+        → IsOrdered (run_am_receiver calls (begin config)) }
 {}
 
 /// VR(MS) is the least number of which some place hasn't arrived, at or above each mark whose timer
 /// has expired.
 pub fn bound_is_least()
-    ensures { (config : AmRxConfig) (calls : List Call) → IsBound (go calls (outset config)) }
+    ensures { (config : AmRxConfig) (calls : List Call)
+        → IsBound (go calls (marked_outset config)) }
 {}
 
 /// Where each PDU carries a part of the field that its number has, the SDUs that go up are those of
@@ -46,8 +48,8 @@ pub fn never_clashes()
 /// The reordering timer runs exactly where it has a mark, VR(X).
 pub fn timer_runs_with_mark()
     ensures { (config : AmRxConfig) (calls : List Call)
-        → runs (run calls (begin config)).state.reorder
-        ≡ is_some (run calls (begin config)).state.mark }
+        → runs (run_am_receiver calls (begin config)).state.reorder
+        ≡ is_some (run_am_receiver calls (begin config)).state.mark }
 {}
 
 /// Whatever PDUs come, a STATUS has the longest beginning that fits of all that is missing from
@@ -56,7 +58,7 @@ pub fn timer_runs_with_mark()
 pub fn status_is_true()
     ensures read { ReadBringSome }
     ensures status { (config : AmRxConfig) (calls : List Call) (size : ℕ) → BringSome calls
-        → IsTrueStatus (run calls (begin config)) size }
+        → IsTrueStatus (run_am_receiver calls (begin config)) size }
 {}
 
 /// A STATUS is due exactly where since the last one the reordering timer expired, a polled PDU was
@@ -72,5 +74,6 @@ pub fn status_is_due_where_asked()
 pub fn finish_gives_what_is_whole()
     ensures { (field : ℕ → List Cell) (config : AmRxConfig) (calls : List Call) → IsStream field
         → AreHonest field (initial config).state calls
-        → IsFinished field (run calls (begin config)) (flow calls (initial config)).gone }
+        → IsFinished field (run_am_receiver calls (begin config))
+        (flow calls (initial config)).gone }
 {}

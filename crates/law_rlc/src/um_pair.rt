@@ -5,7 +5,8 @@ ghost use Rattle.std.specs.Prelude.{List, ℕ, ◌<◌, ◌≤◌, Option};
 ghost use Rattle.rlc_pdu.specs.Pdus.{UmdPdu, IsUmBits};
 ghost use Rattle.rlc_um.specs.Joined.{Parts};
 ghost use Rattle.rlc_um.specs.Sender.{width_of};
-ghost use Rattle.law_rlc.specs.UmPair.Run.{Call, run, fresh, IsEdge, IsHandedUp, IsFinished};
+ghost use Rattle.law_rlc.specs.UmPair.Run.{Call, run_um_receiver, fresh, IsEdge, IsHandedUp};
+ghost use Rattle.law_rlc.specs.UmPair.Run.{IsFinished};
 ghost use Rattle.law_rlc.specs.UmPair.Run.{IsBounded, IsTimed};
 ghost use Rattle.law_rlc.specs.UmPair.Send.{Step, flow, at_first, IsWhole};
 ghost use Rattle.law_rlc.specs.UmPair.Loss.{IsOrdered};
@@ -18,33 +19,33 @@ ghost use Rattle.law_rlc.specs.UmPair.Which.{HandsUpWhatCame, MoreGoUpLater};
 /// VR(UH) is one above the greatest number that was read.
 pub fn edge_is_least()
     ensures { (width reorder : ℕ) → 0 < width → (calls : List Call)
-        → IsEdge (run calls (fresh width reorder)) }
+        → IsEdge (run_um_receiver calls (fresh width reorder)) }
 {}
 
 /// Whatever calls come, no more PDUs are kept than the window has numbers.
 pub fn keeps_a_window()
     ensures { (width reorder : ℕ) → 0 < width → (calls : List Call)
-        → IsBounded (run calls (fresh width reorder)) }
+        → IsBounded (run_um_receiver calls (fresh width reorder)) }
 {}
 
 /// Whatever calls come, the reordering timer runs exactly while a number below VR(UH) is missing.
 pub fn timer_runs_at_a_gap()
     ensures { (width reorder : ℕ) → 0 < width → (calls : List Call)
-        → IsTimed (run calls (fresh width reorder)) }
+        → IsTimed (run_um_receiver calls (fresh width reorder)) }
 {}
 
 /// What went up and what may go up are the joined SDUs of the accepted numbers below VR(UR), in
 /// order, each once.
 pub fn joined_is_handed_up()
     ensures { (width reorder : ℕ) → 0 < width → (calls : List Call)
-        → IsHandedUp (run calls (fresh width reorder)) }
+        → IsHandedUp (run_um_receiver calls (fresh width reorder)) }
 {}
 
 /// As a receiver ends, what went up and what it hands over are the joined SDUs of all accepted
 /// numbers.
 pub fn all_is_joined()
     ensures { (width reorder : ℕ) → 0 < width → (calls : List Call)
-        → IsFinished (run calls (fresh width reorder)) }
+        → IsFinished (run_um_receiver calls (fresh width reorder)) }
 {}
 
 /// Joining is the search for elements that follow each other, in PDUs of which none between is

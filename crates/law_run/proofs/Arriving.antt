@@ -5,8 +5,8 @@ use Rattle.std.proofs.lemmas.List.{length-take-le}
 use Rattle.air_text.specs.Groups.{Group, history}
 use Rattle.bearer_types.specs.declared.event.Event.{Event}
 use Rattle.promises.specs.Taken.{leaves, taken_of}
-use Rattle.promises.specs.Records.{told_by}
-use Rattle.law_words.specs.Arrivals.{Happening, Account, no_account, account}
+use Rattle.promises.specs.Records.{events_of}
+use Rattle.law_words.specs.Arrivals.{AccountEntry, Account, no_account, account}
 use Rattle.law_bearer.specs.AmBearer.Lives.{other as other_end}
 use Rattle.law_deliver.specs.AmChannel.Arrival.{told_from}
 use Rattle.law_deliver.specs.AmChannel.Delivery.{taken_at, submitted_at, ups_at}
@@ -15,7 +15,7 @@ use Rattle.law_deliver.proofs.AmChannel.Delivery.{channels_tell_what_is_taken, c
 use Rattle.law_deliver.proofs.AmChannel.Delivery.{channels_deliver_what_came_undiscarded}
 use Rattle.law_deliver.specs.AmDelivery.Arrival.{IsWhatCame}
 use Rattle.promises.specs.Events.{discards_on}
-use Rattle.promises.specs.Arrival.{taken as taken_told, told_of, AllHandUpWhatCame, HandUpWhatCame}
+use Rattle.promises.specs.Arrival.{taken as taken_told, account_of, AllHandUpWhatCame, HandUpWhatCame}
 use Rattle.law_run.specs.Order.{KeepsOrder}
 use Rattle.law_run.proofs.Delivering.{alike, is_delivering, tells, went_up_is, was_submitted_is, happened_from}
 
@@ -36,16 +36,16 @@ came past order from l c e kind own =
     let taken = taken_at l from steps a in
     let all = submitted_at l from steps a in
     let ups = ups_at l (other_end from) steps a in
-    let said = told_of c l from past in
+    let said = account_of c l from past in
     let from_told : (news : List (List ℕ)) → IsWhatCame c.first (told_from c l from steps a) news ups
     → IsWhatCame c.first said news ups =
-    λ news x. subst (λ (hs : List Happening). IsWhatCame c.first (account hs no_account) news ups)
+    λ news x. subst (λ (hs : List AccountEntry). IsWhatCame c.first (account hs no_account) news ups)
     (happened_from l c past d c.pdcp_bits from) x in
     let told = channels_tell_what_is_taken l c d.keys d.nb d.ue from steps both living in
     let is_told : taken ≡ taken_told c l from past =
     told.taken_are
     ∙ (ap (λ (es : List Event). taken_of l c.first es all) (tells l c past d from)
-    ∙ ap (taken_of l c.first (told_by from (history past))) (was_submitted_is l c past d from)) in
+    ∙ ap (taken_of l c.first (events_of from (history past))) (was_submitted_is l c past d from)) in
     let x : IsWhatCame c.first said taken ups =
     from_told taken (channels_deliver_what_came l c d.keys d.nb d.ue from steps both living) in
     let up = went_up_is l c past d from in

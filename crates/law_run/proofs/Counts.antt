@@ -23,10 +23,10 @@ use Rattle.l2_types.specs.declared.side.Side.{Side}
 use Rattle.l2_types.specs.declared.side.Side.TheVariants.{Nb, Ue}
 use Rattle.bearer_types.specs.Sides.{is_same}
 use Rattle.law_air.specs.AnyCalls.Ends.{ByCalls, begins_life, LivesOn}
-use Rattle.promises.specs.Records.{event_of, told_by, is_of_building}
+use Rattle.promises.specs.Records.{event_of, events_of, is_of_building}
 use Rattle.law_air.proofs.AnyCalls.Going.{run_on, given_on, over_on}
 use Rattle.promises.specs.Counts.{counts_on, counts_taken, counts_since, CountsAscend}
-use Rattle.law_node.specs.Calls.{Call, Add, Move, AreGiven, run, reached}
+use Rattle.law_node.specs.Calls.{Call, Add, Move, AreGiven, run_end, reached}
 use Rattle.law_node.specs.Counts.{begins as call_begins}
 use Rattle.promises.specs.Events.{is_of_loop, is_of_writing}
 use Rattle.law_node.specs.Telling.{told_over}
@@ -34,7 +34,7 @@ use Rattle.law_node.proofs.Counted.{counts_then}
 use Rattle.law_node.proofs.Living.{counts_ascend, none_taken as none_without}
 use Rattle.pdu_show.specs.declared.kinds.Layout.{Layout}
 use Rattle.promises.specs.Blocks.{AreTold}
-use Rattle.promises.specs.Parts.{hands_over, part}
+use Rattle.promises.specs.Parts.{is_handover, part_of_line}
 use Rattle.law_run.specs.Order.{state_behind, IsRight, KeepsOrder}
 use Rattle.law_run.proofs.Keys.{not_first, not_second, no_cause}
 use Rattle.law_run.proofs.Past.{link_behind}
@@ -60,7 +60,7 @@ none_by : (b : Bool) (side : Side) (lcid : ℕ) (one : Record) (told : List Reco
     → counts_taken side lcid (one ∷ told) ≡ []
 none_by true side lcid one told is none rest = absurd cc
 none_by false side lcid one told is none rest =
-    counts_then lcid (event_of side one) (told_by side told)
+    counts_then lcid (event_of side one) (events_of side told)
     ∙ ap (λ (ns : List ℕ). ns ++ counts_taken side lcid told) (one_none side lcid one is) ∙ rest none
 
 pub none_taken : (side : Side) (lcid : ℕ) (told : List Record) → filter is_of_building told ≡ []
@@ -76,13 +76,13 @@ begins lcid (lines.Bearer config options) = config.channel.lcid == lcid
 begins lcid (lines.Handover user rrc integrity) = true
 begins lcid line = false
 
-stays : (lcid : ℕ) (line : Line) → begins lcid line ≡ false → hands_over line ≡ false
+stays : (lcid : ℕ) (line : Line) → begins lcid line ≡ false → is_handover line ≡ false
 stays lcid (lines.Handover user rrc integrity) free = absurd cc
 stays lcid line free = refl
 
 -- it builds none
 begins_unbuilt : (lcid : ℕ) (line : Line) (t : ℕ) (kinds : List (Option Layout)) (told : List Record)
-    → begins lcid line ≡ true → AreTold t kinds (part line) told → filter is_of_building told ≡ []
+    → begins lcid line ≡ true → AreTold t kinds (part_of_line line) told → filter is_of_building told ≡ []
 begins_unbuilt lcid (lines.Bearer config options) t kinds told e none = none
 begins_unbuilt lcid (lines.Handover user rrc integrity) t kinds told e none = none
 begins_unbuilt lcid line t kinds told e none = absurd cc
@@ -97,7 +97,7 @@ absent_at Ue lcid l e = (both_false (has lcid l.nb.bearers) (has lcid l.ue.beare
 -- a bearer is added only where none was, so that nothing was taken
 none_before : (side : Side) (lcid : ℕ) (line : Line) (r : Rules) (l : Link) (ns : List ℕ) → begins lcid line ≡ true
     → refusal line r l ≡ None → (has lcid (end_of side l).bearers ≡ false → ns ≡ [])
-    → (if hands_over line then [] else ns) ≡ []
+    → (if is_handover line then [] else ns) ≡ []
 unfolding rule_broken
 none_before side lcid (lines.Bearer config options) r l ns e allowed none =
     let n = config.channel.lcid in
@@ -150,7 +150,7 @@ record Life (side : Side) (lcid : ℕ) (past : List Group) : Type 0 where
   before_given : AreGiven before
   since_given : AreGiven since
   none_begins : BeginNone lcid since
-  end_is : end_of side (link_behind past) ≡ run since (reached side 4 false before)
+  end_is : end_of side (link_behind past) ≡ run_end since (reached side 4 false before)
   counts_are : counts_on lcid (told_over since (reached side 4 false before)) ≡ counts_since side lcid past
 
 pub come : (side : Side) (past : List Group) → KeepsOrder past
@@ -192,7 +192,7 @@ life_goes side lcid past g right order free f =
     let k = goes side past g right order in
     let e = reached side 4 false f.before in
     let calls = k.by.calls in
-    let told : counts_on lcid (told_over calls (run f.since e)) ≡ counts_taken side lcid g.events =
+    let told : counts_on lcid (told_over calls (run_end f.since e)) ≡ counts_taken side lcid g.events =
     ap (λ (x : End). counts_on lcid (told_over calls x)) (sym f.end_is) ∙ ap (counts_on lcid) (sym k.by.told_is) in
     record {
       before = f.before;
@@ -203,11 +203,11 @@ life_goes side lcid past g right order free f =
           none_then lcid f.since calls f.none_begins
           (calls_none lcid calls
           (subst (λ (x : List Call). BeginNone lcid x) (sym k.lives_are) (line_none lcid g.line keys free)));
-      end_is = k.by.end_is ∙ ap (run calls) f.end_is ∙ sym (run_on f.since calls e);
+      end_is = k.by.end_is ∙ ap (run_end calls) f.end_is ∙ sym (run_on f.since calls e);
       counts_are =
           ap (counts_on lcid) (over_on f.since calls e)
-          ∙ counts_then lcid (told_over f.since e) (told_over calls (run f.since e))
-          ∙ ap (λ (ns : List ℕ). ns ++ counts_on lcid (told_over calls (run f.since e))) f.counts_are
+          ∙ counts_then lcid (told_over f.since e) (told_over calls (run_end f.since e))
+          ∙ ap (λ (ns : List ℕ). ns ++ counts_on lcid (told_over calls (run_end f.since e))) f.counts_are
           ∙ ap (λ (ns : List ℕ). counts_since side lcid past ++ ns) told
           ∙ sym (ap (λ (b : Bool). (if b then [] else counts_since side lcid past) ++ counts_taken side lcid g.events)
           (stays lcid g.line free));

@@ -4,7 +4,7 @@ use Rattle.std.proofs.Common.{Some, None, List, [], ◌∷◌, ◌++◌, map, re
 use Rattle.std.specs.List.{filter}
 use Rattle.std.proofs.lemmas.List.Concat.{flat_map-append}
 use Rattle.law_bearer.specs.AmBearer.Lives.{other as other_end}
-use Rattle.law_words.specs.Lists.{IsFront, IsSubsequence}
+use Rattle.law_words.specs.Lists.{AreFirstSdus, IsSubsequence}
 use Rattle.air_link.specs.Lines.{bears}
 use Rattle.air_link.specs.Link.{Link}
 use Rattle.bearer_types.specs.Sides.{other, sent_by}
@@ -22,13 +22,13 @@ use Rattle.bearer_types.specs.declared.config.BearerConfig.{BearerConfig}
 use Rattle.bearer_types.specs.declared.event.Event.{Event}
 use Rattle.bearer_types.specs.declared.event.Event.TheVariants as events
 use Rattle.law_deliver.specs.AmChannel.Arrival.{happened as flown_in}
-use Rattle.law_deliver.specs.AmChannel.Delivery.{HasBegun, BeginAlike, SetNone, went_up, was_submitted}
+use Rattle.law_deliver.specs.AmChannel.Delivery.{HasBegun, AmEndsBeginAlike, SetNone, went_up, was_submitted}
 use Rattle.law_deliver.proofs.AmChannel.Delivery.{channels_deliver_in_order, channels_deliver_undiscarded}
 use Rattle.law_deliver.proofs.AmChannel.Delivery.{unset_discards_none}
 use Rattle.law_deliver.specs.AmChannel.Lives.{AirStep, end_at, all_calls}
 use Rattle.eps_sec.specs.declared.Keys.{Keys}
 use Rattle.law_deliver.specs.AmFlow.Air.{Air, outset}
-use Rattle.law_deliver.specs.AmFlow.Ups.{ups_on, ups_in as event_ups}
+use Rattle.law_deliver.specs.AmFlow.Ups.{ups_on, up_on}
 use Rattle.promises.specs.Events.{discards_on}
 use Rattle.l2_node.specs.End.{End}
 use Rattle.l2_types.specs.declared.channel.Kind.TheVariants.{Am, Um}
@@ -36,11 +36,11 @@ use Rattle.l2_types.specs.declared.side.Side.{Side}
 use Rattle.l2_types.specs.declared.side.Side.TheVariants.{Nb, Ue}
 use Rattle.law_node.specs.Calls.{Add, after as after_call}
 use Rattle.law_node.specs.Telling.{told_over}
-use Rattle.promises.specs.Records.{is_up, event_of, told_by, sdu_of, ups_in}
+use Rattle.promises.specs.Records.{is_up, event_of, events_of, sdu_of, ups_in}
 use Rattle.law_air.proofs.AnyCalls.Going.{told_both}
 use Rattle.prioritise.proofs.ChannelLemmas.{both_false}
-use Rattle.promises.specs.Arrival.{tells_in, ended_by, happened}
-use Rattle.law_words.specs.Arrivals.{Happening}
+use Rattle.promises.specs.Arrival.{entries_in, entries_ended, entries_from}
+use Rattle.law_words.specs.Arrivals.{AccountEntry}
 use Rattle.law_air.proofs.TwoEnds.Coming.{bearers_begin, ends_come_by}
 use Rattle.air_run.specs.Written.{all_seen, noticed, with_um}
 use Rattle.um_losses.specs.Flow.{Flow}
@@ -53,12 +53,12 @@ use Rattle.law_air.proofs.TwoEnds.Lives.{channels_begin}
 use Rattle.promises.specs.Delivery.{forges, is_forged, sets_timer, is_timed, discarded, DeliverAll, DeliversInOrder}
 use Rattle.promises.specs.Flows.{handed_in, looped_at, submitted, delivered}
 use Rattle.law_run.specs.Order.{state_behind, IsRight, KeepsOrder}
-use Rattle.promises.specs.Parts.{part}
+use Rattle.promises.specs.Parts.{part_of_line}
 use Rattle.promises.specs.Configs.{config_by, config_of}
 use Rattle.law_run.proofs.Early.{is_early}
 use Rattle.law_run.proofs.Failed.{HasSender, sender_goes, sender_begins}
-use Rattle.law_run.proofs.Flowing.{Sdus, Happened, Haps, word_of, with_word, Lived, unseen, LineLives, lived_now}
-use Rattle.law_run.proofs.Flowing.{line_lives}
+use Rattle.law_run.proofs.Flowing.{Sdus, Happened, Haps, word_of, with_word}
+use Rattle.law_run.proofs.Lives.{Lived, LineLives, lived_now, unseen, line_lives}
 use Rattle.law_run.proofs.Keys.{not_first, not_second, no_cause}
 use Rattle.law_run.proofs.Past.{behind, link_behind}
 use Rattle.law_run.proofs.Reaching.{kinds_behind}
@@ -75,7 +75,7 @@ up_by true true l s lcid octets told up e h = rw e (ap (λ (xs : List (List ℕ)
 up_by true false l s lcid octets told up e h = rw e (sym h)
 up_by false on l s lcid octets told up e h = sym h
 
-none_up : (b : Bool) (l : ℕ) (e : Event) → event_ups l e ≡ [] → ups_on l (if b then e ∷ [] else []) ≡ []
+none_up : (b : Bool) (l : ℕ) (e : Event) → up_on l e ≡ [] → ups_on l (if b then e ∷ [] else []) ≡ []
 none_up true l e none = ap (λ (xs : List (List ℕ)). xs ++ []) none
 none_up false l e none = refl
 
@@ -86,24 +86,24 @@ one_told side l (records.Of s (events.Up lcid octets)) told up h =
 one_told side l (records.Of s e) told up h = ap (λ (xs : List (List ℕ)). xs ++ up) (none_up _ l e refl) ∙ sym h
 one_told side l one told up h = sym h
 
-pub ups_are_told : (side : Side) (l : ℕ) (told : List Record) → ups_on l (told_by side told) ≡ ups_in side l told
+pub ups_are_told : (side : Side) (l : ℕ) (told : List Record) → ups_on l (events_of side told) ≡ ups_in side l told
 ups_are_told side l [] = refl
 ups_are_told side l (one ∷ told) =
-    flat_map-append (event_ups l) (event_of side one) (told_by side told)
+    flat_map-append (up_on l) (event_of side one) (events_of side told)
     ∙ ap (λ (xs : List (List ℕ)). ups_on l (event_of side one) ++ xs) (ups_are_told side l told)
     ∙ one_told side l one told (ups_in side l told) refl
 
 pub ups_told : (side : Side) (l : ℕ) (past : List Group)
-    → delivered side l past ≡ ups_on l (told_by side (history past))
+    → delivered side l past ≡ ups_on l (events_of side (history past))
 ups_told side l [] = refl
 ups_told side l (g ∷ past) =
     ap (λ (xs : List (List ℕ)). xs ++ ups_in side l g.events) (ups_told side l past)
-    ∙ ap (λ (xs : List (List ℕ)). ups_on l (told_by side (history past)) ++ xs)
+    ∙ ap (λ (xs : List (List ℕ)). ups_on l (events_of side (history past)) ++ xs)
     (sym (ups_are_told side l g.events))
-    ∙ sym (flat_map-append (event_ups l) (told_by side (history past)) (told_by side g.events))
+    ∙ sym (flat_map-append (up_on l) (events_of side (history past)) (events_of side g.events))
     ∙ ap (ups_on l)
-    (sym (told_both side (history past) (records.Line g.number g.line ∷ g.events) (told_by side (history past))
-    (told_by side g.events) refl refl))
+    (sym (told_both side (history past) (records.Line g.number g.line ∷ g.events) (events_of side (history past))
+    (events_of side g.events) refl refl))
 
 pub other_is : (side : Side) → other_end side ≡ other side
 other_is Nb = refl
@@ -131,16 +131,16 @@ pub record IsDelivering (l : ℕ) (c : BearerConfig) (past : List Group) : Type 
   pub set : Bool
   pub lived : Lived l nb ue c.rlc_bits (c.kind ≡ Um) told handed flown haps set (link_behind past)
   pub unset : is_timed l past ≡ false → set ≡ false
-  pub told_is : (side : Side) → told_by side (history past) ≡ told_by side told
+  pub told_is : (side : Side) → events_of side (history past) ≡ events_of side told
   pub submitted_is : (side : Side) → submitted side l past ≡ handed side l
-  pub happened_is : (bits : ℕ) (from : Side) → happened bits l from past ≡ flown bits from
+  pub happened_is : (bits : ℕ) (from : Side) → entries_from bits l from past ≡ flown bits from
   pub senders : c.kind ≡ Am → (side : Side) → HasSender side l past
   -- and what is told is what became of the flow from each side
   pub flows : c.kind ≡ Um → (from : Side) → flow_at (sent_by from) l (state_behind past).losses.flows
       ≡ Some (all_after (haps from) (first_flow from l c))
 
 pub alike : (l : ℕ) (c : BearerConfig) (past : List Group) (d : IsDelivering l c past) → c.kind ≡ Am
-    → BeginAlike l c d.keys d.nb d.ue
+    → AmEndsBeginAlike l c d.keys d.nb d.ue
 alike l c past d kind = record {
   kind = kind;
   config = d.config;
@@ -156,12 +156,13 @@ goes_on : (l : ℕ) (c : BearerConfig) (past : List Group) (g : Group) → IsRig
 goes_on l c past g right order other own d =
     let k = link_behind past in
     let m = behind_line g.line (state_behind past) in
-    let p = part g.line in
+    let p = part_of_line g.line in
     let set = d.set || sets_timer l g.line in
     let w = (state_behind past).losses in
     let word = word_of g.line in
     let haps = with_word word d.haps in
-    let x : LineLives l d.nb d.ue c.rlc_bits (c.kind ≡ Um) d.told haps d.told d.handed d.flown set (ended_by g.line) p
+    let x : LineLives l d.nb d.ue c.rlc_bits (c.kind ≡ Um) d.told haps d.told d.handed d.flown set
+        (entries_ended g.line) p
     m =
     line_lives l d.nb d.ue c.rlc_bits (c.kind ≡ Um) d.told d.handed d.flown d.haps d.set g.line
     (state_behind past).rules.keys k (behind past order).nothing right.in_range other own d.lived in
@@ -175,7 +176,7 @@ goes_on l c past g right order other own d =
       ue_begun = d.ue_begun;
       told = d.told ++ x.more;
       handed = λ side n. d.handed side n ++ (handed_in side n p m.out ++ looped_at side n m.out);
-      flown = λ bits from. d.flown bits from ++ (ended_by g.line ++ tells_in bits l from [] m.out);
+      flown = λ bits from. d.flown bits from ++ (entries_ended g.line ++ entries_in bits l from [] m.out);
       haps = λ from. haps from ++ told_in (sent_by from) l w.cursor x.more;
       set = set;
       lived = unseen l d.nb d.ue c.rlc_bits (c.kind ≡ Um) (d.told ++ x.more) _ _ _ set m []
@@ -183,18 +184,18 @@ goes_on l c past g right order other own d =
       unset = λ off. let apart = both_false (sets_timer l g.line) (is_timed l past) off in
           ap (λ (b : Bool). b || sets_timer l g.line) (d.unset apart.1) ∙ apart.0;
       told_is = λ side.
-          told_both side (history past) (records.Line g.number g.line ∷ g.events) (told_by side d.told)
-          (told_by side x.more) (d.told_is side) (ap (told_by side) right.events_are ∙ x.told_are side)
-          ∙ sym (told_both side d.told x.more (told_by side d.told) (told_by side x.more) refl refl);
+          told_both side (history past) (records.Line g.number g.line ∷ g.events) (events_of side d.told)
+          (events_of side x.more) (d.told_is side) (ap (events_of side) right.events_are ∙ x.told_are side)
+          ∙ sym (told_both side d.told x.more (events_of side d.told) (events_of side x.more) refl refl);
       submitted_is = λ side.
           ap (λ (xs : List (List ℕ)). xs ++ (handed_in side l p g.events ++ looped_at side l g.events))
           (d.submitted_is side)
           ∙ ap (λ (ys : List Record). d.handed side l ++ (handed_in side l p ys ++ looped_at side l ys))
           right.events_are;
       happened_is = λ bits from.
-          ap (λ (hs : List Happening). hs ++ (ended_by g.line ++ tells_in bits l from [] g.events))
+          ap (λ (hs : List AccountEntry). hs ++ (entries_ended g.line ++ entries_in bits l from [] g.events))
           (d.happened_is bits from)
-          ∙ ap (λ (ys : List Record). d.flown bits from ++ (ended_by g.line ++ tells_in bits l from [] ys))
+          ∙ ap (λ (ys : List Record). d.flown bits from ++ (entries_ended g.line ++ entries_in bits l from [] ys))
           right.events_are;
       senders = λ kind side. sender_goes side l past g right order other (d.senders kind side);
       flows = λ kind from.
@@ -327,7 +328,7 @@ module _ (l : ℕ) (c : BearerConfig) (past : List Group) (d : IsDelivering l c 
   abbrev pub start : Air
   start = outset d.nb d.ue
 
-  pub tells : (side : Side) → told_over (all_calls side steps start) (end_at side start) ≡ told_by side (history past)
+  pub tells : (side : Side) → told_over (all_calls side steps start) (end_at side start) ≡ events_of side (history past)
   tells side = sym (d.told_is side ∙ d.lived.by.told_is side)
 
   pub went_up_is : (from : Side) → went_up l (all_calls (other_end from) steps start) (end_at (other_end from) start)
@@ -339,7 +340,7 @@ module _ (l : ℕ) (c : BearerConfig) (past : List Group) (d : IsDelivering l c 
       ≡ submitted from l past
   was_submitted_is from = d.lived.by.submitted_is from l ∙ sym (d.submitted_is from)
 
-  pub happened_from : (bits : ℕ) (from : Side) → flown_in bits l from steps start ≡ happened bits l from past
+  pub happened_from : (bits : ℕ) (from : Side) → flown_in bits l from steps start ≡ entries_from bits l from past
   happened_from bits from = d.lived.by.happened_is bits from ∙ sym (d.happened_is bits from)
 
 delivers : (past : List Group) → KeepsOrder past → DeliverAll past
@@ -357,7 +358,7 @@ delivers past order from l c e kind own =
           as_told (λ xs ys. IsSubsequence xs ys) ups all
           (channels_deliver_in_order l c d.keys d.nb d.ue from h.steps both h.living);
       none_left_out =
-          λ none. as_told IsFront ups all
+          λ none. as_told AreFirstSdus ups all
           (channels_deliver_undiscarded l c d.keys d.nb d.ue from h.steps both h.living
           (ap (discards_on l) (tells l c past d from) ∙ none));
       none_discarded = λ off. none (h.sets_none (d.unset off) from);

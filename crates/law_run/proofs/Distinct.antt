@@ -12,7 +12,7 @@ use Rattle.law_bearer.specs.AnyBearer.Ciphering.{IsOneOf}
 use Rattle.law_words.specs.Lists.{AreDistinct}
 use Rattle.law_bearer.proofs.AnyBearer.Ciphering.{none_of_them}
 use Rattle.eps_sec.specs.declared.Keys.{Keys}
-use Rattle.promises.specs.Keys.{keys_of, all_keys, in_force_by, in_force, gives_keys, given}
+use Rattle.promises.specs.Keys.{keys_of, all_keys, keys_in_force_by, keys_in_force, gives_keys, keys_given}
 
 one_of_either : (x : List ℕ) (xs : List (List ℕ)) (y : List ℕ) → IsOneOf x (xs ++ y ∷ []) → IsOneOf x xs ⊎ (x ≡ y)
 one_of_either x [] y (inl e) = inr e
@@ -40,24 +40,25 @@ rrc_key keys = keys.rrc.octets
 
 -- what holds of the keys that lines gave, among all keys
 pub record AreKeys (past : List Group) : Type 0 where
-  pub users : (x : List ℕ) → IsOneOf x (map user_key (given past)) → IsOneOf x (all_keys past)
-  pub rrcs : (x : List ℕ) → IsOneOf x (map rrc_key (given past)) → IsOneOf x (all_keys past)
-  pub users_differ : AreDistinct (map user_key (given past))
-  pub rrcs_differ : AreDistinct (map rrc_key (given past))
-  pub apart : (x : List ℕ) → IsOneOf x (map user_key (given past)) → IsOneOf x (map rrc_key (given past)) → ⊥
+  pub users : (x : List ℕ) → IsOneOf x (map user_key (keys_given past)) → IsOneOf x (all_keys past)
+  pub rrcs : (x : List ℕ) → IsOneOf x (map rrc_key (keys_given past)) → IsOneOf x (all_keys past)
+  pub users_differ : AreDistinct (map user_key (keys_given past))
+  pub rrcs_differ : AreDistinct (map rrc_key (keys_given past))
+  pub apart : (x : List ℕ) → IsOneOf x (map user_key (keys_given past)) → IsOneOf x (map rrc_key (keys_given past)) → ⊥
 
 -- with those of a line
 record AreMore (past : List Group) (keys : List Keys) (all : List (List ℕ)) : Type 0 where
-  users : (x : List ℕ) → IsOneOf x (map user_key (given past ++ keys)) → IsOneOf x all
-  rrcs : (x : List ℕ) → IsOneOf x (map rrc_key (given past ++ keys)) → IsOneOf x all
-  users_differ : AreDistinct (map user_key (given past ++ keys))
-  rrcs_differ : AreDistinct (map rrc_key (given past ++ keys))
-  apart : (x : List ℕ) → IsOneOf x (map user_key (given past ++ keys)) → IsOneOf x (map rrc_key (given past ++ keys))
+  users : (x : List ℕ) → IsOneOf x (map user_key (keys_given past ++ keys)) → IsOneOf x all
+  rrcs : (x : List ℕ) → IsOneOf x (map rrc_key (keys_given past ++ keys)) → IsOneOf x all
+  users_differ : AreDistinct (map user_key (keys_given past ++ keys))
+  rrcs_differ : AreDistinct (map rrc_key (keys_given past ++ keys))
+  apart : (x : List ℕ) → IsOneOf x (map user_key (keys_given past ++ keys))
+      → IsOneOf x (map rrc_key (keys_given past ++ keys))
       → ⊥
 
 no_more : (past : List Group) → AreKeys past → AreMore past [] (all_keys past)
 no_more past h =
-    let none = append-nil (given past) in
+    let none = append-nil (keys_given past) in
     record {
       users = λ x is. h.users x (subst (λ (ks : List Keys). IsOneOf x (map user_key ks)) none is);
       rrcs = λ x is. h.rrcs x (subst (λ (ks : List Keys). IsOneOf x (map rrc_key ks)) none is);
@@ -71,10 +72,10 @@ three_more : (past : List Group) (k : Keys)
     → AreDistinct (user_key k ∷ rrc_key k ∷ k.integrity.octets ∷ all_keys past) → AreKeys past
     → AreMore past (k ∷ []) (user_key k ∷ rrc_key k ∷ k.integrity.octets ∷ all_keys past)
 three_more past k d h =
-    let us = map user_key (given past) in
-    let rs = map rrc_key (given past) in
-    let users_are = map-append user_key (given past) (k ∷ []) in
-    let rrcs_are = map-append rrc_key (given past) (k ∷ []) in
+    let us = map user_key (keys_given past) in
+    let rs = map rrc_key (keys_given past) in
+    let users_are = map-append user_key (keys_given past) (k ∷ []) in
+    let rrcs_are = map-append rrc_key (keys_given past) (k ∷ []) in
     let user_new : (x : List ℕ) → IsOneOf x (all_keys past) → user_key k ≡ x
     → ⊥ = λ x is same. none_of_them (user_key k) (all_keys past)
     (subst (λ (y : List ℕ). IsOneOf y (all_keys past)) (sym same) is) d.0.1.1 in
@@ -109,11 +110,11 @@ three_more past k d h =
     }
 
 more_keys : (line : Line) (past : List Group) → AreDistinct (keys_of line ++ all_keys past) → AreKeys past
-    → AreMore past (if gives_keys line then in_force_by line (in_force past) ∷ [] else [])
+    → AreMore past (if gives_keys line then keys_in_force_by line (keys_in_force past) ∷ [] else [])
     (keys_of line ++ all_keys past)
 more_keys (lines.Keys keys) past d h = three_more past keys d h
 more_keys (lines.Handover user rrc integrity) past d h =
-    three_more past (next_keys user rrc integrity (in_force past)) d h
+    three_more past (next_keys user rrc integrity (keys_in_force past)) d h
 more_keys line past d h = no_more past h
 
 distinct_behind : (xs ys : List (List ℕ)) → AreDistinct (xs ++ ys) → AreDistinct ys

@@ -16,7 +16,7 @@ use Rattle.air_run.specs.Run.{fresh}
 use Rattle.air_run.specs.declared.refusal.RunRefusal.TheVariants.{SmallDrain, LoopOn, Forged}
 use Rattle.air_text.specs.Groups.{Group, history}
 use Rattle.bearer_types.specs.declared.event.Event.{Event}
-use Rattle.promises.specs.Records.{told_by}
+use Rattle.promises.specs.Records.{events_of}
 use Rattle.law_deliver.specs.AmChannel.Delivery.{submitted_at}
 use Rattle.law_deliver.specs.AmChannel.Drained.{has_failed}
 use Rattle.promises.specs.Taken.{kept_of}
@@ -135,7 +135,7 @@ leaves_nothing past order done own from l c e kind unfailed =
     record {
       kept_are_up =
           up ∙ (all.kept ∙ ap (λ (events : List Event). kept_of l c.first events (submitted_at l from xs a))
-          (tells l c past d from) ∙ ap (kept_of l c.first (told_by from (history past))) sdus);
+          (tells l c past d from) ∙ ap (kept_of l c.first (events_of from (history past))) sdus);
       all_are_up = λ undiscarded. up ∙ all.submitted (ap (discards_on l) (tells l c past d from) ∙ undiscarded) ∙ sdus;
     }
 

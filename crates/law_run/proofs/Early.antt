@@ -14,15 +14,15 @@ use Rattle.air_text.specs.Ranges.{IsInRange}
 use Rattle.l2_types.specs.declared.side.Side.{Side}
 use Rattle.l2_types.specs.declared.side.Side.TheVariants.{Nb, Ue}
 use Rattle.law_air.specs.AnyCalls.Calls as calls
-use Rattle.promises.specs.Records.{told_by}
+use Rattle.promises.specs.Records.{events_of}
 use Rattle.law_air.proofs.AnyCalls.Going.{told_both}
-use Rattle.promises.specs.Arrival.{tells_in, ended_by, happened}
-use Rattle.law_words.specs.Arrivals.{Happening}
+use Rattle.promises.specs.Arrival.{entries_in, entries_ended, entries_from}
+use Rattle.law_words.specs.Arrivals.{AccountEntry}
 use Rattle.law_air.specs.TwoEnds.Lives.{IsAtRest}
 use Rattle.law_air.proofs.TwoEnds.Lives.{first_rests, calls_rest}
 use Rattle.promises.specs.Flows.{handed_in, looped_at, submitted}
 use Rattle.law_run.specs.Order.{state_behind, KeepsOrder}
-use Rattle.promises.specs.Parts.{Rests, part}
+use Rattle.promises.specs.Parts.{Rests, part_of_line}
 use Rattle.law_run.proofs.Past.{link_behind}
 
 -- ---- a line that configures
@@ -30,8 +30,8 @@ use Rattle.law_run.proofs.Past.{link_behind}
 record StillRests (line : Line) (k m : Link) : Type 0 where
   rest : IsAtRest m
   silent : m.out ≡ k.out
-  part_is : part line ≡ Rests
-  lives_on : ended_by line ≡ []
+  part_is : part_of_line line ≡ Rests
+  lives_on : entries_ended line ≡ []
 
 configures : (line : Line) (r : Rules) (k : Link) → IsInRange line → (accepted line r).begun ≡ false → IsAtRest k
     → StillRests line k (played line r.keys k)
@@ -76,9 +76,9 @@ unbegun line r e = absurd cc
 pub record IsEarly (past : List Group) : Type 0 where
   pub rest : IsAtRest (link_behind past)
   pub silent : (link_behind past).out ≡ []
-  pub none_told : (side : Side) → told_by side (history past) ≡ []
+  pub none_told : (side : Side) → events_of side (history past) ≡ []
   pub none_submitted : (side : Side) (lcid : ℕ) → submitted side lcid past ≡ []
-  pub none_happened : (bits lcid : ℕ) (from : Side) → happened bits lcid from past ≡ []
+  pub none_happened : (bits lcid : ℕ) (from : Side) → entries_from bits lcid from past ≡ []
 
 -- the records are written
 shown_rests : (k : Link) → IsAtRest k → IsAtRest (shown k)
@@ -97,18 +97,18 @@ still_early past g h s e =
       rest = shown_rests (behind_line g.line (state_behind past)) s.rest;
       silent = refl;
       none_told = λ side. told_both side (history past) (records.Line g.number g.line ∷ g.events) [] []
-          (h.none_told side) (ap (told_by side) none);
+          (h.none_told side) (ap (events_of side) none);
       none_submitted = λ side lcid.
           ap (λ (xs : List (List ℕ)). xs
-          ++ (handed_in side lcid (part g.line) g.events ++ looped_at side lcid g.events))
+          ++ (handed_in side lcid (part_of_line g.line) g.events ++ looped_at side lcid g.events))
           (h.none_submitted side lcid)
           ∙ ap (λ p. handed_in side lcid p g.events ++ looped_at side lcid g.events) s.part_is
           ∙ ap (λ (x : List Record). looped_at side lcid x) none ∙ none_looped side lcid;
       none_happened = λ bits lcid from.
-          ap (λ (hs : List Happening). hs ++ (ended_by g.line ++ tells_in bits lcid from [] g.events))
+          ap (λ (hs : List AccountEntry). hs ++ (entries_ended g.line ++ entries_in bits lcid from [] g.events))
           (h.none_happened bits lcid from)
-          ∙ ap (λ (hs : List Happening). hs ++ tells_in bits lcid from [] g.events) s.lives_on
-          ∙ ap (λ (x : List Record). tells_in bits lcid from [] x) none;
+          ∙ ap (λ (hs : List AccountEntry). hs ++ entries_in bits lcid from [] g.events) s.lives_on
+          ∙ ap (λ (x : List Record). entries_in bits lcid from [] x) none;
     }
 
 pub is_early : (past : List Group) → KeepsOrder past → (state_behind past).rules.begun ≡ false → IsEarly past

@@ -12,7 +12,7 @@ use Rattle.law_run.proofs.Looping.{return_in_order}
 use Rattle.law_run.proofs.Past.{behind, are_carried}
 use Rattle.law_run.proofs.Playing.{tells-all}
 use Rattle.law_run.proofs.Reaching.{come_by_calls}
-use Rattle.law_run.proofs.Texts.{none_meet}
+use Rattle.law_run.proofs.Meeting.{none_meet}
 use Rattle.law_run.proofs.Signalling.{delivers_each_life, drains_leave_no_signal, handovers_bring_none}
 use Rattle.law_run.proofs.Standing.{lines_tell}
 use Rattle.law_run.proofs.Zero.{bring_in_order}

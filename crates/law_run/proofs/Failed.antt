@@ -26,12 +26,12 @@ use Rattle.l2_node.specs.End.{End}
 use Rattle.l2_types.specs.declared.channel.Kind.{Kind}
 use Rattle.l2_types.specs.declared.channel.Kind.TheVariants.{Am, Srb}
 use Rattle.l2_types.specs.declared.side.Side.{Side}
-use Rattle.promises.specs.Records.{told_by}
+use Rattle.promises.specs.Records.{events_of}
 use Rattle.law_node.specs.Bearers.{adds, moves, AddNone}
-use Rattle.law_node.specs.Calls.{Call, Move, IsGiven, AreGiven, after, run}
+use Rattle.law_node.specs.Calls.{Call, Move, IsGiven, AreGiven, after, run_end}
 use Rattle.law_node.specs.Holding.{flow}
 use Rattle.law_node.specs.Telling.{told_of, told_over}
-use Rattle.promises.specs.Parts.{hands_over}
+use Rattle.promises.specs.Parts.{is_handover}
 use Rattle.promises.specs.Drained.{failed}
 use Rattle.law_run.specs.Order.{state_behind, IsRight, KeepsOrder}
 use Rattle.law_run.proofs.Counts.{goes}
@@ -76,7 +76,7 @@ module _ (side : Side) (l : ℕ) where
   one_stands : (e : End) (c : Call) → Stands side l e → IsGiven c → adds l c ≡ false → Stands side l (after e c)
   one_stands e c s g other = stands_more side l e c s g (λ is. let no : true ≡ false = sym is ∙ other in absurd cc)
 
-  calls_stand : (e : End) (cs : List Call) → Stands side l e → AreGiven cs → AddNone l cs → Stands side l (run cs e)
+  calls_stand : (e : End) (cs : List Call) → Stands side l e → AreGiven cs → AddNone l cs → Stands side l (run_end cs e)
   calls_stand e [] s g none = s
   calls_stand e (c ∷ cs) s g none = calls_stand (after e c) cs (one_stands e c s g.0 none.0) g.1 none.1
 
@@ -98,7 +98,7 @@ module _ (side : Side) (l : ℕ) where
   call_goes e c s (inr (keys, is)) quiet unfailed = move_goes e c keys is s
 
   calls_go : (e : End) (cs : List Call) → Stands side l e → AreGiven cs → AddNone l cs
-      → fails_on l (told_over cs e) ≡ [] → Unfailed l e → Unfailed l (run cs e)
+      → fails_on l (told_over cs e) ≡ [] → Unfailed l e → Unfailed l (run_end cs e)
   calls_go e [] s g none quiet unfailed = unfailed
   calls_go e (c ∷ cs) s g none quiet unfailed =
       let parts = none_both (fails_on l (told_of e c)) (fails_on l (told_over cs (after e c)))
@@ -110,15 +110,15 @@ module _ (side : Side) (l : ℕ) where
   moved_by : (e : End) (c : Call) (cs : List Call) (k : Keys) (ks : List Keys)
       → GoesOnInLife l c ⊎ ((keys : Keys) × (c ≡ Move keys)) → Stands side l e → AreGiven (c ∷ cs)
       → AddNone l (c ∷ cs) → moves (c ∷ cs) ≡ k ∷ ks
-      → fails_on l (told_over cs (after e c)) ≡ [] → (moves cs ≡ k ∷ ks → Unfailed l (run cs (after e c)))
-      → Unfailed l (run cs (after e c))
+      → fails_on l (told_over cs (after e c)) ≡ [] → (moves cs ≡ k ∷ ks → Unfailed l (run_end cs (after e c)))
+      → Unfailed l (run_end cs (after e c))
   moved_by e c cs k ks (inl life) s g none one quiet rest =
       rest (ap (λ (xs : List Keys). xs ++ moves cs) (sym life.moves_none) ∙ one)
   moved_by e c cs k ks (inr (keys, is)) s g none one quiet rest =
       calls_go (after e c) cs (one_stands e c s g.0 none.0) g.1 none.1 quiet (move_goes e c keys is s)
 
   calls_move : (e : End) (cs : List Call) (k : Keys) (ks : List Keys) → Stands side l e → AreGiven cs → AddNone l cs
-      → moves cs ≡ k ∷ ks → fails_on l (told_over cs e) ≡ [] → Unfailed l (run cs e)
+      → moves cs ≡ k ∷ ks → fails_on l (told_over cs e) ≡ [] → Unfailed l (run_end cs e)
   calls_move e [] k ks s g none one quiet = absurd cc
   calls_move e (c ∷ cs) k ks s g none one quiet =
       let parts = none_both (fails_on l (told_of e c)) (fails_on l (told_over cs (after e c)))
@@ -137,7 +137,7 @@ record Moves (cs : List Call) : Type 0 where
   rest : List Keys
   moves_are : moves cs ≡ first ∷ rest
 
-handed_over : (line : Line) (keys : Option Keys) → hands_over line ≡ true → Moves (lives_by line keys)
+handed_over : (line : Line) (keys : Option Keys) → is_handover line ≡ true → Moves (lives_by line keys)
 handed_over (lines.Handover user rrc integrity) keys is =
     record { first = next_keys user rrc integrity (keys_or_none keys); rest = []; moves_are = refl }
 handed_over line keys is = absurd cc
@@ -156,31 +156,31 @@ module _ (side : Side) (l : ℕ) (past : List Group) (g : Group) (right : IsRigh
       (subst (AddNone l) (sym (goes side past g right order).lives_are)
       (adds_none l g.line (state_behind past).rules.keys other))
 
-  told : fails_on l (told_by side g.events) ≡ fails_on l (told_over calls here)
+  told : fails_on l (events_of side g.events) ≡ fails_on l (told_over calls here)
   told = ap (fails_on l) (goes side past g right order).by.told_is
 
-  group_by : (over : Bool) → hands_over g.line ≡ over
-      → (if over then [] else failed side l past) ++ fails_on l (told_by side g.events) ≡ []
-      → Unfailed l (run calls here)
+  group_by : (over : Bool) → is_handover g.line ≡ over
+      → (if over then [] else failed side l past) ++ fails_on l (events_of side g.events) ≡ []
+      → Unfailed l (run_end calls here)
   group_by true is quiet =
       let m = handed_over g.line (state_behind past).rules.keys is in
       calls_move side l here calls m.first m.rest h.stands (goes side past g right order).by.given none_added
       (moves_are calls ∙ ap moves (goes side past g right order).lives_are ∙ m.moves_are) (sym told ∙ quiet)
   group_by false is quiet =
-      let parts = none_both (failed side l past) (fails_on l (told_by side g.events)) quiet in
+      let parts = none_both (failed side l past) (fails_on l (events_of side g.events)) quiet in
       calls_go side l here calls h.stands (goes side past g right order).by.given none_added (sym told ∙ parts.1)
       (h.unfailed parts.0)
 
   pub sender_goes : HasSender side l (g ∷ past)
   sender_goes =
-      let there : run calls here ≡ end_of side (link_behind (g ∷ past)) =
+      let there : run_end calls here ≡ end_of side (link_behind (g ∷ past)) =
       sym (goes side past g right order).by.end_is in
       record {
         stands =
             subst (Stands side l) there
             (calls_stand side l here calls h.stands (goes side past g right order).by.given none_added);
         unfailed = λ quiet. ap (λ (e : End). has_failed (flow l e)) (sym there)
-            ∙ group_by (hands_over g.line) refl quiet;
+            ∙ group_by (is_handover g.line) refl quiet;
       }
 
 -- as a bearer comes

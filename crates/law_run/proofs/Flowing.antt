@@ -15,7 +15,6 @@ use Rattle.air_run.specs.Draining.{shown, Drained, at_once, behind, ttis, sender
 use Rattle.air_run.specs.Draining.{told_by, rounds, budget, drained}
 use Rattle.air_record.specs.Endings.{ending}
 use Rattle.air_run.specs.Playing.{keys_or_none, acted, played}
-use Rattle.air_record.specs.Cells.{next_keys}
 use Rattle.air_text.specs.Ranges.{IsInRange}
 use Rattle.law_deliver.specs.AmChannel.Delivery.{accepted}
 use Rattle.eps_sec.specs.declared.Keys.{Keys}
@@ -24,31 +23,26 @@ use Rattle.l2_node.specs.Submitting.{refusal}
 use Rattle.l2_types.specs.declared.side.Side.{Side}
 use Rattle.l2_types.specs.declared.side.Side.TheVariants.{Nb, Ue}
 use Rattle.law_air.specs.AnyCalls.Calls as calls
-use Rattle.bearer_types.specs.Sides.{is_same, sent_by}
-use Rattle.promises.specs.Records.{is_looped, told_by as told_of, sdu_of}
+use Rattle.bearer_types.specs.Sides.{is_same}
+use Rattle.promises.specs.Records.{is_looped, events_of, sdu_of}
 use Rattle.law_air.proofs.AnyCalls.Going.{told_both}
 use Rattle.law_air.specs.AnyCalls.Runs.{Step, Tti, Drains, Submit, Calls, step}
 use Rattle.law_air.specs.AnyCalls.Told.{refusals}
 use Rattle.law_air.proofs.AnyCalls.Calling.{submitting_adds}
 use Rattle.l2_node.specs.End.{End}
-use Rattle.law_deliver.specs.AmFlow.Air.{outset}
-use Rattle.law_air.specs.TwoEnds.Arrival.{renews, told_by_step}
-use Rattle.promises.specs.Arrival.{tells_in, ended_by}
-use Rattle.law_words.specs.Arrivals.{Happening}
-use Rattle.law_air.specs.TwoEnds.Going.{TellAlone, GoesByAir, sets, handed_in as handed_by, IsStepSince}
+use Rattle.law_air.specs.TwoEnds.Arrival.{renewals_in, told_by_step}
+use Rattle.promises.specs.Arrival.{entries_in, entries_ended}
+use Rattle.law_words.specs.Arrivals.{AccountEntry}
+use Rattle.law_air.specs.TwoEnds.Going.{TellAlone, sets, handed_in as handed_by, IsStepSince}
 use Rattle.law_air.proofs.TwoEnds.Going.{last_in, tells_more}
-use Rattle.law_air.specs.TwoEnds.Staying.{hands_over as moves}
-use Rattle.law_air.proofs.TwoEnds.Coming.{ends_come_by, steps_come}
-use Rattle.law_air.proofs.TwoEnds.Staying.{LivedIn, ends_live_in, lived_in_as, steps_live_in}
-use Rattle.law_air.specs.TwoEnds.Shown.{IsShown, anew}
+use Rattle.law_air.specs.TwoEnds.Staying.{is_handover_step}
 use Rattle.law_air.proofs.TwoEnds.Showing.{in_then}
 use Rattle.mac_pdu.specs.declared.item.Direction.{Direction}
 use Rattle.um_losses.specs.Names.{Place, Happening as What, begins_anew}
 use Rattle.um_losses.specs.Told.{told_in, place_behind}
-use Rattle.law_deliver.specs.UmGaps.Whats.{whats}
 use Rattle.test_loop.specs.declared.Mode.TheVariants.{Off, A, B}
 use Rattle.promises.specs.Delivery.{forges, sets_timer}
-use Rattle.promises.specs.Parts.{hands_over, Part, Submits, Rests, part}
+use Rattle.promises.specs.Parts.{is_handover, Part, Submits, Rests, part_of_line}
 use Rattle.promises.specs.Flows.{handed_in, looped_at}
 use Rattle.law_run.proofs.Early.{none_looped}
 use Rattle.law_run.proofs.Texts.{adds_one}
@@ -59,7 +53,7 @@ Sdus = Side → ℕ → List (List ℕ)
 
 -- what happens to the PDUs that go from each side, by the bits of PDCP's numbers
 abbrev pub Happened : Type 0
-Happened = ℕ → Side → List Happening
+Happened = ℕ → Side → List AccountEntry
 
 -- what is told of an unacknowledged flow from each side
 abbrev pub Haps : Type 0
@@ -117,12 +111,12 @@ unlooped_end side n said is_done done = looped_then side n said (ending is_done 
     none Ue false = refl
 
 untold_end : (side : Side) (said : List Record) (is_done : Bool) (done : ℕ)
-    → told_of side (said ++ ending is_done done ∷ []) ≡ told_of side said
+    → events_of side (said ++ ending is_done done ∷ []) ≡ events_of side said
 untold_end side said is_done done =
-    told_both side said (ending is_done done ∷ []) (told_of side said) [] refl (none is_done)
-    ∙ append-nil (told_of side said)
+    told_both side said (ending is_done done ∷ []) (events_of side said) [] refl (none is_done)
+    ∙ append-nil (events_of side said)
   where
-    none : (b : Bool) → told_of side (ending b done ∷ []) ≡ []
+    none : (b : Bool) → events_of side (ending b done ∷ []) ≡ []
     none true = refl
     none false = refl
 
@@ -135,31 +129,31 @@ or_false false = refl
 -- ---- what records tell of the air
 
 pub tells_both : (l : ℕ) (f g : List Record) → TellAlone l g → (bits : ℕ) (from : Side)
-    → tells_in bits l from [] (f ++ g) ≡ tells_in bits l from [] f ++ tells_in bits l from [] g
+    → entries_in bits l from [] (f ++ g) ≡ entries_in bits l from [] f ++ entries_in bits l from [] g
 tells_both l f g h bits from = tells_more bits l from [] f g
-    ∙ ap (λ (hs : List Happening). tells_in bits l from [] f ++ hs) (h bits from (last_in f []))
+    ∙ ap (λ (hs : List AccountEntry). entries_in bits l from [] f ++ hs) (h bits from (last_in f []))
 
 alone_both : (l : ℕ) (f g : List Record) → TellAlone l f → TellAlone l g → TellAlone l (f ++ g)
 alone_both l f g p q bits from sent =
     tells_more bits l from sent f g
-    ∙ (ap (λ (hs : List Happening). hs ++ tells_in bits l from (last_in f sent) g) (p bits from sent)
-    ∙ (ap (λ (hs : List Happening). tells_in bits l from [] f ++ hs) (q bits from (last_in f sent))
+    ∙ (ap (λ (hs : List AccountEntry). hs ++ entries_in bits l from (last_in f sent) g) (p bits from sent)
+    ∙ (ap (λ (hs : List AccountEntry). entries_in bits l from [] f ++ hs) (q bits from (last_in f sent))
     ∙ sym (tells_both l f g q bits from)))
 
-both_flown : (l : ℕ) (all : List Happening) (f g : List Record) → TellAlone l g → (bits : ℕ) (from : Side)
-    → (all ++ tells_in bits l from [] f) ++ tells_in bits l from [] g ≡ all ++ tells_in bits l from [] (f ++ g)
+both_flown : (l : ℕ) (all : List AccountEntry) (f g : List Record) → TellAlone l g → (bits : ℕ) (from : Side)
+    → (all ++ entries_in bits l from [] f) ++ entries_in bits l from [] g ≡ all ++ entries_in bits l from [] (f ++ g)
 both_flown l all f g h bits from =
-    append_assoc all (tells_in bits l from [] f) (tells_in bits l from [] g)
-    ∙ ap (λ (hs : List Happening). all ++ hs) (sym (tells_both l f g h bits from))
+    append_assoc all (entries_in bits l from [] f) (entries_in bits l from [] g)
+    ∙ ap (λ (hs : List AccountEntry). all ++ hs) (sym (tells_both l f g h bits from))
 
 unflown_end : (bits l : ℕ) (from : Side) (said : List Record) (is_done : Bool) (done : ℕ)
-    → tells_in bits l from [] (said ++ ending is_done done ∷ []) ≡ tells_in bits l from [] said
+    → entries_in bits l from [] (said ++ ending is_done done ∷ []) ≡ entries_in bits l from [] said
 unflown_end bits l from said is_done done =
     tells_more bits l from [] said (ending is_done done ∷ [])
-    ∙ (ap (λ (hs : List Happening). tells_in bits l from [] said ++ hs) (none is_done (last_in said []))
-    ∙ append-nil (tells_in bits l from [] said))
+    ∙ (ap (λ (hs : List AccountEntry). entries_in bits l from [] said ++ hs) (none is_done (last_in said []))
+    ∙ append-nil (entries_in bits l from [] said))
   where
-    none : (b : Bool) (sent : List ℕ) → tells_in bits l from sent (ending b done ∷ []) ≡ []
+    none : (b : Bool) (sent : List ℕ) → entries_in bits l from sent (ending b done ∷ []) ≡ []
     none true sent = refl
     none false sent = refl
 
@@ -194,7 +188,8 @@ pub record GoesThrough (l : ℕ) (Live : List Record → Sdus → Happened → B
   pub unseen : (told : List Record) (handed : Sdus) (flown : Happened) (set : Bool) (k : Link) (out : List Record)
       → Live told handed flown set k → Live told handed flown set (record k { out = out })
   pub steps : (told : List Record) (handed : Sdus) (flown : Happened) (set : Bool) (s : Step) (k : Link)
-      → IsStepSince l s → moves s ≡ false → Live told handed flown set k → StepLives l Live told handed flown set s k
+      → IsStepSince l s → is_handover_step s ≡ false → Live told handed flown set k
+      → StepLives l Live told handed flown set s k
 
 module _ (l : ℕ) (Live : List Record → Sdus → Happened → Bool → Link → Type 0) (through : GoesThrough l Live) where
   -- steps that hand in nothing
@@ -203,10 +198,10 @@ module _ (l : ℕ) (Live : List Record → Sdus → Happened → Bool → Link �
     out_is : m.out ≡ k.out ++ more
     alone : TellAlone l more
     lived : Live (told ++ more) (λ side n. handed side n ++ looped_at side n more)
-        (λ bits from. flown bits from ++ tells_in bits l from [] more) set m
+        (λ bits from. flown bits from ++ entries_in bits l from [] more) set m
 
   goes_by : (told : List Record) (handed : Sdus) (flown : Happened) (set : Bool) (s : Step) (k : Link)
-      → IsStepSince l s → moves s ≡ false → sets l s ≡ false → renews s ≡ []
+      → IsStepSince l s → is_handover_step s ≡ false → sets l s ≡ false → renewals_in s ≡ []
       → ((side : Side) (n : ℕ) → handed_by side n s k ≡ []) → Live told handed flown set k
       → GoesOn told handed flown set k (step s k)
   goes_by told handed flown set s k g own unset stays none h =
@@ -217,7 +212,8 @@ module _ (l : ℕ) (Live : List Record → Sdus → Happened → Bool → Link �
         alone = x.alone;
         lived = through.same _ _ _ _ _ _ (set || sets l s) set (step s k) refl
             (λ side n. ap (λ (ys : List (List ℕ)). handed side n ++ (ys ++ looped_at side n x.more)) (none side n))
-            (λ bits from. ap (λ (hs : List Happening). flown bits from ++ (hs ++ tells_in bits l from [] x.more)) stays)
+            (λ bits from. ap (λ (hs : List AccountEntry). flown bits from ++ (hs ++ entries_in bits l from [] x.more))
+            stays)
             (ap (λ (b : Bool). set || b) unset ∙ or_false set) x.lived;
       }
 
@@ -234,7 +230,7 @@ module _ (l : ℕ) (Live : List Record → Sdus → Happened → Bool → Link �
   then_goes : (told : List Record) (handed : Sdus) (flown : Happened) (set : Bool) (k m o : Link)
       (g : GoesOn told handed flown set k m)
       → GoesOn (told ++ g.more) (λ side n. handed side n ++ looped_at side n g.more)
-      (λ bits from. flown bits from ++ tells_in bits l from [] g.more) set m o → GoesOn told handed flown set k o
+      (λ bits from. flown bits from ++ entries_in bits l from [] g.more) set m o → GoesOn told handed flown set k o
   then_goes told handed flown set k m o g q = record {
     more = g.more ++ q.more;
     out_is = q.out_is ∙ ap (λ (x : List Record). x ++ q.more) g.out_is ∙ append_assoc k.out g.more q.more;
@@ -276,7 +272,7 @@ module _ (l : ℕ) (Live : List Record → Sdus → Happened → Bool → Link �
     nothing : d.link.out ≡ []
     alone : TellAlone l d.journal
     lived : Live (told ++ d.journal) (λ side n. handed side n ++ looped_at side n d.journal)
-        (λ bits from. flown bits from ++ tells_in bits l from [] d.journal) set d.link
+        (λ bits from. flown bits from ++ entries_in bits l from [] d.journal) set d.link
 
   none_drained : (told : List Record) (handed : Sdus) (flown : Happened) (set : Bool) (k : Link) → k.out ≡ []
       → Live told handed flown set k → DrainLives told handed flown set (at_once k)
@@ -290,7 +286,7 @@ module _ (l : ℕ) (Live : List Record → Sdus → Happened → Bool → Link �
   first_drained : (told : List Record) (handed : Sdus) (flown : Happened) (set : Bool) (done : ℕ)
       (first : List Record) (d : Drained) → TellAlone l first
       → DrainLives (told ++ first) (λ side n. handed side n ++ looped_at side n first)
-      (λ bits from. flown bits from ++ tells_in bits l from [] first) set d
+      (λ bits from. flown bits from ++ entries_in bits l from [] first) set d
       → DrainLives told handed flown set (behind first done d)
   first_drained told handed flown set done first d yet q = record {
     nothing = q.nothing;
@@ -304,7 +300,7 @@ module _ (l : ℕ) (Live : List Record → Sdus → Happened → Bool → Link �
   record First (told : List Record) (handed : Sdus) (flown : Happened) (set : Bool) (m : Link) : Type 0 where
     alone : TellAlone l m.out
     lived : Live (told ++ m.out) (λ side n. handed side n ++ looped_at side n m.out)
-        (λ bits from. flown bits from ++ tells_in bits l from [] m.out) set m
+        (λ bits from. flown bits from ++ entries_in bits l from [] m.out) set m
 
   at_first : (told : List Record) (handed : Sdus) (flown : Happened) (set : Bool) (k m : Link) → k.out ≡ []
       → GoesOn told handed flown set k m → First told handed flown set m
@@ -314,7 +310,7 @@ module _ (l : ℕ) (Live : List Record → Sdus → Happened → Bool → Link �
         alone = subst (TellAlone l) (sym same) g.alone;
         lived = through.same _ _ _ _ _ _ set set m (ap (λ (x : List Record). told ++ x) (sym same))
             (λ side n. ap (λ (x : List Record). handed side n ++ looped_at side n x) (sym same))
-            (λ bits from. ap (λ (x : List Record). flown bits from ++ tells_in bits l from [] x) (sym same)) refl
+            (λ bits from. ap (λ (x : List Record). flown bits from ++ entries_in bits l from [] x) (sym same)) refl
             g.lived;
       }
 
@@ -352,7 +348,7 @@ module _ (l : ℕ) (Live : List Record → Sdus → Happened → Bool → Link �
   record WholeLives (told : List Record) (handed : Sdus) (flown : Happened) (set : Bool) (d : Drained) : Type 0 where
     said : List Record
     lived : Live (told ++ said) (λ side n. handed side n ++ looped_at side n said)
-        (λ bits from. flown bits from ++ tells_in bits l from [] said) set d.link
+        (λ bits from. flown bits from ++ entries_in bits l from [] said) set d.link
     is_done : Bool
     done : ℕ
     journal_is : d.journal ≡ said ++ ending is_done done ∷ []
@@ -377,18 +373,18 @@ module _ (l : ℕ) (Live : List Record → Sdus → Happened → Bool → Link �
 
   -- ---- a line
 
-  pub record PartLives (told : List Record) (handed : Sdus) (flown : Happened) (set : Bool) (ends : List Happening)
+  pub record PartLives (told : List Record) (handed : Sdus) (flown : Happened) (set : Bool) (ends : List AccountEntry)
       (p : Part) (m : Link) : Type 0 where
     pub more : List Record
     pub lived : Live (told ++ more) (λ side n. handed side n ++ (handed_in side n p m.out ++ looped_at side n m.out))
-        (λ bits from. flown bits from ++ (ends ++ tells_in bits l from [] m.out)) set m
-    pub told_are : (side : Side) → told_of side m.out ≡ told_of side more
+        (λ bits from. flown bits from ++ (ends ++ entries_in bits l from [] m.out)) set m
+    pub told_are : (side : Side) → events_of side m.out ≡ events_of side more
     pub haps_are : (d : Direction) (place : Place) → told_in d l place m.out ≡ told_in d l place more
 
   pub step_plays : (told : List Record) (handed : Sdus) (flown : Happened) (set : Bool) (s : Step) (k : Link)
       (p : Part) → k.out ≡ [] → ((side : Side) (n : ℕ) → handed_by side n s k ≡ handed_in side n p (step s k).out)
       → StepLives l Live told handed flown set s k
-      → PartLives told handed flown (set || sets l s) (renews s) p (step s k)
+      → PartLives told handed flown (set || sets l s) (renewals_in s) p (step s k)
   step_plays told handed flown set s k p nothing given x =
       let m = step s k in
       let same : m.out ≡ x.more = x.out_is ∙ ap (λ (y : List Record). y ++ x.more) nothing in
@@ -400,7 +396,7 @@ module _ (l : ℕ) (Live : List Record → Sdus → Happened → Bool → Link �
             ap (λ (ys : List (List ℕ)). handed side n ++ (handed_by side n s k ++ ys))
             (ap (looped_at side n) (sym same))
             ∙ ap (λ (ys : List (List ℕ)). handed side n ++ (ys ++ looped_at side n m.out)) (given side n))
-            (λ bits from. ap (λ (y : List Record). flown bits from ++ (renews s ++ tells_in bits l from [] y))
+            (λ bits from. ap (λ (y : List Record). flown bits from ++ (renewals_in s ++ entries_in bits l from [] y))
             (sym same))
             refl x.lived;
         told_are = λ side. refl;
@@ -409,14 +405,14 @@ module _ (l : ℕ) (Live : List Record → Sdus → Happened → Bool → Link �
 
   line_by : (told : List Record) (handed : Sdus) (flown : Happened) (set : Bool) (s : Step) (k : Link) (p : Part)
       → k.out ≡ [] → ((side : Side) (n : ℕ) → handed_by side n s k ≡ handed_in side n p (step s k).out)
-      → IsStepSince l s → moves s ≡ false → Live told handed flown set k
-      → PartLives told handed flown (set || sets l s) (renews s) p (step s k)
+      → IsStepSince l s → is_handover_step s ≡ false → Live told handed flown set k
+      → PartLives told handed flown (set || sets l s) (renewals_in s) p (step s k)
   line_by told handed flown set s k p nothing given g own h =
       step_plays told handed flown set s k p nothing given (through.steps told handed flown set s k g own h)
 
   rests_by : (told : List Record) (handed : Sdus) (flown : Happened) (set : Bool) (c : calls.Call) (k : Link)
-      → k.out ≡ [] → IsStepSince l (Calls c) → moves (Calls c) ≡ false → Live told handed flown set k
-      → PartLives told handed flown (set || sets l (Calls c)) (renews (Calls c)) Rests (calls.after c k)
+      → k.out ≡ [] → IsStepSince l (Calls c) → is_handover_step (Calls c) ≡ false → Live told handed flown set k
+      → PartLives told handed flown (set || sets l (Calls c)) (renewals_in (Calls c)) Rests (calls.after c k)
   rests_by told handed flown set c k nothing g own h =
       line_by told handed flown set (Calls c) k Rests nothing (λ side n. refl) g own h
 
@@ -428,9 +424,9 @@ module _ (l : ℕ) (Live : List Record → Sdus → Happened → Bool → Link �
         (λ side n. sym (no_more side n (handed side n))
         ∙ ap (λ (y : List Record). handed side n ++ looped_at side n y) (sym nothing))
         (λ bits from. sym (append-nil (flown bits from))
-        ∙ ap (λ (y : List Record). flown bits from ++ tells_in bits l from [] y) (sym nothing))
+        ∙ ap (λ (y : List Record). flown bits from ++ entries_in bits l from [] y) (sym nothing))
         (sym (or_false set)) h;
-    told_are = λ side. ap (told_of side) nothing;
+    told_are = λ side. ap (events_of side) nothing;
     haps_are = λ d place. ap (told_in d l place) nothing;
   }
 
@@ -449,7 +445,7 @@ module _ (l : ℕ) (Live : List Record → Sdus → Happened → Bool → Link �
 
   drain_lives : (told : List Record) (handed : Sdus) (flown : Happened) (set : Bool) (grant : ℕ) (k : Link)
       → grant ≤ 9422 → k.out ≡ [] → Live told handed flown set k
-      → PartLives told handed flown (set || false) [] (part (lines.Drain grant))
+      → PartLives told handed flown (set || false) [] (part_of_line (lines.Drain grant))
       (record (drained grant k).link { out = (drained grant k).journal })
   drain_lives told handed flown set grant k within nothing h =
       let w = drained_lives told handed flown set grant k within nothing h in
@@ -459,18 +455,19 @@ module _ (l : ℕ) (Live : List Record → Sdus → Happened → Bool → Link �
         lived = through.same _ _ _ _ _ _ set (set || false) (record d.link { out = d.journal }) refl
             (λ side n. ap (λ (ys : List (List ℕ)). handed side n ++ ys)
             (sym (ap (looped_at side n) w.journal_is ∙ unlooped_end side n w.said w.is_done w.done)))
-            (λ bits from. ap (λ (hs : List Happening). flown bits from ++ hs)
-            (sym (ap (tells_in bits l from []) w.journal_is ∙ unflown_end bits l from w.said w.is_done w.done)))
+            (λ bits from. ap (λ (hs : List AccountEntry). flown bits from ++ hs)
+            (sym (ap (entries_in bits l from []) w.journal_is ∙ unflown_end bits l from w.said w.is_done w.done)))
             (sym (or_false set)) (through.unseen _ _ _ set d.link d.journal w.lived);
-        told_are = λ side. ap (told_of side) w.journal_is ∙ untold_end side w.said w.is_done w.done;
+        told_are = λ side. ap (events_of side) w.journal_is ∙ untold_end side w.said w.is_done w.done;
         haps_are = λ d place. ap (told_in d l place) w.journal_is ∙ unsaid_end d l place w.said w.is_done w.done;
       }
 
   -- any line but a handover
   pub line_stays : (told : List Record) (handed : Sdus) (flown : Happened) (set : Bool) (line : Line)
       (keys : Option Keys) (k : Link) → k.out ≡ [] → IsInRange line → adds_one l line ≡ false → forges line ≡ false
-      → hands_over line ≡ false → Live told handed flown set k
-      → PartLives told handed flown (set || sets_timer l line) (ended_by line) (part line) (played line keys k)
+      → is_handover line ≡ false → Live told handed flown set k
+      → PartLives told handed flown (set || sets_timer l line) (entries_ended line) (part_of_line line)
+      (played line keys k)
   unfolding acted
   line_stays told handed flown set (lines.Harq maximum) keys k nothing fits other own here h =
       rests_by told handed flown set (calls.Visits maximum) k nothing (fits.some, fits.few) refl h
@@ -505,194 +502,3 @@ module _ (l : ℕ) (Live : List Record → Sdus → Happened → Bool → Link �
       rests_by told handed flown set (calls.Listens config) k nothing tt refl h
   line_stays told handed flown set lines.End keys k nothing fits other own here h =
       none_lives told handed flown set k nothing h
-
--- ---- of all lives
-
-cancel : (first xs ys : List Record) → first ++ xs ≡ first ++ ys → xs ≡ ys
-cancel [] xs ys e = e
-cancel (one ∷ first) xs ys e = let rest : first ++ xs ≡ first ++ ys = cc in cancel first xs ys rest
-
-not_anew : (s : Step) → moves s ≡ false → anew s ≡ []
-not_anew (Calls (calls.HandsOver keys)) own = absurd cc
-not_anew s own = refl
-
-module _ (l : ℕ) (nb ue : End) (bits : ℕ) (Um : Type 0) where
-  -- since both ends were these a link has come by air to what it is, and where the PDUs of the channel are those of
-  -- unacknowledged RLC, that was so much to a flow from each side
-  pub record Lived (told : List Record) (handed : Sdus) (flown : Happened) (haps : Haps) (set : Bool) (k : Link) :
-      Type 0 where
-    pub by : GoesByAir l told handed flown set k (outset nb ue)
-    pub kinds : Um → IsShown l bits k.kinds
-    pub whats_are : Um → (from : Side) → whats from l bits by.steps (outset nb ue) ≡ haps from
-
-  -- and since these records more have told what it was
-  pub record LivesOn (first : List Record) (haps : Haps) (told : List Record) (handed : Sdus) (flown : Happened)
-      (set : Bool) (k : Link) : Type 0 where
-    pub by : GoesByAir l told handed flown set k (outset nb ue)
-    pub kinds : Um → IsShown l bits k.kinds
-    pub since : List Record
-    pub told_is : told ≡ first ++ since
-    pub whats_are : Um → (from : Side) (place : Place)
-        → whats from l bits by.steps (outset nb ue) ≡ haps from ++ told_in (sent_by from) l place since
-
-  abbrev same_by : (told told' : List Record) (handed handed' : Sdus) (flown flown' : Happened) (set set' : Bool)
-      (k : Link) → told ≡ told' → ((side : Side) (n : ℕ) → handed side n ≡ handed' side n)
-      → ((bits : ℕ) (from : Side) → flown bits from ≡ flown' bits from) → set ≡ set'
-      → GoesByAir l told handed flown set k (outset nb ue) → GoesByAir l told' handed' flown' set' k (outset nb ue)
-  same_by told told' handed handed' flown flown' set set' k e f a g h = record {
-    steps = h.steps;
-    living = h.living;
-    told_is = λ side. ap (told_of side) (sym e) ∙ h.told_is side;
-    submitted_is = λ side n. h.submitted_is side n ∙ f side n;
-    happened_is = λ bits from. h.happened_is bits from ∙ a bits from;
-    sets_none = λ off. h.sets_none (g ∙ off);
-    on = h.on;
-  }
-
-  -- records aren't looked at
-  pub unseen : (told : List Record) (handed : Sdus) (flown : Happened) (haps : Haps) (set : Bool) (k : Link)
-      (out : List Record) → Lived told handed flown haps set k
-      → Lived told handed flown haps set (record k { out = out })
-  unseen told handed flown haps set k out h =
-      record {
-        by =
-            ends_come_by l told handed flown set k (record k { out = out }) (outset nb ue) refl refl refl h.by;
-        kinds = h.kinds;
-        whats_are = h.whats_are;
-      }
-
-  -- a step, behind a word of each flow
-  goes_anew : (told : List Record) (handed : Sdus) (flown : Happened) (haps : Haps) (set : Bool) (s : Step) (k : Link)
-      → IsStepSince l s → Lived told handed flown haps set k
-      → StepLives l (LivesOn told (with_word (anew s) haps)) told handed flown set s k
-  goes_anew told handed flown haps set s k g h =
-      let x = steps_come l told handed flown set s k (outset nb ue) g h.by in
-      record {
-        more = x.more;
-        out_is = x.out_is;
-        alone = x.alone;
-        lived = record {
-          by = x.by;
-          kinds = λ um. x.stays bits (h.kinds um);
-          since = x.more;
-          told_is = refl;
-          whats_are = λ um from place.
-              let two = told_in (sent_by from) l place x.more in
-              x.shown bits (h.kinds um) from place
-              ∙ (ap (λ (hs : List What). hs ++ (anew s ++ two)) (h.whats_are um from)
-              ∙ sym (append_assoc (haps from) (anew s) two));
-        };
-      }
-
-  module _ (first : List Record) (haps : Haps) where
-    steps_on : (told : List Record) (handed : Sdus) (flown : Happened) (set : Bool) (s : Step) (k : Link)
-        → IsStepSince l s → moves s ≡ false → LivesOn first haps told handed flown set k
-        → StepLives l (LivesOn first haps) told handed flown set s k
-    steps_on told handed flown set s k g own h =
-        let x = steps_come l told handed flown set s k (outset nb ue) g h.by in
-        record {
-          more = x.more;
-          out_is = x.out_is;
-          alone = x.alone;
-          lived = record {
-            by = x.by;
-            kinds = λ um. x.stays bits (h.kinds um);
-            since = h.since ++ x.more;
-            told_is = ap (λ (xs : List Record). xs ++ x.more) h.told_is ∙ append_assoc first h.since x.more;
-            whats_are = λ um from place.
-                let one = told_in (sent_by from) l place h.since in
-                let two = told_in (sent_by from) l (place_behind place h.since) x.more in
-                x.shown bits (h.kinds um) from (place_behind place h.since)
-                ∙ (ap (λ (hs : List What). whats from l bits h.by.steps (outset nb ue) ++ (hs ++ two)) (not_anew s own)
-                ∙ (ap (λ (hs : List What). hs ++ two) (h.whats_are um from place)
-                ∙ (append_assoc (haps from) one two
-                ∙ ap (λ (hs : List What). haps from ++ hs) (sym (in_then (sent_by from) l place h.since x.more)))));
-          };
-        }
-
-    pub through : GoesThrough l (LivesOn first haps)
-    through = record {
-      same = λ told told' handed handed' flown flown' set set' k e f a g h.
-          record {
-            by = same_by told told' handed handed' flown flown' set set' k e f a g h.by;
-            kinds = h.kinds;
-            since = h.since;
-            told_is = sym e ∙ h.told_is;
-            whats_are = h.whats_are;
-          };
-      unseen = λ told handed flown set k out h.
-          record {
-            by =
-                ends_come_by l told handed flown set k (record k { out = out }) (outset nb ue) refl refl refl h.by;
-            kinds = h.kinds;
-            since = h.since;
-            told_is = h.told_is;
-            whats_are = h.whats_are;
-          };
-      steps = steps_on;
-    }
-
-    abbrev pub LineLives : List Record → Sdus → Happened → Bool → List Happening → Part → Link → Type 0
-    LineLives = PartLives l (LivesOn first haps) through
-
-    -- behind a line
-    pub lived_now : (more : List Record) (handed : Sdus) (flown : Happened) (set : Bool) (k : Link) (place : Place)
-        → LivesOn first haps (first ++ more) handed flown set k
-        → Lived (first ++ more) handed flown (λ from. haps from ++ told_in (sent_by from) l place more) set k
-    lived_now more handed flown set k place h = record {
-      by = h.by;
-      kinds = h.kinds;
-      whats_are = λ um from. h.whats_are um from place
-          ∙ ap (λ (xs : List Record). haps from ++ told_in (sent_by from) l place xs)
-          (cancel first h.since more (sym h.told_is));
-    }
-
-  -- at the beginning of a line that says nothing of a flow
-  lives_first : (word : List What) (told : List Record) (handed : Sdus) (flown : Happened) (haps : Haps) (set : Bool)
-      (k : Link) → word ≡ [] → Lived told handed flown haps set k
-      → LivesOn told (with_word word haps) told handed flown set k
-  lives_first word told handed flown haps set k none h = record {
-    by = h.by;
-    kinds = h.kinds;
-    since = [];
-    told_is = sym (append-nil told);
-    whats_are = λ um from place. h.whats_are um from
-        ∙ (sym (append-nil (haps from))
-        ∙ (ap (λ (hs : List What). haps from ++ hs) (sym none) ∙ sym (append-nil (haps from ++ word))));
-  }
-
-  pub line_lives : (told : List Record) (handed : Sdus) (flown : Happened) (haps : Haps) (set : Bool) (line : Line)
-      (keys : Option Keys) (k : Link) → k.out ≡ [] → IsInRange line → adds_one l line ≡ false → forges line ≡ false
-      → Lived told handed flown haps set k
-      → LineLives told (with_word (word_of line) haps) told handed flown (set || sets_timer l line) (ended_by line)
-      (part line) (played line keys k)
-  unfolding acted
-  line_lives told handed flown haps set (lines.Handover user rrc integrity) keys k nothing fits other own h =
-      let s = Calls (calls.HandsOver (next_keys user rrc integrity (keys_or_none keys))) in
-      step_plays l (LivesOn told (with_word (anew s) haps)) (through told (with_word (anew s) haps)) told handed flown
-      set s k Rests nothing (λ side n. refl) (goes_anew told handed flown haps set s k tt h)
-  line_lives told handed flown haps set line keys k nothing fits other own h =
-      let word = word_of line in
-      line_stays l (LivesOn told (with_word word haps)) (through told (with_word word haps)) told handed flown set
-      line keys k nothing fits other own refl (lives_first word told handed flown haps set k refl h)
-
--- ---- of one life, in which it doesn't matter what went by air
-
-module _ (l : ℕ) (nb ue : End) where
-  abbrev pub InOneLife : List Record → Sdus → Happened → Bool → Link → Type 0
-  InOneLife told handed flown set k = LivedIn l nb ue told handed set k
-
-  life_steps : (told : List Record) (handed : Sdus) (flown : Happened) (set : Bool) (s : Step) (k : Link)
-      → IsStepSince l s → moves s ≡ false → LivedIn l nb ue told handed set k
-      → StepLives l InOneLife told handed flown set s k
-  life_steps told handed flown set s k g own h = let x = steps_live_in l nb ue told handed set s k g own h in
-      record { more = x.more; out_is = x.out_is; alone = x.alone; lived = x.lived }
-
-  pub through_life : GoesThrough l InOneLife
-  through_life = record {
-    same = λ told told' handed handed' flown flown' set set' k e f a g h. lived_in_as l nb ue told told' handed
-        handed' set set' k e f g h;
-    unseen = λ told handed flown set k out h. ends_live_in l nb ue told handed set k (record k { out = out }) refl
-        refl refl h;
-    steps = life_steps;
-  }

@@ -21,10 +21,12 @@ pub mod Keys
 pub mod Counts
 pub mod Distinct
 pub mod Texts
+pub mod Meeting
 pub mod Early
 pub mod Failing
 pub mod Failed
 pub mod Flowing
+pub mod Lives
 pub mod Seen
 pub mod Delivering
 pub mod Arriving

@@ -31,7 +31,7 @@ use Rattle.law_air.proofs.AnyCalls.Running.{grows_as, no_ups, no_loops, no_runs}
 use Rattle.test_loop.specs.declared.Mode.TheVariants.{Off, A, B}
 use Rattle.promises.specs.Air.{is_tti, numbered, IsOfItsTime, FliesIntact, InTurn}
 use Rattle.promises.specs.Flows.{handed_in}
-use Rattle.promises.specs.Parts.{Part, Submits, Passes, Drains, Rests, part}
+use Rattle.promises.specs.Parts.{Part, Submits, Passes, Drains, Rests, part_of_line}
 use Rattle.law_run.proofs.Records.{of_run_alone, count_numbered, ttis_of_drain}
 use Rattle.law_run.proofs.Ttis.{WholeDrain, drained_adds}
 
@@ -248,7 +248,8 @@ drains_add grant l d w =
 
 -- ---- every line
 
-pub line_adds : (line : Line) (keys : Option Keys) (l : Link) → l.out ≡ [] → PartAdds (part line) l (played line keys l)
+pub line_adds : (line : Line) (keys : Option Keys) (l : Link) → l.out ≡ []
+    → PartAdds (part_of_line line) l (played line keys l)
 unfolding acted
 line_adds (lines.Harq maximum) keys l nothing = rests_add l _ nothing (calls_adds (calls.Visits maximum) l)
 line_adds lines.Bsr keys l nothing = rests_add l _ nothing (calls_adds calls.Reports l)

@@ -17,7 +17,8 @@ use Rattle.air_text.specs.Groups.{Group, group_records, history}
 use Rattle.eps_sec.specs.declared.Keys.{Keys}
 use Rattle.law_air.specs.AnyCalls.Calls as calls
 use Rattle.law_air.specs.AnyCalls.Loops.{ComeBack, IsAtRest, LoopsBack}
-use Rattle.promises.specs.Loops.{ArePart, gone_up, returned, on, is_dropped, drops, mode_by, mode, all_gone_up}
+use Rattle.promises.specs.Loops.{ArePart, gone_up, returned, item_count, is_dropped, drop_count, mode_by, mode_in_force}
+use Rattle.promises.specs.Loops.{all_gone_up}
 use Rattle.promises.specs.Loops.{all_returned, AreReturned, ReturnInOrder}
 use Rattle.law_air.proofs.AnyCalls.Adding.{count_then}
 use Rattle.law_air.proofs.AnyCalls.Returning.{part_on, on_both, back_none, back_then, IsSilent, back_silent}
@@ -172,11 +173,12 @@ line_back lines.End keys l nothing r = still_back l r
 -- ---- behind groups
 
 record LoopsBehind (past : List Group) : Type 0 where
-  mode_is : (link_behind past).looping.mode ≡ mode past
+  mode_is : (link_behind past).looping.mode ≡ mode_in_force past
   rests : IsAtRest (link_behind past)
   part : ArePart (all_returned past ++ (link_behind past).looping.kept) (all_gone_up past)
-  others : (lcid : ℕ) → on lcid (all_gone_up past) ≤ (on lcid (all_returned past) + drops lcid (history past))
-      + on lcid (link_behind past).looping.kept
+  others : (lcid : ℕ) → item_count lcid (all_gone_up past) ≤
+      (item_count lcid (all_returned past) + drop_count lcid (history past))
+      + item_count lcid (link_behind past).looping.kept
   in_order : ReturnInOrder past
 
 first_loop : LoopsBehind []
@@ -187,13 +189,14 @@ first_loop = record { mode_is = refl; rests = first_rests; part = tt; others = �
 record NextLoops (past : List Group) (g : Group) (m : Link) : Type 0 where
   returned' : AreReturned past g
   part : ArePart (all_returned (g ∷ past) ++ m.looping.kept) (all_gone_up (g ∷ past))
-  others : (lcid : ℕ) → on lcid (all_gone_up (g ∷ past))
-      ≤ (on lcid (all_returned (g ∷ past)) + drops lcid (history (g ∷ past))) + on lcid m.looping.kept
+  others : (lcid : ℕ) → item_count lcid (all_gone_up (g ∷ past))
+      ≤ (item_count lcid (all_returned (g ∷ past)) + drop_count lcid (history (g ∷ past))) + item_count lcid
+      m.looping.kept
 
 next_loops : (past : List Group) (g : Group) (m : Link) → (link_behind past).out ≡ [] → LoopsBehind past
-    → LoopsBack (mode (g ∷ past)) (link_behind past) m → g.events ≡ m.out → NextLoops past g m
+    → LoopsBack (mode_in_force (g ∷ past)) (link_behind past) m → g.events ≡ m.out → NextLoops past g m
 next_loops past g m nothing b p events_are =
-    let new = mode (g ∷ past) in
+    let new = mode_in_force (g ∷ past) in
     let kept = (link_behind past).looping.kept in
     let told : g.events ≡ p.more = events_are ∙ more_only new (link_behind past) m nothing p in
     let back : ComeBack new kept m.looping.kept g.events =
@@ -201,12 +204,13 @@ next_loops past g m nothing b p events_are =
     let whole : ArePart (all_returned past ++ (returned g.events ++ m.looping.kept)) (all_gone_up (g ∷ past)) =
     part_on (all_returned past) kept (all_gone_up past) (returned g.events ++ m.looping.kept) (gone_up new g.events)
     b.part back.whole in
-    let others : (lcid : ℕ) → on lcid (all_gone_up (g ∷ past))
-    ≤ (on lcid (all_returned (g ∷ past)) + drops lcid (history (g ∷ past))) + on lcid m.looping.kept =
+    let others : (lcid : ℕ) → item_count lcid (all_gone_up (g ∷ past))
+    ≤ (item_count lcid (all_returned (g ∷ past)) + drop_count lcid (history (g ∷ past))) + item_count lcid
+    m.looping.kept =
     λ lcid.
     let went = on_both lcid (all_gone_up past) (gone_up new g.events) in
     let came = on_both lcid (all_returned past) (returned g.events) in
-    let lost : drops lcid (history (g ∷ past)) ≡ drops lcid (history past) + drops lcid g.events =
+    let lost : drop_count lcid (history (g ∷ past)) ≡ drop_count lcid (history past) + drop_count lcid g.events =
     count_then (is_dropped lcid) (history past) (group_records g) in
     omega (arith, went, came, lost, b.others lcid, back.others lcid) in
     record {
@@ -214,7 +218,8 @@ next_loops past g m nothing b p events_are =
         in_order = λ n. part_on (all_returned past) kept (all_gone_up past) (returned (take n g.events))
             (gone_up new (take n g.events)) b.part (back.each n);
         others = λ h lcid.
-            let none : on lcid m.looping.kept ≡ 0 = ap (on lcid) (p.rests.none_kept (ap is_keeping p.mode_is ∙ h)) in
+            let none : item_count lcid m.looping.kept ≡ 0 =
+                ap (item_count lcid) (p.rests.none_kept (ap is_keeping p.mode_is ∙ h)) in
             omega (arith, none, others lcid);
       };
       part = subst (λ (x : List Item). ArePart x (all_gone_up (g ∷ past)))
@@ -229,7 +234,7 @@ loops_behind (g ∷ past) (right, order) =
     let l = link_behind past in
     let m = behind_line g.line (state_behind past) in
     let nothing = (all_behind past order).nothing in
-    let p : LoopsBack (mode (g ∷ past)) l m =
+    let p : LoopsBack (mode_in_force (g ∷ past)) l m =
     subst (λ (x : Mode). LoopsBack (mode_by g.line x) l m) b.mode_is
     (line_back g.line (state_behind past).rules.keys l nothing b.rests) in
     let next = next_loops past g m nothing b p right.events_are in

@@ -12,7 +12,7 @@ use Rattle.bearer_types.specs.Sides.{sent_by}
 use Rattle.l2_types.specs.declared.channel.Kind.TheVariants.{Um}
 use Rattle.l2_types.specs.declared.side.Side.{Side}
 use Rattle.law_words.specs.Lists.{IsSubsequence}
-use Rattle.law_deliver.specs.UmChannel.Delivery.{BeginAlike}
+use Rattle.law_deliver.specs.UmChannel.Delivery.{UmEndsBeginAlike}
 use Rattle.um_losses.specs.Flow.{Flow}
 use Rattle.um_losses.specs.Losses.{is_long}
 use Rattle.um_losses.specs.Names.{Happening}
@@ -25,7 +25,7 @@ use Rattle.law_run.specs.Order.{state_behind, KeepsOrder}
 use Rattle.law_run.proofs.Delivering.{IsDelivering, is_delivering, as_told, went_up_is, was_submitted_is}
 
 um_alike : (l : ℕ) (c : BearerConfig) (past : List Group) (d : IsDelivering l c past) → c.kind ≡ Um
-    → BeginAlike l c d.keys d.nb d.ue
+    → UmEndsBeginAlike l c d.keys d.nb d.ue
 um_alike l c past d kind = record {
   kind = kind;
   config = d.config;

@@ -7,7 +7,7 @@ use Rattle.bearer.specs.Lives.{stopped, restarted}
 use Rattle.bearer.specs.Submitting.{submitted}
 use Rattle.bearer.specs.Taking.{after as taken}
 use Rattle.law_bearer.specs.AnyBearer.Calls.{Call, Submit, Take, Arrive, Expire, Tick, SetDiscard, Step, Calls, Restart}
-use Rattle.law_bearer.specs.AnyBearer.Calls.{after, goes, run}
+use Rattle.law_bearer.specs.AnyBearer.Calls.{after, goes, run_bearer}
 use Rattle.bearer.specs.Unacknowledged.Hearing.{arrived_left, after_arrival, expiry_left, after_expiry, timed_left}
 use Rattle.bearer.specs.Unacknowledged.Hearing.{counted_down, after_ticking}
 use Rattle.bearer.specs.Unacknowledged.Lives.{stopped as um_stopped, restarted as um_restarted}
@@ -96,6 +96,6 @@ step_mode (Restart keys) (Um b) =
 step_mode (Restart keys) (Am b) =
     ap Acknowledged (moves_of (IsOfKind b.pdcp.kind) (kind_passes b.pdcp.kind) (Am b) keys refl)
 
-pub keeps_mode : (xs : List Step) (f : Flow) → mode (run xs f) ≡ mode f
+pub keeps_mode : (xs : List Step) (f : Flow) → mode (run_bearer xs f) ≡ mode f
 keeps_mode [] f = refl
 keeps_mode (x ∷ xs) f = keeps_mode xs (goes f x) ∙ step_mode x f

@@ -21,7 +21,7 @@ use Rattle.promises.specs.Carried.{AreCarried}
 use Rattle.promises.specs.Air.{is_tti, ttis, numbered, IsOfItsTime}
 use Rattle.promises.specs.Flows.{loops_in, handed_in, submitted, delivered}
 use Rattle.law_run.specs.Order.{state_behind, KeepsOrder}
-use Rattle.promises.specs.Parts.{part}
+use Rattle.promises.specs.Parts.{part_of_line}
 use Rattle.law_run.proofs.Records.{count_numbered, numbered_then}
 use Rattle.law_run.proofs.Lines.{PartAdds, line_adds}
 use Rattle.law_run.proofs.Processes.{Both, grows, first as none_yet, is_carried}
@@ -56,7 +56,7 @@ first =
 
 -- what a line adds, behind groups
 pub adds_behind : (past : List Group) (line : Line) → Behind past
-    → PartAdds (part line) (link_behind past) (behind_line line (state_behind past))
+    → PartAdds (part_of_line line) (link_behind past) (behind_line line (state_behind past))
 adds_behind past line b = line_adds line (state_behind past).rules.keys (link_behind past) b.nothing
 
 counted : (side : Side) (k : ℕ) (told : List Record) → length (ups_in side k told) ≡ ups side k told
@@ -66,7 +66,7 @@ loops_counted : (k : ℕ) (told : List Record) → length (loops_in k told) ≡ 
 loops_counted k told = length-map (filter (is_looped k) told) sdu_of
 
 grown : (past : List Group) (g : Group) → IsInRange g.line → Behind past
-    → PartAdds (part g.line) (link_behind past) (behind_line g.line (state_behind past))
+    → PartAdds (part_of_line g.line) (link_behind past) (behind_line g.line (state_behind past))
     → g.events ≡ (behind_line g.line (state_behind past)).out
     → Behind (g ∷ past)
 grown past g fits b a e =
@@ -96,27 +96,27 @@ grown past g fits b a e =
           ∙ ap (λ (n : ℕ). length (delivered Ue k past) + n) (counted Ue k m.out))
           b.ue_delivered a.ue_delivered;
       nb_submitted =
-          table_grows (λ k. length (submitted Nb k past)) (λ k. length (handed_in Nb k (part g.line) m.out))
+          table_grows (λ k. length (submitted Nb k past)) (λ k. length (handed_in Nb k (part_of_line g.line) m.out))
           (λ k. length (submitted Nb k (g ∷ past))) l.down.submitted m.down.submitted
           (λ k.
-          let handed = handed_in Nb k (part g.line) g.events in
+          let handed = handed_in Nb k (part_of_line g.line) g.events in
           let all = length-append (submitted Nb k past) (handed ++ []) in
           let here = length-append handed [] in
-          let same : length handed ≡ length (handed_in Nb k (part g.line) m.out) =
-          ap (λ (x : List Record). length (handed_in Nb k (part g.line) x)) e in
+          let same : length handed ≡ length (handed_in Nb k (part_of_line g.line) m.out) =
+          ap (λ (x : List Record). length (handed_in Nb k (part_of_line g.line) x)) e in
           omega (arith, all, here, same))
           b.nb_submitted a.nb_submitted;
       ue_submitted =
           table_grows (λ k. length (submitted Ue k past))
-          (λ k. length (handed_in Ue k (part g.line) m.out) + loopeds k m.out)
+          (λ k. length (handed_in Ue k (part_of_line g.line) m.out) + loopeds k m.out)
           (λ k. length (submitted Ue k (g ∷ past))) l.up.submitted m.up.submitted
           (λ k.
-          let handed = handed_in Ue k (part g.line) g.events in
+          let handed = handed_in Ue k (part_of_line g.line) g.events in
           let looped = loops_in k g.events in
           let all = length-append (submitted Ue k past) (handed ++ looped) in
           let here = length-append handed looped in
-          let same : length handed ≡ length (handed_in Ue k (part g.line) m.out) =
-          ap (λ (x : List Record). length (handed_in Ue k (part g.line) x)) e in
+          let same : length handed ≡ length (handed_in Ue k (part_of_line g.line) m.out) =
+          ap (λ (x : List Record). length (handed_in Ue k (part_of_line g.line) x)) e in
           let loops : length looped ≡ loopeds k m.out = ap (λ (x : List Record). length (loops_in k x)) e
           ∙ loops_counted k m.out in
           omega (arith, all, here, same, loops))
@@ -150,7 +150,7 @@ are_carried (g ∷ past) (right, order) = (
 
 -- the records of a line stand where its TTIs do
 pub of_their_time : (past : List Group) (line : Line) → Behind past
-    → IsOfItsTime (ttis past) (part line) (behind_line line (state_behind past)).out
+    → IsOfItsTime (ttis past) (part_of_line line) (behind_line line (state_behind past)).out
 of_their_time past line b =
-    subst (λ (t : ℕ). IsOfItsTime t (part line) (behind_line line (state_behind past)).out) (sym b.ttis_is)
+    subst (λ (t : ℕ). IsOfItsTime t (part_of_line line) (behind_line line (state_behind past)).out) (sym b.ttis_is)
     (adds_behind past line b).of_its_time

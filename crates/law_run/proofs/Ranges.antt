@@ -214,265 +214,60 @@ option-range : (c : BearerConfig) (name : Name) (text : List ℕ) → has c.kind
     → Behind IsCounted (option_of c name text)
 option-range c Prio text has h =
     bind IsCounted (number_of 1 16 text) (λ n. Ok (record c { channel = record c.channel { priority = n } }))
-    (λ n e. given IsCounted (record c { channel = record c.channel { priority = n } }) (
-      record {
-        lcid = h.0.lcid;
-        rlc_bits = h.0.rlc_bits;
-        pdcp_bits = h.0.pdcp_bits;
-        priority = number-range 1 16 n text e;
-        pbr = h.0.pbr;
-        bucket = h.0.bucket;
-        group = h.0.group;
-        poll_pdu = h.0.poll_pdu;
-        poll_byte = h.0.poll_byte;
-        poll_retransmit = h.0.poll_retransmit;
-        max_retx = h.0.max_retx;
-        reorder = h.0.reorder;
-        prohibit = h.0.prohibit;
-      },
-      h.1,
-    ))
+    (λ n e. given IsCounted (record c { channel = record c.channel { priority = n } })
+    ((let range : (1 ≤ n) × (n ≤ 16) = number-range 1 16 n text e in assumption), h.1))
 option-range c Pbr text has h =
     bind IsCounted (limit_of (codes "inf") 0 65535 text)
     (λ n. Ok (record c { channel = record c.channel { pbr = n } }))
-    (λ n e. given IsCounted (record c { channel = record c.channel { pbr = n } }) (
-      record {
-        lcid = h.0.lcid;
-        rlc_bits = h.0.rlc_bits;
-        pdcp_bits = h.0.pdcp_bits;
-        priority = h.0.priority;
-        pbr = most-only 0 65535 n (limit-range (codes "inf") 0 65535 text n e);
-        bucket = h.0.bucket;
-        group = h.0.group;
-        poll_pdu = h.0.poll_pdu;
-        poll_byte = h.0.poll_byte;
-        poll_retransmit = h.0.poll_retransmit;
-        max_retx = h.0.max_retx;
-        reorder = h.0.reorder;
-        prohibit = h.0.prohibit;
-      },
-      h.1,
-    ))
+    (λ n e. given IsCounted (record c { channel = record c.channel { pbr = n } })
+    ((let range : IfSome n (λ k. k ≤ 65535) = most-only 0 65535 n (limit-range (codes "inf") 0 65535 text n e) in
+    assumption), h.1))
 option-range c Bsd text has h =
     bind IsCounted (number_of 1 1000 text) (λ n. Ok (record c { channel = record c.channel { bucket = n } }))
-    (λ n e. given IsCounted (record c { channel = record c.channel { bucket = n } }) (
-      record {
-        lcid = h.0.lcid;
-        rlc_bits = h.0.rlc_bits;
-        pdcp_bits = h.0.pdcp_bits;
-        priority = h.0.priority;
-        pbr = h.0.pbr;
-        bucket = number-range 1 1000 n text e;
-        group = h.0.group;
-        poll_pdu = h.0.poll_pdu;
-        poll_byte = h.0.poll_byte;
-        poll_retransmit = h.0.poll_retransmit;
-        max_retx = h.0.max_retx;
-        reorder = h.0.reorder;
-        prohibit = h.0.prohibit;
-      },
-      h.1,
-    ))
+    (λ n e. given IsCounted (record c { channel = record c.channel { bucket = n } })
+    ((let range : (1 ≤ n) × (n ≤ 1000) = number-range 1 1000 n text e in assumption), h.1))
 option-range c Lcg text has h =
     bind IsCounted (number_of 0 3 text) (λ n. Ok (record c { channel = record c.channel { group = n } }))
-    (λ n e. given IsCounted (record c { channel = record c.channel { group = n } }) (
-      record {
-        lcid = h.0.lcid;
-        rlc_bits = h.0.rlc_bits;
-        pdcp_bits = h.0.pdcp_bits;
-        priority = h.0.priority;
-        pbr = h.0.pbr;
-        bucket = h.0.bucket;
-        group = number-most 0 3 n text e;
-        poll_pdu = h.0.poll_pdu;
-        poll_byte = h.0.poll_byte;
-        poll_retransmit = h.0.poll_retransmit;
-        max_retx = h.0.max_retx;
-        reorder = h.0.reorder;
-        prohibit = h.0.prohibit;
-      },
-      h.1,
-    ))
+    (λ n e. given IsCounted (record c { channel = record c.channel { group = n } })
+    ((let range : n ≤ 3 = number-most 0 3 n text e in assumption), h.1))
 option-range c Reorder text has h =
     bind IsCounted (number_of 0 65535 text) (λ n. Ok (record c { rx = record c.rx { reorder = n } }))
-    (λ n e. given IsCounted (record c { rx = record c.rx { reorder = n } }) (
-      record {
-        lcid = h.0.lcid;
-        rlc_bits = h.0.rlc_bits;
-        pdcp_bits = h.0.pdcp_bits;
-        priority = h.0.priority;
-        pbr = h.0.pbr;
-        bucket = h.0.bucket;
-        group = h.0.group;
-        poll_pdu = h.0.poll_pdu;
-        poll_byte = h.0.poll_byte;
-        poll_retransmit = h.0.poll_retransmit;
-        max_retx = h.0.max_retx;
-        reorder = number-most 0 65535 n text e;
-        prohibit = h.0.prohibit;
-      },
-      h.1,
-    ))
+    (λ n e. given IsCounted (record c { rx = record c.rx { reorder = n } })
+    ((let range : n ≤ 65535 = number-most 0 65535 n text e in assumption), h.1))
 option-range c Sn text has h =
     bind IsCounted (either_of 5 10 text) (λ n. Ok (record c { rlc_bits = n }))
-    (λ n e. given IsCounted (record c { rlc_bits = n }) (
-      record {
-        lcid = h.0.lcid;
-        rlc_bits = sn-bits c.kind n has (either-range 5 10 text n e);
-        pdcp_bits = h.0.pdcp_bits;
-        priority = h.0.priority;
-        pbr = h.0.pbr;
-        bucket = h.0.bucket;
-        group = h.0.group;
-        poll_pdu = h.0.poll_pdu;
-        poll_byte = h.0.poll_byte;
-        poll_retransmit = h.0.poll_retransmit;
-        max_retx = h.0.max_retx;
-        reorder = h.0.reorder;
-        prohibit = h.0.prohibit;
-      },
-      h.1,
-    ))
+    (λ n e. given IsCounted (record c { rlc_bits = n })
+    ((let range : AreRlcBits c.kind n = sn-bits c.kind n has (either-range 5 10 text n e) in assumption), h.1))
 option-range c Psn text has h =
     bind IsCounted (psn_of c.kind text) (λ n. Ok (record c { pdcp_bits = n }))
-    (λ n e. given IsCounted (record c { pdcp_bits = n }) (
-      record {
-        lcid = h.0.lcid;
-        rlc_bits = h.0.rlc_bits;
-        pdcp_bits = psn-bits c.kind text n has e;
-        priority = h.0.priority;
-        pbr = h.0.pbr;
-        bucket = h.0.bucket;
-        group = h.0.group;
-        poll_pdu = h.0.poll_pdu;
-        poll_byte = h.0.poll_byte;
-        poll_retransmit = h.0.poll_retransmit;
-        max_retx = h.0.max_retx;
-        reorder = h.0.reorder;
-        prohibit = h.0.prohibit;
-      },
-      h.1,
-    ))
+    (λ n e. given IsCounted (record c { pdcp_bits = n })
+    ((let range : ArePdcpBits c.kind n = psn-bits c.kind text n has e in assumption), h.1))
 option-range c PollPdu text has h =
     bind IsCounted (limit_of (codes "inf") 1 65535 text) (λ n. Ok (record c { tx = record c.tx { poll_pdu = n } }))
-    (λ n e. given IsCounted (record c { tx = record c.tx { poll_pdu = n } }) (
-      record {
-        lcid = h.0.lcid;
-        rlc_bits = h.0.rlc_bits;
-        pdcp_bits = h.0.pdcp_bits;
-        priority = h.0.priority;
-        pbr = h.0.pbr;
-        bucket = h.0.bucket;
-        group = h.0.group;
-        poll_pdu = limit-range (codes "inf") 1 65535 text n e;
-        poll_byte = h.0.poll_byte;
-        poll_retransmit = h.0.poll_retransmit;
-        max_retx = h.0.max_retx;
-        reorder = h.0.reorder;
-        prohibit = h.0.prohibit;
-      },
-      h.1,
-    ))
+    (λ n e. given IsCounted (record c { tx = record c.tx { poll_pdu = n } })
+    ((let range : IfSome n (λ k. (1 ≤ k) × (k ≤ 65535)) =
+    limit-range (codes "inf") 1 65535 text n e in assumption), h.1))
 option-range c PollByte text has h =
     bind IsCounted (limit_of (codes "inf") 1 4000000 text) (λ n. Ok (record c { tx = record c.tx { poll_byte = n } }))
-    (λ n e. given IsCounted (record c { tx = record c.tx { poll_byte = n } }) (
-      record {
-        lcid = h.0.lcid;
-        rlc_bits = h.0.rlc_bits;
-        pdcp_bits = h.0.pdcp_bits;
-        priority = h.0.priority;
-        pbr = h.0.pbr;
-        bucket = h.0.bucket;
-        group = h.0.group;
-        poll_pdu = h.0.poll_pdu;
-        poll_byte = limit-range (codes "inf") 1 4000000 text n e;
-        poll_retransmit = h.0.poll_retransmit;
-        max_retx = h.0.max_retx;
-        reorder = h.0.reorder;
-        prohibit = h.0.prohibit;
-      },
-      h.1,
-    ))
+    (λ n e. given IsCounted (record c { tx = record c.tx { poll_byte = n } })
+    ((let range : IfSome n (λ k. (1 ≤ k) × (k ≤ 4000000)) =
+    limit-range (codes "inf") 1 4000000 text n e in assumption), h.1))
 option-range c PollRetx text has h =
     bind IsCounted (number_of 0 65535 text) (λ n. Ok (record c { tx = record c.tx { poll_retransmit = n } }))
-    (λ n e. given IsCounted (record c { tx = record c.tx { poll_retransmit = n } }) (
-      record {
-        lcid = h.0.lcid;
-        rlc_bits = h.0.rlc_bits;
-        pdcp_bits = h.0.pdcp_bits;
-        priority = h.0.priority;
-        pbr = h.0.pbr;
-        bucket = h.0.bucket;
-        group = h.0.group;
-        poll_pdu = h.0.poll_pdu;
-        poll_byte = h.0.poll_byte;
-        poll_retransmit = number-most 0 65535 n text e;
-        max_retx = h.0.max_retx;
-        reorder = h.0.reorder;
-        prohibit = h.0.prohibit;
-      },
-      h.1,
-    ))
+    (λ n e. given IsCounted (record c { tx = record c.tx { poll_retransmit = n } })
+    ((let range : n ≤ 65535 = number-most 0 65535 n text e in assumption), h.1))
 option-range c MaxRetx text has h =
     bind IsCounted (number_of 1 32 text) (λ n. Ok (record c { tx = record c.tx { max_retx = n } }))
-    (λ n e. given IsCounted (record c { tx = record c.tx { max_retx = n } }) (
-      record {
-        lcid = h.0.lcid;
-        rlc_bits = h.0.rlc_bits;
-        pdcp_bits = h.0.pdcp_bits;
-        priority = h.0.priority;
-        pbr = h.0.pbr;
-        bucket = h.0.bucket;
-        group = h.0.group;
-        poll_pdu = h.0.poll_pdu;
-        poll_byte = h.0.poll_byte;
-        poll_retransmit = h.0.poll_retransmit;
-        max_retx = number-range 1 32 n text e;
-        reorder = h.0.reorder;
-        prohibit = h.0.prohibit;
-      },
-      h.1,
-    ))
+    (λ n e. given IsCounted (record c { tx = record c.tx { max_retx = n } })
+    ((let range : (1 ≤ n) × (n ≤ 32) = number-range 1 32 n text e in assumption), h.1))
 option-range c Prohibit text has h =
     bind IsCounted (limit_of (codes "off") 0 65535 text) (λ n. Ok (record c { rx = record c.rx { prohibit = n } }))
-    (λ n e. given IsCounted (record c { rx = record c.rx { prohibit = n } }) (
-      record {
-        lcid = h.0.lcid;
-        rlc_bits = h.0.rlc_bits;
-        pdcp_bits = h.0.pdcp_bits;
-        priority = h.0.priority;
-        pbr = h.0.pbr;
-        bucket = h.0.bucket;
-        group = h.0.group;
-        poll_pdu = h.0.poll_pdu;
-        poll_byte = h.0.poll_byte;
-        poll_retransmit = h.0.poll_retransmit;
-        max_retx = h.0.max_retx;
-        reorder = h.0.reorder;
-        prohibit = most-only 0 65535 n (limit-range (codes "off") 0 65535 text n e);
-      },
-      h.1,
-    ))
+    (λ n e. given IsCounted (record c { rx = record c.rx { prohibit = n } })
+    ((let range : IfSome n (λ k. k ≤ 65535) = most-only 0 65535 n (limit-range (codes "off") 0 65535 text n e) in
+    assumption), h.1))
 option-range c Count text has h =
     bind IsCounted (number_of 0 4294967295 text) (λ n. Ok (record c { first = n }))
-    (λ n e. given IsCounted (record c { first = n }) (
-      record {
-        lcid = h.0.lcid;
-        rlc_bits = h.0.rlc_bits;
-        pdcp_bits = h.0.pdcp_bits;
-        priority = h.0.priority;
-        pbr = h.0.pbr;
-        bucket = h.0.bucket;
-        group = h.0.group;
-        poll_pdu = h.0.poll_pdu;
-        poll_byte = h.0.poll_byte;
-        poll_retransmit = h.0.poll_retransmit;
-        max_retx = h.0.max_retx;
-        reorder = h.0.reorder;
-        prohibit = h.0.prohibit;
-      },
-      number-most 0 4294967295 n text e,
-    ))
+    (λ n e. given IsCounted (record c { first = n }) (assumption, number-most 0 4294967295 n text e))
 
 named-range : (c : BearerConfig) (name : Option Name) (value : List ℕ) → IsCounted c
     → Behind IsCounted (named_option c name value)

@@ -27,7 +27,7 @@ use Rattle.l2_types.specs.declared.side.Side.{Side}
 use Rattle.l2_types.specs.declared.side.Side.TheVariants.{Nb, Ue}
 use Rattle.law_air.specs.AnyCalls.Calls as calls
 use Rattle.law_air.specs.AnyCalls.Ends.{LivesOn, GoesThrough, GoesOn, GoesOnByVisits, visit_told, known, lives_in}
-use Rattle.promises.specs.Records.{told_by as told_of, is_of_building}
+use Rattle.promises.specs.Records.{events_of, is_of_building}
 use Rattle.law_air.proofs.AnyCalls.Advancing.{call_goes_on, submitting_goes, tti_goes, drain_goes}
 use Rattle.law_air.proofs.AnyCalls.Going.{by_none, by_same, lives_then, goes_by, unseen_rests}
 use Rattle.law_node.specs.Calls.{Call as EndCall}
@@ -38,7 +38,7 @@ use Rattle.promises.specs.Air.{is_tti, ttis as ttis_behind, InTurn}
 use Rattle.promises.specs.Blocks.{kinds_by, kinds, MayBuildBoth, AreTold}
 use Rattle.law_run.specs.Ends.{ComeByCalls}
 use Rattle.law_run.specs.Order.{state_behind, KeepsOrder}
-use Rattle.promises.specs.Parts.{Part, Passes, Drains, Rests, part}
+use Rattle.promises.specs.Parts.{Part, Passes, Drains, Rests, part_of_line}
 use Rattle.law_run.proofs.Knowing.{kinds_over, IsCome, come_then, come_shows}
 use Rattle.law_run.proofs.Past.{behind as all_behind, link_behind}
 use Rattle.law_run.proofs.Records.{count_numbered}
@@ -269,7 +269,7 @@ none_built : (is_done : Bool) (done : ℕ) → filter is_of_building (ending is_
 none_built true done = refl
 none_built false done = refl
 
-untold_end : (side : Side) (is_done : Bool) (done : ℕ) → told_of side (ending is_done done ∷ []) ≡ []
+untold_end : (side : Side) (is_done : Bool) (done : ℕ) → events_of side (ending is_done done ∷ []) ≡ []
 untold_end side true done = refl
 untold_end side false done = refl
 
@@ -323,7 +323,7 @@ lives_by (lines.Handover user rrc integrity) keys =
 lives_by line keys = []
 
 line_goes : (told : List Record) (line : Line) (keys : Option Keys) (l : Link) → l.out ≡ [] → IsReached told l
-    → IsInRange line → LineGoes (lives_by line keys) (part line) (kinds_by line l.kinds) l (played line keys l)
+    → IsInRange line → LineGoes (lives_by line keys) (part_of_line line) (kinds_by line l.kinds) l (played line keys l)
 unfolding acted
 line_goes told (lines.Harq maximum) keys l nothing r fits =
     rests_goes [] l _ nothing (call_goes_on (calls.Visits maximum) l fits.some)
@@ -416,7 +416,7 @@ reached_behind (g ∷ past) (right, order) =
 
 -- a group behind others
 pub group_goes : (past : List Group) (g : Group) → KeepsOrder past → IsInRange g.line
-    → LineGoes (lives_by g.line (state_behind past).rules.keys) (part g.line)
+    → LineGoes (lives_by g.line (state_behind past).rules.keys) (part_of_line g.line)
     (kinds_by g.line (link_behind past).kinds) (link_behind past) (behind_line g.line (state_behind past))
 group_goes past g order fits =
     line_goes (history past) g.line (state_behind past).rules.keys (link_behind past) (all_behind past order).nothing
@@ -434,11 +434,12 @@ kinds_behind (g ∷ past) (right, order) =
 
 -- the new blocks of a line, where its TTIs stand
 pub line_is_told : (past : List Group) (line : Line) → KeepsOrder past → IsInRange line
-    → AreTold (ttis_behind past) (kinds past) (part line) (behind_line line (state_behind past)).out
+    → AreTold (ttis_behind past) (kinds past) (part_of_line line) (behind_line line (state_behind past)).out
 line_is_told past line order fits =
     let b = all_behind past order in
     let out = (behind_line line (state_behind past)).out in
-    subst (λ (t : ℕ). AreTold t (kinds past) (part line) out) (sym b.ttis_is)
-    (subst (λ (x : List (Option Layout)). AreTold (link_behind past).ttis x (part line) out) (kinds_behind past order)
+    subst (λ (t : ℕ). AreTold t (kinds past) (part_of_line line) out) (sym b.ttis_is)
+    (subst (λ (x : List (Option Layout)). AreTold (link_behind past).ttis x (part_of_line line) out)
+    (kinds_behind past order)
     (line_goes (history past) line (state_behind past).rules.keys (link_behind past) b.nothing
     (reached_behind past order) fits).blocks)

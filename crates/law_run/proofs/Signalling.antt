@@ -5,7 +5,7 @@ use Rattle.std.proofs.Common.{List, [], ◌∷◌, ◌++◌, append-nil, append_
 use Rattle.std.proofs.lemmas.Bool.Decides.{nat_tests}
 use Rattle.std.proofs.lemmas.List.Concat.{flat_map-append}
 use Rattle.std.proofs.lemmas.List.Elements.{filter-append}
-use Rattle.law_words.specs.Lists.{IsFront}
+use Rattle.law_words.specs.Lists.{AreFirstSdus}
 use Rattle.air_link.specs.Draining.{is_drained}
 use Rattle.air_link.specs.Lines.{bears}
 use Rattle.air_link.specs.Link.{Link, end_of}
@@ -29,7 +29,7 @@ use Rattle.law_deliver.specs.AmChannel.Drained.{has_failed}
 use Rattle.law_deliver.specs.AmChannel.Lives.{AirStep, InLife, Moves, lives, end_at, all_calls}
 use Rattle.law_deliver.proofs.AmChannel.Drained.{channel_drained}
 use Rattle.law_deliver.specs.AmFlow.Air.{Air, outset}
-use Rattle.law_deliver.specs.AmFlow.Ups.{ups_on, ups_in as event_ups}
+use Rattle.law_deliver.specs.AmFlow.Ups.{ups_on, up_on}
 use Rattle.promises.specs.Events.{told_on, is_lost, losses}
 use Rattle.law_deliver.proofs.AmFlow.Events.{told_then}
 use Rattle.l2_node.specs.End.{End}
@@ -40,7 +40,7 @@ use Rattle.l2_types.specs.declared.side.Side.{Side}
 use Rattle.l2_types.specs.declared.side.Side.TheVariants.{Nb, Ue}
 use Rattle.law_node.specs.Calls.{Add, Move, after as after_call}
 use Rattle.law_node.specs.Holding.{flow}
-use Rattle.promises.specs.Records.{told_by, ups_in}
+use Rattle.promises.specs.Records.{events_of, ups_in}
 use Rattle.law_air.proofs.AnyCalls.Going.{told_both}
 use Rattle.prioritise.proofs.ChannelLemmas.{both_false}
 use Rattle.law_air.specs.TwoEnds.Staying.{AreInLife}
@@ -50,20 +50,21 @@ use Rattle.law_deliver.specs.SrbChannel.Running.{Life, running, first_life}
 use Rattle.law_deliver.proofs.SrbChannel.Laws.{Living, first_living, all_live}
 use Rattle.law_deliver.proofs.SrbChannel.Running.{Start, down, up, all_down, all_up, none_between, none_lost}
 use Rattle.law_deliver.proofs.SrbChannel.Running.{none_lost_between, starts_first, starts_anew}
-use Rattle.promises.specs.Arrival.{ended_by}
+use Rattle.promises.specs.Arrival.{entries_ended}
 use Rattle.promises.specs.Delivery.{forges, is_forged, sets_timer}
-use Rattle.promises.specs.Parts.{hands_over, part}
+use Rattle.promises.specs.Parts.{is_handover, part_of_line}
 use Rattle.promises.specs.Drained.{failed}
 use Rattle.promises.specs.Flows.{handed_in, looped_at, submitted, delivered}
 use Rattle.law_run.specs.Order.{state_behind, IsRight, KeepsOrder}
-use Rattle.promises.specs.Signalling.{submitted_since, delivered_since, lost, SignalAll, DeliversEachLife}
+use Rattle.promises.specs.Signalling.{submitted_since, delivered_since, losses_since, SignalAll, DeliversEachLife}
 use Rattle.promises.specs.Signalling.{LeavesNoSignal, DrainsLeaveNoSignal, BringsNoSignal, HandoversBringNoSignal}
 use Rattle.promises.specs.Configs.{config_by, config_of}
 use Rattle.law_run.proofs.Delivering.{ups_are_told, ups_told, is_first, at_each}
 use Rattle.law_run.proofs.Early.{is_early}
 use Rattle.law_run.proofs.Failed.{HasSender, sender_goes, signalling_begins}
 use Rattle.law_run.proofs.Drains.{link_drained, none_forged, side_drained}
-use Rattle.law_run.proofs.Flowing.{Sdus, Happened, looped_then, PartLives, line_stays, InOneLife, through_life}
+use Rattle.law_run.proofs.Flowing.{Sdus, Happened, looped_then, PartLives, line_stays}
+use Rattle.law_run.proofs.Lives.{InOneLife, through_life}
 use Rattle.law_run.proofs.Keys.{not_first, not_second, no_cause}
 use Rattle.law_run.proofs.Past.{behind, link_behind}
 use Rattle.law_run.proofs.Texts.{adds_one, adds_it, unchanged}
@@ -75,14 +76,14 @@ abbrev losses_on : ℕ → List Event → List Event
 losses_on l told = losses (told_on l told)
 
 lost_both : (l : ℕ) (side : Side) (xs ys : List Record)
-    → losses_on l (told_by side (xs ++ ys)) ≡ losses_on l (told_by side xs) ++ losses_on l (told_by side ys)
+    → losses_on l (events_of side (xs ++ ys)) ≡ losses_on l (events_of side xs) ++ losses_on l (events_of side ys)
 lost_both l side xs ys =
-    ap (losses_on l) (told_both side xs ys (told_by side xs) (told_by side ys) refl refl)
-    ∙ ap losses (told_then l (told_by side xs) (told_by side ys))
-    ∙ filter-append is_lost (told_on l (told_by side xs)) (told_on l (told_by side ys))
+    ap (losses_on l) (told_both side xs ys (events_of side xs) (events_of side ys) refl refl)
+    ∙ ap losses (told_then l (events_of side xs) (events_of side ys))
+    ∙ filter-append is_lost (told_on l (events_of side xs)) (told_on l (events_of side ys))
 
 lost_then : (l : ℕ) (side : Side) (past : List Group) (g : Group)
-    → lost side l (g ∷ past) ≡ lost side l past ++ losses_on l (told_by side g.events)
+    → losses_since side l (g ∷ past) ≡ losses_since side l past ++ losses_on l (events_of side g.events)
 lost_then l side past g = lost_both l side (history past) (records.Line g.number g.line ∷ g.events)
 
 -- ---- a channel of signalling, behind groups
@@ -101,9 +102,9 @@ pub record IsSignalling (l : ℕ) (past : List Group) : Type 0 where
   pub told : List Record
   pub handed : Sdus
   pub lived : LivedIn l nb ue told handed false (link_behind past)
-  pub delivered_is : (side : Side) → delivered_since side l past ≡ ups_on l (told_by side told)
+  pub delivered_is : (side : Side) → delivered_since side l past ≡ ups_on l (events_of side told)
   pub submitted_is : (side : Side) → submitted_since side l past ≡ handed side l
-  pub lost_is : (side : Side) → lost side l past ≡ losses_on l (told_by side told)
+  pub lost_is : (side : Side) → losses_since side l past ≡ losses_on l (events_of side told)
   pub senders : (side : Side) → HasSender side l past
 
 -- ---- no discard timers are set on it
@@ -127,10 +128,10 @@ sets_none l line r k low allowed = refl
 -- ---- a line since that is no handover
 
 told_ups : (l : ℕ) (side : Side) (xs ys : List Record)
-    → ups_on l (told_by side (xs ++ ys)) ≡ ups_on l (told_by side xs) ++ ups_on l (told_by side ys)
+    → ups_on l (events_of side (xs ++ ys)) ≡ ups_on l (events_of side xs) ++ ups_on l (events_of side ys)
 told_ups l side xs ys =
-    ap (ups_on l) (told_both side xs ys (told_by side xs) (told_by side ys) refl refl)
-    ∙ flat_map-append (event_ups l) (told_by side xs) (told_by side ys)
+    ap (ups_on l) (told_both side xs ys (events_of side xs) (events_of side ys) refl refl)
+    ∙ flat_map-append (up_on l) (events_of side xs) (events_of side ys)
 
 kept_by : (b : Bool) (xs : List (List ℕ)) → b ≡ false → (if b then [] else xs) ≡ xs
 kept_by true xs e = absurd cc
@@ -141,15 +142,15 @@ dropped_by true xs e = refl
 dropped_by false xs e = absurd cc
 
 stays_on : (l : ℕ) (past : List Group) (g : Group) → IsRight past g → KeepsOrder past → adds_one l g.line ≡ false
-    → forges g.line ≡ false → hands_over g.line ≡ false → IsSignalling l past → IsSignalling l (g ∷ past)
+    → forges g.line ≡ false → is_handover g.line ≡ false → IsSignalling l past → IsSignalling l (g ∷ past)
 stays_on l past g right order other own here d =
     let k = link_behind past in
     let m = behind_line g.line (state_behind past) in
-    let p = part g.line in
+    let p = part_of_line g.line in
     let set = false || sets_timer l g.line in
     let off : set ≡ false = sets_none l g.line (state_behind past).rules k d.low right.allowed in
     let x : PartLives l (InOneLife l d.nb d.ue) (through_life l d.nb d.ue) d.told d.handed unread set
-    (ended_by g.line) p m =
+    (entries_ended g.line) p m =
     line_stays l (InOneLife l d.nb d.ue) (through_life l d.nb d.ue) d.told d.handed unread false g.line
     (state_behind past).rules.keys k (behind past order).nothing right.in_range other own here d.lived in
     let lived = (through_life l d.nb d.ue).unseen _ _ unread set m [] x.lived in
@@ -168,20 +169,21 @@ stays_on l past g right order other own here d =
           (link_behind (g ∷ past))) off lived;
       delivered_is = λ side.
           ap (λ (xs : List (List ℕ)). xs ++ ups_in side l g.events)
-          (kept_by (hands_over g.line) (delivered_since side l past) here ∙ d.delivered_is side)
-          ∙ ap (λ (xs : List (List ℕ)). ups_on l (told_by side d.told) ++ xs)
-          (sym (ups_are_told side l g.events) ∙ ap (λ (ys : List Record). ups_on l (told_by side ys)) right.events_are
+          (kept_by (is_handover g.line) (delivered_since side l past) here ∙ d.delivered_is side)
+          ∙ ap (λ (xs : List (List ℕ)). ups_on l (events_of side d.told) ++ xs)
+          (sym (ups_are_told side l g.events) ∙ ap (λ (ys : List Record). ups_on l (events_of side ys)) right.events_are
           ∙ ap (ups_on l) (x.told_are side))
           ∙ sym (told_ups l side d.told x.more);
       submitted_is = λ side.
           ap (λ (xs : List (List ℕ)). xs ++ (handed_in side l p g.events ++ looped_at side l g.events))
-          (kept_by (hands_over g.line) (submitted_since side l past) here ∙ d.submitted_is side)
+          (kept_by (is_handover g.line) (submitted_since side l past) here ∙ d.submitted_is side)
           ∙ ap (λ (ys : List Record). d.handed side l ++ (handed_in side l p ys ++ looped_at side l ys))
           right.events_are;
       lost_is = λ side.
-          lost_then l side past g ∙ ap (λ (xs : List Event). xs ++ losses_on l (told_by side g.events)) (d.lost_is side)
-          ∙ ap (λ (xs : List Event). losses_on l (told_by side d.told) ++ xs)
-          (ap (λ (ys : List Record). losses_on l (told_by side ys)) right.events_are
+          lost_then l side past g ∙ ap (λ (xs : List Event). xs ++ losses_on l (events_of side g.events))
+          (d.lost_is side)
+          ∙ ap (λ (xs : List Event). losses_on l (events_of side d.told) ++ xs)
+          (ap (λ (ys : List Record). losses_on l (events_of side ys)) right.events_are
           ∙ ap (losses_on l) (x.told_are side))
           ∙ sym (lost_both l side d.told x.more);
       senders = λ side. sender_goes side l past g right order other (d.senders side);
@@ -220,7 +222,7 @@ module _ (l : ℕ) (past : List Group) (d : IsSignalling l past) where
       ≡ submitted_since side l past
   was_submitted_is side = d.lived.by.submitted_is side l ∙ sym (d.submitted_is side)
 
-  pub none_is_lost : (side : Side) → lost side l past ≡ []
+  pub none_is_lost : (side : Side) → losses_since side l past ≡ []
   none_is_lost side =
       d.lost_is side ∙ ap (losses_on l) (d.lived.by.told_is side)
       ∙ none_lost l d.nb d.ue living.near living.far living.begun steps living.runs living.calls side
@@ -229,12 +231,12 @@ module _ (l : ℕ) (past : List Group) (d : IsSignalling l past) where
       → P vs ts
   as_told {us} {vs} {ss} {ts} P e f p = subst (λ zs. P zs ts) e (subst (P us) f p)
 
-  pub front_is : (from : Side) → IsFront (delivered_since (other from) l past) (submitted_since from l past)
+  pub front_is : (from : Side) → AreFirstSdus (delivered_since (other from) l past) (submitted_since from l past)
   front_is Nb =
-      as_told IsFront (went_up_is Ue) (was_submitted_is Nb)
+      as_told AreFirstSdus (went_up_is Ue) (was_submitted_is Nb)
       (down l d.nb d.ue living.near living.far living.begun steps living.runs living.calls)
   front_is Ue =
-      as_told IsFront (went_up_is Nb) (was_submitted_is Ue)
+      as_told AreFirstSdus (went_up_is Nb) (was_submitted_is Ue)
       (up l d.nb d.ue living.near living.far living.begun steps living.runs living.calls)
 
   pub all_are : (from : Side) → end_drained (end_of from (link_behind past)) ≡ true → failed from l past ≡ []
@@ -278,11 +280,11 @@ moves_on l past g user rrc integrity right order d =
     let behind' = x.moves.behind in
     let events_are : g.events ≡ leaving ++ behind' = right.events_are ∙ x.moves.out_is
     ∙ ap (λ (o : List Record). o ++ (leaving ++ behind')) (behind past order).nothing in
-    let none : (side : Side) → ups_on l (told_by side leaving) ≡ [] = λ side.
+    let none : (side : Side) → ups_on l (events_of side leaving) ≡ [] = λ side.
     ap (ups_on l) (x.moves.told_is side)
     ∙ none_between l d.nb d.ue alive.near alive.far alive.begun (steps l past d) alive.runs alive.calls side keys
     in
-    let none_lost' : (side : Side) → losses_on l (told_by side leaving) ≡ [] = λ side.
+    let none_lost' : (side : Side) → losses_on l (events_of side leaving) ≡ [] = λ side.
     ap (losses_on l) (x.moves.told_is side)
     ∙ none_lost_between l d.nb d.ue alive.near alive.far alive.begun (steps l past d) alive.runs alive.calls side
     keys in
@@ -297,17 +299,17 @@ moves_on l past g user rrc integrity right order d =
       handed = λ side n. looped_at side n behind';
       lived = (through_life l nb ue).unseen behind' (λ side n. looped_at side n behind') unread false m [] x.lived;
       delivered_is = λ side.
-          sym (ups_are_told side l g.events) ∙ ap (λ (ys : List Record). ups_on l (told_by side ys)) events_are
+          sym (ups_are_told side l g.events) ∙ ap (λ (ys : List Record). ups_on l (events_of side ys)) events_are
           ∙ told_ups l side leaving behind'
-          ∙ ap (λ (ys : List (List ℕ)). ys ++ ups_on l (told_by side behind')) (none side);
+          ∙ ap (λ (ys : List (List ℕ)). ys ++ ups_on l (events_of side behind')) (none side);
       submitted_is = λ side.
           ap (looped_at side l) events_are ∙ looped_then side l leaving behind'
           ∙ ap (λ (ys : List (List ℕ)). ys ++ looped_at side l behind') (x.moves.none_looped side l);
       lost_is = λ side.
           lost_then l side past (record g { line = line })
-          ∙ ap (λ (xs : List Event). xs ++ losses_on l (told_by side g.events)) (none_is_lost l past d side)
-          ∙ ap (λ (ys : List Record). losses_on l (told_by side ys)) events_are ∙ lost_both l side leaving behind'
-          ∙ ap (λ (xs : List Event). xs ++ losses_on l (told_by side behind')) (none_lost' side);
+          ∙ ap (λ (xs : List Event). xs ++ losses_on l (events_of side g.events)) (none_is_lost l past d side)
+          ∙ ap (λ (ys : List Record). losses_on l (events_of side ys)) events_are ∙ lost_both l side leaving behind'
+          ∙ ap (λ (xs : List Event). xs ++ losses_on l (events_of side behind')) (none_lost' side);
       senders = λ side. sender_goes side l past (record g { line = line }) right order refl (d.senders side);
     }
 
@@ -326,7 +328,7 @@ none_delivered : (side : Side) (l : ℕ) (past : List Group) → delivered side 
 none_delivered side l [] e = refl
 none_delivered side l (g ∷ past) e =
     let parts = none_both (delivered side l past) (ups_in side l g.events) e in
-    if_none (hands_over g.line) (delivered_since side l past) (ups_in side l g.events)
+    if_none (is_handover g.line) (delivered_since side l past) (ups_in side l g.events)
     (none_delivered side l past parts.0) parts.1
 
 none_submitted : (side : Side) (l : ℕ) (past : List Group) → submitted side l past ≡ []
@@ -334,9 +336,10 @@ none_submitted : (side : Side) (l : ℕ) (past : List Group) → submitted side 
 none_submitted side l [] e = refl
 none_submitted side l (g ∷ past) e =
     let parts =
-    none_both (submitted side l past) (handed_in side l (part g.line) g.events ++ looped_at side l g.events) e in
-    if_none (hands_over g.line) (submitted_since side l past)
-    (handed_in side l (part g.line) g.events ++ looped_at side l g.events) (none_submitted side l past parts.0)
+    none_both (submitted side l past) (handed_in side l (part_of_line g.line) g.events ++ looped_at side l g.events) e
+    in
+    if_none (is_handover g.line) (submitted_since side l past)
+    (handed_in side l (part_of_line g.line) g.events ++ looped_at side l g.events) (none_submitted side l past parts.0)
     parts.1
 
 -- ---- the line in which its bearers come
@@ -389,12 +392,12 @@ begins past g c options is right order kind =
     subst (λ (line : Line). IsSignalling c.channel.lcid (record g { line = line } ∷ past)) (sym is)
     (begin_by past g c options (subst (λ (line : Line). IsRight past (record g { line = line })) is right) order kind)
 
-line_by : (b : Bool) (l : ℕ) (past : List Group) (g : Group) → hands_over g.line ≡ b → adds_one l g.line ≡ false
+line_by : (b : Bool) (l : ℕ) (past : List Group) (g : Group) → is_handover g.line ≡ b → adds_one l g.line ≡ false
     → IsRight past g → KeepsOrder past → forges g.line ≡ false → IsSignalling l past → IsSignalling l (g ∷ past)
 line_by false l past g here other right order own d = stays_on l past g right order other own here d
 line_by true l past g here other right order own d = over g.line refl here
   where
-    over : (line : Line) → g.line ≡ line → hands_over line ≡ true → IsSignalling l (g ∷ past)
+    over : (line : Line) → g.line ≡ line → is_handover line ≡ true → IsSignalling l (g ∷ past)
     over (lines.Handover user rrc integrity) is h =
         subst (λ (line : Line). IsSignalling l (record g { line = line } ∷ past)) (sym is)
         (moves_on l past g user rrc integrity
@@ -405,7 +408,7 @@ signalling_by : (b : Bool) (l : ℕ) (past : List Group) (g : Group) (c : Bearer
     → IsRight past g → KeepsOrder past → c.kind ≡ Srb → config_of l (g ∷ past) ≡ Some c → forges g.line ≡ false
     → (config_of l past ≡ Some c → IsSignalling l past) → IsSignalling l (g ∷ past)
 signalling_by false l past g c is right order kind e own rest =
-    line_by (hands_over g.line) l past g refl is right order own (rest (unchanged l g.line (config_of l past) c is e))
+    line_by (is_handover g.line) l past g refl is right order own (rest (unchanged l g.line (config_of l past) c is e))
 signalling_by true l past g c is right order kind e own rest =
     let a = adds_it l g.line is in
     let taken : config_by l (lines.Bearer a.config a.options) (config_of l past) ≡ Some a.config =
@@ -449,43 +452,44 @@ drains_leave_no_signal (g ∷ past) (right, order) = (
 
 -- ---- in a handover
 
-front_of_none : (xs ys : List (List ℕ)) → ys ≡ [] → IsFront xs ys → xs ≡ []
+front_of_none : (xs ys : List (List ℕ)) → ys ≡ [] → AreFirstSdus xs ys → xs ≡ []
 front_of_none xs ys none f = (none_both xs f.rest (sym f.is ∙ none)).0
 
-moves_none : (line : Line) → hands_over line ≡ true → (side : Side) (l : ℕ) (told : List Record)
-    → handed_in side l (part line) told ≡ []
+moves_none : (line : Line) → is_handover line ≡ true → (side : Side) (l : ℕ) (told : List Record)
+    → handed_in side l (part_of_line line) told ≡ []
 moves_none (lines.Handover user rrc integrity) h side l told = refl
 moves_none line h side l told = absurd cc
 
-adds_none : (l : ℕ) (line : Line) → hands_over line ≡ true → adds_one l line ≡ false
+adds_none : (l : ℕ) (line : Line) → is_handover line ≡ true → adds_one l line ≡ false
 adds_none l (lines.Handover user rrc integrity) h = refl
 adds_none l line h = absurd cc
 
-forges_none : (line : Line) → hands_over line ≡ true → forges line ≡ false
+forges_none : (line : Line) → is_handover line ≡ true → forges line ≡ false
 forges_none (lines.Handover user rrc integrity) h = refl
 forges_none line h = absurd cc
 
 none_submitted_in : (side : Side) (l : ℕ) (past : List Group) (g : Group) → l < 3 → KeepsOrder (g ∷ past)
-    → hands_over g.line ≡ true → submitted_since side l (g ∷ past) ≡ []
+    → is_handover g.line ≡ true → submitted_since side l (g ∷ past) ≡ []
 none_submitted_in side l past g low order here =
-    ap (λ (xs : List (List ℕ)). xs ++ (handed_in side l (part g.line) g.events ++ looped_at side l g.events))
-    (dropped_by (hands_over g.line) (submitted_since side l past) here)
+    ap (λ (xs : List (List ℕ)). xs ++ (handed_in side l (part_of_line g.line) g.events ++ looped_at side l g.events))
+    (dropped_by (is_handover g.line) (submitted_since side l past) here)
     ∙ ap (λ (xs : List (List ℕ)). xs ++ looped_at side l g.events) (moves_none g.line here side l g.events)
     ∙ none_looped side l past g low order
 
-brings_by : (from : Side) (l : ℕ) (past : List Group) (g : Group) → KeepsOrder (g ∷ past) → hands_over g.line ≡ true
+brings_by : (from : Side) (l : ℕ) (past : List Group) (g : Group) → KeepsOrder (g ∷ past) → is_handover g.line ≡ true
     → IsSignalling l (g ∷ past) → ups_in (other from) l g.events ≡ []
 brings_by from l past g order here d =
     sym (ap (λ (xs : List (List ℕ)). xs ++ ups_in (other from) l g.events)
-    (dropped_by (hands_over g.line) (delivered_since (other from) l past) here))
+    (dropped_by (is_handover g.line) (delivered_since (other from) l past) here))
     ∙ front_of_none (delivered_since (other from) l (g ∷ past)) (submitted_since from l (g ∷ past))
     (none_submitted_in from l past g d.low order here) (front_is l (g ∷ past) d from)
 
-brings_none : (past : List Group) (g : Group) → KeepsOrder (g ∷ past) → hands_over g.line ≡ true → BringsNoSignal past g
+brings_none : (past : List Group) (g : Group) → KeepsOrder (g ∷ past) → is_handover g.line ≡ true
+    → BringsNoSignal past g
 brings_none past g (right, order) here side l c e kind own = by_side side
   where
     d : IsSignalling l (g ∷ past)
-    d = line_by (hands_over g.line) l past g refl (adds_none l g.line here) right order (forges_none g.line here)
+    d = line_by (is_handover g.line) l past g refl (adds_none l g.line here) right order (forges_none g.line here)
         (is_signalling l past c order kind e own)
 
     by_side : (side : Side) → ups_in side l g.events ≡ []

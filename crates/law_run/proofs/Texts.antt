@@ -1,11 +1,10 @@
 -- Each bearer goes on through the groups of a journal in lives under the keys that lines gave, and no text of any meets
 -- another.
-use Rattle.std.proofs.Common.{◌≡◌, ◌⊎◌, inl, inr, ℕ, ◌==◌, ◌≤◌, Bool, true, false, cond, ◌&&◌, if◌then◌else◌, Option}
-use Rattle.std.proofs.Common.{Some, None, is_none, is_some, List, [], ◌∷◌, ◌++◌, map, append-nil, refl, ap, sym, ◌∙◌}
-use Rattle.std.proofs.Common.{subst, arith}
+use Rattle.std.proofs.Common.{◌≡◌, inl, inr, ℕ, ◌==◌, Bool, true, false, cond, ◌&&◌, if◌then◌else◌, Option}
+use Rattle.std.proofs.Common.{Some, None, is_none, is_some, List, [], ◌∷◌, ◌++◌, append-nil, refl, ap, sym, ◌∙◌}
+use Rattle.std.proofs.Common.{subst}
 use Rattle.std.proofs.lemmas.Bool.{cases_Bool}
-use Rattle.std.proofs.lemmas.Bool.Decides.{nat_tests}
-use Rattle.std.specs.List.{AllByRecursion, filter}
+use Rattle.std.specs.List.{filter}
 use Rattle.air_link.specs.Link.{Link, end_of}
 use Rattle.air_record.specs.declared.line.Line.{Line}
 use Rattle.air_record.specs.declared.line.Line.TheVariants as lines
@@ -20,44 +19,35 @@ use Rattle.air_text.specs.Groups.{Group, history}
 use Rattle.air_text.specs.Ranges.{IsInRange}
 use Rattle.bearer.specs.Bearer.{flow_of}
 use Rattle.bearer.specs.declared.flow.Flow.{Flow}
-use Rattle.law_bearer.specs.AnyBearer.Calls.{Step, run as go, reached as bearer_reached}
-use Rattle.law_bearer.specs.AnyBearer.Ciphering.{ciphered, ShareText, AllShareText, restarts, cipher_key, IsOneOf}
-use Rattle.law_bearer.specs.AnyBearer.Ciphering.{IsOfBearer}
-use Rattle.law_words.specs.Lists.{AreDistinct}
+use Rattle.law_bearer.specs.AnyBearer.Calls.{Step, run_bearer, reached as bearer_reached}
+use Rattle.law_bearer.specs.AnyBearer.Ciphering.{restarts}
 use Rattle.law_bearer.specs.AnyBearer.Stream.{all_taken, counts}
-use Rattle.law_bearer.proofs.AnyBearer.Ciphering.{ciphers_as_itself, one_text_a_key}
-use Rattle.bearer_pdcp.specs.Ends.{bearer_of, sends}
-use Rattle.bearer_types.specs.Configs.{IsChannelOf, IsConfig}
+use Rattle.bearer_types.specs.Configs.{IsConfig}
 use Rattle.bearer_types.specs.declared.config.BearerConfig.{BearerConfig}
 use Rattle.eps_sec.specs.declared.Keys.{Keys}
 use Rattle.l2_node.specs.End.{End, fresh as fresh_end}
 use Rattle.l2_node.specs.Finding.{has}
-use Rattle.l2_types.specs.declared.channel.Kind.{Kind}
 use Rattle.l2_types.specs.declared.channel.Kind.TheVariants as kind
 use Rattle.l2_types.specs.declared.side.Side.{Side}
-use Rattle.l2_types.specs.declared.side.Side.TheVariants.{Nb, Ue}
 use Rattle.law_air.specs.AnyCalls.Ends.{begins_life}
-use Rattle.promises.specs.Records.{told_by, is_of_building}
+use Rattle.promises.specs.Records.{events_of, is_of_building}
 use Rattle.law_air.proofs.AnyCalls.Going.{run_on, given_on, over_on, told_both}
 use Rattle.law_node.specs.Bearers.{keys_in, moves, adds, AddNone}
 use Rattle.promises.specs.Counts.{counts_on, counts_taken}
-use Rattle.law_node.specs.Calls.{Call, Add, Move, AreGiven, after, run, reached}
+use Rattle.law_node.specs.Calls.{Call, Add, Move, AreGiven, after, run_end, reached}
 use Rattle.law_node.specs.Holding.{flow}
 use Rattle.law_node.specs.Telling.{told_over}
 use Rattle.law_node.proofs.Counted.{counts_then}
 use Rattle.law_node.proofs.Living.{go_on, added, reached_side, given_parts}
 use Rattle.law_node.proofs.Steps.{Takes, then_takes}
 use Rattle.promises.specs.Air.{ttis}
-use Rattle.law_pdcp.specs.OneEnd.Lives.{Ciphering}
 use Rattle.promises.specs.Blocks.{kinds, AreTold}
 use Rattle.law_run.specs.Order.{state_behind, IsRight, KeepsOrder}
-use Rattle.promises.specs.Parts.{part}
-use Rattle.law_run.specs.Texts.{AreTexts, AreTextsOf, AreCiphered, NoneMeet}
-use Rattle.promises.specs.Keys.{in_force_by, in_force, gives_keys, given}
+use Rattle.promises.specs.Parts.{part_of_line}
+use Rattle.promises.specs.Keys.{keys_in_force_by, keys_in_force, gives_keys, keys_given}
 use Rattle.promises.specs.Configs.{config_by, config_of}
 use Rattle.law_run.proofs.Counts.{same_lcid, come, goes, none_taken}
-use Rattle.law_run.proofs.Distinct.{rrc_key, AreKeys, are_keys}
-use Rattle.law_run.proofs.Keys.{not_first, not_second, no_cause, keys_behind}
+use Rattle.law_run.proofs.Keys.{not_first, not_second, no_cause}
 use Rattle.law_run.proofs.Past.{link_behind}
 use Rattle.law_run.proofs.Reaching.{lives_by}
 
@@ -70,19 +60,20 @@ keys_list (Some keys) = keys ∷ []
 -- a line behind which nothing has begun configures, and tells of no new block
 record Configures (line : Line) (r : Rules) (past : List Group) : Type 0 where
   early : r.begun ≡ false
-  given_is : given past ≡ keys_list r.keys
-      → given past ++ (if gives_keys line then in_force_by line (in_force past) ∷ [] else [])
+  given_is : keys_given past ≡ keys_list r.keys
+      → keys_given past ++ (if gives_keys line then keys_in_force_by line (keys_in_force past) ∷ [] else [])
       ≡ keys_list (accepted line r).keys
 
-stays_given : (past : List Group) (o : Option Keys) → given past ≡ keys_list o → given past ++ [] ≡ keys_list o
-stays_given past o e = append-nil (given past) ∙ e
+stays_given : (past : List Group) (o : Option Keys) → keys_given past ≡ keys_list o
+    → keys_given past ++ [] ≡ keys_list o
+stays_given past o e = append-nil (keys_given past) ∙ e
 
 none_twice : (o : Option Keys) → is_some o ≡ false → o ≡ None
 none_twice None e = refl
 none_twice (Some keys) e = absurd cc
 
-first_given : (keys : Keys) (past : List Group) (o : Option Keys) → o ≡ None → given past ≡ keys_list o
-    → given past ++ keys ∷ [] ≡ keys ∷ []
+first_given : (keys : Keys) (past : List Group) (o : Option Keys) → o ≡ None → keys_given past ≡ keys_list o
+    → keys_given past ++ keys ∷ [] ≡ keys ∷ []
 first_given keys past o none e = ap (λ (ks : List Keys). ks ++ keys ∷ []) (e ∙ ap keys_list none)
 
 configures : (line : Line) (r : Rules) (l : Link) (past : List Group) → refusal line r l ≡ None
@@ -105,7 +96,7 @@ configures (lines.Drx config) r l past allowed early = record { early = early; g
 configures line r l past allowed early = absurd cc
 
 unbuilt : (line : Line) (r : Rules) (t : ℕ) (kinds' : _) (told : List Record) → (accepted line r).begun ≡ false
-    → AreTold t kinds' (part line) told → filter is_of_building told ≡ []
+    → AreTold t kinds' (part_of_line line) told → filter is_of_building told ≡ []
 unfolding accepted
 unbuilt (lines.Harq visits) r t ks told early none = none
 unbuilt lines.Bsr r t ks told early none = none
@@ -122,14 +113,14 @@ over_groups : (side : Side) (lcid : ℕ) (g : Group) (past : List Group)
     ++ counts_taken side lcid g.events
 over_groups side lcid g past =
     ap (counts_on lcid)
-    (told_both side (history past) (records.Line g.number g.line ∷ g.events) (told_by side (history past))
-    (told_by side g.events) refl refl)
-    ∙ counts_then lcid (told_by side (history past)) (told_by side g.events)
+    (told_both side (history past) (records.Line g.number g.line ∷ g.events) (events_of side (history past))
+    (events_of side g.events) refl refl)
+    ∙ counts_then lcid (events_of side (history past)) (events_of side g.events)
 
 -- as long as nothing has begun, nothing is taken, and at most one line gave keys
 record Early (past : List Group) : Type 0 where
   none_taken : (side : Side) (lcid : ℕ) → counts_taken side lcid (history past) ≡ []
-  given_is : given past ≡ keys_list (state_behind past).rules.keys
+  given_is : keys_given past ≡ keys_list (state_behind past).rules.keys
 
 nothing_begun : (past : List Group) → KeepsOrder past → (state_behind past).rules.begun ≡ false → Early past
 unfolding fresh no_rules
@@ -149,16 +140,16 @@ nothing_begun (g ∷ past) (right, order) early =
 -- ---- the cipher stays
 
 cipher_by : (line : Line) (r : Rules) (before : Keys) → before.alg ≡ (keys_or_none r.keys).alg
-    → (in_force_by line before).alg ≡ (keys_or_none (accepted line r).keys).alg
+    → (keys_in_force_by line before).alg ≡ (keys_or_none (accepted line r).keys).alg
 unfolding accepted
 cipher_by (lines.Keys keys) r before e = refl
 cipher_by (lines.Handover user rrc integrity) r before e = e
 cipher_by line r before e = e
 
-cipher_stays : (past : List Group) → (in_force past).alg ≡ (keys_or_none (state_behind past).rules.keys).alg
+cipher_stays : (past : List Group) → (keys_in_force past).alg ≡ (keys_or_none (state_behind past).rules.keys).alg
 unfolding fresh no_rules
 cipher_stays [] = refl
-cipher_stays (g ∷ past) = cipher_by g.line (state_behind past).rules (in_force past) (cipher_stays past)
+cipher_stays (g ∷ past) = cipher_by g.line (state_behind past).rules (keys_in_force past) (cipher_stays past)
 
 -- ---- calls with which lives begin
 
@@ -226,7 +217,7 @@ record IsThere (side : Side) (lcid : ℕ) (past : List Group) (config : BearerCo
   there : has lcid (end_of side (link_behind past)).bearers ≡ true
   flow_is : flow lcid (end_of side (link_behind past)) ≡ bearer_reached config keys side steps
   keyed : is_some (state_behind past).rules.keys ≡ true
-  lives_are : keys ∷ restarts steps ≡ given past
+  lives_are : keys ∷ restarts steps ≡ keys_given past
   counts_are : counts (all_taken (flow_of config.kind config keys side) steps) ≡ counts_taken side lcid (history past)
 
 still_keyed : (line : Line) (r : Rules) → is_some r.keys ≡ true → is_some (accepted line r).keys ≡ true
@@ -237,8 +228,8 @@ still_keyed line r e = e
 
 -- the keys that a line gives begin lives, where there were keys before
 moved_by : (line : Line) (r : Rules) (l : Link) (past : List Group) → refusal line r l ≡ None → is_some r.keys ≡ true
-    → (in_force past).alg ≡ (keys_or_none r.keys).alg
-    → moves (lives_by line r.keys) ≡ (if gives_keys line then in_force_by line (in_force past) ∷ [] else [])
+    → (keys_in_force past).alg ≡ (keys_or_none r.keys).alg
+    → moves (lives_by line r.keys) ≡ (if gives_keys line then keys_in_force_by line (keys_in_force past) ∷ [] else [])
 unfolding rule_broken
 moved_by (lines.Keys keys) r l past allowed keyed e =
     let twice = not_second (late r) (refused_if (is_some r.keys) SetTwice)
@@ -274,11 +265,11 @@ goes_there side lcid past g config right order free t =
     let on = go_on side 4 false p.calls calls lcid p.given k.by.given
     (ap (λ (x : End). has lcid x.bearers) (sym p.end_is) ∙ t.there) none in
     let here = reached side 4 false p.calls in
-    let there : run calls here ≡ m = ap (run calls) (sym p.end_is) ∙ sym k.by.end_is in
+    let there : run_end calls here ≡ m = ap (run_end calls) (sym p.end_is) ∙ sym k.by.end_is in
     let told : counts_on lcid (told_over calls here) ≡ counts_taken side lcid g.events =
     ap (λ (x : End). counts_on lcid (told_over calls x)) (sym p.end_is)
     ∙ ap (counts_on lcid) (sym k.by.told_is) in
-    let lives : moves calls ≡ (if gives_keys g.line then in_force_by g.line (in_force past) ∷ [] else []) =
+    let lives : moves calls ≡ (if gives_keys g.line then keys_in_force_by g.line (keys_in_force past) ∷ [] else []) =
     moves_are calls ∙ ap moves k.lives_are
     ∙ moved_by g.line r (link_behind past) past right.allowed t.keyed (cipher_stays past) in
     let before : Takes f (flow lcid e) (restarts t.steps) (counts_taken side lcid (history past)) =
@@ -286,7 +277,7 @@ goes_there side lcid past g config right order free t =
     let now : Takes (flow lcid e) (flow lcid m) (moves calls) (counts_taken side lcid g.events) = record {
       steps = on.comes.steps;
       flow_is = ap (flow lcid) (sym there) ∙ on.comes.flow_is
-          ∙ ap (λ (x : End). go on.comes.steps (flow lcid x)) (sym p.end_is);
+          ∙ ap (λ (x : End). run_bearer on.comes.steps (flow lcid x)) (sym p.end_is);
       lives_are = on.comes.lives_are;
       counts_are = ap (λ (x : End). counts (all_taken (flow lcid x) on.comes.steps)) p.end_is ∙ on.comes.counts_are
           ∙ told;
@@ -302,7 +293,8 @@ goes_there side lcid past g config right order free t =
       lives_are =
           ap (λ (ks : List Keys). t.keys ∷ ks) (both.lives_are
           ∙ ap (λ (ks : List Keys). restarts t.steps ++ ks) lives)
-          ∙ ap (λ (ks : List Keys). ks ++ (if gives_keys g.line then in_force_by g.line (in_force past) ∷ [] else []))
+          ∙ ap (λ (ks : List Keys). ks ++ (if gives_keys g.line then keys_in_force_by g.line (keys_in_force past)
+          ∷ [] else []))
           t.lives_are;
       counts_are = both.counts_are ∙ sym (over_groups side lcid g past);
     }
@@ -367,32 +359,33 @@ begin_there side past g config options line_is right order wants =
     given_on (p.calls ++ s.before) (Add config ks ∷ []) (given_on p.calls s.before p.given all.0) (all.1.0, tt) in
     let none = adds_are lcid s.behind (subst (AddNone lcid) (sym s.none_behind) tt) in
     let on = go_on side 4 false until s.behind lcid given_until all.1.1 has_it none in
-    let come_here : run s.before e ≡ here = ap (run s.before) p.end_is
+    let come_here : run_end s.before e ≡ here = ap (run_end s.before) p.end_is
     ∙ sym (run_on p.calls s.before (fresh_end side 4 false)) in
-    let there : run s.behind begun ≡ m =
-    ap (run s.behind) (begun_is ∙ ap (λ (x : End). after x (Add config ks)) (sym come_here))
-    ∙ sym (run_on s.before (Add config ks ∷ s.behind) e) ∙ ap (λ (cs : List Call). run cs e) (sym s.calls_are)
+    let there : run_end s.behind begun ≡ m =
+    ap (run_end s.behind) (begun_is ∙ ap (λ (x : End). after x (Add config ks)) (sym come_here))
+    ∙ sym (run_on s.before (Add config ks ∷ s.behind) e) ∙ ap (λ (cs : List Call). run_end cs e) (sym s.calls_are)
     ∙ sym k.by.end_is in
     let unbuilt_here : counts_taken side lcid g.events ≡ [] =
     none_taken side lcid g.events
-    (subst (λ (line : Line). AreTold (ttis past) (kinds past) (part line) g.events) line_is right.blocks) in
+    (subst (λ (line : Line). AreTold (ttis past) (kinds past) (part_of_line line) g.events) line_is right.blocks) in
     let told : counts_on lcid (told_over s.before e) ++ counts_on lcid (told_over s.behind begun) ≡ [] =
     ap (λ (x : End). counts_on lcid (told_over s.before e) ++ counts_on lcid (told_over s.behind x))
     (begun_is ∙ ap (λ (x : End). after x (Add config ks)) (sym come_here))
-    ∙ sym (counts_then lcid (told_over s.before e) (told_over s.behind (after (run s.before e) (Add config ks))))
+    ∙ sym (counts_then lcid (told_over s.before e) (told_over s.behind (after (run_end s.before e) (Add config ks))))
     ∙ ap (counts_on lcid) (sym (over_on s.before (Add config ks ∷ s.behind) e)
     ∙ ap (λ (cs : List Call). told_over cs e) (sym s.calls_are) ∙ sym k.by.told_is) ∙ unbuilt_here in
     record {
       keys = ks;
       steps = on.comes.steps;
       there = ap (λ (x : End). has lcid x.bearers) (sym there) ∙ on.there;
-      flow_is = ap (flow lcid) (sym there) ∙ on.comes.flow_is ∙ ap (go on.comes.steps) flow_first;
+      flow_is = ap (flow lcid) (sym there) ∙ on.comes.flow_is ∙ ap (run_bearer on.comes.steps) flow_first;
       keyed = still_keyed g.line r (ap is_some may.keyed);
       lives_are =
           ap (λ (l : List Keys). ks ∷ l) (on.comes.lives_are ∙ moves_are s.behind ∙ ap moves s.none_behind)
           ∙ sym
-          (ap (λ (line : Line). given past ++ (if gives_keys line then in_force_by line (in_force past) ∷ [] else []))
-          line_is ∙ append-nil (given past) ∙ early.given_is ∙ ap keys_list may.keyed);
+          (ap (λ (line : Line). keys_given past ++ (if gives_keys line then keys_in_force_by line (keys_in_force past)
+          ∷ [] else []))
+          line_is ∙ append-nil (keys_given past) ∙ early.given_is ∙ ap keys_list may.keyed);
       counts_are =
           ap (λ (f : Flow). counts (all_taken f on.comes.steps)) (sym flow_first) ∙ on.comes.counts_are
           ∙ none_last (counts_on lcid (told_over s.before e)) (counts_on lcid (told_over s.behind begun)) told
@@ -444,7 +437,7 @@ there_by true side lcid past g config is right order wants e rest =
     (begin_there side past g a.config a.options a.line_is right order
     (ap (λ (c : BearerConfig). wants_keys c.kind) same ∙ wants)))
 
-is_there : (side : Side) (lcid : ℕ) (past : List Group) (config : BearerConfig) → KeepsOrder past
+pub is_there : (side : Side) (lcid : ℕ) (past : List Group) (config : BearerConfig) → KeepsOrder past
     → wants_keys config.kind ≡ true → config_of lcid past ≡ Some config → IsThere side lcid past config
 is_there side lcid [] config order wants e = absurd cc
 is_there side lcid (g ∷ past) config (right, order) wants e =
@@ -453,9 +446,9 @@ is_there side lcid (g ∷ past) config (right, order) wants e =
 
 -- ---- configurations
 
-record IsConfigured (lcid : ℕ) (config : BearerConfig) : Type 0 where
-  lcid_is : config.channel.lcid ≡ lcid
-  in_range : IsConfig config
+pub record IsConfigured (lcid : ℕ) (config : BearerConfig) : Type 0 where
+  pub lcid_is : config.channel.lcid ≡ lcid
+  pub in_range : IsConfig config
 
 configured_by : (lcid : ℕ) (line : Line) (before : Option BearerConfig) (config : BearerConfig) → IsInRange line
     → config_by lcid line before ≡ Some config → (before ≡ Some config → IsConfigured lcid config)
@@ -469,190 +462,8 @@ configured_by lcid (lines.Bearer c options) before config fits e rest = elim (ca
 ]
 configured_by lcid line before config fits e rest = rest e
 
-configured : (lcid : ℕ) (past : List Group) (config : BearerConfig) → KeepsOrder past
+pub configured : (lcid : ℕ) (past : List Group) (config : BearerConfig) → KeepsOrder past
     → config_of lcid past ≡ Some config → IsConfigured lcid config
 configured lcid [] config order e = absurd cc
 configured lcid (g ∷ past) config (right, order) e =
     configured_by lcid g.line (config_of lcid past) config right.in_range e (configured lcid past config order)
-
--- ---- no two meet
-
--- what is known of the texts of a side and channel
-record AreKnown (side : Side) (lcid : ℕ) (past : List Group) (xs : List Ciphering) : Type 0 where
-  config : BearerConfig
-  configured : IsConfigured lcid config
-  wants : wants_keys config.kind ≡ true
-  own : AllByRecursion (IsOfBearer config side (given past)) xs
-  alone : AllShareText xs xs
-
-abbrev AreNoneOrKnown : Side → ℕ → List Group → List Ciphering → Type 0
-AreNoneOrKnown side lcid past xs = (xs ≡ []) ⊎ AreKnown side lcid past xs
-
-never : (xs ys : List Ciphering) (P Q : Ciphering → Type 0) → ((x y : Ciphering) → P x → Q y → ShareText x y)
-    → AllByRecursion P xs → AllByRecursion Q ys → AllShareText xs ys
-never [] ys P Q h p q = tt
-never (x ∷ xs) ys P Q h p q = (each ys q, never xs ys P Q h p.1 q)
-  where
-    each : (zs : List Ciphering) → AllByRecursion Q zs → AllByRecursion (ShareText x) zs
-    each [] r = tt
-    each (z ∷ zs) r = (h x z p.0 r.0, each zs r.1)
-
--- BEARERs of two channels
-two_signalling : (m n : ℕ) → (1 ≤ m) × (m ≤ 2) → (1 ≤ n) × (n ≤ 2) → (m ≡ n → ⊥) → bearer_of m ≡ bearer_of n → ⊥
-two_signalling m n i j differ bearer = differ (grind (arith, nat_tests, i.0, i.1, j.0, j.1, bearer))
-
-two_data : (m n : ℕ) → (3 ≤ m) × (m ≤ 10) → (3 ≤ n) × (n ≤ 10) → (m ≡ n → ⊥) → bearer_of m ≡ bearer_of n → ⊥
-two_data m n i j differ bearer = differ (grind (arith, nat_tests, i.0, i.1, j.0, j.1, bearer))
-
--- signalling and data have other keys, and two of either another BEARER
-other_bearer : (k l : Kind) (past : List Group) (m n : ℕ) → AreKeys past → IsChannelOf k m → IsChannelOf l n
-    → (m ≡ n → ⊥) → wants_keys k ≡ true → wants_keys l ≡ true → (x y : List ℕ)
-    → IsOneOf x (map (cipher_key k) (given past)) → IsOneOf y (map (cipher_key l) (given past))
-    → x ≡ y → bearer_of m ≡ bearer_of n → ⊥
-other_bearer kind.Tm l past m n a i j differ v w x y p q same bearer = absurd cc
-other_bearer k kind.Tm past m n a i j differ v w x y p q same bearer = absurd cc
-other_bearer kind.Srb kind.Srb past m n a i j differ v w x y p q same bearer = two_signalling m n i j differ bearer
-other_bearer kind.Srb kind.Um past m n a i j differ v w x y p q same bearer =
-    a.apart y q (subst (λ (z : List ℕ). IsOneOf z (map rrc_key (given past))) same p)
-other_bearer kind.Srb kind.Am past m n a i j differ v w x y p q same bearer =
-    a.apart y q (subst (λ (z : List ℕ). IsOneOf z (map rrc_key (given past))) same p)
-other_bearer kind.Um kind.Srb past m n a i j differ v w x y p q same bearer =
-    a.apart x p (subst (λ (z : List ℕ). IsOneOf z (map rrc_key (given past))) (sym same) q)
-other_bearer kind.Am kind.Srb past m n a i j differ v w x y p q same bearer =
-    a.apart x p (subst (λ (z : List ℕ). IsOneOf z (map rrc_key (given past))) (sym same) q)
-other_bearer kind.Um kind.Um past m n a i j differ v w x y p q same bearer = two_data m n i j differ bearer
-other_bearer kind.Um kind.Am past m n a i j differ v w x y p q same bearer = two_data m n i j differ bearer
-other_bearer kind.Am kind.Um past m n a i j differ v w x y p q same bearer = two_data m n i j differ bearer
-other_bearer kind.Am kind.Am past m n a i j differ v w x y p q same bearer = two_data m n i j differ bearer
-
-other_side : (s t : Side) → sends s ≡ sends t → s ≡ t
-other_side Nb Nb e = refl
-other_side Nb Ue e = absurd cc
-other_side Ue Nb e = absurd cc
-other_side Ue Ue e = refl
-
-two_sides : (s t : Side) → (s ≡ t) ⊎ (s ≡ t → ⊥)
-two_sides Nb Nb = inl refl
-two_sides Nb Ue = inr (λ e. absurd cc)
-two_sides Ue Nb = inr (λ e. absurd cc)
-two_sides Ue Ue = inl refl
-
--- of two sides, or of two channels of one
-apart_by_side : (s t : Side) (m n : ℕ) (past : List Group) (xs ys : List Ciphering) → (s ≡ t → ⊥)
-    → AreKnown s m past xs → AreKnown t n past ys → AllShareText xs ys
-apart_by_side s t m n past xs ys differ a b =
-    never xs ys (IsOfBearer a.config s (given past)) (IsOfBearer b.config t (given past))
-    (λ x y p q key bearer direction count. absurd
-    (differ (other_side s t (sym p.direction ∙ direction ∙ q.direction)))) a.own b.own
-
-apart_by_channel : (s : Side) (m n : ℕ) (past : List Group) (xs ys : List Ciphering) → AreKeys past → (m ≡ n → ⊥)
-    → AreKnown s m past xs → AreKnown s n past ys → AllShareText xs ys
-apart_by_channel s m n past xs ys keys differ a b =
-    let c = a.config in
-    let d = b.config in
-    let other : c.channel.lcid ≡ d.channel.lcid → ⊥ =
-    λ e. differ (sym a.configured.lcid_is ∙ e ∙ b.configured.lcid_is) in
-    never xs ys (IsOfBearer c s (given past)) (IsOfBearer d s (given past))
-    (λ x y p q key bearer direction count. absurd
-    (other_bearer c.kind d.kind past c.channel.lcid d.channel.lcid keys a.configured.in_range.lcid
-    b.configured.in_range.lcid other a.wants b.wants x.protection.key y.protection.key p.key q.key key
-    (sym p.bearer ∙ bearer ∙ q.bearer)))
-    a.own b.own
-
--- ---- the texts of all
-
-record Chosen (side : Side) (lcid : ℕ) (past : List Group) (P : List Ciphering → Type 0) : Type 0 where
-  texts : List Ciphering
-  are : P texts
-  known : AreNoneOrKnown side lcid past texts
-
-differ_by : (k : Kind) (past : List Group) → AreKeys past → AreDistinct (map (cipher_key k) (given past))
-differ_by kind.Tm past h = h.users_differ
-differ_by kind.Srb past h = h.rrcs_differ
-differ_by kind.Um past h = h.users_differ
-differ_by kind.Am past h = h.users_differ
-
-keyed_texts : (side : Side) (lcid : ℕ) (past : List Group) (c : BearerConfig) → KeepsOrder past → AreKeys past
-    → wants_keys c.kind ≡ true → config_of lcid past ≡ Some c → Chosen side lcid past (AreTexts side lcid past c)
-keyed_texts side lcid past c order keys wants e =
-    let t = is_there side lcid past c order wants e in
-    let texts = ciphered (flow_of c.kind c t.keys side) t.steps in
-    record {
-      texts = texts;
-      are = record {
-        keys = t.keys;
-        steps = t.steps;
-        flow_is = t.flow_is;
-        lives_are = t.lives_are;
-        counts_are = t.counts_are;
-        texts_are = refl;
-      };
-      known = inr (record {
-        config = c;
-        configured = configured lcid past c order e;
-        wants = wants;
-        own = subst (λ (ks : List Keys). AllByRecursion (IsOfBearer c side ks) texts) t.lives_are
-            (ciphers_as_itself c t.keys side t.steps);
-        alone =
-            one_text_a_key c t.keys side t.steps
-            (subst (λ (ks : List Keys). AreDistinct (map (cipher_key c.kind) ks)) (sym t.lives_are)
-            (differ_by c.kind past keys));
-      });
-    }
-
-texts_of_kind : (k : Kind) (side : Side) (lcid : ℕ) (past : List Group) (c : BearerConfig) → KeepsOrder past
-    → AreKeys past → c.kind ≡ k → config_of lcid past ≡ Some c → Chosen side lcid past (AreTextsOf k side lcid past c)
-texts_of_kind kind.Tm side lcid past c order keys kind e = record { texts = []; are = refl; known = inl refl }
-texts_of_kind kind.Srb side lcid past c order keys kind e =
-    keyed_texts side lcid past c order keys (ap wants_keys kind) e
-texts_of_kind kind.Um side lcid past c order keys kind e =
-    keyed_texts side lcid past c order keys (ap wants_keys kind) e
-texts_of_kind kind.Am side lcid past c order keys kind e =
-    keyed_texts side lcid past c order keys (ap wants_keys kind) e
-
-texts_by : (o : Option BearerConfig) (side : Side) (lcid : ℕ) (past : List Group) → KeepsOrder past → AreKeys past
-    → config_of lcid past ≡ o → Chosen side lcid past (AreCiphered side lcid past o)
-texts_by None side lcid past order keys e = record { texts = []; are = refl; known = inl refl }
-texts_by (Some c) side lcid past order keys e = texts_of_kind c.kind side lcid past c order keys refl e
-
-share : (s t : Side) (m n : ℕ) (past : List Group) (texts : Side → ℕ → List Ciphering) → AreKeys past
-    → ((side : Side) (lcid : ℕ) → AreNoneOrKnown side lcid past (texts side lcid))
-    → AllShareText (texts s m) (texts t n)
-share s t m n past texts keys known = elim (known s m) [
-  | inl none ↦ subst (λ (xs : List Ciphering). AllShareText xs (texts t n)) (sym none) tt
-  | inr a ↦ elim (known t n) [
-    | inl none ↦ subst (AllShareText (texts s m)) (sym none) (none_shares (texts s m))
-    | inr b ↦ elim (two_sides s t) [
-      | inr differ ↦ apart_by_side s t m n past (texts s m) (texts t n) differ a b
-      | inl same ↦ elim (cases_Bool (m == n)) [
-        | inl is ↦
-            subst (λ (u : Side). AllShareText (texts s m) (texts u n)) same
-            (subst (λ (l : ℕ). AllShareText (texts s m) (texts s l)) (same_lcid m n is) a.alone)
-        | inr is ↦
-            subst (λ (u : Side). AllShareText (texts s m) (texts u n)) same
-            (apart_by_channel s m n past (texts s m) (texts s n) keys (other_lcid m n is) a
-            (subst (λ (u : Side). AreKnown u n past (texts u n)) (sym same) b))
-      ]
-    ]
-  ]
-]
-  where
-    none_shares : (xs : List Ciphering) → AllShareText xs []
-    none_shares [] = tt
-    none_shares (x ∷ xs) = (tt, none_shares xs)
-
-    other_lcid : (a b : ℕ) → (a == b) ≡ false → a ≡ b → ⊥
-    other_lcid a b is same = let test : (a == b) ≡ true = grind (arith, nat_tests) in
-        let no : true ≡ false = sym test ∙ is in cc
-
-pub none_meet : (past : List Group) → KeepsOrder past → NoneMeet past
-none_meet past order =
-    let keys = are_keys past (keys_behind past order).distinct in
-    let chosen : (side : Side) (lcid : ℕ) → Chosen side lcid past (AreCiphered side lcid past (config_of lcid past)) =
-    λ side lcid. texts_by (config_of lcid past) side lcid past order keys refl in
-    record {
-      texts = λ side lcid. (chosen side lcid).texts;
-      are_ciphered = λ side lcid. (chosen side lcid).are;
-      one_text = λ side other lcid l. share side other lcid l past (λ s n. (chosen s n).texts) keys
-          (λ s n. (chosen s n).known);
-    }

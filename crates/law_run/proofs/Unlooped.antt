@@ -10,7 +10,8 @@ use Rattle.air_text.specs.Groups.{Group}
 use Rattle.bearer_types.specs.declared.event.Event.TheVariants.{Up}
 use Rattle.l2_types.specs.declared.side.Side.{Side}
 use Rattle.l2_types.specs.declared.side.Side.TheVariants.{Nb, Ue}
-use Rattle.promises.specs.Loops.{ArePart, back, due, gone_up, returned, mode, all_gone_up, all_returned}
+use Rattle.promises.specs.Loops.{ArePart, item_back, items_due, gone_up, returned, mode_in_force, all_gone_up}
+use Rattle.promises.specs.Loops.{all_returned}
 use Rattle.test_loop.specs.declared.Mode.{Mode}
 use Rattle.test_loop.specs.Items.{Item, item}
 use Rattle.test_loop.specs.Loops.{is_on}
@@ -38,21 +39,21 @@ due_by : (b : Bool) (i : Item) → (b ≡ true → IsHigh i) → AllByRecursion 
 due_by true i h = (h refl, tt)
 due_by false i h = tt
 
-due_high : (by : Mode) (one : Record) → AllByRecursion IsHigh (due by one)
+due_high : (by : Mode) (one : Record) → AllByRecursion IsHigh (items_due by one)
 due_high by (records.Of Ue (Up lcid octets)) =
-    due_by ((is_on by && nat_le 3 lcid) && nat_le 1 (length octets)) (back by (item lcid octets))
+    due_by ((is_on by && nat_le 3 lcid) && nat_le 1 (length octets)) (item_back by (item lcid octets))
     (λ e. least 3 lcid (second (is_on by) (nat_le 3 lcid) (nat_le 1 (length octets)) e))
 due_high by one = tt
 
 gone_high : (by : Mode) (told : List Record) → AllByRecursion IsHigh (gone_up by told)
 gone_high by [] = tt
-gone_high by (one ∷ told) = all_more IsHigh (due by one) (gone_up by told) (due_high by one) (gone_high by told)
+gone_high by (one ∷ told) = all_more IsHigh (items_due by one) (gone_up by told) (due_high by one) (gone_high by told)
 
 all_high : (past : List Group) → AllByRecursion IsHigh (all_gone_up past)
 all_high [] = tt
 all_high (g ∷ past) =
-    all_more IsHigh (all_gone_up past) (gone_up (mode (g ∷ past)) g.events) (all_high past)
-    (gone_high (mode (g ∷ past)) g.events)
+    all_more IsHigh (all_gone_up past) (gone_up (mode_in_force (g ∷ past)) g.events) (all_high past)
+    (gone_high (mode_in_force (g ∷ past)) g.events)
 
 -- ---- what comes back
 
@@ -79,10 +80,10 @@ returned_high : (past : List Group) (g : Group) → KeepsOrder (g ∷ past) → 
 returned_high past g order =
     let n = length g.events in
     let whole : take n g.events ≡ g.events = take_all n g.events (omega arith) in
-    let went = all_more IsHigh (all_gone_up past) (gone_up (mode (g ∷ past)) (take n g.events)) (all_high past)
-    (gone_high (mode (g ∷ past)) (take n g.events)) in
+    let went = all_more IsHigh (all_gone_up past) (gone_up (mode_in_force (g ∷ past)) (take n g.events)) (all_high past)
+    (gone_high (mode_in_force (g ∷ past)) (take n g.events)) in
     let came = part_high (all_returned past ++ returned (take n g.events))
-    (all_gone_up past ++ gone_up (mode (g ∷ past)) (take n g.events))
+    (all_gone_up past ++ gone_up (mode_in_force (g ∷ past)) (take n g.events))
     ((return_in_order (g ∷ past) order).0.in_order n) went in
     subst (λ (told : List Record). AllByRecursion IsHigh (returned told)) whole
     (last_high (all_returned past) (returned (take n g.events)) came)

@@ -252,12 +252,12 @@ adds_none (lines.Bearer config options) keys e = (e, tt)
 adds_none (lines.Handover user rrc integrity) keys e = (refl, tt)
 adds_none line keys e = tt
 
-has_come : (side : Side) (past : List Group) → KeepsOrder past → HasCome side (end_of side (link_behind past))
-has_come side past order = let by = come side past order in
+end_has_come : (side : Side) (past : List Group) → KeepsOrder past → HasCome side (end_of side (link_behind past))
+end_has_come side past order = let by = come side past order in
     record { maximum = 4; reports = false; calls = by.calls; given = by.given; end_is = by.end_is }
 
 pub have_come : (past : List Group) → KeepsOrder past → HaveCome (link_behind past)
-have_come past order = record { nb = has_come Nb past order; ue = has_come Ue past order }
+have_come past order = record { nb = end_has_come Nb past order; ue = end_has_come Ue past order }
 
 shown_has : (side : Side) (g : Group) (past : List Group)
     → has_zero side (link_behind (g ∷ past)) ≡ has_zero side (behind_line g.line (state_behind past))
@@ -282,7 +282,7 @@ zero_behind side (g ∷ past) (right, order) = by (adds_zero g.line) refl (zero_
     by false e before =
         zero_stays (lives_by g.line (state_behind past).rules.keys) side g.events (end_of side (link_behind past))
         (end_of side (link_behind (g ∷ past))) (goes side past g right order)
-        (adds_none g.line (state_behind past).rules.keys e) (has_come side past order)
+        (adds_none g.line (state_behind past).rules.keys e) (end_has_come side past order)
         ∙ before ∙ sym (ap (λ (b : Bool). b || is_added past) e)
 
 -- ---- behind groups

@@ -6,7 +6,7 @@ use Rattle.air_run.specs.Rules.{refusal}
 use Rattle.air_run.specs.Run.{RunState, fresh, behind_line, done}
 use Rattle.promises.specs.Air.{ttis, IsOfItsTime}
 use Rattle.promises.specs.Blocks.{kinds, AreTold}
-use Rattle.promises.specs.Parts.{part}
+use Rattle.promises.specs.Parts.{part_of_line}
 use Rattle.promises.specs.Configs.{HasCount}
 
 -- the state behind the lines of groups, of which the newest stands first
@@ -21,8 +21,8 @@ pub record IsRight (past : List Group) (g : Group) : Type 0 where
   pub count : HasCount g.line
   pub allowed : refusal g.line (state_behind past).rules (state_behind past).link ≡ None
   pub events_are : g.events ≡ (behind_line g.line (state_behind past)).out
-  pub of_its_time : IsOfItsTime (ttis past) (part g.line) g.events
-  pub blocks : AreTold (ttis past) (kinds past) (part g.line) g.events
+  pub of_its_time : IsOfItsTime (ttis past) (part_of_line g.line) g.events
+  pub blocks : AreTold (ttis past) (kinds past) (part_of_line g.line) g.events
 
 abbrev pub KeepsOrder : List Group → Type 0
 KeepsOrder [] = Unit {0}

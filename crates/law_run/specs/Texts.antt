@@ -16,7 +16,7 @@ use Rattle.law_node.specs.Holding.{flow}
 use Rattle.law_pdcp.specs.OneEnd.Lives.{Ciphering}
 use Rattle.promises.specs.Counts.{counts_taken}
 use Rattle.law_run.specs.Order.{state_behind}
-use Rattle.promises.specs.Keys.{given}
+use Rattle.promises.specs.Keys.{keys_given}
 use Rattle.promises.specs.Configs.{config_of}
 
 -- ---- what a side ciphers on a channel
@@ -29,7 +29,7 @@ pub record AreTexts (side : Side) (lcid : ℕ) (past : List Group) (config : Bea
   pub keys : Keys
   pub steps : List Step
   pub flow_is : flow lcid (end_of side (state_behind past).link) ≡ reached config keys side steps
-  pub lives_are : keys ∷ restarts steps ≡ given past
+  pub lives_are : keys ∷ restarts steps ≡ keys_given past
   pub counts_are : counts (all_taken (flow_of config.kind config keys side) steps)
       ≡ counts_taken side lcid (history past)
   pub texts_are : texts ≡ ciphered (flow_of config.kind config keys side) steps

@@ -11,13 +11,13 @@ pub record Given : Type 0 where
   pub count : Option ℕ
   pub size : ℕ
 
-pub data Happening : Type 0 where
+pub data AccountEntry : Type 0 where
   -- PDCP gives RLC a PDU
-  Gives : Given → Happening
+  Gives : Given → AccountEntry
   -- RLC writes a PDU, or one comes to it
-  Passes : Passing → Happening
+  Passes : Passing → AccountEntry
   -- the life ends, and the next one begins
-  Renews : Happening
+  Renews : AccountEntry
 
 -- in the life that runs: what RLC was given, and what its PDUs tell; and the COUNTs whose PDUs
 -- arrived whole in a life that ended
@@ -61,11 +61,11 @@ renewed a =
       ended = λ count. a.ended count || whole_in (has_place a) 0 a.given count;
     }
 
-abbrev pub accounted : Happening → Account → Account
+abbrev pub accounted : AccountEntry → Account → Account
 accounted (Gives g) a = record a { given = a.given ++ g ∷ [] }
 accounted (Passes p) a = record a { rlc = with_passing p a.rlc }
 accounted Renews a = renewed a
 
-abbrev pub account : List Happening → Account → Account
+abbrev pub account : List AccountEntry → Account → Account
 account [] a = a
 account (h ∷ hs) a = account hs (accounted h a)

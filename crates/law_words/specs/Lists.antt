@@ -1,9 +1,9 @@
 -- Words about lists that promises and laws share.
-use Rattle.std.specs.Prelude.{◌≡◌, ℕ, List, ◌++◌, ◌⊎◌, [], ◌∷◌}
+use Rattle.std.specs.Prelude.{◌≡◌, ℕ, List, ◌++◌, ◌⊎◌, [], ◌∷◌, map, slice_index_or}
 use Rattle.std.specs.List.{AllByRecursion}
 
 -- one list is the front of another
-pub record IsFront (front all : List (List ℕ)) : Type 0 where
+pub record AreFirstSdus (front all : List (List ℕ)) : Type 0 where
   pub rest : List (List ℕ)
   pub is : all ≡ front ++ rest
 
@@ -12,6 +12,10 @@ abbrev pub IsSubsequence : {A : Type 0} → List A → List A → Type 0
 IsSubsequence [] xs = Unit {0}
 IsSubsequence (y ∷ ys) [] = ⊥
 IsSubsequence (y ∷ ys) (x ∷ xs) = ((y ≡ x) × IsSubsequence ys xs) ⊎ IsSubsequence (y ∷ ys) xs
+
+-- the SDUs at some places
+abbrev pub those : List ℕ → List (List ℕ) → List (List ℕ)
+those places sdus = map (λ place. slice_index_or sdus place []) places
 
 -- ---- the keys of lives
 

@@ -14,7 +14,7 @@ use Rattle.bearer_types.specs.declared.event.Event.{Event}
 use Rattle.mac_pdu.specs.declared.builder.Sdu.{Sdu}
 use Rattle.mac_pdu.specs.Reading.{reading}
 use Rattle.mac_pdu.specs.Writing.{canonical}
-use Rattle.promises.specs.Names.{sends, Mode, AreNamed, sent_on}
+use Rattle.promises.specs.Names.{sent_pdus, Mode, AreNamed, sent_lcids}
 use Rattle.air_record.specs.declared.record.Record.TheVariants as records
 
 abbrev pub reported : Option Bsr → List MacItem
@@ -43,9 +43,9 @@ pub record IsTold (side : Side) (grant : ℕ) (events : List Event) (octets : Li
   pub writing_is : octets ≡ canonical (reported report ++ map sdu_item sdus) grant
   pub read : reading (sent_by side) octets
       ≡ Ok (replicate fronts front ++ ((reported report ++ map sdu_item sdus) ++ map padding ends))
-  pub sent : sent_on events ≡ map (λ s. s.lcid) sdus
+  pub sent : sent_lcids events ≡ map (λ s. s.lcid) sdus
   pub modes : ℕ → Option Mode
-  pub named : AreNamed modes (sends events) sdus
+  pub named : AreNamed modes (sent_pdus events) sdus
 
 -- what an end tells, then the block, and what shows it
 pub record IsNewBlock (side : Side) (t grant : ℕ) (kinds : List (Option Layout))

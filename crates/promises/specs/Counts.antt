@@ -6,8 +6,8 @@ use Rattle.bearer_types.specs.declared.event.Event.{Event}
 use Rattle.bearer_types.specs.declared.event.Event.TheVariants.{Take}
 use Rattle.air_record.specs.declared.record.Record.{Record}
 use Rattle.l2_types.specs.declared.side.Side.{Side}
-use Rattle.promises.specs.Records.{told_by}
-use Rattle.promises.specs.Parts.{hands_over}
+use Rattle.promises.specs.Records.{events_of}
+use Rattle.promises.specs.Parts.{is_handover}
 use Rattle.air_text.specs.Groups.{Group}
 use Rattle.l2_num.specs.Ascending.{IsAscending}
 
@@ -23,13 +23,13 @@ counts_on lcid (event ∷ events) = count_on lcid event ++ counts_on lcid events
 
 -- those of the SDUs that records tell of as taken at a side, on a channel
 abbrev pub counts_taken : Side → ℕ → List Record → List ℕ
-counts_taken side lcid told = counts_on lcid (told_by side told)
+counts_taken side lcid told = counts_on lcid (events_of side told)
 
 -- those since the last handover, or since the beginning, of groups of which the newest stands first
 abbrev pub counts_since : Side → ℕ → List Group → List ℕ
 counts_since side lcid [] = []
 counts_since side lcid (g ∷ past) =
-    (if hands_over g.line then [] else counts_since side lcid past)
+    (if is_handover g.line then [] else counts_since side lcid past)
     ++ counts_taken side lcid g.events
 
 -- they ascend at both sides and on each channel, and did behind each group, so that they do between

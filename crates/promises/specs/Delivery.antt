@@ -6,9 +6,9 @@ use Rattle.air_record.specs.declared.line.Line.{Line}
 use Rattle.air_text.specs.Groups.{Group, history}
 use Rattle.promises.specs.Events.{discards_on}
 use Rattle.l2_types.specs.declared.side.Side.{Side}
-use Rattle.promises.specs.Records.{told_by}
+use Rattle.promises.specs.Records.{events_of}
 use Rattle.bearer_types.specs.Sides.{other}
-use Rattle.law_words.specs.Lists.{IsFront, IsSubsequence}
+use Rattle.law_words.specs.Lists.{AreFirstSdus, IsSubsequence}
 use Rattle.promises.specs.Flows.{submitted, delivered}
 use Rattle.bearer_types.specs.declared.config.BearerConfig.{BearerConfig}
 use Rattle.l2_types.specs.declared.channel.Kind.TheVariants.{Am}
@@ -33,7 +33,7 @@ is_timed lcid past = list_any (λ g. sets_timer lcid g.line) past
 
 -- the SDUs that a side discards on it as these end, by their lengths
 abbrev pub discarded : Side → ℕ → List Group → List ℕ
-discarded side lcid past = discards_on lcid (told_by side (history past))
+discarded side lcid past = discards_on lcid (events_of side (history past))
 
 -- what the other end has handed up are SDUs that this end submitted: in their order, each once and
 -- unchanged, whatever was lost, repeated or late, and through all handovers; where it discards none
@@ -41,7 +41,7 @@ discarded side lcid past = discards_on lcid (told_by side (history past))
 pub record Delivers (from : Side) (lcid : ℕ) (past : List Group) : Type 0 where
   pub in_order : IsSubsequence (delivered (other from) lcid past) (submitted from lcid past)
   pub none_left_out : discarded from lcid past ≡ []
-      → IsFront (delivered (other from) lcid past) (submitted from lcid past)
+      → AreFirstSdus (delivered (other from) lcid past) (submitted from lcid past)
   pub none_discarded : is_timed lcid past ≡ false → discarded from lcid past ≡ []
 
 -- on each channel with an acknowledged data bearer, where no block was forged

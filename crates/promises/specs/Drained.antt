@@ -2,11 +2,11 @@
 -- 36.322 5.2.1, 7.3).
 use Rattle.std.specs.Prelude.{ℕ, if◌then◌else◌, List, [], ◌∷◌, ◌++◌, ◌≡◌, Some}
 use Rattle.promises.specs.Events.{fails_on}
-use Rattle.promises.specs.Parts.{hands_over}
+use Rattle.promises.specs.Parts.{is_handover}
 use Rattle.air_text.specs.Groups.{Group, history}
 use Rattle.promises.specs.Taken.{kept_of}
 use Rattle.l2_types.specs.declared.side.Side.{Side}
-use Rattle.promises.specs.Records.{told_by}
+use Rattle.promises.specs.Records.{events_of}
 use Rattle.air_record.specs.declared.record.Record.{Record}
 use Rattle.bearer_types.specs.Sides.{other}
 use Rattle.bearer_types.specs.declared.config.BearerConfig.{BearerConfig}
@@ -23,8 +23,8 @@ use Rattle.air_record.specs.declared.record.Record.TheVariants as records
 abbrev pub failed : Side → ℕ → List Group → List ℕ
 failed side lcid [] = []
 failed side lcid (g ∷ past) =
-    (if hands_over g.line then [] else failed side lcid past)
-    ++ fails_on lcid (told_by side g.events)
+    (if is_handover g.line then [] else failed side lcid past)
+    ++ fails_on lcid (events_of side g.events)
 
 -- ---- the line is a drain, and at its end it tells that it is drained, not that its budget is
 -- spent
@@ -40,7 +40,7 @@ pub record EndsDrained (g : Group) : Type 0 where
 -- records tell (TS 36.323 5.4)
 abbrev pub kept : BearerConfig → ℕ → Side → List Group → List (List ℕ)
 kept config lcid from past =
-    kept_of lcid config.first (told_by from (history past)) (submitted from lcid past)
+    kept_of lcid config.first (events_of from (history past)) (submitted from lcid past)
 
 -- what the other end has handed up is then all that this end submitted and didn't discard, in its
 -- order, each once and unchanged; where it discarded none, all that it submitted

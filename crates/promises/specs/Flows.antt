@@ -7,7 +7,7 @@ use Rattle.air_record.specs.declared.record.Record.{Record}
 use Rattle.promises.specs.Records.{is_looped, sdu_of, ups_in}
 use Rattle.l2_types.specs.declared.side.Side.{Side}
 use Rattle.bearer_types.specs.Sides.{is_same}
-use Rattle.promises.specs.Parts.{Part, Submits, part}
+use Rattle.promises.specs.Parts.{Part, Submits, part_of_line}
 use Rattle.l2_types.specs.declared.side.Side.TheVariants.{Nb, Ue}
 use Rattle.air_text.specs.Groups.{Group}
 use Rattle.air_record.specs.declared.record.Record.TheVariants as records
@@ -38,7 +38,7 @@ abbrev pub submitted : Side → ℕ → List Group → List (List ℕ)
 submitted side lcid [] = []
 submitted side lcid (g ∷ past) =
     submitted side lcid past
-    ++ (handed_in side lcid (part g.line) g.events ++ looped_at side lcid g.events)
+    ++ (handed_in side lcid (part_of_line g.line) g.events ++ looped_at side lcid g.events)
 
 -- those that were handed up there
 abbrev pub delivered : Side → ℕ → List Group → List (List ℕ)

@@ -3,7 +3,7 @@
 use Rattle.std.specs.Prelude.{ℕ, ◌+◌, Option, Some, None, List, [], ◌∷◌, ◌==◌, if◌then◌else◌}
 use Rattle.std.specs.Prelude.{length, map}
 use Rattle.std.specs.List.{flat_map}
-use Rattle.law_words.specs.Arrivals.{Given, Happening, Gives, Passes}
+use Rattle.law_words.specs.Arrivals.{Given, AccountEntry, Gives, Passes}
 use Rattle.bearer_types.specs.declared.Event.{Event}
 use Rattle.bearer_types.specs.declared.Event.TheVariants.{Take as TakeTold, Report}
 use Rattle.law_words.specs.Passing.{Passing, Writes, Comes}
@@ -23,18 +23,18 @@ given_in bits (Report lcid fms bitmap) =
     record { count = None; size = (if bits == 12 then 2 else 3) + length bitmap } ∷ []
 given_in bits event = []
 
-abbrev pub giving : List Given → List Happening
-giving gs = map (λ g. Gives g) gs
+abbrev pub entries_of : List Given → List AccountEntry
+entries_of gs = map (λ g. Gives g) gs
 
 -- what PDCP gives, as events tell it
-abbrev pub gives : ℕ → List Event → List Happening
-gives bits events = giving (flat_map (given_in bits) events)
+abbrev pub entries_given : ℕ → List Event → List AccountEntry
+entries_given bits events = entries_of (flat_map (given_in bits) events)
 
-abbrev pub passing : List Passing → List Happening
-passing ps = map (λ p. Passes p) ps
+abbrev pub entries_passed : List Passing → List AccountEntry
+entries_passed ps = map (λ p. Passes p) ps
 
-abbrev pub writing : List (List ℕ) → List Happening
-writing ps = passing (map (λ pdu. Writes pdu) ps)
+abbrev pub entries_written : List (List ℕ) → List AccountEntry
+entries_written ps = entries_passed (map (λ pdu. Writes pdu) ps)
 
-abbrev pub bringing : List (List ℕ) → List Happening
-bringing ps = passing (map (λ pdu. Comes pdu) ps)
+abbrev pub entries_come : List (List ℕ) → List AccountEntry
+entries_come ps = entries_passed (map (λ pdu. Comes pdu) ps)

@@ -10,23 +10,24 @@ use Rattle.air_record.specs.declared.line.Line.TheVariants as lines
 -- ---- the keys that lines give, in order: those of the `keys` line and of each handover, with
 -- which the cipher stays
 
-abbrev pub in_force_by : Line → Keys → Keys
-in_force_by (lines.Keys keys) before = keys
-in_force_by (lines.Handover user rrc integrity) before = next_keys user rrc integrity before
-in_force_by line before = before
+abbrev pub keys_in_force_by : Line → Keys → Keys
+keys_in_force_by (lines.Keys keys) before = keys
+keys_in_force_by (lines.Handover user rrc integrity) before = next_keys user rrc integrity before
+keys_in_force_by line before = before
 
-abbrev pub in_force : List Group → Keys
-in_force [] = no_keys
-in_force (g ∷ past) = in_force_by g.line (in_force past)
+abbrev pub keys_in_force : List Group → Keys
+keys_in_force [] = no_keys
+keys_in_force (g ∷ past) = keys_in_force_by g.line (keys_in_force past)
 
 abbrev pub gives_keys : Line → Bool
 gives_keys (lines.Keys keys) = true
 gives_keys (lines.Handover user rrc integrity) = true
 gives_keys line = false
 
-abbrev pub given : List Group → List Keys
-given [] = []
-given (g ∷ past) = given past ++ (if gives_keys g.line then in_force (g ∷ past) ∷ [] else [])
+abbrev pub keys_given : List Group → List Keys
+keys_given [] = []
+keys_given (g ∷ past) =
+    keys_given past ++ (if gives_keys g.line then keys_in_force (g ∷ past) ∷ [] else [])
 
 -- those that a line gives: for user data, for signalling, and for its integrity
 abbrev pub keys_of : Line → List (List ℕ)

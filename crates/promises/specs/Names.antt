@@ -21,15 +21,16 @@ use Rattle.l2_types.specs.declared.event.How.TheVariants as how
 
 -- ---- what is told of the PDUs that are sent
 
-pub record Sent : Type 0 where
+pub record SentPdu : Type 0 where
   pub lcid : ℕ
   pub how : How
   pub sn : ℕ
 
-abbrev pub sends : List Event → List Sent
-sends [] = []
-sends (Send lcid how sn ∷ events) = record { lcid = lcid; how = how; sn = sn } ∷ sends events
-sends (event ∷ events) = sends events
+abbrev pub sent_pdus : List Event → List SentPdu
+sent_pdus [] = []
+sent_pdus (Send lcid how sn ∷ events) =
+    record { lcid = lcid; how = how; sn = sn } ∷ sent_pdus events
+sent_pdus (event ∷ events) = sent_pdus events
 
 -- ---- an SDU of RLC is a PDU of PDCP, as senders write it and as it is read (TS 36.323 6.2)
 
@@ -109,7 +110,7 @@ IsNamed channel how sn octets = ⊥
 
 -- ---- the law: PDUs and what is told of them, each of its place, by the modes of the channels
 
-abbrev pub AreNamed : (ℕ → Option Mode) → List Sent → List Sdu → Type 0
+abbrev pub AreNamed : (ℕ → Option Mode) → List SentPdu → List Sdu → Type 0
 AreNamed modes [] [] = Unit {0}
 AreNamed modes (s ∷ sent) (d ∷ sdus) =
     (d.lcid ≡ s.lcid) × IsNamed (modes s.lcid) s.how s.sn d.octets × AreNamed modes sent sdus
@@ -118,5 +119,5 @@ AreNamed modes sent sdus = ⊥
 -- ---- a new block has the PDUs that its bearers tell of, channel by channel and in their order
 
 -- the channels of the PDUs that are told of
-abbrev pub sent_on : List Event → List ℕ
-sent_on events = map (λ (s : Sent). s.lcid) (sends events)
+abbrev pub sent_lcids : List Event → List ℕ
+sent_lcids events = map (λ (s : SentPdu). s.lcid) (sent_pdus events)

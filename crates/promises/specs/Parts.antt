@@ -11,15 +11,15 @@ pub data Part : Type 0 where
   Drains : ℕ → Part
   Rests : Part
 
-abbrev pub part : Line → Part
-part (lines.Submit side lcid octets) = Submits side lcid octets
-part (lines.Tti up_grant up down_grant down) = Passes up_grant up down_grant down
-part (lines.Drain grant) = Drains grant
-part line = Rests
+abbrev pub part_of_line : Line → Part
+part_of_line (lines.Submit side lcid octets) = Submits side lcid octets
+part_of_line (lines.Tti up_grant up down_grant down) = Passes up_grant up down_grant down
+part_of_line (lines.Drain grant) = Drains grant
+part_of_line line = Rests
 
 -- ---- a sender gives up at its limit of retransmissions, for the sequence number that it tells
 
 -- and begins anew in a handover (TS 36.322 5.4)
-abbrev pub hands_over : Line → Bool
-hands_over (lines.Handover user rrc integrity) = true
-hands_over line = false
+abbrev pub is_handover : Line → Bool
+is_handover (lines.Handover user rrc integrity) = true
+is_handover line = false

@@ -50,9 +50,9 @@ event_of side (records.Of s event) =
 event_of side one = []
 
 -- the events of a side's end, in order
-abbrev pub told_by : Side → List Record → List Event
-told_by side [] = []
-told_by side (one ∷ told) = event_of side one ++ told_by side told
+abbrev pub events_of : Side → List Record → List Event
+events_of side [] = []
+events_of side (one ∷ told) = event_of side one ++ events_of side told
 
 -- ---- what is told of new blocks
 

@@ -7,8 +7,9 @@ use Rattle.air_record.specs.declared.record.Record.{Record}
 use Rattle.pdcp_pdu.specs.Grammar.{user_spelling, srb_spelling}
 use Rattle.pdcp_pdu.specs.Pdus.{Sdu as DataPdu, Report}
 use Rattle.pdcp_pdu.specs.declared.pdu.PdcpKind.{PdcpKind}
-use Rattle.promises.specs.Names.{whole_sdus, Mode, Transparent, Unacknowledged, Acknowledged, Sent}
-use Rattle.promises.specs.Names.{sends}
+use Rattle.promises.specs.Names.{whole_sdus, Mode, Transparent, Unacknowledged, Acknowledged}
+use Rattle.promises.specs.Names.{SentPdu}
+use Rattle.promises.specs.Names.{sent_pdus}
 use Rattle.rlc_pdu.specs.Pdus.{UmdPdu, AmdPdu, Payload, Status}
 use Rattle.rlc_pdu.specs.Reading.{umd_at, am_at}
 use Rattle.rlc_pdu.specs.declared.pdu.Segment.{Segment}
@@ -18,7 +19,7 @@ use Rattle.mac_pdu.specs.declared.builder.Sdu.{Sdu}
 use Rattle.pdu_show.specs.declared.kinds.Layout.{Layout}
 use Rattle.l2_types.specs.declared.side.Side.{Side}
 use Rattle.promises.specs.Built.{IsNewBlock}
-use Rattle.promises.specs.Records.{told_by}
+use Rattle.promises.specs.Records.{events_of}
 use Rattle.air_record.specs.declared.record.Record.TheVariants as records
 use Rattle.pdcp_pdu.specs.declared.pdu.PdcpKind.TheVariants as pdcp
 use Rattle.l2_types.specs.declared.event.How.TheVariants as how
@@ -122,7 +123,7 @@ IsShownAs (Some (Acknowledged kind)) how.Status sn octets p = ShowsStatus sn oct
 IsShownAs mode how sn octets p = ⊥
 
 -- PDUs, what is told of them and what is shown, each of its place
-abbrev pub AreShown : (ℕ → Option Mode) → List Sent → List Sdu → List Shown → Type 0
+abbrev pub AreShown : (ℕ → Option Mode) → List SentPdu → List Sdu → List Shown → Type 0
 AreShown modes [] [] [] = Unit {0}
 AreShown modes (s ∷ sent) (d ∷ sdus) (p ∷ shown) =
     (p.lcid ≡ s.lcid) × IsShownAs (modes s.lcid) s.how s.sn d.octets p
@@ -151,6 +152,6 @@ pub record IsShownBlock (side : Side) (t grant : ℕ) (kinds : List (Option Layo
     (told : List Record) : Type 0 where
   pub block : IsNewBlock side t grant kinds told
   pub known : AreKnown kinds block.block_is.modes
-  pub shown : AreShown block.block_is.modes (sends (told_by side told)) block.block_is.sdus
+  pub shown : AreShown block.block_is.modes (sent_pdus (events_of side told)) block.block_is.sdus
       (pdus_shown told)
   pub read : filter is_bad told ≡ []

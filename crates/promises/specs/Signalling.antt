@@ -3,13 +3,13 @@
 use Rattle.std.specs.Prelude.{ℕ, if◌then◌else◌, List, [], ◌∷◌, ◌++◌, ◌≡◌, false, Some, true}
 use Rattle.air_text.specs.Groups.{Group, history}
 use Rattle.l2_types.specs.declared.side.Side.{Side}
-use Rattle.promises.specs.Parts.{hands_over, part}
+use Rattle.promises.specs.Parts.{is_handover, part_of_line}
 use Rattle.promises.specs.Flows.{handed_in, looped_at}
-use Rattle.promises.specs.Records.{ups_in, told_by}
+use Rattle.promises.specs.Records.{ups_in, events_of}
 use Rattle.bearer_types.specs.declared.Event.{Event}
 use Rattle.promises.specs.Events.{told_on, losses}
 use Rattle.bearer_types.specs.Sides.{other}
-use Rattle.law_words.specs.Lists.{IsFront}
+use Rattle.law_words.specs.Lists.{AreFirstSdus}
 use Rattle.bearer_types.specs.declared.config.BearerConfig.{BearerConfig}
 use Rattle.l2_types.specs.declared.channel.Kind.TheVariants.{Srb}
 use Rattle.promises.specs.Delivery.{is_forged}
@@ -22,28 +22,28 @@ use Rattle.promises.specs.Drained.{failed, EndsDrained}
 abbrev pub submitted_since : Side → ℕ → List Group → List (List ℕ)
 submitted_since side lcid [] = []
 submitted_since side lcid (g ∷ past) =
-    (if hands_over g.line then [] else submitted_since side lcid past)
-    ++ (handed_in side lcid (part g.line) g.events ++ looped_at side lcid g.events)
+    (if is_handover g.line then [] else submitted_since side lcid past)
+    ++ (handed_in side lcid (part_of_line g.line) g.events ++ looped_at side lcid g.events)
 
 abbrev pub delivered_since : Side → ℕ → List Group → List (List ℕ)
 delivered_since side lcid [] = []
 delivered_since side lcid (g ∷ past) =
-    (if hands_over g.line then [] else delivered_since side lcid past) ++ ups_in side lcid g.events
+    (if is_handover g.line then [] else delivered_since side lcid past) ++ ups_in side lcid g.events
 
 -- ---- what a side's PDCP lost there as it received it: PDUs that it couldn't read, whose COUNT it
 -- had before, or whose MAC-I differs (TS 36.323 5.1.2.2, 5.7)
 
-abbrev pub lost : Side → ℕ → List Group → List Event
-lost side lcid past = losses (told_on lcid (told_by side (history past)))
+abbrev pub losses_since : Side → ℕ → List Group → List Event
+losses_since side lcid past = losses (told_on lcid (events_of side (history past)))
 
 -- ---- on a channel
 
 -- what the other end has handed up are the SDUs that this end submitted first: in their order, each
 -- once and unchanged, with none left out
 pub record DeliversSignals (from : Side) (lcid : ℕ) (past : List Group) : Type 0 where
-  pub front : IsFront (delivered_since (other from) lcid past) (submitted_since from lcid past)
+  pub front : AreFirstSdus (delivered_since (other from) lcid past) (submitted_since from lcid past)
   -- and it has lost nothing
-  pub none_lost : lost (other from) lcid past ≡ []
+  pub none_lost : losses_since (other from) lcid past ≡ []
 
 -- on each channel with a signalling bearer, where no block was forged
 abbrev pub SignalAll : List Group → Type 0
@@ -83,4 +83,4 @@ BringsNoSignal past g =
 abbrev pub HandoversBringNoSignal : List Group → Type 0
 HandoversBringNoSignal [] = Unit {0}
 HandoversBringNoSignal (g ∷ past) =
-    (hands_over g.line ≡ true → BringsNoSignal past g) × HandoversBringNoSignal past
+    (is_handover g.line ≡ true → BringsNoSignal past g) × HandoversBringNoSignal past

@@ -46,7 +46,7 @@ use Rattle.law_air.specs.AnyCalls.Calls.{Call, Bears, Discards, Visits, Reports,
 use Rattle.law_air.specs.AnyCalls.Calls.{HandsOver, ReceiversExpire, SendersExpire, after}
 use Rattle.law_air.specs.AnyCalls.Ends.{begins_life, GoesThrough, GoesOn, GoesOnByVisits, visit_told, IsGiven, known}
 use Rattle.law_air.specs.AnyCalls.Ends.{lives_in}
-use Rattle.promises.specs.Records.{told_by, is_of_building}
+use Rattle.promises.specs.Records.{events_of, is_of_building}
 use Rattle.law_air.proofs.AnyCalls.Going.{told_both, own_told, other_told, by_none, by_call, by_submit, through_then}
 use Rattle.law_air.proofs.AnyCalls.Going.{goes_then, goes_by, Seen, seen, behind, through_seen, goes_seen, blocks_of}
 use Rattle.law_air.proofs.AnyCalls.Going.{told_seen, Rests, rests_then, unseen_rests, says_rests, call_goes, call_tells}
@@ -226,10 +226,10 @@ hands_over_goes keys l =
     ∙ ap (λ (x : List Record). x ++ filter is_of_building ys)
     (blocks_of Nb (leaving l.nb) ∙ ap (map (records.Of Nb)) (writes_nothing l.nb).moving)
     ∙ blocks_of Ue (leaving l.ue) ∙ ap (map (records.Of Ue)) (writes_nothing l.ue).moving in
-    let nb_told : told_by Nb (xs ++ ys) ≡ leaving l.nb =
+    let nb_told : events_of Nb (xs ++ ys) ≡ leaving l.nb =
     told_both Nb xs ys (leaving l.nb) [] (own_told Nb (leaving l.nb) (tells_no_loop l.nb (Move keys)))
     (other_told Ue (leaving l.ue)) ∙ append-nil (leaving l.nb) in
-    let ue_told : told_by Ue (xs ++ ys) ≡ leaving l.ue =
+    let ue_told : events_of Ue (xs ++ ys) ≡ leaving l.ue =
     told_both Ue xs ys [] (leaving l.ue) (other_told Nb (leaving l.nb))
     (own_told Ue (leaving l.ue) (tells_no_loop l.ue (Move keys))) in
     let lives = Move keys ∷ [] in

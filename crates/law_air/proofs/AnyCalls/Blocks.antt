@@ -25,9 +25,9 @@ use Rattle.mac_pdu.specs.Reading.{reading}
 use Rattle.law_node.specs.Blocks.{report, all_sdus}
 use Rattle.law_node.specs.Calls.{Turn, Call as EndCall, SetVisits, SetReports, Add, Submit, SetDiscard, Tick}
 use Rattle.law_node.specs.Calls.{TickBuckets, Visits, Grants, Granted, Assigned, Pass, Receive, Expire, Move, AreGiven}
-use Rattle.law_node.specs.Calls.{answered, after as after_call, run as run_end, reached}
+use Rattle.law_node.specs.Calls.{answered, after as after_call, run_end, reached}
 use Rattle.law_node.specs.Names.{modes_of}
-use Rattle.promises.specs.Names.{Sent, sends, AreNamed}
+use Rattle.promises.specs.Names.{SentPdu, sent_pdus, AreNamed}
 use Rattle.promises.specs.Events.{is_of_writing}
 use Rattle.law_node.proofs.Blocks.{has_what_was_written}
 use Rattle.law_node.proofs.Naming.{names_what_it_sends, tells_what_it_sends}
@@ -109,10 +109,10 @@ some_by t grant (orders.Grant ndi) e enough new = enough
 
 -- ---- what is told
 
-pub sends_kept : (es : List Event) → sends (filter is_of_writing es) ≡ sends es
+pub sends_kept : (es : List Event) → sent_pdus (filter is_of_writing es) ≡ sent_pdus es
 sends_kept [] = refl
 sends_kept (events.Send lcid how sn ∷ es) =
-    ap (λ (l : List Sent). record { lcid = lcid; how = how; sn = sn } ∷ l) (sends_kept es)
+    ap (λ (l : List SentPdu). record { lcid = lcid; how = how; sn = sn } ∷ l) (sends_kept es)
 sends_kept (events.Take lcid count len ∷ es) = sends_kept es
 sends_kept (events.Report lcid fms bitmap ∷ es) = sends_kept es
 sends_kept (events.Wait lcid why ∷ es) = sends_kept es
@@ -158,10 +158,10 @@ is_told side maximum reports calls g t grant order within some new =
       one = b.one;
       writing_is = b.writing_is;
       read = ap (λ (x : Side). reading (sent_by x) (new_block v grant)) (sym s) ∙ b.read;
-      sent = ap (λ (l : List Sent). map (λ (x : Sent). x.lcid) l) kept
+      sent = ap (λ (l : List SentPdu). map (λ (x : SentPdu). x.lcid) l) kept
           ∙ tells_what_it_sends side maximum reports calls g t grant order new;
       modes = modes_of v;
-      named = subst (λ (l : List Sent). AreNamed (modes_of v) l (all_sdus v grant v.buckets.channels)) (sym kept)
+      named = subst (λ (l : List SentPdu). AreNamed (modes_of v) l (all_sdus v grant v.buckets.channels)) (sym kept)
           (names_what_it_sends side maximum reports calls g t grant order new);
     }
 

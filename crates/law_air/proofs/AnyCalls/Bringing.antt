@@ -26,7 +26,7 @@ use Rattle.mac_pdu.specs.Reading.{reading}
 use Rattle.law_node.specs.Bearers.{adds, AddNone}
 use Rattle.law_node.specs.Calls.{Call as EndCall, SetVisits, SetReports, Add, Submit, SetDiscard, Tick, TickBuckets}
 use Rattle.law_node.specs.Calls.{Visits, Grants, Granted, Assigned, Pass, Receive, Expire, Move, AreGiven}
-use Rattle.law_node.specs.Calls.{after as after_call, run as run_end, reached}
+use Rattle.law_node.specs.Calls.{after as after_call, run_end, reached}
 use Rattle.law_node.proofs.Going.{item_goes, run_goes}
 use Rattle.law_node.proofs.Keeping.{AllAre, at_is, set_are, item_are, call_are, reached_are}
 use Rattle.law_node.proofs.Living.{call_side}

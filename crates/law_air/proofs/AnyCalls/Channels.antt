@@ -28,7 +28,7 @@ use Rattle.mac_pdu.specs.Items.{MacItem, front, element, sdu, padding}
 use Rattle.mac_pdu.specs.Reading.{reading}
 use Rattle.law_node.specs.Calls.{Turn, Call as EndCall, SetVisits, SetReports, Add, Submit, SetDiscard, Tick}
 use Rattle.law_node.specs.Calls.{TickBuckets, Visits, Grants, Granted, Assigned, Pass, Receive, Expire, Move, answered}
-use Rattle.law_node.specs.Calls.{after_submit, after as after_call, run as run_end}
+use Rattle.law_node.specs.Calls.{after_submit, after as after_call, run_end}
 use Rattle.prioritise.specs.Channels.{has as has_channel, put}
 use Rattle.prioritise.specs.Shares.{Bucketed, added, after_allot, ticked as grown, emptied}
 use Rattle.air_record.specs.declared.record.Record.{Record}

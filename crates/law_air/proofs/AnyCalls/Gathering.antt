@@ -18,7 +18,7 @@ use Rattle.test_loop.specs.declared.Kept.TheVariants.{Now, Later, Full}
 use Rattle.test_loop.specs.Items.{Item, item, cut}
 use Rattle.test_loop.specs.Loops.{state, is_on, is_keeping, is_full, kept_answer, after_kept, taken_answer, after_taken}
 use Rattle.law_air.specs.AnyCalls.Loops.{ComeBack}
-use Rattle.promises.specs.Loops.{ArePart, back, on, drops}
+use Rattle.promises.specs.Loops.{ArePart, item_back, item_count, drop_count}
 use Rattle.law_air.proofs.AnyCalls.Returning.{part_same, part_of_same, part_more, part_both, on_both, back_none}
 use Rattle.law_air.proofs.AnyCalls.Returning.{back_one, back_then, IsSilent, back_silent}
 
@@ -76,7 +76,7 @@ rests_says one l s = record { more = one ∷ []; seen_is = refl; silent = (s, tt
 
 -- the SDUs that may come back: those that are kept, and behind them those that the loop has still to take
 abbrev pub waiting : Mode → Link → List Item
-waiting mode l = l.looping.kept ++ map (back mode) l.ups
+waiting mode l = l.looping.kept ++ map (item_back mode) l.ups
 
 -- a mode without a delay keeps none, and where no loop is on none waits
 pub record Stands (mode : Mode) (l : Link) : Type 0 where
@@ -116,7 +116,7 @@ stands_on mode l m s e f g = record {
 
 pub goes_resting : (mode : Mode) (l m : Link) → Rests l m → Goes mode l m
 goes_resting mode l m r s =
-    let same : waiting mode m ≡ waiting mode l = ap (λ (x : Seen). x.kept ++ map (back mode) x.ups) r.seen_is in
+    let same : waiting mode m ≡ waiting mode l = ap (λ (x : Seen). x.kept ++ map (item_back mode) x.ups) r.seen_is in
     record {
       more = r.more;
       out_is = ap (λ (x : Seen). x.out) r.seen_is;
@@ -155,7 +155,7 @@ drops_one mode kept w i lcid same =
     let first = on_both k kept (i ∷ w) in
     let next = on_both k (i ∷ []) w in
     let last = on_both k kept w in
-    let one : on k (i ∷ []) ≡ drops k (dropped lcid ∷ []) =
+    let one : item_count k (i ∷ []) ≡ drop_count k (dropped lcid ∷ []) =
     ap (λ (x : ℕ). length (if x == k then i ∷ [] else [])) same ∙ counted_if (lcid == k) i (dropped lcid) in
     omega (arith, first, next, last, one))
 
@@ -209,11 +209,11 @@ pub record Takes (mode : Mode) (is : List Item) (l m : Link) : Type 0 where
   pub ups_is : m.ups ≡ l.ups
   pub stands : Stands mode m
   pub come_back : (w : List Item)
-      → ComeBack mode (l.looping.kept ++ (map (back mode) is ++ w)) (m.looping.kept ++ w) more
+      → ComeBack mode (l.looping.kept ++ (map (item_back mode) is ++ w)) (m.looping.kept ++ w) more
 
 -- one comes back at once, where none is kept
 takes_now : (mode : Mode) (i : Item) (l m : Link) → Stands mode l → l.looping.kept ≡ []
-    → Brings (back mode i ∷ []) l m → Takes mode (i ∷ []) l m
+    → Brings (item_back mode i ∷ []) l m → Takes mode (i ∷ []) l m
 takes_now mode i l m s none b =
     let kept : m.looping.kept ≡ l.looping.kept = ap (λ (x : Seen). x.kept) b.seen_is in
     record {
@@ -222,8 +222,8 @@ takes_now mode i l m s none b =
       ups_is = ap (λ (x : Seen). x.ups) b.seen_is;
       stands = stands_on mode l m s (ap (λ (x : Seen). x.mode) b.seen_is) kept (ap (λ (x : Seen). x.ups) b.seen_is);
       come_back = λ w.
-          subst (λ (x : List Item). ComeBack mode (x ++ (back mode i ∷ w)) (m.looping.kept ++ w) b.more) (sym none)
-          (subst (λ (x : List Item). ComeBack mode (back mode i ∷ w) (x ++ w) b.more) (sym (kept ∙ none))
+          subst (λ (x : List Item). ComeBack mode (x ++ (item_back mode i ∷ w)) (m.looping.kept ++ w) b.more) (sym none)
+          (subst (λ (x : List Item). ComeBack mode (item_back mode i ∷ w) (x ++ w) b.more) (sym (kept ∙ none))
           (b.come_back mode w));
     }
 
@@ -312,8 +312,8 @@ takes_every mode (i ∷ is) l on' s =
       ups_is = q.ups_is ∙ p.ups_is;
       stands = q.stands;
       come_back = λ w.
-          let rest = map (back mode) is ++ w in
-          back_then mode (l.looping.kept ++ (back mode i ∷ rest)) (m.looping.kept ++ rest) (n.looping.kept ++ w)
+          let rest = map (item_back mode) is ++ w in
+          back_then mode (l.looping.kept ++ (item_back mode i ∷ rest)) (m.looping.kept ++ rest) (n.looping.kept ++ w)
           p.more q.more (p.come_back rest) (q.come_back w);
     }
 
@@ -343,13 +343,14 @@ pub loops_go : (mode : Mode) (l : Link) → Goes mode l (loops l)
 loops_go mode l s =
     let m = loops l in
     let t = loops_take mode l s in
-    let before : map (back mode) l.ups ++ [] ≡ map (back mode) l.ups = append-nil (map (back mode) l.ups) in
+    let before : map (item_back mode) l.ups ++ [] ≡ map (item_back mode) l.ups =
+        append-nil (map (item_back mode) l.ups) in
     record {
       more = t.more;
       out_is = t.out_is;
       stands = t.stands;
       come_back =
-          subst (λ (x : List Item). ComeBack mode (waiting mode l) (m.looping.kept ++ map (back mode) x) t.more)
+          subst (λ (x : List Item). ComeBack mode (waiting mode l) (m.looping.kept ++ map (item_back mode) x) t.more)
           (sym t.ups_is)
           (subst (λ (x : List Item). ComeBack mode (l.looping.kept ++ x) (m.looping.kept ++ []) t.more) before
           (t.come_back []));
@@ -362,13 +363,13 @@ loops_empty mode l s = (loops_take mode l s).ups_is
 pub record PaysAll (mode : Mode) (l m : Link) : Type 0 where
   pub more : List Record
   pub seen_is : seen m ≡ record { mode = mode; kept = []; ups = l.ups; out = l.out ++ more }
-  pub come_back : ComeBack mode (waiting mode l) (map (back mode) l.ups) more
+  pub come_back : ComeBack mode (waiting mode l) (map (item_back mode) l.ups) more
 
 pub pays_all : (mode : Mode) (left : ℕ) (l : Link)
     → PaysAll mode l (returns_all l.looping.kept (record l { looping = state mode [] left }))
 pays_all mode left l =
     let r = returns_all_brings l.looping.kept (record l { looping = state mode [] left }) in
-    record { more = r.more; seen_is = r.seen_is; come_back = r.come_back mode (map (back mode) l.ups) }
+    record { more = r.more; seen_is = r.seen_is; come_back = r.come_back mode (map (item_back mode) l.ups) }
 
 pays_if : (b : Bool) (mode : Mode) (l : Link)
     → Goes mode l (returns_all (if b then l.looping.kept else [])
@@ -378,7 +379,8 @@ pays_if true mode l s =
     let m = returns_all l.looping.kept (record l { looping = state l.looping.mode [] l.looping.left }) in
     let r = returns_all_brings l.looping.kept (record l { looping = state l.looping.mode [] l.looping.left }) in
     let kept : m.looping.kept ≡ [] = ap (λ (x : Seen). x.kept) r.seen_is in
-    let after : waiting mode m ≡ map (back mode) l.ups = ap (λ (x : Seen). x.kept ++ map (back mode) x.ups) r.seen_is in
+    let after : waiting mode m ≡ map (item_back mode) l.ups =
+        ap (λ (x : Seen). x.kept ++ map (item_back mode) x.ups) r.seen_is in
     record {
       more = r.more;
       out_is = ap (λ (x : Seen). x.out) r.seen_is;
@@ -388,7 +390,7 @@ pays_if true mode l s =
         none_waits = λ h. ap (λ (x : Seen). x.ups) r.seen_is ∙ s.none_waits h;
       };
       come_back = subst (λ (v : List Item). ComeBack mode (waiting mode l) v r.more) (sym after)
-          (r.come_back mode (map (back mode) l.ups));
+          (r.come_back mode (map (item_back mode) l.ups));
     }
 
 pub pays_go : (mode : Mode) (l : Link) → Goes mode l (pays l)

@@ -23,7 +23,7 @@ use Rattle.l2_node.specs.Submitting.{refusal, submitted}
 use Rattle.l2_types.specs.declared.side.Side.{Side}
 use Rattle.l2_types.specs.declared.side.Side.TheVariants.{Nb, Ue}
 use Rattle.law_node.specs.Calls.{Call as EndCall, Submit, Tick, TickBuckets, Receive, after_submit, after as after_call}
-use Rattle.law_node.specs.Calls.{run as run_end, IsGiven as IsGivenTo, AreGiven}
+use Rattle.law_node.specs.Calls.{run_end, IsGiven as IsGivenTo, AreGiven}
 use Rattle.promises.specs.Events.{is_of_loop, TellNoLoop, is_of_writing}
 use Rattle.law_node.specs.Telling.{told_of, told_over}
 use Rattle.law_node.specs.Writing.{TellNone}
@@ -36,39 +36,40 @@ use Rattle.test_loop.specs.Items.{Item, item}
 use Rattle.test_loop.specs.Loops.{is_on, is_keeping, taken_answer, after_taken, after_tick}
 use Rattle.law_air.specs.AnyCalls.Deeds.{Entity, entity, Entities, entities}
 use Rattle.law_air.specs.AnyCalls.Ends.{ByCalls, begins_life, LivesOn, GoesThrough, GoesOn}
-use Rattle.promises.specs.Records.{event_of, told_by, is_of_building}
+use Rattle.promises.specs.Records.{event_of, events_of, is_of_building}
 
 -- ---- what records tell of an end
 
-told_then : (side : Side) (xs ys : List Record) → told_by side (xs ++ ys) ≡ told_by side xs ++ told_by side ys
+told_then : (side : Side) (xs ys : List Record) → events_of side (xs ++ ys) ≡ events_of side xs ++ events_of side ys
 told_then side [] ys = refl
 told_then side (x ∷ xs) ys =
     ap (λ (es : List Event). event_of side x ++ es) (told_then side xs ys)
-    ∙ sym (append_assoc (event_of side x) (told_by side xs) (told_by side ys))
+    ∙ sym (append_assoc (event_of side x) (events_of side xs) (events_of side ys))
 
 own_by : (b : Bool) (side : Side) (e : Event) (es : List Event) → is_of_loop e ≡ b
     → cond b (e ∷ filter is_of_loop es) (filter is_of_loop es) ≡ []
-    → (TellNoLoop es → told_by side (map (records.Of side) es) ≡ es)
-    → told_by side (records.Of side e ∷ map (records.Of side) es) ≡ e ∷ es
+    → (TellNoLoop es → events_of side (map (records.Of side) es) ≡ es)
+    → events_of side (records.Of side e ∷ map (records.Of side) es) ≡ e ∷ es
 own_by true side e es is none rest = let no : e ∷ filter is_of_loop es ≡ [] = none in cc
 own_by false Nb e es is none rest = rw is (ap (λ (x : List Event). e ∷ x) (rest none))
 own_by false Ue e es is none rest = rw is (ap (λ (x : List Event). e ∷ x) (rest none))
 
 -- the events of an end, as records of its side
-pub own_told : (side : Side) (es : List Event) → TellNoLoop es → told_by side (map (records.Of side) es) ≡ es
+pub own_told : (side : Side) (es : List Event) → TellNoLoop es → events_of side (map (records.Of side) es) ≡ es
 own_told side [] none = refl
 own_told side (e ∷ es) none = own_by (is_of_loop e) side e es refl none (own_told side es)
 
-pub other_told : (side : Side) (es : List Event) → told_by (other side) (map (records.Of side) es) ≡ []
+pub other_told : (side : Side) (es : List Event) → events_of (other side) (map (records.Of side) es) ≡ []
 other_told Nb [] = refl
 other_told Ue [] = refl
 other_told Nb (e ∷ es) = other_told Nb es
 other_told Ue (e ∷ es) = other_told Ue es
 
 -- what one side tells, and then the other
-pub told_both : (side : Side) (xs ys : List Record) (es fs : List Event) → told_by side xs ≡ es → told_by side ys ≡ fs
-    → told_by side (xs ++ ys) ≡ es ++ fs
-told_both side xs ys es fs p q = told_then side xs ys ∙ ap (λ (x : List Event). x ++ told_by side ys) p
+pub told_both : (side : Side) (xs ys : List Record) (es fs : List Event) → events_of side xs ≡ es
+    → events_of side ys ≡ fs
+    → events_of side (xs ++ ys) ≡ es ++ fs
+told_both side xs ys es fs p q = told_then side xs ys ∙ ap (λ (x : List Event). x ++ events_of side ys) p
     ∙ ap (λ (x : List Event). es ++ x) q
 
 -- ---- an end
@@ -81,12 +82,12 @@ pub by_none : (side : Side) (e : End) → KeepsOn side [] e e
 by_none side e = record { by = record { calls = []; given = tt; end_is = refl; told_is = refl }; lives_are = refl }
 
 -- records that tell nothing of it
-pub by_same : (side : Side) (told : List Record) (e f : End) → f ≡ e → told_by side told ≡ [] → KeepsOn side told e f
+pub by_same : (side : Side) (told : List Record) (e f : End) → f ≡ e → events_of side told ≡ [] → KeepsOn side told e f
 by_same side told e f same none =
     record { by = record { calls = []; given = tt; end_is = same; told_is = none }; lives_are = refl }
 
 pub by_call : (lives : List EndCall) (side : Side) (told : List Record) (c : EndCall) (e f : End) → IsGivenTo c
-    → filter begins_life (c ∷ []) ≡ lives → f ≡ after_call e c → told_by side told ≡ told_of e c
+    → filter begins_life (c ∷ []) ≡ lives → f ≡ after_call e c → events_of side told ≡ told_of e c
     → LivesOn lives side told e f
 by_call lives side told c e f g begun same is =
     record {
@@ -100,13 +101,13 @@ by_call lives side told c e f g begun same is =
     }
 
 pub by_one : (side : Side) (told : List Record) (c : EndCall) (e f : End) → IsGivenTo c → begins_life c ≡ false
-    → f ≡ after_call e c → told_by side told ≡ told_of e c → KeepsOn side told e f
+    → f ≡ after_call e c → events_of side told ≡ told_of e c → KeepsOn side told e f
 by_one side told c e f g goes same is =
     by_call [] side told c e f g (ap (λ (b : Bool). cond b (c ∷ []) []) goes) same is
 
 -- an SDU that isn't refused is submitted
 pub by_submit : (side : Side) (told : List Record) (lcid : ℕ) (octets : List ℕ) (e : End)
-    → refusal lcid octets e ≡ None → told_by side told ≡ [] → KeepsOn side told e (submitted lcid octets e)
+    → refusal lcid octets e ≡ None → events_of side told ≡ [] → KeepsOn side told e (submitted lcid octets e)
 unfolding submitted
 by_submit side told lcid octets e allowed none =
     by_one side told (Submit lcid octets) e _ tt refl

@@ -22,7 +22,7 @@ use Rattle.law_node.specs.Blocks.{report, all_sdus}
 use Rattle.promises.specs.Built.{reported, block_told}
 use Rattle.law_node.specs.Calls.{Call as EndCall, AreGiven, reached}
 use Rattle.law_node.specs.Names.{modes_of}
-use Rattle.promises.specs.Names.{Sent, sends, IsData, IsPdcp, whole_sdus, IsUmd, IsAmd, Mode, Transparent}
+use Rattle.promises.specs.Names.{SentPdu, sent_pdus, IsData, IsPdcp, whole_sdus, IsUmd, IsAmd, Mode, Transparent}
 use Rattle.promises.specs.Names.{Unacknowledged, Acknowledged, IsNamed, AreNamed}
 use Rattle.law_node.proofs.Blocks.{has_what_was_written}
 use Rattle.law_node.proofs.Naming.{names_what_it_sends}
@@ -41,7 +41,7 @@ use Rattle.bearer_types.specs.declared.event.Event.TheVariants as events
 use Rattle.promises.specs.Events.{TellNoLoop, is_of_writing}
 use Rattle.law_node.proofs.Pieces.{whole as whole_in, whole_is}
 use Rattle.law_air.specs.AnyCalls.Ends.{built_told}
-use Rattle.promises.specs.Records.{told_by}
+use Rattle.promises.specs.Records.{events_of}
 use Rattle.promises.specs.Shown.{Shown, sdus_shown, pdus_shown, is_bad, ShowsData, IsShownSdu, AreShownSdus, amd_record}
 use Rattle.promises.specs.Shown.{sdus_of, ShowsAmd, IsShownAs, AreShown, IsKnownAs, AreKnown, IsShownBlock}
 use Rattle.law_air.proofs.AnyCalls.Blocks.{reached_whole, visited_whole, sends_kept, block_is, is_told}
@@ -354,7 +354,8 @@ none_first kinds [] [] = refl
 none_first kinds [] (n ∷ ns) = refl
 none_first kinds (d ∷ ds) ends' = refl
 
-sdus_show : (kinds : List (Option Layout)) (modes : ℕ → Option Mode) (ss : List Sent) (ds : List Sdu) (ends' : List ℕ)
+sdus_show : (kinds : List (Option Layout)) (modes : ℕ → Option Mode) (ss : List SentPdu) (ds : List Sdu)
+    (ends' : List ℕ)
     → AreKnown kinds modes → AreNamed modes ss ds
     → AreShown modes ss ds (pdus_shown (items_shown kinds (map sdu_item ds ++ map padding ends')))
 unfolding item_shown
@@ -384,7 +385,8 @@ unfolding item_shown
 pads_good kinds [] = refl
 pads_good kinds (n ∷ ns) = pads_good kinds ns
 
-sdus_good : (kinds : List (Option Layout)) (modes : ℕ → Option Mode) (ss : List Sent) (ds : List Sdu) (ends' : List ℕ)
+sdus_good : (kinds : List (Option Layout)) (modes : ℕ → Option Mode) (ss : List SentPdu) (ds : List Sdu)
+    (ends' : List ℕ)
     → AreKnown kinds modes → AreNamed modes ss ds
     → filter is_bad (items_shown kinds (map sdu_item ds ++ map padding ends')) ≡ []
 unfolding item_shown
@@ -445,7 +447,7 @@ octets_good side maximum reports calls g t grant order kinds some within new kno
     ∙ ap (λ (r : _). filter is_bad (shown_by kinds r)) b.read
     ∙ fronts_good kinds b.fronts ((reported (report v grant) ++ map sdu_item ds) ++ map padding b.ends)
     ∙ report_good kinds (report v grant) ds b.ends
-    ∙ sdus_good kinds (modes_of v) (sends (building t grant order e)) ds b.ends known
+    ∙ sdus_good kinds (modes_of v) (sent_pdus (building t grant order e)) ds b.ends known
     (names_what_it_sends side maximum reports calls g t grant order new)
 
 octets_show : (side : Side) (maximum : ℕ) (reports : Bool) (calls : List EndCall) → AreGiven calls
@@ -453,7 +455,7 @@ octets_show : (side : Side) (maximum : ℕ) (reports : Bool) (calls : List EndCa
     → visit t order (reached side maximum reports calls) ≡ New
     → AreKnown kinds (modes_of (visited t order (reached side maximum reports calls)))
     → AreShown (modes_of (visited t order (reached side maximum reports calls)))
-    (sends (building t grant order (reached side maximum reports calls)))
+    (sent_pdus (building t grant order (reached side maximum reports calls)))
     (all_sdus (visited t order (reached side maximum reports calls)) grant
     (visited t order (reached side maximum reports calls)).buckets.channels)
     (pdus_shown
@@ -461,7 +463,7 @@ octets_show : (side : Side) (maximum : ℕ) (reports : Bool) (calls : List EndCa
 octets_show side maximum reports calls g t grant order kinds some within new known =
     let e = reached side maximum reports calls in
     let v = visited t order e in
-    let ss = sends (building t grant order e) in
+    let ss = sent_pdus (building t grant order e) in
     let ds = all_sdus v grant v.buckets.channels in
     let b = has_what_was_written side maximum reports calls g t order grant some within in
     let s : v.side ≡ side = (visited_whole side t order e (reached_whole side maximum reports calls)).side_is in
@@ -509,17 +511,17 @@ events_good side (e ∷ es) rest = events_good side es rest
 -- before a new block its events, and behind it what shows it
 told_shows : (side : Side) (t : ℕ) (ks : List (Option Layout)) (octets : List ℕ) (es : List Event) (modes : ℕ
     → Option Mode) (ds : List Sdu) → TellNoLoop es
-    → AreShown modes (sends es) ds (pdus_shown (block_shown (sent_by side) ks octets))
-    → AreShown modes (sends (told_by side (map (records.Of side) es ++ block_told side t ks octets))) ds
+    → AreShown modes (sent_pdus es) ds (pdus_shown (block_shown (sent_by side) ks octets))
+    → AreShown modes (sent_pdus (events_of side (map (records.Of side) es ++ block_told side t ks octets))) ds
     (pdus_shown (map (records.Of side) es ++ block_told side t ks octets))
 told_shows side t ks octets es modes ds none shown =
     let xs = map (records.Of side) es in
     let ys = block_told side t ks octets in
-    let told : told_by side (xs ++ ys) ≡ es =
+    let told : events_of side (xs ++ ys) ≡ es =
     told_both side xs ys es [] (own_told side es none) (shown_untold side (sent_by side) ks octets)
     ∙ append-nil es in
-    subst (λ (x : List Event). AreShown modes (sends x) ds (pdus_shown (xs ++ ys))) (sym told)
-    (subst (λ (x : List Shown). AreShown modes (sends es) ds x) (sym (events_skip side es ys)) shown)
+    subst (λ (x : List Event). AreShown modes (sent_pdus x) ds (pdus_shown (xs ++ ys))) (sym told)
+    (subst (λ (x : List Shown). AreShown modes (sent_pdus es) ds x) (sym (events_skip side es ys)) shown)
 
 pub blocks_are_shown : (side : Side) (maximum : ℕ) (reports : Bool) (calls : List EndCall) → AreGiven calls
     → (t grant : ℕ) (order : Order) (kinds : List (Option Layout)) → 1 ≤ grant → grant ≤ 9422
@@ -536,8 +538,8 @@ blocks_are_shown side maximum reports calls g t grant order kinds some within ne
     let ds = all_sdus v grant v.buckets.channels in
     let held = block_is t grant order e (reached_whole side maximum reports calls).eight new in
     let shown = octets_show side maximum reports calls g t grant order kinds some within new known in
-    let kept : AreShown (modes_of v) (sends es) ds (pdus_shown (block_shown (sent_by side) kinds octets)) =
-    subst (λ (x : List Sent). AreShown (modes_of v) x ds (pdus_shown (block_shown (sent_by side) kinds octets)))
+    let kept : AreShown (modes_of v) (sent_pdus es) ds (pdus_shown (block_shown (sent_by side) kinds octets)) =
+    subst (λ (x : List SentPdu). AreShown (modes_of v) x ds (pdus_shown (block_shown (sent_by side) kinds octets)))
     (sym (sends_kept all)) shown in
     let told = told_shows side t kinds octets es (modes_of v) ds (no_loop all) kept in
     record {
@@ -551,7 +553,7 @@ blocks_are_shown side maximum reports calls g t grant order kinds some within ne
       shown =
           subst
           (λ (x : List ℕ). AreShown (modes_of v)
-          (sends (told_by side (map (records.Of side) es ++ block_told side t kinds x))) ds
+          (sent_pdus (events_of side (map (records.Of side) es ++ block_told side t kinds x))) ds
           (pdus_shown (map (records.Of side) es ++ block_told side t kinds x))) (sym held) told;
       read = ap (λ (x : List ℕ). filter is_bad (map (records.Of side) es ++ block_told side t kinds x)) held
           ∙ events_good side es (block_told side t kinds octets)

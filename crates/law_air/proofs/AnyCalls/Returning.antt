@@ -11,7 +11,7 @@ use Rattle.air_record.specs.declared.record.Record.{Record}
 use Rattle.test_loop.specs.declared.Mode.{Mode}
 use Rattle.test_loop.specs.Items.{Item}
 use Rattle.law_air.specs.AnyCalls.Loops.{ComeBack}
-use Rattle.promises.specs.Loops.{ArePart, due, looped, gone_up, returned, on, is_dropped, drops}
+use Rattle.promises.specs.Loops.{ArePart, items_due, looped, gone_up, returned, item_count, is_dropped, drop_count}
 use Rattle.law_air.proofs.AnyCalls.Adding.{count_then}
 
 -- ---- parts
@@ -58,7 +58,7 @@ part_on xs ks us rs fs p q =
 
 -- ---- counts by channel
 
-pub on_both : (lcid : ℕ) (xs ys : List Item) → on lcid (xs ++ ys) ≡ on lcid xs + on lcid ys
+pub on_both : (lcid : ℕ) (xs ys : List Item) → item_count lcid (xs ++ ys) ≡ item_count lcid xs + item_count lcid ys
 on_both lcid xs ys = ap (λ (zs : List Item). length zs) (filter-append (λ i. i.lcid == lcid) xs ys)
     ∙ length-append (filter (λ i. i.lcid == lcid) xs) (filter (λ i. i.lcid == lcid) ys)
 
@@ -72,24 +72,25 @@ pub back_none : (mode : Mode) (w v : List Item) → v ≡ w → ComeBack mode w 
 back_none mode w v e = record {
   each = λ n. none_at (w ++ gone_up mode (take n [])) n;
   whole = part_of_same v (w ++ []) (append-nil w ∙ sym e);
-  others = λ lcid. let same : on lcid v ≡ on lcid w = ap (on lcid) e in omega (arith, same);
+  others = λ lcid. let same : item_count lcid v ≡ item_count lcid w = ap (item_count lcid) e in omega (arith, same);
 }
 
 -- ---- a record
 
-one_at : (mode : Mode) (w : List Item) (one : Record) (n : ℕ) → ArePart (looped one) (w ++ due mode one)
+one_at : (mode : Mode) (w : List Item) (one : Record) (n : ℕ) → ArePart (looped one) (w ++ items_due mode one)
     → ArePart (returned (take n (one ∷ []))) (w ++ gone_up mode (take n (one ∷ [])))
 one_at mode w one zero p = tt
-one_at mode w one (suc zero) p = rw (append-nil (looped one)) (rw (append-nil (due mode one)) p)
-one_at mode w one (suc (suc n)) p = rw (append-nil (looped one)) (rw (append-nil (due mode one)) p)
+one_at mode w one (suc zero) p = rw (append-nil (looped one)) (rw (append-nil (items_due mode one)) p)
+one_at mode w one (suc (suc n)) p = rw (append-nil (looped one)) (rw (append-nil (items_due mode one)) p)
 
-pub back_one : (mode : Mode) (w v : List Item) (one : Record) → ArePart (looped one ++ v) (w ++ due mode one)
-    → ((lcid : ℕ) → on lcid w + on lcid (due mode one) ≤ (on lcid (looped one) + drops lcid (one ∷ [])) + on lcid v)
+pub back_one : (mode : Mode) (w v : List Item) (one : Record) → ArePart (looped one ++ v) (w ++ items_due mode one)
+    → ((lcid : ℕ) → item_count lcid w + item_count lcid (items_due mode one) ≤
+    (item_count lcid (looped one) + drop_count lcid (one ∷ [])) + item_count lcid v)
     → ComeBack mode w v (one ∷ [])
 back_one mode w v one p q = record {
-  each = λ n. one_at mode w one n (part_front (looped one) v (w ++ due mode one) p);
-  whole = rw (append-nil (looped one)) (rw (append-nil (due mode one)) p);
-  others = λ lcid. rw (append-nil (looped one)) (rw (append-nil (due mode one)) (q lcid));
+  each = λ n. one_at mode w one n (part_front (looped one) v (w ++ items_due mode one) p);
+  whole = rw (append-nil (looped one)) (rw (append-nil (items_due mode one)) p);
+  others = λ lcid. rw (append-nil (looped one)) (rw (append-nil (items_due mode one)) (q lcid));
 }
 
 -- ---- records behind others
@@ -106,7 +107,7 @@ behind mode w v u x y p q =
     let left : returned (x ++ y) ++ u ≡ a ++ (b ++ u) = ap (λ (z : List Item). z ++ u) (flat_map-append looped x y)
     ∙ append_assoc a b u in
     let right : w ++ gone_up mode (x ++ y) ≡ (w ++ f) ++ g =
-    ap (λ (z : List Item). w ++ z) (flat_map-append (due mode) x y) ∙ sym (append_assoc w f g) in
+    ap (λ (z : List Item). w ++ z) (flat_map-append (items_due mode) x y) ∙ sym (append_assoc w f g) in
     subst (λ (z : List Item). ArePart z (w ++ gone_up mode (x ++ y))) (sym left)
     (subst (λ (z : List Item). ArePart (a ++ (b ++ u)) z) (sym right) whole)
 
@@ -135,18 +136,19 @@ back_then mode w v u x y p q = record {
   each = λ n. then_at mode w v u x y n p q;
   whole = behind mode w v u x y p.whole q.whole;
   others = λ lcid.
-      let came : on lcid (returned (x ++ y)) ≡ on lcid (returned x) + on lcid (returned y) =
-      ap (on lcid) (flat_map-append looped x y) ∙ on_both lcid (returned x) (returned y) in
-      let went : on lcid (gone_up mode (x ++ y)) ≡ on lcid (gone_up mode x) + on lcid (gone_up mode y) =
-      ap (on lcid) (flat_map-append (due mode) x y) ∙ on_both lcid (gone_up mode x) (gone_up mode y) in
-      let lost : drops lcid (x ++ y) ≡ drops lcid x + drops lcid y = count_then (is_dropped lcid) x y in
+      let came : item_count lcid (returned (x ++ y)) ≡ item_count lcid (returned x) + item_count lcid (returned y) =
+      ap (item_count lcid) (flat_map-append looped x y) ∙ on_both lcid (returned x) (returned y) in
+      let went : item_count lcid (gone_up mode (x ++ y))
+          ≡ item_count lcid (gone_up mode x) + item_count lcid (gone_up mode y) =
+      ap (item_count lcid) (flat_map-append (items_due mode) x y) ∙ on_both lcid (gone_up mode x) (gone_up mode y) in
+      let lost : drop_count lcid (x ++ y) ≡ drop_count lcid x + drop_count lcid y = count_then (is_dropped lcid) x y in
       omega (arith, came, went, lost, p.others lcid, q.others lcid);
 }
 
 -- ---- records that tell of no SDU of the loop
 
 abbrev pub IsSilent : Record → Type 0
-IsSilent one = (looped one ≡ []) × ((mode : Mode) → due mode one ≡ [])
+IsSilent one = (looped one ≡ []) × ((mode : Mode) → items_due mode one ≡ [])
 
 pub back_silent : (mode : Mode) (w : List Item) (told : List Record) → AllByRecursion IsSilent told
     → ComeBack mode w w told
@@ -154,8 +156,9 @@ back_silent mode w [] a = back_none mode w w refl
 back_silent mode w (one ∷ more) a =
     let none = a.0.0 in
     let nothing = a.0.1 mode in
-    let told : ArePart (looped one ++ w) (w ++ due mode one) =
+    let told : ArePart (looped one ++ w) (w ++ items_due mode one) =
     rw none (rw nothing (part_of_same w (w ++ []) (append-nil w))) in
-    let count : (lcid : ℕ) → on lcid w + on lcid (due mode one)
-    ≤ (on lcid (looped one) + drops lcid (one ∷ [])) + on lcid w = λ lcid. rw none (rw nothing (omega arith)) in
+    let count : (lcid : ℕ) → item_count lcid w + item_count lcid (items_due mode one)
+    ≤ (item_count lcid (looped one) + drop_count lcid (one ∷ [])) + item_count lcid w =
+    λ lcid. rw none (rw nothing (omega arith)) in
     back_then mode w w w (one ∷ []) more (back_one mode w w one told count) (back_silent mode w more a.1)

@@ -19,7 +19,7 @@ use Rattle.law_air.specs.AnyCalls.Counts.{ups, loopeds, Grows}
 use Rattle.promises.specs.Records.{is_up, is_looped, is_of_run}
 use Rattle.law_air.specs.AnyCalls.Calls.{Call}
 use Rattle.law_air.specs.AnyCalls.Told.{why_refused, refusals, accepted, Adds, AddsTti, AddsSubmitted}
-use Rattle.law_air.specs.AnyCalls.Runs.{Step, Tti, Drains, Submit, Calls, step, handed, Run, goes, goes_on, run}
+use Rattle.law_air.specs.AnyCalls.Runs.{Step, Tti, Drains, Submit, Calls, step, handed, Run, goes, goes_on, run_of}
 use Rattle.law_air.specs.AnyCalls.Runs.{IsTable, IsCounted}
 use Rattle.law_air.proofs.AnyCalls.Adding.{same_grows, count_then}
 use Rattle.law_air.proofs.AnyCalls.Calling.{calls_adds, submitting_adds}
@@ -214,7 +214,7 @@ goes_on_counted [] r nothing c = c
 goes_on_counted (s ∷ ss) r nothing c =
     goes_on_counted ss (goes s r) refl (goes_counted s r nothing c (step_adds s r.link))
 
-pub runs_counted : (ss : List Step) → IsCounted (run ss)
+pub runs_counted : (ss : List Step) → IsCounted (run_of ss)
 unfolding fresh
 runs_counted ss =
     let none : (k : ℕ) → k < 11 → slice_index (replicate 11 0) k ≡ 0 = λ k lt. get_or-replicate 11 k 0 0 lt in

@@ -1,10 +1,8 @@
 -- The test loop through the stages and calls of a link.
-use Rattle.std.proofs.Common.{◌≡◌, ℕ, ◌+◌, ◌%◌, ◌==◌, Bool, true, false, ◌&&◌, nat_le, if◌then◌else◌, Option, Some}
-use Rattle.std.proofs.Common.{None, List, [], ◌∷◌, ◌++◌, length, map, append_assoc, append-nil, refl, ap, sym, subst}
-use Rattle.std.proofs.Common.{◌∙◌, arith}
-use Rattle.std.specs.List.{AllByRecursion}
+use Rattle.std.proofs.Common.{◌≡◌, ℕ, ◌+◌, ◌%◌, ◌==◌, Bool, true, false, if◌then◌else◌, Option, Some}
+use Rattle.std.proofs.Common.{None, List, [], ◌∷◌, ◌++◌, map, append_assoc, append-nil, refl, ap, sym, subst}
+use Rattle.std.proofs.Common.{◌∙◌}
 use Rattle.std.specs.Prelude.{slice_index_or, slice_set}
-use Rattle.std.proofs.lemmas.List.{map-append}
 use Rattle.air_link.specs.Downlink.{visits as visits_process, builds, built_ndi, block_at, shows, sends, receives}
 use Rattle.air_link.specs.Downlink.{hears, feeds, told_as, is_good, saw_new, sees, answer, comes, hears_by, aired}
 use Rattle.air_link.specs.Downlink.{lands, unseen, down_order, down_by, downlink}
@@ -13,11 +11,11 @@ use Rattle.air_link.specs.Draining.{drain_tti, timer_expires, receiver_expires, 
 use Rattle.air_link.specs.Draining.{all_senders_expire, senders_expire}
 use Rattle.air_link.specs.Lines.{bears, discards, visits, reports, listens, no_place, submits_by, submitting}
 use Rattle.air_link.specs.Lines.{expires_by, expiring, expires_alone, expires, forges, moves, hands_over}
-use Rattle.air_link.specs.Link.{Link, fresh, says, end_of, with_end}
+use Rattle.air_link.specs.Link.{Link, fresh, says, end_of}
 use Rattle.bearer_types.specs.Lcids.{all_lcids}
 use Rattle.air_link.specs.Loops.{loops, pays, loop_set}
-use Rattle.air_link.specs.Telling.{delivers, noted, tells, tells_all}
-use Rattle.air_link.specs.Ttis.{begins, sleeps, tells_sleep, grows, ticks, times, keeps_first, timed, tti_by, tti}
+use Rattle.air_link.specs.Telling.{tells_all}
+use Rattle.air_link.specs.Ttis.{begins, sleeps, tells_sleep, grows, timed, tti_by, tti}
 use Rattle.air_link.specs.Uplink.{up_order, is_intact, told_as as up_told_as, granted, hears_if, aired as up_aired}
 use Rattle.air_link.specs.Uplink.{awake, up_by, grants, passes, uplink}
 use Rattle.air_record.specs.declared.line.Fate.{Fate}
@@ -41,7 +39,7 @@ use Rattle.l2_node.specs.Building.{visit, building}
 use Rattle.l2_node.specs.End.{End}
 use Rattle.bearer_types.specs.Sides.{sent_by}
 use Rattle.l2_node.specs.Finding.{has}
-use Rattle.l2_node.specs.Hearing.{received, ticked}
+use Rattle.l2_node.specs.Hearing.{received}
 use Rattle.l2_node.specs.Moving.{leaving}
 use Rattle.l2_node.specs.Submitting.{refusal}
 use Rattle.l2_types.specs.declared.event.Clock.{Clock}
@@ -52,172 +50,19 @@ use Rattle.mac_pdu.specs.declared.item.Direction.{Direction}
 use Rattle.mac_pdu.specs.declared.item.Direction.TheVariants as directions
 use Rattle.pdu_show.specs.Show.{block_shown}
 use Rattle.test_loop.specs.declared.Mode.{Mode}
-use Rattle.test_loop.specs.Items.{Item, item}
-use Rattle.test_loop.specs.Loops.{fresh as no_loop, is_on, is_keeping, after_tick, after_set}
+use Rattle.test_loop.specs.Items.{Item}
+use Rattle.test_loop.specs.Loops.{fresh as no_loop, is_keeping, after_set}
 use Rattle.law_air.specs.AnyCalls.Calls.{Call, Bears, Discards, Visits, Reports, Listens, Loops, Expires, Forges}
 use Rattle.law_air.specs.AnyCalls.Calls.{HandsOver, ReceiversExpire, SendersExpire, after}
 use Rattle.law_air.specs.AnyCalls.Loops.{ComeBack, IsAtRest, LoopsBack, mode_in}
-use Rattle.promises.specs.Loops.{back, due, looped, on}
+use Rattle.promises.specs.Loops.{item_back}
 use Rattle.law_air.proofs.AnyCalls.Gathering.{Seen, seen, Rests, rests_then, rests_unseen, rests_says, waiting, Stands}
-use Rattle.law_air.proofs.AnyCalls.Gathering.{Goes, goes_then, goes_resting, loops_go, loops_empty, pays_all, pays_go}
-use Rattle.law_air.proofs.AnyCalls.Handing.{is_up, building_none}
-use Rattle.law_air.proofs.AnyCalls.Returning.{part_of_same, on_both, back_one, back_then, IsSilent}
+use Rattle.law_air.proofs.AnyCalls.Gathering.{Goes, goes_then, goes_resting, loops_go, loops_empty, pays_all}
+use Rattle.law_air.proofs.AnyCalls.Handing.{building_none}
+use Rattle.law_air.proofs.AnyCalls.Returning.{back_then}
 use Rattle.law_air.proofs.AnyCalls.Showing.{block_is_silent}
-
-rests_end : (side : Side) (e : End) (l : Link) → Rests l (with_end side e l)
-rests_end Nb e l = rests_unseen l (with_end Nb e l) refl
-rests_end Ue e l = rests_unseen l (with_end Ue e l) refl
-
--- ---- what an end tells
-
--- an SDU goes up at the terminal
-abbrev handed_up : Side → Event → Bool
-handed_up Nb e = false
-handed_up Ue e = is_up e
-
-abbrev HandUpNone : Side → List Event → Type 0
-HandUpNone side es = AllByRecursion (λ e. handed_up side e ≡ false) es
-
-told_silent : (side : Side) (e : Event) → handed_up side e ≡ false → IsSilent (records.Of side e)
-told_silent Nb e h = (refl, λ mode. refl)
-told_silent Ue (events.Up lcid octets) h = cc
-told_silent Ue e h = (refl, λ mode. refl)
-
-noted_seen : (side : Side) (e : Event) (l : Link) → handed_up side e ≡ false → seen (noted side e l) ≡ seen l
-noted_seen Nb (events.Up lcid octets) l h = refl
-noted_seen Ue (events.Up lcid octets) l h = cc
-noted_seen Nb (events.Fail lcid sn) l h = refl
-noted_seen Ue (events.Fail lcid sn) l h = refl
-noted_seen side e l h = refl
-
-tell_rests : (side : Side) (e : Event) (l : Link) → handed_up side e ≡ false → Rests l (tells side e l)
-tell_rests side e l h = record {
-  more = records.Of side e ∷ [];
-  seen_is =
-      ap (λ (s : Seen). record { mode = s.mode; kept = s.kept; ups = s.ups; out = s.out ++ records.Of side e ∷ [] })
-      (noted_seen side e l h);
-  silent = (told_silent side e h, tt);
-}
-
-tells_rest : (side : Side) (es : List Event) (l : Link) → HandUpNone side es → Rests l (tells_all side es l)
-tells_rest side [] l h = rests_unseen l l refl
-tells_rest side (e ∷ es) l h = let m = tells side e l in
-    rests_then l m (tells_all side es m) (tell_rests side e l h.0) (tells_rest side es m h.1)
-
--- none goes up at the base station
-nb_none : (es : List Event) → HandUpNone Nb es
-nb_none [] = tt
-nb_none (e ∷ es) = (refl, nb_none es)
-
--- one that goes up waits where it may come back
-gathered : (b : Bool) (mode : Mode) (i : Item) (one : Record) (l : Link) → looped one ≡ []
-    → due mode one ≡ (if b then back mode i ∷ [] else []) → (b ≡ true → is_on mode ≡ true)
-    → Goes mode l (says one (if b then record l { ups = l.ups ++ i ∷ [] } else l))
-gathered false mode i one l none is on' s =
-    let w = waiting mode l in
-    record {
-      more = one ∷ [];
-      out_is = refl;
-      stands = record { mode_is = s.mode_is; none_kept = s.none_kept; none_waits = s.none_waits };
-      come_back = back_one mode w w one (rw none (rw is (part_of_same w (w ++ []) (append-nil w))))
-          (λ lcid. rw none (rw is (omega arith)));
-    }
-gathered true mode i one l none is on' s =
-    let kept = l.looping.kept in
-    let before = kept ++ map (back mode) l.ups in
-    let after' = kept ++ map (back mode) (l.ups ++ i ∷ []) in
-    let same : before ++ (back mode i ∷ []) ≡ after' =
-    append_assoc kept (map (back mode) l.ups) (back mode i ∷ [])
-    ∙ ap (λ (x : List Item). kept ++ x) (sym (map-append (back mode) l.ups (i ∷ []))) in
-    record {
-      more = one ∷ [];
-      out_is = refl;
-      stands = record {
-        mode_is = s.mode_is;
-        none_kept = s.none_kept;
-        none_waits = λ h. let no : true ≡ false = sym (on' refl) ∙ h in cc;
-      };
-      come_back =
-          back_one mode before after' one (rw none (rw is (part_of_same after' (before ++ (back mode i ∷ [])) same)))
-          (λ lcid.
-          let both : on lcid after' ≡ on lcid before + on lcid (back mode i ∷ []) =
-          ap (on lcid) (sym same) ∙ on_both lcid before (back mode i ∷ []) in
-          rw none (rw is (omega (arith, both))));
-    }
-
--- whether it may come back
-abbrev may_return : Mode → ℕ → List ℕ → Bool
-may_return mode lcid octets = (is_on mode && nat_le 3 lcid) && nat_le 1 (length octets)
-
-first_of : (a b c : Bool) → ((a && b) && c) ≡ true → a ≡ true
-first_of true b c e = refl
-first_of false b c e = e
-
-up_goes : (mode : Mode) (lcid : ℕ) (octets : List ℕ) (l : Link) → Goes mode l (tells Ue (events.Up lcid octets) l)
-up_goes mode lcid octets l s =
-    let one = records.Of Ue (events.Up lcid octets) in
-    let i = item lcid octets in
-    let m = delivers Ue lcid l in
-    let b = may_return l.looping.mode lcid octets in
-    let is : due mode one ≡ (if b then back mode i ∷ [] else []) =
-    ap (λ (x : Mode). if may_return x lcid octets then back mode i ∷ [] else []) (sym s.mode_is) in
-    goes_then mode l m (says one (if b then record m { ups = m.ups ++ i ∷ [] } else m))
-    (goes_resting mode l m (rests_unseen l m refl))
-    (gathered b mode i one m refl is (λ e. ap is_on (sym s.mode_is)
-    ∙ first_of (is_on l.looping.mode) (nat_le 3 lcid) (nat_le 1 (length octets)) e)) s
-
-tell_goes : (mode : Mode) (e : Event) (l : Link) → Goes mode l (tells Ue e l)
-tell_goes mode (events.Up lcid octets) l = up_goes mode lcid octets l
-tell_goes mode e l = goes_resting mode l (tells Ue e l) (tell_rests Ue e l refl)
-
-ue_tells_go : (mode : Mode) (es : List Event) (l : Link) → Goes mode l (tells_all Ue es l)
-ue_tells_go mode [] l = goes_resting mode l l (rests_unseen l l refl)
-ue_tells_go mode (e ∷ es) l = let m = tells Ue e l in
-    goes_then mode l m (tells_all Ue es m) (tell_goes mode e l) (ue_tells_go mode es m)
-
-tells_go : (mode : Mode) (side : Side) (es : List Event) (l : Link) → Goes mode l (tells_all side es l)
-tells_go mode Nb es l = goes_resting mode l (tells_all Nb es l) (tells_rest Nb es l (nb_none es))
-tells_go mode Ue es l = ue_tells_go mode es l
-
-hears_go : (mode : Mode) (side : Side) (block : List ℕ) (l : Link) → Goes mode l (hears side block l)
-hears_go mode side block l =
-    let m = receives side block l in
-    let es = (received (end_of side l) block).events in
-    goes_then mode l m (tells_all side es m) (goes_resting mode l m (rests_end side _ l)) (tells_go mode side es m)
-
--- ---- timers
-
-times_go : (mode : Mode) (side : Side) (l : Link) → Goes mode l (times side l)
-times_go mode side l =
-    let es = (ticked (end_of side l)).events in
-    let m = ticks side l in
-    let n = tells_all side es m in
-    goes_then mode l n (grows side n)
-    (goes_then mode l m n (goes_resting mode l m (rests_end side _ l)) (tells_go mode side es m))
-    (goes_resting mode n (grows side n) (rests_end side _ n))
-
-keeps_if : (b : Bool) (mode : Mode) (l : Link) → Goes mode l (if b then loops l else l)
-keeps_if true mode l = loops_go mode l
-keeps_if false mode l = goes_resting mode l l (rests_unseen l l refl)
-
-timed_goes : (mode : Mode) (l : Link) → Goes mode l (timed l)
-unfolding timed after_tick
-timed_goes mode l =
-    let j : Link = record l { looping = after_tick l.looping } in
-    let m = times Nb j in
-    let n = times Ue m in
-    let o = keeps_first n in
-    let to_m = goes_then mode l j m (goes_resting mode l j (rests_unseen l j refl)) (times_go mode Nb j) in
-    let to_n = goes_then mode l m n to_m (times_go mode Ue m) in
-    goes_then mode l o (pays o) (goes_then mode l n o to_n (keeps_if (is_keeping n.looping.mode) mode n))
-    (pays_go mode o)
-
-sleep_rests : (asleep : Bool) (l : Link) → Rests l (tells_sleep asleep l)
-sleep_rests true l = rests_says records.Sleep l (refl, λ mode. refl)
-sleep_rests false l = rests_unseen l l refl
-
-begins_rests : (l : Link) → Rests l (begins l)
-begins_rests l = record { more = records.Tti l.ttis ∷ []; seen_is = refl; silent = ((refl, λ mode. refl), tt) }
+use Rattle.law_air.proofs.AnyCalls.Ends.{rests_end, HandUpNone, tells_rest, nb_none, tells_go, hears_go, timed_goes}
+use Rattle.law_air.proofs.AnyCalls.Ends.{sleep_rests, begins_rests}
 
 -- ---- a block goes out
 
@@ -509,7 +354,7 @@ submitting_settles mode side lcid sdu l =
 
 -- where nothing waits, what may come back is what is kept
 kept_alone : (mode : Mode) (l : Link) → l.ups ≡ [] → waiting mode l ≡ l.looping.kept
-kept_alone mode l e = ap (λ (x : List Item). l.looping.kept ++ map (back mode) x) e ∙ append-nil l.looping.kept
+kept_alone mode l e = ap (λ (x : List Item). l.looping.kept ++ map (item_back mode) x) e ∙ append-nil l.looping.kept
 
 loops_back : (l m : Link) → Settles l.looping.mode l m → IsAtRest l → LoopsBack l.looping.mode l m
 loops_back l m p rests =
@@ -542,7 +387,7 @@ loop_set_back mode l rests =
     let m = loop_set mode l in
     let p = pays_all mode 0 l in
     let none : m.looping.kept ≡ [] = ap (λ (x : Seen). x.kept) p.seen_is in
-    let left : map (back mode) l.ups ≡ m.looping.kept = ap (map (back mode)) rests.none_waits ∙ sym none in
+    let left : map (item_back mode) l.ups ≡ m.looping.kept = ap (map (item_back mode)) rests.none_waits ∙ sym none in
     record {
       more = p.more;
       out_is = ap (λ (x : Seen). x.out) p.seen_is;

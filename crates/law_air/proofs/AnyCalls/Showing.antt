@@ -29,7 +29,8 @@ use Rattle.pdu_show.specs.Show.{block_shown}
 use Rattle.air_link.specs.Link.{Link}
 use Rattle.air_link.specs.Downlink.{shows}
 use Rattle.law_air.specs.AnyCalls.Counts.{ups, loopeds}
-use Rattle.promises.specs.Records.{is_up, is_looped, is_of_run, is_of_air, event_of, told_by, is_shown, is_of_building}
+use Rattle.promises.specs.Records.{is_up, is_looped, is_of_run, is_of_air, event_of, events_of, is_shown}
+use Rattle.promises.specs.Records.{is_of_building}
 use Rattle.law_air.specs.AnyCalls.Told.{Adds}
 use Rattle.law_air.proofs.AnyCalls.Adding.{same_grows}
 use Rattle.law_air.proofs.AnyCalls.Returning.{IsSilent}
@@ -240,12 +241,12 @@ pub block_is_shown : (direction : Direction) (kinds : List (Option Layout)) (blo
 block_is_shown direction kinds block =
     all_kept (block_shown direction kinds block) (block_shows kinds (reading direction block))
 
-none_told : (side : Side) (rs : List Record) → AllShown rs → told_by side rs ≡ []
+none_told : (side : Side) (rs : List Record) → AllShown rs → events_of side rs ≡ []
 none_told side [] a = refl
 none_told side (one ∷ more) a = rw ((still one a.0).no_event side) (none_told side more a.1)
 
 pub shown_untold : (side : Side) (direction : Direction) (kinds : List (Option Layout)) (block : List ℕ)
-    → told_by side (block_shown direction kinds block) ≡ []
+    → events_of side (block_shown direction kinds block) ≡ []
 shown_untold side direction kinds block =
     none_told side (block_shown direction kinds block) (block_shows kinds (reading direction block))
 

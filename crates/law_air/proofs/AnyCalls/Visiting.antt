@@ -36,7 +36,7 @@ use Rattle.air_record.specs.Outcomes.{turned}
 use Rattle.air_link.specs.Uplink.{up_order, is_intact, told_as as up_told_as, granted, hears_if, aired as up_aired}
 use Rattle.air_link.specs.Uplink.{awake, up_by, answers, grants, passes, uplink}
 use Rattle.law_air.specs.AnyCalls.Ends.{GoesOn, built_told, visit_told}
-use Rattle.promises.specs.Records.{told_by, is_of_building}
+use Rattle.promises.specs.Records.{events_of, is_of_building}
 use Rattle.promises.specs.Built.{block_told}
 use Rattle.law_air.proofs.AnyCalls.Going.{KeepsOn, own_told, other_told, told_both, by_same, by_one, goes_then, goes_by}
 use Rattle.law_air.proofs.AnyCalls.Going.{Seen, seen, behind, blocks_of, told_seen, goes_seen, Rests, unseen_rests}
@@ -59,7 +59,7 @@ IsLoud v t grant order = (good : Bool) (x : End) → answered v (turn_of t grant
 visited_by : (side : Side) (told : List Record) (t grant : ℕ) (order : Order) (good : Bool) (e f : End) → grant ≤ 9422
     → IsEnough order grant
     → f ≡ answered (visit t order e) (turn_of t grant order good) (built t grant order e)
-    → told_by side told ≡ building t grant order e → KeepsOn side told e f
+    → events_of side told ≡ building t grant order e → KeepsOn side told e f
 visited_by side told t grant order good e f within enough same is =
     by_one side told (Visits (turn_of t grant order good)) e f (within, enough) refl same is
 
@@ -68,7 +68,7 @@ abbrev events_told : Side → ℕ → ℕ → Order → End → List Record
 events_told side t grant order e = map (records.Of side) (filter is_of_writing (building t grant order e))
 
 building_own : (side : Side) (t grant : ℕ) (order : Order) (e : End)
-    → told_by side (map (records.Of side) (building t grant order e)) ≡ building t grant order e
+    → events_of side (map (records.Of side) (building t grant order e)) ≡ building t grant order e
 building_own side t grant order e =
     own_told side (building t grant order e) (tells_no_loop e (Visits (turn_of t grant order true)))
 
@@ -107,7 +107,7 @@ sent_blocks Quiet side t kinds octets = refl
 
 -- no event of an end
 sent_untold : (v : Visit) (side by : Side) (t : ℕ) (kinds : List (Option Layout)) (octets : List ℕ)
-    → told_by side (sent v by t kinds octets) ≡ []
+    → events_of side (sent v by t kinds octets) ≡ []
 sent_untold New side by t kinds octets = shown_untold side (sent_by by) kinds octets
 sent_untold (Resend rv) side by t kinds octets = refl
 sent_untold Quiet side by t kinds octets = refl
@@ -128,14 +128,14 @@ visit_records v side t grant order kinds octets e =
     map (records.Of side) (building t grant order e) ++ sent v side t kinds octets
 
 visit_own : (v : Visit) (side : Side) (t grant : ℕ) (order : Order) (kinds : List (Option Layout)) (octets : List ℕ)
-    (e : End) → told_by side (visit_records v side t grant order kinds octets e) ≡ building t grant order e
+    (e : End) → events_of side (visit_records v side t grant order kinds octets e) ≡ building t grant order e
 visit_own v side t grant order kinds octets e =
     told_both side (map (records.Of side) (building t grant order e)) (sent v side t kinds octets)
     (building t grant order e) [] (building_own side t grant order e) (sent_untold v side side t kinds octets)
     ∙ append-nil (building t grant order e)
 
 visit_other : (v : Visit) (side : Side) (t grant : ℕ) (order : Order) (kinds : List (Option Layout)) (octets : List ℕ)
-    (e : End) → told_by (other side) (visit_records v side t grant order kinds octets e) ≡ []
+    (e : End) → events_of (other side) (visit_records v side t grant order kinds octets e) ≡ []
 visit_other v side t grant order kinds octets e =
     told_both (other side) (map (records.Of side) (building t grant order e)) (sent v side t kinds octets) [] []
     (other_told side (building t grant order e)) (sent_untold v (other side) side t kinds octets)
@@ -172,7 +172,7 @@ came Miss t ndi e = e
 came Ok t ndi e = after_call e (Assigned t ndi true)
 came Bad t ndi e = after_call e (Assigned t ndi false)
 
-pub came_by : (f : Fate) (told : List Record) (t : ℕ) (ndi : Bool) (e : End) → told_by Ue told ≡ []
+pub came_by : (f : Fate) (told : List Record) (t : ℕ) (ndi : Bool) (e : End) → events_of Ue told ≡ []
     → KeepsOn Ue told e (came f t ndi e)
 came_by Miss told t ndi e none = by_same Ue told e e refl none
 came_by Ok told t ndi e none =

@@ -26,7 +26,7 @@ use Rattle.l2_types.specs.declared.side.Side.{Side}
 use Rattle.l2_types.specs.declared.side.Side.TheVariants.{Nb, Ue}
 use Rattle.law_node.specs.Calls.{SetVisits, Add, Move, after as after_call}
 use Rattle.law_node.specs.Telling.{told_of}
-use Rattle.promises.specs.Records.{told_by}
+use Rattle.promises.specs.Records.{events_of}
 use Rattle.law_air.specs.AnyCalls.Calls.{Call, Bears, Discards, Visits, Reports, Listens, Loops, Expires, Forges}
 use Rattle.law_air.specs.AnyCalls.Calls.{HandsOver, ReceiversExpire, SendersExpire, after}
 use Rattle.law_air.specs.AnyCalls.Runs.{Step as LinkStep, Tti, Drains, Submit, Calls as LinkCalls, step}
@@ -34,19 +34,22 @@ use Rattle.law_air.proofs.AnyCalls.Calling.{calls_adds, submitting_adds}
 use Rattle.law_air.proofs.AnyCalls.Passing.{tti_adds, drain_adds}
 use Rattle.law_deliver.specs.AmFlow.Air.{Block, Station, Air, outset, older, passed}
 use Rattle.law_deliver.proofs.AmFlow.Stations.{come_more}
-use Rattle.law_words.specs.Arrivals.{Happening}
+use Rattle.law_words.specs.Arrivals.{AccountEntry}
 use Rattle.law_deliver.specs.AmChannel.Lives.{end_at}
-use Rattle.law_air.specs.TwoEnds.Arrival.{renews}
-use Rattle.promises.specs.Arrival.{tells_in}
-use Rattle.law_air.specs.TwoEnds.Staying.{hands_over, Stays, MovesOn}
+use Rattle.law_air.specs.TwoEnds.Arrival.{renewals_in}
+use Rattle.promises.specs.Arrival.{entries_in}
+use Rattle.law_air.specs.TwoEnds.Staying.{is_handover_step, Stays, MovesOn}
 use Rattle.law_air.specs.TwoEnds.Going.{handed_in, sets, GoesOn, IsCallSince, IsStepSince}
 use Rattle.promises.specs.Flows.{looped_at}
 use Rattle.law_air.specs.TwoEnds.Shown.{IsShown, anew}
 use Rattle.law_air.specs.TwoEnds.On.{until, IsHeld, IsFlying, IsStation, IsOn}
 use Rattle.law_air.proofs.TwoEnds.Flying.{keep_all}
-use Rattle.law_air.proofs.TwoEnds.Going.{Marks, calm, setting, none, by_sides, Any, Block', Renewed, Unread, Behind}
-use Rattle.law_air.proofs.TwoEnds.Going.{Fits, IsAt, ended, first_whats, no_whats, call_whats, goes_then, goes_off}
-use Rattle.law_air.proofs.TwoEnds.Going.{goes_pass}
+use Rattle.law_air.proofs.TwoEnds.Going.{Marks, calm, setting, none, Any, Block', Renewed, Unread, Behind}
+use Rattle.law_air.proofs.TwoEnds.Steps.{by_sides}
+use Rattle.law_air.proofs.TwoEnds.Going.{Fits, IsAt, ended, first_whats, no_whats, goes_then}
+use Rattle.law_air.proofs.TwoEnds.Steps.{call_whats, goes_off}
+use Rattle.law_air.proofs.TwoEnds.Going.{Goes, station, with_station}
+use Rattle.law_air.proofs.TwoEnds.Steps.{goes_pass}
 use Rattle.law_air.proofs.TwoEnds.Moving.{fresh_at, left_told, moved_link, moved_so, handover_stage}
 use Rattle.law_air.proofs.TwoEnds.Resting.{call_rests, loops_rests, loop_set_rests, woken_rests, grown_rests}
 use Rattle.law_air.proofs.TwoEnds.Resting.{expires_rests, receivers_rest, senders_rest, discards_rests, reports_rests}
@@ -78,16 +81,17 @@ both_on t m a same h = record {
 
 -- what a step may do
 abbrev marks : ℕ → LinkStep → Marks
-marks l s = record { sets = sets l s; moves = hands_over s }
+marks l s = record { sets = sets l s; moves = is_handover_step s }
 
-same_behind : (c : Behind) (xs ys : List Happening) → ended c ++ xs ≡ ended c ++ ys → xs ≡ ys
+same_behind : (c : Behind) (xs ys : List AccountEntry) → ended c ++ xs ≡ ended c ++ ys → xs ≡ ys
 same_behind Any xs ys e = e
 same_behind (Block' octets process) xs ys e = e
 same_behind Renewed xs ys e = cc
 same_behind Unread xs ys e = e
 
 -- behind what a step ends
-goes_behind : (l t : ℕ) (c : Behind) (s : LinkStep) (k : Link) (a : Air) → ended c ≡ renews s → first_whats c ≡ anew s
+goes_behind : (l t : ℕ) (c : Behind) (s : LinkStep) (k : Link) (a : Air) → ended c ≡ renewals_in s
+    → first_whats c ≡ anew s
     → ((sent : List ℕ) → Fits c sent) → ((p : Place) → IsAt c p)
     → Reaches l (marks l s) c Any (λ side n. handed_in side n s k) (Stands Nb (Waits t)) (Stands Ue (Waits t)) k
     (step s k) a → (step s k).ttis ≡ t → Stays l s k a
@@ -104,7 +108,7 @@ goes_behind l t c s k a ends firsts fits at r same = record {
       told_is = r.goes.told_is;
       submitted_is = r.goes.submitted_is;
       happened_is = λ bits from. r.goes.reads bits from [] (fits [])
-          ∙ ap (λ (hs : List Happening). hs ++ tells_in bits l from [] r.more) ends;
+          ∙ ap (λ (hs : List AccountEntry). hs ++ entries_in bits l from [] r.more) ends;
       sets_none = r.goes.sets_none;
       on = subst (IsOn (step s k)) (sym r.goes.air_is) (both_on t (step s k) r.air same r.both);
     };
@@ -117,7 +121,7 @@ goes_behind l t c s k a ends firsts fits at r same = record {
   in_life = r.goes.stays;
 }
 
-goes_so : (l t : ℕ) (s : LinkStep) (k : Link) (a : Air) → renews s ≡ [] → anew s ≡ []
+goes_so : (l t : ℕ) (s : LinkStep) (k : Link) (a : Air) → renewals_in s ≡ [] → anew s ≡ []
     → Reaches l (marks l s) Any Any (λ side n. handed_in side n s k) (Stands Nb (Waits t)) (Stands Ue (Waits t)) k
     (step s k) a → (step s k).ttis ≡ t → Stays l s k a
 goes_so l t s k a stays still r same = goes_behind l t Any s k a (sym stays) (sym still) (λ sent. tt) (λ p. tt) r same
@@ -252,75 +256,73 @@ emptied_stands side (Waits t) s maximum h some few =
 emptied_stands side (Done t) s maximum h some few =
     record { is = emptied_station side (wait (Done t)) s maximum h.is some few; idle = tt }
 
+-- the array of HARQ processes of an end begins anew, and what was under way from it is let go
+abbrev emptied_at : ℕ → Station → Station
+emptied_at maximum s = record {
+  end = after_call s.end (SetVisits maximum);
+  blocks = filter keeps_none s.blocks;
+  busy = s.busy;
+}
+
+emptied_by : (l : ℕ) (set : Marks) (side : Side) (maximum : ℕ) (b : Air) → 1 ≤ maximum
+    → Goes l set [] none (call_whats side l (station side b).end (SetVisits maximum)) b
+    (with_station side (record (station side b) { end = after_call (station side b).end (SetVisits maximum) }) b)
+emptied_by l set side maximum b some =
+    goes_plain l set side [] none (SetVisits maximum) b tt some
+    (record { adds_none = refl; moves_none = refl; unset = λ off. refl })
+    (says_so side [] none (station side b).end (SetVisits maximum) tt refl none_flown refl refl (λ i. refl) (λ i. refl))
+
+emptied_goes : (l : ℕ) (set : Marks) (side : Side) (maximum : ℕ) (a : Air) → 1 ≤ maximum
+    → Goes l set [] (λ at n. looped_at at n []) (call_whats side l (station side a).end (SetVisits maximum)) a
+    (with_station side (emptied_at maximum (station side a)) a)
+emptied_goes l set Nb maximum a some =
+    let b : Air = record a { nb = record a.nb { blocks = filter keeps_none a.nb.blocks } } in
+    let c : Air = record a { nb = emptied_at maximum a.nb } in
+    unlooped_goes l set [] a c (λ i. refl)
+    (goes_then l set [] [] none none a b c (goes_off l set Nb keeps_none a) (emptied_by l set Nb maximum b some))
+emptied_goes l set Ue maximum a some =
+    let b : Air = record a { ue = record a.ue { blocks = filter keeps_none a.ue.blocks } } in
+    let c : Air = record a { ue = emptied_at maximum a.ue } in
+    unlooped_goes l set [] a c (λ i. refl)
+    (goes_then l set [] [] none none a b c (goes_off l set Ue keeps_none a) (emptied_by l set Ue maximum b some))
+
+emptied_stage : (l : ℕ) (set : Marks) (side : Side) (maximum : ℕ) (R S : Station → Type 0) (k m : Link) (a : Air)
+    → 1 ≤ maximum → m.out ≡ k.out → m.kinds ≡ k.kinds
+    → Both R S m (with_station side (emptied_at maximum (station side a)) a) → Reaches l set Any Any none R S k m a
+emptied_stage l set side maximum R S k m a some out kinds both = record {
+  air = with_station side (emptied_at maximum (station side a)) a;
+  more = [];
+  out_is = out ∙ sym (append-nil k.out);
+  goes = emptied_goes l set side maximum a some;
+  ws = call_whats side l (station side a).end (SetVisits maximum);
+  left = λ sent fits. tt;
+  stands = λ p at. tt;
+  stays = λ bits. subst (IsShown l bits) (sym kinds);
+  shown = λ bits s from p at. shows_nothing l side (station side a).end (SetVisits maximum) tt refl bits from p;
+  both = both;
+}
+
 visits_nb : (l : ℕ) (set : Marks) (maximum : ℕ) (k : Link) → 1 ≤ maximum → maximum ≤ 28
     → Rests l set k (with_end Nb (after_call k.nb (SetVisits maximum)) k)
 visits_nb l set maximum k some few n u a h =
-    let b : Air = record a { nb = record a.nb { blocks = filter keeps_none a.nb.blocks } } in
-    let c : Air =
-    record a {
-      nb = record {
-        end = after_call a.nb.end (SetVisits maximum);
-        blocks = filter keeps_none a.nb.blocks;
-        busy = a.nb.busy;
-      };
-    } in
-    record {
-      air = c;
-      more = [];
-      out_is = sym (append-nil k.out);
-      goes = unlooped_goes l set [] a c (λ i. refl)
-          (goes_then l set [] [] none none a b c (goes_off l set Nb keeps_none a)
-          (goes_plain l set Nb [] none (SetVisits maximum) b tt some
-          (record { adds_none = refl; moves_none = refl; unset = λ off. refl })
-          (says_so Nb [] none b.nb.end (SetVisits maximum) tt refl none_flown refl refl (λ i. refl)
-          (λ i. refl))));
-      ws = call_whats Nb l a.nb.end (SetVisits maximum);
-      left = λ sent fits. tt;
-      stands = λ p at. tt;
-      stays = λ bits s. s;
-      shown = λ bits s from p at. shows_nothing l Nb a.nb.end (SetVisits maximum) tt refl bits from p;
-      both = record {
-        nb_is = ap (λ (e : End). after_call e (SetVisits maximum)) h.nb_is;
-        ue_is = h.ue_is;
-        nb = emptied_stands Nb n a.nb maximum h.nb some few;
-        ue = h.ue;
-      };
-    }
+    emptied_stage l set Nb maximum (Stands Nb n) (Stands Ue u) k (with_end Nb (after_call k.nb (SetVisits maximum)) k) a
+    some refl refl (record {
+      nb_is = ap (λ (e : End). after_call e (SetVisits maximum)) h.nb_is;
+      ue_is = h.ue_is;
+      nb = emptied_stands Nb n a.nb maximum h.nb some few;
+      ue = h.ue;
+    })
 
 visits_ue : (l : ℕ) (set : Marks) (maximum : ℕ) (k : Link) → 1 ≤ maximum → maximum ≤ 28
     → Rests l set k (with_end Ue (after_call k.ue (SetVisits maximum)) k)
 visits_ue l set maximum k some few n u a h =
-    let b : Air = record a { ue = record a.ue { blocks = filter keeps_none a.ue.blocks } } in
-    let c : Air =
-    record a {
-      ue = record {
-        end = after_call a.ue.end (SetVisits maximum);
-        blocks = filter keeps_none a.ue.blocks;
-        busy = a.ue.busy;
-      };
-    } in
-    record {
-      air = c;
-      more = [];
-      out_is = sym (append-nil k.out);
-      goes = unlooped_goes l set [] a c (λ i. refl)
-          (goes_then l set [] [] none none a b c (goes_off l set Ue keeps_none a)
-          (goes_plain l set Ue [] none (SetVisits maximum) b tt some
-          (record { adds_none = refl; moves_none = refl; unset = λ off. refl })
-          (says_so Ue [] none b.ue.end (SetVisits maximum) tt refl none_flown refl refl (λ i. refl)
-          (λ i. refl))));
-      ws = call_whats Ue l a.ue.end (SetVisits maximum);
-      left = λ sent fits. tt;
-      stands = λ p at. tt;
-      stays = λ bits s. s;
-      shown = λ bits s from p at. shows_nothing l Ue a.ue.end (SetVisits maximum) tt refl bits from p;
-      both = record {
-        nb_is = h.nb_is;
-        ue_is = ap (λ (e : End). after_call e (SetVisits maximum)) h.ue_is;
-        nb = h.nb;
-        ue = emptied_stands Ue u a.ue maximum h.ue some few;
-      };
-    }
+    emptied_stage l set Ue maximum (Stands Nb n) (Stands Ue u) k (with_end Ue (after_call k.ue (SetVisits maximum)) k) a
+    some refl refl (record {
+      nb_is = h.nb_is;
+      ue_is = ap (λ (e : End). after_call e (SetVisits maximum)) h.ue_is;
+      nb = h.nb;
+      ue = emptied_stands Ue u a.ue maximum h.ue some few;
+    })
 
 visits_rests : (l : ℕ) (set : Marks) (maximum : ℕ) (k : Link) → 1 ≤ maximum → maximum ≤ 28
     → Rests l set k (visits maximum k)
@@ -360,7 +362,7 @@ bears_rests l set config keys k g apart =
 -- ---- any call
 
 -- in which both ends stay in their cell
-stays_by : (l : ℕ) (c : Call) (k : Link) (a : Air) → renews (LinkCalls c) ≡ [] → anew (LinkCalls c) ≡ []
+stays_by : (l : ℕ) (c : Call) (k : Link) (a : Air) → renewals_in (LinkCalls c) ≡ [] → anew (LinkCalls c) ≡ []
     → Rests l (marks l (LinkCalls c)) k (after c k) → IsOn k a → Stays l (LinkCalls c) k a
 stays_by l c k a stays still f h =
     goes_so l k.ttis (LinkCalls c) k a stays still (f (Waits k.ttis) (Waits k.ttis) a (on_both k a h))
@@ -413,7 +415,8 @@ handovers_move l keys k a h =
       leaving = left_told k;
       behind = r.more;
       out_is = r.out_is ∙ ap (λ (o : List Record). o ++ r.more) m.out_is ∙ append_assoc k.out (left_told k) r.more;
-      told_is = by_sides (λ side. told_by side (left_told k) ≡ told_of (end_at side a) (Move keys)) m.nb_told m.ue_told;
+      told_is =
+          by_sides (λ side. events_of side (left_told k) ≡ told_of (end_at side a) (Move keys)) m.nb_told m.ue_told;
       none_looped = by_sides (λ side. (i : ℕ) → looped_at side i (left_told k) ≡ []) (λ i. refl) m.unlooped;
       by = record {
         steps = r.goes.steps;

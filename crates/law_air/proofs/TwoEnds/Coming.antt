@@ -11,7 +11,7 @@ use Rattle.l2_types.specs.declared.side.Side.TheVariants.{Nb, Ue}
 use Rattle.law_air.specs.AnyCalls.Calls.{Bears}
 use Rattle.law_air.specs.AnyCalls.Runs.{Step, step}
 use Rattle.law_deliver.specs.AmFlow.Air.{Air}
-use Rattle.law_words.specs.Arrivals.{Happening}
+use Rattle.law_words.specs.Arrivals.{AccountEntry}
 use Rattle.law_deliver.specs.AmChannel.Arrival.{happened}
 use Rattle.law_deliver.specs.AmChannel.Lives.{lives}
 use Rattle.um_losses.specs.Names.{Happening as What}
@@ -39,7 +39,7 @@ same_on k m a nb ue ttis h = record {
 }
 
 abbrev pub ends_come_by : (l : ℕ) (told : List Record) (submitted : Side → ℕ → List (List ℕ)) (said : ℕ → Side
-    → List Happening) (set : Bool) (k m : Link) (a : Air)
+    → List AccountEntry) (set : Bool) (k m : Link) (a : Air)
     → m.nb ≡ k.nb → m.ue ≡ k.ue → m.ttis ≡ k.ttis → GoesByAir l told submitted said set k a
     → GoesByAir l told submitted said set m a
 ends_come_by l told submitted said set k m a nb_is ue_is ttis_is x = record {
@@ -53,7 +53,7 @@ ends_come_by l told submitted said set k m a nb_is ue_is ttis_is x = record {
 }
 
 pub ends_come : (l : ℕ) (told : List Record) (submitted : Side → ℕ → List (List ℕ)) (said : ℕ → Side
-    → List Happening) (set : Bool) (k m : Link) (a : Air)
+    → List AccountEntry) (set : Bool) (k m : Link) (a : Air)
     → m.nb ≡ k.nb → m.ue ≡ k.ue → m.ttis ≡ k.ttis → (before : GoesByAir l told submitted said set k a)
     → ComesAs l told submitted said set m a before.steps
 ends_come l told submitted said set k m a nb_is ue_is ttis_is x =
@@ -89,7 +89,7 @@ abbrev Goes : ℕ → Bool → List Record → (Side → ℕ → List (List ℕ)
 Goes l set told given ws a b = GoesBehind l (moving set) Unread told given ws a b
 
 by_goes : (l : ℕ) (told : List Record) (submitted : Side → ℕ → List (List ℕ)) (said : ℕ → Side
-    → List Happening) (set whole : Bool) (m : Link) (a : Air) (x : GoesByAir l told submitted said set m a)
+    → List AccountEntry) (set whole : Bool) (m : Link) (a : Air) (x : GoesByAir l told submitted said set m a)
     → (whole ≡ false → set ≡ false)
     → Goes l whole told submitted (λ bits from. whats from l bits x.steps a) a (lives x.steps a)
 by_goes l told submitted said set whole m a x off =
@@ -106,7 +106,7 @@ by_goes l told submitted said set whole m a x off =
     }
 
 abbrev goes_by : (l : ℕ) (told : List Record) (submitted : Side → ℕ → List (List ℕ)) (said : ℕ → Side
-    → List Happening) (set : Bool) (m : Link) {ws : Whats} (a b : Air) (x : Goes l set told submitted ws a b)
+    → List AccountEntry) (set : Bool) (m : Link) {ws : Whats} (a b : Air) (x : Goes l set told submitted ws a b)
     → ((bits : ℕ) (from : Side) → happened bits l from x.steps a ≡ said bits from) → IsOn m b
     → GoesByAir l told submitted said set m a
 goes_by l told submitted said set m {ws} a b x happened on =
@@ -121,7 +121,7 @@ goes_by l told submitted said set m {ws} a b x happened on =
     }
 
 pub steps_come : (l : ℕ) (told : List Record) (submitted : Side → ℕ → List (List ℕ)) (said : ℕ → Side
-    → List Happening) (set : Bool) (s : Step) (k : Link) (a : Air) → IsStepSince l s
+    → List AccountEntry) (set : Bool) (s : Step) (k : Link) (a : Air) → IsStepSince l s
     → (before : GoesByAir l told submitted said set k a)
     → ComesOn l told submitted said set s k a before
 unfolding by_goes
@@ -132,7 +132,7 @@ steps_come l told submitted said set s k a g h =
     let y = x.by in
     let sets_any = set || sets l s in
     let more : Side → ℕ → List (List ℕ) = λ side n. handed_in side n s k ++ looped_at side n x.more in
-    let tells : ℕ → Side → List Happening = λ bits from. told_by_step bits l from s x.more in
+    let tells : ℕ → Side → List AccountEntry = λ bits from. told_by_step bits l from s x.more in
     let c = lives y.steps b in
     let before = by_goes l told submitted said set sets_any k a h (λ e. (either_off set (sets l s) e).0) in
     let behind = by_goes l x.more more tells (sets l s) sets_any m b y (λ e. (either_off set (sets l s) e).1) in
@@ -142,8 +142,8 @@ steps_come l told submitted said set s k a g h =
     λ bits from.
     happens_then bits from l (moving sets_any) Unread Unread told x.more submitted more a b c refl
     (λ sent fits. absurd fits) before behind
-    ∙ (ap (λ (hs : List Happening). hs ++ happened bits l from y.steps b) (h.happened_is bits from)
-    ∙ ap (λ (hs : List Happening). said bits from ++ hs) (y.happened_is bits from)) in
+    ∙ (ap (λ (hs : List AccountEntry). hs ++ happened bits l from y.steps b) (h.happened_is bits from)
+    ∙ ap (λ (hs : List AccountEntry). said bits from ++ hs) (y.happened_is bits from)) in
     record {
       more = x.more;
       out_is = x.out_is;

@@ -27,7 +27,7 @@ use Rattle.law_deliver.proofs.AmFlow.Sending.{is_called}
 use Rattle.law_deliver.proofs.AmFlow.Stations.{come_more}
 use Rattle.law_deliver.specs.AmChannel.Lives.{AirStep, InLife, Moves, IsLiving, AreLiving, lives_on, lives, end_at}
 use Rattle.law_air.specs.TwoEnds.Lived.{HasBearer}
-use Rattle.law_air.proofs.TwoEnds.Going.{call_end}
+use Rattle.law_deliver.proofs.AmChannel.Ends.{calls_end}
 
 -- ---- an end keeps its bearer
 
@@ -68,7 +68,7 @@ come_keeps l side s (Some b) h =
 
 act_keeps : (l : ℕ) (side : Side) (o s : Station) (x : Act) → IsDone l s x → Keeps l side s.end
     → Keeps l side (does o s x).end
-act_keeps l side o s (Calls c) g h = subst (Keeps l side) (sym (call_end s c)) (call_keeps l side s.end c g.0 g.1 h)
+act_keeps l side o s (Calls c) g h = subst (Keeps l side) (sym (calls_end s c)) (call_keeps l side s.end c g.0 g.1 h)
 act_keeps l side o s (Comes k) g h = come_keeps l side s (slice_get o.blocks k) h
 act_keeps l side o s (LetsGo k) g h = h
 

@@ -17,10 +17,10 @@ use Rattle.l2_types.specs.declared.side.Side.{Side}
 use Rattle.l2_types.specs.declared.side.Side.TheVariants.{Nb, Ue}
 use Rattle.law_node.specs.Calls.{Add, after as after_call}
 use Rattle.law_node.proofs.Living.{added}
-use Rattle.promises.specs.Records.{told_by}
+use Rattle.promises.specs.Records.{events_of}
 use Rattle.law_air.specs.AnyCalls.Runs.{Step, Run, step, emptied, goes as run_goes, goes_on as run_on}
 use Rattle.law_deliver.specs.AmFlow.Air.{Air, outset, HasCome}
-use Rattle.law_words.specs.Arrivals.{Happening}
+use Rattle.law_words.specs.Arrivals.{AccountEntry}
 use Rattle.law_deliver.specs.AmChannel.Lives.{lives, end_at}
 use Rattle.law_air.specs.TwoEnds.Arrival.{told_by_step}
 use Rattle.law_air.specs.TwoEnds.Coming.{none_yet}
@@ -41,7 +41,7 @@ both_have l k nb ue Nb = nb
 both_have l k nb ue Ue = ue
 
 pub ends_live : (l : ℕ) (nb ue : End) (told : List Record) (submitted : Side → ℕ → List (List ℕ)) (said : ℕ → Side
-    → List Happening) (set : Bool) (k m : Link)
+    → List AccountEntry) (set : Bool) (k m : Link)
     → m.nb ≡ k.nb → m.ue ≡ k.ue → m.ttis ≡ k.ttis → Lived l nb ue told submitted said set k
     → Lived l nb ue told submitted said set m
 ends_live l nb ue told submitted said set k m nb_is ue_is ttis_is h = record {
@@ -99,7 +99,7 @@ pub keeps_at : (l : ℕ) (side : Side) (k : Link) (a : Air) → IsOn k a → Has
 keeps_at l side k a h b = record { come = on_come side k a h; bearer = subst (HasBearer l) (sym (on_end side k a h)) b }
 
 pub steps_live : (l : ℕ) (nb ue : End) (told : List Record) (submitted : Side → ℕ → List (List ℕ)) (said : ℕ → Side
-    → List Happening) (set : Bool) (s : Step) (k : Link) → IsStepSince l s → Lived l nb ue told submitted said set k
+    → List AccountEntry) (set : Bool) (s : Step) (k : Link) → IsStepSince l s → Lived l nb ue told submitted said set k
     → LivesOn l nb ue told submitted said set s k
 steps_live l nb ue told submitted said set s k g h =
     let a = outset nb ue in
@@ -122,13 +122,13 @@ steps_live l nb ue told submitted said set s k g h =
 
 -- the same records and SDUs in another form
 lived_as : (l : ℕ) (nb ue : End) (f g : List Record) (x y : Side → ℕ → List (List ℕ)) (s t : ℕ → Side
-    → List Happening) (b c : Bool) (k : Link) → f ≡ g → ((side : Side) (n : ℕ) → x side n ≡ y side n)
+    → List AccountEntry) (b c : Bool) (k : Link) → f ≡ g → ((side : Side) (n : ℕ) → x side n ≡ y side n)
     → ((bits : ℕ) (from : Side) → s bits from ≡ t bits from) → b ≡ c → Lived l nb ue f x s b k → Lived l nb ue g y t c k
 lived_as l nb ue f g x y s t b c k told same alike on h = record {
   by = record {
     steps = h.by.steps;
     living = h.by.living;
-    told_is = λ side. ap (told_by side) (sym told) ∙ h.by.told_is side;
+    told_is = λ side. ap (events_of side) (sym told) ∙ h.by.told_is side;
     submitted_is = λ side n. h.by.submitted_is side n ∙ same side n;
     happened_is = λ bits from. h.by.happened_is bits from ∙ alike bits from;
     sets_none = λ off. h.by.sets_none (on ∙ off);
@@ -146,7 +146,7 @@ any_more true y z = refl
 any_more false y z = refl
 
 pub runs_live : (l : ℕ) (nb ue : End) (told : List Record) (submitted : Side → ℕ → List (List ℕ)) (said : ℕ → Side
-    → List Happening) (set : Bool) (ss : List Step) (r : Run)
+    → List AccountEntry) (set : Bool) (ss : List Step) (r : Run)
     → AreStepsSince l ss → r.link.out ≡ [] → Lived l nb ue told submitted said set r.link
     → RunsOn l nb ue told submitted said set ss r
 runs_live l nb ue told submitted said set [] r g none_yet h = record {
@@ -164,7 +164,7 @@ runs_live l nb ue told submitted said set (s ∷ ss) r g none_yet h =
     let all : m.out ≡ x.more = x.out_is ∙ ap (λ (o : List Record). o ++ x.more) none_yet in
     let before : Side → ℕ → List (List ℕ) =
     λ side n. submitted side n ++ (handed_in side n s k ++ looped_at side n x.more) in
-    let heard : ℕ → Side → List Happening = λ bits from. said bits from ++ told_by_step bits l from s x.more in
+    let heard : ℕ → Side → List AccountEntry = λ bits from. said bits from ++ told_by_step bits l from s x.more in
     let sets_yet = set || sets l s in
     let q = run_goes s r in
     let rest = runs_live l nb ue (told ++ x.more) before heard sets_yet ss q g.1 refl

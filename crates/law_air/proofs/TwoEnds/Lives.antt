@@ -18,7 +18,7 @@ use Rattle.l2_types.specs.declared.side.Side.{Side}
 use Rattle.l2_types.specs.declared.side.Side.TheVariants.{Nb, Ue}
 use Rattle.law_node.specs.Bearers.{adds}
 use Rattle.law_node.specs.Calls.{Call as EndCall, Add, Submit, IsGiven as IsGivenTo, AreGiven as AreGivenTo}
-use Rattle.law_node.specs.Calls.{after as after_call, run as run_end}
+use Rattle.law_node.specs.Calls.{after as after_call, run_end}
 use Rattle.law_node.proofs.Living.{go_on, reached_side, added}
 use Rattle.law_air.specs.AnyCalls.Calls.{Call, Bears, Discards, Visits, Reports, Listens, Loops, Expires, Forges}
 use Rattle.law_air.specs.AnyCalls.Calls.{HandsOver, ReceiversExpire, SendersExpire, after}

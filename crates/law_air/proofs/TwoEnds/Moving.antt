@@ -16,7 +16,7 @@ use Rattle.l2_types.specs.declared.side.Side.{Side}
 use Rattle.l2_types.specs.declared.side.Side.TheVariants.{Nb, Ue}
 use Rattle.law_node.specs.Calls.{Move, after as after_call}
 use Rattle.law_node.proofs.Looping.{tells_no_loop}
-use Rattle.promises.specs.Records.{told_by}
+use Rattle.promises.specs.Records.{events_of}
 use Rattle.law_air.proofs.AnyCalls.Going.{told_both, own_told, other_told, Seen, seen, behind, told_seen}
 use Rattle.um_losses.specs.Names.{Place, Happening as What, begins_anew}
 use Rattle.um_losses.specs.Told.{told_in, place_behind}
@@ -26,10 +26,11 @@ use Rattle.law_deliver.proofs.AmFlow.Stations.{come_more}
 use Rattle.promises.specs.Flows.{loops_in}
 use Rattle.law_air.specs.TwoEnds.Shown.{IsShown}
 use Rattle.law_air.specs.TwoEnds.On.{until, block_at, IsStation}
-use Rattle.law_words.specs.Arrivals.{Happening}
+use Rattle.law_words.specs.Arrivals.{AccountEntry}
 use Rattle.law_node.proofs.Silences.{writes_nothing}
-use Rattle.promises.specs.Arrival.{tells_in}
-use Rattle.law_air.proofs.TwoEnds.Going.{moving, Any, Renewed, last_in, TellNoAir, tells_more, goes_move, move_whats}
+use Rattle.promises.specs.Arrival.{entries_in}
+use Rattle.law_air.proofs.TwoEnds.Going.{moving, Any, Renewed, last_in, TellNoAir, tells_more}
+use Rattle.law_air.proofs.TwoEnds.Steps.{goes_move, move_whats}
 use Rattle.law_air.proofs.TwoEnds.Showing.{in_both, events_own, events_hidden}
 use Rattle.law_air.proofs.TwoEnds.Resting.{loops_rests}
 use Rattle.law_air.proofs.TwoEnds.Stages.{Both, StageBehind, stages_then, quiet_events, Stands, events_unlooped}
@@ -83,7 +84,7 @@ moved_stands side w t s keys h =
 
 both_quiet : (f g : List Record) → TellNoAir f → TellNoAir g → TellNoAir (f ++ g)
 both_quiet f g p q bits l from sent = tells_more bits l from sent f g
-    ∙ (ap (λ (hs : List Happening). hs ++ tells_in bits l from (last_in f sent) g) (p bits l from sent)
+    ∙ (ap (λ (hs : List AccountEntry). hs ++ entries_in bits l from (last_in f sent) g) (p bits l from sent)
     ∙ q bits l from (last_in f sent))
 
 -- what they hand up as they leave is told
@@ -95,8 +96,8 @@ moved_link keys k = tells_all Ue (leaving k.ue) (tells_all Nb (leaving k.nb) (mo
 
 pub record Moved (keys : Keys) (k : Link) (t : ℕ) (a : Air) : Type 0 where
   pub out_is : (moved_link keys k).out ≡ k.out ++ left_told k
-  pub nb_told : told_by Nb (left_told k) ≡ leaving a.nb.end
-  pub ue_told : told_by Ue (left_told k) ≡ leaving a.ue.end
+  pub nb_told : events_of Nb (left_told k) ≡ leaving a.nb.end
+  pub ue_told : events_of Ue (left_told k) ≡ leaving a.ue.end
   pub unlooped : (i : ℕ) → loops_in i (left_told k) ≡ []
   pub unflown : TellNoAir (left_told k)
   pub stays : (l : ℕ) → StayShown l k (moved_link keys k)

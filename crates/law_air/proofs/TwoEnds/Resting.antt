@@ -42,13 +42,14 @@ use Rattle.law_air.specs.TwoEnds.Going.{handed_in}
 use Rattle.promises.specs.Flows.{looped_at}
 use Rattle.um_losses.specs.Names.{Place}
 use Rattle.um_losses.specs.Told.{told_in}
-use Rattle.law_air.proofs.TwoEnds.Going.{Marks, Says, IsPlayed, none, by_sides, call_whats}
+use Rattle.law_air.proofs.TwoEnds.Going.{Marks, none}
+use Rattle.law_air.proofs.TwoEnds.Steps.{Says, IsPlayed, by_sides, call_whats}
 use Rattle.law_node.specs.Writing.{TellNone}
 use Rattle.law_node.proofs.Silences.{writes_nothing}
 use Rattle.bearer_types.specs.declared.event.Event.TheVariants.{Drop}
 use Rattle.l2_types.specs.declared.event.Lost.TheVariants as losts
 use Rattle.promises.specs.Events.{told_on}
-use Rattle.promises.specs.Given.{gives}
+use Rattle.promises.specs.Given.{entries_given}
 use Rattle.law_air.proofs.TwoEnds.Stages.{says_so, none_flown, none_if as hushed, unwritten, quiet_events, Stands}
 use Rattle.law_air.proofs.TwoEnds.Stages.{Hands, hands_none, Rests, rests_then, events_unlooped, says_stage, says_rests}
 use Rattle.law_air.proofs.TwoEnds.Stages.{still_rests, IsPlain, says_nothing, shows_nothing, shows_events, called_nb}
@@ -175,7 +176,7 @@ module _ (l : ℕ) (set : Marks) where
   loses_rests : (lcid : ℕ) (k : Link) → Rests l set k (loses lcid k)
   loses_rests lcid k =
       says_rests l set _ k
-      (λ bits m from sent. hushed (is_same Ue from) (gives bits (told_on m (dropped lcid ∷ [])))
+      (λ bits m from sent. hushed (is_same Ue from) (entries_given bits (told_on m (dropped lcid ∷ [])))
       (unwritten bits m (dropped lcid) refl)) refl refl (λ n. refl) (λ c. refl)
 
   returns_by_rests : (r : Option SubmitRefusal) (lcid : ℕ) (octets : List ℕ) (k : Link) → refusal lcid octets k.ue ≡ r

@@ -47,7 +47,8 @@ use Rattle.um_losses.specs.Records.{passed, change_of}
 use Rattle.um_losses.specs.Told.{picked, told_in, place_behind, block_place, sdu_place}
 use Rattle.law_deliver.specs.UmGaps.Whats.{expiry_in, expiries, as_written, written, built as built_whats}
 use Rattle.law_air.specs.TwoEnds.Shown.{IsShown}
-use Rattle.law_air.proofs.TwoEnds.Going.{Whats, call_whats}
+use Rattle.law_air.proofs.TwoEnds.Going.{Whats}
+use Rattle.law_air.proofs.TwoEnds.Steps.{call_whats}
 use Rattle.law_air.proofs.TwoEnds.Stations.{come_eight}
 
 -- ---- records, and then others

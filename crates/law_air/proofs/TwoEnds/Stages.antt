@@ -17,9 +17,9 @@ use Rattle.law_node.specs.Calls.{Call as EndCall, SetVisits, SetReports, Add, Su
 use Rattle.law_node.specs.Calls.{Visits, Grants, Granted, Assigned, Pass, Receive, Expire, Move, IsGiven as IsGivenTo}
 use Rattle.law_node.specs.Calls.{after as after_call}
 use Rattle.law_node.specs.Telling.{told_of}
-use Rattle.promises.specs.Records.{is_looped, event_of, told_by, sdu_of, sent_last}
-use Rattle.law_words.specs.Arrivals.{Given, Happening}
-use Rattle.promises.specs.Given.{given_in, giving, gives}
+use Rattle.promises.specs.Records.{is_looped, event_of, events_of, sdu_of, sent_last}
+use Rattle.law_words.specs.Arrivals.{Given, AccountEntry}
+use Rattle.promises.specs.Given.{given_in, entries_of, entries_given}
 use Rattle.promises.specs.Events.{is_on, told_on, is_of_writing}
 use Rattle.law_deliver.specs.AmChannel.Arrival.{said_in, heard_in}
 use Rattle.bearer_types.specs.declared.event.Event.TheVariants as events
@@ -34,12 +34,15 @@ use Rattle.law_deliver.specs.UmGaps.Whats.{sent_in, expiries}
 use Rattle.promises.specs.Flows.{loops_in, looped_at}
 use Rattle.law_air.specs.TwoEnds.Shown.{IsShown}
 use Rattle.law_air.specs.TwoEnds.On.{IsStation}
-use Rattle.promises.specs.Arrival.{only_if, tells_at, tells_in}
+use Rattle.promises.specs.Arrival.{only_if, entries_at, entries_in}
 use Rattle.law_air.proofs.TwoEnds.Showing.{in_then, behind_then as place_then, events_own, events_hidden}
 use Rattle.law_air.proofs.TwoEnds.Going.{Marks, station, with_station, Behind, Any, Block', Renewed, Unread, Fits, IsAt}
-use Rattle.law_air.proofs.TwoEnds.Going.{ended, first_whats, last_in, Whats, no_whats, call_whats, GoesBehind, Goes}
-use Rattle.law_air.proofs.TwoEnds.Going.{TellNoAir, Says, IsPlayed, none, by_sides, weaken, behind_then, goes_as}
-use Rattle.law_air.proofs.TwoEnds.Going.{goes_none, goes_call}
+use Rattle.law_air.proofs.TwoEnds.Going.{ended, first_whats, last_in, Whats, no_whats, GoesBehind, Goes}
+use Rattle.law_air.proofs.TwoEnds.Steps.{call_whats}
+use Rattle.law_air.proofs.TwoEnds.Going.{TellNoAir, none, weaken, behind_then, goes_as}
+use Rattle.law_air.proofs.TwoEnds.Steps.{Says, IsPlayed, by_sides}
+use Rattle.law_air.proofs.TwoEnds.Going.{goes_none}
+use Rattle.law_air.proofs.TwoEnds.Steps.{goes_call}
 use Rattle.law_air.proofs.TwoEnds.Stations.{Moment, Waits, Done, wait, IsIdle, station_goes}
 
 -- ---- a link on its way, and its air
@@ -215,7 +218,7 @@ StayShown l k m = (bits : ℕ) → IsShown l bits k.kinds → IsShown l bits m.k
 told_stage : (l : ℕ) (set : Marks) (c d : Behind) (told : List Record) (k m : Link) (P Q : Station → Type 0)
     → ended c ≡ [] → ((sent : List ℕ) → Fits c sent → Fits d (last_in told sent))
     → ((p : Place) → IsAt c p → IsAt d (place_behind p told)) → TellNoAir told
-    → m.nb ≡ k.nb → m.ue ≡ k.ue → m.out ≡ k.out ++ told → ((side : Side) → told_by side told ≡ [])
+    → m.nb ≡ k.nb → m.ue ≡ k.ue → m.out ≡ k.out ++ told → ((side : Side) → events_of side told ≡ [])
     → ((n : ℕ) → loops_in n told ≡ []) → StayShown l k m → ((d : Direction) (p : Place) → told_in d l p told ≡ [])
     → StageBehind l set c d P Q P Q k m
 told_stage l set c d told k m P Q open' left stands unflown nb ue out untold unlooped stays still a h = record {
@@ -233,7 +236,7 @@ told_stage l set c d told k m P Q open' left stands unflown nb ue out untold unl
 
 -- a record that tells of nothing that goes by air
 abbrev pub IsNoAir : Record → Type 0
-IsNoAir one = (bits l : ℕ) (from : Side) (sent : List ℕ) → tells_at bits l from sent one ≡ []
+IsNoAir one = (bits l : ℕ) (from : Side) (sent : List ℕ) → entries_at bits l from sent one ≡ []
 
 abbrev pub IsNoChange : Record → Type 0
 IsNoChange one = (p : Place) → change_of one p ≡ None
@@ -243,8 +246,8 @@ pub says_behind : (l : ℕ) (set : Marks) (c : Behind) (one : Record) (k : Link)
     → StageBehind l set c Any P Q P Q k (says one k)
 says_behind l set c one k P Q open' unflown nb ue unlooped still =
     told_stage l set c Any (one ∷ []) k (says one k) P Q open' (λ sent fits. tt) (λ p at. tt)
-    (λ bits m from sent. ap (λ (hs : List Happening). hs ++ []) (unflown bits m from sent)) refl refl refl
-    (by_sides (λ side. told_by side (one ∷ []) ≡ []) (ap (λ (es : List Event). es ++ []) nb)
+    (λ bits m from sent. ap (λ (hs : List AccountEntry). hs ++ []) (unflown bits m from sent)) refl refl refl
+    (by_sides (λ side. events_of side (one ∷ []) ≡ []) (ap (λ (es : List Event). es ++ []) nb)
     (ap (λ (es : List Event). es ++ []) ue))
     (λ n. unlooped_by n one [] (unlooped n) refl) (λ bits s. s) (λ d p. ap (λ o. picked d l o ++ []) (still p))
 
@@ -392,7 +395,8 @@ plain_hears l e (Move keys) p = refl
 -- records of a plain call that tell nothing of the air
 pub says_so : (side : Side) (told : List Record) (given : Side → ℕ → List (List ℕ)) (e : End) (c : EndCall)
     → IsPlain c → keys_in c ≡ [] → TellNoAir told
-    → told_by side told ≡ told_of e c → told_by (other side) told ≡ [] → ((n : ℕ) → submitted_in n e c ≡ given side n)
+    → events_of side told ≡ told_of e c → events_of (other side) told ≡ []
+    → ((n : ℕ) → submitted_in n e c ≡ given side n)
     → ((n : ℕ) → [] ≡ given (other side) n) → Says side told given e c
 says_so side told given e c plain stays unflown own far submits rests = record {
   told_is = own;
@@ -511,16 +515,16 @@ called_rests l set Ue c told handed k m life x n u = called_ue l set c told hand
 
 -- they are of no writing
 unwritten_if : (b : Bool) (bits : ℕ) (e : Event) → flat_map (given_in bits) (e ∷ []) ≡ []
-    → gives bits (cond b (e ∷ []) []) ≡ []
-unwritten_if true bits e q = ap (λ (gs : List Given). giving gs) q
+    → entries_given bits (cond b (e ∷ []) []) ≡ []
+unwritten_if true bits e q = ap (λ (gs : List Given). entries_of gs) q
 unwritten_if false bits e q = refl
 
-pub unwritten : (bits l : ℕ) (e : Event) → is_of_writing e ≡ false → gives bits (told_on l (e ∷ [])) ≡ []
+pub unwritten : (bits l : ℕ) (e : Event) → is_of_writing e ≡ false → entries_given bits (told_on l (e ∷ [])) ≡ []
 unwritten bits l (events.Take lcid count len) q = cc
 unwritten bits l (events.Report lcid fms bitmap) q = cc
 unwritten bits l e q = unwritten_if (is_on l e) bits e refl
 
-pub none_if : (b : Bool) (hs : List Happening) → hs ≡ [] → only_if b hs ≡ []
+pub none_if : (b : Bool) (hs : List AccountEntry) → hs ≡ [] → only_if b hs ≡ []
 none_if true hs q = q
 none_if false hs q = refl
 
@@ -530,9 +534,9 @@ quiet_events side (e ∷ es) q bits l from sent =
     by (is_of_writing e) refl q (λ r. quiet_events side es r bits l from sent)
   where
     by : (b : Bool) → is_of_writing e ≡ b → cond b (e ∷ filter is_of_writing es) (filter is_of_writing es) ≡ []
-        → (TellNone es → tells_in bits l from sent (map (records.Of side) es) ≡ [])
-        → tells_in bits l from sent (map (records.Of side) (e ∷ es)) ≡ []
+        → (TellNone es → entries_in bits l from sent (map (records.Of side) es) ≡ [])
+        → entries_in bits l from sent (map (records.Of side) (e ∷ es)) ≡ []
     by true p r rest = cc
     by false p r rest =
-        ap (λ (hs : List Happening). hs ++ tells_in bits l from sent (map (records.Of side) es))
-        (none_if (is_same side from) (gives bits (told_on l (e ∷ []))) (unwritten bits l e p)) ∙ rest r
+        ap (λ (hs : List AccountEntry). hs ++ entries_in bits l from sent (map (records.Of side) es))
+        (none_if (is_same side from) (entries_given bits (told_on l (e ∷ []))) (unwritten bits l e p)) ∙ rest r

@@ -10,10 +10,10 @@ use Rattle.l2_node.specs.End.{End}
 use Rattle.l2_types.specs.declared.side.Side.{Side}
 use Rattle.law_node.specs.Calls.{Add, Move, after as after_call}
 use Rattle.law_air.specs.AnyCalls.Calls.{Bears, HandsOver}
-use Rattle.promises.specs.Records.{told_by}
+use Rattle.promises.specs.Records.{events_of}
 use Rattle.law_air.specs.AnyCalls.Runs.{Step, Calls, step}
 use Rattle.law_deliver.specs.AmFlow.Air.{Air, outset}
-use Rattle.law_words.specs.Arrivals.{Happening}
+use Rattle.law_words.specs.Arrivals.{AccountEntry}
 use Rattle.law_deliver.specs.AmChannel.Arrival.{happened}
 use Rattle.law_deliver.specs.AmChannel.Lives.{lives}
 use Rattle.law_air.specs.TwoEnds.Arrival.{told_by_step}
@@ -22,7 +22,7 @@ use Rattle.law_air.specs.TwoEnds.Going.{handed_in, sets, TellAlone, GoesByAir, I
 use Rattle.promises.specs.Flows.{looped_at}
 use Rattle.law_air.specs.TwoEnds.Lives.{IsAtRest}
 use Rattle.law_air.specs.TwoEnds.On.{IsOn}
-use Rattle.law_air.specs.TwoEnds.Staying.{AreInLife, hands_over, MovesOn}
+use Rattle.law_air.specs.TwoEnds.Staying.{AreInLife, is_handover_step, MovesOn}
 use Rattle.law_air.proofs.TwoEnds.Advancing.{steps_stay, handovers_move}
 use Rattle.law_air.proofs.TwoEnds.Going.{setting, Unread, Whats, GoesBehind, behind_then}
 use Rattle.law_air.proofs.TwoEnds.Coming.{either_off, same_on}
@@ -31,7 +31,7 @@ use Rattle.law_air.proofs.TwoEnds.Lives.{calls_rest}
 -- since both ends were these, in one life, a link has come by air to what it is
 pub record LivedIn (l : ℕ) (nb ue : End) (told : List Record) (submitted : Side → ℕ
     → List (List ℕ)) (set : Bool) (k : Link) : Type 0 where
-  pub said : ℕ → Side → List Happening
+  pub said : ℕ → Side → List AccountEntry
   pub by : GoesByAir l told submitted said set k (outset nb ue)
   pub in_life : AreInLife by.steps
 
@@ -65,7 +65,7 @@ lived_in_as l nb ue f g x y b c k told same on h = record {
   by = record {
     steps = h.by.steps;
     living = h.by.living;
-    told_is = λ side. ap (told_by side) (sym told) ∙ h.by.told_is side;
+    told_is = λ side. ap (events_of side) (sym told) ∙ h.by.told_is side;
     submitted_is = λ side n. h.by.submitted_is side n ∙ same side n;
     happened_is = h.by.happened_is;
     sets_none = λ off. h.by.sets_none (on ∙ off);
@@ -88,7 +88,7 @@ abbrev Goes : ℕ → Bool → List Record → (Side → ℕ → List (List ℕ)
 Goes l set told given ws a b = GoesBehind l (setting set) Unread told given ws a b
 
 goes_in : (l : ℕ) (told : List Record) (submitted : Side → ℕ → List (List ℕ)) (said : ℕ → Side
-    → List Happening) (set whole : Bool) (m : Link) (a : Air) (x : GoesByAir l told submitted said set m a)
+    → List AccountEntry) (set whole : Bool) (m : Link) (a : Air) (x : GoesByAir l told submitted said set m a)
     → AreInLife x.steps
     → (whole ≡ false → set ≡ false)
     → Goes l whole told submitted (λ bits from. whats from l bits x.steps a) a (lives x.steps a)
@@ -123,7 +123,7 @@ lived_by l nb ue told submitted set m {ws} b x on = record {
 }
 
 pub steps_live_in : (l : ℕ) (nb ue : End) (told : List Record) (submitted : Side → ℕ
-    → List (List ℕ)) (set : Bool) (s : Step) (k : Link) → IsStepSince l s → hands_over s ≡ false
+    → List (List ℕ)) (set : Bool) (s : Step) (k : Link) → IsStepSince l s → is_handover_step s ≡ false
     → LivedIn l nb ue told submitted set k → LivesOnIn l nb ue told submitted set s k
 steps_live_in l nb ue told submitted set s k g own h =
     let a = outset nb ue in

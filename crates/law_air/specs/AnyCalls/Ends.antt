@@ -19,12 +19,12 @@ use Rattle.l2_node.specs.Building.{IsEnough, visit, built, building}
 use Rattle.l2_node.specs.End.{End}
 use Rattle.l2_types.specs.declared.side.Side.{Side}
 use Rattle.l2_types.specs.declared.side.Side.TheVariants.{Nb, Ue}
-use Rattle.law_node.specs.Calls.{Call as EndCall, Add, Move, AreGiven, run as run_end}
+use Rattle.law_node.specs.Calls.{Call as EndCall, Add, Move, AreGiven, run_end}
 use Rattle.law_node.specs.Telling.{told_over}
 use Rattle.promises.specs.Events.{is_of_writing}
 use Rattle.pdu_show.specs.declared.kinds.Layout.{Layout}
 use Rattle.law_air.specs.AnyCalls.Calls.{Call, Bears, Visits, HandsOver, after}
-use Rattle.promises.specs.Records.{told_by, is_of_building}
+use Rattle.promises.specs.Records.{events_of, is_of_building}
 use Rattle.promises.specs.Built.{block_told}
 use Rattle.promises.specs.Blocks.{with_bearer}
 use Rattle.l2_types.specs.declared.limits.TheConstants.{GREATEST_GRANT}
@@ -36,7 +36,7 @@ pub record ByCalls (side : Side) (told : List Record) (before after' : End) : Ty
   pub calls : List EndCall
   pub given : AreGiven calls
   pub end_is : after' ≡ run_end calls before
-  pub told_is : told_by side told ≡ told_over calls before
+  pub told_is : events_of side told ≡ told_over calls before
 
 -- ---- the lives of its bearers
 

@@ -12,7 +12,7 @@ use Rattle.air_link.specs.Lines.{submitting}
 use Rattle.air_link.specs.Link.{Link, fresh}
 use Rattle.air_link.specs.Ttis.{tti}
 use Rattle.law_air.specs.AnyCalls.Calls.{Call, Loops, after}
-use Rattle.promises.specs.Loops.{ArePart, gone_up, returned, on, drops}
+use Rattle.promises.specs.Loops.{ArePart, gone_up, returned, item_count, drop_count}
 
 -- ---- what records tell of the loop
 
@@ -23,8 +23,8 @@ pub record ComeBack (mode : Mode) (before after' : List Item) (told : List Recor
   pub each : (n : ℕ) → ArePart (returned (take n told)) (before ++ gone_up mode (take n told))
   pub whole : ArePart (returned told ++ after') (before ++ gone_up mode told)
   -- of each of the others it is told that it finds no place
-  pub others : (lcid : ℕ) → on lcid before + on lcid (gone_up mode told)
-      ≤ (on lcid (returned told) + drops lcid told) + on lcid after'
+  pub others : (lcid : ℕ) → item_count lcid before + item_count lcid (gone_up mode told)
+      ≤ (item_count lcid (returned told) + drop_count lcid told) + item_count lcid after'
 
 -- between calls no SDU waits for the loop, and it keeps some only in a mode with a delay
 pub record IsAtRest (l : Link) : Type 0 where

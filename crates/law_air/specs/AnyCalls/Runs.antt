@@ -58,8 +58,8 @@ abbrev pub goes_on : List Step → Run → Run
 goes_on [] r = r
 goes_on (s ∷ ss) r = goes_on ss (goes s r)
 
-abbrev pub run : List Step → Run
-run ss = goes_on ss (record { link = fresh; journal = []; given = λ side k. 0 })
+abbrev pub run_of : List Step → Run
+run_of ss = goes_on ss (record { link = fresh; journal = []; given = λ side k. 0 })
 
 -- a table of the LCIDs 0 to 10
 pub record IsTable (by : ℕ → ℕ) (table : List ℕ) : Type 0 where
@@ -77,4 +77,4 @@ pub record IsCounted (r : Run) : Type 0 where
   pub numbered : filter is_of_run r.journal ≡ map records.Tti (range_with_len 0 r.link.ttis)
 
 abbrev pub RunsAreCounted : Type 0
-RunsAreCounted = (ss : List Step) → IsCounted (run ss)
+RunsAreCounted = (ss : List Step) → IsCounted (run_of ss)

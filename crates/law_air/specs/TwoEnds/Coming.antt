@@ -12,7 +12,7 @@ use Rattle.law_node.specs.Calls.{Add, after as after_call}
 use Rattle.bearer_types.specs.Sides.{sent_by}
 use Rattle.law_air.specs.AnyCalls.Runs.{Step, step}
 use Rattle.law_deliver.specs.AmFlow.Air.{Air, outset}
-use Rattle.law_words.specs.Arrivals.{Happening}
+use Rattle.law_words.specs.Arrivals.{AccountEntry}
 use Rattle.law_deliver.specs.AmChannel.Lives.{AirStep}
 use Rattle.um_losses.specs.Names.{Place}
 use Rattle.um_losses.specs.Told.{told_in}
@@ -42,7 +42,7 @@ BearersComeByAir = (config : BearerConfig) (keys : Keys) (k : Link) → IsConfig
 -- the PDUs of the channel are shown as those of unacknowledged RLC, the records tell what the steps
 -- more are to a flow from each side
 pub record ComesOn (l : ℕ) (told : List Record) (submitted : Side → ℕ → List (List ℕ)) (said : ℕ
-    → Side → List Happening) (set : Bool) (s : Step) (k : Link) (a : Air)
+    → Side → List AccountEntry) (set : Bool) (s : Step) (k : Link) (a : Air)
     (before : GoesByAir l told submitted said set k a) : Type 0 where
   pub more : List Record
   pub out_is : (step s k).out ≡ k.out ++ more
@@ -58,20 +58,20 @@ pub record ComesOn (l : ℕ) (told : List Record) (submitted : Side → ℕ → 
 
 abbrev pub StepsComeByAir : Type 0
 StepsComeByAir = (l : ℕ) (told : List Record) (submitted : Side → ℕ → List (List ℕ)) (said : ℕ
-    → Side → List Happening) (set : Bool) (s : Step) (k : Link) (a : Air)
+    → Side → List AccountEntry) (set : Bool) (s : Step) (k : Link) (a : Air)
     → IsStepSince l s → (before : GoesByAir l told submitted said set k a)
     → ComesOn l told submitted said set s k a before
 
 -- nothing of a link matters but its ends and its TTIs so far
 pub record ComesAs (l : ℕ) (told : List Record) (submitted : Side → ℕ → List (List ℕ)) (said : ℕ
-    → Side → List Happening) (set : Bool) (m : Link) (a : Air) (steps : List AirStep) : Type 0
+    → Side → List AccountEntry) (set : Bool) (m : Link) (a : Air) (steps : List AirStep) : Type 0
   where
     pub by : GoesByAir l told submitted said set m a
     pub same : by.steps ≡ steps
 
 abbrev pub EndsComeByAir : Type 0
 EndsComeByAir = (l : ℕ) (told : List Record) (submitted : Side → ℕ → List (List ℕ)) (said : ℕ
-    → Side → List Happening) (set : Bool) (k m : Link) (a : Air)
+    → Side → List AccountEntry) (set : Bool) (k m : Link) (a : Air)
     → m.nb ≡ k.nb → m.ue ≡ k.ue → m.ttis ≡ k.ttis
     → (before : GoesByAir l told submitted said set k a)
     → ComesAs l told submitted said set m a before.steps

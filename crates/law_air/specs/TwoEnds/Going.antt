@@ -9,15 +9,15 @@ use Rattle.l2_node.specs.Submitting.{refusal}
 use Rattle.l2_types.specs.declared.side.Side.{Side}
 use Rattle.law_node.specs.Telling.{told_over}
 use Rattle.law_air.specs.AnyCalls.Calls.{Call, Bears, Discards, Visits, Forges}
-use Rattle.promises.specs.Records.{told_by}
+use Rattle.promises.specs.Records.{events_of}
 use Rattle.law_air.specs.AnyCalls.Runs.{Step, Tti, Drains, Submit, Calls, step}
 use Rattle.law_deliver.specs.AmFlow.Air.{Air}
-use Rattle.law_words.specs.Arrivals.{Happening}
+use Rattle.law_words.specs.Arrivals.{AccountEntry}
 use Rattle.law_deliver.specs.AmChannel.Arrival.{happened}
 use Rattle.law_deliver.specs.AmChannel.Delivery.{accepted, was_submitted, SetNone}
 use Rattle.law_deliver.specs.AmChannel.Lives.{AirStep, AreLiving, lives, end_at, all_calls}
 use Rattle.law_air.specs.TwoEnds.Arrival.{told_by_step}
-use Rattle.promises.specs.Arrival.{tells_in}
+use Rattle.promises.specs.Arrival.{entries_in}
 use Rattle.um_losses.specs.Names.{Place}
 use Rattle.um_losses.specs.Told.{told_in}
 use Rattle.law_deliver.specs.UmGaps.Whats.{whats}
@@ -47,17 +47,17 @@ sets l s = false
 -- what records tell of the air, whichever block was sent before them
 abbrev pub TellAlone : ℕ → List Record → Type 0
 TellAlone l told = (bits : ℕ) (from : Side) (sent : List ℕ)
-    → tells_in bits l from sent told ≡ tells_in bits l from [] told
+    → entries_in bits l from sent told ≡ entries_in bits l from [] told
 
 -- steps that keep what is asked in lives of the channel's bearers bring the ends to those of a
 -- link; the records tell of each end exactly what it tells in its calls, in these it is submitted
 -- exactly those SDUs on each channel, just so much is told of what goes from a side on the channel,
 -- and no discard timer is set on it where `set` is false
 pub record GoesByAir (l : ℕ) (told : List Record) (submitted : Side → ℕ → List (List ℕ)) (said : ℕ
-    → Side → List Happening) (set : Bool) (m : Link) (a : Air) : Type 0 where
+    → Side → List AccountEntry) (set : Bool) (m : Link) (a : Air) : Type 0 where
   pub steps : List AirStep
   pub living : AreLiving l a steps
-  pub told_is : (side : Side) → told_by side told
+  pub told_is : (side : Side) → events_of side told
       ≡ told_over (all_calls side steps a) (end_at side a)
   pub submitted_is : (side : Side) (n : ℕ)
       → was_submitted n (all_calls side steps a) (end_at side a) ≡ submitted side n

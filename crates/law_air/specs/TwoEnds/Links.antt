@@ -10,7 +10,7 @@ use Rattle.eps_sec.specs.declared.Keys.{Keys}
 use Rattle.law_node.specs.Holding.{flow}
 use Rattle.law_air.specs.AnyCalls.Calls.{Call, Bears}
 use Rattle.law_air.specs.AnyCalls.Ends.{IsGiven}
-use Rattle.law_air.specs.AnyCalls.Runs.{Step, Calls, run}
+use Rattle.law_air.specs.AnyCalls.Runs.{Step, Calls, run_of}
 use Rattle.law_deliver.specs.AmFlow.Links.{IsFlowOn, AreOrdered}
 use Rattle.law_air.specs.TwoEnds.Lived.{IsAcknowledged, AreStepsSince}
 use Rattle.law_air.specs.TwoEnds.Lives.{IsFew}
@@ -20,7 +20,8 @@ AreCallsBefore [] = Unit {0}
 AreCallsBefore (c ∷ cs) = (IsGiven c × IsFew c) × AreCallsBefore cs
 
 abbrev pub link_since : List Call → BearerConfig → Keys → List Step → Link
-link_since before config keys ss = (run (map Calls before ++ (Calls (Bears config keys) ∷ ss))).link
+link_since before config keys ss =
+    (run_of (map Calls before ++ (Calls (Bears config keys) ∷ ss))).link
 
 abbrev pub IsRun : List Call → BearerConfig → List Step → Type 0
 IsRun before config ss = AreCallsBefore before × IsConfig config × IsAcknowledged config.kind

@@ -18,7 +18,7 @@ use Rattle.law_node.specs.Calls.{Add, after as after_call}
 use Rattle.law_node.specs.Holding.{flow}
 use Rattle.law_air.specs.AnyCalls.Runs.{Step, Run, step, goes, goes_on}
 use Rattle.law_deliver.specs.AmFlow.Air.{outset}
-use Rattle.law_words.specs.Arrivals.{Happening}
+use Rattle.law_words.specs.Arrivals.{AccountEntry}
 use Rattle.law_air.specs.TwoEnds.Arrival.{told_by_step}
 use Rattle.law_air.specs.TwoEnds.Coming.{none_yet}
 use Rattle.law_air.specs.TwoEnds.Going.{handed_in, sets, TellAlone, GoesByAir, IsStepSince}
@@ -34,14 +34,14 @@ pub record HasBearer (l : ℕ) (e : End) : Type 0 where
 -- since both ends were these a link has come by air, through lives, to what it is, and has the
 -- bearers still
 pub record Lived (l : ℕ) (nb ue : End) (told : List Record) (submitted : Side → ℕ
-    → List (List ℕ)) (said : ℕ → Side → List Happening) (set : Bool) (k : Link) : Type 0 where
+    → List (List ℕ)) (said : ℕ → Side → List AccountEntry) (set : Bool) (k : Link) : Type 0 where
   pub by : GoesByAir l told submitted said set k (outset nb ue)
   pub bearers : (side : Side) → HasBearer l (end_of side k)
 
 -- nothing else of a link matters
 abbrev pub EndsLive : Type 0
 EndsLive = (l : ℕ) (nb ue : End) (told : List Record) (submitted : Side → ℕ
-    → List (List ℕ)) (said : ℕ → Side → List Happening) (set : Bool) (k m : Link)
+    → List (List ℕ)) (said : ℕ → Side → List AccountEntry) (set : Bool) (k m : Link)
     → m.nb ≡ k.nb → m.ue ≡ k.ue → m.ttis ≡ k.ttis → Lived l nb ue told submitted said set k
     → Lived l nb ue told submitted said set m
 
@@ -68,7 +68,7 @@ BearersLive = (config : BearerConfig) (keys : Keys) (k : Link) → IsConfig conf
 -- ---- a step since
 
 pub record LivesOn (l : ℕ) (nb ue : End) (told : List Record) (submitted : Side → ℕ
-    → List (List ℕ)) (said : ℕ → Side → List Happening) (set : Bool) (s : Step) (k : Link) : Type
+    → List (List ℕ)) (said : ℕ → Side → List AccountEntry) (set : Bool) (s : Step) (k : Link) : Type
     0 where
   pub more : List Record
   pub out_is : (step s k).out ≡ k.out ++ more
@@ -80,7 +80,7 @@ pub record LivesOn (l : ℕ) (nb ue : End) (told : List Record) (submitted : Sid
 
 abbrev pub StepsLive : Type 0
 StepsLive = (l : ℕ) (nb ue : End) (told : List Record) (submitted : Side → ℕ
-    → List (List ℕ)) (said : ℕ → Side → List Happening) (set : Bool) (s : Step) (k : Link)
+    → List (List ℕ)) (said : ℕ → Side → List AccountEntry) (set : Bool) (s : Step) (k : Link)
     → IsStepSince l s → Lived l nb ue told submitted said set k
     → LivesOn l nb ue told submitted said set s k
 
@@ -96,7 +96,7 @@ submitted_in side n (s ∷ ss) r =
     (handed_in side n s r.link ++ looped_at side n (step s r.link).out)
     ++ submitted_in side n ss (goes s r)
 
-abbrev pub said_in : ℕ → ℕ → Side → List Step → Run → List Happening
+abbrev pub said_in : ℕ → ℕ → Side → List Step → Run → List AccountEntry
 said_in bits l from [] r = []
 said_in bits l from (s ∷ ss) r =
     told_by_step bits l from s (step s r.link).out ++ said_in bits l from ss (goes s r)
@@ -107,7 +107,7 @@ sets_in l [] = false
 sets_in l (s ∷ ss) = sets l s || sets_in l ss
 
 pub record RunsOn (l : ℕ) (nb ue : End) (told : List Record) (submitted : Side → ℕ
-    → List (List ℕ)) (said : ℕ → Side → List Happening) (set : Bool) (ss : List Step) (r : Run) :
+    → List (List ℕ)) (said : ℕ → Side → List AccountEntry) (set : Bool) (ss : List Step) (r : Run) :
     Type 0 where
   pub more : List Record
   pub journal_is : (goes_on ss r).journal ≡ r.journal ++ more
@@ -118,6 +118,6 @@ pub record RunsOn (l : ℕ) (nb ue : End) (told : List Record) (submitted : Side
 
 abbrev pub RunsLive : Type 0
 RunsLive = (l : ℕ) (nb ue : End) (told : List Record) (submitted : Side → ℕ
-    → List (List ℕ)) (said : ℕ → Side → List Happening) (set : Bool) (ss : List Step) (r : Run)
+    → List (List ℕ)) (said : ℕ → Side → List AccountEntry) (set : Bool) (ss : List Step) (r : Run)
     → AreStepsSince l ss → r.link.out ≡ [] → Lived l nb ue told submitted said set r.link
     → RunsOn l nb ue told submitted said set ss r

@@ -26,7 +26,7 @@ use Rattle.bearer.specs.Acknowledged.Hearing.{confirms, all_confirmed, status_wo
 use Rattle.law_bearer.specs.AmBearer.Deeds.{Deed, Sends, Confirms, HandsUp, does, does_all, go_up, hands_first}
 use Rattle.law_bearer.specs.AmBearer.Deeds.{confirms_first, raised_first, hears_one}
 use Rattle.law_bearer.specs.AmBearer.Calls.{IsIdle, only_if, settles, hands_up, settles_by, confirms_all, arrives}
-use Rattle.law_bearer.specs.AmBearer.Calls.{ups_in}
+use Rattle.law_bearer.specs.AmBearer.Calls.{ups_among}
 use Rattle.law_bearer.proofs.AmBearer.Ups.{does_then, ups_then, none_then, AreQuiet, quiet_then, quiet_each, quiet_up}
 use Rattle.law_bearer.proofs.AmBearer.Hearing.{hears_one_as, hearing_ups}
 use Rattle.law_bearer.proofs.AmBearer.Keeping.{settled_news}
@@ -39,7 +39,7 @@ standing w b r = with_work w (record b { rx = r })
 
 record Handed (sdus : List (List ℕ)) (w : Work) (b : State) (r : Receiver) : Type 0 where
   left : does_all (hands_up sdus w.pdcp) (standing w b r) ≡ standing (hears_all sdus w) b (all_handed r)
-  ups : ups_in w.events ++ go_up (hands_up sdus w.pdcp) (standing w b r) ≡ ups_in (hears_all sdus w).events
+  ups : ups_among w.events ++ go_up (hands_up sdus w.pdcp) (standing w b r) ≡ ups_among (hears_all sdus w).events
   raised : (hears_all sdus w).pdcp.rx.ready ≡ []
   news : (hears_all sdus w).tx.accounts.news ≡ w.tx.accounts.news
 
@@ -49,7 +49,7 @@ none_ready r q = subst (λ l. r ≡ record r { out = record r.out { ready = l } 
 none_handed : (w : Work) (b : State) (r : Receiver) → r.out.ready ≡ [] → w.pdcp.rx.ready ≡ [] → Handed [] w b r
 none_handed w b r q e = record {
   left = ap (λ (x : Receiver). standing w b x) (none_ready r q);
-  ups = append-nil (ups_in w.events);
+  ups = append-nil (ups_among w.events);
   raised = e;
   news = refl;
 }
@@ -58,23 +58,25 @@ none_handed w b r q e = record {
 abbrev one_heard : List ℕ → List Event → Work → Work
 one_heard sdu told w = work (hears_one sdu w.pdcp) w.tx (w.events ++ told)
 
-started_none : (lcid : ℕ) (b : Bool) → ups_in (started_told lcid b) ≡ []
+started_none : (lcid : ℕ) (b : Bool) → ups_among (started_told lcid b) ≡ []
 started_none lcid true = refl
 started_none lcid false = refl
 
 -- the SDUs that the first makes ready
-told_one : (before told : List Event) (raised more : List (List ℕ)) → ups_in told ≡ raised
-    → ups_in before ++ (raised ++ more) ≡ ups_in (before ++ told) ++ more
+told_one : (before told : List Event) (raised more : List (List ℕ)) → ups_among told ≡ raised
+    → ups_among before ++ (raised ++ more) ≡ ups_among (before ++ told) ++ more
 told_one before told raised more p =
-    sym (append_assoc (ups_in before) raised more)
-    ∙ ap (λ l. (ups_in before ++ l) ++ more) (sym p)
+    sym (append_assoc (ups_among before) raised more)
+    ∙ ap (λ l. (ups_among before ++ l) ++ more) (sym p)
     ∙ ap (λ l. l ++ more) (sym (ups_then before told))
 
-told_with : (before told after : List Event) (raised more : List (List ℕ)) → ups_in told ≡ raised → ups_in after ≡ []
-    → ups_in before ++ (raised ++ more) ≡ ups_in ((before ++ told) ++ after) ++ more
+told_with : (before told after : List Event) (raised more : List (List ℕ)) → ups_among told ≡ raised
+    → ups_among after ≡ []
+    → ups_among before ++ (raised ++ more) ≡ ups_among ((before ++ told) ++ after) ++ more
 told_with before told after raised more p q =
     told_one before told raised more p
-    ∙ ap (λ l. l ++ more) (sym (append-nil (ups_in (before ++ told))) ∙ ap (λ l. ups_in (before ++ told) ++ l) (sym q)
+    ∙ ap (λ l. l ++ more) (sym (append-nil (ups_among (before ++ told)))
+    ∙ ap (λ l. ups_among (before ++ told) ++ l) (sym q)
     ∙ sym (ups_then (before ++ told) after))
 
 -- deeds by the list that stands first
@@ -90,20 +92,20 @@ raising : (sdu : List ℕ) (sdus : List (List ℕ)) (w : Work) (b : State) (r : 
 raising sdu sdus w b r deeds q = ap (λ l. raised_first l w.pdcp.rx ++ go_up deeds (hands_first l (standing w b r))) q
 
 more_handed : (a : Bool) (sdu : List ℕ) (sdus : List (List ℕ)) (told : List Event) (w : Work) (b : State)
-    (r : Receiver) → r.out.ready ≡ sdu ∷ sdus → ups_in told ≡ (arrived_at w.pdcp.rx sdu Arrived).ready
+    (r : Receiver) → r.out.ready ≡ sdu ∷ sdus → ups_among told ≡ (arrived_at w.pdcp.rx sdu Arrived).ready
     → Handed sdus (settled_if a (one_heard sdu told w)) b (taken r)
     → (does_all (HandsUp ∷ (only_if a (settles (hears_one sdu w.pdcp)) ++ hands_up sdus (hears_one sdu w.pdcp)))
     (standing w b r) ≡ standing (hears_all sdus (settled_if a (one_heard sdu told w))) b (all_handed r))
-    × (ups_in w.events
+    × (ups_among w.events
     ++ go_up (HandsUp ∷ (only_if a (settles (hears_one sdu w.pdcp)) ++ hands_up sdus (hears_one sdu w.pdcp)))
-    (standing w b r) ≡ ups_in (hears_all sdus (settled_if a (one_heard sdu told w))).events)
+    (standing w b r) ≡ ups_among (hears_all sdus (settled_if a (one_heard sdu told w))).events)
     × ((settled_if a (one_heard sdu told w)).tx.accounts.news ≡ w.tx.accounts.news)
 more_handed true sdu sdus told w b r q t h =
     let e = hears_one sdu w.pdcp in
     let deeds : List Deed = settles e ∷ hands_up sdus e in
     let v = settled_if true (one_heard sdu told w) in (
       handing sdu sdus w b r deeds q ∙ h.left,
-      ap (λ l. ups_in w.events ++ l) (raising sdu sdus w b r deeds q)
+      ap (λ l. ups_among w.events ++ l) (raising sdu sdus w b r deeds q)
           ∙ told_with w.events told (started_told e.lcid (starts w.tx (has_more e)))
           (arrived_at w.pdcp.rx sdu Arrived).ready (go_up (hands_up sdus e) (standing v b (taken r))) t
           (started_none e.lcid (starts w.tx (has_more e)))
@@ -115,7 +117,7 @@ more_handed false sdu sdus told w b r q t h =
     let deeds : List Deed = hands_up sdus e in
     let v = settled_if false (one_heard sdu told w) in (
       handing sdu sdus w b r deeds q ∙ h.left,
-      ap (λ l. ups_in w.events ++ l) (raising sdu sdus w b r deeds q)
+      ap (λ l. ups_among w.events ++ l) (raising sdu sdus w b r deeds q)
           ∙ told_one w.events told (arrived_at w.pdcp.rx sdu Arrived).ready
           (go_up (hands_up sdus e) (standing v b (taken r))) t
           ∙ h.ups,
@@ -148,7 +150,7 @@ all_handed_up (sdu ∷ sdus) w b r q am e =
     let same : v ≡ hears sdu w = hears_as sdu w am e in
     record {
       left = more.0 ∙ ap (λ (x : Work). standing (hears_all sdus x) b (all_handed r)) same;
-      ups = more.1 ∙ ap (λ (x : Work). ups_in (hears_all sdus x).events) same;
+      ups = more.1 ∙ ap (λ (x : Work). ups_among (hears_all sdus x).events) same;
       raised = ap (λ (x : Work). (hears_all sdus x).pdcp.rx.ready) (sym same) ∙ rest.raised;
       news = ap (λ (x : Work). (hears_all sdus x).tx.accounts.news) (sym same) ∙ rest.news ∙ more.2;
     }
@@ -186,11 +188,11 @@ confirms_rx : (places : List ℕ) (e : Ends) → (confirms places e).rx ≡ e.rx
 confirms_rx [] e = refl
 confirms_rx (place ∷ places) e = confirms_rx places (record e { tx = confirmed_at e.tx place })
 
-stopped_none : (lcid : ℕ) (b : Bool) → ups_in (stopped_told lcid b) ≡ []
+stopped_none : (lcid : ℕ) (b : Bool) → ups_among (stopped_told lcid b) ≡ []
 stopped_none lcid true = refl
 stopped_none lcid false = refl
 
-status_none : (h : Heard) (pdcp : Ends) (tx : Sender) → ups_in (status_work h (work pdcp tx [])).events ≡ []
+status_none : (h : Heard) (pdcp : Ends) (tx : Sender) → ups_among (status_work h (work pdcp tx [])).events ≡ []
 status_none heard_as.Ignored pdcp tx = refl
 status_none (heard_as.Limit sn) pdcp tx = refl
 status_none (heard_as.Applied stopped) pdcp tx =
@@ -207,19 +209,19 @@ settles_quiet (heard_as.Applied stopped) e = (tt, tt)
 -- what it is to a bearer to which nothing is left over
 pub record Comes (r : Result AcknowledgedPdu RlcRefusal) (b : State) : Type 0 where
   pub left : does_all (arrives r b) b ≡ arrived_left r b
-  pub ups : go_up (arrives r b) b ≡ ups_in (arrived_told r b)
+  pub ups : go_up (arrives r b) b ≡ ups_among (arrived_told r b)
   pub idle : IsIdle (arrived_left r b)
 
-turned_none : (lcid : ℕ) (t : Turned) → ups_in (turned_told lcid t) ≡ []
+turned_none : (lcid : ℕ) (t : Turned) → ups_among (turned_told lcid t) ≡ []
 turned_none lcid t = by t.stopped t.started
   where
-    by : (stopped started : Bool) → ups_in (turned_told lcid (record { stopped = stopped; started = started })) ≡ []
+    by : (stopped started : Bool) → ups_among (turned_told lcid (record { stopped = stopped; started = started })) ≡ []
     by true true = refl
     by true false = refl
     by false true = refl
     by false false = refl
 
-landed_none : (lcid : ℕ) (l : Landed) (t : Turned) → ups_in (landed_told lcid l t) ≡ []
+landed_none : (lcid : ℕ) (l : Landed) (t : Turned) → ups_among (landed_told lcid l t) ≡ []
 landed_none lcid Kept t = turned_none lcid t
 landed_none lcid Repeat t = refl
 landed_none lcid Outside t = refl

@@ -11,7 +11,7 @@ use Rattle.bearer.specs.Taking.{after as taken_from}
 use Rattle.bearer.specs.Hearing.{arrived, arriving, expired, expiry, ticked, ticking, with_discard}
 use Rattle.law_bearer.specs.AnyBearer.Calls.{Call, Submit, Take, Arrive, Expire, Tick, SetDiscard, after}
 use Rattle.law_bearer.specs.AmBearer.Deeds.{does_all}
-use Rattle.law_bearer.specs.AmBearer.Calls.{deeds_of, tells, ups_in, IsOfData, IsIdle, AreDeeds}
+use Rattle.law_bearer.specs.AmBearer.Calls.{deeds_of, tells, ups_among, IsOfData, IsIdle, AreDeeds}
 use Rattle.law_bearer.proofs.AmBearer.Ups.{AreQuiet, quiet_up}
 use Rattle.law_bearer.proofs.AmBearer.Keeping.{data_stays, quiet_idle}
 use Rattle.law_bearer.proofs.AmBearer.Taking.{takes_as, takes_quiet, taking_ups}
@@ -20,7 +20,7 @@ use Rattle.law_bearer.proofs.AmBearer.Timing.{expires_as, expires_quiet, expiry_
 
 -- of quiet deeds
 quietly : (bits : ℕ) (b : State) (c : Call) → IsOfData bits b → IsIdle b → AreQuiet (deeds_of b c)
-    → ups_in (tells b c) ≡ [] → after (Am b) c ≡ Am (does_all (deeds_of b c) b) → AreDeeds bits b c
+    → ups_among (tells b c) ≡ [] → after (Am b) c ≡ Am (does_all (deeds_of b c) b) → AreDeeds bits b c
 quietly bits b c h idle q none left = record {
   left = left;
   ups = quiet_up (deeds_of b c) b q ∙ sym none;
@@ -39,11 +39,11 @@ arriving_as bits b pdu h idle =
       idle = subst IsIdle (sym one.left) one.idle;
     }
 
-expiry_told : (b : State) (clock : Clock) → ups_in (tells b (Expire clock)) ≡ []
+expiry_told : (b : State) (clock : Clock) → ups_among (tells b (Expire clock)) ≡ []
 unfolding expiry
 expiry_told b clock = expiry_none clock b
 
-tick_told : (b : State) → ups_in (tells b Tick) ≡ []
+tick_told : (b : State) → ups_among (tells b Tick) ≡ []
 unfolding ticking
 tick_told b = tti_none b
 

@@ -18,8 +18,8 @@ use Rattle.pdcp_rx.specs.Held.{is_held}
 use Rattle.pdcp_tx.specs.State.{State as Sending, reported}
 use Rattle.bearer_pdcp.specs.Ends.{Ends}
 use Rattle.bearer_pdcp.specs.Hearing.{is_applied, got_told, got_left, heard_told, after_hearing}
-use Rattle.law_bearer.specs.AmBearer.Deeds.{told_by, all_raised, hears_one}
-use Rattle.law_bearer.specs.AmBearer.Calls.{ups_in}
+use Rattle.law_bearer.specs.AmBearer.Deeds.{after_heard, all_raised, hears_one}
+use Rattle.law_bearer.specs.AmBearer.Calls.{ups_among}
 use Rattle.law_bearer.proofs.AmBearer.Ups.{ups_are}
 
 -- ---- nothing is ready
@@ -29,7 +29,7 @@ none_ready r q = subst (λ l. record r { ready = l } ≡ r) q refl
 
 -- a report is for the sender in a life
 abbrev told_at : Cause → Heard → Sending → Sending
-told_at Arrived h s = told_by h s
+told_at Arrived h s = after_heard h s
 told_at Reestablished h s = s
 
 abbrev takes_as : Cause → Heard → Ends → Ends
@@ -57,7 +57,7 @@ untold Reestablished h s n = refl
 -- an answer, with the receiver that it leaves
 record Comes (cause : Cause) (h : Heard) (g : Got) (r : Receiving) (e : Ends) : Type 0 where
   left : got_left g cause (record e { rx = r }) ≡ record e { tx = told_at cause h e.tx; rx = all_raised r }
-  ups : ups_in (got_told g cause (record e { rx = r })) ≡ r.ready
+  ups : ups_among (got_told g cause (record e { rx = r })) ≡ r.ready
 
 abbrev IsDrop : Got → Type 0
 IsDrop answers.Up = ⊥
@@ -111,7 +111,7 @@ data_comes cause h at o true beyond e n q = dropped cause h answers.Old e tt n q
 data_comes cause h at o false true e n q = dropped cause h answers.OutOfRange e tt n q
 data_comes cause h at o false false e n q = opened_comes cause h at o e n q
 
-report_told : (b : Bool) (lcid : ℕ) → ups_in (if b then [] else events.Drop lcid lost.Report ∷ []) ≡ []
+report_told : (b : Bool) (lcid : ℕ) → ups_among (if b then [] else events.Drop lcid lost.Report ∷ []) ≡ []
 report_told true lcid = refl
 report_told false lcid = refl
 
@@ -147,7 +147,7 @@ unfolding after_hearing got arrived
 hears_one_as sdu e am q = (heard_comes Arrived (heard e.rx.kind sdu) e am q).left
 
 pub hearing_ups : (sdu : List ℕ) (cause : Cause) (e : Ends) → is_am e.kind ≡ true → e.rx.ready ≡ []
-    → ups_in (heard_told sdu cause e) ≡ (arrived e.rx sdu cause).ready
+    → ups_among (heard_told sdu cause e) ≡ (arrived e.rx sdu cause).ready
 unfolding heard_told got arrived
 hearing_ups sdu cause e am q = (heard_comes cause (heard e.rx.kind sdu) e am q).ups
 

@@ -29,7 +29,7 @@ use Rattle.law_rlc.specs.AmSender.Run.{Confirm as Confirmed, after as sender_aft
 use Rattle.bearer.specs.Acknowledged.State.{State}
 use Rattle.law_bearer.proofs.AnyBearer.Sender.{took_same}
 use Rattle.law_bearer.specs.AmBearer.Deeds.{Deed, Feeds, Sends, Confirms, Receives, HandsUp, Asks, Sets, does, does_all}
-use Rattle.law_bearer.specs.AmBearer.Deeds.{offered_next, told_by, confirms_first, hands_first}
+use Rattle.law_bearer.specs.AmBearer.Deeds.{offered_next, after_heard, confirms_first, hands_first}
 use Rattle.law_bearer.specs.AmBearer.Calls.{IsOfData, IsIdle}
 use Rattle.law_bearer.specs.AmBearer.Lives.{KeepsProtection}
 use Rattle.law_bearer.proofs.AmBearer.Ups.{IsQuiet, AreQuiet}
@@ -54,7 +54,7 @@ asks_alike s (Owe report) = record { kind = refl; protection = refl }
 asks_alike s Tick = record { kind = refl; protection = refl }
 asks_alike s Late = record { kind = refl; protection = refl }
 
-told_alike : (h : Heard) (s : Sending) → SendsAlike s (told_by h s)
+told_alike : (h : Heard) (s : Sending) → SendsAlike s (after_heard h s)
 told_alike (Bad refusal) s = record { kind = refl; protection = refl }
 told_alike (Told fms bitmap) s = asks_alike s (Report fms bitmap)
 told_alike (Data sn body) s = record { kind = refl; protection = refl }

@@ -26,10 +26,10 @@ use Rattle.bearer.specs.declared.flow.Flow.{Flow}
 use Rattle.bearer.specs.declared.flow.Flow.TheVariants.{Am}
 use Rattle.bearer.specs.Bearer.{flow_of}
 use Rattle.bearer.specs.Lives.{stopped, stopping, restarted}
-use Rattle.law_bearer.specs.AnyBearer.Calls.{Step, Calls, Restart, after, goes, run, reached}
+use Rattle.law_bearer.specs.AnyBearer.Calls.{Step, Calls, Restart, after, goes, run_bearer, reached}
 use Rattle.law_bearer.specs.AmBearer.Deeds.{does_all, all_raised}
-use Rattle.law_bearer.specs.AmBearer.Calls.{deeds_of, IsOfData, IsIdle, ups_in}
-use Rattle.law_bearer.specs.AmBearer.Lives.{closes, closed, restarts, RestartsAs, StandsIdle, BeginAlike, other}
+use Rattle.law_bearer.specs.AmBearer.Calls.{deeds_of, IsOfData, IsIdle, ups_among}
+use Rattle.law_bearer.specs.AmBearer.Lives.{closes, closed, restarts, RestartsAs, StandsIdle, AmPdcpBeginAlike, other}
 use Rattle.law_bearer.specs.AmBearer.Lives.{BeginsAs, protection_at, AreProtectedAlike}
 use Rattle.law_bearer.proofs.AmBearer.Ups.{ups_then}
 use Rattle.law_bearer.proofs.AmBearer.Hearing.{none_ready, closes_one, hearing_ups, arrived_apart}
@@ -44,23 +44,24 @@ raised e r = record e { rx = all_raised r }
 
 record Closes (sdus : List (List ℕ)) (e : Ends) (r : Receiving) (told : List Event) : Type 0 where
   left : (hears_last sdus (record { pdcp = raised e r; events = told })).pdcp ≡ raised e (closes sdus r)
-  ups : ups_in (hears_last sdus (record { pdcp = raised e r; events = told })).events ≡ (closes sdus r).ready
+  ups : ups_among (hears_last sdus (record { pdcp = raised e r; events = told })).events ≡ (closes sdus r).ready
 
 one_closes : (sdu : List ℕ) (e : Ends) (r : Receiving) → is_am e.kind ≡ true
     → after_hearing sdu Reestablished (raised e r) ≡ raised e (arrived r sdu Reestablished)
 one_closes sdu e r am = closes_one sdu (raised e r) am refl
     ∙ ap (λ (x : Receiving). raised e x) (sym (arrived_apart r sdu Reestablished))
 
-one_told : (sdu : List ℕ) (e : Ends) (r : Receiving) (told : List Event) → is_am e.kind ≡ true → ups_in told ≡ r.ready
-    → ups_in (told ++ heard_told sdu Reestablished (raised e r)) ≡ (arrived r sdu Reestablished).ready
+one_told : (sdu : List ℕ) (e : Ends) (r : Receiving) (told : List Event) → is_am e.kind ≡ true
+    → ups_among told ≡ r.ready
+    → ups_among (told ++ heard_told sdu Reestablished (raised e r)) ≡ (arrived r sdu Reestablished).ready
 one_told sdu e r told am q =
     ups_then told (heard_told sdu Reestablished (raised e r))
-    ∙ ap (λ l. l ++ ups_in (heard_told sdu Reestablished (raised e r))) q
+    ∙ ap (λ l. l ++ ups_among (heard_told sdu Reestablished (raised e r))) q
     ∙ ap (λ l. r.ready ++ l) (hearing_ups sdu Reestablished (raised e r) am refl)
     ∙ ap (λ (x : Receiving). x.ready) (sym (arrived_apart r sdu Reestablished))
 
 all_close : (sdus : List (List ℕ)) (e : Ends) (r : Receiving) (told : List Event) → is_am e.kind ≡ true
-    → ups_in told ≡ r.ready → Closes sdus e r told
+    → ups_among told ≡ r.ready → Closes sdus e r told
 all_close [] e r told am q = record { left = refl; ups = q }
 all_close (sdu ∷ sdus) e r told am q =
     let more = told ++ heard_told sdu Reestablished (raised e r) in
@@ -68,13 +69,13 @@ all_close (sdu ∷ sdus) e r told am q =
     record {
       left = ap (λ (x : Ends). (hears_last sdus (record { pdcp = x; events = more })).pdcp) (one_closes sdu e r am)
           ∙ h.left;
-      ups = ap (λ (x : Ends). ups_in (hears_last sdus (record { pdcp = x; events = more })).events)
+      ups = ap (λ (x : Ends). ups_among (hears_last sdus (record { pdcp = x; events = more })).events)
           (one_closes sdu e r am) ∙ h.ups;
     }
 
 record Ended (b : State) : Type 0 where
   left : (last_ups b).pdcp ≡ raised b.pdcp (closed b)
-  ups : ups_in (last_ups b).events ≡ (closed b).ready
+  ups : ups_among (last_ups b).events ≡ (closed b).ready
 
 ends_as : (b : State) → is_am b.pdcp.kind ≡ true → b.pdcp.rx.ready ≡ [] → Ended b
 ends_as b am q =
@@ -83,7 +84,8 @@ ends_as b am q =
     ap (λ (a : Bool). ends_with a (finished b.rx) (record { pdcp = b.pdcp; events = [] })) am
     ∙ ap (λ (r : Receiving). hears_last (finished b.rx) (record { pdcp = record b.pdcp { rx = r }; events = [] }))
     (sym (none_ready b.pdcp.rx q)) in
-    record { left = ap (λ (x : Ending). x.pdcp) from ∙ h.left; ups = ap (λ (x : Ending). ups_in x.events) from ∙ h.ups }
+    record { left = ap (λ (x : Ending). x.pdcp) from ∙ h.left; ups =
+    ap (λ (x : Ending). ups_among x.events) from ∙ h.ups }
 
 -- ---- the next life
 
@@ -102,7 +104,8 @@ goes_as b keys am q =
     ap (λ (e : Ends). Am (with_new_rlc b.tx_config b.rx_config (restarted_pdcp e keys))) (ends_as b am q).left
     ∙ ap (λ (e : Ends). Am (with_new_rlc b.tx_config b.rx_config e)) (pdcp_restarts b.pdcp (closed b) keys am)
 
-ends_told : (b : State) → is_am b.pdcp.kind ≡ true → b.pdcp.rx.ready ≡ [] → (closed b).ready ≡ ups_in (stopping (Am b))
+ends_told : (b : State) → is_am b.pdcp.kind ≡ true → b.pdcp.rx.ready ≡ []
+    → (closed b).ready ≡ ups_among (stopping (Am b))
 unfolding stopping am_stopping
 ends_told b am q = sym (ends_as b am q).ups
 
@@ -185,7 +188,7 @@ step_stands bits f (Restart keys) h =
     stands bits (goes f (Restart keys)) (restarts h.bearer keys) (ap (λ g. goes g (Restart keys)) h.is ∙ one.left)
     one.stays one.idle
 
-run_stands : (bits : ℕ) (f : Flow) (xs : List Step) → StandsIdle bits f → StandsIdle bits (run xs f)
+run_stands : (bits : ℕ) (f : Flow) (xs : List Step) → StandsIdle bits f → StandsIdle bits (run_bearer xs f)
 run_stands bits f [] h = h
 run_stands bits f (x ∷ xs) h = run_stands bits (goes f x) xs (step_stands bits f x h)
 
@@ -205,7 +208,7 @@ heard_as Nb = refl
 heard_as Ue = refl
 
 fresh_alike : (c : BearerConfig) (keys : Keys) (side : Side)
-    → BeginAlike c.pdcp_bits (protection_at c keys side) c.first (fresh_am c (AmKind c.pdcp_bits) keys side)
+    → AmPdcpBeginAlike c.pdcp_bits (protection_at c keys side) c.first (fresh_am c (AmKind c.pdcp_bits) keys side)
     (fresh_am c (AmKind c.pdcp_bits) keys (other side))
 unfolding fresh_am begun
 fresh_alike c keys side = record {
@@ -217,10 +220,10 @@ fresh_alike c keys side = record {
 
 pub ends_begin_alike : (c : BearerConfig) (keys : Keys) (side : Side) (near far : State) → c.kind ≡ kinds.Am
     → flow_of c.kind c keys side ≡ Am near → flow_of c.kind c keys (other side) ≡ Am far
-    → BeginAlike c.pdcp_bits (protection_at c keys side) c.first near far
+    → AmPdcpBeginAlike c.pdcp_bits (protection_at c keys side) c.first near far
 ends_begin_alike c keys side near far k p q =
-    subst (λ (x : State). BeginAlike c.pdcp_bits (protection_at c keys side) c.first x far)
+    subst (λ (x : State). AmPdcpBeginAlike c.pdcp_bits (protection_at c keys side) c.first x far)
     (first_is c.kind c keys side near k p)
-    (subst (λ (x : State). BeginAlike c.pdcp_bits (protection_at c keys side) c.first
+    (subst (λ (x : State). AmPdcpBeginAlike c.pdcp_bits (protection_at c keys side) c.first
     (fresh_am c (AmKind c.pdcp_bits) keys side) x) (first_is c.kind c keys (other side) far k q)
     (fresh_alike c keys side))

@@ -17,7 +17,7 @@ use Rattle.law_bearer.proofs.AnyBearer.SenderCalls.{sends_then}
 use Rattle.law_bearer.specs.AmBearer.Deeds.{Deed, Feeds, Sends, Confirms, Receives, HandsUp, Asks, Sets, does, does_all}
 use Rattle.law_bearer.specs.AmBearer.Deeds.{offered_next, confirms_first, hands_first}
 use Rattle.law_bearer.specs.AmBearer.Calls.{only_if, deeds_of}
-use Rattle.law_bearer.specs.AmBearer.Sending.{offers_next, hands_over, sends_at, sends_in}
+use Rattle.law_bearer.specs.AmBearer.Sending.{offers_next, hand_over_calls, sends_at, sends_in}
 use Rattle.law_bearer.proofs.AmBearer.Taking.{so_many, takes_so, writes_one}
 
 -- ---- any deeds
@@ -26,7 +26,7 @@ offers_as : (o : Option Next) (s : Sender) → offered_next o s ≡ sends_on (of
 offers_as None s = refl
 offers_as (Some pdu) s = refl
 
-confirms_as : (places : List ℕ) (b : State) → (confirms_first places b).tx ≡ sends_on (hands_over places) b.tx
+confirms_as : (places : List ℕ) (b : State) → (confirms_first places b).tx ≡ sends_on (hand_over_calls places) b.tx
 confirms_as [] b = refl
 confirms_as (place ∷ places) b = refl
 

@@ -34,7 +34,7 @@ use Rattle.law_bearer.specs.AnyBearer.Acknowledged.{offers_in, has_more_behind}
 use Rattle.law_bearer.proofs.AnyBearer.Sender.{left_of}
 use Rattle.law_bearer.proofs.AnyBearer.Flows.{taken_off}
 use Rattle.law_bearer.specs.AmBearer.Deeds.{Deed, Feeds, Sends, Receives, does, does_all, offered_next}
-use Rattle.law_bearer.specs.AmBearer.Calls.{only_if, takes, ups_in}
+use Rattle.law_bearer.specs.AmBearer.Calls.{only_if, takes, ups_among}
 use Rattle.law_bearer.proofs.AmBearer.Ups.{does_then, ups_then, none_then, AreQuiet, quiet_then, quiet_each}
 
 -- ---- one PDU
@@ -49,26 +49,26 @@ feeds_one w b =
     ap (λ (t : Sender). record b { pdcp = record w.pdcp { tx = took w.pdcp.tx }; tx = t })
     (given_as (taking w.pdcp.tx) w.tx)
 
-report_none : (lcid : ℕ) (r : Result UserPdu PdcpRefusal) → ups_in (report_told lcid r) ≡ []
+report_none : (lcid : ℕ) (r : Result UserPdu PdcpRefusal) → ups_among (report_told lcid r) ≡ []
 report_none lcid (Err refusal) = refl
 report_none lcid (Ok (Sdu sn octets)) = refl
 report_none lcid (Ok (Report fms bitmap)) = refl
 
-own_none : (lcid : ℕ) (kind : PdcpKind) (pdu : List ℕ) → ups_in (own_report_told lcid kind pdu) ≡ []
+own_none : (lcid : ℕ) (kind : PdcpKind) (pdu : List ℕ) → ups_among (own_report_told lcid kind pdu) ≡ []
 own_none lcid Srb pdu = refl
 own_none lcid (Um bits) pdu = report_none lcid (user_at bits pdu)
 own_none lcid (AmKind bits) pdu = report_none lcid (user_at bits pdu)
 
 taken_none : (lcid : ℕ) (kind : PdcpKind) (count : Option ℕ) (len : ℕ) (pdu : List ℕ)
-    → ups_in (taken_told lcid kind count len pdu) ≡ []
+    → ups_among (taken_told lcid kind count len pdu) ≡ []
 taken_none lcid kind (Some count) len pdu = refl
 taken_none lcid kind None len pdu = own_none lcid kind pdu
 
-next_none : (lcid : ℕ) (kind : PdcpKind) (o : Option Next) → ups_in (next_told lcid kind o) ≡ []
+next_none : (lcid : ℕ) (kind : PdcpKind) (o : Option Next) → ups_among (next_told lcid kind o) ≡ []
 next_none lcid kind None = refl
 next_none lcid kind (Some n) = taken_none lcid kind n.count n.len n.octets
 
-pub taking_none : (e : Ends) → ups_in (taking_told e) ≡ []
+pub taking_none : (e : Ends) → ups_among (taking_told e) ≡ []
 unfolding taking_told
 taking_none e = next_none e.lcid e.kind (taking e.tx)
 
@@ -83,7 +83,7 @@ record Fed (os : List Offer) (w v : Work) (b : State) : Type 0 where
   few : n ≤ length os
   left : does_all (so_many n) (with_work w b) ≡ with_work v b
   offers' : offers v.pdcp.tx ≡ drop n os
-  ups : ups_in v.events ≡ ups_in w.events
+  ups : ups_among v.events ≡ ups_among w.events
 
 none_fed : (os : List Offer) (w : Work) (b : State) → offers w.pdcp.tx ≡ os → Fed os w w b
 none_fed os w b q = record { n = zero; few = omega arith; left = refl; offers' = q; ups = refl }
@@ -94,8 +94,8 @@ one_fed o os w v b f = record {
   few = omega (arith, f.few);
   left = ap (does_all (so_many f.n)) (feeds_one w b) ∙ f.left;
   offers' = f.offers';
-  ups = f.ups ∙ ups_then w.events (taking_told w.pdcp) ∙ ap (λ l. ups_in w.events ++ l) (taking_none w.pdcp)
-      ∙ append-nil (ups_in w.events);
+  ups = f.ups ∙ ups_then w.events (taking_told w.pdcp) ∙ ap (λ l. ups_among w.events ++ l) (taking_none w.pdcp)
+      ∙ append-nil (ups_among w.events);
 }
 
 fed_by : (hungers : Bool) (o : Offer) (os : List Offer) (w v : Work) (b : State) → offers w.pdcp.tx ≡ o ∷ os
@@ -214,15 +214,15 @@ takes_quiet b share held =
 -- ---- no SDU goes up
 
 status_none : (lcid sn : ℕ) (has due : Bool)
-    → ups_in (if due then events.Send lcid how.Status sn ∷ prohibit_told lcid has else []) ≡ []
+    → ups_among (if due then events.Send lcid how.Status sn ∷ prohibit_told lcid has else []) ≡ []
 status_none lcid sn true true = refl
 status_none lcid sn false true = refl
 status_none lcid sn has false = refl
 
-piece_none : (lcid : ℕ) (t : Taken) → ups_in (data_told lcid t) ≡ []
+piece_none : (lcid : ℕ) (t : Taken) → ups_among (data_told lcid t) ≡ []
 piece_none lcid (Piece number first polled octets) = by polled
   where
-    by : (polled : Bool) → ups_in (poll_told lcid polled) ≡ []
+    by : (polled : Bool) → ups_among (poll_told lcid polled) ≡ []
     by true = refl
     by false = refl
 piece_none lcid Idle = refl
@@ -231,7 +231,7 @@ piece_none lcid Shut = refl
 piece_none lcid Held = refl
 piece_none lcid Stopped = refl
 
-pub taking_ups : (b : State) (share : ℕ) (held : Option ℕ) → ups_in (told b.pdcp.lcid (Am b) share held) ≡ []
+pub taking_ups : (b : State) (share : ℕ) (held : Option ℕ) → ups_among (told b.pdcp.lcid (Am b) share held) ≡ []
 unfolding told told_taking
 taking_ups b share held =
     let v = feeding b share held in

@@ -25,7 +25,7 @@ use Rattle.bearer.specs.Acknowledged.Timing.{poll_told, timer_told, clock_told, 
 use Rattle.bearer.specs.Acknowledged.Timing.{Ticking, told_of, expires_if as expired_if, counts, has_ended}
 use Rattle.bearer.specs.Acknowledged.Timing.{ticks as ticked_by, discards as discarded, ticked}
 use Rattle.law_bearer.specs.AmBearer.Deeds.{Deed, Asks, does, does_all, with_sending}
-use Rattle.law_bearer.specs.AmBearer.Calls.{only_if, settles, expires, counted, ticks, discards, ups_in}
+use Rattle.law_bearer.specs.AmBearer.Calls.{only_if, settles, expires, counted, ticks, discards, ups_among}
 use Rattle.law_bearer.proofs.AmBearer.Ups.{does_then, none_then, IsQuiet, AreQuiet, quiet_then, quiet_each}
 
 -- ---- an expiry
@@ -44,25 +44,25 @@ expires_quiet Poll b = tt
 expires_quiet Reorder b = tt
 expires_quiet Prohibit b = tt
 
-poll_none : (lcid : ℕ) (x : PollExpired) → ups_in (told_of (poll_told lcid x)) ≡ []
+poll_none : (lcid : ℕ) (x : PollExpired) → ups_among (told_of (poll_told lcid x)) ≡ []
 poll_none lcid polls.NotRunning = refl
 poll_none lcid polls.Done = refl
 poll_none lcid (polls.Limit sn) = refl
 
-timer_none : (lcid : ℕ) (clock : Clock) (x : Expired) → ups_in (told_of (timer_told lcid clock x)) ≡ []
+timer_none : (lcid : ℕ) (clock : Clock) (x : Expired) → ups_among (told_of (timer_told lcid clock x)) ≡ []
 timer_none lcid clock NotRunning = refl
 timer_none lcid clock (Done again) = by again
   where
-    by : (again : Bool) → ups_in (expired_told lcid clock again) ≡ []
+    by : (again : Bool) → ups_among (expired_told lcid clock again) ≡ []
     by true = refl
     by false = refl
 
-clock_none : (clock : Clock) (b : State) → ups_in (told_of (clock_told clock b)) ≡ []
+clock_none : (clock : Clock) (b : State) → ups_among (told_of (clock_told clock b)) ≡ []
 clock_none Poll b = poll_none b.pdcp.lcid (poll_expiry b.tx (has_more b.pdcp))
 clock_none Reorder b = timer_none b.pdcp.lcid Reorder (reorder_answer b.rx.mark b.rx)
 clock_none Prohibit b = timer_none b.pdcp.lcid Prohibit (prohibit_answer b.rx)
 
-pub expiry_none : (clock : Clock) (b : State) → ups_in (told_of (expiry b clock)) ≡ []
+pub expiry_none : (clock : Clock) (b : State) → ups_among (told_of (expiry b clock)) ≡ []
 unfolding expiry
 expiry_none clock b = clock_none clock b
 
@@ -91,12 +91,12 @@ ticks_as clock t =
     ∙ ended_as (has_ended clock t.bearer) clock (record t { bearer = counts clock t.bearer }) t.bearer
     (counts_same clock clock t.bearer)
 
-ended_none : (ended : Bool) (clock : Clock) (t : Ticking) → ups_in t.events ≡ []
-    → ups_in (expired_if ended clock t).events ≡ []
+ended_none : (ended : Bool) (clock : Clock) (t : Ticking) → ups_among t.events ≡ []
+    → ups_among (expired_if ended clock t).events ≡ []
 ended_none true clock t q = none_then t.events (told_of (expiry t.bearer clock)) q (expiry_none clock t.bearer)
 ended_none false clock t q = q
 
-ticks_none : (clock : Clock) (t : Ticking) → ups_in t.events ≡ [] → ups_in (ticked_by clock t).events ≡ []
+ticks_none : (clock : Clock) (t : Ticking) → ups_among t.events ≡ [] → ups_among (ticked_by clock t).events ≡ []
 ticks_none clock t q = ended_none (has_ended clock t.bearer) clock (record t { bearer = counts clock t.bearer }) q
 
 ended_quiet : (ended : Bool) (clock : Clock) (b : State) → AreQuiet (only_if ended (expires clock b))
@@ -204,31 +204,31 @@ discards_quiet told e =
     by true = (tt, tt)
     by false = tt
 
-late_by : (overdue : Bool) (lcid len : ℕ) (more : List Event) → ups_in more ≡ []
-    → ups_in (if overdue then events.Discard lcid len ∷ more else []) ≡ []
+late_by : (overdue : Bool) (lcid len : ℕ) (more : List Event) → ups_among more ≡ []
+    → ups_among (if overdue then events.Discard lcid len ∷ more else []) ≡ []
 late_by true lcid len more q = q
 late_by false lcid len more q = refl
 
-late_none : (lcid : ℕ) (ws : List Waits) (s : Sending) → ups_in (late_told lcid ws s) ≡ []
+late_none : (lcid : ℕ) (ws : List Waits) (s : Sending) → ups_among (late_told lcid ws s) ≡ []
 late_none lcid [] s = refl
 late_none lcid (w ∷ ws) s =
     late_by (is_overdue s) lcid (length w.sdu) (late_told lcid ws (after_late s)) (late_none lcid ws (after_late s))
 
-pub tick_none : (e : Ends) → ups_in (tick_told e) ≡ []
+pub tick_none : (e : Ends) → ups_among (tick_told e) ≡ []
 unfolding tick_told
 tick_none e = late_none e.lcid e.tx.waiting (pdcp_ticked e.tx)
 
-settled_none : (a : Bool) (w : Work) → ups_in w.events ≡ [] → ups_in (settled_if a w).events ≡ []
+settled_none : (a : Bool) (w : Work) → ups_among w.events ≡ [] → ups_among (settled_if a w).events ≡ []
 settled_none true w q =
     none_then w.events (started_told w.pdcp.lcid (starts w.tx (has_more w.pdcp))) q
     (by (starts w.tx (has_more w.pdcp)))
   where
-    by : (b : Bool) → ups_in (started_told w.pdcp.lcid b) ≡ []
+    by : (b : Bool) → ups_among (started_told w.pdcp.lcid b) ≡ []
     by true = refl
     by false = refl
 settled_none false w q = q
 
-discards_none : (t : Ticking) → ups_in t.events ≡ [] → ups_in (discarded t).events ≡ []
+discards_none : (t : Ticking) → ups_among t.events ≡ [] → ups_among (discarded t).events ≡ []
 discards_none t q =
     let told = tick_told t.bearer.pdcp in
     settled_none (nat_lt 0 (length told)) (work (after_discards t.bearer.pdcp) t.bearer.tx (t.events ++ told))
@@ -275,7 +275,7 @@ tti_quiet b =
     (ticks_quiet Prohibit b))
     (discards_quiet (tick_told b.pdcp) b.pdcp)
 
-pub tti_none : (b : State) → ups_in (ticked b).events ≡ []
+pub tti_none : (b : State) → ups_among (ticked b).events ≡ []
 unfolding ticked
 tti_none b =
     let t0 : Ticking = record { bearer = b; events = [] } in

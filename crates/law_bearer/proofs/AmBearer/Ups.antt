@@ -8,7 +8,7 @@ use Rattle.law_rlc.specs.AmSender.Run.{Offer, Take, Status, Tick, Expire, Settle
 use Rattle.bearer.specs.Acknowledged.State.{State}
 use Rattle.law_bearer.specs.AmBearer.Deeds.{Deed, Feeds, Sends, Confirms, Receives, HandsUp, Asks, Sets, does, does_all}
 use Rattle.law_bearer.specs.AmBearer.Deeds.{goes_up, go_up}
-use Rattle.law_bearer.specs.AmBearer.Calls.{up_in, ups_in}
+use Rattle.law_bearer.specs.AmBearer.Calls.{up_in, ups_among}
 
 -- ---- deeds one behind the other
 
@@ -18,14 +18,15 @@ does_then (x ∷ xs) ys b = does_then xs ys (does b x)
 
 -- ---- events one behind the other
 
-pub ups_then : (xs ys : List Event) → ups_in (xs ++ ys) ≡ ups_in xs ++ ups_in ys
+pub ups_then : (xs ys : List Event) → ups_among (xs ++ ys) ≡ ups_among xs ++ ups_among ys
 ups_then [] ys = refl
-ups_then (x ∷ xs) ys = ap (λ l. up_in x ++ l) (ups_then xs ys) ∙ sym (append_assoc (up_in x) (ups_in xs) (ups_in ys))
+ups_then (x ∷ xs) ys =
+    ap (λ l. up_in x ++ l) (ups_then xs ys) ∙ sym (append_assoc (up_in x) (ups_among xs) (ups_among ys))
 
-pub none_then : (xs ys : List Event) → ups_in xs ≡ [] → ups_in ys ≡ [] → ups_in (xs ++ ys) ≡ []
-none_then xs ys p q = ups_then xs ys ∙ ap (λ l. l ++ ups_in ys) p ∙ q
+pub none_then : (xs ys : List Event) → ups_among xs ≡ [] → ups_among ys ≡ [] → ups_among (xs ++ ys) ≡ []
+none_then xs ys p q = ups_then xs ys ∙ ap (λ l. l ++ ups_among ys) p ∙ q
 
-pub ups_are : (lcid : ℕ) (sdus : List (List ℕ)) → ups_in (ups lcid sdus) ≡ sdus
+pub ups_are : (lcid : ℕ) (sdus : List (List ℕ)) → ups_among (ups lcid sdus) ≡ sdus
 ups_are lcid [] = refl
 ups_are lcid (sdu ∷ sdus) = ap (λ l. sdu ∷ l) (ups_are lcid sdus)
 

@@ -1,12 +1,12 @@
 -- Calls of a bearer over acknowledged RLC, as steps of PDCP's sender.
-use Rattle.std.proofs.Common.{◌≡◌, ℕ, zero, suc, ◌≤◌, Bool, true, false, if◌then◌else◌, nat_lt, List, [], ◌∷◌, ◌++◌}
-use Rattle.std.proofs.Common.{take, drop, map, length, Option, Some, Result, Ok, Err, subst, refl, ap, sym, ◌∙◌, arith}
+use Rattle.std.proofs.Common.{◌≡◌, ℕ, Bool, true, false, if◌then◌else◌, nat_lt, List, [], ◌∷◌, ◌++◌}
+use Rattle.std.proofs.Common.{drop, length, Option, Result, Ok, Err, subst, refl, ap, sym, ◌∙◌}
 use Rattle.l2_types.specs.declared.Clock.{Clock}
 use Rattle.l2_types.specs.declared.Clock.TheVariants.{Poll, Reorder, Prohibit}
 use Rattle.eps_sec.specs.declared.Keys.{Keys}
 use Rattle.pdcp_pdu.specs.Kinds.{is_am}
 use Rattle.pdcp_rx.specs.declared.Cause.TheVariants.{Arrived, Reestablished}
-use Rattle.pdcp_tx.specs.State.{Offer, offers, took, confirmed}
+use Rattle.pdcp_tx.specs.State.{Offer, offers, confirmed}
 use Rattle.rlc_pdu.specs.declared.RlcRefusal.{RlcRefusal}
 use Rattle.rlc_pdu.specs.Pdus.{AcknowledgedPdu, Payload, Status}
 use Rattle.rlc_pdu.specs.Reading.{am_at}
@@ -20,7 +20,6 @@ use Rattle.bearer_pdcp.specs.Hearing.{applies, heard_told, after_hearing}
 use Rattle.bearer_pdcp.specs.Lives.{restarted as restarted_pdcp}
 use Rattle.bearer_pdcp.specs.Discarding.{after_tick as after_discards, tick_told}
 use Rattle.bearer_pdcp.specs.Telling.{landed_told}
-use Rattle.bearer_pdcp.specs.Taking.{after_taking as after_pdcp}
 use Rattle.bearer.specs.Acknowledged.State.{State, Work, work}
 use Rattle.bearer.specs.Acknowledged.Taking.{given_to, fed, feeds, feeding, data_size, status_told, has_prohibit}
 use Rattle.bearer.specs.Acknowledged.Taking.{after_taking}
@@ -29,45 +28,25 @@ use Rattle.bearer.specs.Acknowledged.Hearing.{arrived_left, after_arrival, all_c
 use Rattle.bearer.specs.Acknowledged.Lives.{Ending, hears_last, ends_with, stopped, restarted}
 use Rattle.bearer.specs.Acknowledged.Timing.{Ticking, expires_if, clock_left, counts, has_ended, ticks, discards}
 use Rattle.bearer.specs.Acknowledged.Timing.{after_expiry, ticked}
-use Rattle.law_bearer.specs.AnyBearer.Stream.{pdu_of, am_offered}
-use Rattle.law_bearer.proofs.AnyBearer.Sender.{nothing, took_all, left_of, took_same, same_pdus, confirms_one}
-use Rattle.law_bearer.proofs.AnyBearer.Parts.{first_taken, pdcp_took, pdcp_rest, Passed, rests, by_tx, passed_then}
+use Rattle.law_bearer.specs.AnyBearer.Stream.{am_offered}
+use Rattle.law_bearer.proofs.AnyBearer.Sender.{nothing, left_of, confirms_one}
+use Rattle.law_bearer.proofs.AnyBearer.Feeding.{Fed as FedOf, none_fed as fed_none, one_fed}
+use Rattle.law_bearer.proofs.AnyBearer.Parts.{pdcp_took, Passed, rests, by_tx, passed_then}
 use Rattle.law_bearer.proofs.AnyBearer.Parts.{hearing_moves, Ended, ends_as, ended_then, last_one}
 
 -- ---- RLC takes PDUs
 
 -- so many are fed
-pub record Fed (os : List Offer) (w v : Work) : Type 0 where
-  pub n : ℕ
-  pub few : n ≤ length os
-  pub left : v.pdcp.tx ≡ took_all n w.pdcp.tx
-  pub kind : v.pdcp.kind ≡ w.pdcp.kind
-  pub rx : v.pdcp.rx.kind ≡ w.pdcp.rx.kind
-  pub offered : v.tx ≡ am_offered (map (pdu_of w.pdcp.tx) (take n os)) w.tx
+abbrev pub Fed : List Offer → Work → Work → Type 0
+Fed os w v = FedOf given_to am_offered os w.pdcp v.pdcp w.tx v.tx
 
 none_fed : (os : List Offer) (w : Work) → Fed os w w
-none_fed os w = record { n = zero; few = omega arith; left = refl; kind = refl; rx = refl; offered = refl }
-
-one_fed : (o : Offer) (os : List Offer) (w v : Work) → offers w.pdcp.tx ≡ o ∷ os → Fed os (fed w) v → Fed (o ∷ os) w v
-one_fed o os w v q f = record {
-  n = suc f.n;
-  few = omega (arith, f.few);
-  left = f.left ∙ ap (took_all f.n) (pdcp_took w.pdcp);
-  kind = f.kind ∙ (pdcp_rest w.pdcp).0;
-  rx = f.rx ∙ (pdcp_rest w.pdcp).1;
-  offered =
-      f.offered
-      ∙ ap (λ tx. am_offered (map (pdu_of (after_pdcp w.pdcp).tx) (take f.n os)) (given_to tx w.tx))
-      (first_taken w.pdcp o os q)
-      ∙ ap (λ s. am_offered (map (pdu_of s) (take f.n os)) (given_to (Some (pdu_of w.pdcp.tx o)) w.tx))
-      (pdcp_took w.pdcp)
-      ∙ ap (λ l. am_offered l (given_to (Some (pdu_of w.pdcp.tx o)) w.tx))
-      (same_pdus w.pdcp.tx (took w.pdcp.tx) (take f.n os) (took_same w.pdcp.tx));
-}
+none_fed os w = fed_none given_to am_offered (λ tx. refl) os w.pdcp w.tx
 
 fed_by : (b : Bool) (o : Offer) (os : List Offer) (w v : Work) → offers w.pdcp.tx ≡ o ∷ os → Fed os (fed w) v
     → Fed (o ∷ os) w (if b then v else w)
-fed_by true o os w v q f = one_fed o os w v q f
+fed_by true o os w v q f =
+    one_fed given_to am_offered (λ pdu pdus tx. refl) o os w.pdcp v.pdcp w.tx v.tx q f
 fed_by false o os w v q f = none_fed (o ∷ os) w
 
 all_fed : (os : List Offer) (size : ℕ) (held : Option ℕ) (w : Work) → offers w.pdcp.tx ≡ os

@@ -209,9 +209,9 @@ counts_kept l Poll s q = q
 counts_kept l Reorder s q = q
 counts_kept l Prohibit s q = q
 
-told_in : (S : OfEvents) (o : Option (List Event)) → IfSome o S → maybe S (told_of o)
-told_in S None p = inl refl
-told_in S (Some told) p = inr p
+maybe_told : (S : OfEvents) (o : Option (List Event)) → IfSome o S → maybe S (told_of o)
+maybe_told S None p = inl refl
+maybe_told S (Some told) p = inr p
 
 expires_kept : (l : ℕ) (b : Bool) (clock : Clock) (t : Ticking) → t.bearer.pdcp.lcid ≡ l
     → (expires_if b clock t).bearer.pdcp.lcid ≡ l
@@ -228,7 +228,7 @@ expires_in : (l : ℕ) (b : Bool) (clock : Clock) (t : Ticking) → t.bearer.pdc
     → Behind t.events (maybe (of_an_expiry l clock)) (expires_if b clock t).events
 expires_in l true clock t q =
     behind t.events (maybe (of_an_expiry l clock)) (told_of (expiry t.bearer clock))
-    (told_in (of_an_expiry l clock) (expiry t.bearer clock) (expiry_in l clock t.bearer q))
+    (maybe_told (of_an_expiry l clock) (expiry t.bearer clock) (expiry_in l clock t.bearer q))
 expires_in l false clock t q = behind_none t.events (maybe (of_an_expiry l clock)) (inl refl)
 
 ticks_in : (l : ℕ) (clock : Clock) (t : Ticking) → t.bearer.pdcp.lcid ≡ l

@@ -50,7 +50,7 @@ use Rattle.rlc_pdu.specs.Pdus.{AcknowledgedPdu, Payload, Status, UmdPdu}
 use Rattle.rlc_pdu.specs.Reading.{am_at, umd_at}
 use Rattle.rlc_um.specs.Receiver.{landing, turning, arrival, expiring, all_joined}
 use Rattle.law_bearer.specs.AnyBearer.Calls.{Call, Submit, Take, Arrive, Expire, Tick, SetDiscard, after, Step, Calls}
-use Rattle.law_bearer.specs.AnyBearer.Calls.{Restart, goes, run, reached}
+use Rattle.law_bearer.specs.AnyBearer.Calls.{Restart, goes, run_bearer, reached}
 use Rattle.law_bearer.proofs.AnyBearer.AmHeard.{all_kept as am_all_kept, settled_kept, confirms_kept, left_kept}
 use Rattle.law_bearer.proofs.AnyBearer.AmHeard.{ticks_kept, last_kept}
 use Rattle.law_bearer.proofs.AnyBearer.Heard.{um_all_kept, um_left_kept, um_timed_kept}
@@ -268,7 +268,7 @@ step_between : (lcid : ℕ) (f : Flow) (s : Step) → IsBetween lcid f → IsBet
 step_between lcid f (Calls c) k = call_between lcid f c k
 step_between lcid f (Restart keys) k = moves lcid f keys k
 
-run_between : (lcid : ℕ) (steps : List Step) (f : Flow) → IsBetween lcid f → IsBetween lcid (run steps f)
+run_between : (lcid : ℕ) (steps : List Step) (f : Flow) → IsBetween lcid f → IsBetween lcid (run_bearer steps f)
 run_between lcid [] f k = k
 run_between lcid (s ∷ steps) f k = run_between lcid steps (goes f s) (step_between lcid f s k)
 

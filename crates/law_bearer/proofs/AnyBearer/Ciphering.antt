@@ -17,7 +17,8 @@ use Rattle.pdcp_tx.specs.Runs.{counts_in}
 use Rattle.bearer_pdcp.specs.Ends.{Ends, begun, bearer_of, sends}
 use Rattle.bearer.specs.declared.flow.Flow.{Flow}
 use Rattle.bearer.specs.Bearer.{flow_of}
-use Rattle.law_bearer.specs.AnyBearer.Calls.{Call, after, after_all, Step, Calls, Restart, goes, run, reached, ends}
+use Rattle.law_bearer.specs.AnyBearer.Calls.{Call, after, after_all, Step, Calls, Restart, goes, run_bearer, reached}
+use Rattle.law_bearer.specs.AnyBearer.Calls.{ends}
 use Rattle.law_bearer.specs.AnyBearer.Ciphering.{ciphered_of, ciphered_by, ciphered, ShareText, AllShareText, restarts}
 use Rattle.law_bearer.specs.AnyBearer.Ciphering.{cipher_key, IsOneOf, IsOfBearer}
 use Rattle.law_words.specs.Lists.{AreDistinct}
@@ -138,7 +139,7 @@ none_of_them key (other ∷ keys) (inr more) h = none_of_them key keys more h.1
 -- ---- the bearer's key
 
 begins_with : (kind : PdcpKind) (lcid first : ℕ) (keys : Keys) (side : Side) (f : Flow) (xs : List Step) (e : Ends)
-    → ends f ≡ Some (begun lcid kind first keys side) → ends (run xs f) ≡ Some e → e.tx.kind ≡ kind
+    → ends f ≡ Some (begun lcid kind first keys side) → ends (run_bearer xs f) ≡ Some e → e.tx.kind ≡ kind
 unfolding begun
 begins_with kind lcid first keys side f xs e q is =
     let start = begun lcid kind first keys side in
@@ -149,7 +150,7 @@ begins_with kind lcid first keys side f xs e q is =
     ap (λ (x : Ends). x.tx.kind) (sym same) ∙ k.tx ∙ h.passed.kind
 
 key_is : (kind : Kind) (c : BearerConfig) (keys now : Keys) (side : Side) (xs : List Step) (e : Ends)
-    → ends (run xs (flow_of kind c keys side)) ≡ Some e → (key_of e.tx.kind now).octets ≡ cipher_key kind now
+    → ends (run_bearer xs (flow_of kind c keys side)) ≡ Some e → (key_of e.tx.kind now).octets ≡ cipher_key kind now
 key_is kinds.Tm c keys now side xs e is = let no : None ≡ Some e =
     sym (none_steps (flow_of kinds.Tm c keys side) xs refl) ∙ is in cc
 key_is kinds.Srb c keys now side xs e is =
@@ -268,7 +269,7 @@ abbrev all_calls : List Call → List Step
 all_calls [] = []
 all_calls (d ∷ ds) = Calls d ∷ all_calls ds
 
-run_calls : (f : Flow) (ds : List Call) → run (all_calls ds) f ≡ after_all f ds
+run_calls : (f : Flow) (ds : List Call) → run_bearer (all_calls ds) f ≡ after_all f ds
 run_calls f [] = refl
 run_calls f (d ∷ ds) = run_calls (after f d) ds
 

@@ -25,7 +25,7 @@ use Rattle.bearer.specs.Taking.{after as taken_from}
 use Rattle.bearer.specs.Hearing.{arrived, expired, ticked, with_discard}
 use Rattle.bearer.specs.Lives.{stopped, restarted}
 use Rattle.law_bearer.specs.AnyBearer.Calls.{Call, Submit, Take, Arrive, Expire, Tick, SetDiscard, after, after_all}
-use Rattle.law_bearer.specs.AnyBearer.Calls.{Step, Calls, Restart, goes, run, ends, ends_between}
+use Rattle.law_bearer.specs.AnyBearer.Calls.{Step, Calls, Restart, goes, run_bearer, ends, ends_between}
 use Rattle.law_bearer.specs.AnyBearer.Stream.{offers_of, takes, taken, all_taken, pdu_of, IsOffered, um_offered}
 use Rattle.law_bearer.specs.AnyBearer.Stream.{am_offered}
 use Rattle.law_bearer.specs.AnyBearer.Queue.{submits, off, news, drops, all_news, all_left, all_submitted}
@@ -51,45 +51,50 @@ taken_front xs left before q =
     let m : length before - length left ≡ length xs = omega (arith, k) in
     ap (λ i. take i before) m ∙ ap (take (length xs)) (sym q) ∙ take-append_seam xs left
 
+-- PDCP's sender gave so many PDUs
+gave_so_many : (d e : Sending) (n : ℕ) → n ≤ length (offers d) → e ≡ took_all n d
+    → take (length (offers d) - length (offers e)) (offers d) ≡ take n (offers d)
+gave_so_many d e n few left = taken_off n (offers d) (offers e) few (ap offers left ∙ left_of n d)
+
+took_so_many : (d e : Sending) (n : ℕ) → e ≡ took_all n d → off (sdus d.waiting) (sdus e.waiting) ≡ firsts n d
+took_so_many d e n left =
+    taken_front (firsts n d) (sdus e.waiting) (sdus d.waiting)
+    (ap (λ (t : Sending). firsts n d ++ sdus t.waiting) left
+    ∙ moved_queue d (took_all n d) (takings n d) (takes_all n d) ∙ append-nil (sdus d.waiting))
+
+am_left : (b : AmState) (share : ℕ) (held : Option ℕ)
+    → (am_after b share held).pdcp.tx ≡ took_all (am.all_fed_in b share held).n b.pdcp.tx
+am_left b share held = ap (λ (e : Ends). e.tx) (am.take_left b share held) ∙ (am.all_fed_in b share held).left
+
+um_left : (b : UmState) (share : ℕ) (held : Option ℕ)
+    → (um_after b share held).pdcp.tx ≡ took_all (um.all_fed_in b share held).n b.pdcp.tx
+um_left b share held = ap (λ (e : Ends). e.tx) (um.take_left b share held) ∙ (um.all_fed_in b share held).left
+
 am_takes : (b : AmState) (share : ℕ) (held : Option ℕ)
     → takes (Am b) (Take share held) ≡ take (am.all_fed_in b share held).n (offers b.pdcp.tx)
 unfolding taken_from
 am_takes b share held =
     let f = am.all_fed_in b share held in
-    taken_off f.n (offers b.pdcp.tx) (offers (am_after b share held).pdcp.tx) f.few
-    (ap (λ (e : Ends). offers e.tx) (am.take_left b share held) ∙ ap offers f.left ∙ left_of f.n b.pdcp.tx)
+    gave_so_many b.pdcp.tx (am_after b share held).pdcp.tx f.n f.few (am_left b share held)
 
 um_takes : (b : UmState) (share : ℕ) (held : Option ℕ)
     → takes (Um b) (Take share held) ≡ take (um.all_fed_in b share held).n (offers b.pdcp.tx)
 unfolding taken_from
 um_takes b share held =
     let f = um.all_fed_in b share held in
-    taken_off f.n (offers b.pdcp.tx) (offers (um_after b share held).pdcp.tx) f.few
-    (ap (λ (e : Ends). offers e.tx) (um.take_left b share held) ∙ ap offers f.left ∙ left_of f.n b.pdcp.tx)
+    gave_so_many b.pdcp.tx (um_after b share held).pdcp.tx f.n f.few (um_left b share held)
 
 am_news : (b : AmState) (share : ℕ) (held : Option ℕ)
     → news (Am b) (Take share held) ≡ firsts (am.all_fed_in b share held).n b.pdcp.tx
 unfolding taken_from
 am_news b share held =
-    let f = am.all_fed_in b share held in
-    let left : (am_after b share held).pdcp.tx ≡ took_all f.n b.pdcp.tx =
-    ap (λ (e : Ends). e.tx) (am.take_left b share held) ∙ f.left in
-    taken_front (firsts f.n b.pdcp.tx) (sdus (am_after b share held).pdcp.tx.waiting) (sdus b.pdcp.tx.waiting)
-    (ap (λ (t : Sending). firsts f.n b.pdcp.tx ++ sdus t.waiting) left
-    ∙ moved_queue b.pdcp.tx (took_all f.n b.pdcp.tx) (takings f.n b.pdcp.tx) (takes_all f.n b.pdcp.tx)
-    ∙ append-nil (sdus b.pdcp.tx.waiting))
+    took_so_many b.pdcp.tx (am_after b share held).pdcp.tx (am.all_fed_in b share held).n (am_left b share held)
 
 um_news : (b : UmState) (share : ℕ) (held : Option ℕ)
     → news (Um b) (Take share held) ≡ firsts (um.all_fed_in b share held).n b.pdcp.tx
 unfolding taken_from
 um_news b share held =
-    let f = um.all_fed_in b share held in
-    let left : (um_after b share held).pdcp.tx ≡ took_all f.n b.pdcp.tx =
-    ap (λ (e : Ends). e.tx) (um.take_left b share held) ∙ f.left in
-    taken_front (firsts f.n b.pdcp.tx) (sdus (um_after b share held).pdcp.tx.waiting) (sdus b.pdcp.tx.waiting)
-    (ap (λ (t : Sending). firsts f.n b.pdcp.tx ++ sdus t.waiting) left
-    ∙ moved_queue b.pdcp.tx (took_all f.n b.pdcp.tx) (takings f.n b.pdcp.tx) (takes_all f.n b.pdcp.tx)
-    ∙ append-nil (sdus b.pdcp.tx.waiting))
+    took_so_many b.pdcp.tx (um_after b share held).pdcp.tx (um.all_fed_in b share held).n (um_left b share held)
 
 pub is_offered : (f : Flow) (share : ℕ) (held : Option ℕ) → IsOffered f share held
 is_offered (Tm b) share held = tt
@@ -139,6 +144,18 @@ tick_passed d m e h q =
     subst (λ (x : Ends). Passed d x (leaving (off (sdus d.tx.waiting) (sdus x.tx.waiting)))) (sym q)
     (subst (λ l. Passed d (after_tick m) (leaving l)) (sym same) all)
 
+-- so many PDUs were taken
+take_passed : (d e : Ends) (os : List Offer) (ns : List (List ℕ)) (n : ℕ) → os ≡ take n (offers d.tx)
+    → ns ≡ firsts n d.tx → e.tx ≡ took_all n d.tx → e.kind ≡ d.kind → e.rx.kind ≡ d.rx.kind
+    → Passed d e (record { taken = os; news = ns; submitted = []; left = ns ++ [] })
+take_passed d e os ns n gave took left kind rx = record {
+  tx =
+      subst (Moved d.tx e.tx) (sym (same_takings os ns n d.tx gave took))
+      (subst (λ (t : Sending). Moved d.tx t (takings n d.tx)) (sym left) (takes_all n d.tx));
+  kind = kind;
+  rx = rx;
+}
+
 am_called : (b : AmState) (c : Call) → Called b.pdcp (after (Am b) c) (doing (Am b) c)
 unfolding submitted taken_from arrived expired ticked with_discard
 am_called b (Submit sdu) = record {
@@ -152,16 +169,10 @@ am_called b (Take share held) =
     record {
       next = (am_after b share held).pdcp;
       is = refl;
-      passed = record {
-        tx =
-            subst (Moved b.pdcp.tx (am_after b share held).pdcp.tx)
-            (sym (same_takings (takes (Am b) (Take share held)) (news (Am b) (Take share held)) f.n b.pdcp.tx
-            (am_takes b share held) (am_news b share held)))
-            (subst (λ (t : Sending). Moved b.pdcp.tx t (takings f.n b.pdcp.tx))
-            (sym (ap (λ (e : Ends). e.tx) left ∙ f.left)) (takes_all f.n b.pdcp.tx));
-        kind = ap (λ (e : Ends). e.kind) left ∙ f.kind;
-        rx = ap (λ (e : Ends). e.rx.kind) left ∙ f.rx;
-      };
+      passed =
+          take_passed b.pdcp (am_after b share held).pdcp (takes (Am b) (Take share held))
+          (news (Am b) (Take share held)) f.n (am_takes b share held) (am_news b share held) (am_left b share held)
+          (ap (λ (e : Ends). e.kind) left ∙ f.kind) (ap (λ (e : Ends). e.rx.kind) left ∙ f.rx);
     }
 am_called b (Arrive pdu) = record { next = (am_arrived b pdu).pdcp; is = refl; passed = am.arrival_moves b pdu }
 am_called b (Expire clock) = record {
@@ -194,16 +205,10 @@ um_called b (Take share held) =
     record {
       next = (um_after b share held).pdcp;
       is = refl;
-      passed = record {
-        tx =
-            subst (Moved b.pdcp.tx (um_after b share held).pdcp.tx)
-            (sym (same_takings (takes (Um b) (Take share held)) (news (Um b) (Take share held)) f.n b.pdcp.tx
-            (um_takes b share held) (um_news b share held)))
-            (subst (λ (t : Sending). Moved b.pdcp.tx t (takings f.n b.pdcp.tx))
-            (sym (ap (λ (e : Ends). e.tx) left ∙ f.left)) (takes_all f.n b.pdcp.tx));
-        kind = ap (λ (e : Ends). e.kind) left ∙ f.kind;
-        rx = ap (λ (e : Ends). e.rx.kind) left ∙ f.rx;
-      };
+      passed =
+          take_passed b.pdcp (um_after b share held).pdcp (takes (Um b) (Take share held))
+          (news (Um b) (Take share held)) f.n (um_takes b share held) (um_news b share held) (um_left b share held)
+          (ap (λ (e : Ends). e.kind) left ∙ f.kind) (ap (λ (e : Ends). e.rx.kind) left ∙ f.rx);
     }
 um_called b (Arrive pdu) = record { next = (um_arrived b pdu).pdcp; is = refl; passed = um.arrival_moves b pdu }
 um_called b (Expire clock) = record { next = (um_expired b clock).pdcp; is = refl; passed = um.expiry_moves b clock }
@@ -280,7 +285,7 @@ restarts_as (Am b) e keys q = let one : b.pdcp ≡ e = cc in
 
 -- ---- through lives
 
-pub run_more : (f : Flow) (xs ys : List Step) → run (xs ++ ys) f ≡ run ys (run xs f)
+pub run_more : (f : Flow) (xs ys : List Step) → run_bearer (xs ++ ys) f ≡ run_bearer ys (run_bearer xs f)
 run_more f [] ys = refl
 run_more f (x ∷ xs) ys = run_more (goes f x) xs ys
 
@@ -300,7 +305,7 @@ lives_on f e (Restart keys) q =
       passed = ended_restarts e one.between keys one.ended;
     }
 
-pub history : (f : Flow) (e : Ends) (xs : List Step) → ends f ≡ Some e → Lives e (run xs f) (all_doings f xs)
+pub history : (f : Flow) (e : Ends) (xs : List Step) → ends f ≡ Some e → Lives e (run_bearer xs f) (all_doings f xs)
 history f e [] q = record { next = e; is = q; passed = passed_lives e e nothing (rests e) }
 history f e (x ∷ xs) q =
     let one = lives_on f e x q in
@@ -335,7 +340,7 @@ none_step (Tm b) (Restart keys) q = refl
 none_step (Um b) (Restart keys) q = let no : Some b.pdcp ≡ None = q in cc
 none_step (Am b) (Restart keys) q = let no : Some b.pdcp ≡ None = q in cc
 
-pub none_steps : (f : Flow) (xs : List Step) → ends f ≡ None → ends (run xs f) ≡ None
+pub none_steps : (f : Flow) (xs : List Step) → ends f ≡ None → ends (run_bearer xs f) ≡ None
 none_steps f [] q = q
 none_steps f (x ∷ xs) q = none_steps (goes f x) xs (none_step f x q)
 

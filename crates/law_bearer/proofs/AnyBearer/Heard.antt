@@ -72,18 +72,18 @@ heard_own pdu cause e = got_own (got e.rx pdu cause) cause (with_arrived pdu cau
 
 -- ---- an SDU that goes to PDCP
 
-ups_in : (lcid : ℕ) (sdus : List (List ℕ)) → many (an_up lcid) (ups lcid sdus)
-ups_in lcid [] = many_none (an_up lcid)
-ups_in lcid (sdu ∷ sdus) =
-    many_more (an_up lcid) (events.Up lcid sdu ∷ []) (ups lcid sdus) (sdu, refl) (ups_in lcid sdus)
+many_ups : (lcid : ℕ) (sdus : List (List ℕ)) → many (an_up lcid) (ups lcid sdus)
+many_ups lcid [] = many_none (an_up lcid)
+many_ups lcid (sdu ∷ sdus) =
+    many_more (an_up lcid) (events.Up lcid sdu ∷ []) (ups lcid sdus) (sdu, refl) (many_ups lcid sdus)
 
 report_in : (b : Bool) (lcid : ℕ) → of_an_sdu lcid (if b then [] else events.Drop lcid lost.Report ∷ [])
 report_in true lcid = inl (many_none (an_up lcid))
 report_in false lcid = inr (inr (inr (inl refl)))
 
 got_in : (g : Got) (cause : Cause) (e : Ends) → of_an_sdu e.lcid (got_told g cause e)
-got_in got_as.Up cause e = inl (ups_in e.lcid e.rx.ready)
-got_in got_as.Stored cause e = inl (ups_in e.lcid e.rx.ready)
+got_in got_as.Up cause e = inl (many_ups e.lcid e.rx.ready)
+got_in got_as.Stored cause e = inl (many_ups e.lcid e.rx.ready)
 got_in got_as.Old cause e = inr (inl refl)
 got_in got_as.OutOfRange cause e = inr (inr (inl refl))
 got_in (got_as.Integrity found wanted) cause e = inr (inr (inr (inr (inl (found, (wanted, refl))))))

@@ -10,7 +10,7 @@ use Rattle.bearer_pdcp.specs.Ends.{Ends, begun, bearer_of, sends}
 use Rattle.bearer_pdcp.specs.Lives.{owing_report, report_of, restarted}
 use Rattle.bearer.specs.declared.flow.Flow.{Flow}
 use Rattle.bearer.specs.Bearer.{flow_of}
-use Rattle.law_bearer.specs.AnyBearer.Calls.{Step, Calls, Restart, goes, run, reached, ends}
+use Rattle.law_bearer.specs.AnyBearer.Calls.{Step, Calls, Restart, goes, run_bearer, reached, ends}
 use Rattle.law_bearer.specs.AnyBearer.Texts.{keys_after, IsUnder}
 use Rattle.law_bearer.proofs.AnyBearer.Sender.{AreSame, moved_same}
 use Rattle.law_bearer.proofs.AnyBearer.Flows.{doing, called, restarts_as, none_steps}
@@ -44,7 +44,7 @@ restart_under keys next lcid side e u =
     (next_under keys next lcid side e.tx u)
 
 run_under : (keys : Keys) (lcid : ℕ) (side : Side) (f : Flow) (e : Ends) (xs : List Step) → ends f ≡ Some e
-    → Under keys lcid side e.tx → IsUnder (keys_after keys xs) lcid side (ends (run xs f))
+    → Under keys lcid side e.tx → IsUnder (keys_after keys xs) lcid side (ends (run_bearer xs f))
 run_under keys lcid side f e [] q u = subst (IsUnder keys lcid side) (sym q) u
 run_under keys lcid side f e (Calls c ∷ xs) q u =
     let one = called f e c q in

@@ -13,7 +13,7 @@ use Rattle.pdcp_rx.specs.State.{State as Receiving, got, arrived, restarted as r
 use Rattle.pdcp_tx_store.specs.Waiting.{Waits}
 use Rattle.pdcp_tx.specs.State.{State, Offer, offers, took, taking, is_overdue, after_late, reported, ticked}
 use Rattle.pdcp_tx.specs.State.{restarted as restarted_sending}
-use Rattle.law_pdcp.specs.OneEnd.Lives.{Step, Calls as Calling, goes, run, leaves}
+use Rattle.law_pdcp.specs.OneEnd.Lives.{Step, Calls as Calling, goes, run_pdcp_sender, leaves}
 use Rattle.pdcp_tx.specs.Runs.{Late}
 use Rattle.law_pdcp.proofs.OneEnd.KindStays.{kind_stays as sending_kind}
 use Rattle.law_pdcp.specs.OneEnd.Receiving.{Calls}
@@ -200,7 +200,7 @@ pub record AreOfKind (kind : PdcpKind) (e : Ends) : Type 0 where
   pub tx : e.tx.kind ≡ kind
   pub rx : e.rx.kind ≡ kind
 
-run_kind : (s : State) (xs : List Step) → (run xs s).kind ≡ s.kind
+run_kind : (s : State) (xs : List Step) → (run_pdcp_sender xs s).kind ≡ s.kind
 run_kind s [] = refl
 run_kind s (x ∷ xs) = run_kind (goes s x) xs ∙ sending_kind s x
 

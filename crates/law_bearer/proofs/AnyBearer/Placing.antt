@@ -1,8 +1,8 @@
 -- What PDCP keeps stands at its place in the stream.
-use Rattle.std.proofs.Common.{◌≡◌, ℕ, zero, suc, ◌+◌, ◌-◌, ◌≤◌, Bool, true, false, if◌then◌else◌, nat_lt, List, [], ◌∷◌}
-use Rattle.std.proofs.Common.{◌++◌, map, take, drop, length, Option, Some, None, slice_get, slice_set, append_assoc}
-use Rattle.std.proofs.Common.{length-append, subst, refl, ap, sym, ◌∙◌, arith}
-use Rattle.std.proofs.lemmas.List.{append-nil, length-drop}
+use Rattle.std.proofs.Common.{◌≡◌, ℕ, ◌+◌, ◌-◌, true, false, List, [], ◌∷◌}
+use Rattle.std.proofs.Common.{◌++◌, map, take, Option, Some, None, append_assoc}
+use Rattle.std.proofs.Common.{subst, refl, ap, sym, ◌∙◌, arith}
+use Rattle.std.proofs.lemmas.List.{append-nil}
 use Rattle.bearer_types.specs.declared.BearerConfig.{BearerConfig}
 use Rattle.eps_sec.specs.declared.Keys.{Keys}
 use Rattle.l2_types.specs.declared.Kind.{Kind}
@@ -13,156 +13,44 @@ use Rattle.pdcp_pdu.specs.declared.PdcpKind.TheVariants as pdcp
 use Rattle.pdcp_pdu.specs.Kinds.{is_am}
 use Rattle.pdcp_tx_store.specs.declared.given.Sent.{Sent}
 use Rattle.pdcp_tx_store.specs.declared.given.Entry.{Entry}
-use Rattle.pdcp_tx_store.specs.declared.given.Entry.TheVariants.{Data, Own, Gone}
+use Rattle.pdcp_tx_store.specs.declared.given.Entry.TheVariants.{Data, Own}
 use Rattle.pdcp_tx_store.specs.Waiting.{Waits}
-use Rattle.pdcp_tx_store.specs.Given.{Given, is_open, trimmed, closed, settled, with_entry, acked, acked_at, entry_at}
-use Rattle.pdcp_tx_store.specs.Given.{with_ack, tells, heard, with_report}
+use Rattle.pdcp_tx_store.specs.Given.{Given, settled, with_entry, acked}
+use Rattle.pdcp_tx_store.specs.Given.{with_ack, with_report}
 use Rattle.pdcp_tx.specs.State.{State, Offer, offers, owed_offers, again_offer, new_offers, start, submitted, took}
 use Rattle.pdcp_tx.specs.State.{took_owed, took_again, took_new, confirmed, reported, reported_from, fms_count}
 use Rattle.pdcp_tx.specs.State.{after_late, restarted as restarted_sending}
 use Rattle.pdcp_tx.specs.Runs.{Submit, Take, Confirm, Report, Owe, Tick, Late}
-use Rattle.law_pdcp.specs.OneEnd.Lives.{Step, Calls, SetDiscard, Restart, goes, run}
+use Rattle.law_pdcp.specs.OneEnd.Lives.{Step, Calls, SetDiscard, Restart, goes, run_pdcp_sender}
 use Rattle.bearer_pdcp.specs.Ends.{Ends, begun}
 use Rattle.bearer_pdcp.specs.Lives.{owing_report, report_of, restarted}
 use Rattle.bearer.specs.declared.flow.Flow.{Flow}
 use Rattle.bearer.specs.Bearer.{flow_of}
 use Rattle.law_bearer.specs.AnyBearer.Calls.{Step as BearerStep, Restart as Next, goes as bearer_goes}
-use Rattle.law_bearer.specs.AnyBearer.Calls.{run as bearer_run, reached, ends}
+use Rattle.law_bearer.specs.AnyBearer.Calls.{run_bearer, reached, ends}
 use Rattle.law_bearer.specs.AnyBearer.Stream.{taken}
-use Rattle.law_bearer.specs.AnyBearer.Places.{IsOf, AreOf, AreAtPlaces, KeepsPlaces}
-use Rattle.law_bearer.proofs.AnyBearer.Sender.{Doings, takes_at, doings, IsOfLife, AreOfLife, run_same, none_left}
+use Rattle.law_pdcp.specs.OneEnd.Places.{IsKeptOf}
+use Rattle.law_pdcp.proofs.OneEnd.Places as places
+use Rattle.law_bearer.specs.AnyBearer.Places.{IsSdu, IsReport, AreAtPlaces, KeepsPlaces}
+use Rattle.law_bearer.proofs.AnyBearer.Sender.{Doings, takes_at, doings, IsOfLife, AreOfLife, run_same}
 use Rattle.law_bearer.proofs.AnyBearer.Parts.{lives_kind}
 use Rattle.law_bearer.proofs.AnyBearer.Flows.{all_doings, life, life_taken, history, restarts_as, run_more}
 use Rattle.law_bearer.proofs.AnyBearer.Streams.{begun_kind, am_begins}
 
--- ---- entries
-
-one_more : (es : List Entry) (os : List Offer) (e : Entry) (o : Offer) → AreOf es os → IsOf e o
-    → AreOf (es ++ e ∷ []) (os ++ o ∷ [])
-one_more [] [] e o h i = (i, tt)
-one_more [] (x ∷ os) e o h i = absurd h
-one_more (x ∷ es) [] e o h i = absurd h
-one_more (x ∷ es) (y ∷ os) e o h i = (h.0, one_more es os e o h.1 i)
-
-drop_more : (n : ℕ) (os : List Offer) (o : Offer) → n ≤ length os → drop n (os ++ o ∷ []) ≡ drop n os ++ o ∷ []
-drop_more zero os o h = refl
-drop_more (suc n) [] o h = absurd (omega (arith, h))
-drop_more (suc n) (x ∷ os) o h = drop_more n os o (omega (arith, h))
-
-entry_places : (g : Given) (os : List Offer) (e : Entry) (o : Offer) → AreAtPlaces g os → IsOf e o
-    → AreAtPlaces (with_entry g e) (os ++ o ∷ [])
-entry_places g os e o h i =
-    let len = length-append os (o ∷ []) in
-    record {
-      few = omega (arith, len, h.few);
-      entries = subst (AreOf (g.entries ++ e ∷ [])) (sym (drop_more g.gone os o h.few))
-          (one_more g.entries (drop g.gone os) e o h.entries i);
-    }
-
-drop_further : (n m : ℕ) (os : List Offer) → drop (n + m) os ≡ drop m (drop n os)
-drop_further zero m os = let e : 0 + m ≡ m = omega arith in ap (λ k. drop k os) e
-drop_further (suc n) m [] = none_left (suc n + m) [] refl ∙ sym (none_left m (drop (suc n) []) refl)
-drop_further (suc n) m (x ∷ os) = let e : suc n + m ≡ suc (n + m) = omega arith in
-    ap (λ k. drop k (x ∷ os)) e ∙ drop_further n m os
-
-closed_step : (e : Entry) (es : List Entry) (o : Offer) (os : List Offer) (b : Bool) → is_open e ≡ b
-    → AreOf (e ∷ es) (o ∷ os) → AreOf (trimmed es) (drop (closed es) os)
-    → AreOf (trimmed (e ∷ es)) (drop (closed (e ∷ es)) (o ∷ os))
-closed_step e es o os true a h k = rw a h
-closed_step e es o os false a h k =
-    let one : 1 + closed es ≡ suc (closed es) = omega arith in
-    rw (a, one) k
-
-trim_places : (es : List Entry) (os : List Offer) → AreOf es os → AreOf (trimmed es) (drop (closed es) os)
-trim_places [] [] h = tt
-trim_places [] (o ∷ os) h = absurd h
-trim_places (e ∷ es) [] h = absurd h
-trim_places (e ∷ es) (o ∷ os) h = closed_step e es o os (is_open e) refl h (trim_places es os h.1)
-
-few_step : (e : Entry) (es : List Entry) (b : Bool) → is_open e ≡ b → closed es ≤ length es
-    → closed (e ∷ es) ≤ length (e ∷ es)
-few_step e es true a h = rw a (omega arith)
-few_step e es false a h = rw a (omega (arith, h))
-
-few_closed : (es : List Entry) → closed es ≤ length es
-few_closed [] = omega arith
-few_closed (e ∷ es) = few_step e es (is_open e) refl (few_closed es)
-
-as_many : (es : List Entry) (os : List Offer) → AreOf es os → length es ≡ length os
-as_many [] [] h = refl
-as_many [] (o ∷ os) h = absurd h
-as_many (e ∷ es) [] h = absurd h
-as_many (e ∷ es) (o ∷ os) h = ap suc (as_many es os h.1)
+-- ---- a report
 
 settled_places : (g : Given) (os : List Offer) → AreAtPlaces g os → AreAtPlaces (settled g) os
-settled_places g os h =
-    let many = as_many g.entries (drop g.gone os) h.entries in
-    let rest = length-drop g.gone os in
-    let few = few_closed g.entries in
-    record {
-      few = omega (arith, many, rest, few, h.few);
-      entries = subst (AreOf (trimmed g.entries)) (sym (drop_further g.gone (closed g.entries) os))
-          (trim_places g.entries (drop g.gone os) h.entries);
-    }
+settled_places = places.settled_places IsSdu IsReport
 
--- ---- a confirmation, and a report
-
-acked_of : (e : Entry) (o : Offer) → IsOf e o → IsOf (acked e) o
-acked_of (Data x) o h = h
-acked_of Own o h = tt
-acked_of Gone o h = tt
-
-set_places : (es : List Entry) (os : List Offer) (k : ℕ) (e : Entry) → AreOf es os → slice_get es k ≡ Some e
-    → AreOf (slice_set es k (acked e)) os
-set_places [] os k e h q = let no : None ≡ Some e = q in cc
-set_places (x ∷ es) [] k e h q = absurd h
-set_places (x ∷ es) (o ∷ os) zero e h q =
-    let some : Some x ≡ Some e = q in
-    let same : x ≡ e = cc in
-    (acked_of e o (subst (λ (y : Entry). IsOf y o) same h.0), h.1)
-set_places (x ∷ es) (o ∷ os) (suc k) e h q = (h.0, set_places es os k e h.1 q)
-
-ack_by : (es : List Entry) (os : List Offer) (k : ℕ) (at : Option Entry)
-    → ((e : Entry) → at ≡ Some e → slice_get es k ≡ Some e) → AreOf es os → AreOf (acked_at at es k) os
-ack_by es os k None f h = h
-ack_by es os k (Some e) f h = set_places es os k e h (f e refl)
-
-entry_is : (g : Given) (place : ℕ) (b : Bool) (e : Entry) → nat_lt place g.gone ≡ b → entry_at g place ≡ Some e
-    → slice_get g.entries (place - g.gone) ≡ Some e
-entry_is g place true e a q = let no : None ≡ Some e =
-    subst (λ (t : Bool). (if t then None else slice_get g.entries (place - g.gone)) ≡ Some e) a q in cc
-entry_is g place false e a q =
-    subst (λ (t : Bool). (if t then None else slice_get g.entries (place - g.gone)) ≡ Some e) a q
-
-ack_places : (g : Given) (place : ℕ) (os : List Offer) → AreAtPlaces g os → AreAtPlaces (with_ack g place) os
-ack_places g place os h = record {
-  few = h.few;
-  entries = ack_by g.entries (drop g.gone os) (place - g.gone) (entry_at g place)
-      (λ e q. entry_is g place (nat_lt place g.gone) e refl q) h.entries;
-}
-
-heard_step : (from : ℕ) (bitmap : List ℕ) (x : Sent) (o : Offer) (b : Bool) → tells from bitmap x.count ≡ b
-    → IsOf (Data x) o → IsOf (heard from bitmap (Data x)) o
-heard_step from bitmap x o true a h = rw a tt
-heard_step from bitmap x o false a h = rw a h
-
-heard_of : (from : ℕ) (bitmap : List ℕ) (e : Entry) (o : Offer) → IsOf e o → IsOf (heard from bitmap e) o
-heard_of from bitmap (Data x) o h = heard_step from bitmap x o (tells from bitmap x.count) refl h
-heard_of from bitmap Own o h = h
-heard_of from bitmap Gone o h = h
-
-hear_places : (from : ℕ) (bitmap : List ℕ) (es : List Entry) (os : List Offer) → AreOf es os
-    → AreOf (map (heard from bitmap) es) os
-hear_places from bitmap [] os h = h
-hear_places from bitmap (e ∷ es) [] h = absurd h
-hear_places from bitmap (e ∷ es) (o ∷ os) h = (heard_of from bitmap e o h.0, hear_places from bitmap es os h.1)
+entry_places : (g : Given) (os : List Offer) (e : Entry) (o : Offer) → AreAtPlaces g os → IsKeptOf IsSdu IsReport e o
+    → AreAtPlaces (with_entry g e) (os ++ o ∷ [])
+entry_places = places.entry_places IsSdu IsReport
 
 report_places : (s : State) (c : Option ℕ) (bitmap : List ℕ) (os : List Offer) → AreAtPlaces s.given os
     → AreAtPlaces (reported_from c s bitmap).given os
 report_places s None bitmap os h = h
 report_places s (Some from) bitmap os h =
-    settled_places (with_report s.given from bitmap) os
-    (record { few = h.few; entries = hear_places from bitmap s.given.entries (drop s.given.gone os) h.entries })
+    settled_places (with_report s.given from bitmap) os (places.report_places IsSdu IsReport s.given from bitmap os h)
 
 -- ---- a take
 
@@ -196,7 +84,7 @@ step_places s (Calls (Submit sdu)) os l am h = subst (AreAtPlaces s.given) (sym 
 step_places s (Calls Take) os l am h = owed_places s s.owed os am h
 step_places s (Calls (Confirm place)) os l am h =
     subst (AreAtPlaces (confirmed s place).given) (sym (append-nil os))
-    (settled_places (with_ack s.given place) os (ack_places s.given place os h))
+    (settled_places (with_ack s.given place) os (places.ack_places IsSdu IsReport s.given place os h))
 step_places s (Calls (Report fms bitmap)) os l am h =
     subst (AreAtPlaces (reported s fms bitmap).given) (sym (append-nil os))
     (report_places s (fms_count s.kind s.base fms) bitmap os h)
@@ -207,11 +95,12 @@ step_places s (SetDiscard ttis) os l am h = subst (AreAtPlaces s.given) (sym (ap
 step_places s (Restart keys) os l am h = absurd l
 
 run_places : (s : State) (xs : List Step) (os : List Offer) → AreOfLife xs → is_am s.kind ≡ true
-    → AreAtPlaces s.given os → AreAtPlaces (run xs s).given (os ++ (doings s xs).taken)
+    → AreAtPlaces s.given os → AreAtPlaces (run_pdcp_sender xs s).given (os ++ (doings s xs).taken)
 run_places s [] os l am h = subst (AreAtPlaces s.given) (sym (append-nil os)) h
 run_places s (x ∷ xs) os l am h =
     let kind = (run_same s (x ∷ []) (l.0, tt)).kind in
-    subst (AreAtPlaces (run xs (goes s x)).given) (append_assoc os (takes_at s x) (doings (goes s x) xs).taken)
+    subst (AreAtPlaces (run_pdcp_sender xs (goes s x)).given)
+    (append_assoc os (takes_at s x) (doings (goes s x) xs).taken)
     (run_places (goes s x) xs (os ++ takes_at s x) l.1 (ap is_am kind ∙ am) (step_places s x os l.0 am h))
 
 -- ---- a life from its beginning on
@@ -223,7 +112,7 @@ life_places f e q am g cs d r =
     let some : Some l.next ≡ Some d = sym l.is ∙ r in
     let same : l.next ≡ d = cc in
     let none : AreAtPlaces (record { gone = 0; entries = [] }) [] = record { few = omega arith; entries = tt } in
-    let here : AreAtPlaces (run l.passed.tx.steps e.tx).given (doings e.tx l.passed.tx.steps).taken =
+    let here : AreAtPlaces (run_pdcp_sender l.passed.tx.steps e.tx).given (doings e.tx l.passed.tx.steps).taken =
     run_places e.tx l.passed.tx.steps [] l.passed.tx.life am (subst (λ (x : Given). AreAtPlaces x []) (sym g) none) in
     let at : AreAtPlaces l.next.tx.given (taken f cs) =
     subst (λ os. AreAtPlaces l.next.tx.given os) (sym (ap (λ (a : Doings). a.taken) l.passed.tx.did) ∙ life_taken f cs)
@@ -256,7 +145,7 @@ first_life c keys side =
     (start_given c.channel.lcid (pdcp.Am c.pdcp_bits) c.first keys side)
 
 next_life : (c : BearerConfig) (keys : Keys) (side : Side) (xs : List BearerStep) (next : Keys)
-    → KeepsPlaces (bearer_goes (bearer_run xs (flow_of kinds.Am c keys side)) (Next next))
+    → KeepsPlaces (bearer_goes (run_bearer xs (flow_of kinds.Am c keys side)) (Next next))
 next_life c keys side xs next =
     let f = flow_of kinds.Am c keys side in
     let e : Ends = begun c.channel.lcid (pdcp.Am c.pdcp_bits) c.first keys side in
@@ -265,11 +154,11 @@ next_life c keys side xs next =
     (begun_kind c.channel.lcid (pdcp.Am c.pdcp_bits) c.first keys side) in
     let there = run_more f xs (Next next ∷ []) in
     let before = history f e xs (am_begins c keys side) in
-    let z = restarts_as (bearer_run xs f) before.next next before.is in
+    let z = restarts_as (run_bearer xs f) before.next next before.is in
     let some : Some h.next ≡ Some (restarted z.between next) = sym h.is ∙ ap ends there ∙ z.after in
     let same : h.next ≡ restarted z.between next = cc in
     let kind : h.next.tx.kind ≡ pdcp.Am c.pdcp_bits = k.tx ∙ h.passed.kind ∙ am_start c keys side in
-    life_places (bearer_goes (bearer_run xs f) (Next next)) h.next (ap ends (sym there) ∙ h.is) (ap is_am kind)
+    life_places (bearer_goes (run_bearer xs f) (Next next)) h.next (ap ends (sym there) ∙ h.is) (ap is_am kind)
     (ap (λ (x : Ends). x.tx.given) same ∙ next_given z.between next)
 
 pub in_the_first : (c : BearerConfig) (keys : Keys) (side : Side) → c.kind ≡ kinds.Am
@@ -280,5 +169,5 @@ in_the_first c keys side k =
 pub in_the_others : (c : BearerConfig) (keys : Keys) (side : Side) (xs : List BearerStep) (next : Keys)
     → c.kind ≡ kinds.Am → KeepsPlaces (bearer_goes (reached c keys side xs) (Next next))
 in_the_others c keys side xs next k =
-    subst (λ (kind : Kind). KeepsPlaces (bearer_goes (bearer_run xs (flow_of kind c keys side)) (Next next))) (sym k)
+    subst (λ (kind : Kind). KeepsPlaces (bearer_goes (run_bearer xs (flow_of kind c keys side)) (Next next))) (sym k)
     (next_life c keys side xs next)

@@ -14,7 +14,7 @@ use Rattle.law_pdcp.proofs.OneEnd.Queue.{in_order}
 use Rattle.bearer_pdcp.specs.Ends.{Ends, begun, bearer_of, sends}
 use Rattle.bearer.specs.declared.flow.Flow.{Flow}
 use Rattle.bearer.specs.Bearer.{flow_of}
-use Rattle.law_bearer.specs.AnyBearer.Calls.{Step, run, reached, ends}
+use Rattle.law_bearer.specs.AnyBearer.Calls.{Step, run_bearer, reached, ends}
 use Rattle.law_bearer.specs.AnyBearer.Queue.{queue, all_submitted, all_left}
 use Rattle.law_bearer.proofs.AnyBearer.Sender.{Doings, doings}
 use Rattle.law_bearer.proofs.AnyBearer.Flows.{lives_left, lives_submitted, history}
@@ -38,7 +38,7 @@ start_waits kind p first = refl
 
 flow_order : (f : Flow) (kind : PdcpKind) (lcid first : ℕ) (keys : Keys) (side : Side) (xs : List Step)
     → kind ≢ pdcp.Srb → ends f ≡ Some (begun lcid kind first keys side)
-    → all_left f xs ++ queue (ends (run xs f)) ≡ all_submitted xs
+    → all_left f xs ++ queue (ends (run_bearer xs f)) ≡ all_submitted xs
 flow_order f kind lcid first keys side xs data' q =
     let p : Protection = protection_of kind keys (bearer_of lcid) (sends side) in
     let s : State = start kind p first in
@@ -65,7 +65,7 @@ flow_order f kind lcid first keys side xs data' q =
 
 abbrev Leaves : Kind → BearerConfig → Keys → Side → List Step → Type 0
 Leaves kind c keys side xs = all_left (flow_of kind c keys side) xs
-    ++ queue (ends (run xs (flow_of kind c keys side))) ≡ all_submitted xs
+    ++ queue (ends (run_bearer xs (flow_of kind c keys side))) ≡ all_submitted xs
 
 pub leaves_in_order : (c : BearerConfig) (keys : Keys) (side : Side) (xs : List Step)
     → (c.kind ≡ kinds.Um) ⊎ (c.kind ≡ kinds.Am)

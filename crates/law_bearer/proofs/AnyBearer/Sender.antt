@@ -9,7 +9,8 @@ use Rattle.pdcp_tx.specs.State.{State, Offer, offers, submitted, took, took_owed
 use Rattle.pdcp_tx.specs.State.{reported, reported_from, fms_count, after_late, is_overdue, written}
 use Rattle.pdcp_tx.specs.Runs.{Submit, Take, Confirm, Report, Owe, Tick, Late}
 use Rattle.pdcp_tx.proofs.Head.{heads}
-use Rattle.law_pdcp.specs.OneEnd.Lives.{Step, Calls, SetDiscard, Restart, goes, run, takes_first, submits, first_sdu}
+use Rattle.law_pdcp.specs.OneEnd.Lives.{Step, Calls, SetDiscard, Restart, goes, run_pdcp_sender, takes_first, submits}
+use Rattle.law_pdcp.specs.OneEnd.Lives.{first_sdu}
 use Rattle.law_pdcp.specs.OneEnd.Lives.{new_behind, new_of, leaves}
 use Rattle.law_bearer.specs.AnyBearer.Stream.{pdu_of}
 
@@ -58,14 +59,16 @@ abbrev pub doings : State → List Step → Doings
 doings s [] = nothing
 doings s (x ∷ xs) = also (does s x) (doings (goes s x) xs)
 
-pub run_more : (s : State) (xs ys : List Step) → run (xs ++ ys) s ≡ run ys (run xs s)
+pub run_more : (s : State) (xs ys : List Step) → run_pdcp_sender (xs ++ ys) s
+    ≡ run_pdcp_sender ys (run_pdcp_sender xs s)
 run_more s [] ys = refl
 run_more s (x ∷ xs) ys = run_more (goes s x) xs ys
 
-pub doings_more : (s : State) (xs ys : List Step) → doings s (xs ++ ys) ≡ also (doings s xs) (doings (run xs s) ys)
+pub doings_more : (s : State) (xs ys : List Step) → doings s (xs ++ ys)
+    ≡ also (doings s xs) (doings (run_pdcp_sender xs s) ys)
 doings_more s [] ys = refl
 doings_more s (x ∷ xs) ys = ap (also (does s x)) (doings_more (goes s x) xs ys)
-    ∙ sym (also_assoc (does s x) (doings (goes s x) xs) (doings (run xs (goes s x)) ys))
+    ∙ sym (also_assoc (does s x) (doings (goes s x) xs) (doings (run_pdcp_sender xs (goes s x)) ys))
 
 -- ---- steps of one life
 
@@ -92,18 +95,19 @@ life_more (x ∷ xs) ys h k = (h.0, life_more xs ys h.1 k)
 pub record Moved (s t : State) (d : Doings) : Type 0 where
   pub steps : List Step
   pub life : AreOfLife steps
-  pub left : t ≡ run steps s
+  pub left : t ≡ run_pdcp_sender steps s
   pub did : d ≡ doings s steps
 
 pub record Lived (s t : State) (d : Doings) : Type 0 where
   pub steps : List Step
-  pub left : t ≡ run steps s
+  pub left : t ≡ run_pdcp_sender steps s
   pub did : d ≡ doings s steps
 
 pub still : (s : State) → Moved s s nothing
 still s = record { steps = []; life = tt; left = refl; did = refl }
 
-did_then : (s t : State) (xs ys : List Step) (d e : Doings) → t ≡ run xs s → d ≡ doings s xs → e ≡ doings t ys
+did_then : (s t : State) (xs ys : List Step) (d e : Doings) → t ≡ run_pdcp_sender xs s → d ≡ doings s xs
+    → e ≡ doings t ys
     → also d e ≡ doings s (xs ++ ys)
 did_then s t xs ys d e q a b =
     ap (λ x. also x e) a ∙ ap (also (doings s xs)) (b ∙ ap (λ r. doings r ys) q) ∙ sym (doings_more s xs ys)
@@ -112,7 +116,7 @@ pub moved_then : (s t u : State) (d e : Doings) → Moved s t d → Moved t u e 
 moved_then s t u d e m n = record {
   steps = m.steps ++ n.steps;
   life = life_more m.steps n.steps m.life n.life;
-  left = n.left ∙ ap (run n.steps) m.left ∙ sym (run_more s m.steps n.steps);
+  left = n.left ∙ ap (run_pdcp_sender n.steps) m.left ∙ sym (run_more s m.steps n.steps);
   did = did_then s t m.steps n.steps d e m.left m.did n.did;
 }
 
@@ -122,7 +126,7 @@ lived s t d m = record { steps = m.steps; left = m.left; did = m.did }
 pub lived_then : (s t u : State) (d e : Doings) → Lived s t d → Lived t u e → Lived s u (also d e)
 lived_then s t u d e m n = record {
   steps = m.steps ++ n.steps;
-  left = n.left ∙ ap (run n.steps) m.left ∙ sym (run_more s m.steps n.steps);
+  left = n.left ∙ ap (run_pdcp_sender n.steps) m.left ∙ sym (run_more s m.steps n.steps);
   did = did_then s t m.steps n.steps d e m.left m.did n.did;
 }
 
@@ -269,10 +273,10 @@ step_queue s (SetDiscard ttis) h = sym (append-nil (sdus s.waiting))
 step_queue s (Restart keys) h = absurd h
 
 run_queue : (s : State) (xs : List Step) → AreOfLife xs
-    → (doings s xs).left ++ sdus (run xs s).waiting ≡ sdus s.waiting ++ (doings s xs).submitted
+    → (doings s xs).left ++ sdus (run_pdcp_sender xs s).waiting ≡ sdus s.waiting ++ (doings s xs).submitted
 run_queue s [] h = sym (append-nil (sdus s.waiting))
 run_queue s (x ∷ xs) h =
-    append_assoc (leaves s x) (doings (goes s x) xs).left (sdus (run xs (goes s x)).waiting)
+    append_assoc (leaves s x) (doings (goes s x) xs).left (sdus (run_pdcp_sender xs (goes s x)).waiting)
     ∙ ap (λ l. leaves s x ++ l) (run_queue (goes s x) xs h.1)
     ∙ sym (append_assoc (leaves s x) (sdus (goes s x).waiting) (doings (goes s x) xs).submitted)
     ∙ ap (λ l. l ++ (doings (goes s x) xs).submitted) (step_queue s x h.0)
@@ -280,7 +284,7 @@ run_queue s (x ∷ xs) h =
 
 pub moved_queue : (s t : State) (d : Doings) → Moved s t d → d.left ++ sdus t.waiting ≡ sdus s.waiting ++ d.submitted
 moved_queue s t d m =
-    let here : (doings s m.steps).left ++ sdus (run m.steps s).waiting
+    let here : (doings s m.steps).left ++ sdus (run_pdcp_sender m.steps s).waiting
     ≡ sdus s.waiting ++ (doings s m.steps).submitted = run_queue s m.steps m.life in
     rw (m.did, m.left) here
 
@@ -322,7 +326,7 @@ step_same s (Calls Late) h = record { kind = refl; protection = refl }
 step_same s (SetDiscard ttis) h = record { kind = refl; protection = refl }
 step_same s (Restart keys) h = absurd h
 
-pub run_same : (s : State) (xs : List Step) → AreOfLife xs → AreSame s (run xs s)
+pub run_same : (s : State) (xs : List Step) → AreOfLife xs → AreSame s (run_pdcp_sender xs s)
 run_same s [] h = record { kind = refl; protection = refl }
 run_same s (x ∷ xs) h =
     let one = step_same s x h.0 in

@@ -81,16 +81,16 @@ takes_on b share held =
           ∙ sym (sends_then b.tx offers last);
     }
 
-pub gives : (b : State) (share : ℕ) (held : Option ℕ) → am_answer b share held ≡ data_given b share held
+pub answers_given : (b : State) (share : ℕ) (held : Option ℕ) → am_answer b share held ≡ data_given b share held
 unfolding am_answer after_taking
-gives b share held =
+answers_given b share held =
     ap (λ (s : Sender). rlc_answer s (data_size b share) held (has_more (feeding b share held).pdcp))
     (fed_is b share held)
 
 pub writes_what_rlc_gives : (b : State) (share : ℕ) (held : Option ℕ)
     → pdus (Am b) share held ≡ status_pdus b.rx share ++ pdus_of (data_given b share held)
 unfolding pdus am_pdus
-writes_what_rlc_gives b share held = ap (λ t. status_pdus b.rx share ++ pdus_of t) (gives b share held)
+writes_what_rlc_gives b share held = ap (λ t. status_pdus b.rx share ++ pdus_of t) (answers_given b share held)
 
 -- ---- a PDU arrives
 

@@ -13,14 +13,14 @@ use Rattle.pdcp_sec.specs.Protection.{protection_of}
 use Rattle.pdcp_rx.specs.State.{fresh}
 use Rattle.pdcp_tx.specs.State.{start}
 use Rattle.pdcp_tx.specs.Runs.{IsOrdered}
-use Rattle.law_pdcp.specs.OneEnd.Lives.{run as run_sender}
+use Rattle.law_pdcp.specs.OneEnd.Lives.{run_pdcp_sender}
 use Rattle.law_pdcp.proofs.OneEnd.Lives.{lives_are_ordered}
 use Rattle.bearer_pdcp.specs.Ends.{Ends, begun, bearer_of, sends}
 use Rattle.bearer.specs.Unacknowledged.State.{fresh as fresh_um}
 use Rattle.bearer.specs.Acknowledged.State.{fresh as fresh_am}
 use Rattle.bearer.specs.declared.flow.Flow.{Flow}
 use Rattle.bearer.specs.Bearer.{flow_of}
-use Rattle.law_bearer.specs.AnyBearer.Calls.{Call, after, Step, run, reached, ends}
+use Rattle.law_bearer.specs.AnyBearer.Calls.{Call, after, Step, run_bearer, reached, ends}
 use Rattle.law_bearer.specs.AnyBearer.Stream.{takes, taken, pdu_of, pdus_of, stream, owed, AreInOrder, IsStream}
 use Rattle.law_bearer.proofs.AnyBearer.Sender.{Doings, moved_same, same_pdus}
 use Rattle.law_bearer.proofs.AnyBearer.Parts.{AreOfKind, lives_kind}
@@ -74,13 +74,13 @@ unfolding begun start fresh
 begun_kind lcid kind first keys side = record { here = refl; tx = refl; rx = refl }
 
 arrived_from : (c : BearerConfig) (keys : Keys) (side : Side) (f : Flow) (xs : List Step) → Begun c keys side (ends f)
-    → Arrived (run xs f)
+    → Arrived (run_bearer xs f)
 arrived_from c keys side f xs b =
     let p = protection_of b.kind keys (bearer_of c.channel.lcid) (sends side) in
     let start_ends : Ends = begun c.channel.lcid b.kind c.first keys side in
     let h = history f start_ends xs b.is in
     let from = h.passed.tx.left
-    ∙ ap (run_sender h.passed.tx.steps) (begun_tx c.channel.lcid b.kind c.first keys side) in
+    ∙ ap (run_pdcp_sender h.passed.tx.steps) (begun_tx c.channel.lcid b.kind c.first keys side) in
     record {
       now = h.next;
       is = h.is;

@@ -1,6 +1,6 @@
 -- Calls of a bearer over unacknowledged RLC, as steps of PDCP's sender.
-use Rattle.std.proofs.Common.{◌≡◌, ℕ, zero, suc, ◌≤◌, Bool, true, false, if◌then◌else◌, List, [], ◌∷◌, take, drop, map}
-use Rattle.std.proofs.Common.{length, Option, Some, Result, Ok, Err, refl, ap, ◌∙◌, arith}
+use Rattle.std.proofs.Common.{◌≡◌, ℕ, Bool, true, false, if◌then◌else◌, List, [], ◌∷◌, drop}
+use Rattle.std.proofs.Common.{Option, Result, Ok, Err, refl, ap, ◌∙◌}
 use Rattle.bearer_types.specs.declared.Event.{Event}
 use Rattle.l2_num.specs.Timers.{ends}
 use Rattle.l2_types.specs.declared.Clock.{Clock}
@@ -8,7 +8,7 @@ use Rattle.l2_types.specs.declared.Clock.TheVariants.{Poll, Reorder, Prohibit}
 use Rattle.pdcp_rx.specs.declared.Cause.{Cause}
 use Rattle.eps_sec.specs.declared.Keys.{Keys}
 use Rattle.pdcp_rx.specs.declared.Cause.TheVariants.{Arrived, Reestablished}
-use Rattle.pdcp_tx.specs.State.{Offer, offers, took}
+use Rattle.pdcp_tx.specs.State.{Offer, offers}
 use Rattle.rlc_pdu.specs.declared.Expired.{Expired}
 use Rattle.rlc_pdu.specs.declared.Expired.TheVariants.{Done, NotRunning}
 use Rattle.rlc_pdu.specs.declared.RlcRefusal.{RlcRefusal}
@@ -18,7 +18,6 @@ use Rattle.rlc_um.specs.Sender.{is_hungry}
 use Rattle.rlc_um.specs.Receiver.{State as Receiver, landing, turning, arrival, expiring, expired, all_joined}
 use Rattle.bearer_pdcp.specs.Lives.{restarted as restarted_pdcp}
 use Rattle.bearer_pdcp.specs.Discarding.{after_tick}
-use Rattle.bearer_pdcp.specs.Taking.{after_taking as after_pdcp}
 use Rattle.bearer_pdcp.specs.Telling.{landed_told, expired_told}
 use Rattle.bearer.specs.Unacknowledged.State.{State}
 use Rattle.bearer.specs.Unacknowledged.Taking.{Feeding, given_to, fed, feeds, feeding, size_in, after_taking}
@@ -26,46 +25,25 @@ use Rattle.bearer.specs.Unacknowledged.Hearing.{Hearing, hears, hears_all, up_le
 use Rattle.bearer.specs.Unacknowledged.Hearing.{expiry_left, clock_left, after_expiry, counted_down, timed_left}
 use Rattle.bearer.specs.Unacknowledged.Hearing.{after_ticking}
 use Rattle.bearer.specs.Unacknowledged.Lives.{stopped, restarted}
-use Rattle.law_bearer.specs.AnyBearer.Stream.{pdu_of, um_offered}
-use Rattle.law_bearer.proofs.AnyBearer.Sender.{nothing, took_all, left_of, took_same, same_pdus}
-use Rattle.law_bearer.proofs.AnyBearer.Parts.{first_taken, pdcp_took, pdcp_rest, Passed, rests, passed_then}
+use Rattle.law_bearer.specs.AnyBearer.Stream.{um_offered}
+use Rattle.law_bearer.proofs.AnyBearer.Sender.{nothing, left_of}
+use Rattle.law_bearer.proofs.AnyBearer.Feeding.{Fed as FedOf, none_fed as fed_none, one_fed}
+use Rattle.law_bearer.proofs.AnyBearer.Parts.{pdcp_took, Passed, rests, passed_then}
 use Rattle.law_bearer.proofs.AnyBearer.Parts.{hearing_moves, Ended, ends_as, ended_then, last_one}
 
 -- ---- RLC takes PDUs
 
 -- so many are fed
-pub record Fed (os : List Offer) (w v : Feeding) : Type 0 where
-  pub n : ℕ
-  pub few : n ≤ length os
-  pub left : v.pdcp.tx ≡ took_all n w.pdcp.tx
-  pub kind : v.pdcp.kind ≡ w.pdcp.kind
-  pub rx : v.pdcp.rx.kind ≡ w.pdcp.rx.kind
-  pub offered : v.tx ≡ um_offered (map (pdu_of w.pdcp.tx) (take n os)) w.tx
+abbrev pub Fed : List Offer → Feeding → Feeding → Type 0
+Fed os w v = FedOf given_to um_offered os w.pdcp v.pdcp w.tx v.tx
 
 none_fed : (os : List Offer) (w : Feeding) → Fed os w w
-none_fed os w = record { n = zero; few = omega arith; left = refl; kind = refl; rx = refl; offered = refl }
-
-one_fed : (o : Offer) (os : List Offer) (w v : Feeding) → offers w.pdcp.tx ≡ o ∷ os → Fed os (fed w) v
-    → Fed (o ∷ os) w v
-one_fed o os w v q f = record {
-  n = suc f.n;
-  few = omega (arith, f.few);
-  left = f.left ∙ ap (took_all f.n) (pdcp_took w.pdcp);
-  kind = f.kind ∙ (pdcp_rest w.pdcp).0;
-  rx = f.rx ∙ (pdcp_rest w.pdcp).1;
-  offered =
-      f.offered
-      ∙ ap (λ tx. um_offered (map (pdu_of (after_pdcp w.pdcp).tx) (take f.n os)) (given_to tx w.tx))
-      (first_taken w.pdcp o os q)
-      ∙ ap (λ s. um_offered (map (pdu_of s) (take f.n os)) (given_to (Some (pdu_of w.pdcp.tx o)) w.tx))
-      (pdcp_took w.pdcp)
-      ∙ ap (λ l. um_offered l (given_to (Some (pdu_of w.pdcp.tx o)) w.tx))
-      (same_pdus w.pdcp.tx (took w.pdcp.tx) (take f.n os) (took_same w.pdcp.tx));
-}
+none_fed os w = fed_none given_to um_offered (λ tx. refl) os w.pdcp w.tx
 
 fed_by : (b : Bool) (o : Offer) (os : List Offer) (w v : Feeding) → offers w.pdcp.tx ≡ o ∷ os → Fed os (fed w) v
     → Fed (o ∷ os) w (if b then v else w)
-fed_by true o os w v q f = one_fed o os w v q f
+fed_by true o os w v q f =
+    one_fed given_to um_offered (λ pdu pdus tx. refl) o os w.pdcp v.pdcp w.tx v.tx q f
 fed_by false o os w v q f = none_fed (o ∷ os) w
 
 all_fed : (os : List Offer) (size : ℕ) (held : Option ℕ) (w : Feeding) → offers w.pdcp.tx ≡ os

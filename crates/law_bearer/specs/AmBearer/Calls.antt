@@ -126,9 +126,9 @@ abbrev pub up_in : Event → List (List ℕ)
 up_in (events.Up lcid sdu) = sdu ∷ []
 up_in event = []
 
-abbrev pub ups_in : List Event → List (List ℕ)
-ups_in [] = []
-ups_in (event ∷ told) = up_in event ++ ups_in told
+abbrev pub ups_among : List Event → List (List ℕ)
+ups_among [] = []
+ups_among (event ∷ told) = up_in event ++ ups_among told
 
 -- ---- the laws
 
@@ -146,7 +146,7 @@ pub record IsIdle (b : State) : Type 0 where
 
 pub record AreDeeds (bits : ℕ) (b : State) (c : Call) : Type 0 where
   pub left : after (Am b) c ≡ Am (does_all (deeds_of b c) b)
-  pub ups : go_up (deeds_of b c) b ≡ ups_in (tells b c)
+  pub ups : go_up (deeds_of b c) b ≡ ups_among (tells b c)
   pub stays : IsOfData bits (does_all (deeds_of b c) b)
   pub idle : IsIdle (does_all (deeds_of b c) b)
 

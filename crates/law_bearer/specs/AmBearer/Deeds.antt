@@ -52,17 +52,17 @@ confirms_first (place ∷ places) b =
     with_sending (after b.pdcp.tx (Confirm place)) (record b { tx = sender_after b.tx HandOver })
 
 -- what PDCP's receiver reads is for PDCP's sender where it is a status report (TS 36.323 5.3.2)
-abbrev pub told_by : Heard → Sending → Sending
-told_by (Bad refusal) s = s
-told_by (Told fms bitmap) s = after s (Report fms bitmap)
-told_by (Data sn body) s = s
+abbrev pub after_heard : Heard → Sending → Sending
+after_heard (Bad refusal) s = s
+after_heard (Told fms bitmap) s = after s (Report fms bitmap)
+after_heard (Data sn body) s = s
 
 abbrev pub all_raised : Receiving → Receiving
 all_raised r = record r { ready = [] }
 
 abbrev pub hears_one : List ℕ → Ends → Ends
 hears_one sdu e = record e {
-  tx = told_by (heard e.rx.kind sdu) e.tx;
+  tx = after_heard (heard e.rx.kind sdu) e.tx;
   rx = all_raised (arrived e.rx sdu Arrived);
 }
 

@@ -24,7 +24,7 @@ use Rattle.bearer.specs.Bearer.{flow_of}
 use Rattle.bearer.specs.Lives.{stopping}
 use Rattle.law_bearer.specs.AnyBearer.Calls.{Step, Restart, goes, reached}
 use Rattle.law_bearer.specs.AmBearer.Deeds.{Deed, does, all_raised}
-use Rattle.law_bearer.specs.AmBearer.Calls.{IsOfData, IsIdle, ups_in}
+use Rattle.law_bearer.specs.AmBearer.Calls.{IsOfData, IsIdle, ups_among}
 
 -- ---- the next life
 
@@ -51,7 +51,7 @@ restarts b keys = record b {
 
 pub record RestartsAs (bits : ℕ) (b : State) (keys : Keys) : Type 0 where
   pub left : goes (Am b) (Restart keys) ≡ Am (restarts b keys)
-  pub ups : (closed b).ready ≡ ups_in (stopping (Am b))
+  pub ups : (closed b).ready ≡ ups_among (stopping (Am b))
   pub stays : IsOfData bits (restarts b keys)
   pub idle : IsIdle (restarts b keys)
 
@@ -62,7 +62,7 @@ RestartsAreDeeds = (bits : ℕ) (b : State) (keys : Keys) → IsOfData bits b �
 -- ---- the first life
 
 -- PDCP's sender at an end and its receiver at the other begin alike
-pub record BeginAlike (bits : ℕ) (p : Protection) (first : ℕ) (from to : State) : Type 0 where
+pub record AmPdcpBeginAlike (bits : ℕ) (p : Protection) (first : ℕ) (from to : State) : Type 0 where
   pub sender : from.pdcp.tx ≡ start_sending (AmKind bits) p first
   pub receiver : to.pdcp.rx ≡ fresh_receiving (AmKind bits) p first
 
@@ -88,7 +88,7 @@ abbrev pub EndsBeginAlike : Type 0
 EndsBeginAlike = (c : BearerConfig) (keys : Keys) (side : Side) (near far : State)
     → c.kind ≡ kinds.Am
     → flow_of c.kind c keys side ≡ Am near → flow_of c.kind c keys (other side) ≡ Am far
-    → BeginAlike c.pdcp_bits (protection_at c keys side) c.first near far
+    → AmPdcpBeginAlike c.pdcp_bits (protection_at c keys side) c.first near far
 
 abbrev pub FirstLifeBegins : Type 0
 FirstLifeBegins = (c : BearerConfig) (keys : Keys) (side : Side) (b : State) → c.kind ≡ kinds.Am

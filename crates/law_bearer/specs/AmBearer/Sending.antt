@@ -15,14 +15,14 @@ abbrev pub offers_next : Option Next → List SenderCall
 offers_next None = []
 offers_next (Some pdu) = Offer pdu.octets ∷ []
 
-abbrev pub hands_over : List ℕ → List SenderCall
-hands_over [] = []
-hands_over (place ∷ places) = HandOver ∷ []
+abbrev pub hand_over_calls : List ℕ → List SenderCall
+hand_over_calls [] = []
+hand_over_calls (place ∷ places) = HandOver ∷ []
 
 abbrev pub sends_at : State → Deed → List SenderCall
 sends_at b Feeds = offers_next (taking b.pdcp.tx)
 sends_at b (Sends c) = c ∷ []
-sends_at b Confirms = hands_over b.tx.accounts.news
+sends_at b Confirms = hand_over_calls b.tx.accounts.news
 sends_at b (Receives c) = []
 sends_at b HandsUp = []
 sends_at b (Asks c) = []

@@ -47,13 +47,13 @@ abbrev pub goes : Flow → Step → Flow
 goes f (Calls c) = after f c
 goes f (Restart keys) = restarted (stopped f) keys
 
-abbrev pub run : List Step → Flow → Flow
-run [] f = f
-run (x ∷ xs) f = run xs (goes f x)
+abbrev pub run_bearer : List Step → Flow → Flow
+run_bearer [] f = f
+run_bearer (x ∷ xs) f = run_bearer xs (goes f x)
 
 -- a bearer after any steps, as both ends are configured with it
 abbrev pub reached : BearerConfig → Keys → Side → List Step → Flow
-reached c keys side steps = run steps (flow_of c.kind c keys side)
+reached c keys side steps = run_bearer steps (flow_of c.kind c keys side)
 
 -- PDCP of a bearer, in a life and between two; a transparent one has none
 abbrev pub ends : Flow → Option Ends

@@ -1,37 +1,29 @@
 -- A place means one SDU to PDCP and to RLC (TS 36.322 5.1.3.1, TS 36.323 5.1.1): the place in the
 -- stream of the life.
-use Rattle.std.specs.Prelude.{◌≡◌, ◌≤◌, List, [], ◌∷◌, length, drop, Some, None}
+use Rattle.std.specs.Prelude.{◌≡◌, ℕ, List, Some, None}
 use Rattle.bearer_types.specs.declared.BearerConfig.{BearerConfig}
 use Rattle.eps_sec.specs.declared.Keys.{Keys}
 use Rattle.l2_types.specs.declared.Kind.TheVariants as kinds
 use Rattle.l2_types.specs.declared.Side.{Side}
-use Rattle.pdcp_tx_store.specs.declared.given.Entry.{Entry}
-use Rattle.pdcp_tx_store.specs.declared.given.Entry.TheVariants.{Data, Own, Gone}
 use Rattle.pdcp_tx_store.specs.Given.{Given}
 use Rattle.pdcp_tx.specs.State.{Offer}
+use Rattle.law_pdcp.specs.OneEnd.Places.{AreKeptAt}
 use Rattle.bearer_pdcp.specs.Ends.{Ends}
 use Rattle.bearer.specs.declared.flow.Flow.{Flow}
 use Rattle.bearer.specs.Bearer.{flow_of}
 use Rattle.law_bearer.specs.AnyBearer.Calls.{Call, after_all, Step, Restart, goes, reached, ends}
 use Rattle.law_bearer.specs.AnyBearer.Stream.{taken}
 
--- what PDCP keeps of a taken PDU: the SDU with its COUNT, or that it was the own report; nothing
--- once it is confirmed
-abbrev pub IsOf : Entry → Offer → Type 0
-IsOf (Data x) o = (o.count ≡ Some x.count) × (o.text ≡ x.octets)
-IsOf Own o = o.count ≡ None
-IsOf Gone o = Unit {0}
+-- what PDCP keeps of a taken PDU: the SDU with its COUNT, or that it was the own report; of each PDU
+-- of the stream but the first so many, which are confirmed
+abbrev pub IsSdu : ℕ → List ℕ → Offer → Type 0
+IsSdu count octets o = (o.count ≡ Some count) × (o.text ≡ octets)
 
-abbrev pub AreOf : List Entry → List Offer → Type 0
-AreOf [] [] = Unit {0}
-AreOf [] (o ∷ os) = ⊥
-AreOf (e ∷ es) [] = ⊥
-AreOf (e ∷ es) (o ∷ os) = IsOf e o × AreOf es os
+abbrev pub IsReport : Offer → Type 0
+IsReport o = o.count ≡ None
 
--- it keeps something of each PDU of the stream but the first so many, which are confirmed
-pub record AreAtPlaces (given : Given) (stream : List Offer) : Type 0 where
-  pub few : given.gone ≤ length stream
-  pub entries : AreOf given.entries (drop given.gone stream)
+abbrev pub AreAtPlaces : Given → List Offer → Type 0
+AreAtPlaces = AreKeptAt IsSdu IsReport
 
 -- in a life from its beginning on
 abbrev pub KeepsPlaces : Flow → Type 0

@@ -1,6 +1,6 @@
 -- What an end does in a step of a life is steps of a pair that may happen.
-use Rattle.std.proofs.Common.{◌≡◌, ℕ, ◌==◌, Bool, true, false, Option, Some, None, List, [], ◌∷◌, ◌++◌, map, append-nil}
-use Rattle.std.proofs.Common.{slice_get, refl, ap, sym, ◌∙◌}
+use Rattle.std.proofs.Common.{◌≡◌, ℕ, Option, Some, None, List, [], ◌∷◌, ◌++◌, map, append-nil}
+use Rattle.std.proofs.Common.{slice_get, refl, ap, sym, subst, ◌∙◌, inl, inr}
 use Rattle.std.specs.List.{AllByRecursion}
 use Rattle.std.proofs.lemmas.List.{map-append}
 use Rattle.law_rlc.specs.AmPair.Flow.{Copy}
@@ -11,27 +11,17 @@ use Rattle.bearer.specs.Acknowledged.State.{State}
 use Rattle.law_bearer.specs.AnyBearer.Calls.{Call as BearerCall, Submit as Submits, Take as Takes, Arrive as Arrives}
 use Rattle.law_bearer.specs.AnyBearer.Calls.{Expire as Expires, Tick as Ticks, SetDiscard as SetsDiscard}
 use Rattle.law_bearer.specs.AnyBearer.Calls.{Step as BearerStep, Calls as CallsIt}
-use Rattle.harq.specs.declared.sender.Visit.{Visit}
-use Rattle.harq.specs.declared.sender.Visit.TheVariants.{New, Resend, Silent}
-use Rattle.l2_bits.specs.declared.fault.SubmitRefusal.{SubmitRefusal}
-use Rattle.l2_node.specs.Building.{visit, visited}
 use Rattle.l2_node.specs.End.{End}
-use Rattle.bearer_types.specs.Sides.{heard_by}
-use Rattle.l2_node.specs.Submitting.{refusal}
 use Rattle.l2_types.specs.declared.side.Side.TheVariants.{Nb, Ue}
-use Rattle.law_node.specs.Calls.{Turn, Call, SetVisits, SetReports, Add, Submit, SetDiscard, Tick, TickBuckets, Visits}
-use Rattle.law_node.specs.Calls.{Grants, Granted, Assigned, Pass, Receive, Expire, Move}
+use Rattle.law_node.specs.Calls.{Receive}
 use Rattle.law_node.specs.Holding.{flow}
-use Rattle.pdcp_tx.specs.State.{refusal as pdcp_refusal}
-use Rattle.prioritise.specs.Channels.{has as has_channel}
 use Rattle.law_deliver.specs.AmFlow.Air.{Block, Station, Act, Calls, Comes, Goes, IsDone}
-use Rattle.law_deliver.specs.AmFlow.Channels.{only, share_of, held_of, takes_of, submits_of, calls_of}
-use Rattle.promises.specs.Pdus.{carried}
-use Rattle.law_deliver.specs.AmFlow.Pair.{Sent, BearerEnd, Pair, Deed, Calls as CallsBearer, DataComes, StatusComes}
+use Rattle.law_deliver.specs.AmFlow.Pair.{SentStatus, BearerEnd, Pair, Deed, Calls as CallsBearer, DataComes}
+use Rattle.law_deliver.specs.AmFlow.Pair.{StatusComes}
 use Rattle.law_deliver.specs.AmFlow.Pair.{DataGoes, StatusGoes, Step, Near, Far, called, data_comes, status_comes, does}
 use Rattle.law_deliver.specs.AmFlow.Pair.{happens, goes}
+use Rattle.law_deliver.proofs.AmFlow.Accepting.{IsQuiet, AreAcceptable, act_acceptable}
 use Rattle.law_deliver.proofs.AmFlow.Air.{calls_in as act_calls}
-use Rattle.law_deliver.proofs.AmFlow.Places.{same_lcid}
 use Rattle.law_deliver.proofs.AmFlow.Runs.{AreDone, near_steps, far_steps, data_call, status_call}
 use Rattle.law_deliver.proofs.AmFlow.Runs.{calls_in as deed_calls, all_calls_in}
 use Rattle.law_deliver.proofs.AmFlow.Stations.{calls_by as block_calls}
@@ -53,7 +43,8 @@ data_rest : (o : Option Copy) (e : BearerEnd) (cs : List BearerCall) → AreAcce
 data_rest None e cs h = h
 data_rest (Some c) e cs h = h.1
 
-status_rest : (o : Option Sent) (e : BearerEnd) (cs : List BearerCall) → AreAccepted e.bearer (status_call o ++ cs)
+status_rest : (o : Option SentStatus) (e : BearerEnd) (cs : List BearerCall)
+    → AreAccepted e.bearer (status_call o ++ cs)
     → AreAccepted (status_comes e o).bearer cs
 status_rest None e cs h = h
 status_rest (Some s) e cs h = h.1
@@ -93,7 +84,7 @@ data_same : (o : Option Copy) → call_by o ≡ data_call o
 data_same None = refl
 data_same (Some c) = refl
 
-status_same : (o : Option Sent) → call_of o ≡ status_call o
+status_same : (o : Option SentStatus) → call_of o ≡ status_call o
 status_same None = refl
 status_same (Some s) = refl
 
@@ -150,14 +141,6 @@ act_steps l other s (Goes k) g = refl
 
 -- ---- are accepted
 
-abbrev IsQuiet : BearerCall → Type 0
-IsQuiet (Submits sdu) = ⊥
-IsQuiet (Takes share held) = Unit {0}
-IsQuiet (Arrives pdu) = Unit {0}
-IsQuiet (Expires clock) = Unit {0}
-IsQuiet Ticks = Unit {0}
-IsQuiet (SetsDiscard ttis) = Unit {0}
-
 quiet_one : (b : State) (c : BearerCall) → IsQuiet c → IsAccepted b c
 quiet_one b (Submits sdu) q = absurd q
 quiet_one b (Takes share held) q = tt
@@ -170,58 +153,13 @@ quiet_all : (cs : List BearerCall) (b : State) → AllByRecursion IsQuiet cs →
 quiet_all [] b q = tt
 quiet_all (c ∷ cs) b q = (quiet_one b c q.0, quiet_all cs (called b c) q.1)
 
-only_accepted : (here : Bool) (b : State) (c : BearerCall) → IsQuiet c → AreAccepted b (only here c)
-only_accepted true b c q = (quiet_one b c q, tt)
-only_accepted false b c q = tt
-
-takes_accepted : (v : Visit) (t : Turn) (e : End) (l : ℕ) (b : State) → AreAccepted b (takes_of v t e l)
-takes_accepted New t e l b =
-    only_accepted (has_channel l e.buckets.channels) b (Takes (share_of e t.grant l) (held_of e l)) tt
-takes_accepted (Resend rv) t e l b = tt
-takes_accepted Silent t e l b = tt
-
-arrives_accepted : (pdus : List (List ℕ)) (b : State) → AreAccepted b (map (λ pdu. Arrives pdu) pdus)
-arrives_accepted [] b = tt
-arrives_accepted (pdu ∷ pdus) b = (tt, arrives_accepted pdus (called b (Arrives pdu)))
-
-node_accepts : (l lcid : ℕ) (octets : List ℕ) (e : End) (b : State) → (lcid == l) ≡ true → flow l e ≡ Am b
-    → refusal lcid octets e ≡ None → pdcp_refusal b.pdcp.tx octets ≡ None
-unfolding refusal flow_refusal
-node_accepts l lcid octets e b here is none =
-    let same : flow lcid e ≡ Am b = ap (λ (k : ℕ). flow k e) (same_lcid lcid l here) ∙ is in
-    ap (λ (f : Flow). flow_refusal f octets) (sym same) ∙ none
-
-submit_accepted : (r : Option SubmitRefusal) (here : Bool) (l lcid : ℕ) (octets : List ℕ) (e : End) (b : State)
-    → refusal lcid octets e ≡ r → (lcid == l) ≡ here → flow l e ≡ Am b → AreAccepted b (submits_of r here octets)
-submit_accepted None true l lcid octets e b none here is = (node_accepts l lcid octets e b here is none, tt)
-submit_accepted None false l lcid octets e b none here is = tt
-submit_accepted (Some why) here l lcid octets e b none q is = tt
-
-calls_accepted : (l : ℕ) (e : End) (c : Call) (b : State) → flow l e ≡ Am b → AreAccepted b (calls_of l e c)
-calls_accepted l e (SetVisits maximum) b is = tt
-calls_accepted l e (SetReports reports) b is = tt
-calls_accepted l e (Add c keys) b is = tt
-calls_accepted l e (Submit lcid octets) b is =
-    submit_accepted (refusal lcid octets e) (lcid == l) l lcid octets e b refl refl is
-calls_accepted l e (SetDiscard lcid ttis) b is = only_accepted (lcid == l) b (SetsDiscard ttis) tt
-calls_accepted l e Tick b is = (tt, tt)
-calls_accepted l e TickBuckets b is = tt
-calls_accepted l e (Visits t) b is = takes_accepted (visit t.tti t.order e) t (visited t.tti t.order e) l b
-calls_accepted l e (Grants tti) b is = tt
-calls_accepted l e (Granted tti good) b is = tt
-calls_accepted l e (Assigned tti ndi good) b is = tt
-calls_accepted l e (Pass tti) b is = tt
-calls_accepted l e (Receive block) b is = arrives_accepted (carried l (heard_by e.side) block) b
-calls_accepted l e (Expire lcid clock) b is = only_accepted (lcid == l) b (Expires clock) tt
-calls_accepted l e (Move keys) b is = tt
-
-brought_accepted : (l : ℕ) (e : End) (o : Option Block) (b : State) → flow l e ≡ Am b
-    → AreAccepted b (block_calls l e o)
-brought_accepted l e None b is = tt
-brought_accepted l e (Some x) b is = calls_accepted l e (Receive x.octets) b is
+accepts : (b : State) (cs : List BearerCall) → AreAcceptable (Am b) cs → AreAccepted b cs
+unfolding flow_refusal
+accepts b cs (inl quiet) = quiet_all cs b quiet
+accepts b cs (inr one) = subst (AreAccepted b) (sym one.calls_are) (one.accepts, tt)
 
 pub act_accepted : (l : ℕ) (other s : Station) (x : Act) (b : State) → flow l s.end ≡ Am b
     → AreAccepted b (act_calls l other s x)
-act_accepted l other s (Calls c) b is = calls_accepted l s.end c b is
-act_accepted l other s (Comes k) b is = brought_accepted l s.end (slice_get other.blocks k) b is
-act_accepted l other s (Goes k) b is = tt
+act_accepted l other s x b is =
+    accepts b (act_calls l other s x)
+    (subst (λ (f : Flow). AreAcceptable f (act_calls l other s x)) is (act_acceptable l other s x))

@@ -16,12 +16,12 @@ use Rattle.bearer_types.specs.declared.event.Event.TheVariants.{Expired, Up, Fai
 use Rattle.bearer_types.specs.declared.event.Event.TheVariants.{BadPdcp, Discard}
 use Rattle.eps_sec.specs.declared.Keys.{Keys}
 use Rattle.law_bearer.specs.AmBearer.Deeds.{does_all}
-use Rattle.law_bearer.specs.AmBearer.Calls.{deeds_of, tells, up_in, ups_in, IsOfData, IsIdle}
+use Rattle.law_bearer.specs.AmBearer.Calls.{deeds_of, tells, up_in, ups_among, IsOfData, IsIdle}
 use Rattle.law_bearer.specs.AmBearer.Lives.{restarts}
 use Rattle.law_bearer.proofs.AmBearer.Calls.{calls_are_deeds}
 use Rattle.law_bearer.proofs.AmBearer.Lives.{restarts_are_deeds}
 use Rattle.law_deliver.specs.AmFlow.Pair.{called}
-use Rattle.law_deliver.specs.AmFlow.Ups.{ups_in as ups_of, ups_on, tells_in, goes_up_in}
+use Rattle.law_deliver.specs.AmFlow.Ups.{up_on, ups_on, tells_in, goes_up_in}
 use Rattle.promises.specs.Events.{is_on, told_on}
 use Rattle.law_deliver.proofs.AmFlow.Events.{own_told, all_on, stopping_on, ups_over}
 use Rattle.law_deliver.proofs.AmFlow.Sending.{is_called}
@@ -74,15 +74,15 @@ restarts_steady bits l b keys h =
 -- ---- what it tells is of its own channel
 
 up_if : (here : Bool) (l lcid : ℕ) (sdu : List ℕ) (xs : List Event) → (lcid == l) ≡ here
-    → ups_in (cond here (Up lcid sdu ∷ xs) xs) ≡ (if here then sdu ∷ [] else []) ++ ups_in xs
+    → ups_among (cond here (Up lcid sdu ∷ xs) xs) ≡ (if here then sdu ∷ [] else []) ++ ups_among xs
 up_if true l lcid sdu xs e = refl
 up_if false l lcid sdu xs e = refl
 
-none_if : (here : Bool) (x : Event) (xs : List Event) → up_in x ≡ [] → ups_in (cond here (x ∷ xs) xs) ≡ ups_in xs
-none_if true x xs e = ap (λ (up : List (List ℕ)). up ++ ups_in xs) e
+none_if : (here : Bool) (x : Event) (xs : List Event) → up_in x ≡ [] → ups_among (cond here (x ∷ xs) xs) ≡ ups_among xs
+none_if true x xs e = ap (λ (up : List (List ℕ)). up ++ ups_among xs) e
 none_if false x xs e = refl
 
-first_up : (l : ℕ) (x : Event) (xs : List Event) → ups_in (cond (is_on l x) (x ∷ xs) xs) ≡ ups_of l x ++ ups_in xs
+first_up : (l : ℕ) (x : Event) (xs : List Event) → ups_among (cond (is_on l x) (x ∷ xs) xs) ≡ up_on l x ++ ups_among xs
 first_up l (TakeTold lcid count len) xs = none_if (lcid == l) (TakeTold lcid count len) xs refl
 first_up l (Report lcid fms bitmap) xs = none_if (lcid == l) (Report lcid fms bitmap) xs refl
 first_up l (Send lcid way sn) xs = none_if (lcid == l) (Send lcid way sn) xs refl
@@ -99,12 +99,12 @@ first_up l (BadRlc lcid fault) xs = none_if (lcid == l) (BadRlc lcid fault) xs r
 first_up l (BadPdcp lcid fault) xs = none_if (lcid == l) (BadPdcp lcid fault) xs refl
 first_up l (Discard lcid len) xs = none_if (lcid == l) (Discard lcid len) xs refl
 
-ups_told : (l : ℕ) (xs : List Event) → ups_in (told_on l xs) ≡ ups_on l xs
+ups_told : (l : ℕ) (xs : List Event) → ups_among (told_on l xs) ≡ ups_on l xs
 ups_told l [] = refl
-ups_told l (x ∷ xs) = first_up l x (told_on l xs) ∙ ap (λ (up : List (List ℕ)). ups_of l x ++ up) (ups_told l xs)
+ups_told l (x ∷ xs) = first_up l x (told_on l xs) ∙ ap (λ (up : List (List ℕ)). up_on l x ++ up) (ups_told l xs)
 
-pub all_own : (l : ℕ) (xs : List Event) → told_on l xs ≡ xs → ups_in xs ≡ ups_on l xs
-all_own l xs e = ap ups_in (sym e) ∙ ups_told l xs
+pub all_own : (l : ℕ) (xs : List Event) → told_on l xs ≡ xs → ups_among xs ≡ ups_on l xs
+all_own l xs e = ap ups_among (sym e) ∙ ups_told l xs
 
 pub expiry_told : (told : Option (List Event)) → told_of told ≡ unwrap_or told []
 expiry_told None = refl
@@ -118,12 +118,12 @@ tells_so l b (Expire clock) q = expiry_told (expiry (Am b) clock)
 tells_so l b Tick q = refl
 tells_so l b (SetDiscard ttis) q = refl
 
-pub call_ups : (l : ℕ) (b : State) (c : Call) → IsBetween l (Am b) → ups_in (tells b c) ≡ goes_up_in l (Am b) c
+pub call_ups : (l : ℕ) (b : State) (c : Call) → IsBetween l (Am b) → ups_among (tells b c) ≡ goes_up_in l (Am b) c
 call_ups l b c k =
     let told' = tells_in l (Am b) c in
     let own : told_on l told' ≡ told' = own_told l l (Am b) (Am b) c refl refl k in
-    ap ups_in (tells_so l b c k.own) ∙ all_own l told' own
+    ap ups_among (tells_so l b c k.own) ∙ all_own l told' own
     ∙ ups_over l (Am b) (c ∷ []) told' k (own ∙ sym (append-nil told')) ∙ append-nil (goes_up_in l (Am b) c)
 
-pub end_ups : (l : ℕ) (b : State) → IsBetween l (Am b) → ups_in (stopping (Am b)) ≡ ups_on l (stopping (Am b))
+pub end_ups : (l : ℕ) (b : State) → IsBetween l (Am b) → ups_among (stopping (Am b)) ≡ ups_on l (stopping (Am b))
 end_ups l b k = all_own l (stopping (Am b)) (all_on l (stopping (Am b)) (stopping_on l (Am b) k))

@@ -7,7 +7,8 @@ use Rattle.l2_num.specs.Ascending.{AreBetween}
 use Rattle.law_bearer.proofs.AnyBearer.Sender.{doings, AreOfLife, run_more}
 use Rattle.pdcp_tx_store.specs.Waiting.{Waits}
 use Rattle.pdcp_tx_store.specs.declared.given.Sent.{Sent}
-use Rattle.law_pdcp.specs.OneEnd.Lives.{Step, Calls, SetDiscard, Restart, goes, run, first_sdu, new_behind, new_of}
+use Rattle.law_pdcp.specs.OneEnd.Lives.{Step, Calls, SetDiscard, Restart, goes, run_pdcp_sender, first_sdu, new_behind}
+use Rattle.law_pdcp.specs.OneEnd.Lives.{new_of}
 use Rattle.law_pdcp.proofs.OneEnd.Lives.{lives_are_ordered}
 use Rattle.pdcp_pdu.specs.declared.pdu.PdcpKind.{PdcpKind}
 use Rattle.pdcp_sec.specs.Protection.{Protection}
@@ -108,24 +109,26 @@ module _ (kind : PdcpKind) (p : Protection) (first : ℕ) where
   -- a sender that has come so far
   pub record WasReached (s : State) : Type 0 where
     pub steps : List Step
-    pub is : s ≡ run steps (start kind p first)
+    pub is : s ≡ run_pdcp_sender steps (start kind p first)
 
-  pub reached_more : (s : State) (xs : List Step) → WasReached s → WasReached (run xs s)
+  pub reached_more : (s : State) (xs : List Step) → WasReached s → WasReached (run_pdcp_sender xs s)
   reached_more s xs r =
-      record { steps = r.steps ++ xs; is = ap (run xs) r.is ∙ sym (run_more (start kind p first) r.steps xs) }
+      record { steps = r.steps ++ xs; is = ap (run_pdcp_sender xs) r.is
+      ∙ sym (run_more (start kind p first) r.steps xs) }
 
   ordered : (s : State) → WasReached s → IsOrdered s
   ordered s r = subst IsOrdered (sym r.is) (lives_are_ordered kind p first r.steps)
 
   pub takes_told : (s : State) (xs : List Step) → AreOfLife xs → WasReached s
-      → Takes s (doings s xs).taken (doings s xs).news (run xs s).next
+      → Takes s (doings s xs).taken (doings s xs).news (run_pdcp_sender xs s).next
   unfolding submitted took confirmed reported after_late offers
   takes_told s [] g r = record { next = omega arith; told = λ more. refl }
   takes_told s (Calls (Submit sdu) ∷ xs) g r =
       let h = takes_told (submitted s sdu) xs g.1 (reached_more s (Calls (Submit sdu) ∷ []) r) in
       record { next = h.next; told = h.told }
   takes_told s (Calls Take ∷ xs) g r =
-      owed_takes s.owed s (doings (took s) xs).taken (doings (took s) xs).news (run xs (took s)).next (ordered s r)
+      owed_takes s.owed s (doings (took s) xs).taken (doings (took s) xs).news (run_pdcp_sender xs (took s)).next
+      (ordered s r)
       (takes_told (took s) xs g.1 (reached_more s (Calls Take ∷ []) r))
   takes_told s (Calls (Confirm place) ∷ xs) g r =
       let h = takes_told (confirmed s place) xs g.1 (reached_more s (Calls (Confirm place) ∷ []) r) in

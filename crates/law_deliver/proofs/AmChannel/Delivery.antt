@@ -20,7 +20,7 @@ use Rattle.l2_types.specs.declared.Kind.{Kind}
 use Rattle.l2_types.specs.declared.Kind.TheVariants as kinds
 use Rattle.l2_types.specs.declared.side.Side.{Side}
 use Rattle.l2_types.specs.declared.side.Side.TheVariants.{Nb, Ue}
-use Rattle.law_node.specs.Calls.{Call, Add, AreGiven, after, run, reached}
+use Rattle.law_node.specs.Calls.{Call, Add, AreGiven, after, run_end, reached}
 use Rattle.law_node.specs.Holding.{flow}
 use Rattle.law_node.specs.Telling.{told_over}
 use Rattle.law_node.proofs.Living.{added, reached_side}
@@ -30,21 +30,21 @@ use Rattle.rlc_am_rx.specs.State.{fresh as fresh_receiver}
 use Rattle.rlc_am_tx.specs.Machine.{start as start_sender}
 use Rattle.law_bearer.specs.AmBearer.Lives.{other, BeginsAs}
 use Rattle.law_bearer.proofs.AmBearer.Lives.{first_life_begins, ends_begin_alike}
-use Rattle.law_words.specs.Lists.{IsFront, IsSubsequence}
+use Rattle.law_words.specs.Lists.{AreFirstSdus, IsSubsequence}
 use Rattle.law_deliver.specs.AmFlow.Air.{Begins, outset}
 use Rattle.law_deliver.specs.AmFlow.Flows.{BeginsLife}
-use Rattle.law_deliver.specs.AmFlow.Pair.{Pair, outset as pair_outset}
+use Rattle.law_deliver.specs.AmFlow.Pair.{Pair, am_pair_outset}
 use Rattle.law_deliver.specs.AmFlow.Ups.{IsNew, AreNew}
 use Rattle.law_deliver.proofs.AmFlow.Air.{begins_so}
 use Rattle.law_deliver.proofs.AmFlow.Stations.{run_on, given_on}
 use Rattle.law_deliver.proofs.AmFlow.Ups.{Stands, stands, come_between, between_at}
 use Rattle.law_deliver.specs.AmDelivery.Delivery.{AreBothEnds}
-use Rattle.law_words.specs.Arrivals.{Happening, Account, no_account, account}
+use Rattle.law_words.specs.Arrivals.{AccountEntry, Account, no_account, account}
 use Rattle.law_deliver.specs.AmDelivery.Arrival.{down_in, up_in, IsWhatCame}
 use Rattle.law_deliver.specs.AmChannel.Arrival.{happened, told_from}
 use Rattle.law_deliver.proofs.AmDelivery.Laws.{delivers_what_was_taken, what_came_is_delivered}
 use Rattle.law_deliver.specs.AmDelivery.Lives.{LifeStep, over}
-use Rattle.law_deliver.specs.AmChannel.Delivery.{HasBegun, BeginAlike, was_taken, was_submitted, steps_over}
+use Rattle.law_deliver.specs.AmChannel.Delivery.{HasBegun, AmEndsBeginAlike, was_taken, was_submitted, steps_over}
 use Rattle.law_deliver.specs.AmChannel.Delivery.{DiscardsNone, SetNone, ups_at, submitted_at, taken_at, DiscardsNoneAt}
 use Rattle.law_deliver.specs.AmChannel.Delivery.{SetNoneAt}
 use Rattle.law_deliver.specs.AmChannel.Lives.{AirStep, AreLiving, end_at, all_calls}
@@ -112,9 +112,9 @@ begins_life side l c keys e k h = record {
 
 -- ---- two ends go on as a pair
 
-module _ (l : ℕ) (c : BearerConfig) (keys : Keys) (nb ue : End) (h : BeginAlike l c keys nb ue) where
+module _ (l : ℕ) (c : BearerConfig) (keys : Keys) (nb ue : End) (h : AmEndsBeginAlike l c keys nb ue) where
   abbrev pub pair : Pair
-  pair = pair_outset (first_of c keys Nb) (first_of c keys Ue)
+  pair = am_pair_outset (first_of c keys Nb) (first_of c keys Ue)
 
   pub begun : (side : Side) → HasBegun side l c keys (end_at side (outset nb ue))
   begun Nb = h.nb_begun
@@ -176,7 +176,8 @@ module _ (l : ℕ) (c : BearerConfig) (keys : Keys) (nb ue : End) (h : BeginAlik
       ∙ ap (λ (f : Flow). all_news f (steps_over l cs e)) (sym (own_is side))
 
   pair_delivers : (from : Side) (xs : List AirStep) (g : AreLiving l (outset nb ue) xs)
-      → IsFront (over (ups_in_at (other from)) (walk xs g).steps pair) (over (news_in_at from) (walk xs g).steps pair)
+      → AreFirstSdus (over (ups_in_at (other from)) (walk xs g).steps pair)
+      (over (news_in_at from) (walk xs g).steps pair)
   pair_delivers Nb xs g =
       (delivers_what_was_taken c keys (first_of c keys Nb) (first_of c keys Ue) (walk xs g).steps both_ends
       (walk xs g).living).down
@@ -185,16 +186,16 @@ module _ (l : ℕ) (c : BearerConfig) (keys : Keys) (nb ue : End) (h : BeginAlik
       (walk xs g).living).up
 
   delivers : (from : Side) (xs : List AirStep) → AreLiving l (outset nb ue) xs
-      → IsFront (ups_at l (other from) xs (outset nb ue)) (taken_at l from xs (outset nb ue))
+      → AreFirstSdus (ups_at l (other from) xs (outset nb ue)) (taken_at l from xs (outset nb ue))
   delivers from xs g =
-      subst (λ (up : List (List ℕ)). IsFront up (taken_at l from xs (outset nb ue))) (ups_is (other from) xs g)
-      (subst (IsFront (over (ups_in_at (other from)) (walk xs g).steps pair)) (news_is from xs g)
+      subst (λ (up : List (List ℕ)). AreFirstSdus up (taken_at l from xs (outset nb ue))) (ups_is (other from) xs g)
+      (subst (AreFirstSdus (over (ups_in_at (other from)) (walk xs g).steps pair)) (news_is from xs g)
       (pair_delivers from xs g))
 
   -- ---- exactly which
 
   -- what is told of a direction of the pair
-  abbrev told_at : Side → Pair → LifeStep → List Happening
+  abbrev told_at : Side → Pair → LifeStep → List AccountEntry
   told_at Nb = down_in
   told_at Ue = up_in
 
@@ -221,14 +222,14 @@ module _ (l : ℕ) (c : BearerConfig) (keys : Keys) (nb ue : End) (h : BeginAlik
       (taken_at l from xs (outset nb ue)) up) (ups_is (other from) xs g)
       (subst (λ (all : List (List ℕ)). IsWhatCame c.first (told_from c l from xs (outset nb ue)) all
       (over (ups_in_at (other from)) (walk xs g).steps pair)) (news_is from xs g)
-      (subst (λ (hs : List Happening). IsWhatCame c.first (account hs no_account)
+      (subst (λ (hs : List AccountEntry). IsWhatCame c.first (account hs no_account)
       (over (news_in_at from) (walk xs g).steps pair) (over (ups_in_at (other from)) (walk xs g).steps pair))
       (told_is from xs g)
       (pair_came from xs g)))
 
 -- ---- of what is submitted
 
-front_more : (front all more : List (List ℕ)) → IsFront front all → IsFront front (all ++ more)
+front_more : (front all more : List (List ℕ)) → AreFirstSdus front all → AreFirstSdus front (all ++ more)
 front_more front all more h =
     record { rest = h.rest ++ more; is = ap (λ (l : List (List ℕ)). l ++ more) h.is ∙ append_assoc front h.rest more }
 
@@ -346,7 +347,7 @@ module _ (side : Side) (l : ℕ) (c : BearerConfig) (keys : Keys) (e : End) (cs 
 
 pub channels_tell_what_is_taken : (l : ℕ) (c : BearerConfig) (keys : Keys) (nb ue : End) (from : Side)
     (steps : List AirStep)
-    → BeginAlike l c keys nb ue → AreLiving l (outset nb ue) steps
+    → AmEndsBeginAlike l c keys nb ue → AreLiving l (outset nb ue) steps
     → AreTold l c.first (told_over (all_calls from steps (outset nb ue)) (end_at from (outset nb ue)))
     (submitted_at l from steps (outset nb ue)) (taken_at l from steps (outset nb ue))
 channels_tell_what_is_taken l c keys nb ue from steps h g =
@@ -361,51 +362,51 @@ channels_tell_what_is_taken l c keys nb ue from steps h g =
 
 pub channels_deliver_what_is_taken : (l : ℕ) (c : BearerConfig) (keys : Keys) (nb ue : End) (from : Side)
     (steps : List AirStep)
-    → BeginAlike l c keys nb ue → AreLiving l (outset nb ue) steps
-    → IsFront (ups_at l (other from) steps (outset nb ue)) (taken_at l from steps (outset nb ue))
+    → AmEndsBeginAlike l c keys nb ue → AreLiving l (outset nb ue) steps
+    → AreFirstSdus (ups_at l (other from) steps (outset nb ue)) (taken_at l from steps (outset nb ue))
 channels_deliver_what_is_taken l c keys nb ue from steps h g = delivers l c keys nb ue h from steps g
 
 pub channels_deliver_in_order : (l : ℕ) (c : BearerConfig) (keys : Keys) (nb ue : End) (from : Side)
     (steps : List AirStep)
-    → BeginAlike l c keys nb ue → AreLiving l (outset nb ue) steps
+    → AmEndsBeginAlike l c keys nb ue → AreLiving l (outset nb ue) steps
     → IsSubsequence (ups_at l (other from) steps (outset nb ue)) (submitted_at l from steps (outset nb ue))
 channels_deliver_in_order l c keys nb ue from steps h g =
     let cs = all_calls from steps (outset nb ue) in
     let e = end_at from (outset nb ue) in
     let up = ups_at l (other from) steps (outset nb ue) in
-    let front : IsFront up (was_taken l cs e) = delivers l c keys nb ue h from steps g in
+    let front : AreFirstSdus up (was_taken l cs e) = delivers l c keys nb ue h from steps g in
     thinner up (was_taken l cs e) (was_submitted l cs e)
     (subst (IsSubsequence up) (sym front.is) (front_thin up front.rest))
     (taken_thin from l c keys e cs h.kind (begun l c keys nb ue h from))
 
 pub channels_deliver_undiscarded : (l : ℕ) (c : BearerConfig) (keys : Keys) (nb ue : End) (from : Side)
     (steps : List AirStep)
-    → BeginAlike l c keys nb ue → AreLiving l (outset nb ue) steps → DiscardsNoneAt l from steps (outset nb ue)
-    → IsFront (ups_at l (other from) steps (outset nb ue)) (submitted_at l from steps (outset nb ue))
+    → AmEndsBeginAlike l c keys nb ue → AreLiving l (outset nb ue) steps → DiscardsNoneAt l from steps (outset nb ue)
+    → AreFirstSdus (ups_at l (other from) steps (outset nb ue)) (submitted_at l from steps (outset nb ue))
 channels_deliver_undiscarded l c keys nb ue from steps h g none =
     let cs = all_calls from steps (outset nb ue) in
     let e = end_at from (outset nb ue) in
     let b = begun l c keys nb ue h from in
     let up = ups_at l (other from) steps (outset nb ue) in
-    subst (IsFront up) (taken_then from l c keys e cs h.kind b (are_calls l from steps (outset nb ue) g) none)
+    subst (AreFirstSdus up) (taken_then from l c keys e cs h.kind b (are_calls l from steps (outset nb ue) g) none)
     (front_more up (was_taken l cs e) (waits from l c keys e cs h.kind b) (delivers l c keys nb ue h from steps g))
 
 pub unset_discards_none : (l : ℕ) (c : BearerConfig) (keys : Keys) (nb ue : End) (side : Side) (steps : List AirStep)
-    → BeginAlike l c keys nb ue → AreLiving l (outset nb ue) steps → SetNoneAt l side steps (outset nb ue)
+    → AmEndsBeginAlike l c keys nb ue → AreLiving l (outset nb ue) steps → SetNoneAt l side steps (outset nb ue)
     → DiscardsNoneAt l side steps (outset nb ue)
 unset_discards_none l c keys nb ue side steps h g none =
     none_told side l c keys (end_at side (outset nb ue)) (all_calls side steps (outset nb ue)) h.kind
     (begun l c keys nb ue h side) (are_calls l side steps (outset nb ue) g) none
 
 pub channels_deliver : (l : ℕ) (c : BearerConfig) (keys : Keys) (nb ue : End) (from : Side) (steps : List AirStep)
-    → BeginAlike l c keys nb ue → AreLiving l (outset nb ue) steps → SetNoneAt l from steps (outset nb ue)
-    → IsFront (ups_at l (other from) steps (outset nb ue)) (submitted_at l from steps (outset nb ue))
+    → AmEndsBeginAlike l c keys nb ue → AreLiving l (outset nb ue) steps → SetNoneAt l from steps (outset nb ue)
+    → AreFirstSdus (ups_at l (other from) steps (outset nb ue)) (submitted_at l from steps (outset nb ue))
 channels_deliver l c keys nb ue from steps h g none =
     channels_deliver_undiscarded l c keys nb ue from steps h g (unset_discards_none l c keys nb ue from steps h g none)
 
 -- ---- as a bearer is added
 
-new_on : (l : ℕ) (cs : List Call) (c : Call) (e : End) → AreNew l cs e → IsNew l (run cs e) c
+new_on : (l : ℕ) (cs : List Call) (c : Call) (e : End) → AreNew l cs e → IsNew l (run_end cs e) c
     → AreNew l (cs ++ c ∷ []) e
 new_on l [] c e h new = (new, tt)
 new_on l (x ∷ xs) c e h new = (h.0, new_on l xs c (after e x) h.1 new)
@@ -434,7 +435,7 @@ channels_begin side maximum reports past c keys given new none is =
 
 pub channels_deliver_what_came : (l : ℕ) (c : BearerConfig) (keys : Keys) (nb ue : End) (from : Side)
     (steps : List AirStep)
-    → BeginAlike l c keys nb ue → AreLiving l (outset nb ue) steps
+    → AmEndsBeginAlike l c keys nb ue → AreLiving l (outset nb ue) steps
     → IsWhatCame c.first (told_from c l from steps (outset nb ue)) (taken_at l from steps (outset nb ue))
     (ups_at l (other from) steps (outset nb ue))
 channels_deliver_what_came l c keys nb ue from steps h g = came l c keys nb ue h from steps g
@@ -454,7 +455,7 @@ came_more first a news more ups h =
 
 pub channels_deliver_what_came_undiscarded : (l : ℕ) (c : BearerConfig) (keys : Keys) (nb ue : End) (from : Side)
     (steps : List AirStep)
-    → BeginAlike l c keys nb ue → AreLiving l (outset nb ue) steps → DiscardsNoneAt l from steps (outset nb ue)
+    → AmEndsBeginAlike l c keys nb ue → AreLiving l (outset nb ue) steps → DiscardsNoneAt l from steps (outset nb ue)
     → IsWhatCame c.first (told_from c l from steps (outset nb ue)) (submitted_at l from steps (outset nb ue))
     (ups_at l (other from) steps (outset nb ue))
 channels_deliver_what_came_undiscarded l c keys nb ue from steps h g none =

@@ -7,7 +7,7 @@ use Rattle.bearer.specs.declared.flow.Flow.TheVariants.{Am}
 use Rattle.bearer.specs.Bearer.{Of, Life}
 use Rattle.bearer.specs.Sums.{is_drained}
 use Rattle.bearer.specs.Acknowledged.State.{State}
-use Rattle.law_bearer.specs.AnyBearer.Calls.{Step as BearerStep, run as bearer_run, reached as bearer_reached, ends}
+use Rattle.law_bearer.specs.AnyBearer.Calls.{Step as BearerStep, run_bearer, reached as bearer_reached, ends}
 use Rattle.law_bearer.specs.AnyBearer.Queue.{queue}
 use Rattle.bearer_types.specs.declared.config.BearerConfig.{BearerConfig}
 use Rattle.eps_sec.specs.declared.Keys.{Keys}
@@ -24,7 +24,7 @@ use Rattle.law_deliver.specs.AmDelivery.Drained.{IsDrained as IsDrainedBearer}
 use Rattle.law_deliver.specs.AmDelivery.Lives.{lives as pair_lives, over}
 use Rattle.law_deliver.proofs.AmDelivery.Laws.{drained_has_delivered}
 use Rattle.law_deliver.proofs.AmDelivery.Reached.{ends_are_reached}
-use Rattle.law_deliver.specs.AmChannel.Delivery.{BeginAlike, was_taken, steps_over, ups_at, taken_at}
+use Rattle.law_deliver.specs.AmChannel.Delivery.{AmEndsBeginAlike, was_taken, steps_over, ups_at, taken_at}
 use Rattle.law_deliver.specs.AmChannel.Drained.{DrainedEndsHaveDelivered, has_failed, IsDrained, HasDelivered}
 use Rattle.law_deliver.specs.AmChannel.Lives.{AirStep, AreLiving, lives, end_at, all_calls}
 use Rattle.law_deliver.proofs.AmChannel.Delivery.{first_of, stands_so, pair, begun, both_ends, walk, does_is, ups_is}
@@ -44,7 +44,8 @@ record PairDelivers (up taken : List (List ℕ)) (b : State) : Type 0 where
   same : up ≡ taken
   gone : b.pdcp.tx.waiting ≡ []
 
-module _ (l : ℕ) (c : BearerConfig) (keys : Keys) (nb ue : End) (h : BeginAlike l c keys nb ue) (xs : List AirStep)
+module _ (l : ℕ) (c : BearerConfig) (keys : Keys) (nb ue : End) (h : AmEndsBeginAlike l c keys nb ue)
+    (xs : List AirStep)
     (g : AreLiving l (outset nb ue) xs) where
   -- the bearer of an end that the steps leave
   abbrev last : Side → State
@@ -70,7 +71,7 @@ module _ (l : ℕ) (c : BearerConfig) (keys : Keys) (nb ue : End) (h : BeginAlik
       ap (flow l) (ends_go_by_calls nb ue side xs)
       ∙ (all_go side l e (all_calls side xs (outset nb ue)) (stands_so side l c keys e b)
       (are_calls l side xs (outset nb ue) g)).bearer_is
-      ∙ ap (bearer_run (does side)) b.bearer_is
+      ∙ ap (run_bearer (does side)) b.bearer_is
       ∙ pair_reaches side
 
   pair_delivers : (from : Side) → IsDrainedBearer (last from)
@@ -111,7 +112,7 @@ module _ (l : ℕ) (c : BearerConfig) (keys : Keys) (nb ue : End) (h : BeginAlik
 
 pub drained_channels_have_delivered : (l : ℕ) (c : BearerConfig) (keys : Keys) (nb ue : End) (from : Side)
     (steps : List AirStep)
-    → BeginAlike l c keys nb ue → AreLiving l (outset nb ue) steps
+    → AmEndsBeginAlike l c keys nb ue → AreLiving l (outset nb ue) steps
     → IsDrained l (end_at from (lives steps (outset nb ue)))
     → HasDelivered l c.first from steps (outset nb ue)
 drained_channels_have_delivered l c keys nb ue from steps h g d = has_delivered l c keys nb ue h steps g from d

@@ -6,7 +6,7 @@ use Rattle.std.specs.List.{AllByRecursion, flat_map}
 use Rattle.bearer.specs.declared.flow.Flow.{Flow}
 use Rattle.bearer.specs.Lives.{stopping}
 use Rattle.law_bearer.specs.AnyBearer.Calls.{Call as BearerCall, Step as BearerStep, Calls as CallsIt, Restart}
-use Rattle.law_bearer.specs.AnyBearer.Calls.{after as called, after_all, goes as bearer_goes, run as bearer_run}
+use Rattle.law_bearer.specs.AnyBearer.Calls.{after as called, after_all, goes as bearer_goes, run_bearer}
 use Rattle.bearer_types.specs.declared.event.Event.{Event}
 use Rattle.eps_sec.specs.declared.Keys.{Keys}
 use Rattle.l2_node.specs.End.{End}
@@ -14,14 +14,14 @@ use Rattle.l2_types.specs.declared.side.Side.{Side}
 use Rattle.l2_types.specs.declared.side.Side.TheVariants.{Nb, Ue}
 use Rattle.law_node.specs.Calls.{Call, SetVisits, SetReports, Add, Submit, SetDiscard, Tick, TickBuckets, Visits}
 use Rattle.law_node.specs.Calls.{Grants, Granted, Assigned, Pass, Receive, Expire, Move, IsGiven as IsGivenCall, after}
-use Rattle.law_node.specs.Calls.{run}
+use Rattle.law_node.specs.Calls.{run_end}
 use Rattle.law_node.specs.Holding.{flow}
 use Rattle.law_node.specs.Telling.{told_of, told_over}
 use Rattle.law_deliver.specs.AmFlow.Air.{Block, Station, Air, Act, Calls, Comes, Goes, AtNb, AtUe, Passes, calls, comes}
 use Rattle.law_deliver.specs.AmFlow.Air.{does, outset, IsDone}
 use Rattle.law_deliver.specs.AmFlow.Channels.{calls_of, GoesOnInLife}
 use Rattle.bearer_types.specs.declared.event.Event.TheVariants as events
-use Rattle.law_deliver.specs.AmFlow.Ups.{ups_in, ups_on, of_calls, tells_in, tells_over, goes_up_in, discarded_in}
+use Rattle.law_deliver.specs.AmFlow.Ups.{up_on, ups_on, of_calls, tells_in, tells_over, goes_up_in, discarded_in}
 use Rattle.law_deliver.specs.AmFlow.Ups.{IsNew}
 use Rattle.promises.specs.Events.{is_on, discards_in, discards_on}
 use Rattle.law_deliver.proofs.AmFlow.Events.{picked_as, picked_over}
@@ -35,7 +35,7 @@ use Rattle.law_deliver.specs.AmChannel.Delivery.{went_up, steps_in, steps_over}
 
 -- ---- an end goes by its calls
 
-calls_end : (s : Station) (c : Call) → (calls s c).end ≡ after s.end c
+pub calls_end : (s : Station) (c : Call) → (calls s c).end ≡ after s.end c
 calls_end s (SetVisits maximum) = refl
 calls_end s (SetReports reports) = refl
 calls_end s (Add c keys) = refl
@@ -52,17 +52,17 @@ calls_end s (Receive block) = refl
 calls_end s (Expire lcid clock) = refl
 calls_end s (Move keys) = refl
 
-comes_end : (s : Station) (b : Option Block) → (comes s b).end ≡ run (brought b) s.end
+comes_end : (s : Station) (b : Option Block) → (comes s b).end ≡ run_end (brought b) s.end
 comes_end s None = refl
 comes_end s (Some b) = refl
 
-act_end : (other s : Station) (x : Act) → (does other s x).end ≡ run (calls_by other x) s.end
+act_end : (other s : Station) (x : Act) → (does other s x).end ≡ run_end (calls_by other x) s.end
 act_end other s (Calls c) = calls_end s c
 act_end other s (Comes k) = comes_end s (slice_get other.blocks k)
 act_end other s (Goes k) = refl
 
 pub step_end : (side : Side) (a : Air) (x : AirStep)
-    → end_at side (lives_on a x) ≡ run (calls_at side a x) (end_at side a)
+    → end_at side (lives_on a x) ≡ run_end (calls_at side a x) (end_at side a)
 step_end Nb a (InLife (AtNb x)) = act_end a.ue a.nb x
 step_end Nb a (InLife (AtUe x)) = refl
 step_end Nb a (InLife Passes) = refl
@@ -73,15 +73,15 @@ step_end Ue a (InLife Passes) = refl
 step_end Ue a (Moves keys) = refl
 
 pub goes_by_calls : (side : Side) (xs : List AirStep) (a : Air)
-    → end_at side (lives xs a) ≡ run (all_calls side xs a) (end_at side a)
+    → end_at side (lives xs a) ≡ run_end (all_calls side xs a) (end_at side a)
 goes_by_calls side [] a = refl
 goes_by_calls side (x ∷ xs) a =
     goes_by_calls side xs (lives_on a x)
-    ∙ ap (run (all_calls side xs (lives_on a x))) (step_end side a x)
+    ∙ ap (run_end (all_calls side xs (lives_on a x))) (step_end side a x)
     ∙ sym (run_on (calls_at side a x) (all_calls side xs (lives_on a x)) (end_at side a))
 
 pub ends_go_by_calls : (nb ue : End) (side : Side) (xs : List AirStep)
-    → end_at side (lives xs (outset nb ue)) ≡ run (all_calls side xs (outset nb ue)) (end_at side (outset nb ue))
+    → end_at side (lives xs (outset nb ue)) ≡ run_end (all_calls side xs (outset nb ue)) (end_at side (outset nb ue))
 ends_go_by_calls nb ue side xs = goes_by_calls side xs (outset nb ue)
 
 -- ---- which are calls of a life, or end it
@@ -124,13 +124,13 @@ are_calls l side (x ∷ xs) a g =
 -- ---- steps of a bearer, one behind the other
 
 pub steps_more : (l : ℕ) (cs ds : List Call) (e : End)
-    → steps_over l (cs ++ ds) e ≡ steps_over l cs e ++ steps_over l ds (run cs e)
+    → steps_over l (cs ++ ds) e ≡ steps_over l cs e ++ steps_over l ds (run_end cs e)
 steps_more l [] ds e = refl
 steps_more l (c ∷ cs) ds e =
     ap (λ (xs : List BearerStep). steps_in l e c ++ xs) (steps_more l cs ds (after e c))
-    ∙ sym (append_assoc (steps_in l e c) (steps_over l cs (after e c)) (steps_over l ds (run cs (after e c))))
+    ∙ sym (append_assoc (steps_in l e c) (steps_over l cs (after e c)) (steps_over l ds (run_end cs (after e c))))
 
-bearer_calls : (cs : List BearerCall) (f : Flow) → bearer_run (map (λ x. CallsIt x) cs) f ≡ after_all f cs
+bearer_calls : (cs : List BearerCall) (f : Flow) → run_bearer (map (λ x. CallsIt x) cs) f ≡ after_all f cs
 bearer_calls [] f = refl
 bearer_calls (c ∷ cs) f = bearer_calls cs (called f c)
 
@@ -145,12 +145,12 @@ module _ {X : Type 0} (of_call : ℕ → Flow → BearerCall → List X) (of_end
   of_steps l f (x ∷ xs) = of_step l f x ++ of_steps l (bearer_goes f x) xs
 
   comes_more : (l : ℕ) (xs ys : List BearerStep) (f : Flow)
-      → of_steps l f (xs ++ ys) ≡ of_steps l f xs ++ of_steps l (bearer_run xs f) ys
+      → of_steps l f (xs ++ ys) ≡ of_steps l f xs ++ of_steps l (run_bearer xs f) ys
   comes_more l [] ys f = refl
   comes_more l (x ∷ xs) ys f =
       ap (λ (found : List X). of_step l f x ++ found) (comes_more l xs ys (bearer_goes f x))
       ∙ sym (append_assoc (of_step l f x) (of_steps l (bearer_goes f x) xs)
-      (of_steps l (bearer_run xs (bearer_goes f x)) ys))
+      (of_steps l (run_bearer xs (bearer_goes f x)) ys))
 
   of_life : (l : ℕ) (cs : List BearerCall) (f : Flow) → of_steps l f (map (λ x. CallsIt x) cs) ≡ of_calls of_call l f cs
   of_life l [] f = refl
@@ -158,7 +158,7 @@ module _ {X : Type 0} (of_call : ℕ → Flow → BearerCall → List X) (of_end
 
   -- as it is told
   told_then : (pick : ℕ → Event → List X) (l : ℕ) (e : End) (c : Call) (cs : List Call)
-      → flow l (after e c) ≡ bearer_run (steps_in l e c) (flow l e)
+      → flow l (after e c) ≡ run_bearer (steps_in l e c) (flow l e)
       → flat_map (pick l) (told_of e c) ≡ of_steps l (flow l e) (steps_in l e c)
       → flat_map (pick l) (told_over cs (after e c)) ≡ of_steps l (flow l (after e c)) (steps_over l cs (after e c))
       → flat_map (pick l) (told_over (c ∷ cs) e) ≡ of_steps l (flow l e) (steps_over l (c ∷ cs) e)
@@ -202,7 +202,7 @@ leaving_off l x e = refl
 -- ---- one call
 
 record GoesOne (l : ℕ) (e : End) (c : Call) : Type 0 where
-  bearer_is : flow l (after e c) ≡ bearer_run (steps_in l e c) (flow l e)
+  bearer_is : flow l (after e c) ≡ run_bearer (steps_in l e c) (flow l e)
   ups_are : ups_on l (told_of e c) ≡ all_ups l (flow l e) (steps_in l e c)
   discards_are : discards_on l (told_of e c) ≡ all_discards l (flow l e) (steps_in l e c)
   leaving_are : flat_map (leaving_in l) (told_of e c) ≡ all_leaving l (flow l e) (steps_in l e c)
@@ -220,7 +220,7 @@ one_goes side l e c s (inl g) =
     let same = in_life l e c g.1 in
     record {
       bearer_is = call_by l e c (come_sound side e s.come) g.1 s.there ∙ sym (bearer_calls cs (flow l e))
-          ∙ ap (λ (xs : List BearerStep). bearer_run xs (flow l e)) (sym same);
+          ∙ ap (λ (xs : List BearerStep). run_bearer xs (flow l e)) (sym same);
       ups_are = (tells_of side l e c s g.1).ups_are ∙ sym (of_life goes_up_in ends_up l cs (flow l e))
           ∙ ap (all_ups l (flow l e)) (sym same);
       discards_are = (tells_of side l e c s g.1).discards_are
@@ -249,12 +249,12 @@ one_goes side l e c s (inr (keys, q)) =
 
 -- ---- many
 
-runs_then : (xs ys : List BearerStep) (f : Flow) → bearer_run (xs ++ ys) f ≡ bearer_run ys (bearer_run xs f)
+runs_then : (xs ys : List BearerStep) (f : Flow) → run_bearer (xs ++ ys) f ≡ run_bearer ys (run_bearer xs f)
 runs_then [] ys f = refl
 runs_then (x ∷ xs) ys f = runs_then xs ys (bearer_goes f x)
 
 pub record GoesAll (l : ℕ) (e : End) (cs : List Call) : Type 0 where
-  pub bearer_is : flow l (run cs e) ≡ bearer_run (steps_over l cs e) (flow l e)
+  pub bearer_is : flow l (run_end cs e) ≡ run_bearer (steps_over l cs e) (flow l e)
   pub ups_are : went_up l cs e ≡ all_ups l (flow l e) (steps_over l cs e)
   pub discards_are : discards_on l (told_over cs e) ≡ all_discards l (flow l e) (steps_over l cs e)
   pub leaving_are : flat_map (leaving_in l) (told_over cs e) ≡ all_leaving l (flow l e) (steps_over l cs e)
@@ -267,9 +267,9 @@ all_go side l e (c ∷ cs) s g =
     let rest = all_go side l (after e c) cs (stands_more side l e c s one.given one.new) g.1 in
     let more = steps_over l cs (after e c) in
     record {
-      bearer_is = rest.bearer_is ∙ ap (bearer_run more) one.bearer_is
+      bearer_is = rest.bearer_is ∙ ap (run_bearer more) one.bearer_is
           ∙ sym (runs_then (steps_in l e c) more (flow l e));
-      ups_are = told_then goes_up_in ends_up ups_in l e c cs one.bearer_is one.ups_are rest.ups_are;
+      ups_are = told_then goes_up_in ends_up up_on l e c cs one.bearer_is one.ups_are rest.ups_are;
       discards_are =
           told_then discarded_in ends_discarded discards_in l e c cs one.bearer_is one.discards_are rest.discards_are;
       leaving_are = told_then marked_in ends_marked leaving_in l e c cs one.bearer_is one.leaving_are rest.leaving_are;

@@ -30,7 +30,7 @@ use Rattle.eps_sec.specs.declared.Keys.{Keys}
 use Rattle.l2_types.specs.declared.event.Clock.{Clock}
 use Rattle.l2_types.specs.declared.event.Clock.TheVariants.{Poll, Reorder, Prohibit}
 use Rattle.pdcp_tx_store.specs.Waiting.{Waits}
-use Rattle.law_pdcp.specs.OneEnd.Lives.{run}
+use Rattle.law_pdcp.specs.OneEnd.Lives.{run_pdcp_sender}
 use Rattle.pdcp_pdu.specs.Pdus.{UserPdu, Sdu, Report}
 use Rattle.pdcp_pdu.specs.Reading.{user_at}
 use Rattle.pdcp_pdu.specs.declared.pdu.PdcpKind.{PdcpKind}
@@ -296,35 +296,35 @@ module _ (kind : PdcpKind) (p : Protection) (first : ℕ) where
         → were_taken b.pdcp.tx.next (marked_in l (Am b) c ++ more)
         ≡ (yes (news (Am b) c) ++ no (drops (Am b) c)) ++ were_taken (called b c).pdcp.tx.next more
 
-  told_by : (bits l : ℕ) (b : State) (c : Call) (n : ℕ) → IsSteady bits l b
+  call_tells : (bits l : ℕ) (b : State) (c : Call) (n : ℕ) → IsSteady bits l b
       → Takes b.pdcp.tx (takes (Am b) c) (news (Am b) c) n
       → (more : List (Option ℕ)) → were_taken b.pdcp.tx.next (marked_in l (Am b) c ++ more)
       ≡ (yes (news (Am b) c) ++ no (drops (Am b) c)) ++ were_taken n more
-  told_by bits l b (Take share held) n h t more =
+  call_tells bits l b (Take share held) n h t more =
       ap (λ (xs : List (Option ℕ)). were_taken b.pdcp.tx.next (xs ++ more)) (takes_marked l b share held h.between.own)
       ∙ (t.told more ∙ ap (λ (bs : List Bool). bs ++ were_taken n more)
       (sym (append-nil (yes (news (Am b) (Take share held))))))
-  told_by bits l b Tick n h t more =
+  call_tells bits l b Tick n h t more =
       let is = t.next in
       let same : b.pdcp.tx.next ≡ n = omega (arith, is) in
       ap (λ (xs : List (Option ℕ)). were_taken b.pdcp.tx.next (xs ++ more)) (ticks_marked l b h.between.own)
       ∙ (nones_told (drops (Am b) Tick) b.pdcp.tx.next more
       ∙ ap (λ (k : ℕ). no (drops (Am b) Tick) ++ were_taken k more) same)
-  told_by bits l b (Submit sdu) n h t more = let is = t.next in let same : b.pdcp.tx.next ≡ n = omega (arith, is) in
+  call_tells bits l b (Submit sdu) n h t more = let is = t.next in let same : b.pdcp.tx.next ≡ n = omega (arith, is) in
       ap (λ (k : ℕ). were_taken k more) same
-  told_by bits l b (Arrive pdu) n h t more =
+  call_tells bits l b (Arrive pdu) n h t more =
       let is = t.next in
       let same : b.pdcp.tx.next ≡ n = omega (arith, is) in
       ap (λ (xs : List (Option ℕ)). were_taken b.pdcp.tx.next (xs ++ more))
       (none_arriving leaving_in leaving_off l (Am b) h.between (hears_no_leaving l l) pdu)
       ∙ ap (λ (k : ℕ). were_taken k more) same
-  told_by bits l b (Expire clock) n h t more =
+  call_tells bits l b (Expire clock) n h t more =
       let is = t.next in
       let same : b.pdcp.tx.next ≡ n = omega (arith, is) in
       ap (λ (xs : List (Option ℕ)). were_taken b.pdcp.tx.next (xs ++ more))
       (none_expiring leaving_in leaving_off l (Am b) h.between (hears_no_leaving l l) clock)
       ∙ ap (λ (k : ℕ). were_taken k more) same
-  told_by bits l b (SetDiscard ttis) n h t more = let is = t.next in
+  call_tells bits l b (SetDiscard ttis) n h t more = let is = t.next in
       let same : b.pdcp.tx.next ≡ n = omega (arith, is) in ap (λ (k : ℕ). were_taken k more) same
 
   call_leaves : (bits l : ℕ) (b : State) (c : Call) → IsSteady bits l b → WasReached kind p first b.pdcp.tx
@@ -334,13 +334,14 @@ module _ (kind : PdcpKind) (p : Protection) (first : ℕ) where
       let some : Some x.next ≡ Some (called b c).pdcp = sym x.is ∙ ap ends (is_called b c) in
       let same : x.next ≡ (called b c).pdcp = cc in
       let m = x.passed.tx in
-      let is : run m.steps b.pdcp.tx ≡ (called b c).pdcp.tx = sym m.left ∙ ap (λ (e : Ends). e.tx) same in
+      let is : run_pdcp_sender m.steps b.pdcp.tx ≡ (called b c).pdcp.tx = sym m.left ∙ ap (λ (e : Ends). e.tx) same in
       let t = takes_told kind p first b.pdcp.tx m.steps m.life r in
       record {
         reached = subst (WasReached kind p first) is (reached_more kind p first b.pdcp.tx m.steps r);
-        told = told_by bits l b c (called b c).pdcp.tx.next h
+        told = call_tells bits l b c (called b c).pdcp.tx.next h
             (subst (λ (s : Sending). Takes b.pdcp.tx (takes (Am b) c) (news (Am b) c) s.next) is
-            (subst (λ (d : Doings). Takes b.pdcp.tx d.taken d.news (run m.steps b.pdcp.tx).next) (sym m.did) t));
+            (subst (λ (d : Doings). Takes b.pdcp.tx d.taken d.news (run_pdcp_sender m.steps b.pdcp.tx).next)
+            (sym m.did) t));
       }
 
   -- ---- the next life

@@ -8,7 +8,7 @@ use Rattle.law_bearer.specs.AnyBearer.Queue.{news, all_news}
 use Rattle.eps_sec.specs.declared.Keys.{Keys}
 use Rattle.l2_types.specs.declared.side.Side.{Side}
 use Rattle.l2_types.specs.declared.side.Side.TheVariants.{Nb, Ue}
-use Rattle.law_bearer.specs.AmBearer.Calls.{tells, ups_in}
+use Rattle.law_bearer.specs.AmBearer.Calls.{tells, ups_among}
 use Rattle.law_bearer.specs.AmBearer.Lives.{restarts}
 use Rattle.law_deliver.specs.AmFlow.Pair.{BearerEnd, Pair, happens}
 use Rattle.law_deliver.proofs.AmFlow.Sending.{is_called}
@@ -58,7 +58,7 @@ few_so bits l (c ∷ []) b d xs t h =
     (record {
       steady = called_steady bits l b c h;
       ups_are = ap (λ (up : List (List ℕ)). up ++ all_ups l (after (Am b) c) xs) (sym (call_ups l b c h.between))
-          ∙ ap (λ (f : Flow). ups_in (tells b c) ++ all_ups l f xs) (is_called b c);
+          ∙ ap (λ (f : Flow). ups_among (tells b c) ++ all_ups l f xs) (is_called b c);
       news_are = ap (λ (f : Flow). news (Am b) c ++ all_news f xs) (is_called b c);
     })
 few_so bits l (c ∷ x ∷ cs) b d xs t h = absurd t

@@ -25,14 +25,15 @@ use Rattle.law_node.specs.Calls.{Grants, Granted, Assigned, Pass, Receive, Expir
 use Rattle.law_node.specs.Holding.{flow}
 use Rattle.pdcp_pdu.specs.Kinds.{bits_of}
 use Rattle.prioritise.specs.Channels.{has as has_channel}
-use Rattle.law_words.specs.Arrivals.{Happening}
+use Rattle.law_words.specs.Arrivals.{AccountEntry}
 use Rattle.law_deliver.specs.AmFlow.Air.{Block, Station, Act, Calls, Comes, Goes, built_at, IsVisiting, IsCalling}
 use Rattle.law_deliver.specs.AmFlow.Air.{IsDone, HasCome}
 use Rattle.law_deliver.specs.AmFlow.Channels.{only, share_of, held_of, takes_of, submits_of, calls_of, written_by}
 use Rattle.law_deliver.specs.AmFlow.Channels.{GoesOnInLife}
 use Rattle.promises.specs.Pdus.{carried}
 use Rattle.law_rlc.specs.AmPair.Flow.{Copy}
-use Rattle.law_deliver.specs.AmFlow.Pair.{Sent, BearerEnd, Pair, Deed, Calls as CallsBearer, DataComes, StatusComes}
+use Rattle.law_deliver.specs.AmFlow.Pair.{SentStatus, BearerEnd, Pair, Deed, Calls as CallsBearer, DataComes}
+use Rattle.law_deliver.specs.AmFlow.Pair.{StatusComes}
 use Rattle.law_deliver.specs.AmFlow.Pair.{DataGoes, StatusGoes, Near, Far, called, data_comes, status_comes, does}
 use Rattle.law_deliver.specs.AmFlow.Pair.{happens}
 use Rattle.law_deliver.specs.AmFlow.Ups.{tells_over}
@@ -44,7 +45,7 @@ use Rattle.law_deliver.proofs.AmFlow.Stations.{come_side, calls_by as block_call
 use Rattle.law_deliver.proofs.AmFlow.Ups.{Stands, tells_of}
 use Rattle.law_deliver.specs.AmDelivery.Arrival.{said_in as bearer_says, heard_in as bearer_hears, said_by}
 use Rattle.law_deliver.specs.AmDelivery.Arrival.{heard_by as bearers_hear, down_in, up_in}
-use Rattle.promises.specs.Given.{gives, writing, bringing}
+use Rattle.promises.specs.Given.{entries_given, entries_written, entries_come}
 use Rattle.law_deliver.specs.AmDelivery.Lives.{over, calls_in}
 use Rattle.law_deliver.specs.AmChannel.Arrival.{built_in, said_in, heard_in, said_over, heard_over}
 use Rattle.law_deliver.specs.AmChannel.Lives.{brought, calls_by}
@@ -53,17 +54,17 @@ use Rattle.law_deliver.proofs.AmChannel.Bearers.{IsSteady}
 
 -- ---- calls of a bearer, one after the other
 
-abbrev pub says : State → List BearerCall → List Happening
+abbrev pub says : State → List BearerCall → List AccountEntry
 says b [] = []
 says b (c ∷ cs) = bearer_says b c ++ says (called b c) cs
 
-abbrev pub hears : List BearerCall → List Happening
+abbrev pub hears : List BearerCall → List AccountEntry
 hears [] = []
 hears (c ∷ cs) = bearer_hears c ++ hears cs
 
 hears_then : (cs ds : List BearerCall) → hears (cs ++ ds) ≡ hears cs ++ hears ds
 hears_then [] ds = refl
-hears_then (c ∷ cs) ds = ap (λ (hs : List Happening). bearer_hears c ++ hs) (hears_then cs ds)
+hears_then (c ∷ cs) ds = ap (λ (hs : List AccountEntry). bearer_hears c ++ hs) (hears_then cs ds)
     ∙ sym (append_assoc (bearer_hears c) (hears cs) (hears ds))
 
 -- ---- deeds of an end of a pair
@@ -80,7 +81,7 @@ deed_says other e (DataComes k) cs = by (slice_get other.copies k)
     by (Some c) = refl
 deed_says other e (StatusComes k) cs = by (slice_get other.reports k)
   where
-    by : (x : Option Sent) → says e.bearer (status_call x ++ cs)
+    by : (x : Option SentStatus) → says e.bearer (status_call x ++ cs)
         ≡ said_by e.bearer (status_call x) ++ says (status_comes e x).bearer cs
     by None = refl
     by (Some s) = refl
@@ -96,7 +97,7 @@ deed_hears other (DataComes k) = by (slice_get other.copies k)
     by (Some c) = refl
 deed_hears other (StatusComes k) = by (slice_get other.reports k)
   where
-    by : (x : Option Sent) → hears (status_call x) ≡ bearers_hear (status_call x)
+    by : (x : Option SentStatus) → hears (status_call x) ≡ bearers_hear (status_call x)
     by None = refl
     by (Some s) = refl
 deed_hears other (DataGoes k) = refl
@@ -106,7 +107,7 @@ pub near_says : (p : Pair) (ds : List Deed)
     → over down_in (in_life_all (near_steps ds)) p ≡ says p.near.bearer (all_calls_in p.far ds)
 near_says p [] = refl
 near_says p (d ∷ ds) =
-    ap (λ (hs : List Happening). said_by p.near.bearer (calls_in p.far d) ++ hs) (near_says (happens p (Near d)) ds)
+    ap (λ (hs : List AccountEntry). said_by p.near.bearer (calls_in p.far d) ++ hs) (near_says (happens p (Near d)) ds)
     ∙ (ap (λ (cs : List BearerCall). said_by p.near.bearer cs
     ++ says (does p.far p.near d).bearer (all_calls_in p.far ds)) (calls_same p.far d)
     ∙ sym (deed_says p.far p.near d (all_calls_in p.far ds)))
@@ -115,7 +116,7 @@ pub far_says : (p : Pair) (ds : List Deed)
     → over up_in (in_life_all (far_steps ds)) p ≡ says p.far.bearer (all_calls_in p.near ds)
 far_says p [] = refl
 far_says p (d ∷ ds) =
-    ap (λ (hs : List Happening). said_by p.far.bearer (calls_in p.near d) ++ hs) (far_says (happens p (Far d)) ds)
+    ap (λ (hs : List AccountEntry). said_by p.far.bearer (calls_in p.near d) ++ hs) (far_says (happens p (Far d)) ds)
     ∙ (ap (λ (cs : List BearerCall). said_by p.far.bearer cs
     ++ says (does p.near p.far d).bearer (all_calls_in p.near ds)) (calls_same p.near d)
     ∙ sym (deed_says p.near p.far d (all_calls_in p.near ds)))
@@ -124,24 +125,24 @@ pub near_hears : (p : Pair) (ds : List Deed)
     → over up_in (in_life_all (near_steps ds)) p ≡ hears (all_calls_in p.far ds)
 near_hears p [] = refl
 near_hears p (d ∷ ds) =
-    ap (λ (hs : List Happening). bearers_hear (calls_in p.far d) ++ hs) (near_hears (happens p (Near d)) ds)
+    ap (λ (hs : List AccountEntry). bearers_hear (calls_in p.far d) ++ hs) (near_hears (happens p (Near d)) ds)
     ∙ (ap (λ (cs : List BearerCall). bearers_hear cs ++ hears (all_calls_in p.far ds)) (calls_same p.far d)
-    ∙ (ap (λ (hs : List Happening). hs ++ hears (all_calls_in p.far ds)) (sym (deed_hears p.far d))
+    ∙ (ap (λ (hs : List AccountEntry). hs ++ hears (all_calls_in p.far ds)) (sym (deed_hears p.far d))
     ∙ sym (hears_then (deed_calls p.far d) (all_calls_in p.far ds))))
 
 pub far_hears : (p : Pair) (ds : List Deed)
     → over down_in (in_life_all (far_steps ds)) p ≡ hears (all_calls_in p.near ds)
 far_hears p [] = refl
 far_hears p (d ∷ ds) =
-    ap (λ (hs : List Happening). bearers_hear (calls_in p.near d) ++ hs) (far_hears (happens p (Far d)) ds)
+    ap (λ (hs : List AccountEntry). bearers_hear (calls_in p.near d) ++ hs) (far_hears (happens p (Far d)) ds)
     ∙ (ap (λ (cs : List BearerCall). bearers_hear cs ++ hears (all_calls_in p.near ds)) (calls_same p.near d)
-    ∙ (ap (λ (hs : List Happening). hs ++ hears (all_calls_in p.near ds)) (sym (deed_hears p.near d))
+    ∙ (ap (λ (hs : List AccountEntry). hs ++ hears (all_calls_in p.near ds)) (sym (deed_hears p.near d))
     ∙ sym (hears_then (deed_calls p.near d) (all_calls_in p.near ds))))
 
 -- ---- a call of an end
 
 says_only : (here : Bool) (b : State) (c : BearerCall) → bearer_says b c ≡ [] → says b (only here c) ≡ []
-says_only true b c e = ap (λ (hs : List Happening). hs ++ []) e
+says_only true b c e = ap (λ (hs : List AccountEntry). hs ++ []) e
 says_only false b c e = refl
 
 says_submits : (r : Option SubmitRefusal) (here : Bool) (b : State) (octets : List ℕ)
@@ -173,8 +174,8 @@ says_visit : (v : Visit) (bits l : ℕ) (side : Side) (e : End) (b : State) (t :
     → IsSteady bits l b → IsGivenCall (Visits t)
     → (v ≡ New → 1 ≤ t.grant)
     → says b (takes_of v t (visited t.tti t.order e) l)
-    ≡ gives bits (tells_over l (flow l e) (takes_of v t (visited t.tti t.order e) l))
-    ++ writing
+    ≡ entries_given bits (tells_over l (flow l e) (takes_of v t (visited t.tti t.order e) l))
+    ++ entries_written
     (flat_map (carried l (sent_by e.side)) (map (λ (x : Block). x.octets) (built_at v t (visited t.tti t.order e))))
 says_visit New bits l side e b t is s bearer steady g some = by (has_channel l f.buckets.channels) refl
   where
@@ -197,8 +198,8 @@ says_visit New bits l side e b t is s bearer steady g some = by (has_channel l f
     here = visited_flow l t.tti t.order e ∙ bearer
 
     by : (c : Bool) → has_channel l (visited t.tti t.order e).buckets.channels ≡ c
-        → says b (only c (Takes share held)) ≡ gives bits (tells_over l (flow l e) (only c (Takes share held)))
-        ++ writing (carried l (sent_by e.side) block ++ [])
+        → says b (only c (Takes share held)) ≡ entries_given bits (tells_over l (flow l e) (only c (Takes share held)))
+        ++ entries_written (carried l (sent_by e.side) block ++ [])
     by true q =
         let own : b.pdcp.lcid ≡ l = steady.between.own in
         let kind : bits_of b.pdcp.kind ≡ bits = ap bits_of steady.data'.kind in
@@ -208,18 +209,21 @@ says_visit New bits l side e b t is s bearer steady g some = by (has_channel l f
         ∙ (ap (λ (x : Bool). if x then pdus (flow l f) share held else []) q
         ∙ ap (λ (x : Flow). pdus x share held) here)) in
         append-nil (bearer_says b (Takes share held))
-        ∙ (ap (λ (n : ℕ). gives n (told b.pdcp.lcid (Am b) share held) ++ writing (pdus (Am b) share held)) kind
-        ∙ (ap (λ (n : ℕ). gives bits (told n (Am b) share held) ++ writing (pdus (Am b) share held)) own
-        ∙ (ap (λ (x : Flow). gives bits (told l x share held) ++ writing (pdus (Am b) share held)) (sym bearer)
-        ∙ (ap (λ (es : List Event). gives bits es ++ writing (pdus (Am b) share held))
+        ∙ (ap (λ (n : ℕ). entries_given n (told b.pdcp.lcid (Am b) share held)
+        ++ entries_written (pdus (Am b) share held)) kind
+        ∙ (ap (λ (n : ℕ). entries_given bits (told n (Am b) share held) ++ entries_written (pdus (Am b) share held)) own
+        ∙ (ap (λ (x : Flow). entries_given bits (told l x share held) ++ entries_written (pdus (Am b) share held))
+        (sym bearer)
+        ∙ (ap (λ (es : List Event). entries_given bits es ++ entries_written (pdus (Am b) share held))
         (sym (append-nil (told l (flow l e) share held)))
-        ∙ ap (λ (ps : List (List ℕ)). gives bits (tells_over l (flow l e) (Takes share held ∷ [])) ++ writing ps)
+        ∙ ap (λ (ps : List (List ℕ)). entries_given bits (tells_over l (flow l e) (Takes share held ∷ []))
+        ++ entries_written ps)
         (sym one)))))
     by false q =
         let none : carried l (sent_by e.side) block ++ [] ≡ [] =
         append-nil (carried l (sent_by e.side) block)
         ∙ (is_carried ∙ ap (λ (x : Bool). if x then pdus (flow l f) share held else []) q) in
-        ap (λ (ps : List (List ℕ)). writing ps) (sym none)
+        ap (λ (ps : List (List ℕ)). entries_written ps) (sym none)
 says_visit (Resend rv) bits l side e b t is s bearer steady g some = refl
 says_visit Silent bits l side e b t is s bearer steady g some = refl
 
@@ -245,8 +249,8 @@ call_says bits l side s b (Visits t) stands bearer steady g life calling =
     let e = s.end in
     let v = visit t.tti t.order e in
     says_visit v bits l side e b t refl stands bearer steady g (visiting_some v s t calling)
-    ∙ ap (λ (es : List Event). gives bits es
-    ++ writing (flat_map (carried l (sent_by e.side)) (built_in e (Visits t))))
+    ∙ ap (λ (es : List Event). entries_given bits es
+    ++ entries_written (flat_map (carried l (sent_by e.side)) (built_in e (Visits t))))
     (sym (tells_of side l e (Visits t) stands life).told_is)
 call_says bits l side s b (Grants tti) stands bearer steady g life calling = refl
 call_says bits l side s b (Granted tti good) stands bearer steady g life calling = refl
@@ -259,16 +263,16 @@ call_says bits l side s b (Expire lcid clock) stands bearer steady g life callin
 call_says bits l side s b (Move keys) stands bearer steady g life calling = cc
 
 hears_only : (here : Bool) (c : BearerCall) → bearer_hears c ≡ [] → hears (only here c) ≡ []
-hears_only true c e = ap (λ (hs : List Happening). hs ++ []) e
+hears_only true c e = ap (λ (hs : List AccountEntry). hs ++ []) e
 hears_only false c e = refl
 
 hears_submits : (r : Option SubmitRefusal) (here : Bool) (octets : List ℕ) → hears (submits_of r here octets) ≡ []
 hears_submits None here octets = hears_only here (Submits octets) refl
 hears_submits (Some why) here octets = refl
 
-hears_arrives : (pdus : List (List ℕ)) → hears (map (λ pdu. Arrives pdu) pdus) ≡ bringing pdus
+hears_arrives : (pdus : List (List ℕ)) → hears (map (λ pdu. Arrives pdu) pdus) ≡ entries_come pdus
 hears_arrives [] = refl
-hears_arrives (pdu ∷ pdus) = ap (λ (hs : List Happening). bringing (pdu ∷ []) ++ hs) (hears_arrives pdus)
+hears_arrives (pdu ∷ pdus) = ap (λ (hs : List AccountEntry). entries_come (pdu ∷ []) ++ hs) (hears_arrives pdus)
 
 hears_takes : (v : Visit) (t : Turn) (e : End) (l : ℕ) → hears (takes_of v t e l) ≡ []
 hears_takes New t e l = hears_only (has_channel l e.buckets.channels) (Takes (share_of e t.grant l) (held_of e l)) refl

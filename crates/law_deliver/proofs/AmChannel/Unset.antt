@@ -38,7 +38,7 @@ use Rattle.law_rlc.specs.AmReceiver.Run.{Write}
 use Rattle.law_bearer.specs.AmBearer.Calls.{deeds_of, only_if, settles, hands_up, settles_by, confirms_all, arrives}
 use Rattle.law_bearer.specs.AmBearer.Calls.{expires, ticks, discards}
 use Rattle.law_bearer.specs.AmBearer.Deeds.{Deed, Feeds, Sends, Confirms, Receives, HandsUp, Asks, Sets, does, does_all}
-use Rattle.law_bearer.specs.AmBearer.Deeds.{told_by, confirms_first, hands_first, hears_one}
+use Rattle.law_bearer.specs.AmBearer.Deeds.{after_heard, confirms_first, hands_first, hears_one}
 use Rattle.law_bearer.specs.AmBearer.Lives.{restarts}
 use Rattle.law_bearer.proofs.AmBearer.Calls.{calls_are_deeds}
 use Rattle.law_deliver.specs.AmFlow.Pair.{called}
@@ -95,7 +95,7 @@ asked_keeps s (Owe report) = refl
 asked_keeps s Ticks = refl
 asked_keeps s Late = refl
 
-told_keeps : (h : Heard) (s : Sending) → KeepsLength s (told_by h s)
+told_keeps : (h : Heard) (s : Sending) → KeepsLength s (after_heard h s)
 told_keeps (Bad refusal) s = refl
 told_keeps (Told fms bitmap) s = asked_keeps s (Report fms bitmap)
 told_keeps (Data sn body) s = refl

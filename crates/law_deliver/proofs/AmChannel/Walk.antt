@@ -11,8 +11,8 @@ use Rattle.l2_node.specs.End.{End}
 use Rattle.l2_node.specs.Finding.{has}
 use Rattle.l2_types.specs.declared.side.Side.{Side}
 use Rattle.l2_types.specs.declared.side.Side.TheVariants.{Nb, Ue}
-use Rattle.law_node.specs.Calls.{Call, Move, after, run}
-use Rattle.law_words.specs.Arrivals.{Happening}
+use Rattle.law_node.specs.Calls.{Call, Move, after, run_end}
+use Rattle.law_words.specs.Arrivals.{AccountEntry}
 use Rattle.law_deliver.specs.AmDelivery.Arrival.{down_in, up_in}
 use Rattle.law_deliver.proofs.AmFlow.Ups.{Stands, stands_more}
 use Rattle.law_node.specs.Holding.{flow}
@@ -188,11 +188,11 @@ does_then side l a x xs p one more q r =
     (r ∙ ap (steps_over l cs) (step_end side a x))
     ∙ sym (steps_more l (calls_at side a x) cs (end_at side a))
 
-over_more : (what : Pair → LifeStep → List Happening) (xs ys : List LifeStep) (p : Pair)
+over_more : (what : Pair → LifeStep → List AccountEntry) (xs ys : List LifeStep) (p : Pair)
     → over what (xs ++ ys) p ≡ over what xs p ++ over what ys (pair_lives xs p)
 over_more what [] ys p = refl
 over_more what (x ∷ xs) ys p =
-    ap (λ (hs : List Happening). what p x ++ hs) (over_more what xs ys (pair_lives_on p x))
+    ap (λ (hs : List AccountEntry). what p x ++ hs) (over_more what xs ys (pair_lives_on p x))
     ∙ sym (append_assoc (what p x) (over what xs (pair_lives_on p x))
     (over what ys (pair_lives xs (pair_lives_on p x))))
 
@@ -205,7 +205,7 @@ call_stands side l e c (inr (keys, q)) s =
     (stands_more side l e (Move keys) s tt (λ p. let no : false ≡ true = p in absurd cc))
 
 calls_stand : (side : Side) (l : ℕ) (cs : List Call) (e : End) → AllByRecursion (IsCall l) cs → Stands side l e
-    → Stands side l (run cs e)
+    → Stands side l (run_end cs e)
 calls_stand side l [] e g s = s
 calls_stand side l (c ∷ cs) e g s = calls_stand side l cs (after e c) g.1 (call_stands side l e c g.0 s)
 
@@ -242,9 +242,9 @@ walks_on bits l (x ∷ xs) a p g h =
       nb_does = does_then Nb l a x xs p one.steps rest.steps one.nb_does rest.nb_does;
       ue_does = does_then Ue l a x xs p one.steps rest.steps one.ue_does rest.ue_does;
       down_is = over_more down_in one.steps rest.steps p
-          ∙ (ap (λ (hs : List Happening). hs ++ over down_in rest.steps q) one.down_is
-          ∙ ap (λ (hs : List Happening). happens_in bits l Nb a x ++ hs) rest.down_is);
+          ∙ (ap (λ (hs : List AccountEntry). hs ++ over down_in rest.steps q) one.down_is
+          ∙ ap (λ (hs : List AccountEntry). happens_in bits l Nb a x ++ hs) rest.down_is);
       up_is = over_more up_in one.steps rest.steps p
-          ∙ (ap (λ (hs : List Happening). hs ++ over up_in rest.steps q) one.up_is
-          ∙ ap (λ (hs : List Happening). happens_in bits l Ue a x ++ hs) rest.up_is);
+          ∙ (ap (λ (hs : List AccountEntry). hs ++ over up_in rest.steps q) one.up_is
+          ∙ ap (λ (hs : List AccountEntry). happens_in bits l Ue a x ++ hs) rest.up_is);
     }

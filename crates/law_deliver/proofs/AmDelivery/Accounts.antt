@@ -5,37 +5,37 @@ use Rattle.std.proofs.Common.{append_assoc}
 use Rattle.std.proofs.lemmas.Bool.Decides.{nat_tests}
 use Rattle.pdcp_tx.specs.declared.sender.Next.{Next}
 use Rattle.law_rlc.specs.AmPair.Flow.{Flow as Rlc, Step as RlcStep, happens as rlc_happens, goes as rlc_goes}
-use Rattle.law_rlc.specs.AmPair.Flow.{outset as rlc_outset}
-use Rattle.law_pdcp.specs.AmPair.Flow.{Flow as Pdcp, with_count, outset as pdcp_outset}
+use Rattle.law_rlc.specs.AmPair.Flow.{am_rlc_outset}
+use Rattle.law_pdcp.specs.AmPair.Flow.{Flow as Pdcp, with_count, am_pdcp_outset}
 use Rattle.law_pdcp.proofs.AmPair.Sound.{IsSound as IsSoundPdcp}
 use Rattle.law_pdcp.proofs.AmPair.Laws.{run_sound, outset_sound}
 use Rattle.law_words.specs.Passing.{Passing, Told, nothing_told, with_passings}
-use Rattle.law_rlc.specs.AmArrival.Arrival.{passing as passing_in, passed}
-use Rattle.law_words.specs.Arrivals.{Given, Happening, Gives, Passes, Account, accounted, account, is_count}
+use Rattle.law_rlc.specs.AmArrival.Arrival.{passed_in, passed}
+use Rattle.law_words.specs.Arrivals.{Given, AccountEntry, Gives, Passes, Account, accounted, account, is_count}
 use Rattle.law_rlc.proofs.AmArrival.Telling.{told_then}
-use Rattle.promises.specs.Given.{passing}
+use Rattle.promises.specs.Given.{entries_passed}
 use Rattle.law_deliver.proofs.AmDelivery.Joined.{Way, IsWay, rlc, pdcp}
 
 pub sound_pdcp : (w : Way) → IsWay w → IsSoundPdcp w.bits (pdcp w)
 sound_pdcp w h =
-    run_sound w.bits w.events (pdcp_outset w.bits w.protection w.first) h.events
+    run_sound w.bits w.events (am_pdcp_outset w.bits w.protection w.first) h.events
     (outset_sound w.bits w.protection w.first h.kind h.first)
 
 -- ---- what RLC's PDUs tell in the life that runs
 
 abbrev pub told_of : Way → Told
-told_of w = with_passings (passed w.steps (rlc_outset w.sending w.receiving)) nothing_told
+told_of w = with_passings (passed w.steps (am_rlc_outset w.sending w.receiving)) nothing_told
 
 passed_more : (xs ys : List RlcStep) (f : Rlc) → passed (xs ++ ys) f ≡ passed xs f ++ passed ys (rlc_goes xs f)
 passed_more [] ys f = refl
-passed_more (x ∷ xs) ys f = ap (λ (l : List Passing). passing_in f x ++ l) (passed_more xs ys (rlc_happens f x))
-    ∙ sym (append_assoc (passing_in f x) (passed xs (rlc_happens f x)) (passed ys (rlc_goes xs (rlc_happens f x))))
+passed_more (x ∷ xs) ys f = ap (λ (l : List Passing). passed_in f x ++ l) (passed_more xs ys (rlc_happens f x))
+    ∙ sym (append_assoc (passed_in f x) (passed xs (rlc_happens f x)) (passed ys (rlc_goes xs (rlc_happens f x))))
 
 pub told_more : (w : Way) (ss : List RlcStep)
-    → with_passings (passed (w.steps ++ ss) (rlc_outset w.sending w.receiving)) nothing_told
+    → with_passings (passed (w.steps ++ ss) (am_rlc_outset w.sending w.receiving)) nothing_told
     ≡ with_passings (passed ss (rlc w)) (told_of w)
 told_more w ss =
-    let f = rlc_outset w.sending w.receiving in
+    let f = am_rlc_outset w.sending w.receiving in
     ap (λ (l : List Passing). with_passings l nothing_told) (passed_more w.steps ss f)
     ∙ told_then (passed w.steps f) (passed ss (rlc w)) nothing_told
 
@@ -56,27 +56,28 @@ pub record Agrees (a : Account) (g : Pdcp) (r : Told) : Type 0 where
   pub handed_are : (count : ℕ) → g.handed count ≡ (a.ended count || is_among (take g.passed g.stream) count)
 
 -- as this is told
-abbrev pub TellsOn : List Happening → Pdcp → Told → Pdcp → Told → Type 0
+abbrev pub TellsOn : List AccountEntry → Pdcp → Told → Pdcp → Told → Type 0
 TellsOn hs g r h s = (a : Account) → Agrees a g r → Agrees (account hs a) h s
 
-pub account_then : (xs ys : List Happening) (a : Account) → account (xs ++ ys) a ≡ account ys (account xs a)
+pub account_then : (xs ys : List AccountEntry) (a : Account) → account (xs ++ ys) a ≡ account ys (account xs a)
 account_then [] ys a = refl
 account_then (x ∷ xs) ys a = account_then xs ys (accounted x a)
 
-pub tells_then : (xs ys : List Happening) (f g h : Pdcp) (r s t : Told) → TellsOn xs f r g s → TellsOn ys g s h t
+pub tells_then : (xs ys : List AccountEntry) (f g h : Pdcp) (r s t : Told) → TellsOn xs f r g s → TellsOn ys g s h t
     → TellsOn (xs ++ ys) f r h t
 tells_then xs ys f g h r s t x y =
     λ a k. subst (λ (b : Account). Agrees b h t) (sym (account_then xs ys a)) (y (account xs a) (x a k))
 
 -- ---- only PDUs of RLC pass
 
-account_passing : (ps : List Passing) (a : Account) → account (passing ps) a ≡ record a { rlc = with_passings ps a.rlc }
+account_passing : (ps : List Passing) (a : Account) → account (entries_passed ps) a
+    ≡ record a { rlc = with_passings ps a.rlc }
 account_passing [] a = refl
 account_passing (p ∷ ps) a = account_passing ps (accounted (Passes p) a)
 
 pub tells_passing : (ps : List Passing) (g h : Pdcp) (r : Told) → h.stream ≡ g.stream → h.passed ≡ g.passed
     → ((count : ℕ) → h.handed count ≡ g.handed count)
-    → TellsOn (passing ps) g r h (with_passings ps r)
+    → TellsOn (entries_passed ps) g r h (with_passings ps r)
 tells_passing ps g h r stream place handed = λ a k.
     subst (λ (b : Account). Agrees b h (with_passings ps r)) (sym (account_passing ps a)) (record {
       given_are = ap (λ (l : List Next). map given_of l) stream ∙ k.given_are;

@@ -21,7 +21,7 @@ use Rattle.law_rlc.proofs.AmPair.Steps.{goes-up, step-offers}
 use Rattle.law_words.specs.Passing.{Comes, with_passings}
 use Rattle.law_rlc.specs.AmArrival.Arrival.{coming, passed}
 use Rattle.law_words.specs.Arrivals.{Passes, account}
-use Rattle.law_pdcp.specs.AmPair.Flow.{Flow as Pdcp, Event, Arrive, happens as pdcp_happens, run as run_pdcp}
+use Rattle.law_pdcp.specs.AmPair.Flow.{Flow as Pdcp, Event, Arrive, happens as pdcp_happens, run_am_pdcp}
 use Rattle.law_pdcp.specs.AmPair.Flow.{AreGiven as AreGivenEvents}
 use Rattle.law_deliver.proofs.AmFlow.Standing.{Stands}
 use Rattle.law_deliver.proofs.AmFlow.Hearing.{receives_one}
@@ -37,8 +37,8 @@ arrivals came (suc n) = if came n then Arrive n ∷ arrivals came n else arrival
 
 record Come (came : ℕ → Bool) (n : ℕ) (g : Pdcp) (events : List Event) : Type 0 where
   given : AreGivenEvents g events
-  same : run_pdcp events g ≡ record g { whole = (run_pdcp events g).whole }
-  whole_is : (k : ℕ) → (run_pdcp events g).whole k ≡ (nat_lt k n && came k) || g.whole k
+  same : run_am_pdcp events g ≡ record g { whole = (run_am_pdcp events g).whole }
+  whole_is : (k : ℕ) → (run_am_pdcp events g).whole k ≡ (nat_lt k n && came k) || g.whole k
 
 one_comes : (came : ℕ → Bool) (n : ℕ) (g : Pdcp) (events : List Event) (b : Bool) → came n ≡ b → n < length g.stream
     → ((h : Pdcp) → h.stream ≡ g.stream → Come came n h events)
@@ -110,11 +110,11 @@ data_arrives w k c pdu a h at read m =
       };
       ups_are = ap (λ (x : Pdcp). x.up) come.same ∙ sym (append-nil g.up);
       tells = λ b l.
-          agrees_at (account (Passes (Comes c.octets) ∷ []) b) (run_pdcp (arrivals (arrives f') n) g)
-          (run_pdcp (arrivals (arrives f') n) g)
+          agrees_at (account (Passes (Comes c.octets) ∷ []) b) (run_am_pdcp (arrivals (arrives f') n) g)
+          (run_am_pdcp (arrivals (arrives f') n) g)
           (with_passings (Comes c.octets ∷ []) (told_of w)) (with_passings (passed (step ∷ []) f) (told_of w)) refl
           (ap (λ (o : Option Copy). with_passings (coming o ++ []) (told_of w)) at)
-          (tells_passing (Comes c.octets ∷ []) g (run_pdcp (arrivals (arrives f') n) g) (told_of w)
+          (tells_passing (Comes c.octets ∷ []) g (run_am_pdcp (arrivals (arrives f') n) g) (told_of w)
           (ap (λ (x : Pdcp). x.stream) come.same) (ap (λ (x : Pdcp). x.passed) come.same)
           (λ count. ap (λ (x : Pdcp). x.handed count) come.same) b l);
     }

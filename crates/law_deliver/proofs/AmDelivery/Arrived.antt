@@ -23,8 +23,8 @@ use Rattle.law_words.specs.Stretches.{has_arrived}
 use Rattle.law_rlc.proofs.AmArrival.Laws.{tell_what_arrives}
 use Rattle.law_pdcp.specs.AmPair.Expected.{IsExpected}
 use Rattle.law_pdcp.specs.AmPair.Flow.{Flow as Pdcp, Event, Sends, SetDiscard, Arrive, HandUp, Raise, Restart}
-use Rattle.law_pdcp.specs.AmPair.Flow.{with_count, passes, closed, happens as pdcp_happens, run as run_pdcp}
-use Rattle.law_pdcp.specs.AmPair.Flow.{outset as pdcp_outset}
+use Rattle.law_pdcp.specs.AmPair.Flow.{with_count, passes, closed, happens as pdcp_happens, run_am_pdcp}
+use Rattle.law_pdcp.specs.AmPair.Flow.{am_pdcp_outset}
 use Rattle.law_pdcp.proofs.AmPair.Laws.{expected}
 use Rattle.law_deliver.specs.AmFlow.Pair.{BearerEnd}
 use Rattle.law_deliver.specs.AmDelivery.Arrival.{IsWhatCame}
@@ -210,7 +210,7 @@ passes_first : (o : Option Next) (f : Pdcp) → (passes o f).first ≡ f.first
 passes_first None f = refl
 passes_first (Some n) f = refl
 
-keeps_first : (events : List Event) (f : Pdcp) → (run_pdcp events f).first ≡ f.first
+keeps_first : (events : List Event) (f : Pdcp) → (run_am_pdcp events f).first ≡ f.first
 keeps_first [] f = refl
 keeps_first (Sends c ∷ events) f = keeps_first events (pdcp_happens f (Sends c))
 keeps_first (SetDiscard ttis ∷ events) f = keeps_first events (pdcp_happens f (SetDiscard ttis))
@@ -221,7 +221,7 @@ keeps_first (Raise ∷ events) f = keeps_first events (pdcp_happens f Raise)
 keeps_first (Restart keys ∷ events) f = keeps_first events (pdcp_happens f (Restart keys))
 
 first_is : (w : Way) → (pdcp w).first ≡ w.first
-first_is w = keeps_first w.events (pdcp_outset w.bits w.protection w.first)
+first_is w = keeps_first w.events (am_pdcp_outset w.bits w.protection w.first)
 
 least_alike : (f g : ℕ → Bool) (p q : ℕ) → ((n : ℕ) → f n ≡ g n) → IsLeast f p q → IsLeast g p q
 least_alike f g p q same h = record {

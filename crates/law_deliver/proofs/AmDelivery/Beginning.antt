@@ -11,20 +11,20 @@ use Rattle.pdcp_pdu.specs.declared.PdcpKind.TheVariants.{Am as AmKind}
 use Rattle.pdcp_pdu.specs.Kinds.{IsKind}
 use Rattle.pdcp_sec.specs.Protection.{Protection}
 use Rattle.pdcp_tx.specs.State.{start as start_sending}
-use Rattle.law_bearer.specs.AmBearer.Lives.{BeginAlike, BeginsAs, protection_at}
+use Rattle.law_bearer.specs.AmBearer.Lives.{AmPdcpBeginAlike, BeginsAs, protection_at}
 use Rattle.law_bearer.proofs.AmBearer.Lives.{first_life_begins, ends_begin_alike}
 use Rattle.law_rlc.specs.AmPair.Arrives.{arrives}
-use Rattle.law_rlc.specs.AmPair.Flow.{outset as rlc_outset}
+use Rattle.law_rlc.specs.AmPair.Flow.{am_rlc_outset}
 use Rattle.law_rlc.proofs.AmPair.Laws.{arrived-was-offered}
 use Rattle.l2_types.specs.declared.config.AmTxConfig.{AmTxConfig}
 use Rattle.l2_types.specs.declared.AmRxConfig.{AmRxConfig}
-use Rattle.law_deliver.specs.AmFlow.Pair.{begins, outset}
+use Rattle.law_deliver.specs.AmFlow.Pair.{begins, am_pair_outset}
 use Rattle.law_deliver.specs.AmDelivery.Delivery.{AreBothEnds}
 use Rattle.law_deliver.proofs.AmDelivery.Joined.{Way, IsWay, Joins, Reports, JoinedPair}
 
 -- nothing has arrived
 pub none_arrives : (sending : AmTxConfig) (receiving : AmRxConfig) (k : ℕ) (b : Bool)
-    → arrives (rlc_outset sending receiving) k ≡ b → false ≡ b
+    → arrives (am_rlc_outset sending receiving) k ≡ b → false ≡ b
 none_arrives sending receiving k true e = absurd (omega (arith, arrived-was-offered sending receiving [] tt k e))
 none_arrives sending receiving k false e = refl
 
@@ -52,7 +52,7 @@ first_is_way c keys nb ue p h =
       steps = tt;
     }
 
-first_joins : (c : BearerConfig) (p : Protection) (from to : State) → BeginAlike c.pdcp_bits p c.first from to
+first_joins : (c : BearerConfig) (p : Protection) (from to : State) → AmPdcpBeginAlike c.pdcp_bits p c.first from to
     → BeginsAs c from → BeginsAs c to
     → Joins (first_way c p) (begins from) (begins to)
 first_joins c p from to h f t = record {
@@ -67,7 +67,7 @@ first_joins c p from to h f t = record {
   receiver_is = sym h.receiver;
   stream_is = refl;
   passed_is = refl;
-  whole_is = λ k. none_arrives c.tx c.rx k (arrives (rlc_outset c.tx c.rx) k) refl;
+  whole_is = λ k. none_arrives c.tx c.rx k (arrives (am_rlc_outset c.tx c.rx) k) refl;
 }
 
 -- none is owed
@@ -77,7 +77,7 @@ first_reports c p q = record { owed = λ r e. cc; sent = tt }
 
 pub begins_joined : (c : BearerConfig) (keys : Keys) (nb ue : State) → AreBothEnds c keys nb ue
     → JoinedPair c.pdcp_bits (first_way c (protection_at c keys Nb)) (first_way c (protection_at c keys Ue))
-    (outset nb ue)
+    (am_pair_outset nb ue)
 begins_joined c keys nb ue h =
     let near = first_life_begins c keys Nb nb h.kind h.nb_is in
     let far = first_life_begins c keys Ue ue h.kind h.ue_is in

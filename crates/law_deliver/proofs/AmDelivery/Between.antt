@@ -1,7 +1,7 @@
 -- Both ways while an end is between two deeds of a call.
 use Rattle.std.proofs.Common.{◌≡◌, ℕ, List, [], ◌∷◌, ◌++◌, ◌∙◌}
 use Rattle.std.specs.List.{AllByRecursion}
-use Rattle.law_words.specs.Arrivals.{Happening}
+use Rattle.law_words.specs.Arrivals.{AccountEntry}
 use Rattle.law_bearer.specs.AmBearer.Deeds.{Deed, does as deed_does, does_all, goes_up, go_up}
 use Rattle.bearer.specs.Acknowledged.State.{State}
 use Rattle.law_deliver.specs.AmFlow.Pair.{BearerEnd}
@@ -22,7 +22,7 @@ pub record Between (bits : ℕ) (out inn : Way) (e o : BearerEnd) : Type 0 where
   pub inn_reports : Reports inn out
 
 -- they go on to an end of which these SDUs went up, and so much is told of what it heard
-pub record GoesBetween (bits : ℕ) (out inn : Way) (e o : BearerEnd) (ups : List (List ℕ)) (heard : List Happening) :
+pub record GoesBetween (bits : ℕ) (out inn : Way) (e o : BearerEnd) (ups : List (List ℕ)) (heard : List AccountEntry) :
     Type 0 where
   pub out_after : Way
   pub inn_after : Way
@@ -36,7 +36,7 @@ none_goes bits out inn e o h =
     record { out_after = out; inn_after = inn; between = h; out_goes = goes_not out; inn_goes = goes_not inn }
 
 -- each way by itself
-pub both_go : {heard : List Happening} (bits : ℕ) (out inn : Way) (d e o : BearerEnd) (ups : List (List ℕ))
+pub both_go : {heard : List AccountEntry} (bits : ℕ) (out inn : Way) (d e o : BearerEnd) (ups : List (List ℕ))
     → Between bits out inn d o
     → Extends out (standing e o) [] [] → Extends inn (standing o e) ups heard → GoesBetween bits out inn e o ups heard
 both_go {heard} bits out inn d e o ups h there back =
@@ -59,7 +59,7 @@ both_go {heard} bits out inn d e o ups h there back =
       inn_goes = y.goes;
     }
 
-pub then_goes : {x y : List Happening} (bits : ℕ) (out inn : Way) (d e o : BearerEnd) (ups more : List (List ℕ))
+pub then_goes : {x y : List AccountEntry} (bits : ℕ) (out inn : Way) (d e o : BearerEnd) (ups more : List (List ℕ))
     → GoesBetween bits out inn d o ups x
     → ((v w : Way) → Between bits v w d o → GoesBetween bits v w e o more y)
     → GoesBetween bits out inn e o (ups ++ more) (x ++ y)

@@ -15,7 +15,7 @@ use Rattle.law_bearer.specs.AnyBearer.Calls.{Call, Submit, Take, Arrive, Expire,
 use Rattle.law_bearer.specs.AnyBearer.Queue.{news}
 use Rattle.law_bearer.specs.AmBearer.Deeds.{Deed, Asks, does_all}
 use Rattle.law_bearer.specs.AmBearer.Calls.{only_if, settles, expires, counted, ticks, discards, deeds_of, tells}
-use Rattle.law_bearer.specs.AmBearer.Calls.{ups_in}
+use Rattle.law_bearer.specs.AmBearer.Calls.{ups_among}
 use Rattle.law_bearer.proofs.AmBearer.Ups.{AreQuiet, quiet_up}
 use Rattle.law_bearer.proofs.AmBearer.Taking.{takes_quiet}
 use Rattle.law_bearer.proofs.AmBearer.Timing.{expires_quiet, tti_quiet, in_a_tti}
@@ -81,7 +81,7 @@ quiet_call e Tick g = tti_quiet e.bearer
 quiet_call e (SetDiscard ttis) g = (tt, tt)
 
 none_up : (bits : ℕ) (out inn : Way) (e o : BearerEnd) (c : Call) → JoinedEnds bits out inn e o → IsCalling e c
-    → [] ≡ ups_in (tells e.bearer c)
+    → [] ≡ ups_among (tells e.bearer c)
 none_up bits out inn e o c h g =
     sym (quiet_up (deeds_of e.bearer c) e.bearer (quiet_call e c g))
     ∙ (calls_are_deeds bits e.bearer c h.of_data h.idle).ups
@@ -131,7 +131,7 @@ calls_on bits out inn e o (SetDiscard ttis) h g ok = own_go_on bits out inn e o 
 
 pub calls_go_on : (bits : ℕ) (out inn : Way) (e o : BearerEnd) (c : Call) → JoinedEnds bits out inn e o
     → IsCalling e c → IsAccepted e.bearer c
-    → EndsGoOn bits out inn (calls e c) o (news (Am e.bearer) c) (ups_in (tells e.bearer c)) (said_in e.bearer c)
+    → EndsGoOn bits out inn (calls e c) o (news (Am e.bearer) c) (ups_among (tells e.bearer c)) (said_in e.bearer c)
     (heard_in c)
 calls_go_on bits out inn e o c h g ok =
     subst (λ (ups : List (List ℕ)). EndsGoOn bits out inn (calls e c) o (news (Am e.bearer) c) ups

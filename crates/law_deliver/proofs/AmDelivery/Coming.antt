@@ -16,9 +16,9 @@ use Rattle.law_rlc.specs.AmSender.Run.{Status, Settle}
 use Rattle.law_rlc.specs.AmReceiver.Run.{Arrive as Hears}
 use Rattle.law_words.specs.Passing.{Comes, come_as, with_passings}
 use Rattle.law_rlc.specs.AmArrival.Arrival.{passed}
-use Rattle.law_words.specs.Arrivals.{Happening, Passes, Account, accounted}
+use Rattle.law_words.specs.Arrivals.{AccountEntry, Passes, Account, accounted}
 use Rattle.law_rlc.specs.AmPair.Flow.{Copy}
-use Rattle.law_pdcp.specs.AmPair.Flow.{run as run_pdcp}
+use Rattle.law_pdcp.specs.AmPair.Flow.{run_am_pdcp}
 use Rattle.law_rlc.specs.AmPair.Statuses.{reduced}
 use Rattle.bearer_pdcp.specs.Ends.{Ends}
 use Rattle.bearer_pdcp.specs.Hearing.{applies}
@@ -31,7 +31,7 @@ use Rattle.law_bearer.specs.AmBearer.Deeds.{go_up, confirms_first, hands_first, 
 use Rattle.law_bearer.specs.AmBearer.Calls.{only_if, settles as settles_now, hands_up, settles_by, confirms_all}
 use Rattle.law_bearer.specs.AmBearer.Calls.{arrives as arrive_deeds, AreDeeds}
 use Rattle.law_bearer.proofs.AmBearer.Calls.{calls_are_deeds}
-use Rattle.law_deliver.specs.AmFlow.Pair.{Sent, BearerEnd, Deed as EndDeed, DataComes, StatusComes, acknowledged}
+use Rattle.law_deliver.specs.AmFlow.Pair.{SentStatus, BearerEnd, Deed as EndDeed, DataComes, StatusComes, acknowledged}
 use Rattle.law_deliver.specs.AmFlow.Pair.{called, arrives, data_comes, status_comes, does, Calls, DataGoes, StatusGoes}
 use Rattle.law_deliver.specs.AmFlow.Flows.{HasFlow}
 use Rattle.law_deliver.proofs.AmFlow.Flows.{data_read, status_read}
@@ -127,7 +127,7 @@ abbrev flow_of_way : (w : Way) (from to : BearerEnd) → IsWay w → Joins w fro
 flow_of_way w from to h j = record { steps = w.steps; given = h.steps; is = j.rlc_is }
 
 -- as its deeds do, so does its call
-as_called : {heard : List Happening} (bits : ℕ) (out inn : Way) (e o : BearerEnd) (pdu : List ℕ)
+as_called : {heard : List AccountEntry} (bits : ℕ) (out inn : Way) (e o : BearerEnd) (pdu : List ℕ)
     (x : Result AcknowledgedPdu RlcRefusal) → am_at pdu ≡ x
     → JoinedEnds bits out inn e o
     → GoesBetween bits out inn (with_bearer e (does_all (arrive_deeds x e.bearer) e.bearer)) o
@@ -203,12 +203,12 @@ silently w a octets pdu read x = record {
   stays = x.stays;
   ups_are = x.ups_are;
   tells =
-      λ b k. subst (λ (c : Account). Agrees c (run_pdcp x.events (pdcp w))
+      λ b k. subst (λ (c : Account). Agrees c (run_am_pdcp x.events (pdcp w))
       (with_passings (passed x.steps (rlc w)) (told_of w))) (sym (silent octets pdu b read)) (x.tells b k);
 }
 
 -- a STATUS that it wrote
-status_goes : (bits : ℕ) (out inn : Way) (e o : BearerEnd) (k : ℕ) (x : Option Sent) → slice_get o.reports k ≡ x
+status_goes : (bits : ℕ) (out inn : Way) (e o : BearerEnd) (k : ℕ) (x : Option SentStatus) → slice_get o.reports k ≡ x
     → JoinedEnds bits out inn e o
     → EndsGoOn bits out inn (status_comes e x) o [] (ups_by e.bearer (call_of x)) [] (heard_by (call_of x))
 status_goes bits out inn e o k None at h = none_comes bits out inn e o h

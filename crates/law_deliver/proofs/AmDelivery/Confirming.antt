@@ -23,10 +23,10 @@ use Rattle.law_rlc.proofs.AmPair.ByPlace.{confirms-arrived}
 use Rattle.law_rlc.proofs.AmPair.Later.{arrivals-same}
 use Rattle.law_rlc.proofs.AmPair.Steps.{goes-up, step-offers}
 use Rattle.law_rlc.specs.AmArrival.Arrival.{passed}
-use Rattle.law_pdcp.specs.AmPair.Flow.{Flow as Pdcp, Sends as PdcpSends, run as run_pdcp}
+use Rattle.law_pdcp.specs.AmPair.Flow.{Flow as Pdcp, Sends as PdcpSends, run_am_pdcp}
 use Rattle.law_deliver.proofs.AmFlow.Standing.{Stands, or_none}
 use Rattle.law_deliver.proofs.AmFlow.Sending.{sent_one}
-use Rattle.promises.specs.Given.{passing}
+use Rattle.promises.specs.Given.{entries_passed}
 use Rattle.law_deliver.proofs.AmDelivery.Accounts.{told_of, tells_passing}
 use Rattle.law_deliver.proofs.AmDelivery.Joined.{Way, IsWay, rlc, pdcp}
 use Rattle.law_deliver.proofs.AmDelivery.Meeting.{Standing, Meets, MeetsNow, none_changes, Extends}
@@ -60,7 +60,7 @@ quietly w step a tx h q stands m =
 -- PDCP does nothing
 of_rlc : (w : Way) (step : RlcStep) (a : Standing) (tx : Sender) → IsWay w → IsQuiet (rlc w) step
     → Stands tx a.rx a.copies a.reports a.busy (rlc_happens (rlc w) step)
-    → MeetsNow w a → Extends w (record a { tx = tx }) [] (passing (passed (step ∷ []) (rlc w)))
+    → MeetsNow w a → Extends w (record a { tx = tx }) [] (entries_passed (passed (step ∷ []) (rlc w)))
 of_rlc w step a tx h q stands m = record {
   events = [];
   steps = step ∷ [];
@@ -156,6 +156,6 @@ confirms w place places a h q m =
         owed = owed_stays g.sender place;
       };
       ups_are = sym (append-nil g.up);
-      tells = tells_passing [] g (run_pdcp (PdcpSends (ConfirmPlace place) ∷ []) g) (told_of w) (append-nil g.stream)
+      tells = tells_passing [] g (run_am_pdcp (PdcpSends (ConfirmPlace place) ∷ []) g) (told_of w) (append-nil g.stream)
           refl (λ count. refl);
     }

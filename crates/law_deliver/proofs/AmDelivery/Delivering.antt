@@ -10,11 +10,11 @@ use Rattle.pdcp_rx.specs.State.{State as Receiving}
 use Rattle.pdcp_sec.specs.Protection.{Protection}
 use Rattle.law_bearer.specs.AmBearer.Calls.{IsIdle}
 use Rattle.law_bearer.specs.AmBearer.Lives.{protection_at}
-use Rattle.law_words.specs.Arrivals.{Happening, Account, no_account, account}
-use Rattle.law_words.specs.Lists.{IsFront}
+use Rattle.law_words.specs.Arrivals.{AccountEntry, Account, no_account, account}
+use Rattle.law_words.specs.Lists.{AreFirstSdus}
 use Rattle.law_pdcp.specs.AmPair.Expected.{IsExpected}
 use Rattle.law_pdcp.proofs.AmPair.Laws.{expected}
-use Rattle.law_deliver.specs.AmFlow.Pair.{BearerEnd, Pair, outset}
+use Rattle.law_deliver.specs.AmFlow.Pair.{BearerEnd, Pair, am_pair_outset}
 use Rattle.law_deliver.specs.AmDelivery.Delivery.{IsPdcpFlow, AreBothEnds, BearersArePdcpFlows, DeliversInOrder}
 use Rattle.law_deliver.specs.AmDelivery.Lives.{LifeStep, InLife, Restarts, lives_on, lives, IsLiving, AreLiving}
 use Rattle.law_deliver.specs.AmDelivery.Lives.{far_ups_in, near_ups_in, near_news_in, far_news_in, over}
@@ -41,7 +41,7 @@ stays w = record {
 list_goes_on : (xs ys zs : List (List ℕ)) (a b : List (List ℕ)) → ys ≡ xs ++ a → zs ≡ ys ++ b → zs ≡ xs ++ (a ++ b)
 list_goes_on xs ys zs a b p q = q ∙ ap (λ (l : List (List ℕ)). l ++ b) p ∙ append_assoc xs a b
 
-goes_further : {xs ys : List Happening} (u v w : Way) (news more ups higher : List (List ℕ)) → GoesOn u v news ups xs
+goes_further : {xs ys : List AccountEntry} (u v w : Way) (news more ups higher : List (List ℕ)) → GoesOn u v news ups xs
     → GoesOn v w more higher ys
     → GoesOn u w (news ++ more) (ups ++ higher) (xs ++ ys)
 goes_further {xs} {ys} u v w news more ups higher h k = record {
@@ -85,12 +85,12 @@ all_go steps (x ∷ xs) bits down up p given h =
     }
 
 pub from_the_first : StepsGoOn → (c : BearerConfig) (keys : Keys) (nb ue : State) (xs : List LifeStep)
-    → AreBothEnds c keys nb ue → AreLiving (outset nb ue) xs
+    → AreBothEnds c keys nb ue → AreLiving (am_pair_outset nb ue) xs
     → AllGoOn c.pdcp_bits (first_way c (protection_at c keys Nb)) (first_way c (protection_at c keys Ue))
-    (outset nb ue) xs
+    (am_pair_outset nb ue) xs
 from_the_first steps c keys nb ue xs h given =
     all_go steps xs c.pdcp_bits (first_way c (protection_at c keys Nb)) (first_way c (protection_at c keys Ue))
-    (outset nb ue) given (begins_joined c keys nb ue h)
+    (am_pair_outset nb ue) given (begins_joined c keys nb ue h)
 
 -- ---- a direction is a flow of PDCP
 
@@ -105,7 +105,7 @@ way_flow w from to is j = record {
   ups_are = refl;
 }
 
-flow_from : {told : List Happening} (c : BearerConfig) (p : Protection) (w : Way) (from to : BearerEnd)
+flow_from : {told : List AccountEntry} (c : BearerConfig) (p : Protection) (w : Way) (from to : BearerEnd)
     (news ups : List (List ℕ)) → IsWay w → Joins w from to
     → GoesOn (first_way c p) w news ups told → IsPdcpFlow c.pdcp_bits p c.first from.bearer to.bearer news ups
 flow_from c p w from to news ups is j g =
@@ -119,7 +119,7 @@ flow_from c p w from to news ups is j g =
 pub are_pdcp_flows : StepsGoOn → BearersArePdcpFlows
 are_pdcp_flows steps c keys nb ue xs h given =
     let r = from_the_first steps c keys nb ue xs h given in
-    let p = outset nb ue in
+    let p = am_pair_outset nb ue in
     let q = lives xs p in
     record {
       down = flow_from c (protection_at c keys Nb) r.down_after q.near q.far (over near_news_in xs p)
@@ -131,7 +131,7 @@ are_pdcp_flows steps c keys nb ue xs h given =
 -- ---- what went up of it
 
 front_of : (w : Way) (from to : BearerEnd) → IsWay w → Joins w from to → IsIdle to.bearer
-    → IsFront (pdcp w).up (pdcp w).sdus
+    → AreFirstSdus (pdcp w).up (pdcp w).sdus
 front_of w from to is j idle =
     let f = pdcp w in
     let e : IsExpected (pdcp w) = expected w.bits w.protection w.first w.events is.kind is.first is.events in
@@ -145,19 +145,19 @@ front_of w from to is j idle =
           ∙ ap (λ (l : List (List ℕ)). l ++ drop n f.sdus) (sym up);
     }
 
-front_from : {told : List Happening} (c : BearerConfig) (p : Protection) (w : Way) (news ups : List (List ℕ))
+front_from : {told : List AccountEntry} (c : BearerConfig) (p : Protection) (w : Way) (news ups : List (List ℕ))
     → GoesOn (first_way c p) w news ups told
-    → IsFront (pdcp w).up (pdcp w).sdus
-    → IsFront ups news
+    → AreFirstSdus (pdcp w).up (pdcp w).sdus
+    → AreFirstSdus ups news
 front_from c p w news ups g h =
-    subst (λ (l : List (List ℕ)). IsFront ups l) g.sdus_are
-    (subst (λ (l : List (List ℕ)). IsFront l (pdcp w).sdus) g.ups_are h)
+    subst (λ (l : List (List ℕ)). AreFirstSdus ups l) g.sdus_are
+    (subst (λ (l : List (List ℕ)). AreFirstSdus l (pdcp w).sdus) g.ups_are h)
 
 pub delivers_in_order : StepsGoOn → DeliversInOrder
 delivers_in_order steps c keys nb ue xs h given =
     let r = from_the_first steps c keys nb ue xs h given in
     let j = r.joined in
-    let p = outset nb ue in
+    let p = am_pair_outset nb ue in
     let q = lives xs p in
     record {
       down = front_from c (protection_at c keys Nb) r.down_after (over near_news_in xs p) (over far_ups_in xs p)
@@ -173,7 +173,7 @@ begins_account : (c : BearerConfig) (p : Protection)
     → Agrees no_account (pdcp (first_way c p)) (told_of (first_way c p))
 begins_account c p = record { given_are = refl; rlc_is = refl; handed_are = λ count. refl }
 
-what_came_from : {told : List Happening} (c : BearerConfig) (p : Protection) (w : Way) (from to : BearerEnd)
+what_came_from : {told : List AccountEntry} (c : BearerConfig) (p : Protection) (w : Way) (from to : BearerEnd)
     (news ups : List (List ℕ)) → IsWay w → Joins w from to
     → IsIdle to.bearer
     → GoesOn (first_way c p) w news ups told → IsWhatCame c.first (account told no_account) news ups
@@ -189,7 +189,7 @@ pub delivers_what_came : StepsGoOn → DeliversWhatCame
 delivers_what_came steps c keys nb ue xs h given =
     let r = from_the_first steps c keys nb ue xs h given in
     let j = r.joined in
-    let p = outset nb ue in
+    let p = am_pair_outset nb ue in
     let q = lives xs p in
     record {
       down = what_came_from c (protection_at c keys Nb) r.down_after q.near q.far (over near_news_in xs p)

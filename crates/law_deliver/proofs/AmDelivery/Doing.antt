@@ -3,8 +3,8 @@ use Rattle.std.proofs.Common.{◌≡◌, ℕ, List, [], ◌++◌, Option, Some, 
 use Rattle.std.specs.List.{AllByRecursion}
 use Rattle.law_bearer.specs.AmBearer.Calls.{IsOfData, IsIdle}
 use Rattle.law_rlc.specs.AmPair.Flow.{Step as RlcStep}
-use Rattle.law_words.specs.Arrivals.{Happening}
-use Rattle.law_pdcp.specs.AmPair.Flow.{Flow as Pdcp, Event, run as run_pdcp}
+use Rattle.law_words.specs.Arrivals.{AccountEntry}
+use Rattle.law_pdcp.specs.AmPair.Flow.{Flow as Pdcp, Event, run_am_pdcp}
 use Rattle.law_deliver.specs.AmFlow.Pair.{BearerEnd}
 use Rattle.law_deliver.proofs.AmDelivery.Joined.{Way, Joins, IsReportOf, Reports, pdcp}
 use Rattle.law_deliver.proofs.AmDelivery.Ways.{with_more}
@@ -80,9 +80,9 @@ pub record IsBetween (bits : ℕ) (e : BearerEnd) : Type 0 where
   pub idle : IsIdle e.bearer
 
 pub out_goes_on : (bits : ℕ) (out inn : Way) (e o d : BearerEnd) (xs : List Event) (ss : List RlcStep)
-    (news : List (List ℕ)) (said : List Happening)
+    (news : List (List ℕ)) (said : List AccountEntry)
     → JoinedEnds bits out inn e o → Moves out xs ss d o news [] said → HearsAlike e d → IsBetween bits d
-    → (run_pdcp xs (pdcp out)).report ≡ (pdcp out).report → Tells (pdcp inn).report (run_pdcp xs (pdcp out))
+    → (run_am_pdcp xs (pdcp out)).report ≡ (pdcp out).report → Tells (pdcp inn).report (run_am_pdcp xs (pdcp out))
     → EndsGoOn bits out inn d o news [] said []
 out_goes_on bits out inn e o d xs ss news said h moves alike between report told =
     let v = with_more xs ss out in
@@ -99,7 +99,7 @@ out_goes_on bits out inn e o d xs ss news said h moves alike between report told
         out_joins = m.joins;
         inn_joins = hears_so inn o e d alike h.inn_joins;
         out_reports = reports_so out v inn (pdcp inn) same refl (tells out inn h.out_reports);
-        inn_reports = reports_so inn inn v (run_pdcp xs (pdcp out)) refl m.pdcp_is told;
+        inn_reports = reports_so inn inn v (run_am_pdcp xs (pdcp out)) refl m.pdcp_is told;
         of_data = between.of_data;
         other_of_data = h.other_of_data;
         idle = between.idle;
@@ -146,7 +146,7 @@ pub stays_joined : (bits : ℕ) (out inn : Way) (e o : BearerEnd) → JoinedEnds
 stays_joined bits out inn e o h =
     record { out_after = out; inn_after = inn; joined = h; out_goes = stays_so out; inn_goes = stays_so inn }
 
-pub ends_then : {a b x y : List Happening} (bits : ℕ) (out inn : Way) (e o d p : BearerEnd)
+pub ends_then : {a b x y : List AccountEntry} (bits : ℕ) (out inn : Way) (e o d p : BearerEnd)
     (news more ups later : List (List ℕ)) (m : EndsGoOn bits out inn e o news ups a x)
     → EndsGoOn bits m.out_after m.inn_after d p more later b y
     → EndsGoOn bits out inn d p (news ++ more) (ups ++ later) (a ++ b) (x ++ y)

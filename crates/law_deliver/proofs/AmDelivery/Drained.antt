@@ -6,7 +6,7 @@ use Rattle.std.proofs.lemmas.Bool.Decides.{nat_tests}
 use Rattle.std.proofs.lemmas.List.{length-map}
 use Rattle.law_bearer.specs.AmBearer.Calls.{IsIdle}
 use Rattle.law_bearer.specs.AmBearer.Lives.{protection_at}
-use Rattle.law_words.specs.Arrivals.{Happening}
+use Rattle.law_words.specs.Arrivals.{AccountEntry}
 use Rattle.law_rlc.specs.AmPair.Flow.{Copy, sender}
 use Rattle.law_rlc.specs.AmPair.Sdus.{offered, handed_up, ready}
 use Rattle.law_rlc.proofs.AmPair.Laws.{hands-up-all, next-is-ready}
@@ -31,8 +31,9 @@ use Rattle.pdcp_tx.specs.declared.sender.Next.{Next}
 use Rattle.pdcp_tx.specs.State.{State as Sending, Offer, offers, owed_offers, again_offer, refusal, left as pdcp_left}
 use Rattle.rlc_am_rx.specs.State.{State as Hearing}
 use Rattle.rlc_am_tx.specs.Need.{left as rlc_left}
-use Rattle.law_deliver.specs.AmFlow.Pair.{Sent as SentStatus, BearerEnd, Pair, Deed, Calls as Asks, DataComes}
-use Rattle.law_deliver.specs.AmFlow.Pair.{StatusComes, DataGoes, StatusGoes, Near, Far, Passes, HasOctet, outset}
+use Rattle.law_deliver.specs.AmFlow.Pair.{SentStatus, BearerEnd, Pair, Deed, Calls as Asks, DataComes}
+use Rattle.law_deliver.specs.AmFlow.Pair.{StatusComes, DataGoes, StatusGoes, Near, Far, Passes, HasOctet}
+use Rattle.law_deliver.specs.AmFlow.Pair.{am_pair_outset}
 use Rattle.law_deliver.specs.AmDelivery.Drained.{IsDrained, AllAreUp, DrainedHasDelivered}
 use Rattle.law_deliver.specs.AmDelivery.Ends.{submitted_by, near_submitted_in, far_submitted_in}
 use Rattle.law_deliver.specs.AmDelivery.Lives.{LifeStep, InLife, Restarts, lives_on, lives, MayBeDone, IsLiving}
@@ -96,7 +97,7 @@ all_up w from to is j idle none =
     sym (append-nil g.up) ∙ ap (λ (l : List (List ℕ)). g.up ++ l) (sym raised)
     ∙ delivers_all w.bits w.protection w.first w.events is.kind is.first is.events passed again
 
-all_from : {told : List Happening} (c : BearerConfig) (p : Protection) (w : Way) (news ups : List (List ℕ))
+all_from : {told : List AccountEntry} (c : BearerConfig) (p : Protection) (w : Way) (news ups : List (List ℕ))
     → GoesOn (first_way c p) w news ups told → (pdcp w).up ≡ (pdcp w).sdus
     → ups ≡ news
 all_from c p w news ups g h = sym g.ups_are ∙ h ∙ g.sdus_are
@@ -201,7 +202,7 @@ pub drained_delivers : StepsGoOn → DrainedHasDelivered
 drained_delivers steps c keys nb ue xs h given =
     let r = from_the_first steps c keys nb ue xs h given in
     let j = r.joined in
-    let p = outset nb ue in
+    let p = am_pair_outset nb ue in
     let q = lives xs p in
     let ends' = ends_are_reached c keys nb ue xs h in
     record {

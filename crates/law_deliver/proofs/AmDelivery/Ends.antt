@@ -1,6 +1,6 @@
 -- Both directions from the end that acts: what it sends on goes out, what it hears comes in.
 use Rattle.std.specs.Prelude.{◌≡◌, ℕ, List, []}
-use Rattle.law_words.specs.Arrivals.{Happening}
+use Rattle.law_words.specs.Arrivals.{AccountEntry}
 use Rattle.law_bearer.specs.AmBearer.Calls.{IsOfData, IsIdle}
 use Rattle.law_deliver.specs.AmFlow.Pair.{BearerEnd, Pair}
 use Rattle.law_deliver.proofs.AmDelivery.Joined.{Way, IsWay, Joins, Reports, JoinedPair}
@@ -24,7 +24,7 @@ pub record JoinedEnds (bits : ℕ) (out inn : Way) (e o : BearerEnd) : Type 0 wh
 -- both ends as an end has acted: it took these SDUs for the first time, and these went up there; so much is told of
 -- what it sent and heard
 pub record EndsGoOn (bits : ℕ) (out inn : Way) (e o : BearerEnd) (news ups : List (List ℕ))
-    (said heard : List Happening) : Type 0 where
+    (said heard : List AccountEntry) : Type 0 where
   pub out_after : Way
   pub inn_after : Way
   pub joined : JoinedEnds bits out_after inn_after e o

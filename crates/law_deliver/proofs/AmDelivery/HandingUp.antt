@@ -15,7 +15,7 @@ use Rattle.law_rlc.proofs.AmPair.ByPlace.{has-ready}
 use Rattle.law_rlc.proofs.AmPair.Later.{arrivals-same}
 use Rattle.law_rlc.proofs.AmPair.Steps.{goes-up}
 use Rattle.law_pdcp.specs.AmPair.Flow.{Flow as Pdcp, Event, HandUp, Raise, passes, with_count, happens as pdcp_happens}
-use Rattle.law_pdcp.specs.AmPair.Flow.{run as run_pdcp, AreGiven as AreGivenEvents}
+use Rattle.law_pdcp.specs.AmPair.Flow.{run_am_pdcp, AreGiven as AreGivenEvents}
 use Rattle.law_bearer.specs.AmBearer.Deeds.{all_raised}
 use Rattle.law_deliver.proofs.AmFlow.Standing.{at_place}
 use Rattle.law_deliver.proofs.AmFlow.Hearing.{receives_one}
@@ -36,7 +36,8 @@ raises_given (sdu ∷ sdus) g = (tt, raises_given sdus (pdcp_happens g Raise))
 abbrev pub raised : List (List ℕ) → Pdcp → Pdcp
 raised sdus g = record g { receiver = all_raised g.receiver; up = g.up ++ sdus }
 
-pub all_raise : (sdus : List (List ℕ)) (g : Pdcp) → g.receiver.ready ≡ sdus → run_pdcp (raises sdus) g ≡ raised sdus g
+pub all_raise : (sdus : List (List ℕ)) (g : Pdcp) → g.receiver.ready ≡ sdus
+    → run_am_pdcp (raises sdus) g ≡ raised sdus g
 all_raise [] g q =
     ap (λ (l : List (List ℕ)). record g { receiver = record g.receiver { ready = l } }) q
     ∙ ap (λ (l : List (List ℕ)). record g { receiver = all_raised g.receiver; up = l }) (sym (append-nil g.up))
@@ -85,10 +86,10 @@ passed_by r pdu g = record g { receiver = r; passed = g.passed + 1; handed = wit
 
 hands_up : (g : Pdcp) (pdu : Next) (r : Receiving) → slice_get g.stream g.passed ≡ Some pdu
     → arrived g.receiver pdu.octets Arrived ≡ r
-    → run_pdcp (HandUp ∷ raises r.ready) g ≡ raised r.ready (passed_by r pdu g)
+    → run_am_pdcp (HandUp ∷ raises r.ready) g ≡ raised r.ready (passed_by r pdu g)
 hands_up g pdu r at q =
-    ap (λ (o : Option Next). run_pdcp (raises r.ready) (passes o g)) at
-    ∙ ap (λ (x : Receiving). run_pdcp (raises r.ready) (passed_by x pdu g)) q
+    ap (λ (o : Option Next). run_am_pdcp (raises r.ready) (passes o g)) at
+    ∙ ap (λ (x : Receiving). run_am_pdcp (raises r.ready) (passed_by x pdu g)) q
     ∙ all_raise r.ready (passed_by r pdu g) refl
 
 pub goes_up_one : (w : Way) (a : Standing) (sdu : List ℕ) (sdus : List (List ℕ)) → IsWay w
@@ -105,7 +106,7 @@ goes_up_one w a sdu sdus h q next m =
     let got_so : arrived g.receiver next.pdu.octets Arrived ≡ v =
     ap (λ (x : Receiving). arrived x next.pdu.octets Arrived) m.receiver_is
     ∙ ap (λ (l : List ℕ). arrived a.receiving l Arrived) next.octets in
-    let same : run_pdcp (HandUp ∷ raises v.ready) g ≡ raised v.ready (passed_by v next.pdu g) =
+    let same : run_am_pdcp (HandUp ∷ raises v.ready) g ≡ raised v.ready (passed_by v next.pdu g) =
     hands_up g next.pdu v next.at got_so in
     let held : ready f ≡ sdu ∷ sdus = (has-ready f ok).held ∙ ap (λ (x : Receiver). x.out.ready) m.stands.receiver_is
     ∙ q in
@@ -132,7 +133,7 @@ goes_up_one w a sdu sdus h q next m =
         owed = ap (λ (x : Pdcp). x.sender.owed) same;
       };
       ups_are = ap (λ (x : Pdcp). x.up) same;
-      tells = tells_handed g (run_pdcp (HandUp ∷ raises v.ready) g) next.pdu (told_of w) next.at
+      tells = tells_handed g (run_am_pdcp (HandUp ∷ raises v.ready) g) next.pdu (told_of w) next.at
           (ap (λ (x : Pdcp). x.stream) same) (ap (λ (x : Pdcp). x.passed) same)
           (λ count. ap (λ (x : Pdcp). x.handed count) same);
     }

@@ -8,11 +8,11 @@ use Rattle.pdcp_pdu.specs.Kinds.{IsKind}
 use Rattle.pdcp_sec.specs.Protection.{Protection}
 use Rattle.pdcp_tx.specs.declared.sender.Next.{Next}
 use Rattle.law_bearer.specs.AmBearer.Calls.{IsOfData, IsIdle}
-use Rattle.law_rlc.specs.AmPair.Flow.{Flow as Rlc, Step as RlcStep, goes as rlc_goes, outset as rlc_outset}
+use Rattle.law_rlc.specs.AmPair.Flow.{Flow as Rlc, Step as RlcStep, goes as rlc_goes, am_rlc_outset}
 use Rattle.law_rlc.specs.AmPair.Given.{AreGiven as AreGivenSteps}
 use Rattle.law_rlc.specs.AmPair.Sdus.{offered, handed_up}
 use Rattle.law_rlc.specs.AmPair.Arrives.{arrives}
-use Rattle.law_pdcp.specs.AmPair.Flow.{Flow as Pdcp, Event, run as run_pdcp, outset as pdcp_outset}
+use Rattle.law_pdcp.specs.AmPair.Flow.{Flow as Pdcp, Event, run_am_pdcp, am_pdcp_outset}
 use Rattle.law_pdcp.specs.AmPair.Flow.{AreGiven as AreGivenEvents}
 use Rattle.law_deliver.specs.AmFlow.Flows.{IsFlow}
 use Rattle.law_deliver.specs.AmFlow.Pair.{BearerEnd, Pair}
@@ -29,16 +29,16 @@ pub record Way : Type 0 where
   pub steps : List RlcStep
 
 abbrev pub rlc : Way → Rlc
-rlc w = rlc_goes w.steps (rlc_outset w.sending w.receiving)
+rlc w = rlc_goes w.steps (am_rlc_outset w.sending w.receiving)
 
 abbrev pub pdcp : Way → Pdcp
-pdcp w = run_pdcp w.events (pdcp_outset w.bits w.protection w.first)
+pdcp w = run_am_pdcp w.events (am_pdcp_outset w.bits w.protection w.first)
 
 pub record IsWay (w : Way) : Type 0 where
   pub kind : IsKind (AmKind w.bits)
   pub first : w.first ≤ 2 ^ 32
-  pub events : AreGivenEvents (pdcp_outset w.bits w.protection w.first) w.events
-  pub steps : AreGivenSteps (rlc_outset w.sending w.receiving) w.steps
+  pub events : AreGivenEvents (am_pdcp_outset w.bits w.protection w.first) w.events
+  pub steps : AreGivenSteps (am_rlc_outset w.sending w.receiving) w.steps
 
 -- it goes from an end to the other, and what PDCP gives is what RLC is offered
 pub record Joins (w : Way) (from to : BearerEnd) : Type 0 where

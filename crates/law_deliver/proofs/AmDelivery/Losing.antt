@@ -5,7 +5,7 @@ use Rattle.law_rlc.specs.AmPair.Flow.{DataGoes as LetsDataGo, StatusGoes as Lets
 use Rattle.law_rlc.specs.AmPair.Flow.{happens as rlc_happens}
 use Rattle.law_bearer.specs.AmBearer.Calls.{IsOfData, IsIdle}
 use Rattle.law_pdcp.specs.AmPair.Flow.{Flow as Pdcp}
-use Rattle.law_deliver.specs.AmFlow.Pair.{Sent, BearerEnd, Pair, Passes, older, passed, IsYoung, IsGiven}
+use Rattle.law_deliver.specs.AmFlow.Pair.{SentStatus, BearerEnd, Pair, Passes, older, passed, IsYoung, IsGiven}
 use Rattle.law_deliver.specs.AmFlow.Flows.{IsFlow}
 use Rattle.law_deliver.proofs.AmFlow.Flows.{let_go, ages, are_young}
 use Rattle.law_deliver.specs.AmDelivery.Lives.{InLife}
@@ -72,7 +72,7 @@ passes_move w e o h joins young =
       busy_is = refl;
     } in
     rlc_moves w TtiPasses e o (passed e) (passed o) h joins
-    (are_young (rlc w).reports (subst (λ (l : List Sent). AllByRecursion IsYoung l) (sym f.reports_are) young))
+    (are_young (rlc w).reports (subst (λ (l : List SentStatus). AllByRecursion IsYoung l) (sym f.reports_are) young))
     (record { stays = refl; none = refl }) refl flow refl refl
 
 pub passes_go_on : (bits : ℕ) (down up : Way) (p : Pair) → JoinedPair bits down up p → IsGiven p Passes

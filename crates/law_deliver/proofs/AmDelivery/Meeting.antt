@@ -11,11 +11,11 @@ use Rattle.law_rlc.specs.AmPair.Flow.{Copy, Flow as Rlc, Step as RlcStep, goes a
 use Rattle.law_rlc.specs.AmPair.Given.{AreGiven as AreGivenSteps}
 use Rattle.law_rlc.specs.AmPair.Sdus.{offered, handed_up}
 use Rattle.law_rlc.specs.AmPair.Arrives.{arrives}
-use Rattle.law_pdcp.specs.AmPair.Flow.{Flow as Pdcp, Event, run as run_pdcp, AreGiven as AreGivenEvents}
+use Rattle.law_pdcp.specs.AmPair.Flow.{Flow as Pdcp, Event, run_am_pdcp, AreGiven as AreGivenEvents}
 use Rattle.law_words.specs.Passing.{with_passings}
 use Rattle.law_rlc.specs.AmArrival.Arrival.{passed}
-use Rattle.law_words.specs.Arrivals.{Happening, account}
-use Rattle.law_deliver.specs.AmFlow.Pair.{Sent, BearerEnd}
+use Rattle.law_words.specs.Arrivals.{AccountEntry, account}
+use Rattle.law_deliver.specs.AmFlow.Pair.{SentStatus, BearerEnd}
 use Rattle.law_deliver.proofs.AmFlow.Standing.{Stands}
 use Rattle.law_deliver.proofs.AmFlow.Flows.{stands_as, is_flow}
 use Rattle.law_deliver.proofs.AmDelivery.Joined.{Way, IsWay, rlc, pdcp, Joins, IsReportOf, Reports}
@@ -30,7 +30,7 @@ pub record Standing : Type 0 where
   pub sending : Sending
   pub receiving : Receiving
   pub copies : List Copy
-  pub reports : List Sent
+  pub reports : List SentStatus
   pub busy : Bool
 
 abbrev pub standing : BearerEnd → BearerEnd → Standing
@@ -88,15 +88,15 @@ pub none_changes : (g : Pdcp) → Stays g g
 none_changes g = record { sdus = refl; stream = refl; report = refl; owed = refl }
 
 -- by events and steps
-pub record Extends (w : Way) (a : Standing) (ups : List (List ℕ)) (told : List Happening) : Type 0 where
+pub record Extends (w : Way) (a : Standing) (ups : List (List ℕ)) (told : List AccountEntry) : Type 0 where
   pub events : List Event
   pub steps : List RlcStep
   pub events_given : AreGivenEvents (pdcp w) events
   pub steps_given : AreGivenSteps (rlc w) steps
-  pub meets : Meets (rlc_goes steps (rlc w)) (run_pdcp events (pdcp w)) a
-  pub stays : Stays (pdcp w) (run_pdcp events (pdcp w))
-  pub ups_are : (run_pdcp events (pdcp w)).up ≡ (pdcp w).up ++ ups
-  pub tells : TellsOn told (pdcp w) (told_of w) (run_pdcp events (pdcp w))
+  pub meets : Meets (rlc_goes steps (rlc w)) (run_am_pdcp events (pdcp w)) a
+  pub stays : Stays (pdcp w) (run_am_pdcp events (pdcp w))
+  pub ups_are : (run_am_pdcp events (pdcp w)).up ≡ (pdcp w).up ++ ups
+  pub tells : TellsOn told (pdcp w) (told_of w) (run_am_pdcp events (pdcp w))
       (with_passings (passed steps (rlc w)) (told_of w))
 
 -- nothing happens
@@ -113,7 +113,7 @@ rests w a h = record {
 }
 
 -- the way behind it
-pub record Extended (w : Way) (from to : BearerEnd) (ups : List (List ℕ)) (told : List Happening) : Type 0 where
+pub record Extended (w : Way) (from to : BearerEnd) (ups : List (List ℕ)) (told : List AccountEntry) : Type 0 where
   pub after : Way
   pub is : IsWay after
   pub bits : after.bits ≡ w.bits
@@ -121,7 +121,7 @@ pub record Extended (w : Way) (from to : BearerEnd) (ups : List (List ℕ)) (tol
   pub stays : Stays (pdcp w) (pdcp after)
   pub goes : GoesOn w after [] ups told
 
-pub extended : (w : Way) (from to : BearerEnd) (ups : List (List ℕ)) (told : List Happening) → IsWay w
+pub extended : (w : Way) (from to : BearerEnd) (ups : List (List ℕ)) (told : List AccountEntry) → IsWay w
     → Extends w (standing from to) ups told → Extended w from to ups told
 extended w from to ups told h x =
     let v : Way = with_more x.events x.steps w in
@@ -143,7 +143,7 @@ extended w from to ups told h x =
         first = refl;
         sdus_are = stays.sdus ∙ sym (append-nil (pdcp w).sdus);
         ups_are = ap (λ (q : Pdcp). q.up) more.pdcp_is ∙ x.ups_are;
-        tells = λ b k. agrees_at (account told b) (run_pdcp x.events (pdcp w)) (pdcp v)
+        tells = λ b k. agrees_at (account told b) (run_am_pdcp x.events (pdcp w)) (pdcp v)
             (with_passings (passed x.steps (rlc w)) (told_of w)) (told_of v) more.pdcp_is (told_more w x.steps)
             (x.tells b k);
       };
@@ -159,7 +159,7 @@ reports_stay w back v under s b h = record {
 
 -- ---- one after the other
 
-pub goes_then : {xs ys : List Happening} (u v w : Way) (news more ups last : List (List ℕ)) → GoesOn u v news ups xs
+pub goes_then : {xs ys : List AccountEntry} (u v w : Way) (news more ups last : List (List ℕ)) → GoesOn u v news ups xs
     → GoesOn v w more last ys
     → GoesOn u w (news ++ more) (ups ++ last) (xs ++ ys)
 goes_then {xs} {ys} u v w news more ups last h k = record {

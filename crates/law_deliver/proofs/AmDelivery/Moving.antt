@@ -9,13 +9,13 @@ use Rattle.law_rlc.specs.AmPair.Arrives.{arrives, brings}
 use Rattle.law_rlc.specs.AmPair.Steps.{takes_up, offers}
 use Rattle.law_rlc.proofs.AmPair.Laws.{only-data-arrives}
 use Rattle.law_rlc.proofs.AmPair.Steps.{goes-up, step-offers}
-use Rattle.law_pdcp.specs.AmPair.Flow.{Flow as Pdcp, Event, run as run_pdcp, AreGiven as AreGivenEvents}
+use Rattle.law_pdcp.specs.AmPair.Flow.{Flow as Pdcp, Event, run_am_pdcp, AreGiven as AreGivenEvents}
 use Rattle.law_words.specs.Passing.{with_passings}
 use Rattle.law_rlc.specs.AmArrival.Arrival.{passed}
-use Rattle.law_words.specs.Arrivals.{Happening, account}
+use Rattle.law_words.specs.Arrivals.{AccountEntry, account}
 use Rattle.law_deliver.specs.AmFlow.Flows.{IsFlow}
 use Rattle.law_deliver.specs.AmFlow.Pair.{BearerEnd}
-use Rattle.promises.specs.Given.{passing}
+use Rattle.promises.specs.Given.{entries_passed}
 use Rattle.law_deliver.proofs.AmDelivery.Accounts.{told_of, told_more, TellsOn, tells_then, tells_passing, agrees_at}
 use Rattle.law_deliver.proofs.AmDelivery.Joined.{Way, IsWay, Joins, rlc, pdcp}
 use Rattle.law_deliver.proofs.AmDelivery.Ways.{with_more, IsMore, goes_on}
@@ -44,23 +44,24 @@ joins_so w from to h = record {
 -- ---- it goes on by events and steps
 
 pub record Moves (w : Way) (xs : List Event) (ss : List RlcStep) (from to : BearerEnd) (news ups : List (List ℕ))
-    (told : List Happening) : Type 0 where
+    (told : List AccountEntry) : Type 0 where
   pub events : AreGivenEvents (pdcp w) xs
   pub steps : AreGivenSteps (rlc w) ss
-  pub meets : Meets (run_pdcp xs (pdcp w)) (rlc_goes ss (rlc w)) from to
-  pub sdus_are : (run_pdcp xs (pdcp w)).sdus ≡ (pdcp w).sdus ++ news
-  pub ups_are : (run_pdcp xs (pdcp w)).up ≡ (pdcp w).up ++ ups
-  pub tells : TellsOn told (pdcp w) (told_of w) (run_pdcp xs (pdcp w)) (with_passings (passed ss (rlc w)) (told_of w))
+  pub meets : Meets (run_am_pdcp xs (pdcp w)) (rlc_goes ss (rlc w)) from to
+  pub sdus_are : (run_am_pdcp xs (pdcp w)).sdus ≡ (pdcp w).sdus ++ news
+  pub ups_are : (run_am_pdcp xs (pdcp w)).up ≡ (pdcp w).up ++ ups
+  pub tells : TellsOn told (pdcp w) (told_of w) (run_am_pdcp xs (pdcp w))
+      (with_passings (passed ss (rlc w)) (told_of w))
 
 pub record HasMoved (w v : Way) (xs : List Event) (from to : BearerEnd) (news ups : List (List ℕ))
-    (told : List Happening) : Type 0 where
+    (told : List AccountEntry) : Type 0 where
   pub is : IsWay v
-  pub pdcp_is : pdcp v ≡ run_pdcp xs (pdcp w)
+  pub pdcp_is : pdcp v ≡ run_am_pdcp xs (pdcp w)
   pub joins : Joins v from to
   pub goes : GoesOn w v news ups told
 
 pub moves_on : (w : Way) (xs : List Event) (ss : List RlcStep) (from to : BearerEnd) (news ups : List (List ℕ))
-    (told : List Happening) → IsWay w
+    (told : List AccountEntry) → IsWay w
     → Moves w xs ss from to news ups told
     → HasMoved w (with_more xs ss w) xs from to news ups told
 moves_on w xs ss from to news ups told h m =
@@ -68,7 +69,7 @@ moves_on w xs ss from to news ups told h m =
     let more : IsMore xs ss w = goes_on xs ss w h m.events m.steps in
     let meets : Meets (pdcp v) (rlc v) from to =
     subst (λ (g : Pdcp). Meets g (rlc v) from to) (sym more.pdcp_is)
-    (subst (λ (f : Rlc). Meets (run_pdcp xs (pdcp w)) f from to) (sym more.rlc_is) m.meets) in
+    (subst (λ (f : Rlc). Meets (run_am_pdcp xs (pdcp w)) f from to) (sym more.rlc_is) m.meets) in
     record {
       is = more.is;
       pdcp_is = more.pdcp_is;
@@ -79,7 +80,7 @@ moves_on w xs ss from to news ups told h m =
         first = refl;
         sdus_are = ap (λ (g : Pdcp). g.sdus) more.pdcp_is ∙ m.sdus_are;
         ups_are = ap (λ (g : Pdcp). g.up) more.pdcp_is ∙ m.ups_are;
-        tells = λ a k. agrees_at (account told a) (run_pdcp xs (pdcp w)) (pdcp v)
+        tells = λ a k. agrees_at (account told a) (run_am_pdcp xs (pdcp w)) (pdcp v)
             (with_passings (passed ss (rlc w)) (told_of w)) (told_of v) more.pdcp_is (told_more w ss) (m.tells a k);
       };
     }
@@ -96,7 +97,7 @@ stays_so w = record {
   tells = λ a k. k;
 }
 
-pub goes_then : {xs ys : List Happening} (w v u : Way) (news more ups later : List (List ℕ)) → GoesOn w v news ups xs
+pub goes_then : {xs ys : List AccountEntry} (w v u : Way) (news more ups later : List (List ℕ)) → GoesOn w v news ups xs
     → GoesOn v u more later ys
     → GoesOn w u (news ++ more) (ups ++ later) (xs ++ ys)
 goes_then {xs} {ys} w v u news more ups later h k = record {
@@ -129,7 +130,7 @@ rests w s h given calm = record {
 pub rlc_moves : (w : Way) (s : RlcStep) (from to d p : BearerEnd) → IsWay w → Joins w from to → IsGivenStep (rlc w) s
     → IsCalm s → offers s ≡ []
     → IsFlow d p (rlc_happens (rlc w) s) → d.bearer.pdcp.tx ≡ from.bearer.pdcp.tx → p.bearer.pdcp.rx ≡ to.bearer.pdcp.rx
-    → Moves w [] (s ∷ []) d p [] [] (passing (passed (s ∷ []) (rlc w)))
+    → Moves w [] (s ∷ []) d p [] [] (entries_passed (passed (s ∷ []) (rlc w)))
 rlc_moves w s from to d p h joins given calm none flow tx rx =
     let r = rests w s h given calm in
     record {

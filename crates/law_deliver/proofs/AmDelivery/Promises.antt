@@ -4,13 +4,13 @@ use Rattle.eps_sec.specs.declared.Keys.{Keys}
 use Rattle.law_deliver.specs.AmFlow.Pair.{Pair, Step, IsGiven}
 use Rattle.law_deliver.specs.AmDelivery.Lives.{LifeStep, InLife, Restarts, lives_on, MayHappen, far_ups_in, near_ups_in}
 use Rattle.law_deliver.specs.AmDelivery.Lives.{near_news_in, far_news_in}
-use Rattle.law_words.specs.Arrivals.{Happening}
+use Rattle.law_words.specs.Arrivals.{AccountEntry}
 use Rattle.law_deliver.specs.AmDelivery.Arrival.{down_in, up_in}
 use Rattle.law_deliver.proofs.AmDelivery.Joined.{Way, JoinedPair, pdcp}
 use Rattle.law_deliver.proofs.AmDelivery.Accounts.{told_of, TellsOn}
 
 -- a way goes on: what went up and what was taken for the first time grow by these, and so much is told of it
-pub record GoesOn (w v : Way) (news ups : List (List ℕ)) (told : List Happening) : Type 0 where
+pub record GoesOn (w v : Way) (news ups : List (List ℕ)) (told : List AccountEntry) : Type 0 where
   pub bits : v.bits ≡ w.bits
   pub protection : v.protection ≡ w.protection
   pub first : v.first ≡ w.first

@@ -4,7 +4,7 @@ use Rattle.std.proofs.Common.{◌∙◌}
 use Rattle.bearer.specs.declared.flow.Flow.{Flow}
 use Rattle.bearer.specs.declared.flow.Flow.TheVariants.{Am}
 use Rattle.bearer.specs.Acknowledged.State.{State}
-use Rattle.law_bearer.specs.AnyBearer.Calls.{Call, Step as BearerStep, Calls, Restart, goes, run as run_bearer}
+use Rattle.law_bearer.specs.AnyBearer.Calls.{Call, Step as BearerStep, Calls, Restart, goes, run_bearer}
 use Rattle.bearer_types.specs.declared.BearerConfig.{BearerConfig}
 use Rattle.eps_sec.specs.declared.Keys.{Keys}
 use Rattle.l2_types.specs.declared.Kind.TheVariants as kinds
@@ -18,9 +18,10 @@ use Rattle.law_bearer.proofs.AmBearer.Calls.{calls_are_deeds}
 use Rattle.law_bearer.proofs.AmBearer.Lives.{restarts_are_deeds, first_life_begins}
 use Rattle.law_rlc.specs.AmPair.Flow.{Copy}
 use Rattle.law_deliver.proofs.AmFlow.Sending.{is_called}
-use Rattle.law_deliver.specs.AmFlow.Pair.{Sent, BearerEnd, Pair, Deed, Calls as Asks, DataComes, StatusComes, DataGoes}
+use Rattle.law_deliver.specs.AmFlow.Pair.{SentStatus, BearerEnd, Pair, Deed, Calls as Asks, DataComes, StatusComes}
+use Rattle.law_deliver.specs.AmFlow.Pair.{DataGoes}
 use Rattle.law_deliver.specs.AmFlow.Pair.{StatusGoes, Step, Near, Far, Passes, called, data_comes, status_comes, does}
-use Rattle.law_deliver.specs.AmFlow.Pair.{happens, outset}
+use Rattle.law_deliver.specs.AmFlow.Pair.{happens, am_pair_outset}
 use Rattle.law_deliver.specs.AmDelivery.Ends.{near_steps_in, far_steps_in, EndsAreReached}
 use Rattle.law_deliver.specs.AmDelivery.Lives.{LifeStep, InLife, Restarts, lives_on, lives, call_by, call_of, calls_in}
 use Rattle.law_deliver.specs.AmDelivery.Lives.{near_calls, far_calls, over}
@@ -36,7 +37,7 @@ data_turns : (e : BearerEnd) (x : Option Copy) → Turns e.bearer (call_by x) (d
 data_turns e None = refl
 data_turns e (Some c) = refl
 
-status_turns : (e : BearerEnd) (x : Option Sent) → Turns e.bearer (call_of x) (status_comes e x).bearer
+status_turns : (e : BearerEnd) (x : Option SentStatus) → Turns e.bearer (call_of x) (status_comes e x).bearer
 status_turns e None = refl
 status_turns e (Some s) = refl
 
@@ -155,7 +156,7 @@ begins_so c keys side b kind is = let first = first_life_begins c keys side b ki
 
 pub ends_are_reached : EndsAreReached
 ends_are_reached c keys nb ue steps h =
-    let p = outset nb ue in
+    let p = am_pair_outset nb ue in
     record {
       nb_is = ap (run_bearer (over near_steps_in steps p)) h.nb_is
           ∙ lives_run c.pdcp_bits near_end steps p (begins_so c keys Nb nb h.kind h.nb_is);

@@ -14,7 +14,7 @@ use Rattle.rlc_am_rx.specs.Machine.{finished}
 use Rattle.rlc_am_rx.specs.State.{State as Receiver}
 use Rattle.bearer.specs.declared.flow.Flow.TheVariants.{Am}
 use Rattle.bearer.specs.Lives.{stopping}
-use Rattle.law_bearer.specs.AmBearer.Calls.{IsOfData, ups_in}
+use Rattle.law_bearer.specs.AmBearer.Calls.{IsOfData, ups_among}
 use Rattle.law_bearer.specs.AmBearer.Deeds.{all_raised}
 use Rattle.law_bearer.specs.AmBearer.Lives.{closes, closed, restarts, RestartsAs}
 use Rattle.law_bearer.proofs.AmBearer.Lives.{restarts_are_deeds}
@@ -22,7 +22,7 @@ use Rattle.law_rlc.specs.AmPair.Arrives.{arrives, whole_from}
 use Rattle.law_rlc.specs.AmPair.Sdus.{offered}
 use Rattle.law_rlc.proofs.AmPair.Laws.{finish-gives-by-places}
 use Rattle.law_pdcp.specs.AmPair.Flow.{Flow as Pdcp, IsReport, Restart, ended, closed as closed_counts}
-use Rattle.law_pdcp.specs.AmPair.Flow.{happens as pdcp_happens, outset as pdcp_outset}
+use Rattle.law_pdcp.specs.AmPair.Flow.{happens as pdcp_happens, am_pdcp_outset}
 use Rattle.law_words.specs.Arrivals.{Renews as LifeEnds, renewed as renewed_account}
 use Rattle.law_pdcp.specs.AmPair.Between.{TellsWhatHasCome}
 use Rattle.law_pdcp.proofs.AmPair.Telling.{begins_telling}
@@ -104,7 +104,7 @@ renewed_end e keys = begins (restarts e.bearer keys)
 renewed_is : (w : Way) (from to : BearerEnd) (keys : Keys)
     → pdcp (renewed w from to keys) ≡ next_life (pdcp w) keys (owed_at from)
 renewed_is w from to keys =
-    run_more (pdcp_outset w.bits w.protection w.first) w.events (restarting (pdcp w) keys (owed_at from))
+    run_more (am_pdcp_outset w.bits w.protection w.first) w.events (restarting (pdcp w) keys (owed_at from))
     ∙ restarts_as (pdcp w) keys (owed_at from)
 
 -- what PDCP has come to
@@ -122,8 +122,8 @@ record IsRenewed (f g : Pdcp) (from to : BearerEnd) (keys : Keys) : Type 0 where
 abbrev Renews : Way → BearerEnd → BearerEnd → Keys → Type 0
 Renews w from to keys = IsRenewed (pdcp w) (pdcp (renewed w from to keys)) from to keys
 
-renews : (w : Way) (from to : BearerEnd) (keys : Keys) → IsWay w → Joins w from to → Renews w from to keys
-renews w from to keys is j =
+renews_way : (w : Way) (from to : BearerEnd) (keys : Keys) → IsWay w → Joins w from to → Renews w from to keys
+renews_way w from to keys is j =
     let c = closed_is w from to is j in
     subst (λ (g : Pdcp). IsRenewed (pdcp w) g from to keys) (sym (renewed_is w from to keys)) (record {
       sender_is = ap (λ (s : Sending). asked (restarted_sending s keys) (Owe (owed_at from))) j.sender_is;
@@ -145,7 +145,7 @@ renewed_way bits w back from to keys h =
     record {
       kind = h.out_is.kind;
       first = h.out_is.first;
-      events = given_events_more (pdcp_outset w.bits w.protection w.first) w.events more h.out_is.events given;
+      events = given_events_more (am_pdcp_outset w.bits w.protection w.first) w.events more h.out_is.events given;
       steps = tt;
     }
 
@@ -182,7 +182,7 @@ none_more n ns count none b = ap (λ (l : List Next). b || is_among (take n l) c
 renewed_goes : (bits : ℕ) (w : Way) (from to : BearerEnd) (keys : Keys) → RestartsAs bits to.bearer keys
     → Renews w from to keys
     → IsWay w → Joins w from to
-    → GoesOn w (renewed w from to keys) [] (ups_in (stopping (Am to.bearer))) (LifeEnds ∷ [])
+    → GoesOn w (renewed w from to keys) [] (ups_among (stopping (Am to.bearer))) (LifeEnds ∷ [])
 renewed_goes bits w from to keys a r is j = record {
   bits = refl;
   protection = refl;
@@ -226,8 +226,8 @@ renewed_ends bits w back e o keys h k r b near far = record {
 
 pub restarts_go_on : RestartsGoOn
 restarts_go_on bits down up p keys h =
-    let d = renews down p.near p.far keys h.down_is h.down_joins in
-    let u = renews up p.far p.near keys h.up_is h.up_joins in
+    let d = renews_way down p.near p.far keys h.down_is h.down_joins in
+    let u = renews_way up p.far p.near keys h.up_is h.up_joins in
     let near = restarts_are_deeds bits p.near.bearer keys h.near_data h.near_idle in
     let far = restarts_are_deeds bits p.far.bearer keys h.far_data h.far_idle in
     let down_after = renewed down p.near p.far keys in

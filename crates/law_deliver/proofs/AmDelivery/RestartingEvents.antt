@@ -13,7 +13,8 @@ use Rattle.pdcp_rx.specs.State.{State as Receiving, arrived, restarted as restar
 use Rattle.law_bearer.specs.AmBearer.Deeds.{all_raised}
 use Rattle.law_bearer.specs.AmBearer.Lives.{closes}
 use Rattle.law_rlc.specs.AmPair.Arrives.{whole_from}
-use Rattle.law_pdcp.specs.AmPair.Flow.{Flow, Event, Sends, Restart, IsReport, closing, ended, begun, run, AreGiven}
+use Rattle.law_pdcp.specs.AmPair.Flow.{Flow, Event, Sends, Restart, IsReport, closing, ended, begun, run_am_pdcp}
+use Rattle.law_pdcp.specs.AmPair.Flow.{AreGiven}
 use Rattle.law_deliver.proofs.AmDelivery.HandingUp.{raises, raises_given, raised, all_raise}
 use Rattle.law_deliver.proofs.AmDelivery.Ways.{run_more, given_events_more}
 
@@ -68,15 +69,15 @@ stays_ready : (r : Receiving) (keys : Keys) → (restarted_receiving r keys).rea
 unfolding restarted_receiving
 stays_ready r keys = refl
 
-begun_rises : (f : Flow) (keys : Keys) → run (raises (ended f).receiver.ready) (begun (ended f) keys)
+begun_rises : (f : Flow) (keys : Keys) → run_am_pdcp (raises (ended f).receiver.ready) (begun (ended f) keys)
     ≡ raised (ended f).receiver.ready (begun (ended f) keys)
 begun_rises f keys = all_raise (ended f).receiver.ready (begun (ended f) keys) (stays_ready (ended f).receiver keys)
 
 pub restarts_as : (f : Flow) (keys : Keys) (report : List ℕ)
-    → run (restarting f keys report) f ≡ next_life f keys report
+    → run_am_pdcp (restarting f keys report) f ≡ next_life f keys report
 restarts_as f keys report =
     run_more (begun (ended f) keys) (raises (ended f).receiver.ready) (owes report)
-    ∙ ap (λ (g : Flow). run (owes report) g) (begun_rises f keys)
+    ∙ ap (λ (g : Flow). run_am_pdcp (owes report) g) (begun_rises f keys)
     ∙ ap (λ (l : List (List ℕ)). record (next_life f keys report) { sdus = l }) (append-nil f.sdus)
 
 pub restarting_given : (f : Flow) (keys : Keys) (report : List ℕ)
@@ -84,6 +85,6 @@ pub restarting_given : (f : Flow) (keys : Keys) (report : List ℕ)
 restarting_given f keys report is =
     let rises = raises (ended f).receiver.ready in
     let g = begun (ended f) keys in
-    let rest : AreGiven (run rises g) (owes report) =
+    let rest : AreGiven (run_am_pdcp rises g) (owes report) =
     subst (λ (x : Flow). AreGiven x (owes report)) (sym (begun_rises f keys)) (is, tt) in
     (tt, given_events_more g rises (owes report) (raises_given (ended f).receiver.ready g) rest)

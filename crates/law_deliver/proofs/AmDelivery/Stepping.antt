@@ -1,9 +1,9 @@
 -- Each step of a life brings both ways on, where each PDU that comes does.
 use Rattle.std.proofs.Common.{◌≡◌, ℕ, List, [], Option, Some, None, slice_get, refl, subst}
-use Rattle.law_words.specs.Arrivals.{Happening}
+use Rattle.law_words.specs.Arrivals.{AccountEntry}
 use Rattle.law_rlc.specs.AmPair.Flow.{Copy}
 use Rattle.bearer.specs.Acknowledged.State.{State}
-use Rattle.law_deliver.specs.AmFlow.Pair.{Sent, BearerEnd, Pair, Deed, Calls, DataComes, StatusComes, DataGoes}
+use Rattle.law_deliver.specs.AmFlow.Pair.{SentStatus, BearerEnd, Pair, Deed, Calls, DataComes, StatusComes, DataGoes}
 use Rattle.law_deliver.specs.AmFlow.Pair.{StatusGoes, Near, Far, Passes, does, happens, IsDone}
 use Rattle.law_deliver.specs.AmDelivery.Arrival.{said_by, heard_by}
 use Rattle.law_deliver.specs.AmDelivery.Lives.{InLife, MayBeDone, call_by, call_of, calls_in, news_by, ups_by}
@@ -28,7 +28,7 @@ data_news : (b : State) (x : Option Copy) → [] ≡ news_by b (call_by x)
 data_news b None = refl
 data_news b (Some c) = refl
 
-status_news : (b : State) (x : Option Sent) → [] ≡ news_by b (call_of x)
+status_news : (b : State) (x : Option SentStatus) → [] ≡ news_by b (call_of x)
 status_news b None = refl
 status_news b (Some s) = refl
 
@@ -36,7 +36,7 @@ data_said : (b : State) (x : Option Copy) → [] ≡ said_by b (call_by x)
 data_said b None = refl
 data_said b (Some c) = refl
 
-status_said : (b : State) (x : Option Sent) → [] ≡ said_by b (call_of x)
+status_said : (b : State) (x : Option SentStatus) → [] ≡ said_by b (call_of x)
 status_said b None = refl
 status_said b (Some s) = refl
 
@@ -73,13 +73,13 @@ deeds_go_on : ((k : ℕ) → ComesSo (DataComes k)) → ((k : ℕ) → ComesSo (
 deeds_go_on data_so status_so (Calls c) bits out inn e o h g ok = calls_go_on bits out inn e o c h g ok
 deeds_go_on data_so status_so (DataComes k) bits out inn e o h g ok =
     let d : Deed = DataComes k in
-    subst (λ (said : List Happening). EndsGoOn bits out inn (does o e d) o (news_by e.bearer (calls_in o d))
+    subst (λ (said : List AccountEntry). EndsGoOn bits out inn (does o e d) o (news_by e.bearer (calls_in o d))
     (ups_by e.bearer (calls_in o d)) said (heard_by (calls_in o d))) (data_said e.bearer (slice_get o.copies k))
     (subst (λ (l : List (List ℕ)). EndsGoOn bits out inn (does o e d) o l (ups_by e.bearer (calls_in o d)) []
     (heard_by (calls_in o d))) (data_news e.bearer (slice_get o.copies k)) (data_so k bits out inn e o h))
 deeds_go_on data_so status_so (StatusComes k) bits out inn e o h g ok =
     let d : Deed = StatusComes k in
-    subst (λ (said : List Happening). EndsGoOn bits out inn (does o e d) o (news_by e.bearer (calls_in o d))
+    subst (λ (said : List AccountEntry). EndsGoOn bits out inn (does o e d) o (news_by e.bearer (calls_in o d))
     (ups_by e.bearer (calls_in o d)) said (heard_by (calls_in o d)))
     (status_said e.bearer (slice_get o.reports k))
     (subst (λ (l : List (List ℕ)). EndsGoOn bits out inn (does o e d) o l (ups_by e.bearer (calls_in o d)) []

@@ -4,7 +4,7 @@ use Rattle.bearer.specs.declared.flow.Flow.{Flow}
 use Rattle.bearer.specs.declared.flow.Flow.TheVariants.{Am}
 use Rattle.bearer.specs.Acknowledged.State.{State}
 use Rattle.law_bearer.specs.AnyBearer.Calls.{Call, Step as BearerStep, Calls, Restart, after, goes, ends}
-use Rattle.law_bearer.specs.AnyBearer.Calls.{run as run_bearer, reached}
+use Rattle.law_bearer.specs.AnyBearer.Calls.{run_bearer, reached}
 use Rattle.law_bearer.specs.AnyBearer.Queue.{news, drops, submits, queue, all_left, all_submitted}
 use Rattle.law_bearer.proofs.AnyBearer.Queues.{leaves_in_order}
 use Rattle.bearer_types.specs.declared.BearerConfig.{BearerConfig}
@@ -12,9 +12,9 @@ use Rattle.eps_sec.specs.declared.Keys.{Keys}
 use Rattle.l2_types.specs.declared.Kind.TheVariants as kinds
 use Rattle.l2_types.specs.declared.Side.{Side}
 use Rattle.l2_types.specs.declared.Side.TheVariants.{Nb, Ue}
-use Rattle.law_words.specs.Lists.{IsFront}
+use Rattle.law_words.specs.Lists.{AreFirstSdus}
 use Rattle.bearer.specs.Bearer.{flow_of}
-use Rattle.law_deliver.specs.AmFlow.Pair.{Pair, Step, outset}
+use Rattle.law_deliver.specs.AmFlow.Pair.{Pair, Step, am_pair_outset}
 use Rattle.law_deliver.specs.AmDelivery.Ends.{submitted_by, drops_by, near_submitted_in, far_submitted_in}
 use Rattle.law_deliver.specs.AmDelivery.Ends.{near_drops_in, far_drops_in, DeliversSubmitted}
 use Rattle.law_deliver.specs.AmDelivery.Lives.{LifeStep, InLife, Restarts, lives_on, news_by, near_news_in, far_news_in}
@@ -139,7 +139,7 @@ lives_submitted e t (x ∷ xs) p =
 
 -- ---- what was taken first are those that were submitted first
 
-front_then : (xs ys zs : List (List ℕ)) → IsFront xs ys → IsFront ys zs → IsFront xs zs
+front_then : (xs ys zs : List (List ℕ)) → AreFirstSdus xs ys → AreFirstSdus ys zs → AreFirstSdus xs zs
 front_then xs ys zs h k =
     record {
       rest = h.rest ++ k.rest;
@@ -170,14 +170,14 @@ taken_then_waits c keys side e t xs p kind begins none =
 taken_front : (c : BearerConfig) (keys : Keys) (side : Side) (e : End) (t : Queues e) (xs : List LifeStep) (p : Pair)
     → c.kind ≡ kinds.Am
     → flow_of c.kind c keys side ≡ Am (e.at p) → over t.dropped xs p ≡ []
-    → IsFront (over t.news xs p) (over t.submitted xs p)
+    → AreFirstSdus (over t.news xs p) (over t.submitted xs p)
 taken_front c keys side e t xs p kind begins none =
     record { rest = still c keys side e xs p; is = sym (taken_then_waits c keys side e t xs p kind begins none) }
 
 pub delivers_submitted : StepsGoOn → DeliversSubmitted
 delivers_submitted steps c keys nb ue xs h given =
     let d = delivers_in_order steps c keys nb ue xs h given in
-    let p = outset nb ue in
+    let p = am_pair_outset nb ue in
     record {
       down = λ none. front_then (over far_ups_in xs p) (over near_news_in xs p) (over near_submitted_in xs p) d.down
           (taken_front c keys Nb near_end near_queues xs p h.kind h.nb_is none);

@@ -39,8 +39,9 @@ use Rattle.law_rlc.proofs.AmPair.Runs.{receiver-more}
 use Rattle.law_rlc.proofs.AmPair.Steps.{step-offers}
 use Rattle.law_words.specs.Passing.{Passing, Writes, written_as}
 use Rattle.law_rlc.specs.AmArrival.Arrival.{written_in, passed}
-use Rattle.law_words.specs.Arrivals.{Given, Happening, Gives, Passes, Account, accounted, account}
-use Rattle.law_pdcp.specs.AmPair.Flow.{Flow as Pdcp, Sends as SendsEvent, one, run as run_pdcp}
+use Rattle.law_words.specs.Arrivals.{Given, AccountEntry, Gives, Passes, Account, accounted, account}
+use Rattle.law_pdcp.specs.AmPair.Flow.{Flow as Pdcp, Sends as SendsEvent, run_am_pdcp}
+use Rattle.law_pdcp.specs.OneEnd.Given.{nexts_of}
 use Rattle.bearer.specs.Acknowledged.State.{State}
 use Rattle.bearer.specs.Acknowledged.Taking.{writes_status, status_pdu, status_pdus, data_size}
 use Rattle.law_bearer.specs.AnyBearer.Acknowledged.{offers_in, offered_to, has_more_behind, data_given}
@@ -54,12 +55,13 @@ use Rattle.bearer.specs.declared.flow.Flow.{Flow}
 use Rattle.rlc_pdu.specs.declared.Taken.{Taken}
 use Rattle.law_bearer.specs.AnyBearer.Calls.{Take as TakeCall, after, ends}
 use Rattle.law_bearer.specs.AnyBearer.Queue.{news, off, queue}
-use Rattle.law_deliver.specs.AmFlow.Pair.{Sent, written_now, HasOctet, IsTaking, BearerEnd, acknowledged, called, calls}
+use Rattle.law_deliver.specs.AmFlow.Pair.{SentStatus, written_now, HasOctet, IsTaking, BearerEnd, acknowledged, called}
+use Rattle.law_deliver.specs.AmFlow.Pair.{calls}
 use Rattle.law_deliver.specs.AmFlow.Flows.{IsFlow}
 use Rattle.law_deliver.proofs.AmFlow.Hearing.{is_reported}
 use Rattle.law_deliver.proofs.AmFlow.Standing.{or_none}
 use Rattle.law_deliver.specs.AmDelivery.Arrival.{said_in}
-use Rattle.promises.specs.Given.{giving, gives, passing, writing}
+use Rattle.promises.specs.Given.{entries_of, entries_given, entries_passed, entries_written}
 use Rattle.law_deliver.proofs.AmDelivery.Gives.{given_as, IsRight, same_given, takes_are_told, offers_right}
 use Rattle.law_deliver.proofs.AmDelivery.Accounts.{sound_pdcp, told_of, given_of, tells_given, Agrees, account_then}
 use Rattle.law_deliver.proofs.AmDelivery.Joined.{Way, IsWay, Joins, IsReportOf, rlc, pdcp}
@@ -132,7 +134,7 @@ octets_more (x ∷ xs) n = ap (λ l. x.octets ∷ l) (octets_more xs n)
 
 -- PDCP's flow behind it
 abbrev behind : Pdcp → Pdcp
-behind g = run_pdcp (SendsEvent TakePdcp ∷ []) g
+behind g = run_am_pdcp (SendsEvent TakePdcp ∷ []) g
 
 feeds_tell : (report : Option (List ℕ)) (g : Pdcp) (n : Next) → taking g.sender ≡ Some n → Tells report g
     → Tells report (behind g)
@@ -141,7 +143,7 @@ feeds_tell report g n is t =
     let more : AllByRecursion (IsReportOf report) (n ∷ []) = (λ q. t.owed n.octets (first q), tt) in
     record {
       owed = λ r q. t.owed r (took_left g.sender r q);
-      sent = subst (λ (o : Option Next). AllByRecursion (IsReportOf report) (g.stream ++ one o)) (sym is)
+      sent = subst (λ (o : Option Next). AllByRecursion (IsReportOf report) (g.stream ++ nexts_of o)) (sym is)
           (reports_more report g.stream (n ∷ []) t.sent more);
     }
 
@@ -166,7 +168,7 @@ feeds_move w e o n h joins is some =
     let f = rlc w in
     let s : RlcStep = SendsOn (Offer n.octets) in
     let r = rests w s h some (record { stays = refl; none = refl }) in
-    let gives : taking g.sender ≡ Some n = ap taking joins.sender_is ∙ is in
+    let is_given : taking g.sender ≡ Some n = ap taking joins.sender_is ∙ is in
     record {
       events = (tt, tt);
       steps = (some, tt);
@@ -175,7 +177,7 @@ feeds_move w e o n h joins is some =
         sender_is = ap took joins.sender_is;
         receiver_is = joins.receiver_is;
         stream_is =
-            ap (λ (x : Option Next). map (λ (m : Next). m.octets) (g.stream ++ one x)) gives
+            ap (λ (x : Option Next). map (λ (m : Next). m.octets) (g.stream ++ nexts_of x)) is_given
             ∙ octets_more g.stream n
             ∙ ap (λ l. l ++ n.octets ∷ []) joins.stream_is
             ∙ sym (step-offers f s);
@@ -185,7 +187,7 @@ feeds_move w e o n h joins is some =
       sdus_are = ap (λ (x : Sending). g.sdus ++ takes_new x TakePdcp) joins.sender_is;
       ups_are = sym (append-nil g.up);
       tells = tells_given g (behind g) n (told_of w) (sound_pdcp w h).few
-          (ap (λ (x : Option Next). g.stream ++ one x) gives) refl (λ count. refl);
+          (ap (λ (x : Option Next). g.stream ++ nexts_of x) is_given) refl (λ count. refl);
     }
 
 feeds_go_on : (bits : ℕ) (out inn : Way) (e o : BearerEnd) (n : Next) → JoinedEnds bits out inn e o
@@ -214,7 +216,7 @@ feeds_all pdus e = with_bearer (map (λ pdu. Feeds) pdus) e
 
 record Fed (bits : ℕ) (out inn : Way) (e o : BearerEnd) (pdus : List (List ℕ)) (given : List Given) : Type 0 where
   news : List (List ℕ)
-  goes : EndsGoOn bits out inn (feeds_all pdus e) o news [] (giving given) []
+  goes : EndsGoOn bits out inn (feeds_all pdus e) o news [] (entries_of given) []
   left : news ++ sdus (feeds_all pdus e).bearer.pdcp.tx.waiting ≡ sdus e.bearer.pdcp.tx.waiting
   tx : (feeds_all pdus e).bearer.tx ≡ sends_all (map (λ sdu. Offer sdu) pdus) e.bearer.tx
 
@@ -281,7 +283,7 @@ status_flow e o f share h = record {
   sender_is = h.sender_is;
   receiver_is = ap (λ (w : ReceiverWorld). w.state) (receiver-more f Write) ∙ ap written_by h.receiver_is;
   copies_are = h.copies_are;
-  reports_are = ap (λ (l : List Sent). written_now (status_pdu e.bearer.rx share) ∷ l) h.reports_are;
+  reports_are = ap (λ (l : List SentStatus). written_now (status_pdu e.bearer.rx share) ∷ l) h.reports_are;
   busy_is = h.busy_is;
 }
 
@@ -309,7 +311,7 @@ data_goes_on : (bits : ℕ) (out inn : Way) (e d o : BearerEnd) (share : ℕ) (h
     → JoinedEnds bits out inn d o → IsTaking e share held
     → d.bearer.tx ≡ offered_to e.bearer share held → d.copies ≡ e.copies → d.busy ≡ e.busy
     → EndsGoOn bits out inn (gives_data (data_size e.bearer share) held (has_more_behind e.bearer share held) d) o []
-    [] (passing (written_in (data_given e.bearer share held))) []
+    [] (entries_passed (written_in (data_given e.bearer share held))) []
 data_goes_on bits out inn e d o share held h t tx copies busy =
     let size = data_size e.bearer share in
     let more = has_more_behind e.bearer share held in
@@ -323,7 +325,8 @@ data_goes_on bits out inn e d o share held h t tx copies busy =
     let given : passed (SendsOn (Take size held more) ∷ []) (rlc out) ≡ written_in (data_given e.bearer share held) =
     append-nil (written_in (answer (sender (rlc out)).state size held more))
     ∙ ap (λ (x : Sender). written_in (answer x size held more)) (flow.sender_is ∙ tx) in
-    subst (λ (l : List Passing). EndsGoOn bits out inn (gives_data size held more d) o [] [] (passing l) []) given
+    subst (λ (l : List Passing). EndsGoOn bits out inn (gives_data size held more d) o [] [] (entries_passed l) [])
+    given
     (sends_on bits out inn d o (Take size held more) h can refl tt)
 
 -- ---- the whole
@@ -377,7 +380,7 @@ taken_is bits e share held h idle tx =
     ∙ ap (λ (x : State). the_end x (copies_with (data_given b share held) e.copies) reports
     (e.busy || is_new (data_given b share held))) left
   where
-    the_end : State → List Copy → List Sent → Bool → BearerEnd
+    the_end : State → List Copy → List SentStatus → Bool → BearerEnd
     the_end bearer copies reports busy = record { bearer = bearer; copies = copies; reports = reports; busy = busy }
 
 news_are : (bits : ℕ) (b : State) (share : ℕ) (held : Option ℕ) (taken : List (List ℕ)) → IsOfData bits b → IsIdle b
@@ -394,7 +397,7 @@ abbrev StatusIs : List ℕ → Type 0
 StatusIs octets = (pdu : StatusPdu) × (am_at octets ≡ Ok (Control pdu))
 
 -- the same account, told otherwise
-said_as : (bits : ℕ) (out inn : Way) (e o : BearerEnd) (news : List (List ℕ)) (xs ys : List Happening)
+said_as : (bits : ℕ) (out inn : Way) (e o : BearerEnd) (news : List (List ℕ)) (xs ys : List AccountEntry)
     → ((a : Account) → account ys a ≡ account xs a)
     → EndsGoOn bits out inn e o news [] xs [] → EndsGoOn bits out inn e o news [] ys []
 said_as bits out inn e o news xs ys same m = record {
@@ -435,17 +438,18 @@ silent : (octets : List ℕ) (a : Account) → StatusIs octets → accounted (Pa
 silent octets a is = ap (λ (x : Result AcknowledgedPdu RlcRefusal). record a { rlc = written_as x a.rlc }) is.1
 
 status_silent : (due : Bool) (octets : List ℕ) (t : Taken) (a : Account) → StatusIs octets
-    → account (writing ((if due then octets ∷ [] else []) ++ pdus_of t)) a ≡ account (passing (written_in t)) a
+    → account (entries_written ((if due then octets ∷ [] else []) ++ pdus_of t)) a
+    ≡ account (entries_passed (written_in t)) a
 status_silent true octets t a is =
-    ap (λ (b : Account). account (writing (pdus_of t)) b) (silent octets a is)
-    ∙ ap (λ (ps : List Passing). account (passing ps) a) (wrote_piece t)
-status_silent false octets t a is = ap (λ (ps : List Passing). account (passing ps) a) (wrote_piece t)
+    ap (λ (b : Account). account (entries_written (pdus_of t)) b) (silent octets a is)
+    ∙ ap (λ (ps : List Passing). account (entries_passed ps) a) (wrote_piece t)
+status_silent false octets t a is = ap (λ (ps : List Passing). account (entries_passed ps) a) (wrote_piece t)
 
 says_so : (bits : ℕ) (out inn : Way) (e o : BearerEnd) (share : ℕ) (held : Option ℕ) → JoinedEnds bits out inn e o
     → (a : Account)
     → account (said_in e.bearer (TakeCall share held)) a
-    ≡ account (giving (map (given_as e.bearer.pdcp.tx) (taken_in (Am e.bearer) (TakeCall share held)))
-    ++ passing (written_in (data_given e.bearer share held))) a
+    ≡ account (entries_of (map (given_as e.bearer.pdcp.tx) (taken_in (Am e.bearer) (TakeCall share held)))
+    ++ entries_passed (written_in (data_given e.bearer share held))) a
 says_so bits out inn e o share held h a =
     let b = e.bearer in
     let ok = sound_pdcp out h.out_is in
@@ -456,15 +460,15 @@ says_so bits out inn e o share held h a =
     subst (λ (s : Sending). Owes s.kind s.owed) h.out_joins.sender_is ok.sends.owes in
     let right = subst (λ (k : PdcpKind). AllByRecursion (IsRight k) (offers_of b.pdcp.tx)) tx
     (offers_right b.pdcp.tx owes) in
-    let told_is = ap (λ (k : PdcpKind). gives (bits_of k) (told b.pdcp.lcid (Am b) share held)) kind
-    ∙ ap (λ (gs : List Given). giving gs) (takes_are_told bits b share held good kind tx right) in
-    let first = giving (map (given_as b.pdcp.tx) (taken_in (Am b) (TakeCall share held))) in
-    ap (λ (l : List Happening). account (l ++ writing (pdus (Am b) share held)) a) told_is
-    ∙ (ap (λ (l : List (List ℕ)). account (first ++ writing l) a) (writes_what_rlc_gives b share held)
-    ∙ (account_then first (writing (status_pdus b.rx share ++ pdus_of (data_given b share held))) a
+    let told_is = ap (λ (k : PdcpKind). entries_given (bits_of k) (told b.pdcp.lcid (Am b) share held)) kind
+    ∙ ap (λ (gs : List Given). entries_of gs) (takes_are_told bits b share held good kind tx right) in
+    let first = entries_of (map (given_as b.pdcp.tx) (taken_in (Am b) (TakeCall share held))) in
+    ap (λ (l : List AccountEntry). account (l ++ entries_written (pdus (Am b) share held)) a) told_is
+    ∙ (ap (λ (l : List (List ℕ)). account (first ++ entries_written l) a) (writes_what_rlc_gives b share held)
+    ∙ (account_then first (entries_written (status_pdus b.rx share ++ pdus_of (data_given b share held))) a
     ∙ (status_silent (writes_status b.rx share) (status_pdu b.rx share) (data_given b share held) (account first a)
     (status_reads inn e o share h.inn_is h.inn_joins)
-    ∙ sym (account_then first (passing (written_in (data_given b share held))) a))))
+    ∙ sym (account_then first (entries_passed (written_in (data_given b share held))) a))))
 
 pub takes_go_on : (bits : ℕ) (out inn : Way) (e o : BearerEnd) (share : ℕ) (held : Option ℕ)
     → JoinedEnds bits out inn e o → IsTaking e share held
@@ -481,7 +485,7 @@ takes_go_on bits out inn e o share held h t =
     let m1 = writes_go_on bits out inn e o (writes_status b.rx share) share h in
     let v = m1.out_after in
     let u = m1.inn_after in
-    let said = giving (map (given_as b.pdcp.tx) os) ++ passing (written_in (data_given b share held)) in
+    let said = entries_of (map (given_as b.pdcp.tx) os) ++ entries_passed (written_in (data_given b share held)) in
     let m2 : Fed bits v u e1 o pdus (map (given_as b.pdcp.tx) os) =
     all_fed bits v u e1 o os (drop k (offers_of b.pdcp.tx)) m1.joined
     (sym (take-append-drop k (offers_of b.pdcp.tx))) t.some in

@@ -11,10 +11,10 @@ use Rattle.pdcp_rx.specs.declared.got.Cause.TheVariants.{Arrived}
 use Rattle.pdcp_rx.specs.declared.got.Got.TheVariants as answers
 use Rattle.pdcp_rx.specs.Heard.{Heard, Bad, Told, Data, heard}
 use Rattle.pdcp_rx.specs.State.{State as Receiving, got, got_heard}
-use Rattle.law_pdcp.specs.AmPair.Flow.{Flow as Pdcp, Sends, Comes, run as run_pdcp}
+use Rattle.law_pdcp.specs.AmPair.Flow.{Flow as Pdcp, Sends, Comes, run_am_pdcp}
 use Rattle.law_pdcp.specs.AmPair.Reading.{IsRead, IsNextRead}
 use Rattle.law_pdcp.proofs.AmPair.EachRead.{reads_each}
-use Rattle.law_bearer.specs.AmBearer.Deeds.{told_by}
+use Rattle.law_bearer.specs.AmBearer.Deeds.{after_heard}
 use Rattle.law_deliver.proofs.AmFlow.Flows.{all_at}
 use Rattle.law_deliver.proofs.AmDelivery.Accounts.{sound_pdcp, told_of, tells_passing}
 use Rattle.law_deliver.proofs.AmDelivery.Joined.{Way, IsWay, pdcp, IsReportOf, Reports}
@@ -95,13 +95,13 @@ report_comes w a fms bitmap comes m =
         owed = owed_stays g.sender fms bitmap;
       };
       ups_are = sym (append-nil g.up);
-      tells = tells_passing [] g (run_pdcp (Sends (ReportComes fms bitmap) ∷ []) g) (told_of w) (append-nil g.stream)
+      tells = tells_passing [] g (run_am_pdcp (Sends (ReportComes fms bitmap) ∷ []) g) (told_of w) (append-nil g.stream)
           refl (λ count. refl);
     }
 
 pub hears_report : (out inn : Way) (a : Standing) (sdu : List ℕ) (x : Heard) → heard (pdcp inn).receiver.kind sdu ≡ x
     → IsWay out → IsWay inn → out.bits ≡ inn.bits → Reports out inn → IsNext inn sdu → MeetsNow out a
-    → Extends out (record a { sending = told_by x a.sending }) [] []
+    → Extends out (record a { sending = after_heard x a.sending }) [] []
 hears_report out inn a sdu (Bad refusal) e oh ih same told next m = rests out a m
 hears_report out inn a sdu (Told fms bitmap) e oh ih same told next m =
     report_comes out a fms bitmap (report_is out inn sdu fms bitmap oh ih same told next e) m

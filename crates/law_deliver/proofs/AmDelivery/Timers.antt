@@ -19,7 +19,7 @@ use Rattle.law_rlc.specs.AmPair.Given.{IsGiven as IsGivenStep}
 use Rattle.law_rlc.specs.AmPair.Steps.{is_up, offers}
 use Rattle.law_rlc.specs.AmArrival.Arrival.{passed}
 use Rattle.law_pdcp.specs.AmPair.Flow.{Flow as Pdcp, Sends as SendsEvent, SetDiscard as SetsDiscard, CanCall}
-use Rattle.law_pdcp.specs.AmPair.Flow.{run as run_pdcp}
+use Rattle.law_pdcp.specs.AmPair.Flow.{run_am_pdcp}
 use Rattle.law_bearer.specs.AnyBearer.Acknowledged.{IsOfSender}
 use Rattle.law_deliver.specs.AmFlow.Pair.{BearerEnd}
 use Rattle.law_deliver.specs.AmFlow.Flows.{IsFlow}
@@ -27,7 +27,7 @@ use Rattle.law_deliver.proofs.AmFlow.Flows.{stands_as, is_flow}
 use Rattle.law_deliver.proofs.AmFlow.Sending.{sent_one}
 use Rattle.law_deliver.proofs.AmFlow.Hearing.{receives_one}
 use Rattle.law_deliver.proofs.AmFlow.Standing.{or_none}
-use Rattle.promises.specs.Given.{passing}
+use Rattle.promises.specs.Given.{entries_passed}
 use Rattle.law_deliver.proofs.AmDelivery.Accounts.{told_of, tells_passing}
 use Rattle.law_deliver.proofs.AmDelivery.Joined.{Way, Joins, IsReportOf, rlc, pdcp}
 use Rattle.law_deliver.proofs.AmDelivery.Ends.{JoinedEnds, EndsGoOn}
@@ -64,7 +64,7 @@ record IsAlike (f g : Pdcp) : Type 0 where
   stream : g.stream ≡ f.stream
   sdus : g.sdus ≡ f.sdus ++ []
 
-aside_alike : (f : Pdcp) (c : PdcpCall) → IsAside c → IsAlike f (run_pdcp (SendsEvent c ∷ []) f)
+aside_alike : (f : Pdcp) (c : PdcpCall) → IsAside c → IsAlike f (run_am_pdcp (SendsEvent c ∷ []) f)
 unfolding submitted after_late
 aside_alike f (Submit sdu) a = record { owed = refl; stream = append-nil f.stream; sdus = refl }
 aside_alike f TakePdcp a = absurd a
@@ -103,7 +103,7 @@ asks_move w c e o h can a =
       };
       sdus_are = alike.sdus;
       ups_are = sym (append-nil (pdcp w).up);
-      tells = tells_passing [] (pdcp w) (run_pdcp (SendsEvent c ∷ []) (pdcp w)) (told_of w) alike.stream refl
+      tells = tells_passing [] (pdcp w) (run_am_pdcp (SendsEvent c ∷ []) (pdcp w)) (told_of w) alike.stream refl
           (λ count. refl);
     }
 
@@ -114,7 +114,7 @@ asks_go_on bits out inn e o c h can a =
     out_goes_on bits out inn e o (with_bearer (Asks c ∷ []) e) (SendsEvent c ∷ []) [] [] []
     h (asks_move out c e o h.out_joins can a) (record { rx = refl; reports = refl; pdcp = refl })
     (stays_between bits out inn e o (Asks c) h tt)
-    refl (alike_tells (pdcp inn).report (pdcp out) (run_pdcp (SendsEvent c ∷ []) (pdcp out))
+    refl (alike_tells (pdcp inn).report (pdcp out) (run_am_pdcp (SendsEvent c ∷ []) (pdcp out))
     (aside_alike (pdcp out) c a) (tells inn out h.inn_reports))
 
 -- ---- discard timers get another length
@@ -140,7 +140,8 @@ sets_move w ttis e o h = record {
   };
   sdus_are = sym (append-nil (pdcp w).sdus);
   ups_are = sym (append-nil (pdcp w).up);
-  tells = tells_passing [] (pdcp w) (run_pdcp (SetsDiscard ttis ∷ []) (pdcp w)) (told_of w) refl refl (λ count. refl);
+  tells =
+      tells_passing [] (pdcp w) (run_am_pdcp (SetsDiscard ttis ∷ []) (pdcp w)) (told_of w) refl refl (λ count. refl);
 }
 
 pub sets_go_on : (bits : ℕ) (out inn : Way) (e o : BearerEnd) (ttis : ℕ) → JoinedEnds bits out inn e o
@@ -170,11 +171,12 @@ sends_flow e o f c h =
 
 pub sends_on : (bits : ℕ) (out inn : Way) (e o : BearerEnd) (c : SenderCall) → JoinedEnds bits out inn e o
     → IsGivenStep (rlc out) (SendsOn c) → offers (SendsOn c) ≡ [] → IsQuiet (Sends c)
-    → EndsGoOn bits out inn (sent_by c e) o [] [] (passing (passed (SendsOn c ∷ []) (rlc out))) []
+    → EndsGoOn bits out inn (sent_by c e) o [] [] (entries_passed (passed (SendsOn c ∷ []) (rlc out))) []
 sends_on bits out inn e o c h can none quiet =
     let between = stays_between bits out inn e o (Sends c) h quiet in
     let t = tells inn out h.inn_reports in
-    out_goes_on bits out inn e o (sent_by c e) [] (SendsOn c ∷ []) [] (passing (passed (SendsOn c ∷ []) (rlc out))) h
+    out_goes_on bits out inn e o (sent_by c e) [] (SendsOn c ∷ []) []
+    (entries_passed (passed (SendsOn c ∷ []) (rlc out))) h
     (rlc_moves out (SendsOn c) e o (sent_by c e) o h.out_is h.out_joins can (record { stays = refl; none = refl })
     none (sends_flow e o (rlc out) c h.out_joins.rlc_is) refl refl)
     (record { rx = refl; reports = refl; pdcp = refl }) (record { of_data = between.of_data; idle = between.idle })

@@ -7,15 +7,14 @@ use Rattle.l2_node.specs.End.{End}
 use Rattle.bearer_types.specs.Sides.{heard_by, sent_by}
 use Rattle.l2_types.specs.declared.side.Side.{Side}
 use Rattle.l2_types.specs.declared.side.Side.TheVariants.{Nb, Ue}
-use Rattle.law_node.specs.Calls.{SetVisits, SetReports, Add, Submit, SetDiscard, Tick, TickBuckets, Visits, Grants}
-use Rattle.law_node.specs.Calls.{Granted, Assigned, Pass, Receive, Expire, Move}
 use Rattle.law_deliver.specs.AmFlow.Air.{Station, Air, Act, Calls, Comes, Goes, Step, AtNb, AtUe, Passes, does, passed}
 use Rattle.law_deliver.specs.AmFlow.Air.{older, happens, goes, begins, outset, IsYoung, IsDone, IsGiven, AreGiven}
 use Rattle.law_deliver.specs.AmFlow.Air.{Begins, IsPair}
 use Rattle.law_deliver.specs.AmFlow.Channels.{calls_of}
 use Rattle.law_deliver.specs.AmFlow.Pair.{BearerEnd, Pair, Step as PairStep, Passes as PairPasses, goes as pair_goes}
-use Rattle.law_deliver.specs.AmFlow.Pair.{outset as pair_outset, begins as pair_begins, passed as pair_passed}
+use Rattle.law_deliver.specs.AmFlow.Pair.{am_pair_outset, begins as pair_begins, passed as pair_passed}
 use Rattle.law_deliver.specs.AmFlow.Pair.{older as older_sent, AreGiven as AreGivenPair, IsYoung as IsYoungSent}
+use Rattle.law_deliver.proofs.AmFlow.Acts.{act_by}
 use Rattle.law_deliver.proofs.AmFlow.Loads.{aged_load, aged_copies, aged_reports, aged_blocks, aged_all, young_all}
 use Rattle.law_deliver.proofs.AmFlow.Runs.{near_steps, far_steps, near_goes, far_goes, near_given, far_given, goes_more}
 use Rattle.law_deliver.proofs.AmFlow.Runs.{given_more}
@@ -31,35 +30,12 @@ calls_in l other s (Goes k) = []
 
 pub acts : (side oside : Side) (l : ℕ) (s o : Station) (n m : BearerEnd) (x : Act) → heard_by side ≡ sent_by oside
     → Matches side l s n → Matches oside l o m → IsDone l s x → Acts side l (does o s x) m n (calls_in l o s x)
-acts side oside l s o n m (Calls (SetVisits maximum)) dir h k g =
-    plain_call side l s n m (SetVisits maximum) h g.0 g.1 (λ t q. cc) (λ b q. cc)
-acts side oside l s o n m (Calls (SetReports reports)) dir h k g =
-    plain_call side l s n m (SetReports reports) h g.0 g.1 (λ t q. cc) (λ b q. cc)
-acts side oside l s o n m (Calls (Add c keys)) dir h k g =
-    plain_call side l s n m (Add c keys) h g.0 g.1 (λ t q. cc) (λ b q. cc)
-acts side oside l s o n m (Calls (Submit lcid octets)) dir h k g =
-    plain_call side l s n m (Submit lcid octets) h g.0 g.1 (λ t q. cc) (λ b q. cc)
-acts side oside l s o n m (Calls (SetDiscard lcid ttis)) dir h k g =
-    plain_call side l s n m (SetDiscard lcid ttis) h g.0 g.1 (λ t q. cc) (λ b q. cc)
-acts side oside l s o n m (Calls Tick) dir h k g = plain_call side l s n m Tick h g.0 g.1 (λ t q. cc) (λ b q. cc)
-acts side oside l s o n m (Calls TickBuckets) dir h k g =
-    plain_call side l s n m TickBuckets h g.0 g.1 (λ t q. cc) (λ b q. cc)
-acts side oside l s o n m (Calls (Visits t)) dir h k g = visits side l s n m t h g.0 g.2
-acts side oside l s o n m (Calls (Grants tti)) dir h k g =
-    plain_call side l s n m (Grants tti) h g.0 g.1 (λ t q. cc) (λ b q. cc)
-acts side oside l s o n m (Calls (Granted tti good)) dir h k g =
-    plain_call side l s n m (Granted tti good) h g.0 g.1 (λ t q. cc) (λ b q. cc)
-acts side oside l s o n m (Calls (Assigned tti ndi good)) dir h k g =
-    plain_call side l s n m (Assigned tti ndi good) h g.0 g.1 (λ t q. cc) (λ b q. cc)
-acts side oside l s o n m (Calls (Pass tti)) dir h k g =
-    plain_call side l s n m (Pass tti) h g.0 g.1 (λ t q. cc) (λ b q. cc)
-acts side oside l s o n m (Calls (Receive block)) dir h k g = absurd g.2
-acts side oside l s o n m (Calls (Expire lcid clock)) dir h k g =
-    plain_call side l s n m (Expire lcid clock) h g.0 g.1 (λ t q. cc) (λ b q. cc)
-acts side oside l s o n m (Calls (Move keys)) dir h k g =
-    plain_call side l s n m (Move keys) h g.0 g.1 (λ t q. cc) (λ b q. cc)
-acts side oside l s o n m (Comes k) dir h g d = hears side oside l k s o n m (slice_get o.blocks k) dir h g refl
-acts side oside l s o n m (Goes k) dir h g d = lets_go side l k s n m h (slice_get h.loads k) refl
+acts side oside l s o n m x dir h k =
+    act_by l o s (λ v y. Acts side l v m n (calls_in l o s y))
+    (λ c given life no_turn no_block. plain_call side l s n m c h given life no_turn no_block)
+    (λ t given turn. visits side l s n m t h given turn)
+    (λ place. hears side oside l place s o n m (slice_get o.blocks place) dir h k refl)
+    (λ place. lets_go side l place s n m h (slice_get h.loads place) refl) x
 
 -- ---- a TTI passes
 
@@ -88,26 +64,26 @@ young side l s n h y =
 
 record BothMatch (l : ℕ) (b d : State) (a : Air) : Type 0 where
   steps : List PairStep
-  given : AreGivenPair (pair_outset b d) steps
-  nb : Matches Nb l a.nb (pair_goes steps (pair_outset b d)).near
-  ue : Matches Ue l a.ue (pair_goes steps (pair_outset b d)).far
+  given : AreGivenPair (am_pair_outset b d) steps
+  nb : Matches Nb l a.nb (pair_goes steps (am_pair_outset b d)).near
+  ue : Matches Ue l a.ue (pair_goes steps (am_pair_outset b d)).far
 
 -- steps more of the pair
 more_match : (l : ℕ) (b d : State) (a c : Air) (h : BothMatch l b d a) (ts : List PairStep)
-    → AreGivenPair (pair_goes h.steps (pair_outset b d)) ts
-    → Matches Nb l c.nb (pair_goes ts (pair_goes h.steps (pair_outset b d))).near
-    → Matches Ue l c.ue (pair_goes ts (pair_goes h.steps (pair_outset b d))).far → BothMatch l b d c
+    → AreGivenPair (pair_goes h.steps (am_pair_outset b d)) ts
+    → Matches Nb l c.nb (pair_goes ts (pair_goes h.steps (am_pair_outset b d))).near
+    → Matches Ue l c.ue (pair_goes ts (pair_goes h.steps (am_pair_outset b d))).far → BothMatch l b d c
 more_match l b d a c h ts g x y = record {
   steps = h.steps ++ ts;
-  given = given_more (pair_outset b d) h.steps ts h.given g;
-  nb = subst (λ (p : Pair). Matches Nb l c.nb p.near) (sym (goes_more (pair_outset b d) h.steps ts)) x;
-  ue = subst (λ (p : Pair). Matches Ue l c.ue p.far) (sym (goes_more (pair_outset b d) h.steps ts)) y;
+  given = given_more (am_pair_outset b d) h.steps ts h.given g;
+  nb = subst (λ (p : Pair). Matches Nb l c.nb p.near) (sym (goes_more (am_pair_outset b d) h.steps ts)) x;
+  ue = subst (λ (p : Pair). Matches Ue l c.ue p.far) (sym (goes_more (am_pair_outset b d) h.steps ts)) y;
 }
 
 happens_on : (l : ℕ) (b d : State) (a : Air) (s : Step) → IsGiven l a s → BothMatch l b d a
     → BothMatch l b d (happens a s)
 happens_on l b d a (AtNb x) g h =
-    let p : Pair = pair_goes h.steps (pair_outset b d) in
+    let p : Pair = pair_goes h.steps (am_pair_outset b d) in
     let r : Acts Nb l (does a.ue a.nb x) p.far p.near (calls_in l a.ue a.nb x) =
     acts Nb Ue l a.nb a.ue p.near p.far x refl h.nb h.ue g in
     let same = near_goes p r.deeds in
@@ -115,7 +91,7 @@ happens_on l b d a (AtNb x) g h =
     (subst (λ (q : Pair). Matches Nb l (does a.ue a.nb x) q.near) (sym same) r.matches)
     (subst (λ (q : Pair). Matches Ue l a.ue q.far) (sym same) h.ue)
 happens_on l b d a (AtUe x) g h =
-    let p : Pair = pair_goes h.steps (pair_outset b d) in
+    let p : Pair = pair_goes h.steps (am_pair_outset b d) in
     let r : Acts Ue l (does a.nb a.ue x) p.near p.far (calls_in l a.nb a.ue x) =
     acts Ue Nb l a.ue a.nb p.far p.near x refl h.ue h.nb g in
     let same = far_goes p r.deeds in
@@ -123,7 +99,7 @@ happens_on l b d a (AtUe x) g h =
     (subst (λ (q : Pair). Matches Nb l a.nb q.near) (sym same) h.nb)
     (subst (λ (q : Pair). Matches Ue l (does a.nb a.ue x) q.far) (sym same) r.matches)
 happens_on l b d a Passes g h =
-    let p : Pair = pair_goes h.steps (pair_outset b d) in
+    let p : Pair = pair_goes h.steps (am_pair_outset b d) in
     more_match l b d a (happens a Passes) h (PairPasses ∷ [])
     ((young Nb l a.nb p.near h.nb g.0, young Ue l a.ue p.far h.ue g.1), tt)
     (passes Nb l a.nb p.near h.nb) (passes Ue l a.ue p.far h.ue)

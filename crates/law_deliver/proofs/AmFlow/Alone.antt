@@ -27,7 +27,7 @@ use Rattle.mac_pdu.specs.Items.{MacItem, front, element, sdu, padding}
 use Rattle.mac_pdu.specs.Reading.{reading}
 use Rattle.law_node.specs.Calls.{Turn, Call, SetVisits, SetReports, Add, Submit, SetDiscard, Tick, TickBuckets, Visits}
 use Rattle.law_node.specs.Calls.{Grants, Granted, Assigned, Pass, Receive, Expire, Move, answered, after_submit, after}
-use Rattle.law_node.specs.Calls.{run, reached}
+use Rattle.law_node.specs.Calls.{run_end, reached}
 use Rattle.law_deliver.specs.AmFlow.Ups.{IsNew, AreNew}
 use Rattle.law_deliver.proofs.AmFlow.Lives.{moved_bearers}
 
@@ -187,7 +187,7 @@ call_alone l e (Move keys) new one =
     same_most (many_of l (after e (Move keys)).bearers) (many_of l e.bearers)
     (ap (many_of l) (moved_bearers e keys) ∙ moved_many l e.bearers keys) one
 
-run_alone : (l : ℕ) (cs : List Call) (e : End) → AreNew l cs e → IsAlone l e.bearers → IsAlone l (run cs e).bearers
+run_alone : (l : ℕ) (cs : List Call) (e : End) → AreNew l cs e → IsAlone l e.bearers → IsAlone l (run_end cs e).bearers
 run_alone l [] e new one = one
 run_alone l (c ∷ cs) e new one = run_alone l cs (after e c) new.1 (call_alone l e c new.0 one)
 

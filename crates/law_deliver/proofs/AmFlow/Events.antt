@@ -32,7 +32,7 @@ use Rattle.l2_types.specs.declared.event.Lost.TheVariants as lost
 use Rattle.l2_types.specs.declared.event.Waits.{Waits}
 use Rattle.pdcp_pdu.specs.declared.PdcpRefusal.{PdcpRefusal}
 use Rattle.rlc_pdu.specs.declared.fault.RlcRefusal.{RlcRefusal}
-use Rattle.law_deliver.specs.AmFlow.Ups.{ups_in, ups_on, of_calls, tells_in, tells_over, goes_up_in, go_up_over}
+use Rattle.law_deliver.specs.AmFlow.Ups.{up_on, ups_on, of_calls, tells_in, tells_over, goes_up_in, go_up_over}
 use Rattle.law_deliver.specs.AmFlow.Ups.{discarded_in, discarded_over}
 use Rattle.promises.specs.Events.{is_on, told_on, discards_in, discards_on}
 
@@ -394,7 +394,7 @@ module _ {X : Type 0} (pick : ℕ → Event → List X) (off : (l : ℕ) (x : Ev
 
 -- ---- what goes up
 
-up_off : (l : ℕ) (x : Event) → is_on l x ≡ false → ups_in l x ≡ []
+up_off : (l : ℕ) (x : Event) → is_on l x ≡ false → up_on l x ≡ []
 up_off l (Up lcid sdu) e = ap (λ (b : Bool). if b then sdu ∷ [] else []) e
 up_off l (Take lcid count len) e = refl
 up_off l (Report lcid fms bitmap) e = refl
@@ -411,7 +411,7 @@ up_off l (BadRlc lcid fault) e = refl
 up_off l (BadPdcp lcid fault) e = refl
 up_off l (Discard lcid len) e = refl
 
-writing_up : (l m : ℕ) → OfWriting (λ x. ups_in l x ≡ []) m
+writing_up : (l m : ℕ) → OfWriting (λ x. up_on l x ≡ []) m
 writing_up l m = record {
   send = λ way sn. refl;
   start = λ clock. refl;
@@ -423,8 +423,8 @@ writing_up l m = record {
 call_up : (l : ℕ) (f : Flow) (c : BearerCall) → IsBetween l f → ups_on l (tells_in l f c) ≡ goes_up_in l f c
 call_up l f (Submits sdu) k = refl
 call_up l f (Takes share held) k =
-    none_picked ups_in up_off l (told l f share held)
-    (block_holds (λ x. ups_in l x ≡ []) l (writing_up l l) (told l f share held)
+    none_picked up_on up_off l (told l f share held)
+    (block_holds (λ x. up_on l x ≡ []) l (writing_up l l) (told l f share held)
     ((told_in_order l f k).building share held))
 call_up l f (Arrives pdu) k = refl
 call_up l f (Expires clock) k = refl
@@ -432,11 +432,11 @@ call_up l f Ticks k = refl
 call_up l f (SetsDiscard ttis) k = refl
 
 pub ups_as : (l : ℕ) (xs ys : List Event) → told_on l xs ≡ ys → ups_on l xs ≡ ups_on l ys
-ups_as l xs ys e = picked_as ups_in up_off l xs ys e
+ups_as l xs ys e = picked_as up_on up_off l xs ys e
 
 pub ups_over : (l : ℕ) (f : Flow) (cs : List BearerCall) (xs : List Event) → IsBetween l f
     → told_on l xs ≡ tells_over l f cs → ups_on l xs ≡ go_up_over l f cs
-ups_over l f cs xs k e = ups_as l xs (tells_over l f cs) e ∙ picked_over ups_in up_off goes_up_in call_up l f cs k
+ups_over l f cs xs k e = ups_as l xs (tells_over l f cs) e ∙ picked_over up_on up_off goes_up_in call_up l f cs k
 
 -- ---- what is discarded
 

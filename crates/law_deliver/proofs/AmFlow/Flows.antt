@@ -9,7 +9,7 @@ use Rattle.rlc_pdu.specs.Reading.{am_at}
 use Rattle.law_rlc.specs.AmSender.Octets.{segment_of}
 use Rattle.law_rlc.specs.AmPair.Flow.{Copy, Report, Flow, DataGoes as LetsDataGo, StatusGoes as LetsStatusGo}
 use Rattle.law_rlc.specs.AmPair.Flow.{Passes as TtiPasses, sender, except, older as older_reports, goes as flow_goes}
-use Rattle.law_rlc.specs.AmPair.Flow.{outset as flow_outset}
+use Rattle.law_rlc.specs.AmPair.Flow.{am_rlc_outset}
 use Rattle.law_rlc.specs.AmPair.Given.{IsYoung as IsYoungReport}
 use Rattle.law_rlc.specs.AmPair.Statuses.{IsReadRight, reduced}
 use Rattle.law_rlc.proofs.AmPair.Reading.{read_as, stretch-read}
@@ -17,9 +17,10 @@ use Rattle.law_rlc.proofs.AmPair.Sound.{IsTrueCopy, IsSound}
 use Rattle.law_rlc.proofs.AmPair.Laws.{sound, reads-each-number}
 use Rattle.bearer.specs.Acknowledged.State.{State}
 use Rattle.law_bearer.specs.AnyBearer.Acknowledged.{status_heard, data_heard}
-use Rattle.law_deliver.specs.AmFlow.Pair.{Sent, BearerEnd, Pair, Deed, Calls, DataComes, StatusComes, DataGoes}
+use Rattle.law_deliver.specs.AmFlow.Pair.{SentStatus, BearerEnd, Pair, Deed, Calls, DataComes, StatusComes, DataGoes}
 use Rattle.law_deliver.specs.AmFlow.Pair.{StatusGoes, Step, Near, Far, Passes, arrives, data_comes, status_comes, does}
-use Rattle.law_deliver.specs.AmFlow.Pair.{older, passed, happens, goes, outset, begins, IsYoung, IsDone, IsGiven}
+use Rattle.law_deliver.specs.AmFlow.Pair.{older, passed, happens, goes, am_pair_outset, begins, IsYoung, IsDone}
+use Rattle.law_deliver.specs.AmFlow.Pair.{IsGiven}
 use Rattle.law_deliver.specs.AmFlow.Pair.{AreGiven}
 use Rattle.law_deliver.specs.AmFlow.Flows.{sent_as, IsFlow, HasFlow, BeginsLife, HasFlows}
 use Rattle.law_deliver.proofs.AmFlow.Standing.{Stands, Goes, given_more, goes_more, stays, steps_once, at_place}
@@ -48,17 +49,17 @@ is_flow e o f h = record {
 
 -- steps more
 brings : (a : AmTxConfig) (b : AmRxConfig) (e o d p : BearerEnd) (m : HasFlow a b e o)
-    → Goes (flow_goes m.steps (flow_outset a b)) d.bearer.tx p.bearer.rx d.copies p.reports d.busy → HasFlow a b d p
+    → Goes (flow_goes m.steps (am_rlc_outset a b)) d.bearer.tx p.bearer.rx d.copies p.reports d.busy → HasFlow a b d p
 brings a b e o d p m n = record {
   steps = m.steps ++ n.steps;
-  given = given_more (flow_outset a b) m.steps n.steps m.given n.given;
-  is = subst (IsFlow d p) (sym (goes_more (flow_outset a b) m.steps n.steps))
-      (is_flow d p (flow_goes n.steps (flow_goes m.steps (flow_outset a b))) n.stands);
+  given = given_more (am_rlc_outset a b) m.steps n.steps m.given n.given;
+  is = subst (IsFlow d p) (sym (goes_more (am_rlc_outset a b) m.steps n.steps))
+      (is_flow d p (flow_goes n.steps (flow_goes m.steps (am_rlc_outset a b))) n.stands);
 }
 
 -- what it has come to
 abbrev pub reached : (a : AmTxConfig) (b : AmRxConfig) (e o : BearerEnd) → HasFlow a b e o → Flow
-reached a b e o m = flow_goes m.steps (flow_outset a b)
+reached a b e o m = flow_goes m.steps (am_rlc_outset a b)
 
 stands_so : (a : AmTxConfig) (b : AmRxConfig) (e o : BearerEnd) (m : HasFlow a b e o)
     → Stands e.bearer.tx o.bearer.rx e.copies o.reports e.busy (reached a b e o m)
@@ -91,20 +92,20 @@ data_read a b e o m k c q =
       read = ap am_at t.is ∙ stretch-read c.number t.poll ps t.from t.to (h.aired c.number t.known) t.some t.within;
     }
 
-pub record ReadsStatus (f : Flow) (k : ℕ) (s : Sent) : Type 0 where
+pub record ReadsStatus (f : Flow) (k : ℕ) (s : SentStatus) : Type 0 where
   pub report : Report
   pub at : slice_get f.reports k ≡ Some report
   pub same : report.octets ≡ s.octets
   pub read : am_at report.octets ≡ Ok (Control (reduced report))
 
-pub status_read : (a : AmTxConfig) (b : AmRxConfig) (e o : BearerEnd) (m : HasFlow a b e o) (k : ℕ) (s : Sent)
+pub status_read : (a : AmTxConfig) (b : AmRxConfig) (e o : BearerEnd) (m : HasFlow a b e o) (k : ℕ) (s : SentStatus)
     → slice_get o.reports k ≡ Some s → ReadsStatus (reached a b e o m) k s
 status_read a b e o m k s q =
     let f = reached a b e o m in
-    let here = at_place sent_as f.reports k s (ap (λ (l : List Sent). slice_get l k) m.is.reports_are ∙ q) in
+    let here = at_place sent_as f.reports k s (ap (λ (l : List SentStatus). slice_get l k) m.is.reports_are ∙ q) in
     let right : IsReadRight (sender f).state here.0 =
     all_at (IsReadRight (sender f).state) f.reports k here.0 (reads-each-number a b m.steps m.given) here.1 in
-    record { report = here.0; at = here.1; same = ap (λ (x : Sent). x.octets) here.2; read = right.reads }
+    record { report = here.0; at = here.1; same = ap (λ (x : SentStatus). x.octets) here.2; read = right.reads }
 
 -- ---- at the end that sends
 
@@ -117,7 +118,7 @@ sends_data a c b d e o k m n (Some y) q =
     (data_sends e y.octets (reached a b e o m) o.bearer.rx o.reports (ap status_heard r.read)
     (stands_so a b e o m))
 
-sends_status : (a : AmTxConfig) (b : AmRxConfig) (e o : BearerEnd) (k : ℕ) → HasFlow a b e o → (x : Option Sent)
+sends_status : (a : AmTxConfig) (b : AmRxConfig) (e o : BearerEnd) (k : ℕ) → HasFlow a b e o → (x : Option SentStatus)
     → slice_get o.reports k ≡ x → HasFlow a b (status_comes e x) o
 sends_status a b e o k m None q = m
 sends_status a b e o k m (Some s) q =
@@ -160,7 +161,7 @@ hears_data c d e o k n (Some y) q =
     (data_hears e (reached c d o e n) k y r.pdu o.bearer.tx o.copies o.busy r.at r.read (stands_so c d o e n))
 
 hears_status : (a c : AmTxConfig) (b d : AmRxConfig) (e o : BearerEnd) (k : ℕ) → HasFlow a b e o → HasFlow c d o e
-    → (x : Option Sent) → slice_get o.reports k ≡ x → HasFlow c d o (status_comes e x)
+    → (x : Option SentStatus) → slice_get o.reports k ≡ x → HasFlow c d o (status_comes e x)
 hears_status a c b d e o k m n None q = n
 hears_status a c b d e o k m n (Some s) q =
     let r = status_read a b e o m k s q in
@@ -172,7 +173,7 @@ hears_status a c b d e o k m n (Some s) q =
 pub let_go : (k : ℕ) (rs : List Report) → map sent_as (except k rs) ≡ except k (map sent_as rs)
 let_go k [] = refl
 let_go zero (r ∷ rs) = refl
-let_go (suc k) (r ∷ rs) = ap (λ (l : List Sent). sent_as r ∷ l) (let_go k rs)
+let_go (suc k) (r ∷ rs) = ap (λ (l : List SentStatus). sent_as r ∷ l) (let_go k rs)
 
 hears_on : (a c : AmTxConfig) (b d : AmRxConfig) (e o : BearerEnd) (x : Deed) → IsDone e x → HasFlow a b e o
     → HasFlow c d o e → HasFlow c d o (does o e x)
@@ -200,7 +201,7 @@ hears_on a c b d e o (StatusGoes k) g m n =
 
 pub ages : (rs : List Report) → map sent_as (older_reports rs) ≡ map older (map sent_as rs)
 ages [] = refl
-ages (r ∷ rs) = ap (λ (l : List Sent). older (sent_as r) ∷ l) (ages rs)
+ages (r ∷ rs) = ap (λ (l : List SentStatus). older (sent_as r) ∷ l) (ages rs)
 
 pub are_young : (rs : List Report) → AllByRecursion IsYoung (map sent_as rs) → AllByRecursion IsYoungReport rs
 are_young [] h = tt
@@ -213,7 +214,8 @@ passes_on a b e o young m =
     let h = stands_so a b e o m in
     brings a b e o (passed e) (passed o) m
     (steps_once f TtiPasses e.bearer.tx o.bearer.rx e.copies (map older o.reports) false
-    (are_young f.reports (subst (λ (l : List Sent). AllByRecursion IsYoung l) (sym h.reports_are) young)) (record {
+    (are_young f.reports (subst (λ (l : List SentStatus). AllByRecursion IsYoung l) (sym h.reports_are) young))
+    (record {
       sender_is = h.sender_is;
       receiver_is = h.receiver_is;
       copies_are = h.copies_are;
@@ -259,7 +261,7 @@ begins_so near far h k =
     }
 
 pub bearers_are_flows : (near far : State) (steps : List Step) → BeginsLife near → BeginsLife far
-    → AreGiven (outset near far) steps → HasFlows near far (goes steps (outset near far))
+    → AreGiven (am_pair_outset near far) steps → HasFlows near far (goes steps (am_pair_outset near far))
 bearers_are_flows near far steps h k g =
-    goes_on near far steps (outset near far) g
+    goes_on near far steps (am_pair_outset near far) g
     (record { there = begins_so near far h k; back = begins_so far near k h })

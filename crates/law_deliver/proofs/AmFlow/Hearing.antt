@@ -22,13 +22,13 @@ use Rattle.law_bearer.specs.AnyBearer.Calls.{Call, Submit, Take, Arrive, Expire,
 use Rattle.law_bearer.specs.AnyBearer.Acknowledged.{hears_on, data_heard, receiver_calls, IsOfReceiver, ReceiverGoes}
 use Rattle.law_bearer.proofs.AnyBearer.ReceiverCalls.{receiver_goes_on}
 use Rattle.law_node.proofs.Reading.{octets_again, octets_small, whole_octets_of}
-use Rattle.law_deliver.specs.AmFlow.Pair.{Sent, called, status_by, written_now, IsCalling, BearerEnd}
+use Rattle.law_deliver.specs.AmFlow.Pair.{SentStatus, called, status_by, written_now, IsCalling, BearerEnd}
 use Rattle.law_deliver.proofs.AmFlow.Standing.{Stands, Goes, stays, steps_once, goes_on}
 use Rattle.law_deliver.proofs.AmFlow.Sending.{is_called}
 
 -- ---- one call of the receiver
 
-pub receives_one : (f : Flow) (c : ReceiverCall) (tx : Sender) (rx : Receiver) (cs : List Copy) (rs : List Sent)
+pub receives_one : (f : Flow) (c : ReceiverCall) (tx : Sender) (rx : Receiver) (cs : List Copy) (rs : List SentStatus)
     (b : Bool)
     → Stands tx rx cs rs b f → Stands tx (state_after rx c) cs rs b (receives f c)
 receives_one f c tx rx cs rs b h = record {
@@ -49,7 +49,7 @@ own_is ExpireProhibit own = tt
 own_is TickReorder own = tt
 own_is TickProhibit own = tt
 
-own_all : (own : List ReceiverCall) (f : Flow) (tx : Sender) (rx : Receiver) (cs : List Copy) (rs : List Sent)
+own_all : (own : List ReceiverCall) (f : Flow) (tx : Sender) (rx : Receiver) (cs : List Copy) (rs : List SentStatus)
     (b : Bool)
     → AllByRecursion IsOfReceiver own → Stands tx rx cs rs b f → Goes f tx (hears_on own rx) cs rs b
 own_all [] f tx rx cs rs b are h = stays f tx rx cs rs b h
@@ -60,7 +60,7 @@ own_all (c ∷ own) f tx rx cs rs b are h =
 
 -- ---- a call that brings nothing to the receiver and takes nothing from there
 
-pub keeps_to_itself : (f : Flow) (tx : Sender) (rx ry : Receiver) (cs : List Copy) (rs : List Sent) (b : Bool)
+pub keeps_to_itself : (f : Flow) (tx : Sender) (rx ry : Receiver) (cs : List Copy) (rs : List SentStatus) (b : Bool)
     → ReceiverGoes rx ry [] → Stands tx rx cs rs b f → Goes f tx ry cs rs b
 keeps_to_itself f tx rx ry cs rs b m h =
     subst (λ (r : Receiver). Goes f tx r cs rs b) (sym m.left) (own_all m.own f tx rx cs rs b m.are_own h)
@@ -79,7 +79,7 @@ is_reported f r share q =
           ∙ ap (λ (x : Receiver). status_written (ack x (share - 3) % 1024) (nacks x (share - 3))) (sym q);
     }
 
-reports_one : (f : Flow) (share : ℕ) (tx : Sender) (rx : Receiver) (cs : List Copy) (rs : List Sent) (b : Bool)
+reports_one : (f : Flow) (share : ℕ) (tx : Sender) (rx : Receiver) (cs : List Copy) (rs : List SentStatus) (b : Bool)
     → Stands tx rx cs rs b f → Goes f tx (written rx) cs (written_now (status_pdu rx share) ∷ rs) b
 reports_one f share tx rx cs rs b h =
     let octets = status_pdu rx share in
@@ -88,16 +88,16 @@ reports_one f share tx rx cs rs b h =
       sender_is = h.sender_is;
       receiver_is = ap (λ (w : ReceiverWorld). w.state) (receiver-more f Write) ∙ ap written h.receiver_is;
       copies_are = h.copies_are;
-      reports_are = ap (λ (l : List Sent). written_now octets ∷ l) h.reports_are;
+      reports_are = ap (λ (l : List SentStatus). written_now octets ∷ l) h.reports_are;
       busy_is = h.busy_is;
     })
 
-takes_by : (w : Bool) (f : Flow) (share : ℕ) (tx : Sender) (rx ry : Receiver) (cs : List Copy) (rs : List Sent)
+takes_by : (w : Bool) (f : Flow) (share : ℕ) (tx : Sender) (rx ry : Receiver) (cs : List Copy) (rs : List SentStatus)
     (b : Bool)
     → ReceiverGoes rx ry (if w then Write ∷ [] else []) → Stands tx rx cs rs b f
     → Goes f tx ry cs (map written_now (if w then status_pdu rx share ∷ [] else []) ++ rs) b
 takes_by true f share tx rx ry cs rs b m h =
-    let ss : List Sent = written_now (status_pdu rx share) ∷ rs in
+    let ss : List SentStatus = written_now (status_pdu rx share) ∷ rs in
     subst (λ (r : Receiver). Goes f tx r cs ss b) (sym m.left)
     (goes_on f tx tx (written rx) (hears_on m.own (written rx)) cs cs ss ss b b (reports_one f share tx rx cs rs b h)
     (λ g k. own_all m.own g tx (written rx) cs ss b m.are_own k))
@@ -139,7 +139,8 @@ status_hears e octets f tx cs b q h =
     (subst (λ (l : List ReceiverCall). ReceiverGoes e.bearer.rx d.rx l) q
     (receiver_goes_on e.bearer d (Arrive octets) (is_called e.bearer (Arrive octets)))) h
 
-data_at : (f : Flow) (k : ℕ) (c : Copy) (pdu : AmdPdu) (tx : Sender) (rx : Receiver) (cs : List Copy) (rs : List Sent)
+data_at : (f : Flow) (k : ℕ) (c : Copy) (pdu : AmdPdu) (tx : Sender) (rx : Receiver) (cs : List Copy)
+    (rs : List SentStatus)
     (b : Bool)
     → slice_get f.copies k ≡ Some c → am_at c.octets ≡ Ok (Payload pdu) → Stands tx rx cs rs b f
     → Goes f tx (state_after rx (Hears pdu)) cs rs b

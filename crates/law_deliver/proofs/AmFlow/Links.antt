@@ -9,7 +9,7 @@ use Rattle.l2_types.specs.declared.side.Side.TheVariants.{Nb, Ue}
 use Rattle.law_node.specs.Holding.{flow}
 use Rattle.law_deliver.specs.AmFlow.Air.{Step, goes, outset, AreGiven, Begins}
 use Rattle.law_deliver.specs.AmFlow.Flows.{HasFlow}
-use Rattle.law_rlc.specs.AmPair.Flow.{Flow, sender, receiver, goes as flow_goes, outset as flow_outset}
+use Rattle.law_rlc.specs.AmPair.Flow.{Flow, sender, receiver, goes as flow_goes, am_rlc_outset}
 use Rattle.law_rlc.specs.AmPair.Numbers.{IsOrdered}
 use Rattle.law_rlc.proofs.AmPair.Laws.{keeps-order}
 use Rattle.bearer.specs.declared.flow.Flow.{Flow as BearerFlow}
@@ -59,7 +59,7 @@ same_bearer f x y p q = let same : Am x ≡ Am y = sym p ∙ q in cc
 on_channel : (l : ℕ) (a : AmTxConfig) (b : AmRxConfig) (from to : End) (x y : State) → IsFlowOn l a b from to
     → flow l from ≡ Am x → flow l to ≡ Am y → AreOrdered x.tx y.rx
 on_channel l a b from to x y h p q =
-    ordered_as (flow_goes h.steps (flow_outset a b)) x.tx y.rx
+    ordered_as (flow_goes h.steps (am_rlc_outset a b)) x.tx y.rx
     (h.sender_is ∙ ap (λ (s : State). s.tx) (same_bearer (flow l from) h.from_bearer x h.from_is p))
     (h.receiver_is ∙ ap (λ (s : State). s.rx) (same_bearer (flow l to) h.to_bearer y h.to_is q))
     (keeps-order a b h.steps h.given)

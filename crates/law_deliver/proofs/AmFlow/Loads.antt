@@ -11,7 +11,7 @@ use Rattle.law_node.proofs.Holders.{lowest_least}
 use Rattle.law_node.proofs.Takings.{IsAtLeast}
 use Rattle.law_deliver.specs.AmFlow.Air.{Block, older, IsHeld, IsYoung}
 use Rattle.promises.specs.Pdus.{carried}
-use Rattle.law_deliver.specs.AmFlow.Pair.{Sent, older as older_sent, IsYoung as IsYoungSent}
+use Rattle.law_deliver.specs.AmFlow.Pair.{SentStatus, older as older_sent, IsYoung as IsYoungSent}
 use Rattle.law_deliver.proofs.AmFlow.Runs.{octets_of, texts_of}
 use Rattle.law_bearer.proofs.AnyBearer.SenderCalls.{all_then}
 
@@ -19,13 +19,13 @@ use Rattle.law_bearer.proofs.AnyBearer.SenderCalls.{all_then}
 pub record Load : Type 0 where
   pub block : Block
   pub copies : List Copy
-  pub reports : List Sent
+  pub reports : List SentStatus
 
 abbrev pub all_copies : List Load → List Copy
 all_copies [] = []
 all_copies (x ∷ xs) = x.copies ++ all_copies xs
 
-abbrev pub all_reports : List Load → List Sent
+abbrev pub all_reports : List Load → List SentStatus
 all_reports [] = []
 all_reports (x ∷ xs) = x.reports ++ all_reports xs
 
@@ -39,7 +39,7 @@ noted_of numbers l p = get_or (get_or numbers p []) l None
 abbrev pub IsNoted : Numbers → ℕ → ℕ → Copy → Type 0
 IsNoted numbers l p c = noted_of numbers l p ≡ Some c.number
 
-abbrev pub HasAge : ℕ → Sent → Type 0
+abbrev pub HasAge : ℕ → SentStatus → Type 0
 HasAge age r = r.age ≡ age
 
 pub record IsLoad (l : ℕ) (d : Direction) (s : Sending) (numbers : Numbers) (x : Load) : Type 0 where
@@ -53,8 +53,8 @@ pub record IsLoad (l : ℕ) (d : Direction) (s : Sending) (numbers : Numbers) (x
 pub record Split (xs : List Load) (k : ℕ) (x : Load) : Type 0 where
   pub before : List Copy
   pub behind : List Copy
-  pub pre : List Sent
-  pub post : List Sent
+  pub pre : List SentStatus
+  pub post : List SentStatus
   pub copies_are : all_copies xs ≡ before ++ (x.copies ++ behind)
   pub reports_are : all_reports xs ≡ pre ++ (x.reports ++ post)
   pub fewer_copies : all_copies (except k xs) ≡ before ++ behind
@@ -84,11 +84,11 @@ split_at (y ∷ ys) (suc k) x q =
       post = h.post;
       copies_are = ap (λ (l : List Copy). y.copies ++ l) h.copies_are
           ∙ sym (append_assoc y.copies h.before (x.copies ++ h.behind));
-      reports_are = ap (λ (l : List Sent). y.reports ++ l) h.reports_are
+      reports_are = ap (λ (l : List SentStatus). y.reports ++ l) h.reports_are
           ∙ sym (append_assoc y.reports h.pre (x.reports ++ h.post));
       fewer_copies = ap (λ (l : List Copy). y.copies ++ l) h.fewer_copies
           ∙ sym (append_assoc y.copies h.before h.behind);
-      fewer_reports = ap (λ (l : List Sent). y.reports ++ l) h.fewer_reports
+      fewer_reports = ap (λ (l : List SentStatus). y.reports ++ l) h.fewer_reports
           ∙ sym (append_assoc y.reports h.pre h.post);
     }
 
@@ -123,24 +123,24 @@ pub aged_copies : (xs : List Load) → all_copies (map aged_load xs) ≡ all_cop
 aged_copies [] = refl
 aged_copies (x ∷ xs) = ap (λ (l : List Copy). x.copies ++ l) (aged_copies xs)
 
-map_more : (rs ss : List Sent) → map older_sent (rs ++ ss) ≡ map older_sent rs ++ map older_sent ss
+map_more : (rs ss : List SentStatus) → map older_sent (rs ++ ss) ≡ map older_sent rs ++ map older_sent ss
 map_more [] ss = refl
-map_more (r ∷ rs) ss = ap (λ (l : List Sent). older_sent r ∷ l) (map_more rs ss)
+map_more (r ∷ rs) ss = ap (λ (l : List SentStatus). older_sent r ∷ l) (map_more rs ss)
 
 pub aged_reports : (xs : List Load) → all_reports (map aged_load xs) ≡ map older_sent (all_reports xs)
 aged_reports [] = refl
-aged_reports (x ∷ xs) = ap (λ (l : List Sent). map older_sent x.reports ++ l) (aged_reports xs)
+aged_reports (x ∷ xs) = ap (λ (l : List SentStatus). map older_sent x.reports ++ l) (aged_reports xs)
     ∙ sym (map_more x.reports (all_reports xs))
 
 pub aged_blocks : (xs : List Load) → blocks_in (map aged_load xs) ≡ map older (blocks_in xs)
 aged_blocks [] = refl
 aged_blocks (x ∷ xs) = ap (λ (l : List Block). older x.block ∷ l) (aged_blocks xs)
 
-same_texts : (rs : List Sent) → texts_of (map older_sent rs) ≡ texts_of rs
+same_texts : (rs : List SentStatus) → texts_of (map older_sent rs) ≡ texts_of rs
 same_texts [] = refl
 same_texts (r ∷ rs) = ap (λ (l : List (List ℕ)). r.octets ∷ l) (same_texts rs)
 
-next_ages : (age : ℕ) (rs : List Sent) → AllByRecursion (HasAge age) rs
+next_ages : (age : ℕ) (rs : List SentStatus) → AllByRecursion (HasAge age) rs
     → AllByRecursion (HasAge (age + 1)) (map older_sent rs)
 next_ages age [] h = tt
 next_ages age (r ∷ rs) h = (ap (λ (n : ℕ). n + 1) h.0, next_ages age rs h.1)
@@ -160,7 +160,7 @@ aged_all l d s numbers (x ∷ xs) h =
     )
 
 -- their STATUS PDUs are young where the blocks are
-young_of : (age : ℕ) (rs : List Sent) → age < 216 → AllByRecursion (HasAge age) rs → AllByRecursion IsYoungSent rs
+young_of : (age : ℕ) (rs : List SentStatus) → age < 216 → AllByRecursion (HasAge age) rs → AllByRecursion IsYoungSent rs
 young_of age [] lt h = tt
 young_of age (r ∷ rs) lt h = let e = h.0 in (omega (arith, lt, e), young_of age rs lt h.1)
 

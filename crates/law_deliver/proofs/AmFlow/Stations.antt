@@ -19,7 +19,7 @@ use Rattle.l2_types.specs.declared.side.Side.{Side}
 use Rattle.mac_pdu.specs.declared.item.Direction.{Direction}
 use Rattle.law_node.specs.Calls.{Turn, Call, SetVisits, SetReports, Add, Submit, SetDiscard, Tick, TickBuckets, Visits}
 use Rattle.law_node.specs.Calls.{Grants, Granted, Assigned, Pass, Receive, Expire, Move, IsGiven as IsGivenCall}
-use Rattle.law_node.specs.Calls.{AreGiven as AreGivenCalls, after, run}
+use Rattle.law_node.specs.Calls.{AreGiven as AreGivenCalls, after, run_end}
 use Rattle.law_node.specs.Holding.{flow}
 use Rattle.law_node.proofs.Holders.{Fewer, fresh_none}
 use Rattle.law_node.proofs.Living.{reached_side}
@@ -58,7 +58,7 @@ pub record Acts (side : Side) (l : ℕ) (s : Station) (m n : BearerEnd) (cs : Li
 
 -- ---- an end goes on
 
-pub run_on : (cs ds : List Call) (e : End) → run (cs ++ ds) e ≡ run ds (run cs e)
+pub run_on : (cs ds : List Call) (e : End) → run_end (cs ++ ds) e ≡ run_end ds (run_end cs e)
 run_on [] ds e = refl
 run_on (c ∷ cs) ds e = run_on cs ds (after e c)
 

@@ -43,7 +43,7 @@ use Rattle.law_node.specs.Calls.{Grants, Granted, Assigned, Pass, Receive, Expir
 use Rattle.law_node.specs.Calls.{reached}
 use Rattle.law_node.specs.Holding.{flow}
 use Rattle.law_node.specs.Telling.{told_of, told_over}
-use Rattle.law_node.specs.Waiting.{told_by, all_told}
+use Rattle.law_node.specs.Waiting.{told_on_channel, all_told}
 use Rattle.law_node.proofs.Going.{call_goes}
 use Rattle.law_node.proofs.Holding.{flow_at}
 use Rattle.law_node.proofs.Keeping.{AllAre, at_is, item_are, reached_are}
@@ -259,7 +259,7 @@ module _ (e : End) (grant l : ℕ) where
   take_of m = Takes (share_of e grant m) (held_of e m)
 
   own_block : (c : Channel) → c.lcid ≡ l → AllAre IsBetween e.bearers → has l e.bearers ≡ true
-      → told_on l (told_by e grant c) ≡ tells_in l (flow l e) (take_of l)
+      → told_on l (told_on_channel e grant c) ≡ tells_in l (flow l e) (take_of l)
   own_block c same a there =
       let known : has c.lcid e.bearers ≡ true = ap (λ (k : ℕ). has k e.bearers) same ∙ there in
       ap (λ (b : Bool). told_on l (if b then tells_in c.lcid (flow c.lcid e) (take_of c.lcid) else [])) known
@@ -268,7 +268,7 @@ module _ (e : End) (grant l : ℕ) where
       ∙ ap (λ (k : ℕ). tells_in l (flow l e) (take_of k)) same
 
   other_block : (known : Bool) (c : Channel) → has c.lcid e.bearers ≡ known → (c.lcid ≡ l → ⊥)
-      → AllAre IsBetween e.bearers → told_on l (told_by e grant c) ≡ []
+      → AllAre IsBetween e.bearers → told_on l (told_on_channel e grant c) ≡ []
   other_block true c h other a =
       ap (λ (b : Bool). told_on l (if b then tells_in c.lcid (flow c.lcid e) (take_of c.lcid) else [])) h
       ∙ other_told l c.lcid (flow c.lcid e) (take_of c.lcid) other (between_at c.lcid e.bearers h a)
@@ -278,7 +278,7 @@ module _ (e : End) (grant l : ℕ) where
   first_block : (t : Bool) (c : Channel) (cs : List Channel) → (l == c.lcid) ≡ t → has_channel c.lcid cs ≡ false
       → AllAre IsBetween e.bearers → has l e.bearers ≡ true
       → told_on l (all_told e grant cs) ≡ tells_over l (flow l e) (only (has_channel l cs) (take_of l))
-      → told_on l (told_by e grant c) ++ told_on l (all_told e grant cs)
+      → told_on l (told_on_channel e grant c) ++ told_on l (all_told e grant cs)
       ≡ tells_over l (flow l e) (only (t || has_channel l cs) (take_of l))
   first_block true c cs q alone a there rest =
       let same : c.lcid ≡ l = channel_same l c.lcid q in
@@ -294,7 +294,7 @@ module _ (e : End) (grant l : ℕ) where
       → told_on l (all_told e grant cs) ≡ tells_over l (flow l e) (only (has_channel l cs) (take_of l))
   blocks_tell [] apart a there = refl
   blocks_tell (c ∷ cs) apart a there =
-      told_then l (told_by e grant c) (all_told e grant cs)
+      told_then l (told_on_channel e grant c) (all_told e grant cs)
       ∙ first_block (l == c.lcid) c cs refl apart.1 a there (blocks_tell cs apart.2 a there)
 
 -- an end that has come by calls, with one bearer of the channel

@@ -15,7 +15,7 @@ use Rattle.bearer.specs.Acknowledged.State.{State}
 use Rattle.bearer.specs.Acknowledged.Taking.{data_size, status_pdus, writes_status, status_pdu}
 use Rattle.law_bearer.specs.AnyBearer.Acknowledged.{offers_in, data_given}
 use Rattle.law_bearer.specs.AnyBearer.Calls.{Take as Takes, after_all}
-use Rattle.law_bearer.proofs.AnyBearer.SenderCalls.{gives, writes_what_rlc_gives}
+use Rattle.law_bearer.proofs.AnyBearer.SenderCalls.{answers_given, writes_what_rlc_gives}
 use Rattle.bearer_pdcp.specs.Telling.{pdus_of, number_of}
 use Rattle.harq.specs.declared.sender.Order.{Order}
 use Rattle.harq.specs.declared.sender.Visit.{Visit}
@@ -45,7 +45,7 @@ use Rattle.law_deliver.specs.AmFlow.Air.{Block, Station, built_at, is_new as is_
 use Rattle.law_deliver.specs.AmFlow.Air.{HasCome, IsHeld, IsBuilding, IsVisiting}
 use Rattle.law_deliver.specs.AmFlow.Channels.{only, share_of, held_of as told_held, takes_of, calls_of, written_by}
 use Rattle.promises.specs.Pdus.{carried}
-use Rattle.law_deliver.specs.AmFlow.Pair.{Sent, BearerEnd, Calls, written_now, HasOctet, IsTaking}
+use Rattle.law_deliver.specs.AmFlow.Pair.{SentStatus, BearerEnd, Calls, written_now, HasOctet, IsTaking}
 use Rattle.law_deliver.proofs.AmFlow.Channels.{turn_by, blocks_carry_pdus}
 use Rattle.law_deliver.proofs.AmFlow.Loads.{Load, blocks_in, noted_of, IsNoted, HasAge, IsLoad, lowest_all, IsHeldBy}
 use Rattle.law_deliver.proofs.AmFlow.Loads.{held_by}
@@ -188,83 +188,91 @@ others_keep l at d s t r numbers row (x ∷ xs) fewer b h =
     rows_keep [] same h = tt
     rows_keep (c ∷ cs) same h = (ap (λ (y : List (Option ℕ)). get_or y l None) same ∙ h.0, rows_keep cs same h.1)
 
+-- ---- a turn in which the end writes
+
+abbrev pub built_end : Station → Turn → End
+built_end s t = answered New t (built_by New t.tti t.grant (visited t.tti t.order s.end))
+
+abbrev pub built_station : Station → Turn → Station
+built_station s t = record {
+  end = built_end s t;
+  blocks = built_at New t (visited t.tti t.order s.end) ++ s.blocks;
+  busy = s.busy || true;
+}
+
+-- what a channel may write in it, and up to which number
+abbrev pub part : ℕ → Station → Turn → ℕ
+part l s t = share_of (visited t.tti t.order s.end) t.grant l
+
+abbrev pub low : ℕ → Station → Turn → Option ℕ
+low l s t = told_held (visited t.tti t.order s.end) l
+
+abbrev pub block_of : Station → Turn → Block
+block_of s t = record { process = t.tti % 8; octets = new_block (visited t.tti t.order s.end) t.grant; age = 0 }
+
+pub fewer : (s : Station) (t : Turn) (p : ℕ) → held_of s.end.sender p ≡ None
+    → held_of (visited t.tti t.order s.end).sender p ≡ None
+unfolding visited
+fewer s t p e = visit_fewer s.end.sender t.tti t.order p e
+
+pub blocks_held : (s : Station) (t : Turn) (xs : List Load) → visit t.tti t.order s.end ≡ New → IsBuilding s t
+    → blocks_in xs ≡ s.blocks
+    → AllByRecursion (IsHeldBy (t.tti % 8) (visited t.tti t.order s.end).sender) (blocks_in xs)
+blocks_held s t xs v b are =
+    held_by (t.tti % 8) (visited t.tti t.order s.end).sender (blocks_in xs) (new_empty t.tti t.order s.end v)
+    (subst (λ (bs : List Block). AllByRecursion (IsHeld (visited t.tti t.order s.end).sender) bs) (sym are) b.held)
+
+pub old_loads : (l : ℕ) (d : Direction) (s : Station) (t : Turn) (xs : List Load) → visit t.tti t.order s.end ≡ New
+    → IsBuilding s t → blocks_in xs ≡ s.blocks → AllByRecursion (IsLoad l d s.end.sender s.end.numbers) xs
+    → AllByRecursion (IsLoad l d (built_end s t).sender (built_end s t).numbers) xs
+unfolding visited loaded
+old_loads l d s t xs v b are h =
+    others_keep l (t.tti % 8) d s.end.sender (built_end s t).sender (visited t.tti t.order s.end).sender s.end.numbers
+    (written (visited t.tti t.order s.end) t.grant).block.numbers xs (fewer s t) (blocks_held s t xs v b are) h
+
+pub row_so : (side : Side) (l : ℕ) (s : Station) (t : Turn) → HasCome side s.end
+    → noted_of (built_end s t).numbers l (t.tti % 8) ≡ given_by (visited t.tti t.order s.end) t.grant l
+unfolding loaded
+row_so side l s t come =
+    let rows = rows_so side s.end come t.tti t.order in
+    let row = (written (visited t.tti t.order s.end) t.grant).block.numbers in
+    let lt : t.tti % 8 < length (visited t.tti t.order s.end).numbers = omega (arith, rows) in
+    ap (λ (r : List (Option ℕ)). get_or r l None)
+    (get_or-set_same (visited t.tti t.order s.end).numbers (t.tti % 8) row [] lt)
+    ∙ row_is (visited t.tti t.order s.end) t.grant l (visited_sound t.tti t.order s.end (come_sound side s.end come))
+
+pub number_so : (l : ℕ) (s : Station) (t : Turn) → has l s.end.bearers ≡ true
+    → has_channel l (visited t.tti t.order s.end).buckets.channels ≡ true
+    → given_by (visited t.tti t.order s.end) t.grant l ≡ number (flow l s.end) (part l s t) (low l s t)
+unfolding visited
+number_so l s t there q =
+    ap (λ (b : Bool). if b && has l s.end.bearers then number (flow l s.end) (part l s t) (low l s t) else None) q
+    ∙ ap (λ (b : Bool). if b then number (flow l s.end) (part l s t) (low l s t) else None) there
+
 -- the bearer of the channel writes, where the channel is one of the end's
 module _ (side : Side) (l : ℕ) (s : Station) (n m : BearerEnd) (t : Turn) where
-  abbrev u : End
-  u = visited t.tti t.order s.end
-
-  abbrev built_end : End
-  built_end = answered New t (built_by New t.tti t.grant (visited t.tti t.order s.end))
-
-  abbrev built_station : Station
-  built_station = record {
-    end = answered New t (built_by New t.tti t.grant (visited t.tti t.order s.end));
-    blocks = built_at New t (visited t.tti t.order s.end) ++ s.blocks;
-    busy = s.busy || true;
-  }
-
-  abbrev at : ℕ
-  at = t.tti % 8
-
-  abbrev part : ℕ
-  part = share_of (visited t.tti t.order s.end) t.grant l
-
-  abbrev low : Option ℕ
-  low = told_held (visited t.tti t.order s.end) l
-
-  abbrev new_of : Block
-  new_of = record { process = t.tti % 8; octets = new_block (visited t.tti t.order s.end) t.grant; age = 0 }
-
-  fewer : (p : ℕ) → held_of s.end.sender p ≡ None → held_of (visited t.tti t.order s.end).sender p ≡ None
-  unfolding visited
-  fewer p e = visit_fewer s.end.sender t.tti t.order p e
-
-  blocks_held : visit t.tti t.order s.end ≡ New → IsBuilding s t → (h : Matches side l s n)
-      → AllByRecursion (IsHeldBy (t.tti % 8) (visited t.tti t.order s.end).sender) (blocks_in h.loads)
-  blocks_held v b h =
-      held_by (t.tti % 8) (visited t.tti t.order s.end).sender (blocks_in h.loads) (new_empty t.tti t.order s.end v)
-      (subst (λ (bs : List Block). AllByRecursion (IsHeld (visited t.tti t.order s.end).sender) bs) (sym h.blocks_are)
-      b.held)
-
   is_taking : visit t.tti t.order s.end ≡ New → Matches side l s n → IsBuilding s t → t.grant ≤ 9422
-      → IsTaking n part low
+      → IsTaking n (part l s t) (low l s t)
   unfolding visited
   is_taking v h b most =
       let sound = visited_sound t.tti t.order s.end (come_sound side s.end h.come) in
       record {
-        few = size_most n.bearer part (share_most (visited t.tti t.order s.end) t.grant l sound most);
-        some = octets_so side s.end h.come l n.bearer part low h.bearer_is;
-        lowest = subst (λ (cs : List Copy). AllByRecursion (IsAtLeastHeld low) cs) (sym h.copies_are)
-            (lowest_all l at (sent_by side) s.end.sender (visited t.tti t.order s.end).sender s.end.numbers h.loads
-            fewer (blocks_held v b h) h.are);
+        few = size_most n.bearer (part l s t) (share_most (visited t.tti t.order s.end) t.grant l sound most);
+        some = octets_so side s.end h.come l n.bearer (part l s t) (low l s t) h.bearer_is;
+        lowest = subst (λ (cs : List Copy). AllByRecursion (IsAtLeastHeld (low l s t)) cs) (sym h.copies_are)
+            (lowest_all l (t.tti % 8) (sent_by side) s.end.sender
+            (visited t.tti t.order s.end).sender s.end.numbers h.loads
+            (fewer s t) (blocks_held s t h.loads v b h.blocks_are) h.are);
         one = λ q. let yes : s.busy ≡ true = h.busy q in let no : s.busy ≡ false = b.one in absurd cc;
       }
 
-  old_loads : visit t.tti t.order s.end ≡ New → (h : Matches side l s n) → IsBuilding s t
-      → AllByRecursion (IsLoad l (sent_by side) built_end.sender built_end.numbers) h.loads
-  unfolding visited loaded
-  old_loads v h b =
-      others_keep l at (sent_by side) s.end.sender built_end.sender (visited t.tti t.order s.end).sender s.end.numbers
-      (written (visited t.tti t.order s.end) t.grant).block.numbers h.loads fewer (blocks_held v b h) h.are
-
-  row_so : (h : Matches side l s n) → noted_of built_end.numbers l at ≡ given_by (visited t.tti t.order s.end) t.grant l
-  unfolding loaded
-  row_so h =
-      let rows = rows_so side s.end h.come t.tti t.order in
-      let row = (written (visited t.tti t.order s.end) t.grant).block.numbers in
-      let lt : at < length (visited t.tti t.order s.end).numbers = omega (arith, rows) in
-      ap (λ (r : List (Option ℕ)). get_or r l None) (get_or-set_same (visited t.tti t.order s.end).numbers at row [] lt)
-      ∙ row_is (visited t.tti t.order s.end) t.grant l
-      (visited_sound t.tti t.order s.end (come_sound side s.end h.come))
-
   given_so : (h : Matches side l s n) → has_channel l (visited t.tti t.order s.end).buckets.channels ≡ true
-      → given_by (visited t.tti t.order s.end) t.grant l ≡ number_of (data_given n.bearer part low)
+      → given_by (visited t.tti t.order s.end) t.grant l ≡ number_of (data_given n.bearer (part l s t) (low l s t))
   unfolding visited number
   given_so h q =
-      ap (λ (b : Bool). if b && has l s.end.bearers then number (flow l s.end) part low else None) q
-      ∙ ap (λ (b : Bool). if b then number (flow l s.end) part low else None) h.there
-      ∙ ap (λ (f : Flow). number f part low) h.bearer_is
-      ∙ ap number_of (gives n.bearer part low)
+      number_so l s t h.there q
+      ∙ ap (λ (f : Flow). number f (part l s t) (low l s t)) h.bearer_is
+      ∙ ap number_of (answers_given n.bearer (part l s t) (low l s t))
 
   carries_new : (h : Matches side l s n) → 1 ≤ t.grant → t.grant ≤ 9422
       → carried l (sent_by side) (new_block (visited t.tti t.order s.end) t.grant)
@@ -272,64 +280,67 @@ module _ (side : Side) (l : ℕ) (s : Station) (n m : BearerEnd) (t : Turn) wher
   carries_new h some most = carries_so side s.end h.come t.tti t.order t.grant l some most h.there
 
   written_so : (h : Matches side l s n) → has_channel l (visited t.tti t.order s.end).buckets.channels ≡ true
-      → written_by (visited t.tti t.order s.end) t.grant l ≡ texts_of (map written_now (status_pdus n.bearer.rx part))
-      ++ octets_of (copies_with (data_given n.bearer part low) [])
+      → written_by (visited t.tti t.order s.end) t.grant l
+      ≡ texts_of (map written_now (status_pdus n.bearer.rx (part l s t)))
+      ++ octets_of (copies_with (data_given n.bearer (part l s t) (low l s t)) [])
   unfolding visited
   written_so h q =
-      ap (λ (b : Bool). if b then pdus (flow l s.end) part low else []) q
-      ∙ ap (λ (f : Flow). pdus f part low) h.bearer_is
-      ∙ writes_what_rlc_gives n.bearer part low
-      ∙ ap (λ (x : List (List ℕ)). x ++ pdus_of (data_given n.bearer part low))
-      (texts_written (status_pdus n.bearer.rx part))
-      ∙ ap (λ (x : List (List ℕ)). texts_of (map written_now (status_pdus n.bearer.rx part)) ++ x)
-      (octets_given (data_given n.bearer part low))
+      ap (λ (b : Bool). if b then pdus (flow l s.end) (part l s t) (low l s t) else []) q
+      ∙ ap (λ (f : Flow). pdus f (part l s t) (low l s t)) h.bearer_is
+      ∙ writes_what_rlc_gives n.bearer (part l s t) (low l s t)
+      ∙ ap (λ (x : List (List ℕ)). x ++ pdus_of (data_given n.bearer (part l s t) (low l s t)))
+      (texts_written (status_pdus n.bearer.rx (part l s t)))
+      ∙ ap (λ (x : List (List ℕ)). texts_of (map written_now (status_pdus n.bearer.rx (part l s t))) ++ x)
+      (octets_given (data_given n.bearer (part l s t) (low l s t)))
 
   builds_by : (here : Bool) → visit t.tti t.order s.end ≡ New
       → has_channel l (visited t.tti t.order s.end).buckets.channels ≡ here → Matches side l s n
-      → HasCome side built_end → IsBuilding s t → t.grant ≤ 9422
-      → Acts side l built_station m n (only here (Takes part low))
+      → HasCome side (built_end s t) → IsBuilding s t → t.grant ≤ 9422
+      → Acts side l (built_station s t) m n (only here (Takes (part l s t) (low l s t)))
   unfolding visited
   builds_by true v q h come b most =
-      let by : GoesBy l s.end.bearers built_end.bearers (Takes part low ∷ []) =
-      subst (λ (x : Bool). GoesBy l s.end.bearers built_end.bearers (only x (Takes part low))) q
+      let by : GoesBy l s.end.bearers (built_end s t).bearers (Takes (part l s t) (low l s t) ∷ []) =
+      subst (λ (x : Bool). GoesBy l s.end.bearers (built_end s t).bearers (only x (Takes (part l s t) (low l s t)))) q
       (turn_by New t (visited t.tti t.order s.end) l
       (visited_sound t.tti t.order s.end (come_sound side s.end h.come))) in
-      let data' = data_given n.bearer part low in
-      let status = status_pdus n.bearer.rx part in
-      let load : Load = record { block = new_of; copies = copies_with data' []; reports = map written_now status } in
+      let data' = data_given n.bearer (part l s t) (low l s t) in
+      let status = status_pdus n.bearer.rx (part l s t) in
+      let load : Load =
+          record { block = block_of s t; copies = copies_with data' []; reports = map written_now status } in
       record {
-        deeds = Calls (Takes part low) ∷ [];
+        deeds = Calls (Takes (part l s t) (low l s t)) ∷ [];
         done = (is_taking v h b most, tt);
         calls_are = refl;
         matches = record {
           come = come;
           there = by.has_is ∙ h.there;
-          bearer_is = by.goes h.there ∙ ap (λ (f : Flow). after_all f (Takes part low ∷ [])) h.bearer_is
-              ∙ is_called n.bearer (Takes part low);
+          bearer_is = by.goes h.there ∙ ap (λ (f : Flow). after_all f (Takes (part l s t) (low l s t) ∷ [])) h.bearer_is
+              ∙ is_called n.bearer (Takes (part l s t) (low l s t));
           loads = load ∷ h.loads;
-          blocks_are = ap (λ (bs : List Block). new_of ∷ bs) h.blocks_are;
+          blocks_are = ap (λ (bs : List Block). block_of s t ∷ bs) h.blocks_are;
           copies_are = copies_split data' n.copies ∙ ap (λ (cs : List Copy). copies_with data' [] ++ cs) h.copies_are;
-          reports_are = ap (λ (rs : List Sent). map written_now status ++ rs) h.reports_are;
+          reports_are = ap (λ (rs : List SentStatus). map written_now status ++ rs) h.reports_are;
           are = (
             record {
               carries = carries_new h b.some most ∙ written_so h q;
               process = omega arith;
               aged = ages_written status;
-              noted = λ held. noted_given built_end.numbers l at data' (row_so h ∙ given_so h q);
+              noted = λ held. noted_given (built_end s t).numbers l (t.tti % 8) data' (row_so side l s t h.come
+                  ∙ given_so h q);
             },
-            old_loads v h b,
+            old_loads l (sent_by side) s t h.loads v b h.blocks_are h.are,
           );
           busy = λ x. or_true s.busy;
         };
       }
   builds_by false v q h come b most =
-      let by : GoesBy l s.end.bearers built_end.bearers [] =
-      subst (λ (x : Bool). GoesBy l s.end.bearers built_end.bearers (only x (Takes part low))) q
+      let by : GoesBy l s.end.bearers (built_end s t).bearers [] =
+      subst (λ (x : Bool). GoesBy l s.end.bearers (built_end s t).bearers (only x (Takes (part l s t) (low l s t)))) q
       (turn_by New t (visited t.tti t.order s.end) l
       (visited_sound t.tti t.order s.end (come_sound side s.end h.come))) in
-      let load : Load = record { block = new_of; copies = []; reports = [] } in
+      let load : Load = record { block = block_of s t; copies = []; reports = [] } in
       let none : written_by (visited t.tti t.order s.end) t.grant l ≡ [] =
-      ap (λ (x : Bool). if x then pdus (flow l s.end) part low else []) q in
+      ap (λ (x : Bool). if x then pdus (flow l s.end) (part l s t) (low l s t) else []) q in
       record {
         deeds = [];
         done = tt;
@@ -339,7 +350,7 @@ module _ (side : Side) (l : ℕ) (s : Station) (n m : BearerEnd) (t : Turn) wher
           there = by.has_is ∙ h.there;
           bearer_is = by.goes h.there ∙ h.bearer_is;
           loads = load ∷ h.loads;
-          blocks_are = ap (λ (bs : List Block). new_of ∷ bs) h.blocks_are;
+          blocks_are = ap (λ (bs : List Block). block_of s t ∷ bs) h.blocks_are;
           copies_are = h.copies_are;
           reports_are = h.reports_are;
           are = (
@@ -349,7 +360,7 @@ module _ (side : Side) (l : ℕ) (s : Station) (n m : BearerEnd) (t : Turn) wher
               aged = tt;
               noted = λ held. tt;
             },
-            old_loads v h b,
+            old_loads l (sent_by side) s t h.loads v b h.blocks_are h.are,
           );
           busy = λ x. or_true s.busy;
         };

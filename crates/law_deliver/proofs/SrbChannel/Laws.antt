@@ -17,7 +17,7 @@ use Rattle.law_deliver.specs.AmChannel.Lives.{AirStep, InLife, Moves, lives_on, 
 use Rattle.law_deliver.specs.AmChannel.Lives.{all_calls}
 use Rattle.law_deliver.proofs.AmChannel.Ends.{IsCall, are_calls, all_more}
 use Rattle.law_deliver.specs.AmFlow.Air.{Air, Step as LinkStep, outset}
-use Rattle.law_deliver.specs.SrbChannel.Delivery.{BeginAlike, NoneSet, life_of, ChannelsDeliverTheFront}
+use Rattle.law_deliver.specs.SrbChannel.Delivery.{SrbEndsBeginAlike, NoneSet, life_of, ChannelsDeliverTheFront}
 use Rattle.law_deliver.specs.SrbChannel.Delivery.{DrainedChannelsHaveDelivered, NothingGoesUpBetween, NothingIsLost}
 use Rattle.law_deliver.specs.SrbChannel.Running.{Life, start, now, goes_on, running, first_life}
 use Rattle.law_deliver.proofs.SrbChannel.Running.{Start, Runs, begins_run, runs_on, lives_more, calls_more, down, up}
@@ -100,7 +100,8 @@ running_is (x ∷ xs) life = running_is xs (goes_on life x) ∙ ap (lives xs) (o
 
 -- ---- the laws
 
-living : (l : ℕ) (c : BearerConfig) (keys : Keys) (nb ue : End) (steps : List AirStep) → BeginAlike l c keys nb ue
+living : (l : ℕ) (c : BearerConfig) (keys : Keys) (nb ue : End) (steps : List AirStep)
+    → SrbEndsBeginAlike l c keys nb ue
     → AreLiving l (outset nb ue) steps → NoneSet l steps nb ue
     → Living l (life_of steps nb ue)
 living l c keys nb ue steps h g none =

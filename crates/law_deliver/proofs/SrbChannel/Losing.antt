@@ -8,7 +8,7 @@ use Rattle.bearer.specs.declared.flow.Flow.TheVariants.{Am}
 use Rattle.bearer.specs.Lives.{stopping}
 use Rattle.bearer.specs.Acknowledged.State.{State}
 use Rattle.law_bearer.specs.AnyBearer.Calls.{Call as BearerCall, Step as BearerStep, Calls as CallsIt, Restart}
-use Rattle.law_bearer.specs.AnyBearer.Calls.{after as called, goes as bearer_goes, run as bearer_run}
+use Rattle.law_bearer.specs.AnyBearer.Calls.{after as called, goes as bearer_goes, run_bearer}
 use Rattle.law_bearer.proofs.AnyBearer.Between.{IsBetween}
 use Rattle.bearer_types.specs.declared.event.Event.{Event}
 use Rattle.l2_node.specs.End.{End}
@@ -44,12 +44,12 @@ all_losses l f [] = []
 all_losses l f (x ∷ xs) = lost_in l f x ++ all_losses l (bearer_goes f x) xs
 
 losses_more : (l : ℕ) (xs ys : List BearerStep) (f : Flow)
-    → all_losses l f (xs ++ ys) ≡ all_losses l f xs ++ all_losses l (bearer_run xs f) ys
+    → all_losses l f (xs ++ ys) ≡ all_losses l f xs ++ all_losses l (run_bearer xs f) ys
 losses_more l [] ys f = refl
 losses_more l (x ∷ xs) ys f =
     ap (λ (found : List Event). lost_in l f x ++ found) (losses_more l xs ys (bearer_goes f x))
     ∙ sym (append_assoc (lost_in l f x) (all_losses l (bearer_goes f x) xs)
-    (all_losses l (bearer_run xs (bearer_goes f x)) ys))
+    (all_losses l (run_bearer xs (bearer_goes f x)) ys))
 
 of_life : (l : ℕ) (cs : List BearerCall) (f : Flow) → losses (tells_over l f cs) ≡ all_losses l f (as_steps cs)
 of_life l [] f = refl
@@ -68,9 +68,9 @@ one_loses side l e c s (inr (keys, q)) =
     (ap losses (the_end side l e keys s).told_is ∙ sym (append-nil (losses (stopping (flow l e)))))
 
 bearer_on : (side : Side) (l : ℕ) (e : End) (c : Call) → Stands side l e → IsCall l c
-    → flow l (after e c) ≡ bearer_run (steps_in l e c) (flow l e)
+    → flow l (after e c) ≡ run_bearer (steps_in l e c) (flow l e)
 bearer_on side l e c s g = (all_go side l e (c ∷ []) s (g, tt)).bearer_is
-    ∙ ap (λ (xs : List BearerStep). bearer_run xs (flow l e)) (append-nil (steps_in l e c))
+    ∙ ap (λ (xs : List BearerStep). run_bearer xs (flow l e)) (append-nil (steps_in l e c))
 
 pub end_losses : (side : Side) (l : ℕ) (cs : List Call) (e : End) → Stands side l e → AllByRecursion (IsCall l) cs
     → losses (told_on l (told_over cs e)) ≡ all_losses l (flow l e) (steps_over l cs e)

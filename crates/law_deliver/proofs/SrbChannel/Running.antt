@@ -17,12 +17,12 @@ use Rattle.l2_types.specs.declared.Kind.{Kind}
 use Rattle.l2_types.specs.declared.Kind.TheVariants as kinds
 use Rattle.l2_types.specs.declared.side.Side.{Side}
 use Rattle.l2_types.specs.declared.side.Side.TheVariants.{Nb, Ue}
-use Rattle.law_node.specs.Calls.{Call, Move, after, run}
+use Rattle.law_node.specs.Calls.{Call, Move, after, run_end}
 use Rattle.law_node.specs.Holding.{flow}
 use Rattle.law_node.specs.Telling.{told_of, told_over}
 use Rattle.pdcp_pdu.specs.declared.PdcpKind.TheVariants.{Srb}
-use Rattle.law_bearer.specs.AmBearer.Calls.{ups_in}
-use Rattle.law_words.specs.Lists.{IsFront}
+use Rattle.law_bearer.specs.AmBearer.Calls.{ups_among}
+use Rattle.law_words.specs.Lists.{AreFirstSdus}
 use Rattle.law_deliver.specs.AmChannel.Delivery.{HasBegun, steps_over, went_up, was_submitted}
 use Rattle.law_deliver.specs.AmChannel.Drained.{has_failed, IsDrained}
 use Rattle.law_deliver.specs.AmChannel.Lives.{AirStep, InLife, lives_on, lives, IsLiving, end_at, calls_at, all_calls}
@@ -33,7 +33,7 @@ use Rattle.law_deliver.proofs.AmChannel.Submitted.{submitted_is}
 use Rattle.law_deliver.specs.AmDelivery.Drained.{IsDrained as IsDrainedBearer}
 use Rattle.bearer.specs.Sums.{is_drained}
 use Rattle.law_deliver.specs.AmFlow.Air.{Air, Step as LinkStep, outset, Begins}
-use Rattle.law_deliver.specs.AmFlow.Pair.{Pair, Step, happens, goes, outset as pair_outset}
+use Rattle.law_deliver.specs.AmFlow.Pair.{Pair, Step, happens, goes, am_pair_outset}
 use Rattle.law_deliver.specs.AmFlow.Ups.{ups_on}
 use Rattle.promises.specs.Events.{told_on, losses}
 use Rattle.law_deliver.proofs.AmFlow.Air.{begins_so}
@@ -43,7 +43,7 @@ use Rattle.law_deliver.proofs.AmFlow.Ups.{Stands, stands_more, the_end, come_bet
 use Rattle.bearer_types.specs.declared.event.Event.{Event}
 use Rattle.law_deliver.specs.SrbDelivery.Losses.{near_losses, far_losses}
 use Rattle.law_deliver.specs.SrbDelivery.Life.{BothBegin, AreLived, near_ups, far_ups, near_submits, far_submits, over}
-use Rattle.law_deliver.specs.SrbDelivery.Lives.{renews, BothBeginAnew}
+use Rattle.law_deliver.specs.SrbDelivery.Lives.{renewed_bearer, BothBeginAnew}
 use Rattle.law_deliver.proofs.SrbDelivery.Laws.{delivers_front, drained_delivers, nothing_is_lost}
 use Rattle.law_deliver.proofs.SrbDelivery.Renewing.{fresh_begin, next_life}
 use Rattle.law_deliver.proofs.SrbChannel.Losing.{all_losses, end_losses, pair_losses}
@@ -60,7 +60,7 @@ pub record Start (l : ℕ) (nb ue : End) (near far : State) : Type 0 where
   pub ue_stands : Stands Ue l ue
 
 abbrev pub pair : State → State → Pair
-pair near far = pair_outset near far
+pair near far = am_pair_outset near far
 
 -- and has come so far by some steps
 pub record Runs (l : ℕ) (nb ue : End) (near far : State) (xs : List AirStep) : Type 0 where
@@ -174,11 +174,11 @@ module _ (l : ℕ) (nb ue : End) (near far : State) (s : Start l nb ue near far)
       → P vs ts
   as_told {us} {vs} {ss} {ts} P e f p = subst (λ zs. P zs ts) e (subst (P us) f p)
 
-  pub down : IsFront (went_up l (all_calls Ue xs a) ue) (was_submitted l (all_calls Nb xs a) nb)
-  down = as_told IsFront ue_ups nb_submitted (delivers_front near far r.steps s.both r.lived).there
+  pub down : AreFirstSdus (went_up l (all_calls Ue xs a) ue) (was_submitted l (all_calls Nb xs a) nb)
+  down = as_told AreFirstSdus ue_ups nb_submitted (delivers_front near far r.steps s.both r.lived).there
 
-  pub up : IsFront (went_up l (all_calls Nb xs a) nb) (was_submitted l (all_calls Ue xs a) ue)
-  up = as_told IsFront nb_ups ue_submitted (delivers_front near far r.steps s.both r.lived).back
+  pub up : AreFirstSdus (went_up l (all_calls Nb xs a) nb) (was_submitted l (all_calls Ue xs a) ue)
+  up = as_told AreFirstSdus nb_ups ue_submitted (delivers_front near far r.steps s.both r.lived).back
 
   drained_so : (e : End) (b : State) → flow l e ≡ Am b → IsDrained l e → IsDrainedBearer b
   unfolding is_drained
@@ -222,7 +222,7 @@ module _ (l : ℕ) (nb ue : End) (near far : State) (s : Start l nb ue near far)
   -- ---- as it ends
 
   stand_on : (side : Side) (e : End) (cs : List Call) → Stands side l e → AllByRecursion (IsCall l) cs
-      → Stands side l (run cs e)
+      → Stands side l (run_end cs e)
   stand_on side e [] st g = st
   stand_on side e (c ∷ cs) st g = let one = call_new l e c g.0 in
       stand_on side (after e c) cs (stands_more side l e c st one.0 one.1) g.1
@@ -240,7 +240,8 @@ module _ (l : ℕ) (nb ue : End) (near far : State) (s : Start l nb ue near far)
   moved_stands side e keys st = stands_more side l e (Move keys) st tt (λ p. let no : false ≡ true = p in absurd cc)
 
   moved : (side : Side) (e : End) (b : State) (keys : Keys) → Stands side l e → flow l e ≡ Am b
-      → bearer_goes (Am b) (Restart keys) ≡ Am (renews b keys) → Begins side l (after e (Move keys)) (renews b keys)
+      → bearer_goes (Am b) (Restart keys) ≡ Am (renewed_bearer b keys)
+      → Begins side l (after e (Move keys)) (renewed_bearer b keys)
   moved side e b keys st is left =
       let h = the_end side l e keys st in
       record {
@@ -252,7 +253,7 @@ module _ (l : ℕ) (nb ue : End) (near far : State) (s : Start l nb ue near far)
 
   pub starts_anew : (keys : Keys)
       → Start l (after (lives xs a).nb.end (Move keys)) (after (lives xs a).ue.end (Move keys))
-      (renews last.near.bearer keys) (renews last.far.bearer keys)
+      (renewed_bearer last.near.bearer keys) (renewed_bearer last.far.bearer keys)
   starts_anew keys =
       let n = anew keys in
       record {
@@ -265,7 +266,7 @@ module _ (l : ℕ) (nb ue : End) (near far : State) (s : Start l nb ue near far)
       }
 
   none_by : (side : Side) (e : End) (b : State) (keys : Keys) → Stands side l e → flow l e ≡ Am b
-      → ups_in (stopping (Am b)) ≡ [] → ups_on l (told_of e (Move keys)) ≡ []
+      → ups_among (stopping (Am b)) ≡ [] → ups_on l (told_of e (Move keys)) ≡ []
   none_by side e b keys st is none =
       (the_end side l e keys st).ups_are ∙ ap (λ (f : Flow). ups_on l (stopping f)) is
       ∙ sym (end_ups l b (subst (IsBetween l) is (between_at l e.bearers st.there (come_between side e st.come))))

@@ -11,7 +11,7 @@ use Rattle.law_bearer.proofs.AnyBearer.Between.{IsBetween, submits as submits_be
 use Rattle.law_bearer.proofs.AnyBearer.Between.{ticks_of, discards}
 use Rattle.l2_types.specs.declared.side.Side.{Side}
 use Rattle.l2_types.specs.declared.side.Side.TheVariants.{Nb, Ue}
-use Rattle.law_bearer.specs.AmBearer.Calls.{tells, ups_in}
+use Rattle.law_bearer.specs.AmBearer.Calls.{tells, ups_among}
 use Rattle.law_deliver.proofs.AmChannel.Acting.{as_steps, in_life_all}
 use Rattle.law_deliver.proofs.AmChannel.Bearers.{call_ups}
 use Rattle.law_deliver.proofs.AmChannel.Ends.{IsCall, all_ups}
@@ -83,7 +83,7 @@ few_so l (c ∷ []) b d xs t k =
     (record {
       between = subst (IsBetween l) (is_called b c) (between_after l (Am b) c k);
       ups_are = ap (λ (up : List (List ℕ)). up ++ all_ups l (after (Am b) c) xs) (sym (call_ups l b c k))
-          ∙ ap (λ (f : Flow). ups_in (tells b c) ++ all_ups l f xs) (is_called b c);
+          ∙ ap (λ (f : Flow). ups_among (tells b c) ++ all_ups l f xs) (is_called b c);
       submitted_are = refl;
     })
 few_so l (c ∷ x ∷ cs) b d xs t k = absurd t

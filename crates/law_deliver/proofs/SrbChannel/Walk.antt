@@ -7,7 +7,8 @@ use Rattle.law_bearer.specs.AnyBearer.Calls.{Call as BearerCall, Submit, Take, A
 use Rattle.l2_types.specs.declared.side.Side.TheVariants.{Nb, Ue}
 use Rattle.law_deliver.specs.AmFlow.Air.{Station, Air, Act, Step as LinkStep, AtNb, AtUe, Passes, does as station_does}
 use Rattle.law_deliver.specs.AmFlow.Air.{IsDone, IsGiven}
-use Rattle.law_deliver.specs.AmFlow.Pair.{Sent, BearerEnd, Pair, Deed, Calls as CallsBearer, DataComes, StatusComes}
+use Rattle.law_deliver.specs.AmFlow.Pair.{SentStatus, BearerEnd, Pair, Deed, Calls as CallsBearer, DataComes}
+use Rattle.law_deliver.specs.AmFlow.Pair.{StatusComes}
 use Rattle.law_deliver.specs.AmFlow.Pair.{DataGoes, StatusGoes, Step, Near, Far, Passes as PairPasses, called}
 use Rattle.law_deliver.specs.AmFlow.Pair.{data_comes, status_comes, does as deed_does, happens, goes}
 use Rattle.law_deliver.proofs.AmFlow.Air.{calls_in as act_calls, acts, passes, young}
@@ -51,7 +52,7 @@ data_rest : (o : Option Copy) (e : BearerEnd) (cs : List BearerCall) → AreAllo
 data_rest None e cs h = h
 data_rest (Some c) e cs h = h.1
 
-status_rest : (o : Option Sent) (e : BearerEnd) (cs : List BearerCall) → AreAllowed e.bearer (status_call o ++ cs)
+status_rest : (o : Option SentStatus) (e : BearerEnd) (cs : List BearerCall) → AreAllowed e.bearer (status_call o ++ cs)
     → AreAllowed (status_comes e o).bearer cs
 status_rest None e cs h = h
 status_rest (Some s) e cs h = h.1

@@ -30,14 +30,15 @@ use Rattle.bearer.specs.Acknowledged.Hearing.{confirms, all_confirmed, status_wo
 use Rattle.bearer.specs.Acknowledged.Hearing.{arriving as am_arriving, after_arrival}
 use Rattle.bearer.specs.Hearing.{arriving, arrived}
 use Rattle.law_bearer.specs.AnyBearer.Calls.{Arrive}
-use Rattle.law_bearer.specs.AmBearer.Calls.{IsIdle, tells, ups_in}
+use Rattle.law_bearer.specs.AmBearer.Calls.{IsIdle, tells, ups_among}
 use Rattle.law_bearer.proofs.AmBearer.Keeping.{settled_news}
 use Rattle.law_bearer.proofs.AmBearer.Ups.{ups_then, none_then, ups_are}
 use Rattle.law_deliver.specs.AmFlow.Pair.{called}
 use Rattle.law_pdcp.specs.SrbPair.Delivery.{AreReadAs}
 use Rattle.law_pdcp.proofs.SrbPair.Laws.{Hears}
 use Rattle.law_pdcp.proofs.SrbPair.Receives.{reads}
-use Rattle.law_pdcp.proofs.SrbPair.Sending.{AreNonempty, Sends, confirm_sends, confirm_queues}
+use Rattle.law_pdcp.proofs.OneEnd.Submitting.{AreNonempty}
+use Rattle.law_pdcp.proofs.SrbPair.Sending.{Sends, confirm_sends, confirm_queues}
 use Rattle.promises.specs.Events.{losses}
 use Rattle.law_deliver.proofs.SrbDelivery.Losing.{none_then as none_lost_then, landed_none as landed_loses_none}
 use Rattle.law_deliver.proofs.SrbDelivery.Losing.{ups_none as ups_lose_none, status_none as status_loses_none}
@@ -124,16 +125,16 @@ heard_all (u ∷ us) first p n w h none some few =
 
 -- ---- a data PDU
 
-turned_none : (lcid : ℕ) (t : Turned) → ups_in (turned_told lcid t) ≡ []
+turned_none : (lcid : ℕ) (t : Turned) → ups_among (turned_told lcid t) ≡ []
 turned_none lcid t = by t.stopped t.started
   where
-    by : (stopped started : Bool) → ups_in (turned_told lcid (record { stopped = stopped; started = started })) ≡ []
+    by : (stopped started : Bool) → ups_among (turned_told lcid (record { stopped = stopped; started = started })) ≡ []
     by true true = refl
     by true false = refl
     by false true = refl
     by false false = refl
 
-landed_none : (lcid : ℕ) (l : Landed) (t : Turned) → ups_in (landed_told lcid l t) ≡ []
+landed_none : (lcid : ℕ) (l : Landed) (t : Turned) → ups_among (landed_told lcid l t) ≡ []
 landed_none lcid Kept t = turned_none lcid t
 landed_none lcid Repeat t = refl
 landed_none lcid Outside t = refl
@@ -146,7 +147,7 @@ pub record DataComes (first : ℕ) (p : Protection) (n : ℕ) (us : List (List �
     pub kind : (called b (Arrive octets)).pdcp.kind ≡ b.pdcp.kind
     pub hears' : Hears first p (n + length us) (called b (Arrive octets)).pdcp.rx
     pub idle : IsIdle (called b (Arrive octets))
-    pub ups_is : ups_in (tells b (Arrive octets)) ≡ us
+    pub ups_is : ups_among (tells b (Arrive octets)) ≡ us
     pub none_lost : losses (tells b (Arrive octets)) ≡ []
 
 data_by : (first : ℕ) (p : Protection) (n : ℕ) (us : List (List ℕ)) (b : State) (octets : List ℕ) (x : AmdPdu)
@@ -173,10 +174,10 @@ data_by first p n us b octets x read idle h q =
         confirmed = ap (λ (d : State). d.tx.accounts.news) left ∙ ap (λ (v : Work). v.tx.accounts.news) all
             ∙ idle.confirmed;
       };
-      ups_is = ap (λ (r : Result AcknowledgedPdu RlcRefusal). ups_in (arrived_told r b)) read
-          ∙ ap (λ (v : Work). ups_in v.events) all
+      ups_is = ap (λ (r : Result AcknowledgedPdu RlcRefusal). ups_among (arrived_told r b)) read
+          ∙ ap (λ (v : Work). ups_among v.events) all
           ∙ ups_then told (ups b.pdcp.lcid us)
-          ∙ ap (λ l. l ++ ups_in (ups b.pdcp.lcid us)) (landed_none b.pdcp.lcid (landed b.rx x) (turned b.rx x))
+          ∙ ap (λ l. l ++ ups_among (ups b.pdcp.lcid us)) (landed_none b.pdcp.lcid (landed b.rx x) (turned b.rx x))
           ∙ ups_are b.pdcp.lcid us;
       none_lost = ap (λ (r : Result AcknowledgedPdu RlcRefusal). losses (arrived_told r b)) read
           ∙ ap (λ (v : Work). losses v.events) all
@@ -222,15 +223,15 @@ status_news heard_as.Ignored w = refl
 status_news (heard_as.Limit sn) w = refl
 status_news (heard_as.Applied stopped) w = settled_news w.tx (has_more w.pdcp)
 
-stopped_none : (lcid : ℕ) (b : Bool) → ups_in (stopped_told lcid b) ≡ []
+stopped_none : (lcid : ℕ) (b : Bool) → ups_among (stopped_told lcid b) ≡ []
 stopped_none lcid true = refl
 stopped_none lcid false = refl
 
-started_none : (lcid : ℕ) (b : Bool) → ups_in (started_told lcid b) ≡ []
+started_none : (lcid : ℕ) (b : Bool) → ups_among (started_told lcid b) ≡ []
 started_none lcid true = refl
 started_none lcid false = refl
 
-status_none : (h : Heard) (pdcp : Ends) (tx : Sender) → ups_in (status_work h (work pdcp tx [])).events ≡ []
+status_none : (h : Heard) (pdcp : Ends) (tx : Sender) → ups_among (status_work h (work pdcp tx [])).events ≡ []
 status_none heard_as.Ignored pdcp tx = refl
 status_none (heard_as.Limit sn) pdcp tx = refl
 status_none (heard_as.Applied stopped) pdcp tx =
@@ -241,7 +242,7 @@ pub record StatusComes (b : State) (octets : List ℕ) : Type 0 where
   pub stays : Stays b (called b (Arrive octets))
   pub keeps : (first : ℕ) (p : Protection) (sdus : List (List ℕ)) → Sends first p sdus b.pdcp.tx
       → Keeps first p sdus b.pdcp.tx (called b (Arrive octets)).pdcp.tx
-  pub ups_is : ups_in (tells b (Arrive octets)) ≡ []
+  pub ups_is : ups_among (tells b (Arrive octets)) ≡ []
   pub none_lost : losses (tells b (Arrive octets)) ≡ []
 
 pub status_comes : (b : State) (octets : List ℕ) (x : StatusPdu) → am_at octets ≡ Ok (Control x) → IsIdle b
@@ -269,7 +270,7 @@ status_comes b octets x read idle =
       };
       keeps = λ first p sdus k. subst (λ (e : Ends). Keeps first p sdus b.pdcp.tx e.tx) (sym pdcp)
           (confirms_keeps first p sdus places b.pdcp k);
-      ups_is = ap (λ (r : Result AcknowledgedPdu RlcRefusal). ups_in (arrived_told r b)) read
+      ups_is = ap (λ (r : Result AcknowledgedPdu RlcRefusal). ups_among (arrived_told r b)) read
           ∙ status_none h w.pdcp w.tx;
       none_lost = ap (λ (r : Result AcknowledgedPdu RlcRefusal). losses (arrived_told r b)) read
           ∙ status_loses_none h w.pdcp w.tx;

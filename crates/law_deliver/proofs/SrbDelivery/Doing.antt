@@ -10,10 +10,11 @@ use Rattle.bearer.specs.Acknowledged.State.{State}
 use Rattle.law_bearer.specs.AnyBearer.Acknowledged.{status_heard, data_heard}
 use Rattle.law_bearer.specs.AnyBearer.Calls.{Call, Submit, Take, Arrive, Expire, Tick, SetDiscard}
 use Rattle.law_bearer.specs.AnyBearer.Queue.{submits}
-use Rattle.law_bearer.specs.AmBearer.Calls.{IsIdle, tells, ups_in}
+use Rattle.law_bearer.specs.AmBearer.Calls.{IsIdle, tells, ups_among}
 use Rattle.law_deliver.specs.AmDelivery.Ends.{submitted_by}
 use Rattle.law_deliver.specs.AmDelivery.Lives.{call_by, call_of, calls_in, ups_by}
-use Rattle.law_deliver.specs.AmFlow.Pair.{Sent, BearerEnd, Deed, Calls, DataComes, StatusComes, DataGoes, StatusGoes}
+use Rattle.law_deliver.specs.AmFlow.Pair.{SentStatus, BearerEnd, Deed, Calls, DataComes, StatusComes, DataGoes}
+use Rattle.law_deliver.specs.AmFlow.Pair.{StatusGoes}
 use Rattle.law_deliver.specs.AmFlow.Pair.{called, calls, arrives, data_comes as data_comes_to}
 use Rattle.law_deliver.specs.AmFlow.Pair.{status_comes as status_comes_to, does, older, passed, IsCalling, IsDone}
 use Rattle.law_deliver.specs.AmFlow.Pair.{IsYoung}
@@ -151,7 +152,7 @@ sent_as w from to sent up j = subst (λ l. Joined w from to l up) (sym (append-n
 
 calls_go : (out inn : Way) (e o : BearerEnd) (sent up got back : List (List ℕ)) (c : Call) → IsCalling e c
     → IsAccepted e.bearer c → Both out inn e o sent up got back
-    → Done out inn (calls e c) o (sent ++ submits c) up (got ++ ups_in (tells e.bearer c)) back
+    → Done out inn (calls e c) o (sent ++ submits c) up (got ++ ups_among (tells e.bearer c)) back
     (losses (tells e.bearer c))
 calls_go out inn e o sent up got back c g may h =
     let d = calls e c in
@@ -167,8 +168,8 @@ calls_go out inn e o sent up got back c g may h =
     (calls_hear e c (flow_by inn k.steps) o.bearer.tx o.copies o.busy g (stands_so inn o e back got k)) still.rx
     refl in
     record {
-      both = both_by out inn d o sent up got back (submits c) (ups_in (tells e.bearer c)) there
-          (up_as inn o d back got (ups_in (tells e.bearer c)) (none_up e.bearer c quiet) here)
+      both = both_by out inn d o sent up got back (submits c) (ups_among (tells e.bearer c)) there
+          (up_as inn o d back got (ups_among (tells e.bearer c)) (none_up e.bearer c quiet) here)
           (record { kind = still.kind ∙ h.own.kind; idle = still.idle }) h.other;
       none = calls_lose_none e.bearer c quiet;
     }
@@ -177,7 +178,7 @@ calls_go out inn e o sent up got back c g may h =
 
 data_go : (out inn : Way) (e o : BearerEnd) (sent up got back : List (List ℕ)) (k : ℕ) (c : Copy)
     → slice_get o.copies k ≡ Some c → Both out inn e o sent up got back
-    → Done out inn (arrives e c.octets) o (sent ++ []) up (got ++ ups_in (tells e.bearer (Arrive c.octets))) back
+    → Done out inn (arrives e c.octets) o (sent ++ []) up (got ++ ups_among (tells e.bearer (Arrive c.octets))) back
     (losses (tells e.bearer (Arrive c.octets)))
 data_go out inn e o sent up got back k c q h =
     let d = arrives e c.octets in
@@ -202,7 +203,7 @@ data_go out inn e o sent up got back k c q h =
       queued = ap queue y.tx;
     })) refl in
     record {
-      both = both_by out inn d o sent up got back [] (ups_in (tells e.bearer (Arrive c.octets))) there
+      both = both_by out inn d o sent up got back [] (ups_among (tells e.bearer (Arrive c.octets))) there
           (subst (λ l. Joined inn o d back (got ++ l)) (sym y.ups_is) here)
           (record { kind = y.kind ∙ h.own.kind; idle = y.idle }) h.other;
       none = y.none_lost;
@@ -210,14 +211,14 @@ data_go out inn e o sent up got back k c q h =
 
 -- ---- a STATUS comes
 
-status_by : (out inn : Way) (e o : BearerEnd) (sent up got back : List (List ℕ)) (k : ℕ) (s : Sent)
+status_by : (out inn : Way) (e o : BearerEnd) (sent up got back : List (List ℕ)) (k : ℕ) (s : SentStatus)
     (j : Joined out e o sent up) → ReadsStatus (flow_by out j.steps) k s → Joined inn o e back got
     → IsSignalling e.bearer → IsSignalling o.bearer
-    → Done out inn (arrives e s.octets) o (sent ++ []) up (got ++ ups_in (tells e.bearer (Arrive s.octets))) back
+    → Done out inn (arrives e s.octets) o (sent ++ []) up (got ++ ups_among (tells e.bearer (Arrive s.octets))) back
     (losses (tells e.bearer (Arrive s.octets)))
 status_by out inn e o sent up got back k s j r i own other =
     subst (λ (octets : List ℕ). Done out inn (arrives e octets) o (sent ++ []) up
-    (got ++ ups_in (tells e.bearer (Arrive octets))) back (losses (tells e.bearer (Arrive octets)))) r.same
+    (got ++ ups_among (tells e.bearer (Arrive octets))) back (losses (tells e.bearer (Arrive octets)))) r.same
     (let octets = r.report.octets in
     let d = arrives e octets in
     let y = status_comes e.bearer octets (reduced r.report) r.read own.idle in
@@ -232,15 +233,15 @@ status_by out inn e o sent up got back k s j r i own other =
     (status_hears e octets (flow_by inn i.steps) o.bearer.tx o.copies o.busy (ap data_heard r.read)
     (stands_so inn o e back got i)) y.stays.rx refl in
     record {
-      both = both_by out inn d o sent up got back [] (ups_in (tells e.bearer (Arrive octets))) there
-          (up_as inn o d back got (ups_in (tells e.bearer (Arrive octets))) y.ups_is here)
+      both = both_by out inn d o sent up got back [] (ups_among (tells e.bearer (Arrive octets))) there
+          (up_as inn o d back got (ups_among (tells e.bearer (Arrive octets))) y.ups_is here)
           (record { kind = y.stays.kind ∙ own.kind; idle = y.stays.idle }) other;
       none = y.none_lost;
     })
 
-status_go : (out inn : Way) (e o : BearerEnd) (sent up got back : List (List ℕ)) (k : ℕ) (s : Sent)
+status_go : (out inn : Way) (e o : BearerEnd) (sent up got back : List (List ℕ)) (k : ℕ) (s : SentStatus)
     → slice_get o.reports k ≡ Some s → Both out inn e o sent up got back
-    → Done out inn (arrives e s.octets) o (sent ++ []) up (got ++ ups_in (tells e.bearer (Arrive s.octets))) back
+    → Done out inn (arrives e s.octets) o (sent ++ []) up (got ++ ups_among (tells e.bearer (Arrive s.octets))) back
     (losses (tells e.bearer (Arrive s.octets)))
 status_go out inn e o sent up got back k s q h =
     status_by out inn e o sent up got back k s h.out_joins
@@ -319,7 +320,7 @@ data_does out inn e o sent up got back k None q h =
     record { both = nothing_done out inn e o sent up got back h; none = refl }
 data_does out inn e o sent up got back k (Some c) q h = data_go out inn e o sent up got back k c q h
 
-status_does : (out inn : Way) (e o : BearerEnd) (sent up got back : List (List ℕ)) (k : ℕ) (x : Option Sent)
+status_does : (out inn : Way) (e o : BearerEnd) (sent up got back : List (List ℕ)) (k : ℕ) (x : Option SentStatus)
     → slice_get o.reports k ≡ x → Both out inn e o sent up got back
     → Done out inn (status_comes_to e x) o (sent ++ submitted_by (call_of x)) up (got ++ ups_by e.bearer (call_of x))
     back (losses_by e.bearer (call_of x))
@@ -350,7 +351,7 @@ passes_on w e o sent up young j =
     let f = flow_by w j.steps in
     none_goes w e o (passed e) (passed o) sent up j
     (calm_goes f TtiPasses e.bearer.tx o.bearer.rx e.copies (map older o.reports) false
-    (are_young f.reports (subst (λ (l : List Sent). AllByRecursion IsYoung l) (sym s.reports_are) young))
+    (are_young f.reports (subst (λ (l : List SentStatus). AllByRecursion IsYoung l) (sym s.reports_are) young))
     (record { stays = refl; none = refl }) (record {
       sender_is = s.sender_is;
       receiver_is = s.receiver_is;

@@ -13,14 +13,14 @@ use Rattle.law_rlc.specs.AmPair.Arrives.{brings}
 use Rattle.law_rlc.specs.AmPair.Steps.{takes_up, offers}
 use Rattle.law_rlc.proofs.AmPair.Steps.{goes-up, step-offers}
 use Rattle.law_bearer.specs.AnyBearer.Acknowledged.{IsOfReceiver}
-use Rattle.law_deliver.specs.AmFlow.Pair.{Sent}
+use Rattle.law_deliver.specs.AmFlow.Pair.{SentStatus}
 use Rattle.law_deliver.proofs.AmFlow.Standing.{Stands, given_more, goes_more}
 
 -- what the receiver has handed up, and what is ready to go up
 abbrev pub total : Flow → List (List ℕ)
 total f = handed_up f ++ ready f
 
-pub record Goes (f : Flow) (tx : Sender) (rx : Receiver) (copies : List Copy) (reports : List Sent) (busy : Bool)
+pub record Goes (f : Flow) (tx : Sender) (rx : Receiver) (copies : List Copy) (reports : List SentStatus) (busy : Bool)
     (sdus ups : List (List ℕ)) : Type 0 where
   pub steps : List Step
   pub given : AreGiven f steps
@@ -28,7 +28,7 @@ pub record Goes (f : Flow) (tx : Sender) (rx : Receiver) (copies : List Copy) (r
   pub offered_is : offered (goes steps f) ≡ offered f ++ sdus
   pub total_is : total (goes steps f) ≡ total f ++ ups
 
-pub stays : (f : Flow) (tx : Sender) (rx : Receiver) (cs : List Copy) (rs : List Sent) (b : Bool)
+pub stays : (f : Flow) (tx : Sender) (rx : Receiver) (cs : List Copy) (rs : List SentStatus) (b : Bool)
     → Stands tx rx cs rs b f → Goes f tx rx cs rs b [] []
 stays f tx rx cs rs b h = record {
   steps = [];
@@ -49,7 +49,7 @@ calm_total f s g c =
     let h = goes-up f in
     ap (λ l. l ++ ready (happens f s)) (h.stays s g c.stays) ∙ ap (λ l. handed_up f ++ l) (h.same s g c.stays c.none)
 
-pub calm_goes : (f : Flow) (s : Step) (tx : Sender) (rx : Receiver) (cs : List Copy) (rs : List Sent) (b : Bool)
+pub calm_goes : (f : Flow) (s : Step) (tx : Sender) (rx : Receiver) (cs : List Copy) (rs : List SentStatus) (b : Bool)
     → IsGiven f s → IsCalm s → Stands tx rx cs rs b (happens f s) → Goes f tx rx cs rs b (offers s) []
 calm_goes f s tx rx cs rs b g c h = record {
   steps = s ∷ [];
@@ -82,7 +82,8 @@ own_total f TickProhibit own = calm_total f (Receives TickProhibit) tt (record {
 more_is : (xs ys zs a b : List (List ℕ)) → ys ≡ xs ++ a → zs ≡ ys ++ b → zs ≡ xs ++ (a ++ b)
 more_is xs ys zs a b p q = q ∙ ap (λ (l : List (List ℕ)). l ++ b) p ∙ append_assoc xs a b
 
-pub goes_then : (f : Flow) (tx ty : Sender) (rx ry : Receiver) (cs ds : List Copy) (rs ss : List Sent) (b c : Bool)
+pub goes_then : (f : Flow) (tx ty : Sender) (rx ry : Receiver) (cs ds : List Copy) (rs ss : List SentStatus)
+    (b c : Bool)
     (sdus more ups later : List (List ℕ))
     → Goes f tx rx cs rs b sdus ups → ((g : Flow) → Stands tx rx cs rs b g → Goes g ty ry ds ss c more later)
     → Goes f ty ry ds ss c (sdus ++ more) (ups ++ later)
@@ -101,7 +102,7 @@ goes_then f tx ty rx ry cs ds rs ss b c sdus more ups later m go =
     }
 
 -- the same in another form
-pub goes_as : (f : Flow) (tx : Sender) (rx : Receiver) (cs : List Copy) (rs : List Sent) (b : Bool)
+pub goes_as : (f : Flow) (tx : Sender) (rx : Receiver) (cs : List Copy) (rs : List SentStatus) (b : Bool)
     (sdus more ups later : List (List ℕ)) → sdus ≡ more → ups ≡ later
     → Goes f tx rx cs rs b sdus ups → Goes f tx rx cs rs b more later
 goes_as f tx rx cs rs b sdus more ups later p q m = record {

@@ -8,10 +8,10 @@ use Rattle.pdcp_sec.specs.Protection.{Protection}
 use Rattle.pdcp_tx.specs.Pdus.{pdu}
 use Rattle.pdcp_tx.specs.State.{State as Sending}
 use Rattle.law_pdcp.specs.OneEnd.Lives.{queue}
-use Rattle.law_rlc.specs.AmPair.Flow.{Flow as Rlc, Step as RlcStep, goes as rlc_goes, outset as rlc_outset}
+use Rattle.law_rlc.specs.AmPair.Flow.{Flow as Rlc, Step as RlcStep, goes as rlc_goes, am_rlc_outset}
 use Rattle.law_rlc.specs.AmPair.Given.{AreGiven as AreGivenSteps}
 use Rattle.law_rlc.specs.AmPair.Sdus.{offered}
-use Rattle.law_words.specs.Lists.{IsFront}
+use Rattle.law_words.specs.Lists.{AreFirstSdus}
 use Rattle.law_rlc.proofs.AmPair.Laws.{sound, hands-up-the-front}
 use Rattle.law_rlc.proofs.AmPair.Sound.{IsSound}
 use Rattle.law_deliver.specs.AmFlow.Flows.{IsFlow, HasFlow}
@@ -19,7 +19,8 @@ use Rattle.law_deliver.specs.AmFlow.Pair.{BearerEnd}
 use Rattle.law_deliver.proofs.AmFlow.Flows.{stands_as, is_flow}
 use Rattle.law_deliver.proofs.AmFlow.Standing.{Stands, given_more, goes_more}
 use Rattle.law_pdcp.proofs.SrbPair.Laws.{Hears}
-use Rattle.law_pdcp.proofs.SrbPair.Sending.{AreNonempty, Sends}
+use Rattle.law_pdcp.proofs.OneEnd.Submitting.{AreNonempty}
+use Rattle.law_pdcp.proofs.SrbPair.Sending.{Sends}
 use Rattle.law_deliver.proofs.SrbDelivery.Going.{total, Goes}
 use Rattle.law_deliver.proofs.SrbDelivery.Taking.{pdus_from, pdus_both}
 
@@ -33,13 +34,13 @@ pub record Way : Type 0 where
   pub receiving : AmRxConfig
 
 abbrev pub flow_by : Way → List RlcStep → Rlc
-flow_by w steps = rlc_goes steps (rlc_outset w.sending w.receiving)
+flow_by w steps = rlc_goes steps (am_rlc_outset w.sending w.receiving)
 
 -- from an end to the other: RLC is a flow, to which the PDUs of the SDUs taken were offered; those that went up, and
 -- `later` taken ones
 pub record Joined (w : Way) (from to : BearerEnd) (submitted ups : List (List ℕ)) : Type 0 where
   pub steps : List RlcStep
-  pub given : AreGivenSteps (rlc_outset w.sending w.receiving) steps
+  pub given : AreGivenSteps (am_rlc_outset w.sending w.receiving) steps
   pub is : IsFlow from to (flow_by w steps)
   pub later : List (List ℕ)
   pub sends : Sends w.first w.protection (ups ++ later) from.bearer.pdcp.tx
@@ -65,7 +66,7 @@ sound_so w from to submitted ups j = sound w.sending w.receiving j.steps j.given
 -- RLC goes on
 record Further (w : Way) (from to : BearerEnd) (steps : List RlcStep) (sdus ups : List (List ℕ)) : Type 0 where
   all : List RlcStep
-  given : AreGivenSteps (rlc_outset w.sending w.receiving) all
+  given : AreGivenSteps (am_rlc_outset w.sending w.receiving) all
   is : IsFlow from to (flow_by w all)
   offered_is : offered (flow_by w all) ≡ offered (flow_by w steps) ++ sdus
   total_is : total (flow_by w all) ≡ total (flow_by w steps) ++ ups
@@ -76,10 +77,10 @@ further : (w : Way) (from to d p : BearerEnd) (submitted ups : List (List ℕ)) 
     → Further w d p j.steps sdus more
 further w from to d p submitted ups j sdus more m =
     let f = flow_by w j.steps in
-    let same = sym (goes_more (rlc_outset w.sending w.receiving) j.steps m.steps) in
+    let same = sym (goes_more (am_rlc_outset w.sending w.receiving) j.steps m.steps) in
     record {
       all = j.steps ++ m.steps;
-      given = given_more (rlc_outset w.sending w.receiving) j.steps m.steps j.given m.given;
+      given = given_more (am_rlc_outset w.sending w.receiving) j.steps m.steps j.given m.given;
       is = subst (IsFlow d p) same (is_flow d p (rlc_goes m.steps f) m.stands);
       offered_is = ap offered (sym same) ∙ m.offered_is;
       total_is = ap total (sym same) ∙ m.total_is;
@@ -196,7 +197,7 @@ pub next_are : (w : Way) (from to d p : BearerEnd) (submitted ups brought : List
 next_are w from to d p submitted ups brought j m =
     let q = w.protection in
     let on = further w from to d p submitted ups j [] brought m in
-    let front : IsFront (total (flow_by w on.all)) (offered (flow_by w on.all)) =
+    let front : AreFirstSdus (total (flow_by w on.all)) (offered (flow_by w on.all)) =
     hands-up-the-front w.sending w.receiving on.all on.given in
     let whole : pdus_from q w.first (ups ++ j.later) ≡ (pdus_from q w.first ups ++ brought) ++ front.rest =
     sym j.offered_is ∙ sym (append-nil (offered (flow_by w j.steps))) ∙ sym on.offered_is ∙ front.is

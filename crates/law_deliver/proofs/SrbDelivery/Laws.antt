@@ -5,7 +5,7 @@ use Rattle.std.proofs.Common.{arith}
 use Rattle.std.proofs.lemmas.Bool.Decides.{nat_tests}
 use Rattle.law_rlc.specs.AmPair.Flow.{sender}
 use Rattle.law_rlc.specs.AmPair.Sdus.{offered}
-use Rattle.law_words.specs.Lists.{IsFront}
+use Rattle.law_words.specs.Lists.{AreFirstSdus}
 use Rattle.law_rlc.proofs.AmPair.Laws.{hands-up-all}
 use Rattle.bearer.specs.Acknowledged.State.{State, has_more}
 use Rattle.bearer.specs.Acknowledged.Sums.{is_drained}
@@ -14,7 +14,8 @@ use Rattle.law_deliver.specs.AmDelivery.Drained.{IsDrained}
 use Rattle.law_deliver.specs.AmDelivery.Ends.{submitted_by}
 use Rattle.law_deliver.specs.AmDelivery.Lives.{calls_in, ups_by}
 use Rattle.law_deliver.specs.AmFlow.Flows.{BeginsLife}
-use Rattle.law_deliver.specs.AmFlow.Pair.{BearerEnd, Pair, Step, Near, Far, Passes, happens, goes, begins, outset}
+use Rattle.law_deliver.specs.AmFlow.Pair.{BearerEnd, Pair, Step, Near, Far, Passes, happens, goes, begins}
+use Rattle.law_deliver.specs.AmFlow.Pair.{am_pair_outset}
 use Rattle.law_deliver.specs.AmFlow.Pair.{IsGiven}
 use Rattle.law_pdcp.specs.OneEnd.Lives.{queue}
 use Rattle.pdcp_tx_store.specs.Waiting.{Waits}
@@ -22,7 +23,7 @@ use Rattle.pdcp_rx.specs.State.{State as Receiving}
 use Rattle.pdcp_sec.specs.Protection.{Protection}
 use Rattle.pdcp_tx.specs.State.{State as Sending, Offer, new_offers, left as pdcp_left}
 use Rattle.rlc_am_tx.specs.Need.{left as rlc_left}
-use Rattle.law_pdcp.specs.SrbPair.Flow.{BeginAlike}
+use Rattle.law_pdcp.specs.SrbPair.Flow.{SrbPdcpBeginAlike}
 use Rattle.law_pdcp.proofs.SrbPair.Laws.{Hears, begins_sends}
 use Rattle.law_pdcp.proofs.SrbPair.Sending.{offers_by}
 use Rattle.law_deliver.specs.SrbDelivery.Delivery.{AreTheFront, AreAll}
@@ -136,10 +137,10 @@ way from to = record {
   receiving = to.rx_config;
 }
 
-begins_hears : (s : Sending) (r : Receiving) → BeginAlike s r → Hears s.next s.protection 0 r
+begins_hears : (s : Sending) (r : Receiving) → SrbPdcpBeginAlike s r → Hears s.next s.protection 0 r
 begins_hears s r h = record { srb = h.hears; key = h.key; none_held = h.none_held; next = omega (arith, h.awaited) }
 
-joined_first : (from to : State) → BeginsLife from → BeginsLife to → BeginAlike from.pdcp.tx to.pdcp.rx
+joined_first : (from to : State) → BeginsLife from → BeginsLife to → SrbPdcpBeginAlike from.pdcp.tx to.pdcp.rx
     → Joined (way from to) (begins from) (begins to) [] []
 joined_first from to h k b = record {
   steps = [];
@@ -167,7 +168,7 @@ begins_idle b h q = record {
 }
 
 pub begin_both : (near far : State) → BothBegin near far
-    → BothWays (way near far) (way far near) (outset near far) [] [] [] []
+    → BothWays (way near far) (way far near) (am_pair_outset near far) [] [] [] []
 begin_both near far h = record {
   out = joined_first near far h.near_life h.far_life h.there;
   inn = joined_first far near h.far_life h.near_life h.back;
@@ -175,32 +176,34 @@ begin_both near far h = record {
   far_is = record { kind = h.far_kind; idle = begins_idle far h.far_life h.there.none_ready };
 }
 
-pub lived : (near far : State) (steps : List Step) → BothBegin near far → AreLived (outset near far) steps
-    → BothWays (way near far) (way far near) (goes steps (outset near far))
-    (over near_submits steps (outset near far)) (over far_ups steps (outset near far))
-    (over far_submits steps (outset near far)) (over near_ups steps (outset near far))
+pub lived : (near far : State) (steps : List Step) → BothBegin near far → AreLived (am_pair_outset near far) steps
+    → BothWays (way near far) (way far near) (goes steps (am_pair_outset near far))
+    (over near_submits steps (am_pair_outset near far)) (over far_ups steps (am_pair_outset near far))
+    (over far_submits steps (am_pair_outset near far)) (over near_ups steps (am_pair_outset near far))
 lived near far steps h g =
-    steps_on (way near far) (way far near) steps (outset near far) [] [] [] [] g (begin_both near far h)
+    steps_on (way near far) (way far near) steps (am_pair_outset near far) [] [] [] [] g (begin_both near far h)
 
 -- ---- the laws
 
-pub front_of : (w : Way) (from to : BearerEnd) (sent up : List (List ℕ)) → Joined w from to sent up → IsFront up sent
+pub front_of : (w : Way) (from to : BearerEnd) (sent up : List (List ℕ)) → Joined w from to sent up
+    → AreFirstSdus up sent
 front_of w from to sent up j =
     record {
       rest = j.later ++ queue from.bearer.pdcp.tx;
       is = j.submitted_is ∙ append_assoc up j.later (queue from.bearer.pdcp.tx);
     }
 
-pub delivers_front : (near far : State) (steps : List Step) → BothBegin near far → AreLived (outset near far) steps
+pub delivers_front : (near far : State) (steps : List Step) → BothBegin near far
+    → AreLived (am_pair_outset near far) steps
     → AreTheFront near far steps
 delivers_front near far steps h g =
     let l = lived near far steps h g in
-    let q = goes steps (outset near far) in
+    let q = goes steps (am_pair_outset near far) in
     record {
-      there = front_of (way near far) q.near q.far (over near_submits steps (outset near far))
-          (over far_ups steps (outset near far)) l.out;
-      back = front_of (way far near) q.far q.near (over far_submits steps (outset near far))
-          (over near_ups steps (outset near far)) l.inn;
+      there = front_of (way near far) q.near q.far (over near_submits steps (am_pair_outset near far))
+          (over far_ups steps (am_pair_outset near far)) l.out;
+      back = front_of (way far near) q.far q.near (over far_submits steps (am_pair_outset near far))
+          (over near_ups steps (am_pair_outset near far)) l.inn;
     }
 
 -- ---- where nothing is left
@@ -257,16 +260,17 @@ all_of w from to sent up j d =
     sym (append-nil up) ∙ ap (λ l. up ++ l) (sym later) ∙ sym (append-nil (up ++ j.later))
     ∙ ap (λ l. (up ++ j.later) ++ l) (sym waits) ∙ sym j.submitted_is
 
-pub drained_delivers : (near far : State) (steps : List Step) → BothBegin near far → AreLived (outset near far) steps
+pub drained_delivers : (near far : State) (steps : List Step) → BothBegin near far
+    → AreLived (am_pair_outset near far) steps
     → AreAll near far steps
 drained_delivers near far steps h g =
     let l = lived near far steps h g in
-    let q = goes steps (outset near far) in
+    let q = goes steps (am_pair_outset near far) in
     record {
-      there = λ d. all_of (way near far) q.near q.far (over near_submits steps (outset near far))
-          (over far_ups steps (outset near far)) l.out d;
-      back = λ d. all_of (way far near) q.far q.near (over far_submits steps (outset near far))
-          (over near_ups steps (outset near far)) l.inn d;
+      there = λ d. all_of (way near far) q.near q.far (over near_submits steps (am_pair_outset near far))
+          (over far_ups steps (am_pair_outset near far)) l.out d;
+      back = λ d. all_of (way far near) q.far q.near (over far_submits steps (am_pair_outset near far))
+          (over near_ups steps (am_pair_outset near far)) l.inn d;
     }
 
 -- ---- nothing is lost
@@ -308,9 +312,10 @@ steps_lose_none there back (s ∷ ss) p ns fu fs nu g h =
       far_none = ap (λ (l : List Event). l ++ over far_losses ss q) one.far_none ∙ rest.far_none;
     }
 
-pub nothing_is_lost : (near far : State) (steps : List Step) → BothBegin near far → AreLived (outset near far) steps
+pub nothing_is_lost : (near far : State) (steps : List Step) → BothBegin near far
+    → AreLived (am_pair_outset near far) steps
     → LoseNone near far steps
 nothing_is_lost near far steps h g =
-    let l = steps_lose_none (way near far) (way far near) steps (outset near far) [] [] [] [] g
+    let l = steps_lose_none (way near far) (way far near) steps (am_pair_outset near far) [] [] [] [] g
     (begin_both near far h) in
     record { near_none = l.near_none; far_none = l.far_none }

@@ -3,9 +3,10 @@ use Rattle.std.proofs.Common.{ℕ, List, [], ◌∷◌}
 use Rattle.bearer.specs.Acknowledged.State.{State}
 use Rattle.bearer_types.specs.declared.BearerConfig.{BearerConfig}
 use Rattle.eps_sec.specs.declared.Keys.{Keys}
-use Rattle.law_deliver.specs.AmFlow.Pair.{Pair, outset}
+use Rattle.law_deliver.specs.AmFlow.Pair.{Pair, am_pair_outset}
 use Rattle.law_deliver.specs.SrbDelivery.Life.{near_ups, far_ups, near_submits, far_submits}
-use Rattle.law_deliver.specs.SrbDelivery.Lives.{renews, AreBothEnds, LifeStep, InLife, Restarts, lives_on, lives}
+use Rattle.law_deliver.specs.SrbDelivery.Lives.{renewed_bearer, AreBothEnds, LifeStep, InLife, Restarts, lives_on}
+use Rattle.law_deliver.specs.SrbDelivery.Lives.{lives}
 use Rattle.law_deliver.specs.SrbDelivery.Lives.{IsLiving, AreLiving, since_by, since, AreOfThisLife}
 use Rattle.law_deliver.proofs.SrbDelivery.Joined.{Way}
 use Rattle.law_deliver.proofs.SrbDelivery.Laws.{BothWays, way, begin_both, step_on, front_of, all_of}
@@ -23,8 +24,8 @@ one_lives : (p : Pair) (x : LifeStep) (ns fu fs nu : List (List ℕ)) → IsLivi
 one_lives p (InLife s) ns fu fs nu g h =
     record { there = h.there; back = h.back; ways = step_on h.there h.back p s ns fu fs nu g.0 g.1 h.ways }
 one_lives p (Restarts keys) ns fu fs nu g h =
-    let near = renews p.near.bearer keys in
-    let far = renews p.far.bearer keys in
+    let near = renewed_bearer p.near.bearer keys in
+    let far = renewed_bearer p.far.bearer keys in
     record {
       there = way near far;
       back = way far near;
@@ -40,10 +41,10 @@ all_live (x ∷ xs) p ns fu fs nu g h =
     (since_by near_ups nu p x) g.1 (one_lives p x ns fu fs nu g.0 h)
 
 pub delivers_in_each_life : (c : BearerConfig) (keys : Keys) (nb ue : State) (steps : List LifeStep)
-    → AreBothEnds c keys nb ue → AreLiving (outset nb ue) steps
+    → AreBothEnds c keys nb ue → AreLiving (am_pair_outset nb ue) steps
     → AreOfThisLife nb ue steps
 delivers_in_each_life c keys nb ue steps h g =
-    let p = outset nb ue in
+    let p = am_pair_outset nb ue in
     let q = lives steps p in
     let ns = since near_submits [] steps p in
     let fu = since far_ups [] steps p in

@@ -21,7 +21,7 @@ use Rattle.law_pdcp.specs.OneEnd.Lives.{queue}
 use Rattle.law_bearer.specs.AmBearer.Deeds.{Deed, Feeds, Sends as SendsIt, Confirms, Receives, HandsUp, Asks, Sets}
 use Rattle.law_bearer.specs.AmBearer.Deeds.{confirms_first, does, does_all}
 use Rattle.law_bearer.specs.AmBearer.Calls.{IsIdle, only_if, settles, expires, counted, ticks, discards, deeds_of}
-use Rattle.law_bearer.specs.AmBearer.Calls.{tells, ups_in}
+use Rattle.law_bearer.specs.AmBearer.Calls.{tells, ups_among}
 use Rattle.law_bearer.proofs.AmBearer.Keeping.{quiet_idle}
 use Rattle.law_bearer.proofs.AmBearer.Taking.{takes_as, takes_quiet, taking_ups}
 use Rattle.law_bearer.proofs.AmBearer.Timing.{expires_as, expires_quiet, expiry_none, tti_as, tti_quiet, tti_none}
@@ -56,7 +56,7 @@ calls_quiet b (Expire clock) g = (expires_quiet clock b, tt)
 calls_quiet b Tick g = tti_quiet b
 calls_quiet b (SetDiscard ttis) g = (tt, tt)
 
-pub none_up : (b : State) (c : Call) → IsCall c → ups_in (tells b c) ≡ []
+pub none_up : (b : State) (c : Call) → IsCall c → ups_among (tells b c) ≡ []
 unfolding expiry ticking
 none_up b (Submit sdu) g = refl
 none_up b (Take share held) g = taking_ups b share held

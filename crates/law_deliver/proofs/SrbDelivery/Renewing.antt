@@ -1,6 +1,6 @@
 -- A life of a signalling bearer ends, and both ends begin the next one.
 use Rattle.std.proofs.Common.{◌≡◌, ◌≤◌, ℕ, Bool, List, [], ◌∷◌, map, refl, ap, sym, subst, ◌∙◌}
-use Rattle.law_bearer.specs.AmBearer.Calls.{ups_in}
+use Rattle.law_bearer.specs.AmBearer.Calls.{ups_among}
 use Rattle.bearer_types.specs.declared.Event.TheVariants as events
 use Rattle.bearer_types.specs.declared.BearerConfig.{BearerConfig}
 use Rattle.l2_types.specs.declared.Kind.{Kind}
@@ -18,7 +18,7 @@ use Rattle.bearer.specs.declared.flow.Flow.TheVariants.{Am}
 use Rattle.bearer.specs.Lives.{stopped, stopping, restarted}
 use Rattle.law_bearer.specs.AnyBearer.Calls.{Restart, goes as bearer_goes}
 use Rattle.eps_sec.specs.declared.Keys.{Keys}
-use Rattle.law_deliver.specs.AmFlow.Pair.{Pair, Step, goes, outset}
+use Rattle.law_deliver.specs.AmFlow.Pair.{Pair, Step, goes, am_pair_outset}
 use Rattle.pdcp_pdu.specs.declared.PdcpKind.{PdcpKind}
 use Rattle.pdcp_pdu.specs.declared.PdcpKind.TheVariants.{Srb}
 use Rattle.pdcp_pdu.specs.Kinds.{is_am}
@@ -30,13 +30,13 @@ use Rattle.law_pdcp.specs.SrbPair.Beginning.{BeginAnew}
 use Rattle.law_pdcp.proofs.SrbPair.Beginning.{first_life, begins_anew}
 use Rattle.promises.specs.Events.{losses}
 use Rattle.law_deliver.specs.SrbDelivery.Life.{BothBegin, AreLived}
-use Rattle.law_deliver.specs.SrbDelivery.Lives.{renews, BeginsAnew, BothBeginAnew, AreBothEnds}
+use Rattle.law_deliver.specs.SrbDelivery.Lives.{renewed_bearer, BeginsAnew, BothBeginAnew, AreBothEnds}
 use Rattle.law_deliver.proofs.SrbDelivery.Joined.{Way}
 use Rattle.law_deliver.proofs.SrbDelivery.Laws.{BothWays, way, lived}
 
 -- ---- at an end
 
-drops_none : (lcid : ℕ) (sdus : List (List ℕ)) → ups_in (map (λ sdu. events.Drop lcid lost.Handover) sdus) ≡ []
+drops_none : (lcid : ℕ) (sdus : List (List ℕ)) → ups_among (map (λ sdu. events.Drop lcid lost.Handover) sdus) ≡ []
 drops_none lcid [] = refl
 drops_none lcid (sdu ∷ sdus) = drops_none lcid sdus
 
@@ -53,15 +53,16 @@ renewed_pdcp e keys k =
       rx = restarted_receiving e.rx keys;
     }) k
 
-pub renews_as : (b : State) (keys : Keys) → b.pdcp.kind ≡ Srb → bearer_goes (Am b) (Restart keys) ≡ Am (renews b keys)
+pub renews_as : (b : State) (keys : Keys) → b.pdcp.kind ≡ Srb
+    → bearer_goes (Am b) (Restart keys) ≡ Am (renewed_bearer b keys)
 unfolding stopped restarted am_stopped am_restarted
 renews_as b keys k =
     ap (λ (x : Ending). Am (with_new_rlc b.tx_config b.rx_config (restarted_pdcp x.pdcp keys))) (last_is b k)
     ∙ ap (λ (e : Ends). Am (with_new_rlc b.tx_config b.rx_config e)) (renewed_pdcp b.pdcp keys k)
 
-pub none_up_at_the_end : (b : State) → b.pdcp.kind ≡ Srb → ups_in (stopping (Am b)) ≡ []
+pub none_up_at_the_end : (b : State) → b.pdcp.kind ≡ Srb → ups_among (stopping (Am b)) ≡ []
 unfolding stopping am_stopping
-none_up_at_the_end b k = ap (λ (x : Ending). ups_in x.events) (last_is b k) ∙ drops_none b.pdcp.lcid (finished b.rx)
+none_up_at_the_end b k = ap (λ (x : Ending). ups_among x.events) (last_is b k) ∙ drops_none b.pdcp.lcid (finished b.rx)
 
 drops_lose_none : (lcid : ℕ) (sdus : List (List ℕ)) → losses (map (λ sdu. events.Drop lcid lost.Handover) sdus) ≡ []
 drops_lose_none lcid [] = refl
@@ -74,8 +75,8 @@ none_lost_at_the_end b k = ap (λ (x : Ending). losses x.events) (last_is b k)
 
 -- ---- at both ends
 
-anew : (b : State) (keys : Keys) → b.pdcp.kind ≡ Srb → (renews b keys).pdcp.tx.next ≡ 0
-    → (renews b keys).pdcp.rx.next ≡ 0 → BeginsAnew b keys
+anew : (b : State) (keys : Keys) → b.pdcp.kind ≡ Srb → (renewed_bearer b keys).pdcp.tx.next ≡ 0
+    → (renewed_bearer b keys).pdcp.rx.next ≡ 0 → BeginsAnew b keys
 anew b keys k s r = record {
   left = renews_as b keys k;
   none_up = none_up_at_the_end b k;
@@ -109,10 +110,12 @@ both_anew there back p ns fu fs nu keys h =
     }
 
 pub next_life : (near far : State) (steps : List Step) (keys : Keys) → BothBegin near far
-    → AreLived (outset near far) steps
-    → BothBeginAnew (goes steps (outset near far)).near.bearer (goes steps (outset near far)).far.bearer keys
+    → AreLived (am_pair_outset near far) steps
+    → BothBeginAnew (goes steps (am_pair_outset near far)).near.bearer
+    (goes steps (am_pair_outset near far)).far.bearer keys
 next_life near far steps keys h g =
-    both_anew (way near far) (way far near) (goes steps (outset near far)) _ _ _ _ keys (lived near far steps h g)
+    both_anew (way near far) (way far near) (goes steps (am_pair_outset near far)) _ _ _ _ keys
+    (lived near far steps h g)
 
 -- ---- the first life
 

@@ -22,7 +22,7 @@ use Rattle.law_bearer.specs.AnyBearer.Sending.{sends_on}
 use Rattle.law_bearer.specs.AnyBearer.Acknowledged.{offers_in, offered_to, has_more_behind, data_given, status_heard}
 use Rattle.law_bearer.specs.AnyBearer.Acknowledged.{sender_calls, IsOfSender, SenderGoes}
 use Rattle.law_bearer.proofs.AnyBearer.SenderCalls.{sends_then, sender_goes_on}
-use Rattle.law_deliver.specs.AmFlow.Pair.{Sent, BearerEnd, called, data_by, HasOctet, IsTaking, IsCalling}
+use Rattle.law_deliver.specs.AmFlow.Pair.{SentStatus, BearerEnd, called, data_by, HasOctet, IsTaking, IsCalling}
 use Rattle.law_deliver.proofs.AmFlow.Sending.{is_called, sent_one}
 use Rattle.law_deliver.proofs.AmFlow.Standing.{Stands}
 use Rattle.law_deliver.proofs.SrbDelivery.Going.{Goes, stays, calm_goes, goes_then, goes_as, not_busy}
@@ -38,7 +38,7 @@ offers_by b (SetDiscard ttis) = []
 
 -- ---- one call of the sender
 
-sends_one : (f : Flow) (c : SenderCall) (tx : Sender) (rx : Receiver) (cs : List Copy) (rs : List Sent) (b : Bool)
+sends_one : (f : Flow) (c : SenderCall) (tx : Sender) (rx : Receiver) (cs : List Copy) (rs : List SentStatus) (b : Bool)
     → IsSending f c → Stands tx rx cs rs b f
     → Goes f (sender_after tx c) rx (copies_with (given_by tx c) cs) rs (b || is_new (given_by tx c))
     (offers_with c []) []
@@ -47,12 +47,12 @@ sends_one f c tx rx cs rs b g h =
     (record { stays = refl; none = refl }) (sent_one f c tx rx cs rs b h)
 
 -- one that gives no PDU
-gives_none : (f : Flow) (tx : Sender) (rx : Receiver) (cs : List Copy) (rs : List Sent) (b : Bool)
+gives_none : (f : Flow) (tx : Sender) (rx : Receiver) (cs : List Copy) (rs : List SentStatus) (b : Bool)
     (sdus : List (List ℕ))
     → Goes f tx rx cs rs (b || false) sdus [] → Goes f tx rx cs rs b sdus []
 gives_none f tx rx cs rs b sdus h = subst (λ (x : Bool). Goes f tx rx cs rs x sdus []) (not_busy b) h
 
-own_one : (f : Flow) (c : SenderCall) (tx : Sender) (rx : Receiver) (cs : List Copy) (rs : List Sent) (b : Bool)
+own_one : (f : Flow) (c : SenderCall) (tx : Sender) (rx : Receiver) (cs : List Copy) (rs : List SentStatus) (b : Bool)
     → IsOfSender c → Stands tx rx cs rs b f → Goes f (sender_after tx c) rx cs rs b [] []
 own_one f (Offer sdu) tx rx cs rs b own h = absurd own
 own_one f (Taking size held more) tx rx cs rs b own h = absurd own
@@ -66,7 +66,8 @@ own_one f (Settle more) tx rx cs rs b own h =
 own_one f Confirm tx rx cs rs b own h =
     gives_none f (sender_after tx Confirm) rx cs rs b [] (sends_one f Confirm tx rx cs rs b tt h)
 
-own_all : (own : List SenderCall) (f : Flow) (tx : Sender) (rx : Receiver) (cs : List Copy) (rs : List Sent) (b : Bool)
+own_all : (own : List SenderCall) (f : Flow) (tx : Sender) (rx : Receiver) (cs : List Copy) (rs : List SentStatus)
+    (b : Bool)
     → AllByRecursion IsOfSender own → Stands tx rx cs rs b f → Goes f (sends_on own tx) rx cs rs b [] []
 own_all [] f tx rx cs rs b are h = stays f tx rx cs rs b h
 own_all (c ∷ own) f tx rx cs rs b are h =
@@ -75,14 +76,14 @@ own_all (c ∷ own) f tx rx cs rs b are h =
     (λ g k. own_all own g (sender_after tx c) rx cs rs b are.1 k)
 
 -- a call that brings nothing to the sender and takes nothing from there
-keeps_to_itself : (f : Flow) (tx ty : Sender) (rx : Receiver) (cs : List Copy) (rs : List Sent) (b : Bool)
+keeps_to_itself : (f : Flow) (tx ty : Sender) (rx : Receiver) (cs : List Copy) (rs : List SentStatus) (b : Bool)
     → SenderGoes tx ty [] → Stands tx rx cs rs b f → Goes f ty rx cs rs b [] []
 keeps_to_itself f tx ty rx cs rs b m h =
     subst (λ (t : Sender). Goes f t rx cs rs b [] []) (sym m.left) (own_all m.own f tx rx cs rs b m.are_own h)
 
 -- ---- a take
 
-offers_all : (sdus : List (List ℕ)) (f : Flow) (tx : Sender) (rx : Receiver) (cs : List Copy) (rs : List Sent)
+offers_all : (sdus : List (List ℕ)) (f : Flow) (tx : Sender) (rx : Receiver) (cs : List Copy) (rs : List SentStatus)
     (b : Bool)
     → AllByRecursion HasOctet sdus → Stands tx rx cs rs b f
     → Goes f (sends_on (map (λ sdu. Offer sdu) sdus) tx) rx cs rs b sdus []
@@ -94,7 +95,7 @@ offers_all (sdu ∷ sdus) f tx rx cs rs b some h =
     (gives_none f (sender_after tx c) rx cs rs b (sdu ∷ []) (sends_one f c tx rx cs rs b some.0 h))
     (λ g k. offers_all sdus g (sender_after tx c) rx cs rs b some.1 k)
 
-takes_one : (e : BearerEnd) (share : ℕ) (held : Option ℕ) (f : Flow) (rx : Receiver) (rs : List Sent)
+takes_one : (e : BearerEnd) (share : ℕ) (held : Option ℕ) (f : Flow) (rx : Receiver) (rs : List SentStatus)
     → IsTaking e share held → Stands (offered_to e.bearer share held) rx e.copies rs e.busy f
     → Goes f (after_take (offered_to e.bearer share held) (data_size e.bearer share) held
     (has_more_behind e.bearer share held)) rx (copies_with (data_given e.bearer share held) e.copies) rs
@@ -110,7 +111,7 @@ takes_one e share held f rx rs t h =
       one = λ q. ap (λ (x : Sender). is_new (answer x size held more)) h.sender_is ∙ t.one (sym h.busy_is ∙ q);
     }) h
 
-takes_all : (e : BearerEnd) (share : ℕ) (held : Option ℕ) (f : Flow) (rx : Receiver) (rs : List Sent)
+takes_all : (e : BearerEnd) (share : ℕ) (held : Option ℕ) (f : Flow) (rx : Receiver) (rs : List SentStatus)
     → IsTaking e share held
     → SenderGoes e.bearer.tx (called e.bearer (Take share held)).tx (sender_calls e.bearer (Take share held))
     → Stands e.bearer.tx rx e.copies rs e.busy f
@@ -139,7 +140,7 @@ takes_all e share held f rx rs t m h =
 
 -- ---- any call
 
-quiet : (e : BearerEnd) (d : State) (f : Flow) (rx : Receiver) (rs : List Sent) → SenderGoes e.bearer.tx d.tx []
+quiet : (e : BearerEnd) (d : State) (f : Flow) (rx : Receiver) (rs : List SentStatus) → SenderGoes e.bearer.tx d.tx []
     → Stands e.bearer.tx rx e.copies rs e.busy f → Goes f d.tx rx e.copies rs (e.busy || false) [] []
 quiet e d f rx rs m h =
     subst (λ (x : Bool). Goes f d.tx rx e.copies rs x [] []) (sym (not_busy e.busy))
@@ -148,7 +149,7 @@ quiet e d f rx rs m h =
 called_so : (b : State) (c : Call) → SenderGoes b.tx (called b c).tx (sender_calls b c)
 called_so b c = sender_goes_on b (called b c) c (is_called b c)
 
-pub calls_send : (e : BearerEnd) (c : Call) (f : Flow) (rx : Receiver) (rs : List Sent) → IsCalling e c
+pub calls_send : (e : BearerEnd) (c : Call) (f : Flow) (rx : Receiver) (rs : List SentStatus) → IsCalling e c
     → Stands e.bearer.tx rx e.copies rs e.busy f
     → Goes f (called e.bearer c).tx rx (copies_with (data_by e.bearer c) e.copies) rs
     (e.busy || is_new (data_by e.bearer c)) (offers_by e.bearer c) []
@@ -165,7 +166,7 @@ calls_send e (SetDiscard ttis) f rx rs g h =
 -- ---- a PDU comes
 
 -- a data PDU is nothing to the sender
-pub data_sends : (e : BearerEnd) (octets : List ℕ) (f : Flow) (rx : Receiver) (rs : List Sent)
+pub data_sends : (e : BearerEnd) (octets : List ℕ) (f : Flow) (rx : Receiver) (rs : List SentStatus)
     → status_heard (am_at octets) ≡ [] → Stands e.bearer.tx rx e.copies rs e.busy f
     → Goes f (called e.bearer (Arrive octets)).tx rx e.copies rs e.busy [] []
 data_sends e octets f rx rs q h =
@@ -175,7 +176,7 @@ data_sends e octets f rx rs q h =
     (sender_goes_on e.bearer d (Arrive octets) (is_called e.bearer (Arrive octets)))) h
 
 status_at : (f : Flow) (k : ℕ) (r : Report) (pdu : StatusPdu) (tx : Sender) (rx : Receiver) (cs : List Copy)
-    (rs : List Sent) (b : Bool)
+    (rs : List SentStatus) (b : Bool)
     → slice_get f.reports k ≡ Some r → am_at r.octets ≡ Ok (Control pdu) → Stands tx rx cs rs b f
     → Goes f (sender_after tx (Status pdu)) rx cs rs b [] []
 status_at f k r pdu tx rx cs rs b q read h =
@@ -194,7 +195,8 @@ status_at f k r pdu tx rx cs rs b q read h =
     (status_read f o)) (sym read) on))
 
 -- a STATUS that stands at a place comes
-pub status_sends : (e : BearerEnd) (f : Flow) (k : ℕ) (r : Report) (pdu : StatusPdu) (rx : Receiver) (rs : List Sent)
+pub status_sends : (e : BearerEnd) (f : Flow) (k : ℕ) (r : Report) (pdu : StatusPdu) (rx : Receiver)
+    (rs : List SentStatus)
     → slice_get f.reports k ≡ Some r → am_at r.octets ≡ Ok (Control pdu) → Stands e.bearer.tx rx e.copies rs e.busy f
     → Goes f (called e.bearer (Arrive r.octets)).tx rx e.copies rs e.busy [] []
 status_sends e f k r pdu rx rs q read h =

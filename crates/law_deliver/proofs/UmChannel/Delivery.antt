@@ -27,8 +27,9 @@ use Rattle.law_words.specs.Lists.{IsSubsequence}
 use Rattle.law_deliver.specs.UmDelivery.Delivery.{AreBothEnds}
 use Rattle.law_deliver.specs.UmDelivery.Lives.{ended, last, all_ups, all_taken, all_submitted}
 use Rattle.law_deliver.proofs.UmDelivery.Laws.{delivers_what_came, delivers_in_order}
-use Rattle.law_rlc.specs.UmPair.Which.{those}
-use Rattle.law_deliver.specs.UmChannel.Delivery.{BeginAlike, direction_from, AreShortFrom, places_from, IsWhatCame}
+use Rattle.law_words.specs.Lists.{those}
+use Rattle.law_deliver.specs.UmChannel.Delivery.{UmEndsBeginAlike, direction_from, AreShortFrom, places_from}
+use Rattle.law_deliver.specs.UmChannel.Delivery.{IsWhatCameOnChannel}
 use Rattle.law_deliver.specs.UmChannel.Delivery.{ChannelsDeliverWhatCame, ChannelsDeliverInOrder}
 use Rattle.law_deliver.specs.UmChannel.Pairs.{Walk, walk}
 use Rattle.law_deliver.proofs.UmChannel.Bearers.{own, steps_through, there_ups, back_ups, there_news, back_news}
@@ -39,7 +40,7 @@ first_is : (c : BearerConfig) (keys : Keys) (side : Side) → c.kind ≡ kinds.U
     → flow_of c.kind c keys side ≡ Um (fresh c keys side)
 first_is c keys side k = ap (λ (x : Kind). flow_of x c keys side) k
 
-module _ (l : ℕ) (c : BearerConfig) (keys : Keys) (nb ue : End) (h : BeginAlike l c keys nb ue) where
+module _ (l : ℕ) (c : BearerConfig) (keys : Keys) (nb ue : End) (h : UmEndsBeginAlike l c keys nb ue) where
   abbrev near : State
   near = fresh c keys Nb
 
@@ -131,7 +132,7 @@ module _ (l : ℕ) (c : BearerConfig) (keys : Keys) (nb ue : End) (h : BeginAlik
     submits_are Ue = back_submits w.lives near far w.steps ∙ submits_is Ue
 
     what_came : (from : Side) → AreShortFrom from l c keys xs (outset nb ue)
-        → IsWhatCame l c keys from xs (outset nb ue)
+        → IsWhatCameOnChannel l c keys from xs (outset nb ue)
     what_came from short =
         let came = delivers_what_came c keys near far w.lives w.steps (direction_from from) both_ends walks.living
         short in

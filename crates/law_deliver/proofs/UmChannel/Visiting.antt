@@ -1,6 +1,6 @@
 -- An end visits a process, and its unacknowledged bearer of a channel writes into a new block.
-use Rattle.std.proofs.Common.{◌≡◌, ◌≤◌, ◌<◌, ℕ, ◌-◌, ◌%◌, ◌&&◌, Bool, true, false, ◌||◌, if◌then◌else◌, List, [], ◌∷◌}
-use Rattle.std.proofs.Common.{◌++◌, length, map, take, get_or, get_or-set_same, Option, None, refl, ap, sym, subst, ◌∙◌}
+use Rattle.std.proofs.Common.{◌≡◌, ◌≤◌, ℕ, ◌-◌, ◌%◌, Bool, true, false, ◌||◌, if◌then◌else◌, List, [], ◌∷◌}
+use Rattle.std.proofs.Common.{◌++◌, length, map, take, Option, refl, ap, sym, subst, ◌∙◌}
 use Rattle.std.proofs.Common.{arith}
 use Rattle.std.specs.List.{AllByRecursion}
 use Rattle.law_rlc.specs.AmPair.Flow.{Copy, copies_with}
@@ -15,33 +15,33 @@ use Rattle.law_bearer.specs.AnyBearer.Stream.{offers_of, takes, pdu_of}
 use Rattle.bearer_pdcp.specs.Telling.{number_of}
 use Rattle.harq.specs.declared.sender.Visit.{Visit}
 use Rattle.harq.specs.declared.sender.Visit.TheVariants.{New, Resend, Silent}
-use Rattle.harq.specs.Sending.{held_of, after_visit, after_feedback}
-use Rattle.l2_node.specs.Building.{visited, loaded, built_by, built, visit}
+use Rattle.harq.specs.Sending.{after_visit, after_feedback}
+use Rattle.l2_node.specs.Building.{visited, built_by, built, visit}
 use Rattle.l2_node.specs.End.{End}
 use Rattle.bearer_types.specs.Sides.{sent_by}
-use Rattle.l2_node.specs.Finding.{find, has, bearer_at}
-use Rattle.l2_node.specs.Writing.{written, new_block}
+use Rattle.l2_node.specs.Finding.{find, bearer_at}
 use Rattle.l2_types.specs.declared.side.Side.{Side}
 use Rattle.law_node.specs.Calls.{Turn, Visits, IsGiven as IsGivenCall, answered, reached}
 use Rattle.law_node.specs.Holding.{flow, given_by}
 use Rattle.law_node.proofs.Holders.{visit_fewer, feedback_fewer}
 use Rattle.law_node.proofs.Keeping.{at_is, reached_are}
-use Rattle.law_node.proofs.Noting.{row_is}
 use Rattle.law_node.proofs.Ready.{WritesWell, ready_kept}
 use Rattle.law_node.proofs.Sound.{visited_sound}
 use Rattle.pdcp_tx.specs.State.{offers}
 use Rattle.prioritise.specs.Channels.{has as has_channel}
 use Rattle.law_deliver.specs.AmFlow.Air.{Block, Station, built_at, is_new as is_new_visit, calls as station_calls}
-use Rattle.law_deliver.specs.AmFlow.Air.{HasCome, IsHeld, IsBuilding, IsVisiting}
-use Rattle.law_deliver.specs.AmFlow.Channels.{only, share_of, held_of as told_held, takes_of, calls_of, written_by}
+use Rattle.law_deliver.specs.AmFlow.Air.{HasCome, IsBuilding, IsVisiting}
+use Rattle.law_deliver.specs.AmFlow.Channels.{only, takes_of, calls_of, written_by}
 use Rattle.law_deliver.proofs.AmFlow.Channels.{turn_by}
-use Rattle.law_deliver.proofs.AmFlow.Loads.{Load, blocks_in, noted_of, IsLoad, lowest_all, IsHeldBy, held_by}
+use Rattle.law_deliver.proofs.AmFlow.Loads.{Load, lowest_all}
 use Rattle.law_deliver.proofs.AmFlow.Octets.{offers_all, take_all, pdus_all}
 use Rattle.law_deliver.proofs.AmFlow.Places.{GoesBy}
 use Rattle.law_deliver.proofs.AmFlow.Runs.{octets_of}
 use Rattle.law_deliver.proofs.AmFlow.Stations.{come_sound, come_more, fewer_keep}
-use Rattle.law_deliver.proofs.AmFlow.Visiting.{copies_split, octets_given, noted_given, carries_so, rows_so, new_empty}
-use Rattle.law_deliver.proofs.AmFlow.Visiting.{others_keep}
+use Rattle.law_deliver.proofs.AmFlow.Visiting.{copies_split, octets_given, noted_given, carries_so, built_end}
+use Rattle.law_deliver.proofs.AmFlow.Visiting.{built_station, part, low, block_of, fewer, blocks_held, old_loads}
+use Rattle.law_deliver.proofs.AmFlow.Visiting.{row_so}
+use Rattle.law_deliver.proofs.AmFlow.Visiting.{number_so}
 use Rattle.law_deliver.specs.UmFlow.Pair.{BearerEnd, Calls, HasOctet, IsTaking}
 use Rattle.law_deliver.proofs.UmFlow.Sending.{is_called}
 use Rattle.law_deliver.proofs.UmChannel.Stations.{Matches, Acts}
@@ -70,124 +70,78 @@ some_octets side e h l b share held q =
 
 -- the bearer of the channel writes, where the channel is one of the end's
 module _ (side : Side) (l : ℕ) (s : Station) (n m : BearerEnd) (t : Turn) where
-  abbrev built_end : End
-  built_end = answered New t (built_by New t.tti t.grant (visited t.tti t.order s.end))
-
-  abbrev built_station : Station
-  built_station = record {
-    end = answered New t (built_by New t.tti t.grant (visited t.tti t.order s.end));
-    blocks = built_at New t (visited t.tti t.order s.end) ++ s.blocks;
-    busy = s.busy || true;
-  }
-
-  abbrev at : ℕ
-  at = t.tti % 8
-
-  abbrev part : ℕ
-  part = share_of (visited t.tti t.order s.end) t.grant l
-
-  abbrev low : Option ℕ
-  low = told_held (visited t.tti t.order s.end) l
-
-  abbrev new_of : Block
-  new_of = record { process = t.tti % 8; octets = new_block (visited t.tti t.order s.end) t.grant; age = 0 }
-
-  fewer : (p : ℕ) → held_of s.end.sender p ≡ None → held_of (visited t.tti t.order s.end).sender p ≡ None
-  unfolding visited
-  fewer p e = visit_fewer s.end.sender t.tti t.order p e
-
-  pub blocks_held : visit t.tti t.order s.end ≡ New → IsBuilding s t → (h : Matches side l s n)
-      → AllByRecursion (IsHeldBy (t.tti % 8) (visited t.tti t.order s.end).sender) (blocks_in h.loads)
-  blocks_held v b h =
-      held_by (t.tti % 8) (visited t.tti t.order s.end).sender (blocks_in h.loads) (new_empty t.tti t.order s.end v)
-      (subst (λ (bs : List Block). AllByRecursion (IsHeld (visited t.tti t.order s.end).sender) bs) (sym h.blocks_are)
-      b.held)
-
-  is_taking : visit t.tti t.order s.end ≡ New → Matches side l s n → IsBuilding s t → IsTaking n part low
+  is_taking : visit t.tti t.order s.end ≡ New → Matches side l s n → IsBuilding s t
+      → IsTaking n (part l s t) (low l s t)
   unfolding visited
   is_taking v h b = record {
-    some = some_octets side s.end h.come l n.bearer part low h.bearer_is;
-    lowest = subst (λ (cs : List Copy). AllByRecursion (IsAtLeastHeld low) cs) (sym h.copies_are)
-        (lowest_all l at (sent_by side) s.end.sender (visited t.tti t.order s.end).sender s.end.numbers h.loads fewer
-        (blocks_held v b h) h.are);
+    some = some_octets side s.end h.come l n.bearer (part l s t) (low l s t) h.bearer_is;
+    lowest = subst (λ (cs : List Copy). AllByRecursion (IsAtLeastHeld (low l s t)) cs) (sym h.copies_are)
+        (lowest_all l (t.tti % 8) (sent_by side) s.end.sender (visited t.tti t.order s.end).sender s.end.numbers h.loads
+        (fewer s t)
+        (blocks_held s t h.loads v b h.blocks_are) h.are);
   }
 
-  old_loads : visit t.tti t.order s.end ≡ New → (h : Matches side l s n) → IsBuilding s t
-      → AllByRecursion (IsLoad l (sent_by side) built_end.sender built_end.numbers) h.loads
-  unfolding visited loaded
-  old_loads v h b =
-      others_keep l at (sent_by side) s.end.sender built_end.sender (visited t.tti t.order s.end).sender s.end.numbers
-      (written (visited t.tti t.order s.end) t.grant).block.numbers h.loads fewer (blocks_held v b h) h.are
-
-  row_so : (h : Matches side l s n) → noted_of built_end.numbers l at ≡ given_by (visited t.tti t.order s.end) t.grant l
-  unfolding loaded
-  row_so h =
-      let rows = rows_so side s.end h.come t.tti t.order in
-      let row = (written (visited t.tti t.order s.end) t.grant).block.numbers in
-      let lt : at < length (visited t.tti t.order s.end).numbers = omega (arith, rows) in
-      ap (λ (r : List (Option ℕ)). get_or r l None) (get_or-set_same (visited t.tti t.order s.end).numbers at row [] lt)
-      ∙ row_is (visited t.tti t.order s.end) t.grant l
-      (visited_sound t.tti t.order s.end (come_sound side s.end h.come))
-
   given_so : (h : Matches side l s n) → has_channel l (visited t.tti t.order s.end).buckets.channels ≡ true
-      → given_by (visited t.tti t.order s.end) t.grant l ≡ number_of (answer n.bearer part low)
+      → given_by (visited t.tti t.order s.end) t.grant l ≡ number_of (answer n.bearer (part l s t) (low l s t))
   unfolding visited number
   given_so h q =
-      ap (λ (b : Bool). if b && has l s.end.bearers then number (flow l s.end) part low else None) q
-      ∙ ap (λ (b : Bool). if b then number (flow l s.end) part low else None) h.there
-      ∙ ap (λ (f : Flow). number f part low) h.bearer_is
+      number_so l s t h.there q
+      ∙ ap (λ (f : Flow). number f (part l s t) (low l s t)) h.bearer_is
 
   pub written_so : (h : Matches side l s n) → has_channel l (visited t.tti t.order s.end).buckets.channels ≡ true
-      → written_by (visited t.tti t.order s.end) t.grant l ≡ octets_of (copies_with (answer n.bearer part low) [])
+      → written_by (visited t.tti t.order s.end) t.grant l
+      ≡ octets_of (copies_with (answer n.bearer (part l s t) (low l s t)) [])
   unfolding visited pdus
   written_so h q =
-      ap (λ (b : Bool). if b then pdus (flow l s.end) part low else []) q
-      ∙ ap (λ (f : Flow). pdus f part low) h.bearer_is
-      ∙ octets_given (answer n.bearer part low)
+      ap (λ (b : Bool). if b then pdus (flow l s.end) (part l s t) (low l s t) else []) q
+      ∙ ap (λ (f : Flow). pdus f (part l s t) (low l s t)) h.bearer_is
+      ∙ octets_given (answer n.bearer (part l s t) (low l s t))
 
   builds_by : (here : Bool) → visit t.tti t.order s.end ≡ New
       → has_channel l (visited t.tti t.order s.end).buckets.channels ≡ here → Matches side l s n
-      → HasCome side built_end → IsBuilding s t → t.grant ≤ 9422
-      → Acts side l built_station m n (map (λ c. Calls c) (only here (Takes part low))) (only here (Takes part low))
+      → HasCome side (built_end s t) → IsBuilding s t → t.grant ≤ 9422
+      → Acts side l (built_station s t) m n (map (λ c. Calls c) (only here (Takes (part l s t) (low l s t))))
+      (only here (Takes (part l s t) (low l s t)))
   unfolding visited
   builds_by true v q h come b most =
-      let by : GoesBy l s.end.bearers built_end.bearers (Takes part low ∷ []) =
-      subst (λ (x : Bool). GoesBy l s.end.bearers built_end.bearers (only x (Takes part low))) q
+      let by : GoesBy l s.end.bearers (built_end s t).bearers (Takes (part l s t) (low l s t) ∷ []) =
+      subst (λ (x : Bool). GoesBy l s.end.bearers (built_end s t).bearers (only x (Takes (part l s t) (low l s t)))) q
       (turn_by New t (visited t.tti t.order s.end) l
       (visited_sound t.tti t.order s.end (come_sound side s.end h.come))) in
-      let data' = answer n.bearer part low in
-      let load : Load = record { block = new_of; copies = copies_with data' []; reports = [] } in
+      let data' = answer n.bearer (part l s t) (low l s t) in
+      let load : Load = record { block = block_of s t; copies = copies_with data' []; reports = [] } in
       record {
         done = (is_taking v h b, tt);
         calls_are = refl;
         matches = record {
           come = come;
           there = by.has_is ∙ h.there;
-          bearer_is = by.goes h.there ∙ ap (λ (f : Flow). after_all f (Takes part low ∷ [])) h.bearer_is
-              ∙ is_called n.bearer (Takes part low);
+          bearer_is = by.goes h.there ∙ ap (λ (f : Flow). after_all f (Takes (part l s t) (low l s t) ∷ [])) h.bearer_is
+              ∙ is_called n.bearer (Takes (part l s t) (low l s t));
           loads = load ∷ h.loads;
           bare = (refl, h.bare);
-          blocks_are = ap (λ (bs : List Block). new_of ∷ bs) h.blocks_are;
+          blocks_are = ap (λ (bs : List Block). block_of s t ∷ bs) h.blocks_are;
           copies_are = copies_split data' n.copies ∙ ap (λ (cs : List Copy). copies_with data' [] ++ cs) h.copies_are;
           are = (
             record {
               carries = carries_so side s.end h.come t.tti t.order t.grant l b.some most h.there ∙ written_so h q;
               process = omega arith;
               aged = tt;
-              noted = λ held. noted_given built_end.numbers l at data' (row_so h ∙ given_so h q);
+              noted = λ held. noted_given (built_end s t).numbers l (t.tti % 8) data' (row_so side l s t h.come
+                  ∙ given_so h q);
             },
-            old_loads v h b,
+            old_loads l (sent_by side) s t h.loads v b h.blocks_are h.are,
           );
         };
       }
   builds_by false v q h come b most =
-      let by : GoesBy l s.end.bearers built_end.bearers [] =
-      subst (λ (x : Bool). GoesBy l s.end.bearers built_end.bearers (only x (Takes part low))) q
+      let by : GoesBy l s.end.bearers (built_end s t).bearers [] =
+      subst (λ (x : Bool). GoesBy l s.end.bearers (built_end s t).bearers (only x (Takes (part l s t) (low l s t)))) q
       (turn_by New t (visited t.tti t.order s.end) l
       (visited_sound t.tti t.order s.end (come_sound side s.end h.come))) in
-      let load : Load = record { block = new_of; copies = []; reports = [] } in
+      let load : Load = record { block = block_of s t; copies = []; reports = [] } in
       let none : written_by (visited t.tti t.order s.end) t.grant l ≡ [] =
-      ap (λ (x : Bool). if x then pdus (flow l s.end) part low else []) q in
+      ap (λ (x : Bool). if x then pdus (flow l s.end) (part l s t) (low l s t) else []) q in
       record {
         done = tt;
         calls_are = refl;
@@ -197,7 +151,7 @@ module _ (side : Side) (l : ℕ) (s : Station) (n m : BearerEnd) (t : Turn) wher
           bearer_is = by.goes h.there ∙ h.bearer_is;
           loads = load ∷ h.loads;
           bare = (refl, h.bare);
-          blocks_are = ap (λ (bs : List Block). new_of ∷ bs) h.blocks_are;
+          blocks_are = ap (λ (bs : List Block). block_of s t ∷ bs) h.blocks_are;
           copies_are = h.copies_are;
           are = (
             record {
@@ -206,7 +160,7 @@ module _ (side : Side) (l : ℕ) (s : Station) (n m : BearerEnd) (t : Turn) wher
               aged = tt;
               noted = λ held. tt;
             },
-            old_loads v h b,
+            old_loads l (sent_by side) s t h.loads v b h.blocks_are h.are,
           );
         };
       }

@@ -27,7 +27,7 @@ use Rattle.law_deliver.proofs.AmFlow.Lives.{moved_flow, moved_bearers, moved_has
 use Rattle.law_deliver.proofs.AmFlow.Stations.{come_more}
 use Rattle.law_deliver.specs.UmDelivery.Lives.{Life, IsLiving, AreLiving, AreAccepted, next_near, next_far}
 use Rattle.law_deliver.specs.UmFlow.Calls.{near_calls, far_calls}
-use Rattle.law_deliver.specs.UmFlow.Pair.{BearerEnd, Pair, Step as PairStep, goes, outset as pair_outset}
+use Rattle.law_deliver.specs.UmFlow.Pair.{BearerEnd, Pair, Step as PairStep, goes, um_pair_outset}
 use Rattle.law_deliver.specs.UmFlow.Pair.{begins as pair_begins}
 use Rattle.law_deliver.proofs.UmFlow.Calls.{near_then, far_then}
 use Rattle.law_deliver.specs.UmChannel.Pairs.{deeds_in, steps_in, walk}
@@ -39,18 +39,18 @@ use Rattle.law_deliver.proofs.UmChannel.Stations.{Matches, Acts, passes}
 
 -- where a life stands: the bearers as it began, and the steps so far
 pub record Stands (l : ℕ) (a : Air) (near far : State) (so_far : List PairStep) : Type 0 where
-  pub nb : Matches Nb l a.nb (goes so_far (pair_outset near far)).near
-  pub ue : Matches Ue l a.ue (goes so_far (pair_outset near far)).far
+  pub nb : Matches Nb l a.nb (goes so_far (um_pair_outset near far)).near
+  pub ue : Matches Ue l a.ue (goes so_far (um_pair_outset near far)).far
   pub living : IsLiving near far so_far
 
 -- ---- more steps of a life
 
 pub record Grows (l : ℕ) (a : Air) (s : Step) (near far : State) (so_far : List PairStep) : Type 0 where
   pub stands : Stands l (happens a s) near far (so_far ++ steps_in l a s)
-  pub nb_calls : as_steps (near_calls (pair_outset near far) (so_far ++ steps_in l a s))
-      ≡ as_steps (near_calls (pair_outset near far) so_far) ++ steps_over l (calls_at Nb a (InLife s)) a.nb.end
-  pub ue_calls : as_steps (far_calls (pair_outset near far) (so_far ++ steps_in l a s))
-      ≡ as_steps (far_calls (pair_outset near far) so_far) ++ steps_over l (calls_at Ue a (InLife s)) a.ue.end
+  pub nb_calls : as_steps (near_calls (um_pair_outset near far) (so_far ++ steps_in l a s))
+      ≡ as_steps (near_calls (um_pair_outset near far) so_far) ++ steps_over l (calls_at Nb a (InLife s)) a.nb.end
+  pub ue_calls : as_steps (far_calls (um_pair_outset near far) (so_far ++ steps_in l a s))
+      ≡ as_steps (far_calls (um_pair_outset near far) so_far) ++ steps_over l (calls_at Ue a (InLife s)) a.ue.end
 
 both_calls : (xs ys zs : List BearerCall) (more : List BearerStep) → zs ≡ xs ++ ys → as_steps ys ≡ more
     → as_steps zs ≡ as_steps xs ++ more
@@ -59,7 +59,7 @@ both_calls xs ys zs more q r = ap as_steps q ∙ map-append (λ (c : BearerCall)
 
 module _ (l : ℕ) (a : Air) (near far : State) (so_far : List PairStep) (h : Stands l a near far so_far) where
   abbrev now : Pair
-  now = goes so_far (pair_outset near far)
+  now = goes so_far (um_pair_outset near far)
 
   grows_nb : (x : Act) → IsDone l a.nb x → Grows l a (AtNb x) near far so_far
   grows_nb x g =
@@ -67,35 +67,37 @@ module _ (l : ℕ) (a : Air) (near far : State) (so_far : List PairStep) (h : St
       let cs = act_calls l a.ue a.nb x in
       let r : Acts Nb l (does a.ue a.nb x) now.far now.near ds cs =
       acts Nb Ue l a.nb a.ue now.near now.far x refl h.nb h.ue g in
-      let there : goes (so_far ++ near_steps ds) (pair_outset near far)
+      let there : goes (so_far ++ near_steps ds) (um_pair_outset near far)
       ≡ record { near = does_all now.far now.near ds; far = now.far } =
-      goes_more (pair_outset near far) so_far (near_steps ds) ∙ near_goes now ds in
-      let own : near_calls (pair_outset near far) (so_far ++ near_steps ds)
-      ≡ near_calls (pair_outset near far) so_far ++ cs =
-      near_then so_far (near_steps ds) (pair_outset near far)
-      ∙ ap (λ (more : List BearerCall). near_calls (pair_outset near far) so_far ++ more)
+      goes_more (um_pair_outset near far) so_far (near_steps ds) ∙ near_goes now ds in
+      let own : near_calls (um_pair_outset near far) (so_far ++ near_steps ds)
+      ≡ near_calls (um_pair_outset near far) so_far ++ cs =
+      near_then so_far (near_steps ds) (um_pair_outset near far)
+      ∙ ap (λ (more : List BearerCall). near_calls (um_pair_outset near far) so_far ++ more)
       (near_own now ds ∙ r.calls_are) in
-      let other : far_calls (pair_outset near far) (so_far ++ near_steps ds)
-      ≡ far_calls (pair_outset near far) so_far ++ [] =
-      far_then so_far (near_steps ds) (pair_outset near far)
-      ∙ ap (λ (more : List BearerCall). far_calls (pair_outset near far) so_far ++ more) (far_none now ds) in
+      let other : far_calls (um_pair_outset near far) (so_far ++ near_steps ds)
+      ≡ far_calls (um_pair_outset near far) so_far ++ [] =
+      far_then so_far (near_steps ds) (um_pair_outset near far)
+      ∙ ap (λ (more : List BearerCall). far_calls (um_pair_outset near far) so_far ++ more) (far_none now ds) in
       record {
         stands = record {
           nb = subst (λ (q : Pair). Matches Nb l (does a.ue a.nb x) q.near) (sym there) r.matches;
           ue = subst (λ (q : Pair). Matches Ue l a.ue q.far) (sym there) h.ue;
           living = record {
-            given = given_more (pair_outset near far) so_far (near_steps ds) h.living.given (near_given now ds r.done);
+            given =
+                given_more (um_pair_outset near far) so_far (near_steps ds) h.living.given (near_given now ds r.done);
             near_accepts = subst (AreAccepted near) (sym own)
-                (accepted_then near (near_calls (pair_outset near far) so_far) cs h.living.near_accepts
+                (accepted_then near (near_calls (um_pair_outset near far) so_far) cs h.living.near_accepts
                 (subst (λ (b : State). AreAccepted b cs) (sym (near_end near far so_far))
                 (act_accepted l a.ue a.nb x now.near.bearer h.nb.bearer_is)));
             far_accepts =
-                subst (AreAccepted far) (sym (other ∙ append-nil (far_calls (pair_outset near far) so_far)))
+                subst (AreAccepted far) (sym (other ∙ append-nil (far_calls (um_pair_outset near far) so_far)))
                 h.living.far_accepts;
           };
         };
-        nb_calls = both_calls (near_calls (pair_outset near far) so_far) cs _ _ own (sym (act_steps l a.ue a.nb x g));
-        ue_calls = both_calls (far_calls (pair_outset near far) so_far) [] _ _ other refl;
+        nb_calls =
+            both_calls (near_calls (um_pair_outset near far) so_far) cs _ _ own (sym (act_steps l a.ue a.nb x g));
+        ue_calls = both_calls (far_calls (um_pair_outset near far) so_far) [] _ _ other refl;
       }
 
   grows_ue : (x : Act) → IsDone l a.ue x → Grows l a (AtUe x) near far so_far
@@ -104,35 +106,35 @@ module _ (l : ℕ) (a : Air) (near far : State) (so_far : List PairStep) (h : St
       let cs = act_calls l a.nb a.ue x in
       let r : Acts Ue l (does a.nb a.ue x) now.near now.far ds cs =
       acts Ue Nb l a.ue a.nb now.far now.near x refl h.ue h.nb g in
-      let there : goes (so_far ++ far_steps ds) (pair_outset near far)
+      let there : goes (so_far ++ far_steps ds) (um_pair_outset near far)
       ≡ record { near = now.near; far = does_all now.near now.far ds } =
-      goes_more (pair_outset near far) so_far (far_steps ds) ∙ far_goes now ds in
-      let own : far_calls (pair_outset near far) (so_far ++ far_steps ds)
-      ≡ far_calls (pair_outset near far) so_far ++ cs =
-      far_then so_far (far_steps ds) (pair_outset near far)
-      ∙ ap (λ (more : List BearerCall). far_calls (pair_outset near far) so_far ++ more)
+      goes_more (um_pair_outset near far) so_far (far_steps ds) ∙ far_goes now ds in
+      let own : far_calls (um_pair_outset near far) (so_far ++ far_steps ds)
+      ≡ far_calls (um_pair_outset near far) so_far ++ cs =
+      far_then so_far (far_steps ds) (um_pair_outset near far)
+      ∙ ap (λ (more : List BearerCall). far_calls (um_pair_outset near far) so_far ++ more)
       (far_own now ds ∙ r.calls_are) in
-      let other : near_calls (pair_outset near far) (so_far ++ far_steps ds)
-      ≡ near_calls (pair_outset near far) so_far ++ [] =
-      near_then so_far (far_steps ds) (pair_outset near far)
-      ∙ ap (λ (more : List BearerCall). near_calls (pair_outset near far) so_far ++ more) (near_none now ds) in
+      let other : near_calls (um_pair_outset near far) (so_far ++ far_steps ds)
+      ≡ near_calls (um_pair_outset near far) so_far ++ [] =
+      near_then so_far (far_steps ds) (um_pair_outset near far)
+      ∙ ap (λ (more : List BearerCall). near_calls (um_pair_outset near far) so_far ++ more) (near_none now ds) in
       record {
         stands = record {
           nb = subst (λ (q : Pair). Matches Nb l a.nb q.near) (sym there) h.nb;
           ue = subst (λ (q : Pair). Matches Ue l (does a.nb a.ue x) q.far) (sym there) r.matches;
           living = record {
-            given = given_more (pair_outset near far) so_far (far_steps ds) h.living.given (far_given now ds r.done);
+            given = given_more (um_pair_outset near far) so_far (far_steps ds) h.living.given (far_given now ds r.done);
             near_accepts =
-                subst (AreAccepted near) (sym (other ∙ append-nil (near_calls (pair_outset near far) so_far)))
+                subst (AreAccepted near) (sym (other ∙ append-nil (near_calls (um_pair_outset near far) so_far)))
                 h.living.near_accepts;
             far_accepts = subst (AreAccepted far) (sym own)
-                (accepted_then far (far_calls (pair_outset near far) so_far) cs h.living.far_accepts
+                (accepted_then far (far_calls (um_pair_outset near far) so_far) cs h.living.far_accepts
                 (subst (λ (b : State). AreAccepted b cs) (sym (far_end near far so_far))
                 (act_accepted l a.nb a.ue x now.far.bearer h.ue.bearer_is)));
           };
         };
-        nb_calls = both_calls (near_calls (pair_outset near far) so_far) [] _ _ other refl;
-        ue_calls = both_calls (far_calls (pair_outset near far) so_far) cs _ _ own (sym (act_steps l a.nb a.ue x g));
+        nb_calls = both_calls (near_calls (um_pair_outset near far) so_far) [] _ _ other refl;
+        ue_calls = both_calls (far_calls (um_pair_outset near far) so_far) cs _ _ own (sym (act_steps l a.nb a.ue x g));
       }
 
   grows_passes : Grows l a Passes near far so_far
@@ -141,10 +143,10 @@ module _ (l : ℕ) (a : Air) (near far : State) (so_far : List PairStep) (h : St
       record {
         stands = subst (Stands l (happens a Passes) near far) (sym same)
             (record { nb = passes Nb l a.nb now.near h.nb; ue = passes Ue l a.ue now.far h.ue; living = h.living });
-        nb_calls = ap (λ (ss : List PairStep). as_steps (near_calls (pair_outset near far) ss)) same
-            ∙ sym (append-nil (as_steps (near_calls (pair_outset near far) so_far)));
-        ue_calls = ap (λ (ss : List PairStep). as_steps (far_calls (pair_outset near far) ss)) same
-            ∙ sym (append-nil (as_steps (far_calls (pair_outset near far) so_far)));
+        nb_calls = ap (λ (ss : List PairStep). as_steps (near_calls (um_pair_outset near far) ss)) same
+            ∙ sym (append-nil (as_steps (near_calls (um_pair_outset near far) so_far)));
+        ue_calls = ap (λ (ss : List PairStep). as_steps (far_calls (um_pair_outset near far) ss)) same
+            ∙ sym (append-nil (as_steps (far_calls (um_pair_outset near far) so_far)));
       }
 
   pub grows : (s : Step) → IsGiven l a s → Grows l a s near far so_far
@@ -183,9 +185,9 @@ moves_so side l s n keys h =
 pub record WalksOn (l : ℕ) (a : Air) (near far : State) (so_far : List PairStep) (xs : List AirStep) : Type 0 where
   pub living : AreLiving near far (walk l so_far xs a).lives (walk l so_far xs a).steps
   pub nb_does : steps_through Nb near far (walk l so_far xs a).lives (walk l so_far xs a).steps
-      ≡ as_steps (near_calls (pair_outset near far) so_far) ++ steps_over l (all_calls Nb xs a) a.nb.end
+      ≡ as_steps (near_calls (um_pair_outset near far) so_far) ++ steps_over l (all_calls Nb xs a) a.nb.end
   pub ue_does : steps_through Ue near far (walk l so_far xs a).lives (walk l so_far xs a).steps
-      ≡ as_steps (far_calls (pair_outset near far) so_far) ++ steps_over l (all_calls Ue xs a) a.ue.end
+      ≡ as_steps (far_calls (um_pair_outset near far) so_far) ++ steps_over l (all_calls Ue xs a) a.ue.end
 
 then_does : (side : Side) (l : ℕ) (a : Air) (x : AirStep) (xs : List AirStep) (before between whole : List BearerStep)
     → between ≡ before ++ steps_over l (calls_at side a x) (end_at side a)
@@ -203,8 +205,8 @@ pub walks_on : (l : ℕ) (xs : List AirStep) (a : Air) (near far : State) (so_fa
     → Stands l a near far so_far → WalksOn l a near far so_far xs
 walks_on l [] a near far so_far g h = record {
   living = h.living;
-  nb_does = sym (append-nil (as_steps (near_calls (pair_outset near far) so_far)));
-  ue_does = sym (append-nil (as_steps (far_calls (pair_outset near far) so_far)));
+  nb_does = sym (append-nil (as_steps (near_calls (um_pair_outset near far) so_far)));
+  ue_does = sym (append-nil (as_steps (far_calls (um_pair_outset near far) so_far)));
 }
 walks_on l (InLife s ∷ xs) a near far so_far g h =
     let one = grows l a near far so_far h s g.0 in
@@ -219,15 +221,16 @@ walks_on l (Moves keys ∷ xs) a near far so_far g h =
     let b : Air = lives_on a (Moves keys) in
     let rest = walks_on l xs b (next_near near far life) (next_far near far life) [] g.1
     (record {
-      nb = moves_so Nb l a.nb (goes so_far (pair_outset near far)).near keys h.nb;
-      ue = moves_so Ue l a.ue (goes so_far (pair_outset near far)).far keys h.ue;
+      nb = moves_so Nb l a.nb (goes so_far (um_pair_outset near far)).near keys h.nb;
+      ue = moves_so Ue l a.ue (goes so_far (um_pair_outset near far)).far keys h.ue;
       living = record { given = tt; near_accepts = tt; far_accepts = tt };
     }) in
     record {
       living = (h.living, rest.living);
       nb_does =
-          ap (λ (ds : List BearerStep). as_steps (near_calls (pair_outset near far) so_far) ++ Restart keys ∷ ds)
+          ap (λ (ds : List BearerStep). as_steps (near_calls (um_pair_outset near far) so_far) ++ Restart keys ∷ ds)
           rest.nb_does;
-      ue_does = ap (λ (ds : List BearerStep). as_steps (far_calls (pair_outset near far) so_far) ++ Restart keys ∷ ds)
+      ue_does =
+          ap (λ (ds : List BearerStep). as_steps (far_calls (um_pair_outset near far) so_far) ++ Restart keys ∷ ds)
           rest.ue_does;
     }

@@ -18,7 +18,7 @@ use Rattle.law_deliver.specs.UmFlow.Flows.{Way, last_places}
 use Rattle.law_deliver.specs.UmFlow.Handing.{IsOfData, all_called, hears}
 use Rattle.law_deliver.proofs.UmFlow.Handing.{rest_ready, hears_what_is_handed}
 use Rattle.law_deliver.proofs.UmFlow.Lives.{next_life_begins}
-use Rattle.law_pdcp.specs.UmPair.Flow.{Flow, Restart, run, happens, steps}
+use Rattle.law_pdcp.specs.UmPair.Flow.{Flow, Restart, run_um_pdcp, happens, steps}
 use Rattle.law_deliver.specs.UmDelivery.Delivery.{FewBetween}
 use Rattle.law_deliver.specs.UmDelivery.Lives.{AreAccepted, ups_to_end, taken, submitted}
 use Rattle.law_deliver.proofs.UmDelivery.Living.{Goes, Joins, IsWay, rest_up, receiver_rest, kind_rest, to_stays}
@@ -98,7 +98,7 @@ module _ (pdcp_bits bits reorder : ℕ) (w : Way) (f : Flow) (j : Joins pdcp_bit
         events = m.events ++ Restart keys ∷ [];
         may = given_then m.events (Restart keys ∷ []) f m.may (tt, tt);
         short = short_then m.events (Restart keys ∷ []) f m.short (tt, tt);
-        left = run_then m.events (Restart keys ∷ []) f ∙ ap (run (Restart keys ∷ [])) m.left;
+        left = run_then m.events (Restart keys ∷ []) f ∙ ap (run_um_pdcp (Restart keys ∷ [])) m.left;
         sdus_are = m.sdus_are;
         ups_are = m.ups_are;
         handed_are = m.handed_are;

@@ -10,10 +10,11 @@ use Rattle.pdcp_rx.specs.State.{State as Receiving, arrived}
 use Rattle.pdcp_tx.specs.declared.sender.Next.{Next}
 use Rattle.law_pdcp.specs.OneEnd.Lives.{submitted_in}
 use Rattle.law_bearer.proofs.AmBearer.Keeping.{arrives_alike}
-use Rattle.law_rlc.specs.UmPair.Which.{those}
+use Rattle.law_words.specs.Lists.{those}
 use Rattle.law_deliver.specs.UmFlow.Flows.{behind}
 use Rattle.law_deliver.specs.UmFlow.Handing.{hears_one, hears, raises}
-use Rattle.law_pdcp.specs.UmPair.Flow.{Flow, Event, HandUp, Raise, run, comes, IsLater, AreGiven, AreShort, steps}
+use Rattle.law_pdcp.specs.UmPair.Flow.{Flow, Event, HandUp, Raise, run_um_pdcp, comes, IsLater, AreGiven, AreShort}
+use Rattle.law_pdcp.specs.UmPair.Flow.{steps}
 use Rattle.law_pdcp.proofs.UmPair.Choice.{between_end}
 use Rattle.law_deliver.specs.UmDelivery.Delivery.{FewBetween}
 use Rattle.law_deliver.proofs.UmDelivery.Sending.{octets, run_then, given_then, short_then, submitted_then}
@@ -21,7 +22,8 @@ use Rattle.law_deliver.proofs.UmDelivery.Sending.{octets, run_then, given_then, 
 -- ---- all that is ready goes up
 
 raises_off : (sdus : List (List ℕ)) (f : Flow) → f.receiver.ready ≡ sdus
-    → run (map (λ sdu. Raise) sdus) f ≡ record f { receiver = record f.receiver { ready = [] }; up = f.up ++ sdus }
+    → run_um_pdcp (map (λ sdu. Raise) sdus) f ≡ record f { receiver = record f.receiver { ready = [] }; up =
+    f.up ++ sdus }
 raises_off [] f q =
     ap (λ (l : List (List ℕ)). record f { receiver = record f.receiver { ready = l } }) q
     ∙ ap (λ (l : List (List ℕ)). record f { receiver = record f.receiver { ready = [] }; up = l })
@@ -55,7 +57,7 @@ pub record HandsUp (f g : Flow) : Type 0 where
   pub events : List Event
   pub may : AreGiven f events
   pub short : AreShort f events
-  pub left : run events f ≡ g
+  pub left : run_um_pdcp events f ≡ g
   pub submits_none : submitted_in (steps events) ≡ []
 
 pub ups_then : (f g h : Flow) → HandsUp f g → HandsUp g h → HandsUp f h
@@ -63,7 +65,7 @@ ups_then f g h m k = record {
   events = m.events ++ k.events;
   may = given_then m.events k.events f m.may (subst (λ (x : Flow). AreGiven x k.events) (sym m.left) k.may);
   short = short_then m.events k.events f m.short (subst (λ (x : Flow). AreShort x k.events) (sym m.left) k.short);
-  left = run_then m.events k.events f ∙ ap (run k.events) m.left ∙ k.left;
+  left = run_then m.events k.events f ∙ ap (run_um_pdcp k.events) m.left ∙ k.left;
   submits_none = submitted_then m.events k.events
       ∙ ap (λ (l : List (List ℕ)). l ++ submitted_in (steps k.events)) m.submits_none ∙ k.submits_none;
 }
@@ -111,7 +113,7 @@ one_up cause place f later few =
       may = (later, may_raise ready _);
       short = (few, short_raise ready _);
       left =
-          ap (run (map (λ sdu. Raise) ready)) came
+          ap (run_um_pdcp (map (λ sdu. Raise) ready)) came
           ∙ raises_off ready (record f {
             receiver = arrived f.receiver pdu cause;
             passed = place + 1;

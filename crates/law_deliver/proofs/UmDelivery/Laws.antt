@@ -18,15 +18,15 @@ use Rattle.bearer_pdcp.specs.Ends.{begun, bearer_of, sends}
 use Rattle.bearer.specs.Bearer.{flow_of}
 use Rattle.bearer.specs.declared.flow.Flow.TheVariants.{Um}
 use Rattle.bearer.specs.Unacknowledged.State.{State, fresh}
-use Rattle.law_rlc.specs.UmPair.Which.{those}
+use Rattle.law_words.specs.Lists.{those}
 use Rattle.law_deliver.specs.UmFlow.Flows.{Way}
 use Rattle.law_deliver.specs.UmFlow.Pair.{Step}
 use Rattle.law_deliver.proofs.UmFlow.Lives.{first_life_begins}
-use Rattle.law_pdcp.specs.UmPair.Delivery.{IsWhatCame as IsWhatCameOf}
-use Rattle.law_pdcp.specs.UmPair.Flow.{Flow, run, outset as pdcp_outset}
+use Rattle.law_pdcp.specs.UmPair.Delivery.{IsWhatCameToPdcp}
+use Rattle.law_pdcp.specs.UmPair.Flow.{Flow, run_um_pdcp, um_pdcp_outset}
 use Rattle.law_pdcp.proofs.UmPair.Laws.{what_came}
 use Rattle.law_pdcp.proofs.UmPair.Submitted.{delivers_some}
-use Rattle.law_deliver.specs.UmDelivery.Delivery.{AreBothEnds, AreShort, all_places, IsWhatCame, AreSome}
+use Rattle.law_deliver.specs.UmDelivery.Delivery.{AreBothEnds, AreShort, all_places, IsWhatCameThroughLives, AreSome}
 use Rattle.law_deliver.specs.UmDelivery.Delivery.{DeliversWhatCame, DeliversInOrder}
 use Rattle.law_deliver.specs.UmDelivery.Lives.{Life, Direction, There, Back, AreLiving, ended, last, all_ups, all_taken}
 use Rattle.law_deliver.specs.UmDelivery.Lives.{all_submitted}
@@ -54,7 +54,7 @@ abbrev protection_in : BearerConfig → Keys → Direction → Protection
 protection_in c keys d = protection_of (UmKind c.pdcp_bits) keys (bearer_of c.channel.lcid) (sends (sender_of d))
 
 abbrev first_flow : BearerConfig → Keys → Direction → Flow
-first_flow c keys d = pdcp_outset c.pdcp_bits (protection_in c keys d) c.first
+first_flow c keys d = um_pdcp_outset c.pdcp_bits (protection_in c keys d) c.first
 
 first_joins : (c : BearerConfig) (keys : Keys) (d : Direction)
     → JoinsIn c.pdcp_bits d (fresh c keys Nb) (fresh c keys Ue) (first_flow c keys d)
@@ -108,13 +108,13 @@ module _ (c : BearerConfig) (keys : Keys) (d : Direction) (vs : List Way) (w : W
   ups_are : t.after.up ++ t.after.receiver.ready ≡ all_ups vs w
   ups_are = ap (λ (l : List (List ℕ)). t.after.up ++ l) t.idle ∙ append-nil t.after.up ∙ t.goes_on.ups_are
 
-  came : IsWhatCameOf t.after
+  came : IsWhatCameToPdcp t.after
   came =
-      subst IsWhatCameOf t.goes_on.left
+      subst IsWhatCameToPdcp t.goes_on.left
       (what_came c.pdcp_bits (protection_in c keys d) c.first t.goes_on.events kind first t.goes_on.may
       t.goes_on.short)
 
-  what_went_up : IsWhatCame c vs w
+  what_went_up : IsWhatCameThroughLives c vs w
   what_went_up = record {
     order = subst (λ (l : List ℕ). AreBetween 0 l (length (all_taken vs w))) t.goes_on.handed_are
         (subst (λ (l : List (List ℕ)). AreBetween 0 t.after.handed (length l)) t.goes_on.sdus_are came.order);
@@ -126,24 +126,24 @@ module _ (c : BearerConfig) (keys : Keys) (d : Direction) (vs : List Way) (w : W
   some_went_up =
       let some = delivers_some c.pdcp_bits (protection_in c keys d) c.first t.goes_on.events kind first t.goes_on.may
       t.goes_on.short in
-      let higher : (run t.goes_on.events (first_flow c keys d)).up
-      ++ (run t.goes_on.events (first_flow c keys d)).receiver.ready ≡ all_ups vs w =
+      let higher : (run_um_pdcp t.goes_on.events (first_flow c keys d)).up
+      ++ (run_um_pdcp t.goes_on.events (first_flow c keys d)).receiver.ready ≡ all_ups vs w =
       ap (λ (f : Flow). f.up ++ f.receiver.ready) t.goes_on.left ∙ ups_are in
-      let sdus : (run t.goes_on.events (first_flow c keys d)).sdus ≡ all_taken vs w =
+      let sdus : (run_um_pdcp t.goes_on.events (first_flow c keys d)).sdus ≡ all_taken vs w =
       ap (λ (f : Flow). f.sdus) t.goes_on.left ∙ t.goes_on.sdus_are in
       record {
         taken =
             subst (λ (l : List (List ℕ)). IsSubsequence l (all_taken vs w)) higher
             (subst
             (λ (l : List (List ℕ)). IsSubsequence
-            ((run t.goes_on.events (first_flow c keys d)).up
-            ++ (run t.goes_on.events (first_flow c keys d)).receiver.ready) l) sdus some.taken);
+            ((run_um_pdcp t.goes_on.events (first_flow c keys d)).up
+            ++ (run_um_pdcp t.goes_on.events (first_flow c keys d)).receiver.ready) l) sdus some.taken);
         submitted =
             subst (λ (l : List (List ℕ)). IsSubsequence l (all_submitted vs w)) higher
             (subst
             (λ (l : List (List ℕ)). IsSubsequence
-            ((run t.goes_on.events (first_flow c keys d)).up
-            ++ (run t.goes_on.events (first_flow c keys d)).receiver.ready) l) t.goes_on.submitted_is
+            ((run_um_pdcp t.goes_on.events (first_flow c keys d)).up
+            ++ (run_um_pdcp t.goes_on.events (first_flow c keys d)).receiver.ready) l) t.goes_on.submitted_is
             some.submitted);
       }
 

@@ -10,12 +10,12 @@ use Rattle.rlc_um.specs.Receiver.{all_joined}
 use Rattle.bearer.specs.declared.flow.Flow.TheVariants.{Um}
 use Rattle.bearer.specs.Lives.{stopping}
 use Rattle.bearer.specs.Unacknowledged.State.{State}
-use Rattle.law_bearer.specs.AmBearer.Calls.{ups_in}
-use Rattle.law_rlc.specs.UmPair.Which.{those}
-use Rattle.law_deliver.specs.UmFlow.Flows.{Way, given, heard, places, last_places, behind, IsWhatCame, GoesOn}
+use Rattle.law_bearer.specs.AmBearer.Calls.{ups_among}
+use Rattle.law_words.specs.Lists.{those}
+use Rattle.law_deliver.specs.UmFlow.Flows.{Way, given, heard, places, last_places, behind, IsWhatCameInLife, GoesOn}
 use Rattle.law_deliver.specs.UmFlow.Handing.{IsOfData, all_called, hears, raises, HearsTheRest}
 use Rattle.law_deliver.proofs.UmFlow.Handing.{hears_what_is_handed, hears_the_rest_at_the_end}
-use Rattle.law_pdcp.specs.UmPair.Flow.{Flow, Event, run, AreGiven, AreShort, steps}
+use Rattle.law_pdcp.specs.UmPair.Flow.{Flow, Event, run_um_pdcp, AreGiven, AreShort, steps}
 use Rattle.law_deliver.specs.UmDelivery.Delivery.{FewBetween}
 use Rattle.law_deliver.specs.UmDelivery.Lives.{AreAccepted, ups, ups_to_end, taken, submitted}
 use Rattle.law_deliver.proofs.UmDelivery.Hearing.{HandsUp, risen, all_up, hears_kind, few_then}
@@ -28,7 +28,7 @@ pub record Goes (f g : Flow) (new higher : List (List ℕ)) (handed : List ℕ) 
   pub events : List Event
   pub may : AreGiven f events
   pub short : AreShort f events
-  pub left : run events f ≡ g
+  pub left : run_um_pdcp events f ≡ g
   pub sdus_are : g.sdus ≡ f.sdus ++ new
   pub ups_are : g.up ≡ f.up ++ higher
   pub handed_are : g.handed ≡ f.handed ++ handed
@@ -43,7 +43,7 @@ goes_then f g h a b u v ps qs s t m k = record {
   events = m.events ++ k.events;
   may = given_then m.events k.events f m.may (subst (λ (x : Flow). AreGiven x k.events) (sym m.left) k.may);
   short = short_then m.events k.events f m.short (subst (λ (x : Flow). AreShort x k.events) (sym m.left) k.short);
-  left = run_then m.events k.events f ∙ ap (run k.events) m.left ∙ k.left;
+  left = run_then m.events k.events f ∙ ap (run_um_pdcp k.events) m.left ∙ k.left;
   sdus_are = more f.sdus g.sdus h.sdus a b m.sdus_are k.sdus_are;
   ups_are = more f.up g.up h.up u v m.ups_are k.ups_are;
   handed_are = more f.handed g.handed h.handed ps qs m.handed_are k.handed_are;
@@ -67,7 +67,7 @@ pub record Joins (bits : ℕ) (from to : State) (f : Flow) : Type 0 where
 pub record IsWay (bits reorder : ℕ) (w : Way) : Type 0 where
   pub from_is : all_called w.from w.from_calls ≡ w.from_end.bearer
   pub to_is : all_called w.to w.to_calls ≡ w.to_end.bearer
-  pub came : IsWhatCame bits reorder w
+  pub came : IsWhatCameInLife bits reorder w
   pub rest : GoesOn bits reorder w w
 
 module _ (pdcp_bits bits reorder : ℕ) (w : Way) (f : Flow) (j : Joins pdcp_bits w.from w.to f)
@@ -129,7 +129,7 @@ module _ (pdcp_bits bits reorder : ℕ) (w : Way) (f : Flow) (j : Joins pdcp_bit
             (subst (λ (x : Flow). AreGiven x k.events) (sym sending.left) k.may);
         short = short_then sending.events k.events f sending.short
             (subst (λ (x : Flow). AreShort x k.events) (sym sending.left) k.short);
-        left = run_then sending.events k.events f ∙ ap (run k.events) sending.left ∙ k.left;
+        left = run_then sending.events k.events f ∙ ap (run_um_pdcp k.events) sending.left ∙ k.left;
         sdus_are = refl;
         ups_are = ap (λ (l : List (List ℕ)). f.up ++ l) ups_heard;
         handed_are = refl;
@@ -163,7 +163,7 @@ module _ (pdcp_bits bits reorder : ℕ) (w : Way) (f : Flow) (j : Joins pdcp_bit
       ∙ ap (hears Reestablished joined) receiver_heard
 
   ups_rest : raises Reestablished (those is.rest.last.rest (octets given_all.stream)) handed_up.receiver
-      ≡ ups_in (stopping (Um w.to_end.bearer))
+      ≡ ups_among (stopping (Um w.to_end.bearer))
   ups_rest = ap (λ (l : List (List ℕ)). raises Reestablished l handed_up.receiver) those_joined
       ∙ ap (raises Reestablished joined) receiver_heard ∙ sym at_end.ups
 
@@ -184,7 +184,7 @@ module _ (pdcp_bits bits reorder : ℕ) (w : Way) (f : Flow) (j : Joins pdcp_bit
       (subst (λ (n : ℕ). FewBetween pdcp_bits n is.rest.last.rest) low few)
 
   rest_goes : FewBetween pdcp_bits (behind 0 (places bits reorder w)) is.rest.last.rest
-      → Goes handed_up rest_up [] (ups_in (stopping (Um w.to_end.bearer)))
+      → Goes handed_up rest_up [] (ups_among (stopping (Um w.to_end.bearer)))
       (map (λ place. f.earlier + place) is.rest.last.rest) []
   rest_goes few =
       let k = rest_handing few in
@@ -213,7 +213,7 @@ module _ (pdcp_bits bits reorder : ℕ) (w : Way) (f : Flow) (j : Joins pdcp_bit
       let both = few_then pdcp_bits 0 ps rest (subst (FewBetween pdcp_bits 0) is.rest.last.later_is few) in
       let m : Goes f rest_up (taken w ++ []) (ups_to_end w)
       (map (λ place. f.earlier + place) ps ++ map (λ place. f.earlier + place) rest) (submitted w ++ []) =
-      goes_then f handed_up rest_up (taken w) [] (ups w) (ups_in (stopping (Um w.to_end.bearer)))
+      goes_then f handed_up rest_up (taken w) [] (ups w) (ups_among (stopping (Um w.to_end.bearer)))
       (map (λ place. f.earlier + place) ps) (map (λ place. f.earlier + place) rest) (submitted w) [] (in_life both.0)
       (rest_goes both.1) in
       let all : map (λ place. f.earlier + place) ps ++ map (λ place. f.earlier + place) rest

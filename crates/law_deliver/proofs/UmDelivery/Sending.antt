@@ -45,21 +45,25 @@ use Rattle.law_deliver.specs.UmFlow.Handing.{IsOfData, all_called}
 use Rattle.law_deliver.proofs.UmFlow.Calls.{given_in}
 use Rattle.law_deliver.proofs.UmFlow.Handing.{hears_so, hears_what_is_handed}
 use Rattle.law_deliver.proofs.UmFlow.Sending.{is_called}
-use Rattle.law_pdcp.specs.UmPair.Flow.{Flow, Event, Sends as Calling, SetDiscard as Sets, one, gives, run, happens}
+use Rattle.law_pdcp.specs.UmPair.Flow.{Flow, Event, Sends as Calling, SetDiscard as Sets, run_um_pdcp}
+use Rattle.law_pdcp.specs.OneEnd.Given.{nexts_of, pdus_given}
+use Rattle.law_pdcp.specs.UmPair.Flow.{happens}
 use Rattle.law_pdcp.specs.UmPair.Flow.{CanCall, AreGiven, AreShort, steps_in, steps}
 use Rattle.law_deliver.specs.UmDelivery.Lives.{IsAccepted, AreAccepted, news_by, submits_by}
 
 -- ---- events one behind the other
 
-pub run_then : (xs ys : List Event) (f : Flow) → run (xs ++ ys) f ≡ run ys (run xs f)
+pub run_then : (xs ys : List Event) (f : Flow) → run_um_pdcp (xs ++ ys) f ≡ run_um_pdcp ys (run_um_pdcp xs f)
 run_then [] ys f = refl
 run_then (x ∷ xs) ys f = run_then xs ys (happens f x)
 
-pub given_then : (xs ys : List Event) (f : Flow) → AreGiven f xs → AreGiven (run xs f) ys → AreGiven f (xs ++ ys)
+pub given_then : (xs ys : List Event) (f : Flow) → AreGiven f xs → AreGiven (run_um_pdcp xs f) ys
+    → AreGiven f (xs ++ ys)
 given_then [] ys f g h = h
 given_then (x ∷ xs) ys f g h = (g.0, given_then xs ys (happens f x) g.1 h)
 
-pub short_then : (xs ys : List Event) (f : Flow) → AreShort f xs → AreShort (run xs f) ys → AreShort f (xs ++ ys)
+pub short_then : (xs ys : List Event) (f : Flow) → AreShort f xs → AreShort (run_um_pdcp xs f) ys
+    → AreShort f (xs ++ ys)
 short_then [] ys f g h = h
 short_then (x ∷ xs) ys f g h = (g.0, short_then xs ys (happens f x) g.1 h)
 
@@ -95,7 +99,7 @@ pub record Sends (f : Flow) (s : Sending) (new given subs : List (List ℕ)) : T
   pub nexts : List Next
   pub may : AreGiven f events
   pub short : AreShort f events
-  pub left : run events f ≡ sent f s new nexts
+  pub left : run_um_pdcp events f ≡ sent f s new nexts
   pub given_is : octets nexts ≡ given
   pub submitted_is : submitted_in (steps events) ≡ subs
 
@@ -133,7 +137,7 @@ sends_then f s t a b g h u v m k =
       may = given_then m.events k.events f m.may (subst (λ (x : Flow). AreGiven x k.events) (sym m.left) k.may);
       short = short_then m.events k.events f m.short (subst (λ (x : Flow). AreShort x k.events) (sym m.left) k.short);
       left =
-          run_then m.events k.events f ∙ ap (run k.events) m.left ∙ k.left
+          run_then m.events k.events f ∙ ap (run_um_pdcp k.events) m.left ∙ k.left
           ∙ ap (λ (l : List (List ℕ)). record f { sender = t; sdus = l; stream = (f.stream ++ m.nexts) ++ k.nexts })
           (append_assoc f.sdus a b)
           ∙ ap (λ (l : List Next). record f { sender = t; sdus = f.sdus ++ (a ++ b); stream = l })
@@ -147,10 +151,10 @@ sends_then f s t a b g h u v m k =
     }
 
 sends_one : (f : Flow) (c : PdcpCall) → CanCall f.sender c
-    → Sends f (pdcp_after f.sender c) (takes_new f.sender c) (octets (gives f.sender c)) (submits_in (Calls c))
+    → Sends f (pdcp_after f.sender c) (takes_new f.sender c) (octets (pdus_given f.sender c)) (submits_in (Calls c))
 sends_one f c can = record {
   events = Calling c ∷ [];
-  nexts = gives f.sender c;
+  nexts = pdus_given f.sender c;
   may = (can, tt);
   short = (tt, tt);
   left = refl;
@@ -177,12 +181,12 @@ sets_one f ttis =
 -- ---- takes
 
 first_octets : (s : Sending) (os : List Offer)
-    → octets (one (option_map (λ o. written s.kind s.protection o.count o.text) (slice_get os 0)))
+    → octets (nexts_of (option_map (λ o. written s.kind s.protection o.count o.text) (slice_get os 0)))
     ≡ map (pdu_of s) (take 1 os)
 first_octets s [] = refl
 first_octets s (o ∷ os) = refl
 
-taking_octets : (s : Sending) → octets (one (taking s)) ≡ map (pdu_of s) (take 1 (offers s))
+taking_octets : (s : Sending) → octets (nexts_of (taking s)) ≡ map (pdu_of s) (take 1 (offers s))
 unfolding taking
 taking_octets s = first_octets s (offers s)
 
@@ -191,7 +195,7 @@ next_octets : (s : Sending) (n : ℕ) (os : List Offer)
 next_octets s n [] = ap (map (pdu_of s)) (none_of n [] refl)
 next_octets s n (o ∷ os) = refl
 
-given_next : (s : Sending) (n : ℕ) → octets (one (taking s)) ++ map (pdu_of (took s)) (take n (offers (took s)))
+given_next : (s : Sending) (n : ℕ) → octets (nexts_of (taking s)) ++ map (pdu_of (took s)) (take n (offers (took s)))
     ≡ map (pdu_of s) (take (suc n) (offers s))
 given_next s n =
     ap (λ (l : List (List ℕ)). l ++ map (pdu_of (took s)) (take n (offers (took s)))) (taking_octets s)
@@ -205,12 +209,13 @@ sends_takes : (n : ℕ) (f : Flow)
 sends_takes zero f = none f
 sends_takes (suc n) f =
     let s : Sending = f.sender in
-    let first : Sends f (took s) (takes_new s TakePdcp) (octets (one (taking s))) [] = sends_one f TakePdcp tt in
+    let first : Sends f (took s) (takes_new s TakePdcp) (octets (nexts_of (taking s))) [] = sends_one f TakePdcp tt in
     let rest = sends_takes n (sent f (took s) (takes_new s TakePdcp) first.nexts) in
     let given : List (List ℕ) = map (pdu_of (took s)) (take n (offers (took s))) in
     as_is f (took_all n (took s)) (took_all n (took s)) (firsts (suc n) s) (firsts (suc n) s)
-    (octets (one (taking s)) ++ given) (map (pdu_of s) (take (suc n) (offers s))) [] []
-    (sends_then f (took s) (took_all n (took s)) (takes_new s TakePdcp) (firsts n (took s)) (octets (one (taking s)))
+    (octets (nexts_of (taking s)) ++ given) (map (pdu_of s) (take (suc n) (offers s))) [] []
+    (sends_then f (took s) (took_all n (took s)) (takes_new s TakePdcp) (firsts n (took s))
+    (octets (nexts_of (taking s)))
     given [] [] first rest) refl refl (given_next s n) refl
 
 -- ---- discard timers

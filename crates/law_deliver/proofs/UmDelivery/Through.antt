@@ -13,7 +13,7 @@ use Rattle.law_deliver.specs.UmFlow.Calls.{near_calls, far_calls}
 use Rattle.law_deliver.specs.UmFlow.Flows.{Way, there, back, GoesOn}
 use Rattle.law_deliver.specs.UmFlow.Handing.{IsOfData, all_called}
 use Rattle.law_deliver.specs.UmFlow.Lives.{BeginsLife}
-use Rattle.law_deliver.specs.UmFlow.Pair.{Step, called, goes, outset, AreGiven, AreShortThere, AreShortBack}
+use Rattle.law_deliver.specs.UmFlow.Pair.{Step, called, goes, um_pair_outset, AreGiven, AreShortThere, AreShortBack}
 use Rattle.law_deliver.proofs.UmFlow.Calls.{all_are_called, ends_are_their_calls}
 use Rattle.law_deliver.proofs.UmFlow.Flows.{hands_up_what_came}
 use Rattle.law_deliver.proofs.UmFlow.Later.{more_comes_later}
@@ -61,47 +61,48 @@ same_bearer : (b d : State) → Um b ≡ Um d → b ≡ d
 same_bearer b d q = cc
 
 near_end : (near far : State) (steps : List Step)
-    → all_called near (near_calls (outset near far) steps) ≡ (goes steps (outset near far)).near.bearer
+    → all_called near (near_calls (um_pair_outset near far) steps) ≡ (goes steps (um_pair_outset near far)).near.bearer
 near_end near far steps =
-    same_bearer _ _ (sym (all_are_called near (near_calls (outset near far) steps))
+    same_bearer _ _ (sym (all_are_called near (near_calls (um_pair_outset near far) steps))
     ∙ (ends_are_their_calls near far steps).near_is)
 
 far_end : (near far : State) (steps : List Step)
-    → all_called far (far_calls (outset near far) steps) ≡ (goes steps (outset near far)).far.bearer
+    → all_called far (far_calls (um_pair_outset near far) steps) ≡ (goes steps (um_pair_outset near far)).far.bearer
 far_end near far steps =
-    same_bearer _ _ (sym (all_are_called far (far_calls (outset near far) steps))
+    same_bearer _ _ (sym (all_are_called far (far_calls (um_pair_outset near far) steps))
     ∙ (ends_are_their_calls near far steps).far_is)
 
 -- ---- a life of a direction
 
 module _ (bits reorder : ℕ) (near far : State) (list : List Step) (u : IsUmBits bits)
-    (h : BeginsLife bits reorder near) (k : BeginsLife bits reorder far) (g : AreGiven (outset near far) list) where
-  again : AreGiven (outset near far) (list ++ [])
-  again = subst (AreGiven (outset near far)) (sym (append-nil list)) g
+    (h : BeginsLife bits reorder near) (k : BeginsLife bits reorder far)
+    (g : AreGiven (um_pair_outset near far) list) where
+  again : AreGiven (um_pair_outset near far) (list ++ [])
+  again = subst (AreGiven (um_pair_outset near far)) (sym (append-nil list)) g
 
-  way_there : AreShortThere (outset near far) list → IsWay bits reorder (there near far list)
+  way_there : AreShortThere (um_pair_outset near far) list → IsWay bits reorder (there near far list)
   way_there short = record {
     from_is = near_end near far list;
     to_is = far_end near far list;
     came = (hands_up_what_came bits reorder reorder near far list u h k g).0 short;
     rest = subst (λ (l : List Step). GoesOn bits reorder (there near far list) (there near far l)) (append-nil list)
         ((more_comes_later bits reorder reorder near far list [] u h k again).0
-        (subst (AreShortThere (outset near far)) (sym (append-nil list)) short));
+        (subst (AreShortThere (um_pair_outset near far)) (sym (append-nil list)) short));
   }
 
-  way_back : AreShortBack (outset near far) list → IsWay bits reorder (back near far list)
+  way_back : AreShortBack (um_pair_outset near far) list → IsWay bits reorder (back near far list)
   way_back short = record {
     from_is = far_end near far list;
     to_is = near_end near far list;
     came = (hands_up_what_came bits reorder reorder near far list u h k g).1 short;
     rest = subst (λ (l : List Step). GoesOn bits reorder (back near far list) (back near far l)) (append-nil list)
         ((more_comes_later bits reorder reorder near far list [] u h k again).1
-        (subst (AreShortBack (outset near far)) (sym (append-nil list)) short));
+        (subst (AreShortBack (um_pair_outset near far)) (sym (append-nil list)) short));
   }
 
 is_way : (bits reorder : ℕ) (d : Direction) (near far : State) (list : List Step) → IsUmBits bits
-    → BeginsLife bits reorder near → BeginsLife bits reorder far → AreGiven (outset near far) list
-    → AreShortIn d (outset near far) list → IsWay bits reorder (way d near far list)
+    → BeginsLife bits reorder near → BeginsLife bits reorder far → AreGiven (um_pair_outset near far) list
+    → AreShortIn d (um_pair_outset near far) list → IsWay bits reorder (way d near far list)
 is_way bits reorder There near far list u h k g short = way_there bits reorder near far list u h k g short
 is_way bits reorder Back near far list u h k g short = way_back bits reorder near far list u h k g short
 
@@ -161,10 +162,10 @@ through c d (l ∷ ls) near far list f u a b j g short =
     let near' : State = next_near near far l in
     let far' : State = next_far near far l in
     let t = through c d ls near' far' list h u
-    (begins_next c.pdcp_bits c.rlc_bits c.rx.reorder near (goes l.steps (outset near far)).near.bearer
-    (near_calls (outset near far) l.steps) l.keys (near_end near far l.steps) a)
-    (begins_next c.pdcp_bits c.rlc_bits c.rx.reorder far (goes l.steps (outset near far)).far.bearer
-    (far_calls (outset near far) l.steps) l.keys (far_end near far l.steps) b)
+    (begins_next c.pdcp_bits c.rlc_bits c.rx.reorder near (goes l.steps (um_pair_outset near far)).near.bearer
+    (near_calls (um_pair_outset near far) l.steps) l.keys (near_end near far l.steps) a)
+    (begins_next c.pdcp_bits c.rlc_bits c.rx.reorder far (goes l.steps (um_pair_outset near far)).far.bearer
+    (far_calls (um_pair_outset near far) l.steps) l.keys (far_end near far l.steps) b)
     (joins_life c.pdcp_bits d near far l h (joins_next c.pdcp_bits c.rlc_bits c.rx.reorder v f jv is ok l.keys)) g.1
     short.1 in
     let vs : List Way = ended d near' far' ls in

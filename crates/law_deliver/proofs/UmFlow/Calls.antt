@@ -8,7 +8,7 @@ use Rattle.law_bearer.specs.AnyBearer.Calls.{Call, after_all, ends}
 use Rattle.law_bearer.specs.AnyBearer.Stream.{takes, pdus_of, stream}
 use Rattle.law_rlc.specs.AmPair.Flow.{Copy}
 use Rattle.law_deliver.specs.UmFlow.Pair.{BearerEnd, Pair, Deed, Calls, Comes, Goes, Step, Near, Far, called, comes}
-use Rattle.law_deliver.specs.UmFlow.Pair.{does, happens, goes, outset}
+use Rattle.law_deliver.specs.UmFlow.Pair.{does, happens, goes, um_pair_outset}
 use Rattle.law_deliver.specs.UmFlow.Calls.{arrives, calls_in, near_calls_in, far_calls_in, near_calls, far_calls}
 use Rattle.law_deliver.specs.UmFlow.Calls.{AreTheirCalls}
 use Rattle.law_deliver.specs.UmFlow.Handing.{hands, handed, all_called}
@@ -99,10 +99,11 @@ far_then [] ys p = refl
 far_then (x ∷ xs) ys p = ap (λ l. far_calls_in p x ++ l) (far_then xs ys (happens p x))
     ∙ sym (append_assoc (far_calls_in p x) (far_calls (happens p x) xs) (far_calls (goes (x ∷ xs) p) ys))
 
-pub ends_are_their_calls : (near far : State) (steps : List Step) → AreTheirCalls near far (outset near far) steps
+pub ends_are_their_calls : (near far : State) (steps : List Step)
+    → AreTheirCalls near far (um_pair_outset near far) steps
 ends_are_their_calls near far steps = record {
-  near_is = all_are_called near (near_calls (outset near far) steps)
-      ∙ ap (λ (b : State). Um b) (near_is steps (outset near far));
-  far_is = all_are_called far (far_calls (outset near far) steps)
-      ∙ ap (λ (b : State). Um b) (far_is steps (outset near far));
+  near_is = all_are_called near (near_calls (um_pair_outset near far) steps)
+      ∙ ap (λ (b : State). Um b) (near_is steps (um_pair_outset near far));
+  far_is = all_are_called far (far_calls (um_pair_outset near far) steps)
+      ∙ ap (λ (b : State). Um b) (far_is steps (um_pair_outset near far));
 }

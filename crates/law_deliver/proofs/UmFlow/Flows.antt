@@ -16,11 +16,12 @@ use Rattle.law_rlc.specs.AmPair.Flow.{Copy, except}
 use Rattle.law_rlc.specs.UmPair.Run.{Call as ReceiverCall, World, fresh}
 use Rattle.law_rlc.specs.UmPair.Send.{Step as SenderStep, Flow}
 use Rattle.law_rlc.specs.UmPair.Air.{AreSent}
-use Rattle.law_rlc.specs.UmPair.Which.{those}
+use Rattle.law_words.specs.Lists.{those}
 use Rattle.law_rlc.proofs.UmPair.Air.{delivered}
 use Rattle.law_rlc.proofs.UmPair.Which.{hands_up_what_came as run_hands_up}
 use Rattle.law_deliver.specs.UmFlow.Pair.{BearerEnd, Pair, Deed, Calls, Comes, Goes, Step, Near, Far, called, comes}
-use Rattle.law_deliver.specs.UmFlow.Pair.{does, happens, goes, begins, outset, IsDone, AreGiven, IsNear, IsShort}
+use Rattle.law_deliver.specs.UmFlow.Pair.{does, happens, goes, begins, um_pair_outset, IsDone, AreGiven, IsNear}
+use Rattle.law_deliver.specs.UmFlow.Pair.{IsShort}
 use Rattle.law_deliver.specs.UmFlow.Pair.{AreShortThere, AreShortBack}
 use Rattle.law_deliver.specs.UmFlow.Calls.{arrives, calls_in, near_calls, far_calls}
 use Rattle.law_deliver.specs.UmFlow.Handing.{hands, handed, all_called}
@@ -28,7 +29,7 @@ use Rattle.law_deliver.specs.UmFlow.Lives.{BeginsLife}
 use Rattle.law_deliver.specs.UmFlow.Runs.{sender_steps, all_sender_steps, receiver_calls, all_receiver_calls}
 use Rattle.law_deliver.specs.UmFlow.Flows.{Way, there as way_there, back as way_back, given as way_given}
 use Rattle.law_deliver.specs.UmFlow.Flows.{heard as way_heard, sends, receives, IsFlow, IsRecent, AreRecent}
-use Rattle.law_deliver.specs.UmFlow.Flows.{IsDelivered, places, last_places, IsWhatCame, InEachDirection}
+use Rattle.law_deliver.specs.UmFlow.Flows.{IsDelivered, places, last_places, IsWhatCameInLife, InEachDirection}
 use Rattle.law_deliver.proofs.UmFlow.Numbers.{kept_some, front_some}
 use Rattle.law_deliver.proofs.UmFlow.Standing.{Stands, IsCopyOf, begun, lets_go, tops}
 use Rattle.law_deliver.proofs.UmFlow.Sending.{stays_set, sends_none, arrival_sends, calls_send}
@@ -244,10 +245,10 @@ in_each : (Holds : ℕ → ℕ → Way → Type 0)
 in_each Holds holds bits n f near far steps u h k g = (
   λ short. holds bits f (way_there near far steps) u
       (going bits f (way_there near far steps) k
-      (there bits f u steps (outset near far) near [] far [] g short (begins_so bits f u n near far h k))),
+      (there bits f u steps (um_pair_outset near far) near [] far [] g short (begins_so bits f u n near far h k))),
   λ short. holds bits n (way_back near far steps) u
       (going bits n (way_back near far steps) h
-      (back bits n u steps (outset near far) far [] near [] g short (begins_so bits n u f far near k h))),
+      (back bits n u steps (um_pair_outset near far) far [] near [] g short (begins_so bits n u f far near k h))),
 )
 
 -- ---- what that comes to
@@ -300,7 +301,7 @@ delivered_so bits reorder w u g =
     (subst (λ (r : Receiver). IsSubsequence (x.gone ++ all_joined r) offered) f.receiver_is some)) in
     record { some = front_some (way_heard w) (all_joined w.to_end.bearer.rx) (way_given w) at_end; at_end = at_end }
 
-came_so : (bits reorder : ℕ) (w : Way) → IsUmBits bits → IsGoing bits reorder w → IsWhatCame bits reorder w
+came_so : (bits reorder : ℕ) (w : Way) → IsUmBits bits → IsGoing bits reorder w → IsWhatCameInLife bits reorder w
 came_so bits reorder w u g =
     let f = flow_so bits reorder w u g in
     let x : World = receives bits reorder w in
@@ -331,5 +332,5 @@ none_lies_below = in_each AreRecent recent_so
 pub delivers_in_order : InEachDirection IsDelivered
 delivers_in_order = in_each IsDelivered delivered_so
 
-pub hands_up_what_came : InEachDirection IsWhatCame
-hands_up_what_came = in_each IsWhatCame came_so
+pub hands_up_what_came : InEachDirection IsWhatCameInLife
+hands_up_what_came = in_each IsWhatCameInLife came_so

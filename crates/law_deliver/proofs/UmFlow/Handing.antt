@@ -52,7 +52,7 @@ use Rattle.bearer.specs.Hearing.{arriving, arrived as flow_arrived, expiry, expi
 use Rattle.bearer.specs.Hearing.{with_discard}
 use Rattle.bearer.specs.Lives.{stopping}
 use Rattle.law_bearer.specs.AnyBearer.Calls.{Call, Submit, Take, Arrive, Expire, Tick, SetDiscard}
-use Rattle.law_bearer.specs.AmBearer.Calls.{ups_in}
+use Rattle.law_bearer.specs.AmBearer.Calls.{ups_among}
 use Rattle.law_bearer.proofs.AmBearer.Ups.{ups_then, none_then, ups_are}
 use Rattle.law_bearer.proofs.AmBearer.Taking.{taking_none}
 use Rattle.law_bearer.proofs.AmBearer.Timing.{tick_none}
@@ -71,9 +71,9 @@ none_ready e q = ap (λ (l : List (List ℕ)). record e { rx = record e.rx { rea
 -- an answer, with the receiver that it leaves
 record Comes (cause : Cause) (g : Got) (r : Receiving) (e : Ends) : Type 0 where
   left : got_left g cause (record e { rx = r }) ≡ record e { rx = raised r }
-  ups : ups_in (got_told g cause (record e { rx = r })) ≡ r.ready
+  ups : ups_among (got_told g cause (record e { rx = r })) ≡ r.ready
 
-report_told : (b : Bool) (lcid : ℕ) → ups_in (if b then [] else events.Drop lcid lost.Report ∷ []) ≡ []
+report_told : (b : Bool) (lcid : ℕ) → ups_among (if b then [] else events.Drop lcid lost.Report ∷ []) ≡ []
 report_told true lcid = refl
 report_told false lcid = refl
 
@@ -123,7 +123,7 @@ unfolding after_hearing got arrived
 after_one cause pdu e um q = (heard_comes cause (heard e.rx.kind pdu) e um q).left
 
 one_ups : (cause : Cause) (pdu : List ℕ) (e : Ends) → is_am e.kind ≡ false → e.rx.ready ≡ []
-    → ups_in (heard_told pdu cause e) ≡ (arrived e.rx pdu cause).ready
+    → ups_among (heard_told pdu cause e) ≡ (arrived e.rx pdu cause).ready
 unfolding heard_told got arrived
 one_ups cause pdu e um q = (heard_comes cause (heard e.rx.kind pdu) e um q).ups
 
@@ -131,11 +131,11 @@ one_ups cause pdu e um q = (heard_comes cause (heard e.rx.kind pdu) e um q).ups
 
 pub record HearsSo (cause : Cause) (pdus : List (List ℕ)) (h : Hearing) : Type 0 where
   pub left : (hears_all pdus cause h).pdcp ≡ record h.pdcp { rx = hears cause pdus h.pdcp.rx }
-  pub ups : ups_in (hears_all pdus cause h).events ≡ ups_in h.events ++ raises cause pdus h.pdcp.rx
+  pub ups : ups_among (hears_all pdus cause h).events ≡ ups_among h.events ++ raises cause pdus h.pdcp.rx
 
 pub hears_so : (cause : Cause) (pdus : List (List ℕ)) (h : Hearing) → is_am h.pdcp.kind ≡ false → h.pdcp.rx.ready ≡ []
     → HearsSo cause pdus h
-hears_so cause [] h um q = record { left = refl; ups = sym (append-nil (ups_in h.events)) }
+hears_so cause [] h um q = record { left = refl; ups = sym (append-nil (ups_among h.events)) }
 hears_so cause (pdu ∷ pdus) h um q =
     let e : Ends = record h.pdcp { rx = hears_one cause pdu h.pdcp.rx } in
     let more : List Event = h.events ++ heard_told pdu cause h.pdcp in
@@ -147,11 +147,11 @@ hears_so cause (pdu ∷ pdus) h um q =
     record {
       left = ap (λ (x : Hearing). (hears_all pdus cause x).pdcp) same ∙ rest.left;
       ups =
-          ap (λ (x : Hearing). ups_in (hears_all pdus cause x).events) same ∙ rest.ups
+          ap (λ (x : Hearing). ups_among (hears_all pdus cause x).events) same ∙ rest.ups
           ∙ ap (λ (l : List (List ℕ)). l ++ raises cause pdus e.rx)
           (ups_then h.events (heard_told pdu cause h.pdcp)
-          ∙ ap (λ (l : List (List ℕ)). ups_in h.events ++ l) (one_ups cause pdu h.pdcp um q))
-          ∙ append_assoc (ups_in h.events) up (raises cause pdus e.rx);
+          ∙ ap (λ (l : List (List ℕ)). ups_among h.events ++ l) (one_ups cause pdu h.pdcp um q))
+          ∙ append_assoc (ups_among h.events) up (raises cause pdus e.rx);
     }
 
 hears_ready : (cause : Cause) (pdus : List (List ℕ)) (r : Receiving) → r.ready ≡ [] → (hears cause pdus r).ready ≡ []
@@ -163,12 +163,12 @@ hears_ready cause (pdu ∷ pdus) r q = hears_ready cause pdus (hears_one cause p
 record HearsIn (before after' : Ends) (told : List Event) (pdus : List (List ℕ)) : Type 0 where
   kind : after'.kind ≡ before.kind
   heard' : after'.rx ≡ hears Arrived pdus before.rx
-  ups : ups_in told ≡ raises Arrived pdus before.rx
+  ups : ups_among told ≡ raises Arrived pdus before.rx
 
-quiet : (e : Ends) (told : List Event) → ups_in told ≡ [] → HearsIn e e told []
+quiet : (e : Ends) (told : List Event) → ups_among told ≡ [] → HearsIn e e told []
 quiet e told none = record { kind = refl; heard' = refl; ups = none }
 
-ups_so : (r : Receiver) (told : List Event) (b : State) → ups_in told ≡ [] → is_am b.pdcp.kind ≡ false
+ups_so : (r : Receiver) (told : List Event) (b : State) → ups_among told ≡ [] → is_am b.pdcp.kind ≡ false
     → b.pdcp.rx.ready ≡ [] → HearsIn b.pdcp (up_left r told b).pdcp (up_told r told b) r.joined.ready
 ups_so r told b none um q =
     let s = hears_so Arrived r.joined.ready (record { pdcp = b.pdcp; events = told }) um q in
@@ -179,13 +179,13 @@ ups_so r told b none um q =
     }
 
 turned_none : (lcid : ℕ) (stopped' started : Bool)
-    → ups_in (turned_told lcid (record { stopped = stopped'; started = started })) ≡ []
+    → ups_among (turned_told lcid (record { stopped = stopped'; started = started })) ≡ []
 turned_none lcid true true = refl
 turned_none lcid true false = refl
 turned_none lcid false true = refl
 turned_none lcid false false = refl
 
-landed_none : (lcid : ℕ) (l : Landed) (t : Turned) → ups_in (landed_told lcid l t) ≡ []
+landed_none : (lcid : ℕ) (l : Landed) (t : Turned) → ups_among (landed_told lcid l t) ≡ []
 landed_none lcid Kept t = turned_none lcid t.stopped t.started
 landed_none lcid Repeat t = refl
 landed_none lcid Outside t = refl
@@ -198,7 +198,7 @@ arrival_so (Ok pdu) b um q =
     ups_so (arrival pdu b.rx) (landed_told b.pdcp.lcid (landing pdu b.rx) (turning pdu b.rx)) b
     (landed_none b.pdcp.lcid (landing pdu b.rx) (turning pdu b.rx)) um q
 
-expired_none : (lcid : ℕ) (again : Bool) → ups_in (expired_told lcid Reorder again) ≡ []
+expired_none : (lcid : ℕ) (again : Bool) → ups_among (expired_told lcid Reorder again) ≡ []
 expired_none lcid true = refl
 expired_none lcid false = refl
 
@@ -230,8 +230,8 @@ tick_so : (e m : Ends) (told : List Event) (pdus : List (List ℕ)) → HearsIn 
 tick_so e m told pdus h = record {
   kind = (ticked_rx m).1 ∙ h.kind;
   heard' = (ticked_rx m).0 ∙ h.heard';
-  ups = ups_then told (tick_told m) ∙ ap (λ (l : List (List ℕ)). ups_in told ++ l) (tick_none m)
-      ∙ append-nil (ups_in told) ∙ h.ups;
+  ups = ups_then told (tick_told m) ∙ ap (λ (l : List (List ℕ)). ups_among told ++ l) (tick_none m)
+      ∙ append-nil (ups_among told) ∙ h.ups;
 }
 
 -- ---- as RLC takes PDUs
@@ -243,14 +243,14 @@ fed_rx e = (refl, refl)
 record FedSo (f g : Feeding) : Type 0 where
   kind : g.pdcp.kind ≡ f.pdcp.kind
   rx : g.pdcp.rx ≡ f.pdcp.rx
-  ups : ups_in g.events ≡ ups_in f.events
+  ups : ups_among g.events ≡ ups_among f.events
 
 fed_so : (f g : Feeding) → FedSo (fed f) g → FedSo f g
 fed_so f g h = record {
   kind = h.kind ∙ (fed_rx f.pdcp).1;
   rx = h.rx ∙ (fed_rx f.pdcp).0;
   ups = h.ups ∙ ups_then f.events (taking_told f.pdcp)
-      ∙ ap (λ (l : List (List ℕ)). ups_in f.events ++ l) (taking_none f.pdcp) ∙ append-nil (ups_in f.events);
+      ∙ ap (λ (l : List (List ℕ)). ups_among f.events ++ l) (taking_none f.pdcp) ∙ append-nil (ups_among f.events);
 }
 
 fed_by : (b : Bool) (f g : Feeding) → FedSo f g → FedSo f (if b then g else f)
@@ -263,11 +263,11 @@ feeds_so (o ∷ os) size held f =
     fed_by (is_hungry f.tx size held) f (feeds os size held (fed f))
     (fed_so f (feeds os size held (fed f)) (feeds_so os size held (fed f)))
 
-idle_none : (lcid : ℕ) (more : Bool) (why : Waits) → ups_in (idle_told lcid more why) ≡ []
+idle_none : (lcid : ℕ) (more : Bool) (why : Waits) → ups_among (idle_told lcid more why) ≡ []
 idle_none lcid true why = refl
 idle_none lcid false why = refl
 
-data_none : (lcid bits : ℕ) (more : Bool) (why : Waits) (t : Taken) → ups_in (data_told lcid bits more why t) ≡ []
+data_none : (lcid bits : ℕ) (more : Bool) (why : Waits) (t : Taken) → ups_among (data_told lcid bits more why t) ≡ []
 data_none lcid bits more why (taken.Piece number first polled octets) = refl
 data_none lcid bits more why taken.Idle = idle_none lcid more why
 data_none lcid bits more why taken.Small = refl
@@ -345,7 +345,7 @@ hears_what_is_handed bits b (c ∷ cs) h =
           ∙ sym (hears_then Arrived (hands b c) (handed d cs) r);
       ups =
           ups_then (tells b c) (tells_all d cs)
-          ∙ ap (λ (l : List (List ℕ)). l ++ ups_in (tells_all d cs)) one.ups
+          ∙ ap (λ (l : List (List ℕ)). l ++ ups_among (tells_all d cs)) one.ups
           ∙ ap (λ (l : List (List ℕ)). raises Arrived (hands b c) r ++ l)
           (rest.ups ∙ ap (raises Arrived (handed d cs)) one.heard')
           ∙ sym (raises_then Arrived (hands b c) (handed d cs) r);
@@ -361,7 +361,7 @@ rest_ready bits b h =
     (hears_so Reestablished (all_joined b.rx) (record { pdcp = b.pdcp; events = [] }) (is_um bits b h) h.idle).left
 
 rest_ups : (bits : ℕ) (b : State) → IsOfData bits b
-    → ups_in (um_stopping b) ≡ raises Reestablished (all_joined b.rx) b.pdcp.rx
+    → ups_among (um_stopping b) ≡ raises Reestablished (all_joined b.rx) b.pdcp.rx
 unfolding um_stopping
 rest_ups bits b h =
     (hears_so Reestablished (all_joined b.rx) (record { pdcp = b.pdcp; events = [] }) (is_um bits b h) h.idle).ups

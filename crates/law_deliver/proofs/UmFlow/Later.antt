@@ -8,19 +8,20 @@ use Rattle.bearer.specs.declared.flow.Flow.TheVariants.{Um}
 use Rattle.bearer.specs.Unacknowledged.State.{State}
 use Rattle.law_bearer.specs.AnyBearer.Calls.{Call}
 use Rattle.law_bearer.specs.AnyBearer.Stream.{stream}
-use Rattle.law_rlc.specs.UmPair.Run.{Call as ReceiverCall, World, run, fresh}
+use Rattle.law_rlc.specs.UmPair.Run.{Call as ReceiverCall, World, run_um_receiver, fresh}
 use Rattle.law_rlc.specs.UmPair.Send.{Step as SenderStep, Flow, flow, at_first}
-use Rattle.law_rlc.specs.UmPair.Which.{those, HasMore, GoesOn as RunGoesOn}
+use Rattle.law_rlc.specs.UmPair.Which.{HasMore, GoesOn as RunGoesOn}
+use Rattle.law_words.specs.Lists.{those}
 use Rattle.law_rlc.proofs.UmPair.Which.{those_left, those_then}
 use Rattle.law_rlc.proofs.UmPair.Later.{more_go_up_later}
-use Rattle.law_deliver.specs.UmFlow.Pair.{Pair, Step, Near, Far, happens, goes, outset, AreGiven, AreShortThere}
+use Rattle.law_deliver.specs.UmFlow.Pair.{Pair, Step, Near, Far, happens, goes, um_pair_outset, AreGiven, AreShortThere}
 use Rattle.law_deliver.specs.UmFlow.Pair.{AreShortBack}
 use Rattle.law_deliver.specs.UmFlow.Calls.{near_calls, far_calls}
 use Rattle.law_deliver.specs.UmFlow.Handing.{all_called}
 use Rattle.law_deliver.specs.UmFlow.Lives.{BeginsLife}
 use Rattle.law_deliver.specs.UmFlow.Runs.{all_sender_steps, all_receiver_calls}
 use Rattle.law_deliver.specs.UmFlow.Flows.{Way, there, back, given, heard, sends, receives, places, last_places, behind}
-use Rattle.law_deliver.specs.UmFlow.Flows.{Follow, IsWhatCame, GoesOn}
+use Rattle.law_deliver.specs.UmFlow.Flows.{Follow, IsWhatCameInLife, GoesOn}
 use Rattle.law_deliver.proofs.UmFlow.Calls.{steps_then, receives_then, stream_then, near_then, far_then}
 use Rattle.law_deliver.proofs.UmFlow.Flows.{hands_up_what_came}
 
@@ -73,14 +74,14 @@ runs_on bits reorder w v u e =
     ∙ receives_then w.to w.to_calls e.to_more in
     let width : ℕ = width_of bits in
     let f : Flow = flow ss (at_first bits) in
-    let x : World = run cs (fresh width reorder) in
+    let x : World = run_um_receiver cs (fresh width reorder) in
     subst (λ (l : List SenderStep). RunGoesOn width f (flow l (at_first bits)) x (receives bits reorder v)) (sym steps)
     (subst (λ (l : List ReceiverCall). RunGoesOn width f (flow (ss ++ all_sender_steps c e.from_more) (at_first bits))
-    x (run l (fresh width reorder))) (sym calls)
+    x (run_um_receiver l (fresh width reorder))) (sym calls)
     (more_go_up_later bits reorder ss (all_sender_steps c e.from_more) cs (all_receiver_calls d e.to_more) u))
 
-later_so : (bits reorder : ℕ) (w v : Way) → IsUmBits bits → Extends w v → IsWhatCame bits reorder w
-    → IsWhatCame bits reorder v → GoesOn bits reorder w v
+later_so : (bits reorder : ℕ) (w v : Way) → IsUmBits bits → Extends w v → IsWhatCameInLife bits reorder w
+    → IsWhatCameInLife bits reorder v → GoesOn bits reorder w v
 later_so bits reorder w v u e a b =
     let more : List (List ℕ) = stream (Um (all_called w.from w.from_calls)) e.from_more in
     let pdus : given v ≡ given w ++ more =
@@ -123,13 +124,13 @@ back_first (Far d ∷ xs) ys p g = back_first xs ys (happens p (Far d)) g
 -- ---- the law
 
 pub more_comes_later : (bits n f : ℕ) (near far : State) (steps more : List Step) → IsUmBits bits
-    → BeginsLife bits n near → BeginsLife bits f far → AreGiven (outset near far) (steps ++ more)
-    → (AreShortThere (outset near far) (steps ++ more)
+    → BeginsLife bits n near → BeginsLife bits f far → AreGiven (um_pair_outset near far) (steps ++ more)
+    → (AreShortThere (um_pair_outset near far) (steps ++ more)
     → GoesOn bits f (there near far steps) (there near far (steps ++ more)))
-    × (AreShortBack (outset near far) (steps ++ more)
+    × (AreShortBack (um_pair_outset near far) (steps ++ more)
     → GoesOn bits n (back near far steps) (back near far (steps ++ more)))
 more_comes_later bits n f near far steps more u h k g =
-    let p : Pair = outset near far in
+    let p : Pair = um_pair_outset near far in
     let xs : List Call = near_calls (goes steps p) more in
     let ys : List Call = far_calls (goes steps p) more in
     let near_is = near_then steps more p in

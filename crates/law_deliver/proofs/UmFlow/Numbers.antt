@@ -7,7 +7,7 @@ use Rattle.rlc_pdu.specs.Pdus.{UmdPdu}
 use Rattle.rlc_queue.specs.NewPdu.{room, may_follow, rest}
 use Rattle.rlc_queue.specs.Waiting.{HaveOctets, behind}
 use Rattle.law_words.specs.Lists.{IsSubsequence}
-use Rattle.law_rlc.specs.UmPair.Run.{Call, Arrive, Expire, Tick, Up, World, happens, run}
+use Rattle.law_rlc.specs.UmPair.Run.{Call, Arrive, Expire, Tick, Up, World, happens, run_um_receiver}
 use Rattle.law_rlc.specs.UmPair.Send.{Step, Flow, goes, flow}
 use Rattle.law_rlc.specs.UmPair.Loss.{kept}
 use Rattle.law_rlc.specs.UmPair.Air.{IsSent, AreSent}
@@ -34,7 +34,8 @@ pub flow_more : (xs ys : List Step) (f : Flow) → flow (xs ++ ys) f ≡ flow ys
 flow_more [] ys f = refl
 flow_more (x ∷ xs) ys f = flow_more xs ys (goes f x)
 
-pub run_more : (cs ds : List Call) (w : World) → run (cs ++ ds) w ≡ run ds (run cs w)
+pub run_more : (cs ds : List Call) (w : World) → run_um_receiver (cs ++ ds) w
+    ≡ run_um_receiver ds (run_um_receiver cs w)
 run_more [] ds w = refl
 run_more (c ∷ cs) ds w = run_more cs ds (happens w c)
 
@@ -55,7 +56,7 @@ sent_grows made more width (Up ∷ cs) w h = sent_grows made more width cs (happ
 
 -- more calls come
 pub sent_more : (made : List UmdPdu) (width : ℕ) (cs ds : List Call) (w : World) → AreSent made width cs w
-    → AreSent made width ds (run cs w) → AreSent made width (cs ++ ds) w
+    → AreSent made width ds (run_um_receiver cs w) → AreSent made width (cs ++ ds) w
 sent_more made width [] ds w h k = k
 sent_more made width (Arrive pdu ∷ cs) ds w h k = (h.0, sent_more made width cs ds (happens w (Arrive pdu)) h.1 k)
 sent_more made width (Expire ∷ cs) ds w h k = sent_more made width cs ds (happens w Expire) h k

@@ -25,7 +25,8 @@ use Rattle.rlc_um.specs.Receiver.{counted, handed}
 use Rattle.bearer.specs.Unacknowledged.Hearing.{all_handed}
 use Rattle.law_rlc.specs.AmPair.Flow.{Copy, copies_with, except}
 use Rattle.law_rlc.specs.AmPair.Given.{IsHeld}
-use Rattle.law_rlc.specs.UmPair.Run.{Call, Arrive, Expire, Tick, Up, World, fresh, happens, run, read_number}
+use Rattle.law_rlc.specs.UmPair.Run.{Call, Arrive, Expire, Tick, Up, World, fresh, happens, run_um_receiver}
+use Rattle.law_rlc.specs.UmPair.Run.{read_number}
 use Rattle.law_rlc.specs.UmPair.Send.{Step, Offer, Take, Flow, made_by, goes, flow, at_first}
 use Rattle.law_rlc.specs.UmPair.Air.{IsSent, AreSent, IsReadTruly}
 use Rattle.law_rlc.proofs.UmPair.Air.{read_truly}
@@ -46,7 +47,7 @@ pub record Stands (bits reorder : ℕ) (steps : List Step) (calls : List Call) (
   pub f : Flow
   pub w : World
   pub f_is : flow steps (at_first bits) ≡ f
-  pub w_is : run calls (fresh (width_of bits) reorder) ≡ w
+  pub w_is : run_um_receiver calls (fresh (width_of bits) reorder) ≡ w
   pub sent' : AreSent f.made (width_of bits) calls (fresh (width_of bits) reorder)
   pub sender_is : f.sender ≡ tx
   pub given_is : f.offered ≡ given
@@ -118,8 +119,8 @@ given_by false true c e = absurd cc
 given_by false false true e = absurd cc
 given_by false false false e = (refl, refl, refl)
 
-pub gives : (tx : Sender) (size : ℕ) (held : Option ℕ) → turn tx size held ≡ Gives → Given tx size held
-gives tx size held e =
+pub turn_given : (tx : Sender) (size : ℕ) (held : Option ℕ) → turn tx size held ≡ Gives → Given tx size held
+turn_given tx size held e =
     let g = given_by (length tx.waiting.sdus == 0) (is_held held tx) (nat_lt size (head_of tx.bits + 1)) e in
     record { wait = grind (arith, nat_tests, g.0); free = g.1; room' = grind (arith, nat_tests, g.2) }
 
@@ -245,7 +246,7 @@ taken_turn TurnsHeld bits reorder steps calls tx rx cs given heard size held q u
 taken_turn IsSmall bits reorder steps calls tx rx cs given heard size held q u low h =
     takes_none IsSmall bits reorder steps calls tx rx cs given heard size held q h refl
 taken_turn Gives bits reorder steps calls tx rx cs given heard size held q u low h =
-    let g = gives tx size held q in
+    let g = turn_given tx size held q in
     let p = pdu_of tx size in
     let more = grows_by_one h.f.made p in
     let before = h.next_is in
@@ -340,11 +341,12 @@ tops bits reorder steps calls tx rx cs given heard u h =
     ap (λ (r : Receiver). top_of r.window) (sym h.receiver_is) ∙ here
 
 pub reads_so : (bits reorder : ℕ) (steps : List Step) (calls : List Call) (f : Flow) (w : World) (pdu : UmdPdu)
-    → IsUmBits bits → flow steps (at_first bits) ≡ f → run calls (fresh (width_of bits) reorder) ≡ w
+    → IsUmBits bits → flow steps (at_first bits) ≡ f → run_um_receiver calls (fresh (width_of bits) reorder) ≡ w
     → AreSent f.made (width_of bits) calls (fresh (width_of bits) reorder) → IsReadTruly f.made (width_of bits) w pdu
 reads_so bits reorder steps calls f w pdu u p q sent =
     subst (λ (x : World). IsReadTruly f.made (width_of bits) x pdu) q
-    (subst (λ (g : Flow). IsReadTruly g.made (width_of bits) (run calls (fresh (width_of bits) reorder)) pdu) p
+    (subst (λ (g : Flow). IsReadTruly g.made (width_of bits)
+    (run_um_receiver calls (fresh (width_of bits) reorder)) pdu) p
     (read_truly bits reorder steps calls u
     (subst (λ (g : Flow). AreSent g.made (width_of bits) calls (fresh (width_of bits) reorder)) (sym p) sent)
     pdu))

@@ -29,17 +29,19 @@ use Rattle.pdcp_tx.specs.State.{start}
 use Rattle.rlc_pdu.specs.Pdus.{IsUmBits}
 use Rattle.rlc_um.specs.Receiver.{all_joined}
 use Rattle.rlc_um.specs.Sender.{width_of}
-use Rattle.law_deliver.specs.UmChannel.Delivery.{BeginAlike, direction_from}
+use Rattle.law_deliver.specs.UmChannel.Delivery.{UmEndsBeginAlike, direction_from}
 use Rattle.law_deliver.specs.UmChannel.Pairs.{steps_in, walk}
-use Rattle.law_deliver.proofs.UmChannel.Bearers.{near_end, far_end}
+use Rattle.law_bearer.specs.AmBearer.Lives.{other}
+use Rattle.law_deliver.proofs.UmChannel.Bearers.{near_end, far_end, own}
 use Rattle.law_deliver.proofs.UmChannel.Delivery.{channels_deliver_in_order}
 use Rattle.law_deliver.proofs.UmChannel.Walk.{Stands, begins_so, moves_so}
 use Rattle.law_deliver.specs.UmDelivery.Delivery.{AreShort}
 use Rattle.law_deliver.specs.UmDelivery.Lives.{next_near, next_far}
 use Rattle.law_deliver.proofs.UmDelivery.Laws.{first_begins}
-use Rattle.law_deliver.proofs.UmDelivery.Through.{begins_next as begin_next}
+use Rattle.law_deliver.specs.UmDelivery.Lives.{Life, AreShortIn}
+use Rattle.law_deliver.proofs.UmDelivery.Through.{Begin, begins_next as begin_next}
 use Rattle.law_deliver.specs.UmFlow.Calls.{near_calls, far_calls}
-use Rattle.law_deliver.specs.UmFlow.Pair.{Pair, Step as PairStep, goes, outset as pair_outset}
+use Rattle.law_deliver.specs.UmFlow.Pair.{Pair, Step as PairStep, goes, um_pair_outset, begins as pair_begins}
 use Rattle.um_losses.specs.Flow.{Flow, fresh_receiver, after, restarts}
 use Rattle.um_losses.specs.Names.{Happening}
 use Rattle.um_losses.proofs.Long.{unlong}
@@ -51,8 +53,9 @@ use Rattle.law_deliver.proofs.UmGaps.Counting.{Begins, begins_next}
 use Rattle.law_deliver.proofs.UmGaps.Gaps.{all_counted_so}
 use Rattle.law_deliver.proofs.UmGaps.Places.{few_now, few_to_end}
 use Rattle.law_deliver.proofs.UmGaps.Telling.{none_ends}
-use Rattle.law_deliver.proofs.UmGaps.Walking.{alone_on, Follows, IsNewFlow, first_tracks, follow}
-use Rattle.law_pdcp.specs.UmPair.Flow.{outset as pdcp_outset}
+use Rattle.law_deliver.proofs.UmGaps.Tracking.{Tracks}
+use Rattle.law_deliver.proofs.UmGaps.Walking.{alone_on, station, Follows, IsNewFlow, first_tracks, ToldIn, follow}
+use Rattle.law_pdcp.specs.UmPair.Flow.{um_pdcp_outset}
 use Rattle.law_pdcp.proofs.UmPair.Laws.{outset_writes}
 
 -- what is told later doesn't make a long gap short
@@ -75,84 +78,100 @@ new_again bits counts f b w k =
     }
 
 module _ (l : ℕ) (c : BearerConfig) (u : IsUmBits c.rlc_bits) (some : 0 < 2 ^ c.pdcp_bits) where
-  -- both ends move
+  -- both ends move, and begin the next life
+  abbrev life_of : List PairStep → Keys → Life
+  life_of so_far keys = record { steps = so_far; keys = keys }
+
+  near_next : (near far : State) (so_far : List PairStep) (keys : Keys)
+      → Begin c.pdcp_bits c.rlc_bits c.rx.reorder near
+      → Begin c.pdcp_bits c.rlc_bits c.rx.reorder (next_near near far (life_of so_far keys))
+  near_next near far so_far keys h =
+      begin_next c.pdcp_bits c.rlc_bits c.rx.reorder near (goes so_far (um_pair_outset near far)).near.bearer
+      (near_calls (um_pair_outset near far) so_far) keys (near_end near far so_far) h
+
+  far_next : (near far : State) (so_far : List PairStep) (keys : Keys)
+      → Begin c.pdcp_bits c.rlc_bits c.rx.reorder far
+      → Begin c.pdcp_bits c.rlc_bits c.rx.reorder (next_far near far (life_of so_far keys))
+  far_next near far so_far keys h =
+      begin_next c.pdcp_bits c.rlc_bits c.rx.reorder far (goes so_far (um_pair_outset near far)).far.bearer
+      (far_calls (um_pair_outset near far) so_far) keys (far_end near far so_far) h
+
+  abbrev FirstTold : State → State → Flow → Type 0
+  FirstTold a b f =
+      Tracks c.rlc_bits c.rx.reorder (2 ^ c.pdcp_bits) a [] b [] (pair_begins a) (pair_begins b) [] (restarts f)
+
+  told_again : (from : Side) (a : Air) (near far : State) (so_far : List PairStep) (f : Flow) (x y : State)
+      → Follows l c from a near far so_far f → Begin c.pdcp_bits c.rlc_bits c.rx.reorder x
+      → Begin c.pdcp_bits c.rlc_bits c.rx.reorder y → FirstTold x y f
+  told_again from a near far so_far f x y h i j =
+      let t = h.tracks.heard in
+      first_tracks c.pdcp_bits c.rlc_bits c.rx.reorder (2 ^ c.pdcp_bits) x y (restarts f) u i j
+      (new_again c.rlc_bits (2 ^ c.pdcp_bits) f t.bits_are t.width_is t.counts_are)
+
+  begins_anew : (from : Side) (a : Air) (keys : Keys) (near far : State) (so_far : List PairStep) (f : Flow)
+      → IsLivingAir l a (Moves keys) → Follows l c from a near far so_far f
+      → Begins c.pdcp_bits (own from (next_near near far (life_of so_far keys))
+      (next_far near far (life_of so_far keys)))
+      → [] ≡ (station from (lives_on a (Moves keys))).blocks
+      → ToldIn l c u some from (next_near near far (life_of so_far keys))
+      (next_far near far (life_of so_far keys)) [] []
+      (restarts f)
+      → AreShortIn (direction_from from)
+      (um_pair_outset (next_near near far (life_of so_far keys)) (next_far near far (life_of so_far keys))) []
+      → Follows l c from (lives_on a (Moves keys)) (next_near near far (life_of so_far keys))
+      (next_far near far (life_of so_far keys)) [] (restarts f)
+  begins_anew from a keys near far so_far f g h begins blocks tracks short = record {
+    stands = record {
+      nb = moves_so Nb l a.nb (goes so_far (um_pair_outset near far)).near keys h.stands.nb;
+      ue = moves_so Ue l a.ue (goes so_far (um_pair_outset near far)).far keys h.stands.ue;
+      living = record { given = tt; near_accepts = tt; far_accepts = tt };
+    };
+    alone = alone_on (other from) l a (Moves keys) g h.alone;
+    near_begin = near_next near far so_far keys h.near_begin;
+    far_begin = far_next near far so_far keys h.far_begin;
+    begins = begins;
+    loads = [];
+    blocks_are = blocks;
+    carry = tt;
+    tracks = tracks;
+    short = short;
+  }
+
   moves : (from : Side) (a : Air) (keys : Keys) (near far : State) (so_far : List PairStep) (f : Flow)
       → IsLivingAir l a (Moves keys) → Follows l c from a near far so_far f
-      → Follows l c from (lives_on a (Moves keys)) (next_near near far (record { steps = so_far; keys = keys }))
-      (next_far near far (record { steps = so_far; keys = keys })) []
+      → Follows l c from (lives_on a (Moves keys)) (next_near near far (life_of so_far keys))
+      (next_far near far (life_of so_far keys)) []
       (all_after (whats_in from l c.rlc_bits a (Moves keys)) f)
   moves Nb a keys near far so_far f g h =
-      let p : Pair = goes so_far (pair_outset near far) in
+      let p : Pair = goes so_far (um_pair_outset near far) in
       let near' : State = restarted (stopped p.near.bearer) keys in
       let far' : State = restarted (stopped p.far.bearer) keys in
       let quiet : expiries l (told_of a.ue.end (Move keys)) ≡ [] =
-      none_ends l (told_of a.ue.end (Move keys)) p.far.bearer ((the_end Ue l a.ue.end keys h.alone).told_is
-      ∙ ap stopping h.stands.ue.bearer_is) in
-      let nb_begins =
-      begin_next c.pdcp_bits c.rlc_bits c.rx.reorder near p.near.bearer (near_calls (pair_outset near far) so_far)
-      keys (near_end near far so_far) h.near_begin in
-      let ue_begins =
-      begin_next c.pdcp_bits c.rlc_bits c.rx.reorder far p.far.bearer (far_calls (pair_outset near far) so_far)
-      keys (far_end near far so_far) h.far_begin in
-      let t = h.tracks.heard in
+      none_ends l (told_of a.ue.end (Move keys)) p.far.bearer
+      ((the_end Ue l a.ue.end keys h.alone).told_is ∙ ap stopping h.stands.ue.bearer_is) in
       subst (λ (ws : List Happening). Follows l c Nb (lives_on a (Moves keys)) near' far' []
       (all_after ws (restarts f))) (sym quiet)
-      (record {
-        stands = record {
-          nb = moves_so Nb l a.nb p.near keys h.stands.nb;
-          ue = moves_so Ue l a.ue p.far keys h.stands.ue;
-          living = record { given = tt; near_accepts = tt; far_accepts = tt };
-        };
-        alone = alone_on Ue l a (Moves keys) g h.alone;
-        near_begin = nb_begins;
-        far_begin = ue_begins;
-        begins = subst (λ (b : State). Begins c.pdcp_bits (restarted (stopped b) keys)) (near_end near far so_far)
-            (begins_next c.pdcp_bits near (near_calls (pair_outset near far) so_far) h.begins
-            h.stands.living.near_accepts keys);
-        loads = [];
-        blocks_are = refl;
-        carry = tt;
-        tracks = first_tracks c.pdcp_bits c.rlc_bits c.rx.reorder (2 ^ c.pdcp_bits) near' far' (restarts f) u
-            nb_begins ue_begins
-            (new_again c.rlc_bits (2 ^ c.pdcp_bits) f t.bits_are t.width_is t.counts_are);
-        short = tt;
-      })
+      (begins_anew Nb a keys near far so_far f g h
+      (subst (λ (b : State). Begins c.pdcp_bits (restarted (stopped b) keys)) (near_end near far so_far)
+      (begins_next c.pdcp_bits near (near_calls (um_pair_outset near far) so_far) h.begins
+      h.stands.living.near_accepts keys)) refl
+      (told_again Nb a near far so_far f near' far' h (near_next near far so_far keys h.near_begin)
+      (far_next near far so_far keys h.far_begin)) tt)
   moves Ue a keys near far so_far f g h =
-      let p : Pair = goes so_far (pair_outset near far) in
+      let p : Pair = goes so_far (um_pair_outset near far) in
       let near' : State = restarted (stopped p.near.bearer) keys in
       let far' : State = restarted (stopped p.far.bearer) keys in
       let quiet : expiries l (told_of a.nb.end (Move keys)) ≡ [] =
       none_ends l (told_of a.nb.end (Move keys)) p.near.bearer
       ((the_end Nb l a.nb.end keys h.alone).told_is ∙ ap stopping h.stands.nb.bearer_is) in
-      let nb_begins =
-      begin_next c.pdcp_bits c.rlc_bits c.rx.reorder near p.near.bearer (near_calls (pair_outset near far) so_far)
-      keys (near_end near far so_far) h.near_begin in
-      let ue_begins =
-      begin_next c.pdcp_bits c.rlc_bits c.rx.reorder far p.far.bearer (far_calls (pair_outset near far) so_far)
-      keys (far_end near far so_far) h.far_begin in
-      let t = h.tracks.heard in
       subst (λ (ws : List Happening). Follows l c Ue (lives_on a (Moves keys)) near' far' []
       (all_after ws (restarts f))) (sym quiet)
-      (record {
-        stands = record {
-          nb = moves_so Nb l a.nb p.near keys h.stands.nb;
-          ue = moves_so Ue l a.ue p.far keys h.stands.ue;
-          living = record { given = tt; near_accepts = tt; far_accepts = tt };
-        };
-        alone = alone_on Nb l a (Moves keys) g h.alone;
-        near_begin = nb_begins;
-        far_begin = ue_begins;
-        begins = subst (λ (b : State). Begins c.pdcp_bits (restarted (stopped b) keys)) (far_end near far so_far)
-            (begins_next c.pdcp_bits far (far_calls (pair_outset near far) so_far) h.begins
-            h.stands.living.far_accepts keys);
-        loads = [];
-        blocks_are = refl;
-        carry = tt;
-        tracks = first_tracks c.pdcp_bits c.rlc_bits c.rx.reorder (2 ^ c.pdcp_bits) far' near' (restarts f) u
-            ue_begins nb_begins
-            (new_again c.rlc_bits (2 ^ c.pdcp_bits) f t.bits_are t.width_is t.counts_are);
-        short = tt;
-      })
+      (begins_anew Ue a keys near far so_far f g h
+      (subst (λ (b : State). Begins c.pdcp_bits (restarted (stopped b) keys)) (far_end near far so_far)
+      (begins_next c.pdcp_bits far (far_calls (um_pair_outset near far) so_far) h.begins
+      h.stands.living.far_accepts keys)) refl
+      (told_again Ue a near far so_far f far' near' h (far_next near far so_far keys h.far_begin)
+      (near_next near far so_far keys h.near_begin)) tt)
 
   walk_short : (from : Side) (xs : List AirStep) (a : Air) (near far : State) (so_far : List PairStep) (f : Flow)
       → AreLivingAir l a xs → Follows l c from a near far so_far f
@@ -160,13 +179,13 @@ module _ (l : ℕ) (c : BearerConfig) (u : IsUmBits c.rlc_bits) (some : 0 < 2 ^ 
       → AreShort c (direction_from from) near far (walk l so_far xs a).lives (walk l so_far xs a).steps
   walk_short Nb [] a near far so_far f g h e = (
     h.short,
-    few_now c.rlc_bits c.rx.reorder c.pdcp_bits u some near (near_calls (pair_outset near far) so_far) far
-        (far_calls (pair_outset near far) so_far) _ _ h.loads f h.begins h.stands.living.near_accepts h.tracks e,
+    few_now c.rlc_bits c.rx.reorder c.pdcp_bits u some near (near_calls (um_pair_outset near far) so_far) far
+        (far_calls (um_pair_outset near far) so_far) _ _ h.loads f h.begins h.stands.living.near_accepts h.tracks e,
   )
   walk_short Ue [] a near far so_far f g h e = (
     h.short,
-    few_now c.rlc_bits c.rx.reorder c.pdcp_bits u some far (far_calls (pair_outset near far) so_far) near
-        (near_calls (pair_outset near far) so_far) _ _ h.loads f h.begins h.stands.living.far_accepts h.tracks e,
+    few_now c.rlc_bits c.rx.reorder c.pdcp_bits u some far (far_calls (um_pair_outset near far) so_far) near
+        (near_calls (um_pair_outset near far) so_far) _ _ h.loads f h.begins h.stands.living.far_accepts h.tracks e,
   )
   walk_short from (InLife s ∷ xs) a near far so_far f g h e =
       let ws = whats_in from l c.rlc_bits a (InLife s) in
@@ -186,11 +205,12 @@ module _ (l : ℕ) (c : BearerConfig) (u : IsUmBits c.rlc_bits) (some : 0 < 2 ^ 
         (
           h.short,
           few_to_end c.rlc_bits c.rx.reorder c.pdcp_bits u some near
-              (near_calls (pair_outset near far) so_far) far (far_calls (pair_outset near far) so_far) _ _ h.loads f
+              (near_calls (um_pair_outset near far) so_far) far
+              (far_calls (um_pair_outset near far) so_far) _ _ h.loads f
               h.begins h.stands.living.near_accepts h.tracks now,
         ),
-        walk_short Nb xs (lives_on a (Moves keys)) (next_near near far (record { steps = so_far; keys = keys }))
-            (next_far near far (record { steps = so_far; keys = keys })) [] (all_after ws f) g.1
+        walk_short Nb xs (lives_on a (Moves keys)) (next_near near far (life_of so_far keys))
+            (next_far near far (life_of so_far keys)) [] (all_after ws f) g.1
             (moves Nb a keys near far so_far f g.0 h) then',
       )
   walk_short Ue (Moves keys ∷ xs) a near far so_far f g h e =
@@ -203,12 +223,12 @@ module _ (l : ℕ) (c : BearerConfig) (u : IsUmBits c.rlc_bits) (some : 0 < 2 ^ 
       (still_short more (all_after ws f) then') in (
         (
           h.short,
-          few_to_end c.rlc_bits c.rx.reorder c.pdcp_bits u some far (far_calls (pair_outset near far) so_far)
-              near (near_calls (pair_outset near far) so_far) _ _ h.loads f h.begins h.stands.living.far_accepts
+          few_to_end c.rlc_bits c.rx.reorder c.pdcp_bits u some far (far_calls (um_pair_outset near far) so_far)
+              near (near_calls (um_pair_outset near far) so_far) _ _ h.loads f h.begins h.stands.living.far_accepts
               h.tracks now,
         ),
-        walk_short Ue xs (lives_on a (Moves keys)) (next_near near far (record { steps = so_far; keys = keys }))
-            (next_far near far (record { steps = so_far; keys = keys })) [] (all_after ws f) g.1
+        walk_short Ue xs (lives_on a (Moves keys)) (next_near near far (life_of so_far keys))
+            (next_far near far (life_of so_far keys)) [] (all_after ws f) g.1
             (moves Ue a keys near far so_far f g.0 h) then',
       )
 
@@ -234,14 +254,14 @@ unfolding fresh begun start
 first_counts c keys side most =
     let p = protection_of (UmKind c.pdcp_bits) keys (bearer_of c.channel.lcid) (sends side) in
     record {
-      flow = pdcp_outset c.pdcp_bits p c.first;
+      flow = um_pdcp_outset c.pdcp_bits p c.first;
       writes = outset_writes c.pdcp_bits p c.first most;
       sender_is = refl;
       stream_is = refl;
       of_data = (first_begins c keys side).of_data;
     }
 
-module _ (l : ℕ) (c : BearerConfig) (keys : Keys) (nb ue : End) (h : BeginAlike l c keys nb ue) where
+module _ (l : ℕ) (c : BearerConfig) (keys : Keys) (nb ue : End) (h : UmEndsBeginAlike l c keys nb ue) where
   abbrev near : State
   near = fresh c keys Nb
 

@@ -33,7 +33,7 @@ use Rattle.law_deliver.proofs.UmFlow.Calls.{called_then, steps_then}
 use Rattle.law_deliver.proofs.UmFlow.Flows.{IsOn, from_on}
 use Rattle.law_deliver.proofs.UmFlow.Numbers.{flow_more, sent_grows, at_left, at_last, octets_push}
 use Rattle.law_deliver.proofs.UmFlow.Sending.{IsNoTake, called_alike}
-use Rattle.law_deliver.proofs.UmFlow.Standing.{IsCopyOf, gives, in_range, goes_take}
+use Rattle.law_deliver.proofs.UmFlow.Standing.{IsCopyOf, turn_given, in_range, goes_take}
 use Rattle.law_rlc.specs.UmPair.Run.{fresh}
 use Rattle.law_rlc.specs.UmPair.Send.{Step, Offer, Take as Takes, Flow as Made, made_by, goes, flow, at_first, joined}
 use Rattle.law_rlc.proofs.UmPair.Whole.{joined-more}
@@ -444,7 +444,7 @@ module _ (bits reorder counts : ℕ) (u : IsUmBits bits) where
       subst IsUmBits (sym (ap (λ (y : Sender). y.bits) fed ∙ offers_bits pdus d.tx ∙ old.bits_are)) u in
       let octets : HaveOctets s.waiting.sdus =
       subst (λ (y : Sender). HaveOctets y.waiting.sdus) (sym fed) (offers_octets pdus d.tx g.some old.some) in
-      let in' : IsUmdInRange s.bits pdu = in_range s size held known octets (gives s size held q) in
+      let in' : IsUmdInRange s.bits pdu = in_range s size held known octets (turn_given s size held q) in
       let bits_are : s.bits ≡ bits = ap (λ (y : Sender). y.bits) fed ∙ offers_bits pdus d.tx ∙ old.bits_are in
       let range : is_pdu bits (fields pdu) ≡ true =
       ranged bits pdu (subst (λ (v : ℕ). pdu.sn < 2 ^ v) bits_are in'.number)

@@ -16,7 +16,7 @@ use Rattle.law_deliver.specs.UmDelivery.Delivery.{FewBetween}
 use Rattle.law_deliver.specs.UmDelivery.Lives.{AreAccepted}
 use Rattle.law_deliver.specs.UmFlow.Pair.{BearerEnd}
 use Rattle.law_deliver.specs.UmFlow.Runs.{all_sender_steps}
-use Rattle.law_rlc.specs.UmPair.Run.{World, fresh, run, joined_below}
+use Rattle.law_rlc.specs.UmPair.Run.{World, fresh, run_um_receiver, joined_below}
 use Rattle.law_rlc.specs.UmPair.Send.{Flow as Made, flow, at_first, joined, carried, completed}
 use Rattle.law_rlc.specs.UmPair.Which.{nothing_sent, places_below, places_up}
 use Rattle.law_rlc.proofs.UmPair.Air.{Made as IsMade, Meets, meets-run, made-by, some-numbers}
@@ -101,7 +101,7 @@ module _ (bits reorder pdcp_bits : ℕ) (u : IsUmBits bits) (some : 0 < 2 ^ pdcp
     (ok : AreAccepted a xs)
     (h : Tracks bits reorder (2 ^ pdcp_bits) a xs b ys n m loads f) where
   abbrev t : World
-  t = run h.calls (fresh (width_of bits) 0)
+  t = run_um_receiver h.calls (fresh (width_of bits) 0)
 
   abbrev w : World
   w = heard_in bits reorder b ys

@@ -10,7 +10,8 @@ use Rattle.rlc_um.specs.Sender.{width_of}
 use Rattle.law_deliver.specs.UmFlow.Runs.{ups}
 use Rattle.law_deliver.proofs.UmFlow.Numbers.{run_more, sent_more}
 use Rattle.law_rlc.specs.UmPair.Air.{IsSent, AreSent}
-use Rattle.law_rlc.specs.UmPair.Run.{Call, Arrive, Expire, Tick, Up, World, fresh, happens, run, read_number}
+use Rattle.law_rlc.specs.UmPair.Run.{Call, Arrive, Expire, Tick, Up, World, fresh, happens, run_um_receiver}
+use Rattle.law_rlc.specs.UmPair.Run.{read_number}
 use Rattle.um_losses.specs.Flow.{Flow, none_ready, all_gone}
 use Rattle.um_losses.specs.Gaps.{numbered}
 use Rattle.um_losses.specs.Laws.{AreAlike}
@@ -30,7 +31,7 @@ record Raised (sdus : List (List ℕ)) (t : World) (u : World) : Type 0 where
   gone_is : u.gone ≡ t.gone ++ sdus
   top_is : u.top ≡ t.top
 
-raised : (sdus : List (List ℕ)) (t : World) → t.state.joined.ready ≡ sdus → Raised sdus t (run (ups sdus) t)
+raised : (sdus : List (List ℕ)) (t : World) → t.state.joined.ready ≡ sdus → Raised sdus t (run_um_receiver (ups sdus) t)
 raised [] t e =
     record {
       state_is =
@@ -54,11 +55,12 @@ ups_same (x ∷ xs) [] e = let no : suc (length xs) ≡ 0 = e in absurd cc
 ups_same (x ∷ xs) (y ∷ ys) e = let less : length xs ≡ length ys = cc in
     ap (λ (cs : List Call). Up ∷ cs) (ups_same xs ys less)
 
-rise_alike : (sdus : List (List ℕ)) (w t : World) → Same w t → Same (run (ups sdus) w) (run (ups sdus) t)
+rise_alike : (sdus : List (List ℕ)) (w t : World) → Same w t
+    → Same (run_um_receiver (ups sdus) w) (run_um_receiver (ups sdus) t)
 rise_alike [] w t h = h
 rise_alike (x ∷ xs) w t h = rise_alike xs (happens w Up) (happens t Up) (same_ups w t h)
 
-rise_top : (sdus : List (List ℕ)) (w : World) → (run (ups sdus) w).top ≡ w.top
+rise_top : (sdus : List (List ℕ)) (w : World) → (run_um_receiver (ups sdus) w).top ≡ w.top
 rise_top [] w = refl
 rise_top (x ∷ xs) w = rise_top xs (happens w Up)
 
@@ -66,15 +68,15 @@ rise_top (x ∷ xs) w = rise_top xs (happens w Up)
 
 module _ (bits counts : ℕ) where
   abbrev pub tagged_world : List Call → World
-  tagged_world calls = run calls (fresh (width_of bits) 0)
+  tagged_world calls = run_um_receiver calls (fresh (width_of bits) 0)
 
   abbrev pub tags_gone : List Call → List ℕ
-  tags_gone calls = map last_tag (run calls (fresh (width_of bits) 0)).gone
+  tags_gone calls = map last_tag (run_um_receiver calls (fresh (width_of bits) 0)).gone
 
   pub record Heard (w : World) (tm : List UmdPdu) (calls : List Call) (f : Flow) : Type 0 where
     pub sent' : AreSent tm (width_of bits) calls (fresh (width_of bits) 0)
-    pub same : Same w (run calls (fresh (width_of bits) 0))
-    pub state_is : (run calls (fresh (width_of bits) 0)).state ≡ f.receiver
+    pub same : Same w (run_um_receiver calls (fresh (width_of bits) 0))
+    pub state_is : (run_um_receiver calls (fresh (width_of bits) 0)).state ≡ f.receiver
     pub bits_are : f.bits ≡ bits
     pub width_is : f.gaps.width ≡ width_of bits
     pub counts_are : f.gaps.counts ≡ counts
@@ -85,14 +87,14 @@ module _ (bits counts : ℕ) where
   -- what is ready goes up at both, and its gaps are counted
   pub all_heard : (w : World) (tm : List UmdPdu) (calls : List Call) (f : Flow) (ready : List (List ℕ))
       → w.state.joined.ready ≡ ready → Heard w tm calls f
-      → Heard (run (ups ready) w) tm (calls ++ ups f.receiver.joined.ready) (all_gone f)
+      → Heard (run_um_receiver (ups ready) w) tm (calls ++ ups f.receiver.joined.ready) (all_gone f)
   all_heard w tm calls f ready r h =
-      let t : World = run calls (fresh (width_of bits) 0) in
+      let t : World = run_um_receiver calls (fresh (width_of bits) 0) in
       let sdus = f.receiver.joined.ready in
       let there : t.state.joined.ready ≡ sdus = ap (λ (s : Receiver). s.joined.ready) h.state_is in
-      let u : World = run (ups sdus) t in
+      let u : World = run_um_receiver (ups sdus) t in
       let up = raised sdus t there in
-      let more : run (calls ++ ups sdus) (fresh (width_of bits) 0) ≡ u =
+      let more : run_um_receiver (calls ++ ups sdus) (fresh (width_of bits) 0) ≡ u =
       run_more calls (ups sdus) (fresh (width_of bits) 0) in
       let many : length ready ≡ length sdus = ap length (sym r) ∙ (hear_alike w.state t.state h.same.outline_is).ready
       ∙ ap length there in
@@ -103,8 +105,8 @@ module _ (bits counts : ℕ) where
         sent' = sent_more tm (width_of bits) calls (ups sdus) (fresh (width_of bits) 0) h.sent'
             (ups_sent tm (width_of bits) sdus t);
         same =
-            subst (Same (run (ups ready) w)) (sym more)
-            (subst (λ (cs : List Call). Same (run cs w) u) (sym (ups_same ready sdus many))
+            subst (Same (run_um_receiver (ups ready) w)) (sym more)
+            (subst (λ (cs : List Call). Same (run_um_receiver cs w) u) (sym (ups_same ready sdus many))
             (rise_alike sdus w t h.same));
         state_is = ap (λ (x : World). x.state) more ∙ up.state_is ∙ ap none_ready h.state_is;
         bits_are = h.bits_are;
@@ -128,8 +130,8 @@ module _ (bits counts : ℕ) where
   pub expiry_heard : (w : World) (tm : List UmdPdu) (calls : List Call) (f : Flow) → Heard w tm calls f
       → Heard (happens w Expire) tm (calls ++ Expire ∷ []) (record f { receiver = expired f.receiver })
   expiry_heard w tm calls f h =
-      let t : World = run calls (fresh (width_of bits) 0) in
-      let more : run (calls ++ Expire ∷ []) (fresh (width_of bits) 0) ≡ happens t Expire =
+      let t : World = run_um_receiver calls (fresh (width_of bits) 0) in
+      let more : run_um_receiver (calls ++ Expire ∷ []) (fresh (width_of bits) 0) ≡ happens t Expire =
       run_more calls (Expire ∷ []) (fresh (width_of bits) 0) in
       let tags : tags_gone (calls ++ Expire ∷ []) ≡ tags_gone calls = ap (λ (x : World). map last_tag x.gone) more in
       record {
@@ -149,7 +151,7 @@ module _ (bits counts : ℕ) where
       → Heard (happens w Tick) tm calls f
   tick_heard w tm calls f h = record {
     sent' = h.sent';
-    same = same_ticks w (run calls (fresh (width_of bits) 0)) h.same;
+    same = same_ticks w (run_um_receiver calls (fresh (width_of bits) 0)) h.same;
     state_is = h.state_is;
     bits_are = h.bits_are;
     width_is = h.width_is;
@@ -183,8 +185,8 @@ module _ (bits counts : ℕ) where
       → Heard (happens w (Arrive p)) tm (calls ++ Arrive q ∷ [])
       (record f { receiver = arrival q f.receiver; gaps = numbered n f.gaps })
   arrival_heard w tm calls f n p q h a there low near read =
-      let t : World = run calls (fresh (width_of bits) 0) in
-      let more : run (calls ++ Arrive q ∷ []) (fresh (width_of bits) 0) ≡ happens t (Arrive q) =
+      let t : World = run_um_receiver calls (fresh (width_of bits) 0) in
+      let more : run_um_receiver (calls ++ Arrive q ∷ []) (fresh (width_of bits) 0) ≡ happens t (Arrive q) =
       run_more calls (Arrive q ∷ []) (fresh (width_of bits) 0) in
       let tags : tags_gone (calls ++ Arrive q ∷ []) ≡ tags_gone calls = ap (λ (x : World). map last_tag x.gone) more in
       let s : IsSent tm (width_of bits) t q =

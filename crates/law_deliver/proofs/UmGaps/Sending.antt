@@ -29,14 +29,14 @@ use Rattle.law_deliver.proofs.AmFlow.Loads.{Load, all_copies, blocks_in, except_
 use Rattle.law_deliver.proofs.AmFlow.Runs.{octets_of}
 use Rattle.law_deliver.proofs.AmFlow.Standing.{at_place}
 use Rattle.law_deliver.proofs.AmFlow.Stations.{plain_calls, calls_by as block_calls}
-use Rattle.law_deliver.proofs.AmFlow.Visiting.{carries_so}
+use Rattle.law_deliver.proofs.AmFlow.Visiting.{carries_so, blocks_held}
 use Rattle.rlc_pdu.specs.Pdus.{IsUmBits}
 use Rattle.law_deliver.specs.UmChannel.Pairs.{count_before, go_from, comes_with, goes_with, deeds_in}
 use Rattle.law_deliver.proofs.UmChannel.Acting.{acts}
 use Rattle.law_deliver.proofs.UmChannel.Deeds.{does_all, AreDone, all_calls_in, Drops, all_drops}
 use Rattle.law_deliver.proofs.UmChannel.Loads.{Carries, many_in, Split, split_at}
 use Rattle.law_deliver.proofs.UmChannel.Stations.{Matches}
-use Rattle.law_deliver.proofs.UmChannel.Visiting.{blocks_held, written_so}
+use Rattle.law_deliver.proofs.UmChannel.Visiting.{written_so}
 use Rattle.law_deliver.specs.UmFlow.Pair.{BearerEnd, Deed, Calls as CallsBearer}
 use Rattle.um_losses.specs.Flow.{Flow, after}
 use Rattle.um_losses.specs.Names.{Happening, renews}
@@ -47,7 +47,8 @@ use Rattle.law_deliver.proofs.UmGaps.Making.{from_quiet, begins_block, from_take
 use Rattle.law_deliver.proofs.UmGaps.Tracking.{Tracks}
 
 -- behind it, by these calls of the bearer
-pub record Sent (l bits reorder counts : ℕ) (d : Direction) (blocks : List Block) (a : State) (xs : List BearerCall)
+pub record TracksSent (l bits reorder counts : ℕ) (d : Direction) (blocks : List Block) (a : State)
+    (xs : List BearerCall)
     (b : State) (ys : List BearerCall) (n m : BearerEnd) (f : Flow) : Type 0 where
   pub loads : List Load
   pub blocks_are : blocks_in loads ≡ blocks
@@ -84,7 +85,7 @@ module _ (l bits reorder counts : ℕ) (u : IsUmBits bits) (side oside : Side) (
     (blocks : blocks_in loads ≡ s.blocks) (carry : AllByRecursion (Carries l (sent_by side)) loads)
     (t : Tracks bits reorder counts a xs b ys n m loads f) where
   abbrev Behind : Act → Type 0
-  Behind x = Sent l bits reorder counts (sent_by side) (air_does o s x).blocks a (xs ++ act_calls l o s x) b ys
+  Behind x = TracksSent l bits reorder counts (sent_by side) (air_does o s x).blocks a (xs ++ act_calls l o s x) b ys
       (does_all m n (deeds_in l side o s x)) m (all_after (sends side l bits s.end x) f)
 
   -- ---- a call that is no visit
@@ -121,7 +122,7 @@ module _ (l bits reorder counts : ℕ) (u : IsUmBits bits) (side oside : Side) (
 
     abbrev VisitBehind : Visit → Type 0
     VisitBehind w =
-        Sent l bits reorder counts (sent_by side) (built_at w v (visited v.tti v.order s.end) ++ s.blocks) a
+        TracksSent l bits reorder counts (sent_by side) (built_at w v (visited v.tti v.order s.end) ++ s.blocks) a
         (xs ++ takes_of w v (visited v.tti v.order s.end) l) b ys
         (does_all m n (map (λ y. CallsBearer y) (takes_of w v (visited v.tti v.order s.end) l))) m
         (all_after (built l bits (sent_by side) w v (visited v.tti v.order s.end)) f)
@@ -132,7 +133,7 @@ module _ (l bits reorder counts : ℕ) (u : IsUmBits bits) (side oside : Side) (
         (map (λ y. CallsBearer y)
         (only here (Takes (share_of (visited v.tti v.order s.end) v.grant l)
         (told_held (visited v.tti v.order s.end) l))))
-        → Sent l bits reorder counts (sent_by side) (new_of ∷ s.blocks) a
+        → TracksSent l bits reorder counts (sent_by side) (new_of ∷ s.blocks) a
         (xs
         ++ only here (Takes (share_of (visited v.tti v.order s.end) v.grant l)
         (told_held (visited v.tti v.order s.end) l))) b ys
@@ -150,7 +151,7 @@ module _ (l bits reorder counts : ℕ) (u : IsUmBits bits) (side oside : Side) (
         carries_so side s.end h.come v.tti v.order v.grant l building.some g.0.0 h.there
         ∙ written_so side l s n m v h q in
         let apart = apart_by p _ loads (blocks_in h.loads) (blocks ∙ sym h.blocks_are)
-        (blocks_held side l s n m v is building h) in
+        (blocks_held s v h.loads is building h.blocks_are) in
         let r = from_takes bits reorder counts u a xs b ys n m loads f share held x done.0 refl (omega arith) apart t in
         record {
           loads = x ∷ loads;
@@ -169,7 +170,7 @@ module _ (l bits reorder counts : ℕ) (u : IsUmBits bits) (side oside : Side) (
         let carries : carried l (sent_by side) new_of.octets ≡ [] =
         carries_so side s.end h.come v.tti v.order v.grant l building.some g.0.0 h.there ∙ none in
         let apart = apart_by p _ loads (blocks_in h.loads) (blocks ∙ sym h.blocks_are)
-        (blocks_held side l s n m v is building h) in
+        (blocks_held s v h.loads is building h.blocks_are) in
         let r = begins_block bits reorder counts u a xs b ys n m loads f x refl (omega arith) apart t in
         record {
           loads = x ∷ loads;
@@ -211,7 +212,7 @@ module _ (l bits reorder counts : ℕ) (u : IsUmBits bits) (side oside : Side) (
   -- ---- a block of the other end comes
 
   comes_by : (x : Option Block) → (i : ℕ) → slice_get o.blocks i ≡ x
-      → Sent l bits reorder counts (sent_by side) (station_comes s x).blocks a (xs ++ block_calls l s.end x) b ys
+      → TracksSent l bits reorder counts (sent_by side) (station_comes s x).blocks a (xs ++ block_calls l s.end x) b ys
       (does_all m n (comes_with l (heard_by side) i o.blocks x)) m f
   comes_by None i q = record {
     loads = loads;
@@ -244,7 +245,7 @@ module _ (l bits reorder counts : ℕ) (u : IsUmBits bits) (side oside : Side) (
   goes_by : (x : Option Block) (i : ℕ) → slice_get s.blocks i ≡ x
       → AreDone m n (goes_with l (sent_by side) i s.blocks x)
       → all_calls_in m (goes_with l (sent_by side) i s.blocks x) ≡ []
-      → Sent l bits reorder counts (sent_by side) (except i s.blocks) a (xs ++ []) b ys
+      → TracksSent l bits reorder counts (sent_by side) (except i s.blocks) a (xs ++ []) b ys
       (does_all m n (goes_with l (sent_by side) i s.blocks x)) m f
   goes_by None i q done are =
       let here : slice_get loads i ≡ None =

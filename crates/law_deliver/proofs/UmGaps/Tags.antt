@@ -6,7 +6,7 @@ use Rattle.std.proofs.lemmas.Bool.Decides.{nat_tests}
 use Rattle.l2_num.specs.Ascending.{AreBetween}
 use Rattle.rlc_pdu.specs.Pdus.{UmdPdu}
 use Rattle.rlc_um.specs.Joined.{Joined, opened, finished, left_open, with_element, with_elements}
-use Rattle.law_rlc.specs.UmPair.Which.{those}
+use Rattle.law_words.specs.Lists.{those}
 use Rattle.um_losses.specs.Laws.{AreAlike}
 use Rattle.um_losses.specs.Tags.{octets_of, last_tag, tags, tagged}
 use Rattle.um_losses.proofs.LastTag.{reads}

@@ -29,7 +29,7 @@ use Rattle.law_deliver.proofs.UmFlow.Numbers.{run_more}
 use Rattle.law_deliver.proofs.UmFlow.Standing.{IsCopyOf, reads_so, tops}
 use Rattle.law_rlc.specs.UmPair.Air.{IsSent}
 use Rattle.law_rlc.specs.UmPair.Run.{Call as ReceiverCall, Arrive as Arrives, Expire as Expires, Tick as Ticks, World}
-use Rattle.law_rlc.specs.UmPair.Run.{fresh, happens, run, read_number}
+use Rattle.law_rlc.specs.UmPair.Run.{fresh, happens, run_um_receiver, read_number}
 use Rattle.law_rlc.specs.UmPair.Send.{Flow as Made, flow, at_first, joined}
 use Rattle.um_losses.specs.Flow.{Flow, all_gone, after}
 use Rattle.um_losses.specs.Gaps.{numbered}
@@ -46,7 +46,7 @@ abbrev pub made_in : ℕ → State → List Call → List UmdPdu
 made_in bits a xs = (flow (all_sender_steps a xs) (at_first bits)).made
 
 abbrev pub heard_in : ℕ → ℕ → State → List Call → World
-heard_in bits reorder b ys = run (all_receiver_calls b ys) (fresh (width_of bits) reorder)
+heard_in bits reorder b ys = run_um_receiver (all_receiver_calls b ys) (fresh (width_of bits) reorder)
 
 pub record Written (made tm : List UmdPdu) (begun : Bool) (f : Flow) : Type 0 where
   pub alike : AllAlike made tm
@@ -82,13 +82,13 @@ pub record Tracks (bits reorder counts : ℕ) (a : State) (xs : List Call) (b : 
 -- ---- the end that hears
 
 heard_then : (bits reorder : ℕ) (b : State) (ys : List Call) (d : State) (c : Call) → all_called b ys ≡ d
-    → heard_in bits reorder b (ys ++ c ∷ []) ≡ run (receiver_calls d c) (heard_in bits reorder b ys)
+    → heard_in bits reorder b (ys ++ c ∷ []) ≡ run_um_receiver (receiver_calls d c) (heard_in bits reorder b ys)
 heard_then bits reorder b ys d c q =
     let w = fresh (width_of bits) reorder in
-    ap (λ (cs : List ReceiverCall). run cs w) (receives_then b ys (c ∷ []))
+    ap (λ (cs : List ReceiverCall). run_um_receiver cs w) (receives_then b ys (c ∷ []))
     ∙ run_more (all_receiver_calls b ys) (all_receiver_calls (all_called b ys) (c ∷ [])) w
-    ∙ ap (λ (s : State). run (receiver_calls s c ++ []) (heard_in bits reorder b ys)) q
-    ∙ ap (λ (cs : List ReceiverCall). run cs (heard_in bits reorder b ys)) (append-nil (receiver_calls d c))
+    ∙ ap (λ (s : State). run_um_receiver (receiver_calls s c ++ []) (heard_in bits reorder b ys)) q
+    ∙ ap (λ (cs : List ReceiverCall). run_um_receiver cs (heard_in bits reorder b ys)) (append-nil (receiver_calls d c))
 
 -- what is told of a call's expiries
 abbrev pub out_expired : Expired → List Happening
@@ -130,7 +130,7 @@ module _ (bits counts : ℕ) where
 
   expired_after : (x : Expired) (r : Receiver) (w : World) (tm : List UmdPdu) (calls : List ReceiverCall) (f : Flow)
       → w.state ≡ r → Heard bits counts w tm calls f → f.receiver.joined.ready ≡ []
-      → After bits counts (run (as_expired x r) w) tm f (all_after (out_expired x) f)
+      → After bits counts (run_um_receiver (as_expired x r) w) tm f (all_after (out_expired x) f)
   expired_after NotRunning r w tm calls f q h i = still w tm calls f h i
   expired_after (Done again) r w tm calls f q h i =
       let g : Flow = record f { receiver = expired f.receiver } in
@@ -145,21 +145,21 @@ module _ (bits counts : ℕ) where
 
   timed_after : (clock : Clock) (r : Receiver) (w : World) (tm : List UmdPdu) (calls : List ReceiverCall) (f : Flow)
       → w.state ≡ r → Heard bits counts w tm calls f → f.receiver.joined.ready ≡ []
-      → After bits counts (run (as_timed clock r) w) tm f (all_after (out_timed clock r) f)
+      → After bits counts (run_um_receiver (as_timed clock r) w) tm f (all_after (out_timed clock r) f)
   timed_after Poll r w tm calls f q h i = still w tm calls f h i
   timed_after Reorder r w tm calls f q h i = expired_after (expiring r) r w tm calls f q h i
   timed_after Prohibit r w tm calls f q h i = still w tm calls f h i
 
   ticked_after : (now : Bool) (r : Receiver) (w : World) (tm : List UmdPdu) (calls : List ReceiverCall) (f : Flow)
       → w.state ≡ r → Heard bits counts w tm calls f → f.receiver.joined.ready ≡ []
-      → After bits counts (run (if now then as_timed Reorder r else []) w) tm f
+      → After bits counts (run_um_receiver (if now then as_timed Reorder r else []) w) tm f
       (all_after (if now then out_timed Reorder r else []) f)
   ticked_after true r w tm calls f q h i = timed_after Reorder r w tm calls f q h i
   ticked_after false r w tm calls f q h i = still w tm calls f h i
 
   called_after : (c : Call) (d : State) (w : World) (tm : List UmdPdu) (calls : List ReceiverCall) (f : Flow)
       → IsNoArrival c → w.state ≡ d.rx → Heard bits counts w tm calls f → f.receiver.joined.ready ≡ []
-      → After bits counts (run (receiver_calls d c) w) tm f (all_after (out_of d c) f)
+      → After bits counts (run_um_receiver (receiver_calls d c) w) tm f (all_after (out_of d c) f)
   called_after (Submit sdu) d w tm calls f n q h i = still w tm calls f h i
   called_after (Take share held) d w tm calls f n q h i = still w tm calls f h i
   called_after (Arrive pdu) d w tm calls f n q h i = absurd n
@@ -265,17 +265,18 @@ module _ (bits reorder counts : ℕ) (u : IsUmBits bits) where
       let rx = m.bearer.rx in
       let rx_is = world_rx a xs b ys n m on in
       let ready = (arrival copy.pdu rx).joined.ready in
-      let whole : Heard bits counts (run (Arrives copy.pdu ∷ ups ready) w) h.tm
+      let whole : Heard bits counts (run_um_receiver (Arrives copy.pdu ∷ ups ready) w) h.tm
       ((h.calls ++ Arrives q ∷ []) ++ ups g.receiver.joined.ready) (all_gone g) =
       all_heard bits counts (happens w (Arrives copy.pdu)) h.tm (h.calls ++ Arrives q ∷ []) g ready
       (ap (λ (r : Receiver). (arrival copy.pdu r).joined.ready) rx_is) came in
       let calls : receiver_calls m.bearer (Arrive c.octets) ≡ Arrives copy.pdu ∷ ups ready =
       read_calls (umd_at m.bearer.bits c.octets) copy.pdu rx (ap (λ (v : ℕ). umd_at v c.octets) on.bits_are
       ∙ copy.read) in
-      let then' : heard_in bits reorder b (ys ++ calls_in n (Comes k)) ≡ run (Arrives copy.pdu ∷ ups ready) w =
+      let then' : heard_in bits reorder b (ys ++ calls_in n (Comes k))
+          ≡ run_um_receiver (Arrives copy.pdu ∷ ups ready) w =
       ap (λ (o : Option Copy). heard_in bits reorder b (ys ++ arrives o)) at
       ∙ heard_then bits reorder b ys m.bearer (Arrive c.octets) on.to_is
-      ∙ ap (λ (cs : List ReceiverCall). run cs w) calls in
+      ∙ ap (λ (cs : List ReceiverCall). run_um_receiver cs w) calls in
       let at_top : top_of rx.window ≡ st.w.top =
       tops bits reorder (all_sender_steps a xs) (all_receiver_calls b ys) n.bearer.tx rx n.copies _ _ u st in
       let close : 2 * rx.window.width + c.number < top_of rx.window + rx.window.width =

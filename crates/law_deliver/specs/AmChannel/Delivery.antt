@@ -17,11 +17,11 @@ use Rattle.l2_types.specs.declared.Kind.TheVariants as kinds
 use Rattle.l2_types.specs.declared.side.Side.{Side}
 use Rattle.l2_types.specs.declared.side.Side.TheVariants.{Nb, Ue}
 use Rattle.law_node.specs.Bearers.{keys_in}
-use Rattle.law_node.specs.Calls.{Call, Add, Submit, SetDiscard, AreGiven, after, run, reached}
+use Rattle.law_node.specs.Calls.{Call, Add, Submit, SetDiscard, AreGiven, after, run_end, reached}
 use Rattle.law_node.specs.Holding.{flow}
 use Rattle.law_node.specs.Telling.{told_over}
 use Rattle.law_bearer.specs.AmBearer.Lives.{other}
-use Rattle.law_words.specs.Lists.{IsFront, IsSubsequence}
+use Rattle.law_words.specs.Lists.{AreFirstSdus, IsSubsequence}
 use Rattle.law_deliver.specs.AmFlow.Air.{Air, HasCome, outset}
 use Rattle.law_deliver.specs.AmFlow.Channels.{calls_of}
 use Rattle.law_deliver.specs.AmFlow.Ups.{ups_on, AreNew}
@@ -39,7 +39,7 @@ pub record HasBegun (side : Side) (l : ℕ) (c : BearerConfig) (keys : Keys) (e 
   pub bearer_is : flow l e ≡ flow_of c.kind c keys side
 
 -- two ends, under one configuration of acknowledged data and the same keys; a COUNT has 32 bits
-pub record BeginAlike (l : ℕ) (c : BearerConfig) (keys : Keys) (nb ue : End) : Type 0 where
+pub record AmEndsBeginAlike (l : ℕ) (c : BearerConfig) (keys : Keys) (nb ue : End) : Type 0 where
   pub kind : c.kind ≡ kinds.Am
   pub config : IsConfig c
   pub first : c.first < 2 ^ 32
@@ -111,7 +111,7 @@ SetNoneAt l side steps a = SetNone l (all_calls side steps a)
 abbrev pub EndsGoByCalls : Type 0
 EndsGoByCalls = (nb ue : End) (side : Side) (steps : List AirStep)
     → end_at side (lives steps (outset nb ue))
-    ≡ run (all_calls side steps (outset nb ue)) (end_at side (outset nb ue))
+    ≡ run_end (all_calls side steps (outset nb ue)) (end_at side (outset nb ue))
 
 -- a channel begins so at an end as a bearer is added
 abbrev pub ChannelsBegin : Type 0
@@ -127,7 +127,7 @@ ChannelsBegin =
 abbrev pub ChannelsDeliverInOrder : Type 0
 ChannelsDeliverInOrder =
     (l : ℕ) (c : BearerConfig) (keys : Keys) (nb ue : End) (from : Side) (steps : List AirStep)
-    → BeginAlike l c keys nb ue → AreLiving l (outset nb ue) steps
+    → AmEndsBeginAlike l c keys nb ue → AreLiving l (outset nb ue) steps
     → IsSubsequence (ups_at l (other from) steps (outset nb ue))
     (submitted_at l from steps (outset nb ue))
 
@@ -135,29 +135,30 @@ ChannelsDeliverInOrder =
 abbrev pub ChannelsDeliverWhatIsTaken : Type 0
 ChannelsDeliverWhatIsTaken =
     (l : ℕ) (c : BearerConfig) (keys : Keys) (nb ue : End) (from : Side) (steps : List AirStep)
-    → BeginAlike l c keys nb ue → AreLiving l (outset nb ue) steps
-    → IsFront (ups_at l (other from) steps (outset nb ue)) (taken_at l from steps (outset nb ue))
+    → AmEndsBeginAlike l c keys nb ue → AreLiving l (outset nb ue) steps
+    → AreFirstSdus (ups_at l (other from) steps (outset nb ue))
+    (taken_at l from steps (outset nb ue))
 
 -- where none is discarded, of those that were submitted
 abbrev pub ChannelsDeliverUndiscarded : Type 0
 ChannelsDeliverUndiscarded =
     (l : ℕ) (c : BearerConfig) (keys : Keys) (nb ue : End) (from : Side) (steps : List AirStep)
-    → BeginAlike l c keys nb ue → AreLiving l (outset nb ue) steps
+    → AmEndsBeginAlike l c keys nb ue → AreLiving l (outset nb ue) steps
     → DiscardsNoneAt l from steps (outset nb ue)
-    → IsFront (ups_at l (other from) steps (outset nb ue))
+    → AreFirstSdus (ups_at l (other from) steps (outset nb ue))
     (submitted_at l from steps (outset nb ue))
 
 -- none is where no discard timer is set
 abbrev pub UnsetDiscardsNone : Type 0
 UnsetDiscardsNone =
     (l : ℕ) (c : BearerConfig) (keys : Keys) (nb ue : End) (side : Side) (steps : List AirStep)
-    → BeginAlike l c keys nb ue → AreLiving l (outset nb ue) steps
+    → AmEndsBeginAlike l c keys nb ue → AreLiving l (outset nb ue) steps
     → SetNoneAt l side steps (outset nb ue) → DiscardsNoneAt l side steps (outset nb ue)
 
 abbrev pub ChannelsDeliver : Type 0
 ChannelsDeliver =
     (l : ℕ) (c : BearerConfig) (keys : Keys) (nb ue : End) (from : Side) (steps : List AirStep)
-    → BeginAlike l c keys nb ue → AreLiving l (outset nb ue) steps
+    → AmEndsBeginAlike l c keys nb ue → AreLiving l (outset nb ue) steps
     → SetNoneAt l from steps (outset nb ue)
-    → IsFront (ups_at l (other from) steps (outset nb ue))
+    → AreFirstSdus (ups_at l (other from) steps (outset nb ue))
     (submitted_at l from steps (outset nb ue))

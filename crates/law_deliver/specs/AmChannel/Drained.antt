@@ -13,7 +13,7 @@ use Rattle.law_node.specs.Holding.{flow}
 use Rattle.law_node.specs.Telling.{told_over}
 use Rattle.law_bearer.specs.AmBearer.Lives.{other}
 use Rattle.law_deliver.specs.AmFlow.Air.{Air, outset}
-use Rattle.law_deliver.specs.AmChannel.Delivery.{BeginAlike, ups_at, taken_at, submitted_at}
+use Rattle.law_deliver.specs.AmChannel.Delivery.{AmEndsBeginAlike, ups_at, taken_at, submitted_at}
 use Rattle.law_deliver.specs.AmChannel.Delivery.{DiscardsNoneAt}
 use Rattle.promises.specs.Taken.{kept_of}
 use Rattle.law_deliver.specs.AmChannel.Lives.{AirStep, AreLiving, lives, end_at, all_calls}
@@ -43,7 +43,7 @@ pub record HasDelivered (l first : ℕ) (from : Side) (steps : List AirStep) (a 
 abbrev pub DrainedChannelsHaveDelivered : Type 0
 DrainedChannelsHaveDelivered =
     (l : ℕ) (c : BearerConfig) (keys : Keys) (nb ue : End) (from : Side) (steps : List AirStep)
-    → BeginAlike l c keys nb ue → AreLiving l (outset nb ue) steps
+    → AmEndsBeginAlike l c keys nb ue → AreLiving l (outset nb ue) steps
     → IsDrained l (end_at from (lives steps (outset nb ue)))
     → HasDelivered l c.first from steps (outset nb ue)
 
@@ -51,7 +51,7 @@ DrainedChannelsHaveDelivered =
 abbrev pub DrainedEndsHaveDelivered : Type 0
 DrainedEndsHaveDelivered =
     (l : ℕ) (c : BearerConfig) (keys : Keys) (nb ue : End) (from : Side) (steps : List AirStep)
-    → BeginAlike l c keys nb ue → AreLiving l (outset nb ue) steps
+    → AmEndsBeginAlike l c keys nb ue → AreLiving l (outset nb ue) steps
     → end_drained (end_at from (lives steps (outset nb ue))) ≡ true
     → has_failed (flow l (end_at from (lives steps (outset nb ue)))) ≡ false
     → HasDelivered l c.first from steps (outset nb ue)

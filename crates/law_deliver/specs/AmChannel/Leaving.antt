@@ -8,7 +8,7 @@ use Rattle.l2_node.specs.End.{End}
 use Rattle.l2_types.specs.declared.side.Side.{Side}
 use Rattle.law_node.specs.Telling.{told_over}
 use Rattle.law_deliver.specs.AmFlow.Air.{outset}
-use Rattle.law_deliver.specs.AmChannel.Delivery.{BeginAlike, taken_at, submitted_at}
+use Rattle.law_deliver.specs.AmChannel.Delivery.{AmEndsBeginAlike, taken_at, submitted_at}
 use Rattle.law_deliver.specs.AmChannel.Lives.{AirStep, AreLiving, end_at, all_calls}
 use Rattle.promises.specs.Taken.{leaves, taken_of}
 
@@ -23,7 +23,7 @@ pub record AreTold (l first : ℕ) (events : List Event) (submitted taken : List
 abbrev pub ChannelsTellWhatIsTaken : Type 0
 ChannelsTellWhatIsTaken =
     (l : ℕ) (c : BearerConfig) (keys : Keys) (nb ue : End) (from : Side) (steps : List AirStep)
-    → BeginAlike l c keys nb ue → AreLiving l (outset nb ue) steps
+    → AmEndsBeginAlike l c keys nb ue → AreLiving l (outset nb ue) steps
     → AreTold l c.first
     (told_over (all_calls from steps (outset nb ue)) (end_at from (outset nb ue)))
     (submitted_at l from steps (outset nb ue)) (taken_at l from steps (outset nb ue))

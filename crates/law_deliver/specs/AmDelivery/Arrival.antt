@@ -9,50 +9,51 @@ use Rattle.bearer.specs.Taking.{pdus, told}
 use Rattle.bearer_types.specs.declared.BearerConfig.{BearerConfig}
 use Rattle.eps_sec.specs.declared.Keys.{Keys}
 use Rattle.pdcp_pdu.specs.Kinds.{bits_of}
-use Rattle.law_words.specs.Arrivals.{Happening, Renews, Account, no_account, has_come, account}
-use Rattle.law_deliver.specs.AmFlow.Pair.{Pair, Near, Far, Passes as Ends, outset}
+use Rattle.law_words.specs.Arrivals.{AccountEntry, Renews, Account, no_account, has_come, account}
+use Rattle.law_deliver.specs.AmFlow.Pair.{Pair, Near, Far, Passes as Ends, am_pair_outset}
 use Rattle.law_deliver.specs.AmDelivery.Delivery.{AreBothEnds}
 use Rattle.law_deliver.specs.AmDelivery.Lives.{LifeStep, InLife, Restarts, AreLiving, calls_in}
 use Rattle.law_deliver.specs.AmDelivery.Lives.{far_ups_in, near_ups_in, near_news_in, far_news_in}
 use Rattle.law_deliver.specs.AmDelivery.Lives.{over}
-use Rattle.promises.specs.Given.{gives, writing, bringing}
+use Rattle.promises.specs.Given.{entries_given, entries_written, entries_come}
 
 -- ---- what a call of an end's bearer tells: of what it sends, the PDUs that PDCP gives, and those
 -- that RLC writes; of what it hears, the PDU that comes
 
-abbrev pub said_in : State → Call → List Happening
+abbrev pub said_in : State → Call → List AccountEntry
 said_in b (Submit sdu) = []
-said_in b (Take share held) = gives (bits_of b.pdcp.kind) (told b.pdcp.lcid (Am b) share held)
-    ++ writing (pdus (Am b) share held)
+said_in b (Take share held) =
+    entries_given (bits_of b.pdcp.kind) (told b.pdcp.lcid (Am b) share held)
+    ++ entries_written (pdus (Am b) share held)
 said_in b (Arrive pdu) = []
 said_in b (Expire clock) = []
 said_in b Tick = []
 said_in b (SetDiscard ttis) = []
 
-abbrev pub heard_in : Call → List Happening
+abbrev pub heard_in : Call → List AccountEntry
 heard_in (Submit sdu) = []
 heard_in (Take share held) = []
-heard_in (Arrive pdu) = bringing (pdu ∷ [])
+heard_in (Arrive pdu) = entries_come (pdu ∷ [])
 heard_in (Expire clock) = []
 heard_in Tick = []
 heard_in (SetDiscard ttis) = []
 
-abbrev pub said_by : State → List Call → List Happening
+abbrev pub said_by : State → List Call → List AccountEntry
 said_by b [] = []
 said_by b (c ∷ cs) = said_in b c
 
-abbrev pub heard_by : List Call → List Happening
+abbrev pub heard_by : List Call → List AccountEntry
 heard_by [] = []
 heard_by (c ∷ cs) = heard_in c
 
 -- of each direction
-abbrev pub down_in : Pair → LifeStep → List Happening
+abbrev pub down_in : Pair → LifeStep → List AccountEntry
 down_in p (InLife (Near d)) = said_by p.near.bearer (calls_in p.far d)
 down_in p (InLife (Far d)) = heard_by (calls_in p.near d)
 down_in p (InLife Ends) = []
 down_in p (Restarts keys) = Renews ∷ []
 
-abbrev pub up_in : Pair → LifeStep → List Happening
+abbrev pub up_in : Pair → LifeStep → List AccountEntry
 up_in p (InLife (Near d)) = heard_by (calls_in p.far d)
 up_in p (InLife (Far d)) = said_by p.far.bearer (calls_in p.near d)
 up_in p (InLife Ends) = []
@@ -75,12 +76,14 @@ abbrev pub told_up : List LifeStep → Pair → Account
 told_up steps p = account (over up_in steps p) no_account
 
 pub record DeliverWhatCame (first : ℕ) (nb ue : State) (steps : List LifeStep) : Type 0 where
-  pub down : IsWhatCame first (told_down steps (outset nb ue))
-      (over near_news_in steps (outset nb ue)) (over far_ups_in steps (outset nb ue))
-  pub up : IsWhatCame first (told_up steps (outset nb ue)) (over far_news_in steps (outset nb ue))
-      (over near_ups_in steps (outset nb ue))
+  pub down : IsWhatCame first (told_down steps (am_pair_outset nb ue))
+      (over near_news_in steps (am_pair_outset nb ue))
+      (over far_ups_in steps (am_pair_outset nb ue))
+  pub up : IsWhatCame first (told_up steps (am_pair_outset nb ue))
+      (over far_news_in steps (am_pair_outset nb ue))
+      (over near_ups_in steps (am_pair_outset nb ue))
 
 abbrev pub DeliversWhatCame : Type 0
 DeliversWhatCame = (c : BearerConfig) (keys : Keys) (nb ue : State) (steps : List LifeStep)
-    → AreBothEnds c keys nb ue → AreLiving (outset nb ue) steps
+    → AreBothEnds c keys nb ue → AreLiving (am_pair_outset nb ue) steps
     → DeliverWhatCame c.first nb ue steps

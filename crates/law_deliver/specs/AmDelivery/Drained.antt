@@ -5,7 +5,7 @@ use Rattle.bearer.specs.Acknowledged.State.{State}
 use Rattle.bearer.specs.Acknowledged.Sums.{is_drained}
 use Rattle.bearer_types.specs.declared.BearerConfig.{BearerConfig}
 use Rattle.eps_sec.specs.declared.Keys.{Keys}
-use Rattle.law_deliver.specs.AmFlow.Pair.{outset}
+use Rattle.law_deliver.specs.AmFlow.Pair.{am_pair_outset}
 use Rattle.law_deliver.specs.AmDelivery.Delivery.{AreBothEnds}
 use Rattle.law_deliver.specs.AmDelivery.Ends.{near_submitted_in, far_submitted_in, near_drops_in}
 use Rattle.law_deliver.specs.AmDelivery.Ends.{far_drops_in}
@@ -25,16 +25,20 @@ pub record AllAreUp (b : State) (ups news drops submits : List (List ℕ)) : Typ
   pub submitted : drops ≡ [] → ups ≡ submits
 
 pub record DeliverAll (nb ue : State) (steps : List LifeStep) : Type 0 where
-  pub down : IsDrained (lives steps (outset nb ue)).near.bearer
-      → AllAreUp (lives steps (outset nb ue)).near.bearer
-      (over far_ups_in steps (outset nb ue)) (over near_news_in steps (outset nb ue))
-      (over near_drops_in steps (outset nb ue)) (over near_submitted_in steps (outset nb ue))
-  pub up : IsDrained (lives steps (outset nb ue)).far.bearer
-      → AllAreUp (lives steps (outset nb ue)).far.bearer
-      (over near_ups_in steps (outset nb ue)) (over far_news_in steps (outset nb ue))
-      (over far_drops_in steps (outset nb ue)) (over far_submitted_in steps (outset nb ue))
+  pub down : IsDrained (lives steps (am_pair_outset nb ue)).near.bearer
+      → AllAreUp (lives steps (am_pair_outset nb ue)).near.bearer
+      (over far_ups_in steps (am_pair_outset nb ue))
+      (over near_news_in steps (am_pair_outset nb ue))
+      (over near_drops_in steps (am_pair_outset nb ue))
+      (over near_submitted_in steps (am_pair_outset nb ue))
+  pub up : IsDrained (lives steps (am_pair_outset nb ue)).far.bearer
+      → AllAreUp (lives steps (am_pair_outset nb ue)).far.bearer
+      (over near_ups_in steps (am_pair_outset nb ue))
+      (over far_news_in steps (am_pair_outset nb ue))
+      (over far_drops_in steps (am_pair_outset nb ue))
+      (over far_submitted_in steps (am_pair_outset nb ue))
 
 abbrev pub DrainedHasDelivered : Type 0
 DrainedHasDelivered = (c : BearerConfig) (keys : Keys) (nb ue : State) (steps : List LifeStep)
-    → AreBothEnds c keys nb ue → AreLiving (outset nb ue) steps
+    → AreBothEnds c keys nb ue → AreLiving (am_pair_outset nb ue) steps
     → DeliverAll nb ue steps

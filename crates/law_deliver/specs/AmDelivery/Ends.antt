@@ -9,8 +9,8 @@ use Rattle.law_bearer.specs.AnyBearer.Queue.{submits, drops}
 use Rattle.bearer_types.specs.declared.BearerConfig.{BearerConfig}
 use Rattle.eps_sec.specs.declared.Keys.{Keys}
 use Rattle.l2_types.specs.declared.Side.TheVariants.{Nb, Ue}
-use Rattle.law_words.specs.Lists.{IsFront}
-use Rattle.law_deliver.specs.AmFlow.Pair.{Pair, outset}
+use Rattle.law_words.specs.Lists.{AreFirstSdus}
+use Rattle.law_deliver.specs.AmFlow.Pair.{Pair, am_pair_outset}
 use Rattle.law_deliver.specs.AmDelivery.Delivery.{AreBothEnds}
 use Rattle.law_deliver.specs.AmDelivery.Lives.{LifeStep, InLife, Restarts, lives, AreLiving}
 use Rattle.law_deliver.specs.AmDelivery.Lives.{near_calls, far_calls, far_ups_in, near_ups_in, over}
@@ -28,10 +28,10 @@ far_steps_in p (Restarts keys) = Restart keys ∷ []
 -- each end is what its bearer comes to by them, as both are configured
 pub record AreReached (c : BearerConfig) (keys : Keys) (nb ue : State) (steps : List LifeStep) :
     Type 0 where
-  pub nb_is : reached c keys Nb (over near_steps_in steps (outset nb ue))
-      ≡ Am (lives steps (outset nb ue)).near.bearer
-  pub ue_is : reached c keys Ue (over far_steps_in steps (outset nb ue))
-      ≡ Am (lives steps (outset nb ue)).far.bearer
+  pub nb_is : reached c keys Nb (over near_steps_in steps (am_pair_outset nb ue))
+      ≡ Am (lives steps (am_pair_outset nb ue)).near.bearer
+  pub ue_is : reached c keys Ue (over far_steps_in steps (am_pair_outset nb ue))
+      ≡ Am (lives steps (am_pair_outset nb ue)).far.bearer
 
 abbrev pub EndsAreReached : Type 0
 EndsAreReached = (c : BearerConfig) (keys : Keys) (nb ue : State) (steps : List LifeStep)
@@ -66,14 +66,14 @@ far_drops_in p (Restarts keys) = []
 -- where none is discarded, what went up at the other end are the SDUs that were submitted first: in
 -- their order, each once and unchanged
 pub record AreOfTheSubmitted (nb ue : State) (steps : List LifeStep) : Type 0 where
-  pub down : over near_drops_in steps (outset nb ue) ≡ []
-      → IsFront (over far_ups_in steps (outset nb ue))
-      (over near_submitted_in steps (outset nb ue))
-  pub up : over far_drops_in steps (outset nb ue) ≡ []
-      → IsFront (over near_ups_in steps (outset nb ue))
-      (over far_submitted_in steps (outset nb ue))
+  pub down : over near_drops_in steps (am_pair_outset nb ue) ≡ []
+      → AreFirstSdus (over far_ups_in steps (am_pair_outset nb ue))
+      (over near_submitted_in steps (am_pair_outset nb ue))
+  pub up : over far_drops_in steps (am_pair_outset nb ue) ≡ []
+      → AreFirstSdus (over near_ups_in steps (am_pair_outset nb ue))
+      (over far_submitted_in steps (am_pair_outset nb ue))
 
 abbrev pub DeliversSubmitted : Type 0
 DeliversSubmitted = (c : BearerConfig) (keys : Keys) (nb ue : State) (steps : List LifeStep)
-    → AreBothEnds c keys nb ue → AreLiving (outset nb ue) steps
+    → AreBothEnds c keys nb ue → AreLiving (am_pair_outset nb ue) steps
     → AreOfTheSubmitted nb ue steps

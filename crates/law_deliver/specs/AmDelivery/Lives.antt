@@ -9,12 +9,12 @@ use Rattle.bearer.specs.Lives.{stopping}
 use Rattle.bearer.specs.Acknowledged.State.{State}
 use Rattle.law_bearer.specs.AnyBearer.Calls.{Call, Submit, Take, Arrive, Expire, Tick, SetDiscard}
 use Rattle.law_bearer.specs.AnyBearer.Queue.{news}
-use Rattle.law_bearer.specs.AmBearer.Calls.{tells, ups_in}
+use Rattle.law_bearer.specs.AmBearer.Calls.{tells, ups_among}
 use Rattle.law_bearer.specs.AmBearer.Lives.{restarts}
 use Rattle.law_rlc.specs.AmPair.Flow.{Copy}
-use Rattle.law_deliver.specs.AmFlow.Pair.{Sent, BearerEnd, Pair, Deed, Calls, DataComes}
+use Rattle.law_deliver.specs.AmFlow.Pair.{SentStatus, BearerEnd, Pair, Deed, Calls, DataComes}
 use Rattle.law_deliver.specs.AmFlow.Pair.{StatusComes, DataGoes, StatusGoes, Step, Near, Far}
-use Rattle.law_deliver.specs.AmFlow.Pair.{Passes, happens, outset, IsGiven}
+use Rattle.law_deliver.specs.AmFlow.Pair.{Passes, happens, am_pair_outset, IsGiven}
 
 pub data LifeStep : Type 0 where
   InLife : Step → LifeStep
@@ -22,7 +22,8 @@ pub data LifeStep : Type 0 where
 
 abbrev pub lives_on : Pair → LifeStep → Pair
 lives_on p (InLife s) = happens p s
-lives_on p (Restarts keys) = outset (restarts p.near.bearer keys) (restarts p.far.bearer keys)
+lives_on p (Restarts keys) =
+    am_pair_outset (restarts p.near.bearer keys) (restarts p.far.bearer keys)
 
 abbrev pub lives : List LifeStep → Pair → Pair
 lives [] p = p
@@ -65,7 +66,7 @@ abbrev pub call_by : Option Copy → List Call
 call_by None = []
 call_by (Some c) = Arrive c.octets ∷ []
 
-abbrev pub call_of : Option Sent → List Call
+abbrev pub call_of : Option SentStatus → List Call
 call_of None = []
 call_of (Some s) = Arrive s.octets ∷ []
 
@@ -89,7 +90,7 @@ far_calls p Passes = []
 
 abbrev pub ups_by : State → List Call → List (List ℕ)
 ups_by b [] = []
-ups_by b (c ∷ cs) = ups_in (tells b c)
+ups_by b (c ∷ cs) = ups_among (tells b c)
 
 abbrev pub news_by : State → List Call → List (List ℕ)
 news_by b [] = []
@@ -97,11 +98,11 @@ news_by b (c ∷ cs) = news (Am b) c
 
 abbrev pub far_ups_in : Pair → LifeStep → List (List ℕ)
 far_ups_in p (InLife s) = ups_by p.far.bearer (far_calls p s)
-far_ups_in p (Restarts keys) = ups_in (stopping (Am p.far.bearer))
+far_ups_in p (Restarts keys) = ups_among (stopping (Am p.far.bearer))
 
 abbrev pub near_ups_in : Pair → LifeStep → List (List ℕ)
 near_ups_in p (InLife s) = ups_by p.near.bearer (near_calls p s)
-near_ups_in p (Restarts keys) = ups_in (stopping (Am p.near.bearer))
+near_ups_in p (Restarts keys) = ups_among (stopping (Am p.near.bearer))
 
 abbrev pub near_news_in : Pair → LifeStep → List (List ℕ)
 near_news_in p (InLife s) = news_by p.near.bearer (near_calls p s)

@@ -21,7 +21,7 @@ use Rattle.law_node.specs.Holding.{flow}
 use Rattle.law_deliver.specs.AmFlow.Channels.{GoesOnInLife}
 use Rattle.law_deliver.specs.AmFlow.Flows.{BeginsLife}
 use Rattle.law_deliver.specs.AmFlow.Pair.{Step as PairStep, goes as pair_goes}
-use Rattle.law_deliver.specs.AmFlow.Pair.{outset as pair_outset, AreGiven as AreGivenPair}
+use Rattle.law_deliver.specs.AmFlow.Pair.{am_pair_outset, AreGiven as AreGivenPair}
 use Rattle.law_rlc.specs.AmPair.Given.{age_end}
 
 -- a block that may still come to the other end: the process that it was built for, its octets, and
@@ -167,9 +167,9 @@ pub record Begins (side : Side) (l : ℕ) (e : End) (b : State) : Type 0 where
 -- the bearers at both ends have come by steps of a pair
 pub record IsPair (l : ℕ) (nb ue : State) (a : Air) : Type 0 where
   pub steps : List PairStep
-  pub given : AreGivenPair (pair_outset nb ue) steps
-  pub nb_is : flow l a.nb.end ≡ Am (pair_goes steps (pair_outset nb ue)).near.bearer
-  pub ue_is : flow l a.ue.end ≡ Am (pair_goes steps (pair_outset nb ue)).far.bearer
+  pub given : AreGivenPair (am_pair_outset nb ue) steps
+  pub nb_is : flow l a.nb.end ≡ Am (pair_goes steps (am_pair_outset nb ue)).near.bearer
+  pub ue_is : flow l a.ue.end ≡ Am (pair_goes steps (am_pair_outset nb ue)).far.bearer
 
 abbrev pub ChannelsArePairs : Type 0
 ChannelsArePairs = (l : ℕ) (nb ue : End) (b d : State) (steps : List Step) → Begins Nb l nb b

@@ -7,11 +7,12 @@ use Rattle.rlc_am_tx.specs.Machine.{start}
 use Rattle.rlc_am_rx.specs.State.{fresh}
 use Rattle.bearer.specs.Acknowledged.State.{State}
 use Rattle.law_rlc.specs.AmPair.Flow.{Report, Flow, Step as FlowStep, sender, receiver}
-use Rattle.law_rlc.specs.AmPair.Flow.{goes as flow_goes, outset as flow_outset}
+use Rattle.law_rlc.specs.AmPair.Flow.{goes as flow_goes, am_rlc_outset}
 use Rattle.law_rlc.specs.AmPair.Given.{AreGiven as AreGivenSteps}
-use Rattle.law_deliver.specs.AmFlow.Pair.{Sent, BearerEnd, Pair, Step, goes, outset, AreGiven}
+use Rattle.law_deliver.specs.AmFlow.Pair.{SentStatus, BearerEnd, Pair, Step, goes, am_pair_outset}
+use Rattle.law_deliver.specs.AmFlow.Pair.{AreGiven}
 
-abbrev pub sent_as : Report → Sent
+abbrev pub sent_as : Report → SentStatus
 sent_as r = record { octets = r.octets; age = r.age }
 
 -- from an end to the other, with what is under way
@@ -26,8 +27,8 @@ pub record IsFlow (from to : BearerEnd) (f : Flow) : Type 0 where
 pub record HasFlow (sending : AmTxConfig) (receiving : AmRxConfig) (from to : BearerEnd) : Type 0
   where
     pub steps : List FlowStep
-    pub given : AreGivenSteps (flow_outset sending receiving) steps
-    pub is : IsFlow from to (flow_goes steps (flow_outset sending receiving))
+    pub given : AreGivenSteps (am_rlc_outset sending receiving) steps
+    pub is : IsFlow from to (flow_goes steps (am_rlc_outset sending receiving))
 
 -- RLC begins with a life
 pub record BeginsLife (b : State) : Type 0 where
@@ -40,5 +41,5 @@ pub record HasFlows (near far : State) (p : Pair) : Type 0 where
 
 abbrev pub BearersAreFlows : Type 0
 BearersAreFlows = (near far : State) (steps : List Step) → BeginsLife near → BeginsLife far
-    → AreGiven (outset near far) steps
-    → HasFlows near far (goes steps (outset near far))
+    → AreGiven (am_pair_outset near far) steps
+    → HasFlows near far (goes steps (am_pair_outset near far))

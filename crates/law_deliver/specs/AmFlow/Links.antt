@@ -4,7 +4,7 @@ use Rattle.std.specs.Prelude.{◌≡◌, ℕ, ◌+◌, ◌≤◌, List}
 use Rattle.l2_types.specs.declared.config.AmTxConfig.{AmTxConfig}
 use Rattle.l2_types.specs.declared.AmRxConfig.{AmRxConfig}
 use Rattle.law_rlc.specs.AmPair.Flow.{Step as FlowStep, sender, receiver, goes as flow_goes}
-use Rattle.law_rlc.specs.AmPair.Flow.{outset as flow_outset}
+use Rattle.law_rlc.specs.AmPair.Flow.{am_rlc_outset}
 use Rattle.rlc_am_tx_window.specs.Window.{next}
 use Rattle.rlc_am_rx_window.specs.Window.{top}
 use Rattle.rlc_am_rx.specs.State.{State as Receiver}
@@ -27,9 +27,10 @@ pub record IsFlowOn (l : ℕ) (sending : AmTxConfig) (receiving : AmRxConfig) (f
   pub to_bearer : State
   pub to_is : flow l to ≡ Am to_bearer
   pub steps : List FlowStep
-  pub given : AreGivenSteps (flow_outset sending receiving) steps
-  pub sender_is : (sender (flow_goes steps (flow_outset sending receiving))).state ≡ from_bearer.tx
-  pub receiver_is : (receiver (flow_goes steps (flow_outset sending receiving))).state
+  pub given : AreGivenSteps (am_rlc_outset sending receiving) steps
+  pub sender_is : (sender (flow_goes steps (am_rlc_outset sending receiving))).state
+      ≡ from_bearer.tx
+  pub receiver_is : (receiver (flow_goes steps (am_rlc_outset sending receiving))).state
       ≡ to_bearer.rx
 
 -- down and up

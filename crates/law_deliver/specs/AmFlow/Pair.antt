@@ -18,7 +18,7 @@ use Rattle.law_rlc.specs.AmPair.Given.{IsHeld}
 use Rattle.law_rlc.specs.AmPair.Given.{age_end}
 
 -- a STATUS that may still come: its octets, and the TTIs since it was written
-pub record Sent : Type 0 where
+pub record SentStatus : Type 0 where
   pub octets : List ℕ
   pub age : ℕ
 
@@ -27,7 +27,7 @@ pub record Sent : Type 0 where
 pub record BearerEnd : Type 0 where
   pub bearer : State
   pub copies : List Copy
-  pub reports : List Sent
+  pub reports : List SentStatus
   pub busy : Bool
 
 pub record Pair : Type 0 where
@@ -81,7 +81,7 @@ status_by b (Expire clock) = []
 status_by b Tick = []
 status_by b (SetDiscard ttis) = []
 
-abbrev pub written_now : List ℕ → Sent
+abbrev pub written_now : List ℕ → SentStatus
 written_now octets = record { octets = octets; age = 0 }
 
 abbrev pub calls : BearerEnd → Call → BearerEnd
@@ -101,7 +101,7 @@ abbrev pub data_comes : BearerEnd → Option Copy → BearerEnd
 data_comes e None = e
 data_comes e (Some c) = arrives e c.octets
 
-abbrev pub status_comes : BearerEnd → Option Sent → BearerEnd
+abbrev pub status_comes : BearerEnd → Option SentStatus → BearerEnd
 status_comes e None = e
 status_comes e (Some s) = arrives e s.octets
 
@@ -115,7 +115,7 @@ does other e (StatusComes k) = status_comes e (slice_get other.reports k)
 does other e (DataGoes k) = record e { copies = except k e.copies }
 does other e (StatusGoes k) = record e { reports = except k e.reports }
 
-abbrev pub older : Sent → Sent
+abbrev pub older : SentStatus → SentStatus
 older s = record s { age = s.age + 1 }
 
 abbrev pub passed : BearerEnd → BearerEnd
@@ -133,8 +133,8 @@ goes (s ∷ ss) p = goes ss (happens p s)
 abbrev pub begins : State → BearerEnd
 begins b = record { bearer = b; copies = []; reports = []; busy = false }
 
-abbrev pub outset : State → State → Pair
-outset near far = record { near = begins near; far = begins far }
+abbrev pub am_pair_outset : State → State → Pair
+am_pair_outset near far = record { near = begins near; far = begins far }
 
 -- ---- what is asked of them
 
@@ -166,7 +166,7 @@ IsDone e (DataGoes k) = Unit {0}
 IsDone e (StatusGoes k) = Unit {0}
 
 -- as old as a STATUS may be that is under way
-abbrev pub IsYoung : Sent → Type 0
+abbrev pub IsYoung : SentStatus → Type 0
 IsYoung s = s.age < age_end
 
 abbrev pub IsGiven : Pair → Step → Type 0

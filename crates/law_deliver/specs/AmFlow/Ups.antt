@@ -18,7 +18,7 @@ use Rattle.l2_node.specs.End.{End, fresh}
 use Rattle.l2_node.specs.Finding.{has}
 use Rattle.l2_types.specs.declared.side.Side.{Side}
 use Rattle.law_node.specs.Bearers.{adds}
-use Rattle.law_node.specs.Calls.{Call, Move, IsGiven, AreGiven, after, run, reached}
+use Rattle.law_node.specs.Calls.{Call, Move, IsGiven, AreGiven, after, run_end, reached}
 use Rattle.law_node.specs.Holding.{flow}
 use Rattle.law_node.specs.Telling.{told_of, told_over}
 use Rattle.law_deliver.specs.AmFlow.Channels.{GoesOnInLife, calls_of}
@@ -27,12 +27,12 @@ use Rattle.promises.specs.Events.{told_on, discards_on}
 -- ---- what is told of a channel; of a block that can't be read it is told of none
 
 -- the SDUs that go up on it
-abbrev pub ups_in : ℕ → Event → List (List ℕ)
-ups_in l (Up lcid sdu) = if lcid == l then sdu ∷ [] else []
-ups_in l event = []
+abbrev pub up_on : ℕ → Event → List (List ℕ)
+up_on l (Up lcid sdu) = if lcid == l then sdu ∷ [] else []
+up_on l event = []
 
 abbrev pub ups_on : ℕ → List Event → List (List ℕ)
-ups_on l events = flat_map (ups_in l) events
+ups_on l events = flat_map (up_on l) events
 
 -- ---- what comes of the calls of a bearer
 
@@ -105,8 +105,8 @@ EndsTellWhatGoesUp =
 
 -- in the calls of a life
 pub record TellsOver (l : ℕ) (e : End) (cs : List Call) : Type 0 where
-  pub there : has l (run cs e).bearers ≡ true
-  pub bearer_is : flow l (run cs e) ≡ after_all (flow l e) (calls_over l cs e)
+  pub there : has l (run_end cs e).bearers ≡ true
+  pub bearer_is : flow l (run_end cs e) ≡ after_all (flow l e) (calls_over l cs e)
   pub told_is : told_on l (told_over cs e) ≡ tells_over l (flow l e) (calls_over l cs e)
   pub ups_are : ups_on l (told_over cs e) ≡ go_up_over l (flow l e) (calls_over l cs e)
   pub discards_are : discards_on l (told_over cs e)

@@ -9,7 +9,7 @@ use Rattle.l2_types.specs.declared.side.Side.TheVariants.{Nb, Ue}
 use Rattle.law_node.specs.Calls.{Move}
 use Rattle.law_node.specs.Telling.{told_of, told_over}
 use Rattle.law_bearer.specs.AmBearer.Lives.{other}
-use Rattle.law_words.specs.Lists.{IsFront}
+use Rattle.law_words.specs.Lists.{AreFirstSdus}
 use Rattle.law_deliver.specs.AmChannel.Delivery.{HasBegun, SetNoneAt, ups_at, submitted_at}
 use Rattle.law_deliver.specs.AmChannel.Drained.{IsDrained}
 use Rattle.law_deliver.specs.AmChannel.Lives.{AirStep, AreLiving, lives, end_at, all_calls}
@@ -20,7 +20,7 @@ use Rattle.law_deliver.specs.SrbChannel.Running.{Life, start, running, first_lif
 
 -- two ends that begin the channel under one configuration of signalling and the same keys; a COUNT
 -- has 32 bits
-pub record BeginAlike (l : ℕ) (c : BearerConfig) (keys : Keys) (nb ue : End) : Type 0 where
+pub record SrbEndsBeginAlike (l : ℕ) (c : BearerConfig) (keys : Keys) (nb ue : End) : Type 0 where
   pub kind : c.kind ≡ kinds.Srb
   pub first : c.first ≤ 2 ^ 32
   pub nb_begun : HasBegun Nb l c keys nb
@@ -45,14 +45,15 @@ submitted_in_life l side life = submitted_at l side life.steps (start life)
 abbrev pub ChannelsDeliverTheFront : Type 0
 ChannelsDeliverTheFront =
     (l : ℕ) (c : BearerConfig) (keys : Keys) (nb ue : End) (from : Side) (steps : List AirStep)
-    → BeginAlike l c keys nb ue → AreLiving l (outset nb ue) steps → NoneSet l steps nb ue
-    → IsFront (ups_in_life l (other from) (life_of steps nb ue)) (submitted_in_life l from (life_of steps nb ue))
+    → SrbEndsBeginAlike l c keys nb ue → AreLiving l (outset nb ue) steps → NoneSet l steps nb ue
+    → AreFirstSdus (ups_in_life l (other from) (life_of steps nb ue))
+    (submitted_in_life l from (life_of steps nb ue))
 
 -- and all of them, once the channel is drained at the one, and its sender there hasn't failed
 abbrev pub DrainedChannelsHaveDelivered : Type 0
 DrainedChannelsHaveDelivered =
     (l : ℕ) (c : BearerConfig) (keys : Keys) (nb ue : End) (from : Side) (steps : List AirStep)
-    → BeginAlike l c keys nb ue → AreLiving l (outset nb ue) steps → NoneSet l steps nb ue
+    → SrbEndsBeginAlike l c keys nb ue → AreLiving l (outset nb ue) steps → NoneSet l steps nb ue
     → IsDrained l (end_at from (lives steps (outset nb ue)))
     → ups_in_life l (other from) (life_of steps nb ue)
     ≡ submitted_in_life l from (life_of steps nb ue)
@@ -62,7 +63,7 @@ abbrev pub NothingGoesUpBetween : Type 0
 NothingGoesUpBetween =
     (l : ℕ) (c : BearerConfig) (keys next : Keys) (nb ue : End) (side : Side)
     (steps : List AirStep)
-    → BeginAlike l c keys nb ue → AreLiving l (outset nb ue) steps → NoneSet l steps nb ue
+    → SrbEndsBeginAlike l c keys nb ue → AreLiving l (outset nb ue) steps → NoneSet l steps nb ue
     → ups_on l (told_of (end_at side (lives steps (outset nb ue))) (Move next)) ≡ []
 
 -- and in no life a PDU of PDCP is lost as an end receives it, nor as the life ends
@@ -77,5 +78,5 @@ pub record LosesNone (l : ℕ) (side : Side) (steps : List AirStep) (nb ue : End
 abbrev pub NothingIsLost : Type 0
 NothingIsLost =
     (l : ℕ) (c : BearerConfig) (keys : Keys) (nb ue : End) (side : Side) (steps : List AirStep)
-    → BeginAlike l c keys nb ue → AreLiving l (outset nb ue) steps → NoneSet l steps nb ue
+    → SrbEndsBeginAlike l c keys nb ue → AreLiving l (outset nb ue) steps → NoneSet l steps nb ue
     → LosesNone l side steps nb ue

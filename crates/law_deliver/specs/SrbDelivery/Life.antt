@@ -10,7 +10,7 @@ use Rattle.law_deliver.specs.AmFlow.Pair.{Pair, Deed, Calls, DataComes, StatusCo
 use Rattle.law_deliver.specs.AmFlow.Pair.{StatusGoes, Step, Near, Far, Passes, happens, IsGiven}
 use Rattle.pdcp_pdu.specs.declared.PdcpKind.TheVariants.{Srb}
 use Rattle.pdcp_tx.specs.State.{refusal}
-use Rattle.law_pdcp.specs.SrbPair.Flow.{BeginAlike}
+use Rattle.law_pdcp.specs.SrbPair.Flow.{SrbPdcpBeginAlike}
 
 -- ---- it begins: RLC anew, and PDCP at both ends alike
 
@@ -19,8 +19,8 @@ pub record BothBegin (near far : State) : Type 0 where
   pub far_kind : far.pdcp.kind ≡ Srb
   pub near_life : BeginsLife near
   pub far_life : BeginsLife far
-  pub there : BeginAlike near.pdcp.tx far.pdcp.rx
-  pub back : BeginAlike far.pdcp.tx near.pdcp.rx
+  pub there : SrbPdcpBeginAlike near.pdcp.tx far.pdcp.rx
+  pub back : SrbPdcpBeginAlike far.pdcp.tx near.pdcp.rx
 
 -- ---- what is asked of its steps: besides what RLC asks, that PDCP doesn't refuse what is
 -- submitted, and that no discard timers are set

@@ -1,8 +1,8 @@
 -- A signalling bearer from life to life: both ends begin anew under the same keys, with COUNT 0,
 -- and drop what waits (TS 36.323 5.2.1.3, 5.2.2.3).
 use Rattle.std.specs.Prelude.{◌≡◌, ℕ, ◌≤◌, ◌^◌, List, [], ◌∷◌, ◌++◌}
-use Rattle.law_bearer.specs.AmBearer.Calls.{ups_in}
-use Rattle.law_words.specs.Lists.{IsFront}
+use Rattle.law_bearer.specs.AmBearer.Calls.{ups_among}
+use Rattle.law_words.specs.Lists.{AreFirstSdus}
 use Rattle.bearer.specs.Bearer.{flow_of}
 use Rattle.bearer.specs.declared.flow.Flow.TheVariants.{Am}
 use Rattle.bearer.specs.Lives.{stopping}
@@ -11,7 +11,7 @@ use Rattle.law_bearer.specs.AnyBearer.Calls.{Restart, goes as bearer_goes}
 use Rattle.bearer_types.specs.declared.BearerConfig.{BearerConfig}
 use Rattle.law_deliver.specs.AmDelivery.Drained.{IsDrained}
 use Rattle.eps_sec.specs.declared.Keys.{Keys}
-use Rattle.law_deliver.specs.AmFlow.Pair.{Pair, Step, happens, goes, outset, IsGiven}
+use Rattle.law_deliver.specs.AmFlow.Pair.{Pair, Step, happens, goes, am_pair_outset, IsGiven}
 use Rattle.l2_types.specs.declared.Kind.TheVariants as kinds
 use Rattle.l2_types.specs.declared.Side.TheVariants.{Nb, Ue}
 use Rattle.pdcp_rx.specs.State.{restarted as restarted_receiving}
@@ -22,8 +22,8 @@ use Rattle.law_deliver.specs.SrbDelivery.Life.{near_submits, far_submits}
 
 -- ---- a life ends, and the next one begins
 
-abbrev pub renews : State → Keys → State
-renews b keys =
+abbrev pub renewed_bearer : State → Keys → State
+renewed_bearer b keys =
     with_new_rlc b.tx_config b.rx_config
     (record b.pdcp {
       tx = restarted_sending b.pdcp.tx keys;
@@ -32,22 +32,22 @@ renews b keys =
 
 -- at an end: what RLC can still put together is dropped, so nothing goes up
 pub record BeginsAnew (b : State) (keys : Keys) : Type 0 where
-  pub left : bearer_goes (Am b) (Restart keys) ≡ Am (renews b keys)
-  pub none_up : ups_in (stopping (Am b)) ≡ []
+  pub left : bearer_goes (Am b) (Restart keys) ≡ Am (renewed_bearer b keys)
+  pub none_up : ups_among (stopping (Am b)) ≡ []
   pub none_lost : losses (stopping (Am b)) ≡ []
-  pub count : (renews b keys).pdcp.tx.next ≡ 0
-  pub awaited : (renews b keys).pdcp.rx.next ≡ 0
+  pub count : (renewed_bearer b keys).pdcp.tx.next ≡ 0
+  pub awaited : (renewed_bearer b keys).pdcp.rx.next ≡ 0
 
 pub record BothBeginAnew (near far : State) (keys : Keys) : Type 0 where
   pub near_anew : BeginsAnew near keys
   pub far_anew : BeginsAnew far keys
-  pub both : BothBegin (renews near keys) (renews far keys)
+  pub both : BothBegin (renewed_bearer near keys) (renewed_bearer far keys)
 
 abbrev pub NextLifeBegins : Type 0
 NextLifeBegins = (near far : State) (steps : List Step) (keys : Keys) → BothBegin near far
-    → AreLived (outset near far) steps
-    → BothBeginAnew (goes steps (outset near far)).near.bearer
-    (goes steps (outset near far)).far.bearer keys
+    → AreLived (am_pair_outset near far) steps
+    → BothBeginAnew (goes steps (am_pair_outset near far)).near.bearer
+    (goes steps (am_pair_outset near far)).far.bearer keys
 
 -- ---- the first life, as both ends are configured; a COUNT has 32 bits
 
@@ -69,7 +69,8 @@ pub data LifeStep : Type 0 where
 
 abbrev pub lives_on : Pair → LifeStep → Pair
 lives_on p (InLife s) = happens p s
-lives_on p (Restarts keys) = outset (renews p.near.bearer keys) (renews p.far.bearer keys)
+lives_on p (Restarts keys) =
+    am_pair_outset (renewed_bearer p.near.bearer keys) (renewed_bearer p.far.bearer keys)
 
 abbrev pub lives : List LifeStep → Pair → Pair
 lives [] p = p
@@ -97,16 +98,18 @@ since what before (x ∷ xs) p = since what (since_by what before p x) xs (lives
 -- in each life what has gone up at an end are the SDUs that the other submitted first in it; and
 -- all, once it is drained
 pub record AreOfThisLife (nb ue : State) (steps : List LifeStep) : Type 0 where
-  pub down : IsFront (since far_ups [] steps (outset nb ue))
-      (since near_submits [] steps (outset nb ue))
-  pub up : IsFront (since near_ups [] steps (outset nb ue))
-      (since far_submits [] steps (outset nb ue))
-  pub all_down : IsDrained (lives steps (outset nb ue)).near.bearer
-      → since far_ups [] steps (outset nb ue) ≡ since near_submits [] steps (outset nb ue)
-  pub all_up : IsDrained (lives steps (outset nb ue)).far.bearer
-      → since near_ups [] steps (outset nb ue) ≡ since far_submits [] steps (outset nb ue)
+  pub down : AreFirstSdus (since far_ups [] steps (am_pair_outset nb ue))
+      (since near_submits [] steps (am_pair_outset nb ue))
+  pub up : AreFirstSdus (since near_ups [] steps (am_pair_outset nb ue))
+      (since far_submits [] steps (am_pair_outset nb ue))
+  pub all_down : IsDrained (lives steps (am_pair_outset nb ue)).near.bearer
+      → since far_ups [] steps (am_pair_outset nb ue)
+      ≡ since near_submits [] steps (am_pair_outset nb ue)
+  pub all_up : IsDrained (lives steps (am_pair_outset nb ue)).far.bearer
+      → since near_ups [] steps (am_pair_outset nb ue)
+      ≡ since far_submits [] steps (am_pair_outset nb ue)
 
 abbrev pub DeliversInEachLife : Type 0
 DeliversInEachLife = (c : BearerConfig) (keys : Keys) (nb ue : State) (steps : List LifeStep)
-    → AreBothEnds c keys nb ue → AreLiving (outset nb ue) steps
+    → AreBothEnds c keys nb ue → AreLiving (am_pair_outset nb ue) steps
     → AreOfThisLife nb ue steps

@@ -6,7 +6,7 @@ use Rattle.law_bearer.specs.AnyBearer.Calls.{Call}
 use Rattle.bearer_types.specs.declared.Event.{Event}
 use Rattle.law_bearer.specs.AmBearer.Calls.{tells}
 use Rattle.law_deliver.specs.AmDelivery.Lives.{near_calls, far_calls}
-use Rattle.law_deliver.specs.AmFlow.Pair.{Pair, Step, outset}
+use Rattle.law_deliver.specs.AmFlow.Pair.{Pair, Step, am_pair_outset}
 use Rattle.law_deliver.specs.SrbDelivery.Life.{BothBegin, AreLived, over}
 use Rattle.promises.specs.Events.{losses}
 
@@ -23,9 +23,9 @@ far_losses p s = losses_by p.far.bearer (far_calls p s)
 
 -- no end loses one
 pub record LoseNone (near far : State) (steps : List Step) : Type 0 where
-  pub near_none : over near_losses steps (outset near far) ≡ []
-  pub far_none : over far_losses steps (outset near far) ≡ []
+  pub near_none : over near_losses steps (am_pair_outset near far) ≡ []
+  pub far_none : over far_losses steps (am_pair_outset near far) ≡ []
 
 abbrev pub NothingIsLost : Type 0
 NothingIsLost = (near far : State) (steps : List Step) → BothBegin near far
-    → AreLived (outset near far) steps → LoseNone near far steps
+    → AreLived (am_pair_outset near far) steps → LoseNone near far steps

@@ -16,13 +16,13 @@ use Rattle.law_deliver.specs.AmFlow.Air.{Air, outset}
 use Rattle.law_deliver.specs.AmChannel.Delivery.{HasBegun, ups_at, submitted_at, taken_at}
 use Rattle.law_deliver.specs.AmChannel.Lives.{AirStep, AreLiving}
 use Rattle.law_words.specs.Lists.{IsSubsequence}
-use Rattle.law_rlc.specs.UmPair.Which.{those}
+use Rattle.law_words.specs.Lists.{those}
 use Rattle.law_deliver.specs.UmDelivery.Delivery.{AreShort, all_places}
 use Rattle.law_deliver.specs.UmDelivery.Lives.{Direction, There, Back, ended, last}
 use Rattle.law_deliver.specs.UmChannel.Pairs.{walk}
 
 -- two ends, under one configuration of unacknowledged data and the same keys; a COUNT has 32 bits
-pub record BeginAlike (l : ℕ) (c : BearerConfig) (keys : Keys) (nb ue : End) : Type 0 where
+pub record UmEndsBeginAlike (l : ℕ) (c : BearerConfig) (keys : Keys) (nb ue : End) : Type 0 where
   pub kind : c.kind ≡ kinds.Um
   pub config : IsConfig c
   pub first : c.first < 2 ^ 32
@@ -54,7 +54,7 @@ places_from from l c keys steps a =
 
 -- what goes up at the other are just the SDUs whose PDUs RLC hands up there: in their order, each
 -- once and unchanged
-pub record IsWhatCame (l : ℕ) (c : BearerConfig) (keys : Keys) (from : Side)
+pub record IsWhatCameOnChannel (l : ℕ) (c : BearerConfig) (keys : Keys) (from : Side)
     (steps : List AirStep) (a : Air) : Type 0 where
   pub order : AreBetween 0 (places_from from l c keys steps a) (length (taken_at l from steps a))
   pub ups_are : ups_at l (other from) steps a
@@ -63,15 +63,15 @@ pub record IsWhatCame (l : ℕ) (c : BearerConfig) (keys : Keys) (from : Side)
 abbrev pub ChannelsDeliverWhatCame : Type 0
 ChannelsDeliverWhatCame =
     (l : ℕ) (c : BearerConfig) (keys : Keys) (nb ue : End) (from : Side) (steps : List AirStep)
-    → BeginAlike l c keys nb ue → AreLiving l (outset nb ue) steps
+    → UmEndsBeginAlike l c keys nb ue → AreLiving l (outset nb ue) steps
     → AreShortFrom from l c keys steps (outset nb ue)
-    → IsWhatCame l c keys from steps (outset nb ue)
+    → IsWhatCameOnChannel l c keys from steps (outset nb ue)
 
 -- so they are some of those that were submitted at the one
 abbrev pub ChannelsDeliverInOrder : Type 0
 ChannelsDeliverInOrder =
     (l : ℕ) (c : BearerConfig) (keys : Keys) (nb ue : End) (from : Side) (steps : List AirStep)
-    → BeginAlike l c keys nb ue → AreLiving l (outset nb ue) steps
+    → UmEndsBeginAlike l c keys nb ue → AreLiving l (outset nb ue) steps
     → AreShortFrom from l c keys steps (outset nb ue)
     → IsSubsequence (ups_at l (other from) steps (outset nb ue))
     (submitted_at l from steps (outset nb ue))

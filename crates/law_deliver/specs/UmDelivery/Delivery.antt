@@ -11,8 +11,8 @@ use Rattle.bearer.specs.Bearer.{flow_of}
 use Rattle.bearer.specs.declared.flow.Flow.TheVariants.{Um}
 use Rattle.bearer.specs.Unacknowledged.State.{State}
 use Rattle.law_words.specs.Lists.{IsSubsequence}
-use Rattle.law_rlc.specs.UmPair.Which.{those}
-use Rattle.law_deliver.specs.UmFlow.Pair.{Step, outset}
+use Rattle.law_words.specs.Lists.{those}
+use Rattle.law_deliver.specs.UmFlow.Pair.{Step, um_pair_outset}
 use Rattle.law_deliver.specs.UmFlow.Flows.{Way, places, last_places}
 use Rattle.law_deliver.specs.UmDelivery.Lives.{Life, Direction, way, AreShortIn, AreLiving}
 use Rattle.law_deliver.specs.UmDelivery.Lives.{next_near, next_far, ended, last, taken, all_ups}
@@ -44,10 +44,10 @@ places_to_end c w = last_places c.rlc_bits c.rx.reorder w
 
 -- for RLC in each life, and for PDCP
 abbrev pub AreShort : BearerConfig → Direction → State → State → List Life → List Step → Type 0
-AreShort c d near far [] steps = AreShortIn d (outset near far) steps
+AreShort c d near far [] steps = AreShortIn d (um_pair_outset near far) steps
     × FewBetween c.pdcp_bits 0 (places_in c (way d near far steps))
 AreShort c d near far (l ∷ ls) steps =
-    (AreShortIn d (outset near far) l.steps
+    (AreShortIn d (um_pair_outset near far) l.steps
     × FewBetween c.pdcp_bits 0 (places_to_end c (way d near far l.steps)))
     × AreShort c d (next_near near far l) (next_far near far l) ls steps
 
@@ -61,7 +61,7 @@ all_places c earlier (v ∷ vs) w =
     ++ all_places c (earlier + length (taken v)) vs w
 
 -- just the SDUs of the PDUs that RLC handed up: in their order, each once and unchanged
-pub record IsWhatCame (c : BearerConfig) (vs : List Way) (w : Way) : Type 0 where
+pub record IsWhatCameThroughLives (c : BearerConfig) (vs : List Way) (w : Way) : Type 0 where
   pub order : AreBetween 0 (all_places c 0 vs w) (length (all_taken vs w))
   pub ups_are : all_ups vs w ≡ those (all_places c 0 vs w) (all_taken vs w)
 
@@ -77,7 +77,7 @@ DeliversWhatCame =
     (c : BearerConfig) (keys : Keys) (nb ue : State) (ls : List Life) (steps : List Step)
     (d : Direction) → AreBothEnds c keys nb ue
     → AreLiving nb ue ls steps → AreShort c d nb ue ls steps
-    → IsWhatCame c (ended d nb ue ls) (last d nb ue ls steps)
+    → IsWhatCameThroughLives c (ended d nb ue ls) (last d nb ue ls steps)
 
 abbrev pub DeliversInOrder : Type 0
 DeliversInOrder =

@@ -10,8 +10,9 @@ use Rattle.bearer.specs.Unacknowledged.State.{State}
 use Rattle.bearer.specs.Unacknowledged.Lives.{stopped, restarted}
 use Rattle.law_bearer.specs.AnyBearer.Calls.{Call, Submit, Take, Arrive, Expire, Tick, SetDiscard}
 use Rattle.law_bearer.specs.AnyBearer.Queue.{news, submits}
-use Rattle.law_bearer.specs.AmBearer.Calls.{ups_in}
-use Rattle.law_deliver.specs.UmFlow.Pair.{Pair, Step, called, goes, outset, AreGiven, AreShortThere}
+use Rattle.law_bearer.specs.AmBearer.Calls.{ups_among}
+use Rattle.law_deliver.specs.UmFlow.Pair.{Pair, Step, called, goes, um_pair_outset, AreGiven}
+use Rattle.law_deliver.specs.UmFlow.Pair.{AreShortThere}
 use Rattle.law_deliver.specs.UmFlow.Pair.{AreShortBack}
 use Rattle.law_deliver.specs.UmFlow.Calls.{near_calls, far_calls}
 use Rattle.law_deliver.specs.UmFlow.Flows.{Way, there, back}
@@ -26,10 +27,11 @@ pub record Life : Type 0 where
 -- comes any more
 
 abbrev pub next_near : State → State → Life → State
-next_near near far l = restarted (stopped (goes l.steps (outset near far)).near.bearer) l.keys
+next_near near far l =
+    restarted (stopped (goes l.steps (um_pair_outset near far)).near.bearer) l.keys
 
 abbrev pub next_far : State → State → Life → State
-next_far near far l = restarted (stopped (goes l.steps (outset near far)).far.bearer) l.keys
+next_far near far l = restarted (stopped (goes l.steps (um_pair_outset near far)).far.bearer) l.keys
 
 -- ---- what is asked of them: besides what is asked of the steps of a life, that PDCP doesn't
 -- refuse what is submitted
@@ -47,9 +49,9 @@ AreAccepted b [] = Unit {0}
 AreAccepted b (c ∷ cs) = IsAccepted b c × AreAccepted (called b c) cs
 
 pub record IsLiving (near far : State) (steps : List Step) : Type 0 where
-  pub given : AreGiven (outset near far) steps
-  pub near_accepts : AreAccepted near (near_calls (outset near far) steps)
-  pub far_accepts : AreAccepted far (far_calls (outset near far) steps)
+  pub given : AreGiven (um_pair_outset near far) steps
+  pub near_accepts : AreAccepted near (near_calls (um_pair_outset near far) steps)
+  pub far_accepts : AreAccepted far (far_calls (um_pair_outset near far) steps)
 
 -- lives that have ended, and the steps of the last one so far
 abbrev pub AreLiving : State → State → List Life → List Step → Type 0
@@ -85,11 +87,11 @@ last d near far (l ∷ ls) steps = last d (next_near near far l) (next_far near 
 -- is given
 
 abbrev pub ups : Way → List (List ℕ)
-ups w = ups_in (tells_all w.to w.to_calls)
+ups w = ups_among (tells_all w.to w.to_calls)
 
 -- also as the life ends
 abbrev pub ups_to_end : Way → List (List ℕ)
-ups_to_end w = ups w ++ ups_in (stopping (Um w.to_end.bearer))
+ups_to_end w = ups w ++ ups_among (stopping (Um w.to_end.bearer))
 
 abbrev pub news_by : State → List Call → List (List ℕ)
 news_by b [] = []

@@ -5,7 +5,7 @@ use Rattle.bearer.specs.Unacknowledged.State.{State}
 use Rattle.law_bearer.specs.AnyBearer.Calls.{Call, Arrive, after_all}
 use Rattle.law_rlc.specs.AmPair.Flow.{Copy}
 use Rattle.law_deliver.specs.UmFlow.Pair.{BearerEnd, Pair, Deed, Calls, Comes, Goes, Step, Near}
-use Rattle.law_deliver.specs.UmFlow.Pair.{Far, happens, goes, outset}
+use Rattle.law_deliver.specs.UmFlow.Pair.{Far, happens, goes, um_pair_outset}
 
 abbrev pub arrives : Option Copy → List Call
 arrives None = []
@@ -41,4 +41,4 @@ pub record AreTheirCalls (near far : State) (p : Pair) (steps : List Step) : Typ
 
 abbrev pub EndsAreTheirCalls : Type 0
 EndsAreTheirCalls = (near far : State) (steps : List Step)
-    → AreTheirCalls near far (outset near far) steps
+    → AreTheirCalls near far (um_pair_outset near far) steps

@@ -14,11 +14,13 @@ use Rattle.bearer.specs.Unacknowledged.State.{State}
 use Rattle.law_bearer.specs.AnyBearer.Calls.{Call}
 use Rattle.law_bearer.specs.AnyBearer.Stream.{stream}
 use Rattle.law_rlc.specs.AmPair.Flow.{Copy}
-use Rattle.law_rlc.specs.UmPair.Run.{World, run, fresh}
+use Rattle.law_rlc.specs.UmPair.Run.{World, run_um_receiver, fresh}
 use Rattle.law_rlc.specs.UmPair.Send.{Flow, flow, at_first}
 use Rattle.law_rlc.specs.UmPair.Air.{AreSent}
-use Rattle.law_rlc.specs.UmPair.Which.{places_up, places_below, those}
-use Rattle.law_deliver.specs.UmFlow.Pair.{BearerEnd, Step, goes, outset, AreGiven, AreShortThere}
+use Rattle.law_rlc.specs.UmPair.Which.{places_up, places_below}
+use Rattle.law_words.specs.Lists.{those}
+use Rattle.law_deliver.specs.UmFlow.Pair.{BearerEnd, Step, goes, um_pair_outset, AreGiven}
+use Rattle.law_deliver.specs.UmFlow.Pair.{AreShortThere}
 use Rattle.law_deliver.specs.UmFlow.Pair.{AreShortBack}
 use Rattle.law_deliver.specs.UmFlow.Calls.{near_calls, far_calls}
 use Rattle.law_deliver.specs.UmFlow.Handing.{handed}
@@ -39,20 +41,20 @@ abbrev pub there : State → State → List Step → Way
 there near far steps = record {
   from = near;
   to = far;
-  from_calls = near_calls (outset near far) steps;
-  to_calls = far_calls (outset near far) steps;
-  from_end = (goes steps (outset near far)).near;
-  to_end = (goes steps (outset near far)).far;
+  from_calls = near_calls (um_pair_outset near far) steps;
+  to_calls = far_calls (um_pair_outset near far) steps;
+  from_end = (goes steps (um_pair_outset near far)).near;
+  to_end = (goes steps (um_pair_outset near far)).far;
 }
 
 abbrev pub back : State → State → List Step → Way
 back near far steps = record {
   from = far;
   to = near;
-  from_calls = far_calls (outset near far) steps;
-  to_calls = near_calls (outset near far) steps;
-  from_end = (goes steps (outset near far)).far;
-  to_end = (goes steps (outset near far)).near;
+  from_calls = far_calls (um_pair_outset near far) steps;
+  to_calls = near_calls (um_pair_outset near far) steps;
+  from_end = (goes steps (um_pair_outset near far)).far;
+  to_end = (goes steps (um_pair_outset near far)).near;
 }
 
 -- what PDCP gave to RLC, and what RLC handed up to PDCP
@@ -68,7 +70,8 @@ abbrev pub sends : ℕ → Way → Flow
 sends bits w = flow (all_sender_steps w.from w.from_calls) (at_first bits)
 
 abbrev pub receives : ℕ → ℕ → Way → World
-receives bits reorder w = run (all_receiver_calls w.to w.to_calls) (fresh (width_of bits) reorder)
+receives bits reorder w =
+    run_um_receiver (all_receiver_calls w.to w.to_calls) (fresh (width_of bits) reorder)
 
 pub record IsFlow (bits reorder : ℕ) (w : Way) : Type 0 where
   pub sent : AreSent (sends bits w).made (width_of bits) (all_receiver_calls w.to w.to_calls)
@@ -102,7 +105,7 @@ last_places bits reorder w =
     places_below (width_of bits) (receives bits reorder w) (receives bits reorder w).top
     (sends bits w).made
 
-pub record IsWhatCame (bits reorder : ℕ) (w : Way) : Type 0 where
+pub record IsWhatCameInLife (bits reorder : ℕ) (w : Way) : Type 0 where
   pub order : AreBetween 0 (places bits reorder w) (length (given w))
   pub heard_is : heard w ≡ those (places bits reorder w) (given w)
   pub last_order : AreBetween 0 (last_places bits reorder w) (length (given w))
@@ -133,9 +136,10 @@ abbrev pub InEachDirection : (ℕ → ℕ → Way → Type 0) → Type 0
 InEachDirection Holds = (bits reorder_near reorder_far : ℕ) (near far : State) (steps : List Step)
     → IsUmBits bits
     → BeginsLife bits reorder_near near → BeginsLife bits reorder_far far
-    → AreGiven (outset near far) steps
-    → (AreShortThere (outset near far) steps → Holds bits reorder_far (there near far steps))
-    × (AreShortBack (outset near far) steps → Holds bits reorder_near (back near far steps))
+    → AreGiven (um_pair_outset near far) steps
+    → (AreShortThere (um_pair_outset near far) steps
+    → Holds bits reorder_far (there near far steps))
+    × (AreShortBack (um_pair_outset near far) steps → Holds bits reorder_near (back near far steps))
 
 abbrev pub BearersAreFlows : Type 0
 BearersAreFlows = InEachDirection IsFlow
@@ -147,14 +151,14 @@ abbrev pub DeliversInOrder : Type 0
 DeliversInOrder = InEachDirection IsDelivered
 
 abbrev pub HandsUpWhatCame : Type 0
-HandsUpWhatCame = InEachDirection IsWhatCame
+HandsUpWhatCame = InEachDirection IsWhatCameInLife
 
 abbrev pub MoreComesLater : Type 0
 MoreComesLater = (bits reorder_near reorder_far : ℕ) (near far : State) (steps more : List Step)
     → IsUmBits bits
     → BeginsLife bits reorder_near near → BeginsLife bits reorder_far far
-    → AreGiven (outset near far) (steps ++ more)
-    → (AreShortThere (outset near far) (steps ++ more)
+    → AreGiven (um_pair_outset near far) (steps ++ more)
+    → (AreShortThere (um_pair_outset near far) (steps ++ more)
     → GoesOn bits reorder_far (there near far steps) (there near far (steps ++ more)))
-    × (AreShortBack (outset near far) (steps ++ more)
+    × (AreShortBack (um_pair_outset near far) (steps ++ more)
     → GoesOn bits reorder_near (back near far steps) (back near far (steps ++ more)))

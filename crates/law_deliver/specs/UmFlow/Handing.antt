@@ -24,7 +24,7 @@ use Rattle.bearer.specs.Unacknowledged.State.{State}
 use Rattle.bearer.specs.Unacknowledged.Hearing.{told_of}
 use Rattle.bearer.specs.Unacknowledged.Lives.{stopped}
 use Rattle.law_bearer.specs.AnyBearer.Calls.{Call, Submit, Take, Arrive, Expire, Tick, SetDiscard}
-use Rattle.law_bearer.specs.AmBearer.Calls.{ups_in}
+use Rattle.law_bearer.specs.AmBearer.Calls.{ups_among}
 use Rattle.law_deliver.specs.UmFlow.Pair.{called}
 
 -- ---- the PDUs of PDCP that RLC's receiver has ready behind a call
@@ -100,7 +100,7 @@ pub record IsOfData (bits : ℕ) (b : State) : Type 0 where
 -- that it goes up
 pub record HearsJust (bits : ℕ) (b : State) (cs : List Call) : Type 0 where
   pub heard : (all_called b cs).pdcp.rx ≡ hears Arrived (handed b cs) b.pdcp.rx
-  pub ups : ups_in (tells_all b cs) ≡ raises Arrived (handed b cs) b.pdcp.rx
+  pub ups : ups_among (tells_all b cs) ≡ raises Arrived (handed b cs) b.pdcp.rx
   pub stays : IsOfData bits (all_called b cs)
 
 abbrev pub HearsWhatIsHanded : Type 0
@@ -109,7 +109,7 @@ HearsWhatIsHanded = (bits : ℕ) (b : State) (cs : List Call) → IsOfData bits 
 -- as a life ends, what RLC can put together
 pub record HearsTheRest (b : State) : Type 0 where
   pub heard : (stopped b).pdcp.rx ≡ hears Reestablished (all_joined b.rx) b.pdcp.rx
-  pub ups : ups_in (stopping (Um b)) ≡ raises Reestablished (all_joined b.rx) b.pdcp.rx
+  pub ups : ups_among (stopping (Um b)) ≡ raises Reestablished (all_joined b.rx) b.pdcp.rx
 
 abbrev pub HearsTheRestAtTheEnd : Type 0
 HearsTheRestAtTheEnd = (bits : ℕ) (b : State) → IsOfData bits b → HearsTheRest b

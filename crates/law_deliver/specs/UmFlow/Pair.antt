@@ -91,8 +91,8 @@ goes (s ∷ ss) p = goes ss (happens p s)
 abbrev pub begins : State → BearerEnd
 begins b = record { bearer = b; copies = [] }
 
-abbrev pub outset : State → State → Pair
-outset near far = record { near = begins near; far = begins far }
+abbrev pub um_pair_outset : State → State → Pair
+um_pair_outset near far = record { near = begins near; far = begins far }
 
 -- ---- what is asked of them
 

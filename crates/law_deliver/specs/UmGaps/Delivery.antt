@@ -11,7 +11,7 @@ use Rattle.l2_node.specs.End.{End}
 use Rattle.bearer_types.specs.Sides.{sent_by}
 use Rattle.l2_types.specs.declared.side.Side.{Side}
 use Rattle.law_words.specs.Lists.{IsSubsequence}
-use Rattle.law_deliver.specs.UmChannel.Delivery.{BeginAlike, AreShortFrom}
+use Rattle.law_deliver.specs.UmChannel.Delivery.{UmEndsBeginAlike, AreShortFrom}
 use Rattle.um_losses.specs.Flow.{Flow, begun}
 use Rattle.um_losses.specs.Told.{all_after}
 use Rattle.law_deliver.specs.UmGaps.Whats.{whats}
@@ -22,14 +22,16 @@ first_flow from l c = begun (sent_by from) l c.rlc_bits (2 ^ c.pdcp_bits)
 
 -- nothing long is told from the side by so many steps
 abbrev pub TellsNoLong : Side → ℕ → BearerConfig → List AirStep → End → End → Type 0
-TellsNoLong from l c steps nb ue = (all_after (whats from l c.rlc_bits steps (outset nb ue)) (first_flow from l c)).gaps.long ≡ false
+TellsNoLong from l c steps nb ue =
+    (all_after (whats from l c.rlc_bits steps (outset nb ue)) (first_flow from l c)).gaps.long
+    ≡ false
 
 -- ---- the laws
 
 abbrev pub LossesAreTold : Type 0
 LossesAreTold =
     (l : ℕ) (c : BearerConfig) (keys : Keys) (nb ue : End) (from : Side) (steps : List AirStep)
-    → BeginAlike l c keys nb ue → AreLiving l (outset nb ue) steps
+    → UmEndsBeginAlike l c keys nb ue → AreLiving l (outset nb ue) steps
     → TellsNoLong from l c steps nb ue
     → AreShortFrom from l c keys steps (outset nb ue)
 
@@ -37,7 +39,7 @@ LossesAreTold =
 abbrev pub ChannelsDeliverAsTold : Type 0
 ChannelsDeliverAsTold =
     (l : ℕ) (c : BearerConfig) (keys : Keys) (nb ue : End) (from : Side) (steps : List AirStep)
-    → BeginAlike l c keys nb ue → AreLiving l (outset nb ue) steps
+    → UmEndsBeginAlike l c keys nb ue → AreLiving l (outset nb ue) steps
     → TellsNoLong from l c steps nb ue
     → IsSubsequence (ups_at l (other from) steps (outset nb ue))
     (submitted_at l from steps (outset nb ue))

@@ -26,7 +26,7 @@ use Rattle.pdcp_rx.specs.State.{State as Receiving, report, restarted as restart
 use Rattle.pdcp_rx.proofs.BitmapLemmas.{written}
 use Rattle.law_pdcp.specs.OneEnd.Lives.{Restart}
 use Rattle.law_pdcp.proofs.OneEnd.Lives.{counts_of_names}
-use Rattle.law_pdcp.proofs.OneEnd.Naming.{Kept}
+use Rattle.law_pdcp.proofs.OneEnd.Naming.{NamesKept}
 use Rattle.law_pdcp.proofs.OneEnd.Thinning.{In, names}
 use Rattle.law_pdcp.specs.AmPair.Flow.{Flow, Restart as Handover, closing, closed, happens}
 use Rattle.law_pdcp.proofs.AmPair.Numbers.{came}
@@ -72,8 +72,8 @@ renewed_sends bits first sdus s keys h =
       waits_some = h.waits_some;
       owes = tt;
       kept =
-          subst (λ t. Kept first sdus t) is
-          (subst (λ l. Kept first l (restarted s keys)) (append-nil sdus)
+          subst (λ t. NamesKept first sdus t) is
+          (subst (λ l. NamesKept first l (restarted s keys)) (append-nil sdus)
           (kept_after first sdus s (Restart keys) h.kept));
       order = subst (λ t. In 0 (names (all_of t)) t.next) is (order_after s bits (Restart keys) h.am h.order);
       near = omega (arith, h.near, h.lag, bound);

@@ -16,13 +16,14 @@ use Rattle.pdcp_tx.specs.Pdus.{width}
 use Rattle.pdcp_tx.specs.State.{State, or_else, low, moved, confirmed}
 use Rattle.pdcp_tx.specs.Runs.{Confirm, counts_in}
 use Rattle.law_pdcp.specs.OneEnd.Lives.{Calls}
-use Rattle.law_pdcp.proofs.OneEnd.Naming.{Kept}
+use Rattle.law_pdcp.proofs.OneEnd.Naming.{NamesKept}
 use Rattle.law_pdcp.proofs.OneEnd.Thinning.{In, names}
 use Rattle.law_pdcp.specs.AmPair.Flow.{Flow, Sends as Sending, happens}
 use Rattle.law_pdcp.proofs.AmPair.Numbers.{among, among_more, counts, has, came}
 use Rattle.law_pdcp.proofs.AmPair.Opens.{all_of, is_among, low_is, first_rises, first_below, first_end, trimmed_among}
 use Rattle.law_pdcp.proofs.AmPair.Places.{settled_places, ack_places, acked_came}
-use Rattle.law_pdcp.proofs.AmPair.Sound.{AreSome, Owes, Sends, IsSound}
+use Rattle.law_pdcp.proofs.OneEnd.Submitting.{AreNonempty}
+use Rattle.law_pdcp.proofs.AmPair.Sound.{Owes, Sends, IsSound}
 use Rattle.law_pdcp.proofs.AmPair.Takings.{kept_after, order_after, none_given}
 
 -- ---- the bound moves
@@ -45,14 +46,14 @@ moved_is s bits am = ap (λ n. if s.reporting then s.bound else n) (moved_first 
 pub record Before (bits first : ℕ) (sdus : List (List ℕ)) (s : State) : Type 0 where
   pub am : s.kind ≡ Am bits
   pub room : s.next + length s.waiting ≤ 2 ^ 32
-  pub some : AreSome sdus
-  pub waits_some : AreSome (map (λ w. w.sdu) s.waiting)
+  pub some : AreNonempty sdus
+  pub waits_some : AreNonempty (map (λ w. w.sdu) s.waiting)
   pub owes : Owes s.kind s.owed
   pub near : s.next ≤ s.bound
   pub lag : s.bound ≤ or_else (first_unacked (all_of s)) s.next + 2 ^ (bits - 1)
 
 pub moved_sends : (bits first : ℕ) (sdus : List (List ℕ)) (s : State) → Before bits first sdus s
-    → Kept first sdus (moved s) → In 0 (names (all_of s)) s.next → Sends bits first sdus (moved s)
+    → NamesKept first sdus (moved s) → In 0 (names (all_of s)) s.next → Sends bits first sdus (moved s)
 moved_sends bits first sdus s h kept order =
     let b = moved_bound s.reporting s.next s.bound (or_else (first_unacked (all_of s)) s.next) (2 ^ (bits - 1)) h.near
     h.lag in
@@ -205,9 +206,9 @@ confirm_moved : (bits : ℕ) (f : Flow) (place : ℕ) → f.whole place ≡ true
 confirm_moved bits f place w h =
     let s = f.sender in
     let pre = with_confirmed s place in
-    let kept : Kept f.first f.sdus (moved pre) =
-    subst (λ t. Kept f.first f.sdus t) (confirmed_is s place)
-    (subst (λ l. Kept f.first l (confirmed s place)) (append-nil f.sdus)
+    let kept : NamesKept f.first f.sdus (moved pre) =
+    subst (λ t. NamesKept f.first f.sdus t) (confirmed_is s place)
+    (subst (λ l. NamesKept f.first l (confirmed s place)) (append-nil f.sdus)
     (kept_after f.first f.sdus s (Calls (Confirm place)) h.sends.kept)) in
     let order : In 0 (names (all_of pre)) s.next =
     subst (λ t. In 0 (names (all_of t)) t.next) (confirmed_is s place)

@@ -15,7 +15,7 @@ use Rattle.pdcp_rx.specs.declared.got.Cause.{Cause}
 use Rattle.pdcp_rx.specs.declared.got.Cause.TheVariants.{Arrived, Reestablished}
 use Rattle.pdcp_rx.specs.Heard.{heard}
 use Rattle.pdcp_rx.specs.State.{State as Receiving, got, got_heard, arrived}
-use Rattle.law_pdcp.specs.AmPair.Flow.{Flow, Event, run, outset, AreGiven, IsReport, with_count}
+use Rattle.law_pdcp.specs.AmPair.Flow.{Flow, Event, run_am_pdcp, am_pdcp_outset, AreGiven, IsReport, with_count}
 use Rattle.law_pdcp.specs.AmPair.Reading.{answer, IsTold, IsRead, IsNextRead, AreRead, ReadsEach}
 use Rattle.law_pdcp.proofs.AmPair.Numbers.{among, between_below, has}
 use Rattle.law_pdcp.proofs.AmPair.Receives.{Receives, reads}
@@ -140,7 +140,7 @@ sound_reads bits f h =
     }
 
 pub reads_each : (bits : ℕ) (p : Protection) (first : ℕ) (events : List Event) → IsKind (Am bits) → first ≤ 2 ^ 32
-    → AreGiven (outset bits p first) events → ReadsEach (run events (outset bits p first))
+    → AreGiven (am_pdcp_outset bits p first) events → ReadsEach (run_am_pdcp events (am_pdcp_outset bits p first))
 reads_each bits p first events is le g =
-    sound_reads bits (run events (outset bits p first))
-    (run_sound bits events (outset bits p first) g (outset_sound bits p first is le))
+    sound_reads bits (run_am_pdcp events (am_pdcp_outset bits p first))
+    (run_sound bits events (am_pdcp_outset bits p first) g (outset_sound bits p first is le))

@@ -10,7 +10,7 @@ use Rattle.pdcp_pdu.specs.Kinds.{IsKind}
 use Rattle.pdcp_sec.specs.Protection.{Protection}
 use Rattle.pdcp_tx.specs.Pdus.{width}
 use Rattle.pdcp_tx.specs.State.{low}
-use Rattle.law_pdcp.specs.AmPair.Flow.{Flow, Event, Restart, happens, run, outset, AreGiven}
+use Rattle.law_pdcp.specs.AmPair.Flow.{Flow, Event, Restart, happens, run_am_pdcp, am_pdcp_outset, AreGiven}
 use Rattle.law_pdcp.specs.AmPair.Expected.{IsComplete}
 use Rattle.law_pdcp.specs.AmPair.Between.{IsInStep}
 use Rattle.law_pdcp.proofs.AmPair.Numbers.{among, counts, again_counts, came}
@@ -58,12 +58,13 @@ in_step bits f none h =
     none_came n (suc k) = refl
 
 pub begins_in_step : (bits : ℕ) (p : Protection) (first : ℕ) (events : List Event) (keys : Keys) → IsKind (Am bits)
-    → first ≤ 2 ^ 32 → AreGiven (outset bits p first) events
-    → IsInStep (happens (run events (outset bits p first)) (Restart keys))
+    → first ≤ 2 ^ 32 → AreGiven (am_pdcp_outset bits p first) events
+    → IsInStep (happens (run_am_pdcp events (am_pdcp_outset bits p first)) (Restart keys))
 begins_in_step bits p first events keys is le g =
-    let f = run events (outset bits p first) in
+    let f = run_am_pdcp events (am_pdcp_outset bits p first) in
     in_step bits (happens f (Restart keys)) refl
-    (restart_sound bits f keys (run_sound bits events (outset bits p first) g (outset_sound bits p first is le)))
+    (restart_sound bits f keys (run_sound bits events (am_pdcp_outset bits p first) g
+    (outset_sound bits p first is le)))
 
 complete : (bits : ℕ) (f : Flow) → IsSound bits f → IsComplete f
 complete bits f h end again =
@@ -84,7 +85,7 @@ complete bits f h end again =
     h.receives.up_is ∙ take_all (f.receiver.next - f.first) f.sdus (omega (arith, h.sends.kept.next, reached))
 
 pub delivers_all : (bits : ℕ) (p : Protection) (first : ℕ) (events : List Event) → IsKind (Am bits) → first ≤ 2 ^ 32
-    → AreGiven (outset bits p first) events → IsComplete (run events (outset bits p first))
+    → AreGiven (am_pdcp_outset bits p first) events → IsComplete (run_am_pdcp events (am_pdcp_outset bits p first))
 delivers_all bits p first events is le g =
-    complete bits (run events (outset bits p first))
-    (run_sound bits events (outset bits p first) g (outset_sound bits p first is le))
+    complete bits (run_am_pdcp events (am_pdcp_outset bits p first))
+    (run_sound bits events (am_pdcp_outset bits p first) g (outset_sound bits p first is le))

@@ -6,8 +6,9 @@ use Rattle.pdcp_sec.specs.Protection.{Protection}
 use Rattle.pdcp_tx.specs.State.{start}
 use Rattle.pdcp_tx.specs.Runs.{Submit, Take, Confirm, Report, Owe, Tick, Late}
 use Rattle.pdcp_rx.specs.State.{fresh}
-use Rattle.law_pdcp.specs.AmPair.Flow.{Flow, Event, Sends, SetDiscard, Arrive, HandUp, Raise, Restart, happens, run}
-use Rattle.law_pdcp.specs.AmPair.Flow.{outset, IsGiven, AreGiven}
+use Rattle.law_pdcp.specs.AmPair.Flow.{Flow, Event, Sends, SetDiscard, Arrive, HandUp, Raise, Restart, happens}
+use Rattle.law_pdcp.specs.AmPair.Flow.{run_am_pdcp}
+use Rattle.law_pdcp.specs.AmPair.Flow.{am_pdcp_outset, IsGiven, AreGiven}
 use Rattle.law_pdcp.specs.AmPair.Expected.{IsExpected}
 use Rattle.law_pdcp.proofs.AmPair.Sound.{IsSound}
 use Rattle.law_pdcp.proofs.AmPair.Taking.{receiver_below}
@@ -31,12 +32,13 @@ happens_sound bits f HandUp g h = hand_up_sound bits f h
 happens_sound bits f Raise g h = raise_sound bits f h
 happens_sound bits f (Restart keys) g h = restart_sound bits f keys h
 
-pub run_sound : (bits : ℕ) (es : List Event) (f : Flow) → AreGiven f es → IsSound bits f → IsSound bits (run es f)
+pub run_sound : (bits : ℕ) (es : List Event) (f : Flow) → AreGiven f es → IsSound bits f
+    → IsSound bits (run_am_pdcp es f)
 run_sound bits [] f g h = h
 run_sound bits (e ∷ es) f g h = run_sound bits es (happens f e) g.1 (happens_sound bits f e g.0 h)
 
 pub outset_sound : (bits : ℕ) (p : Protection) (first : ℕ) → IsKind (Am bits) → first ≤ 2 ^ 32
-    → IsSound bits (outset bits p first)
+    → IsSound bits (am_pdcp_outset bits p first)
 unfolding start fresh
 outset_sound bits p first is le = record {
   width = is;
@@ -76,12 +78,13 @@ outset_sound bits p first is le = record {
 }
 
 pub expected : (bits : ℕ) (p : Protection) (first : ℕ) (events : List Event) → IsKind (Am bits) → first ≤ 2 ^ 32
-    → AreGiven (outset bits p first) events → IsExpected (run events (outset bits p first))
+    → AreGiven (am_pdcp_outset bits p first) events → IsExpected (run_am_pdcp events (am_pdcp_outset bits p first))
 expected bits p first events is le g =
-    let h : IsSound bits (run events (outset bits p first)) =
-    run_sound bits events (outset bits p first) g (outset_sound bits p first is le) in
+    let h : IsSound bits (run_am_pdcp events (am_pdcp_outset bits p first)) =
+    run_sound bits events (am_pdcp_outset bits p first) g (outset_sound bits p first is le) in
     record {
       least = h.receives.least;
-      taken = omega (arith, receiver_below bits (run events (outset bits p first)) h, h.sends.kept.next);
+      taken =
+          omega (arith, receiver_below bits (run_am_pdcp events (am_pdcp_outset bits p first)) h, h.sends.kept.next);
       delivered = h.receives.up_is;
     }

@@ -12,7 +12,7 @@ use Rattle.pdcp_tx_store.specs.Given.{settled, tells, heard, with_report, untold
 use Rattle.pdcp_tx.specs.State.{State, low, moved, reported, reported_from, fms_count}
 use Rattle.pdcp_tx.specs.Runs.{Report}
 use Rattle.law_pdcp.specs.OneEnd.Lives.{Calls}
-use Rattle.law_pdcp.proofs.OneEnd.Naming.{Kept}
+use Rattle.law_pdcp.proofs.OneEnd.Naming.{NamesKept}
 use Rattle.law_pdcp.proofs.OneEnd.Thinning.{In, names}
 use Rattle.law_pdcp.specs.AmPair.Flow.{Flow, Sends as Sending, happens, Comes}
 use Rattle.law_pdcp.proofs.AmPair.Numbers.{among, among_more, between_lower, counts, again_counts, came}
@@ -178,7 +178,7 @@ told_left s from bitmap n e =
 
 told_moved : (bits : ℕ) (f : Flow) (from : ℕ) (bitmap : List ℕ)
     → ((n : ℕ) → tells from bitmap n ≡ true → f.first ≤ n → f.handed n ≡ true)
-    → Kept f.first f.sdus (moved (with_told f.sender from bitmap))
+    → NamesKept f.first f.sdus (moved (with_told f.sender from bitmap))
     → In 0 (names (all_of (with_told f.sender from bitmap))) f.sender.next
     → IsSound bits f → IsSound bits (record f { sender = moved (with_told f.sender from bitmap) })
 told_moved bits f from bitmap true' kept order h =
@@ -248,9 +248,9 @@ by_count bits f fms bitmap None e c h =
 by_count bits f fms bitmap (Some from) e c h =
     let s = f.sender in
     let is : reported s fms bitmap ≡ moved (with_told s from bitmap) = reported_is s fms bitmap (Some from) e in
-    let kept : Kept f.first f.sdus (moved (with_told s from bitmap)) =
-    subst (λ t. Kept f.first f.sdus t) is
-    (subst (λ l. Kept f.first l (reported s fms bitmap)) (append-nil f.sdus)
+    let kept : NamesKept f.first f.sdus (moved (with_told s from bitmap)) =
+    subst (λ t. NamesKept f.first f.sdus t) is
+    (subst (λ l. NamesKept f.first l (reported s fms bitmap)) (append-nil f.sdus)
     (kept_after f.first f.sdus s (Calls (Report fms bitmap)) h.sends.kept)) in
     let order : In 0 (names (all_of (with_told s from bitmap))) s.next =
     subst (λ t. In 0 (names (all_of t)) t.next) is

@@ -10,8 +10,9 @@ use Rattle.pdcp_tx_store.specs.Given.{tells, first_unacked}
 use Rattle.pdcp_tx.specs.declared.sender.Next.{Next}
 use Rattle.pdcp_tx.specs.Pdus.{pdu}
 use Rattle.pdcp_tx.specs.State.{State, or_else, fms_count}
+use Rattle.law_pdcp.proofs.OneEnd.Submitting.{AreNonempty}
 use Rattle.law_pdcp.specs.OneEnd.Lives.{Names, queue}
-use Rattle.law_pdcp.proofs.OneEnd.Naming.{Kept}
+use Rattle.law_pdcp.proofs.OneEnd.Naming.{NamesKept}
 use Rattle.law_pdcp.proofs.OneEnd.Thinning.{In, names}
 use Rattle.law_pdcp.specs.AmPair.Flow.{Flow, IsReport, Comes}
 use Rattle.law_pdcp.proofs.AmPair.Numbers.{among, counts, again_counts, came}
@@ -20,10 +21,6 @@ use Rattle.law_pdcp.proofs.AmPair.Places.{AreAtPlaces}
 use Rattle.law_pdcp.proofs.AmPair.Receives.{Receives}
 
 -- no SDU is empty
-abbrev pub AreSome : List (List ℕ) → Type 0
-AreSome [] = Unit {0}
-AreSome (x ∷ xs) = (x ≢ []) × AreSome xs
-
 abbrev pub Owes : PdcpKind → Option (List ℕ) → Type 0
 Owes kind None = Unit {0}
 Owes kind (Some report) = IsReport kind report
@@ -32,10 +29,10 @@ Owes kind (Some report) = IsReport kind report
 pub record Sends (bits first : ℕ) (sdus : List (List ℕ)) (s : State) : Type 0 where
   pub am : s.kind ≡ Am bits
   pub room : s.next + length s.waiting ≤ 2 ^ 32
-  pub some : AreSome sdus
-  pub waits_some : AreSome (queue s)
+  pub some : AreNonempty sdus
+  pub waits_some : AreNonempty (queue s)
   pub owes : Owes s.kind s.owed
-  pub kept : Kept first sdus s
+  pub kept : NamesKept first sdus s
   pub order : In 0 (names (all_of s)) s.next
   pub near : s.next ≤ s.bound
   pub lag : s.bound ≤ or_else (first_unacked (all_of s)) s.next + 2 ^ (bits - 1)

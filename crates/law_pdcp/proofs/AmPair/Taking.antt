@@ -17,7 +17,7 @@ use Rattle.pdcp_tx_store.specs.Given.{settled, with_entry, data_of, first_unacke
 use Rattle.pdcp_tx.specs.declared.sender.Next.{Next}
 use Rattle.pdcp_tx.specs.State.{State, or_else, sent, written}
 use Rattle.law_pdcp.specs.OneEnd.Lives.{Names}
-use Rattle.law_pdcp.proofs.OneEnd.Naming.{Kept, get_more, get_behind, more, each_behind, Is}
+use Rattle.law_pdcp.proofs.OneEnd.Naming.{NamesKept, get_more, get_behind, more, each_behind, Is}
 use Rattle.law_pdcp.proofs.OneEnd.Thinning.{In, names}
 use Rattle.pdcp_rx.specs.State.{State as Receiving}
 use Rattle.law_pdcp.specs.AmPair.Flow.{Flow, IsReport}
@@ -26,7 +26,8 @@ use Rattle.law_pdcp.proofs.AmPair.Opens.{all_of, is_among, is_among_more, rises,
 use Rattle.law_pdcp.proofs.AmPair.Opens.{trimmed_among}
 use Rattle.law_pdcp.proofs.AmPair.Places.{AreAtPlaces, entry_places, settled_places, drop_more}
 use Rattle.law_pdcp.proofs.AmPair.Receives.{Receives}
-use Rattle.law_pdcp.proofs.AmPair.Sound.{AreSome, Sends, IsData, IsWritten, AreWritten, rest, Links, IsTrueReport}
+use Rattle.law_pdcp.proofs.OneEnd.Submitting.{AreNonempty}
+use Rattle.law_pdcp.proofs.AmPair.Sound.{Sends, IsData, IsWritten, AreWritten, rest, Links, IsTrueReport}
 use Rattle.law_pdcp.proofs.AmPair.Sound.{IsSound}
 
 -- ---- lists
@@ -63,11 +64,11 @@ all_named_more first sdus g kind p [] h = tt
 all_named_more first sdus g kind p (x ∷ xs) h =
     (named_more first sdus g kind p x.count x.octets h.0, all_named_more first sdus g kind p xs h.1)
 
-pub some_push : (xs : List (List ℕ)) (x : List ℕ) → AreSome xs → x ≢ [] → AreSome (xs ++ x ∷ [])
+pub some_push : (xs : List (List ℕ)) (x : List ℕ) → AreNonempty xs → x ≢ [] → AreNonempty (xs ++ x ∷ [])
 some_push [] x h i = (i, tt)
 some_push (y ∷ xs) x h i = (h.0, some_push xs x h.1 i)
 
-some_at : (xs : List (List ℕ)) (k : ℕ) (x : List ℕ) → AreSome xs → slice_get xs k ≡ Some x → x ≢ []
+some_at : (xs : List (List ℕ)) (k : ℕ) (x : List ℕ) → AreNonempty xs → slice_get xs k ≡ Some x → x ≢ []
 some_at [] k x h e = let no : None ≡ Some x = e in cc
 some_at (y ∷ xs) zero x h e = let some : Some y ≡ Some x = e in let same : y ≡ x = cc in subst (λ z. z ≢ []) same h.0
 some_at (y ∷ xs) (suc k) x h e = some_at xs k x h.1 e
@@ -122,7 +123,7 @@ own_links bits first sdus s handed whole k pdus report is h =
       written = written_more first sdus s.kind s.protection pdus o h.written is;
     }
 
-own_sends : (bits first : ℕ) (sdus : List (List ℕ)) (s : State) → Kept first sdus (without_report s)
+own_sends : (bits first : ℕ) (sdus : List (List ℕ)) (s : State) → NamesKept first sdus (without_report s)
     → In 0 (names (all_of (without_report s))) s.next → Sends bits first sdus s
     → Sends bits first sdus (without_report s)
 own_sends bits first sdus s kept order h =
@@ -140,7 +141,7 @@ own_sends bits first sdus s kept order h =
     }
 
 pub own_sound : (bits : ℕ) (f : Flow) (report : List ℕ) → IsReport f.sender.kind report
-    → Kept f.first f.sdus (without_report f.sender) → In 0 (names (all_of (without_report f.sender))) f.sender.next
+    → NamesKept f.first f.sdus (without_report f.sender) → In 0 (names (all_of (without_report f.sender))) f.sender.next
     → IsSound bits f
     → IsSound bits (record f {
       sender = without_report f.sender;
@@ -195,7 +196,7 @@ again_links bits first sdus s handed whole k pdus x xs e is h =
     }
 
 again_sends : (bits first : ℕ) (sdus : List (List ℕ)) (s : State) (x : Sent) (xs : List Sent) → s.again ≡ x ∷ xs
-    → Kept first sdus (without_first s x xs) → In 0 (names (all_of (without_first s x xs))) s.next
+    → NamesKept first sdus (without_first s x xs) → In 0 (names (all_of (without_first s x xs))) s.next
     → Sends bits first sdus s
     → Sends bits first sdus (without_first s x xs)
 again_sends bits first sdus s x xs e kept order h = record {
@@ -216,7 +217,7 @@ again_sends bits first sdus s x xs e kept order h = record {
 }
 
 pub again_sound : (bits : ℕ) (f : Flow) (x : Sent) (xs : List Sent) → f.sender.again ≡ x ∷ xs
-    → Kept f.first f.sdus (without_first f.sender x xs)
+    → NamesKept f.first f.sdus (without_first f.sender x xs)
     → In 0 (names (all_of (without_first f.sender x xs))) f.sender.next → IsSound bits f
     → IsSound bits (record f {
       sender = without_first f.sender x xs;
@@ -298,12 +299,12 @@ new_links bits first sdus s handed whole k pdus sdu e is h =
           (all_named_more first sdus (sdu ∷ []) s.kind s.protection pdus h.written) is;
     }
 
-queue_drop : (ws : List Waits) → AreSome (map (λ w. w.sdu) ws) → AreSome (map (λ w. w.sdu) (drop 1 ws))
+queue_drop : (ws : List Waits) → AreNonempty (map (λ w. w.sdu) ws) → AreNonempty (map (λ w. w.sdu) (drop 1 ws))
 queue_drop [] h = h
 queue_drop (w ∷ ws) h = h.1
 
 new_sends : (bits first : ℕ) (sdus : List (List ℕ)) (s : State) (sdu : List ℕ) → s.again ≡ [] → sdu ≢ []
-    → 0 < length s.waiting → s.next < s.bound → Kept first (sdus ++ sdu ∷ []) (with_new s sdu)
+    → 0 < length s.waiting → s.next < s.bound → NamesKept first (sdus ++ sdu ∷ []) (with_new s sdu)
     → In 0 (names (all_of (with_new s sdu))) (s.next + 1) → Sends bits first sdus s
     → Sends bits first (sdus ++ sdu ∷ []) (with_new s sdu)
 new_sends bits first sdus s sdu e some' waits lt kept order h =
@@ -355,7 +356,7 @@ receiver_below bits f h =
     few_next f.first f.sdus f.handed f.up f.receiver f.sender.next h.sends.kept.next h.links.within h.receives
 
 pub new_sound : (bits : ℕ) (f : Flow) (sdu : List ℕ) → f.sender.again ≡ [] → sdu ≢ [] → 0 < length f.sender.waiting
-    → f.sender.next < f.sender.bound → Kept f.first (f.sdus ++ sdu ∷ []) (with_new f.sender sdu)
+    → f.sender.next < f.sender.bound → NamesKept f.first (f.sdus ++ sdu ∷ []) (with_new f.sender sdu)
     → In 0 (names (all_of (with_new f.sender sdu))) (f.sender.next + 1) → IsSound bits f
     → IsSound bits (record f {
       sender = with_new f.sender sdu;

@@ -2,10 +2,9 @@
 use Rattle.std.proofs.Common.{◌≡◌, ◌≢◌, ◌<◌, ◌≤◌, ℕ, suc, zero, ◌+◌, ◌-◌, ◌^◌, Bool, true, false, List, [], ◌∷◌, ◌++◌}
 use Rattle.std.proofs.Common.{length, take, drop, map, Option, Some, None, slice_get, length-append, subst, refl, ap}
 use Rattle.std.proofs.Common.{sym, ◌∙◌, arith}
-use Rattle.std.specs.Prelude.{if◌then◌else◌, option_map, nat_lt, nat_le, ◌==◌}
+use Rattle.std.specs.Prelude.{if◌then◌else◌, option_map}
 use Rattle.std.proofs.lemmas.Bool.Decides.{nat_tests}
 use Rattle.std.proofs.lemmas.List.{append-nil}
-use Rattle.l2_bits.specs.declared.fault.SubmitRefusal.TheVariants.{Empty, TooLong, Full, CountEnd}
 use Rattle.pdcp_pdu.specs.declared.PdcpKind.TheVariants.{Am}
 use Rattle.pdcp_pdu.specs.Kinds.{is_am}
 use Rattle.pdcp_tx_store.specs.declared.given.Sent.{Sent}
@@ -19,11 +18,13 @@ use Rattle.pdcp_tx.specs.Runs.{Submit, Take, Tick, Late, Owe}
 use Rattle.law_pdcp.specs.OneEnd.Lives.{Step, Calls, goes, takes_first, takes_new, new_of, new_behind, first_sdu}
 use Rattle.law_pdcp.proofs.OneEnd.KindStays.{kind_stays}
 use Rattle.law_pdcp.proofs.OneEnd.Lives.{Stays, goes_in, end_of}
-use Rattle.law_pdcp.proofs.OneEnd.Naming.{Kept, step}
+use Rattle.law_pdcp.proofs.OneEnd.Naming.{NamesKept, step}
 use Rattle.law_pdcp.proofs.OneEnd.Thinning.{In, names}
-use Rattle.law_pdcp.specs.AmPair.Flow.{Flow, Sends as Sending, SetDiscard, one, happens, IsReport}
+use Rattle.law_pdcp.specs.AmPair.Flow.{Flow, Sends as Sending, SetDiscard, happens, IsReport}
+use Rattle.law_pdcp.specs.OneEnd.Given.{nexts_of}
 use Rattle.law_pdcp.proofs.AmPair.Opens.{all_of}
-use Rattle.law_pdcp.proofs.AmPair.Sound.{AreSome, Owes, IsSound}
+use Rattle.law_pdcp.proofs.OneEnd.Submitting.{AreNonempty, accepted, not_empty, queue_push, late_room, late_some}
+use Rattle.law_pdcp.proofs.AmPair.Sound.{Owes, IsSound}
 use Rattle.law_pdcp.proofs.AmPair.Taking.{without_report, own_sound, without_first, again_sound, with_new, new_sound}
 
 -- ---- what any step keeps
@@ -37,8 +38,8 @@ order_after s bits x am h =
     subst (λ b. In 0 (names (all_of (goes s x))) (end_of b (goes s x).next)) (ap is_am (kind_stays s x ∙ am))
     (goes_in s x (stays_am s bits am h))
 
-pub kept_after : (first : ℕ) (sdus : List (List ℕ)) (s : State) (x : Step) → Kept first sdus s
-    → Kept first (sdus ++ takes_first s x) (goes s x)
+pub kept_after : (first : ℕ) (sdus : List (List ℕ)) (s : State) (x : Step) → NamesKept first sdus s
+    → NamesKept first (sdus ++ takes_first s x) (goes s x)
 kept_after first sdus s x h = (step first sdus s x h).0
 
 -- ---- a take
@@ -66,10 +67,10 @@ none_given bits f s h =
     no_new bits f s [] (subst (λ l. IsSound bits (record f { sender = s; stream = l })) (sym (append-nil f.stream)) h)
 
 kept_as : (bits : ℕ) (f : Flow) (t : State) → took f.sender ≡ t → takes_new f.sender Take ≡ [] → IsSound bits f
-    → Kept f.first f.sdus t
+    → NamesKept f.first f.sdus t
 kept_as bits f t e g h =
-    subst (λ s. Kept f.first f.sdus s) e (subst (λ l. Kept f.first l (took f.sender)) (append-nil f.sdus)
-    (subst (λ l. Kept f.first (f.sdus ++ l) (took f.sender)) g
+    subst (λ s. NamesKept f.first f.sdus s) e (subst (λ l. NamesKept f.first l (took f.sender)) (append-nil f.sdus)
+    (subst (λ l. NamesKept f.first (f.sdus ++ l) (took f.sender)) g
     (kept_after f.first f.sdus f.sender (Calls Take) h.sends.kept)))
 
 order_as : (bits : ℕ) (f : Flow) (t : State) → took f.sender ≡ t → IsSound bits f → In 0 (names (all_of t)) t.next
@@ -103,7 +104,7 @@ took_by_new : (s : State) (ws : List Waits) → s.owed ≡ None → s.again ≡ 
 took_by_new s ws a b c = took_by_again s [] a b ∙ ap (λ l. took_new l s) c
 
 first_waits : (n : ℕ) (xs : List Waits) (w : Waits) (ws : List Waits) → take n xs ≡ w ∷ ws
-    → AreSome (map (λ w. w.sdu) xs) → (0 < n) × (0 < length xs) × (w.sdu ≢ [])
+    → AreNonempty (map (λ w. w.sdu) xs) → (0 < n) × (0 < length xs) × (w.sdu ≢ [])
 first_waits zero xs w ws e h = absurd cc
 first_waits (suc n) [] w ws e h = absurd cc
 first_waits (suc n) (x ∷ xs) w ws e h = let same : x ≡ w = cc in
@@ -115,8 +116,8 @@ by_new : (bits : ℕ) (f : Flow) (ws : List Waits) → f.sender.owed ≡ None �
 by_new bits f [] a b c h =
     let s = f.sender in
     let new : takes_new s Take ≡ [] = ap (λ l. new_of l s) a ∙ ap (λ l. new_behind l s) b ∙ ap first_sdu c in
-    by_same bits f (took s) s (takes_new s Take) [] (one (taking s)) [] (took_by_new s [] a b c) new
-    (ap one (taking_by s None [] [] a b c)) (none_given bits f s h)
+    by_same bits f (took s) s (takes_new s Take) [] (nexts_of (taking s)) [] (took_by_new s [] a b c) new
+    (ap nexts_of (taking_by s None [] [] a b c)) (none_given bits f s h)
 by_new bits f (w ∷ ws) a b c h =
     let s = f.sender in
     let new : takes_new s Take ≡ w.sdu ∷ [] = ap (λ l. new_of l s) a ∙ ap (λ l. new_behind l s) b ∙ ap first_sdu c in
@@ -126,13 +127,13 @@ by_new bits f (w ∷ ws) a b c h =
       next = s.next + 1;
       given = if y then with_entry s.given (Data (sent s.next w.sdu false)) else s.given;
     }) (ap is_am h.sends.am) in
-    let kept : Kept f.first (f.sdus ++ w.sdu ∷ []) (with_new s w.sdu) =
-    subst (λ t. Kept f.first (f.sdus ++ w.sdu ∷ []) t) is
-    (subst (λ l. Kept f.first (f.sdus ++ l) (took s)) new (kept_after f.first f.sdus s (Calls Take) h.sends.kept))
+    let kept : NamesKept f.first (f.sdus ++ w.sdu ∷ []) (with_new s w.sdu) =
+    subst (λ t. NamesKept f.first (f.sdus ++ w.sdu ∷ []) t) is
+    (subst (λ l. NamesKept f.first (f.sdus ++ l) (took s)) new (kept_after f.first f.sdus s (Calls Take) h.sends.kept))
     in
     let can = first_waits (s.bound - s.next) s.waiting w ws c h.sends.waits_some in
-    by_same bits f (took s) (with_new s w.sdu) (takes_new s Take) (w.sdu ∷ []) (one (taking s))
-    (written s.kind s.protection (Some s.next) w.sdu ∷ []) is new (ap one (taking_by s None [] (w ∷ ws) a b c))
+    by_same bits f (took s) (with_new s w.sdu) (takes_new s Take) (w.sdu ∷ []) (nexts_of (taking s))
+    (written s.kind s.protection (Some s.next) w.sdu ∷ []) is new (ap nexts_of (taking_by s None [] (w ∷ ws) a b c))
     (new_sound bits f w.sdu b can.2 can.1 (omega (arith, can.0)) kept (order_as bits f (with_new s w.sdu) is h) h)
 
 by_again : (bits : ℕ) (f : Flow) (xs : List Sent) → f.sender.owed ≡ None → f.sender.again ≡ xs → IsSound bits f
@@ -142,9 +143,9 @@ by_again bits f (x ∷ xs) a b h =
     let s = f.sender in
     let new : takes_new s Take ≡ [] = ap (λ l. new_of l s) a ∙ ap (λ l. new_behind l s) b in
     let is : took s ≡ without_first s x xs = took_by_again s (x ∷ xs) a b in
-    by_same bits f (took s) (without_first s x xs) (takes_new s Take) [] (one (taking s))
+    by_same bits f (took s) (without_first s x xs) (takes_new s Take) [] (nexts_of (taking s))
     (written s.kind s.protection (Some x.count) x.octets ∷ []) is new
-    (ap one (taking_by s None (x ∷ xs) (take (s.bound - s.next) s.waiting) a b refl))
+    (ap nexts_of (taking_by s None (x ∷ xs) (take (s.bound - s.next) s.waiting) a b refl))
     (no_new bits f (without_first s x xs) (written s.kind s.protection (Some x.count) x.octets ∷ [])
     (again_sound bits f x xs b (kept_as bits f (without_first s x xs) is new h)
     (order_as bits f (without_first s x xs) is h) h))
@@ -157,9 +158,9 @@ by_owed bits f (Some r) a h =
     let new : takes_new s Take ≡ [] = ap (λ l. new_of l s) a in
     let is : took s ≡ without_report s = took_by_owed s (Some r) a in
     let report : IsReport s.kind r = subst (Owes s.kind) a h.sends.owes in
-    by_same bits f (took s) (without_report s) (takes_new s Take) [] (one (taking s))
+    by_same bits f (took s) (without_report s) (takes_new s Take) [] (nexts_of (taking s))
     (written s.kind s.protection None r ∷ []) is new
-    (ap one (taking_by s (Some r) s.again (take (s.bound - s.next) s.waiting) a refl refl))
+    (ap nexts_of (taking_by s (Some r) s.again (take (s.bound - s.next) s.waiting) a refl refl))
     (no_new bits f (without_report s) (written s.kind s.protection None r ∷ [])
     (own_sound bits f r report (kept_as bits f (without_report s) is new h)
     (order_as bits f (without_report s) is h) h))
@@ -174,7 +175,7 @@ quiet s waiting owed reporting clock discard =
     record s { waiting = waiting; owed = owed; reporting = reporting; clock = clock; discard = discard }
 
 quiet_sound : (bits : ℕ) (f : Flow) (waiting : List Waits) (owed : Option (List ℕ)) (reporting : Bool) (clock : ℕ)
-    (discard : Option ℕ) → f.sender.next + length waiting ≤ 2 ^ 32 → AreSome (map (λ w. w.sdu) waiting)
+    (discard : Option ℕ) → f.sender.next + length waiting ≤ 2 ^ 32 → AreNonempty (map (λ w. w.sdu) waiting)
     → Owes f.sender.kind owed
     → IsSound bits f → IsSound bits (record f { sender = quiet f.sender waiting owed reporting clock discard })
 quiet_sound bits f waiting owed reporting clock discard room some owes h = record {
@@ -208,32 +209,6 @@ quiet_sound bits f waiting owed reporting clock discard room some owes h = recor
   told = h.told;
 }
 
-refused_by : (a b c d : Bool)
-    → (if a then Some Empty
-    else (if b then Some TooLong else (if c then Some Full else (if d then Some CountEnd else None)))) ≡ None
-    → (a ≡ false) × (d ≡ false)
-refused_by true b c d e = absurd cc
-refused_by false true c d e = absurd cc
-refused_by false false true d e = absurd cc
-refused_by false false false true e = absurd cc
-refused_by false false false false e = (refl, refl)
-
-accepted : (s : State) (sdu : List ℕ) → refusal s sdu ≡ None
-    → ((length sdu == 0) ≡ false) × ((s.next + length s.waiting == 2 ^ 32) ≡ false)
-unfolding refusal
-accepted s sdu e =
-    refused_by (length sdu == 0) (nat_lt 8188 (length sdu)) (nat_le 1024 (length s.waiting))
-    (s.next + length s.waiting == 2 ^ 32) e
-
-not_empty : (sdu : List ℕ) → (length sdu == 0) ≡ false → sdu ≢ []
-not_empty [] e = absurd cc
-not_empty (x ∷ xs) e = λ q. absurd cc
-
-queue_push : (ws : List Waits) (w : Waits) → AreSome (map (λ w. w.sdu) ws) → w.sdu ≢ []
-    → AreSome (map (λ w. w.sdu) (ws ++ w ∷ []))
-queue_push [] w h i = (i, tt)
-queue_push (x ∷ ws) w h i = (h.0, queue_push ws w h.1 i)
-
 pub submit_sound : (bits : ℕ) (f : Flow) (sdu : List ℕ) → refusal f.sender sdu ≡ None → IsSound bits f
     → IsSound bits (happens f (Sending (Submit sdu)))
 unfolding submitted
@@ -259,18 +234,6 @@ tick_sound bits f h =
     none_given bits f (goes f.sender (Calls Tick))
     (quiet_sound bits f f.sender.waiting f.sender.owed f.sender.reporting (goes f.sender (Calls Tick)).clock
     f.sender.discard h.sends.room h.sends.waits_some h.sends.owes h)
-
-late_room : (b : Bool) (ws : List Waits) (n : ℕ) → n + length ws ≤ 2 ^ 32
-    → n + length (if b then drop 1 ws else ws) ≤ 2 ^ 32
-late_room true [] n h = h
-late_room true (w ∷ ws) n h = omega (arith, h)
-late_room false ws n h = h
-
-late_some : (b : Bool) (ws : List Waits) → AreSome (map (λ w. w.sdu) ws)
-    → AreSome (map (λ w. w.sdu) (if b then drop 1 ws else ws))
-late_some true [] h = h
-late_some true (w ∷ ws) h = h.1
-late_some false ws h = h
 
 pub late_sound : (bits : ℕ) (f : Flow) → IsSound bits f → IsSound bits (happens f (Sending Late))
 unfolding after_late

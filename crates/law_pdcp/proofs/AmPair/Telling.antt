@@ -20,7 +20,7 @@ use Rattle.pdcp_rx.specs.Heard.{Told, heard}
 use Rattle.pdcp_rx.specs.Held.{is_held, bitmap}
 use Rattle.pdcp_rx.specs.State.{State as Receiving, report}
 use Rattle.pdcp_rx.proofs.BitmapLemmas.{written}
-use Rattle.law_pdcp.specs.AmPair.Flow.{Flow, Event, Restart, happens, run, outset, AreGiven, closing}
+use Rattle.law_pdcp.specs.AmPair.Flow.{Flow, Event, Restart, happens, run_am_pdcp, am_pdcp_outset, AreGiven, closing}
 use Rattle.law_pdcp.specs.AmPair.Between.{IsInStep, TellsWhatHasCome}
 use Rattle.law_pdcp.proofs.AmPair.Opens.{all_of, low_is, first_is}
 use Rattle.law_pdcp.proofs.AmPair.Receives.{Receives}
@@ -143,8 +143,8 @@ tells_all bits f keys h =
     }
 
 pub begins_telling : (bits : ℕ) (p : Protection) (first : ℕ) (events : List Event) (keys : Keys) → IsKind (Am bits)
-    → first ≤ 2 ^ 32 → AreGiven (outset bits p first) events
-    → TellsWhatHasCome (happens (run events (outset bits p first)) (Restart keys))
+    → first ≤ 2 ^ 32 → AreGiven (am_pdcp_outset bits p first) events
+    → TellsWhatHasCome (happens (run_am_pdcp events (am_pdcp_outset bits p first)) (Restart keys))
 begins_telling bits p first events keys is le g =
-    tells_all bits (run events (outset bits p first)) keys
-    (run_sound bits events (outset bits p first) g (outset_sound bits p first is le))
+    tells_all bits (run_am_pdcp events (am_pdcp_outset bits p first)) keys
+    (run_sound bits events (am_pdcp_outset bits p first) g (outset_sound bits p first is le))

@@ -16,7 +16,7 @@ use Rattle.pdcp_tx.specs.State.{State, start, sent, or_else, low, moved, submitt
 use Rattle.pdcp_tx.specs.State.{took_new, confirmed, reported, reported_from, fms_count, after_late, restarted}
 use Rattle.pdcp_tx.specs.State.{first_again, kept_again, next_from}
 use Rattle.pdcp_tx.specs.Runs.{Call, Submit, Take, Confirm, Report, Owe, Tick, Late}
-use Rattle.law_pdcp.specs.OneEnd.Lives.{Step, Calls, SetDiscard, Restart, goes, run}
+use Rattle.law_pdcp.specs.OneEnd.Lives.{Step, Calls, SetDiscard, Restart, goes, run_pdcp_sender}
 use Rattle.law_pdcp.specs.OneEnd.Bounds.{IsBounded, StandsStill}
 use Rattle.law_pdcp.proofs.OneEnd.KindStays.{kind_stays}
 
@@ -140,7 +140,7 @@ goes_bounded s (Calls Late) am h = h
 goes_bounded s (SetDiscard ttis) am h = h
 goes_bounded s (Restart keys) am h = restart_bounded s keys
 
-run_bounded : (xs : List Step) (s : State) → is_am s.kind ≡ true → IsBounded s → IsBounded (run xs s)
+run_bounded : (xs : List Step) (s : State) → is_am s.kind ≡ true → IsBounded s → IsBounded (run_pdcp_sender xs s)
 run_bounded [] s am h = h
 run_bounded (x ∷ xs) s am h = run_bounded xs (goes s x) (ap is_am (kind_stays s x) ∙ am) (goes_bounded s x am h)
 
@@ -153,7 +153,7 @@ unfolding start
 start_kind kind p first = refl
 
 pub bounded : (kind : PdcpKind) (p : Protection) (first : ℕ) (steps : List Step) → IsTrue (is_am kind)
-    → IsBounded (run steps (start kind p first))
+    → IsBounded (run_pdcp_sender steps (start kind p first))
 bounded kind p first steps am =
     run_bounded steps (start kind p first) (ap is_am (start_kind kind p first) ∙ am) (begins kind p first)
 

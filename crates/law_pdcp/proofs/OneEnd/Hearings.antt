@@ -13,7 +13,7 @@ use Rattle.pdcp_rx.specs.State.{State, above, passed_over, opened_at, waits, rai
 use Rattle.pdcp_rx.specs.State.{arrived, restarted}
 use Rattle.pdcp_rx.specs.Laws.{Arrive, Take, happens}
 use Rattle.pdcp_rx.proofs.LawLemmas.{call_step}
-use Rattle.law_pdcp.specs.OneEnd.Receiving.{Hearing, Calls, Restart, goes, ups_in, ups_of}
+use Rattle.law_pdcp.specs.OneEnd.Receiving.{Hearing, Calls, Restart, goes, counts_up_in, ups_of}
 
 placed_kind : (s : State) (b : Bool) (at : ℕ) (sdu : List ℕ)
     → (if b then record s { held = stored s.held at sdu } else raised s (stored s.held at sdu) (at + 1)).kind ≡ s.kind
@@ -46,7 +46,7 @@ next_stays true next e = refl
 next_stays false next e = let no : false ≡ true = e in cc
 
 step : (s : State) (x : Hearing) (rest : List ℕ) → is_am s.kind ≡ true → IsAscending (goes s x).next rest
-    → IsAscending s.next (ups_in s x ++ rest)
+    → IsAscending s.next (counts_up_in s x ++ rest)
 unfolding restarted
 step s (Calls c) rest am h = call_step c s rest h
 step s (Restart keys) rest am h = subst (λ n. IsAscending n rest) (next_stays (is_am s.kind) s.next am) h

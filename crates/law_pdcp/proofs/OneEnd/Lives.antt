@@ -14,7 +14,7 @@ use Rattle.pdcp_tx_store.specs.Given.{acked_at, entry_at, heard, untold, trimmed
 use Rattle.pdcp_tx.specs.State.{State, start, sent, submitted, took, took_owed, took_again, took_new, confirmed}
 use Rattle.pdcp_tx.specs.State.{reported, reported_from, fms_count, after_late, restarted, next_from, kept_again}
 use Rattle.pdcp_tx.specs.Runs.{Submit, Take, Confirm, Report, Owe, Tick, Late, IsOrdered}
-use Rattle.law_pdcp.specs.OneEnd.Lives.{Step, Calls, SetDiscard, Restart, goes, run}
+use Rattle.law_pdcp.specs.OneEnd.Lives.{Step, Calls, SetDiscard, Restart, goes, run_pdcp_sender}
 use Rattle.law_words.specs.Lists.{IsSubsequence}
 use Rattle.law_pdcp.proofs.OneEnd.Lists.{thinner}
 use Rattle.law_pdcp.proofs.OneEnd.Thinning.{named, names, In, thin_in, lower, higher, grows, of, of_again, of_new}
@@ -95,7 +95,7 @@ goes_in s (Calls Late) h = h
 goes_in s (SetDiscard ttis) h = h
 goes_in s (Restart keys) h = restarted_in s keys h
 
-stays : (xs : List Step) (s : State) → Stays s → Stays (run xs s)
+stays : (xs : List Step) (s : State) → Stays s → Stays (run_pdcp_sender xs s)
 stays [] s h = h
 stays (x ∷ xs) s h = stays xs (goes s x) (goes_in s x h)
 
@@ -123,6 +123,6 @@ unfolding start
 begins kind p first = omega arith
 
 pub lives_are_ordered : (kind : PdcpKind) (p : Protection) (first : ℕ) (steps : List Step)
-    → IsOrdered (run steps (start kind p first))
+    → IsOrdered (run_pdcp_sender steps (start kind p first))
 lives_are_ordered kind p first steps =
-    orders (run steps (start kind p first)) (stays steps (start kind p first) (begins kind p first))
+    orders (run_pdcp_sender steps (start kind p first)) (stays steps (start kind p first) (begins kind p first))

@@ -46,14 +46,14 @@ abbrev pub IsCiphered : ℕ → List (List ℕ) → Ciphering → Type 0
 IsCiphered first h c = Names first h c.count c.sdu
 
 -- the SDUs that were taken so far, and what each COUNT of them names
-pub record Kept (first : ℕ) (h : List (List ℕ)) (s : State) : Type 0 where
+pub record NamesKept (first : ℕ) (h : List (List ℕ)) (s : State) : Type 0 where
   pub am : is_am s.kind ≡ true
   pub next : first + length h ≡ s.next
   pub each : All (Is first h) (of s.given.entries s.again)
 
 -- what a step has to keep, and to name
 abbrev pub Goes : ℕ → List (List ℕ) → List (List ℕ) → State → List Ciphering → Type 0
-Goes first h g s cs = Kept first (h ++ g) s × AreNamed first (h ++ g) cs
+Goes first h g s cs = NamesKept first (h ++ g) s × AreNamed first (h ++ g) cs
 
 none_named : (first : ℕ) (h : List (List ℕ)) → AreNamed first h []
 none_named first h = All-nil (IsCiphered first h)
@@ -61,7 +61,8 @@ none_named first h = All-nil (IsCiphered first h)
 one_named : (first : ℕ) (h : List (List ℕ)) (c : Ciphering) → IsCiphered first h c → AreNamed first h (c ∷ [])
 one_named first h c n = All-cons (IsCiphered first h) c [] n (none_named first h)
 
-nothing_new : (first : ℕ) (h : List (List ℕ)) (s : State) (cs : List Ciphering) → Kept first h s → AreNamed first h cs
+nothing_new : (first : ℕ) (h : List (List ℕ)) (s : State) (cs : List Ciphering) → NamesKept first h s
+    → AreNamed first h cs
     → Goes first h [] s cs
 nothing_new first h s cs k n = rw (append-nil h) (k, n)
 
@@ -70,7 +71,7 @@ pub each_behind : (P : Named → Type 0) (ss : List Sent) (x : Sent) (xs : List 
 each_behind P [] x xs h = All-head P (named x) (names xs) h
 each_behind P (s ∷ ss) x xs h = each_behind P ss x xs (All-tail P (named s) (names (ss ++ x ∷ xs)) h)
 
-new_goes : (first : ℕ) (h : List (List ℕ)) (s : State) (ws : List Waits) → s.again ≡ [] → Kept first h s
+new_goes : (first : ℕ) (h : List (List ℕ)) (s : State) (ws : List Waits) → s.again ≡ [] → NamesKept first h s
     → Goes first h (first_sdu ws) (took_new ws s) (ciphering_of s.protection (slice_get (new_offers s.next ws) 0))
 new_goes first h s [] a k = nothing_new first h s [] k (none_named first h)
 new_goes first h s (w ∷ ws) a k =
@@ -87,7 +88,7 @@ new_goes first h s (w ∷ ws) a k =
       one_named first (h ++ w.sdu ∷ []) _ here,
     )
 
-again_goes : (first : ℕ) (h : List (List ℕ)) (s : State) (ss : List Sent) → s.again ≡ ss → Kept first h s
+again_goes : (first : ℕ) (h : List (List ℕ)) (s : State) (ss : List Sent) → s.again ≡ ss → NamesKept first h s
     → Goes first h (new_behind ss s) (took_again ss s)
     (ciphering_of s.protection
     (slice_get (map again_offer ss ++ new_offers s.next (take (s.bound - s.next) s.waiting)) 0))
@@ -104,7 +105,7 @@ again_goes first h s (x ∷ xs) a k =
     (record { am = k.am; next = k.next; each = each })
     (one_named first h _ (each_behind (Is first h) (data_of s.given.entries) x xs old))
 
-owed_goes : (first : ℕ) (h : List (List ℕ)) (s : State) (o : Option (List ℕ)) → Kept first h s
+owed_goes : (first : ℕ) (h : List (List ℕ)) (s : State) (o : Option (List ℕ)) → NamesKept first h s
     → Goes first h (new_of o s) (took_owed o s)
     (ciphering_of s.protection
     (slice_get (owed_offers o ++ map again_offer s.again ++ new_offers s.next (take (s.bound - s.next) s.waiting)) 0))
@@ -117,8 +118,8 @@ owed_goes first h s (Some r) k =
       each = subst (All (Is first h)) (sym (of_own s.given.entries s.again)) k.each;
     }) (none_named first h)
 
-report_goes : (first : ℕ) (h : List (List ℕ)) (s : State) (c : Option ℕ) (bitmap : List ℕ) → Kept first h s
-    → Kept first h (reported_from c s bitmap)
+report_goes : (first : ℕ) (h : List (List ℕ)) (s : State) (c : Option ℕ) (bitmap : List ℕ) → NamesKept first h s
+    → NamesKept first h (reported_from c s bitmap)
 report_goes first h s None bitmap k = k
 report_goes first h s (Some c) bitmap k = record {
   am = k.am;
@@ -132,8 +133,8 @@ report_goes first h s (Some c) bitmap k = record {
       (hears c bitmap s.given.entries s.again)) k.each;
 }
 
-confirm_goes : (first : ℕ) (h : List (List ℕ)) (s : State) (place : ℕ) → Kept first h s
-    → Kept first h (confirmed s place)
+confirm_goes : (first : ℕ) (h : List (List ℕ)) (s : State) (place : ℕ) → NamesKept first h s
+    → NamesKept first h (confirmed s place)
 unfolding confirmed
 confirm_goes first h s place k = record {
   am = k.am;
@@ -151,8 +152,8 @@ next_stays Srb next e = let no : false ≡ true = e in cc
 next_stays (Um bits) next e = let no : false ≡ true = e in cc
 next_stays (Am bits) next e = refl
 
-restart_goes : (first : ℕ) (h : List (List ℕ)) (s : State) (keys : Keys) → Kept first h s
-    → Kept first h (restarted s keys)
+restart_goes : (first : ℕ) (h : List (List ℕ)) (s : State) (keys : Keys) → NamesKept first h s
+    → NamesKept first h (restarted s keys)
 unfolding restarted
 restart_goes first h s keys k = record {
   am = k.am;
@@ -160,7 +161,7 @@ restart_goes first h s keys k = record {
   each = all_left (Is first h) (names (kept_again s)) (of s.given.entries s.again) (again_thin s) k.each;
 }
 
-pub step : (first : ℕ) (h : List (List ℕ)) (s : State) (x : Step) → Kept first h s
+pub step : (first : ℕ) (h : List (List ℕ)) (s : State) (x : Step) → NamesKept first h s
     → Goes first h (takes_first s x) (goes s x) (ciphers s x)
 unfolding submitted took reported after_late offers
 step first h s (Calls (Submit sdu)) k =
@@ -185,7 +186,7 @@ step first h s (SetDiscard ttis) k =
 step first h s (Restart keys) k =
     nothing_new first h (restarted s keys) [] (restart_goes first h s keys k) (none_named first h)
 
-all_named : (first : ℕ) (h : List (List ℕ)) (s : State) (xs : List Step) → Kept first h s
+all_named : (first : ℕ) (h : List (List ℕ)) (s : State) (xs : List Step) → NamesKept first h s
     → AreNamed first (h ++ first_taken s xs) (cipherings s xs)
 all_named first h s [] k = none_named first (h ++ [])
 all_named first h s (x ∷ xs) k =
@@ -198,7 +199,8 @@ all_named first h s (x ∷ xs) k =
     (λ c n. more first (h ++ takes_first s x) (first_taken (goes s x) xs) c.count c.sdu n) (ciphers s x) here.1)
     (all_named first (h ++ takes_first s x) (goes s x) xs here.0))
 
-pub begins : (kind : PdcpKind) (p : Protection) (first : ℕ) → is_am kind ≡ true → Kept first [] (start kind p first)
+pub begins : (kind : PdcpKind) (p : Protection) (first : ℕ) → is_am kind ≡ true
+    → NamesKept first [] (start kind p first)
 unfolding start
 begins kind p first am = record { am = am; next = omega arith; each = All-nil (Is first []) }
 

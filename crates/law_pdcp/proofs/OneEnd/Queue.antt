@@ -9,7 +9,8 @@ use Rattle.pdcp_tx_store.specs.Waiting.{Waits}
 use Rattle.pdcp_tx.specs.State.{State, submitted, took, took_owed, took_again, took_new, confirmed, reported}
 use Rattle.pdcp_tx.specs.State.{reported_from, fms_count, after_late, is_overdue, restarted, waiting_on}
 use Rattle.pdcp_tx.specs.Runs.{Submit, Take, Confirm, Report, Owe, Tick, Late}
-use Rattle.law_pdcp.specs.OneEnd.Lives.{Step, Calls, SetDiscard, Restart, goes, run, first_sdu, new_behind, new_of}
+use Rattle.law_pdcp.specs.OneEnd.Lives.{Step, Calls, SetDiscard, Restart, goes, run_pdcp_sender, first_sdu, new_behind}
+use Rattle.law_pdcp.specs.OneEnd.Lives.{new_of}
 use Rattle.law_pdcp.specs.OneEnd.Lives.{submits, submitted_in, leaves, left_in, queue}
 use Rattle.law_pdcp.proofs.OneEnd.KindStays.{kind_stays}
 
@@ -66,10 +67,10 @@ step s (SetDiscard ttis) h = sym (append-nil (queue s))
 step s (Restart keys) h = ap sdus (kept_waiting s.kind s.waiting h) ∙ sym (append-nil (queue s))
 
 pub in_order : (s : State) (xs : List Step) → s.kind ≢ Srb
-    → left_in s xs ++ queue (run xs s) ≡ queue s ++ submitted_in xs
+    → left_in s xs ++ queue (run_pdcp_sender xs s) ≡ queue s ++ submitted_in xs
 in_order s [] h = sym (append-nil (queue s))
 in_order s (x ∷ xs) h =
-    append_assoc (leaves s x) (left_in (goes s x) xs) (queue (run xs (goes s x)))
+    append_assoc (leaves s x) (left_in (goes s x) xs) (queue (run_pdcp_sender xs (goes s x)))
     ∙ ap (λ l. leaves s x ++ l) (in_order (goes s x) xs (subst (λ k. k ≢ Srb) (sym (kind_stays s x)) h))
     ∙ sym (append_assoc (leaves s x) (queue (goes s x)) (submitted_in xs))
     ∙ ap (λ l. l ++ submitted_in xs) (step s x h)

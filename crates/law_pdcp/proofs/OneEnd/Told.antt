@@ -12,8 +12,8 @@ use Rattle.pdcp_tx.specs.State.{State, submitted, took, took_owed, took_again, t
 use Rattle.pdcp_tx.specs.State.{reported_from, fms_count, after_late}
 use Rattle.pdcp_tx.specs.Runs.{Call, Submit, Take, Confirm, Report, Owe, Tick, Late, after}
 use Rattle.law_words.specs.Lists.{IsSubsequence}
-use Rattle.law_pdcp.specs.OneEnd.Again.{again_behind, takes_again, taken_again, after_all, all_again, told_from}
-use Rattle.law_pdcp.specs.OneEnd.Again.{told_by, told_in, LeavesOutWhatIsTold, IsUntold, LeavesOutTheTold}
+use Rattle.law_pdcp.specs.OneEnd.Again.{again_behind, takes_again, taken_again, after_all, all_again, is_told_from}
+use Rattle.law_pdcp.specs.OneEnd.Again.{is_told_by, is_told_in, LeavesOutWhatIsTold, IsUntold, LeavesOutTheTold}
 use Rattle.law_pdcp.proofs.OneEnd.Lists.{same, thinner, behind, all_left}
 use Rattle.law_pdcp.proofs.OneEnd.Thinning.{untolds}
 
@@ -89,12 +89,12 @@ untold_in from bitmap (y ∷ ys) x h = ⊎_elim
     (first_or_later x y ys h.0 h.1 h.2)
 
 report_in : (s : State) (c : Option ℕ) (bitmap : List ℕ) (x : Sent) → Contains s.again x
-    → Contains (reported_from c s bitmap).again x ⊎ (told_from c bitmap x ≡ true)
+    → Contains (reported_from c s bitmap).again x ⊎ (is_told_from c bitmap x ≡ true)
 report_in s None bitmap x h = inl h
 report_in s (Some from) bitmap x h = untold_in from bitmap s.again x h
 
 call_in : (s : State) (c : Call) (x : Sent) → Contains s.again x
-    → Contains (takes_again s c ++ (after s c).again) x ⊎ (told_by s c x ≡ true)
+    → Contains (takes_again s c ++ (after s c).again) x ⊎ (is_told_by s c x ≡ true)
 unfolding submitted took confirmed reported after_late
 call_in s (Submit sdu) x h = inl h
 call_in s Take x h = inl (subst (λ l. Contains l x) (sym (owed_again s s.owed)) h)
@@ -111,29 +111,29 @@ all_in s c cs x r =
     (sym (append_assoc (takes_again s c) (taken_again (after s c) cs) (after_all (after s c) cs).again)) r
 
 by_rest : (s : State) (c : Call) (cs : List Call) (x : Sent)
-    → Contains (all_again (after s c) cs) x ⊎ (told_in (after s c) cs x ≡ true)
-    → Contains (all_again s (c ∷ cs)) x ⊎ (told_in s (c ∷ cs) x ≡ true)
+    → Contains (all_again (after s c) cs) x ⊎ (is_told_in (after s c) cs x ≡ true)
+    → Contains (all_again s (c ∷ cs)) x ⊎ (is_told_in s (c ∷ cs) x ≡ true)
 by_rest s c cs x (inl r) =
     inl (all_in s c cs x (Contains-append_right (takes_again s c) (all_again (after s c) cs) x r))
-by_rest s c cs x (inr t) = inr (or_right (told_by s c x) (told_in (after s c) cs x) t)
+by_rest s c cs x (inr t) = inr (or_right (is_told_by s c x) (is_told_in (after s c) cs x) t)
 
 by_place : (s : State) (c : Call) (cs : List Call) (x : Sent)
-    → (Contains (after s c).again x → Contains (all_again (after s c) cs) x ⊎ (told_in (after s c) cs x ≡ true))
+    → (Contains (after s c).again x → Contains (all_again (after s c) cs) x ⊎ (is_told_in (after s c) cs x ≡ true))
     → Contains (takes_again s c) x ⊎ Contains (after s c).again x
-    → Contains (all_again s (c ∷ cs)) x ⊎ (told_in s (c ∷ cs) x ≡ true)
+    → Contains (all_again s (c ∷ cs)) x ⊎ (is_told_in s (c ∷ cs) x ≡ true)
 by_place s c cs x rest (inl r) =
     inl (all_in s c cs x (Contains-append_left (takes_again s c) (all_again (after s c) cs) x r))
 by_place s c cs x rest (inr r) = by_rest s c cs x (rest r)
 
 by_call : (s : State) (c : Call) (cs : List Call) (x : Sent)
-    → (Contains (after s c).again x → Contains (all_again (after s c) cs) x ⊎ (told_in (after s c) cs x ≡ true))
-    → Contains (takes_again s c ++ (after s c).again) x ⊎ (told_by s c x ≡ true)
-    → Contains (all_again s (c ∷ cs)) x ⊎ (told_in s (c ∷ cs) x ≡ true)
+    → (Contains (after s c).again x → Contains (all_again (after s c) cs) x ⊎ (is_told_in (after s c) cs x ≡ true))
+    → Contains (takes_again s c ++ (after s c).again) x ⊎ (is_told_by s c x ≡ true)
+    → Contains (all_again s (c ∷ cs)) x ⊎ (is_told_in s (c ∷ cs) x ≡ true)
 by_call s c cs x rest (inl r) = by_place s c cs x rest (Contains-append_cases (takes_again s c) (after s c).again x r)
-by_call s c cs x rest (inr t) = inr (or_left (told_by s c x) (told_in (after s c) cs x) t)
+by_call s c cs x rest (inr t) = inr (or_left (is_told_by s c x) (is_told_in (after s c) cs x) t)
 
 others : (s : State) (cs : List Call) (x : Sent) → Contains s.again x
-    → Contains (all_again s cs) x ⊎ (told_in s cs x ≡ true)
+    → Contains (all_again s cs) x ⊎ (is_told_in s cs x ≡ true)
 others s [] x h = inl h
 others s (c ∷ cs) x h = by_call s c cs x (others (after s c) cs x) (call_in s c x h)
 

@@ -13,11 +13,12 @@ use Rattle.pdcp_tx.specs.State.{restarted as restarted_sending}
 use Rattle.pdcp_tx.specs.Pdus.{width}
 use Rattle.pdcp_rx.specs.State.{State as Receiving, fresh, restarted as restarted_receiving}
 use Rattle.law_pdcp.specs.SrbPair.Beginning.{BeginAnew}
-use Rattle.law_pdcp.specs.SrbPair.Flow.{Event, run, outset, AreGiven, BeginAlike}
+use Rattle.law_pdcp.specs.SrbPair.Flow.{Event, run_srb_pdcp, srb_pdcp_outset, AreGiven, SrbPdcpBeginAlike}
 use Rattle.law_pdcp.proofs.SrbPair.Laws.{Hears, sound}
 use Rattle.law_pdcp.proofs.SrbPair.Sending.{Sends}
 
-pub first_life : (p : Protection) (first : ℕ) → first ≤ 2 ^ 32 → BeginAlike (start Srb p first) (fresh Srb p first)
+pub first_life : (p : Protection) (first : ℕ) → first ≤ 2 ^ 32
+    → SrbPdcpBeginAlike (start Srb p first) (fresh Srb p first)
 unfolding start fresh
 first_life p first few = record {
   sends = refl;
@@ -68,12 +69,12 @@ begins_anew first p sdus passed s r keys h k ready =
       anew = next;
     }
 
-pub next_life : (s : Sending) (r : Receiving) (events : List Event) (keys : Keys) → BeginAlike s r
-    → AreGiven (outset s r) events
-    → (run events (outset s r)).receiver.ready ≡ []
-    → BeginAnew (restarted_sending (run events (outset s r)).sender keys)
-    (restarted_receiving (run events (outset s r)).receiver keys)
+pub next_life : (s : Sending) (r : Receiving) (events : List Event) (keys : Keys) → SrbPdcpBeginAlike s r
+    → AreGiven (srb_pdcp_outset s r) events
+    → (run_srb_pdcp events (srb_pdcp_outset s r)).receiver.ready ≡ []
+    → BeginAnew (restarted_sending (run_srb_pdcp events (srb_pdcp_outset s r)).sender keys)
+    (restarted_receiving (run_srb_pdcp events (srb_pdcp_outset s r)).receiver keys)
 next_life s r events keys h g ready =
-    let f = run events (outset s r) in
+    let f = run_srb_pdcp events (srb_pdcp_outset s r) in
     let k = sound s r events h g in
     begins_anew f.first s.protection f.sdus f.passed f.sender f.receiver keys k.sends k.hears ready

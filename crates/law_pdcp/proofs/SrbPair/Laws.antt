@@ -13,10 +13,13 @@ use Rattle.pdcp_tx.specs.State.{State as Sending, written, took}
 use Rattle.pdcp_rx.specs.State.{State as Receiving}
 use Rattle.law_pdcp.specs.OneEnd.Lives.{queue, takes_new}
 use Rattle.law_pdcp.specs.SrbPair.Delivery.{written_from, IsReadNext, IsTheFront, submits, submitted_in}
-use Rattle.law_pdcp.specs.SrbPair.Flow.{Flow, Event, Sends as Calls, HandUp, Raise, one, gives, passes, happens, run}
-use Rattle.law_pdcp.specs.SrbPair.Flow.{outset, BeginAlike, CanCall, AreGiven}
+use Rattle.law_pdcp.specs.SrbPair.Flow.{Flow, Event, Sends as Calls, HandUp, Raise, passes, happens}
+use Rattle.law_pdcp.specs.OneEnd.Given.{nexts_of, pdus_given}
+use Rattle.law_pdcp.specs.SrbPair.Flow.{run_srb_pdcp}
+use Rattle.law_pdcp.specs.SrbPair.Flow.{srb_pdcp_outset, SrbPdcpBeginAlike, CanCall, AreGiven}
 use Rattle.law_pdcp.proofs.SrbPair.Receives.{reads}
-use Rattle.law_pdcp.proofs.SrbPair.Sending.{AreNonempty, Sends, submit_sends, submit_queues, TakesNone, takes_none}
+use Rattle.law_pdcp.proofs.OneEnd.Submitting.{AreNonempty}
+use Rattle.law_pdcp.proofs.SrbPair.Sending.{Sends, submit_sends, submit_queues, TakesNone, takes_none}
 use Rattle.law_pdcp.proofs.SrbPair.Sending.{TakesOne, takes_one, new_sends, confirm_sends, confirm_queues, clock_sends}
 use Rattle.law_pdcp.proofs.SrbPair.Sending.{never_late}
 use Rattle.law_pdcp.proofs.SrbPair.Written.{length_written, written_at, some_at, take_next, take_more}
@@ -42,11 +45,11 @@ pub record Sound (p : Protection) (f : Flow) : Type 0 where
 -- it takes some SDUs, of which it gives the PDUs to RLC
 record Goes (first : ℕ) (p : Protection) (sdus : List (List ℕ)) (s : Sending) (c : Call) : Type 0 where
   sends : Sends first p (sdus ++ takes_new s c) (after s c)
-  gives' : gives s c ≡ written_from p s.next (takes_new s c)
+  gives' : pdus_given s c ≡ written_from p s.next (takes_new s c)
   queued : takes_new s c ++ queue (after s c) ≡ queue s ++ submits c
 
 none_taken : (first : ℕ) (p : Protection) (sdus : List (List ℕ)) (s t : Sending) (c : Call) → after s c ≡ t
-    → takes_new s c ≡ [] → gives s c ≡ [] → Sends first p sdus t → queue t ≡ queue s ++ submits c
+    → takes_new s c ≡ [] → pdus_given s c ≡ [] → Sends first p sdus t → queue t ≡ queue s ++ submits c
     → Goes first p sdus s c
 none_taken first p sdus s t c left news given h q = record {
   sends = subst (Sends first p (sdus ++ takes_new s c)) (sym left)
@@ -60,7 +63,7 @@ one_taken : (first : ℕ) (p : Protection) (sdus : List (List ℕ)) (s : Sending
 one_taken first p sdus s w ws q t h = record {
   sends = subst (λ (l : List (List ℕ)). Sends first p (sdus ++ l) (took s)) (sym t.news)
       (subst (Sends first p (sdus ++ w.sdu ∷ [])) (sym t.left) (new_sends first p sdus s w ws h q));
-  gives' = ap one t.gives ∙ ap (written_from p s.next) (sym t.news);
+  gives' = ap nexts_of t.gives ∙ ap (written_from p s.next) (sym t.news);
   queued = ap (λ (l : List (List ℕ)). l ++ queue (took s)) t.news ∙ ap (λ (x : Sending). w.sdu ∷ queue x) t.left
       ∙ ap (λ (l : List Waits). queue (record s { waiting = l })) (sym q) ∙ sym (append-nil (queue s));
 }
@@ -69,7 +72,7 @@ take_goes : (first : ℕ) (p : Protection) (sdus : List (List ℕ)) (s : Sending
     → Sends first p sdus s → Goes first p sdus s Take
 take_goes first p sdus s [] q h =
     let t : TakesNone s = takes_none first p sdus s h q in
-    none_taken first p sdus s s Take t.left t.news (ap one t.gives) h (sym (append-nil (queue s)))
+    none_taken first p sdus s s Take t.left t.news (ap nexts_of t.gives) h (sym (append-nil (queue s)))
 take_goes first p sdus s (w ∷ ws) q h = one_taken first p sdus s w ws q (takes_one first p sdus s w ws h q) h
 
 call_goes : (first : ℕ) (p : Protection) (sdus : List (List ℕ)) (s : Sending) (c : Call) → CanCall s c
@@ -104,7 +107,7 @@ call_sound p f c g h =
     let news = takes_new f.sender c in
     record {
       sends = one'.sends;
-      stream = ap (λ l. l ++ gives f.sender c) h.stream
+      stream = ap (λ l. l ++ pdus_given f.sender c) h.stream
           ∙ ap (λ l. written_from p f.first f.sdus ++ l) (one'.gives' ∙ ap (λ n. written_from p n news) h.sends.count)
           ∙ sym (written_both p f.first f.sdus news);
       hears = h.hears;
@@ -169,13 +172,13 @@ raise_sound p f h = record {
       ∙ ap (λ l. f.up ++ l) (take-append-drop 1 f.receiver.ready) ∙ h.delivered;
 }
 
-run_sound : (p : Protection) (es : List Event) (f : Flow) → AreGiven f es → Sound p f → Sound p (run es f)
+run_sound : (p : Protection) (es : List Event) (f : Flow) → AreGiven f es → Sound p f → Sound p (run_srb_pdcp es f)
 run_sound p [] f g h = h
 run_sound p (Calls c ∷ es) f g h = run_sound p es (happens f (Calls c)) g.1 (call_sound p f c g.0 h)
 run_sound p (HandUp ∷ es) f g h = run_sound p es (happens f HandUp) g.1 (hand_up_sound p f g.0 h)
 run_sound p (Raise ∷ es) f g h = run_sound p es (happens f Raise) g.1 (raise_sound p f h)
 
-pub begins_sends : (s : Sending) (r : Receiving) → BeginAlike s r → Sends s.next s.protection [] s
+pub begins_sends : (s : Sending) (r : Receiving) → SrbPdcpBeginAlike s r → Sends s.next s.protection [] s
 begins_sends s r h = record {
   srb = h.sends;
   key = refl;
@@ -190,7 +193,7 @@ begins_sends s r h = record {
   waits_some = subst (λ (l : List Waits). AreNonempty (map (λ (w : Waits). w.sdu) l)) (sym h.none_waits) tt;
 }
 
-begins_sound : (s : Sending) (r : Receiving) → BeginAlike s r → Sound s.protection (outset s r)
+begins_sound : (s : Sending) (r : Receiving) → SrbPdcpBeginAlike s r → Sound s.protection (srb_pdcp_outset s r)
 begins_sound s r h = record {
   sends = begins_sends s r h;
   stream = refl;
@@ -199,9 +202,10 @@ begins_sound s r h = record {
   delivered = h.none_ready;
 }
 
-pub sound : (s : Sending) (r : Receiving) (events : List Event) → BeginAlike s r → AreGiven (outset s r) events
-    → Sound s.protection (run events (outset s r))
-sound s r events h g = run_sound s.protection events (outset s r) g (begins_sound s r h)
+pub sound : (s : Sending) (r : Receiving) (events : List Event) → SrbPdcpBeginAlike s r
+    → AreGiven (srb_pdcp_outset s r) events
+    → Sound s.protection (run_srb_pdcp events (srb_pdcp_outset s r))
+sound s r events h g = run_sound s.protection events (srb_pdcp_outset s r) g (begins_sound s r h)
 
 -- ---- the first COUNT of the life stays
 
@@ -209,7 +213,7 @@ passes_first : (o : Option Next) (f : Flow) → (passes o f).first ≡ f.first
 passes_first None f = refl
 passes_first (Some x) f = refl
 
-first_stays : (es : List Event) (f : Flow) → (run es f).first ≡ f.first
+first_stays : (es : List Event) (f : Flow) → (run_srb_pdcp es f).first ≡ f.first
 first_stays [] f = refl
 first_stays (Calls c ∷ es) f = first_stays es (happens f (Calls c))
 first_stays (HandUp ∷ es) f = first_stays es (happens f HandUp) ∙ passes_first (slice_get f.stream f.passed) f
@@ -217,18 +221,24 @@ first_stays (Raise ∷ es) f = first_stays es (happens f Raise)
 
 -- ---- the laws
 
-pub writes_each : (s : Sending) (r : Receiving) (events : List Event) → BeginAlike s r → AreGiven (outset s r) events
-    → (run events (outset s r)).stream ≡ written_from s.protection s.next (run events (outset s r)).sdus
+pub writes_each : (s : Sending) (r : Receiving) (events : List Event) → SrbPdcpBeginAlike s r
+    → AreGiven (srb_pdcp_outset s r) events
+    → (run_srb_pdcp events (srb_pdcp_outset s r)).stream
+    ≡ written_from s.protection s.next (run_srb_pdcp events (srb_pdcp_outset s r)).sdus
 writes_each s r events h g =
-    let f : Flow = run events (outset s r) in
-    (sound s r events h g).stream ∙ ap (λ n. written_from s.protection n f.sdus) (first_stays events (outset s r))
+    let f : Flow = run_srb_pdcp events (srb_pdcp_outset s r) in
+    (sound s r events h g).stream ∙ ap (λ n. written_from s.protection n f.sdus)
+    (first_stays events (srb_pdcp_outset s r))
 
-pub reads_each : (s : Sending) (r : Receiving) (events : List Event) → BeginAlike s r → AreGiven (outset s r) events
-    → (run events (outset s r)).passed < length (run events (outset s r)).stream → IsReadNext (run events (outset s r))
-reads_each s r events h g lt = reads_next s.protection (run events (outset s r)) lt (sound s r events h g)
+pub reads_each : (s : Sending) (r : Receiving) (events : List Event) → SrbPdcpBeginAlike s r
+    → AreGiven (srb_pdcp_outset s r) events
+    → (run_srb_pdcp events (srb_pdcp_outset s r)).passed < length (run_srb_pdcp events (srb_pdcp_outset s r)).stream
+    → IsReadNext (run_srb_pdcp events (srb_pdcp_outset s r))
+reads_each s r events h g lt =
+    reads_next s.protection (run_srb_pdcp events (srb_pdcp_outset s r)) lt (sound s r events h g)
 
-pub delivers_front : (s : Sending) (r : Receiving) (events : List Event) → BeginAlike s r
-    → AreGiven (outset s r) events → IsTheFront (run events (outset s r))
+pub delivers_front : (s : Sending) (r : Receiving) (events : List Event) → SrbPdcpBeginAlike s r
+    → AreGiven (srb_pdcp_outset s r) events → IsTheFront (run_srb_pdcp events (srb_pdcp_outset s r))
 delivers_front s r events h g =
     let k = sound s r events h g in
     record { delivered = k.delivered; next = k.hears.next; none_held = k.hears.none_held }
@@ -247,7 +257,7 @@ call_queues p f c g h =
     ∙ sym (append_assoc f.sdus (queue f.sender) (submits c))
 
 all_queued : (p : Protection) (es : List Event) (f : Flow) → AreGiven f es → Sound p f
-    → (run es f).sdus ++ queue (run es f).sender ≡ (f.sdus ++ queue f.sender) ++ submitted_in es
+    → (run_srb_pdcp es f).sdus ++ queue (run_srb_pdcp es f).sender ≡ (f.sdus ++ queue f.sender) ++ submitted_in es
 all_queued p [] f g h = sym (append-nil (f.sdus ++ queue f.sender))
 all_queued p (Calls c ∷ es) f g h =
     all_queued p es (happens f (Calls c)) g.1 (call_sound p f c g.0 h)
@@ -258,8 +268,10 @@ all_queued p (HandUp ∷ es) f g h =
     ∙ ap (λ l. l ++ submitted_in es) (passes_sdus (slice_get f.stream f.passed) f)
 all_queued p (Raise ∷ es) f g h = all_queued p es (happens f Raise) g.1 (raise_sound p f h)
 
-pub takes_all : (s : Sending) (r : Receiving) (events : List Event) → BeginAlike s r → AreGiven (outset s r) events
-    → (run events (outset s r)).sdus ++ queue (run events (outset s r)).sender ≡ submitted_in events
+pub takes_all : (s : Sending) (r : Receiving) (events : List Event) → SrbPdcpBeginAlike s r
+    → AreGiven (srb_pdcp_outset s r) events
+    → (run_srb_pdcp events (srb_pdcp_outset s r)).sdus ++ queue (run_srb_pdcp events (srb_pdcp_outset s r)).sender
+    ≡ submitted_in events
 takes_all s r events h g =
-    all_queued s.protection events (outset s r) g (begins_sound s r h)
+    all_queued s.protection events (srb_pdcp_outset s r) g (begins_sound s r h)
     ∙ ap (λ (l : List Waits). map (λ (w : Waits). w.sdu) l ++ submitted_in events) h.none_waits

@@ -19,15 +19,12 @@ use Rattle.pdcp_tx.specs.State.{State, Offer, written, offers, owed_offers, agai
 use Rattle.pdcp_tx.specs.State.{took_owed, took_again, took_new, given_new, refusal, submitted, confirmed, moved, low}
 use Rattle.pdcp_tx.specs.State.{or_else, after_late, is_late, is_overdue}
 use Rattle.pdcp_tx.specs.Runs.{Take}
+use Rattle.law_pdcp.proofs.OneEnd.Submitting.{AreNonempty}
 use Rattle.law_pdcp.specs.OneEnd.Lives.{takes_new, new_of, new_behind, first_sdu, queue}
 
 -- ---- what holds
 
 -- no SDU is empty
-abbrev pub AreNonempty : List (List ℕ) → Type 0
-AreNonempty [] = Unit {0}
-AreNonempty (x ∷ xs) = (x ≢ []) × AreNonempty xs
-
 -- a sender that has taken some SDUs in its life
 pub record Sends (first : ℕ) (p : Protection) (sdus : List (List ℕ)) (s : State) : Type 0 where
   pub srb : s.kind ≡ Srb

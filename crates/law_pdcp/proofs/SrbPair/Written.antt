@@ -5,7 +5,7 @@ use Rattle.pdcp_pdu.specs.declared.PdcpKind.TheVariants.{Srb}
 use Rattle.pdcp_sec.specs.Protection.{Protection}
 use Rattle.pdcp_tx.specs.State.{written}
 use Rattle.law_pdcp.specs.SrbPair.Delivery.{written_from}
-use Rattle.law_pdcp.proofs.SrbPair.Sending.{AreNonempty}
+use Rattle.law_pdcp.proofs.OneEnd.Submitting.{AreNonempty}
 
 pub written_more : (p : Protection) (count : ℕ) (xs : List (List ℕ)) (x : List ℕ)
     → written_from p count (xs ++ x ∷ []) ≡ written_from p count xs ++ written Srb p (Some (count + length xs)) x ∷ []

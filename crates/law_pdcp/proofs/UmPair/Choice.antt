@@ -4,7 +4,7 @@ use Rattle.std.proofs.Common.{slice_get, slice_index_or, ⊎_elim, inl, inr, sub
 use Rattle.std.proofs.lemmas.Bool.{cases_eq}
 use Rattle.l2_num.specs.Ascending.{AreBetween}
 use Rattle.law_words.specs.Lists.{IsSubsequence}
-use Rattle.law_pdcp.specs.UmPair.Delivery.{those}
+use Rattle.law_words.specs.Lists.{those}
 
 -- ---- an item
 

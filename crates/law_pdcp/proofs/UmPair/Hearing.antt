@@ -19,7 +19,7 @@ use Rattle.pdcp_rx.specs.declared.got.Cause.{Cause}
 use Rattle.pdcp_rx.specs.State.{State as Receiving, above, restarted}
 use Rattle.law_pdcp.specs.OneEnd.Lives.{takes_new}
 use Rattle.law_pdcp.specs.OneEnd.Receiving.{body_of}
-use Rattle.law_pdcp.specs.UmPair.Delivery.{those}
+use Rattle.law_words.specs.Lists.{those}
 use Rattle.law_pdcp.specs.UmPair.Flow.{Flow, Sends as Sending, SetDiscard, HandUp, Raise, Restart, comes, happens}
 use Rattle.law_pdcp.specs.UmPair.Flow.{CanCall, IsLater, left_out, IsShort}
 use Rattle.law_pdcp.specs.UmPair.Reading.{IsWritten, IsReadAt, IsMisread}

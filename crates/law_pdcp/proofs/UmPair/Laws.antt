@@ -7,9 +7,10 @@ use Rattle.pdcp_tx.specs.State.{start}
 use Rattle.pdcp_tx.specs.Runs.{Submit, Take, Confirm, Report, Owe, Tick, Late}
 use Rattle.pdcp_rx.specs.declared.got.Cause.{Cause}
 use Rattle.pdcp_rx.specs.State.{fresh}
-use Rattle.law_pdcp.specs.UmPair.Delivery.{IsWhatCame}
-use Rattle.law_pdcp.specs.UmPair.Flow.{Flow, Event, Sends as Sending, SetDiscard, HandUp, Raise, Restart, happens, run}
-use Rattle.law_pdcp.specs.UmPair.Flow.{outset, IsLater, IsGiven, AreGiven, left_out, IsShort, AreShort}
+use Rattle.law_pdcp.specs.UmPair.Delivery.{IsWhatCameToPdcp}
+use Rattle.law_pdcp.specs.UmPair.Flow.{Flow, Event, Sends as Sending, SetDiscard, HandUp, Raise, Restart, happens}
+use Rattle.law_pdcp.specs.UmPair.Flow.{run_um_pdcp}
+use Rattle.law_pdcp.specs.UmPair.Flow.{um_pdcp_outset, IsLater, IsGiven, AreGiven, left_out, IsShort, AreShort}
 use Rattle.law_pdcp.specs.UmPair.Reading.{AreWritten, IsReadAt, IsMisread}
 use Rattle.law_pdcp.proofs.UmPair.Sending.{submit_writes, take_writes, tick_writes, late_writes, discard_writes}
 use Rattle.law_pdcp.proofs.UmPair.Sending.{restart_writes}
@@ -39,17 +40,18 @@ happens_hears bits f (HandUp cause place) is g s w h =
 happens_hears bits f Raise is g s w h = raise_hears bits f h
 happens_hears bits f (Restart keys) is g s w h = restart_hears bits f keys w h
 
-pub run_writes : (bits : ℕ) (es : List Event) (f : Flow) → AreGiven f es → Writes bits f → Writes bits (run es f)
+pub run_writes : (bits : ℕ) (es : List Event) (f : Flow) → AreGiven f es → Writes bits f
+    → Writes bits (run_um_pdcp es f)
 run_writes bits [] f g h = h
 run_writes bits (e ∷ es) f g h = run_writes bits es (happens f e) g.1 (happens_writes bits f e g.0 h)
 
 run_hears : (bits : ℕ) (es : List Event) (f : Flow) → IsKind (Um bits) → AreGiven f es → AreShort f es → Writes bits f
-    → Hears bits f → Hears bits (run es f)
+    → Hears bits f → Hears bits (run_um_pdcp es f)
 run_hears bits [] f is g s w h = h
 run_hears bits (e ∷ es) f is g s w h =
     run_hears bits es (happens f e) is g.1 s.1 (happens_writes bits f e g.0 w) (happens_hears bits f e is g.0 s.0 w h)
 
-pub outset_writes : (bits : ℕ) (p : Protection) (first : ℕ) → first ≤ 2 ^ 32 → Writes bits (outset bits p first)
+pub outset_writes : (bits : ℕ) (p : Protection) (first : ℕ) → first ≤ 2 ^ 32 → Writes bits (um_pdcp_outset bits p first)
 unfolding start
 outset_writes bits p first le = record {
   sends = record {
@@ -67,49 +69,53 @@ outset_writes bits p first le = record {
   order = omega arith;
 }
 
-outset_hears : (bits : ℕ) (p : Protection) (first : ℕ) → Hears bits (outset bits p first)
+outset_hears : (bits : ℕ) (p : Protection) (first : ℕ) → Hears bits (um_pdcp_outset bits p first)
 unfolding start fresh
 outset_hears bits p first = record { um = refl; key = refl; none_held = refl; next = omega arith; delivered = refl }
 
 pub comes_to_write : (bits : ℕ) (p : Protection) (first : ℕ) (events : List Event) → first ≤ 2 ^ 32
-    → AreGiven (outset bits p first) events
-    → Writes bits (run events (outset bits p first))
-comes_to_write bits p first events le g = run_writes bits events (outset bits p first) g (outset_writes bits p first le)
+    → AreGiven (um_pdcp_outset bits p first) events
+    → Writes bits (run_um_pdcp events (um_pdcp_outset bits p first))
+comes_to_write bits p first events le g =
+    run_writes bits events (um_pdcp_outset bits p first) g (outset_writes bits p first le)
 
 comes_to_hear : (bits : ℕ) (p : Protection) (first : ℕ) (events : List Event) → IsKind (Um bits) → first ≤ 2 ^ 32
-    → AreGiven (outset bits p first) events → AreShort (outset bits p first) events
-    → Hears bits (run events (outset bits p first))
+    → AreGiven (um_pdcp_outset bits p first) events → AreShort (um_pdcp_outset bits p first) events
+    → Hears bits (run_um_pdcp events (um_pdcp_outset bits p first))
 comes_to_hear bits p first events is le g s =
-    run_hears bits events (outset bits p first) is g s (outset_writes bits p first le) (outset_hears bits p first)
+    run_hears bits events (um_pdcp_outset bits p first) is g s (outset_writes bits p first le)
+    (outset_hears bits p first)
 
 pub writes_each : (bits : ℕ) (p : Protection) (first : ℕ) (events : List Event) → first ≤ 2 ^ 32
-    → AreGiven (outset bits p first) events
-    → AreWritten (run events (outset bits p first))
+    → AreGiven (um_pdcp_outset bits p first) events
+    → AreWritten (run_um_pdcp events (um_pdcp_outset bits p first))
 writes_each bits p first events le g = (comes_to_write bits p first events le g).written
 
 pub reads_each : (bits : ℕ) (p : Protection) (first : ℕ) (events : List Event) (cause : Cause) (place : ℕ)
     → IsKind (Um bits) → first ≤ 2 ^ 32
-    → AreGiven (outset bits p first) events → AreShort (outset bits p first) events
-    → IsGiven (run events (outset bits p first)) (HandUp cause place)
-    → IsShort (run events (outset bits p first)) (HandUp cause place)
-    → IsReadAt (run events (outset bits p first)) cause place
+    → AreGiven (um_pdcp_outset bits p first) events → AreShort (um_pdcp_outset bits p first) events
+    → IsGiven (run_um_pdcp events (um_pdcp_outset bits p first)) (HandUp cause place)
+    → IsShort (run_um_pdcp events (um_pdcp_outset bits p first)) (HandUp cause place)
+    → IsReadAt (run_um_pdcp events (um_pdcp_outset bits p first)) cause place
 reads_each bits p first events cause place is le g s given short =
-    reads_at bits (run events (outset bits p first)) cause place is given short
+    reads_at bits (run_um_pdcp events (um_pdcp_outset bits p first)) cause place is given short
     (comes_to_write bits p first events le g) (comes_to_hear bits p first events is le g s)
 
 pub misreads : (bits : ℕ) (p : Protection) (first : ℕ) (events : List Event) (place : ℕ) → IsKind (Um bits)
     → first ≤ 2 ^ 32
-    → AreGiven (outset bits p first) events → AreShort (outset bits p first) events
-    → IsLater (run events (outset bits p first)) place → 2 ^ bits ≤ left_out (run events (outset bits p first)) place
-    → IsMisread (run events (outset bits p first)) place
+    → AreGiven (um_pdcp_outset bits p first) events → AreShort (um_pdcp_outset bits p first) events
+    → IsLater (run_um_pdcp events (um_pdcp_outset bits p first)) place
+    → 2 ^ bits ≤ left_out (run_um_pdcp events (um_pdcp_outset bits p first)) place
+    → IsMisread (run_um_pdcp events (um_pdcp_outset bits p first)) place
 misreads bits p first events place is le g s given long =
-    misreads_at bits (run events (outset bits p first)) place is given long (comes_to_write bits p first events le g)
+    misreads_at bits (run_um_pdcp events (um_pdcp_outset bits p first)) place is given long
+    (comes_to_write bits p first events le g)
     (comes_to_hear bits p first events is le g s)
 
 pub what_came : (bits : ℕ) (p : Protection) (first : ℕ) (events : List Event) → IsKind (Um bits) → first ≤ 2 ^ 32
-    → AreGiven (outset bits p first) events → AreShort (outset bits p first) events
-    → IsWhatCame (run events (outset bits p first))
+    → AreGiven (um_pdcp_outset bits p first) events → AreShort (um_pdcp_outset bits p first) events
+    → IsWhatCameToPdcp (run_um_pdcp events (um_pdcp_outset bits p first))
 what_came bits p first events is le g s =
-    let f : Flow = run events (outset bits p first) in
+    let f : Flow = run_um_pdcp events (um_pdcp_outset bits p first) in
     let h : Hears bits f = comes_to_hear bits p first events is le g s in
     record { order = within bits f (comes_to_write bits p first events le g); delivered = h.delivered; next = h.next }

@@ -1,12 +1,11 @@
 -- What a sender writes.
-use Rattle.std.proofs.Common.{◌≡◌, ◌≢◌, ◌<◌, ◌≤◌, ℕ, suc, zero, ◌+◌, ◌-◌, ◌^◌, Bool, true, false, List, [], ◌∷◌, ◌++◌}
+use Rattle.std.proofs.Common.{◌≡◌, ◌≢◌, ◌<◌, ◌≤◌, ℕ, suc, zero, ◌+◌, ◌-◌, ◌^◌, Bool, false, List, [], ◌∷◌, ◌++◌}
 use Rattle.std.proofs.Common.{length, map, take, drop, Option, Some, None, slice_get, length-append, ⊎_elim, subst}
 use Rattle.std.proofs.Common.{refl, ap, sym, ◌∙◌, arith}
-use Rattle.std.specs.Prelude.{if◌then◌else◌, option_map, nat_lt, nat_le, ◌==◌}
+use Rattle.std.specs.Prelude.{if◌then◌else◌, option_map}
 use Rattle.std.proofs.lemmas.Bool.Decides.{nat_tests}
 use Rattle.std.proofs.lemmas.List.{append-nil}
 use Rattle.eps_sec.specs.declared.Keys.{Keys}
-use Rattle.l2_bits.specs.declared.fault.SubmitRefusal.TheVariants.{Empty, TooLong, Full, CountEnd}
 use Rattle.pdcp_pdu.specs.Kinds.{is_am}
 use Rattle.pdcp_tx_store.specs.declared.given.Entry.TheVariants.{Data}
 use Rattle.pdcp_tx_store.specs.Waiting.{Waits}
@@ -18,10 +17,12 @@ use Rattle.pdcp_tx.specs.State.{kept_again, next_from, waiting_on}
 use Rattle.pdcp_tx.specs.Runs.{Submit, Take, Tick, Late}
 use Rattle.law_pdcp.specs.OneEnd.Lives.{takes_new, new_of, new_behind, first_sdu}
 use Rattle.law_pdcp.proofs.OneEnd.Naming.{get_more, get_behind}
-use Rattle.law_pdcp.specs.UmPair.Flow.{Flow, Sends as Sending, SetDiscard, Restart, one, happens}
+use Rattle.law_pdcp.specs.UmPair.Flow.{Flow, Sends as Sending, SetDiscard, Restart, happens}
+use Rattle.law_pdcp.specs.OneEnd.Given.{nexts_of}
 use Rattle.law_pdcp.specs.UmPair.Reading.{IsWritten}
 use Rattle.law_pdcp.proofs.UmPair.Choice.{get_push, between_more}
-use Rattle.law_pdcp.proofs.UmPair.Sound.{AreNonempty, Writes}
+use Rattle.law_pdcp.proofs.OneEnd.Submitting.{AreNonempty, accepted, not_empty, queue_push, late_room, late_some}
+use Rattle.law_pdcp.proofs.UmPair.Sound.{Writes}
 
 -- ---- calls that give RLC nothing
 
@@ -54,32 +55,6 @@ gives_none bits f s h =
     subst (λ l. Writes bits (record f { sender = s; sdus = l; stream = f.stream ++ [] })) (sym (append-nil f.sdus))
     (subst (λ l. Writes bits (record f { sender = s; stream = l })) (sym (append-nil f.stream)) h)
 
-refused_by : (a b c d : Bool)
-    → (if a then Some Empty
-    else (if b then Some TooLong else (if c then Some Full else (if d then Some CountEnd else None)))) ≡ None
-    → (a ≡ false) × (d ≡ false)
-refused_by true b c d e = absurd cc
-refused_by false true c d e = absurd cc
-refused_by false false true d e = absurd cc
-refused_by false false false true e = absurd cc
-refused_by false false false false e = (refl, refl)
-
-accepted : (s : State) (sdu : List ℕ) → refusal s sdu ≡ None
-    → ((length sdu == 0) ≡ false) × ((s.next + length s.waiting == 2 ^ 32) ≡ false)
-unfolding refusal
-accepted s sdu e =
-    refused_by (length sdu == 0) (nat_lt 8188 (length sdu)) (nat_le 1024 (length s.waiting))
-    (s.next + length s.waiting == 2 ^ 32) e
-
-not_empty : (sdu : List ℕ) → (length sdu == 0) ≡ false → sdu ≢ []
-not_empty [] e = absurd cc
-not_empty (x ∷ xs) e = λ q. absurd cc
-
-queue_push : (ws : List Waits) (w : Waits) → AreNonempty (map (λ w. w.sdu) ws) → w.sdu ≢ []
-    → AreNonempty (map (λ w. w.sdu) (ws ++ w ∷ []))
-queue_push [] w h i = (i, tt)
-queue_push (x ∷ ws) w h i = (h.0, queue_push ws w h.1 i)
-
 pub submit_writes : (bits : ℕ) (f : Flow) (sdu : List ℕ) → refusal f.sender sdu ≡ None → Writes bits f
     → Writes bits (happens f (Sending (Submit sdu)))
 unfolding submitted
@@ -97,18 +72,6 @@ pub tick_writes : (bits : ℕ) (f : Flow) → Writes bits f → Writes bits (hap
 tick_writes bits f h = gives_none bits f (happens f (Sending Tick)).sender
     (quiet_writes bits f f.sender.waiting (happens f (Sending Tick)).sender.clock f.sender.discard h.sends.room
     h.sends.waits_some h)
-
-late_room : (b : Bool) (ws : List Waits) (n : ℕ) → n + length ws ≤ 2 ^ 32
-    → n + length (if b then drop 1 ws else ws) ≤ 2 ^ 32
-late_room true [] n h = h
-late_room true (w ∷ ws) n h = omega (arith, h)
-late_room false ws n h = h
-
-late_some : (b : Bool) (ws : List Waits) → AreNonempty (map (λ w. w.sdu) ws)
-    → AreNonempty (map (λ w. w.sdu) (if b then drop 1 ws else ws))
-late_some true [] h = h
-late_some true (w ∷ ws) h = h.1
-late_some false ws h = h
 
 pub late_writes : (bits : ℕ) (f : Flow) → Writes bits f → Writes bits (happens f (Sending Late))
 unfolding after_late
@@ -239,17 +202,17 @@ by_first : (bits : ℕ) (f : Flow) (ws : List Waits) → take (f.sender.bound - 
     → Writes bits (happens f (Sending Take))
 by_first bits f [] c h =
     let s = f.sender in
-    by_same (Writes bits) f (took s) s (takes_new s Take) [] (one (taking s)) []
+    by_same (Writes bits) f (took s) s (takes_new s Take) [] (nexts_of (taking s)) []
     (took_by s [] h.sends.owes_none h.sends.none_again c) (new_by s [] h.sends.owes_none h.sends.none_again c)
-    (ap one (taking_by s [] h.sends.owes_none h.sends.none_again c)) (gives_none bits f s h)
+    (ap nexts_of (taking_by s [] h.sends.owes_none h.sends.none_again c)) (gives_none bits f s h)
 by_first bits f (w ∷ ws) c h =
     let s = f.sender in
     let can = first_waits (s.bound - s.next) s.waiting w ws c h.sends.waits_some in
-    by_same (Writes bits) f (took s) (with_new s) (takes_new s Take) (w.sdu ∷ []) (one (taking s))
+    by_same (Writes bits) f (took s) (with_new s) (takes_new s Take) (w.sdu ∷ []) (nexts_of (taking s))
     (written s.kind s.protection (Some s.next) w.sdu ∷ [])
     (took_by s (w ∷ ws) h.sends.owes_none h.sends.none_again c ∙ took_one s w ws (ap is_am h.sends.um))
     (new_by s (w ∷ ws) h.sends.owes_none h.sends.none_again c)
-    (ap one (taking_by s (w ∷ ws) h.sends.owes_none h.sends.none_again c)) (new_writes bits f w.sdu can.1 can.0 h)
+    (ap nexts_of (taking_by s (w ∷ ws) h.sends.owes_none h.sends.none_again c)) (new_writes bits f w.sdu can.1 can.0 h)
 
 pub take_writes : (bits : ℕ) (f : Flow) → Writes bits f → Writes bits (happens f (Sending Take))
 take_writes bits f h = by_first bits f (take (f.sender.bound - f.sender.next) f.sender.waiting) refl h

@@ -1,18 +1,15 @@
 -- What holds between events.
-use Rattle.std.proofs.Common.{◌≡◌, ◌≢◌, ◌≤◌, ℕ, ◌+◌, ◌^◌, List, [], ◌∷◌, ◌++◌, length, None}
+use Rattle.std.proofs.Common.{◌≡◌, ◌≤◌, ℕ, ◌+◌, ◌^◌, [], ◌++◌, length, None}
 use Rattle.l2_num.specs.Ascending.{AreBetween}
 use Rattle.pdcp_pdu.specs.declared.PdcpKind.TheVariants.{Um}
 use Rattle.pdcp_tx.specs.State.{State}
+use Rattle.law_pdcp.proofs.OneEnd.Submitting.{AreNonempty}
 use Rattle.law_pdcp.specs.OneEnd.Lives.{queue}
-use Rattle.law_pdcp.specs.UmPair.Delivery.{those}
+use Rattle.law_words.specs.Lists.{those}
 use Rattle.law_pdcp.specs.UmPair.Flow.{Flow}
 use Rattle.law_pdcp.specs.UmPair.Reading.{AreWritten}
 
 -- no SDU is empty
-abbrev pub AreNonempty : List (List ℕ) → Type 0
-AreNonempty [] = Unit {0}
-AreNonempty (x ∷ xs) = (x ≢ []) × AreNonempty xs
-
 -- the sender by itself: it keeps nothing of what was taken
 pub record Sends (bits : ℕ) (s : State) : Type 0 where
   pub um : s.kind ≡ Um bits

@@ -16,13 +16,13 @@ use Rattle.pdcp_tx.specs.Runs.{Call, Submit, Take, Confirm, Report, Owe, Tick, L
 use Rattle.pdcp_rx.specs.declared.got.Cause.{Cause}
 use Rattle.law_words.specs.Lists.{IsSubsequence}
 use Rattle.law_pdcp.specs.OneEnd.Lives.{Step, Calls, SetDiscard as SetsDiscard, Restart as Restarts, goes}
-use Rattle.law_pdcp.specs.OneEnd.Lives.{run as run_steps, first_sdu, takes_first, first_taken, leaves, left_in}
+use Rattle.law_pdcp.specs.OneEnd.Lives.{run_pdcp_sender, first_sdu, takes_first, first_taken, leaves, left_in}
 use Rattle.law_pdcp.specs.OneEnd.Lives.{submitted_in, queue}
 use Rattle.law_pdcp.proofs.OneEnd.Lists.{same, without_first, thinner}
 use Rattle.law_pdcp.proofs.OneEnd.Queue.{in_order}
-use Rattle.law_pdcp.specs.UmPair.Delivery.{IsWhatCame, AreSome, SetNone}
+use Rattle.law_pdcp.specs.UmPair.Delivery.{IsWhatCameToPdcp, AreSome, SetNone}
 use Rattle.law_pdcp.specs.UmPair.Flow.{Flow, Event, Sends as Sending, SetDiscard, HandUp, Raise, Restart, comes}
-use Rattle.law_pdcp.specs.UmPair.Flow.{happens, run, outset, steps, AreGiven, AreShort}
+use Rattle.law_pdcp.specs.UmPair.Flow.{happens, run_um_pdcp, um_pdcp_outset, steps, AreGiven, AreShort}
 use Rattle.law_pdcp.proofs.UmPair.Choice.{those_some}
 use Rattle.law_pdcp.proofs.UmPair.Laws.{what_came}
 
@@ -36,16 +36,16 @@ comes_sdus : (o : Option Next) (cause : Cause) (place : ℕ) (f : Flow) → (com
 comes_sdus None cause place f = refl
 comes_sdus (Some x) cause place f = refl
 
-sender_is : (es : List Event) (f : Flow) → (run es f).sender ≡ run_steps (steps es) f.sender
+sender_is : (es : List Event) (f : Flow) → (run_um_pdcp es f).sender ≡ run_pdcp_sender (steps es) f.sender
 sender_is [] f = refl
 sender_is (Sending c ∷ es) f = sender_is es (happens f (Sending c))
 sender_is (SetDiscard ttis ∷ es) f = sender_is es (happens f (SetDiscard ttis))
 sender_is (HandUp cause place ∷ es) f = sender_is es (happens f (HandUp cause place))
-    ∙ ap (run_steps (steps es)) (comes_sender (slice_get f.stream place) cause place f)
+    ∙ ap (run_pdcp_sender (steps es)) (comes_sender (slice_get f.stream place) cause place f)
 sender_is (Raise ∷ es) f = sender_is es (happens f Raise)
 sender_is (Restart keys ∷ es) f = sender_is es (happens f (Restart keys))
 
-sdus_are : (es : List Event) (f : Flow) → (run es f).sdus ≡ f.sdus ++ first_taken f.sender (steps es)
+sdus_are : (es : List Event) (f : Flow) → (run_um_pdcp es f).sdus ≡ f.sdus ++ first_taken f.sender (steps es)
 sdus_are [] f = sym (append-nil f.sdus)
 sdus_are (Sending c ∷ es) f = sdus_are es (happens f (Sending c))
     ∙ append_assoc f.sdus (takes_first f.sender (Calls c)) (first_taken (after f.sender c) (steps es))
@@ -89,26 +89,26 @@ taken_left s (x ∷ xs) =
     (taken_left (goes s x) xs)
 
 all_left : (bits : ℕ) (p : Protection) (first : ℕ) (xs : List Step)
-    → left_in (start (Um bits) p first) xs ++ queue (run_steps xs (start (Um bits) p first)) ≡ submitted_in xs
+    → left_in (start (Um bits) p first) xs ++ queue (run_pdcp_sender xs (start (Um bits) p first)) ≡ submitted_in xs
 unfolding start
 all_left bits p first xs = in_order (start (Um bits) p first) xs (λ e. absurd cc)
 
 taken_submitted : (bits : ℕ) (p : Protection) (first : ℕ) (events : List Event)
-    → IsSubsequence (run events (outset bits p first)).sdus (submitted_in (steps events))
+    → IsSubsequence (run_um_pdcp events (um_pdcp_outset bits p first)).sdus (submitted_in (steps events))
 taken_submitted bits p first events =
     let s : State = start (Um bits) p first in
-    subst (λ l. IsSubsequence l (submitted_in (steps events))) (sym (sdus_are events (outset bits p first)))
+    subst (λ l. IsSubsequence l (submitted_in (steps events))) (sym (sdus_are events (um_pdcp_outset bits p first)))
     (thinner (first_taken s (steps events)) (left_in s (steps events)) (submitted_in (steps events))
     (taken_left s (steps events))
     (subst (IsSubsequence (left_in s (steps events))) (all_left bits p first (steps events))
-    (front (left_in s (steps events)) (queue (run_steps (steps events) s)))))
+    (front (left_in s (steps events)) (queue (run_pdcp_sender (steps events) s)))))
 
 pub delivers_some : (bits : ℕ) (p : Protection) (first : ℕ) (events : List Event) → IsKind (Um bits) → first ≤ 2 ^ 32
-    → AreGiven (outset bits p first) events → AreShort (outset bits p first) events
-    → AreSome events (run events (outset bits p first))
+    → AreGiven (um_pdcp_outset bits p first) events → AreShort (um_pdcp_outset bits p first) events
+    → AreSome events (run_um_pdcp events (um_pdcp_outset bits p first))
 delivers_some bits p first events is le g s =
-    let f : Flow = run events (outset bits p first) in
-    let h : IsWhatCame f = what_came bits p first events is le g s in
+    let f : Flow = run_um_pdcp events (um_pdcp_outset bits p first) in
+    let h : IsWhatCameToPdcp f = what_came bits p first events is le g s in
     let some : IsSubsequence (f.up ++ f.receiver.ready) f.sdus =
     subst (λ l. IsSubsequence l f.sdus) (sym h.delivered) (those_some f.handed f.sdus h.order) in
     record {
@@ -173,12 +173,13 @@ all_taken (Raise ∷ es) s n e = all_taken es s n e
 all_taken (Restart keys ∷ es) s n e = all_taken es (restarted s keys) n (restart_timer s keys ∙ e)
 
 pub takes_all : (bits : ℕ) (p : Protection) (first : ℕ) (events : List Event) → SetNone events
-    → (run events (outset bits p first)).sdus ++ queue (run events (outset bits p first)).sender
+    → (run_um_pdcp events (um_pdcp_outset bits p first)).sdus
+    ++ queue (run_um_pdcp events (um_pdcp_outset bits p first)).sender
     ≡ submitted_in (steps events)
 unfolding start
 takes_all bits p first events n =
     let s : State = start (Um bits) p first in
-    ap (λ l. l ++ queue (run events (outset bits p first)).sender)
-    (sdus_are events (outset bits p first) ∙ sym (all_taken events s n refl))
-    ∙ ap (λ t. left_in s (steps events) ++ queue t) (sender_is events (outset bits p first))
+    ap (λ l. l ++ queue (run_um_pdcp events (um_pdcp_outset bits p first)).sender)
+    (sdus_are events (um_pdcp_outset bits p first) ∙ sym (all_taken events s n refl))
+    ∙ ap (λ t. left_in s (steps events) ++ queue t) (sender_is events (um_pdcp_outset bits p first))
     ∙ all_left bits p first (steps events)

@@ -9,7 +9,8 @@ use Rattle.pdcp_tx.specs.Pdus.{width}
 use Rattle.pdcp_tx_store.specs.Given.{tells}
 use Rattle.pdcp_tx.specs.State.{low, fms_count}
 use Rattle.pdcp_rx.specs.Held.{is_held}
-use Rattle.law_pdcp.specs.AmPair.Flow.{Flow, Event, Restart, happens, run, outset, Comes, AreGiven}
+use Rattle.law_pdcp.specs.AmPair.Flow.{Flow, Event, Restart, happens, run_am_pdcp, am_pdcp_outset}
+use Rattle.law_pdcp.specs.AmPair.Flow.{Comes, AreGiven}
 
 -- the first COUNT that the sender hasn't heard to be confirmed is `low`: each below it has come,
 -- the COUNT that the receiver expects lies there or at most half the sequence numbers above, and
@@ -22,8 +23,8 @@ pub record IsInStep (f : Flow) : Type 0 where
 
 abbrev pub LivesBeginInStep : Type 0
 LivesBeginInStep = (bits : ℕ) (p : Protection) (first : ℕ) (events : List Event) (keys : Keys)
-    → IsKind (Am bits) → first ≤ 2 ^ 32 → AreGiven (outset bits p first) events
-    → IsInStep (happens (run events (outset bits p first)) (Restart keys))
+    → IsKind (Am bits) → first ≤ 2 ^ 32 → AreGiven (am_pdcp_outset bits p first) events
+    → IsInStep (happens (run_am_pdcp events (am_pdcp_outset bits p first)) (Restart keys))
 
 -- the status report that the receiver made as the last life ended: its FMS is read as the COUNT
 -- that the receiver expects, and it tells just those COUNTs that have come (TS 36.323 5.3.1, 5.3.2)
@@ -37,5 +38,5 @@ pub record TellsWhatHasCome (f : Flow) : Type 0 where
 abbrev pub LivesBeginWithAReport : Type 0
 LivesBeginWithAReport =
     (bits : ℕ) (p : Protection) (first : ℕ) (events : List Event) (keys : Keys) → IsKind (Am bits)
-    → first ≤ 2 ^ 32 → AreGiven (outset bits p first) events
-    → TellsWhatHasCome (happens (run events (outset bits p first)) (Restart keys))
+    → first ≤ 2 ^ 32 → AreGiven (am_pdcp_outset bits p first) events
+    → TellsWhatHasCome (happens (run_am_pdcp events (am_pdcp_outset bits p first)) (Restart keys))

@@ -4,7 +4,7 @@ use Rattle.l2_num.specs.Least.{IsLeast}
 use Rattle.pdcp_pdu.specs.declared.PdcpKind.TheVariants.{Am}
 use Rattle.pdcp_pdu.specs.Kinds.{IsKind}
 use Rattle.pdcp_sec.specs.Protection.{Protection}
-use Rattle.law_pdcp.specs.AmPair.Flow.{Flow, Event, run, outset, AreGiven}
+use Rattle.law_pdcp.specs.AmPair.Flow.{Flow, Event, run_am_pdcp, am_pdcp_outset, AreGiven}
 
 -- the receiver's next COUNT is the least that hasn't come in sequence in this life, or whole in an
 -- ended one; what went up and what is ready to go up are the SDUs below it, as they were taken for
@@ -16,8 +16,8 @@ pub record IsExpected (f : Flow) : Type 0 where
 
 abbrev pub DeliversTheExpected : Type 0
 DeliversTheExpected = (bits : ℕ) (p : Protection) (first : ℕ) (events : List Event)
-    → IsKind (Am bits) → first ≤ 2 ^ 32 → AreGiven (outset bits p first) events
-    → IsExpected (run events (outset bits p first))
+    → IsKind (Am bits) → first ≤ 2 ^ 32 → AreGiven (am_pdcp_outset bits p first) events
+    → IsExpected (run_am_pdcp events (am_pdcp_outset bits p first))
 
 -- where RLC has handed up all that it was given in this life, and nothing is to be given again,
 -- nothing is missing: what went up and what is ready to go up are all SDUs that were taken
@@ -26,5 +26,5 @@ IsComplete f = f.passed ≡ length f.stream → f.sender.again ≡ [] → f.up +
 
 abbrev pub DeliversAll : Type 0
 DeliversAll = (bits : ℕ) (p : Protection) (first : ℕ) (events : List Event) → IsKind (Am bits)
-    → first ≤ 2 ^ 32 → AreGiven (outset bits p first) events
-    → IsComplete (run events (outset bits p first))
+    → first ≤ 2 ^ 32 → AreGiven (am_pdcp_outset bits p first) events
+    → IsComplete (run_am_pdcp events (am_pdcp_outset bits p first))

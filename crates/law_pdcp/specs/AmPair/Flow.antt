@@ -9,13 +9,14 @@ use Rattle.pdcp_pdu.specs.declared.PdcpKind.{PdcpKind}
 use Rattle.pdcp_pdu.specs.declared.PdcpKind.TheVariants.{Am}
 use Rattle.pdcp_sec.specs.Protection.{Protection}
 use Rattle.pdcp_tx.specs.declared.sender.Next.{Next}
-use Rattle.pdcp_tx.specs.State.{State as Sending, start, taking, refusal}
+use Rattle.pdcp_tx.specs.State.{State as Sending, start, refusal}
 use Rattle.pdcp_tx.specs.State.{restarted as restarted_sending}
 use Rattle.pdcp_tx.specs.Runs.{Call, Submit, Take, Confirm, Report, Owe, Tick, Late, after}
 use Rattle.pdcp_rx.specs.declared.got.Cause.TheVariants.{Arrived, Reestablished}
 use Rattle.pdcp_rx.specs.Heard.{Told, heard}
 use Rattle.pdcp_rx.specs.State.{State as Receiving, fresh, arrived, report}
 use Rattle.pdcp_rx.specs.State.{restarted as restarted_receiving}
+use Rattle.law_pdcp.specs.OneEnd.Given.{pdus_given}
 use Rattle.law_pdcp.specs.OneEnd.Lives.{takes_new}
 
 -- `first` is the first COUNT, `sdus` the SDUs that were taken for the first time, in their order,
@@ -45,20 +46,6 @@ pub data Event : Type 0 where
   Restart : Keys → Event  -- the life ends, and the next one begins under other keys
 
 -- ---- what they make of it
-
-abbrev pub one : Option Next → List Next
-one None = []
-one (Some pdu) = pdu ∷ []
-
--- what a call gives to RLC
-abbrev pub gives : Sending → Call → List Next
-gives s (Submit sdu) = []
-gives s Take = one (taking s)
-gives s (Confirm place) = []
-gives s (Report fms bitmap) = []
-gives s (Owe report) = []
-gives s Tick = []
-gives s Late = []
 
 -- with the COUNT of one more PDU; a status report has none
 abbrev pub with_count : Option ℕ → (ℕ → Bool) → ℕ → Bool
@@ -104,7 +91,7 @@ abbrev pub happens : Flow → Event → Flow
 happens f (Sends c) = record f {
   sender = after f.sender c;
   sdus = f.sdus ++ takes_new f.sender c;
-  stream = f.stream ++ gives f.sender c;
+  stream = f.stream ++ pdus_given f.sender c;
 }
 happens f (SetDiscard ttis) = record f { sender = record f.sender { discard = Some ttis } }
 happens f (Arrive place) = record f { whole = λ n. n == place || f.whole n }
@@ -115,12 +102,12 @@ happens f Raise = record f {
 }
 happens f (Restart keys) = begun (ended f) keys
 
-abbrev pub run : List Event → Flow → Flow
-run [] f = f
-run (e ∷ es) f = run es (happens f e)
+abbrev pub run_am_pdcp : List Event → Flow → Flow
+run_am_pdcp [] f = f
+run_am_pdcp (e ∷ es) f = run_am_pdcp es (happens f e)
 
-abbrev pub outset : ℕ → Protection → ℕ → Flow
-outset bits p first = record {
+abbrev pub am_pdcp_outset : ℕ → Protection → ℕ → Flow
+am_pdcp_outset bits p first = record {
   first = first;
   sdus = [];
   sender = start (Am bits) p first;

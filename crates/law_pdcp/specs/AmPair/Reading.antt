@@ -10,7 +10,8 @@ use Rattle.pdcp_rx.specs.declared.got.Cause.TheVariants.{Arrived, Reestablished}
 use Rattle.pdcp_rx.specs.declared.got.Got.{Got}
 use Rattle.pdcp_rx.specs.declared.got.Got.TheVariants as answers
 use Rattle.pdcp_rx.specs.State.{State as Receiving, got, arrived}
-use Rattle.law_pdcp.specs.AmPair.Flow.{Flow, Event, run, outset, AreGiven, with_count}
+use Rattle.law_pdcp.specs.AmPair.Flow.{Flow, Event, run_am_pdcp, am_pdcp_outset, AreGiven}
+use Rattle.law_pdcp.specs.AmPair.Flow.{with_count}
 
 -- the SDU of a COUNT that hasn't come goes up; at the end of a life it waits where one below it
 -- hasn't come
@@ -51,5 +52,5 @@ pub record ReadsEach (f : Flow) : Type 0 where
 
 abbrev pub ReadsEachCount : Type 0
 ReadsEachCount = (bits : ℕ) (p : Protection) (first : ℕ) (events : List Event) → IsKind (Am bits)
-    → first ≤ 2 ^ 32 → AreGiven (outset bits p first) events
-    → ReadsEach (run events (outset bits p first))
+    → first ≤ 2 ^ 32 → AreGiven (am_pdcp_outset bits p first) events
+    → ReadsEach (run_am_pdcp events (am_pdcp_outset bits p first))

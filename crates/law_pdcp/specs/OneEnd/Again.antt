@@ -34,33 +34,33 @@ abbrev pub all_again : State → List Call → List Sent
 all_again s cs = taken_again s cs ++ (after_all s cs).again
 
 -- a report tells that an SDU was received
-abbrev pub told_from : Option ℕ → List ℕ → Sent → Bool
-told_from None bitmap x = false
-told_from (Some from) bitmap x = tells from bitmap x.count
+abbrev pub is_told_from : Option ℕ → List ℕ → Sent → Bool
+is_told_from None bitmap x = false
+is_told_from (Some from) bitmap x = tells from bitmap x.count
 
-abbrev pub told_by : State → Call → Sent → Bool
-told_by s (Submit sdu) x = false
-told_by s Take x = false
-told_by s (Confirm place) x = false
-told_by s (Report fms bitmap) x = told_from (fms_count s.kind s.base fms) bitmap x
-told_by s (Owe report) x = false
-told_by s Tick x = false
-told_by s Late x = false
+abbrev pub is_told_by : State → Call → Sent → Bool
+is_told_by s (Submit sdu) x = false
+is_told_by s Take x = false
+is_told_by s (Confirm place) x = false
+is_told_by s (Report fms bitmap) x = is_told_from (fms_count s.kind s.base fms) bitmap x
+is_told_by s (Owe report) x = false
+is_told_by s Tick x = false
+is_told_by s Late x = false
 
-abbrev pub told_in : State → List Call → Sent → Bool
-told_in s [] x = false
-told_in s (c ∷ cs) x = told_by s c x || told_in (after s c) cs x
+abbrev pub is_told_in : State → List Call → Sent → Bool
+is_told_in s [] x = false
+is_told_in s (c ∷ cs) x = is_told_by s c x || is_told_in (after s c) cs x
 
 -- of the SDUs that were to be taken again, in order and each once, only those are left out that a
 -- report told
 pub record LeavesOutWhatIsTold (s : State) (cs : List Call) : Type 0 where
   pub order : IsSubsequence (all_again s cs) s.again
   pub others : (x : Sent) → Contains s.again x → Contains (all_again s cs) x
-      ⊎ (told_in s cs x ≡ true)
+      ⊎ (is_told_in s cs x ≡ true)
 
 -- a report doesn't tell that an SDU was received
 abbrev pub IsUntold : Option ℕ → List ℕ → Sent → Type 0
-IsUntold from bitmap x = told_from from bitmap x ≡ false
+IsUntold from bitmap x = is_told_from from bitmap x ≡ false
 
 -- what a report told before it was reached isn't taken again
 abbrev pub LeavesOutTheTold : State → ℕ → List ℕ → List Call → Type 0

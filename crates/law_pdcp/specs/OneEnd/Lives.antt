@@ -19,9 +19,9 @@ goes s (Calls c) = after s c
 goes s (SetDiscard ttis) = record s { discard = Some ttis }
 goes s (Restart keys) = restarted s keys
 
-abbrev pub run : List Step → State → State
-run [] s = s
-run (x ∷ xs) s = run xs (goes s x)
+abbrev pub run_pdcp_sender : List Step → State → State
+run_pdcp_sender [] s = s
+run_pdcp_sender (x ∷ xs) s = run_pdcp_sender xs (goes s x)
 
 -- ---- what is ciphered
 

@@ -19,14 +19,14 @@ abbrev pub goes : State → Hearing → State
 goes s (Calls c) = happens s c
 goes s (Restart keys) = restarted s keys
 
-abbrev pub ups_in : State → Hearing → List ℕ
-ups_in s (Calls c) = ups s c
-ups_in s (Restart keys) = []
+abbrev pub counts_up_in : State → Hearing → List ℕ
+counts_up_in s (Calls c) = ups s c
+counts_up_in s (Restart keys) = []
 
 -- the COUNTs of the SDUs that are made ready to go up, in order
 abbrev pub ups_of : State → List Hearing → List ℕ
 ups_of s [] = []
-ups_of s (x ∷ xs) = ups_in s x ++ ups_of (goes s x) xs
+ups_of s (x ∷ xs) = counts_up_in s x ++ ups_of (goes s x) xs
 
 -- what a PDU has for its receiver to open: of signalling the whole, else what stands behind the
 -- header

@@ -14,7 +14,8 @@ use Rattle.pdcp_rx.specs.declared.security.Opened.TheVariants.{Sdu}
 use Rattle.pdcp_rx.specs.Heard.{Data, heard}
 use Rattle.pdcp_rx.specs.State.{State as Receiving, above, opened_at, got, arrived}
 use Rattle.law_pdcp.specs.OneEnd.Lives.{queue}
-use Rattle.law_pdcp.specs.SrbPair.Flow.{Flow, Event, Sends, HandUp, Raise, run, outset, BeginAlike}
+use Rattle.law_pdcp.specs.SrbPair.Flow.{Flow, Event, Sends, HandUp, Raise, run_srb_pdcp}
+use Rattle.law_pdcp.specs.SrbPair.Flow.{srb_pdcp_outset, SrbPdcpBeginAlike}
 use Rattle.law_pdcp.specs.SrbPair.Flow.{AreGiven}
 
 -- ---- as it is written
@@ -25,10 +26,10 @@ written_from p count [] = []
 written_from p count (sdu ∷ sdus) = written Srb p (Some count) sdu ∷ written_from p (count + 1) sdus
 
 abbrev pub WritesEachCount : Type 0
-WritesEachCount = (s : Sending) (r : Receiving) (events : List Event) → BeginAlike s r
-    → AreGiven (outset s r) events
-    → (run events (outset s r)).stream
-    ≡ written_from s.protection s.next (run events (outset s r)).sdus
+WritesEachCount = (s : Sending) (r : Receiving) (events : List Event) → SrbPdcpBeginAlike s r
+    → AreGiven (srb_pdcp_outset s r) events
+    → (run_srb_pdcp events (srb_pdcp_outset s r)).stream
+    ≡ written_from s.protection s.next (run_srb_pdcp events (srb_pdcp_outset s r)).sdus
 
 -- ---- as it is read
 
@@ -52,10 +53,11 @@ pub record IsReadNext (f : Flow) : Type 0 where
   pub read : AreReadAs f.receiver x.octets (f.first + f.passed) sdu
 
 abbrev pub ReadsEachCount : Type 0
-ReadsEachCount = (s : Sending) (r : Receiving) (events : List Event) → BeginAlike s r
-    → AreGiven (outset s r) events
-    → (run events (outset s r)).passed < length (run events (outset s r)).stream
-    → IsReadNext (run events (outset s r))
+ReadsEachCount = (s : Sending) (r : Receiving) (events : List Event) → SrbPdcpBeginAlike s r
+    → AreGiven (srb_pdcp_outset s r) events
+    → (run_srb_pdcp events (srb_pdcp_outset s r)).passed < length
+    (run_srb_pdcp events (srb_pdcp_outset s r)).stream
+    → IsReadNext (run_srb_pdcp events (srb_pdcp_outset s r))
 
 -- ---- what goes up
 
@@ -67,8 +69,8 @@ pub record IsTheFront (f : Flow) : Type 0 where
   pub none_held : f.receiver.held ≡ []
 
 abbrev pub DeliversTheFront : Type 0
-DeliversTheFront = (s : Sending) (r : Receiving) (events : List Event) → BeginAlike s r
-    → AreGiven (outset s r) events → IsTheFront (run events (outset s r))
+DeliversTheFront = (s : Sending) (r : Receiving) (events : List Event) → SrbPdcpBeginAlike s r
+    → AreGiven (srb_pdcp_outset s r) events → IsTheFront (run_srb_pdcp events (srb_pdcp_outset s r))
 
 -- ---- of what was submitted
 
@@ -88,6 +90,7 @@ submitted_in (HandUp ∷ es) = submitted_in es
 submitted_in (Raise ∷ es) = submitted_in es
 
 abbrev pub TakesAll : Type 0
-TakesAll = (s : Sending) (r : Receiving) (events : List Event) → BeginAlike s r
-    → AreGiven (outset s r) events
-    → (run events (outset s r)).sdus ++ queue (run events (outset s r)).sender ≡ submitted_in events
+TakesAll = (s : Sending) (r : Receiving) (events : List Event) → SrbPdcpBeginAlike s r
+    → AreGiven (srb_pdcp_outset s r) events
+    → (run_srb_pdcp events (srb_pdcp_outset s r)).sdus
+    ++ queue (run_srb_pdcp events (srb_pdcp_outset s r)).sender ≡ submitted_in events

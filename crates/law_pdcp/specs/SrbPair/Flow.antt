@@ -5,10 +5,11 @@ use Rattle.std.specs.Prelude.{◌≡◌, ℕ, ◌+◌, ◌^◌, ◌<◌, ◌≤�
 use Rattle.std.specs.Prelude.{Option, Some, None, slice_get}
 use Rattle.pdcp_pdu.specs.declared.PdcpKind.TheVariants.{Srb}
 use Rattle.pdcp_tx.specs.declared.sender.Next.{Next}
-use Rattle.pdcp_tx.specs.State.{State as Sending, taking, refusal}
+use Rattle.pdcp_tx.specs.State.{State as Sending, refusal}
 use Rattle.pdcp_tx.specs.Runs.{Call, Submit, Take, Confirm, Report, Owe, Tick, Late, after}
 use Rattle.pdcp_rx.specs.declared.got.Cause.TheVariants.{Arrived}
 use Rattle.pdcp_rx.specs.State.{State as Receiving, arrived}
+use Rattle.law_pdcp.specs.OneEnd.Given.{pdus_given}
 use Rattle.law_pdcp.specs.OneEnd.Lives.{takes_new}
 
 -- `first` is the first COUNT of the life, `sdus` the SDUs that were taken in it, `stream` what RLC
@@ -30,20 +31,6 @@ pub data Event : Type 0 where
 
 -- ---- what they make of it
 
-abbrev pub one : Option Next → List Next
-one None = []
-one (Some pdu) = pdu ∷ []
-
--- what a call gives to RLC
-abbrev pub gives : Sending → Call → List Next
-gives s (Submit sdu) = []
-gives s Take = one (taking s)
-gives s (Confirm place) = []
-gives s (Report fms bitmap) = []
-gives s (Owe report) = []
-gives s Tick = []
-gives s Late = []
-
 abbrev pub passes : Option Next → Flow → Flow
 passes None f = f
 passes (Some pdu) f = record f {
@@ -55,7 +42,7 @@ abbrev pub happens : Flow → Event → Flow
 happens f (Sends c) = record f {
   sender = after f.sender c;
   sdus = f.sdus ++ takes_new f.sender c;
-  stream = f.stream ++ gives f.sender c;
+  stream = f.stream ++ pdus_given f.sender c;
 }
 happens f HandUp = passes (slice_get f.stream f.passed) f
 happens f Raise = record f {
@@ -63,13 +50,13 @@ happens f Raise = record f {
   up = f.up ++ take 1 f.receiver.ready;
 }
 
-abbrev pub run : List Event → Flow → Flow
-run [] f = f
-run (e ∷ es) f = run es (happens f e)
+abbrev pub run_srb_pdcp : List Event → Flow → Flow
+run_srb_pdcp [] f = f
+run_srb_pdcp (e ∷ es) f = run_srb_pdcp es (happens f e)
 
 -- a life begins
-abbrev pub outset : Sending → Receiving → Flow
-outset s r = record {
+abbrev pub srb_pdcp_outset : Sending → Receiving → Flow
+srb_pdcp_outset s r = record {
   first = s.next;
   sdus = [];
   sender = s;
@@ -83,7 +70,7 @@ outset s r = record {
 
 -- of signalling, with the same COUNT and under the same keys, without discard timers; nothing
 -- waits, is kept, held or ready
-pub record BeginAlike (s : Sending) (r : Receiving) : Type 0 where
+pub record SrbPdcpBeginAlike (s : Sending) (r : Receiving) : Type 0 where
   pub sends : s.kind ≡ Srb
   pub hears : r.kind ≡ Srb
   pub key : r.protection ≡ s.protection

@@ -1,25 +1,21 @@
 -- What a receiver of an unacknowledged data bearer hands up, while the losses below it are short
 -- (TS 36.323 5.1.2.1.3).
-use Rattle.std.specs.Prelude.{◌≡◌, ℕ, ◌+◌, ◌≤◌, ◌^◌, List, [], ◌∷◌, ◌++◌, map, length}
-use Rattle.std.specs.Prelude.{slice_index_or}
+use Rattle.std.specs.Prelude.{◌≡◌, ℕ, ◌+◌, ◌≤◌, ◌^◌, List, [], ◌∷◌, ◌++◌, length}
 use Rattle.l2_num.specs.Ascending.{AreBetween}
 use Rattle.pdcp_pdu.specs.declared.PdcpKind.TheVariants.{Um}
 use Rattle.pdcp_pdu.specs.Kinds.{IsKind}
 use Rattle.pdcp_sec.specs.Protection.{Protection}
-use Rattle.law_words.specs.Lists.{IsSubsequence}
+use Rattle.law_words.specs.Lists.{those, IsSubsequence}
 use Rattle.law_pdcp.specs.OneEnd.Lives.{submitted_in, queue}
-use Rattle.law_pdcp.specs.UmPair.Flow.{Flow, Event, Sends, SetDiscard, HandUp, Raise, Restart, run}
-use Rattle.law_pdcp.specs.UmPair.Flow.{outset, steps, AreGiven, AreShort}
+use Rattle.law_pdcp.specs.UmPair.Flow.{Flow, Event, Sends, SetDiscard, HandUp, Raise, Restart}
+use Rattle.law_pdcp.specs.UmPair.Flow.{run_um_pdcp}
+use Rattle.law_pdcp.specs.UmPair.Flow.{um_pdcp_outset, steps, AreGiven, AreShort}
 
 -- ---- by what RLC handed up
 
--- the SDUs at some places
-abbrev pub those : List ℕ → List (List ℕ) → List (List ℕ)
-those places sdus = map (λ place. slice_index_or sdus place []) places
-
 -- what went up and what is ready to go up are the SDUs whose PDUs RLC handed up: in their order,
 -- each once and unchanged. The receiver expects the COUNT behind the last of them in this life.
-pub record IsWhatCame (f : Flow) : Type 0 where
+pub record IsWhatCameToPdcp (f : Flow) : Type 0 where
   pub order : AreBetween 0 f.handed (length f.sdus)
   pub delivered : f.up ++ f.receiver.ready ≡ those f.handed f.sdus
   pub next : f.receiver.next ≡ f.first + f.passed
@@ -27,8 +23,8 @@ pub record IsWhatCame (f : Flow) : Type 0 where
 abbrev pub DeliversWhatCame : Type 0
 DeliversWhatCame = (bits : ℕ) (p : Protection) (first : ℕ) (events : List Event)
     → IsKind (Um bits) → first ≤ 2 ^ 32
-    → AreGiven (outset bits p first) events → AreShort (outset bits p first) events
-    → IsWhatCame (run events (outset bits p first))
+    → AreGiven (um_pdcp_outset bits p first) events → AreShort (um_pdcp_outset bits p first) events
+    → IsWhatCameToPdcp (run_um_pdcp events (um_pdcp_outset bits p first))
 
 -- ---- by what was taken and submitted
 
@@ -40,8 +36,8 @@ pub record AreSome (events : List Event) (f : Flow) : Type 0 where
 abbrev pub DeliversSome : Type 0
 DeliversSome = (bits : ℕ) (p : Protection) (first : ℕ) (events : List Event) → IsKind (Um bits)
     → first ≤ 2 ^ 32
-    → AreGiven (outset bits p first) events → AreShort (outset bits p first) events
-    → AreSome events (run events (outset bits p first))
+    → AreGiven (um_pdcp_outset bits p first) events → AreShort (um_pdcp_outset bits p first) events
+    → AreSome events (run_um_pdcp events (um_pdcp_outset bits p first))
 
 -- no discard timer is set
 abbrev pub SetNone : List Event → Type 0
@@ -55,5 +51,6 @@ SetNone (Restart keys ∷ es) = SetNone es
 -- then the SDUs that were taken, and behind them those that wait, are all that were submitted
 abbrev pub TakesAll : Type 0
 TakesAll = (bits : ℕ) (p : Protection) (first : ℕ) (events : List Event) → SetNone events
-    → (run events (outset bits p first)).sdus ++ queue (run events (outset bits p first)).sender
+    → (run_um_pdcp events (um_pdcp_outset bits p first)).sdus
+    ++ queue (run_um_pdcp events (um_pdcp_outset bits p first)).sender
     ≡ submitted_in (steps events)

@@ -8,12 +8,13 @@ use Rattle.pdcp_pdu.specs.declared.PdcpKind.TheVariants.{Um}
 use Rattle.pdcp_pdu.specs.Kinds.{bits_of}
 use Rattle.pdcp_sec.specs.Protection.{Protection}
 use Rattle.pdcp_tx.specs.declared.sender.Next.{Next}
-use Rattle.pdcp_tx.specs.State.{State as Sending, start, taking, refusal}
+use Rattle.pdcp_tx.specs.State.{State as Sending, start, refusal}
 use Rattle.pdcp_tx.specs.State.{restarted as restarted_sending}
 use Rattle.pdcp_tx.specs.Runs.{Call, Submit, Take, Confirm, Report, Owe, Tick, Late, after}
 use Rattle.pdcp_rx.specs.declared.got.Cause.{Cause}
 use Rattle.pdcp_rx.specs.State.{State as Receiving, fresh, arrived}
 use Rattle.pdcp_rx.specs.State.{restarted as restarted_receiving}
+use Rattle.law_pdcp.specs.OneEnd.Given.{pdus_given}
 use Rattle.law_pdcp.specs.OneEnd.Lives.{Step, Calls, SetDiscard as SetsDiscard, Restart as Restarts}
 use Rattle.law_pdcp.specs.OneEnd.Lives.{takes_new}
 
@@ -42,20 +43,6 @@ pub data Event : Type 0 where
 
 -- ---- what they make of it
 
-abbrev pub one : Option Next → List Next
-one None = []
-one (Some pdu) = pdu ∷ []
-
--- what a call gives to RLC
-abbrev pub gives : Sending → Call → List Next
-gives s (Submit sdu) = []
-gives s Take = one (taking s)
-gives s (Confirm place) = []
-gives s (Report fms bitmap) = []
-gives s (Owe report) = []
-gives s Tick = []
-gives s Late = []
-
 abbrev pub comes : Option Next → Cause → ℕ → Flow → Flow
 comes None cause place f = f
 comes (Some pdu) cause place f = record f {
@@ -79,7 +66,7 @@ abbrev pub happens : Flow → Event → Flow
 happens f (Sends c) = record f {
   sender = after f.sender c;
   sdus = f.sdus ++ takes_new f.sender c;
-  stream = f.stream ++ gives f.sender c;
+  stream = f.stream ++ pdus_given f.sender c;
 }
 happens f (SetDiscard ttis) = record f { sender = record f.sender { discard = Some ttis } }
 happens f (HandUp cause place) = comes (slice_get f.stream place) cause place f
@@ -89,12 +76,12 @@ happens f Raise = record f {
 }
 happens f (Restart keys) = begun f keys
 
-abbrev pub run : List Event → Flow → Flow
-run [] f = f
-run (e ∷ es) f = run es (happens f e)
+abbrev pub run_um_pdcp : List Event → Flow → Flow
+run_um_pdcp [] f = f
+run_um_pdcp (e ∷ es) f = run_um_pdcp es (happens f e)
 
-abbrev pub outset : ℕ → Protection → ℕ → Flow
-outset bits p first = record {
+abbrev pub um_pdcp_outset : ℕ → Protection → ℕ → Flow
+um_pdcp_outset bits p first = record {
   sdus = [];
   sender = start (Um bits) p first;
   receiver = fresh (Um bits) p first;

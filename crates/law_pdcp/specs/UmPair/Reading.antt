@@ -12,7 +12,8 @@ use Rattle.pdcp_rx.specs.declared.got.Got.TheVariants as answers
 use Rattle.pdcp_rx.specs.declared.security.Opened.TheVariants.{Sdu}
 use Rattle.pdcp_rx.specs.Heard.{Data, heard}
 use Rattle.pdcp_rx.specs.State.{State as Receiving, above, opened_at, got, arrived}
-use Rattle.law_pdcp.specs.UmPair.Flow.{Flow, Event, HandUp, run, outset, IsLater, IsGiven, AreGiven}
+use Rattle.law_pdcp.specs.UmPair.Flow.{Flow, Event, HandUp, run_um_pdcp, um_pdcp_outset, IsLater}
+use Rattle.law_pdcp.specs.UmPair.Flow.{IsGiven, AreGiven}
 use Rattle.law_pdcp.specs.UmPair.Flow.{left_out, IsShort, AreShort}
 
 -- ---- as it is written
@@ -34,8 +35,8 @@ AreWritten f = (place : ℕ) (x : Next) → slice_get f.stream place ≡ Some x
 -- whatever is lost
 abbrev pub WritesEachCount : Type 0
 WritesEachCount = (bits : ℕ) (p : Protection) (first : ℕ) (events : List Event) → first ≤ 2 ^ 32
-    → AreGiven (outset bits p first) events
-    → AreWritten (run events (outset bits p first))
+    → AreGiven (um_pdcp_outset bits p first) events
+    → AreWritten (run_um_pdcp events (um_pdcp_outset bits p first))
 
 -- ---- as it is read
 
@@ -63,10 +64,10 @@ abbrev pub ReadsEachCount : Type 0
 ReadsEachCount =
     (bits : ℕ) (p : Protection) (first : ℕ) (events : List Event) (cause : Cause) (place : ℕ)
     → IsKind (Um bits) → first ≤ 2 ^ 32
-    → AreGiven (outset bits p first) events → AreShort (outset bits p first) events
-    → IsGiven (run events (outset bits p first)) (HandUp cause place)
-    → IsShort (run events (outset bits p first)) (HandUp cause place)
-    → IsReadAt (run events (outset bits p first)) cause place
+    → AreGiven (um_pdcp_outset bits p first) events → AreShort (um_pdcp_outset bits p first) events
+    → IsGiven (run_um_pdcp events (um_pdcp_outset bits p first)) (HandUp cause place)
+    → IsShort (run_um_pdcp events (um_pdcp_outset bits p first)) (HandUp cause place)
+    → IsReadAt (run_um_pdcp events (um_pdcp_outset bits p first)) cause place
 
 -- it is taken for one of a lower COUNT
 pub record IsMisread (f : Flow) (place : ℕ) : Type 0 where
@@ -81,7 +82,7 @@ pub record IsMisread (f : Flow) (place : ℕ) : Type 0 where
 abbrev pub MisreadsOthers : Type 0
 MisreadsOthers = (bits : ℕ) (p : Protection) (first : ℕ) (events : List Event) (place : ℕ)
     → IsKind (Um bits) → first ≤ 2 ^ 32
-    → AreGiven (outset bits p first) events → AreShort (outset bits p first) events
-    → IsLater (run events (outset bits p first)) place
-    → 2 ^ bits ≤ left_out (run events (outset bits p first)) place
-    → IsMisread (run events (outset bits p first)) place
+    → AreGiven (um_pdcp_outset bits p first) events → AreShort (um_pdcp_outset bits p first) events
+    → IsLater (run_um_pdcp events (um_pdcp_outset bits p first)) place
+    → 2 ^ bits ≤ left_out (run_um_pdcp events (um_pdcp_outset bits p first)) place
+    → IsMisread (run_um_pdcp events (um_pdcp_outset bits p first)) place

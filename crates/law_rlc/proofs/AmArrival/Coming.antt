@@ -15,8 +15,9 @@ use Rattle.rlc_am_rx.specs.State.{State}
 use Rattle.rlc_am_rx.specs.Machine.{landed}
 use Rattle.law_rlc.specs.AmSender.Octets.{Place, segment_of}
 use Rattle.law_rlc.specs.AmReceiver.Run.{Call, Arrive, Up, Write, ExpireReorder, ExpireProhibit, TickReorder}
-use Rattle.law_rlc.specs.AmReceiver.Run.{TickProhibit, World, Came, begin, has_come, kept_after, kept_with, number_read}
-use Rattle.law_rlc.specs.AmReceiver.Run.{happens as heard_by, run as run_receiver}
+use Rattle.law_rlc.specs.AmReceiver.Run.{TickProhibit, World, Came, begin, place_has_come, kept_after, kept_with}
+use Rattle.law_rlc.specs.AmReceiver.Run.{number_read}
+use Rattle.law_rlc.specs.AmReceiver.Run.{happens as heard_by, run_am_receiver}
 use Rattle.law_rlc.specs.AmReceiver.Stream.{IsPart, NoneClashes}
 use Rattle.law_rlc.proofs.AmReceiver.Clash.{none_clashes}
 use Rattle.law_rlc.specs.AmPair.Fields.{cells_of, field_of}
@@ -75,7 +76,7 @@ brings p number n i = (number == n) && (nat_le (so_of p.segment) i && nat_lt i (
 
 -- nothing clashes
 last_clashes : (cs : List Call) (p : AmdPdu) (w : World) → NoneClashes w.state (cs ++ Arrive p ∷ [])
-    → landed (run_receiver cs w).state p ≡ Clash → ⊥
+    → landed (run_am_receiver cs w).state p ≡ Clash → ⊥
 last_clashes [] p w n e = n.0 e
 last_clashes (Arrive q ∷ cs) p w n e = last_clashes cs p (heard_by w (Arrive q)) n.1 e
 last_clashes (Up ∷ cs) p w n e = last_clashes cs p (heard_by w Up) n e
@@ -118,7 +119,8 @@ pub keeps_brings : (f : Flow) (c : Copy) (p : AmdPdu) → IsSound f → IsTrueCo
     → am_at c.octets ≡ Ok (Payload p) → p.sn ≡ c.number % 1024
     → IsPart (cells_of (slice_index_or (sender f).past.sent c.number [])) (piece_of p) → (n i : ℕ)
     → i < length (slice_index_or (sender f).past.sent n [])
-    → has_come (kept_with (receiver f) (Arrive p)) n i ≡ (brings p c.number n i || has_come (receiver f).kept n i)
+    → place_has_come (kept_with (receiver f) (Arrive p)) n i
+    ≡ (brings p c.number n i || place_has_come (receiver f).kept n i)
 keeps_brings f c p h q read sn part n i lt = by (landed s p) refl
   where
     s : State
@@ -148,8 +150,8 @@ keeps_brings f c p h q read sn part n i lt = by (landed s p) refl
         (landing_is (nat_le 512 at) (is_repeat (slice_get slots at) (piece_of p))
         (is_clash (slice_get slots at) (piece_of p)))
 
-    here : (b : Bool) → (c.number == n) ≡ b → (c.number ≡ n → has_come kept n i ≡ true)
-        → has_come kept n i ≡ (brings p c.number n i || has_come kept n i)
+    here : (b : Bool) → (c.number == n) ≡ b → (c.number ≡ n → place_has_come kept n i ≡ true)
+        → place_has_come kept n i ≡ (brings p c.number n i || place_has_come kept n i)
     here true e all =
         let same : c.number ≡ n = grind (arith, nat_tests, e) in
         let a = all same in
@@ -157,8 +159,8 @@ keeps_brings f c p h q read sn part n i lt = by (landed s p) refl
     here false e all = grind (arith, nat_tests, e)
 
     by : (l : Landed) → landed (receiver f).state p ≡ l
-        → has_come (kept_after l (receiver f).state p (receiver f).kept) n i
-        ≡ (brings p c.number n i || has_come (receiver f).kept n i)
+        → place_has_come (kept_after l (receiver f).state p (receiver f).kept) n i
+        ≡ (brings p c.number n i || place_has_come (receiver f).kept n i)
     by Fresh e =
         let t = (tests Fresh e).inside (λ no. cc) in
         let off : at < 512 = grind (arith, nat_tests, t) in
@@ -166,26 +168,27 @@ keeps_brings f c p h q read sn part n i lt = by (landed s p) refl
         let ends : end_of (piece_of p) ≡ so_of p.segment + octets_in p.elements =
         ap (λ (k : ℕ). so_of p.segment + k) size in
         ap (λ (m : ℕ). ((m == n) && (nat_le (so_of p.segment) i && nat_lt i (end_of (piece_of p))))
-        || has_come kept n i) is
-        ∙ ap (λ (m : ℕ). ((c.number == n) && (nat_le (so_of p.segment) i && nat_lt i m)) || has_come kept n i) ends
+        || place_has_come kept n i) is
+        ∙ ap (λ (m : ℕ). ((c.number == n) && (nat_le (so_of p.segment) i && nat_lt i m)) || place_has_come kept n i)
+        ends
     by Repeat e =
         let t = (tests Repeat e).inside (λ no. cc) in
         let off : at < 512 = grind (arith, nat_tests, t) in
         let is : number_read s p ≡ c.number = read_in s p c.number near off in
         let held = repeat_held slots at (piece_of p) part.some ((tests Repeat e).again refl) in
         let all : c.number ≡ n → so_of p.segment ≤ i → i < so_of p.segment + octets_in p.elements
-        → has_come kept n i ≡ true = λ same a b.
+        → place_has_come kept n i ≡ true = λ same a b.
         let there' = holds_range (slot_at slots at).cells (so_of p.segment) (length (piece_of p).cells) i held a
         (omega (arith, b, size)) in
         let number : s.window.front + at ≡ n = is ∙ same in
-        ap (λ (m : ℕ). has_come kept m i) (sym number)
+        ap (λ (m : ℕ). place_has_come kept m i) (sym number)
         ∙ (sym (((keeps_of f).agrees.slots_match at).cells i) ∙ there') in
         some (c.number == n) refl all
       where
         some : (b : Bool) → (c.number == n) ≡ b
             → (c.number ≡ n → so_of p.segment ≤ i → i < so_of p.segment + octets_in p.elements
-            → has_come kept n i ≡ true)
-            → has_come kept n i ≡ (brings p c.number n i || has_come kept n i)
+            → place_has_come kept n i ≡ true)
+            → place_has_come kept n i ≡ (brings p c.number n i || place_has_come kept n i)
         some true e all =
             let same : c.number ≡ n = grind (arith, nat_tests, e) in
             let a = all same in

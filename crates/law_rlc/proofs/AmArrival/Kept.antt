@@ -14,7 +14,7 @@ use Rattle.rlc_am_rx_window.specs.Held.{Held, nothing}
 use Rattle.rlc_am_rx_window.specs.Piece.{Piece}
 use Rattle.rlc_am_rx_window.specs.Window.{top, offset_of, slot_at, is_repeat}
 use Rattle.rlc_am_rx.specs.State.{State}
-use Rattle.law_rlc.specs.AmReceiver.Run.{Came, begin, has_come, number_read, IsComplete, IsFirst}
+use Rattle.law_rlc.specs.AmReceiver.Run.{Came, begin, place_has_come, number_read, IsComplete, IsFirst}
 use Rattle.law_rlc.specs.AmReceiver.Finish.{arrived_in}
 use Rattle.law_rlc.proofs.AmReceiver.Least.{Keeps, run-keeps, fresh-keeps, least}
 use Rattle.law_rlc.proofs.AmReceiver.Places.{there, holds-each}
@@ -31,7 +31,7 @@ keeps_of f = run-keeps f.heard (begin f.receiving) (fresh-keeps f.receiving)
 -- below VR(R) all of it has been kept
 pub kept_below : (f : Flow) (n i : ℕ) → IsSound f → n < (receiver f).state.window.front
     → i < length (slice_index_or (sender f).past.sent n [])
-    → has_come (receiver f).kept n i ≡ true
+    → place_has_come (receiver f).kept n i ≡ true
 kept_below f n i h lt within =
     let first : IsFirst (receiver f) = least f.receiving f.heard in
     let done : IsComplete (receiver f).kept n = first.below n lt in
@@ -40,7 +40,7 @@ kept_below f n i h lt within =
     done.2 i (omega (arith, within, size))
 
 pub kept_is : (f : Flow) (n i : ℕ) → IsSound f → i < length (slice_index_or (sender f).past.sent n [])
-    → arrived_in (receiver f) n i ≡ has_come (receiver f).kept n i
+    → arrived_in (receiver f) n i ≡ place_has_come (receiver f).kept n i
 kept_is f n i h within = elim (cases_lt n (receiver f).state.window.front) [
   | inl lt ↦ let k = kept_below f n i h lt within in grind (arith, nat_tests, k, lt)
   | inr ge ↦ grind (arith, nat_tests, ge)
@@ -53,14 +53,14 @@ none_above f n i le =
     let k = n - w.front in
     let e : w.front + k ≡ n = omega (arith, le) in
     let past : slot_at w.slots k ≡ nothing = get_or_past w.slots k nothing (omega (arith, le)) in
-    let c : has_come (receiver f).kept n i ≡ false = ap (λ (m : ℕ). has_come (receiver f).kept m i) (sym e)
+    let c : place_has_come (receiver f).kept n i ≡ false = ap (λ (m : ℕ). place_has_come (receiver f).kept m i) (sym e)
     ∙ (sym (((keeps_of f).agrees.slots_match k).cells i) ∙ ap (λ (x : Held). there x.cells i) past) in
     let g : w.front ≤ n = omega (arith, le) in
     grind (arith, nat_tests, c, g)
 
 -- a number that isn't sent has nothing that was kept
 pub none_unsent : (sent : List (List Place)) (ps : List Came) (n i : ℕ) → AllByRecursion (IsKept sent) ps
-    → length sent ≤ n → has_come ps n i ≡ false
+    → length sent ≤ n → place_has_come ps n i ≡ false
 none_unsent sent [] n i h le = refl
 none_unsent sent (p ∷ ps) n i h le =
     let ih = none_unsent sent ps n i h.1 le in

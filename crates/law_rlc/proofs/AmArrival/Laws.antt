@@ -9,7 +9,7 @@ use Rattle.rlc_am_rx_window.specs.Cells.{Cell}
 use Rattle.rlc_am_rx_window.specs.Window.{top}
 use Rattle.law_rlc.specs.AmReceiver.Finish.{Place, marked, places, cut, arrived_in}
 use Rattle.law_rlc.specs.AmPair.Fields.{cells_of, field_of}
-use Rattle.law_rlc.specs.AmPair.Flow.{Flow, sender, receiver, goes, outset}
+use Rattle.law_rlc.specs.AmPair.Flow.{Flow, sender, receiver, goes, am_rlc_outset}
 use Rattle.law_rlc.specs.AmPair.Sdus.{offered}
 use Rattle.law_rlc.proofs.AmPair.Covered.{from_number, places-from}
 use Rattle.law_rlc.proofs.AmPair.Fields.{sent-field}
@@ -155,7 +155,7 @@ arrives_as_told f t h k place =
 
 pub tell_what_arrives : PdusTellWhatArrives
 tell_what_arrives sending receiving steps given =
-    let f : Flow = outset sending receiving in
+    let f : Flow = am_rlc_outset sending receiving in
     let first : IsSound f = sound sending receiving [] tt in
     arrives_as_told (goes steps f) (with_passings (passed steps f) nothing_told) (sound sending receiving steps given)
     (steps_tell steps f nothing_told given first (first_tells sending receiving))

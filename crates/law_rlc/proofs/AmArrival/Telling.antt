@@ -20,17 +20,17 @@ use Rattle.rlc_am_tx.specs.declared.turn.Turn.{Turn}
 use Rattle.rlc_am_tx.specs.declared.turn.Turn.TheVariants as turns
 use Rattle.rlc_am_tx.specs.Machine.{turn, answer, number_again}
 use Rattle.law_rlc.specs.AmSender.Run.{Call as SenderCall, Offer, Take, Status, Tick, Expire, Settle, Confirm}
-use Rattle.law_rlc.specs.AmSender.Run.{World as SenderWorld, run as run_sender, begun}
+use Rattle.law_rlc.specs.AmSender.Run.{World as SenderWorld, run_am_sender, begun}
 use Rattle.law_rlc.specs.AmSender.Octets.{Place, Octets, nothing_sent, written, segment_of, new_count, octets_by}
 use Rattle.law_rlc.specs.AmSender.Octets.{octets_after, IsAgain, IsNone, IsWritten, again_octets}
 use Rattle.law_rlc.specs.AmSender.Polled.{poll_of}
 use Rattle.law_rlc.proofs.AmSender.Stretches.{range-all}
 use Rattle.law_rlc.proofs.AmSender.Writes.{writes}
 use Rattle.law_rlc.specs.AmReceiver.Run.{Call as ReceiverCall, Arrive, Up, Write, ExpireReorder, ExpireProhibit}
-use Rattle.law_rlc.specs.AmReceiver.Run.{TickReorder, TickProhibit, World, Came, has_come, kept_with}
+use Rattle.law_rlc.specs.AmReceiver.Run.{TickReorder, TickProhibit, World, Came, place_has_come, kept_with}
 use Rattle.law_rlc.specs.AmPair.Flow.{Copy, Report, Flow, Step, Sends, Receives, Reports, DataComes, StatusComes}
 use Rattle.law_rlc.specs.AmPair.Flow.{DataGoes, StatusGoes, Passes, sender, receiver, copies_with, sends, receives}
-use Rattle.law_rlc.specs.AmPair.Flow.{data_comes, status_comes, status_read, happens, goes, outset}
+use Rattle.law_rlc.specs.AmPair.Flow.{data_comes, status_comes, status_read, happens, goes, am_rlc_outset}
 use Rattle.law_rlc.specs.AmPair.Given.{IsGiven, AreGiven}
 use Rattle.law_rlc.proofs.AmPair.Laws.{happens-sound}
 use Rattle.law_rlc.proofs.AmPair.Parts.{cells-length, stretch-part}
@@ -40,7 +40,7 @@ use Rattle.law_rlc.proofs.AmPair.Sound.{IsTrueCopy, IsSound, IsKept}
 use Rattle.law_words.specs.Stretches.{Stretch}
 use Rattle.law_words.specs.Passing.{Passing, Writes, Comes, Told, nothing_told, with_field, last_with, stretch_of}
 use Rattle.law_words.specs.Passing.{with_stretch, written_as, come_as, with_passing, with_passings}
-use Rattle.law_rlc.specs.AmArrival.Arrival.{written_in, coming, passing, passed}
+use Rattle.law_rlc.specs.AmArrival.Arrival.{written_in, coming, passed_in, passed}
 use Rattle.law_rlc.proofs.AmArrival.Places.{IsWithin, lies, covered}
 use Rattle.law_rlc.proofs.AmArrival.Kept.{none_unsent}
 use Rattle.law_rlc.proofs.AmArrival.Coming.{reads_copy, part_end, cells_are, is_received, keeps_brings}
@@ -50,7 +50,7 @@ pub record Tells (sent : List (List Place)) (kept : List Came) (t : Told) : Type
   pub fields : t.fields ≡ map length sent
   pub within : AllByRecursion (IsWithin t.fields) t.came
   pub same : (n i : ℕ) → n < length sent → i < length (slice_index_or sent n [])
-      → has_come kept n i ≡ covered t.came n i
+      → place_has_come kept n i ≡ covered t.came n i
 
 abbrev pub TellsOf : Flow → Told → Type 0
 TellsOf f t = Tells (sender f).past.sent (receiver f).kept t
@@ -197,7 +197,7 @@ told_again f c t h q count =
     ∙ is_old_sn r.pdu t c.number r.sn (omega (arith, count, k)) (omega (arith, count, y))
 
 sent_so : (f : Flow) (c : SenderCall)
-    → (run_sender octets_after (f.sent ++ c ∷ []) (begun f.sending nothing_sent)).past.sent
+    → (run_am_sender octets_after (f.sent ++ c ∷ []) (begun f.sending nothing_sent)).past.sent
     ≡ (octets_after (sender f).state c (sender f).past).sent
 sent_so f c = ap (λ (x : SenderWorld Octets). x.past.sent) (sender-more f c)
 
@@ -262,7 +262,7 @@ sends_tell f size held more turns.Shut a t e g w h ok k = subst (λ (x : Told). 
 sends_tell f size held more turns.Held a t e g w h ok k = subst (λ (x : Told). TellsOf f x) (sym (told_none a t w)) k
 
 sender_tells : (f : Flow) (c : SenderCall) (t : Told) → IsGiven f (Sends c) → IsSound f → TellsOf f t
-    → TellsOf (happens f (Sends c)) (with_passings (passing f (Sends c)) t)
+    → TellsOf (happens f (Sends c)) (with_passings (passed_in f (Sends c)) t)
 sender_tells f (Offer sdu) t g h k = tells_alike _ _ _ _ t (sent_so f (Offer sdu)) refl k
 sender_tells f (Take size held more) t g h k =
     let s = (sender f).state in
@@ -327,11 +327,11 @@ copy_tells f c t h q k =
         k.within,
       );
       same = λ n i lt below.
-          ap (λ (l : List Came). has_come l n i) (kept_so f (Arrive p))
+          ap (λ (l : List Came). place_has_come l n i) (kept_so f (Arrive p))
           ∙ keeps_brings f c p h q r.read r.sn r.part n i below
           ∙ ap
           (λ (m : ℕ). ((m == n) && (nat_le (so_of p.segment) i && nat_lt i (so_of p.segment + octets_in p.elements)))
-          || has_come (receiver f).kept n i) (sym number)
+          || place_has_come (receiver f).kept n i) (sym number)
           ∙ ap (λ (b : Bool). lies (stretch_of p (length t.fields)) n i || b) (k.same n i lt below);
     }))
 
@@ -360,7 +360,7 @@ status_tells f (Some r) t k = by (am_at r.octets)
     by (Err refused) = k
 
 step_tells : (f : Flow) (s : Step) (t : Told) → IsGiven f s → IsSound f → TellsOf f t
-    → TellsOf (happens f s) (with_passings (passing f s) t)
+    → TellsOf (happens f s) (with_passings (passed_in f s) t)
 step_tells f (Sends c) t g h k = sender_tells f c t g h k
 step_tells f (Receives c) t g h k = receiver_tells f c t g k
 step_tells f (Reports size octets) t g h k = tells_alike _ _ _ _ t refl (kept_so f Write) k
@@ -379,9 +379,11 @@ pub steps_tell : (ss : List Step) (f : Flow) (t : Told) → AreGiven f ss → Is
     → TellsOf (goes ss f) (with_passings (passed ss f) t)
 steps_tell [] f t g h k = k
 steps_tell (s ∷ ss) f t g h k =
-    subst (λ (x : Told). TellsOf (goes ss (happens f s)) x) (sym (told_then (passing f s) (passed ss (happens f s)) t))
-    (steps_tell ss (happens f s) (with_passings (passing f s) t) g.1 (happens-sound f s g.0 h)
+    subst (λ (x : Told). TellsOf (goes ss (happens f s)) x)
+    (sym (told_then (passed_in f s) (passed ss (happens f s)) t))
+    (steps_tell ss (happens f s) (with_passings (passed_in f s) t) g.1 (happens-sound f s g.0 h)
     (step_tells f s t g.0 h k))
 
-pub first_tells : (sending : AmTxConfig) (receiving : AmRxConfig) → TellsOf (outset sending receiving) nothing_told
+pub first_tells : (sending : AmTxConfig) (receiving : AmRxConfig)
+    → TellsOf (am_rlc_outset sending receiving) nothing_told
 first_tells sending receiving = record { fields = refl; within = tt; same = λ n i lt below. absurd (omega (arith, lt)) }

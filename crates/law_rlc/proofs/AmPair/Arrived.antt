@@ -5,7 +5,7 @@ use Rattle.std.specs.List.{AllByRecursion}
 use Rattle.std.proofs.lemmas.Bool.{cases_lt, eqb-true}
 use Rattle.law_rlc.specs.AmSender.Octets.{Place}
 use Rattle.rlc_am_rx_window.specs.Piece.{end_of}
-use Rattle.law_rlc.specs.AmReceiver.Run.{Came, told, told_by, IsComplete}
+use Rattle.law_rlc.specs.AmReceiver.Run.{Came, told, size_told_by, IsComplete}
 use Rattle.law_rlc.specs.AmPair.Flow.{Flow, sender, receiver}
 use Rattle.law_rlc.specs.AmPair.Numbers.{is_acked, HasArrived}
 use Rattle.law_rlc.proofs.AmPair.Parts.{cells-length}
@@ -31,7 +31,7 @@ told-length sent (p ∷ ps) n size h e = by (told ps n) (λ f. told-length sent 
     last true false a b g = let no' : None ≡ Some size = g in cc
     last false b' a b g = let no' : None ≡ Some size = g in cc
 
-    by : (o : Option ℕ) → (o ≡ Some size → size ≡ length (slice_index_or sent n [])) → told_by o p n ≡ Some size
+    by : (o : Option ℕ) → (o ≡ Some size → size ≡ length (slice_index_or sent n [])) → size_told_by o p n ≡ Some size
         → size ≡ length (slice_index_or sent n [])
     by (Some s) old g = old g
     by None old g = last (p.number == n) p.piece.last refl refl g

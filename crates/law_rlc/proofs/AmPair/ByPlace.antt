@@ -15,7 +15,7 @@ use Rattle.law_rlc.proofs.AmSender.Credits.{times-append}
 use Rattle.law_rlc.specs.AmReceiver.Finish.{Place, all_come, octets_of, whole_of}
 use Rattle.law_rlc.specs.AmPair.Flow.{Flow, Sends, sender, receiver}
 use Rattle.law_rlc.specs.AmPair.Sdus.{offered, handed_up, ready}
-use Rattle.law_words.specs.Lists.{IsFront}
+use Rattle.law_words.specs.Lists.{AreFirstSdus}
 use Rattle.law_rlc.specs.AmPair.Seen.{seen, in_sequence, GivesTheWhole}
 use Rattle.law_rlc.specs.AmPair.Confirmed.{confirmations, Arrives}
 use Rattle.law_rlc.specs.AmPair.Arrives.{arrives, HasReady, whole_from}
@@ -34,7 +34,7 @@ use Rattle.law_rlc.proofs.AmPair.Steps.{step-offers}
 pub arrived-offered : (f : Flow) (place : ℕ) → IsSound f → arrives f place ≡ true → place < length (offered f)
 arrived-offered f place h e =
     let t = (arrives-there (seen f) place e).ends in
-    let first : IsFront (map octets_of (seen f)) (offered f) = (gives-the-whole f h).first in
+    let first : AreFirstSdus (map octets_of (seen f)) (offered f) = (gives-the-whole f h).first in
     let all = ap (λ (xs : List (List ℕ)). length xs) first.is in
     let l = length-append (map octets_of (seen f)) first.rest in
     let m = length-map (seen f) octets_of in omega (arith, t, all, l, m)
@@ -101,7 +101,7 @@ has-ready f h = record {
     up : handed_up f ++ ready f ≡ in_sequence (seen f)
     up = goes-up-in-sequence f h
 
-    first : IsFront (map octets_of (seen f)) (offered f)
+    first : AreFirstSdus (map octets_of (seen f)) (offered f)
     first = (gives-the-whole f h).first
 
 -- ---- as the life ends

@@ -15,7 +15,7 @@ use Rattle.law_rlc.proofs.AmSender.Dealing.{stream as stream_of}
 use Rattle.rlc_am_rx_window.specs.Cells.{Cell}
 use Rattle.rlc_am_rx_window.specs.Held.{Held, nothing}
 use Rattle.rlc_am_rx_window.specs.Window.{top, slot_at}
-use Rattle.law_rlc.specs.AmReceiver.Run.{has_come, begin}
+use Rattle.law_rlc.specs.AmReceiver.Run.{place_has_come, begin}
 use Rattle.law_rlc.specs.AmReceiver.Finish.{Place, marked, places, cut, all_come, arrived_in}
 use Rattle.law_rlc.specs.AmReceiver.Stream.{stream}
 use Rattle.law_rlc.proofs.AmReceiver.Least.{run-keeps, fresh-keeps}
@@ -305,7 +305,7 @@ acked-come : (f : Flow) → IsSound f → (n : ℕ) → is_acked f n ≡ true
     × ((i : ℕ) → i < length (field_of (sender f).past.sent n) → arrived_in (receiver f) n i ≡ true)
 acked-come f h n a = (
   below,
-  λ i lt. or-come (nat_lt n (receiver f).state.window.front) (has_come (receiver f).kept n i)
+  λ i lt. or-come (nat_lt n (receiver f).state.window.front) (place_has_come (receiver f).kept n i)
       (r.octets i (omega (arith, lt, long))),
 )
   where
@@ -320,7 +320,7 @@ acked-come f h n a = (
     or-come true y e = refl
     or-come false y e = e
 
-    first : has_come (receiver f).kept n 0 ≡ true
+    first : place_has_come (receiver f).kept n 0 ≡ true
     first = r.octets 0 (h.aired n r.sent).some
 
     none-there : (k : ℕ) → length (receiver f).state.window.slots ≤ k
@@ -336,9 +336,9 @@ acked-come f h n a = (
           let m =
           ((run-keeps f.heard (begin f.receiving) (fresh-keeps f.receiving)).agrees.slots_match
           (n - (receiver f).state.window.front)).cells 0 in
-          let here : has_come (receiver f).kept
+          let here : place_has_come (receiver f).kept
           ((receiver f).state.window.front + (n - (receiver f).state.window.front)) 0 ≡ true =
-          ap (λ (k : ℕ). has_come (receiver f).kept k 0) same ∙ first in
+          ap (λ (k : ℕ). place_has_come (receiver f).kept k 0) same ∙ first in
           let no' : false ≡ true = sym (none-there (n - (receiver f).state.window.front) (omega (arith, ge)))
           ∙ (m ∙ here) in cc
     ]

@@ -12,7 +12,7 @@ use Rattle.law_rlc.proofs.AmReceiver.InSequence.{somes_append}
 use Rattle.law_rlc.specs.AmPair.Flow.{Flow, sender, receiver}
 use Rattle.law_rlc.specs.AmPair.Fields.{cells_of, field_of}
 use Rattle.law_rlc.specs.AmPair.Sdus.{offered}
-use Rattle.law_words.specs.Lists.{IsFront}
+use Rattle.law_words.specs.Lists.{AreFirstSdus}
 use Rattle.law_rlc.specs.AmPair.Seen.{seen, GivesTheWhole}
 use Rattle.law_rlc.proofs.AmPair.Sound.{IsSound}
 use Rattle.law_rlc.proofs.AmPair.Fields.{sent-field}
@@ -80,7 +80,7 @@ gives-the-whole f h =
     ∙ cut-ready (places (field_of (sender f).past.sent) (arrived_in (receiver f)) (top (receiver f).state.window)) []
     [] in
     record {
-      first = subst (λ (xs : List (List ℕ)). IsFront xs (offered f)) cells
+      first = subst (λ (xs : List (List ℕ)). AreFirstSdus xs (offered f)) cells
           (begun-front f h (stream (field_of (sender f).past.sent) (top (receiver f).state.window)) (record {
             rest = cells_of (together (drop (top (receiver f).state.window) (sender f).past.sent));
             is = stream-split (sender f).past.sent (field_of (sender f).past.sent) (top (receiver f).state.window)

@@ -21,7 +21,7 @@ use Rattle.law_rlc.specs.AmSender.Run.{Call as SenderCall, Offer, Take, Status, 
 use Rattle.law_rlc.specs.AmSender.Run.{World as SenderWorld}
 use Rattle.law_rlc.specs.AmSender.Octets.{Place as Sent, Octets, octets_by, octets_after}
 use Rattle.law_rlc.specs.AmReceiver.Run.{Call, Arrive, Up, Write, ExpireReorder, ExpireProhibit, TickReorder}
-use Rattle.law_rlc.specs.AmReceiver.Run.{TickProhibit, World, Came, kept_after, has_come, happens as heard_by}
+use Rattle.law_rlc.specs.AmReceiver.Run.{TickProhibit, World, Came, kept_after, place_has_come, happens as heard_by}
 use Rattle.law_rlc.specs.AmReceiver.Finish.{Place, marked, places, cut, all_come, arrived_in}
 use Rattle.law_rlc.proofs.AmReceiver.Order.{top-advanced, kept-length}
 use Rattle.law_rlc.specs.AmPair.Flow.{Copy, Report, Flow, Step, Sends, Receives, Reports, DataComes, StatusComes}
@@ -248,8 +248,8 @@ alike-window f g s w k = (
 
     come : (n i : ℕ) → arrived_in (receiver g) n i ≡ arrived_in (receiver f) n i
     come n i =
-        ap (λ (x : Kept). nat_lt n x.front || has_come (receiver g).kept n i) w
-        ∙ ap (λ (cs : List Came). nat_lt n (receiver f).state.window.front || has_come cs n i) k
+        ap (λ (x : Kept). nat_lt n x.front || place_has_come (receiver g).kept n i) w
+        ∙ ap (λ (cs : List Came). nat_lt n (receiver f).state.window.front || place_has_come cs n i) k
 
 alike-hears : (f g : Flow) (c : Call) → IsReceiving c → sender g ≡ sender f → receiver g ≡ heard_by (receiver f) c
     → Alike f g

@@ -14,7 +14,7 @@ use Rattle.law_rlc.specs.AmReceiver.Run.{Came}
 use Rattle.law_rlc.proofs.AmReceiver.Clash.{none_clashes}
 use Rattle.law_rlc.specs.AmPair.Flow.{Copy, Report, Flow, Step, Sends, Receives, Reports, DataComes, StatusComes}
 use Rattle.law_rlc.specs.AmPair.Flow.{DataGoes, StatusGoes, Passes, sender, receiver, except, older, data_comes}
-use Rattle.law_rlc.specs.AmPair.Flow.{status_comes, happens, goes, outset}
+use Rattle.law_rlc.specs.AmPair.Flow.{status_comes, happens, goes, am_rlc_outset}
 use Rattle.law_rlc.specs.AmPair.Given.{IsYoung, IsGiven, AreGiven}
 use Rattle.law_rlc.specs.AmPair.Fields.{field_of, HearsWhatWasSent, NothingClashes}
 use Rattle.law_rlc.specs.AmPair.Numbers.{KeepsOrder, AckedHasArrived}
@@ -152,7 +152,7 @@ pub goes-sound : (steps : List Step) (f : Flow) → AreGiven f steps → IsSound
 goes-sound [] f g h = h
 goes-sound (s ∷ ss) f g h = goes-sound ss (happens f s) g.1 (happens-sound f s g.0 h)
 
-pub outset-sound : (sending : AmTxConfig) (receiving : AmRxConfig) → IsSound (outset sending receiving)
+pub outset-sound : (sending : AmTxConfig) (receiving : AmRxConfig) → IsSound (am_rlc_outset sending receiving)
 outset-sound sending receiving = record {
   offered = tt;
   keeps = start-keeps sending;
@@ -170,96 +170,99 @@ outset-sound sending receiving = record {
 }
 
 pub sound : (sending : AmTxConfig) (receiving : AmRxConfig) (steps : List Step)
-    → AreGiven (outset sending receiving) steps → IsSound (goes steps (outset sending receiving))
-sound sending receiving steps g = goes-sound steps (outset sending receiving) g (outset-sound sending receiving)
+    → AreGiven (am_rlc_outset sending receiving) steps → IsSound (goes steps (am_rlc_outset sending receiving))
+sound sending receiving steps g = goes-sound steps (am_rlc_outset sending receiving) g (outset-sound sending receiving)
 
 -- ---- the laws
 
 pub keeps-order : KeepsOrder
 keeps-order sending receiving steps g =
-    in-order (goes steps (outset sending receiving)) (sound sending receiving steps g)
+    in-order (goes steps (am_rlc_outset sending receiving)) (sound sending receiving steps g)
 
 pub acked-has-arrived : AckedHasArrived
 acked-has-arrived sending receiving steps n g a =
-    has-arrived (goes steps (outset sending receiving)) n (sound sending receiving steps g) a
+    has-arrived (goes steps (am_rlc_outset sending receiving)) n (sound sending receiving steps g) a
 
 pub reads-each-number : ReadsEachNumber
 reads-each-number sending receiving steps g =
-    let f : Flow = goes steps (outset sending receiving) in
-    let h : IsSound (goes steps (outset sending receiving)) = sound sending receiving steps g in
+    let f : Flow = goes steps (am_rlc_outset sending receiving) in
+    let h : IsSound (goes steps (am_rlc_outset sending receiving)) = sound sending receiving steps g in
     each (IsTrueReport (receiver f).kept (length (sender f).past.sent) f.busy) (IsReadRight (sender f).state)
-    (λ r q. read-right (goes steps (outset sending receiving)) h r q) f.reports h.reports
+    (λ r q. read-right (goes steps (am_rlc_outset sending receiving)) h r q) f.reports h.reports
 
 pub nothing-clashes : NothingClashes
 nothing-clashes sending receiving steps g =
-    let h : IsSound (goes steps (outset sending receiving)) = sound sending receiving steps g in
-    none_clashes (field_of (sender (goes steps (outset sending receiving))).past.sent)
-    (goes steps (outset sending receiving)).receiving (goes steps (outset sending receiving)).heard
-    (are-fields (sender (goes steps (outset sending receiving))).past.sent h.aired)
-    (h.honest (field_of (sender (goes steps (outset sending receiving))).past.sent)
-    (sent-field (sender (goes steps (outset sending receiving))).past.sent))
+    let h : IsSound (goes steps (am_rlc_outset sending receiving)) = sound sending receiving steps g in
+    none_clashes (field_of (sender (goes steps (am_rlc_outset sending receiving))).past.sent)
+    (goes steps (am_rlc_outset sending receiving)).receiving (goes steps (am_rlc_outset sending receiving)).heard
+    (are-fields (sender (goes steps (am_rlc_outset sending receiving))).past.sent h.aired)
+    (h.honest (field_of (sender (goes steps (am_rlc_outset sending receiving))).past.sent)
+    (sent-field (sender (goes steps (am_rlc_outset sending receiving))).past.sent))
 
 pub hears-what-was-sent : HearsWhatWasSent
 hears-what-was-sent sending receiving steps g =
-    let h : IsSound (goes steps (outset sending receiving)) = sound sending receiving steps g in
+    let h : IsSound (goes steps (am_rlc_outset sending receiving)) = sound sending receiving steps g in
     record {
-      stream = flow-stream (goes steps (outset sending receiving)) h;
-      parts = h.honest (field_of (sender (goes steps (outset sending receiving))).past.sent)
-          (sent-field (sender (goes steps (outset sending receiving))).past.sent);
+      stream = flow-stream (goes steps (am_rlc_outset sending receiving)) h;
+      parts = h.honest (field_of (sender (goes steps (am_rlc_outset sending receiving))).past.sent)
+          (sent-field (sender (goes steps (am_rlc_outset sending receiving))).past.sent);
     }
 
 pub hands-up-the-front : HandsUpTheFront
 hands-up-the-front sending receiving steps g =
-    hands-up (goes steps (outset sending receiving)) (sound sending receiving steps g)
+    hands-up (goes steps (am_rlc_outset sending receiving)) (sound sending receiving steps g)
 
 pub finish-gives-the-whole : FinishGivesTheWhole
 finish-gives-the-whole sending receiving steps g =
-    gives-the-whole (goes steps (outset sending receiving)) (sound sending receiving steps g)
+    gives-the-whole (goes steps (am_rlc_outset sending receiving)) (sound sending receiving steps g)
 
 pub confirmed-arrives : ConfirmedArrives
 confirmed-arrives sending receiving steps place g some =
-    arrives (goes steps (outset sending receiving)) place (sound sending receiving steps g) some
+    arrives (goes steps (am_rlc_outset sending receiving)) place (sound sending receiving steps g) some
 
 pub hands-up-in-sequence : HandsUpInSequence
 hands-up-in-sequence sending receiving steps g =
-    goes-up-in-sequence (goes steps (outset sending receiving)) (sound sending receiving steps g)
+    goes-up-in-sequence (goes steps (am_rlc_outset sending receiving)) (sound sending receiving steps g)
 
 pub arrived-was-offered : ArrivedWasOffered
 arrived-was-offered sending receiving steps g =
-    λ place e. arrived-offered (goes steps (outset sending receiving)) place (sound sending receiving steps g) e
+    λ place e. arrived-offered (goes steps (am_rlc_outset sending receiving)) place (sound sending receiving steps g) e
 
 pub arrived-stays : ArrivalsStay
 arrived-stays sending receiving steps g =
-    λ s place given e. arrivals-stay (goes steps (outset sending receiving)) s place (sound sending receiving steps g)
+    λ s place given e. arrivals-stay (goes steps (am_rlc_outset sending receiving)) s place
+    (sound sending receiving steps g)
     given e
 
 pub only-data-arrives : OnlyDataArrives
 only-data-arrives sending receiving steps g =
-    λ s place given e. arrivals-same (goes steps (outset sending receiving)) s place (sound sending receiving steps g)
+    λ s place given e. arrivals-same (goes steps (am_rlc_outset sending receiving)) s place
+    (sound sending receiving steps g)
     given e
 
 pub next-is-ready : NextIsReady
 next-is-ready sending receiving steps g =
-    has-ready (goes steps (outset sending receiving)) (sound sending receiving steps g)
+    has-ready (goes steps (am_rlc_outset sending receiving)) (sound sending receiving steps g)
 
 pub finish-gives-by-places : FinishGivesByPlaces
 finish-gives-by-places sending receiving steps g =
-    finish-places (goes steps (outset sending receiving)) (sound sending receiving steps g)
+    finish-places (goes steps (am_rlc_outset sending receiving)) (sound sending receiving steps g)
 
 pub confirms-what-arrived : ConfirmsWhatArrived
 confirms-what-arrived sending receiving steps g =
-    λ k place e. confirms-arrived (goes steps (outset sending receiving)) k place (sound sending receiving steps g) e
+    λ k place e. confirms-arrived (goes steps (am_rlc_outset sending receiving)) k place
+    (sound sending receiving steps g) e
 
 pub offers-are-sent : OffersAreSent
 offers-are-sent sending receiving steps g =
-    is-offered (goes steps (outset sending receiving)) (sound sending receiving steps g)
+    is-offered (goes steps (am_rlc_outset sending receiving)) (sound sending receiving steps g)
 
 pub hands-up-all : HandsUpAll
 hands-up-all sending receiving steps g =
-    has-all-up (goes steps (outset sending receiving)) (sound sending receiving steps g)
+    has-all-up (goes steps (am_rlc_outset sending receiving)) (sound sending receiving steps g)
 
 pub poll-timer-runs : PollTimerRuns
 poll-timer-runs sending receiving steps g =
-    let f : Flow = goes steps (outset sending receiving) in
+    let f : Flow = goes steps (am_rlc_outset sending receiving) in
     subst (λ (s : State). IsWatched s) (sym (sender-state f))
     (watches f.sending f.sent (sound sending receiving steps g).fair)

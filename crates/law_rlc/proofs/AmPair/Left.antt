@@ -6,13 +6,13 @@ use Rattle.std.proofs.lemmas.List.{append-nil, length-append}
 use Rattle.rlc_am_tx.specs.Machine.{State, turn}
 use Rattle.rlc_am_tx.specs.Need.{left}
 use Rattle.law_rlc.specs.AmSender.Run.{Call as SenderCall, Offer, Take, Status, Tick, Expire, Settle, Confirm, after}
-use Rattle.law_rlc.specs.AmSender.Run.{run as run_sender, begun}
+use Rattle.law_rlc.specs.AmSender.Run.{run_am_sender, begun}
 use Rattle.law_rlc.specs.AmSender.Confirmed.{Confirmations, unconfirmed, confirmations_after, times}
 use Rattle.law_rlc.specs.AmSender.Octets.{nothing_sent, octets_after}
 use Rattle.law_rlc.proofs.AmSender.Left.{leaves-only-unconfirmed}
 use Rattle.law_rlc.specs.AmPair.Flow.{Flow, sender}
 use Rattle.law_rlc.specs.AmPair.Sdus.{offered_in, offered, handed_up, ready}
-use Rattle.law_words.specs.Lists.{IsFront}
+use Rattle.law_words.specs.Lists.{AreFirstSdus}
 use Rattle.law_rlc.specs.AmPair.Seen.{seen}
 use Rattle.law_rlc.specs.AmPair.Confirmed.{confirmations, confirmed, Arrives}
 use Rattle.law_rlc.specs.AmPair.Arrives.{arrives}
@@ -28,7 +28,7 @@ use Rattle.law_rlc.proofs.AmPair.ByPlace.{has-ready}
 -- ---- how many were offered
 
 run-offered : (cs : List SenderCall) (s : State) (g : Confirmations)
-    → (run_sender confirmations_after cs (record { state = s; past = g })).past.offered
+    → (run_am_sender confirmations_after cs (record { state = s; past = g })).past.offered
     ≡ g.offered + length (offered_in cs)
 run-offered [] s g = omega arith
 run-offered (Offer sdu ∷ cs) s g = let ih =
@@ -63,7 +63,7 @@ none-more (x ∷ xs) e = absurd (omega (arith, e))
 
 pub has-all-up : (f : Flow) → IsSound f → HasAllUp f
 has-all-up f h none =
-    let first : IsFront (handed_up f ++ ready f) (offered f) = hands-up f h in
+    let first : AreFirstSdus (handed_up f ++ ready f) (offered f) = hands-up f h in
     let all = ap (λ (xs : List (List ℕ)). length xs) first.is in
     let l = length-append (handed_up f ++ ready f) first.rest in
     let m = length-append (handed_up f) (ready f) in

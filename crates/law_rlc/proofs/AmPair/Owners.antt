@@ -6,7 +6,7 @@ use Rattle.rlc_am_tx.specs.declared.turn.Turn.{Turn}
 use Rattle.rlc_am_tx.specs.declared.turn.Turn.TheVariants as turns
 use Rattle.rlc_am_tx.specs.Machine.{State, turn}
 use Rattle.law_rlc.specs.AmSender.Run.{Call as SenderCall, Offer, Take, Status, Tick, Expire, Settle, Confirm, after}
-use Rattle.law_rlc.specs.AmSender.Run.{run as run_sender, begun}
+use Rattle.law_rlc.specs.AmSender.Run.{run_am_sender, begun}
 use Rattle.law_rlc.specs.AmSender.Octets.{Place, places, Octets, nothing_sent, new_count, octets_by, octets_after}
 use Rattle.law_rlc.specs.AmSender.Acked.{acked_after}
 use Rattle.law_rlc.specs.AmSender.Confirmed.{Confirmations, unconfirmed, sent_by, confirmations_after}
@@ -93,8 +93,8 @@ after-alike s (Settle more) o g h = record { sent = h.sent; unsent = h.unsent }
 after-alike s Confirm o g h = record { sent = h.sent; unsent = h.unsent }
 
 run-alike : (cs : List SenderCall) (s : State) (o : Octets) (g : Confirmations) → Alike o g
-    → Alike (run_sender octets_after cs (record { state = s; past = o })).past
-    (run_sender confirmations_after cs (record { state = s; past = g })).past
+    → Alike (run_am_sender octets_after cs (record { state = s; past = o })).past
+    (run_am_sender confirmations_after cs (record { state = s; past = g })).past
 run-alike [] s o g h = h
 run-alike (c ∷ cs) s o g h =
     run-alike cs (after s c) (octets_after s c o) (confirmations_after s c g) (after-alike s c o g h)
@@ -106,8 +106,8 @@ alike f = run-alike f.sent (begun f.sending nothing_sent).state nothing_sent unc
 -- ---- the same numbers are acknowledged
 
 run-acked : (cs : List SenderCall) (s : State) (g : Confirmations) (a : ℕ → Bool) → g.acked ≡ a
-    → (run_sender confirmations_after cs (record { state = s; past = g })).past.acked
-    ≡ (run_sender acked_after cs (record { state = s; past = a })).past
+    → (run_am_sender confirmations_after cs (record { state = s; past = g })).past.acked
+    ≡ (run_am_sender acked_after cs (record { state = s; past = a })).past
 run-acked [] s g a e = e
 run-acked (c ∷ cs) s g a e =
     run-acked cs (after s c) (confirmations_after s c g) (acked_after s c a)
@@ -146,7 +146,7 @@ turn-marks turns.Shut s size g = (refl, refl)
 turn-marks turns.Held s size g = (refl, refl)
 
 run-marks : (cs : List SenderCall) (s : State) (g : Confirmations)
-    → all_marks (run_sender confirmations_after cs (record { state = s; past = g })).past
+    → all_marks (run_am_sender confirmations_after cs (record { state = s; past = g })).past
     ≡ all_marks g ++ marks g.offered (map length (offered_in cs))
 run-marks [] s g = sym (append-nil (all_marks g))
 run-marks (Offer sdu ∷ cs) s g =

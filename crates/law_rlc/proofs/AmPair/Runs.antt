@@ -3,12 +3,12 @@ use Rattle.std.proofs.Common.{◌≡◌, ℕ, Bool, false, List, [], ◌∷◌, 
 use Rattle.std.specs.List.{AllByRecursion}
 use Rattle.rlc_am_rx_window.specs.Cells.{Cell}
 use Rattle.rlc_am_tx.specs.Machine.{State, start}
-use Rattle.law_rlc.specs.AmSender.Run.{Call as SenderCall, World as SenderWorld, after, run as run_sender, begun}
+use Rattle.law_rlc.specs.AmSender.Run.{Call as SenderCall, World as SenderWorld, after, run_am_sender, begun}
 use Rattle.law_rlc.specs.AmSender.Octets.{nothing_sent, octets_after, HasOctets}
 use Rattle.law_rlc.specs.AmSender.Acked.{acked_after}
 use Rattle.law_rlc.specs.AmSender.Watched.{IsFair, AreFair, state_after}
 use Rattle.law_rlc.specs.AmReceiver.Run.{Call as ReceiverCall, World as ReceiverWorld, happens as heard_by}
-use Rattle.law_rlc.specs.AmReceiver.Run.{run as run_receiver, begin}
+use Rattle.law_rlc.specs.AmReceiver.Run.{run_am_receiver, begin}
 use Rattle.law_rlc.specs.AmReceiver.Status.{BringsSome, BringSome}
 use Rattle.law_rlc.specs.AmReceiver.Stream.{IsHonest, AreHonest}
 use Rattle.law_rlc.specs.AmPair.Flow.{Flow, sender, receiver}
@@ -20,23 +20,23 @@ abbrev pub called : {G : Type 0} → (State → SenderCall → G → G) → Send
 called grow w c = record { state = after w.state c; past = grow w.state c w.past }
 
 run-more : {G : Type 0} (grow : State → SenderCall → G → G) (cs : List SenderCall) (c : SenderCall)
-    (w : SenderWorld G) → run_sender grow (cs ++ c ∷ []) w ≡ called grow (run_sender grow cs w) c
+    (w : SenderWorld G) → run_am_sender grow (cs ++ c ∷ []) w ≡ called grow (run_am_sender grow cs w) c
 run-more grow [] c w = refl
 run-more grow (d ∷ ds) c w = run-more grow ds c (called grow w d)
 
 pub sender-more : (f : Flow) (c : SenderCall)
-    → run_sender octets_after (f.sent ++ c ∷ []) (begun f.sending nothing_sent) ≡ called octets_after (sender f) c
+    → run_am_sender octets_after (f.sent ++ c ∷ []) (begun f.sending nothing_sent) ≡ called octets_after (sender f) c
 sender-more f c = run-more octets_after f.sent c (begun f.sending nothing_sent)
 
 -- the state is the same whatever of the past is kept
 pub same-state : {G : Type 0} {H : Type 0} (f : State → SenderCall → G → G) (g : State → SenderCall → H
     → H) (cs : List SenderCall) (v : SenderWorld G) (w : SenderWorld H) → v.state ≡ w.state
-    → (run_sender f cs v).state ≡ (run_sender g cs w).state
+    → (run_am_sender f cs v).state ≡ (run_am_sender g cs w).state
 same-state f g [] v w e = e
 same-state f g (c ∷ cs) v w e = same-state f g cs (called f v c) (called g w c) (ap (λ (s : State). after s c) e)
 
 run-state : {G : Type 0} (grow : State → SenderCall → G → G) (cs : List SenderCall) (w : SenderWorld G)
-    → (run_sender grow cs w).state ≡ state_after cs w.state
+    → (run_am_sender grow cs w).state ≡ state_after cs w.state
 run-state grow [] w = refl
 run-state grow (c ∷ cs) w = run-state grow cs (called grow w c)
 
@@ -44,7 +44,7 @@ pub sender-state : (f : Flow) → (sender f).state ≡ state_after f.sent (start
 sender-state f = run-state octets_after f.sent (begun f.sending nothing_sent)
 
 pub acked-more : (f : Flow) (c : SenderCall)
-    → (run_sender acked_after (f.sent ++ c ∷ []) (begun f.sending (λ n. false))).past
+    → (run_am_sender acked_after (f.sent ++ c ∷ []) (begun f.sending (λ n. false))).past
     ≡ acked_after (sender f).state c (is_acked f)
 acked-more f c =
     ap (λ (w : SenderWorld (ℕ → Bool)). w.past) (run-more acked_after f.sent c (begun f.sending (λ n. false)))
@@ -64,12 +64,12 @@ fair-more (d ∷ ds) c s h one = (h.0, fair-more ds c (after s d) h.1 one)
 -- ---- the receiver
 
 heard-more : (cs : List ReceiverCall) (c : ReceiverCall) (w : ReceiverWorld)
-    → run_receiver (cs ++ c ∷ []) w ≡ heard_by (run_receiver cs w) c
+    → run_am_receiver (cs ++ c ∷ []) w ≡ heard_by (run_am_receiver cs w) c
 heard-more [] c w = refl
 heard-more (d ∷ ds) c w = heard-more ds c (heard_by w d)
 
 pub receiver-more : (f : Flow) (c : ReceiverCall)
-    → run_receiver (f.heard ++ c ∷ []) (begin f.receiving) ≡ heard_by (receiver f) c
+    → run_am_receiver (f.heard ++ c ∷ []) (begin f.receiving) ≡ heard_by (receiver f) c
 receiver-more f c = heard-more f.heard c (begin f.receiving)
 
 pub some-more : (cs : List ReceiverCall) (c : ReceiverCall) → BringSome cs → BringsSome c → BringSome (cs ++ c ∷ [])
@@ -77,6 +77,7 @@ some-more [] c h one = (one, tt)
 some-more (d ∷ ds) c h one = (h.0, some-more ds c h.1 one)
 
 pub honest-more : (field : ℕ → List Cell) (cs : List ReceiverCall) (c : ReceiverCall) (w : ReceiverWorld)
-    → AreHonest field w.state cs → IsHonest field (run_receiver cs w).state c → AreHonest field w.state (cs ++ c ∷ [])
+    → AreHonest field w.state cs → IsHonest field (run_am_receiver cs w).state c
+    → AreHonest field w.state (cs ++ c ∷ [])
 honest-more field [] c w h one = (one, tt)
 honest-more field (d ∷ ds) c w h one = (h.0, honest-more field ds c (heard_by w d) h.1 one)

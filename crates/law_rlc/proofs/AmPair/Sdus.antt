@@ -20,7 +20,7 @@ use Rattle.law_rlc.proofs.AmReceiver.InSequence.{in_sequence}
 use Rattle.law_rlc.specs.AmPair.Flow.{Flow, sender, receiver}
 use Rattle.law_rlc.specs.AmPair.Fields.{cell_of, cells_of, field_of}
 use Rattle.law_rlc.specs.AmPair.Sdus.{offered, handed_up, ready}
-use Rattle.law_words.specs.Lists.{IsFront}
+use Rattle.law_words.specs.Lists.{AreFirstSdus}
 use Rattle.law_rlc.proofs.AmPair.Sound.{Agree, IsSound}
 use Rattle.law_rlc.proofs.AmPair.Fields.{sent-field, are-fields}
 use Rattle.law_rlc.proofs.AmPair.Whole.{together, whole-stream, have-octets}
@@ -55,25 +55,25 @@ all-sdus (x ∷ xs) h r =
     ∙ ap (λ (s : List (List ℕ)). record { ready = s; part = Some [] }) (append_assoc r (x ∷ []) xs))))
 
 -- what is ready stays so
-pub front-itself : (xs : List (List ℕ)) → IsFront xs xs
+pub front-itself : (xs : List (List ℕ)) → AreFirstSdus xs xs
 front-itself xs = record { rest = []; is = sym (append-nil xs) }
 
-pub front-more : (xs ys zs : List (List ℕ)) → IsFront xs ys → IsFront ys zs → IsFront xs zs
+pub front-more : (xs ys zs : List (List ℕ)) → AreFirstSdus xs ys → AreFirstSdus ys zs → AreFirstSdus xs zs
 front-more xs ys zs f g =
     record {
       rest = f.rest ++ g.rest;
       is = g.is ∙ (ap (λ (s : List (List ℕ)). s ++ g.rest) f.is ∙ append_assoc xs f.rest g.rest);
     }
 
-place-grows : (j : Joined) (x : Option Cell) → IsFront j.ready (with_place j x).ready
+place-grows : (j : Joined) (x : Option Cell) → AreFirstSdus j.ready (with_place j x).ready
 place-grows j None = front-itself j.ready
 place-grows j (Some c) = by c.ends (extended (opened j.part c.begins) (c.octet ∷ []))
   where
-    by : (b : Bool) (part : Option (List ℕ)) → IsFront j.ready (closed b j.ready part).ready
+    by : (b : Bool) (part : Option (List ℕ)) → AreFirstSdus j.ready (closed b j.ready part).ready
     by true part = record { rest = some_sdu part; is = refl }
     by false part = front-itself j.ready
 
-pub joined-grows : (j : Joined) (xs : List (Option Cell)) → IsFront j.ready (joined j xs).ready
+pub joined-grows : (j : Joined) (xs : List (Option Cell)) → AreFirstSdus j.ready (joined j xs).ready
 joined-grows j [] = front-itself j.ready
 joined-grows j (x ∷ xs) =
     front-more j.ready (with_place j x).ready (joined (with_place j x) xs).ready (place-grows j x)
@@ -156,7 +156,7 @@ begun-split f h =
 -- what is put together of them is what was offered first
 pub begun-front : (f : Flow) → IsSound f → (begun : List Cell)
     → IsBegun begun (cells_of (together (sender f).past.sent))
-    → IsFront (joined empty (somes begun)).ready (offered f)
+    → AreFirstSdus (joined empty (somes begun)).ready (offered f)
 begun-front f h begun b =
     let all : cells_of (places_of false (offered f)) ≡ begun ++ (b.rest ++ cells_of (sender f).past.unsent) =
     ap cells_of (sym (whole-stream f))
@@ -169,12 +169,12 @@ begun-front f h begun b =
     ∙ (ap (λ (cs : List (Option Cell)). joined empty cs)
     (sym (somes_append begun (b.rest ++ cells_of (sender f).past.unsent)) ∙ ap somes (sym all))
     ∙ all-sdus (offered f) (have-octets f.sent h.offered) [])) in
-    subst (λ (xs : List (List ℕ)). IsFront (joined empty (somes begun)).ready xs) end'
+    subst (λ (xs : List (List ℕ)). AreFirstSdus (joined empty (somes begun)).ready xs) end'
     (joined-grows (joined empty (somes begun)) (somes (b.rest ++ cells_of (sender f).past.unsent)))
 
-pub hands-up : (f : Flow) → IsSound f → IsFront (handed_up f ++ ready f) (offered f)
+pub hands-up : (f : Flow) → IsSound f → AreFirstSdus (handed_up f ++ ready f) (offered f)
 hands-up f h =
     let q : IsInSequence (field_of (sender f).past.sent) (flow f.heard (initial f.receiving)) =
     in_sequence (field_of (sender f).past.sent) f.receiving f.heard (are-fields (sender f).past.sent h.aired)
     (h.honest (field_of (sender f).past.sent) (sent-field (sender f).past.sent)) in
-    subst (λ (xs : List (List ℕ)). IsFront xs (offered f)) (sym q.sdus) (begun-front f h _ (begun-split f h))
+    subst (λ (xs : List (List ℕ)). AreFirstSdus xs (offered f)) (sym q.sdus) (begun-front f h _ (begun-split f h))

@@ -31,7 +31,8 @@ use Rattle.law_rlc.specs.AmSender.Octets.{IsAgain, IsNone, IsWritten}
 use Rattle.law_rlc.proofs.AmSender.Keys.{key}
 use Rattle.law_rlc.proofs.AmSender.Least.{after-fits}
 use Rattle.law_rlc.proofs.AmSender.Stretches.{range-all}
-use Rattle.law_rlc.proofs.AmSender.Writes.{IsFace, Faces, face-length, face-some, new-face, new-able, after-keeps}
+use Rattle.law_rlc.proofs.AmSender.Writes.{Faces, new-face, new-able, after-keeps}
+use Rattle.law_rlc.proofs.AmSender.Pdus.{IsFace, face-length, face-some}
 use Rattle.law_rlc.proofs.AmSender.Writes.{writes}
 use Rattle.law_rlc.specs.AmPair.Flow.{Copy, Report, Flow, sender, receiver, copies_with, is_new, sends}
 use Rattle.law_rlc.specs.AmPair.Fields.{cells_of}

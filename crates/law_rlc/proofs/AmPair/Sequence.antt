@@ -9,7 +9,7 @@ use Rattle.rlc_am_rx_window.specs.Held.{Held, is_complete, is_full}
 use Rattle.rlc_am_rx_window.specs.Joined.{empty, joined}
 use Rattle.rlc_am_rx_window.specs.Window.{top, slot_at}
 use Rattle.rlc_am_rx.specs.State.{State}
-use Rattle.law_rlc.specs.AmReceiver.Run.{has_come, begin}
+use Rattle.law_rlc.specs.AmReceiver.Run.{place_has_come, begin}
 use Rattle.law_rlc.specs.AmReceiver.Finish.{Place, marked, places, cut, all_come, octets_of, arrived_in}
 use Rattle.law_rlc.specs.AmReceiver.Stream.{flow, initial, stream, stream_to, somes, IsInSequence}
 use Rattle.law_rlc.proofs.AmReceiver.Least.{Keeps, run-keeps, fresh-keeps}
@@ -209,7 +209,7 @@ goes-up-in-sequence f h =
 
     here : (i : ℕ) → come front i ≡ there (slot_at slots 0).cells i
     here i = let z : front + 0 ≡ front = omega arith in
-        rw (le-ltb front front (omega arith)) (ap (λ (n : ℕ). has_come (receiver f).kept n i) (sym z)
+        rw (le-ltb front front (omega arith)) (ap (λ (n : ℕ). place_has_come (receiver f).kept n i) (sym z)
         ∙ sym ((keeps.agrees.slots_match 0).cells i))
 
     -- the places that have arrived, and those behind them

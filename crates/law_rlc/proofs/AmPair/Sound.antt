@@ -8,7 +8,7 @@ use Rattle.rlc_am_rx_window.specs.Cells.{Cell}
 use Rattle.rlc_am_rx_window.specs.Window.{top}
 use Rattle.rlc_am_tx.specs.Machine.{State, start}
 use Rattle.law_rlc.specs.AmSender.Run.{Call as SenderCall, Offer, Take, Status, Tick, Expire, Settle, Confirm}
-use Rattle.law_rlc.specs.AmSender.Run.{World as SenderWorld, run as run_sender, begun}
+use Rattle.law_rlc.specs.AmSender.Run.{World as SenderWorld, run_am_sender, begun}
 use Rattle.law_rlc.specs.AmSender.Namings.{in_part}
 use Rattle.law_rlc.specs.AmSender.Watched.{IsFair, AreFair}
 use Rattle.law_rlc.specs.AmSender.Octets.{Place, Octets, octets_after, written, segment_of, HasOctets}
@@ -123,7 +123,7 @@ pub sent-sound : (f : Flow) (c : SenderCall) (copies : List Copy) (busy : Bool)
 sent-sound f c copies busy h =
     subst
     (λ (w : SenderWorld Octets). Sound w
-    (run_sender acked_after (f.sent ++ c ∷ []) (begun f.sending (λ n. false))).past (receiver f)
+    (run_am_sender acked_after (f.sent ++ c ∷ []) (begun f.sending (λ n. false))).past (receiver f)
     (record f { sent = f.sent ++ c ∷ []; copies = copies; busy = busy })) (sym (sender-more f c))
     (subst (λ (a : ℕ → Bool). Sound (called octets_after (sender f) c) a (receiver f)
     (record f { sent = f.sent ++ c ∷ []; copies = copies; busy = busy })) (sym (acked-more f c)) h)

@@ -19,7 +19,8 @@ use Rattle.law_rlc.specs.AmSender.Namings.{names, in_part}
 use Rattle.law_rlc.specs.AmSender.Octets.{Place}
 use Rattle.law_rlc.specs.AmSender.Watched.{IsHonest}
 use Rattle.law_rlc.proofs.AmSender.Keys.{key}
-use Rattle.law_rlc.proofs.AmSender.Writes.{face-length, after-keeps}
+use Rattle.law_rlc.proofs.AmSender.Writes.{after-keeps}
+use Rattle.law_rlc.proofs.AmSender.Pdus.{face-length}
 use Rattle.rlc_am_rx_window.specs.declared.missing.Missing.{Missing}
 use Rattle.rlc_am_rx_window.specs.Held.{Held}
 use Rattle.rlc_am_rx_window.specs.Missing.{missing_of, missing_below, entry_bits, AreRanges}
@@ -28,7 +29,7 @@ use Rattle.rlc_am_rx_window.proofs.MissingLemmas.{missing_in, ranges_append}
 use Rattle.rlc_am_rx.specs.State.{State}
 use Rattle.rlc_am_rx.specs.Status.{nack_of, listed, fitting, room_in, chosen, ack, nacks}
 use Rattle.law_rlc.specs.AmReceiver.Run.{Write, World, begin, IsComplete, IsOrdered}
-use Rattle.law_rlc.specs.AmReceiver.Bound.{outset as marked}
+use Rattle.law_rlc.specs.AmReceiver.Bound.{marked_outset}
 use Rattle.law_rlc.specs.AmReceiver.Status.{has_entry, IsTrueStatus}
 use Rattle.law_rlc.specs.AmReceiver.Stream.{flow, initial}
 use Rattle.law_rlc.proofs.AmReceiver.Least.{least}
@@ -110,7 +111,7 @@ ack-bound f size t = elim (cases_lt (receiver f).state.bound (ack (receiver f).s
   where
     open' : IsComplete (receiver f).kept (receiver f).state.bound → ⊥
     open' = subst (λ (w : World). IsComplete w.kept w.state.bound
-        → ⊥) (go_world f.heard (marked f.receiving)) (bounded f.receiving f.heard).here
+        → ⊥) (go_world f.heard (marked_outset f.receiving)) (bounded f.receiving f.heard).here
 
     by : (b : Bool) → has_entry (chosen (receiver f).state size) (receiver f).state.bound ≡ b
         → (receiver f).state.bound < ack (receiver f).state size → ⊥

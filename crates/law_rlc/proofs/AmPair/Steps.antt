@@ -22,7 +22,7 @@ use Rattle.law_rlc.specs.AmPair.Flow.{DataGoes, StatusGoes, Passes, data_read, d
 use Rattle.law_rlc.specs.AmPair.Flow.{happens}
 use Rattle.law_rlc.specs.AmPair.Given.{IsReceiving, IsGiven}
 use Rattle.law_rlc.specs.AmPair.Sdus.{offers_with, offered_in, offered, handed_up, ready}
-use Rattle.law_words.specs.Lists.{IsFront}
+use Rattle.law_words.specs.Lists.{AreFirstSdus}
 use Rattle.law_rlc.specs.AmPair.Arrives.{brings}
 use Rattle.law_rlc.specs.AmPair.Steps.{is_up, takes_up, GoesUp, offers}
 use Rattle.law_rlc.proofs.AmPair.Sdus.{front-itself, front-more, joined-grows}
@@ -36,23 +36,23 @@ flow-more (d ∷ ds) c o = flow-more ds c (flows o d)
 abbrev output : Flow → Output
 output f = flow f.heard (initial f.receiving)
 
-handed-grows : (j : Joined) (slots : List Held) (given : ℕ) → IsFront j.ready (handed_on j slots given).ready
+handed-grows : (j : Joined) (slots : List Held) (given : ℕ) → AreFirstSdus j.ready (handed_on j slots given).ready
 handed-grows j [] given = front-itself j.ready
 handed-grows j (h ∷ hs) given =
     by (is_complete h) (joined-grows j (leading (drop given h.cells)))
     (handed-grows (joined j (leading (drop given h.cells))) hs 0)
   where
-    by : (b : Bool) → IsFront j.ready (joined j (leading (drop given h.cells))).ready
-        → IsFront (joined j (leading (drop given h.cells))).ready
+    by : (b : Bool) → AreFirstSdus j.ready (joined j (leading (drop given h.cells))).ready
+        → AreFirstSdus (joined j (leading (drop given h.cells))).ready
         (handed_on (joined j (leading (drop given h.cells))) hs 0).ready
-        → IsFront j.ready (if b then handed_on (joined j (leading (drop given h.cells))) hs 0
+        → AreFirstSdus j.ready (if b then handed_on (joined j (leading (drop given h.cells))) hs 0
         else joined j (leading (drop given h.cells))).ready
     by true own rest =
         front-more j.ready (joined j (leading (drop given h.cells))).ready
         (handed_on (joined j (leading (drop given h.cells))) hs 0).ready own rest
     by false own rest = own
 
-landing-grows : (l : Landed) (s : State) (p : AmdPdu) → IsFront s.out.ready (after_landing l s p).out.ready
+landing-grows : (l : Landed) (s : State) (p : AmdPdu) → AreFirstSdus s.out.ready (after_landing l s p).out.ready
 landing-grows Fresh s p = handed-grows s.out (window_with s.window p).slots (window_with s.window p).given
 landing-grows Repeat s p = front-itself s.out.ready
 landing-grows Outside s p = front-itself s.out.ready
@@ -103,7 +103,7 @@ step-rests f Passes given e b = (refl, refl)
 
 -- a data PDU adds to what is ready
 abbrev Grows : Flow → Flow → Type 0
-Grows f g = (handed_up g ≡ handed_up f) × IsFront (ready f) (ready g)
+Grows f g = (handed_up g ≡ handed_up f) × AreFirstSdus (ready f) (ready g)
 
 data-grows : (f : Flow) (o : Option Copy) → Grows f (data_comes f o)
 data-grows f None = (refl, front-itself (ready f))
@@ -114,14 +114,14 @@ data-grows f (Some c) = by (am_at c.octets)
         let o : output (data_read f (Ok (Payload pdu))) ≡ flows (output f) (Arrive pdu) =
         flow-more f.heard (Arrive pdu) (initial f.receiving) in (
           ap (λ (x : Output). x.gone) o,
-          subst (λ (x : Output). IsFront (ready f) x.state.out.ready) (sym o)
+          subst (λ (x : Output). AreFirstSdus (ready f) x.state.out.ready) (sym o)
               (landing-grows (landed (output f).state pdu) (output f).state pdu),
         )
     by (Ok (Control pdu)) = (refl, front-itself (ready f))
     by (Err refused) = (refl, front-itself (ready f))
 
 rests-grows : (f g : Flow) → Rests f g → Grows f g
-rests-grows f g r = (r.0, subst (λ (xs : List (List ℕ)). IsFront (ready f) xs) (sym r.1) (front-itself (ready f)))
+rests-grows f g r = (r.0, subst (λ (xs : List (List ℕ)). AreFirstSdus (ready f) xs) (sym r.1) (front-itself (ready f)))
 
 step-grows : (f : Flow) (s : Step) → IsGiven f s → takes_up s ≡ false → Grows f (happens f s)
 step-grows f (Sends c) given e = rests-grows f (happens f (Sends c)) (step-rests f (Sends c) given e refl)

@@ -11,7 +11,7 @@ use Rattle.rlc_am_tx.specs.declared.turn.Turn.{Turn}
 use Rattle.rlc_am_tx.specs.declared.turn.Turn.TheVariants as turns
 use Rattle.rlc_am_tx.specs.Machine.{State, turn}
 use Rattle.law_rlc.specs.AmSender.Run.{Call as SenderCall, Offer, Take, Status, Tick, Expire, Settle, Confirm}
-use Rattle.law_rlc.specs.AmSender.Run.{World as SenderWorld, run as run_sender, begun}
+use Rattle.law_rlc.specs.AmSender.Run.{World as SenderWorld, run_am_sender, begun}
 use Rattle.law_rlc.specs.AmSender.Octets.{Place, places, first_begins, last_ends, Octets, nothing_sent, new_count}
 use Rattle.law_rlc.specs.AmSender.Octets.{octets_by, octets_after, HasOctets}
 use Rattle.law_rlc.proofs.AmSender.Stretches.{Joined, first-at, last-at}
@@ -55,7 +55,7 @@ turn-places turns.Shut s size o = refl
 turn-places turns.Held s size o = refl
 
 run-places : (cs : List SenderCall) (w : SenderWorld Octets)
-    → all_places (run_sender octets_after cs w).past ≡ all_places w.past ++ stream false (offered_in cs)
+    → all_places (run_am_sender octets_after cs w).past ≡ all_places w.past ++ stream false (offered_in cs)
 run-places [] w = sym (append-nil (all_places w.past))
 run-places (Offer sdu ∷ cs) w =
     run-places cs (called octets_after w (Offer sdu))

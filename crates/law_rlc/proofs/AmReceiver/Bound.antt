@@ -16,7 +16,7 @@ use Rattle.rlc_am_rx.specs.Machine.{landed, after_landing, after_reorder, window
 use Rattle.rlc_am_rx.specs.Machine.{bound_moved}
 use Rattle.law_rlc.specs.AmReceiver.Run.{Call, Arrive, Up, Write, ExpireReorder, ExpireProhibit, TickReorder}
 use Rattle.law_rlc.specs.AmReceiver.Run.{TickProhibit, Came, came_of, kept_after, IsComplete}
-use Rattle.law_rlc.specs.AmReceiver.Bound.{Marked, greatest, goes, go, outset, IsBound}
+use Rattle.law_rlc.specs.AmReceiver.Bound.{Marked, greatest, goes, go, marked_outset, IsBound}
 use Rattle.law_rlc.proofs.AmReceiver.Order.{MarkBelow, InOrder, call-order, fresh-order, top-advanced, kept-length}
 use Rattle.law_rlc.proofs.AmReceiver.Least.{Agrees, Keeps, happens-keeps, fresh-keeps, kept-agrees, popped-stops}
 use Rattle.law_rlc.proofs.AmReceiver.Least.{complete-by, full-by, still-complete}
@@ -222,7 +222,7 @@ pub go-bounded : (calls : List Call) (m : Marked) → Bounded m → Bounded (go 
 go-bounded [] m b = b
 go-bounded (c ∷ cs) m b = go-bounded cs (goes m c) (goes-bounded m c b)
 
-pub outset-bounded : (config : AmRxConfig) → Bounded (outset config)
+pub outset-bounded : (config : AmRxConfig) → Bounded (marked_outset config)
 outset-bounded config = record {
   keeps = fresh-keeps config;
   order = fresh-order config;
@@ -231,5 +231,5 @@ outset-bounded config = record {
   top = omega arith;
 }
 
-pub bounded : (config : AmRxConfig) (calls : List Call) → IsBound (go calls (outset config))
-bounded config calls = (go-bounded calls (outset config) (outset-bounded config)).first
+pub bounded : (config : AmRxConfig) (calls : List Call) → IsBound (go calls (marked_outset config))
+bounded config calls = (go-bounded calls (marked_outset config) (outset-bounded config)).first

@@ -17,7 +17,7 @@ use Rattle.rlc_am_rx.specs.Machine.{landed, after_landing, after_reorder, window
 use Rattle.rlc_am_rx.specs.Machine.{poll_below}
 use Rattle.law_rlc.specs.AmReceiver.Run.{Call, Arrive, Up, Write, ExpireReorder, ExpireProhibit, TickReorder}
 use Rattle.law_rlc.specs.AmReceiver.Run.{TickProhibit, state_after, number_read}
-use Rattle.law_rlc.specs.AmReceiver.Bound.{Marked, goes, outset}
+use Rattle.law_rlc.specs.AmReceiver.Bound.{Marked, goes, marked_outset}
 use Rattle.law_rlc.specs.AmReceiver.Due.{Asked, some_below, not_below, with_poll, asked_on, asked_at, asks, ask}
 use Rattle.law_rlc.specs.AmReceiver.Due.{unasked}
 use Rattle.law_rlc.proofs.AmReceiver.Order.{first-least}
@@ -315,5 +315,5 @@ run-good (c ∷ cs) m a same b g =
 pub due_where_asked : (config : AmRxConfig) (calls : List Call)
     → (ask calls (unasked config)).state.due ≡ (ask calls (unasked config)).asked
 due_where_asked config calls =
-    (run-good calls (outset config) (unasked config) refl (outset-bounded config)
+    (run-good calls (marked_outset config) (unasked config) refl (outset-bounded config)
     (record { due = refl; polls = λ n h. refl; above = λ n h. cc })).due

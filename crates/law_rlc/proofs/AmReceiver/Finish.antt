@@ -10,7 +10,7 @@ use Rattle.rlc_am_rx_window.specs.Held.{Held, has_end, ends_at}
 use Rattle.rlc_am_rx_window.specs.Joined.{Joined, empty, joined, broken}
 use Rattle.rlc_am_rx_window.specs.Window.{slot_at, broken_unless, salvaged}
 use Rattle.rlc_am_rx.specs.State.{State}
-use Rattle.law_rlc.specs.AmReceiver.Run.{Call, World, state_after, happens, run, begin}
+use Rattle.law_rlc.specs.AmReceiver.Run.{Call, World, state_after, happens, run_am_receiver, begin}
 use Rattle.law_rlc.specs.AmReceiver.Stream.{AreHonest, Flow, flows, flow, initial, stream, somes}
 use Rattle.law_rlc.specs.AmReceiver.Finish.{IsStream, Place, marked, places, arrived_in, IsFinished}
 use Rattle.law_rlc.proofs.AmReceiver.Places.{there}
@@ -292,19 +292,19 @@ finished_by field is w gone k f = record {
         ∙ ap (λ (cs : List (Option Cell)). map held (places field come front) ++ cs) lead)
 
 pub same_state : (calls : List Call) (f : Flow) (w : World) → f.state ≡ w.state
-    → (flow calls f).state ≡ (run calls w).state
+    → (flow calls f).state ≡ (run_am_receiver calls w).state
 same_state [] f w e = e
 same_state (c ∷ cs) f w e = same_state cs (flows f c) (happens w c) (ap (λ (s : State). state_after s c) e)
 
 pub finishes : (field : ℕ → List Cell) (config : AmRxConfig) (calls : List Call) → IsStream field
     → AreHonest field (initial config).state calls
-    → IsFinished field (run calls (begin config)) (flow calls (initial config)).gone
+    → IsFinished field (run_am_receiver calls (begin config)) (flow calls (initial config)).gone
 finishes field config calls is honest =
     let h : Flows field (flow calls (initial config)) =
     flow-flows field calls (initial config) honest (initial-flows field config is.fields) in
-    let same : (flow calls (initial config)).state ≡ (run calls (begin config)).state =
+    let same : (flow calls (initial config)).state ≡ (run_am_receiver calls (begin config)).state =
     same_state calls (initial config) (begin config) refl in
-    finished_by field is (run calls (begin config)) (flow calls (initial config)).gone
+    finished_by field is (run_am_receiver calls (begin config)) (flow calls (initial config)).gone
     (run-keeps calls (begin config) (fresh-keeps config))
     (subst (λ (s : State). Flows field (record { state = s; gone = (flow calls (initial config)).gone })) same
     (record { fits = h.fits; given = h.given; total = h.total }))

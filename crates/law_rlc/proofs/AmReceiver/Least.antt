@@ -16,13 +16,14 @@ use Rattle.rlc_am_rx_window.specs.Window.{Kept, offset_of, complete_first, widen
 use Rattle.rlc_am_rx.specs.State.{State}
 use Rattle.rlc_am_rx.specs.Machine.{landed, after_landing, after_reorder, window_with}
 use Rattle.law_rlc.specs.AmReceiver.Run.{Call, Arrive, Up, Write, ExpireReorder, ExpireProhibit, TickReorder}
-use Rattle.law_rlc.specs.AmReceiver.Run.{TickProhibit, World, Came, came_of, kept_after, happens, run, begin, covers}
-use Rattle.law_rlc.specs.AmReceiver.Run.{has_come, told, told_by, IsComplete, IsFirst}
+use Rattle.law_rlc.specs.AmReceiver.Run.{TickProhibit, World, Came, came_of, kept_after, happens, run_am_receiver}
+use Rattle.law_rlc.specs.AmReceiver.Run.{begin, covers}
+use Rattle.law_rlc.specs.AmReceiver.Run.{place_has_come, told, size_told_by, IsComplete, IsFirst}
 use Rattle.law_rlc.proofs.AmReceiver.Places.{there, get_or-padded, laid_there, holds-each, each-holds}
 
 -- what is held of a number is what has come of it
 pub record Matches (ps : List Came) (n : ℕ) (h : Held) : Type 0 where
-  pub cells : (i : ℕ) → there h.cells i ≡ has_come ps n i
+  pub cells : (i : ℕ) → there h.cells i ≡ place_has_come ps n i
   pub size : h.size ≡ told ps n
 
 pub record Agrees (ps : List Came) (front : ℕ) (slots : List Held) : Type 0 where
@@ -31,12 +32,12 @@ pub record Agrees (ps : List Came) (front : ℕ) (slots : List Held) : Type 0 wh
 
 -- a length and cells that match the pieces, and are full: the number is complete
 pub complete-by : (ps : List Came) (n : ℕ) (cells : List (Option Cell)) (size : Option ℕ) → size ≡ told ps n
-    → ((i : ℕ) → there cells i ≡ has_come ps n i) → is_full cells size ≡ true → IsComplete ps n
+    → ((i : ℕ) → there cells i ≡ place_has_come ps n i) → is_full cells size ≡ true → IsComplete ps n
 complete-by ps n cells None e m full = cc
 complete-by ps n cells (Some size) e m full = (size, sym e, λ i below. sym (m i) ∙ holds-each cells size full i below)
 
 pub full-by : (ps : List Came) (n : ℕ) (cells : List (Option Cell)) (size : Option ℕ) → size ≡ told ps n
-    → ((i : ℕ) → there cells i ≡ has_come ps n i) → IsComplete ps n → is_full cells size ≡ true
+    → ((i : ℕ) → there cells i ≡ place_has_come ps n i) → IsComplete ps n → is_full cells size ≡ true
 full-by ps n cells None e m done = let same = e ∙ done.1 in cc
 full-by ps n cells (Some size) e m done =
     let same : Some size ≡ Some done.0 = e ∙ done.1 in
@@ -47,9 +48,9 @@ full-by ps n cells (Some size) e m done =
 pub still-complete : (ps : List Came) (p : Came) (n : ℕ) → IsComplete ps n → IsComplete (p ∷ ps) n
 still-complete ps p n done = (
   done.0,
-  ap (λ o. told_by o p n) done.1,
-  λ i below. let was : has_come ps n i ≡ true = done.2 i below in
-      or_right (covers p n i) (has_come ps n i) was,
+  ap (λ o. size_told_by o p n) done.1,
+  λ i below. let was : place_has_come ps n i ≡ true = done.2 i below in
+      or_right (covers p n i) (place_has_come ps n i) was,
 )
 
 -- a piece of another number changes nothing of this one
@@ -59,11 +60,11 @@ matches-other ps p n h other m =
     let not_n : (p.number == n) ≡ false = ne_eqb p.number n other in
     record {
       cells = λ i. m.cells i
-          ∙ sym (ap (λ b. (b && (nat_le p.piece.so i && nat_lt i (end_of p.piece))) || has_come ps n i) not_n);
+          ∙ sym (ap (λ b. (b && (nat_le p.piece.so i && nat_lt i (end_of p.piece))) || place_has_come ps n i) not_n);
       size = m.size ∙ sym (unchanged (told ps n) not_n);
     }
   where
-    unchanged : (o : Option ℕ) → (p.number == n) ≡ false → told_by o p n ≡ o
+    unchanged : (o : Option ℕ) → (p.number == n) ≡ false → size_told_by o p n ≡ o
     unchanged None not_n = grind (arith, common_steps, not_n)
     unchanged (Some x) not_n = refl
 
@@ -73,12 +74,12 @@ matches-same ps n p poll h m =
     let is_n : (n == n) ≡ true = eq-eqb n n refl in
     record {
       cells = λ i. laid_there h.cells p.so p.cells i ∙ ap (λ b. (nat_le p.so i && nat_lt i (end_of p)) || b) (m.cells i)
-          ∙ sym (ap (λ b. (b && (nat_le p.so i && nat_lt i (end_of p))) || has_come ps n i) is_n);
+          ∙ sym (ap (λ b. (b && (nat_le p.so i && nat_lt i (end_of p))) || place_has_come ps n i) is_n);
       size = ap (λ o. told_size o p.last (end_of p)) m.size ∙ sizes (told ps n) is_n;
     }
   where
     sizes : (o : Option ℕ) → (n == n) ≡ true
-        → told_size o p.last (end_of p) ≡ told_by o (record { number = n; piece = p }) n
+        → told_size o p.last (end_of p) ≡ size_told_by o (record { number = n; piece = p }) n
     sizes None is_n = grind (arith, common_steps, is_n)
     sizes (Some x) is_n = refl
 
@@ -206,7 +207,7 @@ happens-keeps w ExpireProhibit k = record { agrees = k.agrees; stops = k.stops }
 happens-keeps w TickReorder k = record { agrees = k.agrees; stops = k.stops }
 happens-keeps w TickProhibit k = record { agrees = k.agrees; stops = k.stops }
 
-pub run-keeps : (calls : List Call) (w : World) → Keeps w → Keeps (run calls w)
+pub run-keeps : (calls : List Call) (w : World) → Keeps w → Keeps (run_am_receiver calls w)
 run-keeps [] w k = k
 run-keeps (c ∷ cs) w k = run-keeps cs (happens w c) (happens-keeps w c k)
 
@@ -216,8 +217,8 @@ fresh-keeps config = record {
   stops = refl;
 }
 
-pub least : (config : AmRxConfig) (calls : List Call) → IsFirst (run calls (begin config))
+pub least : (config : AmRxConfig) (calls : List Call) → IsFirst (run_am_receiver calls (begin config))
 least config calls =
-    let k : Keeps (run calls (begin config)) = run-keeps calls (begin config) (fresh-keeps config) in
-    let w : World = run calls (begin config) in
+    let k : Keeps (run_am_receiver calls (begin config)) = run-keeps calls (begin config) (fresh-keeps config) in
+    let w : World = run_am_receiver calls (begin config) in
     record { below = k.agrees.below; here = least-by w.kept w.state.window.front w.state.window.slots k.agrees k.stops }

@@ -14,7 +14,7 @@ use Rattle.rlc_am_rx_window.specs.Window.{advanced, slot_at}
 use Rattle.rlc_am_rx.specs.State.{State}
 use Rattle.rlc_am_rx.specs.Machine.{landed, after_landing, after_reorder, settled, window_with, mark_left, mark_begun}
 use Rattle.law_rlc.specs.AmReceiver.Run.{Call, Arrive, Up, Write, ExpireReorder, ExpireProhibit, TickReorder}
-use Rattle.law_rlc.specs.AmReceiver.Run.{TickProhibit, World, state_after, happens, run, begin, IsOrdered}
+use Rattle.law_rlc.specs.AmReceiver.Run.{TickProhibit, World, state_after, happens, run_am_receiver, begin, IsOrdered}
 
 -- a mark is a number that VR(H) has been
 abbrev pub MarkBelow : Option ℕ → ℕ → Type 0
@@ -99,13 +99,13 @@ call-order s ExpireProhibit h = record { front = h.front; bound = h.bound; mark 
 call-order s TickReorder h = record { front = h.front; bound = h.bound; mark = h.mark }
 call-order s TickProhibit h = record { front = h.front; bound = h.bound; mark = h.mark }
 
-run-order : (calls : List Call) (w : World) → InOrder w.state → InOrder (run calls w).state
+run-order : (calls : List Call) (w : World) → InOrder w.state → InOrder (run_am_receiver calls w).state
 run-order [] w h = h
 run-order (c ∷ cs) w h = run-order cs (happens w c) (call-order w.state c h)
 
 pub fresh-order : (config : AmRxConfig) → InOrder (begin config).state
 fresh-order config = record { front = omega arith; bound = omega arith; mark = tt }
 
-pub ordered : (config : AmRxConfig) (calls : List Call) → IsOrdered (run calls (begin config))
-ordered config calls = let h : InOrder (run calls (begin config)).state =
+pub ordered : (config : AmRxConfig) (calls : List Call) → IsOrdered (run_am_receiver calls (begin config))
+ordered config calls = let h : InOrder (run_am_receiver calls (begin config)).state =
     run-order calls (begin config) (fresh-order config) in record { front = h.front; bound = h.bound }

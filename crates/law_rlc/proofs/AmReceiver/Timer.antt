@@ -11,7 +11,7 @@ use Rattle.rlc_am_rx.specs.State.{State}
 use Rattle.rlc_am_rx.specs.Machine.{landed, after_landing, after_reorder, window_with, bound_moved, stops, mark_left}
 use Rattle.rlc_am_rx.specs.Machine.{starts, mark_begun, clock_left, clock_begun}
 use Rattle.law_rlc.specs.AmReceiver.Run.{Call, Arrive, Up, Write, ExpireReorder, ExpireProhibit, TickReorder}
-use Rattle.law_rlc.specs.AmReceiver.Run.{TickProhibit, World, state_after, happens, run, begin}
+use Rattle.law_rlc.specs.AmReceiver.Run.{TickProhibit, World, state_after, happens, run_am_receiver, begin}
 
 abbrev pub Runs : State → Type 0
 Runs s = runs s.reorder ≡ is_some s.mark
@@ -61,10 +61,11 @@ call-runs s ExpireProhibit h = h
 call-runs s TickReorder h = counted-runs s.reorder.left ∙ h
 call-runs s TickProhibit h = h
 
-run-runs : (calls : List Call) (w : World) → Runs w.state → Runs (run calls w).state
+run-runs : (calls : List Call) (w : World) → Runs w.state → Runs (run_am_receiver calls w).state
 run-runs [] w h = h
 run-runs (c ∷ cs) w h = run-runs cs (happens w c) (call-runs w.state c h)
 
 pub runs_with_mark : (config : AmRxConfig) (calls : List Call)
-    → runs (run calls (begin config)).state.reorder ≡ is_some (run calls (begin config)).state.mark
+    → runs (run_am_receiver calls (begin config)).state.reorder
+    ≡ is_some (run_am_receiver calls (begin config)).state.mark
 runs_with_mark config calls = run-runs calls (begin config) refl

@@ -11,8 +11,9 @@ use Rattle.rlc_am_rx_window.specs.Held.{Held, is_complete, is_full, has_end, end
 use Rattle.rlc_am_rx_window.specs.Window.{top, slot_at}
 use Rattle.rlc_am_rx_window.specs.Missing.{runs, whole, of_part, missing_of, missing_below, entry_bits, entries_bits}
 use Rattle.rlc_am_rx.specs.Status.{fitting, room_in, last_number, next_number, number_of, ack_behind, ack}
-use Rattle.law_rlc.specs.AmReceiver.Run.{Call, World, Came, happens, run, begin, has_come, told, IsComplete}
-use Rattle.law_rlc.specs.AmReceiver.Bound.{Marked, goes, go, outset}
+use Rattle.law_rlc.specs.AmReceiver.Run.{Call, World, Came, happens, run_am_receiver, begin, place_has_come, told}
+use Rattle.law_rlc.specs.AmReceiver.Run.{IsComplete}
+use Rattle.law_rlc.specs.AmReceiver.Bound.{Marked, goes, go, marked_outset}
 use Rattle.law_rlc.specs.AmReceiver.Status.{BringSome, AreGaps, IsSaid, Complete, Nothing, Ranges, AreSaid, has_entry}
 use Rattle.law_rlc.specs.AmReceiver.Status.{IsTrueStatus}
 use Rattle.law_rlc.proofs.AmReceiver.Places.{there, each-holds}
@@ -28,11 +29,11 @@ ends_as_told None have sized = refl
 ends_as_told (Some n) have sized = let e : n ≡ have = sized n refl in rw (eq-eqb n have e) (ap (λ (k : ℕ). Some k) e)
 
 gaps_of : (ps : List Came) (n : ℕ) (h : Held) → Matches ps n h → SlotWell h
-    → AreGaps (has_come ps n) (told ps n) 0 (runs h.cells 0 None (has_end h))
+    → AreGaps (place_has_come ps n) (told ps n) 0 (runs h.cells 0 None (has_end h))
 gaps_of ps n h m w =
     let z : 0 + length h.cells ≡ length h.cells = omega arith in
-    subst (λ (o : Option ℕ). AreGaps (has_come ps n) o 0 (runs h.cells 0 None (has_end h))) m.size
-    (runs_are_gaps (has_come ps n) h.size h.cells 0 None 0 (has_end h) (λ j. let e : 0 + j ≡ j = omega arith in
+    subst (λ (o : Option ℕ). AreGaps (place_has_come ps n) o 0 (runs h.cells 0 None (has_end h))) m.size
+    (runs_are_gaps (place_has_come ps n) h.size h.cells 0 None 0 (has_end h) (λ j. let e : 0 + j ≡ j = omega arith in
     rw e (sym (m.cells j))) (rw z (ends_as_told h.size (length h.cells) w.sized)) (
       omega arith,
       λ i a l. absurd (omega (arith, a, l)),
@@ -52,7 +53,7 @@ said ps n h m w = go (is_complete h) refl h.cells refl
     go false part [] e =
         Nothing (open_number part) (λ i. sym (m.cells i) ∙ ap (λ (cs : List (Option Cell)). there cs i) e) refl
     go false part (c ∷ cs) e =
-        let some : has_come ps n (length cs) ≡ true = sym (m.cells (length cs))
+        let some : place_has_come ps n (length cs) ≡ true = sym (m.cells (length cs))
         ∙ w.last (length cs) (ap (λ (xs : List (Option Cell)). length xs) e) in
         let many : (suc (length cs) == 0) ≡ false = ne_eqb (suc (length cs)) 0 (λ e. omega (arith, e)) in
         rw many (Ranges (open_number part) (length cs) some (runs h.cells 0 None (has_end h)) refl (gaps_of ps n h m w))
@@ -501,21 +502,22 @@ true_by m size b well = record {
         go false part =
             absurd (none (entry_of slots front bound n well from below (omega (arith, below, b.order.bound)) part))
 
-pub go_world : (calls : List Call) (m : Marked) → (go calls m).world ≡ run calls m.world
+pub go_world : (calls : List Call) (m : Marked) → (go calls m).world ≡ run_am_receiver calls m.world
 go_world [] m = refl
 go_world (c ∷ cs) m = go_world cs (goes m c)
 
 run_well : (calls : List Call) (w : World) → BringSome calls → Well w.state.window.slots
-    → Well (run calls w).state.window.slots
+    → Well (run_am_receiver calls w).state.window.slots
 run_well [] w some well = well
 run_well (c ∷ cs) w some well = run_well cs (happens w c) some.1 (call-well w.state c some.0 well)
 
 pub true_status : (config : AmRxConfig) (calls : List Call) (size : ℕ) → BringSome calls
-    → IsTrueStatus (run calls (begin config)) size
+    → IsTrueStatus (run_am_receiver calls (begin config)) size
 true_status config calls size some =
-    let same : (go calls (outset config)).world ≡ run calls (begin config) = go_world calls (outset config) in
-    let well : Well (run calls (begin config)).state.window.slots =
+    let same : (go calls (marked_outset config)).world ≡ run_am_receiver calls (begin config) =
+        go_world calls (marked_outset config) in
+    let well : Well (run_am_receiver calls (begin config)).state.window.slots =
     run_well calls (begin config) some (λ k. nothing-well) in
     subst (λ (w : World). IsTrueStatus w size) same
-    (true_by (go calls (outset config)) size (go-bounded calls (outset config) (outset-bounded config))
+    (true_by (go calls (marked_outset config)) size (go-bounded calls (marked_outset config) (outset-bounded config))
     (subst (λ (w : World). Well w.state.window.slots) (sym same) well))

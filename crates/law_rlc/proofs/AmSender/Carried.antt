@@ -15,7 +15,8 @@ use Rattle.rlc_am_tx.specs.Machine.{State, turn, after_turn, after_status, after
 use Rattle.rlc_am_tx.specs.Machine.{is_wanted, again, first_place, sent_whole, sent_segment, sent_new, new_slot, ended}
 use Rattle.rlc_am_tx.specs.Machine.{limit_of, stops, read, read_window, applied, with_recalled, with_owed, expired}
 use Rattle.rlc_am_tx.specs.Machine.{recalled_place, expiry_limit, settled_by, settles}
-use Rattle.law_rlc.specs.AmSender.Run.{Call, Offer, Take, Status, Tick, Expire, Settle, Confirm, World, after, run}
+use Rattle.law_rlc.specs.AmSender.Run.{Call, Offer, Take, Status, Tick, Expire, Settle, Confirm, World, after}
+use Rattle.law_rlc.specs.AmSender.Run.{run_am_sender}
 use Rattle.law_rlc.specs.AmSender.Run.{begun}
 use Rattle.law_rlc.specs.AmSender.Stream.{Streams, streams_by, streams_after, IsCarried, CarriesTheStream}
 use Rattle.law_rlc.proofs.AmSender.Slots.{leading-length}
@@ -146,7 +147,7 @@ after-carries s (Expire more) p h = expiry-carries (runs s.polls.timer) s more p
 after-carries s (Settle more) p h = settled-carries (settles s more) s p h
 after-carries s Confirm p h = same s (after s Confirm) p refl refl h
 
-run-carries : (calls : List Call) (w : World Streams) → IsCarried w → IsCarried (run streams_after calls w)
+run-carries : (calls : List Call) (w : World Streams) → IsCarried w → IsCarried (run_am_sender streams_after calls w)
 run-carries [] w h = h
 run-carries (c ∷ cs) w h =
     run-carries cs (record { state = after w.state c; past = streams_after w.state c w.past })

@@ -20,7 +20,8 @@ use Rattle.rlc_am_tx.specs.Machine.{is_wanted, again, first_place, sent_whole, s
 use Rattle.rlc_am_tx.specs.Machine.{new_elements, new_partial, ended_in, ended, limit_of, stops, read, applied}
 use Rattle.rlc_am_tx.specs.Machine.{with_recalled, with_owed, expired, recalled_place, expiry_limit, settled_by}
 use Rattle.rlc_am_tx.specs.Machine.{settles}
-use Rattle.law_rlc.specs.AmSender.Run.{Call, Offer, Take, Status, Tick, Expire, Settle, Confirm, World, after, run}
+use Rattle.law_rlc.specs.AmSender.Run.{Call, Offer, Take, Status, Tick, Expire, Settle, Confirm, World, after}
+use Rattle.law_rlc.specs.AmSender.Run.{run_am_sender}
 use Rattle.law_rlc.specs.AmSender.Run.{begun}
 use Rattle.law_rlc.specs.AmSender.Acked.{acked_after}
 use Rattle.law_rlc.specs.AmSender.Confirmed.{Confirmations, unconfirmed, with_sent, sent_by, with_given}
@@ -31,7 +32,8 @@ use Rattle.law_rlc.proofs.AmSender.Least.{Fits, after-fits, fresh-fits, heard_sl
 use Rattle.law_rlc.proofs.AmSender.Credits.{one, octets_at, at-append, times-append, ascends}
 use Rattle.law_rlc.proofs.AmSender.Keys.{Key, key, keys, set-keys, heard-keys, append-keys, Chained, chain-end}
 use Rattle.law_rlc.proofs.AmSender.Keys.{chain-drop}
-use Rattle.law_rlc.proofs.AmSender.Books.{Books, books_after, Follows, marks, map-end, map-long, unacked_in, unacked}
+use Rattle.law_rlc.proofs.AmSender.Books.{Follows, marks, map-end, map-long}
+use Rattle.law_rlc.proofs.AmSender.Owed.{Books, books_after, unacked_in, unacked}
 use Rattle.law_rlc.proofs.AmSender.Books.{dealt, after-follows, after-later}
 
 -- ---- octets by their SDU
@@ -457,7 +459,7 @@ confirmed-of w b k = record {
     most false = omega arith
 
 run-confirmed : (calls : List Call) (w : World Confirmations) (b : Books) → Keeps w.state w.past b
-    → AreConfirmed (run confirmations_after calls w)
+    → AreConfirmed (run_am_sender confirmations_after calls w)
 run-confirmed [] w b k = confirmed-of w b k
 run-confirmed (c ∷ cs) w b k =
     run-confirmed cs (record { state = after w.state c; past = confirmations_after w.state c w.past })

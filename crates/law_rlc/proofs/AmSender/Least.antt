@@ -20,7 +20,8 @@ use Rattle.rlc_am_tx.specs.Machine.{State, start, turn, after_turn, after_status
 use Rattle.rlc_am_tx.specs.Machine.{is_ignored, with_poll, is_wanted, again, sent_whole, sent_segment, first_place}
 use Rattle.rlc_am_tx.specs.Machine.{sent_new, new_slot, ended, limit_of, stops, read, applied, with_recalled, with_owed}
 use Rattle.rlc_am_tx.specs.Machine.{expired, recalled_place, expiry_limit}
-use Rattle.law_rlc.specs.AmSender.Run.{Call, Offer, Take, Status, Tick, Expire, Settle, Confirm, World, after, run}
+use Rattle.law_rlc.specs.AmSender.Run.{Call, Offer, Take, Status, Tick, Expire, Settle, Confirm, World, after}
+use Rattle.law_rlc.specs.AmSender.Run.{run_am_sender}
 use Rattle.law_rlc.specs.AmSender.Run.{begun}
 use Rattle.law_rlc.specs.AmSender.Acked.{acks, acked_after, IsLeast, BaseIsLeast}
 use Rattle.law_rlc.proofs.AmSender.Slots.{named-length, all-acked, all-named, acked-length, acked-at, one-closed}
@@ -304,7 +305,7 @@ after-fits s (Settle more) acked f = subst (λ (k : Kept). Fits k acked) (sym (s
 after-fits s Confirm acked f = f
 
 run-fits : (calls : List Call) (w : World (ℕ → Bool)) → Fits w.state.window w.past
-    → Fits (run acked_after calls w).state.window (run acked_after calls w).past
+    → Fits (run_am_sender acked_after calls w).state.window (run_am_sender acked_after calls w).past
 run-fits [] w f = f
 run-fits (c ∷ cs) w f =
     run-fits cs (record { state = after w.state c; past = acked_after w.state c w.past })
@@ -332,5 +333,5 @@ least-of w f = record {
 
 pub least : BaseIsLeast
 least config calls =
-    least-of (run acked_after calls (begun config (λ n. false)))
+    least-of (run_am_sender acked_after calls (begun config (λ n. false)))
     (run-fits calls (begun config (λ n. false)) (fresh-fits config))

@@ -11,13 +11,15 @@ use Rattle.rlc_am_tx_window.specs.Sent.{Sent, gets_acked}
 use Rattle.rlc_am_tx_window.specs.Window.{offset_of, named_all, credited_one, credited_from}
 use Rattle.rlc_am_tx.specs.Machine.{State, turn, after_status, after_expiry, is_ignored, limit_of, stops, read, applied}
 use Rattle.rlc_am_tx.specs.Machine.{settles}
-use Rattle.law_rlc.specs.AmSender.Run.{Call, Offer, Take, Status, Tick, Expire, Settle, Confirm, World, after, run}
+use Rattle.law_rlc.specs.AmSender.Run.{Call, Offer, Take, Status, Tick, Expire, Settle, Confirm, World, after}
+use Rattle.law_rlc.specs.AmSender.Run.{run_am_sender}
 use Rattle.law_rlc.specs.AmSender.Run.{begun}
 use Rattle.law_rlc.specs.AmSender.Confirmed.{Confirmations, unconfirmed, confirmations_after, times}
 use Rattle.law_rlc.specs.AmSender.Left.{AllAreConfirmed, LeavesOnlyUnconfirmed}
 use Rattle.law_rlc.specs.AmSender.Octets.{HasOctets}
 use Rattle.law_rlc.proofs.AmSender.Credits.{octets_at, one, one-same, owed_in, paid-zero, paid-suc, paid-none}
-use Rattle.law_rlc.proofs.AmSender.Books.{Books, books_after, turn-accounts, ended-accounts, expiry-accounts}
+use Rattle.law_rlc.proofs.AmSender.Books.{turn-accounts, ended-accounts, expiry-accounts}
+use Rattle.law_rlc.proofs.AmSender.Owed.{Books, books_after}
 use Rattle.law_rlc.proofs.AmSender.Books.{settled-accounts}
 use Rattle.law_rlc.proofs.AmSender.Confirms.{Keeps, after-keeps, begun-keeps}
 
@@ -159,7 +161,7 @@ all-are w b k h some none p lt =
 
 run-all : (calls : List Call) (w : World Confirmations) (b : Books) → AllByRecursion HasOctets calls
     → Keeps w.state w.past b → Sized w.state → HaveSome b.sizes
-    → AllAreConfirmed (run confirmations_after calls w)
+    → AllAreConfirmed (run_am_sender confirmations_after calls w)
 run-all [] w b g k h some = all-are w b k h some
 run-all (c ∷ cs) w b g k h some =
     run-all cs (record { state = after w.state c; past = confirmations_after w.state c w.past })

@@ -22,13 +22,14 @@ use Rattle.rlc_am_tx.specs.Machine.{expiry_of, settles, settled_by, is_ignored, 
 use Rattle.rlc_am_tx.specs.Machine.{sent_segment, sent_new, ended, limit_of, limit_in, stops, read, read_window}
 use Rattle.rlc_am_tx.specs.Machine.{applied, with_recalled, with_owed, expired, recalled_place, expiry_limit, spent_at}
 use Rattle.law_rlc.specs.AmSender.Run.{Call, Offer, Take, Status, Tick, Expire, Settle, Confirm, World, after}
-use Rattle.law_rlc.specs.AmSender.Run.{run as run_all, begun}
+use Rattle.law_rlc.specs.AmSender.Run.{run_am_sender, begun}
 use Rattle.law_rlc.specs.AmSender.Namings.{Marks, unmarked, names, any_below, with_naming, is_open, size_at}
 use Rattle.law_rlc.specs.AmSender.Namings.{heard_namings, heard_marks, recalled_marks, marks_by, marks_after, count_of}
 use Rattle.law_rlc.specs.AmSender.Limit.{AreFew, IsLimit, LimitHeard, LimitExpired, NoLimit, IsSilent, ComesAtLimit}
 use Rattle.law_rlc.specs.AmSender.Limit.{FailsAtLimit}
 use Rattle.law_rlc.proofs.AmSender.Least.{heard_slots, heard-length}
-use Rattle.law_rlc.proofs.AmSender.Marked.{Holds, heard-slot, recalled-within, recalled-slot, Stands, after-stands}
+use Rattle.law_rlc.proofs.AmSender.Marked.{recalled-within, recalled-slot, Stands, after-stands}
+use Rattle.law_rlc.proofs.AmSender.Heard.{Holds, heard-slot}
 use Rattle.law_rlc.proofs.AmSender.Marked.{start-stands, same-number, turn-config, ended-config, recalled-config}
 
 is-less : (n m : ℕ) → nat_lt n m ≡ true → n < m
@@ -410,7 +411,7 @@ after-few s (Settle more) m k e =
 after-few s Confirm m k e = k.few e
 
 run-knows : (calls : List Call) (w : World Marks) → Knows w.state w.past
-    → Knows (run_all marks_after calls w).state (run_all marks_after calls w).past
+    → Knows (run_am_sender marks_after calls w).state (run_am_sender marks_after calls w).past
 run-knows [] w k = k
 run-knows (c ∷ cs) w k =
     run-knows cs (record { state = after w.state c; past = marks_after w.state c w.past })
@@ -498,5 +499,5 @@ comes-of w k = record {
 
 pub fails : FailsAtLimit
 fails config calls =
-    comes-of (run_all marks_after calls (begun config unmarked))
+    comes-of (run_am_sender marks_after calls (begun config unmarked))
     (run-knows calls (begun config unmarked) (record { stands = start-stands config; few = λ e n. omega arith }))

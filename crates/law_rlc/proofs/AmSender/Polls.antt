@@ -11,7 +11,7 @@ use Rattle.rlc_am_tx.specs.Machine.{with_poll, is_wanted, is_quiet, sent_whole, 
 use Rattle.rlc_am_tx.specs.Machine.{limit_of, stops, read, applied, with_recalled, with_owed, expired, recalled_place}
 use Rattle.rlc_am_tx.specs.Machine.{expiry_limit, settled_by, settles}
 use Rattle.law_rlc.specs.AmSender.Run.{Call, Offer, Take, Status, Tick, Expire, Settle, Confirm, World, after}
-use Rattle.law_rlc.specs.AmSender.Run.{run as run_all, begun}
+use Rattle.law_rlc.specs.AmSender.Run.{run_am_sender, begun}
 use Rattle.law_rlc.specs.AmSender.Polled.{Event, New, Again, Expired, poll_of, events_by, events_after, pdus_since}
 use Rattle.law_rlc.specs.AmSender.Polled.{octets_since, expired_since, has_cause, is_due, PollsByCauses}
 
@@ -119,7 +119,7 @@ after-counts s (Settle more) log h = settled-counts (settles s more) s log h
 after-counts s Confirm log h = h
 
 run-counts : (calls : List Call) (w : World (List Event)) → Counts w.state.polls w.past
-    → Counts (run_all events_after calls w).state.polls (run_all events_after calls w).past
+    → Counts (run_am_sender events_after calls w).state.polls (run_am_sender events_after calls w).past
 run-counts [] w h = h
 run-counts (c ∷ cs) w h =
     run-counts cs (record { state = after w.state c; past = events_after w.state c w.past })
@@ -127,7 +127,7 @@ run-counts (c ∷ cs) w h =
 
 pub polls : PollsByCauses
 polls config calls size held more =
-    due-is (turn (run_all events_after calls (begun config [])).state size held more)
-    (run_all events_after calls (begun config [])).state size more
-    (run_all events_after calls (begun config [])).past
+    due-is (turn (run_am_sender events_after calls (begun config [])).state size held more)
+    (run_am_sender events_after calls (begun config [])).state size more
+    (run_am_sender events_after calls (begun config [])).past
     (run-counts calls (begun config []) (record { pdus = refl; octets = refl; owed = refl }))

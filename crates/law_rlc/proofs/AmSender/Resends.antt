@@ -18,10 +18,11 @@ use Rattle.rlc_am_tx.specs.declared.turn.Turn.{Turn}
 use Rattle.rlc_am_tx.specs.declared.turn.Turn.TheVariants as turns
 use Rattle.rlc_am_tx.specs.Machine.{State, turn, waits, again, number_again, first_place}
 use Rattle.rlc_am_tx.proofs.SendSteps.{first-waits}
-use Rattle.law_rlc.specs.AmSender.Run.{run as run_all, begun}
+use Rattle.law_rlc.specs.AmSender.Run.{run_am_sender, begun}
 use Rattle.law_rlc.specs.AmSender.Namings.{Marks, unmarked, marks_after}
 use Rattle.law_rlc.specs.AmSender.Resent.{IsLowest, IsResent, ResendsTheFirst}
-use Rattle.law_rlc.proofs.AmSender.Marked.{IsSlot, Stands, stands, stretch-some, is-part}
+use Rattle.law_rlc.proofs.AmSender.Marked.{Stands, stands, stretch-some, is-part}
+use Rattle.law_rlc.proofs.AmSender.Heard.{IsSlot}
 
 -- no octet of a slot waits that stands before the first
 leading-rest : (slots : List Sent) (k : ℕ) → k < leading_idle slots → is_waiting (slot_at slots k) ≡ false
@@ -79,18 +80,18 @@ wait-all h f n most s e i lt =
     by (Some p) g e = let w = ends p e in let a = w.0 in let b = w.1 in
         not-false (f i) (sym (g.missing i (omega arith) (omega arith)) ∙ s.rests i lt)
 
-abbrev IsFront : Sent → (ℕ → Bool) → ℕ → ℕ → Type 0
-IsFront h f from to = (to ≤ length h.field) × ((i : ℕ) → from ≤ i → i < to → f i ≡ true)
+abbrev IsFrontOfField : Sent → (ℕ → Bool) → ℕ → ℕ → Type 0
+IsFrontOfField h f from to = (to ≤ length h.field) × ((i : ℕ) → from ≤ i → i < to → f i ≡ true)
     × ((i : ℕ) → i < from → f i ≡ false)
 
 wait-front : (h : Sent) (f : ℕ → Bool) (n most size : ℕ) → IsSlot h f n most → is_waiting h ≡ true
-    → IsFront h f (next_stretch h size).from (next_stretch h size).to
+    → IsFrontOfField h f (next_stretch h size).from (next_stretch h size).to
 wait-front h f n most size s w =
     by (first_waiting h) (gap-lies h.resting 0 (length h.field))
     (λ some. gaps_are_first h.resting 0 (length h.field) (s.ascends some)) w
   where
     here : (p : Part) → IsGap h.resting 0 (length h.field) p
-        → IsFront h f p.start (p.start + sum (stretch_in h size p).lens)
+        → IsFrontOfField h f p.start (p.start + sum (stretch_in h size p).lens)
     here p g =
         let a = g.some in let b = g.below in
         let t = stretch-sum size p.start p.end h.lens a (omega (arith, b, s.whole)) in (
@@ -104,7 +105,7 @@ wait-front h f n most size s w =
         → (0 < length h.field
         → MatchOption o ((j : ℕ) → 0 ≤ j → j < length h.field → has h.resting j ≡ true)
         (IsGap h.resting 0 (length h.field))) → is_some o ≡ true
-        → IsFront h f (stretch_from o h size).from (stretch_from o h size).to
+        → IsFrontOfField h f (stretch_from o h size).from (stretch_from o h size).to
     by None l g w = let no' : false ≡ true = w in cc
     by (Some p) l g w = here p (g (let b = l.below in omega arith))
 
@@ -159,8 +160,8 @@ resent-of turns.Held s size m h whole part = tt
 
 pub resends : ResendsTheFirst
 resends config calls size held more =
-    resent-of (turn (run_all marks_after calls (begun config unmarked)).state size held more)
-    (run_all marks_after calls (begun config unmarked)).state size
-    (run_all marks_after calls (begun config unmarked)).past
-    (stands config calls) (whole-waits (run_all marks_after calls (begun config unmarked)).state size held more)
-    (is-part (run_all marks_after calls (begun config unmarked)).state size held more)
+    resent-of (turn (run_am_sender marks_after calls (begun config unmarked)).state size held more)
+    (run_am_sender marks_after calls (begun config unmarked)).state size
+    (run_am_sender marks_after calls (begun config unmarked)).past
+    (stands config calls) (whole-waits (run_am_sender marks_after calls (begun config unmarked)).state size held more)
+    (is-part (run_am_sender marks_after calls (begun config unmarked)).state size held more)

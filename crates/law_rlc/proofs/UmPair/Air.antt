@@ -11,7 +11,8 @@ use Rattle.rlc_um.specs.Joined.{Parts, parts_of, Joined, nothing_joined, with_nu
 use Rattle.rlc_um.specs.Window.{top_of}
 use Rattle.rlc_um.specs.Sender.{width_of}
 use Rattle.rlc_um.specs.Receiver.{State, landed, after_landing, after_expiry, all_joined}
-use Rattle.law_rlc.specs.UmPair.Run.{Call, Arrive, Expire, Tick, Up, World, Accepted, fresh, accepts, happens, run}
+use Rattle.law_rlc.specs.UmPair.Run.{Call, Arrive, Expire, Tick, Up, World, Accepted, fresh, accepts, happens}
+use Rattle.law_rlc.specs.UmPair.Run.{run_um_receiver}
 use Rattle.law_rlc.specs.UmPair.Run.{found, numbers, joined_below, read_number}
 use Rattle.law_rlc.specs.UmPair.Send.{Step, Flow, flow, at_first, carried, completed, joined, AreNumbered}
 use Rattle.law_rlc.specs.UmPair.Loss.{IsSome, kept}
@@ -184,7 +185,7 @@ meets-expire made width w m = record {
 }
 
 pub meets-run : (made : List UmdPdu) (width : ℕ) (calls : List Call) (w : World) → Made made width
-    → AreSent made width calls w → Meets made width w → Meets made width (run calls w)
+    → AreSent made width calls w → Meets made width w → Meets made width (run_um_receiver calls w)
 meets-run made width [] w by s m = m
 meets-run made width (Arrive pdu ∷ cs) w by s m =
     meets-run made width cs (happens w (Arrive pdu)) by s.1 (meets-arrive made width w pdu by s.0 m)
@@ -210,7 +211,7 @@ some-numbers bits h =
 
 pub met : (bits reorder : ℕ) (steps : List Step) (calls : List Call) → IsUmBits bits
     → AreSent (flow steps (at_first bits)).made (width_of bits) calls (fresh (width_of bits) reorder)
-    → Meets (flow steps (at_first bits)).made (width_of bits) (run calls (fresh (width_of bits) reorder))
+    → Meets (flow steps (at_first bits)).made (width_of bits) (run_um_receiver calls (fresh (width_of bits) reorder))
 met bits reorder steps calls h s =
     meets-run (flow steps (at_first bits)).made (width_of bits) calls (fresh (width_of bits) reorder)
     (made-by bits steps h) s (record {
@@ -230,10 +231,10 @@ offered-some bits steps xs some =
 
 pub delivered : (bits reorder : ℕ) (steps : List Step) (calls : List Call) → IsUmBits bits
     → AreSent (flow steps (at_first bits)).made (width_of bits) calls (fresh (width_of bits) reorder)
-    → IsDelivered (width_of bits) (flow steps (at_first bits)) (run calls (fresh (width_of bits) reorder))
+    → IsDelivered (width_of bits) (flow steps (at_first bits)) (run_um_receiver calls (fresh (width_of bits) reorder))
 delivered bits reorder steps calls h s =
     let f : Flow = flow steps (at_first bits) in
-    let w : World = run calls (fresh (width_of bits) reorder) in
+    let w : World = run_um_receiver calls (fresh (width_of bits) reorder) in
     let m : Meets f.made (width_of bits) w = met bits reorder steps calls h s in
     let up = m.keeps.rests.stands.sound.joined.ready in
     let end = finished_all (width_of bits) reorder (some-numbers bits h) calls in
@@ -256,7 +257,8 @@ delivered bits reorder steps calls h s =
 pub read_truly : (bits reorder : ℕ) (steps : List Step) (calls : List Call) → IsUmBits bits
     → AreSent (flow steps (at_first bits)).made (width_of bits) calls (fresh (width_of bits) reorder)
     → (pdu : UmdPdu)
-    → IsReadTruly (flow steps (at_first bits)).made (width_of bits) (run calls (fresh (width_of bits) reorder)) pdu
+    → IsReadTruly (flow steps (at_first bits)).made (width_of bits)
+    (run_um_receiver calls (fresh (width_of bits) reorder)) pdu
 read_truly bits reorder steps calls h s pdu =
-    reads (flow steps (at_first bits)).made (width_of bits) (run calls (fresh (width_of bits) reorder)) pdu
+    reads (flow steps (at_first bits)).made (width_of bits) (run_um_receiver calls (fresh (width_of bits) reorder)) pdu
     (made-by bits steps h) (met bits reorder steps calls h s)

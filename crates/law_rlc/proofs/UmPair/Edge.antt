@@ -14,7 +14,8 @@ use Rattle.rlc_um.specs.Window.{Window, top_of, number_of, leading, slot_at, pla
 use Rattle.rlc_um.specs.Receiver.{State, landed, landing, arrived, arrival, pass, advanced, put, kept, timed, mark_left}
 use Rattle.rlc_um.specs.Receiver.{mark_begun, after_landing, at_mark, after_expiry, expired, all_joined}
 use Rattle.law_rlc.specs.UmPair.Run.{Call, Arrive, Expire, Tick, Up, World, Accepted, fresh, accepts, mark_after}
-use Rattle.law_rlc.specs.UmPair.Run.{happens, run, found, is_accepted, joined_below, read_number, IsEdge, IsHandedUp}
+use Rattle.law_rlc.specs.UmPair.Run.{happens, run_um_receiver, found, is_accepted, joined_below, read_number, IsEdge}
+use Rattle.law_rlc.specs.UmPair.Run.{IsHandedUp}
 use Rattle.law_rlc.specs.UmPair.Run.{IsFinished, IsBounded}
 use Rattle.law_rlc.proofs.UmPair.Joins.{Follows, follows-up}
 use Rattle.law_rlc.proofs.UmPair.Places.{leading-le, leading-some, leading-stop, slot-drop, length-placed, Sound}
@@ -345,7 +346,7 @@ happens-keeps w Up k =
       };
     }
 
-run-keeps : (calls : List Call) (w : World) → Keeps w → Keeps (run calls w)
+run-keeps : (calls : List Call) (w : World) → Keeps w → Keeps (run_um_receiver calls w)
 run-keeps [] w k = k
 run-keeps (c ∷ cs) w k = run-keeps cs (happens w c) (happens-keeps w c k)
 
@@ -370,10 +371,11 @@ at-start width span h = record {
     empty : Follows [] nothing_joined (joined_below [] (2 * width) (2 * width))
     empty = let e : 2 * width - 2 * width ≡ 0 = omega arith in rw e (record { ready = refl; part = refl })
 
-pub edge : (width span : ℕ) → 0 < width → (calls : List Call) → IsEdge (run calls (fresh width span))
+pub edge : (width span : ℕ) → 0 < width → (calls : List Call) → IsEdge (run_um_receiver calls (fresh width span))
 edge width span h calls =
-    let k : Keeps (run calls (fresh width span)) = run-keeps calls (fresh width span) (at-start width span h) in
-    let w : World = run calls (fresh width span) in
+    let k : Keeps (run_um_receiver calls (fresh width span)) =
+        run-keeps calls (fresh width span) (at-start width span h) in
+    let w : World = run_um_receiver calls (fresh width span) in
     let r = k.rests in
     let s = r.stands in
     let fm = s.from_mark in
@@ -386,19 +388,23 @@ edge width span h calls =
       here = ap is_some (ap (found w.accepted) (sym z) ∙ sym (s.sound.slots_are 0)) ∙ r.here;
     }
 
-pub handed_up : (width span : ℕ) → 0 < width → (calls : List Call) → IsHandedUp (run calls (fresh width span))
+pub handed_up : (width span : ℕ) → 0 < width → (calls : List Call)
+    → IsHandedUp (run_um_receiver calls (fresh width span))
 handed_up width span h calls =
-    let k : Keeps (run calls (fresh width span)) = run-keeps calls (fresh width span) (at-start width span h) in
+    let k : Keeps (run_um_receiver calls (fresh width span)) =
+        run-keeps calls (fresh width span) (at-start width span h) in
     record { ready = k.rests.stands.sound.joined.ready; part = k.rests.stands.sound.joined.part }
 
 all-is : (s : State) → all_joined s ≡ (with_numbers s.window.slots s.joined).ready
 unfolding all_joined
 all-is s = refl
 
-pub finished_all : (width span : ℕ) → 0 < width → (calls : List Call) → IsFinished (run calls (fresh width span))
+pub finished_all : (width span : ℕ) → 0 < width → (calls : List Call)
+    → IsFinished (run_um_receiver calls (fresh width span))
 finished_all width span h calls =
-    let k : Keeps (run calls (fresh width span)) = run-keeps calls (fresh width span) (at-start width span h) in
-    let w : World = run calls (fresh width span) in
+    let k : Keeps (run_um_receiver calls (fresh width span)) =
+        run-keeps calls (fresh width span) (at-start width span h) in
+    let w : World = run_um_receiver calls (fresh width span) in
     let r = k.rests in
     let p = sound-pass (length w.state.window.slots) w.accepted (2 * w.state.window.width) w.state.window.edge
     w.state.window.slots w.gone w.state.joined (omega arith) r.stands.sound in
@@ -407,9 +413,10 @@ finished_all width span h calls =
     (sym (take_all (length w.state.window.slots) w.state.window.slots (omega arith)))
     ∙ p.joined.ready ∙ ap (λ (n : ℕ). (joined_below w.accepted (2 * w.state.window.width) n).ready) r.top_is
 
-pub bounded : (width reorder : ℕ) → 0 < width → (calls : List Call) → IsBounded (run calls (fresh width reorder))
+pub bounded : (width reorder : ℕ) → 0 < width → (calls : List Call)
+    → IsBounded (run_um_receiver calls (fresh width reorder))
 bounded width reorder h calls =
-    let k : Keeps (run calls (fresh width reorder)) =
+    let k : Keeps (run_um_receiver calls (fresh width reorder)) =
     run-keeps calls (fresh width reorder) (at-start width reorder h) in
     let t = k.rests.top_is in
     let f = k.rests.stands.from_top in

@@ -10,7 +10,8 @@ use Rattle.rlc_um.specs.Joined.{Parts, parts_of}
 use Rattle.rlc_um.specs.Window.{slot_at}
 use Rattle.rlc_um.specs.Receiver.{State, landed, after_landing, after_expiry}
 use Rattle.rlc_um.specs.Sender.{width_of, turn}
-use Rattle.law_rlc.specs.UmPair.Run.{Call, Arrive, Expire, Tick, Up, World, Accepted, fresh, accepts, happens, run}
+use Rattle.law_rlc.specs.UmPair.Run.{Call, Arrive, Expire, Tick, Up, World, Accepted, fresh, accepts, happens}
+use Rattle.law_rlc.specs.UmPair.Run.{run_um_receiver}
 use Rattle.law_rlc.specs.UmPair.Run.{found, is_accepted, read_number}
 use Rattle.law_rlc.specs.UmPair.Send.{Step, Offer, Take, Flow, made_by, goes, flow, at_first}
 use Rattle.law_rlc.specs.UmPair.Which.{Row, nothing_sent, with_element, with_elements, with_parts, with_pdus, HasMore}
@@ -125,12 +126,12 @@ happens_rises w Expire =
 happens_rises w Tick = record { low = omega arith; same = λ x l. refl }
 happens_rises w Up = record { low = omega arith; same = λ x l. refl }
 
-run_rises : (calls : List Call) (w : World) → Rises w (run calls w)
+run_rises : (calls : List Call) (w : World) → Rises w (run_um_receiver calls w)
 run_rises [] w = record { low = omega arith; same = λ x l. refl }
 run_rises (c ∷ cs) w =
-    rises_then w (happens w c) (run cs (happens w c)) (happens_rises w c) (run_rises cs (happens w c))
+    rises_then w (happens w c) (run_um_receiver cs (happens w c)) (happens_rises w c) (run_rises cs (happens w c))
 
-run_more : (cs ds : List Call) (w : World) → run (cs ++ ds) w ≡ run ds (run cs w)
+run_more : (cs ds : List Call) (w : World) → run_um_receiver (cs ++ ds) w ≡ run_um_receiver ds (run_um_receiver cs w)
 run_more [] ds w = refl
 run_more (c ∷ cs) ds w = run_more cs ds (happens w c)
 
@@ -184,12 +185,13 @@ goes_on_so width f g w v makes rises top =
 
 pub more_go_up_later : (bits reorder : ℕ) (steps more : List Step) (calls later : List Call) → IsUmBits bits
     → GoesOn (width_of bits) (flow steps (at_first bits)) (flow (steps ++ more) (at_first bits))
-    (run calls (fresh (width_of bits) reorder)) (run (calls ++ later) (fresh (width_of bits) reorder))
+    (run_um_receiver calls (fresh (width_of bits) reorder))
+    (run_um_receiver (calls ++ later) (fresh (width_of bits) reorder))
 more_go_up_later bits reorder steps more calls later u =
     let width : ℕ = width_of bits in
     let f : Flow = flow steps (at_first bits) in
-    let w : World = run calls (fresh width reorder) in
-    let v : World = run (calls ++ later) (fresh width reorder) in
+    let w : World = run_um_receiver calls (fresh width reorder) in
+    let v : World = run_um_receiver (calls ++ later) (fresh width reorder) in
     let top = (edge width reorder (some-numbers bits u) (calls ++ later)).top in
     goes_on_so width f (flow (steps ++ more) (at_first bits)) w v
     (subst (λ (g : Flow). Makes f g) (sym (flow_more steps more (at_first bits))) (flow_makes more f))

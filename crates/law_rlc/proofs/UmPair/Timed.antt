@@ -10,7 +10,8 @@ use Rattle.rlc_um.specs.Joined.{Parts, parts_of}
 use Rattle.rlc_um.specs.Window.{top_of}
 use Rattle.rlc_um.specs.Receiver.{State, landed, kept, mark_begun, clock_turned, timed, at_mark, after_landing}
 use Rattle.rlc_um.specs.Receiver.{after_expiry}
-use Rattle.law_rlc.specs.UmPair.Run.{Call, Arrive, Expire, Tick, Up, World, fresh, happens, run, read_number, IsTimed}
+use Rattle.law_rlc.specs.UmPair.Run.{Call, Arrive, Expire, Tick, Up, World, fresh, happens, run_um_receiver}
+use Rattle.law_rlc.specs.UmPair.Run.{read_number, IsTimed}
 use Rattle.law_rlc.proofs.UmPair.Edge.{or_zero, Keeps, came, comes-is, ends-is, happens-keeps, at-start}
 
 record Runs (c : Clock) (mark : Option ℕ) (edge top : ℕ) : Type 0 where
@@ -129,14 +130,15 @@ both-happens w Up b = record {
   };
 }
 
-both-run : (calls : List Call) (w : World) → Both w → Both (run calls w)
+both-run : (calls : List Call) (w : World) → Both w → Both (run_um_receiver calls w)
 both-run [] w b = b
 both-run (c ∷ cs) w b = both-run cs (happens w c) (both-happens w c b)
 
-pub is_timed : (width reorder : ℕ) → 0 < width → (calls : List Call) → IsTimed (run calls (fresh width reorder))
+pub is_timed : (width reorder : ℕ) → 0 < width → (calls : List Call)
+    → IsTimed (run_um_receiver calls (fresh width reorder))
 is_timed width reorder h calls =
     let gap : false ≡ nat_lt (2 * width) (2 * width + 0) = grind (arith, nat_tests) in
-    let b : Both (run calls (fresh width reorder)) =
+    let b : Both (run_um_receiver calls (fresh width reorder)) =
     both-run calls (fresh width reorder)
     (record {
       keeps = at-start width reorder h;

@@ -8,11 +8,13 @@ use Rattle.rlc_um.specs.Joined.{Parts, parts_of, Joined, nothing_joined, opened,
 use Rattle.rlc_um.specs.Joined.{with_number, with_numbers}
 use Rattle.rlc_um.specs.Sender.{width_of}
 use Rattle.rlc_um.specs.Receiver.{all_joined}
-use Rattle.law_rlc.specs.UmPair.Run.{Call, World, Accepted, fresh, run, found, is_accepted, numbers, joined_below}
+use Rattle.law_rlc.specs.UmPair.Run.{Call, World, Accepted, fresh, run_um_receiver, found, is_accepted, numbers}
+use Rattle.law_rlc.specs.UmPair.Run.{joined_below}
 use Rattle.law_rlc.specs.UmPair.Send.{Step, Flow, flow, at_first, carried, completed, joined}
 use Rattle.law_rlc.specs.UmPair.Air.{AreSent}
 use Rattle.law_rlc.specs.UmPair.Which.{Row, nothing_sent, with_element as row_element, with_elements as row_elements}
-use Rattle.law_rlc.specs.UmPair.Which.{with_parts, with_pdus, places_below, those, IsWhatCame}
+use Rattle.law_rlc.specs.UmPair.Which.{with_parts, with_pdus, places_below, IsWhatCameToRlc}
+use Rattle.law_words.specs.Lists.{those}
 use Rattle.law_rlc.proofs.UmPair.Air.{Agrees, shifted, Meets, met, some-numbers}
 use Rattle.law_rlc.proofs.UmPair.Edge.{finished_all}
 use Rattle.law_rlc.proofs.UmPair.Whole.{whole}
@@ -360,11 +362,12 @@ came_below bits steps width w edge a =
 
 pub hands_up_what_came : (bits reorder : ℕ) (steps : List Step) (calls : List Call) → IsUmBits bits
     → AreSent (flow steps (at_first bits)).made (width_of bits) calls (fresh (width_of bits) reorder)
-    → IsWhatCame (width_of bits) (flow steps (at_first bits)) (run calls (fresh (width_of bits) reorder))
+    → IsWhatCameToRlc (width_of bits) (flow steps (at_first bits))
+    (run_um_receiver calls (fresh (width_of bits) reorder))
 hands_up_what_came bits reorder steps calls u s =
     let f : Flow = flow steps (at_first bits) in
     let width : ℕ = width_of bits in
-    let w : World = run calls (fresh width reorder) in
+    let w : World = run_um_receiver calls (fresh width reorder) in
     let m : Meets f.made width w = met bits reorder steps calls u s in
     let up : w.gone ++ w.state.joined.ready ≡ (joined_below w.accepted (2 * width) w.state.window.edge).ready =
     m.keeps.rests.stands.sound.joined.ready

@@ -8,7 +8,7 @@ use Rattle.rlc_pdu.specs.declared.outcome.Taken.{Taken}
 use Rattle.rlc_pdu.specs.declared.outcome.Taken.TheVariants as taken
 use Rattle.law_rlc.specs.AmPair.Flow.{Copy, Flow, Step, Sends, Receives, Reports, DataComes}
 use Rattle.law_rlc.specs.AmPair.Flow.{StatusComes, DataGoes, StatusGoes, Passes, sender, given}
-use Rattle.law_rlc.specs.AmPair.Flow.{happens, goes, outset}
+use Rattle.law_rlc.specs.AmPair.Flow.{happens, goes, am_rlc_outset}
 use Rattle.law_rlc.specs.AmPair.Given.{AreGiven}
 use Rattle.law_rlc.specs.AmPair.Sdus.{offered}
 use Rattle.law_rlc.specs.AmPair.Arrives.{arrives}
@@ -29,28 +29,29 @@ abbrev pub coming : Option Copy → List Passing
 coming None = []
 coming (Some c) = Comes c.octets ∷ []
 
-abbrev pub passing : Flow → Step → List Passing
-passing f (Sends c) = written_in (given (sender f).state c)
-passing f (Receives c) = []
-passing f (Reports size octets) = []
-passing f (DataComes k) = coming (slice_get f.copies k)
-passing f (StatusComes k) = []
-passing f (DataGoes k) = []
-passing f (StatusGoes k) = []
-passing f Passes = []
+abbrev pub passed_in : Flow → Step → List Passing
+passed_in f (Sends c) = written_in (given (sender f).state c)
+passed_in f (Receives c) = []
+passed_in f (Reports size octets) = []
+passed_in f (DataComes k) = coming (slice_get f.copies k)
+passed_in f (StatusComes k) = []
+passed_in f (DataGoes k) = []
+passed_in f (StatusGoes k) = []
+passed_in f Passes = []
 
 abbrev pub passed : List Step → Flow → List Passing
 passed [] f = []
-passed (s ∷ ss) f = passing f s ++ passed ss (happens f s)
+passed (s ∷ ss) f = passed_in f s ++ passed ss (happens f s)
 
 -- ---- the law
 
 -- an SDU has arrived exactly where each of its octets lies in what came
 abbrev pub ArrivesAsTold : Flow → Told → Type 0
-ArrivesAsTold f t = (place : ℕ) → arrives f place ≡ has_arrived (map length (offered f)) t.fields t.came place
+ArrivesAsTold f t =
+    (place : ℕ) → arrives f place ≡ has_arrived (map length (offered f)) t.fields t.came place
 
 abbrev pub PdusTellWhatArrives : Type 0
 PdusTellWhatArrives = (sending : AmTxConfig) (receiving : AmRxConfig) (steps : List Step)
-    → AreGiven (outset sending receiving) steps
-    → ArrivesAsTold (goes steps (outset sending receiving))
-    (with_passings (passed steps (outset sending receiving)) nothing_told)
+    → AreGiven (am_rlc_outset sending receiving) steps
+    → ArrivesAsTold (goes steps (am_rlc_outset sending receiving))
+    (with_passings (passed steps (am_rlc_outset sending receiving)) nothing_told)

@@ -8,7 +8,7 @@ use Rattle.rlc_am_rx.specs.Machine.{finished}
 use Rattle.law_rlc.specs.AmReceiver.Finish.{all_come}
 use Rattle.law_rlc.specs.AmPair.Flow.{Flow, Step, Sends, Receives, Reports, DataComes, StatusComes}
 use Rattle.law_rlc.specs.AmPair.Flow.{DataGoes, StatusGoes, Passes, sender, receiver, happens, goes}
-use Rattle.law_rlc.specs.AmPair.Flow.{outset}
+use Rattle.law_rlc.specs.AmPair.Flow.{am_rlc_outset}
 use Rattle.law_rlc.specs.AmPair.Given.{IsGiven, AreGiven}
 use Rattle.law_rlc.specs.AmPair.Sdus.{offered, handed_up, ready}
 use Rattle.law_rlc.specs.AmPair.Seen.{seen}
@@ -20,7 +20,8 @@ arrives f place = nat_lt place (length (seen f)) && all_come (slice_index_or (se
 -- of each flow that has come by steps that are given
 abbrev pub Always : (Flow → Type 0) → Type 0
 Always P = (sending : AmTxConfig) (receiving : AmRxConfig) (steps : List Step)
-    → AreGiven (outset sending receiving) steps → P (goes steps (outset sending receiving))
+    → AreGiven (am_rlc_outset sending receiving) steps
+    → P (goes steps (am_rlc_outset sending receiving))
 
 abbrev pub ArrivedWasOffered : Type 0
 ArrivedWasOffered = Always (λ f. (place : ℕ) → arrives f place ≡ true → place < length (offered f))

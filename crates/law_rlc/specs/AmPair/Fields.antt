@@ -8,7 +8,7 @@ use Rattle.rlc_am_rx_window.specs.Cells.{Cell, cell}
 use Rattle.law_rlc.specs.AmSender.Octets.{Place, last_ends}
 use Rattle.law_rlc.specs.AmReceiver.Stream.{AreHonest, initial, NoneClashes}
 use Rattle.law_rlc.specs.AmReceiver.Finish.{IsStream}
-use Rattle.law_rlc.specs.AmPair.Flow.{Flow, Step, sender, goes, outset}
+use Rattle.law_rlc.specs.AmPair.Flow.{Flow, Step, sender, goes, am_rlc_outset}
 use Rattle.law_rlc.specs.AmPair.Given.{AreGiven}
 
 abbrev pub cell_of : Place → Cell
@@ -36,12 +36,12 @@ pub record HearsFields (f : Flow) : Type 0 where
 
 abbrev pub HearsWhatWasSent : Type 0
 HearsWhatWasSent = (sending : AmTxConfig) (receiving : AmRxConfig) (steps : List Step)
-    → AreGiven (outset sending receiving) steps
-    → HearsFields (goes steps (outset sending receiving))
+    → AreGiven (am_rlc_outset sending receiving) steps
+    → HearsFields (goes steps (am_rlc_outset sending receiving))
 
 -- none of them clashes with what the receiver holds
 abbrev pub NothingClashes : Type 0
 NothingClashes = (sending : AmTxConfig) (receiving : AmRxConfig) (steps : List Step)
-    → AreGiven (outset sending receiving) steps
-    → NoneClashes (initial (goes steps (outset sending receiving)).receiving).state
-    (goes steps (outset sending receiving)).heard
+    → AreGiven (am_rlc_outset sending receiving) steps
+    → NoneClashes (initial (goes steps (am_rlc_outset sending receiving)).receiving).state
+    (goes steps (am_rlc_outset sending receiving)).heard

@@ -14,11 +14,11 @@ use Rattle.rlc_am_rx_window.specs.declared.missing.Missing.{Missing}
 use Rattle.rlc_am_tx.specs.Machine.{State, answer}
 use Rattle.rlc_am_rx.specs.Status.{ack, chosen}
 use Rattle.law_rlc.specs.AmSender.Run.{Call as SenderCall, Offer, Take, Status, Tick, Expire}
-use Rattle.law_rlc.specs.AmSender.Run.{Settle, Confirm, World as SenderWorld, run as run_sender}
+use Rattle.law_rlc.specs.AmSender.Run.{Settle, Confirm, World as SenderWorld, run_am_sender}
 use Rattle.law_rlc.specs.AmSender.Run.{begun}
 use Rattle.law_rlc.specs.AmSender.Octets.{Octets, nothing_sent, octets_after}
 use Rattle.law_rlc.specs.AmReceiver.Run.{Call as ReceiverCall, Arrive, Write}
-use Rattle.law_rlc.specs.AmReceiver.Run.{World as ReceiverWorld, run as run_receiver, begin}
+use Rattle.law_rlc.specs.AmReceiver.Run.{World as ReceiverWorld, run_am_receiver, begin}
 
 -- a data PDU that may still come: its octets, and beside them the number that the sender gave it,
 -- counted from 0
@@ -47,11 +47,11 @@ pub record Flow : Type 0 where
 
 -- the sender, with the octets that were offered and those that each new PDU carried
 abbrev pub sender : Flow → SenderWorld Octets
-sender f = run_sender octets_after f.sent (begun f.sending nothing_sent)
+sender f = run_am_sender octets_after f.sent (begun f.sending nothing_sent)
 
 -- the receiver, with what it has kept
 abbrev pub receiver : Flow → ReceiverWorld
-receiver f = run_receiver f.heard (begin f.receiving)
+receiver f = run_am_receiver f.heard (begin f.receiving)
 
 -- what may happen
 pub data Step : Type 0 where
@@ -170,8 +170,8 @@ abbrev pub goes : List Step → Flow → Flow
 goes [] f = f
 goes (s ∷ ss) f = goes ss (happens f s)
 
-abbrev pub outset : AmTxConfig → AmRxConfig → Flow
-outset sending receiving =
+abbrev pub am_rlc_outset : AmTxConfig → AmRxConfig → Flow
+am_rlc_outset sending receiving =
     record {
       sending = sending;
       receiving = receiving;

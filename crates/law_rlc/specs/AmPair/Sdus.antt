@@ -6,9 +6,9 @@ use Rattle.l2_types.specs.declared.AmRxConfig.{AmRxConfig}
 use Rattle.law_rlc.specs.AmSender.Run.{Call as SenderCall, Offer, Take, Status, Tick, Expire}
 use Rattle.law_rlc.specs.AmSender.Run.{Settle, Confirm}
 use Rattle.law_rlc.specs.AmReceiver.Stream.{flow, initial}
-use Rattle.law_rlc.specs.AmPair.Flow.{Flow, Step, goes, outset}
+use Rattle.law_rlc.specs.AmPair.Flow.{Flow, Step, goes, am_rlc_outset}
 use Rattle.law_rlc.specs.AmPair.Given.{AreGiven}
-use Rattle.law_words.specs.Lists.{IsFront}
+use Rattle.law_words.specs.Lists.{AreFirstSdus}
 
 abbrev pub offers_with : SenderCall → List (List ℕ) → List (List ℕ)
 offers_with (Offer sdu) later = sdu ∷ later
@@ -38,7 +38,7 @@ ready f = (flow f.heard (initial f.receiving)).state.out.ready
 -- once, unchanged
 abbrev pub HandsUpTheFront : Type 0
 HandsUpTheFront = (sending : AmTxConfig) (receiving : AmRxConfig) (steps : List Step)
-    → AreGiven (outset sending receiving) steps
-    → IsFront (handed_up (goes steps (outset sending receiving))
-    ++ ready (goes steps (outset sending receiving)))
-    (offered (goes steps (outset sending receiving)))
+    → AreGiven (am_rlc_outset sending receiving) steps
+    → AreFirstSdus (handed_up (goes steps (am_rlc_outset sending receiving))
+    ++ ready (goes steps (am_rlc_outset sending receiving)))
+    (offered (goes steps (am_rlc_outset sending receiving)))

@@ -7,11 +7,11 @@ use Rattle.rlc_am_rx_window.specs.Window.{top}
 use Rattle.rlc_am_rx.specs.Machine.{finished}
 use Rattle.law_rlc.specs.AmReceiver.Finish.{Place, places, cut, all_come, octets_of, whole_of}
 use Rattle.law_rlc.specs.AmReceiver.Finish.{arrived_in}
-use Rattle.law_rlc.specs.AmPair.Flow.{Flow, Step, sender, receiver, goes, outset}
+use Rattle.law_rlc.specs.AmPair.Flow.{Flow, Step, sender, receiver, goes, am_rlc_outset}
 use Rattle.law_rlc.specs.AmPair.Given.{AreGiven}
 use Rattle.law_rlc.specs.AmPair.Fields.{field_of}
 use Rattle.law_rlc.specs.AmPair.Sdus.{offered, handed_up, ready}
-use Rattle.law_words.specs.Lists.{IsFront}
+use Rattle.law_words.specs.Lists.{AreFirstSdus}
 
 -- the SDUs that end in numbers below VR(H), octet by octet, with whether the octet has arrived
 abbrev pub seen : Flow → List (List Place)
@@ -28,18 +28,18 @@ in_sequence (s ∷ ss) = if all_come s then octets_of s ∷ in_sequence ss else 
 -- arrived
 abbrev pub HandsUpInSequence : Type 0
 HandsUpInSequence = (sending : AmTxConfig) (receiving : AmRxConfig) (steps : List Step)
-    → AreGiven (outset sending receiving) steps
-    → handed_up (goes steps (outset sending receiving))
-    ++ ready (goes steps (outset sending receiving))
-    ≡ in_sequence (seen (goes steps (outset sending receiving)))
+    → AreGiven (am_rlc_outset sending receiving) steps
+    → handed_up (goes steps (am_rlc_outset sending receiving))
+    ++ ready (goes steps (am_rlc_outset sending receiving))
+    ≡ in_sequence (seen (goes steps (am_rlc_outset sending receiving)))
 
 -- those SDUs are the ones that were offered first, and what went up with what `finish` gives are
 -- exactly those of them whose octets have all arrived: in their order, each once, unchanged
 pub record GivesTheWhole (f : Flow) : Type 0 where
-  pub first : IsFront (map octets_of (seen f)) (offered f)
+  pub first : AreFirstSdus (map octets_of (seen f)) (offered f)
   pub whole : handed_up f ++ finished (receiver f).state ≡ whole_of (seen f)
 
 abbrev pub FinishGivesTheWhole : Type 0
 FinishGivesTheWhole = (sending : AmTxConfig) (receiving : AmRxConfig) (steps : List Step)
-    → AreGiven (outset sending receiving) steps
-    → GivesTheWhole (goes steps (outset sending receiving))
+    → AreGiven (am_rlc_outset sending receiving) steps
+    → GivesTheWhole (goes steps (am_rlc_outset sending receiving))

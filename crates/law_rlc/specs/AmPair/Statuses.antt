@@ -9,7 +9,7 @@ use Rattle.rlc_am_tx_window.specs.Window.{next, offset_of, is_named}
 use Rattle.rlc_am_tx.specs.Machine.{State, is_ignored}
 use Rattle.rlc_am_rx.specs.Status.{nack_of}
 use Rattle.law_rlc.specs.AmReceiver.Status.{has_entry}
-use Rattle.law_rlc.specs.AmPair.Flow.{Report, Step, sender, goes, outset}
+use Rattle.law_rlc.specs.AmPair.Flow.{Report, Step, sender, goes, am_rlc_outset}
 use Rattle.law_rlc.specs.AmPair.Given.{AreGiven}
 use Rattle.rlc_pdu.specs.declared.constants.TheConstants.{AM_MODULUS}
 
@@ -28,6 +28,6 @@ pub record IsReadRight (s : State) (r : Report) : Type 0 where
 
 abbrev pub ReadsEachNumber : Type 0
 ReadsEachNumber = (sending : AmTxConfig) (receiving : AmRxConfig) (steps : List Step)
-    → AreGiven (outset sending receiving) steps
-    → AllByRecursion (IsReadRight (sender (goes steps (outset sending receiving))).state)
-    (goes steps (outset sending receiving)).reports
+    → AreGiven (am_rlc_outset sending receiving) steps
+    → AllByRecursion (IsReadRight (sender (goes steps (am_rlc_outset sending receiving))).state)
+    (goes steps (am_rlc_outset sending receiving)).reports

@@ -7,7 +7,7 @@ use Rattle.law_rlc.specs.AmPair.Flow.{Flow, Step, Sends, Receives, Reports, Data
 use Rattle.law_rlc.specs.AmPair.Flow.{DataGoes, StatusGoes, Passes, happens}
 use Rattle.law_rlc.specs.AmPair.Given.{IsGiven}
 use Rattle.law_rlc.specs.AmPair.Sdus.{offers_with, offered, handed_up, ready}
-use Rattle.law_words.specs.Lists.{IsFront}
+use Rattle.law_words.specs.Lists.{AreFirstSdus}
 use Rattle.law_rlc.specs.AmPair.Arrives.{arrives, Always, brings}
 
 -- ---- the receiver's side
@@ -39,7 +39,7 @@ pub record GoesUp (f : Flow) : Type 0 where
   pub rest : ready (happens f (Receives Up)) ≡ drop 1 (ready f)
   pub stays : (s : Step) → IsGiven f s → takes_up s ≡ false → handed_up (happens f s) ≡ handed_up f
   pub grows : (s : Step) → IsGiven f s → takes_up s ≡ false
-      → IsFront (ready f) (ready (happens f s))
+      → AreFirstSdus (ready f) (ready (happens f s))
   pub same : (s : Step) → IsGiven f s → takes_up s ≡ false → brings s ≡ false
       → ready (happens f s) ≡ ready f
 

@@ -31,8 +31,8 @@ abbrev pub go : List Call → Marked → Marked
 go [] m = m
 go (c ∷ cs) m = go cs (goes m c)
 
-abbrev pub outset : AmRxConfig → Marked
-outset config = record { world = begin config; base = 0 }
+abbrev pub marked_outset : AmRxConfig → Marked
+marked_outset config = record { world = begin config; base = 0 }
 
 -- VR(MS) is the least number that isn't complete at or above 0 and every such mark
 pub record IsBound (m : Marked) : Type 0 where

@@ -32,19 +32,20 @@ with_poll true n ns = n ∷ ns
 with_poll false n ns = ns
 
 -- VR(MS) has come to lie at a bound, with these polled numbers
-abbrev pub passing : ℕ → Bool → List ℕ → State → Asked
-passing bound asked polls s =
+abbrev pub asked_with_bound : ℕ → Bool → List ℕ → State → Asked
+asked_with_bound bound asked polls s =
     record { state = s; asked = asked || some_below bound polls; polls = not_below bound polls }
 
 abbrev pub asked_on : Landed → Asked → AmdPdu → State → Asked
-asked_on Fresh a p s = passing s.bound a.asked (with_poll p.poll (number_read a.state p) a.polls) s
+asked_on Fresh a p s =
+    asked_with_bound s.bound a.asked (with_poll p.poll (number_read a.state p) a.polls) s
 asked_on Repeat a p s = record { state = s; asked = a.asked || p.poll; polls = a.polls }
 asked_on Outside a p s = record { state = s; asked = a.asked || p.poll; polls = a.polls }
 asked_on Clash a p s = record { state = s; asked = a.asked; polls = a.polls }
 
 abbrev pub asked_at : Option ℕ → Asked → State → Asked
 asked_at None a s = record { state = s; asked = a.asked; polls = a.polls }
-asked_at (Some x) a s = passing s.bound true a.polls s
+asked_at (Some x) a s = asked_with_bound s.bound true a.polls s
 
 abbrev pub asks : Asked → Call → Asked
 asks a (Arrive p) = asked_on (landed a.state p) a p (state_after a.state (Arrive p))

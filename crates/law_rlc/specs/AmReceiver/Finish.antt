@@ -5,7 +5,7 @@ use Rattle.std.specs.List.{list_all}
 use Rattle.rlc_am_rx_window.specs.Cells.{Cell}
 use Rattle.rlc_am_rx_window.specs.Window.{top}
 use Rattle.rlc_am_rx.specs.Machine.{finished}
-use Rattle.law_rlc.specs.AmReceiver.Run.{World, has_come}
+use Rattle.law_rlc.specs.AmReceiver.Run.{World, place_has_come}
 use Rattle.law_rlc.specs.AmReceiver.Stream.{IsField}
 
 -- fields one behind the other: place 0 of number 0 begins an SDU, and where a field ends an SDU the
@@ -49,7 +49,7 @@ whole_of (s ∷ ss) = if all_come s then octets_of s ∷ whole_of ss else whole_
 
 -- all places of a number below VR(R) have arrived, and of another those that a piece covers
 abbrev pub arrived_in : World → ℕ → ℕ → Bool
-arrived_in w n i = nat_lt n w.state.window.front || has_come w.kept n i
+arrived_in w n i = nat_lt n w.state.window.front || place_has_come w.kept n i
 
 -- What went up and what comes up now are the SDUs all of whose octets have arrived: in their order,
 -- each once and unchanged.

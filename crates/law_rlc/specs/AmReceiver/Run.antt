@@ -66,9 +66,9 @@ kept_with w TickProhibit = w.kept
 abbrev pub happens : World → Call → World
 happens w c = record { state = state_after w.state c; kept = kept_with w c }
 
-abbrev pub run : List Call → World → World
-run [] w = w
-run (c ∷ cs) w = run cs (happens w c)
+abbrev pub run_am_receiver : List Call → World → World
+run_am_receiver [] w = w
+run_am_receiver (c ∷ cs) w = run_am_receiver cs (happens w c)
 
 abbrev pub begin : AmRxConfig → World
 begin config = record { state = fresh config; kept = [] }
@@ -78,23 +78,23 @@ abbrev pub covers : Came → ℕ → ℕ → Bool
 covers p n i = (p.number == n) && (nat_le p.piece.so i && nat_lt i (end_of p.piece))
 
 -- the place has arrived
-abbrev pub has_come : List Came → ℕ → ℕ → Bool
-has_come [] n i = false
-has_come (p ∷ ps) n i = covers p n i || has_come ps n i
+abbrev pub place_has_come : List Came → ℕ → ℕ → Bool
+place_has_come [] n i = false
+place_has_come (p ∷ ps) n i = covers p n i || place_has_come ps n i
 
 -- the length of the number's field, once a piece has told it
-abbrev pub told_by : Option ℕ → Came → ℕ → Option ℕ
-told_by (Some size) p n = Some size
-told_by None p n = if (p.number == n) && p.piece.last then Some (end_of p.piece) else None
+abbrev pub size_told_by : Option ℕ → Came → ℕ → Option ℕ
+size_told_by (Some size) p n = Some size
+size_told_by None p n = if (p.number == n) && p.piece.last then Some (end_of p.piece) else None
 
 abbrev pub told : List Came → ℕ → Option ℕ
 told [] n = None
-told (p ∷ ps) n = told_by (told ps n) p n
+told (p ∷ ps) n = size_told_by (told ps n) p n
 
 -- all places of the number have arrived
 abbrev pub IsComplete : List Came → ℕ → Type 0
 IsComplete ps n = (size : ℕ) × (told ps n ≡ Some size)
-    × ((i : ℕ) → i < size → has_come ps n i ≡ true)
+    × ((i : ℕ) → i < size → place_has_come ps n i ≡ true)
 
 -- VR(R) is the least number that isn't complete
 pub record IsFirst (w : World) : Type 0 where

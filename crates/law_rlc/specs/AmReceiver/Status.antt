@@ -10,7 +10,8 @@ use Rattle.rlc_am_rx_window.specs.Piece.{piece_of}
 use Rattle.rlc_am_rx_window.specs.Missing.{whole, of_part, entry_bits, entries_bits}
 use Rattle.rlc_am_rx.specs.Status.{listed, chosen, room_in, ack}
 use Rattle.law_rlc.specs.AmReceiver.Run.{Call, Arrive, Up, Write, ExpireReorder, ExpireProhibit}
-use Rattle.law_rlc.specs.AmReceiver.Run.{TickReorder, TickProhibit, World, Came, has_come, told}
+use Rattle.law_rlc.specs.AmReceiver.Run.{TickReorder, TickProhibit, World, Came, place_has_come}
+use Rattle.law_rlc.specs.AmReceiver.Run.{told}
 use Rattle.law_rlc.specs.AmReceiver.Run.{IsComplete}
 
 -- each PDU brings an octet
@@ -64,10 +65,11 @@ AreGaps come size from (p ∷ ps) = (IsInner come from p × AreGaps come size (p
 -- arrived, or each largest run that is
 pub data IsSaid (ps : List Came) (n : ℕ) (ms : List Missing) : Type 0 where
   Complete : IsComplete ps n → ms ≡ [] → IsSaid ps n ms
-  Nothing : (IsComplete ps n → ⊥) → ((i : ℕ) → has_come ps n i ≡ false) → ms ≡ whole n ∷ []
+  Nothing : (IsComplete ps n → ⊥) → ((i : ℕ) → place_has_come ps n i ≡ false) → ms ≡ whole n ∷ []
       → IsSaid ps n ms
-  Ranges : (IsComplete ps n → ⊥) → (i : ℕ) → has_come ps n i ≡ true → (parts : List Part)
-      → ms ≡ map (of_part n) parts → AreGaps (has_come ps n) (told ps n) 0 parts → IsSaid ps n ms
+  Ranges : (IsComplete ps n → ⊥) → (i : ℕ) → place_has_come ps n i ≡ true → (parts : List Part)
+      → ms ≡ map (of_part n) parts → AreGaps (place_has_come ps n) (told ps n) 0 parts
+      → IsSaid ps n ms
 
 -- what is said of so many numbers from n on
 abbrev pub AreSaid : List Came → ℕ → ℕ → List Missing → Type 0
@@ -90,7 +92,8 @@ pub record IsTrueStatus (w : World) (size : ℕ) : Type 0 where
   pub rest : List Missing
   pub begins : listed w.state ≡ chosen w.state size ++ rest
   pub fits : entries_bits (chosen w.state size) ≤ room_in size
-  pub longest : (m : Missing) (ms : List Missing) → rest ≡ m ∷ ms → room_in size < entries_bits (chosen w.state size) + entry_bits m
+  pub longest : (m : Missing) (ms : List Missing) → rest ≡ m ∷ ms
+      → room_in size < entries_bits (chosen w.state size) + entry_bits m
   pub ack_above : w.state.window.front ≤ ack w.state size
   pub ack_missing : IsComplete w.kept (ack w.state size) → ⊥
   pub ack_left : has_entry (chosen w.state size) (ack w.state size) ≡ false

@@ -7,7 +7,7 @@ use Rattle.rlc_pdu.specs.Pdus.{StatusPdu}
 use Rattle.rlc_am_tx_window.specs.Window.{next, offset_of, is_named}
 use Rattle.rlc_am_tx.specs.Machine.{State, is_ignored}
 use Rattle.law_rlc.specs.AmSender.Run.{Call, Offer, Take, Status, Tick, Expire, Settle, Confirm}
-use Rattle.law_rlc.specs.AmSender.Run.{World, run, begun}
+use Rattle.law_rlc.specs.AmSender.Run.{World, run_am_sender, begun}
 use Rattle.rlc_pdu.specs.declared.constants.TheConstants.{AM_WINDOW_SIZE}
 
 -- a STATUS acknowledges the numbers below its ACK_SN that it doesn't name
@@ -38,4 +38,4 @@ pub record IsLeast (w : World (ℕ → Bool)) : Type 0 where
 
 abbrev pub BaseIsLeast : Type 0
 BaseIsLeast = (config : AmTxConfig) (calls : List Call)
-    → IsLeast (run acked_after calls (begun config (λ n. false)))
+    → IsLeast (run_am_sender acked_after calls (begun config (λ n. false)))

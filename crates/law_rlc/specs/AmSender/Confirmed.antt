@@ -9,7 +9,7 @@ use Rattle.rlc_am_tx.specs.declared.turn.Turn.{Turn}
 use Rattle.rlc_am_tx.specs.declared.turn.Turn.TheVariants as turns
 use Rattle.rlc_am_tx.specs.Machine.{State, turn, new_slot}
 use Rattle.law_rlc.specs.AmSender.Run.{Call, Offer, Take, Status, Tick, Expire, Settle, Confirm}
-use Rattle.law_rlc.specs.AmSender.Run.{World, after, run, begun}
+use Rattle.law_rlc.specs.AmSender.Run.{World, after, run_am_sender, begun}
 use Rattle.law_rlc.specs.AmSender.Acked.{acked_by}
 
 -- how many SDUs were offered; for each octet that was offered and isn't sent, in order, the place
@@ -83,4 +83,4 @@ pub record AreConfirmed (w : World Confirmations) : Type 0 where
 
 abbrev pub ConfirmsEachOnce : Type 0
 ConfirmsEachOnce = (config : AmTxConfig) (calls : List Call)
-    → AreConfirmed (run confirmations_after calls (begun config unconfirmed))
+    → AreConfirmed (run_am_sender confirmations_after calls (begun config unconfirmed))

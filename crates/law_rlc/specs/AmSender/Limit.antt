@@ -10,7 +10,7 @@ use Rattle.rlc_am_tx.specs.declared.Heard.TheVariants as hears
 use Rattle.rlc_am_tx.specs.declared.PollExpired.{PollExpired}
 use Rattle.rlc_am_tx.specs.declared.PollExpired.TheVariants as expires
 use Rattle.rlc_am_tx.specs.Machine.{turn, heard, expiry}
-use Rattle.law_rlc.specs.AmSender.Run.{Call, Status, Expire, World, run, begun}
+use Rattle.law_rlc.specs.AmSender.Run.{Call, Status, Expire, World, run_am_sender, begun}
 use Rattle.law_rlc.specs.AmSender.Namings.{Marks, unmarked, marks_after}
 use Rattle.rlc_pdu.specs.declared.constants.TheConstants.{AM_MODULUS}
 
@@ -71,4 +71,4 @@ pub record ComesAtLimit (w : World Marks) : Type 0 where
 
 abbrev pub FailsAtLimit : Type 0
 FailsAtLimit = (config : AmTxConfig) (calls : List Call)
-    → ComesAtLimit (run marks_after calls (begun config unmarked))
+    → ComesAtLimit (run_am_sender marks_after calls (begun config unmarked))

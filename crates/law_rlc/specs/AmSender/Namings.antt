@@ -13,7 +13,7 @@ use Rattle.rlc_am_tx.specs.declared.turn.Turn.{Turn}
 use Rattle.rlc_am_tx.specs.declared.turn.Turn.TheVariants as turns
 use Rattle.rlc_am_tx.specs.Machine.{State, turn, again, number_again, is_ignored, recalled_place}
 use Rattle.law_rlc.specs.AmSender.Run.{Call, Offer, Take, Status, Tick, Expire, Settle, Confirm}
-use Rattle.law_rlc.specs.AmSender.Run.{World, run, begun}
+use Rattle.law_rlc.specs.AmSender.Run.{World, run_am_sender, begun}
 
 -- whether an octet of a number waits to be resent, and how many namings of a number counted
 pub record Marks : Type 0 where
@@ -126,4 +126,4 @@ pub record IsMarked (w : World Marks) : Type 0 where
 
 abbrev pub CountsNamings : Type 0
 CountsNamings = (config : AmTxConfig) (calls : List Call)
-    → IsMarked (run marks_after calls (begun config unmarked))
+    → IsMarked (run_am_sender marks_after calls (begun config unmarked))

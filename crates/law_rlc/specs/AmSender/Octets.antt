@@ -15,7 +15,7 @@ use Rattle.rlc_am_tx.specs.declared.turn.Turn.{Turn}
 use Rattle.rlc_am_tx.specs.declared.turn.Turn.TheVariants as turns
 use Rattle.rlc_am_tx.specs.Machine.{State, turn, answer, again, number_again, new_slot}
 use Rattle.law_rlc.specs.AmSender.Run.{Call, Offer, Take, Status, Tick, Expire, Settle, Confirm}
-use Rattle.law_rlc.specs.AmSender.Run.{run, begun}
+use Rattle.law_rlc.specs.AmSender.Run.{run_am_sender, begun}
 use Rattle.law_rlc.specs.AmSender.Namings.{Marks, unmarked, marks_after}
 use Rattle.law_rlc.specs.AmSender.Polled.{poll_of}
 use Rattle.rlc_pdu.specs.declared.constants.TheConstants.{AM_MODULUS}
@@ -79,7 +79,8 @@ abbrev pub new_count : State → ℕ → ℕ
 new_count s size = length (new_slot s size).field
 
 abbrev pub octets_by : Turn → State → ℕ → Octets → Octets
-octets_by turns.New s size o = record o { unsent = drop (new_count s size) o.unsent; sent = o.sent ++ take (new_count s size) o.unsent ∷ [] }
+octets_by turns.New s size o = record o { unsent = drop (new_count s size) o.unsent; sent =
+    o.sent ++ take (new_count s size) o.unsent ∷ [] }
 octets_by turns.Whole s size o = o
 octets_by turns.Part s size o = o
 octets_by turns.Idle s size o = o
@@ -157,7 +158,8 @@ abbrev pub WritesTheStream : Type 0
 WritesTheStream =
     (config : AmTxConfig) (calls : List Call) (size : ℕ) (held : Option ℕ) (more : Bool)
     → AllByRecursion HasOctets calls
-    → IsWritten (turn (run octets_after calls (begun config nothing_sent)).state size held more)
-    (run octets_after calls (begun config nothing_sent)).state size
-    (run octets_after calls (begun config nothing_sent)).past
-    (answer (run octets_after calls (begun config nothing_sent)).state size held more)
+    → IsWritten (turn (run_am_sender octets_after calls (begun config nothing_sent)).state size held
+    more)
+    (run_am_sender octets_after calls (begun config nothing_sent)).state size
+    (run_am_sender octets_after calls (begun config nothing_sent)).past
+    (answer (run_am_sender octets_after calls (begun config nothing_sent)).state size held more)

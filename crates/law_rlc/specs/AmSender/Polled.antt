@@ -10,7 +10,7 @@ use Rattle.rlc_am_tx.specs.declared.turn.Turn.TheVariants as turns
 use Rattle.rlc_am_tx.specs.Machine.{State, turn, answer, reaches, is_quiet, sent_whole}
 use Rattle.rlc_am_tx.specs.Machine.{sent_segment, sent_new, new_slot}
 use Rattle.law_rlc.specs.AmSender.Run.{Call, Offer, Take, Status, Tick, Expire, Settle, Confirm}
-use Rattle.law_rlc.specs.AmSender.Run.{run, begun}
+use Rattle.law_rlc.specs.AmSender.Run.{run_am_sender, begun}
 
 -- a new PDU with so many octets, a PDU that is sent again, each with or without a poll; an expiry
 -- of the poll timer
@@ -95,7 +95,7 @@ is_due turns.Held s size more log = false
 -- a PDU has a poll exactly where one of the four causes stands
 abbrev pub PollsByCauses : Type 0
 PollsByCauses = (config : AmTxConfig) (calls : List Call) (size : ℕ) (held : Option ℕ) (more : Bool)
-    → poll_of (answer (run events_after calls (begun config [])).state size held more)
-    ≡ is_due (turn (run events_after calls (begun config [])).state size held more)
-    (run events_after calls (begun config [])).state size more
-    (run events_after calls (begun config [])).past
+    → poll_of (answer (run_am_sender events_after calls (begun config [])).state size held more)
+    ≡ is_due (turn (run_am_sender events_after calls (begun config [])).state size held more)
+    (run_am_sender events_after calls (begun config [])).state size more
+    (run_am_sender events_after calls (begun config [])).past

@@ -5,7 +5,7 @@ use Rattle.rlc_am_tx_window.specs.Sent.{next_stretch}
 use Rattle.rlc_am_tx.specs.declared.turn.Turn.{Turn}
 use Rattle.rlc_am_tx.specs.declared.turn.Turn.TheVariants as turns
 use Rattle.rlc_am_tx.specs.Machine.{State, turn, again, number_again}
-use Rattle.law_rlc.specs.AmSender.Run.{Call, run, begun}
+use Rattle.law_rlc.specs.AmSender.Run.{Call, run_am_sender, begun}
 use Rattle.law_rlc.specs.AmSender.Namings.{Marks, unmarked, marks_after, size_at}
 
 -- no octet of a lower number waits
@@ -41,6 +41,6 @@ IsResent turns.Held s size m = Unit {0}
 abbrev pub ResendsTheFirst : Type 0
 ResendsTheFirst =
     (config : AmTxConfig) (calls : List Call) (size : ℕ) (held : Option ℕ) (more : Bool)
-    → IsResent (turn (run marks_after calls (begun config unmarked)).state size held more)
-    (run marks_after calls (begun config unmarked)).state size
-    (run marks_after calls (begun config unmarked)).past
+    → IsResent (turn (run_am_sender marks_after calls (begun config unmarked)).state size held more)
+    (run_am_sender marks_after calls (begun config unmarked)).state size
+    (run_am_sender marks_after calls (begun config unmarked)).past

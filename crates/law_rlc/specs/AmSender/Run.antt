@@ -29,9 +29,10 @@ pub record World (G : Type 0) : Type 0 where
   pub state : State
   pub past : G
 
-abbrev pub run : {G : Type 0} → (State → Call → G → G) → List Call → World G → World G
-run grow [] w = w
-run grow (c ∷ cs) w = run grow cs (record { state = after w.state c; past = grow w.state c w.past })
+abbrev pub run_am_sender : {G : Type 0} → (State → Call → G → G) → List Call → World G → World G
+run_am_sender grow [] w = w
+run_am_sender grow (c ∷ cs) w =
+    run_am_sender grow cs (record { state = after w.state c; past = grow w.state c w.past })
 
 abbrev pub begun : {G : Type 0} → AmTxConfig → G → World G
 begun config g = record { state = start config; past = g }

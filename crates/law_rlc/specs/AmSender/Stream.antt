@@ -7,7 +7,7 @@ use Rattle.rlc_am_tx.specs.declared.turn.Turn.{Turn}
 use Rattle.rlc_am_tx.specs.declared.turn.Turn.TheVariants as turns
 use Rattle.rlc_am_tx.specs.Machine.{State, turn, new_slot}
 use Rattle.law_rlc.specs.AmSender.Run.{Call, Offer, Take, Status, Tick, Expire, Settle, Confirm}
-use Rattle.law_rlc.specs.AmSender.Run.{World, run, begun}
+use Rattle.law_rlc.specs.AmSender.Run.{World, run_am_sender, begun}
 
 -- the octets of all SDUs offered, one behind the other, those of all new PDUs, and how many new
 -- PDUs there were
@@ -45,4 +45,5 @@ pub record IsCarried (w : World Streams) : Type 0 where
 abbrev pub CarriesTheStream : Type 0
 CarriesTheStream = (config : AmTxConfig) (calls : List Call)
     → IsCarried
-    (run streams_after calls (begun config (record { offered = []; carried = []; sent = 0 })))
+    (run_am_sender streams_after calls (begun config
+    (record { offered = []; carried = []; sent = 0 })))

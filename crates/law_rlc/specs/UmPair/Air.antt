@@ -7,7 +7,7 @@ use Rattle.rlc_um.specs.Joined.{Parts}
 use Rattle.rlc_um.specs.Receiver.{all_joined}
 use Rattle.rlc_um.specs.Sender.{width_of}
 use Rattle.law_rlc.specs.UmPair.Run.{Call, Arrive, Expire, Tick, Up, World, happens, found}
-use Rattle.law_rlc.specs.UmPair.Run.{read_number, run, fresh}
+use Rattle.law_rlc.specs.UmPair.Run.{read_number, run_um_receiver, fresh}
 use Rattle.law_rlc.specs.UmPair.Send.{Step, Flow, flow, at_first, carried}
 use Rattle.law_rlc.specs.UmPair.Loss.{IsSome}
 
@@ -48,11 +48,11 @@ GoUpInOrder = (bits reorder : ℕ) (steps : List Step) (calls : List Call) → I
     → AreSent (flow steps (at_first bits)).made (width_of bits) calls
     (fresh (width_of bits) reorder)
     → IsDelivered (width_of bits) (flow steps (at_first bits))
-    (run calls (fresh (width_of bits) reorder))
+    (run_um_receiver calls (fresh (width_of bits) reorder))
 
 abbrev pub ReadsTrueNumbers : Type 0
 ReadsTrueNumbers = (bits reorder : ℕ) (steps : List Step) (calls : List Call) → IsUmBits bits
     → AreSent (flow steps (at_first bits)).made (width_of bits) calls
     (fresh (width_of bits) reorder) → (pdu : UmdPdu)
     → IsReadTruly (flow steps (at_first bits)).made (width_of bits)
-    (run calls (fresh (width_of bits) reorder)) pdu
+    (run_um_receiver calls (fresh (width_of bits) reorder)) pdu

@@ -65,9 +65,9 @@ happens w Expire = record w { state = expired w.state; mark = mark_after w.state
 happens w Tick = record w { state = counted w.state }
 happens w Up = record w { state = handed w.state; gone = w.gone ++ take 1 w.state.joined.ready }
 
-abbrev pub run : List Call → World → World
-run [] w = w
-run (c ∷ cs) w = run cs (happens w c)
+abbrev pub run_um_receiver : List Call → World → World
+run_um_receiver [] w = w
+run_um_receiver (c ∷ cs) w = run_um_receiver cs (happens w c)
 
 -- what the PDU of a number carries, where it was accepted
 abbrev pub found : List Accepted → ℕ → Option Parts

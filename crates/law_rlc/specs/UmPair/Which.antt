@@ -1,14 +1,15 @@
 -- Which SDUs go up (TS 36.322 5.1.2.2.3): those all of whose elements came, told by their places
 -- among the SDUs that were offered.
 use Rattle.std.specs.Prelude.{◌≡◌, ℕ, zero, suc, ◌+◌, ◌-◌, ◌*◌, Bool, true, false, not, ◌||◌, ◌&&◌}
-use Rattle.std.specs.Prelude.{if◌then◌else◌, List, [], ◌∷◌, ◌++◌, map, length, slice_index_or}
+use Rattle.std.specs.Prelude.{if◌then◌else◌, List, [], ◌∷◌, ◌++◌, length}
 use Rattle.std.specs.Prelude.{nat_lt}
 use Rattle.l2_num.specs.Ascending.{AreBetween}
 use Rattle.rlc_pdu.specs.Pdus.{UmdPdu, IsUmBits}
 use Rattle.rlc_um.specs.Joined.{Parts, parts_of}
 use Rattle.rlc_um.specs.Receiver.{all_joined}
 use Rattle.rlc_um.specs.Sender.{width_of}
-use Rattle.law_rlc.specs.UmPair.Run.{Call, Accepted, World, run, fresh, is_accepted}
+use Rattle.law_words.specs.Lists.{those}
+use Rattle.law_rlc.specs.UmPair.Run.{Call, Accepted, World, run_um_receiver, fresh, is_accepted}
 use Rattle.law_rlc.specs.UmPair.Send.{Step, Flow, flow, at_first}
 use Rattle.law_rlc.specs.UmPair.Air.{AreSent}
 
@@ -59,12 +60,9 @@ places_below width w edge made =
 abbrev pub places_up : ℕ → World → List UmdPdu → List ℕ
 places_up width w made = places_below width w w.state.window.edge made
 
-abbrev pub those : List ℕ → List (List ℕ) → List (List ℕ)
-those places sdus = map (λ place. slice_index_or sdus place []) places
-
 -- what went up and may go up are the SDUs that came whole in the numbers below VR(UR), and as the
 -- receiver ends those in any numbers
-pub record IsWhatCame (width : ℕ) (f : Flow) (w : World) : Type 0 where
+pub record IsWhatCameToRlc (width : ℕ) (f : Flow) (w : World) : Type 0 where
   pub order : AreBetween 0 (places_up width w f.made) (length f.offered)
   pub up : w.gone ++ w.state.joined.ready ≡ those (places_up width w f.made) f.offered
   pub last_order : AreBetween 0 (places_below width w w.top f.made) (length f.offered)
@@ -74,8 +72,8 @@ abbrev pub HandsUpWhatCame : Type 0
 HandsUpWhatCame = (bits reorder : ℕ) (steps : List Step) (calls : List Call) → IsUmBits bits
     → AreSent (flow steps (at_first bits)).made (width_of bits) calls
     (fresh (width_of bits) reorder)
-    → IsWhatCame (width_of bits) (flow steps (at_first bits))
-    (run calls (fresh (width_of bits) reorder))
+    → IsWhatCameToRlc (width_of bits) (flow steps (at_first bits))
+    (run_um_receiver calls (fresh (width_of bits) reorder))
 
 -- later only more go up
 pub record HasMore (xs ys : List ℕ) : Type 0 where
@@ -90,5 +88,5 @@ abbrev pub MoreGoUpLater : Type 0
 MoreGoUpLater = (bits reorder : ℕ) (steps more : List Step) (calls later : List Call)
     → IsUmBits bits
     → GoesOn (width_of bits) (flow steps (at_first bits)) (flow (steps ++ more) (at_first bits))
-    (run calls (fresh (width_of bits) reorder))
-    (run (calls ++ later) (fresh (width_of bits) reorder))
+    (run_um_receiver calls (fresh (width_of bits) reorder))
+    (run_um_receiver (calls ++ later) (fresh (width_of bits) reorder))
