@@ -8,6 +8,7 @@ pub mod Going
 pub mod Sending
 pub mod Passing
 pub mod Calling
+pub mod Waking
 pub mod Visiting
 pub mod Advancing
 pub mod Leaving

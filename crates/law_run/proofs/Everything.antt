@@ -14,6 +14,7 @@ use Rattle.law_run.proofs.Playing.{tells-all}
 use Rattle.law_run.proofs.Reaching.{come_by_calls}
 use Rattle.law_run.proofs.Texts.{none_meet}
 use Rattle.law_run.proofs.Signalling.{delivers_each_life, drains_leave_no_signal, handovers_bring_none}
+use Rattle.law_run.proofs.Sleeping.{sleeps_behind_drx}
 use Rattle.law_run.proofs.Standing.{lines_tell}
 use Rattle.law_run.proofs.Zero.{bring_in_order}
 
@@ -25,6 +26,7 @@ every-journal whole octets =
       journal_is = rw t.history_is t.journal_is;
       order = t.order;
       in_turn = (behind t.later t.order).in_turn;
+      sleeps = sleeps_behind_drx t.later t.order;
       carried = are_carried t.later t.order;
       keys = (keys_behind t.later t.order).distinct;
       counts = counts_behind t.later t.order;

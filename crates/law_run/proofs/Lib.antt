@@ -10,6 +10,7 @@ pub mod Ttis
 pub mod Lines
 pub mod Processes
 pub mod Past
+pub mod Sleeping
 pub mod Ending
 pub mod Modes
 pub mod Knowing

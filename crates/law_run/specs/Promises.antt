@@ -19,6 +19,7 @@ use Rattle.law_run.specs.Order.{KeepsOrder}
 use Rattle.promises.specs.Signalling.{DeliversEachLife, DrainsLeaveNoSignal, HandoversBringNoSignal}
 use Rattle.law_run.specs.Sums.{sums_at}
 use Rattle.law_run.specs.Texts.{NoneMeet}
+use Rattle.promises.specs.Sleeps.{SleepsBehindDrx}
 use Rattle.promises.specs.Telling.{LinesTell}
 use Rattle.promises.specs.Zero.{BringInOrder}
 
@@ -29,6 +30,8 @@ pub record IsPromised (played : Played) : Type 0 where
   pub order : KeepsOrder past
   -- its TTIs are numbered from 0 on, each once
   pub in_turn : filter is_tti (history past) ≡ numbered 0 (ttis past)
+  -- the terminal sleeps only behind a `drx` line
+  pub sleeps : SleepsBehindDrx past
   -- its blocks are those of HARQ's processes, in every life
   pub carried : AreCarried past
   -- no key is given twice

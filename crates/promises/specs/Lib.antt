@@ -5,6 +5,7 @@ pub mod Flows
 pub mod Configs
 pub mod Flights
 pub mod Air
+pub mod Sleeps
 pub mod Heard
 pub mod Awards
 pub mod Carried
