@@ -14,7 +14,9 @@ use Rattle.air_run.specs.Draining.{told_by, rounds, budget, drained}
 use Rattle.air_record.specs.Endings.{ending}
 use Rattle.air_run.specs.Playing.{keys_or_none, acted, played}
 use Rattle.air_record.specs.Cells.{next_keys}
+use Rattle.air_run.specs.Rules.{rule_broken, is_idle}
 use Rattle.air_run.specs.Run.{fresh, behind_line}
+use Rattle.air_run.specs.declared.refusal.RunRefusal.TheVariants.{TimerIdle}
 use Rattle.air_text.specs.Groups.{Group}
 use Rattle.air_text.specs.Ranges.{IsInRange}
 use Rattle.law_words.specs.Sequences.{nothing, ◌then◌}
@@ -25,13 +27,14 @@ use Rattle.l2_types.specs.declared.side.Side.TheVariants.{Nb, Ue}
 use Rattle.law_air.specs.AnyCalls.Calls as calls
 use Rattle.law_air.specs.AnyCalls.Ends.{LivesOn}
 use Rattle.law_air.specs.AnyCalls.Order.{channels_of, Leaves}
-use Rattle.promises.specs.Order.{Channels, OfRecords, LoopTells, TtiTells, DrainTtiTells, TimerTells, ReceiversTell}
+use Rattle.promises.specs.Order.{Channels, OfRecords, LoopTells, TtiTells, DrainTtiTells, ExpiryTells, ReceiversTell}
 use Rattle.promises.specs.Order.{ForgeTells, HandoverTells, SubmitTells}
 use Rattle.law_air.proofs.AnyCalls.Advancing.{call_goes_on, drain_goes}
 use Rattle.law_air.proofs.AnyCalls.Channels.{channels_over, channels_go}
 use Rattle.law_air.proofs.AnyCalls.Ordering.{leaves_then, leaves_nothing}
 use Rattle.law_air.proofs.AnyCalls.Passing.{drain_adds}
-use Rattle.law_air.proofs.AnyCalls.Standing.{Ready, both_ready_on, call_tells, submissions_tell, tti_tells, drain_tells}
+use Rattle.law_air.proofs.AnyCalls.Standing.{Ready, both_ready_on, call_tells, expiry_tells, submissions_tell}
+use Rattle.law_air.proofs.AnyCalls.Standing.{tti_tells, drain_tells}
 use Rattle.pdu_show.specs.declared.kinds.Layout.{Layout}
 use Rattle.prioritise.specs.Shares.{no_channels}
 use Rattle.test_loop.specs.declared.Mode.TheVariants.{Off, A, B}
@@ -40,6 +43,7 @@ use Rattle.promises.specs.Blocks.{kinds}
 use Rattle.law_run.specs.Order.{state_behind, KeepsOrder}
 use Rattle.promises.specs.Telling.{SendersTellUnless, RoundTells, DrainTells, LineTells, channels_by, channels}
 use Rattle.promises.specs.Telling.{LinesTell}
+use Rattle.law_run.proofs.Keys.{not_second, no_cause}
 use Rattle.law_run.proofs.Past.{behind as all_behind, link_behind}
 use Rattle.law_run.proofs.Reaching.{round_goes, lives_by, group_goes, kinds_behind}
 use Rattle.law_run.proofs.Ttis.{round_adds}
@@ -194,33 +198,33 @@ drained_tells c grant l within none r =
 -- ---- every line
 
 line_tells : (line : Line) (keys : Option Keys) (c : Side → Channels) (l : Link) → l.out ≡ [] → IsInRange line
-    → Ready c l → LineTells l.ttis l.kinds c line (played line keys l).out
+    → is_idle line l ≡ false → Ready c l → LineTells l.ttis l.kinds c line (played line keys l).out
 unfolding acted
-line_tells (lines.Harq maximum) keys c l none fits r = alone nothing l _ none (call_tells (calls.Visits maximum) c l r)
-line_tells lines.Bsr keys c l none fits r = alone nothing l _ none (call_tells calls.Reports c l r)
-line_tells (lines.Keys ks) keys c l none fits r = none
-line_tells (lines.Bearer config options) keys c l none fits r =
+line_tells (lines.Harq maximum) keys c l none fits runs r = alone nothing l _ none (call_tells (calls.Visits maximum) c l r)
+line_tells lines.Bsr keys c l none fits runs r = alone nothing l _ none (call_tells calls.Reports c l r)
+line_tells (lines.Keys ks) keys c l none fits runs r = none
+line_tells (lines.Bearer config options) keys c l none fits runs r =
     alone nothing l _ none (call_tells (calls.Bears config (keys_or_none keys)) c l r)
-line_tells (lines.Submit side lcid octets) keys c l none fits r =
+line_tells (lines.Submit side lcid octets) keys c l none fits runs r =
     alone (SubmitTells side lcid) l _ none (submissions_tell side lcid octets l)
-line_tells (lines.Tti up_grant up down_grant down) keys c l none fits r =
+line_tells (lines.Tti up_grant up down_grant down) keys c l none fits runs r =
     alone (TtiTells l.ttis l.kinds c) l _ none (tti_tells c up_grant up down_grant down l fits.down r)
-line_tells (lines.Expire side lcid clock) keys c l none fits r =
-    alone (TimerTells side lcid clock) l _ none (call_tells (calls.Expires side lcid clock) c l r)
-line_tells (lines.Handover user rrc integrity) keys c l none fits r =
+line_tells (lines.Expire side lcid clock) keys c l none fits runs r =
+    alone (ExpiryTells side lcid clock) l _ none (expiry_tells c side lcid clock l r runs)
+line_tells (lines.Handover user rrc integrity) keys c l none fits runs r =
     alone (HandoverTells c) l _ none
     (call_tells (calls.HandsOver (next_keys user rrc integrity (keys_or_none keys))) c l r)
-line_tells lines.LoopOff keys c l none fits r = alone LoopTells l _ none (call_tells (calls.Loops Off) c l r)
-line_tells (lines.LoopA size) keys c l none fits r = alone LoopTells l _ none (call_tells (calls.Loops (A size)) c l r)
-line_tells (lines.LoopB delay) keys c l none fits r =
+line_tells lines.LoopOff keys c l none fits runs r = alone LoopTells l _ none (call_tells (calls.Loops Off) c l r)
+line_tells (lines.LoopA size) keys c l none fits runs r = alone LoopTells l _ none (call_tells (calls.Loops (A size)) c l r)
+line_tells (lines.LoopB delay) keys c l none fits runs r =
     alone LoopTells l _ none (call_tells (calls.Loops (B delay)) c l r)
-line_tells (lines.Drain grant) keys c l none fits r = drained_tells c grant l fits none r
-line_tells (lines.Forge side octets) keys c l none fits r =
+line_tells (lines.Drain grant) keys c l none fits runs r = drained_tells c grant l fits none r
+line_tells (lines.Forge side octets) keys c l none fits runs r =
     alone (ForgeTells side (c side) octets) l _ none (call_tells (calls.Forges side octets) c l r)
-line_tells (lines.Discard lcid count) keys c l none fits r =
+line_tells (lines.Discard lcid count) keys c l none fits runs r =
     alone nothing l _ none (call_tells (calls.Discards lcid count) c l r)
-line_tells (lines.Drx config) keys c l none fits r = alone nothing l _ none (call_tells (calls.Listens config) c l r)
-line_tells lines.End keys c l none fits r = none
+line_tells (lines.Drx config) keys c l none fits runs r = alone nothing l _ none (call_tells (calls.Listens config) c l r)
+line_tells lines.End keys c l none fits runs r = none
 
 -- ---- the channels behind groups
 
@@ -285,7 +289,9 @@ lines_tell (g ∷ past) (right, order) =
       nb = record { come = come.nb; channels_are = are.nb };
       ue = record { come = come.ue; channels_are = are.ue };
     } in
-    let told = line_tells g.line (state_behind past).rules.keys c l b.nothing right.in_range ready in
+    let rules = (state_behind past).rules in
+    let runs = no_cause (is_idle g.line l) TimerIdle (not_second (rule_broken g.line rules l) _ right.allowed) in
+    let told = line_tells g.line rules.keys c l b.nothing right.in_range runs ready in
     let here = subst (λ (t : ℕ). LineTells t l.kinds c g.line out) (sym b.ttis_is) told in
     let known = subst (λ (ks : List (Option Layout)). LineTells (ttis_behind past) ks c g.line out)
     (kinds_behind past order) here in

@@ -153,9 +153,13 @@ DrainTtiTells t kinds c = just (records.Tti t) then BothPassOver t kinds c
 
 -- ---- the other calls
 
--- a timer expires, where it runs, and the loop returns what goes up
+-- a timer expires, and the loop returns what goes up
+abbrev pub ExpiryTells : Side → ℕ → Clock → OfRecords
+ExpiryTells side lcid clock = EndTells side (of_an_expiry lcid clock) then LoopTells
+
+-- where it runs
 abbrev pub TimerTells : Side → ℕ → Clock → OfRecords
-TimerTells side lcid clock = maybe (EndTells side (of_an_expiry lcid clock) then LoopTells)
+TimerTells side lcid clock = maybe (ExpiryTells side lcid clock)
 
 -- those of a drain, of each channel in turn: the base station's, then the terminal's
 abbrev pub ReceiverTells : Side → ℕ → OfRecords

@@ -1,7 +1,7 @@
 -- The records of a link stand in order through its stages and calls.
 use Rattle.std.proofs.Common.{◌≡◌, ◌≤◌, ℕ, ◌==◌, Bool, true, false, if◌then◌else◌, Option, Some, None, IfSome, List, []}
 use Rattle.std.proofs.Common.{◌∷◌, ◌++◌, map, append-nil, refl, ap, sym, subst, inl, inr, ◌∙◌}
-use Rattle.std.specs.Prelude.{unwrap_or}
+use Rattle.std.specs.Prelude.{unwrap_or, is_none}
 use Rattle.air_link.specs.Downlink.{builds, built_ndi, block_at, sends, receives, hears, feeds, told_as, is_good}
 use Rattle.air_link.specs.Downlink.{answer, comes, hears_by, lands, unseen, down_order, down_by, downlink}
 use Rattle.air_record.specs.Outcomes.{turned, intact, missed}
@@ -58,7 +58,8 @@ use Rattle.law_air.specs.AnyCalls.Ends.{GoesOn, IsGiven}
 use Rattle.promises.specs.Built.{block_told}
 use Rattle.law_air.specs.AnyCalls.Order.{both, CallTells, Leaves}
 use Rattle.promises.specs.Order.{Channels, of_hearing, of_timers, of_leaving, OfRecords, EndTells, LoopTells, GoesOut}
-use Rattle.promises.specs.Order.{IsHeard, MayPassOver, BothPassOver, TtiTells, DrainTtiTells, TimerTells, ReceiverTells}
+use Rattle.promises.specs.Order.{IsHeard, MayPassOver, BothPassOver, TtiTells, DrainTtiTells, ExpiryTells, TimerTells}
+use Rattle.promises.specs.Order.{ReceiverTells}
 use Rattle.promises.specs.Order.{ReceiversTell, SenderTells, SendersTell, ForgeTells, HandoverTells, IsRefused}
 use Rattle.promises.specs.Order.{SubmitTells}
 use Rattle.law_air.specs.AnyCalls.Zero.{HaveCome}
@@ -412,16 +413,33 @@ drain_tells c grant l within r =
 
 -- ---- timers expire
 
-expires_by_tells : (r : Option (List Event)) (side : Side) (lcid : ℕ) (clock : Clock) (l m : Link) → m.out ≡ l.out
-    → TellNoLoop (unwrap_or r []) → IfSome r (of_an_expiry lcid clock)
-    → Leaves (TimerTells side lcid clock) l (expires_by r side m)
-expires_by_tells None side lcid clock l m same none is =
-    may_rest (EndTells side (of_an_expiry lcid clock) then LoopTells) l m same
-expires_by_tells (Some es) side lcid clock l m same none is =
+expiry_by_tells : (r : Option (List Event)) (side : Side) (lcid : ℕ) (clock : Clock) (l m : Link) → m.out ≡ l.out
+    → TellNoLoop (unwrap_or r []) → IfSome r (of_an_expiry lcid clock) → is_none r ≡ false
+    → Leaves (ExpiryTells side lcid clock) l (expires_by r side m)
+expiry_by_tells None side lcid clock l m same none is runs = absurd cc
+expiry_by_tells (Some es) side lcid clock l m same none is runs =
     let n = tells_all side es m in
     let End = EndTells side (of_an_expiry lcid clock) in
     let to_n = leaves_from End l m n same (end_tells (of_an_expiry lcid clock) side es m none is) in
-    may_leave (End then LoopTells) l (loops n) (leaves_then End LoopTells l n (loops n) to_n (loops_tells n))
+    leaves_then End LoopTells l n (loops n) to_n (loops_tells n)
+
+-- a timer that runs
+pub expiry_tells : (c : Side → Channels) (side : Side) (lcid : ℕ) (clock : Clock) (l : Link) → Ready c l
+    → is_none (expiring side lcid clock l) ≡ false → Leaves (ExpiryTells side lcid clock) l (expires side lcid clock l)
+unfolding expires
+expiry_tells c side lcid clock l r runs =
+    let e = end_of side l in
+    expiry_by_tells (expiring side lcid clock l) side lcid clock l (expires_alone side lcid clock l)
+    (end_out side _ l) (tells_no_loop e (Expire lcid clock))
+    (expires_in_order side (c side) e (ready_at side c l r) lcid clock) runs
+
+expires_by_tells : (r : Option (List Event)) (side : Side) (lcid : ℕ) (clock : Clock) (l m : Link) → m.out ≡ l.out
+    → TellNoLoop (unwrap_or r []) → IfSome r (of_an_expiry lcid clock)
+    → Leaves (TimerTells side lcid clock) l (expires_by r side m)
+expires_by_tells None side lcid clock l m same none is = may_rest (ExpiryTells side lcid clock) l m same
+expires_by_tells (Some es) side lcid clock l m same none is =
+    may_leave (ExpiryTells side lcid clock) l (expires_by (Some es) side m)
+    (expiry_by_tells (Some es) side lcid clock l m same none is refl)
 
 expires_tells : (c : Side → Channels) (side : Side) (lcid : ℕ) (clock : Clock) (l : Link) → Ready c l
     → Leaves (TimerTells side lcid clock) l (expires side lcid clock l)
@@ -444,7 +462,7 @@ goes_then These Those c l m n p q = record { leaves = leaves_then These Those l 
 timer_if : (b : Bool) (c : Side → Channels) (side : Side) (lcid : ℕ) (clock : Clock) (l : Link) → Ready c l
     → Leaves (TimerTells side lcid clock) l (if b then expires side lcid clock l else l)
 timer_if true c side lcid clock l r = expires_tells c side lcid clock l r
-timer_if false c side lcid clock l r = may_rest (EndTells side (of_an_expiry lcid clock) then LoopTells) l l refl
+timer_if false c side lcid clock l r = may_rest (ExpiryTells side lcid clock) l l refl
 
 timer_tells : (c : Side → Channels) (side : Side) (lcid : ℕ) (clock : Clock) (l : Link) → Ready c l
     → Leaves (TimerTells side lcid clock) l (timer_expires side clock lcid l)
