@@ -18,12 +18,13 @@ use Rattle.law_run.proofs.Sleeping.{sleeps_behind_drx}
 use Rattle.law_run.proofs.Standing.{lines_tell}
 use Rattle.law_run.proofs.Zero.{bring_in_order}
 
-pub every-journal : (whole : Bool) (octets : List ℕ) → IsPromised (journal_of whole octets)
+pub every-journal : (whole : Bool) (octets : List ℕ) → IsPromised whole octets (journal_of whole octets)
 every-journal whole octets =
     let t = tells-all whole octets in
     record {
       past = t.later;
       journal_is = rw t.history_is t.journal_is;
+      lines_are = t.lines_are;
       order = t.order;
       in_turn = (behind t.later t.order).in_turn;
       sleeps = sleeps_behind_drx t.later t.order;

@@ -1,6 +1,6 @@
 -- What is promised of the journal of every script, over its groups, of which the newest stands
 -- first (docs/formats/JOURNAL.md).
-use Rattle.std.specs.Prelude.{◌≡◌, List, ◌++◌}
+use Rattle.std.specs.Prelude.{◌≡◌, ℕ, Bool, List, ◌++◌}
 use Rattle.std.specs.List.{filter}
 use Rattle.air_run.specs.Journal.{Played}
 use Rattle.air_text.specs.Groups.{Group, history}
@@ -17,16 +17,20 @@ use Rattle.promises.specs.Loops.{ReturnInOrder}
 use Rattle.law_run.specs.Losses.{DeliversWhileShort}
 use Rattle.law_run.specs.Order.{KeepsOrder}
 use Rattle.promises.specs.Signalling.{DeliversEachLife, DrainsLeaveNoSignal, HandoversBringNoSignal}
+use Rattle.law_run.specs.Script.{lines_of, accepted_lines}
 use Rattle.law_run.specs.Sums.{sums_at}
 use Rattle.law_run.specs.Texts.{NoneMeet}
 use Rattle.promises.specs.Sleeps.{SleepsBehindDrx}
 use Rattle.promises.specs.Telling.{LinesTell}
 use Rattle.promises.specs.Zero.{BringInOrder}
 
--- a journal with its promises: its groups, and at its end the sums where it is finished
-pub record IsPromised (played : Played) : Type 0 where
+-- the journal of octets, of which more may come, with its promises: its groups, and at its end the
+-- sums where it is finished
+pub record IsPromised (whole : Bool) (octets : List ℕ) (played : Played) : Type 0 where
   pub past : List Group
   pub journal_is : played.journal ≡ history past ++ sums_at played.close past
+  -- its lines are those of the script that are accepted, each with its number
+  pub lines_are : lines_of past ≡ accepted_lines whole octets played.close
   pub order : KeepsOrder past
   -- its TTIs are numbered from 0 on, each once
   pub in_turn : filter is_tti (history past) ≡ numbered 0 (ttis past)
