@@ -24,5 +24,6 @@ pub mod Stilling
 pub mod Arriving
 pub mod Channels
 pub mod Orders
+pub mod Readable
 pub mod Ordering
 pub mod Standing
