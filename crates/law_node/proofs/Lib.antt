@@ -21,6 +21,8 @@ pub mod Looping
 pub mod Keeping
 pub mod Pdcp
 pub mod Owning
+pub mod Queueing
+pub mod Plain
 pub mod KindsStay
 pub mod Counted
 pub mod Steps

@@ -29,6 +29,8 @@ pub mod Flowing
 pub mod Seen
 pub mod Delivering
 pub mod Arriving
+pub mod Taking
+pub mod Queueing
 pub mod Drains
 pub mod Zero
 pub mod Standing

@@ -122,7 +122,8 @@ first_turn Each kinds' c n done l m d one next q = record {
 ttis_turn : (kinds' : List (Option Layout)) (c : Side → Channels) (n grant : ℕ) (l : Link) → c Nb ≡ c Ue
     → grant ≤ 9422 → l.out ≡ []
     → l.kinds ≡ kinds' → Ready c l → Turns (λ t. DrainTtiTells t kinds' c) kinds' c n l (ttis n grant l)
-ttis_turn kinds' c zero grant l alike within none same r = no_turn (λ t. DrainTtiTells t kinds' c) kinds' c l none same r
+ttis_turn kinds' c zero grant l alike within none same r =
+    no_turn (λ t. DrainTtiTells t kinds' c) kinds' c l none same r
 ttis_turn kinds' c (suc n) grant l alike within none same r =
     let m = drain_tti grant l in
     let g = (drain_goes grant l within).goes in
@@ -203,7 +204,8 @@ drained_tells c grant l alike within none r =
 line_tells : (line : Line) (keys : Option Keys) (c : Side → Channels) (l : Link) → l.out ≡ [] → IsInRange line
     → is_idle line l ≡ false → c Nb ≡ c Ue → Ready c l → LineTells l.ttis l.kinds c line (played line keys l).out
 unfolding acted
-line_tells (lines.Harq maximum) keys c l none fits runs alike r = alone nothing l _ none (call_tells (calls.Visits maximum) c l r)
+line_tells (lines.Harq maximum) keys c l none fits runs alike r =
+    alone nothing l _ none (call_tells (calls.Visits maximum) c l r)
 line_tells lines.Bsr keys c l none fits runs alike r = alone nothing l _ none (call_tells calls.Reports c l r)
 line_tells (lines.Keys ks) keys c l none fits runs alike r = none
 line_tells (lines.Bearer config options) keys c l none fits runs alike r =
@@ -218,7 +220,8 @@ line_tells (lines.Handover user rrc integrity) keys c l none fits runs alike r =
     alone (HandoverTells c) l _ none
     (call_tells (calls.HandsOver (next_keys user rrc integrity (keys_or_none keys))) c l r)
 line_tells lines.LoopOff keys c l none fits runs alike r = alone LoopTells l _ none (call_tells (calls.Loops Off) c l r)
-line_tells (lines.LoopA size) keys c l none fits runs alike r = alone LoopTells l _ none (call_tells (calls.Loops (A size)) c l r)
+line_tells (lines.LoopA size) keys c l none fits runs alike r =
+    alone LoopTells l _ none (call_tells (calls.Loops (A size)) c l r)
 line_tells (lines.LoopB delay) keys c l none fits runs alike r =
     alone LoopTells l _ none (call_tells (calls.Loops (B delay)) c l r)
 line_tells (lines.Drain grant) keys c l none fits runs alike r = drained_tells c grant l alike fits none r
@@ -226,7 +229,8 @@ line_tells (lines.Forge side octets) keys c l none fits runs alike r =
     alone (ForgeTells side (c side) octets) l _ none (call_tells (calls.Forges side octets) c l r)
 line_tells (lines.Discard lcid count) keys c l none fits runs alike r =
     alone nothing l _ none (call_tells (calls.Discards lcid count) c l r)
-line_tells (lines.Drx config) keys c l none fits runs alike r = alone nothing l _ none (call_tells (calls.Listens config) c l r)
+line_tells (lines.Drx config) keys c l none fits runs alike r =
+    alone nothing l _ none (call_tells (calls.Listens config) c l r)
 line_tells lines.End keys c l none fits runs alike r = none
 
 -- ---- the channels behind groups

@@ -13,6 +13,7 @@ use Rattle.promises.specs.Drained.{DrainsLeaveNothing}
 use Rattle.law_run.specs.Ends.{ComeByCalls}
 use Rattle.promises.specs.Keys.{all_keys}
 use Rattle.law_words.specs.Lists.{AreDistinct}
+use Rattle.promises.specs.Limits.{QueuesAreShort}
 use Rattle.promises.specs.Loops.{ReturnInOrder}
 use Rattle.law_run.specs.Losses.{DeliversWhileShort}
 use Rattle.law_run.specs.Order.{KeepsOrder}
@@ -21,6 +22,7 @@ use Rattle.law_run.specs.Script.{lines_of, accepted_lines}
 use Rattle.law_run.specs.Sums.{sums_at}
 use Rattle.law_run.specs.Texts.{NoneMeet}
 use Rattle.promises.specs.Sleeps.{SleepsBehindDrx}
+use Rattle.promises.specs.Takes.{TakesName, SdusLeaveInOrder}
 use Rattle.promises.specs.Telling.{LinesTell}
 use Rattle.promises.specs.Zero.{BringInOrder}
 
@@ -54,6 +56,12 @@ pub record IsPromised (whole : Bool) (octets : List ℕ) (played : Played) : Typ
   pub delivered : DeliversInOrder past
   -- exactly those before the first that hasn't come, as the blocks tell, none of which is held back
   pub came : HandUpWhatCame past
+  -- each `take` names the SDU of its COUNT, with its length
+  pub takes : TakesName past
+  -- each unacknowledged data bearer takes or discards the SDUs that it is submitted in their order
+  pub leaving : SdusLeaveInOrder past
+  -- and no more than 1024 SDUs wait
+  pub queues : QueuesAreShort past
   -- and all of it but what is discarded once a drain tells that it is drained, but where the sender
   -- gave up
   pub drained : DrainsLeaveNothing past

@@ -64,8 +64,8 @@ fails_in l event = []
 abbrev pub fails_on : ℕ → List Event → List ℕ
 fails_on l events = flat_map (fails_in l) events
 
--- a PDU of PDCP that comes has a COUNT that was before, or is beyond 32 bits, or it is a report that
--- isn't applied; one of RLC clashes with what is held
+-- a PDU of PDCP that comes has a COUNT that was before, or is beyond 32 bits, or it is a report
+-- that isn't applied; one of RLC clashes with what is held
 abbrev pub is_of_loss : Lost → Bool
 is_of_loss losts.Old = true
 is_of_loss losts.Range = true

@@ -26,3 +26,5 @@ pub mod Pdus
 pub mod Given
 pub mod Taken
 pub mod Arrival
+pub mod Takes
+pub mod Limits

@@ -1,7 +1,7 @@
 -- Each block that a process of an end holds can be read, and each SDU in it is of a channel of the end.
 use Rattle.std.proofs.Common.{◌≡◌, ◌⊎◌, inl, inr, ◌≤◌, ℕ, zero, suc, ◌%◌, ◌==◌, nat_lt, Bool, true, false, cond, ◌||◌}
-use Rattle.std.proofs.Common.{if◌then◌else◌, Option, Some, None, IfSome, Result, Ok, Err, List, [], ◌∷◌, ◌++◌, map, length}
-use Rattle.std.proofs.Common.{replicate, option_map, refl, ap, sym, subst, arith, ◌∙◌}
+use Rattle.std.proofs.Common.{if◌then◌else◌, Option, Some, None, IfSome, Result, Ok, Err, List, [], ◌∷◌, ◌++◌, map}
+use Rattle.std.proofs.Common.{length, replicate, option_map, refl, ap, sym, subst, arith, ◌∙◌}
 use Rattle.std.specs.Prelude.{unwrap_or}
 use Rattle.std.specs.List.{AllByRecursion, list_any}
 use Rattle.std.proofs.lemmas.Bool.{cases_eq, or_right}
@@ -12,8 +12,8 @@ use Rattle.bearer_types.specs.Sides.{sent_by}
 use Rattle.harq.specs.declared.sender.Order.{Order}
 use Rattle.harq.specs.declared.sender.Visit.{Visit}
 use Rattle.harq.specs.declared.sender.Visit.TheVariants.{New, Resend, Silent}
-use Rattle.harq.specs.Sending.{Sending, Block as HeldBlock, fresh as fresh_sender, resent, process_at, visited as visited_by}
-use Rattle.harq.specs.Sending.{visit_answer, after_visit, after_load, after_feedback, held_of}
+use Rattle.harq.specs.Sending.{Sending, Block as HeldBlock, fresh as fresh_sender, resent, process_at}
+use Rattle.harq.specs.Sending.{visited as visited_by, visit_answer, after_visit, after_load, after_feedback, held_of}
 use Rattle.harq.specs.SendHistory.{Turn as Turned, closed, turned}
 use Rattle.l2_node.specs.Building.{IsEnough, visit, visited, built, built_by, loaded}
 use Rattle.l2_node.specs.End.{End, fresh, with_bearer, reset, with_visits}
@@ -31,8 +31,8 @@ use Rattle.mac_pdu.specs.Items.{MacItem, front, element, sdu, padding, sdu_item}
 use Rattle.mac_pdu.specs.Reading.{reading}
 use Rattle.law_node.specs.Blocks.{pdus_by, sdus_by, all_sdus, report}
 use Rattle.law_node.specs.Calls.{Turn, Call, SetVisits, SetReports, Add, Submit, SetDiscard, Tick, TickBuckets, Visits}
-use Rattle.law_node.specs.Calls.{Grants, Granted, Assigned, Pass, Receive, Expire, Move, IsGiven, AreGiven, answered, after}
-use Rattle.law_node.specs.Calls.{run, reached}
+use Rattle.law_node.specs.Calls.{Grants, Granted, Assigned, Pass, Receive, Expire, Move, IsGiven, AreGiven, answered}
+use Rattle.law_node.specs.Calls.{after, run, reached}
 use Rattle.law_node.proofs.Blocks.{has_what_was_written}
 use Rattle.law_node.proofs.Holders.{fresh_none}
 use Rattle.law_air.specs.AnyCalls.Order.{channels_of}

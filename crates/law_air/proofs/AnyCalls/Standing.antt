@@ -259,7 +259,8 @@ goes_down v c t grant order o ndi octets l r reads out =
     (subst (λ (e : End). IsReady Ue (c Ue) e) (sym (ap (λ (s : Seen). s.ue) is)) r.ue))
 
 down_by_tells : (v : Visit) (c : Side → Channels) (t grant : ℕ) (order : Order) (o : Outcome) (ndi : Bool) (l : Link)
-    → Ready c l → (visit t order l.nb ≡ v → (v ≡ Quiet → ⊥) → CanRead Nb (c Ue) (block_at t (builds Nb t grant order l).nb))
+    → Ready c l
+    → (visit t order l.nb ≡ v → (v ≡ Quiet → ⊥) → CanRead Nb (c Ue) (block_at t (builds Nb t grant order l).nb))
     → visit t order l.nb ≡ v
     → Leaves (MayPassOver Nb t l.kinds c) l (down_by v t o ndi (builds Nb t grant order l))
 down_by_tells New c t grant order o ndi l r reads is =
@@ -326,7 +327,8 @@ rises_tells c t flipped good octets l ready =
     (leaves_from (just one) l q r refl (leaves_one one q)) (heard_up good c octets r heard)
 
 goes_up : (v : Visit) (c : Side → Channels) (t grant : ℕ) (order : Order) (o : Outcome) (octets : List ℕ) (l : Link)
-    → Ready c l → CanRead Ue (c Nb) octets → GoesOut Ue t l.kinds (c Ue) octets (visit_records v Ue t grant order l.kinds octets l.ue)
+    → Ready c l → CanRead Ue (c Nb) octets
+    → GoesOut Ue t l.kinds (c Ue) octets (visit_records v Ue t grant order l.kinds octets l.ue)
     → Leaves (MayPassOver Ue t l.kinds c) l
     (up_aired t o.flipped (is_intact o.fate) octets (sends v Ue t octets (awake v t (builds Ue t grant order l))))
 goes_up v c t grant order o octets l r reads out =

@@ -7,7 +7,8 @@ use Rattle.air_link.specs.Telling.{delivers, gathers, fails, noted, tells, tells
 use Rattle.air_link.specs.Loops.{loses, returns_by, returns, returns_all, kept_by, takes, takes_all, loops, owed, paid}
 use Rattle.air_link.specs.Loops.{pays, loop_set}
 use Rattle.air_link.specs.Downlink.{visits as visits_process, builds, built_ndi, block_at, sends, receives, hears}
-use Rattle.air_link.specs.Downlink.{feeds, saw_new, first_seen, decoded, damaged, sees, assigned, answer, comes, hears_by}
+use Rattle.air_link.specs.Downlink.{feeds, saw_new, first_seen, decoded, damaged, sees, assigned, answer, comes}
+use Rattle.air_link.specs.Downlink.{hears_by}
 use Rattle.air_link.specs.Downlink.{aired as aired_down, lands, unseen, goes_down, down_order, down_by, downlink}
 use Rattle.air_link.specs.Uplink.{up_order, is_intact, granted, hears_if, aired as aired_up, awake, goes_up, up_by}
 use Rattle.air_link.specs.Uplink.{answers, grants, passes, uplink}

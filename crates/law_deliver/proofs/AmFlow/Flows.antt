@@ -10,8 +10,8 @@ use Rattle.rlc_pdu.specs.declared.Landed.TheVariants.{Clash}
 use Rattle.rlc_am_rx.specs.Machine.{landed}
 use Rattle.law_rlc.specs.AmSender.Octets.{segment_of}
 use Rattle.law_rlc.specs.AmPair.Flow.{Copy, Report, Flow, DataGoes as LetsDataGo, StatusGoes as LetsStatusGo}
-use Rattle.law_rlc.specs.AmPair.Flow.{Passes as TtiPasses, sender, receiver, except, older as older_reports, goes as flow_goes}
-use Rattle.law_rlc.specs.AmPair.Flow.{outset as flow_outset}
+use Rattle.law_rlc.specs.AmPair.Flow.{Passes as TtiPasses, sender, receiver, except, older as older_reports}
+use Rattle.law_rlc.specs.AmPair.Flow.{goes as flow_goes, outset as flow_outset}
 use Rattle.law_rlc.specs.AmPair.Given.{IsYoung as IsYoungReport}
 use Rattle.law_rlc.specs.AmPair.Statuses.{IsReadRight, reduced}
 use Rattle.law_rlc.proofs.AmPair.Reading.{read_as, stretch-read}

@@ -180,8 +180,8 @@ data_by first p n us b octets x read apart idle h q =
           ∙ ups_are b.pdcp.lcid us;
       none_lost = ap (λ (r : Result AcknowledgedPdu RlcRefusal). losses (arrived_told r b)) read
           ∙ ap (λ (v : Work). losses v.events) all
-          ∙ none_lost_then told (ups b.pdcp.lcid us) (landed_loses_none b.pdcp.lcid (landed b.rx x) (turned b.rx x) apart)
-          (ups_lose_none b.pdcp.lcid us);
+          ∙ none_lost_then told (ups b.pdcp.lcid us)
+          (landed_loses_none b.pdcp.lcid (landed b.rx x) (turned b.rx x) apart) (ups_lose_none b.pdcp.lcid us);
     }
 
 pub data_comes : (first : ℕ) (p : Protection) (n : ℕ) (us : List (List ℕ)) (b : State) (octets : List ℕ) (x : AmdPdu)

@@ -194,8 +194,8 @@ data_go out inn e o sent up got back k c q h =
     let can = are_next inn o e back got (state_after e.bearer.rx (Hears-it x)).out.ready i next in
     let apart : landed e.bearer.rx x ≡ Clash → ⊥ =
     subst (λ (rx : Receiver). landed rx x ≡ Clash → ⊥) i.is.receiver_is r.clashes in
-    let y = data_comes inn.first inn.protection (length got) next.news e.bearer c.octets x r.read apart h.own.idle i.hears
-    can.some can.few next.brought_is in
+    let y = data_comes inn.first inn.protection (length got) next.news e.bearer c.octets x r.read apart h.own.idle
+    i.hears can.some can.few next.brought_is in
     let here = inn_goes inn o e o d back got (state_after e.bearer.rx (Hears-it x)).out.ready i next m y.hears' refl in
     let s = stands_so out e o sent up j in
     let there =
