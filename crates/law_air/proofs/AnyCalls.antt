@@ -8,6 +8,7 @@ pub mod Going
 pub mod Sending
 pub mod Passing
 pub mod Calling
+pub mod Waking
 pub mod Visiting
 pub mod Advancing
 pub mod Leaving
@@ -24,5 +25,6 @@ pub mod Stilling
 pub mod Arriving
 pub mod Channels
 pub mod Orders
+pub mod Readable
 pub mod Ordering
 pub mod Standing

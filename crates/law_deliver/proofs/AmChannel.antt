@@ -7,6 +7,7 @@ pub mod Walk
 pub mod Waiting
 pub mod Choosing
 pub mod Leaving
+pub mod Naming
 pub mod Unset
 pub mod Submitted
 pub mod Delivery

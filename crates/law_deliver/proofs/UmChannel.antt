@@ -6,3 +6,5 @@ pub mod Acting
 pub mod Bearers
 pub mod Walk
 pub mod Delivery
+pub mod Leaving
+pub mod Queue

@@ -23,6 +23,8 @@ pub mod Elsewhere
 pub mod Silences
 pub mod Built
 pub mod Looping
+pub mod Queueing
+pub mod Plain
 pub mod KindsStay
 pub mod Counted
 pub mod Steps

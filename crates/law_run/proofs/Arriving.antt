@@ -3,7 +3,10 @@
 use Rattle.std.proofs.Common.{◌≡◌, ℕ, ◌-◌, List, [], ◌∷◌, length, take, arith, ap, sym, subst, ◌∙◌}
 use Rattle.std.proofs.lemmas.List.{length-take-le}
 use Rattle.air_text.specs.Groups.{Group, history}
+use Rattle.bearer_types.specs.declared.config.BearerConfig.{BearerConfig}
 use Rattle.bearer_types.specs.declared.event.Event.{Event}
+use Rattle.l2_types.specs.declared.channel.Kind.TheVariants.{Am}
+use Rattle.l2_types.specs.declared.side.Side.{Side}
 use Rattle.promises.specs.Taken.{leaves, taken_of}
 use Rattle.promises.specs.Records.{events_of}
 use Rattle.law_words.specs.Arrivals.{AccountEntry, Account, no_account, account}
@@ -17,7 +20,8 @@ use Rattle.law_deliver.specs.AmDelivery.Arrival.{IsWhatCame}
 use Rattle.promises.specs.Events.{discards_on}
 use Rattle.promises.specs.Arrival.{taken as taken_told, account_of, AllHandUpWhatCame, HandUpWhatCame}
 use Rattle.law_run.specs.Order.{KeepsOrder}
-use Rattle.law_run.proofs.Delivering.{alike, is_delivering, tells, went_up_is, was_submitted_is, happened_from}
+use Rattle.law_run.proofs.Delivering.{IsDelivering, alike, is_delivering, tells, went_up_is, was_submitted_is}
+use Rattle.law_run.proofs.Delivering.{happened_from}
 
 -- how many they are
 many_of : (first : ℕ) (a : Account) (news ups : List (List ℕ)) (x : IsWhatCame first a news ups)
@@ -25,6 +29,17 @@ many_of : (first : ℕ) (a : Account) (news ups : List (List ℕ)) (x : IsWhatCa
 many_of first a news ups x =
     let within = x.taken in
     ap length x.ups_are ∙ length-take-le (x.next - first) news (omega (arith, within))
+
+-- and which they are, of those that were submitted
+pub taken_is : (l : ℕ) (c : BearerConfig) (past : List Group) (d : IsDelivering l c past) → c.kind ≡ Am → (from : Side)
+    → taken_at l from d.lived.by.steps (outset d.nb d.ue) ≡ taken_told c l from past
+taken_is l c past d kind from =
+    let steps = d.lived.by.steps in
+    let told = channels_tell_what_is_taken l c d.keys d.nb d.ue from steps (alike l c past d kind) d.lived.by.living in
+    told.taken_are
+    ∙ (ap (λ (es : List Event). taken_of l c.first es (submitted_at l from steps (outset d.nb d.ue)))
+    (tells l c past d from)
+    ∙ ap (taken_of l c.first (told_by from (history past))) (was_submitted_is l c past d from))
 
 came : (past : List Group) → KeepsOrder past → AllHandUpWhatCame past
 came past order from l c e kind own =
@@ -42,10 +57,7 @@ came past order from l c e kind own =
     λ news x. subst (λ (hs : List AccountEntry). IsWhatCame c.first (account hs no_account) news ups)
     (happened_from l c past d c.pdcp_bits from) x in
     let told = channels_tell_what_is_taken l c d.keys d.nb d.ue from steps both living in
-    let is_told : taken ≡ taken_told c l from past =
-    told.taken_are
-    ∙ (ap (λ (es : List Event). taken_of l c.first es all) (tells l c past d from)
-    ∙ ap (taken_of l c.first (events_of from (history past))) (was_submitted_is l c past d from)) in
+    let is_told : taken ≡ taken_told c l from past = taken_is l c past d kind from in
     let x : IsWhatCame c.first said taken ups =
     from_told taken (channels_deliver_what_came l c d.keys d.nb d.ue from steps both living) in
     let up = went_up_is l c past d from in

@@ -11,20 +11,25 @@ use Rattle.law_run.proofs.Losses.{delivers_while_short}
 use Rattle.law_run.proofs.Looping.{return_in_order}
 use Rattle.law_run.proofs.Past.{behind, are_carried}
 use Rattle.law_run.proofs.Playing.{tells-all}
+use Rattle.law_run.proofs.Queueing.{queues_are_short}
 use Rattle.law_run.proofs.Reaching.{come_by_calls}
 use Rattle.law_run.proofs.Meeting.{none_meet}
+use Rattle.law_run.proofs.Taking.{takes_name, sdus_leave_in_order}
 use Rattle.law_run.proofs.Signalling.{delivers_each_life, drains_leave_no_signal, handovers_bring_none}
+use Rattle.law_run.proofs.Sleeping.{sleeps_behind_drx}
 use Rattle.law_run.proofs.Standing.{lines_tell}
 use Rattle.law_run.proofs.Zero.{bring_in_order}
 
-pub every-journal : (whole : Bool) (octets : List ℕ) → IsPromised (journal_of whole octets)
+pub every-journal : (whole : Bool) (octets : List ℕ) → IsPromised whole octets (journal_of whole octets)
 every-journal whole octets =
     let t = tells-all whole octets in
     record {
       past = t.later;
       journal_is = rw t.history_is t.journal_is;
+      lines_are = t.lines_are;
       order = t.order;
       in_turn = (behind t.later t.order).in_turn;
+      sleeps = sleeps_behind_drx t.later t.order;
       carried = are_carried t.later t.order;
       keys = (keys_behind t.later t.order).distinct;
       counts = counts_behind t.later t.order;
@@ -34,6 +39,9 @@ every-journal whole octets =
       brought = bring_in_order t.later t.order;
       delivered = delivers_in_order t.later t.order;
       came = hand_up_what_came t.later t.order;
+      takes = takes_name t.later t.order;
+      leaving = sdus_leave_in_order t.later t.order;
+      queues = queues_are_short t.later t.order;
       drained = drains_leave_nothing t.later t.order;
       signalled = delivers_each_life t.later t.order;
       signals_drained = drains_leave_no_signal t.later t.order;

@@ -10,6 +10,7 @@ pub mod Ttis
 pub mod Lines
 pub mod Processes
 pub mod Past
+pub mod Sleeping
 pub mod Ending
 pub mod Modes
 pub mod Knowing
@@ -30,6 +31,8 @@ pub mod Lives
 pub mod Seen
 pub mod Delivering
 pub mod Arriving
+pub mod Taking
+pub mod Queueing
 pub mod Drains
 pub mod Zero
 pub mod Standing

@@ -14,7 +14,9 @@ use Rattle.air_run.specs.Draining.{told_by, rounds, budget, drained}
 use Rattle.air_record.specs.Endings.{ending}
 use Rattle.air_run.specs.Playing.{keys_or_none, acted, played}
 use Rattle.air_record.specs.Cells.{next_keys}
+use Rattle.air_run.specs.Rules.{rule_broken, is_idle}
 use Rattle.air_run.specs.Run.{fresh, behind_line}
+use Rattle.air_run.specs.declared.refusal.RunRefusal.TheVariants.{TimerIdle}
 use Rattle.air_text.specs.Groups.{Group}
 use Rattle.air_text.specs.Ranges.{IsInRange}
 use Rattle.law_words.specs.Sequences.{nothing, ◌then◌}
@@ -25,13 +27,14 @@ use Rattle.l2_types.specs.declared.side.Side.TheVariants.{Nb, Ue}
 use Rattle.law_air.specs.AnyCalls.Calls as calls
 use Rattle.law_air.specs.AnyCalls.Ends.{LivesOn}
 use Rattle.law_air.specs.AnyCalls.Order.{channels_of, Leaves}
-use Rattle.promises.specs.Order.{Channels, OfRecords, LoopTells, TtiTells, DrainTtiTells, TimerTells, ReceiversTell}
+use Rattle.promises.specs.Order.{Channels, OfRecords, LoopTells, TtiTells, DrainTtiTells, ExpiryTells, ReceiversTell}
 use Rattle.promises.specs.Order.{ForgeTells, HandoverTells, SubmitTells}
 use Rattle.law_air.proofs.AnyCalls.Advancing.{call_goes_on, drain_goes}
 use Rattle.law_air.proofs.AnyCalls.Channels.{channels_over, channels_go}
 use Rattle.law_air.proofs.AnyCalls.Ordering.{leaves_then, leaves_nothing}
 use Rattle.law_air.proofs.AnyCalls.Passing.{drain_adds}
-use Rattle.law_air.proofs.AnyCalls.Standing.{Ready, both_ready_on, call_tells, submissions_tell, tti_tells, drain_tells}
+use Rattle.law_air.proofs.AnyCalls.Standing.{Ready, both_ready_on, call_tells, expiry_tells, submissions_tell}
+use Rattle.law_air.proofs.AnyCalls.Standing.{tti_tells, drain_tells}
 use Rattle.pdu_show.specs.declared.kinds.Layout.{Layout}
 use Rattle.prioritise.specs.Shares.{no_channels}
 use Rattle.test_loop.specs.declared.Mode.TheVariants.{Off, A, B}
@@ -40,6 +43,7 @@ use Rattle.promises.specs.Blocks.{kinds}
 use Rattle.law_run.specs.Order.{state_behind, KeepsOrder}
 use Rattle.promises.specs.Telling.{SendersTellUnless, RoundTells, DrainTells, LineTells, channels_by, channels}
 use Rattle.promises.specs.Telling.{LinesTell}
+use Rattle.law_run.proofs.Keys.{not_second, no_cause}
 use Rattle.law_run.proofs.Past.{behind as all_behind, link_behind}
 use Rattle.law_run.proofs.Reaching.{round_goes, lives_by, group_goes, kinds_behind}
 use Rattle.law_run.proofs.Ttis.{round_adds}
@@ -60,9 +64,9 @@ senders_tell : (b : Bool) (c : Side → Channels) (l : Link) → Ready c l
 senders_tell true c l r = leaves_nothing l l refl
 senders_tell false c l r = call_tells calls.SendersExpire c l r
 
-round_tells : (c : Side → Channels) (grant : ℕ) (l : Link) → grant ≤ 9422 → l.out ≡ [] → Ready c l
+round_tells : (c : Side → Channels) (grant : ℕ) (l : Link) → c Nb ≡ c Ue → grant ≤ 9422 → l.out ≡ [] → Ready c l
     → RoundTells l.ttis l.kinds c (round grant l).out
-round_tells c grant l within none r =
+round_tells c grant l alike within none r =
     let m = drain_tti grant l in
     let n = receivers_expire m in
     let o = senders_unless (carried m) n in
@@ -75,7 +79,7 @@ round_tells c grant l within none r =
       tti = m.out;
       timers = q.more;
       told_is = q.out_is;
-      tti_is = alone (DrainTtiTells l.ttis l.kinds c) l m none (drain_tells c grant l within r);
+      tti_is = alone (DrainTtiTells l.ttis l.kinds c) l m none (drain_tells c grant l alike within r);
       timers_are =
           subst
           (λ (ks : List (Option Layout)). (ReceiversTell then SendersTellUnless (list_any (is_carried ks) m.out))
@@ -115,61 +119,65 @@ first_turn Each kinds' c n done l m d one next q = record {
   };
 }
 
-ttis_turn : (kinds' : List (Option Layout)) (c : Side → Channels) (n grant : ℕ) (l : Link) → grant ≤ 9422 → l.out ≡ []
+ttis_turn : (kinds' : List (Option Layout)) (c : Side → Channels) (n grant : ℕ) (l : Link) → c Nb ≡ c Ue
+    → grant ≤ 9422 → l.out ≡ []
     → l.kinds ≡ kinds' → Ready c l → Turns (λ t. DrainTtiTells t kinds' c) kinds' c n l (ttis n grant l)
-ttis_turn kinds' c zero grant l within none same r = no_turn (λ t. DrainTtiTells t kinds' c) kinds' c l none same r
-ttis_turn kinds' c (suc n) grant l within none same r =
+ttis_turn kinds' c zero grant l alike within none same r =
+    no_turn (λ t. DrainTtiTells t kinds' c) kinds' c l none same r
+ttis_turn kinds' c (suc n) grant l alike within none same r =
     let m = drain_tti grant l in
     let g = (drain_goes grant l within).goes in
     let one = subst (λ (ks : List (Option Layout)). DrainTtiTells l.ttis ks c m.out) same
-    (alone (DrainTtiTells l.ttis l.kinds c) l m none (drain_tells c grant l within r)) in
+    (alone (DrainTtiTells l.ttis l.kinds c) l m none (drain_tells c grant l alike within r)) in
     first_turn (λ t. DrainTtiTells t kinds' c) kinds' c n 0 l m (ttis n grant (shown m)) one
     (drain_adds grant l).ttis_is
-    (ttis_turn kinds' c n grant (shown m) within refl (g.kinds_are ∙ same)
+    (ttis_turn kinds' c n grant (shown m) alike within refl (g.kinds_are ∙ same)
     (shown_ready c m (both_ready_on c _ l m g r)))
 
 abbrev Rounds : List (Option Layout) → (Side → Channels) → ℕ → Link → Drained → Type 0
 Rounds kinds' c n l d = Turns (λ t. RoundTells t kinds' c) kinds' c n l d
 
-round_by : (kinds' : List (Option Layout)) (c : Side → Channels) (n grant : ℕ) (l : Link) → grant ≤ 9422 → l.out ≡ []
+round_by : (kinds' : List (Option Layout)) (c : Side → Channels) (n grant : ℕ) (l : Link) → c Nb ≡ c Ue
+    → grant ≤ 9422 → l.out ≡ []
     → l.kinds ≡ kinds' → Ready c l → (b : Bool)
     → ((m : Link) → m.out ≡ [] → m.kinds ≡ kinds' → Ready c m
     → Rounds kinds' c (rounds n grant m).done m (rounds n grant m))
     → Rounds kinds' c (done_by b + (rounds n grant (left_by b grant l)).done) l
     (behind (told_by b grant l) (done_by b) (rounds n grant (left_by b grant l)))
-round_by kinds' c n grant l within none same r true rest =
+round_by kinds' c n grant l alike within none same r true rest =
     let q = rest l none same r in
     let count : 0 + (rounds n grant l).done ≡ (rounds n grant l).done = omega arith in
     subst (λ (k : ℕ). Rounds kinds' c k l (behind [] 0 (rounds n grant l))) (sym count)
     (record { none = q.none; ready = q.ready; ttis_is = q.ttis_is; kinds_are = q.kinds_are; in_turn = q.in_turn })
-round_by kinds' c n grant l within none same r false rest =
+round_by kinds' c n grant l alike within none same r false rest =
     let m = round grant l in
     let d = rounds n grant (shown m) in
     let g = (round_goes grant l within).goes in
     let count : 1 + d.done ≡ suc d.done = omega arith in
     let one = subst (λ (ks : List (Option Layout)). RoundTells l.ttis ks c m.out) same
-    (round_tells c grant l within none r) in
+    (round_tells c grant l alike within none r) in
     subst (λ (k : ℕ). Rounds kinds' c k l (behind m.out 1 d)) (sym count)
     (first_turn (λ t. RoundTells t kinds' c) kinds' c d.done 1 l m d one (round_adds grant l).ttis_is
     (rest (shown m) refl (g.kinds_are ∙ same) (shown_ready c m (both_ready_on c _ l m g r))))
 
-rounds_turn : (kinds' : List (Option Layout)) (c : Side → Channels) (n grant : ℕ) (l : Link) → grant ≤ 9422
+rounds_turn : (kinds' : List (Option Layout)) (c : Side → Channels) (n grant : ℕ) (l : Link) → c Nb ≡ c Ue
+    → grant ≤ 9422
     → l.out ≡ [] → l.kinds ≡ kinds' → Ready c l → Rounds kinds' c (rounds n grant l).done l (rounds n grant l)
-rounds_turn kinds' c zero grant l within none same r = no_turn (λ t. RoundTells t kinds' c) kinds' c l none same r
-rounds_turn kinds' c (suc n) grant l within none same r =
-    round_by kinds' c n grant l within none same r (is_drained l)
-    (λ m e s q. rounds_turn kinds' c n grant m within e s q)
+rounds_turn kinds' c zero grant l alike within none same r = no_turn (λ t. RoundTells t kinds' c) kinds' c l none same r
+rounds_turn kinds' c (suc n) grant l alike within none same r =
+    round_by kinds' c n grant l alike within none same r (is_drained l)
+    (λ m e s q. rounds_turn kinds' c n grant m alike within e s q)
 
 -- ---- the whole
 
-drained_tells : (c : Side → Channels) (grant : ℕ) (l : Link) → grant ≤ 9422 → l.out ≡ [] → Ready c l
+drained_tells : (c : Side → Channels) (grant : ℕ) (l : Link) → c Nb ≡ c Ue → grant ≤ 9422 → l.out ≡ [] → Ready c l
     → DrainTells l.ttis l.kinds c (drained grant l).journal
 unfolding drained
-drained_tells c grant l within none r =
+drained_tells c grant l alike within none r =
     let d = ttis 8 grant l in
     let e = rounds (budget l) grant d.link in
-    let p = ttis_turn l.kinds c 8 grant l within none refl r in
-    let q = rounds_turn l.kinds c (budget l) grant d.link within p.none p.kinds_are p.ready in
+    let p = ttis_turn l.kinds c 8 grant l alike within none refl r in
+    let q = rounds_turn l.kinds c (budget l) grant d.link alike within p.none p.kinds_are p.ready in
     let whole = behind d.journal 0 e in
     let last = ending (is_drained whole.link) whole.done ∷ [] in
     let count : 0 + e.done ≡ e.done = omega arith in
@@ -194,33 +202,36 @@ drained_tells c grant l within none r =
 -- ---- every line
 
 line_tells : (line : Line) (keys : Option Keys) (c : Side → Channels) (l : Link) → l.out ≡ [] → IsInRange line
-    → Ready c l → LineTells l.ttis l.kinds c line (played line keys l).out
+    → is_idle line l ≡ false → c Nb ≡ c Ue → Ready c l → LineTells l.ttis l.kinds c line (played line keys l).out
 unfolding acted
-line_tells (lines.Harq maximum) keys c l none fits r = alone nothing l _ none (call_tells (calls.Visits maximum) c l r)
-line_tells lines.Bsr keys c l none fits r = alone nothing l _ none (call_tells calls.Reports c l r)
-line_tells (lines.Keys ks) keys c l none fits r = none
-line_tells (lines.Bearer config options) keys c l none fits r =
+line_tells (lines.Harq maximum) keys c l none fits runs alike r =
+    alone nothing l _ none (call_tells (calls.Visits maximum) c l r)
+line_tells lines.Bsr keys c l none fits runs alike r = alone nothing l _ none (call_tells calls.Reports c l r)
+line_tells (lines.Keys ks) keys c l none fits runs alike r = none
+line_tells (lines.Bearer config options) keys c l none fits runs alike r =
     alone nothing l _ none (call_tells (calls.Bears config (keys_or_none keys)) c l r)
-line_tells (lines.Submit side lcid octets) keys c l none fits r =
+line_tells (lines.Submit side lcid octets) keys c l none fits runs alike r =
     alone (SubmitTells side lcid) l _ none (submissions_tell side lcid octets l)
-line_tells (lines.Tti up_grant up down_grant down) keys c l none fits r =
-    alone (TtiTells l.ttis l.kinds c) l _ none (tti_tells c up_grant up down_grant down l fits.down r)
-line_tells (lines.Expire side lcid clock) keys c l none fits r =
-    alone (TimerTells side lcid clock) l _ none (call_tells (calls.Expires side lcid clock) c l r)
-line_tells (lines.Handover user rrc integrity) keys c l none fits r =
+line_tells (lines.Tti up_grant up down_grant down) keys c l none fits runs alike r =
+    alone (TtiTells l.ttis l.kinds c) l _ none (tti_tells c up_grant up down_grant down l alike fits.up fits.down r)
+line_tells (lines.Expire side lcid clock) keys c l none fits runs alike r =
+    alone (ExpiryTells side lcid clock) l _ none (expiry_tells c side lcid clock l r runs)
+line_tells (lines.Handover user rrc integrity) keys c l none fits runs alike r =
     alone (HandoverTells c) l _ none
     (call_tells (calls.HandsOver (next_keys user rrc integrity (keys_or_none keys))) c l r)
-line_tells lines.LoopOff keys c l none fits r = alone LoopTells l _ none (call_tells (calls.Loops Off) c l r)
-line_tells (lines.LoopA size) keys c l none fits r = alone LoopTells l _ none (call_tells (calls.Loops (A size)) c l r)
-line_tells (lines.LoopB delay) keys c l none fits r =
+line_tells lines.LoopOff keys c l none fits runs alike r = alone LoopTells l _ none (call_tells (calls.Loops Off) c l r)
+line_tells (lines.LoopA size) keys c l none fits runs alike r =
+    alone LoopTells l _ none (call_tells (calls.Loops (A size)) c l r)
+line_tells (lines.LoopB delay) keys c l none fits runs alike r =
     alone LoopTells l _ none (call_tells (calls.Loops (B delay)) c l r)
-line_tells (lines.Drain grant) keys c l none fits r = drained_tells c grant l fits none r
-line_tells (lines.Forge side octets) keys c l none fits r =
+line_tells (lines.Drain grant) keys c l none fits runs alike r = drained_tells c grant l alike fits none r
+line_tells (lines.Forge side octets) keys c l none fits runs alike r =
     alone (ForgeTells side (c side) octets) l _ none (call_tells (calls.Forges side octets) c l r)
-line_tells (lines.Discard lcid count) keys c l none fits r =
+line_tells (lines.Discard lcid count) keys c l none fits runs alike r =
     alone nothing l _ none (call_tells (calls.Discards lcid count) c l r)
-line_tells (lines.Drx config) keys c l none fits r = alone nothing l _ none (call_tells (calls.Listens config) c l r)
-line_tells lines.End keys c l none fits r = none
+line_tells (lines.Drx config) keys c l none fits runs alike r =
+    alone nothing l _ none (call_tells (calls.Listens config) c l r)
+line_tells lines.End keys c l none fits runs alike r = none
 
 -- ---- the channels behind groups
 
@@ -285,7 +296,9 @@ lines_tell (g ∷ past) (right, order) =
       nb = record { come = come.nb; channels_are = are.nb };
       ue = record { come = come.ue; channels_are = are.ue };
     } in
-    let told = line_tells g.line (state_behind past).rules.keys c l b.nothing right.in_range ready in
+    let rules = (state_behind past).rules in
+    let runs = no_cause (is_idle g.line l) TimerIdle (not_second (rule_broken g.line rules l) _ right.allowed) in
+    let told = line_tells g.line rules.keys c l b.nothing right.in_range runs refl ready in
     let here = subst (λ (t : ℕ). LineTells t l.kinds c g.line out) (sym b.ttis_is) told in
     let known = subst (λ (ks : List (Option Layout)). LineTells (ttis_behind past) ks c g.line out)
     (kinds_behind past order) here in

@@ -12,4 +12,5 @@ LinesAreInRange = (text : List ℕ) (line : Line) → read_of text ≡ Ok (Some 
 
 -- the journal of every script, of octets that are all there are or of which more may come
 abbrev pub EveryJournal : Type 0
-EveryJournal = (whole : Bool) (octets : List ℕ) → IsPromised (journal_of whole octets)
+EveryJournal =
+    (whole : Bool) (octets : List ℕ) → IsPromised whole octets (journal_of whole octets)

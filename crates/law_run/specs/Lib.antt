@@ -1,4 +1,5 @@
 pub mod Order
+pub mod Script
 pub mod Ends
 pub mod Sums
 pub mod Texts

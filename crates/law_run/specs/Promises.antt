@@ -1,6 +1,6 @@
 -- What is promised of the journal of every script, over its groups, of which the newest stands
 -- first (docs/formats/JOURNAL.md).
-use Rattle.std.specs.Prelude.{◌≡◌, List, ◌++◌}
+use Rattle.std.specs.Prelude.{◌≡◌, ℕ, Bool, List, ◌++◌}
 use Rattle.std.specs.List.{filter}
 use Rattle.air_run.specs.Journal.{Played}
 use Rattle.air_text.specs.Groups.{Group, history}
@@ -13,22 +13,31 @@ use Rattle.promises.specs.Drained.{DrainsLeaveNothing}
 use Rattle.law_run.specs.Ends.{ComeByCalls}
 use Rattle.promises.specs.Keys.{all_keys}
 use Rattle.law_words.specs.Lists.{AreDistinct}
+use Rattle.promises.specs.Limits.{QueuesAreShort}
 use Rattle.promises.specs.Loops.{ReturnInOrder}
 use Rattle.law_run.specs.Losses.{DeliversWhileShort}
 use Rattle.law_run.specs.Order.{KeepsOrder}
 use Rattle.promises.specs.Signalling.{DeliversEachLife, DrainsLeaveNoSignal, HandoversBringNoSignal}
+use Rattle.law_run.specs.Script.{lines_of, accepted_lines}
 use Rattle.law_run.specs.Sums.{sums_at}
 use Rattle.law_run.specs.Texts.{NoneMeet}
+use Rattle.promises.specs.Sleeps.{SleepsBehindDrx}
+use Rattle.promises.specs.Takes.{TakesName, SdusLeaveInOrder}
 use Rattle.promises.specs.Telling.{LinesTell}
 use Rattle.promises.specs.Zero.{BringInOrder}
 
--- a journal with its promises: its groups, and at its end the sums where it is finished
-pub record IsPromised (played : Played) : Type 0 where
+-- the journal of octets, of which more may come, with its promises: its groups, and at its end the
+-- sums where it is finished
+pub record IsPromised (whole : Bool) (octets : List ℕ) (played : Played) : Type 0 where
   pub past : List Group
   pub journal_is : played.journal ≡ history past ++ sums_at played.close past
+  -- its lines are those of the script that are accepted, each with its number
+  pub lines_are : lines_of past ≡ accepted_lines whole octets played.close
   pub order : KeepsOrder past
   -- its TTIs are numbered from 0 on, each once
   pub in_turn : filter is_tti (history past) ≡ numbered 0 (ttis past)
+  -- the terminal sleeps only behind a `drx` line
+  pub sleeps : SleepsBehindDrx past
   -- its blocks are those of HARQ's processes, in every life
   pub carried : AreCarried past
   -- no key is given twice
@@ -47,6 +56,12 @@ pub record IsPromised (played : Played) : Type 0 where
   pub delivered : DeliversInOrder past
   -- exactly those before the first that hasn't come, as the blocks tell, none of which is held back
   pub came : HandUpWhatCame past
+  -- each `take` names the SDU of its COUNT, with its length
+  pub takes : TakesName past
+  -- each unacknowledged data bearer takes or discards the SDUs that it is submitted in their order
+  pub leaving : SdusLeaveInOrder past
+  -- and no more than 1024 SDUs wait
+  pub queues : QueuesAreShort past
   -- and all of it but what is discarded once a drain tells that it is drained, but where the sender
   -- gave up
   pub drained : DrainsLeaveNothing past

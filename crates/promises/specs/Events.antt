@@ -64,16 +64,20 @@ fails_in l event = []
 abbrev pub fails_on : ℕ → List Event → List ℕ
 fails_on l events = flat_map (fails_in l) events
 
--- a PDU of PDCP has a COUNT that was before, or is beyond 32 bits
-abbrev pub is_of_count : Lost → Bool
-is_of_count losts.Old = true
-is_of_count losts.Range = true
-is_of_count why = false
+-- a PDU of PDCP that comes has a COUNT that was before, or is beyond 32 bits, or it is a report
+-- that isn't applied; one of RLC clashes with what is held
+abbrev pub is_of_loss : Lost → Bool
+is_of_loss losts.Old = true
+is_of_loss losts.Range = true
+is_of_loss losts.Report = true
+is_of_loss losts.Clash = true
+is_of_loss why = false
 
--- or its MAC-I differs, or it can't be read
+-- or its MAC-I differs, or one of either can't be read
 abbrev pub is_lost : Event → Bool
-is_lost (Drop lcid why) = is_of_count why
+is_lost (Drop lcid why) = is_of_loss why
 is_lost (Integrity lcid found wanted) = true
+is_lost (BadRlc lcid fault) = true
 is_lost (BadPdcp lcid fault) = true
 is_lost event = false
 

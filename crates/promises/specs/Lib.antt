@@ -5,6 +5,7 @@ pub mod Flows
 pub mod Configs
 pub mod Flights
 pub mod Air
+pub mod Sleeps
 pub mod Heard
 pub mod Awards
 pub mod Carried
@@ -25,3 +26,5 @@ pub mod Pdus
 pub mod Given
 pub mod Taken
 pub mod Arrival
+pub mod Takes
+pub mod Limits

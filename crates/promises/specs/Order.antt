@@ -1,7 +1,7 @@
 -- Where the records of a line stand: what one end tells among what the other does, the blocks and
 -- the test loop (TS 36.321 5.3, 5.4, TS 36.322 7.3, TS 36.509 5.4).
 use Rattle.std.specs.Prelude.{ℕ, List, nat_lt, if◌then◌else◌, [], ◌∷◌, ◌==◌, Result, Ok, Err, ◌≡◌}
-use Rattle.std.specs.Prelude.{map, Option, ◌%◌, false, Bool, Some, None}
+use Rattle.std.specs.Prelude.{map, Option, ◌%◌, false, true, Bool, Some, None}
 use Rattle.std.specs.List.{list_any, AllByRecursion}
 use Rattle.l2_types.specs.declared.channel.Channel.{Channel}
 use Rattle.law_words.specs.Sequences.{◌then◌, SequencesOf, each, nothing, just, ◌or◌, maybe}
@@ -66,6 +66,15 @@ of_items c (Err refusal) = just (BadMac refusal)
 abbrev pub of_hearing : Channels → Direction → List ℕ → SequencesOf Event
 of_hearing c way octets = of_items c (reading way octets)
 
+-- a block can be read, and each SDU in it is of one of these channels
+abbrev pub IsFor : Channels → MacItem → Type 0
+IsFor c (sdu lcid octets) = list_any (λ n. n == lcid) c.by_lcid ≡ true
+IsFor c item = Unit {0}
+
+abbrev pub CanBeRead : Channels → Result (List MacItem) MacRefusal → Type 0
+CanBeRead c (Ok items) = AllByRecursion (IsFor c) items
+CanBeRead c (Err refusal) = ⊥
+
 -- as a TTI begins
 abbrev pub of_timers : Channels → SequencesOf Event
 of_timers c = each in_a_tti c.by_lcid
@@ -115,9 +124,11 @@ abbrev pub IsHeard : Side → Arrived → Channels → List ℕ → OfRecords
 IsHeard side arriveds.Got c octets = EndTells side (of_hearing c (heard_by side) octets)
 IsHeard side what c octets = nothing
 
+-- the other end can read it, and has the channels of all that it carries
 pub record PassesOver (side : Side) (t : ℕ) (kinds : List (Option Layout)) (c : Side → Channels)
     (told : List Record) : Type 0 where
   pub octets : List ℕ
+  pub can_be_read : CanBeRead (c (other side)) (reading (heard_by (other side)) octets)
   pub what : Arrived
   pub feedback : Bool
   pub in_turn : (GoesOut side t kinds (c side) octets
@@ -153,9 +164,13 @@ DrainTtiTells t kinds c = just (records.Tti t) then BothPassOver t kinds c
 
 -- ---- the other calls
 
--- a timer expires, where it runs, and the loop returns what goes up
+-- a timer expires, and the loop returns what goes up
+abbrev pub ExpiryTells : Side → ℕ → Clock → OfRecords
+ExpiryTells side lcid clock = EndTells side (of_an_expiry lcid clock) then LoopTells
+
+-- where it runs
 abbrev pub TimerTells : Side → ℕ → Clock → OfRecords
-TimerTells side lcid clock = maybe (EndTells side (of_an_expiry lcid clock) then LoopTells)
+TimerTells side lcid clock = maybe (ExpiryTells side lcid clock)
 
 -- those of a drain, of each channel in turn: the base station's, then the terminal's
 abbrev pub ReceiverTells : Side → ℕ → OfRecords

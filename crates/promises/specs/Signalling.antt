@@ -30,8 +30,9 @@ delivered_since side lcid [] = []
 delivered_since side lcid (g ∷ past) =
     (if is_handover g.line then [] else delivered_since side lcid past) ++ ups_in side lcid g.events
 
--- ---- what a side's PDCP lost there as it received it: PDUs that it couldn't read, whose COUNT it
--- had before, or whose MAC-I differs (TS 36.323 5.1.2.2, 5.7)
+-- ---- what a side lost there as it came: PDUs of RLC that it couldn't read or that clash, PDUs of
+-- PDCP that it couldn't read, whose COUNT it had before, or whose MAC-I differs (TS 36.322 5.1.3.2,
+-- TS 36.323 5.1.2.2, 5.7)
 
 abbrev pub losses_since : Side → ℕ → List Group → List Event
 losses_since side lcid past = losses (told_on lcid (events_of side (history past)))

@@ -1,7 +1,7 @@
 -- Which SDUs a channel of acknowledged data takes, and which it discards, as an end tells (TS
 -- 36.323 5.1.1, 5.4).
 use Rattle.std.specs.Prelude.{ℕ, ◌==◌, if◌then◌else◌, Option, Some, None, List, [], ◌∷◌, ◌+◌, Bool}
-use Rattle.std.specs.Prelude.{true, false, ◌++◌, length, drop}
+use Rattle.std.specs.Prelude.{true, false, ◌++◌, length, drop, ◌≡◌, ◌≤◌, ◌-◌, slice_get}
 use Rattle.std.specs.List.{flat_map}
 use Rattle.bearer_types.specs.declared.event.Event.{Event}
 use Rattle.bearer_types.specs.declared.event.Event.TheVariants.{Take, Discard}
@@ -41,3 +41,36 @@ taken_of l first events sdus = chosen (leaves l first events) sdus
 abbrev pub kept_of : ℕ → ℕ → List Event → List (List ℕ) → List (List ℕ)
 kept_of l first events sdus =
     taken_of l first events sdus ++ drop (length (leaves l first events)) sdus
+
+-- ---- what is told of each that is taken, for the first time or again in another life: its COUNT
+-- and its length
+
+pub record TakenSdu : Type 0 where
+  pub count : ℕ
+  pub len : ℕ
+
+abbrev pub take_in : ℕ → Event → List TakenSdu
+take_in l (Take lcid (Some count) len) =
+    if lcid == l then record { count = count; len = len } ∷ [] else []
+take_in l event = []
+
+abbrev pub takes_on : ℕ → List Event → List TakenSdu
+takes_on l events = flat_map (take_in l) events
+
+-- it is the SDU of its COUNT, of those that a bearer with its first COUNT takes, in their order
+pub record NamesSdu (first : ℕ) (sdus : List (List ℕ)) (t : TakenSdu) : Type 0 where
+  pub low : first ≤ t.count
+  pub sdu : List ℕ
+  pub sdu_is : slice_get sdus (t.count - first) ≡ Some sdu
+  pub len_is : length sdu ≡ t.len
+
+-- ---- on other channels
+
+-- of each SDU that leaves the queue, taken or discarded, its length
+abbrev pub length_in : ℕ → Event → List ℕ
+length_in l (Take lcid count len) = if lcid == l then len ∷ [] else []
+length_in l (Discard lcid len) = if lcid == l then len ∷ [] else []
+length_in l event = []
+
+abbrev pub lengths_on : ℕ → List Event → List ℕ
+lengths_on l events = flat_map (length_in l) events

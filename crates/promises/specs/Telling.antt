@@ -3,7 +3,7 @@ use Rattle.std.specs.Prelude.{Bool, true, false, ◌≡◌, ℕ, Option, List, �
 use Rattle.std.specs.List.{list_any}
 use Rattle.law_words.specs.Sequences.{nothing, ◌then◌, just}
 use Rattle.promises.specs.Order.{OfRecords, SendersTell, Channels, DrainTtiTells, ReceiversTell}
-use Rattle.promises.specs.Order.{LoopTells, TtiTells, TimerTells, ForgeTells, HandoverTells}
+use Rattle.promises.specs.Order.{LoopTells, TtiTells, ExpiryTells, ForgeTells, HandoverTells}
 use Rattle.promises.specs.Order.{SubmitTells, with_channel}
 use Rattle.pdu_show.specs.Carried.{is_carried}
 use Rattle.air_record.specs.declared.record.Record.{Record}
@@ -49,7 +49,7 @@ abbrev pub LineTells : ℕ → List (Option Layout) → (Side → Channels) → 
 LineTells t kinds' c (lines.Submit side lcid octets) = SubmitTells side lcid
 LineTells t kinds' c (lines.Tti up_grant up down_grant down) = TtiTells t kinds' c
 LineTells t kinds' c (lines.Drain grant) = DrainTells t kinds' c
-LineTells t kinds' c (lines.Expire side lcid clock) = TimerTells side lcid clock
+LineTells t kinds' c (lines.Expire side lcid clock) = ExpiryTells side lcid clock
 LineTells t kinds' c (lines.Forge side octets) = ForgeTells side (c side) octets
 LineTells t kinds' c (lines.Handover user rrc integrity) = HandoverTells c
 LineTells t kinds' c lines.LoopOff = LoopTells

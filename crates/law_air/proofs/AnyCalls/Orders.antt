@@ -84,7 +84,7 @@ known_by : (t : Bool) (lcid : ℕ) (b : Of Life) (bs : List (Of Life)) → (b.lc
 known_by true lcid b bs e rest = rw e (grind (arith, nat_tests))
 known_by false lcid b bs e rest = rw e (grind (arith, nat_tests, rest))
 
-known_is : (lcid : ℕ) (bs : List (Of Life)) → has lcid bs ≡ list_any (λ n. n == lcid) (map (λ b. b.lcid) bs)
+pub known_is : (lcid : ℕ) (bs : List (Of Life)) → has lcid bs ≡ list_any (λ n. n == lcid) (map (λ b. b.lcid) bs)
 known_is lcid [] = refl
 known_is lcid (b ∷ bs) = known_by (b.lcid == lcid) lcid b bs refl (known_is lcid bs)
 

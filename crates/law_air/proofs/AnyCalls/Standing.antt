@@ -1,7 +1,7 @@
 -- The records of a link stand in order through its stages and calls.
 use Rattle.std.proofs.Common.{◌≡◌, ◌≤◌, ℕ, ◌==◌, Bool, true, false, if◌then◌else◌, Option, Some, None, IfSome, List, []}
 use Rattle.std.proofs.Common.{◌∷◌, ◌++◌, map, append-nil, refl, ap, sym, subst, inl, inr, ◌∙◌}
-use Rattle.std.specs.Prelude.{unwrap_or}
+use Rattle.std.specs.Prelude.{unwrap_or, is_none}
 use Rattle.air_link.specs.Downlink.{builds, built_ndi, block_at, sends, receives, hears, feeds, told_as, is_good}
 use Rattle.air_link.specs.Downlink.{answer, comes, hears_by, lands, unseen, down_order, down_by, downlink}
 use Rattle.air_record.specs.Outcomes.{turned, intact, missed}
@@ -17,6 +17,8 @@ use Rattle.air_link.specs.Telling.{tells_all}
 use Rattle.air_link.specs.Ttis.{begins, sleeps, tells_sleep, grows, ticks, times, keeps_first, timed, tti_by, tti}
 use Rattle.air_link.specs.Uplink.{up_order, is_intact, told_as as up_told_as, granted, hears_if, aired as up_aired}
 use Rattle.air_link.specs.Uplink.{awake, up_by, answers, grants, passes, uplink}
+use Rattle.air_record.specs.declared.line.Fate.{Fate}
+use Rattle.air_record.specs.declared.line.Fate.TheVariants.{Ok, Bad, Miss}
 use Rattle.air_record.specs.declared.line.Outcome.{Outcome}
 use Rattle.air_record.specs.declared.record.Arrived.{Arrived}
 use Rattle.air_record.specs.declared.record.Arrived.TheVariants as arriveds
@@ -35,7 +37,7 @@ use Rattle.harq.specs.declared.sender.Visit.TheVariants.{New, Resend, Silent as 
 use Rattle.harq.specs.Receiving.{grant_ndi}
 use Rattle.harq.specs.Sending.{visit_answer}
 use Rattle.l2_bits.specs.declared.fault.SubmitRefusal.{SubmitRefusal}
-use Rattle.l2_node.specs.Building.{visit, visited, building, told_by as building_by}
+use Rattle.l2_node.specs.Building.{IsEnough, visit, visited, built, building, told_by as building_by}
 use Rattle.l2_node.specs.End.{End}
 use Rattle.l2_node.specs.Finding.{has}
 use Rattle.l2_node.specs.Hearing.{received, ticked}
@@ -56,9 +58,10 @@ use Rattle.law_air.specs.AnyCalls.Calls.{Call, Bears, Discards, Visits, Reports,
 use Rattle.law_air.specs.AnyCalls.Calls.{HandsOver, ReceiversExpire, SendersExpire, after}
 use Rattle.law_air.specs.AnyCalls.Ends.{GoesOn, IsGiven}
 use Rattle.promises.specs.Built.{block_told}
-use Rattle.law_air.specs.AnyCalls.Order.{both, CallTells, Leaves}
+use Rattle.law_air.specs.AnyCalls.Order.{both, AreAlike, CallTells, Leaves}
 use Rattle.promises.specs.Order.{Channels, of_hearing, of_timers, of_leaving, OfRecords, EndTells, LoopTells, GoesOut}
-use Rattle.promises.specs.Order.{IsHeard, MayPassOver, BothPassOver, TtiTells, DrainTtiTells, TimerTells, ReceiverTells}
+use Rattle.promises.specs.Order.{IsHeard, MayPassOver, BothPassOver, TtiTells, DrainTtiTells, ExpiryTells, TimerTells}
+use Rattle.promises.specs.Order.{ReceiverTells, CanBeRead}
 use Rattle.promises.specs.Order.{ReceiversTell, SenderTells, SendersTell, ForgeTells, HandoverTells, IsRefused}
 use Rattle.promises.specs.Order.{SubmitTells}
 use Rattle.law_air.specs.AnyCalls.Zero.{HaveCome}
@@ -71,6 +74,9 @@ use Rattle.law_air.proofs.AnyCalls.Ordering.{may_leave, may_rest, end_out, end_t
 use Rattle.law_air.proofs.AnyCalls.Ordering.{loops_tells, pays_tells}
 use Rattle.law_air.proofs.AnyCalls.Visiting.{sent, visit_records, builds_down, builds_up, came, came_by, comes_seen}
 use Rattle.law_air.proofs.AnyCalls.Visiting.{sent_down, sent_up, downlink_goes}
+use Rattle.law_air.proofs.AnyCalls.Readable.{CanRead, sent_reads}
+use Rattle.law_air.proofs.AnyCalls.Telling.{some_from}
+use Rattle.mac_pdu.specs.Reading.{reading}
 
 -- ---- both ends with their channels, as they have come
 
@@ -190,16 +196,23 @@ again_out rv side c t grant order kinds octets e again =
 -- a block that went out, with what comes of it
 flies_by : (side : Side) (t : ℕ) (kinds : List (Option Layout)) (c : Side
     → Channels) (octets : List ℕ) (what : Arrived) (good : Bool) (l m n : Link)
+    → CanBeRead (c (other side)) (reading (heard_by (other side)) octets)
     → Leaves (GoesOut side t kinds (c side) octets) l m
     → Leaves (just (records.Air (sent_by side) what (Some good))
     then IsHeard (other side) what (c (other side)) octets) m n → Leaves (MayPassOver side t kinds c) l n
-flies_by side t kinds c octets what good l m n p q =
+flies_by side t kinds c octets what good l m n reads p q =
     let all =
     leaves_then (GoesOut side t kinds (c side) octets)
     (just (records.Air (sent_by side) what (Some good)) then IsHeard (other side) what (c (other side)) octets) l
     m n p q in
     leaves_as (MayPassOver side t kinds c) l n all.more all.out_is
-    (inr (inr (record { octets = octets; what = what; feedback = good; in_turn = all.in_order })))
+    (inr (inr (record {
+      octets = octets;
+      can_be_read = reads;
+      what = what;
+      feedback = good;
+      in_turn = all.in_order;
+    })))
 
 -- ---- the downlink
 
@@ -231,41 +244,65 @@ lands_tells c t o ndi octets l ready =
     (heard_down a c octets r heard)
 
 goes_down : (v : Visit) (c : Side → Channels) (t grant : ℕ) (order : Order) (o : Outcome) (ndi : Bool)
-    (octets : List ℕ) (l : Link) → Ready c l
+    (octets : List ℕ) (l : Link) → Ready c l → CanRead Nb (c Ue) octets
     → GoesOut Nb t l.kinds (c Nb) octets (visit_records v Nb t grant order l.kinds octets l.nb)
     → Leaves (MayPassOver Nb t l.kinds c) l
     (lands t o ndi octets (sends v Nb t octets (unseen v t (builds Nb t grant order l))))
-goes_down v c t grant order o ndi octets l r out =
+goes_down v c t grant order o ndi octets l r reads out =
     let n = sends v Nb t octets (unseen v t (builds Nb t grant order l)) in
     let is = sent_down v t grant order octets l in
     let a = answer o.fate t ndi n in
-    flies_by Nb t l.kinds c octets (told_as a) (turned o.flipped (is_good a)) l n (lands t o ndi octets n)
+    flies_by Nb t l.kinds c octets (told_as a) (turned o.flipped (is_good a)) l n (lands t o ndi octets n) reads
     (leaves_as (GoesOut Nb t l.kinds (c Nb) octets) l n (visit_records v Nb t grant order l.kinds octets l.nb)
     (ap (λ (s : Seen). s.out) is) out)
     (lands_tells (c Ue) t o ndi octets n
     (subst (λ (e : End). IsReady Ue (c Ue) e) (sym (ap (λ (s : Seen). s.ue) is)) r.ue))
 
 down_by_tells : (v : Visit) (c : Side → Channels) (t grant : ℕ) (order : Order) (o : Outcome) (ndi : Bool) (l : Link)
-    → Ready c l → visit t order l.nb ≡ v
+    → Ready c l
+    → (visit t order l.nb ≡ v → (v ≡ Quiet → ⊥) → CanRead Nb (c Ue) (block_at t (builds Nb t grant order l).nb))
+    → visit t order l.nb ≡ v
     → Leaves (MayPassOver Nb t l.kinds c) l (down_by v t o ndi (builds Nb t grant order l))
-down_by_tells New c t grant order o ndi l r is =
+down_by_tells New c t grant order o ndi l r reads is =
     let octets = block_at t (builds Nb t grant order l).nb in
-    goes_down New c t grant order o ndi octets l r (new_out Nb (c Nb) t grant order l.kinds octets l.nb r.nb is)
-down_by_tells (Resend rv) c t grant order o ndi l r is =
+    goes_down New c t grant order o ndi octets l r (reads is (λ e. absurd cc))
+    (new_out Nb (c Nb) t grant order l.kinds octets l.nb r.nb is)
+down_by_tells (Resend rv) c t grant order o ndi l r reads is =
     let octets = block_at t (builds Nb t grant order l).nb in
-    goes_down (Resend rv) c t grant order o ndi octets l r (again_out rv Nb (c Nb) t grant order l.kinds octets l.nb is)
-down_by_tells Quiet c t grant order o ndi l r is =
+    goes_down (Resend rv) c t grant order o ndi octets l r (reads is (λ e. absurd cc))
+    (again_out rv Nb (c Nb) t grant order l.kinds octets l.nb is)
+down_by_tells Quiet c t grant order o ndi l r reads is =
     let none = building_none Quiet t grant order l.nb is (λ x. refl) in
     leaves_as (MayPassOver Nb t l.kinds c) l (builds Nb t grant order l) []
     (ap (λ (s : Seen). s.out) (builds_down t grant order l)
     ∙ ap (λ (es : List Event). l.out ++ map (records.Of Nb) es) none) (inl refl)
 
-downlink_tells : (c : Side → Channels) (t grant : ℕ) (o : Outcome) (l : Link) → Ready c l
+enough_down : (grant : ℕ) → IsEnough (down_order grant) grant
+enough_down grant = by (grant == 0) refl
+  where
+    by : (b : Bool) → (grant == 0) ≡ b → IsEnough (if b then orders.Silent else orders.Free) grant
+    by true e = tt
+    by false e = some_from grant e
+
+-- both ends have the same channels
+down_reads : (c : Side → Channels) (t grant : ℕ) (l : Link) → c Nb ≡ c Ue → grant ≤ 9422 → Ready c l → (v : Visit)
+    → visit t (down_order grant) l.nb ≡ v → (v ≡ Quiet → ⊥)
+    → CanRead Nb (c Ue) (block_at t (builds Nb t grant (down_order grant) l).nb)
+down_reads c t grant l same within r v is loud =
+    let order = down_order grant in
+    let built_is : (builds Nb t grant order l).nb ≡ built t grant order l.nb =
+    ap (λ (s : Seen). s.nb) (builds_down t grant order l) in
+    subst (λ (e : End). CanRead Nb (c Ue) (block_at t e)) (sym built_is)
+    (subst (λ (x : Channels). CanRead Nb x (block_at t (built t grant order l.nb))) same
+    (sent_reads v Nb (c Nb) l.nb r.nb t grant order within (enough_down grant) is loud))
+
+downlink_tells : (c : Side → Channels) (t grant : ℕ) (o : Outcome) (l : Link) → c Nb ≡ c Ue → grant ≤ 9422 → Ready c l
     → Leaves (MayPassOver Nb t l.kinds c) l (downlink t grant o l)
 unfolding downlink
-downlink_tells c t grant o l r =
+downlink_tells c t grant o l same within r =
     let order = down_order grant in
-    down_by_tells (visit t order l.nb) c t grant order o (built_ndi Nb t grant order l) l r refl
+    down_by_tells (visit t order l.nb) c t grant order o (built_ndi Nb t grant order l) l r
+    (down_reads c t grant l same within r (visit t order l.nb)) refl
 
 -- ---- the uplink
 
@@ -290,28 +327,33 @@ rises_tells c t flipped good octets l ready =
     (leaves_from (just one) l q r refl (leaves_one one q)) (heard_up good c octets r heard)
 
 goes_up : (v : Visit) (c : Side → Channels) (t grant : ℕ) (order : Order) (o : Outcome) (octets : List ℕ) (l : Link)
-    → Ready c l → GoesOut Ue t l.kinds (c Ue) octets (visit_records v Ue t grant order l.kinds octets l.ue)
+    → Ready c l → CanRead Ue (c Nb) octets
+    → GoesOut Ue t l.kinds (c Ue) octets (visit_records v Ue t grant order l.kinds octets l.ue)
     → Leaves (MayPassOver Ue t l.kinds c) l
     (up_aired t o.flipped (is_intact o.fate) octets (sends v Ue t octets (awake v t (builds Ue t grant order l))))
-goes_up v c t grant order o octets l r out =
+goes_up v c t grant order o octets l r reads out =
     let n = sends v Ue t octets (awake v t (builds Ue t grant order l)) in
     let is = sent_up v t grant order octets l in
     let good = is_intact o.fate in
     flies_by Ue t l.kinds c octets (up_told_as good) (turned o.flipped good) l n (up_aired t o.flipped good octets n)
+    reads
     (leaves_as (GoesOut Ue t l.kinds (c Ue) octets) l n (visit_records v Ue t grant order l.kinds octets l.ue)
     (ap (λ (s : Seen). s.out) is) out)
     (rises_tells (c Nb) t o.flipped good octets n
     (subst (λ (e : End). IsReady Nb (c Nb) e) (sym (ap (λ (s : Seen). s.nb) is)) r.nb))
 
 up_by_tells : (v : Visit) (c : Side → Channels) (t grant : ℕ) (order : Order) (o : Outcome) (l : Link) → Ready c l
+    → (visit t order l.ue ≡ v → (v ≡ Quiet → ⊥) → CanRead Ue (c Nb) (block_at t (builds Ue t grant order l).ue))
     → visit t order l.ue ≡ v → Leaves (MayPassOver Ue t l.kinds c) l (up_by v t o (builds Ue t grant order l))
-up_by_tells New c t grant order o l r is =
+up_by_tells New c t grant order o l r reads is =
     let octets = block_at t (builds Ue t grant order l).ue in
-    goes_up New c t grant order o octets l r (new_out Ue (c Ue) t grant order l.kinds octets l.ue r.ue is)
-up_by_tells (Resend rv) c t grant order o l r is =
+    goes_up New c t grant order o octets l r (reads is (λ e. absurd cc))
+    (new_out Ue (c Ue) t grant order l.kinds octets l.ue r.ue is)
+up_by_tells (Resend rv) c t grant order o l r reads is =
     let octets = block_at t (builds Ue t grant order l).ue in
-    goes_up (Resend rv) c t grant order o octets l r (again_out rv Ue (c Ue) t grant order l.kinds octets l.ue is)
-up_by_tells Quiet c t grant order o l r is =
+    goes_up (Resend rv) c t grant order o octets l r (reads is (λ e. absurd cc))
+    (again_out rv Ue (c Ue) t grant order l.kinds octets l.ue is)
+up_by_tells Quiet c t grant order o l r reads is =
     let one = records.Air (sent_by Ue) arriveds.Nothing None in
     let none = building_none Quiet t grant order l.ue is (λ x. refl) in
     let same : (builds Ue t grant order l).out ≡ l.out ++ [] =
@@ -320,9 +362,24 @@ up_by_tells Quiet c t grant order o l r is =
     leaves_as (MayPassOver Ue t l.kinds c) l (up_by Quiet t o (builds Ue t grant order l)) (one ∷ [])
     (ap (λ (x : List Record). x ++ one ∷ []) (same ∙ append-nil l.out)) (inr (inl refl))
 
-grants_tells : (c : Side → Channels) (t grant : ℕ) (o : Outcome) (l : Link) → Ready c l
-    → Leaves (MayPassOver Ue t l.kinds c) l (grants t grant o l)
-grants_tells c t grant o l r =
+enough_up : (f : Fate) (ndi : Bool) (grant : ℕ) → 1 ≤ grant → IsEnough (up_order f ndi) grant
+enough_up Ok ndi grant some = some
+enough_up Bad ndi grant some = some
+enough_up Miss ndi grant some = tt
+
+up_reads : (c : Side → Channels) (t grant : ℕ) (order : Order) (l : Link) → c Nb ≡ c Ue → grant ≤ 9422
+    → IsEnough order grant → Ready c l → (v : Visit) → visit t order l.ue ≡ v → (v ≡ Quiet → ⊥)
+    → CanRead Ue (c Nb) (block_at t (builds Ue t grant order l).ue)
+up_reads c t grant order l same within enough r v is loud =
+    let built_is : (builds Ue t grant order l).ue ≡ built t grant order l.ue =
+    ap (λ (s : Seen). s.ue) (builds_up t grant order l) in
+    subst (λ (e : End). CanRead Ue (c Nb) (block_at t e)) (sym built_is)
+    (subst (λ (x : Channels). CanRead Ue x (block_at t (built t grant order l.ue))) (sym same)
+    (sent_reads v Ue (c Ue) l.ue r.ue t grant order within enough is loud))
+
+grants_tells : (c : Side → Channels) (t grant : ℕ) (o : Outcome) (l : Link) → c Nb ≡ c Ue → grant ≤ 9422 → 1 ≤ grant
+    → Ready c l → Leaves (MayPassOver Ue t l.kinds c) l (grants t grant o l)
+grants_tells c t grant o l same within some r =
     let order = up_order o.fate (grant_ndi l.nb.receiver t) in
     let m = with_end Nb (after_call l.nb (Grants t)) l in
     let at_m : Ready c m =
@@ -331,7 +388,9 @@ grants_tells c t grant o l r =
       ue = r.ue;
     } in
     leaves_from (MayPassOver Ue t l.kinds c) l m (answers t grant order o m) refl
-    (up_by_tells (visit t order l.ue) c t grant order o m at_m refl)
+    (up_by_tells (visit t order l.ue) c t grant order o m at_m
+    (up_reads c t grant order m same within (enough_up o.fate (grant_ndi l.nb.receiver t) grant some) at_m
+    (visit t order l.ue)) refl)
 
 passes_tells : (c : Side → Channels) (t : ℕ) (l : Link) → Leaves (MayPassOver Ue t l.kinds c) l (passes t l)
 unfolding visit_answer
@@ -340,22 +399,22 @@ passes_tells c t l =
     leaves_as (MayPassOver Ue t l.kinds c) l (passes t l) [] (ap (λ (s : Seen). s.out) (builds_up t 0 orders.Silent l)
     ∙ ap (λ (es : List Event). l.out ++ map (records.Of Ue) es) none) (inl refl)
 
-uplink_if : (b : Bool) (c : Side → Channels) (t grant : ℕ) (o : Outcome) (l : Link) → Ready c l
-    → Leaves (MayPassOver Ue t l.kinds c) l (if b then passes t l else grants t grant o l)
-uplink_if true c t grant o l r = passes_tells c t l
-uplink_if false c t grant o l r = grants_tells c t grant o l r
+uplink_if : (b : Bool) (c : Side → Channels) (t grant : ℕ) (o : Outcome) (l : Link) → (grant == 0) ≡ b → c Nb ≡ c Ue
+    → grant ≤ 9422 → Ready c l → Leaves (MayPassOver Ue t l.kinds c) l (if b then passes t l else grants t grant o l)
+uplink_if true c t grant o l e same within r = passes_tells c t l
+uplink_if false c t grant o l e same within r = grants_tells c t grant o l same within (some_from grant e) r
 
-uplink_tells : (c : Side → Channels) (t grant : ℕ) (o : Outcome) (l : Link) → Ready c l
+uplink_tells : (c : Side → Channels) (t grant : ℕ) (o : Outcome) (l : Link) → c Nb ≡ c Ue → grant ≤ 9422 → Ready c l
     → Leaves (MayPassOver Ue t l.kinds c) l (uplink t grant o l)
 unfolding uplink
-uplink_tells c t grant o l r = uplink_if (grant == 0) c t grant o l r
+uplink_tells c t grant o l same within r = uplink_if (grant == 0) c t grant o l refl same within r
 
 -- ---- a TTI
 
 both_tell : (c : Side → Channels) (t up_grant : ℕ) (up : Outcome) (down_grant : ℕ) (down : Outcome) (l : Link)
-    → down_grant ≤ 9422 → Ready c l
+    → c Nb ≡ c Ue → up_grant ≤ 9422 → down_grant ≤ 9422 → Ready c l
     → Leaves (BothPassOver t l.kinds c) l (uplink t up_grant up (loops (downlink t down_grant down l)))
-both_tell c t up_grant up down_grant down l within r =
+both_tell c t up_grant up down_grant down l alike up_within within r =
     let m = downlink t down_grant down l in
     let n = loops m in
     let p = uplink t up_grant up n in
@@ -365,63 +424,82 @@ both_tell c t up_grant up down_grant down l within r =
     let same : n.kinds ≡ l.kinds = to_n.kinds_are ∙ to_m.kinds_are in
     let last : Leaves (MayPassOver Ue t l.kinds c) n p =
     subst (λ (ks : List (Option Layout)). Leaves (MayPassOver Ue t ks c) n p) same
-    (uplink_tells c t up_grant up n at_n) in
+    (uplink_tells c t up_grant up n alike up_within at_n) in
     leaves_then (MayPassOver Nb t l.kinds c) (LoopTells then MayPassOver Ue t l.kinds c) l m p
-    (downlink_tells c t down_grant down l r)
+    (downlink_tells c t down_grant down l alike within r)
     (leaves_then LoopTells (MayPassOver Ue t l.kinds c) m n p (loops_tells m) last)
 
 -- before the blocks both ends went on
 both_fly : (c : Side → Channels) (t up_grant : ℕ) (up : Outcome) (down_grant : ℕ) (down : Outcome) (l m : Link)
-    → down_grant ≤ 9422 → GoesOn [] l m → Ready c l
+    → c Nb ≡ c Ue → up_grant ≤ 9422 → down_grant ≤ 9422 → GoesOn [] l m → Ready c l
     → Leaves (BothPassOver t l.kinds c) m (uplink t up_grant up (loops (downlink t down_grant down m)))
-both_fly c t up_grant up down_grant down l m within g r =
+both_fly c t up_grant up down_grant down l m alike up_within within g r =
     subst (λ (ks : List (Option Layout)). Leaves (BothPassOver t ks c) m
     (uplink t up_grant up (loops (downlink t down_grant down m)))) g.kinds_are
-    (both_tell c t up_grant up down_grant down m within (both_ready_on c [] l m g r))
+    (both_tell c t up_grant up down_grant down m alike up_within within (both_ready_on c [] l m g r))
 
 asleep_ready : (asleep : Bool) (c : Side → Channels) (l : Link) → Ready c l → Ready c (tells_sleep asleep l)
 asleep_ready true c l r = record { nb = r.nb; ue = r.ue }
 asleep_ready false c l r = r
 
 pub tti_tells : (c : Side → Channels) (up_grant : ℕ) (up : Outcome) (down_grant : ℕ) (down : Outcome) (l : Link)
-    → down_grant ≤ 9422 → Ready c l → Leaves (TtiTells l.ttis l.kinds c) l (tti up_grant up down_grant down l)
+    → c Nb ≡ c Ue → up_grant ≤ 9422 → down_grant ≤ 9422 → Ready c l
+    → Leaves (TtiTells l.ttis l.kinds c) l (tti up_grant up down_grant down l)
 unfolding tti tti_by
-tti_tells c up_grant up down_grant down l within r =
+tti_tells c up_grant up down_grant down l alike up_within within r =
     let asleep = sleeps l.ttis l in
     let m = begins l in
     let n = tells_sleep asleep m in
     let last = tti up_grant up down_grant down l in
     let Blocks = BothPassOver l.ttis l.kinds c in
-    let flown = both_fly c l.ttis up_grant (missed asleep up) down_grant (missed asleep down) l (timed n) within
+    let flown = both_fly c l.ttis up_grant (missed asleep up) down_grant (missed asleep down) l (timed n) alike
+    up_within within
     (woken_rests asleep l).goes r in
     let Timers = EndTells Nb (of_timers (c Nb)) then EndTells Ue (of_timers (c Ue)) then LoopTells then Blocks in
     leaves_then (just (records.Tti l.ttis)) (maybe (just records.Sleep) then Timers) l m last (begins_tells l)
     (leaves_then (maybe (just records.Sleep)) Timers m n last (sleep_tells asleep m)
     (timed_then c Blocks n last (asleep_ready asleep c m (record { nb = r.nb; ue = r.ue })) flown))
 
-pub drain_tells : (c : Side → Channels) (grant : ℕ) (l : Link) → grant ≤ 9422 → Ready c l
+pub drain_tells : (c : Side → Channels) (grant : ℕ) (l : Link) → c Nb ≡ c Ue → grant ≤ 9422 → Ready c l
     → Leaves (DrainTtiTells l.ttis l.kinds c) l (drain_tti grant l)
 unfolding drain_tti
-drain_tells c grant l within r =
+drain_tells c grant l alike within r =
     let m = begins l in
     let n = grows Ue (grows Nb m) in
     let p = drain_tti grant l in
     leaves_then (just (records.Tti l.ttis)) (BothPassOver l.ttis l.kinds c) l n p
     (leaves_to (just (records.Tti l.ttis)) l m n refl (begins_tells l))
-    (both_fly c l.ttis grant intact grant intact l n within (grown_rests l).goes r)
+    (both_fly c l.ttis grant intact grant intact l n alike within within (grown_rests l).goes r)
 
 -- ---- timers expire
+
+expiry_by_tells : (r : Option (List Event)) (side : Side) (lcid : ℕ) (clock : Clock) (l m : Link) → m.out ≡ l.out
+    → TellNoLoop (unwrap_or r []) → IfSome r (of_an_expiry lcid clock) → is_none r ≡ false
+    → Leaves (ExpiryTells side lcid clock) l (expires_by r side m)
+expiry_by_tells None side lcid clock l m same none is runs = absurd cc
+expiry_by_tells (Some es) side lcid clock l m same none is runs =
+    let n = tells_all side es m in
+    let End = EndTells side (of_an_expiry lcid clock) in
+    let to_n = leaves_from End l m n same (end_tells (of_an_expiry lcid clock) side es m none is) in
+    leaves_then End LoopTells l n (loops n) to_n (loops_tells n)
+
+-- a timer that runs
+pub expiry_tells : (c : Side → Channels) (side : Side) (lcid : ℕ) (clock : Clock) (l : Link) → Ready c l
+    → is_none (expiring side lcid clock l) ≡ false → Leaves (ExpiryTells side lcid clock) l (expires side lcid clock l)
+unfolding expires
+expiry_tells c side lcid clock l r runs =
+    let e = end_of side l in
+    expiry_by_tells (expiring side lcid clock l) side lcid clock l (expires_alone side lcid clock l)
+    (end_out side _ l) (tells_no_loop e (Expire lcid clock))
+    (expires_in_order side (c side) e (ready_at side c l r) lcid clock) runs
 
 expires_by_tells : (r : Option (List Event)) (side : Side) (lcid : ℕ) (clock : Clock) (l m : Link) → m.out ≡ l.out
     → TellNoLoop (unwrap_or r []) → IfSome r (of_an_expiry lcid clock)
     → Leaves (TimerTells side lcid clock) l (expires_by r side m)
-expires_by_tells None side lcid clock l m same none is =
-    may_rest (EndTells side (of_an_expiry lcid clock) then LoopTells) l m same
+expires_by_tells None side lcid clock l m same none is = may_rest (ExpiryTells side lcid clock) l m same
 expires_by_tells (Some es) side lcid clock l m same none is =
-    let n = tells_all side es m in
-    let End = EndTells side (of_an_expiry lcid clock) in
-    let to_n = leaves_from End l m n same (end_tells (of_an_expiry lcid clock) side es m none is) in
-    may_leave (End then LoopTells) l (loops n) (leaves_then End LoopTells l n (loops n) to_n (loops_tells n))
+    may_leave (ExpiryTells side lcid clock) l (expires_by (Some es) side m)
+    (expiry_by_tells (Some es) side lcid clock l m same none is refl)
 
 expires_tells : (c : Side → Channels) (side : Side) (lcid : ℕ) (clock : Clock) (l : Link) → Ready c l
     → Leaves (TimerTells side lcid clock) l (expires side lcid clock l)
@@ -444,7 +522,7 @@ goes_then These Those c l m n p q = record { leaves = leaves_then These Those l 
 timer_if : (b : Bool) (c : Side → Channels) (side : Side) (lcid : ℕ) (clock : Clock) (l : Link) → Ready c l
     → Leaves (TimerTells side lcid clock) l (if b then expires side lcid clock l else l)
 timer_if true c side lcid clock l r = expires_tells c side lcid clock l r
-timer_if false c side lcid clock l r = may_rest (EndTells side (of_an_expiry lcid clock) then LoopTells) l l refl
+timer_if false c side lcid clock l r = may_rest (ExpiryTells side lcid clock) l l refl
 
 timer_tells : (c : Side → Channels) (side : Side) (lcid : ℕ) (clock : Clock) (l : Link) → Ready c l
     → Leaves (TimerTells side lcid clock) l (timer_expires side clock lcid l)
@@ -562,10 +640,11 @@ unfolding submitting
 submissions_tell side lcid octets l = submits_by_tells (refusal lcid octets (end_of side l)) side lcid octets l
 
 pub ttis_tell : (up_grant : ℕ) (up : Outcome) (down_grant : ℕ) (down : Outcome) (l : Link) → up_grant ≤ 9422
-    → down_grant ≤ 9422 → HaveCome l → Leaves (TtiTells l.ttis l.kinds (both l)) l (tti up_grant up down_grant down l)
-ttis_tell up_grant up down_grant down l up_within down_within h =
-    tti_tells (both l) up_grant up down_grant down l down_within (have_ready l h)
+    → down_grant ≤ 9422 → HaveCome l → AreAlike l
+    → Leaves (TtiTells l.ttis l.kinds (both l)) l (tti up_grant up down_grant down l)
+ttis_tell up_grant up down_grant down l up_within down_within h alike =
+    tti_tells (both l) up_grant up down_grant down l alike up_within down_within (have_ready l h)
 
-pub drains_tell : (grant : ℕ) (l : Link) → grant ≤ 9422 → HaveCome l
+pub drains_tell : (grant : ℕ) (l : Link) → grant ≤ 9422 → HaveCome l → AreAlike l
     → Leaves (DrainTtiTells l.ttis l.kinds (both l)) l (drain_tti grant l)
-drains_tell grant l within h = drain_tells (both l) grant l within (have_ready l h)
+drains_tell grant l within h alike = drain_tells (both l) grant l alike within (have_ready l h)

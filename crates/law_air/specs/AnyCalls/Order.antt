@@ -57,12 +57,16 @@ abbrev pub SubmissionsTellInOrder : Type 0
 SubmissionsTellInOrder = (side : Side) (lcid : ℕ) (sdu : List ℕ) (l : Link)
     → Leaves (SubmitTells side lcid) l (submitting side lcid sdu l)
 
+-- both ends have the same channels
+abbrev pub AreAlike : Link → Type 0
+AreAlike l = channels_of l.nb ≡ channels_of l.ue
+
 -- grants are those of transport blocks
 abbrev pub TtisTellInOrder : Type 0
 TtisTellInOrder = (up_grant : ℕ) (up : Outcome) (down_grant : ℕ) (down : Outcome) (l : Link)
-    → up_grant ≤ GREATEST_GRANT → down_grant ≤ GREATEST_GRANT → HaveCome l
+    → up_grant ≤ GREATEST_GRANT → down_grant ≤ GREATEST_GRANT → HaveCome l → AreAlike l
     → Leaves (TtiTells l.ttis l.kinds (both l)) l (tti up_grant up down_grant down l)
 
 abbrev pub DrainsTellInOrder : Type 0
-DrainsTellInOrder = (grant : ℕ) (l : Link) → grant ≤ GREATEST_GRANT → HaveCome l
+DrainsTellInOrder = (grant : ℕ) (l : Link) → grant ≤ GREATEST_GRANT → HaveCome l → AreAlike l
     → Leaves (DrainTtiTells l.ttis l.kinds (both l)) l (drain_tti grant l)

@@ -24,7 +24,7 @@ use Rattle.law_bearer.proofs.AnyBearer.Sender.{Doings, takes_at, doings}
 use Rattle.law_bearer.proofs.AnyBearer.Flows.{all_doings, lives_taken, lives_news, history}
 use Rattle.law_bearer.proofs.AnyBearer.Streams.{begun_tx, am_begins}
 
-abbrev AllNamed : ℕ → List (List ℕ) → List Offer → Type 0
+abbrev pub AllNamed : ℕ → List (List ℕ) → List Offer → Type 0
 AllNamed first sdus [] = Unit {0}
 AllNamed first sdus (o ∷ os) = IsNamed first sdus o × AllNamed first sdus os
 
@@ -84,7 +84,7 @@ named_at first sdus (x ∷ os) zero o h g = let some : Some x ≡ Some o = g in 
     subst (IsNamed first sdus) same h.0
 named_at first sdus (x ∷ os) (suc i) o h g = named_at first sdus os i o h.1 g
 
-am_named : (c : BearerConfig) (keys : Keys) (side : Side) (xs : List BearerStep)
+pub am_named : (c : BearerConfig) (keys : Keys) (side : Side) (xs : List BearerStep)
     → AllNamed c.first (all_news (flow_of kinds.Am c keys side) xs) (all_taken (flow_of kinds.Am c keys side) xs)
 am_named c keys side xs =
     let f = flow_of kinds.Am c keys side in

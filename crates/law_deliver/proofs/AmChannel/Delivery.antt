@@ -1,15 +1,17 @@
 -- What a channel delivers.
-use Rattle.std.proofs.Common.{◌≡◌, ◌≤◌, inr, ℕ, ◌-◌, refl, Bool, length, drop, Some, None, false, List, [], ◌∷◌, ◌++◌}
-use Rattle.std.proofs.Common.{append_assoc, length-append, ap, sym, subst, ◌∙◌, arith}
+use Rattle.std.proofs.Common.{◌≡◌, ◌≤◌, inr, ℕ, ◌+◌, ◌-◌, refl, Bool, length, drop, Some, None, false, List, [], ◌∷◌}
+use Rattle.std.proofs.Common.{◌++◌, append_assoc, length-append, ap, sym, subst, ◌∙◌, arith}
 use Rattle.std.proofs.lemmas.List.{take-append-le}
 use Rattle.std.specs.List.{AllByRecursion, flat_map}
 use Rattle.bearer.specs.Bearer.{flow_of}
 use Rattle.bearer.specs.declared.flow.Flow.{Flow}
 use Rattle.bearer.specs.declared.flow.Flow.TheVariants.{Am}
 use Rattle.bearer.specs.Acknowledged.State.{State, fresh as fresh_am}
-use Rattle.law_bearer.specs.AnyBearer.Calls.{Step as BearerStep, reached as bearer_reached, ends}
+use Rattle.law_bearer.specs.AnyBearer.Calls.{Step as BearerStep, run_bearer, reached as bearer_reached, ends}
 use Rattle.law_bearer.specs.AnyBearer.Queue.{queue, all_news, all_left}
+use Rattle.law_bearer.specs.AnyBearer.Stream.{all_taken as all_offers}
 use Rattle.law_bearer.proofs.AnyBearer.Between.{IsBetween}
+use Rattle.law_bearer.proofs.AnyBearer.Names.{AllNamed, am_named}
 use Rattle.law_bearer.proofs.AnyBearer.Queues.{leaves_in_order}
 use Rattle.bearer_types.specs.Configs.{IsConfig}
 use Rattle.bearer_types.specs.declared.config.BearerConfig.{BearerConfig}
@@ -25,7 +27,7 @@ use Rattle.law_node.specs.Holding.{flow}
 use Rattle.law_node.specs.Telling.{told_over}
 use Rattle.law_node.proofs.Living.{added, reached_side}
 use Rattle.pdcp_pdu.specs.declared.PdcpKind.TheVariants.{Am as AmKind}
-use Rattle.pdcp_tx.specs.State.{State as Sending, start}
+use Rattle.pdcp_tx.specs.State.{State as Sending, Offer, start}
 use Rattle.rlc_am_rx.specs.State.{fresh as fresh_receiver}
 use Rattle.rlc_am_tx.specs.Machine.{start as start_sender}
 use Rattle.law_bearer.specs.AmBearer.Lives.{other, BeginsAs}
@@ -47,15 +49,18 @@ use Rattle.law_deliver.specs.AmDelivery.Lives.{LifeStep, over}
 use Rattle.law_deliver.specs.AmChannel.Delivery.{HasBegun, AmEndsBeginAlike, was_taken, was_submitted, steps_over}
 use Rattle.law_deliver.specs.AmChannel.Delivery.{DiscardsNone, SetNone, ups_at, submitted_at, taken_at, DiscardsNoneAt}
 use Rattle.law_deliver.specs.AmChannel.Delivery.{SetNoneAt}
-use Rattle.law_deliver.specs.AmChannel.Lives.{AirStep, AreLiving, end_at, all_calls}
+use Rattle.law_deliver.specs.AmChannel.Lives.{AirStep, AreLiving, lives, end_at, all_calls}
 use Rattle.law_deliver.proofs.AmChannel.Bearers.{IsSteady}
 use Rattle.law_bearer.proofs.AnyBearer.Streams.{am_begins, begun_tx}
 use Rattle.bearer_pdcp.specs.Ends.{Ends, begun as begun_ends, bearer_of, sends}
 use Rattle.pdcp_sec.specs.Protection.{Protection, protection_of}
-use Rattle.promises.specs.Taken.{leaving_in, were_taken, chosen, leaves, taken_of, kept_of}
+use Rattle.promises.specs.Taken.{leaving_in, were_taken, chosen, leaves, taken_of, kept_of, TakenSdu, takes_on}
+use Rattle.promises.specs.Taken.{NamesSdu}
 use Rattle.law_deliver.specs.AmChannel.Leaving.{AreTold}
 use Rattle.law_deliver.proofs.AmChannel.Leaving.{all_flags, flags_choose, flags_many, flags_leave, flags_told}
-use Rattle.law_deliver.proofs.AmChannel.Ends.{all_leaving, IsCall, are_calls, GoesAll, all_go, all_ups, all_discards}
+use Rattle.law_deliver.proofs.AmChannel.Ends.{all_leaving, all_took, IsCall, are_calls, GoesAll, all_go, all_ups}
+use Rattle.law_deliver.proofs.AmChannel.Ends.{all_discards, goes_by_calls}
+use Rattle.law_deliver.proofs.AmChannel.Naming.{taken_as, all_told, each_named}
 use Rattle.law_deliver.proofs.AmChannel.Pairs.{own, all_does, ups_in_at, news_in_at, lives_go}
 use Rattle.law_deliver.proofs.AmChannel.Submitted.{submitted_is, steps_unset}
 use Rattle.law_deliver.proofs.AmChannel.Unset.{none_discarded}
@@ -321,15 +326,41 @@ module _ (side : Side) (l : ℕ) (c : BearerConfig) (keys : Keys) (e : End) (cs 
       ∙ (ap (chosen (all_flags (flow l e) own_steps)) leaves_then
       ∙ ap (λ (bs : List Bool). chosen bs (was_submitted l cs e)) (sym (flags_are g)))
 
-  -- none leaves that wasn't submitted
-  pub none_beyond : AllByRecursion (IsCall l) cs
-      → length (leaves l c.first (told_over cs e)) ≤ length (was_submitted l cs e)
-  none_beyond g =
+  -- those that were submitted have left the queue, or wait
+  pub all_leave_or_wait : AllByRecursion (IsCall l) cs
+      → length (was_submitted l cs e) ≡ length (leaves l c.first (told_over cs e)) + length waits
+  all_leave_or_wait g =
       let all = ap length leaves_then in
       let parts = length-append (all_left (flow l e) own_steps) waits in
       let many = flags_many own_steps (flow l e) in
       let told = ap length (flags_are g) in
       omega (arith, all, parts, many, told)
+
+  pub waits_are : AllByRecursion (IsCall l) cs → waits ≡ queue (ends (flow l (run_end cs e)))
+  waits_are g = sym (ap (λ (f : Flow). queue (ends f))
+      ((all_goes g).bearer_is ∙ ap (run_bearer own_steps) h.bearer_is))
+
+  -- none leaves that wasn't submitted
+  pub none_beyond : AllByRecursion (IsCall l) cs
+      → length (leaves l c.first (told_over cs e)) ≤ length (was_submitted l cs e)
+  none_beyond g = let all = all_leave_or_wait g in omega (arith, all)
+
+  -- and each is named
+  pub takes_are_named : AllByRecursion (IsCall l) cs
+      → AllByRecursion (NamesSdu c.first (was_taken l cs e)) (takes_on l (told_over cs e))
+  takes_are_named g =
+      let offered : List Offer = all_offers (flow l e) own_steps in
+      let flow_is : flow l e ≡ flow_of kinds.Am c keys side =
+      h.bearer_is ∙ ap (λ (kind : Kind). flow_of kind c keys side) k in
+      let told : takes_on l (told_over cs e) ≡ flat_map taken_as offered =
+      (all_goes g).takes_are
+      ∙ (ap (λ (f : Flow). all_took l f own_steps) starts_as
+      ∙ (all_told c.pdcp_bits l own_steps first_bearer (steady_so side l c keys e k h)
+      ∙ ap (λ (f : Flow). flat_map taken_as (all_offers f own_steps)) (sym starts_as))) in
+      subst (λ (ts : List TakenSdu). AllByRecursion (NamesSdu c.first (was_taken l cs e)) ts) (sym told)
+      (each_named c.first (was_taken l cs e) offered
+      (subst (λ (f : Flow). AllNamed c.first (all_news f own_steps) (all_offers f own_steps)) (sym flow_is)
+      (am_named c keys side own_steps)))
 
   -- and so is what it doesn't discard
   pub kept_is_told : AllByRecursion (IsCall l) cs
@@ -358,7 +389,26 @@ channels_tell_what_is_taken l c keys nb ue from steps h g =
     record {
       taken_are = taken_is_told from l c keys e cs h.kind b calls;
       were_submitted = none_beyond from l c keys e cs h.kind b calls;
+      are_named = takes_are_named from l c keys e cs h.kind b calls;
     }
+
+-- those that were submitted and are told of neither as taken nor as discarded wait at the end
+pub channels_tell_what_waits : (l : ℕ) (c : BearerConfig) (keys : Keys) (nb ue : End) (from : Side)
+    (steps : List AirStep)
+    → BeginAlike l c keys nb ue → AreLiving l (outset nb ue) steps
+    → length (submitted_at l from steps (outset nb ue))
+    ≡ length (leaves l c.first (told_over (all_calls from steps (outset nb ue)) (end_at from (outset nb ue))))
+    + length (queue (ends (flow l (end_at from (lives steps (outset nb ue))))))
+channels_tell_what_waits l c keys nb ue from steps h g =
+    let a = outset nb ue in
+    let e = end_at from a in
+    let cs = all_calls from steps a in
+    let b = begun l c keys nb ue h from in
+    let calls = are_calls l from steps a g in
+    let gone = length (leaves l c.first (told_over cs e)) in
+    all_leave_or_wait from l c keys e cs h.kind b calls
+    ∙ (ap (λ (ws : List (List ℕ)). gone + length ws) (waits_are from l c keys e cs h.kind b calls)
+    ∙ ap (λ (x : End). gone + length (queue (ends (flow l x)))) (sym (goes_by_calls from steps a)))
 
 pub channels_deliver_what_is_taken : (l : ℕ) (c : BearerConfig) (keys : Keys) (nb ue : End) (from : Side)
     (steps : List AirStep)

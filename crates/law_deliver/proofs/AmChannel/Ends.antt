@@ -25,7 +25,7 @@ use Rattle.law_deliver.specs.AmFlow.Ups.{up_on, ups_on, of_calls, tells_in, tell
 use Rattle.law_deliver.specs.AmFlow.Ups.{IsNew}
 use Rattle.promises.specs.Events.{is_on, discards_in, discards_on}
 use Rattle.law_deliver.proofs.AmFlow.Events.{picked_as, picked_over}
-use Rattle.promises.specs.Taken.{leaving_in}
+use Rattle.promises.specs.Taken.{leaving_in, TakenSdu, take_in, length_in}
 use Rattle.law_deliver.proofs.AmFlow.Channels.{call_by}
 use Rattle.law_deliver.proofs.AmFlow.Stations.{run_on, come_sound}
 use Rattle.law_deliver.proofs.AmFlow.Ups.{between_at, come_between, Stands, stands_more, tells_of, the_end}
@@ -199,6 +199,37 @@ leaving_off l (events.Take lcid None len) e = refl
 leaving_off l (events.Discard lcid len) e = ap (λ (b : Bool). if b then None ∷ [] else []) e
 leaving_off l x e = refl
 
+-- what is told of those that are taken
+abbrev pub took_in : ℕ → Flow → BearerCall → List TakenSdu
+took_in l f c = flat_map (take_in l) (tells_in l f c)
+
+abbrev pub ends_took : ℕ → Flow → List TakenSdu
+ends_took l f = flat_map (take_in l) (stopping f)
+
+abbrev pub all_took : ℕ → Flow → List BearerStep → List TakenSdu
+all_took = of_steps took_in ends_took
+
+pub take_off : (l : ℕ) (x : Event) → is_on l x ≡ false → take_in l x ≡ []
+take_off l (events.Take lcid (Some count) len) e =
+    ap (λ (b : Bool). if b then record { count = count; len = len } ∷ [] else []) e
+take_off l (events.Take lcid None len) e = refl
+take_off l x e = refl
+
+-- and of those that leave the queue
+abbrev pub lengths_in : ℕ → Flow → BearerCall → List ℕ
+lengths_in l f c = flat_map (length_in l) (tells_in l f c)
+
+abbrev pub ends_lengths : ℕ → Flow → List ℕ
+ends_lengths l f = flat_map (length_in l) (stopping f)
+
+abbrev pub all_lengths : ℕ → Flow → List BearerStep → List ℕ
+all_lengths = of_steps lengths_in ends_lengths
+
+pub length_off : (l : ℕ) (x : Event) → is_on l x ≡ false → length_in l x ≡ []
+length_off l (events.Take lcid count len) e = ap (λ (b : Bool). if b then len ∷ [] else []) e
+length_off l (events.Discard lcid len) e = ap (λ (b : Bool). if b then len ∷ [] else []) e
+length_off l x e = refl
+
 -- ---- one call
 
 record GoesOne (l : ℕ) (e : End) (c : Call) : Type 0 where
@@ -206,6 +237,8 @@ record GoesOne (l : ℕ) (e : End) (c : Call) : Type 0 where
   ups_are : ups_on l (told_of e c) ≡ all_ups l (flow l e) (steps_in l e c)
   discards_are : discards_on l (told_of e c) ≡ all_discards l (flow l e) (steps_in l e c)
   leaving_are : flat_map (leaving_in l) (told_of e c) ≡ all_leaving l (flow l e) (steps_in l e c)
+  takes_are : flat_map (take_in l) (told_of e c) ≡ all_took l (flow l e) (steps_in l e c)
+  lengths_are : flat_map (length_in l) (told_of e c) ≡ all_lengths l (flow l e) (steps_in l e c)
   new : IsNew l e c
   given : IsGivenCall c
 
@@ -231,6 +264,17 @@ one_goes side l e c s (inl g) =
           ∙ picked_over leaving_in leaving_off marked_in (λ m f d k. refl) l (flow l e) cs
           (between_at l e.bearers s.there (come_between side e s.come))
           ∙ sym (of_life marked_in ends_marked l cs (flow l e)) ∙ ap (all_leaving l (flow l e)) (sym same);
+      takes_are =
+          picked_as take_in take_off l (told_of e c) (tells_over l (flow l e) cs) (tells_of side l e c s g.1).told_is
+          ∙ picked_over take_in take_off took_in (λ m f d k. refl) l (flow l e) cs
+          (between_at l e.bearers s.there (come_between side e s.come))
+          ∙ sym (of_life took_in ends_took l cs (flow l e)) ∙ ap (all_took l (flow l e)) (sym same);
+      lengths_are =
+          picked_as length_in length_off l (told_of e c) (tells_over l (flow l e) cs)
+          (tells_of side l e c s g.1).told_is
+          ∙ picked_over length_in length_off lengths_in (λ m f d k. refl) l (flow l e) cs
+          (between_at l e.bearers s.there (come_between side e s.come))
+          ∙ sym (of_life lengths_in ends_lengths l cs (flow l e)) ∙ ap (all_lengths l (flow l e)) (sym same);
       new = λ q. let no : true ≡ false = sym q ∙ g.1.adds_none in absurd cc;
       given = g.0;
     }
@@ -243,6 +287,10 @@ one_goes side l e c s (inr (keys, q)) =
       discards_are = h.discards_are;
       leaving_are = picked_as leaving_in leaving_off l (told_of e (Move keys)) (stopping (flow l e)) h.told_is
           ∙ sym (append-nil (ends_marked l (flow l e)));
+      takes_are = picked_as take_in take_off l (told_of e (Move keys)) (stopping (flow l e)) h.told_is
+          ∙ sym (append-nil (ends_took l (flow l e)));
+      lengths_are = picked_as length_in length_off l (told_of e (Move keys)) (stopping (flow l e)) h.told_is
+          ∙ sym (append-nil (ends_lengths l (flow l e)));
       new = λ p. let no : false ≡ true = p in absurd cc;
       given = tt;
     })
@@ -258,10 +306,20 @@ pub record GoesAll (l : ℕ) (e : End) (cs : List Call) : Type 0 where
   pub ups_are : went_up l cs e ≡ all_ups l (flow l e) (steps_over l cs e)
   pub discards_are : discards_on l (told_over cs e) ≡ all_discards l (flow l e) (steps_over l cs e)
   pub leaving_are : flat_map (leaving_in l) (told_over cs e) ≡ all_leaving l (flow l e) (steps_over l cs e)
+  pub takes_are : flat_map (take_in l) (told_over cs e) ≡ all_took l (flow l e) (steps_over l cs e)
+  pub lengths_are : flat_map (length_in l) (told_over cs e) ≡ all_lengths l (flow l e) (steps_over l cs e)
 
 pub all_go : (side : Side) (l : ℕ) (e : End) (cs : List Call) → Stands side l e → AllByRecursion (IsCall l) cs
     → GoesAll l e cs
-all_go side l e [] s g = record { bearer_is = refl; ups_are = refl; discards_are = refl; leaving_are = refl }
+all_go side l e [] s g =
+    record {
+      bearer_is = refl;
+      ups_are = refl;
+      discards_are = refl;
+      leaving_are = refl;
+      takes_are = refl;
+      lengths_are = refl;
+    }
 all_go side l e (c ∷ cs) s g =
     let one = one_goes side l e c s g.0 in
     let rest = all_go side l (after e c) cs (stands_more side l e c s one.given one.new) g.1 in
@@ -273,4 +331,7 @@ all_go side l e (c ∷ cs) s g =
       discards_are =
           told_then discarded_in ends_discarded discards_in l e c cs one.bearer_is one.discards_are rest.discards_are;
       leaving_are = told_then marked_in ends_marked leaving_in l e c cs one.bearer_is one.leaving_are rest.leaving_are;
+      takes_are = told_then took_in ends_took take_in l e c cs one.bearer_is one.takes_are rest.takes_are;
+      lengths_are =
+          told_then lengths_in ends_lengths length_in l e c cs one.bearer_is one.lengths_are rest.lengths_are;
     }

@@ -84,11 +84,11 @@ first_told l e o os same q =
     (option_map (λ o. written e.tx.kind e.tx.protection o.count o.text) (slice_get xs 0)))) q
     ∙ one_told l e.lcid e.kind e.tx.kind e.tx.protection o.count o.text same
 
-stays_on : (l : ℕ) (d : Ends) → d.lcid ≡ l → (after_taking d).lcid ≡ l
+pub stays_on : (l : ℕ) (d : Ends) → d.lcid ≡ l → (after_taking d).lcid ≡ l
 unfolding after_taking
 stays_on l d same = same
 
-any_offers : (os : List Offer) → AllByRecursion (λ o. Unit {0}) os
+pub any_offers : (os : List Offer) → AllByRecursion (λ o. Unit {0}) os
 any_offers [] = tt
 any_offers (o ∷ os) = (tt, any_offers os)
 
@@ -162,7 +162,7 @@ gone_by false l lcid w ws s e same q rest = record {
       (if b then events.Discard lcid (length w.sdu) ∷ late_told lcid ws (after_late s) else [])) e;
 }
 
-late_waiting : (w : Waits) (ws : List Waits) (s : Sending) → is_overdue s ≡ true → s.waiting ≡ w ∷ ws
+pub late_waiting : (w : Waits) (ws : List Waits) (s : Sending) → is_overdue s ≡ true → s.waiting ≡ w ∷ ws
     → (after_late s).waiting ≡ ws
 unfolding after_late
 late_waiting w ws s e q = ap (λ (b : Bool). if b then drop 1 s.waiting else s.waiting) e ∙ ap (drop 1) q

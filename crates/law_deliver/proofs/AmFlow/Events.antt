@@ -526,6 +526,10 @@ module _ {X : Type 0} (pick : ℕ → Event → List X) (off : (l : ℕ) (x : Ev
       none_picked pick off l _
       (some_hold (λ x. pick l x ≡ []) l w clock (expiry f clock) ((told_in_order l f k).expiring clock))
 
+  pub none_ticking : ((len : ℕ) → pick l (Discard l len) ≡ []) → flat_map (pick l) (tells_in l f Ticks) ≡ []
+  none_ticking late =
+      none_picked pick off l _ (tti_holds (λ x. pick l x ≡ []) l w late _ (told_in_order l f k).ticking)
+
   pub none_ending : flat_map (pick l) (stopping f) ≡ []
   none_ending =
       none_picked pick off l (stopping f)

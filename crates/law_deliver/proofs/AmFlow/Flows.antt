@@ -6,15 +6,18 @@ use Rattle.l2_types.specs.declared.config.AmTxConfig.{AmTxConfig}
 use Rattle.l2_types.specs.declared.AmRxConfig.{AmRxConfig}
 use Rattle.rlc_pdu.specs.Pdus.{AmdPdu, Payload, Status as Control}
 use Rattle.rlc_pdu.specs.Reading.{am_at}
+use Rattle.rlc_pdu.specs.declared.Landed.TheVariants.{Clash}
+use Rattle.rlc_am_rx.specs.Machine.{landed}
 use Rattle.law_rlc.specs.AmSender.Octets.{segment_of}
 use Rattle.law_rlc.specs.AmPair.Flow.{Copy, Report, Flow, DataGoes as LetsDataGo, StatusGoes as LetsStatusGo}
-use Rattle.law_rlc.specs.AmPair.Flow.{Passes as TtiPasses, sender, except, older as older_reports, goes as flow_goes}
-use Rattle.law_rlc.specs.AmPair.Flow.{am_rlc_outset}
+use Rattle.law_rlc.specs.AmPair.Flow.{Passes as TtiPasses, sender, receiver, except, older as older_reports}
+use Rattle.law_rlc.specs.AmPair.Flow.{goes as flow_goes, am_rlc_outset}
 use Rattle.law_rlc.specs.AmPair.Given.{IsYoung as IsYoungReport}
 use Rattle.law_rlc.specs.AmPair.Statuses.{IsReadRight, reduced}
 use Rattle.law_rlc.proofs.AmPair.Reading.{read_as, stretch-read}
 use Rattle.law_rlc.proofs.AmPair.Sound.{IsTrueCopy, IsSound}
 use Rattle.law_rlc.proofs.AmPair.Laws.{sound, reads-each-number}
+use Rattle.law_rlc.proofs.AmArrival.Coming.{never_clashes}
 use Rattle.bearer.specs.Acknowledged.State.{State}
 use Rattle.law_bearer.specs.AnyBearer.Acknowledged.{status_heard, data_heard}
 use Rattle.law_deliver.specs.AmFlow.Pair.{SentStatus, BearerEnd, Pair, Deed, Calls, DataComes, StatusComes, DataGoes}
@@ -77,6 +80,7 @@ pub record ReadsData (f : Flow) (k : ℕ) (c : Copy) : Type 0 where
   pub at : slice_get f.copies k ≡ Some c
   pub pdu : AmdPdu
   pub read : am_at c.octets ≡ Ok (Payload pdu)
+  pub clashes : landed (receiver f).state pdu ≡ Clash → ⊥
 
 pub data_read : (a : AmTxConfig) (b : AmRxConfig) (e o : BearerEnd) (m : HasFlow a b e o) (k : ℕ) (c : Copy)
     → slice_get e.copies k ≡ Some c → ReadsData (reached a b e o m) k c
@@ -86,11 +90,10 @@ data_read a b e o m k c q =
     let here : slice_get f.copies k ≡ Some c = ap (λ (l : List Copy). slice_get l k) m.is.copies_are ∙ q in
     let t : IsTrueCopy (sender f).past.sent c = all_at (IsTrueCopy (sender f).past.sent) f.copies k c h.copies here in
     let ps = slice_index_or (sender f).past.sent c.number [] in
-    record {
-      at = here;
-      pdu = read_as c.number t.poll (segment_of t.from t.to (length ps)) (slice_range ps t.from t.to);
-      read = ap am_at t.is ∙ stretch-read c.number t.poll ps t.from t.to (h.aired c.number t.known) t.some t.within;
-    }
+    let pdu = read_as c.number t.poll (segment_of t.from t.to (length ps)) (slice_range ps t.from t.to) in
+    let read : am_at c.octets ≡ Ok (Payload pdu) =
+    ap am_at t.is ∙ stretch-read c.number t.poll ps t.from t.to (h.aired c.number t.known) t.some t.within in
+    record { at = here; pdu = pdu; read = read; clashes = never_clashes f c pdu h t read }
 
 pub record ReadsStatus (f : Flow) (k : ℕ) (s : SentStatus) : Type 0 where
   pub report : Report

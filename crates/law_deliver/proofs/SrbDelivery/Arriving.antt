@@ -151,11 +151,11 @@ pub record DataComes (first : ℕ) (p : Protection) (n : ℕ) (us : List (List �
     pub none_lost : losses (tells b (Arrive octets)) ≡ []
 
 data_by : (first : ℕ) (p : Protection) (n : ℕ) (us : List (List ℕ)) (b : State) (octets : List ℕ) (x : AmdPdu)
-    → am_at octets ≡ Ok (Payload x) → IsIdle b
+    → am_at octets ≡ Ok (Payload x) → (landed b.rx x ≡ Clash → ⊥) → IsIdle b
     → HeardAll first p n us (work b.pdcp b.tx (landed_told b.pdcp.lcid (landed b.rx x) (turned b.rx x)))
     → (landed_in b.rx x).out.ready ≡ pdus_from p (first + n) us → DataComes first p n us b octets
 unfolding arrived arriving am_arriving after_arrival
-data_by first p n us b octets x read idle h q =
+data_by first p n us b octets x read apart idle h q =
     let told = landed_told b.pdcp.lcid (landed b.rx x) (turned b.rx x) in
     let w : Work = work b.pdcp b.tx told in
     let all : land_work x b ≡ work (with_rx h.rx b.pdcp) b.tx (told ++ ups b.pdcp.lcid us) =
@@ -181,16 +181,16 @@ data_by first p n us b octets x read idle h q =
           ∙ ups_are b.pdcp.lcid us;
       none_lost = ap (λ (r : Result AcknowledgedPdu RlcRefusal). losses (arrived_told r b)) read
           ∙ ap (λ (v : Work). losses v.events) all
-          ∙ none_lost_then told (ups b.pdcp.lcid us) (landed_loses_none b.pdcp.lcid (landed b.rx x) (turned b.rx x))
-          (ups_lose_none b.pdcp.lcid us);
+          ∙ none_lost_then told (ups b.pdcp.lcid us)
+          (landed_loses_none b.pdcp.lcid (landed b.rx x) (turned b.rx x) apart) (ups_lose_none b.pdcp.lcid us);
     }
 
 pub data_comes : (first : ℕ) (p : Protection) (n : ℕ) (us : List (List ℕ)) (b : State) (octets : List ℕ) (x : AmdPdu)
-    → am_at octets ≡ Ok (Payload x) → IsIdle b
+    → am_at octets ≡ Ok (Payload x) → (landed b.rx x ≡ Clash → ⊥) → IsIdle b
     → Hears first p n b.pdcp.rx → AreNonempty us → first + n + length us ≤ 2 ^ 32
     → (landed_in b.rx x).out.ready ≡ pdus_from p (first + n) us → DataComes first p n us b octets
-data_comes first p n us b octets x read idle h some few q =
-    data_by first p n us b octets x read idle
+data_comes first p n us b octets x read apart idle h some few q =
+    data_by first p n us b octets x read apart idle
     (heard_all us first p n (work b.pdcp b.tx (landed_told b.pdcp.lcid (landed b.rx x) (turned b.rx x))) h
     idle.raised some few) q
 

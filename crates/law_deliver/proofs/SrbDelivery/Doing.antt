@@ -6,6 +6,9 @@ use Rattle.law_rlc.specs.AmReceiver.Run.{Arrive as Hears-it, state_after}
 use Rattle.law_rlc.specs.AmPair.Flow.{Copy, DataGoes as LetsDataGo, StatusGoes as LetsStatusGo, Passes as TtiPasses}
 use Rattle.law_rlc.specs.AmPair.Flow.{except}
 use Rattle.law_rlc.specs.AmPair.Statuses.{reduced}
+use Rattle.rlc_pdu.specs.declared.Landed.TheVariants.{Clash}
+use Rattle.rlc_am_rx.specs.Machine.{landed}
+use Rattle.rlc_am_rx.specs.State.{State as Receiver}
 use Rattle.bearer.specs.Acknowledged.State.{State}
 use Rattle.law_bearer.specs.AnyBearer.Acknowledged.{status_heard, data_heard}
 use Rattle.law_bearer.specs.AnyBearer.Calls.{Call, Submit, Take, Arrive, Expire, Tick, SetDiscard}
@@ -190,8 +193,10 @@ data_go out inn e o sent up got back k c q h =
     (sound_so inn o e back got i) h.own.idle.heard (stands_so inn o e back got i) in
     let next = next_are inn o e o d back got (state_after e.bearer.rx (Hears-it x)).out.ready i m in
     let can = are_next inn o e back got (state_after e.bearer.rx (Hears-it x)).out.ready i next in
-    let y = data_comes inn.first inn.protection (length got) next.news e.bearer c.octets x r.read h.own.idle i.hears
-    can.some can.few next.brought_is in
+    let apart : landed e.bearer.rx x ≡ Clash → ⊥ =
+    subst (λ (rx : Receiver). landed rx x ≡ Clash → ⊥) i.is.receiver_is r.clashes in
+    let y = data_comes inn.first inn.protection (length got) next.news e.bearer c.octets x r.read apart h.own.idle
+    i.hears can.some can.few next.brought_is in
     let here = inn_goes inn o e o d back got (state_after e.bearer.rx (Hears-it x)).out.ready i next m y.hears' refl in
     let s = stands_so out e o sent up j in
     let there =

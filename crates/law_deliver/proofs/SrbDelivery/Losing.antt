@@ -1,4 +1,4 @@
--- Of what a bearer tells nothing is a loss of PDCP but what its receiver tells.
+-- Of what a bearer tells nothing is a loss but what its receivers tell.
 use Rattle.std.proofs.Common.{◌≡◌, ℕ, ◌-◌, ◌%◌, Bool, true, false, if◌then◌else◌, nat_lt, List, [], ◌∷◌, ◌++◌, length}
 use Rattle.std.proofs.Common.{Option, Some, None, Result, Ok, Err, refl, ap, ◌∙◌}
 use Rattle.std.proofs.lemmas.List.Elements.{filter-append}
@@ -68,11 +68,11 @@ turned_none lcid t = by t.stopped t.started
     by false true = refl
     by false false = refl
 
-pub landed_none : (lcid : ℕ) (l : Landed) (t : Turned) → losses (landed_told lcid l t) ≡ []
-landed_none lcid Kept t = turned_none lcid t
-landed_none lcid Repeat t = refl
-landed_none lcid Outside t = refl
-landed_none lcid Clash t = refl
+pub landed_none : (lcid : ℕ) (l : Landed) (t : Turned) → (l ≡ Clash → ⊥) → losses (landed_told lcid l t) ≡ []
+landed_none lcid Kept t apart = turned_none lcid t
+landed_none lcid Repeat t apart = refl
+landed_none lcid Outside t apart = refl
+landed_none lcid Clash t apart = absurd (apart refl)
 
 stopped_none : (lcid : ℕ) (b : Bool) → losses (stopped_told lcid b) ≡ []
 stopped_none lcid true = refl

@@ -56,10 +56,11 @@ pub restarts : (b : State) (keys : Keys) → bearer_goes (Um b) (Restart keys) �
 unfolding flow_stopped flow_restarted
 restarts b keys = refl
 
-between_next : (l : ℕ) (b : State) (keys : Keys) → IsBetween l (Um b) → IsBetween l (Um (restarted (stopped b) keys))
+pub between_next : (l : ℕ) (b : State) (keys : Keys) → IsBetween l (Um b)
+    → IsBetween l (Um (restarted (stopped b) keys))
 between_next l b keys k = subst (IsBetween l) (restarts b keys) (moves l (Um b) keys k)
 
-between_called : (l : ℕ) (b : State) (c : Call) → IsBetween l (Um b) → IsBetween l (Um (called b c))
+pub between_called : (l : ℕ) (b : State) (c : Call) → IsBetween l (Um b) → IsBetween l (Um (called b c))
 between_called l b c k = subst (IsBetween l) (is_called b c) (between_after l (Um b) c k)
 
 between_all : (l : ℕ) (b : State) (cs : List Call) → IsBetween l (Um b) → IsBetween l (Um (all_called b cs))

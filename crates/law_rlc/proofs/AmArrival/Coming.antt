@@ -90,7 +90,7 @@ pub is_received : (f : Flow) (octets : List ℕ) (p : AmdPdu) → am_at octets �
     → data_comes f (Some (record { number = number; octets = octets })) ≡ receives f (Arrive p)
 is_received f octets p read number = ap (λ r. data_read f r) read
 
-never_clashes : (f : Flow) (c : Copy) (p : AmdPdu) → IsSound f → IsTrueCopy (sender f).past.sent c
+pub never_clashes : (f : Flow) (c : Copy) (p : AmdPdu) → IsSound f → IsTrueCopy (sender f).past.sent c
     → am_at c.octets ≡ Ok (Payload p) → landed (receiver f).state p ≡ Clash → ⊥
 never_clashes f c p h q read e =
     let sent = (sender f).past.sent in
