@@ -22,6 +22,8 @@ pub mod Counts
 pub mod Distinct
 pub mod Texts
 pub mod Early
+pub mod Quiet
+pub mod Still
 pub mod Failing
 pub mod Failed
 pub mod Flowing
@@ -34,4 +36,5 @@ pub mod Standing
 pub mod Unlooped
 pub mod Signalling
 pub mod Losses
+pub mod Silent
 pub mod Everything

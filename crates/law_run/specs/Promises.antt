@@ -17,6 +17,7 @@ use Rattle.promises.specs.Loops.{ReturnInOrder}
 use Rattle.law_run.specs.Losses.{DeliversWhileShort}
 use Rattle.law_run.specs.Order.{KeepsOrder}
 use Rattle.promises.specs.Signalling.{DeliversEachLife, DrainsLeaveNoSignal, HandoversBringNoSignal}
+use Rattle.promises.specs.Silent.{FailedAreSilent}
 use Rattle.law_run.specs.Sums.{sums_at}
 use Rattle.law_run.specs.Texts.{NoneMeet}
 use Rattle.promises.specs.Telling.{LinesTell}
@@ -57,6 +58,9 @@ pub record IsPromised (played : Played) : Type 0 where
   pub signals_drained : DrainsLeaveNoSignal past
   -- and in a handover nothing of it goes up
   pub signals_moved : HandoversBringNoSignal past
+  -- a sender that gives up sends no data PDU behind that and gives up no more, up to the next
+  -- handover
+  pub silent : FailedAreSilent past
   -- each unacknowledged data bearer hands up some of what was submitted at the other end, in order,
   -- while losses are short
   pub delivered_short : DeliversWhileShort past
