@@ -9,6 +9,7 @@ pub mod Carrying
 pub mod Ttis
 pub mod Lines
 pub mod Processes
+pub mod Marks
 pub mod Past
 pub mod Ending
 pub mod Modes
