@@ -278,8 +278,8 @@ begin_by past g c options right order =
       submitted_is = λ side. now.none_submitted side l;
       happened_is = λ bits from. now.none_happened bits l from;
       senders = λ kind. at_each (λ side. HasSender side l _)
-          (sender_begins Nb l c keys _ kind (channels_begin c keys k right.in_range rest Nb here.0))
-          (sender_begins Ue l c keys _ kind (channels_begin c keys k right.in_range rest Ue here.1));
+          (sender_begins Nb l c keys _ (channels_begin c keys k right.in_range rest Nb here.0))
+          (sender_begins Ue l c keys _ (channels_begin c keys k right.in_range rest Ue here.1));
       flows = λ kind from.
           ap (λ (out : List Record). flow_at (sent_by from) l
           (all_seen out (with_um c.kind c (state_behind past).losses)).flows) (is_early past order f.early).silent

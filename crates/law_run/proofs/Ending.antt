@@ -1,4 +1,4 @@
--- The sums at the end are the journal's own counts.
+-- The sums at the end are the journal's own counts, and tell of failures as it does.
 use Rattle.std.proofs.Common.{◌≡◌, ◌<◌, ℕ, List, [], ◌∷◌, ◌++◌, refl, ap, arith}
 use Rattle.std.specs.List.{AllByRecursion}
 use Rattle.bearer_types.specs.Lcids.{all_lcids}
@@ -19,10 +19,10 @@ one_told : (side : Side) (past : List Group) (lcid : ℕ) → lcid < 11 → Behi
 unfolding sums
 one_told Nb past lcid lt b =
     let r = state_behind past in
-    rw (b.nb_submitted.each lcid lt) (rw (b.ue_delivered.each lcid lt) refl)
+    rw (b.nb_submitted.each lcid lt) (rw (b.ue_delivered.each lcid lt) (rw (b.nb_failed.each lcid lt) refl))
 one_told Ue past lcid lt b =
     let r = state_behind past in
-    rw (b.ue_submitted.each lcid lt) (rw (b.nb_delivered.each lcid lt) refl)
+    rw (b.ue_submitted.each lcid lt) (rw (b.nb_delivered.each lcid lt) (rw (b.ue_failed.each lcid lt) refl))
 
 each_told : (past : List Group) (lcid : ℕ) → lcid < 11 → Behind past
     → sums_of (state_behind past).link (state_behind past).losses lcid ≡ sums_told past (state_behind past) lcid

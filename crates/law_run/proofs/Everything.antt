@@ -14,6 +14,7 @@ use Rattle.law_run.proofs.Playing.{tells-all}
 use Rattle.law_run.proofs.Queueing.{queues_are_short}
 use Rattle.law_run.proofs.Reaching.{come_by_calls}
 use Rattle.law_run.proofs.Meeting.{none_meet}
+use Rattle.law_run.proofs.Silent.{failed_are_silent}
 use Rattle.law_run.proofs.Taking.{takes_name, sdus_leave_in_order}
 use Rattle.law_run.proofs.Signalling.{delivers_each_life, drains_leave_no_signal, handovers_bring_none}
 use Rattle.law_run.proofs.Sleeping.{sleeps_behind_drx}
@@ -46,6 +47,7 @@ every-journal whole octets =
       signalled = delivers_each_life t.later t.order;
       signals_drained = drains_leave_no_signal t.later t.order;
       signals_moved = handovers_bring_none t.later t.order;
+      silent = failed_are_silent t.later t.order;
       delivered_short = delivers_while_short t.later t.order;
       in_order = lines_tell t.later t.order;
     }

@@ -18,13 +18,14 @@ use Rattle.law_deliver.specs.AmChannel.Drained.{has_failed}
 use Rattle.law_deliver.proofs.AmChannel.Delivery.{stands_so}
 use Rattle.eps_sec.specs.declared.Keys.{Keys}
 use Rattle.law_deliver.specs.AmFlow.Channels.{calls_of, GoesOnInLife}
+use Rattle.law_deliver.specs.AmFlow.Ups.{tells_over}
 use Rattle.promises.specs.Events.{is_on, told_on, fails_in, fails_on}
 use Rattle.law_deliver.proofs.AmFlow.Channels.{call_by}
 use Rattle.law_deliver.proofs.AmFlow.Stations.{come_sound}
 use Rattle.law_deliver.proofs.AmFlow.Ups.{Stands, stands_more, tells_of, the_end}
 use Rattle.l2_node.specs.End.{End}
 use Rattle.l2_types.specs.declared.channel.Kind.{Kind}
-use Rattle.l2_types.specs.declared.channel.Kind.TheVariants.{Am, Srb}
+use Rattle.l2_types.specs.declared.channel.Kind.TheVariants as kinds
 use Rattle.l2_types.specs.declared.side.Side.{Side}
 use Rattle.promises.specs.Records.{events_of}
 use Rattle.law_node.specs.Bearers.{adds, moves, AddNone}
@@ -33,10 +34,12 @@ use Rattle.law_node.specs.Holding.{flow}
 use Rattle.law_node.specs.Telling.{told_of, told_over}
 use Rattle.promises.specs.Parts.{is_handover}
 use Rattle.promises.specs.Drained.{failed}
+use Rattle.promises.specs.Silent.{is_failure}
 use Rattle.law_run.specs.Order.{state_behind, IsRight, KeepsOrder}
 use Rattle.law_run.proofs.Counts.{goes}
-use Rattle.law_run.proofs.Failing.{fails, tell_failure, calls_keep, life_unfailed}
+use Rattle.law_run.proofs.Failing.{calls_run, life_unfailed}
 use Rattle.law_run.proofs.Past.{link_behind}
+use Rattle.law_run.proofs.Quiet.{tell_failure}
 use Rattle.law_run.proofs.Reaching.{lives_by}
 use Rattle.law_run.proofs.Texts.{moves_are, adds_are, adds_one, adds_none}
 
@@ -52,7 +55,7 @@ fail_by : (here : Bool) (e : Event) (sn : ℕ) (rest : List ℕ) (told : List Ev
 fail_by true e sn rest told none more = absurd cc
 fail_by false e sn rest told none more = more none
 
-other_by : (here : Bool) (e : Event) (told : List Event) → fails e ≡ false → tell_failure told ≡ false
+other_by : (here : Bool) (e : Event) (told : List Event) → is_failure e ≡ false → tell_failure told ≡ false
     → tell_failure (cond here (e ∷ told) told) ≡ false
 other_by true e told own rest = ap (λ (b : Bool). b || tell_failure told) own ∙ rest
 other_by false e told own rest = rest
@@ -83,10 +86,12 @@ module _ (side : Side) (l : ℕ) where
   life_goes : (e : End) (c : Call) → Stands side l e → GoesOnInLife l c → fails_on l (told_of e c) ≡ [] → Unfailed l e
       → Unfailed l (after e c)
   life_goes e c s life quiet unfailed =
+      let f = flow l e in
+      let told = tells_over l f (calls_of l e c) in
+      let none : tell_failure told ≡ false =
+      ap tell_failure (sym (tells_of side l e c s life).told_is) ∙ own_fails l (told_of e c) quiet in
       ap has_failed (call_by l e c (come_sound side e s.come) life s.there)
-      ∙ calls_keep l (flow l e) (calls_of l e c) (ap tell_failure (sym (tells_of side l e c s life).told_is)
-      ∙ own_fails l (told_of e c) quiet)
-      ∙ unfailed
+      ∙ (calls_run l f (calls_of l e c)).after_is ∙ ap (λ (b : Bool). b || tell_failure told) unfailed ∙ none
 
   move_goes : (e : End) (c : Call) (keys : Keys) → c ≡ Move keys → Stands side l e → Unfailed l (after e c)
   move_goes e c keys is s = ap (λ (d : Call). has_failed (flow l (after e d))) is
@@ -184,27 +189,17 @@ module _ (side : Side) (l : ℕ) (past : List Group) (g : Group) (right : IsRigh
       }
 
 -- as a bearer comes
-begins_unfailed : (c : BearerConfig) (keys : Keys) (side : Side) → has_failed (flow_of Am c keys side) ≡ false
+pub begins_unfailed : (kind : Kind) (c : BearerConfig) (keys : Keys) (side : Side)
+    → has_failed (flow_of kind c keys side) ≡ false
 unfolding fresh_am
-begins_unfailed c keys side = refl
+begins_unfailed kinds.Tm c keys side = refl
+begins_unfailed kinds.Srb c keys side = refl
+begins_unfailed kinds.Um c keys side = refl
+begins_unfailed kinds.Am c keys side = refl
 
-pub sender_begins : (side : Side) (l : ℕ) (c : BearerConfig) (keys : Keys) (past : List Group) → c.kind ≡ Am
+pub sender_begins : (side : Side) (l : ℕ) (c : BearerConfig) (keys : Keys) (past : List Group)
     → HasBegun side l c keys (end_of side (link_behind past)) → HasSender side l past
-sender_begins side l c keys past kind h = record {
+sender_begins side l c keys past h = record {
   stands = stands_so side l c keys (end_of side (link_behind past)) h;
-  unfailed = λ quiet. ap has_failed h.bearer_is ∙ ap (λ (k : Kind). has_failed (flow_of k c keys side)) kind
-      ∙ begins_unfailed c keys side;
-}
-
--- also one of signalling
-signalling_unfailed : (c : BearerConfig) (keys : Keys) (side : Side) → has_failed (flow_of Srb c keys side) ≡ false
-unfolding fresh_am
-signalling_unfailed c keys side = refl
-
-pub signalling_begins : (side : Side) (l : ℕ) (c : BearerConfig) (keys : Keys) (past : List Group) → c.kind ≡ Srb
-    → HasBegun side l c keys (end_of side (link_behind past)) → HasSender side l past
-signalling_begins side l c keys past kind h = record {
-  stands = stands_so side l c keys (end_of side (link_behind past)) h;
-  unfailed = λ quiet. ap has_failed h.bearer_is ∙ ap (λ (k : Kind). has_failed (flow_of k c keys side)) kind
-      ∙ signalling_unfailed c keys side;
+  unfailed = λ quiet. ap has_failed h.bearer_is ∙ begins_unfailed c.kind c keys side;
 }

@@ -9,6 +9,7 @@ pub mod Carrying
 pub mod Ttis
 pub mod Lines
 pub mod Processes
+pub mod Marks
 pub mod Past
 pub mod Sleeping
 pub mod Ending
@@ -24,6 +25,8 @@ pub mod Distinct
 pub mod Texts
 pub mod Meeting
 pub mod Early
+pub mod Quiet
+pub mod Still
 pub mod Failing
 pub mod Failed
 pub mod Flowing
@@ -39,4 +42,5 @@ pub mod Standing
 pub mod Unlooped
 pub mod Signalling
 pub mod Losses
+pub mod Silent
 pub mod Everything

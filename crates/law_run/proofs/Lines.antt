@@ -1,8 +1,8 @@
 -- What a line adds to the counts of a link, and what it tells.
 use Rattle.std.proofs.Common.{◌≡◌, ℕ, ◌+◌, ◌==◌, Bool, true, false, cond, List, [], ◌∷◌, ◌++◌, length, append-nil, refl}
 use Rattle.std.proofs.Common.{ap, sym, arith, subst, ◌∙◌}
-use Rattle.std.specs.Prelude.{Option, Some, None}
-use Rattle.std.specs.List.{filter}
+use Rattle.std.specs.Prelude.{Option, Some, None, if◌then◌else◌, replicate, ◌||◌}
+use Rattle.std.specs.List.{filter, list_any}
 use Rattle.std.proofs.lemmas.List.Elements.{filter-append}
 use Rattle.air_link.specs.Lines.{submitting}
 use Rattle.air_link.specs.Link.{Link}
@@ -21,25 +21,32 @@ use Rattle.eps_sec.specs.declared.Keys.{Keys}
 use Rattle.l2_types.specs.declared.side.Side.{Side}
 use Rattle.l2_types.specs.declared.side.Side.TheVariants.{Nb, Ue}
 use Rattle.law_air.specs.AnyCalls.Calls as calls
-use Rattle.law_air.specs.AnyCalls.Counts.{ups, loopeds, Grows}
+use Rattle.law_air.specs.AnyCalls.Counts.{ups, loopeds, Grows, is_fail, gives_up, AreMarked}
 use Rattle.promises.specs.Records.{is_up, is_looped, is_of_run, is_of_air}
-use Rattle.law_air.specs.AnyCalls.Told.{why_refused, refusals, accepted, Adds, AddsTti, AddsSubmitted}
-use Rattle.law_air.proofs.AnyCalls.Adding.{stays, same_grows, count_then}
+use Rattle.law_air.specs.AnyCalls.Told.{why_refused, refusals, accepted, Adds, renewed, AddsTti}
+use Rattle.law_air.specs.AnyCalls.Told.{AddsSubmitted}
+use Rattle.law_air.proofs.AnyCalls.Adding.{stays, same_grows, count_then, same_marked, any_then}
 use Rattle.law_air.proofs.AnyCalls.Calling.{calls_adds, submitting_adds}
 use Rattle.law_air.proofs.AnyCalls.Passing.{tti_adds}
-use Rattle.law_air.proofs.AnyCalls.Running.{grows_as, no_ups, no_loops, no_runs}
+use Rattle.law_air.proofs.AnyCalls.Running.{grows_as, marked_as, no_ups, no_loops, no_runs, no_failures}
 use Rattle.test_loop.specs.declared.Mode.TheVariants.{Off, A, B}
 use Rattle.promises.specs.Air.{is_tti, numbered, IsOfItsTime, FliesIntact, InTurn}
 use Rattle.promises.specs.Flows.{handed_in}
-use Rattle.promises.specs.Parts.{Part, Submits, Passes, Drains, Rests, part_of_line}
+use Rattle.promises.specs.Parts.{Part, Submits, Passes, Drains, Rests, part_of_line, is_handover}
 use Rattle.law_run.proofs.Records.{of_run_alone, count_numbered, ttis_of_drain}
 use Rattle.law_run.proofs.Ttis.{WholeDrain, drained_adds}
 
-pub record PartAdds (p : Part) (l m : Link) : Type 0 where
+-- a handover begins with no failure
+abbrev pub failed_from : Bool → List Bool → List Bool
+failed_from over failed = if over then replicate 11 false else failed
+
+pub record PartAdds (p : Part) (over : Bool) (l m : Link) : Type 0 where
   pub nb_delivered : Grows (λ k. ups Nb k m.out) l.up.delivered m.up.delivered
   pub ue_delivered : Grows (λ k. ups Ue k m.out) l.down.delivered m.down.delivered
   pub nb_submitted : Grows (λ k. length (handed_in Nb k p m.out)) l.down.submitted m.down.submitted
   pub ue_submitted : Grows (λ k. length (handed_in Ue k p m.out) + loopeds k m.out) l.up.submitted m.up.submitted
+  pub nb_failed : AreMarked (λ k. gives_up Nb k m.out) (failed_from over l.down.failed) m.down.failed
+  pub ue_failed : AreMarked (λ k. gives_up Ue k m.out) (failed_from over l.up.failed) m.up.failed
   pub count : ℕ
   pub ttis_is : m.ttis ≡ l.ttis + count
   pub numbers : filter is_tti m.out ≡ numbered l.ttis count
@@ -51,7 +58,7 @@ no_numbers told e = sym (of_run_alone told) ∙ ap (λ (x : List Record). filter
 
 -- ---- a line that is neither a TTI, a submission nor a drain
 
-rests_add : (l m : Link) → l.out ≡ [] → Adds [] l m → PartAdds Rests l m
+rests_add : (l m : Link) → l.out ≡ [] → Adds [] l m → PartAdds Rests false l m
 rests_add l m nothing a =
     let out : m.out ≡ a.more = a.out_is ∙ ap (λ (x : List Record). x ++ a.more) nothing in
     let run : filter is_of_run m.out ≡ [] = ap (λ (x : List Record). filter is_of_run x) out ∙ a.told.none_of_run in
@@ -66,10 +73,34 @@ rests_add l m nothing a =
       ue_submitted = grows_as (λ k. loopeds k a.more) (λ k. 0 + loopeds k m.out) l.up.submitted m.up.submitted
           (λ k. let same : loopeds k m.out ≡ loopeds k a.more = ap (λ (x : List Record). loopeds k x) out in
           omega (arith, same)) a.told.ue_submitted;
+      nb_failed =
+          marked_as (λ k. gives_up Nb k a.more) (λ k. gives_up Nb k m.out) l.down.failed m.down.failed
+          (λ k. ap (λ (x : List Record). gives_up Nb k x) out) a.told.nb_failed;
+      ue_failed =
+          marked_as (λ k. gives_up Ue k a.more) (λ k. gives_up Ue k m.out) l.up.failed m.up.failed
+          (λ k. ap (λ (x : List Record). gives_up Ue k x) out) a.told.ue_failed;
       count = 0;
       ttis_is = omega (arith, a.ttis_is);
       numbers = no_numbers m.out run;
       of_its_time = record { timed = run; flown = ap (λ (x : List Record). filter is_of_air x) out ∙ a.told.flown_is };
+    }
+
+-- a handover
+moves_add : (keys : Keys) (l m : Link) → l.out ≡ [] → Adds [] (renewed (calls.HandsOver keys) l) m
+    → PartAdds Rests true l m
+moves_add keys l m nothing a =
+    let p = rests_add (renewed (calls.HandsOver keys) l) m nothing a in
+    record {
+      nb_delivered = p.nb_delivered;
+      ue_delivered = p.ue_delivered;
+      nb_submitted = p.nb_submitted;
+      ue_submitted = p.ue_submitted;
+      nb_failed = p.nb_failed;
+      ue_failed = p.ue_failed;
+      count = p.count;
+      ttis_is = p.ttis_is;
+      numbers = p.numbers;
+      of_its_time = p.of_its_time;
     }
 
 -- ---- a submission
@@ -93,7 +124,7 @@ no_air None side lcid = refl
 no_air (Some why) side lcid = refl
 
 submits_add : (side : Side) (lcid : ℕ) (octets : List ℕ) (l m : Link) → l.out ≡ []
-    → AddsSubmitted side lcid (why_refused side lcid octets l) l m → PartAdds (Submits side lcid octets) l m
+    → AddsSubmitted side lcid (why_refused side lcid octets l) l m → PartAdds (Submits side lcid octets) false l m
 submits_add Nb lcid octets l m nothing a =
     let why = why_refused Nb lcid octets l in
     let out : m.out ≡ refusals Nb lcid why = a.out_is ∙ ap (λ (x : List Record). x ++ refusals Nb lcid why) nothing in
@@ -113,6 +144,12 @@ submits_add Nb lcid octets l m nothing a =
       ue_submitted = same_grows (λ k. 0 + loopeds k m.out) l.up.submitted m.up.submitted a.other_submitted
           (λ k. let none : loopeds k m.out ≡ 0 = ap (λ (x : List Record). loopeds k x) out ∙ no_loops why Nb lcid k in
           omega (arith, none));
+      nb_failed =
+          same_marked (λ k. gives_up Nb k m.out) l.down.failed m.down.failed a.nb_failed
+          (λ k. ap (λ (x : List Record). gives_up Nb k x) out ∙ no_failures why Nb Nb lcid k);
+      ue_failed =
+          same_marked (λ k. gives_up Ue k m.out) l.up.failed m.up.failed a.ue_failed
+          (λ k. ap (λ (x : List Record). gives_up Ue k x) out ∙ no_failures why Nb Ue lcid k);
       count = 0;
       ttis_is = omega (arith, a.ttis_is);
       numbers = no_numbers m.out run;
@@ -140,6 +177,12 @@ submits_add Ue lcid octets l m nothing a =
           ∙ ue_handed lcid octets why k in
           let none : loopeds k m.out ≡ 0 = ap (λ (x : List Record). loopeds k x) out ∙ no_loops why Ue lcid k in
           omega (arith, one, none)) a.submitted;
+      nb_failed =
+          same_marked (λ k. gives_up Nb k m.out) l.down.failed m.down.failed a.nb_failed
+          (λ k. ap (λ (x : List Record). gives_up Nb k x) out ∙ no_failures why Ue Nb lcid k);
+      ue_failed =
+          same_marked (λ k. gives_up Ue k m.out) l.up.failed m.up.failed a.ue_failed
+          (λ k. ap (λ (x : List Record). gives_up Ue k x) out ∙ no_failures why Ue Ue lcid k);
       count = 0;
       ttis_is = omega (arith, a.ttis_is);
       numbers = no_numbers m.out run;
@@ -150,7 +193,7 @@ submits_add Ue lcid octets l m nothing a =
 -- ---- a TTI
 
 passes_add : (asleep : Bool) (up_grant : ℕ) (up : Outcome) (down_grant : ℕ) (down : Outcome) (l m : Link) → l.out ≡ []
-    → AddsTti asleep up_grant up down_grant down l m → PartAdds (Passes up_grant up down_grant down) l m
+    → AddsTti asleep up_grant up down_grant down l m → PartAdds (Passes up_grant up down_grant down) false l m
 passes_add asleep up_grant up down_grant down l m nothing a =
     let out : m.out ≡ records.Tti l.ttis ∷ a.more =
     a.out_is ∙ ap (λ (x : List Record). x ++ records.Tti l.ttis ∷ a.more) nothing in
@@ -165,6 +208,12 @@ passes_add asleep up_grant up down_grant down l m nothing a =
       ue_submitted = grows_as (λ k. loopeds k a.more) (λ k. 0 + loopeds k m.out) l.up.submitted m.up.submitted
           (λ k. let same : loopeds k m.out ≡ loopeds k a.more = ap (λ (x : List Record). loopeds k x) out in
           omega (arith, same)) a.told.ue_submitted;
+      nb_failed =
+          marked_as (λ k. gives_up Nb k a.more) (λ k. gives_up Nb k m.out) l.down.failed m.down.failed
+          (λ k. ap (λ (x : List Record). gives_up Nb k x) out) a.told.nb_failed;
+      ue_failed =
+          marked_as (λ k. gives_up Ue k a.more) (λ k. gives_up Ue k m.out) l.up.failed m.up.failed
+          (λ k. ap (λ (x : List Record). gives_up Ue k x) out) a.told.ue_failed;
       count = 1;
       ttis_is = a.ttis_is;
       numbers = ap (λ (x : List Record). filter is_tti x) out
@@ -199,12 +248,21 @@ no_ups_end : (is_done : Bool) (rounds : ℕ) (side : Side) (k : ℕ) → ups sid
 no_ups_end true rounds side k = refl
 no_ups_end false rounds side k = refl
 
+no_failures_end : (is_done : Bool) (rounds : ℕ) (side : Side) (k : ℕ)
+    → gives_up side k (ending is_done rounds ∷ []) ≡ false
+no_failures_end true rounds side k = refl
+no_failures_end false rounds side k = refl
+
+or_none : (b : Bool) → b || false ≡ b
+or_none true = refl
+or_none false = refl
+
 no_loops_end : (is_done : Bool) (rounds k : ℕ) → loopeds k (ending is_done rounds ∷ []) ≡ 0
 no_loops_end true rounds k = refl
 no_loops_end false rounds k = refl
 
 pub drains_add : (grant : ℕ) (l : Link) (d : Drained) → WholeDrain grant l d
-    → PartAdds (Drains grant) l (record d.link { out = d.journal })
+    → PartAdds (Drains grant) false l (record d.link { out = d.journal })
 drains_add grant l d w =
     let last = ending w.is_done w.rounds ∷ [] in
     let n = 8 + w.rounds in
@@ -212,6 +270,10 @@ drains_add grant l d w =
     → length (filter test d.journal) ≡ length (filter test w.said) =
     λ test none. let all = ap (λ (x : List Record). length (filter test x)) w.journal_is
     ∙ count_then test w.said last in omega (arith, all, none) in
+    let tells : (test : Record → Bool) → list_any test last ≡ false
+    → list_any test d.journal ≡ list_any test w.said =
+    λ test none. ap (λ (x : List Record). list_any test x) w.journal_is ∙ any_then test w.said last
+    ∙ ap (λ (b : Bool). list_any test w.said || b) none ∙ or_none (list_any test w.said) in
     let run : filter is_of_run d.journal ≡ numbered l.ttis n ++ last =
     ap (λ (x : List Record). filter is_of_run x) w.journal_is ∙ filter-append is_of_run w.said last
     ∙ ap (λ (x : List Record). x ++ filter is_of_run last) w.adds.numbers
@@ -236,6 +298,12 @@ drains_add grant l d w =
       ue_submitted = grows_as (λ k. loopeds k w.said) (λ k. 0 + loopeds k d.journal) l.up.submitted d.link.up.submitted
           (λ k. let same : loopeds k d.journal ≡ loopeds k w.said =
           counts (is_looped k) (no_loops_end w.is_done w.rounds k) in omega (arith, same)) w.adds.ue_submitted;
+      nb_failed =
+          marked_as (λ k. gives_up Nb k w.said) (λ k. gives_up Nb k d.journal) l.down.failed d.link.down.failed
+          (λ k. tells (is_fail Nb k) (no_failures_end w.is_done w.rounds Nb k)) w.adds.nb_failed;
+      ue_failed =
+          marked_as (λ k. gives_up Ue k w.said) (λ k. gives_up Ue k d.journal) l.up.failed d.link.up.failed
+          (λ k. tells (is_fail Ue k) (no_failures_end w.is_done w.rounds Ue k)) w.adds.ue_failed;
       count = n;
       ttis_is = w.adds.ttis_is;
       numbers = numbers;
@@ -249,7 +317,7 @@ drains_add grant l d w =
 -- ---- every line
 
 pub line_adds : (line : Line) (keys : Option Keys) (l : Link) → l.out ≡ []
-    → PartAdds (part_of_line line) l (played line keys l)
+    → PartAdds (part_of_line line) (is_handover line) l (played line keys l)
 unfolding acted
 line_adds (lines.Harq maximum) keys l nothing = rests_add l _ nothing (calls_adds (calls.Visits maximum) l)
 line_adds lines.Bsr keys l nothing = rests_add l _ nothing (calls_adds calls.Reports l)
@@ -264,7 +332,8 @@ line_adds (lines.Tti up_grant up down_grant down) keys l nothing =
 line_adds (lines.Expire side lcid clock) keys l nothing =
     rests_add l _ nothing (calls_adds (calls.Expires side lcid clock) l)
 line_adds (lines.Handover user rrc integrity) keys l nothing =
-    rests_add l _ nothing (calls_adds (calls.HandsOver (next_keys user rrc integrity (keys_or_none keys))) l)
+    let next = next_keys user rrc integrity (keys_or_none keys) in
+    moves_add next l _ nothing (calls_adds (calls.HandsOver next) l)
 line_adds lines.LoopOff keys l nothing = rests_add l _ nothing (calls_adds (calls.Loops Off) l)
 line_adds (lines.LoopA size) keys l nothing = rests_add l _ nothing (calls_adds (calls.Loops (A size)) l)
 line_adds (lines.LoopB delay) keys l nothing = rests_add l _ nothing (calls_adds (calls.Loops (B delay)) l)

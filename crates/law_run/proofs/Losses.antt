@@ -2,7 +2,6 @@
 use Rattle.std.proofs.Common.{◌≡◌, ◌⊎◌, inl, inr, ℕ, Bool, true, false, Option, List, [], ◌∷◌, Some, refl, ap, sym}
 use Rattle.std.proofs.Common.{subst, ◌∙◌}
 use Rattle.std.specs.Prelude.{option_map}
-use Rattle.air_link.specs.Sums.{sums}
 use Rattle.air_record.specs.declared.record.State.{State}
 use Rattle.air_record.specs.declared.record.State.TheVariants.{Long, Short}
 use Rattle.air_run.specs.Sums.{state_of}
@@ -20,6 +19,7 @@ use Rattle.um_losses.specs.Told.{all_after}
 use Rattle.um_losses.proofs.Told.{long_is}
 use Rattle.law_deliver.specs.UmGaps.Delivery.{first_flow}
 use Rattle.law_deliver.proofs.UmGaps.Delivery.{channels_deliver_as_told}
+use Rattle.promises.specs.Drained.{has_failed}
 use Rattle.law_run.specs.Losses.{state_told, DeliversShort, AllDeliverShort, DeliversWhileShort}
 use Rattle.law_run.specs.Order.{state_behind, KeepsOrder}
 use Rattle.law_run.proofs.Delivering.{IsDelivering, is_delivering, as_told, went_up_is, was_submitted_is}
@@ -49,7 +49,7 @@ delivers_short l c past from d kind =
     let h = d.lived.by in
     let both = um_alike l c past d kind in
     let flow = all_after (d.haps from) (first_flow from l c) in
-    let failed = (sums from l (state_behind past).link).failed in
+    let failed = has_failed from l past in
     let told : is_long (sent_by from) l (state_behind past).losses.flows ≡ Some flow.gaps.long =
     long_is (sent_by from) l (state_behind past).losses.flows
     ∙ ap (option_map (λ (f : Flow). f.gaps.long)) (d.flows kind from) in

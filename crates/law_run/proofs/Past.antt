@@ -1,6 +1,6 @@
 -- What the groups of a journal tell of the link behind them.
-use Rattle.std.proofs.Common.{◌≡◌, ◌<◌, ℕ, ◌+◌, List, [], ◌∷◌, ◌++◌, length, replicate, refl, ap, sym, arith, subst}
-use Rattle.std.proofs.Common.{◌∙◌}
+use Rattle.std.proofs.Common.{◌≡◌, ◌<◌, ℕ, ◌+◌, false, List, [], ◌∷◌, ◌++◌, length, replicate, refl, ap, sym, arith}
+use Rattle.std.proofs.Common.{subst, ◌∙◌}
 use Rattle.std.specs.Prelude.{slice_index}
 use Rattle.std.specs.List.{filter}
 use Rattle.std.proofs.lemmas.List.{get_or-replicate, length-append, length-map}
@@ -13,7 +13,7 @@ use Rattle.air_text.specs.Groups.{Group, history}
 use Rattle.air_text.specs.Ranges.{IsInRange}
 use Rattle.l2_types.specs.declared.side.Side.{Side}
 use Rattle.l2_types.specs.declared.side.Side.TheVariants.{Nb, Ue}
-use Rattle.law_air.specs.AnyCalls.Counts.{ups, loopeds}
+use Rattle.law_air.specs.AnyCalls.Counts.{ups, loopeds, gives_up}
 use Rattle.promises.specs.Records.{is_up, is_looped, sdu_of, ups_in}
 use Rattle.law_air.specs.AnyCalls.Runs.{IsTable}
 use Rattle.law_air.proofs.AnyCalls.Running.{table_grows}
@@ -21,7 +21,9 @@ use Rattle.promises.specs.Carried.{AreCarried}
 use Rattle.promises.specs.Air.{is_tti, ttis, numbered, IsOfItsTime}
 use Rattle.promises.specs.Flows.{loops_in, handed_in, submitted, delivered}
 use Rattle.law_run.specs.Order.{state_behind, KeepsOrder}
-use Rattle.promises.specs.Parts.{part_of_line}
+use Rattle.promises.specs.Drained.{has_failed}
+use Rattle.promises.specs.Parts.{part_of_line, is_handover}
+use Rattle.law_run.proofs.Marks.{AreMarks, failed_by, marks_grow, failed_then}
 use Rattle.law_run.proofs.Records.{count_numbered, numbered_then}
 use Rattle.law_run.proofs.Lines.{PartAdds, line_adds}
 use Rattle.law_run.proofs.Processes.{Both, grows, first as none_yet, is_carried}
@@ -35,6 +37,8 @@ pub record Behind (past : List Group) : Type 0 where
   pub ue_delivered : IsTable (λ k. length (delivered Ue k past)) (link_behind past).down.delivered
   pub nb_submitted : IsTable (λ k. length (submitted Nb k past)) (link_behind past).down.submitted
   pub ue_submitted : IsTable (λ k. length (submitted Ue k past)) (link_behind past).up.submitted
+  pub nb_failed : AreMarks (λ k. has_failed Nb k past) (link_behind past).down.failed
+  pub ue_failed : AreMarks (λ k. has_failed Ue k past) (link_behind past).up.failed
   pub ttis_is : ttis past ≡ (link_behind past).ttis
   pub in_turn : filter is_tti (history past) ≡ numbered 0 (ttis past)
   pub processes : Both past (link_behind past)
@@ -49,6 +53,8 @@ first =
       ue_delivered = record { size = refl; each = none };
       nb_submitted = record { size = refl; each = none };
       ue_submitted = record { size = refl; each = none };
+      nb_failed = record { size = refl; each = λ k lt. get_or-replicate 11 k false false lt };
+      ue_failed = record { size = refl; each = λ k lt. get_or-replicate 11 k false false lt };
       ttis_is = refl;
       in_turn = refl;
       processes = none_yet;
@@ -56,7 +62,7 @@ first =
 
 -- what a line adds, behind groups
 pub adds_behind : (past : List Group) (line : Line) → Behind past
-    → PartAdds (part_of_line line) (link_behind past) (behind_line line (state_behind past))
+    → PartAdds (part_of_line line) (is_handover line) (link_behind past) (behind_line line (state_behind past))
 adds_behind past line b = line_adds line (state_behind past).rules.keys (link_behind past) b.nothing
 
 counted : (side : Side) (k : ℕ) (told : List Record) → length (ups_in side k told) ≡ ups side k told
@@ -66,7 +72,7 @@ loops_counted : (k : ℕ) (told : List Record) → length (loops_in k told) ≡ 
 loops_counted k told = length-map (filter (is_looped k) told) sdu_of
 
 grown : (past : List Group) (g : Group) → IsInRange g.line → Behind past
-    → PartAdds (part_of_line g.line) (link_behind past) (behind_line g.line (state_behind past))
+    → PartAdds (part_of_line g.line) (is_handover g.line) (link_behind past) (behind_line g.line (state_behind past))
     → g.events ≡ (behind_line g.line (state_behind past)).out
     → Behind (g ∷ past)
 grown past g fits b a e =
@@ -121,6 +127,18 @@ grown past g fits b a e =
           ∙ loops_counted k m.out in
           omega (arith, all, here, same, loops))
           b.ue_submitted a.ue_submitted;
+      nb_failed =
+          marks_grow (λ k. has_failed Nb k past) (λ k. gives_up Nb k m.out) (λ k. has_failed Nb k (g ∷ past))
+          (is_handover g.line) l.down.failed m.down.failed
+          (λ k. failed_then Nb k past g ∙ ap (λ (x : List Record). failed_by (is_handover g.line) (has_failed Nb k past)
+          (gives_up Nb k x)) e)
+          b.nb_failed a.nb_failed;
+      ue_failed =
+          marks_grow (λ k. has_failed Ue k past) (λ k. gives_up Ue k m.out) (λ k. has_failed Ue k (g ∷ past))
+          (is_handover g.line) l.up.failed m.up.failed
+          (λ k. failed_then Ue k past g ∙ ap (λ (x : List Record). failed_by (is_handover g.line) (has_failed Ue k past)
+          (gives_up Ue k x)) e)
+          b.ue_failed a.ue_failed;
       ttis_is = let was = b.ttis_is in let now = a.ttis_is in omega (arith, count, was, now);
       in_turn =
           told ∙ ap (λ (x : List Record). x ++ filter is_tti m.out) b.in_turn

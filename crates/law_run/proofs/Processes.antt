@@ -28,7 +28,7 @@ use Rattle.l2_types.specs.declared.side.Side.{Side}
 use Rattle.law_air.specs.AnyCalls.Calls as calls
 use Rattle.promises.specs.Records.{is_of_run, is_of_air}
 use Rattle.law_air.specs.AnyCalls.Deeds.{Entity, entity, Entities, entities, empty, cleared}
-use Rattle.law_air.specs.AnyCalls.Told.{why_refused, refusals, Adds, AddsSubmitted}
+use Rattle.law_air.specs.AnyCalls.Told.{why_refused, refusals, Adds, renewed, AddsSubmitted}
 use Rattle.law_air.proofs.AnyCalls.Adding.{stays}
 use Rattle.law_air.proofs.AnyCalls.Calling.{calls_adds, submitting_adds}
 use Rattle.law_air.proofs.AnyCalls.Advancing.{submitting_rests}
@@ -116,15 +116,15 @@ drain_keeps grant l nothing =
 
 call_keeps : (c : calls.Call) (l : Link) → l.out ≡ [] → entities (calls.after c l) ≡ entities l
     → KeepsBoth false (entities l) (entities (calls.after c l)) (calls.after c l).out
-call_keeps c l nothing rests = rests_keep l (calls.after c l) nothing (calls_adds c l) rests
+call_keeps c l nothing rests = rests_keep (renewed c l) (calls.after c l) nothing (calls_adds c l) rests
 
 call_empties : (c : calls.Call) (nb ue : Entity) (l : Link) → l.out ≡ []
     → entities (calls.after c l) ≡ record { nb = nb; ue = ue } → Emptied nb ue (calls.after c l)
 call_empties c nb ue l nothing are =
     record {
       entities_are = are;
-      none_of_run = run_none l (calls.after c l) nothing (calls_adds c l);
-      none_of_air = air_none l (calls.after c l) nothing (calls_adds c l);
+      none_of_run = run_none (renewed c l) (calls.after c l) nothing (calls_adds c l);
+      none_of_air = air_none (renewed c l) (calls.after c l) nothing (calls_adds c l);
     }
 
 pub line_carries : (line : Line) (keys : Option Keys) (l : Link) → l.out ≡ [] → LineCarries line l (played line keys l)

@@ -61,7 +61,7 @@ use Rattle.promises.specs.Signalling.{LeavesNoSignal, DrainsLeaveNoSignal, Bring
 use Rattle.promises.specs.Configs.{config_by, config_of}
 use Rattle.law_run.proofs.Delivering.{ups_are_told, ups_told, is_first, at_each}
 use Rattle.law_run.proofs.Early.{is_early}
-use Rattle.law_run.proofs.Failed.{HasSender, sender_goes, signalling_begins}
+use Rattle.law_run.proofs.Failed.{HasSender, sender_goes, sender_begins}
 use Rattle.law_run.proofs.Drains.{link_drained, none_forged, side_drained}
 use Rattle.law_run.proofs.Flowing.{Sdus, Happened, looped_then, PartLives, line_stays}
 use Rattle.law_run.proofs.Lives.{InOneLife, through_life}
@@ -380,8 +380,8 @@ begin_by past g c options right order kind =
       delivered_is = λ side. none_delivered side l all (ups_told side l all ∙ ap (ups_on l) (now'.none_told side));
       submitted_is = λ side. none_submitted side l all (now'.none_submitted side l);
       lost_is = λ side. ap (losses_on l) (now'.none_told side);
-      senders = at_each (λ side. HasSender side l _) (signalling_begins Nb l c keys _ kind nb_begun)
-          (signalling_begins Ue l c keys _ kind ue_begun);
+      senders = at_each (λ side. HasSender side l _) (sender_begins Nb l c keys _ nb_begun)
+          (sender_begins Ue l c keys _ ue_begun);
     }
 
 -- ---- behind all groups

@@ -1,7 +1,7 @@
 -- What a TTI adds, with further calls behind it, and what a drain adds.
-use Rattle.std.proofs.Common.{◌≡◌, ℕ, zero, suc, ◌+◌, Bool, true, false, List, [], ◌∷◌, ◌++◌, length, append-nil}
+use Rattle.std.proofs.Common.{◌≡◌, ℕ, zero, suc, ◌+◌, Bool, true, false, ◌||◌, List, [], ◌∷◌, ◌++◌, length, append-nil}
 use Rattle.std.proofs.Common.{append_assoc, refl, ap, sym, arith, subst, ◌∙◌}
-use Rattle.std.specs.List.{filter}
+use Rattle.std.specs.List.{filter, list_any}
 use Rattle.std.proofs.lemmas.List.Elements.{filter-append}
 use Rattle.air_link.specs.Draining.{drain_tti, carried, receivers_expire, is_drained}
 use Rattle.air_record.specs.Outcomes.{intact, missed}
@@ -14,7 +14,7 @@ use Rattle.air_run.specs.Draining.{told_by, rounds, budget, drained}
 use Rattle.air_record.specs.Endings.{ending}
 use Rattle.l2_types.specs.declared.side.Side.TheVariants.{Nb, Ue}
 use Rattle.law_air.specs.AnyCalls.Calls.{ReceiversExpire, SendersExpire}
-use Rattle.law_air.specs.AnyCalls.Counts.{ups, loopeds, Grows}
+use Rattle.law_air.specs.AnyCalls.Counts.{ups, loopeds, Grows, is_fail, gives_up, AreMarked}
 use Rattle.promises.specs.Records.{is_up, is_looped, is_of_run, is_of_air}
 use Rattle.air_link.specs.Downlink.{down_order}
 use Rattle.harq.specs.Receiving.{grant_ndi}
@@ -22,7 +22,8 @@ use Rattle.harq.specs.Sending.{ndi_of}
 use Rattle.law_air.specs.AnyCalls.Deeds.{TakesTurn, came_of, Answers, up_ordered, Entities, entities}
 use Rattle.law_air.specs.AnyCalls.Told.{Tells, Adds, AddsTti}
 use Rattle.promises.specs.Air.{sleeping, numbered, FliesIntact, InTurn}
-use Rattle.law_air.proofs.AnyCalls.Adding.{stays, tells_then, same_grows, grows_then, count_then}
+use Rattle.law_air.proofs.AnyCalls.Adding.{stays, tells_then, same_grows, grows_then, count_then, same_marked}
+use Rattle.law_air.proofs.AnyCalls.Adding.{marked_then, any_then}
 use Rattle.law_air.proofs.AnyCalls.Calling.{calls_adds}
 use Rattle.law_air.proofs.AnyCalls.Leaving.{calls_leave}
 use Rattle.law_air.proofs.AnyCalls.Passing.{drain_adds}
@@ -87,6 +88,8 @@ pub record DrainAdds (count grant : ℕ) (l : Link) (d : Drained) : Type 0 where
   pub ue_delivered : Grows (λ k. ups Ue k d.journal) l.down.delivered d.link.down.delivered
   pub nb_submitted : d.link.down.submitted ≡ l.down.submitted
   pub ue_submitted : Grows (λ k. loopeds k d.journal) l.up.submitted d.link.up.submitted
+  pub nb_failed : AreMarked (λ k. gives_up Nb k d.journal) l.down.failed d.link.down.failed
+  pub ue_failed : AreMarked (λ k. gives_up Ue k d.journal) l.up.failed d.link.up.failed
   pub ttis_is : d.link.ttis ≡ l.ttis + count
   pub numbers : filter is_of_run d.journal ≡ numbered l.ttis count
   pub flown : InTurn (λ n. FliesIntact n grant) l.ttis count (filter is_of_air d.journal)
@@ -99,6 +102,8 @@ none_adds grant l nothing = record {
   ue_delivered = same_grows (λ k. 0) l.down.delivered l.down.delivered refl (λ k. refl);
   nb_submitted = refl;
   ue_submitted = same_grows (λ k. 0) l.up.submitted l.up.submitted refl (λ k. refl);
+  nb_failed = same_marked (λ k. false) l.down.failed l.down.failed refl (λ k. refl);
+  ue_failed = same_marked (λ k. false) l.up.failed l.up.failed refl (λ k. refl);
   ttis_is = omega arith;
   numbers = refl;
   flown = refl;
@@ -115,6 +120,10 @@ first_adds n done grant l m d nothing a q =
     → length (filter test (m.out ++ d.journal)) ≡ length (filter test a.more) + length (filter test d.journal) =
     λ test none. count_then test m.out d.journal
     ∙ ap (λ (x : List Record). length (filter test x) + length (filter test d.journal)) out ∙ rw none refl in
+    let tells : (test : Record → Bool) → test (records.Tti l.ttis) ≡ false
+    → list_any test (m.out ++ d.journal) ≡ list_any test a.more || list_any test d.journal =
+    λ test none. any_then test m.out d.journal
+    ∙ ap (λ (x : List Record). list_any test x || list_any test d.journal) out ∙ rw none refl in
     record {
       nothing = q.nothing;
       nb_delivered =
@@ -130,6 +139,14 @@ first_adds n done grant l m d nothing a q =
           grows_then (λ k. loopeds k a.more) (λ k. loopeds k d.journal) (λ k. loopeds k (m.out ++ d.journal))
           l.up.submitted m.up.submitted d.link.up.submitted
           (λ k. counts (is_looped k) refl) a.told.ue_submitted q.ue_submitted;
+      nb_failed =
+          marked_then (λ k. gives_up Nb k a.more) (λ k. gives_up Nb k d.journal)
+          (λ k. gives_up Nb k (m.out ++ d.journal)) l.down.failed m.down.failed d.link.down.failed
+          (λ k. tells (is_fail Nb k) refl) a.told.nb_failed q.nb_failed;
+      ue_failed =
+          marked_then (λ k. gives_up Ue k a.more) (λ k. gives_up Ue k d.journal)
+          (λ k. gives_up Ue k (m.out ++ d.journal)) l.up.failed m.up.failed d.link.up.failed
+          (λ k. tells (is_fail Ue k) refl) a.told.ue_failed q.ue_failed;
       ttis_is = omega (arith, q.ttis_is, a.ttis_is);
       numbers =
           filter-append is_of_run m.out d.journal
@@ -176,6 +193,8 @@ round_by n grant l nothing true rest =
       ue_delivered = q.ue_delivered;
       nb_submitted = q.nb_submitted;
       ue_submitted = q.ue_submitted;
+      nb_failed = q.nb_failed;
+      ue_failed = q.ue_failed;
       ttis_is = q.ttis_is;
       numbers = q.numbers;
       flown = q.flown;
@@ -229,6 +248,14 @@ both_add a b done grant l d e p q = record {
       grows_then (λ k. loopeds k d.journal) (λ k. loopeds k e.journal) (λ k. loopeds k (d.journal ++ e.journal))
       l.up.submitted d.link.up.submitted e.link.up.submitted
       (λ k. count_then (is_looped k) d.journal e.journal) p.ue_submitted q.ue_submitted;
+  nb_failed =
+      marked_then (λ k. gives_up Nb k d.journal) (λ k. gives_up Nb k e.journal)
+      (λ k. gives_up Nb k (d.journal ++ e.journal)) l.down.failed d.link.down.failed e.link.down.failed
+      (λ k. any_then (is_fail Nb k) d.journal e.journal) p.nb_failed q.nb_failed;
+  ue_failed =
+      marked_then (λ k. gives_up Ue k d.journal) (λ k. gives_up Ue k e.journal)
+      (λ k. gives_up Ue k (d.journal ++ e.journal)) l.up.failed d.link.up.failed e.link.up.failed
+      (λ k. any_then (is_fail Ue k) d.journal e.journal) p.ue_failed q.ue_failed;
   ttis_is = omega (arith, q.ttis_is, p.ttis_is);
   numbers =
       filter-append is_of_run d.journal e.journal ∙ ap (λ (x : List Record). x ++ filter is_of_run e.journal) p.numbers

@@ -2,7 +2,6 @@
 -- 5.1.2, 7.1, TS 36.323 5.1.2.1.3, 6.2.3).
 use Rattle.std.specs.Prelude.{◌≡◌, ◌⊎◌, ℕ, false, List, [], ◌∷◌, Some}
 use Rattle.bearer_types.specs.Sides.{other, sent_by}
-use Rattle.air_link.specs.Sums.{sums}
 use Rattle.air_record.specs.declared.record.State.{State}
 use Rattle.air_record.specs.declared.record.State.TheVariants.{Long, Short}
 use Rattle.air_run.specs.Sums.{state_of}
@@ -13,6 +12,7 @@ use Rattle.l2_types.specs.declared.side.Side.{Side}
 use Rattle.law_words.specs.Lists.{IsSubsequence}
 use Rattle.um_losses.specs.Losses.{is_long}
 use Rattle.promises.specs.Delivery.{is_forged}
+use Rattle.promises.specs.Drained.{has_failed}
 use Rattle.promises.specs.Flows.{submitted, delivered}
 use Rattle.law_run.specs.Order.{state_behind}
 use Rattle.promises.specs.Configs.{config_of}
@@ -21,7 +21,7 @@ use Rattle.promises.specs.Configs.{config_of}
 abbrev pub state_told : Side → ℕ → List Group → State
 state_told side lcid past =
     state_of (is_long (sent_by side) lcid (state_behind past).losses.flows)
-    (sums side lcid (state_behind past).link).failed
+    (has_failed side lcid past)
 
 -- it is `short` or `long`; where it is `short`, what the other end has handed up are SDUs that this
 -- end submitted: in their order, each once and unchanged, through all handovers

@@ -19,6 +19,7 @@ use Rattle.law_run.specs.Losses.{DeliversWhileShort}
 use Rattle.law_run.specs.Order.{KeepsOrder}
 use Rattle.promises.specs.Signalling.{DeliversEachLife, DrainsLeaveNoSignal, HandoversBringNoSignal}
 use Rattle.law_run.specs.Script.{lines_of, accepted_lines}
+use Rattle.promises.specs.Silent.{FailedAreSilent}
 use Rattle.law_run.specs.Sums.{sums_at}
 use Rattle.law_run.specs.Texts.{NoneMeet}
 use Rattle.promises.specs.Sleeps.{SleepsBehindDrx}
@@ -72,6 +73,9 @@ pub record IsPromised (whole : Bool) (octets : List ℕ) (played : Played) : Typ
   pub signals_drained : DrainsLeaveNoSignal past
   -- and in a handover nothing of it goes up
   pub signals_moved : HandoversBringNoSignal past
+  -- a sender that gives up sends no data PDU behind that and gives up no more, up to the next
+  -- handover
+  pub silent : FailedAreSilent past
   -- each unacknowledged data bearer hands up some of what was submitted at the other end, in order,
   -- while losses are short
   pub delivered_short : DeliversWhileShort past

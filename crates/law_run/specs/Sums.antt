@@ -1,8 +1,8 @@
--- The sums at the end of a journal (docs/formats/JOURNAL.md): its own counts.
+-- The sums at the end of a journal (docs/formats/JOURNAL.md): its own counts, and whether a sender
+-- gave up since the last handover.
 use Rattle.std.specs.Prelude.{ℕ, if◌then◌else◌, List, [], ◌∷◌, ◌++◌, length}
 use Rattle.bearer_types.specs.Lcids.{all_lcids}
 use Rattle.bearer_types.specs.Sides.{other}
-use Rattle.air_link.specs.Sums.{sums}
 use Rattle.air_record.specs.declared.record.Record.{Record}
 use Rattle.air_run.specs.Journal.{Close, Finished, Refused, Waiting}
 use Rattle.air_run.specs.Rules.{is_known}
@@ -11,17 +11,18 @@ use Rattle.air_run.specs.Sums.{sum_by}
 use Rattle.air_text.specs.Groups.{Group}
 use Rattle.l2_types.specs.declared.side.Side.{Side}
 use Rattle.l2_types.specs.declared.side.Side.TheVariants.{Nb, Ue}
+use Rattle.promises.specs.Drained.{has_failed}
 use Rattle.promises.specs.Flows.{submitted, delivered}
 use Rattle.law_run.specs.Order.{state_behind}
 
 -- of the flow that a side sends on a channel: the SDUs that its end submitted, and those that the
--- other handed up
+-- other handed up; `failed` stands exactly where its sender gave up since the last handover
 abbrev pub sum_told : Side → List Group → RunState → ℕ → Record
 sum_told side past r lcid =
     sum_by side lcid (record {
       submitted = length (submitted side lcid past);
       delivered = length (delivered (other side) lcid past);
-      failed = (sums side lcid r.link).failed;
+      failed = has_failed side lcid past;
     }) r.losses
 
 abbrev pub sums_told : List Group → RunState → ℕ → List Record

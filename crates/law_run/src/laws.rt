@@ -8,7 +8,8 @@ pub fn lines_are_in_range()
 /// The journal of every script is the records of its accepted lines, each run where it stands, and
 /// the sums at its end. Said without the machine: its TTIs, its blocks, its keys and COUNTs, what
 /// is told of each end, what the test loop returns and the order in which the records of each line
-/// stand are as promised.
+/// stand are as promised. A sender that gave up sends no data PDU and gives up no more up to the
+/// next handover, and a sum tells of it exactly then.
 ///
 /// Where no block was forged, through any losses, repeats, delays and handovers, each acknowledged
 /// data bearer has handed up at each end exactly the SDUs that the other took before the first that

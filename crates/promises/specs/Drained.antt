@@ -1,6 +1,7 @@
 -- What a drain leaves: nothing undelivered of acknowledged data, but where a sender gave up (TS
 -- 36.322 5.2.1, 7.3).
-use Rattle.std.specs.Prelude.{ℕ, if◌then◌else◌, List, [], ◌∷◌, ◌++◌, ◌≡◌, Some}
+use Rattle.std.specs.Prelude.{ℕ, Bool, if◌then◌else◌, List, [], ◌∷◌, ◌++◌, ◌≡◌, Some, length}
+use Rattle.std.specs.Prelude.{nat_lt}
 use Rattle.promises.specs.Events.{fails_on}
 use Rattle.promises.specs.Parts.{is_handover}
 use Rattle.air_text.specs.Groups.{Group, history}
@@ -25,6 +26,9 @@ failed side lcid [] = []
 failed side lcid (g ∷ past) =
     (if is_handover g.line then [] else failed side lcid past)
     ++ fails_on lcid (events_of side g.events)
+
+abbrev pub has_failed : Side → ℕ → List Group → Bool
+has_failed side lcid past = nat_lt 0 (length (failed side lcid past))
 
 -- ---- the line is a drain, and at its end it tells that it is drained, not that its budget is
 -- spent

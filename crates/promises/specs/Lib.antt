@@ -21,6 +21,7 @@ pub mod Order
 pub mod Telling
 pub mod Delivery
 pub mod Drained
+pub mod Silent
 pub mod Signalling
 pub mod Pdus
 pub mod Given

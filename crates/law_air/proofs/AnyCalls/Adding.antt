@@ -1,8 +1,9 @@
 -- How records are added: none, one, and one stage after another.
-use Rattle.std.proofs.Common.{◌≡◌, ◌<◌, ℕ, ◌+◌, Bool, true, false, cond, List, [], ◌∷◌, ◌++◌, length, append_assoc}
+use Rattle.std.proofs.Common.{◌≡◌, ◌<◌, ℕ, ◌+◌, Bool, true, false, cond, ◌||◌, List, [], ◌∷◌, ◌++◌, length}
+use Rattle.std.proofs.Common.{append_assoc}
 use Rattle.std.proofs.Common.{append-nil, get_or-set_same, get_or-set_other, refl, ap, sym, ◌∙◌, subst, arith, inl, inr}
-use Rattle.std.specs.List.{filter}
-use Rattle.std.specs.Prelude.{slice_index}
+use Rattle.std.specs.List.{filter, list_any}
+use Rattle.std.specs.Prelude.{slice_index, slice_index_or, slice_set}
 use Rattle.std.proofs.lemmas.Bool.{cases_eq}
 use Rattle.std.proofs.lemmas.List.{length-append}
 use Rattle.std.proofs.lemmas.List.Elements.{filter-append}
@@ -12,7 +13,7 @@ use Rattle.l2_types.specs.declared.side.Side.{Side}
 use Rattle.l2_types.specs.declared.side.Side.TheVariants.{Nb, Ue}
 use Rattle.air_link.specs.Link.{Link, says}
 use Rattle.air_link.specs.Telling.{one_more}
-use Rattle.law_air.specs.AnyCalls.Counts.{ups, loopeds, Grows}
+use Rattle.law_air.specs.AnyCalls.Counts.{ups, loopeds, Grows, is_fail, gives_up, AreMarked}
 use Rattle.promises.specs.Records.{is_up, is_looped, is_of_run, is_of_air}
 use Rattle.law_air.specs.AnyCalls.Told.{Tells, Adds}
 
@@ -60,6 +61,53 @@ one_grows by xs lcid one none = record {
   ];
 }
 
+-- ---- tables of marks
+
+or_none : (a b : Bool) → b ≡ false → a || b ≡ a
+or_none true b e = refl
+or_none false b e = e
+
+or_some : (a b : Bool) → b ≡ true → true ≡ a || b
+or_some true b e = refl
+or_some false b e = sym e
+
+or_then : (a b c : Bool) → (a || b) || c ≡ a || (b || c)
+or_then true b c = refl
+or_then false b c = refl
+
+pub same_marked : (by : ℕ → Bool) (xs ys : List Bool) → ys ≡ xs → ((k : ℕ) → by k ≡ false) → AreMarked by xs ys
+same_marked by xs ys e z = record {
+  same_length = ap length e;
+  marked = λ k lt. ap (λ (zs : List Bool). slice_index_or zs k false) e
+      ∙ sym (or_none (slice_index_or xs k false) (by k) (z k));
+}
+
+pub marked_then : (f g h : ℕ → Bool) (xs ys zs : List Bool) → ((k : ℕ) → h k ≡ f k || g k) → AreMarked f xs ys
+    → AreMarked g ys zs → AreMarked h xs zs
+marked_then f g h xs ys zs e p q = record {
+  same_length = q.same_length ∙ p.same_length;
+  marked = λ k lt.
+      let within : k < length ys = omega (arith, p.same_length) in
+      q.marked k within ∙ ap (λ (b : Bool). b || g k) (p.marked k lt)
+      ∙ or_then (slice_index_or xs k false) (f k) (g k) ∙ ap (λ (b : Bool). slice_index_or xs k false || b) (sym (e k));
+}
+
+-- a place that is marked, and the others that stay
+pub one_marked : (by : ℕ → Bool) (xs : List Bool) (lcid : ℕ) → by lcid ≡ true
+    → ((k : ℕ) → (lcid ≡ k → ⊥) → by k ≡ false) → AreMarked by xs (slice_set xs lcid true)
+one_marked by xs lcid one none = record {
+  same_length = length-set xs lcid true;
+  marked = λ k lt. elim (cases_eq lcid k) [
+    | inl e ↦
+        subst (λ (n : ℕ). slice_index_or (slice_set xs lcid true) n false ≡ slice_index_or xs n false || by n) e
+        (get_or-set_same xs lcid true false (subst (λ (n : ℕ). n < length xs) (sym e) lt)
+        ∙ or_some (slice_index_or xs lcid false) (by lcid) one)
+    | inr apart ↦
+        get_or-set_other xs lcid k true false (λ (e : k ≡ lcid). apart (sym e))
+        ∙ sym (or_none (slice_index_or xs k false) (by k) (none k apart))
+  ];
+}
+
 -- ---- records
 
 -- what a test keeps of one record
@@ -73,6 +121,19 @@ pub count_then : (test : Record → Bool) (a b : List Record)
     → length (filter test (a ++ b)) ≡ length (filter test a) + length (filter test b)
 count_then test a b = ap length (filter-append test a b) ∙ length-append (filter test a) (filter test b)
 
+pub any_then : (test : Record → Bool) (a b : List Record) → list_any test (a ++ b) ≡ list_any test a || list_any test b
+any_then test [] b = refl
+any_then test (one ∷ a) b =
+    ap (λ (x : Bool). test one || x) (any_then test a b) ∙ sym (or_then (test one) (list_any test a) (list_any test b))
+
+pub any_one : (b : Bool) → b ≡ true → b || false ≡ true
+any_one true e = refl
+any_one false e = e
+
+pub any_none : (b : Bool) → b ≡ false → b || false ≡ false
+any_none true e = e
+any_none false e = refl
+
 pub tells_then : (a b f g : List Record) (l m n : Link) → Tells a f l m → Tells b g m n → Tells (a ++ b) (f ++ g) l n
 tells_then a b f g l m n p q = record {
   nb_delivered =
@@ -85,6 +146,12 @@ tells_then a b f g l m n p q = record {
   ue_submitted =
       grows_then (λ k. loopeds k a) (λ k. loopeds k b) (λ k. loopeds k (a ++ b)) l.up.submitted m.up.submitted
       n.up.submitted (λ k. count_then (is_looped k) a b) p.ue_submitted q.ue_submitted;
+  nb_failed =
+      marked_then (λ k. gives_up Nb k a) (λ k. gives_up Nb k b) (λ k. gives_up Nb k (a ++ b)) l.down.failed
+      m.down.failed n.down.failed (λ k. any_then (is_fail Nb k) a b) p.nb_failed q.nb_failed;
+  ue_failed =
+      marked_then (λ k. gives_up Ue k a) (λ k. gives_up Ue k b) (λ k. gives_up Ue k (a ++ b)) l.up.failed m.up.failed
+      n.up.failed (λ k. any_then (is_fail Ue k) a b) p.ue_failed q.ue_failed;
   flown_is = filter-append is_of_air a b ∙ ap (λ (x : List Record). x ++ filter is_of_air b) p.flown_is
       ∙ ap (λ (x : List Record). f ++ x) q.flown_is;
   none_of_run = filter-append is_of_run a b ∙ ap (λ (x : List Record). x ++ filter is_of_run b) p.none_of_run
@@ -112,6 +179,8 @@ pub record Books : Type 0 where
   pub down_delivered : List ℕ
   pub up_submitted : List ℕ
   pub up_delivered : List ℕ
+  pub down_failed : List Bool
+  pub up_failed : List Bool
 
 abbrev pub books : Link → Books
 books l = record {
@@ -121,6 +190,8 @@ books l = record {
   down_delivered = l.down.delivered;
   up_submitted = l.up.submitted;
   up_delivered = l.up.delivered;
+  down_failed = l.down.failed;
+  up_failed = l.up.failed;
 }
 
 -- what changes none of it
@@ -140,15 +211,21 @@ stays l m e = record {
     ue_submitted =
         same_grows (λ k. loopeds k []) l.up.submitted m.up.submitted (ap (λ (b : Books). b.up_submitted) e)
         (λ k. refl);
+    nb_failed =
+        same_marked (λ k. gives_up Nb k []) l.down.failed m.down.failed (ap (λ (b : Books). b.down_failed) e)
+        (λ k. refl);
+    ue_failed =
+        same_marked (λ k. gives_up Ue k []) l.up.failed m.up.failed (ap (λ (b : Books). b.up_failed) e) (λ k. refl);
     flown_is = refl;
     none_of_run = refl;
   };
 }
 
--- a record that tells of no SDU and is of no run
+-- a record that tells of no SDU and of no failure, and is of no run
 pub record IsPlain (one : Record) : Type 0 where
   pub no_up : (side : Side) (lcid : ℕ) → is_up side lcid one ≡ false
   pub no_loop : (lcid : ℕ) → is_looped lcid one ≡ false
+  pub no_fail : (side : Side) (lcid : ℕ) → is_fail side lcid one ≡ false
   pub no_run : is_of_run one ≡ false
 
 pub says_plain : (one : Record) (l : Link) → IsPlain one → Adds (filter is_of_air (one ∷ [])) l (says one l)
@@ -167,6 +244,12 @@ says_plain one l p = record {
     ue_submitted =
         same_grows (λ k. loopeds k (one ∷ [])) l.up.submitted l.up.submitted refl
         (λ k. kept_none (is_looped k one) one (p.no_loop k));
+    nb_failed =
+        same_marked (λ k. gives_up Nb k (one ∷ [])) l.down.failed l.down.failed refl
+        (λ k. any_none (is_fail Nb k one) (p.no_fail Nb k));
+    ue_failed =
+        same_marked (λ k. gives_up Ue k (one ∷ [])) l.up.failed l.up.failed refl
+        (λ k. any_none (is_fail Ue k one) (p.no_fail Ue k));
     flown_is = refl;
     none_of_run = ap (λ (b : Bool). cond b (one ∷ []) []) p.no_run;
   };

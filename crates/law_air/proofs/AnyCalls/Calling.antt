@@ -25,7 +25,7 @@ use Rattle.air_link.specs.Lines.{expires_by, expiring, expires_alone, expires, f
 use Rattle.law_air.specs.AnyCalls.Calls.{Call, Bears, Discards, Visits, Reports, Listens, Loops, Expires, Forges}
 use Rattle.law_air.specs.AnyCalls.Calls.{HandsOver, ReceiversExpire, SendersExpire, after}
 use Rattle.law_air.specs.AnyCalls.Counts.{Grows}
-use Rattle.law_air.specs.AnyCalls.Told.{why_refused, accepted, Adds, AddsSubmitted}
+use Rattle.law_air.specs.AnyCalls.Told.{why_refused, accepted, Adds, renewed, AddsSubmitted}
 use Rattle.law_air.proofs.AnyCalls.Adding.{stays, adds_then, same_grows, one_grows}
 use Rattle.law_air.proofs.AnyCalls.Telling.{is_eq, is_apart, tells_all_adds, end_stays}
 use Rattle.law_air.proofs.AnyCalls.Looping.{loops_adds, loop_set_adds}
@@ -50,15 +50,16 @@ forges_adds side block l =
     let m = hears side block l in
     adds_then [] [] l m (loops m) (hears_adds side block l) (loops_adds m)
 
-hands_over_adds : (keys : Keys) (l : Link) → Adds [] l (hands_over keys l)
+hands_over_adds : (keys : Keys) (l : Link) → Adds [] (renewed (HandsOver keys) l) (hands_over keys l)
 unfolding hands_over
 hands_over_adds keys l =
+    let k = renewed (HandsOver keys) l in
     let j = moves keys l in
     let m = tells_all Nb (leaving l.nb) j in
     let n = tells_all Ue (leaving l.ue) m in
-    let to_m = adds_then [] [] l j m (stays l j refl) (tells_all_adds Nb (leaving l.nb) j) in
-    let to_n = adds_then [] [] l m n to_m (tells_all_adds Ue (leaving l.ue) m) in
-    adds_then [] [] l n (loops n) to_n (loops_adds n)
+    let to_m = adds_then [] [] k j m (stays k j refl) (tells_all_adds Nb (leaving l.nb) j) in
+    let to_n = adds_then [] [] k m n to_m (tells_all_adds Ue (leaving l.ue) m) in
+    adds_then [] [] k n (loops n) to_n (loops_adds n)
 
 -- ---- expiries of a drain
 
@@ -105,7 +106,7 @@ senders_add l =
 
 -- ---- any call
 
-pub calls_adds : (c : Call) (l : Link) → Adds [] l (after c l)
+pub calls_adds : (c : Call) (l : Link) → Adds [] (renewed c l) (after c l)
 unfolding bears discards visits reports listens
 calls_adds (Bears c keys) l = stays l (bears c keys l) refl
 calls_adds (Discards lcid ttis) l = stays l (discards lcid ttis l) refl
@@ -134,6 +135,8 @@ submits_adds None Nb lcid sdu l = record {
   other_submitted = refl;
   nb_delivered = refl;
   ue_delivered = refl;
+  nb_failed = refl;
+  ue_failed = refl;
 }
 submits_adds None Ue lcid sdu l = record {
   out_is = sym (append-nil l.out);
@@ -142,6 +145,8 @@ submits_adds None Ue lcid sdu l = record {
   other_submitted = refl;
   nb_delivered = refl;
   ue_delivered = refl;
+  nb_failed = refl;
+  ue_failed = refl;
 }
 submits_adds (Some broken) Nb lcid sdu l = record {
   out_is = refl;
@@ -150,6 +155,8 @@ submits_adds (Some broken) Nb lcid sdu l = record {
   other_submitted = refl;
   nb_delivered = refl;
   ue_delivered = refl;
+  nb_failed = refl;
+  ue_failed = refl;
 }
 submits_adds (Some broken) Ue lcid sdu l = record {
   out_is = refl;
@@ -158,6 +165,8 @@ submits_adds (Some broken) Ue lcid sdu l = record {
   other_submitted = refl;
   nb_delivered = refl;
   ue_delivered = refl;
+  nb_failed = refl;
+  ue_failed = refl;
 }
 
 pub submitting_adds : (side : Side) (lcid : ℕ) (sdu : List ℕ) (l : Link)

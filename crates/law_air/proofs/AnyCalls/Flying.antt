@@ -66,11 +66,12 @@ sends_adds : (v : Visit) (side : Side) (t : ℕ) (block : List ℕ) (l : Link)
 sends_adds New side t block l =
     let one = records.Block (sent_by side) (t % 8) true 0 block in
     adds_then (one ∷ []) [] l (says one l) (shows (sent_by side) block (says one l))
-    (says_of_air one l (record { no_up = λ s k. refl; no_loop = λ k. refl; no_run = refl }) refl)
+    (says_of_air one l
+    (record { no_up = λ s k. refl; no_loop = λ k. refl; no_fail = λ s k. refl; no_run = refl }) refl)
     (shows_adds (sent_by side) block (says one l))
 sends_adds (Resend rv) side t block l =
     says_of_air (records.Block (sent_by side) (t % 8) false rv block) l
-    (record { no_up = λ s k. refl; no_loop = λ k. refl; no_run = refl }) refl
+    (record { no_up = λ s k. refl; no_loop = λ k. refl; no_fail = λ s k. refl; no_run = refl }) refl
 sends_adds Quiet side t block l = stays l l refl
 
 -- ---- what comes of a downlink block
@@ -91,7 +92,8 @@ aired_adds t flipped a block l =
     let m = feeds Nb t (turned flipped (is_good a)) l in
     let n = says one m in
     let told = adds_then [] (one ∷ []) l m n (feeds_adds Nb t (turned flipped (is_good a)) l)
-    (says_of_air one m (record { no_up = λ s k. refl; no_loop = λ k. refl; no_run = refl }) refl) in
+    (says_of_air one m
+    (record { no_up = λ s k. refl; no_loop = λ k. refl; no_fail = λ s k. refl; no_run = refl }) refl) in
     adds_then (one ∷ []) [] l n (hears_by a block n) told (hears_by_adds a block n)
 
 first_books : (b : Bool) (t : ℕ) (l : Link)
@@ -277,7 +279,8 @@ up_aired_adds t flipped good block l =
     let fed = adds_then [] [] l j m (stays l j refl) (feeds_adds Ue t (turned flipped good) j) in
     let told =
     adds_then [] (one ∷ []) l m n fed
-    (says_of_air one m (record { no_up = λ s k. refl; no_loop = λ k. refl; no_run = refl }) refl) in
+    (says_of_air one m
+    (record { no_up = λ s k. refl; no_loop = λ k. refl; no_fail = λ s k. refl; no_run = refl }) refl) in
     adds_then (one ∷ []) [] l n (hears_if good block n) told (hears_if_adds good block n)
 
 awake_books : (v : Visit) (t : ℕ) (l : Link) → books (awake v t l) ≡ books l
@@ -338,7 +341,8 @@ up_by_adds Quiet t grant o l some quiet =
     record {
       flown = one ∷ [];
       adds = adds_then [] (one ∷ []) l m (says one m) (stays l m refl)
-          (says_of_air one m (record { no_up = λ s k. refl; no_loop = λ k. refl; no_run = refl }) refl);
+          (says_of_air one m
+          (record { no_up = λ s k. refl; no_loop = λ k. refl; no_fail = λ s k. refl; no_run = refl }) refl);
       is_up = record {
         none = λ e. absurd (omega arith);
         one = λ h. inr (record { missed = quiet refl; flown_is = refl });

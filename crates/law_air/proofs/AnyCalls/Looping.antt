@@ -16,15 +16,16 @@ use Rattle.air_link.specs.Link.{Link, says}
 use Rattle.air_link.specs.Telling.{submits}
 use Rattle.air_link.specs.Loops.{loses, returns_by, returns, returns_all, kept_by, takes, takes_all, loops, owed, paid}
 use Rattle.air_link.specs.Loops.{pays, loop_set}
-use Rattle.law_air.specs.AnyCalls.Counts.{ups, loopeds}
+use Rattle.law_air.specs.AnyCalls.Counts.{ups, loopeds, gives_up}
 use Rattle.law_air.specs.AnyCalls.Told.{Adds}
 use Rattle.law_air.proofs.AnyCalls.Adding.{stays, adds_then, says_plain, same_grows, one_grows, kept_one, kept_none}
+use Rattle.law_air.proofs.AnyCalls.Adding.{same_marked}
 use Rattle.law_air.proofs.AnyCalls.Telling.{is_eq, is_apart}
 
 loses_adds : (lcid : ℕ) (l : Link) → Adds [] l (loses lcid l)
 loses_adds lcid l =
     says_plain (records.Of Ue (Drop lcid losts.Loop)) l
-    (record { no_up = λ s k. refl; no_loop = λ k. refl; no_run = refl })
+    (record { no_up = λ s k. refl; no_loop = λ k. refl; no_fail = λ s k. refl; no_run = refl })
 
 -- ---- an SDU comes back
 
@@ -43,6 +44,8 @@ looped_adds lcid octets l =
         ue_submitted =
             one_grows (λ k. loopeds k (one ∷ [])) l.up.submitted lcid (kept_one (lcid == lcid) one (is_eq lcid))
             (λ k apart. kept_none (lcid == k) one (is_apart lcid k apart));
+        nb_failed = same_marked (λ k. gives_up Nb k (one ∷ [])) l.down.failed l.down.failed refl (λ k. refl);
+        ue_failed = same_marked (λ k. gives_up Ue k (one ∷ [])) l.up.failed l.up.failed refl (λ k. refl);
         flown_is = refl;
         none_of_run = refl;
       };

@@ -62,7 +62,9 @@ timed_adds l =
 -- ---- the whole
 
 sleep_adds : (asleep : Bool) (l : Link) → Adds (sleeping asleep) l (tells_sleep asleep l)
-sleep_adds true l = says_plain records.Sleep l (record { no_up = λ s k. refl; no_loop = λ k. refl; no_run = refl })
+sleep_adds true l =
+    says_plain records.Sleep l
+    (record { no_up = λ s k. refl; no_loop = λ k. refl; no_fail = λ s k. refl; no_run = refl })
 sleep_adds false l = stays l l refl
 
 -- the downlink, the loop and the uplink
@@ -133,6 +135,8 @@ begun asleep up_grant up down_grant down l r m to_r rests p =
         ue_delivered = all.told.ue_delivered;
         nb_submitted = all.told.nb_submitted;
         ue_submitted = all.told.ue_submitted;
+        nb_failed = all.told.nb_failed;
+        ue_failed = all.told.ue_failed;
         flown_is = all.told.flown_is;
         none_of_run = all.told.none_of_run;
       };

@@ -1,7 +1,8 @@
 -- Counts through a run.
-use Rattle.std.proofs.Common.{◌≡◌, ◌<◌, ℕ, ◌+◌, false, Option, Some, None, List, [], ◌∷◌, ◌++◌, length, map, replicate}
+use Rattle.std.proofs.Common.{◌≡◌, ◌<◌, ℕ, ◌+◌, Bool, false, ◌||◌, Option, Some, None, List, [], ◌∷◌, ◌++◌, length}
+use Rattle.std.proofs.Common.{map, replicate}
 use Rattle.std.proofs.Common.{append-nil, refl, ap, sym, ◌∙◌, arith}
-use Rattle.std.specs.Prelude.{slice_index}
+use Rattle.std.specs.Prelude.{slice_index, slice_index_or}
 use Rattle.std.specs.List.{filter, range_with_len}
 use Rattle.std.proofs.lemmas.List.{get_or-replicate}
 use Rattle.std.proofs.lemmas.List.Elements.{filter-append}
@@ -15,10 +16,10 @@ use Rattle.l2_types.specs.declared.side.Side.TheVariants.{Nb, Ue}
 use Rattle.air_record.specs.Outcomes.{intact}
 use Rattle.air_link.specs.Link.{Link, fresh}
 use Rattle.air_link.specs.Ttis.{sleeps}
-use Rattle.law_air.specs.AnyCalls.Counts.{ups, loopeds, Grows}
+use Rattle.law_air.specs.AnyCalls.Counts.{ups, loopeds, Grows, gives_up, AreMarked}
 use Rattle.promises.specs.Records.{is_up, is_looped, is_of_run}
 use Rattle.law_air.specs.AnyCalls.Calls.{Call}
-use Rattle.law_air.specs.AnyCalls.Told.{why_refused, refusals, accepted, Adds, AddsTti, AddsSubmitted}
+use Rattle.law_air.specs.AnyCalls.Told.{why_refused, refusals, accepted, Adds, renewed, AddsTti, AddsSubmitted}
 use Rattle.law_air.specs.AnyCalls.Runs.{Step, Tti, Drains, Submit, Calls, step, handed, Run, goes, goes_on, run_of}
 use Rattle.law_air.specs.AnyCalls.Runs.{IsTable, IsCounted}
 use Rattle.law_air.proofs.AnyCalls.Adding.{same_grows, count_then}
@@ -32,6 +33,12 @@ grows_as f g xs ys e p = record {
   same_length = p.same_length;
   grown = λ k lt. let now = p.grown k lt in
       omega (arith, now, e k);
+}
+
+pub marked_as : (f g : ℕ → Bool) (xs ys : List Bool) → ((k : ℕ) → g k ≡ f k) → AreMarked f xs ys → AreMarked g xs ys
+marked_as f g xs ys e p = record {
+  same_length = p.same_length;
+  marked = λ k lt. p.marked k lt ∙ ap (λ (b : Bool). slice_index_or xs k false || b) (sym (e k));
 }
 
 pub table_grows : (f g h : ℕ → ℕ) (xs ys : List ℕ) → ((k : ℕ) → h k ≡ f k + g k) → IsTable f xs → Grows g xs ys
@@ -77,7 +84,7 @@ record StepAdds (s : Step) (l m : Link) : Type 0 where
   numbered : (journal : List Record) → filter is_of_run journal ≡ map records.Tti (range_with_len 0 l.ttis)
       → filter is_of_run (journal ++ more) ≡ map records.Tti (range_with_len 0 m.ttis)
 
-call_adds : (c : Call) (l m : Link) → Adds [] l m → StepAdds (Calls c) l m
+call_adds : (c : Call) (l m : Link) → Adds [] (renewed c l) m → StepAdds (Calls c) l m
 call_adds c l m a = record {
   more = a.more;
   out_is = a.out_is;
@@ -124,6 +131,10 @@ no_ups (Some why) side s lcid k = refl
 pub no_loops : (why : Option NoPlace) (side : Side) (lcid k : ℕ) → loopeds k (refusals side lcid why) ≡ 0
 no_loops None side lcid k = refl
 no_loops (Some why) side lcid k = refl
+
+pub no_failures : (why : Option NoPlace) (side s : Side) (lcid k : ℕ) → gives_up s k (refusals side lcid why) ≡ false
+no_failures None side s lcid k = refl
+no_failures (Some why) side s lcid k = refl
 
 pub no_runs : (why : Option NoPlace) (side : Side) (lcid : ℕ) → filter is_of_run (refusals side lcid why) ≡ []
 no_runs None side lcid = refl

@@ -1,6 +1,6 @@
 -- What is shown of a block tells of no SDU, no flight and no run.
 use Rattle.std.proofs.Common.{◌≡◌, ℕ, Bool, true, false, Option, Some, None, Result, Ok, Err, List, [], ◌∷◌, ◌++◌}
-use Rattle.std.proofs.Common.{length, map, refl, ap}
+use Rattle.std.proofs.Common.{length, map, ◌||◌, ◌∙◌, refl, ap}
 use Rattle.std.specs.Prelude.{slice_index_or}
 use Rattle.std.specs.List.{filter, AllByRecursion}
 use Rattle.std.proofs.lemmas.Bool.{false≢true}
@@ -28,11 +28,11 @@ use Rattle.pdu_show.specs.Show.{um_shown, amd_shown, am_shown, rlc_shown, item_s
 use Rattle.pdu_show.specs.Show.{block_shown}
 use Rattle.air_link.specs.Link.{Link}
 use Rattle.air_link.specs.Downlink.{shows}
-use Rattle.law_air.specs.AnyCalls.Counts.{ups, loopeds}
+use Rattle.law_air.specs.AnyCalls.Counts.{ups, loopeds, is_fail, gives_up}
 use Rattle.promises.specs.Records.{is_up, is_looped, is_of_run, is_of_air, event_of, events_of, is_shown}
 use Rattle.promises.specs.Records.{is_of_building}
 use Rattle.law_air.specs.AnyCalls.Told.{Adds}
-use Rattle.law_air.proofs.AnyCalls.Adding.{same_grows}
+use Rattle.law_air.proofs.AnyCalls.Adding.{same_grows, same_marked}
 use Rattle.law_air.proofs.AnyCalls.Returning.{IsSilent}
 
 -- a record that is counted nowhere, and tells of no end
@@ -179,6 +179,15 @@ none_counted : (test : Record → Bool) (rs : List Record) → ((one : Record) �
     → AllShown rs → length (filter test rs) ≡ 0
 none_counted test rs h a = ap length (none_kept test h rs a)
 
+shown_unfailing : (side : Side) (lcid : ℕ) (one : Record) → is_shown one ≡ true → is_fail side lcid one ≡ false
+shown_unfailing side lcid (records.Of s event) h = absurd (false≢true h)
+shown_unfailing side lcid one h = refl
+
+none_fails : (side : Side) (lcid : ℕ) (rs : List Record) → AllShown rs → gives_up side lcid rs ≡ false
+none_fails side lcid [] a = refl
+none_fails side lcid (one ∷ rs) a =
+    ap (λ (b : Bool). b || gives_up side lcid rs) (shown_unfailing side lcid one a.0) ∙ none_fails side lcid rs a.1
+
 pub shows_adds : (direction : Direction) (block : List ℕ) (l : Link) → Adds [] l (shows direction block l)
 shows_adds direction block l =
     let rs = block_shown direction l.kinds block in
@@ -198,6 +207,8 @@ shows_adds direction block l =
         ue_submitted =
             same_grows (λ k. loopeds k rs) l.up.submitted l.up.submitted refl
             (λ k. none_counted (is_looped k) rs (λ one h. (still one h).no_loop k) a);
+        nb_failed = same_marked (λ k. gives_up Nb k rs) l.down.failed l.down.failed refl (λ k. none_fails Nb k rs a);
+        ue_failed = same_marked (λ k. gives_up Ue k rs) l.up.failed l.up.failed refl (λ k. none_fails Ue k rs a);
         flown_is = none_kept is_of_air (λ one h. (still one h).not_of_air) rs a;
         none_of_run = none_kept is_of_run (λ one h. (still one h).no_run) rs a;
       };

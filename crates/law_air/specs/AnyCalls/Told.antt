@@ -1,7 +1,7 @@
 -- What each call of a link adds to the records, and that these tell which SDUs were submitted and
--- delivered (docs/formats/JOURNAL.md).
+-- delivered, and which senders gave up (docs/formats/JOURNAL.md).
 use Rattle.std.specs.Prelude.{◌≡◌, ℕ, ◌+◌, ◌==◌, Bool, false, if◌then◌else◌, Option, Some, None}
-use Rattle.std.specs.Prelude.{option_map, List, [], ◌∷◌, ◌++◌, length}
+use Rattle.std.specs.Prelude.{option_map, List, [], ◌∷◌, ◌++◌, length, replicate}
 use Rattle.std.specs.List.{filter}
 use Rattle.air_record.specs.declared.line.Outcome.{Outcome}
 use Rattle.air_record.specs.declared.record.NoPlace.{NoPlace}
@@ -16,14 +16,14 @@ use Rattle.air_link.specs.Draining.{drain_tti}
 use Rattle.air_record.specs.Outcomes.{intact, missed}
 use Rattle.air_link.specs.Lines.{no_place, submitting}
 use Rattle.air_link.specs.Ttis.{sleeps, tti}
-use Rattle.law_air.specs.AnyCalls.Counts.{ups, loopeds, Grows}
+use Rattle.law_air.specs.AnyCalls.Counts.{ups, loopeds, Grows, gives_up, AreMarked}
 use Rattle.promises.specs.Records.{is_of_run, is_of_air}
 use Rattle.air_link.specs.Downlink.{down_order}
 use Rattle.harq.specs.Receiving.{grant_ndi}
 use Rattle.harq.specs.Sending.{ndi_of}
 use Rattle.law_air.specs.AnyCalls.Deeds.{TakesTurn, came_of, Answers, heard_up, up_ordered}
 use Rattle.promises.specs.Flights.{IsDown, IsUp}
-use Rattle.law_air.specs.AnyCalls.Calls.{Call, after}
+use Rattle.law_air.specs.AnyCalls.Calls.{Call, HandsOver, after}
 use Rattle.promises.specs.Air.{sleeping}
 
 -- the SDUs submitted at a side, and those delivered there, by LCID
@@ -33,13 +33,20 @@ submitted_at side l = (sent_flows side l).submitted
 abbrev pub delivered_at : Side → Link → List ℕ
 delivered_at side l = (sent_flows (other side) l).delivered
 
--- from one link to another each `up` is an SDU delivered, and each `loop` one that the terminal
--- submits; this is told of the air, and nothing that only a run tells
+-- the senders of a side that have failed
+abbrev pub failed_at : Side → Link → List Bool
+failed_at side l = (sent_flows side l).failed
+
+-- from one link to another each `up` is an SDU delivered, each `loop` one that the terminal
+-- submits, and each `fail` a sender that has failed; this is told of the air, and nothing that only
+-- a run tells
 pub record Tells (more flown : List Record) (l m : Link) : Type 0 where
   pub nb_delivered : Grows (λ lcid. ups Nb lcid more) (delivered_at Nb l) (delivered_at Nb m)
   pub ue_delivered : Grows (λ lcid. ups Ue lcid more) (delivered_at Ue l) (delivered_at Ue m)
   pub nb_submitted : submitted_at Nb m ≡ submitted_at Nb l
   pub ue_submitted : Grows (λ lcid. loopeds lcid more) (submitted_at Ue l) (submitted_at Ue m)
+  pub nb_failed : AreMarked (λ lcid. gives_up Nb lcid more) (failed_at Nb l) (failed_at Nb m)
+  pub ue_failed : AreMarked (λ lcid. gives_up Ue lcid more) (failed_at Ue l) (failed_at Ue m)
   pub flown_is : filter is_of_air more ≡ flown
   pub none_of_run : filter is_of_run more ≡ []
 
@@ -52,9 +59,20 @@ pub record Adds (flown : List Record) (l m : Link) : Type 0 where
 
 -- ---- the laws
 
+-- with a handover no sender has failed, before anything is told
+abbrev pub failed_before : Call → List Bool → List Bool
+failed_before (HandsOver keys) failed = replicate 11 false
+failed_before call failed = failed
+
+abbrev pub renewed : Call → Link → Link
+renewed c l = record l {
+  down = record l.down { failed = failed_before c l.down.failed };
+  up = record l.up { failed = failed_before c l.up.failed };
+}
+
 -- nothing is told of the air but in a TTI
 abbrev pub CallsAreTold : Type 0
-CallsAreTold = (c : Call) (l : Link) → Adds [] l (after c l)
+CallsAreTold = (c : Call) (l : Link) → Adds [] (renewed c l) (after c l)
 
 -- a TTI adds its number first; a terminal that sleeps misses both blocks; that of the downlink
 -- flies before that of the uplink; each is as the processes of its sender and of its receiver have
@@ -106,6 +124,8 @@ pub record AddsSubmitted (side : Side) (lcid : ℕ) (why : Option NoPlace) (l m 
   pub other_submitted : submitted_at (other side) m ≡ submitted_at (other side) l
   pub nb_delivered : delivered_at Nb m ≡ delivered_at Nb l
   pub ue_delivered : delivered_at Ue m ≡ delivered_at Ue l
+  pub nb_failed : failed_at Nb m ≡ failed_at Nb l
+  pub ue_failed : failed_at Ue m ≡ failed_at Ue l
 
 abbrev pub SubmissionsAreTold : Type 0
 SubmissionsAreTold = (side : Side) (lcid : ℕ) (sdu : List ℕ) (l : Link)

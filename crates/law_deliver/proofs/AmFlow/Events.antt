@@ -121,20 +121,15 @@ module _ (P : Event → Type 0) where
       (behind (many (a_take m)) last (each (a_take m) take)
       (perhaps (a_data_pdu m or a_wait m) (either (a_data_pdu m) (a_wait m) pdu wait))))
 
-  -- ---- as it hears
+  -- ---- what becomes of SDUs
 
-  pub record OfHearing (m : ℕ) : Type 0 where
-    pub start : (clock : Clock) → P (Start m clock)
-    pub stop : (clock : Clock) → P (Stop m clock)
-    pub expired : (clock : Clock) → P (Expired m clock)
+  pub record OfSdus (m : ℕ) : Type 0 where
     pub up : (sdu : List ℕ) → P (Up m sdu)
-    pub fail : (sn : ℕ) → P (Fail m sn)
     pub drop : (why : Lost) → P (Drop m why)
     pub integrity : (found wanted : List ℕ) → P (Integrity m found wanted)
-    pub bad_rlc : (fault : RlcRefusal) → P (BadRlc m fault)
     pub bad_pdcp : (fault : PdcpRefusal) → P (BadPdcp m fault)
 
-  module _ (m : ℕ) (w : OfHearing m) where
+  module _ (m : ℕ) (w : OfSdus m) where
     up_holds : Hold (an_up m)
     up_holds = whichever (λ (sdu : List ℕ). just (Up m sdu)) (λ sdu. one (Up m sdu) (w.up sdu))
 
@@ -165,8 +160,30 @@ module _ (P : Event → Type 0) where
         (either (just (Drop m lost.Report)) (integrity or unread) (one (Drop m lost.Report) (w.drop lost.Report))
         (either integrity unread integrity_holds unread_holds))))
 
+    pub end_holds : (signalling : Bool) → Hold (at_the_end signalling m)
+    end_holds true = each (just (Drop m lost.Handover)) (one (Drop m lost.Handover) (w.drop lost.Handover))
+    end_holds false = each (of_an_sdu m) sdu_holds
+
+  -- ---- as it hears
+
+  pub record OfHearing (m : ℕ) : Type 0 where
+    pub start : (clock : Clock) → P (Start m clock)
+    pub stop : (clock : Clock) → P (Stop m clock)
+    pub expired : (clock : Clock) → P (Expired m clock)
+    pub up : (sdu : List ℕ) → P (Up m sdu)
+    pub fail : (sn : ℕ) → P (Fail m sn)
+    pub drop : (why : Lost) → P (Drop m why)
+    pub integrity : (found wanted : List ℕ) → P (Integrity m found wanted)
+    pub bad_rlc : (fault : RlcRefusal) → P (BadRlc m fault)
+    pub bad_pdcp : (fault : PdcpRefusal) → P (BadPdcp m fault)
+
+  module _ (m : ℕ) (w : OfHearing m) where
+    of_sdus : OfSdus m
+    of_sdus = record { up = w.up; drop = w.drop; integrity = w.integrity; bad_pdcp = w.bad_pdcp }
+
     arrived_sdu_holds : Hold (of_an_arrived_sdu m)
-    arrived_sdu_holds = either (of_an_sdu m) (just (Start m Poll)) sdu_holds (one (Start m Poll) (w.start Poll))
+    arrived_sdu_holds =
+        either (of_an_sdu m) (just (Start m Poll)) (sdu_holds m of_sdus) (one (Start m Poll) (w.start Poll))
 
     data_pdu_holds : Hold (of_a_data_pdu m)
     data_pdu_holds =
@@ -215,7 +232,7 @@ module _ (P : Event → Type 0) where
         behind (just (Expired m Reorder)) (starts then many (of_an_sdu m)) (one (Expired m Reorder) (w.expired Reorder))
         (behind starts (many (of_an_sdu m))
         (perhaps (just (Start m Reorder)) (one (Start m Reorder) (w.start Reorder)))
-        (each (of_an_sdu m) sdu_holds))
+        (each (of_an_sdu m) (sdu_holds m of_sdus)))
     expiry_holds Prohibit = one (Expired m Prohibit) (w.expired Prohibit)
 
     discard_holds : ((len : ℕ) → P (Discard m len)) → Hold (a_discard m)
@@ -236,10 +253,6 @@ module _ (P : Event → Type 0) where
         (behind (expires Reorder) (expires Prohibit then late) (perhaps (of_an_expiry m Reorder) (expiry_holds Reorder))
         (behind (expires Prohibit) late (perhaps (of_an_expiry m Prohibit) (expiry_holds Prohibit))
         (perhaps (of_discards m) (discards_holds d))))
-
-    end_holds : (signalling : Bool) → Hold (at_the_end signalling m)
-    end_holds true = each (just (Drop m lost.Handover)) (one (Drop m lost.Handover) (w.drop lost.Handover))
-    end_holds false = each (of_an_sdu m) sdu_holds
 
 -- ---- what a bearer tells, in a call and as its life ends, it tells of its own channel
 
@@ -296,7 +309,8 @@ pub ticking_on : (m : ℕ) (f : Flow) → IsBetween m f → AreOn m (tells_in m 
 ticking_on m f k = call_on m f Ticks k
 
 pub stopping_on : (m : ℕ) (f : Flow) → IsBetween m f → AreOn m (stopping f)
-stopping_on m f k = end_holds (IsOn m) m (hearing_on m) (is_signalling f) (stopping f) (told_in_order m f k).ending
+stopping_on m f k =
+    end_holds (IsOn m) m (of_sdus (IsOn m) m (hearing_on m)) (is_signalling f) (stopping f) (told_in_order m f k).ending
 
 called_between : (m : ℕ) (f : Flow) (c : BearerCall) → IsBetween m f → IsBetween m (called f c)
 called_between m f (Submits sdu) k = submits m f sdu k
@@ -511,7 +525,8 @@ pub end_discards : (l : ℕ) (f : Flow) (xs : List Event) → IsBetween l f → 
 end_discards l f xs k e =
     picked_as discards_in discard_off l xs (stopping f) e
     ∙ none_discarded l (stopping f)
-    (end_holds (DiscardsNone l) l (hearing_discards l l) (is_signalling f) (stopping f) (told_in_order l f k).ending)
+    (end_holds (DiscardsNone l) l (of_sdus (DiscardsNone l) l (hearing_discards l l)) (is_signalling f) (stopping f)
+    (told_in_order l f k).ending)
 
 -- ---- what nothing is told of as a bearer hears
 
@@ -533,4 +548,5 @@ module _ {X : Type 0} (pick : ℕ → Event → List X) (off : (l : ℕ) (x : Ev
   pub none_ending : flat_map (pick l) (stopping f) ≡ []
   none_ending =
       none_picked pick off l (stopping f)
-      (end_holds (λ x. pick l x ≡ []) l w (is_signalling f) (stopping f) (told_in_order l f k).ending)
+      (end_holds (λ x. pick l x ≡ []) l (of_sdus (λ x. pick l x ≡ []) l w) (is_signalling f) (stopping f)
+      (told_in_order l f k).ending)
