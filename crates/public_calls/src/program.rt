@@ -5,7 +5,7 @@ ghost use Rattle.std.specs.Prelude.{◌<◌};
 use crate::fault::Fault;
 use crate::session;
 use l2_io::{MemSink, MemSource};
-use l2_top::{Words, l2_main};
+use l2_top::{Status, Words, l2_main};
 use std::alloc::Global;
 use std::str;
 
@@ -39,6 +39,17 @@ fn input(alloc: Global, text: &str) -> Result<Vec<u8>, Fault> {
         }
     }
     Ok(octets)
+}
+
+// How a run of the program ends. It stands apart so that its contract doesn't weigh on the callers.
+fn status_of(
+    alloc: Global,
+    words: &Words,
+    source: &mut MemSource,
+    out: &mut MemSink,
+    errs: &mut MemSink,
+) -> Status {
+    l2_main(alloc, words, source, out, errs)
 }
 
 /// The program's words, its input, and the calls that fail.
@@ -92,7 +103,7 @@ impl Run {
             errs,
         } = self;
         let (mut source, mut out, mut errs) = (source, out, errs);
-        let status = l2_main(alloc, &words, &mut source, &mut out, &mut errs);
+        let status = status_of(alloc, &words, &mut source, &mut out, &mut errs);
         let (written, told) = (
             str::from_utf8(out.written())?,
             str::from_utf8(errs.written())?,
