@@ -29,12 +29,12 @@ pub mod Flowing
 pub mod Seen
 pub mod Delivering
 pub mod Arriving
-pub mod Taking
-pub mod Queueing
 pub mod Drains
 pub mod Zero
 pub mod Standing
 pub mod Unlooped
 pub mod Signalling
+pub mod Taking
+pub mod Queueing
 pub mod Losses
 pub mod Everything
