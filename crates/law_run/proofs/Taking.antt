@@ -1,6 +1,6 @@
 -- Each `take` of a journal on a channel with an acknowledged data bearer names the SDU of its COUNT; on one with an
 -- unacknowledged data bearer SDUs leave the queue in their order.
-use Rattle.std.proofs.Common.{◌≡◌, false, ℕ, List, [], ◌∷◌, ◌++◌, map, length, take, subst, ap, sym, ◌∙◌, Some}
+use Rattle.std.proofs.Common.{◌≡◌, ℕ, List, [], ◌∷◌, ◌++◌, map, length, take, subst, ap, sym, ◌∙◌}
 use Rattle.std.proofs.Math.Seq.{take-append_seam}
 use Rattle.std.specs.List.{AllByRecursion}
 use Rattle.air_text.specs.Groups.{Group, history}
@@ -12,14 +12,11 @@ use Rattle.l2_types.specs.declared.side.Side.TheVariants.{Nb, Ue}
 use Rattle.law_bearer.specs.AnyBearer.Calls.{ends}
 use Rattle.law_bearer.specs.AnyBearer.Queue.{queue}
 use Rattle.law_node.specs.Holding.{flow}
-use Rattle.promises.specs.Configs.{config_of}
-use Rattle.promises.specs.Delivery.{is_forged}
 use Rattle.promises.specs.Flows.{submitted}
-use Rattle.promises.specs.Arrival.{taken as taken_told}
 use Rattle.promises.specs.Records.{told_by}
 use Rattle.promises.specs.Taken.{takes_on, NamesSdu, lengths_on}
-use Rattle.promises.specs.Takes.{AllTakesAreNamed, TakesName, LeaveInOrder, AllLeaveInOrder, SdusLeaveInOrder}
-use Rattle.promises.specs.Takes.{left_since, AllLeaveInLife, SignalsLeaveInOrder}
+use Rattle.promises.specs.Takes.{AllTakesAreNamed, TakesName, AllLeaveInOrder, SdusLeaveInOrder, left_since}
+use Rattle.promises.specs.Takes.{AllLeaveInLife, SignalsLeaveInOrder}
 use Rattle.law_deliver.specs.AmChannel.Delivery.{taken_at, HasBegun}
 use Rattle.law_deliver.specs.AmChannel.Lives.{lives, end_at}
 use Rattle.law_deliver.specs.AmFlow.Air.{outset}

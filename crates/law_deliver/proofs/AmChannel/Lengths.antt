@@ -1,6 +1,5 @@
 -- What leaves the queue of a bearer that isn't of acknowledged data, and what waits there, told by their lengths.
-use Rattle.std.proofs.Common.{◌≡◌, ℕ, zero, suc, ◌+◌, ◌-◌, ◌==◌, Bool, true, false, if◌then◌else◌, Option, Some, None}
-use Rattle.std.proofs.Common.{List}
+use Rattle.std.proofs.Common.{◌≡◌, ℕ, zero, suc, ◌+◌, ◌-◌, ◌==◌, Bool, true, false, if◌then◌else◌, Option, Some, List}
 use Rattle.std.proofs.Common.{[], ◌∷◌, ◌++◌, map, length, take, drop, append-nil, slice_get, option_map, refl, ap, sym}
 use Rattle.std.proofs.Common.{◌∙◌, arith}
 use Rattle.std.proofs.lemmas.Bool.Decides.{nat_tests}

@@ -1,7 +1,7 @@
 -- The SDUs of a signalling bearer leave its queue in their order in a life, each told by its length.
 use Rattle.std.proofs.Common.{◌≡◌, ℕ, ◌-◌, ◌%◌, Bool, true, false, if◌then◌else◌, nat_lt, Option, Some, None, List, []}
 use Rattle.std.proofs.Common.{◌∷◌, ◌++◌, map, length, append-nil, append_assoc, slice_get, refl, ap, sym, subst, ◌∙◌}
-use Rattle.std.specs.List.{AllByRecursion, flat_map}
+use Rattle.std.specs.List.{AllByRecursion}
 use Rattle.std.proofs.lemmas.Grind.{flat_map-append}
 use Rattle.std.proofs.lemmas.List.{map-append}
 use Rattle.bearer.specs.declared.flow.Flow.{Flow}
@@ -11,8 +11,8 @@ use Rattle.bearer.specs.Acknowledged.State.{State, has_more, Work, work}
 use Rattle.bearer.specs.Acknowledged.Taking.{writes_status, prohibit_told, status_told, has_prohibit, fed, feeds}
 use Rattle.bearer.specs.Acknowledged.Taking.{poll_told, data_told, answer_of, data_size, feeding, taking, after_taking}
 use Rattle.bearer.specs.Acknowledged.Timing.{Ticking, poll_told as expired_poll, timer_told, told_of, expiry}
-use Rattle.bearer.specs.Acknowledged.Timing.{expires_if}
-use Rattle.bearer.specs.Acknowledged.Timing.{counts, has_ended, ticks as ticked_by, ticked as am_ticked, after_expiry}
+use Rattle.bearer.specs.Acknowledged.Timing.{expires_if, counts, has_ended, ticks as ticked_by, ticked as am_ticked}
+use Rattle.bearer.specs.Acknowledged.Timing.{after_expiry}
 use Rattle.bearer.specs.Hearing.{arrived as flow_arrived, expired as flow_expired, ticked as flow_ticked, with_discard}
 use Rattle.bearer.specs.Hearing.{ticking as flow_ticking}
 use Rattle.bearer.specs.Lives.{stopping}
@@ -21,7 +21,6 @@ use Rattle.bearer.specs.Taking.{told as flow_told, after as flow_after}
 use Rattle.bearer_pdcp.specs.Discarding.{late_told, after_tick as after_discards, tick_told}
 use Rattle.bearer_pdcp.specs.Ends.{Ends}
 use Rattle.bearer_pdcp.specs.Taking.{taking_told, after_taking as after_pdcp}
-use Rattle.bearer_types.specs.declared.event.Event.{Event}
 use Rattle.bearer_types.specs.declared.event.Event.TheVariants as events
 use Rattle.eps_sec.specs.declared.Keys.{Keys}
 use Rattle.l2_node.specs.End.{End}
@@ -56,7 +55,7 @@ use Rattle.rlc_pdu.specs.declared.Expired.{Expired}
 use Rattle.rlc_pdu.specs.declared.Expired.TheVariants.{Done, NotRunning}
 use Rattle.rlc_pdu.specs.declared.Taken.{Taken}
 use Rattle.rlc_pdu.specs.declared.Taken.TheVariants.{Piece, Idle, Small, Shut, Held, Stopped}
-use Rattle.law_deliver.specs.AmChannel.Delivery.{was_submitted, steps_in, steps_over}
+use Rattle.law_deliver.specs.AmChannel.Delivery.{was_submitted, steps_over}
 use Rattle.law_deliver.specs.AmChannel.Lives.{AirStep, InLife, Moves, lives_on, lives, AreLiving, end_at, brought}
 use Rattle.law_deliver.specs.AmChannel.Lives.{calls_by, calls_at, all_calls}
 use Rattle.law_deliver.specs.AmFlow.Air.{Air, Act, Block, Station, Comes, Goes, AtNb, AtUe, Passes, IsDone, outset}

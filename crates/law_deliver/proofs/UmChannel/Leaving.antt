@@ -1,10 +1,7 @@
 -- The SDUs of an unacknowledged data bearer leave its queue in their order, each told by its length.
-use Rattle.std.proofs.Common.{◌≡◌, ℕ, zero, suc, ◌+◌, ◌-◌, ◌==◌, Bool, true, false, if◌then◌else◌, Option, Some, None}
-use Rattle.std.proofs.Common.{List}
-use Rattle.std.proofs.Common.{[], ◌∷◌, ◌++◌, map, length, take, drop, append-nil, append_assoc, slice_get, option_map}
-use Rattle.std.proofs.Common.{unwrap_or, refl, ap, sym, subst, ◌∙◌, arith}
+use Rattle.std.proofs.Common.{◌≡◌, ℕ, ◌+◌, ◌-◌, Bool, true, false, if◌then◌else◌, Option, Some, None, List, [], ◌∷◌}
+use Rattle.std.proofs.Common.{◌++◌, map, length, append-nil, append_assoc, unwrap_or, refl, ap, sym, subst, ◌∙◌}
 use Rattle.std.specs.List.{flat_map}
-use Rattle.std.proofs.lemmas.Bool.Decides.{nat_tests}
 use Rattle.std.proofs.lemmas.Grind.{flat_map-append}
 use Rattle.std.proofs.lemmas.List.{map-append}
 use Rattle.bearer.specs.declared.flow.Flow.{Flow}
@@ -20,12 +17,11 @@ use Rattle.bearer.specs.Unacknowledged.Lives.{stopped, restarted}
 use Rattle.bearer.specs.Unacknowledged.State.{State}
 use Rattle.bearer.specs.Unacknowledged.Taking.{Feeding, fed, feeds, feeding, size_in, idle_told, data_told, has_more}
 use Rattle.bearer.specs.Unacknowledged.Taking.{why_idle, taking, after_taking}
-use Rattle.bearer_pdcp.specs.Discarding.{without_late, late_told, after_tick, tick_told}
+use Rattle.bearer_pdcp.specs.Discarding.{tick_told}
 use Rattle.bearer_pdcp.specs.Ends.{Ends}
 use Rattle.bearer_pdcp.specs.Lives.{restarted as restarted_pdcp}
-use Rattle.bearer_pdcp.specs.Taking.{next_told, taking_told, after_taking as after_pdcp}
+use Rattle.bearer_pdcp.specs.Taking.{taking_told, after_taking as after_pdcp}
 use Rattle.bearer_types.specs.declared.event.Event.{Event}
-use Rattle.bearer_types.specs.declared.event.Event.TheVariants as events
 use Rattle.eps_sec.specs.declared.Keys.{Keys}
 use Rattle.l2_num.specs.Timers.{ends as ends_now}
 use Rattle.l2_types.specs.declared.event.Clock.TheVariants.{Reorder}
@@ -34,21 +30,17 @@ use Rattle.law_bearer.specs.AnyBearer.Calls.{Call, Submit, Take, Arrive, Expire,
 use Rattle.law_bearer.specs.AnyBearer.Calls.{ends, run}
 use Rattle.law_bearer.specs.AnyBearer.Queue.{queue, submits, all_submitted}
 use Rattle.law_bearer.proofs.AnyBearer.Between.{IsBetween}
-use Rattle.law_bearer.proofs.AnyBearer.Parts.{Passed, pdcp_took, by_tx}
-use Rattle.law_bearer.proofs.AnyBearer.Sender.{nothing, submitting, submits_one, sdus, moved_queue}
+use Rattle.law_bearer.proofs.AnyBearer.Sender.{submitting, submits_one, sdus, moved_queue}
 use Rattle.law_bearer.proofs.AnyBearer.Unacknowledged.{take_left, arrival_moves, expiry_moves, timed, before_discards}
 use Rattle.law_bearer.proofs.AnyBearer.Unacknowledged.{ticked_is, stop_ends, restart_is}
 use Rattle.law_node.proofs.Pdcp.{OfPdcp, arrives, expires, ticks_of, discards_of, takes_of, moves_of}
-use Rattle.law_node.proofs.Plain.{IsPlainSender, IsPlain, took_is, owes_nothing, plain_passes}
+use Rattle.law_node.proofs.Plain.{IsPlainSender, IsPlain, owes_nothing, plain_passes}
 use Rattle.pdcp_pdu.specs.Kinds.{is_am}
 use Rattle.pdcp_pdu.specs.declared.pdu.PdcpKind.{PdcpKind}
 use Rattle.pdcp_pdu.specs.declared.pdu.PdcpKind.TheVariants.{Um as UmKind}
-use Rattle.pdcp_tx.specs.State.{State as Sending, Offer, owed_offers, again_offer, new_offers, offers, written}
-use Rattle.pdcp_tx.specs.State.{took_new}
-use Rattle.pdcp_tx.specs.State.{took, taking as pdcp_taking, submitted as pdcp_submitted, is_overdue, after_late}
-use Rattle.pdcp_tx.specs.State.{ticked, waiting_on, restarted as restarted_sending}
+use Rattle.pdcp_tx.specs.State.{State as Sending, Offer, offers, submitted as pdcp_submitted, waiting_on}
+use Rattle.pdcp_tx.specs.State.{restarted as restarted_sending}
 use Rattle.pdcp_tx_store.specs.Waiting.{Waits}
-use Rattle.pdcp_tx_store.specs.declared.given.Sent.{Sent}
 use Rattle.promises.specs.Taken.{length_in, lengths_on}
 use Rattle.rlc_pdu.specs.declared.Taken.{Taken}
 use Rattle.rlc_pdu.specs.declared.Taken.TheVariants.{Piece, Idle, Small, Shut, Held, Stopped}
@@ -57,7 +49,7 @@ use Rattle.law_deliver.specs.UmFlow.Pair.{called}
 use Rattle.law_deliver.proofs.AmChannel.Ends.{lengths_in, all_lengths, length_off}
 use Rattle.law_deliver.proofs.AmChannel.Leaving.{stays_on}
 use Rattle.law_deliver.proofs.AmChannel.Lengths.{lens, one_taken, tick_lens, hears_none, same_lens}
-use Rattle.law_deliver.proofs.AmFlow.Events.{OfHearing, none_arriving, none_expiring, none_ending}
+use Rattle.law_deliver.proofs.AmFlow.Events.{none_arriving, none_expiring, none_ending}
 use Rattle.law_deliver.proofs.UmChannel.Bearers.{between_called, between_next, restarts}
 use Rattle.law_deliver.proofs.UmFlow.Sending.{is_called}
 

@@ -1,5 +1,5 @@
 -- What leaves the queue of a channel of unacknowledged data is told by its length.
-use Rattle.std.proofs.Common.{◌≡◌, ℕ, List, [], ◌∷◌, ◌++◌, map, length, Some, refl, ap, sym, subst, ◌∙◌}
+use Rattle.std.proofs.Common.{◌≡◌, ℕ, List, [], ◌++◌, map, length, Some, refl, ap, sym, subst, ◌∙◌}
 use Rattle.std.specs.List.{AllByRecursion}
 use Rattle.bearer.specs.Bearer.{flow_of}
 use Rattle.bearer.specs.declared.flow.Flow.{Flow}
@@ -12,7 +12,6 @@ use Rattle.l2_node.specs.End.{End}
 use Rattle.l2_types.specs.declared.channel.Kind.{Kind}
 use Rattle.l2_types.specs.declared.channel.Kind.TheVariants as kinds
 use Rattle.l2_types.specs.declared.side.Side.{Side}
-use Rattle.l2_types.specs.declared.side.Side.TheVariants.{Nb, Ue}
 use Rattle.law_bearer.specs.AnyBearer.Calls.{ends, run as bearer_run, Step as BearerStep}
 use Rattle.law_bearer.specs.AnyBearer.Queue.{queue, all_submitted}
 use Rattle.law_bearer.proofs.AnyBearer.Between.{IsBetween}
