@@ -8,6 +8,7 @@ pub mod Waiting
 pub mod Choosing
 pub mod Leaving
 pub mod Naming
+pub mod Lengths
 pub mod Unset
 pub mod Submitted
 pub mod Delivery

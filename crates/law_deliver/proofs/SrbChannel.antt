@@ -3,3 +3,4 @@ pub mod Losing
 pub mod Walk
 pub mod Running
 pub mod Laws
+pub mod Leaving

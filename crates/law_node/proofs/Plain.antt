@@ -1,6 +1,6 @@
 -- A sender of PDCP that isn't of acknowledged data keeps nothing of what is taken, and owes nothing.
 use Rattle.std.proofs.Common.{◌≡◌, ℕ, ◌-◌, ◌&&◌, Bool, true, false, if◌then◌else◌, Option, Some, None, List, [], ◌∷◌}
-use Rattle.std.proofs.Common.{◌++◌, nat_lt, slice_get, set, take, refl, ap, sym, subst, ◌∙◌}
+use Rattle.std.proofs.Common.{◌++◌, take, refl, ap, sym, subst, ◌∙◌}
 use Rattle.bearer_pdcp.specs.Discarding.{without_late, after_tick}
 use Rattle.bearer_pdcp.specs.Ends.{Ends}
 use Rattle.bearer_pdcp.specs.Hearing.{is_for_sender, is_arrived, got_left, with_arrived, after_hearing}
@@ -14,9 +14,8 @@ use Rattle.pdcp_rx.specs.declared.Cause.{Cause}
 use Rattle.pdcp_rx.specs.declared.Got.{Got}
 use Rattle.pdcp_rx.specs.declared.Got.TheVariants as got_as
 use Rattle.pdcp_tx.specs.State.{State as Sending, submitted, took_new, took_again, took_owed, took, confirmed, reported}
-use Rattle.pdcp_tx.specs.State.{is_overdue, after_late, ticked, kept_again, restarted as restarted_sending, sent}
-use Rattle.pdcp_tx_store.specs.Given.{Given, settled, with_entry, with_ack, acked, acked_at, entry_at, trimmed}
-use Rattle.pdcp_tx_store.specs.Given.{from_unacked, data_of}
+use Rattle.pdcp_tx.specs.State.{is_overdue, after_late, ticked, restarted as restarted_sending, sent}
+use Rattle.pdcp_tx_store.specs.Given.{with_entry, acked_at, entry_at, trimmed, from_unacked, data_of}
 use Rattle.pdcp_tx_store.specs.Waiting.{Waits}
 use Rattle.pdcp_tx_store.specs.declared.given.Entry.{Entry}
 use Rattle.pdcp_tx_store.specs.declared.given.Entry.TheVariants.{Data}

@@ -1,6 +1,6 @@
 -- At each bearer of an end at most 1024 SDUs wait to be taken for the first time.
-use Rattle.std.proofs.Common.{◌≡◌, ◌≤◌, ℕ, suc, ◌+◌, ◌==◌, ◌-◌, ◌^◌, nat_le, nat_lt, Bool, true, false, if◌then◌else◌}
-use Rattle.std.proofs.Common.{Option, Some, None, List, [], ◌∷◌, ◌++◌, length, drop, take, refl, ap, arith}
+use Rattle.std.proofs.Common.{◌≡◌, ◌≤◌, ℕ, ◌+◌, ◌==◌, ◌-◌, ◌^◌, nat_le, nat_lt, Bool, true, false, if◌then◌else◌}
+use Rattle.std.proofs.Common.{Option, Some, None, List, [], ◌∷◌, length, drop, take, refl, ap, arith}
 use Rattle.std.proofs.lemmas.Bool.Decides.{nat_tests}
 use Rattle.std.proofs.lemmas.List.{length-append}
 use Rattle.bearer.specs.declared.flow.Flow.{Flow}
@@ -10,7 +10,6 @@ use Rattle.bearer_pdcp.specs.Hearing.{is_for_sender, got_left, with_arrived, aft
 use Rattle.bearer_pdcp.specs.Lives.{report_of, owing_report, restarted}
 use Rattle.bearer_pdcp.specs.Taking.{after_taking}
 use Rattle.eps_sec.specs.declared.Keys.{Keys}
-use Rattle.l2_bits.specs.declared.fault.SubmitRefusal.{SubmitRefusal}
 use Rattle.l2_bits.specs.declared.fault.SubmitRefusal.TheVariants.{Empty, TooLong, Full, CountEnd}
 use Rattle.l2_types.specs.declared.side.Side.{Side}
 use Rattle.pdcp_pdu.specs.declared.pdu.PdcpKind.{PdcpKind}

@@ -15,7 +15,7 @@ use Rattle.law_run.proofs.Queueing.{queues_are_short}
 use Rattle.law_run.proofs.Reaching.{come_by_calls}
 use Rattle.law_run.proofs.Meeting.{none_meet}
 use Rattle.law_run.proofs.Silent.{failed_are_silent}
-use Rattle.law_run.proofs.Taking.{takes_name, sdus_leave_in_order}
+use Rattle.law_run.proofs.Taking.{takes_name, sdus_leave_in_order, signals_leave_in_order}
 use Rattle.law_run.proofs.Signalling.{delivers_each_life, drains_leave_no_signal, handovers_bring_none}
 use Rattle.law_run.proofs.Sleeping.{sleeps_behind_drx}
 use Rattle.law_run.proofs.Standing.{lines_tell}
@@ -42,6 +42,7 @@ every-journal whole octets =
       came = hand_up_what_came t.later t.order;
       takes = takes_name t.later t.order;
       leaving = sdus_leave_in_order t.later t.order;
+      signals_leaving = signals_leave_in_order t.later t.order;
       queues = queues_are_short t.later t.order;
       drained = drains_leave_nothing t.later t.order;
       signalled = delivers_each_life t.later t.order;

@@ -34,13 +34,13 @@ pub mod Lives
 pub mod Seen
 pub mod Delivering
 pub mod Arriving
-pub mod Taking
-pub mod Queueing
 pub mod Drains
 pub mod Zero
 pub mod Standing
 pub mod Unlooped
 pub mod Signalling
+pub mod Taking
+pub mod Queueing
 pub mod Losses
 pub mod Silent
 pub mod Everything

@@ -1,6 +1,6 @@
 -- On each channel with a data bearer at most 1024 SDUs wait.
-use Rattle.std.proofs.Common.{◌≡◌, ◌≤◌, ◌⊎◌, inl, inr, ℕ, ◌+◌, ◌-◌, false, List, [], ◌∷◌, ◌++◌, length, map, arith, ap}
-use Rattle.std.proofs.Common.{sym, subst, ◌∙◌}
+use Rattle.std.proofs.Common.{◌≡◌, ◌≤◌, ◌⊎◌, inl, inr, ℕ, ◌+◌, ◌-◌, false, List, [], ◌∷◌, length, map, arith, ap, sym}
+use Rattle.std.proofs.Common.{subst, ◌∙◌}
 use Rattle.std.proofs.lemmas.List.{length-append, length-map}
 use Rattle.air_link.specs.Link.{Link, end_of}
 use Rattle.air_record.specs.declared.record.Record.{Record}
@@ -26,13 +26,16 @@ use Rattle.law_node.specs.Holding.{flow}
 use Rattle.law_node.proofs.Keeping.{AllAre, at_is, reached_are}
 use Rattle.law_node.proofs.Queueing.{HasFewWaiting, few_kept}
 use Rattle.promises.specs.Flows.{submitted}
-use Rattle.promises.specs.Limits.{gone, FewWait, QueuesAreShort}
+use Rattle.promises.specs.Limits.{gone, FewWait, FewSignalsWait, QueuesAreShort}
 use Rattle.promises.specs.Records.{events_of}
+use Rattle.promises.specs.Signalling.{submitted_since}
 use Rattle.promises.specs.Taken.{leaves, lengths_on}
+use Rattle.promises.specs.Takes.{left_since}
 use Rattle.law_run.specs.Order.{KeepsOrder}
 use Rattle.law_run.proofs.Delivering.{IsDelivering, steps, start, alike, is_delivering, tells, was_submitted_is}
 use Rattle.law_run.proofs.Past.{link_behind}
 use Rattle.law_run.proofs.Reaching.{come_by_calls}
+use Rattle.law_run.proofs.Signalling.{is_signalling, queue_since, steps as life_steps, start as life_start}
 use Rattle.law_run.proofs.Taking.{queue_told}
 
 few_queue : (lcid : ℕ) (f : Flow) → HasFewWaiting lcid f → length (queue (ends f)) ≤ 1024
@@ -107,6 +110,22 @@ few_wait past order side l c e kind own =
     few_left (length (submitted side l past)) (gone c.kind l c.first (events_of side (history past)))
     (length (waits l c past order d side)) (any_gone l c past order d side kind) (few l c past order d side)
 
+few_signals_wait : (past : List Group) → KeepsOrder past → FewSignalsWait past
+few_signals_wait past order side l c e kind own =
+    let d = is_signalling l past c order kind e own in
+    let waits : List (List ℕ) =
+    queue (ends (flow l (end_at side (lives (life_steps l past d) (life_start l past d))))) in
+    let few : length waits ≤ 1024 =
+    subst (λ (x : End). length (queue (ends (flow l x))) ≤ 1024)
+    (sym (end_is side (link_behind past) (lives (life_steps l past d) (life_start l past d)) d.lived.by.on))
+    (few_behind side l past order) in
+    let all = ap (λ (ns : List ℕ). length ns) (queue_since l past d side) in
+    let parts = length-append (left_since side l past) (map length waits) in
+    let one = length-map waits length in
+    let two = length-map (submitted_since side l past) length in
+    omega (arith, all, parts, one, two, few)
+
 pub queues_are_short : (past : List Group) → KeepsOrder past → QueuesAreShort past
 queues_are_short [] order = tt
-queues_are_short (g ∷ past) (right, order) = (few_wait (g ∷ past) (right, order), queues_are_short past order)
+queues_are_short (g ∷ past) (right, order) =
+    ((few_wait (g ∷ past) (right, order), few_signals_wait (g ∷ past) (right, order)), queues_are_short past order)

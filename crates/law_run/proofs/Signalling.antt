@@ -1,7 +1,7 @@
 -- Each signalling bearer of a journal hands up the first SDUs of those submitted at the other end since the last
 -- handover.
 use Rattle.std.proofs.Common.{◌≡◌, ◌<◌, arith, ℕ, ◌==◌, nat_lt, Bool, true, false, ◌||◌, if◌then◌else◌, Some, None}
-use Rattle.std.proofs.Common.{List, [], ◌∷◌, ◌++◌, append-nil, append_assoc, refl, ap, sym, subst, ◌∙◌}
+use Rattle.std.proofs.Common.{List, [], ◌∷◌, ◌++◌, map, length, append-nil, append_assoc, refl, ap, sym, subst, ◌∙◌}
 use Rattle.std.proofs.lemmas.Bool.Decides.{nat_tests}
 use Rattle.std.proofs.lemmas.List.Concat.{flat_map-append}
 use Rattle.std.proofs.lemmas.List.Elements.{filter-append}
@@ -49,7 +49,12 @@ use Rattle.law_air.proofs.TwoEnds.Staying.{LivedIn, bearers_live_in, LivesAnew, 
 use Rattle.law_deliver.specs.SrbChannel.Running.{Life, running, first_life}
 use Rattle.law_deliver.proofs.SrbChannel.Laws.{Living, first_living, all_live}
 use Rattle.law_deliver.proofs.SrbChannel.Running.{Start, down, up, all_down, all_up, none_between, none_lost}
-use Rattle.law_deliver.proofs.SrbChannel.Running.{none_lost_between, starts_first, starts_anew}
+use Rattle.law_deliver.proofs.SrbChannel.Running.{none_lost_between, starts_first, starts_anew, stands_at}
+use Rattle.law_deliver.proofs.SrbChannel.Leaving.{AreInOneLife, signals_tell_what_leaves, none_leaves_between}
+use Rattle.law_bearer.specs.AnyBearer.Calls.{ends}
+use Rattle.law_bearer.specs.AnyBearer.Queue.{queue}
+use Rattle.promises.specs.Taken.{length_in, lengths_on}
+use Rattle.promises.specs.Takes.{left_since}
 use Rattle.promises.specs.Arrival.{entries_ended}
 use Rattle.promises.specs.Delivery.{forges, is_forged, sets_timer}
 use Rattle.promises.specs.Parts.{is_handover, part_of_line}
@@ -86,6 +91,19 @@ lost_then : (l : ℕ) (side : Side) (past : List Group) (g : Group)
     → losses_since side l (g ∷ past) ≡ losses_since side l past ++ losses_on l (events_of side g.events)
 lost_then l side past g = lost_both l side (history past) (records.Line g.number g.line ∷ g.events)
 
+-- ---- what left its queue
+
+left_both : (l : ℕ) (side : Side) (xs ys : List Record)
+    → lengths_on l (events_of side (xs ++ ys)) ≡ lengths_on l (events_of side xs) ++ lengths_on l (events_of side ys)
+left_both l side xs ys =
+    ap (lengths_on l) (told_both side xs ys (events_of side xs) (events_of side ys) refl refl)
+    ∙ flat_map-append (length_in l) (events_of side xs) (events_of side ys)
+
+left_then : (l : ℕ) (side : Side) (past : List Group) (g : Group)
+    → lengths_on l (events_of side (history (g ∷ past)))
+    ≡ lengths_on l (events_of side (history past)) ++ lengths_on l (events_of side g.events)
+left_then l side past g = left_both l side (history past) (records.Line g.number g.line ∷ g.events)
+
 -- ---- a channel of signalling, behind groups
 
 -- what goes by air isn't looked at
@@ -105,6 +123,7 @@ pub record IsSignalling (l : ℕ) (past : List Group) : Type 0 where
   pub delivered_is : (side : Side) → delivered_since side l past ≡ ups_on l (events_of side told)
   pub submitted_is : (side : Side) → submitted_since side l past ≡ handed side l
   pub lost_is : (side : Side) → losses_since side l past ≡ losses_on l (events_of side told)
+  pub left_is : (side : Side) → left_since side l past ≡ lengths_on l (events_of side told)
   pub senders : (side : Side) → HasSender side l past
 
 -- ---- no discard timers are set on it
@@ -133,11 +152,11 @@ told_ups l side xs ys =
     ap (ups_on l) (told_both side xs ys (events_of side xs) (events_of side ys) refl refl)
     ∙ flat_map-append (up_on l) (events_of side xs) (events_of side ys)
 
-kept_by : (b : Bool) (xs : List (List ℕ)) → b ≡ false → (if b then [] else xs) ≡ xs
+kept_by : {A : Type 0} (b : Bool) (xs : List A) → b ≡ false → (if b then [] else xs) ≡ xs
 kept_by true xs e = absurd cc
 kept_by false xs e = refl
 
-dropped_by : (b : Bool) (xs : List (List ℕ)) → b ≡ true → (if b then [] else xs) ≡ []
+dropped_by : {A : Type 0} (b : Bool) (xs : List A) → b ≡ true → (if b then [] else xs) ≡ []
 dropped_by true xs e = refl
 dropped_by false xs e = absurd cc
 
@@ -186,8 +205,20 @@ stays_on l past g right order other own here d =
           (ap (λ (ys : List Record). losses_on l (events_of side ys)) right.events_are
           ∙ ap (losses_on l) (x.told_are side))
           ∙ sym (lost_both l side d.told x.more);
+      left_is = λ side.
+          ap (λ (ns : List ℕ). ns ++ lengths_on l (events_of side g.events))
+          (kept_by (is_handover g.line) (left_since side l past) here ∙ d.left_is side)
+          ∙ ap (λ (ns : List ℕ). lengths_on l (events_of side d.told) ++ ns)
+          (ap (λ (ys : List Record). lengths_on l (events_of side ys)) right.events_are
+          ∙ ap (lengths_on l) (x.told_are side))
+          ∙ sym (left_both l side d.told x.more);
       senders = λ side. sender_goes side l past g right order other (d.senders side);
     }
+
+in_one_life : (xs : List AirStep) → AreInLife xs → AreInOneLife xs
+in_one_life [] h = tt
+in_one_life (InLife s ∷ xs) h = in_one_life xs h
+in_one_life (Moves keys ∷ xs) h = absurd h
 
 -- ---- what has come of the running life
 
@@ -226,6 +257,17 @@ module _ (l : ℕ) (past : List Group) (d : IsSignalling l past) where
   none_is_lost side =
       d.lost_is side ∙ ap (losses_on l) (d.lived.by.told_is side)
       ∙ none_lost l d.nb d.ue living.near living.far living.begun steps living.runs living.calls side
+
+  -- what has left the queue, and what waits
+  pub queue_since : (side : Side)
+      → left_since side l past ++ map length (queue (ends (flow l (end_at side (lives steps start)))))
+      ≡ map length (submitted_since side l past)
+  queue_since side =
+      let waits = map length (queue (ends (flow l (end_at side (lives steps start))))) in
+      ap (λ (ns : List ℕ). ns ++ waits) (d.left_is side ∙ ap (lengths_on l) (d.lived.by.told_is side))
+      ∙ (signals_tell_what_leaves l d.nb d.ue living.near living.far living.begun steps d.lived.by.living
+      (in_one_life steps d.lived.in_life) side
+      ∙ ap (λ (xs : List (List ℕ)). map length xs) (was_submitted_is side))
 
   as_told : {us vs ss ts : List (List ℕ)} (P : List (List ℕ) → List (List ℕ) → Type 0) → us ≡ vs → ss ≡ ts → P us ss
       → P vs ts
@@ -288,6 +330,10 @@ moves_on l past g user rrc integrity right order d =
     ap (losses_on l) (x.moves.told_is side)
     ∙ none_lost_between l d.nb d.ue alive.near alive.far alive.begun (steps l past d) alive.runs alive.calls side
     keys in
+    let none_left' : (side : Side) → lengths_on l (events_of side leaving) ≡ [] = λ side.
+    ap (lengths_on l) (x.moves.told_is side)
+    ∙ none_leaves_between side l (end_at side a) keys
+    (stands_at l d.nb d.ue alive.near alive.far alive.begun (steps l past d) alive.runs alive.calls side) in
     record {
       low = d.low;
       nb = nb;
@@ -310,18 +356,21 @@ moves_on l past g user rrc integrity right order d =
           ∙ ap (λ (xs : List Event). xs ++ losses_on l (events_of side g.events)) (none_is_lost l past d side)
           ∙ ap (λ (ys : List Record). losses_on l (events_of side ys)) events_are ∙ lost_both l side leaving behind'
           ∙ ap (λ (xs : List Event). xs ++ losses_on l (events_of side behind')) (none_lost' side);
+      left_is = λ side.
+          ap (λ (ys : List Record). lengths_on l (events_of side ys)) events_are ∙ left_both l side leaving behind'
+          ∙ ap (λ (ns : List ℕ). ns ++ lengths_on l (events_of side behind')) (none_left' side);
       senders = λ side. sender_goes side l past (record g { line = line }) right order refl (d.senders side);
     }
 
 -- ---- where nothing went up or was submitted at all
 
-none_both : (xs ys : List (List ℕ)) → xs ++ ys ≡ [] → (xs ≡ []) × (ys ≡ [])
+none_both : {A : Type 0} (xs ys : List A) → xs ++ ys ≡ [] → (xs ≡ []) × (ys ≡ [])
 none_both [] ys e = (refl, e)
 none_both (x ∷ xs) ys e = absurd cc
 
-if_none : (b : Bool) (xs ys : List (List ℕ)) → xs ≡ [] → ys ≡ [] → (if b then [] else xs) ++ ys ≡ []
+if_none : {A : Type 0} (b : Bool) (xs ys : List A) → xs ≡ [] → ys ≡ [] → (if b then [] else xs) ++ ys ≡ []
 if_none true xs ys p q = q
-if_none false xs ys p q = ap (λ (zs : List (List ℕ)). zs ++ ys) p ∙ q
+if_none false xs ys p q = ap (λ zs. zs ++ ys) p ∙ q
 
 none_delivered : (side : Side) (l : ℕ) (past : List Group) → delivered side l past ≡ []
     → delivered_since side l past ≡ []
@@ -341,6 +390,15 @@ none_submitted side l (g ∷ past) e =
     if_none (is_handover g.line) (submitted_since side l past)
     (handed_in side l (part_of_line g.line) g.events ++ looped_at side l g.events) (none_submitted side l past parts.0)
     parts.1
+
+none_left : (side : Side) (l : ℕ) (past : List Group) → lengths_on l (events_of side (history past)) ≡ []
+    → left_since side l past ≡ []
+none_left side l [] e = refl
+none_left side l (g ∷ past) e =
+    let parts = none_both (lengths_on l (events_of side (history past))) (lengths_on l (events_of side g.events))
+    (sym (left_then l side past g) ∙ e) in
+    if_none (is_handover g.line) (left_since side l past) (lengths_on l (events_of side g.events))
+    (none_left side l past parts.0) parts.1
 
 -- ---- the line in which its bearers come
 
@@ -380,6 +438,7 @@ begin_by past g c options right order kind =
       delivered_is = λ side. none_delivered side l all (ups_told side l all ∙ ap (ups_on l) (now'.none_told side));
       submitted_is = λ side. none_submitted side l all (now'.none_submitted side l);
       lost_is = λ side. ap (losses_on l) (now'.none_told side);
+      left_is = λ side. none_left side l all (ap (lengths_on l) (now'.none_told side));
       senders = at_each (λ side. HasSender side l _) (sender_begins Nb l c keys _ nb_begun)
           (sender_begins Ue l c keys _ ue_begun);
     }

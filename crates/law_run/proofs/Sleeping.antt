@@ -1,13 +1,13 @@
 -- Where no line configures DRX the terminal never sleeps.
-use Rattle.std.proofs.Common.{◌≡◌, ◌⊎◌, inl, inr, ℕ, zero, suc, ◌+◌, Bool, true, false, cond, Option, Some, None, List}
-use Rattle.std.proofs.Common.{[], ◌∷◌, ◌++◌, refl, ap, sym, subst, arith, ◌∙◌}
+use Rattle.std.proofs.Common.{◌≡◌, ◌⊎◌, inl, inr, ℕ, zero, suc, ◌+◌, Bool, true, false, cond, Option, List, [], ◌∷◌}
+use Rattle.std.proofs.Common.{◌++◌, refl, ap, sym, subst, arith, ◌∙◌}
 use Rattle.std.specs.List.{filter}
 use Rattle.std.proofs.lemmas.List.Elements.{filter-append}
 use Rattle.air_link.specs.Draining.{drain_tti, carried, receivers_expire, is_drained}
 use Rattle.air_link.specs.Link.{Link, fresh as fresh_link}
 use Rattle.air_link.specs.Ttis.{sleeps, sleeps_by, tti}
 use Rattle.air_record.specs.Cells.{next_keys}
-use Rattle.air_record.specs.Outcomes.{intact, missed}
+use Rattle.air_record.specs.Outcomes.{intact}
 use Rattle.air_record.specs.declared.line.Line.{Line}
 use Rattle.air_record.specs.declared.line.Line.TheVariants as lines
 use Rattle.air_record.specs.declared.line.Outcome.{Outcome}
@@ -15,7 +15,7 @@ use Rattle.air_record.specs.declared.record.Record.{Record}
 use Rattle.air_record.specs.declared.record.Record.TheVariants as records
 use Rattle.air_run.specs.Draining.{shown, ttis, senders_unless, round, left_by, rounds, budget, drained}
 use Rattle.air_run.specs.Playing.{keys_or_none, acted, played}
-use Rattle.air_run.specs.Run.{fresh, behind_line}
+use Rattle.air_run.specs.Run.{fresh}
 use Rattle.air_text.specs.Groups.{Group}
 use Rattle.eps_sec.specs.declared.Keys.{Keys}
 use Rattle.law_air.specs.AnyCalls.Calls as calls
@@ -24,13 +24,13 @@ use Rattle.law_air.proofs.AnyCalls.Passing.{tti_adds}
 use Rattle.law_air.proofs.AnyCalls.Waking.{HasNoDrx, tti_none, drain_none, submitting_same, call_none, receivers_same}
 use Rattle.law_air.proofs.AnyCalls.Waking.{senders_same}
 use Rattle.prioritise.proofs.ChannelLemmas.{both_false}
-use Rattle.promises.specs.Air.{ttis as ttis_behind, sleeping, Flies, FliesIntact, InTurn, AreFlown}
+use Rattle.promises.specs.Air.{ttis as ttis_behind, Flies, FliesIntact, InTurn, AreFlown}
 use Rattle.promises.specs.Flights.{FliesUp, IsUnanswered, IsDown, IsUp}
 use Rattle.promises.specs.Parts.{part_of_line}
 use Rattle.promises.specs.Records.{is_of_air}
 use Rattle.promises.specs.Sleeps.{sets_drx, is_drx_set, is_sleep, SleepsBehindDrx}
 use Rattle.test_loop.specs.declared.Mode.TheVariants.{Off, A, B}
-use Rattle.law_run.specs.Order.{IsRight, KeepsOrder}
+use Rattle.law_run.specs.Order.{KeepsOrder}
 use Rattle.law_run.proofs.Past.{behind, link_behind}
 
 -- ---- a line that doesn't configure it

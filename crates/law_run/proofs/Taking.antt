@@ -1,6 +1,6 @@
 -- Each `take` of a journal on a channel with an acknowledged data bearer names the SDU of its COUNT; on one with an
 -- unacknowledged data bearer SDUs leave the queue in their order.
-use Rattle.std.proofs.Common.{◌≡◌, false, ℕ, List, [], ◌∷◌, ◌++◌, map, length, take, subst, ap, sym, ◌∙◌, Some}
+use Rattle.std.proofs.Common.{◌≡◌, ℕ, List, [], ◌∷◌, ◌++◌, map, length, take, subst, ap, sym, ◌∙◌}
 use Rattle.std.proofs.Math.Seq.{take-append_seam}
 use Rattle.std.specs.List.{AllByRecursion}
 use Rattle.air_text.specs.Groups.{Group, history}
@@ -12,13 +12,12 @@ use Rattle.l2_types.specs.declared.side.Side.TheVariants.{Nb, Ue}
 use Rattle.law_bearer.specs.AnyBearer.Calls.{ends}
 use Rattle.law_bearer.specs.AnyBearer.Queue.{queue}
 use Rattle.law_node.specs.Holding.{flow}
-use Rattle.promises.specs.Configs.{config_of}
-use Rattle.promises.specs.Delivery.{is_forged}
 use Rattle.promises.specs.Flows.{submitted}
 use Rattle.promises.specs.Arrival.{taken as taken_told}
 use Rattle.promises.specs.Records.{events_of}
 use Rattle.promises.specs.Taken.{takes_on, NamesSdu, lengths_on}
-use Rattle.promises.specs.Takes.{AllTakesAreNamed, TakesName, LeaveInOrder, AllLeaveInOrder, SdusLeaveInOrder}
+use Rattle.promises.specs.Takes.{AllTakesAreNamed, TakesName, AllLeaveInOrder, SdusLeaveInOrder, left_since}
+use Rattle.promises.specs.Takes.{AllLeaveInLife, SignalsLeaveInOrder}
 use Rattle.law_deliver.specs.AmChannel.Delivery.{taken_at, HasBegun}
 use Rattle.law_deliver.specs.AmChannel.Lives.{lives, end_at}
 use Rattle.law_deliver.specs.AmFlow.Air.{outset}
@@ -26,6 +25,8 @@ use Rattle.law_deliver.proofs.AmChannel.Delivery.{channels_tell_what_is_taken}
 use Rattle.law_deliver.proofs.UmChannel.Queue.{channels_tell_what_leaves}
 use Rattle.law_run.specs.Order.{KeepsOrder}
 use Rattle.law_run.proofs.Arriving.{taken_is}
+use Rattle.law_run.proofs.Signalling.{is_signalling, queue_since, steps as life_steps, start as life_start}
+use Rattle.promises.specs.Signalling.{submitted_since}
 use Rattle.law_run.proofs.Delivering.{IsDelivering, steps, start, alike, is_delivering, tells, was_submitted_is}
 
 are_named : (past : List Group) → KeepsOrder past → AllTakesAreNamed past
@@ -60,7 +61,7 @@ queue_told l c past d side kind =
     ap (λ (es : List Event). lengths_on l es ++ waits) (sym (tells l c past d side))
     ∙ (channels_tell_what_leaves l c d.keys d.nb d.ue side (steps l c past d) kind (begun_at l c past d side)
     d.lived.by.living
-    ∙ ap (map length) (was_submitted_is l c past d side))
+    ∙ ap (λ (xs : List (List ℕ)). map length xs) (was_submitted_is l c past d side))
 
 front : (xs ys zs : List ℕ) → xs ++ ys ≡ zs → xs ≡ take (length xs) zs
 front xs ys zs q = sym (take-append_seam xs ys) ∙ ap (take (length xs)) q
@@ -76,3 +77,17 @@ pub sdus_leave_in_order : (past : List Group) → KeepsOrder past → SdusLeaveI
 sdus_leave_in_order [] order = tt
 sdus_leave_in_order (g ∷ past) (right, order) =
     (leave_in_order (g ∷ past) (right, order), sdus_leave_in_order past order)
+
+-- ---- on a channel with a signalling bearer
+
+leave_in_life : (past : List Group) → KeepsOrder past → AllLeaveInLife past
+leave_in_life past order side l c e kind own =
+    let d = is_signalling l past c order kind e own in
+    front (left_since side l past)
+    (map length (queue (ends (flow l (end_at side (lives (life_steps l past d) (life_start l past d)))))))
+    (map length (submitted_since side l past)) (queue_since l past d side)
+
+pub signals_leave_in_order : (past : List Group) → KeepsOrder past → SignalsLeaveInOrder past
+signals_leave_in_order [] order = tt
+signals_leave_in_order (g ∷ past) (right, order) =
+    (leave_in_life (g ∷ past) (right, order), signals_leave_in_order past order)

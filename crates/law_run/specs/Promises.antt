@@ -23,7 +23,7 @@ use Rattle.promises.specs.Silent.{FailedAreSilent}
 use Rattle.law_run.specs.Sums.{sums_at}
 use Rattle.law_run.specs.Texts.{NoneMeet}
 use Rattle.promises.specs.Sleeps.{SleepsBehindDrx}
-use Rattle.promises.specs.Takes.{TakesName, SdusLeaveInOrder}
+use Rattle.promises.specs.Takes.{TakesName, SdusLeaveInOrder, SignalsLeaveInOrder}
 use Rattle.promises.specs.Telling.{LinesTell}
 use Rattle.promises.specs.Zero.{BringInOrder}
 
@@ -61,6 +61,8 @@ pub record IsPromised (whole : Bool) (octets : List ℕ) (played : Played) : Typ
   pub takes : TakesName past
   -- each unacknowledged data bearer takes or discards the SDUs that it is submitted in their order
   pub leaving : SdusLeaveInOrder past
+  -- and so does each signalling bearer those submitted since the last handover
+  pub signals_leaving : SignalsLeaveInOrder past
   -- and no more than 1024 SDUs wait
   pub queues : QueuesAreShort past
   -- and all of it but what is discarded once a drain tells that it is drained, but where the sender

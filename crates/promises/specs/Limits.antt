@@ -11,7 +11,9 @@ use Rattle.promises.specs.Configs.{config_of}
 use Rattle.promises.specs.Delivery.{is_forged}
 use Rattle.promises.specs.Flows.{submitted}
 use Rattle.promises.specs.Records.{events_of}
+use Rattle.promises.specs.Signalling.{submitted_since}
 use Rattle.promises.specs.Taken.{leaves, lengths_on}
+use Rattle.promises.specs.Takes.{left_since}
 
 -- how many are told of as taken, each once, or discarded
 abbrev pub gone : Kind → ℕ → ℕ → List Event → ℕ
@@ -33,7 +35,14 @@ FewWait past =
     → (config.kind ≡ Um) ⊎ (config.kind ≡ Am) → is_forged past ≡ false
     → waiting config lcid side past ≤ MOST_WAITING
 
+-- on each channel with a signalling bearer, of those submitted since the last handover
+abbrev pub FewSignalsWait : List Group → Type 0
+FewSignalsWait past =
+    (side : Side) (lcid : ℕ) (config : BearerConfig) → config_of lcid past ≡ Some config
+    → config.kind ≡ Srb → is_forged past ≡ false
+    → length (submitted_since side lcid past) - length (left_since side lcid past) ≤ MOST_WAITING
+
 -- behind each group, of which the newest stands first
 abbrev pub QueuesAreShort : List Group → Type 0
 QueuesAreShort [] = Unit {0}
-QueuesAreShort (g ∷ past) = FewWait (g ∷ past) × QueuesAreShort past
+QueuesAreShort (g ∷ past) = (FewWait (g ∷ past) × FewSignalsWait (g ∷ past)) × QueuesAreShort past

@@ -1,19 +1,17 @@
 -- Each block that a process of an end holds can be read, and each SDU in it is of a channel of the end.
-use Rattle.std.proofs.Common.{◌≡◌, ◌⊎◌, inl, inr, ◌≤◌, ℕ, zero, suc, ◌%◌, ◌==◌, nat_lt, Bool, true, false, cond, ◌||◌}
+use Rattle.std.proofs.Common.{◌≡◌, inl, inr, ◌≤◌, ℕ, zero, suc, ◌%◌, ◌==◌, nat_lt, Bool, true, false, ◌||◌}
 use Rattle.std.proofs.Common.{if◌then◌else◌, Option, Some, None, IfSome, Result, Ok, Err, List, [], ◌∷◌, ◌++◌, map}
-use Rattle.std.proofs.Common.{length, replicate, option_map, refl, ap, sym, subst, arith, ◌∙◌}
+use Rattle.std.proofs.Common.{length, replicate, option_map, refl, ap, sym, subst, ◌∙◌}
 use Rattle.std.specs.Prelude.{unwrap_or}
 use Rattle.std.specs.List.{AllByRecursion, list_any}
 use Rattle.std.proofs.lemmas.Bool.{cases_eq, or_right}
-use Rattle.std.proofs.lemmas.Bool.Decides.{nat_tests}
 use Rattle.air_link.specs.Downlink.{block_at as octets_at}
-use Rattle.bearer.specs.Taking.{pdus}
 use Rattle.bearer_types.specs.Sides.{sent_by}
 use Rattle.harq.specs.declared.sender.Order.{Order}
 use Rattle.harq.specs.declared.sender.Visit.{Visit}
 use Rattle.harq.specs.declared.sender.Visit.TheVariants.{New, Resend, Silent}
-use Rattle.harq.specs.Sending.{Sending, Block as HeldBlock, fresh as fresh_sender, resent, process_at}
-use Rattle.harq.specs.Sending.{visited as visited_by, visit_answer, after_visit, after_load, after_feedback, held_of}
+use Rattle.harq.specs.Sending.{Sending, Block as HeldBlock, fresh as fresh_sender, resent, process_at, visit_answer}
+use Rattle.harq.specs.Sending.{after_visit, held_of}
 use Rattle.harq.specs.SendHistory.{Turn as Turned, closed, turned}
 use Rattle.l2_node.specs.Building.{IsEnough, visit, visited, built, built_by, loaded}
 use Rattle.l2_node.specs.End.{End, fresh, with_bearer, reset, with_visits}
@@ -38,7 +36,7 @@ use Rattle.law_node.proofs.Holders.{fresh_none}
 use Rattle.law_air.specs.AnyCalls.Order.{channels_of}
 use Rattle.law_air.specs.AnyCalls.Zero.{HasCome}
 use Rattle.law_air.specs.TwoEnds.On.{block_at}
-use Rattle.law_air.proofs.AnyCalls.Blocks.{IsWhole, visited_whole, reached_whole, some_by, block_is}
+use Rattle.law_air.proofs.AnyCalls.Blocks.{visited_whole, reached_whole, some_by, block_is}
 use Rattle.law_air.proofs.AnyCalls.Channels.{call_channels}
 use Rattle.law_air.proofs.AnyCalls.Going.{run_on, given_on}
 use Rattle.law_air.proofs.AnyCalls.Orders.{IsReady, known_is}

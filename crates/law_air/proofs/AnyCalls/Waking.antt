@@ -7,20 +7,18 @@ use Rattle.air_link.specs.Telling.{delivers, gathers, fails, noted, tells, tells
 use Rattle.air_link.specs.Loops.{loses, returns_by, returns, returns_all, kept_by, takes, takes_all, loops, owed, paid}
 use Rattle.air_link.specs.Loops.{pays, loop_set}
 use Rattle.air_link.specs.Downlink.{visits as visits_process, builds, built_ndi, block_at, sends, receives, hears}
-use Rattle.air_link.specs.Downlink.{feeds, saw_new, first_seen, decoded, damaged, sees, assigned, answer, comes}
-use Rattle.air_link.specs.Downlink.{hears_by}
-use Rattle.air_link.specs.Downlink.{aired as aired_down, lands, unseen, goes_down, down_order, down_by, downlink}
-use Rattle.air_link.specs.Uplink.{up_order, is_intact, granted, hears_if, aired as aired_up, awake, goes_up, up_by}
-use Rattle.air_link.specs.Uplink.{answers, grants, passes, uplink}
+use Rattle.air_link.specs.Downlink.{saw_new, first_seen, sees, assigned, answer, comes, hears_by, lands, unseen}
+use Rattle.air_link.specs.Downlink.{goes_down, down_order, down_by, downlink}
+use Rattle.air_link.specs.Uplink.{up_order, is_intact, hears_if, awake, goes_up, up_by, answers, grants, passes, uplink}
 use Rattle.air_link.specs.Ttis.{begins, sleeps, tells_sleep, grows, ticks, times, keeps_first, timed, tti_by, tti}
 use Rattle.air_link.specs.Draining.{drain_tti, timer_expires, receiver_expires, all_receivers_expire, receivers_expire}
 use Rattle.air_link.specs.Draining.{all_senders_expire, senders_expire}
-use Rattle.air_link.specs.Lines.{bears, discards, visits, reports, listens, submits_by, submitting, expires_by}
-use Rattle.air_link.specs.Lines.{expiring, expires_alone, expires, forges, moves, hands_over}
+use Rattle.air_link.specs.Lines.{bears, discards, visits, reports, submits_by, submitting, expires_by, expiring}
+use Rattle.air_link.specs.Lines.{expires_alone, expires, forges, moves, hands_over}
 use Rattle.air_record.specs.declared.line.Fate.{Fate}
 use Rattle.air_record.specs.declared.line.Fate.TheVariants.{Ok, Bad, Miss}
 use Rattle.air_record.specs.declared.line.Outcome.{Outcome}
-use Rattle.air_record.specs.Outcomes.{intact, missed, turned}
+use Rattle.air_record.specs.Outcomes.{intact, missed}
 use Rattle.bearer_types.specs.Lcids.{all_lcids}
 use Rattle.bearer_types.specs.declared.event.Event.{Event}
 use Rattle.bearer_types.specs.declared.event.Event.TheVariants as events

@@ -1,6 +1,6 @@
 -- Each SDU that a bearer tells of as taken is that of its COUNT, with its length.
 use Rattle.std.proofs.Common.{◌≡◌, ℕ, ◌==◌, Bool, true, if◌then◌else◌, Option, Some, None, Result, Ok, Err, List, []}
-use Rattle.std.proofs.Common.{◌∷◌, ◌++◌, length, append-nil, slice_get, option_map, refl, ap, sym, subst, ◌∙◌, arith}
+use Rattle.std.proofs.Common.{◌∷◌, ◌++◌, length, slice_get, option_map, refl, ap, sym, subst, ◌∙◌, arith}
 use Rattle.std.specs.List.{AllByRecursion, flat_map}
 use Rattle.std.proofs.lemmas.Bool.Decides.{nat_tests}
 use Rattle.std.proofs.lemmas.Grind.{flat_map-append}

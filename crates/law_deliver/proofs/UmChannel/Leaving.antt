@@ -1,10 +1,7 @@
 -- The SDUs of an unacknowledged data bearer leave its queue in their order, each told by its length.
-use Rattle.std.proofs.Common.{◌≡◌, ℕ, zero, suc, ◌+◌, ◌-◌, ◌==◌, Bool, true, false, if◌then◌else◌, Option, Some, None}
-use Rattle.std.proofs.Common.{List}
-use Rattle.std.proofs.Common.{[], ◌∷◌, ◌++◌, map, length, take, drop, append-nil, append_assoc, slice_get, option_map}
-use Rattle.std.proofs.Common.{unwrap_or, refl, ap, sym, subst, ◌∙◌, arith}
+use Rattle.std.proofs.Common.{◌≡◌, ℕ, ◌+◌, ◌-◌, Bool, true, false, if◌then◌else◌, Option, Some, None, List, [], ◌∷◌}
+use Rattle.std.proofs.Common.{◌++◌, map, length, append-nil, append_assoc, unwrap_or, refl, ap, sym, subst, ◌∙◌}
 use Rattle.std.specs.List.{flat_map}
-use Rattle.std.proofs.lemmas.Bool.Decides.{nat_tests}
 use Rattle.std.proofs.lemmas.Grind.{flat_map-append}
 use Rattle.std.proofs.lemmas.List.{map-append}
 use Rattle.bearer.specs.declared.flow.Flow.{Flow}
@@ -20,12 +17,11 @@ use Rattle.bearer.specs.Unacknowledged.Lives.{stopped, restarted}
 use Rattle.bearer.specs.Unacknowledged.State.{State}
 use Rattle.bearer.specs.Unacknowledged.Taking.{Feeding, fed, feeds, feeding, size_in, idle_told, data_told, has_more}
 use Rattle.bearer.specs.Unacknowledged.Taking.{why_idle, taking, after_taking}
-use Rattle.bearer_pdcp.specs.Discarding.{without_late, late_told, after_tick, tick_told}
+use Rattle.bearer_pdcp.specs.Discarding.{tick_told}
 use Rattle.bearer_pdcp.specs.Ends.{Ends}
 use Rattle.bearer_pdcp.specs.Lives.{restarted as restarted_pdcp}
-use Rattle.bearer_pdcp.specs.Taking.{next_told, taking_told, after_taking as after_pdcp}
+use Rattle.bearer_pdcp.specs.Taking.{taking_told, after_taking as after_pdcp}
 use Rattle.bearer_types.specs.declared.event.Event.{Event}
-use Rattle.bearer_types.specs.declared.event.Event.TheVariants as events
 use Rattle.eps_sec.specs.declared.Keys.{Keys}
 use Rattle.l2_num.specs.Timers.{ends as ends_now}
 use Rattle.l2_types.specs.declared.event.Clock.TheVariants.{Reorder}
@@ -34,99 +30,39 @@ use Rattle.law_bearer.specs.AnyBearer.Calls.{Call, Submit, Take, Arrive, Expire,
 use Rattle.law_bearer.specs.AnyBearer.Calls.{ends, run_bearer}
 use Rattle.law_bearer.specs.AnyBearer.Queue.{queue, submits, all_submitted}
 use Rattle.law_bearer.proofs.AnyBearer.Between.{IsBetween}
-use Rattle.law_bearer.proofs.AnyBearer.Parts.{Passed, pdcp_took, by_tx}
-use Rattle.law_bearer.proofs.AnyBearer.Sender.{nothing, submitting, submits_one, sdus, moved_queue}
+use Rattle.law_bearer.proofs.AnyBearer.Sender.{submitting, submits_one, sdus, moved_queue}
 use Rattle.law_bearer.proofs.AnyBearer.Unacknowledged.{take_left, arrival_moves, expiry_moves, timed, before_discards}
 use Rattle.law_bearer.proofs.AnyBearer.Unacknowledged.{ticked_is, stop_ends, restart_is}
 use Rattle.law_node.proofs.Pdcp.{OfPdcp, arrives, expires, ticks_of, discards_of, takes_of, moves_of}
-use Rattle.law_node.proofs.Plain.{IsPlainSender, IsPlain, took_is, owes_nothing, plain_passes}
+use Rattle.law_node.proofs.Plain.{IsPlainSender, IsPlain, owes_nothing, plain_passes}
 use Rattle.pdcp_pdu.specs.Kinds.{is_am}
 use Rattle.pdcp_pdu.specs.declared.pdu.PdcpKind.{PdcpKind}
 use Rattle.pdcp_pdu.specs.declared.pdu.PdcpKind.TheVariants.{Um as UmKind}
-use Rattle.pdcp_tx.specs.State.{State as Sending, Offer, owed_offers, again_offer, new_offers, offers, written}
-use Rattle.pdcp_tx.specs.State.{took_new}
-use Rattle.pdcp_tx.specs.State.{took, taking as pdcp_taking, submitted as pdcp_submitted, is_overdue, after_late}
-use Rattle.pdcp_tx.specs.State.{ticked, waiting_on, restarted as restarted_sending}
+use Rattle.pdcp_tx.specs.State.{State as Sending, Offer, offers, submitted as pdcp_submitted, waiting_on}
+use Rattle.pdcp_tx.specs.State.{restarted as restarted_sending}
 use Rattle.pdcp_tx_store.specs.Waiting.{Waits}
-use Rattle.pdcp_tx_store.specs.declared.given.Sent.{Sent}
 use Rattle.promises.specs.Taken.{length_in, lengths_on}
 use Rattle.rlc_pdu.specs.declared.Taken.{Taken}
 use Rattle.rlc_pdu.specs.declared.Taken.TheVariants.{Piece, Idle, Small, Shut, Held, Stopped}
 use Rattle.rlc_um.specs.Sender.{is_hungry, taken as rlc_taken}
 use Rattle.law_deliver.specs.UmFlow.Pair.{called}
 use Rattle.law_deliver.proofs.AmChannel.Ends.{lengths_in, all_lengths, length_off}
-use Rattle.law_deliver.proofs.AmChannel.Leaving.{stays_on, late_waiting}
-use Rattle.law_deliver.proofs.AmFlow.Events.{OfHearing, none_arriving, none_expiring, none_ending}
+use Rattle.law_deliver.proofs.AmChannel.Leaving.{stays_on}
+use Rattle.law_deliver.proofs.AmChannel.Lengths.{lens, one_taken, tick_lens, hears_none, same_lens}
+use Rattle.law_deliver.proofs.AmFlow.Events.{none_arriving, none_expiring, none_ending}
 use Rattle.law_deliver.proofs.UmChannel.Bearers.{between_called, between_next, restarts}
 use Rattle.law_deliver.proofs.UmFlow.Sending.{is_called}
 
-abbrev lens : List Waits → List ℕ
-lens ws = map length (sdus ws)
-
--- ---- RLC takes the first that waits
-
-first_waits : (n : ℕ) (ws vs : List Waits) (w : Waits) → take n ws ≡ w ∷ vs → ws ≡ w ∷ drop 1 ws
-first_waits zero ws vs w q = let no : [] ≡ w ∷ vs = q in absurd cc
-first_waits (suc n) [] vs w q = let no : [] ≡ w ∷ vs = q in absurd cc
-first_waits (suc n) (x ∷ xs) vs w q =
-    let both : x ∷ take n xs ≡ w ∷ vs = q in
-    let same : x ≡ w = cc in
-    ap (λ (y : Waits). y ∷ xs) same
-
-offers_are : (kind : PdcpKind) (s : Sending) → IsPlainSender kind s
-    → offers s ≡ new_offers s.next (take (s.bound - s.next) s.waiting)
-unfolding offers
-offers_are kind s h =
-    let news = new_offers s.next (take (s.bound - s.next) s.waiting) in
-    ap (λ (o : Option (List ℕ)). owed_offers o ++ map again_offer s.again ++ news) h.owes_none
-    ∙ ap (λ (xs : List Sent). map again_offer xs ++ news) h.none_again
-
-none_told : (e : Ends) → offers e.tx ≡ [] → taking_told e ≡ []
-unfolding taking_told pdcp_taking
-none_told e q = ap (λ (xs : List Offer). next_told e.lcid e.kind
-    (option_map (λ o. written e.tx.kind e.tx.protection o.count o.text) (slice_get xs 0))) q
-
-one_told : (e : Ends) (n : ℕ) (text : List ℕ) (os : List Offer)
-    → offers e.tx ≡ record { count = Some n; text = text } ∷ os
-    → taking_told e ≡ events.Take e.lcid (Some n) (length text) ∷ []
-unfolding taking_told pdcp_taking
-one_told e n text os q = ap (λ (xs : List Offer). next_told e.lcid e.kind
-    (option_map (λ o. written e.tx.kind e.tx.protection o.count o.text) (slice_get xs 0))) q
+-- ---- RLC takes PDUs
 
 module _ (kind : PdcpKind) (off : is_am kind ≡ false) where
-  taken_by : (l : ℕ) (e : Ends) (ws : List Waits) → e.lcid ≡ l → IsPlainSender kind e.tx
-      → take (e.tx.bound - e.tx.next) e.tx.waiting ≡ ws
-      → lengths_on l (taking_told e) ++ lens (took e.tx).waiting ≡ lens e.tx.waiting
-  taken_by l e [] own h q =
-      let none = none_told e (offers_are kind e.tx h ∙ ap (new_offers e.tx.next) q) in
-      let left = took_is kind off e.tx h ∙ ap (λ (vs : List Waits). took_new vs e.tx) q in
-      ap (λ (es : List Event). lengths_on l es ++ lens (took e.tx).waiting) none
-      ∙ ap (λ (s : Sending). lens s.waiting) left
-  taken_by l e (w ∷ ws) own h q =
-      let here : (e.lcid == l) ≡ true = grind (arith, nat_tests, own) in
-      let told = one_told e e.tx.next w.sdu (new_offers (e.tx.next + 1) ws)
-      (offers_are kind e.tx h ∙ ap (new_offers e.tx.next) q) in
-      let left = took_is kind off e.tx h ∙ ap (λ (vs : List Waits). took_new vs e.tx) q in
-      let waits = first_waits (e.tx.bound - e.tx.next) e.tx.waiting ws w q in
-      ap (λ (es : List Event). lengths_on l es ++ lens (took e.tx).waiting) told
-      ∙ (ap (λ (s : Sending). lengths_on l (events.Take e.lcid (Some e.tx.next) (length w.sdu) ∷ []) ++ lens s.waiting)
-      left
-      ∙ (ap (λ (b : Bool). ((if b then length w.sdu ∷ [] else []) ++ []) ++ lens (drop 1 e.tx.waiting)) here
-      ∙ sym (ap lens waits)))
-
-  one_taken : (l : ℕ) (e : Ends) → e.lcid ≡ l → IsPlainSender kind e.tx
-      → lengths_on l (taking_told e) ++ lens (after_pdcp e).tx.waiting ≡ lens e.tx.waiting
-  one_taken l e own h =
-      ap (λ (s : Sending). lengths_on l (taking_told e) ++ lens s.waiting) (pdcp_took e)
-      ∙ taken_by l e (take (e.tx.bound - e.tx.next) e.tx.waiting) own h refl
-
   fed_told : (l : ℕ) (f : Feeding) → f.pdcp.lcid ≡ l → IsPlain kind f.pdcp
       → lengths_on l (fed f).events ++ lens (fed f).pdcp.tx.waiting ≡ lengths_on l f.events ++ lens f.pdcp.tx.waiting
   fed_told l f own h =
       let left = lens (after_pdcp f.pdcp).tx.waiting in
       ap (λ (ns : List ℕ). ns ++ left) (flat_map-append (length_in l) f.events (taking_told f.pdcp))
       ∙ (append_assoc (lengths_on l f.events) (lengths_on l (taking_told f.pdcp)) left
-      ∙ ap (λ (ns : List ℕ). lengths_on l f.events ++ ns) (one_taken l f.pdcp own h.sender))
+      ∙ ap (λ (ns : List ℕ). lengths_on l f.events ++ ns) (one_taken kind off l f.pdcp own h.sender))
 
   by_hunger : (b : Bool) (l : ℕ) (f g : Feeding)
       → lengths_on l g.events ++ lens g.pdcp.tx.waiting ≡ lengths_on l f.events ++ lens f.pdcp.tx.waiting
@@ -176,46 +112,6 @@ module _ (kind : PdcpKind) (off : is_am kind ≡ false) where
       ∙ feeds_told l (offers b.pdcp.tx) (size_in share) held
       (record { pdcp = b.pdcp; tx = b.tx; events = [] }) own h)
 
--- ---- discard timers
-
-lates_told : (l lcid : ℕ) (ws : List Waits) (s : Sending) → lcid ≡ l → s.waiting ≡ ws
-    → lengths_on l (late_told lcid ws s) ++ lens (without_late ws s).waiting ≡ lens ws
-lates_told l lcid [] s own q = ap lens q
-lates_told l lcid (w ∷ ws) s own q = by (is_overdue s) refl
-  where
-    by : (b : Bool) → is_overdue s ≡ b
-        → lengths_on l (if b then events.Discard lcid (length w.sdu) ∷ late_told lcid ws (after_late s) else [])
-        ++ lens (if b then without_late ws (after_late s) else s).waiting ≡ lens (w ∷ ws)
-    by true e =
-        let here : (lcid == l) ≡ true = grind (arith, nat_tests, own) in
-        let more = lengths_on l (late_told lcid ws (after_late s)) in
-        let left = lens (without_late ws (after_late s)).waiting in
-        ap (λ (c : Bool). ((if c then length w.sdu ∷ [] else []) ++ more) ++ left) here
-        ∙ ap (λ (ns : List ℕ). length w.sdu ∷ ns)
-        (lates_told l lcid ws (after_late s) own (late_waiting w ws s e q))
-    by false e = ap lens q
-
-tick_lens : (l : ℕ) (e : Ends) → e.lcid ≡ l
-    → lengths_on l (tick_told e) ++ lens (after_tick e).tx.waiting ≡ lens e.tx.waiting
-unfolding tick_told after_tick
-tick_lens l e own = lates_told l e.lcid e.tx.waiting (ticked e.tx) own refl
-
-hears_none : (l m : ℕ) → OfHearing (λ x. length_in l x ≡ []) m
-hears_none l m = record {
-  start = λ clock. refl;
-  stop = λ clock. refl;
-  expired = λ clock. refl;
-  up = λ sdu. refl;
-  fail = λ sn. refl;
-  drop = λ why. refl;
-  integrity = λ found wanted. refl;
-  bad_rlc = λ fault. refl;
-  bad_pdcp = λ fault. refl;
-}
-
-same_lens : (d e : Ends) → Passed d e nothing → lens e.tx.waiting ≡ lens d.tx.waiting
-same_lens d e p = ap (map length) (moved_queue d.tx e.tx nothing p.tx ∙ append-nil (sdus d.tx.waiting))
-
 told_same : (o : Option (List Event)) → told_of o ≡ unwrap_or o []
 told_same None = refl
 told_same (Some told) = refl
@@ -260,7 +156,7 @@ call_lens : (kind : PdcpKind) → is_am kind ≡ false → (l : ℕ) (b : State)
     → lengths_in l (Um b) c ++ lens (called b c).pdcp.tx.waiting ≡ lens b.pdcp.tx.waiting ++ map length (submits c)
 unfolding flow_submitted flow_arrived flow_expired flow_ticked with_discard flow_after
 call_lens kind off l b (Submit sdu) k h =
-    ap (map length)
+    ap (λ (xs : List (List ℕ)). map length xs)
     (moved_queue b.pdcp.tx (pdcp_submitted b.pdcp.tx sdu) (submitting sdu) (submits_one b.pdcp.tx sdu))
     ∙ map-append length (sdus b.pdcp.tx.waiting) (sdu ∷ [])
 call_lens kind off l b (Take share held) k h = take_told kind off l b share held k.own h

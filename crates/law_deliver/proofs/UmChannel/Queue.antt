@@ -1,5 +1,5 @@
 -- What leaves the queue of a channel of unacknowledged data is told by its length.
-use Rattle.std.proofs.Common.{◌≡◌, ℕ, List, [], ◌∷◌, ◌++◌, map, length, Some, refl, ap, sym, subst, ◌∙◌}
+use Rattle.std.proofs.Common.{◌≡◌, ℕ, List, [], ◌++◌, map, length, Some, refl, ap, sym, subst, ◌∙◌}
 use Rattle.std.specs.List.{AllByRecursion}
 use Rattle.bearer.specs.Bearer.{flow_of}
 use Rattle.bearer.specs.declared.flow.Flow.{Flow}
@@ -88,7 +88,7 @@ module _ (side : Side) (l : ℕ) (c : BearerConfig) (keys : Keys) (e : End) (cs 
       ∙ (ap (λ (f : Flow). all_lengths l f xs ++ map length (queue (ends (run_bearer xs f)))) starts_as
       ∙ (all_lens c.pdcp_bits l xs first_bearer between plain
       ∙ (ap (λ (ws : List Waits). map length (map (λ w. w.sdu) ws) ++ map length (all_submitted xs)) empty
-      ∙ ap (map length) (sym (submitted_is l cs e))))))
+      ∙ ap (λ (xs : List (List ℕ)). map length xs) (sym (submitted_is l cs e))))))
 
 -- ---- the law
 
