@@ -340,7 +340,8 @@ are_alone l (c ∷ cs) e g = calls_then _ (keys_in c) (steps_over l cs (after_ca
 
 life_told : (side : Side) (l : ℕ) (e : End) (b : State) (cs : List EndCall) → Stands side l e → flow l e ≡ Am b
     → IsPlain Srb b.pdcp → b.pdcp.tx.waiting ≡ [] → AllByRecursion (IsCall l) cs → AllByRecursion MovesNone cs
-    → lengths_on l (told_over cs e) ++ map length (queue (ends (flow l (run_end cs e)))) ≡ map length (was_submitted l cs e)
+    → lengths_on l (told_over cs e) ++ map length (queue (ends (flow l (run_end cs e))))
+    ≡ map length (was_submitted l cs e)
 life_told side l e b cs st is plain empty g own =
     let xs = steps_over l cs e in
     let all = all_go side l e cs st g in
