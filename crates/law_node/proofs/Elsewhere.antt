@@ -1,5 +1,5 @@
 -- What a bearer tells where no block is built: what holds of each such event holds of all that is told.
-use Rattle.std.proofs.Common.{◌≡◌, ℕ, Bool, true, false, nat_lt, if◌then◌else◌, Option, Some, None, IfSome}
+use Rattle.std.proofs.Common.{subst, ◌≡◌, ℕ, Bool, true, false, nat_lt, if◌then◌else◌, Option, Some, None, IfSome}
 use Rattle.std.proofs.Common.{Result, Ok, Err, List, [], ◌∷◌, ◌++◌, length, map, refl, sym}
 use Rattle.bearer.specs.declared.flow.Flow.{Flow}
 use Rattle.bearer.specs.declared.flow.Flow.TheVariants.{Tm, Um, Am}

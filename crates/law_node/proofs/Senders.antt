@@ -79,9 +79,9 @@ pub record UmReady (kind : PdcpKind) (b : UmBearer) : Type 0 where
   pub octets : HaveOctets b.tx.waiting.sdus
   pub queue : AreWhole (IsPdcp kind) b.tx.waiting.begun b.tx.waiting.sdus
 
-record UmSame (b d : UmBearer) : Type 0 where
-  tx_is : d.tx ≡ b.tx
-  bits_is : d.bits ≡ b.bits
+pub record UmSame (b d : UmBearer) : Type 0 where
+  pub tx_is : d.tx ≡ b.tx
+  pub bits_is : d.bits ≡ b.bits
 
 pub um_still : (kind : PdcpKind) (b d : UmBearer) → UmSame b d → UmReady kind b → UmReady kind d
 um_still kind b d e r = record {

@@ -211,14 +211,14 @@ none_last (x ∷ xs) ys e = absurd cc
 
 -- ---- a bearer through the groups
 
-record IsThere (side : Side) (lcid : ℕ) (past : List Group) (config : BearerConfig) : Type 0 where
-  keys : Keys
-  steps : List Step
-  there : has lcid (end_of side (link_behind past)).bearers ≡ true
-  flow_is : flow lcid (end_of side (link_behind past)) ≡ bearer_reached config keys side steps
-  keyed : is_some (state_behind past).rules.keys ≡ true
-  lives_are : keys ∷ restarts steps ≡ keys_given past
-  counts_are : counts (all_taken (flow_of config.kind config keys side) steps) ≡ counts_taken side lcid (history past)
+pub record IsThere (side : Side) (lcid : ℕ) (past : List Group) (config : BearerConfig) : Type 0 where
+  pub keys : Keys
+  pub steps : List Step
+  pub there : has lcid (end_of side (link_behind past)).bearers ≡ true
+  pub flow_is : flow lcid (end_of side (link_behind past)) ≡ bearer_reached config keys side steps
+  pub keyed : is_some (state_behind past).rules.keys ≡ true
+  pub lives_are : keys ∷ restarts steps ≡ keys_given past
+  pub counts_are : counts (all_taken (flow_of config.kind config keys side) steps) ≡ counts_taken side lcid (history past)
 
 still_keyed : (line : Line) (r : Rules) → is_some r.keys ≡ true → is_some (accepted line r).keys ≡ true
 unfolding accepted
