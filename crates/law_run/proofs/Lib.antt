@@ -35,6 +35,7 @@ pub mod Drains
 pub mod Zero
 pub mod Standing
 pub mod Unlooped
+pub mod Passing
 pub mod Signalling
 pub mod Losses
 pub mod Silent

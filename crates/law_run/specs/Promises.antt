@@ -16,6 +16,7 @@ use Rattle.law_words.specs.Lists.{AreDistinct}
 use Rattle.promises.specs.Loops.{ReturnInOrder}
 use Rattle.law_run.specs.Losses.{DeliversWhileShort}
 use Rattle.law_run.specs.Order.{KeepsOrder}
+use Rattle.promises.specs.Sequence.{HandUpInSequence}
 use Rattle.promises.specs.Signalling.{DeliversEachLife, DrainsLeaveNoSignal, HandoversBringNoSignal}
 use Rattle.promises.specs.Silent.{FailedAreSilent}
 use Rattle.law_run.specs.Sums.{sums_at}
@@ -54,6 +55,8 @@ pub record IsPromised (played : Played) : Type 0 where
   -- each signalling bearer hands up what was submitted at the other end since the last handover, in
   -- order
   pub signalled : DeliversEachLife past
+  -- exactly those before the first that hasn't come, as the blocks tell
+  pub sequence : HandUpInSequence past
   -- and all of it once a drain tells that it is drained, but where the sender gave up
   pub signals_drained : DrainsLeaveNoSignal past
   -- and in a handover nothing of it goes up

@@ -22,6 +22,7 @@ pub mod Delivery
 pub mod Drained
 pub mod Silent
 pub mod Signalling
+pub mod Sequence
 pub mod Pdus
 pub mod Given
 pub mod Taken

@@ -32,7 +32,7 @@ use Rattle.promises.specs.Events.{losses}
 use Rattle.law_deliver.specs.SrbDelivery.Life.{BothBegin, AreLived}
 use Rattle.law_deliver.specs.SrbDelivery.Lives.{renews, BeginsAnew, BothBeginAnew, AreBothEnds}
 use Rattle.law_deliver.proofs.SrbDelivery.Joined.{Way}
-use Rattle.law_deliver.proofs.SrbDelivery.Laws.{BothWays, way, lived}
+use Rattle.law_deliver.proofs.SrbDelivery.Laws.{BothWays, way_there, way_back, lived}
 
 -- ---- at an end
 
@@ -112,7 +112,8 @@ pub next_life : (near far : State) (steps : List Step) (keys : Keys) → BothBeg
     → AreLived (outset near far) steps
     → BothBeginAnew (goes steps (outset near far)).near.bearer (goes steps (outset near far)).far.bearer keys
 next_life near far steps keys h g =
-    both_anew (way near far) (way far near) (goes steps (outset near far)) _ _ _ _ keys (lived near far steps h g)
+    both_anew (way_there near far steps) (way_back near far steps) (goes steps (outset near far)) _ _ _ _ keys
+    (lived near far steps h g)
 
 -- ---- the first life
 
