@@ -1,3 +1,4 @@
+pub mod Passing
 pub mod Going
 pub mod Sending
 pub mod Hearing
@@ -8,5 +9,6 @@ pub mod Arriving
 pub mod Joined
 pub mod Doing
 pub mod Laws
+pub mod Sequence
 pub mod Renewing
 pub mod Lives

@@ -4,6 +4,7 @@
 ghost use Rattle.law_deliver.specs.SrbChannel.Delivery.{ChannelsDeliverTheFront};
 ghost use Rattle.law_deliver.specs.SrbChannel.Delivery.{DrainedChannelsHaveDelivered};
 ghost use Rattle.law_deliver.specs.SrbChannel.Delivery.{NothingGoesUpBetween, NothingIsLost};
+ghost use Rattle.law_deliver.specs.SrbChannel.Delivery.{ChannelsDeliverInSequence};
 
 /// Two ends that have added a signalling bearer under one configuration and the same keys: whatever
 /// calls they get, and from cell to cell where both move under the same keys, what has gone up on
@@ -13,6 +14,12 @@ ghost use Rattle.law_deliver.specs.SrbChannel.Delivery.{NothingGoesUpBetween, No
 /// when the blocks under way are those that processes hold.
 pub fn channels_deliver_the_front()
     ensures { ChannelsDeliverTheFront }
+{}
+
+/// They are exactly those before the first whose PDU hasn't come since the life began, as the
+/// blocks tell: those that the one end built, and those that came to the other.
+pub fn channels_deliver_in_sequence()
+    ensures { ChannelsDeliverInSequence }
 {}
 
 /// Once the channel is drained at an end, and its sender there hasn't failed, they are all that

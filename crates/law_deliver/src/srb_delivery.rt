@@ -3,6 +3,7 @@
 //! and do nothing.
 
 ghost use Rattle.law_deliver.specs.SrbDelivery.Delivery.{DeliversTheFront, DrainedHasDelivered};
+ghost use Rattle.law_deliver.specs.SrbDelivery.Arrival.{DeliversInSequence};
 ghost use Rattle.law_deliver.specs.SrbDelivery.Losses.{NothingIsLost};
 ghost use Rattle.law_deliver.specs.SrbDelivery.Lives.{FirstLifeBegins, NextLifeBegins};
 ghost use Rattle.law_deliver.specs.SrbDelivery.Lives.{DeliversInEachLife};
@@ -13,6 +14,12 @@ ghost use Rattle.law_deliver.specs.SrbDelivery.Lives.{DeliversInEachLife};
 #[tactic(auto, using(crate::proofs::SrbDelivery::Laws::delivers_front))]
 pub fn delivers_the_front()
     ensures { DeliversTheFront }
+{}
+
+/// They are exactly those before the first whose PDU hasn't come, as the PDUs tell that the one end
+/// wrote and that came to the other.
+pub fn delivers_in_sequence()
+    ensures { DeliversInSequence }
 {}
 
 /// Once an end is drained, and its sender hasn't failed, they are all that it submitted in the

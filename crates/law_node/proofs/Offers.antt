@@ -72,7 +72,7 @@ data_is bits p count sdu known some =
     ) in
     record { sn = sn; data-part = part; canonical = refl; read = a.read }
 
-tag_length : (p : Protection) (count : ℕ) (sdu : List ℕ) → length (mac_i p count sdu) ≡ 4
+pub tag_length : (p : Protection) (count : ℕ) (sdu : List ℕ) → length (mac_i p count sdu) ≡ 4
 unfolding mac_i tag_of cmac aes add_round_key
 tag_length p count sdu = refl
 

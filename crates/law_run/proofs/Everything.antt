@@ -17,6 +17,7 @@ use Rattle.law_run.proofs.Meeting.{none_meet}
 use Rattle.law_run.proofs.Silent.{failed_are_silent}
 use Rattle.law_run.proofs.Taking.{takes_name, sdus_leave_in_order, signals_leave_in_order}
 use Rattle.law_run.proofs.Signalling.{delivers_each_life, drains_leave_no_signal, handovers_bring_none}
+use Rattle.law_run.proofs.Signalling.{hand_up_in_sequence}
 use Rattle.law_run.proofs.Sleeping.{sleeps_behind_drx}
 use Rattle.law_run.proofs.Standing.{lines_tell}
 use Rattle.law_run.proofs.Zero.{bring_in_order}
@@ -46,6 +47,7 @@ every-journal whole octets =
       queues = queues_are_short t.later t.order;
       drained = drains_leave_nothing t.later t.order;
       signalled = delivers_each_life t.later t.order;
+      sequence = hand_up_in_sequence t.later t.order;
       signals_drained = drains_leave_no_signal t.later t.order;
       signals_moved = handovers_bring_none t.later t.order;
       silent = failed_are_silent t.later t.order;

@@ -38,6 +38,7 @@ pub mod Drains
 pub mod Zero
 pub mod Standing
 pub mod Unlooped
+pub mod Passing
 pub mod Signalling
 pub mod Taking
 pub mod Queueing

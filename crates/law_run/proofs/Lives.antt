@@ -204,23 +204,23 @@ module _ (l : ℕ) (nb ue : End) (bits : ℕ) (Um : Type 0) where
       line_stays l (LivesOn told (with_word word haps)) (through told (with_word word haps)) told handed flown set
       line keys k nothing fits other own refl (lives_first word told handed flown haps set k refl h)
 
--- ---- of one life, in which it doesn't matter what went by air
+-- ---- of one life
 
 module _ (l : ℕ) (nb ue : End) where
   abbrev pub InOneLife : List Record → Sdus → Happened → Bool → Link → Type 0
-  InOneLife told handed flown set k = LivedIn l nb ue told handed set k
+  InOneLife told handed flown set k = LivedIn l nb ue told handed flown set k
 
   life_steps : (told : List Record) (handed : Sdus) (flown : Happened) (set : Bool) (s : Step) (k : Link)
-      → IsStepSince l s → is_handover_step s ≡ false → LivedIn l nb ue told handed set k
+      → IsStepSince l s → is_handover_step s ≡ false → LivedIn l nb ue told handed flown set k
       → StepLives l InOneLife told handed flown set s k
-  life_steps told handed flown set s k g own h = let x = steps_live_in l nb ue told handed set s k g own h in
+  life_steps told handed flown set s k g own h = let x = steps_live_in l nb ue told handed flown set s k g own h in
       record { more = x.more; out_is = x.out_is; alone = x.alone; lived = x.lived }
 
   pub through_life : GoesThrough l InOneLife
   through_life = record {
     same = λ told told' handed handed' flown flown' set set' k e f a g h. lived_in_as l nb ue told told' handed
-        handed' set set' k e f g h;
-    unseen = λ told handed flown set k out h. ends_live_in l nb ue told handed set k (record k { out = out }) refl
+        handed' flown flown' set set' k e f a g h;
+    unseen = λ told handed flown set k out h. ends_live_in l nb ue told handed flown set k (record k { out = out }) refl
         refl refl h;
     steps = life_steps;
   }

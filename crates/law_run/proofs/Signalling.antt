@@ -3,6 +3,7 @@
 use Rattle.std.proofs.Common.{◌≡◌, ◌<◌, arith, ℕ, ◌==◌, nat_lt, Bool, true, false, ◌||◌, if◌then◌else◌, Some, None}
 use Rattle.std.proofs.Common.{List, [], ◌∷◌, ◌++◌, map, length, append-nil, append_assoc, refl, ap, sym, subst, ◌∙◌}
 use Rattle.std.proofs.lemmas.Bool.Decides.{nat_tests}
+use Rattle.std.specs.List.{filter}
 use Rattle.std.proofs.lemmas.List.Concat.{flat_map-append}
 use Rattle.std.proofs.lemmas.List.Elements.{filter-append}
 use Rattle.law_words.specs.Lists.{AreFirstSdus}
@@ -40,7 +41,7 @@ use Rattle.l2_types.specs.declared.side.Side.{Side}
 use Rattle.l2_types.specs.declared.side.Side.TheVariants.{Nb, Ue}
 use Rattle.law_node.specs.Calls.{Add, Move, after as after_call}
 use Rattle.law_node.specs.Holding.{flow}
-use Rattle.promises.specs.Records.{events_of, ups_in}
+use Rattle.promises.specs.Records.{events_of, ups_in, is_of_air}
 use Rattle.law_air.proofs.AnyCalls.Going.{told_both}
 use Rattle.prioritise.proofs.ChannelLemmas.{both_false}
 use Rattle.law_air.specs.TwoEnds.Staying.{AreInLife}
@@ -49,13 +50,20 @@ use Rattle.law_air.proofs.TwoEnds.Staying.{LivedIn, bearers_live_in, LivesAnew, 
 use Rattle.law_deliver.specs.SrbChannel.Running.{Life, running, first_life}
 use Rattle.law_deliver.proofs.SrbChannel.Laws.{Living, first_living, all_live}
 use Rattle.law_deliver.proofs.SrbChannel.Running.{Start, down, up, all_down, all_up, none_between, none_lost}
+use Rattle.law_deliver.proofs.SrbChannel.Running.{came_as, came_down, came_up}
 use Rattle.law_deliver.proofs.SrbChannel.Running.{none_lost_between, starts_first, starts_anew, stands_at}
 use Rattle.law_deliver.proofs.SrbChannel.Leaving.{AreInOneLife, signals_tell_what_leaves, none_leaves_between}
 use Rattle.law_bearer.specs.AnyBearer.Calls.{ends}
 use Rattle.law_bearer.specs.AnyBearer.Queue.{queue}
+use Rattle.law_deliver.specs.SrbDelivery.Arrival.{passes_of}
+use Rattle.law_run.proofs.Passing.{tells_passes, no_air_passes, none_behind, none_passed, passed_stays, passed_line}
+use Rattle.law_words.specs.Passing.{Passing, nothing_told, with_passings}
+use Rattle.pdcp_pdu.specs.Kinds.{bits_of}
+use Rattle.pdcp_pdu.specs.declared.PdcpKind.TheVariants.{Srb as PdcpSrb}
+use Rattle.promises.specs.Sequence.{passes_in, passed_since, AreInSequence, AllHandUpInSequence, HandUpInSequence}
 use Rattle.promises.specs.Taken.{length_in, lengths_on}
 use Rattle.promises.specs.Takes.{left_since}
-use Rattle.promises.specs.Arrival.{entries_ended}
+use Rattle.promises.specs.Arrival.{entries_ended, entries_in}
 use Rattle.promises.specs.Delivery.{forges, is_forged, sets_timer}
 use Rattle.promises.specs.Parts.{is_handover, part_of_line}
 use Rattle.promises.specs.Drained.{failed}
@@ -106,9 +114,9 @@ left_then l side past g = left_both l side (history past) (records.Line g.number
 
 -- ---- a channel of signalling, behind groups
 
--- what goes by air isn't looked at
-abbrev unread : Happened
-unread bits from = []
+-- of PDCP's numbers
+abbrev own_bits : ℕ
+own_bits = bits_of PdcpSrb
 
 pub record IsSignalling (l : ℕ) (past : List Group) : Type 0 where
   pub low : l < 3
@@ -119,11 +127,13 @@ pub record IsSignalling (l : ℕ) (past : List Group) : Type 0 where
   pub begun : Start l nb ue near far
   pub told : List Record
   pub handed : Sdus
-  pub lived : LivedIn l nb ue told handed false (link_behind past)
+  pub flown : Happened
+  pub lived : LivedIn l nb ue told handed flown false (link_behind past)
   pub delivered_is : (side : Side) → delivered_since side l past ≡ ups_on l (events_of side told)
   pub submitted_is : (side : Side) → submitted_since side l past ≡ handed side l
   pub lost_is : (side : Side) → losses_since side l past ≡ losses_on l (events_of side told)
   pub left_is : (side : Side) → left_since side l past ≡ lengths_on l (events_of side told)
+  pub passed_is : (from : Side) → passed_since l from past ≡ passes_of (flown own_bits from)
   pub senders : (side : Side) → HasSender side l past
 
 -- ---- no discard timers are set on it
@@ -168,11 +178,12 @@ stays_on l past g right order other own here d =
     let p = part_of_line g.line in
     let set = false || sets_timer l g.line in
     let off : set ≡ false = sets_none l g.line (state_behind past).rules k d.low right.allowed in
-    let x : PartLives l (InOneLife l d.nb d.ue) (through_life l d.nb d.ue) d.told d.handed unread set
+    let x : PartLives l (InOneLife l d.nb d.ue) (through_life l d.nb d.ue) d.told d.handed d.flown set
     (entries_ended g.line) p m =
-    line_stays l (InOneLife l d.nb d.ue) (through_life l d.nb d.ue) d.told d.handed unread false g.line
+    line_stays l (InOneLife l d.nb d.ue) (through_life l d.nb d.ue) d.told d.handed d.flown false g.line
     (state_behind past).rules.keys k (behind past order).nothing right.in_range other own here d.lived in
-    let lived = (through_life l d.nb d.ue).unseen _ _ unread set m [] x.lived in
+    let flown : Happened = λ bits from. d.flown bits from ++ (entries_ended g.line ++ tells_in bits l from [] m.out) in
+    let lived = (through_life l d.nb d.ue).unseen _ _ flown set m [] x.lived in
     record {
       low = d.low;
       nb = d.nb;
@@ -182,9 +193,10 @@ stays_on l past g right order other own here d =
       begun = d.begun;
       told = d.told ++ x.more;
       handed = λ side n. d.handed side n ++ (handed_in side n p m.out ++ looped_at side n m.out);
+      flown = flown;
       lived =
           subst (λ b. LivedIn l d.nb d.ue (d.told ++ x.more)
-          (λ side n. d.handed side n ++ (handed_in side n p m.out ++ looped_at side n m.out)) b
+          (λ side n. d.handed side n ++ (handed_in side n p m.out ++ looped_at side n m.out)) flown b
           (link_behind (g ∷ past))) off lived;
       delivered_is = λ side.
           ap (λ (xs : List (List ℕ)). xs ++ ups_in side l g.events)
@@ -212,6 +224,11 @@ stays_on l past g right order other own here d =
           (ap (λ (ys : List Record). lengths_on l (events_of side ys)) right.events_are
           ∙ ap (lengths_on l) (x.told_are side))
           ∙ sym (left_both l side d.told x.more);
+      passed_is = λ from.
+          passed_stays (is_handover g.line) here (passed_since l from past) (passes_in l from [] g.events)
+          ∙ ap (λ (ps : List Passing). ps ++ passes_in l from [] g.events) (d.passed_is from)
+          ∙ ap (λ (ys : List Record). passes_of (d.flown own_bits from) ++ passes_in l from [] ys) right.events_are
+          ∙ sym (passed_line own_bits l from g.line (d.flown own_bits from) m.out);
       senders = λ side. sender_goes side l past g right order other (d.senders side);
     }
 
@@ -315,7 +332,8 @@ moves_on l past g user rrc integrity right order d =
     let m = behind_line line (state_behind past) in
     let a = lives (steps l past d) (start l past d) in
     let alive = living l past d in
-    let x : LivesAnew l d.nb d.ue keys k a = lives_anew l d.nb d.ue d.told d.handed false keys k d.lived in
+    let x : LivesAnew l d.nb d.ue keys k a = lives_anew l d.nb d.ue d.told d.handed d.flown false
+    keys k d.lived in
     let nb = after_call a.nb.end (Move keys) in
     let ue = after_call a.ue.end (Move keys) in
     let leaving = x.moves.leaving in
@@ -343,7 +361,9 @@ moves_on l past g user rrc integrity right order d =
       begun = starts_anew l d.nb d.ue alive.near alive.far alive.begun (steps l past d) alive.runs alive.calls keys;
       told = behind';
       handed = λ side n. looped_at side n behind';
-      lived = (through_life l nb ue).unseen behind' (λ side n. looped_at side n behind') unread false m [] x.lived;
+      flown = λ bits from. tells_in bits l from [] behind';
+      lived = (through_life l nb ue).unseen behind' (λ side n. looped_at side n behind')
+          (λ bits from. tells_in bits l from [] behind') false m [] x.lived;
       delivered_is = λ side.
           sym (ups_are_told side l g.events) ∙ ap (λ (ys : List Record). ups_on l (events_of side ys)) events_are
           ∙ told_ups l side leaving behind'
@@ -359,6 +379,12 @@ moves_on l past g user rrc integrity right order d =
       left_is = λ side.
           ap (λ (ys : List Record). lengths_on l (events_of side ys)) events_are ∙ left_both l side leaving behind'
           ∙ ap (λ (ns : List ℕ). ns ++ lengths_on l (events_of side behind')) (none_left' side);
+      passed_is = λ from.
+          no_air_passes l from [] g.events right.of_its_time.flown
+          ∙ sym (tells_passes own_bits l from [] behind'
+          ∙ no_air_passes l from [] behind'
+          (none_behind leaving behind'
+          (ap (filter is_of_air) (sym events_are) ∙ right.of_its_time.flown)));
       senders = λ side. sender_goes side l past (record g { line = line }) right order refl (d.senders side);
     }
 
@@ -433,12 +459,14 @@ begin_by past g c options right order kind =
           (omega (arith, count)) nb_begun ue_begun;
       told = [];
       handed = λ side n. [];
+      flown = λ bits from. [];
       lived = (through_life l (after_call k.nb (Add c keys)) (after_call k.ue (Add c keys))).unseen [] (λ side n. [])
-          unread false (bears c keys k) [] (bearers_live_in c keys k right.in_range rest);
+          (λ bits from. []) false (bears c keys k) [] (bearers_live_in c keys k right.in_range rest);
       delivered_is = λ side. none_delivered side l all (ups_told side l all ∙ ap (ups_on l) (now'.none_told side));
       submitted_is = λ side. none_submitted side l all (now'.none_submitted side l);
       lost_is = λ side. ap (losses_on l) (now'.none_told side);
       left_is = λ side. none_left side l all (ap (lengths_on l) (now'.none_told side));
+      passed_is = λ from. none_passed own_bits l from all (now'.none_happened own_bits l from);
       senders = at_each (λ side. HasSender side l _) (sender_begins Nb l c keys _ nb_begun)
           (sender_begins Ue l c keys _ ue_begun);
     }
@@ -487,6 +515,27 @@ is_signalling l (g ∷ past) c (right, order) kind e own =
     (λ is. is_signalling l past c order kind is apart.1)
 
 -- ---- the promises
+
+pub came_is : (l : ℕ) (past : List Group) (d : IsSignalling l past) (from : Side)
+    → AreInSequence (submitted_since from l past) (delivered_since (other from) l past)
+    (with_passings (passed_since l from past) nothing_told)
+came_is l past d Nb =
+    let life = living l past d in
+    came_as (was_submitted_is l past d Nb) (went_up_is l past d Ue)
+    (ap passes_of (d.lived.by.happened_is own_bits Nb) ∙ sym (d.passed_is Nb))
+    (came_down l d.nb d.ue life.near life.far life.begun (steps l past d) life.runs life.calls)
+came_is l past d Ue =
+    let life = living l past d in
+    came_as (was_submitted_is l past d Ue) (went_up_is l past d Nb)
+    (ap passes_of (d.lived.by.happened_is own_bits Ue) ∙ sym (d.passed_is Ue))
+    (came_up l d.nb d.ue life.near life.far life.begun (steps l past d) life.runs life.calls)
+
+hand_up : (past : List Group) → KeepsOrder past → AllHandUpInSequence past
+hand_up past order from l c e kind own = came_is l past (is_signalling l past c order kind e own) from
+
+pub hand_up_in_sequence : (past : List Group) → KeepsOrder past → HandUpInSequence past
+hand_up_in_sequence [] order = tt
+hand_up_in_sequence (g ∷ past) (right, order) = (hand_up (g ∷ past) (right, order), hand_up_in_sequence past order)
 
 signals : (past : List Group) → KeepsOrder past → SignalAll past
 signals past order from l c e kind own =

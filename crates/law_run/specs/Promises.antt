@@ -17,6 +17,7 @@ use Rattle.promises.specs.Limits.{QueuesAreShort}
 use Rattle.promises.specs.Loops.{ReturnInOrder}
 use Rattle.law_run.specs.Losses.{DeliversWhileShort}
 use Rattle.law_run.specs.Order.{KeepsOrder}
+use Rattle.promises.specs.Sequence.{HandUpInSequence}
 use Rattle.promises.specs.Signalling.{DeliversEachLife, DrainsLeaveNoSignal, HandoversBringNoSignal}
 use Rattle.law_run.specs.Script.{lines_of, accepted_lines}
 use Rattle.promises.specs.Silent.{FailedAreSilent}
@@ -71,6 +72,8 @@ pub record IsPromised (whole : Bool) (octets : List ℕ) (played : Played) : Typ
   -- each signalling bearer hands up what was submitted at the other end since the last handover, in
   -- order
   pub signalled : DeliversEachLife past
+  -- exactly those before the first that hasn't come, as the blocks tell
+  pub sequence : HandUpInSequence past
   -- and all of it once a drain tells that it is drained, but where the sender gave up
   pub signals_drained : DrainsLeaveNoSignal past
   -- and in a handover nothing of it goes up

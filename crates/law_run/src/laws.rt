@@ -15,11 +15,11 @@ pub fn lines_are_in_range()
 /// data bearer has handed up at each end exactly the SDUs that the other took before the first that
 /// hasn't come, in order, each once and unchanged, of those that were submitted none left out but
 /// what is discarded; behind a drain that tells that it is drained all of them but these, where no
-/// failure of the sender is told since the last handover. Each signalling bearer has handed up the
-/// first SDUs that were submitted since the last handover, in order, each once and unchanged, with
-/// none left out, and behind such a drain all of them. Each unacknowledged data bearer has handed
-/// up some of the SDUs that were submitted, in order, each once and unchanged, where the records
-/// tell, as the sum does, that losses were short in that direction.
+/// failure of the sender is told since the last handover. Each signalling bearer has handed up
+/// exactly the SDUs that were submitted since the last handover before the first that hasn't come,
+/// in order, each once and unchanged, and behind such a drain all of them. Each unacknowledged data
+/// bearer has handed up some of the SDUs that were submitted, in order, each once and unchanged,
+/// where the records tell, as the sum does, that losses were short in that direction.
 pub fn every_journal()
     ensures { EveryJournal }
 {}

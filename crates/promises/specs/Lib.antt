@@ -23,6 +23,7 @@ pub mod Delivery
 pub mod Drained
 pub mod Silent
 pub mod Signalling
+pub mod Sequence
 pub mod Pdus
 pub mod Given
 pub mod Taken

@@ -52,6 +52,15 @@ use Rattle.law_deliver.specs.AmChannel.Lives.{brought, calls_by}
 use Rattle.law_deliver.proofs.AmChannel.Acting.{in_life_all, calls_same}
 use Rattle.law_deliver.proofs.AmChannel.Bearers.{IsSteady}
 
+-- ---- a bearer of a channel, whose numbers of PDCP have so many bits
+
+pub record Speaks (bits l : ℕ) (b : State) : Type 0 where
+  pub own : b.pdcp.lcid ≡ l
+  pub kind : bits_of b.pdcp.kind ≡ bits
+
+pub speaks : (bits l : ℕ) (b : State) → IsSteady bits l b → Speaks bits l b
+speaks bits l b s = record { own = s.between.own; kind = ap bits_of s.data'.kind }
+
 -- ---- calls of a bearer, one after the other
 
 abbrev pub says : State → List BearerCall → List AccountEntry
@@ -171,7 +180,7 @@ carries side l e tti order grant h there some most =
 
 says_visit : (v : Visit) (bits l : ℕ) (side : Side) (e : End) (b : State) (t : Turn) → visit t.tti t.order e ≡ v
     → Stands side l e → flow l e ≡ Am b
-    → IsSteady bits l b → IsGivenCall (Visits t)
+    → Speaks bits l b → IsGivenCall (Visits t)
     → (v ≡ New → 1 ≤ t.grant)
     → says b (takes_of v t (visited t.tti t.order e) l)
     ≡ entries_given bits (tells_over l (flow l e) (takes_of v t (visited t.tti t.order e) l))
@@ -201,8 +210,8 @@ says_visit New bits l side e b t is s bearer steady g some = by (has_channel l f
         → says b (only c (Takes share held)) ≡ entries_given bits (tells_over l (flow l e) (only c (Takes share held)))
         ++ entries_written (carried l (sent_by e.side) block ++ [])
     by true q =
-        let own : b.pdcp.lcid ≡ l = steady.between.own in
-        let kind : bits_of b.pdcp.kind ≡ bits = ap bits_of steady.data'.kind in
+        let own : b.pdcp.lcid ≡ l = steady.own in
+        let kind : bits_of b.pdcp.kind ≡ bits = steady.kind in
         let one : carried l (sent_by e.side) block ++ [] ≡ pdus (Am b) share held =
         append-nil (carried l (sent_by e.side) block)
         ∙ (is_carried
@@ -233,7 +242,7 @@ visiting_some (Resend rv) s t h e = cc
 visiting_some Silent s t h e = cc
 
 call_says : (bits l : ℕ) (side : Side) (s : Station) (b : State) (c : Call) → Stands side l s.end
-    → flow l s.end ≡ Am b → IsSteady bits l b → IsGivenCall c
+    → flow l s.end ≡ Am b → Speaks bits l b → IsGivenCall c
     → GoesOnInLife l c → IsCalling s c
     → says b (calls_of l s.end c) ≡ said_in bits l s.end c
 call_says bits l side s b (SetVisits maximum) stands bearer steady g life calling = refl
@@ -308,7 +317,7 @@ brought_hears l e None = refl
 brought_hears l e (Some x) = call_hears l e (Receive x.octets) ∙ sym (append-nil (heard_in l e (Receive x.octets)))
 
 pub act_says : (bits l : ℕ) (side : Side) (o s : Station) (b : State) (x : Act) → Stands side l s.end
-    → flow l s.end ≡ Am b → IsSteady bits l b → IsDone l s x
+    → flow l s.end ≡ Am b → Speaks bits l b → IsDone l s x
     → says b (act_calls l o s x) ≡ said_over bits l (calls_by o x) s.end
 act_says bits l side o s b (Calls c) stands bearer steady g =
     call_says bits l side s b c stands bearer steady g.0 g.1 g.2 ∙ sym (append-nil (said_in bits l s.end c))

@@ -35,7 +35,7 @@ use Rattle.law_deliver.proofs.AmChannel.Bearers.{IsSteady, restarts_steady}
 use Rattle.law_deliver.proofs.AmChannel.Ends.{step_end, steps_more, IsCall, step_so}
 use Rattle.law_deliver.specs.AmChannel.Arrival.{said_over, happens_in, happened}
 use Rattle.law_deliver.proofs.AmChannel.Saying.{says, hears, near_says, far_says, near_hears, far_hears, act_says}
-use Rattle.law_deliver.proofs.AmChannel.Saying.{act_hears}
+use Rattle.law_deliver.proofs.AmChannel.Saying.{act_hears, speaks}
 use Rattle.law_deliver.proofs.AmChannel.Pairs.{all_does, lives_go, does_more}
 
 pub record BothMatch (bits l : ℕ) (a : Air) (p : Pair) : Type 0 where
@@ -80,7 +80,8 @@ walks_nb bits l a x p g h k stands steady =
       ue_does = far_rests p r.deeds;
       down_is = near_says p r.deeds
           ∙ (ap (says p.near.bearer) r.calls_are
-          ∙ (act_says bits l Nb a.ue a.nb p.near.bearer x stands h.bearer_is steady g
+          ∙ (act_says bits l Nb a.ue a.nb p.near.bearer x stands h.bearer_is
+          (speaks bits l p.near.bearer steady) g
           ∙ sym (append-nil (said_over bits l (calls_by a.ue x) a.nb.end))));
       up_is = near_hears p r.deeds ∙ (ap hears r.calls_are ∙ act_hears l a.ue a.nb x);
     }
@@ -107,7 +108,8 @@ walks_ue bits l a x p g h k stands steady =
       down_is = far_hears p r.deeds ∙ (ap hears r.calls_are ∙ act_hears l a.nb a.ue x);
       up_is = far_says p r.deeds
           ∙ (ap (says p.far.bearer) r.calls_are
-          ∙ (act_says bits l Ue a.nb a.ue p.far.bearer x stands k.bearer_is steady g
+          ∙ (act_says bits l Ue a.nb a.ue p.far.bearer x stands k.bearer_is
+          (speaks bits l p.far.bearer steady) g
           ∙ sym (append-nil (said_over bits l (calls_by a.nb x) a.ue.end))));
     }
 

@@ -26,7 +26,7 @@ sound_pdcp w h =
 abbrev pub told_of : Way → Told
 told_of w = with_passings (passed w.steps (am_rlc_outset w.sending w.receiving)) nothing_told
 
-passed_more : (xs ys : List RlcStep) (f : Rlc) → passed (xs ++ ys) f ≡ passed xs f ++ passed ys (rlc_goes xs f)
+pub passed_more : (xs ys : List RlcStep) (f : Rlc) → passed (xs ++ ys) f ≡ passed xs f ++ passed ys (rlc_goes xs f)
 passed_more [] ys f = refl
 passed_more (x ∷ xs) ys f = ap (λ (l : List Passing). passed_in f x ++ l) (passed_more xs ys (rlc_happens f x))
     ∙ sym (append_assoc (passed_in f x) (passed xs (rlc_happens f x)) (passed ys (rlc_goes xs (rlc_happens f x))))

@@ -47,7 +47,7 @@ place_is w from to a place is j k =
     ∙ (ap (λ (t : Told). has_arrived (map length (offered (rlc w))) t.fields t.came place) (sym k.rlc_is)
     ∙ sym (tell_what_arrives w.sending w.receiving w.steps is.steps place))
 
-in_sequence_come : (ss : List (List Place)) (k : ℕ) → k < length (in_sequence ss)
+pub in_sequence_come : (ss : List (List Place)) (k : ℕ) → k < length (in_sequence ss)
     → (nat_lt k (length ss) && all_come (slice_index_or ss k [])) ≡ true
 in_sequence_come [] k lt = absurd (omega (arith, lt))
 in_sequence_come (s ∷ ss) k lt = by (all_come s) k refl (λ j. in_sequence_come ss j) lt

@@ -19,10 +19,11 @@ use Rattle.law_deliver.proofs.AmChannel.Ends.{IsCall, are_calls, all_more}
 use Rattle.law_deliver.specs.AmFlow.Air.{Air, Step as LinkStep, outset}
 use Rattle.law_deliver.specs.SrbChannel.Delivery.{SrbEndsBeginAlike, NoneSet, life_of, ChannelsDeliverTheFront}
 use Rattle.law_deliver.specs.SrbChannel.Delivery.{DrainedChannelsHaveDelivered, NothingGoesUpBetween, NothingIsLost}
+use Rattle.law_deliver.specs.SrbChannel.Delivery.{ChannelsDeliverInSequence}
 use Rattle.law_deliver.specs.SrbChannel.Running.{Life, start, now, goes_on, running, first_life}
 use Rattle.law_deliver.proofs.SrbChannel.Running.{Start, Runs, begins_run, runs_on, lives_more, calls_more, down, up}
 use Rattle.law_deliver.proofs.SrbChannel.Running.{all_down, all_up, starts_anew, none_between, none_lost}
-use Rattle.law_deliver.proofs.SrbChannel.Running.{none_lost_between, starts_first}
+use Rattle.law_deliver.proofs.SrbChannel.Running.{none_lost_between, starts_first, ready, came_down, came_up}
 use Rattle.law_deliver.proofs.SrbChannel.Walk.{SetsNone}
 
 pub record Living (l : ℕ) (life : Life) : Type 0 where
@@ -68,7 +69,9 @@ lives_in l life x g none h = record {
   near = h.near;
   far = h.far;
   begun = h.begun;
-  runs = runs_on l life.nb life.ue h.near h.far life.steps x g.0 none h.runs;
+  runs =
+      runs_on l life.nb life.ue h.near h.far life.steps x g.0 none h.runs
+      (ready l life.nb life.ue h.near h.far h.begun life.steps h.runs h.calls);
   calls = λ side. calls_on l life x side g (h.calls side);
 }
 
@@ -117,6 +120,16 @@ delivers_front l c keys nb ue Ue steps h g none =
     let k = living l c keys nb ue steps h g none in
     let life = life_of steps nb ue in
     up l life.nb life.ue k.near k.far k.begun life.steps k.runs k.calls
+
+pub delivers_in_sequence : ChannelsDeliverInSequence
+delivers_in_sequence l c keys nb ue Nb steps h g none =
+    let k = living l c keys nb ue steps h g none in
+    let life = life_of steps nb ue in
+    came_down l life.nb life.ue k.near k.far k.begun life.steps k.runs k.calls
+delivers_in_sequence l c keys nb ue Ue steps h g none =
+    let k = living l c keys nb ue steps h g none in
+    let life = life_of steps nb ue in
+    came_up l life.nb life.ue k.near k.far k.begun life.steps k.runs k.calls
 
 pub drained_delivers : DrainedChannelsHaveDelivered
 drained_delivers l c keys nb ue Nb steps h g none d =

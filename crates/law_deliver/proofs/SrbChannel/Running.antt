@@ -44,11 +44,20 @@ use Rattle.bearer_types.specs.declared.event.Event.{Event}
 use Rattle.law_deliver.specs.SrbDelivery.Losses.{near_losses, far_losses}
 use Rattle.law_deliver.specs.SrbDelivery.Life.{BothBegin, AreLived, near_ups, far_ups, near_submits, far_submits, over}
 use Rattle.law_deliver.specs.SrbDelivery.Lives.{renewed_bearer, BothBeginAnew}
-use Rattle.law_deliver.proofs.SrbDelivery.Laws.{delivers_front, drained_delivers, nothing_is_lost}
+use Rattle.law_deliver.proofs.SrbDelivery.Laws.{delivers_front, drained_delivers, nothing_is_lost, lived}
 use Rattle.law_deliver.proofs.SrbDelivery.Renewing.{fresh_begin, next_life}
 use Rattle.law_deliver.proofs.SrbChannel.Losing.{all_losses, end_losses, pair_losses}
 use Rattle.law_deliver.proofs.SrbChannel.Sums.{does, does_more, sums, call_new}
-use Rattle.law_deliver.proofs.SrbChannel.Walk.{Walks, SetsNone, walks}
+use Rattle.law_deliver.proofs.SrbChannel.Walk.{Walks, Ready, SetsNone, walks}
+use Rattle.law_deliver.specs.AmChannel.Arrival.{happens_in, happened}
+use Rattle.law_deliver.proofs.AmChannel.Saying.{Speaks}
+use Rattle.law_deliver.proofs.SrbDelivery.Passing.{passes_then}
+use Rattle.law_deliver.proofs.SrbDelivery.Sequence.{delivers_in_sequence}
+use Rattle.law_deliver.specs.SrbDelivery.Arrival.{passes_of, there_in, back_in}
+use Rattle.law_words.specs.Arrivals.{AccountEntry}
+use Rattle.law_words.specs.Passing.{Passing, nothing_told, with_passings}
+use Rattle.pdcp_pdu.specs.Kinds.{bits_of}
+use Rattle.promises.specs.Sequence.{AreInSequence}
 
 -- ---- a life that began at two ends
 
@@ -70,6 +79,8 @@ pub record Runs (l : ℕ) (nb ue : End) (near far : State) (xs : List AirStep) :
   pub ue_is : Matches Ue l (lives xs (outset nb ue)).ue (goes steps (pair near far)).far
   pub nb_does : does Nb steps (pair near far) ≡ steps_over l (all_calls Nb xs (outset nb ue)) nb
   pub ue_does : does Ue steps (pair near far) ≡ steps_over l (all_calls Ue xs (outset nb ue)) ue
+  pub down_is : over there_in steps (pair near far) ≡ passes_of (happened (bits_of Srb) l Nb xs (outset nb ue))
+  pub up_is : over back_in steps (pair near far) ≡ passes_of (happened (bits_of Srb) l Ue xs (outset nb ue))
 
 pub begins_run : (l : ℕ) (nb ue : End) (near far : State) → Start l nb ue near far → Runs l nb ue near far []
 begins_run l nb ue near far s = record {
@@ -79,6 +90,8 @@ begins_run l nb ue near far s = record {
   ue_is = begins_so Ue l ue far s.ue_begins;
   nb_does = refl;
   ue_does = refl;
+  down_is = refl;
+  up_is = refl;
 }
 
 lived_more : (xs ys : List Step) (p : Pair) → AreLived p xs → AreLived (goes xs p) ys → AreLived p (xs ++ ys)
@@ -112,14 +125,43 @@ does_then side l a p xs x ss ts q r =
     ∙ ap (λ (all : List Call). steps_over l all (end_at side a))
     (ap (λ (ys : List Call). cs ++ ys) (sym (append-nil ds)) ∙ sym (calls_more side a xs (InLife x ∷ [])))
 
+over_more : (what : Pair → Step → List Passing) (xs ys : List Step) (p : Pair)
+    → over what (xs ++ ys) p ≡ over what xs p ++ over what ys (goes xs p)
+over_more what [] ys p = refl
+over_more what (x ∷ xs) ys p =
+    ap (λ (ps : List Passing). what p x ++ ps) (over_more what xs ys (happens p x))
+    ∙ sym (append_assoc (what p x) (over what xs (happens p x)) (over what ys (goes xs (happens p x))))
+
+happened_more : (bits l : ℕ) (from : Side) (xs ys : List AirStep) (a : Air)
+    → happened bits l from (xs ++ ys) a ≡ happened bits l from xs a ++ happened bits l from ys (lives xs a)
+happened_more bits l from [] ys a = refl
+happened_more bits l from (x ∷ xs) ys a =
+    ap (λ (hs : List AccountEntry). happens_in bits l from a x ++ hs) (happened_more bits l from xs ys (lives_on a x))
+    ∙ sym (append_assoc (happens_in bits l from a x) (happened bits l from xs (lives_on a x))
+    (happened bits l from ys (lives xs (lives_on a x))))
+
+passes_more : (what : Pair → Step → List Passing) (l : ℕ) (from : Side) (a : Air) (p : Pair) (xs : List AirStep)
+    (x : LinkStep) (ss ts : List Step) → over what ss p ≡ passes_of (happened (bits_of Srb) l from xs a)
+    → over what ts (goes ss p) ≡ passes_of (happens_in (bits_of Srb) l from (lives xs a) (InLife x))
+    → over what (ss ++ ts) p ≡ passes_of (happened (bits_of Srb) l from (xs ++ InLife x ∷ []) a)
+passes_more what l from a p xs x ss ts q r =
+    let before = happened (bits_of Srb) l from xs a in
+    let now = happens_in (bits_of Srb) l from (lives xs a) (InLife x) in
+    over_more what ss ts p ∙ ap (λ (ps : List Passing). ps ++ over what ts (goes ss p)) q
+    ∙ ap (λ (ps : List Passing). passes_of before ++ ps) r ∙ sym (passes_then before now)
+    ∙ ap (λ (hs : List AccountEntry). passes_of (before ++ hs)) (sym (append-nil now))
+    ∙ ap passes_of (sym (happened_more (bits_of Srb) l from xs (InLife x ∷ []) a))
+
 pub runs_on : (l : ℕ) (nb ue : End) (near far : State) (xs : List AirStep) (x : LinkStep)
     → IsLiving l (lives xs (outset nb ue)) (InLife x) → SetsNone l (lives xs (outset nb ue)) (InLife x)
-    → Runs l nb ue near far xs → Runs l nb ue near far (xs ++ InLife x ∷ [])
-runs_on l nb ue near far xs x g none r =
+    → (r : Runs l nb ue near far xs) → Ready l (lives xs (outset nb ue)) (goes r.steps (pair near far))
+    → Runs l nb ue near far (xs ++ InLife x ∷ [])
+runs_on l nb ue near far xs x g none r ready =
     let a = outset nb ue in
     let b = lives xs a in
     let p = pair near far in
-    let w : Walks l b x (goes r.steps p) = walks l b x (goes r.steps p) g none r.nb_is r.ue_is in
+    let w : Walks l b x (goes r.steps p) = walks l b x (goes r.steps p) g none r.nb_is r.ue_is
+    ready in
     let same = sym (lives_more a xs (InLife x ∷ [])) in
     let pairs = sym (goes_more p r.steps w.steps) in
     record {
@@ -131,9 +173,19 @@ runs_on l nb ue near far xs x g none r =
           (subst (λ (q : Pair). Matches Ue l (lives_on b (InLife x)).ue q.far) pairs w.ue);
       nb_does = does_then Nb l a p xs x r.steps w.steps r.nb_does w.nb_does;
       ue_does = does_then Ue l a p xs x r.steps w.steps r.ue_does w.ue_does;
+      down_is = passes_more there_in l Nb a p xs x r.steps w.steps r.down_is w.down_is;
+      up_is = passes_more back_in l Ue a p xs x r.steps w.steps r.up_is w.up_is;
     }
 
 -- ---- what has gone up in it
+
+-- the same in another form
+pub came_as : {ss ts us vs : List (List ℕ)} {ps qs : List Passing} → ss ≡ ts → us ≡ vs → ps ≡ qs
+    → AreInSequence ss us (with_passings ps nothing_told) → AreInSequence ts vs (with_passings qs nothing_told)
+came_as {ss} {ts} {us} {vs} {ps} {qs} e f g h =
+    subst (λ (l : List (List ℕ)). AreInSequence l vs (with_passings qs nothing_told)) e
+    (subst (λ (l : List (List ℕ)). AreInSequence ss l (with_passings qs nothing_told)) f
+    (subst (λ (l : List Passing). AreInSequence ss us (with_passings l nothing_told)) g h))
 
 module _ (l : ℕ) (nb ue : End) (near far : State) (s : Start l nb ue near far) (xs : List AirStep)
     (r : Runs l nb ue near far xs)
@@ -179,6 +231,17 @@ module _ (l : ℕ) (nb ue : End) (near far : State) (s : Start l nb ue near far)
 
   pub up : AreFirstSdus (went_up l (all_calls Nb xs a) nb) (was_submitted l (all_calls Ue xs a) ue)
   up = as_told AreFirstSdus nb_ups ue_submitted (delivers_front near far r.steps s.both r.lived).back
+
+  -- ---- which they are
+
+  pub came_down : AreInSequence (was_submitted l (all_calls Nb xs a) nb) (went_up l (all_calls Ue xs a) ue)
+      (with_passings (passes_of (happened (bits_of Srb) l Nb xs a)) nothing_told)
+  came_down =
+      came_as nb_submitted ue_ups r.down_is (delivers_in_sequence near far r.steps s.both r.lived).there
+
+  pub came_up : AreInSequence (was_submitted l (all_calls Ue xs a) ue) (went_up l (all_calls Nb xs a) nb)
+      (with_passings (passes_of (happened (bits_of Srb) l Ue xs a)) nothing_told)
+  came_up = came_as ue_submitted nb_ups r.up_is (delivers_in_sequence near far r.steps s.both r.lived).back
 
   drained_so : (e : End) (b : State) → flow l e ≡ Am b → IsDrained l e → IsDrainedBearer b
   unfolding is_drained
@@ -232,6 +295,25 @@ module _ (l : ℕ) (nb ue : End) (near far : State) (s : Start l nb ue near far)
       subst (Stands Nb l) (sym (goes_by_calls Nb xs a)) (stand_on Nb nb (all_calls Nb xs a) s.nb_stands (calls Nb))
   stands_at Ue =
       subst (Stands Ue l) (sym (goes_by_calls Ue xs a)) (stand_on Ue ue (all_calls Ue xs a) s.ue_stands (calls Ue))
+
+  speaks_at : (side : Side) (e : End) (b : State) → Stands side l e → flow l e ≡ Am b → b.pdcp.kind ≡ Srb
+      → Speaks (bits_of Srb) l b
+  speaks_at side e b st is kind = record {
+    own = (subst (IsBetween l) is (between_at l e.bearers st.there (come_between side e st.come))).own;
+    kind = ap bits_of kind;
+  }
+
+  pub ready : Ready l (lives xs a) last
+  ready =
+      let ways = lived near far r.steps s.both r.lived in
+      record {
+        nb_stands = stands_at Nb;
+        ue_stands = stands_at Ue;
+        nb_speaks =
+            speaks_at Nb (lives xs a).nb.end last.near.bearer (stands_at Nb) r.nb_is.bearer_is ways.near_is.kind;
+        ue_speaks =
+            speaks_at Ue (lives xs a).ue.end last.far.bearer (stands_at Ue) r.ue_is.bearer_is ways.far_is.kind;
+      }
 
   anew : (keys : Keys) → BothBeginAnew last.near.bearer last.far.bearer keys
   anew keys = next_life near far r.steps keys s.both r.lived

@@ -1,5 +1,6 @@
 -- Steps of two ends in a life are steps of a pair.
-use Rattle.std.proofs.Common.{◌≡◌, ℕ, Option, Some, None, List, [], ◌∷◌, ◌++◌, slice_get, refl, ap, sym, subst, ◌∙◌}
+use Rattle.std.proofs.Common.{◌≡◌, ℕ, Option, Some, None, List, [], ◌∷◌, ◌++◌, slice_get, refl, ap, sym, subst}
+use Rattle.std.proofs.Common.{append-nil, ◌∙◌}
 use Rattle.std.specs.List.{AllByRecursion}
 use Rattle.law_rlc.specs.AmPair.Flow.{Copy}
 use Rattle.bearer.specs.Acknowledged.State.{State}
@@ -18,11 +19,24 @@ use Rattle.law_deliver.proofs.AmFlow.Stations.{Matches, Acts}
 use Rattle.law_deliver.specs.AmDelivery.Lives.{IsAccepted as IsTaken}
 use Rattle.law_deliver.specs.AmChannel.Delivery.{steps_over, SetNone}
 use Rattle.law_deliver.specs.AmChannel.Lives.{AirStep, InLife, calls_by, calls_at, lives_on}
-use Rattle.law_deliver.proofs.AmChannel.Acting.{AreAccepted, as_steps, near_does, far_does, near_rests, far_rests}
+use Rattle.law_deliver.proofs.AmChannel.Acting.{AreAccepted, in_life_all, as_steps, near_does, far_does}
+use Rattle.law_deliver.proofs.AmChannel.Acting.{near_rests, far_rests}
 use Rattle.law_deliver.proofs.AmChannel.Acting.{act_steps, act_accepted}
 use Rattle.law_deliver.proofs.AmChannel.Submitted.{steps_unset}
 use Rattle.law_deliver.proofs.AmChannel.Unset.{IsUnset, IsUnsetStep}
-use Rattle.law_deliver.specs.SrbDelivery.Life.{IsAccepted, MayBeDone, AreLived}
+use Rattle.law_deliver.specs.AmDelivery.Arrival.{down_in, up_in}
+use Rattle.law_deliver.specs.AmDelivery.Lives.{LifeStep, InLife as InPairLife, over as lives_over}
+use Rattle.law_deliver.specs.AmChannel.Arrival.{said_over, happens_in}
+use Rattle.law_deliver.proofs.AmChannel.Saying.{Speaks, says, hears, near_says, far_says, near_hears, far_hears}
+use Rattle.law_deliver.proofs.AmChannel.Saying.{act_says, act_hears}
+use Rattle.law_deliver.proofs.AmFlow.Ups.{Stands}
+use Rattle.law_deliver.proofs.SrbDelivery.Passing.{passes_then}
+use Rattle.law_deliver.specs.SrbDelivery.Arrival.{passes_of, there_in, back_in}
+use Rattle.law_words.specs.Arrivals.{AccountEntry}
+use Rattle.law_words.specs.Passing.{Passing}
+use Rattle.pdcp_pdu.specs.Kinds.{bits_of}
+use Rattle.pdcp_pdu.specs.declared.PdcpKind.TheVariants.{Srb}
+use Rattle.law_deliver.specs.SrbDelivery.Life.{IsAccepted, MayBeDone, AreLived, over}
 use Rattle.law_deliver.proofs.SrbChannel.Sums.{does, does_as}
 
 -- ---- calls that PDCP doesn't refuse, and that set no discard timer
@@ -95,6 +109,23 @@ pub record Walks (l : ℕ) (a : Air) (x : LinkStep) (p : Pair) : Type 0 where
   pub ue : Matches Ue l (lives_on a (InLife x)).ue (goes steps p).far
   pub nb_does : does Nb steps p ≡ steps_over l (calls_at Nb a (InLife x)) a.nb.end
   pub ue_does : does Ue steps p ≡ steps_over l (calls_at Ue a (InLife x)) a.ue.end
+  pub down_is : over there_in steps p ≡ passes_of (happens_in (bits_of Srb) l Nb a (InLife x))
+  pub up_is : over back_in steps p ≡ passes_of (happens_in (bits_of Srb) l Ue a (InLife x))
+
+-- the bearers of the channel at both ends
+pub record Ready (l : ℕ) (a : Air) (p : Pair) : Type 0 where
+  pub nb_stands : Stands Nb l a.nb.end
+  pub ue_stands : Stands Ue l a.ue.end
+  pub nb_speaks : Speaks (bits_of Srb) l p.near.bearer
+  pub ue_speaks : Speaks (bits_of Srb) l p.far.bearer
+
+-- the PDUs among what happens
+passes_over : (what : Pair → LifeStep → List AccountEntry) (ss : List Step) (p : Pair)
+    → over (λ q s. passes_of (what q (InPairLife s))) ss p ≡ passes_of (lives_over what (in_life_all ss) p)
+passes_over what [] p = refl
+passes_over what (s ∷ ss) p =
+    ap (λ (ps : List Passing). passes_of (what p (InPairLife s)) ++ ps) (passes_over what ss (happens p s))
+    ∙ sym (passes_then (what p (InPairLife s)) (lives_over what (in_life_all ss) (happens p s)))
 
 -- no discard timer is set in it
 pub record SetsNone (l : ℕ) (a : Air) (x : AirStep) : Type 0 where
@@ -102,8 +133,8 @@ pub record SetsNone (l : ℕ) (a : Air) (x : AirStep) : Type 0 where
   pub ue : SetNone l (calls_at Ue a x)
 
 walks_nb : (l : ℕ) (a : Air) (x : Act) (p : Pair) → IsDone l a.nb x → SetNone l (calls_by a.ue x)
-    → Matches Nb l a.nb p.near → Matches Ue l a.ue p.far → Walks l a (AtNb x) p
-walks_nb l a x p g none h k =
+    → Matches Nb l a.nb p.near → Matches Ue l a.ue p.far → Ready l a p → Walks l a (AtNb x) p
+walks_nb l a x p g none h k ready =
     let r : Acts Nb l (station_does a.ue a.nb x) p.far p.near (act_calls l a.ue a.nb x) =
     acts Nb Ue l a.nb a.ue p.near p.far x refl h k g in
     let same : goes (near_steps r.deeds) p ≡ record { near = does_all p.far p.near r.deeds; far = p.far } =
@@ -117,11 +148,21 @@ walks_nb l a x p g none h k =
       nb_does = does_as Nb (near_steps r.deeds) p ∙ near_does p r.deeds ∙ ap as_steps r.calls_are
           ∙ sym (act_steps l a.ue a.nb x g);
       ue_does = does_as Ue (near_steps r.deeds) p ∙ far_rests p r.deeds;
+      down_is =
+          passes_over down_in (near_steps r.deeds) p
+          ∙ ap passes_of
+          (near_says p r.deeds
+          ∙ (ap (says p.near.bearer) r.calls_are
+          ∙ (act_says (bits_of Srb) l Nb a.ue a.nb p.near.bearer x ready.nb_stands h.bearer_is ready.nb_speaks g
+          ∙ sym (append-nil (said_over (bits_of Srb) l (calls_by a.ue x) a.nb.end)))));
+      up_is =
+          passes_over up_in (near_steps r.deeds) p
+          ∙ ap passes_of (near_hears p r.deeds ∙ (ap hears r.calls_are ∙ act_hears l a.ue a.nb x));
     }
 
 walks_ue : (l : ℕ) (a : Air) (x : Act) (p : Pair) → IsDone l a.ue x → SetNone l (calls_by a.nb x)
-    → Matches Nb l a.nb p.near → Matches Ue l a.ue p.far → Walks l a (AtUe x) p
-walks_ue l a x p g none h k =
+    → Matches Nb l a.nb p.near → Matches Ue l a.ue p.far → Ready l a p → Walks l a (AtUe x) p
+walks_ue l a x p g none h k ready =
     let r : Acts Ue l (station_does a.nb a.ue x) p.near p.far (act_calls l a.nb a.ue x) =
     acts Ue Nb l a.ue a.nb p.far p.near x refl k h g in
     let same : goes (far_steps r.deeds) p ≡ record { near = p.near; far = does_all p.near p.far r.deeds } =
@@ -135,17 +176,29 @@ walks_ue l a x p g none h k =
       nb_does = does_as Nb (far_steps r.deeds) p ∙ near_rests p r.deeds;
       ue_does = does_as Ue (far_steps r.deeds) p ∙ far_does p r.deeds ∙ ap as_steps r.calls_are
           ∙ sym (act_steps l a.nb a.ue x g);
+      down_is =
+          passes_over down_in (far_steps r.deeds) p
+          ∙ ap passes_of (far_hears p r.deeds ∙ (ap hears r.calls_are ∙ act_hears l a.nb a.ue x));
+      up_is =
+          passes_over up_in (far_steps r.deeds) p
+          ∙ ap passes_of
+          (far_says p r.deeds
+          ∙ (ap (says p.far.bearer) r.calls_are
+          ∙ (act_says (bits_of Srb) l Ue a.nb a.ue p.far.bearer x ready.ue_stands k.bearer_is ready.ue_speaks g
+          ∙ sym (append-nil (said_over (bits_of Srb) l (calls_by a.nb x) a.ue.end)))));
     }
 
 pub walks : (l : ℕ) (a : Air) (x : LinkStep) (p : Pair) → IsGiven l a x → SetsNone l a (InLife x)
-    → Matches Nb l a.nb p.near → Matches Ue l a.ue p.far → Walks l a x p
-walks l a (AtNb x) p g none h k = walks_nb l a x p g none.nb h k
-walks l a (AtUe x) p g none h k = walks_ue l a x p g none.ue h k
-walks l a Passes p g none h k = record {
+    → Matches Nb l a.nb p.near → Matches Ue l a.ue p.far → Ready l a p → Walks l a x p
+walks l a (AtNb x) p g none h k ready = walks_nb l a x p g none.nb h k ready
+walks l a (AtUe x) p g none h k ready = walks_ue l a x p g none.ue h k ready
+walks l a Passes p g none h k ready = record {
   steps = PairPasses ∷ [];
   lived = (((young Nb l a.nb p.near h g.0, young Ue l a.ue p.far k g.1), tt), tt);
   nb = passes Nb l a.nb p.near h;
   ue = passes Ue l a.ue p.far k;
   nb_does = refl;
   ue_does = refl;
+  down_is = refl;
+  up_is = refl;
 }

@@ -1,5 +1,5 @@
 -- What an end does brings both directions on.
-use Rattle.std.proofs.Common.{◌≡◌, ℕ, false, List, [], ◌∷◌, ◌++◌, map, length, Option, Some, None, slice_get}
+use Rattle.std.proofs.Common.{◌≡◌, ℕ, ◌-◌, false, List, [], ◌∷◌, ◌++◌, map, length, Option, Some, None, slice_get}
 use Rattle.std.proofs.Common.{append-nil, refl, ap, sym, subst, ◌∙◌}
 use Rattle.std.specs.List.{AllByRecursion}
 use Rattle.law_rlc.specs.AmReceiver.Run.{Arrive as Hears-it, state_after}
@@ -9,18 +9,24 @@ use Rattle.law_rlc.specs.AmPair.Statuses.{reduced}
 use Rattle.rlc_pdu.specs.declared.Landed.TheVariants.{Clash}
 use Rattle.rlc_am_rx.specs.Machine.{landed}
 use Rattle.rlc_am_rx.specs.State.{State as Receiver}
+use Rattle.law_rlc.specs.AmPair.Flow.{Reports as ReportsOn}
+use Rattle.law_rlc.specs.AmArrival.Arrival.{written_in}
+use Rattle.law_rlc.proofs.AmPair.Laws.{happens-sound}
+use Rattle.law_words.specs.Passing.{Passing, Comes, Told, with_passings}
+use Rattle.bearer.specs.Acknowledged.Taking.{status_pdu}
 use Rattle.bearer.specs.Acknowledged.State.{State}
 use Rattle.law_bearer.specs.AnyBearer.Acknowledged.{status_heard, data_heard}
 use Rattle.law_bearer.specs.AnyBearer.Calls.{Call, Submit, Take, Arrive, Expire, Tick, SetDiscard}
 use Rattle.law_bearer.specs.AnyBearer.Queue.{submits}
 use Rattle.law_bearer.specs.AmBearer.Calls.{IsIdle, tells, ups_among}
+use Rattle.law_deliver.specs.AmDelivery.Arrival.{said_in, heard_in, said_by, heard_by}
 use Rattle.law_deliver.specs.AmDelivery.Ends.{submitted_by}
 use Rattle.law_deliver.specs.AmDelivery.Lives.{call_by, call_of, calls_in, ups_by}
 use Rattle.law_deliver.specs.AmFlow.Pair.{SentStatus, BearerEnd, Deed, Calls, DataComes, StatusComes, DataGoes}
 use Rattle.law_deliver.specs.AmFlow.Pair.{StatusGoes}
 use Rattle.law_deliver.specs.AmFlow.Pair.{called, calls, arrives, data_comes as data_comes_to}
 use Rattle.law_deliver.specs.AmFlow.Pair.{status_comes as status_comes_to, does, older, passed, IsCalling, IsDone}
-use Rattle.law_deliver.specs.AmFlow.Pair.{IsYoung}
+use Rattle.law_deliver.specs.AmFlow.Pair.{IsYoung, data_by}
 use Rattle.law_deliver.proofs.AmFlow.Flows.{data_read, ReadsStatus, status_read, let_go, ages, are_young}
 use Rattle.law_pdcp.specs.OneEnd.Lives.{queue}
 use Rattle.pdcp_pdu.specs.declared.PdcpKind.TheVariants.{Srb}
@@ -30,7 +36,11 @@ use Rattle.law_deliver.specs.SrbDelivery.Life.{IsAccepted, MayBeDone}
 use Rattle.law_deliver.proofs.SrbDelivery.Arriving.{data_comes, status_comes}
 use Rattle.law_deliver.proofs.SrbDelivery.Going.{Goes, stays, calm_goes}
 use Rattle.law_deliver.proofs.SrbDelivery.Hearing.{calls_hear, status_hears, data_hears}
-use Rattle.law_deliver.proofs.SrbDelivery.Joined.{Way, flow_by, Joined, has_flow, stands_so, sound_so, SendsOn}
+use Rattle.law_deliver.specs.SrbDelivery.Arrival.{passes_of}
+use Rattle.law_deliver.proofs.AmFlow.Hearing.{is_reported}
+use Rattle.law_deliver.proofs.SrbDelivery.Passing.{StatusIs, says_told, hears_none, hears_status}
+use Rattle.law_deliver.proofs.SrbDelivery.Joined.{Way, with_told, flow_by, Joined, has_flow, stands_so, sound_so}
+use Rattle.law_deliver.proofs.SrbDelivery.Joined.{SendsOn}
 use Rattle.law_deliver.proofs.SrbDelivery.Joined.{out_goes, HearsOn, inn_goes, next_are, are_next}
 use Rattle.law_deliver.specs.SrbDelivery.Losses.{losses_by}
 use Rattle.promises.specs.Events.{losses}
@@ -113,12 +123,12 @@ none_up_on : (w : Way) (ups later : List (List ℕ)) → HearsOn w ups later []
 none_up_on w ups later = record { news = []; rest = later; later_is = refl; brought_is = refl }
 
 none_goes : (w : Way) (from to d p : BearerEnd) (back got : List (List ℕ)) (j : Joined w from to back got)
-    → Goes (flow_by w j.steps) d.bearer.tx p.bearer.rx d.copies p.reports d.busy [] []
+    → Goes (flow_by w j.steps) d.bearer.tx p.bearer.rx d.copies p.reports d.busy [] [] []
     → p.bearer.pdcp.rx ≡ to.bearer.pdcp.rx → d.bearer.pdcp.tx ≡ from.bearer.pdcp.tx
     → Joined w d p back got
 none_goes w from to d p back got j m rx tx =
     subst (λ l. Joined w d p l got) (append-nil back)
-    (out_goes w from to d p back got [] [] j m
+    (out_goes w from to d p back got [] [] [] j m
     (record {
       news = [];
       sends = subst (Sends w.first w.protection ((got ++ j.later) ++ [])) (sym tx)
@@ -126,6 +136,30 @@ none_goes w from to d p back got j m rx tx =
       queued = append-nil (queue from.bearer.pdcp.tx) ∙ ap queue (sym tx);
       offers_are = refl;
     }) rx)
+
+-- what is told in another form
+told_as : (w : Way) (from to : BearerEnd) (submitted ups : List (List ℕ)) (ps qs : List Passing)
+    → with_passings ps w.told ≡ with_passings qs w.told → Joined (with_told ps w) from to submitted ups
+    → Joined (with_told qs w) from to submitted ups
+told_as w from to submitted ups ps qs e j =
+    subst (λ (t : Told). Joined (record w { told = t }) from to submitted ups) e j
+
+-- a STATUS of an end is read as one
+status_is : (w : Way) (e o : BearerEnd) (back got : List (List ℕ)) (share : ℕ) (j : Joined w o e back got)
+    → StatusIs (status_pdu e.bearer.rx share)
+status_is w e o back got share j =
+    let f = flow_by w j.steps in
+    let s = ReportsOn (share - 3) (status_pdu e.bearer.rx share) in
+    let ok = happens-sound f s (is_reported f e.bearer.rx share j.is.receiver_is) (sound_so w o e back got j) in
+    (_, ok.reports.0.reads)
+
+-- ---- what an end says and hears
+
+abbrev pub says_in : State → List Call → List Passing
+says_in b cs = passes_of (said_by b cs)
+
+abbrev pub hears_in : List Call → List Passing
+hears_in cs = passes_of (heard_by cs)
 
 -- ---- a call that brings no PDU
 
@@ -155,15 +189,17 @@ sent_as w from to sent up j = subst (λ l. Joined w from to l up) (sym (append-n
 
 calls_go : (out inn : Way) (e o : BearerEnd) (sent up got back : List (List ℕ)) (c : Call) → IsCalling e c
     → IsAccepted e.bearer c → Both out inn e o sent up got back
-    → Done out inn (calls e c) o (sent ++ submits c) up (got ++ ups_among (tells e.bearer c)) back
-    (losses (tells e.bearer c))
+    → Done (with_told (passes_of (said_in e.bearer c)) out) (with_told (passes_of (heard_in c)) inn) (calls e c) o
+    (sent ++ submits c) up (got ++ ups_among (tells e.bearer c)) back (losses (tells e.bearer c))
 calls_go out inn e o sent up got back c g may h =
     let d = calls e c in
     let quiet = is_call e c g in
     let j = h.out_joins in
     let k = h.inn_joins in
     let still = calls_stay e.bearer c quiet h.own.idle in
-    let there = out_goes out e o d o sent up (submits c) (offers_by e.bearer c) j
+    let wrote = written_in (data_by e.bearer c) in
+    let news = submits c in
+    let there = out_goes out e o d o sent up news (offers_by e.bearer c) wrote j
     (calls_send e c (flow_by out j.steps) o.bearer.rx o.reports g (stands_so out e o sent up j))
     (calls_send_on out (up ++ j.later) e.bearer c quiet may j.sends) refl in
     let here =
@@ -171,8 +207,13 @@ calls_go out inn e o sent up got back c g may h =
     (calls_hear e c (flow_by inn k.steps) o.bearer.tx o.copies o.busy g (stands_so inn o e back got k)) still.rx
     refl in
     record {
-      both = both_by out inn d o sent up got back (submits c) (ups_among (tells e.bearer c)) there
-          (up_as inn o d back got (ups_among (tells e.bearer c)) (none_up e.bearer c quiet) here)
+      both = both_by (with_told (passes_of (said_in e.bearer c)) out) (with_told (passes_of (heard_in c)) inn) d o sent
+          up got back news (ups_among (tells e.bearer c))
+          (told_as out d o (sent ++ news) up wrote (passes_of (said_in e.bearer c))
+          (sym (says_told e.bearer c out.told (λ share. status_is inn e o back got share k))) there)
+          (told_as inn o d back (got ++ ups_among (tells e.bearer c)) [] (passes_of (heard_in c))
+          (sym (ap (λ (ps : List Passing). with_passings ps inn.told) (hears_none c quiet)))
+          (up_as inn o d back got (ups_among (tells e.bearer c)) (none_up e.bearer c quiet) here))
           (record { kind = still.kind ∙ h.own.kind; idle = still.idle }) h.other;
       none = calls_lose_none e.bearer c quiet;
     }
@@ -181,8 +222,8 @@ calls_go out inn e o sent up got back c g may h =
 
 data_go : (out inn : Way) (e o : BearerEnd) (sent up got back : List (List ℕ)) (k : ℕ) (c : Copy)
     → slice_get o.copies k ≡ Some c → Both out inn e o sent up got back
-    → Done out inn (arrives e c.octets) o (sent ++ []) up (got ++ ups_among (tells e.bearer (Arrive c.octets))) back
-    (losses (tells e.bearer (Arrive c.octets)))
+    → Done out (with_told (Comes c.octets ∷ []) inn) (arrives e c.octets) o (sent ++ []) up
+    (got ++ ups_among (tells e.bearer (Arrive c.octets))) back (losses (tells e.bearer (Arrive c.octets)))
 data_go out inn e o sent up got back k c q h =
     let d = arrives e c.octets in
     let j = h.out_joins in
@@ -191,16 +232,18 @@ data_go out inn e o sent up got back k c q h =
     let x = r.pdu in
     let m = data_hears e (flow_by inn i.steps) k c x o.bearer.tx o.copies o.busy r.at r.read
     (sound_so inn o e back got i) h.own.idle.heard (stands_so inn o e back got i) in
-    let next = next_are inn o e o d back got (state_after e.bearer.rx (Hears-it x)).out.ready i m in
+    let came : List Passing = Comes c.octets ∷ [] in
+    let next = next_are inn o e o d back got (state_after e.bearer.rx (Hears-it x)).out.ready came i m in
     let can = are_next inn o e back got (state_after e.bearer.rx (Hears-it x)).out.ready i next in
     let apart : landed e.bearer.rx x ≡ Clash → ⊥ =
     subst (λ (rx : Receiver). landed rx x ≡ Clash → ⊥) i.is.receiver_is r.clashes in
     let y = data_comes inn.first inn.protection (length got) next.news e.bearer c.octets x r.read apart h.own.idle
     i.hears can.some can.few next.brought_is in
-    let here = inn_goes inn o e o d back got (state_after e.bearer.rx (Hears-it x)).out.ready i next m y.hears' refl in
+    let here =
+    inn_goes inn o e o d back got (state_after e.bearer.rx (Hears-it x)).out.ready came i next m y.hears' refl in
     let s = stands_so out e o sent up j in
     let there =
-    out_goes out e o d o sent up [] [] j
+    out_goes out e o d o sent up [] [] [] j
     (data_sends e c.octets (flow_by out j.steps) o.bearer.rx o.reports (ap status_heard r.read) s)
     (keeps_on out (up ++ j.later) e.bearer.pdcp.tx d.bearer.pdcp.tx
     (record {
@@ -208,8 +251,8 @@ data_go out inn e o sent up got back k c q h =
       queued = ap queue y.tx;
     })) refl in
     record {
-      both = both_by out inn d o sent up got back [] (ups_among (tells e.bearer (Arrive c.octets))) there
-          (subst (λ l. Joined inn o d back (got ++ l)) (sym y.ups_is) here)
+      both = both_by out (with_told came inn) d o sent up got back [] (ups_among (tells e.bearer (Arrive c.octets))) there
+          (subst (λ l. Joined (with_told came inn) o d back (got ++ l)) (sym y.ups_is) here)
           (record { kind = y.kind ∙ h.own.kind; idle = y.idle }) h.other;
       none = y.none_lost;
     }
@@ -219,17 +262,17 @@ data_go out inn e o sent up got back k c q h =
 status_by : (out inn : Way) (e o : BearerEnd) (sent up got back : List (List ℕ)) (k : ℕ) (s : SentStatus)
     (j : Joined out e o sent up) → ReadsStatus (flow_by out j.steps) k s → Joined inn o e back got
     → IsSignalling e.bearer → IsSignalling o.bearer
-    → Done out inn (arrives e s.octets) o (sent ++ []) up (got ++ ups_among (tells e.bearer (Arrive s.octets))) back
-    (losses (tells e.bearer (Arrive s.octets)))
+    → Done out (with_told (Comes s.octets ∷ []) inn) (arrives e s.octets) o (sent ++ []) up
+    (got ++ ups_among (tells e.bearer (Arrive s.octets))) back (losses (tells e.bearer (Arrive s.octets)))
 status_by out inn e o sent up got back k s j r i own other =
-    subst (λ (octets : List ℕ). Done out inn (arrives e octets) o (sent ++ []) up
+    subst (λ (octets : List ℕ). Done out (with_told (Comes octets ∷ []) inn) (arrives e octets) o (sent ++ []) up
     (got ++ ups_among (tells e.bearer (Arrive octets))) back (losses (tells e.bearer (Arrive octets)))) r.same
     (let octets = r.report.octets in
     let d = arrives e octets in
     let y = status_comes e.bearer octets (reduced r.report) r.read own.idle in
     let st = stands_so out e o sent up j in
     let there =
-    out_goes out e o d o sent up [] [] j
+    out_goes out e o d o sent up [] [] [] j
     (status_sends e (flow_by out j.steps) k r.report (reduced r.report) o.bearer.rx o.reports r.at r.read st)
     (keeps_on out (up ++ j.later) e.bearer.pdcp.tx d.bearer.pdcp.tx
     (y.keeps out.first out.protection (up ++ j.later) j.sends)) refl in
@@ -238,16 +281,19 @@ status_by out inn e o sent up got back k s j r i own other =
     (status_hears e octets (flow_by inn i.steps) o.bearer.tx o.copies o.busy (ap data_heard r.read)
     (stands_so inn o e back got i)) y.stays.rx refl in
     record {
-      both = both_by out inn d o sent up got back [] (ups_among (tells e.bearer (Arrive octets))) there
-          (up_as inn o d back got (ups_among (tells e.bearer (Arrive octets))) y.ups_is here)
+      both = both_by out (with_told (Comes octets ∷ []) inn) d o sent up got back []
+          (ups_among (tells e.bearer (Arrive octets))) there
+          (told_as inn o d back (got ++ ups_among (tells e.bearer (Arrive octets))) [] (Comes octets ∷ [])
+          (sym (hears_status octets (reduced r.report) inn.told r.read))
+          (up_as inn o d back got (ups_among (tells e.bearer (Arrive octets))) y.ups_is here))
           (record { kind = y.stays.kind ∙ own.kind; idle = y.stays.idle }) other;
       none = y.none_lost;
     })
 
 status_go : (out inn : Way) (e o : BearerEnd) (sent up got back : List (List ℕ)) (k : ℕ) (s : SentStatus)
     → slice_get o.reports k ≡ Some s → Both out inn e o sent up got back
-    → Done out inn (arrives e s.octets) o (sent ++ []) up (got ++ ups_among (tells e.bearer (Arrive s.octets))) back
-    (losses (tells e.bearer (Arrive s.octets)))
+    → Done out (with_told (Comes s.octets ∷ []) inn) (arrives e s.octets) o (sent ++ []) up
+    (got ++ ups_among (tells e.bearer (Arrive s.octets))) back (losses (tells e.bearer (Arrive s.octets)))
 status_go out inn e o sent up got back k s q h =
     status_by out inn e o sent up got back k s h.out_joins
     (status_read out.sending out.receiving e o (has_flow out e o sent up h.out_joins) k s q) h.inn_joins h.own
@@ -265,7 +311,7 @@ data_lost out inn e o sent up got back k h =
     let f = flow_by out j.steps in
     let there =
     none_goes out e o d o sent up j
-    (calm_goes f (LetsDataGo k) d.bearer.tx o.bearer.rx (except k e.copies) o.reports e.busy tt
+    (calm_goes f (LetsDataGo k) d.bearer.tx o.bearer.rx (except k e.copies) o.reports e.busy [] refl tt
     (record { stays = refl; none = refl }) (record {
       sender_is = s.sender_is;
       receiver_is = s.receiver_is;
@@ -290,7 +336,7 @@ status_lost out inn e o sent up got back k h =
     let f = flow_by inn i.steps in
     let here =
     none_goes inn o e o d back got i
-    (calm_goes f (LetsStatusGo k) o.bearer.tx d.bearer.rx o.copies (except k e.reports) o.busy tt
+    (calm_goes f (LetsStatusGo k) o.bearer.tx d.bearer.rx o.copies (except k e.reports) o.busy [] refl tt
     (record { stays = refl; none = refl }) (record {
       sender_is = s.sender_is;
       receiver_is = s.receiver_is;
@@ -319,24 +365,27 @@ nothing_done out inn e o sent up got back h =
 
 data_does : (out inn : Way) (e o : BearerEnd) (sent up got back : List (List ℕ)) (k : ℕ) (x : Option Copy)
     → slice_get o.copies k ≡ x → Both out inn e o sent up got back
-    → Done out inn (data_comes_to e x) o (sent ++ submitted_by (call_by x)) up (got ++ ups_by e.bearer (call_by x))
-    back (losses_by e.bearer (call_by x))
+    → Done (with_told (says_in e.bearer (call_by x)) out) (with_told (hears_in (call_by x)) inn) (data_comes_to e x) o
+    (sent ++ submitted_by (call_by x)) up (got ++ ups_by e.bearer (call_by x)) back
+    (losses_by e.bearer (call_by x))
 data_does out inn e o sent up got back k None q h =
     record { both = nothing_done out inn e o sent up got back h; none = refl }
 data_does out inn e o sent up got back k (Some c) q h = data_go out inn e o sent up got back k c q h
 
 status_does : (out inn : Way) (e o : BearerEnd) (sent up got back : List (List ℕ)) (k : ℕ) (x : Option SentStatus)
     → slice_get o.reports k ≡ x → Both out inn e o sent up got back
-    → Done out inn (status_comes_to e x) o (sent ++ submitted_by (call_of x)) up (got ++ ups_by e.bearer (call_of x))
-    back (losses_by e.bearer (call_of x))
+    → Done (with_told (says_in e.bearer (call_of x)) out) (with_told (hears_in (call_of x)) inn) (status_comes_to e x) o
+    (sent ++ submitted_by (call_of x)) up (got ++ ups_by e.bearer (call_of x)) back
+    (losses_by e.bearer (call_of x))
 status_does out inn e o sent up got back k None q h =
     record { both = nothing_done out inn e o sent up got back h; none = refl }
 status_does out inn e o sent up got back k (Some s) q h = status_go out inn e o sent up got back k s q h
 
 pub does_on : (out inn : Way) (e o : BearerEnd) (sent up got back : List (List ℕ)) (x : Deed) → IsDone e x
     → MayBeDone e.bearer x → Both out inn e o sent up got back
-    → Done out inn (does o e x) o (sent ++ submitted_by (calls_in o x)) up (got ++ ups_by e.bearer (calls_in o x))
-    back (losses_by e.bearer (calls_in o x))
+    → Done (with_told (says_in e.bearer (calls_in o x)) out) (with_told (hears_in (calls_in o x)) inn) (does o e x) o
+    (sent ++ submitted_by (calls_in o x)) up (got ++ ups_by e.bearer (calls_in o x)) back
+    (losses_by e.bearer (calls_in o x))
 does_on out inn e o sent up got back (Calls c) g may h = calls_go out inn e o sent up got back c g may h
 does_on out inn e o sent up got back (DataComes k) g may h =
     data_does out inn e o sent up got back k (slice_get o.copies k) refl h
@@ -355,7 +404,7 @@ passes_on w e o sent up young j =
     let s = stands_so w e o sent up j in
     let f = flow_by w j.steps in
     none_goes w e o (passed e) (passed o) sent up j
-    (calm_goes f TtiPasses e.bearer.tx o.bearer.rx e.copies (map older o.reports) false
+    (calm_goes f TtiPasses e.bearer.tx o.bearer.rx e.copies (map older o.reports) false [] refl
     (are_young f.reports (subst (λ (l : List SentStatus). AllByRecursion IsYoung l) (sym s.reports_are) young))
     (record { stays = refl; none = refl }) (record {
       sender_is = s.sender_is;

@@ -1,4 +1,4 @@
--- Steps that bring a flow of RLC on, with what they offer and what they bring up.
+-- Steps that bring a flow of RLC on, with what they offer, what they bring up and the data PDUs that pass.
 use Rattle.std.proofs.Common.{◌≡◌, ℕ, Bool, true, false, ◌||◌, List, [], ◌∷◌, ◌++◌, take, drop, append-nil}
 use Rattle.std.proofs.Common.{append_assoc, refl, ap, sym, subst, ◌∙◌}
 use Rattle.std.proofs.lemmas.List.{take-append-drop}
@@ -12,30 +12,35 @@ use Rattle.law_rlc.specs.AmPair.Sdus.{offered, handed_up, ready}
 use Rattle.law_rlc.specs.AmPair.Arrives.{brings}
 use Rattle.law_rlc.specs.AmPair.Steps.{takes_up, offers}
 use Rattle.law_rlc.proofs.AmPair.Steps.{goes-up, step-offers}
+use Rattle.law_words.specs.Passing.{Passing}
+use Rattle.law_rlc.specs.AmArrival.Arrival.{passed_in, passed}
 use Rattle.law_bearer.specs.AnyBearer.Acknowledged.{IsOfReceiver}
 use Rattle.law_deliver.specs.AmFlow.Pair.{SentStatus}
 use Rattle.law_deliver.proofs.AmFlow.Standing.{Stands, given_more, goes_more}
+use Rattle.law_deliver.proofs.AmDelivery.Accounts.{passed_more}
 
 -- what the receiver has handed up, and what is ready to go up
 abbrev pub total : Flow → List (List ℕ)
 total f = handed_up f ++ ready f
 
 pub record Goes (f : Flow) (tx : Sender) (rx : Receiver) (copies : List Copy) (reports : List SentStatus) (busy : Bool)
-    (sdus ups : List (List ℕ)) : Type 0 where
+    (sdus ups : List (List ℕ)) (ps : List Passing) : Type 0 where
   pub steps : List Step
   pub given : AreGiven f steps
   pub stands : Stands tx rx copies reports busy (goes steps f)
   pub offered_is : offered (goes steps f) ≡ offered f ++ sdus
   pub total_is : total (goes steps f) ≡ total f ++ ups
+  pub passed_is : passed steps f ≡ ps
 
 pub stays : (f : Flow) (tx : Sender) (rx : Receiver) (cs : List Copy) (rs : List SentStatus) (b : Bool)
-    → Stands tx rx cs rs b f → Goes f tx rx cs rs b [] []
+    → Stands tx rx cs rs b f → Goes f tx rx cs rs b [] [] []
 stays f tx rx cs rs b h = record {
   steps = [];
   given = tt;
   stands = h;
   offered_is = sym (append-nil (offered f));
   total_is = sym (append-nil (total f));
+  passed_is = refl;
 }
 
 -- ---- a step that neither brings a data PDU nor takes an SDU up
@@ -50,13 +55,15 @@ calm_total f s g c =
     ap (λ l. l ++ ready (happens f s)) (h.stays s g c.stays) ∙ ap (λ l. handed_up f ++ l) (h.same s g c.stays c.none)
 
 pub calm_goes : (f : Flow) (s : Step) (tx : Sender) (rx : Receiver) (cs : List Copy) (rs : List SentStatus) (b : Bool)
-    → IsGiven f s → IsCalm s → Stands tx rx cs rs b (happens f s) → Goes f tx rx cs rs b (offers s) []
-calm_goes f s tx rx cs rs b g c h = record {
+    (ps : List Passing) → passed_in f s ≡ ps → IsGiven f s → IsCalm s → Stands tx rx cs rs b (happens f s)
+    → Goes f tx rx cs rs b (offers s) [] ps
+calm_goes f s tx rx cs rs b ps e g c h = record {
   steps = s ∷ [];
   given = (g, tt);
   stands = h;
   offered_is = step-offers f s;
   total_is = calm_total f s g c ∙ sym (append-nil (total f));
+  passed_is = append-nil (passed_in f s) ∙ e;
 }
 
 -- ---- an SDU goes up, of those that are ready
@@ -83,13 +90,12 @@ more_is : (xs ys zs a b : List (List ℕ)) → ys ≡ xs ++ a → zs ≡ ys ++ b
 more_is xs ys zs a b p q = q ∙ ap (λ (l : List (List ℕ)). l ++ b) p ∙ append_assoc xs a b
 
 pub goes_then : (f : Flow) (tx ty : Sender) (rx ry : Receiver) (cs ds : List Copy) (rs ss : List SentStatus)
-    (b c : Bool)
-    (sdus more ups later : List (List ℕ))
-    → Goes f tx rx cs rs b sdus ups → ((g : Flow) → Stands tx rx cs rs b g → Goes g ty ry ds ss c more later)
-    → Goes f ty ry ds ss c (sdus ++ more) (ups ++ later)
-goes_then f tx ty rx ry cs ds rs ss b c sdus more ups later m go =
+    (b c : Bool) (sdus more ups later : List (List ℕ)) (ps qs : List Passing)
+    → Goes f tx rx cs rs b sdus ups ps → ((g : Flow) → Stands tx rx cs rs b g → Goes g ty ry ds ss c more later qs)
+    → Goes f ty ry ds ss c (sdus ++ more) (ups ++ later) (ps ++ qs)
+goes_then f tx ty rx ry cs ds rs ss b c sdus more ups later ps qs m go =
     let g = goes m.steps f in
-    let n : Goes g ty ry ds ss c more later = go g m.stands in
+    let n : Goes g ty ry ds ss c more later qs = go g m.stands in
     let same = sym (goes_more f m.steps n.steps) in
     record {
       steps = m.steps ++ n.steps;
@@ -99,18 +105,21 @@ goes_then f tx ty rx ry cs ds rs ss b c sdus more ups later m go =
           ∙ more_is (offered f) (offered g) (offered (goes n.steps g)) sdus more m.offered_is n.offered_is;
       total_is = ap total (sym same)
           ∙ more_is (total f) (total g) (total (goes n.steps g)) ups later m.total_is n.total_is;
+      passed_is = passed_more m.steps n.steps f ∙ ap (λ (l : List Passing). l ++ passed n.steps g) m.passed_is
+          ∙ ap (λ (l : List Passing). ps ++ l) n.passed_is;
     }
 
 -- the same in another form
 pub goes_as : (f : Flow) (tx : Sender) (rx : Receiver) (cs : List Copy) (rs : List SentStatus) (b : Bool)
-    (sdus more ups later : List (List ℕ)) → sdus ≡ more → ups ≡ later
-    → Goes f tx rx cs rs b sdus ups → Goes f tx rx cs rs b more later
-goes_as f tx rx cs rs b sdus more ups later p q m = record {
+    (sdus more ups later : List (List ℕ)) (ps qs : List Passing) → sdus ≡ more → ups ≡ later → ps ≡ qs
+    → Goes f tx rx cs rs b sdus ups ps → Goes f tx rx cs rs b more later qs
+goes_as f tx rx cs rs b sdus more ups later ps qs p q r m = record {
   steps = m.steps;
   given = m.given;
   stands = m.stands;
   offered_is = m.offered_is ∙ ap (λ l. offered f ++ l) p;
   total_is = m.total_is ∙ ap (λ l. total f ++ l) q;
+  passed_is = m.passed_is ∙ r;
 }
 
 -- where nothing new was sent

@@ -1,4 +1,5 @@
--- What happens at an end is, to the flow of RLC that it hears, steps of the receiver; with what they bring up.
+-- What happens at an end is, to the flow of RLC that it hears, steps of the receiver; with what they bring up and the
+-- data PDUs that come.
 use Rattle.std.proofs.Common.{◌≡◌, ℕ, ◌-◌, Bool, true, false, if◌then◌else◌, List, [], ◌∷◌, ◌++◌, map, Option, Some}
 use Rattle.std.proofs.Common.{Result, Ok, slice_get, append-nil, refl, ap, sym, subst, ◌∙◌}
 use Rattle.std.specs.List.{AllByRecursion}
@@ -13,6 +14,8 @@ use Rattle.law_rlc.specs.AmReceiver.Run.{ExpireProhibit, TickReorder, TickProhib
 use Rattle.law_rlc.specs.AmPair.Flow.{Copy, Flow, Receives, Reports, DataComes, receiver, data_read, data_comes}
 use Rattle.law_rlc.specs.AmPair.Flow.{happens}
 use Rattle.law_rlc.specs.AmPair.Given.{IsReceiving}
+use Rattle.law_words.specs.Passing.{Passing, Comes}
+use Rattle.law_rlc.specs.AmArrival.Arrival.{coming}
 use Rattle.law_rlc.specs.AmPair.Sdus.{handed_up, ready}
 use Rattle.law_rlc.proofs.AmPair.ByPlace.{has-ready}
 use Rattle.law_rlc.proofs.AmPair.Laws.{happens-sound}
@@ -42,37 +45,38 @@ own_is TickReorder own = tt
 own_is TickProhibit own = tt
 
 own_one : (f : Flow) (c : ReceiverCall) (tx : Sender) (rx : Receiver) (cs : List Copy) (rs : List SentStatus) (b : Bool)
-    → IsOfReceiver c → Stands tx rx cs rs b f → Goes f tx (state_after rx c) cs rs b [] []
+    → IsOfReceiver c → Stands tx rx cs rs b f → Goes f tx (state_after rx c) cs rs b [] [] []
 own_one f c tx rx cs rs b own h = record {
   steps = Receives c ∷ [];
   given = (own_is c own, tt);
   stands = receives_one f c tx rx cs rs b h;
   offered_is = step-offers f (Receives c);
   total_is = own_total f c own ∙ sym (append-nil (total f));
+  passed_is = refl;
 }
 
 own_all : (own : List ReceiverCall) (f : Flow) (tx : Sender) (rx : Receiver) (cs : List Copy) (rs : List SentStatus)
     (b : Bool)
-    → AllByRecursion IsOfReceiver own → Stands tx rx cs rs b f → Goes f tx (hears_on own rx) cs rs b [] []
+    → AllByRecursion IsOfReceiver own → Stands tx rx cs rs b f → Goes f tx (hears_on own rx) cs rs b [] [] []
 own_all [] f tx rx cs rs b are h = stays f tx rx cs rs b h
 own_all (c ∷ own) f tx rx cs rs b are h =
-    goes_then f tx tx (state_after rx c) (hears_on own (state_after rx c)) cs cs rs rs b b [] [] [] []
+    goes_then f tx tx (state_after rx c) (hears_on own (state_after rx c)) cs cs rs rs b b [] [] [] [] [] []
     (own_one f c tx rx cs rs b are.0 h)
     (λ g k. own_all own g tx (state_after rx c) cs rs b are.1 k)
 
 -- a call that brings nothing to the receiver and takes nothing from there
 keeps_to_itself : (f : Flow) (tx : Sender) (rx ry : Receiver) (cs : List Copy) (rs : List SentStatus) (b : Bool)
-    → ReceiverGoes rx ry [] → Stands tx rx cs rs b f → Goes f tx ry cs rs b [] []
+    → ReceiverGoes rx ry [] → Stands tx rx cs rs b f → Goes f tx ry cs rs b [] [] []
 keeps_to_itself f tx rx ry cs rs b m h =
-    subst (λ (r : Receiver). Goes f tx r cs rs b [] []) (sym m.left) (own_all m.own f tx rx cs rs b m.are_own h)
+    subst (λ (r : Receiver). Goes f tx r cs rs b [] [] []) (sym m.left) (own_all m.own f tx rx cs rs b m.are_own h)
 
 -- ---- a STATUS is written
 
 reports_one : (f : Flow) (share : ℕ) (tx : Sender) (rx : Receiver) (cs : List Copy) (rs : List SentStatus) (b : Bool)
-    → Stands tx rx cs rs b f → Goes f tx (written rx) cs (written_now (status_pdu rx share) ∷ rs) b [] []
+    → Stands tx rx cs rs b f → Goes f tx (written rx) cs (written_now (status_pdu rx share) ∷ rs) b [] [] []
 reports_one f share tx rx cs rs b h =
     let octets = status_pdu rx share in
-    calm_goes f (Reports (share - 3) octets) tx (written rx) cs (written_now octets ∷ rs) b
+    calm_goes f (Reports (share - 3) octets) tx (written rx) cs (written_now octets ∷ rs) b [] refl
     (is_reported f rx share h.receiver_is) (record { stays = refl; none = refl }) (record {
       sender_is = h.sender_is;
       receiver_is = ap (λ (w : ReceiverWorld). w.state) (receiver-more f Write) ∙ ap written h.receiver_is;
@@ -84,11 +88,11 @@ reports_one f share tx rx cs rs b h =
 takes_by : (w : Bool) (f : Flow) (share : ℕ) (tx : Sender) (rx ry : Receiver) (cs : List Copy) (rs : List SentStatus)
     (b : Bool)
     → ReceiverGoes rx ry (if w then Write ∷ [] else []) → Stands tx rx cs rs b f
-    → Goes f tx ry cs (map written_now (if w then status_pdu rx share ∷ [] else []) ++ rs) b [] []
+    → Goes f tx ry cs (map written_now (if w then status_pdu rx share ∷ [] else []) ++ rs) b [] [] []
 takes_by true f share tx rx ry cs rs b m h =
     let ss : List SentStatus = written_now (status_pdu rx share) ∷ rs in
-    subst (λ (r : Receiver). Goes f tx r cs ss b [] []) (sym m.left)
-    (goes_then f tx tx (written rx) (hears_on m.own (written rx)) cs cs ss ss b b [] [] [] []
+    subst (λ (r : Receiver). Goes f tx r cs ss b [] [] []) (sym m.left)
+    (goes_then f tx tx (written rx) (hears_on m.own (written rx)) cs cs ss ss b b [] [] [] [] [] []
     (reports_one f share tx rx cs rs b h) (λ g k. own_all m.own g tx (written rx) cs ss b m.are_own k))
 takes_by false f share tx rx ry cs rs b m h = keeps_to_itself f tx rx ry cs rs b m h
 
@@ -98,12 +102,12 @@ called_so : (b : State) (c : Call) → ReceiverGoes b.rx (called b c).rx (receiv
 called_so b c = receiver_goes_on b (called b c) c (is_called b c)
 
 quiet : (e : BearerEnd) (d : State) (f : Flow) (tx : Sender) (cs : List Copy) (b : Bool)
-    → ReceiverGoes e.bearer.rx d.rx [] → Stands tx e.bearer.rx cs e.reports b f → Goes f tx d.rx cs e.reports b [] []
+    → ReceiverGoes e.bearer.rx d.rx [] → Stands tx e.bearer.rx cs e.reports b f → Goes f tx d.rx cs e.reports b [] [] []
 quiet e d f tx cs b m h = keeps_to_itself f tx e.bearer.rx d.rx cs e.reports b m h
 
 pub calls_hear : (e : BearerEnd) (c : Call) (f : Flow) (tx : Sender) (cs : List Copy) (b : Bool) → IsCalling e c
     → Stands tx e.bearer.rx cs e.reports b f
-    → Goes f tx (called e.bearer c).rx cs (map written_now (status_by e.bearer c) ++ e.reports) b [] []
+    → Goes f tx (called e.bearer c).rx cs (map written_now (status_by e.bearer c) ++ e.reports) b [] [] []
 calls_hear e (Submit sdu) f tx cs b g h =
     quiet e (called e.bearer (Submit sdu)) f tx cs b (called_so e.bearer (Submit sdu)) h
 calls_hear e (Take share held) f tx cs b g h =
@@ -121,7 +125,7 @@ calls_hear e (SetDiscard ttis) f tx cs b g h =
 -- a STATUS is nothing to the receiver
 pub status_hears : (e : BearerEnd) (octets : List ℕ) (f : Flow) (tx : Sender) (cs : List Copy) (b : Bool)
     → data_heard (am_at octets) ≡ [] → Stands tx e.bearer.rx cs e.reports b f
-    → Goes f tx (called e.bearer (Arrive octets)).rx cs e.reports b [] []
+    → Goes f tx (called e.bearer (Arrive octets)).rx cs e.reports b [] [] []
 status_hears e octets f tx cs b q h =
     let d = called e.bearer (Arrive octets) in
     keeps_to_itself f tx e.bearer.rx d.rx cs e.reports b
@@ -144,7 +148,7 @@ data_at : (f : Flow) (k : ℕ) (c : Copy) (pdu : AmdPdu) (tx : Sender) (rx : Rec
     (b : Bool)
     → slice_get f.copies k ≡ Some c → am_at c.octets ≡ Ok (Payload pdu) → IsSound f → rx.out.ready ≡ []
     → Stands tx rx cs rs b f
-    → Goes f tx (state_after rx (Hears pdu)) cs rs b [] (state_after rx (Hears pdu)).out.ready
+    → Goes f tx (state_after rx (Hears pdu)) cs rs b [] (state_after rx (Hears pdu)).out.ready (Comes c.octets ∷ [])
 data_at f k c pdu tx rx cs rs b q read sound none h =
     let r = state_after rx (Hears pdu) in
     let on : Stands tx r cs rs b (happens f (DataComes k)) =
@@ -157,6 +161,7 @@ data_at f k c pdu tx rx cs rs b q read sound none h =
       stands = on;
       offered_is = step-offers f (DataComes k);
       total_is = data_total f k r sound (ap (λ (x : Receiver). x.out.ready) h.receiver_is ∙ none) on.receiver_is;
+      passed_is = ap (λ (o : Option Copy). coming o ++ []) q;
     }
 
 -- a data PDU that stands at a place comes
@@ -164,14 +169,17 @@ pub data_hears : (e : BearerEnd) (f : Flow) (k : ℕ) (c : Copy) (pdu : AmdPdu) 
     → slice_get f.copies k ≡ Some c → am_at c.octets ≡ Ok (Payload pdu) → IsSound f → e.bearer.rx.out.ready ≡ []
     → Stands tx e.bearer.rx cs e.reports b f
     → Goes f tx (called e.bearer (Arrive c.octets)).rx cs e.reports b [] (state_after e.bearer.rx (Hears pdu)).out.ready
+    (Comes c.octets ∷ [])
 data_hears e f k c pdu tx cs b q read sound none h =
     let d = called e.bearer (Arrive c.octets) in
     let m : ReceiverGoes e.bearer.rx d.rx (Hears pdu ∷ []) =
     subst (λ (o : Result AcknowledgedPdu RlcRefusal). ReceiverGoes e.bearer.rx d.rx (data_heard o)) read
     (receiver_goes_on e.bearer d (Arrive c.octets) (is_called e.bearer (Arrive c.octets))) in
     let r = state_after e.bearer.rx (Hears pdu) in
-    subst (λ (x : Receiver). Goes f tx x cs e.reports b [] r.out.ready) (sym m.left)
-    (goes_as f tx (hears_on m.own r) cs e.reports b [] [] (r.out.ready ++ []) r.out.ready refl (append-nil r.out.ready)
-    (goes_then f tx tx r (hears_on m.own r) cs cs e.reports e.reports b b [] [] r.out.ready []
+    let came : List Passing = Comes c.octets ∷ [] in
+    subst (λ (x : Receiver). Goes f tx x cs e.reports b [] r.out.ready came) (sym m.left)
+    (goes_as f tx (hears_on m.own r) cs e.reports b [] [] (r.out.ready ++ []) r.out.ready came came refl
+    (append-nil r.out.ready) refl
+    (goes_then f tx tx r (hears_on m.own r) cs cs e.reports e.reports b b [] [] r.out.ready [] came []
     (data_at f k c pdu tx e.bearer.rx cs e.reports b q read sound none h)
     (λ g k. own_all m.own g tx r cs e.reports b m.are_own k)))

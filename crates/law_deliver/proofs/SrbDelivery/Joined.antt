@@ -12,6 +12,9 @@ use Rattle.law_rlc.specs.AmPair.Flow.{Flow as Rlc, Step as RlcStep, goes as rlc_
 use Rattle.law_rlc.specs.AmPair.Given.{AreGiven as AreGivenSteps}
 use Rattle.law_rlc.specs.AmPair.Sdus.{offered}
 use Rattle.law_words.specs.Lists.{AreFirstSdus}
+use Rattle.law_words.specs.Passing.{Passing, Told, nothing_told, with_passings}
+use Rattle.law_rlc.specs.AmArrival.Arrival.{passed}
+use Rattle.law_rlc.proofs.AmArrival.Telling.{told_then}
 use Rattle.law_rlc.proofs.AmPair.Laws.{sound, hands-up-the-front}
 use Rattle.law_rlc.proofs.AmPair.Sound.{IsSound}
 use Rattle.law_deliver.specs.AmFlow.Flows.{IsFlow, HasFlow}
@@ -21,17 +24,23 @@ use Rattle.law_deliver.proofs.AmFlow.Standing.{Stands, given_more, goes_more}
 use Rattle.law_pdcp.proofs.SrbPair.Laws.{Hears}
 use Rattle.law_pdcp.proofs.OneEnd.Submitting.{AreNonempty}
 use Rattle.law_pdcp.proofs.SrbPair.Sending.{Sends}
+use Rattle.law_deliver.proofs.AmDelivery.Accounts.{passed_more}
 use Rattle.law_deliver.proofs.SrbDelivery.Going.{total, Goes}
 use Rattle.law_deliver.proofs.SrbDelivery.Taking.{pdus_from, pdus_both}
 
 -- ---- what holds
 
--- of a direction of a life: its first COUNT, the protection of what is sent, and how RLC is set at both ends
+-- of a direction of a life: its first COUNT, the protection of what is sent, how RLC is set at both ends, and what the
+-- data PDUs have told so far
 pub record Way : Type 0 where
   pub first : ℕ
   pub protection : Protection
   pub sending : AmTxConfig
   pub receiving : AmRxConfig
+  pub told : Told
+
+abbrev pub with_told : List Passing → Way → Way
+with_told ps w = record w { told = with_passings ps w.told }
 
 abbrev pub flow_by : Way → List RlcStep → Rlc
 flow_by w steps = rlc_goes steps (am_rlc_outset w.sending w.receiving)
@@ -47,6 +56,7 @@ pub record Joined (w : Way) (from to : BearerEnd) (submitted ups : List (List �
   pub offered_is : offered (flow_by w steps) ≡ pdus_from w.protection w.first (ups ++ later)
   pub total_is : total (flow_by w steps) ≡ pdus_from w.protection w.first ups
   pub hears : Hears w.first w.protection (length ups) to.bearer.pdcp.rx
+  pub told_is : w.told ≡ with_passings (passed steps (am_rlc_outset w.sending w.receiving)) nothing_told
   pub submitted_is : submitted ≡ (ups ++ later) ++ queue from.bearer.pdcp.tx
 
 abbrev pub has_flow : (w : Way) (from to : BearerEnd) (submitted ups : List (List ℕ)) → Joined w from to submitted ups
@@ -64,19 +74,23 @@ sound_so w from to submitted ups j = sound w.sending w.receiving j.steps j.given
 -- ---- it goes on
 
 -- RLC goes on
-record Further (w : Way) (from to : BearerEnd) (steps : List RlcStep) (sdus ups : List (List ℕ)) : Type 0 where
+record Further (w : Way) (from to : BearerEnd) (steps : List RlcStep) (sdus ups : List (List ℕ)) (ps : List Passing) :
+    Type 0 where
   all : List RlcStep
   given : AreGivenSteps (am_rlc_outset w.sending w.receiving) all
   is : IsFlow from to (flow_by w all)
   offered_is : offered (flow_by w all) ≡ offered (flow_by w steps) ++ sdus
   total_is : total (flow_by w all) ≡ total (flow_by w steps) ++ ups
+  told_is : with_passings (passed all (am_rlc_outset w.sending w.receiving)) nothing_told
+      ≡ with_passings ps (with_passings (passed steps (am_rlc_outset w.sending w.receiving)) nothing_told)
 
 further : (w : Way) (from to d p : BearerEnd) (submitted ups : List (List ℕ)) (j : Joined w from to submitted ups)
-    (sdus more : List (List ℕ))
-    → Goes (flow_by w j.steps) d.bearer.tx p.bearer.rx d.copies p.reports d.busy sdus more
-    → Further w d p j.steps sdus more
-further w from to d p submitted ups j sdus more m =
+    (sdus more : List (List ℕ)) (ps : List Passing)
+    → Goes (flow_by w j.steps) d.bearer.tx p.bearer.rx d.copies p.reports d.busy sdus more ps
+    → Further w d p j.steps sdus more ps
+further w from to d p submitted ups j sdus more ps m =
     let f = flow_by w j.steps in
+    let first = am_rlc_outset w.sending w.receiving in
     let same = sym (goes_more (am_rlc_outset w.sending w.receiving) j.steps m.steps) in
     record {
       all = j.steps ++ m.steps;
@@ -84,6 +98,10 @@ further w from to d p submitted ups j sdus more m =
       is = subst (IsFlow d p) same (is_flow d p (rlc_goes m.steps f) m.stands);
       offered_is = ap offered (sym same) ∙ m.offered_is;
       total_is = ap total (sym same) ∙ m.total_is;
+      told_is =
+          ap (λ (l : List Passing). with_passings l nothing_told)
+          (passed_more j.steps m.steps first ∙ ap (λ (l : List Passing). passed j.steps first ++ l) m.passed_is)
+          ∙ told_then (passed j.steps first) ps nothing_told;
     }
 
 -- a sender takes some more, of those that waited or were submitted
@@ -94,14 +112,14 @@ pub record SendsOn (w : Way) (sdus : List (List ℕ)) (s t : Sending) (submitted
   pub offers_are : offers ≡ pdus_from w.protection (w.first + length sdus) news
 
 -- at the end that sends
-pub out_goes : (w : Way) (from to d p : BearerEnd) (submitted ups more offers : List (List ℕ))
+pub out_goes : (w : Way) (from to d p : BearerEnd) (submitted ups more offers : List (List ℕ)) (ps : List Passing)
     (j : Joined w from to submitted ups)
-    → Goes (flow_by w j.steps) d.bearer.tx p.bearer.rx d.copies p.reports d.busy offers []
+    → Goes (flow_by w j.steps) d.bearer.tx p.bearer.rx d.copies p.reports d.busy offers [] ps
     → SendsOn w (ups ++ j.later) from.bearer.pdcp.tx d.bearer.pdcp.tx more offers → p.bearer.pdcp.rx ≡ to.bearer.pdcp.rx
-    → Joined w d p (submitted ++ more) ups
-out_goes w from to d p submitted ups more offers j m s rx =
+    → Joined (with_told ps w) d p (submitted ++ more) ups
+out_goes w from to d p submitted ups more offers ps j m s rx =
     let q = w.protection in
-    let on = further w from to d p submitted ups j offers [] m in
+    let on = further w from to d p submitted ups j offers [] ps m in
     let sdus = ups ++ j.later in
     let all : sdus ++ s.news ≡ ups ++ (j.later ++ s.news) = append_assoc ups j.later s.news in
     record {
@@ -115,6 +133,7 @@ out_goes w from to d p submitted ups more offers j m s rx =
           ∙ sym (pdus_both q w.first sdus s.news) ∙ ap (pdus_from q w.first) all;
       total_is = on.total_is ∙ append-nil (total (flow_by w j.steps)) ∙ j.total_is;
       hears = subst (Hears w.first q (length ups)) (sym rx) j.hears;
+      told_is = ap (with_passings ps) j.told_is ∙ sym on.told_is;
       submitted_is = ap (λ l. l ++ more) j.submitted_is ∙ append_assoc sdus (queue from.bearer.pdcp.tx) more
           ∙ ap (λ l. sdus ++ l) s.queued
           ∙ sym (append_assoc sdus s.news (queue d.bearer.pdcp.tx)) ∙ ap (λ l. l ++ queue d.bearer.pdcp.tx) all;
@@ -127,14 +146,14 @@ pub record HearsOn (w : Way) (ups later brought : List (List ℕ)) : Type 0 wher
   pub later_is : later ≡ news ++ rest
   pub brought_is : brought ≡ pdus_from w.protection (w.first + length ups) news
 
-pub inn_goes : (w : Way) (from to d p : BearerEnd) (submitted ups brought : List (List ℕ))
+pub inn_goes : (w : Way) (from to d p : BearerEnd) (submitted ups brought : List (List ℕ)) (ps : List Passing)
     (j : Joined w from to submitted ups) (h : HearsOn w ups j.later brought)
-    → Goes (flow_by w j.steps) d.bearer.tx p.bearer.rx d.copies p.reports d.busy [] brought
+    → Goes (flow_by w j.steps) d.bearer.tx p.bearer.rx d.copies p.reports d.busy [] brought ps
     → Hears w.first w.protection (length ups + length h.news) p.bearer.pdcp.rx → d.bearer.pdcp.tx ≡ from.bearer.pdcp.tx
-    → Joined w d p submitted (ups ++ h.news)
-inn_goes w from to d p submitted ups brought j h m hears tx =
+    → Joined (with_told ps w) d p submitted (ups ++ h.news)
+inn_goes w from to d p submitted ups brought ps j h m hears tx =
     let q = w.protection in
-    let on = further w from to d p submitted ups j [] brought m in
+    let on = further w from to d p submitted ups j [] brought ps m in
     let all : ups ++ j.later ≡ (ups ++ h.news) ++ h.rest =
     ap (λ l. ups ++ l) h.later_is ∙ sym (append_assoc ups h.news h.rest) in
     let size : length ups + length h.news ≡ length (ups ++ h.news) = sym (length-append ups h.news) in
@@ -150,6 +169,7 @@ inn_goes w from to d p submitted ups brought j h m hears tx =
       total_is = on.total_is ∙ ap (λ l. l ++ brought) j.total_is ∙ ap (λ l. pdus_from q w.first ups ++ l) h.brought_is
           ∙ sym (pdus_both q w.first ups h.news);
       hears = subst (λ n. Hears w.first q n p.bearer.pdcp.rx) size hears;
+      told_is = ap (with_passings ps) j.told_is ∙ sym on.told_is;
       submitted_is = j.submitted_is ∙ ap (λ l. l ++ queue from.bearer.pdcp.tx) all
           ∙ ap (λ (s : Sending). ((ups ++ h.news) ++ h.rest) ++ queue s) (sym tx);
     }
@@ -190,13 +210,13 @@ split p count (x ∷ sdus) (b ∷ brought) rest e =
           ∙ ap (λ l. pdu Srb p count x ∷ l) more.brought_is;
     }
 
-pub next_are : (w : Way) (from to d p : BearerEnd) (submitted ups brought : List (List ℕ))
+pub next_are : (w : Way) (from to d p : BearerEnd) (submitted ups brought : List (List ℕ)) (ps : List Passing)
     (j : Joined w from to submitted ups)
-    → Goes (flow_by w j.steps) d.bearer.tx p.bearer.rx d.copies p.reports d.busy [] brought
+    → Goes (flow_by w j.steps) d.bearer.tx p.bearer.rx d.copies p.reports d.busy [] brought ps
     → HearsOn w ups j.later brought
-next_are w from to d p submitted ups brought j m =
+next_are w from to d p submitted ups brought ps j m =
     let q = w.protection in
-    let on = further w from to d p submitted ups j [] brought m in
+    let on = further w from to d p submitted ups j [] brought ps m in
     let front : AreFirstSdus (total (flow_by w on.all)) (offered (flow_by w on.all)) =
     hands-up-the-front w.sending w.receiving on.all on.given in
     let whole : pdus_from q w.first (ups ++ j.later) ≡ (pdus_from q w.first ups ++ brought) ++ front.rest =

@@ -6,6 +6,8 @@ use Rattle.std.proofs.lemmas.Bool.Decides.{nat_tests}
 use Rattle.law_rlc.specs.AmPair.Flow.{sender}
 use Rattle.law_rlc.specs.AmPair.Sdus.{offered}
 use Rattle.law_words.specs.Lists.{AreFirstSdus}
+use Rattle.law_words.specs.Passing.{Passing, Told, nothing_told}
+use Rattle.law_rlc.proofs.AmArrival.Telling.{told_then}
 use Rattle.law_rlc.proofs.AmPair.Laws.{hands-up-all}
 use Rattle.bearer.specs.Acknowledged.State.{State, has_more}
 use Rattle.bearer.specs.Acknowledged.Sums.{is_drained}
@@ -33,7 +35,8 @@ use Rattle.law_deliver.specs.SrbDelivery.Losses.{near_losses, far_losses, LoseNo
 use Rattle.bearer_types.specs.declared.Event.{Event}
 use Rattle.law_deliver.proofs.SrbDelivery.Doing.{IsSignalling, Both, does_on, passes_on}
 use Rattle.law_deliver.proofs.SrbDelivery.Going.{total}
-use Rattle.law_deliver.proofs.SrbDelivery.Joined.{Way, flow_by, Joined}
+use Rattle.law_deliver.specs.SrbDelivery.Arrival.{there_in, back_in}
+use Rattle.law_deliver.proofs.SrbDelivery.Joined.{Way, with_told, flow_by, Joined}
 use Rattle.law_deliver.proofs.SrbDelivery.Taking.{pdus_from}
 
 -- ---- both ends
@@ -79,19 +82,23 @@ far_end there back p ns fu fs nu more news h =
 
 pub step_on : (there back : Way) (p : Pair) (s : Step) (ns fu fs nu : List (List ℕ)) → IsGiven p s → MayHappen p s
     → BothWays there back p ns fu fs nu
-    → BothWays there back (happens p s) (ns ++ near_submits p s) (fu ++ far_ups p s) (fs ++ far_submits p s)
-    (nu ++ near_ups p s)
+    → BothWays (with_told (there_in p s) there) (with_told (back_in p s) back) (happens p s) (ns ++ near_submits p s)
+    (fu ++ far_ups p s) (fs ++ far_submits p s) (nu ++ near_ups p s)
 step_on there back p (Near d) ns fu fs nu g may h =
-    near_end there back (happens p (Near d)) ns fu fs nu (submitted_by (calls_in p.far d))
+    let out = with_told (there_in p (Near d)) there in
+    let inn = with_told (back_in p (Near d)) back in
+    near_end out inn (happens p (Near d)) ns fu fs nu (submitted_by (calls_in p.far d))
     (ups_by p.near.bearer (calls_in p.far d))
-    (from_near there back p (happens p (Near d)).near (ns ++ submitted_by (calls_in p.far d)) fu fs
+    (from_near out inn p (happens p (Near d)).near (ns ++ submitted_by (calls_in p.far d)) fu fs
     (nu ++ ups_by p.near.bearer (calls_in p.far d))
     (does_on there back p.near p.far ns fu nu fs d g may
     (record { out_joins = h.out; inn_joins = h.inn; own = h.near_is; other = h.far_is })).both)
 step_on there back p (Far d) ns fu fs nu g may h =
-    far_end there back (happens p (Far d)) ns fu fs nu (submitted_by (calls_in p.near d))
+    let out = with_told (there_in p (Far d)) there in
+    let inn = with_told (back_in p (Far d)) back in
+    far_end out inn (happens p (Far d)) ns fu fs nu (submitted_by (calls_in p.near d))
     (ups_by p.far.bearer (calls_in p.near d))
-    (from_far there back p (happens p (Far d)).far ns (fu ++ ups_by p.far.bearer (calls_in p.near d))
+    (from_far out inn p (happens p (Far d)).far ns (fu ++ ups_by p.far.bearer (calls_in p.near d))
     (fs ++ submitted_by (calls_in p.near d)) nu
     (does_on back there p.far p.near fs nu fu ns d g may
     (record { out_joins = h.inn; inn_joins = h.out; own = h.far_is; other = h.near_is })).both)
@@ -106,6 +113,16 @@ step_on there back p Passes ns fu fs nu g may h =
 
 -- ---- any steps
 
+-- what is told, one behind the other
+ways_as : (there back : Way) (a b c d : List Passing) (p : Pair) (ns fu fs nu : List (List ℕ))
+    → BothWays (with_told b (with_told a there)) (with_told d (with_told c back)) p ns fu fs nu
+    → BothWays (with_told (a ++ b) there) (with_told (c ++ d) back) p ns fu fs nu
+ways_as there back a b c d p ns fu fs nu h =
+    subst (λ (t : Told). BothWays (record there { told = t }) (with_told (c ++ d) back) p ns fu fs nu)
+    (sym (told_then a b there.told))
+    (subst (λ (t : Told). BothWays (with_told b (with_told a there)) (record back { told = t }) p ns fu fs nu)
+    (sym (told_then c d back.told)) h)
+
 more_on : (there back : Way) (p : Pair) (ns a b fu c d fs e f nu g k : List (List ℕ))
     → BothWays there back p ((ns ++ a) ++ b) ((fu ++ c) ++ d) ((fs ++ e) ++ f) ((nu ++ g) ++ k)
     → BothWays there back p (ns ++ (a ++ b)) (fu ++ (c ++ d)) (fs ++ (e ++ f)) (nu ++ (g ++ k))
@@ -117,15 +134,22 @@ more_on there back p ns a b fu c d fs e f nu g k h =
 
 pub steps_on : (there back : Way) (ss : List Step) (p : Pair) (ns fu fs nu : List (List ℕ)) → AreLived p ss
     → BothWays there back p ns fu fs nu
-    → BothWays there back (goes ss p) (ns ++ over near_submits ss p) (fu ++ over far_ups ss p)
-    (fs ++ over far_submits ss p) (nu ++ over near_ups ss p)
+    → BothWays (with_told (over there_in ss p) there) (with_told (over back_in ss p) back) (goes ss p)
+    (ns ++ over near_submits ss p) (fu ++ over far_ups ss p) (fs ++ over far_submits ss p)
+    (nu ++ over near_ups ss p)
 steps_on there back [] p ns fu fs nu g h = same_ways there back p ns fu fs nu h
 steps_on there back (s ∷ ss) p ns fu fs nu g h =
     let q = happens p s in
-    more_on there back (goes ss q) ns (near_submits p s) (over near_submits ss q) fu (far_ups p s) (over far_ups ss q)
+    let out = with_told (over there_in (s ∷ ss) p) there in
+    let inn = with_told (over back_in (s ∷ ss) p) back in
+    more_on out inn (goes ss q) ns (near_submits p s) (over near_submits ss q) fu (far_ups p s) (over far_ups ss q)
     fs (far_submits p s) (over far_submits ss q) nu (near_ups p s) (over near_ups ss q)
-    (steps_on there back ss q (ns ++ near_submits p s) (fu ++ far_ups p s) (fs ++ far_submits p s)
-    (nu ++ near_ups p s) g.1 (step_on there back p s ns fu fs nu g.0.0 g.0.1 h))
+    (ways_as there back (there_in p s) (over there_in ss q) (back_in p s) (over back_in ss q) (goes ss q)
+    ((ns ++ near_submits p s) ++ over near_submits ss q) ((fu ++ far_ups p s) ++ over far_ups ss q)
+    ((fs ++ far_submits p s) ++ over far_submits ss q) ((nu ++ near_ups p s) ++ over near_ups ss q)
+    (steps_on (with_told (there_in p s) there) (with_told (back_in p s) back) ss q (ns ++ near_submits p s)
+    (fu ++ far_ups p s) (fs ++ far_submits p s) (nu ++ near_ups p s) g.1
+    (step_on there back p s ns fu fs nu g.0.0 g.0.1 h)))
 
 -- ---- as the life begins
 
@@ -135,6 +159,7 @@ way from to = record {
   protection = from.pdcp.tx.protection;
   sending = from.tx_config;
   receiving = to.rx_config;
+  told = nothing_told;
 }
 
 begins_hears : (s : Sending) (r : Receiving) → SrbPdcpBeginAlike s r → Hears s.next s.protection 0 r
@@ -157,6 +182,7 @@ joined_first from to h k b = record {
   offered_is = refl;
   total_is = refl;
   hears = begins_hears from.pdcp.tx to.pdcp.rx b;
+  told_is = refl;
   submitted_is = ap (λ (l : List Waits). map (λ (w : Waits). w.sdu) l) (sym b.none_waits);
 }
 
@@ -176,8 +202,15 @@ begin_both near far h = record {
   far_is = record { kind = h.far_kind; idle = begins_idle far h.far_life h.there.none_ready };
 }
 
+-- the ways behind steps
+abbrev pub way_there : State → State → List Step → Way
+way_there near far steps = with_told (over there_in steps (am_pair_outset near far)) (way near far)
+
+abbrev pub way_back : State → State → List Step → Way
+way_back near far steps = with_told (over back_in steps (am_pair_outset near far)) (way far near)
+
 pub lived : (near far : State) (steps : List Step) → BothBegin near far → AreLived (am_pair_outset near far) steps
-    → BothWays (way near far) (way far near) (goes steps (am_pair_outset near far))
+    → BothWays (way_there near far steps) (way_back near far steps) (goes steps (am_pair_outset near far))
     (over near_submits steps (am_pair_outset near far)) (over far_ups steps (am_pair_outset near far))
     (over far_submits steps (am_pair_outset near far)) (over near_ups steps (am_pair_outset near far))
 lived near far steps h g =
@@ -200,9 +233,9 @@ delivers_front near far steps h g =
     let l = lived near far steps h g in
     let q = goes steps (am_pair_outset near far) in
     record {
-      there = front_of (way near far) q.near q.far (over near_submits steps (am_pair_outset near far))
+      there = front_of (way_there near far steps) q.near q.far (over near_submits steps (am_pair_outset near far))
           (over far_ups steps (am_pair_outset near far)) l.out;
-      back = front_of (way far near) q.far q.near (over far_submits steps (am_pair_outset near far))
+      back = front_of (way_back near far steps) q.far q.near (over far_submits steps (am_pair_outset near far))
           (over near_ups steps (am_pair_outset near far)) l.inn;
     }
 
@@ -267,9 +300,9 @@ drained_delivers near far steps h g =
     let l = lived near far steps h g in
     let q = goes steps (am_pair_outset near far) in
     record {
-      there = λ d. all_of (way near far) q.near q.far (over near_submits steps (am_pair_outset near far))
+      there = λ d. all_of (way_there near far steps) q.near q.far (over near_submits steps (am_pair_outset near far))
           (over far_ups steps (am_pair_outset near far)) l.out d;
-      back = λ d. all_of (way far near) q.far q.near (over far_submits steps (am_pair_outset near far))
+      back = λ d. all_of (way_back near far steps) q.far q.near (over far_submits steps (am_pair_outset near far))
           (over near_ups steps (am_pair_outset near far)) l.inn d;
     }
 
@@ -305,7 +338,9 @@ steps_lose_none there back [] p ns fu fs nu g h = record { near_none = refl; far
 steps_lose_none there back (s ∷ ss) p ns fu fs nu g h =
     let q = happens p s in
     let one = step_loses_none there back p s ns fu fs nu g.0.0 g.0.1 h in
-    let rest = steps_lose_none there back ss q (ns ++ near_submits p s) (fu ++ far_ups p s) (fs ++ far_submits p s)
+    let rest =
+    steps_lose_none (with_told (there_in p s) there) (with_told (back_in p s) back) ss q
+    (ns ++ near_submits p s) (fu ++ far_ups p s) (fs ++ far_submits p s)
     (nu ++ near_ups p s) g.1 (step_on there back p s ns fu fs nu g.0.0 g.0.1 h) in
     record {
       near_none = ap (λ (l : List Event). l ++ over near_losses ss q) one.near_none ∙ rest.near_none;

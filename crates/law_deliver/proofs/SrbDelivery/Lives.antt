@@ -8,7 +8,8 @@ use Rattle.law_deliver.specs.SrbDelivery.Life.{near_ups, far_ups, near_submits, 
 use Rattle.law_deliver.specs.SrbDelivery.Lives.{renewed_bearer, AreBothEnds, LifeStep, InLife, Restarts, lives_on}
 use Rattle.law_deliver.specs.SrbDelivery.Lives.{lives}
 use Rattle.law_deliver.specs.SrbDelivery.Lives.{IsLiving, AreLiving, since_by, since, AreOfThisLife}
-use Rattle.law_deliver.proofs.SrbDelivery.Joined.{Way}
+use Rattle.law_deliver.specs.SrbDelivery.Arrival.{there_in, back_in}
+use Rattle.law_deliver.proofs.SrbDelivery.Joined.{Way, with_told}
 use Rattle.law_deliver.proofs.SrbDelivery.Laws.{BothWays, way, begin_both, step_on, front_of, all_of}
 use Rattle.law_deliver.proofs.SrbDelivery.Renewing.{both_anew, first_life_begins}
 
@@ -22,7 +23,11 @@ one_lives : (p : Pair) (x : LifeStep) (ns fu fs nu : List (List ℕ)) → IsLivi
     → Lives (lives_on p x) (since_by near_submits ns p x) (since_by far_ups fu p x) (since_by far_submits fs p x)
     (since_by near_ups nu p x)
 one_lives p (InLife s) ns fu fs nu g h =
-    record { there = h.there; back = h.back; ways = step_on h.there h.back p s ns fu fs nu g.0 g.1 h.ways }
+    record {
+      there = with_told (there_in p s) h.there;
+      back = with_told (back_in p s) h.back;
+      ways = step_on h.there h.back p s ns fu fs nu g.0 g.1 h.ways;
+    }
 one_lives p (Restarts keys) ns fu fs nu g h =
     let near = renewed_bearer p.near.bearer keys in
     let far = renewed_bearer p.far.bearer keys in

@@ -32,7 +32,7 @@ use Rattle.promises.specs.Events.{losses}
 use Rattle.law_deliver.specs.SrbDelivery.Life.{BothBegin, AreLived}
 use Rattle.law_deliver.specs.SrbDelivery.Lives.{renewed_bearer, BeginsAnew, BothBeginAnew, AreBothEnds}
 use Rattle.law_deliver.proofs.SrbDelivery.Joined.{Way}
-use Rattle.law_deliver.proofs.SrbDelivery.Laws.{BothWays, way, lived}
+use Rattle.law_deliver.proofs.SrbDelivery.Laws.{BothWays, way_there, way_back, lived}
 
 -- ---- at an end
 
@@ -114,7 +114,7 @@ pub next_life : (near far : State) (steps : List Step) (keys : Keys) → BothBeg
     → BothBeginAnew (goes steps (am_pair_outset near far)).near.bearer
     (goes steps (am_pair_outset near far)).far.bearer keys
 next_life near far steps keys h g =
-    both_anew (way near far) (way far near) (goes steps (am_pair_outset near far)) _ _ _ _ keys
+    both_anew (way_there near far steps) (way_back near far steps) (goes steps (am_pair_outset near far)) _ _ _ _ keys
     (lived near far steps h g)
 
 -- ---- the first life

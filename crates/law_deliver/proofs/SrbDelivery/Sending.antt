@@ -1,4 +1,5 @@
--- What happens at an end is, to the flow of RLC that it sends on, steps of the sender; with what they offer.
+-- What happens at an end is, to the flow of RLC that it sends on, steps of the sender; with what they offer and the
+-- data PDUs that they write.
 use Rattle.std.proofs.Common.{◌≡◌, ℕ, Bool, false, ◌||◌, List, [], ◌∷◌, ◌++◌, map, Option, Some, Result, Ok, slice_get}
 use Rattle.std.proofs.Common.{append-nil, refl, ap, sym, subst, ◌∙◌}
 use Rattle.std.specs.List.{AllByRecursion}
@@ -13,6 +14,7 @@ use Rattle.law_rlc.specs.AmSender.Octets.{Octets}
 use Rattle.law_rlc.specs.AmPair.Flow.{Copy, Report, Flow, Sends, StatusComes, copies_with, is_new, given as given_by}
 use Rattle.law_rlc.specs.AmPair.Flow.{status_read, status_comes}
 use Rattle.law_rlc.specs.AmPair.Given.{IsHeld, IsSending}
+use Rattle.law_rlc.specs.AmArrival.Arrival.{written_in}
 use Rattle.law_rlc.specs.AmPair.Sdus.{offers_with}
 use Rattle.law_rlc.proofs.AmPair.Runs.{sender-more}
 use Rattle.bearer.specs.Acknowledged.State.{State}
@@ -41,19 +43,20 @@ offers_by b (SetDiscard ttis) = []
 sends_one : (f : Flow) (c : SenderCall) (tx : Sender) (rx : Receiver) (cs : List Copy) (rs : List SentStatus) (b : Bool)
     → IsSending f c → Stands tx rx cs rs b f
     → Goes f (sender_after tx c) rx (copies_with (given_by tx c) cs) rs (b || is_new (given_by tx c))
-    (offers_with c []) []
+    (offers_with c []) [] (written_in (given_by tx c))
 sends_one f c tx rx cs rs b g h =
-    calm_goes f (Sends c) (sender_after tx c) rx (copies_with (given_by tx c) cs) rs (b || is_new (given_by tx c)) g
+    calm_goes f (Sends c) (sender_after tx c) rx (copies_with (given_by tx c) cs) rs (b || is_new (given_by tx c))
+    (written_in (given_by tx c)) (ap (λ (s : Sender). written_in (given_by s c)) h.sender_is) g
     (record { stays = refl; none = refl }) (sent_one f c tx rx cs rs b h)
 
 -- one that gives no PDU
 gives_none : (f : Flow) (tx : Sender) (rx : Receiver) (cs : List Copy) (rs : List SentStatus) (b : Bool)
     (sdus : List (List ℕ))
-    → Goes f tx rx cs rs (b || false) sdus [] → Goes f tx rx cs rs b sdus []
-gives_none f tx rx cs rs b sdus h = subst (λ (x : Bool). Goes f tx rx cs rs x sdus []) (not_busy b) h
+    → Goes f tx rx cs rs (b || false) sdus [] [] → Goes f tx rx cs rs b sdus [] []
+gives_none f tx rx cs rs b sdus h = subst (λ (x : Bool). Goes f tx rx cs rs x sdus [] []) (not_busy b) h
 
 own_one : (f : Flow) (c : SenderCall) (tx : Sender) (rx : Receiver) (cs : List Copy) (rs : List SentStatus) (b : Bool)
-    → IsOfSender c → Stands tx rx cs rs b f → Goes f (sender_after tx c) rx cs rs b [] []
+    → IsOfSender c → Stands tx rx cs rs b f → Goes f (sender_after tx c) rx cs rs b [] [] []
 own_one f (Offer sdu) tx rx cs rs b own h = absurd own
 own_one f (Taking size held more) tx rx cs rs b own h = absurd own
 own_one f (Status pdu) tx rx cs rs b own h = absurd own
@@ -68,30 +71,30 @@ own_one f Confirm tx rx cs rs b own h =
 
 own_all : (own : List SenderCall) (f : Flow) (tx : Sender) (rx : Receiver) (cs : List Copy) (rs : List SentStatus)
     (b : Bool)
-    → AllByRecursion IsOfSender own → Stands tx rx cs rs b f → Goes f (sends_on own tx) rx cs rs b [] []
+    → AllByRecursion IsOfSender own → Stands tx rx cs rs b f → Goes f (sends_on own tx) rx cs rs b [] [] []
 own_all [] f tx rx cs rs b are h = stays f tx rx cs rs b h
 own_all (c ∷ own) f tx rx cs rs b are h =
-    goes_then f (sender_after tx c) (sends_on own (sender_after tx c)) rx rx cs cs rs rs b b [] [] [] []
+    goes_then f (sender_after tx c) (sends_on own (sender_after tx c)) rx rx cs cs rs rs b b [] [] [] [] [] []
     (own_one f c tx rx cs rs b are.0 h)
     (λ g k. own_all own g (sender_after tx c) rx cs rs b are.1 k)
 
 -- a call that brings nothing to the sender and takes nothing from there
 keeps_to_itself : (f : Flow) (tx ty : Sender) (rx : Receiver) (cs : List Copy) (rs : List SentStatus) (b : Bool)
-    → SenderGoes tx ty [] → Stands tx rx cs rs b f → Goes f ty rx cs rs b [] []
+    → SenderGoes tx ty [] → Stands tx rx cs rs b f → Goes f ty rx cs rs b [] [] []
 keeps_to_itself f tx ty rx cs rs b m h =
-    subst (λ (t : Sender). Goes f t rx cs rs b [] []) (sym m.left) (own_all m.own f tx rx cs rs b m.are_own h)
+    subst (λ (t : Sender). Goes f t rx cs rs b [] [] []) (sym m.left) (own_all m.own f tx rx cs rs b m.are_own h)
 
 -- ---- a take
 
-offers_all : (sdus : List (List ℕ)) (f : Flow) (tx : Sender) (rx : Receiver) (cs : List Copy) (rs : List SentStatus)
+pub offers_all : (sdus : List (List ℕ)) (f : Flow) (tx : Sender) (rx : Receiver) (cs : List Copy) (rs : List SentStatus)
     (b : Bool)
     → AllByRecursion HasOctet sdus → Stands tx rx cs rs b f
-    → Goes f (sends_on (map (λ sdu. Offer sdu) sdus) tx) rx cs rs b sdus []
+    → Goes f (sends_on (map (λ sdu. Offer sdu) sdus) tx) rx cs rs b sdus [] []
 offers_all [] f tx rx cs rs b some h = stays f tx rx cs rs b h
 offers_all (sdu ∷ sdus) f tx rx cs rs b some h =
     let c : SenderCall = Offer sdu in
     goes_then f (sender_after tx c) (sends_on (map (λ sdu. Offer sdu) sdus) (sender_after tx c)) rx rx cs cs rs rs b b
-    (sdu ∷ []) sdus [] []
+    (sdu ∷ []) sdus [] [] [] []
     (gives_none f (sender_after tx c) rx cs rs b (sdu ∷ []) (sends_one f c tx rx cs rs b some.0 h))
     (λ g k. offers_all sdus g (sender_after tx c) rx cs rs b some.1 k)
 
@@ -99,7 +102,7 @@ takes_one : (e : BearerEnd) (share : ℕ) (held : Option ℕ) (f : Flow) (rx : R
     → IsTaking e share held → Stands (offered_to e.bearer share held) rx e.copies rs e.busy f
     → Goes f (after_take (offered_to e.bearer share held) (data_size e.bearer share) held
     (has_more_behind e.bearer share held)) rx (copies_with (data_given e.bearer share held) e.copies) rs
-    (e.busy || is_new (data_given e.bearer share held)) [] []
+    (e.busy || is_new (data_given e.bearer share held)) [] [] (written_in (data_given e.bearer share held))
 takes_one e share held f rx rs t h =
     let size = data_size e.bearer share in
     let more = has_more_behind e.bearer share held in
@@ -117,6 +120,7 @@ takes_all : (e : BearerEnd) (share : ℕ) (held : Option ℕ) (f : Flow) (rx : R
     → Stands e.bearer.tx rx e.copies rs e.busy f
     → Goes f (called e.bearer (Take share held)).tx rx (copies_with (data_given e.bearer share held) e.copies) rs
     (e.busy || is_new (data_given e.bearer share held)) (offers_in e.bearer share held) []
+    (written_in (data_given e.bearer share held))
 takes_all e share held f rx rs t m h =
     let b = e.bearer in
     let size = data_size b share in
@@ -130,20 +134,21 @@ takes_all e share held f rx rs t m h =
     let last : List SenderCall = Taking size held more ∷ [] in
     let left : (called b (Take share held)).tx ≡ sends_on m.own u =
     m.left ∙ ap (sends_on m.own) (sends_then b.tx offers last) in
-    subst (λ (x : Sender). Goes f x rx cs rs busy sdus []) (sym left)
-    (goes_as f (sends_on m.own u) rx cs rs busy ((sdus ++ []) ++ []) sdus [] []
-    (append-nil (sdus ++ []) ∙ append-nil sdus) refl
-    (goes_then f u (sends_on m.own u) rx rx cs cs rs rs busy busy (sdus ++ []) [] [] []
-    (goes_then f s u rx rx e.copies cs rs rs e.busy busy sdus [] [] []
+    let wrote = written_in (data_given b share held) in
+    subst (λ (x : Sender). Goes f x rx cs rs busy sdus [] wrote) (sym left)
+    (goes_as f (sends_on m.own u) rx cs rs busy ((sdus ++ []) ++ []) sdus [] [] (wrote ++ []) wrote
+    (append-nil (sdus ++ []) ∙ append-nil sdus) refl (append-nil wrote)
+    (goes_then f u (sends_on m.own u) rx rx cs cs rs rs busy busy (sdus ++ []) [] [] [] wrote []
+    (goes_then f s u rx rx e.copies cs rs rs e.busy busy sdus [] [] [] [] wrote
     (offers_all sdus f b.tx rx e.copies rs e.busy t.some h) (λ g k. takes_one e share held g rx rs t k))
     (λ g k. own_all m.own g u rx cs rs busy m.are_own k)))
 
 -- ---- any call
 
 quiet : (e : BearerEnd) (d : State) (f : Flow) (rx : Receiver) (rs : List SentStatus) → SenderGoes e.bearer.tx d.tx []
-    → Stands e.bearer.tx rx e.copies rs e.busy f → Goes f d.tx rx e.copies rs (e.busy || false) [] []
+    → Stands e.bearer.tx rx e.copies rs e.busy f → Goes f d.tx rx e.copies rs (e.busy || false) [] [] []
 quiet e d f rx rs m h =
-    subst (λ (x : Bool). Goes f d.tx rx e.copies rs x [] []) (sym (not_busy e.busy))
+    subst (λ (x : Bool). Goes f d.tx rx e.copies rs x [] [] []) (sym (not_busy e.busy))
     (keeps_to_itself f e.bearer.tx d.tx rx e.copies rs e.busy m h)
 
 called_so : (b : State) (c : Call) → SenderGoes b.tx (called b c).tx (sender_calls b c)
@@ -152,7 +157,7 @@ called_so b c = sender_goes_on b (called b c) c (is_called b c)
 pub calls_send : (e : BearerEnd) (c : Call) (f : Flow) (rx : Receiver) (rs : List SentStatus) → IsCalling e c
     → Stands e.bearer.tx rx e.copies rs e.busy f
     → Goes f (called e.bearer c).tx rx (copies_with (data_by e.bearer c) e.copies) rs
-    (e.busy || is_new (data_by e.bearer c)) (offers_by e.bearer c) []
+    (e.busy || is_new (data_by e.bearer c)) (offers_by e.bearer c) [] (written_in (data_by e.bearer c))
 calls_send e (Submit sdu) f rx rs g h =
     quiet e (called e.bearer (Submit sdu)) f rx rs (called_so e.bearer (Submit sdu)) h
 calls_send e (Take share held) f rx rs g h = takes_all e share held f rx rs g (called_so e.bearer (Take share held)) h
@@ -168,7 +173,7 @@ calls_send e (SetDiscard ttis) f rx rs g h =
 -- a data PDU is nothing to the sender
 pub data_sends : (e : BearerEnd) (octets : List ℕ) (f : Flow) (rx : Receiver) (rs : List SentStatus)
     → status_heard (am_at octets) ≡ [] → Stands e.bearer.tx rx e.copies rs e.busy f
-    → Goes f (called e.bearer (Arrive octets)).tx rx e.copies rs e.busy [] []
+    → Goes f (called e.bearer (Arrive octets)).tx rx e.copies rs e.busy [] [] []
 data_sends e octets f rx rs q h =
     let d = called e.bearer (Arrive octets) in
     keeps_to_itself f e.bearer.tx d.tx rx e.copies rs e.busy
@@ -178,7 +183,7 @@ data_sends e octets f rx rs q h =
 status_at : (f : Flow) (k : ℕ) (r : Report) (pdu : StatusPdu) (tx : Sender) (rx : Receiver) (cs : List Copy)
     (rs : List SentStatus) (b : Bool)
     → slice_get f.reports k ≡ Some r → am_at r.octets ≡ Ok (Control pdu) → Stands tx rx cs rs b f
-    → Goes f (sender_after tx (Status pdu)) rx cs rs b [] []
+    → Goes f (sender_after tx (Status pdu)) rx cs rs b [] [] []
 status_at f k r pdu tx rx cs rs b q read h =
     let g : Flow = record f { sent = f.sent ++ Status pdu ∷ [] } in
     let on : Stands (sender_after tx (Status pdu)) rx cs rs b g = record {
@@ -189,7 +194,8 @@ status_at f k r pdu tx rx cs rs b q read h =
       reports_are = h.reports_are;
       busy_is = h.busy_is;
     } in
-    calm_goes f (StatusComes k) (sender_after tx (Status pdu)) rx cs rs b tt (record { stays = refl; none = refl })
+    calm_goes f (StatusComes k) (sender_after tx (Status pdu)) rx cs rs b [] refl tt
+    (record { stays = refl; none = refl })
     (subst (λ (o : Option Report). Stands (sender_after tx (Status pdu)) rx cs rs b (status_comes f o)) (sym q)
     (subst (λ (o : Result AcknowledgedPdu RlcRefusal). Stands (sender_after tx (Status pdu)) rx cs rs b
     (status_read f o)) (sym read) on))
@@ -198,14 +204,14 @@ status_at f k r pdu tx rx cs rs b q read h =
 pub status_sends : (e : BearerEnd) (f : Flow) (k : ℕ) (r : Report) (pdu : StatusPdu) (rx : Receiver)
     (rs : List SentStatus)
     → slice_get f.reports k ≡ Some r → am_at r.octets ≡ Ok (Control pdu) → Stands e.bearer.tx rx e.copies rs e.busy f
-    → Goes f (called e.bearer (Arrive r.octets)).tx rx e.copies rs e.busy [] []
+    → Goes f (called e.bearer (Arrive r.octets)).tx rx e.copies rs e.busy [] [] []
 status_sends e f k r pdu rx rs q read h =
     let d = called e.bearer (Arrive r.octets) in
     let m : SenderGoes e.bearer.tx d.tx (Status pdu ∷ []) =
     subst (λ (o : Result AcknowledgedPdu RlcRefusal). SenderGoes e.bearer.tx d.tx (status_heard o)) read
     (sender_goes_on e.bearer d (Arrive r.octets) (is_called e.bearer (Arrive r.octets))) in
     let s = sender_after e.bearer.tx (Status pdu) in
-    subst (λ (x : Sender). Goes f x rx e.copies rs e.busy [] []) (sym m.left)
-    (goes_then f s (sends_on m.own s) rx rx e.copies e.copies rs rs e.busy e.busy [] [] [] []
+    subst (λ (x : Sender). Goes f x rx e.copies rs e.busy [] [] []) (sym m.left)
+    (goes_then f s (sends_on m.own s) rx rx e.copies e.copies rs rs e.busy e.busy [] [] [] [] [] []
     (status_at f k r pdu e.bearer.tx rx e.copies rs e.busy q read h)
     (λ g k. own_all m.own g s rx e.copies rs e.busy m.are_own k))

@@ -10,6 +10,12 @@ use Rattle.law_node.specs.Calls.{Move}
 use Rattle.law_node.specs.Telling.{told_of, told_over}
 use Rattle.law_bearer.specs.AmBearer.Lives.{other}
 use Rattle.law_words.specs.Lists.{AreFirstSdus}
+use Rattle.law_words.specs.Passing.{Passing, nothing_told, with_passings}
+use Rattle.pdcp_pdu.specs.Kinds.{bits_of}
+use Rattle.pdcp_pdu.specs.declared.PdcpKind.TheVariants.{Srb as PdcpSrb}
+use Rattle.promises.specs.Sequence.{AreInSequence}
+use Rattle.law_deliver.specs.AmChannel.Arrival.{happened}
+use Rattle.law_deliver.specs.SrbDelivery.Arrival.{passes_of}
 use Rattle.law_deliver.specs.AmChannel.Delivery.{HasBegun, SetNoneAt, ups_at, submitted_at}
 use Rattle.law_deliver.specs.AmChannel.Drained.{IsDrained}
 use Rattle.law_deliver.specs.AmChannel.Lives.{AirStep, AreLiving, lives, end_at, all_calls}
@@ -48,6 +54,20 @@ ChannelsDeliverTheFront =
     → SrbEndsBeginAlike l c keys nb ue → AreLiving l (outset nb ue) steps → NoneSet l steps nb ue
     → AreFirstSdus (ups_in_life l (other from) (life_of steps nb ue))
     (submitted_in_life l from (life_of steps nb ue))
+
+-- the PDUs of RLC that go from an end in the running life: those in its new blocks, and those in
+-- the blocks that come; what PDCP gives RLC isn't looked at
+abbrev pub passes_in_life : ℕ → Side → Life → List Passing
+passes_in_life l from life = passes_of (happened (bits_of PdcpSrb) l from life.steps (start life))
+
+-- which they are: those before the first that hasn't come
+abbrev pub ChannelsDeliverInSequence : Type 0
+ChannelsDeliverInSequence =
+    (l : ℕ) (c : BearerConfig) (keys : Keys) (nb ue : End) (from : Side) (steps : List AirStep)
+    → SrbEndsBeginAlike l c keys nb ue → AreLiving l (outset nb ue) steps → NoneSet l steps nb ue
+    → AreInSequence (submitted_in_life l from (life_of steps nb ue))
+    (ups_in_life l (other from) (life_of steps nb ue))
+    (with_passings (passes_in_life l from (life_of steps nb ue)) nothing_told)
 
 -- and all of them, once the channel is drained at the one, and its sender there hasn't failed
 abbrev pub DrainedChannelsHaveDelivered : Type 0
