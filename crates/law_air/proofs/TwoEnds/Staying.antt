@@ -106,7 +106,8 @@ goes_in l told submitted said set whole m a x own off = record {
 }
 
 lived_by : (l : ℕ) (nb ue : End) (told : List Record) (submitted : Side → ℕ → List (List ℕ)) (said : ℕ → Side
-    → List AccountEntry) (set : Bool) (m : Link) {ws : Whats} (b : Air) (x : Goes l set told submitted ws (outset nb ue) b)
+    → List AccountEntry) (set : Bool) (m : Link) {ws : Whats} (b : Air)
+    (x : Goes l set told submitted ws (outset nb ue) b)
     → ((bits : ℕ) (from : Side) → happened bits l from x.steps (outset nb ue) ≡ said bits from) → IsOn m b
     → LivedIn l nb ue told submitted said set m
 lived_by l nb ue told submitted said set m {ws} b x happens on = record {

@@ -251,7 +251,8 @@ data_go out inn e o sent up got back k c q h =
       queued = ap queue y.tx;
     })) refl in
     record {
-      both = both_by out (with_told came inn) d o sent up got back [] (ups_among (tells e.bearer (Arrive c.octets))) there
+      both = both_by out (with_told came inn) d o sent up got back []
+          (ups_among (tells e.bearer (Arrive c.octets))) there
           (subst (λ l. Joined (with_told came inn) o d back (got ++ l)) (sym y.ups_is) here)
           (record { kind = y.kind ∙ h.own.kind; idle = y.idle }) h.other;
       none = y.none_lost;
