@@ -1,5 +1,6 @@
 pub mod Wider
 pub mod Idle
+pub mod Feeds
 pub mod UmFeeds
 pub mod UmHears
 pub mod AmFeeds
