@@ -89,8 +89,8 @@ module _ (kind : PdcpKind) (off : is_am kind ≡ false) where
 
   heard_if : (b : Bool) (e : Ends) (s : Sending) → b ≡ false → IsPlain kind e
       → IsPlain kind (if b then record e { tx = s } else e)
-  heard_if true e s no h = absurd cc
-  heard_if false e s no h = h
+  heard_if true e s q h = absurd cc
+  heard_if false e s q h = h
 
   got_plain : (g : Got) (cause : Cause) (e : Ends) → IsPlain kind e → IsPlain kind (got_left g cause e)
   got_plain got_as.Up cause e h = record { own = h.own; sender = h.sender }
