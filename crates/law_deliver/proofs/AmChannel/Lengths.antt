@@ -83,22 +83,26 @@ module _ (kind : PdcpKind) (off : is_am kind ≡ false) where
 
 -- ---- discard timers
 
+late_by : (b : Bool) (l lcid : ℕ) (w : Waits) (ws : List Waits) (s : Sending) → lcid ≡ l → s.waiting ≡ w ∷ ws
+    → (is_overdue s ≡ true
+    → lengths_on l (late_told lcid ws (after_late s)) ++ lens (without_late ws (after_late s)).waiting ≡ lens ws)
+    → is_overdue s ≡ b
+    → lengths_on l (if b then events.Discard lcid (length w.sdu) ∷ late_told lcid ws (after_late s) else [])
+    ++ lens (if b then without_late ws (after_late s) else s).waiting ≡ lens (w ∷ ws)
+late_by true l lcid w ws s own q rest e =
+    let here : (lcid == l) ≡ true = grind (arith, nat_tests, own) in
+    let more = lengths_on l (late_told lcid ws (after_late s)) in
+    let left = lens (without_late ws (after_late s)).waiting in
+    ap (λ (c : Bool). ((if c then length w.sdu ∷ [] else []) ++ more) ++ left) here
+    ∙ ap (λ (ns : List ℕ). length w.sdu ∷ ns) (rest e)
+late_by false l lcid w ws s own q rest e = ap lens q
+
 lates_told : (l lcid : ℕ) (ws : List Waits) (s : Sending) → lcid ≡ l → s.waiting ≡ ws
     → lengths_on l (late_told lcid ws s) ++ lens (without_late ws s).waiting ≡ lens ws
 lates_told l lcid [] s own q = ap lens q
-lates_told l lcid (w ∷ ws) s own q = by (is_overdue s) refl
-  where
-    by : (b : Bool) → is_overdue s ≡ b
-        → lengths_on l (if b then events.Discard lcid (length w.sdu) ∷ late_told lcid ws (after_late s) else [])
-        ++ lens (if b then without_late ws (after_late s) else s).waiting ≡ lens (w ∷ ws)
-    by true e =
-        let here : (lcid == l) ≡ true = grind (arith, nat_tests, own) in
-        let more = lengths_on l (late_told lcid ws (after_late s)) in
-        let left = lens (without_late ws (after_late s)).waiting in
-        ap (λ (c : Bool). ((if c then length w.sdu ∷ [] else []) ++ more) ++ left) here
-        ∙ ap (λ (ns : List ℕ). length w.sdu ∷ ns)
-        (lates_told l lcid ws (after_late s) own (late_waiting w ws s e q))
-    by false e = ap lens q
+lates_told l lcid (w ∷ ws) s own q =
+    late_by (is_overdue s) l lcid w ws s own q
+    (λ e. lates_told l lcid ws (after_late s) own (late_waiting w ws s e q)) refl
 
 pub tick_lens : (l : ℕ) (e : Ends) → e.lcid ≡ l
     → lengths_on l (tick_told e) ++ lens (after_tick e).tx.waiting ≡ lens e.tx.waiting

@@ -60,6 +60,7 @@ use Rattle.law_deliver.specs.AmChannel.Lives.{AirStep, InLife, Moves, lives_on, 
 use Rattle.law_deliver.specs.AmChannel.Lives.{calls_by, calls_at, all_calls}
 use Rattle.law_deliver.specs.AmFlow.Air.{Air, Act, Block, Station, Comes, Goes, AtNb, AtUe, Passes, IsDone, outset}
 use Rattle.law_deliver.specs.AmFlow.Air.{Calls as CallsEnd}
+use Rattle.law_deliver.specs.AmFlow.Channels.{calls_of}
 use Rattle.law_deliver.specs.AmFlow.Pair.{called}
 use Rattle.law_deliver.proofs.AmChannel.Bearers.{between_after}
 use Rattle.law_deliver.proofs.AmChannel.Ends.{lengths_in, all_lengths, length_off, IsCall, are_calls, all_go}
@@ -333,7 +334,7 @@ calls_then (c ∷ cs) ks xs q g = calls_then cs ks xs q g
 
 are_alone : (l : ℕ) (cs : List EndCall) (e : End) → AllByRecursion MovesNone cs → AreCalls (steps_over l cs e)
 are_alone l [] e g = tt
-are_alone l (c ∷ cs) e g = calls_then _ (keys_in c) (steps_over l cs (after_call e c)) g.0
+are_alone l (c ∷ cs) e g = calls_then (calls_of l e c) (keys_in c) (steps_over l cs (after_call e c)) g.0
     (are_alone l cs (after_call e c) g.1)
 
 -- ---- the law, of an end

@@ -209,7 +209,7 @@ module _ (bits : ℕ) where
       subst (OfPdcp (IsPlain (UmKind bits))) (is_called b (SetDiscard ttis))
       (discards_of (IsPlain (UmKind bits)) (plain_passes (UmKind bits) refl) (Um b) ttis h)
 
-  next : State → Keys → State
+  abbrev next : State → Keys → State
   next b keys = restarted (stopped b) keys
 
   plain_next : (b : State) (keys : Keys) → Plain b → Plain (next b keys)
