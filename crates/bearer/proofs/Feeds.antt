@@ -43,6 +43,7 @@ module _ {S W : Type 0} (at : Ends → S → List Event → W) (is_hungry : W �
       → feeds (offers (after_taking pdcp).tx)
       (at (after_taking pdcp) (given (Some pdu) tx) (events ++ taking_told pdcp))
       ≡ feeds (offers pdcp.tx) (at pdcp tx events)
+  unfolding after_taking
   has_more pdcp tx events pdu h t =
       let f = first_offer pdcp pdu t in
       let left = offers (after_taking pdcp).tx in
