@@ -16,7 +16,7 @@ use Rattle.law_words.specs.Arrivals.{Given, AccountEntry}
 use Rattle.law_words.specs.Passing.{Passing, Writes, Comes}
 use Rattle.promises.specs.Arrival.{only_if, entries_at, entries_in, entries_ended, entries_from}
 use Rattle.promises.specs.Events.{told_on}
-use Rattle.promises.specs.Given.{given_in, giving, passing}
+use Rattle.promises.specs.Given.{given_in, entries_of, entries_passed}
 use Rattle.promises.specs.Parts.{is_handover}
 use Rattle.promises.specs.Pdus.{carried}
 use Rattle.promises.specs.Records.{is_of_air, is_got, sent_last}
@@ -24,11 +24,11 @@ use Rattle.promises.specs.Sequence.{passes_at, passes_in, passed_since}
 
 -- ---- of records
 
-if_passes : (b : Bool) (ps : List Passing) → passes_of (only_if b (passing ps)) ≡ (if b then ps else [])
+if_passes : (b : Bool) (ps : List Passing) → passes_of (only_if b (entries_passed ps)) ≡ (if b then ps else [])
 if_passes true ps = passes_passing ps
 if_passes false ps = refl
 
-if_given : (b : Bool) (gs : List Given) → passes_of (only_if b (giving gs)) ≡ []
+if_given : (b : Bool) (gs : List Given) → passes_of (only_if b (entries_of gs)) ≡ []
 if_given true gs = passes_given gs
 if_given false gs = refl
 

@@ -395,7 +395,7 @@ channels_tell_what_is_taken l c keys nb ue from steps h g =
 -- those that were submitted and are told of neither as taken nor as discarded wait at the end
 pub channels_tell_what_waits : (l : ℕ) (c : BearerConfig) (keys : Keys) (nb ue : End) (from : Side)
     (steps : List AirStep)
-    → BeginAlike l c keys nb ue → AreLiving l (outset nb ue) steps
+    → AmEndsBeginAlike l c keys nb ue → AreLiving l (outset nb ue) steps
     → length (submitted_at l from steps (outset nb ue))
     ≡ length (leaves l c.first (told_over (all_calls from steps (outset nb ue)) (end_at from (outset nb ue))))
     + length (queue (ends (flow l (end_at from (lives steps (outset nb ue))))))

@@ -18,7 +18,7 @@ use Rattle.law_rlc.specs.AmArrival.Arrival.{written_in}
 use Rattle.law_words.specs.Arrivals.{Given, AccountEntry, Gives, Passes, Renews}
 use Rattle.law_words.specs.Passing.{Passing, Writes, Comes, Told, with_passings, written_as, come_as}
 use Rattle.pdcp_pdu.specs.Kinds.{bits_of}
-use Rattle.promises.specs.Given.{given_in, giving, passing}
+use Rattle.promises.specs.Given.{given_in, entries_of, entries_passed}
 use Rattle.std.specs.List.{flat_map}
 use Rattle.rlc_pdu.specs.Pdus.{AcknowledgedPdu, StatusPdu, Status as Control}
 use Rattle.rlc_pdu.specs.Reading.{am_at}
@@ -34,17 +34,17 @@ passes_then (Gives g ∷ xs) ys = passes_then xs ys
 passes_then (Passes p ∷ xs) ys = ap (λ (ps : List Passing). p ∷ ps) (passes_then xs ys)
 passes_then (Renews ∷ xs) ys = passes_then xs ys
 
-pub passes_given : (gs : List Given) → passes_of (giving gs) ≡ []
+pub passes_given : (gs : List Given) → passes_of (entries_of gs) ≡ []
 passes_given [] = refl
 passes_given (g ∷ gs) = passes_given gs
 
-pub passes_passing : (ps : List Passing) → passes_of (passing ps) ≡ ps
+pub passes_passing : (ps : List Passing) → passes_of (entries_passed ps) ≡ ps
 passes_passing [] = refl
 passes_passing (p ∷ ps) = ap (λ (qs : List Passing). p ∷ qs) (passes_passing ps)
 
-pub passes_behind : (gs : List Given) (ps : List Passing) → passes_of (giving gs ++ passing ps) ≡ ps
-passes_behind gs ps = passes_then (giving gs) (passing ps)
-    ∙ ap (λ (qs : List Passing). qs ++ passes_of (passing ps)) (passes_given gs) ∙ passes_passing ps
+pub passes_behind : (gs : List Given) (ps : List Passing) → passes_of (entries_of gs ++ entries_passed ps) ≡ ps
+passes_behind gs ps = passes_then (entries_of gs) (entries_passed ps)
+    ∙ ap (λ (qs : List Passing). qs ++ passes_of (entries_passed ps)) (passes_given gs) ∙ passes_passing ps
 
 -- ---- what is written
 
