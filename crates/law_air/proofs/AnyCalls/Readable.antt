@@ -37,7 +37,7 @@ use Rattle.law_air.specs.AnyCalls.Order.{channels_of}
 use Rattle.law_air.specs.AnyCalls.Zero.{HasCome}
 use Rattle.law_air.specs.TwoEnds.On.{block_at}
 use Rattle.law_air.proofs.AnyCalls.Blocks.{visited_whole, reached_whole, some_by, block_is}
-use Rattle.law_air.proofs.AnyCalls.Channels.{call_channels}
+use Rattle.law_air.proofs.AnyCalls.Channels.{channels_in, call_channels}
 use Rattle.law_air.proofs.AnyCalls.Going.{run_on, given_on}
 use Rattle.law_air.proofs.AnyCalls.Orders.{IsReady, known_is}
 use Rattle.law_air.proofs.TwoEnds.Processes.{IsFirst, IsNext, Turns, resent_held, turned_turns, visit_at}
@@ -264,23 +264,27 @@ module _ (side : Side) (maximum : ℕ) (reports : Bool) (past : List Call) (give
       (some_by t.tti t.grant t.order here g.1 new) g.0) p b
       (ap (λ (x : Sending). block_at x p) (sym (visits_turned here t)) ∙ is))
 
+  call_same : (c : Call) → (after here c).sender ≡ here.sender → channels_in c (channels_of here) ≡ channels_of here
+      → HoldReadable side here → HoldReadable side (after here c)
+  call_same c sender stay h = holds_same side here (after here c) sender (call_channels here c ∙ stay) h
+
   call_holds : (c : Call) → IsGiven c → HoldReadable side here → HoldReadable side (after here c)
   unfolding with_visits with_bearer submitted discarding expired left_cell joined reset
   call_holds (SetVisits n) g h = fresh_holds side n (after here (SetVisits n)) refl
-  call_holds (SetReports b) g h = holds_same side here _ refl (call_channels here (SetReports b)) h
+  call_holds (SetReports b) g h = call_same (SetReports b) refl refl h
   call_holds (Add config keys) g h =
-      holds_more side config.channel here _ refl (call_channels here (Add config keys)) h
-  call_holds (Submit lcid octets) g h = holds_same side here _ refl (call_channels here (Submit lcid octets)) h
-  call_holds (SetDiscard lcid ttis) g h = holds_same side here _ refl (call_channels here (SetDiscard lcid ttis)) h
-  call_holds Tick g h = holds_same side here _ refl (call_channels here Tick) h
-  call_holds TickBuckets g h = holds_same side here _ refl (call_channels here TickBuckets) h
+      holds_more side config.channel here (after here (Add config keys)) refl (call_channels here (Add config keys)) h
+  call_holds (Submit lcid octets) g h = call_same (Submit lcid octets) refl refl h
+  call_holds (SetDiscard lcid ttis) g h = call_same (SetDiscard lcid ttis) refl refl h
+  call_holds Tick g h = call_same Tick refl refl h
+  call_holds TickBuckets g h = call_same TickBuckets refl refl h
   call_holds (Visits t) g h = visit_holds t g h
-  call_holds (Grants tti) g h = holds_same side here _ refl (call_channels here (Grants tti)) h
-  call_holds (Granted tti good) g h = holds_same side here _ refl (call_channels here (Granted tti good)) h
-  call_holds (Assigned tti ndi good) g h = holds_same side here _ refl (call_channels here (Assigned tti ndi good)) h
-  call_holds (Pass tti) g h = holds_same side here _ refl (call_channels here (Pass tti)) h
-  call_holds (Receive block) g h = holds_same side here _ refl (call_channels here (Receive block)) h
-  call_holds (Expire lcid clock) g h = holds_same side here _ refl (call_channels here (Expire lcid clock)) h
+  call_holds (Grants tti) g h = call_same (Grants tti) refl refl h
+  call_holds (Granted tti good) g h = call_same (Granted tti good) refl refl h
+  call_holds (Assigned tti ndi good) g h = call_same (Assigned tti ndi good) refl refl h
+  call_holds (Pass tti) g h = call_same (Pass tti) refl refl h
+  call_holds (Receive block) g h = call_same (Receive block) refl refl h
+  call_holds (Expire lcid clock) g h = call_same (Expire lcid clock) refl refl h
   call_holds (Move keys) g h = fresh_holds side here.sender.maximum (after here (Move keys)) refl
 
 one_more : (side : Side) (maximum : ℕ) (reports : Bool) (past : List Call) (c : Call)

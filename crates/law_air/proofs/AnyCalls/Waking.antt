@@ -1,6 +1,6 @@
 -- Only the call that configures DRX configures it.
-use Rattle.std.proofs.Common.{◌≡◌, ℕ, Bool, true, false, ◌&&◌, ◌==◌, nat_le, if◌then◌else◌, Option, Some, None, List}
-use Rattle.std.proofs.Common.{[], ◌∷◌, ◌++◌, length, refl, ap, ◌∙◌}
+use Rattle.std.proofs.Common.{◌%◌, ◌≡◌, ℕ, Bool, true, false, ◌&&◌, ◌==◌, nat_le, if◌then◌else◌, Option, Some, None}
+use Rattle.std.proofs.Common.{List, [], ◌∷◌, ◌++◌, length, refl, ap, ◌∙◌}
 use Rattle.std.specs.Prelude.{option_map, slice_index_or, slice_set}
 use Rattle.air_link.specs.Link.{Link, end_of, with_end}
 use Rattle.air_link.specs.Telling.{delivers, gathers, fails, noted, tells, tells_all}
