@@ -218,7 +218,8 @@ pub record IsThere (side : Side) (lcid : ℕ) (past : List Group) (config : Bear
   pub flow_is : flow lcid (end_of side (link_behind past)) ≡ bearer_reached config keys side steps
   pub keyed : is_some (state_behind past).rules.keys ≡ true
   pub lives_are : keys ∷ restarts steps ≡ keys_given past
-  pub counts_are : counts (all_taken (flow_of config.kind config keys side) steps) ≡ counts_taken side lcid (history past)
+  pub counts_are : counts (all_taken (flow_of config.kind config keys side) steps)
+      ≡ counts_taken side lcid (history past)
 
 still_keyed : (line : Line) (r : Rules) → is_some r.keys ≡ true → is_some (accepted line r).keys ≡ true
 unfolding accepted
