@@ -5,7 +5,7 @@ use Rattle.bearer.specs.declared.flow.Flow.{Flow}
 use Rattle.bearer.specs.declared.flow.Flow.TheVariants.{Tm, Um, Am}
 use Rattle.bearer.specs.Hearing.{ticking}
 use Rattle.bearer.specs.Hearing.{expiry as flow_expiry}
-use Rattle.bearer.specs.Lives.{stopping, stopped}
+use Rattle.bearer.specs.Lives.{stopping}
 use Rattle.bearer.specs.Acknowledged.Hearing.{confirms, all_confirmed, started_told, settled_work, settled_if}
 use Rattle.bearer.specs.Acknowledged.Hearing.{heard_work, hears as am_hears, hears_all as am_hears_all, stopped_told}
 use Rattle.bearer.specs.Acknowledged.Hearing.{status_work, arrived_told as am_arrived_told}
@@ -28,7 +28,6 @@ use Rattle.bearer.specs.Unacknowledged.Hearing.{counted_down, ticking as um_tick
 use Rattle.bearer.specs.Unacknowledged.Lives.{stopping as um_stopping}
 use Rattle.bearer.specs.Unacknowledged.State.{State as UmBearer}
 use Rattle.l2_num.specs.Timers.{ends}
-use Rattle.l2_types.specs.declared.channel.Kind.TheVariants as kinds
 use Rattle.l2_types.specs.declared.event.Clock.{Clock}
 use Rattle.l2_types.specs.declared.event.Clock.TheVariants.{Poll, Reorder, Prohibit}
 use Rattle.l2_types.specs.declared.event.Lost.TheVariants as lost
@@ -55,7 +54,6 @@ use Rattle.rlc_pdu.specs.declared.outcome.Turned.{Turned}
 use Rattle.rlc_pdu.specs.Pdus.{UmdPdu, AcknowledgedPdu, Payload, Status}
 use Rattle.rlc_um.specs.Receiver.{State as UmReceiver, landing, turning, arrival, expiring, expired as um_expired}
 use Rattle.rlc_um.specs.Receiver.{all_joined}
-use Rattle.mac_pdu.specs.Items.{sdu}
 use Rattle.law_node.proofs.Owning.{heard_own}
 use Rattle.std.specs.List.{AllByRecursion}
 use Rattle.l2_types.specs.declared.event.Lost.{Lost}

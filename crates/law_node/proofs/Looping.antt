@@ -4,11 +4,9 @@ use Rattle.std.proofs.Common.{[]}
 use Rattle.std.proofs.Common.{◌∷◌, refl}
 use Rattle.std.specs.List.{AllByRecursion}
 use Rattle.bearer_types.specs.declared.event.Event.{Event}
-use Rattle.bearer_types.specs.declared.event.Event.TheVariants as events
 use Rattle.harq.specs.declared.sender.Visit.{Visit}
 use Rattle.l2_node.specs.Building.{visited, visit, told_by}
 use Rattle.l2_node.specs.End.{End}
-use Rattle.pdcp_pdu.specs.declared.PdcpKind.TheVariants as pdcp
 use Rattle.law_node.specs.Calls.{Call, SetVisits, SetReports, Add, Submit, SetDiscard, Tick, TickBuckets, Visits}
 use Rattle.law_node.specs.Calls.{Grants, Granted, Assigned, Pass, Receive, Expire, Move}
 use Rattle.promises.specs.Events.{is_of_loop, TellNoLoop}

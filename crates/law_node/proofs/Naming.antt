@@ -296,7 +296,7 @@ am_named b size held' known o r =
     let t = am_turn w.tx room held' more in
     let given = am_answer_of t w.tx room more in
     let is : sent_pdus (w.events ++ am_data_told w.pdcp.lcid given)
-        ≡ sent_pdus status ++ sent_pdus (am_data_told lcid given) =
+    ≡ sent_pdus status ++ sent_pdus (am_data_told lcid given) =
     sends_then w.events (am_data_told w.pdcp.lcid given)
     ∙ ap (λ (l : List SentPdu). l ++ sent_pdus (am_data_told w.pdcp.lcid given)) k.sent_is
     ∙ ap (λ (l : ℕ). sent_pdus status ++ sent_pdus (am_data_told l given)) k.lcid_is in

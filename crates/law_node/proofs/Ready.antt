@@ -1,5 +1,5 @@
 -- What waits at a bearer, and what it has sent, can be written as PDUs.
-use Rattle.std.proofs.Common.{◌≡◌, ◌≤◌, ℕ, ◌+◌, ◌-◌, ◌==◌, nat_lt, Bool, true, false}
+use Rattle.std.proofs.Common.{◌≡◌, ◌≤◌, ℕ, ◌-◌, ◌==◌, nat_lt, Bool, true, false}
 use Rattle.std.proofs.Common.{if◌then◌else◌, Option, None, Result, Ok, Err, List, [], ◌∷◌, ◌++◌, length}
 use Rattle.std.proofs.Common.{refl, subst}
 use Rattle.bearer.specs.Bearer.{flow_of}
@@ -43,7 +43,6 @@ use Rattle.pdcp_rx.specs.declared.Cause.TheVariants.{Arrived}
 use Rattle.rlc_am_rx.specs.Machine.{landed, turned, arrived as rx_arrived, written as status_written_of}
 use Rattle.rlc_am_tx.specs.declared.answers.Heard.{Heard as HeardStatus}
 use Rattle.rlc_am_tx.specs.declared.answers.Heard.TheVariants as heard_as
-use Rattle.rlc_am_tx.specs.declared.turn.Turn.TheVariants as turns
 use Rattle.rlc_am_tx.specs.Machine.{State as AmSender, heard, after_status, after_tick as sender_ticked}
 use Rattle.rlc_am_tx.specs.Machine.{turn as am_turn}
 use Rattle.rlc_pdu.specs.declared.RlcRefusal.{RlcRefusal}

@@ -19,15 +19,12 @@ use Rattle.bearer.specs.Unacknowledged.Hearing.{after_expiry as um_after_expiry,
 use Rattle.bearer.specs.Unacknowledged.State.{State as UmBearer}
 use Rattle.bearer.specs.Unacknowledged.Taking.{Feeding, feeds as um_feeds, fed as um_fed, feeding as um_feeding}
 use Rattle.bearer.specs.Unacknowledged.Taking.{given_to as um_given, size_in, after_taking as um_after_taking}
-use Rattle.l2_num.specs.Timers.{ends, runs}
-use Rattle.l2_types.specs.declared.channel.Kind.TheVariants as kinds
+use Rattle.l2_num.specs.Timers.{runs}
 use Rattle.l2_types.specs.declared.event.Clock.{Clock}
 use Rattle.l2_types.specs.declared.event.Clock.TheVariants.{Poll, Reorder, Prohibit}
 use Rattle.pdcp_pdu.specs.declared.pdu.PdcpKind.{PdcpKind}
-use Rattle.pdcp_pdu.specs.declared.pdu.PdcpKind.TheVariants as pdcp
 use Rattle.pdcp_pdu.specs.Kinds.{IsKind}
 use Rattle.pdcp_tx.specs.State.{Offer, offers}
-use Rattle.rlc_am_tx.specs.declared.answers.Heard.TheVariants as heard_as
 use Rattle.rlc_am_tx.specs.declared.turn.Turn.{Turn}
 use Rattle.rlc_am_tx.specs.declared.turn.Turn.TheVariants as turns
 use Rattle.rlc_am_tx.specs.Machine.{State as AmSender, after_status, after_expiry}

@@ -10,8 +10,6 @@ use Rattle.bearer.specs.declared.flow.Flow.TheVariants.{Tm, Um, Am}
 use Rattle.bearer.specs.Hearing.{arriving, ticking}
 use Rattle.bearer.specs.Lives.{stopping}
 use Rattle.bearer.specs.Acknowledged.Hearing.{arriving as am_arriving}
-use Rattle.bearer.specs.Acknowledged.Timing.{discards}
-use Rattle.bearer_pdcp.specs.Hearing.{ups}
 use Rattle.bearer_types.specs.declared.event.Event.{Event}
 use Rattle.bearer_types.specs.declared.event.Event.TheVariants as events
 use Rattle.bearer.specs.Unacknowledged.Hearing.{arriving as um_arriving}
@@ -26,12 +24,8 @@ use Rattle.l2_types.specs.declared.event.Lost.TheVariants as lost
 use Rattle.mac_pdu.specs.declared.fault.MacRefusal.{MacRefusal}
 use Rattle.mac_pdu.specs.Items.{MacItem, front, element, sdu, padding}
 use Rattle.mac_pdu.specs.Reading.{reading}
-use Rattle.pdcp_rx.specs.declared.Got.TheVariants as got_as
-use Rattle.rlc_am_tx.specs.declared.answers.Heard.TheVariants as heard_as
-use Rattle.rlc_am_tx.specs.declared.answers.PollExpired.TheVariants as polls
 use Rattle.rlc_pdu.specs.declared.fault.RlcWhy.TheVariants.{Short}
 use Rattle.rlc_pdu.specs.Reading.{umd_at, am_at}
-use Rattle.rlc_um.specs.Receiver.{expiring}
 use Rattle.promises.specs.Events.{is_of_loop, TellNoLoop, is_of_writing}
 use Rattle.law_node.specs.Writing.{TellNone, WritesNothing}
 use Rattle.law_node.proofs.Elsewhere.{HoldsElsewhere, um_arrived_all, am_arrived_all, IsOfFlow, ticking_all, expiry_all}

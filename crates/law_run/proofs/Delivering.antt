@@ -162,7 +162,7 @@ goes_on l c past g right order other own d =
     let word = word_of g.line in
     let haps = with_word word d.haps in
     let x : LineLives l d.nb d.ue c.rlc_bits (c.kind ≡ Um) d.told haps d.told d.handed d.flown set
-        (entries_ended g.line) p
+    (entries_ended g.line) p
     m =
     line_lives l d.nb d.ue c.rlc_bits (c.kind ≡ Um) d.told d.handed d.flown d.haps d.set g.line
     (state_behind past).rules.keys k (behind past order).nothing right.in_range other own d.lived in

@@ -29,7 +29,6 @@ use Rattle.law_air.proofs.AnyCalls.Going.{told_both}
 use Rattle.law_air.specs.AnyCalls.Runs.{Step, Tti, Drains, Submit, Calls, step}
 use Rattle.law_air.specs.AnyCalls.Told.{refusals}
 use Rattle.law_air.proofs.AnyCalls.Calling.{submitting_adds}
-use Rattle.l2_node.specs.End.{End}
 use Rattle.law_air.specs.TwoEnds.Arrival.{renewals_in, told_by_step}
 use Rattle.promises.specs.Arrival.{entries_in, entries_ended}
 use Rattle.law_words.specs.Arrivals.{AccountEntry}

@@ -219,7 +219,7 @@ next_loops past g m nothing b p events_are =
             (gone_up new (take n g.events)) b.part (back.each n);
         others = λ h lcid.
             let none : item_count lcid m.looping.kept ≡ 0 =
-                ap (item_count lcid) (p.rests.none_kept (ap is_keeping p.mode_is ∙ h)) in
+            ap (item_count lcid) (p.rests.none_kept (ap is_keeping p.mode_is ∙ h)) in
             omega (arith, none, others lcid);
       };
       part = subst (λ (x : List Item). ArePart x (all_gone_up (g ∷ past)))

@@ -5,8 +5,6 @@ use Rattle.std.proofs.Common.{subst, arith}
 use Rattle.std.proofs.lemmas.Bool.{cases_Bool}
 use Rattle.std.proofs.lemmas.Bool.Decides.{nat_tests}
 use Rattle.std.specs.List.{AllByRecursion}
-use Rattle.air_record.specs.declared.line.Line.TheVariants as lines
-use Rattle.air_record.specs.declared.record.Record.TheVariants as records
 use Rattle.air_run.specs.Rules.{wants_keys}
 use Rattle.air_text.specs.Groups.{Group}
 use Rattle.bearer.specs.Bearer.{flow_of}

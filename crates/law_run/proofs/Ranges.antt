@@ -219,9 +219,11 @@ option-range c Prio text has h =
 option-range c Pbr text has h =
     bind IsCounted (limit_of (codes "inf") 0 65535 text)
     (λ n. Ok (record c { channel = record c.channel { pbr = n } }))
-    (λ n e. given IsCounted (record c { channel = record c.channel { pbr = n } })
-    ((let range : IfSome n (λ k. k ≤ 65535) = most-only 0 65535 n (limit-range (codes "inf") 0 65535 text n e) in
-    assumption), h.1))
+    (λ n e. given IsCounted (record c { channel = record c.channel { pbr = n } }) (
+      (let range : IfSome n (λ k. k ≤ 65535) = most-only 0 65535 n (limit-range (codes "inf") 0 65535 text n e) in
+          assumption),
+      h.1,
+    ))
 option-range c Bsd text has h =
     bind IsCounted (number_of 1 1000 text) (λ n. Ok (record c { channel = record c.channel { bucket = n } }))
     (λ n e. given IsCounted (record c { channel = record c.channel { bucket = n } })
@@ -244,14 +246,18 @@ option-range c Psn text has h =
     ((let range : ArePdcpBits c.kind n = psn-bits c.kind text n has e in assumption), h.1))
 option-range c PollPdu text has h =
     bind IsCounted (limit_of (codes "inf") 1 65535 text) (λ n. Ok (record c { tx = record c.tx { poll_pdu = n } }))
-    (λ n e. given IsCounted (record c { tx = record c.tx { poll_pdu = n } })
-    ((let range : IfSome n (λ k. (1 ≤ k) × (k ≤ 65535)) =
-    limit-range (codes "inf") 1 65535 text n e in assumption), h.1))
+    (λ n e. given IsCounted (record c { tx = record c.tx { poll_pdu = n } }) (
+      (let range : IfSome n (λ k. (1 ≤ k) × (k ≤ 65535)) =
+          limit-range (codes "inf") 1 65535 text n e in assumption),
+      h.1,
+    ))
 option-range c PollByte text has h =
     bind IsCounted (limit_of (codes "inf") 1 4000000 text) (λ n. Ok (record c { tx = record c.tx { poll_byte = n } }))
-    (λ n e. given IsCounted (record c { tx = record c.tx { poll_byte = n } })
-    ((let range : IfSome n (λ k. (1 ≤ k) × (k ≤ 4000000)) =
-    limit-range (codes "inf") 1 4000000 text n e in assumption), h.1))
+    (λ n e. given IsCounted (record c { tx = record c.tx { poll_byte = n } }) (
+      (let range : IfSome n (λ k. (1 ≤ k) × (k ≤ 4000000)) =
+          limit-range (codes "inf") 1 4000000 text n e in assumption),
+      h.1,
+    ))
 option-range c PollRetx text has h =
     bind IsCounted (number_of 0 65535 text) (λ n. Ok (record c { tx = record c.tx { poll_retransmit = n } }))
     (λ n e. given IsCounted (record c { tx = record c.tx { poll_retransmit = n } })
@@ -262,9 +268,11 @@ option-range c MaxRetx text has h =
     ((let range : (1 ≤ n) × (n ≤ 32) = number-range 1 32 n text e in assumption), h.1))
 option-range c Prohibit text has h =
     bind IsCounted (limit_of (codes "off") 0 65535 text) (λ n. Ok (record c { rx = record c.rx { prohibit = n } }))
-    (λ n e. given IsCounted (record c { rx = record c.rx { prohibit = n } })
-    ((let range : IfSome n (λ k. k ≤ 65535) = most-only 0 65535 n (limit-range (codes "off") 0 65535 text n e) in
-    assumption), h.1))
+    (λ n e. given IsCounted (record c { rx = record c.rx { prohibit = n } }) (
+      (let range : IfSome n (λ k. k ≤ 65535) = most-only 0 65535 n (limit-range (codes "off") 0 65535 text n e) in
+          assumption),
+      h.1,
+    ))
 option-range c Count text has h =
     bind IsCounted (number_of 0 4294967295 text) (λ n. Ok (record c { first = n }))
     (λ n e. given IsCounted (record c { first = n }) (assumption, number-most 0 4294967295 n text e))

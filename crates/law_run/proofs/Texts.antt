@@ -27,7 +27,6 @@ use Rattle.bearer_types.specs.declared.config.BearerConfig.{BearerConfig}
 use Rattle.eps_sec.specs.declared.Keys.{Keys}
 use Rattle.l2_node.specs.End.{End, fresh as fresh_end}
 use Rattle.l2_node.specs.Finding.{has}
-use Rattle.l2_types.specs.declared.channel.Kind.TheVariants as kind
 use Rattle.l2_types.specs.declared.side.Side.{Side}
 use Rattle.law_air.specs.AnyCalls.Ends.{begins_life}
 use Rattle.promises.specs.Records.{events_of, is_of_building}

@@ -10,18 +10,14 @@ use Rattle.air_link.specs.Link.{Link, says, end_of, with_end}
 use Rattle.air_link.specs.Loops.{loops, pays}
 use Rattle.air_link.specs.Telling.{delivers, noted, tells, tells_all}
 use Rattle.air_link.specs.Ttis.{begins, tells_sleep, grows, ticks, times, keeps_first, timed}
-use Rattle.air_record.specs.declared.record.Arrived.TheVariants as arriveds
 use Rattle.air_record.specs.declared.record.Record.{Record}
 use Rattle.air_record.specs.declared.record.Record.TheVariants as records
 use Rattle.bearer_types.specs.declared.event.Event.{Event}
 use Rattle.bearer_types.specs.declared.event.Event.TheVariants as events
-use Rattle.harq.specs.declared.receiver.Answer.TheVariants.{Up}
-use Rattle.harq.specs.declared.sender.Order.TheVariants as orders
 use Rattle.l2_node.specs.End.{End}
 use Rattle.l2_node.specs.Hearing.{received, ticked}
 use Rattle.l2_types.specs.declared.side.Side.{Side}
 use Rattle.l2_types.specs.declared.side.Side.TheVariants.{Nb, Ue}
-use Rattle.mac_pdu.specs.declared.item.Direction.TheVariants as directions
 use Rattle.test_loop.specs.declared.Mode.{Mode}
 use Rattle.test_loop.specs.Items.{Item, item}
 use Rattle.test_loop.specs.Loops.{is_on, is_keeping, after_tick}

@@ -344,7 +344,7 @@ loops_go mode l s =
     let m = loops l in
     let t = loops_take mode l s in
     let before : map (item_back mode) l.ups ++ [] ≡ map (item_back mode) l.ups =
-        append-nil (map (item_back mode) l.ups) in
+    append-nil (map (item_back mode) l.ups) in
     record {
       more = t.more;
       out_is = t.out_is;
@@ -380,7 +380,7 @@ pays_if true mode l s =
     let r = returns_all_brings l.looping.kept (record l { looping = state l.looping.mode [] l.looping.left }) in
     let kept : m.looping.kept ≡ [] = ap (λ (x : Seen). x.kept) r.seen_is in
     let after : waiting mode m ≡ map (item_back mode) l.ups =
-        ap (λ (x : Seen). x.kept ++ map (item_back mode) x.ups) r.seen_is in
+    ap (λ (x : Seen). x.kept ++ map (item_back mode) x.ups) r.seen_is in
     record {
       more = r.more;
       out_is = ap (λ (x : Seen). x.out) r.seen_is;

@@ -12,9 +12,6 @@ use Rattle.bearer.specs.Lives.{stopping, stopped, restarted}
 use Rattle.bearer.specs.Submitting.{submitted as flow_submitted}
 use Rattle.bearer.specs.Taking.{after as flow_after}
 use Rattle.bearer.specs.Acknowledged.Hearing.{arrived_told as am_arrived_told, arriving as am_arriving}
-use Rattle.bearer.specs.Acknowledged.Timing.{ticks}
-use Rattle.bearer.specs.Acknowledged.Timing.{discards}
-use Rattle.bearer_pdcp.specs.Hearing.{ups}
 use Rattle.bearer_types.specs.Configs.{IsChannelOf}
 use Rattle.bearer_types.specs.declared.config.BearerConfig.{BearerConfig}
 use Rattle.bearer_types.specs.declared.event.Event.{Event}
@@ -24,11 +21,7 @@ use Rattle.eps_sec.specs.declared.Keys.{Keys}
 use Rattle.l2_types.specs.declared.channel.Kind.{Kind}
 use Rattle.l2_types.specs.declared.channel.Kind.TheVariants as kinds
 use Rattle.l2_types.specs.declared.event.Clock.{Clock}
-use Rattle.l2_types.specs.declared.event.Lost.TheVariants as lost
 use Rattle.l2_types.specs.declared.side.Side.{Side}
-use Rattle.pdcp_rx.specs.declared.Got.TheVariants as got_as
-use Rattle.rlc_am_tx.specs.declared.answers.Heard.TheVariants as heard_as
-use Rattle.rlc_am_tx.specs.declared.answers.PollExpired.TheVariants as polls
 use Rattle.rlc_pdu.specs.declared.fault.RlcRefusal.{RlcRefusal}
 use Rattle.rlc_pdu.specs.declared.fault.RlcWhy.TheVariants.{Short}
 use Rattle.rlc_pdu.specs.Reading.{umd_at, am_at}

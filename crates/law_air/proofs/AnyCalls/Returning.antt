@@ -139,7 +139,7 @@ back_then mode w v u x y p q = record {
       let came : item_count lcid (returned (x ++ y)) ≡ item_count lcid (returned x) + item_count lcid (returned y) =
       ap (item_count lcid) (flat_map-append looped x y) ∙ on_both lcid (returned x) (returned y) in
       let went : item_count lcid (gone_up mode (x ++ y))
-          ≡ item_count lcid (gone_up mode x) + item_count lcid (gone_up mode y) =
+      ≡ item_count lcid (gone_up mode x) + item_count lcid (gone_up mode y) =
       ap (item_count lcid) (flat_map-append (items_due mode) x y) ∙ on_both lcid (gone_up mode x) (gone_up mode y) in
       let lost : drop_count lcid (x ++ y) ≡ drop_count lcid x + drop_count lcid y = count_then (is_dropped lcid) x y in
       omega (arith, came, went, lost, p.others lcid, q.others lcid);

@@ -1,5 +1,5 @@
 -- The test loop through the stages and calls of a link.
-use Rattle.std.proofs.Common.{◌≡◌, ℕ, ◌+◌, ◌%◌, ◌==◌, Bool, true, false, if◌then◌else◌, Option, Some}
+use Rattle.std.proofs.Common.{◌≡◌, ℕ, ◌%◌, ◌==◌, Bool, true, false, if◌then◌else◌, Option, Some}
 use Rattle.std.proofs.Common.{None, List, [], ◌∷◌, ◌++◌, map, append_assoc, append-nil, refl, ap, sym, subst}
 use Rattle.std.proofs.Common.{◌∙◌}
 use Rattle.std.specs.Prelude.{slice_index_or, slice_set}
@@ -25,7 +25,6 @@ use Rattle.air_record.specs.declared.record.Arrived.TheVariants as arriveds
 use Rattle.air_record.specs.declared.record.Record.{Record}
 use Rattle.air_record.specs.declared.record.Record.TheVariants as records
 use Rattle.bearer_types.specs.declared.event.Event.{Event}
-use Rattle.bearer_types.specs.declared.event.Event.TheVariants as events
 use Rattle.eps_sec.specs.declared.Keys.{Keys}
 use Rattle.harq.specs.declared.receiver.Answer.{Answer}
 use Rattle.harq.specs.declared.receiver.Answer.TheVariants.{Up, Again, Damaged, Nothing}

@@ -100,7 +100,7 @@ heard_stage : (l : ℕ) (set : Marks) (octets : List ℕ) (v : ℕ) (heard : Opt
     → HasCome side (station side a).end → m.out ≡ k.out ++ heard_as side heard (received d octets).events
     → m.kinds ≡ k.kinds
     → Both R S m (with_station side (record (station side a) {
-      end = after_call (station side a).end (Receive octets)
+      end = after_call (station side a).end (Receive octets);
     }) a)
     → Reaches l set (Block' octets v) Any none R S k m a
 heard_stage l set octets v heard side R S k m d a f end_is come out kinds both =

@@ -27,7 +27,7 @@ use Rattle.air_link.specs.Uplink.{up_order, is_intact, told_as as up_told_as, gr
 use Rattle.air_link.specs.Uplink.{awake, up_by, answers, grants, passes, uplink}
 use Rattle.law_air.proofs.AnyCalls.Going.{other_told, Seen}
 use Rattle.law_air.proofs.AnyCalls.Telling.{some_from}
-use Rattle.law_air.proofs.AnyCalls.Visiting.{sent, visit_records, comes_seen, builds_down, sent_down, enough_by_grant}
+use Rattle.law_air.proofs.AnyCalls.Visiting.{visit_records, comes_seen, builds_down, sent_down, enough_by_grant}
 use Rattle.law_air.proofs.AnyCalls.Visiting.{builds_up, sent_up}
 use Rattle.law_deliver.specs.AmFlow.Air.{Station}
 use Rattle.law_air.proofs.TwoEnds.Going.{Marks, Behind, Any, Block', ended, none}

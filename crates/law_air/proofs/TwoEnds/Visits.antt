@@ -6,11 +6,9 @@ use Rattle.std.specs.List.{AllByRecursion, flat_map}
 use Rattle.std.proofs.lemmas.Grind.{flat_map-append}
 use Rattle.std.proofs.lemmas.List.{map-append}
 use Rattle.bearer_types.specs.declared.event.Event.{Event}
-use Rattle.air_record.specs.declared.record.Arrived.TheVariants as arriveds
 use Rattle.air_record.specs.declared.record.Record.{Record}
 use Rattle.air_record.specs.declared.record.Record.TheVariants as records
 use Rattle.harq.specs.declared.sender.Order.{Order}
-use Rattle.harq.specs.declared.sender.Order.TheVariants as orders
 use Rattle.harq.specs.declared.sender.Visit.{Visit}
 use Rattle.harq.specs.declared.sender.Visit.TheVariants.{New, Resend, Silent as Quiet}
 use Rattle.harq.specs.Sending.{after_feedback}
@@ -19,7 +17,6 @@ use Rattle.l2_node.specs.End.{End}
 use Rattle.bearer_types.specs.Sides.{sent_by, other, is_same, sender_of}
 use Rattle.l2_types.specs.declared.side.Side.{Side}
 use Rattle.l2_types.specs.declared.side.Side.TheVariants.{Nb, Ue}
-use Rattle.mac_pdu.specs.declared.item.Direction.TheVariants as directions
 use Rattle.law_node.specs.Calls.{Turn, Visits, answered, after as after_call}
 use Rattle.law_node.proofs.Looping.{tells_no_loop}
 use Rattle.pdu_show.specs.Show.{block_shown}

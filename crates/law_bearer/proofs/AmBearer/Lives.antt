@@ -84,8 +84,10 @@ ends_as b am q =
     ap (λ (a : Bool). ends_with a (finished b.rx) (record { pdcp = b.pdcp; events = [] })) am
     ∙ ap (λ (r : Receiving). hears_last (finished b.rx) (record { pdcp = record b.pdcp { rx = r }; events = [] }))
     (sym (none_ready b.pdcp.rx q)) in
-    record { left = ap (λ (x : Ending). x.pdcp) from ∙ h.left; ups =
-    ap (λ (x : Ending). ups_among x.events) from ∙ h.ups }
+    record {
+      left = ap (λ (x : Ending). x.pdcp) from ∙ h.left;
+      ups = ap (λ (x : Ending). ups_among x.events) from ∙ h.ups;
+    }
 
 -- ---- the next life
 

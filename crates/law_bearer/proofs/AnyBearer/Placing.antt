@@ -1,5 +1,5 @@
 -- What PDCP keeps stands at its place in the stream.
-use Rattle.std.proofs.Common.{◌≡◌, ℕ, ◌+◌, ◌-◌, true, false, List, [], ◌∷◌}
+use Rattle.std.proofs.Common.{◌≡◌, ℕ, ◌-◌, true, false, List, [], ◌∷◌}
 use Rattle.std.proofs.Common.{◌++◌, map, take, Option, Some, None, append_assoc}
 use Rattle.std.proofs.Common.{subst, refl, ap, sym, ◌∙◌, arith}
 use Rattle.std.proofs.lemmas.List.{append-nil}
@@ -15,7 +15,7 @@ use Rattle.pdcp_tx_store.specs.declared.given.Sent.{Sent}
 use Rattle.pdcp_tx_store.specs.declared.given.Entry.{Entry}
 use Rattle.pdcp_tx_store.specs.declared.given.Entry.TheVariants.{Data, Own}
 use Rattle.pdcp_tx_store.specs.Waiting.{Waits}
-use Rattle.pdcp_tx_store.specs.Given.{Given, settled, with_entry, acked}
+use Rattle.pdcp_tx_store.specs.Given.{Given, settled, with_entry}
 use Rattle.pdcp_tx_store.specs.Given.{with_ack, with_report}
 use Rattle.pdcp_tx.specs.State.{State, Offer, offers, owed_offers, again_offer, new_offers, start, submitted, took}
 use Rattle.pdcp_tx.specs.State.{took_owed, took_again, took_new, confirmed, reported, reported_from, fms_count}

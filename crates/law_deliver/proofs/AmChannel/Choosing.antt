@@ -113,8 +113,11 @@ module _ (kind : PdcpKind) (p : Protection) (first : ℕ) where
 
   pub reached_more : (s : State) (xs : List Step) → WasReached s → WasReached (run_pdcp_sender xs s)
   reached_more s xs r =
-      record { steps = r.steps ++ xs; is = ap (run_pdcp_sender xs) r.is
-      ∙ sym (run_more (start kind p first) r.steps xs) }
+      record {
+        steps = r.steps ++ xs;
+        is = ap (run_pdcp_sender xs) r.is
+            ∙ sym (run_more (start kind p first) r.steps xs);
+      }
 
   ordered : (s : State) → WasReached s → IsOrdered s
   ordered s r = subst IsOrdered (sym r.is) (lives_are_ordered kind p first r.steps)

@@ -306,7 +306,7 @@ module _ (side : Side) (l : ℕ) (s : Station) (n m : BearerEnd) (t : Turn) wher
       let data' = data_given n.bearer (part l s t) (low l s t) in
       let status = status_pdus n.bearer.rx (part l s t) in
       let load : Load =
-          record { block = block_of s t; copies = copies_with data' []; reports = map written_now status } in
+      record { block = block_of s t; copies = copies_with data' []; reports = map written_now status } in
       record {
         deeds = Calls (Takes (part l s t) (low l s t)) ∷ [];
         done = (is_taking v h b most, tt);

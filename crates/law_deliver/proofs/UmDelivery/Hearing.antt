@@ -22,8 +22,10 @@ use Rattle.law_deliver.proofs.UmDelivery.Sending.{octets, run_then, given_then, 
 -- ---- all that is ready goes up
 
 raises_off : (sdus : List (List ℕ)) (f : Flow) → f.receiver.ready ≡ sdus
-    → run_um_pdcp (map (λ sdu. Raise) sdus) f ≡ record f { receiver = record f.receiver { ready = [] }; up =
-    f.up ++ sdus }
+    → run_um_pdcp (map (λ sdu. Raise) sdus) f ≡ record f {
+      receiver = record f.receiver { ready = [] };
+      up = f.up ++ sdus;
+    }
 raises_off [] f q =
     ap (λ (l : List (List ℕ)). record f { receiver = record f.receiver { ready = l } }) q
     ∙ ap (λ (l : List (List ℕ)). record f { receiver = record f.receiver { ready = [] }; up = l })

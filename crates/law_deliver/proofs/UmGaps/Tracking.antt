@@ -273,7 +273,7 @@ module _ (bits reorder counts : ℕ) (u : IsUmBits bits) where
       read_calls (umd_at m.bearer.bits c.octets) copy.pdu rx (ap (λ (v : ℕ). umd_at v c.octets) on.bits_are
       ∙ copy.read) in
       let then' : heard_in bits reorder b (ys ++ calls_in n (Comes k))
-          ≡ run_um_receiver (Arrives copy.pdu ∷ ups ready) w =
+      ≡ run_um_receiver (Arrives copy.pdu ∷ ups ready) w =
       ap (λ (o : Option Copy). heard_in bits reorder b (ys ++ arrives o)) at
       ∙ heard_then bits reorder b ys m.bearer (Arrive c.octets) on.to_is
       ∙ ap (λ (cs : List ReceiverCall). run_um_receiver cs w) calls in

@@ -1,5 +1,5 @@
 -- What a call of a sender gives RLC (TS 36.323 5.1.1, 5.1.2.1.1).
-use Rattle.std.specs.Prelude.{ℕ, List, [], ◌∷◌, Option, Some, None}
+use Rattle.std.specs.Prelude.{List, [], ◌∷◌, Option, Some, None}
 use Rattle.pdcp_tx.specs.declared.sender.Next.{Next}
 use Rattle.pdcp_tx.specs.State.{State, taking}
 use Rattle.pdcp_tx.specs.Runs.{Call, Submit, Take, Confirm, Report, Owe, Tick, Late}

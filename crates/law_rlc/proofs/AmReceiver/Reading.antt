@@ -1,6 +1,6 @@
 -- What was read brings an octet.
-use Rattle.std.proofs.Common.{◌≤◌, ℕ, ◌+◌, Bool, true, List, [], ◌∷◌, ◌++◌, length, map, arith, length-append}
-use Rattle.rlc_pdu.specs.Pdus.{AmdPdu, AreLens}
+use Rattle.std.proofs.Common.{◌≤◌, ℕ, Bool, true, List, [], ◌∷◌, length, map, arith, length-append}
+use Rattle.rlc_pdu.specs.Pdus.{AreLens}
 use Rattle.rlc_am_rx_window.specs.Piece.{element_cells, data_cells, begins_in, ends_in}
 use Rattle.law_rlc.specs.AmReceiver.Status.{ReadBringSome}
 

@@ -515,7 +515,7 @@ pub true_status : (config : AmRxConfig) (calls : List Call) (size : ℕ) → Bri
     → IsTrueStatus (run_am_receiver calls (begin config)) size
 true_status config calls size some =
     let same : (go calls (marked_outset config)).world ≡ run_am_receiver calls (begin config) =
-        go_world calls (marked_outset config) in
+    go_world calls (marked_outset config) in
     let well : Well (run_am_receiver calls (begin config)).state.window.slots =
     run_well calls (begin config) some (λ k. nothing-well) in
     subst (λ (w : World). IsTrueStatus w size) same

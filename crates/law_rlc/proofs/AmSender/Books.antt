@@ -8,7 +8,6 @@ use Rattle.std.proofs.lemmas.Bool.{cases_eq}
 use Rattle.std.proofs.lemmas.List.{append-nil, length-take, replicate-append-replicate}
 use Rattle.l2_num.specs.Timers.{runs}
 use Rattle.rlc_pdu.specs.declared.pdu.Nack.{Nack}
-use Rattle.rlc_pdu.specs.declared.pdu.Part.{Part}
 use Rattle.rlc_pdu.specs.Pdus.{StatusPdu}
 use Rattle.rlc_queue.specs.Waiting.{behind}
 use Rattle.rlc_queue.specs.NewPdu.{elements, rest, partial, room, may_follow}

@@ -11,12 +11,9 @@ use Rattle.rlc_am_tx_window.specs.Sent.{Sent, is_new, considered, considered_by,
 use Rattle.rlc_am_tx_window.specs.Sent.{counted}
 use Rattle.rlc_am_tx_window.specs.Window.{Kept, next, slot_at, named_all, acked_from, is_named}
 use Rattle.rlc_am_tx_window.specs.Window.{leading_acked, advanced}
-use Rattle.rlc_am_tx.specs.declared.turn.Turn.TheVariants as turns
-use Rattle.rlc_am_tx.specs.Machine.{waits}
 use Rattle.law_rlc.specs.AmSender.Namings.{Marks, names, any_below, with_naming, is_open, heard_waits}
 use Rattle.law_rlc.specs.AmSender.Namings.{heard_namings, heard_marks}
 use Rattle.law_rlc.specs.AmSender.Namings.{count_of}
-use Rattle.rlc_queue.proofs.Lens.{whole}
 use Rattle.law_rlc.proofs.AmSender.Places.{any-same}
 use Rattle.law_rlc.proofs.AmSender.Named.{parts_at, named_by, part_names, names-parts, some_parts, named-parts}
 use Rattle.law_rlc.proofs.AmSender.Named.{named-at, considered-at, named-acked, IsNamed, all-named-by, named-some}

@@ -12,7 +12,6 @@ use Rattle.rlc_am_tx_window.specs.Sent.{Sent, with_name, considered}
 use Rattle.rlc_am_tx_window.specs.Sent.{considered_by, gets_acked}
 use Rattle.rlc_am_tx_window.specs.Window.{slot_at, offset_of, named_one, named_all, acked_from, considered_one}
 use Rattle.rlc_am_tx_window.specs.Window.{considered_all, credited_one, credited_from, leading_acked}
-use Rattle.rlc_am_tx.specs.declared.turn.Turn.TheVariants as turns
 use Rattle.rlc_am_tx.specs.Machine.{State}
 use Rattle.law_rlc.specs.AmSender.Run.{Call, Offer, Take, Status, Tick, Expire, Settle, Confirm}
 use Rattle.law_rlc.specs.AmSender.Confirmed.{with_given}

@@ -8,7 +8,6 @@ use Rattle.std.proofs.lemmas.Grind.{common_steps}
 use Rattle.std.proofs.lemmas.Bool.Decides.{nat_tests}
 use Rattle.std.proofs.lemmas.Bool.{cases_lt}
 use Rattle.std.proofs.lemmas.List.{length-map}
-use Rattle.rlc_pdu.specs.declared.outcome.Taken.TheVariants as taken
 use Rattle.rlc_pdu.specs.declared.pdu.Part.{Part}
 use Rattle.rlc_pdu.specs.declared.pdu.Segment.{Segment}
 use Rattle.rlc_pdu.specs.Pdus.{AreLens}
@@ -17,7 +16,6 @@ use Rattle.rlc_pdu.specs.Places.{IsGap}
 use Rattle.rlc_pdu.proofs.PlaceLaws.{gaps_are_first}
 use Rattle.rlc_pdu.specs.Writing.{header_len, amd_written}
 use Rattle.rlc_queue.specs.NewPdu.{framing}
-use Rattle.rlc_queue.proofs.Lens.{whole}
 use Rattle.rlc_am_tx_window.specs.Cut.{clip, is_cut}
 use Rattle.rlc_am_tx_window.specs.Sent.{Sent, Stretch, Lies, first_waiting, is_waiting, is_all, all_wait, whole_size}
 use Rattle.rlc_am_tx_window.specs.Sent.{next_stretch, stretch_from, stretch_in}

@@ -10,7 +10,6 @@ use Rattle.rlc_pdu.specs.Pdus.{StatusPdu}
 use Rattle.rlc_am_tx_window.specs.Sent.{Sent, is_waiting, recalled, considered, considered_by}
 use Rattle.rlc_am_tx_window.specs.Window.{Kept, slot_at, offset_of, leading_idle, leading_acked}
 use Rattle.rlc_am_tx_window.specs.Window.{is_named}
-use Rattle.rlc_am_tx.specs.declared.turn.Turn.TheVariants as turns
 use Rattle.rlc_am_tx.specs.Machine.{State, start, turn, waits, is_shut, is_quiet, after_status}
 use Rattle.rlc_am_tx.specs.Machine.{after_expiry, is_ignored}
 use Rattle.rlc_am_tx.specs.Machine.{ended, limit_of, stops, read, applied}

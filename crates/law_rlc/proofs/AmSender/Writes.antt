@@ -12,7 +12,6 @@ use Rattle.l2_num.specs.Timers.{runs}
 use Rattle.l2_types.specs.declared.config.AmTxConfig.{AmTxConfig}
 use Rattle.rlc_pdu.specs.declared.outcome.Taken.TheVariants as taken
 use Rattle.rlc_pdu.specs.declared.pdu.Nack.{Nack}
-use Rattle.rlc_pdu.specs.declared.pdu.Part.{Part}
 use Rattle.rlc_pdu.specs.Pdus.{StatusPdu, AreLens}
 use Rattle.rlc_pdu.specs.Runs.{has}
 use Rattle.rlc_pdu.specs.Writing.{header_len}

@@ -374,7 +374,7 @@ at-start width span h = record {
 pub edge : (width span : ℕ) → 0 < width → (calls : List Call) → IsEdge (run_um_receiver calls (fresh width span))
 edge width span h calls =
     let k : Keeps (run_um_receiver calls (fresh width span)) =
-        run-keeps calls (fresh width span) (at-start width span h) in
+    run-keeps calls (fresh width span) (at-start width span h) in
     let w : World = run_um_receiver calls (fresh width span) in
     let r = k.rests in
     let s = r.stands in
@@ -392,7 +392,7 @@ pub handed_up : (width span : ℕ) → 0 < width → (calls : List Call)
     → IsHandedUp (run_um_receiver calls (fresh width span))
 handed_up width span h calls =
     let k : Keeps (run_um_receiver calls (fresh width span)) =
-        run-keeps calls (fresh width span) (at-start width span h) in
+    run-keeps calls (fresh width span) (at-start width span h) in
     record { ready = k.rests.stands.sound.joined.ready; part = k.rests.stands.sound.joined.part }
 
 all-is : (s : State) → all_joined s ≡ (with_numbers s.window.slots s.joined).ready
@@ -403,7 +403,7 @@ pub finished_all : (width span : ℕ) → 0 < width → (calls : List Call)
     → IsFinished (run_um_receiver calls (fresh width span))
 finished_all width span h calls =
     let k : Keeps (run_um_receiver calls (fresh width span)) =
-        run-keeps calls (fresh width span) (at-start width span h) in
+    run-keeps calls (fresh width span) (at-start width span h) in
     let w : World = run_um_receiver calls (fresh width span) in
     let r = k.rests in
     let p = sound-pass (length w.state.window.slots) w.accepted (2 * w.state.window.width) w.state.window.edge

@@ -79,8 +79,10 @@ abbrev pub new_count : State → ℕ → ℕ
 new_count s size = length (new_slot s size).field
 
 abbrev pub octets_by : Turn → State → ℕ → Octets → Octets
-octets_by turns.New s size o = record o { unsent = drop (new_count s size) o.unsent; sent =
-    o.sent ++ take (new_count s size) o.unsent ∷ [] }
+octets_by turns.New s size o = record o {
+  unsent = drop (new_count s size) o.unsent;
+  sent = o.sent ++ take (new_count s size) o.unsent ∷ [];
+}
 octets_by turns.Whole s size o = o
 octets_by turns.Part s size o = o
 octets_by turns.Idle s size o = o
