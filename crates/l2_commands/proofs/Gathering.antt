@@ -300,3 +300,93 @@ ends m journal l0 l1 w w' w'' held held' run i o o' ending result g never p put 
     let q = over-played m journal l0 l1 (Some []) (Some (g.done ++ held)) (Some (g.done ++ held')) run i o o ending
     g.over (λ x. x) (moved-plays g.done held held' _ ⊥ o ending p) in
     rest-put journal l0 l1 g.done held' w w' w'' i o o' ending result never g.written_is q put
+
+-- ---- the text of a line goes past what is gathered, where nothing is
+
+-- all that was played is written
+all-written : {S : Type 0} (m : Player S) (journal : Bool → List ℕ
+    → Played) (left left' w w' : Option (List ℕ)) (held : List ℕ) (run : Option S) (number : ℕ) (kept : List ℕ)
+    → held ≡ [] → HasGathered m journal left left' w w' held run number kept
+    → GoesOn m journal left left' w w' run number kept
+all-written m journal left left' w w' held run number kept none g = record {
+  given = g.goes.given;
+  left_is = g.goes.left_is;
+  part = g.goes.part;
+  written_is = g.written_is
+      ∙ ap (after w)
+      (sym (append-nil g.done) ∙ ap (λ t. g.done ++ t) (sym none)
+      ∙ same-octets (g.done ++ held) (texts_of g.goes.part) g.goes.written_is);
+  state = g.goes.state;
+  run_is = g.goes.run_is;
+  rest = g.goes.rest;
+}
+
+-- a text and nothing
+with-none : (text held : List ℕ) → held ≡ [] → Some (text ++ held) ≡ after (Some []) text
+with-none text held none = ap Some (ap (λ t. text ++ t) none ∙ append-nil text)
+
+none-gathered : {S : Type 0} (m : Player S) (journal : Bool → List ℕ
+    → Played) (left left' w w' : Option (List ℕ)) (held : List ℕ) (run : Option S) (number : ℕ) (kept : List ℕ)
+    → held ≡ [] → GoesOn m journal left left' w w' run number kept
+    → HasGathered m journal left left' w w' held run number kept
+none-gathered m journal left left' w w' held run number kept none g = record {
+  done = texts_of g.part;
+  written_is = g.written_is;
+  goes = record {
+    given = g.given;
+    left_is = g.left_is;
+    part = g.part;
+    written_is = with-none (texts_of g.part) held none;
+    state = g.state;
+    run_is = g.run_is;
+    rest = g.rest;
+  };
+}
+
+-- a line was run, and what it left was written
+pub past-on : {S : Type 0} (m : Player S) (journal : Bool → List ℕ
+    → Played) (l0 l1 l2 w w' w'' : Option (List ℕ)) (held : List ℕ) (run run' : Option S) (n n' : ℕ)
+    (kept kept' : List ℕ)
+    → held ≡ [] → HasGathered m journal l0 l1 w w' held run n kept
+    → GoesOn m (onwards m (state_of m run) n kept) l1 l2 w' w'' run' n' kept'
+    → HasGathered m journal l0 l2 w w'' held run' n' kept'
+past-on m journal l0 l1 l2 w w' w'' held run run' n n' kept kept' none g b =
+    none-gathered m journal l0 l2 w w'' held run' n' kept' none
+    (goes-on m journal l0 l1 l2 w w' w'' run run' n n' kept kept'
+    (all-written m journal l0 l1 w w' held run n kept none g) b)
+
+-- the last line was run, and what it left was written
+pub past-over : {S : Type 0} (m : Player S) (journal : Bool → List ℕ
+    → Played) (l0 l1 l2 w w' w'' : Option (List ℕ)) (held : List ℕ) (run run' : Option S) (n : ℕ) (kept : List ℕ)
+    → held ≡ [] → HasGathered m journal l0 l1 w w' held run n kept
+    → IsOver m (onwards m (state_of m run) n kept) l1 l2 w' w'' run'
+    → IsGathered m journal l0 l2 w w'' held run'
+past-over m journal l0 l1 l2 w w' w'' held run run' n kept none g b =
+    let all = goes-over m journal l0 l1 l2 w w' w'' run run' n kept
+    (all-written m journal l0 l1 w w' held run n kept none g) b in
+    record {
+      done = texts_of all.part;
+      written_is = all.written_is;
+      over = record {
+        given = all.given;
+        left_is = all.left_is;
+        whole = all.whole;
+        end = all.end;
+        part = all.part;
+        written_is = with-none (texts_of all.part) held none;
+        state = all.state;
+        run_is = all.run_is;
+        rest = all.rest;
+      };
+    }
+
+-- a line stopped the reading, and what it left was written
+pub past-stops : {S : Type 0} (m : Player S) (journal : Bool → List ℕ
+    → Played) (l0 l1 l2 w w' w'' : Option (List ℕ)) (held : List ℕ) (run : Option S) (n : ℕ) (kept : List ℕ)
+    (i i' o o' : Type 0) (ending : Ending)
+    → held ≡ [] → HasGathered m journal l0 l1 w w' held run n kept → (i → i') → (o → o')
+    → HasPlayed (onwards m (state_of m run) n kept) l1 l2 w' w'' i o ending
+    → HasPlayed journal l0 l2 w w'' i' o' ending
+past-stops m journal l0 l1 l2 w w' w'' held run n kept i i' o o' ending none g f h p =
+    goes-played m journal l0 l1 l2 w w' w'' run n kept i o i' o' ending
+    (all-written m journal l0 l1 w w' held run n kept none g) f h p

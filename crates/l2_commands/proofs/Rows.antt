@@ -1,6 +1,6 @@
 -- The rows of the answers.
 use Rattle.std.proofs.Common.{◌≡◌, ℕ, Bool, List, [], refl, sym, append-nil, inl, inr}
-use Rattle.std.specs.Prelude.{Option, Some}
+use Rattle.std.specs.Prelude.{Some}
 use Rattle.script_generator.specs.Script.{script}
 use Rattle.l2_io.specs.Known.{HasRisen}
 use Rattle.air_record.specs.Text.{texts_of}
@@ -8,7 +8,7 @@ use Rattle.air_run.specs.Journal.{Played, Refused}
 use Rattle.l2_commands.specs.Plays.{Plays}
 use Rattle.l2_commands.specs.Playing.{PlaysOn}
 use Rattle.l2_commands.specs.Streams.{Input, Output, Streams, HasFailed}
-use Rattle.l2_commands.specs.Main.{HasAll, HasFront, Row, Runs, Generates, over, Tells, TellsRefusal, TellsEnding}
+use Rattle.l2_commands.specs.Main.{HasAll, HasFront, Row, Runs, Generates, Tells, TellsRefusal, TellsEnding}
 use Rattle.l2_commands.specs.Main.{no_memory_text}
 use Rattle.l2_commands.specs.Engines.{sums_of}
 use Rattle.l2_commands.proofs.Parting.{unplayed}

@@ -1,4 +1,4 @@
-ghost use Rattle.std.specs.Prelude.{◌≡◌, ◌≤◌, ◌<◌, ◌^◌, ◌+◌, [], IfOk};
+ghost use Rattle.std.specs.Prelude.{◌≡◌, ◌≤◌, ◌<◌, ◌^◌, ◌+◌, [], IfOk, IsTrue};
 ghost use Rattle.l2_io.specs.Known.{HasRisen};
 ghost use Rattle.air_run.specs.Journal.{journal_by, journal_of};
 ghost use Rattle.l2_commands.specs.Plays.{PutsRest, PutsSome};
@@ -98,19 +98,31 @@ fn turn<S: Source, K: Sink>(
     }
 }
 
-// Puts what is gathered, where there is much of it or the next line has to be waited for.
+// Whether the next line may be a drain: what is read of it and the word agree as far as both go.
+// The records of a drain have no bound, and aren't gathered.
+fn may_drain(kept: &[u8]) -> bool {
+    kept.iter()
+        .skip_while(|octet| **octet == b' ')
+        .zip(b"drain")
+        .all(|(octet, letter)| octet == letter)
+}
+
+// Puts what is gathered, where there is much of it, or the next line goes past it or has to be
+// waited for.
 #[tactic(auto, using(crate::proofs::Nothing::after_none, crate::proofs::Nothing::front_all))]
 fn make_room<S: Source, K: Sink>(
     gathered: &mut GatherSink,
+    goes_past: bool,
     lines: &Lines,
     source: &S,
     out: &mut K,
 ) -> Result<(), PutFault>
     ensures put { PutsSome gathered.old.octets gathered.new.octets (K.written out.old)
         (K.written out.new) (HasRisen (K.faults out.old) (K.faults out.new)) result }
+    ensures empty { IfOk result (λ _. IsTrue goes_past → gathered.new.octets ≡ []) }
     ensures count { K.faults out.old ≤ K.faults out.new }
 {
-    if gathered.is_full() {
+    if goes_past || gathered.is_full() {
         return gathered.flush(out);
     }
     if gathered.held().is_empty() || source.is_ready() || lines.has_line() {
@@ -123,6 +135,7 @@ fn make_room<S: Source, K: Sink>(
 fn put_rest<K: Sink>(gathered: &mut GatherSink, out: &mut K, ending: Ending) -> Ending
     ensures put { PutsRest ending gathered.old.octets (K.written out.old) (K.written out.new)
         (HasRisen (K.faults out.old) (K.faults out.new)) result }
+    ensures empty { gathered.old.octets ≡ [] → (result ≡ ending) × (out.new ≡ out.old) }
     ensures count { K.faults out.old ≤ K.faults out.new }
 {
     match gathered.flush(out) {
@@ -153,12 +166,18 @@ fn play_lines<S: Source, K: Sink>(
     ensures out_count { K.faults out.old ≤ K.faults out.new }
 {
     for number in 1..MOST_LINES + 2 {
-        match make_room(gathered, lines, source, out) {
+        let goes_past = may_drain(lines.octets());
+        match make_room(gathered, goes_past, lines, source, out) {
             Ok(()) => {}
             Err(PutFault::Failed) => return Some(Ending::WriteFault),
             Err(PutFault::NoMemory) => return Some(Ending::NoMemory),
         }
-        match turn(alloc, lines, engine, number, source, gathered) {
+        let end = if goes_past {
+            turn(alloc, lines, engine, number, source, out)
+        } else {
+            turn(alloc, lines, engine, number, source, gathered)
+        };
+        match end {
             TurnEnd::Next => {}
             TurnEnd::Over => return None,
             TurnEnd::Stop(ending) => return Some(put_rest(gathered, out, ending)),
@@ -205,7 +224,8 @@ fn play<S: Source, K: Sink>(alloc: Global, engine: Engine, source: &mut S, out: 
 
 /// Plays the script that a source gives, line by line.
 ///
-/// The output is gathered, and put before the program waits for more input.
+/// The output is gathered, but for that of a drain, and put before the program waits for more
+/// input.
 pub fn play_script<S: Source, K: Sink>(alloc: Global, source: &mut S, out: &mut K) -> Ending
     ensures played { PlaysOn journal_of (input S.Source source.old) (input S.Source source.new)
         (output K.Sink out.old) (output K.Sink out.new) result }

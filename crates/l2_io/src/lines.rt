@@ -157,7 +157,8 @@ impl Lines {
         &self.buffer[self.line_start..self.line_end]
     }
 
-    fn octets(&self) -> &[u8]
+    /// The octets that were read and not handed out.
+    pub fn octets(&self) -> &[u8]
         ensures { result.now ≡ self.now.kept }
     {
         &self.buffer[self.start..self.end]

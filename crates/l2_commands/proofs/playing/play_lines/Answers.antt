@@ -1,10 +1,12 @@
-use Rattle.std.proofs.Common.{refl, arith}
+use Rattle.std.proofs.Common.{◌≡◌, ◌∙◌, [], sym, arith}
 use Rattle.air_run.specs.Journal.{journal_by}
 use Rattle.l2_commands.specs.Engines.{played_from, now_in}
+use Rattle.l2_commands.specs.declared.playing.TurnEnd.TheVariants.{Next, Over, Stop}
 use Rattle.l2_io.proofs.Written.{risen_from}
 use Rattle.l2_commands.proofs.Gathering.{gathers-first, gathers-put, gathers-on, gathers-over, fails, runs-out, stops}
-use Rattle.l2_commands.proofs.Gathering.{never-risen, puts-by, puts-failed, puts-none}
+use Rattle.l2_commands.proofs.Gathering.{never-risen, puts-by, puts-failed, puts-none, past-on, past-over, past-stops}
 use Rattle.l2_commands.proofs.playing.play_lines.Goals as goal
+use Rattle.l2_commands.proofs.playing.play_lines.Goals.{then-goes_past, else-goes_past}
 
 pub loop-number-init : goal.loop-number-init
 loop-number-init g c = record {
@@ -31,37 +33,83 @@ returns-in-Err-NoMemory-clause-played g c =
 
 pub returns-in-Over-clause-played : goal.returns-in-Over-clause-played
 returns-in-Over-clause-played g c =
+    let s = now_in c.args.engine.now in
     let room = c.in-Ok.ensures.put in
     let gathers =
-    gathers-put (played_from (now_in c.args.engine.now)) (journal_by (played_from (now_in c.args.engine.now))) _ _
-    _ _ _ _ room.0 _ _ _ _ c.loop-number.invariant.gathers room.1 room.2 in
-    gathers-over (played_from (now_in c.args.engine.now)) (journal_by (played_from (now_in c.args.engine.now))) _ _ _
-    _ _ _ _ _ _ _ _ gathers (c.in-Over.ensures.turn (now_in c.args.engine.now))
+    gathers-put (played_from s) (journal_by (played_from s)) _ _ _ _ _ _ room.0 _ _ _ _ c.loop-number.invariant.gathers
+    room.1 room.2 in
+    elim c.if-goes_past.branch [
+      | then-goes_past w ↦
+          let ends : w.turn-end.result ≡ Over = sym w.end-is ∙ c.in-Over.is in
+          let none = c.in-Ok.ensures.empty w.if-goes_past.true in
+          rw (w.engine-is, w.gathered-is, w.source-is, w.out-is)
+          (past-over (played_from s) (journal_by (played_from s)) _ _ _ _ _ _ _ _ _ _ _ none gathers
+          (rw ends at w.turn-end.ensures.turn s))
+      | else-goes_past w ↦
+          let ends : w.turn-end-else-goes_past.result ≡ Over = sym w.end-is ∙ c.in-Over.is in
+          rw (w.engine-is, w.gathered-is, w.source-is, w.out-is)
+          (gathers-over (played_from s) (journal_by (played_from s)) _ _ _ _ _ _ _ _ _ _ _ gathers
+          (rw ends at w.turn-end-else-goes_past.ensures.turn s))
+    ]
 
 pub returns-in-Stop-clause-played : goal.returns-in-Stop-clause-played
 returns-in-Stop-clause-played g c =
+    let s = now_in c.args.engine.now in
     let room = c.in-Ok.ensures.put in
     let gathers =
-    gathers-put (played_from (now_in c.args.engine.now)) (journal_by (played_from (now_in c.args.engine.now))) _ _
-    _ _ _ _ room.0 _ _ _ _ c.loop-number.invariant.gathers room.1 room.2 in
-    stops (played_from (now_in c.args.engine.now)) (journal_by (played_from (now_in c.args.engine.now))) _ _ _ _ _ _ _
-    _ _ _ _ _ _ _ _ _ _ gathers (risen_from _ _ _ c.loop-number.invariant.source_count) never-risen
-    (c.in-Stop.ensures.turn (now_in c.args.engine.now))
-    (puts-by _ _ _ _ _ _ _ (risen_from _ _ _ (omega arith)) c.put_rest.ensures.put)
+    gathers-put (played_from s) (journal_by (played_from s)) _ _ _ _ _ _ room.0 _ _ _ _ c.loop-number.invariant.gathers
+    room.1 room.2 in
+    elim c.if-goes_past.branch [
+      | then-goes_past w ↦
+          let ends : w.turn-end.result ≡ Stop c.in-Stop.ending = sym w.end-is ∙ c.in-Stop.is in
+          let none = c.in-Ok.ensures.empty w.if-goes_past.true in
+          let held : c.if-goes_past.gathered.octets ≡ [] = rw w.gathered-is none in
+          let same = c.put_rest.ensures.empty held in
+          rw (same.0, same.1, w.source-is, w.out-is)
+          (past-stops (played_from s) (journal_by (played_from s)) _ _ _ _ _ _ _ _ _ _ _ _ _ _ _ none gathers
+          (risen_from _ _ _ c.loop-number.invariant.source_count) (risen_from _ _ _ (omega arith))
+          (rw ends at w.turn-end.ensures.turn s))
+      | else-goes_past w ↦
+          let ends : w.turn-end-else-goes_past.result ≡ Stop c.in-Stop.ending = sym w.end-is ∙ c.in-Stop.is in
+          let put = rw (w.gathered-is, w.out-is) at c.put_rest.ensures.put in
+          rw w.source-is
+          (stops (played_from s) (journal_by (played_from s)) _ _ _ _ _ _ _ _ _ _ _ _ _ _ _ _ _ gathers
+          (risen_from _ _ _ c.loop-number.invariant.source_count) never-risen
+          (rw ends at w.turn-end-else-goes_past.ensures.turn s)
+          (puts-by _ _ _ _ _ _ _ (risen_from _ _ _ (omega arith)) put))
+    ]
 
 pub loop-number-preserved : goal.loop-number-preserved
 loop-number-preserved g c =
+    let s = now_in c.args.engine.now in
     let room = c.in-Ok.ensures.put in
     let gathers =
-    gathers-put (played_from (now_in c.args.engine.now)) (journal_by (played_from (now_in c.args.engine.now))) _ _
-    _ _ _ _ room.0 _ _ _ _ c.loop-number.invariant.gathers room.1 room.2 in
-    let next = c.in-Next.ensures.turn (now_in c.args.engine.now) in
-    record {
-      gathers = gathers-on (played_from (now_in c.args.engine.now))
-          (journal_by (played_from (now_in c.args.engine.now))) _ _ _ _ _ _ _ _ _ _ _ _ _ gathers next;
-      few = omega (arith, c.in-Next.ensures.few refl);
-      longest = c.in-Next.ensures.longest;
-      open_ = c.in-Next.ensures.open refl;
-      source_count = omega arith;
-      out_count = omega arith;
-    }
+    gathers-put (played_from s) (journal_by (played_from s)) _ _ _ _ _ _ room.0 _ _ _ _ c.loop-number.invariant.gathers
+    room.1 room.2 in
+    elim c.if-goes_past.branch [
+      | then-goes_past w ↦
+          let ends : w.turn-end.result ≡ Next = sym w.end-is ∙ c.in-Next.is in
+          let none = c.in-Ok.ensures.empty w.if-goes_past.true in
+          rw (w.lines-is, w.engine-is, w.gathered-is, w.source-is, w.out-is)
+          (record {
+            gathers = past-on (played_from s) (journal_by (played_from s)) _ _ _ _ _ _ _ _ _ _ _ _ _ none gathers
+                (rw ends at w.turn-end.ensures.turn s);
+            few = omega (arith, w.turn-end.ensures.few ends);
+            longest = w.turn-end.ensures.longest;
+            open_ = w.turn-end.ensures.open ends;
+            source_count = omega (arith, w.turn-end.ensures.source_count);
+            out_count = omega (arith, w.turn-end.ensures.out_count);
+          })
+      | else-goes_past w ↦
+          let ends : w.turn-end-else-goes_past.result ≡ Next = sym w.end-is ∙ c.in-Next.is in
+          rw (w.lines-is, w.engine-is, w.gathered-is, w.source-is, w.out-is)
+          (record {
+            gathers = gathers-on (played_from s) (journal_by (played_from s)) _ _ _ _ _ _ _ _ _ _ _ _ _ gathers
+                (rw ends at w.turn-end-else-goes_past.ensures.turn s);
+            few = omega (arith, w.turn-end-else-goes_past.ensures.few ends);
+            longest = w.turn-end-else-goes_past.ensures.longest;
+            open_ = w.turn-end-else-goes_past.ensures.open ends;
+            source_count = omega (arith, w.turn-end-else-goes_past.ensures.source_count);
+            out_count = omega arith;
+          })
+    ]
