@@ -1,9 +1,8 @@
 -- The digits of octets, block by block.
-use Rattle.std.proofs.Common.{◌≡◌, ◌*◌, ◌/◌, ◌%◌, ℕ, zero, suc, List, [], ◌∷◌, ◌++◌, length, refl, ap, take, drop, sym}
-use Rattle.std.proofs.Common.{◌∙◌, append_assoc, arith}
+use Rattle.std.proofs.Common.{◌≡◌, ◌/◌, ◌%◌, ℕ, List, [], ◌∷◌, ◌++◌, refl, ap, take, drop, sym}
+use Rattle.std.proofs.Common.{◌∙◌, append_assoc}
 use Rattle.std.specs.Prelude.{slice_index}
 use Rattle.std.proofs.lemmas.List.{take-append-drop}
-use Rattle.std.proofs.Math.Seq.{take-nil}
 use Rattle.hex.specs.Hex.{encode_with, encode_lower, lower_digits}
 
 encode-append : (t a b : List ℕ) → encode_with t (a ++ b) ≡ encode_with t a ++ encode_with t b
@@ -19,18 +18,3 @@ block-written k text rest =
     append_assoc text (encode_lower (take k rest)) (encode_lower (drop k rest))
     ∙ ap (λ (t : List ℕ). text ++ t) (sym (encode-append lower_digits (take k rest) (drop k rest))
     ∙ ap encode_lower (take-append-drop k rest))
-
--- the digits of the first octets
-encode-take : (n : ℕ) (xs : List ℕ) → take (2 * n) (encode_lower xs) ≡ encode_lower (take n xs)
-unfolding encode_with
-encode-take zero xs = refl
-encode-take (suc n) [] = take-nil (2 * suc n)
-encode-take (suc n) (x ∷ xs) =
-    let more : 2 * suc n ≡ suc (suc (2 * n)) = omega arith in
-    rw more (ap (λ (rest : List ℕ). slice_index lower_digits (x / 16) ∷ slice_index lower_digits (x % 16) ∷ rest)
-    (encode-take n xs))
-
-pub few-digits : (few block digits : List ℕ) → take (length few) block ≡ few → digits ≡ encode_lower block
-    → take (2 * length few) digits ≡ encode_lower few
-few-digits few block digits begins is = ap (take (2 * length few)) is ∙ encode-take (length few) block
-    ∙ ap encode_lower begins
