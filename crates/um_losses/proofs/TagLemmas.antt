@@ -1,10 +1,18 @@
 -- The lengths of tags: 8 octets each.
-use Rattle.std.proofs.Common.{◌≡◌, ℕ, zero, suc, ◌+◌, ◌<◌, List, length, map, replicate, Option, Some, None, arith}
-use Rattle.std.proofs.Common.{refl, ap, sym, ◌∙◌}
+use Rattle.std.proofs.Common.{◌≡◌, ℕ, zero, suc, ◌+◌, ◌*◌, ◌^◌, ◌<◌, ◌≤◌, Bool, true, false, if◌then◌else◌, ◌==◌}
+use Rattle.std.proofs.Common.{List, length, map, replicate, Option, Some, None, arith, refl, ap, sym, ◌∙◌}
+use Rattle.std.proofs.Common.{subst}
+use Rattle.std.proofs.lemmas.Bool.Decides.{nat_tests}
+use Rattle.std.proofs.lemmas.List.{length-replicate}
+use Rattle.std.proofs.lemmas.List.Sums.{sum_by-cons}
 use Rattle.std.specs.List.{sum, concat}
 use Rattle.rlc_pdu.specs.Pdus.{AreLens}
+use Rattle.rlc_pdu.specs.Writing.{umd_canonical}
+use Rattle.rlc_pdu.proofs.Again.{sizes}
 use Rattle.rlc_queue.proofs.Lens.{whole}
-use Rattle.um_losses.specs.Tags.{octets_of, tags, elements}
+use Rattle.um_losses.specs.declared.pdu.Pdu.{Pdu}
+use Rattle.um_losses.specs.Pdus.{is_pdu}
+use Rattle.um_losses.specs.Tags.{octets_of, tags, elements, tagged}
 
 octets_long : (tag : ℕ) → length (octets_of tag) ≡ 8
 unfolding octets_of
@@ -26,4 +34,27 @@ are_lens zero h = elim h [ ]
 are_lens (suc zero) h = omega arith
 are_lens (suc (suc n)) h = (omega arith, omega arith, are_lens (suc n) (omega arith))
 
-pub ruleset written = (lens_are, sum_is, are_lens)
+eights : (n : ℕ) → sum (replicate n 8) ≡ 8 * n
+eights zero = refl
+eights (suc n) = omega (arith, sum_by-cons (λ (k : ℕ). k) 8 (replicate n 8), eights n)
+
+header-few : (b : Bool) → (if b then 1 else 2) ≤ 2
+header-few true = omega arith
+header-few false = omega arith
+
+pub few_octets : (bits : ℕ) (first : Option ℕ) (p : Pdu) → is_pdu bits p ≡ true
+    → length (umd_canonical bits (tagged first p)) < 2 ^ 28
+few_octets bits first p h =
+    let n = p.elements in
+    let some : 0 < n = grind (arith, nat_tests, h) in
+    let few : n ≤ 9422 = grind (arith, nat_tests, h) in
+    let lens : AreLens (map length (elements first n)) =
+    subst (λ (l : List ℕ). AreLens l) (sym (lens_are first n)) (are_lens n some) in
+    let long = (sizes (map length (elements first n)) (concat (elements first n)) lens).umd bits p.sn p.fi in
+    let many : length (map length (elements first n)) ≡ n =
+    ap (λ (l : List ℕ). length l) (lens_are first n) ∙ length-replicate n 8 in
+    let field : length (concat (elements first n)) ≡ 8 * n = sym (sum_is first n) ∙ eights n in
+    let header = header-few (bits == 5) in
+    omega (arith, some, few, long, many, field, header)
+
+pub ruleset written = (lens_are, sum_is, are_lens, few_octets)

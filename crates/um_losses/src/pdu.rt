@@ -3,6 +3,8 @@ ghost use Rattle.std.specs.Prelude.{◌≡◌};
 ghost use Rattle.rlc_pdu.specs.Pdus.{IsUmBits};
 ghost use Rattle.um_losses.specs.Pdus.{is_pdu, ends_in};
 
+use l2_types::GREATEST_GRANT;
+
 // A UMD PDU without its octets: its number, framing info and count of elements (TS 36.322 6.2.1.3).
 #[derive(Clone, Copy)]
 pub(crate) struct Pdu {
@@ -12,13 +14,14 @@ pub(crate) struct Pdu {
 }
 
 impl Pdu {
-    // Whether there is such a PDU, with a number of so many bits.
+    // Whether a block may have such a PDU, with a number of so many bits.
     pub(crate) fn is_pdu(self, bits: u32) -> bool
         requires { IsUmBits bits }
         ensures { result ≡ is_pdu bits self }
     {
         let numbers = if bits == 5 { 32 } else { 1024 };
-        self.sn < numbers && self.fi < 4 && self.elements > 0
+        let fits = self.elements <= GREATEST_GRANT as usize;
+        self.sn < numbers && self.fi < 4 && self.elements > 0 && fits
     }
 
     // The SDUs that end in it.

@@ -11,8 +11,7 @@ use l2_bits::{Bytes, NoMemory};
 use rlc_pdu::write_umd;
 use std::alloc::Global;
 
-// The octets of a PDU whose elements are tags: of SDUs with COUNTs from `first` on, or of none. Of
-// 2^28 octets it isn't made.
+// The octets of a PDU whose elements are tags: of SDUs with COUNTs from `first` on, or of none.
 #[tactic(auto, using(crate::proofs::TagLemmas::written))]
 pub(crate) fn tagged(
     alloc: Global,
@@ -27,19 +26,14 @@ pub(crate) fn tagged(
 {
     let field = field_of(alloc, first, pdu.elements)?;
     let lens = vec![in alloc; 8; pdu.elements]?;
-    let octets = write_umd(
+    write_umd(
         alloc,
         bits,
         pdu.sn,
         pdu.fi,
         lens.as_slice(),
         field.as_slice(),
-    )?;
-    if octets.as_slice().len() < 1 << 28 {
-        Ok(octets)
-    } else {
-        Err(NoMemory)
-    }
+    )
 }
 
 fn field_of(alloc: Global, first: Option<u64>, count: usize) -> Result<Bytes, NoMemory>

@@ -4,6 +4,7 @@ use Rattle.std.proofs.Common.{if◌then◌else◌, List, [], ◌∷◌, ◌++◌
 use Rattle.std.proofs.Common.{Option, Some, None, is_some, Ok, slice_get, slice_set, slice_index_or, append-nil}
 use Rattle.std.proofs.Common.{append_assoc, length-append, refl, ap, sym, subst, ◌∙◌, arith}
 use Rattle.std.proofs.lemmas.Bool.Decides.{nat_tests}
+use Rattle.std.proofs.lemmas.List.{length-map}
 use Rattle.std.proofs.Math.ListN.{length-set}
 use Rattle.std.specs.List.{AllByRecursion}
 use Rattle.law_rlc.specs.AmPair.Flow.{Copy, copies_with, except}
@@ -20,10 +21,12 @@ use Rattle.rlc_pdu.specs.Laws.{IsUmdInRange}
 use Rattle.rlc_pdu.specs.Pdus.{UmdPdu, IsUmBits, AreLens}
 use Rattle.rlc_pdu.specs.Reading.{umd_at}
 use Rattle.rlc_queue.specs.NewPdu.{framing}
+use Rattle.rlc_queue.proofs.Lens.{within}
 use Rattle.rlc_queue.specs.Waiting.{HaveOctets}
 use Rattle.rlc_um.specs.Joined.{Parts, parts_of, Joined, with_elements, with_number}
 use Rattle.rlc_um.specs.Sender.{Sender, Turn, Gives, IsIdle, IsHeld as TurnsHeld, IsSmall, turn, taken}
-use Rattle.rlc_um.specs.Sender.{answer as turn_answer, after_turn, after_take, pdu_of, ends_partly, offered, width_of}
+use Rattle.rlc_um.specs.Sender.{answer as turn_answer, after_turn, after_take, pdu_of, pieces, ends_partly, offered}
+use Rattle.rlc_um.specs.Sender.{width_of, head_of}
 use Rattle.law_deliver.specs.UmFlow.Calls.{calls_in}
 use Rattle.law_deliver.specs.UmFlow.Handing.{all_called}
 use Rattle.law_deliver.specs.UmFlow.Pair.{BearerEnd, Deed, Calls, called, does, HasOctet, IsDone}
@@ -183,8 +186,17 @@ some_lens (x ∷ xs) h = omega arith
 less_one : (n : ℕ) → 0 < n → n ≡ suc (n - 1)
 less_one n h = omega (arith, h)
 
-ranged : (bits : ℕ) (p : UmdPdu) → p.sn < 2 ^ bits → p.fi < 4 → 0 < length p.elements → is_pdu bits (fields p) ≡ true
-ranged bits p a b c = grind (arith, nat_tests, a, b, c)
+ranged : (bits : ℕ) (p : UmdPdu) → p.sn < 2 ^ bits → p.fi < 4 → 0 < length p.elements → length p.elements ≤ 9422
+    → is_pdu bits (fields p) ≡ true
+ranged bits p a b c d = grind (arith, nat_tests, a, b, c, d)
+
+-- a PDU has at most as many elements as octets
+few_elements : (tx : Sender) (size : ℕ) → 0 < length tx.waiting.sdus → head_of tx.bits < size → size ≤ 9422
+    → length (pdu_of tx size).elements ≤ 9422
+few_elements tx size some room few =
+    let all = within (head_of tx.bits) size tx.waiting.sdus some room in
+    let same = length-map (pieces tx size) (λ (x : List ℕ). length x) in
+    omega (arith, all, same, few)
 
 -- ---- what is under way
 
@@ -399,7 +411,7 @@ module _ (bits reorder counts : ℕ) (u : IsUmBits bits) where
 
   -- where one is
   takes_one : (a : State) (xs : List Call) (b : State) (ys : List Call) (n m : BearerEnd) (loads : List Load)
-      (f : Flow) (share : ℕ) (held : Option ℕ) (x : Load)
+      (f : Flow) (share : ℕ) (held : Option ℕ) (x : Load) → share ≤ 9424
       → turn (feeding n.bearer share held).tx (size_in share) held ≡ Gives
       → IsDone n (Calls (Take share held)) → x.copies ≡ copies_with (answer n.bearer share held) []
       → x.block.process < 8
@@ -408,7 +420,7 @@ module _ (bits reorder counts : ℕ) (u : IsUmBits bits) where
       → Tracks bits reorder counts a (xs ++ Take share held ∷ []) b ys (does m n (Calls (Take share held))) m
       (x ∷ loads) (all_after (written_whats bits x.block.process (octets_of x.copies))
       (after (renews x.block.process) f))
-  takes_one a xs b ys n m loads f share held x q g copies few apart h =
+  takes_one a xs b ys n m loads f share held x most q g copies few apart h =
       let d : State = n.bearer in
       let size = size_in share in
       let s : Sender = (feeding d share held).tx in
@@ -444,11 +456,13 @@ module _ (bits reorder counts : ℕ) (u : IsUmBits bits) where
       subst IsUmBits (sym (ap (λ (y : Sender). y.bits) fed ∙ offers_bits pdus d.tx ∙ old.bits_are)) u in
       let octets : HaveOctets s.waiting.sdus =
       subst (λ (y : Sender). HaveOctets y.waiting.sdus) (sym fed) (offers_octets pdus d.tx g.some old.some) in
-      let in' : IsUmdInRange s.bits pdu = in_range s size held known octets (turn_given s size held q) in
+      let given = turn_given s size held q in
+      let in' : IsUmdInRange s.bits pdu = in_range s size held known octets given in
       let bits_are : s.bits ≡ bits = ap (λ (y : Sender). y.bits) fed ∙ offers_bits pdus d.tx ∙ old.bits_are in
       let range : is_pdu bits (fields pdu) ≡ true =
       ranged bits pdu (subst (λ (v : ℕ). pdu.sn < 2 ^ v) bits_are in'.number)
-      (few_of (not s.waiting.begun) (not (ends_partly s size))) (some_lens pdu.elements in'.lens) in
+      (few_of (not s.waiting.begun) (not (ends_partly s size))) (some_lens pdu.elements in'.lens)
+      (few_elements s size given.wait given.room' (omega (arith, most))) in
       let k : Flow = after (renews p) f in
       let told : written_whats bits p (octets_of x.copies) ≡ writes p (fields pdu) ∷ [] =
       ap (λ (cs : List Copy). written_whats bits p (octets_of cs)) own ∙ ap (λ r. as_written p r ++ []) read in
@@ -519,7 +533,7 @@ module _ (bits reorder counts : ℕ) (u : IsUmBits bits) where
 
   -- either
   taken_by_turn : (a : State) (xs : List Call) (b : State) (ys : List Call) (n m : BearerEnd) (loads : List Load)
-      (f : Flow) (share : ℕ) (held : Option ℕ) (x : Load) (t : Turn)
+      (f : Flow) (share : ℕ) (held : Option ℕ) (x : Load) (t : Turn) → share ≤ 9424
       → turn (feeding n.bearer share held).tx (size_in share) held ≡ t
       → IsDone n (Calls (Take share held)) → x.copies ≡ copies_with (answer n.bearer share held) []
       → x.block.process < 8
@@ -528,20 +542,20 @@ module _ (bits reorder counts : ℕ) (u : IsUmBits bits) where
       → Tracks bits reorder counts a (xs ++ Take share held ∷ []) b ys (does m n (Calls (Take share held))) m
       (x ∷ loads) (all_after (written_whats bits x.block.process (octets_of x.copies))
       (after (renews x.block.process) f))
-  taken_by_turn a xs b ys n m loads f share held x Gives q g copies few apart h =
-      takes_one a xs b ys n m loads f share held x q g copies few apart h
-  taken_by_turn a xs b ys n m loads f share held x IsIdle q g copies few apart h =
+  taken_by_turn a xs b ys n m loads f share held x Gives most q g copies few apart h =
+      takes_one a xs b ys n m loads f share held x most q g copies few apart h
+  taken_by_turn a xs b ys n m loads f share held x IsIdle most q g copies few apart h =
       takes_none a xs b ys n m loads f share held x IsIdle q (λ s size cs. refl) (λ s size. refl) (λ s size. refl) g
       copies few apart h
-  taken_by_turn a xs b ys n m loads f share held x TurnsHeld q g copies few apart h =
+  taken_by_turn a xs b ys n m loads f share held x TurnsHeld most q g copies few apart h =
       takes_none a xs b ys n m loads f share held x TurnsHeld q (λ s size cs. refl) (λ s size. refl) (λ s size. refl)
       g copies few apart h
-  taken_by_turn a xs b ys n m loads f share held x IsSmall q g copies few apart h =
+  taken_by_turn a xs b ys n m loads f share held x IsSmall most q g copies few apart h =
       takes_none a xs b ys n m loads f share held x IsSmall q (λ s size cs. refl) (λ s size. refl) (λ s size. refl) g
       copies few apart h
 
   pub from_takes : (a : State) (xs : List Call) (b : State) (ys : List Call) (n m : BearerEnd) (loads : List Load)
-      (f : Flow) (share : ℕ) (held : Option ℕ) (x : Load)
+      (f : Flow) (share : ℕ) (held : Option ℕ) (x : Load) → share ≤ 9424
       → IsDone n (Calls (Take share held)) → x.copies ≡ copies_with (answer n.bearer share held) []
       → x.block.process < 8
       → AllByRecursion (λ (y : Load). y.block.process ≡ x.block.process → ⊥) loads
@@ -549,6 +563,6 @@ module _ (bits reorder counts : ℕ) (u : IsUmBits bits) where
       → Tracks bits reorder counts a (xs ++ Take share held ∷ []) b ys (does m n (Calls (Take share held))) m
       (x ∷ loads) (all_after (written_whats bits x.block.process (octets_of x.copies))
       (after (renews x.block.process) f))
-  from_takes a xs b ys n m loads f share held x g copies few apart h =
+  from_takes a xs b ys n m loads f share held x most g copies few apart h =
       taken_by_turn a xs b ys n m loads f share held x (turn (feeding n.bearer share held).tx (size_in share) held)
-      refl g copies few apart h
+      most refl g copies few apart h

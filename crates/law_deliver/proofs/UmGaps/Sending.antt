@@ -18,6 +18,8 @@ use Rattle.mac_pdu.specs.declared.item.Direction.{Direction}
 use Rattle.law_node.specs.Calls.{Turn, Call, SetVisits, SetReports, Add, Submit, SetDiscard, Tick, TickBuckets, Visits}
 use Rattle.law_node.specs.Calls.{Grants, Granted, Assigned, Pass, Receive, Expire, Move}
 use Rattle.law_node.specs.Holding.{flow}
+use Rattle.law_node.proofs.Keeping.{share_most}
+use Rattle.law_node.proofs.Sound.{visited_sound}
 use Rattle.prioritise.specs.Channels.{has as has_channel}
 use Rattle.law_deliver.specs.AmFlow.Air.{Block, Station, Act, Calls, Comes, Goes, built_at, calls as station_calls}
 use Rattle.law_deliver.specs.AmFlow.Air.{comes as station_comes, does as air_does, IsBuilding, IsVisiting}
@@ -28,7 +30,7 @@ use Rattle.law_deliver.proofs.AmFlow.Air.{calls_in as act_calls}
 use Rattle.law_deliver.proofs.AmFlow.Loads.{Load, all_copies, blocks_in, except_blocks, except_all, IsHeldBy}
 use Rattle.law_deliver.proofs.AmFlow.Runs.{octets_of}
 use Rattle.law_deliver.proofs.AmFlow.Standing.{at_place}
-use Rattle.law_deliver.proofs.AmFlow.Stations.{plain_calls, calls_by as block_calls}
+use Rattle.law_deliver.proofs.AmFlow.Stations.{plain_calls, calls_by as block_calls, come_sound}
 use Rattle.law_deliver.proofs.AmFlow.Visiting.{carries_so, blocks_held}
 use Rattle.rlc_pdu.specs.Pdus.{IsUmBits}
 use Rattle.law_deliver.specs.UmChannel.Pairs.{count_before, go_from, comes_with, goes_with, deeds_in}
@@ -152,7 +154,10 @@ module _ (l bits reorder counts : ℕ) (u : IsUmBits bits) (side oside : Side) (
         ∙ written_so side l s n m v h q in
         let apart = apart_by p _ loads (blocks_in h.loads) (blocks ∙ sym h.blocks_are)
         (blocks_held s v h.loads is building h.blocks_are) in
-        let r = from_takes bits reorder counts u a xs b ys n m loads f share held x done.0 refl (omega arith) apart t in
+        let most = share_most (visited v.tti v.order s.end) v.grant l
+        (visited_sound v.tti v.order s.end (come_sound side s.end h.come)) g.0.0 in
+        let r = from_takes bits reorder counts u a xs b ys n m loads f share held x most done.0 refl (omega arith)
+        apart t in
         record {
           loads = x ∷ loads;
           blocks_are = ap (λ (bs : List Block). new_of ∷ bs) blocks;
