@@ -1,5 +1,5 @@
 -- What an item is, apart from where its octets lie (TS 36.321 6.1.2, 6.1.3).
-use Rattle.std.specs.Prelude.{ℕ, ◌<◌, ◌^◌, length}
+use Rattle.std.specs.Prelude.{◌<◌, length}
 use Rattle.mac_pdu.specs.declared.item.Item.{Item}
 use Rattle.mac_pdu.specs.declared.item.Item.TheVariants.{Front, Element, Sdu, Padding}
 use Rattle.mac_pdu.specs.Items.{MacItem, front, element, sdu, padding}

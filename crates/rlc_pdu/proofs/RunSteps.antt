@@ -2,7 +2,7 @@
 use Rattle.std.proofs.Common.{◌≡◌, ◌+◌, ◌-◌, ◌<◌, ◌≤◌, ℕ, zero, suc, length, slice_index_or, slice_set, Bool, true}
 use Rattle.std.proofs.Common.{false, not, ◌||◌, ◌&&◌, if◌then◌else◌, cond, List, [], ◌∷◌, ◌++◌, min, max, nat_le}
 use Rattle.std.proofs.Common.{nat_lt, refl, ap, sym, ◌∙◌, arith, ltb, leb}
-use Rattle.std.proofs.lemmas.Bool.{lt-leb, lt-ltb, ltb-true, ltb-false, leb-true, le-leb}
+use Rattle.std.proofs.lemmas.Bool.{lt-leb, lt-ltb, ltb-true, ltb-false, leb-true}
 use Rattle.std.proofs.lemmas.Bool.Decides.{nat_tests}
 use Rattle.rlc_pdu.specs.Runs.{Run, run, lies_in, has, AreAscending, covers, ends_below, last_begins_by}
 use Rattle.rlc_pdu.specs.Runs.{last_ends_below, stretched, Moving, passing, passed, merged, added, kept_of, removed}
