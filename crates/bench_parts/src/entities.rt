@@ -7,7 +7,7 @@ use pdcp_pdu::PdcpKind;
 use pdcp_rx::{Cause, PdcpRx};
 use pdcp_tx::PdcpTx;
 use rlc_am_tx::AmTx;
-use rlc_pdu::{AmPdu, Nacks, read_am, write_status};
+use rlc_pdu::{AM_MODULUS, AmPdu, Nacks, read_am, write_status};
 use std::alloc::Global;
 
 const SHORT: [u8; 90] = [7; 90];
@@ -78,7 +78,7 @@ pub fn sender(alloc: Global, window: u64, pdus: u32) -> Result<u64, NoMemory> {
 
 // All numbers below one are acknowledged.
 fn acknowledge(alloc: Global, sender: &mut AmTx, number: u64) -> Result<(), NoMemory> {
-    let status = write_status(alloc, (number % 1024) as u32, &Nacks::new(alloc))?;
+    let status = write_status(alloc, (number % AM_MODULUS) as u32, &Nacks::new(alloc))?;
     if let Ok(AmPdu::Status(status)) = read_am(status.as_slice()) {
         sender.status(status)?;
     }
