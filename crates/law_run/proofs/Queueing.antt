@@ -10,7 +10,7 @@ use Rattle.bearer.specs.declared.flow.Flow.TheVariants.{Tm, Um, Am}
 use Rattle.bearer_types.specs.declared.config.BearerConfig.{BearerConfig}
 use Rattle.bearer_types.specs.declared.event.Event.{Event}
 use Rattle.l2_node.specs.End.{End, fresh}
-use Rattle.l2_node.specs.Finding.{find}
+use Rattle.l2_node.specs.Finding.{find, bearer_at}
 use Rattle.l2_types.specs.declared.channel.Kind.{Kind}
 use Rattle.l2_types.specs.declared.channel.Kind.TheVariants as kinds
 use Rattle.l2_types.specs.declared.side.Side.{Side}
@@ -51,7 +51,9 @@ come_few side told e k =
     (reached_are HasFewWaiting few_kept side 4 false k.calls k.given)
 
 few_come : (l : ℕ) (e : End) → AllAre HasFewWaiting e.bearers → length (queue (ends (flow l e))) ≤ 1024
-few_come l e h = few_queue _ (flow l e) (at_is HasFewWaiting e.bearers (find l e.bearers) few_kept h)
+few_come l e h =
+    few_queue (bearer_at e.bearers (find l e.bearers)).lcid (flow l e)
+    (at_is HasFewWaiting e.bearers (find l e.bearers) few_kept h)
 
 few_behind : (side : Side) (l : ℕ) (past : List Group) → KeepsOrder past
     → length (queue (ends (flow l (end_of side (link_behind past))))) ≤ 1024

@@ -61,7 +61,7 @@ drained_none : (grant : ℕ) (l : Link) → HasNoDrx l → HasNoDrx (drained gra
 unfolding drained
 drained_none grant l e =
     let m = (ttis 8 grant l).link in
-    rounds_none (budget m) grant m (ttis_none 8 grant l e)
+    rounds_none (budget l) grant m (ttis_none 8 grant l e)
 
 line_none : (line : Line) (keys : Option Keys) (l : Link) → sets_drx line ≡ false → HasNoDrx l
     → HasNoDrx (played line keys l)
