@@ -5,3 +5,4 @@ pub mod Allowed
 pub mod Telling
 pub mod Rounds
 pub mod Beginning
+pub mod Putting

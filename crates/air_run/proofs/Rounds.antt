@@ -61,3 +61,15 @@ drain_told grant l j =
     let count : r.done ≡ 0 + r.done = omega arith in
     told_thrice t.journal r.journal (ending (is_drained r.link) r.done ∷ []) j
     ∙ ap (λ (n : ℕ). told ((t.journal ++ r.journal) ++ ending (is_drained r.link) n ∷ []) j) count
+
+pub drained_is : (grant : ℕ) (l : Link)
+    → (drained grant l).journal
+    ≡ ((ttis 8 grant l).journal ++ (rounds (budget l) grant (ttis 8 grant l).link).journal)
+    ++ ending (is_drained (rounds (budget l) grant (ttis 8 grant l).link).link)
+    (rounds (budget l) grant (ttis 8 grant l).link).done ∷ []
+unfolding drained
+drained_is grant l =
+    let t = ttis 8 grant l in
+    let r = rounds (budget l) grant t.link in
+    let count : 0 + r.done ≡ r.done = omega arith in
+    ap (λ (n : ℕ). (t.journal ++ r.journal) ++ ending (is_drained r.link) n ∷ []) count

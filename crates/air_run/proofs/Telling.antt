@@ -11,7 +11,7 @@ texts_both [] b = refl
 texts_both (r ∷ rs) b = ap (λ t. text_of r ++ t) (texts_both rs b)
     ∙ sym (append_assoc (text_of r) (texts_of rs) (texts_of b))
 
-seen-both : (a b : List Record) (w : Losses) → all_seen (a ++ b) w ≡ all_seen b (all_seen a w)
+pub seen-both : (a b : List Record) (w : Losses) → all_seen (a ++ b) w ≡ all_seen b (all_seen a w)
 seen-both [] b w = refl
 seen-both (r ∷ rs) b w = seen-both rs b (seen r w)
 

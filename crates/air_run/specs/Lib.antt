@@ -5,6 +5,7 @@ pub mod Playing
 pub mod Sums
 pub mod Run
 pub mod Steps
+pub mod Putting
 pub mod Lines
 pub mod Journal
 pub mod Finality

@@ -1,19 +1,24 @@
-ghost use Rattle.std.specs.Prelude.{◌≡◌, ◌<◌, ◌^◌, ◌++◌, ◌∷◌, [], true, None, Some, length};
+ghost use Rattle.std.specs.Prelude.{◌≡◌, ◌<◌, ◌≤◌, ◌^◌, ◌++◌, ◌∷◌, [], true, None, Some, length};
 ghost use Rattle.std.specs.Prelude.{is_some, OnOk, IfOk};
 ghost use Rattle.air_record.specs.Text.{accepted_text};
 ghost use Rattle.air_run.specs.Draining.{shown};
+ghost use Rattle.air_run.specs.Putting.{Tells};
+ghost use Rattle.air_run.specs.Steps.{Puts};
 ghost use Rattle.air_run.specs.Written.{Journal as Machine, all_seen, all_forged, with_um, noticed};
 ghost use Rattle.air_run.specs.Written.{told, noted};
 ghost use Rattle.air_text.specs.Ranges.{IsInRange};
 ghost use Rattle.bearer_types.specs.Sides.{heard_by};
+ghost use Rattle.l2_io.specs.Known.{HasRisen};
 ghost use Rattle.pdu_show.specs.Show.{block_shown};
 ghost use Rattle.um_losses.specs.Losses.{none_seen, is_long};
 ghost use Rattle.l2_bits.specs.declared.limits.TheConstants.{OCTETS_LIMIT};
 
+use crate::refusal::StepFault;
 use air_link::Link;
 use air_text::{Line, Record, append_accepted, append_record};
 use bearer_types::BearerConfig;
 use l2_bits::{Bytes, NoMemory};
+use l2_io::{PutFault, Sink};
 use l2_node::heard_by;
 use l2_types::{Kind, Side};
 use mac_pdu::Direction;
@@ -21,6 +26,9 @@ use pdu_show::{Records, show_block};
 use std::alloc::Global;
 use std::marker::Model;
 use um_losses::Losses;
+
+/// So many octets of text are worth a put while a line goes on.
+const PIECE: usize = 65_536;
 
 /// The text of a line's records, where it is wanted, and what the records so far tell of losses.
 #[derive(Drop)]
@@ -118,6 +126,20 @@ impl Journal {
         Ok(())
     }
 
+    /// Puts the text so far, where it is wanted and there is much of it.
+    pub fn put_text<K: Sink>(&mut self, out: &mut K) -> Result<(), StepFault>
+        ensures put { Tells [] self.old self.new (K.written out.old) (K.written out.new)
+            (HasRisen (K.faults out.old) (K.faults out.new)) result }
+        ensures count { K.faults out.old ≤ K.faults out.new }
+    {
+        if self.is_muted || self.text.as_slice().len() < PIECE {
+            return Ok(());
+        }
+        put(self.text.as_slice(), out)?;
+        self.text.clear();
+        Ok(())
+    }
+
     /// What a line tells of losses itself, behind what it did and before its records.
     pub fn note(&mut self, line: &Line, link: &Link) -> Result<(), NoMemory>
         requires { IsInRange line.now }
@@ -156,6 +178,19 @@ impl Journal {
     {
         let records = show_block(self.alloc, heard_by(side), link.kinds(), block)?;
         see_all_forged(&mut self.losses, side, records)
+    }
+}
+
+/// Puts a text.
+pub(crate) fn put<K: Sink>(text: &[u8], out: &mut K) -> Result<(), StepFault>
+    ensures put { Puts text.now (K.written out.old) (K.written out.new)
+        (HasRisen (K.faults out.old) (K.faults out.new)) result }
+    ensures count { K.faults out.old ≤ K.faults out.new }
+{
+    match out.put(text) {
+        Ok(()) => Ok(()),
+        Err(PutFault::Failed) => Err(StepFault::WriteFault),
+        Err(PutFault::NoMemory) => Err(StepFault::NoMemory),
     }
 }
 

@@ -1,19 +1,23 @@
 // What a line that isn't refused does to both ends.
-ghost use Rattle.std.specs.Prelude.{◌≡◌, true, false, not, None, OnOk, IfOk};
+ghost use Rattle.std.specs.Prelude.{◌≡◌, ◌≤◌, true, false, not, None, OnOk, IfOk, IfErr};
+ghost use Rattle.l2_io.specs.Known.{HasRisen};
 ghost use Rattle.air_text.specs.Ranges.{IsInRange};
 ghost use Rattle.air_run.specs.Draining.{shown};
-ghost use Rattle.air_run.specs.Written.{told, noted};
+ghost use Rattle.air_run.specs.Putting.{TellsIf};
+ghost use Rattle.air_run.specs.Written.{noted};
 ghost use Rattle.air_run.specs.Playing.{played, acted, keys_or_none};
 ghost use Rattle.air_record.specs.Cells.{next_keys};
 ghost use Rattle.air_run.specs.Rules.{rule_broken, is_idle};
 
 use crate::draining::drain;
 use crate::journal::Journal;
+use crate::refusal::StepFault;
 use crate::rules::Rules;
 use air_link::Link;
 use air_text::Line;
 use eps_sec::{Cipher, Key, Keys};
 use l2_bits::NoMemory;
+use l2_io::Sink;
 use test_loop::Mode;
 
 /// Keys where there are none as yet, which no bearer uses.
@@ -27,27 +31,33 @@ const NO_KEYS: Keys = Keys {
 const NO_KEY: Key = Key { octets: [0; 16] };
 
 /// Plays a line that breaks no rule, and puts its records into the journal. `false` exactly where
-/// it asks for the expiry of a timer that doesn't run; then both ends stay as they were.
+/// it asks for the expiry of a timer that doesn't run; then both ends stay as they were. Of a drain
+/// the text is put as it arises.
 #[tactic(auto, using(crate::proofs::Rounds::drained_shown))]
-pub(crate) fn play(
+pub(crate) fn play<K: Sink>(
     link: &mut Link,
     rules: &Rules,
     line: &Line,
     journal: &mut Journal,
-) -> Result<bool, NoMemory>
+    out: &mut K,
+) -> Result<bool, StepFault>
     requires range { IsInRange line.now }
     requires allowed { rule_broken line.now rules.now link.old ≡ None }
     ensures ran { IfOk result (λ ran. ran ≡ not (is_idle line.now link.old)) }
     ensures idle { IfOk result (λ ran. ran ≡ false → link.new ≡ link.old) }
     ensures link { IfOk result (λ ran. ran ≡ true
         → link.new ≡ shown (played line.now rules.now.keys link.old)) }
-    ensures journal { IfOk result (λ ran. ran ≡ true
-        → journal.new ≡ told (played line.now rules.now.keys link.old).out
-        (noted line.now (played line.now rules.now.keys link.old) journal.old)) }
+    ensures put { TellsIf (played line.now rules.now.keys link.old).out
+        (noted line.now (played line.now rules.now.keys link.old) journal.old) journal.new
+        (K.written out.old) (K.written out.new) (HasRisen (K.faults out.old) (K.faults out.new))
+        result }
+    ensures count { K.faults out.old ≤ K.faults out.new }
+    ensures stays { IfErr result (λ _. is_idle line.now link.old ≡ true
+        → K.written out.new ≡ K.written out.old) }
     ensures losses { IfOk result (λ ran. ran ≡ false → journal.new.losses ≡ journal.old.losses) }
 {
     if let Line::Drain { grant } = line {
-        drain(link, *grant, journal)?;
+        drain(link, *grant, journal, out)?;
         return Ok(true);
     }
     if !act(link, rules, line)? {

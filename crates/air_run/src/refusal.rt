@@ -1,4 +1,5 @@
 use air_text::LineRefusal;
+use l2_bits::NoMemory;
 use thiserror::Error;
 
 /// Why a line of the grammar is not run.
@@ -51,6 +52,17 @@ pub enum StepFault {
     WriteFault,
     /// Memory ran out.
     NoMemory,
+}
+
+impl From<NoMemory> for StepFault {
+    ghost use Rattle.std.specs.Prelude.{◌≡◌};
+    ghost use Rattle.air_run.specs.declared.refusal.StepFault.TheVariants.{NoMemory};
+
+    ghost from_gives = { λ _ e. e ≡ NoMemory };
+
+    fn from(_: NoMemory) -> Self {
+        StepFault::NoMemory
+    }
 }
 
 /// Why an input was refused at a line.

@@ -1,23 +1,23 @@
-ghost use Rattle.std.specs.Prelude.{◌≡◌, ◌≤◌, true, false, ℕ, List, None, Some, IfOk};
-ghost use Rattle.l2_io.specs.Known.{after, HasRisen};
+ghost use Rattle.std.specs.Prelude.{◌≡◌, ◌≤◌, true, false, ℕ, List, None, Some, IfOk, IfErr};
+ghost use Rattle.l2_io.specs.Known.{HasRisen};
 ghost use Rattle.air_text.specs.Ranges.{IsInRange};
 ghost use Rattle.air_run.specs.Playing.{played};
-ghost use Rattle.air_run.specs.Rules.{rule_broken, refusal, accepted};
+ghost use Rattle.air_run.specs.Rules.{rule_broken, refusal, accepted, is_idle};
 ghost use Rattle.air_run.specs.Draining.{shown};
-ghost use Rattle.air_run.specs.Written.{all_seen, noticed};
+ghost use Rattle.air_run.specs.Written.{noted};
+ghost use Rattle.air_run.specs.Putting.{TellsIf};
 ghost use Rattle.air_run.specs.Run.{RunState, fresh};
 ghost use Rattle.air_record.specs.Text.{texts_of};
 ghost use Rattle.air_run.specs.Steps.{Steps, Puts, Finishes};
 
-use crate::journal::Journal;
+use crate::journal::{Journal, put};
 use crate::playing::play;
 use crate::refusal::{RunRefusal, StepFault};
 use crate::rules::Rules;
 use crate::sums::text_of_sums;
 use air_link::Link;
 use air_text::Line;
-use l2_bits::NoMemory;
-use l2_io::{PutFault, Sink};
+use l2_io::{Sink, SureSink};
 use std::alloc::Global;
 use std::marker::Model;
 
@@ -58,7 +58,7 @@ impl Run {
     }
 
     /// Runs a line and writes its records. A refused line changes nothing and writes nothing.
-    #[tactic(auto, using(crate::proofs::Beginning::begun_nothing))]
+    #[tactic(auto, using(crate::proofs::Beginning::begun_nothing, crate::proofs::Beginning::has_begun))]
     pub fn step<K: Sink>(&mut self, number: u32, line: &Line, out: &mut K) -> Result<(), StepFault>
         requires { IsInRange line.now }
         ensures step { Steps self.old number line.now self.new (K.written out.old)
@@ -75,17 +75,25 @@ impl Run {
             self.dead = true;
             return Err(StepFault::NoMemory);
         }
-        match run_line(&mut self.link, &mut self.rules, &mut self.journal, line) {
+        match run_line(
+            &mut self.link,
+            &mut self.rules,
+            &mut self.journal,
+            line,
+            out,
+        ) {
             Ok(true) => {
                 let answer = put(self.journal.text(), out);
                 self.dead = answer == Err(StepFault::NoMemory);
                 answer
             }
             Ok(false) => Err(StepFault::Refused(RunRefusal::TimerIdle)),
-            Err(NoMemory) => {
+            Err(StepFault::NoMemory) => {
                 self.dead = true;
                 Err(StepFault::NoMemory)
             }
+            Err(StepFault::WriteFault) => Err(StepFault::WriteFault),
+            Err(StepFault::Refused(_)) => unreachable!(),
         }
     }
 
@@ -101,12 +109,19 @@ impl Run {
             return Err(StepFault::Refused(refusal));
         }
         self.journal.begin_muted();
-        match run_line(&mut self.link, &mut self.rules, &mut self.journal, line) {
+        let mut nowhere = SureSink::new(self.alloc);
+        match run_line(
+            &mut self.link,
+            &mut self.rules,
+            &mut self.journal,
+            line,
+            &mut nowhere,
+        ) {
             Ok(true) => Ok(()),
             Ok(false) => Err(StepFault::Refused(RunRefusal::TimerIdle)),
-            Err(NoMemory) => {
-                self.dead = true;
-                Err(StepFault::NoMemory)
+            Err(fault) => {
+                self.dead = fault == StepFault::NoMemory;
+                Err(fault)
             }
         }
     }
@@ -129,13 +144,15 @@ impl Run {
 }
 
 // Runs a line that breaks no rule, and tells the journal. `false` where it asks for the expiry of a
-// timer that doesn't run; then nothing but the journal's text has changed.
-fn run_line(
+// timer that doesn't run; then nothing but the journal's text has changed. Of a drain the text is
+// put as it arises.
+fn run_line<K: Sink>(
     link: &mut Link,
     rules: &mut Rules,
     journal: &mut Journal,
     line: &Line,
-) -> Result<bool, NoMemory>
+    out: &mut K,
+) -> Result<bool, StepFault>
     requires range { IsInRange line.now }
     requires allowed { rule_broken line.now rules.old link.old ≡ None }
     ensures idle { IfOk result (λ ran. ran ≡ false
@@ -148,28 +165,17 @@ fn run_line(
     ensures link { IfOk result (λ ran. ran ≡ true
         → link.new ≡ shown (played line.now rules.old.keys link.old)) }
     ensures rules { IfOk result (λ ran. ran ≡ true → rules.new ≡ accepted line.now rules.old) }
-    ensures losses { IfOk result (λ ran. ran ≡ true
-        → journal.new.losses ≡ all_seen (played line.now rules.old.keys link.old).out
-        (noticed line.now (played line.now rules.old.keys link.old) journal.old.losses)) }
-    ensures text { IfOk result (λ ran. ran ≡ true
-        → journal.new.text
-        ≡ after journal.old.text (texts_of (played line.now rules.old.keys link.old).out)) }
+    ensures put { TellsIf (played line.now rules.old.keys link.old).out
+        (noted line.now (played line.now rules.old.keys link.old) journal.old) journal.new
+        (K.written out.old) (K.written out.new) (HasRisen (K.faults out.old) (K.faults out.new))
+        result }
+    ensures count { K.faults out.old ≤ K.faults out.new }
+    ensures stays { IfErr result (λ _. is_idle line.now link.old ≡ true
+        → K.written out.new ≡ K.written out.old) }
 {
-    if !play(link, rules, line, journal)? {
+    if !play(link, rules, line, journal, out)? {
         return Ok(false);
     }
     rules.accept(line)?;
     Ok(true)
-}
-
-fn put<K: Sink>(text: &[u8], out: &mut K) -> Result<(), StepFault>
-    ensures put { Puts text.now (K.written out.old) (K.written out.new)
-        (HasRisen (K.faults out.old) (K.faults out.new)) result }
-    ensures count { K.faults out.old ≤ K.faults out.new }
-{
-    match out.put(text) {
-        Ok(()) => Ok(()),
-        Err(PutFault::Failed) => Err(StepFault::WriteFault),
-        Err(PutFault::NoMemory) => Err(StepFault::NoMemory),
-    }
 }

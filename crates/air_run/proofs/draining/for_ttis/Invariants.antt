@@ -1,11 +1,18 @@
-use Rattle.std.proofs.Common.{◌≡◌, ◌-◌}
+use Rattle.std.proofs.Common.{◌≡◌, ◌≤◌, ◌-◌}
+use Rattle.std.specs.Prelude.{is_some}
 use Rattle.air_run.specs.Draining.{ttis}
-use Rattle.air_run.specs.Written.{told}
+use Rattle.air_run.specs.Putting.{pending, HasPut}
+use Rattle.air_run.specs.Written.{told, all_seen}
 use Rattle.air_run.proofs.draining.for_ttis.Given as goal
 
 abbrev pub invariant-loop-done : goal.invariant-loop-done
-invariant-loop-done l = record {
+invariant-loop-done g l = record {
   link : (ttis (l.most - l.done) l.grant l.link).link ≡ (ttis l.most l.grant l.initial.link).link;
-  journal : told (ttis (l.most - l.done) l.grant l.link).journal l.journal
-      ≡ told (ttis l.most l.grant l.initial.link).journal l.initial.journal;
+  losses : all_seen (ttis (l.most - l.done) l.grant l.link).journal l.journal.losses
+      ≡ all_seen (ttis l.most l.grant l.initial.link).journal l.initial.journal.losses;
+  wanted : is_some l.journal.text ≡ is_some l.initial.journal.text;
+  put : HasPut (pending (told (ttis l.most l.grant l.initial.link).journal l.initial.journal))
+      (pending (told (ttis (l.most - l.done) l.grant l.link).journal l.journal))
+      (g.K.Sink.written l.initial.out) (g.K.Sink.written l.out);
+  count : g.K.Sink.faults l.initial.out ≤ g.K.Sink.faults l.out;
 }
