@@ -37,7 +37,10 @@ pub has_begun : (r : RunState) (number : ℕ) (line : Line) (j : Journal) (w w' 
     → WritesFront (pending (told (behind_line line r).out (noted line (behind_line line r) j))) w w'
     → HasBegun (step r number line) w w'
 has_begun r number line j w w' allowed idle begun front =
-    subst (λ (o : Option RunRefusal). HasBegun (step_by (or_else o (refused_if (is_idle line r.link) TimerIdle)) r number
-    line) w w') (sym allowed)
+    subst (λ (o : Option RunRefusal). HasBegun (step_by (or_else o (refused_if (is_idle line r.link) TimerIdle)) r
+    number line) w w') (sym allowed)
     (begun_if (is_idle line r.link) r number line w w' idle
-    (subst (λ (t : Option (List ℕ)). WritesFront (text_in (after t (texts_of (behind_line line r).out))) w w') begun front))
+    (subst (λ (t : Option (List ℕ)). WritesFront (text_in (after t (texts_of (behind_line line r).out))) w w')
+    begun front))
+
+pub ruleset begun = (begun_nothing, has_begun)

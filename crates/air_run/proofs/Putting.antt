@@ -1,5 +1,5 @@
 -- A line's text is put part by part.
-use Rattle.std.proofs.Common.{◌≡◌, ◌∙◌, ◌≤◌, ℕ, Bool, true, false, List, [], ◌∷◌, ◌++◌, refl, ap, sym, subst, append_assoc}
+use Rattle.std.proofs.Common.{◌≡◌, ◌∙◌, ℕ, List, [], ◌∷◌, ◌++◌, refl, ap, sym, subst, append_assoc}
 use Rattle.std.specs.Prelude.{Option, None, Some, is_some, Result, Ok, Err}
 use Rattle.l2_io.specs.Known.{after, IsFront, HasRisen}
 use Rattle.l2_io.proofs.Written.{after_after, after_nothing, front_behind, front_longer, risen_from}

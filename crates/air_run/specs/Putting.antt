@@ -1,6 +1,6 @@
 -- A line's text on its way to a sink (docs/formats/JOURNAL.md): it is put as it arises.
-use Rattle.std.specs.Prelude.{◌≡◌, ℕ, Bool, true, false, List, [], ◌++◌, Option, None, Some, is_some}
-use Rattle.std.specs.Prelude.{Result, Ok, Err}
+use Rattle.std.specs.Prelude.{◌≡◌, ℕ, Bool, true, false, List, [], ◌++◌, Option, None, Some}
+use Rattle.std.specs.Prelude.{is_some, Result, Ok, Err}
 use Rattle.l2_io.specs.Known.{after}
 use Rattle.air_record.specs.declared.record.Record.{Record}
 use Rattle.air_run.specs.declared.refusal.StepFault.{StepFault}

@@ -58,7 +58,7 @@ impl Run {
     }
 
     /// Runs a line and writes its records. A refused line changes nothing and writes nothing.
-    #[tactic(auto, using(crate::proofs::Beginning::begun_nothing, crate::proofs::Beginning::has_begun))]
+    #[tactic(auto, using(crate::proofs::Beginning::begun))]
     pub fn step<K: Sink>(&mut self, number: u32, line: &Line, out: &mut K) -> Result<(), StepFault>
         requires { IsInRange line.now }
         ensures step { Steps self.old number line.now self.new (K.written out.old)

@@ -49,6 +49,7 @@ loop-done-preserved g c =
       put = subst (λ (m : Link). HasPut (pending (told all c.args.journal.now))
           (pending (told (ttis n c.args.grant m).journal c.tti.new.journal)) (g.K.Sink.written c.args.out.now)
           (g.K.Sink.written c.tti.new.out)) (sym here)
-          (put_further (pending (told all c.args.journal.now)) es more c.loop-done.journal c.tti.new.journal _ _ _ put t);
+          (put_further (pending (told all c.args.journal.now)) es more c.loop-done.journal c.tti.new.journal _ _ _
+          put t);
       count = omega (arith, c.loop-done.invariant.count, c.tti.ensures.count);
     }

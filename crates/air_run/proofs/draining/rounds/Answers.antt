@@ -16,7 +16,8 @@ returns-in_err-round-clause-put g c =
     let l = c.loop-done.link in
     let all = (rounds c.args.most c.args.grant c.args.link.now).journal in
     let more = (rounds (c.args.most - (c.loop-done.done + 1)) c.args.grant (shown (round c.args.grant l))).journal in
-    let next = rounds_next c.args.most c.loop-done.done c.args.grant l (omega arith) (sym c.is_drained.ensures ∙ c.if-is_drained.false) in
+    let next = rounds_next c.args.most c.loop-done.done c.args.grant l (omega arith)
+    (sym c.is_drained.ensures ∙ c.if-is_drained.false) in
     let put = subst (λ (d : Drained). HasPut (pending (told all c.args.journal.now))
     (pending (told d.journal c.loop-done.journal)) (g.K.Sink.written c.args.out.now)
     (g.K.Sink.written c.loop-done.out)) next c.loop-done.invariant.put in
@@ -32,7 +33,8 @@ loop-done-preserved g c =
     let all = (rounds c.args.most c.args.grant c.args.link.now).journal in
     let es = (round c.args.grant l).out in
     let more = (rounds n c.args.grant (shown (round c.args.grant l))).journal in
-    let next = rounds_next c.args.most c.loop-done.done c.args.grant l (omega arith) (sym c.is_drained.ensures ∙ c.if-is_drained.false) in
+    let next = rounds_next c.args.most c.loop-done.done c.args.grant l (omega arith)
+    (sym c.is_drained.ensures ∙ c.if-is_drained.false) in
     let here = c.in_ok-round.ensures.link in
     let put = subst (λ (d : Drained). HasPut (pending (told all c.args.journal.now))
     (pending (told d.journal c.loop-done.journal)) (g.K.Sink.written c.args.out.now)
@@ -52,6 +54,7 @@ loop-done-preserved g c =
       put = subst (λ (m : Link). HasPut (pending (told all c.args.journal.now))
           (pending (told (rounds n c.args.grant m).journal c.round.new.journal)) (g.K.Sink.written c.args.out.now)
           (g.K.Sink.written c.round.new.out)) (sym here)
-          (put_further (pending (told all c.args.journal.now)) es more c.loop-done.journal c.round.new.journal _ _ _ put t);
+          (put_further (pending (told all c.args.journal.now)) es more c.loop-done.journal c.round.new.journal _ _ _
+          put t);
       count = omega (arith, c.loop-done.invariant.count, c.round.ensures.count);
     }
