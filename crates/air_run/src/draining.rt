@@ -59,7 +59,8 @@ fn for_ttis<K: Sink>(
     requires { grant ≤ GREATEST_GRANT }
     ensures link { OnOk result (link.new ≡ (ttis most grant link.old).link) }
     ensures put { Tells (ttis most grant link.old).journal journal.old journal.new
-        (K.written out.old) (K.written out.new) (HasRisen (K.faults out.old) (K.faults out.new)) result }
+        (K.written out.old) (K.written out.new) (HasRisen (K.faults out.old) (K.faults out.new))
+        result }
     ensures count { K.faults out.old ≤ K.faults out.new }
 {
     for done in 0..most {
@@ -98,7 +99,8 @@ fn rounds<K: Sink>(
     ensures link { OnOk result (link.new ≡ (rounds most grant link.old).link) }
     ensures done { IfOk result (λ done. done ≡ (rounds most grant link.old).done) }
     ensures put { Tells (rounds most grant link.old).journal journal.old journal.new
-        (K.written out.old) (K.written out.new) (HasRisen (K.faults out.old) (K.faults out.new)) result }
+        (K.written out.old) (K.written out.new) (HasRisen (K.faults out.old) (K.faults out.new))
+        result }
     ensures count { K.faults out.old ≤ K.faults out.new }
 {
     for done in 0..most {
