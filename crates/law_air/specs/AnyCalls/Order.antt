@@ -11,7 +11,6 @@ use Rattle.air_record.specs.declared.record.Record.{Record}
 use Rattle.law_words.specs.Sequences.{nothing}
 use Rattle.l2_node.specs.End.{End}
 use Rattle.l2_types.specs.declared.side.Side.{Side}
-use Rattle.mac_pdu.specs.Items.{sdu}
 use Rattle.law_air.specs.AnyCalls.Calls.{Call, Loops, Expires, Forges, HandsOver, ReceiversExpire}
 use Rattle.law_air.specs.AnyCalls.Calls.{SendersExpire, after}
 use Rattle.law_air.specs.AnyCalls.Ends.{IsGiven}
