@@ -4,6 +4,8 @@ use Rattle.std.proofs.Common.{subst, ◌∙◌, arith}
 use Rattle.std.proofs.lemmas.Bool.Decides.{nat_tests}
 use Rattle.std.specs.List.{filter}
 use Rattle.bearer.specs.Bearer.{Of, Life}
+use Rattle.bearer_types.specs.declared.config.BearerConfig.{BearerConfig}
+use Rattle.eps_sec.specs.declared.Keys.{Keys}
 use Rattle.l2_node.specs.End.{End}
 use Rattle.l2_node.specs.Finding.{has}
 use Rattle.l2_types.specs.declared.channel.Channel.{Channel}
@@ -72,29 +74,52 @@ behind_call e c =
     ∙ ap (λ (cs : List Channel). of_lists cs (channels (after_call e c).bearers)) (call_shared e c)
     ∙ ap (of_lists (shared_in c e.bearers e.buckets.channels)) (call_bearers e c)
 
-pub call_channels : (e : End) (c : EndCall) → OwnsChannels e
-    → channels_of (after_call e c) ≡ channels_in c (channels_of e)
-call_channels e (Add config keys) own =
+-- one that adds a bearer
+pub added_channels : (e : End) (config : BearerConfig) (keys : Keys)
+    → channels_of (after_call e (Add config keys)) ≡ with_channel config.channel (channels_of e)
+added_channels e config keys =
     let d = config.channel in
     behind_call e (Add config keys)
     ∙ ap (λ (ls : List ℕ). record { by_priority = (with_channel d (channels_of e)).by_priority; by_lcid = ls })
     (put_lcids d (channels e.bearers) ∙ ap (with_lcid d.lcid) (sym (bearers_lcids e.bearers)))
+
+-- one with which no life begins
+pub same_channels : (e : End) (c : EndCall) → begins_life c ≡ false → channels_of (after_call e c) ≡ channels_of e
+same_channels e (Add config keys) no = absurd cc
+same_channels e (Move keys) no = absurd cc
+same_channels e (SetVisits maximum) no = behind_call e (SetVisits maximum) ∙ sym (of_its_lists e)
+same_channels e (SetReports reports) no = behind_call e (SetReports reports) ∙ sym (of_its_lists e)
+same_channels e (Submit lcid octets) no = behind_call e (Submit lcid octets) ∙ sym (of_its_lists e)
+same_channels e (SetDiscard lcid ttis) no = behind_call e (SetDiscard lcid ttis) ∙ sym (of_its_lists e)
+same_channels e Tick no = behind_call e Tick ∙ sym (of_its_lists e)
+same_channels e TickBuckets no = behind_call e TickBuckets ∙ sym (of_its_lists e)
+same_channels e (Visits t) no = behind_call e (Visits t) ∙ sym (of_its_lists e)
+same_channels e (Grants tti) no = behind_call e (Grants tti) ∙ sym (of_its_lists e)
+same_channels e (Granted tti good) no = behind_call e (Granted tti good) ∙ sym (of_its_lists e)
+same_channels e (Assigned tti ndi good) no = behind_call e (Assigned tti ndi good) ∙ sym (of_its_lists e)
+same_channels e (Pass tti) no = behind_call e (Pass tti) ∙ sym (of_its_lists e)
+same_channels e (Receive block) no = behind_call e (Receive block) ∙ sym (of_its_lists e)
+same_channels e (Expire lcid clock) no = behind_call e (Expire lcid clock) ∙ sym (of_its_lists e)
+
+call_channels : (e : End) (c : EndCall) → OwnsChannels e
+    → channels_of (after_call e c) ≡ channels_in c (channels_of e)
+call_channels e (Add config keys) own = added_channels e config keys
 call_channels e (Move keys) own =
     behind_call e (Move keys) ∙ ap (λ (cs : List Channel). of_lists cs (channels e.bearers)) (sym own)
     ∙ sym (of_its_lists e)
-call_channels e (SetVisits maximum) own = behind_call e (SetVisits maximum) ∙ sym (of_its_lists e)
-call_channels e (SetReports reports) own = behind_call e (SetReports reports) ∙ sym (of_its_lists e)
-call_channels e (Submit lcid octets) own = behind_call e (Submit lcid octets) ∙ sym (of_its_lists e)
-call_channels e (SetDiscard lcid ttis) own = behind_call e (SetDiscard lcid ttis) ∙ sym (of_its_lists e)
-call_channels e Tick own = behind_call e Tick ∙ sym (of_its_lists e)
-call_channels e TickBuckets own = behind_call e TickBuckets ∙ sym (of_its_lists e)
-call_channels e (Visits t) own = behind_call e (Visits t) ∙ sym (of_its_lists e)
-call_channels e (Grants tti) own = behind_call e (Grants tti) ∙ sym (of_its_lists e)
-call_channels e (Granted tti good) own = behind_call e (Granted tti good) ∙ sym (of_its_lists e)
-call_channels e (Assigned tti ndi good) own = behind_call e (Assigned tti ndi good) ∙ sym (of_its_lists e)
-call_channels e (Pass tti) own = behind_call e (Pass tti) ∙ sym (of_its_lists e)
-call_channels e (Receive block) own = behind_call e (Receive block) ∙ sym (of_its_lists e)
-call_channels e (Expire lcid clock) own = behind_call e (Expire lcid clock) ∙ sym (of_its_lists e)
+call_channels e (SetVisits maximum) own = same_channels e (SetVisits maximum) refl
+call_channels e (SetReports reports) own = same_channels e (SetReports reports) refl
+call_channels e (Submit lcid octets) own = same_channels e (Submit lcid octets) refl
+call_channels e (SetDiscard lcid ttis) own = same_channels e (SetDiscard lcid ttis) refl
+call_channels e Tick own = same_channels e Tick refl
+call_channels e TickBuckets own = same_channels e TickBuckets refl
+call_channels e (Visits t) own = same_channels e (Visits t) refl
+call_channels e (Grants tti) own = same_channels e (Grants tti) refl
+call_channels e (Granted tti good) own = same_channels e (Granted tti good) refl
+call_channels e (Assigned tti ndi good) own = same_channels e (Assigned tti ndi good) refl
+call_channels e (Pass tti) own = same_channels e (Pass tti) refl
+call_channels e (Receive block) own = same_channels e (Receive block) refl
+call_channels e (Expire lcid clock) own = same_channels e (Expire lcid clock) refl
 
 -- calls with which no life begins
 none_kept : (cs : List EndCall) (e : End) → filter begins_life cs ≡ [] → channels_of (run_end cs e) ≡ channels_of e
@@ -102,31 +127,31 @@ none_kept [] e h = refl
 none_kept (Add config keys ∷ cs) e h = let no : Add config keys ∷ filter begins_life cs ≡ [] = h in absurd cc
 none_kept (Move keys ∷ cs) e h = let no : Move keys ∷ filter begins_life cs ≡ [] = h in absurd cc
 none_kept (SetVisits maximum ∷ cs) e h =
-    none_kept cs (after_call e (SetVisits maximum)) h ∙ behind_call e (SetVisits maximum) ∙ sym (of_its_lists e)
+    none_kept cs (after_call e (SetVisits maximum)) h ∙ same_channels e (SetVisits maximum) refl
 none_kept (SetReports reports ∷ cs) e h =
-    none_kept cs (after_call e (SetReports reports)) h ∙ behind_call e (SetReports reports) ∙ sym (of_its_lists e)
+    none_kept cs (after_call e (SetReports reports)) h ∙ same_channels e (SetReports reports) refl
 none_kept (Submit lcid octets ∷ cs) e h =
-    none_kept cs (after_call e (Submit lcid octets)) h ∙ behind_call e (Submit lcid octets) ∙ sym (of_its_lists e)
+    none_kept cs (after_call e (Submit lcid octets)) h ∙ same_channels e (Submit lcid octets) refl
 none_kept (SetDiscard lcid ttis ∷ cs) e h =
-    none_kept cs (after_call e (SetDiscard lcid ttis)) h ∙ behind_call e (SetDiscard lcid ttis) ∙ sym (of_its_lists e)
+    none_kept cs (after_call e (SetDiscard lcid ttis)) h ∙ same_channels e (SetDiscard lcid ttis) refl
 none_kept (Tick ∷ cs) e h =
-    none_kept cs (after_call e Tick) h ∙ behind_call e Tick ∙ sym (of_its_lists e)
+    none_kept cs (after_call e Tick) h ∙ same_channels e Tick refl
 none_kept (TickBuckets ∷ cs) e h =
-    none_kept cs (after_call e TickBuckets) h ∙ behind_call e TickBuckets ∙ sym (of_its_lists e)
+    none_kept cs (after_call e TickBuckets) h ∙ same_channels e TickBuckets refl
 none_kept (Visits t ∷ cs) e h =
-    none_kept cs (after_call e (Visits t)) h ∙ behind_call e (Visits t) ∙ sym (of_its_lists e)
+    none_kept cs (after_call e (Visits t)) h ∙ same_channels e (Visits t) refl
 none_kept (Grants tti ∷ cs) e h =
-    none_kept cs (after_call e (Grants tti)) h ∙ behind_call e (Grants tti) ∙ sym (of_its_lists e)
+    none_kept cs (after_call e (Grants tti)) h ∙ same_channels e (Grants tti) refl
 none_kept (Granted tti good ∷ cs) e h =
-    none_kept cs (after_call e (Granted tti good)) h ∙ behind_call e (Granted tti good) ∙ sym (of_its_lists e)
+    none_kept cs (after_call e (Granted tti good)) h ∙ same_channels e (Granted tti good) refl
 none_kept (Assigned tti ndi good ∷ cs) e h =
-    none_kept cs (after_call e (Assigned tti ndi good)) h ∙ behind_call e (Assigned tti ndi good) ∙ sym (of_its_lists e)
+    none_kept cs (after_call e (Assigned tti ndi good)) h ∙ same_channels e (Assigned tti ndi good) refl
 none_kept (Pass tti ∷ cs) e h =
-    none_kept cs (after_call e (Pass tti)) h ∙ behind_call e (Pass tti) ∙ sym (of_its_lists e)
+    none_kept cs (after_call e (Pass tti)) h ∙ same_channels e (Pass tti) refl
 none_kept (Receive block ∷ cs) e h =
-    none_kept cs (after_call e (Receive block)) h ∙ behind_call e (Receive block) ∙ sym (of_its_lists e)
+    none_kept cs (after_call e (Receive block)) h ∙ same_channels e (Receive block) refl
 none_kept (Expire lcid clock ∷ cs) e h =
-    none_kept cs (after_call e (Expire lcid clock)) h ∙ behind_call e (Expire lcid clock) ∙ sym (of_its_lists e)
+    none_kept cs (after_call e (Expire lcid clock)) h ∙ same_channels e (Expire lcid clock) refl
 
 pub channels_stay : (side : Side) (told : List Record) (e f : End) → LivesOn [] side told e f
     → channels_of f ≡ channels_of e
