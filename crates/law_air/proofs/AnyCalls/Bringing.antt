@@ -33,7 +33,6 @@ use Rattle.law_node.proofs.Living.{call_side}
 use Rattle.law_node.proofs.Owning.{IsOwn, own_kept}
 use Rattle.law_node.proofs.Places.{found}
 use Rattle.law_node.proofs.Sound.{HasSoundChannels, call_channels_sound, reached_channels_sound}
-use Rattle.prioritise.specs.ShareLaws.{IsSound}
 use Rattle.law_air.specs.AnyCalls.Ends.{begins_life, ByCalls, LivesOn}
 use Rattle.law_air.specs.AnyCalls.Zero.{HasCome}
 use Rattle.promises.specs.Zero.{carried_in, carried_by, carried}
