@@ -14,7 +14,6 @@ module _ {S W : Type 0} (at : Ends → S → List Event → W) (is_hungry : W �
     → feeds (o ∷ os) w ≡ (if is_hungry w then feeds os (fed w) else w))
     (fed_is : (pdcp : Ends) (tx : S) (events : List Event)
     → fed (at pdcp tx events) ≡ at (after_taking pdcp) (given (taken pdcp) tx) (events ++ taking_told pdcp)) where
-
   full_by : (os : List Offer) (w : W) → is_hungry w ≡ false → w ≡ feeds os w
   full_by [] w h = sym (none w)
   full_by (o ∷ os) w h = sym (some o os w ∙ ap (λ (b : Bool). if b then feeds os (fed w) else w) h)

@@ -80,5 +80,5 @@ flow_kept (Um b) clock none = ap Um (um_kept b clock none)
 flow_kept (Am b) clock none = ap Am (am_kept b clock none)
 
 pub bearer_kept : (b : Of Life) (clock : Clock) → b.state.dead ≡ false → flow_expiry b.state.flow clock ≡ None
-    → of b.lcid (alive (flow_expired b.state.flow clock)) ≡ b
+    → of b.channel (alive (flow_expired b.state.flow clock)) ≡ b
 bearer_kept b clock live none = rw (flow_kept b.state.flow clock none, ← live) refl

@@ -1,8 +1,9 @@
 -- A bearer at one end (TS 36.322 4.2.1, TS 36.323 4.2): of one of three kinds, in a life or between
 -- two lives.
-use Rattle.std.specs.Prelude.{ℕ, Bool, false}
+use Rattle.std.specs.Prelude.{Bool, false}
 use Rattle.bearer_types.specs.declared.BearerConfig.{BearerConfig}
 use Rattle.eps_sec.specs.declared.Keys.{Keys}
+use Rattle.l2_types.specs.declared.Channel.{Channel}
 use Rattle.l2_types.specs.declared.Kind.{Kind}
 use Rattle.l2_types.specs.declared.Kind.TheVariants as kinds
 use Rattle.l2_types.specs.declared.Side.{Side}
@@ -13,14 +14,14 @@ use Rattle.bearer.specs.Acknowledged.State.{fresh as fresh_am}
 use Rattle.bearer.specs.declared.flow.Flow.{Flow}
 use Rattle.bearer.specs.declared.flow.Flow.TheVariants.{Tm, Um, Am}
 
--- a bearer in some state
+-- a bearer in some state, with its logical channel as MAC is configured with it (TS 36.321 5.4.3.1)
 pub record Of (S : Type 0) : Type 0 where
-  pub lcid : ℕ
+  pub channel : Channel
   pub state : S
 
 module _ {S : Type 0} where
-  abbrev pub of : ℕ → S → Of S
-  of lcid state = record { lcid = lcid; state = state }
+  abbrev pub of : Channel → S → Of S
+  of channel state = record { channel = channel; state = state }
 
 -- a bearer in a life; one that ran out of memory answers so from then on to each call that can
 pub record Life : Type 0 where
@@ -38,4 +39,4 @@ flow_of kinds.Am c keys side = Am (fresh_am c (pdcp.Am c.pdcp_bits) keys side)
 
 -- a bearer as both ends are configured with it
 unfoldable pub begun : BearerConfig → Keys → Side → Of Life
-begun c keys side = of c.channel.lcid (alive (flow_of c.kind c keys side))
+begun c keys side = of c.channel (alive (flow_of c.kind c keys side))

@@ -18,7 +18,7 @@ use bearer_pdcp::Written;
 use bearer_types::{BearerConfig, Events};
 use eps_sec::Keys;
 use l2_bits::{NoMemory, SubmitRefusal};
-use l2_types::{Clock, GREATEST_GRANT, Side};
+use l2_types::{Channel, Clock, GREATEST_GRANT, Side};
 use std::alloc::Global;
 use std::marker::Model;
 
@@ -71,21 +71,27 @@ impl Model for Released {
 /// Where memory runs out in a call of a running bearer, it answers `NoMemory` from then on to each
 /// call that can.
 pub struct Bearer<S> {
-    lcid: u8,
+    channel: Channel,
     state: S,
 }
 
 impl<S> Model for Bearer<S> {
+    ghost use Rattle.std.specs.Prelude.{◌<◌};
     ghost use Rattle.bearer.specs.Bearer.{Of, of};
 
     ghost Value = { Of S };
 
-    ghost view = { λ b. of b.lcid b.state };
+    ghost view = { λ b. of b.channel b.state };
+
+    ghost invariant = { λ b. (b.channel.lcid < 11) × (b.channel.group < 4) };
 }
 
 impl<S: Drop> Drop for Bearer<S> {
     fn drop(self) {
-        let Bearer { lcid: _, state: _ } = self;
+        let Bearer {
+            channel: _,
+            state: _,
+        } = self;
     }
 }
 
@@ -103,7 +109,7 @@ impl Bearer<Running> {
         ensures { IfOk result (λ b. b ≡ begun config.now keys.now side) }
     {
         Ok(Bearer {
-            lcid: config.channel.lcid,
+            channel: config.channel,
             state: Running {
                 alloc,
                 flow: Flow::new(alloc, config, keys, side)?,
@@ -114,9 +120,18 @@ impl Bearer<Running> {
 
     /// The logical channel, 0 to 10.
     pub fn lcid(&self) -> u8
-        ensures { result ≡ self.now.lcid }
+        ensures { result ≡ self.now.channel.lcid }
     {
-        self.lcid
+        self.channel.lcid
+    }
+
+    /// The logical channel as MAC shares a grant: its LCID is 0 to 10, its group 0 to 3.
+    pub fn channel(&self) -> Channel
+        ensures channel { result ≡ self.now.channel }
+        ensures lcid { result.lcid < 11 }
+        ensures group { result.group < 4 }
+    {
+        self.channel
     }
 
     /// Takes over a copy of an SDU of 1 to 8188 octets, which then waits.
@@ -126,7 +141,7 @@ impl Bearer<Running> {
     pub fn submit(&mut self, sdu: &[u8]) -> Result<(), SubmitRefusal>
         ensures fits { OnOk result (refusal self.old.state.flow sdu.now ≡ None) }
         ensures state { OnOk result
-            (self.new ≡ of self.old.lcid (alive (submitted self.old.state.flow sdu.now))) }
+            (self.new ≡ of self.old.channel (alive (submitted self.old.state.flow sdu.now))) }
         ensures answer { IsFalse self.old.state.dead
             → IfErr result (λ e. Answers e (refusal self.old.state.flow sdu.now)) }
         ensures refused { IfErr result (λ e. StaysOrDies e (self.new ≡ self.old)) }
@@ -180,17 +195,17 @@ impl Bearer<Running> {
         ensures pdus { IfOk result (λ w. w.pdus ≡ pdus self.old.state.flow share held) }
         ensures number { IfOk result (λ w. w.number ≡ number self.old.state.flow share held) }
         ensures told { IfOk result (λ w. w.events
-            ≡ told self.old.lcid self.old.state.flow share held) }
+            ≡ told self.old.channel.lcid self.old.state.flow share held) }
         ensures fits { IfOk result (λ w. FitsShare share w.pdus) }
         ensures state { OnOk result
-            (self.new ≡ of self.old.lcid (alive (after self.old.state.flow share held))) }
+            (self.new ≡ of self.old.channel (alive (after self.old.state.flow share held))) }
         ensures dead { IsTrue self.old.state.dead → IsErr result }
         ensures err { OnErr result (IsTrue self.new.state.dead) }
     {
         if self.state.dead {
             return Err(NoMemory);
         }
-        let answer = self.state.flow.take(self.lcid, share, held);
+        let answer = self.state.flow.take(self.channel.lcid, share, held);
         self.state.dead = answer.is_err();
         answer
     }
@@ -199,16 +214,16 @@ impl Bearer<Running> {
     pub fn arrive(&mut self, pdu: &[u8]) -> Result<Events, NoMemory>
         requires { length pdu.now < OCTETS_LIMIT }
         ensures told { IfOk result (λ events. events
-            ≡ arriving self.old.lcid self.old.state.flow pdu.now) }
+            ≡ arriving self.old.channel.lcid self.old.state.flow pdu.now) }
         ensures state { OnOk result
-            (self.new ≡ of self.old.lcid (alive (arrived self.old.state.flow pdu.now))) }
+            (self.new ≡ of self.old.channel (alive (arrived self.old.state.flow pdu.now))) }
         ensures dead { IsTrue self.old.state.dead → IsErr result }
         ensures err { OnErr result (IsTrue self.new.state.dead) }
     {
         if self.state.dead {
             return Err(NoMemory);
         }
-        let answer = self.state.flow.arrive(self.lcid, pdu);
+        let answer = self.state.flow.arrive(self.channel.lcid, pdu);
         self.state.dead = answer.is_err();
         answer
     }
@@ -218,7 +233,7 @@ impl Bearer<Running> {
     pub fn tick(&mut self) -> Result<Events, NoMemory>
         ensures told { IfOk result (λ events. events ≡ ticking self.old.state.flow) }
         ensures state { OnOk result
-            (self.new ≡ of self.old.lcid (alive (ticked self.old.state.flow))) }
+            (self.new ≡ of self.old.channel (alive (ticked self.old.state.flow))) }
         ensures dead { IsTrue self.old.state.dead → IsErr result }
         ensures err { OnErr result (IsTrue self.new.state.dead) }
     {
@@ -235,7 +250,7 @@ impl Bearer<Running> {
     pub fn expire(&mut self, clock: Clock) -> Result<Option<Events>, NoMemory>
         ensures told { IfOk result (λ events. events ≡ expiry self.old.state.flow clock) }
         ensures state { OnOk result
-            (self.new ≡ of self.old.lcid (alive (expired self.old.state.flow clock))) }
+            (self.new ≡ of self.old.channel (alive (expired self.old.state.flow clock))) }
         ensures dead { IsTrue self.old.state.dead → IsErr result }
         ensures err { OnErr result (IsTrue self.new.state.dead) }
     {
@@ -250,7 +265,7 @@ impl Bearer<Running> {
     /// Sets the length of the discard timers in TTIs.
     pub fn set_discard(&mut self, ttis: u32)
         ensures { self.new
-            ≡ of self.old.lcid
+            ≡ of self.old.channel
             (record self.old.state { flow = with_discard self.old.state.flow ttis }) }
     {
         self.state.flow.set_discard(ttis)
@@ -261,20 +276,20 @@ impl Bearer<Running> {
     /// memory.
     pub fn stop(self) -> Result<(Bearer<Stopped>, Events), (Bearer<Running>, NoMemory)>
         ensures told { IfOk result (λ r. r.1 ≡ stopping self.state.flow) }
-        ensures state { IfOk result (λ r. r.0 ≡ of self.lcid (stopped self.state.flow)) }
+        ensures state { IfOk result (λ r. r.0 ≡ of self.channel (stopped self.state.flow)) }
         ensures dead { IsTrue self.state.dead → IsErr result }
         ensures err { IfErr result (λ e. IsTrue e.0.state.dead) }
     {
-        let Bearer { lcid, state } = self;
+        let Bearer { channel, state } = self;
         let Running { alloc, flow, dead } = state;
         if dead {
             let state = Running { alloc, flow, dead };
-            return Err((Bearer { lcid, state }, NoMemory));
+            return Err((Bearer { channel, state }, NoMemory));
         }
         match flow.stop(alloc) {
             Ok((flow, events)) => {
                 let state = Stopped { alloc, flow };
-                Ok((Bearer { lcid, state }, events))
+                Ok((Bearer { channel, state }, events))
             }
             Err((flow, no_memory)) => {
                 let state = Running {
@@ -282,7 +297,7 @@ impl Bearer<Running> {
                     flow,
                     dead: true,
                 };
-                Err((Bearer { lcid, state }, no_memory))
+                Err((Bearer { channel, state }, no_memory))
             }
         }
     }
@@ -293,10 +308,11 @@ impl Bearer<Stopped> {
     /// status report first, then takes again what isn't confirmed. An `Err` gives back the bearer
     /// as it was.
     pub fn restart(self, keys: &Keys) -> Result<Bearer<Running>, (Bearer<Stopped>, NoMemory)>
-        ensures ok { IfOk result (λ b. b ≡ of self.lcid (alive (restarted self.state keys.now))) }
+        ensures ok { IfOk result
+            (λ b. b ≡ of self.channel (alive (restarted self.state keys.now))) }
         ensures err { IfErr result (λ e. e.0 ≡ self) }
     {
-        let Bearer { lcid, state } = self;
+        let Bearer { channel, state } = self;
         let Stopped { alloc, flow } = state;
         match flow.restart(alloc, keys) {
             Ok(flow) => {
@@ -305,11 +321,11 @@ impl Bearer<Stopped> {
                     flow,
                     dead: false,
                 };
-                Ok(Bearer { lcid, state })
+                Ok(Bearer { channel, state })
             }
             Err((flow, no_memory)) => {
                 let state = Stopped { alloc, flow };
-                Err((Bearer { lcid, state }, no_memory))
+                Err((Bearer { channel, state }, no_memory))
             }
         }
     }
@@ -318,9 +334,9 @@ impl Bearer<Stopped> {
     pub fn release(self) -> Bearer<Released>
         ensures { result ≡ self }
     {
-        let Bearer { lcid, state } = self;
+        let Bearer { channel, state } = self;
         let state = Released { stopped: state };
-        Bearer { lcid, state }
+        Bearer { channel, state }
     }
 }
 
@@ -329,17 +345,17 @@ impl Bearer<Released> {
     pub fn accept(self) -> Bearer<Stopped>
         ensures { result ≡ self }
     {
-        let Bearer { lcid, state } = self;
+        let Bearer { channel, state } = self;
         let Released { stopped } = state;
         Bearer {
-            lcid,
+            channel,
             state: stopped,
         }
     }
 
     /// Spends the bearer: for the path of want of memory alone.
     pub fn abandon(self) {
-        let Bearer { lcid: _, state } = self;
+        let Bearer { channel: _, state } = self;
         let Released { stopped } = state;
         let Stopped { alloc: _, flow: _ } = stopped;
     }

@@ -11,9 +11,10 @@ use eps_sec::Keys;
 use l2_bits::NoMemory;
 use std::marker::Model;
 
-/// A bearer on its way: its configuration and side, the SDUs that are kept with their COUNTs and
-/// with what RLC and status reports have confirmed of them, the SDUs that wait with their discard
-/// timers, the receive state, and the SDUs that are held out of sequence.
+/// A bearer on its way: its configuration, with that of its logical channel, and its side; the SDUs
+/// that are kept with their COUNTs and with what RLC and status reports have confirmed of them, the
+/// SDUs that wait with their discard timers, the receive state, and the SDUs that are held out of
+/// sequence.
 ///
 /// It can't be let go: it is spent by `accept`, or by `abandon`.
 pub struct Package {
@@ -42,7 +43,7 @@ pub fn release(bearer: Bearer<Stopped>) -> Package
 /// An `Err` gives back the package as it was.
 pub fn accept(package: Package, keys: &Keys) -> Result<Bearer<Running>, (Package, NoMemory)>
     ensures ok { IfOk result
-        (λ b. b ≡ of «package».lcid (alive (restarted «package».state keys.now))) }
+        (λ b. b ≡ of «package».channel (alive (restarted «package».state keys.now))) }
     ensures err { IfErr result (λ e. e.0 ≡ «package») }
 {
     let Package { bearer } = package;

@@ -9,7 +9,7 @@ use Rattle.harq.specs.Sending.{Sending, held_of}
 -- the place of a bearer, or the length where there is none
 abbrev pub find : ℕ → List (Of Life) → ℕ
 find lcid [] = 0
-find lcid (b ∷ bs) = if b.lcid == lcid then 0 else find lcid bs + 1
+find lcid (b ∷ bs) = if b.channel.lcid == lcid then 0 else find lcid bs + 1
 
 -- there is one
 abbrev pub has : ℕ → List (Of Life) → Bool
@@ -18,11 +18,16 @@ has lcid bearers = nat_lt (find lcid bearers) (length bearers)
 -- the place of a new one, in ascending LCID
 abbrev pub place : ℕ → List (Of Life) → ℕ
 place lcid [] = 0
-place lcid (b ∷ bs) = if nat_lt b.lcid lcid then place lcid bs + 1 else 0
+place lcid (b ∷ bs) = if nat_lt b.channel.lcid lcid then place lcid bs + 1 else 0
+
+-- in the place of one that isn't there
+abbrev pub no_bearer : Of Life
+no_bearer = of (record { lcid = 0; priority = 1; pbr = None; bucket = 100; group = 0 })
+    (alive (Tm nothing_submitted))
 
 -- the bearer at a place
 abbrev pub bearer_at : List (Of Life) → ℕ → Of Life
-bearer_at bearers at = slice_index_or bearers at (of 0 (alive (Tm nothing_submitted)))
+bearer_at bearers at = slice_index_or bearers at no_bearer
 
 -- ---- numbers that HARQ holds
 

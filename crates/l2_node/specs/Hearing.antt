@@ -28,8 +28,8 @@ heard bearers events = record { bearers = bearers; events = events }
 -- a PDU goes to the bearer at a place
 abbrev pub arrives_at : ℕ → Of Life → List ℕ → Heard → Heard
 arrives_at at b pdu h =
-    heard (slice_set h.bearers at (of b.lcid (alive (arrived b.state.flow pdu))))
-    (h.events ++ arriving b.lcid b.state.flow pdu)
+    heard (slice_set h.bearers at (of b.channel (alive (arrived b.state.flow pdu))))
+    (h.events ++ arriving b.channel.lcid b.state.flow pdu)
 
 abbrev pub hears_sdu : ℕ → List ℕ → Heard → Heard
 hears_sdu lcid pdu h =
@@ -60,7 +60,7 @@ received e block = heard_items (reading (heard_by e.side) block) (heard e.bearer
 
 abbrev pub tells : ℕ → Of Life → Heard → Heard
 tells at b h =
-    heard (slice_set h.bearers at (of b.lcid (alive (flow_ticked b.state.flow))))
+    heard (slice_set h.bearers at (of b.channel (alive (flow_ticked b.state.flow))))
     (h.events ++ ticking b.state.flow)
 
 -- the bearer at a place ticks
@@ -90,4 +90,4 @@ expiry lcid clock e = flow_expiry (bearer_of lcid e).state.flow clock
 unfoldable pub expired : ℕ → Clock → End → End
 expired lcid clock e =
     with_bearer_of lcid
-    (of (bearer_of lcid e).lcid (alive (flow_expired (bearer_of lcid e).state.flow clock))) e
+    (of (bearer_of lcid e).channel (alive (flow_expired (bearer_of lcid e).state.flow clock))) e

@@ -13,12 +13,12 @@ refusal lcid sdu e = flow_refusal (bearer_of lcid e).state.flow sdu
 unfoldable pub submitted : ℕ → List ℕ → End → End
 submitted lcid sdu e =
     with_bearer_of lcid
-    (of (bearer_of lcid e).lcid (alive (flow_submitted (bearer_of lcid e).state.flow sdu))) e
+    (of (bearer_of lcid e).channel (alive (flow_submitted (bearer_of lcid e).state.flow sdu))) e
 
 -- the length of a bearer's discard timers
 unfoldable pub discarding : ℕ → ℕ → End → End
 discarding lcid ttis e =
     with_bearer_of lcid
-    (of (bearer_of lcid e).lcid
+    (of (bearer_of lcid e).channel
     (record (bearer_of lcid e).state { flow = with_discard (bearer_of lcid e).state.flow ttis }))
     e

@@ -93,9 +93,9 @@ gathered lcid written number events b = record {
 -- the bearer at a place writes
 abbrev pub wrote : ℕ → Of Life → ℕ → ℕ → Option ℕ → Work → Work
 wrote at b lcid share held w = work
-    (slice_set w.bearers at (of b.lcid (alive (after b.state.flow share held))))
+    (slice_set w.bearers at (of b.channel (alive (after b.state.flow share held))))
     (gathered lcid (pdus b.state.flow share held) (number b.state.flow share held)
-    (told b.lcid b.state.flow share held) w.block)
+    (told b.channel.lcid b.state.flow share held) w.block)
 
 -- the bearer of a channel writes within a share
 abbrev pub writes : ℕ → ℕ → Option ℕ → Work → Work

@@ -1,10 +1,11 @@
 // One end of the link.
-ghost use Rattle.std.specs.Prelude.{◌≡◌, replicate, None};
-ghost use Rattle.l2_node.specs.End.{fresh, reset, with_visits};
+ghost use Rattle.std.specs.Prelude.{◌≡◌, ◌<◌, replicate, None};
+ghost use Rattle.l2_node.specs.End.{fresh, reset, with_channel, with_visits};
 
 use crate::finding::Numbers;
 use bearer::{Bearer, Running, Side};
 use harq::{Receiver, Sender};
+use l2_types::Channel;
 use prioritise::Buckets;
 use std::alloc::Global;
 use std::marker::Model;
@@ -80,6 +81,17 @@ impl End {
         self.sender.reset();
         self.receiver.reset();
         self.numbers = no_numbers();
+    }
+}
+
+// A channel more, where its LCID has none.
+pub(crate) fn add_channel(channel: Channel, buckets: &mut Buckets)
+    requires lcid { channel.lcid < 11 }
+    requires group { channel.group < 4 }
+    ensures { buckets.new ≡ with_channel channel buckets.old }
+{
+    if !buckets.has(channel.lcid) {
+        buckets.add(channel);
     }
 }
 

@@ -3,18 +3,19 @@ ghost use Rattle.std.specs.Prelude.{◌≡◌, ◌++◌, ◌∷◌, [], ℕ, len
 ghost use Rattle.bearer.specs.Bearer.{of, alive};
 ghost use Rattle.bearer.specs.Lives.{stopped, stopping, restarted};
 ghost use Rattle.l2_node.specs.Moving.{left_cell, leaving, all_stopped, all_stopping};
-ghost use Rattle.l2_node.specs.Moving.{all_restarted};
+ghost use Rattle.l2_node.specs.Moving.{all_restarted, with_channels};
 
-use crate::end::End;
+use crate::end::{End, add_channel};
 use bearer::{Bearer, Events, Running};
 use eps_sec::Keys;
 use handover::{Package, abandon, accept, release};
 use l2_bits::NoMemory;
+use prioritise::Buckets;
 use std::collections::VecDeque;
 use std::mem;
 
 impl End {
-    // Each bearer is stopped, in turn, and packed; MAC is reset.
+    // Each bearer is stopped, in turn, and packed with its channel; MAC is reset.
     #[tactic(auto, unfolding(crate::specs::Moving::left_cell, crate::specs::Moving::leaving))]
     pub fn leave(&mut self, packages: &mut VecDeque<Package>) -> Result<Events, NoMemory>
         requires { packages.old.items ≡ [] }
@@ -25,6 +26,7 @@ impl End {
         let mut events = Events::new(self.alloc);
         let bearers = mem::replace(&mut self.bearers, Vec::new(self.alloc));
         stop_all(bearers, packages, &mut events)?;
+        self.buckets = Buckets::new();
         self.reset();
         Ok(events)
     }
@@ -52,7 +54,7 @@ fn stop_one(
     events: &mut Events,
 ) -> Result<(), NoMemory>
     ensures packages { OnOk result (packages.new.items
-        ≡ packages.old.items ++ of bearer.lcid (stopped bearer.state.flow) ∷ []) }
+        ≡ packages.old.items ++ of bearer.channel (stopped bearer.state.flow) ∷ []) }
     ensures events { OnOk result (events.new ≡ events.old ++ stopping bearer.state.flow) }
 {
     match bearer.stop() {
@@ -67,19 +69,24 @@ fn stop_one(
     }
 }
 
-// Accepts packages, each in turn, under other keys.
+// Accepts packages, each in turn, under other keys, and adds their channels.
 pub(crate) fn accept_all(
     packages: &mut VecDeque<Package>,
     keys: &Keys,
     bearers: &mut Vec<Bearer<Running>>,
+    buckets: &mut Buckets,
 ) -> Result<(), NoMemory>
     ensures bearers { OnOk result (bearers.new.items
         ≡ bearers.old.items ++ all_restarted packages.old.items keys.now) }
+    ensures buckets { OnOk result (buckets.new ≡ with_channels packages.old.items buckets.old) }
     ensures packages { OnOk result (packages.new.items ≡ []) }
 {
     while let Some(one) = packages.pop_front() {
         match accept(one, keys) {
-            Ok(bearer) => bearers.push(bearer)?,
+            Ok(bearer) => {
+                add_channel(bearer.channel(), buckets);
+                bearers.push(bearer)?;
+            }
             Err((one, no_memory)) => {
                 abandon(one);
                 return Err(no_memory);

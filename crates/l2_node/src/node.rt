@@ -93,14 +93,14 @@ impl<S: Drop> Drop for Node<S> {
 }
 
 impl Node<Attached> {
-    /// A node without bearers. A HARQ process has 1 to 28 visits for a block; `reports` says
-    /// whether a terminal reports its buffers in padding. It takes no memory.
-    pub fn new(alloc: Global, side: Side, harq: u32, reports: bool) -> Node<Attached>
-        ensures { result ≡ attached (fresh side harq reports) }
+    /// A node without bearers. A HARQ process has 1 to 28 visits for a block; `report` says whether
+    /// a terminal reports its buffers in padding. It takes no memory.
+    pub fn new(alloc: Global, side: Side, harq: u32, report: bool) -> Node<Attached>
+        ensures { result ≡ attached (fresh side harq report) }
     {
         Node {
             state: Attached {
-                end: End::new(alloc, side, harq, reports),
+                end: End::new(alloc, side, harq, report),
                 dead: false,
             },
         }
@@ -349,8 +349,8 @@ impl Node<Attached> {
         self.state.end.left()
     }
 
-    /// Leaves the cell: each bearer is stopped, in ascending LCID, and MAC is reset (TS 36.331
-    /// 5.3.5.4). An `Err` gives back a node that has run out of memory.
+    /// Leaves the cell: each bearer is stopped, in ascending LCID, and packed with its channel, and
+    /// MAC is reset (TS 36.331 5.3.5.4). An `Err` gives back a node that has run out of memory.
     #[tactic(auto, unfolding(crate::specs::Moving::left_cell))]
     pub fn leave(self) -> Result<(Node<Moving>, Events), (Node<Attached>, NoMemory)>
         ensures node { IfOk result (λ r. r.0 ≡ left_cell self.end) }
@@ -384,8 +384,8 @@ impl Node<Attached> {
 }
 
 impl Node<Moving> {
-    /// Joins a cell under other keys: each bearer begins its next life, in ascending LCID. An `Err`
-    /// gives back a node that has run out of memory.
+    /// Joins a cell under other keys: each bearer begins its next life, in ascending LCID, and its
+    /// channel has an empty bucket. An `Err` gives back a node that has run out of memory.
     #[tactic(auto, unfolding(crate::specs::Moving::joined))]
     pub fn join(self, keys: &Keys) -> Result<Node<Attached>, (Node<Moving>, NoMemory)>
         ensures node { IfOk result (λ n. n ≡ attached (joined self keys.now)) }
@@ -402,7 +402,7 @@ impl Node<Moving> {
             Err(NoMemory)
         } else {
             end.bearers = Vec::new(end.alloc);
-            accept_all(&mut packages, keys, &mut end.bearers)
+            accept_all(&mut packages, keys, &mut end.bearers, &mut end.buckets)
         };
         match answer {
             Ok(()) => {

@@ -7,7 +7,7 @@ ghost use Rattle.l2_node.specs.Finding.{has};
 ghost use Rattle.l2_node.specs.Submitting.{refusal, submitted, discarding};
 ghost use Rattle.l2_node.specs.Sums.{all_left, left};
 
-use crate::end::End;
+use crate::end::{End, add_channel};
 use crate::finding::{find, place_of};
 use bearer::{Bearer, BearerConfig, Running};
 use eps_sec::Keys;
@@ -23,9 +23,7 @@ impl End {
         let bearer = Bearer::new(self.alloc, config, keys, self.side)?;
         let at = place_of(config.channel.lcid, self.bearers.as_slice());
         self.bearers.insert(at, bearer)?;
-        if !self.buckets.has(config.channel.lcid) {
-            self.buckets.add(config.channel);
-        }
+        add_channel(config.channel, &mut self.buckets);
         Ok(())
     }
 

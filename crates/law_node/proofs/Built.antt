@@ -185,7 +185,8 @@ module _ (P : Event → Type 0)
   writes_if : (t : Bool) (b : Of Life) (at lcid share : ℕ) (held : Option ℕ) (w : Writing) → AreAll w.block.events
       → AreAll (if t then wrote at b lcid share held w else w).block.events
   writes_if true b at lcid share held w p =
-      all_both w.block.events (told b.lcid b.state.flow share held) p (flow_all b.lcid b.state.flow share held)
+      all_both w.block.events (told b.channel.lcid b.state.flow share held) p
+      (flow_all b.channel.lcid b.state.flow share held)
   writes_if false b at lcid share held w p = p
 
   channels_all : (sender : Sending) (numbers : Numbers) (amounts : List ℕ) (cs : List Channel) (w : Writing)

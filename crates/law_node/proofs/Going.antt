@@ -45,14 +45,14 @@ use Rattle.law_node.proofs.Keeping.{AllAre, at_is, share_most, writes_are, call_
 use Rattle.law_node.proofs.Owning.{own, IsOwn, own_kept, own_is}
 use Rattle.law_node.proofs.Places.{found}
 use Rattle.law_node.proofs.Silences.{writes_nothing}
-use Rattle.law_node.proofs.Sound.{visited_sound, call_sound}
+use Rattle.law_node.proofs.Sound.{visited_sound, HasSoundChannels, call_channels_sound}
 use Rattle.law_node.proofs.Steps.{Goes, IsTaken, rests, goes_then, set_goes, quiet, moved_goes, insert_goes}
 
 -- ---- calls in which nothing is taken
 
 -- a call of the bearer of a channel; where there is none, nothing changes
 on_goes : (t : Bool) (l m : ℕ) (bs : List (Of Life)) (x : Of Life) (c : BearerCall) → has m bs ≡ t
-    → (bearer_at bs (find m bs)).lcid ≡ x.lcid → x.state.flow ≡ called (flow_at m bs) c
+    → (bearer_at bs (find m bs)).channel.lcid ≡ x.channel.lcid → x.state.flow ≡ called (flow_at m bs) c
     → ((f : Flow) → takes f c ≡ []) → Goes l bs (set bs (find m bs) x) [] []
 on_goes true l m bs x c h same e none = set_goes l bs (find m bs) x c [] same e (quiet l (find m bs) bs c none)
 on_goes false l m bs x c h same e none =
@@ -63,7 +63,7 @@ sdu_goes : (t : Bool) (l m : ℕ) (pdu : List ℕ) (h : Heard) → has m h.beare
     → Goes l h.bearers (hears_sdu m pdu h).bearers [] []
 sdu_goes true l m pdu h e =
     let b = bearer_at h.bearers (find m h.bearers) in
-    rw e (on_goes true l m h.bearers (of b.lcid (alive (flow_arrived b.state.flow pdu))) (Arrives pdu) e refl refl
+    rw e (on_goes true l m h.bearers (of b.channel (alive (flow_arrived b.state.flow pdu))) (Arrives pdu) e refl refl
     (λ f. refl))
 sdu_goes false l m pdu h e = rw e (rests l h.bearers)
 
@@ -89,7 +89,7 @@ ticks_goes l [] at h = rests l h.bearers
 ticks_goes l (b ∷ bs) at h =
     let y = bearer_at h.bearers at in
     goes_then l h.bearers (ticks_at at h).bearers (ticks_over bs (at + 1) (ticks_at at h)).bearers [] [] [] []
-    (set_goes l h.bearers at (of y.lcid (alive (flow_ticked y.state.flow))) Ticks [] refl refl
+    (set_goes l h.bearers at (of y.channel (alive (flow_ticked y.state.flow))) Ticks [] refl refl
     (quiet l at h.bearers Ticks (λ f. refl)))
     (ticks_goes l bs (at + 1) (ticks_at at h))
 
@@ -98,7 +98,7 @@ submit_goes : (r : Option SubmitRefusal) (l lcid : ℕ) (octets : List ℕ) (e :
 unfolding submitted
 submit_goes None l lcid octets e =
     let b = bearer_of lcid e in
-    on_goes (has lcid e.bearers) l lcid e.bearers (of b.lcid (alive (flow_submitted b.state.flow octets)))
+    on_goes (has lcid e.bearers) l lcid e.bearers (of b.channel (alive (flow_submitted b.state.flow octets)))
     (Submits octets) refl refl refl (λ f. refl)
 submit_goes (Some why) l lcid octets e = rests l e.bearers
 
@@ -107,24 +107,26 @@ submit_goes (Some why) l lcid octets e = rests l e.bearers
 -- the bearer of a channel writes: what it tells as taken is of the channel
 took : (l m share : ℕ) (held : Option ℕ) (bs : List (Of Life)) → has m bs ≡ true → AllAre IsOwn bs
     → IsTaken l (find m bs) bs (Taking share held)
-    (counts_on l (told (bearer_at bs (find m bs)).lcid (flow_at m bs) share held))
+    (counts_on l (told (bearer_at bs (find m bs)).channel.lcid (flow_at m bs) share held))
 took l m share held bs h a =
     let b = bearer_at bs (find m bs) in
     let all = counts (takes b.state.flow (Taking share held)) in
-    let told_is = told_counts l b.lcid b.state.flow share held in
-    let is_m : own b.lcid b.state.flow ≡ m = own_is b.lcid b.state.flow (at_is IsOwn bs (find m bs) own_kept a)
+    let told_is = told_counts l b.channel.lcid b.state.flow share held in
+    let is_m : own b.channel.lcid b.state.flow ≡ m =
+    own_is b.channel.lcid b.state.flow (at_is IsOwn bs (find m bs) own_kept a)
     ∙ found m bs h in
     record {
       here = λ there q.
-          let same : m ≡ l = sym (found m bs h) ∙ ap (λ (k : ℕ). (bearer_at bs k).lcid) q ∙ found l bs there in
-          let test : (own b.lcid b.state.flow == l) ≡ true = tests_same (own b.lcid b.state.flow) l (is_m ∙ same) in
+          let same : m ≡ l = sym (found m bs h) ∙ ap (λ (k : ℕ). (bearer_at bs k).channel.lcid) q ∙ found l bs there in
+          let test : (own b.channel.lcid b.state.flow == l) ≡ true =
+          tests_same (own b.channel.lcid b.state.flow) l (is_m ∙ same) in
           told_is ∙ ap (λ (t : Bool). only t all) test
           ∙ ap (λ (k : ℕ). counts (takes (bearer_at bs k).state.flow (Taking share held))) q;
       apart = λ other_place.
           let other : m ≡ l → ⊥ =
           λ same. other_place (subst (λ (k : ℕ). has k bs ≡ true) same h) (ap (λ (k : ℕ). find k bs) same) in
-          let test : (own b.lcid b.state.flow == l) ≡ false =
-          tests_other (own b.lcid b.state.flow) l (λ same. other (sym is_m ∙ same)) in
+          let test : (own b.channel.lcid b.state.flow == l) ≡ false =
+          tests_other (own b.channel.lcid b.state.flow) l (λ same. other (sym is_m ∙ same)) in
           told_is ∙ ap (λ (t : Bool). only t all) test;
     }
   where
@@ -151,11 +153,11 @@ one_writes : (t : Bool) (l m share : ℕ) (held : Option ℕ) (w : Work) → has
 one_writes true l m share held w h a =
     let at = find m w.bearers in
     let b = bearer_at w.bearers at in
-    let more = told b.lcid b.state.flow share held in
+    let more = told b.channel.lcid b.state.flow share held in
     rw h (record {
       taken = counts_on l more;
       told_is = counts_then l w.block.events more;
-      goes = set_goes l w.bearers at (of b.lcid (alive (flow_after b.state.flow share held))) (Taking share held)
+      goes = set_goes l w.bearers at (of b.channel (alive (flow_after b.state.flow share held))) (Taking share held)
           (counts_on l more) refl refl (took l m share held w.bearers h a);
     })
 one_writes false l m share held w h a = rw h (none_write l w)
@@ -217,7 +219,7 @@ call_goes l e (Submit lcid octets) g s a free = submit_goes (refusal lcid octets
 call_goes l e (SetDiscard lcid ttis) g s a free =
     let b = bearer_of lcid e in
     on_goes (has lcid e.bearers) l lcid e.bearers
-    (of b.lcid (record b.state { flow = with_discard b.state.flow ttis })) (Discards ttis) refl refl refl
+    (of b.channel (record b.state { flow = with_discard b.state.flow ttis })) (Discards ttis) refl refl refl
     (λ f. refl)
 call_goes l e Tick g s a free =
     told_none l e.bearers (ticked e).bearers [] (ticked e).events (writes_nothing e).ticking
@@ -235,13 +237,13 @@ call_goes l e (Expire lcid clock) g s a free =
     let b = bearer_of lcid e in
     told_none l e.bearers (expired lcid clock e).bearers [] (unwrap_or (expiry lcid clock e) [])
     (expiry_none (expiry lcid clock e) ((writes_nothing e).expiring lcid clock))
-    (on_goes (has lcid e.bearers) l lcid e.bearers (of b.lcid (alive (flow_expired b.state.flow clock)))
+    (on_goes (has lcid e.bearers) l lcid e.bearers (of b.channel (alive (flow_expired b.state.flow clock)))
     (Expires clock) refl refl refl (λ f. refl))
 call_goes l e (Move keys) g s a free =
     told_none l e.bearers (all_restarted (all_stopped e.bearers) keys) (keys ∷ []) (leaving e)
     (writes_nothing e).moving (moved_goes l e.bearers keys)
 
-pub run_goes : (l : ℕ) (cs : List Call) (e : End) → AreGiven cs → IsSound e.buckets → AllAre IsOwn e.bearers
+pub run_goes : (l : ℕ) (cs : List Call) (e : End) → AreGiven cs → HasSoundChannels e → AllAre IsOwn e.bearers
     → AddNone l cs → Goes l e.bearers (run_end cs e).bearers (moves cs) (counts_on l (told_over cs e))
 run_goes l [] e g s a free = rests l e.bearers
 run_goes l (c ∷ cs) e g s a free =
@@ -250,5 +252,6 @@ run_goes l (c ∷ cs) e g s a free =
     (sym (counts_then l (told_of e c) more))
     (goes_then l e.bearers (after e c).bearers (run_end cs (after e c)).bearers (keys_in c) (moves cs)
     (counts_on l (told_of e c)) (counts_on l more)
-    (call_goes l e c g.0 s a free.0)
-    (run_goes l cs (after e c) g.1 (call_sound e c g.0 s) (call_are IsOwn own_kept e c g.0 s a) free.1))
+    (call_goes l e c g.0 s.buckets_are a free.0)
+    (run_goes l cs (after e c) g.1 (call_channels_sound e c g.0 s) (call_are IsOwn own_kept e c g.0 s.buckets_are a)
+    free.1))

@@ -8,7 +8,6 @@ use Rattle.std.proofs.lemmas.List.{get_or_past}
 use Rattle.std.proofs.Math.ListN.{length-set}
 use Rattle.bearer.specs.Bearer.{Of, of, Life, alive, begun}
 use Rattle.bearer.specs.declared.flow.Flow.{Flow}
-use Rattle.bearer.specs.declared.flow.Flow.TheVariants.{Tm}
 use Rattle.bearer.specs.declared.flow.StoppedFlow.{StoppedFlow}
 use Rattle.bearer.specs.Hearing.{arrived as flow_arrived, expired as flow_expired, ticked as flow_ticked, with_discard}
 use Rattle.bearer.specs.Submitting.{submitted as flow_submitted}
@@ -25,11 +24,10 @@ use Rattle.l2_types.specs.declared.side.Side.{Side}
 use Rattle.mac_pdu.specs.declared.fault.MacRefusal.{MacRefusal}
 use Rattle.mac_pdu.specs.Items.{MacItem, front, element, sdu, padding}
 use Rattle.mac_pdu.specs.Reading.{reading}
-use Rattle.rlc_um.specs.Transparent.{nothing_submitted}
 use Rattle.l2_node.specs.Building.{visited, loaded, built_by, built, visit}
 use Rattle.l2_node.specs.End.{End, fresh, no_numbers, with_bearer, reset, with_visits}
 use Rattle.bearer_types.specs.Sides.{heard_by}
-use Rattle.l2_node.specs.Finding.{Numbers, find, has, place, bearer_at, number_at, counted, lowest}
+use Rattle.l2_node.specs.Finding.{Numbers, find, has, place, no_bearer, bearer_at, number_at, counted, lowest}
 use Rattle.l2_node.specs.Hearing.{Heard, heard, hears_sdu, hears, hears_all, heard_items, received, ticks_at}
 use Rattle.l2_node.specs.Hearing.{ticks_over, ticked, bearer_of, expired}
 use Rattle.l2_node.specs.Moving.{all_stopped, all_restarted, left_cell, joined}
@@ -59,11 +57,11 @@ all_then : (bs cs ds : List (Of Life)) → AllAge bs cs → AllAge cs ds → All
 all_then bs cs ds f g l = ages_then (flow_at l bs) (flow_at l cs) (flow_at l ds) (f l) (g l)
 
 -- one in a place goes on
-set_all : (bs : List (Of Life)) (at : ℕ) (x : Of Life) → (bearer_at bs at).lcid ≡ x.lcid
+set_all : (bs : List (Of Life)) (at : ℕ) (x : Of Life) → (bearer_at bs at).channel.lcid ≡ x.channel.lcid
     → Ages (bearer_at bs at).state.flow x.state.flow → AllAge bs (set bs at x)
 set_all bs at x e a l =
     let same = find_set l bs at x e in
-    let d : Of Life = of 0 (alive (Tm nothing_submitted)) in
+    let d : Of Life = no_bearer in
     subst (λ (k : ℕ). Ages (flow_at l bs) (get_or (set bs at x) k d).state.flow) (sym same)
     (elim (set_cases bs at (find l bs) x d) [
       | inl new ↦
@@ -73,7 +71,7 @@ set_all bs at x e a l =
     ])
 
 -- a new one stands before those of its LCID
-cons_by : (t : Bool) (b : Of Life) (bs ds : List (Of Life)) (l : ℕ) → (b.lcid == l) ≡ t
+cons_by : (t : Bool) (b : Of Life) (bs ds : List (Of Life)) (l : ℕ) → (b.channel.lcid == l) ≡ t
     → Ages (flow_at l bs) (flow_at l ds) → Ages (flow_at l (b ∷ bs)) (flow_at l (b ∷ ds))
 cons_by true b bs ds l e a = rw (e, flow_at) (stays b.state.flow)
 cons_by false b bs ds l e a =
@@ -81,7 +79,7 @@ cons_by false b bs ds l e a =
     let there : find l ds + 1 ≡ suc (find l ds) = omega arith in
     rw (e, flow_at, here, there) a
 
-first_by : (t : Bool) (x : Of Life) (bs : List (Of Life)) (l : ℕ) → (x.lcid == l) ≡ t
+first_by : (t : Bool) (x : Of Life) (bs : List (Of Life)) (l : ℕ) → (x.channel.lcid == l) ≡ t
     → ((f : Flow) → Ages f x.state.flow) → Ages (flow_at l bs) (flow_at l (x ∷ bs))
 first_by true x bs l e a = rw (e, flow_at) (a (flow_at l bs))
 first_by false x bs l e a =
@@ -93,13 +91,13 @@ place_all : (t : Bool) (b : Of Life) (bs : List (Of Life)) (x : Of Life) (m l : 
     → Ages (flow_at l (b ∷ bs)) (flow_at l (insert (b ∷ bs) (if t then place m bs + 1 else 0) x))
 place_all true b bs x m l a ih =
     let next : place m bs + 1 ≡ suc (place m bs) = omega arith in
-    rw next (cons_by (b.lcid == l) b bs (insert bs (place m bs) x) l refl ih)
-place_all false b bs x m l a ih = first_by (x.lcid == l) x (b ∷ bs) l refl a
+    rw next (cons_by (b.channel.lcid == l) b bs (insert bs (place m bs) x) l refl ih)
+place_all false b bs x m l a ih = first_by (x.channel.lcid == l) x (b ∷ bs) l refl a
 
 insert_all : (bs : List (Of Life)) (x : Of Life) (m : ℕ) → ((f : Flow) → Ages f x.state.flow)
     → AllAge bs (insert bs (place m bs) x)
-insert_all [] x m a l = first_by (x.lcid == l) x [] l refl a
-insert_all (b ∷ bs) x m a l = place_all (nat_lt b.lcid m) b bs x m l a (insert_all bs x m a l)
+insert_all [] x m a l = first_by (x.channel.lcid == l) x [] l refl a
+insert_all (b ∷ bs) x m a l = place_all (nat_lt b.channel.lcid m) b bs x m l a (insert_all bs x m a l)
 
 -- ---- what a call makes of them
 
@@ -108,7 +106,7 @@ ticks_all [] at h = λ l. stays (flow_at l h.bearers)
 ticks_all (b ∷ bs) at h =
     let one =
     set_all h.bearers at
-    (of (bearer_at h.bearers at).lcid (alive (flow_ticked (bearer_at h.bearers at).state.flow))) refl
+    (of (bearer_at h.bearers at).channel (alive (flow_ticked (bearer_at h.bearers at).state.flow))) refl
     (ticked_ages (bearer_at h.bearers at).state.flow) in
     all_then h.bearers (ticks_at at h).bearers (ticks_over bs (at + 1) (ticks_at at h)).bearers one
     (ticks_all bs (at + 1) (ticks_at at h))
@@ -117,7 +115,7 @@ sdu_by : (t : Bool) (lcid : ℕ) (pdu : List ℕ) (h : Heard) → has lcid h.bea
     → AllAge h.bearers (hears_sdu lcid pdu h).bearers
 sdu_by true lcid pdu h e =
     let b = bearer_at h.bearers (find lcid h.bearers) in
-    rw e (set_all h.bearers (find lcid h.bearers) (of b.lcid (alive (flow_arrived b.state.flow pdu))) refl
+    rw e (set_all h.bearers (find lcid h.bearers) (of b.channel (alive (flow_arrived b.state.flow pdu))) refl
     (arrived_ages b.state.flow pdu))
 sdu_by false lcid pdu h e = rw e (λ l. stays (flow_at l h.bearers))
 
@@ -183,14 +181,14 @@ record Writes (s : Sending) (numbers : Numbers) (w : Work) : Type 0 where
 -- the bearers once that of a channel has taken
 abbrev taken_from : ℕ → ℕ → Option ℕ → List (Of Life) → List (Of Life)
 taken_from m share held bs =
-    set bs (find m bs) (of (bearer_at bs (find m bs)).lcid (alive (flow_after (flow_at m bs) share held)))
+    set bs (find m bs) (of (bearer_at bs (find m bs)).channel (alive (flow_after (flow_at m bs) share held)))
 
 wrote_here : (m share : ℕ) (held : Option ℕ) (bs : List (Of Life)) → has m bs ≡ true
     → flow_at m (taken_from m share held bs) ≡ flow_after (flow_at m bs) share held
 wrote_here m share held bs h =
     let b = bearer_at bs (find m bs) in
-    let d : Of Life = of 0 (alive (Tm nothing_submitted)) in
-    let x : Of Life = of b.lcid (alive (flow_after (flow_at m bs) share held)) in
+    let d : Of Life = no_bearer in
+    let x : Of Life = of b.channel (alive (flow_after (flow_at m bs) share held)) in
     let lt : find m bs < length bs = grind (arith, nat_tests) in
     ap (λ (k : ℕ). (bearer_at (set bs (find m bs) x) k).state.flow) (find_set m bs (find m bs) x refl)
     ∙ ap (λ (y : Of Life). y.state.flow) (get_or-set_same bs (find m bs) x d lt)
@@ -199,15 +197,15 @@ wrote_other : (m share : ℕ) (held : Option ℕ) (bs : List (Of Life)) (l : ℕ
     → flow_at l (taken_from m share held bs) ≡ flow_at l bs
 wrote_other m share held bs l h apart =
     let b = bearer_at bs (find m bs) in
-    let d : Of Life = of 0 (alive (Tm nothing_submitted)) in
-    let x : Of Life = of b.lcid (alive (flow_after (flow_at m bs) share held)) in
+    let d : Of Life = no_bearer in
+    let x : Of Life = of b.channel (alive (flow_after (flow_at m bs) share held)) in
     ap (λ (k : ℕ). (bearer_at (set bs (find m bs) x) k).state.flow) (find_set l bs (find m bs) x refl)
     ∙ ap (λ (y : Of Life). y.state.flow)
     (get_or-set_other bs (find m bs) (find l bs) x d (λ at. apart (same_place l m bs h at)))
   where
     same_place : (l m : ℕ) (bs : List (Of Life)) → has m bs ≡ true → find l bs ≡ find m bs → l ≡ m
     same_place l m bs h at = sym (found l bs (ap (λ (k : ℕ). nat_lt k (length bs)) at ∙ h))
-        ∙ ap (λ (k : ℕ). (bearer_at bs k).lcid) at ∙ found m bs h
+        ∙ ap (λ (k : ℕ). (bearer_at bs k).channel.lcid) at ∙ found m bs h
 
 -- a number isn't too old for a bearer
 abbrev IsYoung : Flow → ℕ → Type 0
@@ -336,11 +334,11 @@ visited_young tti order e y =
 -- a bearer of a channel goes on
 one_young : (lcid : ℕ) (b : Life) (e : End) → Ages (bearer_of lcid e).state.flow b.flow
     → Young e.bearers e.sender e.numbers
-    → Young (set e.bearers (find lcid e.bearers) (of (bearer_of lcid e).lcid b)) e.sender e.numbers
+    → Young (set e.bearers (find lcid e.bearers) (of (bearer_of lcid e).channel b)) e.sender e.numbers
 one_young lcid b e a y =
-    let ds = set e.bearers (find lcid e.bearers) (of (bearer_of lcid e).lcid b) in
+    let ds = set e.bearers (find lcid e.bearers) (of (bearer_of lcid e).channel b) in
     aged e.bearers ds e.sender e.numbers
-    (set_all e.bearers (find lcid e.bearers) (of (bearer_of lcid e).lcid b) refl a) y
+    (set_all e.bearers (find lcid e.bearers) (of (bearer_of lcid e).channel b) refl a) y
 
 restarted_at : (ps : List (Of StoppedFlow)) (keys : Keys) (k : ℕ)
     → Stands (bearer_at (all_restarted ps keys) k).state.flow

@@ -38,7 +38,7 @@ use Rattle.law_node.specs.Calls.{Turn, Call, SetVisits, SetReports, Add, Submit,
 use Rattle.law_node.specs.Calls.{Grants, Granted, Assigned, Pass, Receive, Expire, Move, IsGiven, AreGiven, answered}
 use Rattle.law_node.specs.Calls.{after_submit, after, run_end, reached}
 use Rattle.law_node.proofs.Sharing.{shared_of}
-use Rattle.law_node.proofs.Sound.{none_sound, visited_sound, call_sound}
+use Rattle.law_node.proofs.Sound.{visited_sound, HasSoundChannels, call_channels_sound, fresh_channels_sound}
 
 -- a property of bearers by their LCID: each begins with it, and no call takes it away
 pub record IsKept (P : ℕ → Flow → Type 0) : Type 0 where
@@ -57,22 +57,22 @@ pub record IsKept (P : ℕ → Flow → Type 0) : Type 0 where
 
 abbrev pub AllAre : (ℕ → Flow → Type 0) → List (Of Life) → Type 0
 AllAre P [] = Unit {0}
-AllAre P (b ∷ bs) = P b.lcid b.state.flow × AllAre P bs
+AllAre P (b ∷ bs) = P b.channel.lcid b.state.flow × AllAre P bs
 
 pub at_is : (P : ℕ → Flow → Type 0) (bs : List (Of Life)) (at : ℕ) → IsKept P → AllAre P bs
-    → P (bearer_at bs at).lcid (bearer_at bs at).state.flow
+    → P (bearer_at bs at).channel.lcid (bearer_at bs at).state.flow
 at_is P [] at k a = k.idle
 at_is P (b ∷ bs) zero k a = a.0
 at_is P (b ∷ bs) (suc at) k a = at_is P bs at k a.1
 
 pub set_are : (P : ℕ → Flow → Type 0) (bs : List (Of Life)) (at : ℕ) (x : Of Life) → AllAre P bs
-    → P x.lcid x.state.flow → AllAre P (set bs at x)
+    → P x.channel.lcid x.state.flow → AllAre P (set bs at x)
 set_are P [] at x a i = tt
 set_are P (b ∷ bs) zero x a i = (i, a.1)
 set_are P (b ∷ bs) (suc at) x a i = (a.0, set_are P bs at x a.1 i)
 
 insert_are : (P : ℕ → Flow → Type 0) (bs : List (Of Life)) (at : ℕ) (x : Of Life) → AllAre P bs
-    → P x.lcid x.state.flow → AllAre P (insert bs at x)
+    → P x.channel.lcid x.state.flow → AllAre P (insert bs at x)
 insert_are P bs zero x a i = (i, a)
 insert_are P [] (suc at) x a i = (i, tt)
 insert_are P (b ∷ bs) (suc at) x a i = (a.0, insert_are P bs at x a.1 i)
@@ -84,8 +84,8 @@ sdu_are : (P : ℕ → Flow → Type 0) (k : IsKept P) (t : Bool) (lcid : ℕ) (
 sdu_are P k true lcid pdu h e a =
     let at = find lcid h.bearers in
     let b = bearer_at h.bearers at in
-    rw e (set_are P h.bearers at (of b.lcid (alive (flow_arrived b.state.flow pdu))) a
-    (k.arrives b.lcid b.state.flow pdu (at_is P h.bearers at k a)))
+    rw e (set_are P h.bearers at (of b.channel (alive (flow_arrived b.state.flow pdu))) a
+    (k.arrives b.channel.lcid b.state.flow pdu (at_is P h.bearers at k a)))
 sdu_are P k false lcid pdu h e a = rw e a
 
 pub item_are : (P : ℕ → Flow → Type 0) (k : IsKept P) (i : MacItem) (h : Heard) → AllAre P h.bearers
@@ -111,13 +111,13 @@ ticks_are P k [] at h a = a
 ticks_are P k (b ∷ bs) at h a =
     let x = bearer_at h.bearers at in
     ticks_are P k bs (at + 1) (ticks_at at h)
-    (set_are P h.bearers at (of x.lcid (alive (flow_ticked x.state.flow))) a
-    (k.ticks x.lcid x.state.flow (at_is P h.bearers at k a)))
+    (set_are P h.bearers at (of x.channel (alive (flow_ticked x.state.flow))) a
+    (k.ticks x.channel.lcid x.state.flow (at_is P h.bearers at k a)))
 
 moved_are : (P : ℕ → Flow → Type 0) (k : IsKept P) (bs : List (Of Life)) (keys : Keys) → AllAre P bs
     → AllAre P (all_restarted (all_stopped bs) keys)
 moved_are P k [] keys a = tt
-moved_are P k (b ∷ bs) keys a = (k.moves b.lcid b.state.flow keys a.0, moved_are P k bs keys a.1)
+moved_are P k (b ∷ bs) keys a = (k.moves b.channel.lcid b.state.flow keys a.0, moved_are P k bs keys a.1)
 
 -- ---- a new block
 
@@ -135,8 +135,8 @@ pub writes_are : (P : ℕ → Flow → Type 0) (k : IsKept P) (t : Bool) (lcid s
 writes_are P k true lcid share held w e most a =
     let at = find lcid w.bearers in
     let b = bearer_at w.bearers at in
-    rw e (set_are P w.bearers at (of b.lcid (alive (flow_after b.state.flow share held))) a
-    (k.takes b.lcid b.state.flow share held most (at_is P w.bearers at k a)))
+    rw e (set_are P w.bearers at (of b.channel (alive (flow_after b.state.flow share held))) a
+    (k.takes b.channel.lcid b.state.flow share held most (at_is P w.bearers at k a)))
 writes_are P k false lcid share held w e most a = rw e a
 
 all_write_are : (P : ℕ → Flow → Type 0) (k : IsKept P) (s : Sending) (numbers : Numbers) (amounts : List ℕ)
@@ -170,8 +170,8 @@ submit_are : (P : ℕ → Flow → Type 0) (k : IsKept P) (r : Option SubmitRefu
 unfolding submitted refusal
 submit_are P k None lcid octets e h a =
     let b = bearer_of lcid e in
-    set_are P e.bearers (find lcid e.bearers) (of b.lcid (alive (flow_submitted b.state.flow octets))) a
-    (k.submits b.lcid b.state.flow octets h (at_is P e.bearers (find lcid e.bearers) k a))
+    set_are P e.bearers (find lcid e.bearers) (of b.channel (alive (flow_submitted b.state.flow octets))) a
+    (k.submits b.channel.lcid b.state.flow octets h (at_is P e.bearers (find lcid e.bearers) k a))
 submit_are P k (Some why) lcid octets e h a = a
 
 pub call_are : (P : ℕ → Flow → Type 0) (k : IsKept P) (e : End) (c : Call) → IsGiven c → IsSound e.buckets
@@ -180,13 +180,14 @@ unfolding with_visits with_bearer begun discarding expired built joined left_cel
 call_are P k e (SetVisits maximum) g s a = a
 call_are P k e (SetReports reports) g s a = a
 call_are P k e (Add c keys) g s a =
-    insert_are P e.bearers (place c.channel.lcid e.bearers) (of c.channel.lcid (alive (flow_of c.kind c keys e.side)))
+    insert_are P e.bearers (place c.channel.lcid e.bearers) (of c.channel (alive (flow_of c.kind c keys e.side)))
     a (k.begins c keys e.side g)
 call_are P k e (Submit lcid octets) g s a = submit_are P k (refusal lcid octets e) lcid octets e refl a
 call_are P k e (SetDiscard lcid ttis) g s a =
     let b = bearer_of lcid e in
-    set_are P e.bearers (find lcid e.bearers) (of b.lcid (record b.state { flow = with_discard b.state.flow ttis })) a
-    (k.discards b.lcid b.state.flow ttis (at_is P e.bearers (find lcid e.bearers) k a))
+    set_are P e.bearers (find lcid e.bearers)
+    (of b.channel (record b.state { flow = with_discard b.state.flow ttis })) a
+    (k.discards b.channel.lcid b.state.flow ttis (at_is P e.bearers (find lcid e.bearers) k a))
 call_are P k e Tick g s a = ticks_are P k e.bearers 0 (heard e.bearers []) a
 call_are P k e TickBuckets g s a = a
 call_are P k e (Visits t) g s a =
@@ -199,20 +200,22 @@ call_are P k e (Pass tti) g s a = a
 call_are P k e (Receive block) g s a = block_are P k (reading (heard_by e.side) block) (heard e.bearers []) a
 call_are P k e (Expire lcid clock) g s a =
     let b = bearer_of lcid e in
-    set_are P e.bearers (find lcid e.bearers) (of b.lcid (alive (flow_expired b.state.flow clock))) a
-    (k.expires b.lcid b.state.flow clock (at_is P e.bearers (find lcid e.bearers) k a))
+    set_are P e.bearers (find lcid e.bearers) (of b.channel (alive (flow_expired b.state.flow clock))) a
+    (k.expires b.channel.lcid b.state.flow clock (at_is P e.bearers (find lcid e.bearers) k a))
 call_are P k e (Move keys) g s a = moved_are P k e.bearers keys a
 
-run_are : (P : ℕ → Flow → Type 0) (k : IsKept P) (cs : List Call) (e : End) → AreGiven cs → IsSound e.buckets
+run_are : (P : ℕ → Flow → Type 0) (k : IsKept P) (cs : List Call) (e : End) → AreGiven cs → HasSoundChannels e
     → AllAre P e.bearers → AllAre P (run_end cs e).bearers
 run_are P k [] e g s a = a
-run_are P k (c ∷ cs) e g s a = run_are P k cs (after e c) g.1 (call_sound e c g.0 s) (call_are P k e c g.0 s a)
+run_are P k (c ∷ cs) e g s a =
+    run_are P k cs (after e c) g.1 (call_channels_sound e c g.0 s) (call_are P k e c g.0 s.buckets_are a)
 
 pub reached_are : (P : ℕ → Flow → Type 0) → IsKept P
     → (side : Side) (maximum : ℕ) (reports : Bool) (calls : List Call) → AreGiven calls
     → AllAre P (reached side maximum reports calls).bearers
 unfolding fresh
-reached_are P k side maximum reports calls g = run_are P k calls (fresh side maximum reports) g none_sound tt
+reached_are P k side maximum reports calls g =
+    run_are P k calls (fresh side maximum reports) g (fresh_channels_sound side maximum reports) tt
 
 -- an end that has visited a process
 pub visiting_are : (P : ℕ → Flow → Type 0) → IsKept P

@@ -1,3 +1,5 @@
+pub mod Channels
+pub mod Standing
 pub mod Sound
 pub mod Sharing
 pub mod Processes
@@ -41,4 +43,3 @@ pub mod Reading
 pub mod Naming
 pub mod Signalling
 pub mod Ordered
-pub mod Standing

@@ -35,7 +35,7 @@ use Rattle.law_node.proofs.Going.{run_goes}
 use Rattle.law_node.proofs.Holding.{flow_at}
 use Rattle.law_node.proofs.Keeping.{AllAre, reached_are}
 use Rattle.law_node.proofs.Owning.{IsOwn, own_kept}
-use Rattle.law_node.proofs.Sound.{reached_sound}
+use Rattle.law_node.proofs.Sound.{reached_channels_sound}
 use Rattle.law_node.proofs.Steps.{Takes, Goes, Stands, insert_stands}
 
 -- ---- a bearer goes on
@@ -58,7 +58,7 @@ pub go_on : (side : Side) (maximum : ℕ) (reports : Bool) (past calls : List Ca
     → GoesOn lcid calls (reached side maximum reports past)
 go_on side maximum reports past calls lcid past_given given h free =
     let e = reached side maximum reports past in
-    let g = run_goes lcid calls e given (reached_sound side maximum reports past past_given)
+    let g = run_goes lcid calls e given (reached_channels_sound side maximum reports past past_given)
     (own_bearers side maximum reports past past_given) free in
     record {
       there = g.has_is ∙ h;
@@ -172,7 +172,7 @@ find_last lcid (c ∷ cs) = elim (find_last lcid cs) [
 pub added : (e : End) (config : BearerConfig) (keys : Keys)
     → Stands config.channel.lcid (after e (Add config keys)).bearers (flow_of config.kind config keys e.side)
 unfolding with_bearer begun
-added e config keys = insert_stands (of config.channel.lcid (alive (flow_of config.kind config keys e.side))) e.bearers
+added e config keys = insert_stands (of config.channel (alive (flow_of config.kind config keys e.side))) e.bearers
 
 lives_on : (side : Side) (maximum : ℕ) (reports : Bool) (calls : List Call) (lcid : ℕ) → AreGiven calls
     → IsLast lcid calls → IsAdded side maximum reports calls lcid
@@ -197,7 +197,7 @@ lives_on side maximum reports calls lcid g k =
     ∙ ap (λ (cs : List Call). run_end cs begin) (sym k.calls_are) in
     let told = counts_on lcid (told_over k.since d) in
     let one =
-    (run_goes lcid k.since d given.1 (reached_sound side maximum reports until given.0)
+    (run_goes lcid k.since d given.1 (reached_channels_sound side maximum reports until given.0)
     (own_bearers side maximum reports until given.0) k.last).goes there in
     record {
       before = k.before;
@@ -224,7 +224,7 @@ pub are_added : (side : Side) (maximum : ℕ) (reports : Bool) (calls : List Cal
     → has lcid (reached side maximum reports calls).bearers ≡ true → IsAdded side maximum reports calls lcid
 are_added side maximum reports calls lcid given h = elim (find_last lcid calls) [
   | inl none ↦
-      let g = run_goes lcid calls (fresh side maximum reports) given (reached_sound side maximum reports [] tt)
+      let g = run_goes lcid calls (fresh side maximum reports) given (reached_channels_sound side maximum reports [] tt)
       (own_bearers side maximum reports [] tt) none in
       let no : false ≡ true = sym (none_at_first side maximum reports lcid) ∙ sym g.has_is ∙ h in
       cc
@@ -286,7 +286,8 @@ neither_goes : (side : Side) (maximum : ℕ) (reports : Bool) (past calls : List
     → Goes lcid (reached side maximum reports past).bearers (run_end calls (reached side maximum reports past)).bearers
     (moves calls) (counts_on lcid (told_over calls (reached side maximum reports past)))
 neither_goes side maximum reports past calls lcid past_given given k =
-    run_goes lcid calls (reached side maximum reports past) given (reached_sound side maximum reports past past_given)
+    run_goes lcid calls (reached side maximum reports past) given
+    (reached_channels_sound side maximum reports past past_given)
     (own_bearers side maximum reports past past_given) k.add_none
 
 pub counts_ascend : (side : Side) (maximum : ℕ) (reports : Bool) (past calls : List Call) (lcid : ℕ) → AreGiven past

@@ -29,7 +29,7 @@ use Rattle.law_node.specs.Holding.{Given, none_given, given_by, with_block, give
 use Rattle.law_node.specs.Watching.{doing, Watched, watch, watched}
 use Rattle.law_node.proofs.Holding.{flow_at, row_other, Young, call_young, fresh_young}
 use Rattle.law_node.proofs.Sharing.{Apart, sound_apart}
-use Rattle.law_node.proofs.Sound.{visited_sound, call_sound, none_sound}
+use Rattle.law_node.proofs.Sound.{visited_sound, HasSoundChannels, call_channels_sound, fresh_channels_sound}
 use Rattle.law_node.proofs.Writers.{Stays, stays_by}
 
 -- ---- one block
@@ -203,7 +203,7 @@ call_notes e (Move keys) past s k = record { rows = refl; noted' = λ p l lt. no
 
 -- all that is kept through calls
 record Holds (w : Watched Given) : Type 0 where
-  sound : IsSound w.end.buckets
+  channels : HasSoundChannels w.end
   young : Young w.end.bearers w.end.sender w.end.numbers
   notes : Notes w.end w.past
 
@@ -212,9 +212,9 @@ watch_holds [] w g h = h
 watch_holds (c ∷ cs) w g h =
     watch_holds cs (record { end = after w.end c; past = given_after w.end (doing c) w.past }) g.1
     (record {
-      sound = call_sound w.end c g.0 h.sound;
+      channels = call_channels_sound w.end c g.0 h.channels;
       young = call_young w.end c h.young;
-      notes = call_notes w.end c w.past h.sound h.notes;
+      notes = call_notes w.end c w.past h.channels.buckets_are h.notes;
     })
 
 fresh_holds : (side : Side) (maximum : ℕ) (reports : Bool)
@@ -222,7 +222,7 @@ fresh_holds : (side : Side) (maximum : ℕ) (reports : Bool)
 unfolding fresh
 fresh_holds side maximum reports =
     record {
-      sound = none_sound;
+      channels = fresh_channels_sound side maximum reports;
       young = fresh_young side maximum reports;
       notes = record { rows = refl; noted' = λ p l lt. none_row 8 p l };
     }

@@ -5,7 +5,6 @@ use Rattle.std.proofs.lemmas.Bool.Decides.{nat_tests}
 use Rattle.std.proofs.lemmas.List.{get_or_past, length-append}
 use Rattle.std.proofs.Math.Seq.{get_or-append_seam, set-append_seam}
 use Rattle.bearer.specs.Bearer.{Of, of, Life, alive}
-use Rattle.bearer.specs.declared.flow.Flow.TheVariants.{Tm}
 use Rattle.bearer.specs.Hearing.{arriving, arrived, ticking, ticked as flow_ticked, expiry as flow_expiry}
 use Rattle.bearer.specs.Lives.{stopping}
 use Rattle.bearer.specs.Taking.{told, after}
@@ -24,7 +23,7 @@ use Rattle.harq.specs.Sending.{Sending}
 use Rattle.l2_node.specs.Building.{visited, visit, building, told_by}
 use Rattle.l2_node.specs.End.{End}
 use Rattle.bearer_types.specs.Sides.{heard_by}
-use Rattle.l2_node.specs.Finding.{Numbers, find, has, bearer_at, lowest}
+use Rattle.l2_node.specs.Finding.{Numbers, find, has, no_bearer, bearer_at, lowest}
 use Rattle.l2_node.specs.Hearing.{Heard, heard, hears_sdu, hears, hears_all, heard_items, received, ticks_at}
 use Rattle.l2_node.specs.Hearing.{ticks_over, ticked, bearer_of, expiry}
 use Rattle.l2_node.specs.Moving.{all_stopping, leaving}
@@ -40,7 +39,6 @@ use Rattle.law_node.specs.Calls.{Call, AreGiven, reached}
 use Rattle.law_node.specs.Order.{BuildsInOrder, of_an_item, of_items, HearsInOrder, TicksInOrder, ExpiresInOrder}
 use Rattle.law_node.specs.Order.{StopsInOrder, IsToldInOrder}
 use Rattle.law_node.proofs.Places.{has_set, found}
-use Rattle.rlc_um.specs.Transparent.{nothing_submitted}
 use Rattle.law_node.proofs.Signalling.{IsRight, right_kept}
 use Rattle.law_node.proofs.Keeping.{IsKept, AllAre, at_is, set_are, item_are, reached_are}
 use Rattle.law_node.proofs.Places.{has_set, found}
@@ -69,9 +67,9 @@ writes_in : (t : Bool) (c : Channel) (share : ℕ) (held : Option ℕ) (w : Work
 writes_in true c share held w h a =
     let at = find c.lcid w.bearers in
     let b = bearer_at w.bearers at in
-    rw h (behind w.block.events (writing c) (told b.lcid b.state.flow share held)
-    (subst (λ (n : ℕ). in_a_block n (told b.lcid b.state.flow share held)) (found c.lcid w.bearers h)
-    ((told_in_order b.lcid b.state.flow (at_is IsBetween w.bearers at between_kept a)).building share held)))
+    rw h (behind w.block.events (writing c) (told b.channel.lcid b.state.flow share held)
+    (subst (λ (n : ℕ). in_a_block n (told b.channel.lcid b.state.flow share held)) (found c.lcid w.bearers h)
+    ((told_in_order b.channel.lcid b.state.flow (at_is IsBetween w.bearers at between_kept a)).building share held)))
 writes_in false c share held w h a = rw h (behind_none w.block.events (writing c) (nothing_told c.lcid))
 
 own_after : (t : Bool) (lcid share : ℕ) (held : Option ℕ) (w : Work) → has lcid w.bearers ≡ t
@@ -79,8 +77,8 @@ own_after : (t : Bool) (lcid share : ℕ) (held : Option ℕ) (w : Work) → has
 own_after true lcid share held w h a =
     let at = find lcid w.bearers in
     let b = bearer_at w.bearers at in
-    rw h (set_are IsBetween w.bearers at (of b.lcid (alive (after b.state.flow share held))) a
-    (takes b.lcid b.state.flow share held (at_is IsBetween w.bearers at between_kept a)))
+    rw h (set_are IsBetween w.bearers at (of b.channel (alive (after b.state.flow share held))) a
+    (takes b.channel.lcid b.state.flow share held (at_is IsBetween w.bearers at between_kept a)))
 own_after false lcid share held w h a = rw h a
 
 all_write_in : (sender : Sending) (numbers : Numbers) (amounts : List ℕ) (cs : List Channel) (w : Work)
@@ -119,9 +117,9 @@ sdu_in : (e : End) (t : Bool) (lcid : ℕ) (pdu : List ℕ) (h : Heard) → has 
 sdu_in e true lcid pdu h here there a =
     let at = find lcid h.bearers in
     let b = bearer_at h.bearers at in
-    rw (here, there) (behind h.events (of_a_pdu lcid) (arriving b.lcid b.state.flow pdu)
-    (subst (λ (n : ℕ). of_a_pdu n (arriving b.lcid b.state.flow pdu)) (found lcid h.bearers here)
-    ((told_in_order b.lcid b.state.flow (at_is IsBetween h.bearers at between_kept a)).receiving pdu)))
+    rw (here, there) (behind h.events (of_a_pdu lcid) (arriving b.channel.lcid b.state.flow pdu)
+    (subst (λ (n : ℕ). of_a_pdu n (arriving b.channel.lcid b.state.flow pdu)) (found lcid h.bearers here)
+    ((told_in_order b.channel.lcid b.state.flow (at_is IsBetween h.bearers at between_kept a)).receiving pdu)))
 sdu_in e false lcid pdu h here there a =
     rw (here, there) (behind h.events (just (events.Drop lcid lost.NoBearer)) (events.Drop lcid lost.NoBearer ∷ [])
     refl)
@@ -142,7 +140,7 @@ sdu_there : (e : End) (t : Bool) (lcid : ℕ) (pdu : List ℕ) (h : Heard) → h
 sdu_there e true lcid pdu h here s l =
     let at = find lcid h.bearers in
     let b = bearer_at h.bearers at in
-    rw here (has_set l h.bearers at (of b.lcid (alive (arrived b.state.flow pdu))) refl ∙ s l)
+    rw here (has_set l h.bearers at (of b.channel (alive (arrived b.state.flow pdu))) refl ∙ s l)
 sdu_there e false lcid pdu h here s l = rw here (s l)
 
 item_there : (e : End) (i : MacItem) (h : Heard) → AreThere e h → AreThere e (hears i h)
@@ -172,7 +170,7 @@ hears_in e block a = read_in e (reading (heard_by e.side) block) a
 -- ---- a TTI begins
 
 abbrev beginning : Of Life → OfEvents
-beginning b = in_a_tti b.lcid
+beginning b = in_a_tti b.channel.lcid
 
 -- those that have told, and those that have still to tell
 over_in : (bs done : List (Of Life)) (at : ℕ) (h : Heard) → h.bearers ≡ done ++ bs → length done ≡ at
@@ -180,12 +178,12 @@ over_in : (bs done : List (Of Life)) (at : ℕ) (h : Heard) → h.bearers ≡ do
 over_in [] done at h e n a = behind_none h.events (each beginning []) refl
 over_in (b ∷ bs) done at h e n a =
     let h' = ticks_at at h in
-    let idle = of 0 (alive (Tm nothing_submitted)) in
+    let idle = no_bearer in
     let here : bearer_at h.bearers at ≡ b = ap (λ (xs : List (Of Life)). get_or xs at idle) e
     ∙ ap (λ (k : ℕ). get_or (done ++ b ∷ bs) k idle) (sym n) ∙ get_or-append_seam done b bs idle in
-    let x = of b.lcid (alive (flow_ticked b.state.flow)) in
-    let y = of (bearer_at h.bearers at).lcid (alive (flow_ticked (bearer_at h.bearers at).state.flow)) in
-    let same : y ≡ x = ap (λ (c : Of Life). of c.lcid (alive (flow_ticked c.state.flow))) here in
+    let x = of b.channel (alive (flow_ticked b.state.flow)) in
+    let y = of (bearer_at h.bearers at).channel (alive (flow_ticked (bearer_at h.bearers at).state.flow)) in
+    let same : y ≡ x = ap (λ (c : Of Life). of c.channel (alive (flow_ticked c.state.flow))) here in
     let set_is : h'.bearers ≡ (done ++ x ∷ []) ++ bs =
     ap (λ (c : Of Life). set h.bearers at c) same ∙ ap (λ (xs : List (Of Life)). set xs at x) e
     ∙ ap (λ (k : ℕ). set (done ++ b ∷ bs) k x) (sym n)
@@ -195,7 +193,7 @@ over_in (b ∷ bs) done at h e n a =
     (record {
       rest = ticking b.state.flow;
       all_are = ap (λ (c : Of Life). h.events ++ ticking c.state.flow) here;
-      is_rest = (told_in_order b.lcid b.state.flow a.0).ticking;
+      is_rest = (told_in_order b.channel.lcid b.state.flow a.0).ticking;
     })
     (over_in bs (done ++ x ∷ []) (at + 1) h' set_is longer a.1)
 
@@ -211,10 +209,11 @@ unfolding flow_expiry
 expires_by true lcid clock e h a =
     let b = bearer_of lcid e in
     subst (λ (n : ℕ). IfSome (flow_expiry b.state.flow clock) (of_an_expiry n clock)) (found lcid e.bearers h)
-    ((told_in_order b.lcid b.state.flow (at_is IsBetween e.bearers (find lcid e.bearers) between_kept a)).expiring
+    ((told_in_order b.channel.lcid b.state.flow
+    (at_is IsBetween e.bearers (find lcid e.bearers) between_kept a)).expiring
     clock)
 expires_by false lcid clock e h a =
-    let idle = of 0 (alive (Tm nothing_submitted)) in
+    let idle = no_bearer in
     let past : bearer_of lcid e ≡ idle = get_or_past e.bearers (find lcid e.bearers) idle (grind (arith, nat_tests)) in
     subst (λ (b : Of Life). IfSome (flow_expiry b.state.flow clock) (of_an_expiry lcid clock)) (sym past) tt
 
@@ -226,13 +225,13 @@ expires_in lcid clock e a = expires_by (has lcid e.bearers) lcid clock e refl a
 -- ---- the end leaves its cell
 
 abbrev ending : Of Life → OfEvents
-ending b = at_the_end (is_srb b.lcid) b.lcid
+ending b = at_the_end (is_srb b.channel.lcid) b.channel.lcid
 
 all_stop_in : (bs : List (Of Life)) → AllAre IsBetween bs → AllAre IsRight bs → each ending bs (all_stopping bs)
 all_stop_in [] a r = refl
 all_stop_in (b ∷ bs) a r =
-    let told = subst (λ (t : Bool). at_the_end t b.lcid (stopping b.state.flow)) r.0
-    (told_in_order b.lcid b.state.flow a.0).ending in
+    let told = subst (λ (t : Bool). at_the_end t b.channel.lcid (stopping b.state.flow)) r.0
+    (told_in_order b.channel.lcid b.state.flow a.0).ending in
     both (ending b) (each ending bs) (stopping b.state.flow) (all_stopping bs) told (all_stop_in bs a.1 r.1)
 
 stops_in : (e : End) → AllAre IsBetween e.bearers → AllAre IsRight e.bearers → StopsInOrder e (leaving e)

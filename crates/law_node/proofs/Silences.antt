@@ -80,7 +80,7 @@ arriving_none lcid (Am b) pdu = am_arrived_all told (am_at pdu) b tt
 arrives_none : (at : ℕ) (b : Of Life) (pdu : List ℕ) (h : Heard) → AreQuiet h.events
     → AreQuiet (arrives_at at b pdu h).events
 arrives_none at b pdu h p =
-    none_both h.events (arriving b.lcid b.state.flow pdu) p (arriving_none b.lcid b.state.flow pdu)
+    none_both h.events (arriving b.channel.lcid b.state.flow pdu) p (arriving_none b.channel.lcid b.state.flow pdu)
 
 sdu_if : (t : Bool) (lcid : ℕ) (pdu : List ℕ) (h : Heard) → AreQuiet h.events
     → AreQuiet (if t then arrives_at (find lcid h.bearers) (bearer_at h.bearers (find lcid h.bearers)) pdu h

@@ -1,7 +1,10 @@
 -- The buckets of an end, through any calls.
-use Rattle.std.proofs.Common.{◌≡◌, ◌<◌, ℕ, ◌+◌, Bool, true, false, List, [], ◌∷◌, length, get_or, set, refl, ◌∙◌, arith}
+use Rattle.std.proofs.Common.{◌≡◌, ◌<◌, ℕ, ◌+◌, Bool, true, false, List, [], ◌∷◌, length, get_or, set, refl}
+use Rattle.std.proofs.Common.{sym, subst, ◌∙◌, arith}
 use Rattle.std.proofs.Math.ListN.{length-set}
+use Rattle.std.specs.List.{AllByRecursion}
 use Rattle.bearer_types.specs.Configs.{IsChannelOf}
+use Rattle.eps_sec.specs.declared.Keys.{Keys}
 use Rattle.harq.specs.declared.sender.Order.{Order}
 use Rattle.harq.specs.declared.sender.Visit.{Visit}
 use Rattle.harq.specs.declared.sender.Visit.TheVariants.{New, Resend, Silent}
@@ -10,27 +13,32 @@ use Rattle.l2_types.specs.declared.channel.Kind.{Kind}
 use Rattle.l2_types.specs.declared.channel.Kind.TheVariants.{Tm, Srb, Um, Am}
 use Rattle.l2_types.specs.declared.side.Side.{Side}
 use Rattle.prioritise.proofs.ChannelLemmas.{sound_more, sound_none}
-use Rattle.prioritise.specs.Channels.{has, place}
+use Rattle.prioritise.specs.Channels.{AreSound, has, place}
 use Rattle.prioritise.specs.ShareLaws.{IsSound}
-use Rattle.prioritise.specs.Shares.{Bucketed, Giving, no_channels, added, emptied, grown, all_grown, ticked, fallen}
+use Rattle.prioritise.specs.Shares.{Bucketed, Giving, no_channels, added, grown, all_grown, ticked, fallen}
 use Rattle.prioritise.specs.Shares.{first_part, first_given, round_one, second_part, second_given, round_two, ungiven}
 use Rattle.prioritise.specs.Shares.{first_shared, shared, after_allot}
 use Rattle.l2_node.specs.Building.{visited, loaded, built_by, built, visit}
-use Rattle.l2_node.specs.End.{End, fresh, with_channel, with_bearer, reset, with_visits}
+use Rattle.l2_node.specs.End.{End, fresh, with_channel, with_bearer, with_visits}
 use Rattle.l2_node.specs.Hearing.{expired}
-use Rattle.l2_node.specs.Moving.{left_cell, joined}
 use Rattle.l2_node.specs.Submitting.{submitted, discarding}
 use Rattle.l2_node.specs.Writing.{needs}
 use Rattle.law_node.specs.Calls.{Turn, Call, SetVisits, SetReports, Add, Submit, SetDiscard, Tick, TickBuckets, Visits}
 use Rattle.law_node.specs.Calls.{Grants, Granted, Assigned, Pass, Receive, Expire, Move, answered, after, run_end}
 use Rattle.law_node.specs.Calls.{reached}
 use Rattle.law_node.specs.Calls.{IsGiven, AreGiven}
+use Rattle.law_node.specs.Order.{channels, with_one, with_all}
+use Rattle.law_node.proofs.Channels.{all_put}
+use Rattle.law_node.proofs.Standing.{channels_in, call_channels, moved_buckets}
 
 -- ---- each step of the buckets
 
-pub none_sound : IsSound no_channels
+none_sound : IsSound no_channels
 unfolding no_channels
 none_sound = record { channels = sound_none; levels = refl }
+
+abbrev pub IsInRange : Channel → Type 0
+IsInRange c = (c.lcid < 11) × (c.group < 4)
 
 lcid_below : (k : Kind) (lcid : ℕ) → IsChannelOf k lcid → lcid < 11
 lcid_below Tm lcid h = omega (arith, h)
@@ -54,10 +62,6 @@ grown_length (c ∷ cs) levels =
 ticked_sound : (b : Bucketed) → IsSound b → IsSound (ticked b)
 unfolding ticked
 ticked_sound b s = record { channels = s.channels; levels = grown_length b.channels b.levels ∙ s.levels }
-
-emptied_sound : (b : Bucketed) → IsSound b → IsSound (emptied b)
-unfolding emptied
-emptied_sound b s = record { channels = s.channels; levels = refl }
 
 one_length : (cs : List Channel) (needs : List ℕ) (g : Giving) → length (round_one cs needs g).levels ≡ length g.levels
 one_length [] needs g = refl
@@ -93,35 +97,91 @@ turn_sound New t e s = loaded_sound t.tti t.grant e s
 turn_sound (Resend rv) t e s = s
 turn_sound Silent t e s = s
 
-pub call_sound : (e : End) (c : Call) → IsGiven c → IsSound e.buckets → IsSound (after e c).buckets
-unfolding with_visits with_bearer submitted discarding expired built joined left_cell reset
-call_sound e (SetVisits maximum) g s = s
-call_sound e (SetReports reports) g s = s
-call_sound e (Add c keys) g s =
+one_sound : (t : Bool) (c : Channel) (cs : List Channel) → has c.lcid cs ≡ t → IsInRange c → AreSound cs
+    → AreSound (with_one c cs)
+one_sound true c cs e r s = rw e s
+one_sound false c cs e r s = rw e (sound_more c cs (place c cs) s r.0 r.1 e)
+
+all_sound : (ds cs : List Channel) → AllByRecursion IsInRange ds → AreSound cs → AreSound (with_all ds cs)
+all_sound [] cs a s = s
+all_sound (d ∷ ds) cs a s = all_sound ds (with_one d cs) a.1 (one_sound (has d.lcid cs) d cs refl a.0 s)
+
+moved_sound : (e : End) (keys : Keys) → AllByRecursion IsInRange (channels e.bearers)
+    → IsSound (after e (Move keys)).buckets
+moved_sound e keys a =
+    subst IsSound (sym (moved_buckets e keys))
+    (record { channels = all_sound (channels e.bearers) [] a sound_none; levels = refl })
+
+call_sound : (e : End) (c : Call) → IsGiven c → AllByRecursion IsInRange (channels e.bearers) → IsSound e.buckets
+    → IsSound (after e c).buckets
+unfolding with_visits with_bearer submitted discarding expired built
+call_sound e (SetVisits maximum) g a s = s
+call_sound e (SetReports reports) g a s = s
+call_sound e (Add c keys) g a s =
     with_channel_by c.channel e.buckets (has c.channel.lcid e.buckets.channels) refl
     (lcid_below c.kind c.channel.lcid g.lcid) (omega (arith, g.group)) s
-call_sound e (Submit lcid sdu) g s = s
-call_sound e (SetDiscard lcid ttis) g s = s
-call_sound e Tick g s = s
-call_sound e TickBuckets g s = ticked_sound e.buckets s
-call_sound e (Visits t) g s =
+call_sound e (Submit lcid sdu) g a s = s
+call_sound e (SetDiscard lcid ttis) g a s = s
+call_sound e Tick g a s = s
+call_sound e TickBuckets g a s = ticked_sound e.buckets s
+call_sound e (Visits t) g a s =
     turn_sound (visit t.tti t.order e) t (visited t.tti t.order e) (visited_sound t.tti t.order e s)
-call_sound e (Grants tti) g s = s
-call_sound e (Granted tti good) g s = s
-call_sound e (Assigned tti ndi good) g s = s
-call_sound e (Pass tti) g s = s
-call_sound e (Receive block) g s = s
-call_sound e (Expire lcid clock) g s = s
-call_sound e (Move keys) g s = emptied_sound e.buckets s
+call_sound e (Grants tti) g a s = s
+call_sound e (Granted tti good) g a s = s
+call_sound e (Assigned tti ndi good) g a s = s
+call_sound e (Pass tti) g a s = s
+call_sound e (Receive block) g a s = s
+call_sound e (Expire lcid clock) g a s = s
+call_sound e (Move keys) g a s = moved_sound e keys a
 
-run_sound : (cs : List Call) (e : End) → AreGiven cs → IsSound e.buckets → IsSound (run_end cs e).buckets
-run_sound [] e g s = s
-run_sound (c ∷ cs) e g s = run_sound cs (after e c) g.1 (call_sound e c g.0 s)
+ranges_in : (c : Call) (cs : List Channel) → IsGiven c → AllByRecursion IsInRange cs
+    → AllByRecursion IsInRange (channels_in c cs)
+ranges_in (Add c keys) cs g a =
+    all_put IsInRange c.channel cs (lcid_below c.kind c.channel.lcid g.lcid, omega (arith, g.group)) a
+ranges_in (SetVisits maximum) cs g a = a
+ranges_in (SetReports reports) cs g a = a
+ranges_in (Submit lcid octets) cs g a = a
+ranges_in (SetDiscard lcid ttis) cs g a = a
+ranges_in Tick cs g a = a
+ranges_in TickBuckets cs g a = a
+ranges_in (Visits t) cs g a = a
+ranges_in (Grants tti) cs g a = a
+ranges_in (Granted tti good) cs g a = a
+ranges_in (Assigned tti ndi good) cs g a = a
+ranges_in (Pass tti) cs g a = a
+ranges_in (Receive block) cs g a = a
+ranges_in (Expire lcid clock) cs g a = a
+ranges_in (Move keys) cs g a = a
+
+-- the channels of an end, and of its bearers, are in their ranges
+pub record HasSoundChannels (e : End) : Type 0 where
+  pub buckets_are : IsSound e.buckets
+  pub bearers_are : AllByRecursion IsInRange (channels e.bearers)
+
+pub call_channels_sound : (e : End) (c : Call) → IsGiven c → HasSoundChannels e → HasSoundChannels (after e c)
+call_channels_sound e c g s = record {
+  buckets_are = call_sound e c g s.bearers_are s.buckets_are;
+  bearers_are = subst (AllByRecursion IsInRange) (sym (call_channels e c))
+      (ranges_in c (channels e.bearers) g s.bearers_are);
+}
+
+run_channels_sound : (cs : List Call) (e : End) → AreGiven cs → HasSoundChannels e → HasSoundChannels (run_end cs e)
+run_channels_sound [] e g s = s
+run_channels_sound (c ∷ cs) e g s = run_channels_sound cs (after e c) g.1 (call_channels_sound e c g.0 s)
+
+pub fresh_channels_sound : (side : Side) (maximum : ℕ) (reports : Bool)
+    → HasSoundChannels (fresh side maximum reports)
+unfolding fresh
+fresh_channels_sound side maximum reports = record { buckets_are = none_sound; bearers_are = tt }
+
+pub reached_channels_sound : (side : Side) (maximum : ℕ) (reports : Bool) (calls : List Call) → AreGiven calls
+    → HasSoundChannels (reached side maximum reports calls)
+reached_channels_sound side maximum reports calls g =
+    run_channels_sound calls (fresh side maximum reports) g (fresh_channels_sound side maximum reports)
 
 pub reached_sound : (side : Side) (maximum : ℕ) (reports : Bool) (calls : List Call) → AreGiven calls
     → IsSound (reached side maximum reports calls).buckets
-unfolding fresh
-reached_sound side maximum reports calls g = run_sound calls (fresh side maximum reports) g none_sound
+reached_sound side maximum reports calls g = (reached_channels_sound side maximum reports calls g).buckets_are
 
 -- an end that has visited a process
 pub visiting_sound : (side : Side) (maximum : ℕ) (reports : Bool) (calls : List Call) (tti : ℕ) (order : Order)

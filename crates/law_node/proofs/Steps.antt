@@ -4,20 +4,18 @@ use Rattle.std.proofs.Common.{◌∷◌, ◌++◌, length, insert, set, append-n
 use Rattle.std.proofs.Common.{get_or-set_other, refl, ap, sym, ◌∙◌, subst, arith, inl, inr}
 use Rattle.std.proofs.lemmas.Bool.{cases_eq}
 use Rattle.std.proofs.lemmas.Bool.Decides.{nat_tests}
-use Rattle.bearer.specs.Bearer.{Of, of, Life, alive}
+use Rattle.bearer.specs.Bearer.{Of, Life}
 use Rattle.bearer.specs.declared.flow.Flow.{Flow}
-use Rattle.bearer.specs.declared.flow.Flow.TheVariants.{Tm}
 use Rattle.bearer.specs.Lives.{stopped, restarted}
 use Rattle.law_bearer.proofs.AnyBearer.Flows.{run_more}
 use Rattle.law_bearer.specs.AnyBearer.Calls.{Call as BearerCall, Step, Calls, Restart, after as called, goes}
 use Rattle.law_bearer.specs.AnyBearer.Calls.{run_bearer}
 use Rattle.law_bearer.specs.AnyBearer.Stream.{takes, takes_in, all_taken, counts}
 use Rattle.eps_sec.specs.declared.Keys.{Keys}
-use Rattle.l2_node.specs.Finding.{find, has, place, bearer_at}
+use Rattle.l2_node.specs.Finding.{find, has, place, no_bearer, bearer_at}
 use Rattle.l2_node.specs.Moving.{all_stopped, all_restarted}
 use Rattle.law_bearer.proofs.AnyBearer.Ciphering.{counts_more}
 use Rattle.pdcp_tx.specs.State.{Offer}
-use Rattle.rlc_um.specs.Transparent.{nothing_submitted}
 use Rattle.law_node.specs.Bearers.{restarts}
 use Rattle.law_node.proofs.Holding.{flow_at}
 use Rattle.law_node.proofs.Places.{find_set, has_set}
@@ -88,16 +86,14 @@ goes_then l bs cs ds ks ls ns ms a b = record {
 
 -- ---- the bearer at a place goes on
 
-abbrev nobody : Of Life
-nobody = of 0 (alive (Tm nothing_submitted))
-
 -- what it takes is that of the channel, where it is the channel's
 pub record IsTaken (l at : ℕ) (bs : List (Of Life)) (c : BearerCall) (ns : List ℕ) : Type 0 where
   pub here : has l bs ≡ true → at ≡ find l bs → ns ≡ counts (takes (flow_at l bs) c)
   pub apart : (has l bs ≡ true → at ≡ find l bs → ⊥) → ns ≡ []
 
 pub set_goes : (l : ℕ) (bs : List (Of Life)) (at : ℕ) (x : Of Life) (c : BearerCall) (ns : List ℕ)
-    → (bearer_at bs at).lcid ≡ x.lcid → x.state.flow ≡ called (bearer_at bs at).state.flow c → IsTaken l at bs c ns
+    → (bearer_at bs at).channel.lcid ≡ x.channel.lcid → x.state.flow ≡ called (bearer_at bs at).state.flow c
+    → IsTaken l at bs c ns
     → Goes l bs (set bs at x) [] ns
 set_goes l bs at x c ns same e i = record {
   has_is = has_set l bs at x same;
@@ -108,13 +104,13 @@ set_goes l bs at x c ns same e i = record {
         let flow_is : flow_at l (set bs at x) ≡ x.state.flow =
         ap (λ (k : ℕ). (bearer_at (set bs at x) k).state.flow) (find_set l bs at x same)
         ∙ ap (λ (k : ℕ). (bearer_at (set bs k x) (find l bs)).state.flow) q
-        ∙ ap (λ (b : Of Life). b.state.flow) (get_or-set_same bs (find l bs) x nobody lt) in
+        ∙ ap (λ (b : Of Life). b.state.flow) (get_or-set_same bs (find l bs) x no_bearer lt) in
         one_call (flow_at l bs) (flow_at l (set bs at x)) c ns
         (flow_is ∙ e ∙ ap (λ (k : ℕ). called (bearer_at bs k).state.flow c) q) (i.here h q)
     | inr apart ↦
         let flow_is : flow_at l (set bs at x) ≡ flow_at l bs =
         ap (λ (k : ℕ). (bearer_at (set bs at x) k).state.flow) (find_set l bs at x same)
-        ∙ ap (λ (b : Of Life). b.state.flow) (get_or-set_other bs at (find l bs) x nobody (λ q. apart (sym q))) in
+        ∙ ap (λ (b : Of Life). b.state.flow) (get_or-set_other bs at (find l bs) x no_bearer (λ q. apart (sym q))) in
         let none : ns ≡ [] = i.apart (λ there q. apart q) in
         subst (λ (ms : List ℕ). Takes (flow_at l bs) (flow_at l (set bs at x)) [] ms) (sym none)
         (subst (λ (g : Flow). Takes (flow_at l bs) g [] []) (sym flow_is) (stays (flow_at l bs)))
@@ -130,7 +126,7 @@ quiet l at bs c none = record { here = λ h q. sym (ap counts (none (flow_at l b
 pub restarted_find : (l : ℕ) (bs : List (Of Life)) (keys : Keys)
     → find l (all_restarted (all_stopped bs) keys) ≡ find l bs
 restarted_find l [] keys = refl
-restarted_find l (b ∷ bs) keys = ap (λ (n : ℕ). if b.lcid == l then 0 else n + 1) (restarted_find l bs keys)
+restarted_find l (b ∷ bs) keys = ap (λ (n : ℕ). if b.channel.lcid == l then 0 else n + 1) (restarted_find l bs keys)
 
 pub restarted_length : (bs : List (Of Life)) (keys : Keys) → length (all_restarted (all_stopped bs) keys) ≡ length bs
 restarted_length [] keys = refl
@@ -167,19 +163,20 @@ moved_goes l bs keys =
 lt_more : (n m : ℕ) → nat_lt (n + 1) (suc m) ≡ nat_lt n m
 lt_more n m = grind (arith, nat_tests)
 
-has_first : (l : ℕ) (b : Of Life) (bs : List (Of Life)) → (b.lcid == l) ≡ true → has l (b ∷ bs) ≡ true
+has_first : (l : ℕ) (b : Of Life) (bs : List (Of Life)) → (b.channel.lcid == l) ≡ true → has l (b ∷ bs) ≡ true
 has_first l b bs e = rw e (grind (arith, nat_tests))
 
-has_behind : (l : ℕ) (b : Of Life) (bs : List (Of Life)) → (b.lcid == l) ≡ false → has l (b ∷ bs) ≡ has l bs
+has_behind : (l : ℕ) (b : Of Life) (bs : List (Of Life)) → (b.channel.lcid == l) ≡ false → has l (b ∷ bs) ≡ has l bs
 has_behind l b bs e = rw e (lt_more (find l bs) (length bs))
 
-flow_behind : (l : ℕ) (b : Of Life) (bs : List (Of Life)) → (b.lcid == l) ≡ false → flow_at l (b ∷ bs) ≡ flow_at l bs
+flow_behind : (l : ℕ) (b : Of Life) (bs : List (Of Life)) → (b.channel.lcid == l) ≡ false
+    → flow_at l (b ∷ bs) ≡ flow_at l bs
 flow_behind l b bs e =
     let next : find l bs + 1 ≡ suc (find l bs) = omega arith in
     rw (flow_at, e, next) refl
 
 -- one of another channel
-cons_goes : (t : Bool) (l : ℕ) (b : Of Life) (bs ds : List (Of Life)) → (b.lcid == l) ≡ t → Goes l bs ds [] []
+cons_goes : (t : Bool) (l : ℕ) (b : Of Life) (bs ds : List (Of Life)) → (b.channel.lcid == l) ≡ t → Goes l bs ds [] []
     → Goes l (b ∷ bs) (b ∷ ds) [] []
 cons_goes true l b bs ds e g =
     record {
@@ -194,51 +191,52 @@ cons_goes false l b bs ds e g = record {
       rw (p, q) (g.goes (sym (has_behind l b bs e) ∙ h));
 }
 
-before_goes : (l : ℕ) (x : Of Life) (bs : List (Of Life)) → (x.lcid == l) ≡ false → Goes l bs (x ∷ bs) [] []
+before_goes : (l : ℕ) (x : Of Life) (bs : List (Of Life)) → (x.channel.lcid == l) ≡ false → Goes l bs (x ∷ bs) [] []
 before_goes l x bs e = record {
   has_is = has_behind l x bs e;
   none = λ h. refl;
   goes = λ h. let p = flow_behind l x bs e in rw p (stays (flow_at l bs));
 }
 
-other_by : (t : Bool) (l m : ℕ) (x b : Of Life) (bs : List (Of Life)) → (x.lcid == l) ≡ false
+other_by : (t : Bool) (l m : ℕ) (x b : Of Life) (bs : List (Of Life)) → (x.channel.lcid == l) ≡ false
     → Goes l bs (insert bs (place m bs) x) [] []
     → Goes l (b ∷ bs) (insert (b ∷ bs) (if t then place m bs + 1 else 0) x) [] []
 other_by true l m x b bs e g =
     let next : place m bs + 1 ≡ suc (place m bs) = omega arith in
-    rw next (cons_goes (b.lcid == l) l b bs (insert bs (place m bs) x) refl g)
+    rw next (cons_goes (b.channel.lcid == l) l b bs (insert bs (place m bs) x) refl g)
 other_by false l m x b bs e g = before_goes l x (b ∷ bs) e
 
-pub insert_goes : (l m : ℕ) (x : Of Life) (bs : List (Of Life)) → (x.lcid == l) ≡ false
+pub insert_goes : (l m : ℕ) (x : Of Life) (bs : List (Of Life)) → (x.channel.lcid == l) ≡ false
     → Goes l bs (insert bs (place m bs) x) [] []
 insert_goes l m x [] e = before_goes l x [] e
-insert_goes l m x (b ∷ bs) e = other_by (nat_lt b.lcid m) l m x b bs e (insert_goes l m x bs e)
+insert_goes l m x (b ∷ bs) e = other_by (nat_lt b.channel.lcid m) l m x b bs e (insert_goes l m x bs e)
 
 -- the channel's own stands before what may have had its LCID
 pub record Stands (l : ℕ) (bs : List (Of Life)) (f : Flow) : Type 0 where
   pub there : has l bs ≡ true
   pub flow_is : flow_at l bs ≡ f
 
-first_stands : (x : Of Life) (bs : List (Of Life)) → Stands x.lcid (x ∷ bs) x.state.flow
-first_stands x bs = let e : (x.lcid == x.lcid) ≡ true = grind (arith, nat_tests) in
-    record { there = has_first x.lcid x bs e; flow_is = rw (flow_at, e) refl }
+first_stands : (x : Of Life) (bs : List (Of Life)) → Stands x.channel.lcid (x ∷ bs) x.state.flow
+first_stands x bs = let e : (x.channel.lcid == x.channel.lcid) ≡ true = grind (arith, nat_tests) in
+    record { there = has_first x.channel.lcid x bs e; flow_is = rw (flow_at, e) refl }
 
-behind_stands : (l : ℕ) (b : Of Life) (bs : List (Of Life)) (f : Flow) → (b.lcid == l) ≡ false → Stands l bs f
+behind_stands : (l : ℕ) (b : Of Life) (bs : List (Of Life)) (f : Flow) → (b.channel.lcid == l) ≡ false → Stands l bs f
     → Stands l (b ∷ bs) f
 behind_stands l b bs f e s = record {
   there = has_behind l b bs e ∙ s.there;
   flow_is = flow_behind l b bs e ∙ s.flow_is;
 }
 
-own_by : (t : Bool) (x b : Of Life) (bs : List (Of Life)) → nat_lt b.lcid x.lcid ≡ t
-    → Stands x.lcid (insert bs (place x.lcid bs) x) x.state.flow
-    → Stands x.lcid (insert (b ∷ bs) (if t then place x.lcid bs + 1 else 0) x) x.state.flow
+own_by : (t : Bool) (x b : Of Life) (bs : List (Of Life)) → nat_lt b.channel.lcid x.channel.lcid ≡ t
+    → Stands x.channel.lcid (insert bs (place x.channel.lcid bs) x) x.state.flow
+    → Stands x.channel.lcid (insert (b ∷ bs) (if t then place x.channel.lcid bs + 1 else 0) x) x.state.flow
 own_by true x b bs e s =
-    let next : place x.lcid bs + 1 ≡ suc (place x.lcid bs) = omega arith in
-    let apart : (b.lcid == x.lcid) ≡ false = grind (arith, nat_tests) in
-    rw next (behind_stands x.lcid b (insert bs (place x.lcid bs) x) x.state.flow apart s)
+    let next : place x.channel.lcid bs + 1 ≡ suc (place x.channel.lcid bs) = omega arith in
+    let apart : (b.channel.lcid == x.channel.lcid) ≡ false = grind (arith, nat_tests) in
+    rw next (behind_stands x.channel.lcid b (insert bs (place x.channel.lcid bs) x) x.state.flow apart s)
 own_by false x b bs e s = first_stands x (b ∷ bs)
 
-pub insert_stands : (x : Of Life) (bs : List (Of Life)) → Stands x.lcid (insert bs (place x.lcid bs) x) x.state.flow
+pub insert_stands : (x : Of Life) (bs : List (Of Life))
+    → Stands x.channel.lcid (insert bs (place x.channel.lcid bs) x) x.state.flow
 insert_stands x [] = first_stands x []
-insert_stands x (b ∷ bs) = own_by (nat_lt b.lcid x.lcid) x b bs refl (insert_stands x bs)
+insert_stands x (b ∷ bs) = own_by (nat_lt b.channel.lcid x.channel.lcid) x b bs refl (insert_stands x bs)

@@ -24,7 +24,8 @@ use Rattle.law_node.proofs.Sound.{visiting_sound}
 use Rattle.law_node.proofs.Writers.{one_by, all_by, all_same}
 
 abbrev teller : Sending → Numbers → List ℕ → Of Life → Channel → List Event
-teller sender numbers amounts b c = told b.lcid b.state.flow (get_or amounts c.lcid 0) (lowest sender numbers c.lcid)
+teller sender numbers amounts b c =
+    told b.channel.lcid b.state.flow (get_or amounts c.lcid 0) (lowest sender numbers c.lcid)
 
 one_is : (e : End) (grant : ℕ) (c : Channel) (t : Bool) → has c.lcid e.bearers ≡ t
     → one_by (teller e.sender e.numbers (shares e grant)) e.bearers c ≡ told_on_channel e grant c

@@ -21,7 +21,7 @@ pub stays_by : (l share m : ℕ) (held : Option ℕ) (w : Work) (t : Bool) → h
 stays_by l share m held w false h apart = rw h (record { has_is = refl; bearer_is = λ k. refl })
 stays_by l share m held w true h apart =
     let b = bearer_at w.bearers (find l w.bearers) in
-    let x = of b.lcid (alive (after b.state.flow share held)) in
+    let x = of b.channel (alive (after b.state.flow share held)) in
     rw h (record {
       has_is = has_set m w.bearers (find l w.bearers) x refl;
       bearer_is = λ k. found_other m l w.bearers x apart k h (found l w.bearers h);

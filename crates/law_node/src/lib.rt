@@ -8,7 +8,7 @@ ghost use Rattle.law_node.specs.Counts.{CountsAscend};
 ghost use Rattle.law_node.specs.Holding.{HoldsNoOldNumber};
 ghost use Rattle.law_node.specs.Loops.{TellsNoLoop};
 ghost use Rattle.law_node.specs.Names.{NamesWhatItSends};
-ghost use Rattle.law_node.specs.Order.{EndsStandInOrder, TellsInItsOrder};
+ghost use Rattle.law_node.specs.Order.{EndsShareByBearers, EndsStandInOrder, TellsInItsOrder};
 ghost use Rattle.law_node.specs.Processes.{ResendsWhatWasBuilt};
 ghost use Rattle.law_node.specs.Sharing.{SharesAreWithinTheGrant};
 ghost use Rattle.law_node.specs.Waiting.{TellsInOrder, TellsWhyItWaits};
@@ -98,8 +98,10 @@ pub fn tells_no_loop()
 
 /// In each of its calls an end tells bearer by bearer, and each bearer in its own order: of a new
 /// block in the order of the channels, of a block that comes PDU by PDU, as a TTI begins and as the
-/// end leaves its cell by LCID. The channels stand by priority number and then LCID.
+/// end leaves its cell by LCID. The channels stand by priority number and then LCID. They are those
+/// that its bearers are configured with, also behind a handover, which empties their buckets.
 pub fn tells_in_its_order()
     ensures calls { TellsInItsOrder }
     ensures places { EndsStandInOrder }
+    ensures channels { EndsShareByBearers }
 {}

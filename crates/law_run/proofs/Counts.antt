@@ -17,6 +17,7 @@ use Rattle.bearer_types.specs.declared.event.Event.{Event}
 use Rattle.bearer_types.specs.declared.event.Event.TheVariants as events
 use Rattle.eps_sec.specs.declared.Keys.{Keys}
 use Rattle.l2_node.specs.End.{End, fresh as fresh_end}
+use Rattle.bearer_types.specs.declared.config.BearerConfig.{BearerConfig}
 use Rattle.l2_node.specs.Finding.{has}
 use Rattle.l2_num.specs.Ascending.{IsAscending}
 use Rattle.l2_types.specs.declared.side.Side.{Side}
@@ -94,19 +95,25 @@ absent_at : (side : Side) (lcid : ℕ) (l : Link) → is_taken lcid l ≡ false 
 absent_at Nb lcid l e = (both_false (has lcid l.nb.bearers) (has lcid l.ue.bearers) e).0
 absent_at Ue lcid l e = (both_false (has lcid l.nb.bearers) (has lcid l.ue.bearers) e).1
 
--- a bearer is added only where none was, so that nothing was taken
-none_before : (side : Side) (lcid : ℕ) (line : Line) (r : Rules) (l : Link) (ns : List ℕ) → begins lcid line ≡ true
-    → refusal line r l ≡ None → (has lcid (end_of side l).bearers ≡ false → ns ≡ [])
-    → (if is_handover line then [] else ns) ≡ []
+-- a bearer is added only where none was
+pub was_absent : (side : Side) (config : BearerConfig) (options : _) (r : Rules) (l : Link)
+    → refusal (lines.Bearer config options) r l ≡ None → has config.channel.lcid (end_of side l).bearers ≡ false
 unfolding rule_broken
-none_before side lcid (lines.Bearer config options) r l ns e allowed none =
+was_absent side config options r l allowed =
     let n = config.channel.lcid in
     let taken = refused_if (is_taken n l) BearerTwice in
     let first =
     not_first taken _
     (not_second (late r) _ (not_first (rule_broken (lines.Bearer config options) r l) _ allowed)) in
-    none (subst (λ (m : ℕ). has m (end_of side l).bearers ≡ false) (same_lcid n lcid e)
-    (absent_at side n l (no_cause (is_taken n l) BearerTwice first)))
+    absent_at side n l (no_cause (is_taken n l) BearerTwice first)
+
+-- so that nothing was taken
+none_before : (side : Side) (lcid : ℕ) (line : Line) (r : Rules) (l : Link) (ns : List ℕ) → begins lcid line ≡ true
+    → refusal line r l ≡ None → (has lcid (end_of side l).bearers ≡ false → ns ≡ [])
+    → (if is_handover line then [] else ns) ≡ []
+none_before side lcid (lines.Bearer config options) r l ns e allowed none =
+    none (subst (λ (m : ℕ). has m (end_of side l).bearers ≡ false) (same_lcid config.channel.lcid lcid e)
+    (was_absent side config options r l allowed))
 none_before side lcid (lines.Handover user rrc integrity) r l ns e allowed none = refl
 none_before side lcid line r l ns e allowed none = absurd cc
 

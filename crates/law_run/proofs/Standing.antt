@@ -1,11 +1,11 @@
 -- The records of every line stand in order.
 use Rattle.std.proofs.Common.{◌≡◌, ◌≤◌, ℕ, zero, suc, ◌+◌, Bool, true, false, List, [], ◌∷◌, ◌++◌, append_assoc, refl}
 use Rattle.std.proofs.Common.{ap, sym, subst, arith, ◌∙◌}
-use Rattle.std.specs.Prelude.{Option}
+use Rattle.std.specs.Prelude.{Option, None}
 use Rattle.std.specs.List.{list_any}
 use Rattle.air_link.specs.Draining.{drain_tti, carried, receivers_expire, is_drained}
 use Rattle.pdu_show.specs.Carried.{is_carried}
-use Rattle.air_link.specs.Link.{Link, fresh as fresh_link}
+use Rattle.air_link.specs.Link.{Link, end_of, fresh as fresh_link}
 use Rattle.air_record.specs.declared.line.Line.{Line}
 use Rattle.air_record.specs.declared.line.Line.TheVariants as lines
 use Rattle.air_record.specs.declared.record.Record.{Record}
@@ -14,7 +14,7 @@ use Rattle.air_run.specs.Draining.{told_by, rounds, budget, drained}
 use Rattle.air_record.specs.Endings.{ending}
 use Rattle.air_run.specs.Playing.{keys_or_none, acted, played}
 use Rattle.air_record.specs.Cells.{next_keys}
-use Rattle.air_run.specs.Rules.{rule_broken, is_idle}
+use Rattle.air_run.specs.Rules.{Rules, refusal, rule_broken, is_idle}
 use Rattle.air_run.specs.Run.{fresh, behind_line}
 use Rattle.air_run.specs.declared.refusal.RunRefusal.TheVariants.{TimerIdle}
 use Rattle.air_text.specs.Groups.{Group}
@@ -24,13 +24,15 @@ use Rattle.eps_sec.specs.declared.Keys.{Keys}
 use Rattle.l2_node.specs.End.{End, fresh as fresh_end}
 use Rattle.l2_types.specs.declared.side.Side.{Side}
 use Rattle.l2_types.specs.declared.side.Side.TheVariants.{Nb, Ue}
+use Rattle.law_node.specs.Order.{channels as of_bearers}
+use Rattle.law_node.proofs.Standing.{OwnsChannels}
 use Rattle.law_air.specs.AnyCalls.Calls as calls
 use Rattle.law_air.specs.AnyCalls.Ends.{LivesOn}
 use Rattle.law_air.specs.AnyCalls.Order.{channels_of, Leaves}
 use Rattle.promises.specs.Order.{Channels, OfRecords, LoopTells, TtiTells, DrainTtiTells, ExpiryTells, ReceiversTell}
 use Rattle.promises.specs.Order.{ForgeTells, HandoverTells, SubmitTells}
 use Rattle.law_air.proofs.AnyCalls.Advancing.{call_goes_on, drain_goes}
-use Rattle.law_air.proofs.AnyCalls.Channels.{channels_over, channels_go}
+use Rattle.law_air.proofs.AnyCalls.Channels.{channels_over, AreNew, channels_go, owns_on, known_channel}
 use Rattle.law_air.proofs.AnyCalls.Ordering.{leaves_then, leaves_nothing}
 use Rattle.law_air.proofs.AnyCalls.Passing.{drain_adds}
 use Rattle.law_air.proofs.AnyCalls.Standing.{Ready, both_ready_on, call_tells, expiry_tells, submissions_tell}
@@ -44,6 +46,7 @@ use Rattle.law_run.specs.Order.{state_behind, KeepsOrder}
 use Rattle.promises.specs.Telling.{SendersTellUnless, RoundTells, DrainTells, LineTells, channels_by, channels}
 use Rattle.promises.specs.Telling.{LinesTell}
 use Rattle.law_run.proofs.Keys.{not_second, no_cause}
+use Rattle.law_run.proofs.Counts.{was_absent}
 use Rattle.law_run.proofs.Past.{behind as all_behind, link_behind}
 use Rattle.law_run.proofs.Reaching.{round_goes, lives_by, group_goes, kinds_behind}
 use Rattle.law_run.proofs.Ttis.{round_adds}
@@ -254,21 +257,50 @@ lives_channels (lines.Discard lcid count) keys c = refl
 lives_channels (lines.Drx config) keys c = refl
 lives_channels lines.End keys c = refl
 
--- of each end
-record AreOf (c : Channels) (l : Link) : Type 0 where
-  nb : channels_of l.nb ≡ c
-  ue : channels_of l.ue ≡ c
+-- a line adds a bearer only where none has its LCID
+new_bearer : (side : Side) (line : Line) (r : Rules) (keys : Option Keys) (l : Link) → refusal line r l ≡ None
+    → AreNew (lives_by line keys) (of_bearers (end_of side l).bearers)
+new_bearer side (lines.Bearer config options) r keys l allowed =
+    (sym (known_channel config.channel.lcid (end_of side l).bearers) ∙ was_absent side config options r l allowed, tt)
+new_bearer side (lines.Handover user rrc integrity) r keys l allowed = tt
+new_bearer side (lines.Harq maximum) r keys l allowed = tt
+new_bearer side lines.Bsr r keys l allowed = tt
+new_bearer side (lines.Keys now) r keys l allowed = tt
+new_bearer side (lines.Submit at lcid octets) r keys l allowed = tt
+new_bearer side (lines.Tti up_grant up down_grant down) r keys l allowed = tt
+new_bearer side (lines.Expire at lcid clock) r keys l allowed = tt
+new_bearer side lines.LoopOff r keys l allowed = tt
+new_bearer side (lines.LoopA size) r keys l allowed = tt
+new_bearer side (lines.LoopB delay) r keys l allowed = tt
+new_bearer side (lines.Drain grant) r keys l allowed = tt
+new_bearer side (lines.Forge at octets) r keys l allowed = tt
+new_bearer side (lines.Discard lcid count) r keys l allowed = tt
+new_bearer side (lines.Drx config) r keys l allowed = tt
+new_bearer side lines.End r keys l allowed = tt
 
-first_channels : AreOf (channels []) (link_behind [])
+-- of an end: they are those that are told, and its bearers'
+record AreOf (c : Channels) (e : End) : Type 0 where
+  told_are : channels_of e ≡ c
+  own : OwnsChannels e
+
+record AreOfBoth (c : Channels) (l : Link) : Type 0 where
+  nb : AreOf c l.nb
+  ue : AreOf c l.ue
+
+first_channels : AreOfBoth (channels []) (link_behind [])
 unfolding fresh fresh_link fresh_end no_channels
-first_channels = record { nb = refl; ue = refl }
+first_channels = record { nb = record { told_are = refl; own = refl }; ue = record { told_are = refl; own = refl } }
 
 next_channels : (side : Side) (told : List Record) (line : Line) (keys : Option Keys) (c : Channels) (e f : End)
-    → LivesOn (lives_by line keys) side told e f → channels_of e ≡ c → channels_of f ≡ channels_by line c
-next_channels side told line keys c e f k is = channels_go (lives_by line keys) side told e f k
-    ∙ ap (channels_over (lives_by line keys)) is ∙ lives_channels line keys c
+    → LivesOn (lives_by line keys) side told e f → AreNew (lives_by line keys) (of_bearers e.bearers) → AreOf c e
+    → AreOf (channels_by line c) f
+next_channels side told line keys c e f k new is = record {
+  told_are = channels_go (lives_by line keys) side told e f k new is.own
+      ∙ ap (channels_over (lives_by line keys)) is.told_are ∙ lives_channels line keys c;
+  own = owns_on (lives_by line keys) side told e f k new is.own;
+}
 
-channels_behind : (past : List Group) → KeepsOrder past → AreOf (channels past) (link_behind past)
+channels_behind : (past : List Group) → KeepsOrder past → AreOfBoth (channels past) (link_behind past)
 channels_behind [] order = first_channels
 channels_behind (g ∷ past) (right, order) =
     let l = link_behind past in
@@ -277,8 +309,10 @@ channels_behind (g ∷ past) (right, order) =
     let goes = group_goes past g order right.in_range in
     let are = channels_behind past order in
     record {
-      nb = next_channels Nb m.out g.line keys (channels past) l.nb m.nb goes.nb are.nb;
-      ue = next_channels Ue m.out g.line keys (channels past) l.ue m.ue goes.ue are.ue;
+      nb = next_channels Nb m.out g.line keys (channels past) l.nb m.nb goes.nb
+          (new_bearer Nb g.line (state_behind past).rules keys l right.allowed) are.nb;
+      ue = next_channels Ue m.out g.line keys (channels past) l.ue m.ue goes.ue
+          (new_bearer Ue g.line (state_behind past).rules keys l right.allowed) are.ue;
     }
 
 -- ---- all lines
@@ -293,8 +327,8 @@ lines_tell (g ∷ past) (right, order) =
     let come = have_come past order in
     let are = channels_behind past order in
     let ready : Ready c l = record {
-      nb = record { come = come.nb; channels_are = are.nb };
-      ue = record { come = come.ue; channels_are = are.ue };
+      nb = record { come = come.nb; channels_are = are.nb.told_are };
+      ue = record { come = come.ue; channels_are = are.ue.told_are };
     } in
     let rules = (state_behind past).rules in
     let runs = no_cause (is_idle g.line l) TimerIdle (not_second (rule_broken g.line rules l) _ right.allowed) in

@@ -232,11 +232,11 @@ line_brings lines.End keys l nothing fits h side = by_call none_forged l l nothi
 same_lcid : (n : ℕ) → (n == 0) ≡ true → n ≡ 0
 same_lcid n e = grind (arith, nat_tests)
 
-there_now : (b : Of Life) (bs : List (Of Life)) (n : ℕ) → b.lcid ≡ n → (n == 0) ≡ true
+there_now : (b : Of Life) (bs : List (Of Life)) (n : ℕ) → b.channel.lcid ≡ n → (n == 0) ≡ true
     → has 0 (insert bs (place n bs) b) ≡ true
 there_now b bs n own e =
     subst (λ (m : ℕ). has m (insert bs (place n bs) b) ≡ true) (own ∙ same_lcid n e)
-    (subst (λ (m : ℕ). has b.lcid (insert bs (place m bs) b) ≡ true) own (insert_stands b bs).there)
+    (subst (λ (m : ℕ). has b.channel.lcid (insert bs (place m bs) b) ≡ true) own (insert_stands b bs).there)
 
 comes_now : (line : Line) (keys : Option Keys) (l : Link) → adds_zero line ≡ true → (side : Side)
     → has_zero side (played line keys l) ≡ true

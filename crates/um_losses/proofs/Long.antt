@@ -7,7 +7,7 @@ use Rattle.um_losses.specs.declared.flow.What.TheVariants.{Renewed, Written, Arr
 use Rattle.um_losses.specs.declared.gaps.Gaps.{Gaps}
 use Rattle.um_losses.specs.declared.pdu.Pdu.{Pdu}
 use Rattle.um_losses.specs.declared.sending.Sent.{Sent}
-use Rattle.um_losses.specs.Flow.{Flow, all_gone, heard, arrived, arrived_if, written_in, after}
+use Rattle.um_losses.specs.Flow.{Flow, all_gone, heard, arrived_if, written_in, after}
 use Rattle.um_losses.specs.Gaps.{numbered, counted, all_counted}
 use Rattle.um_losses.specs.Pdus.{is_pdu}
 use Rattle.um_losses.specs.Tags.{last_tag, tagged}

@@ -1,6 +1,6 @@
 -- What records tell of one direction of a channel is what becomes of its flow as they are seen.
-use Rattle.std.proofs.Common.{◌≡◌, ℕ, ◌^◌, ◌==◌, ◌&&◌, ◌||◌, nat_le, not, Bool, true, false, if◌then◌else◌, List, []}
-use Rattle.std.proofs.Common.{◌∷◌, ◌++◌, map, Option, Some, None, is_some, slice_index_or, refl, ap, sym, subst, arith}
+use Rattle.std.proofs.Common.{◌≡◌, ℕ, ◌^◌, ◌==◌, ◌&&◌, ◌||◌, not, Bool, true, false, if◌then◌else◌, List, []}
+use Rattle.std.proofs.Common.{◌∷◌, ◌++◌, map, Option, Some, None, is_some, slice_index_or, refl, ap, arith}
 use Rattle.std.proofs.Common.{◌∙◌}
 use Rattle.std.specs.Prelude.{option_map}
 use Rattle.std.proofs.lemmas.Bool.Decides.{nat_tests}
@@ -8,14 +8,13 @@ use Rattle.air_record.specs.declared.record.Record.{Record}
 use Rattle.mac_pdu.specs.declared.item.Direction.{Direction}
 use Rattle.mac_pdu.specs.declared.item.Direction.TheVariants.{Down, Up}
 use Rattle.um_losses.specs.declared.cursor.Change.{Change}
-use Rattle.um_losses.specs.declared.cursor.Cursor.{Cursor}
 use Rattle.um_losses.specs.declared.flow.What.{What}
 use Rattle.um_losses.specs.declared.flow.What.TheVariants.{Renewed, Written, Arrived, Forged, Expired, Restarted}
 use Rattle.um_losses.specs.declared.flow.Whose.{Whose}
 use Rattle.um_losses.specs.declared.flow.Whose.TheVariants.{All, Each, One}
 use Rattle.um_losses.specs.declared.pdu.Pdu.{Pdu}
 use Rattle.um_losses.specs.declared.sending.Sent.{Sent}
-use Rattle.um_losses.specs.Flow.{Flow, begun, all_gone, heard, arrived_if, written_in, after, is_of, concerns}
+use Rattle.um_losses.specs.Flow.{Flow, begun, heard, arrived_if, after, is_of, concerns}
 use Rattle.bearer_types.specs.Sides.{is_same_way}
 use Rattle.um_losses.specs.Gaps.{numbered}
 use Rattle.um_losses.specs.Losses.{Losses, is_long, is_bearer, both, with_bearer, changed_one, changed, seen}

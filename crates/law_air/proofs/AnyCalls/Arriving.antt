@@ -1,7 +1,7 @@
 -- What goes up on LCID 0 through the stages and calls of a link.
 use Rattle.std.proofs.Common.{◌≡◌, ◌≤◌, ℕ, ◌%◌, ◌==◌, Bool, true, false, if◌then◌else◌, Option, Some, None, List, []}
 use Rattle.std.proofs.Common.{◌∷◌, ◌++◌, map, append_assoc, append-nil, refl, ap, sym, subst, ◌∙◌}
-use Rattle.std.specs.List.{filter}
+use Rattle.std.specs.List.{filter, AllByRecursion}
 use Rattle.std.specs.Prelude.{slice_index_or, slice_set, unwrap_or}
 use Rattle.air_link.specs.Downlink.{visits as visits_process, builds, built_ndi, block_at, sends, receives, hears}
 use Rattle.air_link.specs.Downlink.{feeds, told_as, is_good, saw_new, sees, answer, comes, hears_by, lands, unseen}
@@ -50,6 +50,8 @@ use Rattle.l2_types.specs.declared.side.Side.TheVariants.{Nb, Ue}
 use Rattle.mac_pdu.specs.declared.item.Direction.{Direction}
 use Rattle.mac_pdu.specs.declared.item.Direction.TheVariants as directions
 use Rattle.pdu_show.specs.Show.{block_shown}
+use Rattle.law_node.specs.Order.{channels}
+use Rattle.law_node.proofs.Sound.{IsInRange}
 use Rattle.prioritise.specs.Shares.{Bucketed}
 use Rattle.prioritise.specs.ShareLaws.{IsSound}
 use Rattle.test_loop.specs.declared.Mode.{Mode}
@@ -154,7 +156,11 @@ view l = record { nb = kept_of l.nb; ue = kept_of l.ue; out = l.out }
 stands_as : (known : Bool) (side : Side) (e f : End) → kept_of f ≡ kept_of e → Stands known side e → Stands known side f
 stands_as known side e f same s = record {
   side_is = ap (λ (k : Holds). k.side) same ∙ s.side_is;
-  sound = subst (λ (b : Bucketed). IsSound b) (sym (ap (λ (k : Holds). k.buckets) same)) s.sound;
+  sound = record {
+    buckets_are = subst (λ (b : Bucketed). IsSound b) (sym (ap (λ (k : Holds). k.buckets) same)) s.sound.buckets_are;
+    bearers_are = subst (λ (b : List (Of Life)). AllByRecursion IsInRange (channels b))
+        (sym (ap (λ (k : Holds). k.bearers) same)) s.sound.bearers_are;
+  };
   bearers = subst (λ (b : List (Of Life)). ArePlain b) (sym (ap (λ (k : Holds). k.bearers) same)) s.bearers;
   there = ap (λ (k : Holds). has 0 k.bearers) same ∙ s.there;
 }

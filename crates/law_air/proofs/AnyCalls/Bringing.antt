@@ -32,8 +32,7 @@ use Rattle.law_node.proofs.Keeping.{AllAre, at_is, set_are, item_are, call_are, 
 use Rattle.law_node.proofs.Living.{call_side}
 use Rattle.law_node.proofs.Owning.{IsOwn, own_kept}
 use Rattle.law_node.proofs.Places.{found}
-use Rattle.law_node.proofs.Sound.{call_sound, reached_sound}
-use Rattle.prioritise.specs.ShareLaws.{IsSound}
+use Rattle.law_node.proofs.Sound.{HasSoundChannels, call_channels_sound, reached_channels_sound}
 use Rattle.law_air.specs.AnyCalls.Ends.{begins_life, ByCalls, LivesOn}
 use Rattle.law_air.specs.AnyCalls.Zero.{HasCome}
 use Rattle.promises.specs.Zero.{carried_in, carried_by, carried}
@@ -79,11 +78,12 @@ sdu_zeros : (there : Bool) (lcid : ℕ) (pdu : List ℕ) (h : Heard) → has lci
 sdu_zeros true lcid pdu h e p =
     let at = find lcid h.bearers in
     let b = bearer_at h.bearers at in
-    let told : zeros (arriving b.lcid b.state.flow pdu) ≡ carried_in (sdu lcid pdu) =
-    arriving_zeros b.lcid b.state.flow pdu (at_is IsOwn h.bearers at own_kept p.own)
+    let told : zeros (arriving b.channel.lcid b.state.flow pdu) ≡ carried_in (sdu lcid pdu) =
+    arriving_zeros b.channel.lcid b.state.flow pdu (at_is IsOwn h.bearers at own_kept p.own)
     (at_is IsPlain h.bearers at plain_kept p.plain)
     ∙ ap (λ (n : ℕ). carried_in (sdu n pdu)) (found lcid h.bearers e) in
-    rw e (zeros_then h.events (arriving b.lcid b.state.flow pdu) ∙ ap (λ (x : List (List ℕ)). zeros h.events ++ x) told)
+    rw e (zeros_then h.events (arriving b.channel.lcid b.state.flow pdu)
+    ∙ ap (λ (x : List (List ℕ)). zeros h.events ++ x) told)
 sdu_zeros false lcid pdu h e p = rw e (zeros_then h.events (events.Drop lcid lost.NoBearer ∷ []))
 
 item_zeros : (known : Bool) (i : MacItem) (h : Heard) → has 0 h.bearers ≡ known → ArePlain h.bearers
@@ -123,7 +123,7 @@ block_zeros known (Err refusal) h none there p = none_both h.events (events.BadM
 
 pub record Stands (known : Bool) (side : Side) (e : End) : Type 0 where
   pub side_is : e.side ≡ side
-  pub sound : IsSound e.buckets
+  pub sound : HasSoundChannels e
   pub bearers : ArePlain e.bearers
   pub there : has 0 e.bearers ≡ known
 
@@ -143,13 +143,13 @@ ticks_plain (b ∷ bs) at h p none =
     let x = bearer_at h.bearers at in
     let own = at_is IsOwn h.bearers at own_kept p.own in
     let plain = at_is IsPlain h.bearers at plain_kept p.plain in
-    let y = of x.lcid (alive (flow_ticked x.state.flow)) in
+    let y = of x.channel (alive (flow_ticked x.state.flow)) in
     ticks_plain bs (at + 1) (ticks_at at h)
     (record {
-      own = set_are IsOwn h.bearers at y p.own (own_kept.ticks x.lcid x.state.flow own);
-      plain = set_are IsPlain h.bearers at y p.plain (plain_kept.ticks x.lcid x.state.flow plain);
+      own = set_are IsOwn h.bearers at y p.own (own_kept.ticks x.channel.lcid x.state.flow own);
+      plain = set_are IsPlain h.bearers at y p.plain (plain_kept.ticks x.channel.lcid x.state.flow plain);
     })
-    (none_both h.events (ticking x.state.flow) none (ticking_none x.lcid x.state.flow own plain))
+    (none_both h.events (ticking x.state.flow) none (ticking_none x.channel.lcid x.state.flow own plain))
 
 pub ticked_others : (known : Bool) (side : Side) (e : End) → Stands known side e → AreOthers (ticked e).events
 unfolding ticked
@@ -165,13 +165,13 @@ unfolding expiry
 expiry_others known side e lcid clock s =
     let at = find lcid e.bearers in
     let b = bearer_of lcid e in
-    others_if _ (expiry_none b.lcid b.state.flow clock (at_is IsOwn e.bearers at own_kept s.bearers.own)
+    others_if _ (expiry_none b.channel.lcid b.state.flow clock (at_is IsOwn e.bearers at own_kept s.bearers.own)
     (at_is IsPlain e.bearers at plain_kept s.bearers.plain))
 
 stopping_plain : (bs : List (Of Life)) → AllAre IsOwn bs → AllAre IsPlain bs → AreOthers (all_stopping bs)
 stopping_plain [] own plain = refl
 stopping_plain (b ∷ bs) own plain =
-    none_both (stopping b.state.flow) (all_stopping bs) (stopping_none b.lcid b.state.flow own.0 plain.0)
+    none_both (stopping b.state.flow) (all_stopping bs) (stopping_none b.channel.lcid b.state.flow own.0 plain.0)
     (stopping_plain bs own.1 plain.1)
 
 pub leaving_others : (known : Bool) (side : Side) (e : End) → Stands known side e → AreOthers (leaving e)
@@ -187,10 +187,10 @@ stands_run known side (c ∷ cs) e g free s =
     stands_run known side cs (after_call e c) g.1 free.1
     (record {
       side_is = call_side e c ∙ s.side_is;
-      sound = call_sound e c g.0 s.sound;
+      sound = call_channels_sound e c g.0 s.sound;
       bearers = record {
-        own = call_are IsOwn own_kept e c g.0 s.sound s.bearers.own;
-        plain = call_are IsPlain plain_kept e c g.0 s.sound s.bearers.plain;
+        own = call_are IsOwn own_kept e c g.0 s.sound.buckets_are s.bearers.own;
+        plain = call_are IsPlain plain_kept e c g.0 s.sound.buckets_are s.bearers.plain;
       };
       there = (run_goes 0 (c ∷ []) e (g.0, tt) s.sound s.bearers.own (free.0, tt)).has_is ∙ s.there;
     })
@@ -236,7 +236,7 @@ come_stands side e h =
     let r = reached side h.maximum h.reports h.calls in
     let s : Stands (has 0 r.bearers) side r = record {
       side_is = (reached_whole side h.maximum h.reports h.calls).side_is;
-      sound = reached_sound side h.maximum h.reports h.calls h.given;
+      sound = reached_channels_sound side h.maximum h.reports h.calls h.given;
       bearers = record {
         own = reached_are IsOwn own_kept side h.maximum h.reports h.calls h.given;
         plain = reached_are IsPlain plain_kept side h.maximum h.reports h.calls h.given;

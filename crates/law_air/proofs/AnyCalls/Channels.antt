@@ -1,150 +1,64 @@
 -- The channels of an end stay through its calls, but where a bearer is added.
-use Rattle.std.proofs.Common.{◌≡◌, ℕ, zero, suc, ◌+◌, nat_lt, Bool, true, false, if◌then◌else◌, Option, Some, None}
-use Rattle.std.proofs.Common.{Result, Ok, Err, List, [], ◌∷◌, map, insert, set, arith, refl, ap, sym, ◌∙◌}
-use Rattle.std.specs.Prelude.{slice_index}
+use Rattle.std.proofs.Common.{◌≡◌, ℕ, ◌==◌, nat_lt, Bool, true, false, List, [], ◌∷◌, map, refl, ap, sym}
+use Rattle.std.proofs.Common.{subst, ◌∙◌, arith}
+use Rattle.std.proofs.lemmas.Bool.Decides.{nat_tests}
 use Rattle.std.specs.List.{filter}
-use Rattle.bearer.specs.Bearer.{Of, of, Life, alive, begun}
-use Rattle.bearer.specs.Hearing.{arrived as flow_arrived, expired as flow_expired, ticked as flow_ticked, with_discard}
-use Rattle.bearer.specs.Submitting.{submitted as flow_submitted}
-use Rattle.bearer.specs.Taking.{after as flow_after}
+use Rattle.bearer.specs.Bearer.{Of, Life}
+use Rattle.bearer_types.specs.declared.config.BearerConfig.{BearerConfig}
 use Rattle.eps_sec.specs.declared.Keys.{Keys}
-use Rattle.harq.specs.declared.sender.Visit.{Visit}
-use Rattle.harq.specs.declared.sender.Visit.TheVariants.{New, Resend, Silent}
-use Rattle.harq.specs.Sending.{Sending}
-use Rattle.l2_bits.specs.declared.fault.SubmitRefusal.{SubmitRefusal}
-use Rattle.l2_node.specs.Building.{visited, loaded, built_by, built, visit}
-use Rattle.l2_node.specs.End.{End, with_bearer, reset, with_visits}
-use Rattle.bearer_types.specs.Sides.{heard_by}
-use Rattle.l2_node.specs.Finding.{Numbers, find, has, place, bearer_at, lowest}
-use Rattle.l2_node.specs.Hearing.{Heard, heard, hears_sdu, hears, hears_all, heard_items, received, ticks_at}
-use Rattle.l2_node.specs.Hearing.{ticks_over, ticked, expired, bearer_of}
-use Rattle.l2_node.specs.Moving.{all_stopped, all_restarted, left_cell, joined}
-use Rattle.l2_node.specs.Submitting.{refusal, submitted, discarding}
-use Rattle.l2_node.specs.Writing.{shares, Work, work, nothing_written, writes, all_write, written}
+use Rattle.l2_node.specs.End.{End}
+use Rattle.l2_node.specs.Finding.{has}
 use Rattle.l2_types.specs.declared.channel.Channel.{Channel}
 use Rattle.l2_types.specs.declared.side.Side.{Side}
-use Rattle.mac_pdu.specs.declared.fault.MacRefusal.{MacRefusal}
-use Rattle.mac_pdu.specs.Items.{MacItem, front, element, sdu, padding}
-use Rattle.mac_pdu.specs.Reading.{reading}
-use Rattle.law_node.specs.Calls.{Turn, Call as EndCall, SetVisits, SetReports, Add, Submit, SetDiscard, Tick}
-use Rattle.law_node.specs.Calls.{TickBuckets, Visits, Grants, Granted, Assigned, Pass, Receive, Expire, Move, answered}
-use Rattle.law_node.specs.Calls.{after_submit, after as after_call, run_end}
-use Rattle.prioritise.specs.Channels.{has as has_channel, put}
-use Rattle.prioritise.specs.Shares.{Bucketed, added, after_allot, ticked as grown, emptied}
+use Rattle.law_node.specs.Calls.{Call as EndCall, SetVisits, SetReports, Add, Submit, SetDiscard, Tick}
+use Rattle.law_node.specs.Calls.{TickBuckets, Visits, Grants, Granted, Assigned, Pass, Receive, Expire, Move}
+use Rattle.law_node.specs.Calls.{after as after_call, run_end}
+use Rattle.law_node.specs.Order.{AddNew, channels}
+use Rattle.law_node.proofs.Channels.{put_by_lcid}
+use Rattle.law_node.proofs.Standing.{channels_in as bearers_in, call_channels as call_bearers, shared_in, call_shared}
+use Rattle.law_node.proofs.Standing.{OwnsChannels, call_own, run_own}
+use Rattle.prioritise.specs.Channels.{has as has_channel, lcids}
 use Rattle.air_record.specs.declared.record.Record.{Record}
 use Rattle.law_air.specs.AnyCalls.Ends.{begins_life, LivesOn}
 use Rattle.law_air.specs.AnyCalls.Order.{channels_of}
 use Rattle.promises.specs.Order.{Channels, with_lcid, with_channel}
 
-abbrev lcids : List (Of Life) → List ℕ
-lcids bs = map (λ b. b.lcid) bs
+bearers_lcids : (bs : List (Of Life)) → map (λ b. b.channel.lcid) bs ≡ lcids (channels bs)
+bearers_lcids [] = refl
+bearers_lcids (b ∷ bs) = ap (λ (ls : List ℕ). b.channel.lcid ∷ ls) (bearers_lcids bs)
 
--- another bearer of the same LCID in its place
-lcids_set : (bs : List (Of Life)) (at : ℕ) (x : Of Life) → (bearer_at bs at).lcid ≡ x.lcid
-    → lcids (set bs at x) ≡ lcids bs
-lcids_set [] at x e = refl
-lcids_set (b ∷ bs) zero x e = ap (λ (n : ℕ). n ∷ lcids bs) (sym e)
-lcids_set (b ∷ bs) (suc at) x e = ap (λ (ns : List ℕ). b.lcid ∷ ns) (lcids_set bs at x e)
+put_by : (t : Bool) (d c : Channel) (cs : List Channel) → nat_lt c.lcid d.lcid ≡ t
+    → lcids (put_by_lcid d cs) ≡ with_lcid d.lcid (lcids cs)
+    → lcids (put_by_lcid d (c ∷ cs)) ≡ with_lcid d.lcid (lcids (c ∷ cs))
+put_by true d c cs e ih = rw e (ap (λ (ls : List ℕ). c.lcid ∷ ls) ih)
+put_by false d c cs e ih = rw e refl
 
--- ---- a block comes, a TTI begins
+put_lcids : (d : Channel) (cs : List Channel) → lcids (put_by_lcid d cs) ≡ with_lcid d.lcid (lcids cs)
+put_lcids d [] = refl
+put_lcids d (c ∷ cs) = put_by (nat_lt c.lcid d.lcid) d c cs refl (put_lcids d cs)
 
-sdu_lcids : (t : Bool) (m : ℕ) (pdu : List ℕ) (h : Heard) → has m h.bearers ≡ t
-    → lcids (hears_sdu m pdu h).bearers ≡ lcids h.bearers
-sdu_lcids true m pdu h e = let b = bearer_at h.bearers (find m h.bearers) in
-    rw e (lcids_set h.bearers (find m h.bearers) (of b.lcid (alive (flow_arrived b.state.flow pdu))) refl)
-sdu_lcids false m pdu h e = rw e refl
+-- a bearer is there
+flips : (x y : ℕ) → (x == y) ≡ (y == x)
+flips x y = grind (arith, nat_tests)
 
-item_lcids : (i : MacItem) (h : Heard) → lcids (hears i h).bearers ≡ lcids h.bearers
-item_lcids front h = refl
-item_lcids (element c) h = refl
-item_lcids (sdu lcid octets) h = sdu_lcids (has lcid h.bearers) lcid octets h refl
-item_lcids (padding n) h = refl
+known_by : (t : Bool) (l : ℕ) (b : Of Life) (bs : List (Of Life)) → (b.channel.lcid == l) ≡ t
+    → (l == b.channel.lcid) ≡ t → has l bs ≡ has_channel l (channels bs)
+    → has l (b ∷ bs) ≡ has_channel l (channels (b ∷ bs))
+known_by true l b bs e f rest = rw (e, f) (grind (arith, nat_tests))
+known_by false l b bs e f rest = rw (e, f) (grind (arith, nat_tests, rest))
 
-items_lcids : (is : List MacItem) (h : Heard) → lcids (hears_all is h).bearers ≡ lcids h.bearers
-items_lcids [] h = refl
-items_lcids (i ∷ is) h = items_lcids is (hears i h) ∙ item_lcids i h
+pub known_channel : (l : ℕ) (bs : List (Of Life)) → has l bs ≡ has_channel l (channels bs)
+known_channel l [] = refl
+known_channel l (b ∷ bs) =
+    known_by (b.channel.lcid == l) l b bs refl (flips l b.channel.lcid) (known_channel l bs)
 
-block_lcids : (r : Result (List MacItem) MacRefusal) (h : Heard) → lcids (heard_items r h).bearers ≡ lcids h.bearers
-block_lcids (Ok items) h = items_lcids items h
-block_lcids (Err refusal) h = refl
+-- of lists of channels
+abbrev of_lists : List Channel → List Channel → Channels
+of_lists shared own = record { by_priority = shared; by_lcid = lcids own }
 
-ticks_lcids : (bs : List (Of Life)) (at : ℕ) (h : Heard) → lcids (ticks_over bs at h).bearers ≡ lcids h.bearers
-ticks_lcids [] at h = refl
-ticks_lcids (b ∷ bs) at h =
-    let y = bearer_at h.bearers at in
-    ticks_lcids bs (at + 1) (ticks_at at h) ∙ lcids_set h.bearers at (of y.lcid (alive (flow_ticked y.state.flow))) refl
-
-submit_lcids : (r : Option SubmitRefusal) (lcid : ℕ) (octets : List ℕ) (e : End)
-    → lcids (after_submit r lcid octets e).bearers ≡ lcids e.bearers
-unfolding submitted
-submit_lcids None lcid octets e = let b = bearer_of lcid e in
-    lcids_set e.bearers (find lcid e.bearers) (of b.lcid (alive (flow_submitted b.state.flow octets))) refl
-submit_lcids (Some why) lcid octets e = refl
-
--- ---- a block is built
-
-one_lcids : (t : Bool) (m share : ℕ) (held : Option ℕ) (w : Work) → has m w.bearers ≡ t
-    → lcids (writes m share held w).bearers ≡ lcids w.bearers
-one_lcids true m share held w h =
-    let b = bearer_at w.bearers (find m w.bearers) in
-    rw h (lcids_set w.bearers (find m w.bearers) (of b.lcid (alive (flow_after b.state.flow share held))) refl)
-one_lcids false m share held w h = rw h refl
-
-all_lcids : (s : Sending) (numbers : Numbers) (amounts : List ℕ) (cs : List Channel) (w : Work)
-    → lcids (all_write s numbers amounts cs w).bearers ≡ lcids w.bearers
-all_lcids s numbers amounts [] w = refl
-all_lcids s numbers amounts (c ∷ cs) w =
-    let amount = slice_index amounts c.lcid in
-    let held = lowest s numbers c.lcid in
-    all_lcids s numbers amounts cs (writes c.lcid amount held w)
-    ∙ one_lcids (has c.lcid w.bearers) c.lcid amount held w refl
-
-both_same : (e f : End) → f.buckets.channels ≡ e.buckets.channels → lcids f.bearers ≡ lcids e.bearers
-    → channels_of f ≡ channels_of e
-both_same e f p q =
-    ap (λ (cs : List Channel). record { by_priority = cs; by_lcid = lcids f.bearers }) p
-    ∙ ap (λ (ls : List ℕ). record { by_priority = e.buckets.channels; by_lcid = ls }) q
-
-turn_channels : (v : Visit) (t : Turn) (e : End)
-    → channels_of (answered v t (built_by v t.tti t.grant e)) ≡ channels_of e
-unfolding loaded written after_allot
-turn_channels New t e =
-    both_same e (answered New t (built_by New t.tti t.grant e)) refl
-    (all_lcids e.sender e.numbers (shares e t.grant) e.buckets.channels (work e.bearers (nothing_written e.side)))
-turn_channels (Resend rv) t e = refl
-turn_channels Silent t e = refl
-
-visit_channels : (t : Turn) (e : End)
-    → channels_of (answered (visit t.tti t.order e) t (built t.tti t.grant t.order e)) ≡ channels_of e
-unfolding built visited
-visit_channels t e = turn_channels (visit t.tti t.order e) t (visited t.tti t.order e)
-
--- ---- a handover
-
-moved_lcids : (bs : List (Of Life)) (keys : Keys) → lcids (all_restarted (all_stopped bs) keys) ≡ lcids bs
-moved_lcids [] keys = refl
-moved_lcids (b ∷ bs) keys = ap (λ (ns : List ℕ). b.lcid ∷ ns) (moved_lcids bs keys)
-
--- ---- a bearer more
-
-place_if : (t : Bool) (n : ℕ) (b x : Of Life) (bs : List (Of Life)) → nat_lt b.lcid n ≡ t
-    → lcids (insert bs (place n bs) x) ≡ with_lcid n (lcids bs) → x.lcid ≡ n
-    → lcids (insert (b ∷ bs) (place n (b ∷ bs)) x) ≡ with_lcid n (lcids (b ∷ bs))
-place_if true n b x bs e rest own =
-    let next : place n bs + 1 ≡ suc (place n bs) = omega arith in
-    rw e (rw next (ap (λ (ls : List ℕ). b.lcid ∷ ls) rest))
-place_if false n b x bs e rest own = rw e (ap (λ (m : ℕ). m ∷ b.lcid ∷ lcids bs) own)
-
-insert_lcids : (n : ℕ) (x : Of Life) (bs : List (Of Life)) → x.lcid ≡ n
-    → lcids (insert bs (place n bs) x) ≡ with_lcid n (lcids bs)
-insert_lcids n x [] own = ap (λ (m : ℕ). m ∷ []) own
-insert_lcids n x (b ∷ bs) own = place_if (nat_lt b.lcid n) n b x bs refl (insert_lcids n x bs own) own
-
-added_if : (t : Bool) (d : Channel) (b : Bucketed)
-    → (if t then b else added d b).channels ≡ (if t then b.channels else put d b.channels)
-unfolding added
-added_if true d b = refl
-added_if false d b = refl
+of_its_lists : (e : End) → channels_of e ≡ of_lists e.buckets.channels (channels e.bearers)
+of_its_lists e =
+    ap (λ (ls : List ℕ). record { by_priority = e.buckets.channels; by_lcid = ls }) (bearers_lcids e.bearers)
 
 -- ---- any call
 
@@ -152,37 +66,96 @@ abbrev pub channels_in : EndCall → Channels → Channels
 channels_in (Add config keys) c = with_channel config.channel c
 channels_in call c = c
 
-pub call_channels : (e : End) (c : EndCall) → channels_of (after_call e c) ≡ channels_in c (channels_of e)
-unfolding with_visits with_bearer begun discarding expired received ticked grown submitted left_cell joined reset
-    emptied
-call_channels e (SetVisits maximum) = refl
-call_channels e (SetReports reports) = refl
-call_channels e (Add config keys) =
+behind_call : (e : End) (c : EndCall)
+    → channels_of (after_call e c)
+    ≡ of_lists (shared_in c e.bearers e.buckets.channels) (bearers_in c (channels e.bearers))
+behind_call e c =
+    of_its_lists (after_call e c)
+    ∙ ap (λ (cs : List Channel). of_lists cs (channels (after_call e c).bearers)) (call_shared e c)
+    ∙ ap (of_lists (shared_in c e.bearers e.buckets.channels)) (call_bearers e c)
+
+-- one that adds a bearer
+pub added_channels : (e : End) (config : BearerConfig) (keys : Keys)
+    → channels_of (after_call e (Add config keys)) ≡ with_channel config.channel (channels_of e)
+added_channels e config keys =
     let d = config.channel in
-    ap (λ (cs : List Channel). record { by_priority = cs; by_lcid = lcids (after_call e (Add config keys)).bearers })
-    (added_if (has_channel d.lcid e.buckets.channels) d e.buckets)
+    behind_call e (Add config keys)
     ∙ ap (λ (ls : List ℕ). record { by_priority = (with_channel d (channels_of e)).by_priority; by_lcid = ls })
-    (insert_lcids d.lcid (begun config keys e.side) e.bearers refl)
-call_channels e (Submit lcid octets) =
-    both_same e (after_call e (Submit lcid octets)) refl (submit_lcids (refusal lcid octets e) lcid octets e)
-call_channels e (SetDiscard lcid ttis) = let b = bearer_of lcid e in
-    both_same e (after_call e (SetDiscard lcid ttis)) refl
-    (lcids_set e.bearers (find lcid e.bearers) (of b.lcid (record b.state { flow = with_discard b.state.flow ttis }))
-    refl)
-call_channels e Tick = both_same e (after_call e Tick) refl (ticks_lcids e.bearers 0 (heard e.bearers []))
-call_channels e TickBuckets = refl
-call_channels e (Visits t) = visit_channels t e
-call_channels e (Grants tti) = refl
-call_channels e (Granted tti good) = refl
-call_channels e (Assigned tti ndi good) = refl
-call_channels e (Pass tti) = refl
-call_channels e (Receive block) =
-    both_same e (after_call e (Receive block)) refl
-    (block_lcids (reading (heard_by e.side) block) (heard e.bearers []))
-call_channels e (Expire lcid clock) = let b = bearer_of lcid e in
-    both_same e (after_call e (Expire lcid clock)) refl
-    (lcids_set e.bearers (find lcid e.bearers) (of b.lcid (alive (flow_expired b.state.flow clock))) refl)
-call_channels e (Move keys) = both_same e (after_call e (Move keys)) refl (moved_lcids e.bearers keys)
+    (put_lcids d (channels e.bearers) ∙ ap (with_lcid d.lcid) (sym (bearers_lcids e.bearers)))
+
+-- one with which no life begins
+pub same_channels : (e : End) (c : EndCall) → begins_life c ≡ false → channels_of (after_call e c) ≡ channels_of e
+same_channels e (Add config keys) no = absurd cc
+same_channels e (Move keys) no = absurd cc
+same_channels e (SetVisits maximum) no = behind_call e (SetVisits maximum) ∙ sym (of_its_lists e)
+same_channels e (SetReports reports) no = behind_call e (SetReports reports) ∙ sym (of_its_lists e)
+same_channels e (Submit lcid octets) no = behind_call e (Submit lcid octets) ∙ sym (of_its_lists e)
+same_channels e (SetDiscard lcid ttis) no = behind_call e (SetDiscard lcid ttis) ∙ sym (of_its_lists e)
+same_channels e Tick no = behind_call e Tick ∙ sym (of_its_lists e)
+same_channels e TickBuckets no = behind_call e TickBuckets ∙ sym (of_its_lists e)
+same_channels e (Visits t) no = behind_call e (Visits t) ∙ sym (of_its_lists e)
+same_channels e (Grants tti) no = behind_call e (Grants tti) ∙ sym (of_its_lists e)
+same_channels e (Granted tti good) no = behind_call e (Granted tti good) ∙ sym (of_its_lists e)
+same_channels e (Assigned tti ndi good) no = behind_call e (Assigned tti ndi good) ∙ sym (of_its_lists e)
+same_channels e (Pass tti) no = behind_call e (Pass tti) ∙ sym (of_its_lists e)
+same_channels e (Receive block) no = behind_call e (Receive block) ∙ sym (of_its_lists e)
+same_channels e (Expire lcid clock) no = behind_call e (Expire lcid clock) ∙ sym (of_its_lists e)
+
+call_channels : (e : End) (c : EndCall) → OwnsChannels e
+    → channels_of (after_call e c) ≡ channels_in c (channels_of e)
+call_channels e (Add config keys) own = added_channels e config keys
+call_channels e (Move keys) own =
+    behind_call e (Move keys) ∙ ap (λ (cs : List Channel). of_lists cs (channels e.bearers)) (sym own)
+    ∙ sym (of_its_lists e)
+call_channels e (SetVisits maximum) own = same_channels e (SetVisits maximum) refl
+call_channels e (SetReports reports) own = same_channels e (SetReports reports) refl
+call_channels e (Submit lcid octets) own = same_channels e (Submit lcid octets) refl
+call_channels e (SetDiscard lcid ttis) own = same_channels e (SetDiscard lcid ttis) refl
+call_channels e Tick own = same_channels e Tick refl
+call_channels e TickBuckets own = same_channels e TickBuckets refl
+call_channels e (Visits t) own = same_channels e (Visits t) refl
+call_channels e (Grants tti) own = same_channels e (Grants tti) refl
+call_channels e (Granted tti good) own = same_channels e (Granted tti good) refl
+call_channels e (Assigned tti ndi good) own = same_channels e (Assigned tti ndi good) refl
+call_channels e (Pass tti) own = same_channels e (Pass tti) refl
+call_channels e (Receive block) own = same_channels e (Receive block) refl
+call_channels e (Expire lcid clock) own = same_channels e (Expire lcid clock) refl
+
+-- calls with which no life begins
+none_kept : (cs : List EndCall) (e : End) → filter begins_life cs ≡ [] → channels_of (run_end cs e) ≡ channels_of e
+none_kept [] e h = refl
+none_kept (Add config keys ∷ cs) e h = let no : Add config keys ∷ filter begins_life cs ≡ [] = h in absurd cc
+none_kept (Move keys ∷ cs) e h = let no : Move keys ∷ filter begins_life cs ≡ [] = h in absurd cc
+none_kept (SetVisits maximum ∷ cs) e h =
+    none_kept cs (after_call e (SetVisits maximum)) h ∙ same_channels e (SetVisits maximum) refl
+none_kept (SetReports reports ∷ cs) e h =
+    none_kept cs (after_call e (SetReports reports)) h ∙ same_channels e (SetReports reports) refl
+none_kept (Submit lcid octets ∷ cs) e h =
+    none_kept cs (after_call e (Submit lcid octets)) h ∙ same_channels e (Submit lcid octets) refl
+none_kept (SetDiscard lcid ttis ∷ cs) e h =
+    none_kept cs (after_call e (SetDiscard lcid ttis)) h ∙ same_channels e (SetDiscard lcid ttis) refl
+none_kept (Tick ∷ cs) e h =
+    none_kept cs (after_call e Tick) h ∙ same_channels e Tick refl
+none_kept (TickBuckets ∷ cs) e h =
+    none_kept cs (after_call e TickBuckets) h ∙ same_channels e TickBuckets refl
+none_kept (Visits t ∷ cs) e h =
+    none_kept cs (after_call e (Visits t)) h ∙ same_channels e (Visits t) refl
+none_kept (Grants tti ∷ cs) e h =
+    none_kept cs (after_call e (Grants tti)) h ∙ same_channels e (Grants tti) refl
+none_kept (Granted tti good ∷ cs) e h =
+    none_kept cs (after_call e (Granted tti good)) h ∙ same_channels e (Granted tti good) refl
+none_kept (Assigned tti ndi good ∷ cs) e h =
+    none_kept cs (after_call e (Assigned tti ndi good)) h ∙ same_channels e (Assigned tti ndi good) refl
+none_kept (Pass tti ∷ cs) e h =
+    none_kept cs (after_call e (Pass tti)) h ∙ same_channels e (Pass tti) refl
+none_kept (Receive block ∷ cs) e h =
+    none_kept cs (after_call e (Receive block)) h ∙ same_channels e (Receive block) refl
+none_kept (Expire lcid clock ∷ cs) e h =
+    none_kept cs (after_call e (Expire lcid clock)) h ∙ same_channels e (Expire lcid clock) refl
+
+pub channels_stay : (side : Side) (told : List Record) (e f : End) → LivesOn [] side told e f
+    → channels_of f ≡ channels_of e
+channels_stay side told e f k = ap channels_of k.by.end_is ∙ none_kept k.by.calls e k.lives_are
 
 -- ---- through calls, of which only those count with which lives begin
 
@@ -208,12 +181,64 @@ over_lives (Receive block ∷ cs) c = over_lives cs c
 over_lives (Expire l clock ∷ cs) c = over_lives cs c
 over_lives (Move keys ∷ cs) c = over_lives cs c
 
-run_channels : (cs : List EndCall) (e : End) → channels_of (run_end cs e) ≡ channels_over cs (channels_of e)
-run_channels [] e = refl
-run_channels (c ∷ cs) e = run_channels cs (after_call e c) ∙ ap (channels_over cs) (call_channels e c)
+-- ---- calls of which those that add a bearer add new ones
+
+abbrev pub AreNew : List EndCall → List Channel → Type 0
+AreNew [] cs = Unit {0}
+AreNew (Add config keys ∷ xs) cs =
+    (has_channel config.channel.lcid cs ≡ false) × AreNew xs (put_by_lcid config.channel cs)
+AreNew (x ∷ xs) cs = AreNew xs cs
+
+stays_new : (xs : List EndCall) (e : End) (x : EndCall)
+    → AreNew (filter begins_life xs) (bearers_in x (channels e.bearers))
+    → AreNew (filter begins_life xs) (channels (after_call e x).bearers)
+stays_new xs e x n = subst (AreNew (filter begins_life xs)) (sym (call_bearers e x)) n
+
+add_new : (xs : List EndCall) (e : End) → AreNew (filter begins_life xs) (channels e.bearers) → AddNew xs e
+add_new [] e n = tt
+add_new (Add config keys ∷ xs) e n =
+    (n.0, add_new xs (after_call e (Add config keys)) (stays_new xs e (Add config keys) n.1))
+add_new (SetVisits maximum ∷ xs) e n =
+    (tt, add_new xs (after_call e (SetVisits maximum)) (stays_new xs e (SetVisits maximum) n))
+add_new (SetReports reports ∷ xs) e n =
+    (tt, add_new xs (after_call e (SetReports reports)) (stays_new xs e (SetReports reports) n))
+add_new (Submit lcid octets ∷ xs) e n =
+    (tt, add_new xs (after_call e (Submit lcid octets)) (stays_new xs e (Submit lcid octets) n))
+add_new (SetDiscard lcid ttis ∷ xs) e n =
+    (tt, add_new xs (after_call e (SetDiscard lcid ttis)) (stays_new xs e (SetDiscard lcid ttis) n))
+add_new (Tick ∷ xs) e n = (tt, add_new xs (after_call e Tick) (stays_new xs e Tick n))
+add_new (TickBuckets ∷ xs) e n = (tt, add_new xs (after_call e TickBuckets) (stays_new xs e TickBuckets n))
+add_new (Visits t ∷ xs) e n = (tt, add_new xs (after_call e (Visits t)) (stays_new xs e (Visits t) n))
+add_new (Grants tti ∷ xs) e n = (tt, add_new xs (after_call e (Grants tti)) (stays_new xs e (Grants tti) n))
+add_new (Granted tti good ∷ xs) e n =
+    (tt, add_new xs (after_call e (Granted tti good)) (stays_new xs e (Granted tti good) n))
+add_new (Assigned tti ndi good ∷ xs) e n =
+    (tt, add_new xs (after_call e (Assigned tti ndi good)) (stays_new xs e (Assigned tti ndi good) n))
+add_new (Pass tti ∷ xs) e n = (tt, add_new xs (after_call e (Pass tti)) (stays_new xs e (Pass tti) n))
+add_new (Receive block ∷ xs) e n = (tt, add_new xs (after_call e (Receive block)) (stays_new xs e (Receive block) n))
+add_new (Expire lcid clock ∷ xs) e n =
+    (tt, add_new xs (after_call e (Expire lcid clock)) (stays_new xs e (Expire lcid clock) n))
+add_new (Move keys ∷ xs) e n = (tt, add_new xs (after_call e (Move keys)) (stays_new xs e (Move keys) n))
+
+run_channels : (cs : List EndCall) (e : End) → AddNew cs e → OwnsChannels e
+    → channels_of (run_end cs e) ≡ channels_over cs (channels_of e)
+run_channels [] e n own = refl
+run_channels (c ∷ cs) e n own =
+    run_channels cs (after_call e c) n.1 (call_own e c n.0 own) ∙ ap (channels_over cs) (call_channels e c own)
+
+news : (lives : List EndCall) (side : Side) (told : List Record) (e f : End) → (k : LivesOn lives side told e f)
+    → AreNew lives (channels e.bearers) → AddNew k.by.calls e
+news lives side told e f k n =
+    add_new k.by.calls e (subst (λ (xs : List EndCall). AreNew xs (channels e.bearers)) (sym k.lives_are) n)
 
 pub channels_go : (lives : List EndCall) (side : Side) (told : List Record) (e f : End) → LivesOn lives side told e f
-    → channels_of f ≡ channels_over lives (channels_of e)
-channels_go lives side told e f k =
-    ap channels_of k.by.end_is ∙ run_channels k.by.calls e ∙ sym (over_lives k.by.calls (channels_of e))
+    → AreNew lives (channels e.bearers) → OwnsChannels e → channels_of f ≡ channels_over lives (channels_of e)
+channels_go lives side told e f k n own =
+    ap channels_of k.by.end_is ∙ run_channels k.by.calls e (news lives side told e f k n) own
+    ∙ sym (over_lives k.by.calls (channels_of e))
     ∙ ap (λ (cs : List EndCall). channels_over cs (channels_of e)) k.lives_are
+
+pub owns_on : (lives : List EndCall) (side : Side) (told : List Record) (e f : End) → LivesOn lives side told e f
+    → AreNew lives (channels e.bearers) → OwnsChannels e → OwnsChannels f
+owns_on lives side told e f k n own =
+    subst OwnsChannels (sym k.by.end_is) (run_own k.by.calls e (news lives side told e f k n) own)

@@ -28,7 +28,7 @@ use Rattle.law_air.specs.AnyCalls.Order.{channels_of}
 use Rattle.promises.specs.Order.{Channels, of_building, of_an_item, of_items, of_hearing, of_timers, of_leaving}
 use Rattle.law_air.specs.AnyCalls.Zero.{HasCome}
 use Rattle.law_air.proofs.AnyCalls.Bringing.{come_stands, come_on}
-use Rattle.law_air.proofs.AnyCalls.Channels.{channels_go}
+use Rattle.law_air.proofs.AnyCalls.Channels.{channels_stay}
 
 -- ---- an end with its channels, as it has come
 
@@ -42,7 +42,7 @@ ready_on side c told e f k r =
     record {
       come = come_on side told e f k.by r.come;
       channels_are =
-          channels_go [] side told e f k ∙ r.channels_are;
+          channels_stay side told e f k ∙ r.channels_are;
     }
 
 told_in_order : (side : Side) (c : Channels) (e : End) → IsReady side c e → IsToldInOrder e
@@ -53,8 +53,8 @@ told_in_order side c e r =
 -- ---- over lists
 
 each_map : (f : Of Life → SequencesOf Event) (g : ℕ → SequencesOf Event)
-    → ((b : Of Life) (told : List Event) → f b told → g b.lcid told) → (bs : List (Of Life)) (told : List Event)
-    → each f bs told → each g (map (λ b. b.lcid) bs) told
+    → ((b : Of Life) (told : List Event) → f b told → g b.channel.lcid told) → (bs : List (Of Life)) (told : List Event)
+    → each f bs told → each g (map (λ b. b.channel.lcid) bs) told
 each_map f g k [] told p = p
 each_map f g k (b ∷ bs) told p =
     record {
@@ -78,15 +78,15 @@ each_more f g k (i ∷ is) told p =
     }
 
 -- a bearer is there
-known_by : (t : Bool) (lcid : ℕ) (b : Of Life) (bs : List (Of Life)) → (b.lcid == lcid) ≡ t
-    → has lcid bs ≡ list_any (λ n. n == lcid) (map (λ b. b.lcid) bs)
-    → has lcid (b ∷ bs) ≡ list_any (λ n. n == lcid) (map (λ b. b.lcid) (b ∷ bs))
+known_by : (t : Bool) (lcid : ℕ) (b : Of Life) (bs : List (Of Life)) → (b.channel.lcid == lcid) ≡ t
+    → has lcid bs ≡ list_any (λ n. n == lcid) (map (λ b. b.channel.lcid) bs)
+    → has lcid (b ∷ bs) ≡ list_any (λ n. n == lcid) (map (λ b. b.channel.lcid) (b ∷ bs))
 known_by true lcid b bs e rest = rw e (grind (arith, nat_tests))
 known_by false lcid b bs e rest = rw e (grind (arith, nat_tests, rest))
 
-pub known_is : (lcid : ℕ) (bs : List (Of Life)) → has lcid bs ≡ list_any (λ n. n == lcid) (map (λ b. b.lcid) bs)
+pub known_is : (lcid : ℕ) (bs : List (Of Life)) → has lcid bs ≡ list_any (λ n. n == lcid) (map (λ b. b.channel.lcid) bs)
 known_is lcid [] = refl
-known_is lcid (b ∷ bs) = known_by (b.lcid == lcid) lcid b bs refl (known_is lcid bs)
+known_is lcid (b ∷ bs) = known_by (b.channel.lcid == lcid) lcid b bs refl (known_is lcid bs)
 
 -- ---- what it tells
 
@@ -120,7 +120,7 @@ hears_in_order side c e r octets =
 pub ticks_in_order : (side : Side) (c : Channels) (e : End) → IsReady side c e → of_timers c (ticked e).events
 ticks_in_order side c e r =
     subst (λ (x : Channels). of_timers x (ticked e).events) r.channels_are
-    (each_map (λ b. in_a_tti b.lcid) in_a_tti (λ b told p. p) e.bearers (ticked e).events
+    (each_map (λ b. in_a_tti b.channel.lcid) in_a_tti (λ b told p. p) e.bearers (ticked e).events
     (told_in_order side c e r).ticking)
 
 pub expires_in_order : (side : Side) (c : Channels) (e : End) → IsReady side c e → (lcid : ℕ) (clock : Clock)
@@ -130,5 +130,6 @@ expires_in_order side c e r lcid clock = (told_in_order side c e r).expiring lci
 pub leaves_in_order : (side : Side) (c : Channels) (e : End) → IsReady side c e → of_leaving c (leaving e)
 leaves_in_order side c e r =
     subst (λ (x : Channels). of_leaving x (leaving e)) r.channels_are
-    (each_map (λ b. at_the_end (is_srb b.lcid) b.lcid) (λ lcid. at_the_end (is_srb lcid) lcid) (λ b told p. p)
+    (each_map (λ b. at_the_end (is_srb b.channel.lcid) b.channel.lcid) (λ lcid. at_the_end (is_srb lcid) lcid)
+    (λ b told p. p)
     e.bearers (leaving e) (told_in_order side c e r).moving)

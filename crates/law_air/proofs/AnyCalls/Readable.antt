@@ -33,11 +33,12 @@ use Rattle.law_node.specs.Calls.{Grants, Granted, Assigned, Pass, Receive, Expir
 use Rattle.law_node.specs.Calls.{after, run_end, reached}
 use Rattle.law_node.proofs.Blocks.{has_what_was_written}
 use Rattle.law_node.proofs.Holders.{fresh_none}
+use Rattle.law_air.specs.AnyCalls.Ends.{begins_life}
 use Rattle.law_air.specs.AnyCalls.Order.{channels_of}
 use Rattle.law_air.specs.AnyCalls.Zero.{HasCome}
 use Rattle.law_air.specs.TwoEnds.On.{block_at}
 use Rattle.law_air.proofs.AnyCalls.Blocks.{visited_whole, reached_whole, some_by, block_is}
-use Rattle.law_air.proofs.AnyCalls.Channels.{channels_in, call_channels}
+use Rattle.law_air.proofs.AnyCalls.Channels.{added_channels, same_channels}
 use Rattle.law_air.proofs.AnyCalls.Going.{run_on, given_on}
 use Rattle.law_air.proofs.AnyCalls.Orders.{IsReady, known_is}
 use Rattle.law_air.proofs.TwoEnds.Processes.{IsFirst, IsNext, Turns, resent_held, turned_turns, visit_at}
@@ -257,23 +258,23 @@ module _ (side : Side) (maximum : ℕ) (reports : Bool) (past : List Call) (give
   visit_holds : (t : Turn) → IsGiven (Visits t) → HoldReadable side here → HoldReadable side (after here (Visits t))
   visit_holds t g h p b is =
       let octets = new_block (visited t.tti t.order here) t.grant in
-      subst (λ (x : Channels). CanRead side x b.octets) (sym (call_channels here (Visits t)))
+      subst (λ (x : Channels). CanRead side x b.octets) (sym (same_channels here (Visits t) refl))
       (turn_reads side (channels_of here) (as_turned t octets) here.sender
       (reached_whole side maximum reports past).eight h
       (λ new. new_reads side maximum reports past given t.tti t.order t.grant
       (some_by t.tti t.grant t.order here g.1 new) g.0) p b
       (ap (λ (x : Sending). block_at x p) (sym (visits_turned here t)) ∙ is))
 
-  call_same : (c : Call) → (after here c).sender ≡ here.sender → channels_in c (channels_of here) ≡ channels_of here
-      → HoldReadable side here → HoldReadable side (after here c)
-  call_same c sender stay h = holds_same side here (after here c) sender (call_channels here c ∙ stay) h
+  call_same : (c : Call) → (after here c).sender ≡ here.sender → begins_life c ≡ false → HoldReadable side here
+      → HoldReadable side (after here c)
+  call_same c sender no h = holds_same side here (after here c) sender (same_channels here c no) h
 
   call_holds : (c : Call) → IsGiven c → HoldReadable side here → HoldReadable side (after here c)
   unfolding with_visits with_bearer submitted discarding expired left_cell joined reset
   call_holds (SetVisits n) g h = fresh_holds side n (after here (SetVisits n)) refl
   call_holds (SetReports b) g h = call_same (SetReports b) refl refl h
   call_holds (Add config keys) g h =
-      holds_more side config.channel here (after here (Add config keys)) refl (call_channels here (Add config keys)) h
+      holds_more side config.channel here (after here (Add config keys)) refl (added_channels here config keys) h
   call_holds (Submit lcid octets) g h = call_same (Submit lcid octets) refl refl h
   call_holds (SetDiscard lcid ttis) g h = call_same (SetDiscard lcid ttis) refl refl h
   call_holds Tick g h = call_same Tick refl refl h

@@ -23,7 +23,10 @@ use Rattle.l2_types.specs.declared.limits.TheConstants.{GREATEST_GRANT}
 -- ---- what an end tells in a call
 
 abbrev pub channels_of : End → Channels
-channels_of e = record { by_priority = e.buckets.channels; by_lcid = map (λ b. b.lcid) e.bearers }
+channels_of e = record {
+  by_priority = e.buckets.channels;
+  by_lcid = map (λ b. b.channel.lcid) e.bearers;
+}
 
 -- ---- the other calls
 

@@ -34,21 +34,21 @@ use Rattle.law_deliver.proofs.AmFlow.Lives.{moved_bearers}
 -- how many bearers a channel has
 abbrev pub many_of : ℕ → List (Of Life) → ℕ
 many_of l [] = 0
-many_of l (b ∷ bs) = (if b.lcid == l then 1 else 0) + many_of l bs
+many_of l (b ∷ bs) = (if b.channel.lcid == l then 1 else 0) + many_of l bs
 
 -- ---- bearers that change in their places
 
-set_many : (l : ℕ) (bs : List (Of Life)) (at : ℕ) (x : Of Life) → (bearer_at bs at).lcid ≡ x.lcid
+set_many : (l : ℕ) (bs : List (Of Life)) (at : ℕ) (x : Of Life) → (bearer_at bs at).channel.lcid ≡ x.channel.lcid
     → many_of l (set bs at x) ≡ many_of l bs
 set_many l [] at x e = refl
 set_many l (b ∷ bs) zero x e = ap (λ (n : ℕ). (if n == l then 1 else 0) + many_of l bs) (sym e)
-set_many l (b ∷ bs) (suc at) x e = ap (λ (n : ℕ). (if b.lcid == l then 1 else 0) + n) (set_many l bs at x e)
+set_many l (b ∷ bs) (suc at) x e = ap (λ (n : ℕ). (if b.channel.lcid == l then 1 else 0) + n) (set_many l bs at x e)
 
 sdu_many : (there : Bool) (l m : ℕ) (pdu : List ℕ) (h : Heard) → has m h.bearers ≡ there
     → many_of l (hears_sdu m pdu h).bearers ≡ many_of l h.bearers
 sdu_many true l m pdu h e =
     let b = bearer_at h.bearers (find m h.bearers) in
-    rw e (set_many l h.bearers (find m h.bearers) (of b.lcid (alive (flow_arrived b.state.flow pdu))) refl)
+    rw e (set_many l h.bearers (find m h.bearers) (of b.channel (alive (flow_arrived b.state.flow pdu))) refl)
 sdu_many false l m pdu h e = rw e refl
 
 item_many : (l : ℕ) (i : MacItem) (h : Heard) → many_of l (hears i h).bearers ≡ many_of l h.bearers
@@ -72,13 +72,13 @@ ticks_many l [] at h = refl
 ticks_many l (b ∷ bs) at h =
     let y = bearer_at h.bearers at in
     ticks_many l bs (at + 1) (ticks_at at h)
-    ∙ set_many l h.bearers at (of y.lcid (alive (flow_ticked y.state.flow))) refl
+    ∙ set_many l h.bearers at (of y.channel (alive (flow_ticked y.state.flow))) refl
 
 write_many : (there : Bool) (l m share : ℕ) (held : Option ℕ) (w : Work) → has m w.bearers ≡ there
     → many_of l (writes m share held w).bearers ≡ many_of l w.bearers
 write_many true l m share held w e =
     let b = bearer_at w.bearers (find m w.bearers) in
-    rw e (set_many l w.bearers (find m w.bearers) (of b.lcid (alive (flow_after b.state.flow share held))) refl)
+    rw e (set_many l w.bearers (find m w.bearers) (of b.channel (alive (flow_after b.state.flow share held))) refl)
 write_many false l m share held w e = rw e refl
 
 writes_many : (l : ℕ) (s : Sending) (numbers : Numbers) (amounts : List ℕ) (cs : List Channel) (w : Work)
@@ -108,32 +108,32 @@ submit_many : (r : Option SubmitRefusal) (l lcid : ℕ) (octets : List ℕ) (e :
 unfolding submitted
 submit_many None l lcid octets e =
     let b = bearer_of lcid e in
-    set_many l e.bearers (find lcid e.bearers) (of b.lcid (alive (flow_submitted b.state.flow octets))) refl
+    set_many l e.bearers (find lcid e.bearers) (of b.channel (alive (flow_submitted b.state.flow octets))) refl
 submit_many (Some why) l lcid octets e = refl
 
 moved_many : (l : ℕ) (bs : List (Of Life)) (keys : Keys)
     → many_of l (all_restarted (all_stopped bs) keys) ≡ many_of l bs
 moved_many l [] keys = refl
-moved_many l (b ∷ bs) keys = ap (λ (n : ℕ). (if b.lcid == l then 1 else 0) + n) (moved_many l bs keys)
+moved_many l (b ∷ bs) keys = ap (λ (n : ℕ). (if b.channel.lcid == l then 1 else 0) + n) (moved_many l bs keys)
 
 -- ---- a bearer more
 
 insert_many : (l : ℕ) (bs : List (Of Life)) (at : ℕ) (x : Of Life)
-    → many_of l (insert bs at x) ≡ (if x.lcid == l then 1 else 0) + many_of l bs
+    → many_of l (insert bs at x) ≡ (if x.channel.lcid == l then 1 else 0) + many_of l bs
 insert_many l bs zero x = refl
 insert_many l [] (suc at) x = refl
 insert_many l (b ∷ bs) (suc at) x =
     let more = insert_many l bs at x in
     omega (arith, more)
 
-first_none : (t : Bool) (l : ℕ) (b : Of Life) (bs : List (Of Life)) → (b.lcid == l) ≡ t → has l (b ∷ bs) ≡ false
+first_none : (t : Bool) (l : ℕ) (b : Of Life) (bs : List (Of Life)) → (b.channel.lcid == l) ≡ t → has l (b ∷ bs) ≡ false
     → (has l bs ≡ false → many_of l bs ≡ 0) → many_of l (b ∷ bs) ≡ 0
 first_none true l b bs e none rest = absurd (grind (arith, nat_tests))
 first_none false l b bs e none rest = let none_more = rest (grind (arith, nat_tests)) in rw e (omega (arith, none_more))
 
 none_of : (l : ℕ) (bs : List (Of Life)) → has l bs ≡ false → many_of l bs ≡ 0
 none_of l [] none = refl
-none_of l (b ∷ bs) none = first_none (b.lcid == l) l b bs refl none (none_of l bs)
+none_of l (b ∷ bs) none = first_none (b.channel.lcid == l) l b bs refl none (none_of l bs)
 
 one_at_most : (t : Bool) (l : ℕ) (bs : List (Of Life)) → (t ≡ true → has l bs ≡ false) → many_of l bs ≤ 1
     → (if t then 1 else 0) + many_of l bs ≤ 1
@@ -162,7 +162,7 @@ call_alone l e (Submit lcid octets) new one =
     (submit_many (refusal lcid octets e) l lcid octets e) one
 call_alone l e (SetDiscard lcid ttis) new one =
     let b = bearer_of lcid e in
-    let x : Of Life = of b.lcid (record b.state { flow = with_discard b.state.flow ttis }) in
+    let x : Of Life = of b.channel (record b.state { flow = with_discard b.state.flow ttis }) in
     same_most (many_of l (set e.bearers (find lcid e.bearers) x)) (many_of l e.bearers)
     (set_many l e.bearers (find lcid e.bearers) x refl) one
 call_alone l e Tick new one =
@@ -180,7 +180,7 @@ call_alone l e (Receive block) new one =
     (block_many l (reading (heard_by e.side) block) (heard e.bearers [])) one
 call_alone l e (Expire lcid clock) new one =
     let b = bearer_of lcid e in
-    let x : Of Life = of b.lcid (alive (flow_expired b.state.flow clock)) in
+    let x : Of Life = of b.channel (alive (flow_expired b.state.flow clock)) in
     same_most (many_of l (set e.bearers (find lcid e.bearers) x)) (many_of l e.bearers)
     (set_many l e.bearers (find lcid e.bearers) x refl) one
 call_alone l e (Move keys) new one =

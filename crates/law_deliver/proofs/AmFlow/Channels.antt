@@ -68,7 +68,7 @@ sdu_by : (there : Bool) (l m : ℕ) (pdu : List ℕ) (h : Heard) → has m h.bea
     → GoesBy l h.bearers (hears_sdu m pdu h).bearers (only (m == l) (Arrives pdu))
 sdu_by true l m pdu h e =
     let b = bearer_at h.bearers (find m h.bearers) in
-    rw e (on_by (m == l) true l m h.bearers (of b.lcid (alive (flow_arrived b.state.flow pdu))) (Arrives pdu) refl e
+    rw e (on_by (m == l) true l m h.bearers (of b.channel (alive (flow_arrived b.state.flow pdu))) (Arrives pdu) refl e
     refl refl)
 sdu_by false l m pdu h e = rw e (absent_by (m == l) l m h.bearers (Arrives pdu) refl e)
 
@@ -97,11 +97,11 @@ block_by l (Err refusal) h = rests l h.bearers
 -- ---- a TTI begins: the bearer at each place ticks, so that of the channel once
 
 ticked_at : ℕ → Heard → Of Life
-ticked_at at h = let y = bearer_at h.bearers at in of y.lcid (alive (flow_ticked y.state.flow))
+ticked_at at h = let y = bearer_at h.bearers at in of y.channel (alive (flow_ticked y.state.flow))
 
 find_stays : (l at : ℕ) (h : Heard) → find l (ticks_at at h).bearers ≡ find l h.bearers
 find_stays l at h = let y = bearer_at h.bearers at in
-    find_set l h.bearers at (of y.lcid (alive (flow_ticked y.state.flow))) refl
+    find_set l h.bearers at (of y.channel (alive (flow_ticked y.state.flow))) refl
 
 ticks_past : (l : ℕ) (bs : List (Of Life)) (at : ℕ) (h : Heard) → find l h.bearers < at
     → GoesBy l h.bearers (ticks_over bs at h).bearers []
@@ -110,7 +110,7 @@ ticks_past l (b ∷ bs) at h lt =
     let y = bearer_at h.bearers at in
     let same = find_stays l at h in
     goes_then l h.bearers (ticks_at at h).bearers (ticks_over bs (at + 1) (ticks_at at h)).bearers [] []
-    (set_apart l at h.bearers (of y.lcid (alive (flow_ticked y.state.flow))) refl (λ there q. omega (arith, lt, q)))
+    (set_apart l at h.bearers (of y.channel (alive (flow_ticked y.state.flow))) refl (λ there q. omega (arith, lt, q)))
     (ticks_past l bs (at + 1) (ticks_at at h) (omega (arith, lt, same)))
 
 pub ticks_once : (l : ℕ) (bs : List (Of Life)) (at : ℕ) (h : Heard) → at ≤ find l h.bearers
@@ -118,7 +118,7 @@ pub ticks_once : (l : ℕ) (bs : List (Of Life)) (at : ℕ) (h : Heard) → at �
 ticks_once l [] at h le lt = absurd (omega (arith, le, lt))
 ticks_once l (b ∷ bs) at h le lt =
     let y = bearer_at h.bearers at in
-    let x : Of Life = of y.lcid (alive (flow_ticked y.state.flow)) in
+    let x : Of Life = of y.channel (alive (flow_ticked y.state.flow)) in
     let same = find_stays l at h in
     elim (cases_eq at (find l h.bearers)) [
       | inl here ↦
@@ -137,7 +137,7 @@ write_by : (there : Bool) (l m share : ℕ) (held : Option ℕ) (w : Work) → h
     → GoesBy l w.bearers (writes m share held w).bearers (only (m == l) (Takes share held))
 write_by true l m share held w e =
     let b = bearer_at w.bearers (find m w.bearers) in
-    rw e (on_by (m == l) true l m w.bearers (of b.lcid (alive (flow_after b.state.flow share held)))
+    rw e (on_by (m == l) true l m w.bearers (of b.channel (alive (flow_after b.state.flow share held)))
     (Takes share held) refl e refl refl)
 write_by false l m share held w e = rw e (absent_by (m == l) l m w.bearers (Takes share held) refl e)
 
@@ -203,7 +203,7 @@ pub submit_by : (r : Option SubmitRefusal) (l lcid : ℕ) (octets : List ℕ) (e
 unfolding submitted
 submit_by None l lcid octets e =
     let b = bearer_of lcid e in
-    on_by (lcid == l) (has lcid e.bearers) l lcid e.bearers (of b.lcid (alive (flow_submitted b.state.flow octets)))
+    on_by (lcid == l) (has lcid e.bearers) l lcid e.bearers (of b.channel (alive (flow_submitted b.state.flow octets)))
     (Submits octets) refl refl refl refl
 submit_by (Some why) l lcid octets e = rests l e.bearers
 
@@ -217,7 +217,7 @@ call_by l e (Submit lcid octets) s g there = (submit_by (refusal lcid octets e) 
 call_by l e (SetDiscard lcid ttis) s g there =
     let b = bearer_of lcid e in
     (on_by (lcid == l) (has lcid e.bearers) l lcid e.bearers
-    (of b.lcid (record b.state { flow = with_discard b.state.flow ttis })) (SetsDiscard ttis) refl refl refl
+    (of b.channel (record b.state { flow = with_discard b.state.flow ttis })) (SetsDiscard ttis) refl refl refl
     refl).goes there
 call_by l e Tick s g there =
     let lt : find l e.bearers < length e.bearers = grind (arith, nat_tests) in
@@ -231,7 +231,7 @@ call_by l e (Pass tti) s g there = refl
 call_by l e (Receive block) s g there = (block_by l (reading (heard_by e.side) block) (heard e.bearers [])).goes there
 call_by l e (Expire lcid clock) s g there =
     let b = bearer_of lcid e in
-    (on_by (lcid == l) (has lcid e.bearers) l lcid e.bearers (of b.lcid (alive (flow_expired b.state.flow clock)))
+    (on_by (lcid == l) (has lcid e.bearers) l lcid e.bearers (of b.channel (alive (flow_expired b.state.flow clock)))
     (Expires clock) refl refl refl refl).goes there
 call_by l e (Move keys) s g there = let no : keys ∷ [] ≡ [] = g.moves_none in absurd cc
 
@@ -373,7 +373,7 @@ ticked_has l [] at h = refl
 ticked_has l (b ∷ bs) at h =
     let y = bearer_at h.bearers at in
     ticked_has l bs (at + 1) (ticks_at at h)
-    ∙ has_set l h.bearers at (of y.lcid (alive (flow_ticked y.state.flow))) refl
+    ∙ has_set l h.bearers at (of y.channel (alive (flow_ticked y.state.flow))) refl
 
 pub tick_by : (l : ℕ) (e : End) → GoesBy l e.bearers (after e Tick).bearers (Ticks ∷ [])
 unfolding ticked
@@ -395,7 +395,7 @@ plain_by l e (Submit lcid octets) g v r = submit_by (refusal lcid octets e) l lc
 plain_by l e (SetDiscard lcid ttis) g v r =
     let b = bearer_of lcid e in
     on_by (lcid == l) (has lcid e.bearers) l lcid e.bearers
-    (of b.lcid (record b.state { flow = with_discard b.state.flow ttis })) (SetsDiscard ttis) refl refl refl refl
+    (of b.channel (record b.state { flow = with_discard b.state.flow ttis })) (SetsDiscard ttis) refl refl refl refl
 plain_by l e Tick g v r = tick_by l e
 plain_by l e TickBuckets g v r = rests l e.bearers
 plain_by l e (Visits t) g v r = absurd (v t refl)
@@ -406,6 +406,6 @@ plain_by l e (Pass tti) g v r = rests l e.bearers
 plain_by l e (Receive block) g v r = absurd (r block refl)
 plain_by l e (Expire lcid clock) g v r =
     let b = bearer_of lcid e in
-    on_by (lcid == l) (has lcid e.bearers) l lcid e.bearers (of b.lcid (alive (flow_expired b.state.flow clock)))
+    on_by (lcid == l) (has lcid e.bearers) l lcid e.bearers (of b.channel (alive (flow_expired b.state.flow clock)))
     (Expires clock) refl refl refl refl
 plain_by l e (Move keys) g v r = let no : keys ∷ [] ≡ [] = g.moves_none in absurd cc

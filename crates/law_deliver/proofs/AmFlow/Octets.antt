@@ -78,4 +78,4 @@ some_octets side maximum reports past l b share held g q =
     let bs = (reached side maximum reports past).bearers in
     let at = find l bs in
     let w = at_is WritesWell bs at ready_kept (reached_are WritesWell ready_kept side maximum reports past g) in
-    some_of b share held (bearer_at bs at).lcid (subst (WritesWell (bearer_at bs at).lcid) q w)
+    some_of b share held (bearer_at bs at).channel.lcid (subst (WritesWell (bearer_at bs at).channel.lcid) q w)

@@ -3,18 +3,13 @@ use Rattle.std.proofs.Common.{◌≡◌, ◌≤◌, ◌<◌, ℕ, suc, ◌+◌, 
 use Rattle.std.proofs.Common.{◌++◌, length, insert, set, get_or-set_same, get_or-set_other, refl, ap, sym, ◌∙◌, arith}
 use Rattle.std.proofs.lemmas.Bool.Decides.{nat_tests}
 use Rattle.std.proofs.lemmas.List.{set_past}
-use Rattle.bearer.specs.Bearer.{Of, of, Life, alive}
+use Rattle.bearer.specs.Bearer.{Of, Life}
 use Rattle.bearer.specs.declared.flow.Flow.{Flow}
-use Rattle.bearer.specs.declared.flow.Flow.TheVariants.{Tm}
 use Rattle.law_bearer.specs.AnyBearer.Calls.{Call as BearerCall, after as called, after_all}
-use Rattle.l2_node.specs.Finding.{find, has, place, bearer_at}
-use Rattle.rlc_um.specs.Transparent.{nothing_submitted}
+use Rattle.l2_node.specs.Finding.{find, has, place, no_bearer, bearer_at}
 use Rattle.law_node.proofs.Holding.{flow_at}
 use Rattle.law_node.proofs.Places.{find_set, has_set, found}
 use Rattle.law_deliver.specs.AmFlow.Channels.{only}
-
-abbrev nobody : Of Life
-nobody = of 0 (alive (Tm nothing_submitted))
 
 pub after_more : (f : Flow) (cs ds : List BearerCall) → after_all f (cs ++ ds) ≡ after_all (after_all f cs) ds
 after_more f [] ds = refl
@@ -38,7 +33,8 @@ goes_then l bs ds es cs more a b = record {
 
 -- ---- the bearer at a place is called
 
-pub set_here : (l at : ℕ) (bs : List (Of Life)) (x : Of Life) (c : BearerCall) → (bearer_at bs at).lcid ≡ x.lcid
+pub set_here : (l at : ℕ) (bs : List (Of Life)) (x : Of Life) (c : BearerCall)
+    → (bearer_at bs at).channel.lcid ≡ x.channel.lcid
     → x.state.flow ≡ called (bearer_at bs at).state.flow c → at ≡ find l bs
     → GoesBy l bs (set bs at x) (c ∷ [])
 set_here l at bs x c same e q = record {
@@ -47,17 +43,17 @@ set_here l at bs x c same e q = record {
       let lt : find l bs < length bs = grind (arith, nat_tests) in
       ap (λ (k : ℕ). (bearer_at (set bs at x) k).state.flow) (find_set l bs at x same)
       ∙ ap (λ (k : ℕ). (bearer_at (set bs k x) (find l bs)).state.flow) q
-      ∙ ap (λ (b : Of Life). b.state.flow) (get_or-set_same bs (find l bs) x nobody lt)
+      ∙ ap (λ (b : Of Life). b.state.flow) (get_or-set_same bs (find l bs) x no_bearer lt)
       ∙ e ∙ ap (λ (k : ℕ). called (bearer_at bs k).state.flow c) q;
 }
 
-pub set_apart : (l at : ℕ) (bs : List (Of Life)) (x : Of Life) → (bearer_at bs at).lcid ≡ x.lcid
+pub set_apart : (l at : ℕ) (bs : List (Of Life)) (x : Of Life) → (bearer_at bs at).channel.lcid ≡ x.channel.lcid
     → (has l bs ≡ true → at ≡ find l bs → ⊥) → GoesBy l bs (set bs at x) []
 set_apart l at bs x same apart = record {
   has_is = has_set l bs at x same;
   goes = λ h.
       ap (λ (k : ℕ). (bearer_at (set bs at x) k).state.flow) (find_set l bs at x same)
-      ∙ ap (λ (b : Of Life). b.state.flow) (get_or-set_other bs at (find l bs) x nobody (λ q. apart h (sym q)));
+      ∙ ap (λ (b : Of Life). b.state.flow) (get_or-set_other bs at (find l bs) x no_bearer (λ q. apart h (sym q)));
 }
 
 -- ---- the bearer of a channel is called
@@ -79,13 +75,13 @@ absent_by false l m bs c e none = rests l bs
 
 pub on_by : (here there : Bool) (l m : ℕ) (bs : List (Of Life)) (x : Of Life) (c : BearerCall) → (m == l) ≡ here
     → has m bs ≡ there
-    → (bearer_at bs (find m bs)).lcid ≡ x.lcid → x.state.flow ≡ called (flow_at m bs) c
+    → (bearer_at bs (find m bs)).channel.lcid ≡ x.channel.lcid → x.state.flow ≡ called (flow_at m bs) c
     → GoesBy l bs (set bs (find m bs) x) (only here c)
 on_by true true l m bs x c e h same q =
     set_here l (find m bs) bs x c same q (ap (λ (k : ℕ). find k bs) (same_lcid m l e))
 on_by false true l m bs x c e h same q =
     set_apart l (find m bs) bs x same
-    (λ there at. other_lcid m l e (sym (found m bs h) ∙ ap (λ (k : ℕ). (bearer_at bs k).lcid) at
+    (λ there at. other_lcid m l e (sym (found m bs h) ∙ ap (λ (k : ℕ). (bearer_at bs k).channel.lcid) at
     ∙ found l bs there))
 on_by here false l m bs x c e h same q =
     let past : length bs ≤ find m bs = grind (arith, nat_tests) in
@@ -96,19 +92,19 @@ on_by here false l m bs x c e h same q =
 lt_more : (n m : ℕ) → nat_lt (n + 1) (suc m) ≡ nat_lt n m
 lt_more n m = grind (arith, nat_tests)
 
-has_first : (l : ℕ) (b : Of Life) (bs : List (Of Life)) → (b.lcid == l) ≡ true → has l (b ∷ bs) ≡ true
+has_first : (l : ℕ) (b : Of Life) (bs : List (Of Life)) → (b.channel.lcid == l) ≡ true → has l (b ∷ bs) ≡ true
 has_first l b bs e = rw e (grind (arith, nat_tests))
 
-pub has_behind : (l : ℕ) (b : Of Life) (bs : List (Of Life)) → (b.lcid == l) ≡ false → has l (b ∷ bs) ≡ has l bs
+pub has_behind : (l : ℕ) (b : Of Life) (bs : List (Of Life)) → (b.channel.lcid == l) ≡ false → has l (b ∷ bs) ≡ has l bs
 has_behind l b bs e = rw e (lt_more (find l bs) (length bs))
 
-pub flow_behind : (l : ℕ) (b : Of Life) (bs : List (Of Life)) → (b.lcid == l) ≡ false
+pub flow_behind : (l : ℕ) (b : Of Life) (bs : List (Of Life)) → (b.channel.lcid == l) ≡ false
     → flow_at l (b ∷ bs) ≡ flow_at l bs
 flow_behind l b bs e =
     let next : find l bs + 1 ≡ suc (find l bs) = omega arith in
     rw (flow_at, e, next) refl
 
-cons_by : (t : Bool) (l : ℕ) (b : Of Life) (bs ds : List (Of Life)) → (b.lcid == l) ≡ t → GoesBy l bs ds []
+cons_by : (t : Bool) (l : ℕ) (b : Of Life) (bs ds : List (Of Life)) → (b.channel.lcid == l) ≡ t → GoesBy l bs ds []
     → GoesBy l (b ∷ bs) (b ∷ ds) []
 cons_by true l b bs ds e g = record {
   has_is = has_first l b ds e ∙ sym (has_first l b bs e);
@@ -119,18 +115,18 @@ cons_by false l b bs ds e g = record {
   goes = λ h. flow_behind l b ds e ∙ g.goes (sym (has_behind l b bs e) ∙ h) ∙ sym (flow_behind l b bs e);
 }
 
-before_by : (l : ℕ) (x : Of Life) (bs : List (Of Life)) → (x.lcid == l) ≡ false → GoesBy l bs (x ∷ bs) []
+before_by : (l : ℕ) (x : Of Life) (bs : List (Of Life)) → (x.channel.lcid == l) ≡ false → GoesBy l bs (x ∷ bs) []
 before_by l x bs e = record { has_is = has_behind l x bs e; goes = λ h. flow_behind l x bs e }
 
-other_by : (t : Bool) (l m : ℕ) (x b : Of Life) (bs : List (Of Life)) → (x.lcid == l) ≡ false
+other_by : (t : Bool) (l m : ℕ) (x b : Of Life) (bs : List (Of Life)) → (x.channel.lcid == l) ≡ false
     → GoesBy l bs (insert bs (place m bs) x) []
     → GoesBy l (b ∷ bs) (insert (b ∷ bs) (if t then place m bs + 1 else 0) x) []
 other_by true l m x b bs e g =
     let next : place m bs + 1 ≡ suc (place m bs) = omega arith in
-    rw next (cons_by (b.lcid == l) l b bs (insert bs (place m bs) x) refl g)
+    rw next (cons_by (b.channel.lcid == l) l b bs (insert bs (place m bs) x) refl g)
 other_by false l m x b bs e g = before_by l x (b ∷ bs) e
 
-pub insert_by : (l m : ℕ) (x : Of Life) (bs : List (Of Life)) → (x.lcid == l) ≡ false
+pub insert_by : (l m : ℕ) (x : Of Life) (bs : List (Of Life)) → (x.channel.lcid == l) ≡ false
     → GoesBy l bs (insert bs (place m bs) x) []
 insert_by l m x [] e = before_by l x [] e
-insert_by l m x (b ∷ bs) e = other_by (nat_lt b.lcid m) l m x b bs e (insert_by l m x bs e)
+insert_by l m x (b ∷ bs) e = other_by (nat_lt b.channel.lcid m) l m x b bs e (insert_by l m x bs e)

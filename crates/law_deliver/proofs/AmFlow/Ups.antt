@@ -8,7 +8,6 @@ use Rattle.std.proofs.Math.Seq.{get_or-append_seam, set-append_seam}
 use Rattle.std.specs.List.{AllByRecursion}
 use Rattle.bearer.specs.Bearer.{Of, of, Life, alive}
 use Rattle.bearer.specs.declared.flow.Flow.{Flow}
-use Rattle.bearer.specs.declared.flow.Flow.TheVariants.{Tm}
 use Rattle.bearer.specs.Hearing.{arriving, ticking, ticked as flow_ticked, expiry as flow_expiry}
 use Rattle.bearer.specs.Lives.{stopping}
 use Rattle.law_bearer.proofs.AnyBearer.Between.{IsBetween}
@@ -23,7 +22,7 @@ use Rattle.l2_bits.specs.declared.fault.SubmitRefusal.{SubmitRefusal}
 use Rattle.l2_node.specs.Building.{visited, building, visit, told_by as built_told}
 use Rattle.l2_node.specs.End.{End, fresh}
 use Rattle.bearer_types.specs.Sides.{heard_by}
-use Rattle.l2_node.specs.Finding.{find, has, bearer_at}
+use Rattle.l2_node.specs.Finding.{find, has, no_bearer, bearer_at}
 use Rattle.l2_node.specs.Hearing.{Heard, heard, hears_sdu, hears, hears_all, heard_items, received, ticks_at}
 use Rattle.l2_node.specs.Hearing.{ticks_over, ticked, expiry, bearer_of}
 use Rattle.l2_node.specs.Moving.{all_stopping, leaving}
@@ -36,7 +35,6 @@ use Rattle.mac_pdu.specs.declared.fault.MacRefusal.{MacRefusal}
 use Rattle.mac_pdu.specs.Items.{MacItem, front, element, sdu, padding}
 use Rattle.mac_pdu.specs.Reading.{reading}
 use Rattle.prioritise.specs.Channels.{has as has_channel}
-use Rattle.rlc_um.specs.Transparent.{nothing_submitted}
 use Rattle.law_node.specs.Bearers.{adds}
 use Rattle.law_node.specs.Calls.{Turn, Call, SetVisits, SetReports, Add, Submit, SetDiscard, Tick, TickBuckets, Visits}
 use Rattle.law_node.specs.Calls.{Grants, Granted, Assigned, Pass, Receive, Expire, Move, IsGiven, AreGiven, after}
@@ -72,17 +70,17 @@ use Rattle.law_deliver.proofs.AmFlow.Stations.{come_more, come_sound}
 
 found_tells : (here : Bool) (l m : ℕ) (bs : List (Of Life)) (c : BearerCall) → (m == l) ≡ here → has m bs ≡ true
     → AllAre IsBetween bs
-    → told_on l (tells_in (bearer_at bs (find m bs)).lcid (bearer_at bs (find m bs)).state.flow c)
+    → told_on l (tells_in (bearer_at bs (find m bs)).channel.lcid (bearer_at bs (find m bs)).state.flow c)
     ≡ tells_over l (flow_at l bs) (only here c)
 found_tells true l m bs c e h a =
     let b = bearer_at bs (find m bs) in
     let same = same_lcid m l e in
-    own_told l b.lcid b.state.flow (flow_at l bs) c (found m bs h ∙ same) (ap (λ (k : ℕ). flow_at k bs) same)
+    own_told l b.channel.lcid b.state.flow (flow_at l bs) c (found m bs h ∙ same) (ap (λ (k : ℕ). flow_at k bs) same)
     (at_is IsBetween bs (find m bs) between_kept a)
     ∙ sym (append-nil (tells_in l (flow_at l bs) c))
 found_tells false l m bs c e h a =
     let b = bearer_at bs (find m bs) in
-    other_told l b.lcid b.state.flow c (λ same. other_lcid m l e (sym (found m bs h) ∙ same))
+    other_told l b.channel.lcid b.state.flow c (λ same. other_lcid m l e (sym (found m bs h) ∙ same))
     (at_is IsBetween bs (find m bs) between_kept a)
 
 -- ---- a block comes
@@ -118,7 +116,7 @@ sdu_tells : (known : Bool) (l m : ℕ) (pdu : List ℕ) (h : Heard) → has m h.
     ≡ told_on l h.events ++ tells_over l (flow_at l h.bearers) (only (m == l) (Arrives pdu))
 sdu_tells true l m pdu h e a there =
     let b = bearer_at h.bearers (find m h.bearers) in
-    rw e (told_then l h.events (arriving b.lcid b.state.flow pdu)
+    rw e (told_then l h.events (arriving b.channel.lcid b.state.flow pdu)
     ∙ ap (λ (events : List Event). told_on l h.events ++ events)
     (found_tells (m == l) l m h.bearers (Arrives pdu) refl e a))
 sdu_tells false l m pdu h e a there =
@@ -163,8 +161,9 @@ module _ (T : Flow → List Event) (on : (m : ℕ) (f : Flow) → IsBetween m f 
   all_tell [] = []
   all_tell (b ∷ bs) = T b.state.flow ++ all_tell bs
 
-  first_none : (here : Bool) (l : ℕ) (b : Of Life) (bs : List (Of Life)) → (b.lcid == l) ≡ here
-      → IsBetween b.lcid b.state.flow → many_of l (b ∷ bs) ≡ 0 → (many_of l bs ≡ 0 → told_on l (all_tell bs) ≡ [])
+  first_none : (here : Bool) (l : ℕ) (b : Of Life) (bs : List (Of Life)) → (b.channel.lcid == l) ≡ here
+      → IsBetween b.channel.lcid b.state.flow → many_of l (b ∷ bs) ≡ 0
+      → (many_of l bs ≡ 0 → told_on l (all_tell bs) ≡ [])
       → told_on l (all_tell (b ∷ bs)) ≡ []
   first_none true l b bs e k none rest =
       absurd (omega (arith, none, ap (λ (t : Bool). (if t then 1 else 0) + many_of l bs) e))
@@ -172,21 +171,22 @@ module _ (T : Flow → List Event) (on : (m : ℕ) (f : Flow) → IsBetween m f 
       let count : many_of l bs ≡ 0 = omega (arith, none, ap (λ (t : Bool). (if t then 1 else 0) + many_of l bs) e) in
       told_then l (T b.state.flow) (all_tell bs)
       ∙ ap (λ (events : List Event). events ++ told_on l (all_tell bs))
-      (none_on l b.lcid (T b.state.flow) (other_lcid b.lcid l e) (on b.lcid b.state.flow k)) ∙ rest count
+      (none_on l b.channel.lcid (T b.state.flow) (other_lcid b.channel.lcid l e) (on b.channel.lcid b.state.flow k))
+      ∙ rest count
 
   none_tell : (l : ℕ) (bs : List (Of Life)) → AllAre IsBetween bs → many_of l bs ≡ 0 → told_on l (all_tell bs) ≡ []
   none_tell l [] a none = refl
-  none_tell l (b ∷ bs) a none = first_none (b.lcid == l) l b bs refl a.0 none (none_tell l bs a.1)
+  none_tell l (b ∷ bs) a none = first_none (b.channel.lcid == l) l b bs refl a.0 none (none_tell l bs a.1)
 
-  first_tells : (here : Bool) (l : ℕ) (b : Of Life) (bs : List (Of Life)) → (b.lcid == l) ≡ here
+  first_tells : (here : Bool) (l : ℕ) (b : Of Life) (bs : List (Of Life)) → (b.channel.lcid == l) ≡ here
       → AllAre IsBetween (b ∷ bs) → IsAlone l (b ∷ bs) → has l (b ∷ bs) ≡ true
       → (IsAlone l bs → has l bs ≡ true → told_on l (all_tell bs) ≡ T (flow_at l bs))
       → told_on l (all_tell (b ∷ bs)) ≡ T (flow_at l (b ∷ bs))
   first_tells true l b bs e a one there rest =
       let count : many_of l bs ≡ 0 = omega (arith, one, ap (λ (t : Bool). (if t then 1 else 0) + many_of l bs) e) in
       let own : told_on l (T b.state.flow) ≡ T b.state.flow =
-      ap (λ (n : ℕ). told_on n (T b.state.flow)) (sym (same_lcid b.lcid l e))
-      ∙ all_on b.lcid (T b.state.flow) (on b.lcid b.state.flow a.0) in
+      ap (λ (n : ℕ). told_on n (T b.state.flow)) (sym (same_lcid b.channel.lcid l e))
+      ∙ all_on b.channel.lcid (T b.state.flow) (on b.channel.lcid b.state.flow a.0) in
       rw (flow_at, e)
       (told_then l (T b.state.flow) (all_tell bs)
       ∙ ap (λ (events : List Event). events ++ told_on l (all_tell bs)) own
@@ -196,13 +196,13 @@ module _ (T : Flow → List Event) (on : (m : ℕ) (f : Flow) → IsBetween m f 
       let count : IsAlone l bs = omega (arith, one, ap (λ (t : Bool). (if t then 1 else 0) + many_of l bs) e) in
       told_then l (T b.state.flow) (all_tell bs)
       ∙ ap (λ (events : List Event). events ++ told_on l (all_tell bs))
-      (none_on l b.lcid (T b.state.flow) (other_lcid b.lcid l e) (on b.lcid b.state.flow a.0))
+      (none_on l b.channel.lcid (T b.state.flow) (other_lcid b.channel.lcid l e) (on b.channel.lcid b.state.flow a.0))
       ∙ rest count (sym (has_behind l b bs e) ∙ there) ∙ ap T (sym (flow_behind l b bs e))
 
   one_tells : (l : ℕ) (bs : List (Of Life)) → AllAre IsBetween bs → IsAlone l bs → has l bs ≡ true
       → told_on l (all_tell bs) ≡ T (flow_at l bs)
   one_tells l [] a one there = absurd cc
-  one_tells l (b ∷ bs) a one there = first_tells (b.lcid == l) l b bs refl a one there (one_tells l bs a.1)
+  one_tells l (b ∷ bs) a one there = first_tells (b.channel.lcid == l) l b bs refl a one there (one_tells l bs a.1)
 
 -- ---- a TTI begins
 
@@ -214,12 +214,12 @@ over_is : (bs done : List (Of Life)) (at : ℕ) (h : Heard) → h.bearers ≡ do
     → (ticks_over bs at h).events ≡ h.events ++ all_ticking bs
 over_is [] done at h e n = sym (append-nil h.events)
 over_is (b ∷ bs) done at h e n =
-    let idle = of 0 (alive (Tm nothing_submitted)) in
-    let x = of b.lcid (alive (flow_ticked b.state.flow)) in
+    let idle = no_bearer in
+    let x = of b.channel (alive (flow_ticked b.state.flow)) in
     let here : bearer_at h.bearers at ≡ b = ap (λ (xs : List (Of Life)). get_or xs at idle) e
     ∙ ap (λ (k : ℕ). get_or (done ++ b ∷ bs) k idle) (sym n) ∙ get_or-append_seam done b bs idle in
     let set_is : (ticks_at at h).bearers ≡ (done ++ x ∷ []) ++ bs =
-    ap (λ (c : Of Life). set h.bearers at (of c.lcid (alive (flow_ticked c.state.flow)))) here
+    ap (λ (c : Of Life). set h.bearers at (of c.channel (alive (flow_ticked c.state.flow)))) here
     ∙ ap (λ (xs : List (Of Life)). set xs at x) e ∙ ap (λ (k : ℕ). set (done ++ b ∷ bs) k x) (sym n)
     ∙ set-append_seam done b bs x ∙ sym (append_assoc done (x ∷ []) bs) in
     let longer : length (done ++ x ∷ []) ≡ at + 1 = omega (arith, length-append done (x ∷ []), n) in
@@ -351,7 +351,7 @@ expire_tells : (known : Bool) (l m : ℕ) (clock : Clock) (e : End) → has m e.
 unfolding flow_expiry
 expire_tells true l m clock e h a there = found_tells (m == l) l m e.bearers (Expires clock) refl h a
 expire_tells false l m clock e h a there =
-    let idle = of 0 (alive (Tm nothing_submitted)) in
+    let idle = no_bearer in
     let past : bearer_of m e ≡ idle = get_or_past e.bearers (find m e.bearers) idle (grind (arith, nat_tests)) in
     ap (λ (b : Of Life). told_on l (unwrap_or (flow_expiry b.state.flow clock) [])) past
     ∙ absent (m == l) l m e.bearers (Expires clock) refl h there

@@ -63,8 +63,8 @@ some_octets side e h l b share held q =
     let w =
     at_is WritesWell bs at ready_kept (reached_are WritesWell ready_kept side h.maximum h.reports h.past h.given)
     in
-    some_of b share held (bearer_at bs at).lcid
-    (subst (WritesWell (bearer_at bs at).lcid) (ap (λ (x : End). flow l x) (sym h.end_is) ∙ q) w)
+    some_of b share held (bearer_at bs at).channel.lcid
+    (subst (WritesWell (bearer_at bs at).channel.lcid) (ap (λ (x : End). flow l x) (sym h.end_is) ∙ q) w)
 
 -- ---- a new block
 
