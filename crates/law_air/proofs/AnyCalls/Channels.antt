@@ -85,21 +85,21 @@ added_channels e config keys =
 
 -- one with which no life begins
 pub same_channels : (e : End) (c : EndCall) → begins_life c ≡ false → channels_of (after_call e c) ≡ channels_of e
-same_channels e (Add config keys) no = absurd cc
-same_channels e (Move keys) no = absurd cc
-same_channels e (SetVisits maximum) no = behind_call e (SetVisits maximum) ∙ sym (of_its_lists e)
-same_channels e (SetReports reports) no = behind_call e (SetReports reports) ∙ sym (of_its_lists e)
-same_channels e (Submit lcid octets) no = behind_call e (Submit lcid octets) ∙ sym (of_its_lists e)
-same_channels e (SetDiscard lcid ttis) no = behind_call e (SetDiscard lcid ttis) ∙ sym (of_its_lists e)
-same_channels e Tick no = behind_call e Tick ∙ sym (of_its_lists e)
-same_channels e TickBuckets no = behind_call e TickBuckets ∙ sym (of_its_lists e)
-same_channels e (Visits t) no = behind_call e (Visits t) ∙ sym (of_its_lists e)
-same_channels e (Grants tti) no = behind_call e (Grants tti) ∙ sym (of_its_lists e)
-same_channels e (Granted tti good) no = behind_call e (Granted tti good) ∙ sym (of_its_lists e)
-same_channels e (Assigned tti ndi good) no = behind_call e (Assigned tti ndi good) ∙ sym (of_its_lists e)
-same_channels e (Pass tti) no = behind_call e (Pass tti) ∙ sym (of_its_lists e)
-same_channels e (Receive block) no = behind_call e (Receive block) ∙ sym (of_its_lists e)
-same_channels e (Expire lcid clock) no = behind_call e (Expire lcid clock) ∙ sym (of_its_lists e)
+same_channels e (Add config keys) stays = absurd cc
+same_channels e (Move keys) stays = absurd cc
+same_channels e (SetVisits maximum) stays = behind_call e (SetVisits maximum) ∙ sym (of_its_lists e)
+same_channels e (SetReports reports) stays = behind_call e (SetReports reports) ∙ sym (of_its_lists e)
+same_channels e (Submit lcid octets) stays = behind_call e (Submit lcid octets) ∙ sym (of_its_lists e)
+same_channels e (SetDiscard lcid ttis) stays = behind_call e (SetDiscard lcid ttis) ∙ sym (of_its_lists e)
+same_channels e Tick stays = behind_call e Tick ∙ sym (of_its_lists e)
+same_channels e TickBuckets stays = behind_call e TickBuckets ∙ sym (of_its_lists e)
+same_channels e (Visits t) stays = behind_call e (Visits t) ∙ sym (of_its_lists e)
+same_channels e (Grants tti) stays = behind_call e (Grants tti) ∙ sym (of_its_lists e)
+same_channels e (Granted tti good) stays = behind_call e (Granted tti good) ∙ sym (of_its_lists e)
+same_channels e (Assigned tti ndi good) stays = behind_call e (Assigned tti ndi good) ∙ sym (of_its_lists e)
+same_channels e (Pass tti) stays = behind_call e (Pass tti) ∙ sym (of_its_lists e)
+same_channels e (Receive block) stays = behind_call e (Receive block) ∙ sym (of_its_lists e)
+same_channels e (Expire lcid clock) stays = behind_call e (Expire lcid clock) ∙ sym (of_its_lists e)
 
 call_channels : (e : End) (c : EndCall) → OwnsChannels e
     → channels_of (after_call e c) ≡ channels_in c (channels_of e)

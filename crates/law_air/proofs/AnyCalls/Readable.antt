@@ -267,7 +267,7 @@ module _ (side : Side) (maximum : ℕ) (reports : Bool) (past : List Call) (give
 
   call_same : (c : Call) → (after here c).sender ≡ here.sender → begins_life c ≡ false → HoldReadable side here
       → HoldReadable side (after here c)
-  call_same c sender no h = holds_same side here (after here c) sender (same_channels here c no) h
+  call_same c sender stays h = holds_same side here (after here c) sender (same_channels here c stays) h
 
   call_holds : (c : Call) → IsGiven c → HoldReadable side here → HoldReadable side (after here c)
   unfolding with_visits with_bearer submitted discarding expired left_cell joined reset
