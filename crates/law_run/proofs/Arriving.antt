@@ -39,7 +39,7 @@ taken_is l c past d kind from =
     told.taken_are
     ∙ (ap (λ (es : List Event). taken_of l c.first es (submitted_at l from steps (outset d.nb d.ue)))
     (tells l c past d from)
-    ∙ ap (taken_of l c.first (told_by from (history past))) (was_submitted_is l c past d from))
+    ∙ ap (taken_of l c.first (events_of from (history past))) (was_submitted_is l c past d from))
 
 came : (past : List Group) → KeepsOrder past → AllHandUpWhatCame past
 came past order from l c e kind own =

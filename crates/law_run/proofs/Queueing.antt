@@ -52,7 +52,7 @@ come_few side told e k =
 
 few_come : (l : ℕ) (e : End) → AllAre HasFewWaiting e.bearers → length (queue (ends (flow l e))) ≤ 1024
 few_come l e h =
-    few_queue (bearer_at e.bearers (find l e.bearers)).lcid (flow l e)
+    few_queue (bearer_at e.bearers (find l e.bearers)).channel.lcid (flow l e)
     (at_is HasFewWaiting e.bearers (find l e.bearers) few_kept h)
 
 few_behind : (side : Side) (l : ℕ) (past : List Group) → KeepsOrder past

@@ -182,7 +182,7 @@ stays_on l past g right order other own here d =
     (entries_ended g.line) p m =
     line_stays l (InOneLife l d.nb d.ue) (through_life l d.nb d.ue) d.told d.handed d.flown false g.line
     (state_behind past).rules.keys k (behind past order).nothing right.in_range other own here d.lived in
-    let flown : Happened = λ bits from. d.flown bits from ++ (entries_ended g.line ++ tells_in bits l from [] m.out) in
+    let flown : Happened = λ bits from. d.flown bits from ++ (entries_ended g.line ++ entries_in bits l from [] m.out) in
     let lived = (through_life l d.nb d.ue).unseen _ _ flown set m [] x.lived in
     record {
       low = d.low;
@@ -361,9 +361,9 @@ moves_on l past g user rrc integrity right order d =
       begun = starts_anew l d.nb d.ue alive.near alive.far alive.begun (steps l past d) alive.runs alive.calls keys;
       told = behind';
       handed = λ side n. looped_at side n behind';
-      flown = λ bits from. tells_in bits l from [] behind';
+      flown = λ bits from. entries_in bits l from [] behind';
       lived = (through_life l nb ue).unseen behind' (λ side n. looped_at side n behind')
-          (λ bits from. tells_in bits l from [] behind') false m [] x.lived;
+          (λ bits from. entries_in bits l from [] behind') false m [] x.lived;
       delivered_is = λ side.
           sym (ups_are_told side l g.events) ∙ ap (λ (ys : List Record). ups_on l (events_of side ys)) events_are
           ∙ told_ups l side leaving behind'
