@@ -182,7 +182,8 @@ stays_on l past g right order other own here d =
     (entries_ended g.line) p m =
     line_stays l (InOneLife l d.nb d.ue) (through_life l d.nb d.ue) d.told d.handed d.flown false g.line
     (state_behind past).rules.keys k (behind past order).nothing right.in_range other own here d.lived in
-    let flown : Happened = λ bits from. d.flown bits from ++ (entries_ended g.line ++ entries_in bits l from [] m.out) in
+    let flown : Happened =
+    λ bits from. d.flown bits from ++ (entries_ended g.line ++ entries_in bits l from [] m.out) in
     let lived = (through_life l d.nb d.ue).unseen _ _ flown set m [] x.lived in
     record {
       low = d.low;
