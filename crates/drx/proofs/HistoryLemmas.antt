@@ -10,7 +10,8 @@ use Rattle.std.proofs.Math.ListN.{length-set}
 use Rattle.l2_types.specs.declared.config.DrxConfig.{DrxConfig}
 use Rattle.drx.specs.Within.{is_within}
 use Rattle.drx.specs.Drx.{fresh, is_on, is_active, after_new, after_damaged, after_decoded, after_reset}
-use Rattle.drx.specs.DrxHistory.{Sight, New, Bad, Good, Call, Seen, Reset, World, called, run, start, LiesBelow, SawNew}
+use Rattle.drx.specs.DrxHistory.{Sight, New, Bad, Good, Call, Seen, Reset, World, called, world_after, start, LiesBelow}
+use Rattle.drx.specs.DrxHistory.{SawNew}
 use Rattle.drx.specs.DrxHistory.{last_damaged, IsOnDuration, IsBusy, AwaitsRepeat, Listens, ListensRight}
 
 -- ---- what was seen
@@ -130,7 +131,7 @@ unfolding after_reset
 call_keeps config w (Seen s) k = sight_keeps config w s k
 call_keeps config w Reset k = subst (λ x. Keeps config (start x)) (sym k.config_is) (fresh_keeps config)
 
-run_keeps : (config : DrxConfig) (w : World) (cs : List Call) → Keeps config w → Keeps config (run cs w)
+run_keeps : (config : DrxConfig) (w : World) (cs : List Call) → Keeps config w → Keeps config (world_after cs w)
 run_keeps config w [] k = k
 run_keeps config w (c ∷ cs) k = run_keeps config (called w c) cs (call_keeps config w c k)
 
@@ -197,9 +198,9 @@ has_reason config w tti held k b (inr (inr (inr again))) =
         → is_within 8 (7 + w.state.config.retransmit) tti (get_or w.state.damaged p None) ≡ true
     there p at lt e low high = rw (k.config_is, k.damaged_is p lt, e) (grind (arith, nat_tests))
 
-pub listens_right : (config : DrxConfig) (cs : List Call) → ListensRight config (run cs (start config))
+pub listens_right : (config : DrxConfig) (cs : List Call) → ListensRight config (world_after cs (start config))
 listens_right config cs = λ tti held b.
     let k = run_keeps config (start config) cs (fresh_keeps config) in (
-      λ e. listens config (run cs (start config)) tti held k e,
-      λ l. has_reason config (run cs (start config)) tti held k b l,
+      λ e. listens config (world_after cs (start config)) tti held k e,
+      λ l. has_reason config (world_after cs (start config)) tti held k b l,
     )

@@ -29,9 +29,9 @@ abbrev pub called : World → Call → World
 called w (Seen sight) = record { state = after_sight sight w.state; past = sight ∷ w.past }
 called w Reset = record { state = after_reset w.state; past = [] }
 
-abbrev pub run : List Call → World → World
-run [] w = w
-run (c ∷ cs) w = run cs (called w c)
+abbrev pub world_after : List Call → World → World
+world_after [] w = w
+world_after (c ∷ cs) w = world_after cs (called w c)
 
 abbrev pub start : DrxConfig → World
 start config = record { state = fresh config; past = [] }

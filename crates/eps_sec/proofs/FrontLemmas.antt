@@ -6,7 +6,7 @@ use Rattle.std.specs.Int.{w128, to_be_bytes}
 use Rattle.std.specs.Int.Bits.{bit_xor, xor_assoc, xor_zero_r}
 use Rattle.eps_sec.specs.Field.{times, inverse, first_inverse, sub_byte}
 use Rattle.eps_sec.specs.Aes.{sub_bytes, shift_rows, mix_octet, mix_columns, add_round_key, round_key, rounds}
-use Rattle.eps_sec.specs.Words.{column, row, mix_column, state, nothing, front, IsFront}
+use Rattle.eps_sec.specs.Words.{column, row, mix_column, state, nothing, front, IsFrontOf}
 use Rattle.eps_sec.proofs.TableLemmas.{of_row_0, of_row_1, of_row_2, of_row_3}
 use Rattle.eps_sec.proofs.WordLemmas.{four, column_xor, turn, sum_is, joined, sub_row}
 
@@ -184,7 +184,7 @@ pub prepared : (key k b r s t ws : List ℕ) (d n : ℕ) → state r ≡ add_rou
     → n ≡ 0x52525252
     → state ws
     ≡ mix_columns (shift_rows (sub_bytes (state (n ∷ slice_index t 1 ∷ slice_index t 2 ∷ slice_index t 3 ∷ []))))
-    → IsFront (slice_index t 0) ws key (take 15 (state b))
+    → IsFrontOf (slice_index t 0) ws key (take 15 (state b))
 unfolding front
 prepared key k b r s t ws d n er ed es ek et en ew =
     let mixed = λ (l : List ℕ). mix_columns (shift_rows (sub_bytes l)) in

@@ -42,8 +42,8 @@ front key head =
 
 -- its first word, and the words that round 2 mixes of the three others, nothing being added for the
 -- first
-abbrev pub IsFront : ℕ → List ℕ → List ℕ → List ℕ → Type 0
-IsFront w ws key head =
+abbrev pub IsFrontOf : ℕ → List ℕ → List ℕ → List ℕ → Type 0
+IsFrontOf w ws key head =
     (column w ≡ take 4 (front key head))
     × (state ws
     ≡ mix_columns (shift_rows (sub_bytes (replicate 4 nothing ++ drop 4 (front key head)))))

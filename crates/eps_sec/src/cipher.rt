@@ -8,7 +8,7 @@ ghost use Rattle.std.specs.Prelude.{◌≡◌, ◌≤◌, ℕ, List, [], ◌∷�
 ghost use Rattle.eps_sec.specs.Field.{sub_byte};
 ghost use Rattle.eps_sec.specs.Aes.{add_words, sub_word, rot_word, power_of_x, next_key, sub_bytes};
 ghost use Rattle.eps_sec.specs.Aes.{shift_rows, mix_columns, add_round_key, round_key, rounds, aes};
-ghost use Rattle.eps_sec.specs.Words.{column, row, mix_column, state, IsFront};
+ghost use Rattle.eps_sec.specs.Words.{column, row, mix_column, state, IsFrontOf};
 
 use crate::field::times;
 use crate::keys::Key;
@@ -96,7 +96,7 @@ impl Front {
     /// Prepares the blocks that are as `block` but for its last octet.
     #[inline(never)]
     pub(crate) fn new(schedule: &Schedule, block: &[u32; 4]) -> Front
-        ensures { IsFront result.word result.words schedule.now (take 15 (state block.now)) }
+        ensures { IsFrontOf result.word result.words schedule.now (take 15 (state block.now)) }
     {
         let [a, b, c, d] = add_key(&schedule.keys[0], block);
         let d = u32::from_be_bytes([row_0(d), row_1(d), row_2(d), NOTHING]);
@@ -111,7 +111,7 @@ impl Front {
     /// One of them under the key.
     #[inline(always)]
     pub(crate) fn encrypt(&self, schedule: &Schedule, block: &[u32; 4]) -> [u32; 4]
-        requires { IsFront self.now.word self.now.words schedule.now (take 15 (state block.now)) }
+        requires { IsFrontOf self.now.word self.now.words schedule.now (take 15 (state block.now)) }
         ensures { state result ≡ aes schedule.now (state block.now) }
     {
         let word = self.word ^ from_row_3(row_3(block[3] ^ schedule.keys[0][3]));

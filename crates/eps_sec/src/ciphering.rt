@@ -4,7 +4,7 @@ ghost use Rattle.std.specs.Prelude.{◌≡◌, ◌<◌, ◌≤◌, ◌+◌, ◌=
 ghost use Rattle.std.specs.Prelude.{bit_xor};
 ghost use Rattle.std.specs.Simd.Lanes.{zip2, chunk, put_chunk};
 ghost use Rattle.eps_sec.specs.Aes.{aes};
-ghost use Rattle.eps_sec.specs.Words.{state, IsFront};
+ghost use Rattle.eps_sec.specs.Words.{state, IsFrontOf};
 ghost use Rattle.eps_sec.specs.Modes.{prefix, first_counter, counter_block, stream_octet};
 ghost use Rattle.eps_sec.specs.Modes.{add_stream, ciphered};
 
@@ -62,7 +62,7 @@ fn counter_block(first: u128, i: usize) -> [u8; 16]
 
 // What the counter blocks have in common that differ from block `i` in their last octet alone.
 fn front_at(schedule: &Schedule, first: u128, i: usize) -> Front
-    ensures { IsFront result.word result.words schedule.now (take 15 (counter_block first i)) }
+    ensures { IsFrontOf result.word result.words schedule.now (take 15 (counter_block first i)) }
 {
     Front::new(schedule, &words_of(&counter_block(first, i)))
 }
@@ -79,7 +79,7 @@ fn has_carry(first: u128, i: usize) -> bool
 // The words of the encrypted counter block `i`.
 #[inline(always)]
 fn stream_words(schedule: &Schedule, front: &Front, first: u128, i: usize) -> [u32; 4]
-    requires { IsFront front.now.word front.now.words schedule.now (take 15 (counter_block first i)) }
+    requires { IsFrontOf front.now.word front.now.words schedule.now (take 15 (counter_block first i)) }
     ensures { state result ≡ aes schedule.now (counter_block first i) }
 {
     front.encrypt(schedule, &words_of(&counter_block(first, i)))

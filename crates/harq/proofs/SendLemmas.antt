@@ -14,7 +14,8 @@ use Rattle.harq.specs.Sending.{ended, same, waited_for, sent_again, spent, toggl
 use Rattle.harq.specs.Sending.{loaded, fed, with_process, fresh, after_visit, visit_answer, after_load, after_feedback}
 use Rattle.harq.specs.Sending.{held_of, ndi_of}
 use Rattle.harq.specs.SendHistory.{Turn, Step, Visited, Cleared, Deed, Waited, Built, Resent, World, closed, turned}
-use Rattle.harq.specs.SendHistory.{deed_by, deed, stepped, run, start, last_block, sendings, visits, is_acked, blocks}
+use Rattle.harq.specs.SendHistory.{deed_by, deed, stepped, world_after, start, last_block, sendings, visits, is_acked}
+use Rattle.harq.specs.SendHistory.{blocks}
 use Rattle.harq.specs.SendHistory.{held_by, IsRight, KeepsBlocks, is_odd, is_down, are_down, CountsBlocks}
 
 -- ---- one process
@@ -270,7 +271,8 @@ step_keeps maximum w (Visited t) some k =
       ];
     }
 
-run_keeps : (maximum : ℕ) (w : World) (ss : List Step) → 1 ≤ maximum → Keeps maximum w → Keeps maximum (run ss w)
+run_keeps : (maximum : ℕ) (w : World) (ss : List Step) → 1 ≤ maximum → Keeps maximum w
+    → Keeps maximum (world_after ss w)
 run_keeps maximum w [] some k = k
 run_keeps maximum w (s ∷ ss) some k = run_keeps maximum (stepped w s) ss some (step_keeps maximum w s some k)
 
@@ -282,10 +284,10 @@ held_fits maximum past (Some b) h =
     grind (arith, nat_tests, h.left_is, h.has_more, h.is_unacked) in
     rw (test, h.octets_is) refl
 
-pub keeps_blocks : (maximum : ℕ) (ss : List Step) → 1 ≤ maximum → KeepsBlocks (run ss (start maximum))
+pub keeps_blocks : (maximum : ℕ) (ss : List Step) → 1 ≤ maximum → KeepsBlocks (world_after ss (start maximum))
 unfolding held_of
 keeps_blocks maximum ss some =
-    let w = run ss (start maximum) in
+    let w = world_after ss (start maximum) in
     let k = run_keeps maximum (start maximum) ss some (fresh_keeps maximum) in
     record {
       holds = λ p lt. subst (λ (m : ℕ). octets_of (one w.sender p).held ≡ held_by m (w.past p)) (sym k.maximum_is)
@@ -348,17 +350,17 @@ down_first : (b rest : Bool) → (if b then rest else false) ≡ true → (b ≡
 down_first true rest e = (refl, e)
 down_first false rest e = absurd cc
 
-run_counts : (w : World) (ss : List Step) → are_down ss ≡ true → Counts w → Counts (run ss w)
+run_counts : (w : World) (ss : List Step) → are_down ss ≡ true → Counts w → Counts (world_after ss w)
 run_counts w [] down k = k
 run_counts w (Visited t ∷ ss) down k =
     let both = down_first (is_down t.order) (are_down ss) down in
     run_counts (stepped w (Visited t)) ss both.1 (turned_counts w t both.0 k)
 run_counts w (Cleared ∷ ss) down k = run_counts (stepped w Cleared) ss down (fresh_counts w.sender.maximum)
 
-pub counts_blocks : (maximum : ℕ) (ss : List Step) → are_down ss ≡ true → CountsBlocks (run ss (start maximum))
+pub counts_blocks : (maximum : ℕ) (ss : List Step) → are_down ss ≡ true → CountsBlocks (world_after ss (start maximum))
 unfolding ndi_of
 counts_blocks maximum ss down = λ p lt.
-    let w = run ss (start maximum) in
+    let w = world_after ss (start maximum) in
     let k = run_counts (start maximum) ss down (fresh_counts maximum) in
     let at : p % 8 ≡ p = omega arith in
     ap (λ (q : ℕ). (one w.sender q).ndi) at ∙ k.counts p lt

@@ -61,9 +61,9 @@ stepped w (Visited t) = record {
 }
 stepped w Cleared = record { sender = fresh w.sender.maximum; past = λ p. [] }
 
-abbrev pub run : List Step → World → World
-run [] w = w
-run (s ∷ ss) w = run ss (stepped w s)
+abbrev pub world_after : List Step → World → World
+world_after [] w = w
+world_after (s ∷ ss) w = world_after ss (stepped w s)
 
 abbrev pub start : ℕ → World
 start maximum = record { sender = fresh maximum; past = λ p. [] }

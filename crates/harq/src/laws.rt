@@ -1,7 +1,8 @@
 //! What the processes promise over any list of calls, each proved as the contract of a function
 //! that does nothing.
 ghost use Rattle.std.specs.Prelude.{◌≡◌, ℕ, ◌≤◌, Bool, true, List};
-ghost use Rattle.harq.specs.SendHistory.{Step, KeepsBlocks, CountsBlocks, are_down, is_odd, run};
+ghost use Rattle.harq.specs.SendHistory.{Step, KeepsBlocks, CountsBlocks, are_down, is_odd};
+ghost use Rattle.harq.specs.SendHistory.{world_after};
 ghost use Rattle.harq.specs.SendHistory.{start};
 ghost use Rattle.harq.specs.ReceiveHistory.{DownStep, AnswersRight, Arrival, Follows, heard_of};
 ghost use Rattle.harq.specs.ReceiveHistory.{once_answer, right_answer, down_run, down_start};
@@ -12,13 +13,13 @@ ghost use Rattle.harq.specs.ReceiveHistory.{UpStep, GrantsRight, up_run, up_star
 /// the same octets.
 pub fn sender_keeps_blocks()
     ensures { (maximum : ℕ) (steps : List Step) → 1 ≤ maximum
-        → KeepsBlocks (run steps (start maximum)) }
+        → KeepsBlocks (world_after steps (start maximum)) }
 {}
 
 /// On the downlink the NDI is the parity of a process's new blocks since the last reset.
 pub fn ndi_counts_blocks()
     ensures { (maximum : ℕ) (steps : List Step) → are_down steps ≡ true
-        → CountsBlocks (run steps (start maximum)) }
+        → CountsBlocks (world_after steps (start maximum)) }
 {}
 
 /// An intact block is handed up once: a further one is told apart as long as no other NDI was seen

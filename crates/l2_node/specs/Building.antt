@@ -36,10 +36,10 @@ built_by New tti grant e = loaded tti grant e
 built_by (Resend rv) tti grant e = e
 built_by Silent tti grant e = e
 
-abbrev pub told_by : Visit → ℕ → End → List Event
-told_by New grant e = (written e grant).block.events
-told_by (Resend rv) grant e = []
-told_by Silent grant e = []
+abbrev pub visit_events : Visit → ℕ → End → List Event
+visit_events New grant e = (written e grant).block.events
+visit_events (Resend rv) grant e = []
+visit_events Silent grant e = []
 
 abbrev pub visit : ℕ → Order → End → Visit
 visit tti order e = visit_answer e.sender tti order
@@ -49,4 +49,4 @@ built tti grant order e = built_by (visit tti order e) tti grant (visited tti or
 
 -- what the bearers tell
 unfoldable pub building : ℕ → ℕ → Order → End → List Event
-building tti grant order e = told_by (visit tti order e) grant (visited tti order e)
+building tti grant order e = visit_events (visit tti order e) grant (visited tti order e)

@@ -23,14 +23,14 @@ present (None ∷ hs) = present hs
 present (Some sdu ∷ hs) = sdu ∷ present hs
 
 -- how many SDUs follow each other without a gap
-abbrev pub run : List (Option (List ℕ)) → ℕ
-run [] = 0
-run (None ∷ hs) = 0
-run (Some sdu ∷ hs) = 1 + run hs
+abbrev pub leading_held : List (Option (List ℕ)) → ℕ
+leading_held [] = 0
+leading_held (None ∷ hs) = 0
+leading_held (Some sdu ∷ hs) = 1 + leading_held hs
 
 -- the first `from` places, and those behind them that follow without a gap
 abbrev pub rising : List (Option (List ℕ)) → ℕ → ℕ
-rising held from = from + run (drop from held)
+rising held from = from + leading_held (drop from held)
 
 -- the last place isn't empty
 abbrev pub Ends : List (Option (List ℕ)) → Type 0

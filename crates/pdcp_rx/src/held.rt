@@ -1,7 +1,8 @@
 //! SDUs that are held, one place for each COUNT from the next on.
 ghost use Rattle.std.specs.Prelude.{◌≡◌, ◌+◌, ◌-◌, ◌*◌, ◌<◌, ◌≤◌, ◌^◌, [], ◌∷◌, ◌++◌, length, take};
 ghost use Rattle.std.specs.Prelude.{drop, slice_set, Some, None, OnOk, IfOk, max};
-ghost use Rattle.pdcp_rx.specs.Held.{is_held, stored, widened, present, run, bit, octet, bitmap};
+ghost use Rattle.pdcp_rx.specs.Held.{is_held, stored, widened, present, leading_held, bit, octet};
+ghost use Rattle.pdcp_rx.specs.Held.{bitmap};
 
 use l2_bits::{Bytes, NoMemory, Packets};
 use std::alloc::Global;
@@ -62,7 +63,7 @@ fn add_none(held: &mut VecDeque<Option<Bytes>>) -> Result<(), NoMemory>
 /// The first place from one on at which nothing is held.
 pub fn first_gap(held: &VecDeque<Option<Bytes>>, from: usize) -> usize
     requires { from ≤ length held.now.items }
-    ensures value { result ≡ from + run (drop from held.now.items) }
+    ensures value { result ≡ from + leading_held (drop from held.now.items) }
     ensures within { result ≤ length held.now.items }
 {
     let mut at = from;

@@ -25,7 +25,7 @@ untold_step low from bitmap s ss end true e le h =
     rw e (lower low (s.count + 1) (counts (untold from bitmap ss)) end (omega arith) h)
 untold_step low from bitmap s ss end false e le h = rw e (le, h)
 
-untold_between : (low from : ℕ) (bitmap : List ℕ) (ss : List Sent) (end : ℕ) → AreBetween low (counts ss) end
+pub untold_between : (low from : ℕ) (bitmap : List ℕ) (ss : List Sent) (end : ℕ) → AreBetween low (counts ss) end
     → AreBetween low (counts (untold from bitmap ss)) end
 untold_between low from bitmap [] end h = h
 untold_between low from bitmap (s ∷ ss) end h =

@@ -3,13 +3,13 @@ use Rattle.std.specs.Prelude.{ℕ, ◌+◌, ◌-◌, Bool, true, false, ◌||◌
 use Rattle.std.specs.Prelude.{Option, Some, None, option_map, is_none, nat_le, nat_lt}
 use Rattle.l2_num.specs.Timers.{Clock, begun, ceased, ticked, ends}
 use Rattle.rlc_pdu.specs.declared.Landed.{Landed}
-use Rattle.rlc_pdu.specs.declared.Landed.TheVariants.{Kept as Fresh, Repeat, Outside, Clash}
+use Rattle.rlc_pdu.specs.declared.Landed.TheVariants.{Kept, Repeat, Outside, Clash}
 use Rattle.rlc_pdu.specs.declared.Turned.{Turned}
 use Rattle.rlc_pdu.specs.declared.Expired.{Expired}
 use Rattle.rlc_pdu.specs.declared.Expired.TheVariants.{Done, NotRunning}
 use Rattle.rlc_pdu.specs.Pdus.{AmdPdu}
 use Rattle.rlc_am_rx_window.specs.Piece.{piece_of}
-use Rattle.rlc_am_rx_window.specs.Window.{Kept, top, offset_of, first_incomplete, polled_in}
+use Rattle.rlc_am_rx_window.specs.Window.{RxWindow, top, offset_of, first_incomplete, polled_in}
 use Rattle.rlc_am_rx_window.specs.Window.{landed as landed_in, with_kept, handed_on, advanced}
 use Rattle.rlc_am_rx_window.specs.Window.{salvaged}
 use Rattle.rlc_am_rx.specs.State.{State}
@@ -38,7 +38,7 @@ clock_left stopped c = if stopped then ceased c else c
 abbrev pub clock_begun : Bool → Clock → Clock
 clock_begun started c = if started then begun c else c
 
-abbrev pub turned_by : Option ℕ → Kept → Turned
+abbrev pub turned_by : Option ℕ → RxWindow → Turned
 turned_by mark w = record {
   stopped = stops mark w.front;
   started = starts (mark_left mark w.front) w.front (top w);
@@ -50,24 +50,24 @@ abbrev pub landed : State → AmdPdu → Landed
 landed s p = landed_in s.window p.sn (piece_of p)
 
 -- the window with what a PDU brings
-abbrev pub window_with : Kept → AmdPdu → Kept
+abbrev pub window_with : RxWindow → AmdPdu → RxWindow
 window_with w p = with_kept w (offset_of w.front p.sn) (piece_of p) p.poll
 
 -- VR(MS) once it has moved to the first number at or above it that isn't complete
-abbrev pub bound_moved : Kept → ℕ → ℕ
+abbrev pub bound_moved : RxWindow → ℕ → ℕ
 bound_moved w bound = w.front + first_incomplete w.slots (bound - w.front)
 
 -- a polled number comes to lie below it
-abbrev pub poll_passed : Kept → ℕ → Bool
+abbrev pub poll_passed : RxWindow → ℕ → Bool
 poll_passed w bound =
     polled_in w.slots (bound - w.front) (first_incomplete w.slots (bound - w.front))
 
 -- a poll in the number at a place lies below it
-abbrev pub poll_below : Kept → ℕ → ℕ → Bool → Bool
+abbrev pub poll_below : RxWindow → ℕ → ℕ → Bool → Bool
 poll_below w bound at poll = poll && nat_lt at (first_incomplete w.slots (bound - w.front))
 
 -- the steps that follow once a PDU is kept at a place of the window w
-abbrev pub settled : State → Kept → ℕ → Bool → State
+abbrev pub settled : State → RxWindow → ℕ → Bool → State
 settled s w at poll = record s {
   window = advanced w;
   out = handed_on s.out w.slots w.given;
@@ -79,13 +79,13 @@ settled s w at poll = record s {
 }
 
 abbrev pub after_landing : Landed → State → AmdPdu → State
-after_landing Fresh s p = settled s (window_with s.window p) (offset_of s.window.front p.sn) p.poll
+after_landing Kept s p = settled s (window_with s.window p) (offset_of s.window.front p.sn) p.poll
 after_landing Repeat s p = record s { due = s.due || p.poll }
 after_landing Outside s p = record s { due = s.due || p.poll }
 after_landing Clash s p = s
 
 abbrev pub turned_on : Landed → State → AmdPdu → Turned
-turned_on Fresh s p = turned_by s.mark (advanced (window_with s.window p))
+turned_on Kept s p = turned_by s.mark (advanced (window_with s.window p))
 turned_on Repeat s p = record { stopped = false; started = false }
 turned_on Outside s p = record { stopped = false; started = false }
 turned_on Clash s p = record { stopped = false; started = false }

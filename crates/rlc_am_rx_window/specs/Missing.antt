@@ -6,7 +6,7 @@ use Rattle.rlc_pdu.specs.Pdus.{IsPart}
 use Rattle.rlc_am_rx_window.specs.declared.missing.Missing.{Missing}
 use Rattle.rlc_am_rx_window.specs.Cells.{Cell}
 use Rattle.rlc_am_rx_window.specs.Held.{Held, is_complete, has_end}
-use Rattle.rlc_am_rx_window.specs.Window.{Kept}
+use Rattle.rlc_am_rx_window.specs.Window.{RxWindow}
 
 -- the places at or above one and below another; a range that reaches the field's end has the end
 -- 32767
@@ -63,7 +63,7 @@ missing_below [] n bound = []
 missing_below (h ∷ hs) n bound = if nat_lt n bound
     then missing_of n h ++ missing_below hs (n + 1) bound else []
 
-abbrev pub missing : Kept → ℕ → List Missing
+abbrev pub missing : RxWindow → ℕ → List Missing
 missing w bound = missing_below w.slots w.front bound
 
 -- the ranges have places that a STATUS can say

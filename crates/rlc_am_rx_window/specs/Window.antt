@@ -4,7 +4,7 @@ use Rattle.std.specs.Prelude.{◌++◌, length, drop, replicate, Option, Some, N
 use Rattle.std.specs.Prelude.{slice_get, slice_set, slice_index_or, slice_range}
 use Rattle.std.specs.List.{list_any}
 use Rattle.rlc_pdu.specs.declared.Landed.{Landed}
-use Rattle.rlc_pdu.specs.declared.Landed.TheVariants.{Kept as Fresh, Repeat, Outside, Clash}
+use Rattle.rlc_pdu.specs.declared.Landed.TheVariants.{Kept, Repeat, Outside, Clash}
 use Rattle.rlc_am_rx_window.specs.Cells.{leading, holds}
 use Rattle.rlc_am_rx_window.specs.Piece.{Piece, end_of}
 use Rattle.rlc_am_rx_window.specs.Held.{Held, nothing, with_piece, is_complete, has_end, clashes}
@@ -13,16 +13,16 @@ use Rattle.rlc_pdu.specs.declared.constants.TheConstants.{AM_MODULUS, AM_WINDOW_
 
 -- front is VR(R); slots have what is held of each number from there on below VR(H); so many octets
 -- of the front's field were handed on
-pub record Kept : Type 0 where
+pub record RxWindow : Type 0 where
   pub front : ℕ
   pub slots : List Held
   pub given : ℕ
 
-abbrev pub no_numbers : Kept
+abbrev pub no_numbers : RxWindow
 no_numbers = record { front = 0; slots = []; given = 0 }
 
 -- VR(H)
-abbrev pub top : Kept → ℕ
+abbrev pub top : RxWindow → ℕ
 top w = w.front + length w.slots
 
 -- how far a number of 10 bits lies above the front
@@ -60,15 +60,15 @@ is_clash (Some h) p = clashes h p
 
 -- what comes of a piece of a number, by what is held of it
 abbrev pub landing : Option Held → Piece → Landed
-landing held p = if is_repeat held p then Repeat else if is_clash held p then Clash else Fresh
+landing held p = if is_repeat held p then Repeat else if is_clash held p then Clash else Kept
 
 -- what comes of a piece of a number with these 10 bits (TS 36.322 5.1.3.2.2)
-abbrev pub landed : Kept → ℕ → Piece → Landed
+abbrev pub landed : RxWindow → ℕ → Piece → Landed
 landed w sn p = if nat_le AM_WINDOW_SIZE (offset_of w.front sn) then Outside
     else landing (slice_get w.slots (offset_of w.front sn)) p
 
 -- a piece kept at a place
-abbrev pub with_kept : Kept → ℕ → Piece → Bool → Kept
+abbrev pub with_kept : RxWindow → ℕ → Piece → Bool → RxWindow
 with_kept w at p poll = record w {
   slots =
       slice_set (widened w.slots (at + 1)) at
@@ -89,7 +89,7 @@ given_after (h ∷ hs) given = if is_complete h then given_after hs 0
     else given + length (leading (drop given h.cells))
 
 -- the window once they are handed on
-abbrev pub advanced : Kept → Kept
+abbrev pub advanced : RxWindow → RxWindow
 advanced w = record {
   front = w.front + complete_first w.slots;
   slots = drop (complete_first w.slots) w.slots;

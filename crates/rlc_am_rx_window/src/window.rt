@@ -33,9 +33,9 @@ pub struct Window {
 impl Model for Window {
     ghost use Rattle.rlc_pdu.specs.declared.constants.TheConstants.{AM_WINDOW_SIZE};
     ghost use Rattle.std.specs.Prelude.{◌≡◌, ◌≤◌, ◌+◌, ◌^◌, length};
-    ghost use Rattle.rlc_am_rx_window.specs.Window.{Kept};
+    ghost use Rattle.rlc_am_rx_window.specs.Window.{RxWindow};
 
-    ghost Value = { Kept };
+    ghost Value = { RxWindow };
 
     ghost view = { λ w. record { front = w.front; slots = w.ring.items; given = w.given } };
 

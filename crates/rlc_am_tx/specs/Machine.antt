@@ -16,7 +16,8 @@ use Rattle.rlc_am_tx_window.specs.Sent.{Sent, fresh, all_wait, whole_size, is_sp
 use Rattle.rlc_am_tx_window.specs.Sent.{sent_part, recalled, next_stretch}
 use Rattle.rlc_am_tx_window.specs.Written.{whole_octets, part_octets}
 use Rattle.rlc_am_tx_window.specs.Ledger.{Ledger, empty_ledger, opened, swept}
-use Rattle.rlc_am_tx_window.specs.Window.{Kept, next, slot_at, with_slot, offset_of, leading_idle}
+use Rattle.rlc_am_tx_window.specs.Window.{TxWindow, next, slot_at, with_slot, offset_of}
+use Rattle.rlc_am_tx_window.specs.Window.{leading_idle}
 use Rattle.rlc_am_tx_window.specs.Window.{some_wait, last_open, named_all, is_named, acked_from}
 use Rattle.rlc_am_tx_window.specs.Window.{credited_from, considered_all, spent_among, advanced}
 use Rattle.rlc_am_tx.specs.declared.turn.Turn.{Turn}
@@ -39,7 +40,7 @@ pub record Polls : Type 0 where
 -- offered of the first of it; what isn't acknowledged; and whether the retransmission limit was
 -- reached
 pub record State : Type 0 where
-  pub window : Kept
+  pub window : TxWindow
   pub queue : Waiting
   pub place : ℕ
   pub accounts : Ledger
@@ -284,14 +285,14 @@ answer s size held more = answer_of (turn s size held more) s size more
 
 -- the entries are read; the numbers below a place that they don't name are acknowledged; those that
 -- they name are considered
-abbrev pub named_window : State → List Nack → Kept
+abbrev pub named_window : State → List Nack → TxWindow
 named_window s nacks = record s.window { slots = named_all s.window.base s.window.slots nacks }
 
-abbrev pub acked_window : State → ℕ → List Nack → Kept
+abbrev pub acked_window : State → ℕ → List Nack → TxWindow
 acked_window s below nacks =
     record s.window { slots = acked_from 0 below (named_window s nacks).slots }
 
-abbrev pub read_window : State → ℕ → List Nack → Kept
+abbrev pub read_window : State → ℕ → List Nack → TxWindow
 read_window s below nacks =
     record s.window {
       slots =

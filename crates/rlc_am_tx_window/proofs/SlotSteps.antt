@@ -5,13 +5,13 @@ use Rattle.std.specs.Prelude.{MatchOption, IfSome}
 use Rattle.std.proofs.lemmas.Grind.{common_steps}
 use Rattle.std.proofs.lemmas.Bool.Decides.{nat_tests}
 use Rattle.rlc_pdu.specs.declared.pdu.Part.{Part}
-use Rattle.rlc_pdu.specs.Runs.{Run, run, gap_in, between}
+use Rattle.rlc_pdu.specs.Runs.{Run, run_between, gap_in, between}
 use Rattle.rlc_am_tx_window.specs.Sent.{waiting_between, Lies}
 
-pub no-gap : (from size : ℕ) → gap_in (run 0 size ∷ []) from size ≡ None
+pub no-gap : (from size : ℕ) → gap_in (run_between 0 size ∷ []) from size ≡ None
 no-gap from size = grind (arith, nat_tests, common_steps)
 
-pub no-gap-within : (from to size : ℕ) → to ≤ size → gap_in (run 0 size ∷ []) from to ≡ None
+pub no-gap-within : (from to size : ℕ) → to ≤ size → gap_in (run_between 0 size ∷ []) from to ≡ None
 no-gap-within from to size h = grind (arith, nat_tests, common_steps)
 
 behind : (from size : ℕ) (b : Bool) → (b ≡ true → from < size)
@@ -97,7 +97,7 @@ gap-waits (r ∷ rs) at size =
 pub ruleset gap_steps = (gap-lies, gap-waits)
 
 -- none, or one that lies in the field
-pub none-lies : (from size : ℕ) → IfSome (gap_in (run 0 size ∷ []) from size) (Lies from size)
+pub none-lies : (from size : ℕ) → IfSome (gap_in (run_between 0 size ∷ []) from size) (Lies from size)
 none-lies from size = rw (no-gap from size) tt
 
 pub ruleset gaps = (no-gap, no-gap-within, gap-lies, none-lies)

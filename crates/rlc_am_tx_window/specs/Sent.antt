@@ -4,7 +4,7 @@ use Rattle.std.specs.Prelude.{if◌then◌else◌, List, [], ◌∷◌, length, 
 use Rattle.std.specs.Prelude.{nat_le, nat_lt, min, max}
 use Rattle.std.specs.List.{sum}
 use Rattle.rlc_pdu.specs.declared.pdu.Part.{Part}
-use Rattle.rlc_pdu.specs.Runs.{Run, run, added, removed, gap_in}
+use Rattle.rlc_pdu.specs.Runs.{Run, run_between, added, removed, gap_in}
 use Rattle.rlc_pdu.specs.Writing.{header_len}
 use Rattle.rlc_am_tx_window.specs.Cut.{cut, clip}
 
@@ -26,7 +26,7 @@ pub record Sent : Type 0 where
 
 -- all octets rest where the PDU is idle
 abbrev pub resting_of : Bool → ℕ → List Run → List Run
-resting_of idle size runs = if idle then run 0 size ∷ [] else runs
+resting_of idle size runs = if idle then run_between 0 size ∷ [] else runs
 
 -- a PDU as it is sent first
 abbrev pub fresh : List ℕ → List ℕ → Bool → Bool → ℕ → Sent
@@ -36,7 +36,7 @@ fresh field lens begins ends place = record {
   begins = begins;
   ends = ends;
   place = place;
-  resting = run 0 (length field) ∷ [];
+  resting = run_between 0 (length field) ∷ [];
   retransmissions = None;
   acked = false;
   named = None;
@@ -126,7 +126,7 @@ next_stretch h size = stretch_from (first_waiting h) h size
 
 -- no octet waits
 abbrev pub rested : Sent → Sent
-rested h = record h { resting = run 0 (length h.field) ∷ [] }
+rested h = record h { resting = run_between 0 (length h.field) ∷ [] }
 
 -- octets of a segment don't wait any longer
 abbrev pub sent_part : Sent → ℕ → ℕ → Sent
@@ -186,7 +186,7 @@ gets_acked h = not h.acked && not (is_some h.named)
 abbrev pub acknowledged : Sent → Sent
 acknowledged h = if gets_acked h then record h {
   acked = true;
-  resting = run 0 (length h.field) ∷ [];
+  resting = run_between 0 (length h.field) ∷ [];
 } else h
 
 -- an expiry of the poll timer names all octets

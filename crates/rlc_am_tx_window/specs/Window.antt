@@ -9,12 +9,12 @@ use Rattle.rlc_am_tx_window.specs.Ledger.{Ledger, credited_all}
 use Rattle.rlc_pdu.specs.declared.constants.TheConstants.{AM_MODULUS}
 
 -- VT(A), and what is kept of each number from there on
-pub record Kept : Type 0 where
+pub record TxWindow : Type 0 where
   pub base : ℕ
   pub slots : List Sent
 
 -- VT(S)
-abbrev pub next : Kept → ℕ
+abbrev pub next : TxWindow → ℕ
 next w = w.base + length w.slots
 
 abbrev pub nothing : Sent
@@ -23,7 +23,7 @@ nothing = fresh [] [] false false 0
 abbrev pub slot_at : List Sent → ℕ → Sent
 slot_at slots at = slice_index_or slots at nothing
 
-abbrev pub with_slot : Kept → ℕ → Sent → Kept
+abbrev pub with_slot : TxWindow → ℕ → Sent → TxWindow
 with_slot w at h = record w { slots = slice_set w.slots at h }
 
 -- how far a sequence number of 10 bits lies above a number
@@ -125,7 +125,7 @@ abbrev pub leading_acked : List Sent → ℕ
 leading_acked [] = 0
 leading_acked (h ∷ hs) = if h.acked then leading_acked hs + 1 else 0
 
-abbrev pub advanced : Kept → Kept
+abbrev pub advanced : TxWindow → TxWindow
 advanced w = record {
   base = w.base + leading_acked w.slots;
   slots = drop (leading_acked w.slots) w.slots;

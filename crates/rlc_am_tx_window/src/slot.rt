@@ -4,7 +4,7 @@ ghost use Rattle.std.specs.Prelude.{true};
 ghost use Rattle.std.specs.List.{sum};
 ghost use Rattle.rlc_pdu.specs.Pdus.{AreLens, IsSegment};
 ghost use Rattle.rlc_pdu.specs.Grammar.{has_segment};
-ghost use Rattle.rlc_pdu.specs.Runs.{gap_in, removed, run};
+ghost use Rattle.rlc_pdu.specs.Runs.{gap_in, removed, run_between};
 ghost use Rattle.rlc_pdu.specs.Writing.{amd_written, header_len};
 ghost use Rattle.rlc_am_tx_window.specs.Sent.{fresh, first_waiting, is_waiting, is_all, all_wait};
 ghost use Rattle.rlc_am_tx_window.specs.Sent.{waiting_octets, whole_size, segment_size};
@@ -487,7 +487,7 @@ fn rest_but(alloc: Global, size: u32, from: u32, to: u32) -> Result<Intervals, N
     requires some { from < to }
     requires within { to ≤ size }
     requires short { size < 2 ^ 15 }
-    ensures { IfOk result (λ i. i ≡ removed (run 0 size ∷ []) from to) }
+    ensures { IfOk result (λ i. i ≡ removed (run_between 0 size ∷ []) from to) }
 {
     let mut resting = Intervals::new(alloc);
     resting.add(0, size)?;

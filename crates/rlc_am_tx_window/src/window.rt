@@ -34,9 +34,9 @@ pub struct Window {
 impl Model for Window {
     ghost use Rattle.rlc_pdu.specs.declared.constants.TheConstants.{AM_WINDOW_SIZE};
     ghost use Rattle.std.specs.Prelude.{◌≡◌, ◌≤◌, ◌+◌, ◌^◌, length};
-    ghost use Rattle.rlc_am_tx_window.specs.Window.{Kept, waiting_from};
+    ghost use Rattle.rlc_am_tx_window.specs.Window.{TxWindow, waiting_from};
 
-    ghost Value = { Kept };
+    ghost Value = { TxWindow };
 
     ghost view = { λ w. record { base = w.base; slots = w.ring.items } };
 

@@ -4,7 +4,7 @@ use Rattle.std.proofs.Common.{false, not, ◌||◌, ◌&&◌, if◌then◌else�
 use Rattle.std.proofs.Common.{nat_lt, refl, ap, sym, ◌∙◌, arith, ltb, leb}
 use Rattle.std.proofs.lemmas.Bool.{lt-leb, lt-ltb, ltb-true, ltb-false, leb-true}
 use Rattle.std.proofs.lemmas.Bool.Decides.{nat_tests}
-use Rattle.rlc_pdu.specs.Runs.{Run, run, lies_in, has, AreAscending, covers, ends_below, last_begins_by}
+use Rattle.rlc_pdu.specs.Runs.{Run, run_between, lies_in, has, AreAscending, covers, ends_below, last_begins_by}
 use Rattle.rlc_pdu.specs.Runs.{last_ends_below, stretched, Moving, passing, passed, merged, added, kept_of, removed}
 
 or-assoc : (a b c : Bool) → ((a || b) || c) ≡ (a || (b || c))
@@ -43,7 +43,7 @@ merged-has : (runs : List Run) (m : Moving) (i : ℕ) → m.from < m.to
     → has (merged m runs) i ≡ with_moving m.placed m.from m.to i (has runs i)
 merged-has [] m i h = ends m.placed m.from m.to i
   where
-    ends : (placed : Bool) (from to i : ℕ) → has (if placed then [] else run from to ∷ []) i
+    ends : (placed : Bool) (from to i : ℕ) → has (if placed then [] else run_between from to ∷ []) i
         ≡ with_moving placed from to i false
     ends true from to i = refl
     ends false from to i = refl
@@ -53,7 +53,7 @@ merged-has (r ∷ rs) m i h =
     ∙ step m.placed m.from m.to r i (has rs i) h
 
 pub added_has : (runs : List Run) (from to : ℕ) → from < to → (i : ℕ)
-    → has (added runs from to) i ≡ (lies_in (run from to) i || has runs i)
+    → has (added runs from to) i ≡ (lies_in (run_between from to) i || has runs i)
 added_has runs from to h i = merged-has runs (record { placed = false; from = from; to = to }) i h
 
 -- ---- runs that ascend
@@ -78,7 +78,7 @@ merged_ascends low from to (r ∷ rs) le lt h =
     go : (a : Bool) → ltb r.to from ≡ a → (b : Bool) → ltb to r.from ≡ b
         → (r.to + 1 ≤ from → AreAscending (r.to + 1) (merged (record { placed = false; from = from; to = to }) rs))
         → AreAscending low (merged (record { placed = false; from = min from r.from; to = max to r.to }) rs)
-        → AreAscending low (cond a (r ∷ []) (cond b (run from to ∷ r ∷ []) [])
+        → AreAscending low (cond a (r ∷ []) (cond b (run_between from to ∷ r ∷ []) [])
         ++ merged (cond a (record { placed = false; from = from; to = to })
         (cond b (record { placed = true; from = from; to = to })
         (record { placed = false; from = min from r.from; to = max to r.to }))) rs)
@@ -107,14 +107,14 @@ rest_below r [] from e = refl
 rest_below r (q ∷ rs) from e = e
 
 merged_end : (low from to : ℕ) (rs : List Run) → AreAscending low rs → ends_below rs from ≡ true
-    → rs ++ run from to ∷ [] ≡ merged (record { placed = false; from = from; to = to }) rs
+    → rs ++ run_between from to ∷ [] ≡ merged (record { placed = false; from = from; to = to }) rs
 merged_end low from to [] h e = refl
 merged_end low from to (r ∷ rs) h e =
     let below : ltb r.to from ≡ true = lt-ltb r.to from (first_below low r rs from h e) in
     rw below (ap (λ (qs : List Run). r ∷ qs) (merged_end (r.to + 1) from to rs h.2 (rest_below r rs from e)))
 
 pub added_end : (runs : List Run) (from to : ℕ) → AreAscending 0 runs → ends_below runs from ≡ true
-    → runs ++ run from to ∷ [] ≡ added runs from to
+    → runs ++ run_between from to ∷ [] ≡ added runs from to
 added_end runs from to h e = merged_end 0 from to runs h e
 
 none_covers : (low from to : ℕ) (rs : List Run) → AreAscending low rs → ends_below rs from ≡ true → from < to
@@ -140,7 +140,7 @@ first_under low r q [] from h e = omega (arith, h.2.0, leb-true q.from from e)
 first_under low r q (p ∷ rs) from h e = omega (arith, h.2.0, h.2.1, first_under (r.to + 1) q p rs from h.2 e)
 
 grown_run : (r : Run) (from to : ℕ) → r.from ≤ from → from ≤ r.to → from < to
-    → run r.from (max r.to to) ∷ [] ≡ merged (record { placed = false; from = from; to = to }) (r ∷ [])
+    → run_between r.from (max r.to to) ∷ [] ≡ merged (record { placed = false; from = from; to = to }) (r ∷ [])
 grown_run r from to le ge lt = grind (arith, nat_tests)
 
 merged_last : (low from to : ℕ) (rs : List Run) → AreAscending low rs → ends_below rs from ≡ false
@@ -180,7 +180,7 @@ fresh_last runs from to h b lt = new_last 0 from to runs h b lt
 pub ruleset behind_all = (added_end, fresh_end, added_last, fresh_last)
 
 last-set : (rs : List Run) (n to : ℕ) (x : Run) → n + 1 ≡ length rs → x ≡ slice_index_or rs n x
-    → slice_set rs n (run x.from (max x.to to)) ≡ stretched rs to
+    → slice_set rs n (run_between x.from (max x.to to)) ≡ stretched rs to
 last-set [] n to x e h = absurd (omega (arith, e))
 last-set (r ∷ []) zero to x e h = rw h refl
 last-set (r ∷ []) (suc n) to x e h = absurd (omega (arith, e))
@@ -196,7 +196,7 @@ last-ends (r ∷ q ∷ rs) zero to x e h = absurd (omega (arith, e))
 last-ends (r ∷ q ∷ rs) (suc n) to x e h = last-ends (q ∷ rs) n to x (omega (arith, e)) h
 
 pub stretched_set : (rs : List Run) (n to : ℕ) (x : Run) → n ≡ length rs → 0 < n → x ≡ slice_index_or rs (n - 1) x
-    → slice_set rs (n - 1) (run x.from (max x.to to)) ≡ stretched rs to
+    → slice_set rs (n - 1) (run_between x.from (max x.to to)) ≡ stretched rs to
 stretched_set rs n to x e some h = last-set rs (n - 1) to x (omega (arith, e, some)) h
 
 pub ends_set : (rs : List Run) (n to : ℕ) (x : Run) → n ≡ length rs → 0 < n → x ≡ slice_index_or rs (n - 1) x
@@ -218,7 +218,7 @@ ends_below_last (q ∷ p ∷ rs) r from = ends_below_last (p ∷ rs) r from
 -- ---- taking out
 
 kept_has : (from to : ℕ) (r : Run) (i : ℕ) → from < to
-    → has (kept_of from to r) i ≡ (not (lies_in (run from to) i) && lies_in r i)
+    → has (kept_of from to r) i ≡ (not (lies_in (run_between from to) i) && lies_in r i)
 kept_has from to r i h = grind (arith, nat_tests)
 
 and_or : (a b c : Bool) → ((a && b) || (a && c)) ≡ (a && (b || c))
@@ -226,8 +226,8 @@ and_or true b c = refl
 and_or false b c = refl
 
 pub removed_has : (runs : List Run) (from to : ℕ) → from < to → (i : ℕ)
-    → has (removed runs from to) i ≡ (not (lies_in (run from to) i) && has runs i)
-removed_has [] from to h i = nothing (not (lies_in (run from to) i))
+    → has (removed runs from to) i ≡ (not (lies_in (run_between from to) i) && has runs i)
+removed_has [] from to h i = nothing (not (lies_in (run_between from to) i))
   where
     nothing : (a : Bool) → false ≡ (a && false)
     nothing true = refl
@@ -235,14 +235,15 @@ removed_has [] from to h i = nothing (not (lies_in (run from to) i))
 removed_has (r ∷ rs) from to h i =
     has-append (kept_of from to r) (removed rs from to) i
     ∙ rw (kept_has from to r i h, removed_has rs from to h i)
-    (and_or (not (lies_in (run from to) i)) (lies_in r i) (has rs i))
+    (and_or (not (lies_in (run_between from to) i)) (lies_in r i) (has rs i))
 
 kept_ascends : (low from to : ℕ) (r : Run) (qs : List Run) → from < to → low ≤ r.from → r.from < r.to
     → AreAscending (r.to + 1) qs → AreAscending low (kept_of from to r ++ qs)
 kept_ascends low from to r qs lt le some h = go (ltb r.from (min r.to from)) refl (ltb (max r.from to) r.to) refl
   where
     go : (a : Bool) → ltb r.from (min r.to from) ≡ a → (b : Bool) → ltb (max r.from to) r.to ≡ b
-        → AreAscending low ((cond a (run r.from (min r.to from) ∷ []) [] ++ cond b (run (max r.from to) r.to ∷ []) [])
+        → AreAscending low ((cond a (run_between r.from (min r.to from) ∷ []) []
+        ++ cond b (run_between (max r.from to) r.to ∷ []) [])
         ++ qs)
     go true ea true eb =
         (le, ltb-true r.from (min r.to from) ea, (omega (arith, lt), ltb-true (max r.from to) r.to eb, h))

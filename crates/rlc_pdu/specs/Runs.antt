@@ -9,8 +9,8 @@ pub record Run : Type 0 where
   pub from : ℕ
   pub to : ℕ
 
-abbrev pub run : ℕ → ℕ → Run
-run from to = record { from = from; to = to }
+abbrev pub run_between : ℕ → ℕ → Run
+run_between from to = record { from = from; to = to }
 
 -- a place is in a run
 abbrev pub lies_in : Run → ℕ → Bool
@@ -51,7 +51,7 @@ last_ends_below (r ∷ q ∷ rs) to = last_ends_below (q ∷ rs) to
 -- the last run reaches up to a place at least
 abbrev pub stretched : List Run → ℕ → List Run
 stretched [] to = []
-stretched (r ∷ []) to = run r.from (max r.to to) ∷ []
+stretched (r ∷ []) to = run_between r.from (max r.to to) ∷ []
 stretched (r ∷ q ∷ rs) to = r ∷ stretched (q ∷ rs) to
 
 -- ---- adding
@@ -67,7 +67,7 @@ abbrev pub passing : Moving → Run → List Run
 passing m r =
     if m.placed then r ∷ []
     else if nat_lt r.to m.from then r ∷ []
-    else if nat_lt m.to r.from then run m.from m.to ∷ r ∷ []
+    else if nat_lt m.to r.from then run_between m.from m.to ∷ r ∷ []
     else []
 
 -- the run behind one that is passed: it takes in each run that it meets or touches
@@ -79,7 +79,7 @@ passed m r =
     else record { placed = false; from = min m.from r.from; to = max m.to r.to }
 
 abbrev pub merged : Moving → List Run → List Run
-merged m [] = if m.placed then [] else run m.from m.to ∷ []
+merged m [] = if m.placed then [] else run_between m.from m.to ∷ []
 merged m (r ∷ rs) = passing m r ++ merged (passed m r) rs
 
 -- the set with a run
@@ -90,7 +90,7 @@ added runs from to = merged (record { placed = false; from = from; to = to }) ru
 
 -- a run, if it isn't empty
 abbrev pub some_run : ℕ → ℕ → List Run
-some_run from to = if nat_lt from to then run from to ∷ [] else []
+some_run from to = if nat_lt from to then run_between from to ∷ [] else []
 
 -- what is left of a run without the places of another
 abbrev pub kept_of : ℕ → ℕ → Run → List Run

@@ -1,7 +1,8 @@
 ghost use Rattle.std.specs.Prelude.{◌≡◌, ℕ, ◌<◌, ◌≤◌, ◌++◌, ◌||◌, ◌&&◌, true, not, nat_le, nat_lt};
 ghost use Rattle.std.specs.Prelude.{max, [], length, OnOk, OnErr, IfOk};
 ghost use Rattle.rlc_pdu.specs.Runs.{AreAscending, ends_below, last_begins_by, last_ends_below};
-ghost use Rattle.rlc_pdu.specs.Runs.{stretched, run, lies_in, has, added, removed, merged, passing};
+ghost use Rattle.rlc_pdu.specs.Runs.{stretched, run_between, lies_in, has, added, removed, merged};
+ghost use Rattle.rlc_pdu.specs.Runs.{passing};
 ghost use Rattle.rlc_pdu.specs.Runs.{passed, some_run, kept_of, covers, between, gap_in};
 
 use crate::pdu::Part;
@@ -69,7 +70,7 @@ impl Intervals {
         requires within { end ≤ 32767 }
         ensures runs { OnOk result (self.new ≡ added self.old start end) }
         ensures places { OnOk result ((i : ℕ)
-            → has self.new i ≡ (lies_in (run start end) i || has self.old i)) }
+            → has self.new i ≡ (lies_in (run_between start end) i || has self.old i)) }
         ensures fresh { IfOk result (λ fresh. fresh ≡ not (covers self.old start end)) }
         ensures err { OnErr result (self.new ≡ self.old) }
     {
@@ -83,7 +84,7 @@ impl Intervals {
         requires within { end ≤ 32767 }
         ensures runs { OnOk result (self.new ≡ removed self.old start end) }
         ensures places { OnOk result ((i : ℕ)
-            → has self.new i ≡ (not (lies_in (run start end) i) && has self.old i)) }
+            → has self.new i ≡ (not (lies_in (run_between start end) i) && has self.old i)) }
         ensures err { OnErr result (self.new ≡ self.old) }
     {
         self.runs = without(self.alloc, &self.runs, start, end)?;
@@ -174,7 +175,7 @@ fn last_begins_by(runs: &[Span], from: u32) -> bool
 
 // Lets a run reach up to a place, and answers whether it grew.
 fn stretch_one(one: &mut Span, to: u32) -> bool
-    ensures one { one.new ≡ run one.old.from (max one.old.to to) }
+    ensures one { one.new ≡ run_between one.old.from (max one.old.to to) }
     ensures grew { result ≡ nat_lt one.old.to to }
 {
     let grew = one.to < to;

@@ -15,7 +15,10 @@ mod reading;
 mod status;
 mod writing;
 
-pub use constants::{AM_MODULUS, AM_WINDOW_SIZE};
+pub use constants::{
+    AM_MODULUS, AM_WINDOW_SIZE, UM_LONG_MODULUS, UM_LONG_WINDOW_SIZE, UM_SHORT_MODULUS,
+    UM_SHORT_WINDOW_SIZE,
+};
 pub use elements::Elements;
 pub use entries::NackReader;
 pub use fault::{RlcRefusal, RlcWhy};

@@ -4,6 +4,7 @@ use Rattle.std.specs.Prelude.{if◌then◌else◌, List, length, Option, Some, N
 use Rattle.std.specs.Prelude.{min}
 use Rattle.rlc_pdu.specs.Pdus.{UmdPdu}
 use Rattle.rlc_pdu.specs.Writing.{umd_canonical}
+use Rattle.rlc_pdu.specs.declared.constants.TheConstants.{UM_SHORT_WINDOW_SIZE, UM_LONG_WINDOW_SIZE}
 use Rattle.rlc_pdu.specs.declared.outcome.Taken.{Taken}
 use Rattle.rlc_pdu.specs.declared.outcome.Taken.TheVariants.{Piece, Idle, Small, Held}
 use Rattle.rlc_queue.specs.NewPdu.{elements, rest, partial, fits_more, framing}
@@ -28,7 +29,7 @@ idle_sender bits = record { bits = bits; next = 0; waiting = nothing_waits }
 
 -- UM_Window_Size: half the count of sequence numbers (TS 36.322 7.2)
 abbrev pub width_of : ℕ → ℕ
-width_of bits = if bits == 5 then 16 else 512
+width_of bits = if bits == 5 then UM_SHORT_WINDOW_SIZE else UM_LONG_WINDOW_SIZE
 
 -- the octets of the header of a PDU of one element
 abbrev pub head_of : ℕ → ℕ

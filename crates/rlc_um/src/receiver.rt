@@ -1,6 +1,7 @@
 ghost use Rattle.std.specs.Prelude.{◌≡◌, ◌-◌, ◌*◌, ◌<◌, ◌≤◌, OnOk, IfOk, slice_get, is_some};
 ghost use Rattle.std.specs.Prelude.{is_none, nat_lt, ◌&&◌};
 ghost use Rattle.l2_num.specs.Timers.{ends};
+ghost use Rattle.rlc_pdu.specs.declared.constants.TheConstants.{UM_LONG_WINDOW_SIZE};
 ghost use Rattle.rlc_pdu.specs.Views.{umd_of};
 ghost use Rattle.rlc_um.specs.Joined.{parts_of, with_numbers};
 ghost use Rattle.rlc_um.specs.Window.{number_of};
@@ -11,7 +12,7 @@ ghost use Rattle.rlc_um.specs.Receiver.{expired};
 
 use crate::joiner::Joiner;
 use crate::stored::Stored;
-use crate::window::{Slots, WIDEST};
+use crate::window::Slots;
 use l2_bits::{Bytes, NoMemory, Packets};
 use l2_num::Timer;
 use rlc_pdu::{Expired, Landed, Turned, Umd};
@@ -44,7 +45,7 @@ impl Model for Receiver {
 impl Receiver {
     pub(crate) fn new(alloc: Global, width: usize, reorder: u32) -> Result<Receiver, NoMemory>
         requires low { 0 < width }
-        requires high { width ≤ WIDEST }
+        requires high { width ≤ UM_LONG_WINDOW_SIZE }
         ensures { IfOk result (λ r. r ≡ start width reorder) }
     {
         Ok(Receiver {

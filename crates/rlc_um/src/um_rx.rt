@@ -1,6 +1,7 @@
 ghost use Rattle.std.specs.Prelude.{◌≡◌, ◌*◌, ◌<◌, ◌≤◌, OnOk, OnErr, IfOk, IfErr, IsTrue, IsErr};
 ghost use Rattle.std.specs.Prelude.{slice_get};
 ghost use Rattle.l2_num.specs.Timers.{ends};
+ghost use Rattle.rlc_pdu.specs.declared.constants.TheConstants.{UM_LONG_WINDOW_SIZE};
 ghost use Rattle.rlc_pdu.specs.Pdus.{IsUmBits};
 ghost use Rattle.rlc_pdu.specs.Views.{umd_of};
 ghost use Rattle.rlc_um.specs.Sender.{width_of};
@@ -8,9 +9,8 @@ ghost use Rattle.rlc_um.specs.Receiver.{start, alive, landing, turning, arrival,
 ghost use Rattle.rlc_um.specs.Receiver.{counted, handed, all_joined};
 
 use crate::receiver::Receiver;
-use crate::window::WIDEST;
 use l2_bits::{Bytes, NoMemory, Packets};
-use rlc_pdu::{Expired, Landed, Turned, Umd};
+use rlc_pdu::{Expired, Landed, Turned, UM_LONG_WINDOW_SIZE, UM_SHORT_WINDOW_SIZE, Umd};
 use std::alloc::Global;
 use std::marker::Model;
 
@@ -128,7 +128,11 @@ impl UmRx {
 pub(crate) fn width(bits: u32) -> u32
     ensures value { result ≡ width_of bits }
     ensures low { 0 < result }
-    ensures high { result ≤ WIDEST }
+    ensures high { result ≤ UM_LONG_WINDOW_SIZE }
 {
-    if bits == 5 { 16 } else { WIDEST as u32 }
+    if bits == 5 {
+        UM_SHORT_WINDOW_SIZE
+    } else {
+        UM_LONG_WINDOW_SIZE
+    }
 }

@@ -1,6 +1,7 @@
 ghost use Rattle.std.specs.Prelude.{◌≡◌, [], ◌∷◌, ◌++◌, ◌+◌, ◌-◌, ◌*◌, ◌%◌, ◌<◌, ◌≤◌, ◌^◌, length};
 ghost use Rattle.std.specs.Prelude.{drop, take, OnOk, IfOk, min, max, is_some, Some, None};
 ghost use Rattle.circular_buffer.specs.Buffer.{buffer};
+ghost use Rattle.rlc_pdu.specs.declared.constants.TheConstants.{UM_LONG_WINDOW_SIZE};
 ghost use Rattle.rlc_um.specs.Joined.{with_number, with_numbers};
 ghost use Rattle.rlc_um.specs.Window.{Window, top_of, number_of, leading, slot_at, grown, passed};
 ghost use Rattle.rlc_um.specs.Window.{fallen, placed, with_placed};
@@ -12,9 +13,6 @@ use l2_bits::NoMemory;
 use l2_num::ahead;
 use std::alloc::Global;
 use std::marker::Model;
-
-/// The most numbers of a window: UM_Window_Size of numbers of 10 bits (TS 36.322 7.2).
-pub(crate) const WIDEST: usize = 512;
 
 // From this number on the window takes nothing more.
 const LIMIT: u64 = 1 << 63;
@@ -30,21 +28,22 @@ pub struct Slots {
 impl Model for Slots {
     ghost use Rattle.std.specs.Prelude.{◌≡◌, ◌<◌, ◌≤◌, ◌+◌, ◌*◌, ◌^◌, length};
     ghost use Rattle.rlc_um.specs.Window.{Window};
-    ghost use Rattle.rlc_um.specs.declared.window.TheConstants.{WIDEST};
+    ghost use Rattle.rlc_pdu.specs.declared.constants.TheConstants.{UM_LONG_WINDOW_SIZE};
 
     ghost Value = { Window };
 
     ghost view = { λ w. record { width = w.width; edge = w.edge; slots = w.ring.items } };
 
-    ghost invariant = { λ w. (0 < w.width) × (w.width ≤ WIDEST) × (w.ring.capacity ≡ w.width)
-        × (length w.ring.items ≤ w.width) × (w.edge + length w.ring.items ≤ 2 ^ 63 + 2 * WIDEST) };
+    ghost invariant = { λ w. (0 < w.width) × (w.width ≤ UM_LONG_WINDOW_SIZE)
+        × (w.ring.capacity ≡ w.width) × (length w.ring.items ≤ w.width)
+        × (w.edge + length w.ring.items ≤ 2 ^ 63 + 2 * UM_LONG_WINDOW_SIZE) };
 }
 
 impl Slots {
     /// No number is received yet.
     pub fn new(alloc: Global, width: usize) -> Result<Slots, NoMemory>
         requires low { 0 < width }
-        requires high { width ≤ WIDEST }
+        requires high { width ≤ UM_LONG_WINDOW_SIZE }
         ensures { IfOk result (λ w. w ≡ record { width = width; edge = 2 * width; slots = [] }) }
     {
         let ring = HeapCircularBuffer::with_capacity(alloc, width)?;
@@ -58,7 +57,7 @@ impl Slots {
     /// VR(UR).
     pub fn edge(&self) -> u64
         ensures value { result ≡ self.now.edge }
-        ensures below { result ≤ 2 ^ 63 + 2 * WIDEST }
+        ensures below { result ≤ 2 ^ 63 + 2 * UM_LONG_WINDOW_SIZE }
     {
         self.edge
     }
@@ -66,7 +65,7 @@ impl Slots {
     /// VR(UH).
     pub fn top(&self) -> u64
         ensures value { result ≡ top_of self.now }
-        ensures below { result ≤ 2 ^ 63 + 2 * WIDEST }
+        ensures below { result ≤ 2 ^ 63 + 2 * UM_LONG_WINDOW_SIZE }
     {
         self.edge + self.ring.len() as u64
     }

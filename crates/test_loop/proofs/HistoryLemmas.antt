@@ -10,7 +10,8 @@ use Rattle.test_loop.specs.declared.Kept.TheVariants.{Later, Full}
 use Rattle.test_loop.specs.Items.{Item}
 use Rattle.test_loop.specs.Loops.{State, state, fresh, is_full, after_set, taken_answer, after_taken, after_tick}
 use Rattle.test_loop.specs.Loops.{due_answer, after_due}
-use Rattle.test_loop.specs.LoopHistory.{Call, Set, Take, Tick, Ask, Deed, Stored, Gave, World, taken_deeds, called, run}
+use Rattle.test_loop.specs.LoopHistory.{Call, Set, Take, Tick, Ask, Deed, Stored, Gave, World, taken_deeds, called}
+use Rattle.test_loop.specs.LoopHistory.{world_after}
 use Rattle.test_loop.specs.LoopHistory.{start, stored, given, waiting, delay, ticks, is_switched, Returns}
 
 -- the TTIs that are left, as the deeds tell
@@ -102,7 +103,7 @@ call_keeps w Tick k =
     }
 call_keeps w Ask k = ask_keeps (w.state.left == 0) w.state.mode w.state.kept w.state.left w.past refl k.fits
 
-run_keeps : (w : World) (cs : List Call) → Keeps w → Keeps (run cs w)
+run_keeps : (w : World) (cs : List Call) → Keeps w → Keeps (world_after cs w)
 run_keeps w [] k = k
 run_keeps w (c ∷ cs) k = run_keeps (called w c) cs (call_keeps w c k)
 
@@ -122,9 +123,9 @@ owed_by true [] left mode e = rw e refl
 owed_by true (one ∷ kept) left mode e = rw e (grind (arith, nat_tests))
 owed_by false kept left mode e = rw e (grind (arith, nat_tests))
 
-pub returns_once : (cs : List Call) → Returns (run cs start)
+pub returns_once : (cs : List Call) → Returns (world_after cs start)
 returns_once cs =
-    let w = run cs start in
+    let w = world_after cs start in
     let f = (run_keeps start cs start_keeps).fits in
     let none = left_none (is_switched w.past) w.state.left (delay w.past) (ticks w.past) f.left_is in
     let same : waiting w.past ≡ length w.state.kept = waiting_is w.past w.state.kept f.in_order in

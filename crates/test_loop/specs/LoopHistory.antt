@@ -52,9 +52,9 @@ called w (Take one) = record {
 called w Tick = record { state = after_tick w.state; past = Ticked ∷ w.past }
 called w Ask = record { state = after_due w.state; past = given_deeds (due_answer w.state) w.past }
 
-abbrev pub run : List Call → World → World
-run [] w = w
-run (c ∷ cs) w = run cs (called w c)
+abbrev pub world_after : List Call → World → World
+world_after [] w = w
+world_after (c ∷ cs) w = world_after cs (called w c)
 
 abbrev pub start : World
 start = record { state = fresh; past = [] }

@@ -2,11 +2,12 @@
 use Rattle.std.proofs.Common.{◌≡◌, ℕ, ◌+◌, ◌==◌, ◌||◌, nat_lt, nat_le, Bool, true, false, if◌then◌else◌, List, [], ◌∷◌}
 use Rattle.std.proofs.Common.{Option, Some, None, slice_index_or, refl, ap, sym, ◌∙◌}
 use Rattle.rlc_um.specs.Receiver.{arrival, expired, all_joined}
-use Rattle.um_losses.specs.declared.flow.What.{What}
-use Rattle.um_losses.specs.declared.flow.What.TheVariants.{Renewed, Written, Arrived, Forged, Expired, Restarted}
+use Rattle.um_losses.specs.declared.flow.Happening.{Happening}
+use Rattle.um_losses.specs.declared.flow.Happening.TheVariants.{BlockRenewed, PduWritten, BlockArrived, PduForged}
+use Rattle.um_losses.specs.declared.flow.Happening.TheVariants.{TimerExpired, LifeRestarted}
 use Rattle.um_losses.specs.declared.gaps.Gaps.{Gaps}
 use Rattle.um_losses.specs.declared.pdu.Pdu.{Pdu}
-use Rattle.um_losses.specs.declared.sending.Sent.{Sent}
+use Rattle.um_losses.specs.declared.sending.InFlight.{InFlight}
 use Rattle.um_losses.specs.Flow.{Flow, all_gone, heard, arrived_if, written_in, after}
 use Rattle.um_losses.specs.Gaps.{numbered, counted, all_counted}
 use Rattle.um_losses.specs.Pdus.{is_pdu}
@@ -45,7 +46,7 @@ heard_by false first p f q e =
     (λ (b : Bool). (if b then all_gone (record f { receiver = arrival (tagged first p) f.receiver })
     else f).gaps.long) q) ∙ e
 
-arrived_by : (s : Option Sent) (f : Flow) → (arrived_if s f).gaps.long ≡ false → f.gaps.long ≡ false
+arrived_by : (s : Option InFlight) (f : Flow) → (arrived_if s f).gaps.long ≡ false → f.gaps.long ≡ false
 arrived_by None f e = e
 arrived_by (Some s) f e =
     let g : Flow = record f { gaps = numbered s.number f.gaps } in
@@ -57,10 +58,10 @@ written_by : (b : Bool) (process : ℕ) (p : Pdu) (f : Flow) → is_pdu f.bits p
 written_by true process p f q = rw q refl
 written_by false process p f q = rw q refl
 
-pub unlong : (what : What) (f : Flow) → (after what f).gaps.long ≡ false → f.gaps.long ≡ false
-unlong (Renewed process) f e = e
-unlong (Written process p) f e = sym (written_by (is_pdu f.bits p) process p f refl) ∙ e
-unlong (Arrived process) f e = arrived_by (slice_index_or f.sending.under_way process None) f e
-unlong (Forged p) f e = heard_by (is_pdu f.bits p) None p f refl e
-unlong Expired f e = all_long (expired f.receiver).joined.ready f.gaps e
-unlong Restarted f e = all_long (all_joined f.receiver) f.gaps e
+pub unlong : (what : Happening) (f : Flow) → (after what f).gaps.long ≡ false → f.gaps.long ≡ false
+unlong (BlockRenewed process) f e = e
+unlong (PduWritten process p) f e = sym (written_by (is_pdu f.bits p) process p f refl) ∙ e
+unlong (BlockArrived process) f e = arrived_by (slice_index_or f.sending.under_way process None) f e
+unlong (PduForged p) f e = heard_by (is_pdu f.bits p) None p f refl e
+unlong TimerExpired f e = all_long (expired f.receiver).joined.ready f.gaps e
+unlong LifeRestarted f e = all_long (all_joined f.receiver) f.gaps e

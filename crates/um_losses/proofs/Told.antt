@@ -8,12 +8,13 @@ use Rattle.air_record.specs.declared.record.Record.{Record}
 use Rattle.mac_pdu.specs.declared.item.Direction.{Direction}
 use Rattle.mac_pdu.specs.declared.item.Direction.TheVariants.{Down, Up}
 use Rattle.um_losses.specs.declared.cursor.Change.{Change}
-use Rattle.um_losses.specs.declared.flow.What.{What}
-use Rattle.um_losses.specs.declared.flow.What.TheVariants.{Renewed, Written, Arrived, Forged, Expired, Restarted}
+use Rattle.um_losses.specs.declared.flow.Happening.{Happening}
+use Rattle.um_losses.specs.declared.flow.Happening.TheVariants.{BlockRenewed, PduWritten, BlockArrived, PduForged}
+use Rattle.um_losses.specs.declared.flow.Happening.TheVariants.{TimerExpired, LifeRestarted}
 use Rattle.um_losses.specs.declared.flow.Whose.{Whose}
 use Rattle.um_losses.specs.declared.flow.Whose.TheVariants.{All, Each, One}
 use Rattle.um_losses.specs.declared.pdu.Pdu.{Pdu}
-use Rattle.um_losses.specs.declared.sending.Sent.{Sent}
+use Rattle.um_losses.specs.declared.sending.InFlight.{InFlight}
 use Rattle.um_losses.specs.Flow.{Flow, begun, heard, arrived_if, after, is_of, concerns}
 use Rattle.bearer_types.specs.Sides.{is_same_way}
 use Rattle.um_losses.specs.Gaps.{numbered}
@@ -36,19 +37,19 @@ stays_if false f g h = record { direction_is = refl; lcid_is = refl }
 heard_stays : (first : Option ℕ) (p : Pdu) (f : Flow) → Stays f (heard first p f)
 heard_stays first p f = stays_if (is_pdu f.bits p) f _ (record { direction_is = refl; lcid_is = refl })
 
-arrived_stays : (s : Option Sent) (f : Flow) → Stays f (arrived_if s f)
+arrived_stays : (s : Option InFlight) (f : Flow) → Stays f (arrived_if s f)
 arrived_stays None f = record { direction_is = refl; lcid_is = refl }
 arrived_stays (Some s) f =
     let h = heard_stays (Some s.first) s.pdu (record f { gaps = numbered s.number f.gaps }) in
     record { direction_is = h.direction_is; lcid_is = h.lcid_is }
 
-after_stays : (what : What) (f : Flow) → Stays f (after what f)
-after_stays (Renewed process) f = record { direction_is = refl; lcid_is = refl }
-after_stays (Written process p) f = stays_if (is_pdu f.bits p) f _ (record { direction_is = refl; lcid_is = refl })
-after_stays (Arrived process) f = arrived_stays (slice_index_or f.sending.under_way process None) f
-after_stays (Forged p) f = heard_stays None p f
-after_stays Expired f = record { direction_is = refl; lcid_is = refl }
-after_stays Restarted f = record { direction_is = refl; lcid_is = refl }
+after_stays : (what : Happening) (f : Flow) → Stays f (after what f)
+after_stays (BlockRenewed process) f = record { direction_is = refl; lcid_is = refl }
+after_stays (PduWritten process p) f = stays_if (is_pdu f.bits p) f _ (record { direction_is = refl; lcid_is = refl })
+after_stays (BlockArrived process) f = arrived_stays (slice_index_or f.sending.under_way process None) f
+after_stays (PduForged p) f = heard_stays None p f
+after_stays TimerExpired f = record { direction_is = refl; lcid_is = refl }
+after_stays LifeRestarted f = record { direction_is = refl; lcid_is = refl }
 
 of_stays : (d : Direction) (l : ℕ) (f g : Flow) → Stays f g → is_of d l g ≡ is_of d l f
 of_stays d l f g h = ap (λ (x : Direction). is_same_way x d && (g.lcid == l)) h.direction_is
@@ -82,7 +83,7 @@ concerns_so d l (One direction lcid) f e n =
     ∙ ap (λ (m : ℕ). is_same_way d direction && (m == lcid)) n
     ∙ ap (λ (b : Bool). is_same_way d direction && b) (flipped (lcid == l) lcid l refl)
 
-turned : (b : Bool) (what : What) (f : Flow)
+turned : (b : Bool) (what : Happening) (f : Flow)
     → (if b then after what f else f) ≡ all_after (if b then what ∷ [] else []) f
 turned true what f = refl
 turned false what f = refl
@@ -145,9 +146,9 @@ unfolding seen
 seen_place one w = refl
 
 pub handed_flow : (d : Direction) (l : ℕ) (w : Losses) (f : Flow) → flow_at d l w.flows ≡ Some f
-    → flow_at d l (handed_over w).flows ≡ Some (after Restarted f)
+    → flow_at d l (handed_over w).flows ≡ Some (after LifeRestarted f)
 unfolding handed_over
-handed_flow d l w f e = changed_flow d l (Some (record { whose = All; what = Restarted })) w.flows f e
+handed_flow d l w f e = changed_flow d l (Some (record { whose = All; what = LifeRestarted })) w.flows f e
 
 pub handed_place : (w : Losses) → (handed_over w).cursor ≡ w.cursor
 unfolding handed_over

@@ -4,14 +4,15 @@ use Rattle.std.specs.Prelude.{slice_index_or}
 use Rattle.mac_pdu.specs.declared.item.Direction.{Direction}
 use Rattle.rlc_um.specs.Receiver.{State as Receiver, start, arrival, expired, all_joined}
 use Rattle.rlc_um.specs.Sender.{width_of}
-use Rattle.um_losses.specs.declared.flow.What.{What}
-use Rattle.um_losses.specs.declared.flow.What.TheVariants.{Renewed, Written, Arrived, Forged}
-use Rattle.um_losses.specs.declared.flow.What.TheVariants.{Expired, Restarted}
+use Rattle.um_losses.specs.declared.flow.Happening.{Happening}
+use Rattle.um_losses.specs.declared.flow.Happening.TheVariants.{BlockRenewed, PduWritten}
+use Rattle.um_losses.specs.declared.flow.Happening.TheVariants.{BlockArrived, PduForged}
+use Rattle.um_losses.specs.declared.flow.Happening.TheVariants.{TimerExpired, LifeRestarted}
 use Rattle.um_losses.specs.declared.flow.Whose.{Whose}
 use Rattle.um_losses.specs.declared.flow.Whose.TheVariants.{All, Each, One}
 use Rattle.um_losses.specs.declared.gaps.Gaps.{Gaps}
 use Rattle.um_losses.specs.declared.pdu.Pdu.{Pdu}
-use Rattle.um_losses.specs.declared.sending.Sent.{Sent}
+use Rattle.um_losses.specs.declared.sending.InFlight.{InFlight}
 use Rattle.um_losses.specs.Gaps.{no_gaps, numbered, all_counted, restarted}
 use Rattle.um_losses.specs.Pdus.{is_pdu}
 use Rattle.um_losses.specs.Sending.{Sending, nothing_written, renewed, written}
@@ -57,10 +58,10 @@ heard first p f = if is_pdu f.bits p
     then all_gone (record f { receiver = arrival (tagged first p) f.receiver }) else f
 
 -- a PDU of the sender arrives
-abbrev pub arrived : Sent → Flow → Flow
+abbrev pub arrived : InFlight → Flow → Flow
 arrived s f = heard (Some s.first) s.pdu (record f { gaps = numbered s.number f.gaps })
 
-abbrev pub arrived_if : Option Sent → Flow → Flow
+abbrev pub arrived_if : Option InFlight → Flow → Flow
 arrived_if None f = f
 arrived_if (Some s) f = arrived s f
 
@@ -81,13 +82,13 @@ restarts f = record f {
   gaps = restarted (all_counted (all_joined f.receiver) f.gaps);
 }
 
-abbrev pub after : What → Flow → Flow
-after (Renewed process) f = record f { sending = renewed process f.sending }
-after (Written process p) f = written_in process p f
-after (Arrived process) f = arrived_if (slice_index_or f.sending.under_way process None) f
-after (Forged p) f = heard None p f
-after Expired f = expires f
-after Restarted f = restarts f
+abbrev pub after : Happening → Flow → Flow
+after (BlockRenewed process) f = record f { sending = renewed process f.sending }
+after (PduWritten process p) f = written_in process p f
+after (BlockArrived process) f = arrived_if (slice_index_or f.sending.under_way process None) f
+after (PduForged p) f = heard None p f
+after TimerExpired f = expires f
+after LifeRestarted f = restarts f
 
 abbrev pub is_of : Direction → ℕ → Flow → Bool
 is_of direction lcid f = is_same_way f.direction direction && (f.lcid == lcid)

@@ -6,5 +6,4 @@ pub mod Flow
 pub mod Records
 pub mod Losses
 pub mod Laws
-pub mod Names
 pub mod Told

@@ -8,7 +8,7 @@ use Rattle.mac_pdu.specs.declared.item.Direction.{Direction}
 use Rattle.mac_pdu.specs.declared.item.Direction.TheVariants.{Down, Up}
 use Rattle.um_losses.specs.declared.cursor.Change.{Change}
 use Rattle.um_losses.specs.declared.cursor.Cursor.{Cursor}
-use Rattle.um_losses.specs.declared.flow.What.TheVariants.{Restarted}
+use Rattle.um_losses.specs.declared.flow.Happening.TheVariants.{LifeRestarted}
 use Rattle.um_losses.specs.declared.flow.Whose.TheVariants.{All}
 use Rattle.um_losses.specs.Flow.{Flow, begun, after, is_of, concerns}
 use Rattle.um_losses.specs.Records.{passed, change_of, passed_forged, forged_change_of}
@@ -69,4 +69,4 @@ seen_forged side one l = record {
 -- both ends begin another life
 unfoldable pub handed_over : Losses → Losses
 handed_over l =
-    record l { flows = changed (Some (record { whose = All; what = Restarted })) l.flows }
+    record l { flows = changed (Some (record { whose = All; what = LifeRestarted })) l.flows }

@@ -10,17 +10,19 @@ use Rattle.l2_types.specs.declared.side.Side.{Side}
 use Rattle.mac_pdu.specs.declared.item.Direction.{Direction}
 use Rattle.um_losses.specs.declared.cursor.Change.{Change}
 use Rattle.um_losses.specs.declared.cursor.Cursor.{Cursor}
-use Rattle.um_losses.specs.declared.flow.What.{What}
-use Rattle.um_losses.specs.declared.flow.What.TheVariants.{Renewed, Written, Arrived, Forged}
-use Rattle.um_losses.specs.declared.flow.What.TheVariants.{Expired}
+use Rattle.um_losses.specs.declared.flow.Happening.{Happening}
+use Rattle.um_losses.specs.declared.flow.Happening.TheVariants.{BlockRenewed, PduWritten}
+use Rattle.um_losses.specs.declared.flow.Happening.TheVariants.{BlockArrived, PduForged}
+use Rattle.um_losses.specs.declared.flow.Happening.TheVariants.{TimerExpired}
 use Rattle.um_losses.specs.declared.flow.Whose.TheVariants.{Each, One}
 use Rattle.bearer_types.specs.Sides.{heard_by}
 
 abbrev pub renewal : Direction → ℕ → Bool → Option Change
-renewal direction process true = Some (record { whose = Each direction; what = Renewed process })
+renewal direction process true =
+    Some (record { whose = Each direction; what = BlockRenewed process })
 renewal direction process false = None
 
-abbrev pub on_channel : Direction → Option ℕ → What → Option Change
+abbrev pub on_channel : Direction → Option ℕ → Happening → Option Change
 on_channel direction None what = None
 on_channel direction (Some lcid) what = Some (record { whose = One direction lcid; what = what })
 
@@ -37,11 +39,11 @@ abbrev pub change_of : Record → Cursor → Option Change
 change_of (records.Block direction process fresh rv octets) c = renewal direction process fresh
 change_of (records.RlcUm sn fi lens) c =
     on_channel c.direction c.channel
-    (Written c.process (record { sn = sn; fi = fi; elements = length lens }))
+    (PduWritten c.process (record { sn = sn; fi = fi; elements = length lens }))
 change_of (records.Air direction Got heard) c =
-    Some (record { whose = Each direction; what = Arrived c.process })
+    Some (record { whose = Each direction; what = BlockArrived c.process })
 change_of (records.Of side (events.Expired lcid Reorder)) c =
-    Some (record { whose = One (heard_by side) lcid; what = Expired })
+    Some (record { whose = One (heard_by side) lcid; what = TimerExpired })
 change_of other c = None
 
 -- ---- what is shown of a block that is forged at a side: its PDUs arrive at once
@@ -53,5 +55,5 @@ passed_forged other c = c
 abbrev pub forged_change_of : Side → Record → Cursor → Option Change
 forged_change_of side (records.RlcUm sn fi lens) c =
     on_channel (heard_by side) c.channel
-    (Forged (record { sn = sn; fi = fi; elements = length lens }))
+    (PduForged (record { sn = sn; fi = fi; elements = length lens }))
 forged_change_of side other c = None

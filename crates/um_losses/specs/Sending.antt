@@ -2,7 +2,7 @@
 -- (TS 36.322 5.1.2.1).
 use Rattle.std.specs.Prelude.{ℕ, ◌+◌, List, replicate, slice_set, Option, Some, None}
 use Rattle.um_losses.specs.declared.pdu.Pdu.{Pdu}
-use Rattle.um_losses.specs.declared.sending.Sent.{Sent}
+use Rattle.um_losses.specs.declared.sending.InFlight.{InFlight}
 use Rattle.um_losses.specs.Pdus.{ends_in}
 
 -- how many PDUs were written, which is the whole number of the next one; how many SDUs ended in
@@ -11,7 +11,7 @@ use Rattle.um_losses.specs.Pdus.{ends_in}
 pub record Sending : Type 0 where
   pub sent : ℕ
   pub ended : ℕ
-  pub under_way : List (Option Sent)
+  pub under_way : List (Option InFlight)
 
 abbrev pub nothing_written : Sending
 nothing_written = record { sent = 0; ended = 0; under_way = replicate 8 None }

@@ -5,7 +5,7 @@ use Rattle.air_record.specs.declared.record.Record.{Record}
 use Rattle.mac_pdu.specs.declared.item.Direction.{Direction}
 use Rattle.um_losses.specs.declared.cursor.Change.{Change}
 use Rattle.um_losses.specs.declared.cursor.Cursor.{Cursor}
-use Rattle.um_losses.specs.declared.flow.What.{What}
+use Rattle.um_losses.specs.declared.flow.Happening.{Happening}
 use Rattle.um_losses.specs.declared.flow.Whose.{Whose}
 use Rattle.um_losses.specs.declared.flow.Whose.TheVariants.{All, Each, One}
 use Rattle.um_losses.specs.Flow.{Flow, after, is_of}
@@ -17,11 +17,11 @@ is_for d l All = true
 is_for d l (Each direction) = is_same_way d direction
 is_for d l (One direction lcid) = is_same_way d direction && (lcid == l)
 
-abbrev pub picked : Direction → ℕ → Option Change → List What
+abbrev pub picked : Direction → ℕ → Option Change → List Happening
 picked d l None = []
 picked d l (Some change) = if is_for d l change.whose then change.what ∷ [] else []
 
-abbrev pub told_in : Direction → ℕ → Cursor → List Record → List What
+abbrev pub told_in : Direction → ℕ → Cursor → List Record → List Happening
 told_in d l c [] = []
 told_in d l c (one ∷ more) = picked d l (change_of one c) ++ told_in d l (passed one c) more
 
@@ -39,7 +39,7 @@ sdu_place direction process lcid =
     record { direction = direction; process = process; channel = Some lcid }
 
 -- what becomes of a flow
-abbrev pub all_after : List What → Flow → Flow
+abbrev pub all_after : List Happening → Flow → Flow
 all_after [] f = f
 all_after (w ∷ ws) f = all_after ws (after w f)
 

@@ -4,7 +4,7 @@ ghost use Rattle.um_losses.specs.Records.{renewal, on_channel, passed, change_of
 ghost use Rattle.um_losses.specs.Records.{forged_change_of};
 ghost use Rattle.bearer_types.specs.Sides.{heard_by};
 
-use crate::flow::{What, Whose};
+use crate::flow::{Happening, Whose};
 use crate::pdu::Pdu;
 use air_record::{Arrived, Record};
 use bearer_types::Event;
@@ -22,7 +22,7 @@ pub(crate) struct Cursor {
 #[derive(Clone, Copy)]
 pub(crate) struct Change {
     pub(crate) whose: Whose,
-    pub(crate) what: What,
+    pub(crate) what: Happening,
 }
 
 impl Cursor {
@@ -54,7 +54,11 @@ impl Cursor {
                     elements: lens.len(),
                 };
                 let process = self.process;
-                on_channel(self.direction, self.channel, What::Written { process, pdu })
+                on_channel(
+                    self.direction,
+                    self.channel,
+                    Happening::PduWritten { process, pdu },
+                )
             }
             Record::Air {
                 direction,
@@ -64,7 +68,7 @@ impl Cursor {
                 whose: Whose::Each {
                     direction: *direction,
                 },
-                what: What::Arrived {
+                what: Happening::BlockArrived {
                     process: self.process,
                 },
             }),
@@ -79,7 +83,7 @@ impl Cursor {
                     direction: heard_by(*side),
                     lcid: *lcid,
                 },
-                what: What::Expired,
+                what: Happening::TimerExpired,
             }),
             _ => None,
         }
@@ -101,7 +105,7 @@ impl Cursor {
                     fi: *fi,
                     elements: lens.len(),
                 };
-                on_channel(heard_by(side), self.channel, What::Forged { pdu })
+                on_channel(heard_by(side), self.channel, Happening::PduForged { pdu })
             }
             _ => None,
         }
@@ -116,11 +120,11 @@ fn renewal(direction: Direction, process: u32, fresh: bool) -> Option<Change>
     }
     Some(Change {
         whose: Whose::Each { direction },
-        what: What::Renewed { process },
+        what: Happening::BlockRenewed { process },
     })
 }
 
-fn on_channel(direction: Direction, channel: Option<u8>, what: What) -> Option<Change>
+fn on_channel(direction: Direction, channel: Option<u8>, what: Happening) -> Option<Change>
     ensures { result ≡ on_channel direction channel what }
 {
     match channel {

@@ -8,7 +8,7 @@ ghost use Rattle.um_losses.specs.Flow.{restarts, written_in, after, is_of, conce
 
 use crate::gaps::Gaps;
 use crate::pdu::Pdu;
-use crate::sending::{Sending, Sent};
+use crate::sending::{InFlight, Sending};
 use crate::tags::{last_tag, tagged};
 use l2_bits::NoMemory;
 use mac_pdu::Direction;
@@ -18,21 +18,21 @@ use std::alloc::Global;
 use std::marker::Model;
 use std::mem;
 
-// What happens to a flow.
+/// What happens to a flow, as records tell it.
 #[derive(Clone, Copy)]
-pub(crate) enum What {
-    // A HARQ process of the sender begins a new block.
-    Renewed { process: u32 },
-    // A PDU is written into it.
-    Written { process: u32, pdu: Pdu },
-    // The block of a process arrives.
-    Arrived { process: u32 },
-    // A forged PDU arrives.
-    Forged { pdu: Pdu },
-    // The reordering timer of the receiver expires.
-    Expired,
-    // Both ends begin another life.
-    Restarted,
+pub enum Happening {
+    /// A HARQ process of the sender begins a new block.
+    BlockRenewed { process: u32 },
+    /// A PDU is written into it.
+    PduWritten { process: u32, pdu: Pdu },
+    /// The block of a process arrives.
+    BlockArrived { process: u32 },
+    /// A forged PDU arrives.
+    PduForged { pdu: Pdu },
+    /// The reordering timer of the receiver expires.
+    TimerExpired,
+    /// Both ends begin another life.
+    LifeRestarted,
 }
 
 // Which flows.
@@ -120,26 +120,26 @@ impl Flow {
         }
     }
 
-    pub(crate) fn change(&mut self, what: What) -> Result<(), NoMemory>
+    pub(crate) fn change(&mut self, what: Happening) -> Result<(), NoMemory>
         ensures { OnOk result (self.new ≡ after what self.old) }
     {
         match what {
-            What::Renewed { process } => {
+            Happening::BlockRenewed { process } => {
                 self.sending.renew(process);
                 Ok(())
             }
-            What::Written { process, pdu } => self.write(process, pdu),
-            What::Arrived { process } => match self.sending.under_way(process) {
+            Happening::PduWritten { process, pdu } => self.write(process, pdu),
+            Happening::BlockArrived { process } => match self.sending.under_way(process) {
                 Some(sent) => self.arrive(sent),
                 None => Ok(()),
             },
-            What::Forged { pdu } => self.hear(None, pdu),
-            What::Expired => {
+            Happening::PduForged { pdu } => self.hear(None, pdu),
+            Happening::TimerExpired => {
                 self.receiver.expire()?;
                 self.hand_up();
                 Ok(())
             }
-            What::Restarted => self.restart(),
+            Happening::LifeRestarted => self.restart(),
         }
     }
 
@@ -153,7 +153,7 @@ impl Flow {
         }
     }
 
-    fn arrive(&mut self, sent: Sent) -> Result<(), NoMemory>
+    fn arrive(&mut self, sent: InFlight) -> Result<(), NoMemory>
         ensures { OnOk result (self.new ≡ arrived sent self.old) }
     {
         self.gaps.number(sent.number)?;

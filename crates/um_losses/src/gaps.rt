@@ -7,6 +7,7 @@ ghost use Rattle.um_losses.specs.Tags.{last_tag};
 
 use crate::tags::last_tag;
 use l2_bits::{NoMemory, Packets};
+use rlc_pdu::{UM_LONG_WINDOW_SIZE, UM_SHORT_WINDOW_SIZE};
 
 #[derive(Drop)]
 pub(crate) struct Gaps {
@@ -27,7 +28,7 @@ impl Gaps {
         ensures { result ≡ no_gaps (width_of bits) counts }
     {
         Gaps {
-            width: if bits == 5 { 16 } else { 512 },
+            width: window_size(bits) as u64,
             counts,
             top: 0,
             next: 0,
@@ -73,5 +74,16 @@ impl Gaps {
     {
         self.top = 0;
         self.next = 0;
+    }
+}
+
+// UM_Window_Size for numbers of so many bits.
+fn window_size(bits: u32) -> u32
+    ensures { result ≡ width_of bits }
+{
+    if bits == 5 {
+        UM_SHORT_WINDOW_SIZE
+    } else {
+        UM_LONG_WINDOW_SIZE
     }
 }

@@ -15,5 +15,7 @@ mod pdu;
 mod sending;
 mod tags;
 
+pub use flow::Happening;
 pub use laws::{tag_is_read, tags_are_heard_alike};
 pub use losses::Losses;
+pub use pdu::Pdu;

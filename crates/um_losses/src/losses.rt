@@ -4,7 +4,7 @@ ghost use Rattle.um_losses.specs.Losses.{none_seen, is_bearer, is_long, with_bea
 ghost use Rattle.um_losses.specs.Losses.{changed, seen, seen_forged, handed_over};
 
 use crate::cursor::{Change, Cursor};
-use crate::flow::{Flow, What, Whose};
+use crate::flow::{Flow, Happening, Whose};
 use air_record::Record;
 use l2_bits::NoMemory;
 use l2_types::Side;
@@ -97,7 +97,7 @@ impl Losses {
     {
         let change = Change {
             whose: Whose::All,
-            what: What::Restarted,
+            what: Happening::LifeRestarted,
         };
         change_all(self.flows.as_mut_slice(), change)
     }

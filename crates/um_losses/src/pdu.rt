@@ -4,10 +4,12 @@ ghost use Rattle.rlc_pdu.specs.Pdus.{IsUmBits};
 ghost use Rattle.um_losses.specs.Pdus.{is_pdu, ends_in};
 
 use l2_types::GREATEST_GRANT;
+use rlc_pdu::{UM_LONG_MODULUS, UM_SHORT_MODULUS};
 
-// A UMD PDU without its octets: its number, framing info and count of elements (TS 36.322 6.2.1.3).
+/// A UMD PDU without its octets: its number, framing info and count of elements (TS 36.322
+/// 6.2.1.3).
 #[derive(Clone, Copy)]
-pub(crate) struct Pdu {
+pub struct Pdu {
     pub(crate) sn: u32,
     pub(crate) fi: u8,
     pub(crate) elements: usize,
@@ -19,7 +21,11 @@ impl Pdu {
         requires { IsUmBits bits }
         ensures { result ≡ is_pdu bits self }
     {
-        let numbers = if bits == 5 { 32 } else { 1024 };
+        let numbers = if bits == 5 {
+            UM_SHORT_MODULUS
+        } else {
+            UM_LONG_MODULUS
+        };
         let fits = self.elements <= GREATEST_GRANT as usize;
         self.sn < numbers && self.fi < 4 && self.elements > 0 && fits
     }

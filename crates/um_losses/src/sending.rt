@@ -8,7 +8,7 @@ use std::marker::Model;
 
 // A PDU of the sender, with its whole number and the COUNT of the SDU of its first element.
 #[derive(Clone, Copy)]
-pub(crate) struct Sent {
+pub(crate) struct InFlight {
     pub(crate) number: u64,
     pub(crate) first: u64,
     pub(crate) pdu: Pdu,
@@ -18,7 +18,7 @@ pub(crate) struct Sent {
 pub(crate) struct Sending {
     sent: u64,
     ended: u64,
-    under_way: [Option<Sent>; 8],
+    under_way: [Option<InFlight>; 8],
 }
 
 impl Model for Sending {
@@ -54,7 +54,7 @@ impl Sending {
     pub(crate) fn write(&mut self, process: u32, pdu: Pdu) -> Result<(), NoMemory>
         ensures { OnOk result (self.new ≡ written process pdu self.old) }
     {
-        let sent = Sent {
+        let sent = InFlight {
             number: self.sent,
             first: self.ended,
             pdu,
@@ -66,7 +66,7 @@ impl Sending {
     }
 
     #[tactic(auto, using(crate::proofs::Processes::past))]
-    fn put(&mut self, process: u32, sent: Option<Sent>)
+    fn put(&mut self, process: u32, sent: Option<InFlight>)
         ensures { self.new ≡ record self.old {
           under_way =
               slice_set self.old.under_way process sent;
@@ -79,7 +79,7 @@ impl Sending {
 
     // The PDU in the last new block of a process.
     #[tactic(auto, using(crate::proofs::Processes::past))]
-    pub(crate) fn under_way(&self, process: u32) -> Option<Sent>
+    pub(crate) fn under_way(&self, process: u32) -> Option<InFlight>
         ensures { result ≡ slice_index_or self.now.under_way process None }
     {
         if process < 8 {

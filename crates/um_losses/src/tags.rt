@@ -1,6 +1,7 @@
 // Tags in the place of octets.
-ghost use Rattle.std.specs.Prelude.{◌≡◌, ◌<◌, ◌^◌, true, length, replicate, IfOk};
+ghost use Rattle.std.specs.Prelude.{◌≡◌, ◌<◌, true, length, replicate, IfOk};
 ghost use Rattle.std.specs.List.{concat};
+ghost use Rattle.l2_bits.specs.declared.limits.TheConstants.{OCTETS_LIMIT};
 ghost use Rattle.rlc_pdu.specs.Pdus.{IsUmBits};
 ghost use Rattle.rlc_pdu.specs.Writing.{umd_canonical};
 ghost use Rattle.um_losses.specs.Pdus.{is_pdu};
@@ -22,7 +23,7 @@ pub(crate) fn tagged(
     requires bits { IsUmBits bits }
     requires pdu { is_pdu bits pdu ≡ true }
     ensures octets { IfOk result (λ octets. octets ≡ umd_canonical bits (tagged first pdu)) }
-    ensures short { IfOk result (λ octets. length octets < 2 ^ 28) }
+    ensures short { IfOk result (λ octets. length octets < OCTETS_LIMIT) }
 {
     let field = field_of(alloc, first, pdu.elements)?;
     let lens = vec![in alloc; 8; pdu.elements]?;

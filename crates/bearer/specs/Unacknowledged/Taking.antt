@@ -67,8 +67,8 @@ feeding s share held =
 abbrev pub has_more : Ends → Bool
 has_more e = is_some (slice_get (offers e.tx) 0)
 
-abbrev pub told_by : ℕ → Option ℕ → ℕ → Feeding → List Event
-told_by bits held size f =
+abbrev pub feeding_told : ℕ → Option ℕ → ℕ → Feeding → List Event
+feeding_told bits held size f =
     f.events ++ data_told f.pdcp.lcid bits (has_more f.pdcp) (why_idle f.tx held)
     (rlc_taken f.tx size held)
 
@@ -80,7 +80,7 @@ unfoldable pub answer : State → ℕ → Option ℕ → Taken
 answer s share held = rlc_taken (feeding s share held).tx (size_in share) held
 
 unfoldable pub taking : State → ℕ → Option ℕ → List Event
-taking s share held = told_by s.bits held (size_in share) (feeding s share held)
+taking s share held = feeding_told s.bits held (size_in share) (feeding s share held)
 
 unfoldable pub after_taking : State → ℕ → Option ℕ → State
 after_taking s share held = left_by (feeding s share held) (size_in share) held s
