@@ -48,8 +48,6 @@ use Rattle.air_record.specs.declared.record.State.{State}
 use Rattle.air_record.specs.declared.record.State.TheVariants as states
 use Rattle.air_record.specs.declared.record.Record.{Record}
 use Rattle.air_record.specs.declared.record.Record.TheVariants as records
-use Rattle.air_record.specs.declared.word.Word.{Word}
-use Rattle.air_record.specs.declared.word.Word.TheVariants as words
 
 -- words with a space before each, and a line feed at the end
 abbrev pub ended : List (List ℕ) → List ℕ
@@ -208,17 +206,6 @@ nack_text nack = part_text nack.sn nack.part
 abbrev pub nacks_text : List Nack → List ℕ
 nacks_text [] = codes "-"
 nacks_text (n ∷ ns) = commas (map nack_text (n ∷ ns))
-
--- a word of a record
-abbrev pub word_text : Word → List ℕ
-word_text (words.Plain plain) = plain.now
-word_text (words.Number number) = decimal number
-word_text (words.Hex octets) = encode_lower octets.now
-word_text (words.Count count) = count_text count
-word_text (words.Bitmap bitmap) = bitmap_text bitmap.now
-word_text (words.Lens lens) = lens_text lens.now
-word_text (words.Nacks nacks) = nacks_text nacks.now
-word_text (words.Given given) = given.now
 
 -- the words of a bearer line; its options are one, as they were given
 abbrev pub bearer_words : ℕ → Kind → List ℕ → List (List ℕ)

@@ -1,16 +1,16 @@
 ghost use Rattle.std.specs.Prelude.{◌≡◌, ◌++◌, ◌∷◌, [], ℕ, List, OnOk, map, codes};
 ghost use Rattle.air_record.specs.Text.{worded, event_words, side_text, count_text, bitmap_text};
-ghost use Rattle.air_record.specs.Text.{how_text, mac_number};
+ghost use Rattle.air_record.specs.Text.{how_text, mac_number, clock_text};
 ghost use Rattle.hex.specs.Hex.{encode_lower};
 ghost use Rattle.std.specs.Fmt.{decimal};
 
 use crate::naming::{
-    clock_word, how_word, lost_word, mac_why, pdcp_why, rlc_why, side_word, waits_word,
+    add_clock, add_how, lost_word, mac_why, pdcp_why, rlc_why, side_word, waits_word,
 };
-use crate::word::{Word, append_words, number, octet};
+use crate::word::{add_bitmap, add_count, add_hex, add_number, add_word};
 use bearer_types::Event;
 use l2_bits::{Bytes, NoMemory};
-use l2_types::{How, Side};
+use l2_types::{Clock, How, Side};
 use mac_pdu::MacRefusal;
 
 fn append_take(
@@ -23,47 +23,35 @@ fn append_take(
     ensures { OnOk result (text.new ≡ text.old
         ++ worded (event_words (side_text side) (Event.Take lcid count len))) }
 {
-    append_words(
-        text,
-        &[
-            Word::Plain("take"),
-            Word::Plain(side_word(side)),
-            octet(lcid),
-            Word::Count(count),
-            number(len),
-        ],
-    )
+    text.append(b"take")?;
+    add_word(text, side_word(side))?;
+    add_number(text, u64::from(lcid))?;
+    add_count(text, count)?;
+    add_number(text, u64::from(len))?;
+    text.append(b"\n")
 }
 
 fn append_send(text: &mut Bytes, side: Side, lcid: u8, how: How, sn: u32) -> Result<(), NoMemory>
     ensures { OnOk result (text.new ≡ text.old
         ++ worded (event_words (side_text side) (Event.Send lcid how sn))) }
 {
-    append_words(
-        text,
-        &[
-            Word::Plain("send"),
-            Word::Plain(side_word(side)),
-            octet(lcid),
-            Word::Plain(how_word(how)),
-            number(sn),
-        ],
-    )
+    text.append(b"send")?;
+    add_word(text, side_word(side))?;
+    add_number(text, u64::from(lcid))?;
+    add_how(text, how)?;
+    add_number(text, u64::from(sn))?;
+    text.append(b"\n")
 }
 
 fn append_up(text: &mut Bytes, side: Side, lcid: u8, octets: &[u8]) -> Result<(), NoMemory>
     ensures { OnOk result (text.new ≡ text.old
         ++ worded (event_words (side_text side) (Event.Up lcid octets.now))) }
 {
-    append_words(
-        text,
-        &[
-            Word::Plain("up"),
-            Word::Plain(side_word(side)),
-            octet(lcid),
-            Word::Hex(octets),
-        ],
-    )
+    text.append(b"up")?;
+    add_word(text, side_word(side))?;
+    add_number(text, u64::from(lcid))?;
+    add_hex(text, octets)?;
+    text.append(b"\n")
 }
 
 fn append_report(
@@ -76,16 +64,12 @@ fn append_report(
     ensures { OnOk result (text.new ≡ text.old
         ++ worded (event_words (side_text side) (Event.Report lcid fms bitmap.now))) }
 {
-    append_words(
-        text,
-        &[
-            Word::Plain("report"),
-            Word::Plain(side_word(side)),
-            octet(lcid),
-            number(fms),
-            Word::Bitmap(bitmap),
-        ],
-    )
+    text.append(b"report")?;
+    add_word(text, side_word(side))?;
+    add_number(text, u64::from(lcid))?;
+    add_number(text, u64::from(fms))?;
+    add_bitmap(text, bitmap)?;
+    text.append(b"\n")
 }
 
 fn append_integrity<'a>(
@@ -98,32 +82,24 @@ fn append_integrity<'a>(
     ensures { OnOk result (text.new ≡ text.old
         ++ worded (event_words (side_text side) (Event.Integrity lcid found.now wanted.now))) }
 {
-    append_words(
-        text,
-        &[
-            Word::Plain("integrity"),
-            Word::Plain(side_word(side)),
-            octet(lcid),
-            Word::Hex(found),
-            Word::Hex(wanted),
-        ],
-    )
+    text.append(b"integrity")?;
+    add_word(text, side_word(side))?;
+    add_number(text, u64::from(lcid))?;
+    add_hex(text, found)?;
+    add_hex(text, wanted)?;
+    text.append(b"\n")
 }
 
 fn append_bad_block(text: &mut Bytes, side: Side, fault: &MacRefusal) -> Result<(), NoMemory>
     ensures { OnOk result (text.new ≡ text.old
         ++ worded (event_words (side_text side) (Event.BadMac fault.now))) }
 {
-    append_words(
-        text,
-        &[
-            Word::Plain("bad"),
-            Word::Plain(side_word(side)),
-            Word::Plain("mac"),
-            number(fault.at),
-            Word::Number(mac_why(fault.why)),
-        ],
-    )
+    text.append(b"bad")?;
+    add_word(text, side_word(side))?;
+    add_word(text, "mac")?;
+    add_number(text, u64::from(fault.at))?;
+    add_number(text, mac_why(fault.why))?;
+    text.append(b"\n")
 }
 
 // A PDU of a layer above MAC can't be read.
@@ -139,17 +115,13 @@ fn append_bad_pdu(
         ++ worded (codes "bad" ∷ side_text side ∷ layer.now ∷ decimal lcid ∷ decimal at
         ∷ decimal why ∷ [])) }
 {
-    append_words(
-        text,
-        &[
-            Word::Plain("bad"),
-            Word::Plain(side_word(side)),
-            Word::Plain(layer),
-            octet(lcid),
-            number(at),
-            Word::Number(why),
-        ],
-    )
+    text.append(b"bad")?;
+    add_word(text, side_word(side))?;
+    add_word(text, layer)?;
+    add_number(text, u64::from(lcid))?;
+    add_number(text, u64::from(at))?;
+    add_number(text, why)?;
+    text.append(b"\n")
 }
 
 // What happens to a bearer, and which timer or why.
@@ -163,15 +135,30 @@ fn append_named(
     ensures { OnOk result (text.new ≡ text.old
         ++ worded (what.now ∷ side_text side ∷ decimal lcid ∷ which.now ∷ [])) }
 {
-    append_words(
-        text,
-        &[
-            Word::Plain(what),
-            Word::Plain(side_word(side)),
-            octet(lcid),
-            Word::Plain(which),
-        ],
-    )
+    text.append(what.as_bytes())?;
+    add_word(text, side_word(side))?;
+    add_number(text, u64::from(lcid))?;
+    add_word(text, which)?;
+    text.append(b"\n")
+}
+
+// What happens to a timer of a bearer.
+#[inline(always)]
+fn append_timer(
+    text: &mut Bytes,
+    what: &'static str,
+    side: Side,
+    lcid: u8,
+    clock: Clock,
+) -> Result<(), NoMemory>
+    ensures { OnOk result (text.new ≡ text.old
+        ++ worded (what.now ∷ side_text side ∷ decimal lcid ∷ clock_text clock ∷ [])) }
+{
+    text.append(what.as_bytes())?;
+    add_word(text, side_word(side))?;
+    add_number(text, u64::from(lcid))?;
+    add_clock(text, clock)?;
+    text.append(b"\n")
 }
 
 // What happens to a bearer, with a number or a length.
@@ -185,15 +172,11 @@ fn append_numbered(
     ensures { OnOk result (text.new ≡ text.old
         ++ worded (what.now ∷ side_text side ∷ decimal lcid ∷ decimal which ∷ [])) }
 {
-    append_words(
-        text,
-        &[
-            Word::Plain(what),
-            Word::Plain(side_word(side)),
-            octet(lcid),
-            number(which),
-        ],
-    )
+    text.append(what.as_bytes())?;
+    add_word(text, side_word(side))?;
+    add_number(text, u64::from(lcid))?;
+    add_number(text, u64::from(which))?;
+    text.append(b"\n")
 }
 
 /// Adds the text of what happens at one end, and a line feed.
@@ -211,21 +194,9 @@ pub fn append_event(text: &mut Bytes, side: Side, event: &Event) -> Result<(), N
         ),
         Event::Send { lcid, how, sn } => append_send(text, side, *lcid, *how, *sn),
         Event::Wait { lcid, why } => append_named(text, "wait", side, *lcid, waits_word(*why)),
-        Event::Start { lcid, clock } => append_named(
-            text,
-            "start",
-            side,
-            *lcid,
-            clock_word(*clock),
-        ),
-        Event::Stop { lcid, clock } => append_named(text, "stop", side, *lcid, clock_word(*clock)),
-        Event::Expired { lcid, clock } => append_named(
-            text,
-            "expired",
-            side,
-            *lcid,
-            clock_word(*clock),
-        ),
+        Event::Start { lcid, clock } => append_timer(text, "start", side, *lcid, *clock),
+        Event::Stop { lcid, clock } => append_timer(text, "stop", side, *lcid, *clock),
+        Event::Expired { lcid, clock } => append_timer(text, "expired", side, *lcid, *clock),
         Event::Up { lcid, octets } => append_up(text, side, *lcid, octets.as_slice()),
         Event::Fail { lcid, sn } => append_numbered(text, "fail", side, *lcid, *sn),
         Event::Drop { lcid, why } => append_named(text, "drop", side, *lcid, lost_word(*why)),

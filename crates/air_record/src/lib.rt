@@ -1,6 +1,7 @@
 //! The lines of a script and the records of a journal, and the text of each.
 #![tactic(auto)]
 
+mod boxed;
 mod events;
 mod line;
 mod lines;
@@ -10,6 +11,7 @@ mod record;
 mod shown;
 mod word;
 
+pub use boxed::BoxedLine;
 pub use line::{Fate, Line, Outcome};
 pub use printing::{append_accepted, append_record, print, print_line};
 pub use record::{Arrived, Lens, NoPlace, Record, State};

@@ -4,8 +4,8 @@ ghost use Rattle.hex.specs.Hex.{encode_lower};
 ghost use Rattle.std.specs.Fmt.{decimal};
 
 use crate::line::{Line, Outcome};
-use crate::naming::{cipher_word, clock_word, kind_word, outcome_word, side_word};
-use crate::word::{Word, append_counted, append_words, number, octet};
+use crate::naming::{add_clock, add_outcome, cipher_word, kind_word, side_word};
+use crate::word::{add_given, add_hex, add_number, add_word, append_counted};
 use bearer_types::BearerConfig;
 use eps_sec::{Key, Keys};
 use l2_bits::{Bytes, NoMemory};
@@ -14,16 +14,12 @@ use l2_types::{Clock, DrxConfig, Side};
 fn append_keys(text: &mut Bytes, keys: &Keys) -> Result<(), NoMemory>
     ensures { OnOk result (text.new ≡ text.old ++ worded (line_words (Line.Keys keys.now))) }
 {
-    append_words(
-        text,
-        &[
-            Word::Plain("keys"),
-            Word::Plain(cipher_word(keys.alg)),
-            Word::Hex(&keys.user.octets),
-            Word::Hex(&keys.rrc.octets),
-            Word::Hex(&keys.integrity.octets),
-        ],
-    )
+    text.append(b"keys")?;
+    add_word(text, cipher_word(keys.alg))?;
+    add_hex(text, &keys.user.octets)?;
+    add_hex(text, &keys.rrc.octets)?;
+    add_hex(text, &keys.integrity.octets)?;
+    text.append(b"\n")
 }
 
 fn append_bearer(text: &mut Bytes, config: &BearerConfig, options: &[u8]) -> Result<(), NoMemory>
@@ -33,35 +29,27 @@ fn append_bearer(text: &mut Bytes, config: &BearerConfig, options: &[u8]) -> Res
     let lcid = config.channel.lcid;
     let kind = kind_word(config.kind);
     if options.is_empty() {
-        return append_words(
-            text,
-            &[Word::Plain("bearer"), octet(lcid), Word::Plain(kind)],
-        );
+        text.append(b"bearer")?;
+        add_number(text, u64::from(lcid))?;
+        add_word(text, kind)?;
+        return text.append(b"\n");
     }
-    append_words(
-        text,
-        &[
-            Word::Plain("bearer"),
-            octet(lcid),
-            Word::Plain(kind),
-            Word::Given(options),
-        ],
-    )
+    text.append(b"bearer")?;
+    add_number(text, u64::from(lcid))?;
+    add_word(text, kind)?;
+    add_given(text, options)?;
+    text.append(b"\n")
 }
 
 fn append_submit(text: &mut Bytes, side: Side, lcid: u8, octets: &[u8]) -> Result<(), NoMemory>
     ensures { OnOk result (text.new ≡ text.old
         ++ worded (line_words (Line.Submit side lcid octets.now))) }
 {
-    append_words(
-        text,
-        &[
-            Word::Plain("submit"),
-            Word::Plain(side_word(side)),
-            octet(lcid),
-            Word::Hex(octets),
-        ],
-    )
+    text.append(b"submit")?;
+    add_word(text, side_word(side))?;
+    add_number(text, u64::from(lcid))?;
+    add_hex(text, octets)?;
+    text.append(b"\n")
 }
 
 fn append_tti(
@@ -74,30 +62,22 @@ fn append_tti(
     ensures { OnOk result (text.new ≡ text.old
         ++ worded (line_words (Line.Tti up_grant up down_grant down))) }
 {
-    append_words(
-        text,
-        &[
-            Word::Plain("tti"),
-            number(up_grant),
-            Word::Plain(outcome_word(up)),
-            number(down_grant),
-            Word::Plain(outcome_word(down)),
-        ],
-    )
+    text.append(b"tti")?;
+    add_number(text, u64::from(up_grant))?;
+    add_outcome(text, up)?;
+    add_number(text, u64::from(down_grant))?;
+    add_outcome(text, down)?;
+    text.append(b"\n")
 }
 
 fn append_expire(text: &mut Bytes, side: Side, lcid: u8, clock: Clock) -> Result<(), NoMemory>
     ensures { OnOk result (text.new ≡ text.old ++ worded (line_words (Line.Expire side lcid clock))) }
 {
-    append_words(
-        text,
-        &[
-            Word::Plain("expire"),
-            Word::Plain(side_word(side)),
-            octet(lcid),
-            Word::Plain(clock_word(clock)),
-        ],
-    )
+    text.append(b"expire")?;
+    add_word(text, side_word(side))?;
+    add_number(text, u64::from(lcid))?;
+    add_clock(text, clock)?;
+    text.append(b"\n")
 }
 
 fn append_handover<'a>(
@@ -109,60 +89,51 @@ fn append_handover<'a>(
     ensures { OnOk result (text.new ≡ text.old
         ++ worded (line_words (Line.Handover user.now rrc.now integrity.now))) }
 {
-    append_words(
-        text,
-        &[
-            Word::Plain("handover"),
-            Word::Hex(&user.octets),
-            Word::Hex(&rrc.octets),
-            Word::Hex(&integrity.octets),
-        ],
-    )
+    text.append(b"handover")?;
+    add_hex(text, &user.octets)?;
+    add_hex(text, &rrc.octets)?;
+    add_hex(text, &integrity.octets)?;
+    text.append(b"\n")
 }
 
 fn append_loop(text: &mut Bytes, mode: &'static str, with: u32) -> Result<(), NoMemory>
     ensures { OnOk result (text.new ≡ text.old
         ++ worded (codes "loop" ∷ mode.now ∷ decimal with ∷ [])) }
 {
-    append_words(
-        text,
-        &[Word::Plain("loop"), Word::Plain(mode), number(with)],
-    )
+    text.append(b"loop")?;
+    add_word(text, mode)?;
+    add_number(text, u64::from(with))?;
+    text.append(b"\n")
 }
 
 fn append_forge(text: &mut Bytes, side: Side, octets: &[u8]) -> Result<(), NoMemory>
     ensures { OnOk result (text.new ≡ text.old ++ worded (line_words (Line.Forge side octets.now))) }
 {
-    append_words(
-        text,
-        &[
-            Word::Plain("forge"),
-            Word::Plain(side_word(side)),
-            Word::Hex(octets),
-        ],
-    )
+    text.append(b"forge")?;
+    add_word(text, side_word(side))?;
+    add_hex(text, octets)?;
+    text.append(b"\n")
 }
 
 fn append_discard(text: &mut Bytes, lcid: u8, ttis: u32) -> Result<(), NoMemory>
     ensures { OnOk result (text.new ≡ text.old ++ worded (line_words (Line.Discard lcid ttis))) }
 {
-    append_words(text, &[Word::Plain("discard"), octet(lcid), number(ttis)])
+    text.append(b"discard")?;
+    add_number(text, u64::from(lcid))?;
+    add_number(text, u64::from(ttis))?;
+    text.append(b"\n")
 }
 
 fn append_drx(text: &mut Bytes, config: &DrxConfig) -> Result<(), NoMemory>
     ensures { OnOk result (text.new ≡ text.old ++ worded (line_words (Line.Drx config.now))) }
 {
-    append_words(
-        text,
-        &[
-            Word::Plain("drx"),
-            number(config.on),
-            number(config.inactivity),
-            number(config.retransmit),
-            number(config.cycle),
-            number(config.offset),
-        ],
-    )
+    text.append(b"drx")?;
+    add_number(text, u64::from(config.on))?;
+    add_number(text, u64::from(config.inactivity))?;
+    add_number(text, u64::from(config.retransmit))?;
+    add_number(text, u64::from(config.cycle))?;
+    add_number(text, u64::from(config.offset))?;
+    text.append(b"\n")
 }
 
 /// Adds the text of a line, and a line feed.

@@ -1,4 +1,5 @@
-ghost use Rattle.std.specs.Prelude.{◌≡◌};
+// Words of enums. Those that come in most TTIs are added with the space before them, as literals.
+ghost use Rattle.std.specs.Prelude.{◌≡◌, ◌++◌, ◌∷◌, OnOk};
 ghost use Rattle.air_record.specs.Text.{side_text, kind_text, clock_text, cipher_text, how_text};
 ghost use Rattle.air_record.specs.Text.{waits_text, direction_text, arrived_text, place_text};
 ghost use Rattle.air_record.specs.Text.{state_text, fate_text, outcome_text, heard_text};
@@ -8,6 +9,7 @@ ghost use Rattle.air_record.specs.Text.{rlc_number, pdcp_number};
 use crate::line::{Fate, Outcome};
 use crate::record::{Arrived, NoPlace, State};
 use eps_sec::Cipher;
+use l2_bits::{Bytes, NoMemory};
 use l2_types::{Clock, How, Kind, Lost, Side, Waits};
 use mac_pdu::{Direction, MacWhy};
 use pdcp_pdu::PdcpWhy;
@@ -33,13 +35,14 @@ pub fn kind_word(one: Kind) -> &'static str
     }
 }
 
-pub fn clock_word(one: Clock) -> &'static str
-    ensures { result.now ≡ clock_text one }
+#[inline(always)]
+pub fn add_clock(text: &mut Bytes, one: Clock) -> Result<(), NoMemory>
+    ensures { OnOk result (text.new ≡ text.old ++ 32 ∷ clock_text one) }
 {
     match one {
-        Clock::Poll => "poll",
-        Clock::Reorder => "reorder",
-        Clock::Prohibit => "prohibit",
+        Clock::Poll => text.append(b" poll"),
+        Clock::Reorder => text.append(b" reorder"),
+        Clock::Prohibit => text.append(b" prohibit"),
     }
 }
 
@@ -52,14 +55,15 @@ pub fn cipher_word(one: Cipher) -> &'static str
     }
 }
 
-pub fn how_word(one: How) -> &'static str
-    ensures { result.now ≡ how_text one }
+#[inline(always)]
+pub fn add_how(text: &mut Bytes, one: How) -> Result<(), NoMemory>
+    ensures { OnOk result (text.new ≡ text.old ++ 32 ∷ how_text one) }
 {
     match one {
-        How::Tm => "tm",
-        How::New => "new",
-        How::Re => "re",
-        How::Status => "status",
+        How::Tm => text.append(b" tm"),
+        How::New => text.append(b" new"),
+        How::Re => text.append(b" re"),
+        How::Status => text.append(b" status"),
     }
 }
 
@@ -83,14 +87,15 @@ pub fn direction_word(one: Direction) -> &'static str
     }
 }
 
-pub fn arrived_word(one: Arrived) -> &'static str
-    ensures { result.now ≡ arrived_text one }
+#[inline(always)]
+pub fn add_arrived(text: &mut Bytes, one: Arrived) -> Result<(), NoMemory>
+    ensures { OnOk result (text.new ≡ text.old ++ 32 ∷ arrived_text one) }
 {
     match one {
-        Arrived::Got => "got",
-        Arrived::Dup => "dup",
-        Arrived::Bad => "bad",
-        Arrived::Nothing => "none",
+        Arrived::Got => text.append(b" got"),
+        Arrived::Dup => text.append(b" dup"),
+        Arrived::Bad => text.append(b" bad"),
+        Arrived::Nothing => text.append(b" none"),
     }
 }
 
@@ -114,42 +119,45 @@ pub fn state_word(one: State) -> &'static str
     }
 }
 
-pub fn fresh_word(one: bool) -> &'static str
-    ensures { result.now ≡ fresh_text one }
+#[inline(always)]
+pub fn add_fresh(text: &mut Bytes, one: bool) -> Result<(), NoMemory>
+    ensures { OnOk result (text.new ≡ text.old ++ 32 ∷ fresh_text one) }
 {
     match one {
-        true => "new",
-        false => "re",
+        true => text.append(b" new"),
+        false => text.append(b" re"),
     }
 }
 
-pub fn heard_word(one: Option<bool>) -> &'static str
-    ensures { result.now ≡ heard_text one }
+#[inline(always)]
+pub fn add_heard(text: &mut Bytes, one: Option<bool>) -> Result<(), NoMemory>
+    ensures { OnOk result (text.new ≡ text.old ++ 32 ∷ heard_text one) }
 {
     match one {
-        None => "-",
-        Some(true) => "ack",
-        Some(false) => "nack",
+        None => text.append(b" -"),
+        Some(true) => text.append(b" ack"),
+        Some(false) => text.append(b" nack"),
     }
 }
 
-fn fate_word(fate: Fate, flipped: bool) -> &'static str
-    ensures { result.now ≡ fate_text fate flipped }
+#[inline(always)]
+fn add_fate(text: &mut Bytes, fate: Fate, flipped: bool) -> Result<(), NoMemory>
+    ensures { OnOk result (text.new ≡ text.old ++ 32 ∷ fate_text fate flipped) }
 {
     match (fate, flipped) {
-        (Fate::Ok, false) => "ok",
-        (Fate::Ok, true) => "ok~",
-        (Fate::Bad, false) => "bad",
-        (Fate::Bad, true) => "bad~",
-        (Fate::Miss, false) => "miss",
-        (Fate::Miss, true) => "miss~",
+        (Fate::Ok, false) => text.append(b" ok"),
+        (Fate::Ok, true) => text.append(b" ok~"),
+        (Fate::Bad, false) => text.append(b" bad"),
+        (Fate::Bad, true) => text.append(b" bad~"),
+        (Fate::Miss, false) => text.append(b" miss"),
+        (Fate::Miss, true) => text.append(b" miss~"),
     }
 }
 
-pub fn outcome_word(outcome: Outcome) -> &'static str
-    ensures { result.now ≡ outcome_text outcome }
+pub fn add_outcome(text: &mut Bytes, outcome: Outcome) -> Result<(), NoMemory>
+    ensures { OnOk result (text.new ≡ text.old ++ 32 ∷ outcome_text outcome) }
 {
-    fate_word(outcome.fate, outcome.flipped)
+    add_fate(text, outcome.fate, outcome.flipped)
 }
 
 pub fn lost_word(one: Lost) -> &'static str

@@ -8,7 +8,7 @@ use crate::events::append_event;
 use crate::line::Line;
 use crate::lines::append_line;
 use crate::naming::{
-    arrived_word, direction_word, fresh_word, heard_word, mac_why, pdcp_why, place_word, rlc_why,
+    add_arrived, add_fresh, add_heard, direction_word, mac_why, pdcp_why, place_word, rlc_why,
     side_word, state_word,
 };
 use crate::record::{Arrived, NoPlace, Record, State};
@@ -16,7 +16,7 @@ use crate::shown::{
     append_amd, append_bad, append_control, append_report, append_segment, append_shown,
     append_signalling, append_sized, append_status, append_umd, append_value,
 };
-use crate::word::{Word, append_counted, append_words, number, octet};
+use crate::word::{add_hex, add_number, add_word, append_counted};
 use l2_bits::{Bytes, NoMemory};
 use l2_types::Side;
 use mac_pdu::Direction;
@@ -44,17 +44,13 @@ fn append_block(
     ensures { OnOk result (text.new ≡ text.old
         ++ worded (record_words (Record.Block direction process fresh rv octets.now))) }
 {
-    append_words(
-        text,
-        &[
-            Word::Plain("block"),
-            Word::Plain(direction_word(direction)),
-            number(process),
-            Word::Plain(fresh_word(fresh)),
-            octet(rv),
-            Word::Hex(octets),
-        ],
-    )
+    text.append(b"block")?;
+    add_word(text, direction_word(direction))?;
+    add_number(text, u64::from(process))?;
+    add_fresh(text, fresh)?;
+    add_number(text, u64::from(rv))?;
+    add_hex(text, octets)?;
+    text.append(b"\n")
 }
 
 fn append_air(
@@ -66,37 +62,32 @@ fn append_air(
     ensures { OnOk result (text.new ≡ text.old
         ++ worded (record_words (Record.Air direction what heard))) }
 {
-    append_words(
-        text,
-        &[
-            Word::Plain("air"),
-            Word::Plain(direction_word(direction)),
-            Word::Plain(arrived_word(what)),
-            Word::Plain(heard_word(heard)),
-        ],
-    )
+    text.append(b"air")?;
+    add_word(text, direction_word(direction))?;
+    add_arrived(text, what)?;
+    add_heard(text, heard)?;
+    text.append(b"\n")
 }
 
 fn append_refused(text: &mut Bytes, side: Side, lcid: u8, why: NoPlace) -> Result<(), NoMemory>
     ensures { OnOk result (text.new ≡ text.old
         ++ worded (record_words (Record.Refused side lcid why))) }
 {
-    append_words(
-        text,
-        &[
-            Word::Plain("refused"),
-            Word::Plain(side_word(side)),
-            octet(lcid),
-            Word::Plain(place_word(why)),
-        ],
-    )
+    text.append(b"refused")?;
+    add_word(text, side_word(side))?;
+    add_number(text, u64::from(lcid))?;
+    add_word(text, place_word(why))?;
+    text.append(b"\n")
 }
 
 fn append_looped(text: &mut Bytes, lcid: u8, octets: &[u8]) -> Result<(), NoMemory>
     ensures { OnOk result (text.new ≡ text.old
         ++ worded (record_words (Record.Looped lcid octets.now))) }
 {
-    append_words(text, &[Word::Plain("loop"), octet(lcid), Word::Hex(octets)])
+    text.append(b"loop")?;
+    add_number(text, u64::from(lcid))?;
+    add_hex(text, octets)?;
+    text.append(b"\n")
 }
 
 fn append_sum(
@@ -110,17 +101,13 @@ fn append_sum(
     ensures { OnOk result (text.new ≡ text.old
         ++ worded (record_words (Record.Sum direction lcid submitted delivered state))) }
 {
-    append_words(
-        text,
-        &[
-            Word::Plain("sum"),
-            Word::Plain(direction_word(direction)),
-            octet(lcid),
-            Word::Number(submitted),
-            Word::Number(delivered),
-            Word::Plain(state_word(state)),
-        ],
-    )
+    text.append(b"sum")?;
+    add_word(text, direction_word(direction))?;
+    add_number(text, u64::from(lcid))?;
+    add_number(text, submitted)?;
+    add_number(text, delivered)?;
+    add_word(text, state_word(state))?;
+    text.append(b"\n")
 }
 
 /// Adds the text of a record, which ends with a line feed, to a text.
@@ -134,7 +121,7 @@ pub fn append_record(text: &mut Bytes, one: &Record) -> Result<(), NoMemory>
         Record::Line {
             number: place,
             line,
-        } => append_accepted(text, *place, line),
+        } => append_accepted(text, *place, line.as_line()),
         Record::Tti { tti } => append_counted(text, "tti", *tti),
         Record::Sleep => text.append(b"sleep\n"),
         Record::Of { side, event } => append_event(text, *side, event),
@@ -162,10 +149,10 @@ pub fn append_record(text: &mut Bytes, one: &Record) -> Result<(), NoMemory>
             state,
         } => append_sum(text, *direction, *lcid, *submitted, *delivered, *state),
         Record::MacFront => text.append(b"mac front\n"),
-        Record::MacSdu { lcid, len } => append_sized(text, "mac", "sdu", u32::from(*lcid), *len),
-        Record::MacPad { octets } => append_value(text, "mac", "pad", *octets),
+        Record::MacSdu { lcid, len } => append_sized(text, "mac sdu", u32::from(*lcid), *len),
+        Record::MacPad { octets } => append_value(text, "mac pad", *octets),
         Record::MacControl { element } => append_control(text, element),
-        Record::RlcTm { len } => append_value(text, "rlc", "tm", *len),
+        Record::RlcTm { len } => append_value(text, "rlc tm", *len),
         Record::RlcUm { sn, fi, lens } => append_umd(text, *sn, *fi, lens),
         Record::RlcAm { sn, poll, fi, lens } => append_amd(text, *sn, *poll, *fi, lens),
         Record::RlcSeg {
@@ -177,7 +164,7 @@ pub fn append_record(text: &mut Bytes, one: &Record) -> Result<(), NoMemory>
             lens,
         } => append_segment(text, *sn, *poll, *fi, *last, *so, lens),
         Record::RlcStatus { ack, nacks } => append_status(text, *ack, nacks),
-        Record::PdcpData { sn, len } => append_sized(text, "pdcp", "data", *sn, *len),
+        Record::PdcpData { sn, len } => append_sized(text, "pdcp data", *sn, *len),
         Record::PdcpSrb { sn, len, tag } => append_signalling(text, *sn, *len, tag),
         Record::PdcpReport { fms, bitmap } => append_report(text, *fms, bitmap.as_slice()),
         Record::Shown {

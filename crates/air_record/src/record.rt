@@ -1,4 +1,4 @@
-use crate::line::Line;
+use crate::boxed::BoxedLine;
 use bearer_types::Event;
 use l2_bits::{Bytes, Items};
 use l2_types::Side;
@@ -53,7 +53,7 @@ pub enum Record {
     /// A line was accepted.
     Line {
         number: u32,
-        line: Line,
+        line: BoxedLine,
     },
     /// A TTI begins.
     Tti {

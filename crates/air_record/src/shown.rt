@@ -1,85 +1,74 @@
 ghost use Rattle.std.specs.Prelude.{◌≡◌, ◌++◌, ◌∷◌, [], ℕ, List, OnOk, map, codes};
-ghost use Rattle.air_record.specs.Text.{worded, bsr_words, control_words, record_words};
+ghost use Rattle.air_record.specs.Text.{worded, bsr_words, control_words, record_words, bit_text};
+ghost use Rattle.air_record.specs.Text.{framing_text, bitmap_text};
+ghost use Rattle.std.specs.List.{slice_index};
 ghost use Rattle.hex.specs.Hex.{encode_lower};
 ghost use Rattle.std.specs.Fmt.{decimal};
 
 use crate::naming::{bit_word, direction_word, framing_word};
 use crate::record::{Lens, Record};
-use crate::word::{Word, append_words, number, octet};
+use crate::word::{add_bitmap, add_hex, add_lens, add_nacks, add_number, add_word};
 use l2_bits::{Bytes, NoMemory};
 use mac_pdu::{Bsr, Control, Direction};
 use rlc_pdu::Nacks;
 
 /// A part of a block that has one number: a length, or a value.
-pub fn append_value(
-    text: &mut Bytes,
-    layer: &'static str,
-    what: &'static str,
-    value: u32,
-) -> Result<(), NoMemory>
-    ensures { OnOk result (text.new ≡ text.old
-        ++ worded (layer.now ∷ what.now ∷ decimal value ∷ [])) }
+#[inline(always)]
+pub fn append_value(text: &mut Bytes, what: &'static str, value: u32) -> Result<(), NoMemory>
+    ensures { OnOk result (text.new ≡ text.old ++ worded (what.now ∷ decimal value ∷ [])) }
 {
-    append_words(
-        text,
-        &[Word::Plain(layer), Word::Plain(what), number(value)],
-    )
+    text.append(what.as_bytes())?;
+    add_number(text, u64::from(value))?;
+    text.append(b"\n")
 }
 
 /// A part of a block that has a number and a length.
+#[inline(always)]
 pub fn append_sized(
     text: &mut Bytes,
-    layer: &'static str,
     what: &'static str,
     which: u32,
     len: u32,
 ) -> Result<(), NoMemory>
     ensures { OnOk result (text.new ≡ text.old
-        ++ worded (layer.now ∷ what.now ∷ decimal which ∷ decimal len ∷ [])) }
+        ++ worded (what.now ∷ decimal which ∷ decimal len ∷ [])) }
 {
-    append_words(
-        text,
-        &[
-            Word::Plain(layer),
-            Word::Plain(what),
-            number(which),
-            number(len),
-        ],
-    )
+    text.append(what.as_bytes())?;
+    add_number(text, u64::from(which))?;
+    add_number(text, u64::from(len))?;
+    text.append(b"\n")
 }
 
 fn append_group(text: &mut Bytes, what: &'static str, group: u8, level: u8) -> Result<(), NoMemory>
     ensures { OnOk result (text.new ≡ text.old
         ++ worded (codes "mac" ∷ codes "bsr" ∷ what.now ∷ decimal group ∷ decimal level ∷ [])) }
 {
-    append_words(
-        text,
-        &[
-            Word::Plain("mac"),
-            Word::Plain("bsr"),
-            Word::Plain(what),
-            octet(group),
-            octet(level),
-        ],
-    )
+    text.append(b"mac bsr")?;
+    add_word(text, what)?;
+    add_number(text, u64::from(group))?;
+    add_number(text, u64::from(level))?;
+    text.append(b"\n")
+}
+
+// A part of a block that has four numbers.
+fn append_four(text: &mut Bytes, what: &'static str, levels: [u8; 4]) -> Result<(), NoMemory>
+    ensures { OnOk result (text.new ≡ text.old
+        ++ worded (what.now ∷ decimal (slice_index levels 0) ∷ decimal (slice_index levels 1)
+        ∷ decimal (slice_index levels 2) ∷ decimal (slice_index levels 3) ∷ [])) }
+{
+    let [a, b, c, d] = levels;
+    text.append(what.as_bytes())?;
+    add_number(text, u64::from(a))?;
+    add_number(text, u64::from(b))?;
+    add_number(text, u64::from(c))?;
+    add_number(text, u64::from(d))?;
+    text.append(b"\n")
 }
 
 fn append_levels(text: &mut Bytes, levels: [u8; 4]) -> Result<(), NoMemory>
     ensures { OnOk result (text.new ≡ text.old ++ worded (bsr_words (Bsr.Long levels))) }
 {
-    let [a, b, c, d] = levels;
-    append_words(
-        text,
-        &[
-            Word::Plain("mac"),
-            Word::Plain("bsr"),
-            Word::Plain("long"),
-            octet(a),
-            octet(b),
-            octet(c),
-            octet(d),
-        ],
-    )
+    append_four(text, "mac bsr long", levels)
 }
 
 fn append_buffers(text: &mut Bytes, report: &Bsr) -> Result<(), NoMemory>
@@ -96,10 +85,10 @@ fn append_identity(text: &mut Bytes, what: &'static str, identity: &[u8]) -> Res
     ensures { OnOk result (text.new ≡ text.old
         ++ worded (codes "mac" ∷ what.now ∷ encode_lower identity.now ∷ [])) }
 {
-    append_words(
-        text,
-        &[Word::Plain("mac"), Word::Plain(what), Word::Hex(identity)],
-    )
+    text.append(b"mac")?;
+    add_word(text, what)?;
+    add_hex(text, identity)?;
+    text.append(b"\n")
 }
 
 /// Adds the text of a control element of a block, and a line feed.
@@ -108,9 +97,9 @@ pub fn append_control(text: &mut Bytes, element: &Control) -> Result<(), NoMemor
 {
     match element {
         Control::Contention(identity) => append_identity(text, "contention", identity),
-        Control::Advance(value) => append_value(text, "mac", "ta", u32::from(*value)),
+        Control::Advance(value) => append_value(text, "mac ta", u32::from(*value)),
         Control::Drx => text.append(b"mac drx\n"),
-        Control::Phr(level) => append_value(text, "mac", "phr", u32::from(*level)),
+        Control::Phr(level) => append_value(text, "mac phr", u32::from(*level)),
         Control::Crnti(identity) => {
             let octets = [(*identity / 256) as u8, (*identity % 256) as u8];
             append_identity(text, "crnti", &octets)
@@ -124,16 +113,29 @@ pub fn append_umd(text: &mut Bytes, sn: u32, fi: u8, lens: &Lens) -> Result<(), 
     ensures { OnOk result (text.new ≡ text.old
         ++ worded (record_words (Record.RlcUm sn fi lens.now))) }
 {
-    append_words(
-        text,
-        &[
-            Word::Plain("rlc"),
-            Word::Plain("um"),
-            number(sn),
-            Word::Plain(framing_word(fi)),
-            Word::Lens(lens),
-        ],
-    )
+    text.append(b"rlc um")?;
+    add_number(text, u64::from(sn))?;
+    add_word(text, framing_word(fi))?;
+    add_lens(text, lens)?;
+    text.append(b"\n")
+}
+
+// The fields that an AMD PDU and a segment of one begin with.
+#[inline(always)]
+fn append_amd_head(
+    text: &mut Bytes,
+    kind: &'static str,
+    sn: u32,
+    poll: bool,
+    fi: u8,
+) -> Result<(), NoMemory>
+    ensures { OnOk result (text.new ≡ text.old
+        ++ (kind.now ++ 32 ∷ (decimal sn ++ 32 ∷ (bit_text poll ++ 32 ∷ framing_text fi)))) }
+{
+    text.append(kind.as_bytes())?;
+    add_number(text, u64::from(sn))?;
+    add_word(text, bit_word(poll))?;
+    add_word(text, framing_word(fi))
 }
 
 /// An AMD PDU.
@@ -147,17 +149,9 @@ pub fn append_amd(
     ensures { OnOk result (text.new ≡ text.old
         ++ worded (record_words (Record.RlcAm sn poll fi lens.now))) }
 {
-    append_words(
-        text,
-        &[
-            Word::Plain("rlc"),
-            Word::Plain("am"),
-            number(sn),
-            Word::Plain(bit_word(poll)),
-            Word::Plain(framing_word(fi)),
-            Word::Lens(lens),
-        ],
-    )
+    append_amd_head(text, "rlc am", sn, poll, fi)?;
+    add_lens(text, lens)?;
+    text.append(b"\n")
 }
 
 /// An AMD PDU segment.
@@ -173,19 +167,11 @@ pub fn append_segment(
     ensures { OnOk result (text.new ≡ text.old
         ++ worded (record_words (Record.RlcSeg sn poll fi last so lens.now))) }
 {
-    append_words(
-        text,
-        &[
-            Word::Plain("rlc"),
-            Word::Plain("seg"),
-            number(sn),
-            Word::Plain(bit_word(poll)),
-            Word::Plain(framing_word(fi)),
-            Word::Plain(bit_word(last)),
-            number(so),
-            Word::Lens(lens),
-        ],
-    )
+    append_amd_head(text, "rlc seg", sn, poll, fi)?;
+    add_word(text, bit_word(last))?;
+    add_number(text, u64::from(so))?;
+    add_lens(text, lens)?;
+    text.append(b"\n")
 }
 
 /// A STATUS.
@@ -193,15 +179,10 @@ pub fn append_status(text: &mut Bytes, ack: u32, nacks: &Nacks) -> Result<(), No
     ensures { OnOk result (text.new ≡ text.old
         ++ worded (record_words (Record.RlcStatus ack nacks.now))) }
 {
-    append_words(
-        text,
-        &[
-            Word::Plain("rlc"),
-            Word::Plain("status"),
-            number(ack),
-            Word::Nacks(nacks),
-        ],
-    )
+    text.append(b"rlc status")?;
+    add_number(text, u64::from(ack))?;
+    add_nacks(text, nacks)?;
+    text.append(b"\n")
 }
 
 /// A PDCP PDU of a signalling bearer.
@@ -209,16 +190,27 @@ pub fn append_signalling(text: &mut Bytes, sn: u32, len: u32, tag: &[u8]) -> Res
     ensures { OnOk result (text.new ≡ text.old
         ++ worded (record_words (Record.PdcpSrb sn len tag.now))) }
 {
-    append_words(
-        text,
-        &[
-            Word::Plain("pdcp"),
-            Word::Plain("srb"),
-            number(sn),
-            number(len),
-            Word::Hex(tag),
-        ],
-    )
+    text.append(b"pdcp srb")?;
+    add_number(text, u64::from(sn))?;
+    add_number(text, u64::from(len))?;
+    add_hex(text, tag)?;
+    text.append(b"\n")
+}
+
+// A part of a block that has a number and a bitmap.
+fn append_mapped(
+    text: &mut Bytes,
+    what: &'static str,
+    from: u32,
+    bitmap: &[u8],
+) -> Result<(), NoMemory>
+    ensures { OnOk result (text.new ≡ text.old
+        ++ worded (what.now ∷ decimal from ∷ bitmap_text bitmap.now ∷ [])) }
+{
+    text.append(what.as_bytes())?;
+    add_number(text, u64::from(from))?;
+    add_bitmap(text, bitmap)?;
+    text.append(b"\n")
 }
 
 /// A PDCP status report.
@@ -226,15 +218,7 @@ pub fn append_report(text: &mut Bytes, fms: u32, bitmap: &[u8]) -> Result<(), No
     ensures { OnOk result (text.new ≡ text.old
         ++ worded (record_words (Record.PdcpReport fms bitmap.now))) }
 {
-    append_words(
-        text,
-        &[
-            Word::Plain("pdcp"),
-            Word::Plain("report"),
-            number(fms),
-            Word::Bitmap(bitmap),
-        ],
-    )
+    append_mapped(text, "pdcp report", fms, bitmap)
 }
 
 /// A block is shown.
@@ -247,15 +231,11 @@ pub fn append_shown(
     ensures { OnOk result (text.new ≡ text.old
         ++ worded (record_words (Record.Shown place direction len))) }
 {
-    append_words(
-        text,
-        &[
-            Word::Plain("record"),
-            number(place),
-            Word::Plain(direction_word(direction)),
-            number(len),
-        ],
-    )
+    text.append(b"record")?;
+    add_number(text, u64::from(place))?;
+    add_word(text, direction_word(direction))?;
+    add_number(text, u64::from(len))?;
+    text.append(b"\n")
 }
 
 /// A shown PDU that can't be read: at which octet, and why by its number.
@@ -263,13 +243,9 @@ pub fn append_bad(text: &mut Bytes, layer: &'static str, at: u32, why: u64) -> R
     ensures { OnOk result (text.new ≡ text.old
         ++ worded (codes "bad" ∷ layer.now ∷ decimal at ∷ decimal why ∷ [])) }
 {
-    append_words(
-        text,
-        &[
-            Word::Plain("bad"),
-            Word::Plain(layer),
-            number(at),
-            Word::Number(why),
-        ],
-    )
+    text.append(b"bad")?;
+    add_word(text, layer)?;
+    add_number(text, u64::from(at))?;
+    add_number(text, why)?;
+    text.append(b"\n")
 }

@@ -1,4 +1,4 @@
-ghost use Rattle.std.specs.Prelude.{◌≡◌, ◌≤◌, ◌++◌, length, map, OnOk};
+ghost use Rattle.std.specs.Prelude.{◌≡◌, ◌<◌, ◌-◌, ◌++◌, length, map, replicate, OnOk};
 ghost use Rattle.hex.specs.Hex.{encode_lower};
 ghost use Rattle.text_digits.specs.Pairs.{high_digit, low_digit};
 
@@ -8,7 +8,7 @@ use std::simd::prelude::*;
 /// The octets whose digits are written at a time.
 const BLOCK: usize = 64;
 
-/// Those of what is left behind the last block, as long as more are left.
+/// Those of what is left behind the last block, as long as so many are left.
 const PIECE: usize = 16;
 
 /// The lower case digits, once for each sixteen lanes of a vector.
@@ -71,17 +71,27 @@ fn piece_digits(piece: &[u8]) -> [u8; 2 * PIECE]
     high.shuffle::<32>(low, TURNS).to_array()
 }
 
-// Adds the digits of as few octets as a key or a tag has.
+// A piece that begins with fewer octets, and goes on with zeros.
+#[inline(always)]
+fn filled(few: &[u8]) -> [u8; PIECE]
+    requires { length few.now < PIECE }
+    ensures { result ≡ few.now ++ replicate (PIECE - length few.now) 0 }
+{
+    let mut piece = [0u8; PIECE];
+    piece[..few.len()].copy_from_slice(few);
+    piece
+}
+
+// Adds the digits of fewer octets than a piece has.
 fn append_few(text: &mut Bytes, few: &[u8]) -> Result<(), NoMemory>
-    requires { length few.now ≤ PIECE }
+    requires { length few.now < PIECE }
     ensures { OnOk result (text.new ≡ text.old ++ encode_lower few.now) }
 {
-    let mut digits = [0u8; 2 * PIECE];
-    let part = &mut digits[..2 * few.len()];
-    let Ok(()) = hex::encode_to_slice(few, part) else {
-        unreachable!()
+    let [_, ..] = few else {
+        return Ok(());
     };
-    text.append(part)
+    let digits = piece_digits(&filled(few));
+    text.append(&digits[..2 * few.len()])
 }
 
 /// Adds octets in lower case hexadecimal digits, two for each, at the end.
@@ -94,7 +104,7 @@ pub fn append_hex(text: &mut Bytes, octets: &[u8]) -> Result<(), NoMemory>
         text.append(&block_digits(block))?;
         rest = behind;
     }
-    while rest.len() > PIECE {
+    while rest.len() >= PIECE {
         let (piece, behind) = rest.split_at(PIECE);
         text.append(&piece_digits(piece))?;
         rest = behind;
