@@ -303,6 +303,61 @@ two_met (d ∷ ds) needs g a f most c (inr o) le =
     two_met ds needs (second_given d y g) a.2 (second_fits d y g f) (rw same (omega arith)) c o
     (rw (two_same c d ds y g a.1 o) le)
 
+-- ---- nothing of the grant is lost
+
+sum_put : (xs : List ℕ) (at v : ℕ) → at < length xs → sum (set xs at v) + get_or xs at 0 ≡ sum xs + v
+sum_put [] at v lt = absurd (omega (arith, lt))
+sum_put (x ∷ xs) zero v lt = omega (arith, sum_cons x xs, sum_cons v xs)
+sum_put (x ∷ xs) (suc at) v lt = let one : sum (set (x ∷ xs) (suc at) v) ≡ x + sum (set xs at v) =
+    sum_cons x (set xs at v) in omega (arith, one, sum_cons x xs, sum_put xs at v (omega (arith, lt)))
+
+abbrev AreUnshared : List Channel → Giving → Type 0
+AreUnshared cs g = (c : Channel) → IsOneOf c cs → get_or g.shares c.lcid 0 ≡ 0
+
+still_unshared : (d : Channel) (ds : List Channel) (x : ℕ) (g : Giving) → has d.lcid ds ≡ false
+    → AreUnshared (d ∷ ds) g → AreUnshared ds (first_given d x g)
+still_unshared d ds x g none u c o =
+    get_or-set_other g.shares d.lcid c.lcid x 0 (not_before c d ds none o) ∙ u c (inr o)
+
+one_kept : (cs : List Channel) (needs : List ℕ) (g : Giving) → Apart cs → Fits g → AreUnshared cs g
+    → sum (round_one cs needs g).shares + (round_one cs needs g).left ≡ sum g.shares + g.left
+one_kept [] needs g a f u = refl
+one_kept (d ∷ ds) needs g a f u =
+    let x = first_part d needs g in
+    let fits = first_le d needs g in
+    let ih = one_kept ds needs (first_given d x g) a.2 (first_fits d x g f) (still_unshared d ds x g a.1 u) in
+    omega (arith, ih, fits.0, u d (inl refl), sum_put g.shares d.lcid x (omega (arith, f.shares, a.0)))
+
+two_kept : (cs : List Channel) (needs : List ℕ) (g : Giving) → Apart cs → Fits g
+    → sum (round_two cs needs g).shares + (round_two cs needs g).left ≡ sum g.shares + g.left
+two_kept [] needs g a f = refl
+two_kept (d ∷ ds) needs g a f =
+    let y = second_part d needs g in
+    let ih = two_kept ds needs (second_given d y g) a.2 (second_fits d y g f) in
+    omega (arith, ih, sum_put g.shares d.lcid (get_or g.shares d.lcid 0 + y) (omega (arith, f.shares, a.0)))
+
+-- what round one gives is needed no more
+one_rest : (cs : List Channel) (needs : List ℕ) (g : Giving) → Apart cs → Fits g
+    → rest_of cs needs (round_one cs needs g).shares + g.left ≡ all_of cs needs + (round_one cs needs g).left
+one_rest [] needs g a f = refl
+one_rest (d ∷ ds) needs g a f =
+    let x = first_part d needs g in
+    let fits = first_le d needs g in
+    let ih = one_rest ds needs (first_given d x g) a.2 (first_fits d x g f) in
+    let share = (one_others ds needs (first_given d x g) d.lcid a.1).share in
+    let given = get_or-set_same g.shares d.lcid x 0 (omega (arith, f.shares, a.0)) in
+    rw (share, given) (omega (arith, ih, fits.0, fits.1))
+
+-- round two leaves what nobody needs
+two_left : (cs : List Channel) (needs : List ℕ) (g : Giving) → Apart cs
+    → (round_two cs needs g).left ≡ g.left - rest_of cs needs g.shares
+two_left [] needs g a = omega arith
+two_left (d ∷ ds) needs g a =
+    let y = second_part d needs g in
+    let ih = two_left ds needs (second_given d y g) a.2 in
+    let same = rest_same ds needs g.shares d.lcid (get_or g.shares d.lcid 0 + y) a.1 in
+    omega (arith, ih, same)
+
 -- ---- the whole
 
 abbrev nought : ℕ
@@ -347,6 +402,19 @@ shared_by b needs grant s =
       enough = λ most c o.
           let left = one_enough cs needs g 0 a f (omega (arith, all_is cs needs)) in
           two_met cs needs one a f1 (omega (arith, left)) c o (one_within cs needs g a f c o);
+      whole = λ most.
+          let left = two_left cs needs one a in
+          let rest = one_rest cs needs g a f in
+          let unshared : AreUnshared cs g = λ c o. none_given 11 c.lcid in
+          omega (
+            arith,
+            all_is cs needs,
+            left,
+            rest,
+            two_kept cs needs one a f1,
+            one_kept cs needs g a f unshared,
+            sum_none 11,
+          );
       none = λ lcid e. (two_others cs needs one lcid e).share ∙ (one_others cs needs g lcid e).share
           ∙ none_given 11 lcid;
     }

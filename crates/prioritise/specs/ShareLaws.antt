@@ -31,5 +31,8 @@ pub record IsShared (b : Bucketed) (needs : List ℕ) (grant : ℕ) : Type 0 whe
       → slice_index (allotted b needs grant) c.lcid ≤ slice_index needs c.lcid
   pub enough : over b.channels needs ≤ grant → (c : Channel) → IsOneOf c b.channels
       → slice_index (allotted b needs grant) c.lcid ≡ slice_index needs c.lcid
+  -- a grant that the needs reach is used up (TS 36.321 5.4.3.1: served until either the data or the
+  -- grant is exhausted)
+  pub whole : grant ≤ over b.channels needs → sum (allotted b needs grant) ≡ grant
   pub none : (lcid : ℕ) → has lcid b.channels ≡ false
       → slice_index (allotted b needs grant) lcid ≡ 0

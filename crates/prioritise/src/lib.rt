@@ -12,7 +12,7 @@ mod report;
 pub use buckets::Buckets;
 pub use l2_types::Channel;
 pub use mac_pdu::Bsr;
-pub use report::{choose, level};
+pub use report::{EDGES, choose, level};
 
 #[cfg(test)]
 mod tests {

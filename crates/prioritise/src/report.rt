@@ -6,9 +6,9 @@ ghost use Rattle.prioritise.specs.Levels.{level_of, groups, first_group, report}
 
 use mac_pdu::Bsr;
 
-// The upper edges of the levels 0 to 62, in octets.
+/// The upper edges of the Buffer Size levels 0 to 62, in octets (TS 36.321 6.1.3.1).
 #[rattlefmt::skip]
-const EDGES: [u32; 63] = [
+pub const EDGES: [u32; 63] = [
     0, 10, 12, 14, 17, 19, 22, 26, 31,
     36, 42, 49, 57, 67, 78, 91, 107, 125,
     146, 171, 200, 234, 274, 321, 376, 440, 515,
