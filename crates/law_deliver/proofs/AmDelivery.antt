@@ -26,4 +26,5 @@ pub mod Delivering
 pub mod Reached
 pub mod Submitted
 pub mod Drained
+pub mod HalfWindow
 pub mod Laws

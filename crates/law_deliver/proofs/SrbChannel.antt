@@ -4,3 +4,4 @@ pub mod Walk
 pub mod Running
 pub mod Laws
 pub mod Leaving
+pub mod Queue

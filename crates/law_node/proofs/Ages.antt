@@ -45,7 +45,7 @@ use Rattle.rlc_am_tx.specs.Machine.{expired as poll_expired, expiry_limit, with_
 use Rattle.law_rlc.proofs.AmSender.Carried.{ended-next, applied-next, recalled-next}
 use Rattle.law_rlc.proofs.AmSender.Least.{ended-window, settled-window, heard-length}
 use Rattle.rlc_am_tx_window.specs.Sent.{recalled}
-use Rattle.rlc_am_tx_window.specs.Window.{Kept, next, slot_at, offset_of, leading_acked}
+use Rattle.rlc_am_tx_window.specs.Window.{TxWindow, next, slot_at, offset_of, leading_acked}
 use Rattle.rlc_pdu.specs.declared.Expired.{Expired}
 use Rattle.rlc_pdu.specs.declared.Expired.TheVariants.{Done, NotRunning}
 use Rattle.rlc_pdu.specs.declared.RlcRefusal.{RlcRefusal}
@@ -110,7 +110,7 @@ am_ages : (b d : AmState) → Keeps b.tx d.tx → Ages (Am b) (Am d)
 am_ages b d k = record { young = λ n le. omega (arith, k.next_is, le); stands = k.few }
 
 by_window : (s t : AmSender) → t.window ≡ s.window → Keeps s t
-by_window s t e = record { next_is = ap (λ (w : Kept). next w) e; few = λ h. rw e h }
+by_window s t e = record { next_is = ap (λ (w : TxWindow). next w) e; few = λ h. rw e h }
 
 keeps_then : (s t u : AmSender) → Keeps s t → Keeps t u → Keeps s u
 keeps_then s t u a b = record { next_is = b.next_is ∙ a.next_is; few = λ h. b.few (a.few h) }
@@ -133,7 +133,7 @@ read_few : (s : AmSender) (below : ℕ) (p : StatusPdu) → length s.window.slot
 read_few s below p few =
     let w = read_window s below p.nacks in
     let same =
-    ap (λ (k : Kept). length k.slots)
+    ap (λ (k : TxWindow). length k.slots)
     (ended-window (limit_of s below p.nacks) (stops s below p.nacks) (read s below p.nacks)) in
     omega (
       arith,
@@ -183,7 +183,7 @@ poll_by true s more = record {
   next_is = ended-next (expiry_limit s more) false (poll_expired s more)
       ∙ recalled-next (recalled_place s more) (with_owed s);
   few = λ h. let same =
-      ap (λ (k : Kept). length k.slots) (ended-window (expiry_limit s more) false (poll_expired s more)) in
+      ap (λ (k : TxWindow). length k.slots) (ended-window (expiry_limit s more) false (poll_expired s more)) in
       omega (arith, same, recalled_few (recalled_place s more) (with_owed s));
 }
 

@@ -26,7 +26,7 @@ use Rattle.harq.specs.declared.sender.Order.{Order}
 use Rattle.harq.specs.declared.sender.Visit.{Visit}
 use Rattle.harq.specs.declared.sender.Visit.TheVariants.{New, Resend, Silent}
 use Rattle.harq.specs.Sending.{Sending}
-use Rattle.l2_node.specs.Building.{visited, visit, told_by, building}
+use Rattle.l2_node.specs.Building.{visited, visit, visit_events, building}
 use Rattle.l2_node.specs.End.{End}
 use Rattle.l2_node.specs.Finding.{Numbers, find, has, bearer_at, lowest}
 use Rattle.l2_node.specs.Writing.{shares, Work as Writing, work as writing, nothing_written, wrote, writes, all_write}
@@ -199,7 +199,7 @@ module _ (P : Event → Type 0)
       (writes_if (has c.lcid w.bearers) (bearer_at w.bearers (find c.lcid w.bearers)) (find c.lcid w.bearers) c.lcid
       share held w p)
 
-  pub told_all : (v : Visit) (grant : ℕ) (e : End) → AreAll (told_by v grant e)
+  pub told_all : (v : Visit) (grant : ℕ) (e : End) → AreAll (visit_events v grant e)
   unfolding written
   told_all New grant e =
       channels_all e.sender e.numbers (shares e grant) e.buckets.channels

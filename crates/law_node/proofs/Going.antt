@@ -18,7 +18,7 @@ use Rattle.harq.specs.declared.sender.Visit.{Visit}
 use Rattle.harq.specs.declared.sender.Visit.TheVariants.{New, Resend, Silent}
 use Rattle.harq.specs.Sending.{Sending}
 use Rattle.l2_bits.specs.declared.fault.SubmitRefusal.{SubmitRefusal}
-use Rattle.l2_node.specs.Building.{visited, loaded, built_by, told_by, built, building, visit}
+use Rattle.l2_node.specs.Building.{visited, loaded, built_by, visit_events, built, building, visit}
 use Rattle.l2_node.specs.End.{End, with_bearer, reset, with_visits}
 use Rattle.bearer_types.specs.Sides.{heard_by}
 use Rattle.l2_node.specs.Finding.{Numbers, find, has, bearer_at, lowest}
@@ -183,7 +183,7 @@ all_writes l s numbers amounts (c ∷ cs) w most a =
     }
 
 turn_goes : (v : Visit) (t : Turn) (e : End) (l : ℕ) → t.grant ≤ 9422 → IsSound e.buckets → AllAre IsOwn e.bearers
-    → Goes l e.bearers (answered v t (built_by v t.tti t.grant e)).bearers [] (counts_on l (told_by v t.grant e))
+    → Goes l e.bearers (answered v t (built_by v t.tti t.grant e)).bearers [] (counts_on l (visit_events v t.grant e))
 unfolding loaded written
 turn_goes New t e l most s a =
     let k = all_writes l e.sender e.numbers (shares e t.grant) e.buckets.channels

@@ -5,7 +5,7 @@ use Rattle.std.proofs.Common.{◌∷◌, refl}
 use Rattle.std.specs.List.{AllByRecursion}
 use Rattle.bearer_types.specs.declared.event.Event.{Event}
 use Rattle.harq.specs.declared.sender.Visit.{Visit}
-use Rattle.l2_node.specs.Building.{visited, visit, told_by}
+use Rattle.l2_node.specs.Building.{visited, visit, visit_events}
 use Rattle.l2_node.specs.End.{End}
 use Rattle.law_node.specs.Calls.{Call, SetVisits, SetReports, Add, Submit, SetDiscard, Tick, TickBuckets, Visits}
 use Rattle.law_node.specs.Calls.{Grants, Granted, Assigned, Pass, Receive, Expire, Move}
@@ -19,9 +19,9 @@ no_loop : (es : List Event) → AllByRecursion (λ event. is_of_loop event ≡ f
 no_loop [] h = refl
 no_loop (e ∷ es) h = rw h.0 (no_loop es h.1)
 
-building_no : (v : Visit) (grant : ℕ) (e : End) → TellNoLoop (told_by v grant e)
+building_no : (v : Visit) (grant : ℕ) (e : End) → TellNoLoop (visit_events v grant e)
 building_no v grant e =
-    no_loop (told_by v grant e)
+    no_loop (visit_events v grant e)
     (told_all (λ event. is_of_loop event ≡ false) (λ lcid count len. refl) (λ lcid fms bitmap. refl)
     (λ lcid how sn. refl) (λ lcid why. refl) (λ lcid clock. refl) v grant e)
 

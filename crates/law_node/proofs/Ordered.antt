@@ -20,7 +20,7 @@ use Rattle.harq.specs.declared.sender.Order.{Order}
 use Rattle.harq.specs.declared.sender.Visit.{Visit}
 use Rattle.harq.specs.declared.sender.Visit.TheVariants.{New}
 use Rattle.harq.specs.Sending.{Sending}
-use Rattle.l2_node.specs.Building.{visited, visit, building, told_by}
+use Rattle.l2_node.specs.Building.{visited, visit, building, visit_events}
 use Rattle.l2_node.specs.End.{End}
 use Rattle.bearer_types.specs.Sides.{heard_by}
 use Rattle.l2_node.specs.Finding.{Numbers, find, has, no_bearer, bearer_at, lowest}
@@ -106,7 +106,7 @@ builds_in : (tti grant : ℕ) (order : Order) (e : End) → AllAre IsBetween e.b
     → BuildsInOrder e (building tti grant order e)
 unfolding building visited
 builds_in tti grant order e a new =
-    subst (λ (v : Visit). BuildsInOrder e (told_by v grant (visited tti order e))) (sym new)
+    subst (λ (v : Visit). BuildsInOrder e (visit_events v grant (visited tti order e))) (sym new)
     (new_in grant (visited tti order e) a)
 
 -- ---- a block that comes

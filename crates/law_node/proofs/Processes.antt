@@ -4,7 +4,8 @@ use Rattle.harq.proofs.SendLemmas.{keeps_blocks}
 use Rattle.harq.specs.declared.sender.Visit.{Visit}
 use Rattle.harq.specs.declared.sender.Visit.TheVariants.{New, Resend, Silent}
 use Rattle.harq.specs.Sending.{Sending, after_visit, fresh as fresh_sender}
-use Rattle.harq.specs.SendHistory.{Step, Visited, Cleared, World, closed, turned, stepped, run as sender_run, start}
+use Rattle.harq.specs.SendHistory.{Step, Visited, Cleared, World, closed, turned, stepped, world_after as sender_run}
+use Rattle.harq.specs.SendHistory.{start}
 use Rattle.harq.specs.SendHistory.{KeepsBlocks}
 use Rattle.l2_types.specs.declared.side.Side.{Side}
 use Rattle.l2_node.specs.Building.{visited, loaded, built_by, built, visit}

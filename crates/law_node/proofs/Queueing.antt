@@ -1,16 +1,26 @@
 -- At each bearer of an end at most 1024 SDUs wait to be taken for the first time.
 use Rattle.std.proofs.Common.{◌≡◌, ◌≤◌, ℕ, ◌+◌, ◌==◌, ◌-◌, ◌^◌, nat_le, nat_lt, Bool, true, false, if◌then◌else◌}
-use Rattle.std.proofs.Common.{Option, Some, None, List, [], ◌∷◌, length, drop, take, refl, ap, arith}
+use Rattle.std.proofs.Common.{Option, Some, None, List, [], ◌∷◌, length, map, drop, take, refl, ap, arith}
 use Rattle.std.proofs.lemmas.Bool.Decides.{nat_tests}
 use Rattle.std.proofs.lemmas.List.{length-append}
+use Rattle.bearer.specs.Bearer.{flow_of}
 use Rattle.bearer.specs.declared.flow.Flow.{Flow}
+use Rattle.bearer.specs.declared.flow.Flow.TheVariants as flows
+use Rattle.bearer.specs.Hearing.{arrived as flow_arrived, expired as flow_expired, ticked as flow_ticked, with_discard}
+use Rattle.bearer.specs.Lives.{stopped, restarted as flow_restarted}
+use Rattle.bearer.specs.Submitting.{refusal as flow_refusal, submitted as flow_submitted}
+use Rattle.bearer.specs.Taking.{after as flow_after}
 use Rattle.bearer_pdcp.specs.Discarding.{without_late, after_tick}
 use Rattle.bearer_pdcp.specs.Ends.{Ends, begun}
 use Rattle.bearer_pdcp.specs.Hearing.{is_for_sender, got_left, with_arrived, after_hearing}
 use Rattle.bearer_pdcp.specs.Lives.{report_of, owing_report, restarted}
 use Rattle.bearer_pdcp.specs.Taking.{after_taking}
+use Rattle.bearer_types.specs.declared.config.BearerConfig.{BearerConfig}
 use Rattle.eps_sec.specs.declared.Keys.{Keys}
 use Rattle.l2_bits.specs.declared.fault.SubmitRefusal.TheVariants.{Empty, TooLong, Full, CountEnd}
+use Rattle.l2_types.specs.declared.channel.Kind.{Kind}
+use Rattle.l2_types.specs.declared.channel.Kind.TheVariants as kinds
+use Rattle.l2_types.specs.declared.event.Clock.{Clock}
 use Rattle.l2_types.specs.declared.side.Side.{Side}
 use Rattle.pdcp_pdu.specs.declared.pdu.PdcpKind.{PdcpKind}
 use Rattle.pdcp_pdu.specs.declared.pdu.PdcpKind.TheVariants.{Srb, Um, Am}
@@ -23,6 +33,7 @@ use Rattle.pdcp_tx.specs.State.{confirmed, fms_count, reported_from, reported, i
 use Rattle.pdcp_tx.specs.State.{waiting_on, restarted as restarted_sending}
 use Rattle.pdcp_tx_store.specs.Waiting.{Waits}
 use Rattle.pdcp_tx_store.specs.declared.given.Sent.{Sent}
+use Rattle.rlc_um.specs.Transparent.{Transparent, behind_first, refusal as tm_refusal, after_take}
 use Rattle.law_node.proofs.Keeping.{IsKept}
 use Rattle.law_node.proofs.Pdcp.{Passes, OfPdcp, pdcp_kept}
 
@@ -143,7 +154,7 @@ submitted_few s sdu e =
     let more = length-append s.waiting (record { sdu = sdu; born = s.clock } ∷ []) in
     grind (arith, nat_tests, room, more)
 
--- ---- at a bearer, and at all of an end
+-- ---- at a bearer with PDCP
 
 at_most : (ws vs : List Waits) → vs ≡ ws → length ws ≤ 1024 → length vs ≤ 1024
 at_most ws vs same h = let l = ap (λ (xs : List Waits). length xs) same in omega (arith, l, h)
@@ -165,9 +176,98 @@ begun_few : (lcid : ℕ) (kind : PdcpKind) (first : ℕ) (keys : Keys) (side : S
 unfolding begun start
 begun_few lcid kind first keys side = omega arith
 
--- a transparent one has no PDCP
+of_pdcp : IsKept (λ (lcid : ℕ) (f : Flow). OfPdcp (FewWait lcid) f)
+of_pdcp = pdcp_kept FewWait few_passes begun_few
+
+-- ---- a transparent one has no PDCP
+
+-- the SDUs that wait at a bearer
+abbrev pub waits_in : Flow → List (List ℕ)
+waits_in (flows.Tm b) = b.waiting
+waits_in (flows.Um b) = map (λ w. w.sdu) b.pdcp.tx.waiting
+waits_in (flows.Am b) = map (λ w. w.sdu) b.pdcp.tx.waiting
+
+abbrev IsShort : Flow → Type 0
+IsShort (flows.Tm b) = length b.waiting ≤ 1024
+IsShort (flows.Um b) = Unit {0}
+IsShort (flows.Am b) = Unit {0}
+
+begins_short : (kind : Kind) (c : BearerConfig) (keys : Keys) (side : Side) → IsShort (flow_of kind c keys side)
+begins_short kinds.Tm c keys side = omega arith
+begins_short kinds.Srb c keys side = tt
+begins_short kinds.Um c keys side = tt
+begins_short kinds.Am c keys side = tt
+
+submits_short : (f : Flow) (sdu : List ℕ) → flow_refusal f sdu ≡ None → IsShort f → IsShort (flow_submitted f sdu)
+unfolding flow_refusal flow_submitted tm_refusal
+submits_short (flows.Tm b) sdu e h =
+    let room = room_by (length sdu == 0) (nat_lt 8188 (length sdu)) (nat_le 1024 (length b.waiting)) false e in
+    let more = length-append b.waiting (sdu ∷ []) in
+    grind (arith, nat_tests, room, more)
+submits_short (flows.Um b) sdu e h = tt
+submits_short (flows.Am b) sdu e h = tt
+
+discards_short : (f : Flow) (ttis : ℕ) → IsShort f → IsShort (with_discard f ttis)
+unfolding with_discard
+discards_short (flows.Tm b) ttis h = h
+discards_short (flows.Um b) ttis h = tt
+discards_short (flows.Am b) ttis h = tt
+
+behind_less : (next size : ℕ) (ws : List (List ℕ)) → length (behind_first next size ws).waiting ≤ length ws
+behind_less next size [] = omega arith
+behind_less next size (w ∷ ws) =
+    by (nat_lt size (length w)) (record { next = next; waiting = w ∷ ws }) (record { next = next + 1; waiting = ws })
+    (omega arith) (omega arith)
+  where
+    by : (b : Bool) (s t : Transparent) → length s.waiting ≤ length (w ∷ ws) → length t.waiting ≤ length (w ∷ ws)
+        → length (if b then s else t).waiting ≤ length (w ∷ ws)
+    by true s t p q = p
+    by false s t p q = q
+
+takes_short : (f : Flow) (share : ℕ) (held : Option ℕ) → IsShort f → IsShort (flow_after f share held)
+unfolding flow_after after_take
+takes_short (flows.Tm b) share held h = let less = behind_less b.next (share - 3) b.waiting in omega (arith, less, h)
+takes_short (flows.Um b) share held h = tt
+takes_short (flows.Am b) share held h = tt
+
+arrives_short : (f : Flow) (pdu : List ℕ) → IsShort f → IsShort (flow_arrived f pdu)
+unfolding flow_arrived
+arrives_short (flows.Tm b) pdu h = h
+arrives_short (flows.Um b) pdu h = tt
+arrives_short (flows.Am b) pdu h = tt
+
+expires_short : (f : Flow) (clock : Clock) → IsShort f → IsShort (flow_expired f clock)
+unfolding flow_expired
+expires_short (flows.Tm b) clock h = h
+expires_short (flows.Um b) clock h = tt
+expires_short (flows.Am b) clock h = tt
+
+ticks_short : (f : Flow) → IsShort f → IsShort (flow_ticked f)
+unfolding flow_ticked
+ticks_short (flows.Tm b) h = h
+ticks_short (flows.Um b) h = tt
+ticks_short (flows.Am b) h = tt
+
+moves_short : (f : Flow) (keys : Keys) → IsShort f → IsShort (flow_restarted (stopped f) keys)
+unfolding flow_restarted stopped
+moves_short (flows.Tm b) keys h = omega arith
+moves_short (flows.Um b) keys h = tt
+moves_short (flows.Am b) keys h = tt
+
+-- ---- at all of an end
+
 abbrev pub HasFewWaiting : ℕ → Flow → Type 0
-HasFewWaiting lcid f = OfPdcp (FewWait lcid) f
+HasFewWaiting lcid f = OfPdcp (FewWait lcid) f × IsShort f
 
 pub few_kept : IsKept HasFewWaiting
-few_kept = pdcp_kept FewWait few_passes begun_few
+few_kept = record {
+  idle = (tt, omega arith);
+  begins = λ c keys side g. (of_pdcp.begins c keys side g, begins_short c.kind c keys side);
+  submits = λ lcid f octets e h. (of_pdcp.submits lcid f octets e h.0, submits_short f octets e h.1);
+  discards = λ lcid f ttis h. (of_pdcp.discards lcid f ttis h.0, discards_short f ttis h.1);
+  takes = λ lcid f share held most h. (of_pdcp.takes lcid f share held most h.0, takes_short f share held h.1);
+  arrives = λ lcid f pdu h. (of_pdcp.arrives lcid f pdu h.0, arrives_short f pdu h.1);
+  expires = λ lcid f clock h. (of_pdcp.expires lcid f clock h.0, expires_short f clock h.1);
+  ticks = λ lcid f h. (of_pdcp.ticks lcid f h.0, ticks_short f h.1);
+  moves = λ lcid f keys h. (of_pdcp.moves lcid f keys h.0, moves_short f keys h.1);
+}

@@ -6,12 +6,13 @@ use Rattle.std.proofs.lemmas.Bool.Decides.{nat_tests}
 use Rattle.rlc_am_rx_window.specs.Cells.{Cell, over, placed}
 use Rattle.rlc_am_rx_window.specs.Held.{Held, nothing, with_piece}
 use Rattle.rlc_am_rx_window.specs.Piece.{Piece, end_of, piece_of}
-use Rattle.rlc_am_rx_window.specs.Window.{Kept, widened, slot_at, is_repeat, is_clash, landing, offset_of, with_kept}
+use Rattle.rlc_am_rx_window.specs.Window.{RxWindow, widened, slot_at, is_repeat, is_clash, landing, offset_of}
+use Rattle.rlc_am_rx_window.specs.Window.{with_kept}
 use Rattle.rlc_am_rx_window.specs.Window.{complete_first}
 use Rattle.rlc_am_rx.specs.Machine.{landed as landed_on, window_with, after_landing, arrived, after_reorder}
 use Rattle.rlc_am_rx.specs.State.{State}
 use Rattle.rlc_pdu.specs.declared.outcome.Landed.{Landed}
-use Rattle.rlc_pdu.specs.declared.outcome.Landed.TheVariants.{Kept as Fresh, Repeat, Outside, Clash}
+use Rattle.rlc_pdu.specs.declared.outcome.Landed.TheVariants.{Kept, Repeat, Outside, Clash}
 use Rattle.rlc_pdu.specs.Pdus.{AmdPdu}
 
 abbrev IsShort : Held → Type 0
@@ -75,21 +76,21 @@ placed_length so cs =
 piece_short : (h : Held) (p : Piece) (poll : Bool) → IsShort h → end_of p ≤ 32767 → IsShort (with_piece h p poll)
 piece_short h p poll a e = over_length h.cells (placed p.so p.cells) a (omega (arith, placed_length p.so p.cells, e))
 
-fresh_by : (repeat clash : Bool) → (if repeat then Repeat else if clash then Clash else Fresh) ≡ Fresh → clash ≡ false
-fresh_by true clash e = let no : Repeat ≡ Fresh = e in cc
-fresh_by false true e = let no : Clash ≡ Fresh = e in cc
+fresh_by : (repeat clash : Bool) → (if repeat then Repeat else if clash then Clash else Kept) ≡ Kept → clash ≡ false
+fresh_by true clash e = let no : Repeat ≡ Kept = e in cc
+fresh_by false true e = let no : Clash ≡ Kept = e in cc
 fresh_by false false e = refl
 
 no_clash : (held : Option Held) (p : Piece) → is_clash held p ≡ false → end_of p ≤ 32767
 no_clash None p e = grind (arith, nat_tests)
 no_clash (Some h) p e = grind (arith, nat_tests)
 
-fresh_within : (t : Bool) (held : Option Held) (p : Piece) → (if t then Outside else landing held p) ≡ Fresh
+fresh_within : (t : Bool) (held : Option Held) (p : Piece) → (if t then Outside else landing held p) ≡ Kept
     → end_of p ≤ 32767
-fresh_within true held p e = let no : Outside ≡ Fresh = e in absurd cc
+fresh_within true held p e = let no : Outside ≡ Kept = e in absurd cc
 fresh_within false held p e = no_clash held p (fresh_by (is_repeat held p) (is_clash held p) e)
 
-kept_short : (w : Kept) (at : ℕ) (p : Piece) (poll : Bool) → AreShort w.slots → end_of p ≤ 32767
+kept_short : (w : RxWindow) (at : ℕ) (p : Piece) (poll : Bool) → AreShort w.slots → end_of p ≤ 32767
     → AreShort (with_kept w at p poll).slots
 kept_short w at p poll a e =
     let wide = append_short w.slots (replicate (at + 1 - length w.slots) nothing) a
@@ -101,7 +102,7 @@ kept_short w at p poll a e =
 
 landing_short : (l : Landed) (s : State) (p : AmdPdu) → landed_on s p ≡ l → AreShort s.window.slots
     → AreShort (after_landing l s p).window.slots
-landing_short Fresh s p e a =
+landing_short Kept s p e a =
     let at = offset_of s.window.front p.sn in
     let w = window_with s.window p in
     drop_short (complete_first w.slots) w.slots

@@ -7,7 +7,7 @@ use Rattle.std.specs.List.{sum}
 use Rattle.law_rlc.proofs.AmSender.Keys.{Key, key, keys, set-keys, heard-keys, append-keys}
 use Rattle.law_rlc.proofs.AmSender.Least.{ended-window, settled-window, polled-window}
 use Rattle.rlc_am_tx_window.specs.Sent.{Sent, rested, sent_part, recalled, next_stretch}
-use Rattle.rlc_am_tx_window.specs.Window.{Kept, slot_at, offset_of, leading_acked}
+use Rattle.rlc_am_tx_window.specs.Window.{TxWindow, slot_at, offset_of, leading_acked}
 use Rattle.bearer.specs.Acknowledged.State.{State as AmBearer, Work, work}
 use Rattle.bearer.specs.Acknowledged.Taking.{status_told, has_prohibit, data_size, writes_status, status_pdu}
 use Rattle.bearer.specs.Acknowledged.Taking.{feeds as am_feeds, fed as am_fed, feeding as am_feeding}
@@ -227,7 +227,7 @@ polled_queue false s = refl
 pub settled_can : (kind : PdcpKind) (s : AmSender) (more : Bool) → CanSend kind s → CanSend kind (settled s more)
 settled_can kind s more c =
     same_can kind s (settled s more) (settled_queue (settles s more) s)
-    (ap (λ (w : Kept). keys w.slots) (settled-window (settles s more) s)) c
+    (ap (λ (w : TxWindow). keys w.slots) (settled-window (settles s more) s)) c
 
 read_can : (kind : PdcpKind) (s : AmSender) (below : ℕ) (p : StatusPdu) → CanSend kind s
     → CanSend kind (read s below p.nacks)
@@ -248,7 +248,7 @@ status_by kind false s p c =
     let limit = limit_of s below p.nacks in
     let stop = stops s below p.nacks in
     same_can kind r (ended limit stop r) (ended_queue limit stop r)
-    (ap (λ (w : Kept). keys w.slots) (ended-window limit stop r)) (read_can kind s below p c)
+    (ap (λ (w : TxWindow). keys w.slots) (ended-window limit stop r)) (read_can kind s below p c)
 
 pub status_can : (kind : PdcpKind) (s : AmSender) (p : StatusPdu) → CanSend kind s → CanSend kind (after_status s p)
 unfolding after_status
@@ -270,7 +270,7 @@ poll_by kind true s more c =
     let limit = expiry_limit s more in
     let place = recalled_place s more in
     same_can kind s (ended limit false x) (ended_queue limit false x ∙ recalled_queue place (with_owed s))
-    (ap (λ (w : Kept). keys w.slots) (ended-window limit false x) ∙ recalled_keys place (with_owed s)) c
+    (ap (λ (w : TxWindow). keys w.slots) (ended-window limit false x) ∙ recalled_keys place (with_owed s)) c
 
 pub poll_can : (kind : PdcpKind) (s : AmSender) (more : Bool) → CanSend kind s → CanSend kind (after_expiry s more)
 unfolding after_expiry
@@ -329,7 +329,7 @@ new_spelled kind s size some fits most c =
 
 polled_can : (kind : PdcpKind) (b : Bool) (s : AmSender) → CanSend kind s → CanSend kind (with_poll b s)
 polled_can kind b s c =
-    same_can kind s (with_poll b s) (polled_queue b s) (ap (λ (w : Kept). keys w.slots) (polled-window b s)) c
+    same_can kind s (with_poll b s) (polled_queue b s) (ap (λ (w : TxWindow). keys w.slots) (polled-window b s)) c
 
 pub turned_can : (kind : PdcpKind) (t : Turn) (s : AmSender) (size : ℕ) (more : Bool) → IsAble s size t → size ≤ 9424
     → CanSend kind s → CanSend kind (after_turn t s size more)

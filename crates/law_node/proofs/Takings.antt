@@ -23,7 +23,7 @@ use Rattle.rlc_am_tx.specs.Machine.{sent_segment, sent_new, new_slot}
 use Rattle.law_rlc.proofs.AmSender.Carried.{polled-next}
 use Rattle.law_rlc.proofs.AmSender.Least.{polled-window, new-room}
 use Rattle.rlc_am_tx_window.specs.Sent.{all_wait, whole_size, rested, sent_part, next_stretch}
-use Rattle.rlc_am_tx_window.specs.Window.{Kept, next}
+use Rattle.rlc_am_tx_window.specs.Window.{TxWindow, next}
 use Rattle.rlc_queue.specs.Waiting.{HaveOctets}
 use Rattle.rlc_um.specs.Transparent.{behind_first, after_take as tm_after}
 use Rattle.rlc_um.specs.Sender.{Sender as UmSender, Turn as UmTurn, Gives, IsIdle, IsHeld, IsSmall, turn as um_turn}
@@ -98,7 +98,7 @@ new_held s size held more e =
 
 set_length : (b : Bool) (s t : AmSender) → length t.window.slots ≡ length s.window.slots
     → length (with_poll b t).window.slots ≡ length s.window.slots
-set_length b s t e = ap (λ (w : Kept). length w.slots) (polled-window b t) ∙ e
+set_length b s t e = ap (λ (w : TxWindow). length w.slots) (polled-window b t) ∙ e
 
 took_by : (t : Turn) (s : AmSender) (size : ℕ) (held : Option ℕ) (more : Bool)
     → (t ≡ turns.New → am_is_held held (next s.window) ≡ false)
@@ -123,7 +123,7 @@ took_by turns.New s size held more h room =
     let l = length-append s.window.slots (new_slot s size ∷ []) in
     let e : next (with_poll b (sent_new s size)).window ≡ next s.window + 1 =
     polled-next b (sent_new s size) ∙ omega arith in
-    let k = ap (λ (w : Kept). length w.slots) (polled-window b (sent_new s size)) in
+    let k = ap (λ (w : TxWindow). length w.slots) (polled-window b (sent_new s size)) in
     record {
       young = λ n low le. omega (arith, e, not_held held n (next s.window) (h refl) low);
       new = λ n is few. let same : next s.window ≡ n = cc in omega (arith, e, same);
@@ -146,8 +146,8 @@ am_takes b share held =
     let more = has_more w.pdcp in
     let t = am_turn w.tx size held more in
     let g = all_grown (offers b.pdcp.tx) size held begin in
-    let n' : next w.tx.window ≡ next b.tx.window = ap (λ (k : Kept). next k) g.window in
-    let l : length w.tx.window.slots ≡ length b.tx.window.slots = ap (λ (k : Kept). length k.slots) g.window in
+    let n' : next w.tx.window ≡ next b.tx.window = ap (λ (k : TxWindow). next k) g.window in
+    let l : length w.tx.window.slots ≡ length b.tx.window.slots = ap (λ (k : TxWindow). length k.slots) g.window in
     let k = took_by t w.tx size held more (new_held w.tx size held more) (new-room w.tx size held more) in
     record {
       young = λ n low le. k.young n low (omega (arith, n', le));

@@ -11,7 +11,7 @@ use Rattle.harq.specs.Sending.{Sending}
 use Rattle.l2_types.specs.declared.channel.Channel.{Channel}
 use Rattle.l2_types.specs.declared.side.Side.{Side}
 use Rattle.prioritise.specs.ShareLaws.{IsSound}
-use Rattle.l2_node.specs.Building.{visited, visit, building, told_by as told_of}
+use Rattle.l2_node.specs.Building.{visited, visit, building, visit_events as told_of}
 use Rattle.l2_node.specs.End.{End}
 use Rattle.l2_node.specs.Finding.{Numbers, find, has, bearer_at, lowest}
 use Rattle.l2_node.specs.Writing.{shares, Work, work, nothing_written, writes, all_write, written}

@@ -16,3 +16,4 @@ pub mod Laws
 pub mod EachRead
 pub mod InStep
 pub mod Telling
+pub mod HalfWindow

@@ -15,10 +15,11 @@ use Rattle.law_deliver.specs.AmChannel.Arrival.{told_from}
 use Rattle.law_deliver.specs.AmChannel.Delivery.{taken_at, submitted_at, ups_at}
 use Rattle.law_deliver.specs.AmFlow.Air.{outset}
 use Rattle.law_deliver.proofs.AmChannel.Delivery.{channels_tell_what_is_taken, channels_deliver_what_came}
-use Rattle.law_deliver.proofs.AmChannel.Delivery.{channels_deliver_what_came_undiscarded}
+use Rattle.law_deliver.proofs.AmChannel.Delivery.{channels_deliver_what_came_undiscarded, channels_take_in_half}
 use Rattle.law_deliver.specs.AmDelivery.Arrival.{IsWhatCame}
 use Rattle.promises.specs.Events.{discards_on}
 use Rattle.promises.specs.Arrival.{taken as taken_told, account_of, AllHandUpWhatCame, HandUpWhatCame}
+use Rattle.promises.specs.HalfWindow.{AreInHalf, AllInHalf, TakesStayInHalf}
 use Rattle.law_run.specs.Order.{KeepsOrder}
 use Rattle.law_run.proofs.Delivering.{IsDelivering, alike, is_delivering, tells, went_up_is, was_submitted_is}
 use Rattle.law_run.proofs.Delivering.{happened_from}
@@ -82,3 +83,16 @@ came past order from l c e kind own =
 pub hand_up_what_came : (past : List Group) → KeepsOrder past → HandUpWhatCame past
 hand_up_what_came [] order = tt
 hand_up_what_came (g ∷ past) (right, order) = (came (g ∷ past) (right, order), hand_up_what_came past order)
+
+-- ---- how far the COUNTs that are taken run ahead
+
+in_half : (past : List Group) → KeepsOrder past → AllInHalf past
+in_half past order from l c e kind own =
+    let d = is_delivering l past c order e own in
+    subst (λ (hs : List AccountEntry). AreInHalf c.pdcp_bits c.first no_account hs)
+    (happened_from l c past d c.pdcp_bits from)
+    (channels_take_in_half l c d.keys d.nb d.ue (alike l c past d kind) from d.lived.by.steps d.lived.by.living)
+
+pub takes_stay_in_half : (past : List Group) → KeepsOrder past → TakesStayInHalf past
+takes_stay_in_half [] order = tt
+takes_stay_in_half (g ∷ past) (right, order) = (in_half (g ∷ past) (right, order), takes_stay_in_half past order)

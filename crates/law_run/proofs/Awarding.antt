@@ -24,7 +24,7 @@ use Rattle.harq.specs.ReceiveHistory.{up_start, AreGrantedRight}
 use Rattle.harq.specs.Sending.{Sending, SendProcess, Block, same, fresh, empty, process_at, with_process, resend_or}
 use Rattle.harq.specs.Sending.{visited, answered, visit_answer, after_visit, after_load, after_feedback, held_of}
 use Rattle.harq.specs.Sending.{ndi_of}
-use Rattle.harq.specs.SendHistory.{Turn, Deed, closed, deed_by, deed, turned, run, start, held_by}
+use Rattle.harq.specs.SendHistory.{Turn, Deed, closed, deed_by, deed, turned, world_after, start, held_by}
 use Rattle.harq.proofs.ReceiveLemmas.{grants_right}
 use Rattle.harq.proofs.SendLemmas.{keeps_blocks}
 use Rattle.law_air.specs.AnyCalls.Deeds.{deed_of, turn, TakesTurn, came_of, heard_up, up_ordered}
@@ -221,7 +221,7 @@ holds : (maximum : ℕ) (s : Sending) (h : ℕ → Heard) → 1 ≤ maximum → 
     → held_of s p ≡ held_by maximum (deeds_of (h p).flights)
 unfolding fresh
 holds maximum s h some a p lt =
-    let w = run a.steps (start maximum) in
+    let w = world_after a.steps (start maximum) in
     sym (ap (λ (x : Sending). held_of x p) a.sender_is) ∙ (keeps_blocks maximum a.steps some).holds p lt
     ∙ ap (λ (m : ℕ). held_by m (w.past p)) (run_maximum a.steps (start maximum))
     ∙ ap (λ (ds : List Deed). held_by maximum ds) (sym (a.deeds_are p))

@@ -9,7 +9,8 @@ use Rattle.harq.specs.declared.sender.Visit.{Visit}
 use Rattle.harq.specs.declared.sender.Visit.TheVariants.{New, Resend, Silent as Quiet}
 use Rattle.harq.specs.Sending.{Sending, Block, fresh, process_at, resend_or, version_of, visit_answer, after_visit}
 use Rattle.harq.specs.Sending.{after_load, after_feedback, held_of}
-use Rattle.harq.specs.SendHistory.{Turn, Step, Visited, Cleared, Deed, World, closed, deed_by, deed, stepped, run}
+use Rattle.harq.specs.SendHistory.{Turn, Step, Visited, Cleared, Deed, World, closed, deed_by, deed, stepped}
+use Rattle.harq.specs.SendHistory.{world_after}
 use Rattle.harq.specs.SendHistory.{start, held_by, KeepsBlocks, is_down, are_down}
 use Rattle.harq.proofs.SendLemmas.{keeps_blocks}
 use Rattle.promises.specs.Carried.{AreBuilt}
@@ -28,7 +29,7 @@ stepped_maximum (Visited t) w =
     closed_maximum (visit_answer w.sender t.tti t.order) t (after_visit w.sender t.tti t.order)
 stepped_maximum Cleared w = refl
 
-pub run_maximum : (ss : List Step) (w : World) → (run ss w).sender.maximum ≡ w.sender.maximum
+pub run_maximum : (ss : List Step) (w : World) → (world_after ss w).sender.maximum ≡ w.sender.maximum
 run_maximum [] w = refl
 run_maximum (s ∷ ss) w = run_maximum ss (stepped w s) ∙ stepped_maximum s w
 
@@ -80,15 +81,16 @@ down_rest false xs e = cc
 pub is_here : (p q : ℕ) → (p == q) ≡ true → p ≡ q
 is_here p q e = grind (arith, nat_tests)
 
-run_more : (xs : List Step) (s : Step) (w : World) → run (xs ++ s ∷ []) w ≡ stepped (run xs w) s
+run_more : (xs : List Step) (s : Step) (w : World) → world_after (xs ++ s ∷ []) w ≡ stepped (world_after xs w) s
 run_more [] s w = refl
 run_more (x ∷ xs) s w = run_more xs s (stepped w x)
 
 step_built : (maximum : ℕ) (done : List Step) (s : Step) → 1 ≤ maximum → are_down (s ∷ []) ≡ true
-    → AllBuilt maximum (run done (start maximum)) → AllBuilt maximum (stepped (run done (start maximum)) s)
+    → AllBuilt maximum (world_after done (start maximum))
+    → AllBuilt maximum (stepped (world_after done (start maximum)) s)
 unfolding fresh
 step_built maximum done (Visited t) some d b p lt =
-    let w = run done (start maximum) in
+    let w = world_after done (start maximum) in
     visited_built (p == t.tti % 8) p t maximum w (is_here p (t.tti % 8)) lt (run_maximum done (start maximum))
     (down_first (is_down t.order) [] d) (keeps_blocks maximum done some) (b p lt)
 step_built maximum done Cleared some d b p lt = tt
@@ -102,15 +104,16 @@ behind (Visited t) ss e = down_rest (is_down t.order) ss e
 behind Cleared ss e = e
 
 all_built : (maximum : ℕ) (done ss : List Step) → 1 ≤ maximum → are_down ss ≡ true
-    → AllBuilt maximum (run done (start maximum)) → AllBuilt maximum (run ss (run done (start maximum)))
+    → AllBuilt maximum (world_after done (start maximum))
+    → AllBuilt maximum (world_after ss (world_after done (start maximum)))
 all_built maximum done [] some d b p lt = b p lt
 all_built maximum done (s ∷ ss) some d b p lt =
     let next = run_more done s (start maximum) in
-    let now : AllBuilt maximum (run (done ++ s ∷ []) (start maximum)) =
+    let now : AllBuilt maximum (world_after (done ++ s ∷ []) (start maximum)) =
     subst (λ (w : World). AllBuilt maximum w) (sym next) (step_built maximum done s some (alone s ss d) b) in
-    subst (λ (w : World). AreBuilt maximum ((run ss w).past p)) next
+    subst (λ (w : World). AreBuilt maximum ((world_after ss w).past p)) next
     (all_built maximum (done ++ s ∷ []) ss some (behind s ss d) now p lt)
 
 pub builds_where_none_is_held : (maximum : ℕ) (ss : List Step) → 1 ≤ maximum → are_down ss ≡ true → (p : ℕ) → p < 8
-    → AreBuilt maximum ((run ss (start maximum)).past p)
+    → AreBuilt maximum ((world_after ss (start maximum)).past p)
 builds_where_none_is_held maximum ss some d p lt = all_built maximum [] ss some d (λ q within. tt) p lt

@@ -44,7 +44,8 @@ use Rattle.law_words.specs.Arrivals.{AccountEntry}
 use Rattle.law_air.proofs.TwoEnds.Coming.{bearers_begin, ends_come_by}
 use Rattle.air_run.specs.Written.{all_seen, noticed, with_um}
 use Rattle.um_losses.specs.Flow.{Flow}
-use Rattle.um_losses.specs.Names.{Place, Happening as What}
+use Rattle.um_losses.specs.declared.cursor.Cursor.{Cursor}
+use Rattle.um_losses.specs.declared.flow.Happening.{Happening}
 use Rattle.um_losses.specs.Told.{told_in, all_after, flow_at}
 use Rattle.law_deliver.specs.UmGaps.Delivery.{first_flow}
 use Rattle.law_deliver.specs.UmGaps.Whats.{whats}
@@ -203,9 +204,9 @@ goes_on l c past g right order other own d =
           let v = noticed g.line m w in
           all_seen_flow (sent_by from) l m.out v (all_after word was)
           (noticed_flow g.line m (sent_by from) l w was own (d.flows kind from))
-          ∙ (ap (λ (place : Place). Some (all_after (told_in (sent_by from) l place m.out) (all_after word was)))
+          ∙ (ap (λ (place : Cursor). Some (all_after (told_in (sent_by from) l place m.out) (all_after word was)))
           (noticed_place g.line m w own)
-          ∙ (ap (λ (hs : List What). Some (all_after hs (all_after word was))) (x.haps_are (sent_by from) w.cursor)
+          ∙ (ap (λ (hs : List Happening). Some (all_after hs (all_after word was))) (x.haps_are (sent_by from) w.cursor)
           ∙ (ap (λ (f : Flow). Some (all_after (told_in (sent_by from) l w.cursor x.more) f))
           (sym (after_then (d.haps from) word (first_flow from l c)))
           ∙ ap (λ (f : Flow). Some f)

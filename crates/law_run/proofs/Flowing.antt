@@ -12,7 +12,7 @@ use Rattle.air_record.specs.declared.line.Line.{Line}
 use Rattle.air_record.specs.declared.line.Line.TheVariants as lines
 use Rattle.air_record.specs.declared.record.Record.{Record}
 use Rattle.air_run.specs.Draining.{shown, Drained, at_once, behind, ttis, senders_unless, round, left_by, done_by}
-use Rattle.air_run.specs.Draining.{told_by, rounds, budget, drained}
+use Rattle.air_run.specs.Draining.{round_told, rounds, budget, drained}
 use Rattle.air_record.specs.Endings.{ending}
 use Rattle.air_run.specs.Playing.{keys_or_none, acted, played}
 use Rattle.air_text.specs.Ranges.{IsInRange}
@@ -37,7 +37,9 @@ use Rattle.law_air.proofs.TwoEnds.Going.{last_in, tells_more}
 use Rattle.law_air.specs.TwoEnds.Staying.{is_handover_step}
 use Rattle.law_air.proofs.TwoEnds.Showing.{in_then}
 use Rattle.mac_pdu.specs.declared.item.Direction.{Direction}
-use Rattle.um_losses.specs.Names.{Place, Happening as What, begins_anew}
+use Rattle.um_losses.specs.declared.cursor.Cursor.{Cursor}
+use Rattle.um_losses.specs.declared.flow.Happening.{Happening}
+use Rattle.um_losses.specs.declared.flow.Happening.TheVariants.{LifeRestarted}
 use Rattle.um_losses.specs.Told.{told_in, place_behind}
 use Rattle.test_loop.specs.declared.Mode.TheVariants.{Off, A, B}
 use Rattle.promises.specs.Delivery.{forges, sets_timer}
@@ -56,14 +58,14 @@ Happened = ℕ → Side → List AccountEntry
 
 -- what is told of an unacknowledged flow from each side
 abbrev pub Haps : Type 0
-Haps = Side → List What
+Haps = Side → List Happening
 
 -- what a line says of each flow
-abbrev pub word_of : Line → List What
-word_of (lines.Handover user rrc integrity) = begins_anew ∷ []
+abbrev pub word_of : Line → List Happening
+word_of (lines.Handover user rrc integrity) = LifeRestarted ∷ []
 word_of line = []
 
-abbrev pub with_word : List What → Haps → Haps
+abbrev pub with_word : List Happening → Haps → Haps
 with_word word haps from = haps from ++ word
 
 -- ---- SDUs that come back through the test loop
@@ -156,14 +158,14 @@ unflown_end bits l from said is_done done =
     none true sent = refl
     none false sent = refl
 
-unsaid_end : (d : Direction) (l : ℕ) (place : Place) (said : List Record) (is_done : Bool) (done : ℕ)
+unsaid_end : (d : Direction) (l : ℕ) (place : Cursor) (said : List Record) (is_done : Bool) (done : ℕ)
     → told_in d l place (said ++ ending is_done done ∷ []) ≡ told_in d l place said
 unsaid_end d l place said is_done done =
     in_then d l place said (ending is_done done ∷ [])
-    ∙ ap (λ (hs : List What). told_in d l place said ++ hs) (none is_done (place_behind place said))
+    ∙ ap (λ (hs : List Happening). told_in d l place said ++ hs) (none is_done (place_behind place said))
     ∙ append-nil (told_in d l place said)
   where
-    none : (b : Bool) (c : Place) → told_in d l c (ending b done ∷ []) ≡ []
+    none : (b : Bool) (c : Cursor) → told_in d l c (ending b done ∷ []) ≡ []
     none true c = refl
     none false c = refl
 
@@ -327,7 +329,8 @@ module _ (l : ℕ) (Live : List Record → Sdus → Happened → Bool → Link �
       → grant ≤ 9422 → k.out ≡ [] → Live told handed flown set k → (b : Bool)
       → ((said : List Record) (given : Sdus) (air : Happened) (m : Link) → m.out ≡ [] → Live said given air set m
       → DrainLives said given air set (rounds n grant m))
-      → DrainLives told handed flown set (behind (told_by b grant k) (done_by b) (rounds n grant (left_by b grant k)))
+      → DrainLives told handed flown set
+      (behind (round_told b grant k) (done_by b) (rounds n grant (left_by b grant k)))
   round_by n grant told handed flown set k within nothing h true rest = let q = rest told handed flown k nothing h in
       record { nothing = q.nothing; alone = q.alone; lived = q.lived }
   round_by n grant told handed flown set k within nothing h false rest =
@@ -378,7 +381,7 @@ module _ (l : ℕ) (Live : List Record → Sdus → Happened → Bool → Link �
     pub lived : Live (told ++ more) (λ side n. handed side n ++ (handed_in side n p m.out ++ looped_at side n m.out))
         (λ bits from. flown bits from ++ (ends ++ entries_in bits l from [] m.out)) set m
     pub told_are : (side : Side) → events_of side m.out ≡ events_of side more
-    pub haps_are : (d : Direction) (place : Place) → told_in d l place m.out ≡ told_in d l place more
+    pub haps_are : (d : Direction) (place : Cursor) → told_in d l place m.out ≡ told_in d l place more
 
   pub step_plays : (told : List Record) (handed : Sdus) (flown : Happened) (set : Bool) (s : Step) (k : Link)
       (p : Part) → k.out ≡ [] → ((side : Side) (n : ℕ) → handed_by side n s k ≡ handed_in side n p (step s k).out)

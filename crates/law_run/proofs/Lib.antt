@@ -39,6 +39,7 @@ pub mod Zero
 pub mod Standing
 pub mod Unlooped
 pub mod Passing
+pub mod Renewed
 pub mod Signalling
 pub mod Taking
 pub mod Queueing

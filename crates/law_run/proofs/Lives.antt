@@ -24,7 +24,8 @@ use Rattle.law_air.proofs.TwoEnds.Coming.{ends_come_by, steps_come}
 use Rattle.law_air.proofs.TwoEnds.Staying.{LivedIn, ends_live_in, lived_in_as, steps_live_in}
 use Rattle.law_air.specs.TwoEnds.Shown.{IsShown, anew}
 use Rattle.law_air.proofs.TwoEnds.Showing.{in_then}
-use Rattle.um_losses.specs.Names.{Place, Happening as What}
+use Rattle.um_losses.specs.declared.cursor.Cursor.{Cursor}
+use Rattle.um_losses.specs.declared.flow.Happening.{Happening}
 use Rattle.um_losses.specs.Told.{told_in, place_behind}
 use Rattle.law_deliver.specs.UmGaps.Whats.{whats}
 use Rattle.promises.specs.Delivery.{forges, sets_timer}
@@ -59,7 +60,7 @@ module _ (l : ℕ) (nb ue : End) (bits : ℕ) (Um : Type 0) where
     pub kinds : Um → IsShown l bits k.kinds
     pub since : List Record
     pub told_is : told ≡ first ++ since
-    pub whats_are : Um → (from : Side) (place : Place)
+    pub whats_are : Um → (from : Side) (place : Cursor)
         → whats from l bits by.steps (outset nb ue) ≡ haps from ++ told_in (sent_by from) l place since
 
   abbrev same_by : (told told' : List Record) (handed handed' : Sdus) (flown flown' : Happened) (set set' : Bool)
@@ -106,7 +107,7 @@ module _ (l : ℕ) (nb ue : End) (bits : ℕ) (Um : Type 0) where
           whats_are = λ um from place.
               let two = told_in (sent_by from) l place x.more in
               x.shown bits (h.kinds um) from place
-              ∙ (ap (λ (hs : List What). hs ++ (anew s ++ two)) (h.whats_are um from)
+              ∙ (ap (λ (hs : List Happening). hs ++ (anew s ++ two)) (h.whats_are um from)
               ∙ sym (append_assoc (haps from) (anew s) two));
         };
       }
@@ -130,10 +131,12 @@ module _ (l : ℕ) (nb ue : End) (bits : ℕ) (Um : Type 0) where
                 let one = told_in (sent_by from) l place h.since in
                 let two = told_in (sent_by from) l (place_behind place h.since) x.more in
                 x.shown bits (h.kinds um) from (place_behind place h.since)
-                ∙ (ap (λ (hs : List What). whats from l bits h.by.steps (outset nb ue) ++ (hs ++ two)) (not_anew s own)
-                ∙ (ap (λ (hs : List What). hs ++ two) (h.whats_are um from place)
+                ∙ (ap (λ (hs : List Happening). whats from l bits h.by.steps (outset nb ue) ++ (hs ++ two))
+                (not_anew s own)
+                ∙ (ap (λ (hs : List Happening). hs ++ two) (h.whats_are um from place)
                 ∙ (append_assoc (haps from) one two
-                ∙ ap (λ (hs : List What). haps from ++ hs) (sym (in_then (sent_by from) l place h.since x.more)))));
+                ∙ ap (λ (hs : List Happening). haps from ++ hs)
+                (sym (in_then (sent_by from) l place h.since x.more)))));
           };
         }
 
@@ -163,7 +166,7 @@ module _ (l : ℕ) (nb ue : End) (bits : ℕ) (Um : Type 0) where
     LineLives = PartLives l (LivesOn first haps) through
 
     -- behind a line
-    pub lived_now : (more : List Record) (handed : Sdus) (flown : Happened) (set : Bool) (k : Link) (place : Place)
+    pub lived_now : (more : List Record) (handed : Sdus) (flown : Happened) (set : Bool) (k : Link) (place : Cursor)
         → LivesOn first haps (first ++ more) handed flown set k
         → Lived (first ++ more) handed flown (λ from. haps from ++ told_in (sent_by from) l place more) set k
     lived_now more handed flown set k place h = record {
@@ -175,7 +178,8 @@ module _ (l : ℕ) (nb ue : End) (bits : ℕ) (Um : Type 0) where
     }
 
   -- at the beginning of a line that says nothing of a flow
-  lives_first : (word : List What) (told : List Record) (handed : Sdus) (flown : Happened) (haps : Haps) (set : Bool)
+  lives_first : (word : List Happening) (told : List Record) (handed : Sdus) (flown : Happened) (haps : Haps)
+      (set : Bool)
       (k : Link) → word ≡ [] → Lived told handed flown haps set k
       → LivesOn told (with_word word haps) told handed flown set k
   lives_first word told handed flown haps set k none h = record {
@@ -185,7 +189,7 @@ module _ (l : ℕ) (nb ue : End) (bits : ℕ) (Um : Type 0) where
     told_is = sym (append-nil told);
     whats_are = λ um from place. h.whats_are um from
         ∙ (sym (append-nil (haps from))
-        ∙ (ap (λ (hs : List What). haps from ++ hs) (sym none) ∙ sym (append-nil (haps from ++ word))));
+        ∙ (ap (λ (hs : List Happening). haps from ++ hs) (sym none) ∙ sym (append-nil (haps from ++ word))));
   }
 
   pub line_lives : (told : List Record) (handed : Sdus) (flown : Happened) (haps : Haps) (set : Bool) (line : Line)

@@ -8,7 +8,7 @@ use Rattle.air_record.specs.declared.line.Line.{Line}
 use Rattle.air_record.specs.declared.line.Line.TheVariants as lines
 use Rattle.air_record.specs.declared.record.Record.{Record}
 use Rattle.air_run.specs.Draining.{shown, Drained, at_once, behind, ttis, senders_unless, round, left_by, done_by}
-use Rattle.air_run.specs.Draining.{told_by, rounds, budget, drained}
+use Rattle.air_run.specs.Draining.{round_told, rounds, budget, drained}
 use Rattle.air_record.specs.Endings.{ending}
 use Rattle.air_run.specs.Playing.{keys_or_none, acted, played}
 use Rattle.air_record.specs.Cells.{next_keys}
@@ -107,7 +107,7 @@ ttis_loop (suc n) grant mode' l nothing e r =
 
 round_by : (n grant : ℕ) (mode' : Mode) (l : Link) → l.out ≡ [] → l.looping.mode ≡ mode' → IsAtRest l → (b : Bool)
     → ((m : Link) → m.out ≡ [] → m.looping.mode ≡ mode' → IsAtRest m → DrainLoops mode' m (rounds n grant m))
-    → DrainLoops mode' l (behind (told_by b grant l) (done_by b) (rounds n grant (left_by b grant l)))
+    → DrainLoops mode' l (behind (round_told b grant l) (done_by b) (rounds n grant (left_by b grant l)))
 round_by n grant mode' l nothing e r true rest = let q = rest l nothing e r in
     record { nothing = q.nothing; mode_is = q.mode_is; rests = q.rests; come_back = q.come_back }
 round_by n grant mode' l nothing e r false rest =

@@ -14,7 +14,7 @@ use Rattle.law_words.specs.Lists.{IsSubsequence}
 use Rattle.law_deliver.specs.UmChannel.Delivery.{UmEndsBeginAlike}
 use Rattle.um_losses.specs.Flow.{Flow}
 use Rattle.um_losses.specs.Losses.{is_long}
-use Rattle.um_losses.specs.Names.{Happening}
+use Rattle.um_losses.specs.declared.flow.Happening.{Happening}
 use Rattle.um_losses.specs.Told.{all_after}
 use Rattle.um_losses.proofs.Told.{long_is}
 use Rattle.law_deliver.specs.UmGaps.Delivery.{first_flow}

@@ -20,7 +20,7 @@ use Rattle.air_text.specs.Ranges.{IsInRange}
 use Rattle.eps_sec.specs.declared.Keys.{Keys}
 use Rattle.harq.specs.ReceiveHistory.{Heard as Seen, AreAnsweredRight}
 use Rattle.harq.specs.Sending.{Sending, fresh}
-use Rattle.harq.specs.SendHistory.{Deed, run, start, IsRight as AreResent}
+use Rattle.harq.specs.SendHistory.{Deed, world_after, start, IsRight as AreResent}
 use Rattle.harq.proofs.ReceiveLemmas.{answers_right}
 use Rattle.harq.proofs.SendLemmas.{keeps_blocks}
 use Rattle.l2_node.specs.End.{fresh as fresh_end}
@@ -279,7 +279,7 @@ resent : (way : Direction) (n : ℕ) (s : Sending) (h : ℕ → Heard) → 1 ≤
 unfolding fresh
 resent way n s h some a p lt =
     subst (λ (x : List Deed). AreResent n x) (sym (a.deeds_are p))
-    (subst (λ (m : ℕ). AreResent m ((run a.steps (start n)).past p)) (run_maximum a.steps (start n))
+    (subst (λ (m : ℕ). AreResent m ((world_after a.steps (start n)).past p)) (run_maximum a.steps (start n))
     ((keeps_blocks n a.steps some).is_right p lt))
 
 pub is_carried : (past : List Group) (l : Link) → Both past l → IsCarried past

@@ -1,4 +1,4 @@
--- On each channel with a data bearer at most 1024 SDUs wait.
+-- On each channel at most 1024 SDUs wait.
 use Rattle.std.proofs.Common.{◌≡◌, ◌≤◌, ◌⊎◌, inl, inr, ℕ, ◌+◌, ◌-◌, false, List, [], ◌∷◌, length, map, arith, ap, sym}
 use Rattle.std.proofs.Common.{subst, ◌∙◌}
 use Rattle.std.proofs.lemmas.List.{length-append, length-map}
@@ -24,7 +24,7 @@ use Rattle.law_deliver.specs.AmFlow.Air.{Air}
 use Rattle.law_deliver.proofs.AmChannel.Delivery.{channels_tell_what_waits}
 use Rattle.law_node.specs.Holding.{flow}
 use Rattle.law_node.proofs.Keeping.{AllAre, at_is, reached_are}
-use Rattle.law_node.proofs.Queueing.{HasFewWaiting, few_kept}
+use Rattle.law_node.proofs.Queueing.{HasFewWaiting, few_kept, waits_in}
 use Rattle.promises.specs.Flows.{submitted}
 use Rattle.promises.specs.Limits.{gone, FewWait, FewSignalsWait, QueuesAreShort}
 use Rattle.promises.specs.Records.{events_of}
@@ -35,13 +35,19 @@ use Rattle.law_run.specs.Order.{KeepsOrder}
 use Rattle.law_run.proofs.Delivering.{IsDelivering, steps, start, alike, is_delivering, tells, was_submitted_is}
 use Rattle.law_run.proofs.Past.{link_behind}
 use Rattle.law_run.proofs.Reaching.{come_by_calls}
-use Rattle.law_run.proofs.Signalling.{is_signalling, queue_since, steps as life_steps, start as life_start}
+use Rattle.law_run.proofs.Renewed.{is_renewed, queue_since, steps as life_steps, start as life_start}
 use Rattle.law_run.proofs.Taking.{queue_told}
 
-few_queue : (lcid : ℕ) (f : Flow) → HasFewWaiting lcid f → length (queue (ends f)) ≤ 1024
-few_queue lcid (Tm b) h = omega arith
-few_queue lcid (Um b) h = let same = length-map b.pdcp.tx.waiting (λ w. w.sdu) in omega (arith, same, h)
-few_queue lcid (Am b) h = let same = length-map b.pdcp.tx.waiting (λ w. w.sdu) in omega (arith, same, h)
+few_waits : (lcid : ℕ) (f : Flow) → HasFewWaiting lcid f → length (waits_in f) ≤ 1024
+few_waits lcid (Tm b) h = h.1
+few_waits lcid (Um b) h = let same = length-map b.pdcp.tx.waiting (λ w. w.sdu) in omega (arith, same, h.0)
+few_waits lcid (Am b) h = let same = length-map b.pdcp.tx.waiting (λ w. w.sdu) in omega (arith, same, h.0)
+
+-- those of PDCP
+few_queue : (f : Flow) → length (waits_in f) ≤ 1024 → length (queue (ends f)) ≤ 1024
+few_queue (Tm b) h = omega arith
+few_queue (Um b) h = h
+few_queue (Am b) h = h
 
 -- an end that has come by calls
 come_few : (side : Side) (told : List Record) (e : End) → ByCalls side told (fresh side 4 false) e
@@ -50,13 +56,13 @@ come_few side told e k =
     subst (λ (x : End). AllAre HasFewWaiting x.bearers) (sym k.end_is)
     (reached_are HasFewWaiting few_kept side 4 false k.calls k.given)
 
-few_come : (l : ℕ) (e : End) → AllAre HasFewWaiting e.bearers → length (queue (ends (flow l e))) ≤ 1024
+few_come : (l : ℕ) (e : End) → AllAre HasFewWaiting e.bearers → length (waits_in (flow l e)) ≤ 1024
 few_come l e h =
-    few_queue (bearer_at e.bearers (find l e.bearers)).channel.lcid (flow l e)
+    few_waits (bearer_at e.bearers (find l e.bearers)).channel.lcid (flow l e)
     (at_is HasFewWaiting e.bearers (find l e.bearers) few_kept h)
 
 few_behind : (side : Side) (l : ℕ) (past : List Group) → KeepsOrder past
-    → length (queue (ends (flow l (end_of side (link_behind past))))) ≤ 1024
+    → length (waits_in (flow l (end_of side (link_behind past)))) ≤ 1024
 few_behind Nb l past order =
     few_come l (link_behind past).nb (come_few Nb (history past) (link_behind past).nb (come_by_calls past order).nb)
 few_behind Ue l past order =
@@ -66,6 +72,12 @@ few_behind Ue l past order =
 end_is : (side : Side) (k : Link) (a : Air) → IsOn k a → end_at side a ≡ end_of side k
 end_is Nb k a on = on.nb_is
 end_is Ue k a on = on.ue_is
+
+few_at : (side : Side) (l : ℕ) (past : List Group) (a : Air) → KeepsOrder past → IsOn (link_behind past) a
+    → length (waits_in (flow l (end_at side a))) ≤ 1024
+few_at side l past a order on =
+    subst (λ (x : End). length (waits_in (flow l x)) ≤ 1024) (sym (end_is side (link_behind past) a on))
+    (few_behind side l past order)
 
 few_left : (all gone waits : ℕ) → all ≡ gone + waits → waits ≤ 1024 → all - gone ≤ 1024
 few_left all gone waits q few = omega (arith, q, few)
@@ -78,9 +90,8 @@ module _ (l : ℕ) (c : BearerConfig) (past : List Group) (order : KeepsOrder pa
 
   few : length waits ≤ 1024
   few =
-      subst (λ (x : End). length (queue (ends (flow l x))) ≤ 1024)
-      (sym (end_is side (link_behind past) (lives (steps l c past d) (start l c past d)) d.lived.by.on))
-      (few_behind side l past order)
+      let a = lives (steps l c past d) (start l c past d) in
+      few_queue (flow l (end_at side a)) (few_at side l past a order d.lived.by.on)
 
   am_gone : c.kind ≡ kinds.Am → length (submitted side l past)
       ≡ gone c.kind l c.first (events_of side (history past)) + length waits
@@ -114,13 +125,10 @@ few_wait past order side l c e kind own =
 
 few_signals_wait : (past : List Group) → KeepsOrder past → FewSignalsWait past
 few_signals_wait past order side l c e kind own =
-    let d = is_signalling l past c order kind e own in
-    let waits : List (List ℕ) =
-    queue (ends (flow l (end_at side (lives (life_steps l past d) (life_start l past d))))) in
-    let few : length waits ≤ 1024 =
-    subst (λ (x : End). length (queue (ends (flow l x))) ≤ 1024)
-    (sym (end_is side (link_behind past) (lives (life_steps l past d) (life_start l past d)) d.lived.by.on))
-    (few_behind side l past order) in
+    let d = is_renewed l past c order kind e own in
+    let a = lives (life_steps l past d) (life_start l past d) in
+    let waits : List (List ℕ) = waits_in (flow l (end_at side a)) in
+    let few = few_at side l past a order d.lived.by.on in
     let all = ap (λ (ns : List ℕ). length ns) (queue_since l past d side) in
     let parts = length-append (left_since side l past) (map length waits) in
     let one = length-map waits length in

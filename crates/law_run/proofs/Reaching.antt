@@ -14,7 +14,7 @@ use Rattle.air_record.specs.declared.line.Outcome.{Outcome}
 use Rattle.air_record.specs.declared.record.Record.{Record}
 use Rattle.air_record.specs.declared.record.Record.TheVariants as records
 use Rattle.air_run.specs.Draining.{shown, Drained, at_once, behind, ttis, senders_unless, round, left_by, done_by}
-use Rattle.air_run.specs.Draining.{told_by, rounds, budget, drained}
+use Rattle.air_run.specs.Draining.{round_told, rounds, budget, drained}
 use Rattle.air_record.specs.Endings.{ending}
 use Rattle.air_run.specs.Playing.{keys_or_none, acted, played}
 use Rattle.air_record.specs.Cells.{next_keys}
@@ -219,7 +219,7 @@ round_by : (told : List Record) (n grant : ℕ) (l : Link) → l.out ≡ [] → 
     → ((said : List Record) (m : Link) → m.out ≡ [] → IsReached said m
     → DrainGoes (rounds n grant m).done grant m (rounds n grant m))
     → DrainGoes (done_by b + (rounds n grant (left_by b grant l)).done) grant l
-    (behind (told_by b grant l) (done_by b) (rounds n grant (left_by b grant l)))
+    (behind (round_told b grant l) (done_by b) (rounds n grant (left_by b grant l)))
 round_by told n grant l nothing r within true rest =
     let q = rest told l nothing r in
     let same : 0 + (rounds n grant l).done ≡ (rounds n grant l).done = omega arith in

@@ -35,7 +35,8 @@ use Rattle.pdu_show.specs.declared.kinds.Layout.{Layout}
 use Rattle.pdu_show.specs.Kinds.{layout_of, with_kind}
 use Rattle.um_losses.specs.Flow.{Flow}
 use Rattle.um_losses.specs.Losses.{Losses, is_bearer, seen}
-use Rattle.um_losses.specs.Names.{Place, Happening}
+use Rattle.um_losses.specs.declared.cursor.Cursor.{Cursor}
+use Rattle.um_losses.specs.declared.flow.Happening.{Happening}
 use Rattle.um_losses.specs.Records.{passed, change_of}
 use Rattle.um_losses.specs.Told.{picked, told_in, all_after, flow_at}
 use Rattle.um_losses.proofs.Told.{seen_flow, seen_place, handed_flow, handed_place, bearer_flow, bearer_place}
@@ -57,7 +58,7 @@ all_seen_flow d l [] w f e = e
 all_seen_flow d l (one ∷ more) w f e =
     let now : List Happening = picked d l (change_of one w.cursor) in
     all_seen_flow d l more (seen one w) (all_after now f) (seen_flow d l one w f e)
-    ∙ ap (λ (c : Place). Some (all_after (told_in d l c more) (all_after now f))) (seen_place one w)
+    ∙ ap (λ (c : Cursor). Some (all_after (told_in d l c more) (all_after now f))) (seen_place one w)
     ∙ ap (λ (g : Flow). Some g) (sym (after_then now (told_in d l (passed one w.cursor) more) f))
 
 -- ---- what a line says itself

@@ -8,7 +8,8 @@ use Rattle.harq.specs.declared.sender.Order.{Order}
 use Rattle.harq.specs.declared.sender.Visit.{Visit}
 use Rattle.harq.specs.declared.sender.Visit.TheVariants.{New, Resend, Silent as Quiet}
 use Rattle.harq.specs.Sending.{Sending, empty, fresh, visit_answer, after_visit, after_load, after_feedback, ndi_of}
-use Rattle.harq.specs.SendHistory.{Turn, Step, Visited, Cleared, Deed, World, closed, turned, deed, stepped, run, start}
+use Rattle.harq.specs.SendHistory.{Turn, Step, Visited, Cleared, Deed, World, closed, turned, deed, stepped}
+use Rattle.harq.specs.SendHistory.{world_after, start}
 use Rattle.harq.specs.SendHistory.{are_down, is_down}
 use Rattle.law_air.specs.AnyCalls.Deeds.{deed_of, turn, TakesTurn}
 use Rattle.mac_pdu.specs.declared.item.Direction.{Direction}
@@ -19,7 +20,7 @@ use Rattle.law_run.proofs.Hearing.{flown, with_flight, Visits}
 
 -- ---- steps
 
-run_then : (xs ys : List Step) (w : World) → run (xs ++ ys) w ≡ run ys (run xs w)
+run_then : (xs ys : List Step) (w : World) → world_after (xs ++ ys) w ≡ world_after ys (world_after xs w)
 run_then [] ys w = refl
 run_then (x ∷ xs) ys w = run_then xs ys (stepped w x)
 
@@ -64,8 +65,8 @@ pub record Sends (way : Direction) (maximum : ℕ) (s : Sending) (h : ℕ → He
   pub eight : length s.processes ≡ 8
   pub steps : List Step
   pub are_of : AreOf way steps
-  pub sender_is : (run steps (start maximum)).sender ≡ s
-  pub deeds_are : (p : ℕ) → deeds_of (h p).flights ≡ (run steps (start maximum)).past p
+  pub sender_is : (world_after steps (start maximum)).sender ≡ s
+  pub deeds_are : (p : ℕ) → deeds_of (h p).flights ≡ (world_after steps (start maximum)).past p
 
 -- only the visits count
 abbrev pub SameFlights : (ℕ → Heard) → (ℕ → Heard) → Type 0
@@ -112,7 +113,7 @@ pub sends_turn : (way : Direction) (t : ℕ) (order : Order) (s r : Sending) (to
     → Sends way maximum r q
 sends_turn way t order s r told k of maximum h q missed visits a =
     let v = turn t order k.octets k.good in
-    let w = run a.steps (start maximum) in
+    let w = world_after a.steps (start maximum) in
     let next = run_then a.steps (Visited v ∷ []) (start maximum) in
     record {
       eight = ap (λ (x : Sending). length x.processes) k.sender_is ∙ turned_eight v s a.eight;

@@ -10,7 +10,7 @@ use Rattle.air_record.specs.declared.line.Line.{Line}
 use Rattle.air_record.specs.declared.line.Line.TheVariants as lines
 use Rattle.air_record.specs.declared.record.Record.{Record}
 use Rattle.air_run.specs.Draining.{shown, Drained, at_once, behind, ttis, senders_unless, round, left_by, done_by}
-use Rattle.air_run.specs.Draining.{told_by, rounds, budget, drained}
+use Rattle.air_run.specs.Draining.{round_told, rounds, budget, drained}
 use Rattle.air_record.specs.Endings.{ending}
 use Rattle.air_run.specs.Playing.{keys_or_none, acted, played}
 use Rattle.air_record.specs.Cells.{next_keys}
@@ -146,7 +146,7 @@ round_by : (kinds' : List (Option Layout)) (c : Side → Channels) (n grant : �
     → ((m : Link) → m.out ≡ [] → m.kinds ≡ kinds' → Ready c m
     → Rounds kinds' c (rounds n grant m).done m (rounds n grant m))
     → Rounds kinds' c (done_by b + (rounds n grant (left_by b grant l)).done) l
-    (behind (told_by b grant l) (done_by b) (rounds n grant (left_by b grant l)))
+    (behind (round_told b grant l) (done_by b) (rounds n grant (left_by b grant l)))
 round_by kinds' c n grant l alike within none same r true rest =
     let q = rest l none same r in
     let count : 0 + (rounds n grant l).done ≡ (rounds n grant l).done = omega arith in

@@ -11,6 +11,7 @@ use Rattle.l2_types.specs.declared.side.Side.{Side}
 use Rattle.l2_types.specs.declared.side.Side.TheVariants.{Nb, Ue}
 use Rattle.law_bearer.specs.AnyBearer.Calls.{ends}
 use Rattle.law_bearer.specs.AnyBearer.Queue.{queue}
+use Rattle.law_node.proofs.Queueing.{waits_in}
 use Rattle.law_node.specs.Holding.{flow}
 use Rattle.promises.specs.Flows.{submitted}
 use Rattle.promises.specs.Arrival.{taken as taken_told}
@@ -25,9 +26,9 @@ use Rattle.law_deliver.proofs.AmChannel.Delivery.{channels_tell_what_is_taken}
 use Rattle.law_deliver.proofs.UmChannel.Queue.{channels_tell_what_leaves}
 use Rattle.law_run.specs.Order.{KeepsOrder}
 use Rattle.law_run.proofs.Arriving.{taken_is}
-use Rattle.law_run.proofs.Signalling.{is_signalling, queue_since, steps as life_steps, start as life_start}
-use Rattle.promises.specs.Signalling.{submitted_since}
 use Rattle.law_run.proofs.Delivering.{IsDelivering, steps, start, alike, is_delivering, tells, was_submitted_is}
+use Rattle.law_run.proofs.Renewed.{is_renewed, queue_since, steps as life_steps, start as life_start}
+use Rattle.promises.specs.Signalling.{submitted_since}
 
 are_named : (past : List Group) → KeepsOrder past → AllTakesAreNamed past
 are_named past order from l c e kind own =
@@ -78,13 +79,13 @@ sdus_leave_in_order [] order = tt
 sdus_leave_in_order (g ∷ past) (right, order) =
     (leave_in_order (g ∷ past) (right, order), sdus_leave_in_order past order)
 
--- ---- on a channel with a signalling bearer
+-- ---- on a channel with a transparent or a signalling bearer
 
 leave_in_life : (past : List Group) → KeepsOrder past → AllLeaveInLife past
 leave_in_life past order side l c e kind own =
-    let d = is_signalling l past c order kind e own in
+    let d = is_renewed l past c order kind e own in
     front (left_since side l past)
-    (map length (queue (ends (flow l (end_at side (lives (life_steps l past d) (life_start l past d)))))))
+    (map length (waits_in (flow l (end_at side (lives (life_steps l past d) (life_start l past d))))))
     (map length (submitted_since side l past)) (queue_since l past d side)
 
 pub signals_leave_in_order : (past : List Group) → KeepsOrder past → SignalsLeaveInOrder past

@@ -10,7 +10,7 @@ use Rattle.air_record.specs.declared.line.Outcome.{Outcome}
 use Rattle.air_record.specs.declared.record.Record.{Record}
 use Rattle.air_record.specs.declared.record.Record.TheVariants as records
 use Rattle.air_run.specs.Draining.{shown, Drained, at_once, behind, ttis, senders_unless, round, left_by, done_by}
-use Rattle.air_run.specs.Draining.{told_by, rounds, budget, drained}
+use Rattle.air_run.specs.Draining.{round_told, rounds, budget, drained}
 use Rattle.air_record.specs.Endings.{ending}
 use Rattle.l2_types.specs.declared.side.Side.TheVariants.{Nb, Ue}
 use Rattle.law_air.specs.AnyCalls.Calls.{ReceiversExpire, SendersExpire}
@@ -183,7 +183,7 @@ ttis_add (suc n) grant l nothing =
 round_by : (n grant : ℕ) (l : Link) → l.out ≡ [] → (b : Bool)
     → ((m : Link) → m.out ≡ [] → DrainAdds (rounds n grant m).done grant m (rounds n grant m))
     → DrainAdds (done_by b + (rounds n grant (left_by b grant l)).done) grant l
-    (behind (told_by b grant l) (done_by b) (rounds n grant (left_by b grant l)))
+    (behind (round_told b grant l) (done_by b) (rounds n grant (left_by b grant l)))
 round_by n grant l nothing true rest =
     let q = rest l nothing in
     let same : 0 + (rounds n grant l).done ≡ (rounds n grant l).done = omega arith in

@@ -9,7 +9,7 @@ use Rattle.air_record.specs.declared.line.Line.{Line}
 use Rattle.air_record.specs.declared.line.Line.TheVariants as lines
 use Rattle.air_record.specs.declared.record.Record.{Record}
 use Rattle.air_run.specs.Draining.{shown, Drained, at_once, behind, ttis, senders_unless, round, left_by, done_by}
-use Rattle.air_run.specs.Draining.{told_by, rounds, budget, drained}
+use Rattle.air_run.specs.Draining.{round_told, rounds, budget, drained}
 use Rattle.air_record.specs.Endings.{ending}
 use Rattle.air_run.specs.Playing.{keys_or_none, acted, played}
 use Rattle.air_record.specs.Cells.{next_keys}
@@ -147,7 +147,7 @@ all_bring (suc n) grant known l within nothing r =
 
 round_by : (n grant : ℕ) (known : Side → Bool) (l : Link) → grant ≤ 9422 → l.out ≡ [] → Ready known l → (b : Bool)
     → ((m : Link) → m.out ≡ [] → Ready known m → DrainBrings known (rounds n grant m))
-    → DrainBrings known (behind (told_by b grant l) (done_by b) (rounds n grant (left_by b grant l)))
+    → DrainBrings known (behind (round_told b grant l) (done_by b) (rounds n grant (left_by b grant l)))
 round_by n grant known l within nothing r true rest = let q = rest l nothing r in
     record { nothing = q.nothing; ready = q.ready; ups_are = q.ups_are }
 round_by n grant known l within nothing r false rest =

@@ -11,6 +11,7 @@ use Rattle.promises.specs.Counts.{CountsAscend}
 use Rattle.promises.specs.Delivery.{DeliversInOrder}
 use Rattle.promises.specs.Drained.{DrainsLeaveNothing}
 use Rattle.law_run.specs.Ends.{ComeByCalls}
+use Rattle.promises.specs.HalfWindow.{TakesStayInHalf}
 use Rattle.promises.specs.Keys.{all_keys}
 use Rattle.law_words.specs.Lists.{AreDistinct}
 use Rattle.promises.specs.Limits.{QueuesAreShort}
@@ -62,10 +63,13 @@ pub record IsPromised (whole : Bool) (octets : List ℕ) (played : Played) : Typ
   pub takes : TakesName past
   -- each unacknowledged data bearer takes or discards the SDUs that it is submitted in their order
   pub leaving : SdusLeaveInOrder past
-  -- and so does each signalling bearer those submitted since the last handover
+  -- and so does that of LCID 0, and each signalling bearer, those submitted since the last handover
   pub signals_leaving : SignalsLeaveInOrder past
   -- and no more than 1024 SDUs wait
   pub queues : QueuesAreShort past
+  -- as a `take` of acknowledged data stands, each SDU whose COUNT lies half the numbers or more
+  -- below its own has arrived whole
+  pub in_half : TakesStayInHalf past
   -- and all of it but what is discarded once a drain tells that it is drained, but where the sender
   -- gave up
   pub drained : DrainsLeaveNothing past

@@ -30,3 +30,4 @@ pub mod Taken
 pub mod Arrival
 pub mod Takes
 pub mod Limits
+pub mod HalfWindow

@@ -1,4 +1,4 @@
--- How many SDUs wait at the most (TS 36.323 5.1.1).
+-- How many SDUs wait at the most (TS 36.322 5.1.1.1, TS 36.323 5.1.1).
 use Rattle.std.specs.Prelude.{◌≡◌, ◌⊎◌, ◌≤◌, ◌-◌, false, Some, ℕ, List, [], ◌∷◌, length}
 use Rattle.air_text.specs.Groups.{Group, history}
 use Rattle.bearer_types.specs.declared.config.BearerConfig.{BearerConfig}
@@ -35,11 +35,12 @@ FewWait past =
     → (config.kind ≡ Um) ⊎ (config.kind ≡ Am) → is_forged past ≡ false
     → waiting config lcid side past ≤ MOST_WAITING
 
--- on each channel with a signalling bearer, of those submitted since the last handover
+-- on each channel with a transparent or a signalling bearer, of those submitted since the last
+-- handover
 abbrev pub FewSignalsWait : List Group → Type 0
 FewSignalsWait past =
     (side : Side) (lcid : ℕ) (config : BearerConfig) → config_of lcid past ≡ Some config
-    → config.kind ≡ Srb → is_forged past ≡ false
+    → (config.kind ≡ Tm) ⊎ (config.kind ≡ Srb) → is_forged past ≡ false
     → length (submitted_since side lcid past) - length (left_since side lcid past) ≤ MOST_WAITING
 
 -- behind each group, of which the newest stands first

@@ -50,13 +50,13 @@ abbrev pub pdu_size : List ℕ → ℕ
 pdu_size sdu = length sdu + 5
 
 -- of SDUs in their order all octets of the PDU of one, by its place
-abbrev pub has_come : List (List ℕ) → Told → ℕ → Bool
-has_come sdus told place = has_arrived (map pdu_size sdus) told.fields told.came place
+abbrev pub sdu_has_come : List (List ℕ) → Told → ℕ → Bool
+sdu_has_come sdus told place = has_arrived (map pdu_size sdus) told.fields told.came place
 
 -- those that went up are the SDUs before the first that hasn't come
 pub record AreInSequence (sdus ups : List (List ℕ)) (told : Told) : Type 0 where
   pub next : ℕ
-  pub least : IsLeast (has_come sdus told) 0 next
+  pub least : IsLeast (sdu_has_come sdus told) 0 next
   pub which : ups ≡ take next sdus
 
 -- ---- the promise

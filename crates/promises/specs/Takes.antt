@@ -1,11 +1,11 @@
 -- Which SDU each `take` names, by its COUNT or its place, and by its length (TS 36.323 5.1.1,
 -- 5.2.1.1).
-use Rattle.std.specs.Prelude.{◌≡◌, false, Some, ℕ, List, [], ◌∷◌, ◌++◌, map, length, take}
+use Rattle.std.specs.Prelude.{◌≡◌, ◌⊎◌, false, Some, ℕ, List, [], ◌∷◌, ◌++◌, map, length, take}
 use Rattle.std.specs.Prelude.{if◌then◌else◌}
 use Rattle.std.specs.List.{AllByRecursion}
 use Rattle.air_text.specs.Groups.{Group, history}
 use Rattle.bearer_types.specs.declared.config.BearerConfig.{BearerConfig}
-use Rattle.l2_types.specs.declared.channel.Kind.TheVariants.{Srb, Um, Am}
+use Rattle.l2_types.specs.declared.channel.Kind.TheVariants.{Tm, Srb, Um, Am}
 use Rattle.l2_types.specs.declared.side.Side.{Side}
 use Rattle.promises.specs.Arrival.{taken}
 use Rattle.promises.specs.Configs.{config_of}
@@ -54,7 +54,8 @@ abbrev pub SdusLeaveInOrder : List Group → Type 0
 SdusLeaveInOrder [] = Unit {0}
 SdusLeaveInOrder (g ∷ past) = AllLeaveInOrder (g ∷ past) × SdusLeaveInOrder past
 
--- ---- a signalling bearer, which begins anew in a handover
+-- ---- a transparent and a signalling bearer, which have no discard timers and begin anew in a
+-- handover (TS 36.322 5.1.1.1, 5.4, TS 36.323 5.2)
 
 -- since the last handover, or the beginning: of each SDU that leaves the queue its length
 abbrev pub left_since : Side → ℕ → List Group → List ℕ
@@ -70,11 +71,12 @@ LeaveInLife lcid side past =
     ≡ take (length (left_since side lcid past))
     (map (λ sdu. length sdu) (submitted_since side lcid past))
 
--- on each channel with a signalling bearer, where no block was forged
+-- on each channel with a transparent or a signalling bearer, where no block was forged
 abbrev pub AllLeaveInLife : List Group → Type 0
 AllLeaveInLife past =
     (side : Side) (lcid : ℕ) (config : BearerConfig) → config_of lcid past ≡ Some config
-    → config.kind ≡ Srb → is_forged past ≡ false → LeaveInLife lcid side past
+    → (config.kind ≡ Tm) ⊎ (config.kind ≡ Srb) → is_forged past ≡ false
+    → LeaveInLife lcid side past
 
 abbrev pub SignalsLeaveInOrder : List Group → Type 0
 SignalsLeaveInOrder [] = Unit {0}

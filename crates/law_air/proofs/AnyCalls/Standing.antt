@@ -37,7 +37,7 @@ use Rattle.harq.specs.declared.sender.Visit.TheVariants.{New, Resend, Silent as 
 use Rattle.harq.specs.Receiving.{grant_ndi}
 use Rattle.harq.specs.Sending.{visit_answer}
 use Rattle.l2_bits.specs.declared.fault.SubmitRefusal.{SubmitRefusal}
-use Rattle.l2_node.specs.Building.{IsEnough, visit, visited, built, building, told_by as building_by}
+use Rattle.l2_node.specs.Building.{IsEnough, visit, visited, built, building, visit_events as building_by}
 use Rattle.l2_node.specs.End.{End}
 use Rattle.l2_node.specs.Finding.{has}
 use Rattle.l2_node.specs.Hearing.{received, ticked}

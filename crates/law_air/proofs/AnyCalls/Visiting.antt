@@ -18,7 +18,7 @@ use Rattle.harq.specs.declared.sender.Visit.{Visit}
 use Rattle.harq.specs.declared.sender.Visit.TheVariants.{New, Resend, Silent as Quiet}
 use Rattle.harq.specs.Receiving.{after_assigned, grant_ndi}
 use Rattle.harq.specs.Sending.{visit_answer, after_feedback}
-use Rattle.l2_node.specs.Building.{IsEnough, visit, visited, built, building, told_by as building_by}
+use Rattle.l2_node.specs.Building.{IsEnough, visit, visited, built, building, visit_events as building_by}
 use Rattle.l2_node.specs.End.{End}
 use Rattle.bearer_types.specs.Sides.{sent_by, other}
 use Rattle.l2_types.specs.declared.side.Side.{Side}

@@ -19,7 +19,8 @@ use Rattle.eps_sec.specs.declared.Keys.{Keys}
 use Rattle.harq.specs.Sending.{Sending, fresh}
 use Rattle.l2_node.specs.End.{End, with_bearer, with_visits}
 use Rattle.bearer_types.specs.Sides.{sent_by}
-use Rattle.um_losses.specs.Names.{Place, Happening as What}
+use Rattle.um_losses.specs.declared.cursor.Cursor.{Cursor}
+use Rattle.um_losses.specs.declared.flow.Happening.{Happening}
 use Rattle.um_losses.specs.Told.{told_in}
 use Rattle.pdu_show.specs.declared.kinds.Layout.{Layout}
 use Rattle.l2_types.specs.declared.side.Side.{Side}
@@ -92,7 +93,7 @@ same_behind Unread xs ys e = e
 -- behind what a step ends
 goes_behind : (l t : ℕ) (c : Behind) (s : LinkStep) (k : Link) (a : Air) → ended c ≡ renewals_in s
     → first_whats c ≡ anew s
-    → ((sent : List ℕ) → Fits c sent) → ((p : Place) → IsAt c p)
+    → ((sent : List ℕ) → Fits c sent) → ((p : Cursor) → IsAt c p)
     → Reaches l (marks l s) c Any (λ side n. handed_in side n s k) (Stands Nb (Waits t)) (Stands Ue (Waits t)) k
     (step s k) a → (step s k).ttis ≡ t → Stays l s k a
 goes_behind l t c s k a ends firsts fits at r same = record {
@@ -116,7 +117,7 @@ goes_behind l t c s k a ends firsts fits at r same = record {
     shown = λ bits h from p.
         r.goes.whats_are bits from
         ∙ (sym (r.shown bits h from p (at p))
-        ∙ ap (λ (ws : List What). ws ++ told_in (sent_by from) l p r.more) firsts);
+        ∙ ap (λ (ws : List Happening). ws ++ told_in (sent_by from) l p r.more) firsts);
   };
   in_life = r.goes.stays;
 }

@@ -29,7 +29,8 @@ use Rattle.air_record.specs.declared.record.Arrived.TheVariants as arriveds
 use Rattle.law_node.proofs.Silences.{writes_nothing}
 use Rattle.law_air.proofs.AnyCalls.Going.{own_told, other_told, Seen, told_seen}
 use Rattle.law_deliver.specs.AmFlow.Air.{Block, Station, Air, calls, built_at, is_new, IsCalling, HasCome}
-use Rattle.um_losses.specs.Names.{Place, comes as pdu_comes}
+use Rattle.um_losses.specs.declared.cursor.Cursor.{Cursor}
+use Rattle.um_losses.specs.declared.flow.Happening.TheVariants.{BlockArrived}
 use Rattle.um_losses.specs.Told.{told_in, place_behind}
 use Rattle.law_deliver.specs.UmGaps.Whats.{expiries}
 use Rattle.promises.specs.Flows.{loops_in, looped_at}
@@ -67,15 +68,15 @@ abbrev heard_as : Side → Option Bool → List Event → List Record
 heard_as side heard es = records.Air (heard_by side) arriveds.Got heard ∷ map (records.Of side) es
 
 came : (l p : ℕ) (side : Side) (e : End) (b : Block) (es : List Event) → b.process ≡ p
-    → es ≡ told_of e (Receive b.octets) → (bits : ℕ) (from : Side) (c : Place) (heard : Option Bool) → c.process ≡ p
+    → es ≡ told_of e (Receive b.octets) → (bits : ℕ) (from : Side) (c : Cursor) (heard : Option Bool) → c.process ≡ p
     → told_in (sent_by from) l c (heard_as side heard es) ≡ come_whats side l e b bits from
 came l p Ue e b es is same bits Nb c heard at = got_own Nb l c heard es
-    ∙ ap (λ (n : ℕ). pdu_comes n ∷ expiries l es) (at ∙ sym is)
-    ∙ ap (λ (xs : List Event). pdu_comes b.process ∷ expiries l xs) same
+    ∙ ap (λ (n : ℕ). BlockArrived n ∷ expiries l es) (at ∙ sym is)
+    ∙ ap (λ (xs : List Event). BlockArrived b.process ∷ expiries l xs) same
 came l p Ue e b es is same bits Ue c heard at = got_hidden Nb l c heard es
 came l p Nb e b es is same bits Ue c heard at = got_own Ue l c heard es
-    ∙ ap (λ (n : ℕ). pdu_comes n ∷ expiries l es) (at ∙ sym is)
-    ∙ ap (λ (xs : List Event). pdu_comes b.process ∷ expiries l xs) same
+    ∙ ap (λ (n : ℕ). BlockArrived n ∷ expiries l es) (at ∙ sym is)
+    ∙ ap (λ (xs : List Event). BlockArrived b.process ∷ expiries l xs) same
 came l p Nb e b es is same bits Nb c heard at = got_hidden Ue l c heard es
 
 -- of the side where it comes that tells nothing, of the other what it carries
@@ -250,7 +251,7 @@ visit_goes l set Ue t told k m a h end_is x =
 
 visit_stage : (l : ℕ) (set : Marks) (side : Side) (d : Behind) (t : Turn) (told : List Record) (k m : Link)
     (R S : Station → Type 0) (a : Air) → ((sent : List ℕ) → Fits d (last_in told sent))
-    → ((p : Place) → IsAt d (place_behind p told)) → Visited l side t told k m
+    → ((p : Cursor) → IsAt d (place_behind p told)) → Visited l side t told k m
     → Stands side (Waits t.tti) (station side a) → (station side a).end ≡ end_of side k
     → Both R S m (with_station side (visiting t (station side a)) a) → Reaches l set Any d none R S k m a
 visit_stage l set side d t told k m R S a left stands x h end_is both = record {
@@ -268,7 +269,7 @@ visit_stage l set side d t told k m R S a left stands x h end_is both = record {
 }
 
 pub visit_nb : (l : ℕ) (set : Marks) (d : Behind) (t : Turn) (told : List Record) (k m : Link) (Q : Station → Type 0)
-    → ((sent : List ℕ) → Fits d (last_in told sent)) → ((p : Place) → IsAt d (place_behind p told))
+    → ((sent : List ℕ) → Fits d (last_in told sent)) → ((p : Cursor) → IsAt d (place_behind p told))
     → Visited l Nb t told k m
     → StageBehind l set Any d (Stands Nb (Waits t.tti)) Q (Visiting Nb t k.nb) Q k m
 visit_nb l set d t told k m Q left stands x a h =
@@ -280,7 +281,7 @@ visit_nb l set d t told k m Q left stands x a h =
     })
 
 pub visit_ue : (l : ℕ) (set : Marks) (d : Behind) (t : Turn) (told : List Record) (k m : Link) (P : Station → Type 0)
-    → ((sent : List ℕ) → Fits d (last_in told sent)) → ((p : Place) → IsAt d (place_behind p told))
+    → ((sent : List ℕ) → Fits d (last_in told sent)) → ((p : Cursor) → IsAt d (place_behind p told))
     → Visited l Ue t told k m
     → StageBehind l set Any d P (Stands Ue (Waits t.tti)) P (Visiting Ue t k.ue) k m
 visit_ue l set d t told k m P left stands x a h =

@@ -14,7 +14,7 @@ use Rattle.law_deliver.specs.AmFlow.Air.{Air}
 use Rattle.law_words.specs.Arrivals.{AccountEntry}
 use Rattle.law_deliver.specs.AmChannel.Arrival.{happened}
 use Rattle.law_deliver.specs.AmChannel.Lives.{lives}
-use Rattle.um_losses.specs.Names.{Happening as What}
+use Rattle.um_losses.specs.declared.flow.Happening.{Happening}
 use Rattle.law_deliver.specs.UmGaps.Whats.{whats}
 use Rattle.law_air.specs.TwoEnds.Arrival.{told_by_step}
 use Rattle.law_air.specs.TwoEnds.Coming.{BearersBegin, ComesOn, ComesAs}
@@ -152,5 +152,5 @@ steps_come l told submitted said set s k a g h =
           (λ bits from. said bits from ++ tells bits from) sets_any m a c whole happens y.on;
       stays = x.stays;
       shown = λ bits s' from p. whole.whats_are bits from
-          ∙ ap (λ (ws : List What). whats from l bits h.steps a ++ ws) (x.shown bits s' from p);
+          ∙ ap (λ (ws : List Happening). whats from l bits h.steps a ++ ws) (x.shown bits s' from p);
     }

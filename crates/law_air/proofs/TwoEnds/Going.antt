@@ -19,7 +19,9 @@ use Rattle.law_deliver.specs.AmChannel.Delivery.{submitted_in, was_submitted, Se
 use Rattle.law_deliver.specs.AmChannel.Lives.{AirStep, InLife, Moves, AreLiving, lives_on, lives, end_at}
 use Rattle.law_deliver.specs.AmChannel.Lives.{calls_at, all_calls}
 use Rattle.law_deliver.proofs.AmChannel.Ends.{goes_by_calls}
-use Rattle.um_losses.specs.Names.{Place, Happening as What, begins_anew}
+use Rattle.um_losses.specs.declared.cursor.Cursor.{Cursor}
+use Rattle.um_losses.specs.declared.flow.Happening.{Happening}
+use Rattle.um_losses.specs.declared.flow.Happening.TheVariants.{LifeRestarted}
 use Rattle.law_deliver.specs.UmGaps.Whats.{whats_in, whats}
 use Rattle.law_air.specs.TwoEnds.Staying.{AreInLife}
 
@@ -129,7 +131,7 @@ Fits (Block' octets process) sent = sent ≡ octets
 Fits Renewed sent = Unit {0}
 Fits Unread sent = ⊥
 
-abbrev pub IsAt : Behind → Place → Type 0
+abbrev pub IsAt : Behind → Cursor → Type 0
 IsAt Any p = Unit {0}
 IsAt (Block' octets process) p = p.process ≡ process
 IsAt Renewed p = Unit {0}
@@ -141,10 +143,10 @@ ended (Block' octets process) = []
 ended Renewed = Renews ∷ []
 ended Unread = []
 
-abbrev pub first_whats : Behind → List What
+abbrev pub first_whats : Behind → List Happening
 first_whats Any = []
 first_whats (Block' octets process) = []
-first_whats Renewed = begins_anew ∷ []
+first_whats Renewed = LifeRestarted ∷ []
 first_whats Unread = []
 
 -- the block that was sent last behind records
@@ -158,7 +160,7 @@ Reads l c told steps a = (bits : ℕ) (from : Side) (sent : List ℕ) → Fits c
 
 -- what steps are to an unacknowledged flow from each side, by the bits of its numbers
 abbrev pub Whats : Type 0
-Whats = ℕ → Side → List What
+Whats = ℕ → Side → List Happening
 
 abbrev pub no_whats : Whats
 no_whats bits from = []
@@ -183,7 +185,7 @@ whats_more : (l bits : ℕ) (from : Side) (a : Air) (xs ys : List AirStep)
     → whats from l bits (xs ++ ys) a ≡ whats from l bits xs a ++ whats from l bits ys (lives xs a)
 whats_more l bits from a [] ys = refl
 whats_more l bits from a (x ∷ xs) ys =
-    ap (λ (ws : List What). whats_in from l bits a x ++ ws) (whats_more l bits from (lives_on a x) xs ys)
+    ap (λ (ws : List Happening). whats_in from l bits a x ++ ws) (whats_more l bits from (lives_on a x) xs ys)
     ∙ sym (append_assoc (whats_in from l bits a x) (whats from l bits xs (lives_on a x))
     (whats from l bits ys (lives xs (lives_on a x))))
 
@@ -253,8 +255,8 @@ behind_then l set c d f g x y {v} {w} a b e none left p q =
       whats_are = λ bits from.
           let second = ap (λ (u : Air). whats from l bits ts u) p.air_is ∙ q.whats_are bits from in
           whats_more l bits from a ss ts
-          ∙ ap (λ (ws : List What). ws ++ whats from l bits ts z) (p.whats_are bits from)
-          ∙ ap (λ (ws : List What). v bits from ++ ws) second;
+          ∙ ap (λ (ws : List Happening). ws ++ whats from l bits ts z) (p.whats_are bits from)
+          ∙ ap (λ (ws : List Happening). v bits from ++ ws) second;
       air_is = lives_more a ss ts ∙ ap (lives ts) p.air_is ∙ q.air_is;
     }
 

@@ -18,7 +18,9 @@ use Rattle.law_node.specs.Calls.{Move, after as after_call}
 use Rattle.law_node.proofs.Looping.{tells_no_loop}
 use Rattle.promises.specs.Records.{events_of}
 use Rattle.law_air.proofs.AnyCalls.Going.{told_both, own_told, other_told, Seen, seen, behind, told_seen}
-use Rattle.um_losses.specs.Names.{Place, Happening as What, begins_anew}
+use Rattle.um_losses.specs.declared.cursor.Cursor.{Cursor}
+use Rattle.um_losses.specs.declared.flow.Happening.{Happening}
+use Rattle.um_losses.specs.declared.flow.Happening.TheVariants.{LifeRestarted}
 use Rattle.um_losses.specs.Told.{told_in, place_behind}
 use Rattle.law_deliver.specs.UmGaps.Whats.{expiries}
 use Rattle.law_deliver.specs.AmFlow.Air.{Station, Air, begins, outset, HasCome}
@@ -140,18 +142,18 @@ moved_so keys k t a h =
     }
 
 moves_show : (l : ℕ) (keys : Keys) (k : Link) (a : Air) → a.nb.end ≡ k.nb → a.ue.end ≡ k.ue
-    → (bits : ℕ) (from : Side) (c : Place)
-    → begins_anew ∷ told_in (sent_by from) l c (left_told k) ≡ move_whats l a keys bits from
+    → (bits : ℕ) (from : Side) (c : Cursor)
+    → LifeRestarted ∷ told_in (sent_by from) l c (left_told k) ≡ move_whats l a keys bits from
 moves_show l keys k a nb ue bits Nb c =
     let xs = map (records.Of Nb) (leaving k.nb) in
     let ys = map (records.Of Ue) (leaving k.ue) in
-    ap (λ (ws : List What). begins_anew ∷ ws)
+    ap (λ (ws : List Happening). LifeRestarted ∷ ws)
     (in_both (sent_by Nb) l c xs ys [] (expiries l (leaving k.ue)) (events_hidden Nb l c (leaving k.nb))
     (events_own Nb l (place_behind c xs) (leaving k.ue)) ∙ ap (λ (e : End). expiries l (leaving e)) (sym ue))
 moves_show l keys k a nb ue bits Ue c =
     let xs = map (records.Of Nb) (leaving k.nb) in
     let ys = map (records.Of Ue) (leaving k.ue) in
-    ap (λ (ws : List What). begins_anew ∷ ws)
+    ap (λ (ws : List Happening). LifeRestarted ∷ ws)
     (in_both (sent_by Ue) l c xs ys (expiries l (leaving k.nb)) [] (events_own Ue l c (leaving k.nb))
     (events_hidden Ue l (place_behind c xs) (leaving k.ue))
     ∙ append-nil (expiries l (leaving k.nb)) ∙ ap (λ (e : End). expiries l (leaving e)) (sym nb))

@@ -40,7 +40,7 @@ use Rattle.law_air.proofs.AnyCalls.Going.{own_told, other_told, Seen, told_seen}
 use Rattle.law_deliver.specs.AmChannel.Delivery.{accepted, submitted_in}
 use Rattle.law_air.specs.TwoEnds.Going.{handed_in}
 use Rattle.promises.specs.Flows.{looped_at}
-use Rattle.um_losses.specs.Names.{Place}
+use Rattle.um_losses.specs.declared.cursor.Cursor.{Cursor}
 use Rattle.um_losses.specs.Told.{told_in}
 use Rattle.law_air.proofs.TwoEnds.Going.{Marks, none}
 use Rattle.law_air.proofs.TwoEnds.Steps.{Says, IsPlayed, by_sides, call_whats}
@@ -199,7 +199,7 @@ module _ (l : ℕ) (set : Marks) where
         says = x;
         kinds_are = refl;
         shown =
-            λ bits. by_sides (λ from. (p : Place) → told_in (sent_by from) l p told
+            λ bits. by_sides (λ from. (p : Cursor) → told_in (sent_by from) l p told
             ≡ call_whats Ue l k.ue (Submit lcid octets) bits from) (λ p. refl) (λ p. refl);
       })
 

@@ -42,7 +42,9 @@ use Rattle.rlc_pdu.specs.declared.fault.RlcRefusal.{RlcRefusal}
 use Rattle.rlc_pdu.specs.declared.pdu.Segment.{Segment}
 use Rattle.rlc_pdu.specs.Pdus.{UmdPdu, AmdPdu, AcknowledgedPdu, Payload, Status}
 use Rattle.rlc_pdu.specs.Reading.{umd_at, am_at}
-use Rattle.um_losses.specs.Names.{Place, Happening, renews, writes, comes as pdu_comes}
+use Rattle.um_losses.specs.declared.cursor.Cursor.{Cursor}
+use Rattle.um_losses.specs.declared.flow.Happening.{Happening}
+use Rattle.um_losses.specs.declared.flow.Happening.TheVariants.{BlockRenewed, PduWritten, BlockArrived}
 use Rattle.um_losses.specs.Records.{passed, change_of}
 use Rattle.um_losses.specs.Told.{picked, told_in, place_behind, block_place, sdu_place}
 use Rattle.law_deliver.specs.UmGaps.Whats.{expiry_in, expiries, as_written, written, built as built_whats}
@@ -53,7 +55,7 @@ use Rattle.law_air.proofs.TwoEnds.Stations.{come_eight}
 
 -- ---- records, and then others
 
-pub in_then : (d : Direction) (l : ℕ) (c : Place) (xs ys : List Record)
+pub in_then : (d : Direction) (l : ℕ) (c : Cursor) (xs ys : List Record)
     → told_in d l c (xs ++ ys) ≡ told_in d l c xs ++ told_in d l (place_behind c xs) ys
 in_then d l c [] ys = refl
 in_then d l c (x ∷ xs) ys =
@@ -61,12 +63,12 @@ in_then d l c (x ∷ xs) ys =
     ∙ sym (append_assoc (picked d l (change_of x c)) (told_in d l (passed x c) xs)
     (told_in d l (place_behind (passed x c) xs) ys))
 
-pub behind_then : (c : Place) (xs ys : List Record) → place_behind c (xs ++ ys) ≡ place_behind (place_behind c xs) ys
+pub behind_then : (c : Cursor) (xs ys : List Record) → place_behind c (xs ++ ys) ≡ place_behind (place_behind c xs) ys
 behind_then c [] ys = refl
 behind_then c (x ∷ xs) ys = behind_then (passed x c) xs ys
 
 -- what is told by two lists
-pub in_both : (d : Direction) (l : ℕ) (c : Place) (xs ys : List Record) (vs ws : List Happening)
+pub in_both : (d : Direction) (l : ℕ) (c : Cursor) (xs ys : List Record) (vs ws : List Happening)
     → told_in d l c xs ≡ vs → told_in d l (place_behind c xs) ys ≡ ws → told_in d l c (xs ++ ys) ≡ vs ++ ws
 in_both d l c xs ys vs ws p q = in_then d l c xs ys
     ∙ ap (λ (zs : List Happening). zs ++ told_in d l (place_behind c xs) ys) p
@@ -75,18 +77,18 @@ in_both d l c xs ys vs ws p q = in_then d l c xs ys
 -- ---- records that say nothing of flows
 
 pub record IsStill (one : Record) : Type 0 where
-  pub none : (c : Place) → change_of one c ≡ None
-  pub stays : (c : Place) → passed one c ≡ c
+  pub none : (c : Cursor) → change_of one c ≡ None
+  pub stays : (c : Cursor) → passed one c ≡ c
 
-pub still_all : (d : Direction) (l : ℕ) (c : Place) (told : List Record) → AllByRecursion IsStill told
+pub still_all : (d : Direction) (l : ℕ) (c : Cursor) (told : List Record) → AllByRecursion IsStill told
     → told_in d l c told ≡ []
 still_all d l c [] h = refl
 still_all d l c (x ∷ xs) h = ap (λ o. picked d l o ++ told_in d l (passed x c) xs) (h.0.none c)
     ∙ still_all d l (passed x c) xs h.1
 
-pub still_behind : (c : Place) (told : List Record) → AllByRecursion IsStill told → place_behind c told ≡ c
+pub still_behind : (c : Cursor) (told : List Record) → AllByRecursion IsStill told → place_behind c told ≡ c
 still_behind c [] h = refl
-still_behind c (x ∷ xs) h = ap (λ (p : Place). place_behind p xs) (h.0.stays c) ∙ still_behind c xs h.1
+still_behind c (x ∷ xs) h = ap (λ (p : Cursor). place_behind p xs) (h.0.stays c) ∙ still_behind c xs h.1
 
 -- ---- what an end tells
 
@@ -97,7 +99,7 @@ neither : (b : Bool) → none_told ≡ (if b then none_told else none_told)
 neither true = refl
 neither false = refl
 
-one_own : (from : Side) (l : ℕ) (c : Place) (e : Event)
+one_own : (from : Side) (l : ℕ) (c : Cursor) (e : Event)
     → picked (sent_by from) l (change_of (records.Of (other from) e) c) ≡ expiry_in l e
 one_own Nb l c (events.Expired lcid Reorder) = refl
 one_own Nb l c (events.Expired lcid Poll) = neither (lcid == l)
@@ -108,22 +110,22 @@ one_own Ue l c (events.Expired lcid Poll) = neither (lcid == l)
 one_own Ue l c (events.Expired lcid Prohibit) = neither (lcid == l)
 one_own Ue l c e = refl
 
-one_hidden : (from : Side) (l : ℕ) (c : Place) (e : Event)
+one_hidden : (from : Side) (l : ℕ) (c : Cursor) (e : Event)
     → picked (sent_by from) l (change_of (records.Of from e) c) ≡ []
 one_hidden Nb l c (events.Expired lcid Reorder) = refl
 one_hidden Nb l c e = refl
 one_hidden Ue l c (events.Expired lcid Reorder) = refl
 one_hidden Ue l c e = refl
 
-event_stays : (side : Side) (e : Event) (c : Place) → passed (records.Of side e) c ≡ c
+event_stays : (side : Side) (e : Event) (c : Cursor) → passed (records.Of side e) c ≡ c
 event_stays side e c = refl
 
-pub events_behind : (side : Side) (es : List Event) (c : Place) → place_behind c (map (records.Of side) es) ≡ c
+pub events_behind : (side : Side) (es : List Event) (c : Cursor) → place_behind c (map (records.Of side) es) ≡ c
 events_behind side [] c = refl
 events_behind side (e ∷ es) c = events_behind side es c
 
 -- of the direction that it hears these are the expiries of its reordering timer
-pub events_own : (from : Side) (l : ℕ) (c : Place) (es : List Event)
+pub events_own : (from : Side) (l : ℕ) (c : Cursor) (es : List Event)
     → told_in (sent_by from) l c (map (records.Of (other from)) es) ≡ expiries l es
 events_own from l c [] = refl
 events_own from l c (e ∷ es) =
@@ -131,7 +133,7 @@ events_own from l c (e ∷ es) =
     (one_own from l c e)
     ∙ ap (λ (ws : List Happening). expiry_in l e ++ ws) (events_own from l c es)
 
-pub events_hidden : (from : Side) (l : ℕ) (c : Place) (es : List Event)
+pub events_hidden : (from : Side) (l : ℕ) (c : Cursor) (es : List Event)
     → told_in (sent_by from) l c (map (records.Of from) es) ≡ []
 events_hidden from l c [] = refl
 events_hidden from l c (e ∷ es) =
@@ -158,12 +160,12 @@ all_still : (k : PdcpKind) (xs : List (List ℕ)) → AllByRecursion IsStill (ma
 all_still k [] = tt
 all_still k (x ∷ xs) = (pdcp_still k x, all_still k xs)
 
-wholes_none : (d : Direction) (l : ℕ) (c : Place) (k : PdcpKind) (fi : ℕ) (elements : List (List ℕ))
+wholes_none : (d : Direction) (l : ℕ) (c : Cursor) (k : PdcpKind) (fi : ℕ) (elements : List (List ℕ))
     → told_in d l c (wholes_shown k fi elements) ≡ []
 wholes_none d l c k fi elements =
     still_all d l c (wholes_shown k fi elements) (all_still k (whole (begins fi) (ends fi) elements))
 
-wholes_behind : (c : Place) (k : PdcpKind) (fi : ℕ) (elements : List (List ℕ))
+wholes_behind : (c : Cursor) (k : PdcpKind) (fi : ℕ) (elements : List (List ℕ))
     → place_behind c (wholes_shown k fi elements) ≡ c
 wholes_behind c k fi elements =
     still_behind c (wholes_shown k fi elements) (all_still k (whole (begins fi) (ends fi) elements))
@@ -184,11 +186,11 @@ am_still k (Ok (Payload pdu)) = amd_still k pdu pdu.segment
 am_still k (Ok (Status pdu)) = (record { none = λ c. refl; stays = λ c. refl }, tt)
 am_still k (Err fault) = (record { none = λ c. refl; stays = λ c. refl }, tt)
 
-um_behind : (k : PdcpKind) (r : Result UmdPdu RlcRefusal) (c : Place) → place_behind c (um_shown k r) ≡ c
+um_behind : (k : PdcpKind) (r : Result UmdPdu RlcRefusal) (c : Cursor) → place_behind c (um_shown k r) ≡ c
 um_behind k (Ok pdu) c = wholes_behind c k pdu.fi pdu.elements
 um_behind k (Err fault) c = refl
 
-rlc_behind : (lay : Option Layout) (octets : List ℕ) (c : Place) → place_behind c (rlc_shown lay octets) ≡ c
+rlc_behind : (lay : Option Layout) (octets : List ℕ) (c : Cursor) → place_behind c (rlc_shown lay octets) ≡ c
 unfolding rlc_shown
 rlc_behind None octets c = refl
 rlc_behind (Some layouts.Tm) octets c = still_behind c (tm_shown octets) (tm_still octets)
@@ -237,18 +239,18 @@ um_own : (from : Side) (l p lcid : ℕ) (k : PdcpKind) (r : Result UmdPdu RlcRef
 um_own Nb l p lcid k (Ok pdu) e =
     rw e
     (ap
-    (λ (ws : List Happening). writes p
+    (λ (ws : List Happening). PduWritten p
     (record { sn = pdu.sn; fi = pdu.fi; elements = length (map length pdu.elements) }) ∷ ws)
     (wholes_none (sent_by Nb) l (sdu_place (sent_by Nb) p lcid) k pdu.fi pdu.elements)
-    ∙ ap (λ (n : ℕ). writes p (record { sn = pdu.sn; fi = pdu.fi; elements = n }) ∷ [])
+    ∙ ap (λ (n : ℕ). PduWritten p (record { sn = pdu.sn; fi = pdu.fi; elements = n }) ∷ [])
     (length-map pdu.elements length))
 um_own Ue l p lcid k (Ok pdu) e =
     rw e
     (ap
-    (λ (ws : List Happening). writes p
+    (λ (ws : List Happening). PduWritten p
     (record { sn = pdu.sn; fi = pdu.fi; elements = length (map length pdu.elements) }) ∷ ws)
     (wholes_none (sent_by Ue) l (sdu_place (sent_by Ue) p lcid) k pdu.fi pdu.elements)
-    ∙ ap (λ (n : ℕ). writes p (record { sn = pdu.sn; fi = pdu.fi; elements = n }) ∷ [])
+    ∙ ap (λ (n : ℕ). PduWritten p (record { sn = pdu.sn; fi = pdu.fi; elements = n }) ∷ [])
     (length-map pdu.elements length))
 um_own Nb l p lcid k (Err fault) e = refl
 um_own Ue l p lcid k (Err fault) e = refl
@@ -291,7 +293,7 @@ module _ (from : Side) (l p bits : ℕ) (kinds : List (Option Layout)) where
       let rlc = rlc_shown (slice_index_or kinds lcid None) octets in
       in_both d l (sdu_place d p lcid) rlc (items_shown kinds is) (written bits p (pdus_in l (sdu lcid octets)))
       (written bits p (pdus_among l is)) (sdu_by (lcid == l) lcid octets h refl)
-      (ap (λ (c : Place). told_in d l c (items_shown kinds is))
+      (ap (λ (c : Cursor). told_in d l c (items_shown kinds is))
       (rlc_behind (slice_index_or kinds lcid None) octets (sdu_place d p lcid)) ∙ items_own is (Some lcid) h)
       ∙ sym (written_then (pdus_in l (sdu lcid octets)) (pdus_among l is))
   items_own (padding n ∷ is) channel h = items_own is channel h
@@ -307,7 +309,7 @@ module _ (from : Side) (l p bits : ℕ) (kinds : List (Option Layout)) where
       let rlc = rlc_shown (slice_index_or kinds lcid None) octets in
       in_both (sent_by (other from)) l (sdu_place d p lcid) rlc (items_shown kinds is) [] []
       (rlc_hidden from l p lcid (slice_index_or kinds lcid None) octets)
-      (ap (λ (c : Place). told_in (sent_by (other from)) l c (items_shown kinds is))
+      (ap (λ (c : Cursor). told_in (sent_by (other from)) l c (items_shown kinds is))
       (rlc_behind (slice_index_or kinds lcid None) octets (sdu_place d p lcid)) ∙ items_hidden is (Some lcid))
   items_hidden (padding n ∷ is) channel = items_hidden is channel
 
@@ -319,8 +321,8 @@ module _ (from : Side) (l p bits : ℕ) (kinds : List (Option Layout)) where
   items_behind (element control ∷ is) channel = items_behind is channel
   items_behind (sdu lcid octets ∷ is) channel =
       let rlc = rlc_shown (slice_index_or kinds lcid None) octets in
-      ap (λ (c : Place). c.process) (behind_then (sdu_place d p lcid) rlc (items_shown kinds is))
-      ∙ ap (λ (c : Place). (place_behind c (items_shown kinds is)).process)
+      ap (λ (c : Cursor). c.process) (behind_then (sdu_place d p lcid) rlc (items_shown kinds is))
+      ∙ ap (λ (c : Cursor). (place_behind c (items_shown kinds is)).process)
       (rlc_behind (slice_index_or kinds lcid None) octets (sdu_place d p lcid)) ∙ items_behind is (Some lcid)
   items_behind (padding n ∷ is) channel = items_behind is channel
 
@@ -343,23 +345,23 @@ module _ (from : Side) (l p bits : ℕ) (kinds : List (Option Layout)) where
 -- ---- the records of a block that is sent
 
 abbrev pub sent_whats : ℕ → ℕ → Direction → Visit → ℕ → List ℕ → List Happening
-sent_whats l bits d New t octets = renews (t % 8) ∷ written bits (t % 8) (carried l d octets)
+sent_whats l bits d New t octets = BlockRenewed (t % 8) ∷ written bits (t % 8) (carried l d octets)
 sent_whats l bits d (Resend rv) t octets = []
 sent_whats l bits d Quiet t octets = []
 
-pub sent_own : (v : Visit) (from : Side) (l bits t : ℕ) (kinds : List (Option Layout)) (octets : List ℕ) (c : Place)
+pub sent_own : (v : Visit) (from : Side) (l bits t : ℕ) (kinds : List (Option Layout)) (octets : List ℕ) (c : Cursor)
     → IsShown l bits kinds → told_in (sent_by from) l c (sent v from t kinds octets)
     ≡ sent_whats l bits (sent_by from) v t octets
 sent_own New Nb l bits t kinds octets c h =
-    ap (λ (ws : List Happening). renews (t % 8) ∷ ws)
+    ap (λ (ws : List Happening). BlockRenewed (t % 8) ∷ ws)
     (read_own Nb l (t % 8) bits kinds (reading (sent_by Nb) octets) h)
 sent_own New Ue l bits t kinds octets c h =
-    ap (λ (ws : List Happening). renews (t % 8) ∷ ws)
+    ap (λ (ws : List Happening). BlockRenewed (t % 8) ∷ ws)
     (read_own Ue l (t % 8) bits kinds (reading (sent_by Ue) octets) h)
 sent_own (Resend rv) from l bits t kinds octets c h = refl
 sent_own Quiet from l bits t kinds octets c h = refl
 
-pub sent_hidden : (v : Visit) (from : Side) (l t : ℕ) (kinds : List (Option Layout)) (octets : List ℕ) (c : Place)
+pub sent_hidden : (v : Visit) (from : Side) (l t : ℕ) (kinds : List (Option Layout)) (octets : List ℕ) (c : Cursor)
     → told_in (sent_by (other from)) l c (sent v from t kinds octets) ≡ []
 sent_hidden New Nb l t kinds octets c = read_hidden Nb l (t % 8) 0 kinds (reading (sent_by Nb) octets)
 sent_hidden New Ue l t kinds octets c = read_hidden Ue l (t % 8) 0 kinds (reading (sent_by Ue) octets)
@@ -372,7 +374,7 @@ IsSending New = Unit {0}
 IsSending (Resend rv) = Unit {0}
 IsSending Quiet = ⊥
 
-pub sent_behind : (v : Visit) (from : Side) (t : ℕ) (kinds : List (Option Layout)) (octets : List ℕ) (c : Place)
+pub sent_behind : (v : Visit) (from : Side) (t : ℕ) (kinds : List (Option Layout)) (octets : List ℕ) (c : Cursor)
     → IsSending v → (place_behind c (sent v from t kinds octets)).process ≡ t % 8
 sent_behind New from t kinds octets c s = read_behind from 0 (t % 8) 0 kinds (reading (sent_by from) octets)
 sent_behind (Resend rv) from t kinds octets c s = refl
@@ -380,13 +382,13 @@ sent_behind Quiet from t kinds octets c s = absurd s
 
 -- ---- a block that comes, and what the end that hears it tells then
 
-pub got_own : (from : Side) (l : ℕ) (c : Place) (heard : Option Bool) (es : List Event)
+pub got_own : (from : Side) (l : ℕ) (c : Cursor) (heard : Option Bool) (es : List Event)
     → told_in (sent_by from) l c (records.Air (sent_by from) Got heard ∷ map (records.Of (other from)) es)
-    ≡ pdu_comes c.process ∷ expiries l es
-got_own Nb l c heard es = ap (λ (ws : List Happening). pdu_comes c.process ∷ ws) (events_own Nb l c es)
-got_own Ue l c heard es = ap (λ (ws : List Happening). pdu_comes c.process ∷ ws) (events_own Ue l c es)
+    ≡ BlockArrived c.process ∷ expiries l es
+got_own Nb l c heard es = ap (λ (ws : List Happening). BlockArrived c.process ∷ ws) (events_own Nb l c es)
+got_own Ue l c heard es = ap (λ (ws : List Happening). BlockArrived c.process ∷ ws) (events_own Ue l c es)
 
-pub got_hidden : (from : Side) (l : ℕ) (c : Place) (heard : Option Bool) (es : List Event)
+pub got_hidden : (from : Side) (l : ℕ) (c : Cursor) (heard : Option Bool) (es : List Event)
     → told_in (sent_by (other from)) l c (records.Air (sent_by from) Got heard ∷ map (records.Of (other from)) es)
     ≡ []
 got_hidden Nb l c heard es = events_hidden Ue l c es
@@ -396,14 +398,14 @@ got_hidden Ue l c heard es = events_hidden Nb l c es
 
 -- what records tell of the flows of a channel, wherever they stood before
 abbrev pub Shows : ℕ → List (Option Layout) → List Record → Whats → Type 0
-Shows l kinds told ws = (bits : ℕ) → IsShown l bits kinds → (from : Side) (c : Place)
+Shows l kinds told ws = (bits : ℕ) → IsShown l bits kinds → (from : Side) (c : Cursor)
     → told_in (sent_by from) l c told ≡ ws bits from
 
 new_is : (v : Visit) (l bits : ℕ) (side : Side) (t : Turn) (octets : List ℕ) (e : End) → HasCome side e
     → visit t.tti t.order e ≡ v → octets ≡ block_at t.tti (built t.tti t.grant t.order e)
     → sent_whats l bits (sent_by side) v t.tti octets ≡ built_whats l bits (sent_by side) v t (visited t.tti t.order e)
 new_is New l bits side t octets e come is same =
-    ap (λ (o : List ℕ). renews (t.tti % 8) ∷ written bits (t.tti % 8) (carried l (sent_by side) o))
+    ap (λ (o : List ℕ). BlockRenewed (t.tti % 8) ∷ written bits (t.tti % 8) (carried l (sent_by side) o))
     (same ∙ block_is t.tti t.grant t.order e (come_eight side e come) is)
 new_is (Resend rv) l bits side t octets e come is same = refl
 new_is Quiet l bits side t octets e come is same = refl
@@ -449,9 +451,9 @@ quiet_shows l Ue t kinds e is bits s Nb c = events_own Nb l c (building t.tti t.
 
 -- the records stand at its process then
 pub visit_behind : (v : Visit) (side : Side) (t : Turn) (kinds : List (Option Layout)) (octets : List ℕ) (e : End)
-    (c : Place) → IsSending v → (place_behind c (visit_records v side t.tti t.grant t.order kinds octets e)).process
+    (c : Cursor) → IsSending v → (place_behind c (visit_records v side t.tti t.grant t.order kinds octets e)).process
     ≡ t.tti % 8
 visit_behind v side t kinds octets e c sends =
     let es = building t.tti t.grant t.order e in
-    ap (λ (p : Place). p.process) (behind_then c (map (records.Of side) es) (sent v side t.tti kinds octets))
+    ap (λ (p : Cursor). p.process) (behind_then c (map (records.Of side) es) (sent v side t.tti kinds octets))
     ∙ sent_behind v side t.tti kinds octets (place_behind c (map (records.Of side) es)) sends

@@ -27,7 +27,8 @@ use Rattle.law_node.specs.Bearers.{keys_in}
 use Rattle.law_node.specs.Writing.{TellNone}
 use Rattle.law_deliver.specs.AmFlow.Air.{Station, Air, calls, IsCalling}
 use Rattle.law_deliver.specs.AmChannel.Delivery.{submitted_in}
-use Rattle.um_losses.specs.Names.{Place, Happening as What}
+use Rattle.um_losses.specs.declared.cursor.Cursor.{Cursor}
+use Rattle.um_losses.specs.declared.flow.Happening.{Happening}
 use Rattle.um_losses.specs.Records.{change_of}
 use Rattle.um_losses.specs.Told.{picked, told_in, place_behind}
 use Rattle.law_deliver.specs.UmGaps.Whats.{sent_in, expiries}
@@ -95,8 +96,8 @@ none_first (Block' octets process) e = refl
 none_first Renewed e = cc
 none_first Unread e = refl
 
-with_none : (c : Behind) → ended c ≡ [] → (ws : List What) → first_whats c ++ ws ≡ ws
-with_none c e ws = ap (λ (vs : List What). vs ++ ws) (none_first c e)
+with_none : (c : Behind) → ended c ≡ [] → (ws : List Happening) → first_whats c ++ ws ≡ ws
+with_none c e ws = ap (λ (vs : List Happening). vs ++ ws) (none_first c e)
 
 -- with SDUs that are handed in, besides those that the test loop returns; behind what is known as records are read, and
 -- what then is; where PDUs of the channel are shown as those of unacknowledged RLC they tell what happens to the flows
@@ -108,10 +109,10 @@ pub record Reaches (l : ℕ) (set : Marks) (c d : Behind) (handed : Side → ℕ
   pub ws : Whats
   pub goes : GoesBehind l set c more (λ side n. handed side n ++ looped_at side n more) ws a air
   pub left : (sent : List ℕ) → Fits c sent → Fits d (last_in more sent)
-  pub stands : (p : Place) → IsAt c p → IsAt d (place_behind p more)
+  pub stands : (p : Cursor) → IsAt c p → IsAt d (place_behind p more)
   pub both : Both P Q m air
   pub stays : (bits : ℕ) → IsShown l bits k.kinds → IsShown l bits m.kinds
-  pub shown : (bits : ℕ) → IsShown l bits k.kinds → (from : Side) (p : Place) → IsAt c p
+  pub shown : (bits : ℕ) → IsShown l bits k.kinds → (from : Side) (p : Cursor) → IsAt c p
       → first_whats c ++ told_in (sent_by from) l p more ≡ ws bits from
 
 -- from what is known of them to what is known then
@@ -161,10 +162,10 @@ stages_then l set c d e open' P Q R S T U k m p f g a h =
       shown = λ bits s from v at.
           let one = told_in (sent_by from) l v r.more in
           let two = told_in (sent_by from) l (place_behind v r.more) q.more in
-          ap (λ (vs : List What). first_whats c ++ vs) (in_then (sent_by from) l v r.more q.more)
+          ap (λ (vs : List Happening). first_whats c ++ vs) (in_then (sent_by from) l v r.more q.more)
           ∙ (sym (append_assoc (first_whats c) one two)
-          ∙ (ap (λ (vs : List What). vs ++ two) (r.shown bits s from v at)
-          ∙ ap (λ (vs : List What). r.ws bits from ++ vs) (sym (with_none d open' two)
+          ∙ (ap (λ (vs : List Happening). vs ++ two) (r.shown bits s from v at)
+          ∙ ap (λ (vs : List Happening). r.ws bits from ++ vs) (sym (with_none d open' two)
           ∙ q.shown bits (r.stays bits s) from (place_behind v r.more) (r.stands v at))));
     }
 
@@ -217,9 +218,9 @@ StayShown l k m = (bits : ℕ) → IsShown l bits k.kinds → IsShown l bits m.k
 -- records that tell nothing of an end, nor of the air, and of no SDU of the loop
 told_stage : (l : ℕ) (set : Marks) (c d : Behind) (told : List Record) (k m : Link) (P Q : Station → Type 0)
     → ended c ≡ [] → ((sent : List ℕ) → Fits c sent → Fits d (last_in told sent))
-    → ((p : Place) → IsAt c p → IsAt d (place_behind p told)) → TellNoAir told
+    → ((p : Cursor) → IsAt c p → IsAt d (place_behind p told)) → TellNoAir told
     → m.nb ≡ k.nb → m.ue ≡ k.ue → m.out ≡ k.out ++ told → ((side : Side) → events_of side told ≡ [])
-    → ((n : ℕ) → loops_in n told ≡ []) → StayShown l k m → ((d : Direction) (p : Place) → told_in d l p told ≡ [])
+    → ((n : ℕ) → loops_in n told ≡ []) → StayShown l k m → ((d : Direction) (p : Cursor) → told_in d l p told ≡ [])
     → StageBehind l set c d P Q P Q k m
 told_stage l set c d told k m P Q open' left stands unflown nb ue out untold unlooped stays still a h = record {
   air = a;
@@ -239,7 +240,7 @@ abbrev pub IsNoAir : Record → Type 0
 IsNoAir one = (bits l : ℕ) (from : Side) (sent : List ℕ) → entries_at bits l from sent one ≡ []
 
 abbrev pub IsNoChange : Record → Type 0
-IsNoChange one = (p : Place) → change_of one p ≡ None
+IsNoChange one = (p : Cursor) → change_of one p ≡ None
 
 pub says_behind : (l : ℕ) (set : Marks) (c : Behind) (one : Record) (k : Link) (P Q : Station → Type 0) → ended c ≡ []
     → IsNoAir one → event_of Nb one ≡ [] → event_of Ue one ≡ [] → ((n : ℕ) → is_looped n one ≡ false) → IsNoChange one
@@ -335,7 +336,7 @@ pub record Called (l : ℕ) (side : Side) (c : EndCall) (told : List Record) (ha
   pub out_is : m.out ≡ k.out ++ told
   pub says : Says side told (λ s n. handed s n ++ looped_at s n told) (end_of side k) c
   pub kinds_are : m.kinds ≡ k.kinds
-  pub shown : (bits : ℕ) (from : Side) (p : Place)
+  pub shown : (bits : ℕ) (from : Side) (p : Cursor)
       → told_in (sent_by from) l p told ≡ call_whats side l (end_of side k) c bits from
 
 -- where it tells nothing, and where records tell what it tells
@@ -344,13 +345,13 @@ sends_none side l bits e (Visits t) p = absurd p
 sends_none side l bits e c p = refl
 
 pub shows_nothing : (l : ℕ) (side : Side) (e : End) (c : EndCall) → IsPlain c → told_of e c ≡ []
-    → (bits : ℕ) (from : Side) (p : Place) → told_in (sent_by from) l p [] ≡ call_whats side l e c bits from
+    → (bits : ℕ) (from : Side) (p : Cursor) → told_in (sent_by from) l p [] ≡ call_whats side l e c bits from
 shows_nothing l Nb e c plain untold bits Nb p = sym (sends_none Nb l bits e c plain)
 shows_nothing l Nb e c plain untold bits Ue p = ap (expiries l) (sym untold)
 shows_nothing l Ue e c plain untold bits Nb p = ap (expiries l) (sym untold)
 shows_nothing l Ue e c plain untold bits Ue p = sym (sends_none Ue l bits e c plain)
 
-pub shows_events : (l : ℕ) (side : Side) (e : End) (c : EndCall) → IsPlain c → (bits : ℕ) (from : Side) (p : Place)
+pub shows_events : (l : ℕ) (side : Side) (e : End) (c : EndCall) → IsPlain c → (bits : ℕ) (from : Side) (p : Cursor)
     → told_in (sent_by from) l p (map (records.Of side) (told_of e c)) ≡ call_whats side l e c bits from
 shows_events l Nb e c plain bits Nb p = events_hidden Nb l p (told_of e c) ∙ sym (sends_none Nb l bits e c plain)
 shows_events l Nb e c plain bits Ue p = events_own Ue l p (told_of e c)
@@ -437,7 +438,7 @@ abbrev pub IsLeft : Behind → List Record → Type 0
 IsLeft b told = (sent : List ℕ) → Fits b sent → Fits b (last_in told sent)
 
 abbrev pub IsStill : Behind → List Record → Type 0
-IsStill b told = (p : Place) → IsAt b p → IsAt b (place_behind p told)
+IsStill b told = (p : Cursor) → IsAt b p → IsAt b (place_behind p told)
 
 pub called_nb_behind : (l : ℕ) (set : Marks) (b : Behind) (c : EndCall) (told : List Record) (handed : Side → ℕ
     → List (List ℕ)) (k m : Link) (n : Moment) (Q : Station → Type 0) → ended b ≡ [] → IsLeft b told → IsStill b told

@@ -26,7 +26,7 @@ use Rattle.promises.specs.Arrival.{entries_in}
 use Rattle.law_deliver.specs.AmChannel.Delivery.{submitted_in, was_submitted, sets_discard, SetNone}
 use Rattle.law_deliver.specs.AmChannel.Lives.{AirStep, InLife, Moves, brought}
 use Rattle.law_rlc.specs.AmPair.Flow.{except}
-use Rattle.um_losses.specs.Names.{begins_anew}
+use Rattle.um_losses.specs.declared.flow.Happening.TheVariants.{LifeRestarted}
 use Rattle.law_deliver.specs.UmGaps.Whats.{sent_in, expiries, brought as what_came, whats}
 use Rattle.law_air.specs.TwoEnds.On.{IsHeld, IsStation}
 use Rattle.law_air.proofs.TwoEnds.Flying.{gone, without, without_gone}
@@ -85,8 +85,8 @@ come_whats Ue l e b bits Nb = what_came l e (Some b)
 come_whats Ue l e b bits Ue = []
 
 abbrev pub move_whats : ℕ → Air → Keys → Whats
-move_whats l a keys bits Nb = begins_anew ∷ expiries l (leaving a.ue.end)
-move_whats l a keys bits Ue = begins_anew ∷ expiries l (leaving a.nb.end)
+move_whats l a keys bits Nb = LifeRestarted ∷ expiries l (leaving a.ue.end)
+move_whats l a keys bits Ue = LifeRestarted ∷ expiries l (leaving a.nb.end)
 
 whats_by : (l : ℕ) (xs : List AirStep) (a : Air) (ws : Whats) → ((bits : ℕ) → whats Nb l bits xs a ≡ ws bits Nb)
     → ((bits : ℕ) → whats Ue l bits xs a ≡ ws bits Ue) → (bits : ℕ) (from : Side)

@@ -14,7 +14,7 @@ use Rattle.law_air.specs.AnyCalls.Runs.{Step, step}
 use Rattle.law_deliver.specs.AmFlow.Air.{Air, outset}
 use Rattle.law_words.specs.Arrivals.{AccountEntry}
 use Rattle.law_deliver.specs.AmChannel.Lives.{AirStep}
-use Rattle.um_losses.specs.Names.{Place}
+use Rattle.um_losses.specs.declared.cursor.Cursor.{Cursor}
 use Rattle.um_losses.specs.Told.{told_in}
 use Rattle.law_deliver.specs.UmGaps.Whats.{whats}
 use Rattle.law_air.specs.TwoEnds.Arrival.{told_by_step}
@@ -52,7 +52,7 @@ pub record ComesOn (l : ℕ) (told : List Record) (submitted : Side → ℕ → 
       (λ bits from. said bits from ++ told_by_step bits l from s more) (set || sets l s)
       (step s k) a
   pub stays : (bits : ℕ) → IsShown l bits k.kinds → IsShown l bits (step s k).kinds
-  pub shown : (bits : ℕ) → IsShown l bits k.kinds → (from : Side) (c : Place)
+  pub shown : (bits : ℕ) → IsShown l bits k.kinds → (from : Side) (c : Cursor)
       → whats from l bits by.steps a ≡ whats from l bits before.steps a
       ++ (anew s ++ told_in (sent_by from) l c more)
 

@@ -18,7 +18,7 @@ use Rattle.law_deliver.specs.AmChannel.Delivery.{accepted, was_submitted, SetNon
 use Rattle.law_deliver.specs.AmChannel.Lives.{AirStep, AreLiving, lives, end_at, all_calls}
 use Rattle.law_air.specs.TwoEnds.Arrival.{told_by_step}
 use Rattle.promises.specs.Arrival.{entries_in}
-use Rattle.um_losses.specs.Names.{Place}
+use Rattle.um_losses.specs.declared.cursor.Cursor.{Cursor}
 use Rattle.um_losses.specs.Told.{told_in}
 use Rattle.law_deliver.specs.UmGaps.Whats.{whats}
 use Rattle.law_air.specs.TwoEnds.On.{IsOn}
@@ -75,7 +75,7 @@ pub record GoesOn (l : ℕ) (s : Step) (k : Link) (a : Air) : Type 0 where
   pub by : GoesByAir l more (λ side n. handed_in side n s k ++ looped_at side n more)
       (λ bits from. told_by_step bits l from s more) (sets l s) (step s k) a
   pub stays : (bits : ℕ) → IsShown l bits k.kinds → IsShown l bits (step s k).kinds
-  pub shown : (bits : ℕ) → IsShown l bits k.kinds → (from : Side) (c : Place)
+  pub shown : (bits : ℕ) → IsShown l bits k.kinds → (from : Side) (c : Cursor)
       → whats from l bits by.steps a ≡ anew s ++ told_in (sent_by from) l c more
 
 -- ---- the law

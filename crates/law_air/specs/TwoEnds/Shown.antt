@@ -6,7 +6,8 @@ use Rattle.law_air.specs.AnyCalls.Runs.{Step, Calls}
 use Rattle.pdcp_pdu.specs.declared.pdu.PdcpKind.{PdcpKind}
 use Rattle.pdu_show.specs.declared.kinds.Layout.{Layout}
 use Rattle.pdu_show.specs.declared.kinds.Layout.TheVariants as layouts
-use Rattle.um_losses.specs.Names.{Happening, begins_anew}
+use Rattle.um_losses.specs.declared.flow.Happening.{Happening}
+use Rattle.um_losses.specs.declared.flow.Happening.TheVariants.{LifeRestarted}
 
 -- PDUs of the channel are shown as those of unacknowledged RLC, with numbers of so many bits
 pub record IsShown (l bits : ℕ) (kinds : List (Option Layout)) : Type 0 where
@@ -15,5 +16,5 @@ pub record IsShown (l bits : ℕ) (kinds : List (Option Layout)) : Type 0 where
 
 -- what a step itself says of each flow
 abbrev pub anew : Step → List Happening
-anew (Calls (HandsOver keys)) = begins_anew ∷ []
+anew (Calls (HandsOver keys)) = LifeRestarted ∷ []
 anew s = []

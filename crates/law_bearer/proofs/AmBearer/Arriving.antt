@@ -212,7 +212,7 @@ pub record Comes (r : Result AcknowledgedPdu RlcRefusal) (b : State) : Type 0 wh
   pub ups : go_up (arrives r b) b ≡ ups_among (arrived_told r b)
   pub idle : IsIdle (arrived_left r b)
 
-turned_none : (lcid : ℕ) (t : Turned) → ups_among (turned_told lcid t) ≡ []
+pub turned_none : (lcid : ℕ) (t : Turned) → ups_among (turned_told lcid t) ≡ []
 turned_none lcid t = by t.stopped t.started
   where
     by : (stopped started : Bool) → ups_among (turned_told lcid (record { stopped = stopped; started = started })) ≡ []
@@ -221,7 +221,7 @@ turned_none lcid t = by t.stopped t.started
     by false true = refl
     by false false = refl
 
-landed_none : (lcid : ℕ) (l : Landed) (t : Turned) → ups_among (landed_told lcid l t) ≡ []
+pub landed_none : (lcid : ℕ) (l : Landed) (t : Turned) → ups_among (landed_told lcid l t) ≡ []
 landed_none lcid Kept t = turned_none lcid t
 landed_none lcid Repeat t = refl
 landed_none lcid Outside t = refl

@@ -1,13 +1,13 @@
 -- In a life the report is taken first, and then SDUs by ascending COUNTs.
-use Rattle.std.proofs.Common.{◌≡◌, ◌≤◌, ℕ, ◌+◌, ◌-◌, Bool, true, false, List, [], ◌∷◌, ◌++◌, map, take, Option, Some}
+use Rattle.std.proofs.Common.{◌≡◌, ◌≤◌, ℕ, ◌+◌, ◌-◌, List, [], ◌∷◌, ◌++◌, map, take, Option, Some}
 use Rattle.std.proofs.Common.{None, subst, refl, arith}
 use Rattle.l2_num.specs.Ascending.{AreBetween}
 use Rattle.pdcp_tx_store.specs.declared.given.Sent.{Sent}
 use Rattle.pdcp_tx_store.specs.Waiting.{Waits}
-use Rattle.pdcp_tx_store.specs.Given.{tells, untold}
 use Rattle.pdcp_tx.specs.State.{State, Offer, offers, owed_offers, again_offer, new_offers, submitted, took, took_owed}
 use Rattle.pdcp_tx.specs.State.{took_again, took_new, confirmed, reported, reported_from, fms_count, after_late}
 use Rattle.pdcp_tx.specs.Runs.{Submit, Take, Confirm, Report, Owe, Tick, Late, IsOrdered}
+use Rattle.pdcp_tx.proofs.Order.{untold_between}
 use Rattle.law_pdcp.specs.OneEnd.Lives.{Step, Calls, SetDiscard, Restart, goes}
 use Rattle.law_bearer.specs.AnyBearer.Stream.{AreSdus, AreInOrder}
 use Rattle.law_bearer.proofs.AnyBearer.Sender.{doings, AreOfLife}
@@ -26,25 +26,6 @@ AreFrom low (Some report) [] = Unit {0}
 AreFrom low (Some report) (o ∷ os) = (o ≡ record { count = None; text = report }) × AreSdus low os
 
 -- ---- a report leaves the order
-
-lower : (a b : ℕ) (ns : List ℕ) (end : ℕ) → a ≤ b → AreBetween b ns end → AreBetween a ns end
-lower a b [] end le h = omega (arith, h)
-lower a b (n ∷ ns) end le h = (omega (arith, h.0), h.1)
-
-untold_step : (low from : ℕ) (bitmap : List ℕ) (s : Sent) (ss : List Sent) (end : ℕ) (b : Bool)
-    → tells from bitmap s.count ≡ b
-    → low ≤ s.count → AreBetween (s.count + 1) (counts (untold from bitmap ss)) end
-    → AreBetween low (counts (untold from bitmap (s ∷ ss))) end
-untold_step low from bitmap s ss end true e le h =
-    rw e (lower low (s.count + 1) (counts (untold from bitmap ss)) end (omega arith) h)
-untold_step low from bitmap s ss end false e le h = rw e (le, h)
-
-untold_between : (low from : ℕ) (bitmap : List ℕ) (ss : List Sent) (end : ℕ) → AreBetween low (counts ss) end
-    → AreBetween low (counts (untold from bitmap ss)) end
-untold_between low from bitmap [] end h = h
-untold_between low from bitmap (s ∷ ss) end h =
-    untold_step low from bitmap s ss end (tells from bitmap s.count) refl h.0
-    (untold_between (s.count + 1) from bitmap ss end h.1)
 
 reported_stands : (low : ℕ) (c : Option ℕ) (s : State) (bitmap : List ℕ) → Stands low s
     → Stands low (reported_from c s bitmap)

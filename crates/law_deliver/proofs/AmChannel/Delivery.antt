@@ -44,7 +44,7 @@ use Rattle.law_deliver.specs.AmDelivery.Delivery.{AreBothEnds}
 use Rattle.law_words.specs.Arrivals.{AccountEntry, Account, no_account, account}
 use Rattle.law_deliver.specs.AmDelivery.Arrival.{down_in, up_in, IsWhatCame}
 use Rattle.law_deliver.specs.AmChannel.Arrival.{happened, told_from}
-use Rattle.law_deliver.proofs.AmDelivery.Laws.{delivers_what_was_taken, what_came_is_delivered}
+use Rattle.law_deliver.proofs.AmDelivery.Laws.{delivers_what_was_taken, what_came_is_delivered, bearers_take_in_half}
 use Rattle.law_deliver.specs.AmDelivery.Lives.{LifeStep, over}
 use Rattle.law_deliver.specs.AmChannel.Delivery.{HasBegun, AmEndsBeginAlike, was_taken, was_submitted, steps_over}
 use Rattle.law_deliver.specs.AmChannel.Delivery.{DiscardsNone, SetNone, ups_at, submitted_at, taken_at, DiscardsNoneAt}
@@ -54,6 +54,7 @@ use Rattle.law_deliver.proofs.AmChannel.Bearers.{IsSteady}
 use Rattle.law_bearer.proofs.AnyBearer.Streams.{am_begins, begun_tx}
 use Rattle.bearer_pdcp.specs.Ends.{Ends, begun as begun_ends, bearer_of, sends}
 use Rattle.pdcp_sec.specs.Protection.{Protection, protection_of}
+use Rattle.promises.specs.HalfWindow.{AreInHalf}
 use Rattle.promises.specs.Taken.{leaving_in, were_taken, chosen, leaves, taken_of, kept_of, TakenSdu, takes_on}
 use Rattle.promises.specs.Taken.{NamesSdu}
 use Rattle.law_deliver.specs.AmChannel.Leaving.{AreTold}
@@ -231,6 +232,23 @@ module _ (l : ℕ) (c : BearerConfig) (keys : Keys) (nb ue : End) (h : AmEndsBeg
       (over (news_in_at from) (walk xs g).steps pair) (over (ups_in_at (other from)) (walk xs g).steps pair))
       (told_is from xs g)
       (pair_came from xs g)))
+
+  -- ---- how far the COUNTs run ahead
+
+  pair_in_half : (from : Side) (xs : List AirStep) (g : AreLiving l (outset nb ue) xs)
+      → AreInHalf c.pdcp_bits c.first no_account (over (told_at from) (walk xs g).steps pair)
+  pair_in_half Nb xs g =
+      (bearers_take_in_half c keys (first_of c keys Nb) (first_of c keys Ue) (walk xs g).steps both_ends
+      (walk xs g).living).0
+  pair_in_half Ue xs g =
+      (bearers_take_in_half c keys (first_of c keys Nb) (first_of c keys Ue) (walk xs g).steps both_ends
+      (walk xs g).living).1
+
+  pub channels_take_in_half : (from : Side) (xs : List AirStep) → AreLiving l (outset nb ue) xs
+      → AreInHalf c.pdcp_bits c.first no_account (happened c.pdcp_bits l from xs (outset nb ue))
+  channels_take_in_half from xs g =
+      subst (λ (hs : List AccountEntry). AreInHalf c.pdcp_bits c.first no_account hs) (told_is from xs g)
+      (pair_in_half from xs g)
 
 -- ---- of what is submitted
 

@@ -220,7 +220,7 @@ keeps_first (HandUp ∷ events) f = keeps_first events (pdcp_happens f HandUp)
 keeps_first (Raise ∷ events) f = keeps_first events (pdcp_happens f Raise)
 keeps_first (Restart keys ∷ events) f = keeps_first events (pdcp_happens f (Restart keys))
 
-first_is : (w : Way) → (pdcp w).first ≡ w.first
+pub first_is : (w : Way) → (pdcp w).first ≡ w.first
 first_is w = keeps_first w.events (am_pdcp_outset w.bits w.protection w.first)
 
 least_alike : (f g : ℕ → Bool) (p q : ℕ) → ((n : ℕ) → f n ≡ g n) → IsLeast f p q → IsLeast g p q

@@ -53,7 +53,7 @@ goes_further {xs} {ys} u v w news more ups higher h k = record {
   tells = tells_then xs ys (pdcp u) (pdcp v) (pdcp w) (told_of u) (told_of v) (told_of w) h.tells k.tells;
 }
 
-goes_once : StepsGoOn → (bits : ℕ) (down up : Way) (p : Pair) (x : LifeStep) → IsLiving p x
+pub goes_once : StepsGoOn → (bits : ℕ) (down up : Way) (p : Pair) (x : LifeStep) → IsLiving p x
     → JoinedPair bits down up p → BothGoOn bits down up p x
 goes_once steps bits down up p (InLife s) given h = steps bits down up p s h given.0 given.1
 goes_once steps bits down up p (Restarts keys) given h = restarts_go_on bits down up p keys h
@@ -169,7 +169,7 @@ delivers_in_order steps c keys nb ue xs h given =
 
 -- ---- none that has come is held back
 
-begins_account : (c : BearerConfig) (p : Protection)
+pub begins_account : (c : BearerConfig) (p : Protection)
     → Agrees no_account (pdcp (first_way c p)) (told_of (first_way c p))
 begins_account c p = record { given_are = refl; rlc_is = refl; handed_are = λ count. refl }
 

@@ -445,12 +445,12 @@ status_silent true octets t a is =
     ∙ ap (λ (ps : List Passing). account (entries_passed ps) a) (wrote_piece t)
 status_silent false octets t a is = ap (λ (ps : List Passing). account (entries_passed ps) a) (wrote_piece t)
 
-says_so : (bits : ℕ) (out inn : Way) (e o : BearerEnd) (share : ℕ) (held : Option ℕ) → JoinedEnds bits out inn e o
-    → (a : Account)
-    → account (said_in e.bearer (TakeCall share held)) a
-    ≡ account (entries_of (map (given_as e.bearer.pdcp.tx) (taken_in (Am e.bearer) (TakeCall share held)))
-    ++ entries_passed (written_in (data_given e.bearer share held))) a
-says_so bits out inn e o share held h a =
+-- what is told of PDCP's PDUs as they are taken
+pub gives_are : (bits : ℕ) (out inn : Way) (e o : BearerEnd) (share : ℕ) (held : Option ℕ)
+    → JoinedEnds bits out inn e o
+    → entries_given (bits_of e.bearer.pdcp.kind) (told e.bearer.pdcp.lcid (Am e.bearer) share held)
+    ≡ entries_of (map (given_as e.bearer.pdcp.tx) (taken_in (Am e.bearer) (TakeCall share held)))
+gives_are bits out inn e o share held h =
     let b = e.bearer in
     let ok = sound_pdcp out h.out_is in
     let kind : b.pdcp.kind ≡ AmKind bits = h.of_data.kind in
@@ -460,10 +460,19 @@ says_so bits out inn e o share held h a =
     subst (λ (s : Sending). Owes s.kind s.owed) h.out_joins.sender_is ok.sends.owes in
     let right = subst (λ (k : PdcpKind). AllByRecursion (IsRight k) (offers_of b.pdcp.tx)) tx
     (offers_right b.pdcp.tx owes) in
-    let told_is = ap (λ (k : PdcpKind). entries_given (bits_of k) (told b.pdcp.lcid (Am b) share held)) kind
-    ∙ ap (λ (gs : List Given). entries_of gs) (takes_are_told bits b share held good kind tx right) in
+    ap (λ (k : PdcpKind). entries_given (bits_of k) (told b.pdcp.lcid (Am b) share held)) kind
+    ∙ ap (λ (gs : List Given). entries_of gs) (takes_are_told bits b share held good kind tx right)
+
+says_so : (bits : ℕ) (out inn : Way) (e o : BearerEnd) (share : ℕ) (held : Option ℕ) → JoinedEnds bits out inn e o
+    → (a : Account)
+    → account (said_in e.bearer (TakeCall share held)) a
+    ≡ account (entries_of (map (given_as e.bearer.pdcp.tx) (taken_in (Am e.bearer) (TakeCall share held)))
+    ++ entries_passed (written_in (data_given e.bearer share held))) a
+says_so bits out inn e o share held h a =
+    let b = e.bearer in
     let first = entries_of (map (given_as b.pdcp.tx) (taken_in (Am b) (TakeCall share held))) in
-    ap (λ (l : List AccountEntry). account (l ++ entries_written (pdus (Am b) share held)) a) told_is
+    ap (λ (l : List AccountEntry). account (l ++ entries_written (pdus (Am b) share held)) a)
+    (gives_are bits out inn e o share held h)
     ∙ (ap (λ (l : List (List ℕ)). account (first ++ entries_written l) a) (writes_what_rlc_gives b share held)
     ∙ (account_then first (entries_written (status_pdus b.rx share ++ pdus_of (data_given b share held))) a
     ∙ (status_silent (writes_status b.rx share) (status_pdu b.rx share) (data_given b share held) (account first a)

@@ -19,7 +19,7 @@ use Rattle.eps_sec.specs.declared.Keys.{Keys}
 use Rattle.harq.specs.declared.sender.Visit.{Visit}
 use Rattle.harq.specs.declared.sender.Visit.TheVariants.{New, Resend, Silent}
 use Rattle.l2_bits.specs.declared.fault.SubmitRefusal.{SubmitRefusal}
-use Rattle.l2_node.specs.Building.{visited, building, visit, told_by as built_told}
+use Rattle.l2_node.specs.Building.{visited, building, visit, visit_events as built_told}
 use Rattle.l2_node.specs.End.{End, fresh}
 use Rattle.bearer_types.specs.Sides.{heard_by}
 use Rattle.l2_node.specs.Finding.{find, has, no_bearer, bearer_at}

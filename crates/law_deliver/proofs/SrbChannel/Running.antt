@@ -1,5 +1,5 @@
 -- The running life of a channel of signalling: as it begins, step by step, and as it ends.
-use Rattle.std.proofs.Common.{◌≡◌, ◌≤◌, ℕ, true, false, List, [], ◌∷◌, ◌++◌, append-nil, append_assoc, refl, ap, sym}
+use Rattle.std.proofs.Common.{◌≡◌, ◌≤◌, ℕ, List, [], ◌∷◌, ◌++◌, append-nil, append_assoc, refl, ap, sym}
 use Rattle.std.proofs.Common.{subst, ◌∙◌}
 use Rattle.std.specs.List.{AllByRecursion}
 use Rattle.bearer.specs.Bearer.{flow_of}
@@ -17,7 +17,7 @@ use Rattle.l2_types.specs.declared.Kind.{Kind}
 use Rattle.l2_types.specs.declared.Kind.TheVariants as kinds
 use Rattle.l2_types.specs.declared.side.Side.{Side}
 use Rattle.l2_types.specs.declared.side.Side.TheVariants.{Nb, Ue}
-use Rattle.law_node.specs.Calls.{Call, Move, after, run_end}
+use Rattle.law_node.specs.Calls.{Call, Move, after}
 use Rattle.law_node.specs.Holding.{flow}
 use Rattle.law_node.specs.Telling.{told_of, told_over}
 use Rattle.pdcp_pdu.specs.declared.PdcpKind.TheVariants.{Srb}
@@ -39,7 +39,7 @@ use Rattle.promises.specs.Events.{told_on, losses}
 use Rattle.law_deliver.proofs.AmFlow.Air.{begins_so}
 use Rattle.law_deliver.proofs.AmFlow.Runs.{goes_more}
 use Rattle.law_deliver.proofs.AmFlow.Stations.{Matches}
-use Rattle.law_deliver.proofs.AmFlow.Ups.{Stands, stands_more, the_end, come_between, between_at}
+use Rattle.law_deliver.proofs.AmFlow.Ups.{Stands, the_end, come_between, between_at}
 use Rattle.bearer_types.specs.declared.event.Event.{Event}
 use Rattle.law_deliver.specs.SrbDelivery.Losses.{near_losses, far_losses}
 use Rattle.law_deliver.specs.SrbDelivery.Life.{BothBegin, AreLived, near_ups, far_ups, near_submits, far_submits, over}
@@ -47,7 +47,8 @@ use Rattle.law_deliver.specs.SrbDelivery.Lives.{renewed_bearer, BothBeginAnew}
 use Rattle.law_deliver.proofs.SrbDelivery.Laws.{delivers_front, drained_delivers, nothing_is_lost, lived}
 use Rattle.law_deliver.proofs.SrbDelivery.Renewing.{fresh_begin, next_life}
 use Rattle.law_deliver.proofs.SrbChannel.Losing.{all_losses, end_losses, pair_losses}
-use Rattle.law_deliver.proofs.SrbChannel.Sums.{does, does_more, sums, call_new}
+use Rattle.law_deliver.proofs.SrbChannel.Queue.{stand_on, moved_stands}
+use Rattle.law_deliver.proofs.SrbChannel.Sums.{does, does_more, sums}
 use Rattle.law_deliver.proofs.SrbChannel.Walk.{Walks, Ready, SetsNone, walks}
 use Rattle.law_deliver.specs.AmChannel.Arrival.{happens_in, happened}
 use Rattle.law_deliver.proofs.AmChannel.Saying.{Speaks}
@@ -284,17 +285,11 @@ module _ (l : ℕ) (nb ue : End) (near far : State) (s : Start l nb ue near far)
 
   -- ---- as it ends
 
-  stand_on : (side : Side) (e : End) (cs : List Call) → Stands side l e → AllByRecursion (IsCall l) cs
-      → Stands side l (run_end cs e)
-  stand_on side e [] st g = st
-  stand_on side e (c ∷ cs) st g = let one = call_new l e c g.0 in
-      stand_on side (after e c) cs (stands_more side l e c st one.0 one.1) g.1
-
   pub stands_at : (side : Side) → Stands side l (end_at side (lives xs a))
   stands_at Nb =
-      subst (Stands Nb l) (sym (goes_by_calls Nb xs a)) (stand_on Nb nb (all_calls Nb xs a) s.nb_stands (calls Nb))
+      subst (Stands Nb l) (sym (goes_by_calls Nb xs a)) (stand_on Nb l nb (all_calls Nb xs a) s.nb_stands (calls Nb))
   stands_at Ue =
-      subst (Stands Ue l) (sym (goes_by_calls Ue xs a)) (stand_on Ue ue (all_calls Ue xs a) s.ue_stands (calls Ue))
+      subst (Stands Ue l) (sym (goes_by_calls Ue xs a)) (stand_on Ue l ue (all_calls Ue xs a) s.ue_stands (calls Ue))
 
   speaks_at : (side : Side) (e : End) (b : State) → Stands side l e → flow l e ≡ Am b → b.pdcp.kind ≡ Srb
       → Speaks (bits_of Srb) l b
@@ -318,16 +313,13 @@ module _ (l : ℕ) (nb ue : End) (near far : State) (s : Start l nb ue near far)
   anew : (keys : Keys) → BothBeginAnew last.near.bearer last.far.bearer keys
   anew keys = next_life near far r.steps keys s.both r.lived
 
-  moved_stands : (side : Side) (e : End) (keys : Keys) → Stands side l e → Stands side l (after e (Move keys))
-  moved_stands side e keys st = stands_more side l e (Move keys) st tt (λ p. let no : false ≡ true = p in absurd cc)
-
   moved : (side : Side) (e : End) (b : State) (keys : Keys) → Stands side l e → flow l e ≡ Am b
       → bearer_goes (Am b) (Restart keys) ≡ Am (renewed_bearer b keys)
       → Begins side l (after e (Move keys)) (renewed_bearer b keys)
   moved side e b keys st is left =
       let h = the_end side l e keys st in
       record {
-        come = (moved_stands side e keys st).come;
+        come = (moved_stands side l e keys st).come;
         there = h.there;
         bearer_is = h.bearer_is ∙ ap (λ (f : Flow). bearer_goes f (Restart keys)) is ∙ left;
         life = record { sends = refl; hears = refl };
@@ -343,8 +335,8 @@ module _ (l : ℕ) (nb ue : End) (near far : State) (s : Start l nb ue near far)
         nb_begins = moved Nb (lives xs a).nb.end last.near.bearer keys (stands_at Nb) r.nb_is.bearer_is
             n.near_anew.left;
         ue_begins = moved Ue (lives xs a).ue.end last.far.bearer keys (stands_at Ue) r.ue_is.bearer_is n.far_anew.left;
-        nb_stands = moved_stands Nb (lives xs a).nb.end keys (stands_at Nb);
-        ue_stands = moved_stands Ue (lives xs a).ue.end keys (stands_at Ue);
+        nb_stands = moved_stands Nb l (lives xs a).nb.end keys (stands_at Nb);
+        ue_stands = moved_stands Ue l (lives xs a).ue.end keys (stands_at Ue);
       }
 
   none_by : (side : Side) (e : End) (b : State) (keys : Keys) → Stands side l e → flow l e ≡ Am b

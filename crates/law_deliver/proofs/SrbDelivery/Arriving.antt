@@ -11,9 +11,7 @@ use Rattle.pdcp_rx.specs.declared.got.Got.{Got}
 use Rattle.pdcp_rx.specs.declared.got.Got.TheVariants as answers
 use Rattle.pdcp_rx.specs.State.{State as Receiving, got}
 use Rattle.rlc_pdu.specs.declared.fault.RlcRefusal.{RlcRefusal}
-use Rattle.rlc_pdu.specs.declared.Landed.{Landed}
-use Rattle.rlc_pdu.specs.declared.Landed.TheVariants.{Kept, Repeat, Outside, Clash}
-use Rattle.rlc_pdu.specs.declared.Turned.{Turned}
+use Rattle.rlc_pdu.specs.declared.Landed.TheVariants.{Clash}
 use Rattle.rlc_pdu.specs.Pdus.{AcknowledgedPdu, AmdPdu, StatusPdu, Payload, Status as Control}
 use Rattle.rlc_pdu.specs.Reading.{am_at}
 use Rattle.rlc_am_rx.specs.Machine.{arrived as landed_in, landed, turned}
@@ -23,7 +21,7 @@ use Rattle.rlc_am_tx.specs.Machine.{State as Sender, heard as heard_status, afte
 use Rattle.bearer_pdcp.specs.Ends.{Ends}
 use Rattle.bearer_pdcp.specs.Hearing.{ups, handed, got_told, got_left, got_applied, with_arrived, applies, heard_told}
 use Rattle.bearer_pdcp.specs.Hearing.{after_hearing}
-use Rattle.bearer_pdcp.specs.Telling.{landed_told, turned_told}
+use Rattle.bearer_pdcp.specs.Telling.{landed_told}
 use Rattle.bearer.specs.Acknowledged.State.{State, has_more, Work, work, with_work}
 use Rattle.bearer.specs.Acknowledged.Hearing.{started_told, stopped_told, settled_if, hears, hears_all, land_work}
 use Rattle.bearer.specs.Acknowledged.Hearing.{confirms, all_confirmed, status_work, arrived_told, arrived_left}
@@ -31,6 +29,7 @@ use Rattle.bearer.specs.Acknowledged.Hearing.{arriving as am_arriving, after_arr
 use Rattle.bearer.specs.Hearing.{arriving, arrived}
 use Rattle.law_bearer.specs.AnyBearer.Calls.{Arrive}
 use Rattle.law_bearer.specs.AmBearer.Calls.{IsIdle, tells, ups_among}
+use Rattle.law_bearer.proofs.AmBearer.Arriving.{landed_none}
 use Rattle.law_bearer.proofs.AmBearer.Keeping.{settled_news}
 use Rattle.law_bearer.proofs.AmBearer.Ups.{ups_then, none_then, ups_are}
 use Rattle.law_deliver.specs.AmFlow.Pair.{called}
@@ -124,21 +123,6 @@ heard_all (u ∷ us) first p n w h none some few =
     none (heard_all us first p (n + 1) v (behind_hears first p n w.pdcp.rx h) refl some.1 (omega (arith, few)))
 
 -- ---- a data PDU
-
-turned_none : (lcid : ℕ) (t : Turned) → ups_among (turned_told lcid t) ≡ []
-turned_none lcid t = by t.stopped t.started
-  where
-    by : (stopped started : Bool) → ups_among (turned_told lcid (record { stopped = stopped; started = started })) ≡ []
-    by true true = refl
-    by true false = refl
-    by false true = refl
-    by false false = refl
-
-landed_none : (lcid : ℕ) (l : Landed) (t : Turned) → ups_among (landed_told lcid l t) ≡ []
-landed_none lcid Kept t = turned_none lcid t
-landed_none lcid Repeat t = refl
-landed_none lcid Outside t = refl
-landed_none lcid Clash t = refl
 
 -- what it brings up are the next SDUs
 pub record DataComes (first : ℕ) (p : Protection) (n : ℕ) (us : List (List ℕ)) (b : State) (octets : List ℕ) : Type 0

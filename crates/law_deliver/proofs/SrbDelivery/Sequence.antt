@@ -36,7 +36,7 @@ use Rattle.pdcp_pdu.specs.declared.PdcpKind.TheVariants.{Srb}
 use Rattle.pdcp_sec.proofs.Lengths.{length_ciphered_with}
 use Rattle.pdcp_sec.specs.Protection.{Protection, ciphered_with}
 use Rattle.pdcp_tx.specs.Pdus.{pdu, mac_i}
-use Rattle.promises.specs.Sequence.{pdu_size, has_come, AreInSequence}
+use Rattle.promises.specs.Sequence.{pdu_size, sdu_has_come, AreInSequence}
 
 -- ---- the PDUs of SDUs
 
@@ -128,7 +128,7 @@ module _ (w : Way) (from to : BearerEnd) (sent up : List (List ℕ)) (j : Joined
       ∙ append-nil (passed j.steps begun))
       ∙ sym j.told_is
 
-  arrives_is : (place : ℕ) → arrives all place ≡ has_come sent w.told place
+  arrives_is : (place : ℕ) → arrives all place ≡ sdu_has_come sent w.told place
   arrives_is place =
       tell_what_arrives w.sending w.receiving steps given place
       ∙ ap (λ (t : Told). has_arrived (map length (offered all)) t.fields t.came place) told_all

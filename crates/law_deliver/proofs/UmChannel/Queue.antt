@@ -37,7 +37,7 @@ use Rattle.law_deliver.proofs.UmChannel.Leaving.{all_lens}
 
 -- ---- a bearer begins with nothing
 
-begun_plain : (kind : PdcpKind) (lcid first : ℕ) (keys : Keys) (side : Side)
+pub begun_plain : (kind : PdcpKind) (lcid first : ℕ) (keys : Keys) (side : Side)
     → IsPlain kind (begun_ends lcid kind first keys side)
 unfolding begun_ends start
 begun_plain kind lcid first keys side = record {
@@ -45,7 +45,7 @@ begun_plain kind lcid first keys side = record {
   sender = record { kind_is = refl; owes_none = refl; none_again = refl; none_given = refl };
 }
 
-begun_empty : (kind : PdcpKind) (lcid first : ℕ) (keys : Keys) (side : Side)
+pub begun_empty : (kind : PdcpKind) (lcid first : ℕ) (keys : Keys) (side : Side)
     → (begun_ends lcid kind first keys side).tx.waiting ≡ []
 unfolding begun_ends start
 begun_empty kind lcid first keys side = refl

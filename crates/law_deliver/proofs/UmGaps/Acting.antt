@@ -14,7 +14,7 @@ use Rattle.law_deliver.specs.UmFlow.Pair.{BearerEnd, Calls, Comes, Goes, comes, 
 use Rattle.law_deliver.proofs.UmFlow.Flows.{IsOn, to_on}
 use Rattle.law_deliver.proofs.UmFlow.Sending.{IsNoTake}
 use Rattle.um_losses.specs.Flow.{Flow}
-use Rattle.um_losses.specs.Names.{Happening}
+use Rattle.um_losses.specs.declared.flow.Happening.{Happening}
 use Rattle.um_losses.specs.Told.{all_after}
 use Rattle.law_deliver.proofs.UmGaps.Telling.{outs}
 use Rattle.law_deliver.proofs.UmGaps.Tracking.{Tracks, out_of, IsNoArrival, to_calls}

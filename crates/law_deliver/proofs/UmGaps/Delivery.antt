@@ -43,7 +43,7 @@ use Rattle.law_deliver.proofs.UmDelivery.Through.{Begin, begins_next as begin_ne
 use Rattle.law_deliver.specs.UmFlow.Calls.{near_calls, far_calls}
 use Rattle.law_deliver.specs.UmFlow.Pair.{Pair, Step as PairStep, goes, um_pair_outset, begins as pair_begins}
 use Rattle.um_losses.specs.Flow.{Flow, fresh_receiver, after, restarts}
-use Rattle.um_losses.specs.Names.{Happening}
+use Rattle.um_losses.specs.declared.flow.Happening.{Happening}
 use Rattle.um_losses.proofs.Long.{unlong}
 use Rattle.um_losses.specs.Told.{all_after}
 use Rattle.law_deliver.specs.UmGaps.Delivery.{first_flow, LossesAreTold, ChannelsDeliverAsTold}

@@ -4,7 +4,7 @@ use Rattle.std.proofs.Common.{List, [], ◌∷◌, ◌++◌, map, refl, ap, sym,
 use Rattle.std.proofs.lemmas.Bool.Decides.{nat_tests}
 use Rattle.law_deliver.specs.UmDelivery.Delivery.{FewBetween}
 use Rattle.um_losses.specs.Gaps.{counted, all_counted}
-use Rattle.um_losses.specs.Names.{Loss}
+use Rattle.um_losses.specs.declared.gaps.Gaps.{Gaps}
 use Rattle.um_losses.specs.Tags.{last_tag}
 
 -- one above the last COUNT, and whether one gap was long
@@ -17,7 +17,7 @@ tags_long counts low [] = false
 tags_long counts low (t ∷ ts) = (if t == 0 then false else nat_lt (low + counts) t)
     || tags_long counts (if t == 0 then low else t) ts
 
-pub record IsCounted (sdus : List (List ℕ)) (g h : Loss) : Type 0 where
+pub record IsCounted (sdus : List (List ℕ)) (g h : Gaps) : Type 0 where
   pub width_is : h.width ≡ g.width
   pub counts_are : h.counts ≡ g.counts
   pub top_is : h.top ≡ g.top
@@ -32,7 +32,7 @@ or_more : (x y z : Bool) → ((x || y) || z) ≡ (x || (y || z))
 or_more true y z = refl
 or_more false y z = refl
 
-counted_width : (tag : ℕ) (g : Loss) → ((counted tag g).width ≡ g.width) × ((counted tag g).counts ≡ g.counts)
+counted_width : (tag : ℕ) (g : Gaps) → ((counted tag g).width ≡ g.width) × ((counted tag g).counts ≡ g.counts)
     × ((counted tag g).top ≡ g.top)
 counted_width tag g = by_test (tag == 0) refl
   where
@@ -41,14 +41,14 @@ counted_width tag g = by_test (tag == 0) refl
     by_test true e = (rw e refl, rw e refl, rw e refl)
     by_test false e = (rw e refl, rw e refl, rw e refl)
 
-counted_next : (tag : ℕ) (g : Loss) → (counted tag g).next ≡ (if tag == 0 then g.next else tag)
+counted_next : (tag : ℕ) (g : Gaps) → (counted tag g).next ≡ (if tag == 0 then g.next else tag)
 counted_next tag g = by_test (tag == 0) refl
   where
     by_test : (b : Bool) → (tag == 0) ≡ b → (counted tag g).next ≡ (if tag == 0 then g.next else tag)
     by_test true e = rw e refl
     by_test false e = rw e refl
 
-counted_long : (tag : ℕ) (g : Loss)
+counted_long : (tag : ℕ) (g : Gaps)
     → (counted tag g).long ≡ (g.long || (if tag == 0 then false else nat_lt (g.next + g.counts) tag))
 counted_long tag g = by_test (tag == 0) refl
   where
@@ -57,7 +57,7 @@ counted_long tag g = by_test (tag == 0) refl
     by_test true e = rw e (or_false g.long)
     by_test false e = rw e refl
 
-pub all_counted_so : (sdus : List (List ℕ)) (g : Loss) → IsCounted sdus g (all_counted sdus g)
+pub all_counted_so : (sdus : List (List ℕ)) (g : Gaps) → IsCounted sdus g (all_counted sdus g)
 all_counted_so [] g = record {
   width_is = refl;
   counts_are = refl;
@@ -67,7 +67,7 @@ all_counted_so [] g = record {
 }
 all_counted_so (sdu ∷ sdus) g =
     let tag = last_tag sdu in
-    let k : Loss = counted tag g in
+    let k : Gaps = counted tag g in
     let rest = all_counted_so sdus k in
     let kept = counted_width tag g in
     let ts = map last_tag sdus in

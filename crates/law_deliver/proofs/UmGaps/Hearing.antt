@@ -40,7 +40,8 @@ use Rattle.law_deliver.specs.UmFlow.Pair.{BearerEnd, Deed, Calls as CallsBearer,
 use Rattle.law_deliver.specs.UmFlow.Pair.{called as called_by, does, IsShort}
 use Rattle.law_deliver.proofs.UmFlow.Standing.{IsCopyOf}
 use Rattle.um_losses.specs.Flow.{Flow, after}
-use Rattle.um_losses.specs.Names.{Happening, comes}
+use Rattle.um_losses.specs.declared.flow.Happening.{Happening}
+use Rattle.um_losses.specs.declared.flow.Happening.TheVariants.{BlockArrived}
 use Rattle.um_losses.specs.Told.{all_after}
 use Rattle.law_deliver.specs.UmGaps.Whats.{hears, brought, expiries}
 use Rattle.law_deliver.proofs.UmGaps.Acting.{plain_come_none, to_all_calls, to_goes}
@@ -69,7 +70,7 @@ arrivals_out : (l : ℕ) (b : State) (pdus : List (List ℕ)) → outs l b (map 
 arrivals_out l b [] = refl
 arrivals_out l b (p ∷ ps) = arrivals_out l (called_by b (Arrives p)) ps
 
-none_left : (p : ℕ) (f : Flow) → slice_index_or f.sending.under_way p None ≡ None → after (comes p) f ≡ f
+none_left : (p : ℕ) (f : Flow) → slice_index_or f.sending.under_way p None ≡ None → after (BlockArrived p) f ≡ f
 none_left p f e = rw e refl
 
 long_stays : (ws : List Happening) (f : Flow) → ws ≡ [] → all_after ws f ≡ f
@@ -130,8 +131,8 @@ module _ (l bits reorder counts : ℕ) (u : IsUmBits bits) (side oside : Side) (
   quiet c = out_so (Receive c.octets) (record { adds_none = refl; moves_none = refl })
       ∙ arrivals_out l m.bearer (carried l (heard_by s.end.side) c.octets)
 
-  brought_is : (c : Block) → all_after (brought l s.end (Some c)) f ≡ after (comes c.process) f
-  brought_is c = ap (λ (ws : List Happening). all_after ws (after (comes c.process) f)) (quiet c)
+  brought_is : (c : Block) → all_after (brought l s.end (Some c)) f ≡ after (BlockArrived c.process) f
+  brought_is c = ap (λ (ws : List Happening). all_after ws (after (BlockArrived c.process) f)) (quiet c)
 
   module _ (i : ℕ) (c : Block) (q : slice_get o.blocks i ≡ Some c) (x : Load) (at : slice_get loads i ≡ Some x)
       (is : x.block ≡ c) where
@@ -189,7 +190,7 @@ module _ (l bits reorder counts : ℕ) (u : IsUmBits bits) (side oside : Side) (
         ∙ at_front sp.before fl.copy sp.behind in
         let copy : IsCopyOf bits t.on.stands.f.made fl.copy =
         all_at (IsCopyOf bits t.on.stands.f.made) n.copies place fl.copy t.on.stands.copies_are there in
-        let told : all_after (brought l s.end (Some c)) f ≡ after (comes c.process) f = brought_is c in
+        let told : all_after (brought l s.end (Some c)) f ≡ after (BlockArrived c.process) f = brought_is c in
         let r : Came bits reorder counts u a xs b ys n m loads f c.process place =
         to_comes bits reorder counts u a xs b ys n m loads f c.process place fl.copy fl.flying t there copy
         (ap (λ (y : Block). slice_index_or f.sending.under_way y.process None) (sym is) ∙ fl.is) fl.number_is fl.there
@@ -201,7 +202,7 @@ module _ (l bits reorder counts : ℕ) (u : IsUmBits bits) (side oside : Side) (
         (subst (λ (g : Flow). Heard l bits reorder counts a xs b (ys ++ block_calls l s.end (Some c)) n m
         (PduComes place ∷ []) loads g) (sym told)
         (subst (λ (cs : List BearerCall). Heard l bits reorder counts a xs b (ys ++ cs) n m (PduComes place ∷ [])
-        loads (after (comes c.process) f)) calls
+        loads (after (BlockArrived c.process) f)) calls
         (record { near = (r.near, tt); tracks = r.tracks })))
 
   comes_by : (y : Option Block) (i : ℕ) → slice_get o.blocks i ≡ y → (all_after (brought l s.end y) f).gaps.long ≡ false

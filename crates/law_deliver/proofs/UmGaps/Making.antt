@@ -41,7 +41,10 @@ use Rattle.law_rlc.specs.UmPair.Run.{fresh}
 use Rattle.law_rlc.specs.UmPair.Send.{Step, Offer, Take as Takes, Flow as Made, made_by, goes, flow, at_first, joined}
 use Rattle.law_rlc.proofs.UmPair.Whole.{joined-more}
 use Rattle.um_losses.specs.Flow.{Flow, after}
-use Rattle.um_losses.specs.Names.{Fields, Flying, Happening, renews, writes}
+use Rattle.um_losses.specs.declared.pdu.Pdu.{Pdu}
+use Rattle.um_losses.specs.declared.sending.InFlight.{InFlight}
+use Rattle.um_losses.specs.declared.flow.Happening.{Happening}
+use Rattle.um_losses.specs.declared.flow.Happening.TheVariants.{BlockRenewed, PduWritten}
 use Rattle.um_losses.specs.Pdus.{is_pdu, ends_in}
 use Rattle.um_losses.specs.Sending.{written as written_into}
 use Rattle.um_losses.specs.Tags.{tags, tagged}
@@ -111,8 +114,8 @@ offers_octets [] s some h = h
 offers_octets (pdu ∷ pdus) s some h =
     offers_octets pdus (offered pdu s) some.1 (octets_push s.waiting.sdus pdu some.0 h)
 
-write_is : (p : ℕ) (pdu : Fields) (f : Flow) → is_pdu f.bits pdu ≡ true
-    → after (writes p pdu) f ≡ record f { sending = written_into p pdu f.sending }
+write_is : (p : ℕ) (pdu : Pdu) (f : Flow) → is_pdu f.bits pdu ≡ true
+    → after (PduWritten p pdu) f ≡ record f { sending = written_into p pdu f.sending }
 write_is p pdu f e = rw e refl
 
 -- ---- a new PDU with tags
@@ -200,7 +203,7 @@ few_elements tx size some room few =
 
 -- ---- what is under way
 
-under_more : (bits : ℕ) (tm : List UmdPdu) (q : UmdPdu) (under : List (Option Flying)) (loads : List Load)
+under_more : (bits : ℕ) (tm : List UmdPdu) (q : UmdPdu) (under : List (Option InFlight)) (loads : List Load)
     → AllByRecursion (IsUnder bits tm under) loads → AllByRecursion (IsUnder bits (tm ++ q ∷ []) under) loads
 under_more bits tm q under [] h = tt
 under_more bits tm q under (x ∷ xs) h = (one h.0, under_more bits tm q under xs h.1)
@@ -217,7 +220,7 @@ under_more bits tm q under (x ∷ xs) h = (one h.0, under_more bits tm q under x
       range = f.range;
     })
 
-under_set : (bits : ℕ) (tm : List UmdPdu) (under : List (Option Flying)) (p : ℕ) (y : Option Flying)
+under_set : (bits : ℕ) (tm : List UmdPdu) (under : List (Option InFlight)) (p : ℕ) (y : Option InFlight)
     (loads : List Load) → AllByRecursion (λ (x : Load). x.block.process ≡ p → ⊥) loads
     → AllByRecursion (IsUnder bits tm under) loads → AllByRecursion (IsUnder bits tm (slice_set under p y)) loads
 under_set bits tm under p y [] apart h = tt
@@ -239,7 +242,7 @@ under_set bits tm under p y (x ∷ xs) apart h = (one h.0, under_set bits tm und
           range = f.range;
         })
 
-pub under_except : (bits : ℕ) (tm : List UmdPdu) (under : List (Option Flying)) (k : ℕ) (loads : List Load)
+pub under_except : (bits : ℕ) (tm : List UmdPdu) (under : List (Option InFlight)) (k : ℕ) (loads : List Load)
     → AllByRecursion (IsUnder bits tm under) loads → AllByRecursion (IsUnder bits tm under) (except k loads)
 under_except bits tm under k [] h = h
 under_except bits tm under zero (x ∷ xs) h = h.1
@@ -291,7 +294,7 @@ module _ (bits reorder counts : ℕ) (u : IsUmBits bits) where
       (f : Flow) (x : Load) → x.copies ≡ [] → x.block.process < 8
       → AllByRecursion (λ (y : Load). y.block.process ≡ x.block.process → ⊥) loads
       → Tracks bits reorder counts a xs b ys n m loads f
-      → Tracks bits reorder counts a xs b ys n m (x ∷ loads) (after (renews x.block.process) f)
+      → Tracks bits reorder counts a xs b ys n m (x ∷ loads) (after (BlockRenewed x.block.process) f)
   begins_block a xs b ys n m loads f x none few apart h =
       let p = x.block.process in
       let old = f.sending.under_way in
@@ -373,14 +376,14 @@ module _ (bits reorder counts : ℕ) (u : IsUmBits bits) where
       → Tracks bits reorder counts a xs b ys n m loads f
       → Tracks bits reorder counts a (xs ++ Take share held ∷ []) b ys (does m n (Calls (Take share held))) m
       (x ∷ loads) (all_after (written_whats bits x.block.process (octets_of x.copies))
-      (after (renews x.block.process) f))
+      (after (BlockRenewed x.block.process) f))
   takes_none a xs b ys n m loads f share held x t q same none stays g copies few apart h =
       let d : State = n.bearer in
       let size = size_in share in
       let s : Sender = (feeding d share held).tx in
       let pdus = map (pdcp_pdu d.pdcp.tx) (takes (Um d) (Take share held)) in
       let p = x.block.process in
-      let k : Flow = after (renews p) f in
+      let k : Flow = after (BlockRenewed p) f in
       let gives_so : answer d share held ≡ turn_answer t s size =
       answers_so d share held ∙ ap (λ (y : Turn). turn_answer y s size) q in
       let empty : x.copies ≡ [] = copies ∙ ap (λ y. copies_with y []) gives_so ∙ same s size [] in
@@ -419,7 +422,7 @@ module _ (bits reorder counts : ℕ) (u : IsUmBits bits) where
       → Tracks bits reorder counts a xs b ys n m loads f
       → Tracks bits reorder counts a (xs ++ Take share held ∷ []) b ys (does m n (Calls (Take share held))) m
       (x ∷ loads) (all_after (written_whats bits x.block.process (octets_of x.copies))
-      (after (renews x.block.process) f))
+      (after (BlockRenewed x.block.process) f))
   takes_one a xs b ys n m loads f share held x most q g copies few apart h =
       let d : State = n.bearer in
       let size = size_in share in
@@ -463,8 +466,8 @@ module _ (bits reorder counts : ℕ) (u : IsUmBits bits) where
       ranged bits pdu (subst (λ (v : ℕ). pdu.sn < 2 ^ v) bits_are in'.number)
       (few_of (not s.waiting.begun) (not (ends_partly s size))) (some_lens pdu.elements in'.lens)
       (few_elements s size given.wait given.room' (omega (arith, most))) in
-      let k : Flow = after (renews p) f in
-      let told : written_whats bits p (octets_of x.copies) ≡ writes p (fields pdu) ∷ [] =
+      let k : Flow = after (BlockRenewed p) f in
+      let told : written_whats bits p (octets_of x.copies) ≡ PduWritten p (fields pdu) ∷ [] =
       ap (λ (cs : List Copy). written_whats bits p (octets_of cs)) own ∙ ap (λ r. as_written p r ++ []) read in
       let next : Flow = record k { sending = written_into p (fields pdu) k.sending } in
       let goes_to : all_after (written_whats bits p (octets_of x.copies)) k ≡ next =
@@ -473,7 +476,7 @@ module _ (bits reorder counts : ℕ) (u : IsUmBits bits) where
       let first = f.sending.ended in
       let tag : UmdPdu = tagged (Some first) (fields pdu) in
       let tm : List UmdPdu = h.tm ++ tag ∷ [] in
-      let flying : Flying = record { number = f.sending.sent; first = first; pdu = fields pdu } in
+      let flying : InFlight = record { number = f.sending.sent; first = first; pdu = fields pdu } in
       let under = f.sending.under_way in
       let empty = slice_set under p None in
       let many : length empty ≡ 8 = length-set under p None ∙ h.written.many in
@@ -541,7 +544,7 @@ module _ (bits reorder counts : ℕ) (u : IsUmBits bits) where
       → Tracks bits reorder counts a xs b ys n m loads f
       → Tracks bits reorder counts a (xs ++ Take share held ∷ []) b ys (does m n (Calls (Take share held))) m
       (x ∷ loads) (all_after (written_whats bits x.block.process (octets_of x.copies))
-      (after (renews x.block.process) f))
+      (after (BlockRenewed x.block.process) f))
   taken_by_turn a xs b ys n m loads f share held x Gives most q g copies few apart h =
       takes_one a xs b ys n m loads f share held x most q g copies few apart h
   taken_by_turn a xs b ys n m loads f share held x IsIdle most q g copies few apart h =
@@ -562,7 +565,7 @@ module _ (bits reorder counts : ℕ) (u : IsUmBits bits) where
       → Tracks bits reorder counts a xs b ys n m loads f
       → Tracks bits reorder counts a (xs ++ Take share held ∷ []) b ys (does m n (Calls (Take share held))) m
       (x ∷ loads) (all_after (written_whats bits x.block.process (octets_of x.copies))
-      (after (renews x.block.process) f))
+      (after (BlockRenewed x.block.process) f))
   from_takes a xs b ys n m loads f share held x most g copies few apart h =
       taken_by_turn a xs b ys n m loads f share held x (turn (feeding n.bearer share held).tx (size_in share) held)
       most refl g copies few apart h

@@ -41,7 +41,8 @@ use Rattle.law_deliver.proofs.UmChannel.Stations.{Matches}
 use Rattle.law_deliver.proofs.UmChannel.Visiting.{written_so}
 use Rattle.law_deliver.specs.UmFlow.Pair.{BearerEnd, Deed, Calls as CallsBearer}
 use Rattle.um_losses.specs.Flow.{Flow, after}
-use Rattle.um_losses.specs.Names.{Happening, renews}
+use Rattle.um_losses.specs.declared.flow.Happening.{Happening}
+use Rattle.um_losses.specs.declared.flow.Happening.TheVariants.{BlockRenewed}
 use Rattle.um_losses.specs.Told.{all_after}
 use Rattle.law_deliver.specs.UmGaps.Whats.{sends, sent_in, built, written as written_whats}
 use Rattle.law_deliver.proofs.UmGaps.Acting.{no_take, calls_copies, comes_copies, arrivals_take_none}
@@ -165,7 +166,7 @@ module _ (l bits reorder counts : ℕ) (u : IsUmBits bits) (side oside : Side) (
           tracks =
               subst (λ (os : List (List ℕ)). Tracks bits reorder counts a (xs ++ Takes share held ∷ []) b ys
               (does_all m n (CallsBearer (Takes share held) ∷ [])) m (x ∷ loads)
-              (all_after (written_whats bits p os) (after (renews p) f))) (sym carries) r;
+              (all_after (written_whats bits p os) (after (BlockRenewed p) f))) (sym carries) r;
         }
     builds false is q building done =
         let x : Load = record { block = new_of; copies = []; reports = [] } in
@@ -185,7 +186,7 @@ module _ (l bits reorder counts : ℕ) (u : IsUmBits bits) (side oside : Side) (
               subst (λ (zs : List BearerCall). Tracks bits reorder counts a zs b ys n m (x ∷ loads)
               (all_after (built l bits (sent_by side) New v (visited v.tti v.order s.end)) f)) (sym (append-nil xs))
               (subst (λ (os : List (List ℕ)). Tracks bits reorder counts a xs b ys n m (x ∷ loads)
-              (all_after (written_whats bits p os) (after (renews p) f))) (sym carries) r);
+              (all_after (written_whats bits p os) (after (BlockRenewed p) f))) (sym carries) r);
         }
 
     visits_by : (w : Visit) → visit v.tti v.order s.end ≡ w → IsVisiting w s v

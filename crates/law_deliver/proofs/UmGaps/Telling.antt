@@ -59,7 +59,8 @@ use Rattle.rlc_um.specs.Receiver.{arrival, expiring, expired, landing, turning, 
 use Rattle.rlc_um.specs.Sender.{is_hungry, taken as rlc_taken}
 use Rattle.law_deliver.specs.UmFlow.Pair.{called}
 use Rattle.law_deliver.proofs.UmFlow.Sending.{is_called}
-use Rattle.um_losses.specs.Names.{Happening, times_out}
+use Rattle.um_losses.specs.declared.flow.Happening.{Happening}
+use Rattle.um_losses.specs.declared.flow.Happening.TheVariants.{TimerExpired}
 use Rattle.law_deliver.specs.UmGaps.Whats.{expiry_in, expiries}
 use Rattle.law_deliver.proofs.UmGaps.Tracking.{out_expired, out_timed, out_of}
 
@@ -127,9 +128,9 @@ module _ (l : ℕ) where
   here : (lcid : ℕ) → lcid ≡ l → (lcid == l) ≡ true
   here lcid q = grind (arith, nat_tests, q)
 
-  again_out : (again : Bool) (lcid : ℕ) → lcid ≡ l → expiries l (expired_told lcid Reorder again) ≡ times_out ∷ []
-  again_out true lcid q = ap (λ (b : Bool). (if b then times_out ∷ [] else []) ++ []) (here lcid q)
-  again_out false lcid q = ap (λ (b : Bool). (if b then times_out ∷ [] else []) ++ []) (here lcid q)
+  again_out : (again : Bool) (lcid : ℕ) → lcid ≡ l → expiries l (expired_told lcid Reorder again) ≡ TimerExpired ∷ []
+  again_out true lcid q = ap (λ (b : Bool). (if b then TimerExpired ∷ [] else []) ++ []) (here lcid q)
+  again_out false lcid q = ap (λ (b : Bool). (if b then TimerExpired ∷ [] else []) ++ []) (here lcid q)
 
   expired_out : (x : Expired) (b : State) → b.pdcp.lcid ≡ l → expiries l (told_of (expiry_told x b)) ≡ out_expired x
   expired_out NotRunning b q = refl

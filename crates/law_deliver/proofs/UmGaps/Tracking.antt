@@ -33,7 +33,9 @@ use Rattle.law_rlc.specs.UmPair.Run.{fresh, happens, run_um_receiver, read_numbe
 use Rattle.law_rlc.specs.UmPair.Send.{Flow as Made, flow, at_first, joined}
 use Rattle.um_losses.specs.Flow.{Flow, all_gone, after}
 use Rattle.um_losses.specs.Gaps.{numbered}
-use Rattle.um_losses.specs.Names.{Flying, Happening, comes, times_out}
+use Rattle.um_losses.specs.declared.sending.InFlight.{InFlight}
+use Rattle.um_losses.specs.declared.flow.Happening.{Happening}
+use Rattle.um_losses.specs.declared.flow.Happening.TheVariants.{BlockArrived, TimerExpired}
 use Rattle.um_losses.specs.Pdus.{is_pdu}
 use Rattle.um_losses.specs.Tags.{tagged}
 use Rattle.um_losses.specs.Told.{all_after}
@@ -55,16 +57,16 @@ pub record Written (made tm : List UmdPdu) (begun : Bool) (f : Flow) : Type 0 wh
   pub many : length f.sending.under_way ≡ 8
 
 -- a PDU under way is the one that its process is told to have
-pub record IsFlying (bits : ℕ) (tm : List UmdPdu) (under : List (Option Flying)) (x : Load) : Type 0 where
+pub record IsFlying (bits : ℕ) (tm : List UmdPdu) (under : List (Option InFlight)) (x : Load) : Type 0 where
   pub copy : Copy
   pub copies_are : x.copies ≡ copy ∷ []
-  pub flying : Flying
+  pub flying : InFlight
   pub is : slice_index_or under x.block.process None ≡ Some flying
   pub number_is : flying.number ≡ copy.number
   pub there : slice_get tm copy.number ≡ Some (tagged (Some flying.first) flying.pdu)
   pub range : is_pdu bits flying.pdu ≡ true
 
-abbrev pub IsUnder : ℕ → List UmdPdu → List (Option Flying) → Load → Type 0
+abbrev pub IsUnder : ℕ → List UmdPdu → List (Option InFlight) → Load → Type 0
 IsUnder bits tm under x = ((x.copies ≡ []) × (slice_index_or under x.block.process None ≡ None))
     ⊎ IsFlying bits tm under x
 
@@ -93,7 +95,7 @@ heard_then bits reorder b ys d c q =
 -- what is told of a call's expiries
 abbrev pub out_expired : Expired → List Happening
 out_expired NotRunning = []
-out_expired (Done again) = times_out ∷ []
+out_expired (Done again) = TimerExpired ∷ []
 
 abbrev pub out_timed : Clock → Receiver → List Happening
 out_timed Poll r = []
@@ -202,14 +204,14 @@ module _ (bits reorder counts : ℕ) (u : IsUmBits bits) where
   -- ---- a PDU that is under way comes
 
   -- what is told to have come
-  abbrev arrived_as : Flying → Flow → Flow
+  abbrev arrived_as : InFlight → Flow → Flow
   arrived_as s f = record f {
     receiver = arrival (tagged (Some s.first) s.pdu) f.receiver;
     gaps = numbered s.number f.gaps;
   }
 
-  comes_as : (p : ℕ) (s : Flying) (f : Flow) → slice_index_or f.sending.under_way p None ≡ Some s
-      → is_pdu f.bits s.pdu ≡ true → after (comes p) f ≡ all_gone (arrived_as s f)
+  comes_as : (p : ℕ) (s : InFlight) (f : Flow) → slice_index_or f.sending.under_way p None ≡ Some s
+      → is_pdu f.bits s.pdu ≡ true → after (BlockArrived p) f ≡ all_gone (arrived_as s f)
   comes_as p s f q r = rw (q, r) refl
 
   read_calls : (r : Result UmdPdu RlcRefusal) (p : UmdPdu) (rx : Receiver) → r ≡ Ok p
@@ -220,14 +222,14 @@ module _ (bits reorder counts : ℕ) (u : IsUmBits bits) where
       (f : Flow) (p k : ℕ) : Type 0 where
     pub near : IsShort n m (Comes k)
     pub tracks : Tracks bits reorder counts a xs b (ys ++ calls_in n (Comes k)) n (does n m (Comes k)) loads
-        (after (comes p) f)
+        (after (BlockArrived p) f)
 
   pub to_comes : (a : State) (xs : List Call) (b : State) (ys : List Call) (n m : BearerEnd) (loads : List Load)
-      (f : Flow) (p k : ℕ) (c : Copy) (s : Flying) (h : Tracks bits reorder counts a xs b ys n m loads f)
+      (f : Flow) (p k : ℕ) (c : Copy) (s : InFlight) (h : Tracks bits reorder counts a xs b ys n m loads f)
       → slice_get n.copies k ≡ Some c → IsCopyOf bits h.on.stands.f.made c
       → slice_index_or f.sending.under_way p None ≡ Some s → s.number ≡ c.number
       → slice_get h.tm c.number ≡ Some (tagged (Some s.first) s.pdu)
-      → is_pdu bits s.pdu ≡ true → (after (comes p) f).gaps.long ≡ false → Came a xs b ys n m loads f p k
+      → is_pdu bits s.pdu ≡ true → (after (BlockArrived p) f).gaps.long ≡ false → Came a xs b ys n m loads f p k
   to_comes a xs b ys n m loads f p k c s h at copy is same there range short =
       let on = h.on in
       let st = on.stands in
@@ -235,7 +237,7 @@ module _ (bits reorder counts : ℕ) (u : IsUmBits bits) where
       let w : World = heard_in bits reorder b ys in
       let q : UmdPdu = tagged (Some s.first) s.pdu in
       let g : Flow = arrived_as s f in
-      let told : after (comes p) f ≡ all_gone g =
+      let told : after (BlockArrived p) f ≡ all_gone g =
       comes_as p s f is (ap (λ (n : ℕ). is_pdu n s.pdu) h.heard.bits_are ∙ range) in
       let counted = all_counted_so g.receiver.joined.ready g.gaps in
       let unlong : (numbered s.number f.gaps).long ≡ false =

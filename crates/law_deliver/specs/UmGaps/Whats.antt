@@ -26,16 +26,20 @@ use Rattle.law_node.specs.Telling.{told_of}
 use Rattle.rlc_pdu.specs.declared.fault.RlcRefusal.{RlcRefusal}
 use Rattle.rlc_pdu.specs.Pdus.{UmdPdu}
 use Rattle.rlc_pdu.specs.Reading.{umd_at}
-use Rattle.um_losses.specs.Names.{Fields, Happening, renews, writes, comes, times_out, begins_anew}
+use Rattle.um_losses.specs.declared.pdu.Pdu.{Pdu}
+use Rattle.um_losses.specs.declared.flow.Happening.{Happening}
+use Rattle.um_losses.specs.declared.flow.Happening.TheVariants.{BlockRenewed, PduWritten}
+use Rattle.um_losses.specs.declared.flow.Happening.TheVariants.{BlockArrived, TimerExpired}
+use Rattle.um_losses.specs.declared.flow.Happening.TheVariants.{LifeRestarted}
 
 -- a PDU as records show it
-abbrev pub fields : UmdPdu → Fields
+abbrev pub fields : UmdPdu → Pdu
 fields p = record { sn = p.sn; fi = p.fi; elements = length p.elements }
 
 -- ---- at the side that sends
 
 abbrev pub as_written : ℕ → Result UmdPdu RlcRefusal → List Happening
-as_written process (Ok pdu) = writes process (fields pdu) ∷ []
+as_written process (Ok pdu) = PduWritten process (fields pdu) ∷ []
 as_written process (Err refused) = []
 
 -- a new block of a process carries PDUs of the channel
@@ -46,7 +50,7 @@ written bits process (pdu ∷ pdus) =
 
 abbrev pub built : ℕ → ℕ → Direction → Visit → Turn → End → List Happening
 built l bits d New t e =
-    renews (t.tti % 8) ∷ written bits (t.tti % 8) (carried l d (new_block e t.grant))
+    BlockRenewed (t.tti % 8) ∷ written bits (t.tti % 8) (carried l d (new_block e t.grant))
 built l bits d (Resend rv) t e = []
 built l bits d Silent t e = []
 
@@ -64,7 +68,7 @@ sends side l bits e (Goes k) = []
 
 abbrev pub timed_out : Clock → List Happening
 timed_out Poll = []
-timed_out Reorder = times_out ∷ []
+timed_out Reorder = TimerExpired ∷ []
 timed_out Prohibit = []
 
 abbrev pub expiry_in : ℕ → Event → List Happening
@@ -77,7 +81,7 @@ expiries l told = flat_map (expiry_in l) told
 
 abbrev pub brought : ℕ → End → Option Block → List Happening
 brought l e None = []
-brought l e (Some b) = comes b.process ∷ expiries l (told_of e (Receive b.octets))
+brought l e (Some b) = BlockArrived b.process ∷ expiries l (told_of e (Receive b.octets))
 
 abbrev pub hears : ℕ → Station → End → Act → List Happening
 hears l other e (Calls c) = expiries l (told_of e c)
@@ -90,11 +94,11 @@ abbrev pub whats_in : Side → ℕ → ℕ → Air → AirStep → List Happenin
 whats_in Nb l bits a (InLife (AtNb x)) = sends Nb l bits a.nb.end x
 whats_in Nb l bits a (InLife (AtUe x)) = hears l a.nb a.ue.end x
 whats_in Nb l bits a (InLife Passes) = []
-whats_in Nb l bits a (Moves keys) = begins_anew ∷ expiries l (told_of a.ue.end (Move keys))
+whats_in Nb l bits a (Moves keys) = LifeRestarted ∷ expiries l (told_of a.ue.end (Move keys))
 whats_in Ue l bits a (InLife (AtNb x)) = hears l a.ue a.nb.end x
 whats_in Ue l bits a (InLife (AtUe x)) = sends Ue l bits a.ue.end x
 whats_in Ue l bits a (InLife Passes) = []
-whats_in Ue l bits a (Moves keys) = begins_anew ∷ expiries l (told_of a.nb.end (Move keys))
+whats_in Ue l bits a (Moves keys) = LifeRestarted ∷ expiries l (told_of a.nb.end (Move keys))
 
 abbrev pub whats : Side → ℕ → ℕ → List AirStep → Air → List Happening
 whats side l bits [] a = []

@@ -14,7 +14,7 @@ use Rattle.pdcp_rx.specs.declared.got.Cause.TheVariants.{Arrived, Reestablished}
 use Rattle.pdcp_rx.specs.declared.got.Got.TheVariants as answers
 use Rattle.pdcp_rx.specs.declared.security.Opened.TheVariants.{Sdu}
 use Rattle.pdcp_rx.specs.Heard.{heard}
-use Rattle.pdcp_rx.specs.Held.{Ends, is_held, stored, present, run, rising}
+use Rattle.pdcp_rx.specs.Held.{Ends, is_held, stored, present, leading_held, rising}
 use Rattle.pdcp_rx.specs.Opening.{opened}
 use Rattle.pdcp_rx.specs.State.{State, width, above, passed_over, opened_at, waits, raised, placed, got, got_heard}
 use Rattle.pdcp_rx.specs.State.{got_data, got_opened, left_heard, left_data, left_opened, arrived}
@@ -121,7 +121,7 @@ raises : (first : ℕ) (sdus : List (List ℕ)) (handed more : ℕ
     → Bool) (up : List (List ℕ)) (r : State) (hs : List (Option (List ℕ))) (m : ℕ) → Receives first sdus handed up r
     → ((n : ℕ) → handed n ≡ true → more n ≡ true) → ((k : ℕ) → is_held hs k ≡ more (r.next + k))
     → ((k : ℕ) (sdu : List ℕ) → slice_index_or hs k None ≡ Some sdu → slice_get sdus (r.next + k - first) ≡ Some sdu)
-    → Ends hs → m ≡ run hs
+    → Ends hs → m ≡ leading_held hs
     → Receives first sdus more up (record r {
       next = r.next + m;
       held = drop m hs;
@@ -145,7 +145,8 @@ raises first sdus handed more up r hs m h grows held is ends e =
       sdu_is = λ k sdu q. subst (λ n. slice_get sdus (n - first) ≡ Some sdu) (further k)
           (is (m + k) sdu (sym (dropped hs m k) ∙ q));
       up_is =
-          let all : take (r.next - first) sdus ++ present (take (run hs) hs) ≡ take (r.next - first + run hs) sdus =
+          let all : take (r.next - first) sdus ++ present (take (leading_held hs) hs)
+          ≡ take (r.next - first + leading_held hs) sdus =
           run_taken hs sdus (r.next - first)
           (λ k sdu q. subst (λ n. slice_get sdus n ≡ Some sdu) (place k) (is k sdu q)) in
           let end : r.next - first + m ≡ r.next + m - first = omega arith in

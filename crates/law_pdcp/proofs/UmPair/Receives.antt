@@ -12,7 +12,7 @@ use Rattle.pdcp_rx.specs.declared.got.Cause.TheVariants.{Arrived, Reestablished}
 use Rattle.pdcp_rx.specs.declared.got.Got.TheVariants as answers
 use Rattle.pdcp_rx.specs.declared.security.Opened.TheVariants.{Sdu}
 use Rattle.pdcp_rx.specs.Heard.{heard}
-use Rattle.pdcp_rx.specs.Held.{is_held, stored, present, run, rising}
+use Rattle.pdcp_rx.specs.Held.{is_held, stored, present, leading_held, rising}
 use Rattle.pdcp_rx.specs.Opening.{opened}
 use Rattle.pdcp_rx.specs.State.{State, width, above, passed_over, opened_at, waits, raised, got, got_heard, got_data}
 use Rattle.pdcp_rx.specs.State.{got_opened, left_heard, left_data, left_opened, arrived}
@@ -42,7 +42,7 @@ none_behind zero sdu = refl
 none_behind (suc k) sdu = none_behind k sdu
 
 rising_alone : (k : ℕ) (sdu : List ℕ) → rising (alone k sdu) (suc k) ≡ suc k
-rising_alone k sdu = ap (λ l. suc k + run l) (none_behind k sdu) ∙ omega arith
+rising_alone k sdu = ap (λ l. suc k + leading_held l) (none_behind k sdu) ∙ omega arith
 
 abbrev left_by : State → ℕ → List (Option (List ℕ)) → List (List ℕ) → State
 left_by r next held sdus = record r { next = next; held = held; ready = r.ready ++ sdus }

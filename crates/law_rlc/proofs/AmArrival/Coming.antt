@@ -4,7 +4,7 @@ use Rattle.std.proofs.Common.{length, slice_get, slice_range, slice_index_or, So
 use Rattle.std.proofs.Common.{subst, ◌∙◌, arith}
 use Rattle.std.proofs.lemmas.Bool.Decides.{nat_tests}
 use Rattle.rlc_pdu.specs.declared.Landed.{Landed}
-use Rattle.rlc_pdu.specs.declared.Landed.TheVariants.{Kept as Fresh, Repeat, Outside, Clash}
+use Rattle.rlc_pdu.specs.declared.Landed.TheVariants.{Kept, Repeat, Outside, Clash}
 use Rattle.rlc_pdu.specs.Pdus.{AmdPdu, Payload}
 use Rattle.rlc_pdu.specs.Reading.{am_at}
 use Rattle.rlc_am_rx_window.specs.Held.{Held}
@@ -161,8 +161,8 @@ keeps_brings f c p h q read sn part n i lt = by (landed s p) refl
     by : (l : Landed) → landed (receiver f).state p ≡ l
         → place_has_come (kept_after l (receiver f).state p (receiver f).kept) n i
         ≡ (brings p c.number n i || place_has_come (receiver f).kept n i)
-    by Fresh e =
-        let t = (tests Fresh e).inside (λ no. cc) in
+    by Kept e =
+        let t = (tests Kept e).inside (λ no. cc) in
         let off : at < 512 = grind (arith, nat_tests, t) in
         let is : number_read s p ≡ c.number = read_in s p c.number near off in
         let ends : end_of (piece_of p) ≡ so_of p.segment + octets_in p.elements =

@@ -7,7 +7,7 @@ use Rattle.std.proofs.lemmas.Bool.Decides.{nat_tests}
 use Rattle.std.proofs.lemmas.Bool.{cases_lt}
 use Rattle.std.proofs.lemmas.List.{get_or_past, get_or-drop, length-drop}
 use Rattle.rlc_pdu.specs.declared.Landed.{Landed}
-use Rattle.rlc_pdu.specs.declared.Landed.TheVariants.{Kept as Fresh, Repeat, Outside, Clash}
+use Rattle.rlc_pdu.specs.declared.Landed.TheVariants.{Kept, Repeat, Outside, Clash}
 use Rattle.rlc_pdu.specs.Pdus.{AmdPdu}
 use Rattle.rlc_am_rx_window.specs.Cells.{Cell, holds}
 use Rattle.rlc_am_rx_window.specs.Held.{Held, nothing}
@@ -110,7 +110,7 @@ pub record Landing (far repeat clash : Bool) (l : Landed) : Type 0 where
   pub again : l ≡ Repeat → repeat ≡ true
 
 pub landing_is : (far repeat clash : Bool)
-    → Landing far repeat clash (if far then Outside else if repeat then Repeat else if clash then Clash else Fresh)
+    → Landing far repeat clash (if far then Outside else if repeat then Repeat else if clash then Clash else Kept)
 landing_is true b c = record { outside = λ e. refl; inside = λ e. absurd (e refl); again = λ e. cc }
 landing_is false true c = record { outside = λ e. cc; inside = λ e. refl; again = λ e. refl }
 landing_is false false true = record { outside = λ e. cc; inside = λ e. refl; again = λ e. cc }

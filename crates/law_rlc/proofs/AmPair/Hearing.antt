@@ -6,7 +6,7 @@ use Rattle.std.specs.List.{AllByRecursion}
 use Rattle.std.proofs.lemmas.Bool.{cases_lt, le-ltb}
 use Rattle.std.proofs.Math.ListN.{length-set, length-replicate}
 use Rattle.rlc_pdu.specs.declared.Landed.{Landed}
-use Rattle.rlc_pdu.specs.declared.Landed.TheVariants.{Kept as Fresh, Repeat, Outside, Clash}
+use Rattle.rlc_pdu.specs.declared.Landed.TheVariants.{Kept, Repeat, Outside, Clash}
 use Rattle.rlc_pdu.specs.declared.fault.RlcRefusal.{RlcRefusal}
 use Rattle.rlc_pdu.specs.Pdus.{AmdPdu, AcknowledgedPdu, Payload}
 use Rattle.rlc_pdu.specs.Reading.{am_at}
@@ -14,7 +14,7 @@ use Rattle.law_rlc.specs.AmSender.Octets.{Place, segment_of}
 use Rattle.rlc_am_rx_window.specs.Cells.{Cell}
 use Rattle.rlc_am_rx_window.specs.Held.{Held, nothing, with_piece}
 use Rattle.rlc_am_rx_window.specs.Piece.{Piece, piece_of}
-use Rattle.rlc_am_rx_window.specs.Window.{Kept, top, offset_of, with_kept, widened, slot_at}
+use Rattle.rlc_am_rx_window.specs.Window.{RxWindow, top, offset_of, with_kept, widened, slot_at}
 use Rattle.rlc_am_rx.specs.State.{State}
 use Rattle.rlc_am_rx.specs.Machine.{landed, after_landing, after_reorder, window_with}
 use Rattle.law_rlc.specs.AmReceiver.Run.{Call, Arrive, Up, Write, ExpireReorder, ExpireProhibit, TickReorder}
@@ -64,7 +64,7 @@ in-order f h =
 
 landed-more : (l : Landed) (s : State) (p : AmdPdu) (ps : List Came) (n : ℕ) → IsComplete ps n
     → IsComplete (kept_after l s p ps) n
-landed-more Fresh s p ps n h = still-complete ps (came_of s p) n h
+landed-more Kept s p ps n h = still-complete ps (came_of s p) n h
 landed-more Repeat s p ps n h = h
 landed-more Outside s p ps n h = h
 landed-more Clash s p ps n h = h
@@ -132,7 +132,7 @@ receives-sound f Up g h =
     hears-sound f Up f.reports h tt (λ field agree. tt) h.top h.kept (old-reports f Up h) h.entries
 receives-sound f Write g h = absurd g
 receives-sound f ExpireReorder g h = hears-sound f ExpireReorder f.reports h tt (λ field agree. tt)
-    (subst (λ (w : Kept). top w ≤ length (sender f).past.sent)
+    (subst (λ (w : RxWindow). top w ≤ length (sender f).past.sent)
     (sym (expiry-window (receiver f).state.mark (receiver f).state)) h.top) h.kept (old-reports f ExpireReorder h)
     h.entries
 receives-sound f ExpireProhibit g h =
@@ -146,7 +146,7 @@ receives-sound f TickProhibit g h =
 
 -- ---- a data PDU comes
 
-kept-top : (w : Kept) (at : ℕ) (p : Piece) (poll : Bool) (most : ℕ) → top w ≤ most → w.front + at < most
+kept-top : (w : RxWindow) (at : ℕ) (p : Piece) (poll : Bool) (most : ℕ) → top w ≤ most → w.front + at < most
     → top (with_kept w at p poll) ≤ most
 kept-top w at p poll most h lt =
     let a = length-set (widened w.slots (at + 1)) at (with_piece (slot_at (widened w.slots (at + 1)) at) p poll) in
@@ -155,9 +155,9 @@ kept-top w at p poll most h lt =
     omega (arith, a, b, c, h, lt)
 
 landed-top : (l : Landed) (s : State) (p : AmdPdu) (most : ℕ)
-    → (l ≡ Fresh → s.window.front + offset_of s.window.front p.sn < most) → top s.window ≤ most
+    → (l ≡ Kept → s.window.front + offset_of s.window.front p.sn < most) → top s.window ≤ most
     → top (after_landing l s p).window ≤ most
-landed-top Fresh s p most within h =
+landed-top Kept s p most within h =
     let a = top-advanced (window_with s.window p) in
     let b = kept-top s.window (offset_of s.window.front p.sn) (piece_of p) p.poll most h (within refl) in
     omega (arith, a, b)
@@ -167,7 +167,7 @@ landed-top Clash s p most within h = h
 
 -- the number that is read is the number that was sent
 read-number : (s : State) (p : AmdPdu) (n : ℕ) → p.sn ≡ n % 1024 → s.window.front ≤ n + 512 → n < s.window.front + 512
-    → landed s p ≡ Fresh → s.window.front + offset_of s.window.front p.sn ≡ n
+    → landed s p ≡ Kept → s.window.front + offset_of s.window.front p.sn ≡ n
 read-number s p n sn from below e = elim (cases_lt n s.window.front) [
   | inl under ↦
       let far : 512 ≤ offset_of s.window.front (n % 1024) = offset-below s.window.front n under from in
@@ -181,10 +181,10 @@ read-number s p n sn from below e = elim (cases_lt n s.window.front) [
 ]
 
 landed-kept : (l : Landed) (s : State) (p : AmdPdu) (ps : List Came) (sent : List (List Place)) (n : ℕ)
-    → (l ≡ Fresh → s.window.front + offset_of s.window.front p.sn ≡ n) → n < length sent
+    → (l ≡ Kept → s.window.front + offset_of s.window.front p.sn ≡ n) → n < length sent
     → IsPart (cells_of (slice_index_or sent n [])) (piece_of p)
     → AllByRecursion (IsKept sent) ps → AllByRecursion (IsKept sent) (kept_after l s p ps)
-landed-kept Fresh s p ps sent n is lt part h = (
+landed-kept Kept s p ps sent n is lt part h = (
   subst (λ (m : ℕ). IsKept sent (record { number = m; piece = piece_of p })) (sym (is refl))
       (record { known = lt; part = part }),
   h,

@@ -5,13 +5,13 @@ use Rattle.std.proofs.Common.{ap, sym, subst, ◌∙◌, arith, nat_lt}
 use Rattle.std.proofs.lemmas.Bool.Decides.{nat_tests}
 use Rattle.std.proofs.lemmas.List.{append-nil, get_or_append_left, length-append}
 use Rattle.rlc_pdu.specs.declared.Landed.{Landed}
-use Rattle.rlc_pdu.specs.declared.Landed.TheVariants.{Kept as Fresh, Repeat, Outside, Clash}
+use Rattle.rlc_pdu.specs.declared.Landed.TheVariants.{Kept, Repeat, Outside, Clash}
 use Rattle.rlc_pdu.specs.declared.fault.RlcRefusal.{RlcRefusal}
 use Rattle.rlc_pdu.specs.Pdus.{AmdPdu, AcknowledgedPdu, Payload, Status as Control}
 use Rattle.rlc_pdu.specs.Reading.{am_at}
 use Rattle.rlc_am_rx_window.specs.Cells.{Cell}
 use Rattle.rlc_am_rx_window.specs.Piece.{piece_of}
-use Rattle.rlc_am_rx_window.specs.Window.{Kept, top, offset_of}
+use Rattle.rlc_am_rx_window.specs.Window.{RxWindow, top, offset_of}
 use Rattle.rlc_am_tx.specs.declared.turn.Turn.{Turn}
 use Rattle.rlc_am_tx.specs.declared.turn.Turn.TheVariants as turns
 use Rattle.rlc_am_tx.specs.Machine.{State as Sending, turn}
@@ -209,7 +209,7 @@ Brings v w = (top v.state.window ≤ top w.state.window) × ((n i : ℕ) → arr
 
 landing-brings : (l : Landed) (s : State) (p : AmdPdu) (ps : List Came)
     → Brings (record { state = s; kept = ps }) (record { state = after_landing l s p; kept = kept_after l s p ps })
-landing-brings Fresh s p ps =
+landing-brings Kept s p ps =
     let a = top-advanced (window_with s.window p) in
     let b = kept-length s.window (offset_of s.window.front p.sn) (piece_of p) p.poll in
     (omega (arith, a, b), λ n i e. grind (arith, nat_tests))
@@ -248,7 +248,7 @@ alike-window f g s w k = (
 
     come : (n i : ℕ) → arrived_in (receiver g) n i ≡ arrived_in (receiver f) n i
     come n i =
-        ap (λ (x : Kept). nat_lt n x.front || place_has_come (receiver g).kept n i) w
+        ap (λ (x : RxWindow). nat_lt n x.front || place_has_come (receiver g).kept n i) w
         ∙ ap (λ (cs : List Came). nat_lt n (receiver f).state.window.front || place_has_come cs n i) k
 
 alike-hears : (f g : Flow) (c : Call) → IsReceiving c → sender g ≡ sender f → receiver g ≡ heard_by (receiver f) c

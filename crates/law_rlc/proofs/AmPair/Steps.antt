@@ -3,7 +3,7 @@ use Rattle.std.proofs.Common.{◌≡◌, ℕ, Bool, true, false, List, [], ◌�
 use Rattle.std.proofs.Common.{Result, Ok, Err, if◌then◌else◌, refl, ap, sym, subst, ◌∙◌}
 use Rattle.std.proofs.lemmas.List.{append-nil}
 use Rattle.rlc_pdu.specs.declared.Landed.{Landed}
-use Rattle.rlc_pdu.specs.declared.Landed.TheVariants.{Kept as Fresh, Repeat, Outside, Clash}
+use Rattle.rlc_pdu.specs.declared.Landed.TheVariants.{Kept, Repeat, Outside, Clash}
 use Rattle.rlc_pdu.specs.declared.fault.RlcRefusal.{RlcRefusal}
 use Rattle.rlc_pdu.specs.Pdus.{AmdPdu, AcknowledgedPdu, Payload, Status as Control}
 use Rattle.rlc_pdu.specs.Reading.{am_at}
@@ -53,7 +53,7 @@ handed-grows j (h ∷ hs) given =
     by false own rest = own
 
 landing-grows : (l : Landed) (s : State) (p : AmdPdu) → AreFirstSdus s.out.ready (after_landing l s p).out.ready
-landing-grows Fresh s p = handed-grows s.out (window_with s.window p).slots (window_with s.window p).given
+landing-grows Kept s p = handed-grows s.out (window_with s.window p).slots (window_with s.window p).given
 landing-grows Repeat s p = front-itself s.out.ready
 landing-grows Outside s p = front-itself s.out.ready
 landing-grows Clash s p = front-itself s.out.ready

@@ -6,11 +6,11 @@ use Rattle.std.proofs.lemmas.Bool.{cases_lt}
 use Rattle.std.proofs.lemmas.List.{get_or-drop}
 use Rattle.l2_types.specs.declared.AmRxConfig.{AmRxConfig}
 use Rattle.rlc_pdu.specs.declared.Landed.{Landed}
-use Rattle.rlc_pdu.specs.declared.Landed.TheVariants.{Kept as Fresh, Repeat, Outside, Clash}
+use Rattle.rlc_pdu.specs.declared.Landed.TheVariants.{Kept, Repeat, Outside, Clash}
 use Rattle.rlc_pdu.specs.Pdus.{AmdPdu}
 use Rattle.rlc_am_rx_window.specs.Piece.{piece_of}
 use Rattle.rlc_am_rx_window.specs.Held.{Held, is_complete, nothing}
-use Rattle.rlc_am_rx_window.specs.Window.{Kept, top, offset_of, complete_first, first_incomplete, advanced, slot_at}
+use Rattle.rlc_am_rx_window.specs.Window.{RxWindow, top, offset_of, complete_first, first_incomplete, advanced, slot_at}
 use Rattle.rlc_am_rx.specs.State.{State}
 use Rattle.rlc_am_rx.specs.Machine.{landed, after_landing, after_reorder, window_with, mark_left, mark_begun}
 use Rattle.rlc_am_rx.specs.Machine.{bound_moved}
@@ -71,7 +71,7 @@ pub record IsFirst (ps : List Came) (from to : ℕ) : Type 0 where
   pub between : (n : ℕ) → from ≤ n → n < to → IsComplete ps n
   pub here : IsComplete ps to → ⊥
 
-pub moved-first : (ps : List Came) (w : Kept) (from : ℕ) → Agrees ps w.front w.slots
+pub moved-first : (ps : List Came) (w : RxWindow) (from : ℕ) → Agrees ps w.front w.slots
     → IsFirst ps from (bound_moved w from)
 moved-first ps w from a = record {
   le = omega arith;
@@ -109,7 +109,7 @@ landing-bound : (l : Landed) (s : State) (p : AmdPdu) (ps : List Came) (base : �
     → Bounded (record { world = record { state = s; kept = ps }; base = base })
     → IsBound (record { world = record { state = after_landing l s p; kept = kept_after l s p ps }; base = base })
     × MarkAbove (after_landing l s p).mark base × (base ≤ top (after_landing l s p).window)
-landing-bound Fresh s p ps base b =
+landing-bound Kept s p ps base b =
     let a : Agrees (came_of s p ∷ ps) s.window.front (window_with s.window p).slots =
     kept-agrees ps s.window (offset_of s.window.front p.sn) (piece_of p) p.poll b.keeps.agrees in
     let f : IsFirst (came_of s p ∷ ps) s.bound (bound_moved (window_with s.window p) s.bound) =

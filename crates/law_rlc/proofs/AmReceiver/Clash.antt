@@ -3,7 +3,7 @@ use Rattle.std.proofs.Common.{◌≡◌, ◌<◌, ◌≤◌, ℕ, suc, zero, ◌
 use Rattle.std.proofs.Common.{Option, Some, None, slice_get, refl, ap, sym, subst, ◌∙◌, arith, ltb, leb, if◌then◌else◌}
 use Rattle.std.proofs.lemmas.Bool.{lt-ltb, le-ltb, lt-leb, leb-false, eq-eqb, ne_eqb}
 use Rattle.l2_types.specs.declared.AmRxConfig.{AmRxConfig}
-use Rattle.rlc_pdu.specs.declared.Landed.TheVariants.{Kept as Fresh, Repeat, Outside, Clash}
+use Rattle.rlc_pdu.specs.declared.Landed.TheVariants.{Kept, Repeat, Outside, Clash}
 use Rattle.rlc_pdu.specs.Pdus.{AmdPdu}
 use Rattle.rlc_am_rx_window.specs.Cells.{Cell, cell_at, edge_between, edge_behind, differ, denies, ends_otherwise}
 use Rattle.rlc_am_rx_window.specs.Cells.{begins_otherwise}
@@ -110,7 +110,7 @@ lands field is o fits p part e = go (is_repeat o p) (is_clash o p) (none o fits)
     none None f = fits_none field is p part
     none (Some h) f = not_clash field is h (f h refl) p part
 
-    go : (a b : Bool) → b ≡ false → (if a then Repeat else if b then Clash else Fresh) ≡ Clash → ⊥
+    go : (a b : Bool) → b ≡ false → (if a then Repeat else if b then Clash else Kept) ≡ Clash → ⊥
     go true b n e = cc
     go false true n e = cc
     go false false n e = cc

@@ -7,11 +7,11 @@ use Rattle.std.proofs.lemmas.List.{get_or-drop}
 use Rattle.std.specs.List.{list_any}
 use Rattle.l2_types.specs.declared.AmRxConfig.{AmRxConfig}
 use Rattle.rlc_pdu.specs.declared.Landed.{Landed}
-use Rattle.rlc_pdu.specs.declared.Landed.TheVariants.{Kept as Fresh, Repeat, Outside, Clash}
+use Rattle.rlc_pdu.specs.declared.Landed.TheVariants.{Kept, Repeat, Outside, Clash}
 use Rattle.rlc_pdu.specs.Pdus.{AmdPdu}
 use Rattle.rlc_am_rx_window.specs.Piece.{piece_of}
 use Rattle.rlc_am_rx_window.specs.Held.{Held, nothing}
-use Rattle.rlc_am_rx_window.specs.Window.{Kept, offset_of, complete_first, first_incomplete, polled_in, slot_at}
+use Rattle.rlc_am_rx_window.specs.Window.{RxWindow, offset_of, complete_first, first_incomplete, polled_in, slot_at}
 use Rattle.rlc_am_rx.specs.State.{State}
 use Rattle.rlc_am_rx.specs.Machine.{landed, after_landing, after_reorder, window_with, bound_moved, poll_passed}
 use Rattle.rlc_am_rx.specs.Machine.{poll_below}
@@ -162,7 +162,7 @@ passed : (s : State) (p : AmdPdu) (polls : List ℕ)
 passed s p polls same above le =
     iff (poll_below w s.bound at p.poll || poll_passed w s.bound) (some_below (bound_moved w s.bound) new) there back
   where
-    w : Kept
+    w : RxWindow
     w = window_with s.window p
 
     at : ℕ
@@ -222,7 +222,7 @@ or_assoc false b c = refl
 
 landing-good : (l : Landed) (a : Asked) (p : AmdPdu) → a.state.window.front ≤ a.state.bound → Good a
     → Good (asked_on l a p (after_landing l a.state p))
-landing-good Fresh a p le g = record {
+landing-good Kept a p le g = record {
   due = or_assoc a.state.due (poll_below w a.state.bound at p.poll) (poll_passed w a.state.bound)
       ∙ ap (λ (b : Bool). a.state.due || b) (passed a.state p a.polls g.polls g.above le)
       ∙ ap (λ (b : Bool). b || some_below (bound_moved w a.state.bound) new) g.due;
@@ -239,7 +239,7 @@ landing-good Fresh a p le g = record {
   above = λ n h. left_above (bound_moved w a.state.bound) n new h;
 }
   where
-    w : Kept
+    w : RxWindow
     w = window_with a.state.window p
 
     at : ℕ
@@ -287,7 +287,7 @@ call-good m a TickReorder same b g = record { due = g.due; polls = g.polls; abov
 call-good m a TickProhibit same b g = record { due = g.due; polls = g.polls; above = g.above }
 
 landing-state : (l : Landed) (a : Asked) (p : AmdPdu) (s : State) → (asked_on l a p s).state ≡ s
-landing-state Fresh a p s = refl
+landing-state Kept a p s = refl
 landing-state Repeat a p s = refl
 landing-state Outside a p s = refl
 landing-state Clash a p s = refl

@@ -6,13 +6,14 @@ use Rattle.std.proofs.lemmas.Bool.{cases_lt, cases_eq, leb-false, lt-ltb, le-ltb
 use Rattle.std.proofs.lemmas.List.{append-nil, get_or-drop, take-append-drop}
 use Rattle.l2_types.specs.declared.AmRxConfig.{AmRxConfig}
 use Rattle.rlc_pdu.specs.declared.Landed.{Landed}
-use Rattle.rlc_pdu.specs.declared.Landed.TheVariants.{Kept as Fresh, Repeat, Outside, Clash}
+use Rattle.rlc_pdu.specs.declared.Landed.TheVariants.{Kept, Repeat, Outside, Clash}
 use Rattle.rlc_pdu.specs.Pdus.{AmdPdu}
 use Rattle.rlc_am_rx_window.specs.Cells.{Cell, first_of, over, placed, laid, leading}
 use Rattle.rlc_am_rx_window.specs.Piece.{Piece, piece_of, end_of}
 use Rattle.rlc_am_rx_window.specs.Held.{Held, is_complete, is_full, nothing, with_piece, told_size}
 use Rattle.rlc_am_rx_window.specs.Joined.{Joined, empty, opened, extended, closed, with_place, joined}
-use Rattle.rlc_am_rx_window.specs.Window.{Kept, offset_of, complete_first, with_kept, slot_at, handed_on, given_after}
+use Rattle.rlc_am_rx_window.specs.Window.{RxWindow, offset_of, complete_first, with_kept, slot_at, handed_on}
+use Rattle.rlc_am_rx_window.specs.Window.{given_after}
 use Rattle.rlc_am_rx_window.specs.Window.{landing}
 use Rattle.rlc_am_rx.specs.State.{State}
 use Rattle.rlc_am_rx.specs.Machine.{landed, after_landing, after_reorder, window_with}
@@ -300,7 +301,7 @@ piece-fits h p poll field part fits = record {
     end-within true e = omega (arith, part.last e)
     end-within false e = omega (arith, part.on e)
 
-kept-fits : (field : ℕ → List Cell) (w : Kept) (at : ℕ) (p : Piece) (poll : Bool) → IsPart (field (w.front + at)) p
+kept-fits : (field : ℕ → List Cell) (w : RxWindow) (at : ℕ) (p : Piece) (poll : Bool) → IsPart (field (w.front + at)) p
     → ((k : ℕ) → SlotFits (slot_at w.slots k) (field (w.front + k))) → (k : ℕ)
     → SlotFits (slot_at (with_kept w at p poll).slots k) (field (w.front + k))
 kept-fits field w at p poll part fits k = elim (cases_eq k at) [
@@ -310,7 +311,7 @@ kept-fits field w at p poll part fits k = elim (cases_eq k at) [
   | inr other ↦ subst (λ (h : Held). SlotFits h (field (w.front + k))) (sym (kept-other w at p poll k other)) (fits k)
 ]
 
-kept-lead : (w : Kept) (at : ℕ) (p : Piece) (poll : Bool)
+kept-lead : (w : RxWindow) (at : ℕ) (p : Piece) (poll : Bool)
     → length (leading (slot_at w.slots 0).cells) ≤ length (leading (slot_at (with_kept w at p poll).slots 0).cells)
 kept-lead w at p poll = elim (cases_eq 0 at) [
   | inl same ↦ subst (λ (j : ℕ). length (leading (slot_at w.slots j).cells)
@@ -338,22 +339,22 @@ number-sent field s p n sent below = elim (cases_lt n s.window.front) [
       subst (λ (m : ℕ). IsPart (field m) (piece_of p)) (sym number) sent.part
 ]
 
-pub kept-in : (s : State) (p : AmdPdu) → landed s p ≡ Fresh → ltb (offset_of s.window.front p.sn) 512 ≡ true
+pub kept-in : (s : State) (p : AmdPdu) → landed s p ≡ Kept → ltb (offset_of s.window.front p.sn) 512 ≡ true
 kept-in s p e = go (leb 512 (offset_of s.window.front p.sn)) refl
   where
     go : (b : Bool) → leb 512 (offset_of s.window.front p.sn) ≡ b → ltb (offset_of s.window.front p.sn) 512 ≡ true
-    go true out = let no : Outside ≡ Fresh =
+    go true out = let no : Outside ≡ Kept =
         sym
         (ap (λ (b : Bool). if b then Outside
         else landing (slice_get s.window.slots (offset_of s.window.front p.sn)) (piece_of p)) out) ∙ e in cc
     go false in_it = lt-ltb (offset_of s.window.front p.sn) 512 (leb-false 512 (offset_of s.window.front p.sn) in_it)
 
 landing-flows : (field : ℕ → List Cell) (l : Landed) (s : State) (gone : List (List ℕ)) (p : AmdPdu)
-    → (l ≡ Fresh → IsPart (field (s.window.front + offset_of s.window.front p.sn)) (piece_of p))
+    → (l ≡ Kept → IsPart (field (s.window.front + offset_of s.window.front p.sn)) (piece_of p))
     → Flows field (record { state = s; gone = gone })
     → Flows field (record { state = after_landing l s p; gone = gone })
-landing-flows field Fresh s gone p part h =
-    let w : Kept = window_with s.window p in
+landing-flows field Kept s gone p part h =
+    let w : RxWindow = window_with s.window p in
     let fits : (k : ℕ) → SlotFits (slot_at w.slots k) (field (s.window.front + k)) =
     kept-fits field s.window (offset_of s.window.front p.sn) (piece_of p) p.poll (part refl) h.fits in
     let lead : length (leading (slot_at s.window.slots 0).cells) ≤ length (leading (slot_at w.slots 0).cells) =

@@ -7,12 +7,12 @@ use Rattle.std.proofs.lemmas.Bool.{cases_eq, or_right, ne_eqb, eq-eqb}
 use Rattle.std.proofs.Math.ListN.{length-replicate}
 use Rattle.l2_types.specs.declared.AmRxConfig.{AmRxConfig}
 use Rattle.rlc_pdu.specs.declared.Landed.{Landed}
-use Rattle.rlc_pdu.specs.declared.Landed.TheVariants.{Kept as Fresh, Repeat, Outside, Clash}
+use Rattle.rlc_pdu.specs.declared.Landed.TheVariants.{Kept, Repeat, Outside, Clash}
 use Rattle.rlc_pdu.specs.Pdus.{AmdPdu}
 use Rattle.rlc_am_rx_window.specs.Cells.{Cell}
 use Rattle.rlc_am_rx_window.specs.Piece.{Piece, piece_of, end_of}
 use Rattle.rlc_am_rx_window.specs.Held.{Held, is_complete, is_full, nothing, with_piece, told_size}
-use Rattle.rlc_am_rx_window.specs.Window.{Kept, offset_of, complete_first, widened, with_kept, slot_at}
+use Rattle.rlc_am_rx_window.specs.Window.{RxWindow, offset_of, complete_first, widened, with_kept, slot_at}
 use Rattle.rlc_am_rx.specs.State.{State}
 use Rattle.rlc_am_rx.specs.Machine.{landed, after_landing, after_reorder, window_with}
 use Rattle.law_rlc.specs.AmReceiver.Run.{Call, Arrive, Up, Write, ExpireReorder, ExpireProhibit, TickReorder}
@@ -96,21 +96,21 @@ length-widened slots size =
       length-replicate {A = Held} (size - length slots) nothing,
     )
 
-pub kept-same : (w : Kept) (at : ℕ) (p : Piece) (poll : Bool)
+pub kept-same : (w : RxWindow) (at : ℕ) (p : Piece) (poll : Bool)
     → slot_at (with_kept w at p poll).slots at ≡ with_piece (slot_at w.slots at) p poll
 kept-same w at p poll =
     get_or-set_same (widened w.slots (at + 1)) at (with_piece (slot_at (widened w.slots (at + 1)) at) p poll) nothing
     (omega (arith, length-widened w.slots (at + 1)))
     ∙ ap (λ h. with_piece h p poll) (slot-widened w.slots (at + 1) at)
 
-pub kept-other : (w : Kept) (at : ℕ) (p : Piece) (poll : Bool) (k : ℕ) → (k ≡ at → ⊥)
+pub kept-other : (w : RxWindow) (at : ℕ) (p : Piece) (poll : Bool) (k : ℕ) → (k ≡ at → ⊥)
     → slot_at (with_kept w at p poll).slots k ≡ slot_at w.slots k
 kept-other w at p poll k other =
     get_or-set_other (widened w.slots (at + 1)) at k (with_piece (slot_at (widened w.slots (at + 1)) at) p poll)
     nothing other
     ∙ slot-widened w.slots (at + 1) k
 
-pub kept-agrees : (ps : List Came) (w : Kept) (at : ℕ) (p : Piece) (poll : Bool) → Agrees ps w.front w.slots
+pub kept-agrees : (ps : List Came) (w : RxWindow) (at : ℕ) (p : Piece) (poll : Bool) → Agrees ps w.front w.slots
     → Agrees (record { number = w.front + at; piece = p } ∷ ps) w.front (with_kept w at p poll).slots
 kept-agrees ps w at p poll a = record {
   slots_match = λ k. elim (cases_eq k at) [
@@ -184,7 +184,7 @@ pub record Keeps (w : World) : Type 0 where
 
 landing-keeps : (l : Landed) (s : State) (p : AmdPdu) (ps : List Came) → Keeps (record { state = s; kept = ps })
     → Keeps (record { state = after_landing l s p; kept = kept_after l s p ps })
-landing-keeps Fresh s p ps k = record {
+landing-keeps Kept s p ps k = record {
   agrees = popped-agrees (came_of s p ∷ ps) (window_with s.window p).slots s.window.front
       (kept-agrees ps s.window (offset_of s.window.front p.sn) (piece_of p) p.poll k.agrees);
   stops = popped-stops (window_with s.window p).slots;

@@ -5,11 +5,12 @@ use Rattle.std.proofs.Math.ListN.{length-set}
 use Rattle.std.proofs.lemmas.Grind.{common_steps}
 use Rattle.l2_types.specs.declared.AmRxConfig.{AmRxConfig}
 use Rattle.rlc_pdu.specs.declared.Landed.{Landed}
-use Rattle.rlc_pdu.specs.declared.Landed.TheVariants.{Kept as Fresh, Repeat, Outside, Clash}
+use Rattle.rlc_pdu.specs.declared.Landed.TheVariants.{Kept, Repeat, Outside, Clash}
 use Rattle.rlc_pdu.specs.Pdus.{AmdPdu}
 use Rattle.rlc_am_rx_window.specs.Piece.{Piece, piece_of}
 use Rattle.rlc_am_rx_window.specs.Held.{Held, nothing, with_piece}
-use Rattle.rlc_am_rx_window.specs.Window.{Kept, top, offset_of, complete_first, first_incomplete, widened, with_kept}
+use Rattle.rlc_am_rx_window.specs.Window.{RxWindow, top, offset_of, complete_first, first_incomplete, widened}
+use Rattle.rlc_am_rx_window.specs.Window.{with_kept}
 use Rattle.rlc_am_rx_window.specs.Window.{advanced, slot_at}
 use Rattle.rlc_am_rx.specs.State.{State}
 use Rattle.rlc_am_rx.specs.Machine.{landed, after_landing, after_reorder, settled, window_with, mark_left, mark_begun}
@@ -39,7 +40,7 @@ first-least (h ∷ hs) (suc k) = grind (arith, first-least hs k)
 pub incomplete-length : (slots : List Held) (k : ℕ) → k ≤ length slots → first_incomplete slots k ≤ length slots
 incomplete-length slots k h = omega (arith, first-length (drop k slots), length-drop k slots)
 
-pub top-advanced : (w : Kept) → top (advanced w) ≡ top w
+pub top-advanced : (w : RxWindow) → top (advanced w) ≡ top w
 top-advanced w = omega (arith, first-length w.slots, length-drop (complete_first w.slots) w.slots)
 
 mark-turned : (m : Option ℕ) (front top : ℕ) → MarkBelow m top
@@ -47,7 +48,7 @@ mark-turned : (m : Option ℕ) (front top : ℕ) → MarkBelow m top
 mark-turned None front top h = grind (arith, common_steps)
 mark-turned (Some x) front top h = grind (arith, common_steps)
 
-settled-order : (s : State) (w : Kept) (at : ℕ) (poll : Bool) → w.front ≡ s.window.front
+settled-order : (s : State) (w : RxWindow) (at : ℕ) (poll : Bool) → w.front ≡ s.window.front
     → length s.window.slots ≤ length w.slots → InOrder s → InOrder (settled s w at poll)
 settled-order s w at poll same more h = record {
   front = omega (arith, first-least w.slots (s.bound - w.front));
@@ -64,7 +65,8 @@ settled-order s w at poll same more h = record {
     higher None a b le h = tt
     higher (Some x) a b le h = omega (arith, le, h)
 
-pub kept-length : (w : Kept) (at : ℕ) (p : Piece) (poll : Bool) → length w.slots ≤ length (with_kept w at p poll).slots
+pub kept-length : (w : RxWindow) (at : ℕ) (p : Piece) (poll : Bool)
+    → length w.slots ≤ length (with_kept w at p poll).slots
 kept-length w at p poll =
     omega (
       arith,
@@ -73,7 +75,7 @@ kept-length w at p poll =
     )
 
 landing-order : (l : Landed) (s : State) (p : AmdPdu) → InOrder s → InOrder (after_landing l s p)
-landing-order Fresh s p h =
+landing-order Kept s p h =
     settled-order s (window_with s.window p) (offset_of s.window.front p.sn) p.poll refl
     (kept-length s.window (offset_of s.window.front p.sn) (piece_of p) p.poll) h
 landing-order Repeat s p h = record { front = h.front; bound = h.bound; mark = h.mark }

@@ -4,7 +4,7 @@ use Rattle.std.proofs.Common.{refl, ◌∙◌, nat_le, nat_lt, if◌then◌else�
 use Rattle.l2_num.specs.Timers.{Clock, runs, counted}
 use Rattle.l2_types.specs.declared.AmRxConfig.{AmRxConfig}
 use Rattle.rlc_pdu.specs.declared.Landed.{Landed}
-use Rattle.rlc_pdu.specs.declared.Landed.TheVariants.{Kept as Fresh, Repeat, Outside, Clash}
+use Rattle.rlc_pdu.specs.declared.Landed.TheVariants.{Kept, Repeat, Outside, Clash}
 use Rattle.rlc_pdu.specs.Pdus.{AmdPdu}
 use Rattle.rlc_am_rx_window.specs.Window.{top, advanced}
 use Rattle.rlc_am_rx.specs.State.{State}
@@ -33,7 +33,7 @@ turned (Some x) front high c h = go (nat_le x front) (nat_lt front high)
     go false b = h
 
 landing-runs : (l : Landed) (s : State) (p : AmdPdu) → Runs s → Runs (after_landing l s p)
-landing-runs Fresh s p h =
+landing-runs Kept s p h =
     turned s.mark (advanced (window_with s.window p)).front (top (advanced (window_with s.window p))) s.reorder h
 landing-runs Repeat s p h = h
 landing-runs Outside s p h = h

@@ -5,12 +5,12 @@ use Rattle.std.proofs.Common.{if◌then◌else◌}
 use Rattle.std.proofs.lemmas.Bool.{cases_lt, cases_eq, leb-false, ltb-false, lt-ltb, lt-leb, le-leb}
 use Rattle.std.proofs.lemmas.List.{get_or-drop}
 use Rattle.rlc_pdu.specs.declared.Landed.{Landed}
-use Rattle.rlc_pdu.specs.declared.Landed.TheVariants.{Kept as Fresh, Repeat, Outside, Clash}
+use Rattle.rlc_pdu.specs.declared.Landed.TheVariants.{Kept, Repeat, Outside, Clash}
 use Rattle.rlc_pdu.specs.Pdus.{AmdPdu}
 use Rattle.rlc_am_rx_window.specs.Cells.{differ}
 use Rattle.rlc_am_rx_window.specs.Piece.{Piece, piece_of, end_of}
 use Rattle.rlc_am_rx_window.specs.Held.{Held, nothing, with_piece, told_size, size_differs, disagrees}
-use Rattle.rlc_am_rx_window.specs.Window.{Kept, offset_of, complete_first, with_kept, slot_at, is_repeat, is_clash}
+use Rattle.rlc_am_rx_window.specs.Window.{RxWindow, offset_of, complete_first, with_kept, slot_at, is_repeat, is_clash}
 use Rattle.rlc_am_rx.specs.State.{State}
 use Rattle.rlc_am_rx.specs.Machine.{landed, after_landing, after_reorder, window_with}
 use Rattle.law_rlc.specs.AmReceiver.Run.{Call, Arrive, Up, Write, ExpireReorder, ExpireProhibit, TickReorder}
@@ -93,7 +93,7 @@ no_clash (s ∷ ss) zero p some agree =
     middle false false c e = refl
 no_clash (s ∷ ss) (suc at) p some agree = no_clash ss at p some agree
 
-kept-well : (w : Kept) (at : ℕ) (p : Piece) (poll : Bool) → 1 ≤ length p.cells
+kept-well : (w : RxWindow) (at : ℕ) (p : Piece) (poll : Bool) → 1 ≤ length p.cells
     → is_clash (slice_get w.slots at) p ≡ false → Well w.slots → Well (with_kept w at p poll).slots
 kept-well w at p poll some agree well k = elim (cases_eq k at) [
   | inl same ↦ subst (λ (j : ℕ). SlotWell (slot_at (with_kept w at p poll).slots j)) (sym same)
@@ -102,7 +102,7 @@ kept-well w at p poll some agree well k = elim (cases_eq k at) [
   | inr other ↦ subst (λ (h : Held). SlotWell h) (sym (kept-other w at p poll k other)) (well k)
 ]
 
-kept_no_clash : (s : State) (p : AmdPdu) → landed s p ≡ Fresh
+kept_no_clash : (s : State) (p : AmdPdu) → landed s p ≡ Kept
     → is_clash (slice_get s.window.slots (offset_of s.window.front p.sn)) (piece_of p) ≡ false
 kept_no_clash s p e = go (leb 512 at) (is_repeat held (piece_of p)) (is_clash held (piece_of p)) e
   where
@@ -112,16 +112,16 @@ kept_no_clash s p e = go (leb 512 at) (is_repeat held (piece_of p)) (is_clash he
     held : Option Held
     held = slice_get s.window.slots at
 
-    go : (a b c : Bool) → (if a then Outside else if b then Repeat else if c then Clash else Fresh) ≡ Fresh → c ≡ false
+    go : (a b c : Bool) → (if a then Outside else if b then Repeat else if c then Clash else Kept) ≡ Kept → c ≡ false
     go true b c e = cc
     go false true c e = cc
     go false false true e = cc
     go false false false e = refl
 
 landing-well : (l : Landed) (s : State) (p : AmdPdu) → 1 ≤ length (piece_of p).cells
-    → (l ≡ Fresh → is_clash (slice_get s.window.slots (offset_of s.window.front p.sn)) (piece_of p) ≡ false)
+    → (l ≡ Kept → is_clash (slice_get s.window.slots (offset_of s.window.front p.sn)) (piece_of p) ≡ false)
     → Well s.window.slots → Well (after_landing l s p).window.slots
-landing-well Fresh s p some agree well = λ k.
+landing-well Kept s p some agree well = λ k.
     subst (λ (x : Held). SlotWell x)
     (sym (get_or-drop (complete_first (window_with s.window p).slots) (window_with s.window p).slots k nothing))
     (kept-well s.window (offset_of s.window.front p.sn) (piece_of p) p.poll some (agree refl) well

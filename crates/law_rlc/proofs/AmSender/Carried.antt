@@ -8,7 +8,7 @@ use Rattle.l2_num.specs.Timers.{runs}
 use Rattle.rlc_pdu.specs.Pdus.{StatusPdu}
 use Rattle.rlc_queue.specs.NewPdu.{rest}
 use Rattle.rlc_am_tx_window.specs.Sent.{rested, sent_part, recalled, next_stretch}
-use Rattle.rlc_am_tx_window.specs.Window.{Kept, next, slot_at, offset_of, leading_acked, advanced}
+use Rattle.rlc_am_tx_window.specs.Window.{TxWindow, next, slot_at, offset_of, leading_acked, advanced}
 use Rattle.rlc_am_tx.specs.declared.turn.Turn.{Turn}
 use Rattle.rlc_am_tx.specs.declared.turn.Turn.TheVariants as turns
 use Rattle.rlc_am_tx.specs.Machine.{State, turn, after_turn, after_status, after_expiry, is_ignored, with_poll}
@@ -92,7 +92,7 @@ turn-carries turns.Small s size more p h = h
 turn-carries turns.Shut s size more p h = h
 turn-carries turns.Held s size more p h = h
 
-advanced-next : (w : Kept) → next (advanced w) ≡ next w
+advanced-next : (w : TxWindow) → next (advanced w) ≡ next w
 advanced-next w = let a = leading-length w.slots in let b = length-drop (leading_acked w.slots) w.slots in omega arith
 
 pub applied-next : (s : State) (below : ℕ) (status : StatusPdu)

@@ -12,7 +12,7 @@ use Rattle.std.specs.List.{sum, concat}
 use Rattle.l2_num.specs.Timers.{runs}
 use Rattle.rlc_am_tx_window.specs.Sent.{Sent, is_waiting, recalled, rested, sent_part}
 use Rattle.rlc_am_tx_window.specs.Sent.{next_stretch}
-use Rattle.rlc_am_tx_window.specs.Window.{Kept, next, nothing, slot_at, leading_idle}
+use Rattle.rlc_am_tx_window.specs.Window.{TxWindow, next, nothing, slot_at, leading_idle}
 use Rattle.rlc_am_tx_window.specs.Window.{some_wait, last_open}
 use Rattle.rlc_am_tx.specs.declared.turn.Turn.{Turn}
 use Rattle.rlc_am_tx.specs.declared.turn.Turn.TheVariants as turns
@@ -257,7 +257,7 @@ ended-window None true s = refl
 ended-window None false s = refl
 
 pub waits-of : (s t : State) → t.window ≡ s.window → waits t ≡ waits s
-waits-of s t e = ap (λ (w : Kept). some_wait w.slots) e
+waits-of s t e = ap (λ (w : TxWindow). some_wait w.slots) e
 
 pub expiry-watched : (b : Bool) (s : State) (more : Bool) → IsFull s
     → (0 < length s.window.slots → (slot_at s.window.slots 0).acked ≡ false) → Watched s
@@ -266,5 +266,5 @@ expiry-watched false s more full front h = h
 expiry-watched true s more full front h = λ f shut quiet.
     let w = ended-window (expiry_limit s more) false (expired s more) in
     absurd (expired-watched (recalled_place s more) s more refl full front
-    (sym (ap (λ (k : Kept). length k.slots) w) ∙ shut)
+    (sym (ap (λ (k : TxWindow). length k.slots) w) ∙ shut)
     (sym (waits-of (expired s more) (ended (expiry_limit s more) false (expired s more)) w) ∙ quiet))

@@ -6,10 +6,10 @@ use Rattle.std.proofs.lemmas.Grind.{common_steps}
 use Rattle.std.proofs.lemmas.Bool.Decides.{nat_tests}
 use Rattle.std.specs.List.{sum}
 use Rattle.rlc_pdu.specs.declared.pdu.Nack.{Nack}
-use Rattle.rlc_pdu.specs.Runs.{has, run, AreAscending}
+use Rattle.rlc_pdu.specs.Runs.{has, run_between, AreAscending}
 use Rattle.rlc_am_tx_window.specs.Sent.{Sent, is_new, considered, considered_by, gets_acked}
 use Rattle.rlc_am_tx_window.specs.Sent.{counted}
-use Rattle.rlc_am_tx_window.specs.Window.{Kept, next, slot_at, named_all, acked_from, is_named}
+use Rattle.rlc_am_tx_window.specs.Window.{TxWindow, next, slot_at, named_all, acked_from, is_named}
 use Rattle.rlc_am_tx_window.specs.Window.{leading_acked, advanced}
 use Rattle.law_rlc.specs.AmSender.Namings.{Marks, names, any_below, with_naming, is_open, heard_waits}
 use Rattle.law_rlc.specs.AmSender.Namings.{heard_namings, heard_marks}
@@ -30,12 +30,12 @@ pub record IsSlot (h : Sent) (waits : ℕ → Bool) (namings most : ℕ) : Type 
   pub whole : sum h.lens ≡ length h.field
 
 -- and the window
-pub record Holds (w : Kept) (m : Marks) (most : ℕ) : Type 0 where
+pub record Holds (w : TxWindow) (m : Marks) (most : ℕ) : Type 0 where
   pub slots : (k : ℕ) → k < length w.slots
       → IsSlot (slot_at w.slots k) (m.waits (w.base + k)) (m.namings (w.base + k)) most
   pub above : (n : ℕ) → next w ≤ n → (m.namings n ≡ 0) × ((i : ℕ) → m.waits n i ≡ false)
 
-pub has-all : (size i : ℕ) → i < size → has (run 0 size ∷ []) i ≡ true
+pub has-all : (size i : ℕ) → i < size → has (run_between 0 size ∷ []) i ≡ true
 has-all size i h = grind (arith, nat_tests)
 
 -- marks that agree on a number's octets and namings
@@ -130,13 +130,13 @@ closed-slot ps b h f n most e s = rw (named-acked ps h e, kept b) (same (some_pa
         idle (Some new) e = let no' : Some new ≡ None = e in cc
     same false = s
 
-abbrev pub final : Kept → ℕ → ℕ → List Nack → ℕ → Sent
+abbrev pub final : TxWindow → ℕ → ℕ → List Nack → ℕ → Sent
 final w below most ns k =
     if some_parts (parts_at w.base k ns)
     then considered most (acked_if (nat_lt k below) (named_by (parts_at w.base k ns) (slot_at w.slots k)))
     else acked_if (nat_lt k below) (named_by (parts_at w.base k ns) (slot_at w.slots k))
 
-pub final-slot : (w : Kept) (below most : ℕ) (ns : List Nack) (k : ℕ) → k < length w.slots
+pub final-slot : (w : TxWindow) (below most : ℕ) (ns : List Nack) (k : ℕ) → k < length w.slots
     → slot_at (heard_slots w below most ns) k ≡ final w below most ns k
 final-slot w below most ns k lt =
     let a = named-length w.base w.slots ns in let b = acked-length 0 below (named_all w.base w.slots ns) in
@@ -152,20 +152,20 @@ final-slot w below most ns k lt =
 pub back : (b k : ℕ) → b + k - b ≡ k
 back b k = omega arith
 
-pub open-is : (w : Kept) (k : ℕ) → k < length w.slots → is_open w (w.base + k) ≡ not (slot_at w.slots k).acked
+pub open-is : (w : TxWindow) (k : ℕ) → k < length w.slots → is_open w (w.base + k) ≡ not (slot_at w.slots k).acked
 open-is w k lt =
     let low : nat_le w.base (w.base + k) ≡ true = grind (arith, nat_tests) in
     let high : nat_lt (w.base + k) (next w) ≡ true = grind (arith, nat_tests) in
     rw (low, high, back w.base k) refl
 
-pub not-open : (w : Kept) (n : ℕ) → next w ≤ n → is_open w n ≡ false
+pub not-open : (w : TxWindow) (n : ℕ) → next w ≤ n → is_open w n ≡ false
 not-open w n le = let high : nat_lt n (next w) ≡ false = grind (arith, nat_tests) in rw high (off (nat_le w.base n))
   where
     off : (a : Bool) → (a && false) ≡ false
     off true = refl
     off false = refl
 
-pub waits-at : (w : Kept) (below : ℕ) (ns : List Nack) (m : Marks) (k i : ℕ) → k < length w.slots
+pub waits-at : (w : TxWindow) (below : ℕ) (ns : List Nack) (m : Marks) (k i : ℕ) → k < length w.slots
     → heard_waits w below ns m.waits (w.base + k) i
     ≡ (if not (slot_at w.slots k).acked then (
     if some_parts (parts_at w.base k ns) then m.waits (w.base + k) i
@@ -180,7 +180,8 @@ waits-at w below ns m k i lt =
       names-parts w.base k ns (length (slot_at w.slots k).field) i,
     ) refl
 
-namings-at : (w : Kept) (ns : List Nack) (m : Marks) (k : ℕ) → k < length w.slots → heard_namings w ns m (w.base + k)
+namings-at : (w : TxWindow) (ns : List Nack) (m : Marks) (k : ℕ) → k < length w.slots
+    → heard_namings w ns m (w.base + k)
     ≡ (if not (slot_at w.slots k).acked && some_parts (parts_at w.base k ns)
     then with_naming (m.namings (w.base + k))
     (any_below (length (slot_at w.slots k).field)
@@ -196,7 +197,7 @@ namings-at w ns m k lt =
     (λ i i_in. ap (λ (b : Bool). b && not (m.waits (w.base + k) i))
     (names-parts w.base k ns (length (slot_at w.slots k).field) i))))
 
-pub heard-slot : (w : Kept) (below most : ℕ) (ns : List Nack) (m : Marks) (k : ℕ) → k < length w.slots
+pub heard-slot : (w : TxWindow) (below most : ℕ) (ns : List Nack) (m : Marks) (k : ℕ) → k < length w.slots
     → IsSlot (slot_at w.slots k) (m.waits (w.base + k)) (m.namings (w.base + k)) most
     → IsSlot (slot_at (heard_slots w below most ns) k) (heard_waits w below ns m.waits (w.base + k))
     (heard_namings w ns m (w.base + k)) most
@@ -228,7 +229,7 @@ heard-slot w below most ns m k lt s =
         (open-slot (parts_at w.base k ns) (nat_lt k below) (slot_at w.slots k) (m.waits (w.base + k))
         (m.namings (w.base + k)) most e s)
 
-pub heard-holds : (w : Kept) (below most : ℕ) (ns : List Nack) (m : Marks) → Holds w m most
+pub heard-holds : (w : TxWindow) (below most : ℕ) (ns : List Nack) (m : Marks) → Holds w m most
     → Holds (advanced (record { base = w.base; slots = heard_slots w below most ns })) (heard_marks w below ns m) most
 heard-holds w below most ns m h = record {
   slots = λ k lt.

@@ -6,7 +6,7 @@ use Rattle.std.proofs.lemmas.Grind.{common_steps}
 use Rattle.rlc_pdu.specs.declared.pdu.Nack.{Nack}
 use Rattle.rlc_pdu.specs.declared.pdu.Part.{Part}
 use Rattle.rlc_am_tx_window.specs.Sent.{Sent, with_name, considered, considered_by, acknowledged}
-use Rattle.rlc_am_tx_window.specs.Window.{Kept, nothing, slot_at, offset_of, named_one, named_all, acked_from}
+use Rattle.rlc_am_tx_window.specs.Window.{TxWindow, nothing, slot_at, offset_of, named_one, named_all, acked_from}
 use Rattle.rlc_am_tx_window.specs.Window.{considered_one, considered_all}
 use Rattle.law_rlc.proofs.AmSender.Slots.{set_one}
 use Rattle.law_rlc.proofs.AmSender.Least.{heard_slots}
@@ -70,7 +70,7 @@ acked-keys at below (h ∷ hs) =
     ap (λ (k : Key). k ∷ keys (acked_from (at + 1) below hs)) (ack-keys (nat_lt at below) h)
     ∙ ap (λ (xs : List Key). key h ∷ xs) (acked-keys (at + 1) below hs)
 
-pub heard-keys : (w : Kept) (below most : ℕ) (ns : List Nack) → keys (heard_slots w below most ns) ≡ keys w.slots
+pub heard-keys : (w : TxWindow) (below most : ℕ) (ns : List Nack) → keys (heard_slots w below most ns) ≡ keys w.slots
 heard-keys w below most ns = considered-keys w.base most (acked_from 0 below (named_all w.base w.slots ns)) ns
     ∙ (acked-keys 0 below (named_all w.base w.slots ns) ∙ named-keys w.base w.slots ns)
 

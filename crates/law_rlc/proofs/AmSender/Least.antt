@@ -12,7 +12,7 @@ use Rattle.l2_types.specs.declared.config.AmTxConfig.{AmTxConfig}
 use Rattle.rlc_pdu.specs.declared.pdu.Nack.{Nack}
 use Rattle.rlc_pdu.specs.Pdus.{StatusPdu}
 use Rattle.rlc_am_tx_window.specs.Sent.{Sent, rested, sent_part, recalled, next_stretch}
-use Rattle.rlc_am_tx_window.specs.Window.{Kept, next, nothing, slot_at, offset_of, named_all, acked_from}
+use Rattle.rlc_am_tx_window.specs.Window.{TxWindow, next, nothing, slot_at, offset_of, named_all, acked_from}
 use Rattle.rlc_am_tx_window.specs.Window.{considered_all, is_named, leading_acked, advanced}
 use Rattle.rlc_am_tx.specs.declared.turn.Turn.{Turn}
 use Rattle.rlc_am_tx.specs.declared.turn.Turn.TheVariants as turns
@@ -28,7 +28,7 @@ use Rattle.law_rlc.proofs.AmSender.Slots.{named-length, all-acked, all-named, ac
 use Rattle.law_rlc.proofs.AmSender.Slots.{one-kept, considered-length, considered-acked, considered-named}
 use Rattle.law_rlc.proofs.AmSender.Slots.{leading-acked, leading-stop, leading-length, slot-drop}
 
-pub record Fits (w : Kept) (acked : ℕ → Bool) : Type 0 where
+pub record Fits (w : TxWindow) (acked : ℕ → Bool) : Type 0 where
   pub few : length w.slots ≤ 512
   pub below : (n : ℕ) → n < w.base → acked n ≡ true
   pub slots : (k : ℕ) → k < length w.slots → (slot_at w.slots k).acked ≡ acked (w.base + k)
@@ -37,7 +37,7 @@ pub record Fits (w : Kept) (acked : ℕ → Bool) : Type 0 where
   pub front : 0 < length w.slots → (slot_at w.slots 0).acked ≡ false
 
 -- a slot is changed that keeps its two marks
-pub changed : (w : Kept) (acked : ℕ → Bool) (at : ℕ) (h : Sent) → h.acked ≡ (slot_at w.slots at).acked
+pub changed : (w : TxWindow) (acked : ℕ → Bool) (at : ℕ) (h : Sent) → h.acked ≡ (slot_at w.slots at).acked
     → is_some h.named ≡ is_some (slot_at w.slots at).named → Fits w acked
     → Fits (record w { slots = set w.slots at h }) acked
 changed w acked at h a n f = record {
@@ -76,7 +76,7 @@ at-new (x ∷ xs) h zero e = absurd (omega arith)
 at-new (x ∷ xs) h (suc k) e = at-new xs h k (omega arith)
 
 -- a PDU is added
-pub added : (w : Kept) (acked : ℕ → Bool) (h : Sent) → h.acked ≡ false → is_some h.named ≡ false
+pub added : (w : TxWindow) (acked : ℕ → Bool) (h : Sent) → h.acked ≡ false → is_some h.named ≡ false
     → length w.slots < 512 → Fits w acked → Fits (record w { slots = w.slots ++ h ∷ [] }) acked
 added w acked h a n room f = record {
   few = omega (arith, length-append w.slots (h ∷ []));
@@ -113,15 +113,15 @@ turn-fits : (t : Turn) (s : State) (size : ℕ) (more : Bool) (acked : ℕ → B
     → Fits (after_turn t s size more).window acked
 unfolding after_turn
 turn-fits turns.Whole s size more acked room f =
-    subst (λ (w : Kept). Fits w acked) (sym (polled-window (is_wanted (sent_whole s) more) (sent_whole s)))
+    subst (λ (w : TxWindow). Fits w acked) (sym (polled-window (is_wanted (sent_whole s) more) (sent_whole s)))
     (changed s.window acked (first_place s) (rested (again s)) refl refl f)
 turn-fits turns.Part s size more acked room f =
-    subst (λ (w : Kept). Fits w acked)
+    subst (λ (w : TxWindow). Fits w acked)
     (sym (polled-window (is_wanted (sent_segment s size) more) (sent_segment s size)))
     (changed s.window acked (first_place s)
     (sent_part (again s) (next_stretch (again s) size).from (next_stretch (again s) size).to) refl refl f)
 turn-fits turns.New s size more acked room f =
-    subst (λ (w : Kept). Fits w acked) (sym (polled-window (is_wanted (sent_new s size) more) (sent_new s size)))
+    subst (λ (w : TxWindow). Fits w acked) (sym (polled-window (is_wanted (sent_new s size) more) (sent_new s size)))
     (added s.window acked (new_slot s size) refl refl (room refl) f)
 turn-fits turns.Idle s size more acked room f = f
 turn-fits turns.Stopped s size more acked room f = f
@@ -146,14 +146,15 @@ bool-plain true true = refl
 bool-plain true false = refl
 bool-plain false a = refl
 
-abbrev pub heard_slots : Kept → ℕ → ℕ → List Nack → List Sent
+abbrev pub heard_slots : TxWindow → ℕ → ℕ → List Nack → List Sent
 heard_slots w below most ns = considered_all w.base most (acked_from 0 below (named_all w.base w.slots ns)) ns
 
-pub heard-length : (w : Kept) (below most : ℕ) (ns : List Nack) → length (heard_slots w below most ns) ≡ length w.slots
+pub heard-length : (w : TxWindow) (below most : ℕ) (ns : List Nack)
+    → length (heard_slots w below most ns) ≡ length w.slots
 heard-length w below most ns = considered-length w.base most (acked_from 0 below (named_all w.base w.slots ns)) ns
     ∙ (acked-length 0 below (named_all w.base w.slots ns) ∙ named-length w.base w.slots ns)
 
-pub heard-acked : (w : Kept) (below most : ℕ) (ns : List Nack) (k : ℕ) → k < length w.slots
+pub heard-acked : (w : TxWindow) (below most : ℕ) (ns : List Nack) (k : ℕ) → k < length w.slots
     → (slot_at (heard_slots w below most ns) k).acked
     ≡ ((slot_at (named_all w.base w.slots ns) k).acked
     || (nat_lt (0 + k) below && not (is_some (slot_at (named_all w.base w.slots ns) k).named)))
@@ -163,7 +164,7 @@ heard-acked w below most ns k lt =
     ∙ (ap (λ (x : Sent). x.acked) (acked-at 0 below (named_all w.base w.slots ns) k (omega arith))
     ∙ one-closed (nat_lt (0 + k) below) (slot_at (named_all w.base w.slots ns) k))
 
-pub heard-named : (w : Kept) (below most : ℕ) (ns : List Nack) (k : ℕ) → k < length w.slots
+pub heard-named : (w : TxWindow) (below most : ℕ) (ns : List Nack) (k : ℕ) → k < length w.slots
     → is_some (slot_at (heard_slots w below most ns) k).named
     ≡ (is_some (slot_at (named_all w.base w.slots ns) k).named && not (is_named w.base k ns))
 heard-named w below most ns k lt =
@@ -173,7 +174,7 @@ heard-named w below most ns k lt =
     (ap (λ (x : Sent). x.named) (acked-at 0 below (named_all w.base w.slots ns) k (omega arith))
     ∙ one-kept (nat_lt (0 + k) below) (slot_at (named_all w.base w.slots ns) k))
 
-pub heard : (w : Kept) (acked : ℕ → Bool) (below most : ℕ) (ns : List Nack) → below ≤ length w.slots → Fits w acked
+pub heard : (w : TxWindow) (acked : ℕ → Bool) (below most : ℕ) (ns : List Nack) → below ≤ length w.slots → Fits w acked
     → Fits (advanced (record { base = w.base; slots = heard_slots w below most ns }))
     (λ n. acked n || (true && acks w.base below ns n))
 heard w acked below most ns within f = record {
@@ -238,7 +239,7 @@ heard w acked below most ns within f = record {
     beyond n le = grind (arith, nat_tests)
 
 -- the same numbers, told otherwise
-same-fits : (w : Kept) (f g : ℕ → Bool) → ((n : ℕ) → g n ≡ f n) → Fits w f → Fits w g
+same-fits : (w : TxWindow) (f g : ℕ → Bool) → ((n : ℕ) → g n ≡ f n) → Fits w f → Fits w g
 same-fits w f g e h = record {
   few = h.few;
   below = λ n lt. e n ∙ h.below n lt;
@@ -267,7 +268,7 @@ status-fits true s status acked e f =
     (λ n. or-false (acked n) (acks s.window.base (offset_of s.window.base status.ack) status.nacks n)) f
 status-fits false s status acked e f =
     subst
-    (λ (w : Kept). Fits w
+    (λ (w : TxWindow). Fits w
     (λ n. acked n || (true && acks s.window.base (offset_of s.window.base status.ack) status.nacks n)))
     (sym (ended-window (limit_of s (offset_of s.window.base status.ack) status.nacks)
     (stops s (offset_of s.window.base status.ack) status.nacks)
@@ -285,7 +286,7 @@ expiry-fits : (b : Bool) (s : State) (more : Bool) (acked : ℕ → Bool) → Fi
     → Fits (if b then ended (expiry_limit s more) false (expired s more) else s).window acked
 expiry-fits false s more acked f = f
 expiry-fits true s more acked f =
-    subst (λ (w : Kept). Fits w acked) (sym (ended-window (expiry_limit s more) false (expired s more)))
+    subst (λ (w : TxWindow). Fits w acked) (sym (ended-window (expiry_limit s more) false (expired s more)))
     (recalled-fits (recalled_place s more) (with_owed s) acked f)
 
 pub settled-window : (b : Bool) (s : State) → (settled_by b s).window ≡ s.window
@@ -301,7 +302,7 @@ after-fits s (Take size held more) acked f =
 after-fits s (Status status) acked f = status-fits (is_ignored s status.ack) s status acked refl f
 after-fits s Tick acked f = f
 after-fits s (Expire more) acked f = expiry-fits (runs s.polls.timer) s more acked f
-after-fits s (Settle more) acked f = subst (λ (k : Kept). Fits k acked) (sym (settled-window (settles s more) s)) f
+after-fits s (Settle more) acked f = subst (λ (k : TxWindow). Fits k acked) (sym (settled-window (settles s more) s)) f
 after-fits s Confirm acked f = f
 
 run-fits : (calls : List Call) (w : World (ℕ → Bool)) → Fits w.state.window w.past

@@ -10,7 +10,7 @@ use Rattle.l2_types.specs.declared.config.AmTxConfig.{AmTxConfig}
 use Rattle.rlc_pdu.specs.declared.pdu.Nack.{Nack}
 use Rattle.rlc_pdu.specs.Pdus.{StatusPdu}
 use Rattle.rlc_am_tx_window.specs.Sent.{Sent, is_spent, recalled}
-use Rattle.rlc_am_tx_window.specs.Window.{Kept, next, nothing, slot_at, offset_of, is_named, least, or_spent}
+use Rattle.rlc_am_tx_window.specs.Window.{TxWindow, next, nothing, slot_at, offset_of, is_named, least, or_spent}
 use Rattle.rlc_am_tx_window.specs.Window.{spent_among}
 use Rattle.rlc_am_tx_window.proofs.RingSteps.{slot-past}
 use Rattle.rlc_am_tx.specs.declared.turn.Turn.{Turn}
@@ -146,7 +146,7 @@ naming-most n new = step ((n == 0) || new)
     step true = omega arith
     step false = omega arith
 
-heard-most : (w : Kept) (ns : List Nack) (m : Marks) (n : ℕ) → heard_namings w ns m n ≤ m.namings n + 1
+heard-most : (w : TxWindow) (ns : List Nack) (m : Marks) (n : ℕ) → heard_namings w ns m n ≤ m.namings n + 1
 heard-most w ns m n = step (is_open w n && is_named w.base (n - w.base) ns)
   where
     step : (b : Bool)
@@ -159,12 +159,12 @@ heard-most w ns m n = step (is_open w n && is_named w.base (n - w.base) ns)
     step false = omega arith
 
 -- a number that isn't named is left alone
-record IsHere (w : Kept) (ns : List Nack) (n k : ℕ) : Type 0 where
+record IsHere (w : TxWindow) (ns : List Nack) (n k : ℕ) : Type 0 where
   number : n ≡ w.base + k
   within : k < length w.slots
   named : is_named w.base k ns ≡ true
 
-open-here : (w : Kept) (ns : List Nack) (n : ℕ) → is_open w n ≡ true → is_named w.base (n - w.base) ns ≡ true
+open-here : (w : TxWindow) (ns : List Nack) (n : ℕ) → is_open w n ≡ true → is_named w.base (n - w.base) ns ≡ true
     → IsHere w ns n (n - w.base)
 open-here w ns n o e =
     let b = both (nat_le w.base n) (nat_lt n (next w)) (not (slot_at w.slots (n - w.base)).acked) o in
@@ -176,7 +176,7 @@ open-here w ns n o e =
     both true false c e = (refl, e)
     both false b c e = let no' : false ≡ true = e in cc
 
-heard-or : (w : Kept) (ns : List Nack) (m : Marks) (n : ℕ)
+heard-or : (w : TxWindow) (ns : List Nack) (m : Marks) (n : ℕ)
     → (heard_namings w ns m n ≡ m.namings n) ⊎ IsHere w ns n (n - w.base)
 heard-or w ns m n = step (is_open w n) (is_named w.base (n - w.base) ns) refl refl
   where
@@ -186,7 +186,7 @@ heard-or w ns m n = step (is_open w n) (is_named w.base (n - w.base) ns) refl re
     step true false o e = inl (rw (o, e) refl)
     step false e o f = inl (rw o refl)
 
-heard-spent : (w : Kept) (below most : ℕ) (ns : List Nack) (m : Marks) (k : ℕ) → Holds w m most → k < length w.slots
+heard-spent : (w : TxWindow) (below most : ℕ) (ns : List Nack) (m : Marks) (k : ℕ) → Holds w m most → k < length w.slots
     → is_spent (slot_at (heard_slots w below most ns) k).retransmissions most
     ≡ nat_lt most (heard_namings w ns m (w.base + k))
 heard-spent w below most ns m k h lt =
@@ -194,7 +194,7 @@ heard-spent w below most ns m k h lt =
     ∙ spent-is (heard_namings w ns m (w.base + k)) most
 
 -- a number that isn't spent has few namings
-few-at : (w : Kept) (below most : ℕ) (ns : List Nack) (m : Marks) (n : ℕ) → Holds w m most → AreFew m.namings most
+few-at : (w : TxWindow) (below most : ℕ) (ns : List Nack) (m : Marks) (n : ℕ) → Holds w m most → AreFew m.namings most
     → ((k : ℕ) → n ≡ w.base + k → k < length w.slots → is_named w.base k ns ≡ true
     → Spent (heard_slots w below most ns) most k → ⊥)
     → heard_namings w ns m n ≤ most
@@ -210,7 +210,7 @@ few-at w below most ns m n h few away = elim (heard-or w ns m n) [
         (heard-spent w below most ns m (n - w.base) h here.within
         ∙ (ap (λ (j : ℕ). nat_lt most (heard_namings w ns m j)) (sym here.number) ∙ e)))
 
-heard-limit : (w : Kept) (below most : ℕ) (ns : List Nack) (m : Marks) (o : Option ℕ) → Holds w m most
+heard-limit : (w : TxWindow) (below most : ℕ) (ns : List Nack) (m : Marks) (o : Option ℕ) → Holds w m most
     → AreFew m.namings most
     → Answers w.base most (heard_slots w below most ns) None ns o
     → IsLimit (limit_in false w.base o) (heard_namings w ns m) most
@@ -289,15 +289,15 @@ expired-limit (Some at) s m lt h few =
 
 -- ---- any call
 
-record Knows (s : State) (m : Marks) : Type 0 where
-  stands : Stands s m
-  few : s.failed ≡ false → AreFew m.namings s.config.max_retx
+pub record Knows (s : State) (m : Marks) : Type 0 where
+  pub stands : Stands s m
+  pub few : s.failed ≡ false → AreFew m.namings s.config.max_retx
 
-polled-failed : (b : Bool) (s : State) → (with_poll b s).failed ≡ s.failed
+pub polled-failed : (b : Bool) (s : State) → (with_poll b s).failed ≡ s.failed
 polled-failed true s = refl
 polled-failed false s = refl
 
-turn-failed : (t : Turn) (s : State) (size : ℕ) (more : Bool) → (after_turn t s size more).failed ≡ s.failed
+pub turn-failed : (t : Turn) (s : State) (size : ℕ) (more : Bool) → (after_turn t s size more).failed ≡ s.failed
 unfolding after_turn
 turn-failed turns.Whole s size more = polled-failed (is_wanted (sent_whole s) more) (sent_whole s)
 turn-failed turns.Part s size more = polled-failed (is_wanted (sent_segment s size) more) (sent_segment s size)
@@ -318,7 +318,7 @@ turn-namings turns.Small s size m = refl
 turn-namings turns.Shut s size m = refl
 turn-namings turns.Held s size m = refl
 
-settled-failed : (b : Bool) (s : State) → (settled_by b s).failed ≡ s.failed
+pub settled-failed : (b : Bool) (s : State) → (settled_by b s).failed ≡ s.failed
 settled-failed true s = refl
 settled-failed false s = refl
 
@@ -393,7 +393,7 @@ expiry-few true s more m k e =
     (λ f. expiry-limit s.failed s more m refl (sym (recalled-failed (recalled_place s more) (with_owed s)) ∙ f)
     k.stands (k.few (sym (recalled-failed (recalled_place s more) (with_owed s)) ∙ f))) e)
 
-after-few : (s : State) (c : Call) (m : Marks) → Knows s m → (after s c).failed ≡ false
+pub after-few : (s : State) (c : Call) (m : Marks) → Knows s m → (after s c).failed ≡ false
     → AreFew (marks_after s c m).namings (after s c).config.max_retx
 unfolding after_status after_expiry
 after-few s (Offer sdu) m k e = k.few e
@@ -410,7 +410,7 @@ after-few s (Settle more) m k e =
     (k.few (sym (settled-failed (settles s more) s) ∙ e))
 after-few s Confirm m k e = k.few e
 
-run-knows : (calls : List Call) (w : World Marks) → Knows w.state w.past
+pub run-knows : (calls : List Call) (w : World Marks) → Knows w.state w.past
     → Knows (run_am_sender marks_after calls w).state (run_am_sender marks_after calls w).past
 run-knows [] w k = k
 run-knows (c ∷ cs) w k =
@@ -480,7 +480,7 @@ expiry-says s more m k f = step (runs s.polls.timer)
         s.config.max_retx (expiry-limit s.failed s more m refl f k.stands (k.few f))
     step false = tt
 
-silent : (s : State) (size : ℕ) (held : Option ℕ) (more : Bool) → s.failed ≡ true → IsSilent (turn s size held more)
+pub silent : (s : State) (size : ℕ) (held : Option ℕ) (more : Bool) → s.failed ≡ true → IsSilent (turn s size held more)
 unfolding turn
 silent s size held more f = rw f (step (_))
   where

@@ -11,11 +11,11 @@ use Rattle.std.specs.List.{sum}
 use Rattle.l2_num.specs.Timers.{runs}
 use Rattle.l2_types.specs.declared.config.AmTxConfig.{AmTxConfig}
 use Rattle.rlc_pdu.specs.Pdus.{StatusPdu}
-use Rattle.rlc_pdu.specs.Runs.{run, lies_in}
+use Rattle.rlc_pdu.specs.Runs.{run_between, lies_in}
 use Rattle.rlc_pdu.proofs.RunSteps.{added_has, added_ascends}
 use Rattle.rlc_am_tx_window.specs.Sent.{Sent, rested, recalled}
 use Rattle.rlc_am_tx_window.specs.Sent.{sent_part, next_stretch, counted, fresh}
-use Rattle.rlc_am_tx_window.specs.Window.{Kept, nothing, slot_at, offset_of}
+use Rattle.rlc_am_tx_window.specs.Window.{TxWindow, nothing, slot_at, offset_of}
 use Rattle.rlc_am_tx_window.specs.Window.{last_open}
 use Rattle.rlc_am_tx.specs.declared.turn.Turn.{Turn}
 use Rattle.rlc_am_tx.specs.declared.turn.Turn.TheVariants as turns
@@ -54,7 +54,7 @@ keep-other : (w r : Bool) → (w && not (false && r)) ≡ w
 keep-other true r = refl
 keep-other false r = refl
 
-resent-holds : (w : Kept) (m : Marks) (most at : ℕ) (h : Sent) (from to : ℕ)
+resent-holds : (w : TxWindow) (m : Marks) (most at : ℕ) (h : Sent) (from to : ℕ)
     → (at < length w.slots
     → IsSlot h (λ i. m.waits (w.base + at) i && not (nat_le from i && nat_lt i to)) (m.namings (w.base + at)) most)
     → Holds w m most → Holds (record w { slots = set w.slots at h }) (resent m (w.base + at) from to) most
@@ -120,7 +120,7 @@ part-slot : (h : Sent) (f : ℕ → Bool) (n most from to : ℕ) → from < to �
 part-slot h f n most from to lt s = record {
   ascends = λ some. added_ascends h.resting from to lt (s.ascends some);
   rests = λ i i_in. added_has h.resting from to lt i
-      ∙ (ap (λ (b : Bool). lies_in (run from to) i || b) (s.rests i i_in)
+      ∙ (ap (λ (b : Bool). lies_in (run_between from to) i || b) (s.rests i i_in)
       ∙ bool-part (nat_le from i && nat_lt i to) (f i));
   count = s.count;
   plain = s.plain;
@@ -182,7 +182,7 @@ fresh-slot field lens begins ends place most w = record {
   whole = w;
 }
 
-new-holds : (w : Kept) (m : Marks) (most : ℕ) (h : Sent) → IsSlot h (λ i. false) 0 most → Holds w m most
+new-holds : (w : TxWindow) (m : Marks) (most : ℕ) (h : Sent) → IsSlot h (λ i. false) 0 most → Holds w m most
     → Holds (record w { slots = w.slots ++ h ∷ [] }) m most
 new-holds w m most h s f = record {
   slots = λ k lt. elim (cases_lt k (length w.slots)) [

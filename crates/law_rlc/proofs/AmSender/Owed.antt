@@ -6,7 +6,7 @@ use Rattle.std.proofs.Common.{set}
 use Rattle.std.proofs.lemmas.Grind.{common_steps}
 use Rattle.rlc_pdu.specs.declared.pdu.Nack.{Nack}
 use Rattle.rlc_pdu.specs.declared.pdu.Part.{Part}
-use Rattle.rlc_pdu.specs.Runs.{run as of_all}
+use Rattle.rlc_pdu.specs.Runs.{run_between as of_all}
 use Rattle.rlc_am_tx_window.specs.Ledger.{Ledger, credited_all}
 use Rattle.rlc_am_tx_window.specs.Sent.{Sent, with_name, considered}
 use Rattle.rlc_am_tx_window.specs.Sent.{considered_by, gets_acked}

@@ -6,7 +6,7 @@ use Rattle.std.proofs.lemmas.Bool.Decides.{nat_tests}
 use Rattle.std.proofs.lemmas.Bool.{cases_lt, cases_eq}
 use Rattle.std.specs.Prelude.{MatchOption}
 use Rattle.rlc_pdu.specs.declared.pdu.Part.{Part}
-use Rattle.rlc_pdu.specs.Runs.{Run, run, lies_in, has, removed, AreAscending, gap_in}
+use Rattle.rlc_pdu.specs.Runs.{Run, run_between, lies_in, has, removed, AreAscending, gap_in}
 use Rattle.rlc_pdu.specs.Places.{IsGap}
 use Rattle.rlc_pdu.proofs.RunSteps.{removed_has, removed_ascends}
 use Rattle.rlc_pdu.proofs.PlaceLaws.{gaps_are_first}
@@ -75,7 +75,7 @@ woken-has size runs from to i lt h = step ((from == 0) && (to == size)) (whole-t
         → has (if b then [] else removed runs from to) i ≡ (has runs i && not (nat_le from i && nat_lt i to))
     step true w = let p = w refl in let a = p.0 in let b = p.1 in
         bool-none (has runs i) (nat_le from i && nat_lt i to) (within from to i (omega arith) (omega arith))
-    step false w = removed_has runs from to lt i ∙ bool-swap (lies_in (run from to) i) (has runs i)
+    step false w = removed_has runs from to lt i ∙ bool-swap (lies_in (run_between from to) i) (has runs i)
 
 pub woken-ascends : (size : ℕ) (runs : List Run) (from to : ℕ) → from < to → AreAscending 0 runs
     → AreAscending 0 (woken size runs from to)

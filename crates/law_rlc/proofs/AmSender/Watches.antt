@@ -8,7 +8,7 @@ use Rattle.l2_num.specs.Timers.{Clock, runs, ticked, counted}
 use Rattle.rlc_pdu.specs.declared.pdu.Nack.{Nack}
 use Rattle.rlc_pdu.specs.Pdus.{StatusPdu}
 use Rattle.rlc_am_tx_window.specs.Sent.{Sent, is_waiting, recalled, considered, considered_by}
-use Rattle.rlc_am_tx_window.specs.Window.{Kept, slot_at, offset_of, leading_idle, leading_acked}
+use Rattle.rlc_am_tx_window.specs.Window.{TxWindow, slot_at, offset_of, leading_idle, leading_acked}
 use Rattle.rlc_am_tx_window.specs.Window.{is_named}
 use Rattle.rlc_am_tx.specs.Machine.{State, start, turn, waits, is_shut, is_quiet, after_status}
 use Rattle.rlc_am_tx.specs.Machine.{after_expiry, is_ignored}
@@ -54,7 +54,7 @@ considered-field : (o : Option Bool) (most : ℕ) (h : Sent) → (considered_by 
 considered-field None most h = refl
 considered-field (Some new) most h = refl
 
-final-field : (w : Kept) (below most : ℕ) (ns : List Nack) (k : ℕ) → (slot_at w.slots k).acked ≡ false
+final-field : (w : TxWindow) (below most : ℕ) (ns : List Nack) (k : ℕ) → (slot_at w.slots k).acked ≡ false
     → (final w below most ns k).field ≡ (slot_at w.slots k).field
 final-field w below most ns k e = step (some_parts (parts_at w.base k ns))
   where
@@ -73,7 +73,8 @@ final-field w below most ns k e = step (some_parts (parts_at w.base k ns))
     step false = kept
 
 -- what a STATUS names waits
-named-waits : (w : Kept) (below most : ℕ) (ns : List Nack) (m : Marks) (k i : ℕ) → Holds w m most → k < length w.slots
+named-waits : (w : TxWindow) (below most : ℕ) (ns : List Nack) (m : Marks) (k i : ℕ) → Holds w m most
+    → k < length w.slots
     → is_named w.base k ns ≡ true → (slot_at w.slots k).acked ≡ false
     → i < length (slot_at w.slots k).field → names w.base k ns (length (slot_at w.slots k).field) i ≡ true
     → is_waiting (slot_at (heard_slots w below most ns) k) ≡ true
@@ -97,7 +98,8 @@ none-parts [] e = refl
 none-parts (p ∷ ps) e = let no' : true ≡ false = e in cc
 
 -- what it doesn't name, and that doesn't lie below its ACK_SN, stays
-still-slot : (w : Kept) (below most : ℕ) (ns : List Nack) (k : ℕ) → k < length w.slots → is_named w.base k ns ≡ false
+still-slot : (w : TxWindow) (below most : ℕ) (ns : List Nack) (k : ℕ) → k < length w.slots
+    → is_named w.base k ns ≡ false
     → below ≡ 0 → slot_at (heard_slots w below most ns) k ≡ slot_at w.slots k
 still-slot w below most ns k lt e z =
     final-slot w below most ns k lt
@@ -256,7 +258,7 @@ status-watched true s status m acked e honest g = g.watched
 status-watched false s status m acked e honest g = λ f shut quiet.
     let w = ended-window (limit_of s below status.nacks) (stops s below status.nacks) (read s below status.nacks) in
     let shut' : length (read s below status.nacks).window.slots ≡ 512 =
-    sym (ap (λ (k : Kept). length k.slots) w) ∙ shut in
+    sym (ap (λ (k : TxWindow). length k.slots) w) ∙ shut in
     let quiet' : waits (read s below status.nacks) ≡ false =
     sym (waits-of (read s below status.nacks) (applied s below status.nacks) w) ∙ quiet in
     let t = still s status below m acked refl g.stands honest g.fits
@@ -275,7 +277,7 @@ status-watched false s status m acked e honest g = λ f shut quiet.
     within : offset_of s.window.base status.ack ≤ length s.window.slots
     within = grind (arith, nat_tests)
 
-any-field : (w : Kept) (below most : ℕ) (ns : List Nack) (k : ℕ)
+any-field : (w : TxWindow) (below most : ℕ) (ns : List Nack) (k : ℕ)
     → (final w below most ns k).field ≡ (slot_at w.slots k).field
 any-field w below most ns k = by (slot_at w.slots k).acked refl
   where
@@ -302,7 +304,8 @@ status-full : (b : Bool) (s : State) (status : StatusPdu) → IsFull s
     → IsFull (if b then s else applied s (offset_of s.window.base status.ack) status.nacks)
 status-full true s status h = h
 status-full false s status h = record {
-  slots = λ k lt. subst (λ (w : Kept). k < length w.slots → 0 < length (slot_at w.slots k).field) (sym w) (here k) lt;
+  slots = λ k lt. subst (λ (w : TxWindow). k < length w.slots → 0 < length (slot_at w.slots k).field)
+      (sym w) (here k) lt;
   queue =
       subst (λ (q : _). HaveOctets q.sdus)
       (sym (queue-same (limit_of s below status.nacks) (stops s below status.nacks))) h.queue;

@@ -4,7 +4,7 @@ use Rattle.std.specs.Prelude.{if◌then◌else◌}
 use Rattle.std.specs.List.{list_any}
 use Rattle.l2_types.specs.declared.AmRxConfig.{AmRxConfig}
 use Rattle.rlc_pdu.specs.declared.Landed.{Landed}
-use Rattle.rlc_pdu.specs.declared.Landed.TheVariants.{Kept as Fresh, Repeat, Outside, Clash}
+use Rattle.rlc_pdu.specs.declared.Landed.TheVariants.{Kept, Repeat, Outside, Clash}
 use Rattle.rlc_pdu.specs.Pdus.{AmdPdu}
 use Rattle.rlc_am_rx.specs.State.{State, fresh}
 use Rattle.rlc_am_rx.specs.Machine.{landed}
@@ -37,7 +37,7 @@ asked_with_bound bound asked polls s =
     record { state = s; asked = asked || some_below bound polls; polls = not_below bound polls }
 
 abbrev pub asked_on : Landed → Asked → AmdPdu → State → Asked
-asked_on Fresh a p s =
+asked_on Kept a p s =
     asked_with_bound s.bound a.asked (with_poll p.poll (number_read a.state p) a.polls) s
 asked_on Repeat a p s = record { state = s; asked = a.asked || p.poll; polls = a.polls }
 asked_on Outside a p s = record { state = s; asked = a.asked || p.poll; polls = a.polls }

@@ -3,7 +3,7 @@ use Rattle.std.specs.Prelude.{◌≡◌, ℕ, ◌+◌, ◌<◌, ◌≤◌, Bool,
 use Rattle.std.specs.Prelude.{List, [], ◌∷◌, Option, Some, None, nat_le, nat_lt, ◌==◌}
 use Rattle.l2_types.specs.declared.AmRxConfig.{AmRxConfig}
 use Rattle.rlc_pdu.specs.declared.Landed.{Landed}
-use Rattle.rlc_pdu.specs.declared.Landed.TheVariants.{Kept as Fresh, Repeat, Outside, Clash}
+use Rattle.rlc_pdu.specs.declared.Landed.TheVariants.{Kept, Repeat, Outside, Clash}
 use Rattle.rlc_pdu.specs.Pdus.{AmdPdu}
 use Rattle.rlc_am_rx_window.specs.Piece.{Piece, piece_of, end_of}
 use Rattle.rlc_am_rx_window.specs.Window.{top, offset_of}
@@ -39,7 +39,7 @@ abbrev pub came_of : State → AmdPdu → Came
 came_of s p = record { number = number_read s p; piece = piece_of p }
 
 abbrev pub kept_after : Landed → State → AmdPdu → List Came → List Came
-kept_after Fresh s p ps = came_of s p ∷ ps
+kept_after Kept s p ps = came_of s p ∷ ps
 kept_after Repeat s p ps = ps
 kept_after Outside s p ps = ps
 kept_after Clash s p ps = ps

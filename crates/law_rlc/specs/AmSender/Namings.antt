@@ -8,7 +8,7 @@ use Rattle.rlc_pdu.specs.declared.pdu.Nack.{Nack}
 use Rattle.rlc_pdu.specs.declared.pdu.Part.{Part}
 use Rattle.rlc_pdu.specs.Runs.{has}
 use Rattle.rlc_am_tx_window.specs.Sent.{start_of, stop_of, next_stretch}
-use Rattle.rlc_am_tx_window.specs.Window.{Kept, next, slot_at, offset_of, is_named}
+use Rattle.rlc_am_tx_window.specs.Window.{TxWindow, next, slot_at, offset_of, is_named}
 use Rattle.rlc_am_tx.specs.declared.turn.Turn.{Turn}
 use Rattle.rlc_am_tx.specs.declared.turn.Turn.TheVariants as turns
 use Rattle.rlc_am_tx.specs.Machine.{State, turn, again, number_again, is_ignored, recalled_place}
@@ -43,15 +43,15 @@ abbrev pub with_naming : ℕ → Bool → ℕ
 with_naming n new = if (n == 0) || new then n + 1 else n
 
 -- the number lies in the window and isn't acknowledged
-abbrev pub is_open : Kept → ℕ → Bool
+abbrev pub is_open : TxWindow → ℕ → Bool
 is_open w n = nat_le w.base n && (nat_lt n (next w) && not (slot_at w.slots (n - w.base)).acked)
 
-abbrev pub size_at : Kept → ℕ → ℕ
+abbrev pub size_at : TxWindow → ℕ → ℕ
 size_at w n = length (slot_at w.slots (n - w.base)).field
 
 -- what a STATUS names waits; what lies below its ACK_SN and isn't named is acknowledged, and waits
 -- no longer
-abbrev pub heard_waits : Kept → ℕ → List Nack → (ℕ → ℕ → Bool) → ℕ → ℕ → Bool
+abbrev pub heard_waits : TxWindow → ℕ → List Nack → (ℕ → ℕ → Bool) → ℕ → ℕ → Bool
 heard_waits w below nacks waits n i =
     if is_open w n then (
     if is_named w.base (n - w.base) nacks then waits n i
@@ -59,7 +59,7 @@ heard_waits w below nacks waits n i =
     else waits n i && not (nat_lt (n - w.base) below))
     else waits n i
 
-abbrev pub heard_namings : Kept → List Nack → Marks → ℕ → ℕ
+abbrev pub heard_namings : TxWindow → List Nack → Marks → ℕ → ℕ
 heard_namings w nacks m n =
     if is_open w n && is_named w.base (n - w.base) nacks
     then with_naming (m.namings n)
@@ -67,7 +67,7 @@ heard_namings w nacks m n =
     && not (m.waits n i)))
     else m.namings n
 
-abbrev pub heard_marks : Kept → ℕ → List Nack → Marks → Marks
+abbrev pub heard_marks : TxWindow → ℕ → List Nack → Marks → Marks
 heard_marks w below nacks m =
     record { waits = heard_waits w below nacks m.waits; namings = heard_namings w nacks m }
 
