@@ -1,0 +1,4 @@
+pub mod Dues
+pub mod Pending
+pub mod Unsent
+pub mod Queues
