@@ -5,6 +5,7 @@ ghost use Rattle.air_link.specs.Draining.{drain_tti, is_carried_by, carried, tim
 ghost use Rattle.air_link.specs.Draining.{receiver_expires, all_receivers_expire, receivers_expire};
 ghost use Rattle.air_link.specs.Draining.{all_senders_expire, senders_expire, is_drained, left};
 ghost use Rattle.air_link.specs.Draining.{count};
+ghost use Rattle.l2_node.specs.Sums.{left as end_left};
 ghost use Rattle.pdu_show.specs.Carried.{is_acknowledged};
 
 use crate::link::{ALL_LCIDS, Link};
@@ -110,6 +111,13 @@ impl Link {
         ensures { result ≡ left self.now }
     {
         self.nb.left().saturating_add(self.ue.left())
+    }
+
+    /// The octets that the base station has still to bring over, up to 2^64 - 1.
+    pub fn left_down(&self) -> u64
+        ensures { result ≡ end_left self.now.nb }
+    {
+        self.nb.left()
     }
 
     /// How many bearers there are.

@@ -6,3 +6,4 @@ pub mod Telling
 pub mod Rounds
 pub mod Beginning
 pub mod Putting
+pub mod Reports

@@ -1,28 +1,17 @@
 -- A line's text is put part by part.
-use Rattle.std.proofs.Common.{◌≡◌, ◌∙◌, ℕ, List, [], ◌∷◌, ◌++◌, refl, ap, sym, subst, append_assoc}
-use Rattle.std.specs.Prelude.{Option, None, Some, is_some, Result, Ok, Err}
-use Rattle.l2_io.specs.Known.{after, IsFront, HasRisen}
-use Rattle.l2_io.proofs.Written.{after_after, after_nothing, front_behind, front_longer, risen_from}
+use Rattle.std.proofs.Common.{◌≡◌, ◌∙◌, ℕ, List, ◌++◌, refl, ap, sym, subst, append_assoc}
+use Rattle.std.specs.Prelude.{Option, None, Some, is_some}
+use Rattle.l2_io.specs.Known.{after, IsFront}
+use Rattle.l2_io.proofs.Written.{after_after, front_behind, front_longer}
 use Rattle.air_record.specs.declared.record.Record.{Record}
 use Rattle.air_record.specs.Text.{texts_of}
 use Rattle.air_run.specs.Steps.{WritesFront}
+use Rattle.air_run.specs.Buffers.{after_records}
 use Rattle.air_run.specs.Written.{Journal, told, all_seen}
-use Rattle.air_run.specs.Putting.{text_in, pending, HasPut, HasTold, Stops, Tells}
+use Rattle.air_run.specs.Putting.{text_in, pending, HasPut, HasTold, Stops}
 use Rattle.air_run.specs.declared.refusal.StepFault.{StepFault}
 use Rattle.air_run.specs.declared.refusal.StepFault.TheVariants as faults
-use Rattle.air_run.proofs.Telling.{texts_both, seen-both, told_none}
-
--- nothing is put as yet
-pub front_none : (text : List ℕ) (written : Option (List ℕ)) → WritesFront text written written
-front_none text written =
-    record {
-      front = [];
-      is_front = record { rest = text; joined = refl };
-      written_is = sym (after_nothing written);
-    }
-
-pub put_none : (all : List ℕ) (written : Option (List ℕ)) → HasPut all all written written
-put_none all written = record { text = []; all_is = refl; written_is = sym (after_nothing written) }
+use Rattle.air_run.proofs.Telling.{texts_both, seen-both, after-both}
 
 -- one part behind the other
 pub put_both : (all some left : List ℕ) (w w' w'' : Option (List ℕ)) → HasPut all some w w' → HasPut some left w' w''
@@ -85,22 +74,29 @@ more_front es more j w w' h =
 
 -- ---- a part and what comes behind it, towards a text that is the goal
 
-pub put_further : (all : List ℕ) (es more : List Record) (j k : Journal) (w w' w'' : Option (List ℕ))
-    → HasPut all (pending (told (es ++ more) j)) w w' → HasTold es j k w' w''
+pub put_further : (all : List ℕ) (left es more : List Record) (j k : Journal) (w w' w'' : Option (List ℕ))
+    → left ≡ es ++ more → HasPut all (pending (told left j)) w w' → HasTold es j k w' w''
     → HasPut all (pending (told more k)) w w''
-put_further all es more j k w w' w'' a h =
-    put_both all (pending (told (es ++ more) j)) (pending (told more k)) w w' w'' a (more_left es more j k w' w'' h)
+put_further all left es more j k w w' w'' e a h =
+    put_both all (pending (told (es ++ more) j)) (pending (told more k)) w w' w''
+    (subst (λ (rs : List Record). HasPut all (pending (told rs j)) w w') e a) (more_left es more j k w' w'' h)
 
-pub put_stops : (all : List ℕ) (es more : List Record) (j : Journal) (w w' w'' : Option (List ℕ))
-    → HasPut all (pending (told (es ++ more) j)) w w' → WritesFront (pending (told es j)) w' w''
+put-stops : (all : List ℕ) (left es more : List Record) (j : Journal) (w w' w'' : Option (List ℕ))
+    → left ≡ es ++ more → HasPut all (pending (told left j)) w w' → WritesFront (pending (told es j)) w' w''
     → WritesFront all w w''
-put_stops all es more j w w' w'' a h =
-    put_front all (pending (told (es ++ more) j)) w w' w'' a (more_front es more j w' w'' h)
+put-stops all left es more j w w' w'' e a h =
+    put_front all (pending (told left j)) w w' w'' a
+    (subst (λ (rs : List Record). WritesFront (pending (told rs j)) w' w'') (sym e) (more_front es more j w' w'' h))
 
 pub losses_further : (es more : List Record) (j k : Journal) (w w' : Option (List ℕ)) → HasTold es j k w w'
     → all_seen more k.losses ≡ all_seen (es ++ more) j.losses
 losses_further es more j k w w' h =
     ap (all_seen more) h.losses ∙ sym (seen-both es more j.losses)
+
+pub buffers_further : (es more : List Record) (j k : Journal) (w w' : Option (List ℕ)) → HasTold es j k w w'
+    → after_records more k.buffers ≡ after_records (es ++ more) j.buffers
+buffers_further es more j k w w' h =
+    ap (after_records more) h.buffers ∙ sym (after-both es more j.buffers)
 
 -- ---- what is put behind records that were told
 
@@ -108,35 +104,24 @@ still_wanted : (t : Option (List ℕ)) (text : List ℕ) → is_some (after t te
 still_wanted None text = refl
 still_wanted (Some x) text = refl
 
-pub put_behind : {T : Type 0} (es : List Record) (j k : Journal) (w w' : Option (List ℕ)) (fault : Type 0)
-    (r : Result T StepFault) → Tells [] (told es j) k w w' fault r → Tells es j k w w' fault r
-put_behind es j k w w' fault (Ok x) h = record {
-  losses = h.losses;
-  wanted = h.wanted ∙ still_wanted j.text (texts_of es);
-  put = subst (λ (i : Journal). HasPut (pending i) (pending k) w w') (told_none (told es j)) h.put;
-}
-put_behind es j k w w' fault (Err (faults.Refused broken)) h = h
-put_behind es j k w w' fault (Err faults.WriteFault) h =
-    (h.0, subst (λ (i : Journal). WritesFront (pending i) w w') (told_none (told es j)) h.1)
-put_behind es j k w w' fault (Err faults.NoMemory) h =
-    subst (λ (i : Journal). WritesFront (pending i) w w') (told_none (told es j)) h
-
 -- a part stops the whole
-pub part_stops : (all es more : List Record) (i j : Journal) (w w' w'' : Option (List ℕ)) (fault later : Type 0)
-    (e : StepFault) → HasPut (pending (told all i)) (pending (told (es ++ more) j)) w w'
-    → (fault → later) → Stops es j w' w'' fault e → Stops all i w w'' later e
-part_stops all es more i j w w' w'' fault later (faults.Refused broken) a so h = h
-part_stops all es more i j w w' w'' fault later faults.WriteFault a so h =
-    (so h.0, put_stops (pending (told all i)) es more j w w' w'' a h.1)
-part_stops all es more i j w w' w'' fault later faults.NoMemory a so h =
-    put_stops (pending (told all i)) es more j w w' w'' a h
+pub part_stops : (all left es more : List Record) (i j : Journal) (w w' w'' : Option (List ℕ))
+    (fault later : Type 0) (e : StepFault) → left ≡ es ++ more
+    → HasPut (pending (told all i)) (pending (told left j)) w w' → (fault → later) → Stops es j w' w'' fault e
+    → Stops all i w w'' later e
+part_stops all left es more i j w w' w'' fault later (faults.Refused broken) is a so h = h
+part_stops all left es more i j w w' w'' fault later faults.WriteFault is a so h =
+    (so h.0, put-stops (pending (told all i)) left es more j w w' w'' is a h.1)
+part_stops all left es more i j w w' w'' fault later faults.NoMemory is a so h =
+    put-stops (pending (told all i)) left es more j w w' w'' is a h
 
 -- ---- one part behind the other, and what follows
 
 pub told_on : (es more : List Record) (j k : Journal) (w w' : Option (List ℕ)) → HasTold es j k w w'
     → HasTold (es ++ more) j (told more k) w w'
 told_on es more j k w w' h = record {
-  losses = ap (all_seen more) h.losses ∙ sym (seen-both es more j.losses);
+  losses = losses_further es more j k w w' h;
+  buffers = buffers_further es more j k w w' h;
   wanted = still_wanted k.text (texts_of more) ∙ h.wanted;
   put = more_left es more j k w w' h;
 }
@@ -144,7 +129,8 @@ told_on es more j k w w' h = record {
 pub told_twice : (a b : List Record) (i j k : Journal) (w w' w'' : Option (List ℕ)) → HasTold a i j w w'
     → HasTold b j k w' w'' → HasTold (a ++ b) i k w w''
 told_twice a b i j k w w' w'' h g = record {
-  losses = g.losses ∙ ap (all_seen b) h.losses ∙ sym (seen-both a b i.losses);
+  losses = g.losses ∙ losses_further a b i j w w' h;
+  buffers = g.buffers ∙ buffers_further a b i j w w' h;
   wanted = g.wanted ∙ h.wanted;
   put = put_both (pending (told (a ++ b) i)) (pending (told b j)) (pending k) w w' w'' (more_left a b i j w w' h) g.put;
 }

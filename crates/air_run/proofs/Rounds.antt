@@ -1,11 +1,9 @@
 -- TTIs and rounds of a drain, one after the other.
-use Rattle.std.proofs.Common.{◌≡◌, ◌<◌, ◌∙◌, ◌+◌, ◌-◌, ℕ, zero, suc, Bool, true, false, [], ◌∷◌, ◌++◌, refl, ap, arith}
+use Rattle.std.proofs.Common.{◌≡◌, ◌<◌, ◌+◌, ◌-◌, ℕ, zero, suc, Bool, true, false, [], ◌∷◌, ◌++◌, refl, ap, arith}
 use Rattle.air_link.specs.Link.{Link}
 use Rattle.air_link.specs.Draining.{drain_tti, is_drained}
 use Rattle.air_run.specs.Draining.{shown, at_once, behind, ttis, round, left_by, rounds, budget, drained}
 use Rattle.air_record.specs.Endings.{ending}
-use Rattle.air_run.specs.Written.{Journal, told}
-use Rattle.air_run.proofs.Telling.{told_thrice}
 
 fewer : (most at : ℕ) → at < most → most - at ≡ suc (most - (at + 1))
 fewer most at h = omega arith
@@ -48,19 +46,6 @@ drained_shown grant l =
     rounds-shown (budget l) grant (ttis 8 grant l).link (ttis-shown 7 grant (shown (drain_tti grant l)) refl)
 
 -- ---- the whole is told part by part
-
-pub drain_told : (grant : ℕ) (l : Link) (j : Journal)
-    → told (ending (is_drained (rounds (budget l) grant (ttis 8 grant l).link).link)
-    (rounds (budget l) grant (ttis 8 grant l).link).done ∷ [])
-    (told (rounds (budget l) grant (ttis 8 grant l).link).journal (told (ttis 8 grant l).journal j))
-    ≡ told (drained grant l).journal j
-unfolding drained
-drain_told grant l j =
-    let t = ttis 8 grant l in
-    let r = rounds (budget l) grant t.link in
-    let count : r.done ≡ 0 + r.done = omega arith in
-    told_thrice t.journal r.journal (ending (is_drained r.link) r.done ∷ []) j
-    ∙ ap (λ (n : ℕ). told ((t.journal ++ r.journal) ++ ending (is_drained r.link) n ∷ []) j) count
 
 pub drained_is : (grant : ℕ) (l : Link)
     → (drained grant l).journal

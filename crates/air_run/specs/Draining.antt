@@ -51,15 +51,15 @@ abbrev pub done_by : Bool → ℕ
 done_by true = 0
 done_by false = 1
 
-abbrev pub told_by : Bool → ℕ → Link → List Record
-told_by true grant l = []
-told_by false grant l = (round grant l).out
+abbrev pub round_told : Bool → ℕ → Link → List Record
+round_told true grant l = []
+round_told false grant l = (round grant l).out
 
 -- at most so many rounds, as few as it takes
 abbrev pub rounds : ℕ → ℕ → Link → Drained
 rounds zero grant l = at_once l
 rounds (suc n) grant l =
-    behind (told_by (is_drained l) grant l) (done_by (is_drained l))
+    behind (round_told (is_drained l) grant l) (done_by (is_drained l))
     (rounds n grant (left_by (is_drained l) grant l))
 
 -- ---- the whole

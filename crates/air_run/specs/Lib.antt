@@ -1,5 +1,6 @@
 pub mod Rules
 pub mod Draining
+pub mod Buffers
 pub mod Written
 pub mod Playing
 pub mod Sums

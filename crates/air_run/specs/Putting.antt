@@ -5,6 +5,7 @@ use Rattle.l2_io.specs.Known.{after}
 use Rattle.air_record.specs.declared.record.Record.{Record}
 use Rattle.air_run.specs.declared.refusal.StepFault.{StepFault}
 use Rattle.air_run.specs.declared.refusal.StepFault.TheVariants as faults
+use Rattle.air_run.specs.Buffers.{after_records}
 use Rattle.air_run.specs.Steps.{WritesFront}
 use Rattle.air_run.specs.Written.{Journal, told, all_seen}
 
@@ -26,6 +27,7 @@ pub record HasPut (all left : List ℕ) (written written' : Option (List ℕ)) :
 pub record HasTold (records : List Record) (old new : Journal) (written written' : Option (List ℕ))
     : Type 0 where
   pub losses : new.losses ≡ all_seen records old.losses
+  pub buffers : new.buffers ≡ after_records records old.buffers
   pub wanted : is_some new.text ≡ is_some old.text
   pub put : HasPut (pending (told records old)) (pending new) written written'
 

@@ -6,6 +6,7 @@ use Rattle.air_record.specs.declared.line.Line.{Line}
 use Rattle.air_record.specs.declared.record.Record.{Record}
 use Rattle.air_record.specs.declared.record.Record.TheVariants as records
 use Rattle.air_run.specs.declared.refusal.RunRefusal.{RunRefusal}
+use Rattle.air_run.specs.Buffers.{Buffers, no_buffers, after_line, after_records}
 use Rattle.air_run.specs.Draining.{shown}
 use Rattle.air_run.specs.Written.{all_seen, noticed}
 use Rattle.air_run.specs.Playing.{played}
@@ -13,14 +14,20 @@ use Rattle.air_run.specs.Rules.{Rules, no_rules, refusal, accepted}
 use Rattle.air_run.specs.Sums.{finishing}
 use Rattle.um_losses.specs.Losses.{Losses, none_seen}
 
--- both ends over the air, the rules, and what records told of losses
+-- both ends over the air, the rules, and what records told of losses and of the terminal's buffers
 pub record RunState : Type 0 where
   pub link : Link
   pub rules : Rules
   pub losses : Losses
+  pub buffers : Buffers
 
 unfoldable pub fresh : RunState
-fresh = record { link = fresh_link; rules = no_rules; losses = none_seen }
+fresh = record {
+  link = fresh_link;
+  rules = no_rules;
+  losses = none_seen;
+  buffers = no_buffers;
+}
 
 -- both ends behind a line that isn't refused, with its records
 abbrev pub behind_line : Line → RunState → Link
@@ -32,6 +39,7 @@ done_by l line r = record {
   link = shown l;
   rules = accepted line r.rules;
   losses = all_seen l.out (noticed line l r.losses);
+  buffers = after_records l.out (after_line line r.buffers);
 }
 
 abbrev pub done : Line → RunState → RunState

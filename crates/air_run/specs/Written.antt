@@ -1,5 +1,5 @@
--- The text of a line's records, and what they tell of losses on unacknowledged bearers
--- (docs/formats/JOURNAL.md).
+-- The text of a line's records, and what they tell of losses on unacknowledged bearers and of the
+-- terminal's buffers (docs/formats/JOURNAL.md).
 use Rattle.std.specs.Prelude.{ℕ, List, [], ◌∷◌, Option}
 use Rattle.l2_io.specs.Known.{after}
 use Rattle.air_link.specs.Link.{Link}
@@ -7,6 +7,7 @@ use Rattle.air_record.specs.declared.line.Line.{Line}
 use Rattle.air_record.specs.declared.line.Line.TheVariants as lines
 use Rattle.air_record.specs.declared.record.Record.{Record}
 use Rattle.air_record.specs.Text.{texts_of}
+use Rattle.air_run.specs.Buffers.{Buffers, after_line, after_records}
 use Rattle.bearer_types.specs.declared.config.BearerConfig.{BearerConfig}
 use Rattle.bearer_types.specs.Sides.{heard_by}
 use Rattle.l2_types.specs.declared.channel.Kind.{Kind}
@@ -43,13 +44,18 @@ noticed line l w = w
 pub record Journal : Type 0 where
   pub text : Option (List ℕ)
   pub losses : Losses
+  pub buffers : Buffers
 
 -- records follow
 abbrev pub told : List Record → Journal → Journal
 told records j = record {
   text = after j.text (texts_of records);
   losses = all_seen records j.losses;
+  buffers = after_records records j.buffers;
 }
 
 abbrev pub noted : Line → Link → Journal → Journal
-noted line l j = record j { losses = noticed line l j.losses }
+noted line l j = record j {
+  losses = noticed line l j.losses;
+  buffers = after_line line j.buffers;
+}

@@ -1,6 +1,8 @@
 ghost use Rattle.std.specs.Prelude.{◌≡◌, ◌<◌, ◌≤◌, ◌^◌, ◌++◌, ◌∷◌, [], true, None, Some, length};
 ghost use Rattle.std.specs.Prelude.{is_some, OnOk, IfOk};
+ghost use Rattle.std.specs.List.{All};
 ghost use Rattle.air_record.specs.Text.{accepted_text};
+ghost use Rattle.air_run.specs.Buffers.{no_buffers};
 ghost use Rattle.air_run.specs.Draining.{shown};
 ghost use Rattle.air_run.specs.Putting.{Tells};
 ghost use Rattle.air_run.specs.Steps.{Puts};
@@ -13,6 +15,7 @@ ghost use Rattle.pdu_show.specs.Show.{block_shown};
 ghost use Rattle.um_losses.specs.Losses.{none_seen, is_long};
 ghost use Rattle.l2_bits.specs.declared.limits.TheConstants.{OCTETS_LIMIT};
 
+use crate::buffers::Buffers;
 use crate::refusal::StepFault;
 use air_link::Link;
 use air_text::{Line, Record, append_accepted, append_record};
@@ -30,13 +33,15 @@ use um_losses::Losses;
 /// So many octets of text are worth a put while a line goes on.
 const PIECE: usize = 65_536;
 
-/// The text of a line's records, where it is wanted, and what the records so far tell of losses.
+/// The text of a line's records, where it is wanted, and what the records so far tell of losses and
+/// of the terminal's buffers.
 #[derive(Drop)]
 pub(crate) struct Journal {
     alloc: Global,
     text: Bytes,
     is_muted: bool,
     losses: Losses,
+    buffers: Buffers,
 }
 
 impl Model for Journal {
@@ -45,18 +50,23 @@ impl Model for Journal {
 
     ghost Value = { Machine };
 
-    ghost view = { λ j. record { text = if j.is_muted then None else Some j.text; losses = j.losses } };
+    ghost view = { λ j. record {
+      text = if j.is_muted then None else Some j.text;
+      losses = j.losses;
+      buffers = j.buffers;
+    } };
 }
 
 impl Journal {
     pub fn new(alloc: Global) -> Journal
-        ensures { result ≡ record { text = None; losses = none_seen } }
+        ensures { result ≡ record { text = None; losses = none_seen; buffers = no_buffers } }
     {
         Journal {
             alloc,
             text: Bytes::new(alloc),
             is_muted: true,
             losses: Losses::new(alloc),
+            buffers: Buffers::new(),
         }
     }
 
@@ -73,6 +83,14 @@ impl Journal {
         ensures { result ≡ is_long direction lcid self.now.losses.flows }
     {
         self.losses.is_long(direction, lcid)
+    }
+
+    /// The Buffer Size levels that the base station was told last.
+    pub fn levels(&self) -> [u8; 4]
+        ensures levels { result ≡ self.now.buffers.levels }
+        ensures within { All (λ level. level < 64) result }
+    {
+        self.buffers.levels()
     }
 
     /// Begins the text of a line, with its own record.
@@ -96,6 +114,7 @@ impl Journal {
         ensures { OnOk result (self.new ≡ told (one.now ∷ []) self.old) }
     {
         self.losses.see(one)?;
+        self.buffers.see(one);
         if self.is_muted {
             return Ok(());
         }
@@ -140,11 +159,12 @@ impl Journal {
         Ok(())
     }
 
-    /// What a line tells of losses itself, behind what it did and before its records.
+    /// What a line tells itself of losses and buffers, behind what it did and before its records.
     pub fn note(&mut self, line: &Line, link: &Link) -> Result<(), NoMemory>
         requires { IsInRange line.now }
         ensures { OnOk result (self.new ≡ noted line.now link.now self.old) }
     {
+        self.buffers.begin(line);
         match line {
             Line::Bearer { config, .. } => self.note_bearer(config),
             Line::Handover { .. } => self.losses.hand_over(),

@@ -3,6 +3,7 @@
 //! Contracts speak of an exact machine, which stands in `specs/`.
 #![tactic(auto)]
 
+mod buffers;
 mod draining;
 mod journal;
 mod keys;

@@ -55,6 +55,8 @@ pub(crate) fn play<K: Sink>(
     ensures stays { IfErr result (λ _. is_idle line.now link.old ≡ true
         → K.written out.new ≡ K.written out.old) }
     ensures losses { IfOk result (λ ran. ran ≡ false → journal.new.losses ≡ journal.old.losses) }
+    ensures buffers { IfOk result (λ ran. ran ≡ false
+        → journal.new.buffers ≡ journal.old.buffers) }
 {
     if let Line::Drain { grant } = line {
         drain(link, *grant, journal, out)?;

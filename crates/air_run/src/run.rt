@@ -1,4 +1,7 @@
-ghost use Rattle.std.specs.Prelude.{◌≡◌, ◌≤◌, true, false, ℕ, List, None, Some, IfOk, IfErr};
+ghost use Rattle.std.specs.Prelude.{◌≡◌, ◌<◌, ◌≤◌, true, false, ℕ, List, None, Some, IfOk};
+ghost use Rattle.std.specs.Prelude.{IfErr, IfSome, replicate};
+ghost use Rattle.std.specs.List.{All};
+ghost use Rattle.l2_node.specs.Sums.{left};
 ghost use Rattle.l2_io.specs.Known.{HasRisen};
 ghost use Rattle.air_text.specs.Ranges.{IsInRange};
 ghost use Rattle.air_run.specs.Playing.{played};
@@ -39,7 +42,12 @@ impl Model for Run {
     ghost Value = { Option RunState };
 
     ghost view = { λ m. if m.dead then None
-        else Some (record { link = m.link; rules = m.rules; losses = m.journal.losses }) };
+        else Some (record {
+          link = m.link;
+          rules = m.rules;
+          losses = m.journal.losses;
+          buffers = m.journal.buffers;
+        }) };
 }
 
 impl Run {
@@ -126,6 +134,33 @@ impl Run {
         }
     }
 
+    /// The Buffer Size levels of the terminal's four groups, each below 64, by the buffer status
+    /// reports in the uplink blocks that arrived (TS 36.321 6.1.3.1): 0 at first and after a
+    /// handover. A forged block tells none. It takes no memory; once memory has run out they
+    /// are 0.
+    pub fn told(&self) -> [u8; 4]
+        ensures levels { IfSome self.now (λ r. result ≡ r.buffers.levels) }
+        ensures none { self.now ≡ None → result ≡ replicate 4 0 }
+        ensures within { All (λ level. level < 64) result }
+    {
+        if self.dead {
+            return [0; 4];
+        }
+        self.journal.levels()
+    }
+
+    /// The octets that the base station has still to bring over, up to 2^64 - 1. It takes no
+    /// memory; once memory has run out it is 0.
+    pub fn left_down(&self) -> u64
+        ensures octets { IfSome self.now (λ r. result ≡ left r.link.nb) }
+        ensures none { self.now ≡ None → result ≡ 0 }
+    {
+        if self.dead {
+            return 0;
+        }
+        self.link.left_down()
+    }
+
     /// Writes the records at the end: for each bearer the SDUs submitted and delivered. It is never
     /// refused.
     pub fn finish<K: Sink>(self, out: &mut K) -> Result<(), StepFault>
@@ -161,6 +196,8 @@ fn run_line<K: Sink>(
     ensures rules_stay { IfOk result (λ ran. ran ≡ false → rules.new ≡ rules.old) }
     ensures losses_stay { IfOk result (λ ran. ran ≡ false
         → journal.new.losses ≡ journal.old.losses) }
+    ensures buffers_stay { IfOk result (λ ran. ran ≡ false
+        → journal.new.buffers ≡ journal.old.buffers) }
     ensures allowed { IfOk result (λ ran. ran ≡ true → refusal line.now rules.old link.old ≡ None) }
     ensures link { IfOk result (λ ran. ran ≡ true
         → link.new ≡ shown (played line.now rules.old.keys link.old)) }

@@ -12,6 +12,6 @@ pub use air_record::{
     print, print_line,
 };
 pub use fault::{LineFault, LineRefusal};
-pub use fields::{octets_into, split_word};
+pub use fields::{is_word, number, octets_into, outcome, split_word, words};
 pub use limits::{LONGEST_LINE, MOST_LINES};
 pub use reading::read_line;

@@ -3,11 +3,10 @@ use Rattle.std.proofs.lemmas.Result.{err_from_is_err_and}
 use Rattle.l2_io.specs.Known.{HasRisen}
 use Rattle.l2_io.proofs.Written.{risen_from}
 use Rattle.air_link.specs.Draining.{is_drained}
-use Rattle.air_link.specs.Link.{Link}
 use Rattle.air_record.specs.Endings.{ending}
 use Rattle.air_record.specs.declared.record.Record.{Record}
 use Rattle.air_run.specs.declared.refusal.StepFault.TheVariants as faults
-use Rattle.air_run.specs.Draining.{Drained, ttis, rounds, budget, drained}
+use Rattle.air_run.specs.Draining.{Drained, ttis, rounds, budget}
 use Rattle.air_run.specs.Putting.{HasTold, Stops}
 use Rattle.air_run.specs.Written.{Journal, told}
 use Rattle.air_run.proofs.Putting.{told_on, told_twice, stops_behind, stops_before, stops_told}

@@ -1,13 +1,13 @@
-use Rattle.std.proofs.Common.{ap, sym, subst, ◌∙◌, ◌-◌, ◌+◌, arith, List}
+use Rattle.std.proofs.Common.{ap, sym, subst, ◌∙◌, ◌-◌, ◌+◌, arith}
 use Rattle.std.proofs.lemmas.Result.{err_from_is_err_and}
 use Rattle.l2_io.proofs.Written.{risen_from}
 use Rattle.air_link.specs.Link.{Link}
 use Rattle.air_link.specs.Draining.{drain_tti}
-use Rattle.air_record.specs.declared.record.Record.{Record}
+use Rattle.air_run.specs.Buffers.{after_records}
 use Rattle.air_run.specs.Draining.{Drained, shown, ttis}
 use Rattle.air_run.specs.Putting.{pending, HasPut}
 use Rattle.air_run.specs.Written.{told, all_seen}
-use Rattle.air_run.proofs.Putting.{put_further, losses_further, part_stops}
+use Rattle.air_run.proofs.Putting.{put_further, losses_further, buffers_further, part_stops}
 use Rattle.air_run.proofs.Rounds.{ttis_next}
 use Rattle.air_run.proofs.draining.for_ttis.Goals as goal
 
@@ -18,12 +18,10 @@ returns-in_err-tti-clause-put g c =
     let all = (ttis c.args.most c.args.grant c.args.link.now).journal in
     let more = (ttis (c.args.most - (c.loop-done.done + 1)) c.args.grant (shown (drain_tti c.args.grant l))).journal in
     let next = ttis_next c.args.most c.loop-done.done c.args.grant l (omega arith) in
-    let put = subst (λ (d : Drained). HasPut (pending (told all c.args.journal.now))
-    (pending (told d.journal c.loop-done.journal)) (g.K.Sink.written c.args.out.now)
-    (g.K.Sink.written c.loop-done.out)) next c.loop-done.invariant.put in
     rw (p.1, p.2)
-    (part_stops all (drain_tti c.args.grant l).out more c.args.journal.now c.loop-done.journal _ _ _ _ _
-    c.in_err-tti.field-0.0 put (risen_from _ _ _ c.loop-done.invariant.count) c.in_err-tti.ensures.put)
+    (part_stops all _ (drain_tti c.args.grant l).out more c.args.journal.now c.loop-done.journal _ _ _ _ _
+    c.in_err-tti.field-0.0 (ap (λ (d : Drained). d.journal) next) c.loop-done.invariant.put
+    (risen_from _ _ _ c.loop-done.invariant.count) c.in_err-tti.ensures.put)
 
 pub loop-done-preserved : goal.loop-done-preserved
 loop-done-preserved g c =
@@ -35,9 +33,6 @@ loop-done-preserved g c =
     let more = (ttis n c.args.grant (shown (drain_tti c.args.grant l))).journal in
     let next = ttis_next c.args.most c.loop-done.done c.args.grant l (omega arith) in
     let here = c.in_ok-tti.ensures.link in
-    let put = subst (λ (d : Drained). HasPut (pending (told all c.args.journal.now))
-    (pending (told d.journal c.loop-done.journal)) (g.K.Sink.written c.args.out.now)
-    (g.K.Sink.written c.loop-done.out)) next c.loop-done.invariant.put in
     record {
       link = ap (λ (m : Link). (ttis n c.args.grant m).link) here
           ∙ sym (ap (λ (d : Drained). d.link) next) ∙ c.loop-done.invariant.link;
@@ -45,11 +40,15 @@ loop-done-preserved g c =
           ∙ losses_further es more c.loop-done.journal c.tti.new.journal _ _ t
           ∙ sym (ap (λ (d : Drained). all_seen d.journal c.loop-done.journal.losses) next)
           ∙ c.loop-done.invariant.losses;
+      buffers = ap (λ (m : Link). after_records (ttis n c.args.grant m).journal c.tti.new.journal.buffers) here
+          ∙ buffers_further es more c.loop-done.journal c.tti.new.journal _ _ t
+          ∙ sym (ap (λ (d : Drained). after_records d.journal c.loop-done.journal.buffers) next)
+          ∙ c.loop-done.invariant.buffers;
       wanted = t.wanted ∙ c.loop-done.invariant.wanted;
       put = subst (λ (m : Link). HasPut (pending (told all c.args.journal.now))
           (pending (told (ttis n c.args.grant m).journal c.tti.new.journal)) (g.K.Sink.written c.args.out.now)
           (g.K.Sink.written c.tti.new.out)) (sym here)
-          (put_further (pending (told all c.args.journal.now)) es more c.loop-done.journal c.tti.new.journal _ _ _
-          put t);
+          (put_further (pending (told all c.args.journal.now)) _ es more c.loop-done.journal c.tti.new.journal
+          _ _ _ (ap (λ (d : Drained). d.journal) next) c.loop-done.invariant.put t);
       count = omega (arith, c.loop-done.invariant.count, c.tti.ensures.count);
     }

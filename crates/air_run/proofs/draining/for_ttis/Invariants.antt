@@ -1,5 +1,6 @@
 use Rattle.std.proofs.Common.{◌≡◌, ◌≤◌, ◌-◌}
 use Rattle.std.specs.Prelude.{is_some}
+use Rattle.air_run.specs.Buffers.{after_records}
 use Rattle.air_run.specs.Draining.{ttis}
 use Rattle.air_run.specs.Putting.{pending, HasPut}
 use Rattle.air_run.specs.Written.{told, all_seen}
@@ -10,6 +11,8 @@ invariant-loop-done g l = record {
   link : (ttis (l.most - l.done) l.grant l.link).link ≡ (ttis l.most l.grant l.initial.link).link;
   losses : all_seen (ttis (l.most - l.done) l.grant l.link).journal l.journal.losses
       ≡ all_seen (ttis l.most l.grant l.initial.link).journal l.initial.journal.losses;
+  buffers : after_records (ttis (l.most - l.done) l.grant l.link).journal l.journal.buffers
+      ≡ after_records (ttis l.most l.grant l.initial.link).journal l.initial.journal.buffers;
   wanted : is_some l.journal.text ≡ is_some l.initial.journal.text;
   put : HasPut (pending (told (ttis l.most l.grant l.initial.link).journal l.initial.journal))
       (pending (told (ttis (l.most - l.done) l.grant l.link).journal l.journal))

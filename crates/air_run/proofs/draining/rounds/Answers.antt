@@ -1,12 +1,12 @@
-use Rattle.std.proofs.Common.{ap, sym, subst, ◌∙◌, ◌-◌, ◌+◌, arith, List}
+use Rattle.std.proofs.Common.{ap, sym, subst, ◌∙◌, ◌-◌, ◌+◌, arith}
 use Rattle.std.proofs.lemmas.Result.{err_from_is_err_and}
 use Rattle.l2_io.proofs.Written.{risen_from}
 use Rattle.air_link.specs.Link.{Link}
-use Rattle.air_record.specs.declared.record.Record.{Record}
+use Rattle.air_run.specs.Buffers.{after_records}
 use Rattle.air_run.specs.Draining.{Drained, shown, round, rounds}
 use Rattle.air_run.specs.Putting.{pending, HasPut}
 use Rattle.air_run.specs.Written.{told, all_seen}
-use Rattle.air_run.proofs.Putting.{put_further, losses_further, part_stops}
+use Rattle.air_run.proofs.Putting.{put_further, losses_further, buffers_further, part_stops}
 use Rattle.air_run.proofs.Rounds.{rounds_next}
 use Rattle.air_run.proofs.draining.rounds.Goals as goal
 
@@ -18,12 +18,10 @@ returns-in_err-round-clause-put g c =
     let more = (rounds (c.args.most - (c.loop-done.done + 1)) c.args.grant (shown (round c.args.grant l))).journal in
     let next = rounds_next c.args.most c.loop-done.done c.args.grant l (omega arith)
     (sym c.is_drained.ensures ∙ c.if-is_drained.false) in
-    let put = subst (λ (d : Drained). HasPut (pending (told all c.args.journal.now))
-    (pending (told d.journal c.loop-done.journal)) (g.K.Sink.written c.args.out.now)
-    (g.K.Sink.written c.loop-done.out)) next c.loop-done.invariant.put in
     rw (p.1, p.2)
-    (part_stops all (round c.args.grant l).out more c.args.journal.now c.loop-done.journal _ _ _ _ _
-    c.in_err-round.field-0.0 put (risen_from _ _ _ c.loop-done.invariant.count) c.in_err-round.ensures.put)
+    (part_stops all _ (round c.args.grant l).out more c.args.journal.now c.loop-done.journal _ _ _ _ _
+    c.in_err-round.field-0.0 (ap (λ (d : Drained). d.journal) next) c.loop-done.invariant.put
+    (risen_from _ _ _ c.loop-done.invariant.count) c.in_err-round.ensures.put)
 
 pub loop-done-preserved : goal.loop-done-preserved
 loop-done-preserved g c =
@@ -36,9 +34,6 @@ loop-done-preserved g c =
     let next = rounds_next c.args.most c.loop-done.done c.args.grant l (omega arith)
     (sym c.is_drained.ensures ∙ c.if-is_drained.false) in
     let here = c.in_ok-round.ensures.link in
-    let put = subst (λ (d : Drained). HasPut (pending (told all c.args.journal.now))
-    (pending (told d.journal c.loop-done.journal)) (g.K.Sink.written c.args.out.now)
-    (g.K.Sink.written c.loop-done.out)) next c.loop-done.invariant.put in
     record {
       link = ap (λ (m : Link). (rounds n c.args.grant m).link) here
           ∙ sym (ap (λ (d : Drained). d.link) next) ∙ c.loop-done.invariant.link;
@@ -50,11 +45,15 @@ loop-done-preserved g c =
           ∙ losses_further es more c.loop-done.journal c.round.new.journal _ _ t
           ∙ sym (ap (λ (d : Drained). all_seen d.journal c.loop-done.journal.losses) next)
           ∙ c.loop-done.invariant.losses;
+      buffers = ap (λ (m : Link). after_records (rounds n c.args.grant m).journal c.round.new.journal.buffers) here
+          ∙ buffers_further es more c.loop-done.journal c.round.new.journal _ _ t
+          ∙ sym (ap (λ (d : Drained). after_records d.journal c.loop-done.journal.buffers) next)
+          ∙ c.loop-done.invariant.buffers;
       wanted = t.wanted ∙ c.loop-done.invariant.wanted;
       put = subst (λ (m : Link). HasPut (pending (told all c.args.journal.now))
           (pending (told (rounds n c.args.grant m).journal c.round.new.journal)) (g.K.Sink.written c.args.out.now)
           (g.K.Sink.written c.round.new.out)) (sym here)
-          (put_further (pending (told all c.args.journal.now)) es more c.loop-done.journal c.round.new.journal _ _ _
-          put t);
+          (put_further (pending (told all c.args.journal.now)) _ es more c.loop-done.journal c.round.new.journal
+          _ _ _ (ap (λ (d : Drained). d.journal) next) c.loop-done.invariant.put t);
       count = omega (arith, c.loop-done.invariant.count, c.round.ensures.count);
     }

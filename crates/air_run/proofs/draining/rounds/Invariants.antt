@@ -1,5 +1,6 @@
 use Rattle.std.proofs.Common.{◌≡◌, ◌≤◌, ◌-◌, ◌+◌}
 use Rattle.std.specs.Prelude.{is_some}
+use Rattle.air_run.specs.Buffers.{after_records}
 use Rattle.air_run.specs.Draining.{rounds}
 use Rattle.air_run.specs.Putting.{pending, HasPut}
 use Rattle.air_run.specs.Written.{told, all_seen}
@@ -11,6 +12,8 @@ invariant-loop-done g l = record {
   done : l.done + (rounds (l.most - l.done) l.grant l.link).done ≡ (rounds l.most l.grant l.initial.link).done;
   losses : all_seen (rounds (l.most - l.done) l.grant l.link).journal l.journal.losses
       ≡ all_seen (rounds l.most l.grant l.initial.link).journal l.initial.journal.losses;
+  buffers : after_records (rounds (l.most - l.done) l.grant l.link).journal l.journal.buffers
+      ≡ after_records (rounds l.most l.grant l.initial.link).journal l.initial.journal.buffers;
   wanted : is_some l.journal.text ≡ is_some l.initial.journal.text;
   put : HasPut (pending (told (rounds l.most l.grant l.initial.link).journal l.initial.journal))
       (pending (told (rounds (l.most - l.done) l.grant l.link).journal l.journal))
