@@ -32,7 +32,7 @@ feed-parts x xs h =
       | false ↦ λ f. (refl, cc)
     ] h
 
-from-text : (text rest : List ℕ) → until_feed text ≡ text → from_feed (text ++ 10 ∷ rest) ≡ 10 ∷ rest
+pub from-text : (text rest : List ℕ) → until_feed text ≡ text → from_feed (text ++ 10 ∷ rest) ≡ 10 ∷ rest
 from-text [] rest h = refl
 from-text (x ∷ xs) rest h = let p = feed-parts x xs h in rw (p.0) (from-text xs rest p.1)
 
@@ -40,12 +40,13 @@ until-text : (text rest : List ℕ) → until_feed text ≡ text → until_feed 
 until-text [] rest h = refl
 until-text (x ∷ xs) rest h = let p = feed-parts x xs h in rw (p.0) (ap (λ (t : List ℕ). x ∷ t) (until-text xs rest p.1))
 
-lines-text : (text rest : List ℕ) → until_feed text ≡ text → lines_ended (text ++ 10 ∷ rest) ≡ text ∷ lines_ended rest
+pub lines-text : (text rest : List ℕ) → until_feed text ≡ text
+    → lines_ended (text ++ 10 ∷ rest) ≡ text ∷ lines_ended rest
 lines-text text rest h = lines-line (text ++ 10 ∷ rest) rest (from-text text rest h)
     ∙ ap (λ (t : List ℕ). t ∷ lines_ended rest) (until-text text rest h)
 
 -- a text that is read as a line isn't too long
-short-text : (text : List ℕ) (line : Line) → read_of text ≡ Ok (Some line) → nat_lt 20000 (length text) ≡ false
+pub short-text : (text : List ℕ) (line : Line) → read_of text ≡ Ok (Some line) → nat_lt 20000 (length text) ≡ false
 unfolding read_of
 short-text text line read =
     elim (nat_lt 20000 (length text)) as (λ b. (if b then Err Long else read_words (words_of text)) ≡ Ok (Some line)

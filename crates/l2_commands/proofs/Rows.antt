@@ -1,6 +1,8 @@
 -- The rows of the answers.
 use Rattle.std.proofs.Common.{◌≡◌, ℕ, Bool, List, [], refl, sym, append-nil, inl, inr}
-use Rattle.std.specs.Prelude.{Some}
+use Rattle.std.specs.Prelude.{Option, Some, None}
+use Rattle.cli_words.specs.declared.command.Command.{Command}
+use Rattle.cli_words.specs.declared.command.Command.TheVariants as commands
 use Rattle.script_generator.specs.Script.{script}
 use Rattle.l2_io.specs.Known.{HasRisen}
 use Rattle.air_record.specs.Text.{texts_of}
@@ -9,8 +11,8 @@ use Rattle.l2_commands.specs.Plays.{Plays}
 use Rattle.l2_commands.specs.Playing.{PlaysOn}
 use Rattle.l2_commands.specs.Streams.{Input, Output, Streams, HasFailed}
 use Rattle.l2_commands.specs.Main.{HasAll, HasFront, Row, Runs, Generates, Tells, TellsRefusal, TellsEnding}
-use Rattle.l2_commands.specs.Main.{no_memory_text}
-use Rattle.l2_commands.specs.Engines.{sums_of}
+use Rattle.l2_commands.specs.Main.{no_memory_text, Does}
+use Rattle.l2_commands.specs.Engines.{journal_of, blocks_of, sums_of}
 use Rattle.l2_commands.proofs.Parting.{unplayed}
 use Rattle.air_run.specs.declared.refusal.Reason.{Reason}
 use Rattle.l2_commands.specs.declared.playing.Ending.{Ending}
@@ -71,7 +73,16 @@ unrun journal source out errs errs' told =
     (record { source = source; out = out; errs = errs' }) endings.NoMemory statuses.NoMemory
     (unplayed journal source.left out.written (HasRisen source.faults source.faults) (HasFailed out out)) (refl, told)
 
-pub ungenerated : (number : ℕ) (out errs errs' : Output) → Tells no_memory_text errs errs'
+ungenerated : (number : ℕ) (out errs errs' : Output) → Tells no_memory_text errs errs'
     → Generates number out out errs errs' statuses.NoMemory
 ungenerated number out errs errs' told =
     (Some (script number), unrun sums_of (record { left = Some (script number); faults = 0 }) out errs errs' told)
+
+-- whatever command it was
+pub undone : (command : Option Command) (source : Input) (out errs errs' : Output) → Tells no_memory_text errs errs'
+    → Does command (record { source = source; out = out; errs = errs })
+    (record { source = source; out = out; errs = errs' }) statuses.NoMemory
+undone None source out errs errs' told = (told, refl, refl)
+undone (Some commands.Run) source out errs errs' told = unrun journal_of source out errs errs' told
+undone (Some commands.Decode) source out errs errs' told = unrun blocks_of source out errs errs' told
+undone (Some (commands.Generate number)) source out errs errs' told = (ungenerated number out errs errs' told, refl)

@@ -1,5 +1,6 @@
 -- The answers of the program (README).
-use Rattle.std.specs.Prelude.{◌≡◌, ◌⊎◌, ℕ, Bool, true, List, [], ◌∷◌, ◌++◌, codes, Option, Some}
+use Rattle.std.specs.Prelude.{◌≡◌, ◌⊎◌, ℕ, Bool, true, List, [], ◌∷◌, ◌++◌, codes, Option, None}
+use Rattle.std.specs.Prelude.{Some}
 use Rattle.std.specs.Fmt.{decimal}
 use Rattle.script_generator.specs.Script.{script}
 use Rattle.l2_io.specs.Known.{before, after, IsFront, IsAtEnd, HasRisen}
@@ -15,7 +16,9 @@ use Rattle.air_run.specs.Steps.{WritesFront}
 use Rattle.air_run.specs.Journal.{Finished, Refused, Waiting, Played}
 use Rattle.air_run.specs.declared.refusal.Reason.{Reason}
 use Rattle.air_run.specs.declared.refusal.Reason.TheVariants as reasons
-use Rattle.l2_commands.specs.Engines.{sums_of}
+use Rattle.cli_words.specs.declared.command.Command.{Command}
+use Rattle.cli_words.specs.declared.command.Command.TheVariants as commands
+use Rattle.l2_commands.specs.Engines.{journal_of, blocks_of, sums_of}
 use Rattle.l2_commands.specs.Streams.{Output, Streams, HasFailed, RanShort}
 use Rattle.l2_commands.specs.declared.playing.Ending.{Ending}
 use Rattle.l2_commands.specs.declared.playing.Ending.TheVariants as endings
@@ -141,6 +144,17 @@ Refuses errs errs' statuses.WriteFault =
     WritesFront usage_text errs.written errs'.written × HasFailed errs errs'
 Refuses errs errs' statuses.NoMemory = Tells no_memory_text errs errs'
 Refuses errs errs' status = ⊥
+
+-- what the program did with its streams, by the command that its words name
+abbrev pub Does : Option Command → Streams → Streams → Status → Type 0
+Does None old new status =
+    Refuses old.errs new.errs status × (new.source.left ≡ old.source.left)
+    × (new.out.written ≡ old.out.written)
+Does (Some commands.Run) old new status = Runs journal_of old new status
+Does (Some commands.Decode) old new status = Runs blocks_of old new status
+Does (Some (commands.Generate number)) old new status =
+    Generates number old.out new.out old.errs new.errs status
+    × (new.source.left ≡ old.source.left)
 
 -- a refused line is told
 abbrev pub TellsRefusal : ℕ → Reason → Output → Output → Status → Type 0

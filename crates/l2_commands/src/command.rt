@@ -1,9 +1,7 @@
-ghost use Rattle.std.specs.Prelude.{◌≡◌, ℕ, IfOk, None, Some, string_bytes};
-ghost use Rattle.air_run.specs.Journal.{journal_of};
+ghost use Rattle.std.specs.Prelude.{◌≡◌, Some, IfOk, string_bytes};
 ghost use Rattle.cli_words.specs.Commands.{command_of};
-ghost use Rattle.l2_commands.specs.Engines.{blocks_of};
 ghost use Rattle.l2_commands.specs.Main.{reason_text, refused_text, Tells, TellsRefusal};
-ghost use Rattle.l2_commands.specs.Main.{TellsEnding, Refuses, Runs, Generates};
+ghost use Rattle.l2_commands.specs.Main.{TellsEnding, Refuses, Generates, Does};
 ghost use Rattle.l2_commands.specs.Streams.{output, streams};
 
 use crate::playing::{Ending, play_script, show_blocks};
@@ -14,7 +12,8 @@ use air_text::LineRefusal;
 use l2_io::{PutFault, Sink, Source};
 use std::alloc::{AllocError, Global};
 
-fn reason_word(reason: Reason) -> &'static str
+/// The word of why a line was refused.
+pub fn reason_word(reason: Reason) -> &'static str
     ensures { result.now ≡ reason_text reason }
 {
     match reason {
@@ -108,10 +107,33 @@ fn generate<K: Sink, E: Sink>(alloc: Global, number: u32, out: &mut K, errs: &mu
     finish(alloc, ending, errs)
 }
 
+// Runs a command.
+fn obey<S: Source, K: Sink, E: Sink>(
+    alloc: Global,
+    command: Command,
+    source: &mut S,
+    out: &mut K,
+    errs: &mut E,
+) -> Status
+    ensures { Does (Some command) (streams S.Source K.Sink E.Sink source.old out.old errs.old)
+        (streams S.Source K.Sink E.Sink source.new out.new errs.new) result }
+{
+    match command {
+        Command::Run => {
+            let ending = play_script(alloc, source, out);
+            finish(alloc, ending, errs)
+        }
+        Command::Decode => {
+            let ending = show_blocks(alloc, source, out);
+            finish(alloc, ending, errs)
+        }
+        Command::Generate { number } => generate(alloc, number, out, errs),
+    }
+}
+
 /// Runs the command that the words name.
 ///
-/// The clauses `run`, `decode` and `generate` say what is written, and what each answer means.
-#[tactic(auto, using(crate::proofs::Rows::ungenerated))]
+/// The clause says, by the command, what is written, and what each answer means.
 pub fn run_command<S: Source, K: Sink, E: Sink>(
     alloc: Global,
     words: &Words,
@@ -119,35 +141,16 @@ pub fn run_command<S: Source, K: Sink, E: Sink>(
     out: &mut K,
     errs: &mut E,
 ) -> Status
-    ensures usage { command_of words.now ≡ None
-        → Refuses (output E.Sink errs.old) (output E.Sink errs.new) result
-        × (S.left source.new ≡ S.left source.old) × (K.written out.new ≡ K.written out.old) }
-    ensures run { command_of words.now ≡ Some Command.Run
-        → Runs journal_of (streams S.Source K.Sink E.Sink source.old out.old errs.old)
+    ensures commands { Does (command_of words.now)
+        (streams S.Source K.Sink E.Sink source.old out.old errs.old)
         (streams S.Source K.Sink E.Sink source.new out.new errs.new) result }
-    ensures decode { command_of words.now ≡ Some Command.Decode
-        → Runs blocks_of (streams S.Source K.Sink E.Sink source.old out.old errs.old)
-        (streams S.Source K.Sink E.Sink source.new out.new errs.new) result }
-    ensures generate { (number : ℕ) → command_of words.now ≡ Some (Command.Generate number)
-        → Generates number (output K.Sink out.old) (output K.Sink out.new)
-        (output E.Sink errs.old) (output E.Sink errs.new) result }
-    ensures unread { (number : ℕ) → command_of words.now ≡ Some (Command.Generate number)
-        → S.left source.new ≡ S.left source.old }
 {
-    let Ok(command) = words.command() else {
-        say(errs, b"out of memory\n");
-        return Status::NoMemory;
-    };
-    match command {
-        None => refuse_words(errs),
-        Some(Command::Run) => {
-            let ending = play_script(alloc, source, out);
-            finish(alloc, ending, errs)
+    match words.command() {
+        Ok(Some(command)) => obey(alloc, command, source, out, errs),
+        Ok(None) => refuse_words(errs),
+        Err(_) => {
+            say(errs, b"out of memory\n");
+            Status::NoMemory
         }
-        Some(Command::Decode) => {
-            let ending = show_blocks(alloc, source, out);
-            finish(alloc, ending, errs)
-        }
-        Some(Command::Generate { number }) => generate(alloc, number, out, errs),
     }
 }

@@ -9,5 +9,5 @@ mod status;
 mod summing;
 
 pub use cli_words::{Command, Words};
-pub use command::run_command;
+pub use command::{reason_word, run_command};
 pub use status::Status;
