@@ -1,0 +1,14 @@
+use Rattle.l2_io.proofs.Written.{risen_from}
+use Rattle.cell_run.specs.Cells.{cell, cell_of}
+use Rattle.cell_run.proofs.Gathering.{ends, never-risen, puts-by}
+use Rattle.cell_run.proofs.Parting.{unplayed}
+use Rattle.cell_run.proofs.playing.play_cell.Goals as goal
+
+pub returns-in_default-clause-played : goal.returns-in_default-clause-played
+returns-in_default-clause-played g c = unplayed cell_of _ _ _ _
+
+pub returns-clause-played : goal.returns-clause-played
+returns-clause-played g c =
+    let over = c.play_end.ensures.over in
+    ends cell cell_of _ _ _ _ _ _ _ _ _ _ _ over.1 _ c.in_default-play_lines.ensures.played never-risen over.2
+    (puts-by _ _ _ _ _ _ _ (risen_from _ _ _ c.play_lines.ensures.out_count) over.3)

@@ -1,0 +1,89 @@
+-- The journal of a cell's input, of which more may come (docs/formats/CELL.md): read line by line,
+-- played, and refused where a line is.
+use Rattle.std.specs.Prelude.{ℕ, ◌+◌, ◌==◌, nat_lt, Bool, true, false, if◌then◌else◌, List, [], ◌∷◌}
+use Rattle.std.specs.Prelude.{◌++◌, length}
+use Rattle.l2_io.specs.Feeds.{without_return}
+use Rattle.air_text.specs.declared.fault.LineRefusal.TheVariants.{Long}
+use Rattle.air_text.specs.declared.limits.TheConstants.{LONGEST_LINE, MOST_LINES}
+use Rattle.air_run.specs.Lines.{lines_ended, tail_of}
+use Rattle.cell_run.specs.declared.fault.CellReason.{CellReason}
+use Rattle.cell_run.specs.declared.fault.CellReason.TheVariants as reasons
+use Rattle.cell_run.specs.Entries.{Entry}
+
+-- what a text does as a line to a state: it goes on, or ends the input, or is refused
+pub data Outcome (S : Type 0) : Type 0 where
+  Goes : S → List Entry → Outcome S
+  Ends : S → List Entry → Outcome S
+  Refuses : CellReason → Outcome S
+
+-- what plays lines: where it begins, what a text does as the line of a number, and the records at
+-- the end
+pub record Player (S : Type 0) : Type 0 where
+  pub first : S
+  pub line : S → ℕ → List ℕ → Outcome S
+  pub last : S → List Entry
+
+-- why a journal ends
+pub data Close : Type 0 where
+  Finished : Close
+  Refused : ℕ → CellReason → Close
+  -- more is awaited
+  Waiting : Close
+
+pub record Played : Type 0 where
+  pub journal : List Entry
+  pub close : Close
+
+abbrev pub onto : List Entry → Played → Played
+onto journal later = record { journal = journal ++ later.journal; close = later.close }
+
+abbrev pub finished : {S : Type 0} → Player S → S → Played
+finished p s = record { journal = p.last s; close = Finished }
+
+abbrev pub refused : ℕ → CellReason → Played
+refused number reason = record { journal = []; close = Refused number reason }
+
+abbrev pub waiting : Played
+waiting = record { journal = []; close = Waiting }
+
+abbrev pub follow : {S : Type 0} → Player S → ℕ → Outcome S → (S → Played) → Played
+follow p number (Goes t journal) next = onto journal (next t)
+follow p number (Ends t journal) next = onto journal (finished p t)
+follow p number (Refuses reason) next = refused number reason
+
+-- a line, and what comes after it: at most 1000000 lines of at most 20000 octets
+unfoldable pub on_line : {S : Type 0} → Player S → S → ℕ → List ℕ → (S → Played) → Played
+on_line p s number raw next =
+    if nat_lt MOST_LINES number then refused number reasons.Lines
+    else if nat_lt LONGEST_LINE (length raw) then refused number (reasons.Line Long)
+    else follow p number (p.line s number (without_return raw)) next
+
+-- the last line, which no line feed ends: a carriage return at its end stays
+unfoldable pub on_last : {S : Type 0} → Player S → S → ℕ → List ℕ → Played
+on_last p s number raw =
+    if nat_lt MOST_LINES number then refused number reasons.Lines
+    else if nat_lt LONGEST_LINE (length raw) then refused number (reasons.Line Long)
+    else follow p number (p.line s number raw) (finished p)
+
+-- what is behind the last line feed, where it is a line or the beginning of one
+unfoldable pub close_by : {S : Type 0} → Player S → Bool → List ℕ → S → ℕ → Played
+close_by p true tail s number = if length tail == 0 then finished p s else on_last p s number tail
+close_by p false tail s number =
+    if length tail == 0 then waiting
+    else if nat_lt MOST_LINES number then refused number reasons.Lines
+    else if nat_lt LONGEST_LINE (length tail) then refused number (reasons.Line Long)
+    else waiting
+
+unfoldable pub play : {S : Type 0} → Player S → (S → ℕ → Played) → S → ℕ → List (List ℕ) → Played
+play p close s number [] = close s number
+play p close s number (raw ∷ lines) =
+    on_line p s number raw (λ t. play p close t (number + 1) lines)
+
+-- the journal from a state on, of octets that are all there are, or of which more may come
+unfoldable pub journal_from : {S : Type 0} → Player S → Bool → S → ℕ → List ℕ → Played
+journal_from p whole s number octets =
+    play p (close_by p whole (tail_of octets)) s number (lines_ended octets)
+
+-- the journal that a player makes of an input
+abbrev pub journal_by : {S : Type 0} → Player S → Bool → List ℕ → Played
+journal_by p whole octets = journal_from p whole p.first 1 octets

@@ -1,0 +1,271 @@
+ghost use Rattle.std.specs.Prelude.{◌≡◌, ◌<◌, ◌≤◌, ℕ, [], length, None, Some, IfOk, IfSome};
+ghost use Rattle.l2_io.specs.Known.{HasRisen};
+ghost use Rattle.air_text.specs.Ranges.{IsInRange};
+ghost use Rattle.cell_text.specs.Ranges.{IsInCell, AreUsers};
+ghost use Rattle.cell_run.specs.Cells.{fresh_cell, missing, unknown, is_own, founds, own_line};
+ghost use Rattle.cell_run.specs.Cells.{is_end, set_air, goes, acted, cell_line, cell};
+ghost use Rattle.cell_run.specs.Entries.{texts_of};
+ghost use Rattle.cell_run.specs.Journal.{finished};
+ghost use Rattle.cell_run.specs.Playing.{Acts};
+ghost use Rattle.cell_run.specs.Plays.{RunsLine, Plays};
+ghost use Rattle.cell_run.specs.Terminals.{last_entries};
+
+use crate::fault::{CellFault, CellReason, CellRefusal};
+use crate::playing::Ending;
+use crate::terminal::Terminal;
+use crate::terminals::{down_wishes, finish_all, fresh_terminals, run_tti, up_wishes};
+use air_text::{Line, LineFault, Outcome};
+use cell_sched::share;
+use cell_text::{CellLine, MOST_USERS, read_cell_line};
+use l2_bits::{Bytes, NoMemory};
+use l2_io::{PutFault, Sink};
+use std::alloc::Global;
+use std::marker::Model;
+
+/// So much room is made for the text of a line, in octets.
+const ROOM: usize = 65_536;
+
+/// How one line ended.
+#[derive(Clone, Copy, Debug, PartialEq, Eq)]
+pub enum LineEnd {
+    /// The next line may come.
+    Next,
+    /// It was the line that ends the input.
+    Ended,
+    Refused(CellReason),
+    WriteFault,
+    NoMemory,
+}
+
+/// A cell: its terminals, none before the `cell` line, and the `go` lines so far.
+#[derive(Drop)]
+pub struct Cell {
+    alloc: Global,
+    terminals: Vec<Terminal>,
+    gone: u32,
+}
+
+impl Model for Cell {
+    ghost use Rattle.std.specs.Prelude.{◌≤◌, length};
+    ghost use Rattle.cell_run.specs.Cells.{CellState};
+    ghost use Rattle.cell_text.specs.declared.line.TheConstants.{MOST_USERS};
+
+    ghost Value = { CellState };
+
+    ghost view = { λ c. record { terminals = c.terminals.items; gone = c.gone } };
+
+    ghost invariant = { λ c. length c.terminals.items ≤ MOST_USERS };
+}
+
+fn refused(refusal: CellRefusal) -> CellFault
+    ensures { result ≡ CellFault.Refused (CellReason.Cell refusal) }
+{
+    CellFault::Refused(CellReason::Cell(refusal))
+}
+
+// Whether a terminal's own script may have a line beside those that the cell gives it.
+fn is_own(line: &Line) -> bool
+    ensures { result ≡ is_own line.now }
+{
+    !matches!(
+        line,
+        Line::Tti { .. } | Line::Drain { .. } | Line::Forge { .. } | Line::End
+    )
+}
+
+fn is_end(line: &CellLine) -> bool
+    ensures { result ≡ is_end line.now }
+{
+    matches!(line, CellLine::End)
+}
+
+impl Cell {
+    /// A cell before the first line. It takes no memory.
+    pub fn new(alloc: Global) -> Cell
+        ensures { result ≡ fresh_cell }
+    {
+        Cell {
+            alloc,
+            terminals: Vec::new(alloc),
+            gone: 0,
+        }
+    }
+
+    // Why no line may stand that needs terminals.
+    fn missing(&self) -> Option<CellRefusal>
+        ensures { result ≡ missing self.now }
+    {
+        if self.terminals.is_empty() {
+            Some(CellRefusal::NoCell)
+        } else {
+            None
+        }
+    }
+
+    // Why no line of this terminal may stand.
+    fn unknown(&self, user: u32) -> Option<CellRefusal>
+        ensures refusal { result ≡ unknown user self.now }
+        ensures there { result ≡ None → user < length self.now.terminals }
+    {
+        if self.terminals.is_empty() {
+            return Some(CellRefusal::NoCell);
+        }
+        if self.terminals.len() <= user as usize {
+            return Some(CellRefusal::UnknownUser);
+        }
+        None
+    }
+
+    fn found(&mut self, users: u32) -> Result<(), CellFault>
+        requires { AreUsers users }
+        ensures { Acts (founds users self.old) self.new [] [] result }
+    {
+        if !self.terminals.is_empty() {
+            return Err(refused(CellRefusal::CellTwice));
+        }
+        self.terminals = fresh_terminals(self.alloc, users)?;
+        Ok(())
+    }
+
+    fn own_line(
+        &mut self,
+        user: u32,
+        line: &Option<Line>,
+        text: &mut Bytes,
+    ) -> Result<(), CellFault>
+        requires there { user < length self.old.terminals }
+        requires range { IfSome line.now IsInRange }
+        ensures { Acts (own_line user line.now self.old) self.new text.old text.new result }
+    {
+        let Some(line) = line else {
+            return Err(refused(CellRefusal::NotHere));
+        };
+        if !is_own(line) {
+            return Err(refused(CellRefusal::NotHere));
+        }
+        self.terminals[user as usize].step(self.alloc, user, line, text)
+    }
+
+    fn set_air(&mut self, user: u32, up: Outcome, down: Outcome)
+        requires { user < length self.old.terminals }
+        ensures { self.new ≡ set_air user up down self.old }
+    {
+        self.terminals[user as usize].set_outcomes(up, down);
+    }
+
+    fn go(&mut self, up_total: u32, down_total: u32, text: &mut Bytes) -> Result<(), CellFault>
+        requires { missing self.old ≡ None }
+        ensures { Acts (goes up_total down_total self.old) self.new text.old text.new result }
+    {
+        let Some(gone) = self.gone.checked_add(1) else {
+            return Err(CellFault::NoMemory);
+        };
+        let users = self.terminals.len() as u32;
+        let first = self.gone % users;
+        let terminals = self.terminals.as_mut_slice();
+        let up_grants = share(&up_wishes(terminals), users, first, up_total);
+        let down_grants = share(&down_wishes(terminals), users, first, down_total);
+        run_tti(self.alloc, terminals, &up_grants, &down_grants, text)?;
+        self.gone = gone;
+        Ok(())
+    }
+
+    // Runs a line of the grammar, and adds the text of its records.
+    #[tactic(auto, unfolding(crate::specs::Cells::acted))]
+    fn act(&mut self, line: &CellLine, text: &mut Bytes) -> Result<(), CellFault>
+        requires range { IsInCell line.now }
+        requires empty { text.old ≡ [] }
+        ensures { Acts (acted line.now self.old) self.new [] text.new result }
+    {
+        match line {
+            CellLine::Cell { users } => self.found(*users),
+            CellLine::To { user, line } => {
+                if let Some(refusal) = self.unknown(*user) {
+                    return Err(refused(refusal));
+                }
+                self.own_line(*user, line, text)
+            }
+            CellLine::Air { user, up, down } => {
+                if let Some(refusal) = self.unknown(*user) {
+                    return Err(refused(refusal));
+                }
+                self.set_air(*user, *up, *down);
+                Ok(())
+            }
+            CellLine::Go {
+                up_total,
+                down_total,
+            } => {
+                if let Some(refusal) = self.missing() {
+                    return Err(refused(refusal));
+                }
+                self.go(*up_total, *down_total, text)
+            }
+            CellLine::End => Ok(()),
+        }
+    }
+
+    // Runs a line of the grammar and writes its records.
+    #[tactic(auto, using(crate::proofs::Nothing::part_nothing))]
+    fn run_line<K: Sink>(&mut self, line: &CellLine, out: &mut K) -> LineEnd
+        requires { IsInCell line.now }
+        ensures line { RunsLine (acted line.now self.old) (Some self.new) (K.written out.old)
+            (K.written out.new) (HasRisen (K.faults out.old) (K.faults out.new)) result }
+        ensures count { K.faults out.old ≤ K.faults out.new }
+    {
+        let is_end = is_end(line);
+        let Ok(mut text) = Bytes::with_capacity(self.alloc, ROOM) else {
+            return LineEnd::NoMemory;
+        };
+        match self.act(line, &mut text) {
+            Ok(()) => match out.put(text.as_slice()) {
+                Ok(()) if is_end => LineEnd::Ended,
+                Ok(()) => LineEnd::Next,
+                Err(PutFault::Failed) => LineEnd::WriteFault,
+                Err(PutFault::NoMemory) => LineEnd::NoMemory,
+            },
+            Err(CellFault::Refused(reason)) => LineEnd::Refused(reason),
+            Err(CellFault::NoMemory) => LineEnd::NoMemory,
+        }
+    }
+
+    /// Runs one line and writes its records.
+    pub fn line<K: Sink>(&mut self, text: &[u8], out: &mut K) -> LineEnd
+        ensures line { (number : ℕ) → RunsLine (cell_line self.old number text.now) (Some self.new)
+            (K.written out.old)
+            (K.written out.new) (HasRisen (K.faults out.old) (K.faults out.new)) result }
+        ensures count { K.faults out.old ≤ K.faults out.new }
+    {
+        match read_cell_line(self.alloc, text) {
+            Ok(None) => LineEnd::Next,
+            Ok(Some(line)) => self.run_line(&line, out),
+            Err(LineFault::Refused(refusal)) => LineEnd::Refused(CellReason::Line(refusal)),
+            Err(LineFault::NoMemory) => LineEnd::NoMemory,
+        }
+    }
+
+    // The text of what stands at the end.
+    fn sums(self) -> Result<Bytes, NoMemory>
+        ensures { IfOk result (λ text. text ≡ texts_of (last_entries 0 self.terminals)) }
+    {
+        let mut text = Bytes::new(self.alloc);
+        finish_all(self.alloc, self.terminals, &mut text)?;
+        Ok(text)
+    }
+
+    /// Writes what stands at the end.
+    pub fn over<K: Sink>(self, out: &mut K) -> Ending
+        ensures over { Plays (finished cell self) (K.written out.old)
+            (K.written out.new) ⊥ (HasRisen (K.faults out.old) (K.faults out.new)) result }
+        ensures count { K.faults out.old ≤ K.faults out.new }
+    {
+        let Ok(text) = self.sums() else {
+            return Ending::NoMemory;
+        };
+        match out.put(text.as_slice()) {
+            Ok(()) => Ending::Done,
+            Err(PutFault::Failed) => Ending::WriteFault,
+            Err(PutFault::NoMemory) => Ending::NoMemory,
+        }
+    }
+}

@@ -1,0 +1,55 @@
+use air_run::RunRefusal;
+use air_text::LineRefusal;
+use l2_bits::NoMemory;
+use thiserror::Error;
+
+/// Why a line of the grammar of cells is not run, beside the rules of a terminal's own script.
+#[derive(Clone, Copy, Debug, PartialEq, Eq, Error)]
+pub enum CellRefusal {
+    /// There was no `cell` line as yet.
+    #[error("no cell")]
+    NoCell = 1,
+    /// There was a `cell` line already.
+    #[error("cell twice")]
+    CellTwice = 2,
+    /// The cell has no terminal of this number.
+    #[error("unknown user")]
+    UnknownUser = 3,
+    /// A line that no terminal's script may have of its own: `tti`, `drain`, `forge`, `end`, an
+    /// empty line or a comment.
+    #[error("not here")]
+    NotHere = 4,
+}
+
+/// Why an input was refused at a line.
+#[derive(Clone, Copy, Debug, PartialEq, Eq)]
+pub enum CellReason {
+    /// The line is outside the grammar.
+    Line(LineRefusal),
+    /// The line breaks a rule of the cell.
+    Cell(CellRefusal),
+    /// The line breaks a rule of its terminal's script.
+    Run(RunRefusal),
+    /// More than 1,000,000 lines.
+    Lines,
+}
+
+/// Why a line was not run.
+#[derive(Clone, Copy, Debug, PartialEq, Eq)]
+pub enum CellFault {
+    /// The line is refused; nothing was changed.
+    Refused(CellReason),
+    /// Memory ran out.
+    NoMemory,
+}
+
+impl From<NoMemory> for CellFault {
+    ghost use Rattle.std.specs.Prelude.{◌≡◌};
+    ghost use Rattle.cell_run.specs.declared.fault.CellFault.TheVariants.{NoMemory};
+
+    ghost from_gives = { λ _ e. e ≡ NoMemory };
+
+    fn from(_: NoMemory) -> Self {
+        CellFault::NoMemory
+    }
+}

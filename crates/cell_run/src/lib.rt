@@ -1,0 +1,20 @@
+//! A cell of several terminals that share totals of octets: the program `l2cell`, from the octets
+//! of an input to the octets written.
+//!
+//! Contracts speak of an exact machine, which stands in `specs/`.
+#![tactic(auto)]
+
+mod cell;
+mod command;
+mod fault;
+mod laws;
+mod numbered;
+mod playing;
+mod status;
+mod terminal;
+mod terminals;
+
+pub use command::cell_main;
+pub use fault::{CellReason, CellRefusal};
+pub use laws::all_run_alone;
+pub use status::CellStatus;

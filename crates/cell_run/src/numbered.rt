@@ -1,0 +1,32 @@
+ghost use Rattle.std.specs.Prelude.{◌≡◌, ◌<◌, ◌++◌, [], OnOk, MatchOption};
+ghost use Rattle.l2_io.specs.Feeds.{from_feed, IsFeedAt};
+ghost use Rattle.cell_run.specs.Entries.{numbered};
+ghost use Rattle.cell_text.specs.declared.line.TheConstants.{MOST_USERS};
+
+use l2_bits::{Bytes, NoMemory};
+use memchr::memchr;
+
+#[tactic(auto, using(l2_io::proofs::Feeds::from_feed_none, l2_io::proofs::Feeds::feed_first))]
+fn feed_at(octets: &[u8]) -> Option<usize>
+    ensures { MatchOption result (from_feed octets.now ≡ []) (IsFeedAt octets.now) }
+{
+    memchr(b'\n', octets)
+}
+
+/// Adds the lines of a text, each with a terminal's digit and a space before it.
+pub fn append_numbered(out: &mut Bytes, user: u32, text: &[u8]) -> Result<(), NoMemory>
+    requires { user < MOST_USERS }
+    ensures { OnOk result (out.new ≡ out.old ++ numbered user text.now) }
+{
+    let label = [b'0' + user as u8, b' '];
+    let mut rest = text;
+    while let Some(at) = feed_at(rest) {
+        let (line, ended) = rest.split_at(at);
+        let (_, behind) = ended.split_at(1);
+        out.append(&label)?;
+        out.append(line)?;
+        out.append(b"\n")?;
+        rest = behind;
+    }
+    Ok(())
+}
