@@ -163,6 +163,7 @@ impl Link {
     }
 
     // Keeps the memory of a block that is let go.
+    #[inline(always)]
     pub(crate) fn keep_memory(&mut self, octets: Bytes)
         ensures { self.new ≡ self.old }
     {
@@ -170,6 +171,7 @@ impl Link {
     }
 
     // Takes the memory of a block that was let go, where there is some.
+    #[inline(always)]
     pub(crate) fn take_memory(&mut self) -> Bytes
         ensures { self.new ≡ self.old }
     {
@@ -179,6 +181,7 @@ impl Link {
         }
     }
 
+    #[inline(always)]
     pub(crate) fn say(&mut self, one: Record) -> Result<(), NoMemory>
         ensures { OnOk result (self.new ≡ says one self.old) }
     {

@@ -28,7 +28,7 @@ fn append_take(
     add_number(text, u64::from(lcid))?;
     add_count(text, count)?;
     add_number(text, u64::from(len))?;
-    text.append(b"\n")
+    text.push(b'\n')
 }
 
 fn append_send(text: &mut Bytes, side: Side, lcid: u8, how: How, sn: u32) -> Result<(), NoMemory>
@@ -40,7 +40,7 @@ fn append_send(text: &mut Bytes, side: Side, lcid: u8, how: How, sn: u32) -> Res
     add_number(text, u64::from(lcid))?;
     add_how(text, how)?;
     add_number(text, u64::from(sn))?;
-    text.append(b"\n")
+    text.push(b'\n')
 }
 
 fn append_up(text: &mut Bytes, side: Side, lcid: u8, octets: &[u8]) -> Result<(), NoMemory>
@@ -51,7 +51,7 @@ fn append_up(text: &mut Bytes, side: Side, lcid: u8, octets: &[u8]) -> Result<()
     add_word(text, side_word(side))?;
     add_number(text, u64::from(lcid))?;
     add_hex(text, octets)?;
-    text.append(b"\n")
+    text.push(b'\n')
 }
 
 fn append_report(
@@ -69,7 +69,7 @@ fn append_report(
     add_number(text, u64::from(lcid))?;
     add_number(text, u64::from(fms))?;
     add_bitmap(text, bitmap)?;
-    text.append(b"\n")
+    text.push(b'\n')
 }
 
 fn append_integrity<'a>(
@@ -87,7 +87,7 @@ fn append_integrity<'a>(
     add_number(text, u64::from(lcid))?;
     add_hex(text, found)?;
     add_hex(text, wanted)?;
-    text.append(b"\n")
+    text.push(b'\n')
 }
 
 fn append_bad_block(text: &mut Bytes, side: Side, fault: &MacRefusal) -> Result<(), NoMemory>
@@ -99,7 +99,7 @@ fn append_bad_block(text: &mut Bytes, side: Side, fault: &MacRefusal) -> Result<
     add_word(text, "mac")?;
     add_number(text, u64::from(fault.at))?;
     add_number(text, mac_why(fault.why))?;
-    text.append(b"\n")
+    text.push(b'\n')
 }
 
 // A PDU of a layer above MAC can't be read.
@@ -121,7 +121,7 @@ fn append_bad_pdu(
     add_number(text, u64::from(lcid))?;
     add_number(text, u64::from(at))?;
     add_number(text, why)?;
-    text.append(b"\n")
+    text.push(b'\n')
 }
 
 // What happens to a bearer, and which timer or why.
@@ -139,7 +139,7 @@ fn append_named(
     add_word(text, side_word(side))?;
     add_number(text, u64::from(lcid))?;
     add_word(text, which)?;
-    text.append(b"\n")
+    text.push(b'\n')
 }
 
 // What happens to a timer of a bearer.
@@ -158,7 +158,7 @@ fn append_timer(
     add_word(text, side_word(side))?;
     add_number(text, u64::from(lcid))?;
     add_clock(text, clock)?;
-    text.append(b"\n")
+    text.push(b'\n')
 }
 
 // What happens to a bearer, with a number or a length.
@@ -176,7 +176,7 @@ fn append_numbered(
     add_word(text, side_word(side))?;
     add_number(text, u64::from(lcid))?;
     add_number(text, u64::from(which))?;
-    text.append(b"\n")
+    text.push(b'\n')
 }
 
 /// Adds the text of what happens at one end, and a line feed.

@@ -19,7 +19,7 @@ fn append_keys(text: &mut Bytes, keys: &Keys) -> Result<(), NoMemory>
     add_hex(text, &keys.user.octets)?;
     add_hex(text, &keys.rrc.octets)?;
     add_hex(text, &keys.integrity.octets)?;
-    text.append(b"\n")
+    text.push(b'\n')
 }
 
 fn append_bearer(text: &mut Bytes, config: &BearerConfig, options: &[u8]) -> Result<(), NoMemory>
@@ -32,13 +32,13 @@ fn append_bearer(text: &mut Bytes, config: &BearerConfig, options: &[u8]) -> Res
         text.append(b"bearer")?;
         add_number(text, u64::from(lcid))?;
         add_word(text, kind)?;
-        return text.append(b"\n");
+        return text.push(b'\n');
     }
     text.append(b"bearer")?;
     add_number(text, u64::from(lcid))?;
     add_word(text, kind)?;
     add_given(text, options)?;
-    text.append(b"\n")
+    text.push(b'\n')
 }
 
 fn append_submit(text: &mut Bytes, side: Side, lcid: u8, octets: &[u8]) -> Result<(), NoMemory>
@@ -49,7 +49,7 @@ fn append_submit(text: &mut Bytes, side: Side, lcid: u8, octets: &[u8]) -> Resul
     add_word(text, side_word(side))?;
     add_number(text, u64::from(lcid))?;
     add_hex(text, octets)?;
-    text.append(b"\n")
+    text.push(b'\n')
 }
 
 fn append_tti(
@@ -67,7 +67,7 @@ fn append_tti(
     add_outcome(text, up)?;
     add_number(text, u64::from(down_grant))?;
     add_outcome(text, down)?;
-    text.append(b"\n")
+    text.push(b'\n')
 }
 
 fn append_expire(text: &mut Bytes, side: Side, lcid: u8, clock: Clock) -> Result<(), NoMemory>
@@ -77,7 +77,7 @@ fn append_expire(text: &mut Bytes, side: Side, lcid: u8, clock: Clock) -> Result
     add_word(text, side_word(side))?;
     add_number(text, u64::from(lcid))?;
     add_clock(text, clock)?;
-    text.append(b"\n")
+    text.push(b'\n')
 }
 
 fn append_handover<'a>(
@@ -93,7 +93,7 @@ fn append_handover<'a>(
     add_hex(text, &user.octets)?;
     add_hex(text, &rrc.octets)?;
     add_hex(text, &integrity.octets)?;
-    text.append(b"\n")
+    text.push(b'\n')
 }
 
 fn append_loop(text: &mut Bytes, mode: &'static str, with: u32) -> Result<(), NoMemory>
@@ -103,7 +103,7 @@ fn append_loop(text: &mut Bytes, mode: &'static str, with: u32) -> Result<(), No
     text.append(b"loop")?;
     add_word(text, mode)?;
     add_number(text, u64::from(with))?;
-    text.append(b"\n")
+    text.push(b'\n')
 }
 
 fn append_forge(text: &mut Bytes, side: Side, octets: &[u8]) -> Result<(), NoMemory>
@@ -112,7 +112,7 @@ fn append_forge(text: &mut Bytes, side: Side, octets: &[u8]) -> Result<(), NoMem
     text.append(b"forge")?;
     add_word(text, side_word(side))?;
     add_hex(text, octets)?;
-    text.append(b"\n")
+    text.push(b'\n')
 }
 
 fn append_discard(text: &mut Bytes, lcid: u8, ttis: u32) -> Result<(), NoMemory>
@@ -121,7 +121,7 @@ fn append_discard(text: &mut Bytes, lcid: u8, ttis: u32) -> Result<(), NoMemory>
     text.append(b"discard")?;
     add_number(text, u64::from(lcid))?;
     add_number(text, u64::from(ttis))?;
-    text.append(b"\n")
+    text.push(b'\n')
 }
 
 fn append_drx(text: &mut Bytes, config: &DrxConfig) -> Result<(), NoMemory>
@@ -133,7 +133,7 @@ fn append_drx(text: &mut Bytes, config: &DrxConfig) -> Result<(), NoMemory>
     add_number(text, u64::from(config.retransmit))?;
     add_number(text, u64::from(config.cycle))?;
     add_number(text, u64::from(config.offset))?;
-    text.append(b"\n")
+    text.push(b'\n')
 }
 
 /// Adds the text of a line, and a line feed.

@@ -29,7 +29,7 @@ pub fn append_accepted(text: &mut Bytes, place: u32, line: &Line) -> Result<(), 
 {
     text.append(b"line ")?;
     append_number(text, u64::from(place))?;
-    text.append(b" ")?;
+    text.push(b' ')?;
     append_line(text, line)
 }
 
@@ -50,7 +50,7 @@ fn append_block(
     add_fresh(text, fresh)?;
     add_number(text, u64::from(rv))?;
     add_hex(text, octets)?;
-    text.append(b"\n")
+    text.push(b'\n')
 }
 
 fn append_air(
@@ -66,7 +66,7 @@ fn append_air(
     add_word(text, direction_word(direction))?;
     add_arrived(text, what)?;
     add_heard(text, heard)?;
-    text.append(b"\n")
+    text.push(b'\n')
 }
 
 fn append_refused(text: &mut Bytes, side: Side, lcid: u8, why: NoPlace) -> Result<(), NoMemory>
@@ -77,7 +77,7 @@ fn append_refused(text: &mut Bytes, side: Side, lcid: u8, why: NoPlace) -> Resul
     add_word(text, side_word(side))?;
     add_number(text, u64::from(lcid))?;
     add_word(text, place_word(why))?;
-    text.append(b"\n")
+    text.push(b'\n')
 }
 
 fn append_looped(text: &mut Bytes, lcid: u8, octets: &[u8]) -> Result<(), NoMemory>
@@ -87,7 +87,7 @@ fn append_looped(text: &mut Bytes, lcid: u8, octets: &[u8]) -> Result<(), NoMemo
     text.append(b"loop")?;
     add_number(text, u64::from(lcid))?;
     add_hex(text, octets)?;
-    text.append(b"\n")
+    text.push(b'\n')
 }
 
 fn append_sum(
@@ -107,7 +107,7 @@ fn append_sum(
     add_number(text, submitted)?;
     add_number(text, delivered)?;
     add_word(text, state_word(state))?;
-    text.append(b"\n")
+    text.push(b'\n')
 }
 
 /// Adds the text of a record, which ends with a line feed, to a text.

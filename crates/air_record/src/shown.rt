@@ -19,7 +19,7 @@ pub fn append_value(text: &mut Bytes, what: &'static str, value: u32) -> Result<
 {
     text.append(what.as_bytes())?;
     add_number(text, u64::from(value))?;
-    text.append(b"\n")
+    text.push(b'\n')
 }
 
 /// A part of a block that has a number and a length.
@@ -36,7 +36,7 @@ pub fn append_sized(
     text.append(what.as_bytes())?;
     add_number(text, u64::from(which))?;
     add_number(text, u64::from(len))?;
-    text.append(b"\n")
+    text.push(b'\n')
 }
 
 fn append_group(text: &mut Bytes, what: &'static str, group: u8, level: u8) -> Result<(), NoMemory>
@@ -47,7 +47,7 @@ fn append_group(text: &mut Bytes, what: &'static str, group: u8, level: u8) -> R
     add_word(text, what)?;
     add_number(text, u64::from(group))?;
     add_number(text, u64::from(level))?;
-    text.append(b"\n")
+    text.push(b'\n')
 }
 
 // A part of a block that has four numbers.
@@ -62,7 +62,7 @@ fn append_four(text: &mut Bytes, what: &'static str, levels: [u8; 4]) -> Result<
     add_number(text, u64::from(b))?;
     add_number(text, u64::from(c))?;
     add_number(text, u64::from(d))?;
-    text.append(b"\n")
+    text.push(b'\n')
 }
 
 fn append_levels(text: &mut Bytes, levels: [u8; 4]) -> Result<(), NoMemory>
@@ -88,7 +88,7 @@ fn append_identity(text: &mut Bytes, what: &'static str, identity: &[u8]) -> Res
     text.append(b"mac")?;
     add_word(text, what)?;
     add_hex(text, identity)?;
-    text.append(b"\n")
+    text.push(b'\n')
 }
 
 /// Adds the text of a control element of a block, and a line feed.
@@ -117,7 +117,7 @@ pub fn append_umd(text: &mut Bytes, sn: u32, fi: u8, lens: &Lens) -> Result<(), 
     add_number(text, u64::from(sn))?;
     add_word(text, framing_word(fi))?;
     add_lens(text, lens)?;
-    text.append(b"\n")
+    text.push(b'\n')
 }
 
 // The fields that an AMD PDU and a segment of one begin with.
@@ -151,7 +151,7 @@ pub fn append_amd(
 {
     append_amd_head(text, "rlc am", sn, poll, fi)?;
     add_lens(text, lens)?;
-    text.append(b"\n")
+    text.push(b'\n')
 }
 
 /// An AMD PDU segment.
@@ -171,7 +171,7 @@ pub fn append_segment(
     add_word(text, bit_word(last))?;
     add_number(text, u64::from(so))?;
     add_lens(text, lens)?;
-    text.append(b"\n")
+    text.push(b'\n')
 }
 
 /// A STATUS.
@@ -182,7 +182,7 @@ pub fn append_status(text: &mut Bytes, ack: u32, nacks: &Nacks) -> Result<(), No
     text.append(b"rlc status")?;
     add_number(text, u64::from(ack))?;
     add_nacks(text, nacks)?;
-    text.append(b"\n")
+    text.push(b'\n')
 }
 
 /// A PDCP PDU of a signalling bearer.
@@ -194,7 +194,7 @@ pub fn append_signalling(text: &mut Bytes, sn: u32, len: u32, tag: &[u8]) -> Res
     add_number(text, u64::from(sn))?;
     add_number(text, u64::from(len))?;
     add_hex(text, tag)?;
-    text.append(b"\n")
+    text.push(b'\n')
 }
 
 // A part of a block that has a number and a bitmap.
@@ -210,7 +210,7 @@ fn append_mapped(
     text.append(what.as_bytes())?;
     add_number(text, u64::from(from))?;
     add_bitmap(text, bitmap)?;
-    text.append(b"\n")
+    text.push(b'\n')
 }
 
 /// A PDCP status report.
@@ -235,7 +235,7 @@ pub fn append_shown(
     add_number(text, u64::from(place))?;
     add_word(text, direction_word(direction))?;
     add_number(text, u64::from(len))?;
-    text.append(b"\n")
+    text.push(b'\n')
 }
 
 /// A shown PDU that can't be read: at which octet, and why by its number.
@@ -247,5 +247,5 @@ pub fn append_bad(text: &mut Bytes, layer: &'static str, at: u32, why: u64) -> R
     add_word(text, layer)?;
     add_number(text, u64::from(at))?;
     add_number(text, why)?;
-    text.append(b"\n")
+    text.push(b'\n')
 }

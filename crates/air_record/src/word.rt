@@ -14,8 +14,26 @@ use text_digits::{append_hex, append_number};
 pub fn add_word(text: &mut Bytes, word: &'static str) -> Result<(), NoMemory>
     ensures { OnOk result (text.new ≡ text.old ++ 32 ∷ word.now) }
 {
-    text.append(b" ")?;
+    text.push(b' ')?;
     text.append(word.as_bytes())
+}
+
+// Adds two octets.
+#[inline(always)]
+fn push_two(text: &mut Bytes, one: u8, other: u8) -> Result<(), NoMemory>
+    ensures { OnOk result (text.new ≡ text.old ++ one ∷ other ∷ []) }
+{
+    text.push(one)?;
+    text.push(other)
+}
+
+// Adds three octets.
+#[inline(always)]
+fn push_three(text: &mut Bytes, one: u8, other: u8, third: u8) -> Result<(), NoMemory>
+    ensures { OnOk result (text.new ≡ text.old ++ one ∷ other ∷ third ∷ []) }
+{
+    push_two(text, one, other)?;
+    text.push(third)
 }
 
 // The digit of a number below 10.
@@ -36,7 +54,7 @@ fn add_long(text: &mut Bytes, number: u64) -> Result<(), NoMemory>
 {
     let (tens, ones) = (number / 10, digit(number % 10));
     if number < 100 {
-        return text.append(&[b' ', digit(tens), ones]);
+        return push_three(text, b' ', digit(tens), ones);
     }
     let (hundreds, tens) = (tens / 10, digit(tens % 10));
     if number < 1000 {
@@ -45,7 +63,7 @@ fn add_long(text: &mut Bytes, number: u64) -> Result<(), NoMemory>
     if number < 10_000 {
         return text.append(&[b' ', digit(hundreds / 10), digit(hundreds % 10), tens, ones]);
     }
-    text.append(b" ")?;
+    text.push(b' ')?;
     append_number(text, number)
 }
 
@@ -56,7 +74,7 @@ pub fn add_number(text: &mut Bytes, number: u64) -> Result<(), NoMemory>
     ensures { OnOk result (text.new ≡ text.old ++ 32 ∷ decimal number) }
 {
     if number < 10 {
-        return text.append(&[b' ', digit(number)]);
+        return push_two(text, b' ', digit(number));
     }
     add_long(text, number)
 }
@@ -65,7 +83,7 @@ pub fn add_number(text: &mut Bytes, number: u64) -> Result<(), NoMemory>
 pub fn add_hex(text: &mut Bytes, octets: &[u8]) -> Result<(), NoMemory>
     ensures { OnOk result (text.new ≡ text.old ++ 32 ∷ encode_lower octets.now) }
 {
-    text.append(b" ")?;
+    text.push(b' ')?;
     append_hex(text, octets)
 }
 
@@ -73,7 +91,7 @@ pub fn add_hex(text: &mut Bytes, octets: &[u8]) -> Result<(), NoMemory>
 pub fn add_given(text: &mut Bytes, given: &[u8]) -> Result<(), NoMemory>
     ensures { OnOk result (text.new ≡ text.old ++ 32 ∷ given.now) }
 {
-    text.append(b" ")?;
+    text.push(b' ')?;
     text.append(given)
 }
 
@@ -112,7 +130,7 @@ fn append_more_lens(text: &mut Bytes, lens: &Lens) -> Result<(), NoMemory>
     ensures { OnOk result (text.new ≡ text.old ++ comma_before (map decimal (drop 1 lens.now))) }
 {
     for at in 1..lens.len() {
-        text.append(b",")?;
+        text.push(b',')?;
         append_number(text, u64::from(item_at(lens, at)))?;
     }
     Ok(())
@@ -123,7 +141,7 @@ pub fn add_lens(text: &mut Bytes, lens: &Lens) -> Result<(), NoMemory>
     ensures { OnOk result (text.new ≡ text.old ++ 32 ∷ lens_text lens.now) }
 {
     let Some(first) = lens.get(0) else {
-        return text.append(b" ");
+        return text.push(b' ');
     };
     add_number(text, u64::from(*first))?;
     append_more_lens(text, lens)
@@ -136,9 +154,9 @@ fn append_nack(text: &mut Bytes, nack: &Nack) -> Result<(), NoMemory>
     let Some(part) = nack.part else {
         return Ok(());
     };
-    text.append(b":")?;
+    text.push(b':')?;
     append_number(text, u64::from(part.start))?;
-    text.append(b"-")?;
+    text.push(b'-')?;
     append_number(text, u64::from(part.end))
 }
 
@@ -147,7 +165,7 @@ fn append_more_nacks(text: &mut Bytes, nacks: &Nacks) -> Result<(), NoMemory>
     ensures { OnOk result (text.new ≡ text.old ++ comma_before (map nack_text (drop 1 nacks.now))) }
 {
     for at in 1..nacks.len() {
-        text.append(b",")?;
+        text.push(b',')?;
         append_nack(text, &item_at(nacks, at))?;
     }
     Ok(())
@@ -160,7 +178,7 @@ pub fn add_nacks(text: &mut Bytes, nacks: &Nacks) -> Result<(), NoMemory>
     let Some(first) = nacks.get(0) else {
         return text.append(b" -");
     };
-    text.append(b" ")?;
+    text.push(b' ')?;
     append_nack(text, first)?;
     append_more_nacks(text, nacks)
 }
@@ -172,5 +190,5 @@ pub fn append_counted(text: &mut Bytes, name: &'static str, count: u64) -> Resul
 {
     text.append(name.as_bytes())?;
     add_number(text, count)?;
-    text.append(b"\n")
+    text.push(b'\n')
 }

@@ -3,3 +3,4 @@ pub mod Octets
 pub mod Configs
 pub mod Splits
 pub mod LinesBack
+pub mod Firsts

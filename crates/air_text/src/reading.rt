@@ -1,4 +1,4 @@
-ghost use Rattle.std.specs.Prelude.{◌≡◌, ℕ, List, codes, IfOk, IfSome};
+ghost use Rattle.std.specs.Prelude.{◌≡◌, ℕ, List, codes, false, IfOk, IfSome};
 ghost use Rattle.air_text.specs.Ranges.{IsInRange};
 ghost use Rattle.air_text.specs.Words.{Gives, texts, joined, is_twice};
 ghost use Rattle.air_text.specs.Options.{config_of, options_of, goes};
@@ -19,17 +19,18 @@ use eps_sec::Keys;
 use l2_types::{DrxConfig, GREATEST_GRANT, GREATEST_SDU};
 use std::alloc::Global;
 
-// Lines that come seldom are read by functions of their own: inlined, each would take its room in
-// the reading of every line.
+// Each kind of line is read by a function of its own: inlined, each would take its room in the
+// reading of every line. All give the same type, so that the one who asks passes a line on where it
+// lies.
 
 #[tactic(auto, unfolding(crate::specs::Reading::harq_of))]
 #[inline(never)]
-fn harq(fields: &[&[u8]]) -> Result<Line, LineRefusal>
-    ensures line { result ≡ harq_of (texts fields.now) }
+fn harq(fields: &[&[u8]]) -> Result<Line, LineFault>
+    ensures line { Gives result (harq_of (texts fields.now)) }
     ensures ranges { IfOk result IsInRange }
 {
     let [visits] = fields else {
-        return Err(LineRefusal::Fields);
+        return Err(LineFault::Refused(LineRefusal::Fields));
     };
     let visits = number(visits, 1, 28)?;
     Ok(Line::Harq { visits })
@@ -37,12 +38,12 @@ fn harq(fields: &[&[u8]]) -> Result<Line, LineRefusal>
 
 #[tactic(auto, unfolding(crate::specs::Reading::bsr_of))]
 #[inline(never)]
-fn bsr(fields: &[&[u8]]) -> Result<Line, LineRefusal>
-    ensures line { result ≡ bsr_of (texts fields.now) }
+fn bsr(fields: &[&[u8]]) -> Result<Line, LineFault>
+    ensures line { Gives result (bsr_of (texts fields.now)) }
     ensures ranges { IfOk result IsInRange }
 {
     let [on] = fields else {
-        return Err(LineRefusal::Fields);
+        return Err(LineFault::Refused(LineRefusal::Fields));
     };
     word(on, b"on")?;
     Ok(Line::Bsr)
@@ -94,6 +95,7 @@ fn bearer(alloc: Global, fields: &[&[u8]]) -> Result<Line, LineFault>
 }
 
 #[tactic(auto, unfolding(crate::specs::Reading::submit_of))]
+#[inline(never)]
 fn submit(alloc: Global, fields: &[&[u8]]) -> Result<Line, LineFault>
     ensures line { Gives result (submit_of (texts fields.now)) }
     ensures ranges { IfOk result IsInRange }
@@ -108,12 +110,13 @@ fn submit(alloc: Global, fields: &[&[u8]]) -> Result<Line, LineFault>
 }
 
 #[tactic(auto, unfolding(crate::specs::Reading::tti_of))]
-fn tti(fields: &[&[u8]]) -> Result<Line, LineRefusal>
-    ensures line { result ≡ tti_of (texts fields.now) }
+#[inline(never)]
+fn tti(fields: &[&[u8]]) -> Result<Line, LineFault>
+    ensures line { Gives result (tti_of (texts fields.now)) }
     ensures ranges { IfOk result IsInRange }
 {
     let [up_grant, up, down_grant, down] = fields else {
-        return Err(LineRefusal::Fields);
+        return Err(LineFault::Refused(LineRefusal::Fields));
     };
     let up_grant = number(up_grant, 0, GREATEST_GRANT)?;
     let up = outcome(up)?;
@@ -129,12 +132,12 @@ fn tti(fields: &[&[u8]]) -> Result<Line, LineRefusal>
 
 #[tactic(auto, unfolding(crate::specs::Reading::expire_of))]
 #[inline(never)]
-fn expire(fields: &[&[u8]]) -> Result<Line, LineRefusal>
-    ensures line { result ≡ expire_of (texts fields.now) }
+fn expire(fields: &[&[u8]]) -> Result<Line, LineFault>
+    ensures line { Gives result (expire_of (texts fields.now)) }
     ensures ranges { IfOk result IsInRange }
 {
     let [node, lcid, timer] = fields else {
-        return Err(LineRefusal::Fields);
+        return Err(LineFault::Refused(LineRefusal::Fields));
     };
     let side = side(node)?;
     let lcid = number(lcid, 0, 10)? as u8;
@@ -162,36 +165,36 @@ fn handover(alloc: Global, fields: &[&[u8]]) -> Result<Line, LineFault>
 }
 
 #[tactic(auto, unfolding(crate::specs::Reading::loop_off_of))]
-fn loop_off(fields: &[&[u8]]) -> Result<Line, LineRefusal>
-    ensures line { result ≡ loop_off_of (texts fields.now) }
+fn loop_off(fields: &[&[u8]]) -> Result<Line, LineFault>
+    ensures line { Gives result (loop_off_of (texts fields.now)) }
     ensures ranges { IfOk result IsInRange }
 {
     if fields.is_empty() {
         Ok(Line::LoopOff)
     } else {
-        Err(LineRefusal::Fields)
+        Err(LineFault::Refused(LineRefusal::Fields))
     }
 }
 
 #[tactic(auto, unfolding(crate::specs::Reading::loop_a_of))]
-fn loop_a(fields: &[&[u8]]) -> Result<Line, LineRefusal>
-    ensures line { result ≡ loop_a_of (texts fields.now) }
+fn loop_a(fields: &[&[u8]]) -> Result<Line, LineFault>
+    ensures line { Gives result (loop_a_of (texts fields.now)) }
     ensures ranges { IfOk result IsInRange }
 {
     let [size] = fields else {
-        return Err(LineRefusal::Fields);
+        return Err(LineFault::Refused(LineRefusal::Fields));
     };
     let size = number(size, 0, GREATEST_SDU as u32)?;
     Ok(Line::LoopA { size })
 }
 
 #[tactic(auto, unfolding(crate::specs::Reading::loop_b_of))]
-fn loop_b(fields: &[&[u8]]) -> Result<Line, LineRefusal>
-    ensures line { result ≡ loop_b_of (texts fields.now) }
+fn loop_b(fields: &[&[u8]]) -> Result<Line, LineFault>
+    ensures line { Gives result (loop_b_of (texts fields.now)) }
     ensures ranges { IfOk result IsInRange }
 {
     let [delay] = fields else {
-        return Err(LineRefusal::Fields);
+        return Err(LineFault::Refused(LineRefusal::Fields));
     };
     let delay = number(delay, 0, 65535)?;
     Ok(Line::LoopB { delay })
@@ -199,12 +202,12 @@ fn loop_b(fields: &[&[u8]]) -> Result<Line, LineRefusal>
 
 #[tactic(auto, unfolding(crate::specs::Reading::loop_of))]
 #[inline(never)]
-fn loop_line(fields: &[&[u8]]) -> Result<Line, LineRefusal>
-    ensures line { result ≡ loop_of (texts fields.now) }
+fn loop_line(fields: &[&[u8]]) -> Result<Line, LineFault>
+    ensures line { Gives result (loop_of (texts fields.now)) }
     ensures ranges { IfOk result IsInRange }
 {
     let [mode, fields @ ..] = fields else {
-        return Err(LineRefusal::Fields);
+        return Err(LineFault::Refused(LineRefusal::Fields));
     };
     if is_word(mode, b"off") {
         loop_off(fields)
@@ -213,18 +216,18 @@ fn loop_line(fields: &[&[u8]]) -> Result<Line, LineRefusal>
     } else if is_word(mode, b"b") {
         loop_b(fields)
     } else {
-        Err(LineRefusal::Word)
+        Err(LineFault::Refused(LineRefusal::Word))
     }
 }
 
 #[tactic(auto, unfolding(crate::specs::Reading::drain_of))]
 #[inline(never)]
-fn drain(fields: &[&[u8]]) -> Result<Line, LineRefusal>
-    ensures line { result ≡ drain_of (texts fields.now) }
+fn drain(fields: &[&[u8]]) -> Result<Line, LineFault>
+    ensures line { Gives result (drain_of (texts fields.now)) }
     ensures ranges { IfOk result IsInRange }
 {
     let [grant] = fields else {
-        return Err(LineRefusal::Fields);
+        return Err(LineFault::Refused(LineRefusal::Fields));
     };
     let grant = number(grant, 0, GREATEST_GRANT)?;
     Ok(Line::Drain { grant })
@@ -246,25 +249,25 @@ fn forge(alloc: Global, fields: &[&[u8]]) -> Result<Line, LineFault>
 
 #[tactic(auto, unfolding(crate::specs::Reading::end_of))]
 #[inline(never)]
-fn end(fields: &[&[u8]]) -> Result<Line, LineRefusal>
-    ensures line { result ≡ end_of (texts fields.now) }
+fn end(fields: &[&[u8]]) -> Result<Line, LineFault>
+    ensures line { Gives result (end_of (texts fields.now)) }
     ensures ranges { IfOk result IsInRange }
 {
     if fields.is_empty() {
         Ok(Line::End)
     } else {
-        Err(LineRefusal::Fields)
+        Err(LineFault::Refused(LineRefusal::Fields))
     }
 }
 
 #[tactic(auto, unfolding(crate::specs::Reading::discard_of))]
 #[inline(never)]
-fn discard(fields: &[&[u8]]) -> Result<Line, LineRefusal>
-    ensures line { result ≡ discard_of (texts fields.now) }
+fn discard(fields: &[&[u8]]) -> Result<Line, LineFault>
+    ensures line { Gives result (discard_of (texts fields.now)) }
     ensures ranges { IfOk result IsInRange }
 {
     let [lcid, ttis] = fields else {
-        return Err(LineRefusal::Fields);
+        return Err(LineFault::Refused(LineRefusal::Fields));
     };
     let lcid = number(lcid, 0, 10)? as u8;
     let ttis = number(ttis, 2, 65535)?;
@@ -273,12 +276,12 @@ fn discard(fields: &[&[u8]]) -> Result<Line, LineRefusal>
 
 #[tactic(auto, unfolding(crate::specs::Reading::drx_of))]
 #[inline(never)]
-fn drx(fields: &[&[u8]]) -> Result<Line, LineRefusal>
-    ensures line { result ≡ drx_of (texts fields.now) }
+fn drx(fields: &[&[u8]]) -> Result<Line, LineFault>
+    ensures line { Gives result (drx_of (texts fields.now)) }
     ensures ranges { IfOk result IsInRange }
 {
     let [on, inactivity, retransmit, cycle, offset] = fields else {
-        return Err(LineRefusal::Fields);
+        return Err(LineFault::Refused(LineRefusal::Fields));
     };
     let on = number(on, 1, 200)?;
     let inactivity = number(inactivity, 0, 2560)?;
@@ -296,38 +299,53 @@ fn drx(fields: &[&[u8]]) -> Result<Line, LineRefusal>
     })
 }
 
+// The lines that come most are looked for first.
+#[tactic(auto, using(crate::proofs::Firsts::line_submit, crate::proofs::Firsts::line_tti))]
 fn line(alloc: Global, first: &[u8], fields: &[&[u8]]) -> Result<Line, LineFault>
     ensures line { Gives result (line_of first.now (texts fields.now)) }
     ensures ranges { IfOk result IsInRange }
 {
+    if is_word(first, b"submit") {
+        submit(alloc, fields)
+    } else if is_word(first, b"tti") {
+        tti(fields)
+    } else {
+        other(alloc, first, fields)
+    }
+}
+
+// A line of another kind than those.
+#[inline(never)]
+fn other(alloc: Global, first: &[u8], fields: &[&[u8]]) -> Result<Line, LineFault>
+    requires no_submit { bytes_eq first.now (codes "submit") ≡ false }
+    requires no_tti { bytes_eq first.now (codes "tti") ≡ false }
+    ensures line { Gives result (line_of first.now (texts fields.now)) }
+    ensures ranges { IfOk result IsInRange }
+{
     if is_word(first, b"harq") {
-        Ok(harq(fields)?)
+        harq(fields)
     } else if is_word(first, b"bsr") {
-        Ok(bsr(fields)?)
+        bsr(fields)
     } else if is_word(first, b"keys") {
         keys(alloc, fields)
     } else if is_word(first, b"bearer") {
         bearer(alloc, fields)
-    } else if is_word(first, b"submit") {
-        submit(alloc, fields)
-    } else if is_word(first, b"tti") {
-        Ok(tti(fields)?)
     } else if is_word(first, b"expire") {
-        Ok(expire(fields)?)
+        expire(fields)
     } else if is_word(first, b"handover") {
         handover(alloc, fields)
     } else if is_word(first, b"loop") {
-        Ok(loop_line(fields)?)
+        loop_line(fields)
     } else if is_word(first, b"drain") {
-        Ok(drain(fields)?)
+        drain(fields)
     } else if is_word(first, b"forge") {
         forge(alloc, fields)
     } else if is_word(first, b"end") {
-        Ok(end(fields)?)
+        end(fields)
     } else if is_word(first, b"discard") {
-        Ok(discard(fields)?)
+        discard(fields)
     } else if is_word(first, b"drx") {
-        Ok(drx(fields)?)
+        drx(fields)
     } else {
         Err(LineFault::Refused(LineRefusal::Word))
     }

@@ -176,9 +176,6 @@ bits-high (suc n) x v =
     let tail : bits n (x * 2 ^ suc n + v) ≡ bits n v = rw e (bits-high n (x * 2) v) in
     rw (head, tail) refl
 
-pub bits-low : (n v : ℕ) → bits n (v % 2 ^ n) ≡ bits n v
-bits-low n v = sym (ap (bits n) (sym (shr_split v n)) ∙ bits-high n (v / 2 ^ n) (v % 2 ^ n))
-
 -- the bits of a number and of a number behind it
 pub bits-cat : (a b x y : ℕ) → y < 2 ^ b → bits (a + b) (x * 2 ^ b + y) ≡ bits a x ++ bits b y
 unfolding bits

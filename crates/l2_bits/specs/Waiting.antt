@@ -1,4 +1,5 @@
--- What waits in a ring, of which there is none until the first item comes.
+-- What waits in a ring, of which there is none until the first item comes
+-- (docs/laws/PROGRAM.md).
 use Rattle.std.specs.Prelude.{◌<◌, List, [], length, Option, Some, None}
 use Rattle.circular_buffer.specs.Buffer.{Buffer}
 

@@ -1,4 +1,4 @@
-ghost use Rattle.std.specs.Prelude.{◌≡◌, [], ◌++◌, IfOk, OnOk, OnErr, replicate};
+ghost use Rattle.std.specs.Prelude.{◌≡◌, [], ◌∷◌, ◌++◌, IfOk, OnOk, OnErr, replicate};
 
 use crate::fault::NoMemory;
 use std::alloc::Global;
@@ -62,11 +62,22 @@ impl Bytes {
     }
 
     /// Adds a copy of the octets at the end. An `Err` changes nothing.
+    #[inline(always)]
     pub fn append(&mut self, from: &[u8]) -> Result<(), NoMemory>
         ensures ok { OnOk result (self.new ≡ self.old ++ from.now) }
         ensures err { OnErr result (self.new ≡ self.old) }
     {
         self.octets.extend_from_slice(from)?;
+        Ok(())
+    }
+
+    /// Adds an octet at the end. An `Err` changes nothing.
+    #[inline(always)]
+    pub fn push(&mut self, octet: u8) -> Result<(), NoMemory>
+        ensures ok { OnOk result (self.new ≡ self.old ++ octet ∷ []) }
+        ensures err { OnErr result (self.new ≡ self.old) }
+    {
+        self.octets.push(octet)?;
         Ok(())
     }
 

@@ -59,6 +59,7 @@ impl<T> Items<T> {
     }
 
     /// Takes out the first item; `None` exactly where the list is empty.
+    #[inline(always)]
     pub fn pop_front(&mut self) -> Option<T>
         ensures { MatchOption result ((self.old ≡ []) × (self.new ≡ []))
             (λ one. self.old ≡ one ∷ self.new) }
@@ -67,6 +68,7 @@ impl<T> Items<T> {
     }
 
     /// Adds an item at the end. An `Err` gives it back and changes nothing.
+    #[inline(always)]
     pub fn push_back(&mut self, one: T) -> Result<(), (T, NoMemory)>
         ensures { MatchResult result
             (λ _. self.new ≡ self.old ++ one ∷ [])
@@ -80,6 +82,7 @@ impl<T> Items<T> {
 
     /// Moves the other list's items to the end of this one, or all of it where this one is empty.
     /// An `Err` changes nothing.
+    #[inline(always)]
     pub fn append(&mut self, other: &mut Items<T>) -> Result<(), NoMemory>
         ensures ok { OnOk result (self.new ≡ self.old ++ other.old) }
         ensures moved { OnOk result (other.new ≡ []) }
@@ -97,11 +100,15 @@ impl<T> Items<T> {
 
 impl<T: Drop> Items<T> {
     /// Adds an item at the end. An `Err` changes nothing, and the item is dropped.
+    #[inline(always)]
     pub fn push(&mut self, one: T) -> Result<(), NoMemory>
         ensures ok { OnOk result (self.new ≡ self.old ++ one ∷ []) }
         ensures err { OnErr result (self.new ≡ self.old) }
     {
-        self.items.push_back(one)?;
+        if self.items.len() == self.items.capacity() {
+            self.items.reserve(1)?;
+        }
+        self.items.push_back_reserved(one);
         Ok(())
     }
 }

@@ -3,7 +3,8 @@ ghost use Rattle.std.specs.Prelude.{◌≡◌, ◌≤◌, ◌<◌, ◌+◌, [], 
 ghost use Rattle.harq.specs.Sending.{ndi_of};
 ghost use Rattle.prioritise.specs.Shares.{after_allot};
 ghost use Rattle.bearer_types.specs.Sides.{sent_by};
-ghost use Rattle.l2_node.specs.Writing.{taken_up, need_at, needs, filled, written};
+ghost use Rattle.l2_node.specs.Writing.{taken_up, need_at, needs, all_needs, filled, written};
+ghost use Rattle.l2_node.specs.Writing.{nothing_written};
 ghost use Rattle.l2_node.specs.Building.{IsEnough, visit, visited, loaded, built, building};
 
 use crate::end::End;
@@ -46,56 +47,55 @@ impl End {
         ensures end { OnOk result (self.new ≡ loaded tti grant self.old) }
         ensures events { IfOk result (λ events. events ≡ (written self.old grant).block.events) }
     {
+        let mut block = NewBlock::new(self.alloc, self.side);
+        self.write(grant, &mut block)?;
+        self.numbers.rows[(tti % 8) as usize] = block.numbers;
         let NewBlock {
             builder,
-            numbers,
+            numbers: _,
             events,
-        } = self.write(grant)?;
+        } = block;
         let octets = self.finish(builder, grant)?;
         self.sender.load(tti, octets);
-        self.numbers.rows[(tti % 8) as usize] = numbers;
         Ok(events)
     }
 
-    // The bearers write within their shares of a grant.
-    #[tactic(auto, unfolding(crate::specs::Writing::shares, crate::specs::Writing::written, prioritise::specs::Shares::after_allot))]
-    fn write(&mut self, grant: u32) -> Result<NewBlock, NoMemory>
-        requires { grant ≤ GREATEST_GRANT }
+    // The bearers write within their shares of a grant, into a block that has nothing as yet.
+    #[tactic(auto, unfolding(crate::specs::Writing::shares, crate::specs::Writing::written, crate::specs::Writing::needs, prioritise::specs::Shares::after_allot))]
+    fn write(&mut self, grant: u32, block: &mut NewBlock) -> Result<(), NoMemory>
+        requires grant { grant ≤ GREATEST_GRANT }
+        requires new { block.old ≡ nothing_written self.old.side }
         ensures end { OnOk result (self.new ≡ record self.old {
           bearers = (written self.old grant).bearers;
           buckets = after_allot self.old.buckets (needs self.old grant) (grant + 2);
         }) }
-        ensures block { IfOk result (λ b. b ≡ (written self.old grant).block) }
-        ensures direction { IfOk result (λ b. b.parts.direction ≡ sent_by self.old.side) }
-        ensures plain { IfOk result (λ b. b.parts.controls ≡ []) }
-        ensures room { IfOk result (λ b. taken_up b.parts.sdus ≤ grant + 2) }
+        ensures block { OnOk result (block.new ≡ (written self.old grant).block) }
+        ensures direction { OnOk result (block.new.parts.direction ≡ sent_by self.old.side) }
+        ensures plain { OnOk result (block.new.parts.controls ≡ []) }
+        ensures room { OnOk result (taken_up block.new.parts.sdus ≤ grant + 2) }
     {
-        let needs = self.needs(grant);
+        let mut needs = [0; 11];
+        self.reckon(grant, &mut needs);
         let shares = self.buckets.allot(&needs, grant + 2);
-        let mut block = NewBlock::new(self.alloc, self.side);
         write_all(
             &self.sender,
             &self.numbers.rows,
             &shares,
             self.buckets.channels(),
             &mut self.bearers,
-            &mut block,
-        )?;
-        Ok(block)
+            block,
+        )
     }
 
-    // What the bearers need of a grant, by LCID.
-    #[tactic(auto, unfolding(crate::specs::Writing::needs))]
-    fn needs(&self, grant: u32) -> [u32; 11]
-        ensures { result ≡ needs self.now grant }
+    // Reckons what the bearers need of a grant, by LCID.
+    fn reckon(&self, grant: u32, by_lcid: &mut [u32; 11])
+        ensures { by_lcid.new ≡ all_needs self.now grant self.now.buckets.channels by_lcid.old }
     {
-        let mut needs = [0; 11];
         for channel in self.buckets.channels() {
             let lcid = channel.lcid;
             let held = lowest_held(&self.sender, &self.numbers.rows, lcid);
-            needs[lcid as usize] = need_of(self.bearers.as_slice(), lcid, grant, held);
+            by_lcid[lcid as usize] = need_of(self.bearers.as_slice(), lcid, grant, held);
         }
-        needs
     }
 
     // The block of SDUs, with a report of what is left behind them, of the grant's size.

@@ -2,7 +2,7 @@
 ghost use Rattle.std.specs.Prelude.{◌≡◌, ◌<◌, ◌≤◌, length, false};
 ghost use Rattle.std.specs.List.{All};
 ghost use Rattle.prioritise.specs.Channels.{place};
-ghost use Rattle.prioritise.specs.Shares.{bucketed, shared, round_one, round_two, all_grown, grown};
+ghost use Rattle.prioritise.specs.Shares.{round_one, round_two, all_grown, grown};
 ghost use Rattle.prioritise.specs.Shares.{bounded, fallen};
 
 use crate::channel::is_before;
@@ -138,20 +138,20 @@ impl Buckets {
 
     /// The shares of a grant, in octets by LCID, for what each channel needs: 0 for an LCID that
     /// isn't there. The buckets fall by what round one gave.
-    #[tactic(auto, unfolding(crate::specs::Shares::allotted, crate::specs::Shares::after_allot))]
+    #[tactic(auto, unfolding(crate::specs::Shares::allotted, crate::specs::Shares::after_allot, crate::specs::Shares::shared, crate::specs::Shares::first_shared))]
     pub fn allot(&mut self, needs: &[u32; 11], grant: u32) -> [u32; 11]
         ensures shares { result ≡ allotted self.old needs.now grant }
         ensures within { over self.old.channels result ≤ grant }
         ensures buckets { self.new ≡ after_allot self.old needs.now grant }
     {
-        let before = self.levels;
-        let Gifts {
-            levels,
-            shares,
-            left: _,
-        } = give(self.channels.as_slice(), before, needs, grant);
-        self.levels = levels;
-        shares
+        let mut gifts = Gifts {
+            levels: self.levels,
+            shares: [0; 11],
+            left: grant,
+        };
+        give(self.channels.as_slice(), needs, &mut gifts);
+        self.levels = gifts.levels;
+        gifts.shares
     }
 }
 
@@ -168,19 +168,13 @@ fn place_of(channel: &Channel, channels: &[Channel]) -> usize
 }
 
 // A grant goes through the channels in two rounds.
-#[tactic(auto, unfolding(crate::specs::Shares::shared, crate::specs::Shares::first_shared))]
-fn give(channels: &[Channel], levels: [u64; 11], needs: &[u32; 11], grant: u32) -> Gifts
+fn give(channels: &[Channel], needs: &[u32; 11], gifts: &mut Gifts)
     requires { All (λ c. c.lcid < 11) channels.now }
-    ensures { result ≡ shared (bucketed channels.now levels) needs.now grant }
+    ensures { gifts.new
+        ≡ round_two channels.now needs.now (round_one channels.now needs.now gifts.old) }
 {
-    let mut gifts = Gifts {
-        levels,
-        shares: [0; 11],
-        left: grant,
-    };
-    give_all_first(channels, needs, &mut gifts);
-    give_all_second(channels, needs, &mut gifts);
-    gifts
+    give_all_first(channels, needs, gifts);
+    give_all_second(channels, needs, gifts);
 }
 
 fn give_all_first(channels: &[Channel], needs: &[u32; 11], gifts: &mut Gifts)
