@@ -11,7 +11,8 @@ use Rattle.air_record.specs.declared.record.Record.TheVariants as records
 use Rattle.air_record.specs.Text.{accepted_text}
 use Rattle.air_run.specs.Rules.{rule_broken, is_idle, or_else, refused_if}
 use Rattle.air_run.specs.Run.{RunState, Left, behind_line, step_by, step}
-use Rattle.air_run.specs.Steps.{HasBegun, WritesFront}
+use Rattle.air_run.specs.Steps.{HasBegun}
+use Rattle.line_player.specs.Streams.{WritesFront}
 use Rattle.air_run.specs.Written.{Journal, told, noted}
 use Rattle.air_run.specs.Putting.{pending, text_in}
 

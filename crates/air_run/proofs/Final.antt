@@ -3,12 +3,12 @@ use Rattle.std.proofs.Common.{◌≡◌, ◌≢◌, ◌<◌, ◌≤◌, ◌+◌,
 use Rattle.std.proofs.Common.{length, refl, ap, sym, arith, inl, inr, cond, suc, zero, length-append}
 use Rattle.l2_io.specs.Feeds.{until_feed, from_feed, without_return}
 use Rattle.air_text.specs.declared.fault.LineRefusal.TheVariants.{Long}
-use Rattle.air_run.specs.declared.refusal.Reason.TheVariants as reasons
-use Rattle.air_run.specs.Journal.{Player, Outcome, Goes, Ends, Refuses, Waiting, Played, onto, refused, waiting}
-use Rattle.air_run.specs.Journal.{on_line, close_by, journal_from, follow}
-use Rattle.air_run.proofs.Cutting.{feed-cases}
-use Rattle.air_run.proofs.Parts.{journal-line, journal-line-more, journal-part, many-close, journal-many-any}
-use Rattle.air_run.proofs.Parts.{long-close, journal-long-any}
+use Rattle.line_player.specs.declared.reason.Reason.TheVariants as reasons
+use Rattle.line_player.specs.Journal.{Player, Outcome, Goes, Ends, Refuses, Waiting, Played, onto, refused, waiting}
+use Rattle.line_player.specs.Journal.{on_line, close_by, journal_from, follow}
+use Rattle.line_player.proofs.Cutting.{feed-cases}
+use Rattle.line_player.proofs.Parts.{journal-line, journal-line-more, journal-part, many-close, journal-many-any}
+use Rattle.line_player.proofs.Parts.{long-close, journal-long-any}
 
 -- what is behind the first line is shorter
 rest-shorter : (xs ys : List ℕ) → from_feed xs ≡ 10 ∷ ys → length ys < length xs
@@ -20,14 +20,14 @@ rest-shorter (x ∷ xs) ys e =
     ] e
 
 -- the continuation matters only where the line goes on and is waited for
-follow-final : {S : Type 0} (m : Player S) (number : ℕ) (line : Outcome S) (next next' : S → Played)
+follow-final : {S E R : Type 0} (m : Player S E R) (number : ℕ) (line : Outcome S E R) (next next' : S → Played E R)
     → ((t : S) → (next t).close ≢ Waiting → next' t ≡ next t)
     → (follow m number line next).close ≢ Waiting → follow m number line next' ≡ follow m number line next
 follow-final m number (Goes t part) next next' same shows = ap (onto part) (same t shows)
 follow-final m number (Ends t part) next next' same shows = refl
 follow-final m number (Refuses reason) next next' same shows = refl
 
-line-final : {S : Type 0} (m : Player S) (s : S) (number : ℕ) (raw : List ℕ) (next next' : S → Played)
+line-final : {S E R : Type 0} (m : Player S E R) (s : S) (number : ℕ) (raw : List ℕ) (next next' : S → Played E R)
     → ((t : S) → (next t).close ≢ Waiting → next' t ≡ next t)
     → (on_line m s number raw next).close ≢ Waiting → on_line m s number raw next' ≡ on_line m s number raw next
 unfolding on_line
@@ -64,13 +64,14 @@ until-longer (x ∷ xs) more e =
       | false ↦ λ h. omega (arith, until-longer xs more h)
     ] e
 
-part-by : {S : Type 0} (m : Player S) (s : S) (number : ℕ) (xs more : List ℕ) (whole a b c : Bool) → from_feed xs ≡ []
+part-by : {S E R : Type 0} (m : Player S E R) (s : S) (number : ℕ) (xs more : List ℕ) (whole a b c : Bool)
+    → from_feed xs ≡ []
     → (length xs == 0) ≡ a → nat_lt 1000000 number ≡ b → nat_lt 20000 (length xs) ≡ c
     → (close_by m false xs s number).close ≢ Waiting
     → journal_from m whole s number (xs ++ more) ≡ close_by m false xs s number
 unfolding close_by
-part-by m s number xs more whole true b c e ea eb ec shows =
-    let is : close_by m false xs s number ≡ waiting = rw ea refl in absurd (shows (ap (λ (p : Played). p.close) is))
+part-by {E} {R} m s number xs more whole true b c e ea eb ec shows =
+    let is : close_by m false xs s number ≡ waiting = rw ea refl in absurd (shows (ap (λ (p : Played E R). p.close) is))
 part-by m s number xs more whole false true c e ea eb ec shows =
     let some : 0 < length xs = grind arith in
     let many : 1000000 < number = grind arith in
@@ -81,36 +82,37 @@ part-by m s number xs more whole false false true e ea eb ec shows =
     let long : 20000 < length xs = grind arith in
     journal-long-any m whole s number (xs ++ more) (omega (arith, until-longer xs more e)) few
     ∙ sym (long-close m false s number xs long few)
-part-by m s number xs more whole false false false e ea eb ec shows =
+part-by {E} {R} m s number xs more whole false false false e ea eb ec shows =
     let is : close_by m false xs s number ≡ waiting = rw (ea, eb, ec) refl in
-    absurd (shows (ap (λ (p : Played). p.close) is))
+    absurd (shows (ap (λ (p : Played E R). p.close) is))
 
 -- what an unfinished line shows, and what that line shows once there is more of it
-part-shows : {S : Type 0} (m : Player S) (s : S) (number : ℕ) (xs more : List ℕ) (whole : Bool) → from_feed xs ≡ []
+part-shows : {S E R : Type 0} (m : Player S E R) (s : S) (number : ℕ) (xs more : List ℕ) (whole : Bool) → from_feed xs
+    ≡ []
     → (close_by m false xs s number).close ≢ Waiting
     → journal_from m whole s number (xs ++ more) ≡ close_by m false xs s number
 part-shows m s number xs more whole e shows = part-by m s number xs more whole _ _ _ e refl refl refl shows
 
-final-within : {S : Type 0} (m : Player S) (k : ℕ) (whole : Bool) (s : S) (number : ℕ) (xs more : List ℕ)
+final-within : {S E R : Type 0} (m : Player S E R) (k : ℕ) (whole : Bool) (s : S) (number : ℕ) (xs more : List ℕ)
     → length xs < k
     → (journal_from m false s number xs).close ≢ Waiting
     → journal_from m whole s number (xs ++ more) ≡ journal_from m false s number xs
 final-within m zero whole s number xs more fits shows = absurd (omega arith)
-final-within m (suc k) whole s number xs more fits shows = elim (feed-cases xs) [
+final-within {E} {R} m (suc k) whole s number xs more fits shows = elim (feed-cases xs) [
   | inl e ↦ let is = journal-part m false s number xs e in
-      part-shows m s number xs more whole e (λ w. shows (ap (λ (p : Played). p.close) is ∙ w)) ∙ sym is
+      part-shows m s number xs more whole e (λ w. shows (ap (λ (p : Played E R). p.close) is ∙ w)) ∙ sym is
   | inr p ↦
       let is = journal-line m false s number xs p.0 p.1 in
       let shorter : length p.0 < k = omega (arith, rest-shorter xs p.0 p.1) in
       journal-line-more m whole s number xs p.0 more p.1
       ∙ line-final m s number (until_feed xs) _ _
       (λ t shown. final-within m k whole t (number + 1) p.0 more shorter shown)
-      (λ w. shows (ap (λ (q : Played). q.close) is ∙ w))
+      (λ w. shows (ap (λ (q : Played E R). q.close) is ∙ w))
       ∙ sym is
 ]
 
 -- a line that was refused, or the end line, decides, whatever follows
-pub shown-is-final : {S : Type 0} (m : Player S) (whole : Bool) (s : S) (number : ℕ) (xs more : List ℕ)
+pub shown-is-final : {S E R : Type 0} (m : Player S E R) (whole : Bool) (s : S) (number : ℕ) (xs more : List ℕ)
     → (journal_from m false s number xs).close ≢ Waiting
     → journal_from m whole s number (xs ++ more) ≡ journal_from m false s number xs
 shown-is-final m whole s number xs more shows =

@@ -1,5 +1,3 @@
-pub mod Cutting
-pub mod Parts
 pub mod Final
 pub mod Allowed
 pub mod Telling
@@ -7,3 +5,4 @@ pub mod Rounds
 pub mod Beginning
 pub mod Putting
 pub mod Reports
+pub mod Texts

@@ -5,7 +5,7 @@ use Rattle.l2_io.specs.Known.{after, IsFront}
 use Rattle.l2_io.proofs.Written.{after_after, front_behind, front_longer}
 use Rattle.air_record.specs.declared.record.Record.{Record}
 use Rattle.air_record.specs.Text.{texts_of}
-use Rattle.air_run.specs.Steps.{WritesFront}
+use Rattle.line_player.specs.Streams.{WritesFront}
 use Rattle.air_run.specs.Buffers.{after_records}
 use Rattle.air_run.specs.Written.{Journal, told, all_seen}
 use Rattle.air_run.specs.Putting.{text_in, pending, HasPut, HasTold, Stops}

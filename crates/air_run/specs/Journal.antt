@@ -1,117 +1,42 @@
--- The journal of an input, of which more may come (docs/formats/JOURNAL.md): read line by line,
--- played, and refused where a line is.
-use Rattle.std.specs.Prelude.{ℕ, ◌+◌, ◌==◌, nat_lt, Bool, true, false, if◌then◌else◌, List, [], ◌∷◌}
-use Rattle.std.specs.Prelude.{◌++◌, length, Option, None, Some, Result, Ok, Err}
-use Rattle.l2_io.specs.Feeds.{without_return}
+-- The journal of a script (docs/formats/JOURNAL.md): what its lines do to a run.
+use Rattle.std.specs.Prelude.{ℕ, Bool, List, [], Option, None, Some, Result, Ok, Err}
 use Rattle.air_text.specs.Reading.{read_of}
 use Rattle.air_record.specs.declared.line.Line.{Line}
 use Rattle.air_record.specs.declared.line.Line.TheVariants as lines
 use Rattle.air_text.specs.declared.fault.LineRefusal.{LineRefusal}
-use Rattle.air_text.specs.declared.fault.LineRefusal.TheVariants.{Long}
 use Rattle.air_record.specs.declared.record.Record.{Record}
 use Rattle.air_run.specs.declared.refusal.RunRefusal.{RunRefusal}
-use Rattle.air_run.specs.declared.refusal.Reason.{Reason}
-use Rattle.air_run.specs.declared.refusal.Reason.TheVariants as reasons
-use Rattle.air_run.specs.Lines.{lines_ended, tail_of}
 use Rattle.air_run.specs.Run.{RunState, Left, fresh, step, finish}
-use Rattle.air_text.specs.declared.limits.TheConstants.{LONGEST_LINE, MOST_LINES}
+use Rattle.line_player.specs.Journal.{Player, Outcome, Goes, Ends, Refuses, Close, Played}
+use Rattle.line_player.specs.Journal.{journal_by}
+use Rattle.line_player.specs.declared.reason.Reason.TheVariants as reasons
 
--- what a text does as a line to a state: it goes on, or ends the input, or is refused
-pub data Outcome (S : Type 0) : Type 0 where
-  Goes : S → List Record → Outcome S
-  Ends : S → List Record → Outcome S
-  Refuses : Reason → Outcome S
+-- the journal of a script, and why it ends
+abbrev pub RunPlayed : Type 0
+RunPlayed = Played Record RunRefusal
 
--- what plays lines: where it begins, what a text does as the line of a number, and the records at
--- the end
-pub record Player (S : Type 0) : Type 0 where
-  pub first : S
-  pub line : S → ℕ → List ℕ → Outcome S
-  pub last : S → List Record
+abbrev pub RunClose : Type 0
+RunClose = Close RunRefusal
 
--- why a journal ends
-pub data Close : Type 0 where
-  Finished : Close
-  Refused : ℕ → Reason → Close
-  -- more is awaited
-  Waiting : Close
-
-pub record Played : Type 0 where
-  pub journal : List Record
-  pub close : Close
-
-abbrev pub onto : List Record → Played → Played
-onto journal later = record { journal = journal ++ later.journal; close = later.close }
-
-abbrev pub finished : {S : Type 0} → Player S → S → Played
-finished p s = record { journal = p.last s; close = Finished }
-
-abbrev pub refused : ℕ → Reason → Played
-refused number reason = record { journal = []; close = Refused number reason }
-
-abbrev pub waiting : Played
-waiting = record { journal = []; close = Waiting }
-
-abbrev pub follow : {S : Type 0} → Player S → ℕ → Outcome S → (S → Played) → Played
-follow p number (Goes t journal) next = onto journal (next t)
-follow p number (Ends t journal) next = onto journal (finished p t)
-follow p number (Refuses reason) next = refused number reason
-
--- a line, and what comes after it: at most 1000000 lines of at most 20000 octets
-unfoldable pub on_line : {S : Type 0} → Player S → S → ℕ → List ℕ → (S → Played) → Played
-on_line p s number raw next =
-    if nat_lt MOST_LINES number then refused number reasons.Lines
-    else if nat_lt LONGEST_LINE (length raw) then refused number (reasons.Line Long)
-    else follow p number (p.line s number (without_return raw)) next
-
--- the last line, which no line feed ends: a carriage return at its end stays
-unfoldable pub on_last : {S : Type 0} → Player S → S → ℕ → List ℕ → Played
-on_last p s number raw =
-    if nat_lt MOST_LINES number then refused number reasons.Lines
-    else if nat_lt LONGEST_LINE (length raw) then refused number (reasons.Line Long)
-    else follow p number (p.line s number raw) (finished p)
-
--- what is behind the last line feed, where it is a line or the beginning of one
-unfoldable pub close_by : {S : Type 0} → Player S → Bool → List ℕ → S → ℕ → Played
-close_by p true tail s number = if length tail == 0 then finished p s else on_last p s number tail
-close_by p false tail s number =
-    if length tail == 0 then waiting
-    else if nat_lt MOST_LINES number then refused number reasons.Lines
-    else if nat_lt LONGEST_LINE (length tail) then refused number (reasons.Line Long)
-    else waiting
-
-unfoldable pub play : {S : Type 0} → Player S → (S → ℕ → Played) → S → ℕ → List (List ℕ) → Played
-play p close s number [] = close s number
-play p close s number (raw ∷ lines) =
-    on_line p s number raw (λ t. play p close t (number + 1) lines)
-
--- the journal from a state on, of octets that are all there are, or of which more may come
-unfoldable pub journal_from : {S : Type 0} → Player S → Bool → S → ℕ → List ℕ → Played
-journal_from p whole s number octets =
-    play p (close_by p whole (tail_of octets)) s number (lines_ended octets)
-
--- the journal that a player makes of an input
-abbrev pub journal_by : {S : Type 0} → Player S → Bool → List ℕ → Played
-journal_by p whole octets = journal_from p whole p.first 1 octets
-
-abbrev pub left_by : Line → Result Left RunRefusal → Outcome RunState
-left_by line (Err broken) = Refuses (reasons.Run broken)
+abbrev pub left_by : Line → Result Left RunRefusal → Outcome RunState Record RunRefusal
+left_by line (Err broken) = Refuses (reasons.Rule broken)
 left_by lines.End (Ok left) = Ends left.state left.journal
 left_by line (Ok left) = Goes left.state left.journal
 
-abbrev pub read_by : RunState → ℕ → Result (Option Line) LineRefusal → Outcome RunState
+abbrev pub read_by : RunState → ℕ → Result (Option Line) LineRefusal
+    → Outcome RunState Record RunRefusal
 read_by r number (Err broken) = Refuses (reasons.Line broken)
 read_by r number (Ok None) = Goes r []
 read_by r number (Ok (Some line)) = left_by line (step r number line)
 
 -- what a text does as a line of a script
-abbrev pub script_line : RunState → ℕ → List ℕ → Outcome RunState
+abbrev pub script_line : RunState → ℕ → List ℕ → Outcome RunState Record RunRefusal
 script_line r number text = read_by r number (read_of text)
 
 -- the run of a script
-abbrev pub script : Player RunState
+abbrev pub script : Player RunState Record RunRefusal
 script = record { first = fresh; line = script_line; last = finish }
 
 -- the journal of a script, whose octets are all there are, or of which more may come
-abbrev pub journal_of : Bool → List ℕ → Played
+abbrev pub journal_of : Bool → List ℕ → RunPlayed
 journal_of whole octets = journal_by script whole octets

@@ -5,8 +5,8 @@ pub mod Written
 pub mod Playing
 pub mod Sums
 pub mod Run
+pub mod Refusals
 pub mod Steps
 pub mod Putting
-pub mod Lines
 pub mod Journal
 pub mod Finality

@@ -6,7 +6,7 @@ use Rattle.air_record.specs.declared.record.Record.{Record}
 use Rattle.air_run.specs.declared.refusal.StepFault.{StepFault}
 use Rattle.air_run.specs.declared.refusal.StepFault.TheVariants as faults
 use Rattle.air_run.specs.Buffers.{after_records}
-use Rattle.air_run.specs.Steps.{WritesFront}
+use Rattle.line_player.specs.Streams.{WritesFront}
 use Rattle.air_run.specs.Written.{Journal, told, all_seen}
 
 -- the text that a journal has and hasn't put

@@ -1,18 +1,13 @@
 -- What a call of a run leaves in it and in the sink, by the answer (docs/formats/JOURNAL.md).
 use Rattle.std.specs.Prelude.{◌≡◌, ℕ, List, Option, None, Some, Result, Ok, Err}
-use Rattle.l2_io.specs.Known.{after, IsFront}
+use Rattle.l2_io.specs.Known.{after}
 use Rattle.air_record.specs.declared.line.Line.{Line}
 use Rattle.air_run.specs.declared.refusal.RunRefusal.{RunRefusal}
 use Rattle.air_run.specs.declared.refusal.StepFault.{StepFault}
 use Rattle.air_run.specs.declared.refusal.StepFault.TheVariants as faults
 use Rattle.air_run.specs.Run.{RunState, Left, step, finish}
 use Rattle.air_record.specs.Text.{texts_of}
-
--- the sink grew by a front of a text
-pub record WritesFront (text : List ℕ) (written written' : Option (List ℕ)) : Type 0 where
-  pub front : List ℕ
-  pub is_front : IsFront front text
-  pub written_is : written' ≡ after written front
+use Rattle.line_player.specs.Streams.{WritesFront}
 
 -- all that the step leaves is there
 abbrev pub HasStepped : Result Left RunRefusal → Option RunState → Option (List ℕ)

@@ -15,5 +15,5 @@ mod run;
 mod sums;
 
 pub use laws::shown_is_final;
-pub use refusal::{Reason, RunRefusal, StepFault};
+pub use refusal::{RunRefusal, StepFault};
 pub use run::Run;

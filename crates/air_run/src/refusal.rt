@@ -1,5 +1,7 @@
-use air_text::LineRefusal;
+ghost use Rattle.air_run.specs.Refusals.{refusal_word};
+
 use l2_bits::NoMemory;
+use line_player::Rule;
 use thiserror::Error;
 
 /// Why a line of the grammar is not run.
@@ -43,6 +45,27 @@ pub enum RunRefusal {
     DrxFields = 12,
 }
 
+impl Rule for RunRefusal {
+    ghost word_of = { refusal_word };
+
+    fn word(&self) -> &'static str {
+        match *self {
+            RunRefusal::UnknownBearer => "unknown bearer",
+            RunRefusal::BearerTwice => "bearer twice",
+            RunRefusal::ConfiguredLate => "configured late",
+            RunRefusal::KeyUsed => "key used",
+            RunRefusal::TimerIdle => "timer idle",
+            RunRefusal::SmallDrain => "small drain",
+            RunRefusal::NoKeys => "no keys",
+            RunRefusal::SetTwice => "set twice",
+            RunRefusal::LoopOn => "loop on",
+            RunRefusal::NoDiscard => "no discard",
+            RunRefusal::Forged => "forged",
+            RunRefusal::DrxFields => "drx fields",
+        }
+    }
+}
+
 /// Why a line was not run, or not to its end.
 #[derive(Clone, Copy, Debug, PartialEq, Eq)]
 pub enum StepFault {
@@ -63,15 +86,4 @@ impl From<NoMemory> for StepFault {
     fn from(_: NoMemory) -> Self {
         StepFault::NoMemory
     }
-}
-
-/// Why an input was refused at a line.
-#[derive(Clone, Copy, Debug, PartialEq, Eq)]
-pub enum Reason {
-    /// The line is outside the grammar.
-    Line(LineRefusal),
-    /// The line breaks a rule of the run.
-    Run(RunRefusal),
-    /// More than 1,000,000 lines.
-    Lines,
 }

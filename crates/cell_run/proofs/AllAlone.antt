@@ -5,7 +5,7 @@ use Rattle.std.proofs.Common.{arith, true, false, Bool, nat_lt, if◌then◌else
 use Rattle.std.proofs.Common.{slice_index_or}
 use Rattle.l2_io.specs.Feeds.{without_return}
 use Rattle.air_record.specs.declared.record.Record.{Record}
-use Rattle.air_run.specs.Lines.{lines_ended, tail_of}
+use Rattle.line_player.specs.Lines.{lines_ended, tail_of}
 use Rattle.air_run.specs.Run.{fresh, finish}
 use Rattle.air_run.specs.Sums.{finishing}
 use Rattle.air_link.specs.Link.{fresh as fresh_link}
@@ -15,18 +15,19 @@ use Rattle.script_generator.specs.Lines.{SayAll}
 use Rattle.cell_run.specs.Alone.{own_lines, own_records, AllRunAlone}
 use Rattle.cell_run.specs.Cells.{CellState, fresh_cell, terminal_at, cell, cell_line}
 use Rattle.cell_run.specs.Entries.{Entry}
-use Rattle.cell_run.specs.Journal.{Outcome, Goes, Ends, Refuses, Played, finished, refused, waiting, follow}
-use Rattle.cell_run.specs.Journal.{on_line}
-use Rattle.cell_run.specs.Journal.{on_last, close_by, play, journal_from}
+use Rattle.line_player.specs.Journal.{Outcome, Goes, Ends, Refuses, finished, refused, waiting, follow}
+use Rattle.line_player.specs.Journal.{on_line}
+use Rattle.line_player.specs.Journal.{on_last, close_by, play, journal_from}
 use Rattle.cell_run.specs.Terminals.{Terminal, fresh_terminal, last_entries}
-use Rattle.cell_run.specs.declared.fault.CellReason.{CellReason}
-use Rattle.cell_run.specs.declared.fault.CellReason.TheVariants as reasons
-use Rattle.cell_text.specs.declared.line.CellLine.TheVariants as lines
+use Rattle.cell_run.specs.declared.fault.CellRule.{CellRule}
+use Rattle.line_player.specs.declared.reason.Reason.{Reason}
+use Rattle.line_player.specs.declared.reason.Reason.TheVariants as reasons
 use Rattle.air_record.specs.declared.line.Line.{Line}
 use Rattle.cell_run.proofs.Alone.{played_with, AloneFrom, IsOne, one-alone}
 use Rattle.cell_run.proofs.Endings.{line-ends}
 use Rattle.cell_run.proofs.Lines.{line-one}
 use Rattle.cell_run.proofs.Scripts.{script-ends, script-waits}
+use Rattle.cell_run.specs.Cells.{CellPlayed}
 
 -- ---- the end
 
@@ -72,7 +73,8 @@ finished-alone user c octets said =
     ∙ ap (λ (rs : List Record). played_with rs (finished cell c))
     (sym (last-records c.terminals 0 user user (omega arith)))
 
-refused-alone : (user : ℕ) (c : CellState) (number : ℕ) (reason : CellReason) → AloneFrom user c (refused number reason)
+refused-alone : (user : ℕ) (c : CellState) (number : ℕ) (reason : Reason CellRule) → AloneFrom user c
+    (refused number reason)
 refused-alone user c number reason octets said =
     script-waits octets (terminal_at user c).run ((terminal_at user c).lines + 1) said
 
@@ -91,8 +93,8 @@ one-counted : (user number : ℕ) (c c' : CellState) (es : List Entry) → IsOne
 one-counted user number c c' es (inl p) less = omega (arith, p.count, less)
 one-counted user number c c' es (inr p) less = omega (arith, p.count, less)
 
-follow-alone : (user : ℕ) (c : CellState) (number : ℕ) (text : List ℕ) (o : Outcome CellState)
-    (next : CellState → Played)
+follow-alone : (user : ℕ) (c : CellState) (number : ℕ) (text : List ℕ) (o : Outcome CellState Entry CellRule)
+    (next : CellState → CellPlayed)
     → cell_line c number text ≡ o → IsCounted number c → number ≤ 1000000
     → ((c' : CellState) → IsCounted (number + 1) c' → AloneFrom user c' (next c'))
     → AloneFrom user c (follow cell number o next)
@@ -106,7 +108,7 @@ follow-alone user c number text (Ends c' es) next is counted few later =
 follow-alone user c number text (Refuses reason) next is counted few later = refused-alone user c number reason
 
 -- behind the tests of a line's number and length
-tested-alone : (user : ℕ) (c : CellState) (number : ℕ) (raw : List ℕ) (played : Played)
+tested-alone : (user : ℕ) (c : CellState) (number : ℕ) (raw : List ℕ) (played : CellPlayed)
     → (number ≤ 1000000 → AloneFrom user c played)
     → AloneFrom user c (if nat_lt 1000000 number then refused number reasons.Lines
     else if nat_lt 20000 (length raw) then refused number (reasons.Line Long) else played)
@@ -123,7 +125,7 @@ tested-alone user c number raw played h =
           ]
     ] refl
 
-line-alone : (user : ℕ) (c : CellState) (number : ℕ) (raw : List ℕ) (next : CellState → Played) → IsCounted number c
+line-alone : (user : ℕ) (c : CellState) (number : ℕ) (raw : List ℕ) (next : CellState → CellPlayed) → IsCounted number c
     → ((c' : CellState) → IsCounted (number + 1) c' → AloneFrom user c' (next c'))
     → AloneFrom user c (on_line cell c number raw next)
 unfolding on_line

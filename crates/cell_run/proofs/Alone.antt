@@ -4,18 +4,17 @@ use Rattle.std.proofs.Common.{sym, inl, inr}
 use Rattle.std.proofs.Common.{true, false, if◌then◌else◌, append_assoc}
 use Rattle.std.specs.Prelude.{Ok}
 use Rattle.air_record.specs.declared.line.Line.{Line}
-use Rattle.air_record.specs.declared.line.Line.TheVariants as script_lines
 use Rattle.air_record.specs.declared.record.Record.{Record}
-use Rattle.air_run.specs.Journal.{Goes as RunGoes, Played as RunPlayed, journal_from as run_from, left_by, script}
-use Rattle.air_run.specs.Journal.{onto as run_onto, follow as run_follow}
+use Rattle.air_run.specs.Journal.{RunPlayed, left_by, script}
+use Rattle.line_player.specs.Journal.{Goes, journal_from, follow}
 use Rattle.air_run.specs.Run.{RunState, Left, step}
 use Rattle.script_generator.specs.Lines.{SayAll}
 use Rattle.cell_run.specs.Alone.{some_line, own_lines, own_records, is_all, own_close, own_played}
 use Rattle.cell_run.specs.Cells.{CellState, terminal_at}
 use Rattle.cell_run.specs.Entries.{Entry}
-use Rattle.cell_run.specs.Journal.{Played, onto}
-use Rattle.cell_run.specs.declared.fault.CellReason.TheVariants as reasons
+use Rattle.line_player.specs.Journal.{onto}
 use Rattle.cell_run.proofs.Scripts.{script-runs}
+use Rattle.cell_run.specs.Cells.{CellPlayed}
 
 -- ---- what entries have of a terminal
 
@@ -52,7 +51,7 @@ pub record IsPassed (user : ℕ) (c c' : CellState) (es : List Entry) : Type 0 w
 pub record HasStep (user : ℕ) (c c' : CellState) (es : List Entry) : Type 0 where
   pub line : Line
   pub left : Left
-  pub goes : left_by line (Ok left) ≡ RunGoes left.state left.journal
+  pub goes : left_by line (Ok left) ≡ Goes left.state left.journal
   pub lines : own_lines user es ≡ line ∷ []
   pub records : own_records user es ≡ left.journal
   pub stepped_is : step (terminal_at user c).run ((terminal_at user c).lines + 1) line ≡ Ok left
@@ -64,30 +63,31 @@ IsOne user c c' es = IsPassed user c c' es ⊎ HasStep user c c' es
 
 -- ---- from a state on
 
-abbrev pub AloneFrom : ℕ → CellState → Played → Type 0
+abbrev pub AloneFrom : ℕ → CellState → CellPlayed → Type 0
 AloneFrom user c played = (octets : List ℕ) → SayAll octets (own_lines user played.journal)
-    → run_from script (is_all played.close) (terminal_at user c).run ((terminal_at user c).lines + 1) octets
+    → journal_from script (is_all played.close) (terminal_at user c).run ((terminal_at user c).lines + 1) octets
     ≡ own_played user played
 
 said-same : (octets : List ℕ) (ls ms : List Line) → ls ≡ ms → SayAll octets ls → SayAll octets ms
 said-same octets ls ms e h = rw (← e) h
 
-abbrev pub played_with : List Record → Played → RunPlayed
+abbrev pub played_with : List Record → CellPlayed → RunPlayed
 played_with records played = record { journal = records; close = own_close played.close }
 
-passed-alone : (user : ℕ) (c c' : CellState) (es : List Entry) (later : Played) → IsPassed user c c' es
+passed-alone : (user : ℕ) (c c' : CellState) (es : List Entry) (later : CellPlayed) → IsPassed user c c' es
     → AloneFrom user c' later → AloneFrom user c (onto es later)
 passed-alone user c c' es later p h octets said =
     let lines : own_lines user (es ++ later.journal) ≡ own_lines user later.journal =
     lines-both user es later.journal ∙ ap (λ (ls : List Line). ls ++ own_lines user later.journal) p.lines in
     let records : own_records user (es ++ later.journal) ≡ own_records user later.journal =
     records-both user es later.journal ∙ ap (λ (rs : List Record). rs ++ own_records user later.journal) p.records in
-    ap (λ (r : RunState). run_from script (is_all later.close) r ((terminal_at user c).lines + 1) octets) (sym p.run)
-    ∙ ap (λ (n : ℕ). run_from script (is_all later.close) (terminal_at user c').run (n + 1) octets) (sym p.count)
+    ap (λ (r : RunState). journal_from script (is_all later.close) r ((terminal_at user c).lines + 1) octets)
+    (sym p.run)
+    ∙ ap (λ (n : ℕ). journal_from script (is_all later.close) (terminal_at user c').run (n + 1) octets) (sym p.count)
     ∙ h octets (said-same octets _ _ lines said)
     ∙ ap (λ (rs : List Record). played_with rs later) (sym records)
 
-stepped-alone : (user : ℕ) (c c' : CellState) (es : List Entry) (later : Played) → HasStep user c c' es
+stepped-alone : (user : ℕ) (c c' : CellState) (es : List Entry) (later : CellPlayed) → HasStep user c c' es
     → (terminal_at user c).lines + 1 ≤ 1000000 → AloneFrom user c' later → AloneFrom user c (onto es later)
 stepped-alone user c c' es later p few h octets said =
     let r = (terminal_at user c).run in
@@ -98,17 +98,17 @@ stepped-alone user c c' es later p few h octets said =
     let records : own_records user (es ++ later.journal) ≡ p.left.journal ++ own_records user later.journal =
     records-both user es later.journal ∙ ap (λ (rs : List Record). rs ++ own_records user later.journal) p.records in
     let all : SayAll octets (p.line ∷ own_lines user later.journal) = said-same octets _ _ lines said in
-    let rest : run_from script whole p.left.state (n + 1) (all.1) ≡ own_played user later =
-    ap (λ (t : RunState). run_from script whole t (n + 1) (all.1)) (sym p.run)
-    ∙ ap (λ (k : ℕ). run_from script whole (terminal_at user c').run (k + 1) (all.1)) (sym p.count)
+    let rest : journal_from script whole p.left.state (n + 1) (all.1) ≡ own_played user later =
+    ap (λ (t : RunState). journal_from script whole t (n + 1) (all.1)) (sym p.run)
+    ∙ ap (λ (k : ℕ). journal_from script whole (terminal_at user c').run (k + 1) (all.1)) (sym p.count)
     ∙ h (all.1) (all.4) in
     script-runs whole octets p.line (own_lines user later.journal) r n all few
-    ∙ ap (λ o. run_follow script n (left_by p.line o) (λ t. run_from script whole t (n + 1) (all.1))) p.stepped_is
-    ∙ ap (λ o. run_follow script n o (λ t. run_from script whole t (n + 1) (all.1))) p.goes
-    ∙ ap (run_onto p.left.journal) rest
+    ∙ ap (λ o. follow script n (left_by p.line o) (λ t. journal_from script whole t (n + 1) (all.1))) p.stepped_is
+    ∙ ap (λ o. follow script n o (λ t. journal_from script whole t (n + 1) (all.1))) p.goes
+    ∙ ap (onto p.left.journal) rest
     ∙ ap (λ (rs : List Record). played_with rs later) (sym records)
 
-pub one-alone : (user : ℕ) (c c' : CellState) (es : List Entry) (later : Played) → IsOne user c c' es
+pub one-alone : (user : ℕ) (c c' : CellState) (es : List Entry) (later : CellPlayed) → IsOne user c c' es
     → (terminal_at user c).lines + 1 ≤ 1000000 → AloneFrom user c' later → AloneFrom user c (onto es later)
 one-alone user c c' es later (inl p) few h = passed-alone user c c' es later p h
 one-alone user c c' es later (inr p) few h = stepped-alone user c c' es later p few h

@@ -7,24 +7,26 @@ use Rattle.air_run.specs.Run.{Left}
 use Rattle.air_run.specs.declared.refusal.RunRefusal.{RunRefusal}
 use Rattle.cell_run.specs.Cells.{CellState, terminal_at, cell_line, read_by, acted, founds, own_line, unless, unknown}
 use Rattle.cell_run.specs.Cells.{missing, has_none, goes, placed, is_own, is_end, set_air}
-use Rattle.cell_run.specs.Entries.{Entry}
-use Rattle.cell_run.specs.Journal.{Outcome, Goes, Ends, Refuses}
-use Rattle.cell_run.specs.Playing.{Acts}
-use Rattle.cell_run.specs.Plays.{HasGone, HasEnded}
+use Rattle.cell_run.specs.Entries.{Entry, entry_text}
+use Rattle.line_player.specs.Journal.{Outcome, Goes, Ends, Refuses}
+use Rattle.cell_run.specs.Acting.{Acts}
+use Rattle.line_player.specs.Plays.{HasGone, HasEnded}
 use Rattle.cell_run.specs.Terminals.{Terminal, fresh_terminal, own_step, stepped}
-use Rattle.cell_run.specs.declared.fault.CellReason.TheVariants as reasons
+use Rattle.cell_run.specs.declared.fault.CellRule.TheVariants as rules
+use Rattle.line_player.specs.declared.reason.Reason.TheVariants as reasons
 use Rattle.cell_run.specs.declared.fault.CellRefusal.{CellRefusal}
 use Rattle.cell_run.specs.declared.fault.CellRefusal.TheVariants.{CellTwice, NotHere}
 use Rattle.cell_text.specs.Reading.{read_cell_of}
 use Rattle.cell_text.specs.declared.line.CellLine.{CellLine}
 use Rattle.cell_text.specs.declared.line.CellLine.TheVariants as lines
+use Rattle.cell_run.specs.declared.fault.CellRule.{CellRule}
 
 pub record HasEndedAs (line : CellLine) (c c' : CellState) (es : List Entry) : Type 0 where
   pub line_is : line ≡ lines.End
   pub state : c' ≡ c
   pub entries : es ≡ []
 
-unless-ends : (why : Option CellRefusal) (o : Outcome CellState) (c' : CellState) (es : List Entry)
+unless-ends : (why : Option CellRefusal) (o : Outcome CellState Entry CellRule) (c' : CellState) (es : List Entry)
     → unless why o ≡ Ends c' es → o ≡ Ends c' es
 unless-ends None o c' es e = e
 unless-ends (Some refusal) o c' es e = cc
@@ -39,7 +41,7 @@ own-ends : (u : ℕ) (line : Option Line) (c c' : CellState) (es : List Entry) �
 own-ends u None c c' es e = absurd (cc)
 own-ends u (Some line) c c' es e =
     elim (is_own line) as (λ b. (if b then placed u c (own_step u line (terminal_at u c))
-    else Refuses (reasons.Cell NotHere)) ≡ Ends c' es → ⊥) [
+    else Refuses (reasons.Rule (rules.Cell NotHere))) ≡ Ends c' es → ⊥) [
       | true ↦ λ ends. placed-ends u c c' es line (terminal_at u c) _ ends
       | false ↦ λ bad. absurd (cc)
     ] e
@@ -47,13 +49,14 @@ own-ends u (Some line) c c' es e =
 founds-ends : (users : ℕ) (c c' : CellState) (es : List Entry) → founds users c ≡ Ends c' es → ⊥
 founds-ends users c c' es e =
     elim (has_none c) as (λ b. (if b then Goes (record c { terminals = replicate users fresh_terminal }) []
-    else Refuses (reasons.Cell CellTwice))
+    else Refuses (reasons.Rule (rules.Cell CellTwice)))
     ≡ Ends c' es → ⊥) [
       | true ↦ λ bad. absurd (cc)
       | false ↦ λ bad. absurd (cc)
     ] e
 
-goes-no-end : {S : Type 0} (a b : S) (xs ys : List Entry) → Goes a xs ≡ Ends b ys → ⊥
+goes-no-end : {S R : Type 0} (a b : S) (xs ys : List Entry)
+    → ◌≡◌ {A = Outcome S Entry R} (Goes a xs) (Ends b ys) → ⊥
 goes-no-end a b xs ys e = absurd (cc)
 
 acted-ends : (line : CellLine) (c c' : CellState) (es : List Entry) → acted line c ≡ Ends c' es
@@ -90,7 +93,7 @@ line-ends c c' number text es e =
 
 pub acts-ended : (line : CellLine) (c c' : CellState) (text : List ℕ) (w w' : Option (List ℕ)) (u : Unit {0})
     → is_end line ≡ true → Acts (acted line c) c' [] text (Ok u) → w' ≡ after w text
-    → HasEnded (acted line c) (Some c') w w'
+    → HasEnded entry_text (acted line c) (Some c') w w'
 unfolding acted
 acts-ended (lines.Cell users) c c' text w w' u is acts put = cc
 acts-ended (lines.To user line) c c' text w w' u is acts put = cc
@@ -98,9 +101,10 @@ acts-ended (lines.Air user up down) c c' text w w' u is acts put = cc
 acts-ended (lines.Go up_total down_total) c c' text w w' u is acts put = cc
 acts-ended lines.End c c' text w w' u is acts put = (ap Some acts.0, put ∙ ap (after w) acts.1)
 
-gone-by : (line : CellLine) (c c' : CellState) (o : Outcome CellState) (text : List ℕ) (w w' : Option (List ℕ))
+gone-by : (line : CellLine) (c c' : CellState) (o : Outcome CellState Entry CellRule) (text : List ℕ)
+    (w w' : Option (List ℕ))
     (u : Unit {0}) → acted line c ≡ o → is_end line ≡ false → Acts o c' [] text (Ok u) → w' ≡ after w text
-    → HasGone o (Some c') w w'
+    → HasGone entry_text o (Some c') w w'
 gone-by line c c' (Goes t journal) text w w' u is not acts put = (ap Some acts.0, put ∙ ap (after w) acts.1)
 gone-by line c c' (Ends t journal) text w w' u is not acts put =
     let ended = acted-ends line c t journal is in let at = ap is_end ended.line_is in absurd (cc)
@@ -108,5 +112,5 @@ gone-by line c c' (Refuses reason) text w w' u is not acts put = absurd acts
 
 pub acts-gone : (line : CellLine) (c c' : CellState) (text : List ℕ) (w w' : Option (List ℕ)) (u : Unit {0})
     → is_end line ≡ false → Acts (acted line c) c' [] text (Ok u) → w' ≡ after w text
-    → HasGone (acted line c) (Some c') w w'
+    → HasGone entry_text (acted line c) (Some c') w w'
 acts-gone line c c' text w w' u not acts put = gone-by line c c' (acted line c) text w w' u refl not acts put

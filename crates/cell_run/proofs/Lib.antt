@@ -1,9 +1,3 @@
-pub mod Nothing
-pub mod Parts
-pub mod Turning
-pub mod Parting
-pub mod Gathering
-pub mod Rows
 pub mod Numbering
 pub mod Stepping
 pub mod Wishing

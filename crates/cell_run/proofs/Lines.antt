@@ -10,7 +10,7 @@ use Rattle.air_record.specs.declared.line.Line.{Line}
 use Rattle.air_record.specs.declared.line.Line.TheVariants as script_lines
 use Rattle.air_record.specs.declared.line.Outcome.{Outcome as Fate}
 use Rattle.air_record.specs.declared.record.Record.{Record}
-use Rattle.air_run.specs.Journal.{Goes as RunGoes, left_by}
+use Rattle.air_run.specs.Journal.{left_by}
 use Rattle.air_run.specs.Rules.{rule_broken}
 use Rattle.air_run.specs.Run.{Left, step, done}
 use Rattle.air_run.specs.declared.refusal.RunRefusal.{RunRefusal}
@@ -20,26 +20,30 @@ use Rattle.cell_run.specs.Cells.{missing}
 use Rattle.cell_run.specs.Cells.{own_line, founds, set_air, goes, goes_by, grants, acted, cell_line, read_by}
 use Rattle.cell_text.specs.Reading.{read_cell_of}
 use Rattle.cell_run.specs.Entries.{Entry}
-use Rattle.cell_run.specs.Journal.{Outcome, Goes, Refuses}
+use Rattle.line_player.specs.Journal.{Outcome, Goes, Refuses}
 use Rattle.cell_run.specs.Terminals.{Terminal, fresh_terminal, behind_step, own_entry, stepped, own_step, tti_line}
 use Rattle.cell_run.specs.Terminals.{tti_records, behind_tti, all_behind, all_entries, up_wish, down_wish}
 use Rattle.cell_run.specs.declared.fault.CellRefusal.TheVariants.{NoCell, UnknownUser, CellTwice, NotHere}
-use Rattle.cell_run.specs.declared.fault.CellReason.TheVariants as reasons
+use Rattle.cell_run.specs.declared.fault.CellRule.TheVariants as rules
+use Rattle.line_player.specs.declared.reason.Reason.TheVariants as reasons
 use Rattle.cell_text.specs.declared.line.CellLine.{CellLine}
 use Rattle.cell_text.specs.declared.line.CellLine.TheVariants as lines
 use Rattle.cell_run.proofs.Alone.{IsOne}
+use Rattle.cell_run.specs.declared.fault.CellRule.{CellRule}
 
 -- ---- outcomes
 
-pub goes-state : {S : Type 0} (a b : S) (xs ys : List Entry) → Goes a xs ≡ Goes b ys → a ≡ b
+pub goes-state : {S R : Type 0} (a b : S) (xs ys : List Entry)
+    → ◌≡◌ {A = Outcome S Entry R} (Goes a xs) (Goes b ys) → a ≡ b
 goes-state a b xs ys e = cc
 
-pub goes-entries : {S : Type 0} (a b : S) (xs ys : List Entry) → Goes a xs ≡ Goes b ys → xs ≡ ys
+pub goes-entries : {S R : Type 0} (a b : S) (xs ys : List Entry)
+    → ◌≡◌ {A = Outcome S Entry R} (Goes a xs) (Goes b ys) → xs ≡ ys
 goes-entries a b xs ys e = cc
 
 -- a line that a terminal's script may have ends no script
 own-goes : (line : Line) (left : Left) → is_own line ≡ true
-    → left_by line (Ok left) ≡ RunGoes left.state left.journal
+    → left_by line (Ok left) ≡ Goes left.state left.journal
 own-goes script_lines.End left own = cc
 own-goes (script_lines.Harq visits) left own = refl
 own-goes script_lines.Bsr left own = refl
@@ -125,14 +129,15 @@ own-line-one : (user u : ℕ) (line : Option Line) (c c' : CellState) (es : List
 own-line-one user u None c c' es there e = cc
 own-line-one user u (Some line) c c' es there e =
     elim (is_own line) as (λ b. is_own line ≡ b
-    → (if b then placed u c (own_step u line (terminal_at u c)) else Refuses (reasons.Cell NotHere)) ≡ Goes c' es
+    → (if b then placed u c (own_step u line (terminal_at u c)) else Refuses (reasons.Rule (rules.Cell NotHere)))
+    ≡ Goes c' es
     → IsOne user c c' es) [
       | true ↦ λ own goes. own-by user u line c c' es _ there own refl goes
       | false ↦ λ own goes. cc
     ] refl e
 
 -- the terminal is there
-pub known-there : (u : ℕ) (c c' : CellState) (es : List Entry) (o : Outcome CellState)
+pub known-there : (u : ℕ) (c c' : CellState) (es : List Entry) (o : Outcome CellState Entry CellRule)
     → unless (unknown u c) o ≡ Goes c' es → (u < length c.terminals) × (o ≡ Goes c' es)
 known-there u c c' es o e =
     elim (has_none c) as (λ b. unless (if b then Some NoCell
@@ -163,7 +168,7 @@ founds-one : (user users : ℕ) (c c' : CellState) (es : List Entry) → founds 
 founds-one user users c c' es e =
     elim (has_none c) as (λ b. has_none c ≡ b
     → (if b then Goes (record c { terminals = replicate users fresh_terminal }) []
-    else Refuses (reasons.Cell CellTwice)) ≡ Goes c' es → IsOne user c c' es) [
+    else Refuses (reasons.Rule (rules.Cell CellTwice))) ≡ Goes c' es → IsOne user c c' es) [
       | true ↦ λ none goes.
           let before : terminal_at user c ≡ fresh_terminal = none-at c.terminals user fresh_terminal none in
           let at : slice_index_or (replicate users fresh_terminal) user fresh_terminal ≡ terminal_at user c =
@@ -323,7 +328,7 @@ inside-or-out a b =
       | false ↦ λ e. inr (grind (arith, e))
     ] refl
 
-pub missing-none : (c c' : CellState) (es : List Entry) (o : Outcome CellState)
+pub missing-none : (c c' : CellState) (es : List Entry) (o : Outcome CellState Entry CellRule)
     → unless (missing c) o ≡ Goes c' es → o ≡ Goes c' es
 missing-none c c' es o e =
     elim (has_none c) as (λ b. unless (if b then Some NoCell else None) o ≡ Goes c' es → o ≡ Goes c' es) [

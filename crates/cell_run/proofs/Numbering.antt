@@ -1,7 +1,7 @@
 -- The lines of a text behind a terminal's digit, one after another.
 use Rattle.std.proofs.Common.{◌≡◌, ◌+◌, ◌∙◌, ℕ, List, [], ◌∷◌, ◌++◌, ap, sym, take, drop, append_assoc, flat_map}
 use Rattle.l2_io.specs.Feeds.{from_feed, IsFeedAt}
-use Rattle.air_run.proofs.Cutting.{lines-line, lines-none}
+use Rattle.line_player.proofs.Cutting.{lines-line, lines-none}
 use Rattle.cell_run.specs.Entries.{labelled, numbered}
 
 -- the first line

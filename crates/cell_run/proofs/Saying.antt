@@ -9,7 +9,7 @@ use Rattle.air_record.specs.declared.line.Line.{Line}
 use Rattle.air_text.specs.Reading.{read_of, read_words}
 use Rattle.air_text.specs.Words.{words_behind, words_of}
 use Rattle.air_text.specs.declared.fault.LineRefusal.TheVariants.{Long}
-use Rattle.air_run.specs.Lines.{lines_ended, tail_of, onto_first, onto_tail}
+use Rattle.line_player.specs.Lines.{lines_ended, tail_of, onto_first, onto_tail}
 use Rattle.cell_text.specs.Reading.{without_spaces, from_space, behind_word, own_text}
 use Rattle.script_generator.specs.Lines.{Says}
 

@@ -8,7 +8,7 @@ use Rattle.std.specs.Prelude.{Option, None, Some, Result, Ok, Err}
 use Rattle.std.proofs.lemmas.List.{length-take}
 use Rattle.l2_io.specs.Feeds.{without_return}
 use Rattle.air_record.specs.declared.line.Line.{Line}
-use Rattle.air_run.specs.Lines.{lines_ended, tail_of}
+use Rattle.line_player.specs.Lines.{lines_ended, tail_of}
 use Rattle.air_run.specs.Run.{Left}
 use Rattle.air_run.specs.declared.refusal.RunRefusal.{RunRefusal}
 use Rattle.air_text.specs.Fields.{number_of, outcome_of}
@@ -27,12 +27,13 @@ use Rattle.cell_run.specs.Cells.{CellState, fresh_cell, cell, cell_line, read_by
 use Rattle.cell_run.specs.Cells.{placed}
 use Rattle.cell_run.specs.Cells.{terminal_at, set_air, goes, grants, has_none}
 use Rattle.cell_run.specs.Entries.{Entry}
-use Rattle.cell_run.specs.Journal.{Outcome, Goes, Ends, Refuses, Played, onto, finished, refused, waiting, follow}
-use Rattle.cell_run.specs.Journal.{on_line}
-use Rattle.cell_run.specs.Journal.{on_last, close_by, play, journal_from}
+use Rattle.line_player.specs.Journal.{Outcome, Goes, Ends, Refuses, onto, finished, refused, waiting, follow}
+use Rattle.line_player.specs.Journal.{on_line}
+use Rattle.line_player.specs.Journal.{on_last, close_by, play, journal_from}
 use Rattle.cell_run.specs.Terminals.{Terminal, fresh_terminal, stepped, own_step, own_entry, up_wish}
 use Rattle.cell_run.specs.Terminals.{down_wish}
-use Rattle.cell_run.specs.declared.fault.CellReason.TheVariants as reasons
+use Rattle.cell_run.specs.declared.fault.CellRule.TheVariants as rules
+use Rattle.line_player.specs.declared.reason.Reason.TheVariants as reasons
 use Rattle.cell_run.specs.declared.fault.CellRefusal.TheVariants.{CellTwice, NotHere}
 use Rattle.cell_run.proofs.AllAlone.{last-lines}
 use Rattle.cell_run.proofs.Alone.{lines-both}
@@ -42,6 +43,8 @@ use Rattle.cell_run.proofs.Lines.{same-or-other}
 use Rattle.cell_run.proofs.Lines.{lines-at, lines-above, inside-or-out}
 use Rattle.cell_run.proofs.Saying.{IsOneLine, one-without, own-says, AreLines, lines-one, tail-one}
 use Rattle.cell_run.proofs.SayingTtis.{tti-says, grant-within}
+use Rattle.cell_run.specs.Cells.{CellPlayed}
+use Rattle.cell_run.specs.declared.fault.CellRule.{CellRule}
 
 -- ---- what is read of a `to` line
 
@@ -204,7 +207,7 @@ to-said : (user u : ℕ) (line : Option Line) (text : List ℕ) (c c' : CellStat
 to-said user u None text c c' es says e = cc
 to-said user u (Some line) text c c' es says e =
     elim (is_own line) as (λ b. (if b then placed u c (own_step u line (terminal_at u c))
-    else Refuses (reasons.Cell NotHere)) ≡ Goes c' es → IsSaid user es) [
+    else Refuses (reasons.Rule (rules.Cell NotHere))) ≡ Goes c' es → IsSaid user es) [
       | true ↦ λ h. stepped-said user u line text (terminal_at u c) c c' es _ (says line refl) h
       | false ↦ λ bad. cc
     ] e
@@ -212,7 +215,7 @@ to-said user u (Some line) text c c' es says e =
 founds-nothing : (users : ℕ) (c c' : CellState) (es : List Entry) → founds users c ≡ Goes c' es → [] ≡ es
 founds-nothing users c c' es e =
     elim (has_none c) as (λ b. (if b then Goes (record c { terminals = replicate users fresh_terminal }) []
-    else Refuses (reasons.Cell CellTwice))
+    else Refuses (reasons.Rule (rules.Cell CellTwice)))
     ≡ Goes c' es → [] ≡ es) [
       | true ↦ λ h. goes-entries _ _ _ _ h
       | false ↦ λ bad. cc
@@ -280,7 +283,7 @@ line-said user c c' number text es (Ok line) one few is e =
 
 -- ---- all lines
 
-said-onto : (user : ℕ) (es : List Entry) (later : Played) → IsSaid user es → HasScript user later
+said-onto : (user : ℕ) (es : List Entry) (later : CellPlayed) → IsSaid user es → HasScript user later
     → HasScript user (onto es later)
 said-onto user es later (inl none) h =
     let same : own_lines user (es ++ later.journal) ≡ own_lines user later.journal =
@@ -296,8 +299,8 @@ said-onto user es later (inr one) h =
 finished-said : (user : ℕ) (c : CellState) → HasScript user (finished cell c)
 finished-said user c = ([], subst (λ (ls : List Line). SayAll [] ls) (sym (last-lines c.terminals 0 user)) refl)
 
-follow-said : (user : ℕ) (c : CellState) (number : ℕ) (text : List ℕ) (o : Outcome CellState)
-    (next : CellState → Played)
+follow-said : (user : ℕ) (c : CellState) (number : ℕ) (text : List ℕ) (o : Outcome CellState Entry CellRule)
+    (next : CellState → CellPlayed)
     → cell_line c number text ≡ o → IsOneLine text → length text ≤ 20000
     → ((c' : CellState) → HasScript user (next c')) → HasScript user (follow cell number o next)
 follow-said user c number text (Goes c' es) next is one few later =
@@ -306,7 +309,7 @@ follow-said user c number text (Ends c' es) next is one few later =
     let ended = line-ends c c' number text es is in rw (ended.state, ended.entries) (finished-said user c)
 follow-said user c number text (Refuses reason) next is one few later = ([], refl)
 
-tested-said : (user number : ℕ) (raw : List ℕ) (played : Played) → (length raw ≤ 20000 → HasScript user played)
+tested-said : (user number : ℕ) (raw : List ℕ) (played : CellPlayed) → (length raw ≤ 20000 → HasScript user played)
     → HasScript user (if nat_lt 1000000 number then refused number reasons.Lines
     else if nat_lt 20000 (length raw) then refused number (reasons.Line Long) else played)
 tested-said user number raw played h =
@@ -329,7 +332,7 @@ without-length xs =
       | false ↦ omega arith
     ]
 
-line-has : (user : ℕ) (c : CellState) (number : ℕ) (raw : List ℕ) (next : CellState → Played) → IsOneLine raw
+line-has : (user : ℕ) (c : CellState) (number : ℕ) (raw : List ℕ) (next : CellState → CellPlayed) → IsOneLine raw
     → ((c' : CellState) → HasScript user (next c')) → HasScript user (on_line cell c number raw next)
 unfolding on_line
 line-has user c number raw next one later =

@@ -3,12 +3,13 @@ use Rattle.std.proofs.Common.{◌≡◌, ◌≤◌, ◌+◌, ◌∙◌, nat_lt, 
 use Rattle.std.proofs.Common.{◌++◌, refl, ap, arith}
 use Rattle.l2_io.specs.Feeds.{until_feed}
 use Rattle.air_record.specs.declared.line.Line.{Line}
-use Rattle.air_run.specs.Journal.{finished, waiting, follow, on_line, close_by, play, journal_from, left_by}
-use Rattle.air_run.specs.Journal.{script}
-use Rattle.air_run.specs.Lines.{lines_ended, tail_of}
+use Rattle.line_player.specs.Journal.{finished, waiting, follow, on_line, close_by, play, journal_from}
+use Rattle.air_run.specs.Journal.{left_by, script}
+use Rattle.line_player.specs.Lines.{lines_ended, tail_of}
 use Rattle.air_run.specs.Run.{RunState, step}
-use Rattle.air_run.proofs.Cutting.{tail-line}
-use Rattle.l2_commands.proofs.Passing.{from-text, lines-text, short-text}
+use Rattle.line_player.proofs.Cutting.{tail-line}
+use Rattle.line_player.proofs.Cutting.{from-text, lines-text}
+use Rattle.air_run.proofs.Texts.{short-text}
 use Rattle.script_generator.specs.Lines.{Says, SayAll}
 
 -- the journal of a line and of those behind it

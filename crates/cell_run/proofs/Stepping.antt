@@ -16,13 +16,13 @@ use Rattle.air_run.specs.Steps.{Steps, HasStepped, Finishes}
 use Rattle.air_run.specs.declared.refusal.RunRefusal.{RunRefusal}
 use Rattle.air_run.specs.declared.refusal.StepFault.TheVariants as steps
 use Rattle.cell_run.specs.Entries.{Entry, numbered, entry_text, texts_of}
-use Rattle.cell_run.specs.Journal.{Goes, Refuses}
-use Rattle.cell_run.specs.Playing.{Acts}
+use Rattle.line_player.specs.Journal.{Goes, Refuses}
+use Rattle.cell_run.specs.Acting.{Acts}
 use Rattle.cell_run.specs.Terminals.{Terminal, run_of, behind_step, own_entry, own_step, tti_line, tti_entry}
 use Rattle.cell_run.specs.Terminals.{behind_tti, last_entry}
-use Rattle.cell_run.specs.declared.fault.CellFault.TheVariants as faults
-use Rattle.cell_run.specs.declared.fault.CellReason.{CellReason}
-use Rattle.cell_run.specs.declared.fault.CellReason.TheVariants as reasons
+use Rattle.cell_run.specs.declared.fault.CellRule.{CellRule}
+use Rattle.cell_run.specs.declared.fault.CellRule.TheVariants as rules
+use Rattle.line_player.specs.declared.reason.Reason.TheVariants as reasons
 
 -- the octets that a known text is
 pub same-octets : (a b : List ℕ) → Some a ≡ after (Some []) b → a ≡ b
@@ -81,7 +81,7 @@ acts-own user line t t' text text' octets run new fault u was h is put =
 pub own-refused : (user : ℕ) (line : Line) (t : Terminal) (run new : Option RunState) (w w' : Option (List ℕ))
     (fault : Type 0) (refusal : RunRefusal)
     → t.run ≡ run_of run → Steps run (t.lines + 1) line new w w' fault (Err (steps.Refused refusal))
-    → own_step user line t ≡ Refuses (reasons.Run refusal)
+    → own_step user line t ≡ Refuses (reasons.Rule (rules.Run refusal))
 own-refused user line t None new w w' fault refusal was h = let e = h.0 in cc
 own-refused user line t (Some run) new w w' fault refusal was h = rw (was, h.0) refl
 
@@ -98,11 +98,13 @@ pub tti-goes : (user up_grant down_grant : ℕ) (t : Terminal)
 unfolding rule_broken
 tti-goes user up_grant down_grant t = refl
 
-pub tti-unrefused : (user up_grant down_grant : ℕ) (up down : Fate) (t : Terminal) (reason : CellReason) → up ≡ t.up
-    → down ≡ t.down → own_step user (Tti up_grant up down_grant down) t ≡ Refuses reason → ⊥
-tti-unrefused user up_grant down_grant up down t reason same-up same-down e =
+pub tti-unrefused : (user up_grant down_grant : ℕ) (up down : Fate) (t : Terminal) (rule : CellRule)
+    → up ≡ t.up
+    → down ≡ t.down → own_step user (Tti up_grant up down_grant down) t ≡ Refuses (reasons.Rule rule) → ⊥
+tti-unrefused user up_grant down_grant up down t rule same-up same-down e =
     let goes = tti-goes user up_grant down_grant t in
-    let bad : Goes (behind_tti up_grant down_grant t) (tti_entry user up_grant down_grant t ∷ []) ≡ Refuses reason =
+    let bad : Goes (behind_tti up_grant down_grant t) (tti_entry user up_grant down_grant t ∷ [])
+    ≡ Refuses (reasons.Rule rule) =
     sym goes ∙ rw (same-up, same-down) at e in absurd (cc)
 
 -- ---- what is told

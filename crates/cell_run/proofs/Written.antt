@@ -8,16 +8,15 @@ use Rattle.std.proofs.lemmas.Bool.{eqb-true}
 use Rattle.std.proofs.lemmas.Grind.{flat_map-append}
 use Rattle.air_record.specs.Text.{worded, ended, record_words, line_words, text_of}
 use Rattle.air_record.specs.Text.{texts_of as texts_of_records}
-use Rattle.air_record.specs.declared.line.Line.{Line}
 use Rattle.air_record.specs.declared.record.Record.{Record}
 use Rattle.air_record.specs.declared.record.Record.TheVariants as records
-use Rattle.air_run.specs.Lines.{lines_ended, onto_first}
+use Rattle.line_player.specs.Lines.{lines_ended, onto_first}
 use Rattle.cell_run.specs.Alone.{own_records, own_output, own_output_line, AllAreWritten}
 use Rattle.cell_run.specs.Cells.{cell_of}
 use Rattle.cell_run.specs.Entries.{Entry, labelled, texts_of}
 use Rattle.cell_run.proofs.Lines.{same-or-other}
 use Rattle.cell_run.proofs.Saying.{IsOneLine, one-more, AreLines, lines-one}
-use Rattle.l2_commands.proofs.Passing.{lines-text}
+use Rattle.line_player.proofs.Cutting.{lines-text}
 
 -- ---- texts that a line feed ends
 

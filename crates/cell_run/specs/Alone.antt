@@ -5,12 +5,12 @@ use Rattle.std.specs.Prelude.{◌∷◌, ◌++◌, drop, flat_map, slice_index, 
 use Rattle.air_record.specs.declared.line.Line.{Line}
 use Rattle.air_record.specs.declared.record.Record.{Record}
 use Rattle.air_record.specs.Text.{texts_of as texts_of_records}
-use Rattle.air_run.specs.Lines.{lines_ended}
-use Rattle.air_run.specs.Journal.{Played as RunPlayed, Close as RunClose, Finished as RunFinished}
-use Rattle.air_run.specs.Journal.{Waiting as RunWaiting, journal_of}
-use Rattle.cell_run.specs.Cells.{cell_of}
+use Rattle.line_player.specs.Lines.{lines_ended}
+use Rattle.air_run.specs.Journal.{RunPlayed, RunClose, journal_of}
+use Rattle.cell_run.specs.Cells.{CellPlayed, cell_of}
 use Rattle.cell_run.specs.Entries.{Entry, texts_of}
-use Rattle.cell_run.specs.Journal.{Close, Finished, Refused, Waiting, Played}
+use Rattle.cell_run.specs.declared.fault.CellRule.{CellRule}
+use Rattle.line_player.specs.Journal.{Close, Finished, Refused, Waiting}
 use Rattle.script_generator.specs.Lines.{SayAll}
 
 -- ---- what a cell's journal has of a terminal
@@ -34,27 +34,27 @@ own_records user (e ∷ es) = if e.user == user then e.records ++ own_records us
 -- ---- a run of its own script
 
 -- the script is all there is where the cell's input ends, and else more may come
-abbrev pub is_all : Close → Bool
+abbrev pub is_all : Close CellRule → Bool
 is_all Finished = true
 is_all (Refused number reason) = false
 is_all Waiting = false
 
-abbrev pub own_close : Close → RunClose
-own_close Finished = RunFinished
-own_close (Refused number reason) = RunWaiting
-own_close Waiting = RunWaiting
+abbrev pub own_close : Close CellRule → RunClose
+own_close Finished = Finished
+own_close (Refused number reason) = Waiting
+own_close Waiting = Waiting
 
-abbrev pub own_played : ℕ → Played → RunPlayed
+abbrev pub own_played : ℕ → CellPlayed → RunPlayed
 own_played user played =
     record { journal = own_records user played.journal; close = own_close played.close }
 
 -- octets that say the lines of its own script are run to exactly its records
-abbrev pub RunsAlone : ℕ → Played → Type 0
+abbrev pub RunsAlone : ℕ → CellPlayed → Type 0
 RunsAlone user played = (octets : List ℕ) → SayAll octets (own_lines user played.journal)
     → journal_of (is_all played.close) octets ≡ own_played user played
 
 -- and there are such octets
-abbrev pub HasScript : ℕ → Played → Type 0
+abbrev pub HasScript : ℕ → CellPlayed → Type 0
 HasScript user played = (octets : List ℕ) × SayAll octets (own_lines user played.journal)
 
 -- ---- what is written of a terminal

@@ -3,7 +3,7 @@ use Rattle.std.specs.Prelude.{ℕ, ◌+◌, List, [], ◌∷◌, ◌++◌, Optio
 use Rattle.air_record.specs.declared.line.Line.{Line}
 use Rattle.air_record.specs.declared.record.Record.{Record}
 use Rattle.air_record.specs.Text.{texts_of as texts_of_records}
-use Rattle.air_run.specs.Lines.{lines_ended}
+use Rattle.line_player.specs.Lines.{lines_ended}
 
 -- a terminal, a line of its own script, or none at its end, and the records that this left
 pub record Entry : Type 0 where

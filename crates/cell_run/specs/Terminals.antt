@@ -11,11 +11,13 @@ use Rattle.air_record.specs.declared.record.Record.TheVariants as records
 use Rattle.air_run.specs.declared.refusal.RunRefusal.{RunRefusal}
 use Rattle.air_run.specs.Run.{RunState, Left, fresh, step, done, behind_line, finish}
 use Rattle.air_text.specs.Fields.{outcome}
-use Rattle.cell_run.specs.declared.fault.CellReason.TheVariants as reasons
+use Rattle.cell_run.specs.declared.fault.CellRule.{CellRule}
+use Rattle.cell_run.specs.declared.fault.CellRule.TheVariants as rules
 use Rattle.cell_run.specs.Entries.{Entry}
-use Rattle.cell_run.specs.Journal.{Outcome, Goes, Refuses}
 use Rattle.cell_sched.specs.declared.levels.TheConstants.{LEAST_WISH}
 use Rattle.cell_sched.specs.Wishes.{wish_of}
+use Rattle.line_player.specs.Journal.{Outcome, Goes, Refuses}
+use Rattle.line_player.specs.declared.reason.Reason.TheVariants as reasons
 
 -- a run that ran out of memory stands as one that didn't begin
 abbrev pub run_of : Option RunState → RunState
@@ -46,12 +48,13 @@ behind_step run t = record t { run = run; lines = t.lines + 1 }
 abbrev pub own_entry : ℕ → Line → List Record → Entry
 own_entry user line records = record { user = user; line = Some line; records = records }
 
-abbrev pub stepped : ℕ → Line → Terminal → Result Left RunRefusal → Outcome Terminal
+abbrev pub stepped : ℕ → Line → Terminal → Result Left RunRefusal
+    → Outcome Terminal Entry CellRule
 stepped user line t (Ok left) =
     Goes (behind_step left.state t) (own_entry user line left.journal ∷ [])
-stepped user line t (Err broken) = Refuses (reasons.Run broken)
+stepped user line t (Err broken) = Refuses (reasons.Rule (rules.Run broken))
 
-abbrev pub own_step : ℕ → Line → Terminal → Outcome Terminal
+abbrev pub own_step : ℕ → Line → Terminal → Outcome Terminal Entry CellRule
 own_step user line t = stepped user line t (step t.run (t.lines + 1) line)
 
 -- ---- a TTI of all terminals

@@ -1,41 +1,21 @@
 ghost use Rattle.std.specs.Prelude.{◌≡◌, ◌<◌, ◌≤◌, ℕ, [], length, None, Some, IfOk, IfSome};
-ghost use Rattle.l2_io.specs.Known.{HasRisen};
 ghost use Rattle.air_text.specs.Ranges.{IsInRange};
 ghost use Rattle.cell_text.specs.Ranges.{IsInCell, AreUsers};
+ghost use Rattle.cell_run.specs.Acting.{Acts};
 ghost use Rattle.cell_run.specs.Cells.{fresh_cell, missing, unknown, is_own, founds, own_line};
-ghost use Rattle.cell_run.specs.Cells.{is_end, set_air, goes, acted, cell_line, cell};
+ghost use Rattle.cell_run.specs.Cells.{set_air, goes, acted};
 ghost use Rattle.cell_run.specs.Entries.{texts_of};
-ghost use Rattle.cell_run.specs.Journal.{finished};
-ghost use Rattle.cell_run.specs.Playing.{Acts};
-ghost use Rattle.cell_run.specs.Plays.{RunsLine, Plays};
 ghost use Rattle.cell_run.specs.Terminals.{last_entries};
 
-use crate::fault::{CellFault, CellReason, CellRefusal};
-use crate::playing::Ending;
+use crate::fault::{CellFault, CellRefusal, CellRule};
 use crate::terminal::Terminal;
 use crate::terminals::{down_wishes, finish_all, fresh_terminals, run_tti, up_wishes};
-use air_text::{Line, LineFault, Outcome};
+use air_text::{Line, Outcome};
 use cell_sched::share;
-use cell_text::{CellLine, MOST_USERS, read_cell_line};
+use cell_text::{CellLine, MOST_USERS};
 use l2_bits::{Bytes, NoMemory};
-use l2_io::{PutFault, Sink};
 use std::alloc::Global;
 use std::marker::Model;
-
-/// So much room is made for the text of a line, in octets.
-const ROOM: usize = 65_536;
-
-/// How one line ended.
-#[derive(Clone, Copy, Debug, PartialEq, Eq)]
-pub enum LineEnd {
-    /// The next line may come.
-    Next,
-    /// It was the line that ends the input.
-    Ended,
-    Refused(CellReason),
-    WriteFault,
-    NoMemory,
-}
 
 /// A cell: its terminals, none before the `cell` line, and the `go` lines so far.
 #[derive(Drop)]
@@ -58,9 +38,9 @@ impl Model for Cell {
 }
 
 fn refused(refusal: CellRefusal) -> CellFault
-    ensures { result ≡ CellFault.Refused (CellReason.Cell refusal) }
+    ensures { result ≡ CellFault.Refused (CellRule.Cell refusal) }
 {
-    CellFault::Refused(CellReason::Cell(refusal))
+    CellFault::Refused(CellRule::Cell(refusal))
 }
 
 // Whether a terminal's own script may have a line beside those that the cell gives it.
@@ -71,12 +51,6 @@ fn is_own(line: &Line) -> bool
         line,
         Line::Tti { .. } | Line::Drain { .. } | Line::Forge { .. } | Line::End
     )
-}
-
-fn is_end(line: &CellLine) -> bool
-    ensures { result ≡ is_end line.now }
-{
-    matches!(line, CellLine::End)
 }
 
 impl Cell {
@@ -170,9 +144,9 @@ impl Cell {
         Ok(())
     }
 
-    // Runs a line of the grammar, and adds the text of its records.
+    /// Runs a line of the grammar, and adds the text of its records.
     #[tactic(auto, unfolding(crate::specs::Cells::acted))]
-    fn act(&mut self, line: &CellLine, text: &mut Bytes) -> Result<(), CellFault>
+    pub fn act(&mut self, line: &CellLine, text: &mut Bytes) -> Result<(), CellFault>
         requires range { IsInCell line.now }
         requires empty { text.old ≡ [] }
         ensures { Acts (acted line.now self.old) self.new [] text.new result }
@@ -205,67 +179,12 @@ impl Cell {
         }
     }
 
-    // Runs a line of the grammar and writes its records.
-    #[tactic(auto, using(crate::proofs::Nothing::part_nothing))]
-    fn run_line<K: Sink>(&mut self, line: &CellLine, out: &mut K) -> LineEnd
-        requires { IsInCell line.now }
-        ensures line { RunsLine (acted line.now self.old) (Some self.new) (K.written out.old)
-            (K.written out.new) (HasRisen (K.faults out.old) (K.faults out.new)) result }
-        ensures count { K.faults out.old ≤ K.faults out.new }
-    {
-        let is_end = is_end(line);
-        let Ok(mut text) = Bytes::with_capacity(self.alloc, ROOM) else {
-            return LineEnd::NoMemory;
-        };
-        match self.act(line, &mut text) {
-            Ok(()) => match out.put(text.as_slice()) {
-                Ok(()) if is_end => LineEnd::Ended,
-                Ok(()) => LineEnd::Next,
-                Err(PutFault::Failed) => LineEnd::WriteFault,
-                Err(PutFault::NoMemory) => LineEnd::NoMemory,
-            },
-            Err(CellFault::Refused(reason)) => LineEnd::Refused(reason),
-            Err(CellFault::NoMemory) => LineEnd::NoMemory,
-        }
-    }
-
-    /// Runs one line and writes its records.
-    pub fn line<K: Sink>(&mut self, text: &[u8], out: &mut K) -> LineEnd
-        ensures line { (number : ℕ) → RunsLine (cell_line self.old number text.now) (Some self.new)
-            (K.written out.old)
-            (K.written out.new) (HasRisen (K.faults out.old) (K.faults out.new)) result }
-        ensures count { K.faults out.old ≤ K.faults out.new }
-    {
-        match read_cell_line(self.alloc, text) {
-            Ok(None) => LineEnd::Next,
-            Ok(Some(line)) => self.run_line(&line, out),
-            Err(LineFault::Refused(refusal)) => LineEnd::Refused(CellReason::Line(refusal)),
-            Err(LineFault::NoMemory) => LineEnd::NoMemory,
-        }
-    }
-
-    // The text of what stands at the end.
-    fn sums(self) -> Result<Bytes, NoMemory>
+    /// The text of what stands at the end.
+    pub fn sums(self) -> Result<Bytes, NoMemory>
         ensures { IfOk result (λ text. text ≡ texts_of (last_entries 0 self.terminals)) }
     {
         let mut text = Bytes::new(self.alloc);
         finish_all(self.alloc, self.terminals, &mut text)?;
         Ok(text)
-    }
-
-    /// Writes what stands at the end.
-    pub fn over<K: Sink>(self, out: &mut K) -> Ending
-        ensures over { Plays (finished cell self) (K.written out.old)
-            (K.written out.new) ⊥ (HasRisen (K.faults out.old) (K.faults out.new)) result }
-        ensures count { K.faults out.old ≤ K.faults out.new }
-    {
-        let Ok(text) = self.sums() else {
-            return Ending::NoMemory;
-        };
-        match out.put(text.as_slice()) {
-            Ok(()) => Ending::Done,
-            Err(PutFault::Failed) => Ending::WriteFault,
-            Err(PutFault::NoMemory) => Ending::NoMemory,
-        }
     }
 }

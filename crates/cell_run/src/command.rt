@@ -1,92 +1,18 @@
-ghost use Rattle.std.specs.Prelude.{◌≡◌, ◌<◌, IfOk, string_bytes};
-ghost use Rattle.l2_commands.specs.Main.{Tells};
-ghost use Rattle.l2_commands.specs.Streams.{output, streams};
+ghost use Rattle.std.specs.Prelude.{◌≡◌, ◌<◌};
 ghost use Rattle.cell_run.specs.Alone.{AllAreWritten, AllHaveScripts, AllRunAlone};
 ghost use Rattle.cell_run.specs.Cells.{cell_of};
-ghost use Rattle.cell_run.specs.Main.{reason_text, refused_text, TellsRefusal, TellsEnding};
 ghost use Rattle.cell_run.specs.Main.{Refuses, Runs};
+ghost use Rattle.line_player.specs.Streams.{output, streams};
 
 use crate::CellStatus;
-use crate::fault::{CellReason, CellRefusal};
 use crate::laws::all_run_alone;
-use crate::playing::{Ending, play_cell};
-use air_run::Reason;
-use l2_commands::reason_word as run_reason_word;
-use l2_io::{PutFault, Sink, Source};
-use std::alloc::{AllocError, Global};
+use crate::player::CellPlayer;
+use l2_io::{Sink, Source};
+use line_player::{play, refuse_words, tell_ending};
+use std::alloc::Global;
 
-fn reason_word(reason: CellReason) -> &'static str
-    ensures { result.now ≡ reason_text reason }
-{
-    match reason {
-        CellReason::Line(refusal) => run_reason_word(Reason::Line(refusal)),
-        CellReason::Run(refusal) => run_reason_word(Reason::Run(refusal)),
-        CellReason::Cell(CellRefusal::NoCell) => "no cell",
-        CellReason::Cell(CellRefusal::CellTwice) => "cell twice",
-        CellReason::Cell(CellRefusal::UnknownUser) => "unknown user",
-        CellReason::Cell(CellRefusal::NotHere) => "not here",
-        CellReason::Lines => run_reason_word(Reason::Lines),
-    }
-}
-
-fn refusal_string(alloc: Global, number: u32, reason: CellReason) -> Result<String, AllocError>
-    ensures { IfOk result (λ text. string_bytes text ≡ refused_text number reason) }
-{
-    let word = reason_word(reason);
-    format!(in alloc; "line {number}: {word}\n")
-}
-
-// Puts a text to errs, where the answer stays.
-fn say<E: Sink>(errs: &mut E, text: &[u8])
-    ensures told { Tells text.now (output E.Sink errs.old) (output E.Sink errs.new) }
-{
-    let _ = errs.put(text);
-}
-
-fn refuse_words<E: Sink>(errs: &mut E) -> CellStatus
-    ensures { Refuses (output E.Sink errs.old) (output E.Sink errs.new) result }
-{
-    match errs.put(b"usage: l2cell\n") {
-        Ok(()) => CellStatus::Usage,
-        Err(PutFault::Failed) => CellStatus::WriteFault,
-        Err(PutFault::NoMemory) => CellStatus::NoMemory,
-    }
-}
-
-fn refuse_line<E: Sink>(alloc: Global, number: u32, reason: CellReason, errs: &mut E) -> CellStatus
-    ensures { TellsRefusal number reason (output E.Sink errs.old) (output E.Sink errs.new) result }
-{
-    let Ok(text) = refusal_string(alloc, number, reason) else {
-        say(errs, b"out of memory\n");
-        return CellStatus::NoMemory;
-    };
-    match errs.put(text.as_bytes()) {
-        Ok(()) => CellStatus::Refused,
-        Err(PutFault::Failed) => CellStatus::WriteFault,
-        Err(PutFault::NoMemory) => CellStatus::NoMemory,
-    }
-}
-
-fn finish<E: Sink>(alloc: Global, ending: Ending, errs: &mut E) -> CellStatus
-    ensures { TellsEnding ending (output E.Sink errs.old) (output E.Sink errs.new) result }
-{
-    match ending {
-        Ending::Done => CellStatus::Done,
-        Ending::Refused { number, reason } => refuse_line(alloc, number, reason, errs),
-        Ending::ReadFault => {
-            say(errs, b"read fault\n");
-            CellStatus::ReadFault
-        }
-        Ending::WriteFault => {
-            say(errs, b"write fault\n");
-            CellStatus::WriteFault
-        }
-        Ending::NoMemory => {
-            say(errs, b"out of memory\n");
-            CellStatus::NoMemory
-        }
-    }
-}
+/// What is told where there are words behind the program's name.
+const USAGE: &[u8] = b"usage: l2cell\n";
 
 /// Plays a cell's input, where no word stands behind the program's name; `words` is their number.
 ///
@@ -111,8 +37,8 @@ pub fn cell_main<S: Source, K: Sink, E: Sink>(
 {
     all_run_alone();
     if words > 0 {
-        return refuse_words(errs);
+        return refuse_words(USAGE, errs);
     }
-    let ending = play_cell(alloc, source, out);
-    finish(alloc, ending, errs)
+    let ending = play(alloc, CellPlayer::new(alloc), source, out);
+    tell_ending(alloc, ending, errs)
 }

@@ -1,6 +1,8 @@
+ghost use Rattle.cell_run.specs.Rules.{rule_word};
+
 use air_run::RunRefusal;
-use air_text::LineRefusal;
 use l2_bits::NoMemory;
+use line_player::Rule;
 use thiserror::Error;
 
 /// Why a line of the grammar of cells is not run, beside the rules of a terminal's own script.
@@ -21,24 +23,34 @@ pub enum CellRefusal {
     NotHere = 4,
 }
 
-/// Why an input was refused at a line.
+/// The rule that a line breaks.
 #[derive(Clone, Copy, Debug, PartialEq, Eq)]
-pub enum CellReason {
-    /// The line is outside the grammar.
-    Line(LineRefusal),
-    /// The line breaks a rule of the cell.
+pub enum CellRule {
+    /// One of the cell.
     Cell(CellRefusal),
-    /// The line breaks a rule of its terminal's script.
+    /// One of its terminal's script.
     Run(RunRefusal),
-    /// More than 1,000,000 lines.
-    Lines,
+}
+
+impl Rule for CellRule {
+    ghost word_of = { rule_word };
+
+    fn word(&self) -> &'static str {
+        match self {
+            CellRule::Cell(CellRefusal::NoCell) => "no cell",
+            CellRule::Cell(CellRefusal::CellTwice) => "cell twice",
+            CellRule::Cell(CellRefusal::UnknownUser) => "unknown user",
+            CellRule::Cell(CellRefusal::NotHere) => "not here",
+            CellRule::Run(refusal) => refusal.word(),
+        }
+    }
 }
 
 /// Why a line was not run.
 #[derive(Clone, Copy, Debug, PartialEq, Eq)]
 pub enum CellFault {
     /// The line is refused; nothing was changed.
-    Refused(CellReason),
+    Refused(CellRule),
     /// Memory ran out.
     NoMemory,
 }

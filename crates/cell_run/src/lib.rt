@@ -9,12 +9,11 @@ mod command;
 mod fault;
 mod laws;
 mod numbered;
-mod playing;
-mod status;
+mod player;
 mod terminal;
 mod terminals;
 
 pub use command::cell_main;
-pub use fault::{CellReason, CellRefusal};
+pub use fault::{CellRefusal, CellRule};
 pub use laws::all_run_alone;
-pub use status::CellStatus;
+pub use line_player::Status as CellStatus;

@@ -1,13 +1,13 @@
 ghost use Rattle.std.specs.Prelude.{◌≡◌, ◌<◌, ◌≤◌, ◌++◌, OnOk, IfOk};
 ghost use Rattle.air_text.specs.Ranges.{IsInRange};
+ghost use Rattle.cell_run.specs.Acting.{Acts};
 ghost use Rattle.cell_run.specs.Entries.{entry_text};
-ghost use Rattle.cell_run.specs.Playing.{Acts};
 ghost use Rattle.cell_run.specs.Terminals.{fresh_terminal, own_step, up_wish, down_wish};
 ghost use Rattle.cell_run.specs.Terminals.{behind_tti, tti_entry, last_entry};
 ghost use Rattle.cell_text.specs.declared.line.TheConstants.{MOST_USERS};
 ghost use Rattle.l2_types.specs.declared.limits.TheConstants.{GREATEST_GRANT};
 
-use crate::fault::{CellFault, CellReason};
+use crate::fault::{CellFault, CellRule};
 use crate::numbered::append_numbered;
 use air_run::{Run, StepFault};
 use air_text::{Fate, Line, Outcome};
@@ -101,7 +101,7 @@ impl Terminal {
                 append_numbered(text, user, records.written())?;
                 Ok(())
             }
-            Err(StepFault::Refused(refusal)) => Err(CellFault::Refused(CellReason::Run(refusal))),
+            Err(StepFault::Refused(refusal)) => Err(CellFault::Refused(CellRule::Run(refusal))),
             Err(StepFault::NoMemory) => Err(CellFault::NoMemory),
             Err(StepFault::WriteFault) => unreachable!(),
         }

@@ -4,56 +4,30 @@ use Rattle.std.proofs.Common.{length, refl, ap, sym, arith, append-nil}
 use Rattle.std.specs.Prelude.{Option, None, Some, Ok, Err}
 use Rattle.l2_io.specs.Feeds.{until_feed, from_feed}
 use Rattle.l2_io.specs.Known.{HasRisen}
-use Rattle.air_record.specs.Text.{texts_of}
+use Rattle.air_record.specs.Text.{text_of, texts_of}
+use Rattle.air_record.specs.declared.record.Record.{Record}
 use Rattle.air_record.specs.declared.line.Line.{Line}
 use Rattle.air_text.specs.Reading.{read_of, read_words}
 use Rattle.air_text.specs.Words.{words_of}
 use Rattle.air_text.specs.declared.fault.LineRefusal.TheVariants.{Long}
-use Rattle.air_run.specs.Lines.{lines_ended, tail_of}
+use Rattle.line_player.specs.Lines.{lines_ended, tail_of}
 use Rattle.air_run.specs.Run.{RunState, step}
-use Rattle.air_run.specs.Journal.{Outcome, Goes, Ends, Refuses, Played, refused, finished, follow, on_line, close_by}
-use Rattle.air_run.specs.Journal.{play, journal_from, left_by, script}
-use Rattle.air_run.specs.declared.refusal.Reason.{Reason}
-use Rattle.air_run.specs.declared.refusal.Reason.TheVariants as reasons
-use Rattle.air_run.proofs.Cutting.{lines-line, tail-line}
+use Rattle.line_player.specs.Journal.{Outcome, Goes, Ends, Refuses, refused, finished, follow, on_line, close_by}
+use Rattle.line_player.specs.Journal.{play, journal_from}
+use Rattle.air_run.specs.Journal.{RunPlayed, left_by, script}
+use Rattle.air_run.specs.declared.refusal.RunRefusal.{RunRefusal}
+use Rattle.line_player.specs.declared.reason.Reason.{Reason}
+use Rattle.line_player.specs.declared.reason.Reason.TheVariants as reasons
+use Rattle.line_player.proofs.Cutting.{tail-line, from-text, lines-text}
+use Rattle.air_run.proofs.Texts.{short-text}
 use Rattle.script_generator.specs.Lines.{Says, SayAll}
-use Rattle.l2_commands.specs.declared.engine.LineEnd.TheVariants as ends
-use Rattle.l2_commands.specs.declared.playing.Ending.{Ending}
-use Rattle.l2_commands.specs.declared.playing.Ending.TheVariants as endings
-use Rattle.l2_commands.specs.Plays.{RunsLine, Plays, HasPlayed}
-use Rattle.l2_commands.specs.Engines.{muted, summing, sums_of, PassesLines}
-use Rattle.l2_commands.proofs.Nothing.{after_none, front_none}
-use Rattle.l2_commands.proofs.Parting.{plays-by}
-
-feed-parts : (x : ℕ) (xs : List ℕ) → until_feed (x ∷ xs) ≡ x ∷ xs → ((x == 10) ≡ false) × (until_feed xs ≡ xs)
-feed-parts x xs h =
-    elim (x == 10) as (λ b. (if b then [] else x ∷ until_feed xs) ≡ x ∷ xs → (b ≡ false) × (until_feed xs ≡ xs)) [
-      | true ↦ λ f. cc
-      | false ↦ λ f. (refl, cc)
-    ] h
-
-pub from-text : (text rest : List ℕ) → until_feed text ≡ text → from_feed (text ++ 10 ∷ rest) ≡ 10 ∷ rest
-from-text [] rest h = refl
-from-text (x ∷ xs) rest h = let p = feed-parts x xs h in rw (p.0) (from-text xs rest p.1)
-
-until-text : (text rest : List ℕ) → until_feed text ≡ text → until_feed (text ++ 10 ∷ rest) ≡ text
-until-text [] rest h = refl
-until-text (x ∷ xs) rest h = let p = feed-parts x xs h in rw (p.0) (ap (λ (t : List ℕ). x ∷ t) (until-text xs rest p.1))
-
-pub lines-text : (text rest : List ℕ) → until_feed text ≡ text
-    → lines_ended (text ++ 10 ∷ rest) ≡ text ∷ lines_ended rest
-lines-text text rest h = lines-line (text ++ 10 ∷ rest) rest (from-text text rest h)
-    ∙ ap (λ (t : List ℕ). t ∷ lines_ended rest) (until-text text rest h)
-
--- a text that is read as a line isn't too long
-pub short-text : (text : List ℕ) (line : Line) → read_of text ≡ Ok (Some line) → nat_lt 20000 (length text) ≡ false
-unfolding read_of
-short-text text line read =
-    elim (nat_lt 20000 (length text)) as (λ b. (if b then Err Long else read_words (words_of text)) ≡ Ok (Some line)
-    → b ≡ false) [
-      | true ↦ λ f. cc
-      | false ↦ λ f. refl
-    ] read
+use Rattle.line_player.specs.declared.player.LineEnd.TheVariants as ends
+use Rattle.line_player.specs.declared.ending.Ending.{Ending}
+use Rattle.line_player.specs.declared.ending.Ending.TheVariants as endings
+use Rattle.line_player.specs.Plays.{RunsLine, Plays, HasPlayed}
+use Rattle.l2_commands.specs.Journals.{muted, summing, sums_of, PassesLines}
+use Rattle.line_player.proofs.Nothing.{after_none, front_none}
+use Rattle.line_player.proofs.Parting.{plays-by}
 
 -- the journal of a line and of those behind it
 from-line : (text rest : List ℕ) (s : RunState) (number : ℕ) → until_feed text ≡ text
@@ -99,20 +73,21 @@ unfolding journal_from play close_by
 none-left octets s number h = rw h refl
 
 -- by how a line ended, what comes after it
-then-next : (o : Outcome RunState) (new : RunState) (number : ℕ) (next : RunState → Played)
-    → RunsLine o (Some new) None None ⊥ ends.Next → follow summing number (muted o) next ≡ next new
+then-next : (o : Outcome RunState Record RunRefusal) (new : RunState) (number : ℕ) (next : RunState → RunPlayed)
+    → RunsLine text_of o (Some new) None None ⊥ ends.Next → follow summing number (muted o) next ≡ next new
 then-next (Goes t journal) new number next h = let same : t ≡ new = cc in ap next same
 then-next (Ends t journal) new number next h = absurd h
 then-next (Refuses reason) new number next h = absurd h
 
-then-ended : (o : Outcome RunState) (new : RunState) (number : ℕ) (next : RunState → Played)
-    → RunsLine o (Some new) None None ⊥ ends.Ended → follow summing number (muted o) next ≡ finished summing new
+then-ended : (o : Outcome RunState Record RunRefusal) (new : RunState) (number : ℕ) (next : RunState → RunPlayed)
+    → RunsLine text_of o (Some new) None None ⊥ ends.Ended → follow summing number (muted o) next ≡ finished summing new
 then-ended (Goes t journal) new number next h = absurd h
 then-ended (Ends t journal) new number next h = let same : t ≡ new = cc in ap (finished summing) same
 then-ended (Refuses reason) new number next h = absurd h
 
-then-refused : (o : Outcome RunState) (new : RunState) (number : ℕ) (reason : Reason) (next : RunState → Played)
-    → RunsLine o (Some new) None None ⊥ (ends.Refused reason)
+then-refused : (o : Outcome RunState Record RunRefusal) (new : RunState) (number : ℕ) (reason : Reason RunRefusal)
+    (next : RunState → RunPlayed)
+    → RunsLine text_of o (Some new) None None ⊥ (ends.Refused reason)
     → follow summing number (muted o) next ≡ refused number reason
 then-refused o new number reason next h = rw (h.0) refl
 
@@ -135,7 +110,8 @@ behind octets line lines s number h few = h.left ∙ line-runs h.rest line lines
 
 pub goes-on : (octets : List ℕ) (line : Line) (old lines : List Line) (s s' : RunState) (number : ℕ)
     → IsLeft octets s number old → old ≡ line ∷ lines → number ≤ 1000000
-    → RunsLine (left_by line (step s number line)) (Some s') None None ⊥ ends.Next → IsLeft octets s' (number + 1) lines
+    → RunsLine text_of (left_by line (step s number line)) (Some s') None None ⊥ ends.Next → IsLeft octets s'
+    (number + 1) lines
 goes-on octets line old lines s s' number g is few runs =
     let h = next-said octets s number old (line ∷ lines) is g in
     record {
@@ -148,7 +124,7 @@ goes-on octets line old lines s s' number g is few runs =
 
 pub goes-over : (octets : List ℕ) (line : Line) (old lines : List Line) (s s' : RunState) (number : ℕ)
     → IsLeft octets s number old → old ≡ line ∷ lines → number ≤ 1000000
-    → RunsLine (left_by line (step s number line)) (Some s') None None ⊥ ends.Ended
+    → RunsLine text_of (left_by line (step s number line)) (Some s') None None ⊥ ends.Ended
     → sums_of true octets ≡ finished summing s'
 goes-over octets line old lines s s' number g is few runs =
     let h = next-said octets s number old (line ∷ lines) is g in
@@ -157,13 +133,13 @@ goes-over octets line old lines s s' number g is few runs =
     (λ t. journal_from summing true t (number + 1) (h.said.1)) runs
 
 -- a line that is refused writes nothing
-refused-plays : (played : Played) (number : ℕ) (reason : Reason) → played ≡ refused number reason
-    → (w : Option (List ℕ)) → Plays played w w ⊥ ⊥ (endings.Refused number reason)
+refused-plays : (played : RunPlayed) (number : ℕ) (reason : Reason RunRefusal) → played ≡ refused number reason
+    → (w : Option (List ℕ)) → Plays text_of played w w ⊥ ⊥ (endings.Refused number reason)
 refused-plays played number reason is w = rw is (refl, after_none w)
 
 pub is-refused : (octets : List ℕ) (line : Line) (old lines : List Line) (s s' : RunState) (number : ℕ)
-    (reason : Reason) → IsLeft octets s number old → old ≡ line ∷ lines → number ≤ 1000000
-    → RunsLine (left_by line (step s number line)) (Some s') None None ⊥ (ends.Refused reason)
+    (reason : Reason RunRefusal) → IsLeft octets s number old → old ≡ line ∷ lines → number ≤ 1000000
+    → RunsLine text_of (left_by line (step s number line)) (Some s') None None ⊥ (ends.Refused reason)
     → PassesLines (sums_of true octets) s' (Some (endings.Refused number reason))
 is-refused octets line old lines s s' number reason g is few runs =
     let h = next-said octets s number old (line ∷ lines) is g in
@@ -188,24 +164,24 @@ pub runs-out : (octets : List ℕ) (s : RunState) → PassesLines (sums_of true 
 runs-out octets s w = front_none (texts_of (sums_of true octets).journal) w
 
 -- all octets of a script were played
-whole-played : (octets : List ℕ) (w w' : Option (List ℕ)) (o o' : Type 0) (ending : Ending) → (o → o')
-    → Plays (sums_of true octets) w w' ⊥ o ending
-    → HasPlayed sums_of (Some octets) (Some []) w w' (HasRisen 0 0) o' ending
+whole-played : (octets : List ℕ) (w w' : Option (List ℕ)) (o o' : Type 0) (ending : Ending RunRefusal) → (o → o')
+    → Plays text_of (sums_of true octets) w w' ⊥ o ending
+    → HasPlayed text_of sums_of (Some octets) (Some []) w w' (HasRisen 0 0) o' ending
 whole-played octets w w' o o' ending more p = record {
   given = octets;
   left_is = ap Some (sym (append-nil octets));
   whole = true;
   end = λ e. refl;
-  plays = plays-by (sums_of true octets) w w' ⊥ o (HasRisen 0 0) o' ending (λ bad. absurd bad) more p;
+  plays = plays-by _ (sums_of true octets) w w' ⊥ o (HasRisen 0 0) o' ending (λ bad. absurd bad) more p;
 }
 
-pub stopped : (octets : List ℕ) (s : RunState) (w : Option (List ℕ)) (o : Type 0) (ending : Ending)
+pub stopped : (octets : List ℕ) (s : RunState) (w : Option (List ℕ)) (o : Type 0) (ending : Ending RunRefusal)
     → PassesLines (sums_of true octets) s (Some ending)
-    → HasPlayed sums_of (Some octets) (Some []) w w (HasRisen 0 0) o ending
+    → HasPlayed text_of sums_of (Some octets) (Some []) w w (HasRisen 0 0) o ending
 stopped octets s w o ending p = whole-played octets w w ⊥ o ending (λ bad. absurd bad) (p w)
 
 -- all lines were run, and what stands at the end was written
-pub summed : (octets : List ℕ) (s : RunState) (w w' : Option (List ℕ)) (o : Type 0) (ending : Ending)
-    → PassesLines (sums_of true octets) s None → Plays (finished script s) w w' ⊥ o ending
-    → HasPlayed sums_of (Some octets) (Some []) w w' (HasRisen 0 0) o ending
+pub summed : (octets : List ℕ) (s : RunState) (w w' : Option (List ℕ)) (o : Type 0) (ending : Ending RunRefusal)
+    → PassesLines (sums_of true octets) s None → Plays text_of (finished script s) w w' ⊥ o ending
+    → HasPlayed text_of sums_of (Some octets) (Some []) w w' (HasRisen 0 0) o ending
 summed octets s w w' o ending is p = whole-played octets w w' o o ending (λ x. x) (rw is p)

@@ -1,5 +1,2 @@
-pub mod Plays
-pub mod Engines
+pub mod Journals
 pub mod Main
-pub mod Streams
-pub mod Playing

@@ -2,12 +2,11 @@
 //! octets written.
 #![tactic(auto)]
 
+mod blocks;
 mod command;
-mod engine;
-mod playing;
-mod status;
+mod script;
 mod summing;
 
 pub use cli_words::{Command, Words};
-pub use command::{reason_word, run_command};
-pub use status::Status;
+pub use command::run_command;
+pub use line_player::Status;

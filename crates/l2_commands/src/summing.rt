@@ -2,40 +2,41 @@ ghost use Rattle.std.specs.Prelude.{◌≡◌, ◌≤◌, ℕ, List, [], true, N
 ghost use Rattle.l2_io.specs.Known.{HasRisen};
 ghost use Rattle.air_text.specs.Ranges.{IsInRange};
 ghost use Rattle.air_run.specs.Run.{fresh, step};
+ghost use Rattle.air_record.specs.Text.{text_of};
 ghost use Rattle.air_run.specs.Journal.{script, left_by};
 ghost use Rattle.script_generator.specs.Script.{script as script_of};
 ghost use Rattle.script_generator.specs.Lines.{SayAll};
-ghost use Rattle.l2_commands.specs.Plays.{RunsLine, HasPlayed, state_of};
-ghost use Rattle.l2_commands.specs.Engines.{PassesLines, sums_of};
+ghost use Rattle.l2_commands.specs.Journals.{PassesLines, sums_of};
+ghost use Rattle.line_player.specs.Plays.{RunsLine, HasPlayed, state_of};
 
-use crate::engine::{LineEnd, finish};
-use crate::playing::Ending;
-use air_run::{Reason, Run, StepFault};
+use crate::script::finish;
+use air_run::{Run, RunRefusal, StepFault};
 use air_text::{Line, MOST_LINES};
 use l2_io::Sink;
+use line_player::{Ending, LineEnd, Reason};
 use script_generator::ScriptLines;
 use std::alloc::Global;
 
 // Runs one line without its records.
-#[tactic(auto, using(crate::proofs::Nothing::part_nothing))]
-fn pass_line(run: &mut Run, line: &Line) -> LineEnd
+#[tactic(auto, using(line_player::proofs::Nothing::part_nothing))]
+fn pass_line(run: &mut Run, line: &Line) -> LineEnd<RunRefusal>
     requires { IsInRange line.now }
     ensures { (number : ℕ)
-        → RunsLine (left_by line.now (step (state_of script run.old) number line.now))
+        → RunsLine text_of (left_by line.now (step (state_of script run.old) number line.now))
         (Some (state_of script run.new)) None None ⊥ result }
 {
     let is_end = matches!(line, Line::End);
     match run.pass(line) {
         Ok(()) if is_end => LineEnd::Ended,
         Ok(()) => LineEnd::Next,
-        Err(StepFault::Refused(refusal)) => LineEnd::Refused(Reason::Run(refusal)),
+        Err(StepFault::Refused(refusal)) => LineEnd::Refused(Reason::Rule(refusal)),
         Err(StepFault::WriteFault) => LineEnd::WriteFault,
         Err(StepFault::NoMemory) => LineEnd::NoMemory,
     }
 }
 
 // Runs lines to their end, or to what stops the run: then with its ending.
-fn pass_lines(lines: &mut ScriptLines, run: &mut Run) -> Option<Ending>
+fn pass_lines(lines: &mut ScriptLines, run: &mut Run) -> Option<Ending<RunRefusal>>
     requires { state_of script run.old ≡ fresh }
     ensures { (octets : List ℕ) → SayAll octets lines.old
         → PassesLines (sums_of true octets) (state_of script run.new) result }
@@ -65,9 +66,10 @@ fn pass_lines(lines: &mut ScriptLines, run: &mut Run) -> Option<Ending>
 
 /// Plays the script of a number, and writes only what stands at its end. The lines are run as
 /// values, without their text.
-pub fn sum_script<K: Sink>(alloc: Global, number: u32, out: &mut K) -> Ending
-    ensures played { HasPlayed sums_of (Some (script_of number)) (Some []) (K.written out.old)
-        (K.written out.new) (HasRisen 0 0) (HasRisen (K.faults out.old) (K.faults out.new)) result }
+pub fn sum_script<K: Sink>(alloc: Global, number: u32, out: &mut K) -> Ending<RunRefusal>
+    ensures played { HasPlayed text_of sums_of (Some (script_of number)) (Some [])
+        (K.written out.old) (K.written out.new) (HasRisen 0 0)
+        (HasRisen (K.faults out.old) (K.faults out.new)) result }
     ensures out_count { K.faults out.old ≤ K.faults out.new }
 {
     let mut lines = ScriptLines::new(alloc, number);

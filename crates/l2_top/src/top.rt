@@ -1,6 +1,6 @@
 ghost use Rattle.cli_words.specs.Commands.{command_of};
 ghost use Rattle.l2_commands.specs.Main.{Does};
-ghost use Rattle.l2_commands.specs.Streams.{streams};
+ghost use Rattle.line_player.specs.Streams.{streams};
 ghost use Rattle.law_run.specs.Journals.{EveryJournal};
 
 use crate::{Command, Status, Words};

@@ -9,7 +9,8 @@ use Rattle.air_text.specs.Groups.{Group, history}
 use Rattle.air_text.specs.Reading.{read_of}
 use Rattle.air_text.specs.declared.fault.LineRefusal.{LineRefusal}
 use Rattle.air_run.specs.declared.refusal.RunRefusal.{RunRefusal}
-use Rattle.air_run.specs.Journal.{Outcome, Goes, Ends, Refuses, left_by, read_by, script_line}
+use Rattle.air_run.specs.Journal.{left_by, read_by, script_line}
+use Rattle.line_player.specs.Journal.{Outcome, Goes, Ends, Refuses}
 use Rattle.air_run.specs.Rules.{refusal}
 use Rattle.air_run.specs.Run.{RunState, Left, behind_line, done, step_by}
 use Rattle.law_run.specs.Order.{state_behind, KeepsOrder}
@@ -63,7 +64,7 @@ pub record EndsSo (past : List Group) (t : RunState) (part : List Record) (these
   pub ends : (more : List NumberedLine) → to_end (these ++ more) ≡ these
 
 -- what a text leaves as a line
-abbrev pub LineTo : List Group → List NumberedLine → Outcome RunState → Type 0
+abbrev pub LineTo : List Group → List NumberedLine → Outcome RunState Record RunRefusal → Type 0
 LineTo past these (Goes t part) = GoesOn past t part these
 LineTo past these (Ends t part) = EndsSo past t part these
 LineTo past these (Refuses reason) = Unit {0}

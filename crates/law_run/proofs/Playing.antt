@@ -9,13 +9,15 @@ use Rattle.air_record.specs.declared.line.Line.{Line}
 use Rattle.air_text.specs.declared.fault.LineRefusal.{LineRefusal}
 use Rattle.air_text.specs.declared.fault.LineRefusal.TheVariants.{Long}
 use Rattle.air_record.specs.declared.record.Record.{Record}
-use Rattle.air_run.specs.declared.refusal.Reason.{Reason}
-use Rattle.air_run.specs.declared.refusal.Reason.TheVariants as reasons
-use Rattle.air_run.specs.Lines.{lines_ended, tail_of}
+use Rattle.line_player.specs.declared.reason.Reason.{Reason}
+use Rattle.line_player.specs.declared.reason.Reason.TheVariants as reasons
+use Rattle.line_player.specs.Lines.{lines_ended, tail_of}
 use Rattle.air_run.specs.Run.{RunState, fresh, finish}
-use Rattle.air_run.specs.Journal.{Outcome, Goes, Ends, Refuses, Close, Finished, Refused, Waiting, Played, onto}
-use Rattle.air_run.specs.Journal.{finished, refused, waiting, follow, on_line, on_last, close_by, play, journal_from}
-use Rattle.air_run.specs.Journal.{journal_of, script, script_line}
+use Rattle.line_player.specs.Journal.{Outcome, Goes, Ends, Refuses, Finished, Refused, Waiting, onto}
+use Rattle.line_player.specs.Journal.{finished, refused, waiting, follow, on_line, on_last, close_by, play}
+use Rattle.line_player.specs.Journal.{journal_from}
+use Rattle.air_run.specs.Journal.{RunPlayed, RunClose, journal_of, script, script_line}
+use Rattle.air_run.specs.declared.refusal.RunRefusal.{RunRefusal}
 use Rattle.air_text.specs.Groups.{Group, history}
 use Rattle.air_text.specs.Reading.{read_of}
 use Rattle.law_run.specs.Order.{state_behind, KeepsOrder}
@@ -72,17 +74,17 @@ none_before number (x ∷ xs) h =
     ∙ none_before number xs h.1
 
 -- a text from a number on is refused, if any is
-abbrev pub IsRefusedFrom : ℕ → Close → Type 0
+abbrev pub IsRefusedFrom : ℕ → RunClose → Type 0
 IsRefusedFrom number (Refused at reason) = number ≤ at
 IsRefusedFrom number close = Unit {0}
 
-refused_later : (number : ℕ) (close : Close) → IsRefusedFrom (number + 1) close → IsRefusedFrom number close
+refused_later : (number : ℕ) (close : RunClose) → IsRefusedFrom (number + 1) close → IsRefusedFrom number close
 refused_later number (Refused at reason) h = omega (arith, h)
 refused_later number Finished h = tt
 refused_later number Waiting h = tt
 
 -- and what a text says is before that
-said_before : (close : Close) (number : ℕ) (read : Result (Option Line) LineRefusal) (all : List NumberedLine)
+said_before : (close : RunClose) (number : ℕ) (read : Result (Option Line) LineRefusal) (all : List NumberedLine)
     → IsRefusedFrom (number + 1) close → before close (said number read ++ all) ≡ said number read ++ before close all
 said_before Finished number read all h = refl
 said_before Waiting number read all h = refl
@@ -96,7 +98,7 @@ said_before (Refused at reason) number (Ok (Some line)) all h =
 -- ---- what is played
 
 -- behind groups, of texts from a number on that say these lines: further groups, and the sums
-pub record Tells (past : List Group) (number : ℕ) (these : List NumberedLine) (played : Played) : Type 0 where
+pub record Tells (past : List Group) (number : ℕ) (these : List NumberedLine) (played : RunPlayed) : Type 0 where
   pub later : List Group
   pub part : List Record
   pub order : KeepsOrder later
@@ -117,7 +119,8 @@ tells-end past number r h order = record {
   lines_are = sym (append-nil (lines_of past));
 }
 
-tells-nothing : (past : List Group) (number : ℕ) (these : List NumberedLine) (close : Close) → sums_at close past ≡ []
+tells-nothing : (past : List Group) (number : ℕ) (these : List NumberedLine) (close : RunClose)
+    → sums_at close past ≡ []
     → IsRefusedFrom number close → before close these ≡ [] → KeepsOrder past
     → Tells past number these (record { journal = []; close = close })
 tells-nothing past number these close none from no_line order =
@@ -131,14 +134,14 @@ tells-nothing past number these close none from no_line order =
       lines_are = sym (ap (λ (xs : List NumberedLine). lines_of past ++ xs) no_line ∙ append-nil (lines_of past));
     }
 
-tells-refused : (past : List Group) (number : ℕ) (these : List NumberedLine) (reason : Reason)
+tells-refused : (past : List Group) (number : ℕ) (these : List NumberedLine) (reason : Reason RunRefusal)
     → StandFrom number these → KeepsOrder past → Tells past number these (refused number reason)
 tells-refused past number these reason stand order =
     tells-nothing past number these (Refused number reason) refl (omega arith) (none_before number these stand) order
 
 tells-on : (past : List Group) (t : RunState) (part : List Record) (number : ℕ)
     (read : Result (Option Line) LineRefusal) (g : Grows past t part (said number read)) (more : List NumberedLine)
-    (later : Played) → Tells g.later (number + 1) more later
+    (later : RunPlayed) → Tells g.later (number + 1) more later
     → Tells past number (said number read ++ more) (onto part later)
 tells-on past t part number read g more later k = record {
   later = k.later;
@@ -154,7 +157,7 @@ tells-on past t part number read g more later k = record {
 }
 
 -- whatever state comes next, what follows tells of it
-abbrev pub TellsNext : ℕ → List NumberedLine → (RunState → Played) → Type 0
+abbrev pub TellsNext : ℕ → List NumberedLine → (RunState → RunPlayed) → Type 0
 TellsNext number these next =
     (past : List Group) (r : RunState) → r ≡ state_behind past → KeepsOrder past → Tells past number these (next r)
 
@@ -166,8 +169,9 @@ said_stand_so : (number : ℕ) (text : List ℕ) (more : List (List ℕ)) → St
 said_stand_so number text more =
     end_stand number (said_from number (text ∷ more)) (from_stand number number (text ∷ more) (omega arith))
 
-tells-line : (past : List Group) (number : ℕ) (text : List ℕ) (more : List (List ℕ)) (line : Outcome RunState)
-    (next : RunState → Played) → LineTo past (said number (read_of text)) line → KeepsOrder past
+tells-line : (past : List Group) (number : ℕ) (text : List ℕ) (more : List (List ℕ))
+    (line : Outcome RunState Record RunRefusal)
+    (next : RunState → RunPlayed) → LineTo past (said number (read_of text)) line → KeepsOrder past
     → TellsNext (number + 1) (to_end (said_from (number + 1) more)) next
     → Tells past number (all_said number text more) (follow script number line next)
 tells-line past number text more (Goes t part) next g order on =
@@ -190,7 +194,7 @@ line-at : (past : List Group) (r : RunState) (number : ℕ) (text : List ℕ) �
 line-at past r number text h order = rw h (line-to past number text order)
 
 tells-on-line : (past : List Group) (r : RunState) (number : ℕ) (raw : List ℕ) (more : List (List ℕ))
-    (next : RunState → Played)
+    (next : RunState → RunPlayed)
     → r ≡ state_behind past → KeepsOrder past → TellsNext (number + 1) (to_end (said_from (number + 1) more)) next
     → Tells past number (all_said number (without_return raw) more) (on_line script r number raw next)
 unfolding on_line

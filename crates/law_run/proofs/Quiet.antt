@@ -42,10 +42,6 @@ pub none_both : (test : Event → Bool) (xs ys : List Event) → list_any test x
     → list_any test (xs ++ ys) ≡ false
 none_both test xs ys p q = any_both test xs ys ∙ ap (λ (b : Bool). b || list_any test ys) p ∙ q
 
-pub parts_none : (test : Event → Bool) (xs ys : List Event) → list_any test (xs ++ ys) ≡ false
-    → (list_any test xs ≡ false) × (list_any test ys ≡ false)
-parts_none test xs ys e = both_false (list_any test xs) (list_any test ys) (sym (any_both test xs ys) ∙ e)
-
 -- what fails is of the sender
 fails_so : (e : Event) → is_of_sender e ≡ false → is_failure e ≡ false
 fails_so (events.Fail lcid sn) h = absurd cc

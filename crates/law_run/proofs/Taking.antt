@@ -14,7 +14,6 @@ use Rattle.law_bearer.specs.AnyBearer.Queue.{queue}
 use Rattle.law_node.proofs.Queueing.{waits_in}
 use Rattle.law_node.specs.Holding.{flow}
 use Rattle.promises.specs.Flows.{submitted}
-use Rattle.promises.specs.Arrival.{taken as taken_told}
 use Rattle.promises.specs.Records.{events_of}
 use Rattle.promises.specs.Taken.{takes_on, NamesSdu, lengths_on}
 use Rattle.promises.specs.Takes.{AllTakesAreNamed, TakesName, AllLeaveInOrder, SdusLeaveInOrder, left_since}

@@ -1,4 +1,4 @@
--- The lines of a journal, run in their turn.
+-- The lines of a journal, run in their turn (docs/laws/JOURNAL.md).
 use Rattle.std.specs.Prelude.{◌≡◌, List, [], ◌∷◌, None}
 use Rattle.air_text.specs.Groups.{Group}
 use Rattle.air_text.specs.Ranges.{IsInRange}

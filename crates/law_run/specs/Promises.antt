@@ -2,7 +2,7 @@
 -- first (docs/formats/JOURNAL.md).
 use Rattle.std.specs.Prelude.{◌≡◌, ℕ, Bool, List, ◌++◌}
 use Rattle.std.specs.List.{filter}
-use Rattle.air_run.specs.Journal.{Played}
+use Rattle.air_run.specs.Journal.{RunPlayed}
 use Rattle.air_text.specs.Groups.{Group, history}
 use Rattle.promises.specs.Air.{is_tti, ttis, numbered}
 use Rattle.promises.specs.Arrival.{HandUpWhatCame}
@@ -31,7 +31,7 @@ use Rattle.promises.specs.Zero.{BringInOrder}
 
 -- the journal of octets, of which more may come, with its promises: its groups, and at its end the
 -- sums where it is finished
-pub record IsPromised (whole : Bool) (octets : List ℕ) (played : Played) : Type 0 where
+pub record IsPromised (whole : Bool) (octets : List ℕ) (played : RunPlayed) : Type 0 where
   pub past : List Group
   pub journal_is : played.journal ≡ history past ++ sums_at played.close past
   -- its lines are those of the script that are accepted, each with its number

@@ -5,8 +5,9 @@ use Rattle.std.specs.List.{filter}
 use Rattle.l2_io.specs.Feeds.{without_return}
 use Rattle.air_record.specs.declared.line.Line.{Line}
 use Rattle.air_record.specs.declared.line.Line.TheVariants as lines
-use Rattle.air_run.specs.Journal.{Close, Refused}
-use Rattle.air_run.specs.Lines.{lines_ended, tail_of}
+use Rattle.air_run.specs.Journal.{RunClose}
+use Rattle.line_player.specs.Journal.{Refused}
+use Rattle.line_player.specs.Lines.{lines_ended, tail_of}
 use Rattle.air_text.specs.Groups.{Group}
 use Rattle.air_text.specs.Reading.{read_of}
 use Rattle.air_text.specs.declared.fault.LineRefusal.{LineRefusal}
@@ -48,11 +49,11 @@ abbrev pub to_end : List NumberedLine → List NumberedLine
 to_end [] = []
 to_end (one ∷ more) = one ∷ (if is_end one.line then [] else to_end more)
 
-abbrev pub before : Close → List NumberedLine → List NumberedLine
+abbrev pub before : RunClose → List NumberedLine → List NumberedLine
 before (Refused number reason) all = filter (λ one. nat_lt one.number number) all
 before close all = all
 
-abbrev pub accepted_lines : Bool → List ℕ → Close → List NumberedLine
+abbrev pub accepted_lines : Bool → List ℕ → RunClose → List NumberedLine
 accepted_lines whole octets close = before close (to_end (said_from 1 (texts whole octets)))
 
 -- ---- the lines of groups, of which the newest stands first

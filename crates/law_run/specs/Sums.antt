@@ -4,7 +4,8 @@ use Rattle.std.specs.Prelude.{ℕ, if◌then◌else◌, List, [], ◌∷◌, ◌
 use Rattle.bearer_types.specs.Lcids.{all_lcids}
 use Rattle.bearer_types.specs.Sides.{other}
 use Rattle.air_record.specs.declared.record.Record.{Record}
-use Rattle.air_run.specs.Journal.{Close, Finished, Refused, Waiting}
+use Rattle.air_run.specs.Journal.{RunClose}
+use Rattle.line_player.specs.Journal.{Finished, Refused, Waiting}
 use Rattle.air_run.specs.Rules.{is_known}
 use Rattle.air_run.specs.Run.{RunState}
 use Rattle.air_run.specs.Sums.{sum_by}
@@ -34,7 +35,7 @@ all_told past r [] = []
 all_told past r (lcid ∷ lcids) = sums_told past r lcid ++ all_told past r lcids
 
 -- they stand exactly where the journal is finished
-abbrev pub sums_at : Close → List Group → List Record
+abbrev pub sums_at : RunClose → List Group → List Record
 sums_at Finished past = all_told past (state_behind past) all_lcids
 sums_at (Refused number reason) past = []
 sums_at Waiting past = []

@@ -1,9 +1,10 @@
 use Rattle.std.proofs.Common.{ap, sym, arith}
 use Rattle.std.specs.Prelude.{true}
-use Rattle.air_run.specs.Journal.{script, journal_from}
+use Rattle.air_run.specs.Journal.{script}
+use Rattle.line_player.specs.Journal.{journal_from}
 use Rattle.air_run.specs.Run.{RunState}
-use Rattle.l2_commands.specs.Plays.{state_of}
-use Rattle.l2_commands.specs.Engines.{summing}
+use Rattle.line_player.specs.Plays.{state_of}
+use Rattle.l2_commands.specs.Journals.{summing}
 use Rattle.l2_commands.proofs.Passing.{goes-on, goes-over, is-refused, are-many, is-over}
 use Rattle.l2_commands.proofs.summing.pass_lines.Goals as goal
 

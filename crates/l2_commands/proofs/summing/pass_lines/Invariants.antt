@@ -1,7 +1,7 @@
 use Rattle.std.proofs.Common.{ℕ, List, ◌≤◌}
 use Rattle.air_run.specs.Journal.{script}
 use Rattle.script_generator.specs.Lines.{SayAll}
-use Rattle.l2_commands.specs.Plays.{state_of}
+use Rattle.line_player.specs.Plays.{state_of}
 use Rattle.l2_commands.proofs.Passing.{IsLeft}
 use Rattle.l2_commands.proofs.summing.pass_lines.Given as goal
 

@@ -2,7 +2,7 @@ use Rattle.air_run.specs.Journal.{script}
 use Rattle.script_generator.specs.Script.{script as script_of}
 use Rattle.script_generator.specs.Lines.{SayAll}
 use Rattle.script_generator.proofs.Saying.{say-script}
-use Rattle.l2_commands.specs.Plays.{state_of}
+use Rattle.line_player.specs.Plays.{state_of}
 use Rattle.l2_commands.proofs.Passing.{stopped, summed}
 use Rattle.l2_commands.proofs.summing.sum_script.Goals as goal
 
