@@ -1,7 +1,6 @@
 -- A text to which a stream is added, octet by octet.
 use Rattle.std.proofs.Common.{◌≡◌, ◌<◌, ◌≤◌, ℕ, zero, suc, ◌+◌, ◌*◌, ◌/◌, ◌%◌, ◌∙◌, List, [], ◌∷◌, ◌++◌, length, take}
 use Rattle.std.proofs.Common.{drop, slice_index, slice_set, refl, ap, arith, add-one}
-use Rattle.std.proofs.lemmas.List.{take_all, drop_all, append-nil}
 use Rattle.std.specs.Int.Bits.{bit_xor, xor_assoc, xor_self, xor_zero_r}
 use Rattle.std.specs.Simd.Lanes.{zip2, chunk, put_chunk}
 use Rattle.eps_sec.specs.Aes.{aes}
@@ -64,10 +63,6 @@ pub done-more : (f : ℕ → ℕ) (k v : ℕ) (t now : List ℕ) → k < length 
 done-more f k v t now lt e w =
     let here : slice_index now k ≡ slice_index t k = rw e (at_seam f 0 k t lt) in
     rw (e, w, here, add-one) (step f 0 k k t (omega arith) lt)
-
--- nothing is left behind the end
-pub done-all : (f : ℕ → ℕ) (k : ℕ) (t : List ℕ) → length t ≤ k → done_to f k t ≡ add_stream f 0 t
-done-all f k t le = rw (take_all k t le, drop_all k t le) (append-nil (add_stream f 0 t))
 
 -- the octet of the stream, in the block at hand
 pub stream_octet_is : (key block : List ℕ) (first i j k : ℕ) → block ≡ aes key (counter_block first i)

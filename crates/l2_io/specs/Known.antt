@@ -1,4 +1,5 @@
--- What is known of the octets of a source and of a sink, and of their counts.
+-- What is known of the octets of a source and of a sink, and of their counts
+-- (docs/laws/PROGRAM.md).
 use Rattle.std.specs.Prelude.{◌≡◌, ◌⊎◌, ℕ, ◌<◌, ◌≤◌, ◌-◌, ◌+◌, ◌^◌, List, [], ◌++◌, Option, None}
 use Rattle.std.specs.Prelude.{Some, min}
 

@@ -1,4 +1,4 @@
--- Sources and sinks in memory, and what each call leaves of them.
+-- Sources and sinks in memory, and what each call leaves of them (docs/laws/PROGRAM.md).
 use Rattle.std.specs.Prelude.{◌≢◌, ℕ, List, [], ◌++◌, length, drop, min, Result, Ok, Err, Contains}
 use Rattle.l2_io.specs.Known.{one_more}
 use Rattle.l2_io.specs.declared.sink.PutFault.{PutFault}

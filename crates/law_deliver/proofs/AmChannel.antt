@@ -9,6 +9,7 @@ pub mod Choosing
 pub mod Leaving
 pub mod Naming
 pub mod Lengths
+pub mod Feeding
 pub mod Unset
 pub mod Submitted
 pub mod Delivery

@@ -39,9 +39,6 @@ but_last [] = refl
 but_last (x ∷ []) = refl
 but_last (x ∷ y ∷ ys) = ap (λ (zs : List (List ℕ)). x ∷ zs) (but_last (y ∷ ys)) ∙ sym (last_off x y ys)
 
-but_first : (ends : Bool) (x y : List ℕ) (ys : List (List ℕ)) → whole false ends (x ∷ y ∷ ys) ≡ whole true ends (y ∷ ys)
-but_first ends x y ys = refl
-
 pub whole_is : (begins ends : Bool) (es : List (List ℕ)) → whole_sdus (framing begins ends) es ≡ whole begins ends es
 whole_is true true es = all_of es ∙ sym (from_begin es)
 whole_is true false es = sym (but_last es)

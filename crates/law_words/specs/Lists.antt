@@ -1,4 +1,4 @@
--- Words about lists that promises and laws share.
+-- Words about lists that promises and laws share (docs/laws/JOURNAL.md).
 use Rattle.std.specs.Prelude.{◌≡◌, ℕ, List, ◌++◌, ◌⊎◌, [], ◌∷◌, map, slice_index_or}
 use Rattle.std.specs.List.{AllByRecursion}
 

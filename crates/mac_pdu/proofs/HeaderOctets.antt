@@ -3,7 +3,7 @@ use Rattle.std.proofs.Common.{◌≡◌, ℕ, zero, suc, ◌+◌, ◌-◌, ◌*�
 use Rattle.std.proofs.Common.{[], ◌∷◌, ◌++◌, length, drop, refl, sym, ap, ◌∙◌, arith, append_assoc, subst, inl, inr}
 use Rattle.std.proofs.Common.{Option, None, Some, get_or}
 use Rattle.std.proofs.lemmas.Bool.{cases_lt, le-ltb, lt-ltb}
-use Rattle.std.proofs.lemmas.List.{length-append, drop_at, get_or-append-add, get_or_past}
+use Rattle.std.proofs.lemmas.List.{length-append, drop_at, get_or-append-add}
 use Rattle.mac_pdu.specs.declared.item.Direction.{Direction}
 use Rattle.mac_pdu.specs.declared.fault.MacWhy.{MacWhy}
 use Rattle.mac_pdu.specs.declared.subheader.Stage.{Stage}
@@ -265,9 +265,3 @@ header_written d st at total [] octets h e f = absurd (no_heads st at total f)
 header_written d st at total (s ∷ ss) octets h e f =
     one_split d st at total s ss (header_written d (after st s.kind) (at + s.size) total ss) f octets h e
     (subheader_at d octets) refl
-
-pub octets_from : (octets : List ℕ) → ((i : ℕ) → i < length octets → get_or octets i 0 < 256) → AreOctets octets
-octets_from octets fits i = elim (cases_lt i (length octets)) [
-  | inl lt ↦ fits i lt
-  | inr le ↦ rw (get_or_past octets i 0 le) (omega arith)
-]

@@ -133,10 +133,6 @@ AreControls : List MacItem → Type 0
 AreControls ps = (controls : List Control) × (sdus : List Sdu) × (ends : List ℕ) × (length ends ≤ 1)
     × (ps ≡ Rest controls sdus ends)
 
-controls_first : (st : Stage) (ps : List MacItem) → after st kind.Sdu ≡ stage.Sdus → NoFault (after st kind.Sdu) ps
-    → NoFault stage.Sdus ps
-controls_first st ps e h = subst (λ (x : Stage). NoFault x ps) e h
-
 from_sdu : (lcid : ℕ) (octets : List ℕ) (ps : List MacItem) → NoFault stage.Sdus ps → IsPlaced (sdu lcid octets ∷ ps)
     → AreControls (sdu lcid octets ∷ ps)
 unfolding AreControls AreSdus Rest

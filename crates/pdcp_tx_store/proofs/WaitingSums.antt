@@ -23,9 +23,6 @@ start_first (w ∷ ws) end zero h = omega arith
 start_first (w ∷ ws) end (suc k) h = let ih = start_first ws end k h.1 in
     let e : w.before + length w.octets ≡ start_of ws end = h.0 in omega arith
 
-pub drop_none : (ws : List Waiting) → drop 0 ws ≡ ws
-drop_none ws = refl
-
 pub ruleset sums = (summed_more, start_first)
 
 pub start_below : (ws : List Waiting) (end k : ℕ) → AreSummed ws end → start_of (drop k ws) end ≤ end

@@ -18,9 +18,6 @@ pub record Ledger : Type 0 where
 abbrev pub empty_ledger : Ledger
 empty_ledger = record { oldest = 0; entries = []; news = [] }
 
-abbrev pub nothing_owed : Owed
-nothing_owed = record { size = 0; owed = 0 }
-
 -- an SDU is offered
 abbrev pub opened : Ledger → ℕ → Ledger
 opened l size = record l { entries = l.entries ++ record { size = size; owed = size } ∷ [] }

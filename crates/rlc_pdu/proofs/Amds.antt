@@ -210,8 +210,3 @@ agrees : (total : ℕ) (f : Option Front)
 agrees total None = refl
 agrees total (Some f) =
     refused_with f (body_refusal total f.size (units false f.more f.rest)) (cut_all (units false f.more f.rest))
-
-pub amd_agrees : (octets : List ℕ)
-    → MatchResult (amd_at octets) (λ x. data_refusal (length octets) (amd_front octets) ≡ None)
-    (λ e. data_refusal (length octets) (amd_front octets) ≡ Some e)
-amd_agrees octets = agrees (length octets) (amd_front octets)

@@ -1,6 +1,6 @@
 -- Calls of a bearer over acknowledged RLC, as steps of PDCP's sender.
-use Rattle.std.proofs.Common.{◌≡◌, ℕ, Bool, true, false, if◌then◌else◌, nat_lt, List, [], ◌∷◌, ◌++◌}
-use Rattle.std.proofs.Common.{drop, length, Option, Result, Ok, Err, subst, refl, ap, sym, ◌∙◌}
+use Rattle.std.proofs.Common.{◌≡◌, ℕ, Bool, true, false, nat_lt, List, [], ◌∷◌, ◌++◌}
+use Rattle.std.proofs.Common.{length, Option, Result, Ok, Err, subst, refl, ap, sym, ◌∙◌}
 use Rattle.l2_types.specs.declared.Clock.{Clock}
 use Rattle.l2_types.specs.declared.Clock.TheVariants.{Poll, Reorder, Prohibit}
 use Rattle.eps_sec.specs.declared.Keys.{Keys}
@@ -29,9 +29,9 @@ use Rattle.bearer.specs.Acknowledged.Lives.{Ending, hears_last, ends_with, stopp
 use Rattle.bearer.specs.Acknowledged.Timing.{Ticking, expires_if, clock_left, counts, has_ended, ticks, discards}
 use Rattle.bearer.specs.Acknowledged.Timing.{after_expiry, ticked}
 use Rattle.law_bearer.specs.AnyBearer.Stream.{am_offered}
-use Rattle.law_bearer.proofs.AnyBearer.Sender.{nothing, left_of, confirms_one}
-use Rattle.law_bearer.proofs.AnyBearer.Feeding.{Fed as FedOf, none_fed as fed_none, one_fed}
-use Rattle.law_bearer.proofs.AnyBearer.Parts.{pdcp_took, Passed, rests, by_tx, passed_then}
+use Rattle.law_bearer.proofs.AnyBearer.Sender.{nothing, confirms_one}
+use Rattle.law_bearer.proofs.AnyBearer.Feeding.{Fed as FedOf, all_fed}
+use Rattle.law_bearer.proofs.AnyBearer.Parts.{Passed, rests, by_tx, passed_then}
 use Rattle.law_bearer.proofs.AnyBearer.Parts.{hearing_moves, Ended, ends_as, ended_then, last_one}
 
 -- ---- RLC takes PDUs
@@ -40,28 +40,14 @@ use Rattle.law_bearer.proofs.AnyBearer.Parts.{hearing_moves, Ended, ends_as, end
 abbrev pub Fed : List Offer → Work → Work → Type 0
 Fed os w v = FedOf given_to am_offered os w.pdcp v.pdcp w.tx v.tx
 
-none_fed : (os : List Offer) (w : Work) → Fed os w w
-none_fed os w = fed_none given_to am_offered (λ tx. refl) os w.pdcp w.tx
-
-fed_by : (b : Bool) (o : Offer) (os : List Offer) (w v : Work) → offers w.pdcp.tx ≡ o ∷ os → Fed os (fed w) v
-    → Fed (o ∷ os) w (if b then v else w)
-fed_by true o os w v q f =
-    one_fed given_to am_offered (λ pdu pdus tx. refl) o os w.pdcp v.pdcp w.tx v.tx q f
-fed_by false o os w v q f = none_fed (o ∷ os) w
-
-all_fed : (os : List Offer) (size : ℕ) (held : Option ℕ) (w : Work) → offers w.pdcp.tx ≡ os
-    → Fed os w (feeds os size held w)
-all_fed [] size held w q = none_fed [] w
-all_fed (o ∷ os) size held w q =
-    fed_by (hungry w.tx size held) o os w (feeds os size held (fed w)) q
-    (all_fed os size held (fed w) (ap offers (pdcp_took w.pdcp) ∙ left_of 1 w.pdcp.tx ∙ ap (drop 1) q))
-
 pub all_fed_in : (s : State) (share : ℕ) (held : Option ℕ)
     → Fed (offers s.pdcp.tx) (work s.pdcp s.tx (status_told s.pdcp.lcid (has_prohibit s) s.rx share))
     (feeding s share held)
 all_fed_in s share held =
-    all_fed (offers s.pdcp.tx) (data_size s share) held
-    (work s.pdcp s.tx (status_told s.pdcp.lcid (has_prohibit s) s.rx share)) refl
+    all_fed given_to am_offered (λ tx. refl) (λ pdu pdus tx. refl) (λ (w : Work). w.pdcp) (λ (w : Work). w.tx)
+    (λ (w : Work). hungry w.tx (data_size s share) held) fed (λ w. refl) (λ w. refl)
+    (λ (os : List Offer) (w : Work). feeds os (data_size s share) held w) (λ w. refl) (λ o os w. refl)
+    (offers s.pdcp.tx) (work s.pdcp s.tx (status_told s.pdcp.lcid (has_prohibit s) s.rx share)) refl
 
 pub take_left : (s : State) (share : ℕ) (held : Option ℕ)
     → (after_taking s share held).pdcp ≡ (feeding s share held).pdcp

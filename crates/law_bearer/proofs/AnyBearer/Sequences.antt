@@ -54,15 +54,6 @@ pub behind_as : (told : List Event) (A B : OfEvents) (all : List Event) → ((es
     → Behind told A all → Behind told B all
 behind_as told A B all f k = record { rest = k.rest; all_are = k.all_are; is_rest = f k.rest k.is_rest }
 
--- one thing, and then another
-pub behind_both : (told a : List Event) (A B : OfEvents) (all : List Event) → A a → Behind (told ++ a) B all
-    → Behind told (A then B) all
-behind_both told a A B all p k = record {
-  rest = a ++ k.rest;
-  all_are = k.all_are ∙ append_assoc told a k.rest;
-  is_rest = both A B a k.rest p k.is_rest;
-}
-
 -- the same from one to the next
 pub behind_then : (told more : List Event) (A B : OfEvents) (all : List Event) → Behind told A more
     → Behind more B all → Behind told (A then B) all

@@ -1,6 +1,6 @@
 -- Calls of a bearer over unacknowledged RLC, as steps of PDCP's sender.
-use Rattle.std.proofs.Common.{◌≡◌, ℕ, Bool, true, false, if◌then◌else◌, List, [], ◌∷◌, drop}
-use Rattle.std.proofs.Common.{Option, Result, Ok, Err, refl, ap, ◌∙◌}
+use Rattle.std.proofs.Common.{◌≡◌, ℕ, Bool, true, false, List, [], ◌∷◌}
+use Rattle.std.proofs.Common.{Option, Result, Ok, Err, refl}
 use Rattle.bearer_types.specs.declared.Event.{Event}
 use Rattle.l2_num.specs.Timers.{ends}
 use Rattle.l2_types.specs.declared.Clock.{Clock}
@@ -26,9 +26,9 @@ use Rattle.bearer.specs.Unacknowledged.Hearing.{expiry_left, clock_left, after_e
 use Rattle.bearer.specs.Unacknowledged.Hearing.{after_ticking}
 use Rattle.bearer.specs.Unacknowledged.Lives.{stopped, restarted}
 use Rattle.law_bearer.specs.AnyBearer.Stream.{um_offered}
-use Rattle.law_bearer.proofs.AnyBearer.Sender.{nothing, left_of}
-use Rattle.law_bearer.proofs.AnyBearer.Feeding.{Fed as FedOf, none_fed as fed_none, one_fed}
-use Rattle.law_bearer.proofs.AnyBearer.Parts.{pdcp_took, Passed, rests, passed_then}
+use Rattle.law_bearer.proofs.AnyBearer.Sender.{nothing}
+use Rattle.law_bearer.proofs.AnyBearer.Feeding.{Fed as FedOf, all_fed}
+use Rattle.law_bearer.proofs.AnyBearer.Parts.{Passed, rests, passed_then}
 use Rattle.law_bearer.proofs.AnyBearer.Parts.{hearing_moves, Ended, ends_as, ended_then, last_one}
 
 -- ---- RLC takes PDUs
@@ -37,26 +37,13 @@ use Rattle.law_bearer.proofs.AnyBearer.Parts.{hearing_moves, Ended, ends_as, end
 abbrev pub Fed : List Offer → Feeding → Feeding → Type 0
 Fed os w v = FedOf given_to um_offered os w.pdcp v.pdcp w.tx v.tx
 
-none_fed : (os : List Offer) (w : Feeding) → Fed os w w
-none_fed os w = fed_none given_to um_offered (λ tx. refl) os w.pdcp w.tx
-
-fed_by : (b : Bool) (o : Offer) (os : List Offer) (w v : Feeding) → offers w.pdcp.tx ≡ o ∷ os → Fed os (fed w) v
-    → Fed (o ∷ os) w (if b then v else w)
-fed_by true o os w v q f =
-    one_fed given_to um_offered (λ pdu pdus tx. refl) o os w.pdcp v.pdcp w.tx v.tx q f
-fed_by false o os w v q f = none_fed (o ∷ os) w
-
-all_fed : (os : List Offer) (size : ℕ) (held : Option ℕ) (w : Feeding) → offers w.pdcp.tx ≡ os
-    → Fed os w (feeds os size held w)
-all_fed [] size held w q = none_fed [] w
-all_fed (o ∷ os) size held w q =
-    fed_by (is_hungry w.tx size held) o os w (feeds os size held (fed w)) q
-    (all_fed os size held (fed w) (ap offers (pdcp_took w.pdcp) ∙ left_of 1 w.pdcp.tx ∙ ap (drop 1) q))
-
 pub all_fed_in : (s : State) (share : ℕ) (held : Option ℕ)
     → Fed (offers s.pdcp.tx) (record { pdcp = s.pdcp; tx = s.tx; events = [] }) (feeding s share held)
 all_fed_in s share held =
-    all_fed (offers s.pdcp.tx) (size_in share) held (record { pdcp = s.pdcp; tx = s.tx; events = [] }) refl
+    all_fed given_to um_offered (λ tx. refl) (λ pdu pdus tx. refl) (λ (w : Feeding). w.pdcp) (λ (w : Feeding). w.tx)
+    (λ (w : Feeding). is_hungry w.tx (size_in share) held) fed (λ w. refl) (λ w. refl)
+    (λ (os : List Offer) (w : Feeding). feeds os (size_in share) held w) (λ w. refl) (λ o os w. refl)
+    (offers s.pdcp.tx) (record { pdcp = s.pdcp; tx = s.tx; events = [] }) refl
 
 pub take_left : (s : State) (share : ℕ) (held : Option ℕ)
     → (after_taking s share held).pdcp ≡ (feeding s share held).pdcp

@@ -8,8 +8,7 @@ use Rattle.bearer.specs.declared.flow.Flow.{Flow}
 use Rattle.bearer.specs.declared.flow.Flow.TheVariants.{Am}
 use Rattle.bearer.specs.Submitting.{refusal as flow_refusal}
 use Rattle.bearer.specs.Acknowledged.State.{State}
-use Rattle.law_bearer.specs.AnyBearer.Calls.{Call as BearerCall, Submit as Submits, Take as Takes, Arrive as Arrives}
-use Rattle.law_bearer.specs.AnyBearer.Calls.{Expire as Expires, Tick as Ticks, SetDiscard as SetsDiscard}
+use Rattle.law_bearer.specs.AnyBearer.Calls.{Call as BearerCall}
 use Rattle.law_bearer.specs.AnyBearer.Calls.{Step as BearerStep, Calls as CallsIt}
 use Rattle.l2_node.specs.End.{End}
 use Rattle.l2_types.specs.declared.side.Side.TheVariants.{Nb, Ue}
@@ -20,12 +19,13 @@ use Rattle.law_deliver.specs.AmFlow.Pair.{SentStatus, BearerEnd, Pair, Deed, Cal
 use Rattle.law_deliver.specs.AmFlow.Pair.{StatusComes}
 use Rattle.law_deliver.specs.AmFlow.Pair.{DataGoes, StatusGoes, Step, Near, Far, called, data_comes, status_comes, does}
 use Rattle.law_deliver.specs.AmFlow.Pair.{happens, goes}
-use Rattle.law_deliver.proofs.AmFlow.Accepting.{IsQuiet, AreAcceptable, act_acceptable}
+use Rattle.law_deliver.proofs.AmFlow.Accepting.{IsQuiet, AreAcceptable, act_acceptable, quiet_accepted}
 use Rattle.law_deliver.proofs.AmFlow.Air.{calls_in as act_calls}
 use Rattle.law_deliver.proofs.AmFlow.Runs.{AreDone, near_steps, far_steps, data_call, status_call}
 use Rattle.law_deliver.proofs.AmFlow.Runs.{calls_in as deed_calls, all_calls_in}
 use Rattle.law_deliver.proofs.AmFlow.Stations.{calls_by as block_calls}
-use Rattle.law_deliver.specs.AmDelivery.Lives.{LifeStep, InLife, lives, call_by, call_of, calls_in, IsAccepted}
+use Rattle.law_deliver.specs.Accepted.{IsAccepted}
+use Rattle.law_deliver.specs.AmDelivery.Lives.{LifeStep, InLife, lives, call_by, call_of, calls_in}
 use Rattle.law_deliver.specs.AmDelivery.Lives.{MayBeDone, AreLiving}
 use Rattle.law_deliver.specs.AmChannel.Lives.{brought, calls_by}
 use Rattle.law_deliver.specs.AmChannel.Delivery.{steps_over}
@@ -36,7 +36,7 @@ use Rattle.law_deliver.proofs.AmChannel.Pairs.{all_does}
 
 abbrev pub AreAccepted : State → List BearerCall → Type 0
 AreAccepted b [] = Unit {0}
-AreAccepted b (c ∷ cs) = IsAccepted b c × AreAccepted (called b c) cs
+AreAccepted b (c ∷ cs) = IsAccepted b.pdcp.tx c × AreAccepted (called b c) cs
 
 data_rest : (o : Option Copy) (e : BearerEnd) (cs : List BearerCall) → AreAccepted e.bearer (data_call o ++ cs)
     → AreAccepted (data_comes e o).bearer cs
@@ -141,17 +141,9 @@ act_steps l other s (Goes k) g = refl
 
 -- ---- are accepted
 
-quiet_one : (b : State) (c : BearerCall) → IsQuiet c → IsAccepted b c
-quiet_one b (Submits sdu) q = absurd q
-quiet_one b (Takes share held) q = tt
-quiet_one b (Arrives pdu) q = tt
-quiet_one b (Expires clock) q = tt
-quiet_one b Ticks q = tt
-quiet_one b (SetsDiscard ttis) q = tt
-
 quiet_all : (cs : List BearerCall) (b : State) → AllByRecursion IsQuiet cs → AreAccepted b cs
 quiet_all [] b q = tt
-quiet_all (c ∷ cs) b q = (quiet_one b c q.0, quiet_all cs (called b c) q.1)
+quiet_all (c ∷ cs) b q = (quiet_accepted b.pdcp.tx c q.0, quiet_all cs (called b c) q.1)
 
 accepts : (b : State) (cs : List BearerCall) → AreAcceptable (Am b) cs → AreAccepted b cs
 unfolding flow_refusal

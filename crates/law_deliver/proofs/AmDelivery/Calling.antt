@@ -23,7 +23,7 @@ use Rattle.law_bearer.proofs.AmBearer.Calls.{calls_are_deeds}
 use Rattle.law_deliver.specs.AmFlow.Pair.{BearerEnd, acknowledged, called, calls, IsCalling}
 use Rattle.law_deliver.proofs.AmFlow.Standing.{or_none}
 use Rattle.law_deliver.specs.AmDelivery.Arrival.{said_in, heard_in}
-use Rattle.law_deliver.specs.AmDelivery.Lives.{IsAccepted}
+use Rattle.law_deliver.specs.Accepted.{IsAccepted}
 use Rattle.law_deliver.proofs.AmDelivery.Joined.{Way}
 use Rattle.law_deliver.proofs.AmDelivery.Ends.{JoinedEnds, EndsGoOn}
 use Rattle.law_deliver.proofs.AmDelivery.Timers.{IsOwn, AreOwn, own_all, asks_go_on, with_bearer}
@@ -103,7 +103,7 @@ writes_none bits out inn e o c h m =
     (called_as bits out inn e o c h) m)
 
 submits_go_on : (bits : ℕ) (out inn : Way) (e o : BearerEnd) (sdu : List ℕ) → JoinedEnds bits out inn e o
-    → IsAccepted e.bearer (Submit sdu)
+    → IsAccepted e.bearer.pdcp.tx (Submit sdu)
     → EndsGoOn bits out inn (calls e (Submit sdu)) o [] [] [] []
 submits_go_on bits out inn e o sdu h ok =
     writes_none bits out inn e o (Submit sdu) h
@@ -119,7 +119,7 @@ own_go_on bits out inn e o c h own =
 -- ---- any call
 
 calls_on : (bits : ℕ) (out inn : Way) (e o : BearerEnd) (c : Call) → JoinedEnds bits out inn e o → IsCalling e c
-    → IsAccepted e.bearer c
+    → IsAccepted e.bearer.pdcp.tx c
     → EndsGoOn bits out inn (calls e c) o (news (Am e.bearer) c) [] (said_in e.bearer c) (heard_in c)
 calls_on bits out inn e o (Submit sdu) h g ok = submits_go_on bits out inn e o sdu h ok
 calls_on bits out inn e o (Take share held) h g ok = takes_go_on bits out inn e o share held h g
@@ -130,7 +130,7 @@ calls_on bits out inn e o Tick h g ok = own_go_on bits out inn e o Tick h (tti_o
 calls_on bits out inn e o (SetDiscard ttis) h g ok = own_go_on bits out inn e o (SetDiscard ttis) h (tt, tt)
 
 pub calls_go_on : (bits : ℕ) (out inn : Way) (e o : BearerEnd) (c : Call) → JoinedEnds bits out inn e o
-    → IsCalling e c → IsAccepted e.bearer c
+    → IsCalling e c → IsAccepted e.bearer.pdcp.tx c
     → EndsGoOn bits out inn (calls e c) o (news (Am e.bearer) c) (ups_among (tells e.bearer c)) (said_in e.bearer c)
     (heard_in c)
 calls_go_on bits out inn e o c h g ok =

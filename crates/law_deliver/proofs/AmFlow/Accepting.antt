@@ -16,7 +16,9 @@ use Rattle.l2_node.specs.Submitting.{refusal}
 use Rattle.law_node.specs.Calls.{Turn, Call, SetVisits, SetReports, Add, Submit, SetDiscard, Tick, TickBuckets, Visits}
 use Rattle.law_node.specs.Calls.{Grants, Granted, Assigned, Pass, Receive, Expire, Move}
 use Rattle.law_node.specs.Holding.{flow}
+use Rattle.pdcp_tx.specs.State.{State as Sending}
 use Rattle.prioritise.specs.Channels.{has as has_channel}
+use Rattle.law_deliver.specs.Accepted.{IsAccepted}
 use Rattle.law_deliver.specs.AmFlow.Air.{Block, Station, Act, Calls, Comes, Goes}
 use Rattle.law_deliver.specs.AmFlow.Channels.{only, share_of, held_of, takes_of, submits_of, calls_of}
 use Rattle.promises.specs.Pdus.{carried}
@@ -32,6 +34,15 @@ IsQuiet (Arrives pdu) = Unit {0}
 IsQuiet (Expires clock) = Unit {0}
 IsQuiet Ticks = Unit {0}
 IsQuiet (SetsDiscard ttis) = Unit {0}
+
+-- so PDCP refuses nothing
+pub quiet_accepted : (s : Sending) (c : BearerCall) → IsQuiet c → IsAccepted s c
+quiet_accepted s (Submits sdu) q = absurd q
+quiet_accepted s (Takes share held) q = tt
+quiet_accepted s (Arrives pdu) q = tt
+quiet_accepted s (Expires clock) q = tt
+quiet_accepted s Ticks q = tt
+quiet_accepted s (SetsDiscard ttis) q = tt
 
 -- or one that isn't refused, alone
 pub record SubmitsOne (f : Flow) (cs : List BearerCall) : Type 0 where

@@ -96,9 +96,6 @@ block_by l (Err refusal) h = rests l h.bearers
 
 -- ---- a TTI begins: the bearer at each place ticks, so that of the channel once
 
-ticked_at : ℕ → Heard → Of Life
-ticked_at at h = let y = bearer_at h.bearers at in of y.channel (alive (flow_ticked y.state.flow))
-
 find_stays : (l at : ℕ) (h : Heard) → find l (ticks_at at h).bearers ≡ find l h.bearers
 find_stays l at h = let y = bearer_at h.bearers at in
     find_set l h.bearers at (of y.channel (alive (flow_ticked y.state.flow))) refl

@@ -1,6 +1,6 @@
 -- The SDUs of a signalling bearer leave its queue in their order in a life, each told by its length.
 use Rattle.std.proofs.Common.{◌≡◌, ℕ, ◌-◌, ◌%◌, Bool, true, false, if◌then◌else◌, nat_lt, Option, List, []}
-use Rattle.std.proofs.Common.{◌∷◌, ◌++◌, map, length, append-nil, append_assoc, refl, ap, sym, subst, ◌∙◌}
+use Rattle.std.proofs.Common.{◌∷◌, ◌++◌, map, length, append-nil, refl, ap, sym, subst, ◌∙◌}
 use Rattle.std.proofs.lemmas.Grind.{flat_map-append}
 use Rattle.std.proofs.lemmas.List.{map-append}
 use Rattle.bearer.specs.declared.flow.Flow.TheVariants.{Am}
@@ -17,7 +17,6 @@ use Rattle.bearer.specs.Submitting.{submitted as flow_submitted}
 use Rattle.bearer.specs.Taking.{told as flow_told, after as flow_after}
 use Rattle.bearer_pdcp.specs.Discarding.{late_told, after_tick as after_discards, tick_told}
 use Rattle.bearer_pdcp.specs.Ends.{Ends}
-use Rattle.bearer_pdcp.specs.Taking.{taking_told, after_taking as after_pdcp}
 use Rattle.bearer_types.specs.declared.event.Event.TheVariants as events
 use Rattle.l2_types.specs.declared.event.Clock.{Clock}
 use Rattle.l2_types.specs.declared.event.Clock.TheVariants.{Poll, Reorder, Prohibit}
@@ -44,38 +43,22 @@ use Rattle.rlc_pdu.specs.declared.Taken.{Taken}
 use Rattle.rlc_pdu.specs.declared.Taken.TheVariants.{Piece, Idle, Small, Shut, Held, Stopped}
 use Rattle.law_deliver.specs.AmFlow.Pair.{called}
 use Rattle.law_deliver.proofs.AmChannel.Ends.{lengths_in, length_off}
-use Rattle.law_deliver.proofs.AmChannel.Leaving.{stays_on}
-use Rattle.law_deliver.proofs.AmChannel.Lengths.{lens, one_taken, tick_lens, hears_none, same_lens}
+use Rattle.law_deliver.proofs.AmChannel.Feeding.{feeds_lens}
+use Rattle.law_deliver.proofs.AmChannel.Lengths.{lens, tick_lens, hears_none, same_lens}
 use Rattle.law_deliver.proofs.AmChannel.Waiting.{ticks_pdcp}
 use Rattle.law_deliver.proofs.AmFlow.Events.{none_arriving, none_expiring}
 use Rattle.law_deliver.proofs.AmFlow.Sending.{is_called}
 
 -- ---- RLC takes PDUs
 
-fed_told : (l : ℕ) (w : Work) → w.pdcp.lcid ≡ l → IsPlain Srb w.pdcp
-    → lengths_on l (fed w).events ++ lens (fed w).pdcp.tx.waiting ≡ lengths_on l w.events ++ lens w.pdcp.tx.waiting
-fed_told l w own h =
-    let left = lens (after_pdcp w.pdcp).tx.waiting in
-    ap (λ (ns : List ℕ). ns ++ left) (flat_map-append (length_in l) w.events (taking_told w.pdcp))
-    ∙ (append_assoc (lengths_on l w.events) (lengths_on l (taking_told w.pdcp)) left
-    ∙ ap (λ (ns : List ℕ). lengths_on l w.events ++ ns) (one_taken Srb refl l w.pdcp own h.sender))
-
-by_hunger : (b : Bool) (l : ℕ) (w v : Work)
-    → lengths_on l v.events ++ lens v.pdcp.tx.waiting ≡ lengths_on l w.events ++ lens w.pdcp.tx.waiting
-    → lengths_on l (if b then v else w).events ++ lens (if b then v else w).pdcp.tx.waiting
-    ≡ lengths_on l w.events ++ lens w.pdcp.tx.waiting
-by_hunger true l w v q = q
-by_hunger false l w v q = refl
-
 feeds_told : (l : ℕ) (os : List Offer) (size : ℕ) (held : Option ℕ) (w : Work) → w.pdcp.lcid ≡ l
     → IsPlain Srb w.pdcp
     → lengths_on l (feeds os size held w).events ++ lens (feeds os size held w).pdcp.tx.waiting
     ≡ lengths_on l w.events ++ lens w.pdcp.tx.waiting
-feeds_told l [] size held w own h = refl
-feeds_told l (o ∷ os) size held w own h =
-    by_hunger (hungry w.tx size held) l w (feeds os size held (fed w))
-    (feeds_told l os size held (fed w) (stays_on l w.pdcp own) ((plain_passes Srb refl).taken w.pdcp h)
-    ∙ fed_told l w own h)
+feeds_told l os size held w own h =
+    feeds_lens (λ (v : Work). v.events) (λ (v : Work). v.pdcp) (λ (v : Work). hungry v.tx size held) fed
+    (λ v. refl) (λ v. refl) (λ (xs : List Offer) (v : Work). feeds xs size held v) (λ v. refl) (λ o xs v. refl)
+    Srb refl l os w own h
 
 poll_none : (l lcid : ℕ) (polled : Bool) → lengths_on l (poll_told lcid polled) ≡ []
 poll_none l lcid true = refl

@@ -16,7 +16,7 @@ use Rattle.law_deliver.proofs.AmFlow.Air.{calls_in as act_calls, acts, passes, y
 use Rattle.law_deliver.proofs.AmFlow.Runs.{does_all, AreDone, near_steps, far_steps, near_goes, far_goes, data_call}
 use Rattle.law_deliver.proofs.AmFlow.Runs.{status_call, calls_in as deed_calls, all_calls_in}
 use Rattle.law_deliver.proofs.AmFlow.Stations.{Matches, Acts}
-use Rattle.law_deliver.specs.AmDelivery.Lives.{IsAccepted as IsTaken}
+use Rattle.law_deliver.specs.Accepted.{IsAccepted as IsTaken}
 use Rattle.law_deliver.specs.AmChannel.Delivery.{steps_over, SetNone}
 use Rattle.law_deliver.specs.AmChannel.Lives.{AirStep, InLife, calls_by, calls_at, lives_on}
 use Rattle.law_deliver.proofs.AmChannel.Acting.{AreAccepted, in_life_all, as_steps, near_does, far_does}
@@ -45,7 +45,7 @@ abbrev AreAllowed : State → List BearerCall → Type 0
 AreAllowed b [] = Unit {0}
 AreAllowed b (c ∷ cs) = IsAccepted b c × AreAllowed (called b c) cs
 
-allowed_one : (b : State) (c : BearerCall) → IsTaken b c → IsUnset c → IsAccepted b c
+allowed_one : (b : State) (c : BearerCall) → IsTaken b.pdcp.tx c → IsUnset c → IsAccepted b c
 allowed_one b (Submit sdu) h u = h
 allowed_one b (Take share held) h u = tt
 allowed_one b (Arrive pdu) h u = tt

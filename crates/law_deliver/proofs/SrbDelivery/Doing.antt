@@ -41,7 +41,7 @@ use Rattle.law_deliver.proofs.AmFlow.Hearing.{is_reported}
 use Rattle.law_deliver.proofs.SrbDelivery.Passing.{StatusIs, says_told, hears_none, hears_status}
 use Rattle.law_deliver.proofs.SrbDelivery.Joined.{Way, with_told, flow_by, Joined, has_flow, stands_so, sound_so}
 use Rattle.law_deliver.proofs.SrbDelivery.Joined.{SendsOn}
-use Rattle.law_deliver.proofs.SrbDelivery.Joined.{out_goes, HearsOn, inn_goes, next_are, are_next}
+use Rattle.law_deliver.proofs.SrbDelivery.Joined.{out_goes, inn_goes, next_are, are_next}
 use Rattle.law_deliver.specs.SrbDelivery.Losses.{losses_by}
 use Rattle.promises.specs.Events.{losses}
 use Rattle.law_deliver.proofs.SrbDelivery.Losing.{calls_lose_none}
@@ -118,9 +118,6 @@ calls_send_on w sdus b Tick g may h =
 calls_send_on w sdus b (SetDiscard ttis) g may h = absurd may
 
 -- ---- a direction in which nothing goes up
-
-none_up_on : (w : Way) (ups later : List (List ℕ)) → HearsOn w ups later []
-none_up_on w ups later = record { news = []; rest = later; later_is = refl; brought_is = refl }
 
 none_goes : (w : Way) (from to d p : BearerEnd) (back got : List (List ℕ)) (j : Joined w from to back got)
     → Goes (flow_by w j.steps) d.bearer.tx p.bearer.rx d.copies p.reports d.busy [] [] []

@@ -6,16 +6,15 @@ use Rattle.bearer.specs.declared.flow.Flow.{Flow}
 use Rattle.bearer.specs.declared.flow.Flow.TheVariants.{Um}
 use Rattle.bearer.specs.Submitting.{refusal as flow_refusal}
 use Rattle.bearer.specs.Unacknowledged.State.{State}
-use Rattle.law_bearer.specs.AnyBearer.Calls.{Call as BearerCall, Submit as Submits, Take as Takes, Arrive as Arrives}
-use Rattle.law_bearer.specs.AnyBearer.Calls.{Expire as Expires, Tick as Ticks, SetDiscard as SetsDiscard}
+use Rattle.law_bearer.specs.AnyBearer.Calls.{Call as BearerCall}
 use Rattle.bearer_types.specs.Sides.{heard_by, sent_by}
 use Rattle.l2_types.specs.declared.side.Side.{Side}
 use Rattle.law_node.specs.Holding.{flow}
 use Rattle.law_deliver.specs.AmFlow.Air.{Station, Act, does, IsDone}
 use Rattle.law_deliver.proofs.AmFlow.Acts.{act_by}
-use Rattle.law_deliver.proofs.AmFlow.Accepting.{IsQuiet, AreAcceptable, act_acceptable}
+use Rattle.law_deliver.proofs.AmFlow.Accepting.{IsQuiet, AreAcceptable, act_acceptable, quiet_accepted}
 use Rattle.law_deliver.proofs.AmFlow.Air.{calls_in as act_calls}
-use Rattle.law_deliver.specs.UmDelivery.Lives.{IsAccepted, AreAccepted}
+use Rattle.law_deliver.specs.UmDelivery.Lives.{AreAccepted}
 use Rattle.law_deliver.specs.UmFlow.Handing.{all_called}
 use Rattle.law_deliver.specs.UmFlow.Pair.{BearerEnd, called}
 use Rattle.law_deliver.specs.UmChannel.Pairs.{deeds_in}
@@ -39,17 +38,9 @@ pub accepted_then : (b : State) (xs ys : List BearerCall) → AreAccepted b xs �
 accepted_then b [] ys h k = k
 accepted_then b (x ∷ xs) ys h k = (h.0, accepted_then (called b x) xs ys h.1 k)
 
-quiet_one : (b : State) (c : BearerCall) → IsQuiet c → IsAccepted b c
-quiet_one b (Submits sdu) q = absurd q
-quiet_one b (Takes share held) q = tt
-quiet_one b (Arrives pdu) q = tt
-quiet_one b (Expires clock) q = tt
-quiet_one b Ticks q = tt
-quiet_one b (SetsDiscard ttis) q = tt
-
 quiet_all : (cs : List BearerCall) (b : State) → AllByRecursion IsQuiet cs → AreAccepted b cs
 quiet_all [] b q = tt
-quiet_all (c ∷ cs) b q = (quiet_one b c q.0, quiet_all cs (called b c) q.1)
+quiet_all (c ∷ cs) b q = (quiet_accepted b.pdcp.tx c q.0, quiet_all cs (called b c) q.1)
 
 accepts : (b : State) (cs : List BearerCall) → AreAcceptable (Um b) cs → AreAccepted b cs
 unfolding flow_refusal

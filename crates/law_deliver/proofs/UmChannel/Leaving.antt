@@ -20,7 +20,6 @@ use Rattle.bearer.specs.Unacknowledged.Taking.{why_idle, taking, after_taking}
 use Rattle.bearer_pdcp.specs.Discarding.{tick_told}
 use Rattle.bearer_pdcp.specs.Ends.{Ends}
 use Rattle.bearer_pdcp.specs.Lives.{restarted as restarted_pdcp}
-use Rattle.bearer_pdcp.specs.Taking.{taking_told, after_taking as after_pdcp}
 use Rattle.bearer_types.specs.declared.event.Event.{Event}
 use Rattle.eps_sec.specs.declared.Keys.{Keys}
 use Rattle.l2_num.specs.Timers.{ends as ends_now}
@@ -47,8 +46,8 @@ use Rattle.rlc_pdu.specs.declared.Taken.TheVariants.{Piece, Idle, Small, Shut, H
 use Rattle.rlc_um.specs.Sender.{is_hungry, taken as rlc_taken}
 use Rattle.law_deliver.specs.UmFlow.Pair.{called}
 use Rattle.law_deliver.proofs.AmChannel.Ends.{lengths_in, all_lengths, length_off}
-use Rattle.law_deliver.proofs.AmChannel.Leaving.{stays_on}
-use Rattle.law_deliver.proofs.AmChannel.Lengths.{lens, one_taken, tick_lens, hears_none, same_lens}
+use Rattle.law_deliver.proofs.AmChannel.Feeding.{feeds_lens}
+use Rattle.law_deliver.proofs.AmChannel.Lengths.{lens, tick_lens, hears_none, same_lens}
 use Rattle.law_deliver.proofs.AmFlow.Events.{none_arriving, none_expiring, none_ending}
 use Rattle.law_deliver.proofs.UmChannel.Bearers.{between_called, between_next, restarts}
 use Rattle.law_deliver.proofs.UmFlow.Sending.{is_called}
@@ -56,30 +55,14 @@ use Rattle.law_deliver.proofs.UmFlow.Sending.{is_called}
 -- ---- RLC takes PDUs
 
 module _ (kind : PdcpKind) (off : is_am kind ≡ false) where
-  fed_told : (l : ℕ) (f : Feeding) → f.pdcp.lcid ≡ l → IsPlain kind f.pdcp
-      → lengths_on l (fed f).events ++ lens (fed f).pdcp.tx.waiting ≡ lengths_on l f.events ++ lens f.pdcp.tx.waiting
-  fed_told l f own h =
-      let left = lens (after_pdcp f.pdcp).tx.waiting in
-      ap (λ (ns : List ℕ). ns ++ left) (flat_map-append (length_in l) f.events (taking_told f.pdcp))
-      ∙ (append_assoc (lengths_on l f.events) (lengths_on l (taking_told f.pdcp)) left
-      ∙ ap (λ (ns : List ℕ). lengths_on l f.events ++ ns) (one_taken kind off l f.pdcp own h.sender))
-
-  by_hunger : (b : Bool) (l : ℕ) (f g : Feeding)
-      → lengths_on l g.events ++ lens g.pdcp.tx.waiting ≡ lengths_on l f.events ++ lens f.pdcp.tx.waiting
-      → lengths_on l (if b then g else f).events ++ lens (if b then g else f).pdcp.tx.waiting
-      ≡ lengths_on l f.events ++ lens f.pdcp.tx.waiting
-  by_hunger true l f g q = q
-  by_hunger false l f g q = refl
-
   feeds_told : (l : ℕ) (os : List Offer) (size : ℕ) (held : Option ℕ) (f : Feeding) → f.pdcp.lcid ≡ l
       → IsPlain kind f.pdcp
       → lengths_on l (feeds os size held f).events ++ lens (feeds os size held f).pdcp.tx.waiting
       ≡ lengths_on l f.events ++ lens f.pdcp.tx.waiting
-  feeds_told l [] size held f own h = refl
-  feeds_told l (o ∷ os) size held f own h =
-      by_hunger (is_hungry f.tx size held) l f (feeds os size held (fed f))
-      (feeds_told l os size held (fed f) (stays_on l f.pdcp own) ((plain_passes kind off).taken f.pdcp h)
-      ∙ fed_told l f own h)
+  feeds_told l os size held f own h =
+      feeds_lens (λ (v : Feeding). v.events) (λ (v : Feeding). v.pdcp) (λ (v : Feeding). is_hungry v.tx size held) fed
+      (λ v. refl) (λ v. refl) (λ (xs : List Offer) (v : Feeding). feeds xs size held v) (λ v. refl) (λ o xs v. refl)
+      kind off l os f own h
 
   idle_none : (l lcid : ℕ) (more : Bool) (why : Why) → lengths_on l (idle_told lcid more why) ≡ []
   idle_none l lcid true why = refl

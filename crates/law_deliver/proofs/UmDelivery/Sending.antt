@@ -49,7 +49,8 @@ use Rattle.law_pdcp.specs.UmPair.Flow.{Flow, Event, Sends as Calling, SetDiscard
 use Rattle.law_pdcp.specs.OneEnd.Given.{nexts_of, pdus_given}
 use Rattle.law_pdcp.specs.UmPair.Flow.{happens}
 use Rattle.law_pdcp.specs.UmPair.Flow.{CanCall, AreGiven, AreShort, steps_in, steps}
-use Rattle.law_deliver.specs.UmDelivery.Lives.{IsAccepted, AreAccepted, news_by, submits_by}
+use Rattle.law_deliver.specs.Accepted.{IsAccepted}
+use Rattle.law_deliver.specs.UmDelivery.Lives.{AreAccepted, news_by, submits_by}
 
 -- ---- events one behind the other
 
@@ -315,7 +316,7 @@ sends_none : (f : Flow) (t : Sending) → f.sender ≡ t → Sends f t [] [] []
 sends_none f t q = as_is f f.sender t [] [] [] [] [] [] (none f) q refl refl refl
 
 sends_call : (b : State) (c : Call) (f : Flow) → is_am b.pdcp.kind ≡ false → b.pdcp.rx.ready ≡ []
-    → f.sender ≡ b.pdcp.tx → IsAccepted b c
+    → f.sender ≡ b.pdcp.tx → IsAccepted b.pdcp.tx c
     → Sends f (called b c).pdcp.tx (news (Um b) c) (given_in b c) (submits c)
 unfolding submitted flow_arrived flow_expired flow_ticked with_discard after_arrival after_expiry after_ticking
 sends_call b (Submit sdu) f um idle q ok =

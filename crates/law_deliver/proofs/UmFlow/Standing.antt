@@ -354,6 +354,32 @@ reads_so bits reorder steps calls f w pdu u p q sent =
 highest : (top n low made : ℕ) → top ≤ low + made → n < made → max top (low + n + 1) ≤ low + made
 highest top n low made a b = grind (arith, nat_tests)
 
+-- one call of the receiver
+hears_one : (bits reorder : ℕ) (steps : List Step) (calls : List Call) (tx : Sender) (rx left : Receiver)
+    (cs : List Copy) (given heard gone : List (List ℕ)) (c : Call)
+    → (h : Stands bits reorder steps calls tx rx cs given heard)
+    → AreSent h.f.made (width_of bits) (c ∷ []) (run_um_receiver calls (fresh (width_of bits) reorder))
+    → (happens h.w c).state ≡ left → (happens h.w c).gone ≡ gone → left.window.width ≡ width_of bits
+    → (happens h.w c).top ≤ 2 * width_of bits + length h.f.made
+    → Stands bits reorder steps (calls ++ c ∷ []) tx left cs given gone
+hears_one bits reorder steps calls tx rx left cs given heard gone c h sent left_is gone_is wide top = record {
+  f = h.f;
+  w = happens h.w c;
+  f_is = h.f_is;
+  w_is = run_more calls (c ∷ []) (fresh (width_of bits) reorder) ∙ ap (λ (x : World). happens x c) h.w_is;
+  sent' = sent_more h.f.made (width_of bits) calls (c ∷ []) (fresh (width_of bits) reorder) h.sent' sent;
+  sender_is = h.sender_is;
+  given_is = h.given_is;
+  receiver_is = left_is;
+  heard_is = gone_is;
+  bits_are = h.bits_are;
+  some = h.some;
+  next_is = h.next_is;
+  width_is = wide;
+  top_is = top;
+  copies_are = h.copies_are;
+}
+
 -- one that is under way arrives
 pub arrives_one : (bits reorder : ℕ) (steps : List Step) (calls : List Call) (tx : Sender) (rx : Receiver)
     (cs : List Copy) (given heard : List (List ℕ)) (c : Copy) → IsUmBits bits
@@ -375,95 +401,38 @@ arrives_one bits reorder steps calls tx rx cs given heard c u h k short =
     } in
     let read : read_number k.pdu h.w ≡ 2 * width + c.number =
     reads_so bits reorder steps calls h.f h.w k.pdu u h.f_is h.w_is h.sent' s in
-    record {
-      f = h.f;
-      w = happens h.w (Arrive k.pdu);
-      f_is = h.f_is;
-      w_is = run_more calls (Arrive k.pdu ∷ []) (fresh width reorder)
-          ∙ ap (λ (x : World). happens x (Arrive k.pdu)) h.w_is;
-      sent' = sent_more h.f.made width calls (Arrive k.pdu ∷ []) (fresh width reorder) h.sent'
-          (subst (λ (x : World). IsSent h.f.made width x k.pdu) (sym h.w_is) s, tt);
-      sender_is = h.sender_is;
-      given_is = h.given_is;
-      receiver_is = ap (arrival k.pdu) h.receiver_is;
-      heard_is = h.heard_is;
-      bits_are = h.bits_are;
-      some = h.some;
-      next_is = h.next_is;
-      width_is = width_arrival k.pdu rx ∙ wide;
-      top_is = subst (λ (n : ℕ). max h.w.top (n + 1) ≤ 2 * width + length h.f.made) (sym read)
-          (highest h.w.top c.number (2 * width) (length h.f.made) top (is_below h.f.made c.number k.pdu k.is));
-      copies_are = h.copies_are;
-    }
+    hears_one bits reorder steps calls tx rx (arrival k.pdu rx) cs given heard heard (Arrive k.pdu) h
+    (subst (λ (x : World). IsSent h.f.made width x k.pdu) (sym h.w_is) s, tt)
+    (ap (arrival k.pdu) h.receiver_is) h.heard_is (width_arrival k.pdu rx ∙ wide)
+    (subst (λ (n : ℕ). max h.w.top (n + 1) ≤ 2 * width + length h.f.made) (sym read)
+    (highest h.w.top c.number (2 * width) (length h.f.made) top (is_below h.f.made c.number k.pdu k.is)))
 
 -- the reordering timer expires, or counts
 pub expires_one : (bits reorder : ℕ) (steps : List Step) (calls : List Call) (tx : Sender) (rx : Receiver)
     (cs : List Copy) (given heard : List (List ℕ)) → Stands bits reorder steps calls tx rx cs given heard
     → Stands bits reorder steps (calls ++ Expire ∷ []) tx (expired rx) cs given heard
-expires_one bits reorder steps calls tx rx cs given heard h = record {
-  f = h.f;
-  w = happens h.w Expire;
-  f_is = h.f_is;
-  w_is = run_more calls (Expire ∷ []) (fresh (width_of bits) reorder) ∙ ap (λ (x : World). happens x Expire) h.w_is;
-  sent' = sent_more h.f.made (width_of bits) calls (Expire ∷ []) (fresh (width_of bits) reorder) h.sent' tt;
-  sender_is = h.sender_is;
-  given_is = h.given_is;
-  receiver_is = ap expired h.receiver_is;
-  heard_is = h.heard_is;
-  bits_are = h.bits_are;
-  some = h.some;
-  next_is = h.next_is;
-  width_is = width_expired rx ∙ h.width_is;
-  top_is = h.top_is;
-  copies_are = h.copies_are;
-}
+expires_one bits reorder steps calls tx rx cs given heard h =
+    hears_one bits reorder steps calls tx rx (expired rx) cs given heard heard Expire h tt (ap expired h.receiver_is)
+    h.heard_is (width_expired rx ∙ h.width_is) h.top_is
 
 pub counts_one : (bits reorder : ℕ) (steps : List Step) (calls : List Call) (tx : Sender) (rx : Receiver)
     (cs : List Copy) (given heard : List (List ℕ)) → Stands bits reorder steps calls tx rx cs given heard
     → Stands bits reorder steps (calls ++ Tick ∷ []) tx (counted rx) cs given heard
-counts_one bits reorder steps calls tx rx cs given heard h = record {
-  f = h.f;
-  w = happens h.w Tick;
-  f_is = h.f_is;
-  w_is = run_more calls (Tick ∷ []) (fresh (width_of bits) reorder) ∙ ap (λ (x : World). happens x Tick) h.w_is;
-  sent' = sent_more h.f.made (width_of bits) calls (Tick ∷ []) (fresh (width_of bits) reorder) h.sent' tt;
-  sender_is = h.sender_is;
-  given_is = h.given_is;
-  receiver_is = ap counted h.receiver_is;
-  heard_is = h.heard_is;
-  bits_are = h.bits_are;
-  some = h.some;
-  next_is = h.next_is;
-  width_is = h.width_is;
-  top_is = h.top_is;
-  copies_are = h.copies_are;
-}
+counts_one bits reorder steps calls tx rx cs given heard h =
+    hears_one bits reorder steps calls tx rx (counted rx) cs given heard heard Tick h tt (ap counted h.receiver_is)
+    h.heard_is h.width_is h.top_is
 
 -- the first that is ready goes up
 hands_one : (bits reorder : ℕ) (steps : List Step) (calls : List Call) (tx : Sender) (rx : Receiver) (cs : List Copy)
     (given heard : List (List ℕ)) (x : List ℕ) (more : List (List ℕ)) → rx.joined.ready ≡ x ∷ more
     → Stands bits reorder steps calls tx rx cs given heard
     → Stands bits reorder steps (calls ++ Up ∷ []) tx (handed rx) cs given (heard ++ x ∷ [])
-hands_one bits reorder steps calls tx rx cs given heard x more q h = record {
-  f = h.f;
-  w = happens h.w Up;
-  f_is = h.f_is;
-  w_is = run_more calls (Up ∷ []) (fresh (width_of bits) reorder) ∙ ap (λ (v : World). happens v Up) h.w_is;
-  sent' = sent_more h.f.made (width_of bits) calls (Up ∷ []) (fresh (width_of bits) reorder) h.sent' tt;
-  sender_is = h.sender_is;
-  given_is = h.given_is;
-  receiver_is = ap handed h.receiver_is;
-  heard_is =
-      ap (λ (l : List (List ℕ)). l ++ take 1 h.w.state.joined.ready) h.heard_is
-      ∙ ap (λ (r : Receiver). heard ++ take 1 r.joined.ready) h.receiver_is
-      ∙ ap (λ (l : List (List ℕ)). heard ++ take 1 l) q;
-  bits_are = h.bits_are;
-  some = h.some;
-  next_is = h.next_is;
-  width_is = h.width_is;
-  top_is = h.top_is;
-  copies_are = h.copies_are;
-}
+hands_one bits reorder steps calls tx rx cs given heard x more q h =
+    hears_one bits reorder steps calls tx rx (handed rx) cs given heard (heard ++ x ∷ []) Up h tt
+    (ap handed h.receiver_is)
+    (ap (λ (l : List (List ℕ)). l ++ take 1 h.w.state.joined.ready) h.heard_is
+    ∙ ap (λ (r : Receiver). heard ++ take 1 r.joined.ready) h.receiver_is
+    ∙ ap (λ (l : List (List ℕ)). heard ++ take 1 l) q) h.width_is h.top_is
 
 none_ready : (r : Receiver) → r.joined.ready ≡ [] → all_handed r ≡ r
 none_ready r q = ap (λ (l : List (List ℕ)). record r { joined = record r.joined { ready = l } }) (sym q)

@@ -73,9 +73,6 @@ arrivals_out l b (p ∷ ps) = arrivals_out l (called_by b (Arrives p)) ps
 none_left : (p : ℕ) (f : Flow) → slice_index_or f.sending.under_way p None ≡ None → after (BlockArrived p) f ≡ f
 none_left p f e = rw e refl
 
-long_stays : (ws : List Happening) (f : Flow) → ws ≡ [] → all_after ws f ≡ f
-long_stays ws f e = ap (λ (l : List Happening). all_after l f) e
-
 only_none : (here : Bool) (share : ℕ) (held : Option ℕ) → AllByRecursion IsNoArrival (only here (Takes share held))
 only_none true share held = (tt, tt)
 only_none false share held = tt

@@ -1,17 +1,17 @@
 -- Both ends of a bearer of acknowledged data through lives: in a life their steps, then both begin
 -- the next one under the same keys (TS 36.322
 -- 5.4, TS 36.323 5.2).
-use Rattle.std.specs.Prelude.{◌≡◌, ℕ, List, [], ◌∷◌, ◌++◌, Option, Some, None, slice_get}
+use Rattle.std.specs.Prelude.{ℕ, List, [], ◌∷◌, ◌++◌, Option, Some, None, slice_get}
 use Rattle.eps_sec.specs.declared.Keys.{Keys}
-use Rattle.pdcp_tx.specs.State.{refusal}
 use Rattle.bearer.specs.declared.flow.Flow.TheVariants.{Am}
 use Rattle.bearer.specs.Lives.{stopping}
 use Rattle.bearer.specs.Acknowledged.State.{State}
-use Rattle.law_bearer.specs.AnyBearer.Calls.{Call, Submit, Take, Arrive, Expire, Tick, SetDiscard}
+use Rattle.law_bearer.specs.AnyBearer.Calls.{Call, Arrive}
 use Rattle.law_bearer.specs.AnyBearer.Queue.{news}
 use Rattle.law_bearer.specs.AmBearer.Calls.{tells, ups_among}
 use Rattle.law_bearer.specs.AmBearer.Lives.{restarts}
 use Rattle.law_rlc.specs.AmPair.Flow.{Copy}
+use Rattle.law_deliver.specs.Accepted.{IsAccepted}
 use Rattle.law_deliver.specs.AmFlow.Pair.{SentStatus, BearerEnd, Pair, Deed, Calls, DataComes}
 use Rattle.law_deliver.specs.AmFlow.Pair.{StatusComes, DataGoes, StatusGoes, Step, Near, Far}
 use Rattle.law_deliver.specs.AmFlow.Pair.{Passes, happens, am_pair_outset, IsGiven}
@@ -32,16 +32,8 @@ lives (x ∷ xs) p = lives xs (lives_on p x)
 -- ---- what is asked of them: besides what is asked of the steps of a life, that PDCP doesn't
 -- refuse what is submitted
 
-abbrev pub IsAccepted : State → Call → Type 0
-IsAccepted b (Submit sdu) = refusal b.pdcp.tx sdu ≡ None
-IsAccepted b (Take share held) = Unit {0}
-IsAccepted b (Arrive pdu) = Unit {0}
-IsAccepted b (Expire clock) = Unit {0}
-IsAccepted b Tick = Unit {0}
-IsAccepted b (SetDiscard ttis) = Unit {0}
-
 abbrev pub MayBeDone : State → Deed → Type 0
-MayBeDone b (Calls c) = IsAccepted b c
+MayBeDone b (Calls c) = IsAccepted b.pdcp.tx c
 MayBeDone b (DataComes k) = Unit {0}
 MayBeDone b (StatusComes k) = Unit {0}
 MayBeDone b (DataGoes k) = Unit {0}

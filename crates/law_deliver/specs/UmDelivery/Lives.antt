@@ -1,16 +1,16 @@
 -- Both ends of a bearer of unacknowledged data through lives: in a life their steps, then both
 -- begin the next one under the same keys (TS 36.322
 -- 5.4, TS 36.323 5.2).
-use Rattle.std.specs.Prelude.{◌≡◌, ℕ, List, [], ◌∷◌, ◌++◌, None}
+use Rattle.std.specs.Prelude.{ℕ, List, [], ◌∷◌, ◌++◌}
 use Rattle.eps_sec.specs.declared.Keys.{Keys}
-use Rattle.pdcp_tx.specs.State.{refusal}
 use Rattle.bearer.specs.declared.flow.Flow.TheVariants.{Um}
 use Rattle.bearer.specs.Lives.{stopping}
 use Rattle.bearer.specs.Unacknowledged.State.{State}
 use Rattle.bearer.specs.Unacknowledged.Lives.{stopped, restarted}
-use Rattle.law_bearer.specs.AnyBearer.Calls.{Call, Submit, Take, Arrive, Expire, Tick, SetDiscard}
+use Rattle.law_bearer.specs.AnyBearer.Calls.{Call}
 use Rattle.law_bearer.specs.AnyBearer.Queue.{news, submits}
 use Rattle.law_bearer.specs.AmBearer.Calls.{ups_among}
+use Rattle.law_deliver.specs.Accepted.{IsAccepted}
 use Rattle.law_deliver.specs.UmFlow.Pair.{Pair, Step, called, goes, um_pair_outset, AreGiven}
 use Rattle.law_deliver.specs.UmFlow.Pair.{AreShortThere}
 use Rattle.law_deliver.specs.UmFlow.Pair.{AreShortBack}
@@ -36,17 +36,9 @@ next_far near far l = restarted (stopped (goes l.steps (um_pair_outset near far)
 -- ---- what is asked of them: besides what is asked of the steps of a life, that PDCP doesn't
 -- refuse what is submitted
 
-abbrev pub IsAccepted : State → Call → Type 0
-IsAccepted b (Submit sdu) = refusal b.pdcp.tx sdu ≡ None
-IsAccepted b (Take share held) = Unit {0}
-IsAccepted b (Arrive pdu) = Unit {0}
-IsAccepted b (Expire clock) = Unit {0}
-IsAccepted b Tick = Unit {0}
-IsAccepted b (SetDiscard ttis) = Unit {0}
-
 abbrev pub AreAccepted : State → List Call → Type 0
 AreAccepted b [] = Unit {0}
-AreAccepted b (c ∷ cs) = IsAccepted b c × AreAccepted (called b c) cs
+AreAccepted b (c ∷ cs) = IsAccepted b.pdcp.tx c × AreAccepted (called b c) cs
 
 pub record IsLiving (near far : State) (steps : List Step) : Type 0 where
   pub given : AreGiven (um_pair_outset near far) steps

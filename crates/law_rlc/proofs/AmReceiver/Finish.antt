@@ -34,9 +34,6 @@ salvaged_behind gone j (h ∷ hs) given =
 
 -- ---- a number's places as they are held
 
-held_list : List Place → List (Option Cell)
-held_list ps = map held ps
-
 -- a field's places, those of which nothing has arrived included
 pub padded : (cells : List (Option Cell)) (field : List Cell) (come : ℕ → Bool) (i : ℕ) → Fits cells field
     → length cells ≤ length field → ((j : ℕ) → come (i + j) ≡ there cells j)

@@ -220,12 +220,12 @@ found-some at found (x ∷ xs) e = found-some (at + 1) (if x.acked then found el
     step true = e
     step false = refl
 
-open-some : (slots : List Sent) → 0 < length slots → (slot_at slots 0).acked ≡ false
+pub open-some : (slots : List Sent) → 0 < length slots → (slot_at slots 0).acked ≡ false
     → is_some (last_open 0 None slots) ≡ true
 open-some [] h e = absurd (omega arith)
 open-some (x ∷ xs) h e = found-some 1 (if x.acked then None else Some 0) xs (rw e refl)
 
-recalled-waits : (most : ℕ) (h : Sent) → 0 < length h.field → is_waiting (recalled most h) ≡ true
+pub recalled-waits : (most : ℕ) (h : Sent) → 0 < length h.field → is_waiting (recalled most h) ≡ true
 recalled-waits most h some = let e : nat_lt 0 (length h.field) ≡ true = grind (arith, nat_tests) in rw e refl
 
 expired-watched : (o : Option ℕ) (s : State) (more : Bool) → recalled_place s more ≡ o → IsFull s

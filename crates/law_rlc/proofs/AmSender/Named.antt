@@ -299,9 +299,6 @@ named-some p ps h a = more-some ps (with_name h p) ((one-named h p a).acked ∙ 
 
 -- RETX_COUNT by the namings that counted
 
-none-count : (most : ℕ) → count_of 0 most ≡ None
-none-count most = refl
-
 some-count : (k most : ℕ) → count_of (suc k) most ≡ Some (min k most)
 some-count k most = let e : (suc k == 0) ≡ false = grind (arith, nat_tests) in
     rw e (ap (λ (x : ℕ). Some x) (omega arith))

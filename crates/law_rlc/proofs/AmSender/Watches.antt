@@ -300,7 +300,7 @@ any-field w below most ns k = by (slot_at w.slots k).acked refl
     by true e = step (some_parts (parts_at w.base k ns)) e
     by false e = final-field w below most ns k e
 
-status-full : (b : Bool) (s : State) (status : StatusPdu) → IsFull s
+pub status-full : (b : Bool) (s : State) (status : StatusPdu) → IsFull s
     → IsFull (if b then s else applied s (offset_of s.window.base status.ack) status.nacks)
 status-full true s status h = h
 status-full false s status h = record {
@@ -377,14 +377,14 @@ ended-full (Some sn) b s h = record { slots = h.slots; queue = h.queue }
 ended-full None true s h = record { slots = h.slots; queue = h.queue }
 ended-full None false s h = h
 
-expiry-full : (b : Bool) (s : State) (more : Bool) → IsFull s
+pub expiry-full : (b : Bool) (s : State) (more : Bool) → IsFull s
     → IsFull (if b then ended (expiry_limit s more) false (expired s more) else s)
 expiry-full false s more h = h
 expiry-full true s more h =
     ended-full (expiry_limit s more) false (expired s more)
     (recalled-full (recalled_place s more) (with_owed s) (record { slots = h.slots; queue = h.queue }))
 
-settled-full : (b : Bool) (s : State) → IsFull s → IsFull (settled_by b s)
+pub settled-full : (b : Bool) (s : State) → IsFull s → IsFull (settled_by b s)
 settled-full true s h = record { slots = h.slots; queue = h.queue }
 settled-full false s h = h
 
