@@ -1,2 +1,3 @@
 pub mod AnyCalls
 pub mod TwoEnds
+pub mod DrainTtis

@@ -96,7 +96,6 @@ pub fn runs_are_counted()
 /// come back are part of those that the loop kept as the call began and of those that have gone up
 /// since; those that it keeps in the end come behind, and of each of the others a record tells that
 /// it finds no place. This holds of a link at rest, as it is at first and after each call.
-#[tactic(auto, using(crate::proofs::AnyCalls::Settling::first_rests, crate::proofs::AnyCalls::Settling::calls_loop_back, crate::proofs::AnyCalls::Settling::submissions_loop_back, crate::proofs::AnyCalls::Settling::ttis_loop_back, crate::proofs::AnyCalls::Settling::drains_loop_back))]
 pub fn loops_return_in_order()
     ensures first { FirstIsAtRest }
     ensures calls { CallsLoopBack }

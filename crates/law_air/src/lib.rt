@@ -4,4 +4,5 @@
 #![tactic(auto)]
 
 pub mod any_calls;
+pub mod drain_ttis;
 pub mod two_ends;

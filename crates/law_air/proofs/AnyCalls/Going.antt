@@ -35,7 +35,7 @@ use Rattle.test_loop.specs.declared.Kept.TheVariants.{Now, Later, Full}
 use Rattle.test_loop.specs.Items.{Item, item}
 use Rattle.test_loop.specs.Loops.{is_on, is_keeping, taken_answer, after_taken, after_tick}
 use Rattle.law_air.specs.AnyCalls.Deeds.{Entity, entity, Entities, entities}
-use Rattle.law_air.specs.AnyCalls.Ends.{ByCalls, begins_life, LivesOn, GoesThrough, GoesOn}
+use Rattle.law_air.specs.AnyCalls.Ends.{begins_life, LivesOn, GoesThrough, GoesOn}
 use Rattle.promises.specs.Records.{event_of, events_of, is_of_building}
 
 -- ---- what records tell of an end
@@ -144,12 +144,6 @@ lives_then xs ys side f g a b c p q =
       lives_are = filter-append begins_life cs ds ∙ ap (λ (x : List EndCall). x ++ filter begins_life ds) p.lives_are
           ∙ ap (λ (x : List EndCall). xs ++ x) q.lives_are;
     }
-
-pub by_then : (side : Side) (f g : List Record) (a b c : End) → ByCalls side f a b → ByCalls side g b c
-    → ByCalls side (f ++ g) a c
-by_then side f g a b c p q =
-    (lives_then (filter begins_life p.calls) (filter begins_life q.calls) side f g a b c
-    (record { by = p; lives_are = refl }) (record { by = q; lives_are = refl })).by
 
 -- and no other life begins
 keeps_then : (lives : List EndCall) (side : Side) (f g : List Record) (a b c : End) → LivesOn lives side f a b

@@ -171,7 +171,7 @@ there_by false side l e c is h g there =
     (subst (λ (x : End). has l x.bearers ≡ true) h.end_is there) (is, tt) in
     ap (λ (x : End). has l (after_call x c).bearers) h.end_is ∙ on.there
 
-stays_there : (side : Side) (l : ℕ) (cs : List EndCall) (e : End) → HasCome side e → AreGivenTo cs
+pub stays_there : (side : Side) (l : ℕ) (cs : List EndCall) (e : End) → HasCome side e → AreGivenTo cs
     → has l e.bearers ≡ true → has l (run_end cs e).bearers ≡ true
 stays_there side l [] e h g there = there
 stays_there side l (c ∷ cs) e h g there =

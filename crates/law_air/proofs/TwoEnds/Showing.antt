@@ -117,9 +117,6 @@ one_hidden Nb l c e = refl
 one_hidden Ue l c (events.Expired lcid Reorder) = refl
 one_hidden Ue l c e = refl
 
-event_stays : (side : Side) (e : Event) (c : Cursor) → passed (records.Of side e) c ≡ c
-event_stays side e c = refl
-
 pub events_behind : (side : Side) (es : List Event) (c : Cursor) → place_behind c (map (records.Of side) es) ≡ c
 events_behind side [] c = refl
 events_behind side (e ∷ es) c = events_behind side es c
