@@ -1,5 +1,5 @@
 -- What an acknowledged sender owes, over each call.
-use Rattle.std.proofs.Common.{◌≡◌, ◌<◌, ◌≤◌, ℕ, ◌+◌, ◌-◌, ◌*◌, Bool, true, false}
+use Rattle.std.proofs.Common.{◌≡◌, ◌<◌, ◌≤◌, ℕ, ◌+◌, ◌*◌, Bool, true, false}
 use Rattle.std.proofs.Common.{if◌then◌else◌, List, [], ◌∷◌, ◌++◌, length, Option, Some, None}
 use Rattle.std.proofs.Common.{refl}
 use Rattle.std.proofs.Common.{ap, sym, subst, ◌∙◌, arith}
@@ -54,10 +54,10 @@ silent-none turns.Small h = refl
 silent-none turns.Shut h = refl
 silent-none turns.Held h = refl
 
-failed-due : (s : State) (m : Marks) → s.failed ≡ true → dues s m ≡ 0
+pub failed-due : (s : State) (m : Marks) → s.failed ≡ true → dues s m ≡ 0
 failed-due s m e = rw e refl
 
-going-due : (s : State) (m : Marks) → s.failed ≡ false
+pub going-due : (s : State) (m : Marks) → s.failed ≡ false
     → dues s m ≡ (s.config.max_retx + 1) * total s.queue.sdus + window_dues s.config.max_retx s.window m
 going-due s m e = rw e refl
 
@@ -129,7 +129,7 @@ turn-due turns.Small s size more m go h again' whole' part new = omega arith
 turn-due turns.Shut s size more m go h again' whole' part new = omega arith
 turn-due turns.Held s size more m go h again' whole' part new = omega arith
 
-ended-due : (l : Option ℕ) (b : Bool) (s : State) (m : Marks) → (ended l b s).failed ≡ false
+pub ended-due : (l : Option ℕ) (b : Bool) (s : State) (m : Marks) → (ended l b s).failed ≡ false
     → (dues (ended l b s) m ≡ dues s m) × (s.failed ≡ false)
 ended-due (Some n) b s m e = let no' : true ≡ false = e in cc
 ended-due None true s m e = (refl, e)

@@ -10,8 +10,6 @@ use Rattle.rlc_pdu.specs.declared.pdu.Part.{Part}
 use Rattle.rlc_am_tx_window.specs.Sent.{Sent, with_name, considered, considered_by}
 use Rattle.rlc_am_tx_window.specs.Window.{TxWindow, slot_at, offset_of, named_one, named_all, acked_from}
 use Rattle.rlc_am_tx_window.specs.Window.{considered_one, considered_all, is_named, leading_acked, advanced}
-use Rattle.rlc_am_tx.specs.declared.turn.Turn.TheVariants as turns
-use Rattle.rlc_am_tx.specs.Machine.{waits}
 use Rattle.law_rlc.specs.AmSender.Namings.{Marks, names, any_below, with_naming}
 use Rattle.law_rlc.specs.AmSender.Namings.{heard_waits, heard_namings, heard_marks}
 use Rattle.law_rlc.specs.AmSender.Limit.{AreFew}
@@ -100,7 +98,7 @@ considered-field base most slots (n ∷ ns) k h =
     (considered most (slot_at slots (offset_of base n.sn))) k h
     (one-field (slot_at slots (offset_of base n.sn)).named most (slot_at slots (offset_of base n.sn)))
 
-heard-field : (w : TxWindow) (below most : ℕ) (ns : List Nack) (k : ℕ) → k < length w.slots
+pub heard-field : (w : TxWindow) (below most : ℕ) (ns : List Nack) (k : ℕ) → k < length w.slots
     → (slot_at (heard_slots w below most ns) k).field ≡ (slot_at w.slots k).field
 heard-field w below most ns k lt =
     let a = named-length w.base w.slots ns in
@@ -111,7 +109,7 @@ heard-field w below most ns k lt =
     ∙ named-field w.base w.slots ns k lt
 
 -- it is acknowledged if it was, or if it lies below ACK_SN and isn't named
-heard-acked : (w : TxWindow) (below most : ℕ) (ns : List Nack) (k : ℕ) → k < length w.slots
+pub heard-acked : (w : TxWindow) (below most : ℕ) (ns : List Nack) (k : ℕ) → k < length w.slots
     → (slot_at w.slots k).named ≡ None
     → (slot_at (heard_slots w below most ns) k).acked
     ≡ ((slot_at w.slots k).acked
@@ -132,7 +130,7 @@ heard-acked w below most ns k lt plain =
 
 -- ---- what a STATUS leaves due of it
 
-waits-are : (w : TxWindow) (below : ℕ) (ns : List Nack) (m : Marks) (k i : ℕ) → k < length w.slots
+pub waits-are : (w : TxWindow) (below : ℕ) (ns : List Nack) (m : Marks) (k i : ℕ) → k < length w.slots
     → heard_waits w below ns m.waits (w.base + k) i
     ≡ (if not (slot_at w.slots k).acked then (
     if is_named w.base k ns then m.waits (w.base + k) i
@@ -141,7 +139,7 @@ waits-are : (w : TxWindow) (below : ℕ) (ns : List Nack) (m : Marks) (k i : ℕ
     else m.waits (w.base + k) i)
 waits-are w below ns m k i lt = rw (open-is w k lt, back w.base k) refl
 
-namings-are : (w : TxWindow) (ns : List Nack) (m : Marks) (k : ℕ) → k < length w.slots
+pub namings-are : (w : TxWindow) (ns : List Nack) (m : Marks) (k : ℕ) → k < length w.slots
     → heard_namings w ns m (w.base + k)
     ≡ (if not (slot_at w.slots k).acked && is_named w.base k ns
     then with_naming (m.namings (w.base + k))
@@ -168,7 +166,7 @@ naming-of n new = by (n == 0) new
     by false true = inl refl
     by false false = inr (refl, refl)
 
-heard-due : (w : TxWindow) (below most : ℕ) (ns : List Nack) (m : Marks) (k : ℕ) → k < length w.slots
+pub heard-due : (w : TxWindow) (below most : ℕ) (ns : List Nack) (m : Marks) (k : ℕ) → k < length w.slots
     → (slot_at w.slots k).named ≡ None → heard_namings w ns m (w.base + k) ≤ most
     → pdu_dues most (slot_at (heard_slots w below most ns) k) (heard_waits w below ns m.waits (w.base + k))
     (heard_namings w ns m (w.base + k))

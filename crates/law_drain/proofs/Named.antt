@@ -12,8 +12,7 @@ use Rattle.rlc_am_tx_window.specs.Sent.{Sent}
 use Rattle.rlc_am_tx_window.specs.Sent.{recalled}
 use Rattle.rlc_am_tx_window.specs.Window.{nothing, slot_at}
 use Rattle.rlc_am_tx_window.specs.Window.{last_open}
-use Rattle.rlc_am_tx.specs.declared.turn.Turn.TheVariants as turns
-use Rattle.rlc_am_tx.specs.Machine.{State, waits}
+use Rattle.rlc_am_tx.specs.Machine.{State}
 use Rattle.rlc_am_tx.specs.Machine.{with_recalled, recalled_place}
 use Rattle.law_rlc.specs.AmSender.Namings.{Marks}
 use Rattle.law_rlc.specs.AmSender.Namings.{recalled_marks}

@@ -151,10 +151,26 @@ round-told s cs h none w e =
     let idle : (after_calls s cs).mark ≡ None = (quiet-mark s cs h none).0 ∙ e in
     rw idle (rw (idle, written-due s cs h none w) refl)
 
+round-calm : (s : State) (cs : List Call) → AllByRecursion IsOfTti cs → data_in cs ≡ 0
+    → pending (round s cs) ≤ pending s
+round-calm s cs h none = by s.mark s.due refl refl
+  where
+    by : (o : Option ℕ) (d : Bool) → s.mark ≡ o → s.due ≡ d → pending (round s cs) ≤ pending s
+    by (Some x) d e q = let two : pending s ≡ 2 = rw e refl in omega (arith, two, pending-most (round s cs))
+    by None true e q =
+        let one : pending s ≡ 1 = rw (e, q) refl in
+        let idle : (after_calls s cs).mark ≡ None = (quiet-mark s cs h none).0 ∙ e in
+        omega (arith, one, expired-stops (after_calls s cs) (inl idle))
+    by None false e q =
+        let idle : (after_calls s cs).mark ≡ None = (quiet-mark s cs h none).0 ∙ e in
+        let zero' : pending (round s cs) ≡ 0 = rw idle (rw (idle, quiet-due s cs h none q) refl) in
+        omega (arith, zero')
+
 pub rounds_settle : RoundsSettle
 rounds_settle s cs h few = record {
   rises = round-rises s cs h few;
   at_top = expired-top (after_calls s cs);
+  calm = round-calm s cs h;
   stops = λ none top'. expired-stops (after_calls s cs) (same-top s (after_calls s cs) (quiet-mark s cs h none) top');
   told = λ none w e. round-told s cs h none w e;
 }

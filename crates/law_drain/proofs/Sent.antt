@@ -9,8 +9,6 @@ use Rattle.std.proofs.lemmas.Bool.Decides.{nat_tests}
 use Rattle.std.proofs.Math.ListN.{length-set}
 use Rattle.rlc_am_tx_window.specs.Sent.{Sent}
 use Rattle.rlc_am_tx_window.specs.Window.{TxWindow, nothing, slot_at}
-use Rattle.rlc_am_tx.specs.declared.turn.Turn.TheVariants as turns
-use Rattle.rlc_am_tx.specs.Machine.{waits}
 use Rattle.law_rlc.specs.AmSender.Namings.{Marks}
 use Rattle.law_rlc.specs.AmSender.Namings.{resent}
 use Rattle.law_rlc.proofs.AmSender.Least.{at-old, at-new}

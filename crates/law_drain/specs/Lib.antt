@@ -2,3 +2,10 @@ pub mod Dues
 pub mod Pending
 pub mod Unsent
 pub mod Queues
+pub mod Grants
+pub mod Quiet
+pub mod Bearer
+pub mod Flow
+pub mod Offers
+pub mod Round
+pub mod Done

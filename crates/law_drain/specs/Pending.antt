@@ -64,6 +64,8 @@ pub record Settles (s : State) (cs : List Call) : Type 0 where
   -- data lets less than two things come to be pending
   pub rises : pending (round s cs) ≤ max (pending s) 1
   pub at_top : IsAtTop (round s cs)
+  -- without data no more comes to be pending
+  pub calm : data_in cs ≡ 0 → pending (round s cs) ≤ pending s
   -- where no data comes, the timer that the round before left running doesn't run on
   pub stops : data_in cs ≡ 0 → IsAtTop s → pending (round s cs) ≤ 1
   -- and a STATUS leaves nothing

@@ -2,6 +2,9 @@
 //! lost, named again or acknowledged. The functions do nothing: their contracts are the laws.
 #![tactic(auto)]
 
+pub mod am_bearer;
+pub mod flow;
+pub mod grant;
 pub mod pdcp;
 pub mod queue;
 pub mod receiver;

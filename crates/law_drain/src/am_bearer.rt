@@ -1,0 +1,42 @@
+//! What an acknowledged bearer may still send at one end, PDCP's sender over RLC's, and what a
+//! round of a drain costs the flow to the other end. The laws speak of the deeds that the calls of
+//! a bearer are.
+
+ghost use Rattle.law_drain.specs.Bearer.{BearerDuesFall, BearerQuietEnds};
+ghost use Rattle.law_drain.specs.Done.{IdleIsDrained, SentIsDrained};
+ghost use Rattle.law_drain.specs.Round.{FlowsCost};
+
+/// What a bearer may still send falls with each data PDU that it writes, by one or more, and rises
+/// with no call but the submission of an SDU: what PDCP gives to RLC, what PDUs come and which
+/// timers expire adds nothing.
+pub fn bearer_dues_fall()
+    ensures { BearerDuesFall }
+{}
+
+/// An acknowledged bearer turns quiet in a drain, RLC's sender waiting for an acknowledgement and
+/// PDCP's with nothing to give, only as it may send less; and an expiry of its poll timer leaves
+/// none quiet.
+pub fn bearer_quiet_ends()
+    ensures { BearerQuietEnds }
+{}
+
+/// Three times what the near end may still send, what is pending at the far end and whether the
+/// near end is quiet: this measure of a flow falls in a round of a drain by one for each data PDU
+/// that is written, and never rises. Without data it falls as what was pending settles, and as the
+/// poll timer of a quiet end expires.
+pub fn flows_cost()
+    ensures { FlowsCost }
+{}
+
+/// A bearer of acknowledged data of which RLC's window is empty, with nothing left to send or to
+/// take and no confirmation under way to PDCP, is drained: nothing at all is left in either
+/// sender.
+pub fn sent_is_drained()
+    ensures { SentIsDrained }
+{}
+
+/// So a bearer of acknowledged data that needs nothing of a grant is drained, or quiet and waits
+/// for its poll timer.
+pub fn idle_is_drained()
+    ensures { IdleIsDrained }
+{}
