@@ -1,0 +1,3 @@
+mod Blocks
+mod Elements
+mod Finished

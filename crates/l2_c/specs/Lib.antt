@@ -1,0 +1,5 @@
+pub mod Answers
+pub mod Mac
+pub mod Pdcp
+pub mod Rlc
+pub mod Texts
