@@ -1,4 +1,3 @@
-pub mod Final
 pub mod Allowed
 pub mod Telling
 pub mod Rounds

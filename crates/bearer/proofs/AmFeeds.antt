@@ -9,28 +9,21 @@ use Rattle.bearer_pdcp.specs.Taking.{taken, taking_told, after_taking}
 use Rattle.bearer_pdcp.proofs.Offered.{fewer_offers}
 use Rattle.bearer.specs.Acknowledged.State.{work}
 use Rattle.bearer.specs.Acknowledged.Taking.{fed, given_to, feeds}
-use Rattle.bearer.proofs.Feeds.{is_full, is_empty, has_more}
+use Rattle.bearer.proofs.Feeds.{is_full, is_empty, has_more, AtFull, AtEmpty, AtMore}
 
-pub full : (pdcp : Ends) (tx : Sender) (events : List Event) (size : ℕ) (held : Option ℕ)
-    → hungry tx size held ≡ false → work pdcp tx events ≡ feeds (offers pdcp.tx) size held (work pdcp tx events)
+pub full : AtFull work hungry feeds
 unfolding after_taking
 full pdcp tx events size held h =
     is_full work (λ f. hungry f.tx size held) fed (λ os f. feeds os size held f) given_to (λ f. refl)
     (λ o os f. refl) (λ p t es. refl) pdcp tx events h
 
-pub empty : (pdcp : Ends) (tx : Sender) (events : List Event) (size : ℕ) (held : Option ℕ) → taken pdcp ≡ None
-    → work (after_taking pdcp) tx (events ++ taking_told pdcp)
-    ≡ feeds (offers pdcp.tx) size held (work pdcp tx events)
+pub empty : AtEmpty work feeds
 unfolding after_taking
 empty pdcp tx events size held h =
     is_empty work (λ f. hungry f.tx size held) fed (λ os f. feeds os size held f) given_to (λ f. refl)
     (λ o os f. refl) (λ p t es. refl) pdcp tx events h
 
-pub more : (pdcp : Ends) (tx : Sender) (events : List Event) (size : ℕ) (held : Option ℕ) (pdu : List ℕ)
-    → hungry tx size held ≡ true → taken pdcp ≡ Some pdu
-    → feeds (offers (after_taking pdcp).tx) size held
-    (work (after_taking pdcp) (offered tx pdu) (events ++ taking_told pdcp))
-    ≡ feeds (offers pdcp.tx) size held (work pdcp tx events)
+pub more : AtMore work hungry feeds offered
 unfolding after_taking
 more pdcp tx events size held pdu h t =
     has_more work (λ f. hungry f.tx size held) fed (λ os f. feeds os size held f) given_to (λ f. refl)

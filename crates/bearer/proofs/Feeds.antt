@@ -50,3 +50,23 @@ module _ {S W : Type 0} (at : Ends → S → List Event → W) (is_hungry : W �
       ∙ ap (feeds left) (sym (fed_is pdcp tx events))
       ∙ one_more left f.first (at pdcp tx events) h
       ∙ ap (λ os. feeds os (at pdcp tx events)) (sym f.others)
+
+-- ---- what is said of the three ways in which a step ends, of a kind by its world, its sender and its definitions
+
+abbrev pub AtFull : {S W : Type 0} → (Ends → S → List Event → W) → (S → ℕ → Option ℕ → Bool)
+    → (List Offer → ℕ → Option ℕ → W → W) → Type 0
+AtFull {S} at is_hungry feeds = (pdcp : Ends) (tx : S) (events : List Event) (size : ℕ) (held : Option ℕ)
+    → is_hungry tx size held ≡ false → at pdcp tx events ≡ feeds (offers pdcp.tx) size held (at pdcp tx events)
+
+abbrev pub AtEmpty : {S W : Type 0} → (Ends → S → List Event → W) → (List Offer → ℕ → Option ℕ → W → W) → Type 0
+AtEmpty {S} at feeds = (pdcp : Ends) (tx : S) (events : List Event) (size : ℕ) (held : Option ℕ)
+    → taken pdcp ≡ None → at (after_taking pdcp) tx (events ++ taking_told pdcp)
+    ≡ feeds (offers pdcp.tx) size held (at pdcp tx events)
+
+abbrev pub AtMore : {S W : Type 0} → (Ends → S → List Event → W) → (S → ℕ → Option ℕ → Bool)
+    → (List Offer → ℕ → Option ℕ → W → W) → (S → List ℕ → S) → Type 0
+AtMore {S} at is_hungry feeds offered = (pdcp : Ends) (tx : S) (events : List Event) (size : ℕ) (held : Option ℕ)
+    (pdu : List ℕ) → is_hungry tx size held ≡ true → taken pdcp ≡ Some pdu
+    → feeds (offers (after_taking pdcp).tx) size held
+    (at (after_taking pdcp) (offered tx pdu) (events ++ taking_told pdcp))
+    ≡ feeds (offers pdcp.tx) size held (at pdcp tx events)

@@ -7,31 +7,24 @@ use Rattle.bearer_pdcp.specs.Ends.{Ends}
 use Rattle.bearer_pdcp.specs.Taking.{taken, taking_told, after_taking}
 use Rattle.bearer_pdcp.proofs.Offered.{fewer_offers}
 use Rattle.bearer.specs.Unacknowledged.Taking.{Feeding, fed, given_to, feeds}
-use Rattle.bearer.proofs.Feeds.{is_full, is_empty, has_more}
+use Rattle.bearer.proofs.Feeds.{is_full, is_empty, has_more, AtFull, AtEmpty, AtMore}
 
 abbrev at : Ends → Sender → List Event → Feeding
 at pdcp tx events = record { pdcp = pdcp; tx = tx; events = events }
 
-pub full : (pdcp : Ends) (tx : Sender) (events : List Event) (size : ℕ) (held : Option ℕ)
-    → is_hungry tx size held ≡ false → at pdcp tx events ≡ feeds (offers pdcp.tx) size held (at pdcp tx events)
+pub full : AtFull at is_hungry feeds
 unfolding after_taking
 full pdcp tx events size held h =
     is_full at (λ f. is_hungry f.tx size held) fed (λ os f. feeds os size held f) given_to (λ f. refl)
     (λ o os f. refl) (λ p t es. refl) pdcp tx events h
 
-pub empty : (pdcp : Ends) (tx : Sender) (events : List Event) (size : ℕ) (held : Option ℕ) → taken pdcp ≡ None
-    → at (after_taking pdcp) tx (events ++ taking_told pdcp)
-    ≡ feeds (offers pdcp.tx) size held (at pdcp tx events)
+pub empty : AtEmpty at feeds
 unfolding after_taking
 empty pdcp tx events size held h =
     is_empty at (λ f. is_hungry f.tx size held) fed (λ os f. feeds os size held f) given_to (λ f. refl)
     (λ o os f. refl) (λ p t es. refl) pdcp tx events h
 
-pub more : (pdcp : Ends) (tx : Sender) (events : List Event) (size : ℕ) (held : Option ℕ) (pdu : List ℕ)
-    → is_hungry tx size held ≡ true → taken pdcp ≡ Some pdu
-    → feeds (offers (after_taking pdcp).tx) size held
-    (at (after_taking pdcp) (offered pdu tx) (events ++ taking_told pdcp))
-    ≡ feeds (offers pdcp.tx) size held (at pdcp tx events)
+pub more : AtMore at is_hungry feeds (λ tx pdu. offered pdu tx)
 unfolding after_taking
 more pdcp tx events size held pdu h t =
     has_more at (λ f. is_hungry f.tx size held) fed (λ os f. feeds os size held f) given_to (λ f. refl)

@@ -1,3 +1,4 @@
+pub mod Steps
 pub mod AmFlow
 pub mod UmFlow
 pub mod UmDelivery

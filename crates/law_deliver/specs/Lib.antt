@@ -1,3 +1,4 @@
+pub mod Steps
 pub mod Accepted
 pub mod AmFlow
 pub mod UmFlow

@@ -5,3 +5,4 @@ pub mod Turning
 pub mod Parting
 pub mod Gathering
 pub mod Rows
+pub mod Final

@@ -21,8 +21,8 @@ use Rattle.law_deliver.specs.AmFlow.Pair.{DataGoes, StatusGoes, Step, Near, Far,
 use Rattle.law_deliver.specs.AmFlow.Pair.{happens, goes}
 use Rattle.law_deliver.proofs.AmFlow.Accepting.{IsQuiet, AreAcceptable, act_acceptable, quiet_accepted}
 use Rattle.law_deliver.proofs.AmFlow.Air.{calls_in as act_calls}
-use Rattle.law_deliver.proofs.AmFlow.Runs.{AreDone, near_steps, far_steps, data_call, status_call}
-use Rattle.law_deliver.proofs.AmFlow.Runs.{calls_in as deed_calls, all_calls_in}
+use Rattle.law_deliver.proofs.AmFlow.Runs.{AreDone, data_call, status_call, calls_in as deed_calls, all_calls_in}
+use Rattle.law_deliver.proofs.AmFlow.Runs.{steps_at}
 use Rattle.law_deliver.proofs.AmFlow.Stations.{calls_by as block_calls}
 use Rattle.law_deliver.specs.Accepted.{IsAccepted}
 use Rattle.law_deliver.specs.AmDelivery.Lives.{LifeStep, InLife, lives, call_by, call_of, calls_in}
@@ -67,14 +67,14 @@ lives_in [] p = refl
 lives_in (s ∷ ss) p = lives_in ss (happens p s)
 
 pub near_living : (p : Pair) (ds : List Deed) → AreDone p.far p.near ds
-    → AreAccepted p.near.bearer (all_calls_in p.far ds) → AreLiving p (in_life_all (near_steps ds))
+    → AreAccepted p.near.bearer (all_calls_in p.far ds) → AreLiving p (in_life_all (steps_at Nb ds))
 near_living p [] g h = tt
 near_living p (d ∷ ds) g h =
     let one = deed_rest p.far p.near d (all_calls_in p.far ds) h in
     ((g.0, one.0), near_living (happens p (Near d)) ds g.1 one.1)
 
 pub far_living : (p : Pair) (ds : List Deed) → AreDone p.near p.far ds
-    → AreAccepted p.far.bearer (all_calls_in p.near ds) → AreLiving p (in_life_all (far_steps ds))
+    → AreAccepted p.far.bearer (all_calls_in p.near ds) → AreLiving p (in_life_all (steps_at Ue ds))
 far_living p [] g h = tt
 far_living p (d ∷ ds) g h =
     let one = deed_rest p.near p.far d (all_calls_in p.near ds) h in
@@ -105,24 +105,24 @@ more_steps other d ds =
     ∙ sym (map-append (λ (c : BearerCall). CallsIt c) (deed_calls other d) (all_calls_in other ds))
 
 pub near_does : (p : Pair) (ds : List Deed)
-    → all_does Nb (in_life_all (near_steps ds)) p ≡ as_steps (all_calls_in p.far ds)
+    → all_does Nb (in_life_all (steps_at Nb ds)) p ≡ as_steps (all_calls_in p.far ds)
 near_does p [] = refl
 near_does p (d ∷ ds) =
     ap (λ (xs : List BearerStep). as_steps (calls_in p.far d) ++ xs) (near_does (happens p (Near d)) ds)
     ∙ more_steps p.far d ds
 
 pub far_does : (p : Pair) (ds : List Deed)
-    → all_does Ue (in_life_all (far_steps ds)) p ≡ as_steps (all_calls_in p.near ds)
+    → all_does Ue (in_life_all (steps_at Ue ds)) p ≡ as_steps (all_calls_in p.near ds)
 far_does p [] = refl
 far_does p (d ∷ ds) =
     ap (λ (xs : List BearerStep). as_steps (calls_in p.near d) ++ xs) (far_does (happens p (Far d)) ds)
     ∙ more_steps p.near d ds
 
-pub far_rests : (p : Pair) (ds : List Deed) → all_does Ue (in_life_all (near_steps ds)) p ≡ []
+pub far_rests : (p : Pair) (ds : List Deed) → all_does Ue (in_life_all (steps_at Nb ds)) p ≡ []
 far_rests p [] = refl
 far_rests p (d ∷ ds) = far_rests (happens p (Near d)) ds
 
-pub near_rests : (p : Pair) (ds : List Deed) → all_does Nb (in_life_all (far_steps ds)) p ≡ []
+pub near_rests : (p : Pair) (ds : List Deed) → all_does Nb (in_life_all (steps_at Ue ds)) p ≡ []
 near_rests p [] = refl
 near_rests p (d ∷ ds) = near_rests (happens p (Far d)) ds
 

@@ -30,7 +30,8 @@ use Rattle.pdcp_pdu.specs.declared.PdcpKind.TheVariants.{Am as AmKind}
 use Rattle.pdcp_tx.specs.State.{State as Sending, Offer, start}
 use Rattle.rlc_am_rx.specs.State.{fresh as fresh_receiver}
 use Rattle.rlc_am_tx.specs.Machine.{start as start_sender}
-use Rattle.law_bearer.specs.AmBearer.Lives.{other, BeginsAs}
+use Rattle.bearer_types.specs.Sides.{other}
+use Rattle.law_bearer.specs.AmBearer.Lives.{BeginsAs}
 use Rattle.law_bearer.proofs.AmBearer.Lives.{first_life_begins, ends_begin_alike}
 use Rattle.law_words.specs.Lists.{AreFirstSdus, IsSubsequence}
 use Rattle.law_deliver.specs.AmFlow.Air.{Begins, outset}

@@ -18,7 +18,7 @@ use Rattle.l2_types.specs.declared.side.Side.{Side}
 use Rattle.l2_types.specs.declared.side.Side.TheVariants.{Nb, Ue}
 use Rattle.law_node.specs.Holding.{flow}
 use Rattle.pdcp_tx_store.specs.Waiting.{Waits}
-use Rattle.law_bearer.specs.AmBearer.Lives.{other}
+use Rattle.bearer_types.specs.Sides.{other}
 use Rattle.law_deliver.specs.AmFlow.Air.{outset}
 use Rattle.law_deliver.specs.AmDelivery.Drained.{IsDrained as IsDrainedBearer}
 use Rattle.law_deliver.specs.AmDelivery.Lives.{lives as pair_lives, over}

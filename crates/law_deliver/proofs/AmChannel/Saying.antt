@@ -6,6 +6,7 @@ use Rattle.bearer.specs.declared.flow.Flow.{Flow}
 use Rattle.bearer.specs.declared.flow.Flow.TheVariants.{Am}
 use Rattle.bearer.specs.Taking.{pdus, told}
 use Rattle.bearer.specs.Acknowledged.State.{State}
+use Rattle.l2_types.specs.declared.side.Side.TheVariants.{Nb, Ue}
 use Rattle.law_bearer.specs.AnyBearer.Calls.{Call as BearerCall, Submit as Submits, Take as Takes, Arrive as Arrives}
 use Rattle.law_bearer.specs.AnyBearer.Calls.{Expire as Expires, SetDiscard as SetsDiscard}
 use Rattle.bearer_types.specs.declared.event.Event.{Event}
@@ -39,8 +40,7 @@ use Rattle.law_deliver.specs.AmFlow.Pair.{happens}
 use Rattle.law_deliver.specs.AmFlow.Ups.{tells_over}
 use Rattle.law_deliver.proofs.AmFlow.Air.{calls_in as act_calls}
 use Rattle.law_deliver.proofs.AmFlow.Channels.{blocks_carry_pdus}
-use Rattle.law_deliver.proofs.AmFlow.Runs.{near_steps, far_steps, data_call, status_call, all_calls_in}
-use Rattle.law_deliver.proofs.AmFlow.Runs.{calls_in as deed_calls}
+use Rattle.law_deliver.proofs.AmFlow.Runs.{data_call, status_call, all_calls_in, calls_in as deed_calls, steps_at}
 use Rattle.law_deliver.proofs.AmFlow.Stations.{come_side, calls_by as block_calls}
 use Rattle.law_deliver.proofs.AmFlow.Ups.{Stands, tells_of}
 use Rattle.law_deliver.specs.AmDelivery.Arrival.{said_in as bearer_says, heard_in as bearer_hears, said_by}
@@ -113,7 +113,7 @@ deed_hears other (DataGoes k) = refl
 deed_hears other (StatusGoes k) = refl
 
 pub near_says : (p : Pair) (ds : List Deed)
-    → over down_in (in_life_all (near_steps ds)) p ≡ says p.near.bearer (all_calls_in p.far ds)
+    → over down_in (in_life_all (steps_at Nb ds)) p ≡ says p.near.bearer (all_calls_in p.far ds)
 near_says p [] = refl
 near_says p (d ∷ ds) =
     ap (λ (hs : List AccountEntry). said_by p.near.bearer (calls_in p.far d) ++ hs) (near_says (happens p (Near d)) ds)
@@ -122,7 +122,7 @@ near_says p (d ∷ ds) =
     ∙ sym (deed_says p.far p.near d (all_calls_in p.far ds)))
 
 pub far_says : (p : Pair) (ds : List Deed)
-    → over up_in (in_life_all (far_steps ds)) p ≡ says p.far.bearer (all_calls_in p.near ds)
+    → over up_in (in_life_all (steps_at Ue ds)) p ≡ says p.far.bearer (all_calls_in p.near ds)
 far_says p [] = refl
 far_says p (d ∷ ds) =
     ap (λ (hs : List AccountEntry). said_by p.far.bearer (calls_in p.near d) ++ hs) (far_says (happens p (Far d)) ds)
@@ -131,7 +131,7 @@ far_says p (d ∷ ds) =
     ∙ sym (deed_says p.near p.far d (all_calls_in p.near ds)))
 
 pub near_hears : (p : Pair) (ds : List Deed)
-    → over up_in (in_life_all (near_steps ds)) p ≡ hears (all_calls_in p.far ds)
+    → over up_in (in_life_all (steps_at Nb ds)) p ≡ hears (all_calls_in p.far ds)
 near_hears p [] = refl
 near_hears p (d ∷ ds) =
     ap (λ (hs : List AccountEntry). bearers_hear (calls_in p.far d) ++ hs) (near_hears (happens p (Near d)) ds)
@@ -140,7 +140,7 @@ near_hears p (d ∷ ds) =
     ∙ sym (hears_then (deed_calls p.far d) (all_calls_in p.far ds))))
 
 pub far_hears : (p : Pair) (ds : List Deed)
-    → over down_in (in_life_all (far_steps ds)) p ≡ hears (all_calls_in p.near ds)
+    → over down_in (in_life_all (steps_at Ue ds)) p ≡ hears (all_calls_in p.near ds)
 far_hears p [] = refl
 far_hears p (d ∷ ds) =
     ap (λ (hs : List AccountEntry). bearers_hear (calls_in p.near d) ++ hs) (far_hears (happens p (Far d)) ds)

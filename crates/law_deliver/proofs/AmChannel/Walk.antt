@@ -22,7 +22,7 @@ use Rattle.law_deliver.specs.AmFlow.Air.{Station, Air, Act, AtNb, AtUe, Passes, 
 use Rattle.law_deliver.specs.AmFlow.Pair.{BearerEnd, Pair, Passes as PairPasses, begins as pair_begins}
 use Rattle.law_deliver.proofs.AmFlow.Air.{calls_in as act_calls, acts, passes, young, begins_so}
 use Rattle.law_deliver.proofs.AmFlow.Lives.{moved_flow, moved_bearers, moves_begin}
-use Rattle.law_deliver.proofs.AmFlow.Runs.{does_all, near_steps, far_steps, near_goes, far_goes}
+use Rattle.law_deliver.proofs.AmFlow.Runs.{does_all, steps_at, goes_at}
 use Rattle.law_deliver.proofs.AmFlow.Stations.{Matches, Acts}
 use Rattle.law_deliver.specs.AmDelivery.Lives.{LifeStep, InLife as InPairLife, Restarts, lives as pair_lives}
 use Rattle.law_deliver.specs.AmDelivery.Lives.{lives_on as pair_lives_on, AreLiving as AreLivingPair, over}
@@ -65,11 +65,11 @@ walks_nb : (bits l : ℕ) (a : Air) (x : Act) (p : Pair) → IsDone l a.nb x →
 walks_nb bits l a x p g h k stands steady =
     let r : Acts Nb l (does a.ue a.nb x) p.far p.near (act_calls l a.ue a.nb x) =
     acts Nb Ue l a.nb a.ue p.near p.far x refl h k g in
-    let same : pair_lives (in_life_all (near_steps r.deeds)) p
+    let same : pair_lives (in_life_all (steps_at Nb r.deeds)) p
     ≡ record { near = does_all p.far p.near r.deeds; far = p.far } =
-    lives_in (near_steps r.deeds) p ∙ near_goes p r.deeds in
+    lives_in (steps_at Nb r.deeds) p ∙ goes_at Nb p r.deeds in
     record {
-      steps = in_life_all (near_steps r.deeds);
+      steps = in_life_all (steps_at Nb r.deeds);
       living =
           near_living p r.deeds r.done
           (subst (AreAccepted p.near.bearer) (sym r.calls_are)
@@ -93,11 +93,11 @@ walks_ue : (bits l : ℕ) (a : Air) (x : Act) (p : Pair) → IsDone l a.ue x →
 walks_ue bits l a x p g h k stands steady =
     let r : Acts Ue l (does a.nb a.ue x) p.near p.far (act_calls l a.nb a.ue x) =
     acts Ue Nb l a.ue a.nb p.far p.near x refl k h g in
-    let same : pair_lives (in_life_all (far_steps r.deeds)) p
+    let same : pair_lives (in_life_all (steps_at Ue r.deeds)) p
     ≡ record { near = p.near; far = does_all p.near p.far r.deeds } =
-    lives_in (far_steps r.deeds) p ∙ far_goes p r.deeds in
+    lives_in (steps_at Ue r.deeds) p ∙ goes_at Ue p r.deeds in
     record {
-      steps = in_life_all (far_steps r.deeds);
+      steps = in_life_all (steps_at Ue r.deeds);
       living =
           far_living p r.deeds r.done
           (subst (AreAccepted p.far.bearer) (sym r.calls_are) (act_accepted l a.nb a.ue x p.far.bearer k.bearer_is));

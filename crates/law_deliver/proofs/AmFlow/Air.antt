@@ -16,8 +16,9 @@ use Rattle.law_deliver.specs.AmFlow.Pair.{am_pair_outset, begins as pair_begins,
 use Rattle.law_deliver.specs.AmFlow.Pair.{older as older_sent, AreGiven as AreGivenPair, IsYoung as IsYoungSent}
 use Rattle.law_deliver.proofs.AmFlow.Acts.{act_by}
 use Rattle.law_deliver.proofs.AmFlow.Loads.{aged_load, aged_copies, aged_reports, aged_blocks, aged_all, young_all}
-use Rattle.law_deliver.proofs.AmFlow.Runs.{near_steps, far_steps, near_goes, far_goes, near_given, far_given, goes_more}
-use Rattle.law_deliver.proofs.AmFlow.Runs.{given_more}
+use Rattle.law_deliver.proofs.AmFlow.Runs.{steps_at, goes_at, given_at}
+use Rattle.law_deliver.specs.AmFlow.Pair.{happens as pair_happens, IsGiven as IsPairGiven}
+use Rattle.law_deliver.proofs.Steps.{walked_more, more_given}
 use Rattle.law_deliver.proofs.AmFlow.Stations.{Matches, Acts, calls_by, hears, lets_go, plain_call}
 use Rattle.law_deliver.proofs.AmFlow.Visiting.{visits}
 
@@ -75,9 +76,10 @@ more_match : (l : ℕ) (b d : State) (a c : Air) (h : BothMatch l b d a) (ts : L
     → Matches Ue l c.ue (pair_goes ts (pair_goes h.steps (am_pair_outset b d))).far → BothMatch l b d c
 more_match l b d a c h ts g x y = record {
   steps = h.steps ++ ts;
-  given = given_more (am_pair_outset b d) h.steps ts h.given g;
-  nb = subst (λ (p : Pair). Matches Nb l c.nb p.near) (sym (goes_more (am_pair_outset b d) h.steps ts)) x;
-  ue = subst (λ (p : Pair). Matches Ue l c.ue p.far) (sym (goes_more (am_pair_outset b d) h.steps ts)) y;
+  given = more_given pair_happens IsPairGiven (am_pair_outset b d) h.steps ts h.given g;
+  nb = subst (λ (p : Pair). Matches Nb l c.nb p.near)
+      (sym (walked_more pair_happens (am_pair_outset b d) h.steps ts)) x;
+  ue = subst (λ (p : Pair). Matches Ue l c.ue p.far) (sym (walked_more pair_happens (am_pair_outset b d) h.steps ts)) y;
 }
 
 happens_on : (l : ℕ) (b d : State) (a : Air) (s : Step) → IsGiven l a s → BothMatch l b d a
@@ -86,16 +88,16 @@ happens_on l b d a (AtNb x) g h =
     let p : Pair = pair_goes h.steps (am_pair_outset b d) in
     let r : Acts Nb l (does a.ue a.nb x) p.far p.near (calls_in l a.ue a.nb x) =
     acts Nb Ue l a.nb a.ue p.near p.far x refl h.nb h.ue g in
-    let same = near_goes p r.deeds in
-    more_match l b d a (happens a (AtNb x)) h (near_steps r.deeds) (near_given p r.deeds r.done)
+    let same = goes_at Nb p r.deeds in
+    more_match l b d a (happens a (AtNb x)) h (steps_at Nb r.deeds) (given_at Nb p r.deeds r.done)
     (subst (λ (q : Pair). Matches Nb l (does a.ue a.nb x) q.near) (sym same) r.matches)
     (subst (λ (q : Pair). Matches Ue l a.ue q.far) (sym same) h.ue)
 happens_on l b d a (AtUe x) g h =
     let p : Pair = pair_goes h.steps (am_pair_outset b d) in
     let r : Acts Ue l (does a.nb a.ue x) p.near p.far (calls_in l a.nb a.ue x) =
     acts Ue Nb l a.ue a.nb p.far p.near x refl h.ue h.nb g in
-    let same = far_goes p r.deeds in
-    more_match l b d a (happens a (AtUe x)) h (far_steps r.deeds) (far_given p r.deeds r.done)
+    let same = goes_at Ue p r.deeds in
+    more_match l b d a (happens a (AtUe x)) h (steps_at Ue r.deeds) (given_at Ue p r.deeds r.done)
     (subst (λ (q : Pair). Matches Nb l a.nb q.near) (sym same) h.nb)
     (subst (λ (q : Pair). Matches Ue l (does a.nb a.ue x) q.far) (sym same) r.matches)
 happens_on l b d a Passes g h =

@@ -64,7 +64,7 @@ pdus_all kind s (o ∷ os) known same h =
       pdus_all kind s os known same h.1,
     )
 
-some_of : (b : State) (share : ℕ) (held : Option ℕ) (l : ℕ) → WritesWell l (Am b)
+pub some_of : (b : State) (share : ℕ) (held : Option ℕ) (l : ℕ) → WritesWell l (Am b)
     → AllByRecursion HasOctet (offers_in b share held)
 some_of b share held l w =
     let n : ℕ = length (offers_of (ends (Am b))) - length (offers_of (ends (after (Am b) (Take share held)))) in

@@ -5,53 +5,36 @@ use Rattle.law_rlc.specs.AmPair.Flow.{Copy, except}
 use Rattle.bearer.specs.declared.flow.Flow.{Flow}
 use Rattle.bearer.specs.declared.flow.Flow.TheVariants.{Am}
 use Rattle.bearer.specs.Acknowledged.State.{State}
+use Rattle.l2_types.specs.declared.side.Side.{Side}
+use Rattle.bearer_types.specs.Sides.{other}
 use Rattle.law_bearer.specs.AnyBearer.Calls.{Call, Arrive, after_all}
+use Rattle.law_deliver.specs.Steps.{walked, AllGiven, end_at, with_end}
+use Rattle.law_deliver.proofs.Steps.{steps_of, walked_at, all_given_at}
 use Rattle.law_deliver.specs.AmFlow.Pair.{SentStatus, BearerEnd, Pair, Deed, Calls, DataComes, StatusComes, DataGoes}
 use Rattle.law_deliver.specs.AmFlow.Pair.{StatusGoes, Step, Near, Far, arrives, data_comes, status_comes, does, happens}
-use Rattle.law_deliver.specs.AmFlow.Pair.{goes, IsDone, AreGiven}
+use Rattle.law_deliver.specs.AmFlow.Pair.{goes, IsDone, IsGiven, AreGiven}
 use Rattle.law_deliver.proofs.AmFlow.Sending.{is_called}
 
 -- ---- deeds at one end
 
 abbrev pub does_all : BearerEnd → BearerEnd → List Deed → BearerEnd
-does_all other e [] = e
-does_all other e (d ∷ ds) = does_all other (does other e d) ds
+does_all other e ds = walked (does other) ds e
 
 abbrev pub AreDone : BearerEnd → BearerEnd → List Deed → Type 0
-AreDone other e [] = Unit {0}
-AreDone other e (d ∷ ds) = IsDone e d × AreDone other (does other e d) ds
+AreDone other e ds = AllGiven (does other) IsDone e ds
 
-abbrev pub near_steps : List Deed → List Step
-near_steps ds = map (λ d. Near d) ds
+abbrev pub steps_at : Side → List Deed → List Step
+steps_at s ds = steps_of (λ d. Near d) (λ d. Far d) s ds
 
-abbrev pub far_steps : List Deed → List Step
-far_steps ds = map (λ d. Far d) ds
+pub goes_at : (s : Side) (p : Pair) (ds : List Deed)
+    → goes (steps_at s ds) p ≡ with_end s p (does_all (end_at (other s) p) (end_at s p) ds)
+goes_at s p ds = walked_at happens does (λ d. Near d) (λ d. Far d) (λ q d. refl) (λ q d. refl) s p ds
 
-pub near_goes : (p : Pair) (ds : List Deed)
-    → goes (near_steps ds) p ≡ record { near = does_all p.far p.near ds; far = p.far }
-near_goes p [] = refl
-near_goes p (d ∷ ds) = near_goes (happens p (Near d)) ds
-
-pub far_goes : (p : Pair) (ds : List Deed)
-    → goes (far_steps ds) p ≡ record { near = p.near; far = does_all p.near p.far ds }
-far_goes p [] = refl
-far_goes p (d ∷ ds) = far_goes (happens p (Far d)) ds
-
-pub near_given : (p : Pair) (ds : List Deed) → AreDone p.far p.near ds → AreGiven p (near_steps ds)
-near_given p [] g = tt
-near_given p (d ∷ ds) g = (g.0, near_given (happens p (Near d)) ds g.1)
-
-pub far_given : (p : Pair) (ds : List Deed) → AreDone p.near p.far ds → AreGiven p (far_steps ds)
-far_given p [] g = tt
-far_given p (d ∷ ds) g = (g.0, far_given (happens p (Far d)) ds g.1)
-
-pub goes_more : (p : Pair) (ss ts : List Step) → goes (ss ++ ts) p ≡ goes ts (goes ss p)
-goes_more p [] ts = refl
-goes_more p (s ∷ ss) ts = goes_more (happens p s) ss ts
-
-pub given_more : (p : Pair) (ss ts : List Step) → AreGiven p ss → AreGiven (goes ss p) ts → AreGiven p (ss ++ ts)
-given_more p [] ts g h = h
-given_more p (s ∷ ss) ts g h = (g.0, given_more (happens p s) ss ts g.1 h)
+pub given_at : (s : Side) (p : Pair) (ds : List Deed) → AreDone (end_at (other s) p) (end_at s p) ds
+    → AreGiven p (steps_at s ds)
+given_at s p ds =
+    all_given_at happens does (λ d. Near d) (λ d. Far d) (λ q d. refl) (λ q d. refl) IsDone IsGiven (λ q d g. g)
+    (λ q d g. g) s p ds
 
 -- ---- the calls of its bearer that they are, by what the other end has under way
 

@@ -37,7 +37,8 @@ use Rattle.law_deliver.specs.AmFlow.Pair.{Pair, Step, happens, goes, am_pair_out
 use Rattle.law_deliver.specs.AmFlow.Ups.{ups_on}
 use Rattle.promises.specs.Events.{told_on, losses}
 use Rattle.law_deliver.proofs.AmFlow.Air.{begins_so}
-use Rattle.law_deliver.proofs.AmFlow.Runs.{goes_more}
+use Rattle.law_deliver.specs.AmFlow.Pair.{happens as pair_happens}
+use Rattle.law_deliver.proofs.Steps.{walked_more}
 use Rattle.law_deliver.proofs.AmFlow.Stations.{Matches}
 use Rattle.law_deliver.proofs.AmFlow.Ups.{Stands, the_end, come_between, between_at}
 use Rattle.bearer_types.specs.declared.event.Event.{Event}
@@ -164,7 +165,7 @@ runs_on l nb ue near far xs x g none r ready =
     let w : Walks l b x (goes r.steps p) = walks l b x (goes r.steps p) g none r.nb_is r.ue_is
     ready in
     let same = sym (lives_more a xs (InLife x ∷ [])) in
-    let pairs = sym (goes_more p r.steps w.steps) in
+    let pairs = sym (walked_more pair_happens p r.steps w.steps) in
     record {
       steps = r.steps ++ w.steps;
       lived = lived_more r.steps w.steps p r.lived w.lived;

@@ -13,8 +13,8 @@ use Rattle.law_deliver.specs.AmFlow.Pair.{StatusComes}
 use Rattle.law_deliver.specs.AmFlow.Pair.{DataGoes, StatusGoes, Step, Near, Far, Passes as PairPasses, called}
 use Rattle.law_deliver.specs.AmFlow.Pair.{data_comes, status_comes, does as deed_does, happens, goes}
 use Rattle.law_deliver.proofs.AmFlow.Air.{calls_in as act_calls, acts, passes, young}
-use Rattle.law_deliver.proofs.AmFlow.Runs.{does_all, AreDone, near_steps, far_steps, near_goes, far_goes, data_call}
-use Rattle.law_deliver.proofs.AmFlow.Runs.{status_call, calls_in as deed_calls, all_calls_in}
+use Rattle.law_deliver.proofs.AmFlow.Runs.{does_all, AreDone, data_call, status_call, calls_in as deed_calls}
+use Rattle.law_deliver.proofs.AmFlow.Runs.{all_calls_in, steps_at, goes_at}
 use Rattle.law_deliver.proofs.AmFlow.Stations.{Matches, Acts}
 use Rattle.law_deliver.specs.Accepted.{IsAccepted as IsTaken}
 use Rattle.law_deliver.specs.AmChannel.Delivery.{steps_over, SetNone}
@@ -80,14 +80,14 @@ deed_rest other e (DataGoes k) cs h = (tt, h)
 deed_rest other e (StatusGoes k) cs h = (tt, h)
 
 near_lived : (p : Pair) (ds : List Deed) → AreDone p.far p.near ds → AreAllowed p.near.bearer (all_calls_in p.far ds)
-    → AreLived p (near_steps ds)
+    → AreLived p (steps_at Nb ds)
 near_lived p [] g h = tt
 near_lived p (d ∷ ds) g h =
     let one = deed_rest p.far p.near d (all_calls_in p.far ds) h in
     ((g.0, one.0), near_lived (happens p (Near d)) ds g.1 one.1)
 
 far_lived : (p : Pair) (ds : List Deed) → AreDone p.near p.far ds → AreAllowed p.far.bearer (all_calls_in p.near ds)
-    → AreLived p (far_steps ds)
+    → AreLived p (steps_at Ue ds)
 far_lived p [] g h = tt
 far_lived p (d ∷ ds) g h =
     let one = deed_rest p.near p.far d (all_calls_in p.near ds) h in
@@ -137,26 +137,26 @@ walks_nb : (l : ℕ) (a : Air) (x : Act) (p : Pair) → IsDone l a.nb x → SetN
 walks_nb l a x p g none h k ready =
     let r : Acts Nb l (station_does a.ue a.nb x) p.far p.near (act_calls l a.ue a.nb x) =
     acts Nb Ue l a.nb a.ue p.near p.far x refl h k g in
-    let same : goes (near_steps r.deeds) p ≡ record { near = does_all p.far p.near r.deeds; far = p.far } =
-    near_goes p r.deeds in
+    let same : goes (steps_at Nb r.deeds) p ≡ record { near = does_all p.far p.near r.deeds; far = p.far } =
+    goes_at Nb p r.deeds in
     let may = act_allowed l a.ue a.nb x p.near.bearer g none (act_accepted l a.ue a.nb x p.near.bearer h.bearer_is) in
     record {
-      steps = near_steps r.deeds;
+      steps = steps_at Nb r.deeds;
       lived = near_lived p r.deeds r.done (subst (AreAllowed p.near.bearer) (sym r.calls_are) may);
       nb = subst (λ (q : Pair). Matches Nb l (station_does a.ue a.nb x) q.near) (sym same) r.matches;
       ue = subst (λ (q : Pair). Matches Ue l a.ue q.far) (sym same) k;
-      nb_does = does_as Nb (near_steps r.deeds) p ∙ near_does p r.deeds ∙ ap as_steps r.calls_are
+      nb_does = does_as Nb (steps_at Nb r.deeds) p ∙ near_does p r.deeds ∙ ap as_steps r.calls_are
           ∙ sym (act_steps l a.ue a.nb x g);
-      ue_does = does_as Ue (near_steps r.deeds) p ∙ far_rests p r.deeds;
+      ue_does = does_as Ue (steps_at Nb r.deeds) p ∙ far_rests p r.deeds;
       down_is =
-          passes_over down_in (near_steps r.deeds) p
+          passes_over down_in (steps_at Nb r.deeds) p
           ∙ ap passes_of
           (near_says p r.deeds
           ∙ (ap (says p.near.bearer) r.calls_are
           ∙ (act_says (bits_of Srb) l Nb a.ue a.nb p.near.bearer x ready.nb_stands h.bearer_is ready.nb_speaks g
           ∙ sym (append-nil (said_over (bits_of Srb) l (calls_by a.ue x) a.nb.end)))));
       up_is =
-          passes_over up_in (near_steps r.deeds) p
+          passes_over up_in (steps_at Nb r.deeds) p
           ∙ ap passes_of (near_hears p r.deeds ∙ (ap hears r.calls_are ∙ act_hears l a.ue a.nb x));
     }
 
@@ -165,22 +165,22 @@ walks_ue : (l : ℕ) (a : Air) (x : Act) (p : Pair) → IsDone l a.ue x → SetN
 walks_ue l a x p g none h k ready =
     let r : Acts Ue l (station_does a.nb a.ue x) p.near p.far (act_calls l a.nb a.ue x) =
     acts Ue Nb l a.ue a.nb p.far p.near x refl k h g in
-    let same : goes (far_steps r.deeds) p ≡ record { near = p.near; far = does_all p.near p.far r.deeds } =
-    far_goes p r.deeds in
+    let same : goes (steps_at Ue r.deeds) p ≡ record { near = p.near; far = does_all p.near p.far r.deeds } =
+    goes_at Ue p r.deeds in
     let may = act_allowed l a.nb a.ue x p.far.bearer g none (act_accepted l a.nb a.ue x p.far.bearer k.bearer_is) in
     record {
-      steps = far_steps r.deeds;
+      steps = steps_at Ue r.deeds;
       lived = far_lived p r.deeds r.done (subst (AreAllowed p.far.bearer) (sym r.calls_are) may);
       nb = subst (λ (q : Pair). Matches Nb l a.nb q.near) (sym same) h;
       ue = subst (λ (q : Pair). Matches Ue l (station_does a.nb a.ue x) q.far) (sym same) r.matches;
-      nb_does = does_as Nb (far_steps r.deeds) p ∙ near_rests p r.deeds;
-      ue_does = does_as Ue (far_steps r.deeds) p ∙ far_does p r.deeds ∙ ap as_steps r.calls_are
+      nb_does = does_as Nb (steps_at Ue r.deeds) p ∙ near_rests p r.deeds;
+      ue_does = does_as Ue (steps_at Ue r.deeds) p ∙ far_does p r.deeds ∙ ap as_steps r.calls_are
           ∙ sym (act_steps l a.nb a.ue x g);
       down_is =
-          passes_over down_in (far_steps r.deeds) p
+          passes_over down_in (steps_at Ue r.deeds) p
           ∙ ap passes_of (far_hears p r.deeds ∙ (ap hears r.calls_are ∙ act_hears l a.nb a.ue x));
       up_is =
-          passes_over up_in (far_steps r.deeds) p
+          passes_over up_in (steps_at Ue r.deeds) p
           ∙ ap passes_of
           (far_says p r.deeds
           ∙ (ap (says p.far.bearer) r.calls_are

@@ -1,6 +1,6 @@
 -- What a channel of unacknowledged data delivers.
 use Rattle.std.proofs.Common.{◌≡◌, ℕ, List, [], length, ap, sym, subst, ◌∙◌}
-use Rattle.law_bearer.specs.AmBearer.Lives.{other}
+use Rattle.bearer_types.specs.Sides.{other}
 use Rattle.bearer.specs.Bearer.{flow_of}
 use Rattle.bearer.specs.declared.flow.Flow.{Flow}
 use Rattle.bearer.specs.declared.flow.Flow.TheVariants.{Um}

@@ -12,7 +12,6 @@ use Rattle.l2_node.specs.End.{End}
 use Rattle.l2_types.specs.declared.channel.Kind.{Kind}
 use Rattle.l2_types.specs.declared.channel.Kind.TheVariants as kinds
 use Rattle.l2_types.specs.declared.side.Side.{Side}
-use Rattle.l2_types.specs.declared.side.Side.TheVariants.{Nb, Ue}
 use Rattle.law_bearer.specs.AnyBearer.Calls.{ends, run_bearer, Step as BearerStep}
 use Rattle.law_bearer.specs.AnyBearer.Queue.{queue, all_submitted}
 use Rattle.law_bearer.proofs.AnyBearer.Between.{IsBetween}

@@ -33,8 +33,10 @@ use Rattle.law_deliver.proofs.UmFlow.Calls.{near_then, far_then}
 use Rattle.law_deliver.specs.UmChannel.Pairs.{deeds_in, steps_in, walk}
 use Rattle.law_deliver.proofs.UmChannel.Acting.{acts, accepted_then, act_accepted}
 use Rattle.law_deliver.proofs.UmChannel.Bearers.{steps_through, near_end, far_end, restarts}
-use Rattle.law_deliver.proofs.UmChannel.Deeds.{does_all, near_steps, far_steps, near_goes, far_goes, near_given}
-use Rattle.law_deliver.proofs.UmChannel.Deeds.{far_given, near_own, far_own, near_none, far_none, goes_more, given_more}
+use Rattle.law_deliver.proofs.UmChannel.Deeds.{does_all, near_own, far_own, near_none, far_none, steps_at, goes_at}
+use Rattle.law_deliver.proofs.UmChannel.Deeds.{given_at}
+use Rattle.law_deliver.specs.UmFlow.Pair.{happens as pair_happens, IsGiven as IsPairGiven}
+use Rattle.law_deliver.proofs.Steps.{walked_more, more_given}
 use Rattle.law_deliver.proofs.UmChannel.Stations.{Matches, Acts, passes}
 
 -- where a life stands: the bearers as it began, and the steps so far
@@ -67,17 +69,17 @@ module _ (l : ℕ) (a : Air) (near far : State) (so_far : List PairStep) (h : St
       let cs = act_calls l a.ue a.nb x in
       let r : Acts Nb l (does a.ue a.nb x) now.far now.near ds cs =
       acts Nb Ue l a.nb a.ue now.near now.far x refl h.nb h.ue g in
-      let there : goes (so_far ++ near_steps ds) (um_pair_outset near far)
+      let there : goes (so_far ++ steps_at Nb ds) (um_pair_outset near far)
       ≡ record { near = does_all now.far now.near ds; far = now.far } =
-      goes_more (um_pair_outset near far) so_far (near_steps ds) ∙ near_goes now ds in
-      let own : near_calls (um_pair_outset near far) (so_far ++ near_steps ds)
+      walked_more pair_happens (um_pair_outset near far) so_far (steps_at Nb ds) ∙ goes_at Nb now ds in
+      let own : near_calls (um_pair_outset near far) (so_far ++ steps_at Nb ds)
       ≡ near_calls (um_pair_outset near far) so_far ++ cs =
-      near_then so_far (near_steps ds) (um_pair_outset near far)
+      near_then so_far (steps_at Nb ds) (um_pair_outset near far)
       ∙ ap (λ (more : List BearerCall). near_calls (um_pair_outset near far) so_far ++ more)
       (near_own now ds ∙ r.calls_are) in
-      let other : far_calls (um_pair_outset near far) (so_far ++ near_steps ds)
+      let other : far_calls (um_pair_outset near far) (so_far ++ steps_at Nb ds)
       ≡ far_calls (um_pair_outset near far) so_far ++ [] =
-      far_then so_far (near_steps ds) (um_pair_outset near far)
+      far_then so_far (steps_at Nb ds) (um_pair_outset near far)
       ∙ ap (λ (more : List BearerCall). far_calls (um_pair_outset near far) so_far ++ more) (far_none now ds) in
       record {
         stands = record {
@@ -85,7 +87,8 @@ module _ (l : ℕ) (a : Air) (near far : State) (so_far : List PairStep) (h : St
           ue = subst (λ (q : Pair). Matches Ue l a.ue q.far) (sym there) h.ue;
           living = record {
             given =
-                given_more (um_pair_outset near far) so_far (near_steps ds) h.living.given (near_given now ds r.done);
+                more_given pair_happens IsPairGiven (um_pair_outset near far) so_far (steps_at Nb ds) h.living.given
+                (given_at Nb now ds r.done);
             near_accepts = subst (AreAccepted near) (sym own)
                 (accepted_then near (near_calls (um_pair_outset near far) so_far) cs h.living.near_accepts
                 (subst (λ (b : State). AreAccepted b cs) (sym (near_end near far so_far))
@@ -106,24 +109,25 @@ module _ (l : ℕ) (a : Air) (near far : State) (so_far : List PairStep) (h : St
       let cs = act_calls l a.nb a.ue x in
       let r : Acts Ue l (does a.nb a.ue x) now.near now.far ds cs =
       acts Ue Nb l a.ue a.nb now.far now.near x refl h.ue h.nb g in
-      let there : goes (so_far ++ far_steps ds) (um_pair_outset near far)
+      let there : goes (so_far ++ steps_at Ue ds) (um_pair_outset near far)
       ≡ record { near = now.near; far = does_all now.near now.far ds } =
-      goes_more (um_pair_outset near far) so_far (far_steps ds) ∙ far_goes now ds in
-      let own : far_calls (um_pair_outset near far) (so_far ++ far_steps ds)
+      walked_more pair_happens (um_pair_outset near far) so_far (steps_at Ue ds) ∙ goes_at Ue now ds in
+      let own : far_calls (um_pair_outset near far) (so_far ++ steps_at Ue ds)
       ≡ far_calls (um_pair_outset near far) so_far ++ cs =
-      far_then so_far (far_steps ds) (um_pair_outset near far)
+      far_then so_far (steps_at Ue ds) (um_pair_outset near far)
       ∙ ap (λ (more : List BearerCall). far_calls (um_pair_outset near far) so_far ++ more)
       (far_own now ds ∙ r.calls_are) in
-      let other : near_calls (um_pair_outset near far) (so_far ++ far_steps ds)
+      let other : near_calls (um_pair_outset near far) (so_far ++ steps_at Ue ds)
       ≡ near_calls (um_pair_outset near far) so_far ++ [] =
-      near_then so_far (far_steps ds) (um_pair_outset near far)
+      near_then so_far (steps_at Ue ds) (um_pair_outset near far)
       ∙ ap (λ (more : List BearerCall). near_calls (um_pair_outset near far) so_far ++ more) (near_none now ds) in
       record {
         stands = record {
           nb = subst (λ (q : Pair). Matches Nb l a.nb q.near) (sym there) h.nb;
           ue = subst (λ (q : Pair). Matches Ue l (does a.nb a.ue x) q.far) (sym there) r.matches;
           living = record {
-            given = given_more (um_pair_outset near far) so_far (far_steps ds) h.living.given (far_given now ds r.done);
+            given = more_given pair_happens IsPairGiven (um_pair_outset near far) so_far (steps_at Ue ds) h.living.given
+                (given_at Ue now ds r.done);
             near_accepts =
                 subst (AreAccepted near) (sym (other ∙ append-nil (near_calls (um_pair_outset near far) so_far)))
                 h.living.near_accepts;

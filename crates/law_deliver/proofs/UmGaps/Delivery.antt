@@ -31,7 +31,7 @@ use Rattle.rlc_um.specs.Receiver.{all_joined}
 use Rattle.rlc_um.specs.Sender.{width_of}
 use Rattle.law_deliver.specs.UmChannel.Delivery.{UmEndsBeginAlike, direction_from}
 use Rattle.law_deliver.specs.UmChannel.Pairs.{steps_in, walk}
-use Rattle.law_bearer.specs.AmBearer.Lives.{other}
+use Rattle.bearer_types.specs.Sides.{other}
 use Rattle.law_deliver.proofs.UmChannel.Bearers.{near_end, far_end, own}
 use Rattle.law_deliver.proofs.UmChannel.Delivery.{channels_deliver_in_order}
 use Rattle.law_deliver.proofs.UmChannel.Walk.{Stands, begins_so, moves_so}

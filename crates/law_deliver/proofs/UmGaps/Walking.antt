@@ -2,7 +2,7 @@
 use Rattle.std.proofs.Common.{◌≡◌, inl, inr, ◌<◌, ℕ, ◌^◌, true, false, List, [], ◌∷◌, ◌++◌, map, length, append-nil}
 use Rattle.std.proofs.Common.{refl, ap, sym, subst, ◌∙◌, arith}
 use Rattle.std.specs.List.{AllByRecursion}
-use Rattle.law_bearer.specs.AmBearer.Lives.{other}
+use Rattle.bearer_types.specs.Sides.{other}
 use Rattle.bearer.specs.Unacknowledged.State.{State}
 use Rattle.law_bearer.specs.AnyBearer.Calls.{Call as BearerCall}
 use Rattle.bearer_types.specs.declared.config.BearerConfig.{BearerConfig}
@@ -24,8 +24,9 @@ use Rattle.law_deliver.specs.UmChannel.Delivery.{direction_from}
 use Rattle.law_deliver.specs.UmChannel.Pairs.{deeds_in, steps_in}
 use Rattle.law_deliver.proofs.UmChannel.Acting.{acts}
 use Rattle.law_deliver.proofs.UmChannel.Bearers.{own, own_calls}
-use Rattle.law_deliver.proofs.UmChannel.Deeds.{does_all, near_steps, far_steps, near_goes, far_goes, near_own, far_own}
-use Rattle.law_deliver.proofs.UmChannel.Deeds.{near_none, far_none, goes_more}
+use Rattle.law_deliver.proofs.UmChannel.Deeds.{does_all, near_own, far_own, near_none, far_none, steps_at, goes_at}
+use Rattle.law_deliver.specs.UmFlow.Pair.{happens as pair_happens}
+use Rattle.law_deliver.proofs.Steps.{walked_more}
 use Rattle.law_deliver.proofs.UmChannel.Loads.{Carries}
 use Rattle.law_deliver.proofs.UmChannel.Stations.{Matches}
 use Rattle.law_deliver.proofs.UmChannel.Walk.{Stands, grows}
@@ -60,19 +61,19 @@ short_back p [] ts g h = h
 short_back p (Far d ∷ ss) ts g h = short_back (pair_happens p (Far d)) ss ts g h
 short_back p (Near d ∷ ss) ts g h = (g.0, short_back (pair_happens p (Near d)) ss ts g.1 h)
 
-sent_there : (p : Pair) (ds : List Deed) → AreShortThere p (near_steps ds)
+sent_there : (p : Pair) (ds : List Deed) → AreShortThere p (steps_at Nb ds)
 sent_there p [] = tt
 sent_there p (d ∷ ds) = sent_there (pair_happens p (Near d)) ds
 
-sent_back : (p : Pair) (ds : List Deed) → AreShortBack p (far_steps ds)
+sent_back : (p : Pair) (ds : List Deed) → AreShortBack p (steps_at Ue ds)
 sent_back p [] = tt
 sent_back p (d ∷ ds) = sent_back (pair_happens p (Far d)) ds
 
-heard_there : (p : Pair) (ds : List Deed) → AreNear p.near p.far ds → AreShortThere p (far_steps ds)
+heard_there : (p : Pair) (ds : List Deed) → AreNear p.near p.far ds → AreShortThere p (steps_at Ue ds)
 heard_there p [] h = tt
 heard_there p (d ∷ ds) h = (h.0, heard_there (pair_happens p (Far d)) ds h.1)
 
-heard_back : (p : Pair) (ds : List Deed) → AreNear p.far p.near ds → AreShortBack p (near_steps ds)
+heard_back : (p : Pair) (ds : List Deed) → AreNear p.far p.near ds → AreShortBack p (steps_at Nb ds)
 heard_back p [] h = tt
 heard_back p (d ∷ ds) h = (h.0, heard_back (pair_happens p (Near d)) ds h.1)
 
@@ -191,11 +192,11 @@ moved Nb l a near far so_far x h g =
     let p : Pair = goes so_far out in
     let ds = deeds_in l Nb a.ue a.nb x in
     let r = acts Nb Ue l a.nb a.ue p.near p.far x refl h.nb h.ue g in
-    let there = goes_more out so_far (near_steps ds) ∙ near_goes p ds in
+    let there = walked_more pair_happens out so_far (steps_at Nb ds) ∙ goes_at Nb p ds in
     record {
-      calls_by = near_then so_far (near_steps ds) out
+      calls_by = near_then so_far (steps_at Nb ds) out
           ∙ ap (λ (more : List BearerCall). near_calls out so_far ++ more) (near_own p ds ∙ r.calls_are);
-      calls_off = far_then so_far (near_steps ds) out
+      calls_off = far_then so_far (steps_at Nb ds) out
           ∙ ap (λ (more : List BearerCall). far_calls out so_far ++ more) (far_none p ds)
           ∙ append-nil (far_calls out so_far);
       end_by = ap (λ (q : Pair). q.near) there;
@@ -206,11 +207,11 @@ moved Ue l a near far so_far x h g =
     let p : Pair = goes so_far out in
     let ds = deeds_in l Ue a.nb a.ue x in
     let r = acts Ue Nb l a.ue a.nb p.far p.near x refl h.ue h.nb g in
-    let there = goes_more out so_far (far_steps ds) ∙ far_goes p ds in
+    let there = walked_more pair_happens out so_far (steps_at Ue ds) ∙ goes_at Ue p ds in
     record {
-      calls_by = far_then so_far (far_steps ds) out
+      calls_by = far_then so_far (steps_at Ue ds) out
           ∙ ap (λ (more : List BearerCall). far_calls out so_far ++ more) (far_own p ds ∙ r.calls_are);
-      calls_off = near_then so_far (far_steps ds) out
+      calls_off = near_then so_far (steps_at Ue ds) out
           ∙ ap (λ (more : List BearerCall). near_calls out so_far ++ more) (near_none p ds)
           ∙ append-nil (near_calls out so_far);
       end_by = ap (λ (q : Pair). q.far) there;
@@ -267,11 +268,12 @@ short_sent : (from : Side) (l : ℕ) (a : Air) (near far : State) (so_far : List
     → AreShortIn (direction_from from) (um_pair_outset near far) (so_far ++ steps_in l a (act_at from x))
 short_sent Nb l a near far so_far x h =
     let ds = deeds_in l Nb a.ue a.nb x in
-    short_there (um_pair_outset near far) so_far (near_steps ds) h
+    short_there (um_pair_outset near far) so_far (steps_at Nb ds) h
     (sent_there (goes so_far (um_pair_outset near far)) ds)
 short_sent Ue l a near far so_far x h =
     let ds = deeds_in l Ue a.nb a.ue x in
-    short_back (um_pair_outset near far) so_far (far_steps ds) h (sent_back (goes so_far (um_pair_outset near far)) ds)
+    short_back (um_pair_outset near far) so_far (steps_at Ue ds) h
+    (sent_back (goes so_far (um_pair_outset near far)) ds)
 
 short_heard : (from : Side) (l : ℕ) (a : Air) (near far : State) (so_far : List PairStep) (x : Act)
     → AreShortIn (direction_from from) (um_pair_outset near far) so_far
@@ -281,11 +283,11 @@ short_heard : (from : Side) (l : ℕ) (a : Air) (near far : State) (so_far : Lis
     → AreShortIn (direction_from from) (um_pair_outset near far) (so_far ++ steps_in l a (act_at (other from) x))
 short_heard Nb l a near far so_far x h is_near =
     let ds = deeds_in l Ue a.nb a.ue x in
-    short_there (um_pair_outset near far) so_far (far_steps ds) h
+    short_there (um_pair_outset near far) so_far (steps_at Ue ds) h
     (heard_there (goes so_far (um_pair_outset near far)) ds is_near)
 short_heard Ue l a near far so_far x h is_near =
     let ds = deeds_in l Nb a.ue a.nb x in
-    short_back (um_pair_outset near far) so_far (near_steps ds) h
+    short_back (um_pair_outset near far) so_far (steps_at Nb ds) h
     (heard_back (goes so_far (um_pair_outset near far)) ds is_near)
 
 aged_carry : (l : ℕ) (d : _) (loads : List Load) → AllByRecursion (Carries l d) loads

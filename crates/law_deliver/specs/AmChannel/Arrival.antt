@@ -12,7 +12,7 @@ use Rattle.l2_types.specs.declared.side.Side.{Side}
 use Rattle.law_node.specs.Calls.{Call, Visits, Receive, Move, after}
 use Rattle.law_node.specs.Telling.{told_of}
 use Rattle.law_words.specs.Arrivals.{AccountEntry, Renews, Account, no_account, account}
-use Rattle.law_bearer.specs.AmBearer.Lives.{other}
+use Rattle.bearer_types.specs.Sides.{other}
 use Rattle.law_deliver.specs.AmFlow.Air.{Block, Air, built_at, outset}
 use Rattle.promises.specs.Pdus.{carried}
 use Rattle.promises.specs.Events.{told_on}

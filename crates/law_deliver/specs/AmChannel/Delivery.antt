@@ -20,7 +20,7 @@ use Rattle.law_node.specs.Bearers.{keys_in}
 use Rattle.law_node.specs.Calls.{Call, Add, Submit, SetDiscard, AreGiven, after, run_end, reached}
 use Rattle.law_node.specs.Holding.{flow}
 use Rattle.law_node.specs.Telling.{told_over}
-use Rattle.law_bearer.specs.AmBearer.Lives.{other}
+use Rattle.bearer_types.specs.Sides.{other}
 use Rattle.law_words.specs.Lists.{AreFirstSdus, IsSubsequence}
 use Rattle.law_deliver.specs.AmFlow.Air.{Air, HasCome, outset}
 use Rattle.law_deliver.specs.AmFlow.Channels.{calls_of}

@@ -11,7 +11,7 @@ use Rattle.l2_node.specs.Sums.{is_drained as end_drained}
 use Rattle.l2_types.specs.declared.side.Side.{Side}
 use Rattle.law_node.specs.Holding.{flow}
 use Rattle.law_node.specs.Telling.{told_over}
-use Rattle.law_bearer.specs.AmBearer.Lives.{other}
+use Rattle.bearer_types.specs.Sides.{other}
 use Rattle.law_deliver.specs.AmFlow.Air.{Air, outset}
 use Rattle.law_deliver.specs.AmChannel.Delivery.{AmEndsBeginAlike, ups_at, taken_at, submitted_at}
 use Rattle.law_deliver.specs.AmChannel.Delivery.{DiscardsNoneAt}

@@ -1,7 +1,7 @@
 -- Both ends of an acknowledged bearer in one life, and what is under way between them (TS 36.322
 -- 4.2.1.3). HARQ may lose what is under way, bring it late, in another order, and more than once;
 -- nothing else comes.
-use Rattle.std.specs.Prelude.{◌≡◌, ℕ, ◌+◌, ◌<◌, ◌≤◌, Bool, true, false, ◌||◌, List, [], ◌∷◌, ◌++◌}
+use Rattle.std.specs.Prelude.{◌≡◌, ℕ, ◌+◌, ◌<◌, ◌≤◌, Bool, true, false, ◌||◌, List, [], ◌++◌}
 use Rattle.std.specs.Prelude.{map, length, Option, Some, None, slice_get}
 use Rattle.std.specs.List.{AllByRecursion}
 use Rattle.rlc_pdu.specs.declared.outcome.Taken.{Taken}
@@ -16,6 +16,7 @@ use Rattle.law_bearer.specs.AnyBearer.Acknowledged.{offers_in, data_given}
 use Rattle.law_rlc.specs.AmPair.Flow.{Copy, copies_with, is_new, except}
 use Rattle.law_rlc.specs.AmPair.Given.{IsHeld}
 use Rattle.law_rlc.specs.AmPair.Given.{age_end}
+use Rattle.law_deliver.specs.Steps.{Ends, walked, AllGiven}
 
 -- a STATUS that may still come: its octets, and the TTIs since it was written
 pub record SentStatus : Type 0 where
@@ -30,9 +31,8 @@ pub record BearerEnd : Type 0 where
   pub reports : List SentStatus
   pub busy : Bool
 
-pub record Pair : Type 0 where
-  pub near : BearerEnd
-  pub far : BearerEnd
+abbrev pub Pair : Type 0
+Pair = Ends BearerEnd
 
 -- ---- what may happen
 
@@ -127,8 +127,7 @@ happens p (Far d) = record p { far = does p.near p.far d }
 happens p Passes = record { near = passed p.near; far = passed p.far }
 
 abbrev pub goes : List Step → Pair → Pair
-goes [] p = p
-goes (s ∷ ss) p = goes ss (happens p s)
+goes ss p = walked happens ss p
 
 abbrev pub begins : State → BearerEnd
 begins b = record { bearer = b; copies = []; reports = []; busy = false }
@@ -175,5 +174,4 @@ IsGiven p (Far d) = IsDone p.far d
 IsGiven p Passes = AllByRecursion IsYoung p.near.reports × AllByRecursion IsYoung p.far.reports
 
 abbrev pub AreGiven : Pair → List Step → Type 0
-AreGiven p [] = Unit {0}
-AreGiven p (s ∷ ss) = IsGiven p s × AreGiven (happens p s) ss
+AreGiven p ss = AllGiven happens IsGiven p ss

@@ -8,7 +8,7 @@ use Rattle.l2_types.specs.declared.side.Side.{Side}
 use Rattle.l2_types.specs.declared.side.Side.TheVariants.{Nb, Ue}
 use Rattle.law_node.specs.Calls.{Move}
 use Rattle.law_node.specs.Telling.{told_of, told_over}
-use Rattle.law_bearer.specs.AmBearer.Lives.{other}
+use Rattle.bearer_types.specs.Sides.{other}
 use Rattle.law_words.specs.Lists.{AreFirstSdus}
 use Rattle.law_words.specs.Passing.{Passing, nothing_told, with_passings}
 use Rattle.pdcp_pdu.specs.Kinds.{bits_of}

@@ -11,7 +11,7 @@ use Rattle.l2_num.specs.Ascending.{AreBetween}
 use Rattle.l2_types.specs.declared.Kind.TheVariants as kinds
 use Rattle.l2_types.specs.declared.side.Side.{Side}
 use Rattle.l2_types.specs.declared.side.Side.TheVariants.{Nb, Ue}
-use Rattle.law_bearer.specs.AmBearer.Lives.{other}
+use Rattle.bearer_types.specs.Sides.{other}
 use Rattle.law_deliver.specs.AmFlow.Air.{Air, outset}
 use Rattle.law_deliver.specs.AmChannel.Delivery.{HasBegun, ups_at, submitted_at, taken_at}
 use Rattle.law_deliver.specs.AmChannel.Lives.{AirStep, AreLiving}

@@ -17,15 +17,15 @@ use Rattle.law_bearer.specs.AnyBearer.Calls.{after}
 use Rattle.law_bearer.specs.AnyBearer.Stream.{takes, pdu_of}
 use Rattle.law_rlc.specs.AmPair.Flow.{Copy, copies_with, except}
 use Rattle.law_rlc.specs.AmPair.Given.{IsHeld}
+use Rattle.law_deliver.specs.Steps.{Ends, walked, AllGiven}
 
 -- the bearer at an end, and the PDUs that it wrote and that may still come to the other end
 pub record BearerEnd : Type 0 where
   pub bearer : State
   pub copies : List Copy
 
-pub record Pair : Type 0 where
-  pub near : BearerEnd
-  pub far : BearerEnd
+abbrev pub Pair : Type 0
+Pair = Ends BearerEnd
 
 -- ---- what may happen
 
@@ -85,8 +85,7 @@ happens p (Near d) = record p { near = does p.far p.near d }
 happens p (Far d) = record p { far = does p.near p.far d }
 
 abbrev pub goes : List Step → Pair → Pair
-goes [] p = p
-goes (s ∷ ss) p = goes ss (happens p s)
+goes ss p = walked happens ss p
 
 abbrev pub begins : State → BearerEnd
 begins b = record { bearer = b; copies = [] }
@@ -123,8 +122,7 @@ IsGiven p (Near d) = IsDone p.near d
 IsGiven p (Far d) = IsDone p.far d
 
 abbrev pub AreGiven : Pair → List Step → Type 0
-AreGiven p [] = Unit {0}
-AreGiven p (s ∷ ss) = IsGiven p s × AreGiven (happens p s) ss
+AreGiven p ss = AllGiven happens IsGiven p ss
 
 -- ---- losses are short
 

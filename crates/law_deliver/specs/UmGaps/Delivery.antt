@@ -1,7 +1,7 @@
 -- Where what happens to a flow tells no long losses, losses are short for RLC and for PDCP (TS
 -- 36.322 7.1, 7.2, TS 36.323 6.2.3).
 use Rattle.std.specs.Prelude.{◌≡◌, ℕ, ◌^◌, false, List}
-use Rattle.law_bearer.specs.AmBearer.Lives.{other}
+use Rattle.bearer_types.specs.Sides.{other}
 use Rattle.bearer_types.specs.declared.config.BearerConfig.{BearerConfig}
 use Rattle.law_deliver.specs.AmChannel.Delivery.{ups_at, submitted_at}
 use Rattle.law_deliver.specs.AmChannel.Lives.{AirStep, AreLiving}

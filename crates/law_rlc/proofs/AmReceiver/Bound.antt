@@ -158,65 +158,34 @@ expiry-bound (Some x) s ps base below above b =
       high,
     )
 
+-- a call keeps it, by what becomes of the bound, the mark and the window
+settled : (m : Marked) (c : Call) → Bounded m → (goes m c).base ≤ (goes m c).world.state.bound
+    → ((n : ℕ) → (goes m c).base ≤ n → n < (goes m c).world.state.bound → IsComplete (goes m c).world.kept n)
+    → (IsComplete (goes m c).world.kept (goes m c).world.state.bound → ⊥)
+    → MarkAbove (goes m c).world.state.mark (goes m c).base → (goes m c).base ≤ top (goes m c).world.state.window
+    → Bounded (goes m c)
+settled m c b from between here mark top = record {
+  keeps = happens-keeps m.world c b.keeps;
+  order = call-order m.world.state c b.order;
+  first = record { from = from; between = between; here = here };
+  mark = mark;
+  top = top;
+}
+
 pub goes-bounded : (m : Marked) (c : Call) → Bounded m → Bounded (goes m c)
 goes-bounded m (Arrive p) b =
     let r = landing-bound (landed m.world.state p) m.world.state p m.world.kept m.base
     (record { keeps = b.keeps; order = b.order; first = b.first; mark = b.mark; top = b.top }) in
-    record {
-      keeps = happens-keeps m.world (Arrive p) b.keeps;
-      order = call-order m.world.state (Arrive p) b.order;
-      first = record { from = r.0.from; between = r.0.between; here = r.0.here };
-      mark = r.1;
-      top = r.2;
-    }
+    settled m (Arrive p) b r.0.from r.0.between r.0.here r.1 r.2
 goes-bounded m ExpireReorder b =
     let r = expiry-bound m.world.state.mark m.world.state m.world.kept m.base b.order.mark b.mark
     (record { keeps = b.keeps; order = b.order; first = b.first; mark = b.mark; top = b.top }) in
-    record {
-      keeps = happens-keeps m.world ExpireReorder b.keeps;
-      order = call-order m.world.state ExpireReorder b.order;
-      first = record { from = r.0.from; between = r.0.between; here = r.0.here };
-      mark = r.1;
-      top = r.2;
-    }
-goes-bounded m Up b = record {
-  keeps = happens-keeps m.world Up b.keeps;
-  order = call-order m.world.state Up b.order;
-  first = record { from = b.first.from; between = b.first.between; here = b.first.here };
-  mark = b.mark;
-  top = b.top;
-}
-goes-bounded m Write b = record {
-  keeps = happens-keeps m.world Write b.keeps;
-  order = call-order m.world.state Write b.order;
-  first = record { from = b.first.from; between = b.first.between; here = b.first.here };
-  mark = b.mark;
-  top = b.top;
-}
-goes-bounded m ExpireProhibit b =
-    record {
-      keeps = happens-keeps m.world ExpireProhibit b.keeps;
-      order = call-order m.world.state ExpireProhibit b.order;
-      first = record { from = b.first.from; between = b.first.between; here = b.first.here };
-      mark = b.mark;
-      top = b.top;
-    }
-goes-bounded m TickReorder b =
-    record {
-      keeps = happens-keeps m.world TickReorder b.keeps;
-      order = call-order m.world.state TickReorder b.order;
-      first = record { from = b.first.from; between = b.first.between; here = b.first.here };
-      mark = b.mark;
-      top = b.top;
-    }
-goes-bounded m TickProhibit b =
-    record {
-      keeps = happens-keeps m.world TickProhibit b.keeps;
-      order = call-order m.world.state TickProhibit b.order;
-      first = record { from = b.first.from; between = b.first.between; here = b.first.here };
-      mark = b.mark;
-      top = b.top;
-    }
+    settled m ExpireReorder b r.0.from r.0.between r.0.here r.1 r.2
+goes-bounded m Up b = settled m Up b b.first.from b.first.between b.first.here b.mark b.top
+goes-bounded m Write b = settled m Write b b.first.from b.first.between b.first.here b.mark b.top
+goes-bounded m ExpireProhibit b = settled m ExpireProhibit b b.first.from b.first.between b.first.here b.mark b.top
+goes-bounded m TickReorder b = settled m TickReorder b b.first.from b.first.between b.first.here b.mark b.top
+goes-bounded m TickProhibit b = settled m TickProhibit b b.first.from b.first.between b.first.here b.mark b.top
 
 pub go-bounded : (calls : List Call) (m : Marked) → Bounded m → Bounded (go calls m)
 go-bounded [] m b = b

@@ -1,6 +1,6 @@
 use Rattle.air_run.specs.Run.{fresh}
 use Rattle.air_run.specs.Journal.{script}
-use Rattle.air_run.proofs.Final.{shown-is-final}
+use Rattle.line_player.proofs.Final.{shown-is-final}
 use Rattle.air_run.proofs.laws.shown_is_final.Goals as goal
 
 pub returns : goal.returns
