@@ -117,7 +117,7 @@ impl Cell {
         if !is_own(line) {
             return Err(refused(CellRefusal::NotHere));
         }
-        self.terminals[user as usize].step(self.alloc, user, line, text)
+        self.terminals[user as usize].step(user, line, text)
     }
 
     fn set_air(&mut self, user: u32, up: Outcome, down: Outcome)
@@ -139,7 +139,7 @@ impl Cell {
         let terminals = self.terminals.as_mut_slice();
         let up_grants = share(&up_wishes(terminals), users, first, up_total);
         let down_grants = share(&down_wishes(terminals), users, first, down_total);
-        run_tti(self.alloc, terminals, &up_grants, &down_grants, text)?;
+        run_tti(terminals, &up_grants, &down_grants, text)?;
         self.gone = gone;
         Ok(())
     }
@@ -184,7 +184,7 @@ impl Cell {
         ensures { IfOk result (λ text. text ≡ texts_of (last_entries 0 self.terminals)) }
     {
         let mut text = Bytes::new(self.alloc);
-        finish_all(self.alloc, self.terminals, &mut text)?;
+        finish_all(self.terminals, &mut text)?;
         Ok(text)
     }
 }

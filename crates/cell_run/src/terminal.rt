@@ -33,6 +33,8 @@ pub struct Terminal {
     up: Outcome,
     down: Outcome,
     lines: u32,
+    // The records of the line that is run.
+    records: SureSink,
 }
 
 impl Model for Terminal {
@@ -54,6 +56,7 @@ impl Terminal {
             up: ALL_OK,
             down: ALL_OK,
             lines: 0,
+            records: SureSink::new(alloc),
         }
     }
 
@@ -80,13 +83,7 @@ impl Terminal {
     }
 
     /// Runs a line of its own script, and adds the text of its records to that of the cell's line.
-    pub fn step(
-        &mut self,
-        alloc: Global,
-        user: u32,
-        line: &Line,
-        text: &mut Bytes,
-    ) -> Result<(), CellFault>
+    pub fn step(&mut self, user: u32, line: &Line, text: &mut Bytes) -> Result<(), CellFault>
         requires user { user < MOST_USERS }
         requires range { IsInRange line.now }
         ensures { Acts (own_step user line.now self.old) self.new text.old text.new result }
@@ -94,11 +91,11 @@ impl Terminal {
         let Some(number) = self.lines.checked_add(1) else {
             return Err(CellFault::NoMemory);
         };
-        let mut records = SureSink::new(alloc);
-        match self.run.step(number, line, &mut records) {
+        self.records.clear();
+        match self.run.step(number, line, &mut self.records) {
             Ok(()) => {
                 self.lines = number;
-                append_numbered(text, user, records.written())?;
+                append_numbered(text, user, self.records.written())?;
                 Ok(())
             }
             Err(StepFault::Refused(refusal)) => Err(CellFault::Refused(CellRule::Run(refusal))),
@@ -110,7 +107,6 @@ impl Terminal {
     /// Runs a TTI with these grants, in octets.
     pub fn tti(
         &mut self,
-        alloc: Global,
         user: u32,
         up_grant: u32,
         down_grant: u32,
@@ -129,7 +125,7 @@ impl Terminal {
             down_grant,
             down: self.down,
         };
-        match self.step(alloc, user, &line, text) {
+        match self.step(user, &line, text) {
             Ok(()) => Ok(()),
             Err(CellFault::NoMemory) => Err(NoMemory),
             // A TTI isn't refused.
@@ -138,12 +134,17 @@ impl Terminal {
     }
 
     /// Adds the text of its records at the end.
-    pub fn finish(self, alloc: Global, user: u32, text: &mut Bytes) -> Result<(), NoMemory>
+    pub fn finish(self, user: u32, text: &mut Bytes) -> Result<(), NoMemory>
         requires { user < MOST_USERS }
         ensures { OnOk result (text.new ≡ text.old ++ entry_text (last_entry user self)) }
     {
-        let mut records = SureSink::new(alloc);
-        match self.run.finish(&mut records) {
+        let Terminal {
+            run,
+            mut records,
+            ..
+        } = self;
+        records.clear();
+        match run.finish(&mut records) {
             Ok(()) => append_numbered(text, user, records.written()),
             Err(StepFault::NoMemory) => Err(NoMemory),
             Err(StepFault::Refused(_)) | Err(StepFault::WriteFault) => unreachable!(),

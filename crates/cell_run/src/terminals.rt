@@ -50,7 +50,6 @@ pub fn down_wishes(terminals: &[Terminal]) -> [u64; 8]
 
 /// Runs a TTI of all with these grants, in octets, and adds the text of its records.
 pub fn run_tti(
-    alloc: Global,
     terminals: &mut [Terminal],
     up_grants: &[u32; 8],
     down_grants: &[u32; 8],
@@ -66,19 +65,19 @@ pub fn run_tti(
 {
     for at in 0..terminals.len() {
         let user = at as u32;
-        terminals[at].tti(alloc, user, up_grants[at], down_grants[at], text)?;
+        terminals[at].tti(user, up_grants[at], down_grants[at], text)?;
     }
     Ok(())
 }
 
 /// Adds the text of the records at the end of all.
-pub fn finish_all(alloc: Global, terminals: Vec<Terminal>, text: &mut Bytes) -> Result<(), NoMemory>
+pub fn finish_all(terminals: Vec<Terminal>, text: &mut Bytes) -> Result<(), NoMemory>
     requires { length terminals.items ≤ MOST_USERS }
     ensures { OnOk result (text.new ≡ text.old ++ texts_of (last_entries 0 terminals.items)) }
 {
     let mut user = 0;
     for terminal in terminals {
-        terminal.finish(alloc, user, text)?;
+        terminal.finish(user, text)?;
         user += 1;
     }
     Ok(())

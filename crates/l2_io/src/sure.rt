@@ -103,7 +103,7 @@ impl SureSink {
     }
 
     /// Takes out all that was written, and keeps the memory for what comes.
-    pub(super) fn clear(&mut self)
+    pub fn clear(&mut self)
         ensures { self.new ≡ record self.old { octets = [] } }
     {
         self.octets.clear();
