@@ -1,6 +1,7 @@
 -- An item more at the end of a builder, and how much a block grows by it.
 use Rattle.std.proofs.Common.{◌≡◌, ℕ, ◌+◌, ◌≤◌, List, [], ◌∷◌, ◌++◌, length, map, refl, ap, ◌∙◌, sym, arith}
 use Rattle.std.proofs.Common.{append_assoc}
+use Rattle.std.proofs.lemmas.List.{append-nil}
 use Rattle.mac_pdu.specs.declared.item.Direction.{Direction}
 use Rattle.mac_pdu.specs.declared.item.Direction.TheVariants.{Down, Up}
 use Rattle.mac_pdu.specs.declared.item.Bsr.TheVariants as bsr
@@ -15,16 +16,12 @@ map_end : {A B : Type 0} (f : A → B) (xs : List A) (x : A) → map f (xs ++ x 
 map_end f [] x = refl
 map_end f (y ∷ xs) x = ap (λ (ys : List _). f y ∷ ys) (map_end f xs x)
 
-append_none : {A : Type 0} (xs : List A) → xs ++ [] ≡ xs
-append_none [] = refl
-append_none (x ∷ xs) = ap (λ (ys : List _). x ∷ ys) (append_none xs)
-
 pub one_control : (b : Parts) (c : Control) → b.sdus ≡ []
     → items_of (with_control c b) ≡ items_of b ++ element c ∷ []
 one_control b c none =
     rw none
-    (append_none (map element (b.controls ++ c ∷ [])) ∙ map_end element b.controls c
-    ∙ ap (λ (ps : List MacItem). ps ++ element c ∷ []) (sym (append_none (map element b.controls))))
+    (append-nil (map element (b.controls ++ c ∷ [])) ∙ map_end element b.controls c
+    ∙ ap (λ (ps : List MacItem). ps ++ element c ∷ []) (sym (append-nil (map element b.controls))))
 
 pub one_sdu : (b : Parts) (s : Sdu)
     → items_of (record b { sdus = b.sdus ++ s ∷ [] }) ≡ items_of b ++ sdu s.lcid s.octets ∷ []

@@ -1,3 +1,2 @@
 mod Blocks
 mod Elements
-mod Finished

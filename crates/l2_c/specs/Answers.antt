@@ -1,6 +1,6 @@
 -- The numbers that calls answer (include/zubhanit.h), as functions of their arguments.
 use Rattle.std.specs.Prelude.{ℕ, ◌&&◌, nat_lt, Bool, if◌then◌else◌, Result, Ok, Err}
-use Rattle.l2_c.specs.declared.answer.TheConstants.{DONE, RANGE, REFUSED, ROOM}
+use Rattle.c_answers.specs.declared.TheConstants.{DONE, RANGE, REFUSED, ROOM}
 
 -- so many things go into so much room
 abbrev pub room_answer : ℕ → ℕ → ℕ

@@ -2,4 +2,3 @@ pub mod Answers
 pub mod Mac
 pub mod Pdcp
 pub mod Rlc
-pub mod Texts

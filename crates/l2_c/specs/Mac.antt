@@ -16,12 +16,12 @@ use Rattle.mac_pdu.specs.Reading.{reading}
 use Rattle.mac_pdu.specs.Writing.{Parts, writing, items_of}
 use Rattle.l2_bits.specs.declared.limits.TheConstants.{OCTETS_LIMIT}
 use Rattle.l2_c.specs.Answers.{in_range, room_answer}
-use Rattle.l2_c.specs.declared.answer.TheConstants.{RANGE, REFUSED, NO_MEMORY, MOST_ITEMS}
+use Rattle.c_answers.specs.declared.TheConstants.{RANGE, REFUSED, NO_MEMORY}
 use Rattle.l2_c.specs.declared.mac.PlainItem.{PlainItem}
 use Rattle.l2_c.specs.declared.mac.PlainRefusal.{PlainRefusal}
 use Rattle.l2_c.specs.declared.mac.TheConstants.{FRONT, SDU, PADDING, CONTENTION, ADVANCE, DRX}
 use Rattle.l2_c.specs.declared.mac.TheConstants.{HEADROOM, CRNTI, TRUNCATED_REPORT, SHORT_REPORT}
-use Rattle.l2_c.specs.declared.mac.TheConstants.{LONG_REPORT}
+use Rattle.l2_c.specs.declared.mac.TheConstants.{LONG_REPORT, MOST_ITEMS}
 
 -- the direction of a number, where it is one
 abbrev pub way_of : ℕ → Option Direction

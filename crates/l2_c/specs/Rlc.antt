@@ -14,7 +14,7 @@ use Rattle.rlc_pdu.specs.Status.{status_size}
 use Rattle.rlc_pdu.specs.Writing.{umd_canonical, amd_canonical}
 use Rattle.l2_bits.specs.declared.limits.TheConstants.{OCTETS_LIMIT}
 use Rattle.l2_c.specs.Answers.{in_range, room_answer}
-use Rattle.l2_c.specs.declared.answer.TheConstants.{REFUSED}
+use Rattle.c_answers.specs.declared.TheConstants.{REFUSED}
 use Rattle.l2_c.specs.declared.mac.PlainRefusal.{PlainRefusal}
 use Rattle.l2_c.specs.declared.rlc.PlainRlc.{PlainRlc}
 use Rattle.l2_c.specs.declared.rlc.PlainElement.{PlainElement}

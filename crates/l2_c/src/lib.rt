@@ -1,7 +1,6 @@
-//! What C, C++ and Rust may call.
+//! The ciphers and codecs, as C, C++ and Rust may call them.
 #![tactic(auto)]
 
-mod answer;
 mod mac;
 mod mac_reading;
 mod mac_writing;
@@ -11,10 +10,8 @@ mod rlc_reading;
 mod rlc_writing;
 mod room;
 mod security;
-mod texts;
 
-pub use answer::{DONE, MOST_ITEMS, NO_MEMORY, RANGE, REFUSED, ROOM};
-pub use mac::{PlainItem, PlainRefusal};
+pub use mac::{MOST_ITEMS, PlainItem, PlainRefusal};
 pub use mac_reading::zubhanit_mac_read;
 pub use mac_writing::zubhanit_mac_write;
 pub use pdcp::{
@@ -25,4 +22,3 @@ pub use rlc::{PlainElement, PlainNack, PlainRlc};
 pub use rlc_reading::{zubhanit_am_read, zubhanit_umd_read};
 pub use rlc_writing::{zubhanit_amd_write, zubhanit_status_write, zubhanit_umd_write};
 pub use security::{zubhanit_eea2, zubhanit_eia2};
-pub use texts::{zubhanit_decode, zubhanit_run};

@@ -14,6 +14,9 @@ pub struct PlainRefusal {
     pub why: u32,
 }
 
+/// The most items of a block that is written.
+pub const MOST_ITEMS: usize = 4096;
+
 /// Padding in front.
 pub const FRONT: u32 = 0;
 

@@ -2,10 +2,10 @@ ghost use Rattle.std.specs.Prelude.{◌≡◌, ◌≤◌, length, map, take};
 ghost use Rattle.mac_pdu.specs.Grammar.{MacPdu};
 ghost use Rattle.mac_pdu.specs.Refusals.{MacRefused};
 ghost use Rattle.l2_c.specs.Mac.{way, item_seen, refusal_seen, mac_read_answer};
-ghost use Rattle.l2_c.specs.declared.answer.TheConstants.{DONE, REFUSED};
+ghost use Rattle.c_answers.specs.declared.TheConstants.{DONE, REFUSED};
 
-use crate::answer::{DONE, RANGE, REFUSED, ROOM};
 use crate::mac::{PlainItem, PlainRefusal, direction_of, item_shown, why_number};
+use c_answers::{DONE, RANGE, REFUSED, ROOM};
 use l2_bits::OCTETS_LIMIT;
 use mac_pdu::MacReader;
 

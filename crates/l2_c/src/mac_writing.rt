@@ -5,15 +5,15 @@ ghost use Rattle.mac_pdu.specs.Writing.{writing, items_of, canonical};
 ghost use Rattle.l2_c.specs.Answers.{in_range};
 ghost use Rattle.l2_c.specs.Mac.{item_seen, element_fits, control_found, sdu_fits, item_fits};
 ghost use Rattle.l2_c.specs.Mac.{Adds, Collects, mac_write_answer};
-ghost use Rattle.l2_c.specs.declared.answer.TheConstants.{DONE, ROOM, NO_MEMORY, MOST_ITEMS};
-ghost use Rattle.l2_c.specs.declared.mac.TheConstants.{SDU};
+ghost use Rattle.c_answers.specs.declared.TheConstants.{DONE, ROOM, NO_MEMORY};
+ghost use Rattle.l2_c.specs.declared.mac.TheConstants.{SDU, MOST_ITEMS};
 ghost use Rattle.l2_bits.specs.declared.limits.TheConstants.{OCTETS_LIMIT};
 
-use crate::answer::{DONE, MOST_ITEMS, NO_MEMORY, RANGE, ROOM};
 use crate::mac::{
-    ADVANCE, CONTENTION, CRNTI, DRX, HEADROOM, LONG_REPORT, PlainItem, SDU, SHORT_REPORT,
-    TRUNCATED_REPORT, direction_of,
+    ADVANCE, CONTENTION, CRNTI, DRX, HEADROOM, LONG_REPORT, MOST_ITEMS, PlainItem, SDU,
+    SHORT_REPORT, TRUNCATED_REPORT, direction_of,
 };
+use c_answers::{DONE, NO_MEMORY, RANGE, ROOM};
 use l2_bits::OCTETS_LIMIT;
 use mac_pdu::{Bsr, Control, Direction, MacBuilder, writing_grows};
 use std::alloc::Global;

@@ -5,11 +5,11 @@ ghost use Rattle.pdcp_pdu.specs.Refusals.{user_refusal, srb_refusal};
 ghost use Rattle.l2_c.specs.Pdcp.{user_seen, srb_seen, why_seen, refusal_seen, numbers};
 ghost use Rattle.l2_c.specs.Pdcp.{bitmap_fits, user_fits, user_read_answer, srb_read_answer};
 ghost use Rattle.l2_c.specs.Pdcp.{user_write_answer, srb_write_answer};
-ghost use Rattle.l2_c.specs.declared.answer.TheConstants.{DONE, REFUSED, ROOM, NO_MEMORY};
+ghost use Rattle.c_answers.specs.declared.TheConstants.{DONE, REFUSED, ROOM, NO_MEMORY};
 
-use crate::answer::{DONE, NO_MEMORY, RANGE, REFUSED};
 use crate::mac::PlainRefusal;
 use crate::room::put;
+use c_answers::{DONE, NO_MEMORY, RANGE, REFUSED};
 use l2_bits::{Bytes, NoMemory};
 use pdcp_pdu::{
     PdcpRefusal, PdcpWhy, User, read_srb, read_user, write_long_report, write_report, write_srb,

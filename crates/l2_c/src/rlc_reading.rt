@@ -2,14 +2,14 @@ ghost use Rattle.std.specs.Prelude.{◌≡◌, ◌≤◌, ◌⊎◌, Some, lengt
 ghost use Rattle.rlc_pdu.specs.Grammar.{IsUmdPdu, IsAmPdu};
 ghost use Rattle.rlc_pdu.specs.Refusals.{umd_refusal, am_refusal};
 ghost use Rattle.l2_c.specs.Rlc.{umd_seen, am_seen, refusal_seen, umd_read_answer, am_read_answer};
-ghost use Rattle.l2_c.specs.declared.answer.TheConstants.{DONE, REFUSED};
+ghost use Rattle.c_answers.specs.declared.TheConstants.{DONE, REFUSED};
 
-use crate::answer::{DONE, RANGE, REFUSED, ROOM};
 use crate::mac::PlainRefusal;
 use crate::rlc::{
     PlainElement, PlainNack, PlainRlc, STATUS, UMD, amd_shown, fill_elements, fill_nacks,
     refusal_shown,
 };
+use c_answers::{DONE, RANGE, REFUSED, ROOM};
 use l2_bits::OCTETS_LIMIT;
 use rlc_pdu::{AmPdu, read_am, read_umd};
 

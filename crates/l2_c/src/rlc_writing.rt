@@ -7,11 +7,11 @@ ghost use Rattle.rlc_pdu.specs.Writing.{umd_canonical, amd_canonical, status_wri
 ghost use Rattle.l2_c.specs.Rlc.{element_seen, nack_seen, umd_seen, amd_seen, elements_fit};
 ghost use Rattle.l2_c.specs.Rlc.{AreShort, nack_fits, nacks_fit, umd_fits, amd_fits, header_fits};
 ghost use Rattle.l2_c.specs.Rlc.{umd_write_answer, amd_write_answer, status_write_answer};
-ghost use Rattle.l2_c.specs.declared.answer.TheConstants.{DONE, ROOM, NO_MEMORY};
+ghost use Rattle.c_answers.specs.declared.TheConstants.{DONE, ROOM, NO_MEMORY};
 
-use crate::answer::{DONE, NO_MEMORY, RANGE};
 use crate::rlc::{AMD, PlainElement, PlainNack, PlainRlc, SEGMENT, UMD, segment_of};
 use crate::room::put;
+use c_answers::{DONE, NO_MEMORY, RANGE};
 use l2_bits::{Bytes, NoMemory, OCTETS_LIMIT};
 use rlc_pdu::{Nack, Nacks, Part, write_amd, write_status, write_umd};
 use std::alloc::Global;

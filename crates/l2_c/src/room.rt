@@ -1,8 +1,8 @@
 ghost use Rattle.std.specs.Prelude.{◌≡◌, ◌≢◌, ◌++◌, length, drop};
 ghost use Rattle.l2_c.specs.Answers.{room_answer};
-ghost use Rattle.l2_c.specs.declared.answer.TheConstants.{DONE};
+ghost use Rattle.c_answers.specs.declared.TheConstants.{DONE};
 
-use crate::answer::{DONE, ROOM};
+use c_answers::{DONE, ROOM};
 
 /// Writes octets to the front of a room, and tells how many there are.
 pub fn put(octets: &[u8], room: &mut [u8], size: &mut usize) -> u32

@@ -1,9 +1,9 @@
 ghost use Rattle.std.specs.Prelude.{◌≡◌, ◌≢◌};
 ghost use Rattle.eps_sec.specs.Modes.{eea2, eia2};
 ghost use Rattle.l2_c.specs.Answers.{stream_answer};
-ghost use Rattle.l2_c.specs.declared.answer.TheConstants.{DONE};
+ghost use Rattle.c_answers.specs.declared.TheConstants.{DONE};
 
-use crate::answer::{DONE, RANGE};
+use c_answers::{DONE, RANGE};
 use eps_sec::{Cipher, Key, Schedule, eea_apply, eia_tag};
 
 // What is answered of the place of a stream.

@@ -3,8 +3,12 @@
 //! References and slices are what the exports ask of their pointers, and `&mut` rules out that what is written overlaps.
 
 pub mod sys;
+#[cfg(feature = "texts")]
+mod texts;
 
 pub use sys::{MacItem, Nack, Octets, PdcpPdu, Refusal, RlcHeader};
+#[cfg(feature = "texts")]
+pub use texts::{decode, run, Played};
 
 /// Why a call did nothing.
 #[derive(Clone, Copy, Debug, PartialEq, Eq)]
@@ -122,52 +126,4 @@ pub fn pdcp_read(bits: u32, pdu: &[u8]) -> Result<PdcpPdu<'_>, Error> {
         sys::zubhanit_pdcp_user_read(bits, pdu.as_ptr(), pdu.len(), &mut fields, &mut refusal)
     };
     answered(answer, fields, refusal, 0)
-}
-
-/// What a text gives: its journal, and why it ends where a line is refused.
-#[derive(Clone, Debug, PartialEq, Eq)]
-pub struct Played {
-    pub journal: String,
-    pub refused: Option<String>,
-}
-
-type Play = unsafe extern "C" fn(
-    *const u8, usize, *mut u8, usize, *mut usize, *mut u8, usize, *mut usize,
-) -> u32;
-
-fn play(call: Play, text: &str) -> Result<Played, Error> {
-    let mut journal = vec![0; 1 << 16];
-    let mut message = [0; 64];
-    loop {
-        let (mut size, mut told) = (0, 0);
-        // SAFETY: as above; `call` is one of two exports.
-        let answer = unsafe {
-            call(
-                text.as_ptr(), text.len(), journal.as_mut_ptr(), journal.len(), &mut size, message.as_mut_ptr(),
-                message.len(), &mut told,
-            )
-        };
-        match answer {
-            sys::DONE | sys::REFUSED => {
-                journal.truncate(size);
-                let refused = String::from_utf8_lossy(&message[..told]).into_owned();
-                return Ok(Played {
-                    journal: String::from_utf8_lossy(&journal).into_owned(),
-                    refused: (answer == sys::REFUSED).then_some(refused),
-                });
-            }
-            sys::ROOM => journal.resize(size, 0),
-            _ => return Err(Error::NoMemory),
-        }
-    }
-}
-
-/// The journal of a script, as `l2 run` writes it.
-pub fn run(script: &str) -> Result<Played, Error> {
-    play(sys::zubhanit_run, script)
-}
-
-/// The blocks of a text, as `l2 decode` shows them.
-pub fn decode(blocks: &str) -> Result<Played, Error> {
-    play(sys::zubhanit_decode, blocks)
 }

@@ -128,10 +128,12 @@ extern "C" {
         bits: u32, fields: *const PdcpPdu<'_>, pdu: *mut u8, pdu_len: usize, size: *mut usize,
     ) -> u32;
     pub fn zubhanit_pdcp_srb_write(fields: *const PdcpPdu<'_>, pdu: *mut u8, pdu_len: usize, size: *mut usize) -> u32;
+    #[cfg(feature = "texts")]
     pub fn zubhanit_run(
         script: *const u8, script_len: usize, journal: *mut u8, journal_len: usize, size: *mut usize,
         message: *mut u8, message_len: usize, message_size: *mut usize,
     ) -> u32;
+    #[cfg(feature = "texts")]
     pub fn zubhanit_decode(
         blocks: *const u8, blocks_len: usize, journal: *mut u8, journal_len: usize, size: *mut usize,
         message: *mut u8, message_len: usize, message_size: *mut usize,

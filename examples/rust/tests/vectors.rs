@@ -83,6 +83,7 @@ fn tells_refusals() {
     assert_eq!(refused, Some(Error::Refused(Refusal { at: 0, why: 3 })));
 }
 
+#[cfg(feature = "texts")]
 #[test]
 fn plays_and_shows() {
     let played = run("bearer 0 tm\nsubmit nb 0 0a0b0c\ntti 0 ok 4 ok\n").unwrap();

@@ -1,3 +1,6 @@
+//! What the calls of the libraries for C answer (`include/zubhanit.h`).
+#![tactic(auto)]
+
 /// All is done.
 pub const DONE: u32 = 0;
 
@@ -12,6 +15,3 @@ pub const ROOM: u32 = 4;
 
 /// Memory ran out.
 pub const NO_MEMORY: u32 = 7;
-
-/// The most items of a block that is written.
-pub const MOST_ITEMS: usize = 4096;

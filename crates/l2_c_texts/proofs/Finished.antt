@@ -2,6 +2,7 @@
 use Rattle.std.proofs.Common.{◌≡◌, ◌≢◌, ◌⊎◌, ℕ, Bool, true, false, List, [], ◌∷◌, ◌++◌}
 use Rattle.std.proofs.Common.{Option, None, Some}
 use Rattle.std.proofs.Common.{refl, ap, ◌∙◌, arith, inl, inr, Result, Ok, Err, IfOk}
+use Rattle.std.proofs.lemmas.List.{append-nil}
 use Rattle.std.specs.Prelude.{codes}
 use Rattle.l2_bits.specs.declared.fault.NoMemory.{NoMemory}
 use Rattle.cli_words.specs.Commands.{command_of}
@@ -12,19 +13,15 @@ use Rattle.air_record.specs.declared.record.Record.{Record}
 use Rattle.air_run.specs.Journal.{RunPlayed, journal_of, script}
 use Rattle.air_run.specs.Refusals.{refusal_word}
 use Rattle.air_run.specs.declared.refusal.RunRefusal.{RunRefusal}
-use Rattle.air_run.proofs.Final.{shown-is-final}
+use Rattle.line_player.proofs.Final.{shown-is-final}
 use Rattle.l2_commands.specs.Journals.{blocks_of, showing}
 use Rattle.l2_commands.specs.Main.{Does, over}
 use Rattle.line_player.specs.Answers.{Runs, Row}
 use Rattle.line_player.specs.Journal.{Player, Waiting, journal_by}
 use Rattle.line_player.specs.declared.status.Status.{Status}
 use Rattle.line_player.specs.declared.status.Status.TheVariants as statuses
-use Rattle.l2_c.specs.declared.texts.Texts.{Texts}
-use Rattle.l2_c.specs.Texts.{nothing_put, held_by, Gives}
-
-append_none : (xs : List ℕ) → xs ++ [] ≡ xs
-append_none [] = refl
-append_none (x ∷ xs) = ap (λ (ys : List ℕ). x ∷ ys) (append_none xs)
+use Rattle.l2_c_texts.specs.declared.texts.Texts.{Texts}
+use Rattle.l2_c_texts.specs.Texts.{nothing_put, held_by, Gives}
 
 -- a count of 0 hasn't risen
 stays : HasRisen 0 0 → ⊥
@@ -39,7 +36,7 @@ whole_is m text given None whole e end shows = absurd cc
 whole_is m text given (Some left) true e end shows =
     let none : left ≡ [] = end refl in
     let same : text ≡ given ++ left = cc in
-    ap (λ (xs : List ℕ). journal_by m true xs) (same ∙ rw none (append_none given))
+    ap (λ (xs : List ℕ). journal_by m true xs) (same ∙ rw none (append-nil given))
 whole_is m text given (Some left) false e end shows =
     let same : text ≡ given ++ left = cc in
     ap (λ (xs : List ℕ). journal_by m true xs) same ∙ shown-is-final m true m.first 1 given left shows

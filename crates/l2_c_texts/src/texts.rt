@@ -1,15 +1,13 @@
-ghost use Rattle.std.specs.Prelude.{◌≡◌, ◌≢◌, ◌⊎◌, ◌++◌, ◌∷◌, [], true, ℕ, List, Option, Some};
-ghost use Rattle.std.specs.Prelude.{length, drop, IfOk};
+ghost use Rattle.std.specs.Prelude.{◌≡◌, ◌⊎◌, ◌∷◌, [], true, ℕ, List, Option, Some, length, IfOk};
 ghost use Rattle.cli_words.specs.Commands.{command_of};
-ghost use Rattle.air_record.specs.Text.{texts_of};
 ghost use Rattle.l2_commands.specs.Main.{Does, over};
 ghost use Rattle.air_run.specs.Journal.{journal_of};
 ghost use Rattle.l2_commands.specs.Journals.{blocks_of};
-ghost use Rattle.l2_c.specs.Texts.{nothing_put, held_by, Gives, message_of, status_answer};
-ghost use Rattle.l2_c.specs.Texts.{left_answer, play_answer};
-ghost use Rattle.l2_c.specs.declared.answer.TheConstants.{DONE, REFUSED, ROOM, NO_MEMORY};
+ghost use Rattle.l2_c_texts.specs.Texts.{nothing_put, held_by, Gives, status_answer};
+ghost use Rattle.l2_c_texts.specs.Texts.{left_answer, Puts, Plays};
+ghost use Rattle.c_answers.specs.declared.TheConstants.{NO_MEMORY};
 
-use crate::answer::{DONE, NO_MEMORY, REFUSED, ROOM};
+use c_answers::{DONE, NO_MEMORY, REFUSED, ROOM};
 use l2_bits::NoMemory;
 use l2_commands::{Status, Words, run_command};
 use l2_io::{SureSink, SureSource};
@@ -81,15 +79,10 @@ fn hand_over(
     ensures answer { result ≡ left_answer (status_answer texts.now.status)
         (length texts.now.journal.octets) (length texts.now.message.octets) (length journal.old)
         (length message.old) }
-    ensures journal { (result ≡ DONE) ⊎ (result ≡ REFUSED) → journal.new
-        ≡ texts.now.journal.octets ++ drop (length texts.now.journal.octets) journal.old }
-    ensures message { (result ≡ DONE) ⊎ (result ≡ REFUSED) → message.new
-        ≡ texts.now.message.octets ++ drop (length texts.now.message.octets) message.old }
-    ensures size { result ≢ NO_MEMORY → size.new ≡ length texts.now.journal.octets }
-    ensures message_size { result ≢ NO_MEMORY
-        → message_size.new ≡ length texts.now.message.octets }
-    ensures journal_kept { (result ≡ ROOM) ⊎ (result ≡ NO_MEMORY) → journal.new ≡ journal.old }
-    ensures message_kept { (result ≡ ROOM) ⊎ (result ≡ NO_MEMORY) → message.new ≡ message.old }
+    ensures journal { Puts texts.now.journal.octets result
+        journal.old journal.new size.new }
+    ensures message { Puts texts.now.message.octets result
+        message.old message.new message_size.new }
 {
     let answer = status_answer(texts.status);
     if answer == NO_MEMORY {
@@ -122,19 +115,8 @@ pub extern "C" fn zubhanit_run(
     message: &mut [u8],
     message_size: &mut usize,
 ) -> u32
-    ensures answer { (result ≡ NO_MEMORY)
-        ⊎ (result ≡ play_answer (journal_of true script.now) (length journal.old)
-        (length message.old)) }
-    ensures journal { (result ≡ DONE) ⊎ (result ≡ REFUSED) → journal.new
-        ≡ texts_of (journal_of true script.now).journal ++ drop size.new journal.old }
-    ensures message { (result ≡ DONE) ⊎ (result ≡ REFUSED) → message.new
-        ≡ message_of (journal_of true script.now).close ++ drop message_size.new message.old }
-    ensures size { result ≢ NO_MEMORY
-        → size.new ≡ length (texts_of (journal_of true script.now).journal) }
-    ensures message_size { result ≢ NO_MEMORY
-        → message_size.new ≡ length (message_of (journal_of true script.now).close) }
-    ensures journal_kept { (result ≡ ROOM) ⊎ (result ≡ NO_MEMORY) → journal.new ≡ journal.old }
-    ensures message_kept { (result ≡ ROOM) ⊎ (result ≡ NO_MEMORY) → message.new ≡ message.old }
+    ensures { Plays (journal_of true script.now) result journal.old journal.new size.new
+        message.old message.new message_size.new }
 {
     *size = 0;
     *message_size = 0;
@@ -155,19 +137,8 @@ pub extern "C" fn zubhanit_decode(
     message: &mut [u8],
     message_size: &mut usize,
 ) -> u32
-    ensures answer { (result ≡ NO_MEMORY)
-        ⊎ (result ≡ play_answer (blocks_of true blocks.now) (length journal.old)
-        (length message.old)) }
-    ensures journal { (result ≡ DONE) ⊎ (result ≡ REFUSED) → journal.new
-        ≡ texts_of (blocks_of true blocks.now).journal ++ drop size.new journal.old }
-    ensures message { (result ≡ DONE) ⊎ (result ≡ REFUSED) → message.new
-        ≡ message_of (blocks_of true blocks.now).close ++ drop message_size.new message.old }
-    ensures size { result ≢ NO_MEMORY
-        → size.new ≡ length (texts_of (blocks_of true blocks.now).journal) }
-    ensures message_size { result ≢ NO_MEMORY
-        → message_size.new ≡ length (message_of (blocks_of true blocks.now).close) }
-    ensures journal_kept { (result ≡ ROOM) ⊎ (result ≡ NO_MEMORY) → journal.new ≡ journal.old }
-    ensures message_kept { (result ≡ ROOM) ⊎ (result ≡ NO_MEMORY) → message.new ≡ message.old }
+    ensures { Plays (blocks_of true blocks.now) result journal.old journal.new size.new
+        message.old message.new message_size.new }
 {
     *size = 0;
     *message_size = 0;

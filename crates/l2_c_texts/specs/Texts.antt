@@ -1,5 +1,6 @@
 -- What texts give that are played and shown (docs/formats/JOURNAL.md), and what calls answer.
-use Rattle.std.specs.Prelude.{◌≡◌, ◌==◌, ◌||◌, nat_lt, ℕ, List, [], length, Some, if◌then◌else◌}
+use Rattle.std.specs.Prelude.{◌≡◌, ◌≢◌, ◌⊎◌, ◌==◌, ◌||◌, ◌++◌, nat_lt, ℕ, List, []}
+use Rattle.std.specs.Prelude.{drop, length, Some, if◌then◌else◌}
 use Rattle.l2_io.specs.Machines.{Keeper}
 use Rattle.air_record.specs.Text.{texts_of}
 use Rattle.air_run.specs.Journal.{RunPlayed, RunClose}
@@ -9,7 +10,7 @@ use Rattle.line_player.specs.Journal.{Finished, Refused, Waiting}
 use Rattle.line_player.specs.Streams.{Output}
 use Rattle.line_player.specs.declared.status.Status.{Status}
 use Rattle.line_player.specs.declared.status.Status.TheVariants as statuses
-use Rattle.l2_c.specs.declared.answer.TheConstants.{DONE, REFUSED, ROOM, NO_MEMORY}
+use Rattle.c_answers.specs.declared.TheConstants.{DONE, REFUSED, ROOM, NO_MEMORY}
 
 -- a sink that doesn't fail, as a command sees it, and one that holds nothing
 abbrev pub held_by : Keeper → Output
@@ -56,3 +57,18 @@ left_answer answer size message_size room message_room = if answer == NO_MEMORY 
 abbrev pub play_answer : RunPlayed → ℕ → ℕ → ℕ
 play_answer played room message_room = left_answer (status_answer (status_of played.close))
     (length (texts_of played.journal)) (length (message_of played.close)) room message_room
+
+-- a text goes to the front of its room, what stood behind it stays, and its size is told; where
+-- there is too little room or memory nothing is put
+pub record Puts (text : List ℕ) (answer : ℕ) (room room' : List ℕ) (size : ℕ) : Type 0 where
+  pub put : (answer ≡ DONE) ⊎ (answer ≡ REFUSED) → room' ≡ text ++ drop (length text) room
+  pub told : answer ≢ NO_MEMORY → size ≡ length text
+  pub kept : (answer ≡ ROOM) ⊎ (answer ≡ NO_MEMORY) → room' ≡ room
+
+-- a whole text is played: what is answered, and what goes into both rooms
+pub record Plays (played : RunPlayed) (answer : ℕ) (journal journal' : List ℕ) (size : ℕ)
+    (message message' : List ℕ) (message_size : ℕ) : Type 0 where
+  pub answered : (answer ≡ NO_MEMORY)
+      ⊎ (answer ≡ play_answer played (length journal) (length message))
+  pub journal_put : Puts (texts_of played.journal) answer journal journal' size
+  pub message_put : Puts (message_of played.close) answer message message' message_size

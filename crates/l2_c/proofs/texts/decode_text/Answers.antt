@@ -1,5 +1,0 @@
-use Rattle.l2_c.proofs.Finished.{decode_given}
-use Rattle.l2_c.proofs.texts.decode_text.Goals as goal
-
-pub returns : goal.returns
-returns c = decode_given c.args.blocks.now c.command.result c.command.ensures

@@ -1,5 +1,0 @@
-use Rattle.l2_c.proofs.Finished.{run_given}
-use Rattle.l2_c.proofs.texts.run_text.Goals as goal
-
-pub returns : goal.returns
-returns c = run_given c.args.script.now c.command.result c.command.ensures
