@@ -1,3 +1,4 @@
 pub mod AnyCalls
 pub mod TwoEnds
 pub mod DrainTtis
+pub mod DrainRounds

@@ -4,5 +4,6 @@
 #![tactic(auto)]
 
 pub mod any_calls;
+pub mod drain_rounds;
 pub mod drain_ttis;
 pub mod two_ends;

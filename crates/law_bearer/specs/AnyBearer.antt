@@ -8,3 +8,4 @@ pub mod Places
 pub mod Ciphering
 pub mod Order
 pub mod Acknowledged
+pub mod Rounds

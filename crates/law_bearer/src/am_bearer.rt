@@ -1,18 +1,19 @@
-//! Laws of the calls of a bearer of acknowledged data: each is made of deeds that tie its four
-//! entities, PDCP's sender and receiver and RLC's sender and receiver, to each other. They speak of
-//! the definitions that `bearer` meets, and do nothing.
+//! Laws of the calls of an acknowledged bearer: each is made of deeds that tie its four entities,
+//! PDCP's sender and receiver and RLC's sender and receiver, to each other. They speak of the
+//! definitions that `bearer` meets, and do nothing.
 
-ghost use Rattle.law_bearer.specs.AmBearer.Calls.{CallsAreDeeds};
+ghost use Rattle.law_bearer.specs.AmBearer.Calls.{CallsAreDeeds, SignallingCallsAreDeeds};
 ghost use Rattle.law_bearer.specs.AmBearer.Sending.{DeedsAreItsCalls, TakesAreItsCalls};
 ghost use Rattle.law_bearer.specs.AmBearer.Lives.{RestartsAreDeeds, NothingIsLeftOver};
 ghost use Rattle.law_bearer.specs.AmBearer.Lives.{FirstLifeBegins, EndsBeginAlike};
 ghost use Rattle.law_bearer.specs.AmBearer.Lives.{DeedsKeepProtection, RestartsProtectAlike};
 
-/// Each call of a bearer of acknowledged data leaves just what its deeds leave, and hands up just
-/// what they hand up; where nothing was left over between the entities before it, nothing is behind
-/// it.
+/// Each call of an acknowledged bearer, of data or of signalling, leaves just what its deeds leave,
+/// and hands up just what they hand up; where nothing was left over between the entities before it,
+/// nothing is behind it.
 pub fn calls_are_deeds()
-    ensures { CallsAreDeeds }
+    ensures of_data { CallsAreDeeds }
+    ensures of_signalling { SignallingCallsAreDeeds }
 {}
 
 /// What deeds make of RLC's sender is what the calls of it make that stand in them; as a bearer

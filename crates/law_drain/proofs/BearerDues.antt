@@ -102,7 +102,7 @@ pdu_few (AmKind bits) p count text =
     most true = omega arith
     most false = omega arith
 
-abbrev octets_of : Option Next → ℕ
+abbrev pub octets_of : Option Next → ℕ
 octets_of None = 0
 octets_of (Some next) = length next.octets
 

@@ -25,6 +25,7 @@ use Rattle.law_bearer.specs.AmBearer.Deeds.{offered_next, confirms_first, hands_
 use Rattle.law_bearer.specs.AmBearer.Sending.{sends_at, sends_in}
 use Rattle.law_bearer.proofs.AmBearer.Sending.{in_then}
 use Rattle.law_drain.specs.Bearer.{bearer_dues, marks_behind, bearer_quiet, IsOfDrain, BearerQuietEnds}
+use Rattle.law_drain.specs.Done.{IsOfRlc}
 use Rattle.law_drain.specs.Dues.{dues}
 use Rattle.law_drain.specs.Offers.{has_offer, KeepsOffers}
 use Rattle.law_drain.specs.Quiet.{is_waiting, quiet}
@@ -32,7 +33,7 @@ use Rattle.law_drain.specs.Unsent.{unsent}
 use Rattle.law_drain.proofs.BearerCalls.{behind-along}
 use Rattle.law_drain.proofs.BearerDues.{spread, grows, capped, call-config, call-failed, deed-falls, deeds-fall}
 use Rattle.law_drain.proofs.BearerDues.{marks_at, marks_along, marks-then}
-use Rattle.law_drain.proofs.Calm.{IsTold, told-none, IsCalm, AreCalm, call-calm}
+use Rattle.law_drain.proofs.Calm.{told-none, IsCalm, AreCalm, call-calm}
 use Rattle.law_drain.proofs.Come.{HasCome, first-all, last-all, come-then}
 use Rattle.law_drain.proofs.FlowRound.{turns-quiet}
 use Rattle.law_drain.proofs.Offering.{offers_stay}
@@ -53,7 +54,7 @@ run-more : (xs : List Step) (x : Step) (s : Sending)
 run-more [] x s = refl
 run-more (y ∷ ys) x s = run-more ys x (goes s y)
 
-given-step : (s : Sending) (x : Step) → HasGiven s → HasGiven (goes s x)
+pub given-step : (s : Sending) (x : Step) → HasGiven s → HasGiven (goes s x)
 given-step s x h = record {
   kind = h.kind;
   p = h.p;
@@ -177,7 +178,7 @@ handed-calms : (sdus : List (List ℕ)) (b : State) (m : Marks) → KeepsOffers 
 handed-calms [] b m k = omega arith
 handed-calms (sdu ∷ sdus) b m k = heard-calms (heard b.pdcp.rx.kind sdu) b m k
 
-sends-calms : (b : State) (c : SenderCall) (m : Marks) → HasCome b.tx m → HasOctets c → IsTold c
+sends-calms : (b : State) (c : SenderCall) (m : Marks) → HasCome b.tx m → HasOctets c → IsOfRlc c
     → Calms b (does b (Sends c)) m (marks_after b.tx c m)
 sends-calms b c m h one told =
     subst

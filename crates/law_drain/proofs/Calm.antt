@@ -23,7 +23,7 @@ use Rattle.rlc_am_tx.specs.Machine.{heard as heard_status}
 use Rattle.rlc_am_rx.specs.Machine.{arrived as landed_in}
 use Rattle.law_rlc.specs.AmSender.Run.{Call as SenderCall, Offer, Take as Taking, Status, Tick as TickSender}
 use Rattle.law_rlc.specs.AmSender.Run.{Expire as ExpireSender, Settle, Confirm as HandOver}
-use Rattle.law_rlc.specs.AmReceiver.Run.{Write}
+use Rattle.law_rlc.specs.AmReceiver.Run.{Call as ReceiverCall, Write}
 use Rattle.bearer_pdcp.specs.Discarding.{after_tick as after_discards, tick_told}
 use Rattle.bearer_pdcp.specs.Ends.{Ends}
 use Rattle.bearer_pdcp.specs.Hearing.{applies}
@@ -37,22 +37,13 @@ use Rattle.law_bearer.specs.AmBearer.Calls.{only_if, deeds_of, hands_up, settles
 use Rattle.law_bearer.specs.AmBearer.Calls.{settles as settles_then, discards, expires}
 use Rattle.law_bearer.specs.AmBearer.Deeds.{Deed, Feeds, Sends, Confirms, Receives, HandsUp, Asks, Sets, does}
 use Rattle.law_bearer.specs.AmBearer.Deeds.{hears_one}
-use Rattle.law_drain.specs.Bearer.{submitted_in}
-use Rattle.law_drain.specs.Bearer.{IsOfDrain}
+use Rattle.law_drain.specs.Bearer.{submitted_in, IsOfDrain}
+use Rattle.law_drain.specs.Done.{IsOfRlc, IsOfLife}
 use Rattle.law_drain.specs.Dues.{offered_by}
 use Rattle.law_drain.specs.Unsent.{added_by}
 use Rattle.law_drain.proofs.BearerDues.{brought_at, brought_along}
 
 -- ---- which deeds add to it
-
-abbrev pub IsTold : SenderCall → Type 0
-IsTold (Offer sdu) = ⊥
-IsTold (Taking share held more) = Unit {0}
-IsTold (Status status) = Unit {0}
-IsTold TickSender = Unit {0}
-IsTold (ExpireSender more) = Unit {0}
-IsTold (Settle more) = Unit {0}
-IsTold HandOver = Unit {0}
 
 abbrev pub IsAsked : PdcpCall → Type 0
 IsAsked (Submits sdu) = ⊥
@@ -65,21 +56,21 @@ IsAsked Late = Unit {0}
 
 abbrev pub IsBare : Deed → Type 0
 IsBare Feeds = Unit {0}
-IsBare (Sends c) = IsTold c
+IsBare (Sends c) = IsOfRlc c
 IsBare Confirms = Unit {0}
 IsBare (Receives c) = Unit {0}
 IsBare HandsUp = Unit {0}
 IsBare (Asks c) = IsAsked c
 IsBare (Sets ttis) = Unit {0}
 
-pub told-none : (s : Sender) (c : SenderCall) → IsTold c → offered_by s c ≡ 0
+pub told-none : (s : Sender) (c : SenderCall) → IsOfRlc c → offered_by s c ≡ 0
 told-none s (Offer sdu) h = absurd h
 told-none s (Taking share held more) h = refl
 told-none s (Status status) h = refl
 told-none s TickSender h = refl
 told-none s (ExpireSender more) h = refl
 told-none s (Settle more) h = refl
-told-none s HandOver h = refl
+told-none s HandOver h = absurd h
 
 asked-none : (most : ℕ) (s : Sending) (c : PdcpCall) → IsAsked c → (most + 1) * added_by s c ≡ 0
 asked-none most s (Submits sdu) h = absurd h
@@ -124,8 +115,7 @@ if-all P false deed h = tt
 
 -- what holds of each deed that a call of a drain is, but of those of RLC's receiver
 pub record IsOfCalls (P : Deed → Type 0) : Type 0 where
-  pub feeds : P Feeds
-  pub sends : (c : SenderCall) → IsTold c → P (Sends c)
+  pub sends : (c : SenderCall) → IsOfRlc c → P (Sends c)
   pub confirms : P Confirms
   pub hands : P HandsUp
 
@@ -156,20 +146,20 @@ status-all P status b h = (
 )
 
 -- the bearer writes
-pub taking-all : (P : Deed → Type 0) (share : ℕ) (held : Option ℕ) (b : State) → IsOfCalls P → P (Receives Write)
-    → AllByRecursion P (deeds_of b (Take share held))
-taking-all P share held b h write =
+pub taking-all : (P : Deed → Type 0) (share : ℕ) (held : Option ℕ) (b : State) → IsOfCalls P → P Feeds
+    → P (Receives Write) → AllByRecursion P (deeds_of b (Take share held))
+taking-all P share held b h feeds write =
     then-all P (only_if (writes_status b.rx share) (Receives Write) ++ map (λ pdu. Feeds) (offers_in b share held))
     (Sends (Taking (data_size b share) held (has_more_behind b share held)) ∷ [])
     (then-all P (only_if (writes_status b.rx share) (Receives Write)) (map (λ pdu. Feeds) (offers_in b share held))
-    (if-all P (writes_status b.rx share) (Receives Write) write) (each-all P Feeds (offers_in b share held) h.feeds))
+    (if-all P (writes_status b.rx share) (Receives Write) write) (each-all P Feeds (offers_in b share held) feeds))
     (h.sends (Taking (data_size b share) held (has_more_behind b share held)) tt, tt)
 
 -- ---- the deeds of a drain, of which none asks PDCP for anything
 
 abbrev pub IsCalm : Deed → Type 0
 IsCalm Feeds = Unit {0}
-IsCalm (Sends c) = IsTold c
+IsCalm (Sends c) = IsOfRlc c
 IsCalm Confirms = Unit {0}
 IsCalm (Receives c) = Unit {0}
 IsCalm HandsUp = Unit {0}
@@ -180,7 +170,7 @@ abbrev pub AreCalm : List Deed → Type 0
 AreCalm deeds = AllByRecursion IsCalm deeds
 
 calm-calls : IsOfCalls IsCalm
-calm-calls = record { feeds = tt; sends = λ c told. told; confirms = tt; hands = tt }
+calm-calls = record { sends = λ c told. told; confirms = tt; hands = tt }
 
 expiring-calm : (clock : Clock) (b : State) → IsCalm (expires clock b)
 expiring-calm Poll b = tt
@@ -194,7 +184,7 @@ arriving-calm (Ok (Control status)) b = status-all IsCalm status b calm-calls
 
 pub call-calm : (b : State) (c : Call) → IsOfDrain c → AreCalm (deeds_of b c)
 call-calm b (Submit sdu) h = absurd h
-call-calm b (Take share held) h = taking-all IsCalm share held b calm-calls tt
+call-calm b (Take share held) h = taking-all IsCalm share held b calm-calls tt tt
 call-calm b (Arrive pdu) h = arriving-calm (am_at pdu) b
 call-calm b (Expire clock) h = (expiring-calm clock b, tt)
 call-calm b Tick h = absurd h
@@ -221,32 +211,66 @@ drain-none b c h = calm-none (deeds_of b c) b (call-calm b c h)
 
 -- ---- a TTI that begins
 
-ticking-bare : (clock : Clock) (b : State) → AreBare (ticks clock b)
-ticking-bare Poll b = (tt, if-all IsBare (has_ended Poll b) (expires Poll b) tt)
-ticking-bare Reorder b = (tt, if-all IsBare (has_ended Reorder b) (expires Reorder b) tt)
-ticking-bare Prohibit b = (tt, if-all IsBare (has_ended Prohibit b) (expires Prohibit b) tt)
+pub record IsOfTicks (P : Deed → Type 0) : Type 0 where
+  pub sends : (c : SenderCall) → IsOfRlc c → P (Sends c)
+  pub receives : (c : ReceiverCall) → P (Receives c)
+  pub ticks : P (Asks TickPdcp)
+  pub lates : P (Asks Late)
 
-discarding-bare : (told : List Event) (e : Ends) → AreBare (discards told e)
-discarding-bare told e = (
-  tt,
-  then-all IsBare (map (λ event. Asks Late) told) (only_if (nat_lt 0 (length told)) (settles_then (after_discards e)))
-      (each-all IsBare (Asks Late) told tt)
-      (if-all IsBare (nat_lt 0 (length told)) (settles_then (after_discards e)) tt),
+ticking-all : (P : Deed → Type 0) (clock : Clock) (b : State) → IsOfTicks P → AllByRecursion P (ticks clock b)
+ticking-all P Poll b h = (h.sends _ tt, if-all P (has_ended Poll b) (expires Poll b) (h.sends _ tt))
+ticking-all P Reorder b h = (h.receives _, if-all P (has_ended Reorder b) (expires Reorder b) (h.receives _))
+ticking-all P Prohibit b h = (h.receives _, if-all P (has_ended Prohibit b) (expires Prohibit b) (h.receives _))
+
+discarding-all : (P : Deed → Type 0) (told : List Event) (e : Ends) → IsOfTicks P → AllByRecursion P (discards told e)
+discarding-all P told e h = (
+  h.ticks,
+  then-all P (map (λ event. Asks Late) told) (only_if (nat_lt 0 (length told)) (settles_then (after_discards e)))
+      (each-all P (Asks Late) told h.lates)
+      (if-all P (nat_lt 0 (length told)) (settles_then (after_discards e)) (h.sends _ tt)),
 )
+
+pub tick-all : (P : Deed → Type 0) (b : State) → IsOfTicks P → AllByRecursion P (deeds_of b Tick)
+tick-all P b h =
+    then-all P ((ticks Poll b ++ ticks Reorder b) ++ ticks Prohibit b) (discards (tick_told b.pdcp) b.pdcp)
+    (then-all P (ticks Poll b ++ ticks Reorder b) (ticks Prohibit b)
+    (then-all P (ticks Poll b) (ticks Reorder b) (ticking-all P Poll b h) (ticking-all P Reorder b h))
+    (ticking-all P Prohibit b h))
+    (discarding-all P (tick_told b.pdcp) b.pdcp h)
+
+bare-ticks : IsOfTicks IsBare
+bare-ticks = record { sends = λ c told. told; receives = λ c. tt; ticks = tt; lates = tt }
 
 pub brought-in : (b : State) (c : Call) → brought_along (deeds_of b c) b ≤ submitted_in b c
 brought-in b (Submit sdu) = omega arith
 brought-in b (Take share held) = omega (arith, drain-none b (Take share held) tt)
 brought-in b (Arrive pdu) = omega (arith, drain-none b (Arrive pdu) tt)
 brought-in b (Expire clock) = omega (arith, drain-none b (Expire clock) tt)
-brought-in b Tick =
-    omega (
-      arith,
-      all-none (deeds_of b Tick) b
-          (then-all IsBare ((ticks Poll b ++ ticks Reorder b) ++ ticks Prohibit b) (discards (tick_told b.pdcp) b.pdcp)
-          (then-all IsBare (ticks Poll b ++ ticks Reorder b) (ticks Prohibit b)
-          (then-all IsBare (ticks Poll b) (ticks Reorder b) (ticking-bare Poll b) (ticking-bare Reorder b))
-          (ticking-bare Prohibit b))
-          (discarding-bare (tick_told b.pdcp) b.pdcp)),
-    )
+brought-in b Tick = omega (arith, all-none (deeds_of b Tick) b (tick-all IsBare b bare-ticks))
 brought-in b (SetDiscard ttis) = omega arith
+
+-- ---- all are those of a life
+
+life-calls : IsOfCalls IsOfLife
+life-calls = record { sends = λ c told. told; confirms = tt; hands = tt }
+
+life-ticks : IsOfTicks IsOfLife
+life-ticks = record { sends = λ c told. told; receives = λ c. tt; ticks = tt; lates = tt }
+
+arriving-life : (r : Result AcknowledgedPdu RlcRefusal) (b : State) → AllByRecursion IsOfLife (arrives r b)
+arriving-life (Err refused) b = tt
+arriving-life (Ok (Payload data')) b = (tt, handing-all IsOfLife (landed_in b.rx data').out.ready b.pdcp life-calls)
+arriving-life (Ok (Control status)) b = status-all IsOfLife status b life-calls
+
+expiring-life : (clock : Clock) (b : State) → IsOfLife (expires clock b)
+expiring-life Poll b = tt
+expiring-life Reorder b = tt
+expiring-life Prohibit b = tt
+
+pub call-life : (b : State) (c : Call) → AllByRecursion IsOfLife (deeds_of b c)
+call-life b (Submit sdu) = (tt, tt)
+call-life b (Take share held) = taking-all IsOfLife share held b life-calls tt tt
+call-life b (Arrive pdu) = arriving-life (am_at pdu) b
+call-life b (Expire clock) = (expiring-life clock b, tt)
+call-life b Tick = tick-all IsOfLife b life-ticks
+call-life b (SetDiscard ttis) = (tt, tt)

@@ -52,7 +52,7 @@ none-unacked [] [] place p a b = omega arith
 none-unacked [] (x ∷ xs) place p a b = absurd (omega (arith, b))
 none-unacked (x ∷ xs) sdus place p a b = absurd (omega (arith, a))
 
-run-follows : (calls : List Call) (w : World Marks) (g : Books) → Follows w.state g
+pub run-follows : (calls : List Call) (w : World Marks) (g : Books) → Follows w.state g
     → (h : Books) × Follows (run_am_sender marks_after calls w).state h
 run-follows [] w g f = (g, f)
 run-follows (c ∷ cs) w g f =
@@ -249,10 +249,10 @@ some-width Srb e = let no' : false ≡ true = e in cc
 some-width (Um bits) e = let no' : false ≡ true = e in cc
 some-width (Am bits) e = some-power (bits - 1)
 
-record NoOffers (owed : Option (List ℕ)) (again : List Given_sdu) (k : ℕ) (ws : List Waits) : Type 0 where
-  owes : is_some owed ≡ false
-  none : again ≡ []
-  few : 1 ≤ k → ws ≡ []
+pub record NoOffers (owed : Option (List ℕ)) (again : List Given_sdu) (k : ℕ) (ws : List Waits) : Type 0 where
+  pub owes : is_some owed ≡ false
+  pub none : again ≡ []
+  pub few : 1 ≤ k → ws ≡ []
 
 no-offers : (o : Option (List ℕ)) (again : List Given_sdu) (n k : ℕ) (ws : List Waits)
     → is_some (slice_get (owed_offers o ++ map again_offer again ++ new_offers n (take k ws)) 0) ≡ false
@@ -263,11 +263,11 @@ no-offers None [] n zero ws e = record { owes = refl; none = refl; few = λ le. 
 no-offers None [] n (suc k) [] e = record { owes = refl; none = refl; few = λ le. refl }
 no-offers None [] n (suc k) (w ∷ ws) e = let no' : true ≡ false = e in cc
 
-offers-none : (s : PdcpState) → has_offer s ≡ false → NoOffers s.owed s.again (s.bound - s.next) s.waiting
+pub offers-none : (s : PdcpState) → has_offer s ≡ false → NoOffers s.owed s.again (s.bound - s.next) s.waiting
 unfolding offers
 offers-none s e = no-offers s.owed s.again s.next (s.bound - s.next) s.waiting e
 
-left-none : (s : PdcpState) → s.given.entries ≡ [] → s.again ≡ [] → s.waiting ≡ [] → pdcp_left s ≡ 0
+pub left-none : (s : PdcpState) → s.given.entries ≡ [] → s.again ≡ [] → s.waiting ≡ [] → pdcp_left s ≡ 0
 unfolding pdcp_left
 left-none s a b c = rw (a, b, c) refl
 

@@ -232,6 +232,32 @@ heard-due w below most ns m k lt plain few = by h.acked (is_named w.base k ns) r
         (λ i i_in e. both (v i) (not (nat_lt k below))
         (sym (waits-are w below ns m k i lt ∙ rw (unacked, is) refl) ∙ e))
 
+-- ---- what is due of each PDU, before a STATUS and behind it, and of each that is left in the window
+
+module _ (w : TxWindow) (below most : ℕ) (ns : List Nack) (m : Marks) where
+  abbrev all : List Sent
+  all = heard_slots w below most ns
+
+  abbrev pub due_before : ℕ → ℕ
+  due_before k = pdu_dues most (slot_at w.slots k) (m.waits (w.base + k)) (m.namings (w.base + k))
+
+  abbrev pub due_behind : ℕ → ℕ
+  due_behind k = pdu_dues most (slot_at all k) (heard_waits w below ns m.waits (w.base + k))
+      (heard_namings w ns m (w.base + k))
+
+  abbrev pub due_left : ℕ → ℕ
+  due_left k = pdu_dues most (slot_at (drop (leading_acked all) all) k)
+      (heard_waits w below ns m.waits (w.base + leading_acked all + k))
+      (heard_namings w ns m (w.base + leading_acked all + k))
+
+  pub due_shifted : (k : ℕ) → due_left k ≡ due_behind (leading_acked all + k)
+  due_shifted k =
+      let e : w.base + leading_acked all + k ≡ w.base + (leading_acked all + k) = omega arith in
+      ap (λ (x : Sent). pdu_dues most x (heard_waits w below ns m.waits (w.base + leading_acked all + k))
+      (heard_namings w ns m (w.base + leading_acked all + k))) (slot-drop all (leading_acked all) k)
+      ∙ ap (λ (j : ℕ). pdu_dues most (slot_at all (leading_acked all + k)) (heard_waits w below ns m.waits j)
+      (heard_namings w ns m j)) e
+
 pub heard-dues : (w : TxWindow) (below most : ℕ) (ns : List Nack) (m : Marks) → Holds w m most
     → AreFew (heard_namings w ns m) most
     → window_dues most (advanced (record { base = w.base; slots = heard_slots w below most ns }))
@@ -241,7 +267,7 @@ heard-dues w below most ns m h few =
     let lead = leading-length all in
     let cut = length-drop (leading_acked all) all in
     let one = sum_below_le (length (drop (leading_acked all) all)) left (λ k. due (leading_acked all + k))
-    (λ k lt. omega (arith, shifted k)) in
+    (λ k lt. omega (arith, due_shifted w below most ns m k)) in
     let two = sum_below_drop (length (drop (leading_acked all) all)) (leading_acked all) due in
     let three = sum_below_le (length w.slots) due was
     (λ k lt. heard-due w below most ns m k lt (h.slots k lt).plain (few (w.base + k))) in
@@ -256,21 +282,10 @@ heard-dues w below most ns m h few =
     all = heard_slots w below most ns
 
     was : ℕ → ℕ
-    was k = pdu_dues most (slot_at w.slots k) (m.waits (w.base + k)) (m.namings (w.base + k))
+    was = due_before w below most ns m
 
     due : ℕ → ℕ
-    due k = pdu_dues most (slot_at all k) (heard_waits w below ns m.waits (w.base + k))
-        (heard_namings w ns m (w.base + k))
+    due = due_behind w below most ns m
 
     left : ℕ → ℕ
-    left k = pdu_dues most (slot_at (drop (leading_acked all) all) k)
-        (heard_waits w below ns m.waits (w.base + leading_acked all + k))
-        (heard_namings w ns m (w.base + leading_acked all + k))
-
-    shifted : (k : ℕ) → left k ≡ due (leading_acked all + k)
-    shifted k =
-        let e : w.base + leading_acked all + k ≡ w.base + (leading_acked all + k) = omega arith in
-        ap (λ (x : Sent). pdu_dues most x (heard_waits w below ns m.waits (w.base + leading_acked all + k))
-        (heard_namings w ns m (w.base + leading_acked all + k))) (slot-drop all (leading_acked all) k)
-        ∙ ap (λ (j : ℕ). pdu_dues most (slot_at all (leading_acked all + k)) (heard_waits w below ns m.waits j)
-        (heard_namings w ns m j)) e
+    left = due_left w below most ns m

@@ -114,7 +114,7 @@ IsMute (Asks c) = Unit {0}
 IsMute (Sets ttis) = Unit {0}
 
 mute-calls : IsOfCalls IsMute
-mute-calls = record { feeds = tt; sends = λ c told. tt; confirms = tt; hands = tt }
+mute-calls = record { sends = λ c told. tt; confirms = tt; hands = tt }
 
 pub record Brings (calls : List ReceiverCall) (data' : ℕ) : Type 0 where
   pub tti : AllByRecursion IsOfTti calls
@@ -159,7 +159,7 @@ arriving-brings (Ok (Control status)) b =
 call-brings : (b : State) (c : Call) → IsInTti c → Brings (hears_in (deeds_of b c) b) (data_of_call c)
 call-brings b (Submit sdu) h = absurd h
 call-brings b (Take share held) h =
-    mutes-bring (deeds_of b (Take share held)) b (taking-all IsMute share held b mute-calls (tt, refl))
+    mutes-bring (deeds_of b (Take share held)) b (taking-all IsMute share held b mute-calls tt (tt, refl))
 call-brings b (Arrive pdu) h = arriving-brings (am_at pdu) b
 call-brings b (Expire clock) h = absurd h
 call-brings b Tick h = absurd h

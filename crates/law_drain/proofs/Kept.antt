@@ -19,20 +19,20 @@ open_at [] k = false
 open_at (e ∷ es) zero = is_open e
 open_at (e ∷ es) (suc k) = open_at es k
 
-abbrev pub IsFront : List Entry → Type 0
-IsFront [] = Unit {0}
-IsFront (e ∷ es) = is_open e ≡ true
+abbrev pub BeginsOpen : List Entry → Type 0
+BeginsOpen [] = Unit {0}
+BeginsOpen (e ∷ es) = is_open e ≡ true
 
 -- so many were given, and of each place that RLC has told of nothing is open
 pub record Kept (g : Given) (offered : ℕ) (told : List ℕ) : Type 0 where
   pub many : g.gone + length g.entries ≡ offered
   pub closed' : (k : ℕ) → times (g.gone + k) told ≡ 1 → open_at g.entries k ≡ false
 
-pub trimmed-front : (es : List Entry) → IsFront (trimmed es)
+pub trimmed-front : (es : List Entry) → BeginsOpen (trimmed es)
 trimmed-front [] = tt
 trimmed-front (e ∷ es) = by (is_open e) refl (trimmed-front es)
   where
-    by : (b : Bool) → is_open e ≡ b → IsFront (trimmed es) → IsFront (if b then e ∷ es else trimmed es)
+    by : (b : Bool) → is_open e ≡ b → BeginsOpen (trimmed es) → BeginsOpen (if b then e ∷ es else trimmed es)
     by true q ih = q
     by false q ih = ih
 
@@ -93,7 +93,7 @@ kept-more g e offered told none h = record {
   ];
 }
 
-pub more-front : (es : List Entry) (e : Entry) → is_open e ≡ true → IsFront es → IsFront (es ++ e ∷ [])
+pub more-front : (es : List Entry) (e : Entry) → is_open e ≡ true → BeginsOpen es → BeginsOpen (es ++ e ∷ [])
 more-front [] e h f = h
 more-front (x ∷ xs) e h f = f
 

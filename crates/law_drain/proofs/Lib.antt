@@ -25,3 +25,13 @@ pub mod Done
 pub mod Kept
 pub mod Tied
 pub mod Resting
+pub mod Stilled
+pub mod Budget
+pub mod Texts
+pub mod Octets
+pub mod Ends
+pub mod Standing
+pub mod Signalling
+pub mod Others
+pub mod Channels
+pub mod Paying

@@ -47,7 +47,7 @@ pending-idle s e = rw e (by s.due)
     by true = omega arith
     by false = omega arith
 
-expired-top : (s : State) → IsAtTop (expired s)
+pub expired-top : (s : State) → IsAtTop (expired s)
 expired-top s = by s.mark refl
   where
     marked : (b : Bool) → ((if b then Some (top s.window) else None) ≡ None)
@@ -80,7 +80,7 @@ quiet-mark s (ExpireProhibit ∷ cs) h e = absurd h.0
 quiet-mark s (TickReorder ∷ cs) h e = absurd h.0
 quiet-mark s (TickProhibit ∷ cs) h e = absurd h.0
 
-quiet-due : (s : State) (cs : List Call) → AllByRecursion IsOfTti cs → data_in cs ≡ 0 → s.due ≡ false
+pub quiet-due : (s : State) (cs : List Call) → AllByRecursion IsOfTti cs → data_in cs ≡ 0 → s.due ≡ false
     → (after_calls s cs).due ≡ false
 quiet-due s [] h e n = n
 quiet-due s (Arrive pdu ∷ cs) h e n = absurd (omega (arith, e))

@@ -57,9 +57,9 @@ elements-some head size sdus h some fits =
 
 -- ---- unacknowledged mode
 
-gives : (s : Sender) (size : ℕ) → HaveOctets s.waiting.sdus → 0 < length s.waiting.sdus → head_of s.bits < size
+waiting-cut : (s : Sender) (size : ℕ) → HaveOctets s.waiting.sdus → 0 < length s.waiting.sdus → head_of s.bits < size
     → total (rest (head_of s.bits) size 0 0 s.waiting.sdus) + 1 ≤ total s.waiting.sdus
-gives s size h some fits =
+waiting-cut s size h some fits =
     omega (
       arith,
       rest_total (head_of s.bits) size 0 0 s.waiting.sdus,
@@ -100,7 +100,7 @@ pub unacknowledged_falls : UnacknowledgedFalls
 unfolding taken after_take
 unacknowledged_falls s size held h =
     turn-falls (turn s size held) s size
-    (λ e. let a = able s size held e in gives s size h a.0 a.1)
+    (λ e. let a = able s size held e in waiting-cut s size h a.0 a.1)
 
 -- ---- transparent mode
 

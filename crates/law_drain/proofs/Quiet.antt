@@ -33,6 +33,7 @@ use Rattle.law_drain.specs.Dues.{sum_below, waiting_of, pdu_dues, window_dues, d
 use Rattle.law_drain.specs.Quiet.{is_waiting, quiet, QuietEnds}
 use Rattle.law_drain.proofs.Sums.{sum_below_le, sum_below_less, sum_below_drop, waiting_of_less}
 use Rattle.law_drain.proofs.Heard.{heard-due, waits-are, heard-field, namings-are}
+use Rattle.law_drain.proofs.Heard.{due_before, due_behind, due_left, due_shifted}
 use Rattle.law_drain.proofs.Dues.{dues_fall, going-due, ended-due}
 use Rattle.law_rlc.proofs.AmSender.Expiries.{open-some, recalled-waits}
 use Rattle.law_drain.proofs.Full.{Guarded, guarded}
@@ -152,24 +153,13 @@ heard-less s below ns m k i h few lt i_in on still = by (heard_waits w below ns 
     all = heard_slots w below most ns
 
     was : ℕ → ℕ
-    was j = pdu_dues most (slot_at w.slots j) (m.waits (w.base + j)) (m.namings (w.base + j))
+    was = due_before w below most ns m
 
     due : ℕ → ℕ
-    due j = pdu_dues most (slot_at all j) (heard_waits w below ns m.waits (w.base + j))
-        (heard_namings w ns m (w.base + j))
+    due = due_behind w below most ns m
 
     left : ℕ → ℕ
-    left j = pdu_dues most (slot_at (drop (leading_acked all) all) j)
-        (heard_waits w below ns m.waits (w.base + leading_acked all + j))
-        (heard_namings w ns m (w.base + leading_acked all + j))
-
-    shifted : (j : ℕ) → left j ≡ due (leading_acked all + j)
-    shifted j =
-        let e : w.base + leading_acked all + j ≡ w.base + (leading_acked all + j) = omega arith in
-        ap (λ (x : Sent). pdu_dues most x (heard_waits w below ns m.waits (w.base + leading_acked all + j))
-        (heard_namings w ns m (w.base + leading_acked all + j))) (slot-drop all (leading_acked all) j)
-        ∙ ap (λ (n : ℕ). pdu_dues most (slot_at all (leading_acked all + j)) (heard_waits w below ns m.waits n)
-        (heard_namings w ns m n)) e
+    left = due_left w below most ns m
 
     fewer : (j : ℕ) → j < length w.slots → due j ≤ was j
     fewer j j_in = heard-due w below most ns m j j_in (h.slots j j_in).plain (few (w.base + j))
@@ -184,7 +174,7 @@ heard-less s below ns m k i h few lt i_in on still = by (heard_waits w below ns 
     moved : sum_below (length (drop (leading_acked all) all)) left
         ≤ sum_below (length (drop (leading_acked all) all)) (λ j. due (leading_acked all + j))
     moved = sum_below_le (length (drop (leading_acked all) all)) left (λ j. due (leading_acked all + j))
-        (λ j j_in. omega (arith, shifted j))
+        (λ j j_in. omega (arith, due_shifted w below most ns m j))
 
     -- it lies below VT(A) then
     is-below-base : heard_waits w below ns m.waits (w.base + k) i ≡ true → k < leading_acked all

@@ -13,12 +13,12 @@ use Rattle.law_drain.specs.Done.{HasSentAll, IdleIsDrained}
 use Rattle.law_drain.proofs.Idle.{none-more, data-none, idle, idle_is_quiet}
 use Rattle.law_drain.proofs.Tied.{sent_is_drained}
 
-failed-drained : (b : State) → b.tx.failed ≡ true → is_drained b ≡ true
+pub failed-drained : (b : State) → b.tx.failed ≡ true → is_drained b ≡ true
 unfolding is_drained
 failed-drained b e = rw e refl
 
 -- nothing is left to send or to take where the window is empty
-sent-all : (b : State) → need b None ≡ 0 → b.tx.failed ≡ false → b.tx.accounts.news ≡ []
+pub sent-all : (b : State) → need b None ≡ 0 → b.tx.failed ≡ false → b.tx.accounts.news ≡ []
     → length b.tx.window.slots ≡ 0 → HasSentAll b
 sent-all b none go told empty =
     let shut : is_shut b.tx ≡ false = grind (arith, nat_tests, empty) in

@@ -45,7 +45,7 @@ written-sent (c ∷ cs) b =
     let d = does_all (deeds_of b c) b in
     omega (arith, sent-in b c, written-sent cs d, sent-then (deeds_of b c) (deeds_along cs d) b)
 
-along-then : (xs ys : List Call) (b : State)
+pub along-then : (xs ys : List Call) (b : State)
     → deeds_along (xs ++ ys) b ≡ deeds_along xs b ++ deeds_along ys (behind xs b)
 along-then [] ys b = refl
 along-then (x ∷ xs) ys b =
@@ -53,7 +53,7 @@ along-then (x ∷ xs) ys b =
     ap (λ (l : List Deed). deeds_of b x ++ l) (along-then xs ys d)
     ∙ sym (append_assoc (deeds_of b x) (deeds_along xs d) (deeds_along ys (behind xs d)))
 
-behind-then : (xs ys : List Call) (b : State) → behind (xs ++ ys) b ≡ behind ys (behind xs b)
+pub behind-then : (xs ys : List Call) (b : State) → behind (xs ++ ys) b ≡ behind ys (behind xs b)
 behind-then [] ys b = refl
 behind-then (x ∷ xs) ys b = behind-then xs ys (does_all (deeds_of b x) b)
 

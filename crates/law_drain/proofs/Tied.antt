@@ -48,7 +48,7 @@ use Rattle.law_drain.specs.Done.{GivesAll, IsOfRlc, IsOfUsers, IsOfLife, nothing
 use Rattle.law_drain.proofs.BearerQuiet.{HasGiven, deeds-given}
 use Rattle.law_drain.proofs.Come.{first-all, last-all, both-all}
 use Rattle.law_drain.proofs.Done.{none-left, none-unacked, given_is_done, run-kind, start-kind}
-use Rattle.law_drain.proofs.Kept.{open_at, IsFront, Kept, trimmed-front, kept-settled, kept-more, more-front}
+use Rattle.law_drain.proofs.Kept.{open_at, BeginsOpen, Kept, trimmed-front, kept-settled, kept-more, more-front}
 use Rattle.law_drain.proofs.Kept.{kept-acked}
 use Rattle.law_drain.proofs.Kept.{kept-heard}
 
@@ -56,13 +56,13 @@ use Rattle.law_drain.proofs.Kept.{kept-heard}
 
 record Holds (s : PdcpState) (offered : ℕ) (told : List ℕ) : Type 0 where
   kept : Kept s.given offered told
-  front : IsFront s.given.entries
+  front : BeginsOpen s.given.entries
 
 holds-as : (s t : PdcpState) (offered : ℕ) (told : List ℕ) → t.given ≡ s.given → Holds s offered told
     → Holds t offered told
 holds-as s t offered told e h = record {
   kept = subst (λ (g : Given). Kept g offered told) (sym e) h.kept;
-  front = subst (λ (g : Given). IsFront g.entries) (sym e) h.front;
+  front = subst (λ (g : Given). BeginsOpen g.entries) (sym e) h.front;
 }
 
 some-new : (n : ℕ) (ws : List Waits) → is_some (slice_get (new_offers n ws) 0) ≡ true → 0 < length ws
@@ -401,10 +401,11 @@ none-kept (x ∷ xs) b g e t all none =
     let shut : open_at b.pdcp.tx.given.entries 0 ≡ false =
     t.holds.kept.closed' 0 (ap (λ (n : ℕ). times n g.given) at ∙ told) in
     let shut' : is_open x ≡ false = sym (ap (λ (ys : List Entry). open_at ys 0) e) ∙ shut in
-    let front : is_open x ≡ true = subst IsFront e t.holds.front in
+    let front : is_open x ≡ true = subst BeginsOpen e t.holds.front in
     let no' : true ≡ false = sym front ∙ shut' in cc
 
-is-drained : (b : State) → pdcp_left b.pdcp.tx ≡ 0 → rlc_left b.tx ≡ 0 → has_more b.pdcp ≡ false → is_drained b ≡ true
+pub is-drained : (b : State) → pdcp_left b.pdcp.tx ≡ 0 → rlc_left b.tx ≡ 0 → has_more b.pdcp ≡ false
+    → is_drained b ≡ true
 unfolding is_drained
 is-drained b one two none = rw (one, two, none) (last b.tx.failed)
   where
@@ -427,7 +428,7 @@ begins-tied b am none e = record {
   holds = record {
     kept = subst (λ (g : Given). Kept g 0 []) (sym none)
         (record { many = refl; closed' = λ k t. refl });
-    front = subst (λ (g : Given). IsFront g.entries) (sym none) tt;
+    front = subst (λ (g : Given). BeginsOpen g.entries) (sym none) tt;
   };
   am = am;
 }

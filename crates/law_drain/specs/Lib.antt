@@ -9,3 +9,9 @@ pub mod Flow
 pub mod Offers
 pub mod Round
 pub mod Done
+pub mod Budget
+pub mod Ends
+pub mod Signalling
+pub mod Others
+pub mod Channels
+pub mod Paying

@@ -4,7 +4,10 @@
 
 ghost use Rattle.law_drain.specs.Bearer.{BearerDuesFall, BearerQuietEnds};
 ghost use Rattle.law_drain.specs.Done.{IdleIsDrained, SentIsDrained};
+ghost use Rattle.law_drain.specs.Ends.{RoundsCostBoth};
+ghost use Rattle.law_drain.specs.Paying.{WritersPay};
 ghost use Rattle.law_drain.specs.Round.{FlowsCost};
+ghost use Rattle.law_drain.specs.Signalling.{IdleStandsDrained, SignallingKeepsNone};
 
 /// What a bearer may still send falls with each data PDU that it writes, by one or more, and rises
 /// with no call but the submission of an SDU: what PDCP gives to RLC, what PDUs come and which
@@ -28,6 +31,19 @@ pub fn flows_cost()
     ensures { FlowsCost }
 {}
 
+/// So in a round of a drain, in which each end hears at once just what the other writes, neither of
+/// the flows between both ends of a bearer rises, in this measure, and each falls by the data PDUs
+/// that its near end writes; and both ends stand as they did before.
+pub fn rounds_cost_both()
+    ensures { RoundsCostBoth }
+{}
+
+/// In each further round in which one of both ends writes a PDU, data or a STATUS, the flows in
+/// both directions together fall by one or more.
+pub fn writers_pay()
+    ensures { WritersPay }
+{}
+
 /// A bearer of acknowledged data of which RLC's window is empty, with nothing left to send or to
 /// take and no confirmation under way to PDCP, is drained: nothing at all is left in either
 /// sender.
@@ -39,4 +55,13 @@ pub fn sent_is_drained()
 /// for its poll timer.
 pub fn idle_is_drained()
     ensures { IdleIsDrained }
+{}
+
+/// PDCP of a signalling bearer keeps nothing of what it gave RLC, and COUNTs end below its bound:
+/// no call changes that, if none is submitted that it refuses. So any acknowledged bearer, of data
+/// or of signalling, that needs nothing of a grant is drained, or quiet and waits for its poll
+/// timer.
+pub fn idle_stands_drained()
+    ensures signalling { SignallingKeepsNone }
+    ensures any { IdleStandsDrained }
 {}

@@ -3,6 +3,7 @@
 #![tactic(auto)]
 
 pub mod am_bearer;
+pub mod channel;
 pub mod flow;
 pub mod grant;
 pub mod pdcp;

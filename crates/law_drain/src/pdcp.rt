@@ -1,5 +1,6 @@
 //! What a PDCP sender has still to give to RLC. The laws speak of the machine that `pdcp_tx` meets.
 
+ghost use Rattle.law_drain.specs.Budget.{UnsentIsLeft};
 ghost use Rattle.law_drain.specs.Done.{GivenIsDone};
 ghost use Rattle.law_drain.specs.Offers.{OffersStay};
 ghost use Rattle.law_drain.specs.Unsent.{UnsentFalls};
@@ -22,4 +23,10 @@ pub fn offers_stay()
 /// that may be taken, has nothing left at all: the bound on COUNTs holds nothing back then.
 pub fn given_is_done()
     ensures { GivenIsDone }
+{}
+
+/// What PDCP's sender has still to give is at most the own report, and the SDUs that aren't
+/// confirmed, with a header and a MAC-I for each.
+pub fn unsent_is_left()
+    ensures { UnsentIsLeft }
 {}

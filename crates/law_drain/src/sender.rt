@@ -1,6 +1,7 @@
 //! What an acknowledged sender may still send, and when it has nothing to send. The laws speak of
 //! the machine that `rlc_am_tx` meets.
 
+ghost use Rattle.law_drain.specs.Budget.{DuesAreLeft};
 ghost use Rattle.law_drain.specs.Done.{AcknowledgedIsDone};
 ghost use Rattle.law_drain.specs.Dues.{DuesFall};
 ghost use Rattle.law_drain.specs.Quiet.{QuietEnds};
@@ -23,4 +24,11 @@ pub fn quiet_ends()
 /// SDU that was offered is wholly acknowledged.
 pub fn acknowledged_is_done()
     ensures { AcknowledgedIsDone }
+{}
+
+/// What a sender owes is at most M + 1 times the octets that it was offered and that aren't wholly
+/// acknowledged, M being maxRetxThreshold: the octets of the window that aren't acknowledged and
+/// those that wait are such octets.
+pub fn dues_are_left()
+    ensures { DuesAreLeft }
 {}

@@ -152,7 +152,7 @@ down_by_goes mode New t o ndi l = goes_down mode New t o ndi (block_at t l.nb) l
 down_by_goes mode (Resend rv) t o ndi l = goes_down mode (Resend rv) t o ndi (block_at t l.nb) l
 down_by_goes mode Quiet t o ndi l = goes_resting mode l l (rests_unseen l l refl)
 
-downlink_goes : (mode : Mode) (t grant : ℕ) (o : Outcome) (l : Link) → Goes mode l (downlink t grant o l)
+pub downlink_goes : (mode : Mode) (t grant : ℕ) (o : Outcome) (l : Link) → Goes mode l (downlink t grant o l)
 unfolding downlink
 downlink_goes mode t grant o l =
     let order = down_order grant in

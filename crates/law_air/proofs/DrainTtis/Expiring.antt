@@ -157,7 +157,7 @@ record Stands (l : ℕ) (k : Link) : Type 0 where
 goes_none : (l : ℕ) (k : Link) → Stands l k → Goes l [] [] k k
 goes_none l k s = record { nb_is = refl; ue_is = refl; off = s.off; ready = s.ready }
 
-after_more : (cs ds : List Call) (f : Flow) → after_all f (cs ++ ds) ≡ after_all (after_all f cs) ds
+pub after_more : (cs ds : List Call) (f : Flow) → after_all f (cs ++ ds) ≡ after_all (after_all f cs) ds
 after_more [] ds f = refl
 after_more (c ∷ cs) ds f = after_more cs ds (after f c)
 

@@ -1,5 +1,5 @@
 -- What the bearers of a channel at both ends do as a block arrives in the TTI that builds it.
-use Rattle.std.proofs.Common.{◌≡◌, ◌≤◌, ℕ, ◌%◌, true, List, length, map, refl, ap, sym, subst, ◌∙◌}
+use Rattle.std.proofs.Common.{◌≡◌, ◌≤◌, ℕ, ◌%◌, Bool, true, List, length, map, refl, ap, sym, subst, ◌∙◌}
 use Rattle.std.specs.List.{AllByRecursion}
 use Rattle.air_link.specs.Downlink.{downlink}
 use Rattle.air_link.specs.Draining.{drain_tti}
@@ -64,12 +64,15 @@ pub record Ready (l : ℕ) (k : Link) : Type 0 where
   pub come : HaveCome k
   pub channel : HaveChannel l k
 
+pub come_both : (blocks : List Record) (k m : Link) → GoesOn blocks k m → HaveCome k → HaveCome m
+come_both blocks k m g h = record {
+  nb = come_on Nb g.more k.nb m.nb g.nb.by h.nb;
+  ue = come_on Ue g.more k.ue m.ue g.ue.by h.ue;
+}
+
 pub ready_on : (l : ℕ) (blocks : List Record) (k m : Link) → GoesOn blocks k m → Ready l k → Ready l m
 ready_on l blocks k m g r = record {
-  come = record {
-    nb = come_on Nb g.more k.nb m.nb g.nb.by r.come.nb;
-    ue = come_on Ue g.more k.ue m.ue g.ue.by r.come.ue;
-  };
+  come = come_both blocks k m g r.come;
   channel = (
     there_on Nb l g.more k.nb m.nb g.nb.by r.come.nb r.channel.0,
     there_on Ue l g.more k.ue m.ue g.ue.by r.come.ue r.channel.1,
@@ -141,12 +144,25 @@ both near far l t grant order from to from' to' same h k there here some most en
 
 -- ---- the whole
 
-pub bearers_hear : (steps : List Step) (grant : ℕ) (k : Link) (l : ℕ) → HaveEight (entities k)
+-- behind the downlink of the TTI
+abbrev pub after_down : ℕ → Link → Link
+after_down grant m = downlink m.ttis grant intact (grown m)
+
+-- the NDI of its uplink grant
+abbrev pub up_ndi : ℕ → Link → Bool
+up_ndi grant m = grant_ndi (loops (after_down grant m)).nb.receiver m.ttis
+
+pub record BothHear (l grant : ℕ) (m : Link) : Type 0 where
+  pub goes_down : TakesAndHears l m.ttis grant Free (grown m).nb (grown m).ue (after_down grant m).nb
+      (after_down grant m).ue
+  pub goes_up : TakesAndHears l m.ttis grant (Grant (up_ndi grant m)) (loops (after_down grant m)).ue
+      (loops (after_down grant m)).nb (drain_tti grant m).ue (drain_tti grant m).nb
+
+pub both_hear : (steps : List Step) (grant : ℕ) (k : Link) (l : ℕ) → HaveEight (entities k)
     → AllByRecursion IsGranted steps → 8 ≤ ttis steps → 1 ≤ grant → grant ≤ 9422 → HaveCome (goes steps k)
-    → HaveChannel l (goes steps k)
-    → BothTakeAndHear l (goes steps k).ttis grant (grown (goes steps k)) (drain_tti grant (goes steps k))
+    → HaveChannel l (goes steps k) → BothHear l grant (goes steps k)
 unfolding drain_tti
-bearers_hear steps grant k l eight granted many some most come channel =
+both_hear steps grant k l eight granted many some most come channel =
     let m = goes steps k in
     let t = m.ttis in
     let j = grown m in
@@ -163,8 +179,6 @@ bearers_hear steps grant k l eight granted many some most come channel =
     let at_d = ready_on l _ j d (downlink_goes t grant intact j most) at_j in
     let at_i = ready_on l _ d i (loops_rests d).goes at_d in
     record {
-      down = d;
-      ndi = ndi;
       goes_down =
           both Nb Ue l t grant Free j.nb j.ue d.nb d.ue refl at_j.come.nb at_j.come.ue at_j.channel.0 at_j.channel.1
           some most some (new_free j.nb.sender t clear.down)
@@ -174,3 +188,12 @@ bearers_hear steps grant k l eight granted many some most come channel =
           at_i.come.nb at_i.channel.1 at_i.channel.0 some most some (new_granted i.ue.sender t ndi empty)
           (brings_up t grant i some (ap (λ (s : Sending). length s.processes) sender ∙ whole.ue_sends) empty);
     }
+
+pub bearers_hear : (steps : List Step) (grant : ℕ) (k : Link) (l : ℕ) → HaveEight (entities k)
+    → AllByRecursion IsGranted steps → 8 ≤ ttis steps → 1 ≤ grant → grant ≤ 9422 → HaveCome (goes steps k)
+    → HaveChannel l (goes steps k)
+    → BothTakeAndHear l (goes steps k).ttis grant (grown (goes steps k)) (drain_tti grant (goes steps k))
+bearers_hear steps grant k l eight granted many some most come channel =
+    let m = goes steps k in
+    let h = both_hear steps grant k l eight granted many some most come channel in
+    record { down = after_down grant m; ndi = up_ndi grant m; goes_down = h.goes_down; goes_up = h.goes_up }

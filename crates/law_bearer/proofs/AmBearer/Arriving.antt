@@ -1,8 +1,7 @@
 -- What comes to a bearer, as deeds.
 use Rattle.std.proofs.Common.{◌≡◌, ℕ, Bool, true, false, List, [], ◌∷◌, ◌++◌, drop, Result, Ok, Err, append-nil}
-use Rattle.std.proofs.Common.{append_assoc, subst, refl, ap, sym, ◌∙◌}
+use Rattle.std.proofs.Common.{append_assoc, subst, refl, ap, sym, ◌∙◌, inl, inr}
 use Rattle.bearer_types.specs.declared.Event.{Event}
-use Rattle.pdcp_pdu.specs.Kinds.{is_am}
 use Rattle.pdcp_rx.specs.declared.got.Cause.TheVariants.{Arrived}
 use Rattle.pdcp_rx.specs.State.{arrived as arrived_at}
 use Rattle.pdcp_tx.specs.State.{confirmed as confirmed_at}
@@ -28,8 +27,8 @@ use Rattle.law_bearer.specs.AmBearer.Deeds.{confirms_first, raised_first, hears_
 use Rattle.law_bearer.specs.AmBearer.Calls.{IsIdle, only_if, settles, hands_up, settles_by, confirms_all, arrives}
 use Rattle.law_bearer.specs.AmBearer.Calls.{ups_among}
 use Rattle.law_bearer.proofs.AmBearer.Ups.{does_then, ups_then, none_then, AreQuiet, quiet_then, quiet_each, quiet_up}
-use Rattle.law_bearer.proofs.AmBearer.Hearing.{hears_one_as, hearing_ups}
-use Rattle.law_bearer.proofs.AmBearer.Keeping.{settled_news}
+use Rattle.law_bearer.proofs.AmBearer.Hearing.{IsHearing, hears_one_as, hearing_ups}
+use Rattle.law_bearer.proofs.AmBearer.Keeping.{settled_news, arrives_alike}
 
 -- ---- SDUs that RLC hands up
 
@@ -129,25 +128,29 @@ settled_pdcp : (a : Bool) (w : Work) → (settled_if a w).pdcp ≡ w.pdcp
 settled_pdcp true w = refl
 settled_pdcp false w = refl
 
-hears_as : (sdu : List ℕ) (w : Work) → is_am w.pdcp.kind ≡ true → w.pdcp.rx.ready ≡ []
+still_hearing : (sdu : List ℕ) (e : Ends) → IsHearing e → IsHearing (hears_one sdu e)
+still_hearing sdu e (inl am) = inl am
+still_hearing sdu e (inr srb) = inr ((arrives_alike e.rx sdu Arrived).kind ∙ srb)
+
+hears_as : (sdu : List ℕ) (w : Work) → IsHearing w.pdcp → w.pdcp.rx.ready ≡ []
     → settled_if (applies sdu Arrived w.pdcp) (one_heard sdu (heard_told sdu Arrived w.pdcp) w) ≡ hears sdu w
-hears_as sdu w am q =
+hears_as sdu w k q =
     ap (λ (e : Ends). settled_if (applies sdu Arrived w.pdcp)
-    (work e w.tx (w.events ++ heard_told sdu Arrived w.pdcp))) (sym (hears_one_as sdu w.pdcp am q))
+    (work e w.tx (w.events ++ heard_told sdu Arrived w.pdcp))) (sym (hears_one_as sdu w.pdcp k q))
 
 all_handed_up : (sdus : List (List ℕ)) (w : Work) (b : State) (r : Receiver) → r.out.ready ≡ sdus
-    → is_am w.pdcp.kind ≡ true → w.pdcp.rx.ready ≡ [] → Handed sdus w b r
-all_handed_up [] w b r q am e = none_handed w b r q e
-all_handed_up (sdu ∷ sdus) w b r q am e =
+    → IsHearing w.pdcp → w.pdcp.rx.ready ≡ [] → Handed sdus w b r
+all_handed_up [] w b r q k e = none_handed w b r q e
+all_handed_up (sdu ∷ sdus) w b r q k e =
     let a = applies sdu Arrived w.pdcp in
     let told = heard_told sdu Arrived w.pdcp in
     let v : Work = settled_if a (one_heard sdu told w) in
     let next : v.pdcp ≡ hears_one sdu w.pdcp = settled_pdcp a (one_heard sdu told w) in
     let rest : Handed sdus v b (taken r) =
     all_handed_up sdus v b (taken r) (ap (λ (l : List (List ℕ)). drop 1 l) q)
-    (ap (λ (x : Ends). is_am x.kind) next ∙ am) (ap (λ (x : Ends). x.rx.ready) next) in
-    let more = more_handed a sdu sdus told w b r q (hearing_ups sdu Arrived w.pdcp am e) rest in
-    let same : v ≡ hears sdu w = hears_as sdu w am e in
+    (subst IsHearing (sym next) (still_hearing sdu w.pdcp k)) (ap (λ (x : Ends). x.rx.ready) next) in
+    let more = more_handed a sdu sdus told w b r q (hearing_ups sdu Arrived w.pdcp k e) rest in
+    let same : v ≡ hears sdu w = hears_as sdu w k e in
     record {
       left = more.0 ∙ ap (λ (x : Work). standing (hears_all sdus x) b (all_handed r)) same;
       ups = more.1 ∙ ap (λ (x : Work). ups_among (hears_all sdus x).events) same;
@@ -227,12 +230,12 @@ landed_none lcid Repeat t = refl
 landed_none lcid Outside t = refl
 landed_none lcid Clash t = refl
 
-data_comes : (p : AmdPdu) (b : State) → is_am b.pdcp.kind ≡ true → IsIdle b → Comes (Ok (Payload p)) b
-data_comes p b am idle =
+data_comes : (p : AmdPdu) (b : State) → IsHearing b.pdcp → IsIdle b → Comes (Ok (Payload p)) b
+data_comes p b k idle =
     let told = landed_told b.pdcp.lcid (landed b.rx p) (turned b.rx p) in
     let w : Work = work b.pdcp b.tx told in
     let r : Receiver = arrived b.rx p in
-    let h : Handed r.out.ready w b r = all_handed_up r.out.ready w b r refl am idle.raised in
+    let h : Handed r.out.ready w b r = all_handed_up r.out.ready w b r refl k idle.raised in
     record {
       left = h.left;
       ups = ap (λ l. l ++ go_up (hands_up r.out.ready b.pdcp) (standing w b r))
@@ -262,7 +265,7 @@ status_comes p b idle =
       };
     }
 
-pub comes : (r : Result AcknowledgedPdu RlcRefusal) (b : State) → is_am b.pdcp.kind ≡ true → IsIdle b → Comes r b
-comes (Err refused) b am idle = record { left = refl; ups = refl; idle = idle }
-comes (Ok (Payload p)) b am idle = data_comes p b am idle
-comes (Ok (Control p)) b am idle = status_comes p b idle
+pub comes : (r : Result AcknowledgedPdu RlcRefusal) (b : State) → IsHearing b.pdcp → IsIdle b → Comes r b
+comes (Err refused) b k idle = record { left = refl; ups = refl; idle = idle }
+comes (Ok (Payload p)) b k idle = data_comes p b k idle
+comes (Ok (Control p)) b k idle = status_comes p b idle

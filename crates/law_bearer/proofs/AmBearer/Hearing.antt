@@ -1,16 +1,22 @@
 -- An SDU of RLC comes to PDCP.
 use Rattle.std.proofs.Common.{◌≡◌, ℕ, ◌+◌, ◌^◌, Bool, true, false, ◌&&◌, ◌||◌, if◌then◌else◌, nat_le, List, [], ◌∷◌}
-use Rattle.std.proofs.Common.{◌++◌, Option, Some, None, append-nil, subst, refl, ap, sym, ◌∙◌}
+use Rattle.std.proofs.Common.{◌++◌, Option, Some, None, Result, Ok, Err, append-nil, subst, refl, ap, sym, ◌∙◌}
+use Rattle.std.proofs.Common.{◌⊎◌, inl, inr}
 use Rattle.bearer_types.specs.declared.Event.TheVariants as events
 use Rattle.l2_types.specs.declared.Lost.TheVariants as lost
+use Rattle.pdcp_pdu.specs.declared.PdcpKind.{PdcpKind}
+use Rattle.pdcp_pdu.specs.declared.PdcpKind.TheVariants.{Srb as SrbKind}
+use Rattle.pdcp_pdu.specs.declared.PdcpRefusal.{PdcpRefusal}
 use Rattle.pdcp_pdu.specs.Kinds.{is_am}
+use Rattle.pdcp_pdu.specs.Pdus.{SrbPdu}
+use Rattle.pdcp_pdu.specs.Reading.{srb_at}
 use Rattle.pdcp_rx.specs.declared.got.Cause.{Cause}
 use Rattle.pdcp_rx.specs.declared.got.Cause.TheVariants.{Arrived, Reestablished}
 use Rattle.pdcp_rx.specs.declared.got.Got.{Got}
 use Rattle.pdcp_rx.specs.declared.got.Got.TheVariants as answers
 use Rattle.pdcp_rx.specs.declared.security.Opened.{Opened}
 use Rattle.pdcp_rx.specs.declared.security.Opened.TheVariants.{Sdu, Differs}
-use Rattle.pdcp_rx.specs.Heard.{Heard, Bad, Told, Data, heard}
+use Rattle.pdcp_rx.specs.Heard.{Heard, Bad, Told, Data, heard, heard_srb}
 use Rattle.pdcp_rx.specs.Held.{stored}
 use Rattle.pdcp_rx.specs.State.{State as Receiving, got, arrived, above, passed_over, opened_at, waits, raised}
 use Rattle.pdcp_rx.specs.State.{got_heard, got_data, got_opened, left_heard, left_data, left_opened, width}
@@ -130,7 +136,13 @@ told_comes Reestablished fms bitmap e am q = record {
   ups = report_told (is_applied e Reestablished fms) e.lcid ∙ sym q;
 }
 
-heard_comes : (cause : Cause) (h : Heard) (e : Ends) → is_am e.kind ≡ true → e.rx.ready ≡ []
+-- a report is for a bearer of acknowledged data
+abbrev IsForOne : Heard → Ends → Type 0
+IsForOne (Bad refusal) e = Unit {0}
+IsForOne (Told fms bitmap) e = is_am e.kind ≡ true
+IsForOne (Data sn body) e = Unit {0}
+
+heard_comes : (cause : Cause) (h : Heard) (e : Ends) → IsForOne h e → e.rx.ready ≡ []
     → Comes cause h (got_heard e.rx cause h) (left_heard e.rx cause h) e
 heard_comes cause (Bad refusal) e am q = dropped cause (Bad refusal) (answers.Unreadable refusal) e tt tt q
 heard_comes cause (Told fms bitmap) e am q = told_comes cause fms bitmap e am q
@@ -141,20 +153,39 @@ heard_comes cause (Data sn body) e am q =
 
 -- ---- an SDU comes in a life, and at its end
 
-pub hears_one_as : (sdu : List ℕ) (e : Ends) → is_am e.kind ≡ true → e.rx.ready ≡ []
+-- to a bearer of acknowledged data, or of signalling, where none is read as a report
+abbrev pub IsHearing : Ends → Type 0
+IsHearing e = (is_am e.kind ≡ true) ⊎ (e.rx.kind ≡ SrbKind)
+
+for_data : (h : Heard) (e : Ends) → is_am e.kind ≡ true → IsForOne h e
+for_data (Bad refusal) e am = tt
+for_data (Told fms bitmap) e am = am
+for_data (Data sn body) e am = tt
+
+for_signalling : (pdu : List ℕ) (r : Result SrbPdu PdcpRefusal) (e : Ends) → IsForOne (heard_srb pdu r) e
+for_signalling pdu (Ok srb) e = tt
+for_signalling pdu (Err refusal) e = tt
+
+for_one : (sdu : List ℕ) (e : Ends) → IsHearing e → IsForOne (heard e.rx.kind sdu) e
+unfolding heard
+for_one sdu e (inl am) = for_data (heard e.rx.kind sdu) e am
+for_one sdu e (inr srb) =
+    subst (λ (kind : PdcpKind). IsForOne (heard kind sdu) e) (sym srb) (for_signalling sdu (srb_at sdu) e)
+
+pub hears_one_as : (sdu : List ℕ) (e : Ends) → IsHearing e → e.rx.ready ≡ []
     → after_hearing sdu Arrived e ≡ hears_one sdu e
 unfolding after_hearing got arrived
-hears_one_as sdu e am q = (heard_comes Arrived (heard e.rx.kind sdu) e am q).left
+hears_one_as sdu e k q = (heard_comes Arrived (heard e.rx.kind sdu) e (for_one sdu e k) q).left
 
-pub hearing_ups : (sdu : List ℕ) (cause : Cause) (e : Ends) → is_am e.kind ≡ true → e.rx.ready ≡ []
+pub hearing_ups : (sdu : List ℕ) (cause : Cause) (e : Ends) → IsHearing e → e.rx.ready ≡ []
     → ups_among (heard_told sdu cause e) ≡ (arrived e.rx sdu cause).ready
 unfolding heard_told got arrived
-hearing_ups sdu cause e am q = (heard_comes cause (heard e.rx.kind sdu) e am q).ups
+hearing_ups sdu cause e k q = (heard_comes cause (heard e.rx.kind sdu) e (for_one sdu e k) q).ups
 
 pub closes_one : (sdu : List ℕ) (e : Ends) → is_am e.kind ≡ true → e.rx.ready ≡ []
     → after_hearing sdu Reestablished e ≡ record e { rx = all_raised (arrived e.rx sdu Reestablished) }
 unfolding after_hearing got arrived
-closes_one sdu e am q = (heard_comes Reestablished (heard e.rx.kind sdu) e am q).left
+closes_one sdu e am q = (heard_comes Reestablished (heard e.rx.kind sdu) e (for_one sdu e (inl am)) q).left
 
 -- ---- what was ready before stays ready, and nothing else depends on it
 

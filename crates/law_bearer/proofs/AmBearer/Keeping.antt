@@ -30,7 +30,7 @@ use Rattle.bearer.specs.Acknowledged.State.{State}
 use Rattle.law_bearer.proofs.AnyBearer.Sender.{took_same}
 use Rattle.law_bearer.specs.AmBearer.Deeds.{Deed, Feeds, Sends, Confirms, Receives, HandsUp, Asks, Sets, does, does_all}
 use Rattle.law_bearer.specs.AmBearer.Deeds.{offered_next, after_heard, confirms_first, hands_first}
-use Rattle.law_bearer.specs.AmBearer.Calls.{IsOfData, IsIdle}
+use Rattle.law_bearer.specs.AmBearer.Calls.{IsOfData, IsOfSignalling, IsIdle}
 use Rattle.law_bearer.specs.AmBearer.Lives.{KeepsProtection}
 use Rattle.law_bearer.proofs.AmBearer.Ups.{IsQuiet, AreQuiet}
 
@@ -134,11 +134,26 @@ pub deeds_keep_protection : (b : State) (deed : Deed) → KeepsProtection b (doe
 deeds_keep_protection b deed = let h = does_alike b deed in
     record { sending = h.tx.protection; receiving = h.rx.protection }
 
+pub kind_stays : (deeds : List Deed) (b : State) → (does_all deeds b).pdcp.tx.kind ≡ b.pdcp.tx.kind
+kind_stays [] b = refl
+kind_stays (deed ∷ deeds) b = kind_stays deeds (does b deed) ∙ (does_alike b deed).tx.kind
+
 pub data_stays : (bits : ℕ) (deeds : List Deed) (b : State) → IsOfData bits b → IsOfData bits (does_all deeds b)
 data_stays bits [] b h = h
 data_stays bits (deed ∷ deeds) b h =
     let one = does_alike b deed in
     data_stays bits deeds (does b deed)
+    (record {
+      kind = one.kind ∙ h.kind;
+      sending = one.tx.kind ∙ h.sending;
+      receiving = one.rx.kind ∙ h.receiving;
+    })
+
+pub signalling_stays : (deeds : List Deed) (b : State) → IsOfSignalling b → IsOfSignalling (does_all deeds b)
+signalling_stays [] b h = h
+signalling_stays (deed ∷ deeds) b h =
+    let one = does_alike b deed in
+    signalling_stays deeds (does b deed)
     (record {
       kind = one.kind ∙ h.kind;
       sending = one.tx.kind ∙ h.sending;

@@ -1,5 +1,6 @@
 -- The end of a life and the beginning of the next, and the first.
 use Rattle.std.proofs.Common.{◌≡◌, ℕ, Bool, true, List, [], ◌∷◌, ◌++◌, Some, refl, ap, sym, subst, ◌∙◌}
+use Rattle.std.proofs.Common.{inl}
 use Rattle.bearer_types.specs.declared.Event.{Event}
 use Rattle.bearer_types.specs.declared.BearerConfig.{BearerConfig}
 use Rattle.eps_sec.specs.declared.Keys.{Keys}
@@ -29,7 +30,8 @@ use Rattle.bearer.specs.Lives.{stopped, stopping, restarted}
 use Rattle.law_bearer.specs.AnyBearer.Calls.{Step, Calls, Restart, after, goes, run_bearer, reached}
 use Rattle.law_bearer.specs.AmBearer.Deeds.{does_all, all_raised}
 use Rattle.law_bearer.specs.AmBearer.Calls.{deeds_of, IsOfData, IsIdle, ups_among}
-use Rattle.law_bearer.specs.AmBearer.Lives.{closes, closed, restarts, RestartsAs, StandsIdle, AmPdcpBeginAlike, other}
+use Rattle.bearer_types.specs.Sides.{other}
+use Rattle.law_bearer.specs.AmBearer.Lives.{closes, closed, restarts, RestartsAs, StandsIdle, AmPdcpBeginAlike}
 use Rattle.law_bearer.specs.AmBearer.Lives.{BeginsAs, protection_at, AreProtectedAlike}
 use Rattle.law_bearer.proofs.AmBearer.Ups.{ups_then}
 use Rattle.law_bearer.proofs.AmBearer.Hearing.{none_ready, closes_one, hearing_ups, arrived_apart}
@@ -57,7 +59,7 @@ one_told : (sdu : List ℕ) (e : Ends) (r : Receiving) (told : List Event) → i
 one_told sdu e r told am q =
     ups_then told (heard_told sdu Reestablished (raised e r))
     ∙ ap (λ l. l ++ ups_among (heard_told sdu Reestablished (raised e r))) q
-    ∙ ap (λ l. r.ready ++ l) (hearing_ups sdu Reestablished (raised e r) am refl)
+    ∙ ap (λ l. r.ready ++ l) (hearing_ups sdu Reestablished (raised e r) (inl am) refl)
     ∙ ap (λ (x : Receiving). x.ready) (sym (arrived_apart r sdu Reestablished))
 
 all_close : (sdus : List (List ℕ)) (e : Ends) (r : Receiving) (told : List Event) → is_am e.kind ≡ true

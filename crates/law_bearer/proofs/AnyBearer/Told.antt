@@ -16,6 +16,7 @@ use Rattle.rlc_pdu.specs.declared.Taken.{Taken}
 use Rattle.rlc_pdu.specs.declared.Taken.TheVariants.{Piece, Idle, Small, Shut, Held, Stopped}
 use Rattle.rlc_pdu.specs.declared.RlcWhy.TheVariants.{Short}
 use Rattle.rlc_pdu.specs.Reading.{umd_at}
+use Rattle.l2_types.specs.declared.Waits.{Waits}
 use Rattle.l2_types.specs.declared.Waits.TheVariants as waits
 use Rattle.bearer_types.specs.declared.BearerConfig.{BearerConfig}
 use Rattle.eps_sec.specs.declared.Keys.{Keys}
@@ -49,6 +50,16 @@ tm_in lcid t = record {
   };
 }
   where
+    waits_in : (why : Waits)
+        → (many (a_take lcid) then maybe (a_data_pdu lcid or a_wait lcid)) (events.Wait lcid why ∷ [])
+    waits_in why = record {
+      first = [];
+      second = _;
+      told_are = refl;
+      is_first = many_none (a_take lcid);
+      is_second = inr (inr (why, refl));
+    }
+
     ends_in : (t : Taken) → (many (a_take lcid) then maybe (a_data_pdu lcid or a_wait lcid)) (tm_data_told lcid t)
     ends_in (Piece number first polled octets) = record {
       first = events.Take lcid None (length octets) ∷ [];
@@ -64,34 +75,10 @@ tm_in lcid t = record {
       is_first = many_none (a_take lcid);
       is_second = inl refl;
     }
-    ends_in Small = record {
-      first = [];
-      second = _;
-      told_are = refl;
-      is_first = many_none (a_take lcid);
-      is_second = inr (inr (waits.Small, refl));
-    }
-    ends_in Shut = record {
-      first = [];
-      second = _;
-      told_are = refl;
-      is_first = many_none (a_take lcid);
-      is_second = inr (inr (waits.Shut, refl));
-    }
-    ends_in Held = record {
-      first = [];
-      second = _;
-      told_are = refl;
-      is_first = many_none (a_take lcid);
-      is_second = inr (inr (waits.Held, refl));
-    }
-    ends_in Stopped = record {
-      first = [];
-      second = _;
-      told_are = refl;
-      is_first = many_none (a_take lcid);
-      is_second = inr (inr (waits.Stopped, refl));
-    }
+    ends_in Small = waits_in waits.Small
+    ends_in Shut = waits_in waits.Shut
+    ends_in Held = waits_in waits.Held
+    ends_in Stopped = waits_in waits.Stopped
 
 block_in : (lcid : ℕ) (f : Flow) (share : ℕ) (held : Option ℕ) → IsBetween lcid f
     → in_a_block lcid (told lcid f share held)

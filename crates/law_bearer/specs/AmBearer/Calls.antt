@@ -1,11 +1,12 @@
--- Which deeds each call of a bearer of acknowledged data is (TS 36.322 5.1.3, 5.2, TS 36.323 5.1).
+-- Which deeds each call of an acknowledged bearer is, of data or of signalling (TS 36.322 5.1.3,
+-- 5.2, TS 36.323 5.1).
 use Rattle.std.specs.Prelude.{◌≡◌, ℕ, Bool, true, false, List, [], ◌∷◌, ◌++◌, map, length, Option}
 use Rattle.std.specs.Prelude.{Result, Ok, Err, nat_lt}
 use Rattle.bearer_types.specs.declared.Event.{Event}
 use Rattle.bearer_types.specs.declared.Event.TheVariants as events
 use Rattle.l2_types.specs.declared.Clock.{Clock}
 use Rattle.l2_types.specs.declared.Clock.TheVariants.{Poll, Reorder, Prohibit}
-use Rattle.pdcp_pdu.specs.declared.PdcpKind.TheVariants.{Am as AmKind}
+use Rattle.pdcp_pdu.specs.declared.PdcpKind.TheVariants.{Am as AmKind, Srb as SrbKind}
 use Rattle.pdcp_rx.specs.declared.got.Cause.TheVariants.{Arrived}
 use Rattle.pdcp_tx.specs.Runs.{Submit as Submits, Tick as TickPdcp, Late}
 use Rattle.rlc_pdu.specs.declared.fault.RlcRefusal.{RlcRefusal}
@@ -152,3 +153,19 @@ pub record AreDeeds (bits : ℕ) (b : State) (c : Call) : Type 0 where
 
 abbrev pub CallsAreDeeds : Type 0
 CallsAreDeeds = (bits : ℕ) (b : State) (c : Call) → IsOfData bits b → IsIdle b → AreDeeds bits b c
+
+-- a bearer of signalling
+pub record IsOfSignalling (b : State) : Type 0 where
+  pub kind : b.pdcp.kind ≡ SrbKind
+  pub sending : b.pdcp.tx.kind ≡ SrbKind
+  pub receiving : b.pdcp.rx.kind ≡ SrbKind
+
+pub record AreSignallingDeeds (b : State) (c : Call) : Type 0 where
+  pub left : after (Am b) c ≡ Am (does_all (deeds_of b c) b)
+  pub ups : go_up (deeds_of b c) b ≡ ups_among (tells b c)
+  pub stays : IsOfSignalling (does_all (deeds_of b c) b)
+  pub idle : IsIdle (does_all (deeds_of b c) b)
+
+abbrev pub SignallingCallsAreDeeds : Type 0
+SignallingCallsAreDeeds = (b : State) (c : Call) → IsOfSignalling b → IsIdle b
+    → AreSignallingDeeds b c

@@ -1,6 +1,7 @@
 -- A life of a bearer of acknowledged data ends, and the next one begins (TS 36.322 5.4, TS 36.323
 -- 5.2); both ends of a bearer begin alike.
 use Rattle.std.specs.Prelude.{◌≡◌, ℕ, List, [], ◌∷◌}
+use Rattle.bearer_types.specs.Sides.{other}
 use Rattle.bearer_types.specs.declared.BearerConfig.{BearerConfig}
 use Rattle.eps_sec.specs.declared.Keys.{Keys}
 use Rattle.l2_types.specs.declared.Kind.TheVariants as kinds
@@ -65,10 +66,6 @@ RestartsAreDeeds = (bits : ℕ) (b : State) (keys : Keys) → IsOfData bits b �
 pub record AmPdcpBeginAlike (bits : ℕ) (p : Protection) (first : ℕ) (from to : State) : Type 0 where
   pub sender : from.pdcp.tx ≡ start_sending (AmKind bits) p first
   pub receiver : to.pdcp.rx ≡ fresh_receiving (AmKind bits) p first
-
-abbrev pub other : Side → Side
-other Nb = Ue
-other Ue = Nb
 
 -- RLC begins too
 pub record BeginsAs (c : BearerConfig) (b : State) : Type 0 where
