@@ -10,7 +10,7 @@ use Rattle.l2_types.specs.declared.side.Side.{Side}
 use Rattle.promises.specs.Taken.{leaves, taken_of}
 use Rattle.promises.specs.Records.{events_of}
 use Rattle.law_words.specs.Arrivals.{AccountEntry, Account, no_account, account}
-use Rattle.law_bearer.specs.AmBearer.Lives.{other as other_end}
+use Rattle.bearer_types.specs.Sides.{other as other_end}
 use Rattle.law_deliver.specs.AmChannel.Arrival.{told_from}
 use Rattle.law_deliver.specs.AmChannel.Delivery.{taken_at, submitted_at, ups_at}
 use Rattle.law_deliver.specs.AmFlow.Air.{outset}

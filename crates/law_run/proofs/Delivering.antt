@@ -3,7 +3,7 @@ use Rattle.std.proofs.Common.{◌≡◌, ◌≤◌, ◌<◌, ◌^◌, arith, ℕ
 use Rattle.std.proofs.Common.{Some, None, List, [], ◌∷◌, ◌++◌, map, refl, ap, sym, subst, ◌∙◌}
 use Rattle.std.specs.List.{filter}
 use Rattle.std.proofs.lemmas.List.Concat.{flat_map-append}
-use Rattle.law_bearer.specs.AmBearer.Lives.{other as other_end}
+use Rattle.bearer_types.specs.Sides.{other as other_end}
 use Rattle.law_words.specs.Lists.{AreFirstSdus, IsSubsequence}
 use Rattle.air_link.specs.Lines.{bears}
 use Rattle.air_link.specs.Link.{Link}

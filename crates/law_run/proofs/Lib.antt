@@ -46,3 +46,5 @@ pub mod Queueing
 pub mod Losses
 pub mod Silent
 pub mod Everything
+pub mod DrainFlows
+pub mod DrainLinks

@@ -1,4 +1,6 @@
 pub mod Order
+pub mod DrainFlows
+pub mod DrainLinks
 pub mod Script
 pub mod Ends
 pub mod Sums

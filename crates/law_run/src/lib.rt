@@ -2,6 +2,8 @@
 //! their contracts are the laws.
 #![tactic(auto)]
 
+mod drain_flows;
 mod laws;
 
+pub use drain_flows::{bearers_stand, links_never_rise, rounds_cost_flows};
 pub use laws::{every_journal, lines_are_in_range};

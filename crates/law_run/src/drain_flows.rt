@@ -1,0 +1,28 @@
+//! What the rounds of a drain cost the flows of a link.
+
+ghost use Rattle.law_run.specs.DrainFlows.{BearersStand, FlowsNeverRise, RoundsCostFlows};
+ghost use Rattle.law_run.specs.DrainLinks.{LinksAreMeasured, LinksNeverRise};
+
+/// Whatever calls an end has come by, each acknowledged bearer of it, of data or of signalling, is
+/// what deeds leave of one with which its running life began, and nothing is left over between its
+/// entities.
+pub fn bearers_stand()
+    ensures { BearersStand }
+{}
+
+/// From the ninth TTI of a drain on no flow of an acknowledged bearer rises in a round: three times
+/// what its near end may still send, what is pending at the far end and whether the near end is
+/// quiet. Each data PDU lowers it by one; and where none comes, so does an expiry of t-Reordering,
+/// a STATUS that is written, or an expiry of the poll timer of a quiet end.
+pub fn rounds_cost_flows()
+    ensures rounds { RoundsCostFlows }
+    ensures drains { FlowsNeverRise }
+{}
+
+/// And so a measure of the whole link never rises from there on: the sum over any channels that
+/// both ends have, of these flows in both directions, and of the octets that wait at transparent
+/// and unacknowledged bearers.
+pub fn links_never_rise()
+    ensures measured { LinksAreMeasured }
+    ensures rounds { LinksNeverRise }
+{}
