@@ -1,0 +1,8 @@
+pub mod Cuts
+pub mod Numbers
+pub mod Octets
+pub mod Steps
+pub mod Words
+pub mod Commas
+pub mod Plain
+pub mod Whole

@@ -1,0 +1,184 @@
+ghost use Rattle.std.specs.Prelude.{◌≡◌, ◌∷◌, [], ◌++◌, IfOk, IfErr, Option, None, Some, codes};
+ghost use Rattle.std.specs.Str.{bytes_eq};
+ghost use Rattle.air_record.specs.declared.record.Record.{Record};
+ghost use Rattle.air_record.specs.Text.{text_of};
+ghost use Rattle.air_text.specs.Reading.{read_of};
+ghost use Rattle.air_text.specs.Words.{texts};
+ghost use Rattle.journal_check.specs.Answers.{Gives};
+ghost use Rattle.journal_check.specs.Pieces.{text_in, glued};
+ghost use Rattle.journal_check.specs.Reading.{line_in, if_own, script_of, line_of, record_of};
+ghost use Rattle.journal_check.specs.Reading.{words_of};
+ghost use Rattle.journal_check.specs.Records.{HasText, IsSaid};
+
+use crate::blocks::{air, block, drained, looped, refused, sleep, spent, sum, tti};
+use crate::events::event;
+use crate::fault::TextFault;
+use crate::fields::{number, says};
+use crate::pdus::{mac, pdcp, rlc};
+use crate::pieces::{split, words};
+use air_record::{BoxedLine, Line, Record, append_accepted};
+use air_text::{LineFault, read_line};
+use l2_bits::{Bytes, NoMemory};
+use std::alloc::Global;
+
+// The line that a text says.
+fn script_line(alloc: Global, text: &[u8]) -> Result<Line, TextFault>
+    ensures { Gives result (line_in (read_of text.now)) }
+{
+    match read_line(alloc, text) {
+        Ok(Some(line)) => Ok(line),
+        Ok(None) => Err(TextFault::NotARecord),
+        Err(LineFault::Refused(_)) => Err(TextFault::NotARecord),
+        Err(LineFault::NoMemory) => Err(TextFault::NoMemory),
+    }
+}
+
+// Whether a text is that of a line's record.
+fn is_own(alloc: Global, text: &[u8], number: u32, line: &Line) -> Result<bool, NoMemory>
+    ensures { IfOk result (λ own. own
+        ≡ bytes_eq (text_of (Record.Line number line.now)) (text.now ++ 10 ∷ [])) }
+{
+    let mut own = Bytes::with_capacity(alloc, text.len() + 1)?;
+    append_accepted(&mut own, number, line)?;
+    let mut wanted = Bytes::with_capacity(alloc, text.len() + 1)?;
+    wanted.append(text)?;
+    wanted.push(b'\n')?;
+    Ok(own.as_slice() == wanted.as_slice())
+}
+
+// The record of a line, by its number and its script line.
+fn numbered(alloc: Global, text: &[u8], place: &[u8], script: &[u8]) -> Result<Record, TextFault>
+    requires { codes "line" ++ (32 ∷ (place.now ++ (32 ∷ script.now))) ≡ text.now }
+    ensures record { Gives result (script_of text.now place.now (Some script.now)) }
+    ensures text { IfOk result (HasText text.now) }
+{
+    let number = number(place)?;
+    let line = script_line(alloc, script)?;
+    if !is_own(alloc, text, number, &line)? {
+        return Err(TextFault::NotARecord);
+    }
+    Ok(Record::Line {
+        number,
+        line: BoxedLine::new(alloc, line)?,
+    })
+}
+
+// The record of a line, by what stands behind its first word.
+#[tactic(auto, unfolding(crate::specs::Reading::line_of))]
+fn line(alloc: Global, text: &[u8], rest: Option<&[u8]>) -> Result<Record, TextFault>
+    requires { glued 32 (codes "line") (text_in rest) ≡ text.now }
+    ensures record { Gives result (line_of text.now (text_in rest.entry)) }
+    ensures text { IfOk result (HasText text.now) }
+{
+    let Some(rest) = rest else {
+        return Err(TextFault::NotARecord);
+    };
+    let (place, behind) = split(rest, b' ');
+    let Some(script) = behind else {
+        return Err(TextFault::NotARecord);
+    };
+    numbered(alloc, text, place, script)
+}
+
+// A record of another kind.
+fn named(alloc: Global, first: &[u8], fields: &[&[u8]]) -> Result<Record, TextFault>
+    ensures record { Gives result (record_of first.now (texts fields.now)) }
+    ensures text { IfOk result (IsSaid (first.now ∷ texts fields.now)) }
+{
+    if says(first, b"mac") {
+        mac(fields)
+    } else if says(first, b"rlc") {
+        rlc(alloc, fields)
+    } else if says(first, b"pdcp") {
+        pdcp(alloc, fields)
+    } else if says(first, b"block") {
+        block(alloc, fields)
+    } else if says(first, b"air") {
+        air(fields)
+    } else if says(first, b"tti") {
+        tti(fields)
+    } else if says(first, b"sleep") {
+        sleep(fields)
+    } else if says(first, b"refused") {
+        refused(fields)
+    } else if says(first, b"loop") {
+        looped(alloc, fields)
+    } else if says(first, b"drained") {
+        drained(fields)
+    } else if says(first, b"spent") {
+        spent(fields)
+    } else if says(first, b"sum") {
+        sum(fields)
+    } else {
+        event(alloc, first, fields)
+    }
+}
+
+// A record of another kind, by its words.
+#[tactic(auto, unfolding(crate::specs::Reading::words_of))]
+fn record(alloc: Global, words: &[&[u8]]) -> Result<Record, TextFault>
+    ensures record { Gives result (words_of (texts words.now)) }
+    ensures text { IfOk result (IsSaid (texts words.now)) }
+{
+    let [first, fields @ ..] = words else {
+        return Err(TextFault::NotARecord);
+    };
+    named(alloc, first, fields)
+}
+
+/// The record of a journal that has a text, which is a line without its line feed.
+///
+/// `NotARecord` exactly where no record of a journal is printed as the text and a line feed.
+#[tactic(auto, using(crate::proofs::Whole::none_of), unfolding(crate::specs::Reading::read_text))]
+pub fn read_text(alloc: Global, text: &[u8]) -> Result<Record, TextFault>
+    ensures record { IfOk result (HasText text.now) }
+    ensures none { IfErr result
+        (λ fault. fault ≡ TextFault.NotARecord → (one : Record) → HasText text.now one → ⊥) }
+{
+    let (first, rest) = split(text, b' ');
+    if says(first, b"line") {
+        return line(alloc, text, rest);
+    }
+    let words = words(alloc, text)?;
+    record(alloc, words.as_slice())
+}
+
+#[cfg(test)]
+mod tests {
+    use super::*;
+    use air_record::print;
+    use std::test::Fail;
+
+    // Whether a text is read, and printed again as it was.
+    fn is_read(rt: HostRuntime, text: &[u8]) -> bool {
+        match read_text(rt.alloc(), text) {
+            Ok(one) => match print(rt.alloc(), &one) {
+                Ok(printed) => printed.as_slice().len() == text.len() + 1,
+                Err(_) => false,
+            },
+            Err(_) => false,
+        }
+    }
+
+    #[test]
+    fn reads_records(rt: HostRuntime) -> Result<(), Fail> {
+        let rows: [(&[u8], bool); 12] = [
+            (b"line 7 submit nb 3 aabb", true),
+            (b"line 7 submit nb 3 AABB", false),
+            (b"take nb 3 - 2", true),
+            (b"take  nb 3 - 2", false),
+            (b"take nb 256 - 2", false),
+            (b"mac crnti 003d", true),
+            (b"rlc status 5 1,2:3-4", true),
+            (b"rlc seg 1 0 01 1 300 1,02", false),
+            (b"spent 18446744073709551615", true),
+            (b"spent 18446744073709551616", false),
+            (b"up ue 3 ", false),
+            (b"record 1 dl 30", false),
+        ];
+        for (text, want) in rows {
+            assert_eq!(rt; is_read(rt, text), want, "{text:?}");
+        }
+        Ok(())
+    }
+}
