@@ -1,0 +1,15 @@
+pub mod Complete
+pub mod ByPlace
+pub mod Telling
+pub mod Order
+pub mod Along
+pub mod Sequenced
+pub mod Standing
+pub mod Acking
+pub mod Naming
+pub mod Waits
+pub mod Polling
+pub mod Saying
+pub mod Limits
+pub mod Accounts
+pub mod Sent

@@ -1,0 +1,11 @@
+pub mod FlowEvents
+pub mod Arrived
+pub mod Stream
+pub mod Entries
+pub mod Acked
+pub mod Waiting
+pub mod FlowArrivals
+pub mod FlowSdus
+pub mod FlowSending
+pub mod FlowAccount
+pub mod Laws

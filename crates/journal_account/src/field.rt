@@ -1,0 +1,68 @@
+// What has come of the data field of a number.
+ghost use Rattle.std.specs.Prelude.{◌≡◌, ◌<◌, ◌≤◌, OnOk, OnErr};
+ghost use Rattle.journal_account.specs.FlowArrivals.{nothing_came, with_octets, is_whole};
+ghost use Rattle.journal_account.specs.FlowArrivals.{leading_octets};
+
+use l2_bits::NoMemory;
+use rlc_pdu::Intervals;
+use std::alloc::Global;
+use std::marker::Model;
+
+#[derive(Drop)]
+pub(crate) struct FieldArrivals {
+    size: u32,
+    came: Intervals,
+}
+
+impl Model for FieldArrivals {
+    ghost use Rattle.journal_account.specs.FlowArrivals.{FieldArrivals};
+
+    ghost Value = { FieldArrivals };
+
+    ghost view = { λ f. record { size = f.size; came = f.came } };
+}
+
+impl FieldArrivals {
+    pub(crate) fn new(alloc: Global, size: u32) -> FieldArrivals
+        ensures { result ≡ nothing_came size }
+    {
+        FieldArrivals {
+            size,
+            came: Intervals::new(alloc),
+        }
+    }
+
+    pub(crate) fn size(&self) -> u32
+        ensures { result ≡ self.now.size }
+    {
+        self.size
+    }
+
+    // The octets from a place on below another come. An `Err` changes nothing.
+    pub(crate) fn add(&mut self, from: u32, to: u32) -> Result<(), NoMemory>
+        requires some { from < to }
+        requires within { to ≤ 32767 }
+        ensures ok { OnOk result (self.new ≡ with_octets from to self.old) }
+        ensures err { OnErr result (self.new ≡ self.old) }
+    {
+        self.came.add(from, to)?;
+        Ok(())
+    }
+
+    // Whether each octet has come.
+    pub(crate) fn is_whole(&self) -> bool
+        ensures { result ≡ is_whole self.now }
+    {
+        self.came.gap(0, self.size).is_none()
+    }
+
+    // How many octets have come before the first that hasn't.
+    pub(crate) fn leading(&self) -> u32
+        ensures { result ≡ leading_octets self.now }
+    {
+        match self.came.gap(0, self.size) {
+            Some(part) => part.start,
+            None => self.size,
+        }
+    }
+}

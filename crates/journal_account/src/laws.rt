@@ -1,0 +1,7 @@
+// Laws of the accounts, each proved as the contract of a function that does nothing.
+ghost use Rattle.journal_account.specs.Laws.{AccountsAreTrue};
+
+/// The law that the account of any history tells what the history says.
+pub fn accounts_are_true()
+    ensures { AccountsAreTrue }
+{}
