@@ -2,7 +2,10 @@
 use Rattle.std.proofs.Common.{◌≡◌, ◌≢◌, ◌<◌, ◌+◌, ◌==◌, ◌∙◌, ℕ, zero, suc, true, false, Bool, if◌then◌else◌, List, []}
 use Rattle.std.proofs.Common.{◌∷◌, ◌++◌, length, take, drop, slice_index, Option, Some, None, refl, sym, ap, arith}
 use Rattle.std.proofs.Common.{append_assoc, append-nil}
+use Rattle.std.proofs.lemmas.List.{length-append}
+use Rattle.std.specs.Borrow.{Bor}
 use Rattle.memchr.specs.Find.{IsFirstByte, is_byte}
+use Rattle.air_text.specs.Words.{texts}
 use Rattle.air_record.specs.Text.{worded, ended, commas, comma_before}
 use Rattle.journal_check.specs.Pieces.{before, behind, onto_first, pieces, left, glued}
 
@@ -194,3 +197,16 @@ pieces-joined at w (v ∷ ws) same h =
     let q = before-rest at w (joined_by at (v ∷ ws)) p.0 same in
     pieces_split at (w ++ at ∷ joined_by at (v ∷ ws)) ∙ rw (q.0, q.1) (ap (λ (r : List (List ℕ)). w ∷ r)
     (pieces-joined at v ws same p.1))
+
+-- ---- more pieces than some
+
+texts-long : (words : List (Bor (List ℕ))) → length (texts words) ≡ length words
+texts-long [] = refl
+texts-long (w ∷ ws) = ap suc (texts-long ws)
+
+pub beyond_full : (words : List (Bor (List ℕ))) (text : List ℕ) (all : List (List ℕ))
+    → texts words ++ pieces 32 text ≡ all → length words ≡ 8 → 8 < length all
+beyond_full words text all h full =
+    let both = length-append (texts words) (pieces 32 text) in
+    let whole = ap (λ (ws : List (List ℕ)). length ws) h in
+    omega (arith, both, whole, texts-long words, some-pieces 32 text, full)

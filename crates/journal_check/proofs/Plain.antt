@@ -13,7 +13,7 @@ use Rattle.air_record.specs.declared.record.Record.TheVariants.{PdcpReport, Show
 use Rattle.air_record.specs.Text.{record_words}
 use Rattle.journal_check.specs.Events.{take_of, report_of, send_of, wait_of, start_of, stop_of, expired_of, up_of}
 use Rattle.journal_check.specs.Events.{fail_of, drop_of, integrity_of, discard_of, bad_block_of, bad_rlc_of}
-use Rattle.journal_check.specs.Events.{bad_pdcp_of, bad_of}
+use Rattle.journal_check.specs.Events.{bad_pdcp_of, bad_of, event_of}
 use Rattle.journal_check.specs.Blocks.{tti_of, sleep_of, block_of, air_of, refused_of, looped_of, drained_of, spent_of}
 use Rattle.journal_check.specs.Blocks.{sum_of}
 use Rattle.journal_check.specs.Pdus.{front_of, sdu_of, pad_of, truncated_of, short_of, long_of, phr_of, crnti_of}
@@ -57,7 +57,7 @@ unfolding words_of take_of report_of send_of wait_of start_of stop_of expired_of
     discard_of bad_block_of bad_rlc_of bad_pdcp_of tti_of sleep_of block_of air_of refused_of looped_of drained_of
     spent_of sum_of front_of sdu_of pad_of truncated_of short_of long_of phr_of crnti_of advance_of drx_of contention_of
     transparent_of umd_of amd_of segment_of status_of user_of signalling_of status_report_of bad_of bsr_of mac_of rlc_of
-    pdcp_of
+    pdcp_of event_of
 plain-back (Of side (events.Take lcid count len)) h =
     rw (side-back side, octet-back lcid h.0, count-back count h.1, number-back len h.2) refl
 plain-back (Of side (events.Report lcid fms bitmap)) h =

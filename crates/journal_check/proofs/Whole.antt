@@ -1,6 +1,7 @@
 -- A text and the record that it says.
 use Rattle.std.proofs.Common.{◌≡◌, ◌<◌, ◌^◌, ◌∙◌, ℕ, List, [], ◌∷◌, ◌++◌, length, Option, Some, None, Ok, Err, Result}
-use Rattle.std.proofs.Common.{true, false, codes, refl, sym, ap, subst, arith, append_assoc, IfErr, IfOk}
+use Rattle.std.proofs.Common.{◌-◌, suc, take, get_or, Bool, true, false, ◌&&◌, ◌==◌, codes, refl, sym, ap, subst}
+use Rattle.std.proofs.Common.{arith, append_assoc, IfErr, IfOk}
 use Rattle.std.proofs.lemmas.List.{append_cancel_left, append_cancel_right}
 use Rattle.std.proofs.lemmas.Slice.Eq.{bytes_eq-Decides}
 use Rattle.std.specs.Str.{bytes_eq}
@@ -21,6 +22,7 @@ use Rattle.journal_check.specs.Records.{IsOwnLine, HasText, IsSaid}
 use Rattle.journal_check.proofs.Cuts.{are_free, joined_by, words_again, worded-joined, pieces-joined, pieces_split}
 use Rattle.journal_check.proofs.Cuts.{before-rest}
 use Rattle.journal_check.proofs.Numbers.{number-back, number-free}
+use Rattle.journal_check.proofs.Many.{too_many}
 use Rattle.journal_check.proofs.Plain.{IsPlain, Begins, plain-back, plain-free, plain-begins}
 
 -- ---- the text of a record's words
@@ -42,6 +44,45 @@ worded-text one = refl
 one-said : (text : List ℕ) (words : List (List ℕ)) (one : Record) → words ≡ pieces 32 text → IsSaid words one
     → HasText text one
 one-said text words one e said = (said.0, worded-text one ∙ ap worded (said.1 ∙ e) ∙ words_again text)
+
+-- ---- a text and its line feed
+
+and-none : (b : Bool) → (b && false) ≡ false
+and-none true = refl
+and-none false = refl
+
+and-swap : (a b c : Bool) → (a && (b && c)) ≡ (b && (a && c))
+and-swap true b c = refl
+and-swap false true c = refl
+and-swap false false c = refl
+
+pub ended_is : (front text : List ℕ) (last : ℕ)
+    → bytes_eq (front ++ last ∷ []) (text ++ 10 ∷ []) ≡ (last == 10 && bytes_eq front text)
+ended_is [] [] last = refl
+ended_is [] (y ∷ []) last = and-none (last == y) ∙ sym (and-none (last == 10))
+ended_is [] (y ∷ z ∷ zs) last = and-none (last == y) ∙ sym (and-none (last == 10))
+ended_is (x ∷ []) [] last = and-none (x == 10) ∙ sym (and-none (last == 10))
+ended_is (x ∷ w ∷ ws) [] last = and-none (x == 10) ∙ sym (and-none (last == 10))
+ended_is (x ∷ xs) (y ∷ ys) last =
+    ap (λ b. x == y && b) (ended_is xs ys last) ∙ and-swap (x == y) (last == 10) (bytes_eq xs ys)
+
+front-last : (xs : List ℕ) → 0 < length xs → take (length xs - 1) xs ++ get_or xs (length xs - 1) 0 ∷ [] ≡ xs
+front-last [] some = absurd (omega (arith, some))
+front-last (x ∷ []) some = refl
+front-last (x ∷ y ∷ ys) some =
+    let e : length (x ∷ y ∷ ys) - 1 ≡ suc (length (y ∷ ys) - 1) = omega arith in
+    rw e (ap (λ (r : List ℕ). x ∷ r) (front-last (y ∷ ys) (omega arith)))
+
+pub ended_parts : (xs text : List ℕ) → 0 < length xs
+    → bytes_eq xs (text ++ 10 ∷ []) ≡ (get_or xs (length xs - 1) 0 == 10 && bytes_eq (take (length xs - 1) xs) text)
+ended_parts xs text some =
+    ap (λ (t : List ℕ). bytes_eq t (text ++ 10 ∷ [])) (sym (front-last xs some))
+    ∙ ended_is (take (length xs - 1) xs) text (get_or xs (length xs - 1) 0)
+
+-- a text of no octets has no line feed
+pub never_ended : (text : List ℕ) → bytes_eq [] (text ++ 10 ∷ []) ≡ false
+never_ended [] = refl
+never_ended (x ∷ xs) = refl
 
 -- ---- the record of a line
 
@@ -124,6 +165,18 @@ read-line text number line small own h =
 pub complete : (text : List ℕ) (one : Record) → HasText text one → read_text text ≡ Ok one
 complete text (Line number line) h = read-line text number line h.0.0 h.0.1 h.1
 complete text one h = read-plain text one h.0 h.1
+
+pub one_of : (text : List ℕ) (one other : Record) → HasText text one → HasText text other → one ≡ other
+one_of text one other h g = let same = sym (complete text one h) ∙ complete text other g in cc
+
+-- more words than any record has
+pub many_none : (text : List ℕ) → bytes_eq (before 32 text) (codes "line") ≡ false → 8 < length (pieces 32 text)
+    → (one : Record) → HasText text one → ⊥
+unfolding read_text
+many_none text other many one h =
+    let read : read_text text ≡ words_of (pieces 32 text) = rw other refl in
+    let clash = sym (complete text one h) ∙ read ∙ too_many (pieces 32 text) many in
+    cc
 
 pub none_of : (result : Result Record TextFault) (text : List ℕ) → Gives result (read_text text)
     → IfErr result (λ fault. fault ≡ NotARecord → (one : Record) → HasText text one → ⊥)

@@ -11,105 +11,81 @@ use Rattle.journal_check.specs.Fields.{number_to, count_of, octets_of, array_of,
 use Rattle.journal_check.specs.Names.{side_of, how_of, waits_of, clock_of, lost_of, mac_why_of}
 use Rattle.journal_check.specs.Names.{rlc_why_of, pdcp_why_of}
 
-unfoldable pub take_of : List (List ℕ) → Result Record TextFault
-take_of (node ∷ lcid ∷ given ∷ len ∷ []) = do
-  side ← side_of node
-  lcid ← number_to 255 lcid
+unfoldable pub take_of : Side → ℕ → List (List ℕ) → Result Record TextFault
+take_of side lcid (given ∷ len ∷ []) = do
   count ← count_of given
   len ← number_to 4294967295 len
   Ok (Of side (events.Take lcid count len))
-take_of fields = none
+take_of side lcid fields = none
 
-unfoldable pub report_of : List (List ℕ) → Result Record TextFault
-report_of (node ∷ lcid ∷ fms ∷ bits ∷ []) = do
-  side ← side_of node
-  lcid ← number_to 255 lcid
+unfoldable pub report_of : Side → ℕ → List (List ℕ) → Result Record TextFault
+report_of side lcid (fms ∷ bits ∷ []) = do
   fms ← number_to 4294967295 fms
   bitmap ← bitmap_of bits
   Ok (Of side (events.Report lcid fms bitmap))
-report_of fields = none
+report_of side lcid fields = none
 
-unfoldable pub send_of : List (List ℕ) → Result Record TextFault
-send_of (node ∷ lcid ∷ what ∷ sn ∷ []) = do
-  side ← side_of node
-  lcid ← number_to 255 lcid
+unfoldable pub send_of : Side → ℕ → List (List ℕ) → Result Record TextFault
+send_of side lcid (what ∷ sn ∷ []) = do
   how ← how_of what
   sn ← number_to 4294967295 sn
   Ok (Of side (events.Send lcid how sn))
-send_of fields = none
+send_of side lcid fields = none
 
-unfoldable pub wait_of : List (List ℕ) → Result Record TextFault
-wait_of (node ∷ lcid ∷ word ∷ []) = do
-  side ← side_of node
-  lcid ← number_to 255 lcid
+unfoldable pub wait_of : Side → ℕ → List (List ℕ) → Result Record TextFault
+wait_of side lcid (word ∷ []) = do
   why ← waits_of word
   Ok (Of side (events.Wait lcid why))
-wait_of fields = none
+wait_of side lcid fields = none
 
-unfoldable pub start_of : List (List ℕ) → Result Record TextFault
-start_of (node ∷ lcid ∷ timer ∷ []) = do
-  side ← side_of node
-  lcid ← number_to 255 lcid
+unfoldable pub start_of : Side → ℕ → List (List ℕ) → Result Record TextFault
+start_of side lcid (timer ∷ []) = do
   clock ← clock_of timer
   Ok (Of side (events.Start lcid clock))
-start_of fields = none
+start_of side lcid fields = none
 
-unfoldable pub stop_of : List (List ℕ) → Result Record TextFault
-stop_of (node ∷ lcid ∷ timer ∷ []) = do
-  side ← side_of node
-  lcid ← number_to 255 lcid
+unfoldable pub stop_of : Side → ℕ → List (List ℕ) → Result Record TextFault
+stop_of side lcid (timer ∷ []) = do
   clock ← clock_of timer
   Ok (Of side (events.Stop lcid clock))
-stop_of fields = none
+stop_of side lcid fields = none
 
-unfoldable pub expired_of : List (List ℕ) → Result Record TextFault
-expired_of (node ∷ lcid ∷ timer ∷ []) = do
-  side ← side_of node
-  lcid ← number_to 255 lcid
+unfoldable pub expired_of : Side → ℕ → List (List ℕ) → Result Record TextFault
+expired_of side lcid (timer ∷ []) = do
   clock ← clock_of timer
   Ok (Of side (events.Expired lcid clock))
-expired_of fields = none
+expired_of side lcid fields = none
 
-unfoldable pub up_of : List (List ℕ) → Result Record TextFault
-up_of (node ∷ lcid ∷ text ∷ []) = do
-  side ← side_of node
-  lcid ← number_to 255 lcid
+unfoldable pub up_of : Side → ℕ → List (List ℕ) → Result Record TextFault
+up_of side lcid (text ∷ []) = do
   octets ← octets_of text
   Ok (Of side (events.Up lcid octets))
-up_of fields = none
+up_of side lcid fields = none
 
-unfoldable pub fail_of : List (List ℕ) → Result Record TextFault
-fail_of (node ∷ lcid ∷ sn ∷ []) = do
-  side ← side_of node
-  lcid ← number_to 255 lcid
+unfoldable pub fail_of : Side → ℕ → List (List ℕ) → Result Record TextFault
+fail_of side lcid (sn ∷ []) = do
   sn ← number_to 4294967295 sn
   Ok (Of side (events.Fail lcid sn))
-fail_of fields = none
+fail_of side lcid fields = none
 
-unfoldable pub drop_of : List (List ℕ) → Result Record TextFault
-drop_of (node ∷ lcid ∷ word ∷ []) = do
-  side ← side_of node
-  lcid ← number_to 255 lcid
+unfoldable pub drop_of : Side → ℕ → List (List ℕ) → Result Record TextFault
+drop_of side lcid (word ∷ []) = do
   why ← lost_of word
   Ok (Of side (events.Drop lcid why))
-drop_of fields = none
+drop_of side lcid fields = none
 
-unfoldable pub integrity_of : List (List ℕ) → Result Record TextFault
-integrity_of (node ∷ lcid ∷ found ∷ wanted ∷ []) = do
-  side ← side_of node
-  lcid ← number_to 255 lcid
+unfoldable pub integrity_of : Side → ℕ → List (List ℕ) → Result Record TextFault
+integrity_of side lcid (found ∷ wanted ∷ []) = do
   found ← array_of 4 found
   wanted ← array_of 4 wanted
   Ok (Of side (events.Integrity lcid found wanted))
-integrity_of fields = none
+integrity_of side lcid fields = none
 
-unfoldable pub discard_of : List (List ℕ) → Result Record TextFault
-discard_of (node ∷ lcid ∷ len ∷ []) = do
-  side ← side_of node
-  lcid ← number_to 255 lcid
+unfoldable pub discard_of : Side → ℕ → List (List ℕ) → Result Record TextFault
+discard_of side lcid (len ∷ []) = do
   len ← number_to 4294967295 len
   Ok (Of side (events.Discard lcid len))
-discard_of fields = none
+discard_of side lcid fields = none
 
 unfoldable pub bad_block_of : Side → List (List ℕ) → Result Record TextFault
 bad_block_of side (at ∷ word ∷ []) = do
@@ -134,27 +110,32 @@ bad_pdcp_of side (lcid ∷ at ∷ word ∷ []) = do
   Ok (Of side (events.BadPdcp lcid (record { at = at; why = why })))
 bad_pdcp_of side fields = none
 
-unfoldable pub bad_of : List (List ℕ) → Result Record TextFault
-bad_of (node ∷ layer ∷ fields) = side_of node >>= λ side.
+unfoldable pub bad_of : Side → List ℕ → List (List ℕ) → Result Record TextFault
+bad_of side layer fields =
     if bytes_eq layer (codes "mac") then bad_block_of side fields
     else if bytes_eq layer (codes "rlc") then bad_rlc_of side fields
     else if bytes_eq layer (codes "pdcp") then bad_pdcp_of side fields
     else none
-bad_of fields = none
 
-abbrev pub event_of : List ℕ → List (List ℕ) → Result Record TextFault
-event_of first fields =
-    if bytes_eq first (codes "take") then take_of fields
-    else if bytes_eq first (codes "send") then send_of fields
-    else if bytes_eq first (codes "up") then up_of fields
-    else if bytes_eq first (codes "start") then start_of fields
-    else if bytes_eq first (codes "stop") then stop_of fields
-    else if bytes_eq first (codes "report") then report_of fields
-    else if bytes_eq first (codes "wait") then wait_of fields
-    else if bytes_eq first (codes "drop") then drop_of fields
-    else if bytes_eq first (codes "expired") then expired_of fields
-    else if bytes_eq first (codes "fail") then fail_of fields
-    else if bytes_eq first (codes "discard") then discard_of fields
-    else if bytes_eq first (codes "integrity") then integrity_of fields
-    else if bytes_eq first (codes "bad") then bad_of fields
+-- what happens on a channel
+abbrev pub channel_event_of : List ℕ → Side → ℕ → List (List ℕ) → Result Record TextFault
+channel_event_of first side lcid fields =
+    if bytes_eq first (codes "take") then take_of side lcid fields
+    else if bytes_eq first (codes "send") then send_of side lcid fields
+    else if bytes_eq first (codes "up") then up_of side lcid fields
+    else if bytes_eq first (codes "start") then start_of side lcid fields
+    else if bytes_eq first (codes "stop") then stop_of side lcid fields
+    else if bytes_eq first (codes "report") then report_of side lcid fields
+    else if bytes_eq first (codes "wait") then wait_of side lcid fields
+    else if bytes_eq first (codes "drop") then drop_of side lcid fields
+    else if bytes_eq first (codes "expired") then expired_of side lcid fields
+    else if bytes_eq first (codes "fail") then fail_of side lcid fields
+    else if bytes_eq first (codes "discard") then discard_of side lcid fields
+    else if bytes_eq first (codes "integrity") then integrity_of side lcid fields
     else none
+
+unfoldable pub event_of : List ℕ → List (List ℕ) → Result Record TextFault
+event_of first (node ∷ second ∷ fields) = side_of node >>= λ side.
+    if bytes_eq first (codes "bad") then bad_of side second fields
+    else (number_to 255 second >>= λ lcid. channel_event_of first side lcid fields)
+event_of first fields = none

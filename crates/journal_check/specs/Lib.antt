@@ -8,3 +8,7 @@ pub mod Blocks
 pub mod Pdus
 pub mod Reading
 pub mod Records
+pub mod LineRules
+pub mod Grouped
+pub mod States
+pub mod Checks

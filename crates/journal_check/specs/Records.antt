@@ -122,3 +122,12 @@ HasText text one = IsJournalRecord one × (text_of one ≡ text ++ 10 ∷ [])
 -- a record of a journal that is printed with these words
 abbrev pub IsSaid : List (List ℕ) → Record → Type 0
 IsSaid words one = IsJournalRecord one × (record_words one ≡ words)
+
+-- each line that a text says is its own
+abbrev pub LinesAreOwn : Type 0
+LinesAreOwn = (text : List ℕ) (line : Line) → read_of text ≡ Ok (Some line) → IsOwnLine line
+
+-- a text has one record at most
+abbrev pub TextsHaveOne : Type 0
+TextsHaveOne =
+    (text : List ℕ) (one other : Record) → HasText text one → HasText text other → one ≡ other

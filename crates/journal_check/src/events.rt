@@ -1,3 +1,4 @@
+ghost use Rattle.std.specs.Fmt.{decimal};
 ghost use Rattle.std.specs.Prelude.{◌∷◌, codes, IfOk};
 ghost use Rattle.air_record.specs.Text.{side_text};
 ghost use Rattle.air_text.specs.Words.{texts};
@@ -7,7 +8,7 @@ ghost use Rattle.journal_check.specs.Events.{stop_of};
 ghost use Rattle.journal_check.specs.Events.{expired_of, up_of, fail_of, drop_of, integrity_of};
 ghost use Rattle.journal_check.specs.Events.{discard_of, bad_block_of, bad_rlc_of, bad_pdcp_of};
 ghost use Rattle.journal_check.specs.Events.{bad_of};
-ghost use Rattle.journal_check.specs.Events.{event_of};
+ghost use Rattle.journal_check.specs.Events.{channel_event_of, event_of};
 ghost use Rattle.journal_check.specs.Records.{IsSaid};
 
 use crate::fault::TextFault;
@@ -22,15 +23,14 @@ use rlc_pdu::RlcRefusal;
 use std::alloc::Global;
 
 #[tactic(auto, unfolding(crate::specs::Events::take_of))]
-fn take(fields: &[&[u8]]) -> Result<Record, TextFault>
-    ensures record { Gives result (take_of (texts fields.now)) }
-    ensures text { IfOk result (IsSaid (codes "take" ∷ texts fields.now)) }
+fn take(side: Side, lcid: u8, fields: &[&[u8]]) -> Result<Record, TextFault>
+    ensures record { Gives result (take_of side lcid (texts fields.now)) }
+    ensures text { IfOk result
+        (IsSaid (codes "take" ∷ side_text side ∷ decimal lcid ∷ texts fields.now)) }
 {
-    let [node, lcid, given, len] = fields else {
+    let [given, len] = fields else {
         return Err(TextFault::NotARecord);
     };
-    let side = side(node)?;
-    let lcid = octet(lcid)?;
     let count = count(given)?;
     let len = number(len)?;
     Ok(Record::Of {
@@ -40,15 +40,14 @@ fn take(fields: &[&[u8]]) -> Result<Record, TextFault>
 }
 
 #[tactic(auto, unfolding(crate::specs::Events::report_of))]
-fn report(alloc: Global, fields: &[&[u8]]) -> Result<Record, TextFault>
-    ensures record { Gives result (report_of (texts fields.now)) }
-    ensures text { IfOk result (IsSaid (codes "report" ∷ texts fields.now)) }
+fn report(alloc: Global, side: Side, lcid: u8, fields: &[&[u8]]) -> Result<Record, TextFault>
+    ensures record { Gives result (report_of side lcid (texts fields.now)) }
+    ensures text { IfOk result
+        (IsSaid (codes "report" ∷ side_text side ∷ decimal lcid ∷ texts fields.now)) }
 {
-    let [node, lcid, fms, bits] = fields else {
+    let [fms, bits] = fields else {
         return Err(TextFault::NotARecord);
     };
-    let side = side(node)?;
-    let lcid = octet(lcid)?;
     let fms = number(fms)?;
     let bitmap = bitmap(alloc, bits)?;
     Ok(Record::Of {
@@ -58,15 +57,14 @@ fn report(alloc: Global, fields: &[&[u8]]) -> Result<Record, TextFault>
 }
 
 #[tactic(auto, unfolding(crate::specs::Events::send_of))]
-fn send(fields: &[&[u8]]) -> Result<Record, TextFault>
-    ensures record { Gives result (send_of (texts fields.now)) }
-    ensures text { IfOk result (IsSaid (codes "send" ∷ texts fields.now)) }
+fn send(side: Side, lcid: u8, fields: &[&[u8]]) -> Result<Record, TextFault>
+    ensures record { Gives result (send_of side lcid (texts fields.now)) }
+    ensures text { IfOk result
+        (IsSaid (codes "send" ∷ side_text side ∷ decimal lcid ∷ texts fields.now)) }
 {
-    let [node, lcid, what, sn] = fields else {
+    let [what, sn] = fields else {
         return Err(TextFault::NotARecord);
     };
-    let side = side(node)?;
-    let lcid = octet(lcid)?;
     let how = how(what)?;
     let sn = number(sn)?;
     Ok(Record::Of {
@@ -76,15 +74,14 @@ fn send(fields: &[&[u8]]) -> Result<Record, TextFault>
 }
 
 #[tactic(auto, unfolding(crate::specs::Events::wait_of))]
-fn wait(fields: &[&[u8]]) -> Result<Record, TextFault>
-    ensures record { Gives result (wait_of (texts fields.now)) }
-    ensures text { IfOk result (IsSaid (codes "wait" ∷ texts fields.now)) }
+fn wait(side: Side, lcid: u8, fields: &[&[u8]]) -> Result<Record, TextFault>
+    ensures record { Gives result (wait_of side lcid (texts fields.now)) }
+    ensures text { IfOk result
+        (IsSaid (codes "wait" ∷ side_text side ∷ decimal lcid ∷ texts fields.now)) }
 {
-    let [node, lcid, word] = fields else {
+    let [word] = fields else {
         return Err(TextFault::NotARecord);
     };
-    let side = side(node)?;
-    let lcid = octet(lcid)?;
     let why = waits(word)?;
     Ok(Record::Of {
         side,
@@ -93,15 +90,14 @@ fn wait(fields: &[&[u8]]) -> Result<Record, TextFault>
 }
 
 #[tactic(auto, unfolding(crate::specs::Events::start_of))]
-fn start(fields: &[&[u8]]) -> Result<Record, TextFault>
-    ensures record { Gives result (start_of (texts fields.now)) }
-    ensures text { IfOk result (IsSaid (codes "start" ∷ texts fields.now)) }
+fn start(side: Side, lcid: u8, fields: &[&[u8]]) -> Result<Record, TextFault>
+    ensures record { Gives result (start_of side lcid (texts fields.now)) }
+    ensures text { IfOk result
+        (IsSaid (codes "start" ∷ side_text side ∷ decimal lcid ∷ texts fields.now)) }
 {
-    let [node, lcid, timer] = fields else {
+    let [timer] = fields else {
         return Err(TextFault::NotARecord);
     };
-    let side = side(node)?;
-    let lcid = octet(lcid)?;
     let clock = clock(timer)?;
     Ok(Record::Of {
         side,
@@ -110,15 +106,14 @@ fn start(fields: &[&[u8]]) -> Result<Record, TextFault>
 }
 
 #[tactic(auto, unfolding(crate::specs::Events::stop_of))]
-fn stop(fields: &[&[u8]]) -> Result<Record, TextFault>
-    ensures record { Gives result (stop_of (texts fields.now)) }
-    ensures text { IfOk result (IsSaid (codes "stop" ∷ texts fields.now)) }
+fn stop(side: Side, lcid: u8, fields: &[&[u8]]) -> Result<Record, TextFault>
+    ensures record { Gives result (stop_of side lcid (texts fields.now)) }
+    ensures text { IfOk result
+        (IsSaid (codes "stop" ∷ side_text side ∷ decimal lcid ∷ texts fields.now)) }
 {
-    let [node, lcid, timer] = fields else {
+    let [timer] = fields else {
         return Err(TextFault::NotARecord);
     };
-    let side = side(node)?;
-    let lcid = octet(lcid)?;
     let clock = clock(timer)?;
     Ok(Record::Of {
         side,
@@ -127,15 +122,14 @@ fn stop(fields: &[&[u8]]) -> Result<Record, TextFault>
 }
 
 #[tactic(auto, unfolding(crate::specs::Events::expired_of))]
-fn expired(fields: &[&[u8]]) -> Result<Record, TextFault>
-    ensures record { Gives result (expired_of (texts fields.now)) }
-    ensures text { IfOk result (IsSaid (codes "expired" ∷ texts fields.now)) }
+fn expired(side: Side, lcid: u8, fields: &[&[u8]]) -> Result<Record, TextFault>
+    ensures record { Gives result (expired_of side lcid (texts fields.now)) }
+    ensures text { IfOk result
+        (IsSaid (codes "expired" ∷ side_text side ∷ decimal lcid ∷ texts fields.now)) }
 {
-    let [node, lcid, timer] = fields else {
+    let [timer] = fields else {
         return Err(TextFault::NotARecord);
     };
-    let side = side(node)?;
-    let lcid = octet(lcid)?;
     let clock = clock(timer)?;
     Ok(Record::Of {
         side,
@@ -144,15 +138,14 @@ fn expired(fields: &[&[u8]]) -> Result<Record, TextFault>
 }
 
 #[tactic(auto, unfolding(crate::specs::Events::up_of))]
-fn up(alloc: Global, fields: &[&[u8]]) -> Result<Record, TextFault>
-    ensures record { Gives result (up_of (texts fields.now)) }
-    ensures text { IfOk result (IsSaid (codes "up" ∷ texts fields.now)) }
+fn up(alloc: Global, side: Side, lcid: u8, fields: &[&[u8]]) -> Result<Record, TextFault>
+    ensures record { Gives result (up_of side lcid (texts fields.now)) }
+    ensures text { IfOk result
+        (IsSaid (codes "up" ∷ side_text side ∷ decimal lcid ∷ texts fields.now)) }
 {
-    let [node, lcid, text] = fields else {
+    let [text] = fields else {
         return Err(TextFault::NotARecord);
     };
-    let side = side(node)?;
-    let lcid = octet(lcid)?;
     let octets = octets(alloc, text)?;
     Ok(Record::Of {
         side,
@@ -161,15 +154,14 @@ fn up(alloc: Global, fields: &[&[u8]]) -> Result<Record, TextFault>
 }
 
 #[tactic(auto, unfolding(crate::specs::Events::fail_of))]
-fn fail(fields: &[&[u8]]) -> Result<Record, TextFault>
-    ensures record { Gives result (fail_of (texts fields.now)) }
-    ensures text { IfOk result (IsSaid (codes "fail" ∷ texts fields.now)) }
+fn fail(side: Side, lcid: u8, fields: &[&[u8]]) -> Result<Record, TextFault>
+    ensures record { Gives result (fail_of side lcid (texts fields.now)) }
+    ensures text { IfOk result
+        (IsSaid (codes "fail" ∷ side_text side ∷ decimal lcid ∷ texts fields.now)) }
 {
-    let [node, lcid, sn] = fields else {
+    let [sn] = fields else {
         return Err(TextFault::NotARecord);
     };
-    let side = side(node)?;
-    let lcid = octet(lcid)?;
     let sn = number(sn)?;
     Ok(Record::Of {
         side,
@@ -178,15 +170,14 @@ fn fail(fields: &[&[u8]]) -> Result<Record, TextFault>
 }
 
 #[tactic(auto, unfolding(crate::specs::Events::drop_of))]
-fn drop(fields: &[&[u8]]) -> Result<Record, TextFault>
-    ensures record { Gives result (drop_of (texts fields.now)) }
-    ensures text { IfOk result (IsSaid (codes "drop" ∷ texts fields.now)) }
+fn drop(side: Side, lcid: u8, fields: &[&[u8]]) -> Result<Record, TextFault>
+    ensures record { Gives result (drop_of side lcid (texts fields.now)) }
+    ensures text { IfOk result
+        (IsSaid (codes "drop" ∷ side_text side ∷ decimal lcid ∷ texts fields.now)) }
 {
-    let [node, lcid, word] = fields else {
+    let [word] = fields else {
         return Err(TextFault::NotARecord);
     };
-    let side = side(node)?;
-    let lcid = octet(lcid)?;
     let why = lost(word)?;
     Ok(Record::Of {
         side,
@@ -195,15 +186,14 @@ fn drop(fields: &[&[u8]]) -> Result<Record, TextFault>
 }
 
 #[tactic(auto, unfolding(crate::specs::Events::integrity_of))]
-fn integrity(fields: &[&[u8]]) -> Result<Record, TextFault>
-    ensures record { Gives result (integrity_of (texts fields.now)) }
-    ensures text { IfOk result (IsSaid (codes "integrity" ∷ texts fields.now)) }
+fn integrity(side: Side, lcid: u8, fields: &[&[u8]]) -> Result<Record, TextFault>
+    ensures record { Gives result (integrity_of side lcid (texts fields.now)) }
+    ensures text { IfOk result
+        (IsSaid (codes "integrity" ∷ side_text side ∷ decimal lcid ∷ texts fields.now)) }
 {
-    let [node, lcid, found, wanted] = fields else {
+    let [found, wanted] = fields else {
         return Err(TextFault::NotARecord);
     };
-    let side = side(node)?;
-    let lcid = octet(lcid)?;
     let found = array::<4>(found)?;
     let wanted = array::<4>(wanted)?;
     Ok(Record::Of {
@@ -217,15 +207,14 @@ fn integrity(fields: &[&[u8]]) -> Result<Record, TextFault>
 }
 
 #[tactic(auto, unfolding(crate::specs::Events::discard_of))]
-fn discard(fields: &[&[u8]]) -> Result<Record, TextFault>
-    ensures record { Gives result (discard_of (texts fields.now)) }
-    ensures text { IfOk result (IsSaid (codes "discard" ∷ texts fields.now)) }
+fn discard(side: Side, lcid: u8, fields: &[&[u8]]) -> Result<Record, TextFault>
+    ensures record { Gives result (discard_of side lcid (texts fields.now)) }
+    ensures text { IfOk result
+        (IsSaid (codes "discard" ∷ side_text side ∷ decimal lcid ∷ texts fields.now)) }
 {
-    let [node, lcid, len] = fields else {
+    let [len] = fields else {
         return Err(TextFault::NotARecord);
     };
-    let side = side(node)?;
-    let lcid = octet(lcid)?;
     let len = number(len)?;
     Ok(Record::Of {
         side,
@@ -293,14 +282,11 @@ fn bad_pdcp(side: Side, fields: &[&[u8]]) -> Result<Record, TextFault>
 }
 
 #[tactic(auto, unfolding(crate::specs::Events::bad_of))]
-fn bad(fields: &[&[u8]]) -> Result<Record, TextFault>
-    ensures record { Gives result (bad_of (texts fields.now)) }
-    ensures text { IfOk result (IsSaid (codes "bad" ∷ texts fields.now)) }
+fn bad(side: Side, layer: &[u8], fields: &[&[u8]]) -> Result<Record, TextFault>
+    ensures record { Gives result (bad_of side layer.now (texts fields.now)) }
+    ensures text { IfOk result
+        (IsSaid (codes "bad" ∷ side_text side ∷ layer.now ∷ texts fields.now)) }
 {
-    let [node, layer, fields @ ..] = fields else {
-        return Err(TextFault::NotARecord);
-    };
-    let side = side(node)?;
     if says(layer, b"mac") {
         bad_block(side, fields)
     } else if says(layer, b"rlc") {
@@ -312,38 +298,60 @@ fn bad(fields: &[&[u8]]) -> Result<Record, TextFault>
     }
 }
 
+// What happens on a channel.
+fn channel_event(
+    alloc: Global,
+    first: &[u8],
+    side: Side,
+    lcid: u8,
+    fields: &[&[u8]],
+) -> Result<Record, TextFault>
+    ensures record { Gives result (channel_event_of first.now side lcid (texts fields.now)) }
+    ensures text { IfOk result
+        (IsSaid (first.now ∷ side_text side ∷ decimal lcid ∷ texts fields.now)) }
+{
+    if says(first, b"take") {
+        take(side, lcid, fields)
+    } else if says(first, b"send") {
+        send(side, lcid, fields)
+    } else if says(first, b"up") {
+        up(alloc, side, lcid, fields)
+    } else if says(first, b"start") {
+        start(side, lcid, fields)
+    } else if says(first, b"stop") {
+        stop(side, lcid, fields)
+    } else if says(first, b"report") {
+        report(alloc, side, lcid, fields)
+    } else if says(first, b"wait") {
+        wait(side, lcid, fields)
+    } else if says(first, b"drop") {
+        drop(side, lcid, fields)
+    } else if says(first, b"expired") {
+        expired(side, lcid, fields)
+    } else if says(first, b"fail") {
+        fail(side, lcid, fields)
+    } else if says(first, b"discard") {
+        discard(side, lcid, fields)
+    } else if says(first, b"integrity") {
+        integrity(side, lcid, fields)
+    } else {
+        Err(TextFault::NotARecord)
+    }
+}
+
 /// What happens at one end.
+#[tactic(auto, unfolding(crate::specs::Events::event_of))]
 pub fn event(alloc: Global, first: &[u8], fields: &[&[u8]]) -> Result<Record, TextFault>
     ensures record { Gives result (event_of first.now (texts fields.now)) }
     ensures text { IfOk result (IsSaid (first.now ∷ texts fields.now)) }
 {
-    if says(first, b"take") {
-        take(fields)
-    } else if says(first, b"send") {
-        send(fields)
-    } else if says(first, b"up") {
-        up(alloc, fields)
-    } else if says(first, b"start") {
-        start(fields)
-    } else if says(first, b"stop") {
-        stop(fields)
-    } else if says(first, b"report") {
-        report(alloc, fields)
-    } else if says(first, b"wait") {
-        wait(fields)
-    } else if says(first, b"drop") {
-        drop(fields)
-    } else if says(first, b"expired") {
-        expired(fields)
-    } else if says(first, b"fail") {
-        fail(fields)
-    } else if says(first, b"discard") {
-        discard(fields)
-    } else if says(first, b"integrity") {
-        integrity(fields)
-    } else if says(first, b"bad") {
-        bad(fields)
-    } else {
-        Err(TextFault::NotARecord)
+    let [node, second, fields @ ..] = fields else {
+        return Err(TextFault::NotARecord);
+    };
+    let side = side(node)?;
+    if says(first, b"bad") {
+        return bad(side, second, fields);
     }
+    let lcid = octet(second)?;
+    channel_event(alloc, first, side, lcid, fields)
 }

@@ -1,9 +1,12 @@
-ghost use Rattle.std.specs.Prelude.{◌≡◌, ◌∷◌, IfOk};
+ghost use Rattle.std.specs.Prelude.{◌≡◌, ◌∷◌, ◌<◌, length, IfSome, IfNone};
 ghost use Rattle.air_text.specs.Words.{texts};
 ghost use Rattle.journal_check.specs.Pieces.{before, behind, pieces, left, glued, text_in};
 
+use arrayvec::ArrayVec;
 use memchr::memchr;
-use std::alloc::{AllocError, Global};
+
+// The most words of a record but that of a line.
+const MOST_WORDS: usize = 8;
 
 /// The octets before the first of a kind, and those behind it, if there is one.
 #[tactic(auto, using(crate::proofs::Cuts::splits))]
@@ -19,16 +22,20 @@ pub fn split(text: &[u8], at: u8) -> (&[u8], Option<&[u8]>)
     }
 }
 
-/// The words between two spaces.
-pub fn words<'a>(alloc: Global, text: &'a [u8]) -> Result<Vec<&'a [u8]>, AllocError>
-    ensures { IfOk result (λ words. texts words.items ≡ pieces 32 text.now) }
+/// The words between two spaces, if there are at most eight.
+pub fn words<'a>(text: &'a [u8]) -> Option<ArrayVec<&'a [u8], MOST_WORDS>>
+    ensures all { IfSome result (λ words. texts words.items ≡ pieces 32 text.now) }
+    ensures more { IfNone result (8 < length (pieces 32 text.now)) }
 {
-    let mut words = Vec::with_capacity(alloc, 8)?;
+    let mut words: ArrayVec<&'a [u8], MOST_WORDS> = ArrayVec::new();
     let mut rest = Some(text);
     while let Some(text) = rest {
+        if words.is_full() {
+            return None;
+        }
         let (word, behind) = split(text, b' ');
-        words.push(word)?;
+        words.push(word);
         rest = behind;
     }
-    Ok(words)
+    Some(words)
 }

@@ -33,6 +33,17 @@ fn script_line(alloc: Global, text: &[u8]) -> Result<Line, TextFault>
     }
 }
 
+// Whether octets are a text with a line feed behind it.
+#[tactic(auto, using(crate::proofs::Whole::ended_parts, crate::proofs::Whole::never_ended))]
+fn is_ended(octets: &[u8], text: &[u8]) -> bool
+    ensures { result ≡ bytes_eq octets.now (text.now ++ 10 ∷ []) }
+{
+    let [front @ .., last] = octets else {
+        return false;
+    };
+    *last == b'\n' && front == text
+}
+
 // Whether a text is that of a line's record.
 fn is_own(alloc: Global, text: &[u8], number: u32, line: &Line) -> Result<bool, NoMemory>
     ensures { IfOk result (λ own. own
@@ -40,10 +51,7 @@ fn is_own(alloc: Global, text: &[u8], number: u32, line: &Line) -> Result<bool, 
 {
     let mut own = Bytes::with_capacity(alloc, text.len() + 1)?;
     append_accepted(&mut own, number, line)?;
-    let mut wanted = Bytes::with_capacity(alloc, text.len() + 1)?;
-    wanted.append(text)?;
-    wanted.push(b'\n')?;
-    Ok(own.as_slice() == wanted.as_slice())
+    Ok(is_ended(own.as_slice(), text))
 }
 
 // The record of a line, by its number and its script line.
@@ -139,46 +147,8 @@ pub fn read_text(alloc: Global, text: &[u8]) -> Result<Record, TextFault>
     if says(first, b"line") {
         return line(alloc, text, rest);
     }
-    let words = words(alloc, text)?;
+    let Some(words) = words(text) else {
+        return Err(TextFault::NotARecord);
+    };
     record(alloc, words.as_slice())
-}
-
-#[cfg(test)]
-mod tests {
-    use super::*;
-    use air_record::print;
-    use std::test::Fail;
-
-    // Whether a text is read, and printed again as it was.
-    fn is_read(rt: HostRuntime, text: &[u8]) -> bool {
-        match read_text(rt.alloc(), text) {
-            Ok(one) => match print(rt.alloc(), &one) {
-                Ok(printed) => printed.as_slice().len() == text.len() + 1,
-                Err(_) => false,
-            },
-            Err(_) => false,
-        }
-    }
-
-    #[test]
-    fn reads_records(rt: HostRuntime) -> Result<(), Fail> {
-        let rows: [(&[u8], bool); 12] = [
-            (b"line 7 submit nb 3 aabb", true),
-            (b"line 7 submit nb 3 AABB", false),
-            (b"take nb 3 - 2", true),
-            (b"take  nb 3 - 2", false),
-            (b"take nb 256 - 2", false),
-            (b"mac crnti 003d", true),
-            (b"rlc status 5 1,2:3-4", true),
-            (b"rlc seg 1 0 01 1 300 1,02", false),
-            (b"spent 18446744073709551615", true),
-            (b"spent 18446744073709551616", false),
-            (b"up ue 3 ", false),
-            (b"record 1 dl 30", false),
-        ];
-        for (text, want) in rows {
-            assert_eq!(rt; is_read(rt, text), want, "{text:?}");
-        }
-        Ok(())
-    }
 }

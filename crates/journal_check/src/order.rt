@@ -1,0 +1,158 @@
+ghost use Rattle.std.specs.Prelude.{◌≡◌, ◌+◌, ◌<◌, OnOk};
+ghost use Rattle.air_record.specs.declared.record.Record.{Record};
+ghost use Rattle.journal_check.specs.declared.fault.CheckFault.TheVariants.{Refused};
+ghost use Rattle.journal_check.specs.declared.limits.TheConstants.{MOST_RECORDS};
+ghost use Rattle.journal_check.specs.Checks.{ReadsNext, TellsRecords, AdmitsNext};
+ghost use Rattle.journal_check.specs.Grouped.{GroupedRecords};
+ghost use Rattle.journal_check.specs.States.{no_order, line_fault, fault_by, behind_record};
+ghost use Rattle.journal_check.specs.States.{is_above, HasRecordPlace};
+
+use crate::fault::{CheckFault, CheckWhy, TextFault};
+use crate::limits::{LONGEST_RECORD, MOST_RECORDS};
+use crate::reading::read_text;
+use crate::rules::{LineRules, forges};
+use air_record::{Line, Record};
+use l2_bits::NoMemory;
+use std::alloc::Global;
+use std::marker::Model;
+
+/// What the records of a journal so far rule out.
+#[derive(Drop)]
+pub(crate) struct RecordOrder {
+    count: u32,
+    last: Option<u32>,
+    ended: bool,
+    lines: LineRules,
+}
+
+impl Model for RecordOrder {
+    ghost use Rattle.std.specs.Prelude.{◌≤◌};
+    ghost use Rattle.journal_check.specs.States.{OrderState};
+    ghost use Rattle.journal_check.specs.declared.limits.TheConstants.{MOST_RECORDS as most};
+
+    ghost Value = { OrderState };
+
+    ghost view = { λ r. record {
+      count = r.count;
+      last = r.last;
+      ended = r.ended;
+      lines = r.lines;
+    } };
+
+    ghost invariant = { λ r. r.count ≤ most };
+}
+
+impl RecordOrder {
+    #[tactic(auto, unfolding(crate::specs::States::no_order))]
+    pub fn new(alloc: Global) -> RecordOrder
+        ensures { result ≡ no_order }
+    {
+        RecordOrder {
+            count: 0,
+            last: None,
+            ended: false,
+            lines: LineRules::new(alloc),
+        }
+    }
+
+    // A refusal of the next line.
+    fn refused(&self, why: CheckWhy) -> CheckFault
+        ensures { result ≡ Refused (self.now.count + 1) why }
+    {
+        CheckFault::Refused {
+            at: self.count + 1,
+            why,
+        }
+    }
+
+    /// The record of the next text.
+    pub fn read(&self, alloc: Global, text: &[u8]) -> Result<Record, CheckFault>
+        ensures { ReadsNext self.now.count text.now result }
+    {
+        if MOST_RECORDS <= self.count {
+            return Err(self.refused(CheckWhy::Records));
+        }
+        if LONGEST_RECORD < text.len() {
+            return Err(self.refused(CheckWhy::Text));
+        }
+        match read_text(alloc, text) {
+            Ok(one) => Ok(one),
+            Err(TextFault::NotARecord) => Err(self.refused(CheckWhy::Text)),
+            Err(TextFault::NoMemory) => Err(CheckFault::NoMemory),
+        }
+    }
+
+    fn is_above(&self, number: u32) -> bool
+        ensures { result ≡ is_above number self.now.last }
+    {
+        match self.last {
+            Some(last) => last < number,
+            None => true,
+        }
+    }
+
+    #[tactic(auto, unfolding(crate::specs::States::line_fault))]
+    fn line_fault(&self, number: u32, line: &Line) -> Option<CheckWhy>
+        ensures { result ≡ line_fault self.now number line.now }
+    {
+        if forges(line) {
+            return Some(CheckWhy::Forged);
+        }
+        if self.ended || !self.is_above(number) {
+            return Some(CheckWhy::Order);
+        }
+        if !self.lines.admits(line) {
+            return Some(CheckWhy::Rules);
+        }
+        None
+    }
+
+    // Why a record may not follow.
+    #[tactic(auto, unfolding(crate::specs::States::fault_by))]
+    fn fault(&self, one: &Record) -> Option<CheckWhy>
+        ensures { result ≡ fault_by self.now one.now }
+    {
+        match one {
+            Record::Line { number, line } => self.line_fault(*number, line.as_line()),
+            Record::Sum { .. } => None,
+            _ => {
+                if self.ended || self.last.is_none() {
+                    return Some(CheckWhy::Order);
+                }
+                None
+            }
+        }
+    }
+
+    // Keeps what later records ask of one.
+    #[tactic(auto, unfolding(crate::specs::States::behind_record))]
+    fn note(&mut self, one: &Record) -> Result<(), NoMemory>
+        requires { self.old.count < MOST_RECORDS }
+        ensures kept { OnOk result (self.new ≡ behind_record one.now self.old) }
+        ensures place { OnOk result (HasRecordPlace one.now) }
+    {
+        match one {
+            Record::Line { number, line } => {
+                self.lines.note(line.as_line())?;
+                self.last = Some(*number);
+            }
+            Record::Sum { .. } => self.ended = true,
+            _ => (),
+        }
+        self.count += 1;
+        Ok(())
+    }
+
+    /// Keeps the next record, if it may stand behind those so far.
+    pub fn admit(&mut self, one: &Record) -> Result<(), CheckFault>
+        requires { self.old.count < MOST_RECORDS }
+        ensures { (r : GroupedRecords) → TellsRecords r self.old
+            → AdmitsNext r one.now result self.new }
+    {
+        if let Some(why) = self.fault(one) {
+            return Err(self.refused(why));
+        }
+        self.note(one)?;
+        Ok(())
+    }
+}
