@@ -1,0 +1,13 @@
+pub mod Senders
+pub mod Receivers
+pub mod Visits
+pub mod Downlink
+pub mod Uplink
+pub mod Tellings
+pub mod Steps
+pub mod Ttis
+pub mod Lines
+pub mod Groups
+pub mod Promised
+pub mod Showing
+pub mod Ours

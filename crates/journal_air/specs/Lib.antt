@@ -1,0 +1,5 @@
+pub mod Told
+pub mod Ends
+pub mod Checking
+pub mod RightAir
+pub mod Laws
