@@ -1,2 +1,4 @@
 pub mod Staying
 pub mod Calling
+pub mod Silent
+pub mod Dealing

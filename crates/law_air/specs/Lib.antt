@@ -2,3 +2,4 @@ pub mod AnyCalls
 pub mod TwoEnds
 pub mod DrainTtis
 pub mod DrainRounds
+pub mod DrainShares

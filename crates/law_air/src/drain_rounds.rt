@@ -2,6 +2,7 @@
 //! function that does nothing.
 
 ghost use Rattle.law_air.specs.DrainRounds.{ChannelsStay, DrainsStay, RoundsAreCalls};
+ghost use Rattle.law_air.specs.DrainShares.{DrainsBegin, RecordsGoSo, RoundsAreDealt, StepsGoSo};
 
 /// The steps of a drain leave the test loop off, and both ends with their channels.
 pub fn drains_stay()
@@ -15,4 +16,14 @@ pub fn drains_stay()
 /// t-PollRetransmit.
 pub fn rounds_are_calls()
     ensures { RoundsAreCalls }
+{}
+
+/// Behind eight TTIs of a drain, whatever timers expire between them and whatever of it is told,
+/// the shares of a further round are those of one block each way, in which no end's HARQ holds a
+/// number: that of the base station, and that of the terminal behind what it heard.
+pub fn rounds_are_dealt()
+    ensures begins { DrainsBegin }
+    ensures steps { StepsGoSo }
+    ensures records { RecordsGoSo }
+    ensures rounds { RoundsAreDealt }
 {}

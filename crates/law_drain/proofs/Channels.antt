@@ -21,19 +21,19 @@ use Rattle.law_drain.proofs.Others.{others_never_rise}
 
 -- ---- what waits, over calls of a drain
 
-all-fall : (cs : List Call) (f : Flow) → AllByRecursion IsOfDrain cs → waits_in (after_all f cs) ≤ waits_in f
+pub all-fall : (cs : List Call) (f : Flow) → AllByRecursion IsOfDrain cs → waits_in (after_all f cs) ≤ waits_in f
 all-fall [] f h = omega arith
 all-fall (c ∷ cs) f h = omega (arith, all-fall cs (after f c) h.1, others_never_rise f c h.0)
 
 -- ---- a bearer keeps its mode
 
-record IsTm (f : Flow) : Type 0 where
-  bearer : Transparent
-  is : f ≡ Tm bearer
+pub record IsTm (f : Flow) : Type 0 where
+  pub bearer : Transparent
+  pub is : f ≡ Tm bearer
 
-record IsUm (f : Flow) : Type 0 where
-  bearer : UmState
-  is : f ≡ Um bearer
+pub record IsUm (f : Flow) : Type 0 where
+  pub bearer : UmState
+  pub is : f ≡ Um bearer
 
 record IsAm (f : Flow) : Type 0 where
   bearer : State
@@ -66,14 +66,14 @@ am-after b (Expire clock) = record { bearer = _; is = refl }
 am-after b Tick = record { bearer = _; is = refl }
 am-after b (SetDiscard ttis) = record { bearer = _; is = refl }
 
-tm-stays : (cs : List Call) (b : Transparent) → IsTm (after_all (Tm b) cs)
+pub tm-stays : (cs : List Call) (b : Transparent) → IsTm (after_all (Tm b) cs)
 tm-stays [] b = record { bearer = b; is = refl }
 tm-stays (c ∷ cs) b =
     let one = tm-after b c in
     let rest' = tm-stays cs one.bearer in
     record { bearer = rest'.bearer; is = ap (λ (f : Flow). after_all f cs) one.is ∙ rest'.is }
 
-um-stays : (cs : List Call) (b : UmState) → IsUm (after_all (Um b) cs)
+pub um-stays : (cs : List Call) (b : UmState) → IsUm (after_all (Um b) cs)
 um-stays [] b = record { bearer = b; is = refl }
 um-stays (c ∷ cs) b =
     let one = um-after b c in

@@ -252,7 +252,7 @@ along-life (c ∷ cs) b =
     let d = does_all (deeds_of b c) b in
     then-all IsOfLife (deeds_of b c) (deeds_along cs d) (call-life b c) (along-life cs d)
 
-lives-on : (cs : List Call) (b : State) → HasLived b → GiveOctets cs b → HasLived (behind cs b)
+pub lives-on : (cs : List Call) (b : State) → HasLived b → GiveOctets cs b → HasLived (behind cs b)
 lives-on cs b h g = record {
   origin = h.origin;
   kind = h.kind;
@@ -278,6 +278,18 @@ lives-on cs b h g = record {
         (sym (in_then h.deeds (deeds_along cs b) h.origin))
         (both-all (sends_in h.deeds h.origin) (sends_in (deeds_along cs b) (does_all h.deeds h.origin)) h.octets
         (subst (λ (d : State). AllByRecursion HasOctets (sends_in (deeds_along cs b) d)) (sym h.is) g))
+
+-- its life goes on
+pub lives-marks : (cs : List Call) (b : State) (h : HasLived b) (g : GiveOctets cs b)
+    → marks_behind (lives-on cs b h g).origin (lives-on cs b h g).deeds
+    ≡ marks_behind h.origin (h.deeds ++ deeds_along cs b)
+unfolding lives-on
+lives-marks cs b h g = refl
+
+pub lives-octets : (cs : List Call) (b : State) (h : HasLived b) → GiveOctets cs b
+    → AllByRecursion HasOctets (sends_in (h.deeds ++ deeds_along cs b) h.origin)
+unfolding lives-on
+lives-octets cs b h g = (lives-on cs b h g).octets
 
 -- calls leave it so
 pub record StandsOn (cs : List Call) (b : State) : Type 0 where

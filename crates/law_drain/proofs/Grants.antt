@@ -38,7 +38,7 @@ even-part (x ∷ xs) whole = step (cases_lt (11 * x) whole) (even-part xs whole)
 
 -- ---- a share has a place for each LCID
 
-one-length : (cs : List Channel) (needs : List ℕ) (g : Giving)
+pub one-length : (cs : List Channel) (needs : List ℕ) (g : Giving)
     → length (round_one cs needs g).shares ≡ length g.shares
 one-length [] needs g = refl
 one-length (c ∷ cs) needs g = one-length cs needs (first_given c (first_part c needs g) g)
@@ -55,7 +55,7 @@ unfolding allotted shared first_shared
 allotted-length b needs grant = two-length b.channels needs (round_one b.channels needs (ungiven b grant))
     ∙ one-length b.channels needs (ungiven b grant)
 
-channel-of : (lcid : ℕ) (cs : List Channel) → has lcid cs ≡ true → (c : Channel) × IsOneOf c cs × (c.lcid ≡ lcid)
+pub channel-of : (lcid : ℕ) (cs : List Channel) → has lcid cs ≡ true → (c : Channel) × IsOneOf c cs × (c.lcid ≡ lcid)
 channel-of lcid [] e = let no' : false ≡ true = e in cc
 channel-of lcid (c ∷ cs) e = elim (or_cases (lcid == c.lcid) (has lcid cs) e) [
   | inl here ↦ (c, inl refl, grind (arith, nat_tests))

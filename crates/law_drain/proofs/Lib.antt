@@ -14,6 +14,8 @@ pub mod BearerDues
 pub mod Calm
 pub mod BearerCalls
 pub mod Used
+pub mod MetNeeds
+pub mod Sharing
 pub mod FlowRound
 pub mod BearerQuiet
 pub mod Thin
@@ -35,3 +37,13 @@ pub mod Signalling
 pub mod Others
 pub mod Channels
 pub mod Paying
+pub mod Falling
+pub mod Settled
+pub mod Empty
+pub mod Left
+pub mod Keeping
+pub mod Fitting
+pub mod Rests
+pub mod Counting
+pub mod AmRests
+pub mod Few

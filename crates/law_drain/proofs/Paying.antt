@@ -1,7 +1,7 @@
 -- A bearer that writes in a round of a drain pays for it.
-use Rattle.std.proofs.Common.{◌≡◌, ◌<◌, ◌≤◌, ◌⊎◌, inl, inr, ℕ, zero, suc, ◌+◌, Bool, true, false, ◌&&◌, ◌||◌}
+use Rattle.std.proofs.Common.{◌≡◌, ◌<◌, ◌≤◌, inl, inr, ℕ, ◌+◌, Bool, true, false, ◌||◌}
 use Rattle.std.proofs.Common.{if◌then◌else◌}
-use Rattle.std.proofs.Common.{nat_le, List, [], ◌∷◌, ◌++◌, length, Option, Some, None, refl, ap, sym, subst, ◌∙◌, arith}
+use Rattle.std.proofs.Common.{nat_le, List, [], ◌∷◌, ◌++◌, length, Option, refl, ap, sym, subst, ◌∙◌, arith}
 use Rattle.std.specs.Prelude.{is_some}
 use Rattle.std.specs.List.{AllByRecursion}
 use Rattle.std.proofs.lemmas.Bool.{cases_eq, and_parts}
@@ -12,18 +12,18 @@ use Rattle.bearer.specs.declared.flow.Flow.{Flow}
 use Rattle.bearer.specs.declared.flow.Flow.TheVariants.{Am}
 use Rattle.bearer_pdcp.specs.Telling.{pdus_of}
 use Rattle.rlc_am_rx.specs.State.{State as Receiver}
-use Rattle.rlc_am_rx.specs.Status.{may_write, is_running}
+use Rattle.rlc_am_rx.specs.Status.{may_write}
 use Rattle.rlc_pdu.specs.declared.outcome.Taken.{Taken}
 use Rattle.rlc_pdu.specs.declared.outcome.Taken.TheVariants as answers
 use Rattle.law_bearer.specs.AnyBearer.Acknowledged.{data_given}
-use Rattle.law_bearer.specs.AnyBearer.Calls.{Call, Take, after_all}
+use Rattle.law_bearer.specs.AnyBearer.Calls.{Call, after_all}
 use Rattle.law_bearer.specs.AnyBearer.Rounds.{Share, Round, takes_in, writes_in, arrivals, expiries, nb_calls, ue_calls}
 use Rattle.law_bearer.proofs.AnyBearer.SenderCalls.{writes_what_rlc_gives}
 use Rattle.law_bearer.specs.AmBearer.Calls.{deeds_of}
 use Rattle.law_bearer.specs.AmBearer.Deeds.{does_all}
 use Rattle.law_drain.specs.Ends.{Stands, CostsBoth, measure_from, nb_tti, ue_tti}
 use Rattle.law_drain.specs.Paying.{OneWrites}
-use Rattle.law_drain.specs.Pending.{pending, IsAtTop, data_in, after_calls}
+use Rattle.law_drain.specs.Pending.{pending, IsAtTop, after_calls}
 use Rattle.law_drain.specs.Queues.{pieces_in}
 use Rattle.law_drain.specs.Round.{IsInTti, behind, written_along, data_coming, tells, tells_along, deeds_along}
 use Rattle.law_drain.proofs.Ends.{all-go, arrivals-all, coming-then, written-then, down-sent, up-sent}

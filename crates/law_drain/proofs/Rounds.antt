@@ -29,7 +29,7 @@ use Rattle.law_drain.proofs.Hearing.{hears_in, all-hear, behind-is, Brings, call
 
 -- ---- the near end
 
-along-calm : (cs : List Call) (b : State) → AllByRecursion IsOfDrain cs → AreCalm (deeds_along cs b)
+pub along-calm : (cs : List Call) (b : State) → AllByRecursion IsOfDrain cs → AreCalm (deeds_along cs b)
 along-calm [] b h = tt
 along-calm (c ∷ cs) b h =
     then-all IsCalm (deeds_of b c) (deeds_along cs (does_all (deeds_of b c) b)) (call-calm b c h.0)

@@ -89,7 +89,7 @@ data-anew bits b keys h idle lived =
           (given-step b.pdcp.tx (RestartPdcp keys) (gave b lived)));
     }
 
-abbrev anew : State → Keys → State
+abbrev pub anew : State → Keys → State
 anew b keys = with_new_rlc b.tx_config b.rx_config (record b.pdcp {
   tx = restarted_sending b.pdcp.tx keys;
   rx = restarted_receiving b.pdcp.rx keys;
@@ -100,7 +100,7 @@ signalling-restarts : (e : Ends) (keys : Keys) → e.kind ≡ SrbKind → restar
 unfolding restarted_pdcp
 signalling-restarts e keys srb = rw srb refl
 
-signalling-left : (b : State) (keys : Keys) → b.pdcp.kind ≡ SrbKind
+pub signalling-left : (b : State) (keys : Keys) → b.pdcp.kind ≡ SrbKind
     → goes (Am b) (Restart keys) ≡ Am (anew b keys)
 unfolding stopped restarted am_stopped am_restarted
 signalling-left b keys srb =

@@ -1,225 +1,19 @@
--- Each SDU that PDCP's sender keeps has an octet, where each that was submitted has.
-use Rattle.std.proofs.Common.{◌≡◌, ◌<◌, ◌≤◌, ℕ, zero, suc, ◌+◌, ◌-◌, ◌*◌, Bool, true, false, if◌then◌else◌}
-use Rattle.std.proofs.Common.{List, [], ◌∷◌, ◌++◌, length, map, take, drop, slice_get, set, Option, Some, None}
-use Rattle.std.proofs.Common.{arith, nat_lt}
+-- What PDCP's sender has still to give, by the SDUs that aren't confirmed, each of which has an octet.
+use Rattle.std.proofs.Common.{◌≡◌, ◌<◌, ◌≤◌, ℕ, ◌+◌, ◌*◌, List, [], ◌∷◌, length, arith}
 use Rattle.std.proofs.Math.Nat.{mul-le-mul_left}
 use Rattle.std.specs.List.{AllByRecursion}
-use Rattle.pdcp_pdu.specs.Kinds.{is_am}
-use Rattle.pdcp_pdu.specs.declared.pdu.PdcpKind.{PdcpKind}
-use Rattle.pdcp_pdu.specs.declared.pdu.PdcpKind.TheVariants.{Srb, Um, Am}
-use Rattle.pdcp_sec.specs.Protection.{Protection}
 use Rattle.pdcp_tx_store.specs.declared.given.Sent.{Sent}
-use Rattle.pdcp_tx_store.specs.declared.given.Entry.{Entry}
-use Rattle.pdcp_tx_store.specs.declared.given.Entry.TheVariants.{Data, Own, Gone}
-use Rattle.pdcp_tx_store.specs.Given.{is_open, trimmed, acked, acked_at, entry_at, heard, tells, untold, from_unacked}
-use Rattle.pdcp_tx_store.specs.Given.{data_of, open_octets, sent_octets}
+use Rattle.pdcp_tx_store.specs.Given.{open_octets, sent_octets}
 use Rattle.pdcp_tx_store.specs.Waiting.{Waits, length_all}
 use Rattle.pdcp_tx.specs.Pdus.{extra}
 use Rattle.pdcp_tx.specs.Runs.{Submit, Take, Confirm, Report, Owe, Tick, Late}
-use Rattle.pdcp_tx.specs.State.{State, start, submitted, took, took_owed, took_again, took_new, confirmed}
-use Rattle.pdcp_tx.specs.State.{reported, reported_from, fms_count, after_late, is_overdue, restarted, waiting_on, left}
-use Rattle.law_pdcp.specs.OneEnd.Lives.{Step, Calls, SetDiscard, Restart, goes, run_pdcp_sender}
+use Rattle.pdcp_tx.specs.State.{State, start, left}
+use Rattle.law_pdcp.specs.OneEnd.Lives.{Step, Calls, SetDiscard, Restart, run_pdcp_sender}
 use Rattle.law_drain.specs.Budget.{HasOctets, UnsentIsLeft}
+use Rattle.law_drain.specs.Ends.{HasOctet}
+use Rattle.law_drain.specs.Left.{AllSent, AllWaiting, SdusHaveOctets}
 use Rattle.law_drain.specs.Unsent.{again_octets, waiting_octets}
-
-abbrev HasText : Entry → Type 0
-HasText (Data s) = 0 < length s.octets
-HasText Own = Unit {0}
-HasText Gone = Unit {0}
-
-abbrev AreEntries : List Entry → Type 0
-AreEntries [] = Unit {0}
-AreEntries (e ∷ es) = HasText e × AreEntries es
-
-abbrev AreSent : List Sent → Type 0
-AreSent [] = Unit {0}
-AreSent (s ∷ ss) = (0 < length s.octets) × AreSent ss
-
-abbrev AreWaiting : List Waits → Type 0
-AreWaiting [] = Unit {0}
-AreWaiting (w ∷ ws) = (0 < length w.sdu) × AreWaiting ws
-
-record Spoken (s : State) : Type 0 where
-  given : AreEntries s.given.entries
-  again : AreSent s.again
-  waiting : AreWaiting s.waiting
-
--- ---- entries
-
-trimmed-texts : (es : List Entry) → AreEntries es → AreEntries (trimmed es)
-trimmed-texts [] h = tt
-trimmed-texts (e ∷ es) h = by (is_open e) (trimmed-texts es h.1)
-  where
-    by : (b : Bool) → AreEntries (trimmed es) → AreEntries (if b then e ∷ es else trimmed es)
-    by true rest = h
-    by false rest = rest
-
-more-texts : (es : List Entry) (e : Entry) → AreEntries es → HasText e → AreEntries (es ++ e ∷ [])
-more-texts [] e h t = (t, tt)
-more-texts (x ∷ xs) e h t = (h.0, more-texts xs e h.1 t)
-
-acked-text : (e : Entry) → HasText e → HasText (acked e)
-acked-text (Data s) t = t
-acked-text Own t = tt
-acked-text Gone t = tt
-
-set-texts : (es : List Entry) (k : ℕ) (e : Entry) → AreEntries es → HasText e → AreEntries (set es k e)
-set-texts [] k e h t = tt
-set-texts (x ∷ xs) zero e h t = (t, h.1)
-set-texts (x ∷ xs) (suc k) e h t = (h.0, set-texts xs k e h.1 t)
-
-abbrev MayHaveText : Option Entry → Type 0
-MayHaveText None = Unit {0}
-MayHaveText (Some e) = HasText e
-
-get-text : (es : List Entry) (k : ℕ) → AreEntries es → MayHaveText (slice_get es k)
-get-text [] k h = tt
-get-text (e ∷ es) zero h = h.0
-get-text (e ∷ es) (suc k) h = get-text es k h.1
-
-acked-texts : (o : Option Entry) (es : List Entry) (k : ℕ) → AreEntries es → MayHaveText o
-    → AreEntries (acked_at o es k)
-acked-texts None es k h t = h
-acked-texts (Some e) es k h t = set-texts es k (acked e) h (acked-text e t)
-
-heard-texts : (from : ℕ) (bitmap : List ℕ) (es : List Entry) → AreEntries es → AreEntries (map (heard from bitmap) es)
-heard-texts from bitmap [] h = tt
-heard-texts from bitmap (Data s ∷ es) h = (by (tells from bitmap s.count), heard-texts from bitmap es h.1)
-  where
-    by : (b : Bool) → HasText (if b then Gone else Data s)
-    by true = tt
-    by false = h.0
-heard-texts from bitmap (Own ∷ es) h = (tt, heard-texts from bitmap es h.1)
-heard-texts from bitmap (Gone ∷ es) h = (tt, heard-texts from bitmap es h.1)
-
-data-texts : (es : List Entry) (ss : List Sent) → AreEntries es → AreSent ss → AreSent (data_of es ++ ss)
-data-texts [] ss h g = g
-data-texts (Data s ∷ es) ss h g = (h.0, data-texts es ss h.1 g)
-data-texts (Own ∷ es) ss h g = data-texts es ss h.1 g
-data-texts (Gone ∷ es) ss h g = data-texts es ss h.1 g
-
-unacked-texts : (ss : List Sent) → AreSent ss → AreSent (from_unacked ss)
-unacked-texts [] h = tt
-unacked-texts (s ∷ ss) h = by s.acked (unacked-texts ss h.1)
-  where
-    by : (b : Bool) → AreSent (from_unacked ss) → AreSent (if b then from_unacked ss else s ∷ ss)
-    by true rest = rest
-    by false rest = h
-
-untold-texts : (from : ℕ) (bitmap : List ℕ) (ss : List Sent) → AreSent ss → AreSent (untold from bitmap ss)
-untold-texts from bitmap [] h = tt
-untold-texts from bitmap (s ∷ ss) h = by (tells from bitmap s.count) (untold-texts from bitmap ss h.1)
-  where
-    by : (b : Bool) → AreSent (untold from bitmap ss)
-        → AreSent (if b then untold from bitmap ss else s ∷ untold from bitmap ss)
-    by true rest = rest
-    by false rest = (h.0, rest)
-
--- ---- what waits
-
-later-waiting : (ws : List Waits) → AreWaiting ws → AreWaiting (drop 1 ws)
-later-waiting [] h = tt
-later-waiting (w ∷ ws) h = h.1
-
-more-waiting : (ws : List Waits) (w : Waits) → AreWaiting ws → 0 < length w.sdu → AreWaiting (ws ++ w ∷ [])
-more-waiting [] w h t = (t, tt)
-more-waiting (x ∷ xs) w h t = (h.0, more-waiting xs w h.1 t)
-
-front-waiting : (n : ℕ) (ws : List Waits) → AreWaiting ws → AreWaiting (take n ws)
-front-waiting zero ws h = tt
-front-waiting (suc n) [] h = tt
-front-waiting (suc n) (w ∷ ws) h = (h.0, front-waiting n ws h.1)
-
--- ---- any step
-
-new-spoken : (ws : List Waits) (s : State) → AreWaiting ws → Spoken s → Spoken (took_new ws s)
-new-spoken [] s t h = h
-new-spoken (w ∷ ws) s t h = record {
-  given = by (is_am s.kind);
-  again = h.again;
-  waiting = later-waiting s.waiting h.waiting;
-}
-  where
-    by : (b : Bool) → AreEntries (if b then record {
-      gone = s.given.gone;
-      entries = s.given.entries ++ Data (record { count = s.next; octets = w.sdu; acked = false }) ∷ [];
-    } else s.given).entries
-    by true = more-texts s.given.entries (Data (record { count = s.next; octets = w.sdu; acked = false })) h.given t.0
-    by false = h.given
-
-again-spoken : (ss : List Sent) (s : State) → AreSent ss → Spoken s → Spoken (took_again ss s)
-again-spoken [] s t h =
-    new-spoken (take (s.bound - s.next) s.waiting) s (front-waiting (s.bound - s.next) s.waiting h.waiting) h
-again-spoken (x ∷ xs) s t h = record {
-  given = trimmed-texts (s.given.entries ++ Data x ∷ []) (more-texts s.given.entries (Data x) h.given t.0);
-  again = t.1;
-  waiting = h.waiting;
-}
-
-owed-spoken : (o : Option (List ℕ)) (s : State) → Spoken s → Spoken (took_owed o s)
-owed-spoken None s h = again-spoken s.again s h.again h
-owed-spoken (Some report) s h = record {
-  given = more-texts s.given.entries Own h.given tt;
-  again = h.again;
-  waiting = h.waiting;
-}
-
-reported-spoken : (o : Option ℕ) (s : State) (bitmap : List ℕ) → Spoken s → Spoken (reported_from o s bitmap)
-reported-spoken None s bitmap h = h
-reported-spoken (Some from) s bitmap h = record {
-  given = trimmed-texts (map (heard from bitmap) s.given.entries) (heard-texts from bitmap s.given.entries h.given);
-  again = untold-texts from bitmap s.again h.again;
-  waiting = h.waiting;
-}
-
-late-spoken : (b : Bool) (s : State) → Spoken s
-    → Spoken (record s { waiting = if b then drop 1 s.waiting else s.waiting })
-late-spoken true s h = record { given = h.given; again = h.again; waiting = later-waiting s.waiting h.waiting }
-late-spoken false s h = record { given = h.given; again = h.again; waiting = h.waiting }
-
-kept-waiting : (kind : PdcpKind) (ws : List Waits) → AreWaiting ws → AreWaiting (waiting_on kind ws)
-kept-waiting Srb ws h = tt
-kept-waiting (Um bits) ws h = h
-kept-waiting (Am bits) ws h = h
-
--- at a place that isn't gone
-entry-text : (s : State) (place : ℕ) → Spoken s → MayHaveText (entry_at s.given place)
-entry-text s place h = by (nat_lt place s.given.gone)
-  where
-    by : (b : Bool) → MayHaveText (if b then None else slice_get s.given.entries (place - s.given.gone))
-    by true = tt
-    by false = get-text s.given.entries (place - s.given.gone) h.given
-
-step-spoken : (s : State) (x : Step) → HasOctets x → Spoken s → Spoken (goes s x)
-unfolding submitted took confirmed reported after_late restarted
-step-spoken s (Calls (Submit sdu)) t h = record {
-  given = h.given;
-  again = h.again;
-  waiting = more-waiting s.waiting _ h.waiting t;
-}
-step-spoken s (Calls Take) t h = owed-spoken s.owed s h
-step-spoken s (Calls (Confirm place)) t h = record {
-  given = trimmed-texts (acked_at (entry_at s.given place) s.given.entries (place - s.given.gone))
-      (acked-texts (entry_at s.given place) s.given.entries (place - s.given.gone) h.given (entry-text s place h));
-  again = h.again;
-  waiting = h.waiting;
-}
-step-spoken s (Calls (Report fms bitmap)) t h = reported-spoken (fms_count s.kind s.base fms) s bitmap h
-step-spoken s (Calls (Owe report)) t h = record { given = h.given; again = h.again; waiting = h.waiting }
-step-spoken s (Calls Tick) t h = record { given = h.given; again = h.again; waiting = h.waiting }
-step-spoken s (Calls Late) t h = late-spoken (is_overdue s) s h
-step-spoken s (SetDiscard ttis) t h = record { given = h.given; again = h.again; waiting = h.waiting }
-step-spoken s (Restart keys) t h = record {
-  given = tt;
-  again = unacked-texts (data_of s.given.entries ++ s.again)
-      (data-texts s.given.entries s.again h.given h.again);
-  waiting = kept-waiting s.kind s.waiting h.waiting;
-}
-
-run-spoken : (steps : List Step) (s : State) → AllByRecursion HasOctets steps → Spoken s
-    → Spoken (run_pdcp_sender steps s)
-run-spoken [] s t h = h
-run-spoken (x ∷ xs) s t h = run-spoken xs (goes s x) t.1 (step-spoken s x t.0 h)
+use Rattle.law_drain.proofs.Keeping.{Brings, run-keeps, start-keeps}
 
 -- ---- headers
 
@@ -229,35 +23,50 @@ one-more size more some =
     let apart : (more + 1) * size ≡ more * size + size = grind arith in
     omega (arith, all, apart)
 
-again-most : (more : ℕ) (ss : List Sent) → AreSent ss → again_octets more ss ≤ (more + 1) * sent_octets ss
+again-most : (more : ℕ) (ss : List Sent) → AllSent HasOctet ss → again_octets more ss ≤ (more + 1) * sent_octets ss
 again-most more [] h = omega arith
 again-most more (s ∷ ss) h =
     let apart : (more + 1) * (length s.octets + sent_octets ss)
     ≡ (more + 1) * length s.octets + (more + 1) * sent_octets ss = grind arith in
     omega (arith, one-more (length s.octets) more h.0, again-most more ss h.1, apart)
 
-waiting-most : (more : ℕ) (ws : List Waits) → AreWaiting ws → waiting_octets more ws ≤ (more + 1) * length_all ws
+waiting-most : (more : ℕ) (ws : List Waits) → AllWaiting HasOctet ws
+    → waiting_octets more ws ≤ (more + 1) * length_all ws
 waiting-most more [] h = omega arith
 waiting-most more (w ∷ ws) h =
     let apart : (more + 1) * (length w.sdu + length_all ws)
     ≡ (more + 1) * length w.sdu + (more + 1) * length_all ws = grind arith in
     omega (arith, one-more (length w.sdu) more h.0, waiting-most more ws h.1, apart)
 
-spoken-left : (s : State) → Spoken s
+pub texts-left : (s : State) → SdusHaveOctets s
     → again_octets (extra s.kind) s.again + waiting_octets (extra s.kind) s.waiting ≤ (extra s.kind + 1) * left s
 unfolding left
-spoken-left s h =
+texts-left s h =
     let k = extra s.kind in
     let apart : (k + 1) * (open_octets s.given.entries + sent_octets s.again + length_all s.waiting)
     ≡ (k + 1) * open_octets s.given.entries + (k + 1) * sent_octets s.again + (k + 1) * length_all s.waiting =
     grind arith in
-    omega (arith, again-most k s.again h.again, waiting-most k s.waiting h.waiting, apart)
+    omega (arith, again-most k s.again h.0, waiting-most k s.waiting h.1, apart)
 
-start-spoken : (kind : PdcpKind) (p : Protection) (first : ℕ) → Spoken (start kind p first)
-unfolding start
-start-spoken kind p first = record { given = tt; again = tt; waiting = tt }
+-- ---- through any steps
+
+octets-bring : (x : Step) → HasOctets x → Brings HasOctet x
+octets-bring (Calls (Submit sdu)) h = h
+octets-bring (Calls Take) h = tt
+octets-bring (Calls (Confirm place)) h = tt
+octets-bring (Calls (Report fms bitmap)) h = tt
+octets-bring (Calls (Owe report)) h = tt
+octets-bring (Calls Tick) h = tt
+octets-bring (Calls Late) h = tt
+octets-bring (SetDiscard ttis) h = tt
+octets-bring (Restart keys) h = tt
+
+all-bring : (steps : List Step) → AllByRecursion HasOctets steps → AllByRecursion (Brings HasOctet) steps
+all-bring [] h = tt
+all-bring (x ∷ xs) h = (octets-bring x h.0, all-bring xs h.1)
 
 pub unsent_is_left : UnsentIsLeft
 unsent_is_left kind p first steps t =
     let s = run_pdcp_sender steps (start kind p first) in
-    omega (arith, spoken-left s (run-spoken steps (start kind p first) t (start-spoken kind p first)))
+    let k = run-keeps HasOctet steps (start kind p first) (all-bring steps t) (start-keeps HasOctet kind p first) in
+    omega (arith, texts-left s (k.again, k.waiting))

@@ -23,7 +23,7 @@ use Rattle.bearer_pdcp.specs.Telling.{pdus_of}
 use Rattle.pdcp_tx.specs.State.{Offer, offers, taking}
 use Rattle.rlc_am_rx.specs.Status.{may_write}
 use Rattle.rlc_am_tx_window.specs.Sent.{Sent, all_wait, whole_size}
-use Rattle.rlc_am_tx_window.specs.Window.{TxWindow, next, some_wait}
+use Rattle.rlc_am_tx_window.specs.Window.{TxWindow, next, slot_at, leading_idle, some_wait}
 use Rattle.rlc_am_tx.specs.declared.turn.Turn.{Turn}
 use Rattle.rlc_am_tx.specs.declared.turn.Turn.TheVariants as turns
 use Rattle.rlc_am_tx.specs.Machine.{State as Sender, waits, is_shut, is_held, again, resend_turn}
@@ -56,7 +56,7 @@ first-fits (sdu ∷ sdus) number grant share few some same = by (nat_lt (grant +
         let fits : nat_lt (share - 3) (length sdu) ≡ false = grind (arith, nat_tests, all, few, e) in
         rw fits (omega arith)
 
-tm-used : (b : Transparent) (grant share : ℕ) → grant ≤ 9422 → 0 < tm_need b grant → share ≡ tm_need b grant
+pub tm-used : (b : Transparent) (grant share : ℕ) → grant ≤ 9422 → 0 < tm_need b grant → share ≡ tm_need b grant
     → 0 < length (pdus_of (tm_taken b (share - 3)))
 unfolding tm_taken
 tm-used b grant share few some same = first-fits b.waiting b.next grant share few some same
@@ -121,14 +121,14 @@ head-few bits = by (bits == 5)
     by true = omega arith
     by false = omega arith
 
-fits-one : (head size : ℕ) → head ≤ 2 → 5 ≤ size → fits_more head size 0 0 [] ≡ true
+fits-one : (head size : ℕ) → head ≤ 2 → 3 ≤ size → fits_more head size 0 0 [] ≡ true
 fits-one head size few some = grind (arith, nat_tests, few, some)
 
 -- RLC has something to send, where PDCP has
-um-filled : (b : UmState) (os : List Offer) (size : ℕ) (held : Option ℕ) → offers b.pdcp.tx ≡ os → 5 ≤ size
+um-filled : (b : UmState) (os : List Offer) (size : ℕ) (held : Option ℕ) → offers b.pdcp.tx ≡ os → 3 ≤ size
     → um_is_held held b.tx ≡ false → 0 < pdcp_waiting b.pdcp + wanted b.tx.waiting.sdus
     → 0 < length (um_feeds os size held (record { pdcp = b.pdcp; tx = b.tx; events = [] })).tx.waiting.sdus
-um-filled b os size held same five free some = by b.tx.waiting.sdus refl
+um-filled b os size held same three free some = by b.tx.waiting.sdus refl
   where
     start : Feeding
     start = record { pdcp = b.pdcp; tx = b.tx; events = [] }
@@ -138,7 +138,7 @@ um-filled b os size held same five free some = by b.tx.waiting.sdus refl
     first' [] q w none = absurd (omega (arith, w, no-offers b.pdcp q))
     first' (o ∷ qs) q w none =
         let hungers : is_hungry b.tx size held ≡ true =
-        rw (free, none) (fits-one (head_of b.tx.bits) size (head-few b.tx.bits) five) in
+        rw (free, none) (fits-one (head_of b.tx.bits) size (head-few b.tx.bits) three) in
         rw hungers
         (um-kept qs size held (um_fed start) (um-some (taken b.pdcp) b.tx (some-taken b.pdcp o qs q)))
 
@@ -149,11 +149,11 @@ um-filled b os size held same five free some = by b.tx.waiting.sdus refl
     by (x ∷ xs) e = um-kept os size held start (subst (λ (ss : List (List ℕ)). 0 < length ss) (sym e) (omega arith))
 
 um-gives : (s : UmSender) (size : ℕ) (held : Option ℕ) → 0 < length s.waiting.sdus → um_is_held held s ≡ false
-    → 5 ≤ size → 0 < length (pdus_of (um_taken s size held))
+    → 3 ≤ size → 0 < length (pdus_of (um_taken s size held))
 unfolding um_taken
-um-gives s size held some free five =
+um-gives s size held some free three =
     let fill : (length s.waiting.sdus == 0) ≡ false = grind (arith, nat_tests, some) in
-    let large : nat_lt size (head_of s.bits + 1) ≡ false = grind (arith, nat_tests, five, head-few s.bits) in
+    let large : nat_lt size (head_of s.bits + 1) ≡ false = grind (arith, nat_tests, three, head-few s.bits) in
     rw (fill, free, large) (omega arith)
 
 held-same : (held : Option ℕ) (s t : UmSender) → UmStays s t → um_is_held held t ≡ um_is_held held s
@@ -162,10 +162,11 @@ held-same (Some number) s t e =
     ap (λ (bits : ℕ). nat_le (number + width_of bits) t.next) e.bits
     ∙ ap (λ (n : ℕ). nat_le (number + width_of s.bits) n) e.next'
 
-um-used : (b : UmState) (share : ℕ) (held : Option ℕ) → 0 < um_need b.tx (pdcp_waiting b.pdcp) held → 8 ≤ share
+-- 6 octets are enough: the subheader, and a PDU of 3
+pub um-used : (b : UmState) (share : ℕ) (held : Option ℕ) → 0 < um_need b.tx (pdcp_waiting b.pdcp) held → 6 ≤ share
     → 0 < length (pdus_of (um_answer b share held))
 unfolding um_answer
-um-used b share held some eight =
+um-used b share held some six =
     by (um_is_held held b.tx) (pdcp_waiting b.pdcp + wanted b.tx.waiting.sdus == 0) refl refl
   where
     by : (h z : Bool) → um_is_held held b.tx ≡ h → (pdcp_waiting b.pdcp + wanted b.tx.waiting.sdus == 0) ≡ z
@@ -176,11 +177,11 @@ um-used b share held some eight =
         let none : um_need b.tx (pdcp_waiting b.pdcp) held ≡ 0 = rw (e, q) refl in absurd (omega (arith, none, some))
     by false false e q =
         um-gives (um_feeding b share held).tx (size_in share) held
-        (um-filled b (offers b.pdcp.tx) (size_in share) held refl (omega (arith, eight)) e
+        (um-filled b (offers b.pdcp.tx) (size_in share) held refl (omega (arith, six)) e
         (grind (arith, nat_tests, q)))
         (held-same held b.tx (um_feeding b share held).tx
         (um-stays (offers b.pdcp.tx) (size_in share) held (record { pdcp = b.pdcp; tx = b.tx; events = [] })) ∙ e)
-        (omega (arith, eight))
+        (omega (arith, six))
 
 -- ---- acknowledged mode
 
@@ -223,7 +224,7 @@ feeds-keep (o ∷ os) size held w some =
     by false more = some
 
 -- a data PDU
-abbrev IsSent : Turn → Type 0
+abbrev pub IsSent : Turn → Type 0
 IsSent turns.Whole = Unit {0}
 IsSent turns.Part = Unit {0}
 IsSent turns.New = Unit {0}
@@ -244,7 +245,7 @@ sent-pdus turns.Small s size more h = absurd h
 sent-pdus turns.Shut s size more h = absurd h
 sent-pdus turns.Held s size more h = absurd h
 
-resends : (h : Sent) (size : ℕ) → 5 ≤ size → IsSent (resend_turn h size)
+pub resends : (h : Sent) (size : ℕ) → 5 ≤ size → IsSent (resend_turn h size)
 resends h size five = by (all_wait h && nat_le (whole_size h) size)
   where
     large : nat_le 5 size ≡ true
@@ -254,28 +255,28 @@ resends h size five = by (all_wait h && nat_le (whole_size h) size)
     by true = tt
     by false = rw large tt
 
-again-turn : (s : Sender) (size : ℕ) (held : Option ℕ) (more : Bool) → s.failed ≡ false → waits s ≡ true → 5 ≤ size
-    → IsSent (turn s size held more)
+again-turn : (s : Sender) (size : ℕ) (held : Option ℕ) (more : Bool) → s.failed ≡ false → waits s ≡ true
+    → IsSent (resend_turn (again s) size) → IsSent (turn s size held more)
 unfolding turn
-again-turn s size held more go w five = rw (w, go) (resends (again s) size five)
+again-turn s size held more go w goes = rw (w, go) goes
 
 new-turn : (s : Sender) (size : ℕ) (held : Option ℕ) (more : Bool) → s.failed ≡ false → waits s ≡ false
-    → is_shut s ≡ false → is_held held (next s.window) ≡ false → 0 < length s.queue.sdus → 5 ≤ size
+    → is_shut s ≡ false → is_held held (next s.window) ≡ false → 0 < length s.queue.sdus → 3 ≤ size
     → IsSent (turn s size held more)
 unfolding turn
-new-turn s size held more go w shut free some five =
+new-turn s size held more go w shut free some three =
     let fill : (length s.queue.sdus == 0) ≡ false = grind (arith, nat_tests, some) in
-    let large : nat_lt size 3 ≡ false = grind (arith, nat_tests, five) in
+    let large : nat_lt size 3 ≡ false = grind (arith, nat_tests, three) in
     rw (w, fill, go, shut, free, large) tt
 
 -- what needs an octet of a data PDU
-record Needs (s : Sender) (held : Option ℕ) (waiting : ℕ) : Type 0 where
-  failed : s.failed ≡ false
-  shut : waits s ≡ false → is_shut s ≡ false
-  free : waits s ≡ false → is_held held (next s.window) ≡ false
-  some : waits s ≡ false → 0 < wanted s.queue.sdus + waiting
+pub record Needs (s : Sender) (held : Option ℕ) (waiting : ℕ) : Type 0 where
+  pub failed : s.failed ≡ false
+  pub shut : waits s ≡ false → is_shut s ≡ false
+  pub free : waits s ≡ false → is_held held (next s.window) ≡ false
+  pub some : waits s ≡ false → 0 < wanted s.queue.sdus + waiting
 
-needs-of : (s : Sender) (waiting : ℕ) (held : Option ℕ) → 0 < data_need s waiting held → Needs s held waiting
+pub needs-of : (s : Sender) (waiting : ℕ) (held : Option ℕ) → 0 < data_need s waiting held → Needs s held waiting
 unfolding data_need
 needs-of s waiting held some = record {
   failed = grind (arith, nat_tests, common_steps, some);
@@ -285,21 +286,21 @@ needs-of s waiting held some = record {
 }
 
 hungers : (s : Sender) (size : ℕ) (held : Option ℕ) (waiting : ℕ) → waits s ≡ false → Needs s held waiting
-    → s.queue.sdus ≡ [] → 5 ≤ size → hungry s size held ≡ true
+    → s.queue.sdus ≡ [] → 3 ≤ size → hungry s size held ≡ true
 unfolding hungry
-hungers s size held waiting still n none five =
-    rw (n.failed, still, n.shut still, n.free still, none) (fits-one 2 size (omega arith) five)
+hungers s size held waiting still n none three =
+    rw (n.failed, still, n.shut still, n.free still, none) (fits-one 2 size (omega arith) three)
 
 am-filled : (b : State) (os : List Offer) (size : ℕ) (held : Option ℕ) (w : Work) → w.pdcp ≡ b.pdcp → w.tx ≡ b.tx
-    → offers b.pdcp.tx ≡ os → 5 ≤ size → waits b.tx ≡ false → Needs b.tx held (pdcp_waiting b.pdcp)
+    → offers b.pdcp.tx ≡ os → 3 ≤ size → waits b.tx ≡ false → Needs b.tx held (pdcp_waiting b.pdcp)
     → 0 < length (feeds os size held w).tx.queue.sdus
-am-filled b os size held w p t same five still n = by b.tx.queue.sdus refl
+am-filled b os size held w p t same three still n = by b.tx.queue.sdus refl
   where
     first' : (qs : List Offer) → offers b.pdcp.tx ≡ qs → 0 < pdcp_waiting b.pdcp → b.tx.queue.sdus ≡ []
         → 0 < length (feeds qs size held w).tx.queue.sdus
     first' [] q wants none = absurd (omega (arith, wants, no-offers b.pdcp q))
     first' (o ∷ qs) q wants none = step (hungry w.tx size held)
-        (ap (λ (s : Sender). hungry s size held) t ∙ hungers b.tx size held (pdcp_waiting b.pdcp) still n none five)
+        (ap (λ (s : Sender). hungry s size held) t ∙ hungers b.tx size held (pdcp_waiting b.pdcp) still n none three)
       where
         there : 0 < length (fed w).tx.queue.sdus
         there = given-some (taken w.pdcp) w.tx (ap (λ (e : Ends). is_some (taken e)) p ∙ some-taken b.pdcp o qs q)
@@ -317,10 +318,15 @@ am-filled b os size held w p t same five still n = by b.tx.queue.sdus refl
         (subst (λ (s : Sender). 0 < length s.queue.sdus) (sym t)
         (subst (λ (ss : List (List ℕ)). 0 < length ss) (sym e) (omega arith)))
 
+-- the octets that a data PDU needs
+pub record FitsData (s : Sender) (size : ℕ) : Type 0 where
+  pub resent : waits s ≡ true → IsSent (resend_turn (again s) size)
+  pub new : waits s ≡ false → 3 ≤ size
+
 data-sent : (b : State) (size : ℕ) (held : Option ℕ) (w : Work) (more : Bool) → w.pdcp ≡ b.pdcp → w.tx ≡ b.tx
-    → 5 ≤ size → Needs b.tx held (pdcp_waiting b.pdcp)
+    → FitsData b.tx size → Needs b.tx held (pdcp_waiting b.pdcp)
     → IsSent (turn (feeds (offers b.pdcp.tx) size held w).tx size held more)
-data-sent b size held w more p t five n = by (waits b.tx) refl
+data-sent b size held w more p t wide n = by (waits b.tx) refl
   where
     v : Sender
     v = (feeds (offers b.pdcp.tx) size held w).tx
@@ -338,43 +344,55 @@ data-sent b size held w more p t five n = by (waits b.tx) refl
     same = ap (λ (x : TxWindow). some_wait x.slots) window
 
     by : (q : Bool) → waits b.tx ≡ q → IsSent (turn v size held more)
-    by true e = again-turn v size held more go (same ∙ e) five
+    by true e =
+        again-turn v size held more go (same ∙ e)
+        (subst (λ (x : TxWindow). IsSent (resend_turn (slot_at x.slots (leading_idle x.slots)) size)) (sym window)
+        (wide.resent e))
     by false e =
         new-turn v size held more go (same ∙ e)
         (ap (λ (x : TxWindow). length x.slots == 512) window ∙ n.shut e)
         (ap (λ (x : TxWindow). is_held held (next x)) window ∙ n.free e)
-        (am-filled b (offers b.pdcp.tx) size held w p t refl five e n) five
+        (am-filled b (offers b.pdcp.tx) size held w p t refl (wide.new e) e n) (wide.new e)
 
 some-more : (xs ys : List (List ℕ)) → 0 < length ys → 0 < length (xs ++ ys)
 some-more xs ys some = omega (arith, length-append xs ys, some)
 
-am-used : (b : State) (share : ℕ) (held : Option ℕ) → 0 < am_need b held → 8 ≤ share
-    → 0 < length (am_pdus b share held)
+-- in a share that a STATUS fits into which is due, and else a data PDU
+pub am-sends : (b : State) (share : ℕ) (held : Option ℕ) → 0 < am_need b held → (may_write b.rx ≡ true → 5 ≤ share)
+    → (may_write b.rx ≡ false → FitsData b.tx (share - 3)) → 0 < length (am_pdus b share held)
 unfolding am_need am_pdus am_answer
-am-used b share held some eight = by (may_write b.rx) refl
+am-sends b share held some status wide = by (may_write b.rx) refl
   where
-    five : nat_le 5 share ≡ true
-    five = grind (arith, nat_tests, eight)
-
     by : (due : Bool) → may_write b.rx ≡ due
         → 0 < length (status_pdus b.rx share
         ++ pdus_of (answer_of
         (turn (feeding b share held).tx (data_size b share) held (has_more (feeding b share held).pdcp))
         (feeding b share held).tx (data_size b share) (has_more (feeding b share held).pdcp)))
-    by true e = rw (e, five) (omega arith)
+    by true e =
+        let five : nat_le 5 share ≡ true = grind (arith, nat_tests, status e) in
+        rw (e, five) (omega arith)
     by false e =
         let none : status_need b ≡ 0 = rw e refl in
         let n = needs-of b.tx (pdcp_waiting b.pdcp) held (omega (arith, some, none)) in
-        let size : data_size b share ≡ share - 3 = rw e refl in
+        let size : share - 3 ≡ data_size b share = rw e refl in
         some-more (status_pdus b.rx share) _
         (sent-pdus (turn (feeding b share held).tx (data_size b share) held (has_more (feeding b share held).pdcp))
         (feeding b share held).tx (data_size b share) (has_more (feeding b share held).pdcp)
         (data-sent b (data_size b share) held
         (work b.pdcp b.tx (status_told b.pdcp.lcid (has_prohibit b) b.rx share))
-        (has_more (feeding b share held).pdcp) refl refl (omega (arith, size, eight)) n))
+        (has_more (feeding b share held).pdcp) refl refl (subst (FitsData b.tx) size (wide e)) n))
+
+am-used : (b : State) (share : ℕ) (held : Option ℕ) → 0 < am_need b held → 8 ≤ share
+    → 0 < length (am_pdus b share held)
+am-used b share held some eight =
+    am-sends b share held some (λ due. omega (arith, eight))
+    (λ rests. record {
+      resent = λ w. resends (again b.tx) (share - 3) (omega (arith, eight));
+      new = λ w. omega (arith, eight);
+    })
 
 pub shares_are_used : SharesAreUsed
 unfolding need pdus
 shares_are_used (Tm b) grant held share few some enough = tm-used b grant share few some enough
-shares_are_used (Um b) grant held share few some enough = um-used b share held some enough
+shares_are_used (Um b) grant held share few some enough = um-used b share held some (omega (arith, enough))
 shares_are_used (Am b) grant held share few some enough = am-used b share held some enough

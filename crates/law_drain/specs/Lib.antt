@@ -15,3 +15,8 @@ pub mod Signalling
 pub mod Others
 pub mod Channels
 pub mod Paying
+pub mod Sharing
+pub mod Falling
+pub mod Settled
+pub mod Left
+pub mod Few

@@ -1,6 +1,6 @@
 -- A bearer that writes in a round of a drain pays for it, with a data PDU or a STATUS (TS 36.322
 -- 5.1.3, 5.2).
-use Rattle.std.specs.Prelude.{◌⊎◌, ℕ, ◌+◌, ◌<◌, ◌≤◌, length}
+use Rattle.std.specs.Prelude.{◌⊎◌, ◌+◌, ◌<◌, ◌≤◌, length}
 use Rattle.bearer.specs.Acknowledged.State.{State}
 use Rattle.bearer.specs.declared.flow.Flow.TheVariants.{Am}
 use Rattle.law_bearer.specs.AnyBearer.Calls.{after_all}

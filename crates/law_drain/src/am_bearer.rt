@@ -5,9 +5,12 @@
 ghost use Rattle.law_drain.specs.Bearer.{BearerDuesFall, BearerQuietEnds};
 ghost use Rattle.law_drain.specs.Done.{IdleIsDrained, SentIsDrained};
 ghost use Rattle.law_drain.specs.Ends.{RoundsCostBoth};
+ghost use Rattle.law_drain.specs.Left.{BearerDuesAreLeft};
 ghost use Rattle.law_drain.specs.Paying.{WritersPay};
 ghost use Rattle.law_drain.specs.Round.{FlowsCost};
-ghost use Rattle.law_drain.specs.Signalling.{IdleStandsDrained, SignallingKeepsNone};
+ghost use Rattle.law_drain.specs.Settled.{BearersSettle, LivesBeginSettled, QuietAwaitsPoll};
+ghost use Rattle.law_drain.specs.Signalling.{IdleStandsDrained, SignallingBeginsEmpty};
+ghost use Rattle.law_drain.specs.Signalling.{SignallingGoesOnEmpty, SignallingKeepsNone};
 
 /// What a bearer may still send falls with each data PDU that it writes, by one or more, and rises
 /// with no call but the submission of an SDU: what PDCP gives to RLC, what PDUs come and which
@@ -64,4 +67,27 @@ pub fn idle_is_drained()
 pub fn idle_stands_drained()
     ensures signalling { SignallingKeepsNone }
     ensures any { IdleStandsDrained }
+{}
+
+/// An acknowledged bearer settles in each of its calls: where nothing is left to send or to take
+/// and something isn't acknowledged, its poll timer runs. So does that of a quiet one, where it
+/// runs with a shut window, whichever STATUS comes.
+pub fn bearers_settle()
+    ensures calls { BearersSettle }
+    ensures begins { LivesBeginSettled }
+    ensures awaits { QuietAwaitsPoll }
+{}
+
+/// PDCP of a signalling bearer keeps nothing as its first life begins, if its first COUNT has 32
+/// bits, and as each further one begins.
+pub fn signalling_begins_empty()
+    ensures first { SignallingBeginsEmpty }
+    ensures next { SignallingGoesOnEmpty }
+{}
+
+/// What a bearer may still send is at most M + 1 times what it has left: what RLC was offered and
+/// isn't wholly acknowledged, the own report, and what isn't confirmed at PDCP, with a header and a
+/// MAC-I for each octet.
+pub fn bearer_dues_are_left()
+    ensures { BearerDuesAreLeft }
 {}

@@ -2,6 +2,7 @@
 //! what a bearer writes within its share.
 
 ghost use Rattle.law_drain.specs.Grants.{IdleIsQuiet, OneShareIsEven, SharesAreUsed};
+ghost use Rattle.law_drain.specs.Sharing.{GrantsAreUsed, MetNeedsWrite};
 
 /// Where the channels need at least a grant, the share of one of them is an eleventh of it or more:
 /// 19 octets of 202.
@@ -13,6 +14,18 @@ pub fn one_share_is_even()
 /// more, a transparent one within the share that it needs.
 pub fn shares_are_used()
     ensures { SharesAreUsed }
+{}
+
+/// And so does a bearer of any mode that gets just what it needs, each SDU having an octet.
+pub fn met_needs_write()
+    ensures { MetNeedsWrite }
+{}
+
+/// So where a channel needs some of a grant of 200 octets or more, the bearer of one of them writes
+/// by its share: either all get what they need, or one gets 19 octets or more. A transparent bearer
+/// stands first, with an infinite rate, and gets what it needs.
+pub fn grants_are_used()
+    ensures { GrantsAreUsed }
 {}
 
 /// An acknowledged bearer that needs nothing of a grant, with something that isn't acknowledged,

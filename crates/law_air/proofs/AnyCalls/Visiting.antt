@@ -3,6 +3,7 @@ use Rattle.std.proofs.Common.{◌≡◌, ◌≤◌, ℕ, ◌%◌, ◌==◌, Bool
 use Rattle.std.proofs.Common.{◌∷◌, ◌++◌, map, append_assoc, append-nil, refl, ap, sym, subst, arith, ◌∙◌}
 use Rattle.std.specs.Prelude.{slice_index_or, slice_set}
 use Rattle.std.specs.List.{filter}
+use Rattle.std.proofs.lemmas.Bool.Decides.{nat_tests}
 use Rattle.std.proofs.lemmas.List.Elements.{filter-append}
 use Rattle.air_record.specs.declared.line.Fate.{Fate}
 use Rattle.air_record.specs.declared.line.Fate.TheVariants.{Ok, Bad, Miss}
@@ -32,7 +33,7 @@ use Rattle.pdu_show.specs.declared.kinds.Layout.{Layout}
 use Rattle.air_link.specs.Link.{Link, says, with_end}
 use Rattle.air_link.specs.Downlink.{builds, built_ndi, block_at, sends, feeds, told_as, is_good, saw_new, sees, answer}
 use Rattle.air_link.specs.Downlink.{comes, hears_by, lands, unseen, down_order, down_by, downlink}
-use Rattle.air_record.specs.Outcomes.{turned}
+use Rattle.air_record.specs.Outcomes.{intact, turned}
 use Rattle.air_link.specs.Uplink.{up_order, is_intact, told_as as up_told_as, granted, hears_if, aired as up_aired}
 use Rattle.air_link.specs.Uplink.{awake, up_by, answers, grants, passes, uplink}
 use Rattle.law_air.specs.AnyCalls.Ends.{GoesOn, built_told, visit_told}
@@ -392,18 +393,22 @@ enough_up Ok ndi grant some = some
 enough_up Bad ndi grant some = some
 enough_up Miss ndi grant some = tt
 
-grants_goes : (t grant : ℕ) (o : Outcome) (l : Link) → 1 ≤ grant → grant ≤ 9422 → GoesUp t grant l (grants t grant o l)
-grants_goes t grant o l some within =
+grants_go : (t grant : ℕ) (o : Outcome) (l : Link) → 1 ≤ grant → grant ≤ 9422
+    → GoesOn (visit_told Ue t grant (up_order o.fate (grant_ndi l.nb.receiver t)) l.kinds l.ue) l (grants t grant o l)
+grants_go t grant o l some within =
     let order = up_order o.fate (grant_ndi l.nb.receiver t) in
     let m = with_end Nb (after_call l.nb (Grants t)) l in
     let told = visit_told Ue t grant order l.kinds l.ue in
     let enough = enough_up o.fate (grant_ndi l.nb.receiver t) grant some in
-    record {
-      order = order;
-      enough = enough;
-      goes = goes_then [] told l m (answers t grant order o m) (call_goes Nb (Grants t) l tt refl refl)
-          (up_by_goes (visit t order l.ue) t grant order o m refl within enough);
-    }
+    goes_then [] told l m (answers t grant order o m) (call_goes Nb (Grants t) l tt refl refl)
+    (up_by_goes (visit t order l.ue) t grant order o m refl within enough)
+
+grants_goes : (t grant : ℕ) (o : Outcome) (l : Link) → 1 ≤ grant → grant ≤ 9422 → GoesUp t grant l (grants t grant o l)
+grants_goes t grant o l some within = record {
+  order = up_order o.fate (grant_ndi l.nb.receiver t);
+  enough = enough_up o.fate (grant_ndi l.nb.receiver t) grant some;
+  goes = grants_go t grant o l some within;
+}
 
 passes_goes : (t grant : ℕ) (l : Link) → GoesUp t grant l (passes t l)
 unfolding visit_answer
@@ -424,3 +429,13 @@ goes_if false t grant o l e within = grants_goes t grant o l (some_from grant e)
 pub uplink_goes : (t grant : ℕ) (o : Outcome) (l : Link) → grant ≤ 9422 → GoesUp t grant l (uplink t grant o l)
 unfolding uplink
 uplink_goes t grant o l within = goes_if (grant == 0) t grant o l refl within
+
+-- where it sees the grant
+pub uplink_sees : (t grant : ℕ) (l : Link) → 1 ≤ grant → grant ≤ 9422
+    → GoesOn (visit_told Ue t grant (orders.Grant (grant_ndi l.nb.receiver t)) l.kinds l.ue) l
+    (uplink t grant intact l)
+unfolding uplink
+uplink_sees t grant l some within =
+    let no : (grant == 0) ≡ false = grind (arith, nat_tests, some) in
+    subst (λ (b : Bool). GoesOn (visit_told Ue t grant (orders.Grant (grant_ndi l.nb.receiver t)) l.kinds l.ue) l
+    (if b then passes t l else grants t grant intact l)) (sym no) (grants_go t grant intact l some within)

@@ -1,8 +1,8 @@
 -- A round of a drain is calls of the bearers of each channel.
-use Rattle.std.proofs.Common.{◌≡◌, ◌≤◌, ℕ, Bool, true, false, if◌then◌else◌, List, [], ◌∷◌, ◌++◌, refl, ap, sym, subst}
+use Rattle.std.proofs.Common.{◌≡◌, ◌≤◌, ℕ, Bool, true, false, if◌then◌else◌, List, [], ◌∷◌, ◌++◌, refl, ap, sym}
 use Rattle.std.proofs.Common.{◌∙◌}
 use Rattle.std.specs.List.{AllByRecursion}
-use Rattle.air_link.specs.Draining.{drain_tti, receivers_expire, senders_expire}
+use Rattle.air_link.specs.Draining.{drain_tti, receivers_expire}
 use Rattle.air_link.specs.Link.{Link}
 use Rattle.air_link.specs.Loops.{loops}
 use Rattle.air_record.specs.Outcomes.{intact}
@@ -15,7 +15,7 @@ use Rattle.l2_types.specs.declared.Clock.TheVariants.{Poll}
 use Rattle.prioritise.specs.Channels.{has as has_channel}
 use Rattle.test_loop.specs.Loops.{is_on}
 use Rattle.law_bearer.specs.AnyBearer.Calls.{Call, Expire, after_all}
-use Rattle.law_bearer.specs.AnyBearer.Rounds.{Share, Round, IsRound, takes_in, writes_in, arrivals, expiries}
+use Rattle.law_bearer.specs.AnyBearer.Rounds.{Share, takes_in, writes_in, arrivals, expiries}
 use Rattle.law_node.specs.Holding.{flow}
 use Rattle.law_deliver.specs.AmFlow.Channels.{share_of, held_of, written_by}
 use Rattle.law_air.specs.DrainTtis.{Step, Tti, ReceiversExpire, SendersExpire, IsGranted, goes, ttis, grown}
@@ -35,14 +35,14 @@ granted (SendersExpire ∷ steps) g = (tt, granted steps g.1)
 
 -- ---- shares
 
-abbrev share_at : ℕ → ℕ → ℕ → Order → End → Share
+abbrev pub share_at : ℕ → ℕ → ℕ → Order → End → Share
 share_at l t grant order e = record {
   here = has_channel l (visited t order e).buckets.channels;
   octets = share_of (visited t order e) grant l;
   held = held_of (visited t order e) l;
 }
 
-same_written : (l t grant : ℕ) (order : Order) (e : End)
+pub same_written : (l t grant : ℕ) (order : Order) (e : End)
     → written_by (visited t order e) grant l ≡ writes_in (share_at l t grant order e) (flow l e)
 unfolding visited
 same_written l t grant order e = refl
@@ -50,7 +50,7 @@ same_written l t grant order e = refl
 -- ---- the TTI
 
 -- no loop is on behind the downlink
-down_off : (grant : ℕ) (m : Link) → MayDrain m → IsLoopOff (after_down grant m)
+pub down_off : (grant : ℕ) (m : Link) → MayDrain m → IsLoopOff (after_down grant m)
 down_off grant m h =
     let j = grown m in
     let w = downlink_goes m.looping.mode m.ttis grant intact j (record {
@@ -60,11 +60,12 @@ down_off grant m h =
     }) in
     ap is_on w.stands.mode_is ∙ h.off
 
-record InTti (down up : Share) (nb ue nb' ue' : Flow) : Type 0 where
-  nb_is : nb' ≡ after_all nb (takes_in down ++ arrivals (writes_in up (after_all ue (arrivals (writes_in down nb)))))
-  ue_is : ue' ≡ after_all ue (arrivals (writes_in down nb) ++ takes_in up)
+pub record InTti (down up : Share) (nb ue nb' ue' : Flow) : Type 0 where
+  pub nb_is : nb'
+      ≡ after_all nb (takes_in down ++ arrivals (writes_in up (after_all ue (arrivals (writes_in down nb)))))
+  pub ue_is : ue' ≡ after_all ue (arrivals (writes_in down nb) ++ takes_in up)
 
-in_tti : (l grant : ℕ) (m : Link) → MayDrain m → BothHear l grant m
+pub in_tti : (l grant : ℕ) (m : Link) → MayDrain m → BothHear l grant m
     → InTti (share_at l m.ttis grant Free (grown m).nb)
     (share_at l m.ttis grant (Grant (up_ndi grant m)) (loops (after_down grant m)).ue)
     (flow l m.nb) (flow l m.ue) (flow l (drain_tti grant m).nb) (flow l (drain_tti grant m).ue)
@@ -103,11 +104,11 @@ in_tti l grant m h b =
 abbrev behind : Bool → Link → Link
 behind polls m = goes (ReceiversExpire ∷ (if polls then SendersExpire ∷ [] else [])) m
 
-record AllExpire (polls : Bool) (nb ue nb' ue' : Flow) : Type 0 where
-  nb_is : nb' ≡ after_all nb (expiries polls)
-  ue_is : ue' ≡ after_all ue (expiries polls)
+pub record AllExpire (polls : Bool) (nb ue nb' ue' : Flow) : Type 0 where
+  pub nb_is : nb' ≡ after_all nb (expiries polls)
+  pub ue_is : ue' ≡ after_all ue (expiries polls)
 
-all_expire : (polls : Bool) (l : ℕ) (m : Link) → l ≤ 10 → MayDrain m → HaveChannel l m
+pub all_expire : (polls : Bool) (l : ℕ) (m : Link) → l ≤ 10 → MayDrain m → HaveChannel l m
     → AllExpire polls (flow l m.nb) (flow l m.ue) (flow l (behind polls m).nb) (flow l (behind polls m).ue)
 all_expire false l m low h c =
     let x = (timers_expire m l low h.off h.come c).0 in
@@ -124,7 +125,7 @@ all_expire true l m low h c =
 
 -- ---- the round
 
-behind_all : (cs ds es : List Call) (f g h : Flow) → g ≡ after_all f (cs ++ ds) → h ≡ after_all g es
+pub behind_all : (cs ds es : List Call) (f g h : Flow) → g ≡ after_all f (cs ++ ds) → h ≡ after_all g es
     → h ≡ after_all f (cs ++ (ds ++ es))
 behind_all cs ds es f g h p q =
     q

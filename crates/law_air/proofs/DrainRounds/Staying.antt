@@ -1,5 +1,5 @@
 -- What holds as a drain begins stays so.
-use Rattle.std.proofs.Common.{◌≡◌, ◌≤◌, ℕ, true, List, [], ◌∷◌, ap, ◌∙◌}
+use Rattle.std.proofs.Common.{ℕ, List, [], ◌∷◌, ap, ◌∙◌}
 use Rattle.std.specs.List.{AllByRecursion}
 use Rattle.air_link.specs.Draining.{drain_tti}
 use Rattle.air_link.specs.Link.{Link}
@@ -14,7 +14,7 @@ use Rattle.law_air.specs.DrainRounds.{IsOfDrain, MayDrain}
 use Rattle.law_air.proofs.AnyCalls.Advancing.{call_goes_on, drain_goes}
 use Rattle.law_air.proofs.AnyCalls.Settling.{calls_loop_back, drains_loop_back}
 use Rattle.law_air.proofs.DrainTtis.Clearing.{steps_eight}
-use Rattle.law_air.proofs.DrainTtis.Hearing.{Ready, ready_on, come_both}
+use Rattle.law_air.proofs.DrainTtis.Hearing.{ready_on, come_both}
 
 -- ---- a step
 

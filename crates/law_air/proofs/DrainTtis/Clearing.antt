@@ -317,7 +317,7 @@ earlier t n m below next ne = elim (cases_lt t n) [
       absurd (ne (ap (λ (k : ℕ). k % 8) same))
 ]
 
-counted : (count grant : ℕ) (l : Link) → 1 ≤ grant → HaveEight (entities l) → AreClear count l
+pub counted : (count grant : ℕ) (l : Link) → 1 ≤ grant → HaveEight (entities l) → AreClear count l
     → AreClear (count + 1) (drain_tti grant l)
 counted count grant l some eight h t below recent =
     let next = (drain_adds grant l).ttis_is in
@@ -329,17 +329,17 @@ counted count grant l some eight h t below recent =
     ]
 
 -- what lies between TTIs leaves the processes and the count
-record Keeps (l m : Link) : Type 0 where
+pub record Keeps (l m : Link) : Type 0 where
   pub entities_are : entities m ≡ entities l
   pub ttis_are : m.ttis ≡ l.ttis
 
-receivers_keep : (l : Link) → Keeps l (happens l ReceiversExpire)
+pub receivers_keep : (l : Link) → Keeps l (happens l ReceiversExpire)
 receivers_keep l = record { entities_are = calls_leave Receivers l; ttis_are = (calls_adds Receivers l).ttis_is }
 
-senders_keep : (l : Link) → Keeps l (happens l SendersExpire)
+pub senders_keep : (l : Link) → Keeps l (happens l SendersExpire)
 senders_keep l = record { entities_are = calls_leave Senders l; ttis_are = (calls_adds Senders l).ttis_is }
 
-kept_clear : (count : ℕ) (l m : Link) → Keeps l m → AreClear count l → AreClear count m
+pub kept_clear : (count : ℕ) (l m : Link) → Keeps l m → AreClear count l → AreClear count m
 kept_clear count l m k h t below recent =
     subst (IsClear t) (sym k.entities_are)
     (h t (subst (λ (n : ℕ). t < n) k.ttis_are below) (subst (λ (n : ℕ). n ≤ t + count) k.ttis_are recent))
@@ -393,17 +393,20 @@ pub processes_clear : (steps : List Step) (l : Link) → HaveEight (entities l) 
 processes_clear steps l eight granted = (went steps l eight granted).clear
 
 -- the processes of the next TTI are those of the eighth before it
-pub next_clear : (steps : List Step) (l : Link) → HaveEight (entities l) → AllByRecursion IsGranted steps
-    → 8 ≤ ttis steps → IsClear (goes steps l).ttis (entities (goes steps l))
-next_clear steps l eight granted many =
-    let m = goes steps l in
-    let w = went steps l eight granted in
-    let count = w.ttis_are in
-    let back : m.ttis - 8 + 8 ≡ m.ttis = omega (arith, count, many) in
+pub clear_again : (m : Link) → 8 ≤ m.ttis → AreClear 8 m → IsClear m.ttis (entities m)
+clear_again m late clear =
+    let back : m.ttis - 8 + 8 ≡ m.ttis = omega (arith, late) in
     let same : (m.ttis - 8) % 8 ≡ m.ttis % 8 =
     sym (add-mod_right (m.ttis - 8) 8) ∙ ap (λ (n : ℕ). n % 8) back in
     same_process (m.ttis - 8) m.ttis (entities m) same
-    (w.clear (m.ttis - 8) (omega (arith, count, many)) (omega (arith, count, many)))
+    (clear (m.ttis - 8) (omega (arith, late)) (omega (arith, late)))
+
+pub next_clear : (steps : List Step) (l : Link) → HaveEight (entities l) → AllByRecursion IsGranted steps
+    → 8 ≤ ttis steps → IsClear (goes steps l).ttis (entities (goes steps l))
+next_clear steps l eight granted many =
+    let w = went steps l eight granted in
+    clear_again (goes steps l) (omega (arith, w.ttis_are, many))
+    (λ t below recent. w.clear t below (omega (arith, recent, many)))
 
 pub arrive_at_once : (steps : List Step) (grant : ℕ) (l : Link) → HaveEight (entities l)
     → AllByRecursion IsGranted steps → 8 ≤ ttis steps → 1 ≤ grant

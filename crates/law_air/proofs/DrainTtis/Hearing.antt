@@ -32,7 +32,8 @@ use Rattle.promises.specs.Pdus.{carried}
 use Rattle.law_air.specs.AnyCalls.Deeds.{Entities, entities}
 use Rattle.law_air.specs.AnyCalls.Ends.{ByCalls, GoesOn}
 use Rattle.law_air.specs.AnyCalls.Zero.{HasCome, HaveCome}
-use Rattle.law_air.specs.DrainTtis.{HaveEight, Step, IsGranted, goes, ttis, Brings, grown, taken_by, TakesAndHears}
+use Rattle.law_air.specs.DrainTtis.{HaveEight, IsClear, Step, IsGranted, goes, ttis, Brings, grown, taken_by}
+use Rattle.law_air.specs.DrainTtis.{TakesAndHears}
 use Rattle.law_air.specs.DrainTtis.{BothTakeAndHear, HaveChannel}
 use Rattle.law_air.proofs.AnyCalls.Blocks.{reached_whole}
 use Rattle.law_air.proofs.AnyCalls.Bringing.{come_on}
@@ -158,17 +159,16 @@ pub record BothHear (l grant : ℕ) (m : Link) : Type 0 where
   pub goes_up : TakesAndHears l m.ttis grant (Grant (up_ndi grant m)) (loops (after_down grant m)).ue
       (loops (after_down grant m)).nb (drain_tti grant m).ue (drain_tti grant m).nb
 
-pub both_hear : (steps : List Step) (grant : ℕ) (k : Link) (l : ℕ) → HaveEight (entities k)
-    → AllByRecursion IsGranted steps → 8 ≤ ttis steps → 1 ≤ grant → grant ≤ 9422 → HaveCome (goes steps k)
-    → HaveChannel l (goes steps k) → BothHear l grant (goes steps k)
+-- where the processes of the TTI are clear
+pub hear_when_clear : (grant : ℕ) (m : Link) (l : ℕ) → HaveEight (entities m) → IsClear m.ttis (entities m)
+    → 1 ≤ grant → grant ≤ 9422 → HaveCome m → HaveChannel l m → BothHear l grant m
 unfolding drain_tti
-both_hear steps grant k l eight granted many some most come channel =
-    let m = goes steps k in
+hear_when_clear grant m l eight cleared some most come channel =
     let t = m.ttis in
     let j = grown m in
     let same : entities j ≡ entities m = (grown_rests m).entities_are in
-    let clear = clear_as t (entities j) (entities m) same (next_clear steps k eight granted many) in
-    let whole = eight_as (entities j) (entities m) same (went steps k eight granted).eight in
+    let clear = clear_as t (entities j) (entities m) same cleared in
+    let whole = eight_as (entities j) (entities m) same eight in
     let d = downlink t grant intact j in
     let i = loops d in
     let sender : i.ue.sender ≡ j.ue.sender =
@@ -188,6 +188,13 @@ both_hear steps grant k l eight granted many some most come channel =
           at_i.come.nb at_i.channel.1 at_i.channel.0 some most some (new_granted i.ue.sender t ndi empty)
           (brings_up t grant i some (ap (λ (s : Sending). length s.processes) sender ∙ whole.ue_sends) empty);
     }
+
+pub both_hear : (steps : List Step) (grant : ℕ) (k : Link) (l : ℕ) → HaveEight (entities k)
+    → AllByRecursion IsGranted steps → 8 ≤ ttis steps → 1 ≤ grant → grant ≤ 9422 → HaveCome (goes steps k)
+    → HaveChannel l (goes steps k) → BothHear l grant (goes steps k)
+both_hear steps grant k l eight granted many some most come channel =
+    hear_when_clear grant (goes steps k) l (went steps k eight granted).eight
+    (next_clear steps k eight granted many) some most come channel
 
 pub bearers_hear : (steps : List Step) (grant : ℕ) (k : Link) (l : ℕ) → HaveEight (entities k)
     → AllByRecursion IsGranted steps → 8 ≤ ttis steps → 1 ≤ grant → grant ≤ 9422 → HaveCome (goes steps k)
