@@ -91,7 +91,7 @@ stands_again (Am b) keys h =
 abbrev pub StandsWell : ℕ → Flow → Type 0
 StandsWell lcid f = WritesWell lcid f × Standing f
 
-stands_kept : IsKept StandsWell
+pub stands_kept : IsKept StandsWell
 stands_kept = record {
   idle = (ready_kept.idle, tt);
   begins = λ c keys side g. (ready_kept.begins c keys side g, first_stands c.kind c keys side);

@@ -39,7 +39,7 @@ links_are_measured (l ∷ ls) k h = (
 
 -- ---- a round
 
-offers_in : (lcid : ℕ) (f : Flow) → WritesWell lcid f → OffersIn f
+pub offers_in : (lcid : ℕ) (f : Flow) → WritesWell lcid f → OffersIn f
 offers_in lcid (Tm b) w = tt
 offers_in lcid (Um b) w = tt
 offers_in lcid (Am b) w = offers lcid b w

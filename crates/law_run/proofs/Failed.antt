@@ -71,7 +71,7 @@ own_fails l (e ∷ told) none = other_by (is_on l e) e (told_on l told) refl (ow
 abbrev Unfailed : ℕ → End → Type 0
 Unfailed l e = has_failed (flow l e) ≡ false
 
-call_kind : (l : ℕ) (c : Call) → adds l c ≡ false → GoesOnInLife l c ⊎ ((keys : Keys) × (c ≡ Move keys))
+pub call_kind : (l : ℕ) (c : Call) → adds l c ≡ false → GoesOnInLife l c ⊎ ((keys : Keys) × (c ≡ Move keys))
 call_kind l (Move keys) other = inr (keys, refl)
 call_kind l c other = inl (record { adds_none = other; moves_none = refl })
 

@@ -48,3 +48,14 @@ pub mod Silent
 pub mod Everything
 pub mod DrainFlows
 pub mod DrainLinks
+pub mod DrainChannels
+pub mod DrainTracks
+pub mod DrainNeeds
+pub mod DrainRuns
+pub mod DrainGoing
+pub mod DrainFalls
+pub mod DrainEnds
+pub mod DrainCalls
+pub mod DrainFits
+pub mod DrainBudget
+pub mod DrainFew

@@ -1,6 +1,6 @@
 -- A line that is read has its fields in their ranges.
 use Rattle.std.proofs.Common.{◌≡◌, ◌≤◌, ◌<◌, ◌==◌, ◌⊎◌, inl, inr, nat_lt, ℕ, Bool, true, false, List, [], ◌∷◌, length}
-use Rattle.std.proofs.Common.{codes, refl, arith, subst, cond}
+use Rattle.std.proofs.Common.{codes, refl, ap, arith, subst, cond}
 use Rattle.std.proofs.lemmas.Bool.Decides.{nat_tests}
 use Rattle.std.specs.Prelude.{Option, None, Some, IfSome, Result, Ok, Err, slice_index}
 use Rattle.std.specs.Str.{bytes_eq}
@@ -21,8 +21,8 @@ use Rattle.air_text.specs.declared.options.Name.TheVariants.{PollRetx, MaxRetx, 
 use Rattle.air_text.specs.Words.{◌>>=◌, words_of, is_twice, joined, before_equals, behind_equals}
 use Rattle.air_text.specs.Fields.{either_of, limit_of, number_of, is_number, octets_of, octets_in, side_of, outcome_of}
 use Rattle.air_text.specs.Fields.{kind_of, cipher_of}
-use Rattle.air_text.specs.Options.{goes, config_of, has, name_of, psn_of, option_of, named_option, cut_option}
-use Rattle.air_text.specs.Options.{word_option, options_of}
+use Rattle.air_text.specs.Options.{goes, config_of, priority_of, has, name_of, psn_of, option_of, named_option}
+use Rattle.air_text.specs.Options.{cut_option, word_option, options_of}
 use Rattle.air_text.specs.Reading.{read_of, read_words, line_of, key_of, harq_of, bsr_of, keys_of, bearer_of, submit_of}
 use Rattle.air_text.specs.Reading.{tti_of, expire_of, handover_of, loop_of, loop_off_of, loop_a_of, loop_b_of, drain_of}
 use Rattle.air_text.specs.Reading.{forge_of, end_of, discard_of, drx_of}
@@ -30,10 +30,11 @@ use Rattle.air_text.specs.Ranges.{IsInRange}
 use Rattle.air_text.proofs.Octets.{some_octets}
 use Rattle.air_text.proofs.Configs.{plain_config}
 use Rattle.promises.specs.Configs.{HasCount}
+use Rattle.law_run.specs.Order.{IsTransparentFirst, HasTransparentFirst}
 
--- a configuration in its ranges, with a first COUNT of at most 32 bits
+-- a configuration in its ranges, with a first COUNT of at most 32 bits; a transparent one has the highest priority
 abbrev IsCounted : BearerConfig → Type 0
-IsCounted c = IsConfig c × (c.first ≤ 4294967295)
+IsCounted c = IsConfig c × ((c.first ≤ 4294967295) × IsTransparentFirst c)
 
 -- a line likewise
 abbrev pub IsWithin : Line → Type 0
@@ -210,19 +211,28 @@ psn-bits Srb text n has e = cc
 psn-bits Um text n has e = either-range 7 12 text n e
 psn-bits Am text n has e = either-range 12 15 text n e
 
+-- an option is of another kind
+not-transparent : (k : Kind) (name : Name) → has k name ≡ true → k ≡ Tm → ⊥
+not-transparent Tm name here is = let no : false ≡ true = here in cc
+not-transparent Srb name here is = cc
+not-transparent Um name here is = cc
+not-transparent Am name here is = cc
+
 option-range : (c : BearerConfig) (name : Name) (text : List ℕ) → has c.kind name ≡ true → IsCounted c
     → Behind IsCounted (option_of c name text)
 option-range c Prio text has h =
     bind IsCounted (number_of 1 16 text) (λ n. Ok (record c { channel = record c.channel { priority = n } }))
-    (λ n e. given IsCounted (record c { channel = record c.channel { priority = n } })
-    ((let range : (1 ≤ n) × (n ≤ 16) = number-range 1 16 n text e in assumption), h.1))
+    (λ n e. given IsCounted (record c { channel = record c.channel { priority = n } }) (
+      (let range : (1 ≤ n) × (n ≤ 16) = number-range 1 16 n text e in assumption),
+      (h.1.0, λ tm. absurd (not-transparent c.kind Prio has tm)),
+    ))
 option-range c Pbr text has h =
     bind IsCounted (limit_of (codes "inf") 0 65535 text)
     (λ n. Ok (record c { channel = record c.channel { pbr = n } }))
     (λ n e. given IsCounted (record c { channel = record c.channel { pbr = n } }) (
       (let range : IfSome n (λ k. k ≤ 65535) = most-only 0 65535 n (limit-range (codes "inf") 0 65535 text n e) in
           assumption),
-      h.1,
+      (h.1.0, λ tm. absurd (not-transparent c.kind Pbr has tm)),
     ))
 option-range c Bsd text has h =
     bind IsCounted (number_of 1 1000 text) (λ n. Ok (record c { channel = record c.channel { bucket = n } }))
@@ -275,7 +285,7 @@ option-range c Prohibit text has h =
     ))
 option-range c Count text has h =
     bind IsCounted (number_of 0 4294967295 text) (λ n. Ok (record c { first = n }))
-    (λ n e. given IsCounted (record c { first = n }) (assumption, number-most 0 4294967295 n text e))
+    (λ n e. given IsCounted (record c { first = n }) (assumption, (number-most 0 4294967295 n text e, h.1.1)))
 
 named-range : (c : BearerConfig) (name : Option Name) (value : List ℕ) → IsCounted c
     → Behind IsCounted (named_option c name value)
@@ -303,6 +313,10 @@ plain-count : (n : ℕ) (k : Kind) → (config_of n k).first ≤ 4294967295
 unfolding config_of
 plain-count n k = omega arith
 
+plain-first : (n : ℕ) (k : Kind) → IsTransparentFirst (config_of n k)
+unfolding config_of
+plain-first n k = λ tm. (ap (λ (x : Kind). priority_of x n) tm, refl)
+
 bearer-range : (fields : List (List ℕ)) → Behind IsWithin (bearer_of fields)
 unfolding bearer_of
 bearer-range [] = refused IsWithin _
@@ -322,7 +336,7 @@ bearer-range (a ∷ b ∷ options) =
     (λ config is. given IsWithin (lines.Bearer config (joined options))
     ((options-range (config_of n k) options (
       plain_config n k fits (number-most 0 10 n a e),
-      plain-count n k,
+      (plain-count n k, plain-first n k),
     )).holds config is))) (refused IsWithin Range))))
 
 submit-range : (fields : List (List ℕ)) → Behind IsWithin (submit_of fields)
@@ -508,7 +522,7 @@ in-range (lines.Discard lcid count) h = h
 in-range (lines.Drx config) h = h
 
 pub has-count : (line : Line) → IsWithin line → HasCount line
-has-count (lines.Bearer config options) h = h.1
+has-count (lines.Bearer config options) h = h.1.0
 has-count (lines.Harq visits) h = tt
 has-count lines.Bsr h = tt
 has-count (lines.Keys keys) h = tt
@@ -524,6 +538,10 @@ has-count (lines.Forge side octets) h = tt
 has-count lines.End h = tt
 has-count (lines.Discard lcid count) h = tt
 has-count (lines.Drx config) h = tt
+
+pub has-first : (line : Line) → IsWithin line → HasTransparentFirst line
+has-first (lines.Bearer config options) h = h.1.1
+has-first line h = tt
 
 -- a line that is read has its fields in their ranges
 pub lines-in-range : (text : List ℕ) (line : Line) → read_of text ≡ Ok (Some line) → IsInRange line

@@ -279,13 +279,13 @@ new_bearer side (lines.Drx config) r keys l allowed = tt
 new_bearer side lines.End r keys l allowed = tt
 
 -- of an end: they are those that are told, and its bearers'
-record AreOf (c : Channels) (e : End) : Type 0 where
-  told_are : channels_of e ≡ c
-  own : OwnsChannels e
+pub record AreOf (c : Channels) (e : End) : Type 0 where
+  pub told_are : channels_of e ≡ c
+  pub own : OwnsChannels e
 
-record AreOfBoth (c : Channels) (l : Link) : Type 0 where
-  nb : AreOf c l.nb
-  ue : AreOf c l.ue
+pub record AreOfBoth (c : Channels) (l : Link) : Type 0 where
+  pub nb : AreOf c l.nb
+  pub ue : AreOf c l.ue
 
 first_channels : AreOfBoth (channels []) (link_behind [])
 unfolding fresh fresh_link fresh_end no_channels
@@ -300,7 +300,7 @@ next_channels side told line keys c e f k new is = record {
   own = owns_on (lives_by line keys) side told e f k new is.own;
 }
 
-channels_behind : (past : List Group) → KeepsOrder past → AreOfBoth (channels past) (link_behind past)
+pub channels_behind : (past : List Group) → KeepsOrder past → AreOfBoth (channels past) (link_behind past)
 channels_behind [] order = first_channels
 channels_behind (g ∷ past) (right, order) =
     let l = link_behind past in

@@ -1,6 +1,7 @@
 pub mod Order
 pub mod DrainFlows
 pub mod DrainLinks
+pub mod DrainEnds
 pub mod Script
 pub mod Ends
 pub mod Sums
@@ -8,3 +9,4 @@ pub mod Texts
 pub mod Losses
 pub mod Promises
 pub mod Journals
+pub mod DrainBudget

@@ -1,9 +1,13 @@
 -- The lines of a journal, run in their turn (docs/laws/JOURNAL.md).
 use Rattle.std.specs.Prelude.{◌≡◌, List, [], ◌∷◌, None}
+use Rattle.air_record.specs.declared.line.Line.{Line}
+use Rattle.air_record.specs.declared.line.Line.TheVariants as lines
 use Rattle.air_text.specs.Groups.{Group}
 use Rattle.air_text.specs.Ranges.{IsInRange}
 use Rattle.air_run.specs.Rules.{refusal}
 use Rattle.air_run.specs.Run.{RunState, fresh, behind_line, done}
+use Rattle.bearer_types.specs.declared.BearerConfig.{BearerConfig}
+use Rattle.l2_types.specs.declared.channel.Kind.TheVariants.{Tm}
 use Rattle.promises.specs.Air.{ttis, IsOfItsTime}
 use Rattle.promises.specs.Blocks.{kinds, AreTold}
 use Rattle.promises.specs.Parts.{part_of_line}
@@ -14,11 +18,21 @@ abbrev pub state_behind : List Group → RunState
 state_behind [] = fresh
 state_behind (g ∷ past) = done g.line (state_behind past)
 
+-- a transparent bearer, whose line has no options, has the highest priority and an infinite rate
+-- (TS 36.321 5.4.3.1)
+abbrev pub IsTransparentFirst : BearerConfig → Type 0
+IsTransparentFirst c = c.kind ≡ Tm → (c.channel.priority ≡ 1) × (c.channel.pbr ≡ None)
+
+abbrev pub HasTransparentFirst : Line → Type 0
+HasTransparentFirst (lines.Bearer config options) = IsTransparentFirst config
+HasTransparentFirst line = Unit {0}
+
 -- a line that is read and breaks no rule, with exactly the records that it leaves where it stands;
 -- they are those of its TTIs, and of its new blocks
 pub record IsRight (past : List Group) (g : Group) : Type 0 where
   pub in_range : IsInRange g.line
   pub count : HasCount g.line
+  pub transparent : HasTransparentFirst g.line
   pub allowed : refusal g.line (state_behind past).rules (state_behind past).link ≡ None
   pub events_are : g.events ≡ (behind_line g.line (state_behind past)).out
   pub of_its_time : IsOfItsTime (ttis past) (part_of_line g.line) g.events

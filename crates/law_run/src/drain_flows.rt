@@ -1,5 +1,7 @@
-//! What the rounds of a drain cost the flows of a link.
+//! What the rounds of a drain cost the flows of a link, and that they end it.
 
+ghost use Rattle.law_run.specs.DrainBudget.{BudgetsSuffice, LinesHaveBudgets, MeasuresAreLeft};
+ghost use Rattle.law_run.specs.DrainEnds.{LinksKeepNoSignalling, RoundsEnd};
 ghost use Rattle.law_run.specs.DrainFlows.{BearersStand, FlowsNeverRise, RoundsCostFlows};
 ghost use Rattle.law_run.specs.DrainLinks.{LinksAreMeasured, LinksNeverRise};
 
@@ -25,4 +27,26 @@ pub fn rounds_cost_flows()
 pub fn links_never_rise()
     ensures measured { LinksAreMeasured }
     ensures rounds { LinksNeverRise }
+{}
+
+/// Whatever lines a link has played, of which none forges a block, PDCP of a signalling bearer
+/// keeps nothing of what it gave RLC, and its COUNTs end below their bound.
+pub fn links_keep_no_signalling()
+    ensures { LinksKeepNoSignalling }
+{}
+
+/// Behind lines of which none forges a block, on a link that may drain, by grants of 200 octets or
+/// more: as many rounds behind the eight TTIs as the measure has there, and one more, leave both
+/// ends drained.
+pub fn rounds_end()
+    ensures { RoundsEnd }
+{}
+
+/// Behind the first TTIs of a drain, whichever of their blocks are repeats, this measure lies below
+/// 1024 times what the link has left as they begin, with 512 octets for each bearer and 64: so it
+/// lies below the budget of the drain, COUNTs having 32 bits, since no sum of 64 bits is cut.
+pub fn budgets_suffice()
+    ensures left { MeasuresAreLeft }
+    ensures budget { BudgetsSuffice }
+    ensures lines { LinesHaveBudgets }
 {}
