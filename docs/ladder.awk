@@ -86,7 +86,7 @@ $1 == "air" {
     arrow = ($3 == "bad" || $3 == "none") ? "-x" : "=>"
     row(sprintf("%s %s %s [label=\"%s\"%s]", from, arrow, to, label, arrow == "-x" ? ", linecolour=\"red\", textcolour=\"red\"" : ""))
 }
-$1 == "drained" || $1 == "spent" {
+$1 == "drained" {
     open_tti()
     row(sprintf("nb abox ue [label=\"drain: %s %s\", textbgcolour=\"#e0e0ff\"]", $1, $2))
 }

@@ -1,4 +1,3 @@
 pub mod Text
 pub mod Outcomes
-pub mod Endings
 pub mod Cells

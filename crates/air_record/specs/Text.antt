@@ -303,7 +303,6 @@ record_words (records.Refused side lcid why) =
     codes "refused" ∷ side_text side ∷ decimal lcid ∷ place_text why ∷ []
 record_words (records.Looped lcid octets) = codes "loop" ∷ decimal lcid ∷ encode_lower octets ∷ []
 record_words (records.Drained rounds) = codes "drained" ∷ decimal rounds ∷ []
-record_words (records.Spent rounds) = codes "spent" ∷ decimal rounds ∷ []
 record_words (records.Sum direction lcid submitted delivered state) =
     codes "sum" ∷ direction_text direction ∷ decimal lcid ∷ decimal submitted ∷ decimal delivered
     ∷ state_text state ∷ []

@@ -140,7 +140,6 @@ pub fn append_record(text: &mut Bytes, one: &Record) -> Result<(), NoMemory>
         Record::Refused { side, lcid, why } => append_refused(text, *side, *lcid, *why),
         Record::Looped { lcid, octets } => append_looped(text, *lcid, octets.as_slice()),
         Record::Drained { rounds } => append_counted(text, "drained", *rounds),
-        Record::Spent { rounds } => append_counted(text, "spent", *rounds),
         Record::Sum {
             direction,
             lcid,

@@ -97,10 +97,6 @@ pub enum Record {
     Drained {
         rounds: u64,
     },
-    /// A drain spent all its rounds.
-    Spent {
-        rounds: u64,
-    },
     /// The SDUs submitted and delivered on one direction of a bearer.
     Sum {
         direction: Direction,

@@ -3,7 +3,7 @@ use Rattle.std.proofs.Common.{◌≡◌, ◌<◌, ◌+◌, ◌-◌, ℕ, zero, s
 use Rattle.air_link.specs.Link.{Link}
 use Rattle.air_link.specs.Draining.{drain_tti, is_drained}
 use Rattle.air_run.specs.Draining.{shown, at_once, behind, ttis, round, left_by, rounds, budget, drained}
-use Rattle.air_record.specs.Endings.{ending}
+use Rattle.air_record.specs.declared.record.Record.TheVariants as records
 
 fewer : (most at : ℕ) → at < most → most - at ≡ suc (most - (at + 1))
 fewer most at h = omega arith
@@ -50,11 +50,10 @@ drained_shown grant l =
 pub drained_is : (grant : ℕ) (l : Link)
     → (drained grant l).journal
     ≡ ((ttis 8 grant l).journal ++ (rounds (budget l) grant (ttis 8 grant l).link).journal)
-    ++ ending (is_drained (rounds (budget l) grant (ttis 8 grant l).link).link)
-    (rounds (budget l) grant (ttis 8 grant l).link).done ∷ []
+    ++ records.Drained (rounds (budget l) grant (ttis 8 grant l).link).done ∷ []
 unfolding drained
 drained_is grant l =
     let t = ttis 8 grant l in
     let r = rounds (budget l) grant t.link in
     let count : 0 + r.done ≡ r.done = omega arith in
-    ap (λ (n : ℕ). (t.journal ++ r.journal) ++ ending (is_drained r.link) n ∷ []) count
+    ap (λ (n : ℕ). (t.journal ++ r.journal) ++ records.Drained n ∷ []) count

@@ -6,7 +6,7 @@ use Rattle.air_link.specs.Draining.{drain_tti, carried, receivers_expire, sender
 use Rattle.air_link.specs.Draining.{is_drained, left, count}
 use Rattle.air_link.specs.Link.{Link}
 use Rattle.air_record.specs.declared.record.Record.{Record}
-use Rattle.air_record.specs.Endings.{ending}
+use Rattle.air_record.specs.declared.record.Record.TheVariants as records
 
 -- the records of a line are written
 abbrev pub shown : Link → Link
@@ -70,7 +70,7 @@ abbrev pub budget : Link → ℕ
 budget l = min (1024 * (left l + (512 * count l + 64))) (2 ^ 64 - 1)
 
 abbrev pub ended : Drained → Drained
-ended d = record d { journal = d.journal ++ ending (is_drained d.link) d.done ∷ [] }
+ended d = record d { journal = d.journal ++ records.Drained d.done ∷ [] }
 
 -- eight TTIs, then rounds
 unfoldable pub drained : ℕ → Link → Drained

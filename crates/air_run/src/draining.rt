@@ -5,7 +5,6 @@ ghost use Rattle.l2_io.specs.Known.{HasRisen};
 ghost use Rattle.air_link.specs.Draining.{drain_tti};
 ghost use Rattle.air_run.specs.Putting.{Tells};
 ghost use Rattle.air_run.specs.Draining.{shown, ttis, round, rounds, budget, drained};
-ghost use Rattle.air_record.specs.Endings.{ending};
 
 use crate::journal::Journal;
 use crate::refusal::StepFault;
@@ -36,7 +35,7 @@ pub(crate) fn drain<K: Sink>(
     let budget = budget(link);
     for_ttis(link, grant, FIRST, journal, out)?;
     let done = rounds(link, grant, budget, journal, out)?;
-    journal.put(&ending(link.is_drained(), done))?;
+    journal.put(&Record::Drained { rounds: done })?;
     Ok(())
 }
 
@@ -133,14 +132,4 @@ fn round<K: Sink>(
     }
     journal.put_out(link)?;
     journal.put_text(out)
-}
-
-fn ending(is_drained: bool, done: u64) -> Record
-    ensures { result ≡ ending is_drained done }
-{
-    if is_drained {
-        Record::Drained { rounds: done }
-    } else {
-        Record::Spent { rounds: done }
-    }
 }

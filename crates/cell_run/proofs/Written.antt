@@ -52,7 +52,6 @@ record-ends (records.Air direction what heard) = worded-ends (record_words (reco
 record-ends (records.Refused side lcid why) = worded-ends (record_words (records.Refused side lcid why))
 record-ends (records.Looped lcid octets) = worded-ends (record_words (records.Looped lcid octets))
 record-ends (records.Drained rounds) = worded-ends (record_words (records.Drained rounds))
-record-ends (records.Spent rounds) = worded-ends (record_words (records.Spent rounds))
 record-ends (records.Sum direction lcid submitted delivered state) =
     worded-ends (record_words (records.Sum direction lcid submitted delivered state))
 record-ends records.MacFront = worded-ends (record_words records.MacFront)

@@ -13,7 +13,6 @@ use Rattle.air_record.specs.declared.record.Arrived.{Arrived}
 use Rattle.air_record.specs.declared.record.Arrived.TheVariants as arriveds
 use Rattle.air_record.specs.declared.record.Record.{Record}
 use Rattle.air_record.specs.declared.record.Record.TheVariants as records
-use Rattle.air_record.specs.Endings.{ending}
 use Rattle.air_record.specs.Outcomes.{missed, intact}
 use Rattle.air_text.specs.Groups.{Group}
 use Rattle.bearer_types.specs.declared.event.Event.{Event}
@@ -445,21 +444,17 @@ sized_drain grant n t told h flown = elim (cases_eq grant 0) [
 
 -- ---- lines
 
-time_end : (is_done : Bool) (rounds : ℕ) → filter is_of_time (ending is_done rounds ∷ []) ≡ []
-time_end true rounds = refl
-time_end false rounds = refl
+time_end : (rounds : ℕ) → filter is_of_time (records.Drained rounds ∷ []) ≡ []
+time_end rounds = refl
 
-air_end : (is_done : Bool) (rounds : ℕ) → filter is_of_air (ending is_done rounds ∷ []) ≡ []
-air_end true rounds = refl
-air_end false rounds = refl
+air_end : (rounds : ℕ) → filter is_of_air (records.Drained rounds ∷ []) ≡ []
+air_end rounds = refl
 
-tti_end : (is_done : Bool) (rounds : ℕ) → filter is_tti (ending is_done rounds ∷ []) ≡ []
-tti_end true rounds = refl
-tti_end false rounds = refl
+tti_end : (rounds : ℕ) → filter is_tti (records.Drained rounds ∷ []) ≡ []
+tti_end rounds = refl
 
-zero_end : (is_done : Bool) (rounds : ℕ) → AllZero (ending is_done rounds ∷ [])
-zero_end true rounds = (tt, tt)
-zero_end false rounds = (tt, tt)
+zero_end : (rounds : ℕ) → AllZero (records.Drained rounds ∷ [])
+zero_end rounds = (tt, tt)
 
 body_of : (test : Record → Bool) (told body last : List Record) → told ≡ body ++ last → filter test last ≡ []
     → filter test told ≡ filter test body
@@ -496,7 +491,7 @@ drain_right : (t grant : ℕ) (kinds : List (Option Layout)) (c : Side → Chann
 drain_right t grant kinds c events h flown =
     let a = h.in_turn.first in
     let b = h.in_turn.is_second.first in
-    let last : List Record = ending h.is_done h.rounds ∷ [] in
+    let last : List Record = records.Drained h.rounds ∷ [] in
     let n = 8 + h.rounds in
     let is : events ≡ (a ++ b) ++ last = h.in_turn.told_are
     ∙ ap (λ (l : List Record). a ++ l)
@@ -508,9 +503,9 @@ drain_right t grant kinds c events h flown =
     (λ m l k. drain_tti_opens m kinds c l k) 8 t a h.in_turn.is_first)
     (turn_map (λ m. RoundTells m kinds c) (Opened 4) (λ m l k. round_opens m kinds c l k) h.rounds (t + 8) b
     h.in_turn.is_second.is_first) in
-    let times = body_of is_of_time events (a ++ b) last is (time_end h.is_done h.rounds) in
-    let airs = body_of is_of_air events (a ++ b) last is (air_end h.is_done h.rounds) in
-    let numbers = body_of is_tti events (a ++ b) last is (tti_end h.is_done h.rounds) in
+    let times = body_of is_of_time events (a ++ b) last is (time_end h.rounds) in
+    let airs = body_of is_of_air events (a ++ b) last is (air_end h.rounds) in
+    let numbers = body_of is_tti events (a ++ b) last is (tti_end h.rounds) in
     let count : length (filter is_tti events) ≡ n =
     ap (λ (l : List Record). length l) numbers ∙ (turn_counts n t (a ++ b) opened).0 in
     let flown' : InTurn (λ m. FliesIntact m grant) t n (filter is_of_air (a ++ b)) =
@@ -523,7 +518,7 @@ drain_right t grant kinds c events h flown =
             (a ++ b) opened flown'),
       );
       zero_is = subst (λ (l : List Record). AllZero l) (sym is)
-          (zero_append (a ++ b) last (turn_zero n t (a ++ b) opened) (zero_end h.is_done h.rounds));
+          (zero_append (a ++ b) last (turn_zero n t (a ++ b) opened) (zero_end h.rounds));
     }
 
 rest_line : (most t : ℕ) (p : Part) (events : List Record) → Fits most events → filter is_of_air events ≡ []

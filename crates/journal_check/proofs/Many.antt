@@ -10,7 +10,7 @@ use Rattle.air_text.specs.Fields.{number_of}
 use Rattle.journal_check.specs.declared.fault.TextFault.{TextFault}
 use Rattle.journal_check.specs.declared.fault.TextFault.TheVariants.{NotARecord, NoMemory}
 use Rattle.journal_check.specs.Answers.{none, ◌>>=◌}
-use Rattle.journal_check.specs.Blocks.{tti_of, sleep_of, block_of, air_of, refused_of, looped_of, drained_of, spent_of}
+use Rattle.journal_check.specs.Blocks.{tti_of, sleep_of, block_of, air_of, refused_of, looped_of, drained_of}
 use Rattle.journal_check.specs.Blocks.{sum_of}
 use Rattle.journal_check.specs.Events.{take_of, report_of, send_of, wait_of, start_of, stop_of, expired_of, up_of}
 use Rattle.journal_check.specs.Events.{fail_of, drop_of, integrity_of, discard_of, bad_block_of, bad_rlc_of}
@@ -124,7 +124,7 @@ module _ (x y b c d e f g : List ℕ) (more : List (List ℕ)) where
       (either (bytes_eq x (codes "srb")) _ _ refl (either (bytes_eq x (codes "report")) _ _ refl refl))
 
   record-many : (first : List ℕ) → words_of (first ∷ x ∷ y ∷ six) ≡ none
-  unfolding words_of block_of air_of tti_of sleep_of refused_of looped_of drained_of spent_of sum_of
+  unfolding words_of block_of air_of tti_of sleep_of refused_of looped_of drained_of sum_of
   record-many first =
       either (bytes_eq first (codes "mac")) _ _ mac-many
       (either (bytes_eq first (codes "rlc")) _ _ rlc-many
@@ -136,8 +136,7 @@ module _ (x y b c d e f g : List ℕ) (more : List (List ℕ)) where
       (either (bytes_eq first (codes "refused")) _ _ refl
       (either (bytes_eq first (codes "loop")) _ _ refl
       (either (bytes_eq first (codes "drained")) _ _ refl
-      (either (bytes_eq first (codes "spent")) _ _ refl
-      (either (bytes_eq first (codes "sum")) _ _ refl (event-many first))))))))))))
+      (either (bytes_eq first (codes "sum")) _ _ refl (event-many first)))))))))))
 
 pub too_many : (words : List (List ℕ)) → 8 < length words → words_of words ≡ none
 too_many (first ∷ x ∷ y ∷ b ∷ c ∷ d ∷ e ∷ f ∷ g ∷ more) h = record-many x y b c d e f g more first

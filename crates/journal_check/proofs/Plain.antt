@@ -7,14 +7,14 @@ use Rattle.mac_pdu.specs.declared.item.Bsr.TheVariants as bsrs
 use Rattle.mac_pdu.specs.declared.item.Control.TheVariants as controls
 use Rattle.air_record.specs.declared.record.Record.{Record}
 use Rattle.air_record.specs.declared.record.Record.TheVariants.{Line, Tti, Of, Block, Air, Refused, Looped, Drained}
-use Rattle.air_record.specs.declared.record.Record.TheVariants.{Spent, Sum, MacFront, MacSdu, MacPad, MacControl, RlcTm}
+use Rattle.air_record.specs.declared.record.Record.TheVariants.{Sum, MacFront, MacSdu, MacPad, MacControl, RlcTm}
 use Rattle.air_record.specs.declared.record.Record.TheVariants.{RlcUm, RlcAm, RlcSeg, RlcStatus, PdcpData, PdcpSrb}
 use Rattle.air_record.specs.declared.record.Record.TheVariants.{PdcpReport, Shown, BadMac, BadRlc, BadPdcp, Sleep}
 use Rattle.air_record.specs.Text.{record_words}
 use Rattle.journal_check.specs.Events.{take_of, report_of, send_of, wait_of, start_of, stop_of, expired_of, up_of}
 use Rattle.journal_check.specs.Events.{fail_of, drop_of, integrity_of, discard_of, bad_block_of, bad_rlc_of}
 use Rattle.journal_check.specs.Events.{bad_pdcp_of, bad_of, event_of}
-use Rattle.journal_check.specs.Blocks.{tti_of, sleep_of, block_of, air_of, refused_of, looped_of, drained_of, spent_of}
+use Rattle.journal_check.specs.Blocks.{tti_of, sleep_of, block_of, air_of, refused_of, looped_of, drained_of}
 use Rattle.journal_check.specs.Blocks.{sum_of}
 use Rattle.journal_check.specs.Pdus.{front_of, sdu_of, pad_of, truncated_of, short_of, long_of, phr_of, crnti_of}
 use Rattle.journal_check.specs.Pdus.{advance_of, drx_of, contention_of, transparent_of, umd_of, amd_of, segment_of}
@@ -55,7 +55,7 @@ pair-octets n h = (places, refl)
 pub plain-back : (one : Record) → IsPlain one → words_of (record_words one) ≡ Ok one
 unfolding words_of take_of report_of send_of wait_of start_of stop_of expired_of up_of fail_of drop_of integrity_of
     discard_of bad_block_of bad_rlc_of bad_pdcp_of tti_of sleep_of block_of air_of refused_of looped_of drained_of
-    spent_of sum_of front_of sdu_of pad_of truncated_of short_of long_of phr_of crnti_of advance_of drx_of contention_of
+    sum_of front_of sdu_of pad_of truncated_of short_of long_of phr_of crnti_of advance_of drx_of contention_of
     transparent_of umd_of amd_of segment_of status_of user_of signalling_of status_report_of bad_of bsr_of mac_of rlc_of
     pdcp_of event_of
 plain-back (Of side (events.Take lcid count len)) h =
@@ -93,7 +93,6 @@ plain-back (Air direction what heard) h = rw (direction-back direction, arrived-
 plain-back (Refused side lcid why) h = rw (side-back side, octet-back lcid h, place-back why) refl
 plain-back (Looped lcid octets) h = rw (octet-back lcid h.0, octets-back octets h.1) refl
 plain-back (Drained rounds) h = rw (long-back rounds h) refl
-plain-back (Spent rounds) h = rw (long-back rounds h) refl
 plain-back (Sum direction lcid submitted delivered state) h =
     rw (
       direction-back direction,
@@ -181,7 +180,6 @@ plain-free (Air direction what heard) h = rw (direction-free direction, arrived-
 plain-free (Refused side lcid why) h = rw (side-free side, octet-free lcid h, place-free why) refl
 plain-free (Looped lcid octets) h = rw (octet-free lcid h.0, octets-free octets) refl
 plain-free (Drained rounds) h = rw (long-free rounds h) refl
-plain-free (Spent rounds) h = rw (long-free rounds h) refl
 plain-free (Sum direction lcid submitted delivered state) h =
     rw (
       direction-free direction,
@@ -265,7 +263,6 @@ plain-begins (Air direction what heard) h = refl
 plain-begins (Refused side lcid why) h = refl
 plain-begins (Looped lcid octets) h = refl
 plain-begins (Drained rounds) h = refl
-plain-begins (Spent rounds) h = refl
 plain-begins (Sum direction lcid submitted delivered state) h = refl
 plain-begins MacFront h = refl
 plain-begins (MacSdu lcid len) h = refl

@@ -3,7 +3,7 @@
 use Rattle.std.specs.Prelude.{ℕ, List, [], ◌∷◌, Result, Ok}
 use Rattle.air_record.specs.declared.record.Record.{Record}
 use Rattle.air_record.specs.declared.record.Record.TheVariants.{Tti, Sleep, Block, Air, Refused}
-use Rattle.air_record.specs.declared.record.Record.TheVariants.{Looped, Drained, Spent, Sum}
+use Rattle.air_record.specs.declared.record.Record.TheVariants.{Looped, Drained, Sum}
 use Rattle.journal_check.specs.declared.fault.TextFault.{TextFault}
 use Rattle.journal_check.specs.Answers.{none, ◌>>=◌}
 use Rattle.journal_check.specs.Fields.{number_to, long_of, octets_of}
@@ -59,12 +59,6 @@ drained_of (word ∷ []) = do
   rounds ← long_of word
   Ok (Drained rounds)
 drained_of fields = none
-
-unfoldable pub spent_of : List (List ℕ) → Result Record TextFault
-spent_of (word ∷ []) = do
-  rounds ← long_of word
-  Ok (Spent rounds)
-spent_of fields = none
 
 unfoldable pub sum_of : List (List ℕ) → Result Record TextFault
 sum_of (way ∷ lcid ∷ submitted ∷ delivered ∷ word ∷ []) = do

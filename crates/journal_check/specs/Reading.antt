@@ -14,7 +14,7 @@ use Rattle.journal_check.specs.Pieces.{before, behind, pieces}
 use Rattle.journal_check.specs.Fields.{number_to}
 use Rattle.journal_check.specs.Events.{event_of}
 use Rattle.journal_check.specs.Blocks.{tti_of, sleep_of, block_of, air_of, refused_of, looped_of}
-use Rattle.journal_check.specs.Blocks.{drained_of, spent_of, sum_of}
+use Rattle.journal_check.specs.Blocks.{drained_of, sum_of}
 use Rattle.journal_check.specs.Pdus.{mac_of, rlc_of, pdcp_of}
 
 abbrev pub line_in : Result (Option Line) LineRefusal → Result Line TextFault
@@ -50,7 +50,6 @@ record_of first fields =
     else if bytes_eq first (codes "refused") then refused_of fields
     else if bytes_eq first (codes "loop") then looped_of fields
     else if bytes_eq first (codes "drained") then drained_of fields
-    else if bytes_eq first (codes "spent") then spent_of fields
     else if bytes_eq first (codes "sum") then sum_of fields
     else event_of first fields
 

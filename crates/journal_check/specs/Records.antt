@@ -94,7 +94,6 @@ IsJournalRecord (records.Air direction what heard) = Unit {0}
 IsJournalRecord (records.Refused side lcid why) = lcid < 2 ^ 8
 IsJournalRecord (records.Looped lcid octets) = (lcid < 2 ^ 8) × AreOctets octets
 IsJournalRecord (records.Drained rounds) = rounds < 2 ^ 64
-IsJournalRecord (records.Spent rounds) = rounds < 2 ^ 64
 IsJournalRecord (records.Sum direction lcid submitted delivered state) =
     (lcid < 2 ^ 8) × (submitted < 2 ^ 64) × (delivered < 2 ^ 64)
 IsJournalRecord records.MacFront = Unit {0}

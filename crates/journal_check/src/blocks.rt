@@ -3,7 +3,7 @@ ghost use Rattle.air_text.specs.Words.{texts};
 ghost use Rattle.journal_check.specs.Answers.{Gives};
 ghost use Rattle.journal_check.specs.Blocks.{tti_of, sleep_of, block_of, air_of, refused_of};
 ghost use Rattle.journal_check.specs.Blocks.{looped_of};
-ghost use Rattle.journal_check.specs.Blocks.{drained_of, spent_of, sum_of};
+ghost use Rattle.journal_check.specs.Blocks.{drained_of, sum_of};
 ghost use Rattle.journal_check.specs.Records.{IsSaid};
 
 use crate::fault::TextFault;
@@ -112,18 +112,6 @@ pub fn drained(fields: &[&[u8]]) -> Result<Record, TextFault>
     };
     let rounds = long_number(word)?;
     Ok(Record::Drained { rounds })
-}
-
-#[tactic(auto, unfolding(crate::specs::Blocks::spent_of))]
-pub fn spent(fields: &[&[u8]]) -> Result<Record, TextFault>
-    ensures record { Gives result (spent_of (texts fields.now)) }
-    ensures text { IfOk result (IsSaid (codes "spent" ∷ texts fields.now)) }
-{
-    let [word] = fields else {
-        return Err(TextFault::NotARecord);
-    };
-    let rounds = long_number(word)?;
-    Ok(Record::Spent { rounds })
 }
 
 #[tactic(auto, unfolding(crate::specs::Blocks::sum_of))]

@@ -10,7 +10,7 @@ ghost use Rattle.journal_check.specs.Reading.{line_in, if_own, script_of, line_o
 ghost use Rattle.journal_check.specs.Reading.{words_of};
 ghost use Rattle.journal_check.specs.Records.{HasText, IsSaid};
 
-use crate::blocks::{air, block, drained, looped, refused, sleep, spent, sum, tti};
+use crate::blocks::{air, block, drained, looped, refused, sleep, sum, tti};
 use crate::events::event;
 use crate::fault::TextFault;
 use crate::fields::{number, says};
@@ -113,8 +113,6 @@ fn named(alloc: Global, first: &[u8], fields: &[&[u8]]) -> Result<Record, TextFa
         looped(alloc, fields)
     } else if says(first, b"drained") {
         drained(fields)
-    } else if says(first, b"spent") {
-        spent(fields)
     } else if says(first, b"sum") {
         sum(fields)
     } else {

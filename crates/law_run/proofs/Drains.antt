@@ -9,7 +9,6 @@ use Rattle.air_record.specs.declared.line.Line.TheVariants as lines
 use Rattle.air_record.specs.declared.record.Record.{Record}
 use Rattle.air_record.specs.declared.record.Record.TheVariants as records
 use Rattle.air_run.specs.Draining.{behind, ttis, rounds, budget, drained}
-use Rattle.air_record.specs.Endings.{ending}
 use Rattle.air_run.specs.Playing.{acted}
 use Rattle.air_run.specs.Rules.{Rules, no_rules, refused_if, rule_broken, refusal, accepted}
 use Rattle.air_run.specs.Run.{fresh}
@@ -51,7 +50,7 @@ last_is one x (y ∷ xs) = last_is y x xs
 same_last : (x y : Record) (xs ys : List Record) → xs ++ x ∷ [] ≡ ys ++ y ∷ [] → x ≡ y
 same_last x y xs ys e = sym (last_is x x xs) ∙ ap (last_or x) e ∙ last_is x y ys
 
-ends_so : (is_done : Bool) (done told : ℕ) → ending is_done done ≡ records.Drained told → is_done ≡ true
+ends_so : (is_done : Bool) (done told : ℕ) → records.Drained done ≡ records.Drained told → is_done ≡ true
 ends_so true done told e = refl
 ends_so false done told e = absurd cc
 
@@ -61,7 +60,7 @@ unfolding drained
 drain_ends grant told k before e =
     let first = ttis 8 grant k in
     let whole = behind first.journal 0 (rounds (budget k) grant first.link) in
-    let last = ending (is_drained whole.link) whole.done in
+    let last = records.Drained whole.done in
     ends_so (is_drained whole.link) whole.done told (same_last last (records.Drained told) whole.journal before e)
 
 -- ---- behind a drain

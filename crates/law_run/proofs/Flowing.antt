@@ -13,7 +13,7 @@ use Rattle.air_record.specs.declared.line.Line.TheVariants as lines
 use Rattle.air_record.specs.declared.record.Record.{Record}
 use Rattle.air_run.specs.Draining.{shown, Drained, at_once, behind, ttis, senders_unless, round, left_by, done_by}
 use Rattle.air_run.specs.Draining.{round_told, rounds, budget, drained}
-use Rattle.air_record.specs.Endings.{ending}
+use Rattle.air_record.specs.declared.record.Record.TheVariants as records
 use Rattle.air_run.specs.Playing.{keys_or_none, acted, played}
 use Rattle.air_text.specs.Ranges.{IsInRange}
 use Rattle.law_deliver.specs.AmChannel.Delivery.{accepted}
@@ -100,26 +100,20 @@ submit_handed (Some why) Ue Nb n lcid octets = refl
 submit_handed (Some why) Ue Ue n lcid octets = refl
 
 -- how a drain ends is told of no end
-unlooped_end : (side : Side) (n : ℕ) (said : List Record) (is_done : Bool) (done : ℕ)
-    → looped_at side n (said ++ ending is_done done ∷ []) ≡ looped_at side n said
-unlooped_end side n said is_done done = looped_then side n said (ending is_done done ∷ [])
-    ∙ ap (λ (xs : List (List ℕ)). looped_at side n said ++ xs) (none side is_done)
+unlooped_end : (side : Side) (n : ℕ) (said : List Record) (done : ℕ)
+    → looped_at side n (said ++ records.Drained done ∷ []) ≡ looped_at side n said
+unlooped_end side n said done = looped_then side n said (records.Drained done ∷ [])
+    ∙ ap (λ (xs : List (List ℕ)). looped_at side n said ++ xs) (none side)
     ∙ append-nil (looped_at side n said)
   where
-    none : (s : Side) (b : Bool) → looped_at s n (ending b done ∷ []) ≡ []
-    none Nb b = refl
-    none Ue true = refl
-    none Ue false = refl
+    none : (s : Side) → looped_at s n (records.Drained done ∷ []) ≡ []
+    none Nb = refl
+    none Ue = refl
 
-untold_end : (side : Side) (said : List Record) (is_done : Bool) (done : ℕ)
-    → events_of side (said ++ ending is_done done ∷ []) ≡ events_of side said
-untold_end side said is_done done =
-    told_both side said (ending is_done done ∷ []) (events_of side said) [] refl (none is_done)
+untold_end : (side : Side) (said : List Record) (done : ℕ)
+    → events_of side (said ++ records.Drained done ∷ []) ≡ events_of side said
+untold_end side said done = told_both side said (records.Drained done ∷ []) (events_of side said) [] refl refl
     ∙ append-nil (events_of side said)
-  where
-    none : (b : Bool) → events_of side (ending b done ∷ []) ≡ []
-    none true = refl
-    none false = refl
 
 -- ---- what holds through any steps
 
@@ -147,27 +141,25 @@ both_flown l all f g h bits from =
     append_assoc all (entries_in bits l from [] f) (entries_in bits l from [] g)
     ∙ ap (λ (hs : List AccountEntry). all ++ hs) (sym (tells_both l f g h bits from))
 
-unflown_end : (bits l : ℕ) (from : Side) (said : List Record) (is_done : Bool) (done : ℕ)
-    → entries_in bits l from [] (said ++ ending is_done done ∷ []) ≡ entries_in bits l from [] said
-unflown_end bits l from said is_done done =
-    tells_more bits l from [] said (ending is_done done ∷ [])
-    ∙ (ap (λ (hs : List AccountEntry). entries_in bits l from [] said ++ hs) (none is_done (last_in said []))
+unflown_end : (bits l : ℕ) (from : Side) (said : List Record) (done : ℕ)
+    → entries_in bits l from [] (said ++ records.Drained done ∷ []) ≡ entries_in bits l from [] said
+unflown_end bits l from said done =
+    tells_more bits l from [] said (records.Drained done ∷ [])
+    ∙ (ap (λ (hs : List AccountEntry). entries_in bits l from [] said ++ hs) (none (last_in said []))
     ∙ append-nil (entries_in bits l from [] said))
   where
-    none : (b : Bool) (sent : List ℕ) → entries_in bits l from sent (ending b done ∷ []) ≡ []
-    none true sent = refl
-    none false sent = refl
+    none : (sent : List ℕ) → entries_in bits l from sent (records.Drained done ∷ []) ≡ []
+    none sent = refl
 
-unsaid_end : (d : Direction) (l : ℕ) (place : Cursor) (said : List Record) (is_done : Bool) (done : ℕ)
-    → told_in d l place (said ++ ending is_done done ∷ []) ≡ told_in d l place said
-unsaid_end d l place said is_done done =
-    in_then d l place said (ending is_done done ∷ [])
-    ∙ ap (λ (hs : List Happening). told_in d l place said ++ hs) (none is_done (place_behind place said))
+unsaid_end : (d : Direction) (l : ℕ) (place : Cursor) (said : List Record) (done : ℕ)
+    → told_in d l place (said ++ records.Drained done ∷ []) ≡ told_in d l place said
+unsaid_end d l place said done =
+    in_then d l place said (records.Drained done ∷ [])
+    ∙ ap (λ (hs : List Happening). told_in d l place said ++ hs) (none (place_behind place said))
     ∙ append-nil (told_in d l place said)
   where
-    none : (b : Bool) (c : Cursor) → told_in d l c (ending b done ∷ []) ≡ []
-    none true c = refl
-    none false c = refl
+    none : (c : Cursor) → told_in d l c (records.Drained done ∷ []) ≡ []
+    none c = refl
 
 -- of what is known of a link by what was told, submitted, what went by air and what was set since it began: a step goes
 -- on with it
@@ -351,9 +343,8 @@ module _ (l : ℕ) (Live : List Record → Sdus → Happened → Bool → Link �
     said : List Record
     lived : Live (told ++ said) (λ side n. handed side n ++ looped_at side n said)
         (λ bits from. flown bits from ++ entries_in bits l from [] said) set d.link
-    is_done : Bool
     done : ℕ
-    journal_is : d.journal ≡ said ++ ending is_done done ∷ []
+    journal_is : d.journal ≡ said ++ records.Drained done ∷ []
 
   drained_lives : (told : List Record) (handed : Sdus) (flown : Happened) (set : Bool) (grant : ℕ) (k : Link)
       → grant ≤ 9422 → k.out ≡ [] → Live told handed flown set k → WholeLives told handed flown set (drained grant k)
@@ -368,7 +359,6 @@ module _ (l : ℕ) (Live : List Record → Sdus → Happened → Bool → Link �
         lived =
             (first_drained told handed flown set 0 d.journal e p.alone
             (rounds_go (budget k) grant (told ++ d.journal) _ _ set d.link within p.nothing p.lived)).lived;
-        is_done = is_drained whole.link;
         done = whole.done;
         journal_is = refl;
       }
@@ -456,12 +446,12 @@ module _ (l : ℕ) (Live : List Record → Sdus → Happened → Bool → Link �
         more = w.said;
         lived = through.same _ _ _ _ _ _ set (set || false) (record d.link { out = d.journal }) refl
             (λ side n. ap (λ (ys : List (List ℕ)). handed side n ++ ys)
-            (sym (ap (looped_at side n) w.journal_is ∙ unlooped_end side n w.said w.is_done w.done)))
+            (sym (ap (looped_at side n) w.journal_is ∙ unlooped_end side n w.said w.done)))
             (λ bits from. ap (λ (hs : List AccountEntry). flown bits from ++ hs)
-            (sym (ap (entries_in bits l from []) w.journal_is ∙ unflown_end bits l from w.said w.is_done w.done)))
+            (sym (ap (entries_in bits l from []) w.journal_is ∙ unflown_end bits l from w.said w.done)))
             (sym (or_false set)) (through.unseen _ _ _ set d.link d.journal w.lived);
-        told_are = λ side. ap (events_of side) w.journal_is ∙ untold_end side w.said w.is_done w.done;
-        haps_are = λ d place. ap (told_in d l place) w.journal_is ∙ unsaid_end d l place w.said w.is_done w.done;
+        told_are = λ side. ap (events_of side) w.journal_is ∙ untold_end side w.said w.done;
+        haps_are = λ d place. ap (told_in d l place) w.journal_is ∙ unsaid_end d l place w.said w.done;
       }
 
   -- any line but a handover

@@ -28,7 +28,6 @@ ignored way p (records.Air direction what good) h a r = cc
 ignored way p (records.Refused side lcid why) h a r = refl
 ignored way p (records.Looped lcid octets) h a r = refl
 ignored way p (records.Drained rounds) h a r = refl
-ignored way p (records.Spent rounds) h a r = refl
 ignored way p (records.Sum direction lcid submitted delivered state) h a r = refl
 ignored way p records.MacFront h a r = refl
 ignored way p (records.MacSdu lcid len) h a r = refl

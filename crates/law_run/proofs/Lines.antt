@@ -14,7 +14,6 @@ use Rattle.air_record.specs.declared.record.NoPlace.{NoPlace}
 use Rattle.air_record.specs.declared.record.Record.{Record}
 use Rattle.air_record.specs.declared.record.Record.TheVariants as records
 use Rattle.air_run.specs.Draining.{Drained, drained}
-use Rattle.air_record.specs.Endings.{ending}
 use Rattle.air_run.specs.Playing.{keys_or_none, acted, played}
 use Rattle.air_record.specs.Cells.{next_keys}
 use Rattle.eps_sec.specs.declared.Keys.{Keys}
@@ -236,35 +235,30 @@ passes_add asleep up_grant up down_grant down l m nothing a =
 
 -- ---- a drain
 
-ends_alone : (is_done : Bool) (rounds : ℕ) → filter is_of_run (ending is_done rounds ∷ []) ≡ ending is_done rounds ∷ []
-ends_alone true rounds = refl
-ends_alone false rounds = refl
+ends_alone : (rounds : ℕ) → filter is_of_run (records.Drained rounds ∷ []) ≡ records.Drained rounds ∷ []
+ends_alone rounds = refl
 
-no_air_ends : (is_done : Bool) (rounds : ℕ) → filter is_of_air (ending is_done rounds ∷ []) ≡ []
-no_air_ends true rounds = refl
-no_air_ends false rounds = refl
+no_air_ends : (rounds : ℕ) → filter is_of_air (records.Drained rounds ∷ []) ≡ []
+no_air_ends rounds = refl
 
-no_ups_end : (is_done : Bool) (rounds : ℕ) (side : Side) (k : ℕ) → ups side k (ending is_done rounds ∷ []) ≡ 0
-no_ups_end true rounds side k = refl
-no_ups_end false rounds side k = refl
+no_ups_end : (rounds : ℕ) (side : Side) (k : ℕ) → ups side k (records.Drained rounds ∷ []) ≡ 0
+no_ups_end rounds side k = refl
 
-no_failures_end : (is_done : Bool) (rounds : ℕ) (side : Side) (k : ℕ)
-    → gives_up side k (ending is_done rounds ∷ []) ≡ false
-no_failures_end true rounds side k = refl
-no_failures_end false rounds side k = refl
+no_failures_end : (rounds : ℕ) (side : Side) (k : ℕ)
+    → gives_up side k (records.Drained rounds ∷ []) ≡ false
+no_failures_end rounds side k = refl
 
 or_none : (b : Bool) → b || false ≡ b
 or_none true = refl
 or_none false = refl
 
-no_loops_end : (is_done : Bool) (rounds k : ℕ) → loopeds k (ending is_done rounds ∷ []) ≡ 0
-no_loops_end true rounds k = refl
-no_loops_end false rounds k = refl
+no_loops_end : (rounds k : ℕ) → loopeds k (records.Drained rounds ∷ []) ≡ 0
+no_loops_end rounds k = refl
 
 pub drains_add : (grant : ℕ) (l : Link) (d : Drained) → WholeDrain grant l d
     → PartAdds (Drains grant) false l (record d.link { out = d.journal })
 drains_add grant l d w =
-    let last = ending w.is_done w.rounds ∷ [] in
+    let last = records.Drained w.rounds ∷ [] in
     let n = 8 + w.rounds in
     let counts : (test : Record → Bool) → length (filter test last) ≡ 0
     → length (filter test d.journal) ≡ length (filter test w.said) =
@@ -277,38 +271,38 @@ drains_add grant l d w =
     let run : filter is_of_run d.journal ≡ numbered l.ttis n ++ last =
     ap (λ (x : List Record). filter is_of_run x) w.journal_is ∙ filter-append is_of_run w.said last
     ∙ ap (λ (x : List Record). x ++ filter is_of_run last) w.adds.numbers
-    ∙ ap (λ (x : List Record). numbered l.ttis n ++ x) (ends_alone w.is_done w.rounds) in
+    ∙ ap (λ (x : List Record). numbered l.ttis n ++ x) (ends_alone w.rounds) in
     let air : filter is_of_air d.journal ≡ filter is_of_air w.said =
     ap (λ (x : List Record). filter is_of_air x) w.journal_is ∙ filter-append is_of_air w.said last
-    ∙ ap (λ (x : List Record). filter is_of_air w.said ++ x) (no_air_ends w.is_done w.rounds)
+    ∙ ap (λ (x : List Record). filter is_of_air w.said ++ x) (no_air_ends w.rounds)
     ∙ append-nil (filter is_of_air w.said) in
     let numbers : filter is_tti d.journal ≡ numbered l.ttis n =
     sym (of_run_alone d.journal) ∙ ap (λ (x : List Record). filter is_tti x) run
-    ∙ ttis_of_drain l.ttis n w.is_done w.rounds in
+    ∙ ttis_of_drain l.ttis n w.rounds in
     let count : length (filter is_tti d.journal) ≡ n = ap (λ (x : List Record). length x) numbers
     ∙ count_numbered l.ttis n in
     record {
       nb_delivered =
           grows_as (λ k. ups Nb k w.said) (λ k. ups Nb k d.journal) l.up.delivered d.link.up.delivered
-          (λ k. counts (is_up Nb k) (no_ups_end w.is_done w.rounds Nb k)) w.adds.nb_delivered;
+          (λ k. counts (is_up Nb k) (no_ups_end w.rounds Nb k)) w.adds.nb_delivered;
       ue_delivered =
           grows_as (λ k. ups Ue k w.said) (λ k. ups Ue k d.journal) l.down.delivered d.link.down.delivered
-          (λ k. counts (is_up Ue k) (no_ups_end w.is_done w.rounds Ue k)) w.adds.ue_delivered;
+          (λ k. counts (is_up Ue k) (no_ups_end w.rounds Ue k)) w.adds.ue_delivered;
       nb_submitted = same_grows (λ k. 0) l.down.submitted d.link.down.submitted w.adds.nb_submitted (λ k. refl);
       ue_submitted = grows_as (λ k. loopeds k w.said) (λ k. 0 + loopeds k d.journal) l.up.submitted d.link.up.submitted
           (λ k. let same : loopeds k d.journal ≡ loopeds k w.said =
-          counts (is_looped k) (no_loops_end w.is_done w.rounds k) in omega (arith, same)) w.adds.ue_submitted;
+          counts (is_looped k) (no_loops_end w.rounds k) in omega (arith, same)) w.adds.ue_submitted;
       nb_failed =
           marked_as (λ k. gives_up Nb k w.said) (λ k. gives_up Nb k d.journal) l.down.failed d.link.down.failed
-          (λ k. tells (is_fail Nb k) (no_failures_end w.is_done w.rounds Nb k)) w.adds.nb_failed;
+          (λ k. tells (is_fail Nb k) (no_failures_end w.rounds Nb k)) w.adds.nb_failed;
       ue_failed =
           marked_as (λ k. gives_up Ue k w.said) (λ k. gives_up Ue k d.journal) l.up.failed d.link.up.failed
-          (λ k. tells (is_fail Ue k) (no_failures_end w.is_done w.rounds Ue k)) w.adds.ue_failed;
+          (λ k. tells (is_fail Ue k) (no_failures_end w.rounds Ue k)) w.adds.ue_failed;
       count = n;
       ttis_is = w.adds.ttis_is;
       numbers = numbers;
       of_its_time = record {
-        timed = record { rounds = w.rounds; is_done = w.is_done; told_is = run };
+        timed = record { rounds = w.rounds; told_is = run };
         flown = subst (λ (m : ℕ). InTurn (λ k. FliesIntact k grant) l.ttis m (filter is_of_air d.journal)) (sym count)
             (subst (λ (x : List Record). InTurn (λ k. FliesIntact k grant) l.ttis n x) (sym air) w.adds.flown);
       };

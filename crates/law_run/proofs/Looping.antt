@@ -9,7 +9,7 @@ use Rattle.air_record.specs.declared.line.Line.TheVariants as lines
 use Rattle.air_record.specs.declared.record.Record.{Record}
 use Rattle.air_run.specs.Draining.{shown, Drained, at_once, behind, ttis, senders_unless, round, left_by, done_by}
 use Rattle.air_run.specs.Draining.{round_told, rounds, budget, drained}
-use Rattle.air_record.specs.Endings.{ending}
+use Rattle.air_record.specs.declared.record.Record.TheVariants as records
 use Rattle.air_run.specs.Playing.{keys_or_none, acted, played}
 use Rattle.air_record.specs.Cells.{next_keys}
 use Rattle.air_run.specs.Run.{fresh, behind_line}
@@ -121,9 +121,8 @@ rounds_loop zero grant mode' l nothing e r = none_loops mode' l nothing e r
 rounds_loop (suc n) grant mode' l nothing e r =
     round_by n grant mode' l nothing e r (is_drained l) (λ m none f q. rounds_loop n grant mode' m none f q)
 
-end_is_silent : (is_done : Bool) (done : ℕ) → IsSilent (ending is_done done)
-end_is_silent true done = (refl, λ mode'. refl)
-end_is_silent false done = (refl, λ mode'. refl)
+end_is_silent : (done : ℕ) → IsSilent (records.Drained done)
+end_is_silent done = (refl, λ mode'. refl)
 
 drained_back : (grant : ℕ) (l : Link) → l.out ≡ [] → IsAtRest l
     → LoopsBack l.looping.mode l (record (drained grant l).link { out = (drained grant l).journal })
@@ -135,7 +134,7 @@ drained_back grant l nothing r =
     let p = ttis_loop 8 grant mode' l nothing refl r in
     let q = rounds_loop (budget l) grant mode' d.link p.nothing p.mode_is p.rests in
     let whole = behind d.journal 0 e in
-    let last = ending (is_drained whole.link) whole.done ∷ [] in
+    let last = records.Drained whole.done ∷ [] in
     let kept = e.link.looping.kept in
     record {
       more = whole.journal ++ last;
@@ -144,7 +143,7 @@ drained_back grant l nothing r =
       rests = record { none_waits = q.rests.none_waits; none_kept = q.rests.none_kept };
       come_back = back_then mode' l.looping.kept kept kept whole.journal last
           (back_then mode' l.looping.kept d.link.looping.kept kept d.journal e.journal p.come_back q.come_back)
-          (back_silent mode' kept last (end_is_silent (is_drained whole.link) whole.done, tt));
+          (back_silent mode' kept last (end_is_silent whole.done, tt));
     }
 
 -- ---- every line

@@ -11,7 +11,6 @@ use Rattle.air_record.specs.declared.line.Outcome.{Outcome}
 use Rattle.air_record.specs.declared.record.Record.{Record}
 use Rattle.air_record.specs.declared.record.Record.TheVariants as records
 use Rattle.air_run.specs.Draining.{drained}
-use Rattle.air_record.specs.Endings.{ending}
 use Rattle.air_run.specs.Playing.{keys_or_none, acted, drains, played}
 use Rattle.air_record.specs.Cells.{next_keys}
 use Rattle.air_run.specs.Run.{fresh as fresh_run}
@@ -98,20 +97,19 @@ tti_keeps up_grant up down_grant down l nothing =
     subst (λ (x : List Record). KeepsBoth (is_miss up.fate) (entities l) (entities m) x) (sym out)
     (both_turn (sleeps l.ttis l) up_grant up down_grant down l m a)
 
-ends_ignored : (is_done : Bool) (rounds : ℕ) (way : Direction) (p : ℕ) (h : Heard)
-    → hears way p (ending is_done rounds) h ≡ h
-ends_ignored true rounds way p h = refl
-ends_ignored false rounds way p h = refl
+ends_ignored : (rounds : ℕ) (way : Direction) (p : ℕ) (h : Heard)
+    → hears way p (records.Drained rounds) h ≡ h
+ends_ignored rounds way p h = refl
 
 drain_keeps : (grant : ℕ) (l : Link) → l.out ≡ []
     → KeepsBoth false (entities l) (entities (drains grant l)) (drains grant l).out
 drain_keeps grant l nothing =
     let d = drained grant l in
     let w = drained_adds grant l nothing in
-    let last = both_ignore false (entities d.link) (ending w.is_done w.rounds ∷ [])
-    (λ way p h. ends_ignored w.is_done w.rounds way p h) in
+    let last = both_ignore false (entities d.link) (records.Drained w.rounds ∷ [])
+    (λ way p h. ends_ignored w.rounds way p h) in
     subst (λ (x : List Record). KeepsBoth false (entities l) (entities d.link) x) (sym w.journal_is)
-    (both_then false (entities l) (entities d.link) (entities d.link) w.said (ending w.is_done w.rounds ∷ [])
+    (both_then false (entities l) (entities d.link) (entities d.link) w.said (records.Drained w.rounds ∷ [])
     w.adds.kept last)
 
 call_keeps : (c : calls.Call) (l : Link) → l.out ≡ [] → entities (calls.after c l) ≡ entities l

@@ -15,7 +15,6 @@ use Rattle.air_record.specs.declared.record.Record.{Record}
 use Rattle.air_record.specs.declared.record.Record.TheVariants as records
 use Rattle.air_run.specs.Draining.{shown, Drained, at_once, behind, ttis, senders_unless, round, left_by, done_by}
 use Rattle.air_run.specs.Draining.{round_told, rounds, budget, drained}
-use Rattle.air_record.specs.Endings.{ending}
 use Rattle.air_run.specs.Playing.{keys_or_none, acted, played}
 use Rattle.air_record.specs.Cells.{next_keys}
 use Rattle.air_run.specs.Run.{fresh, behind_line}
@@ -265,13 +264,11 @@ both_go a b done grant l d e p q = record {
   kinds_are = q.kinds_are ∙ p.kinds_are;
 }
 
-none_built : (is_done : Bool) (done : ℕ) → filter is_of_building (ending is_done done ∷ []) ≡ []
-none_built true done = refl
-none_built false done = refl
+none_built : (done : ℕ) → filter is_of_building (records.Drained done ∷ []) ≡ []
+none_built done = refl
 
-untold_end : (side : Side) (is_done : Bool) (done : ℕ) → events_of side (ending is_done done ∷ []) ≡ []
-untold_end side true done = refl
-untold_end side false done = refl
+untold_end : (side : Side) (done : ℕ) → events_of side (records.Drained done ∷ []) ≡ []
+untold_end side done = refl
 
 -- the count of TTIs is that of their records
 drained_goes : (told : List Record) (grant : ℕ) (l : Link) → l.out ≡ [] → IsReached told l → grant ≤ 9422
@@ -288,18 +285,17 @@ drained_goes told grant l nothing r within count ttis_is count_is =
     both_go 8 e.done 0 grant l d e p
     (rounds_go (told ++ d.journal) (budget l) grant d.link p.nothing
     (reached_then [] told d.journal l d.link r p.nb p.ue p.kinds_are) within) in
-    let is_done = is_drained whole.link in
-    let last = ending is_done whole.done ∷ [] in
+    let last = records.Drained whole.done ∷ [] in
     let same : 8 + e.done ≡ count = omega (arith, ttis_is, q.ttis_is) in
     let blocks : filter is_of_building (whole.journal ++ last) ≡ filter is_of_building whole.journal =
     filter-append is_of_building whole.journal last
-    ∙ ap (λ (x : List Record). filter is_of_building whole.journal ++ x) (none_built is_done whole.done)
+    ∙ ap (λ (x : List Record). filter is_of_building whole.journal ++ x) (none_built whole.done)
     ∙ append-nil (filter is_of_building whole.journal) in
     record {
       nb = lives_then [] [] Nb whole.journal last l.nb whole.link.nb whole.link.nb q.nb
-          (by_same Nb last whole.link.nb whole.link.nb refl (untold_end Nb is_done whole.done));
+          (by_same Nb last whole.link.nb whole.link.nb refl (untold_end Nb whole.done));
       ue = lives_then [] [] Ue whole.journal last l.ue whole.link.ue whole.link.ue q.ue
-          (by_same Ue last whole.link.ue whole.link.ue refl (untold_end Ue is_done whole.done));
+          (by_same Ue last whole.link.ue whole.link.ue refl (untold_end Ue whole.done));
       blocks = subst (λ (n : ℕ). AllMayBuild grant l.kinds l.ttis n (filter is_of_building (whole.journal ++ last)))
           (same ∙ sym count_is)
           (subst (λ (x : List Record). AllMayBuild grant l.kinds l.ttis (8 + e.done) x) (sym blocks) q.blocks);

@@ -5,7 +5,6 @@ use Rattle.std.specs.List.{filter}
 use Rattle.std.proofs.lemmas.List.Elements.{filter-append}
 use Rattle.air_record.specs.declared.record.Record.{Record}
 use Rattle.air_record.specs.declared.record.Record.TheVariants as records
-use Rattle.air_record.specs.Endings.{ending}
 use Rattle.promises.specs.Records.{is_of_run}
 use Rattle.promises.specs.Air.{is_tti, numbered}
 
@@ -19,7 +18,6 @@ is_of_a_run (records.Air direction what heard) e = cc
 is_of_a_run (records.Refused side lcid why) e = cc
 is_of_a_run (records.Looped lcid octets) e = cc
 is_of_a_run (records.Drained rounds) e = cc
-is_of_a_run (records.Spent rounds) e = cc
 is_of_a_run (records.Sum direction lcid submitted delivered state) e = cc
 is_of_a_run (records.Shown number direction len) e = cc
 is_of_a_run one e = cc
@@ -59,14 +57,13 @@ numbered_then from (suc a) b =
     rw more (ap (λ (ys : List Record). records.Tti from ∷ ys)
     (numbered_then (from + 1) a b ∙ ap (λ (n : ℕ). numbered (from + 1) a ++ numbered n b) same))
 
-pub no_tti_ends : (is_done : Bool) (rounds : ℕ) → filter is_tti (ending is_done rounds ∷ []) ≡ []
-no_tti_ends true rounds = refl
-no_tti_ends false rounds = refl
+pub no_tti_ends : (rounds : ℕ) → filter is_tti (records.Drained rounds ∷ []) ≡ []
+no_tti_ends rounds = refl
 
 -- the TTIs of what a drain tells
-pub ttis_of_drain : (from count : ℕ) (is_done : Bool) (rounds : ℕ)
-    → filter is_tti (numbered from count ++ ending is_done rounds ∷ []) ≡ numbered from count
-ttis_of_drain from count is_done rounds =
-    filter-append is_tti (numbered from count) (ending is_done rounds ∷ [])
-    ∙ ap (λ (ys : List Record). filter is_tti (numbered from count) ++ ys) (no_tti_ends is_done rounds)
+pub ttis_of_drain : (from count rounds : ℕ)
+    → filter is_tti (numbered from count ++ records.Drained rounds ∷ []) ≡ numbered from count
+ttis_of_drain from count rounds =
+    filter-append is_tti (numbered from count) (records.Drained rounds ∷ [])
+    ∙ ap (λ (ys : List Record). filter is_tti (numbered from count) ++ ys) (no_tti_ends rounds)
     ∙ append-nil (filter is_tti (numbered from count)) ∙ all_ttis from count

@@ -11,7 +11,7 @@ use Rattle.air_record.specs.declared.line.Line.TheVariants as lines
 use Rattle.air_record.specs.declared.record.Record.{Record}
 use Rattle.air_run.specs.Draining.{shown, Drained, at_once, behind, ttis, senders_unless, round, left_by, done_by}
 use Rattle.air_run.specs.Draining.{round_told, rounds, budget, drained}
-use Rattle.air_record.specs.Endings.{ending}
+use Rattle.air_record.specs.declared.record.Record.TheVariants as records
 use Rattle.air_run.specs.Playing.{keys_or_none, acted, played}
 use Rattle.air_record.specs.Cells.{next_keys}
 use Rattle.air_run.specs.Rules.{Rules, refusal, rule_broken, is_idle}
@@ -182,11 +182,10 @@ drained_tells c grant l alike within none r =
     let p = ttis_turn l.kinds c 8 grant l alike within none refl r in
     let q = rounds_turn l.kinds c (budget l) grant d.link alike within p.none p.kinds_are p.ready in
     let whole = behind d.journal 0 e in
-    let last = ending (is_drained whole.link) whole.done ∷ [] in
+    let last = records.Drained whole.done ∷ [] in
     let count : 0 + e.done ≡ e.done = omega arith in
     record {
       rounds = e.done;
-      is_done = is_drained whole.link;
       in_turn = record {
         first = d.journal;
         second = e.journal ++ last;
@@ -197,7 +196,7 @@ drained_tells c grant l alike within none r =
           second = last;
           told_are = refl;
           is_first = subst (λ (t : ℕ). InTurn (λ n. RoundTells n l.kinds c) t e.done e.journal) p.ttis_is q.in_turn;
-          is_second = ap (λ (n : ℕ). ending (is_drained whole.link) n ∷ []) count;
+          is_second = ap (λ (n : ℕ). records.Drained n ∷ []) count;
         };
       };
     }

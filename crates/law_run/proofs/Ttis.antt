@@ -11,7 +11,6 @@ use Rattle.air_record.specs.declared.record.Record.{Record}
 use Rattle.air_record.specs.declared.record.Record.TheVariants as records
 use Rattle.air_run.specs.Draining.{shown, Drained, at_once, behind, ttis, senders_unless, round, left_by, done_by}
 use Rattle.air_run.specs.Draining.{round_told, rounds, budget, drained}
-use Rattle.air_record.specs.Endings.{ending}
 use Rattle.l2_types.specs.declared.side.Side.TheVariants.{Nb, Ue}
 use Rattle.law_air.specs.AnyCalls.Calls.{ReceiversExpire, SendersExpire}
 use Rattle.law_air.specs.AnyCalls.Counts.{ups, loopeds, Grows, is_fail, gives_up, AreMarked}
@@ -275,10 +274,9 @@ telling said d = record { link = d.link; done = d.done; journal = said }
 
 pub record WholeDrain (grant : ℕ) (l : Link) (d : Drained) : Type 0 where
   pub rounds : ℕ
-  pub is_done : Bool
   pub said : List Record
   pub adds : DrainAdds (8 + rounds) grant l (telling said d)
-  pub journal_is : d.journal ≡ said ++ ending is_done rounds ∷ []
+  pub journal_is : d.journal ≡ said ++ records.Drained rounds ∷ []
 
 pub drained_adds : (grant : ℕ) (l : Link) → l.out ≡ [] → WholeDrain grant l (drained grant l)
 unfolding drained
@@ -290,8 +288,7 @@ drained_adds grant l nothing =
     let same : 0 + e.done ≡ e.done = omega arith in
     record {
       rounds = e.done;
-      is_done = is_drained whole.link;
       said = whole.journal;
       adds = both_add 8 e.done 0 grant l d e p (rounds_add (budget l) grant d.link p.nothing);
-      journal_is = ap (λ (n : ℕ). whole.journal ++ ending (is_drained whole.link) n ∷ []) same;
+      journal_is = ap (λ (n : ℕ). whole.journal ++ records.Drained n ∷ []) same;
     }

@@ -10,7 +10,7 @@ use Rattle.air_record.specs.declared.line.Line.TheVariants as lines
 use Rattle.air_record.specs.declared.record.Record.{Record}
 use Rattle.air_run.specs.Draining.{shown, Drained, at_once, behind, ttis, senders_unless, round, left_by, done_by}
 use Rattle.air_run.specs.Draining.{round_told, rounds, budget, drained}
-use Rattle.air_record.specs.Endings.{ending}
+use Rattle.air_record.specs.declared.record.Record.TheVariants as records
 use Rattle.air_run.specs.Playing.{keys_or_none, acted, played}
 use Rattle.air_record.specs.Cells.{next_keys}
 use Rattle.air_run.specs.Run.{fresh, behind_line}
@@ -162,9 +162,8 @@ rounds_bring zero grant known l within nothing r = none_brings known l nothing r
 rounds_bring (suc n) grant known l within nothing r =
     round_by n grant known l within nothing r (is_drained l) (λ m none q. rounds_bring n grant known m within none q)
 
-end_brings : (known : Side → Bool) (is_done : Bool) (done : ℕ) → AreBrought known (ending is_done done ∷ [])
-end_brings known true done side sent = sym (none_brought (known side) side)
-end_brings known false done side sent = sym (none_brought (known side) side)
+end_brings : (known : Side → Bool) (done : ℕ) → AreBrought known (records.Drained done ∷ [])
+end_brings known done side sent = sym (none_brought (known side) side)
 
 drained_brings : (known : Side → Bool) (grant : ℕ) (l : Link) → grant ≤ 9422 → l.out ≡ [] → Ready known l
     → AreBrought known (drained grant l).journal
@@ -175,9 +174,9 @@ drained_brings known grant l within nothing r =
     let p = all_bring 8 grant known l within nothing r in
     let q = rounds_bring (budget l) grant known d.link within p.nothing p.ready in
     let whole = behind d.journal 0 e in
-    both_brought known whole.journal (ending (is_drained whole.link) whole.done ∷ [])
+    both_brought known whole.journal (records.Drained whole.done ∷ [])
     (both_brought known d.journal e.journal p.ups_are q.ups_are)
-    (end_brings known (is_drained whole.link) whole.done)
+    (end_brings known whole.done)
 
 -- ---- every line
 

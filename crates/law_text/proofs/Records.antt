@@ -24,7 +24,7 @@ use Rattle.air_text.specs.Spoken.{IsGoodLine, spoken}
 use Rattle.air_text.proofs.LinesBack.{back-line}
 use Rattle.air_record.specs.declared.record.Record.{Record}
 use Rattle.air_record.specs.declared.record.Record.TheVariants.{Line, Tti, Of, Block, Air, Refused, Looped, Drained}
-use Rattle.air_record.specs.declared.record.Record.TheVariants.{Spent, Sum, MacFront, MacSdu, MacPad, MacControl, RlcTm}
+use Rattle.air_record.specs.declared.record.Record.TheVariants.{Sum, MacFront, MacSdu, MacPad, MacControl, RlcTm}
 use Rattle.air_record.specs.declared.record.Record.TheVariants.{RlcUm, RlcAm, RlcSeg, RlcStatus, PdcpData, PdcpSrb}
 use Rattle.air_record.specs.declared.record.Record.TheVariants.{PdcpReport, Shown, BadMac, BadRlc, BadPdcp, Sleep}
 use Rattle.air_record.specs.Text.{side_text, direction_text, fresh_text, arrived_text, heard_text, place_text}
@@ -152,7 +152,6 @@ back-record (Air direction what heard) h = rw (back-direction direction, back-ar
 back-record (Refused side lcid why) h = rw (back-side side, back-number lcid h, back-place why) refl
 back-record (Looped lcid octets) h = rw (back-number lcid h.0, back-octets octets h.1) refl
 back-record (Drained rounds) h = rw (back-number rounds h) refl
-back-record (Spent rounds) h = rw (back-number rounds h) refl
 back-record (Sum direction lcid submitted delivered state) h =
     rw (
       back-direction direction,

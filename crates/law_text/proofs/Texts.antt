@@ -26,7 +26,7 @@ use Rattle.air_record.specs.declared.record.State.{State}
 use Rattle.air_record.specs.declared.record.State.TheVariants as states
 use Rattle.air_record.specs.declared.record.Record.{Record}
 use Rattle.air_record.specs.declared.record.Record.TheVariants.{Line, Tti, Of, Block, Air, Refused, Looped, Drained}
-use Rattle.air_record.specs.declared.record.Record.TheVariants.{Spent, Sum, MacFront, MacSdu, MacPad, MacControl, RlcTm}
+use Rattle.air_record.specs.declared.record.Record.TheVariants.{Sum, MacFront, MacSdu, MacPad, MacControl, RlcTm}
 use Rattle.air_record.specs.declared.record.Record.TheVariants.{RlcUm, RlcAm, RlcSeg, RlcStatus, PdcpData, PdcpSrb}
 use Rattle.air_record.specs.declared.record.Record.TheVariants.{PdcpReport, Shown, BadMac, BadRlc, BadPdcp, Sleep}
 use Rattle.air_record.specs.Text.{worded, ended, text_of, accepted_text, line_words, bearer_words, kind_text}
@@ -330,7 +330,6 @@ cut-record (Air direction what heard) h =
 cut-record (Refused side lcid why) h = cut-text _ _ (rw (clear-side side, clear-number lcid h, clear-place why) refl)
 cut-record (Looped lcid octets) h = cut-text _ _ (rw (clear-number lcid h.0, clear-octets octets) refl)
 cut-record (Drained rounds) h = cut-text _ _ (rw (clear-number rounds h) refl)
-cut-record (Spent rounds) h = cut-text _ _ (rw (clear-number rounds h) refl)
 cut-record (Sum direction lcid submitted delivered state) h =
     cut-text _ _ (rw (
       clear-direction direction,

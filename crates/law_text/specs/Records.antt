@@ -19,7 +19,7 @@ use Rattle.air_record.specs.declared.record.State.{State}
 use Rattle.air_record.specs.declared.record.State.TheVariants as states
 use Rattle.air_record.specs.declared.record.Record.{Record}
 use Rattle.air_record.specs.declared.record.Record.TheVariants.{Line, Tti, Of, Block, Air, Refused}
-use Rattle.air_record.specs.declared.record.Record.TheVariants.{Looped, Drained, Spent, Sum}
+use Rattle.air_record.specs.declared.record.Record.TheVariants.{Looped, Drained, Sum}
 use Rattle.air_record.specs.declared.record.Record.TheVariants.{MacFront, MacSdu, MacPad}
 use Rattle.air_record.specs.declared.record.Record.TheVariants.{MacControl, RlcTm, RlcUm, RlcAm}
 use Rattle.air_record.specs.declared.record.Record.TheVariants.{RlcSeg, RlcStatus, PdcpData}
@@ -72,7 +72,6 @@ abbrev pub two_words : List ℕ → List ℕ → Record
 two_words name last =
     if bytes_eq name (codes "tti") then Tti (number_back last)
     else if bytes_eq name (codes "drained") then Drained (number_back last)
-    else if bytes_eq name (codes "spent") then Spent (number_back last)
     else if bytes_eq last (codes "drx") then MacControl controls.Drx
     else MacFront
 
@@ -194,7 +193,6 @@ IsGood (Air direction what heard) = Unit {0}
 IsGood (Refused side lcid why) = lcid < 2 ^ 64
 IsGood (Looped lcid octets) = (lcid < 2 ^ 64) × IsBytes octets
 IsGood (Drained rounds) = rounds < 2 ^ 64
-IsGood (Spent rounds) = rounds < 2 ^ 64
 IsGood (Sum direction lcid submitted delivered state) =
     (lcid < 2 ^ 64) × (submitted < 2 ^ 64) × (delivered < 2 ^ 64)
 IsGood MacFront = Unit {0}

@@ -1,13 +1,12 @@
 -- A bearer's line, as a line of a script and as an entry.
-use Rattle.std.proofs.Common.{◌≡◌, ◌≤◌, ◌∙◌, ℕ, Bool, true, false, nat_lt, List, [], ◌∷◌, length, Option, Some, None}
-use Rattle.std.proofs.Common.{Result, Ok, Err, codes, refl, sym, ap, arith}
+use Rattle.std.proofs.Common.{◌≡◌, ◌≤◌, ℕ, true, false, nat_lt, List, [], ◌∷◌, length, Option, Some}
+use Rattle.std.proofs.Common.{Result, Ok, Err, codes, refl, arith}
 use Rattle.std.specs.Str.{bytes_eq}
 use Rattle.std.proofs.lemmas.Slice.Eq.{bytes_eq-Decides}
 use Rattle.air_text.specs.Words.{words_of, ◌>>=◌}
 use Rattle.air_text.specs.Reading.{read_of, read_words, bearer_of}
 use Rattle.air_record.specs.declared.line.Line.{Line}
 use Rattle.air_text.specs.declared.fault.LineRefusal.{LineRefusal}
-use Rattle.air_text.specs.declared.fault.LineRefusal.TheVariants.{Long}
 use Rattle.air_text.specs.declared.fault.LineFault.{LineFault}
 use Rattle.pdu_show.specs.declared.entry.Entry.{Entry}
 use Rattle.pdu_show.specs.declared.entry.Head.{Head}

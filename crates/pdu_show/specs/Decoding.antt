@@ -2,9 +2,8 @@
 -- line does.
 use Rattle.std.specs.Prelude.{◌≡◌, ℕ, ◌+◌, List, [], ◌∷◌, ◌++◌, length, Option, None, Some, Result}
 use Rattle.std.specs.Prelude.{Ok, Err}
-use Rattle.bearer_types.specs.declared.config.BearerConfig.{BearerConfig}
 use Rattle.air_record.specs.Text.{texts_of}
-use Rattle.air_text.specs.Words.{◌>>=◌, Fails}
+use Rattle.air_text.specs.Words.{◌>>=◌}
 use Rattle.air_text.specs.declared.fault.LineRefusal.{LineRefusal}
 use Rattle.air_text.specs.declared.fault.LineFault.{LineFault}
 use Rattle.air_text.specs.declared.fault.LineFault.TheVariants as faults

@@ -1,9 +1,8 @@
 -- How the SDUs of the logical channels are read (TS 36.321 6.2.1, TS 36.322 4.2.1).
-use Rattle.std.specs.Prelude.{◌≡◌, ℕ, ◌<◌, List, slice_set, replicate, Option, None, Some, IfSome}
-use Rattle.std.specs.Prelude.{All, length}
+use Rattle.std.specs.Prelude.{ℕ, List, slice_set, replicate, Option, None, Some, IfSome}
+use Rattle.std.specs.Prelude.{All}
 use Rattle.l2_types.specs.declared.channel.Kind.{Kind}
 use Rattle.l2_types.specs.declared.channel.Kind.TheVariants.{Tm, Srb, Um, Am}
-use Rattle.bearer_types.specs.Configs.{AreRlcBits, ArePdcpBits}
 use Rattle.rlc_pdu.specs.Pdus.{IsUmBits}
 use Rattle.pdcp_pdu.specs.Pdus.{IsUserBits}
 use Rattle.pdcp_pdu.specs.declared.pdu.PdcpKind.{PdcpKind}

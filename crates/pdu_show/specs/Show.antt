@@ -1,6 +1,6 @@
 -- What is shown of a block: its items in their order, and of each SDU of a known bearer the RLC and
 -- PDCP PDUs in it (docs/formats/JOURNAL.md).
-use Rattle.std.specs.Prelude.{ℕ, ◌/◌, ◌%◌, ◌==◌, nat_lt, Bool, true, false, if◌then◌else◌, List, []}
+use Rattle.std.specs.Prelude.{ℕ, ◌%◌, ◌==◌, nat_lt, Bool, true, false, if◌then◌else◌, List, []}
 use Rattle.std.specs.Prelude.{◌∷◌, ◌++◌, length, map, slice_index_or, Option, None, Some, Result}
 use Rattle.std.specs.Prelude.{Ok, Err}
 use Rattle.std.specs.Borrow.{Bor}

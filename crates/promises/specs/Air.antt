@@ -4,7 +4,6 @@ use Rattle.std.specs.Prelude.{zero, suc}
 use Rattle.std.specs.List.{filter, range_with_len}
 use Rattle.air_record.specs.declared.record.Record.{Record}
 use Rattle.air_text.specs.Groups.{Group, history}
-use Rattle.air_record.specs.Endings.{ending}
 use Rattle.promises.specs.Parts.{Part, Submits, Passes, Drains, Rests}
 use Rattle.air_record.specs.Outcomes.{missed, intact}
 use Rattle.air_record.specs.declared.line.Outcome.{Outcome}
@@ -36,8 +35,7 @@ numbered from count = map records.Tti (range_with_len from count)
 
 pub record IsDrain (t : ℕ) (told : List Record) : Type 0 where
   pub rounds : ℕ
-  pub is_done : Bool
-  pub told_is : told ≡ numbered t (8 + rounds) ++ ending is_done rounds ∷ []
+  pub told_is : told ≡ numbered t (8 + rounds) ++ records.Drained rounds ∷ []
 
 abbrev pub IsTimed : ℕ → Part → List Record → Type 0
 IsTimed t (Submits side lcid octets) told = told ≡ []

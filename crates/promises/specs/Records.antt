@@ -28,7 +28,6 @@ abbrev pub is_of_run : Record → Bool
 is_of_run (records.Line number line) = true
 is_of_run (records.Tti tti) = true
 is_of_run (records.Drained rounds) = true
-is_of_run (records.Spent rounds) = true
 is_of_run (records.Sum direction lcid submitted delivered state) = true
 is_of_run (records.Shown number direction len) = true
 is_of_run one = false

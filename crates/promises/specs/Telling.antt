@@ -9,7 +9,7 @@ use Rattle.pdu_show.specs.Carried.{is_carried}
 use Rattle.air_record.specs.declared.record.Record.{Record}
 use Rattle.l2_types.specs.declared.side.Side.{Side}
 use Rattle.pdu_show.specs.declared.kinds.Layout.{Layout}
-use Rattle.air_record.specs.Endings.{ending}
+use Rattle.air_record.specs.declared.record.Record.TheVariants as records
 use Rattle.promises.specs.Air.{InTurn, ttis}
 use Rattle.air_record.specs.declared.line.Line.{Line}
 use Rattle.air_text.specs.Groups.{Group}
@@ -37,10 +37,9 @@ pub record RoundTells (t : ℕ) (kinds' : List (Option Layout)) (c : Side → Ch
 pub record DrainTells (t : ℕ) (kinds' : List (Option Layout)) (c : Side → Channels)
     (told : List Record) : Type 0 where
   pub rounds : ℕ
-  pub is_done : Bool
   pub in_turn : (InTurn (λ n. DrainTtiTells n kinds' c) t 8
       then InTurn (λ n. RoundTells n kinds' c) (t + 8) rounds
-      then just (ending is_done rounds)) told
+      then just (records.Drained rounds)) told
 
 -- ---- every line
 

@@ -3,7 +3,7 @@ use Rattle.std.proofs.lemmas.Result.{err_from_is_err_and}
 use Rattle.l2_io.specs.Known.{HasRisen}
 use Rattle.l2_io.proofs.Written.{risen_from}
 use Rattle.air_link.specs.Draining.{is_drained}
-use Rattle.air_record.specs.Endings.{ending}
+use Rattle.air_record.specs.declared.record.Record.TheVariants as records
 use Rattle.air_record.specs.declared.record.Record.{Record}
 use Rattle.air_run.specs.declared.refusal.StepFault.TheVariants as faults
 use Rattle.air_run.specs.Draining.{Drained, ttis, rounds, budget}
@@ -19,7 +19,7 @@ returns-in_err-for_ttis-clause-put g c =
     let l = c.args.link.now in
     let t = ttis 8 c.args.grant l in
     let r = rounds (budget l) c.args.grant t.link in
-    let end = ending (is_drained r.link) r.done ∷ [] in
+    let end = records.Drained r.done ∷ [] in
     let s = stops_before (t.journal ++ r.journal) end c.args.journal.now _ _ _ c.in_err-for_ttis.field-0.0
     (stops_before t.journal r.journal c.args.journal.now _ _ _ c.in_err-for_ttis.field-0.0
     c.in_err-for_ttis.ensures.put) in
@@ -35,7 +35,7 @@ returns-in_err-done-clause-put g c =
     let l = c.args.link.now in
     let t = ttis 8 c.args.grant l in
     let r = rounds (budget l) c.args.grant t.link in
-    let end = ending (is_drained r.link) r.done ∷ [] in
+    let end = records.Drained r.done ∷ [] in
     let same : rounds c.budget-budget.result c.args.grant c.for_ttis.new.link ≡ r =
     rw (c.budget-budget.ensures, c.in_ok-for_ttis.ensures.link) refl in
     let e = c.in_err-done.field-0.0 in
@@ -58,7 +58,7 @@ returns-in_err-put-clause-put g c =
     let l = c.args.link.now in
     let t = ttis 8 c.args.grant l in
     let r = rounds (budget l) c.args.grant t.link in
-    let end = ending (is_drained r.link) r.done ∷ [] in
+    let end = records.Drained r.done ∷ [] in
     let same : rounds c.budget-budget.result c.args.grant c.for_ttis.new.link ≡ r =
     rw (c.budget-budget.ensures, c.in_ok-for_ttis.ensures.link) refl in
     let here = subst (λ (d : Drained). HasTold d.journal c.for_ttis.new.journal c.rounds.new.journal
@@ -79,22 +79,15 @@ returns-clause-put g c =
     let l = c.args.link.now in
     let t = ttis 8 c.args.grant l in
     let r = rounds (budget l) c.args.grant t.link in
-    let end = ending (is_drained r.link) r.done ∷ [] in
+    let end = records.Drained r.done ∷ [] in
     let same : rounds c.budget-budget.result c.args.grant c.for_ttis.new.link ≡ r =
     rw (c.budget-budget.ensures, c.in_ok-for_ttis.ensures.link) refl in
     let here = subst (λ (d : Drained). HasTold d.journal c.for_ttis.new.journal c.rounds.new.journal
     (g.K.Sink.written c.for_ttis.new.out) (g.K.Sink.written c.rounds.new.out)) same c.in_ok-done.ensures.put in
     let both = told_twice t.journal r.journal c.args.journal.now c.for_ttis.new.journal c.rounds.new.journal _ _ _
     c.in_ok-for_ttis.ensures.put here in
-    let last : c.ending.result ≡ ending (is_drained r.link) r.done =
-    rw (
-      c.ending.ensures,
-      c.is_drained.ensures,
-      c.in_ok-done.ensures.done,
-      c.in_ok-done.ensures.link,
-      c.in_ok-for_ttis.ensures.link,
-      c.budget-budget.ensures,
-    ) refl in
+    let last : records.Drained c.in_ok-done.field-0.0 ≡ records.Drained r.done =
+    ap records.Drained (c.in_ok-done.ensures.done ∙ ap (λ (d : Drained). d.done) same) in
     let new : c.put.new.self ≡ told end c.rounds.new.journal =
     c.in_ok-put.ensures ∙ ap (λ (one : Record). told (one ∷ []) c.rounds.new.journal) last in
     subst (λ (es : List Record). HasTold es c.args.journal.now c.put.new.self (g.K.Sink.written c.args.out.now)

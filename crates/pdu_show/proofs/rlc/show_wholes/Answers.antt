@@ -1,4 +1,4 @@
-use Rattle.std.proofs.Common.{◌≡◌, ◌∙◌}
+use Rattle.std.proofs.Common.{◌∙◌}
 use Rattle.pdu_show.specs.Show.{pdcp_shown}
 use Rattle.pdu_show.proofs.Wholes.{shown-step, none-left}
 use Rattle.pdu_show.proofs.rlc.show_wholes.Goals as goal

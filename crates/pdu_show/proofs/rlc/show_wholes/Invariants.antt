@@ -1,4 +1,4 @@
-use Rattle.std.proofs.Common.{◌≡◌, ◌<◌, ◌^◌, ◌++◌, length, map}
+use Rattle.std.proofs.Common.{◌≡◌, ◌<◌, ◌++◌, length, map}
 use Rattle.std.specs.Prelude.{IfSome}
 use Rattle.rlc_pdu.specs.Views.{elements_of}
 use Rattle.pdu_show.specs.Show.{whole, listed, pdcp_shown, wholes_shown}
