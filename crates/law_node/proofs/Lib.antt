@@ -26,6 +26,7 @@ pub mod Silences
 pub mod Built
 pub mod Looping
 pub mod Queueing
+pub mod CountsFit
 pub mod Plain
 pub mod KindsStay
 pub mod Counted
