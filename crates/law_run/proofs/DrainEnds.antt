@@ -55,7 +55,7 @@ use Rattle.law_run.proofs.Past.{link_behind}
 
 -- ---- lists
 
-all_listed : (P : ℕ → Type 0) (ls : List ℕ) → ((l : ℕ) → is_listed l ls ≡ true → P l) → AllByRecursion P ls
+pub all_listed : (P : ℕ → Type 0) (ls : List ℕ) → ((l : ℕ) → is_listed l ls ≡ true → P l) → AllByRecursion P ls
 all_listed P [] each = tt
 all_listed P (n ∷ ls) each = (
   each n (first n (is_listed n ls)),
@@ -145,7 +145,7 @@ acknowledged_kind kinds.Srb b h = tt
 acknowledged_kind kinds.Um b h = absurd h
 acknowledged_kind kinds.Am b h = tt
 
-module _ (past : List Group) (order : KeepsOrder past) (k : Link) (g : Going 8 past k) where
+module _ (past : List Group) (order : KeepsOrder past) {count : ℕ} (k : Link) (g : Going count past k) where
   nb_listed : (l : ℕ) → has l k.nb.bearers ≡ is_listed l (lcids past)
   nb_listed l = has_listed l k.nb ∙ ap (λ (c : Channels). is_listed l c.by_lcid) g.nb_same
 

@@ -89,8 +89,8 @@ shown_going count past k h = record {
       let t = h.tracks l c e in
       record {
         goes_with = t.goes_with;
-        nb = record { stands = t.nb.stands; of_kind = t.nb.of_kind };
-        ue = record { stands = t.ue.stands; of_kind = t.ue.of_kind };
+        nb = record { stands = t.nb.stands; of_kind = t.nb.of_kind; counts = t.nb.counts };
+        ue = record { stands = t.ue.stands; of_kind = t.ue.of_kind; counts = t.ue.counts };
       };
   runs = λ l c e a. runs_as l k (h.runs l c e a);
 }

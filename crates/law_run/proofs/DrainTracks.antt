@@ -62,8 +62,11 @@ use Rattle.promises.specs.Configs.{config_of}
 use Rattle.promises.specs.Delivery.{is_forged}
 use Rattle.promises.specs.Pdus.{carried}
 use Rattle.law_run.specs.Order.{state_behind, IsRight, KeepsOrder}
+use Rattle.law_node.proofs.CountsFit.{CountsFit, first_counts}
+use Rattle.law_node.proofs.Pdcp.{OfPdcp}
 use Rattle.law_run.proofs.Counts.{goes}
 use Rattle.law_run.proofs.Delivering.{is_first}
+use Rattle.law_run.proofs.DrainCounts.{IsAcceptedBy, call_counts, restart_counts}
 use Rattle.law_run.proofs.Early.{is_early}
 use Rattle.law_run.proofs.Failed.{call_kind}
 use Rattle.law_run.proofs.Past.{link_behind}
@@ -122,10 +125,14 @@ first_of_kind kinds.Am c keys side few = first
 
 -- ---- its calls
 
-abbrev IsAcceptedBy : Flow → BearerCall → Type 0
-IsAcceptedBy (Tm b) c = Unit {0}
-IsAcceptedBy (Um b) c = Unit {0}
-IsAcceptedBy (Am b) c = IsAccepted b c
+am_accepted : (b : State) (c : BearerCall) → IsAcceptedBy (Am b) c → IsAccepted b c
+unfolding flow_refusal
+am_accepted b (Submits sdu) g = g
+am_accepted b (Takes share held) g = tt
+am_accepted b (Arrives pdu) g = tt
+am_accepted b (Expires clock) g = tt
+am_accepted b Ticks g = tt
+am_accepted b (SetsDiscard ttis) g = tt
 
 call_of_kind : (kind : Kind) (f : Flow) (c : BearerCall) → IsAcceptedBy f c → IsOfKind kind f
     → IsOfKind kind (after_bearer f c)
@@ -143,7 +150,11 @@ call_of_kind kinds.Srb (Um b) c g h = absurd h
 call_of_kind kinds.Srb (Am b) c g h =
     let x = signalling_calls_are_deeds b c h.kind h.idle in
     subst (IsOfKind kinds.Srb) (sym x.left)
-    (record { kind = x.stays; idle = x.idle; keeps = signalling_keeps_none b c h.kind g h.keeps })
+    (record {
+      kind = x.stays;
+      idle = x.idle;
+      keeps = signalling_keeps_none b c h.kind (am_accepted b c g) h.keeps;
+    })
 call_of_kind kinds.Um (Tm b) c g h = absurd h
 call_of_kind kinds.Um (Um b) (Submits sdu) g h = tt
 call_of_kind kinds.Um (Um b) (Takes share held) g h = tt
@@ -191,27 +202,11 @@ IsOtherCall (SetsDiscard ttis) = Unit {0}
 
 other_accepted : (f : Flow) (c : BearerCall) → IsOtherCall c → IsAcceptedBy f c
 other_accepted f (Submits sdu) h = absurd h
-other_accepted (Tm b) (Takes share held) h = tt
-other_accepted (Um b) (Takes share held) h = tt
-other_accepted (Am b) (Takes share held) h = tt
-other_accepted (Tm b) (Arrives pdu) h = tt
-other_accepted (Um b) (Arrives pdu) h = tt
-other_accepted (Am b) (Arrives pdu) h = tt
-other_accepted (Tm b) (Expires clock) h = tt
-other_accepted (Um b) (Expires clock) h = tt
-other_accepted (Am b) (Expires clock) h = tt
-other_accepted (Tm b) Ticks h = tt
-other_accepted (Um b) Ticks h = tt
-other_accepted (Am b) Ticks h = tt
-other_accepted (Tm b) (SetsDiscard ttis) h = tt
-other_accepted (Um b) (SetsDiscard ttis) h = tt
-other_accepted (Am b) (SetsDiscard ttis) h = tt
-
-pub calls_of_kind : (kind : Kind) (cs : List BearerCall) (f : Flow) → AllByRecursion IsOtherCall cs → IsOfKind kind f
-    → IsOfKind kind (after_all f cs)
-calls_of_kind kind [] f o h = h
-calls_of_kind kind (c ∷ cs) f o h =
-    calls_of_kind kind cs (after_bearer f c) o.1 (call_of_kind kind f c (other_accepted f c o.0) h)
+other_accepted f (Takes share held) h = tt
+other_accepted f (Arrives pdu) h = tt
+other_accepted f (Expires clock) h = tt
+other_accepted f Ticks h = tt
+other_accepted f (SetsDiscard ttis) h = tt
 
 only_other : (b : Bool) (c : BearerCall) → IsOtherCall c → AllByRecursion IsOtherCall (only b c)
 only_other true c h = (h, tt)
@@ -226,60 +221,66 @@ takes_other New t e l = only_other _ _ tt
 takes_other (Resend rv) t e l = tt
 takes_other Silent t e l = tt
 
--- an SDU that isn't refused is accepted
-accepted_by : (f : Flow) (octets : List ℕ) → flow_refusal f octets ≡ None → IsAcceptedBy f (Submits octets)
-unfolding flow_refusal
-accepted_by (Tm b) octets e = tt
-accepted_by (Um b) octets e = tt
-accepted_by (Am b) octets e = e
-
 refusal_is : (lcid : ℕ) (octets : List ℕ) (e : End) → refusal lcid octets e ≡ flow_refusal (flow lcid e) octets
 unfolding refusal
 refusal_is lcid octets e = refl
 
-submits_of_kind : (kind : Kind) (r : Option SubmitRefusal) (here : Bool) (f : Flow) (octets : List ℕ)
-    → (r ≡ None → here ≡ true → IsAcceptedBy f (Submits octets)) → IsOfKind kind f
-    → IsOfKind kind (after_all f (submits_of r here octets))
-submits_of_kind kind None true f octets g h = call_of_kind kind f (Submits octets) (g refl refl) h
-submits_of_kind kind None false f octets g h = h
-submits_of_kind kind (Some why) here f octets g h = h
-
 same_lcid : (a b : ℕ) → (a == b) ≡ true → a ≡ b
 same_lcid a b e = grind (arith, nat_tests)
 
-of_calls : (kind : Kind) (l : ℕ) (e : End) (c : Call) → IsOfKind kind (flow l e)
-    → IsOfKind kind (after_all (flow l e) (calls_of l e c))
-of_calls kind l e (SetVisits maximum) h = h
-of_calls kind l e (SetReports reports) h = h
-of_calls kind l e (Add config keys) h = h
-of_calls kind l e (Submit lcid octets) h =
-    submits_of_kind kind (refusal lcid octets e) (lcid == l) (flow l e) octets
-    (λ none here. accepted_by (flow l e) octets
-    (ap (λ (k : ℕ). flow_refusal (flow k e) octets) (sym (same_lcid lcid l here))
-    ∙ sym (refusal_is lcid octets e) ∙ none)) h
-of_calls kind l e (SetDiscard lcid ttis) h =
-    calls_of_kind kind (only (lcid == l) (SetsDiscard ttis)) (flow l e) (only_other (lcid == l) (SetsDiscard ttis) tt) h
-of_calls kind l e Tick h = calls_of_kind kind (Ticks ∷ []) (flow l e) (tt, tt) h
-of_calls kind l e TickBuckets h = h
-of_calls kind l e (Visits t) h =
-    calls_of_kind kind (takes_of (visit t.tti t.order e) t (visited t.tti t.order e) l) (flow l e)
-    (takes_other (visit t.tti t.order e) t (visited t.tti t.order e) l) h
-of_calls kind l e (Grants tti) h = h
-of_calls kind l e (Granted tti good) h = h
-of_calls kind l e (Assigned tti ndi good) h = h
-of_calls kind l e (Pass tti) h = h
-of_calls kind l e (Receive block) h =
-    calls_of_kind kind (map (λ pdu. Arrives pdu) (carried l (heard_by e.side) block)) (flow l e)
-    (arrive_other (carried l (heard_by e.side) block)) h
-of_calls kind l e (Expire lcid clock) h =
-    calls_of_kind kind (only (lcid == l) (Expires clock)) (flow l e) (only_other (lcid == l) (Expires clock) tt) h
-of_calls kind l e (Move keys) h = h
+-- what each accepted call of a bearer keeps, and a further life, each call of its end keeps
+module _ (P : Flow → Type 0) (call : (f : Flow) (c : BearerCall) → IsAcceptedBy f c → P f → P (after_bearer f c)) where
+  others_keep : (cs : List BearerCall) (f : Flow) → AllByRecursion IsOtherCall cs → P f → P (after_all f cs)
+  others_keep [] f o h = h
+  others_keep (c ∷ cs) f o h = others_keep cs (after_bearer f c) o.1 (call f c (other_accepted f c o.0) h)
+
+  submits_keep : (r : Option SubmitRefusal) (here : Bool) (f : Flow) (octets : List ℕ)
+      → (r ≡ None → here ≡ true → IsAcceptedBy f (Submits octets)) → P f → P (after_all f (submits_of r here octets))
+  submits_keep None true f octets g h = call f (Submits octets) (g refl refl) h
+  submits_keep None false f octets g h = h
+  submits_keep (Some why) here f octets g h = h
+
+  calls_keep : (l : ℕ) (e : End) (c : Call) → P (flow l e) → P (after_all (flow l e) (calls_of l e c))
+  calls_keep l e (SetVisits maximum) h = h
+  calls_keep l e (SetReports reports) h = h
+  calls_keep l e (Add config keys) h = h
+  calls_keep l e (Submit lcid octets) h =
+      submits_keep (refusal lcid octets e) (lcid == l) (flow l e) octets
+      (λ none here. ap (λ (k : ℕ). flow_refusal (flow k e) octets) (sym (same_lcid lcid l here))
+      ∙ sym (refusal_is lcid octets e) ∙ none) h
+  calls_keep l e (SetDiscard lcid ttis) h =
+      others_keep (only (lcid == l) (SetsDiscard ttis)) (flow l e) (only_other (lcid == l) (SetsDiscard ttis) tt) h
+  calls_keep l e Tick h = others_keep (Ticks ∷ []) (flow l e) (tt, tt) h
+  calls_keep l e TickBuckets h = h
+  calls_keep l e (Visits t) h =
+      others_keep (takes_of (visit t.tti t.order e) t (visited t.tti t.order e) l) (flow l e)
+      (takes_other (visit t.tti t.order e) t (visited t.tti t.order e) l) h
+  calls_keep l e (Grants tti) h = h
+  calls_keep l e (Granted tti good) h = h
+  calls_keep l e (Assigned tti ndi good) h = h
+  calls_keep l e (Pass tti) h = h
+  calls_keep l e (Receive block) h =
+      others_keep (map (λ pdu. Arrives pdu) (carried l (heard_by e.side) block)) (flow l e)
+      (arrive_other (carried l (heard_by e.side) block)) h
+  calls_keep l e (Expire lcid clock) h =
+      others_keep (only (lcid == l) (Expires clock)) (flow l e) (only_other (lcid == l) (Expires clock) tt) h
+  calls_keep l e (Move keys) h = h
+
+  module _ (restart : (f : Flow) (keys : Keys) → P f → P (bearer_goes f (Restart keys))) where
+    lives_keep : (side : Side) (l : ℕ) (e : End) (c : Call) → GoesOnInLife l c ⊎ ((keys : Keys) × (c ≡ Move keys))
+        → Stands side l e → P (flow l e) → P (flow l (after_call e c))
+    lives_keep side l e c (inl life) s h =
+        subst P (sym (call_by l e c (come_sound side e s.come) life s.there)) (calls_keep l e c h)
+    lives_keep side l e c (inr (keys, is)) s h =
+        subst (λ (d : Call). P (flow l (after_call e d))) (sym is)
+        (subst P (sym (the_end side l e keys s).bearer_is) (restart (flow l e) keys h))
 
 -- ---- at an end, through calls
 
 pub record Tracks (kind : Kind) (side : Side) (l : ℕ) (e : End) : Type 0 where
   pub stands : Stands side l e
   pub of_kind : IsOfKind kind (flow l e)
+  pub counts : OfPdcp CountsFit (flow l e)
 
 module _ (kind : Kind) (side : Side) (l : ℕ) where
   stays_standing : (e : End) (c : Call) → Stands side l e → IsGiven c → adds l c ≡ false
@@ -287,23 +288,16 @@ module _ (kind : Kind) (side : Side) (l : ℕ) where
   stays_standing e c s g other =
       stands_more side l e c s g (λ is. let no : true ≡ false = sym is ∙ other in absurd cc)
 
-  call_tracks : (e : End) (c : Call) → GoesOnInLife l c ⊎ ((keys : Keys) × (c ≡ Move keys)) → Tracks kind side l e
-      → IsOfKind kind (flow l (after_call e c))
-  call_tracks e c (inl life) t =
-      subst (IsOfKind kind) (sym (call_by l e c (come_sound side e t.stands.come) life t.stands.there))
-      (of_calls kind l e c t.of_kind)
-  call_tracks e c (inr (keys, is)) t =
-      subst (λ (d : Call). IsOfKind kind (flow l (after_call e d))) (sym is)
-      (subst (IsOfKind kind) (sym (the_end side l e keys t.stands).bearer_is)
-      (restart_of_kind kind (flow l e) keys t.of_kind))
-
   calls_track : (cs : List Call) (e : End) → AreGiven cs → AddNone l cs → Tracks kind side l e
       → Tracks kind side l (run_end cs e)
   calls_track [] e g none t = t
   calls_track (c ∷ cs) e g none t =
       calls_track cs (after_call e c) g.1 none.1 (record {
         stands = stays_standing e c t.stands g.0 none.0;
-        of_kind = call_tracks e c (call_kind l c none.0) t;
+        of_kind = lives_keep (IsOfKind kind) (call_of_kind kind) (restart_of_kind kind) side l e c
+            (call_kind l c none.0) t.stands t.of_kind;
+        counts = lives_keep (OfPdcp CountsFit) call_counts restart_counts side l e c (call_kind l c none.0) t.stands
+            t.counts;
       })
 
   pub lives_track : (lives : List Call) (told : List Record) (e f : End) → LivesOn lives side told e f
@@ -338,6 +332,7 @@ begun_tracks : (side : Side) (l : ℕ) (c : BearerConfig) (keys : Keys) (e : End
 begun_tracks side l c keys e few h = record {
   stands = stands_so side l c keys e h;
   of_kind = subst (IsOfKind c.kind) (sym h.bearer_is) (first_of_kind c.kind c keys side few);
+  counts = subst (OfPdcp CountsFit) (sym h.bearer_is) (first_counts c.kind c keys side few);
 }
 
 begins_track : (kind : Kind) (past : List Group) (g : Group) (c : BearerConfig) (options : _)

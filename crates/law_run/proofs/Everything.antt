@@ -5,6 +5,7 @@ use Rattle.air_run.specs.Journal.{journal_of}
 use Rattle.law_run.proofs.Arriving.{hand_up_what_came, takes_stay_in_half}
 use Rattle.law_run.proofs.Counts.{counts_behind}
 use Rattle.law_run.proofs.Delivering.{delivers_in_order}
+use Rattle.law_run.proofs.DrainDone.{none_spends, drains_end}
 use Rattle.law_run.proofs.Drains.{drains_leave_nothing}
 use Rattle.law_run.proofs.Keys.{keys_behind}
 use Rattle.law_run.proofs.Losses.{delivers_while_short}
@@ -46,6 +47,8 @@ every-journal whole octets =
       signals_leaving = signals_leave_in_order t.later t.order;
       queues = queues_are_short t.later t.order;
       in_half = takes_stay_in_half t.later t.order;
+      ended = drains_end t.later t.order;
+      within_budget = none_spends t.later t.order;
       drained = drains_leave_nothing t.later t.order;
       signalled = delivers_each_life t.later t.order;
       sequence = hand_up_in_sequence t.later t.order;

@@ -49,6 +49,7 @@ pub mod Everything
 pub mod DrainFlows
 pub mod DrainLinks
 pub mod DrainChannels
+pub mod DrainCounts
 pub mod DrainTracks
 pub mod DrainNeeds
 pub mod DrainRuns
@@ -59,3 +60,5 @@ pub mod DrainCalls
 pub mod DrainFits
 pub mod DrainBudget
 pub mod DrainFew
+pub mod DrainBegins
+pub mod DrainDone

@@ -248,3 +248,7 @@ loops_behind (g ∷ past) (right, order) =
 
 pub return_in_order : (past : List Group) → KeepsOrder past → ReturnInOrder past
 return_in_order past order = (loops_behind past order).in_order
+
+-- and nothing waits in the loop, nor is kept where it keeps nothing
+pub at_rest : (past : List Group) → KeepsOrder past → IsAtRest (link_behind past)
+at_rest past order = (loops_behind past order).rests

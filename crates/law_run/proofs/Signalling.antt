@@ -67,7 +67,9 @@ use Rattle.promises.specs.Configs.{config_of}
 use Rattle.law_run.proofs.Delivering.{ups_are_told, ups_told, is_first, at_each}
 use Rattle.law_run.proofs.Early.{is_early}
 use Rattle.law_run.proofs.Failed.{HasSender, sender_goes, sender_begins}
-use Rattle.law_run.proofs.Drains.{link_drained, none_forged, side_drained}
+use Rattle.law_run.proofs.DrainBegins.{none_forged}
+use Rattle.law_run.proofs.DrainDone.{is_done}
+use Rattle.law_run.proofs.Drains.{side_drained}
 use Rattle.law_run.proofs.Past.{behind, link_behind}
 use Rattle.law_run.proofs.Texts.{adds_one}
 use Rattle.law_run.proofs.Unlooped.{none_looped}
@@ -366,7 +368,8 @@ leaves_none past order done own from l c e kind quiet =
 pub drains_leave_no_signal : (past : List Group) → KeepsOrder past → DrainsLeaveNoSignal past
 drains_leave_no_signal [] order = tt
 drains_leave_no_signal (g ∷ past) (right, order) = (
-  λ d. leaves_none (g ∷ past) (right, order) (link_drained past g right d) (none_forged past g right d),
+  λ d. leaves_none (g ∷ past) (right, order) (is_done past g right order d).drained
+      (none_forged past g right order d),
   drains_leave_no_signal past order,
 )
 

@@ -9,7 +9,8 @@ use Rattle.promises.specs.Arrival.{HandUpWhatCame}
 use Rattle.promises.specs.Carried.{AreCarried}
 use Rattle.promises.specs.Counts.{CountsAscend}
 use Rattle.promises.specs.Delivery.{DeliversInOrder}
-use Rattle.promises.specs.Drained.{DrainsLeaveNothing}
+use Rattle.promises.specs.Drained.{DrainsEnd, DrainsLeaveNothing}
+use Rattle.law_run.specs.DrainEnds.{NoneSpendsItsBudget}
 use Rattle.law_run.specs.Ends.{ComeByCalls}
 use Rattle.promises.specs.HalfWindow.{TakesStayInHalf}
 use Rattle.promises.specs.Keys.{all_keys}
@@ -70,15 +71,18 @@ pub record IsPromised (whole : Bool) (octets : List ℕ) (played : RunPlayed) : 
   -- as a `take` of acknowledged data stands, each SDU whose COUNT lies half the numbers or more
   -- below its own has arrived whole
   pub in_half : TakesStayInHalf past
-  -- and all of it but what is discarded once a drain tells that it is drained, but where the sender
-  -- gave up
+  -- each drain ends drained, by its last record
+  pub ended : DrainsEnd past
+  -- both ends are drained behind it, within its budget of rounds
+  pub within_budget : NoneSpendsItsBudget past
+  -- behind it all of it has gone up but what is discarded, but where the sender gave up
   pub drained : DrainsLeaveNothing past
   -- each signalling bearer hands up what was submitted at the other end since the last handover, in
   -- order
   pub signalled : DeliversEachLife past
   -- exactly those before the first that hasn't come, as the blocks tell
   pub sequence : HandUpInSequence past
-  -- and all of it once a drain tells that it is drained, but where the sender gave up
+  -- and all of it behind each drain, but where the sender gave up
   pub signals_drained : DrainsLeaveNoSignal past
   -- and in a handover nothing of it goes up
   pub signals_moved : HandoversBringNoSignal past

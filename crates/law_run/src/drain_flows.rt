@@ -1,7 +1,8 @@
-//! What the rounds of a drain cost the flows of a link, and that they end it.
+//! What the rounds of a drain cost the flows of a link, and that they end it within its budget.
 
 ghost use Rattle.law_run.specs.DrainBudget.{BudgetsSuffice, LinesHaveBudgets, MeasuresAreLeft};
-ghost use Rattle.law_run.specs.DrainEnds.{LinksKeepNoSignalling, RoundsEnd};
+ghost use Rattle.law_run.specs.DrainEnds.{DrainsAreDone, LinksHaveCounts, LinksKeepNoSignalling};
+ghost use Rattle.law_run.specs.DrainEnds.{LinksMayDrain, RoundsEnd};
 ghost use Rattle.law_run.specs.DrainFlows.{BearersStand, FlowsNeverRise, RoundsCostFlows};
 ghost use Rattle.law_run.specs.DrainLinks.{LinksAreMeasured, LinksNeverRise};
 
@@ -49,4 +50,14 @@ pub fn budgets_suffice()
     ensures left { MeasuresAreLeft }
     ensures budget { BudgetsSuffice }
     ensures lines { LinesHaveBudgets }
+{}
+
+/// Wherever a `drain` line is accepted the link may drain, whatever lines it has played: both ends
+/// have come so far by calls, with eight processes each way, and no loop is on. Where no block was
+/// forged, as there, the next COUNT of each bearer is at most 2^32. So both ends are drained behind
+/// the line, in no more rounds than its budget has.
+pub fn drains_end()
+    ensures links { LinksMayDrain }
+    ensures counts { LinksHaveCounts }
+    ensures lines { DrainsAreDone }
 {}

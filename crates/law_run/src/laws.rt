@@ -14,12 +14,15 @@ pub fn lines_are_in_range()
 /// Where no block was forged, through any losses, repeats, delays and handovers, each acknowledged
 /// data bearer has handed up at each end exactly the SDUs that the other took before the first that
 /// hasn't come, in order, each once and unchanged, of those that were submitted none left out but
-/// what is discarded; behind a drain that tells that it is drained all of them but these, where no
-/// failure of the sender is told since the last handover. Each signalling bearer has handed up
-/// exactly the SDUs that were submitted since the last handover before the first that hasn't come,
-/// in order, each once and unchanged, and behind such a drain all of them. Each unacknowledged data
-/// bearer has handed up some of the SDUs that were submitted, in order, each once and unchanged,
-/// where the records tell, as the sum does, that losses were short in that direction.
+/// what is discarded; behind a drain all of them but these, where no failure of the sender is told
+/// since the last handover. Each signalling bearer has handed up exactly the SDUs that were
+/// submitted since the last handover before the first that hasn't come, in order, each once and
+/// unchanged, and behind a drain all of them, where no such failure is told. Each unacknowledged
+/// data bearer has handed up some of the SDUs that were submitted, in order, each once and
+/// unchanged, where the records tell, as the sum does, that losses were short in that direction.
+///
+/// Each `drain` line ends drained, as its last record tells: both ends have nothing left behind it,
+/// of senders that didn't give up, and it took at most as many rounds as its budget has.
 pub fn every_journal()
     ensures { EveryJournal }
 {}

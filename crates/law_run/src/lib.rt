@@ -6,7 +6,7 @@ mod drain_flows;
 mod laws;
 
 pub use drain_flows::{
-    bearers_stand, budgets_suffice, links_keep_no_signalling, links_never_rise, rounds_cost_flows,
-    rounds_end,
+    bearers_stand, budgets_suffice, drains_end, links_keep_no_signalling, links_never_rise,
+    rounds_cost_flows, rounds_end,
 };
 pub use laws::{every_journal, lines_are_in_range};

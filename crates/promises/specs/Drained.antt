@@ -1,13 +1,16 @@
 -- What a drain leaves: nothing undelivered of acknowledged data, but where a sender gave up (TS
 -- 36.322 5.2.1, 7.3).
-use Rattle.std.specs.Prelude.{ℕ, Bool, if◌then◌else◌, List, [], ◌∷◌, ◌++◌, ◌≡◌, Some, length}
-use Rattle.std.specs.Prelude.{nat_lt}
+use Rattle.std.specs.Prelude.{ℕ, ◌+◌, Bool, true, false, if◌then◌else◌, List, [], ◌∷◌, ◌++◌, ◌≡◌}
+use Rattle.std.specs.Prelude.{Some, length, nat_lt}
+use Rattle.std.specs.List.{filter}
+use Rattle.promises.specs.Air.{is_tti}
 use Rattle.promises.specs.Events.{fails_on}
 use Rattle.promises.specs.Parts.{is_handover}
 use Rattle.air_text.specs.Groups.{Group, history}
 use Rattle.promises.specs.Taken.{kept_of}
 use Rattle.l2_types.specs.declared.side.Side.{Side}
 use Rattle.promises.specs.Records.{events_of}
+use Rattle.air_record.specs.declared.line.Line.{Line}
 use Rattle.air_record.specs.declared.record.Record.{Record}
 use Rattle.bearer_types.specs.Sides.{other}
 use Rattle.bearer_types.specs.declared.config.BearerConfig.{BearerConfig}
@@ -30,15 +33,26 @@ failed side lcid (g ∷ past) =
 abbrev pub has_failed : Side → ℕ → List Group → Bool
 has_failed side lcid past = nat_lt 0 (length (failed side lcid past))
 
--- ---- the line is a drain, and at its end it tells that it is drained, not that its budget is
--- spent
+-- ---- each drain ends
 
+abbrev pub is_drain : Line → Bool
+is_drain (lines.Drain grant) = true
+is_drain line = false
+
+-- its last record tells that it is drained, and of its rounds: its TTIs but for the first eight
 pub record EndsDrained (g : Group) : Type 0 where
-  pub grant : ℕ
   pub rounds : ℕ
   pub before : List Record
-  pub line_is : g.line ≡ lines.Drain grant
   pub events_are : g.events ≡ before ++ records.Drained rounds ∷ []
+  pub ttis_are : length (filter is_tti g.events) ≡ 8 + rounds
+
+-- each such group, of which the newest stands first; no block was forged before, as a drain is
+-- refused then
+abbrev pub DrainsEnd : List Group → Type 0
+DrainsEnd [] = Unit {0}
+DrainsEnd (g ∷ past) = (is_drain g.line ≡ true → EndsDrained g) × DrainsEnd past
+
+-- ---- what it leaves
 
 -- of the SDUs that a side submitted, those that it didn't discard, as its `take` and `discard`
 -- records tell (TS 36.323 5.4)
@@ -60,8 +74,8 @@ LeavesNothing past =
     (from : Side) (lcid : ℕ) (config : BearerConfig) → config_of lcid past ≡ Some config
     → config.kind ≡ Am → failed from lcid past ≡ [] → HasLeftNothing config from lcid past
 
--- behind each such group, of which the newest stands first; no block was forged before, as a drain
--- is refused then
+-- behind each drain
 abbrev pub DrainsLeaveNothing : List Group → Type 0
 DrainsLeaveNothing [] = Unit {0}
-DrainsLeaveNothing (g ∷ past) = (EndsDrained g → LeavesNothing (g ∷ past)) × DrainsLeaveNothing past
+DrainsLeaveNothing (g ∷ past) =
+    (is_drain g.line ≡ true → LeavesNothing (g ∷ past)) × DrainsLeaveNothing past

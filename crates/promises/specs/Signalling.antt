@@ -14,7 +14,7 @@ use Rattle.bearer_types.specs.declared.config.BearerConfig.{BearerConfig}
 use Rattle.l2_types.specs.declared.channel.Kind.TheVariants.{Srb}
 use Rattle.promises.specs.Delivery.{is_forged}
 use Rattle.promises.specs.Configs.{config_of}
-use Rattle.promises.specs.Drained.{failed, EndsDrained}
+use Rattle.promises.specs.Drained.{failed, is_drain}
 
 -- ---- since the last handover, or the beginning: the SDUs that a side submitted on a channel, and
 -- those that were handed up there
@@ -67,11 +67,11 @@ LeavesNoSignal past =
     → failed from lcid past ≡ [] → delivered_since (other from) lcid past
     ≡ submitted_since from lcid past
 
--- behind each drain that tells that it is drained
+-- behind each drain
 abbrev pub DrainsLeaveNoSignal : List Group → Type 0
 DrainsLeaveNoSignal [] = Unit {0}
 DrainsLeaveNoSignal (g ∷ past) =
-    (EndsDrained g → LeavesNoSignal (g ∷ past)) × DrainsLeaveNoSignal past
+    (is_drain g.line ≡ true → LeavesNoSignal (g ∷ past)) × DrainsLeaveNoSignal past
 
 -- ---- in a handover
 
