@@ -53,9 +53,9 @@ pub fn budgets_suffice()
 {}
 
 /// Wherever a `drain` line is accepted the link may drain, whatever lines it has played: both ends
-/// have come so far by calls, with eight processes each way, no block was forged, and no loop is
-/// on; and the next COUNT of each bearer is at most 2^32. So both ends are drained behind the
-/// line, in no more rounds than its budget has.
+/// have come so far by calls, with eight processes each way, and no loop is on. Where no block was
+/// forged, as there, the next COUNT of each bearer is at most 2^32. So both ends are drained behind
+/// the line, in no more rounds than its budget has.
 pub fn drains_end()
     ensures links { LinksMayDrain }
     ensures counts { LinksHaveCounts }
