@@ -35,6 +35,7 @@ use Rattle.journal_account.proofs.Waits.{Says}
 use Rattle.journal_account.specs.FlowSending.{FlowSending}
 use Rattle.journal_account.proofs.Acking.{Acks, acks_step, acks_outset}
 use Rattle.journal_account.proofs.Complete.{below_each}
+use Rattle.journal_account.proofs.Statuses.{is_judged}
 use Rattle.journal_account.proofs.ByPlace.{sizes}
 use Rattle.journal_account.proofs.Telling.{whole_complete, sizes_from}
 use Rattle.journal_account.proofs.Order.{expired_low, top_written, top_open}
@@ -282,6 +283,7 @@ accounts_are_true most es h =
     let s : StandsAll es (account_of most es) = all_stand most es h in
     record {
       arrivals = are_arrivals es (account_of most es).arrivals h s.arrivals;
+      statuses = λ ack entries. is_judged es (account_of most es).arrivals ack entries s.arrivals;
       sdus = are_sdus es (account_of most es) s;
       sending = is_sending most es (account_of most es).sending s.sending s.says (limits most es h).limit;
     }

@@ -12,6 +12,9 @@ use Rattle.journal_account.specs.FlowSending.{namings_of}
 use Rattle.journal_account.specs.Acked.{is_acked}
 use Rattle.journal_account.specs.Waiting.{waits, namings, IsWithin, FailsAt}
 use Rattle.journal_account.specs.FlowAccount.{FlowAccount, account_of}
+use Rattle.journal_account.specs.FlowStatus.{is_true_status}
+use Rattle.journal_account.specs.TrueStatus.{IsTrueStatus}
+use Rattle.journal_account.specs.declared.entry.StatusEntry.{StatusEntry}
 
 pub record AreArrivals (es : List FlowEvent) (a : FlowArrivals) : Type 0 where
   -- VR(R) is the least number that isn't complete
@@ -56,8 +59,15 @@ pub record IsSending (most : ℕ) (es : List FlowEvent) (s : FlowSending) : Type
   -- where the flow failed, once it did
   pub limit : MatchOption s.limit (IsWithin most es) (FailsAt most es)
 
+-- a STATUS is said to be true exactly where it is
+pub record IsJudged (es : List FlowEvent) (a : FlowArrivals) (ack : ℕ) (entries : List StatusEntry)
+    : Type 0 where
+  pub all : is_true_status ack entries a ≡ true → IsTrueStatus es ack entries
+  pub only : IsTrueStatus es ack entries → is_true_status ack entries a ≡ true
+
 pub record IsAccount (most : ℕ) (es : List FlowEvent) (a : FlowAccount) : Type 0 where
   pub arrivals : AreArrivals es a.arrivals
+  pub statuses : (ack : ℕ) (entries : List StatusEntry) → IsJudged es a.arrivals ack entries
   pub sdus : AreSdus es a.sdus
   pub sending : IsSending most es a.sending
 

@@ -8,4 +8,6 @@ pub mod FlowArrivals
 pub mod FlowSdus
 pub mod FlowSending
 pub mod FlowAccount
+pub mod TrueStatus
+pub mod FlowStatus
 pub mod Laws

@@ -4,6 +4,7 @@ ghost use Rattle.journal_account.specs.FlowEvents.{ReorderStarted, ReorderExpire
 ghost use Rattle.journal_account.specs.FlowEvents.{StatusHeard, PollExpired};
 ghost use Rattle.journal_account.specs.FlowSending.{sent_in, octets_wait, namings_of};
 ghost use Rattle.journal_account.specs.FlowArrivals.{next_in};
+ghost use Rattle.journal_account.specs.FlowStatus.{is_true_status};
 ghost use Rattle.journal_account.specs.FlowAccount.{empty_account, sequenced, account_with};
 
 use crate::arrivals::FlowArrivals;
@@ -73,6 +74,15 @@ impl FlowAccount {
         ensures { result ≡ self.now.arrivals.bound }
     {
         self.arrivals.bound()
+    }
+
+    /// Whether a STATUS with this ACK and these entries, each with its true number, is true as the
+    /// receiver stands: its entries are a beginning of what is missing below VR(MS), and its ACK is
+    /// the least number that isn't complete and has no entry (TS 36.322 5.2.3, 6.2.1.6).
+    pub fn is_true_status(&self, ack: u64, entries: &[StatusEntry]) -> bool
+        ensures { result ≡ is_true_status ack entries.now self.now.arrivals }
+    {
+        self.arrivals.is_true_status(ack, entries)
     }
 
     /// How many SDUs are in sequence: all octets up to their ends have come.
