@@ -155,3 +155,11 @@ gaps_go low from size (r ∷ rs) p up is = elim (cases_lt from r.from) [
             (g.gaps ∙ ap (λ (n : ℕ). run_between p.start (p.end + 1) ∷ gaps_in rs n size) (sym past)));
       }
 ]
+
+-- behind where the places end there is none
+pub gap_past : (runs : List Run) (from size : ℕ) → size ≤ from → gap_in runs from size ≡ None
+gap_past [] from size le = between_none from size le
+gap_past (r ∷ rs) from size le = elim (cases_lt from r.from) [
+  | inl lt ↦ first_gap r rs from size lt ∙ between_none from (min r.from size) (omega arith)
+  | inr ge ↦ next_gap r rs from size ge ∙ gap_past rs (max from r.to) size (omega arith)
+]

@@ -5,6 +5,7 @@ pub mod Saids
 pub mod Named
 pub mod Missing
 pub mod Statuses
+pub mod Wholes
 pub mod ByPlace
 pub mod Telling
 pub mod Order

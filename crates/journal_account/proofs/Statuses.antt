@@ -11,7 +11,7 @@ use Rattle.l2_num.specs.Least.{IsLeast}
 use Rattle.rlc_pdu.specs.Runs.{Run, has, AreAscending}
 use Rattle.journal_account.specs.declared.entry.StatusEntry.{StatusEntry}
 use Rattle.journal_account.specs.FlowEvents.{FlowEvent, field_sizes}
-use Rattle.journal_account.specs.Arrived.{octet_came, is_complete_in, all_octets, expired_mark}
+use Rattle.journal_account.specs.Arrived.{octet_came, is_complete_in, expired_mark}
 use Rattle.journal_account.specs.Entries.{names_number}
 use Rattle.journal_account.specs.FlowArrivals.{FieldArrivals, FlowArrivals, field_at, open_number, is_whole}
 use Rattle.journal_account.specs.FlowArrivals.{not_written}
@@ -19,7 +19,7 @@ use Rattle.journal_account.specs.TrueStatus.{AreMissing, AreSaid, said_of}
 use Rattle.journal_account.specs.FlowStatus.{gaps_in, said_of_fields, all_said, begin_so, behind_named}
 use Rattle.journal_account.specs.Laws.{IsJudged}
 use Rattle.journal_account.proofs.ByPlace.{sizes}
-use Rattle.journal_account.proofs.Complete.{below_each}
+use Rattle.journal_account.proofs.Complete.{complete_each}
 use Rattle.journal_account.proofs.Missing.{are_missing, one_missing}
 use Rattle.journal_account.proofs.Named.{begin_all, begins_with, names_so, none_said}
 use Rattle.journal_account.proofs.Standing.{Stands}
@@ -57,11 +57,6 @@ none_missing came size all = record {
     past : (i : ℕ) (b : Bool) → size ≤ i → (nat_lt i size && not b) ≡ false
     past i true le = grind (arith, nat_tests)
     past i false le = grind (arith, nat_tests)
-
-complete_each : (es : List FlowEvent) (n s i : ℕ) → is_complete_in es n ≡ true → slice_get (field_sizes es) n ≡ Some s
-    → i < s → octet_came es n i ≡ true
-complete_each es n s i e is lt =
-    below_each (octet_came es n) s i (sym (ap (all_octets (octet_came es n)) is) ∙ e) lt
 
 record StandsAt (xs : List ℕ) (n : ℕ) : Type 0 where
   one : ℕ

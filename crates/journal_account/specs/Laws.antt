@@ -5,6 +5,7 @@ use Rattle.rlc_pdu.specs.Runs.{has}
 use Rattle.journal_account.specs.FlowEvents.{FlowEvent, IsHistory, field_sizes, next_of}
 use Rattle.journal_account.specs.Arrived.{octet_came, is_complete_in, top_in, mark_in, expired_mark}
 use Rattle.journal_account.specs.Stream.{end_of_all, sdu_sizes, place_came, is_in_sequence}
+use Rattle.journal_account.specs.Stream.{is_whole_sdu}
 use Rattle.journal_account.specs.FlowArrivals.{FlowArrivals, next_in, field_at, stream_gap}
 use Rattle.journal_account.specs.FlowSdus.{FlowSdus}
 use Rattle.journal_account.specs.FlowSending.{FlowSending, sent_in, number_at, octets_wait}
@@ -13,6 +14,7 @@ use Rattle.journal_account.specs.Acked.{is_acked}
 use Rattle.journal_account.specs.Waiting.{waits, namings, IsWithin, FailsAt}
 use Rattle.journal_account.specs.FlowAccount.{FlowAccount, account_of}
 use Rattle.journal_account.specs.FlowStatus.{is_true_status}
+use Rattle.journal_account.specs.FlowWholes.{is_whole_kept}
 use Rattle.journal_account.specs.TrueStatus.{IsTrueStatus}
 use Rattle.journal_account.specs.declared.entry.StatusEntry.{StatusEntry}
 
@@ -34,6 +36,10 @@ pub record AreArrivals (es : List FlowEvent) (a : FlowArrivals) : Type 0 where
   -- the places of the stream that were written, and the first that hasn't come
   pub written : a.written ≡ end_of_all (field_sizes es)
   pub gap : IsLeast (place_came es) 0 (stream_gap a)
+
+-- and which are whole, in sequence or not
+abbrev pub AreWhole : List FlowEvent → FlowAccount → Type 0
+AreWhole es a = (k : ℕ) → is_whole_kept k a ≡ is_whole_sdu es k
 
 pub record AreSdus (es : List FlowEvent) (s : FlowSdus) : Type 0 where
   -- so many octets were taken
@@ -69,6 +75,7 @@ pub record IsAccount (most : ℕ) (es : List FlowEvent) (a : FlowAccount) : Type
   pub arrivals : AreArrivals es a.arrivals
   pub statuses : (ack : ℕ) (entries : List StatusEntry) → IsJudged es a.arrivals ack entries
   pub sdus : AreSdus es a.sdus
+  pub whole : AreWhole es a
   pub sending : IsSending most es a.sending
 
 abbrev pub AccountsAreTrue : Type 0

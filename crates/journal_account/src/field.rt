@@ -1,5 +1,5 @@
 // What has come of the data field of a number.
-ghost use Rattle.std.specs.Prelude.{◌≡◌, ◌<◌, ◌≤◌, OnOk, OnErr, IfSome};
+ghost use Rattle.std.specs.Prelude.{◌≡◌, ◌<◌, ◌≤◌, OnOk, OnErr, IfSome, is_none, min};
 ghost use Rattle.rlc_pdu.specs.Runs.{AreAscending, gap_in};
 ghost use Rattle.journal_account.specs.FlowArrivals.{nothing_came, with_octets, is_whole};
 ghost use Rattle.journal_account.specs.FlowArrivals.{leading_octets};
@@ -69,6 +69,18 @@ impl FieldArrivals {
             Some(part) => part.start,
             None => self.size,
         }
+    }
+
+    // Whether the octets from a place on below another have come, as far as the field has them.
+    #[tactic(auto, using(crate::proofs::Gaps::gap_past))]
+    pub(crate) fn octets_came(&self, from: u64, to: u64) -> bool
+        ensures { result ≡ is_none (gap_in self.now.came from (min to self.now.size)) }
+    {
+        let end = to.min(u64::from(self.size));
+        if from >= end {
+            return true;
+        }
+        self.came.gap(from as u32, end as u32).is_none()
     }
 
     // The first largest run of octets at or above a place that haven't come, with the last of them.
