@@ -18,14 +18,13 @@ pub fn append_numbered(out: &mut Bytes, user: u32, text: &[u8]) -> Result<(), No
     requires { user < MOST_USERS }
     ensures { OnOk result (out.new ≡ out.old ++ numbered user text.now) }
 {
-    let label = [b'0' + user as u8, b' '];
+    let digit = b'0' + user as u8;
     let mut rest = text;
     while let Some(at) = feed_at(rest) {
-        let (line, ended) = rest.split_at(at);
-        let (_, behind) = ended.split_at(1);
-        out.append(&label)?;
+        let (line, behind) = rest.split_at(at + 1);
+        out.push(digit)?;
+        out.push(b' ')?;
         out.append(line)?;
-        out.append(b"\n")?;
         rest = behind;
     }
     Ok(())
