@@ -1,0 +1,6 @@
+pub mod RightForm
+pub mod Parts
+pub mod Tests
+pub mod SameRecords
+pub mod Checking
+pub mod Laws
