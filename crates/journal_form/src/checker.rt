@@ -193,7 +193,7 @@ impl Model for FormChecker {
 }
 
 impl FormChecker {
-    ghost use Rattle.air_text.specs.Ranges.{IsInRange};
+    ghost use Rattle.journal_form.specs.Lines.{HasLayout};
     ghost use Rattle.journal_form.specs.Checking.{nothing_checked, after_line, after_record};
     ghost use Rattle.journal_form.specs.Checking.{after_send, after_block, after_other};
     ghost use Rattle.journal_form.specs.Checking.{after_group, is_right};
@@ -210,10 +210,10 @@ impl FormChecker {
         }
     }
 
-    /// The `line` record of an accepted line begins a group. The fields of the line are in their
-    /// ranges, as those of a line that was read are.
+    /// The `line` record of an accepted line begins a group. `has_layout` is true of it, as of
+    /// every line that was read.
     pub fn begin_line(&mut self, line: &Line)
-        requires { IsInRange line.now }
+        requires { HasLayout line.now }
         ensures { self.new ≡ after_line line.now self.old }
     {
         if let Line::Bearer { config, .. } = line {

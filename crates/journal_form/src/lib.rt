@@ -6,9 +6,11 @@
 mod block;
 mod checker;
 pub mod laws;
+mod lines;
 mod pdcp;
 mod pdus;
 mod rlc;
 mod shown;
 
 pub use checker::FormChecker;
+pub use lines::has_layout;
