@@ -14,6 +14,7 @@ use air_text::{Line, Outcome};
 use cell_sched::share;
 use cell_text::{CellLine, MOST_USERS};
 use l2_bits::{Bytes, NoMemory};
+use l2_io::SureSink;
 use std::alloc::Global;
 use std::marker::Model;
 
@@ -23,6 +24,8 @@ pub struct Cell {
     alloc: Global,
     terminals: Vec<Terminal>,
     gone: u32,
+    // The text of one terminal's records, before its lines are numbered.
+    records: SureSink,
 }
 
 impl Model for Cell {
@@ -62,6 +65,7 @@ impl Cell {
             alloc,
             terminals: Vec::new(alloc),
             gone: 0,
+            records: SureSink::new(alloc),
         }
     }
 
@@ -117,7 +121,7 @@ impl Cell {
         if !is_own(line) {
             return Err(refused(CellRefusal::NotHere));
         }
-        self.terminals[user as usize].step(user, line, text)
+        self.terminals[user as usize].step(user, line, &mut self.records, text)
     }
 
     fn set_air(&mut self, user: u32, up: Outcome, down: Outcome)
@@ -139,7 +143,7 @@ impl Cell {
         let terminals = self.terminals.as_mut_slice();
         let up_grants = share(&up_wishes(terminals), users, first, up_total);
         let down_grants = share(&down_wishes(terminals), users, first, down_total);
-        run_tti(terminals, &up_grants, &down_grants, text)?;
+        run_tti(terminals, &up_grants, &down_grants, &mut self.records, text)?;
         self.gone = gone;
         Ok(())
     }
@@ -183,8 +187,14 @@ impl Cell {
     pub fn sums(self) -> Result<Bytes, NoMemory>
         ensures { IfOk result (λ text. text ≡ texts_of (last_entries 0 self.terminals)) }
     {
-        let mut text = Bytes::new(self.alloc);
-        finish_all(self.terminals, &mut text)?;
+        let Cell {
+            alloc,
+            terminals,
+            mut records,
+            ..
+        } = self;
+        let mut text = Bytes::new(alloc);
+        finish_all(terminals, &mut records, &mut text)?;
         Ok(text)
     }
 }

@@ -1,4 +1,4 @@
-ghost use Rattle.std.specs.Prelude.{◌≡◌, ◌<◌, ◌++◌, [], OnOk, MatchOption};
+ghost use Rattle.std.specs.Prelude.{◌≡◌, ◌<◌, ◌^◌, ◌++◌, [], OnOk, IfSome, MatchOption};
 ghost use Rattle.l2_io.specs.Feeds.{from_feed, IsFeedAt};
 ghost use Rattle.cell_run.specs.Entries.{numbered};
 ghost use Rattle.cell_text.specs.declared.line.TheConstants.{MOST_USERS};
@@ -8,7 +8,8 @@ use memchr::memchr;
 
 #[tactic(auto, using(l2_io::proofs::Feeds::from_feed_none, l2_io::proofs::Feeds::feed_first))]
 fn feed_at(octets: &[u8]) -> Option<usize>
-    ensures { MatchOption result (from_feed octets.now ≡ []) (IsFeedAt octets.now) }
+    ensures feed { MatchOption result (from_feed octets.now ≡ []) (IsFeedAt octets.now) }
+    ensures fits { IfSome result (λ at. at < 2 ^ 63) }
 {
     memchr(b'\n', octets)
 }
@@ -18,14 +19,13 @@ pub fn append_numbered(out: &mut Bytes, user: u32, text: &[u8]) -> Result<(), No
     requires { user < MOST_USERS }
     ensures { OnOk result (out.new ≡ out.old ++ numbered user text.now) }
 {
-    let label = [b'0' + user as u8, b' '];
+    let digit = b'0' + user as u8;
     let mut rest = text;
     while let Some(at) = feed_at(rest) {
-        let (line, ended) = rest.split_at(at);
-        let (_, behind) = ended.split_at(1);
-        out.append(&label)?;
+        let (line, behind) = rest.split_at(at + 1);
+        out.push(digit)?;
+        out.push(b' ')?;
         out.append(line)?;
-        out.append(b"\n")?;
         rest = behind;
     }
     Ok(())

@@ -33,8 +33,6 @@ pub struct Terminal {
     up: Outcome,
     down: Outcome,
     lines: u32,
-    // The records of the line that is run.
-    records: SureSink,
 }
 
 impl Model for Terminal {
@@ -56,7 +54,6 @@ impl Terminal {
             up: ALL_OK,
             down: ALL_OK,
             lines: 0,
-            records: SureSink::new(alloc),
         }
     }
 
@@ -83,7 +80,13 @@ impl Terminal {
     }
 
     /// Runs a line of its own script, and adds the text of its records to that of the cell's line.
-    pub fn step(&mut self, user: u32, line: &Line, text: &mut Bytes) -> Result<(), CellFault>
+    pub fn step(
+        &mut self,
+        user: u32,
+        line: &Line,
+        records: &mut SureSink,
+        text: &mut Bytes,
+    ) -> Result<(), CellFault>
         requires user { user < MOST_USERS }
         requires range { IsInRange line.now }
         ensures { Acts (own_step user line.now self.old) self.new text.old text.new result }
@@ -91,11 +94,11 @@ impl Terminal {
         let Some(number) = self.lines.checked_add(1) else {
             return Err(CellFault::NoMemory);
         };
-        self.records.clear();
-        match self.run.step(number, line, &mut self.records) {
+        records.clear();
+        match self.run.step(number, line, records) {
             Ok(()) => {
                 self.lines = number;
-                append_numbered(text, user, self.records.written())?;
+                append_numbered(text, user, records.written())?;
                 Ok(())
             }
             Err(StepFault::Refused(refusal)) => Err(CellFault::Refused(CellRule::Run(refusal))),
@@ -110,6 +113,7 @@ impl Terminal {
         user: u32,
         up_grant: u32,
         down_grant: u32,
+        records: &mut SureSink,
         text: &mut Bytes,
     ) -> Result<(), NoMemory>
         requires user { user < MOST_USERS }
@@ -125,7 +129,7 @@ impl Terminal {
             down_grant,
             down: self.down,
         };
-        match self.step(user, &line, text) {
+        match self.step(user, &line, records, text) {
             Ok(()) => Ok(()),
             Err(CellFault::NoMemory) => Err(NoMemory),
             // A TTI isn't refused.
@@ -134,17 +138,13 @@ impl Terminal {
     }
 
     /// Adds the text of its records at the end.
-    pub fn finish(self, user: u32, text: &mut Bytes) -> Result<(), NoMemory>
+    pub fn finish(self, user: u32, records: &mut SureSink, text: &mut Bytes) -> Result<(), NoMemory>
         requires { user < MOST_USERS }
         ensures { OnOk result (text.new ≡ text.old ++ entry_text (last_entry user self)) }
     {
-        let Terminal {
-            run,
-            mut records,
-            ..
-        } = self;
+        let Terminal { run, .. } = self;
         records.clear();
-        match run.finish(&mut records) {
+        match run.finish(records) {
             Ok(()) => append_numbered(text, user, records.written()),
             Err(StepFault::NoMemory) => Err(NoMemory),
             Err(StepFault::Refused(_)) | Err(StepFault::WriteFault) => unreachable!(),

@@ -10,6 +10,7 @@ ghost use Rattle.l2_types.specs.declared.limits.TheConstants.{GREATEST_GRANT};
 use crate::terminal::Terminal;
 use cell_text::MOST_USERS;
 use l2_bits::{Bytes, NoMemory};
+use l2_io::SureSink;
 use l2_types::GREATEST_GRANT;
 use std::alloc::Global;
 
@@ -53,6 +54,7 @@ pub fn run_tti(
     terminals: &mut [Terminal],
     up_grants: &[u32; 8],
     down_grants: &[u32; 8],
+    records: &mut SureSink,
     text: &mut Bytes,
 ) -> Result<(), NoMemory>
     requires few { length terminals.old ≤ MOST_USERS }
@@ -65,19 +67,23 @@ pub fn run_tti(
 {
     for at in 0..terminals.len() {
         let user = at as u32;
-        terminals[at].tti(user, up_grants[at], down_grants[at], text)?;
+        terminals[at].tti(user, up_grants[at], down_grants[at], records, text)?;
     }
     Ok(())
 }
 
 /// Adds the text of the records at the end of all.
-pub fn finish_all(terminals: Vec<Terminal>, text: &mut Bytes) -> Result<(), NoMemory>
+pub fn finish_all(
+    terminals: Vec<Terminal>,
+    records: &mut SureSink,
+    text: &mut Bytes,
+) -> Result<(), NoMemory>
     requires { length terminals.items ≤ MOST_USERS }
     ensures { OnOk result (text.new ≡ text.old ++ texts_of (last_entries 0 terminals.items)) }
 {
     let mut user = 0;
     for terminal in terminals {
-        terminal.finish(user, text)?;
+        terminal.finish(user, records, text)?;
         user += 1;
     }
     Ok(())

@@ -1,13 +1,15 @@
 ghost use Rattle.std.specs.Prelude.{◌≡◌, codes, IfOk, IfSome};
 ghost use Rattle.std.specs.Str.{bytes_eq};
-ghost use Rattle.air_text.specs.Words.{Gives, texts};
+ghost use Rattle.air_text.specs.Words.{Gives, texts, words_of};
 ghost use Rattle.cell_text.specs.Ranges.{IsInCell};
 ghost use Rattle.cell_text.specs.Reading.{without_spaces, from_space, own_text, cell_of, to_of};
 ghost use Rattle.cell_text.specs.Reading.{air_of, go_of, end_of, cell_line_of, read_cell_words};
 ghost use Rattle.cell_text.specs.Reading.{read_cell_of};
 
 use crate::line::{CellLine, GREATEST_TOTAL, MOST_USERS};
-use air_text::{LONGEST_LINE, LineFault, LineRefusal, is_word, number, outcome, read_line, words};
+use air_text::{
+    LONGEST_LINE, LineFault, LineRefusal, is_word, number, outcome, read_line, split_word, words,
+};
 use std::alloc::Global;
 
 #[tactic(auto, unfolding(crate::specs::Reading::cell_of))]
@@ -23,11 +25,11 @@ fn cell(fields: &[&[u8]]) -> Result<CellLine, LineRefusal>
 }
 
 #[tactic(auto, unfolding(crate::specs::Reading::to_of))]
-fn to(alloc: Global, fields: &[&[u8]], own: &[u8]) -> Result<CellLine, LineFault>
-    ensures line { Gives result (to_of (texts fields.now) own.now) }
+fn to(alloc: Global, fields: &[u8], own: &[u8]) -> Result<CellLine, LineFault>
+    ensures line { Gives result (to_of (words_of fields.now) own.now) }
     ensures ranges { IfOk result IsInCell }
 {
-    let [user, ..] = fields else {
+    let Some((user, _)) = split_word(fields) else {
         return Err(LineFault::Refused(LineRefusal::Fields));
     };
     let user = number(user, 0, MOST_USERS - 1)?;
@@ -77,23 +79,28 @@ fn end(fields: &[&[u8]]) -> Result<CellLine, LineRefusal>
     }
 }
 
-fn line(alloc: Global, first: &[u8], fields: &[&[u8]], own: &[u8]) -> Result<CellLine, LineFault>
-    ensures line { Gives result (cell_line_of first.now (texts fields.now) own.now) }
+// A `to` line isn't split behind its second word: what stands there is read as a line by itself.
+fn line(alloc: Global, first: &[u8], fields: &[u8], own: &[u8]) -> Result<CellLine, LineFault>
+    ensures line { Gives result (cell_line_of first.now (words_of fields.now) own.now) }
     ensures ranges { IfOk result IsInCell }
 {
-    if is_word(first, b"cell") {
-        Ok(cell(fields)?)
-    } else if is_word(first, b"to") {
-        to(alloc, fields, own)
-    } else if is_word(first, b"air") {
-        Ok(air(fields)?)
-    } else if is_word(first, b"go") {
-        Ok(go(fields)?)
-    } else if is_word(first, b"end") {
-        Ok(end(fields)?)
-    } else {
-        Err(LineFault::Refused(LineRefusal::Word))
+    if is_word(first, b"to") {
+        return to(alloc, fields, own);
     }
+    let fields = words(alloc, fields)?;
+    let fields = fields.as_slice();
+    let line = if is_word(first, b"cell") {
+        cell(fields)
+    } else if is_word(first, b"air") {
+        air(fields)
+    } else if is_word(first, b"go") {
+        go(fields)
+    } else if is_word(first, b"end") {
+        end(fields)
+    } else {
+        Err(LineRefusal::Word)
+    };
+    Ok(line?)
 }
 
 fn without_spaces(text: &[u8]) -> &[u8]
@@ -136,8 +143,7 @@ pub fn read_cell_line(alloc: Global, text: &[u8]) -> Result<Option<CellLine>, Li
     if text.len() > LONGEST_LINE {
         return Err(LineFault::Refused(LineRefusal::Long));
     }
-    let words = words(alloc, text)?;
-    let [first, fields @ ..] = words.as_slice() else {
+    let Some((first, fields)) = split_word(text) else {
         return Ok(None);
     };
     if let [b'#', ..] = first {

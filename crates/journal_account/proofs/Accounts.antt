@@ -1,6 +1,6 @@
 -- The account of a history tells what the history says.
-use Rattle.std.proofs.Common.{◌≡◌, ◌<◌, ◌≤◌, ℕ, ◌+◌, ◌-◌, Bool, true, false, List, [], ◌∷◌, drop}
-use Rattle.std.proofs.Common.{length, Some, slice_get, inl, inr, refl, ap, sym, ◌∙◌, arith, subst}
+use Rattle.std.proofs.Common.{◌≡◌, ◌<◌, ◌≤◌, ℕ, ◌+◌, ◌-◌, Bool, true, false, List, [], ◌∷◌}
+use Rattle.std.proofs.Common.{length, Some, inl, inr, refl, ap, sym, ◌∙◌, arith, subst}
 use Rattle.std.proofs.Common.{slice_index_or}
 use Rattle.std.proofs.lemmas.Bool.{cases_lt, or_right}
 use Rattle.std.proofs.lemmas.List.{append-nil}
@@ -8,8 +8,8 @@ use Rattle.l2_num.specs.Least.{IsLeast}
 use Rattle.journal_account.specs.FlowEvents.{FlowEvent, SduTaken, NumberWritten, OctetsResent, OctetsArrived}
 use Rattle.journal_account.specs.FlowEvents.{ReorderStarted, ReorderExpired, StatusHeard, PollExpired}
 use Rattle.journal_account.specs.FlowEvents.{field_sizes, size_in, IsPossible, IsHistory}
-use Rattle.journal_account.specs.Arrived.{brings_octet, octet_came, is_complete_in, all_octets, top_in, expired_mark}
-use Rattle.journal_account.specs.Stream.{place_of, sdu_sizes, came_along, place_came}
+use Rattle.journal_account.specs.Arrived.{brings_octet, octet_came, is_complete_in, top_in, expired_mark}
+use Rattle.journal_account.specs.Stream.{place_of, sdu_sizes, place_came}
 use Rattle.journal_account.specs.FlowArrivals.{FlowArrivals, field_at, leading_octets, stream_gap}
 use Rattle.journal_account.specs.FlowSdus.{FlowSdus}
 use Rattle.journal_account.specs.FlowAccount.{FlowAccount, arrivals_with, sdus_with, account_with, account_of}
@@ -34,32 +34,27 @@ use Rattle.journal_account.specs.Laws.{AreWaiting}
 use Rattle.journal_account.proofs.Waits.{Says}
 use Rattle.journal_account.specs.FlowSending.{FlowSending}
 use Rattle.journal_account.proofs.Acking.{Acks, acks_step, acks_outset}
-use Rattle.journal_account.proofs.Complete.{below_each}
-use Rattle.journal_account.proofs.ByPlace.{sizes}
-use Rattle.journal_account.proofs.Telling.{whole_complete, sizes_from}
+use Rattle.journal_account.proofs.Complete.{complete_each}
+use Rattle.journal_account.proofs.Statuses.{is_judged}
+use Rattle.journal_account.proofs.Wholes.{kept_place, are_whole}
+use Rattle.journal_account.proofs.Telling.{whole_complete}
 use Rattle.journal_account.proofs.Order.{expired_low, top_written, top_open}
-use Rattle.journal_account.proofs.Along.{along_behind, along_before, along_more, gap_first}
+use Rattle.journal_account.proofs.Along.{along_before, along_more, gap_first}
 use Rattle.journal_account.proofs.Sequenced.{Ends, ends_reached, ends_taken, first_behind, ends_least}
 use Rattle.journal_account.proofs.Standing.{Stands, step, outset}
 
 -- ---- the first place of the stream that hasn't come
 
-complete_each : (es : List FlowEvent) (n s i : ℕ) → is_complete_in es n ≡ true → slice_get (field_sizes es) n ≡ Some s
-    → i < s → octet_came es n i ≡ true
-complete_each es n s i e is lt =
-    below_each (octet_came es n) s i (sym (ap (all_octets (octet_came es n)) is) ∙ e) lt
-
 gap_least : (es : List FlowEvent) (a : FlowArrivals) → Stands es a → IsLeast (place_came es) 0 (stream_gap a)
 gap_least es a s =
     let le : a.front ≤ length (field_sizes es) = omega (arith, s.tells.next) in
-    let from : drop a.front (field_sizes es) ≡ sizes a.fields = sizes_from es a.front a.fields s.tells in
     let at : a.front + 0 ≡ a.front = omega arith in
     let g = gap_first (octet_came es) a.fields a.front (s.tells.ascends 0) (λ i. s.tells.came 0 i
     ∙ ap (λ (n : ℕ). octet_came es n i) at) (whole_complete es a.front a.fields s.tells 0 ∙ ap (is_complete_in es) at
     ∙ s.opens) in
     record {
       from = omega arith;
-      refused = behind le from (leading_octets (field_at a.fields 0)) ∙ g.here;
+      refused = kept_place es a s (leading_octets (field_at a.fields 0)) ∙ g.here;
       before = λ p low lt. elim (cases_lt p (place_of (field_sizes es) a.front)) [
         | inl below ↦ along_before (octet_came es) (field_sizes es) a.front 0 p le below
             (λ m z i few is small.
@@ -67,19 +62,10 @@ gap_least es a s =
             ap (λ (n : ℕ). octet_came es n i) (sym same) ∙ complete_each es m z i (s.tells.below m few) is small)
         | inr past ↦
             let place : p ≡ a.start + (p - place_of (field_sizes es) a.front) = omega (arith, s.start) in
-            ap (place_came es) place ∙ behind le from (p - place_of (field_sizes es) a.front)
+            ap (place_came es) place ∙ kept_place es a s (p - place_of (field_sizes es) a.front)
             ∙ g.before (p - place_of (field_sizes es) a.front) (omega (arith, s.start))
       ];
     }
-  where
-    behind : a.front ≤ length (field_sizes es) → drop a.front (field_sizes es) ≡ sizes a.fields → (q : ℕ)
-        → place_came es (a.start + q) ≡ came_along (octet_came es) (sizes a.fields) a.front q
-    behind le from q =
-        let same : 0 + a.front ≡ a.front = omega arith in
-        ap (λ (n : ℕ). place_came es (n + q)) s.start
-        ∙ along_behind (octet_came es) (field_sizes es) a.front 0 q le
-        ∙ ap (λ (n : ℕ). came_along (octet_came es) (drop a.front (field_sizes es)) n q) same
-        ∙ ap (λ (xs : List ℕ). came_along (octet_came es) xs a.front q) from
 
 still_came : (e : FlowEvent) (es : List FlowEvent) (p : ℕ) → place_came es p ≡ true → place_came (e ∷ es) p ≡ true
 still_came e es p = along_more (octet_came es) (octet_came (e ∷ es)) (field_sizes es) (size_in e) 0 p
@@ -282,6 +268,9 @@ accounts_are_true most es h =
     let s : StandsAll es (account_of most es) = all_stand most es h in
     record {
       arrivals = are_arrivals es (account_of most es).arrivals h s.arrivals;
+      statuses = λ ack entries. is_judged es (account_of most es).arrivals ack entries s.arrivals;
       sdus = are_sdus es (account_of most es) s;
+      whole = are_whole es (account_of most es) s.arrivals s.sdus
+          (gap_least es (account_of most es).arrivals s.arrivals);
       sending = is_sending most es (account_of most es).sending s.sending s.says (limits most es h).limit;
     }

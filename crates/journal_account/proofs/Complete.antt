@@ -1,5 +1,5 @@
 -- When a number is complete: by its history, and by what is kept of it.
-use Rattle.std.proofs.Common.{◌≡◌, ◌<◌, ◌≤◌, ℕ, zero, suc, Bool, true, false, List, [], ◌∷◌, ◌++◌}
+use Rattle.std.proofs.Common.{◌≡◌, ◌<◌, ◌≤◌, ℕ, zero, suc, ◌+◌, ◌-◌, Bool, true, false, List, [], ◌∷◌, ◌++◌}
 use Rattle.std.proofs.Common.{length, Option, Some, None, slice_get, inl, inr, refl, ap, sym, ◌∙◌, arith}
 use Rattle.std.specs.Prelude.{MatchOption, is_none}
 use Rattle.std.proofs.lemmas.Bool.{cases_eq, and_parts, and_from, and_left, and_right, or_right}
@@ -9,7 +9,8 @@ use Rattle.rlc_pdu.specs.Runs.{has, AreAscending, gap_in}
 use Rattle.rlc_pdu.specs.Places.{IsGap}
 use Rattle.rlc_pdu.proofs.PlaceLaws.{gaps_are_first}
 use Rattle.journal_account.specs.FlowEvents.{FlowEvent, field_sizes, size_in}
-use Rattle.journal_account.specs.Arrived.{brings_octet, octet_came, all_below, all_octets, is_complete_in}
+use Rattle.journal_account.specs.Arrived.{brings_octet, octet_came, all_below, all_between, all_octets}
+use Rattle.journal_account.specs.Arrived.{is_complete_in}
 use Rattle.journal_account.specs.FlowArrivals.{FieldArrivals, is_whole}
 
 -- ---- all places below one
@@ -33,6 +34,17 @@ below_each p (suc n) i e lt =
       | inl same ↦ ap p same ∙ parts.0
       | inr other ↦ below_each p n i parts.1 (omega arith)
     ]
+
+-- all between two
+
+pub between_all : (p : ℕ → Bool) (from to : ℕ) → ((i : ℕ) → from ≤ i → i < to → p i ≡ true)
+    → all_between p from to ≡ true
+between_all p from to h = below_all (λ i. p (from + i)) (to - from) (λ i lt. h (from + i) (omega arith) (omega arith))
+
+pub between_each : (p : ℕ → Bool) (from to i : ℕ) → all_between p from to ≡ true → from ≤ i → i < to → p i ≡ true
+between_each p from to i e le lt =
+    let at : from + (i - from) ≡ i = omega arith in
+    ap p (sym at) ∙ below_each (λ i. p (from + i)) (to - from) (i - from) e (omega arith)
 
 -- ---- what is kept of a number tells whether each octet has come
 
@@ -68,3 +80,8 @@ still_complete e es n =
     (slice_get (field_sizes (e ∷ es)) n)
     (λ i c. or_right (brings_octet e n i) (octet_came es n i) c)
     (λ k is. get_left (field_sizes es) (size_in e) n (slice_get_within (field_sizes es) n k is) ∙ is)
+
+pub complete_each : (es : List FlowEvent) (n s i : ℕ) → is_complete_in es n ≡ true
+    → slice_get (field_sizes es) n ≡ Some s → i < s → octet_came es n i ≡ true
+complete_each es n s i e is lt =
+    below_each (octet_came es n) s i (sym (ap (all_octets (octet_came es n)) is) ∙ e) lt

@@ -1,4 +1,11 @@
 pub mod Complete
+pub mod Gaps
+pub mod Said
+pub mod Saids
+pub mod Named
+pub mod Missing
+pub mod Statuses
+pub mod Wholes
 pub mod ByPlace
 pub mod Telling
 pub mod Order

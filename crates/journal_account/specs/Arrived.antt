@@ -1,5 +1,5 @@
 -- What has arrived of an acknowledged flow in a life, by its history (TS 36.322 5.1.3.2, 7.1).
-use Rattle.std.specs.Prelude.{ℕ, zero, suc, ◌+◌, ◌==◌, Bool, true, false, ◌||◌, ◌&&◌, nat_le}
+use Rattle.std.specs.Prelude.{ℕ, zero, suc, ◌+◌, ◌-◌, ◌==◌, Bool, true, false, ◌||◌, ◌&&◌, nat_le}
 use Rattle.std.specs.Prelude.{nat_lt}
 use Rattle.std.specs.Prelude.{List, [], ◌∷◌, Option, Some, None, max, slice_get}
 use Rattle.journal_account.specs.FlowEvents.{FlowEvent, OctetsArrived, ReorderStarted}
@@ -23,6 +23,10 @@ all_below p (suc i) = p i && all_below p i
 abbrev pub all_octets : (ℕ → Bool) → Option ℕ → Bool
 all_octets came None = false
 all_octets came (Some size) = all_below came size
+
+-- each place at or above one and below another passes
+abbrev pub all_between : (ℕ → Bool) → ℕ → ℕ → Bool
+all_between p from to = all_below (λ i. p (from + i)) (to - from)
 
 -- a number was written, and each of its octets has come
 abbrev pub is_complete_in : List FlowEvent → ℕ → Bool

@@ -1,7 +1,8 @@
 -- The account of what has arrived of an acknowledged flow in a life, as it is kept: nothing of the
 -- numbers below VR(R) (docs/laws/ACCOUNT.md; TS 36.322 7.1).
 use Rattle.std.specs.Prelude.{ℕ, ◌+◌, ◌-◌, Bool, true, false, if◌then◌else◌, List, []}
-use Rattle.std.specs.Prelude.{◌∷◌, ◌++◌, length, drop, max, is_none, nat_lt, slice_set}
+use Rattle.std.specs.Prelude.{◌∷◌, ◌++◌, ◌&&◌, length, drop, min, max, is_none, nat_le, nat_lt}
+use Rattle.std.specs.Prelude.{slice_set}
 use Rattle.std.specs.Prelude.{slice_index_or, Option, Some, None}
 use Rattle.rlc_pdu.specs.declared.pdu.Part.{Part}
 use Rattle.rlc_pdu.specs.Runs.{Run, added, gap_in}
@@ -69,6 +70,12 @@ leading_octets f = up_to_gap (gap_in f.came 0 f.size) f.size
 -- the first place of the stream that hasn't come
 abbrev pub stream_gap : FlowArrivals → ℕ
 stream_gap a = a.start + leading_octets (field_at a.fields 0)
+
+-- octets at places from one on below another, counted from where fields begin, have all come
+abbrev pub places_came : List FieldArrivals → ℕ → ℕ → Bool
+places_came [] from to = nat_le to from
+places_came (f ∷ fs) from to = is_none (gap_in f.came from (min to f.size))
+    && places_came fs (from - f.size) (to - f.size)
 
 -- the first place at or above another whose field isn't whole
 abbrev pub first_open : List FieldArrivals → ℕ → ℕ

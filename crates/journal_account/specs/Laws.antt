@@ -5,6 +5,7 @@ use Rattle.rlc_pdu.specs.Runs.{has}
 use Rattle.journal_account.specs.FlowEvents.{FlowEvent, IsHistory, field_sizes, next_of}
 use Rattle.journal_account.specs.Arrived.{octet_came, is_complete_in, top_in, mark_in, expired_mark}
 use Rattle.journal_account.specs.Stream.{end_of_all, sdu_sizes, place_came, is_in_sequence}
+use Rattle.journal_account.specs.Stream.{is_whole_sdu}
 use Rattle.journal_account.specs.FlowArrivals.{FlowArrivals, next_in, field_at, stream_gap}
 use Rattle.journal_account.specs.FlowSdus.{FlowSdus}
 use Rattle.journal_account.specs.FlowSending.{FlowSending, sent_in, number_at, octets_wait}
@@ -12,6 +13,10 @@ use Rattle.journal_account.specs.FlowSending.{namings_of}
 use Rattle.journal_account.specs.Acked.{is_acked}
 use Rattle.journal_account.specs.Waiting.{waits, namings, IsWithin, FailsAt}
 use Rattle.journal_account.specs.FlowAccount.{FlowAccount, account_of}
+use Rattle.journal_account.specs.FlowStatus.{is_true_status}
+use Rattle.journal_account.specs.FlowWholes.{is_whole_kept}
+use Rattle.journal_account.specs.TrueStatus.{IsTrueStatus}
+use Rattle.journal_account.specs.declared.entry.StatusEntry.{StatusEntry}
 
 pub record AreArrivals (es : List FlowEvent) (a : FlowArrivals) : Type 0 where
   -- VR(R) is the least number that isn't complete
@@ -31,6 +36,10 @@ pub record AreArrivals (es : List FlowEvent) (a : FlowArrivals) : Type 0 where
   -- the places of the stream that were written, and the first that hasn't come
   pub written : a.written ≡ end_of_all (field_sizes es)
   pub gap : IsLeast (place_came es) 0 (stream_gap a)
+
+-- and which are whole, in sequence or not
+abbrev pub AreWhole : List FlowEvent → FlowAccount → Type 0
+AreWhole es a = (k : ℕ) → is_whole_kept k a ≡ is_whole_sdu es k
 
 pub record AreSdus (es : List FlowEvent) (s : FlowSdus) : Type 0 where
   -- so many octets were taken
@@ -56,9 +65,17 @@ pub record IsSending (most : ℕ) (es : List FlowEvent) (s : FlowSending) : Type
   -- where the flow failed, once it did
   pub limit : MatchOption s.limit (IsWithin most es) (FailsAt most es)
 
+-- a STATUS is said to be true exactly where it is
+pub record IsJudged (es : List FlowEvent) (a : FlowArrivals) (ack : ℕ) (entries : List StatusEntry)
+    : Type 0 where
+  pub all : is_true_status ack entries a ≡ true → IsTrueStatus es ack entries
+  pub only : IsTrueStatus es ack entries → is_true_status ack entries a ≡ true
+
 pub record IsAccount (most : ℕ) (es : List FlowEvent) (a : FlowAccount) : Type 0 where
   pub arrivals : AreArrivals es a.arrivals
+  pub statuses : (ack : ℕ) (entries : List StatusEntry) → IsJudged es a.arrivals ack entries
   pub sdus : AreSdus es a.sdus
+  pub whole : AreWhole es a
   pub sending : IsSending most es a.sending
 
 abbrev pub AccountsAreTrue : Type 0

@@ -8,4 +8,7 @@ pub mod FlowArrivals
 pub mod FlowSdus
 pub mod FlowSending
 pub mod FlowAccount
+pub mod FlowWholes
+pub mod TrueStatus
+pub mod FlowStatus
 pub mod Laws

@@ -3,7 +3,7 @@
 use Rattle.std.specs.Prelude.{ℕ, ◌+◌, ◌-◌, Bool, false, ◌&&◌, nat_lt, if◌then◌else◌, List, [], ◌∷◌}
 use Rattle.std.specs.Prelude.{◌++◌, length, zero, suc}
 use Rattle.journal_account.specs.FlowEvents.{FlowEvent, SduTaken, field_sizes}
-use Rattle.journal_account.specs.Arrived.{octet_came, all_below}
+use Rattle.journal_account.specs.Arrived.{octet_came, all_below, all_between}
 
 -- where each of these sizes begins, one behind the other
 abbrev pub place_of : List ℕ → ℕ → ℕ
@@ -42,3 +42,9 @@ sdu_end es k = place_of (sdu_sizes es) (k + 1)
 abbrev pub is_in_sequence : List FlowEvent → ℕ → Bool
 is_in_sequence es k =
     nat_lt k (length (sdu_sizes es)) && all_below (place_came es) (sdu_end es k)
+
+-- an SDU was taken, and its octets have come, whatever came before them: it goes up where the life
+-- ends (5.4)
+abbrev pub is_whole_sdu : List FlowEvent → ℕ → Bool
+is_whole_sdu es k = nat_lt k (length (sdu_sizes es))
+    && all_between (place_came es) (place_of (sdu_sizes es) k) (sdu_end es k)

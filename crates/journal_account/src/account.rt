@@ -4,6 +4,8 @@ ghost use Rattle.journal_account.specs.FlowEvents.{ReorderStarted, ReorderExpire
 ghost use Rattle.journal_account.specs.FlowEvents.{StatusHeard, PollExpired};
 ghost use Rattle.journal_account.specs.FlowSending.{sent_in, octets_wait, namings_of};
 ghost use Rattle.journal_account.specs.FlowArrivals.{next_in};
+ghost use Rattle.journal_account.specs.FlowStatus.{is_true_status};
+ghost use Rattle.journal_account.specs.FlowWholes.{is_whole_kept};
 ghost use Rattle.journal_account.specs.FlowAccount.{empty_account, sequenced, account_with};
 
 use crate::arrivals::FlowArrivals;
@@ -75,11 +77,35 @@ impl FlowAccount {
         self.arrivals.bound()
     }
 
+    /// Whether a STATUS with this ACK and these entries, each with its true number, is true as the
+    /// receiver stands: its entries are a beginning of what is missing below VR(MS), and its ACK is
+    /// the least number that isn't complete and has no entry (TS 36.322 5.2.3, 6.2.1.6).
+    pub fn is_true_status(&self, ack: u64, entries: &[StatusEntry]) -> bool
+        ensures { result ≡ is_true_status ack entries.now self.now.arrivals }
+    {
+        self.arrivals.is_true_status(ack, entries)
+    }
+
     /// How many SDUs are in sequence: all octets up to their ends have come.
     pub fn sequenced(&self) -> u64
         ensures { result ≡ self.now.sdus.sequenced }
     {
         self.sdus.sequenced()
+    }
+
+    /// Whether an SDU, counted from 0, was taken and all its octets have come, whatever came before
+    /// them: it goes up where the life ends (TS 36.322 5.4).
+    pub fn is_whole(&self, sdu: u64) -> bool
+        ensures { result ≡ is_whole_kept sdu self.now }
+    {
+        if sdu < self.sdus.sequenced() {
+            return true;
+        }
+        let gap = self.arrivals.stream_gap();
+        match self.sdus.place_of(sdu - self.sdus.sequenced(), gap) {
+            Some((start, end)) => self.arrivals.stream_came(start, end),
+            None => false,
+        }
     }
 
     /// How many octets were taken.

@@ -4,8 +4,12 @@ ghost use Rattle.journal_account.specs.FlowArrivals.{none_written, next_in, with
 ghost use Rattle.journal_account.specs.FlowArrivals.{open_number, settled_with, octets_at};
 ghost use Rattle.journal_account.specs.FlowArrivals.{with_arrival, reorder_started};
 ghost use Rattle.journal_account.specs.FlowArrivals.{reorder_expired, stream_gap};
+ghost use Rattle.journal_account.specs.FlowStatus.{is_true_status};
+ghost use Rattle.journal_account.specs.FlowWholes.{stream_came};
 
+use crate::entry::StatusEntry;
 use crate::fields::{self, Fields};
+use crate::status;
 use l2_bits::NoMemory;
 use std::alloc::Global;
 use std::collections::VecDeque;
@@ -148,6 +152,25 @@ impl FlowArrivals {
     {
         let at = from.saturating_sub(self.front) as usize;
         self.front + fields::first_open(&self.fields, at) as u64
+    }
+
+    // Whether the places of the stream from one on below another have come; all before the kept
+    // numbers have.
+    pub(crate) fn stream_came(&self, from: u64, to: u64) -> bool
+        ensures { result ≡ stream_came self.now from to }
+    {
+        let from = from.saturating_sub(self.start);
+        fields::places_came(&self.fields, from, to.saturating_sub(self.start))
+    }
+
+    // Whether entries begin what is missing below VR(MS), with the ACK that goes with them.
+    #[tactic(auto, using(std::proofs::lemmas::List::take_min))]
+    pub(crate) fn is_true_status(&self, ack: u64, entries: &[StatusEntry]) -> bool
+        ensures { result ≡ is_true_status ack entries.now self.now }
+    {
+        let count = (self.bound.saturating_sub(self.front) as usize).min(self.fields.len());
+        status::begin_so(&self.fields, self.front, count, entries)
+            && ack == self.open_number(status::behind_named(entries))
     }
 
     pub(crate) fn start_reorder(&mut self)

@@ -1,10 +1,11 @@
 // What has come of the data field of a number.
-ghost use Rattle.std.specs.Prelude.{◌≡◌, ◌<◌, ◌≤◌, OnOk, OnErr};
+ghost use Rattle.std.specs.Prelude.{◌≡◌, ◌<◌, ◌≤◌, OnOk, OnErr, IfSome, is_none, min};
+ghost use Rattle.rlc_pdu.specs.Runs.{AreAscending, gap_in};
 ghost use Rattle.journal_account.specs.FlowArrivals.{nothing_came, with_octets, is_whole};
 ghost use Rattle.journal_account.specs.FlowArrivals.{leading_octets};
 
 use l2_bits::NoMemory;
-use rlc_pdu::Intervals;
+use rlc_pdu::{Intervals, Part};
 use std::alloc::Global;
 use std::marker::Model;
 
@@ -15,11 +16,14 @@ pub(crate) struct FieldArrivals {
 }
 
 impl Model for FieldArrivals {
+    ghost use Rattle.rlc_pdu.specs.Runs.{AreAscending};
     ghost use Rattle.journal_account.specs.FlowArrivals.{FieldArrivals};
 
     ghost Value = { FieldArrivals };
 
     ghost view = { λ f. record { size = f.size; came = f.came } };
+
+    ghost invariant = { λ f. AreAscending 0 f.came };
 }
 
 impl FieldArrivals {
@@ -39,6 +43,7 @@ impl FieldArrivals {
     }
 
     // The octets from a place on below another come. An `Err` changes nothing.
+    #[tactic(auto, using(rlc_pdu::proofs::RunSteps::added_ascends))]
     pub(crate) fn add(&mut self, from: u32, to: u32) -> Result<(), NoMemory>
         requires some { from < to }
         requires within { to ≤ 32767 }
@@ -64,5 +69,28 @@ impl FieldArrivals {
             Some(part) => part.start,
             None => self.size,
         }
+    }
+
+    // Whether the octets from a place on below another have come, as far as the field has them.
+    #[tactic(auto, using(crate::proofs::Gaps::gap_past))]
+    pub(crate) fn octets_came(&self, from: u64, to: u64) -> bool
+        ensures { result ≡ is_none (gap_in self.now.came from (min to self.now.size)) }
+    {
+        let end = to.min(u64::from(self.size));
+        if from >= end {
+            return true;
+        }
+        self.came.gap(from as u32, end as u32).is_none()
+    }
+
+    // The first largest run of octets at or above a place that haven't come, with the last of them.
+    #[tactic(auto, using(crate::proofs::Gaps::gap_end, crate::proofs::Gaps::gap_above))]
+    pub(crate) fn gap(&self, from: u32) -> Option<Part>
+        ensures value { result ≡ gap_in self.now.came from self.now.size }
+        ensures within { IfSome result (λ gap. gap.end < self.now.size) }
+        ensures above { IfSome result (λ gap. from ≤ gap.end) }
+        ensures ascend { AreAscending 0 self.now.came }
+    {
+        self.came.gap(from, self.size)
     }
 }

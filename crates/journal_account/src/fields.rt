@@ -3,7 +3,7 @@ ghost use Rattle.std.specs.Prelude.{◌≡◌, [], ◌∷◌, ◌++◌, ◌+◌,
 ghost use Rattle.std.specs.Prelude.{OnOk, OnErr};
 ghost use Rattle.journal_account.specs.FlowArrivals.{nothing_came, octets_at, is_whole, field_at};
 ghost use Rattle.journal_account.specs.FlowArrivals.{first_open, whole_first, octets_first};
-ghost use Rattle.journal_account.specs.FlowArrivals.{octets_of, leading_octets};
+ghost use Rattle.journal_account.specs.FlowArrivals.{octets_of, leading_octets, places_came};
 
 use crate::field::FieldArrivals;
 use l2_bits::NoMemory;
@@ -113,4 +113,24 @@ pub(crate) fn drop_whole(fields: &mut Fields, front: &mut u64, start: &mut u64)
         *front += 1;
         let _ = fields.pop_front();
     }
+}
+
+// Whether octets at places from one on below another, counted from where the fields begin, have all
+// come.
+#[tactic(auto, using(crate::proofs::Wholes::fields_left))]
+pub(crate) fn places_came(fields: &Fields, from: u64, to: u64) -> bool
+    ensures { result ≡ places_came fields.now.items from to }
+{
+    let mut from = from;
+    let mut to = to;
+    let mut at = 0;
+    while let Some(field) = fields.get(at) {
+        if !field.octets_came(from, to) {
+            return false;
+        }
+        from = from.saturating_sub(u64::from(field.size()));
+        to = to.saturating_sub(u64::from(field.size()));
+        at += 1;
+    }
+    to <= from
 }

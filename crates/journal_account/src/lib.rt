@@ -17,6 +17,7 @@ mod number;
 mod numbers;
 mod sdus;
 mod sending;
+mod status;
 
 pub use account::FlowAccount;
 pub use entry::StatusEntry;

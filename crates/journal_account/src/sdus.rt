@@ -1,5 +1,6 @@
 // The SDUs that RLC took, and how many are in sequence.
-ghost use Rattle.std.specs.Prelude.{◌≡◌, ◌+◌, ◌<◌, ◌^◌, length, drop, OnOk, OnErr};
+ghost use Rattle.std.specs.Prelude.{◌≡◌, ◌+◌, ◌<◌, ◌≤◌, ◌^◌, ◌∷◌, length, drop, OnOk, OnErr};
+ghost use Rattle.std.specs.Prelude.{IfSome, IsNone, slice_index_or};
 ghost use Rattle.journal_account.specs.FlowSdus.{no_sdus, with_sdu, ends_by, sequenced_to};
 
 use l2_bits::NoMemory;
@@ -46,6 +47,23 @@ impl FlowSdus {
         ensures { result ≡ self.now.taken }
     {
         self.taken
+    }
+
+    // Where an SDU stands in the stream, from one place on below another, counted from the first
+    // that isn't in sequence, which is taken to begin at a place.
+    pub(crate) fn place_of(&self, at: u64, gap: u64) -> Option<(u64, u64)>
+        ensures none { IsNone result → length self.now.ends ≤ at }
+        ensures some { IfSome result (λ place. at < length self.now.ends) }
+        ensures value { IfSome result (λ place. place
+            ≡ (slice_index_or (gap ∷ self.now.ends) at 0, slice_index_or self.now.ends at 0)) }
+    {
+        let at = at as usize;
+        let end = *self.ends.get(at)?;
+        let start = match at.checked_sub(1) {
+            Some(before) => *self.ends.get(before)?,
+            None => gap,
+        };
+        Some((start, end))
     }
 
     // An SDU of so many octets is taken. An `Err` changes nothing.

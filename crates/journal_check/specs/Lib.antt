@@ -1,13 +1,3 @@
-pub mod Pieces
-pub mod Answers
-pub mod Fields
-pub mod Names
-pub mod Lists
-pub mod Events
-pub mod Blocks
-pub mod Pdus
-pub mod Reading
-pub mod Records
 pub mod LineRules
 pub mod Grouped
 pub mod States

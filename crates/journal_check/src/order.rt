@@ -7,11 +7,11 @@ ghost use Rattle.journal_check.specs.Grouped.{GroupedRecords};
 ghost use Rattle.journal_check.specs.States.{no_order, line_fault, fault_by, behind_record};
 ghost use Rattle.journal_check.specs.States.{is_above, HasRecordPlace};
 
-use crate::fault::{CheckFault, CheckWhy, TextFault};
+use crate::fault::{CheckFault, CheckWhy};
 use crate::limits::{LONGEST_RECORD, MOST_RECORDS};
-use crate::reading::read_text;
 use crate::rules::{LineRules, forges};
 use air_record::{Line, Record};
+use journal_text::{TextFault, read_text};
 use l2_bits::NoMemory;
 use std::alloc::Global;
 use std::marker::Model;

@@ -19,5 +19,5 @@ pub use items::{Items, Packets};
 pub use laws::reads_what_was_written;
 pub use limits::OCTETS_LIMIT;
 pub use reader::{BitReader, field};
-pub use waiting::Ring;
+pub use waiting::{Ring, make_room};
 pub use writer::BitWriter;

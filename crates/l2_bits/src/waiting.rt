@@ -1,5 +1,5 @@
 //! Items that wait, in a ring that grows.
-ghost use Rattle.std.specs.Prelude.{◌≡◌, ◌<◌, [], ◌∷◌, ◌++◌, ◌==◌, length, slice_get};
+ghost use Rattle.std.specs.Prelude.{◌≡◌, ◌<◌, ◌≤◌, [], ◌∷◌, ◌++◌, ◌==◌, length, slice_get};
 ghost use Rattle.std.specs.Prelude.{option_copied, OnOk, MatchOption, MatchResult};
 ghost use Rattle.l2_bits.specs.Waiting.{items_of, HasRoom};
 
@@ -10,6 +10,20 @@ use std::marker::Model;
 
 /// So many items fit into the first memory that a ring takes.
 const FEW: usize = 8;
+
+/// Makes room in a ring for so many items. It takes memory for a few at first, and then for twice
+/// as many as before. An `Err` changes nothing.
+pub fn make_room<T>(ring: &mut HeapCircularBuffer<T>, size: usize) -> Result<(), NoMemory>
+    ensures items { ring.new.items ≡ ring.old.items }
+    ensures room { OnOk result (size ≤ ring.new.capacity) }
+{
+    let capacity = ring.capacity();
+    if size <= capacity {
+        return Ok(());
+    }
+    ring.resize(size.max(2 * capacity).max(FEW))?;
+    Ok(())
+}
 
 /// Items in the order in which they came. Contracts see them as a list.
 ///
@@ -90,7 +104,7 @@ impl<T: Drop> Ring<T> {
             (λ _. self.new ≡ self.old ++ one ∷ [])
             (λ e. (self.new ≡ self.old) × (e.0 ≡ one)) }
     {
-        if let Err(no_memory) = make_room(self.alloc, &mut self.items) {
+        if let Err(no_memory) = grow(self.alloc, &mut self.items) {
             return Err((one, no_memory));
         }
         put(&mut self.items, one);
@@ -98,33 +112,18 @@ impl<T: Drop> Ring<T> {
     }
 }
 
-// Makes room for one more item.
-fn make_room<T: Drop>(
-    alloc: Global,
-    items: &mut Option<HeapCircularBuffer<T>>,
-) -> Result<(), NoMemory>
+// Makes room for one more item, in a first ring where there is none.
+fn grow<T: Drop>(alloc: Global, items: &mut Option<HeapCircularBuffer<T>>) -> Result<(), NoMemory>
     ensures items { items_of items.new ≡ items_of items.old }
     ensures room { OnOk result (HasRoom items.new) }
 {
     match items {
-        Some(items) => widen(items),
+        Some(items) => make_room(items, items.len() + 1),
         None => {
             *items = Some(HeapCircularBuffer::with_capacity(alloc, FEW)?);
             Ok(())
         }
     }
-}
-
-fn widen<T: Drop>(items: &mut HeapCircularBuffer<T>) -> Result<(), NoMemory>
-    ensures items { items.new.items ≡ items.old.items }
-    ensures room { OnOk result (length items.new.items < items.new.capacity) }
-{
-    let capacity = items.capacity();
-    if items.len() < capacity {
-        return Ok(());
-    }
-    items.resize((2 * capacity).max(FEW))?;
-    Ok(())
 }
 
 fn put<T: Drop>(items: &mut Option<HeapCircularBuffer<T>>, one: T)

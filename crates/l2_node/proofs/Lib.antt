@@ -1,4 +1,5 @@
 pub mod Enough
+pub mod Holdings
 pub mod Idle
 pub mod Rooms
 pub mod Ticks

@@ -3,6 +3,7 @@ pub mod Finding
 pub mod Writing
 pub mod Building
 pub mod Hearing
+pub mod Holding
 pub mod Submitting
 pub mod Sums
 pub mod Moving

@@ -8,7 +8,7 @@ ghost use Rattle.l2_node.specs.Writing.{nothing_written};
 ghost use Rattle.l2_node.specs.Building.{IsEnough, visit, visited, loaded, built, building};
 
 use crate::end::End;
-use crate::finding::{find, lowest_held};
+use crate::finding::{Holding, find};
 use crate::node::Built;
 use crate::reporting::padding_report;
 use crate::writing::{NewBlock, write_all};
@@ -78,8 +78,7 @@ impl End {
         self.reckon(grant, &mut needs);
         let shares = self.buckets.allot(&needs, grant + 2);
         write_all(
-            &self.sender,
-            &self.numbers.rows,
+            &Holding::new(&self.sender, &self.numbers.rows),
             &shares,
             self.buckets.channels(),
             &mut self.bearers,
@@ -91,9 +90,10 @@ impl End {
     fn reckon(&self, grant: u32, by_lcid: &mut [u32; 11])
         ensures { by_lcid.new ≡ all_needs self.now grant self.now.buckets.channels by_lcid.old }
     {
+        let holding = Holding::new(&self.sender, &self.numbers.rows);
         for channel in self.buckets.channels() {
             let lcid = channel.lcid;
-            let held = lowest_held(&self.sender, &self.numbers.rows, lcid);
+            let held = holding.lowest(lcid);
             by_lcid[lcid as usize] = need_of(self.bearers.as_slice(), lcid, grant, held);
         }
     }

@@ -8,9 +8,8 @@ ghost use Rattle.l2_node.specs.Finding.{find, has, bearer_at, lowest};
 ghost use Rattle.l2_node.specs.Writing.{taken_up, Block, Work, work, sdus_of, with_sdus, noted};
 ghost use Rattle.l2_node.specs.Writing.{gathered, wrote, writes, all_write, nothing_written};
 
-use crate::finding::{Numbers, find, lowest_held};
+use crate::finding::{Holding, find};
 use bearer::{Bearer, Events, Running, Side, Written};
-use harq::Sender;
 use l2_bits::{NoMemory, Packets};
 use l2_types::{Channel, GREATEST_GRANT};
 use mac_pdu::{Direction, MacBuilder};
@@ -127,8 +126,7 @@ fn write_one(
 
 // All bearers write, in the order of their channels.
 pub(crate) fn write_all(
-    sender: &Sender,
-    numbers: &Numbers,
+    holding: &Holding<'_>,
     shares: &[u32; 11],
     channels: &[Channel],
     bearers: &mut Vec<Bearer<Running>>,
@@ -139,11 +137,11 @@ pub(crate) fn write_all(
     requires room { taken_up block.old.parts.sdus + over channels.now shares.now
         ≤ GREATEST_GRANT + 2 }
     ensures bearers { OnOk result (bearers.new.items
-        ≡ (all_write sender.now numbers.now shares.now channels.now
+        ≡ (all_write holding.now.sender holding.now.numbers shares.now channels.now
         (work bearers.old.items block.old)).bearers) }
     ensures block { OnOk result
         (block.new
-        ≡ (all_write sender.now numbers.now shares.now channels.now
+        ≡ (all_write holding.now.sender holding.now.numbers shares.now channels.now
         (work bearers.old.items block.old)).block) }
     ensures taken_up { OnOk result (taken_up block.new.parts.sdus
         ≤ taken_up block.old.parts.sdus + over channels.now shares.now) }
@@ -152,7 +150,7 @@ pub(crate) fn write_all(
 {
     for channel in channels {
         let lcid = channel.lcid;
-        let held = lowest_held(sender, numbers, lcid);
+        let held = holding.lowest(lcid);
         write_one(bearers, block, lcid, shares[lcid as usize], held)?;
     }
     Ok(())

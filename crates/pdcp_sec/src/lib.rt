@@ -5,19 +5,54 @@
 ghost use Rattle.std.specs.Prelude.{◌≡◌, ◌<◌, ◌≤◌, ◌++◌, ℕ, List, length, take, drop};
 ghost use Rattle.pdcp_sec.specs.Protection.{Protection, protection_of, key_of, ciphered_with};
 ghost use Rattle.pdcp_sec.specs.Protection.{tag_of};
+ghost use Rattle.eps_sec.specs.Modes.{ciphered};
 
 use eps_sec::{Cipher, Key, Keys, Schedule, eea_apply, eia_tag};
 use pdcp_pdu::PdcpKind;
 use std::marker::Model;
 
-/// The keys of a bearer in one direction and one life, expanded, with what else both algorithms
-/// take: BEARER, below 32, and DIRECTION, 0 on the uplink and 1 on the downlink. No call takes
-/// memory.
+// A key, with its round keys where PDUs are to be ciphered or protected with it.
+#[derive(Debug, Drop)]
+struct WorkKey {
+    key: Key,
+    schedule: Option<Schedule>,
+}
+
+impl Model for WorkKey {
+    ghost use Rattle.std.specs.Prelude.{◌≡◌, ℕ, List, IfSome};
+
+    ghost Value = { List ℕ };
+
+    ghost view = { λ w. w.key.octets };
+
+    ghost invariant = { λ w. IfSome w.schedule (λ s. s ≡ w.key.octets) };
+}
+
+impl WorkKey {
+    // The key, expanded if it is to be used.
+    fn new(key: &Key, is_used: bool) -> WorkKey
+        ensures { result ≡ key.now.octets }
+    {
+        let schedule = if is_used {
+            Some(Schedule::new(key))
+        } else {
+            None
+        };
+        WorkKey {
+            key: *key,
+            schedule,
+        }
+    }
+}
+
+/// The keys of a bearer in one direction and one life, those expanded that its PDUs take, with what
+/// else both algorithms take: BEARER, below 32, and DIRECTION, 0 on the uplink and 1 on the
+/// downlink. No call takes memory.
 #[derive(Debug, Drop)]
 pub struct Security {
     cipher: Cipher,
-    key: Schedule,
-    integrity: Schedule,
+    key: WorkKey,
+    integrity: WorkKey,
     bearer: u32,
     direction: u32,
 }
@@ -40,7 +75,8 @@ impl Model for Security {
 }
 
 impl Security {
-    /// Expands the keys of a bearer.
+    /// Expands the keys of a bearer: that of the cipher if there is one, and that of integrity for
+    /// signalling, which alone is protected.
     pub fn new(kind: PdcpKind, keys: &Keys, bearer: u32, direction: u32) -> Security
         requires bearer { bearer < 32 }
         requires direction { direction < 2 }
@@ -48,8 +84,8 @@ impl Security {
     {
         Security {
             cipher: keys.alg,
-            key: Schedule::new(key_of(kind, keys)),
-            integrity: Schedule::new(&keys.integrity),
+            key: WorkKey::new(key_of(kind, keys), keys.alg == Cipher::Eea2),
+            integrity: WorkKey::new(&keys.integrity, kind == PdcpKind::Srb),
             bearer,
             direction,
         }
@@ -68,8 +104,23 @@ impl Security {
         ensures text { text.new ≡ ciphered_with self.now count text.old }
         ensures len { length text.new ≡ length text.old }
     {
+        let (cipher, bearer, direction) = (self.cipher, self.bearer, self.direction);
+        match &self.key.schedule {
+            Some(schedule) => eea_apply(schedule, cipher, count, bearer, direction, text),
+            None => self.apply_unexpanded(count, text),
+        }
+    }
+
+    // The same with a key that isn't expanded.
+    fn apply_unexpanded(&self, count: u32, text: &mut [u8])
+        ensures text { text.new ≡ ciphered self.now.cipher self.now.key count self.now.bearer
+            self.now.direction text.old }
+    {
+        if self.cipher == Cipher::Eea0 {
+            return;
+        }
         eea_apply(
-            &self.key,
+            &Schedule::new(&self.key.key),
             self.cipher,
             count,
             self.bearer,
@@ -96,7 +147,14 @@ impl Security {
         ensures value { result ≡ tag_of self.now count message.now }
         ensures len { length result ≡ 4 }
     {
-        eia_tag(&self.integrity, count, self.bearer, self.direction, message)
+        let (bearer, direction) = (self.bearer, self.direction);
+        match &self.integrity.schedule {
+            Some(schedule) => eia_tag(schedule, count, bearer, direction, message),
+            None => {
+                let schedule = Schedule::new(&self.integrity.key);
+                eia_tag(&schedule, count, bearer, direction, message)
+            }
+        }
     }
 }
 

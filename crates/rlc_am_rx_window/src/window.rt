@@ -13,7 +13,7 @@ use crate::piece::end_of;
 use crate::ring;
 use crate::slot::Slot;
 use circular_buffer::HeapCircularBuffer;
-use l2_bits::NoMemory;
+use l2_bits::{NoMemory, make_room};
 use rlc_pdu::{AM_MODULUS, AM_WINDOW_SIZE, Amd, Landed};
 use std::alloc::Global;
 use std::marker::Model;
@@ -39,17 +39,16 @@ impl Model for Window {
 
     ghost view = { λ w. record { front = w.front; slots = w.ring.items; given = w.given } };
 
-    ghost invariant = { λ w. (w.ring.capacity ≡ AM_WINDOW_SIZE)
-        × (length w.ring.items ≤ AM_WINDOW_SIZE)
+    ghost invariant = { λ w. (length w.ring.items ≤ AM_WINDOW_SIZE)
         × (w.front + length w.ring.items ≤ 2 ^ 63 + AM_WINDOW_SIZE) };
 }
 
 impl Window {
-    /// A window in front of number 0, with room for all its numbers.
+    /// A window in front of number 0. Memory for its numbers is taken as they come.
     pub fn new(alloc: Global) -> Result<Window, NoMemory>
         ensures { IfOk result (λ w. w ≡ no_numbers) }
     {
-        let ring = HeapCircularBuffer::with_capacity(alloc, AM_WINDOW_SIZE)?;
+        let ring = HeapCircularBuffer::with_capacity(alloc, 0)?;
         Ok(Window {
             alloc,
             ring,
@@ -141,6 +140,7 @@ impl Window {
         if self.front >= LIMIT {
             return Err(NoMemory);
         }
+        make_room(&mut self.ring, at + 1)?;
         ring::widen(self.alloc, &mut self.ring, at + 1);
         match self.ring.get_mut(at) {
             Some(slot) => slot.keep(pdu),

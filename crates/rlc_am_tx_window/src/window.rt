@@ -14,7 +14,7 @@ use crate::numbers::Numbers;
 use crate::ring;
 use crate::slot::Slot;
 use circular_buffer::HeapCircularBuffer;
-use l2_bits::NoMemory;
+use l2_bits::{NoMemory, make_room};
 use rlc_pdu::{AM_WINDOW_SIZE, NackReader};
 use std::alloc::Global;
 use std::marker::Model;
@@ -40,8 +40,7 @@ impl Model for Window {
 
     ghost view = { λ w. record { base = w.base; slots = w.ring.items } };
 
-    ghost invariant = { λ w. (w.ring.capacity ≡ AM_WINDOW_SIZE)
-        × (length w.ring.items ≤ AM_WINDOW_SIZE)
+    ghost invariant = { λ w. (length w.ring.items ≤ AM_WINDOW_SIZE)
         × (w.base + length w.ring.items ≤ 2 ^ 62 + AM_WINDOW_SIZE)
         × (w.waiting ≡ waiting_from w.base w.ring.items) };
 }
@@ -49,11 +48,11 @@ impl Model for Window {
 impl Window {
     ghost use Rattle.rlc_pdu.specs.Views.{nacks_of};
 
-    /// The empty window, with room for all its numbers.
+    /// The empty window. Memory for its numbers is taken as they come.
     pub fn new(alloc: Global) -> Result<Window, NoMemory>
         ensures { IfOk result (λ w. w ≡ record { base = 0; slots = [] }) }
     {
-        let ring = HeapCircularBuffer::with_capacity(alloc, AM_WINDOW_SIZE)?;
+        let ring = HeapCircularBuffer::with_capacity(alloc, 0)?;
         Ok(Window {
             ring,
             base: 0,
@@ -146,6 +145,8 @@ impl Window {
         if self.base >= LIMIT {
             return Err(NoMemory);
         }
+        let len = self.ring.len();
+        make_room(&mut self.ring, len + 1)?;
         ring::add(&mut self.ring, &self.waiting, self.base, slot);
         Ok(())
     }

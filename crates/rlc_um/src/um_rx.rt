@@ -33,7 +33,7 @@ impl Model for UmRx {
 
 impl UmRx {
     /// A receiver of PDUs with numbers of 5 or 10 bits, of which none has arrived. `reorder` is the
-    /// length of the reordering timer in TTIs. Its window of 16 or 512 numbers is taken here.
+    /// length of the reordering timer in TTIs. Its window has 16 or 512 numbers.
     pub fn new(alloc: Global, bits: u32, reorder: u32) -> Result<UmRx, NoMemory>
         requires { IsUmBits bits }
         ensures { IfOk result (λ r. r ≡ alive (start (width_of bits) reorder)) }

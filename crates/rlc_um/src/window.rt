@@ -9,7 +9,7 @@ ghost use Rattle.rlc_um.specs.Window.{fallen, placed, with_placed};
 use crate::joiner::Joiner;
 use crate::stored::Stored;
 use circular_buffer::HeapCircularBuffer;
-use l2_bits::NoMemory;
+use l2_bits::{NoMemory, make_room};
 use l2_num::ahead;
 use std::alloc::Global;
 use std::marker::Model;
@@ -35,18 +35,18 @@ impl Model for Slots {
     ghost view = { λ w. record { width = w.width; edge = w.edge; slots = w.ring.items } };
 
     ghost invariant = { λ w. (0 < w.width) × (w.width ≤ UM_LONG_WINDOW_SIZE)
-        × (w.ring.capacity ≡ w.width) × (length w.ring.items ≤ w.width)
+        × (length w.ring.items ≤ w.width)
         × (w.edge + length w.ring.items ≤ 2 ^ 63 + 2 * UM_LONG_WINDOW_SIZE) };
 }
 
 impl Slots {
-    /// No number is received yet.
+    /// No number is received yet. Memory for them is taken as they come.
     pub fn new(alloc: Global, width: usize) -> Result<Slots, NoMemory>
         requires low { 0 < width }
         requires high { width ≤ UM_LONG_WINDOW_SIZE }
         ensures { IfOk result (λ w. w ≡ record { width = width; edge = 2 * width; slots = [] }) }
     {
-        let ring = HeapCircularBuffer::with_capacity(alloc, width)?;
+        let ring = HeapCircularBuffer::with_capacity(alloc, 0)?;
         Ok(Slots {
             width,
             ring,
@@ -135,6 +135,7 @@ impl Slots {
         if self.edge >= LIMIT {
             return Err(NoMemory);
         }
+        make_room(&mut self.ring, at + 1)?;
         grow(&mut self.ring, at + 1);
         match self.ring.get_mut(at) {
             Some(slot) => {

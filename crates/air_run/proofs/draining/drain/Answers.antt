@@ -86,7 +86,7 @@ returns-clause-put g c =
     (g.K.Sink.written c.for_ttis.new.out) (g.K.Sink.written c.rounds.new.out)) same c.in_ok-done.ensures.put in
     let both = told_twice t.journal r.journal c.args.journal.now c.for_ttis.new.journal c.rounds.new.journal _ _ _
     c.in_ok-for_ttis.ensures.put here in
-    let last : records.Drained c.in_ok-done.field-0.0 ≡ records.Drained r.done =
+    let last : records.Drained c.in_ok-done.done ≡ records.Drained r.done =
     ap records.Drained (c.in_ok-done.ensures.done ∙ ap (λ (d : Drained). d.done) same) in
     let new : c.put.new.self ≡ told end c.rounds.new.journal =
     c.in_ok-put.ensures ∙ ap (λ (one : Record). told (one ∷ []) c.rounds.new.journal) last in

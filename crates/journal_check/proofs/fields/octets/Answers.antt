@@ -1,7 +1,0 @@
-use Rattle.std.proofs.Common.{arith, rules}
-use Rattle.journal_check.proofs.Octets.{octets_exact}
-use Rattle.journal_check.proofs.fields.octets.Goals as goal
-
-pub returns-clause-text : goal.returns-clause-text
-returns-clause-text c =
-    octets_exact c.args.text.now _ _ (search rules) (grind arith) c.in_ok-read_hex.ensures (search rules)
