@@ -1,8 +1,9 @@
 /*
  * Zubhanit: the proved parts of an LTE layer 2, for C and C++ (docs/C.md).
  *
- * Call the functions zub_...: they test pointers, and then call the exports zubhanit_... of libl2_c.a, which test
- * numbers and lengths. Link libzubhanit.a, which ./l2 --build leaves in crates/l2_c/out.
+ * Call the functions zub_...: they test pointers, and then call the proved exports zubhanit_..., which test numbers and
+ * lengths. Link libzubhanit.a, or libzubhanit_codecs.a, which lacks zub_run and zub_decode; ./l2 --build leaves both in
+ * crates/l2_c/out.
  *
  * What a caller owes, since no call can test it:
  *   - A pointer that isn't null points to as many things as its length says, aligned as their type is.

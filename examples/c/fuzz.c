@@ -1,7 +1,8 @@
 /*
  * Forged buffers for every call of zubhanit.h, or, where FUZZ_CODECS is defined, for the ciphers and codecs alone: with
- * clang's libFuzzer, or with the driver below where FUZZ_DRIVER is defined. Each buffer ends at a page that can't be touched, so that a read or write past it ends the program; what stands
- * before it is looked at after each call. What is read and can be written is written and read again.
+ * clang's libFuzzer, or with the driver below where FUZZ_DRIVER is defined. Each buffer ends at a page that can't be
+ * touched, so that a read or write past it ends the program; what stands before it is looked at after each call. What is
+ * read and can be written is written and read again.
  */
 #define _DEFAULT_SOURCE
 #include "zubhanit.h"

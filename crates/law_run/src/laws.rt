@@ -21,8 +21,8 @@ pub fn lines_are_in_range()
 /// data bearer has handed up some of the SDUs that were submitted, in order, each once and
 /// unchanged, where the records tell, as the sum does, that losses were short in that direction.
 ///
-/// Each `drain` line ends drained, as its last record tells: both ends have nothing left behind it,
-/// of senders that didn't give up, and it took at most as many rounds as its budget has.
+/// Each `drain` line ends drained, as its last record tells: behind it each acknowledged sender at
+/// either end has nothing left, or gave up; and it took at most as many rounds as its budget has.
 pub fn every_journal()
     ensures { EveryJournal }
 {}
