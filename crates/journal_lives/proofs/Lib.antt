@@ -1,0 +1,3 @@
+pub mod CountSets
+pub mod LifeSteps
+pub mod LivesTold

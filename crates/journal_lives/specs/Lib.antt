@@ -1,0 +1,4 @@
+pub mod CountsCome
+pub mod LifeEvents
+pub mod FlowLives
+pub mod Laws
