@@ -21,6 +21,7 @@ use eps_sec::Keys;
 use l2_bits::{NoMemory, SubmitRefusal};
 use l2_node::{Attached, Node};
 use l2_types::DrxConfig;
+use std::alloc::Global;
 use std::mem;
 
 impl Link {
@@ -170,12 +171,8 @@ impl Link {
     pub fn hand_over(&mut self, keys: &Keys) -> Result<(), NoMemory>
         ensures { OnOk result (self.new ≡ hands_over keys.now self.old) }
     {
-        let nb = mem::replace(&mut self.nb, Node::new(self.alloc, Side::Nb, 4, false));
-        let ue = mem::replace(&mut self.ue, Node::new(self.alloc, Side::Ue, 4, false));
-        let (nb, nb_told) = moved(nb, keys)?;
-        let (ue, ue_told) = moved(ue, keys)?;
-        self.nb = nb;
-        self.ue = ue;
+        let nb_told = move_end(self.alloc, Side::Nb, &mut self.nb, keys)?;
+        let ue_told = move_end(self.alloc, Side::Ue, &mut self.ue, keys)?;
         self.begin_life();
         self.tell_all(Side::Nb, nb_told)?;
         self.tell_all(Side::Ue, ue_told)?;
@@ -193,6 +190,21 @@ impl Link {
             drx.reset();
         }
     }
+}
+
+// An end moves to the next cell, where it lies, and what it tells as it leaves.
+fn move_end(
+    alloc: Global,
+    side: Side,
+    node: &mut Node<Attached>,
+    keys: &Keys,
+) -> Result<Events, NoMemory>
+    ensures node { OnOk result (node.new.end ≡ moved node.old.end keys.now) }
+    ensures told { IfOk result (λ events. events ≡ leaving node.old.end) }
+{
+    let (node_moved, events) = moved(mem::replace(node, Node::new(alloc, side, 4, false)), keys)?;
+    *node = node_moved;
+    Ok(events)
 }
 
 // An end leaves its cell and joins the next one, and what it tells as it leaves.

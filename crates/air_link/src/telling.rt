@@ -9,8 +9,18 @@ use bearer::{Event, Events, Side};
 use l2_bits::{Bytes, NoMemory};
 
 impl Link {
-    // What an end tells: records, counts, and SDUs for the loop.
-    pub(crate) fn tell_all(&mut self, side: Side, mut events: Events) -> Result<(), NoMemory>
+    // What an end tells: records, counts, and SDUs for the loop. Mostly that is nothing.
+    #[inline(always)]
+    pub(crate) fn tell_all(&mut self, side: Side, events: Events) -> Result<(), NoMemory>
+        ensures { OnOk result (self.new ≡ tells_all side events self.old) }
+    {
+        if events.is_empty() {
+            return Ok(());
+        }
+        self.tell_each(side, events)
+    }
+
+    fn tell_each(&mut self, side: Side, mut events: Events) -> Result<(), NoMemory>
         ensures { OnOk result (self.new ≡ tells_all side events self.old) }
     {
         while let Some(event) = events.pop_front() {

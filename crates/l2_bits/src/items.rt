@@ -1,5 +1,6 @@
 ghost use Rattle.std.specs.Prelude.{◌≡◌, [], ◌∷◌, ◌++◌, ◌==◌, length, slice_get, option_copied};
-ghost use Rattle.std.specs.Prelude.{OnOk, OnErr, MatchOption, MatchResult};
+ghost use Rattle.std.specs.Prelude.{OnOk, OnErr, MatchOption, MatchResult, ◌<◌};
+ghost use Rattle.std.specs.VecDeque.{deque_len, deque_capacity};
 
 use crate::bytes::Bytes;
 use crate::fault::NoMemory;
@@ -7,6 +8,9 @@ use std::alloc::Global;
 use std::collections::VecDeque;
 use std::marker::Model;
 use std::mem;
+
+/// So many items fit into the first memory that a list takes.
+const FEW: usize = 4;
 
 /// A list that grows at its end and is taken from its front, which contracts see as a list.
 ///
@@ -89,6 +93,9 @@ impl<T> Items<T> {
         ensures err { OnErr result (self.new ≡ self.old) }
         ensures kept { OnErr result (other.new ≡ other.old) }
     {
+        if other.is_empty() {
+            return Ok(());
+        }
         if self.is_empty() {
             mem::swap(self, other);
             return Ok(());
@@ -106,9 +113,25 @@ impl<T: Drop> Items<T> {
         ensures err { OnErr result (self.new ≡ self.old) }
     {
         if self.items.len() == self.items.capacity() {
-            self.items.reserve(1)?;
+            reserve_one(&mut self.items)?;
         }
         self.items.push_back_reserved(one);
         Ok(())
     }
+}
+
+// Makes room for one more item. A list that has no memory yet takes some anew, with nothing to be
+// moved.
+fn reserve_one<T: Drop>(items: &mut VecDeque<T>) -> Result<(), NoMemory>
+    ensures items { items.new.items ≡ items.old.items }
+    ensures len { deque_len items.new ≡ deque_len items.old }
+    ensures room { OnOk result (deque_len items.new < deque_capacity items.new) }
+{
+    if items.capacity() > 0 {
+        items.reserve(1)?;
+        return Ok(());
+    }
+    let alloc = *items.allocator();
+    *items = VecDeque::with_capacity(alloc, FEW)?;
+    Ok(())
 }

@@ -1,5 +1,5 @@
 pub mod Enough
-pub mod Holdings
+pub mod Free
 pub mod Idle
 pub mod Rooms
 pub mod Ticks

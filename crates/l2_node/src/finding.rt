@@ -75,7 +75,7 @@ impl<'a> Holding<'a> {
     }
 
     // The lowest number of a bearer.
-    #[tactic(auto, using(crate::proofs::Holdings::none_lowest), unfolding(crate::specs::Finding::lowest))]
+    #[tactic(auto, using(crate::proofs::Free::none_held), unfolding(crate::specs::Finding::lowest))]
     pub fn lowest(&self, lcid: u8) -> Option<u64>
         requires { lcid < 11 }
         ensures { result ≡ lowest self.now.sender self.now.numbers lcid }

@@ -183,6 +183,7 @@ impl Node<Attached> {
 
     /// A TTI begins: timers may expire, bearer by bearer in ascending LCID, each as `Bearer::tick`
     /// says.
+    #[inline(always)]
     pub fn tick(&mut self) -> Result<Events, NoMemory>
         ensures node { OnOk result
             (self.new ≡ attached (record self.old.end { bearers = (ticked self.old.end).bearers })) }
@@ -298,6 +299,7 @@ impl Node<Attached> {
     /// Hears an intact block of fewer than 2^28 octets: each SDU in it goes to its bearer, in turn.
     /// Of a block that can't be read nothing is used; an SDU whose logical channel has no bearer is
     /// dropped; both are told.
+    #[inline(always)]
     pub fn receive(&mut self, block: &[u8]) -> Result<Events, NoMemory>
         requires { length block.now < OCTETS_LIMIT }
         ensures node { OnOk result

@@ -45,6 +45,7 @@ impl<'a> MacReader<'a> {
     /// A reader of the items of a block of fewer than 2^28 octets, or why the block is refused.
     ///
     /// The whole block is checked, and no memory is taken.
+    #[inline(always)]
     pub fn parse(direction: Direction, block: &'a [u8]) -> Result<MacReader<'a>, MacRefusal>
         requires { length block.now < OCTETS_LIMIT }
         // What is answered: the items that the grammar gives, or the first fault.
@@ -63,6 +64,7 @@ impl<'a> MacReader<'a> {
     }
 
     /// Takes the next item, `None` exactly after the last.
+    #[inline(always)]
     pub fn next(&mut self) -> Option<Item<'a>>
         ensures item { MatchOption result
             ((self.old ≡ []) × (self.new ≡ []))

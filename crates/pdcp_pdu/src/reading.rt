@@ -108,6 +108,7 @@ fn read(bits: u32, from: &[u8]) -> Result<User<'_>, PdcpRefusal>
 /// Reads a PDU of a data bearer, whose numbers have 7, 12 or 15 bits (TS 36.323 6.2.3, 6.2.4,
 /// 6.2.6). Reserved bits are passed over, and a status report may have any bitmap. It takes no
 /// memory.
+#[inline(always)]
 pub fn read_user(bits: u32, from: &[u8]) -> Result<User<'_>, PdcpRefusal>
     requires { IsUserBits bits }
     ensures found { IfOk result (λ user. IsUserPdu bits (user_of user) from.now) }

@@ -307,6 +307,7 @@ impl Sender {
         Ok(Some(next))
     }
 
+    #[inline(always)]
     fn write(&self, count: u32, sdu: &Sdu) -> Result<Next, NoMemory>
         ensures answer { IfOk result (λ next. next
             ≡ written self.now.kind self.now.protection (Some count) sdu.now) }

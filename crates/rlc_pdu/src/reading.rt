@@ -55,6 +55,7 @@ fn amd_of_octets(from: &[u8]) -> Result<Amd<'_>, RlcRefusal>
 
 /// Reads a UMD PDU of fewer than 2^28 octets, whose number has 5 or 10 bits (TS 36.322 6.2.1.3).
 /// Reserved bits and padding are passed over. It takes no memory.
+#[inline(always)]
 pub fn read_umd(bits: u32, from: &[u8]) -> Result<Umd<'_>, RlcRefusal>
     requires bits { IsUmBits bits }
     requires short { length from.now < OCTETS_LIMIT }
@@ -118,6 +119,7 @@ fn am_of_octets(from: &[u8]) -> Result<AmPdu<'_>, RlcRefusal>
 
 /// Reads a PDU of an acknowledged bearer, of fewer than 2^28 octets: an AMD PDU, a segment of one,
 /// or a STATUS PDU (TS 36.322 6.2.1.4 to 6.2.1.6). Padding is passed over. It takes no memory.
+#[inline(always)]
 pub fn read_am(from: &[u8]) -> Result<AmPdu<'_>, RlcRefusal>
     requires { length from.now < OCTETS_LIMIT }
     ensures found { IfOk result (λ pdu. IsAmPdu (am_of pdu) from.now) }

@@ -74,8 +74,10 @@ impl Losses {
         ensures { OnOk result (self.new ≡ seen one.now self.old) }
     {
         match self.cursor.pass(one) {
-            Some(change) => change_all(self.flows.as_mut_slice(), change),
-            None => Ok(()),
+            Some(change) if !self.flows.is_empty() => {
+                change_all(self.flows.as_mut_slice(), change)
+            }
+            _ => Ok(()),
         }
     }
 

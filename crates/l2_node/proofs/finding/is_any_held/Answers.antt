@@ -1,7 +1,7 @@
 use Rattle.std.proofs.Common.{rules, ◌≡◌, ℕ, List, None, take_all, subst}
 use Rattle.std.specs.List.{All}
 use Rattle.harq.specs.Sending.{held_of}
-use Rattle.l2_node.proofs.Holdings.{frees_more}
+use Rattle.l2_node.proofs.Free.{frees_more}
 use Rattle.l2_node.proofs.finding.is_any_held.Goals as goal
 
 pub loop-process-preserved : goal.loop-process-preserved

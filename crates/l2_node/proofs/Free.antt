@@ -1,6 +1,6 @@
 -- Where no process holds a block, no number is held.
-use Rattle.std.proofs.Common.{◌≡◌, ◌<◌, ◌+◌, ℕ, Option, Some, None, List, [], ◌∷◌, length, take, slice_index_or, refl, ap}
-use Rattle.std.proofs.Common.{◌∙◌}
+use Rattle.std.proofs.Common.{◌≡◌, ◌<◌, ◌+◌, ℕ, Option, Some, None, List, [], ◌∷◌, length, take, slice_index_or}
+use Rattle.std.proofs.Common.{refl, ap, ◌∙◌}
 use Rattle.std.specs.List.{All}
 use Rattle.std.proofs.lemmas.List.Elements.{All-head, All-more, All-tail}
 use Rattle.harq.specs.Sending.{Sending, held_of}
@@ -14,20 +14,20 @@ lower_none (Some x) = refl
 abbrev IsFree : Sending → ℕ → Type 0
 IsFree sender p = held_of sender p ≡ None
 
-none_lowest_of : (sender : Sending) (numbers : Numbers) (lcid : ℕ) (ps : List ℕ) (found : Option ℕ)
+none_of : (sender : Sending) (numbers : Numbers) (lcid : ℕ) (ps : List ℕ) (found : Option ℕ)
     → All (IsFree sender) ps → lowest_of sender numbers lcid ps found ≡ found
-none_lowest_of sender numbers lcid [] found none = refl
-none_lowest_of sender numbers lcid (p ∷ ps) found none =
+none_of sender numbers lcid [] found none = refl
+none_of sender numbers lcid (p ∷ ps) found none =
     let free : held_of sender p ≡ None = All-head (IsFree sender) p ps none in
     let here : lower found (number_at sender numbers lcid p) ≡ found = rw free (lower_none found) in
     ap (lowest_of sender numbers lcid ps) here
-    ∙ none_lowest_of sender numbers lcid ps found (All-tail (IsFree sender) p ps none)
+    ∙ none_of sender numbers lcid ps found (All-tail (IsFree sender) p ps none)
 
-pub none_lowest : (sender : Sending) (numbers : Numbers) (lcid : ℕ) → HoldsNone sender
+pub none_held : (sender : Sending) (numbers : Numbers) (lcid : ℕ) → HoldsNone sender
     → lowest sender numbers lcid ≡ None
 unfolding lowest
-none_lowest sender numbers lcid none =
-    none_lowest_of sender numbers lcid (0 ∷ 1 ∷ 2 ∷ 3 ∷ 4 ∷ 5 ∷ 6 ∷ 7 ∷ []) None none
+none_held sender numbers lcid none =
+    none_of sender numbers lcid (0 ∷ 1 ∷ 2 ∷ 3 ∷ 4 ∷ 5 ∷ 6 ∷ 7 ∷ []) None none
 
 -- one process more that holds none
 pub frees_more : (sender : Sending) (ps : List ℕ) (i d : ℕ) → i < length ps

@@ -1,0 +1,187 @@
+-- Lists compared one by one, and the items of a block that is read.
+use Rattle.std.proofs.Common.{◌≡◌, ◌≢◌, ℕ, zero, suc, ◌+◌, ◌-◌, ◌%◌, ◌<◌, ◌==◌, Bool, true, false, ◌&&◌, ◌||◌}
+use Rattle.std.proofs.Common.{List, [], ◌∷◌, ◌++◌, length, map, drop, take, get_or, Option, Some, None, refl, ap, sym}
+use Rattle.std.proofs.Common.{◌∙◌, arith, length-append}
+use Rattle.std.specs.Prelude.{slice_get, nat_lt}
+use Rattle.std.specs.Bool.{Decides}
+use Rattle.std.specs.List.{sum, concat}
+use Rattle.std.specs.Cmp.Lexicographic.{pointwise}
+use Rattle.std.specs.Str.{bytes_eq}
+use Rattle.std.proofs.Math.Seq.{drop-length}
+use Rattle.std.proofs.lemmas.Bool.{true≢false, ne_eqb, lt-ltb}
+use Rattle.std.proofs.lemmas.List.{append_cancel_left}
+use Rattle.std.proofs.lemmas.List.Sums.{sum_by-cons}
+use Rattle.std.proofs.lemmas.List.Concat.{flat_map-cons}
+use Rattle.std.proofs.lemmas.Slice.Eq.{bytes_eq-Decides, slice_eq-Decides}
+use Rattle.l2_bits.specs.Bits.{bits, bits_of, number}
+use Rattle.l2_bits.proofs.BitFields.{length-bits, length-bits_of, number-bits}
+use Rattle.mac_pdu.specs.declared.item.Direction.{Direction}
+use Rattle.mac_pdu.specs.Items.{MacItem, front, element, sdu, padding}
+use Rattle.mac_pdu.specs.Grammar.{MacPdu, IsHeader, IsInner, IsLast}
+use Rattle.pdcp_pdu.specs.declared.pdu.PdcpKind.{PdcpKind}
+use Rattle.pdu_show.specs.declared.kinds.Layout.{Layout}
+use Rattle.promises.specs.Names.{SentPdu}
+use Rattle.journal_form.specs.Parts.{AreRight, IsRight}
+use Rattle.journal_form.specs.Tests.{same_bit, is_pdcp, are_pdcp, are_named}
+
+-- ---- one by one
+
+pub is_there : {X : Type 0} (at : ℕ) (xs : List X) → at < length xs → None ≡ slice_get xs at → ⊥
+is_there zero [] h e = omega (arith, h)
+is_there zero (x ∷ xs) h e = cc
+is_there (suc at) [] h e = omega (arith, h)
+is_there (suc at) (x ∷ xs) h e = is_there at xs (omega (arith, h)) e
+
+pub step : {X : Type 0} (E : X → X → Bool) (a b : List X) (at : ℕ) (x y : X) → Some x ≡ slice_get a at
+    → Some y ≡ slice_get b at
+    → pointwise E (drop at a) (drop at b) ≡ (E x y && pointwise E (drop (at + 1) a) (drop (at + 1) b))
+step E [] b zero x y e f = absurd cc
+step E [] b (suc at) x y e f = absurd cc
+step E (u ∷ a) [] zero x y e f = absurd cc
+step E (u ∷ a) [] (suc at) x y e f = absurd cc
+step E (u ∷ a) (v ∷ b) zero x y e f = let p : x ≡ u = cc in let q : y ≡ v = cc in rw (p, q) refl
+step E (u ∷ a) (v ∷ b) (suc at) x y e f =
+    let next : suc at + 1 ≡ suc (at + 1) = omega arith in rw next (step E a b at x y e f)
+
+-- all before are the same, and these two differ
+pub differs : {X : Type 0} (E : X → X → Bool) (a b : List X) (at : ℕ) (x y : X) → Some x ≡ slice_get a at
+    → Some y ≡ slice_get b at → pointwise E (drop at a) (drop at b) ≡ pointwise E a b → E x y ≡ false
+    → false ≡ pointwise E a b
+differs E a b at x y e f all here = sym (sym all ∙ step E a b at x y e f ∙ rw here refl)
+
+pub goes_on : {X : Type 0} (E : X → X → Bool) (a b : List X) (at : ℕ) (x y : X) → Some x ≡ slice_get a at
+    → Some y ≡ slice_get b at → pointwise E (drop at a) (drop at b) ≡ pointwise E a b → E x y ≡ true
+    → pointwise E (drop (at + 1) a) (drop (at + 1) b) ≡ pointwise E a b
+goes_on E a b at x y e f all here = sym (sym all ∙ step E a b at x y e f ∙ rw here refl)
+
+pub all_same : {X : Type 0} (E : X → X → Bool) (a b : List X) (n : ℕ) → n ≡ length a → length b ≡ length a
+    → pointwise E (drop n a) (drop n b) ≡ pointwise E a b → true ≡ pointwise E a b
+all_same E a b n here long all =
+    let da : drop n a ≡ [] = ap (λ (k : ℕ). drop k a) here ∙ drop-length a in
+    let db : drop n b ≡ [] = ap (λ (k : ℕ). drop k b) (here ∙ sym long) ∙ drop-length b in
+    let both : pointwise E [] [] ≡ pointwise E a b = rw (da, db) at all in both
+
+-- ---- elements of a data field
+
+pub lens_whole : (xs : List (List ℕ)) → sum (map length xs) ≡ length (concat xs)
+lens_whole [] = refl
+lens_whole (x ∷ xs) =
+    sum_by-cons (λ (k : ℕ). k) (length x) (map length xs) ∙ ap (λ (n : ℕ). length x + n) (lens_whole xs)
+    ∙ sym (ap (length {A = ℕ}) (flat_map-cons (λ (l : List ℕ). l) x xs) ∙ length-append x (concat xs))
+
+window : (kind : PdcpKind) (before end : ℕ) (x : List ℕ) (xs : List (List ℕ)) → (end ≢ 0)
+    → (nat_lt 0 before || is_pdcp kind x) ≡ true
+    → are_pdcp kind (drop (before - 1) (take (end - 1) xs)) ≡ are_pdcp kind (drop before (take end (x ∷ xs)))
+window kind before zero x xs some here = absurd (some refl)
+window kind zero (suc end) x xs some here =
+    let e : suc end - 1 ≡ end = omega arith in
+    let t : is_pdcp kind x ≡ true = here in
+    rw e (rw t refl)
+window kind (suc before) (suc end) x xs some here =
+    let e : suc end - 1 ≡ end = omega arith in
+    let f : suc before - 1 ≡ before = omega arith in
+    rw (e, f) refl
+
+pub window_step : (kind : PdcpKind) (before end : ℕ) (x : List ℕ) (all xs : List (List ℕ)) (r : Bool) → (end ≢ 0)
+    → (nat_lt 0 before || is_pdcp kind x) ≡ true → all ≡ x ∷ xs → are_pdcp kind (drop before (take end all)) ≡ r
+    → are_pdcp kind (drop (before - 1) (take (end - 1) xs)) ≡ r
+window_step kind before end x all xs r some here is known =
+    window kind before end x xs some here
+    ∙ ap (λ (l : List (List ℕ)). are_pdcp kind (drop before (take end l))) (sym is) ∙ known
+
+outside : (kind : PdcpKind) (before end : ℕ) (x : List ℕ) (xs : List (List ℕ)) → (end ≢ 0)
+    → (nat_lt 0 before || is_pdcp kind x) ≡ false → are_pdcp kind (drop before (take end (x ∷ xs))) ≡ false
+outside kind before zero x xs some here = absurd (some refl)
+outside kind zero (suc end) x xs some here = let t : is_pdcp kind x ≡ false = here in rw t refl
+outside kind (suc before) (suc end) x xs some here =
+    let t : nat_lt 0 (suc before) ≡ true = lt-ltb 0 (suc before) (omega arith) in
+    absurd (true≢false (sym (ap (λ (b : Bool). b || is_pdcp kind x) t) ∙ here))
+
+pub window_fails : (kind : PdcpKind) (before end : ℕ) (x : List ℕ) (all xs : List (List ℕ)) (r : Bool) → (end ≢ 0)
+    → (nat_lt 0 before || is_pdcp kind x) ≡ false → all ≡ x ∷ xs → are_pdcp kind (drop before (take end all)) ≡ r
+    → false ≡ r
+window_fails kind before end x all xs r some here is known =
+    sym (outside kind before end x xs some here)
+    ∙ ap (λ (l : List (List ℕ)). are_pdcp kind (drop before (take end l))) (sym is) ∙ known
+
+-- ---- the bits of octets
+
+take_front : (n : ℕ) (a b : List Bool) → length a ≡ n → take n (a ++ b) ≡ a
+take_front zero [] b e = refl
+take_front zero (x ∷ a) b e = absurd (omega arith)
+take_front (suc n) [] b e = absurd (omega arith)
+take_front (suc n) (x ∷ a) b e = ap (λ (l : List Bool). x ∷ l) (take_front n a b (omega arith))
+
+first_bits : (x y : ℕ) (xs ys : List Bool) → bits 8 x ++ xs ≡ bits 8 y ++ ys → bits 8 x ≡ bits 8 y
+first_bits x y xs ys e =
+    sym (take_front 8 (bits 8 x) xs (length-bits 8 x)) ∙ ap (take 8) e ∙ take_front 8 (bits 8 y) ys (length-bits 8 y)
+
+same_octet : (x y : ℕ) → x < 256 → y < 256 → bits 8 x ≡ bits 8 y → x ≡ y
+same_octet x y lx ly e =
+    let n : x % 256 ≡ y % 256 = sym (number-bits 8 x) ∙ ap number e ∙ number-bits 8 y in omega (arith, n)
+
+abbrev Octets : List ℕ → Type 0
+Octets xs = (i : ℕ) → get_or xs i 0 < 256
+
+octets_by_bits : (a b : List ℕ) → Octets a → Octets b → bits_of a ≡ bits_of b → a ≡ b
+octets_by_bits [] [] fa fb e = refl
+octets_by_bits [] (y ∷ ys) fa fb e =
+    absurd (omega (arith, length-bits_of (y ∷ ys), ap (length {A = Bool}) e))
+octets_by_bits (x ∷ xs) [] fa fb e =
+    absurd (omega (arith, length-bits_of (x ∷ xs), ap (length {A = Bool}) e))
+octets_by_bits (x ∷ xs) (y ∷ ys) fa fb e =
+    let first = first_bits x y (bits_of xs) (bits_of ys) e in
+    let same : x ≡ y = same_octet x y (fa 0) (fb 0) first in
+    let more : bits_of xs ≡ bits_of ys = append_cancel_left (bits 8 x) (bits_of xs) (bits_of ys)
+    (e ∙ ap (λ (l : List Bool). l ++ bits_of ys) (sym first)) in
+    let rest : xs ≡ ys = octets_by_bits xs ys (λ i. fa (suc i)) (λ i. fb (suc i)) more in
+    cc
+
+bits_decide : (a b : Bool) → Decides (same_bit a b) (a ≡ b)
+bits_decide true true = (λ e. refl, λ e. refl)
+bits_decide true false = (λ e. absurd cc, λ e. absurd cc)
+bits_decide false true = (λ e. absurd cc, λ e. absurd cc)
+bits_decide false false = (λ e. refl, λ e. refl)
+
+pub bits_are : (a b : List Bool) → Decides (pointwise same_bit a b) (a ≡ b)
+bits_are a b = slice_eq-Decides bits_decide a b (pointwise same_bit a b) refl
+
+agree : (a b : Bool) (P Q : Type 0) → Decides a P → Decides b Q → (P → Q) → (Q → P) → a ≡ b
+agree true true P Q da db f g = refl
+agree false false P Q da db f g = refl
+agree true false P Q da db f g = sym (db.1 (f (da.0 refl)))
+agree false true P Q da db f g = da.1 (g (db.0 refl))
+
+-- octets are the same exactly where their bits are
+pub same_as_bits : (a b : List ℕ) → Octets a → Octets b → bytes_eq a b ≡ pointwise same_bit (bits_of a) (bits_of b)
+same_as_bits a b fa fb =
+    agree (bytes_eq a b) (pointwise same_bit (bits_of a) (bits_of b)) (a ≡ b) (bits_of a ≡ bits_of b)
+    (bytes_eq-Decides a b) (bits_are (bits_of a) (bits_of b)) (ap bits_of) (octets_by_bits a b fa fb)
+
+-- ---- what may stand in a block
+
+inner_right : (d : Direction) (p : MacItem) (octets : List ℕ) → IsInner d p octets → IsRight d p
+inner_right d front octets h = tt
+inner_right d (element c) octets h = h.0
+inner_right d (sdu lcid payload) octets h = h.1
+inner_right d (padding n) octets h = tt
+
+last_right : (d : Direction) (p : MacItem) (octets : List ℕ) → IsLast d p octets → IsRight d p
+last_right d front octets h = tt
+last_right d (element c) octets h = h.0
+last_right d (sdu lcid payload) octets h = h.0
+last_right d (padding n) octets h = tt
+
+all_right : (d : Direction) (ps : List MacItem) (octets : List ℕ) → IsHeader d ps octets → AreRight d ps
+all_right d [] octets h = absurd h
+all_right d (p ∷ []) octets h = (last_right d p octets h, tt)
+all_right d (p ∷ q ∷ ps) octets h = (inner_right d p h.0 h.3, all_right d (q ∷ ps) h.1 h.4)
+
+pub items_right : (d : Direction) (ps : List MacItem) (octets : List ℕ) → MacPdu d ps octets → AreRight d ps
+items_right d ps octets h = all_right d ps h.header h.subheaders
+
+-- ---- PDUs that are named
+
+pub none_named : (kinds : List (Option Layout)) (sent : List SentPdu) → (length sent == 0) ≡ are_named kinds sent []
+none_named kinds [] = refl
+none_named kinds (s ∷ sent) = ne_eqb (length (s ∷ sent)) 0 (λ (e : length (s ∷ sent) ≡ 0). omega (arith, e))

@@ -1,0 +1,7 @@
+pub mod Lines
+pub mod RightForm
+pub mod Parts
+pub mod Tests
+pub mod SameRecords
+pub mod Checking
+pub mod Laws
