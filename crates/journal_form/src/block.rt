@@ -14,20 +14,29 @@ use mac_pdu::{Control, Direction, Item, MacBuilder, MacReader, writing_grows};
 use pdu_show::Kinds;
 use std::alloc::Global;
 
-// A builder has room for a control element more, behind which no SDU stands.
+/// The octets of the greatest subheader, and of the greatest control element behind one (TS 36.321
+/// 6.1.3, 6.2.1).
+const SUBHEADER: usize = 3;
+
+const CONTROL: usize = 6;
+
+/// The length of an SDU is below this (TS 36.321 6.2.1).
+const SDU_LIMIT: usize = 32768;
+
+// Adds a control element where no SDU stands yet.
 fn add_control(builder: &mut MacBuilder, element: &Control) -> Result<(), NoMemory>
     requires fields { IsControl builder.old.direction element.now }
     requires first { builder.old.sdus ≡ [] }
     ensures { OnOk result (builder.new ≡ with_control element.now builder.old) }
 {
     writing_grows();
-    if builder.least() as usize + 16 >= OCTETS_LIMIT {
+    if builder.least() as usize + SUBHEADER + CONTROL >= OCTETS_LIMIT {
         return Err(NoMemory);
     }
     builder.control(element)
 }
 
-// And for an SDU more. One of 2^15 octets or more, which no block carries, finds no memory.
+// Adds an SDU. One of 2^15 octets or more, which has no length, finds no memory.
 fn add_sdu(builder: &mut MacBuilder, lcid: u8, octets: &[u8]) -> Result<(), NoMemory>
     requires channel { lcid ≤ 10 }
     requires some { 1 ≤ length octets.now }
@@ -35,7 +44,10 @@ fn add_sdu(builder: &mut MacBuilder, lcid: u8, octets: &[u8]) -> Result<(), NoMe
         (builder.new ≡ with_sdu (record { lcid = lcid; octets = octets.now }) builder.old) }
 {
     writing_grows();
-    if octets.len() >= 32768 || builder.least() as usize + 40000 >= OCTETS_LIMIT {
+    if octets.len() >= SDU_LIMIT {
+        return Err(NoMemory);
+    }
+    if builder.least() as usize + SUBHEADER + octets.len() >= OCTETS_LIMIT {
         return Err(NoMemory);
     }
     builder.sdu(lcid, octets)

@@ -226,7 +226,8 @@ impl FormChecker {
     /// A record of the group, which isn't its first.
     ///
     /// `NoMemory` where there is none, where a block has 2^28 octets or more or an SDU of 2^15 or
-    /// more, and where 16,384 PDUs are told of before a block that carries them.
+    /// more, and where 16,384 PDUs are told of before a block that carries them. Behind it the
+    /// checker says nothing.
     pub fn see(&mut self, one: &Record) -> Result<(), NoMemory>
         ensures { OnOk result (self.new ≡ after_record one.now self.old) }
     {
