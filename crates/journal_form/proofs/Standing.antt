@@ -18,7 +18,6 @@ use Rattle.air_record.specs.declared.record.Arrived.{Arrived}
 use Rattle.air_record.specs.declared.record.Arrived.TheVariants as arriveds
 use Rattle.air_record.specs.declared.record.Record.{Record}
 use Rattle.air_record.specs.declared.record.Record.TheVariants as records
-use Rattle.air_record.specs.Endings.{ending}
 use Rattle.pdu_show.specs.declared.kinds.Layout.{Layout}
 use Rattle.pdu_show.specs.Carried.{is_carried}
 use Rattle.pdu_show.specs.Show.{block_shown}
@@ -222,19 +221,15 @@ round_stands kinds c t told h =
     (all_then kinds ReceiversTell unless (receivers_stand kinds)
     (unless_stand kinds (list_any (is_carried kinds) h.tti)) h.timers h.timers_are))
 
-ending_stands : (kinds : List (Option Layout)) (done : Bool) (rounds : ℕ) → Stands kinds (ending done rounds ∷ [])
-ending_stands kinds true rounds = refl
-ending_stands kinds false rounds = refl
-
 drain_stands : (kinds : List (Option Layout)) (t : ℕ) (c : Side → Channels) → All kinds (DrainTells t kinds c)
 drain_stands kinds t c told h =
-    let ends = just (ending h.is_done h.rounds) in
+    let ends = just (records.Drained h.rounds) in
     let rounds = InTurn (λ n. RoundTells n kinds c) (t + 8) h.rounds in
     let ttis = InTurn (λ n. DrainTtiTells n kinds c) t 8 in
     all_then kinds ttis (rounds then ends)
     (all_turns kinds (λ n. DrainTtiTells n kinds c) 8 t (drain_tti_stands kinds c))
     (all_then kinds rounds ends (all_turns kinds (λ n. RoundTells n kinds c) h.rounds (t + 8) (round_stands kinds c))
-    (all_just kinds (ending h.is_done h.rounds) (ending_stands kinds h.is_done h.rounds))) told h.in_turn
+    (all_just kinds (records.Drained h.rounds) refl)) told h.in_turn
 
 forge_stands : (kinds : List (Option Layout)) (side : Side) (c : Channels) (octets : List ℕ)
     → All kinds (ForgeTells side c octets)
