@@ -13,5 +13,6 @@ loop-at-preserved c =
 pub returns : goal.returns
 returns c =
     sym (append-nil c.loop-at.out)
-    ∙ ap (λ (t : List ℕ). c.loop-at.out ++ t) (sym (numbered-none c.args.user c.loop-at.rest.now c.in_default.ensures.feed))
+    ∙ ap (λ (t : List ℕ). c.loop-at.out ++ t)
+    (sym (numbered-none c.args.user c.loop-at.rest.now c.in_default.ensures.feed))
     ∙ c.loop-at.invariant
