@@ -19,6 +19,8 @@ use Rattle.cell_text.specs.Reading.{read_cell_of}
 use Rattle.cell_text.specs.declared.line.CellLine.{CellLine}
 use Rattle.cell_text.specs.declared.line.CellLine.TheVariants as lines
 use Rattle.cell_run.specs.declared.fault.CellRule.{CellRule}
+use Rattle.cell_run.specs.declared.fault.CellFault.{CellFault}
+use Rattle.cell_run.specs.declared.fault.CellFault.TheVariants as cells
 
 pub record HasEndedAs (line : CellLine) (c c' : CellState) (es : List Entry) : Type 0 where
   pub line_is : line ≡ lines.End
@@ -112,3 +114,26 @@ pub acts-gone : (line : CellLine) (c c' : CellState) (w w' : Option (List ℕ)) 
     → is_end line ≡ false → Acts (acted line c) c' w w' fault (Ok u)
     → HasGone entry_text (acted line c) (Some c') w w'
 acts-gone line c c' w w' fault u not acts = gone-by line c c' (acted line c) w w' fault u refl not acts
+
+-- ---- a line that puts nothing can't fail at the sink
+
+unfailed : (o : Outcome CellState Entry CellRule) (c : CellState) (w : Option (List ℕ)) (fault : Type 0)
+    (r : Result Unit CellFault) → Acts o c w w ⊥ r → Acts o c w w fault r
+unfailed (Goes t journal) c w fault (Ok u) h = h
+unfailed (Goes t journal) c w fault (Err (cells.Refused rule)) h = h
+unfailed (Goes t journal) c w fault (Err cells.WriteFault) h = absurd h.0
+unfailed (Goes t journal) c w fault (Err cells.NoMemory) h = h
+unfailed (Ends t journal) c w fault (Ok u) h = h
+unfailed (Ends t journal) c w fault (Err (cells.Refused rule)) h = h
+unfailed (Ends t journal) c w fault (Err cells.WriteFault) h = absurd h.0
+unfailed (Ends t journal) c w fault (Err cells.NoMemory) h = h
+unfailed (Refuses reason) c w fault (Ok u) h = h
+unfailed (Refuses reason) c w fault (Err (cells.Refused rule)) h = h
+unfailed (Refuses reason) c w fault (Err cells.WriteFault) h = absurd h.0
+unfailed (Refuses reason) c w fault (Err cells.NoMemory) h = h
+
+pub acts-cell : (users : ℕ) (line : CellLine) (c c' : CellState) (w : Option (List ℕ)) (fault : Type 0)
+    (r : Result Unit CellFault) → line ≡ lines.Cell users → Acts (founds users c) c' w w ⊥ r
+    → Acts (acted line c) c' w w fault r
+unfolding acted
+acts-cell users line c c' w fault r is h = rw is (unfailed (founds users c) c' w fault r h)
