@@ -1,5 +1,5 @@
 -- The line that ends the input is the only one that does, and it leaves all as it was.
-use Rattle.std.proofs.Common.{◌≡◌, ◌∙◌, List, ℕ, [], ap, refl, true, false, if◌then◌else◌, replicate}
+use Rattle.std.proofs.Common.{◌≡◌, List, ℕ, [], ap, refl, true, false, if◌then◌else◌, replicate}
 use Rattle.std.specs.Prelude.{Option, None, Some, Result, Ok, Err}
 use Rattle.air_record.specs.declared.line.Line.{Line}
 use Rattle.air_run.specs.Run.{Left}

@@ -1,5 +1,5 @@
 -- What a line of its own script does to a terminal.
-use Rattle.std.proofs.Common.{◌≡◌, ◌+◌, ◌∙◌, ℕ, List, [], ◌∷◌, ◌++◌, refl, ap, sym, subst, append-nil, replicate}
+use Rattle.std.proofs.Common.{◌≡◌, ◌+◌, ◌∙◌, ℕ, List, [], ◌∷◌, refl, ap, sym, subst, append-nil, replicate}
 use Rattle.std.specs.Prelude.{Option, None, Some, Result, Ok, Err, IfSome, OnOk}
 use Rattle.l2_io.specs.Known.{after}
 use Rattle.air_record.specs.Text.{texts_of as texts_of_records}

@@ -1,4 +1,4 @@
-use Rattle.std.proofs.Common.{◌≡◌, ◌+◌, ℕ, refl, arith}
+use Rattle.std.proofs.Common.{◌≡◌, ◌+◌, refl, arith}
 use Rattle.cell_run.proofs.Stepping.{acts-own}
 use Rattle.cell_run.proofs.terminal.Terminal.step.Goals as goal
 
