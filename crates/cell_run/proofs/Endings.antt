@@ -1,7 +1,6 @@
 -- The line that ends the input is the only one that does, and it leaves all as it was.
-use Rattle.std.proofs.Common.{◌≡◌, ◌∙◌, List, ℕ, [], ap, refl, true, false, if◌then◌else◌, replicate}
+use Rattle.std.proofs.Common.{◌≡◌, List, ℕ, [], ap, refl, true, false, if◌then◌else◌, replicate}
 use Rattle.std.specs.Prelude.{Option, None, Some, Result, Ok, Err}
-use Rattle.l2_io.specs.Known.{after}
 use Rattle.air_record.specs.declared.line.Line.{Line}
 use Rattle.air_run.specs.Run.{Left}
 use Rattle.air_run.specs.declared.refusal.RunRefusal.{RunRefusal}
@@ -20,6 +19,8 @@ use Rattle.cell_text.specs.Reading.{read_cell_of}
 use Rattle.cell_text.specs.declared.line.CellLine.{CellLine}
 use Rattle.cell_text.specs.declared.line.CellLine.TheVariants as lines
 use Rattle.cell_run.specs.declared.fault.CellRule.{CellRule}
+use Rattle.cell_run.specs.declared.fault.CellFault.{CellFault}
+use Rattle.cell_run.specs.declared.fault.CellFault.TheVariants as cells
 
 pub record HasEndedAs (line : CellLine) (c c' : CellState) (es : List Entry) : Type 0 where
   pub line_is : line ≡ lines.End
@@ -91,26 +92,48 @@ line-ends c c' number text es e =
 
 -- ---- what was written of a line
 
-pub acts-ended : (line : CellLine) (c c' : CellState) (text : List ℕ) (w w' : Option (List ℕ)) (u : Unit {0})
-    → is_end line ≡ true → Acts (acted line c) c' [] text (Ok u) → w' ≡ after w text
+pub acts-ended : (line : CellLine) (c c' : CellState) (w w' : Option (List ℕ)) (fault : Type 0) (u : Unit {0})
+    → is_end line ≡ true → Acts (acted line c) c' w w' fault (Ok u)
     → HasEnded entry_text (acted line c) (Some c') w w'
 unfolding acted
-acts-ended (lines.Cell users) c c' text w w' u is acts put = cc
-acts-ended (lines.To user line) c c' text w w' u is acts put = cc
-acts-ended (lines.Air user up down) c c' text w w' u is acts put = cc
-acts-ended (lines.Go up_total down_total) c c' text w w' u is acts put = cc
-acts-ended lines.End c c' text w w' u is acts put = (ap Some acts.0, put ∙ ap (after w) acts.1)
+acts-ended (lines.Cell users) c c' w w' fault u is acts = cc
+acts-ended (lines.To user line) c c' w w' fault u is acts = cc
+acts-ended (lines.Air user up down) c c' w w' fault u is acts = cc
+acts-ended (lines.Go up_total down_total) c c' w w' fault u is acts = cc
+acts-ended lines.End c c' w w' fault u is acts = (ap Some acts.0, acts.1)
 
-gone-by : (line : CellLine) (c c' : CellState) (o : Outcome CellState Entry CellRule) (text : List ℕ)
-    (w w' : Option (List ℕ))
-    (u : Unit {0}) → acted line c ≡ o → is_end line ≡ false → Acts o c' [] text (Ok u) → w' ≡ after w text
+gone-by : (line : CellLine) (c c' : CellState) (o : Outcome CellState Entry CellRule) (w w' : Option (List ℕ))
+    (fault : Type 0) (u : Unit {0}) → acted line c ≡ o → is_end line ≡ false → Acts o c' w w' fault (Ok u)
     → HasGone entry_text o (Some c') w w'
-gone-by line c c' (Goes t journal) text w w' u is not acts put = (ap Some acts.0, put ∙ ap (after w) acts.1)
-gone-by line c c' (Ends t journal) text w w' u is not acts put =
+gone-by line c c' (Goes t journal) w w' fault u is not acts = (ap Some acts.0, acts.1)
+gone-by line c c' (Ends t journal) w w' fault u is not acts =
     let ended = acted-ends line c t journal is in let at = ap is_end ended.line_is in absurd (cc)
-gone-by line c c' (Refuses reason) text w w' u is not acts put = absurd acts
+gone-by line c c' (Refuses reason) w w' fault u is not acts = absurd acts
 
-pub acts-gone : (line : CellLine) (c c' : CellState) (text : List ℕ) (w w' : Option (List ℕ)) (u : Unit {0})
-    → is_end line ≡ false → Acts (acted line c) c' [] text (Ok u) → w' ≡ after w text
+pub acts-gone : (line : CellLine) (c c' : CellState) (w w' : Option (List ℕ)) (fault : Type 0) (u : Unit {0})
+    → is_end line ≡ false → Acts (acted line c) c' w w' fault (Ok u)
     → HasGone entry_text (acted line c) (Some c') w w'
-acts-gone line c c' text w w' u not acts put = gone-by line c c' (acted line c) text w w' u refl not acts put
+acts-gone line c c' w w' fault u not acts = gone-by line c c' (acted line c) w w' fault u refl not acts
+
+-- ---- a line that puts nothing can't fail at the sink
+
+unfailed : (o : Outcome CellState Entry CellRule) (c : CellState) (w : Option (List ℕ)) (fault : Type 0)
+    (r : Result Unit CellFault) → Acts o c w w ⊥ r → Acts o c w w fault r
+unfailed (Goes t journal) c w fault (Ok u) h = h
+unfailed (Goes t journal) c w fault (Err (cells.Refused rule)) h = h
+unfailed (Goes t journal) c w fault (Err cells.WriteFault) h = absurd h.0
+unfailed (Goes t journal) c w fault (Err cells.NoMemory) h = h
+unfailed (Ends t journal) c w fault (Ok u) h = h
+unfailed (Ends t journal) c w fault (Err (cells.Refused rule)) h = h
+unfailed (Ends t journal) c w fault (Err cells.WriteFault) h = absurd h.0
+unfailed (Ends t journal) c w fault (Err cells.NoMemory) h = h
+unfailed (Refuses reason) c w fault (Ok u) h = h
+unfailed (Refuses reason) c w fault (Err (cells.Refused rule)) h = h
+unfailed (Refuses reason) c w fault (Err cells.WriteFault) h = absurd h.0
+unfailed (Refuses reason) c w fault (Err cells.NoMemory) h = h
+
+pub acts-cell : (users : ℕ) (line : CellLine) (c c' : CellState) (w : Option (List ℕ)) (fault : Type 0)
+    (r : Result Unit CellFault) → line ≡ lines.Cell users → Acts (founds users c) c' w w ⊥ r
+    → Acts (acted line c) c' w w fault r
+unfolding acted
+acts-cell users line c c' w fault r is h = rw is (unfailed (founds users c) c' w fault r h)

@@ -1,4 +1,5 @@
 pub mod Numbering
+pub mod Putting
 pub mod Stepping
 pub mod Wishing
 pub mod Endings

@@ -1,6 +1,6 @@
 -- What a line of its own script does to a terminal.
-use Rattle.std.proofs.Common.{◌≡◌, ◌+◌, ◌∙◌, ℕ, List, [], ◌∷◌, ◌++◌, refl, ap, sym, append-nil, replicate}
-use Rattle.std.specs.Prelude.{Option, None, Some, Result, Ok, Err, IfSome}
+use Rattle.std.proofs.Common.{◌≡◌, ◌+◌, ◌∙◌, ℕ, List, [], ◌∷◌, refl, ap, sym, subst, append-nil, replicate}
+use Rattle.std.specs.Prelude.{Option, None, Some, Result, Ok, Err, IfSome, OnOk}
 use Rattle.l2_io.specs.Known.{after}
 use Rattle.air_record.specs.Text.{texts_of as texts_of_records}
 use Rattle.l2_node.specs.Sums.{left}
@@ -16,8 +16,11 @@ use Rattle.air_run.specs.Steps.{Steps, HasStepped, Finishes}
 use Rattle.air_run.specs.declared.refusal.RunRefusal.{RunRefusal}
 use Rattle.air_run.specs.declared.refusal.StepFault.TheVariants as steps
 use Rattle.cell_run.specs.Entries.{Entry, numbered, entry_text, texts_of}
-use Rattle.line_player.specs.Journal.{Goes, Refuses}
-use Rattle.cell_run.specs.Acting.{Acts}
+use Rattle.line_player.specs.Journal.{Outcome, Goes, Refuses}
+use Rattle.cell_run.specs.Acting.{Acts, PutsText}
+use Rattle.cell_run.specs.declared.fault.CellFault.{CellFault}
+use Rattle.cell_run.specs.declared.fault.CellFault.TheVariants as cells
+use Rattle.line_player.specs.Streams.{WritesFront}
 use Rattle.cell_run.specs.Terminals.{Terminal, run_of, behind_step, own_entry, own_step, tti_line, tti_entry}
 use Rattle.cell_run.specs.Terminals.{behind_tti, last_entry}
 use Rattle.cell_run.specs.declared.fault.CellRule.{CellRule}
@@ -56,25 +59,35 @@ has-run : (run new : Option RunState) (number : ℕ) (line : Line) (octets : Lis
 has-run None new number line octets fault u h = let e = h.0 in cc
 has-run (Some run) new number line octets fault u h = has-run-by run number line new octets _ refl h
 
-acts-by : (user : ℕ) (line : Line) (t t' : Terminal) (text text' octets : List ℕ) (new : Option RunState)
-    → HasRun t.run (t.lines + 1) line new octets
-    → t' ≡ behind_step (run_of new) t → text' ≡ text ++ numbered user octets
-    → Acts (own_step user line t) t' text text' (Ok tt)
-acts-by user line t t' text text' octets new h is put =
-    rw (h.is) (
-      is ∙ ap (λ (run : RunState). behind_step run t) h.state,
-      put ∙ ap (λ (more : List ℕ). text ++ numbered user more) h.text
-          ∙ ap (λ (more : List ℕ). text ++ more) (sym (one-text (own_entry user line h.left.journal))),
-    )
+-- a line of its own script was run, and its text is put, or a front of it
+acts-by : (user : ℕ) (line : Line) (t t' : Terminal) (w w' : Option (List ℕ)) (octets : List ℕ) (fault : Type 0)
+    (new : Option RunState) (result : Result Unit CellFault)
+    → HasRun t.run (t.lines + 1) line new octets → t' ≡ behind_step (run_of new) t
+    → PutsText (numbered user octets) w w' fault result
+    → Acts (own_step user line t) t' w w' fault result
+acts-by user line t t' w w' octets fault new result h is put =
+    rw (h.is) (by-result result put)
+  where
+    text-is : numbered user octets ≡ texts_of (own_entry user line h.left.journal ∷ [])
+    text-is = ap (numbered user) h.text ∙ sym (one-text (own_entry user line h.left.journal))
 
--- a line of its own script was run
-pub acts-own : (user : ℕ) (line : Line) (t t' : Terminal) (text text' octets : List ℕ) (run new : Option RunState)
-    (fault : Type 0) (u : Unit {0})
+    by-result : (r : Result Unit CellFault) → PutsText (numbered user octets) w w' fault r
+        → Acts (Goes (behind_step h.left.state t) (own_entry user line h.left.journal ∷ [])) t' w w' fault r
+    by-result (Ok u) p = (
+      is ∙ ap (λ (run : RunState). behind_step run t) h.state,
+      p ∙ ap (after w) text-is,
+    )
+    by-result (Err (cells.Refused rule)) p = absurd p
+    by-result (Err cells.WriteFault) p = (p.0, subst (λ (text : List ℕ). WritesFront text w w') text-is p.1)
+    by-result (Err cells.NoMemory) p = subst (λ (text : List ℕ). WritesFront text w w') text-is p
+
+pub acts-own : (user : ℕ) (line : Line) (t t' : Terminal) (w w' : Option (List ℕ)) (octets : List ℕ)
+    (run new : Option RunState) (fault fault' : Type 0) (u : Unit {0}) (result : Result Unit CellFault)
     → t.run ≡ run_of run → Steps run (t.lines + 1) line new (Some []) (Some octets) fault (Ok u)
-    → t' ≡ behind_step (run_of new) t → text' ≡ text ++ numbered user octets
-    → Acts (own_step user line t) t' text text' (Ok tt)
-acts-own user line t t' text text' octets run new fault u was h is put =
-    acts-by user line t t' text text' octets new
+    → t' ≡ behind_step (run_of new) t → PutsText (numbered user octets) w w' fault' result
+    → Acts (own_step user line t) t' w w' fault' result
+acts-own user line t t' w w' octets run new fault fault' u result was h is put =
+    acts-by user line t t' w w' octets fault' new result
     (rw was (has-run run new (t.lines + 1) line octets fault u h)) is put
 
 -- a line of its own script was refused
@@ -98,14 +111,24 @@ pub tti-goes : (user up_grant down_grant : ℕ) (t : Terminal)
 unfolding rule_broken
 tti-goes user up_grant down_grant t = refl
 
-pub tti-unrefused : (user up_grant down_grant : ℕ) (up down : Fate) (t : Terminal) (rule : CellRule)
-    → up ≡ t.up
-    → down ≡ t.down → own_step user (Tti up_grant up down_grant down) t ≡ Refuses (reasons.Rule rule) → ⊥
-tti-unrefused user up_grant down_grant up down t rule same-up same-down e =
-    let goes = tti-goes user up_grant down_grant t in
-    let bad : Goes (behind_tti up_grant down_grant t) (tti_entry user up_grant down_grant t ∷ [])
-    ≡ Refuses (reasons.Rule rule) =
-    sym goes ∙ rw (same-up, same-down) at e in absurd (cc)
+tti-by : (e : Entry) (t t' : Terminal) (w w' : Option (List ℕ)) (fault : Type 0) (r : Result Unit CellFault)
+    → Acts (Goes t (e ∷ [])) t' w w' fault r → OnOk r (t' ≡ t) × PutsText (entry_text e) w w' fault r
+tti-by e t t' w w' fault (Ok u) h = (h.0, h.1 ∙ ap (after w) (one-text e))
+tti-by e t t' w w' fault (Err (cells.Refused rule)) h = let bad = h.0 in absurd (cc)
+tti-by e t t' w w' fault (Err cells.WriteFault) h =
+    (tt, (h.0, subst (λ (text : List ℕ). WritesFront text w w') (one-text e) h.1))
+tti-by e t t' w w' fault (Err cells.NoMemory) h =
+    (tt, subst (λ (text : List ℕ). WritesFront text w w') (one-text e) h)
+
+pub tti-leaves : (user up_grant down_grant : ℕ) (up down : Fate) (t t' : Terminal) (w w' : Option (List ℕ))
+    (fault : Type 0) (r : Result Unit CellFault) → up ≡ t.up → down ≡ t.down
+    → Acts (own_step user (Tti up_grant up down_grant down) t) t' w w' fault r
+    → OnOk r (t' ≡ behind_tti up_grant down_grant t)
+    × PutsText (entry_text (tti_entry user up_grant down_grant t)) w w' fault r
+tti-leaves user up_grant down_grant up down t t' w w' fault r same-up same-down h =
+    tti-by (tti_entry user up_grant down_grant t) (behind_tti up_grant down_grant t) t' w w' fault r
+    (subst (λ (o : Outcome Terminal Entry CellRule). Acts o t' w w' fault r) (tti-goes user up_grant down_grant t)
+    (rw (same-up, same-down) at h))
 
 -- ---- what is told
 

@@ -1,20 +1,22 @@
-ghost use Rattle.std.specs.Prelude.{◌≡◌, ◌<◌, ◌≤◌, ℕ, [], length, None, Some, IfOk, IfSome};
+ghost use Rattle.std.specs.Prelude.{◌≡◌, ◌<◌, ◌≤◌, ℕ, List, length, Option, None, Some, IfOk, IfSome};
 ghost use Rattle.air_text.specs.Ranges.{IsInRange};
 ghost use Rattle.cell_text.specs.Ranges.{IsInCell, AreUsers};
 ghost use Rattle.cell_run.specs.Acting.{Acts};
 ghost use Rattle.cell_run.specs.Cells.{fresh_cell, missing, unknown, is_own, founds, own_line};
 ghost use Rattle.cell_run.specs.Cells.{set_air, goes, acted};
 ghost use Rattle.cell_run.specs.Entries.{texts_of};
+ghost use Rattle.l2_io.specs.Known.{HasRisen};
 ghost use Rattle.cell_run.specs.Terminals.{last_entries};
 
 use crate::fault::{CellFault, CellRefusal, CellRule};
+use crate::numbered::Room;
 use crate::terminal::Terminal;
 use crate::terminals::{down_wishes, finish_all, fresh_terminals, run_tti, up_wishes};
 use air_text::{Line, Outcome};
 use cell_sched::share;
 use cell_text::{CellLine, MOST_USERS};
 use l2_bits::{Bytes, NoMemory};
-use l2_io::SureSink;
+use l2_io::Sink;
 use std::alloc::Global;
 use std::marker::Model;
 
@@ -24,8 +26,7 @@ pub struct Cell {
     alloc: Global,
     terminals: Vec<Terminal>,
     gone: u32,
-    // The text of one terminal's records, before its lines are numbered.
-    records: SureSink,
+    room: Room,
 }
 
 impl Model for Cell {
@@ -65,7 +66,7 @@ impl Cell {
             alloc,
             terminals: Vec::new(alloc),
             gone: 0,
-            records: SureSink::new(alloc),
+            room: Room::new(alloc),
         }
     }
 
@@ -96,7 +97,8 @@ impl Cell {
 
     fn found(&mut self, users: u32) -> Result<(), CellFault>
         requires { AreUsers users }
-        ensures { Acts (founds users self.old) self.new [] [] result }
+        ensures { (written : Option (List ℕ))
+            → Acts (founds users self.old) self.new written written ⊥ result }
     {
         if !self.terminals.is_empty() {
             return Err(refused(CellRefusal::CellTwice));
@@ -105,15 +107,18 @@ impl Cell {
         Ok(())
     }
 
-    fn own_line(
+    #[tactic(auto, using(line_player::proofs::Nothing::part_nothing))]
+    fn own_line<K: Sink>(
         &mut self,
         user: u32,
         line: &Option<Line>,
-        text: &mut Bytes,
+        out: &mut K,
     ) -> Result<(), CellFault>
         requires there { user < length self.old.terminals }
         requires range { IfSome line.now IsInRange }
-        ensures { Acts (own_line user line.now self.old) self.new text.old text.new result }
+        ensures line { Acts (own_line user line.now self.old) self.new (K.written out.old)
+            (K.written out.new) (HasRisen (K.faults out.old) (K.faults out.new)) result }
+        ensures count { K.faults out.old ≤ K.faults out.new }
     {
         let Some(line) = line else {
             return Err(refused(CellRefusal::NotHere));
@@ -121,7 +126,7 @@ impl Cell {
         if !is_own(line) {
             return Err(refused(CellRefusal::NotHere));
         }
-        self.terminals[user as usize].step(user, line, &mut self.records, text)
+        self.terminals[user as usize].step(user, line, &mut self.room, out)
     }
 
     fn set_air(&mut self, user: u32, up: Outcome, down: Outcome)
@@ -131,9 +136,12 @@ impl Cell {
         self.terminals[user as usize].set_outcomes(up, down);
     }
 
-    fn go(&mut self, up_total: u32, down_total: u32, text: &mut Bytes) -> Result<(), CellFault>
+    #[tactic(auto, using(line_player::proofs::Nothing::part_nothing))]
+    fn go<K: Sink>(&mut self, up_total: u32, down_total: u32, out: &mut K) -> Result<(), CellFault>
         requires { missing self.old ≡ None }
-        ensures { Acts (goes up_total down_total self.old) self.new text.old text.new result }
+        ensures go { Acts (goes up_total down_total self.old) self.new (K.written out.old)
+            (K.written out.new) (HasRisen (K.faults out.old) (K.faults out.new)) result }
+        ensures count { K.faults out.old ≤ K.faults out.new }
     {
         let Some(gone) = self.gone.checked_add(1) else {
             return Err(CellFault::NoMemory);
@@ -143,17 +151,18 @@ impl Cell {
         let terminals = self.terminals.as_mut_slice();
         let up_grants = share(&up_wishes(terminals), users, first, up_total);
         let down_grants = share(&down_wishes(terminals), users, first, down_total);
-        run_tti(terminals, &up_grants, &down_grants, &mut self.records, text)?;
+        run_tti(terminals, &up_grants, &down_grants, &mut self.room, out)?;
         self.gone = gone;
         Ok(())
     }
 
-    /// Runs a line of the grammar, and adds the text of its records.
+    /// Runs a line of the grammar, and puts its records.
     #[tactic(auto, unfolding(crate::specs::Cells::acted))]
-    pub fn act(&mut self, line: &CellLine, text: &mut Bytes) -> Result<(), CellFault>
+    pub fn act<K: Sink>(&mut self, line: &CellLine, out: &mut K) -> Result<(), CellFault>
         requires range { IsInCell line.now }
-        requires empty { text.old ≡ [] }
-        ensures { Acts (acted line.now self.old) self.new [] text.new result }
+        ensures line { Acts (acted line.now self.old) self.new (K.written out.old)
+            (K.written out.new) (HasRisen (K.faults out.old) (K.faults out.new)) result }
+        ensures count { K.faults out.old ≤ K.faults out.new }
     {
         match line {
             CellLine::Cell { users } => self.found(*users),
@@ -161,7 +170,7 @@ impl Cell {
                 if let Some(refusal) = self.unknown(*user) {
                     return Err(refused(refusal));
                 }
-                self.own_line(*user, line, text)
+                self.own_line(*user, line, out)
             }
             CellLine::Air { user, up, down } => {
                 if let Some(refusal) = self.unknown(*user) {
@@ -177,7 +186,7 @@ impl Cell {
                 if let Some(refusal) = self.missing() {
                     return Err(refused(refusal));
                 }
-                self.go(*up_total, *down_total, text)
+                self.go(*up_total, *down_total, out)
             }
             CellLine::End => Ok(()),
         }
@@ -190,11 +199,11 @@ impl Cell {
         let Cell {
             alloc,
             terminals,
-            mut records,
+            mut room,
             ..
         } = self;
         let mut text = Bytes::new(alloc);
-        finish_all(terminals, &mut records, &mut text)?;
+        finish_all(terminals, &mut room, &mut text)?;
         Ok(text)
     }
 }

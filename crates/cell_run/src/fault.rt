@@ -49,8 +49,10 @@ impl Rule for CellRule {
 /// Why a line was not run.
 #[derive(Clone, Copy, Debug, PartialEq, Eq)]
 pub enum CellFault {
-    /// The line is refused; nothing was changed.
+    /// The line is refused; nothing was changed or written.
     Refused(CellRule),
+    /// The sink failed.
+    WriteFault,
     /// Memory ran out.
     NoMemory,
 }

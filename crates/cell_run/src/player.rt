@@ -10,16 +10,14 @@ use crate::cell::Cell;
 use crate::fault::{CellFault, CellRule};
 use air_text::LineFault;
 use cell_text::{CellLine, read_cell_line};
-use l2_bits::Bytes;
 use l2_io::{PutFault, Sink};
 use line_player::{Ending, LineEnd, Player, Reason};
 use std::alloc::Global;
 
-/// A cell, with the text of the line that is run.
+/// A cell that plays its lines.
 #[derive(Drop)]
 pub struct CellPlayer {
     cell: Cell,
-    text: Bytes,
 }
 
 fn is_end(line: &CellLine) -> bool
@@ -35,12 +33,10 @@ impl CellPlayer {
     {
         CellPlayer {
             cell: Cell::new(alloc),
-            text: Bytes::new(alloc),
         }
     }
 
     // Runs a line of the grammar and writes its records.
-    #[tactic(auto, using(line_player::proofs::Nothing::part_nothing))]
     fn run_line<K: Sink>(&mut self, line: &CellLine, out: &mut K) -> LineEnd<CellRule>
         requires { IsInCell line.now }
         ensures line { RunsLine entry_text (acted line.now self.old.cell) (Some self.new.cell)
@@ -48,16 +44,11 @@ impl CellPlayer {
             (K.written out.new) (HasRisen (K.faults out.old) (K.faults out.new)) result }
         ensures count { K.faults out.old ≤ K.faults out.new }
     {
-        let is_end = is_end(line);
-        self.text.clear();
-        match self.cell.act(line, &mut self.text) {
-            Ok(()) => match out.put(self.text.as_slice()) {
-                Ok(()) if is_end => LineEnd::Ended,
-                Ok(()) => LineEnd::Next,
-                Err(PutFault::Failed) => LineEnd::WriteFault,
-                Err(PutFault::NoMemory) => LineEnd::NoMemory,
-            },
+        match self.cell.act(line, out) {
+            Ok(()) if is_end(line) => LineEnd::Ended,
+            Ok(()) => LineEnd::Next,
             Err(CellFault::Refused(rule)) => LineEnd::Refused(Reason::Rule(rule)),
+            Err(CellFault::WriteFault) => LineEnd::WriteFault,
             Err(CellFault::NoMemory) => LineEnd::NoMemory,
         }
     }

@@ -1,6 +1,7 @@
-ghost use Rattle.std.specs.Prelude.{◌≡◌, ◌<◌, ◌≤◌, ◌++◌, OnOk, IfOk};
+ghost use Rattle.std.specs.Prelude.{◌≡◌, ◌<◌, ◌≤◌, ◌++◌, OnOk};
 ghost use Rattle.air_text.specs.Ranges.{IsInRange};
-ghost use Rattle.cell_run.specs.Acting.{Acts};
+ghost use Rattle.l2_io.specs.Known.{HasRisen};
+ghost use Rattle.cell_run.specs.Acting.{Acts, PutsText};
 ghost use Rattle.cell_run.specs.Entries.{entry_text};
 ghost use Rattle.cell_run.specs.Terminals.{fresh_terminal, own_step, up_wish, down_wish};
 ghost use Rattle.cell_run.specs.Terminals.{behind_tti, tti_entry, last_entry};
@@ -8,13 +9,13 @@ ghost use Rattle.cell_text.specs.declared.line.TheConstants.{MOST_USERS};
 ghost use Rattle.l2_types.specs.declared.limits.TheConstants.{GREATEST_GRANT};
 
 use crate::fault::{CellFault, CellRule};
-use crate::numbered::append_numbered;
+use crate::numbered::{Room, append_numbered};
 use air_run::{Run, StepFault};
 use air_text::{Fate, Line, Outcome};
 use cell_sched::{LEAST_WISH, wish};
 use cell_text::MOST_USERS;
 use l2_bits::{Bytes, NoMemory};
-use l2_io::SureSink;
+use l2_io::Sink;
 use l2_types::GREATEST_GRANT;
 use std::alloc::Global;
 use std::marker::Model;
@@ -79,27 +80,29 @@ impl Terminal {
         self.run.left_down().saturating_add(LEAST_WISH)
     }
 
-    /// Runs a line of its own script, and adds the text of its records to that of the cell's line.
-    pub fn step(
+    /// Runs a line of its own script, and puts its records, numbered.
+    #[tactic(auto, using(line_player::proofs::Nothing::part_nothing))]
+    pub fn step<K: Sink>(
         &mut self,
         user: u32,
         line: &Line,
-        records: &mut SureSink,
-        text: &mut Bytes,
+        room: &mut Room,
+        out: &mut K,
     ) -> Result<(), CellFault>
         requires user { user < MOST_USERS }
         requires range { IsInRange line.now }
-        ensures { Acts (own_step user line.now self.old) self.new text.old text.new result }
+        ensures step { Acts (own_step user line.now self.old) self.new (K.written out.old)
+            (K.written out.new) (HasRisen (K.faults out.old) (K.faults out.new)) result }
+        ensures count { K.faults out.old ≤ K.faults out.new }
     {
         let Some(number) = self.lines.checked_add(1) else {
             return Err(CellFault::NoMemory);
         };
-        records.clear();
-        match self.run.step(number, line, records) {
+        room.records.clear();
+        match self.run.step(number, line, &mut room.records) {
             Ok(()) => {
                 self.lines = number;
-                append_numbered(text, user, records.written())?;
-                Ok(())
+                room.put_numbered(user, out)
             }
             Err(StepFault::Refused(refusal)) => Err(CellFault::Refused(CellRule::Run(refusal))),
             Err(StepFault::NoMemory) => Err(CellFault::NoMemory),
@@ -107,21 +110,23 @@ impl Terminal {
         }
     }
 
-    /// Runs a TTI with these grants, in octets.
-    pub fn tti(
+    /// Runs a TTI with these grants, in octets, and puts its records, numbered.
+    pub fn tti<K: Sink>(
         &mut self,
         user: u32,
         up_grant: u32,
         down_grant: u32,
-        records: &mut SureSink,
-        text: &mut Bytes,
-    ) -> Result<(), NoMemory>
+        room: &mut Room,
+        out: &mut K,
+    ) -> Result<(), CellFault>
         requires user { user < MOST_USERS }
         requires up { up_grant ≤ GREATEST_GRANT }
         requires down { down_grant ≤ GREATEST_GRANT }
         ensures after { OnOk result (self.new ≡ behind_tti up_grant down_grant self.old) }
-        ensures text { OnOk result
-            (text.new ≡ text.old ++ entry_text (tti_entry user up_grant down_grant self.old)) }
+        ensures put { PutsText (entry_text (tti_entry user up_grant down_grant self.old))
+            (K.written out.old) (K.written out.new) (HasRisen (K.faults out.old) (K.faults out.new))
+            result }
+        ensures count { K.faults out.old ≤ K.faults out.new }
     {
         let line = Line::Tti {
             up_grant,
@@ -129,23 +134,18 @@ impl Terminal {
             down_grant,
             down: self.down,
         };
-        match self.step(user, &line, records, text) {
-            Ok(()) => Ok(()),
-            Err(CellFault::NoMemory) => Err(NoMemory),
-            // A TTI isn't refused.
-            Err(CellFault::Refused(_)) => unreachable!(),
-        }
+        self.step(user, &line, room, out)
     }
 
     /// Adds the text of its records at the end.
-    pub fn finish(self, user: u32, records: &mut SureSink, text: &mut Bytes) -> Result<(), NoMemory>
+    pub fn finish(self, user: u32, room: &mut Room, text: &mut Bytes) -> Result<(), NoMemory>
         requires { user < MOST_USERS }
         ensures { OnOk result (text.new ≡ text.old ++ entry_text (last_entry user self)) }
     {
         let Terminal { run, .. } = self;
-        records.clear();
-        match run.finish(records) {
-            Ok(()) => append_numbered(text, user, records.written()),
+        room.records.clear();
+        match run.finish(&mut room.records) {
+            Ok(()) => append_numbered(text, user, room.records.written()),
             Err(StepFault::NoMemory) => Err(NoMemory),
             Err(StepFault::Refused(_)) | Err(StepFault::WriteFault) => unreachable!(),
         }
