@@ -1,4 +1,5 @@
-ghost use Rattle.std.specs.Prelude.{◌≡◌, ◌<◌, ◌≤◌, ℕ, List, length, Option, None, Some, IfOk, IfSome};
+ghost use Rattle.std.specs.Prelude.{◌≡◌, ◌<◌, ◌≤◌, ℕ, List, length, Option, None, Some, IfOk};
+ghost use Rattle.std.specs.Prelude.{IfSome};
 ghost use Rattle.air_text.specs.Ranges.{IsInRange};
 ghost use Rattle.cell_text.specs.Ranges.{IsInCell, AreUsers};
 ghost use Rattle.cell_run.specs.Acting.{Acts};
