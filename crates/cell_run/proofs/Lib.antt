@@ -1,4 +1,5 @@
 pub mod Numbering
+pub mod Feeding
 pub mod Putting
 pub mod Stepping
 pub mod Wishing

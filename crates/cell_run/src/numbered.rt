@@ -8,7 +8,7 @@ ghost use Rattle.cell_text.specs.declared.line.TheConstants.{MOST_USERS};
 use crate::fault::CellFault;
 use l2_bits::{Bytes, NoMemory};
 use l2_io::{PutFault, Sink, SureSink};
-use memchr::memchr;
+use memchr::memchr_iter;
 use std::alloc::Global;
 
 /// Room for the text of one terminal's records, as its run writes it, and for its lines numbered.
@@ -55,12 +55,13 @@ fn put<K: Sink>(text: &[u8], out: &mut K) -> Result<(), CellFault>
     }
 }
 
-#[tactic(auto, using(l2_io::proofs::Feeds::from_feed_none, l2_io::proofs::Feeds::feed_first))]
+// The first of the iterator's places is found sooner in a short line than by `memchr`.
+#[tactic(auto, using(crate::proofs::Feeding::no_feed, crate::proofs::Feeding::first_feed))]
 fn feed_at(octets: &[u8]) -> Option<usize>
     ensures feed { MatchOption result (from_feed octets.now ≡ []) (IsFeedAt octets.now) }
     ensures fits { IfSome result (λ at. at < 2 ^ 63) }
 {
-    memchr(b'\n', octets)
+    memchr_iter(b'\n', octets).next()
 }
 
 /// Adds the lines of a text, each with a terminal's digit and a space before it.
