@@ -23,7 +23,7 @@ use Rattle.promises.specs.Parts.{part_of_line}
 use Rattle.journal_air.specs.Checking.{Checking, nothing_checked, after_tti}
 use Rattle.journal_air.specs.Checking.{after_records}
 use Rattle.journal_air.specs.Checking.{has_visits, after_line, is_met, after_group, all_checked}
-use Rattle.journal_air.specs.RightAir.{is_of_time, HasItsTtis, GroupIsRight, AirIsRight}
+use Rattle.promises.specs.RightAir.{is_of_time, HasItsTtis, GroupIsRight, AirIsRight}
 use Rattle.journal_air.specs.Ends.{BothEnds, fresh_ends, reset_ends}
 use Rattle.journal_air.proofs.Senders.{sends_fresh}
 use Rattle.journal_air.proofs.Receivers.{hears_fresh, asks_fresh}

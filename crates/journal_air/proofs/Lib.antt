@@ -9,5 +9,3 @@ pub mod Ttis
 pub mod Lines
 pub mod Groups
 pub mod Promised
-pub mod Showing
-pub mod Ours

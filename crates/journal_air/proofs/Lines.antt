@@ -26,7 +26,7 @@ use Rattle.journal_air.specs.declared.granted.Due.TheVariants.{Nothing, Once, Of
 use Rattle.journal_air.specs.Checking.{Checking, after_tti, granted_often, tti_begun}
 use Rattle.journal_air.specs.Checking.{after_records, due_of}
 use Rattle.journal_air.specs.Checking.{is_met}
-use Rattle.journal_air.specs.RightAir.{Ttis, HasItsTtis}
+use Rattle.promises.specs.RightAir.{Ttis, HasItsTtis}
 use Rattle.journal_air.proofs.Tellings.{heard_append, AllAir}
 use Rattle.journal_air.proofs.Steps.{AllZero, Chunk, front, chunks}
 use Rattle.journal_air.proofs.Steps.{is_inside, joined, AllInside, AreInside}

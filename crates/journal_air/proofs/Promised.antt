@@ -14,7 +14,7 @@ use Rattle.promises.specs.Parts.{Part, Submits, Passes, Drains, Rests, part_of_l
 use Rattle.promises.specs.Records.{is_of_air}
 use Rattle.journal_air.specs.declared.granted.Granted.{Granted}
 use Rattle.journal_air.specs.Checking.{granted_often}
-use Rattle.journal_air.specs.RightAir.{is_of_time, HasItsTtis, GroupIsRight, AirIsRight}
+use Rattle.promises.specs.RightAir.{is_of_time, HasItsTtis, GroupIsRight, AirIsRight}
 use Rattle.journal_air.specs.Laws.{HasCount, FliesAsPromised}
 use Rattle.journal_air.specs.Laws.{AllFly}
 use Rattle.journal_air.proofs.Tellings.{AllAir}

@@ -16,7 +16,7 @@ use Rattle.journal_air.specs.Ends.{BothEnds}
 use Rattle.journal_air.specs.Checking.{Running, Checking, after_tti_by, after_tti}
 use Rattle.journal_air.specs.Checking.{tti_begun, told_more_by, told_more, after_record, after_records, is_met}
 use Rattle.journal_air.specs.Checking.{after_group}
-use Rattle.journal_air.specs.RightAir.{is_of_time, BeginsAtZero}
+use Rattle.promises.specs.RightAir.{is_of_time, BeginsAtZero}
 use Rattle.journal_air.proofs.Tellings.{told_with, told_all, AllAir}
 
 -- ---- other records count for nothing

@@ -28,7 +28,7 @@ use Rattle.journal_air.specs.Told.{way_records, records_of_tti}
 use Rattle.journal_air.specs.Ends.{BothEnds, after_down, is_down_right, after_up, is_up_right, order_seen}
 use Rattle.journal_air.specs.Checking.{Checking, after_tti, with_tti, after_records}
 use Rattle.journal_air.specs.Checking.{is_tti_right}
-use Rattle.journal_air.specs.RightAir.{BeginsAtZero}
+use Rattle.promises.specs.RightAir.{BeginsAtZero}
 use Rattle.journal_air.proofs.Senders.{Sends, right_is}
 use Rattle.journal_air.proofs.Receivers.{heard_right, hears_same, Asks}
 use Rattle.journal_air.proofs.Visits.{flight_of, with_flight, zero_version}

@@ -1,15 +1,13 @@
 -- What the checker's verdict says of a journal, and what follows in the words of the promises
 -- (TS 36.321 5.3.2, 5.4.2; docs/formats/JOURNAL.md).
-use Rattle.std.specs.Prelude.{ℕ, List, [], ◌∷◌, ◌≡◌, ◌≤◌, IsTrue, ◌↔◌}
+use Rattle.std.specs.Prelude.{ℕ, List, [], ◌∷◌, ◌≡◌, IsTrue, ◌↔◌}
 use Rattle.std.specs.List.{filter}
 use Rattle.air_text.specs.Groups.{Group}
 use Rattle.promises.specs.Parts.{Part, Submits, Passes, Drains, Rests, part_of_line}
-use Rattle.promises.specs.Air.{ttis, is_tti, numbered, AreFlown, IsOfItsTime}
+use Rattle.promises.specs.Air.{ttis, is_tti, numbered, AreFlown}
 use Rattle.promises.specs.Carried.{AreCarried}
-use Rattle.promises.specs.Heard.{visits}
-use Rattle.promises.specs.Telling.{LinesTell}
+use Rattle.promises.specs.RightAir.{AirIsRight}
 use Rattle.journal_air.specs.Checking.{all_checked}
-use Rattle.journal_air.specs.RightAir.{AirIsRight}
 
 -- the checker's verdict is exactly that
 abbrev pub VerdictIsExact : Type 0
@@ -36,20 +34,3 @@ AllFly (g ∷ past) = FliesAsPromised g past × AllFly past
 
 abbrev pub RightAirIsAsPromised : Type 0
 RightAirIsAsPromised = (past : List Group) → AirIsRight past → AllFly past × AreCarried past
-
--- ---- a journal of ours: its groups are of their time, their records stand in their order, and its
--- blocks are those of HARQ
-
-abbrev pub AllInTime : List Group → Type 0
-AllInTime [] = Unit {0}
-AllInTime (g ∷ past) =
-    IsOfItsTime (ttis past) (part_of_line g.line) g.events × AllInTime past
-
--- a block has a visit at least
-abbrev pub HaveVisits : List Group → Type 0
-HaveVisits [] = Unit {0}
-HaveVisits (g ∷ past) = (1 ≤ visits (g ∷ past)) × HaveVisits past
-
-abbrev pub PromisedAirIsRight : Type 0
-PromisedAirIsRight = (past : List Group) → AllInTime past → LinesTell past → AreCarried past
-    → HaveVisits past → AirIsRight past

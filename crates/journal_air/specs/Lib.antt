@@ -1,5 +1,4 @@
 pub mod Told
 pub mod Ends
 pub mod Checking
-pub mod RightAir
 pub mod Laws

@@ -1,6 +1,5 @@
 //! What the checker says of a journal. A law is the contract of a function that does nothing.
 ghost use Rattle.journal_air.specs.Laws.{VerdictIsExact, RightAirIsAsPromised};
-ghost use Rattle.journal_air.specs.Laws.{PromisedAirIsRight};
 
 /// Behind the groups of any journal the verdict is true exactly where what they tell of the air is
 /// right: their TTIs stand as their lines have it, and what flies in them is as grants, outcomes
@@ -14,10 +13,4 @@ pub fn verdict_is_exact()
 /// does what HARQ has it do.
 pub fn right_air_is_as_promised()
     ensures { RightAirIsAsPromised }
-{}
-
-/// And the air of every journal of ours is right: of one whose groups are of their time, whose
-/// records stand in their order, and whose blocks are those of HARQ, as is promised of them.
-pub fn promised_air_is_right()
-    ensures { PromisedAirIsRight }
 {}

@@ -10,13 +10,13 @@ use Rattle.air_text.specs.Groups.{Group}
 use Rattle.pdu_show.specs.declared.kinds.Layout.{Layout}
 use Rattle.promises.specs.Blocks.{kinds, kinds_by}
 use Rattle.promises.specs.Names.{SentPdu}
-use Rattle.journal_form.specs.RightForm.{HasForm, FormIsRight, is_built}
+use Rattle.promises.specs.RightForm.{HasForm, FormIsRight, is_built}
 use Rattle.journal_form.specs.Checking.{Checking, Building, Showing, ends, goes_on, after_line, all_checked}
 use Rattle.journal_form.specs.Checking.{is_right}
 use Rattle.journal_form.proofs.Units.{all_kinds, all_down, all_up, all_told, Form, named}
 use Rattle.journal_form.proofs.Units.{sound as built_sound, complete as built_complete, was_right as was_built}
 use Rattle.journal_form.proofs.Shows.{all_showing, all_shown_to, Stood}
-use Rattle.journal_form.proofs.ShownBlocks.{AllShown}
+use Rattle.promises.proofs.ShownBlocks.{AllShown}
 use Rattle.journal_form.proofs.Shows.{sound as shown_sound, complete as shown_complete, was_right as was_shown}
 
 -- between groups nothing is left, and the bearers are those of the lines

@@ -2,9 +2,6 @@ pub mod Lists
 pub mod SameRecords
 pub mod NamedPdus
 pub mod NewBlocks
-pub mod ShownBlocks
 pub mod Units
 pub mod Shows
 pub mod Exact
-pub mod Standing
-pub mod Ours

@@ -28,7 +28,7 @@ use Rattle.pdu_show.specs.declared.kinds.Layout.{Layout}
 use Rattle.pdu_show.specs.declared.kinds.Layout.TheVariants as layouts
 use Rattle.promises.specs.Names.{SentPdu, IsData, IsReport, IsSignalling, IsPdcp, IsUmd, IsAmd, IsStatus, IsNamed}
 use Rattle.promises.specs.Names.{AreNamed, whole_sdus}
-use Rattle.journal_form.specs.RightForm.{known_mode, mode_of}
+use Rattle.promises.specs.RightForm.{known_mode, mode_of}
 use Rattle.journal_form.specs.Tests.{is_bitmap, is_user, is_user_by, is_signalling, is_signalling_by, is_pdcp, are_pdcp}
 use Rattle.journal_form.specs.Tests.{is_umd, is_umd_by, is_amd, is_amd_by, is_amd_written, is_control_by}
 use Rattle.journal_form.specs.Tests.{is_status, is_named, is_next, are_named, same_bit}

@@ -14,7 +14,7 @@ use Rattle.mac_pdu.specs.Reading.{reading}
 use Rattle.mac_pdu.specs.Writing.{Parts, items_of, writing, canonical, padded, headers, inner}
 use Rattle.pdu_show.specs.declared.kinds.Layout.{Layout}
 use Rattle.promises.specs.Names.{SentPdu, AreNamed}
-use Rattle.journal_form.specs.RightForm.{Carries, sdus_in, unpadded, mode_of}
+use Rattle.promises.specs.RightForm.{Carries, sdus_in, unpadded, mode_of}
 use Rattle.journal_form.specs.Parts.{controls_of, with_sdu, with_sdus, parts_of, is_written}
 use Rattle.journal_form.specs.Tests.{is_canonical_by, names_by, are_named, carries}
 use Rattle.journal_form.proofs.NamedPdus.{all_named, named_all, some_octets}

@@ -15,12 +15,12 @@ use Rattle.air_record.specs.declared.record.Record.TheVariants as records
 use Rattle.pdu_show.specs.declared.kinds.Layout.{Layout}
 use Rattle.pdu_show.specs.Show.{block_shown}
 use Rattle.promises.specs.Records.{is_shown}
-use Rattle.journal_form.specs.RightForm.{is_unshown, with_shown}
+use Rattle.promises.specs.RightForm.{is_unshown, with_shown}
 use Rattle.journal_form.specs.SameRecords.{same_shown}
 use Rattle.journal_form.specs.Checking.{Showing, Checking, goes_on, awaits, shows, shows_by, none_awaited}
 use Rattle.journal_form.specs.Checking.{after_record, checked}
 use Rattle.journal_form.proofs.SameRecords.{shown_is, shown_same}
-use Rattle.journal_form.proofs.ShownBlocks.{AllShown, block_shows}
+use Rattle.promises.proofs.ShownBlocks.{AllShown, block_shows}
 use Rattle.journal_form.proofs.Units.{kinds_stay}
 
 no : {A : Type 0} → false ≡ true → A

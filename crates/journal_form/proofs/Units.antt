@@ -18,7 +18,7 @@ use Rattle.air_record.specs.declared.record.Record.TheVariants as records
 use Rattle.pdu_show.specs.declared.kinds.Layout.{Layout}
 use Rattle.law_words.specs.Sequences.{many, joined}
 use Rattle.promises.specs.Names.{SentPdu}
-use Rattle.journal_form.specs.RightForm.{is_built, send_record, IsBuilt}
+use Rattle.promises.specs.RightForm.{is_built, send_record, IsBuilt}
 use Rattle.journal_form.specs.Tests.{carries}
 use Rattle.journal_form.specs.Checking.{Building, Checking, sends, builds, ends, none_sent, after_record, checked}
 use Rattle.journal_form.proofs.NewBlocks.{carries_is, carries_back}

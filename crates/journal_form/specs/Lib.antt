@@ -1,5 +1,4 @@
 pub mod Lines
-pub mod RightForm
 pub mod Parts
 pub mod Tests
 pub mod SameRecords

@@ -8,7 +8,7 @@ use Rattle.mac_pdu.specs.declared.builder.Sdu.{Sdu}
 use Rattle.mac_pdu.specs.declared.item.Direction.{Direction}
 use Rattle.mac_pdu.specs.Items.{MacItem, element, sdu, IsControl}
 use Rattle.mac_pdu.specs.Writing.{Parts, items_of, writing, canonical}
-use Rattle.journal_form.specs.RightForm.{controls_in, sdus_in}
+use Rattle.promises.specs.RightForm.{controls_in, sdus_in}
 
 -- what may stand in a block
 abbrev pub IsRight : Direction → MacItem → Type 0

@@ -26,7 +26,7 @@ use Rattle.pdcp_pdu.specs.Reading.{user_at, srb_at}
 use Rattle.pdu_show.specs.declared.kinds.Layout.{Layout}
 use Rattle.pdu_show.specs.declared.kinds.Layout.TheVariants as layouts
 use Rattle.promises.specs.Names.{SentPdu, whole_sdus}
-use Rattle.journal_form.specs.RightForm.{sdus_in}
+use Rattle.promises.specs.RightForm.{sdus_in}
 use Rattle.journal_form.specs.Parts.{parts_of, is_written}
 
 -- ---- SDUs of RLC

@@ -3,7 +3,7 @@ ghost use Rattle.std.specs.Prelude.{◌≡◌, ◌<◌, ◌≤◌, [], length, O
 ghost use Rattle.l2_bits.specs.declared.limits.TheConstants.{OCTETS_LIMIT};
 ghost use Rattle.mac_pdu.specs.Items.{IsControl};
 ghost use Rattle.mac_pdu.specs.Writing.{with_control};
-ghost use Rattle.journal_form.specs.RightForm.{sdus_in};
+ghost use Rattle.promises.specs.RightForm.{sdus_in};
 ghost use Rattle.journal_form.specs.Tests.{are_named, carries, is_canonical, is_next, names_by};
 ghost use Rattle.journal_form.specs.Parts.{AreRight, controls_of, with_sdu, with_sdus, is_written};
 ghost use Rattle.mac_pdu.specs.Reading.{reading};

@@ -13,6 +13,8 @@ use Rattle.law_run.proofs.Looping.{return_in_order}
 use Rattle.law_run.proofs.Past.{behind, are_carried}
 use Rattle.law_run.proofs.Playing.{tells-all}
 use Rattle.law_run.proofs.Queueing.{queues_are_short}
+use Rattle.law_run.proofs.RightAir.{air_is_right}
+use Rattle.law_run.proofs.RightForm.{form_is_right}
 use Rattle.law_run.proofs.Reaching.{come_by_calls}
 use Rattle.law_run.proofs.Meeting.{none_meet}
 use Rattle.law_run.proofs.Silent.{failed_are_silent}
@@ -34,6 +36,8 @@ every-journal whole octets =
       in_turn = (behind t.later t.order).in_turn;
       sleeps = sleeps_behind_drx t.later t.order;
       carried = are_carried t.later t.order;
+      air = air_is_right t.later t.order (lines_tell t.later t.order) (are_carried t.later t.order);
+      form = form_is_right t.later t.order (lines_tell t.later t.order);
       keys = (keys_behind t.later t.order).distinct;
       counts = counts_behind t.later t.order;
       texts = none_meet t.later t.order;

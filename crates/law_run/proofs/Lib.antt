@@ -45,6 +45,9 @@ pub mod Taking
 pub mod Queueing
 pub mod Losses
 pub mod Silent
+pub mod RightAir
+pub mod ShownAtOnce
+pub mod RightForm
 pub mod Everything
 pub mod DrainFlows
 pub mod DrainLinks

@@ -19,6 +19,8 @@ use Rattle.promises.specs.Limits.{QueuesAreShort}
 use Rattle.promises.specs.Loops.{ReturnInOrder}
 use Rattle.law_run.specs.Losses.{DeliversWhileShort}
 use Rattle.law_run.specs.Order.{KeepsOrder}
+use Rattle.promises.specs.RightAir.{AirIsRight}
+use Rattle.promises.specs.RightForm.{FormIsRight}
 use Rattle.promises.specs.Sequence.{HandUpInSequence}
 use Rattle.promises.specs.Signalling.{DeliversEachLife, DrainsLeaveNoSignal, HandoversBringNoSignal}
 use Rattle.law_run.specs.Script.{lines_of, accepted_lines}
@@ -44,6 +46,10 @@ pub record IsPromised (whole : Bool) (octets : List ℕ) (played : RunPlayed) : 
   pub sleeps : SleepsBehindDrx past
   -- its blocks are those of HARQ's processes, in every life
   pub carried : AreCarried past
+  -- so what is told of the air is right, as a checker of any journal asks it
+  pub air : AirIsRight past
+  -- its new blocks have right form, as one asks it too
+  pub form : FormIsRight past
   -- no key is given twice
   pub keys : AreDistinct (all_keys past)
   -- and from one handover to the next the COUNTs ascend that a side takes on a channel

@@ -31,3 +31,5 @@ pub mod Arrival
 pub mod Takes
 pub mod Limits
 pub mod HalfWindow
+pub mod RightAir
+pub mod RightForm

@@ -1,5 +1,5 @@
 use Rattle.std.proofs.Common.{◌≡◌, length}
-use Rattle.journal_form.specs.RightForm.{sdus_in}
+use Rattle.promises.specs.RightForm.{sdus_in}
 use Rattle.journal_form.specs.Tests.{are_named}
 use Rattle.journal_form.proofs.block.are_named.Given as goal
 

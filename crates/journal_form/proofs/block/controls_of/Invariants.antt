@@ -1,6 +1,6 @@
 use Rattle.std.proofs.Common.{◌≡◌, [], ◌++◌, length}
 use Rattle.journal_form.specs.Parts.{AreRight}
-use Rattle.journal_form.specs.RightForm.{controls_in}
+use Rattle.promises.specs.RightForm.{controls_in}
 use Rattle.journal_form.proofs.block.controls_of.Given as goal
 
 abbrev pub invariant-loop-item : goal.invariant-loop-item

@@ -1,6 +1,6 @@
 use Rattle.std.proofs.Common.{◌≡◌, length}
 use Rattle.journal_form.specs.Parts.{AreRight, with_sdus}
-use Rattle.journal_form.specs.RightForm.{sdus_in}
+use Rattle.promises.specs.RightForm.{sdus_in}
 use Rattle.journal_form.proofs.block.with_sdus.Given as goal
 
 abbrev pub invariant-loop-item : goal.invariant-loop-item

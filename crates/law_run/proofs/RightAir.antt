@@ -1,4 +1,4 @@
--- What is promised of every journal makes its air right.
+-- What every journal tells of the air is right.
 use Rattle.std.proofs.Common.{◌≡◌, ◌≤◌, ℕ, zero, suc, ◌+◌, Bool, true, false, Option, Some, None, List, [], ◌∷◌}
 use Rattle.std.proofs.Common.{◌++◌, length, map, ◌⊎◌, inl, inr, refl, ap, sym, subst, ◌∙◌, arith, length-append}
 use Rattle.std.proofs.Common.{append-nil}
@@ -15,6 +15,7 @@ use Rattle.air_record.specs.declared.record.Record.{Record}
 use Rattle.air_record.specs.declared.record.Record.TheVariants as records
 use Rattle.air_record.specs.Outcomes.{missed, intact}
 use Rattle.air_text.specs.Groups.{Group}
+use Rattle.air_text.specs.Ranges.{IsInRange}
 use Rattle.bearer_types.specs.declared.event.Event.{Event}
 use Rattle.bearer_types.specs.Lcids.{all_lcids}
 use Rattle.bearer_types.specs.Sides.{sent_by, other}
@@ -28,6 +29,7 @@ use Rattle.pdu_show.specs.declared.kinds.Layout.{Layout}
 use Rattle.promises.specs.Air.{is_tti, ttis, MayFly, FliesIntact, InTurn, AreFlown}
 use Rattle.promises.specs.Carried.{AreCarried}
 use Rattle.promises.specs.Flights.{FliesUp, IsUnanswered}
+use Rattle.promises.specs.Heard.{visits_by, visits}
 use Rattle.promises.specs.Order.{Channels, EndTells, LoopTells, IsNew, IsAgain, GoesOut, IsHeard, PassesOver}
 use Rattle.promises.specs.Order.{Misses, MayPassOver, BothPassOver, TtiTells, DrainTtiTells, ExpiryTells, TimerTells}
 use Rattle.promises.specs.Order.{ReceiverTells, ReceiversTell, SenderTells}
@@ -36,12 +38,19 @@ use Rattle.promises.specs.Parts.{Part, Submits, Passes, Drains, Rests, part_of_l
 use Rattle.promises.specs.Blocks.{kinds}
 use Rattle.promises.specs.Records.{is_of_air}
 use Rattle.promises.specs.Telling.{SendersTellUnless, RoundTells, DrainTells, LineTells, LinesTell, channels}
-use Rattle.journal_air.specs.RightAir.{is_of_time, HasItsTtis, AirIsRight}
-use Rattle.journal_air.specs.Laws.{AllInTime, HaveVisits}
-use Rattle.journal_air.proofs.Steps.{AllZero}
-use Rattle.journal_air.proofs.Ttis.{zero_append}
-use Rattle.journal_air.proofs.Lines.{Drained}
-use Rattle.journal_air.proofs.Showing.{AllShown, block_shows}
+use Rattle.promises.specs.RightAir.{is_of_time, Ttis, HasItsTtis, BeginsAtZero, AirIsRight}
+use Rattle.promises.proofs.ShownBlocks.{AllShown, block_shows}
+use Rattle.law_run.specs.Order.{KeepsOrder}
+
+abbrev AllZero : List Record → Type 0
+AllZero told = AllByRecursion BeginsAtZero told
+
+zero_append : (a b : List Record) → AllZero a → AllZero b → AllZero (a ++ b)
+zero_append [] b p q = q
+zero_append (one ∷ a) b p q = (p.0, zero_append a b p.1 q)
+
+abbrev Drained : ℕ → ℕ → List Record → Type 0
+Drained grant n told = Ttis (FliesIntact n grant) n told
 
 -- ---- records that begin no TTI and no line, with so many of the air at most
 
@@ -549,11 +558,27 @@ line_right (lines.LoopB delay) t kinds c events h flown =
     rest_line 0 t Rests events (loop_fits events h) flown (λ e. e)
 line_right line t kinds c events h flown = rest_line 0 t Rests events (nothing_fits 0 events h) flown (λ e. e)
 
-pub promised_right : (past : List Group) → AllInTime past → LinesTell past → AreCarried past → HaveVisits past
-    → AirIsRight past
-promised_right [] time order carried visits = tt
-promised_right (g ∷ past) time order carried visits =
-    let l = line_right g.line (ttis past) (kinds past) (λ side. channels past) g.events order.0 time.0.flown in (
-      record { has_visits = visits.0; ttis_are = l.ttis_are; first_is = l.zero_is; is_carried = carried.0 },
-      promised_right past time.1 order.1 carried.1 visits.1,
+-- ---- a block has a visit at least
+
+visits_by_line : (line : Line) (before : ℕ) → IsInRange line → 1 ≤ before → 1 ≤ visits_by line before
+visits_by_line (lines.Harq visits) before fits some = fits.some
+visits_by_line line before fits some = some
+
+some_visits : (past : List Group) → KeepsOrder past → 1 ≤ visits past
+some_visits [] order = omega arith
+some_visits (g ∷ past) order =
+    visits_by_line g.line (visits past) order.0.in_range (some_visits past order.1)
+
+pub air_is_right : (past : List Group) → KeepsOrder past → LinesTell past → AreCarried past → AirIsRight past
+air_is_right [] order tells carried = tt
+air_is_right (g ∷ past) order tells carried =
+    let l = line_right g.line (ttis past) (kinds past) (λ side. channels past) g.events tells.0
+    order.0.of_its_time.flown in (
+      record {
+        has_visits = some_visits (g ∷ past) order;
+        ttis_are = l.ttis_are;
+        first_is = l.zero_is;
+        is_carried = carried.0;
+      },
+      air_is_right past order.1 tells.1 carried.1,
     )

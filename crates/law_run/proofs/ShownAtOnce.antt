@@ -1,4 +1,4 @@
--- In a journal of ours the records that show a new block stand behind it at once.
+-- The records that show a new block stand behind it at once.
 use Rattle.std.proofs.Common.{◌≡◌, ℕ, zero, suc, ◌+◌, Bool, true, false, inl, inr, List, [], ◌∷◌, ◌++◌, map, Option}
 use Rattle.std.proofs.Common.{Some, None, refl, ap, sym, ◌∙◌, subst, append-nil}
 use Rattle.std.specs.List.{filter, flat_map, list_any}
@@ -29,9 +29,11 @@ use Rattle.promises.specs.Order.{PassesOver, Misses, MayPassOver, BothPassOver, 
 use Rattle.promises.specs.Order.{TimerTells, ReceiverTells, ReceiversTell, SenderTells, SendersTell, ForgeTells}
 use Rattle.promises.specs.Order.{HandoverTells, IsRefused, of_building, of_hearing, of_timers, of_leaving}
 use Rattle.promises.specs.Telling.{LineTells, SendersTellUnless, RoundTells, DrainTells}
-use Rattle.journal_form.specs.RightForm.{is_unshown, with_shown}
-use Rattle.journal_form.proofs.ShownBlocks.{AllShown, block_shows}
-use Rattle.journal_form.proofs.Shows.{Stood}
+use Rattle.promises.specs.RightForm.{is_unshown, with_shown}
+use Rattle.promises.proofs.ShownBlocks.{AllShown, block_shows}
+
+abbrev Stood : List (Option Layout) → List Record → List Record
+Stood kinds told = flat_map (with_shown kinds) (filter is_unshown told)
 
 abbrev pub Stands : List (Option Layout) → List Record → Type 0
 Stands kinds told = told ≡ Stood kinds told

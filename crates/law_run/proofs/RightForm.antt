@@ -1,4 +1,4 @@
--- Every journal of ours has right form.
+-- The new blocks of every journal have right form.
 use Rattle.std.proofs.Common.{◌≡◌, ℕ, zero, suc, ◌+◌, ◌%◌, Bool, true, false, ◌⊎◌, inl, inr, List, [], ◌∷◌}
 use Rattle.std.proofs.Common.{◌++◌, length, map, replicate, Option, Some, None, refl, ap, sym, ◌∙◌, subst, append-nil}
 use Rattle.std.proofs.Common.{append_assoc}
@@ -25,7 +25,7 @@ use Rattle.air_record.specs.declared.record.Record.TheVariants as records
 use Rattle.air_text.specs.Groups.{Group}
 use Rattle.pdu_show.specs.declared.kinds.Layout.{Layout}
 use Rattle.pdu_show.specs.Show.{block_shown}
-use Rattle.law_words.specs.Sequences.{joined}
+use Rattle.law_words.specs.Sequences.{joined, many}
 use Rattle.promises.specs.Air.{is_tti, ttis, InTurn}
 use Rattle.promises.specs.Blocks.{kinds, kinds_by, MayShow, MayBuildBoth, AreTold}
 use Rattle.promises.specs.Built.{reported, block_told, IsTold}
@@ -35,12 +35,17 @@ use Rattle.promises.specs.Parts.{Part, Submits, Passes, Drains, Rests, part_of_l
 use Rattle.promises.specs.Records.{is_of_building, is_shown}
 use Rattle.promises.specs.Shown.{IsKnownAs, AreKnown}
 use Rattle.promises.specs.Telling.{LineTells, LinesTell, channels}
-use Rattle.journal_form.specs.Laws.{AllTold}
-use Rattle.journal_form.specs.RightForm.{controls_in, sdus_in, unpadded, known_mode, mode_of, Carries, is_built}
-use Rattle.journal_form.specs.RightForm.{IsBuilt, HasForm, FormIsRight}
-use Rattle.journal_form.proofs.ShownBlocks.{AllShown, block_shows}
-use Rattle.journal_form.proofs.Standing.{line_stands}
-use Rattle.journal_form.proofs.Units.{Form, named}
+use Rattle.promises.specs.RightForm.{controls_in, sdus_in, unpadded, known_mode, mode_of, Carries, is_built}
+use Rattle.promises.specs.RightForm.{send_record, IsBuilt, HasForm, FormIsRight}
+use Rattle.promises.proofs.ShownBlocks.{AllShown, block_shows}
+use Rattle.law_run.specs.Order.{KeepsOrder}
+use Rattle.law_run.proofs.ShownAtOnce.{line_stands}
+
+abbrev Form : Side → List (Option Layout) → List Record → Type 0
+Form side kinds told = many (IsBuilt side kinds) told
+
+abbrev named : Side → List SentPdu → List Record
+named side sent = map (send_record side) sent
 
 -- ---- the items of a block
 
@@ -346,15 +351,15 @@ same_or_none : (line : Line) (t : ℕ) (kinds : List (Option Layout)) (c : Side 
 same_or_none (lines.Bearer config options) t kinds c events h = inr h
 same_or_none line t kinds c events h = inl refl
 
-pub promised_right : (past : List Group) → LinesTell past → AllTold past → FormIsRight past
-promised_right [] l a = tt
-promised_right (g ∷ past) l a = (
-  by (same_or_none g.line (ttis past) (kinds past) (λ side. channels past) g.events l.0),
-  promised_right past l.1 a.1,
+pub form_is_right : (past : List Group) → KeepsOrder past → LinesTell past → FormIsRight past
+form_is_right [] order tells = tt
+form_is_right (g ∷ past) order tells = (
+  by (same_or_none g.line (ttis past) (kinds past) (λ side. channels past) g.events tells.0),
+  form_is_right past order.1 tells.1,
 )
   where
     by : (kinds past ≡ kinds_by g.line (kinds past)) ⊎ (g.events ≡ []) → HasForm (kinds (g ∷ past)) g.events
     by (inl e) =
         subst (λ (k : List (Option Layout)). HasForm k g.events) e
-        (group_form g.line (ttis past) (kinds past) (λ side. channels past) g.events l.0 a.0)
+        (group_form g.line (ttis past) (kinds past) (λ side. channels past) g.events tells.0 order.0.blocks)
     by (inr e) = no_events (kinds (g ∷ past)) g.events e
