@@ -44,7 +44,7 @@ use Rattle.law_air.specs.DrainTtis.{grown}
 use Rattle.law_air.specs.DrainShares.{WritesNone}
 use Rattle.law_air.proofs.AnyCalls.Adding.{any_then}
 use Rattle.law_air.proofs.AnyCalls.Going.{goes_then, loops_rests, grown_rests}
-use Rattle.law_air.proofs.AnyCalls.Showing.{AllShown, block_shows}
+use Rattle.promises.proofs.ShownBlocks.{AllShown, block_shows}
 use Rattle.law_air.proofs.AnyCalls.Visiting.{downlink_goes, uplink_sees}
 use Rattle.law_air.proofs.DrainTtis.Clearing.{ordered}
 use Rattle.law_air.proofs.DrainTtis.Hearing.{after_down, up_ndi}

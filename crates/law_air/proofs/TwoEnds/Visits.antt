@@ -28,7 +28,8 @@ use Rattle.law_air.proofs.AnyCalls.Blocks.{block_is}
 use Rattle.law_air.proofs.AnyCalls.Going.{own_told, other_told, told_both}
 use Rattle.law_air.proofs.AnyCalls.Returning.{IsSilent}
 use Rattle.law_air.proofs.AnyCalls.Blocks.{block_is}
-use Rattle.law_air.proofs.AnyCalls.Showing.{shown_untold, block_is_silent, AllShown, block_shows}
+use Rattle.promises.proofs.ShownBlocks.{AllShown, block_shows}
+use Rattle.law_air.proofs.AnyCalls.Showing.{shown_untold, block_is_silent}
 use Rattle.law_air.proofs.AnyCalls.Visiting.{sent, visit_records}
 use Rattle.law_deliver.specs.AmFlow.Air.{HasCome, Block, Station, built_at}
 use Rattle.promises.specs.Flows.{loops_in}
