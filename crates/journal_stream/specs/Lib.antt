@@ -1,0 +1,3 @@
+pub mod OctetEvents
+pub mod SentOctets
+pub mod Laws
