@@ -1,62 +1,79 @@
 //! Reads short journals, and prints what the reader of journals answers to each, and what the
-//! checker of their form.
+//! checkers of their air and of their form.
 //!
 //! Each line of the input is a journal, with `|` between its lines, and is printed behind the
 //! answer. A line that begins with `#` says what the lines behind it are about.
 #![tactic(auto)]
 
-use air_record::Record;
+use air_record::{Line, Record};
+use journal_air::AirChecker;
 use journal_check::{CheckFault, JournalReader};
 use journal_form::{FormChecker, has_layout};
 use l2_bits::NoMemory;
 use std::alloc::Global;
 use std::io;
 
-/// Why a journal isn't right, if it isn't.
-enum Wrong {
-    /// It isn't read to its end.
-    Read(CheckFault),
-    /// Its new blocks haven't right form.
-    Form,
+/// The checkers of what a journal's records tell.
+struct Checkers {
+    air: AirChecker,
+    form: FormChecker,
 }
 
-/// Lets a checker see a record.
-fn see(form: &mut FormChecker, one: &Record) -> Result<(), NoMemory> {
-    match one {
-        Record::Line { line, .. } => {
-            form.end_line();
-            let line = line.as_line();
-            if has_layout(line) {
-                form.begin_line(line);
+impl Checkers {
+    fn new(alloc: Global) -> Checkers {
+        Checkers {
+            air: AirChecker::new(alloc),
+            form: FormChecker::new(alloc),
+        }
+    }
+
+    fn begin_line(&mut self, line: &Line) {
+        self.end_line();
+        self.air.begin_line(line);
+        if has_layout(line) {
+            self.form.begin_line(line);
+        }
+    }
+
+    fn end_line(&mut self) {
+        self.air.end_line();
+        self.form.end_line();
+    }
+
+    fn see(&mut self, one: &Record) -> Result<(), NoMemory> {
+        match one {
+            Record::Line { line, .. } => self.begin_line(line.as_line()),
+            Record::Sum { .. } => self.end_line(),
+            _ => {
+                self.air.see(one)?;
+                self.form.see(one)?;
             }
-            Ok(())
         }
-        Record::Sum { .. } => {
-            form.end_line();
-            Ok(())
+        Ok(())
+    }
+
+    /// What isn't right, in the words of the checker.
+    fn words(&self) -> &'static str {
+        match (self.air.is_right(), self.form.is_right()) {
+            (true, true) => "right",
+            (false, true) => "carried",
+            (true, false) => "form",
+            (false, false) => "carried form",
         }
-        _ => form.see(one),
     }
 }
 
-fn judge(alloc: Global, journal: &str) -> Option<Wrong> {
+fn judge(alloc: Global, journal: &str) -> Result<&'static str, CheckFault> {
     let mut reader = JournalReader::new(alloc);
-    let mut form = FormChecker::new(alloc);
+    let mut checkers = Checkers::new(alloc);
     for text in journal.split('|') {
-        let one = match reader.feed(text.as_bytes()) {
-            Ok(one) => one,
-            Err(fault) => return Some(Wrong::Read(fault)),
-        };
-        if see(&mut form, &one).is_err() {
-            return Some(Wrong::Read(CheckFault::NoMemory));
+        let one = reader.feed(text.as_bytes())?;
+        if checkers.see(&one).is_err() {
+            return Err(CheckFault::NoMemory);
         }
     }
-    form.end_line();
-    if form.is_right() {
-        None
-    } else {
-        Some(Wrong::Form)
-    }
+    checkers.end_line();
+    Ok(checkers.words())
 }
 
 fn main(rt: HostRuntime) -> io::Result<()> {
@@ -68,12 +85,9 @@ fn main(rt: HostRuntime) -> io::Result<()> {
             continue;
         }
         match judge(alloc, &line) {
-            None => println!(rt; "right: {line}")?,
-            Some(Wrong::Form) => println!(rt; "form: {line}")?,
-            Some(Wrong::Read(CheckFault::Refused { at, why })) => {
-                println!(rt; "record {at}: {why}: {line}")?
-            }
-            Some(Wrong::Read(CheckFault::NoMemory)) => println!(rt; "no memory: {line}")?,
+            Ok(words) => println!(rt; "{words}: {line}")?,
+            Err(CheckFault::Refused { at, why }) => println!(rt; "record {at}: {why}: {line}")?,
+            Err(CheckFault::NoMemory) => println!(rt; "no memory: {line}")?,
         }
     }
     Ok(())
