@@ -14,6 +14,7 @@ use std::alloc::Global;
 use std::io;
 
 /// The checkers of what a journal's records tell.
+#[derive(Drop)]
 struct Checkers {
     air: AirChecker,
     form: FormChecker,
