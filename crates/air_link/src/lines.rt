@@ -8,9 +8,8 @@ ghost use Rattle.l2_node.specs.Finding.{has};
 ghost use Rattle.air_link.specs.Link.{end_of};
 ghost use Rattle.air_link.specs.Lines.{hands_in, expires_alone, bears, discards, visits, reports};
 ghost use Rattle.air_link.specs.Lines.{listens, no_place, submits_by, submitting, expires_by};
-ghost use Rattle.air_link.specs.Lines.{expiring, expires, forges, unfailed, begins_life, moved};
-ghost use Rattle.air_link.specs.Lines.{moves, hands_over};
-ghost use Rattle.l2_node.specs.Moving.{leaving};
+ghost use Rattle.air_link.specs.Lines.{expiring, expires, forges, unfailed, begins_life};
+ghost use Rattle.air_link.specs.Lines.{hands_over};
 ghost use Rattle.l2_bits.specs.declared.limits.TheConstants.{OCTETS_LIMIT};
 
 use crate::link::Link;
@@ -19,10 +18,7 @@ use bearer::{BearerConfig, Clock, Events, Side};
 use drx::Drx;
 use eps_sec::Keys;
 use l2_bits::{NoMemory, SubmitRefusal};
-use l2_node::{Attached, Node};
 use l2_types::DrxConfig;
-use std::alloc::Global;
-use std::mem;
 
 impl Link {
     /// Sets the most visits of a block, 1 to 28, before the first one.
@@ -171,8 +167,8 @@ impl Link {
     pub fn hand_over(&mut self, keys: &Keys) -> Result<(), NoMemory>
         ensures { OnOk result (self.new ≡ hands_over keys.now self.old) }
     {
-        let nb_told = move_end(self.alloc, Side::Nb, &mut self.nb, keys)?;
-        let ue_told = move_end(self.alloc, Side::Ue, &mut self.ue, keys)?;
+        let nb_told = self.nb.hand_over(keys)?;
+        let ue_told = self.ue.hand_over(keys)?;
         self.begin_life();
         self.tell_all(Side::Nb, nb_told)?;
         self.tell_all(Side::Ue, ue_told)?;
@@ -189,38 +185,6 @@ impl Link {
         if let Some(drx) = &mut self.drx {
             drx.reset();
         }
-    }
-}
-
-// An end moves to the next cell, where it lies, and what it tells as it leaves.
-fn move_end(
-    alloc: Global,
-    side: Side,
-    node: &mut Node<Attached>,
-    keys: &Keys,
-) -> Result<Events, NoMemory>
-    ensures node { OnOk result (node.new.end ≡ moved node.old.end keys.now) }
-    ensures told { IfOk result (λ events. events ≡ leaving node.old.end) }
-{
-    let (node_moved, events) = moved(mem::replace(node, Node::new(alloc, side, 4, false)), keys)?;
-    *node = node_moved;
-    Ok(events)
-}
-
-// An end leaves its cell and joins the next one, and what it tells as it leaves.
-fn moved(node: Node<Attached>, keys: &Keys) -> Result<(Node<Attached>, Events), NoMemory>
-    ensures node { IfOk result (λ r. r.0.end ≡ moved node.end keys.now) }
-    ensures told { IfOk result (λ r. r.1 ≡ leaving node.end) }
-{
-    match node.leave() {
-        Ok((moving, events)) => match moving.join(keys) {
-            Ok(node) => Ok((node, events)),
-            Err((moving, no_memory)) => {
-                moving.abandon();
-                Err(no_memory)
-            }
-        },
-        Err((_node, no_memory)) => Err(no_memory),
     }
 }
 

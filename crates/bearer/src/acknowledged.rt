@@ -12,5 +12,5 @@ mod stopped;
 mod taking;
 mod timing;
 
-pub use running::AmBearer;
+pub use running::{AmBearer, BoxedAm};
 pub use stopped::StoppedAm;

@@ -4,7 +4,10 @@ ghost use Rattle.std.specs.Prelude.{◌≡◌, ◌≤◌, ◌+◌, ◌<◌, ◌^
 ghost use Rattle.bearer_pdcp.specs.Shares.{FitsShare};
 ghost use Rattle.bearer_pdcp.specs.Submitting.{Answers, StaysOrDies};
 ghost use Rattle.bearer_types.specs.Configs.{IsConfig};
+ghost use Rattle.pdcp_pdu.specs.Kinds.{IsKind};
 ghost use Rattle.bearer.specs.Bearer.{flow_of};
+ghost use Rattle.bearer.specs.Acknowledged.State.{fresh as fresh_am};
+ghost use Rattle.bearer.specs.declared.flow.Flow.TheVariants.{Am};
 ghost use Rattle.bearer.specs.Submitting.{refusal, submitted};
 ghost use Rattle.bearer.specs.Sums.{need, backlog, left, is_drained};
 ghost use Rattle.bearer.specs.Taking.{pdus, number, told, after};
@@ -12,9 +15,9 @@ ghost use Rattle.bearer.specs.Hearing.{arriving, arrived, expiry, expired, ticki
 ghost use Rattle.bearer.specs.Hearing.{with_discard};
 ghost use Rattle.l2_bits.specs.declared.limits.TheConstants.{OCTETS_LIMIT};
 
-use crate::acknowledged::{AmBearer, StoppedAm};
+use crate::acknowledged::{AmBearer, BoxedAm, StoppedAm};
 use crate::transparent::TmBearer;
-use crate::unacknowledged::{StoppedUm, UmBearer};
+use crate::unacknowledged::{BoxedUm, StoppedUm, UmBearer};
 use bearer_pdcp::Written;
 use bearer_types::{BearerConfig, Events};
 use eps_sec::Keys;
@@ -27,8 +30,8 @@ use std::alloc::Global;
 #[derive(Drop)]
 pub enum Flow {
     Tm(TmBearer),
-    Um(UmBearer),
-    Am(AmBearer),
+    Um(BoxedUm),
+    Am(BoxedAm),
 }
 
 /// A bearer between two lives.
@@ -51,13 +54,16 @@ impl Flow {
     {
         match config.kind {
             Kind::Tm => Ok(Flow::Tm(TmBearer::new(alloc))),
-            Kind::Srb => Ok(Flow::Am(AmBearer::new(alloc, config, PdcpKind::Srb, keys, side)?)),
-            Kind::Um => Ok(Flow::Um(UmBearer::new(alloc, config, keys, side)?)),
+            Kind::Srb => new_am(alloc, config, PdcpKind::Srb, keys, side),
+            Kind::Um => {
+                let bearer = UmBearer::new(alloc, config, keys, side)?;
+                Ok(Flow::Um(BoxedUm::new(alloc, bearer)?))
+            }
             Kind::Am => {
                 let kind = PdcpKind::Am {
                     bits: config.pdcp_bits,
                 };
-                Ok(Flow::Am(AmBearer::new(alloc, config, kind, keys, side)?))
+                new_am(alloc, config, kind, keys, side)
             }
         }
     }
@@ -71,8 +77,8 @@ impl Flow {
     {
         match self {
             Flow::Tm(bearer) => bearer.tx.submit(sdu),
-            Flow::Um(bearer) => bearer.submit(sdu),
-            Flow::Am(bearer) => bearer.submit(sdu),
+            Flow::Um(boxed) => boxed.bearer.submit(sdu),
+            Flow::Am(boxed) => boxed.bearer.submit(sdu),
         }
     }
 
@@ -82,8 +88,8 @@ impl Flow {
     {
         match self {
             Flow::Tm(bearer) => bearer.tx.need(grant),
-            Flow::Um(bearer) => bearer.need(held),
-            Flow::Am(bearer) => bearer.need(held),
+            Flow::Um(boxed) => boxed.bearer.need(held),
+            Flow::Am(boxed) => boxed.bearer.need(held),
         }
     }
 
@@ -93,8 +99,8 @@ impl Flow {
     {
         match self {
             Flow::Tm(bearer) => bearer.tx.backlog(),
-            Flow::Um(bearer) => bearer.backlog(),
-            Flow::Am(bearer) => bearer.backlog(),
+            Flow::Um(boxed) => boxed.bearer.backlog(),
+            Flow::Am(boxed) => boxed.bearer.backlog(),
         }
     }
 
@@ -104,8 +110,8 @@ impl Flow {
     {
         match self {
             Flow::Tm(bearer) => bearer.tx.backlog(),
-            Flow::Um(bearer) => bearer.left(),
-            Flow::Am(bearer) => bearer.left(),
+            Flow::Um(boxed) => boxed.bearer.left(),
+            Flow::Am(boxed) => boxed.bearer.left(),
         }
     }
 
@@ -116,7 +122,7 @@ impl Flow {
         match self {
             Flow::Tm(_) => true,
             Flow::Um(_) => true,
-            Flow::Am(bearer) => bearer.drained(),
+            Flow::Am(boxed) => boxed.bearer.drained(),
         }
     }
 
@@ -131,8 +137,8 @@ impl Flow {
     {
         match self {
             Flow::Tm(bearer) => bearer.take(lcid, share),
-            Flow::Um(bearer) => bearer.take(share, held),
-            Flow::Am(bearer) => bearer.take(share, held),
+            Flow::Um(boxed) => boxed.bearer.take(share, held),
+            Flow::Am(boxed) => boxed.bearer.take(share, held),
         }
     }
 
@@ -144,8 +150,8 @@ impl Flow {
     {
         match self {
             Flow::Tm(bearer) => bearer.arrive(lcid, pdu),
-            Flow::Um(bearer) => bearer.arrive(pdu),
-            Flow::Am(bearer) => bearer.arrive(pdu),
+            Flow::Um(boxed) => boxed.bearer.arrive(pdu),
+            Flow::Am(boxed) => boxed.bearer.arrive(pdu),
         }
     }
 
@@ -156,8 +162,8 @@ impl Flow {
     {
         match self {
             Flow::Tm(_) => Ok(None),
-            Flow::Um(bearer) => bearer.expire(clock),
-            Flow::Am(bearer) => bearer.expire(clock),
+            Flow::Um(boxed) => boxed.bearer.expire(clock),
+            Flow::Am(boxed) => boxed.bearer.expire(clock),
         }
     }
 
@@ -168,8 +174,8 @@ impl Flow {
     {
         match self {
             Flow::Tm(_) => Ok(Events::new(alloc)),
-            Flow::Um(bearer) => bearer.tick(),
-            Flow::Am(bearer) => bearer.tick(),
+            Flow::Um(boxed) => boxed.bearer.tick(),
+            Flow::Am(boxed) => boxed.bearer.tick(),
         }
     }
 
@@ -179,8 +185,24 @@ impl Flow {
     {
         match self {
             Flow::Tm(_) => {}
-            Flow::Um(bearer) => bearer.set_discard(ttis),
-            Flow::Am(bearer) => bearer.set_discard(ttis),
+            Flow::Um(boxed) => boxed.bearer.set_discard(ttis),
+            Flow::Am(boxed) => boxed.bearer.set_discard(ttis),
         }
     }
+}
+
+fn new_am(
+    alloc: Global,
+    config: &BearerConfig,
+    kind: PdcpKind,
+    keys: &Keys,
+    side: Side,
+) -> Result<Flow, NoMemory>
+    requires low { 1 ≤ config.now.channel.lcid }
+    requires high { config.now.channel.lcid ≤ 10 }
+    requires kind { IsKind kind }
+    ensures { IfOk result (λ f. f ≡ Am (fresh_am config.now kind keys.now side)) }
+{
+    let bearer = AmBearer::new(alloc, config, kind, keys, side)?;
+    Ok(Flow::Am(BoxedAm::new(alloc, bearer)?))
 }

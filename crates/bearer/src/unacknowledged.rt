@@ -7,5 +7,5 @@ mod feeding;
 mod running;
 mod stopped;
 
-pub use running::UmBearer;
+pub use running::{BoxedUm, UmBearer};
 pub use stopped::StoppedUm;

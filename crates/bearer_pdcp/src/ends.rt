@@ -1,5 +1,6 @@
 ghost use Rattle.std.specs.Prelude.{◌≡◌, ◌+◌, ◌*◌, ◌<◌, ◌≤◌, ◌^◌, ◌++◌, [], ◌∷◌, length, slice_get};
-ghost use Rattle.std.specs.Prelude.{is_some, if◌then◌else◌, Some, None, OnOk, IfOk, IfErr, IfSome};
+ghost use Rattle.std.specs.Prelude.{is_some, if◌then◌else◌, Some, None, OnOk, OnErr, IfOk, IfErr};
+ghost use Rattle.std.specs.Prelude.{IfSome};
 ghost use Rattle.pdcp_pdu.specs.Kinds.{IsKind, is_am};
 ghost use Rattle.pdcp_tx.specs.State.{refusal, submitted, offers, sizes, left, confirmed};
 ghost use Rattle.bearer_pdcp.specs.Submitting.{Answers, StaysOrDies};
@@ -12,7 +13,7 @@ ghost use Rattle.bearer_pdcp.specs.Hearing.{after_hearing, applies};
 ghost use Rattle.bearer_types.specs.declared.Event.TheVariants as events_of;
 ghost use Rattle.l2_types.specs.declared.Lost.TheVariants as lost;
 ghost use Rattle.pdcp_tx.specs.State.{reported, taking, took, HasSize, IsShort};
-ghost use Rattle.bearer_pdcp.specs.Lives.{report_of, OwesShort};
+ghost use Rattle.bearer_pdcp.specs.Lives.{report_of, OwesShort, restarted, owing_report};
 ghost use Rattle.bearer_pdcp.specs.Discarding.{without_late, late_told, after_tick, tick_told};
 
 use crate::stopped::StoppedPdcp;
@@ -278,6 +279,25 @@ impl Pdcp {
         drop_late(&mut self.tx, self.lcid, events)
     }
 
+    /// Begins the next life where the bearer lies, under other keys, as `stop` and then `restart`
+    /// do. An `Err` changes nothing.
+    #[tactic(auto, unfolding(crate::specs::Lives::restarted), using(crate::proofs::OwedSteps::begins))]
+    pub fn renew(&mut self, keys: &Keys) -> Result<(), NoMemory>
+        ensures ok { OnOk result (self.new ≡ restarted self.old keys.now) }
+        ensures err { OnErr result (self.new ≡ self.old) }
+    {
+        if self.rx.is_dead() {
+            return Err(NoMemory);
+        }
+        let report = self.report()?;
+        self.tx.renew(keys)?;
+        owe(&mut self.tx, report);
+        let Ok(()) = self.rx.renew(keys) else {
+            unreachable!();
+        };
+        Ok(())
+    }
+
     /// Ends the life (TS 36.323 5.2). An `Err` gives back the bearer as it was.
     pub fn stop(self) -> Result<StoppedPdcp, (Pdcp, NoMemory)>
         ensures ok { IfOk result (λ p. p ≡ self) }
@@ -328,6 +348,18 @@ impl Pdcp {
             tx,
             rx,
         }
+    }
+}
+
+// The status report, if there is one, is to be taken first.
+pub(crate) fn owe(tx: &mut PdcpTx, report: Option<Bytes>)
+    requires short { IfSome report IsShort }
+    requires owes { OwesShort tx.old }
+    ensures owes { OwesShort tx.new }
+    ensures state { tx.new ≡ record tx.old { state = owing_report report tx.old.state } }
+{
+    if let Some(report) = report {
+        tx.owe(report);
     }
 }
 

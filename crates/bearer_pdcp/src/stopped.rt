@@ -1,9 +1,9 @@
 ghost use Rattle.std.specs.Prelude.{◌≡◌, ◌≤◌, IfOk, IfErr, IfSome};
 ghost use Rattle.pdcp_tx.specs.State.{IsShort};
 ghost use Rattle.pdcp_pdu.specs.Kinds.{IsKind};
-ghost use Rattle.bearer_pdcp.specs.Lives.{restarted, report_of, owing_report, OwesShort};
+ghost use Rattle.bearer_pdcp.specs.Lives.{restarted, report_of};
 
-use crate::ends::Pdcp;
+use crate::ends::{Pdcp, owe};
 use eps_sec::Keys;
 use l2_bits::{Bytes, NoMemory};
 use pdcp_pdu::PdcpKind;
@@ -103,16 +103,5 @@ impl StoppedPdcp {
             unreachable!();
         };
         Ok(Pdcp::from_parts(alloc, lcid, kind, tx, rx))
-    }
-}
-
-fn owe(tx: &mut PdcpTx, report: Option<Bytes>)
-    requires short { IfSome report IsShort }
-    requires owes { OwesShort tx.old }
-    ensures owes { OwesShort tx.new }
-    ensures state { tx.new ≡ record tx.old { state = owing_report report tx.old.state } }
-{
-    if let Some(report) = report {
-        tx.owe(report);
     }
 }

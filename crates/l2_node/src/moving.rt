@@ -3,7 +3,7 @@ ghost use Rattle.std.specs.Prelude.{◌≡◌, ◌++◌, ◌∷◌, [], ℕ, len
 ghost use Rattle.bearer.specs.Bearer.{of, alive};
 ghost use Rattle.bearer.specs.Lives.{stopped, stopping, restarted};
 ghost use Rattle.l2_node.specs.Moving.{left_cell, leaving, all_stopped, all_stopping};
-ghost use Rattle.l2_node.specs.Moving.{all_restarted, with_channels};
+ghost use Rattle.l2_node.specs.Moving.{all_restarted, with_channels, joined};
 
 use crate::end::{End, add_channel};
 use bearer::{Bearer, Events, Running};
@@ -28,6 +28,44 @@ impl End {
         stop_all(bearers, packages, &mut events)?;
         self.buckets = Buckets::new();
         self.reset();
+        Ok(events)
+    }
+
+    // Each bearer begins its next life, in turn, and its channel comes with it.
+    pub fn join(&mut self, packages: &mut VecDeque<Package>, keys: &Keys) -> Result<(), NoMemory>
+        ensures end { OnOk result (self.new ≡ record self.old {
+          bearers = all_restarted packages.old.items keys.now;
+          buckets = with_channels packages.old.items self.old.buckets;
+        }) }
+        ensures packages { OnOk result (packages.new.items ≡ []) }
+    {
+        self.bearers = Vec::new(self.alloc);
+        accept_all(packages, keys, &mut self.bearers, &mut self.buckets)
+    }
+
+    // The end leaves its cell and joins the next one, where it lies.
+    pub fn hand_over(&mut self, keys: &Keys) -> Result<Events, NoMemory>
+        ensures end { OnOk result (self.new ≡ joined (left_cell self.old) keys.now) }
+        ensures events { IfOk result (λ events. events ≡ leaving self.old) }
+    {
+        let mut packages = VecDeque::new(self.alloc);
+        let answer = self.move_on(&mut packages, keys);
+        abandon_all(packages);
+        answer
+    }
+
+    #[tactic(auto, unfolding(crate::specs::Moving::joined))]
+    fn move_on(
+        &mut self,
+        packages: &mut VecDeque<Package>,
+        keys: &Keys,
+    ) -> Result<Events, NoMemory>
+        requires { packages.old.items ≡ [] }
+        ensures end { OnOk result (self.new ≡ joined (left_cell self.old) keys.now) }
+        ensures events { IfOk result (λ events. events ≡ leaving self.old) }
+    {
+        let events = self.leave(packages)?;
+        self.join(packages, keys)?;
         Ok(events)
     }
 }
@@ -70,7 +108,7 @@ fn stop_one(
 }
 
 // Accepts packages, each in turn, under other keys, and adds their channels.
-pub(crate) fn accept_all(
+fn accept_all(
     packages: &mut VecDeque<Package>,
     keys: &Keys,
     bearers: &mut Vec<Bearer<Running>>,

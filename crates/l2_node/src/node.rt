@@ -19,7 +19,7 @@ ghost use Rattle.l2_bits.specs.declared.limits.TheConstants.{OCTETS_LIMIT};
 
 use crate::end::End;
 use crate::finding::has;
-use crate::moving::{abandon_all, accept_all};
+use crate::moving::abandon_all;
 use bearer::{BearerConfig, Clock, Events, Side};
 use eps_sec::Keys;
 use handover::Package;
@@ -351,6 +351,22 @@ impl Node<Attached> {
         self.state.end.left()
     }
 
+    /// Moves to the next cell, under other keys, as `leave` and `join` do, but where it lies.
+    pub fn hand_over(&mut self, keys: &Keys) -> Result<Events, NoMemory>
+        ensures node { OnOk result
+            (self.new ≡ attached (joined (left_cell self.old.end) keys.now)) }
+        ensures told { IfOk result (λ events. events ≡ leaving self.old.end) }
+        ensures dead { IsTrue self.old.dead → IsErr result }
+        ensures err { OnErr result (IsTrue self.new.dead) }
+    {
+        if self.state.dead {
+            return Err(NoMemory);
+        }
+        let answer = self.state.end.hand_over(keys);
+        self.state.dead = answer.is_err();
+        answer
+    }
+
     /// Leaves the cell: each bearer is stopped, in ascending LCID, and packed with its channel, and
     /// MAC is reset (TS 36.331 5.3.5.4). An `Err` gives back a node that has run out of memory.
     #[tactic(auto, unfolding(crate::specs::Moving::left_cell))]
@@ -403,8 +419,7 @@ impl Node<Moving> {
         let answer = if dead {
             Err(NoMemory)
         } else {
-            end.bearers = Vec::new(end.alloc);
-            accept_all(&mut packages, keys, &mut end.bearers, &mut end.buckets)
+            end.join(&mut packages, keys)
         };
         match answer {
             Ok(()) => {

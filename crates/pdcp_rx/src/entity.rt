@@ -133,6 +133,30 @@ impl PdcpRx {
         self.receiver.make_report()
     }
 
+    /// Whether memory ran out in a call, so that `renew` fails.
+    pub fn is_dead(&self) -> bool
+        ensures { result ≡ self.now.dead }
+    {
+        self.dead
+    }
+
+    /// Begins the next life where the receiver lies, under other keys, as `restart` does. It fails
+    /// exactly where memory had run out before, and then changes nothing.
+    #[tactic(auto, using(crate::proofs::EndLemmas::restarted_ends))]
+    pub fn renew(&mut self, keys: &Keys) -> Result<(), NoMemory>
+        ensures state { MatchResult result
+            (λ _. (self.old.dead ≡ false)
+            × (self.new ≡ alive (restarted self.old.state keys.now)))
+            (λ _. (self.old.dead ≡ true) × (self.new ≡ self.old)) }
+        ensures kind { self.new.state.kind ≡ self.old.state.kind }
+    {
+        if self.dead {
+            return Err(NoMemory);
+        }
+        self.receiver.restart(keys);
+        Ok(())
+    }
+
     /// Ends the life, and keeps everything. It takes no memory.
     pub fn stop(self) -> Held
         ensures { result ≡ self }
@@ -148,21 +172,17 @@ impl PdcpRx {
     /// up stays.
     ///
     /// It fails exactly where memory had run out before, and then gives back what it was given.
-    #[tactic(auto, using(crate::proofs::EndLemmas::restarted_ends))]
     pub fn restart(held: Held, keys: &Keys) -> Result<PdcpRx, (Held, NoMemory)>
         ensures state { MatchResult result
             (λ r. (held.dead ≡ false) × (r ≡ alive (restarted held.state keys.now)))
             (λ e. (held.dead ≡ true) × (e.0 ≡ held)) }
         ensures kind { IfOk result (λ r. r.state.kind ≡ held.state.kind) }
     {
-        if held.dead {
-            return Err((held, NoMemory));
+        let Held { receiver, dead } = held;
+        let mut rx = PdcpRx { receiver, dead };
+        match rx.renew(keys) {
+            Ok(()) => Ok(rx),
+            Err(no_memory) => Err((rx.stop(), no_memory)),
         }
-        let mut receiver = held.receiver;
-        receiver.restart(keys);
-        Ok(PdcpRx {
-            receiver,
-            dead: false,
-        })
     }
 }

@@ -200,6 +200,19 @@ impl PdcpTx {
         self.sender.late()
     }
 
+    /// Begins the next life where the sender lies, under other keys, as `restart` does. An `Err`
+    /// changes nothing.
+    pub fn renew(&mut self, keys: &Keys) -> Result<(), NoMemory>
+        ensures state { OnOk result (self.new ≡ alive (restarted self.old.state keys.now)) }
+        ensures dead { IsTrue self.old.dead → IsErr result }
+        ensures err { OnErr result (self.new ≡ self.old) }
+    {
+        if self.dead {
+            return Err(NoMemory);
+        }
+        self.sender.restart(keys)
+    }
+
     /// Ends the life.
     pub fn stop(self) -> Kept
         ensures { result ≡ self }
@@ -220,13 +233,11 @@ impl PdcpTx {
         ensures dead { IsTrue kept.dead → IsErr result }
         ensures err { IfErr result (λ e. e.0 ≡ kept) }
     {
-        let Kept { mut sender, dead } = kept;
-        if dead {
-            return Err((Kept { sender, dead }, NoMemory));
-        }
-        match sender.restart(keys) {
-            Ok(()) => Ok(PdcpTx { sender, dead }),
-            Err(no_memory) => Err((Kept { sender, dead }, no_memory)),
+        let Kept { sender, dead } = kept;
+        let mut tx = PdcpTx { sender, dead };
+        match tx.renew(keys) {
+            Ok(()) => Ok(tx),
+            Err(no_memory) => Err((tx.stop(), no_memory)),
         }
     }
 }

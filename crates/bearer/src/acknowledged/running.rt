@@ -44,6 +44,32 @@ impl Model for AmBearer {
     } };
 }
 
+/// A bearer over acknowledged RLC in a life that lies apart, so that what holds it is moved
+/// without it. Contracts see the bearer.
+#[derive(Drop)]
+pub struct BoxedAm {
+    pub(crate) bearer: Box<AmBearer>,
+}
+
+impl Model for BoxedAm {
+    ghost use Rattle.bearer.specs.Acknowledged.State.{State};
+
+    ghost Value = { State };
+
+    ghost view = { λ b. b.bearer.value };
+}
+
+impl BoxedAm {
+    /// Takes over a bearer.
+    pub fn new(alloc: Global, bearer: AmBearer) -> Result<BoxedAm, NoMemory>
+        ensures { IfOk result (λ boxed. boxed ≡ bearer) }
+    {
+        Ok(BoxedAm {
+            bearer: Box::new(alloc, bearer)?,
+        })
+    }
+}
+
 impl AmBearer {
     /// A bearer on LCID 1 to 10, as both ends are configured with it, and under the keys of its
     /// first life. `kind` is that of its PDCP entities.

@@ -1,15 +1,17 @@
-ghost use Rattle.std.specs.Prelude.{◌≡◌, ◌++◌, map, OnOk, IfOk, IfErr};
+ghost use Rattle.std.specs.Prelude.{◌≡◌, ◌++◌, map, OnOk, OnErr, IfOk, IfErr};
 ghost use Rattle.bearer_types.specs.declared.Event.TheVariants as events_of;
 ghost use Rattle.l2_types.specs.declared.Lost.TheVariants.{Handover};
 ghost use Rattle.pdcp_pdu.specs.Kinds.{is_am};
 ghost use Rattle.rlc_am_rx.specs.State.{fresh as fresh_receiver};
 ghost use Rattle.rlc_am_rx.specs.Machine.{finished};
 ghost use Rattle.rlc_am_tx.specs.Machine.{start};
-ghost use Rattle.bearer.specs.Acknowledged.Lives.{hears_last, ends_with, stopped, stopping};
-ghost use Rattle.bearer.specs.Acknowledged.Lives.{restarted};
+ghost use Rattle.bearer_pdcp.specs.Lives.{restarted as restarted_pdcp};
+ghost use Rattle.bearer.specs.Acknowledged.State.{with_new_rlc};
+ghost use Rattle.bearer.specs.Acknowledged.Lives.{hears_last, ends_with, last_ups, stopped};
+ghost use Rattle.bearer.specs.Acknowledged.Lives.{stopping, restarted};
 
-use crate::acknowledged::running::AmBearer;
-use bearer_pdcp::{Pdcp, StoppedPdcp};
+use crate::acknowledged::running::{AmBearer, BoxedAm};
+use bearer_pdcp::Pdcp;
 use bearer_types::{Event, Events};
 use eps_sec::Keys;
 use l2_bits::{NoMemory, Packets};
@@ -21,16 +23,11 @@ use std::alloc::Global;
 use std::marker::Model;
 use std::mem;
 
-/// A bearer over acknowledged RLC between two lives. The memory of its next RLC entities is taken
-/// already.
+/// A bearer over acknowledged RLC between two lives. It lies where it did in its life, and the RLC
+/// entities of its next life stand in it already.
 #[derive(Drop)]
 pub struct StoppedAm {
-    alloc: Global,
-    pdcp: StoppedPdcp,
-    tx: AmTx,
-    rx: AmRx,
-    tx_config: AmTxConfig,
-    rx_config: AmRxConfig,
+    bearer: Box<AmBearer>,
 }
 
 impl Model for StoppedAm {
@@ -41,75 +38,29 @@ impl Model for StoppedAm {
 
     ghost Value = { Stopped };
 
-    ghost view = { λ b. record { pdcp = b.pdcp; tx_config = b.tx_config; rx_config = b.rx_config } };
+    ghost view = { λ b. record {
+      pdcp = b.bearer.value.pdcp;
+      tx_config = b.bearer.value.tx_config;
+      rx_config = b.bearer.value.rx_config;
+    } };
 
-    ghost invariant = { λ b. (b.tx.state ≡ start b.tx_config) × (b.rx.state ≡ fresh_receiver b.rx_config) };
+    ghost invariant = { λ b. (b.bearer.value.tx ≡ start b.bearer.value.tx_config)
+        × (b.bearer.value.rx ≡ fresh_receiver b.bearer.value.rx_config) };
 }
 
-impl AmBearer {
+impl BoxedAm {
     /// Ends the life (TS 36.322 5.4, TS 36.323 5.2): all that RLC can put together goes up, or is
     /// dropped on a signalling bearer, and is told. An `Err` gives back a bearer of which nothing
     /// is said.
-    #[tactic(auto, unfolding(crate::specs::Acknowledged::Lives::stopped, crate::specs::Acknowledged::Lives::stopping))]
-    pub fn stop(mut self) -> Result<(StoppedAm, Events), (AmBearer, NoMemory)>
+    #[tactic(auto, unfolding(crate::specs::Acknowledged::Lives::stopped))]
+    pub fn stop(self) -> Result<(StoppedAm, Events), (BoxedAm, NoMemory)>
         ensures told { IfOk result (λ r. r.1 ≡ stopping self) }
         ensures state { IfOk result (λ r. r.0 ≡ stopped self) }
     {
-        let (tx, rx) = match fresh_rlc(self.alloc, self.tx_config, self.rx_config) {
-            Ok(fresh) => fresh,
-            Err(no_memory) => return Err((self, no_memory)),
-        };
-        let mut events = Events::new(self.alloc);
-        let old = mem::replace(&mut self.rx, rx);
-        if let Err(no_memory) = end_with(old, &mut self.pdcp, &mut events) {
-            return Err((self, no_memory));
-        }
-        self.tx = tx;
-        self.into_stopped(events)
-    }
-
-    fn into_stopped(self, events: Events) -> Result<(StoppedAm, Events), (AmBearer, NoMemory)>
-        requires sender { self.tx ≡ start self.tx_config }
-        requires receiver { self.rx ≡ fresh_receiver self.rx_config }
-        ensures told { IfOk result (λ r. r.1 ≡ events) }
-        ensures state { IfOk result
-            (λ r. r.0 ≡ record {
-              pdcp = self.pdcp;
-              tx_config = self.tx_config;
-              rx_config = self.rx_config;
-            }) }
-    {
-        let AmBearer {
-            alloc,
-            pdcp,
-            tx,
-            rx,
-            tx_config,
-            rx_config,
-        } = self;
-        match pdcp.stop() {
-            Ok(pdcp) => Ok((
-                StoppedAm {
-                    alloc,
-                    pdcp,
-                    tx,
-                    rx,
-                    tx_config,
-                    rx_config,
-                },
-                events,
-            )),
-            Err((pdcp, no_memory)) => Err((
-                AmBearer {
-                    alloc,
-                    pdcp,
-                    tx,
-                    rx,
-                    tx_config,
-                    rx_config,
-                },
-                no_memory,
-            )),
+        let BoxedAm { mut bearer } = self;
+        match bearer.end_life() {
+            Ok(events) => Ok((StoppedAm { bearer }, events)),
+            Err(no_memory) => Err((BoxedAm { bearer }, no_memory)),
         }
     }
 }
@@ -117,39 +68,45 @@ impl AmBearer {
 impl StoppedAm {
     /// Begins the next life, under other keys. An `Err` gives back what it was given as it was.
     #[tactic(auto, unfolding(crate::specs::Acknowledged::Lives::restarted))]
-    pub fn restart(self, keys: &Keys) -> Result<AmBearer, (StoppedAm, NoMemory)>
+    pub fn restart(self, keys: &Keys) -> Result<BoxedAm, (StoppedAm, NoMemory)>
         ensures ok { IfOk result (λ b. b ≡ restarted self keys.now) }
         ensures err { IfErr result (λ e. e.0 ≡ self) }
     {
-        let StoppedAm {
-            alloc,
-            pdcp,
-            tx,
-            rx,
-            tx_config,
-            rx_config,
-        } = self;
-        match pdcp.restart(keys) {
-            Ok(pdcp) => Ok(AmBearer {
-                alloc,
-                pdcp,
-                tx,
-                rx,
-                tx_config,
-                rx_config,
-            }),
-            Err((pdcp, no_memory)) => Err((
-                StoppedAm {
-                    alloc,
-                    pdcp,
-                    tx,
-                    rx,
-                    tx_config,
-                    rx_config,
-                },
-                no_memory,
-            )),
+        let StoppedAm { mut bearer } = self;
+        match bearer.begin_life(keys) {
+            Ok(()) => Ok(BoxedAm { bearer }),
+            Err(no_memory) => Err((StoppedAm { bearer }, no_memory)),
         }
+    }
+}
+
+impl AmBearer {
+    // What RLC can put together goes up, or is dropped, and RLC begins anew.
+    #[tactic(auto, unfolding(crate::specs::Acknowledged::Lives::stopping))]
+    fn end_life(&mut self) -> Result<Events, NoMemory>
+        ensures told { IfOk result (λ events. events ≡ stopping self.old) }
+        ensures state { OnOk result
+            (self.new
+            ≡ with_new_rlc self.old.tx_config self.old.rx_config (last_ups self.old).pdcp) }
+    {
+        let (tx, rx) = fresh_rlc(self.alloc, self.tx_config, self.rx_config)?;
+        let mut events = Events::new(self.alloc);
+        let old = mem::replace(&mut self.rx, rx);
+        end_with(old, &mut self.pdcp, &mut events)?;
+        self.tx = tx;
+        Ok(events)
+    }
+
+    fn begin_life(&mut self, keys: &Keys) -> Result<(), NoMemory>
+        requires sender { self.old.tx ≡ start self.old.tx_config }
+        requires receiver { self.old.rx ≡ fresh_receiver self.old.rx_config }
+        ensures ok { OnOk result
+            (self.new
+            ≡ with_new_rlc self.old.tx_config self.old.rx_config
+            (restarted_pdcp self.old.pdcp keys.now)) }
+        ensures err { OnErr result (self.new ≡ self.old) }
+    {
+        self.pdcp.renew(keys)
     }
 }
 

@@ -1,28 +1,28 @@
 ghost use Rattle.std.specs.Prelude.{◌≡◌, ◌⊎◌, ◌+◌, ◌*◌, ◌-◌, ◌%◌, ◌^◌, ◌<◌, ◌≤◌, ◌++◌, length, min};
-ghost use Rattle.std.specs.Prelude.{Some, None, OnOk, IfOk, IfErr};
+ghost use Rattle.std.specs.Prelude.{Some, None, OnOk, OnErr, IfOk, IfErr};
 ghost use Rattle.pdcp_tx.specs.State.{refusal, submitted, offers, sizes, left};
 ghost use Rattle.rlc_pdu.specs.Pdus.{IsUmBits};
 ghost use Rattle.rlc_queue.specs.Waiting.{total};
 ghost use Rattle.l2_types.specs.declared.Clock.TheVariants.{Reorder};
 ghost use Rattle.pdcp_rx.specs.declared.Cause.TheVariants.{Reestablished};
 ghost use Rattle.rlc_pdu.specs.Views.{umd_of};
-ghost use Rattle.rlc_um.specs.Sender.{need, width_of};
-ghost use Rattle.rlc_um.specs.Receiver.{arrival, landing, turning, expiring, all_joined};
+ghost use Rattle.rlc_um.specs.Sender.{need, width_of, idle_sender};
+ghost use Rattle.rlc_um.specs.Receiver.{arrival, landing, turning, expiring, all_joined, start};
+ghost use Rattle.bearer_pdcp.specs.Lives.{restarted as restarted_pdcp};
 ghost use Rattle.bearer_pdcp.specs.Shares.{FitsShare};
 ghost use Rattle.bearer_pdcp.specs.Submitting.{Answers, StaysOrDies};
 ghost use Rattle.bearer_pdcp.specs.Telling.{pdus_of, number_of, landed_told};
-ghost use Rattle.bearer.specs.Unacknowledged.State.{fresh};
+ghost use Rattle.bearer.specs.Unacknowledged.State.{fresh, with_new_rlc};
 ghost use Rattle.bearer.specs.Unacknowledged.Taking.{answer, taking, after_taking, data_told};
 ghost use Rattle.bearer.specs.Unacknowledged.Taking.{idle_told, has_more, why_idle};
 ghost use Rattle.bearer.specs.Unacknowledged.Hearing.{hears_all, all_handed, handing, arriving};
 ghost use Rattle.bearer.specs.Unacknowledged.Hearing.{after_arrival, up_left, up_told, expiry};
 ghost use Rattle.bearer.specs.Unacknowledged.Hearing.{after_expiry, expiry_told, expiry_left};
 ghost use Rattle.bearer.specs.Unacknowledged.Hearing.{told_of, ticking, after_ticking};
-ghost use Rattle.bearer.specs.Unacknowledged.Lives.{stopped, stopping};
+ghost use Rattle.bearer.specs.Unacknowledged.Lives.{stopping, last_ups};
 ghost use Rattle.l2_bits.specs.declared.limits.TheConstants.{OCTETS_LIMIT};
 
 use crate::unacknowledged::feeding::feed;
-use crate::unacknowledged::stopped::StoppedUm;
 use bearer_pdcp::{Pdcp, Written, tell_expired, tell_landed, tell_wait};
 use bearer_types::{BearerConfig, Event, Events};
 use eps_sec::Keys;
@@ -65,6 +65,32 @@ impl Model for UmBearer {
     } };
 
     ghost invariant = { λ b. IsUmBits b.bits × (b.rx.state.window.width ≡ width_of b.bits) };
+}
+
+/// An unacknowledged data bearer in a life that lies apart, so that what holds it is moved without
+/// it. Contracts see the bearer.
+#[derive(Drop)]
+pub struct BoxedUm {
+    pub(crate) bearer: Box<UmBearer>,
+}
+
+impl Model for BoxedUm {
+    ghost use Rattle.bearer.specs.Unacknowledged.State.{State};
+
+    ghost Value = { State };
+
+    ghost view = { λ b. b.bearer.value };
+}
+
+impl BoxedUm {
+    /// Takes over a bearer.
+    pub fn new(alloc: Global, bearer: UmBearer) -> Result<BoxedUm, NoMemory>
+        ensures { IfOk result (λ boxed. boxed ≡ bearer) }
+    {
+        Ok(BoxedUm {
+            bearer: Box::new(alloc, bearer)?,
+        })
+    }
 }
 
 impl UmBearer {
@@ -289,72 +315,31 @@ impl UmBearer {
         self.pdcp.set_discard(ttis)
     }
 
-    /// Ends the life (TS 36.322 5.4, TS 36.323 5.2): all that RLC can put together is handed up,
-    /// and told. An `Err` gives back a bearer of which nothing is said.
-    #[tactic(auto, unfolding(crate::specs::Unacknowledged::Lives::stopped, crate::specs::Unacknowledged::Lives::stopping))]
-    pub fn stop(mut self) -> Result<(StoppedUm, Events), (UmBearer, NoMemory)>
-        ensures told { IfOk result (λ r. r.1 ≡ stopping self) }
-        ensures state { IfOk result (λ r. r.0 ≡ stopped self) }
+    // All that RLC can put together is handed up, and RLC begins anew.
+    #[tactic(auto, unfolding(crate::specs::Unacknowledged::Lives::stopping))]
+    pub(crate) fn end_life(&mut self) -> Result<Events, NoMemory>
+        ensures told { IfOk result (λ events. events ≡ stopping self.old) }
+        ensures state { OnOk result
+            (self.new ≡ with_new_rlc self.old.bits self.old.reorder (last_ups self.old).pdcp) }
     {
-        let fresh = match UmRx::new(self.alloc, self.bits, self.reorder) {
-            Ok(fresh) => fresh,
-            Err(no_memory) => return Err((self, no_memory)),
-        };
+        let fresh = UmRx::new(self.alloc, self.bits, self.reorder)?;
         let mut events = Events::new(self.alloc);
         let old = mem::replace(&mut self.rx, fresh);
-        if let Err(no_memory) = hear_last(old, &mut self.pdcp, &mut events) {
-            return Err((self, no_memory));
-        }
-        let UmBearer {
-            alloc,
-            bits,
-            reorder,
-            pdcp,
-            tx,
-            rx,
-        } = self;
-        match pdcp.stop() {
-            Ok(pdcp) => Ok((StoppedUm::new(alloc, bits, reorder, pdcp, rx), events)),
-            Err((pdcp, no_memory)) => Err((
-                UmBearer {
-                    alloc,
-                    bits,
-                    reorder,
-                    pdcp,
-                    tx,
-                    rx,
-                },
-                no_memory,
-            )),
-        }
+        hear_last(old, &mut self.pdcp, &mut events)?;
+        self.tx = UmTx::new(self.alloc, self.bits);
+        Ok(events)
     }
 
-    pub(crate) fn from_parts(
-        alloc: Global,
-        bits: u32,
-        reorder: u32,
-        pdcp: Pdcp,
-        tx: UmTx,
-        rx: UmRx,
-    ) -> UmBearer
-        requires bits { IsUmBits bits }
-        requires width { rx.state.window.width ≡ width_of bits }
-        ensures { result ≡ record {
-          bits = bits;
-          reorder = reorder;
-          pdcp = pdcp;
-          tx = tx.state;
-          rx = rx.state;
-        } }
+    pub(crate) fn begin_life(&mut self, keys: &Keys) -> Result<(), NoMemory>
+        requires sender { self.old.tx ≡ idle_sender self.old.bits }
+        requires receiver { self.old.rx ≡ start (width_of self.old.bits) self.old.reorder }
+        ensures ok { OnOk result
+            (self.new
+            ≡ with_new_rlc self.old.bits self.old.reorder
+            (restarted_pdcp self.old.pdcp keys.now)) }
+        ensures err { OnErr result (self.new ≡ self.old) }
     {
-        UmBearer {
-            alloc,
-            bits,
-            reorder,
-            pdcp,
-            tx,
-            rx,
-        }
+        self.pdcp.renew(keys)
     }
 }
 
