@@ -55,11 +55,7 @@ impl End {
     }
 
     #[tactic(auto, unfolding(crate::specs::Moving::joined))]
-    fn move_on(
-        &mut self,
-        packages: &mut VecDeque<Package>,
-        keys: &Keys,
-    ) -> Result<Events, NoMemory>
+    fn move_on(&mut self, packages: &mut VecDeque<Package>, keys: &Keys) -> Result<Events, NoMemory>
         requires { packages.old.items ≡ [] }
         ensures end { OnOk result (self.new ≡ joined (left_cell self.old) keys.now) }
         ensures events { IfOk result (λ events. events ≡ leaving self.old) }
