@@ -20,7 +20,7 @@ pub(crate) fn no_channels() -> Channels
     ensures { result.items ≡ no_channels }
 {
     let mut channels = ArrayVec::new();
-    for _i in 0..11u32 {
+    for _i in 0..CHANNELS {
         channels.push(None);
     }
     channels

@@ -1,8 +1,9 @@
 // The flows of a journal: its lines and records go in one by one.
-ghost use Rattle.std.specs.Prelude.{◌≡◌};
+ghost use Rattle.std.specs.Prelude.{◌≡◌, OnOk};
 ghost use Rattle.bearer_types.specs.Sides.{sender_of};
 ghost use Rattle.promises.specs.Records.{is_got};
-ghost use Rattle.journal_flows.specs.Gathering.{is_handover};
+ghost use Rattle.journal_flows.specs.Gathering.{is_handover, all_come, sent_last};
+ghost use Rattle.journal_flows.specs.Accounts.{accounts};
 
 use crate::accounts::Accounts;
 use crate::events;
@@ -45,6 +46,16 @@ fn is_handover(line: &Line) -> bool
     }
 }
 
+// The PDUs of the block that a side sent last come.
+fn come_all(flows: &mut Accounts, from: Side, sending: &Sending) -> Result<(), NoMemory>
+    ensures { OnOk result (flows.new ≡ all_come accounts from (sent_last sending.now) flows.old) }
+{
+    match sending.sent_last() {
+        Some(parcels) => flows.come_all(from, parcels),
+        None => Ok(()),
+    }
+}
+
 /// Gathers the events of the acknowledged flows of a journal, whose lines and records go in one by
 /// one, and keeps the account of each flow. `specs/FlowsTold.antt` says which events are told;
 /// contracts see what is kept (`specs/Accounts.antt`).
@@ -74,11 +85,11 @@ impl Model for JournalFlows {
 }
 
 impl JournalFlows {
-    ghost use Rattle.std.specs.Prelude.{OnOk, option_copied};
+    ghost use Rattle.std.specs.Prelude.{option_copied};
     ghost use Rattle.journal_form.specs.Lines.{HasLayout};
     ghost use Rattle.journal_flows.specs.Gathering.{behind_event, behind_new, behind_again};
     ghost use Rattle.journal_flows.specs.Gathering.{behind_landing};
-    ghost use Rattle.journal_flows.specs.Accounts.{accounts, account_at, nothing_kept, after_line};
+    ghost use Rattle.journal_flows.specs.Accounts.{account_at, nothing_kept, after_line};
     ghost use Rattle.journal_flows.specs.Accounts.{after_record, after_group, with_journal};
 
     /// Before the first line. It takes no memory.
@@ -228,14 +239,9 @@ impl JournalFlows {
         ensures { OnOk result (self.new ≡ with_journal
             (behind_landing accounts direction self.old.journal) self.old) }
     {
-        let from = sender_of(direction);
-        let parcels = match from {
-            Side::Nb => self.nb.sent_last(),
-            Side::Ue => self.ue.sent_last(),
-        };
-        match parcels {
-            Some(parcels) => self.flows.come_all(from, parcels),
-            None => Ok(()),
+        match sender_of(direction) {
+            Side::Nb => come_all(&mut self.flows, Side::Nb, &self.nb),
+            Side::Ue => come_all(&mut self.flows, Side::Ue, &self.ue),
         }
     }
 }

@@ -44,7 +44,7 @@ impl Sending {
         ensures { result ≡ nothing_sent }
     {
         let mut held = ArrayVec::new();
-        for _i in 0..8u32 {
+        for _i in 0..PROCESSES {
             held.push(None);
         }
         Sending {
