@@ -1,17 +1,42 @@
 -- Tables by place.
-use Rattle.std.proofs.Common.{◌≡◌, ℕ, zero, suc, ◌≤◌, List, [], ◌∷◌, length, slice_set, slice_index_or, Option, None, refl}
-use Rattle.std.proofs.Common.{ap, arith}
-use Rattle.std.proofs.lemmas.List.{set_past, get_or_past}
+use Rattle.std.proofs.Common.{◌≡◌, ℕ, zero, suc, ◌+◌, ◌<◌, ◌≤◌, List, [], ◌∷◌, ◌++◌, length, map, take, drop}
+use Rattle.std.proofs.Common.{slice_set, slice_index_or, refl, ap, sym, ◌∙◌, arith, append-nil}
 
-pub set_again : {A : Type 0} (xs : List A) (i : ℕ) (x y : A) → slice_set (slice_set xs i x) i y ≡ slice_set xs i y
-set_again [] i x y = refl
-set_again (z ∷ xs) zero x y = refl
-set_again (z ∷ xs) (suc i) x y = ap (λ (zs : List _). z ∷ zs) (set_again xs i x y)
+pub drop_past : {A : Type 0} (xs : List A) (at : ℕ) → length xs ≤ at → drop at xs ≡ []
+drop_past [] zero h = refl
+drop_past [] (suc at) h = refl
+drop_past (x ∷ xs) zero h = absurd (omega (arith, h))
+drop_past (x ∷ xs) (suc at) h = drop_past xs at (omega (arith, h))
 
-pub set_none : {A : Type 0} (xs : List (Option A)) (i : ℕ) (x : Option A) → length xs ≤ i → slice_set xs i x ≡ xs
-set_none xs i x h = set_past xs i x h
+take_past : {A : Type 0} (xs : List A) (at : ℕ) → length xs ≤ at → take at xs ≡ xs
+take_past [] zero h = refl
+take_past [] (suc at) h = refl
+take_past (x ∷ xs) zero h = absurd (omega (arith, h))
+take_past (x ∷ xs) (suc at) h = ap (λ (ys : List _). x ∷ ys) (take_past xs at (omega (arith, h)))
 
-pub found_none : {A : Type 0} (xs : List (Option A)) (i : ℕ) → length xs ≤ i → slice_index_or xs i None ≡ None
-found_none xs i h = get_or_past xs i None h
+-- ---- each item changes, one behind the other
 
-pub ruleset places = (set_again, set_none, found_none)
+abbrev pub changed_from : {A : Type 0} → (A → A) → ℕ → List A → List A
+changed_from f at xs = take at xs ++ map f (drop at xs)
+
+change_at : {A : Type 0} (f : A → A) (d : A) (xs : List A) (at : ℕ) → at < length xs
+    → take (suc at) (slice_set xs at (f (slice_index_or xs at d)))
+    ++ map f (drop (suc at) (slice_set xs at (f (slice_index_or xs at d))))
+    ≡ take at xs ++ map f (drop at xs)
+change_at f d [] at h = absurd (omega (arith, h))
+change_at f d (x ∷ xs) zero h = refl
+change_at f d (x ∷ xs) (suc at) h = ap (λ (ys : List _). x ∷ ys) (change_at f d xs at (omega (arith, h)))
+
+pub changes : {A : Type 0} (f : A → A) (d : A) (xs ys : List A) (at : ℕ) → at < length xs
+    → ys ≡ slice_set xs at (f (slice_index_or xs at d)) → changed_from f (at + 1) ys ≡ changed_from f at xs
+changes f d xs ys at h is =
+    let next : at + 1 ≡ suc at = omega arith in
+    ap (λ (n : ℕ). take n ys ++ map f (drop n ys)) next
+    ∙ ap (λ (zs : List _). take (suc at) zs ++ map f (drop (suc at) zs)) is ∙ change_at f d xs at h
+
+pub changed_all : {A : Type 0} (f : A → A) (xs : List A) (at : ℕ) → length xs ≤ at → changed_from f at xs ≡ xs
+changed_all f xs at h =
+    ap (λ (zs : List _). zs ++ map f (drop at xs)) (take_past xs at h)
+    ∙ ap (λ (zs : List _). xs ++ map f zs) (drop_past xs at h) ∙ append-nil xs
+
+pub ruleset ends = (changes, changed_all)

@@ -1,5 +1,5 @@
 // The flows of both sides.
-ghost use Rattle.std.specs.Prelude.{◌≡◌, OnOk, option_copied};
+ghost use Rattle.std.specs.Prelude.{◌≡◌, ◌+◌, ◌<◌, OnOk, drop, length, option_copied};
 ghost use Rattle.bearer_types.specs.Sides.{other};
 ghost use Rattle.journal_account.specs.FlowEvents.{StatusHeard};
 ghost use Rattle.journal_lives.specs.LifeEvents.{InLife};
@@ -185,13 +185,27 @@ impl Accounts {
         }
     }
 
+    // Of PDUs, the one at a place comes.
+    #[tactic(auto, using(crate::proofs::Loads::comes_at))]
+    fn come_at(&mut self, from: Side, parcels: &Items<Parcel>, at: usize) -> Result<(), NoMemory>
+        requires { at < length parcels.now }
+        ensures { OnOk result (all_come accounts from (drop (at + 1) parcels.now) self.new
+            ≡ all_come accounts from (drop at parcels.now) self.old) }
+    {
+        match parcels.get(at) {
+            Some(parcel) => self.come(from, parcel),
+            None => unreachable!(),
+        }
+    }
+
     // PDUs come from a side, one behind the other.
+    #[tactic(auto, using(crate::proofs::Loads::none_come))]
     pub(crate) fn come_all(&mut self, from: Side, parcels: &Items<Parcel>) -> Result<(), NoMemory>
         ensures { OnOk result (self.new ≡ all_come accounts from parcels.now self.old) }
     {
         let mut at = 0;
-        while let Some(parcel) = parcels.get(at) {
-            self.come(from, parcel)?;
+        while at < parcels.len() {
+            self.come_at(from, parcels, at)?;
             at += 1;
         }
         Ok(())

@@ -1,9 +1,9 @@
 // The flows of a side that sends, by logical channel.
-ghost use Rattle.std.specs.Prelude.{◌≡◌, ◌≤◌, None, OnOk, length, map, option_map, option_copied};
+ghost use Rattle.std.specs.Prelude.{◌≡◌, None, OnOk, option_map, option_copied};
 ghost use Rattle.std.specs.Prelude.{slice_index_or, slice_set};
 ghost use Rattle.journal_account.specs.FlowEvents.{StatusHeard};
 ghost use Rattle.journal_lives.specs.LifeEvents.{InLife};
-ghost use Rattle.journal_flows.specs.Accounts.{event_of, no_channels, channel_with};
+ghost use Rattle.journal_flows.specs.Accounts.{event_of, kept_with, no_channels, channel_with};
 ghost use Rattle.journal_flows.specs.Accounts.{channels_ended, next_kept, front_kept};
 
 use crate::flow::{Flow, Happening};
@@ -64,6 +64,29 @@ pub(crate) fn set(channels: &mut Channels, lcid: u8, flow: Option<Flow>)
     }
 }
 
+fn change_slot(slot: &mut Option<Flow>, what: Happening) -> Result<(), NoMemory>
+    ensures { OnOk result (slot.new ≡ option_map (kept_with (event_of what)) slot.old) }
+{
+    if let Some(flow) = slot.take() {
+        *slot = Some(flow.with(what)?);
+    }
+    Ok(())
+}
+
+fn hear_slot(
+    slot: &mut Option<Flow>,
+    ack: u64,
+    entries: &[StatusEntry],
+) -> Result<(), NoMemory>
+    ensures { OnOk result (slot.new
+        ≡ option_map (kept_with (InLife (StatusHeard ack entries.now))) slot.old) }
+{
+    if let Some(flow) = slot.take() {
+        *slot = Some(flow.with_status(ack, entries)?);
+    }
+    Ok(())
+}
+
 pub(crate) fn change(channels: &mut Channels, lcid: u8, what: Happening) -> Result<(), NoMemory>
     ensures { OnOk result
         (channels.new.items ≡ channel_with lcid (event_of what) channels.old.items) }
@@ -72,10 +95,7 @@ pub(crate) fn change(channels: &mut Channels, lcid: u8, what: Happening) -> Resu
     if at >= channels.len() {
         return Ok(());
     }
-    if let Some(flow) = channels[at].take() {
-        channels[at] = Some(flow.with(what)?);
-    }
-    Ok(())
+    change_slot(&mut channels[at], what)
 }
 
 // A STATUS comes to the sender.
@@ -92,20 +112,18 @@ pub(crate) fn hear(
     if at >= channels.len() {
         return Ok(());
     }
-    if let Some(flow) = channels[at].take() {
-        channels[at] = Some(flow.with_status(ack, entries)?);
-    }
-    Ok(())
+    hear_slot(&mut channels[at], ack, entries)
 }
 
 // A life of each flow ends.
+#[tactic(auto, using(crate::proofs::Places::ends))]
 pub(crate) fn end_lives(channels: &mut Channels) -> Result<(), NoMemory>
     ensures { OnOk result (channels.new.items ≡ channels_ended channels.old.items) }
 {
-    for slot in channels.as_mut_slice().iter_mut() {
-        if let Some(flow) = slot.take() {
-            *slot = Some(flow.with(Happening::LifeEnded)?);
-        }
+    let mut at = 0;
+    while at < channels.len() {
+        change_slot(&mut channels[at], Happening::LifeEnded)?;
+        at += 1;
     }
     Ok(())
 }

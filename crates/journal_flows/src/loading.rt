@@ -66,6 +66,7 @@ fn load(
 }
 
 // The PDUs of a block, one behind the other.
+#[tactic(auto, using(crate::proofs::Loads::none_left))]
 fn load_all(
     alloc: Global,
     kinds: &Kinds,
@@ -94,6 +95,7 @@ fn load_all(
 }
 
 // A block of fewer than 2^28 octets is written: its PDUs are those that are named, in their order.
+#[tactic(auto, using(crate::proofs::Loads::none_left))]
 pub(crate) fn load_block(
     alloc: Global,
     kinds: &Kinds,

@@ -1,5 +1,6 @@
 // What a side has named and sent.
-ghost use Rattle.std.specs.Prelude.{◌≡◌, [], OnOk, option_copied, slice_index_or, None};
+ghost use Rattle.std.specs.Prelude.{◌≡◌, [], OnOk, option_copied, slice_index_or, slice_set};
+ghost use Rattle.std.specs.Prelude.{None, Some};
 ghost use Rattle.journal_flows.specs.Gathering.{nothing_sent, names, holds, resends};
 
 use crate::parcels::Parcel;
@@ -23,11 +24,23 @@ pub(crate) struct Named {
     pub(crate) how: How,
 }
 
+type Held = ArrayVec<Option<Items<Parcel>>, PROCESSES>;
+
+// A process holds these PDUs.
+fn put(held: &mut Held, process: u32, parcels: Items<Parcel>)
+    ensures { held.new.items ≡ slice_set held.old.items process (Some parcels) }
+{
+    let at = process as usize;
+    if at < held.len() {
+        held[at] = Some(parcels);
+    }
+}
+
 #[derive(Drop)]
 pub(crate) struct Sending {
     alloc: Global,
     named: Items<Named>,
-    held: ArrayVec<Option<Items<Parcel>>, PROCESSES>,
+    held: Held,
     process: u32,
 }
 
@@ -78,10 +91,7 @@ impl Sending {
         ensures { self.new ≡ holds process parcels self.old }
     {
         self.named = Items::new(self.alloc);
-        let at = process as usize;
-        if at < self.held.len() {
-            self.held[at] = Some(parcels);
-        }
+        put(&mut self.held, process, parcels);
         self.process = process;
     }
 
