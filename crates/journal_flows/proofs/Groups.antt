@@ -36,17 +36,17 @@ layout_at : (config : BearerConfig) (bearers : Bearers) (ks : List (Option Layou
     → l ≤ 10 → slice_index_or (with_layout config ks) l None ≡ layout_by (with_config config bearers l)
 layout_at config bearers ks l k low = elim (cases_eq l config.channel.lcid) [
   | inl here ↦
-    ap (λ (n : ℕ). slice_index_or
-    (slice_set ks n (Some (layout_of config.kind config.rlc_bits config.pdcp_bits))) l None) (sym here)
-    ∙ get_or-set_same ks l (Some (layout_of config.kind config.rlc_bits config.pdcp_bits)) None (omega (arith, k.size))
-    ∙ ap (λ (b : Bool). layout_by (if b then Some config else bearers l))
-    (sym (eq-eqb config.channel.lcid l (sym here)))
+      ap (λ (n : ℕ). slice_index_or
+      (slice_set ks n (Some (layout_of config.kind config.rlc_bits config.pdcp_bits))) l None) (sym here)
+      ∙ get_or-set_same ks l (Some (layout_of config.kind config.rlc_bits config.pdcp_bits)) None (omega (arith, k.size))
+      ∙ ap (λ (b : Bool). layout_by (if b then Some config else bearers l))
+      (sym (eq-eqb config.channel.lcid l (sym here)))
   | inr apart ↦
-    get_or-set_other ks config.channel.lcid l (Some (layout_of config.kind config.rlc_bits config.pdcp_bits)) None
-    apart
-    ∙ k.is l low
-    ∙ ap (λ (b : Bool). layout_by (if b then Some config else bearers l))
-    (sym (ne_eqb config.channel.lcid l (λ same. apart (sym same))))
+      get_or-set_other ks config.channel.lcid l (Some (layout_of config.kind config.rlc_bits config.pdcp_bits)) None
+      apart
+      ∙ k.is l low
+      ∙ ap (λ (b : Bool). layout_by (if b then Some config else bearers l))
+      (sym (ne_eqb config.channel.lcid l (λ same. apart (sym same))))
 ]
 
 line_same : (line : Line) (bearers : Bearers) (ks : List (Option Layout)) (j : Journal Accounts) (h : Journal Flows)
@@ -149,9 +149,9 @@ stands : (may_take : MayTake) (past : List Group)
     → Stands may_take past (on_channels past) (kinds past) (all_kept may_take past) (told_behind may_take past)
 stands may_take [] = record {
   kept = refl;
-  kinds_are = record { size = refl; is = λ l low. none_there 11 l; };
+  kinds_are = record { size = refl; is = λ l low. none_there 11 l };
   journal = record {
-    flows = record { size = sizes; lives = λ side lcid. tt; is = λ side lcid low. nowhere side lcid; };
+    flows = record { size = sizes; lives = λ side lcid. tt; is = λ side lcid low. nowhere side lcid };
     nb = refl;
     ue = refl;
   };

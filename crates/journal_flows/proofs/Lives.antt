@@ -86,8 +86,11 @@ front_is most first es h =
     let least = front_least (running es) in
     let p = is_complete_in (running es) in
     let front = (lives_of most first es).account.arrivals.front in
-    omega (arith, one_least p 0 front (front_in (running es)) kept least,
-    one_least p 0 (front_in (running es)) front least kept)
+    omega (
+      arith,
+      one_least p 0 front (front_in (running es)) kept least,
+      one_least p 0 (front_in (running es)) front least kept,
+    )
 
 pub kept_is : (most first : ℕ) (e : LifeEvent) (es : List LifeEvent) → AreLives es
     → kept_with e (lives_of most first es) ≡ lives_of most first (with_event e es)

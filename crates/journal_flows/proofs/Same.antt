@@ -49,16 +49,16 @@ channel_same : (bearers : Bearers) (channels : List (Option FlowLives)) (at l : 
     ≡ account_by (bearers l) (if at == l then with_event e es else es)
 channel_same bearers channels at l e es size low lives is = elim (cases_eq l at) [
   | inl here ↦
-    subst (λ (n : ℕ). slice_index_or (channel_with n e channels) l None
-    ≡ account_by (bearers l) (if n == l then with_event e es else es)) here
-    (get_or-set_same channels l (option_map (kept_with e) (slice_index_or channels l None)) None (omega (arith, size))
-    ∙ ap (option_map (kept_with e)) is ∙ event_by (bearers l) e es lives
-    ∙ ap (λ (b : Bool). account_by (bearers l) (if b then with_event e es else es)) (sym (eq-eqb l l refl)))
+      subst (λ (n : ℕ). slice_index_or (channel_with n e channels) l None
+      ≡ account_by (bearers l) (if n == l then with_event e es else es)) here
+      (get_or-set_same channels l (option_map (kept_with e) (slice_index_or channels l None)) None (omega (arith, size))
+      ∙ ap (option_map (kept_with e)) is ∙ event_by (bearers l) e es lives
+      ∙ ap (λ (b : Bool). account_by (bearers l) (if b then with_event e es else es)) (sym (eq-eqb l l refl)))
   | inr apart ↦
-    get_or-set_other channels at l (option_map (kept_with e) (slice_index_or channels at None)) None apart
-    ∙ is
-    ∙ ap (λ (b : Bool). account_by (bearers l) (if b then with_event e es else es))
-    (sym (ne_eqb at l (λ same. apart (sym same))))
+      get_or-set_other channels at l (option_map (kept_with e) (slice_index_or channels at None)) None apart
+      ∙ is
+      ∙ ap (λ (b : Bool). account_by (bearers l) (if b then with_event e es else es))
+      (sym (ne_eqb at l (λ same. apart (sym same))))
 ]
 
 told_size : (t : Told) (a : Accounts) (side : Side) → length (channels_of side a) ≡ 11
@@ -146,14 +146,14 @@ begun_at : (config : BearerConfig) (bearers : Bearers) (channels : List (Option 
     ≡ account_by (with_config config bearers l) (if config.channel.lcid == l then [] else es)
 begun_at config bearers channels l es size low is = elim (cases_eq l config.channel.lcid) [
   | inl here ↦
-    ap (λ (n : ℕ). slice_index_or (slice_set channels n (begun config)) l None) (sym here)
-    ∙ get_or-set_same channels l (begun config) None (omega (arith, size))
-    ∙ ap (λ (b : Bool). account_by (if b then Some config else bearers l) (if b then [] else es))
-    (sym (eq-eqb config.channel.lcid l (sym here)))
+      ap (λ (n : ℕ). slice_index_or (slice_set channels n (begun config)) l None) (sym here)
+      ∙ get_or-set_same channels l (begun config) None (omega (arith, size))
+      ∙ ap (λ (b : Bool). account_by (if b then Some config else bearers l) (if b then [] else es))
+      (sym (eq-eqb config.channel.lcid l (sym here)))
   | inr apart ↦
-    get_or-set_other channels config.channel.lcid l (begun config) None apart ∙ is
-    ∙ ap (λ (b : Bool). account_by (if b then Some config else bearers l) (if b then [] else es))
-    (sym (ne_eqb config.channel.lcid l (λ same. apart (sym same))))
+      get_or-set_other channels config.channel.lcid l (begun config) None apart ∙ is
+      ∙ ap (λ (b : Bool). account_by (if b then Some config else bearers l) (if b then [] else es))
+      (sym (ne_eqb config.channel.lcid l (λ same. apart (sym same))))
 ]
 
 pub begins_same : (bearers : Bearers) (config : BearerConfig) (a : Accounts) (f : Flows) → Same bearers a f
@@ -167,9 +167,11 @@ begins_same bearers config a f h = record {
     sizes : (side : Side) → length (channels_of side (account_begun config a)) ≡ 11
     sizes Nb = length-set a.nb config.channel.lcid (begun config) ∙ h.size Nb
     sizes Ue = length-set a.ue config.channel.lcid (begun config) ∙ h.size Ue
+
     lives : (b : Bool) (side : Side) (lcid : ℕ) → AreLives (if b then [] else f side lcid)
     lives true side lcid = tt
     lives false side lcid = h.lives side lcid
+
     by : (side : Side) (l : ℕ) → l ≤ 10 → account_at side l (account_begun config a)
         ≡ account_by (with_config config bearers l) (with_bearer config f side l)
     by Nb l low = begun_at config bearers a.nb l (f Nb l) (h.size Nb) low (h.is Nb l low)
@@ -193,6 +195,7 @@ ends_same bearers a f h = record {
     sizes : (side : Side) → length (channels_of side (accounts_ended a)) ≡ 11
     sizes Nb = length-map a.nb (option_map (kept_with LifeEnded)) ∙ h.size Nb
     sizes Ue = length-map a.ue (option_map (kept_with LifeEnded)) ∙ h.size Ue
+
     by : (side : Side) (l : ℕ) → l ≤ 10 → account_at side l (accounts_ended a)
         ≡ account_by (bearers l) (all_ended f side l)
     by Nb l low = ended_at bearers a.nb l (f Nb l) (h.size Nb) low (h.lives Nb l) (h.is Nb l low)

@@ -64,12 +64,12 @@ found : (bearers : Bearers) (kinds : List (Option Layout)) (lcid : ℕ) → AreK
     → is_acknowledged (slice_index_or kinds lcid None) ≡ true → IsAcked bearers lcid
 found bearers kinds lcid k acked = elim (cases_lt 10 lcid) [
   | inl past ↦
-    let none : slice_index_or kinds lcid None ≡ None = get_or_past kinds lcid None (omega (arith, k.size)) in
-    absurd (false≢true (sym (ap is_acknowledged none) ∙ acked))
+      let none : slice_index_or kinds lcid None ≡ None = get_or_past kinds lcid None (omega (arith, k.size)) in
+      absurd (false≢true (sym (ap is_acknowledged none) ∙ acked))
   | inr low ↦ record {
-      low = low;
-      acked = sym (kind_acked (bearers lcid)) ∙ sym (ap is_acknowledged (k.is lcid low)) ∙ acked;
-    }
+    low = low;
+    acked = sym (kind_acked (bearers lcid)) ∙ sym (ap is_acknowledged (k.is lcid low)) ∙ acked;
+  }
 ]
 
 -- ---- what is gathered

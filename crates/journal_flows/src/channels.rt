@@ -73,11 +73,7 @@ fn change_slot(slot: &mut Option<Flow>, what: Happening) -> Result<(), NoMemory>
     Ok(())
 }
 
-fn hear_slot(
-    slot: &mut Option<Flow>,
-    ack: u64,
-    entries: &[StatusEntry],
-) -> Result<(), NoMemory>
+fn hear_slot(slot: &mut Option<Flow>, ack: u64, entries: &[StatusEntry]) -> Result<(), NoMemory>
     ensures { OnOk result (slot.new
         ≡ option_map (kept_with (InLife (StatusHeard ack entries.now))) slot.old) }
 {

@@ -30,9 +30,11 @@ fn take(
         (flows.new ≡ all_told accounts (taken_as layout side lcid count len) flows.old) }
 {
     match layout {
-        Some(Layout::Am {
-            pdcp: PdcpKind::Srb,
-        }) => {
+        Some(
+            Layout::Am {
+                pdcp: PdcpKind::Srb,
+            },
+        ) => {
             let size = len.checked_add(SIGNALLING_OCTETS).ok_or(NoMemory)?;
             flows.change(side, lcid, Happening::PduGiven { count: None, size })
         }
@@ -55,9 +57,12 @@ fn report(
     ensures { OnOk result
         (flows.new ≡ all_told accounts (report_as layout side lcid len) flows.old) }
 {
-    let Some(Layout::Am {
-        pdcp: PdcpKind::Am { bits },
-    }) = layout else {
+    let Some(
+        Layout::Am {
+            pdcp: PdcpKind::Am { bits },
+        },
+    ) = layout
+    else {
         return Ok(());
     };
     let header: u32 = if bits == 12 { 2 } else { 3 };

@@ -148,13 +148,17 @@ impl JournalFlows {
                 ..
             } => self.load(*direction, *process, octets.as_slice()),
             Record::Block {
-                direction, process, ..
+                direction,
+                process,
+                ..
             } => {
                 self.resend(*direction, *process);
                 Ok(())
             }
             Record::Air {
-                direction, what, ..
+                direction,
+                what,
+                ..
             } => {
                 if is_got(*what) {
                     self.land(*direction)
@@ -215,7 +219,15 @@ impl JournalFlows {
             Side::Ue => self.ue.take_named(),
         };
         let flows = &mut self.flows;
-        let parcels = load_block(self.alloc, &self.kinds, flows, from, direction, named, octets)?;
+        let parcels = load_block(
+            self.alloc,
+            &self.kinds,
+            flows,
+            from,
+            direction,
+            named,
+            octets,
+        )?;
         match from {
             Side::Nb => self.nb.hold(process, parcels),
             Side::Ue => self.ue.hold(process, parcels),

@@ -1,6 +1,7 @@
 // PDUs of acknowledged bearers, by true numbers.
 ghost use Rattle.std.specs.Prelude.{◌≡◌, ◌<◌, length, map, IfOk, Ok};
 ghost use Rattle.l2_bits.specs.declared.limits.TheConstants.{OCTETS_LIMIT};
+ghost use Rattle.rlc_pdu.specs.declared.constants.TheConstants.{AM_MODULUS};
 ghost use Rattle.rlc_pdu.specs.Pdus.{Payload, Status};
 ghost use Rattle.rlc_pdu.specs.Reading.{am_at};
 ghost use Rattle.rlc_pdu.specs.Views.{elements_of, nacks_of, amd_of, status_of};
@@ -12,7 +13,7 @@ use crate::entries::Entries;
 use journal_account::StatusEntry;
 use l2_bits::NoMemory;
 use l2_types::How;
-use rlc_pdu::{AmPdu, Amd, Elements, NackReader, Segment, StatusRead, read_am};
+use rlc_pdu::{AM_MODULUS, AmPdu, Amd, Elements, NackReader, Segment, StatusRead, read_am};
 use std::alloc::Global;
 
 // What a PDU of an acknowledged bearer is to its flows, by true numbers. `lcid` is the channel.
@@ -36,22 +37,22 @@ pub(crate) enum Parcel {
 
 // The first number from one on that has an SN.
 fn with_sn_from(low: u64, sn: u32) -> Result<u64, NoMemory>
-    requires { sn < 1024 }
+    requires { sn < AM_MODULUS }
     ensures { IfOk result (λ n. n ≡ with_sn_from low sn) }
 {
-    let above = (u64::from(sn) + 1024 - low % 1024) % 1024;
+    let above = (u64::from(sn) + AM_MODULUS - low % AM_MODULUS) % AM_MODULUS;
     low.checked_add(above).ok_or(NoMemory)
 }
 
 // The last of so many numbers that has an SN.
 fn last_with(sn: u32, count: u64) -> Result<u64, NoMemory>
-    requires { sn < 1024 }
+    requires { sn < AM_MODULUS }
     ensures { IfOk result (λ n. n ≡ last_with sn count) }
 {
-    let Some(past) = count.checked_add(1023) else {
+    let Some(past) = count.checked_add(AM_MODULUS - 1) else {
         return Err(NoMemory);
     };
-    let back = (past - u64::from(sn)) % 1024;
+    let back = (past - u64::from(sn)) % AM_MODULUS;
     Ok(count.saturating_sub(1).saturating_sub(back))
 }
 
@@ -93,7 +94,7 @@ fn entries(alloc: Global, front: u64, nacks: NackReader<'_>) -> Result<Entries, 
 
 // A data PDU, or a segment of one.
 fn payload(next: u64, lcid: u8, how: How, amd: Amd<'_>) -> Result<Option<Parcel>, NoMemory>
-    requires { amd.sn < 1024 }
+    requires { amd.sn < AM_MODULUS }
     ensures { IfOk result (λ p. p ≡ parcel_by next 0 lcid how (Ok (Payload (amd_of amd.entry)))) }
 {
     match how {
@@ -125,7 +126,7 @@ fn report(
     how: How,
     status: StatusRead<'_>,
 ) -> Result<Option<Parcel>, NoMemory>
-    requires { status.ack < 1024 }
+    requires { status.ack < AM_MODULUS }
     ensures { IfOk result
         (λ p. p ≡ parcel_by 0 front lcid how (Ok (Status (status_of status.entry)))) }
 {
