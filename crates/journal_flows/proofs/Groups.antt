@@ -1,5 +1,5 @@
 -- Group by group, the accounts that are kept are those of the histories that are told.
-use Rattle.std.proofs.Common.{◌≡◌, ℕ, zero, suc, ◌<◌, ◌≤◌, Bool, true, false, ◌==◌, List, [], ◌∷◌, length, replicate, Option, Some, None}
+use Rattle.std.proofs.Common.{◌≡◌, ℕ, zero, suc, ◌≤◌, Bool, true, false, List, [], ◌∷◌, length, replicate, Option, Some, None}
 use Rattle.std.proofs.Common.{inl, inr, refl, ap, sym, ◌∙◌, arith, subst, if◌then◌else◌, slice_set, slice_index_or}
 use Rattle.std.proofs.lemmas.Bool.{cases_eq, eq-eqb, ne_eqb}
 use Rattle.std.proofs.lemmas.List.{length-set, get_or-set_same, get_or-set_other}
@@ -11,15 +11,15 @@ use Rattle.air_record.specs.declared.line.Line.TheVariants as lines
 use Rattle.air_record.specs.declared.record.Record.{Record}
 use Rattle.air_text.specs.Groups.{Group}
 use Rattle.pdu_show.specs.declared.kinds.Layout.{Layout}
-use Rattle.pdu_show.specs.Kinds.{layout_of, none_known}
+use Rattle.pdu_show.specs.Kinds.{layout_of}
 use Rattle.promises.specs.Blocks.{kinds, kinds_by, with_bearer as with_layout}
-use Rattle.journal_flows.specs.Gathering.{Journal, behind_line, behind_end, behind_record, behind_records, is_handover}
+use Rattle.journal_flows.specs.Gathering.{Journal, behind_line, behind_end, behind_records, is_handover}
 use Rattle.journal_flows.specs.Gathering.{within, behind, MayTake}
 use Rattle.journal_flows.specs.FlowsTold.{Flows, no_events, histories}
 use Rattle.journal_flows.specs.Accounts.{Accounts, Keeping, accounts, no_accounts, account_at, channels_of, after_line, after_record, after_records}
-use Rattle.journal_flows.specs.Accounts.{after_group, kept_within, all_kept}
+use Rattle.journal_flows.specs.Accounts.{kept_within, all_kept}
 use Rattle.journal_flows.specs.Laws.{bearer_by, bearer_on, FlowsAreTold, HistoriesAreLives}
-use Rattle.journal_flows.proofs.Same.{Bearers, Same, with_config, begins_same, ends_same}
+use Rattle.journal_flows.proofs.Same.{Bearers, with_config, begins_same, ends_same}
 use Rattle.journal_flows.proofs.Steps.{layout_by, AreKinds, SameJournal, records_same}
 
 -- ---- a line

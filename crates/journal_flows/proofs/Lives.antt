@@ -1,5 +1,5 @@
 -- Events that can be make histories, and what is kept of a flow is the account of its history.
-use Rattle.std.proofs.Common.{◌≡◌, ℕ, ◌^◌, ◌<◌, ◌≤◌, Bool, true, false, ◌&&◌, List, [], ◌∷◌, Option, Some, None}
+use Rattle.std.proofs.Common.{◌≡◌, ℕ, ◌^◌, ◌<◌, ◌≤◌, Bool, true, false, List, [], ◌∷◌, Some, None}
 use Rattle.std.proofs.Common.{refl, inl, inr}
 use Rattle.std.proofs.Common.{ap, sym, ◌∙◌, arith, subst, if◌then◌else◌}
 use Rattle.std.specs.Prelude.{nat_lt, nat_le}
@@ -8,7 +8,6 @@ use Rattle.l2_num.specs.Least.{IsLeast}
 use Rattle.journal_account.specs.FlowEvents.{SduTaken, NumberWritten, OctetsResent, OctetsArrived, ReorderStarted}
 use Rattle.journal_account.specs.FlowEvents.{ReorderExpired, StatusHeard, PollExpired, IsHistory, next_of}
 use Rattle.journal_account.specs.Arrived.{is_complete_in}
-use Rattle.journal_account.specs.FlowAccount.{FlowAccount}
 use Rattle.journal_account.specs.FlowArrivals.{next_in}
 use Rattle.journal_account.specs.FlowSending.{sent_in}
 use Rattle.journal_account.specs.Laws.{IsAccount}

@@ -1,5 +1,5 @@
 -- A block whose SDUs come to their end, or with no PDU named, tells nothing more; PDUs come one by one.
-use Rattle.std.proofs.Common.{◌≡◌, ℕ, zero, suc, ◌+◌, ◌≤◌, List, [], ◌∷◌, drop, length, Option, Some, refl, ap, arith}
+use Rattle.std.proofs.Common.{◌≡◌, ℕ, ◌+◌, ◌≤◌, List, [], ◌∷◌, drop, length, Option, Some, refl, ap}
 use Rattle.std.specs.Prelude.{slice_get}
 use Rattle.l2_types.specs.declared.side.Side.{Side}
 use Rattle.pdu_show.specs.declared.kinds.Layout.{Layout}

@@ -1,5 +1,5 @@
 -- Each record leaves the accounts of the histories that are told.
-use Rattle.std.proofs.Common.{◌≡◌, ℕ, ◌<◌, ◌≤◌, Bool, true, false, List, [], ◌∷◌, ◌++◌, length, Option, Some, None, inl, inr}
+use Rattle.std.proofs.Common.{◌≡◌, ℕ, ◌≤◌, Bool, true, false, List, [], ◌∷◌, ◌++◌, length, Option, Some, None, inl, inr}
 use Rattle.std.proofs.Common.{refl, ap, sym, ◌∙◌, arith, subst, if◌then◌else◌, slice_index_or}
 use Rattle.std.proofs.lemmas.Bool.{cases_lt, false≢true}
 use Rattle.std.proofs.lemmas.List.{get_or_past}
@@ -10,7 +10,6 @@ use Rattle.l2_types.specs.declared.side.Side.{Side}
 use Rattle.l2_types.specs.declared.side.Side.TheVariants.{Nb, Ue}
 use Rattle.mac_pdu.specs.declared.builder.Sdu.{Sdu}
 use Rattle.mac_pdu.specs.declared.item.Direction.{Direction}
-use Rattle.mac_pdu.specs.declared.item.Direction.TheVariants.{Down, Up}
 use Rattle.mac_pdu.specs.Reading.{reading}
 use Rattle.rlc_pdu.specs.Reading.{am_at}
 use Rattle.bearer_types.specs.declared.config.BearerConfig.{BearerConfig}
@@ -26,7 +25,7 @@ use Rattle.pdu_show.specs.Kinds.{layout_of}
 use Rattle.promises.specs.Records.{is_got}
 use Rattle.journal_flows.specs.declared.parcels.Parcel.{Parcel}
 use Rattle.journal_flows.specs.declared.sending.Named.{Named}
-use Rattle.journal_flows.specs.NumberedPdus.{Told, parcel_by, written_as, come_as}
+use Rattle.journal_flows.specs.NumberedPdus.{parcel_by, written_as, come_as}
 use Rattle.journal_flows.specs.Gathering.{Sending, Journal, Loaded, sending_of, with_sending, with_flows, all_told}
 use Rattle.journal_flows.specs.Gathering.{told_by, names, behind_event, parcel_of, loads_parcel, loads, sdus_read, holds}
 use Rattle.journal_flows.specs.Gathering.{with_loaded, behind_new, resends, behind_again, all_come, sent_last}

@@ -21,7 +21,6 @@ use Rattle.journal_lives.specs.LifeEvents.{LifeEvent, PduGiven, InLife, LifeEnde
 use Rattle.journal_flows.specs.declared.flow.Happening.{Happening}
 use Rattle.journal_flows.specs.declared.flow.Happening.TheVariants as happenings
 use Rattle.journal_flows.specs.Possible.{is_possible}
-use Rattle.journal_flows.specs.NumberedPdus.{Told}
 use Rattle.journal_flows.specs.Gathering.{Gatherer, Journal, nothing_sent, behind_line, behind_end}
 use Rattle.journal_flows.specs.Gathering.{behind_record, is_handover, MayTake}
 

@@ -4,7 +4,7 @@ use Rattle.std.specs.Prelude.{ℕ, ◌^◌, Bool, true, false, ◌&&◌, nat_lt,
 use Rattle.std.specs.Prelude.{if◌then◌else◌, Option, Some, None}
 use Rattle.journal_account.specs.FlowEvents.{SduTaken, NumberWritten, OctetsResent, OctetsArrived}
 use Rattle.journal_account.specs.FlowEvents.{StatusHeard, next_of}
-use Rattle.journal_lives.specs.LifeEvents.{LifeEvent, PduGiven, InLife, LifeEnded, running}
+use Rattle.journal_lives.specs.LifeEvents.{LifeEvent, PduGiven, InLife, running}
 
 -- SOs have 15 bits, and an SOend of 32767 is the last octet of a field
 abbrev pub most_octets : ℕ

@@ -1,4 +1,4 @@
-use Rattle.std.proofs.Common.{◌≡◌, true, sym, ap, ◌∙◌, subst, rules}
+use Rattle.std.proofs.Common.{◌≡◌, true, sym, ap, ◌∙◌, subst}
 use Rattle.journal_account.specs.FlowArrivals.{next_in}
 use Rattle.journal_lives.specs.FlowLives.{FlowLives}
 use Rattle.journal_flows.specs.Possible.{is_possible}

@@ -1,8 +1,7 @@
-use Rattle.std.proofs.Common.{◌≡◌, ◌≤◌, true, sym, ap, ◌∙◌, subst, arith}
+use Rattle.std.proofs.Common.{◌≡◌, ◌≤◌, sym, ap, ◌∙◌, subst, arith}
 use Rattle.std.proofs.lemmas.Bool.{le-leb}
 use Rattle.journal_account.specs.FlowArrivals.{next_in}
 use Rattle.journal_account.specs.FlowEvents.{StatusHeard}
-use Rattle.journal_account.specs.FlowSending.{sent_in}
 use Rattle.journal_lives.specs.FlowLives.{FlowLives}
 use Rattle.journal_lives.specs.LifeEvents.{InLife}
 use Rattle.journal_flows.specs.Accounts.{IsOfHistory}
