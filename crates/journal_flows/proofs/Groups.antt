@@ -1,5 +1,6 @@
 -- Group by group, the accounts that are kept are those of the histories that are told.
-use Rattle.std.proofs.Common.{◌≡◌, ℕ, zero, suc, ◌≤◌, Bool, true, false, List, [], ◌∷◌, length, replicate, Option, Some, None}
+use Rattle.std.proofs.Common.{◌≡◌, ℕ, zero, suc, ◌≤◌, Bool, true, false, List, [], ◌∷◌, length, replicate, Option, Some}
+use Rattle.std.proofs.Common.{None}
 use Rattle.std.proofs.Common.{inl, inr, refl, ap, sym, ◌∙◌, arith, subst, if◌then◌else◌, slice_set, slice_index_or}
 use Rattle.std.proofs.lemmas.Bool.{cases_eq, eq-eqb, ne_eqb}
 use Rattle.std.proofs.lemmas.List.{length-set, get_or-set_same, get_or-set_other}
@@ -16,7 +17,8 @@ use Rattle.promises.specs.Blocks.{kinds, kinds_by, with_bearer as with_layout}
 use Rattle.journal_flows.specs.Gathering.{Journal, behind_line, behind_end, behind_records, is_handover}
 use Rattle.journal_flows.specs.Gathering.{within, behind, MayTake}
 use Rattle.journal_flows.specs.FlowsTold.{Flows, no_events, histories}
-use Rattle.journal_flows.specs.Accounts.{Accounts, Keeping, accounts, no_accounts, account_at, channels_of, after_line, after_record, after_records}
+use Rattle.journal_flows.specs.Accounts.{Accounts, Keeping, accounts, no_accounts, account_at, channels_of}
+use Rattle.journal_flows.specs.Accounts.{after_line, after_record, after_records}
 use Rattle.journal_flows.specs.Accounts.{kept_within, all_kept}
 use Rattle.journal_flows.specs.Laws.{bearer_by, bearer_on, FlowsAreTold, HistoriesAreLives}
 use Rattle.journal_flows.proofs.Same.{Bearers, with_config, begins_same, ends_same}
@@ -38,7 +40,8 @@ layout_at config bearers ks l k low = elim (cases_eq l config.channel.lcid) [
   | inl here ↦
       ap (λ (n : ℕ). slice_index_or
       (slice_set ks n (Some (layout_of config.kind config.rlc_bits config.pdcp_bits))) l None) (sym here)
-      ∙ get_or-set_same ks l (Some (layout_of config.kind config.rlc_bits config.pdcp_bits)) None (omega (arith, k.size))
+      ∙ get_or-set_same ks l (Some (layout_of config.kind config.rlc_bits config.pdcp_bits)) None
+      (omega (arith, k.size))
       ∙ ap (λ (b : Bool). layout_by (if b then Some config else bearers l))
       (sym (eq-eqb config.channel.lcid l (sym here)))
   | inr apart ↦
@@ -131,7 +134,8 @@ within_stands may_take now past s =
     let line = line_same now.line (on_channels past) (kinds past) k.journal (told_behind may_take past) s.kinds_are
     s.journal in
     let g = records_kept may_take past [] now.events (after_line now.line k) in
-    let ks : (after_line now.line (all_kept may_take past)).kinds ≡ kinds (now ∷ past) = ap (kinds_by now.line) s.kept in
+    let ks : (after_line now.line (all_kept may_take past)).kinds ≡ kinds (now ∷ past) =
+    ap (kinds_by now.line) s.kept in
     let same = records_same (on_channels (now ∷ past)) may_take past (kinds (now ∷ past)) [] now.events
     (behind_line accounts now.line k.journal) (behind_line histories now.line (told_behind may_take past))
     line.kinds_are line.journal in

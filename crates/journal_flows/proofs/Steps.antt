@@ -27,8 +27,8 @@ use Rattle.journal_flows.specs.declared.parcels.Parcel.{Parcel}
 use Rattle.journal_flows.specs.declared.sending.Named.{Named}
 use Rattle.journal_flows.specs.NumberedPdus.{parcel_by, written_as, come_as}
 use Rattle.journal_flows.specs.Gathering.{Sending, Journal, Loaded, sending_of, with_sending, with_flows, all_told}
-use Rattle.journal_flows.specs.Gathering.{told_by, names, behind_event, parcel_of, loads_parcel, loads, sdus_read, holds}
-use Rattle.journal_flows.specs.Gathering.{with_loaded, behind_new, resends, behind_again, all_come, sent_last}
+use Rattle.journal_flows.specs.Gathering.{told_by, names, behind_event, parcel_of, loads_parcel, loads, sdus_read}
+use Rattle.journal_flows.specs.Gathering.{holds, with_loaded, behind_new, resends, behind_again, all_come, sent_last}
 use Rattle.journal_flows.specs.Gathering.{behind_landing, behind_record, behind_records, MayTake}
 use Rattle.journal_flows.specs.FlowsTold.{Flows, histories}
 use Rattle.journal_flows.specs.Accounts.{Accounts, accounts, is_acked_kind}

@@ -1,7 +1,7 @@
 -- The accounts of acknowledged flows that are kept while a journal is read (docs/laws/ACCOUNT.md).
 -- They don't grow with the journal.
-use Rattle.std.specs.Prelude.{ℕ, Bool, true, false, if◌then◌else◌, List, [], ◌∷◌, ◌≡◌, replicate, map}
-use Rattle.std.specs.Prelude.{Option, Some, None, option_map, slice_index_or, slice_set}
+use Rattle.std.specs.Prelude.{ℕ, Bool, true, false, if◌then◌else◌, List, [], ◌∷◌, ◌≡◌, replicate}
+use Rattle.std.specs.Prelude.{map, Option, Some, None, option_map, slice_index_or, slice_set}
 use Rattle.l2_types.specs.declared.channel.Kind.{Kind}
 use Rattle.l2_types.specs.declared.channel.Kind.TheVariants as bearers
 use Rattle.l2_types.specs.declared.side.Side.{Side}

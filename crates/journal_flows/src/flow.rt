@@ -14,7 +14,8 @@ use l2_bits::NoMemory;
 use std::alloc::Global;
 use std::marker::Model;
 
-// SOs have 15 bits, and an SOend of 32767 is the last octet of a field (TS 36.322 6.2.2.7, 6.2.2.18).
+// SOs have 15 bits, and an SOend of 32767 is the last octet of a field (TS 36.322 6.2.2.7,
+// 6.2.2.18).
 const MOST_OCTETS: u32 = 32767;
 
 // What happens to a flow, but for a STATUS.
@@ -85,8 +86,8 @@ impl Model for Flow {
     ghost invariant = { λ f. IsOfHistory f.lives };
 }
 
-// An event takes a flow and gives it back changed, since behind an `Err` nothing is known of it. One
-// that can't happen changes nothing.
+// An event takes a flow and gives it back changed, since behind an `Err` nothing is known of it.
+// One that can't happen changes nothing.
 impl Flow {
     pub(crate) fn new(alloc: Global, most: u32, first: u32) -> Flow
         ensures { result ≡ no_lives most first }

@@ -140,9 +140,9 @@ fn report(
     }
 }
 
-// What a PDU of an acknowledged bearer is that its `send` names so, where its flow writes the number
-// `next` next, and VR(R) of the flow that goes the other way is `front`. `None` where the octets are
-// no such PDU.
+// What a PDU of an acknowledged bearer is that its `send` names so, where its flow writes the
+// number `next` next, and VR(R) of the flow that goes the other way is `front`. `None` where the
+// octets are no such PDU.
 pub(crate) fn numbered(
     alloc: Global,
     next: u64,
