@@ -1,0 +1,117 @@
+// New blocks: their PDUs, bound to what `send` records name.
+ghost use Rattle.std.specs.Prelude.{◌≡◌, ◌<◌, [], length, IfOk, OnOk};
+ghost use Rattle.l2_bits.specs.declared.limits.TheConstants.{OCTETS_LIMIT};
+ghost use Rattle.pdu_show.specs.Carried.{is_acknowledged};
+ghost use Rattle.mac_pdu.specs.Reading.{reading};
+ghost use Rattle.promises.specs.RightForm.{sdus_in};
+ghost use Rattle.journal_flows.specs.Gathering.{loads, loads_parcel, parcel_of, sdus_read};
+ghost use Rattle.journal_flows.specs.Accounts.{accounts};
+
+use crate::accounts::{Accounts, other};
+use crate::parcels::{Parcel, numbered};
+use crate::sending::Named;
+use l2_bits::{Items, NoMemory};
+use l2_types::Side;
+use mac_pdu::{Direction, Item, MacReader};
+use pdu_show::{Kinds, Layout};
+use std::alloc::Global;
+
+fn is_acknowledged(layout: Option<Layout>) -> bool
+    ensures { result ≡ is_acknowledged layout }
+{
+    match layout {
+        Some(Layout::Am { .. }) => true,
+        _ => false,
+    }
+}
+
+// What a PDU is that is named so.
+fn parcel_of(
+    alloc: Global,
+    kinds: &Kinds,
+    flows: &Accounts,
+    from: Side,
+    one: Named,
+    octets: &[u8],
+) -> Result<Option<Parcel>, NoMemory>
+    requires { length octets.now < OCTETS_LIMIT }
+    ensures { IfOk result
+        (λ parcel. parcel ≡ parcel_of accounts kinds.now flows.now from one octets.now) }
+{
+    if !is_acknowledged(kinds.of(one.lcid)) {
+        return Ok(None);
+    }
+    let next = flows.next(from, one.lcid);
+    let front = flows.front(other(from), one.lcid);
+    numbered(alloc, next, front, one.lcid, one.how, octets)
+}
+
+// A PDU is written.
+fn load(
+    flows: &mut Accounts,
+    from: Side,
+    one: Named,
+    parcel: Option<Parcel>,
+    parcels: &mut Items<Parcel>,
+) -> Result<(), NoMemory>
+    ensures { OnOk result (record { flows = flows.new; parcels = parcels.new }
+        ≡ loads_parcel accounts from one.how parcel
+        (record { flows = flows.old; parcels = parcels.old })) }
+{
+    let Some(parcel) = parcel else {
+        return Ok(());
+    };
+    flows.write(from, one.how, &parcel)?;
+    parcels.push(parcel)
+}
+
+// The PDUs of a block, one behind the other.
+#[tactic(auto, using(crate::proofs::Loads::none_left))]
+fn load_all(
+    alloc: Global,
+    kinds: &Kinds,
+    flows: &mut Accounts,
+    from: Side,
+    named: Items<Named>,
+    reader: MacReader<'_>,
+) -> Result<Items<Parcel>, NoMemory>
+    ensures { IfOk result (λ parcels. record { flows = flows.new; parcels = parcels }
+        ≡ loads accounts kinds.now from named (sdus_in reader.entry)
+        (record { flows = flows.old; parcels = [] })) }
+{
+    let mut reader = reader;
+    let mut named = named;
+    let mut parcels = Items::new(alloc);
+    while let Some(item) = reader.next() {
+        if let Item::Sdu { octets, .. } = item {
+            let Some(one) = named.pop_front() else {
+                return Ok(parcels);
+            };
+            let parcel = parcel_of(alloc, kinds, flows, from, one, octets)?;
+            load(flows, from, one, parcel, &mut parcels)?;
+        }
+    }
+    Ok(parcels)
+}
+
+// A block of fewer than 2^28 octets is written: its PDUs are those that are named, in their order.
+#[tactic(auto, using(crate::proofs::Loads::none_left))]
+pub(crate) fn load_block(
+    alloc: Global,
+    kinds: &Kinds,
+    flows: &mut Accounts,
+    from: Side,
+    direction: Direction,
+    named: Items<Named>,
+    octets: &[u8],
+) -> Result<Items<Parcel>, NoMemory>
+    requires { length octets.now < OCTETS_LIMIT }
+    ensures { IfOk result (λ parcels. record { flows = flows.new; parcels = parcels }
+        ≡ loads accounts kinds.now from named (sdus_read (reading direction octets.now))
+        (record { flows = flows.old; parcels = [] })) }
+{
+    match MacReader::parse(direction, octets) {
+        Ok(reader) => load_all(alloc, kinds, flows, from, named, reader),
+        Err(_) => Ok(Items::new(alloc)),
+    }
+}
