@@ -1,1 +1,9 @@
 pub mod WindowSteps
+pub mod Reading
+pub mod Accepting
+pub mod Keeping
+pub mod Searching
+pub mod Counting
+pub mod Steps
+pub mod Accounts
+pub mod Taking

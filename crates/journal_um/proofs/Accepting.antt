@@ -1,0 +1,68 @@
+-- Which numbers are accepted, along a history.
+use Rattle.std.proofs.Common.{◌≡◌, ◌<◌, ◌≤◌, ℕ, ◌+◌, ◌-◌, ◌*◌, ◌%◌, Bool, true, false, ◌||◌, ◌&&◌, not}
+use Rattle.std.proofs.Common.{if◌then◌else◌, List, [], ◌∷◌, Option, Some, None, is_some, nat_lt, nat_le, ◌==◌, max}
+use Rattle.std.proofs.Common.{inl, inr, refl, ap, sym, ◌∙◌, arith}
+use Rattle.std.specs.Option.{option_or}
+use Rattle.std.proofs.lemmas.Bool.{cases_lt, cases_eq, ne_eqb, eq-eqb, ltb-true, ltb-false, lt-ltb}
+use Rattle.std.proofs.lemmas.Bool.Decides.{nat_tests}
+use Rattle.l2_num.specs.Least.{IsLeast, past}
+use Rattle.l2_num.proofs.LeastLemmas.{past_least}
+use Rattle.journal_um.specs.declared.pieces.Piece.{Piece}
+use Rattle.journal_um.specs.UmEvents.{UmEvent, PduArrived, ReorderStarted, ReorderExpired}
+use Rattle.journal_um.specs.UmNumbers.{read_as, number_above, top_in, mark_in, expired_mark, base_in, pieces_in}
+use Rattle.journal_um.specs.UmNumbers.{is_number, offered_as, pdu_of, is_accepted, edge_in}
+use Rattle.journal_um.specs.Laws.{DropsBelowEdge}
+
+pub nothing_else : (o : Option (List Piece)) → option_or o None ≡ o
+nothing_else None = refl
+nothing_else (Some p) = refl
+
+is_other : (o : Option ℕ) (n : ℕ) → number_above o ≤ n → is_number o n ≡ false
+is_other None n h = refl
+is_other (Some x) n h = ne_eqb x n (λ e. omega (arith, h, e))
+
+-- no number at or above VR(UH) was accepted
+pub none_above : (width : ℕ) (es : List UmEvent) (n : ℕ) → top_in width es ≤ n → pdu_of width es n ≡ None
+none_above width [] n h = refl
+none_above width (e ∷ es) n h =
+    let old = none_above width es n (omega (arith, h)) in
+    let new = is_other (read_as width (top_in width es) e) n (omega (arith, h)) in
+    rw (old, new) refl
+
+pub mark_low : (width : ℕ) (es : List UmEvent) → mark_in width es ≤ top_in width es
+mark_low width [] = omega arith
+mark_low width (PduArrived number pieces ∷ es) = let ih = mark_low width es in omega (arith, ih)
+mark_low width (ReorderStarted ∷ es) = omega arith
+mark_low width (ReorderExpired ∷ es) = let ih = mark_low width es in omega (arith, ih)
+
+-- VR(UR) is the least number that it should be
+pub edge_least : (width : ℕ) (es : List UmEvent)
+    → IsLeast (is_accepted width es) (base_in width es) (edge_in width es)
+edge_least width es =
+    past_least (is_accepted width es) (base_in width es) (base_in width es) (top_in width es) (omega arith)
+    (λ n a b. absurd (omega (arith, a, b)))
+    (ap is_some (none_above width es (base_in width es + top_in width es) (omega arith)))
+
+pub least_one : (p : ℕ → Bool) (m k l : ℕ) → IsLeast p m k → IsLeast p m l → k ≡ l
+least_one p m k l g h = elim (cases_lt k l) [
+  | inl lt ↦ absurd (let yes = h.before k g.from lt in let no = g.refused in cc)
+  | inr le ↦ elim (cases_lt l k) [
+    | inl lt ↦ absurd (let yes = g.before l h.from lt in let no = h.refused in cc)
+    | inr ge ↦ omega (arith, le, ge)
+  ]
+]
+
+least_tests : (p : ℕ → Bool) (m k n : ℕ) → IsLeast p m k
+    → (nat_le m n && not (p n)) ≡ (nat_le k n && not (p n))
+least_tests p m k n h = elim (cases_lt n k) [
+  | inl lt ↦ elim (cases_lt n m) [
+    | inl out ↦ grind (arith, nat_tests, lt, out)
+    | inr from ↦
+        let yes = h.before n from lt in rw yes (grind (arith, nat_tests, lt, from))
+  ]
+  | inr le ↦ let from = h.from in grind (arith, nat_tests, le, from)
+]
+
+pub drops_below_edge : DropsBelowEdge
+drops_below_edge width n es some =
+    least_tests (is_accepted width es) (base_in width es) (edge_in width es) n (edge_least width es)
