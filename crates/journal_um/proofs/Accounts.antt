@@ -12,11 +12,12 @@ use Rattle.journal_um.specs.UmJoiner.{UmJoiner, with_pdus, nothing_joined}
 use Rattle.journal_um.specs.UmFlow.{UmFlow, living, ended, flow_of, is_long}
 use Rattle.journal_um.specs.Laws.{IsUmAccount, UmAccountsAreTrue}
 use Rattle.journal_um.proofs.WindowSteps.{take_whole}
+use Rattle.journal_um.proofs.Either.{or-false, or-swap}
 use Rattle.journal_um.proofs.Accepting.{edge_least, least_one}
 use Rattle.journal_um.proofs.Keeping.{below, joined-on, rests-least}
 use Rattle.journal_um.proofs.Searching.{below-ready}
 use Rattle.journal_um.proofs.Counting.{below-long, below-many}
-use Rattle.journal_um.proofs.Steps.{Stands, or-false, step}
+use Rattle.journal_um.proofs.Steps.{Stands, step}
 
 -- with what joining began as the life did
 record Stood (width many : ℕ) (es : List UmLifeEvent) (f : UmFlow) : Type 0 where
@@ -28,13 +29,6 @@ record Stood (width many : ℕ) (es : List UmLifeEvent) (f : UmFlow) : Type 0 wh
   ready_is : outset.ready ≡ handed_before width es
   long_is : (far || outset.long) ≡ was_long width many es
   stands : Stands width (running es) outset far f
-
-or-swap : (a b c d : Bool) → ((a || b) || (c || d)) ≡ ((a || c) || (b || d))
-or-swap true b true d = refl
-or-swap true b false d = refl
-or-swap false true true d = refl
-or-swap false true false d = refl
-or-swap false false c d = refl
 
 -- losses were long where they were before, or a number or an SDU tells so in this life
 long-told : (width many n : ℕ) (es : List UmLifeEvent) (f : UmFlow) (j : UmJoiner) (s : Stood width many es f)
@@ -64,7 +58,8 @@ stood-ended : (width many : ℕ) (es : List UmLifeEvent) (f : UmFlow) → Stood 
     → Stood width many (LifeEnded ∷ es) (ended f)
 stood-ended width many es f s =
     let h = s.stands.rests.holds in
-    let all : with_pdus f.window.pdus f.joiner ≡ below (pdu_of width (running es)) (top_in width (running es)) s.outset =
+    let all : with_pdus f.window.pdus f.joiner
+    ≡ below (pdu_of width (running es)) (top_in width (running es)) s.outset =
     ap (λ (l : List (Option (List Piece))). with_pdus l f.joiner) (sym (take_whole f.window.pdus))
     ∙ joined-on (length f.window.pdus) (pdu_of width (running es)) f.window.edge f.window.pdus f.joiner s.outset
     (omega arith) h.are h.joined

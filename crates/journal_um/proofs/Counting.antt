@@ -1,11 +1,12 @@
 -- What is known of the gaps between the SDUs that go up.
-use Rattle.std.proofs.Common.{◌≡◌, ℕ, zero, suc, ◌+◌, Bool, true, false, ◌||◌, nat_le, if◌then◌else◌, List, [], ◌∷◌, ◌++◌, Option, Some}
-use Rattle.std.proofs.Common.{None, refl, ap, sym, subst, ◌∙◌, append_assoc}
+use Rattle.std.proofs.Common.{◌≡◌, ℕ, zero, suc, ◌+◌, Bool, true, false, ◌||◌, nat_le, if◌then◌else◌, List, [], ◌∷◌}
+use Rattle.std.proofs.Common.{◌++◌, Option, Some, None, refl, ap, sym, ◌∙◌, append_assoc}
 use Rattle.std.proofs.lemmas.List.{append-nil, append_cancel_left}
 use Rattle.journal_um.specs.declared.pieces.JoinedSdu.{JoinedSdu}
 use Rattle.journal_um.specs.declared.pieces.Piece.{Piece}
 use Rattle.journal_um.specs.UmLosses.{leaves_out}
 use Rattle.journal_um.specs.UmJoiner.{UmJoiner, opened, with_part, with_sdu, closed, with_piece, with_pieces, with_pdu}
+use Rattle.journal_um.proofs.Either.{or-assoc, or-false}
 use Rattle.journal_um.proofs.Keeping.{below}
 
 abbrev behind : ℕ → List JoinedSdu → ℕ
@@ -24,16 +25,9 @@ behind-push : (next : ℕ) (sdus : List JoinedSdu) (sdu : JoinedSdu) → behind 
 behind-push next [] sdu = refl
 behind-push next (x ∷ xs) sdu = behind-push (x.place + 1) xs sdu
 
-or-assoc : (a b c : Bool) → ((a || b) || c) ≡ (a || (b || c))
-or-assoc true b c = refl
-or-assoc false b c = refl
-
-or-false : (a : Bool) → (a || false) ≡ a
-or-false true = refl
-or-false false = refl
-
 leaves-push : (many next : ℕ) (sdus : List JoinedSdu) (sdu : JoinedSdu)
-    → leaves_out many next (sdus ++ sdu ∷ []) ≡ (leaves_out many next sdus || nat_le (behind next sdus + many) sdu.place)
+    → leaves_out many next (sdus ++ sdu ∷ [])
+    ≡ (leaves_out many next sdus || nat_le (behind next sdus + many) sdu.place)
 leaves-push many next [] sdu = or-false (nat_le (next + many) sdu.place)
 leaves-push many next (x ∷ xs) sdu =
     ap (λ (b : Bool). nat_le (next + many) x.place || b) (leaves-push many (x.place + 1) xs sdu)

@@ -1,4 +1,5 @@
 pub mod WindowSteps
+pub mod Either
 pub mod Reading
 pub mod Accepting
 pub mod Keeping

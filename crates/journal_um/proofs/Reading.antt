@@ -1,6 +1,6 @@
 -- What an SN is read as.
-use Rattle.std.proofs.Common.{◌≡◌, ◌<◌, ◌≤◌, ℕ, ◌+◌, ◌-◌, ◌*◌, ◌%◌, Bool, true, false, ◌||◌, if◌then◌else◌, List, [], ◌∷◌}
-use Rattle.std.proofs.Common.{Option, Some, None, unwrap_or, nat_lt, nat_le, max, refl, ap, sym, ◌∙◌, arith}
+use Rattle.std.proofs.Common.{◌≡◌, ◌<◌, ◌≤◌, ℕ, ◌+◌, ◌-◌, ◌*◌, ◌%◌, Bool, true, false, ◌||◌, if◌then◌else◌, List, []}
+use Rattle.std.proofs.Common.{◌∷◌, Option, Some, None, unwrap_or, nat_lt, nat_le, max, refl, ap, sym, ◌∙◌, arith}
 use Rattle.std.proofs.lemmas.Bool.{ltb-true, ltb-false, lt-ltb}
 use Rattle.std.proofs.lemmas.Bool.Decides.{nat_tests}
 use Rattle.std.proofs.lemmas.Option.{none-some}
@@ -11,7 +11,8 @@ use Rattle.journal_um.specs.declared.pieces.Piece.{Piece}
 use Rattle.journal_um.specs.UmEvents.{UmEvent, PduArrived, ReorderStarted, ReorderExpired}
 use Rattle.journal_um.specs.UmNumbers.{IsReadAs, raised_number, read_number, top_in, number_above}
 use Rattle.journal_um.specs.UmLosses.{far_came, is_far, highest_in, ComeInTime}
-use Rattle.journal_um.specs.Laws.{ReadsNumbers, IsReadTruly, ReadsTruly}
+use Rattle.journal_um.specs.Laws.{ReadsNumbers, ReadsTruly}
+use Rattle.journal_um.proofs.Either.{neither}
 
 record Answers (b : Bool) (x n : ℕ) : Type 0 where
   test : b ≡ false
@@ -63,28 +64,20 @@ reads_numbers width top sn some low = record {
 
 -- ---- true numbers
 
-pub record Neither (a b : Bool) : Type 0 where
-  pub first : a ≡ false
-  pub second : b ≡ false
-
-pub neither : (a b : Bool) → (a || b) ≡ false → Neither a b
-neither true b e = absurd cc
-neither false b e = record { first = refl; second = e }
-
 near_read : (width top number : ℕ) → 0 < width → top ≤ number + width → number < top + width
     → read_number width top (number % (2 * width)) ≡ Some number
 near_read width top number some from below =
     read_only width top (number % (2 * width)) number some (mod-lt number (omega arith))
     (record { from = from; below = below; sn_is = refl })
 
-near_truly : (width number : ℕ) (es : List UmEvent) → 0 < width → highest_in es ≤ number + width
+pub near_truly : (width number : ℕ) (es : List UmEvent) → 0 < width → highest_in es ≤ number + width
     → nat_le (top_in width es + width) number ≡ false → top_in width es ≡ highest_in es
     → read_number width (top_in width es) (number % (2 * width)) ≡ Some number
 near_truly width number es some late short top =
     let near : number < top_in width es + width = grind (arith, nat_tests, short) in
     near_read width (top_in width es) number some (omega (arith, top, late)) near
 
-top_true : (width : ℕ) (es : List UmEvent) → 0 < width → ComeInTime width es → far_came width es ≡ false
+pub top_true : (width : ℕ) (es : List UmEvent) → 0 < width → ComeInTime width es → far_came width es ≡ false
     → top_in width es ≡ highest_in es
 top_true width [] some time short = refl
 top_true width (PduArrived number pieces ∷ es) some time short =

@@ -1,5 +1,5 @@
 -- The account of a life tells what its history says, event by event.
-use Rattle.std.proofs.Common.{◌≡◌, ◌<◌, ◌≤◌, ℕ, ◌+◌, ◌-◌, ◌*◌, ◌%◌, Bool, true, false, ◌||◌, ◌&&◌, if◌then◌else◌, List, []}
+use Rattle.std.proofs.Common.{◌≡◌, ◌<◌, ◌≤◌, ℕ, ◌+◌, ◌-◌, ◌*◌, ◌%◌, Bool, true, false, ◌||◌, ◌&&◌, if◌then◌else◌, List}
 use Rattle.std.proofs.Common.{◌∷◌, length, Option, Some, None, is_some, nat_lt, nat_le, ◌==◌, max, inl, inr}
 use Rattle.std.proofs.Common.{refl, ap, sym, subst, ◌∙◌, arith}
 use Rattle.std.specs.Option.{option_or}
@@ -14,6 +14,7 @@ use Rattle.journal_um.specs.UmLosses.{far_came}
 use Rattle.journal_um.specs.UmWindow.{UmWindow, top_of, pdu_at, is_dropped}
 use Rattle.journal_um.specs.UmJoiner.{UmJoiner}
 use Rattle.journal_um.specs.UmFlow.{UmFlow, pass, kept, landed, numbered, read_in, living}
+use Rattle.journal_um.proofs.Either.{or-false, or-assoc}
 use Rattle.journal_um.proofs.Reading.{read_is}
 use Rattle.journal_um.proofs.Accepting.{nothing_else, none_above, mark_low}
 use Rattle.journal_um.proofs.Keeping.{Holds, Rests, rests-same, pass-holds, advanced-rests, kept-rests}
@@ -28,14 +29,6 @@ rests-moved : (p : ℕ → Option (List Piece)) (base base' top top' : ℕ) (j0 
     → base ≡ base' → top ≡ top' → Rests p base top j0 w j → Rests p base' top' j0 w j
 rests-moved p base base' top top' j0 w j e g r =
     subst (λ (b : ℕ). Rests p b top' j0 w j) e (subst (λ (t : ℕ). Rests p base t j0 w j) g r)
-
-pub or-false : (a : Bool) → (a || false) ≡ a
-or-false true = refl
-or-false false = refl
-
-pub or-assoc : (a b c : Bool) → ((a || b) || c) ≡ (a || (b || c))
-or-assoc true b c = refl
-or-assoc false b c = refl
 
 -- ---- t-Reordering
 

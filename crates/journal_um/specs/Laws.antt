@@ -1,6 +1,6 @@
 -- What the account of an unacknowledged flow tells is what its history says (docs/laws/ACCOUNT.md).
 use Rattle.std.specs.Prelude.{◌≡◌, ℕ, ◌-◌, ◌*◌, ◌%◌, ◌<◌, ◌≤◌, List, false, ◌∷◌, ◌++◌, length, Some}
-use Rattle.std.specs.Prelude.{◌&&◌, not, nat_le}
+use Rattle.std.specs.Prelude.{◌&&◌, not, nat_le, Contains}
 use Rattle.l2_num.specs.Least.{IsLeast}
 use Rattle.journal_um.specs.declared.pieces.JoinedSdu.{JoinedSdu}
 use Rattle.journal_um.specs.declared.pieces.Piece.{Piece}
@@ -74,3 +74,9 @@ abbrev pub ReadsTruly : Type 0
 ReadsTruly = (width number : ℕ) (pieces : List Piece) (es : List UmEvent) → 0 < width
     → ComeInTime width (PduArrived number pieces ∷ es)
     → far_came width (PduArrived number pieces ∷ es) ≡ false → IsReadTruly width es number
+
+-- and what was accepted under a number came with it
+abbrev pub AcceptsTruly : Type 0
+AcceptsTruly = (width n : ℕ) (pieces : List Piece) (es : List UmEvent) → 0 < width
+    → ComeInTime width es → far_came width es ≡ false → pdu_of width es n ≡ Some pieces
+    → Contains es (PduArrived n pieces)

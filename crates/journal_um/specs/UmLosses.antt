@@ -8,7 +8,7 @@ use Rattle.journal_um.specs.UmEvents.{UmLifeEvent, InLife, LifeEnded, running}
 use Rattle.journal_um.specs.UmNumbers.{top_in}
 use Rattle.journal_um.specs.UmSdus.{joined_in, all_joined_in}
 
--- an event's number stands W or more above VR(UH)
+-- an event's number stands W or more above VR(UH): it isn't read truly
 abbrev pub is_far : ℕ → ℕ → UmEvent → Bool
 is_far width top (PduArrived number pieces) = nat_le (top + width) number
 is_far width top other = false
@@ -18,14 +18,14 @@ abbrev pub far_came : ℕ → List UmEvent → Bool
 far_came width [] = false
 far_came width (e ∷ es) = far_came width es || is_far width (top_in width es) e
 
--- so many SDUs or more are left out before one of these, of which the first awaited has this place
--- in the life
+-- so many places or more are left out before one of these SDUs, from `next` on or behind the one
+-- before it
 abbrev pub leaves_out : ℕ → ℕ → List JoinedSdu → Bool
 leaves_out many next [] = false
 leaves_out many next (sdu ∷ sdus) =
     nat_le (next + many) sdu.place || leaves_out many (sdu.place + 1) sdus
 
--- losses were long in the lives that have ended; PDCP has so many SNs
+-- losses were long in the lives that have ended, where PDCP has so many SNs
 abbrev pub was_long : ℕ → ℕ → List UmLifeEvent → Bool
 was_long width many [] = false
 was_long width many (InLife e ∷ es) = was_long width many es
@@ -48,8 +48,8 @@ abbrev pub highest_in : List UmEvent → ℕ
 highest_in [] = 0
 highest_in (e ∷ es) = max (highest_in es) (number_behind e)
 
--- no PDU comes behind one whose number is more than W above its own: a sender writes no new number
--- W or more above one that is still under way
+-- no PDU comes behind one whose number is W or more above its own: a sender sees to it that writes
+-- no such number while one is still under way
 abbrev pub IsInTime : ℕ → UmEvent → List UmEvent → Type 0
 IsInTime width (PduArrived number pieces) es = highest_in es ≤ number + width
 IsInTime width ReorderStarted es = Unit {0}

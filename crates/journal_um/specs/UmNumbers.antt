@@ -12,6 +12,7 @@ use Rattle.journal_um.specs.UmEvents.{UmEvent, PduArrived, ReorderStarted, Reord
 -- ---- reading an SN
 
 -- n is the number with an SN that stands W or less below VR(UH), or less than W above it
+-- (5.1.2.2.1)
 pub record IsReadAs (width top sn n : ℕ) : Type 0 where
   pub from : top ≤ n + width
   pub below : n < top + width
@@ -27,7 +28,7 @@ abbrev pub read_number : ℕ → ℕ → ℕ → Option ℕ
 read_number width top sn = let raised = raised_number width top sn in
     if nat_lt raised (2 * width) then None else Some (raised - 2 * width)
 
--- the number that an event's PDU is read as, by its SN
+-- the number that an event's PDU is read as, by its SN, its number modulo 2 W
 abbrev pub read_as : ℕ → ℕ → UmEvent → Option ℕ
 read_as width top (PduArrived number pieces) = read_number width top (number % (2 * width))
 read_as width top other = None

@@ -1,8 +1,9 @@
 -- The numbers from VR(UR) on below VR(UH), as they are kept (docs/laws/ACCOUNT.md; TS 36.322 7.1).
-use Rattle.std.specs.Prelude.{ℕ, ◌+◌, ◌-◌, Bool, ◌||◌, nat_lt, List, [], ◌∷◌, ◌++◌, length, drop}
-use Rattle.std.specs.Prelude.{replicate, Option, Some, None, is_some, slice_set, slice_index_or, min}
-use Rattle.rlc_pdu.specs.declared.constants.TheConstants.{UM_SHORT_WINDOW_SIZE, UM_LONG_WINDOW_SIZE}
-use Rattle.std.specs.Prelude.{◌==◌, if◌then◌else◌}
+use Rattle.std.specs.Prelude.{ℕ, ◌+◌, ◌-◌, ◌==◌, Bool, ◌||◌, nat_lt, if◌then◌else◌, List, [], ◌∷◌}
+use Rattle.std.specs.Prelude.{◌++◌, length, drop, replicate, Option, Some, None, is_some, slice_set}
+use Rattle.std.specs.Prelude.{slice_index_or, min}
+use Rattle.rlc_pdu.specs.declared.constants.TheConstants.{UM_SHORT_WINDOW_SIZE}
+use Rattle.rlc_pdu.specs.declared.constants.TheConstants.{UM_LONG_WINDOW_SIZE}
 use Rattle.journal_um.specs.declared.pieces.Piece.{Piece}
 
 -- UM_Window_Size (7.2)

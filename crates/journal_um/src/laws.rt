@@ -1,6 +1,6 @@
 // Laws of the accounts, each proved as the contract of a function that does nothing.
 ghost use Rattle.journal_um.specs.Laws.{UmAccountsAreTrue, TakingIsFree, HandedGrows};
-ghost use Rattle.journal_um.specs.Laws.{ReadsNumbers, DropsBelowEdge, ReadsTruly};
+ghost use Rattle.journal_um.specs.Laws.{ReadsNumbers, DropsBelowEdge, ReadsTruly, AcceptsTruly};
 
 /// The law that the account of any history tells what the history says.
 pub fn um_accounts_are_true()
@@ -27,7 +27,9 @@ pub fn drops_below_edge()
     ensures { DropsBelowEdge }
 {}
 
-/// The law that each number is read truly while losses are short and PDUs don't come late.
+/// The law that, while losses are short and PDUs come in time, each is read as its true number, and
+/// what was accepted under a number came with it.
 pub fn reads_truly()
-    ensures { ReadsTruly }
+    ensures reads { ReadsTruly }
+    ensures accepts { AcceptsTruly }
 {}
