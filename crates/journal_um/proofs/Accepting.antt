@@ -1,19 +1,19 @@
 -- Which numbers are accepted, along a history.
-use Rattle.std.proofs.Common.{◌≡◌, ◌<◌, ◌≤◌, ℕ, suc, ◌+◌, ◌-◌, ◌*◌, ◌%◌, Bool, true, false, ◌||◌, ◌&&◌, not}
-use Rattle.std.proofs.Common.{if◌then◌else◌, List, [], ◌∷◌, Option, Some, None, is_some, nat_lt, nat_le, ◌==◌, max}
+use Rattle.std.proofs.Common.{◌≡◌, ◌≤◌, ℕ, suc, ◌+◌, ◌*◌, ◌%◌, Bool, true, false, ◌&&◌, not}
+use Rattle.std.proofs.Common.{if◌then◌else◌, List, [], ◌∷◌, Option, Some, None, is_some, nat_le, ◌==◌}
 use Rattle.std.proofs.Common.{inl, inr, refl, ap, sym, subst, ◌∙◌, arith, unwrap_or}
 use Rattle.std.specs.List.{Contains}
 use Rattle.std.specs.Option.{option_or}
-use Rattle.std.proofs.lemmas.Bool.{cases_lt, cases_eq, ne_eqb, eq-eqb, ltb-true, ltb-false, lt-ltb}
+use Rattle.std.proofs.lemmas.Bool.{cases_lt, cases_eq, ne_eqb}
 use Rattle.std.proofs.lemmas.Bool.Decides.{nat_tests}
 use Rattle.std.proofs.lemmas.Option.{none-some}
-use Rattle.l2_num.specs.Least.{IsLeast, past}
+use Rattle.l2_num.specs.Least.{IsLeast}
 use Rattle.l2_num.proofs.LeastLemmas.{past_least}
 use Rattle.journal_um.specs.declared.pieces.Piece.{Piece}
 use Rattle.journal_um.specs.UmEvents.{UmEvent, PduArrived, ReorderStarted, ReorderExpired}
-use Rattle.journal_um.specs.UmNumbers.{read_number, read_as, number_above, top_in, mark_in, expired_mark, base_in, pieces_in}
+use Rattle.journal_um.specs.UmNumbers.{read_number, read_as, number_above, top_in, mark_in, base_in}
 use Rattle.journal_um.specs.UmNumbers.{is_number, offered_as, pdu_of, is_accepted, edge_in}
-use Rattle.journal_um.specs.UmLosses.{far_came, ComeInTime}
+use Rattle.journal_um.specs.UmLosses.{far_came}
 use Rattle.journal_um.specs.Laws.{DropsBelowEdge, AcceptsTruly}
 use Rattle.journal_um.proofs.Either.{neither}
 use Rattle.journal_um.proofs.Reading.{near_truly, top_true}

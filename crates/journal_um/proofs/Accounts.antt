@@ -1,15 +1,14 @@
 -- The account tells what the history of all lives says.
-use Rattle.std.proofs.Common.{◌≡◌, ◌<◌, ◌≤◌, ℕ, ◌+◌, ◌-◌, Bool, true, false, ◌||◌, List, [], ◌∷◌, ◌++◌, length, take}
-use Rattle.std.proofs.Common.{Option, Some, None, max, refl, ap, sym, ◌∙◌, arith}
+use Rattle.std.proofs.Common.{◌≡◌, ◌<◌, ℕ, ◌-◌, Bool, false, ◌||◌, List, [], ◌∷◌, ◌++◌, length}
+use Rattle.std.proofs.Common.{Option, None, refl, ap, sym, ◌∙◌, arith}
 use Rattle.journal_um.specs.declared.pieces.JoinedSdu.{JoinedSdu}
 use Rattle.journal_um.specs.declared.pieces.Piece.{Piece}
-use Rattle.journal_um.specs.UmEvents.{UmEvent, UmLifeEvent, InLife, LifeEnded, running}
+use Rattle.journal_um.specs.UmEvents.{UmLifeEvent, InLife, LifeEnded, running}
 use Rattle.journal_um.specs.UmNumbers.{top_in, base_in, pdu_of, is_accepted, edge_in}
-use Rattle.journal_um.specs.UmSdus.{row_below, sdus_in, joined_in, all_joined_in, handed_before}
+use Rattle.journal_um.specs.UmSdus.{row_below, sdus_in, handed_before}
 use Rattle.journal_um.specs.UmLosses.{far_came, leaves_out, was_long}
-use Rattle.journal_um.specs.UmWindow.{pdu_at}
 use Rattle.journal_um.specs.UmJoiner.{UmJoiner, with_pdus, nothing_joined}
-use Rattle.journal_um.specs.UmFlow.{UmFlow, living, ended, flow_of, is_long}
+use Rattle.journal_um.specs.UmFlow.{UmFlow, ended, flow_of}
 use Rattle.journal_um.specs.Laws.{IsUmAccount, UmAccountsAreTrue}
 use Rattle.journal_um.proofs.WindowSteps.{take_whole}
 use Rattle.journal_um.proofs.Either.{or-false, or-swap}

@@ -8,8 +8,8 @@ use Rattle.std.proofs.Math.ListN.{length-set, length-replicate}
 use Rattle.l2_num.specs.Least.{IsLeast}
 use Rattle.journal_um.specs.declared.pieces.Piece.{Piece}
 use Rattle.journal_um.specs.UmJoiner.{UmJoiner, with_pdu, with_pdus}
-use Rattle.journal_um.specs.UmWindow.{UmWindow, pdu_at, leading, passed, fallen, grown, placed, with_placed}
-use Rattle.journal_um.specs.UmFlow.{UmFlow, pass, advanced, put, kept}
+use Rattle.journal_um.specs.UmWindow.{UmWindow, pdu_at, leading, passed, grown, placed, with_placed}
+use Rattle.journal_um.specs.UmFlow.{UmFlow, advanced, put, kept}
 
 -- ---- the list
 

@@ -8,3 +8,4 @@ pub mod Counting
 pub mod Steps
 pub mod Accounts
 pub mod Taking
+pub mod Losing

@@ -1,16 +1,15 @@
 -- What an SN is read as.
-use Rattle.std.proofs.Common.{◌≡◌, ◌<◌, ◌≤◌, ℕ, ◌+◌, ◌-◌, ◌*◌, ◌%◌, Bool, true, false, ◌||◌, if◌then◌else◌, List, []}
+use Rattle.std.proofs.Common.{◌≡◌, ◌<◌, ◌≤◌, ℕ, ◌+◌, ◌-◌, ◌*◌, ◌%◌, Bool, true, false, if◌then◌else◌, List, []}
 use Rattle.std.proofs.Common.{◌∷◌, Option, Some, None, unwrap_or, nat_lt, nat_le, max, refl, ap, sym, ◌∙◌, arith}
-use Rattle.std.proofs.lemmas.Bool.{ltb-true, ltb-false, lt-ltb}
+use Rattle.std.proofs.lemmas.Bool.{ltb-false}
 use Rattle.std.proofs.lemmas.Bool.Decides.{nat_tests}
 use Rattle.std.proofs.lemmas.Option.{none-some}
 use Rattle.std.proofs.Math.Nat.{mod-lt, add-mod_right}
 use Rattle.l2_num.specs.Numbers.{ahead}
 use Rattle.l2_num.proofs.NumberLemmas.{reached, ahead-seen}
-use Rattle.journal_um.specs.declared.pieces.Piece.{Piece}
 use Rattle.journal_um.specs.UmEvents.{UmEvent, PduArrived, ReorderStarted, ReorderExpired}
 use Rattle.journal_um.specs.UmNumbers.{IsReadAs, raised_number, read_number, top_in, number_above}
-use Rattle.journal_um.specs.UmLosses.{far_came, is_far, highest_in, ComeInTime}
+use Rattle.journal_um.specs.UmLosses.{far_came, highest_in, ComeInTime}
 use Rattle.journal_um.specs.Laws.{ReadsNumbers, ReadsTruly}
 use Rattle.journal_um.proofs.Either.{neither}
 

@@ -1,9 +1,9 @@
 -- The account of a life tells what its history says, event by event.
 use Rattle.std.proofs.Common.{◌≡◌, ◌<◌, ◌≤◌, ℕ, ◌+◌, ◌-◌, ◌*◌, ◌%◌, Bool, true, false, ◌||◌, ◌&&◌, if◌then◌else◌, List}
-use Rattle.std.proofs.Common.{◌∷◌, length, Option, Some, None, is_some, nat_lt, nat_le, ◌==◌, max, inl, inr}
+use Rattle.std.proofs.Common.{◌∷◌, Option, Some, None, is_some, nat_lt, nat_le, max, inl, inr}
 use Rattle.std.proofs.Common.{refl, ap, sym, subst, ◌∙◌, arith}
 use Rattle.std.specs.Option.{option_or}
-use Rattle.std.proofs.lemmas.Bool.{cases_lt, cases_eq, ne_eqb, eq-eqb, ltb-true, ltb-false, lt-ltb}
+use Rattle.std.proofs.lemmas.Bool.{cases_lt, cases_eq, ne_eqb, eq-eqb, lt-ltb}
 use Rattle.std.proofs.lemmas.Bool.Decides.{nat_tests}
 use Rattle.std.proofs.Math.Nat.{mod-lt}
 use Rattle.journal_um.specs.declared.pieces.Piece.{Piece}

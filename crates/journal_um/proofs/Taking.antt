@@ -1,16 +1,15 @@
 -- SDUs may be taken at any time, and what goes up only grows.
-use Rattle.std.proofs.Common.{◌≡◌, ◌<◌, ◌≤◌, ℕ, ◌+◌, ◌-◌, Bool, true, false, if◌then◌else◌, List, [], ◌∷◌, ◌++◌, length}
-use Rattle.std.proofs.Common.{take, drop, Option, Some, None, refl, ap, sym, subst, ◌∙◌, append_assoc, arith}
-use Rattle.std.proofs.lemmas.List.{append-nil, length_push}
+use Rattle.std.proofs.Common.{◌≡◌, ◌<◌, ℕ, ◌-◌, Bool, true, false, if◌then◌else◌, List, [], ◌∷◌, ◌++◌, length}
+use Rattle.std.proofs.Common.{take, drop, Option, Some, None, refl, ap, sym, ◌∙◌, append_assoc, arith}
+use Rattle.std.proofs.lemmas.List.{append-nil}
 use Rattle.journal_um.specs.declared.pieces.JoinedSdu.{JoinedSdu}
 use Rattle.journal_um.specs.declared.pieces.Piece.{Piece}
-use Rattle.journal_um.specs.UmEvents.{UmEvent, PduArrived, ReorderStarted, ReorderExpired}
+use Rattle.journal_um.specs.UmEvents.{PduArrived, ReorderStarted, ReorderExpired}
 use Rattle.journal_um.specs.UmEvents.{UmLifeEvent, InLife, LifeEnded}
-use Rattle.journal_um.specs.UmSdus.{handed_in}
-use Rattle.journal_um.specs.UmWindow.{UmWindow, is_dropped, leading, fallen, with_placed}
-use Rattle.journal_um.specs.UmJoiner.{UmJoiner, opened, with_part, with_sdu, closed, with_piece, with_pieces, with_pdu}
+use Rattle.journal_um.specs.UmWindow.{is_dropped, leading, fallen}
+use Rattle.journal_um.specs.UmJoiner.{UmJoiner, opened, with_part, closed, with_piece, with_pieces, with_pdu}
 use Rattle.journal_um.specs.UmJoiner.{with_pdus, one_taken, life_joined}
-use Rattle.journal_um.specs.UmFlow.{UmFlow, pass, advanced, put, kept, landed, numbered, read_in, living, ended}
+use Rattle.journal_um.specs.UmFlow.{UmFlow, pass, advanced, put, kept, landed, numbered, read_in, ended}
 use Rattle.journal_um.specs.UmFlow.{flow_with, flow_of, sdu_taken}
 use Rattle.journal_um.specs.Laws.{TakingIsFree, HasMore, HandedGrows}
 use Rattle.journal_um.proofs.Accounts.{um_accounts_are_true}

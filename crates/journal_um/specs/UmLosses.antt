@@ -2,7 +2,6 @@
 -- true number of a PDU (TS 36.322 5.1.2.2, 7.1), or the COUNT of an SDU (TS 36.323 5.1.2.1.3).
 use Rattle.std.specs.Prelude.{ℕ, ◌+◌, ◌≤◌, Bool, false, ◌||◌, nat_le, max, List, [], ◌∷◌}
 use Rattle.journal_um.specs.declared.pieces.JoinedSdu.{JoinedSdu}
-use Rattle.journal_um.specs.declared.pieces.Piece.{Piece}
 use Rattle.journal_um.specs.UmEvents.{UmEvent, PduArrived, ReorderStarted, ReorderExpired}
 use Rattle.journal_um.specs.UmEvents.{UmLifeEvent, InLife, LifeEnded, running}
 use Rattle.journal_um.specs.UmNumbers.{top_in}

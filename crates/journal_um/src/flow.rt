@@ -94,7 +94,7 @@ impl UmFlow {
     pub fn arrive(&mut self, number: u64, pieces: Pieces) -> Result<(), NoMemory>
         ensures { OnOk result (self.new ≡ flow_with (InLife (PduArrived number pieces)) self.old) }
     {
-        self.count_far(number);
+        self.note_far(number);
         match self.window.read(number) {
             Some(read) => self.land(read, pieces),
             None => Ok(()),
@@ -130,7 +130,7 @@ impl UmFlow {
         Ok(())
     }
 
-    fn count_far(&mut self, number: u64)
+    fn note_far(&mut self, number: u64)
         ensures { self.new ≡ numbered number self.old }
     {
         if self.window.is_far(number) {

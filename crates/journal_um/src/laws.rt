@@ -1,6 +1,7 @@
 // Laws of the accounts, each proved as the contract of a function that does nothing.
 ghost use Rattle.journal_um.specs.Laws.{UmAccountsAreTrue, TakingIsFree, HandedGrows};
 ghost use Rattle.journal_um.specs.Laws.{ReadsNumbers, DropsBelowEdge, ReadsTruly, AcceptsTruly};
+ghost use Rattle.journal_um.specs.Laws.{LosesOnly};
 
 /// The law that the account of any history tells what the history says.
 pub fn um_accounts_are_true()
@@ -32,4 +33,10 @@ pub fn drops_below_edge()
 pub fn reads_truly()
     ensures reads { ReadsTruly }
     ensures accepts { AcceptsTruly }
+{}
+
+/// The law that, while losses are short and PDUs come in time, what goes up are some of the SDUs
+/// that the sender's PDUs join to, each once, unchanged, in order.
+pub fn loses_only()
+    ensures { LosesOnly }
 {}
