@@ -9,3 +9,4 @@ pub mod Steps
 pub mod Accounts
 pub mod Taking
 pub mod Losing
+pub mod CountReading

@@ -1,14 +1,17 @@
 -- What the account of an unacknowledged flow tells is what its history says (docs/laws/ACCOUNT.md).
 use Rattle.std.specs.Prelude.{◌≡◌, ℕ, ◌-◌, ◌*◌, ◌%◌, ◌<◌, ◌≤◌, List, false, ◌∷◌, ◌++◌, length, Some}
-use Rattle.std.specs.Prelude.{◌&&◌, not, nat_le, Contains, Bool, true, [], Option}
+use Rattle.std.specs.Prelude.{◌&&◌, not, nat_le, Contains, Bool, true, [], Option, ◌+◌, ◌^◌}
+use Rattle.std.specs.Prelude.{map}
+use Rattle.l2_num.specs.Ascending.{IsAscending}
 use Rattle.l2_num.specs.Least.{IsLeast}
+use Rattle.l2_num.specs.Numbers.{recovered}
 use Rattle.journal_um.specs.declared.pieces.JoinedSdu.{JoinedSdu}
 use Rattle.journal_um.specs.declared.pieces.Piece.{Piece}
 use Rattle.journal_um.specs.UmEvents.{UmEvent, PduArrived, UmLifeEvent, running}
 use Rattle.journal_um.specs.UmNumbers.{IsReadAs, read_number, top_in, mark_in, base_in, pdu_of}
 use Rattle.journal_um.specs.UmNumbers.{is_accepted, edge_in}
 use Rattle.journal_um.specs.UmSdus.{row_below, sdus_in, joined_in, all_joined_in, handed_in}
-use Rattle.journal_um.specs.UmLosses.{far_came, is_long_in, highest_in, ComeInTime}
+use Rattle.journal_um.specs.UmLosses.{far_came, leaves_out, is_long_in, highest_in, ComeInTime}
 use Rattle.journal_um.specs.UmWindow.{top_of, pdu_at}
 use Rattle.journal_um.specs.UmFlow.{UmFlow, flow_with, flow_of, is_long, sdu_taken}
 
@@ -111,3 +114,21 @@ abbrev pub LosesOnly : Type 0
 LosesOnly = (width : ℕ) (written : ℕ → Option (List Piece)) (es : List UmEvent) → 0 < width
     → ComeInTime width es → far_came width es ≡ false → CarryWritten written es
     → AreLeft width written es
+
+-- ---- what PDCP reads
+
+-- the COUNT of each SDU is the one that PDCP reads from its SN, at or above `next` or behind that
+-- of the SDU before it (TS 36.323 5.1.2.1.3)
+abbrev pub AreCounted : ℕ → ℕ → List JoinedSdu → Type 0
+AreCounted bits next [] = Unit {0}
+AreCounted bits next (sdu ∷ sdus) =
+    (recovered next (sdu.place % 2 ^ bits) bits (2 ^ bits) ≡ Some sdu.place)
+    × AreCounted bits (sdu.place + 1) sdus
+
+abbrev pub places_of : List JoinedSdu → List ℕ
+places_of sdus = map (λ (sdu : JoinedSdu). sdu.place) sdus
+
+-- so it is where they stand in order and none is left out for which losses are long
+abbrev pub CountsAreRead : Type 0
+CountsAreRead = (bits next : ℕ) (sdus : List JoinedSdu) → IsAscending next (places_of sdus)
+    → leaves_out (2 ^ bits) next sdus ≡ false → AreCounted bits next sdus

@@ -14,7 +14,7 @@ mod window;
 
 pub use flow::UmFlow;
 pub use laws::{
-    drops_below_edge, handed_grows, loses_only, reads_numbers, reads_truly, taking_is_free,
-    um_accounts_are_true,
+    counts_are_read, drops_below_edge, handed_grows, loses_only, reads_numbers, reads_truly,
+    taking_is_free, um_accounts_are_true,
 };
 pub use pieces::{JoinedSdu, Piece, Pieces};
