@@ -1,5 +1,5 @@
 -- Which numbers are accepted, along a history.
-use Rattle.std.proofs.Common.{◌≡◌, ◌≤◌, ℕ, suc, ◌+◌, ◌*◌, ◌%◌, Bool, true, false, ◌&&◌, not}
+use Rattle.std.proofs.Common.{◌≡◌, ◌<◌, ◌≤◌, ℕ, suc, ◌+◌, ◌*◌, ◌%◌, Bool, true, false, ◌&&◌, not}
 use Rattle.std.proofs.Common.{if◌then◌else◌, List, [], ◌∷◌, Option, Some, None, is_some, nat_le, ◌==◌}
 use Rattle.std.proofs.Common.{inl, inr, refl, ap, sym, subst, ◌∙◌, arith, unwrap_or}
 use Rattle.std.specs.List.{Contains}
@@ -13,8 +13,9 @@ use Rattle.journal_um.specs.declared.pieces.Piece.{Piece}
 use Rattle.journal_um.specs.UmEvents.{UmEvent, PduArrived, ReorderStarted, ReorderExpired}
 use Rattle.journal_um.specs.UmNumbers.{read_number, read_as, number_above, top_in, mark_in, base_in}
 use Rattle.journal_um.specs.UmNumbers.{is_number, offered_as, pdu_of, is_accepted, edge_in}
-use Rattle.journal_um.specs.UmLosses.{far_came}
-use Rattle.journal_um.specs.Laws.{DropsBelowEdge, AcceptsTruly}
+use Rattle.journal_um.specs.UmLosses.{far_came, ComeInTime}
+use Rattle.journal_um.specs.Laws.{DropsBelowEdge}
+use Rattle.journal_um.specs.LossLaws.{AcceptsTruly}
 use Rattle.journal_um.proofs.Either.{neither}
 use Rattle.journal_um.proofs.Reading.{near_truly, top_true}
 
@@ -109,19 +110,23 @@ arrived-truly None width number n own pieces es is old e =
     offered-truly number n (nat_le (base_in width es) n) own pieces es
     (sym (ap (λ (o : Option ℕ). if is_number o n && nat_le (base_in width es) n then Some own else None) is) ∙ e)
 
-pub accepts_truly : AcceptsTruly
-accepts_truly width n pieces [] some time short e = absurd (none-some pieces e)
-accepts_truly width n pieces (PduArrived number own ∷ es) some time short e =
+came-so : (width n : ℕ) (pieces : List Piece) (es : List UmEvent) → 0 < width → ComeInTime width es
+    → far_came width es ≡ false → pdu_of width es n ≡ Some pieces → Contains es (PduArrived n pieces)
+came-so width n pieces [] some time short e = absurd (none-some pieces e)
+came-so width n pieces (PduArrived number own ∷ es) some time short e =
     let parts = neither (far_came width es) (nat_le (top_in width es + width) number) short in
     let top = top_true width es some time.1 parts.first in
     arrived-truly (pdu_of width es n) width number n own pieces es
     (near_truly width number es some time.0 parts.second top)
-    (λ old. accepts_truly width n pieces es some time.1 parts.first old) e
-accepts_truly width n pieces (ReorderStarted ∷ es) some time short e =
+    (λ old. came-so width n pieces es some time.1 parts.first old) e
+came-so width n pieces (ReorderStarted ∷ es) some time short e =
     let parts = neither (far_came width es) false short in
     comes-later ReorderStarted (PduArrived n pieces) es
-    (accepts_truly width n pieces es some time.1 parts.first (sym (nothing_else (pdu_of width es n)) ∙ e))
-accepts_truly width n pieces (ReorderExpired ∷ es) some time short e =
+    (came-so width n pieces es some time.1 parts.first (sym (nothing_else (pdu_of width es n)) ∙ e))
+came-so width n pieces (ReorderExpired ∷ es) some time short e =
     let parts = neither (far_came width es) false short in
     comes-later ReorderExpired (PduArrived n pieces) es
-    (accepts_truly width n pieces es some time.1 parts.first (sym (nothing_else (pdu_of width es n)) ∙ e))
+    (came-so width n pieces es some time.1 parts.first (sym (nothing_else (pdu_of width es n)) ∙ e))
+
+pub accepts_truly : AcceptsTruly
+accepts_truly width n pieces es some short e = came-so width n pieces es some short.in_time short.near e

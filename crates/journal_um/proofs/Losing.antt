@@ -8,7 +8,7 @@ use Rattle.journal_um.specs.UmNumbers.{pdu_of, edge_in, top_in}
 use Rattle.journal_um.specs.UmSdus.{row_below, sdus_in}
 use Rattle.journal_um.specs.UmJoiner.{UmJoiner, nothing_joined, opened, with_part, closed, with_piece, with_pieces}
 use Rattle.journal_um.specs.UmJoiner.{with_pdu}
-use Rattle.journal_um.specs.Laws.{chosen_of, AreSomeOf, LosesOnly}
+use Rattle.journal_um.specs.LossLaws.{chosen_of, AreSomeOf, LosesOnly}
 use Rattle.journal_um.proofs.Accepting.{accepts_truly}
 use Rattle.journal_um.proofs.Keeping.{below}
 use Rattle.journal_um.proofs.Searching.{below-ready}
@@ -148,9 +148,9 @@ rows-left got written n is =
     (record { ready = record { choice = []; are = refl }; part = inl refl })).ready)
 
 pub loses_only : LosesOnly
-loses_only width written es some time short carry =
+loses_only width written es some short carry =
     let is : (k : ℕ) (ps : List Piece) → pdu_of width es k ≡ Some ps → written k ≡ Some ps =
-    (λ k ps e. carry k ps (accepts_truly width k ps es some time short e)) in
+    (λ k ps e. carry k ps (accepts_truly width k ps es some short e)) in
     record {
       up = rows-left (pdu_of width es) written (edge_in width es) is;
       at_end = rows-left (pdu_of width es) written (top_in width es) is;

@@ -10,7 +10,8 @@ use Rattle.l2_num.proofs.NumberLemmas.{reached, ahead-seen}
 use Rattle.journal_um.specs.UmEvents.{UmEvent, PduArrived, ReorderStarted, ReorderExpired}
 use Rattle.journal_um.specs.UmNumbers.{IsReadAs, raised_number, read_number, top_in, number_above}
 use Rattle.journal_um.specs.UmLosses.{far_came, highest_in, ComeInTime}
-use Rattle.journal_um.specs.Laws.{ReadsNumbers, ReadsTruly}
+use Rattle.journal_um.specs.Laws.{ReadsNumbers}
+use Rattle.journal_um.specs.LossLaws.{ReadsTruly}
 use Rattle.journal_um.proofs.Either.{neither}
 
 record Answers (b : Bool) (x n : ℕ) : Type 0 where
@@ -93,7 +94,8 @@ top_true width (ReorderExpired ∷ es) some time short =
     let t = top_true width es some time.1 parts.first in omega (arith, t)
 
 pub reads_truly : ReadsTruly
-reads_truly width number pieces es some time short =
-    let parts = neither (far_came width es) (nat_le (top_in width es + width) number) short in
+reads_truly width number pieces es some short =
+    let time = short.in_time in
+    let parts = neither (far_came width es) (nat_le (top_in width es + width) number) short.near in
     let t = top_true width es some time.1 parts.first in
     record { number_is = near_truly width number es some time.0 parts.second t; top_is = t }

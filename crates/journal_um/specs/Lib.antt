@@ -6,3 +6,4 @@ pub mod UmWindow
 pub mod UmJoiner
 pub mod UmFlow
 pub mod Laws
+pub mod LossLaws

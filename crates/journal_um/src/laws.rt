@@ -1,7 +1,7 @@
 // Laws of the accounts, each proved as the contract of a function that does nothing.
 ghost use Rattle.journal_um.specs.Laws.{UmAccountsAreTrue, TakingIsFree, HandedGrows};
-ghost use Rattle.journal_um.specs.Laws.{ReadsNumbers, DropsBelowEdge, ReadsTruly, AcceptsTruly};
-ghost use Rattle.journal_um.specs.Laws.{LosesOnly, CountsAreRead};
+ghost use Rattle.journal_um.specs.Laws.{ReadsNumbers, DropsBelowEdge};
+ghost use Rattle.journal_um.specs.LossLaws.{ReadsTruly, AcceptsTruly, LosesOnly, CountsAreRead};
 
 /// The law that the account of any history tells what the history says.
 pub fn um_accounts_are_true()
@@ -35,14 +35,14 @@ pub fn reads_truly()
     ensures accepts { AcceptsTruly }
 {}
 
-/// The law that, while losses are short and PDUs come in time, what goes up are some of the SDUs
-/// that the sender's PDUs join to, each once, unchanged, in order.
+/// The law that what goes up then are some of the SDUs that the sender's PDUs join to, each once,
+/// unchanged, in order.
 pub fn loses_only()
     ensures { LosesOnly }
 {}
 
-/// The law that PDCP reads the COUNT of each SDU that goes up from its SN, where they stand in
-/// order and losses aren't long.
+/// The law that PDCP then reads the COUNT of each SDU that goes up from its SN, where not too many
+/// are left out before one.
 pub fn counts_are_read()
     ensures { CountsAreRead }
 {}
