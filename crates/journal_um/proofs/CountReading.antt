@@ -1,6 +1,6 @@
 -- What PDCP reads of SDUs that go up.
-use Rattle.std.proofs.Common.{◌≡◌, ◌<◌, ◌≤◌, ◌^◌, ◌%◌, ℕ, ◌+◌, Bool, true, false, nat_le, List, [], ◌∷◌, refl, sym, subst}
-use Rattle.std.proofs.Common.{arith}
+use Rattle.std.proofs.Common.{◌≡◌, ◌<◌, ◌≤◌, ◌^◌, ◌%◌, ℕ, ◌+◌, Bool, true, false, nat_le, List, [], ◌∷◌, refl, sym}
+use Rattle.std.proofs.Common.{subst, arith}
 use Rattle.std.proofs.lemmas.Bool.Decides.{nat_tests}
 use Rattle.l2_num.specs.Ascending.{IsAscending}
 use Rattle.l2_num.proofs.NumberLemmas.{recovered-reduced}

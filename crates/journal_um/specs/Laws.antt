@@ -1,5 +1,6 @@
 -- What the account of an unacknowledged flow tells is what its history says (docs/laws/ACCOUNT.md).
-use Rattle.std.specs.Prelude.{◌≡◌, ℕ, ◌-◌, ◌*◌, ◌<◌, ◌≤◌, ◌&&◌, not, nat_le, List, ◌++◌, length, Some}
+use Rattle.std.specs.Prelude.{◌≡◌, ℕ, ◌-◌, ◌*◌, ◌<◌, ◌≤◌, ◌&&◌, not, nat_le, List, ◌++◌, length}
+use Rattle.std.specs.Prelude.{Some}
 use Rattle.l2_num.specs.Least.{IsLeast}
 use Rattle.journal_um.specs.declared.pieces.JoinedSdu.{JoinedSdu}
 use Rattle.journal_um.specs.UmEvents.{UmEvent, UmLifeEvent, running}

@@ -1,7 +1,7 @@
 -- What goes up of an unacknowledged flow in a life while losses are short, by its history: each PDU
 -- is read truly, and so is each COUNT (docs/laws/ACCOUNT.md).
-use Rattle.std.specs.Prelude.{◌≡◌, ℕ, ◌+◌, ◌*◌, ◌%◌, ◌^◌, ◌<◌, Bool, true, false, List, [], ◌∷◌, map}
-use Rattle.std.specs.Prelude.{Option, Some, Contains}
+use Rattle.std.specs.Prelude.{◌≡◌, ℕ, ◌+◌, ◌*◌, ◌%◌, ◌^◌, ◌<◌, Bool, true, false, List, [], ◌∷◌}
+use Rattle.std.specs.Prelude.{map, Option, Some, Contains}
 use Rattle.l2_num.specs.Ascending.{IsAscending}
 use Rattle.l2_num.specs.Numbers.{recovered}
 use Rattle.journal_um.specs.declared.pieces.JoinedSdu.{JoinedSdu}
