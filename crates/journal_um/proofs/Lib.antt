@@ -1,0 +1,12 @@
+pub mod WindowSteps
+pub mod Either
+pub mod Reading
+pub mod Accepting
+pub mod Keeping
+pub mod Searching
+pub mod Counting
+pub mod Steps
+pub mod Accounts
+pub mod Taking
+pub mod Losing
+pub mod CountReading

@@ -1,0 +1,9 @@
+pub mod UmEvents
+pub mod UmNumbers
+pub mod UmSdus
+pub mod UmLosses
+pub mod UmWindow
+pub mod UmJoiner
+pub mod UmFlow
+pub mod Laws
+pub mod LossLaws
