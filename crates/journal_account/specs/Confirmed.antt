@@ -1,5 +1,5 @@
--- Which SDUs of an acknowledged flow are confirmed in a life: the sender knows that they have come (TS
--- 36.322 5.1.3.1.1, TS 36.323 5.4).
+-- Which SDUs of an acknowledged flow are confirmed in a life: the sender knows that they have come
+-- (TS 36.322 5.1.3.1.1, TS 36.323 5.4).
 use Rattle.std.specs.Prelude.{ℕ, Bool, ◌&&◌, nat_lt, List, length}
 use Rattle.journal_account.specs.FlowEvents.{FlowEvent, field_sizes}
 use Rattle.journal_account.specs.Arrived.{all_between}

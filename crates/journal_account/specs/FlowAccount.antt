@@ -19,8 +19,12 @@ pub record FlowAccount : Type 0 where
 
 -- as a life begins, with maxRetxThreshold
 abbrev pub empty_account : ℕ → FlowAccount
-empty_account most =
-    record { arrivals = none_written; sdus = no_sdus; confirmed = no_sdus; sending = none_sent most }
+empty_account most = record {
+  arrivals = none_written;
+  sdus = no_sdus;
+  confirmed = no_sdus;
+  sending = none_sent most;
+}
 
 abbrev pub arrivals_with : FlowEvent → FlowArrivals → FlowArrivals
 arrivals_with (SduTaken size) a = a

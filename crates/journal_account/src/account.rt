@@ -117,8 +117,8 @@ impl FlowAccount {
         }
     }
 
-    /// Whether an SDU, counted from 0, was taken and each of its octets was written in a number that
-    /// is acknowledged: RLC tells PDCP that it has come (TS 36.322 5.1.3.1.1).
+    /// Whether an SDU, counted from 0, was taken and each of its octets was written in a number
+    /// that is acknowledged: RLC tells PDCP that it has come (TS 36.322 5.1.3.1.1).
     pub fn is_confirmed(&self, sdu: u64) -> bool
         ensures { result ≡ is_confirmed_kept sdu self.now }
     {

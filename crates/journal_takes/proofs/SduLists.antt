@@ -27,6 +27,30 @@ get_behind (suc n) k [] = refl
 get_behind (suc n) k (x ∷ xs) = let same : suc (n + k) ≡ suc n + k = omega arith in
     get_behind n k xs ∙ ap (slice_get (x ∷ xs)) same
 
+-- of two lists that begin alike, the items there are the same
+
+pub get_before : (n k : ℕ) (xs : List (List ℕ)) → k < n → slice_get (take n xs) k ≡ slice_get xs k
+get_before zero k xs lt = absurd (omega (arith, lt))
+get_before (suc n) k [] lt = refl
+get_before (suc n) zero (x ∷ xs) lt = refl
+get_before (suc n) (suc k) (x ∷ xs) lt = get_before n k xs (omega (arith, lt))
+
+pub get_alike : (n k : ℕ) (xs ys : List (List ℕ)) → k < n → take n xs ≡ take n ys → slice_get xs k ≡ slice_get ys k
+get_alike n k xs ys lt same =
+    sym (get_before n k xs lt) ∙ ap (λ (zs : List (List ℕ)). slice_get zs k) same ∙ get_before n k ys lt
+
+pub submitted_alike : (n : ℕ) (kept : List (List ℕ)) (sdu : List ℕ) → n ≤ length kept
+    → take n (kept ++ sdu ∷ []) ≡ take n kept
+submitted_alike n kept sdu few = take-append-le n kept (sdu ∷ []) few
+
+pub discarded_alike : (n : ℕ) (kept : List (List ℕ)) → n ≤ length kept → take n (without n kept) ≡ take n kept
+discarded_alike n kept few =
+    let len : length (take n kept) ≡ n = length-take-le n kept few in
+    take-append-le n (take n kept) (drop (n + 1) kept) (omega (arith, len))
+    ∙ take_all n (take n kept) (omega (arith, len))
+
+-- ---- events
+
 pub holds_submitted : (first next from : ℕ) (kept sdus waiting : List (List ℕ)) (sdu : List ℕ)
     → Holds first next from kept sdus waiting → Holds first next from (kept ++ sdu ∷ []) sdus (waiting ++ sdu ∷ [])
 holds_submitted first next from kept sdus waiting sdu h = record {
@@ -34,13 +58,14 @@ holds_submitted first next from kept sdus waiting sdu h = record {
   within = h.within;
   few = omega (arith, h.few, length_push kept sdu);
   sdus_are =
-      h.sdus_are ∙ ap (drop (from - first)) (sym (take-append-le (next - first) kept (sdu ∷ []) h.few));
+      h.sdus_are ∙ ap (drop (from - first)) (sym (submitted_alike (next - first) kept sdu h.few));
   waiting_are =
       ap (λ (ws : List (List ℕ)). ws ++ sdu ∷ []) h.waiting_are
       ∙ sym (drop-append-le (next - first) kept (sdu ∷ []) h.few);
 }
 
-pub holds_discarded : (first next from : ℕ) (kept sdus waiting : List (List ℕ)) → Holds first next from kept sdus waiting
+pub holds_discarded : (first next from : ℕ) (kept sdus waiting : List (List ℕ))
+    → Holds first next from kept sdus waiting
     → Holds first next from (without (next - first) kept) sdus (drop 1 waiting)
 holds_discarded first next from kept sdus waiting h =
     let len : length (take (next - first) kept) ≡ next - first = length-take-le (next - first) kept h.few in
@@ -55,9 +80,7 @@ holds_discarded first next from kept sdus waiting h =
       sdus_are =
           h.sdus_are
           ∙ ap (drop (from - first))
-          (sym (take-append-le (next - first) (take (next - first) kept) (drop (next - first + 1) kept)
-          (omega (arith, len))
-          ∙ take_all (next - first) (take (next - first) kept) (omega (arith, len))));
+          (sym (discarded_alike (next - first) kept h.few));
       waiting_are =
           ap (drop 1) h.waiting_are ∙ drop_more 1 (next - first) kept
           ∙ sym (drop-append-le (next - first) (take (next - first) kept) (drop (next - first + 1) kept)
@@ -116,4 +139,6 @@ holds_all first next from kept sdus waiting h =
 pub how_many_wait : (first next from : ℕ) (kept sdus waiting : List (List ℕ)) → Holds first next from kept sdus waiting
     → next + length waiting ≡ first + length kept
 how_many_wait first next from kept sdus waiting h =
-    omega (arith, h.few, h.order, h.within, length-drop (next - first) kept, ap (λ (ws : List (List ℕ)). length ws) h.waiting_are)
+    let len : length waiting ≡ length (drop (next - first) kept) =
+    ap (λ (ws : List (List ℕ)). length ws) h.waiting_are in
+    omega (arith, len, h.few, h.order, h.within, length-drop (next - first) kept)

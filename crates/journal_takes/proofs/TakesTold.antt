@@ -14,11 +14,12 @@ use Rattle.journal_takes.specs.TakeEvents.{is_report_due, is_reporting, sdu_of}
 use Rattle.journal_takes.specs.Takeable.{is_passed, half, offer, IsTakeable, IsPossible, AreTakes}
 use Rattle.journal_takes.specs.FlowTakes.{FlowTakes, no_takes, bound_of, is_free, next_take, sdu_kept, first_open}
 use Rattle.journal_takes.specs.FlowTakes.{settled, taken_as, reported_by, takes_with, takes_of}
-use Rattle.journal_takes.specs.Laws.{TakesAreTrue}
+use Rattle.journal_takes.specs.Laws.{TakesAreTrue, SdusStay}
 use Rattle.journal_takes.proofs.CountSets.{or_swap}
 use Rattle.journal_takes.proofs.CountFronts.{Kept, Told, kept_same, told_same, fronts_moved, open_from, open_to}
 use Rattle.journal_takes.proofs.CountEvents.{says, kept_taken, kept_confirmed, kept_reported, kept_ended}
 use Rattle.journal_takes.proofs.SduLists.{Holds, get_behind, holds_submitted, holds_discarded, holds_taken}
+use Rattle.journal_takes.proofs.SduLists.{get_alike, submitted_alike, discarded_alike}
 use Rattle.journal_takes.proofs.SduLists.{holds_from, holds_all, how_many_wait}
 use Rattle.journal_takes.proofs.Offers.{offered}
 
@@ -165,8 +166,9 @@ taken_kept : (first bits more : ℕ) (es : List TakeEvent) (t : FlowTakes) (coun
     (is_taken (PduTaken count ∷ es)) t.low t.begun (count + 1) t.confirmed t.reported
 taken_kept first bits more es t count same le lt s =
     kept_same first more (is_confirmed first es) (is_reported first es) (λ n. (count == n) || is_taken es n)
-    (is_confirmed first (PduTaken count ∷ es)) (is_reported first (PduTaken count ∷ es)) (is_taken (PduTaken count ∷ es))
-    t.low t.begun (count + 1) t.confirmed t.reported (λ n. refl) (λ n. refl) (λ n. refl)
+    (is_confirmed first (PduTaken count ∷ es)) (is_reported first (PduTaken count ∷ es))
+    (is_taken (PduTaken count ∷ es)) t.low t.begun (count + 1) t.confirmed t.reported (λ n. refl) (λ n. refl)
+    (λ n. refl)
     (subst (λ (c : ℕ). Kept first more (is_confirmed first es) (is_reported first es)
     (λ n. (c == n) || is_taken es n) t.low t.begun (c + 1) t.confirmed t.reported) (sym same)
     (kept_taken first t.next more (is_confirmed first es) (is_reported first es) (is_taken es) t.low t.begun t.at
@@ -376,7 +378,8 @@ outset first bits = record {
     order = omega arith;
     within = omega arith;
     few = omega arith;
-    sdus_are = sym (drop_all (first - first) (take (first - first) []) (omega (arith, length-take (first - first) no_sdus)));
+    sdus_are = sym (drop_all (first - first) (take (first - first) no_sdus)
+        (omega (arith, length-take (first - first) no_sdus)));
     waiting_are = sym (drop_all (first - first) [] (omega arith));
   };
 }
@@ -418,6 +421,38 @@ takes_are_true first bits es h =
       only = only_next first bits es t s;
       from_low = low_from first bits es t s;
       from_at = at_from first bits es t s;
+      ascend = s.told.kept.untaken;
       sdus = sdu_is first bits es t s;
       waiting = s.holds.waiting_are;
     }
+
+-- ---- SDUs stay
+
+pub sdus_stay : SdusStay
+sdus_stay first bits e es h count from lt = by e
+  where
+    s : Stands first bits es (takes_of first bits es)
+    s = all_stand first bits es h.1
+
+    few : next_new first es - first ≤ length (kept first es)
+    few = omega (arith, s.holds.few, s.stays.next)
+
+    alike : (xs : List (List ℕ))
+        → take (next_new first es - first) xs ≡ take (next_new first es - first) (kept first es)
+        → slice_get xs (count - first) ≡ slice_get (kept first es) (count - first)
+    alike xs =
+        get_alike (next_new first es - first) (count - first) xs (kept first es) (omega (arith, from, lt))
+
+    by : (d : TakeEvent) → sdu_of first (d ∷ es) count ≡ sdu_of first es count
+    by (SduSubmitted octets) =
+        alike (kept first es ++ octets ∷ [])
+        (submitted_alike (next_new first es - first) (kept first es) octets few)
+    by SduDiscarded =
+        alike (without (next_new first es - first) (kept first es))
+        (discarded_alike (next_new first es - first) (kept first es) few)
+    by (PduTaken own) = refl
+    by ReportTaken = refl
+    by (PduConfirmed own) = refl
+    by ReportConfirmed = refl
+    by (ReportHeard fms marks) = refl
+    by (LifeEnded report) = refl

@@ -1,5 +1,5 @@
 -- The account of what PDCP gives RLC of acknowledged data, as it is kept: nothing of COUNTs that
--- neither wait for confirmation nor are to be taken again (docs/laws/ACCOUNT.md; TS 36.323 5.2.1.1).
+-- are confirmed and aren't to be taken again (docs/laws/ACCOUNT.md; TS 36.323 5.2.1.1).
 use Rattle.std.specs.Prelude.{ℕ, ◌+◌, ◌-◌, ◌==◌, Bool, true, false, ◌&&◌, nat_lt, if◌then◌else◌}
 use Rattle.std.specs.Prelude.{List, [], ◌∷◌, ◌++◌, length, take, drop, min, max, Option, None}
 use Rattle.std.specs.Prelude.{slice_get}
@@ -12,22 +12,24 @@ use Rattle.journal_takes.specs.TakeEvents.{ReportTaken, PduConfirmed, ReportConf
 use Rattle.journal_takes.specs.TakeEvents.{LifeEnded, has_count}
 use Rattle.journal_takes.specs.Takeable.{half, offer}
 
--- width is half of the sequence numbers; low and begun are U and U0, at is the COUNT that is taken
--- next, next the next new one; confirmed are those above U that are confirmed, reported those that
--- were reported from U or from at on; sdus are those of the COUNTs from the one named from on, which
--- is the less of the two, below next; waiting are those that wait; the report is due, and isn't
--- confirmed (reporting)
 pub record FlowTakes : Type 0 where
+  -- half of the sequence numbers
   pub width : ℕ
+  -- U, and U0
   pub low : ℕ
   pub begun : ℕ
+  -- the COUNT that is taken next, if one may be, and the next new one
   pub at : ℕ
   pub next : ℕ
+  -- the COUNTs above U that are confirmed, and of the reported ones those that aren't below from
   pub confirmed : List ℕ
   pub reported : List ℕ
+  -- the less of U and the COUNT that is taken next; the SDUs of the COUNTs from there on below the
+  -- next new one, and those that wait
   pub from : ℕ
   pub sdus : List (List ℕ)
   pub waiting : List (List ℕ)
+  -- the report is due, and the report isn't confirmed
   pub due : Bool
   pub reporting : Bool
 

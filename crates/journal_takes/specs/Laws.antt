@@ -1,8 +1,9 @@
 -- What the account of takes tells is what its history says (docs/laws/ACCOUNT.md).
-use Rattle.std.specs.Prelude.{◌≡◌, ℕ, ◌-◌, ◌≤◌, List, drop, Option}
+use Rattle.std.specs.Prelude.{◌≡◌, ℕ, ◌-◌, ◌<◌, ◌≤◌, false, List, ◌∷◌, drop, Option}
 use Rattle.l2_num.specs.Least.{IsLeast}
 use Rattle.journal_takes.specs.declared.take.Take.{Take}
 use Rattle.journal_takes.specs.TakeEvents.{TakeEvent, next_new, kept, sdu_of, is_confirmed}
+use Rattle.journal_takes.specs.TakeEvents.{is_taken}
 use Rattle.journal_takes.specs.Takeable.{IsTakeable, AreTakes}
 use Rattle.journal_takes.specs.FlowTakes.{FlowTakes, next_take, sdu_kept, takes_of}
 
@@ -13,6 +14,8 @@ pub record AreTakesTold (first bits : ℕ) (es : List TakeEvent) (t : FlowTakes)
   -- what is said to be takeable is so, and nothing else is
   pub takes : IsTakeable first bits es (next_take t)
   pub only : (next : Option Take) → IsTakeable first bits es next → next ≡ next_take t
+  -- RLC takes COUNTs in ascending order in a life: none from the one that is next on is taken in it
+  pub ascend : (count : ℕ) → t.at ≤ count → is_taken es count ≡ false
   -- the SDUs from U on, or from the first that is to be taken on, and those that wait
   pub from_low : t.from ≤ t.low
   pub from_at : t.from ≤ t.at
@@ -22,3 +25,9 @@ pub record AreTakesTold (first bits : ℕ) (es : List TakeEvent) (t : FlowTakes)
 abbrev pub TakesAreTrue : Type 0
 TakesAreTrue = (first bits : ℕ) (es : List TakeEvent) → AreTakes first bits es
     → AreTakesTold first bits es (takes_of first bits es)
+
+-- a COUNT that was taken has the same SDU ever after
+abbrev pub SdusStay : Type 0
+SdusStay = (first bits : ℕ) (e : TakeEvent) (es : List TakeEvent) → AreTakes first bits (e ∷ es)
+    → (count : ℕ) → first ≤ count → count < next_new first es
+    → sdu_of first (e ∷ es) count ≡ sdu_of first es count

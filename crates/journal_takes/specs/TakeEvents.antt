@@ -1,5 +1,5 @@
--- What happens to acknowledged data in one direction at its PDCP sender, through lives, and what that
--- says of its SDUs and COUNTs (docs/laws/ACCOUNT.md; TS 36.323 5.1.1, 5.2.1.1, 5.3, 5.4).
+-- What happens to acknowledged data in one direction at its PDCP sender, through its lives, and
+-- what that says of its SDUs and COUNTs (docs/laws/ACCOUNT.md; TS 36.323 5.1.1, 5.2.1.1, 5.3, 5.4).
 use Rattle.std.specs.Prelude.{ℕ, ◌+◌, ◌-◌, ◌==◌, Bool, false, ◌||◌, ◌&&◌, nat_lt, List, [], ◌∷◌}
 use Rattle.std.specs.Prelude.{◌++◌, take, drop, max, Option, slice_get}
 use Rattle.std.specs.List.{list_any}

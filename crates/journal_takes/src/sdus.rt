@@ -1,5 +1,5 @@
 // The octets of SDUs, the first one first.
-ghost use Rattle.std.specs.Prelude.{◌≡◌, ◌+◌, ◌-◌, ◌≤◌, ◌<◌, ◌^◌, ◌++◌, length, take, drop, OnOk, OnErr};
+ghost use Rattle.std.specs.Prelude.{◌≡◌, ◌+◌, ◌-◌, ◌≤◌, ◌++◌, length, take, drop, OnOk, OnErr};
 ghost use Rattle.std.specs.Prelude.{option_copied, slice_get};
 
 use l2_bits::{Bytes, NoMemory};

@@ -15,9 +15,9 @@ use std::alloc::Global;
 use std::collections::{BTreeSet, VecDeque};
 use std::marker::Model;
 
-/// What the events of acknowledged data in one direction tell at its PDCP sender, through its lives:
-/// the SDUs of COUNTs, which of these are confirmed, and what RLC may take next. COUNTs are told as
-/// whole numbers, HFN and SN together. Contracts see the account of `specs/FlowTakes.antt`.
+/// What the events of acknowledged data in one direction tell at its PDCP sender, through its
+/// lives: the SDUs of COUNTs, which of these are confirmed, and what RLC may take next. COUNTs are
+/// told as whole numbers, HFN and SN together. Contracts see the account of `specs/FlowTakes.antt`.
 ///
 /// It takes memory for the SDUs that wait, for those from U on, the first COUNT that isn't
 /// confirmed, and for the COUNTs above U that are.
@@ -203,8 +203,8 @@ impl FlowTakes {
         self.reporting = false;
     }
 
-    /// A status report of the other end comes, with the COUNT of its FMS and those above it that its
-    /// bitmap marks (TS 36.323 5.3.2, 6.2.6). Behind an `Err` nothing is known.
+    /// A status report of the other end comes, with the COUNT of its FMS and those above it that
+    /// its bitmap marks (TS 36.323 5.3.2, 6.2.6). Behind an `Err` nothing is known.
     pub fn hear_report(&mut self, fms: u64, marks: &[u64]) -> Result<(), NoMemory>
         ensures { OnOk result (self.new ≡ takes_with (ReportHeard fms marks.now) self.old) }
     {
