@@ -37,6 +37,19 @@ numbers_left (g ∷ hs) (suc at) h is =
     let next : suc at + 1 ≡ suc (at + 1) = omega arith in
     numbers_left hs at h is ∙ ap (λ (n : ℕ). h ∷ drop n (g ∷ hs)) (sym next)
 
+-- where no place is left to look for
+pub none_left : (numbers : List SentNumber) (from to : ℕ) → to ≤ from → places_acked numbers from to ≡ true
+none_left [] from to le = le-leb to from le
+none_left (h ∷ hs) from to le =
+    and_from (octets_acked from to h) (places_acked hs (from - h.size) (to - h.size)) (here h.acked)
+    (none_left hs (from - h.size) (to - h.size) (omega (arith, le)))
+  where
+    here : (b : Bool) → (b || nat_le (min to h.size) from) ≡ true
+    here true = refl
+    here false = le-leb (min to h.size) from (omega (arith, le))
+
+pub ruleset numbers_walked = (numbers_left, none_left)
+
 abbrev pub sent_sizes : List SentNumber → List ℕ
 sent_sizes hs = map (λ (h : SentNumber). h.size) hs
 

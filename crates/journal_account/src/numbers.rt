@@ -128,14 +128,17 @@ pub(crate) fn advance(
 
 // Whether octets at places from one on below another, counted from where the numbers begin, are all
 // acknowledged.
-#[tactic(auto, using(crate::proofs::Confirms::numbers_left))]
+#[tactic(auto, using(crate::proofs::Confirms::numbers_walked))]
 pub(crate) fn places_acked(numbers: &Numbers, from: u64, to: u64) -> bool
     ensures { result ≡ places_acked numbers.now.items from to }
 {
     let mut from = from;
     let mut to = to;
     let mut at = 0;
-    while let Some(one) = numbers.get(at) {
+    while from < to {
+        let Some(one) = numbers.get(at) else {
+            return false;
+        };
         if !one.octets_acked(from, to) {
             return false;
         }
@@ -143,7 +146,7 @@ pub(crate) fn places_acked(numbers: &Numbers, from: u64, to: u64) -> bool
         to = to.saturating_sub(u64::from(one.size()));
         at += 1;
     }
-    to <= from
+    true
 }
 
 fn is_over(numbers: &Numbers, at: usize, most: u32) -> bool
