@@ -19,8 +19,8 @@ use std::marker::Model;
 /// lives: the SDUs of COUNTs, which of these are confirmed, and what RLC may take next. COUNTs are
 /// told as whole numbers, HFN and SN together. Contracts see the account of `specs/FlowTakes.antt`.
 ///
-/// It takes memory for the SDUs that wait, for those from U on, the first COUNT that isn't
-/// confirmed, and for the COUNTs above U that are.
+/// It takes memory for the SDUs that wait, for those of the COUNTs from U on, the first that isn't
+/// confirmed, or from the one that is taken next on, and for the COUNTs above U that are confirmed.
 #[derive(Drop)]
 pub struct FlowTakes {
     width: u64,
