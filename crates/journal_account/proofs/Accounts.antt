@@ -12,7 +12,8 @@ use Rattle.journal_account.specs.Arrived.{brings_octet, octet_came, is_complete_
 use Rattle.journal_account.specs.Stream.{place_of, sdu_sizes, place_came}
 use Rattle.journal_account.specs.FlowArrivals.{FlowArrivals, field_at, leading_octets, stream_gap}
 use Rattle.journal_account.specs.FlowSdus.{FlowSdus}
-use Rattle.journal_account.specs.FlowAccount.{FlowAccount, arrivals_with, sdus_with, account_with, account_of}
+use Rattle.journal_account.specs.FlowAccount.{FlowAccount, arrivals_with, sdus_with, sending_with, account_with}
+use Rattle.journal_account.specs.FlowAccount.{account_of}
 use Rattle.journal_account.specs.Laws.{AreArrivals, AreSdus, IsSending, AccountsAreTrue}
 use Rattle.journal_account.specs.Acked.{is_acked}
 use Rattle.journal_account.specs.Waiting.{waits, namings, is_left, IsWithin, FailsAt}
@@ -37,6 +38,7 @@ use Rattle.journal_account.proofs.Acking.{Acks, acks_step, acks_outset}
 use Rattle.journal_account.proofs.Complete.{complete_each}
 use Rattle.journal_account.proofs.Statuses.{is_judged}
 use Rattle.journal_account.proofs.Wholes.{kept_place, are_whole}
+use Rattle.journal_account.proofs.Confirms.{Begins, begins_step, start_grows, are_confirmed}
 use Rattle.journal_account.proofs.Telling.{whole_complete}
 use Rattle.journal_account.proofs.Order.{expired_low, top_written, top_open}
 use Rattle.journal_account.proofs.Along.{along_before, along_more, gap_first}
@@ -88,6 +90,8 @@ record StandsAll (es : List FlowEvent) (a : FlowAccount) : Type 0 where
   first : 0 < length a.sdus.ends → stream_gap a.arrivals < slice_index_or a.sdus.ends 0 0
   sending : Acks es a.sending.base a.sending.numbers
   says : SayAll es a.sending.base a.sending.numbers
+  begins : Begins es a.sending
+  confirmed : Ends (sdu_sizes es) a.sending.start a.confirmed
 
 sdus_step : (e : FlowEvent) (es : List FlowEvent) (place : ℕ) (s : FlowSdus) → Ends (sdu_sizes es) place s
     → Ends (sdu_sizes (e ∷ es)) place (sdus_with e s)
@@ -128,6 +132,9 @@ all_step e es a h past s =
       first = first_behind (stream_gap (arrivals_with e a.arrivals)) (sdus_with e a.sdus);
       sending = acks_step e es a h s.sending;
       says = says_step e es a (left_is es a s) h past s.sending s.says;
+      begins = begins_step e es a s.sending s.says s.begins;
+      confirmed = ends_reached (sdu_sizes (e ∷ es)) a.sending.start (sending_with e a).start
+          (sdus_with e a.confirmed) (start_grows e a) (sdus_step e es a.sending.start a.confirmed s.confirmed);
     }
 
 all_stand : (most : ℕ) (es : List FlowEvent) → IsHistory es → StandsAll es (account_of most es)
@@ -142,6 +149,13 @@ all_stand most [] h = record {
   first = λ lt. absurd (omega arith);
   sending = acks_outset;
   says = says_outset;
+  begins = refl;
+  confirmed = record {
+    count = omega arith;
+    taken = refl;
+    ends_are = λ j lt. absurd (omega arith);
+    gone = λ k lt. absurd (omega arith);
+  };
 }
 all_stand most (e ∷ es) h = all_step e es (account_of most es) h.0 h.1 (all_stand most es h.1)
 
@@ -273,4 +287,5 @@ accounts_are_true most es h =
       whole = are_whole es (account_of most es) s.arrivals s.sdus
           (gap_least es (account_of most es).arrivals s.arrivals);
       sending = is_sending most es (account_of most es).sending s.sending s.says (limits most es h).limit;
+      confirmed = are_confirmed es (account_of most es) s.sending s.says s.begins s.confirmed;
     }

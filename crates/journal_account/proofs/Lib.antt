@@ -6,6 +6,7 @@ pub mod Named
 pub mod Missing
 pub mod Statuses
 pub mod Wholes
+pub mod Confirms
 pub mod ByPlace
 pub mod Telling
 pub mod Order

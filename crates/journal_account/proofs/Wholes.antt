@@ -13,11 +13,11 @@ use Rattle.rlc_pdu.proofs.PlaceLaws.{gaps_are_first}
 use Rattle.l2_num.specs.Least.{IsLeast}
 use Rattle.journal_account.specs.FlowEvents.{FlowEvent, field_sizes}
 use Rattle.journal_account.specs.Arrived.{octet_came, all_between}
-use Rattle.journal_account.specs.Stream.{place_of, came_along, place_came, sdu_sizes, sdu_end, is_whole_sdu}
+use Rattle.journal_account.specs.Stream.{place_of, came_along, place_came, sdu_sizes}
 use Rattle.journal_account.specs.FlowArrivals.{FieldArrivals, FlowArrivals, field_at, places_came, stream_gap}
 use Rattle.journal_account.specs.FlowSdus.{FlowSdus}
 use Rattle.journal_account.specs.FlowAccount.{FlowAccount}
-use Rattle.journal_account.specs.FlowWholes.{stream_came, is_whole_at}
+use Rattle.journal_account.specs.FlowWholes.{stream_came}
 use Rattle.journal_account.specs.Laws.{AreWhole}
 use Rattle.journal_account.proofs.Along.{along_behind}
 use Rattle.journal_account.proofs.ByPlace.{sizes}
@@ -62,15 +62,15 @@ all_none f from to up all = by (gap_in f.came from to) (gaps_are_first f.came fr
 
 -- ---- the fields tell which places have come
 
-within : (came : ℕ → ℕ → Bool) (f : FieldArrivals) (ss : List ℕ) (n q : ℕ) → q < f.size
-    → came_along came (f.size ∷ ss) n q ≡ came n q
-within came f ss n q lt =
-    ap (λ (b : Bool). if b then came n q else came_along came ss (n + 1) (q - f.size)) (lt-ltb q f.size lt)
+pub within : (came : ℕ → ℕ → Bool) (size : ℕ) (ss : List ℕ) (n q : ℕ) → q < size
+    → came_along came (size ∷ ss) n q ≡ came n q
+within came size ss n q lt =
+    ap (λ (b : Bool). if b then came n q else came_along came ss (n + 1) (q - size)) (lt-ltb q size lt)
 
-behind : (came : ℕ → ℕ → Bool) (f : FieldArrivals) (ss : List ℕ) (n q : ℕ) → f.size ≤ q
-    → came_along came (f.size ∷ ss) n q ≡ came_along came ss (n + 1) (q - f.size)
-behind came f ss n q le =
-    ap (λ (b : Bool). if b then came n q else came_along came ss (n + 1) (q - f.size)) (le-ltb q f.size le)
+pub behind : (came : ℕ → ℕ → Bool) (size : ℕ) (ss : List ℕ) (n q : ℕ) → size ≤ q
+    → came_along came (size ∷ ss) n q ≡ came_along came ss (n + 1) (q - size)
+behind came size ss n q le =
+    ap (λ (b : Bool). if b then came n q else came_along came ss (n + 1) (q - size)) (le-ltb q size le)
 
 record Keeps (came : ℕ → ℕ → Bool) (fields : List FieldArrivals) (n : ℕ) : Type 0 where
   ascends : (k : ℕ) → AreAscending 0 (field_at fields k).came
@@ -99,10 +99,10 @@ places_to came (f ∷ fs) n from to h e q le lt =
     (places_came fs (from - f.size) (to - f.size)) e in
     elim (cases_lt q f.size) [
       | inl here ↦
-          within came f (sizes fs) n q here ∙ sym (first_same came f fs n h q)
+          within came f.size (sizes fs) n q here ∙ sym (first_same came f fs n h q)
           ∙ none_all f from (min to f.size) (h.ascends 0) both.0 q le (omega (arith, lt, here))
       | inr past ↦
-          behind came f (sizes fs) n q past
+          behind came f.size (sizes fs) n q past
           ∙ places_to came fs (n + 1) (from - f.size) (to - f.size) (keeps_rest came f fs n h) both.1 (q - f.size)
           (omega (arith, le)) (omega (arith, lt, past))
     ]
@@ -117,12 +117,12 @@ to_places came [] n from to h all = elim (cases_lt from to) [
 to_places came (f ∷ fs) n from to h all =
     and_from (is_none (gap_in f.came from (min to f.size))) (places_came fs (from - f.size) (to - f.size))
     (all_none f from (min to f.size) (h.ascends 0) (λ i le lt.
-    first_same came f fs n h i ∙ sym (within came f (sizes fs) n i (omega (arith, lt)))
+    first_same came f fs n h i ∙ sym (within came f.size (sizes fs) n i (omega (arith, lt)))
     ∙ all i le (omega (arith, lt))))
     (to_places came fs (n + 1) (from - f.size) (to - f.size) (keeps_rest came f fs n h) (λ q le lt.
     let there : q + f.size - f.size ≡ q = omega arith in
     ap (came_along came (sizes fs) (n + 1)) (sym there)
-    ∙ sym (behind came f (sizes fs) n (q + f.size) (omega arith))
+    ∙ sym (behind came f.size (sizes fs) n (q + f.size) (omega arith))
     ∙ all (q + f.size) (omega (arith, le)) (omega (arith, lt))))
 
 -- ---- the places of the stream
@@ -141,7 +141,7 @@ kept_place es a s q =
 keeps : (es : List FlowEvent) (a : FlowArrivals) → Stands es a → Keeps (octet_came es) a.fields a.front
 keeps es a s = record { ascends = s.tells.ascends; same = s.tells.came }
 
-iff : (a b : Bool) → (a ≡ true → b ≡ true) → (b ≡ true → a ≡ true) → a ≡ b
+pub iff : (a b : Bool) → (a ≡ true → b ≡ true) → (b ≡ true → a ≡ true) → a ≡ b
 iff true b to from = sym (to refl)
 iff false true to from = from refl
 iff false false to from = refl
@@ -174,84 +174,90 @@ skipped p from later to le all = iff (all_between p later to) (all_between p fro
     ]))
     (λ e. between_all p later to (λ i ge lt. between_each p from to i e (omega (arith, le, ge)) lt))
 
-begins_low : (es : List FlowEvent) (gap : ℕ) (s : FlowSdus) → Ends (sdu_sizes es) gap s
-    → place_of (sdu_sizes es) s.sequenced ≤ gap
-begins_low es gap s h = by s.sequenced refl
+begins_low : (xs : List ℕ) (gap : ℕ) (s : FlowSdus) → Ends xs gap s → place_of xs s.sequenced ≤ gap
+begins_low xs gap s h = by s.sequenced refl
   where
-    none : (xs : List ℕ) → place_of xs 0 ≡ 0
+    none : (ys : List ℕ) → place_of ys 0 ≡ 0
     none [] = refl
-    none (x ∷ xs) = refl
+    none (y ∷ ys) = refl
 
-    by : (n : ℕ) → s.sequenced ≡ n → place_of (sdu_sizes es) n ≤ gap
-    by zero is = omega (arith, none (sdu_sizes es))
+    by : (n : ℕ) → s.sequenced ≡ n → place_of xs n ≤ gap
+    by zero is = omega (arith, none xs)
     by (suc n) is =
         let at : n + 1 ≡ suc n = omega arith in
-        subst (λ (m : ℕ). place_of (sdu_sizes es) m ≤ gap) at (h.gone n (omega (arith, is)))
+        subst (λ (m : ℕ). place_of xs m ≤ gap) at (h.gone n (omega (arith, is)))
 
 same_test : (a b c d : ℕ) → (a < b → c < d) → (c < d → a < b) → nat_lt a b ≡ nat_lt c d
 same_test a b c d to from = iff (nat_lt a b) (nat_lt c d)
     (λ e. lt-ltb c d (to (ltb-true a b e))) (λ e. lt-ltb a b (from (ltb-true c d e)))
 
+-- what is kept of SDUs tells those whose places all pass, where all before a place pass
+pub sdus_tell : (xs : List ℕ) (p : ℕ → Bool) (test : ℕ → ℕ → Bool) (gap : ℕ) (s : FlowSdus) → Ends xs gap s
+    → ((i : ℕ) → i < gap → p i ≡ true) → ((from to : ℕ) → test from to ≡ all_between p from to) → (k : ℕ)
+    → (nat_lt k s.sequenced || (nat_lt (k - s.sequenced) (length s.ends)
+    && test (slice_index_or (gap ∷ s.ends) (k - s.sequenced) 0) (slice_index_or s.ends (k - s.sequenced) 0)))
+    ≡ (nat_lt k (length xs) && all_between p (place_of xs k) (place_of xs (k + 1)))
+sdus_tell xs p test gap s h before tests k = elim (cases_lt k s.sequenced) [
+  | inl low ↦
+      ap (λ (b : Bool). b || is_at (k - s.sequenced)) (lt-ltb k s.sequenced low)
+      ∙ sym (and_from (nat_lt k (length xs)) (all_between p (place_of xs k) (place_of xs (k + 1)))
+      (lt-ltb k (length xs) (omega (arith, low, h.count)))
+      (between_all p (place_of xs k) (place_of xs (k + 1))
+      (λ i ge lt. before i (omega (arith, lt, h.gone k low)))))
+  | inr up ↦
+      ap (λ (b : Bool). b || is_at (k - s.sequenced)) (le-ltb k s.sequenced up)
+      ∙ by (k - s.sequenced) (omega (arith, up))
+]
+  where
+    is_at : ℕ → Bool
+    is_at j = nat_lt j (length s.ends) && test (slice_index_or (gap ∷ s.ends) j 0) (slice_index_or s.ends j 0)
+
+    there : (j : ℕ) → s.sequenced + j ≡ k → nat_lt j (length s.ends) ≡ nat_lt k (length xs)
+    there j at = same_test j (length s.ends) k (length xs)
+        (λ lt. omega (arith, lt, at, h.count)) (λ lt. omega (arith, lt, at, h.count))
+
+    end_is : (j : ℕ) → s.sequenced + j ≡ k → j < length s.ends
+        → slice_index_or s.ends j 0 ≡ place_of xs (k + 1)
+    end_is j at lt =
+        let next : s.sequenced + j + 1 ≡ k + 1 = omega (arith, at) in
+        h.ends_are j lt ∙ ap (place_of xs) next
+
+    came : (j : ℕ) → s.sequenced + j ≡ k → j < length s.ends
+        → test (slice_index_or (gap ∷ s.ends) j 0) (slice_index_or s.ends j 0)
+        ≡ all_between p (place_of xs k) (place_of xs (k + 1))
+    came zero at lt =
+        let same : s.sequenced ≡ k = omega (arith, at) in
+        tests gap (slice_index_or s.ends 0 0)
+        ∙ skipped p (place_of xs s.sequenced) gap (slice_index_or s.ends 0 0) (begins_low xs gap s h) before
+        ∙ ap (λ (n : ℕ). all_between p (place_of xs n) (slice_index_or s.ends 0 0)) same
+        ∙ ap (all_between p (place_of xs k)) (end_is 0 at lt)
+    came (suc j) at lt =
+        let here : s.sequenced + j + 1 ≡ k = omega (arith, at) in
+        let start : slice_index_or s.ends j 0 ≡ place_of xs k =
+        h.ends_are j (omega (arith, lt)) ∙ ap (place_of xs) here in
+        tests (slice_index_or s.ends j 0) (slice_index_or s.ends (suc j) 0)
+        ∙ ap (λ (n : ℕ). all_between p n (slice_index_or s.ends (suc j) 0)) start
+        ∙ ap (all_between p (place_of xs k)) (end_is (suc j) at lt)
+
+    by : (j : ℕ) → s.sequenced + j ≡ k
+        → is_at j ≡ (nat_lt k (length xs) && all_between p (place_of xs k) (place_of xs (k + 1)))
+    by j at = elim (cases_lt j (length s.ends)) [
+      | inl lt ↦
+          let is : nat_lt j (length s.ends) ≡ true = lt-ltb j (length s.ends) lt in
+          ap (λ (b : Bool). b && test (slice_index_or (gap ∷ s.ends) j 0) (slice_index_or s.ends j 0)) is
+          ∙ came j at lt
+          ∙ sym (ap (λ (b : Bool). b && all_between p (place_of xs k) (place_of xs (k + 1)))
+          (sym (there j at) ∙ is))
+      | inr le ↦
+          let not_there : nat_lt j (length s.ends) ≡ false = le-ltb j (length s.ends) le in
+          ap (λ (b : Bool). b && test (slice_index_or (gap ∷ s.ends) j 0) (slice_index_or s.ends j 0)) not_there
+          ∙ sym (ap (λ (b : Bool). b && all_between p (place_of xs k) (place_of xs (k + 1)))
+          (sym (there j at) ∙ not_there))
+    ]
+
 pub are_whole : (es : List FlowEvent) (a : FlowAccount) → Stands es a.arrivals
     → Ends (sdu_sizes es) (stream_gap a.arrivals) a.sdus → IsLeast (place_came es) 0 (stream_gap a.arrivals)
     → AreWhole es a
-are_whole es a s h gap k = elim (cases_lt k a.sdus.sequenced) [
-  | inl low ↦
-      ap (λ (b : Bool). b || is_whole_at a.arrivals a.sdus.ends (k - a.sdus.sequenced)) (lt-ltb k a.sdus.sequenced low)
-      ∙ sym (and_from (nat_lt k (length (sdu_sizes es)))
-      (all_between (place_came es) (place_of (sdu_sizes es) k) (sdu_end es k))
-      (lt-ltb k (length (sdu_sizes es)) (omega (arith, low, h.count)))
-      (between_all (place_came es) (place_of (sdu_sizes es) k) (sdu_end es k)
-      (λ i ge lt. gap.before i (omega arith) (omega (arith, lt, h.gone k low)))))
-  | inr up ↦
-      ap (λ (b : Bool). b || is_whole_at a.arrivals a.sdus.ends (k - a.sdus.sequenced)) (le-ltb k a.sdus.sequenced up)
-      ∙ by (k - a.sdus.sequenced) (omega (arith, up))
-]
-  where
-    there : (j : ℕ) → a.sdus.sequenced + j ≡ k
-        → nat_lt j (length a.sdus.ends) ≡ nat_lt k (length (sdu_sizes es))
-    there j at = same_test j (length a.sdus.ends) k (length (sdu_sizes es))
-        (λ lt. omega (arith, lt, at, h.count)) (λ lt. omega (arith, lt, at, h.count))
-
-    end_is : (j : ℕ) → a.sdus.sequenced + j ≡ k → j < length a.sdus.ends
-        → slice_index_or a.sdus.ends j 0 ≡ sdu_end es k
-    end_is j at lt =
-        let next : a.sdus.sequenced + j + 1 ≡ k + 1 = omega (arith, at) in
-        h.ends_are j lt ∙ ap (place_of (sdu_sizes es)) next
-
-    came : (j : ℕ) → a.sdus.sequenced + j ≡ k → j < length a.sdus.ends
-        → stream_came a.arrivals (slice_index_or (stream_gap a.arrivals ∷ a.sdus.ends) j 0)
-        (slice_index_or a.sdus.ends j 0)
-        ≡ all_between (place_came es) (place_of (sdu_sizes es) k) (sdu_end es k)
-    came zero at lt =
-        let same : a.sdus.sequenced ≡ k = omega (arith, at) in
-        stream_is es a.arrivals (stream_gap a.arrivals) (slice_index_or a.sdus.ends 0 0) s gap
-        ∙ skipped (place_came es) (place_of (sdu_sizes es) a.sdus.sequenced) (stream_gap a.arrivals)
-        (slice_index_or a.sdus.ends 0 0) (begins_low es (stream_gap a.arrivals) a.sdus h)
-        (λ i low. gap.before i (omega arith) low)
-        ∙ ap (λ (n : ℕ). all_between (place_came es) (place_of (sdu_sizes es) n) (slice_index_or a.sdus.ends 0 0)) same
-        ∙ ap (all_between (place_came es) (place_of (sdu_sizes es) k)) (end_is 0 at lt)
-    came (suc j) at lt =
-        let here : a.sdus.sequenced + j + 1 ≡ k = omega (arith, at) in
-        let start : slice_index_or a.sdus.ends j 0 ≡ place_of (sdu_sizes es) k =
-        h.ends_are j (omega (arith, lt)) ∙ ap (place_of (sdu_sizes es)) here in
-        stream_is es a.arrivals (slice_index_or a.sdus.ends j 0) (slice_index_or a.sdus.ends (suc j) 0) s gap
-        ∙ ap (λ (n : ℕ). all_between (place_came es) n (slice_index_or a.sdus.ends (suc j) 0)) start
-        ∙ ap (all_between (place_came es) (place_of (sdu_sizes es) k)) (end_is (suc j) at lt)
-
-    by : (j : ℕ) → a.sdus.sequenced + j ≡ k → is_whole_at a.arrivals a.sdus.ends j ≡ is_whole_sdu es k
-    by j at = elim (cases_lt j (length a.sdus.ends)) [
-      | inl lt ↦
-          let is : nat_lt j (length a.sdus.ends) ≡ true = lt-ltb j (length a.sdus.ends) lt in
-          ap (λ (b : Bool). b && stream_came a.arrivals (slice_index_or (stream_gap a.arrivals ∷ a.sdus.ends) j 0)
-          (slice_index_or a.sdus.ends j 0)) is
-          ∙ came j at lt
-          ∙ sym (ap (λ (b : Bool). b && all_between (place_came es) (place_of (sdu_sizes es) k) (sdu_end es k))
-          (sym (there j at) ∙ is))
-      | inr le ↦
-          let not_there : nat_lt j (length a.sdus.ends) ≡ false = le-ltb j (length a.sdus.ends) le in
-          ap (λ (b : Bool). b && stream_came a.arrivals (slice_index_or (stream_gap a.arrivals ∷ a.sdus.ends) j 0)
-          (slice_index_or a.sdus.ends j 0)) not_there
-          ∙ sym (ap (λ (b : Bool). b && all_between (place_came es) (place_of (sdu_sizes es) k) (sdu_end es k))
-          (sym (there j at) ∙ not_there))
-    ]
+are_whole es a s h gap =
+    sdus_tell (sdu_sizes es) (place_came es) (stream_came a.arrivals) (stream_gap a.arrivals) a.sdus h
+    (λ i lt. gap.before i (omega arith) lt) (λ from to. stream_is es a.arrivals from to s gap)

@@ -10,15 +10,21 @@ use Rattle.journal_account.specs.FlowSending.{FlowSending, none_sent, with_sent,
 use Rattle.journal_account.specs.FlowSending.{with_status, with_poll_expired}
 use Rattle.journal_account.specs.FlowSdus.{FlowSdus, no_sdus, with_sdu, sequenced_to}
 
+-- confirmed are the SDUs as the sender knows them: those are in sequence that end before VT(A)
 pub record FlowAccount : Type 0 where
   pub arrivals : FlowArrivals
   pub sdus : FlowSdus
+  pub confirmed : FlowSdus
   pub sending : FlowSending
 
 -- as a life begins, with maxRetxThreshold
 abbrev pub empty_account : ℕ → FlowAccount
-empty_account most =
-    record { arrivals = none_written; sdus = no_sdus; sending = none_sent most }
+empty_account most = record {
+  arrivals = none_written;
+  sdus = no_sdus;
+  confirmed = no_sdus;
+  sending = none_sent most;
+}
 
 abbrev pub arrivals_with : FlowEvent → FlowArrivals → FlowArrivals
 arrivals_with (SduTaken size) a = a
@@ -49,12 +55,16 @@ sending_with (StatusHeard ack entries) a = with_status ack entries a.sending
 sending_with (PollExpired more) a = with_poll_expired (left_to_send more a) a.sending
 
 abbrev pub sequenced : FlowAccount → FlowAccount
-sequenced a = record a { sdus = sequenced_to (stream_gap a.arrivals) a.sdus }
+sequenced a = record a {
+  sdus = sequenced_to (stream_gap a.arrivals) a.sdus;
+  confirmed = sequenced_to a.sending.start a.confirmed;
+}
 
 abbrev pub account_with : FlowEvent → FlowAccount → FlowAccount
 account_with e a = sequenced (record {
   arrivals = arrivals_with e a.arrivals;
   sdus = sdus_with e a.sdus;
+  confirmed = sdus_with e a.confirmed;
   sending = sending_with e a;
 })
 

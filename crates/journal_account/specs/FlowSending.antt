@@ -18,10 +18,11 @@ pub record SentNumber : Type 0 where
   pub waiting : List Run
   pub namings : ℕ
 
--- base is VT(A), and numbers are those from there on below VT(S); most is maxRetxThreshold; limit
--- is the number at which the flow failed
+-- base is VT(A), and numbers are those from there on below VT(S), which begin at the place start of
+-- the stream; most is maxRetxThreshold; limit is the number at which the flow failed
 pub record FlowSending : Type 0 where
   pub base : ℕ
+  pub start : ℕ
   pub numbers : List SentNumber
   pub most : ℕ
   pub limit : Option ℕ
@@ -30,7 +31,7 @@ abbrev pub never_named : ℕ → SentNumber
 never_named size = record { size = size; acked = false; waiting = []; namings = 0 }
 
 abbrev pub none_sent : ℕ → FlowSending
-none_sent most = record { base = 0; numbers = []; most = most; limit = None }
+none_sent most = record { base = 0; start = 0; numbers = []; most = most; limit = None }
 
 -- VT(S)
 abbrev pub sent_in : FlowSending → ℕ
@@ -116,6 +117,11 @@ abbrev pub acked_first : List SentNumber → ℕ
 acked_first [] = 0
 acked_first (h ∷ hs) = if h.acked then acked_first hs + 1 else 0
 
+-- and how many octets these have
+abbrev pub acked_octets : List SentNumber → ℕ
+acked_octets [] = 0
+acked_octets (h ∷ hs) = if h.acked then h.size + acked_octets hs else 0
+
 -- ---- the limit
 
 -- the first number that was named too often
@@ -134,6 +140,7 @@ limited s = record s { limit = or_over s.limit s.most s.base s.numbers }
 abbrev pub advanced_with : List SentNumber → FlowSending → FlowSending
 advanced_with numbers s = limited (record s {
   base = s.base + acked_first numbers;
+  start = s.start + acked_octets numbers;
   numbers = drop (acked_first numbers) numbers;
 })
 

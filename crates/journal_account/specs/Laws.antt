@@ -11,10 +11,12 @@ use Rattle.journal_account.specs.FlowSdus.{FlowSdus}
 use Rattle.journal_account.specs.FlowSending.{FlowSending, sent_in, number_at, octets_wait}
 use Rattle.journal_account.specs.FlowSending.{namings_of}
 use Rattle.journal_account.specs.Acked.{is_acked}
+use Rattle.journal_account.specs.Confirmed.{is_confirmed_sdu}
 use Rattle.journal_account.specs.Waiting.{waits, namings, IsWithin, FailsAt}
 use Rattle.journal_account.specs.FlowAccount.{FlowAccount, account_of}
 use Rattle.journal_account.specs.FlowStatus.{is_true_status}
 use Rattle.journal_account.specs.FlowWholes.{is_whole_kept}
+use Rattle.journal_account.specs.FlowConfirmed.{is_confirmed_kept}
 use Rattle.journal_account.specs.TrueStatus.{IsTrueStatus}
 use Rattle.journal_account.specs.declared.entry.StatusEntry.{StatusEntry}
 
@@ -40,6 +42,10 @@ pub record AreArrivals (es : List FlowEvent) (a : FlowArrivals) : Type 0 where
 -- and which are whole, in sequence or not
 abbrev pub AreWhole : List FlowEvent → FlowAccount → Type 0
 AreWhole es a = (k : ℕ) → is_whole_kept k a ≡ is_whole_sdu es k
+
+-- and which are confirmed
+abbrev pub AreConfirmed : List FlowEvent → FlowAccount → Type 0
+AreConfirmed es a = (k : ℕ) → is_confirmed_kept k a ≡ is_confirmed_sdu es k
 
 pub record AreSdus (es : List FlowEvent) (s : FlowSdus) : Type 0 where
   -- so many octets were taken
@@ -77,6 +83,7 @@ pub record IsAccount (most : ℕ) (es : List FlowEvent) (a : FlowAccount) : Type
   pub sdus : AreSdus es a.sdus
   pub whole : AreWhole es a
   pub sending : IsSending most es a.sending
+  pub confirmed : AreConfirmed es a
 
 abbrev pub AccountsAreTrue : Type 0
 AccountsAreTrue =

@@ -3,12 +3,14 @@ pub mod Arrived
 pub mod Stream
 pub mod Entries
 pub mod Acked
+pub mod Confirmed
 pub mod Waiting
 pub mod FlowArrivals
 pub mod FlowSdus
 pub mod FlowSending
 pub mod FlowAccount
 pub mod FlowWholes
+pub mod FlowConfirmed
 pub mod TrueStatus
 pub mod FlowStatus
 pub mod Laws

@@ -6,6 +6,7 @@ ghost use Rattle.journal_account.specs.FlowSending.{sent_in, octets_wait, naming
 ghost use Rattle.journal_account.specs.FlowArrivals.{next_in};
 ghost use Rattle.journal_account.specs.FlowStatus.{is_true_status};
 ghost use Rattle.journal_account.specs.FlowWholes.{is_whole_kept};
+ghost use Rattle.journal_account.specs.FlowConfirmed.{is_confirmed_kept};
 ghost use Rattle.journal_account.specs.FlowAccount.{empty_account, sequenced, account_with};
 
 use crate::arrivals::FlowArrivals;
@@ -20,11 +21,13 @@ use std::marker::Model;
 /// a number are told by their places in its data field: those at or above one and below another.
 /// Contracts see the account of `specs/FlowAccount.antt`.
 ///
-/// It takes memory for the numbers from VR(R) on, and for the SDUs that aren't in sequence.
+/// It takes memory for the numbers from VR(R) on and from VT(A) on, and for the SDUs that aren't in
+/// sequence or don't end before VT(A).
 #[derive(Drop)]
 pub struct FlowAccount {
     arrivals: FlowArrivals,
     sdus: FlowSdus,
+    confirmed: FlowSdus,
     sending: FlowSending,
 }
 
@@ -33,7 +36,12 @@ impl Model for FlowAccount {
 
     ghost Value = { FlowAccount };
 
-    ghost view = { λ a. record { arrivals = a.arrivals; sdus = a.sdus; sending = a.sending } };
+    ghost view = { λ a. record {
+      arrivals = a.arrivals;
+      sdus = a.sdus;
+      confirmed = a.confirmed;
+      sending = a.sending;
+    } };
 }
 
 impl FlowAccount {
@@ -45,6 +53,7 @@ impl FlowAccount {
         FlowAccount {
             arrivals: FlowArrivals::new(alloc),
             sdus: FlowSdus::new(alloc),
+            confirmed: FlowSdus::new(alloc),
             sending: FlowSending::new(alloc, most),
         }
     }
@@ -108,6 +117,21 @@ impl FlowAccount {
         }
     }
 
+    /// Whether an SDU, counted from 0, was taken and each of its octets was written in a number
+    /// that is acknowledged: RLC tells PDCP that it has come (TS 36.322 5.1.3.1.1).
+    pub fn is_confirmed(&self, sdu: u64) -> bool
+        ensures { result ≡ is_confirmed_kept sdu self.now }
+    {
+        if sdu < self.confirmed.sequenced() {
+            return true;
+        }
+        let at = sdu - self.confirmed.sequenced();
+        match self.confirmed.place_of(at, self.sending.start()) {
+            Some((start, end)) => self.sending.stream_acked(start, end),
+            None => false,
+        }
+    }
+
     /// How many octets were taken.
     pub fn taken(&self) -> u64
         ensures { result ≡ self.now.sdus.taken }
@@ -156,6 +180,10 @@ impl FlowAccount {
         ensures err { OnErr result (self.new ≡ self.old) }
     {
         self.sdus.take(size)?;
+        if self.confirmed.take(size).is_err() {
+            self.sdus.give_back(size);
+            return Err(NoMemory);
+        }
         self.sequence();
         Ok(())
     }
@@ -240,10 +268,12 @@ impl FlowAccount {
         Ok(())
     }
 
-    // SDUs that end before the first place that hasn't come are in sequence.
+    // SDUs that end before the first place that hasn't come are in sequence, and those that end
+    // before VT(A) are confirmed.
     fn sequence(&mut self)
         ensures { self.new ≡ sequenced self.old }
     {
         self.sdus.sequence(self.arrivals.stream_gap());
+        self.confirmed.sequence(self.sending.start());
     }
 }

@@ -7,6 +7,7 @@ ghost use Rattle.journal_account.specs.FlowSending.{waits_all, names_new};
 ghost use Rattle.journal_account.specs.FlowSending.{woken_between, woken_by, woken, counted};
 ghost use Rattle.journal_account.specs.FlowSending.{named_number, heard_number, is_resting};
 ghost use Rattle.journal_account.specs.FlowSending.{recalled};
+ghost use Rattle.journal_account.specs.FlowConfirmed.{octets_acked};
 
 use crate::entry::StatusEntry;
 use l2_bits::NoMemory;
@@ -55,6 +56,20 @@ impl SentNumber {
         ensures { result ≡ self.now.acked }
     {
         self.acked
+    }
+
+    pub(crate) fn size(&self) -> u32
+        ensures { result ≡ self.now.size }
+    {
+        self.size
+    }
+
+    // Whether the octets from a place on below another are acknowledged, as far as the number has
+    // them.
+    pub(crate) fn octets_acked(&self, from: u64, to: u64) -> bool
+        ensures { result ≡ octets_acked from to self.now }
+    {
+        self.acked || to.min(u64::from(self.size)) <= from
     }
 
     pub(crate) fn namings(&self) -> u32

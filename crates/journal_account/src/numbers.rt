@@ -5,6 +5,8 @@ ghost use Rattle.std.specs.Prelude.{Some, slice_set, OnOk, OnErr, IfSome, if◌t
 ghost use Rattle.rlc_pdu.specs.Runs.{gap_in};
 ghost use Rattle.journal_account.specs.FlowSending.{never_named, with_rest, number_at};
 ghost use Rattle.journal_account.specs.FlowSending.{heard_number, heard_all, acked_first};
+ghost use Rattle.journal_account.specs.FlowSending.{acked_octets};
+ghost use Rattle.journal_account.specs.FlowConfirmed.{places_acked};
 ghost use Rattle.journal_account.specs.FlowSending.{first_over, some_wait, last_open, recalled};
 
 use crate::entry::StatusEntry;
@@ -99,20 +101,52 @@ pub(crate) fn hear(
     Ok(())
 }
 
-// Takes out the acknowledged numbers that stand first; `base` is the first number.
-pub(crate) fn advance(numbers: &mut Numbers, base: &mut u64)
+// Takes out the acknowledged numbers that stand first; `base` is the first number, and `start` the
+// place of the stream where it begins.
+pub(crate) fn advance(
+    numbers: &mut Numbers,
+    base: &mut u64,
+    start: &mut u64,
+) -> Result<(), NoMemory>
     requires { base.old + length numbers.old.items < 2 ^ 64 }
-    ensures base { base.new ≡ base.old + acked_first numbers.old.items }
-    ensures rest { numbers.new.items ≡ drop (acked_first numbers.old.items) numbers.old.items }
+    ensures base { OnOk result (base.new ≡ base.old + acked_first numbers.old.items) }
+    ensures start { OnOk result (start.new ≡ start.old + acked_octets numbers.old.items) }
+    ensures rest { OnOk result
+        (numbers.new.items ≡ drop (acked_first numbers.old.items) numbers.old.items) }
     ensures sum { base.new + length numbers.new.items ≡ base.old + length numbers.old.items }
 {
     while let Some(one) = numbers.front() {
         if !one.is_acked() {
             break;
         }
+        *start = start.checked_add(u64::from(one.size())).ok_or(NoMemory)?;
         let _ = numbers.pop_front();
         *base += 1;
     }
+    Ok(())
+}
+
+// Whether octets at places from one on below another, counted from where the numbers begin, are all
+// acknowledged.
+#[tactic(auto, using(crate::proofs::Confirms::numbers_walked))]
+pub(crate) fn places_acked(numbers: &Numbers, from: u64, to: u64) -> bool
+    ensures { result ≡ places_acked numbers.now.items from to }
+{
+    let mut from = from;
+    let mut to = to;
+    let mut at = 0;
+    while from < to {
+        let Some(one) = numbers.get(at) else {
+            return false;
+        };
+        if !one.octets_acked(from, to) {
+            return false;
+        }
+        from = from.saturating_sub(u64::from(one.size()));
+        to = to.saturating_sub(u64::from(one.size()));
+        at += 1;
+    }
+    true
 }
 
 fn is_over(numbers: &Numbers, at: usize, most: u32) -> bool

@@ -1,7 +1,8 @@
 // The SDUs that RLC took, and how many are in sequence.
 ghost use Rattle.std.specs.Prelude.{◌≡◌, ◌+◌, ◌<◌, ◌≤◌, ◌^◌, ◌∷◌, length, drop, OnOk, OnErr};
 ghost use Rattle.std.specs.Prelude.{IfSome, IsNone, slice_index_or};
-ghost use Rattle.journal_account.specs.FlowSdus.{no_sdus, with_sdu, ends_by, sequenced_to};
+ghost use Rattle.journal_account.specs.FlowSdus.{FlowSdus, no_sdus, with_sdu, ends_by};
+ghost use Rattle.journal_account.specs.FlowSdus.{sequenced_to};
 
 use l2_bits::NoMemory;
 use std::alloc::Global;
@@ -78,6 +79,16 @@ impl FlowSdus {
         self.ends.push_back(end)?;
         self.taken = end;
         Ok(())
+    }
+
+    // The SDU of so many octets that was taken last goes back.
+    pub(crate) fn give_back(&mut self, size: u32)
+        requires some { 0 < length self.old.ends }
+        requires within { size ≤ self.old.taken }
+        ensures { (s : FlowSdus) → self.old ≡ with_sdu size s → self.new ≡ s }
+    {
+        let _ = self.ends.pop_back();
+        self.taken -= u64::from(size);
     }
 
     // All octets before a place have come.

@@ -4,6 +4,7 @@ ghost use Rattle.journal_account.specs.FlowSending.{octets_wait, namings_of};
 ghost use Rattle.journal_account.specs.FlowSending.{none_sent, sent_in, with_sent, with_resent};
 ghost use Rattle.journal_account.specs.FlowSending.{or_over, limited, with_status};
 ghost use Rattle.journal_account.specs.FlowSending.{is_quiet, recalled_at, with_poll_expired};
+ghost use Rattle.journal_account.specs.FlowConfirmed.{stream_acked};
 
 use crate::entry::StatusEntry;
 use crate::numbers::{self, Numbers};
@@ -17,6 +18,7 @@ use std::marker::Model;
 pub(crate) struct FlowSending {
     alloc: Global,
     base: u64,
+    start: u64,
     numbers: Numbers,
     most: u32,
     limit: Option<u64>,
@@ -30,6 +32,7 @@ impl Model for FlowSending {
 
     ghost view = { λ s. record {
       base = s.base;
+      start = s.start;
       numbers = s.numbers.items;
       most = s.most;
       limit = s.limit;
@@ -45,6 +48,7 @@ impl FlowSending {
         FlowSending {
             alloc,
             base: 0,
+            start: 0,
             numbers: VecDeque::new(alloc),
             most,
             limit: None,
@@ -55,6 +59,22 @@ impl FlowSending {
         ensures { result ≡ self.now.base }
     {
         self.base
+    }
+
+    // The place of the stream where the number VT(A) begins.
+    pub(crate) fn start(&self) -> u64
+        ensures { result ≡ self.now.start }
+    {
+        self.start
+    }
+
+    // Whether the places of the stream from one on below another are acknowledged; all before VT(A)
+    // are.
+    pub(crate) fn stream_acked(&self, from: u64, to: u64) -> bool
+        ensures { result ≡ stream_acked self.now from to }
+    {
+        let from = from.saturating_sub(self.start);
+        numbers::places_acked(&self.numbers, from, to.saturating_sub(self.start))
     }
 
     pub(crate) fn limit(&self) -> Option<u64>
@@ -115,7 +135,7 @@ impl FlowSending {
             return Ok(());
         }
         numbers::hear(&mut self.numbers, ack, entries, self.base)?;
-        numbers::advance(&mut self.numbers, &mut self.base);
+        numbers::advance(&mut self.numbers, &mut self.base, &mut self.start)?;
         self.find_limit();
         Ok(())
     }

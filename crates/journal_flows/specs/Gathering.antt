@@ -82,7 +82,7 @@ with_sending Ue s j = record { flows = j.flows; nb = j.nb; ue = s }
 -- ---- an event of an end
 
 -- the PDU of PDCP that RLC takes: its SDU with a header of 2 octets, or with one of 1 octet and a
--- MAC-I of 4 on a signalling bearer, whose COUNTs begin anew in each life (TS 36.323 6.2.3, 6.2.4)
+-- MAC-I of 4 on a signalling bearer, whose COUNTs begin anew in each life (TS 36.323 6.2.2, 6.2.3)
 abbrev pub taken_as : Option Layout → Side → ℕ → Option ℕ → ℕ → List Told
 taken_as (Some (layouts.Am pdcp.Srb)) side lcid count len =
     told side lcid (PduGiven None (len + 5))

@@ -12,7 +12,7 @@ use pdcp_pdu::PdcpKind;
 use pdu_show::{Kinds, Layout};
 
 // The octets of PDCP's header of data, and of that of a signalling bearer with its MAC-I (TS 36.323
-// 6.2.3, 6.2.4).
+// 6.2.3, 6.2.2).
 const DATA_OCTETS: u32 = 2;
 
 const SIGNALLING_OCTETS: u32 = 5;

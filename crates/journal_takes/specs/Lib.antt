@@ -1,0 +1,4 @@
+pub mod TakeEvents
+pub mod Takeable
+pub mod FlowTakes
+pub mod Laws
