@@ -113,7 +113,9 @@ fn print_flows(rt: &HostRuntime, flows: &JournalFlows) -> io::Result<()> {
             let (next, base) = (account.next(), account.base());
             let (front, bound, top) = (account.front(), account.bound(), account.top());
             let sequenced = account.sequenced();
-            println!(rt; "{direction} {lcid}: {next} {base} {front} {bound} {top} {sequenced} {count}")?;
+            println!(rt;
+                "{direction} {lcid}: {next} {base} {front} {bound} {top} {sequenced} {count}"
+            )?;
         }
     }
     Ok(())
