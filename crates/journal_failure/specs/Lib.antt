@@ -1,0 +1,3 @@
+pub mod RightFailure
+pub mod Checking
+pub mod Laws
