@@ -12,7 +12,7 @@ use Rattle.harq.specs.ReceiveHistory.{down_start}
 use Rattle.harq.specs.Sending.{Sending, fresh, ndi_of}
 use Rattle.harq.specs.SendHistory.{Deed, blocks, is_odd, is_down}
 use Rattle.harq.proofs.SendLemmas.{counts_blocks}
-use Rattle.law_air.specs.AnyCalls.Deeds.{TakesTurn, came_of, IsAnswered, Answers}
+use Rattle.law_run.specs.AnyCalls.Deeds.{TakesTurn, came_of, IsAnswered, Answers}
 use Rattle.mac_pdu.specs.declared.item.Direction.TheVariants.{Down}
 use Rattle.promises.specs.Carried.{seen_as, seen}
 use Rattle.promises.specs.Heard.{Flight, Heard, deeds_of}

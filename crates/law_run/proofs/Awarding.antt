@@ -27,11 +27,11 @@ use Rattle.harq.specs.Sending.{ndi_of}
 use Rattle.harq.specs.SendHistory.{Turn, Deed, closed, deed_by, deed, turned, world_after, start, held_by}
 use Rattle.harq.proofs.ReceiveLemmas.{grants_right}
 use Rattle.harq.proofs.SendLemmas.{keeps_blocks}
-use Rattle.law_air.specs.AnyCalls.Deeds.{deed_of, turn, TakesTurn, came_of, heard_up, up_ordered}
+use Rattle.law_run.specs.AnyCalls.Deeds.{deed_of, turn, TakesTurn, came_of, heard_up, up_ordered}
 use Rattle.promises.specs.Awards.{grant_brought, next_ndi, told_of_grant, grants, order_by, order, seen_by, last_seen}
 use Rattle.promises.specs.Awards.{resends, builds, is_resent, is_built, IsVisit, AreVisits}
 use Rattle.promises.specs.Flights.{FliesUp, IsUnanswered, IsUp}
-use Rattle.law_air.proofs.AnyCalls.Telling.{none_is, some_is}
+use Rattle.law_run.proofs.AnyCalls.Telling.{none_is, some_is}
 use Rattle.mac_pdu.specs.declared.item.Direction.TheVariants.{Up}
 use Rattle.promises.specs.Heard.{Flight, Heard, is_miss, deeds_of}
 use Rattle.law_run.proofs.Building.{run_maximum, is_here}

@@ -10,8 +10,8 @@ use Rattle.air_record.specs.declared.record.Record.TheVariants as records
 use Rattle.harq.specs.declared.sender.Order.TheVariants.{Silent, Free}
 use Rattle.harq.specs.SendHistory.{is_down}
 use Rattle.promises.specs.Records.{is_of_run, is_of_air}
-use Rattle.law_air.specs.AnyCalls.Deeds.{Entities, entities}
-use Rattle.law_air.specs.AnyCalls.Told.{AddsTti}
+use Rattle.law_run.specs.AnyCalls.Deeds.{Entities, entities}
+use Rattle.law_run.specs.AnyCalls.Told.{AddsTti}
 use Rattle.mac_pdu.specs.declared.item.Direction.{Direction}
 use Rattle.mac_pdu.specs.declared.item.Direction.TheVariants.{Down, Up}
 use Rattle.promises.specs.Heard.{Heard, heard, is_miss}

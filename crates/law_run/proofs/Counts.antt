@@ -23,9 +23,9 @@ use Rattle.l2_num.specs.Ascending.{IsAscending}
 use Rattle.l2_types.specs.declared.side.Side.{Side}
 use Rattle.l2_types.specs.declared.side.Side.TheVariants.{Nb, Ue}
 use Rattle.bearer_types.specs.Sides.{is_same}
-use Rattle.law_air.specs.AnyCalls.Ends.{ByCalls, begins_life, LivesOn}
+use Rattle.law_run.specs.AnyCalls.Ends.{ByCalls, begins_life, LivesOn}
 use Rattle.promises.specs.Records.{event_of, events_of, is_of_building}
-use Rattle.law_air.proofs.AnyCalls.Going.{run_on, given_on, over_on}
+use Rattle.law_run.proofs.AnyCalls.Going.{run_on, given_on, over_on}
 use Rattle.promises.specs.Counts.{counts_on, counts_taken, counts_since, CountsAscend}
 use Rattle.law_node.specs.Calls.{Call, Add, Move, AreGiven, run_end, reached}
 use Rattle.law_node.specs.Counts.{begins as call_begins}

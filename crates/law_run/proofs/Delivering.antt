@@ -37,11 +37,11 @@ use Rattle.l2_types.specs.declared.side.Side.TheVariants.{Nb, Ue}
 use Rattle.law_node.specs.Calls.{Add, after as after_call}
 use Rattle.law_node.specs.Telling.{told_over}
 use Rattle.promises.specs.Records.{is_up, event_of, events_of, sdu_of, ups_in}
-use Rattle.law_air.proofs.AnyCalls.Going.{told_both}
+use Rattle.law_run.proofs.AnyCalls.Going.{told_both}
 use Rattle.prioritise.proofs.ChannelLemmas.{both_false}
 use Rattle.promises.specs.Arrival.{entries_in, entries_ended, entries_from}
 use Rattle.law_words.specs.Arrivals.{AccountEntry}
-use Rattle.law_air.proofs.TwoEnds.Coming.{bearers_begin, ends_come_by}
+use Rattle.law_run.proofs.TwoEnds.Coming.{bearers_begin, ends_come_by}
 use Rattle.air_run.specs.Written.{all_seen, noticed, with_um}
 use Rattle.um_losses.specs.Flow.{Flow}
 use Rattle.um_losses.specs.declared.cursor.Cursor.{Cursor}
@@ -50,7 +50,7 @@ use Rattle.um_losses.specs.Told.{told_in, all_after, flow_at}
 use Rattle.law_deliver.specs.UmGaps.Delivery.{first_flow}
 use Rattle.law_deliver.specs.UmGaps.Whats.{whats}
 use Rattle.law_deliver.proofs.UmGaps.Acting.{after_then}
-use Rattle.law_air.proofs.TwoEnds.Lives.{channels_begin}
+use Rattle.law_run.proofs.TwoEnds.Lives.{channels_begin}
 use Rattle.promises.specs.Delivery.{forges, is_forged, sets_timer, is_timed, discarded, DeliverAll, DeliversInOrder}
 use Rattle.promises.specs.Flows.{handed_in, looped_at, submitted, delivered}
 use Rattle.law_run.specs.Order.{state_behind, IsRight, KeepsOrder}

@@ -18,12 +18,12 @@ use Rattle.air_text.specs.Ranges.{IsInRange}
 use Rattle.eps_sec.specs.declared.Keys.{Keys}
 use Rattle.l2_num.specs.Ascending.{IsAscending}
 use Rattle.l2_types.specs.declared.side.Side.TheVariants.{Nb}
-use Rattle.law_air.specs.AnyCalls.Calls as calls
-use Rattle.law_air.specs.AnyCalls.Deeds.{entities}
-use Rattle.law_air.specs.AnyCalls.Runs.{Tti, Drains, Submit, Calls}
-use Rattle.law_air.specs.DrainRounds.{MayDrain}
-use Rattle.law_air.specs.DrainTtis.{HaveEight}
-use Rattle.law_air.proofs.DrainTtis.Clearing.{first_eight, steps_eight}
+use Rattle.law_run.specs.AnyCalls.Calls as calls
+use Rattle.law_run.specs.AnyCalls.Deeds.{entities}
+use Rattle.law_run.specs.AnyCalls.Runs.{Tti, Drains, Submit, Calls}
+use Rattle.law_run.specs.DrainRounds.{MayDrain}
+use Rattle.law_run.specs.DrainTtis.{HaveEight}
+use Rattle.law_run.proofs.DrainTtis.Clearing.{first_eight, steps_eight}
 use Rattle.prioritise.proofs.ChannelLemmas.{both_false}
 use Rattle.promises.specs.Delivery.{forges, is_forged}
 use Rattle.promises.specs.Drained.{is_drain}

@@ -41,12 +41,12 @@ use Rattle.law_drain.specs.Channels.{OffersIn, Measured, channel_measure}
 use Rattle.law_drain.specs.Left.{StandsIn, uncut_left, both_stand, OffersAlong, EndFallsTo}
 use Rattle.law_drain.proofs.Few.{end_measures_are_few}
 use Rattle.law_drain.proofs.Left.{end_measures_are_left, channels_are_ends, ends_never_rise}
-use Rattle.law_air.specs.AnyCalls.Zero.{HasCome, HaveCome}
-use Rattle.law_air.specs.DrainTtis.{Step, Tti, ReceiversExpire, SendersExpire, goes}
-use Rattle.law_air.specs.DrainRounds.{IsOfDrain, MayDrain}
-use Rattle.law_air.proofs.AnyCalls.Going.{run_on, given_on}
-use Rattle.law_air.proofs.DrainRounds.Staying.{step_stays}
-use Rattle.law_air.proofs.TwoEnds.Lives.{stays_there}
+use Rattle.law_run.specs.AnyCalls.Zero.{HasCome, HaveCome}
+use Rattle.law_run.specs.DrainTtis.{Step, Tti, ReceiversExpire, SendersExpire, goes}
+use Rattle.law_run.specs.DrainRounds.{IsOfDrain, MayDrain}
+use Rattle.law_run.proofs.AnyCalls.Going.{run_on, given_on}
+use Rattle.law_run.proofs.DrainRounds.Staying.{step_stays}
+use Rattle.law_run.proofs.TwoEnds.Lives.{stays_there}
 use Rattle.law_run.specs.DrainBudget.{IsTtiOfDrain, all_uncut, IsMeasuredWithin, MeasuresAreLeft}
 use Rattle.law_run.specs.DrainBudget.{CountsEnd, HaveCounts, BudgetsSuffice, LinesHaveBudgets}
 use Rattle.law_run.specs.DrainLinks.{AllMeasured, link_measure, IsChannelOn}

@@ -35,13 +35,13 @@ use Rattle.law_node.specs.Calls.{Turn, Call as EndCall, SetVisits, SetReports, A
 use Rattle.law_node.specs.Calls.{TickBuckets, Visits, Grants, Granted, Assigned, Pass, Receive, Expire, Move, answered}
 use Rattle.law_node.specs.Calls.{IsGiven as IsGivenTo, AreGiven, after as after_call, run_end}
 use Rattle.test_loop.specs.Loops.{is_on}
-use Rattle.law_air.specs.DrainRounds.{MayDrain}
-use Rattle.law_air.specs.DrainTtis.{grown, IsLoopOff}
-use Rattle.law_air.proofs.AnyCalls.Going.{Seen, told_seen, run_on, given_on}
-use Rattle.law_air.proofs.AnyCalls.Visiting.{came, comes_seen, builds_down, sent_down, builds_up, sent_up}
-use Rattle.law_air.proofs.AnyCalls.Visiting.{enough_by_grant}
-use Rattle.law_air.proofs.AnyCalls.Settling.{downlink_goes}
-use Rattle.law_air.proofs.DrainTtis.Expiring.{loops_off}
+use Rattle.law_run.specs.DrainRounds.{MayDrain}
+use Rattle.law_run.specs.DrainTtis.{grown, IsLoopOff}
+use Rattle.law_run.proofs.AnyCalls.Going.{Seen, told_seen, run_on, given_on}
+use Rattle.law_run.proofs.AnyCalls.Visiting.{came, comes_seen, builds_down, sent_down, builds_up, sent_up}
+use Rattle.law_run.proofs.AnyCalls.Visiting.{enough_by_grant}
+use Rattle.law_run.proofs.AnyCalls.Settling.{downlink_goes}
+use Rattle.law_run.proofs.DrainTtis.Expiring.{loops_off}
 
 -- ---- an end
 

@@ -25,8 +25,8 @@ use Rattle.promises.specs.Order.{Channels, with_lcid, with_channel}
 use Rattle.promises.specs.Telling.{channels_by, channels}
 use Rattle.law_node.specs.Order.{AreOrdered, channels as of_bearers}
 use Rattle.law_drain.specs.Sharing.{IsServedFirst}
-use Rattle.law_air.specs.AnyCalls.Order.{channels_of}
-use Rattle.law_air.proofs.AnyCalls.Channels.{known_channel}
+use Rattle.law_run.specs.AnyCalls.Order.{channels_of}
+use Rattle.law_run.proofs.AnyCalls.Channels.{known_channel}
 use Rattle.law_run.specs.Order.{IsTransparentFirst, IsRight, KeepsOrder}
 use Rattle.law_run.proofs.Past.{link_behind}
 use Rattle.law_run.proofs.Standing.{channels_behind}

@@ -12,8 +12,8 @@ use Rattle.air_run.specs.Draining.{shown, behind, ttis, left_by, done_by, rounds
 use Rattle.air_run.specs.Playing.{acted}
 use Rattle.air_text.specs.Groups.{Group}
 use Rattle.l2_types.specs.declared.side.Side.TheVariants.{Nb}
-use Rattle.law_air.specs.DrainRounds.{MayDrain}
-use Rattle.law_air.proofs.AnyCalls.Passing.{drain_adds}
+use Rattle.law_run.specs.DrainRounds.{MayDrain}
+use Rattle.law_run.proofs.AnyCalls.Passing.{drain_adds}
 use Rattle.law_node.specs.Holding.{flow}
 use Rattle.promises.specs.Air.{is_tti}
 use Rattle.promises.specs.Delivery.{is_forged}

@@ -22,11 +22,11 @@ use Rattle.l2_types.specs.declared.channel.Kind.{Kind}
 use Rattle.l2_types.specs.declared.channel.Kind.TheVariants as kinds
 use Rattle.l2_types.specs.declared.side.Side.{Side}
 use Rattle.l2_types.specs.declared.side.Side.TheVariants.{Nb, Ue}
-use Rattle.law_air.specs.DrainRounds.{IsOfDrain, MayDrain, round_of}
-use Rattle.law_air.specs.DrainShares.{dealt, WritesNone, DealsRound}
-use Rattle.law_air.specs.DrainTtis.{Tti, goes}
-use Rattle.law_air.specs.TwoEnds.Lived.{IsAcknowledged}
-use Rattle.law_air.proofs.DrainRounds.Dealing.{rounds_are_dealt}
+use Rattle.law_run.specs.DrainRounds.{IsOfDrain, MayDrain, round_of}
+use Rattle.law_run.specs.DrainShares.{dealt, WritesNone, DealsRound}
+use Rattle.law_run.specs.DrainTtis.{Tti, goes}
+use Rattle.law_run.specs.TwoEnds.Lived.{IsAcknowledged}
+use Rattle.law_run.proofs.DrainRounds.Dealing.{rounds_are_dealt}
 use Rattle.law_bearer.specs.AmBearer.Calls.{IsOfSignalling}
 use Rattle.law_bearer.specs.AnyBearer.Calls.{after_all}
 use Rattle.law_bearer.specs.AnyBearer.Rounds.{writes_in, arrivals}

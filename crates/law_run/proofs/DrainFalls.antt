@@ -10,9 +10,9 @@ use Rattle.bearer.specs.declared.flow.Flow.TheVariants.{Tm, Um, Am}
 use Rattle.l2_types.specs.declared.channel.Kind.{Kind}
 use Rattle.l2_types.specs.declared.channel.Kind.TheVariants as kinds
 use Rattle.l2_types.specs.declared.side.Side.TheVariants.{Nb, Ue}
-use Rattle.law_air.specs.DrainRounds.{round_of}
-use Rattle.law_air.specs.DrainShares.{HaveGone, dealt, DealsRound}
-use Rattle.law_air.specs.DrainTtis.{goes}
+use Rattle.law_run.specs.DrainRounds.{round_of}
+use Rattle.law_run.specs.DrainShares.{HaveGone, dealt, DealsRound}
+use Rattle.law_run.specs.DrainTtis.{goes}
 use Rattle.law_bearer.specs.AnyBearer.Calls.{after_all}
 use Rattle.law_bearer.specs.AnyBearer.Rounds.{Round, arrivals}
 use Rattle.law_drain.specs.Channels.{Measured, channel_measure}

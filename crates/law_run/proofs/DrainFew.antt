@@ -27,7 +27,7 @@ use Rattle.l2_types.specs.declared.side.Side.{Side}
 use Rattle.pdcp_pdu.specs.declared.pdu.PdcpKind.{PdcpKind}
 use Rattle.rlc_am_tx_window.specs.Sent.{Sent}
 use Rattle.rlc_um.specs.Transparent.{Transparent, refusal as tm_refusal, after_take as tm_after, behind_first}
-use Rattle.law_air.specs.AnyCalls.Zero.{HasCome}
+use Rattle.law_run.specs.AnyCalls.Zero.{HasCome}
 use Rattle.law_bearer.specs.AnyBearer.Calls.{Arrive, Expire, Tick}
 use Rattle.law_drain.specs.Few.{IsShortSdu, IsShortField, HasFew}
 use Rattle.law_drain.proofs.AmRests.{am-rest, other-rest}

@@ -39,7 +39,7 @@ use Rattle.rlc_pdu.specs.declared.fault.RlcRefusal.{RlcRefusal}
 use Rattle.rlc_pdu.specs.Pdus.{AcknowledgedPdu, Payload, Status}
 use Rattle.rlc_pdu.specs.Reading.{am_at, umd_at}
 use Rattle.rlc_um.specs.Sender.{Sender as UmSender}
-use Rattle.law_air.specs.AnyCalls.Zero.{HasCome}
+use Rattle.law_run.specs.AnyCalls.Zero.{HasCome}
 use Rattle.law_drain.specs.Left.{FitsConfig}
 use Rattle.law_drain.proofs.Fitting.{Fits, heard-fits, ticked-fits, taken-fits, confirmed-fits, submitted-fits}
 use Rattle.law_drain.proofs.Fitting.{discards-fit, restarted-fits, begun-fits, fits-report}

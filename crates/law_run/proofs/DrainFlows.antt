@@ -31,11 +31,11 @@ use Rattle.law_drain.specs.Round.{behind}
 use Rattle.law_drain.proofs.Ends.{stands-on, arrivals-other, rounds_cost_both}
 use Rattle.law_drain.proofs.Octets.{GiveOctets, others-give, share-gives}
 use Rattle.law_drain.proofs.Standing.{data-stands, signalling-stands, stands-anew}
-use Rattle.law_air.specs.AnyCalls.Zero.{HasCome}
-use Rattle.law_air.specs.DrainTtis.{Step, Tti, ReceiversExpire, SendersExpire, happens, goes, ttis, HaveChannel}
-use Rattle.law_air.specs.DrainRounds.{IsOfDrain, MayDrain, round_of}
-use Rattle.law_air.proofs.DrainRounds.Calling.{rounds_are_calls}
-use Rattle.law_air.proofs.DrainRounds.Staying.{drains_stay}
+use Rattle.law_run.specs.AnyCalls.Zero.{HasCome}
+use Rattle.law_run.specs.DrainTtis.{Step, Tti, ReceiversExpire, SendersExpire, happens, goes, ttis, HaveChannel}
+use Rattle.law_run.specs.DrainRounds.{IsOfDrain, MayDrain, round_of}
+use Rattle.law_run.proofs.DrainRounds.Calling.{rounds_are_calls}
+use Rattle.law_run.proofs.DrainRounds.Staying.{drains_stay}
 use Rattle.law_run.specs.DrainFlows.{HasFlows, CostsFlows, rounds_of, NoneRises}
 
 -- ---- what each bearer of an end keeps

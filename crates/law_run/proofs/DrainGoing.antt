@@ -7,17 +7,17 @@ use Rattle.air_record.specs.declared.record.Record.{Record}
 use Rattle.air_run.specs.Draining.{shown, round, senders_unless, ttis as drained_ttis}
 use Rattle.air_text.specs.Groups.{Group}
 use Rattle.bearer_types.specs.declared.BearerConfig.{BearerConfig}
-use Rattle.law_air.specs.AnyCalls.Calls as calls
-use Rattle.law_air.specs.AnyCalls.Ends.{GoesOn}
-use Rattle.law_air.specs.AnyCalls.Order.{channels_of}
-use Rattle.law_air.specs.AnyCalls.Runs.{Drains, Calls}
-use Rattle.law_air.specs.DrainRounds.{IsOfDrain, MayDrain, round_of}
-use Rattle.law_air.specs.DrainShares.{HaveGone}
-use Rattle.law_air.specs.DrainTtis.{Step, Tti, ReceiversExpire, SendersExpire, happens, goes, ttis}
-use Rattle.law_air.specs.TwoEnds.Lived.{IsAcknowledged}
-use Rattle.law_air.proofs.AnyCalls.Advancing.{drain_goes, call_goes_on}
-use Rattle.law_air.proofs.AnyCalls.Channels.{channels_stay}
-use Rattle.law_air.proofs.DrainRounds.Dealing.{drains_begin, steps_go_so, records_go_so}
+use Rattle.law_run.specs.AnyCalls.Calls as calls
+use Rattle.law_run.specs.AnyCalls.Ends.{GoesOn}
+use Rattle.law_run.specs.AnyCalls.Order.{channels_of}
+use Rattle.law_run.specs.AnyCalls.Runs.{Drains, Calls}
+use Rattle.law_run.specs.DrainRounds.{IsOfDrain, MayDrain, round_of}
+use Rattle.law_run.specs.DrainShares.{HaveGone}
+use Rattle.law_run.specs.DrainTtis.{Step, Tti, ReceiversExpire, SendersExpire, happens, goes, ttis}
+use Rattle.law_run.specs.TwoEnds.Lived.{IsAcknowledged}
+use Rattle.law_run.proofs.AnyCalls.Advancing.{drain_goes, call_goes_on}
+use Rattle.law_run.proofs.AnyCalls.Channels.{channels_stay}
+use Rattle.law_run.proofs.DrainRounds.Dealing.{drains_begin, steps_go_so, records_go_so}
 use Rattle.l2_types.specs.declared.side.Side.TheVariants.{Nb, Ue}
 use Rattle.promises.specs.Configs.{config_of}
 use Rattle.promises.specs.Delivery.{is_forged}

@@ -11,11 +11,11 @@ use Rattle.law_node.specs.Holding.{flow}
 use Rattle.law_node.proofs.Ready.{WritesWell}
 use Rattle.law_drain.specs.Channels.{Measured, OffersIn, FallsTo}
 use Rattle.law_drain.proofs.Channels.{channels_never_rise}
-use Rattle.law_air.specs.AnyCalls.Zero.{HaveCome}
-use Rattle.law_air.specs.DrainTtis.{Step, Tti, goes, ttis}
-use Rattle.law_air.specs.DrainRounds.{IsOfDrain, MayDrain, round_of}
-use Rattle.law_air.proofs.DrainRounds.Calling.{rounds_are_calls}
-use Rattle.law_air.proofs.DrainRounds.Staying.{drains_stay}
+use Rattle.law_run.specs.AnyCalls.Zero.{HaveCome}
+use Rattle.law_run.specs.DrainTtis.{Step, Tti, goes, ttis}
+use Rattle.law_run.specs.DrainRounds.{IsOfDrain, MayDrain, round_of}
+use Rattle.law_run.proofs.DrainRounds.Calling.{rounds_are_calls}
+use Rattle.law_run.proofs.DrainRounds.Staying.{drains_stay}
 use Rattle.law_run.specs.DrainFlows.{rounds_of}
 use Rattle.law_run.specs.DrainLinks.{AllMeasured, IsChannelOn, LinkFallsTo}
 use Rattle.law_run.proofs.DrainFlows.{Standing, come_stands, arrives_well, offers, goes_then, drain_then}

@@ -52,11 +52,11 @@ use Rattle.law_drain.specs.Ends.{HasOctet}
 use Rattle.law_drain.specs.Sharing.{HaveOctetsToSend, is_transparent, IsServedFirst, AreNeeds}
 use Rattle.law_drain.proofs.Grants.{channel-of}
 use Rattle.law_drain.proofs.Sharing.{grants_are_used}
-use Rattle.law_air.specs.AnyCalls.Order.{channels_of}
-use Rattle.law_air.specs.AnyCalls.Zero.{HasCome}
-use Rattle.law_air.specs.DrainShares.{BuildsFrom, dealt}
-use Rattle.law_air.proofs.AnyCalls.Bringing.{come_on}
-use Rattle.law_air.proofs.AnyCalls.Channels.{channels_stay}
+use Rattle.law_run.specs.AnyCalls.Order.{channels_of}
+use Rattle.law_run.specs.AnyCalls.Zero.{HasCome}
+use Rattle.law_run.specs.DrainShares.{BuildsFrom, dealt}
+use Rattle.law_run.proofs.AnyCalls.Bringing.{come_on}
+use Rattle.law_run.proofs.AnyCalls.Channels.{channels_stay}
 use Rattle.law_run.specs.Order.{KeepsOrder}
 use Rattle.law_run.proofs.DrainChannels.{MayStandFirst, lists_alike, has_listed, all_first, served_first}
 use Rattle.law_run.proofs.DrainFlows.{come_stands}

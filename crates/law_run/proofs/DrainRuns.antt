@@ -35,14 +35,14 @@ use Rattle.law_deliver.specs.AmFlow.Air.{Air, goes, outset}
 use Rattle.law_deliver.specs.AmFlow.Flows.{BeginsLife}
 use Rattle.law_deliver.specs.AmFlow.Links.{IsFlowOn}
 use Rattle.law_deliver.proofs.AmFlow.Links.{channels_are_flows}
-use Rattle.law_air.specs.AnyCalls.Runs.{Step, step}
-use Rattle.law_air.specs.AnyCalls.Zero.{HasCome}
-use Rattle.law_air.specs.TwoEnds.Going.{IsStepSince}
-use Rattle.law_air.specs.TwoEnds.Lived.{IsAcknowledged}
-use Rattle.law_air.specs.TwoEnds.On.{IsOn}
-use Rattle.law_air.proofs.TwoEnds.Advancing.{steps_go}
-use Rattle.law_air.proofs.TwoEnds.Coming.{same_on}
-use Rattle.law_air.proofs.TwoEnds.Keeping.{Keeps, Runs, steps_keep, steps_run}
+use Rattle.law_run.specs.AnyCalls.Runs.{Step, step}
+use Rattle.law_run.specs.AnyCalls.Zero.{HasCome}
+use Rattle.law_run.specs.TwoEnds.Going.{IsStepSince}
+use Rattle.law_run.specs.TwoEnds.Lived.{IsAcknowledged}
+use Rattle.law_run.specs.TwoEnds.On.{IsOn}
+use Rattle.law_run.proofs.TwoEnds.Advancing.{steps_go}
+use Rattle.law_run.proofs.TwoEnds.Coming.{same_on}
+use Rattle.law_run.proofs.TwoEnds.Keeping.{Keeps, Runs, steps_keep, steps_run}
 use Rattle.promises.specs.Configs.{config_of}
 use Rattle.promises.specs.Delivery.{is_forged}
 use Rattle.law_run.specs.Order.{KeepsOrder}

@@ -55,8 +55,8 @@ use Rattle.law_deliver.proofs.AmChannel.Delivery.{stands_so}
 use Rattle.law_deliver.proofs.AmFlow.Channels.{call_by}
 use Rattle.law_deliver.proofs.AmFlow.Stations.{come_sound}
 use Rattle.law_deliver.proofs.AmFlow.Ups.{Stands, stands_more, the_end}
-use Rattle.law_air.specs.AnyCalls.Ends.{LivesOn}
-use Rattle.law_air.proofs.TwoEnds.Lives.{channels_begin}
+use Rattle.law_run.specs.AnyCalls.Ends.{LivesOn}
+use Rattle.law_run.proofs.TwoEnds.Lives.{channels_begin}
 use Rattle.prioritise.proofs.ChannelLemmas.{both_false}
 use Rattle.promises.specs.Configs.{config_of}
 use Rattle.promises.specs.Delivery.{is_forged}

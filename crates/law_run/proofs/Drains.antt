@@ -17,7 +17,7 @@ use Rattle.l2_node.specs.Sums.{is_drained as end_drained}
 use Rattle.l2_types.specs.declared.side.Side.{Side}
 use Rattle.l2_types.specs.declared.side.Side.TheVariants.{Nb, Ue}
 use Rattle.law_node.specs.Holding.{flow}
-use Rattle.law_air.specs.TwoEnds.On.{IsOn}
+use Rattle.law_run.specs.TwoEnds.On.{IsOn}
 use Rattle.law_deliver.specs.AmFlow.Air.{Air}
 use Rattle.promises.specs.Delivery.{is_forged}
 use Rattle.promises.specs.Drained.{LeavesNothing, DrainsLeaveNothing}

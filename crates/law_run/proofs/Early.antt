@@ -13,13 +13,13 @@ use Rattle.air_text.specs.Groups.{Group, history}
 use Rattle.air_text.specs.Ranges.{IsInRange}
 use Rattle.l2_types.specs.declared.side.Side.{Side}
 use Rattle.l2_types.specs.declared.side.Side.TheVariants.{Nb, Ue}
-use Rattle.law_air.specs.AnyCalls.Calls as calls
+use Rattle.law_run.specs.AnyCalls.Calls as calls
 use Rattle.promises.specs.Records.{events_of}
-use Rattle.law_air.proofs.AnyCalls.Going.{told_both}
+use Rattle.law_run.proofs.AnyCalls.Going.{told_both}
 use Rattle.promises.specs.Arrival.{entries_in, entries_ended, entries_from}
 use Rattle.law_words.specs.Arrivals.{AccountEntry}
-use Rattle.law_air.specs.TwoEnds.Lives.{IsAtRest}
-use Rattle.law_air.proofs.TwoEnds.Lives.{first_rests, calls_rest}
+use Rattle.law_run.specs.TwoEnds.Lives.{IsAtRest}
+use Rattle.law_run.proofs.TwoEnds.Lives.{first_rests, calls_rest}
 use Rattle.promises.specs.Flows.{handed_in, looped_at, submitted}
 use Rattle.law_run.specs.Order.{state_behind, KeepsOrder}
 use Rattle.promises.specs.Parts.{Rests, part_of_line}

@@ -22,20 +22,20 @@ use Rattle.l2_bits.specs.declared.fault.SubmitRefusal.{SubmitRefusal}
 use Rattle.l2_node.specs.Submitting.{refusal}
 use Rattle.l2_types.specs.declared.side.Side.{Side}
 use Rattle.l2_types.specs.declared.side.Side.TheVariants.{Nb, Ue}
-use Rattle.law_air.specs.AnyCalls.Calls as calls
+use Rattle.law_run.specs.AnyCalls.Calls as calls
 use Rattle.bearer_types.specs.Sides.{is_same}
 use Rattle.promises.specs.Records.{is_looped, events_of, sdu_of}
-use Rattle.law_air.proofs.AnyCalls.Going.{told_both}
-use Rattle.law_air.specs.AnyCalls.Runs.{Step, Tti, Drains, Submit, Calls, step}
-use Rattle.law_air.specs.AnyCalls.Told.{refusals}
-use Rattle.law_air.proofs.AnyCalls.Calling.{submitting_adds}
-use Rattle.law_air.specs.TwoEnds.Arrival.{renewals_in, told_by_step}
+use Rattle.law_run.proofs.AnyCalls.Going.{told_both}
+use Rattle.law_run.specs.AnyCalls.Runs.{Step, Tti, Drains, Submit, Calls, step}
+use Rattle.law_run.specs.AnyCalls.Told.{refusals}
+use Rattle.law_run.proofs.AnyCalls.Calling.{submitting_adds}
+use Rattle.law_run.specs.TwoEnds.Arrival.{renewals_in, told_by_step}
 use Rattle.promises.specs.Arrival.{entries_in, entries_ended}
 use Rattle.law_words.specs.Arrivals.{AccountEntry}
-use Rattle.law_air.specs.TwoEnds.Going.{TellAlone, sets, handed_in as handed_by, IsStepSince}
-use Rattle.law_air.proofs.TwoEnds.Going.{last_in, tells_more}
-use Rattle.law_air.specs.TwoEnds.Staying.{is_handover_step}
-use Rattle.law_air.proofs.TwoEnds.Showing.{in_then}
+use Rattle.law_run.specs.TwoEnds.Going.{TellAlone, sets, handed_in as handed_by, IsStepSince}
+use Rattle.law_run.proofs.TwoEnds.Going.{last_in, tells_more}
+use Rattle.law_run.specs.TwoEnds.Staying.{is_handover_step}
+use Rattle.law_run.proofs.TwoEnds.Showing.{in_then}
 use Rattle.mac_pdu.specs.declared.item.Direction.{Direction}
 use Rattle.um_losses.specs.declared.cursor.Cursor.{Cursor}
 use Rattle.um_losses.specs.declared.flow.Happening.{Happening}

@@ -10,7 +10,7 @@ use Rattle.air_record.specs.declared.record.Record.TheVariants as records
 use Rattle.mac_pdu.specs.declared.item.Direction.{Direction}
 use Rattle.mac_pdu.specs.declared.item.Direction.TheVariants.{Down, Up}
 use Rattle.promises.specs.Records.{is_of_run, is_of_air}
-use Rattle.law_air.specs.AnyCalls.Deeds.{deed_of, came_of}
+use Rattle.law_run.specs.AnyCalls.Deeds.{deed_of, came_of}
 use Rattle.promises.specs.Flights.{came, IsDown, FliesUp, IsUnanswered, IsUp}
 use Rattle.promises.specs.Air.{sleeping}
 use Rattle.promises.specs.Heard.{Flight, idle, Heard, hears, heard}

@@ -23,12 +23,12 @@ use Rattle.l2_node.specs.Finding.{has}
 use Rattle.l2_types.specs.declared.channel.Kind.{Kind}
 use Rattle.l2_types.specs.declared.channel.Kind.TheVariants as kinds
 use Rattle.l2_types.specs.declared.side.Side.{Side}
-use Rattle.law_air.specs.AnyCalls.Ends.{begins_life, LivesOn, built_told, visit_told}
+use Rattle.law_run.specs.AnyCalls.Ends.{begins_life, LivesOn, built_told, visit_told}
 use Rattle.promises.specs.Blocks.{with_bearer, MayShow}
 use Rattle.promises.specs.Shown.{mode_in, IsKnownAs, AreKnown}
-use Rattle.law_air.proofs.AnyCalls.Blocks.{some_by}
-use Rattle.law_air.proofs.AnyCalls.Going.{lives_then}
-use Rattle.law_air.proofs.AnyCalls.Named.{blocks_are_shown}
+use Rattle.law_run.proofs.AnyCalls.Blocks.{some_by}
+use Rattle.law_run.proofs.AnyCalls.Going.{lives_then}
+use Rattle.law_run.proofs.AnyCalls.Named.{blocks_are_shown}
 use Rattle.law_node.specs.Bearers.{adds, AddNone, IsAdded}
 use Rattle.law_node.specs.Calls.{Call, SetVisits, SetReports, Add, Submit, SetDiscard, Tick, TickBuckets, Visits}
 use Rattle.law_node.specs.Calls.{Grants, Granted, Assigned, Pass, Receive, Expire, Move, IsGiven, AreGiven, reached}

@@ -1,3 +1,7 @@
+pub mod AnyCalls
+pub mod TwoEnds
+pub mod DrainTtis
+pub mod DrainRounds
 pub mod Ranges
 pub mod Records
 pub mod Hearing

@@ -19,15 +19,15 @@ use Rattle.air_record.specs.Cells.{next_keys}
 use Rattle.eps_sec.specs.declared.Keys.{Keys}
 use Rattle.l2_types.specs.declared.side.Side.{Side}
 use Rattle.l2_types.specs.declared.side.Side.TheVariants.{Nb, Ue}
-use Rattle.law_air.specs.AnyCalls.Calls as calls
-use Rattle.law_air.specs.AnyCalls.Counts.{ups, loopeds, Grows, is_fail, gives_up, AreMarked}
+use Rattle.law_run.specs.AnyCalls.Calls as calls
+use Rattle.law_run.specs.AnyCalls.Counts.{ups, loopeds, Grows, is_fail, gives_up, AreMarked}
 use Rattle.promises.specs.Records.{is_up, is_looped, is_of_run, is_of_air}
-use Rattle.law_air.specs.AnyCalls.Told.{why_refused, refusals, accepted, Adds, renewed, AddsTti}
-use Rattle.law_air.specs.AnyCalls.Told.{AddsSubmitted}
-use Rattle.law_air.proofs.AnyCalls.Adding.{stays, same_grows, count_then, same_marked, any_then}
-use Rattle.law_air.proofs.AnyCalls.Calling.{calls_adds, submitting_adds}
-use Rattle.law_air.proofs.AnyCalls.Passing.{tti_adds}
-use Rattle.law_air.proofs.AnyCalls.Running.{grows_as, marked_as, no_ups, no_loops, no_runs, no_failures}
+use Rattle.law_run.specs.AnyCalls.Told.{why_refused, refusals, accepted, Adds, renewed, AddsTti}
+use Rattle.law_run.specs.AnyCalls.Told.{AddsSubmitted}
+use Rattle.law_run.proofs.AnyCalls.Adding.{stays, same_grows, count_then, same_marked, any_then}
+use Rattle.law_run.proofs.AnyCalls.Calling.{calls_adds, submitting_adds}
+use Rattle.law_run.proofs.AnyCalls.Passing.{tti_adds}
+use Rattle.law_run.proofs.AnyCalls.Running.{grows_as, marked_as, no_ups, no_loops, no_runs, no_failures}
 use Rattle.test_loop.specs.declared.Mode.TheVariants.{Off, A, B}
 use Rattle.promises.specs.Air.{is_tti, numbered, IsOfItsTime, FliesIntact, InTurn}
 use Rattle.promises.specs.Flows.{handed_in}

@@ -10,20 +10,20 @@ use Rattle.air_record.specs.Cells.{next_keys}
 use Rattle.air_text.specs.Ranges.{IsInRange}
 use Rattle.eps_sec.specs.declared.Keys.{Keys}
 use Rattle.l2_types.specs.declared.side.Side.{Side}
-use Rattle.law_air.specs.AnyCalls.Calls as calls
+use Rattle.law_run.specs.AnyCalls.Calls as calls
 use Rattle.bearer_types.specs.Sides.{sent_by}
 use Rattle.promises.specs.Records.{events_of}
-use Rattle.law_air.specs.AnyCalls.Runs.{Step, Calls}
+use Rattle.law_run.specs.AnyCalls.Runs.{Step, Calls}
 use Rattle.l2_node.specs.End.{End}
 use Rattle.law_deliver.specs.AmFlow.Air.{outset}
 use Rattle.promises.specs.Arrival.{entries_ended}
 use Rattle.law_words.specs.Arrivals.{AccountEntry}
-use Rattle.law_air.specs.TwoEnds.Going.{GoesByAir, IsStepSince}
-use Rattle.law_air.specs.TwoEnds.Staying.{is_handover_step}
-use Rattle.law_air.proofs.TwoEnds.Coming.{ends_come_by, steps_come}
-use Rattle.law_air.proofs.TwoEnds.Staying.{LivedIn, ends_live_in, lived_in_as, steps_live_in}
-use Rattle.law_air.specs.TwoEnds.Shown.{IsShown, anew}
-use Rattle.law_air.proofs.TwoEnds.Showing.{in_then}
+use Rattle.law_run.specs.TwoEnds.Going.{GoesByAir, IsStepSince}
+use Rattle.law_run.specs.TwoEnds.Staying.{is_handover_step}
+use Rattle.law_run.proofs.TwoEnds.Coming.{ends_come_by, steps_come}
+use Rattle.law_run.proofs.TwoEnds.Staying.{LivedIn, ends_live_in, lived_in_as, steps_live_in}
+use Rattle.law_run.specs.TwoEnds.Shown.{IsShown, anew}
+use Rattle.law_run.proofs.TwoEnds.Showing.{in_then}
 use Rattle.um_losses.specs.declared.cursor.Cursor.{Cursor}
 use Rattle.um_losses.specs.declared.flow.Happening.{Happening}
 use Rattle.um_losses.specs.Told.{told_in, place_behind}

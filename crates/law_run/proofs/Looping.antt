@@ -15,15 +15,15 @@ use Rattle.air_record.specs.Cells.{next_keys}
 use Rattle.air_run.specs.Run.{fresh, behind_line}
 use Rattle.air_text.specs.Groups.{Group, group_records, history}
 use Rattle.eps_sec.specs.declared.Keys.{Keys}
-use Rattle.law_air.specs.AnyCalls.Calls as calls
-use Rattle.law_air.specs.AnyCalls.Loops.{ComeBack, IsAtRest, LoopsBack}
+use Rattle.law_run.specs.AnyCalls.Calls as calls
+use Rattle.law_run.specs.AnyCalls.Loops.{ComeBack, IsAtRest, LoopsBack}
 use Rattle.promises.specs.Loops.{ArePart, gone_up, returned, item_count, is_dropped, drop_count, mode_by, mode_in_force}
 use Rattle.promises.specs.Loops.{all_gone_up}
 use Rattle.promises.specs.Loops.{all_returned, AreReturned, ReturnInOrder}
-use Rattle.law_air.proofs.AnyCalls.Adding.{count_then}
-use Rattle.law_air.proofs.AnyCalls.Returning.{part_on, on_both, back_none, back_then, IsSilent, back_silent}
-use Rattle.law_air.proofs.AnyCalls.Settling.{loops_back_then, first_rests, calls_loop_back, submissions_loop_back}
-use Rattle.law_air.proofs.AnyCalls.Settling.{ttis_loop_back, drains_loop_back}
+use Rattle.law_run.proofs.AnyCalls.Adding.{count_then}
+use Rattle.law_run.proofs.AnyCalls.Returning.{part_on, on_both, back_none, back_then, IsSilent, back_silent}
+use Rattle.law_run.proofs.AnyCalls.Settling.{loops_back_then, first_rests, calls_loop_back, submissions_loop_back}
+use Rattle.law_run.proofs.AnyCalls.Settling.{ttis_loop_back, drains_loop_back}
 use Rattle.test_loop.specs.declared.Mode.{Mode}
 use Rattle.test_loop.specs.declared.Mode.TheVariants.{Off, A, B}
 use Rattle.test_loop.specs.Items.{Item}

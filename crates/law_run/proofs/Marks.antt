@@ -13,7 +13,7 @@ use Rattle.bearer_types.specs.Sides.{is_same}
 use Rattle.bearer_types.specs.declared.event.Event.{Event}
 use Rattle.bearer_types.specs.declared.event.Event.TheVariants.{Fail}
 use Rattle.l2_types.specs.declared.side.Side.{Side}
-use Rattle.law_air.specs.AnyCalls.Counts.{is_fail, gives_up, AreMarked}
+use Rattle.law_run.specs.AnyCalls.Counts.{is_fail, gives_up, AreMarked}
 use Rattle.promises.specs.Drained.{failed, has_failed}
 use Rattle.promises.specs.Events.{is_of_loop, fails_in, fails_on}
 use Rattle.promises.specs.Parts.{is_handover}

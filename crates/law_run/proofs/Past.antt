@@ -13,10 +13,10 @@ use Rattle.air_text.specs.Groups.{Group, history}
 use Rattle.air_text.specs.Ranges.{IsInRange}
 use Rattle.l2_types.specs.declared.side.Side.{Side}
 use Rattle.l2_types.specs.declared.side.Side.TheVariants.{Nb, Ue}
-use Rattle.law_air.specs.AnyCalls.Counts.{ups, loopeds, gives_up}
+use Rattle.law_run.specs.AnyCalls.Counts.{ups, loopeds, gives_up}
 use Rattle.promises.specs.Records.{is_up, is_looped, sdu_of, ups_in}
-use Rattle.law_air.specs.AnyCalls.Runs.{IsTable}
-use Rattle.law_air.proofs.AnyCalls.Running.{table_grows}
+use Rattle.law_run.specs.AnyCalls.Runs.{IsTable}
+use Rattle.law_run.proofs.AnyCalls.Running.{table_grows}
 use Rattle.promises.specs.Carried.{AreCarried}
 use Rattle.promises.specs.Air.{is_tti, ttis, numbered, IsOfItsTime}
 use Rattle.promises.specs.Flows.{loops_in, handed_in, submitted, delivered}

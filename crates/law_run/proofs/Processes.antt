@@ -24,16 +24,16 @@ use Rattle.harq.proofs.ReceiveLemmas.{answers_right}
 use Rattle.harq.proofs.SendLemmas.{keeps_blocks}
 use Rattle.l2_node.specs.End.{fresh as fresh_end}
 use Rattle.l2_types.specs.declared.side.Side.{Side}
-use Rattle.law_air.specs.AnyCalls.Calls as calls
+use Rattle.law_run.specs.AnyCalls.Calls as calls
 use Rattle.promises.specs.Records.{is_of_run, is_of_air}
-use Rattle.law_air.specs.AnyCalls.Deeds.{Entity, entity, Entities, entities, empty, cleared}
-use Rattle.law_air.specs.AnyCalls.Told.{why_refused, refusals, Adds, renewed, AddsSubmitted}
-use Rattle.law_air.proofs.AnyCalls.Adding.{stays}
-use Rattle.law_air.proofs.AnyCalls.Calling.{calls_adds, submitting_adds}
-use Rattle.law_air.proofs.AnyCalls.Advancing.{submitting_rests}
-use Rattle.law_air.proofs.AnyCalls.Leaving.{calls_leave}
-use Rattle.law_air.proofs.AnyCalls.Passing.{tti_adds}
-use Rattle.law_air.proofs.AnyCalls.Running.{no_runs}
+use Rattle.law_run.specs.AnyCalls.Deeds.{Entity, entity, Entities, entities, empty, cleared}
+use Rattle.law_run.specs.AnyCalls.Told.{why_refused, refusals, Adds, renewed, AddsSubmitted}
+use Rattle.law_run.proofs.AnyCalls.Adding.{stays}
+use Rattle.law_run.proofs.AnyCalls.Calling.{calls_adds, submitting_adds}
+use Rattle.law_run.proofs.AnyCalls.Advancing.{submitting_rests}
+use Rattle.law_run.proofs.AnyCalls.Leaving.{calls_leave}
+use Rattle.law_run.proofs.AnyCalls.Passing.{tti_adds}
+use Rattle.law_run.proofs.AnyCalls.Running.{no_runs}
 use Rattle.mac_pdu.specs.declared.item.Direction.{Direction}
 use Rattle.mac_pdu.specs.declared.item.Direction.TheVariants.{Down, Up}
 use Rattle.test_loop.specs.declared.Mode.TheVariants.{Off, A, B}

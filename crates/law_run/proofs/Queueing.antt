@@ -15,10 +15,10 @@ use Rattle.l2_types.specs.declared.channel.Kind.{Kind}
 use Rattle.l2_types.specs.declared.channel.Kind.TheVariants as kinds
 use Rattle.l2_types.specs.declared.side.Side.{Side}
 use Rattle.l2_types.specs.declared.side.Side.TheVariants.{Nb, Ue}
-use Rattle.law_air.specs.AnyCalls.Ends.{ByCalls}
+use Rattle.law_run.specs.AnyCalls.Ends.{ByCalls}
 use Rattle.law_bearer.specs.AnyBearer.Calls.{ends}
 use Rattle.law_bearer.specs.AnyBearer.Queue.{queue}
-use Rattle.law_air.specs.TwoEnds.On.{IsOn}
+use Rattle.law_run.specs.TwoEnds.On.{IsOn}
 use Rattle.law_deliver.specs.AmChannel.Lives.{lives, end_at}
 use Rattle.law_deliver.specs.AmFlow.Air.{Air}
 use Rattle.law_deliver.proofs.AmChannel.Delivery.{channels_tell_what_waits}

@@ -24,13 +24,13 @@ use Rattle.eps_sec.specs.declared.Keys.{Keys}
 use Rattle.l2_node.specs.End.{fresh as fresh_end}
 use Rattle.l2_types.specs.declared.side.Side.{Side}
 use Rattle.l2_types.specs.declared.side.Side.TheVariants.{Nb, Ue}
-use Rattle.law_air.specs.AnyCalls.Calls as calls
-use Rattle.law_air.specs.AnyCalls.Ends.{LivesOn, GoesThrough, GoesOn, GoesOnByVisits, visit_told, known, lives_in}
+use Rattle.law_run.specs.AnyCalls.Calls as calls
+use Rattle.law_run.specs.AnyCalls.Ends.{LivesOn, GoesThrough, GoesOn, GoesOnByVisits, visit_told, known, lives_in}
 use Rattle.promises.specs.Records.{events_of, is_of_building}
-use Rattle.law_air.proofs.AnyCalls.Advancing.{call_goes_on, submitting_goes, tti_goes, drain_goes}
-use Rattle.law_air.proofs.AnyCalls.Going.{by_none, by_same, lives_then, goes_by, unseen_rests}
+use Rattle.law_run.proofs.AnyCalls.Advancing.{call_goes_on, submitting_goes, tti_goes, drain_goes}
+use Rattle.law_run.proofs.AnyCalls.Going.{by_none, by_same, lives_then, goes_by, unseen_rests}
 use Rattle.law_node.specs.Calls.{Call as EndCall}
-use Rattle.law_air.proofs.AnyCalls.Visiting.{enough_by_grant}
+use Rattle.law_run.proofs.AnyCalls.Visiting.{enough_by_grant}
 use Rattle.pdu_show.specs.declared.kinds.Layout.{Layout}
 use Rattle.test_loop.specs.declared.Mode.TheVariants.{Off, A, B}
 use Rattle.promises.specs.Air.{is_tti, ttis as ttis_behind, InTurn}
@@ -41,7 +41,7 @@ use Rattle.promises.specs.Parts.{Part, Passes, Drains, Rests, part_of_line}
 use Rattle.law_run.proofs.Knowing.{kinds_over, IsCome, come_then, come_shows}
 use Rattle.law_run.proofs.Past.{behind as all_behind, link_behind}
 use Rattle.law_run.proofs.Records.{count_numbered}
-use Rattle.law_air.proofs.AnyCalls.Passing.{drain_adds}
+use Rattle.law_run.proofs.AnyCalls.Passing.{drain_adds}
 use Rattle.law_run.proofs.Lines.{drains_add}
 use Rattle.law_run.proofs.Ttis.{round_adds, in_turn_then, drained_adds}
 

@@ -23,10 +23,10 @@ use Rattle.l2_types.specs.declared.channel.Kind.{Kind}
 use Rattle.l2_types.specs.declared.channel.Kind.TheVariants.{Tm, Srb, Um, Am}
 use Rattle.l2_types.specs.declared.side.Side.{Side}
 use Rattle.l2_types.specs.declared.side.Side.TheVariants.{Nb, Ue}
-use Rattle.law_air.proofs.AnyCalls.Going.{told_both}
-use Rattle.law_air.proofs.TwoEnds.Lives.{channels_begin}
-use Rattle.law_air.proofs.TwoEnds.Staying.{LivedIn, bearers_live_in, LivesAnew, lives_anew}
-use Rattle.law_air.specs.TwoEnds.Staying.{AreInLife}
+use Rattle.law_run.proofs.AnyCalls.Going.{told_both}
+use Rattle.law_run.proofs.TwoEnds.Lives.{channels_begin}
+use Rattle.law_run.proofs.TwoEnds.Staying.{LivedIn, bearers_live_in, LivesAnew, lives_anew}
+use Rattle.law_run.specs.TwoEnds.Staying.{AreInLife}
 use Rattle.law_deliver.proofs.SrbChannel.Queue.{AreInOneLife, BeginsEmpty, begins_first, tells_what_leaves, none_leaves}
 use Rattle.law_deliver.proofs.SrbChannel.Queue.{next_begins}
 use Rattle.law_deliver.specs.AmChannel.Lives.{AirStep, InLife, Moves, lives, end_at}

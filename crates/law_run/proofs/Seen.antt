@@ -3,9 +3,9 @@ use Rattle.std.proofs.Common.{◌≡◌, ◌⊎◌, inl, inr, ◌<◌, ℕ, ◌=
 use Rattle.std.proofs.Common.{None, List, [], ◌∷◌, length, get_or-set_same, arith, refl, ap, sym, subst, ◌∙◌}
 use Rattle.std.proofs.lemmas.Bool.Decides.{nat_tests}
 use Rattle.std.proofs.Math.ListN.{length-set}
-use Rattle.law_air.specs.TwoEnds.Lives.{IsAtRest}
-use Rattle.law_air.specs.TwoEnds.Shown.{IsShown}
-use Rattle.law_air.proofs.TwoEnds.Lives.{added_there, there_by}
+use Rattle.law_run.specs.TwoEnds.Lives.{IsAtRest}
+use Rattle.law_run.specs.TwoEnds.Shown.{IsShown}
+use Rattle.law_run.proofs.TwoEnds.Lives.{added_there, there_by}
 use Rattle.air_link.specs.Link.{Link}
 use Rattle.air_record.specs.declared.line.Line.{Line}
 use Rattle.air_record.specs.declared.line.Line.TheVariants as lines

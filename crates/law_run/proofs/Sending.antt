@@ -11,7 +11,7 @@ use Rattle.harq.specs.Sending.{Sending, empty, fresh, visit_answer, after_visit,
 use Rattle.harq.specs.SendHistory.{Turn, Step, Visited, Cleared, Deed, World, closed, turned, deed, stepped}
 use Rattle.harq.specs.SendHistory.{world_after, start}
 use Rattle.harq.specs.SendHistory.{are_down, is_down}
-use Rattle.law_air.specs.AnyCalls.Deeds.{deed_of, turn, TakesTurn}
+use Rattle.law_run.specs.AnyCalls.Deeds.{deed_of, turn, TakesTurn}
 use Rattle.mac_pdu.specs.declared.item.Direction.{Direction}
 use Rattle.mac_pdu.specs.declared.item.Direction.TheVariants.{Down, Up}
 use Rattle.promises.specs.Heard.{Flight, Heard, deeds_of}

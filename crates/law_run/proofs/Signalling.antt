@@ -37,12 +37,12 @@ use Rattle.l2_types.specs.declared.side.Side.TheVariants.{Nb, Ue}
 use Rattle.law_node.specs.Calls.{Add, after as after_call}
 use Rattle.law_node.specs.Holding.{flow}
 use Rattle.promises.specs.Records.{events_of, ups_in, is_of_air}
-use Rattle.law_air.proofs.AnyCalls.Going.{told_both}
+use Rattle.law_run.proofs.AnyCalls.Going.{told_both}
 use Rattle.prioritise.proofs.ChannelLemmas.{both_false}
-use Rattle.law_air.specs.TwoEnds.Going.{GoesByAir}
-use Rattle.law_air.specs.TwoEnds.Staying.{AreInLife}
-use Rattle.law_air.proofs.TwoEnds.Lives.{channels_begin}
-use Rattle.law_air.proofs.TwoEnds.Staying.{LivesAnew, lives_anew}
+use Rattle.law_run.specs.TwoEnds.Going.{GoesByAir}
+use Rattle.law_run.specs.TwoEnds.Staying.{AreInLife}
+use Rattle.law_run.proofs.TwoEnds.Lives.{channels_begin}
+use Rattle.law_run.proofs.TwoEnds.Staying.{LivesAnew, lives_anew}
 use Rattle.law_deliver.specs.SrbChannel.Running.{Life, running, first_life}
 use Rattle.law_deliver.proofs.SrbChannel.Laws.{Living, first_living, all_live}
 use Rattle.law_deliver.proofs.SrbChannel.Running.{Start, down, up, all_down, all_up, none_between, none_lost}

@@ -22,8 +22,8 @@ use Rattle.l2_node.specs.End.{End}
 use Rattle.l2_types.specs.declared.event.Lost.TheVariants as losts
 use Rattle.l2_types.specs.declared.side.Side.{Side}
 use Rattle.l2_types.specs.declared.side.Side.TheVariants.{Nb, Ue}
-use Rattle.law_air.proofs.AnyCalls.Going.{told_both}
-use Rattle.law_air.proofs.TwoEnds.Lives.{channels_begin}
+use Rattle.law_run.proofs.AnyCalls.Going.{told_both}
+use Rattle.law_run.proofs.TwoEnds.Lives.{channels_begin}
 use Rattle.law_deliver.specs.AmChannel.Drained.{has_failed}
 use Rattle.law_deliver.specs.AmFlow.Channels.{GoesOnInLife}
 use Rattle.law_bearer.specs.AnyBearer.Calls.{after_all}

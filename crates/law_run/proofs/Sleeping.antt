@@ -18,11 +18,11 @@ use Rattle.air_run.specs.Playing.{keys_or_none, acted, played}
 use Rattle.air_run.specs.Run.{fresh}
 use Rattle.air_text.specs.Groups.{Group}
 use Rattle.eps_sec.specs.declared.Keys.{Keys}
-use Rattle.law_air.specs.AnyCalls.Calls as calls
-use Rattle.law_air.specs.AnyCalls.Told.{AddsTti}
-use Rattle.law_air.proofs.AnyCalls.Passing.{tti_adds}
-use Rattle.law_air.proofs.AnyCalls.Waking.{HasNoDrx, tti_none, drain_none, submitting_same, call_none, receivers_same}
-use Rattle.law_air.proofs.AnyCalls.Waking.{senders_same}
+use Rattle.law_run.specs.AnyCalls.Calls as calls
+use Rattle.law_run.specs.AnyCalls.Told.{AddsTti}
+use Rattle.law_run.proofs.AnyCalls.Passing.{tti_adds}
+use Rattle.law_run.proofs.AnyCalls.Waking.{HasNoDrx, tti_none, drain_none, submitting_same, call_none, receivers_same}
+use Rattle.law_run.proofs.AnyCalls.Waking.{senders_same}
 use Rattle.prioritise.proofs.ChannelLemmas.{both_false}
 use Rattle.promises.specs.Air.{ttis as ttis_behind, Flies, FliesIntact, InTurn, AreFlown}
 use Rattle.promises.specs.Flights.{FliesUp, IsUnanswered, IsDown, IsUp}

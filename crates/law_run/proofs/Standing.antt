@@ -26,17 +26,17 @@ use Rattle.l2_types.specs.declared.side.Side.{Side}
 use Rattle.l2_types.specs.declared.side.Side.TheVariants.{Nb, Ue}
 use Rattle.law_node.specs.Order.{channels as of_bearers}
 use Rattle.law_node.proofs.Standing.{OwnsChannels}
-use Rattle.law_air.specs.AnyCalls.Calls as calls
-use Rattle.law_air.specs.AnyCalls.Ends.{LivesOn}
-use Rattle.law_air.specs.AnyCalls.Order.{channels_of, Leaves}
+use Rattle.law_run.specs.AnyCalls.Calls as calls
+use Rattle.law_run.specs.AnyCalls.Ends.{LivesOn}
+use Rattle.law_run.specs.AnyCalls.Order.{channels_of, Leaves}
 use Rattle.promises.specs.Order.{Channels, OfRecords, LoopTells, TtiTells, DrainTtiTells, ExpiryTells, ReceiversTell}
 use Rattle.promises.specs.Order.{ForgeTells, HandoverTells, SubmitTells}
-use Rattle.law_air.proofs.AnyCalls.Advancing.{call_goes_on, drain_goes}
-use Rattle.law_air.proofs.AnyCalls.Channels.{channels_over, AreNew, channels_go, owns_on, known_channel}
-use Rattle.law_air.proofs.AnyCalls.Ordering.{leaves_then, leaves_nothing}
-use Rattle.law_air.proofs.AnyCalls.Passing.{drain_adds}
-use Rattle.law_air.proofs.AnyCalls.Standing.{Ready, both_ready_on, call_tells, expiry_tells, submissions_tell}
-use Rattle.law_air.proofs.AnyCalls.Standing.{tti_tells, drain_tells}
+use Rattle.law_run.proofs.AnyCalls.Advancing.{call_goes_on, drain_goes}
+use Rattle.law_run.proofs.AnyCalls.Channels.{channels_over, AreNew, channels_go, owns_on, known_channel}
+use Rattle.law_run.proofs.AnyCalls.Ordering.{leaves_then, leaves_nothing}
+use Rattle.law_run.proofs.AnyCalls.Passing.{drain_adds}
+use Rattle.law_run.proofs.AnyCalls.Standing.{Ready, both_ready_on, call_tells, expiry_tells, submissions_tell}
+use Rattle.law_run.proofs.AnyCalls.Standing.{tti_tells, drain_tells}
 use Rattle.pdu_show.specs.declared.kinds.Layout.{Layout}
 use Rattle.prioritise.specs.Shares.{no_channels}
 use Rattle.test_loop.specs.declared.Mode.TheVariants.{Off, A, B}

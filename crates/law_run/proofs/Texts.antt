@@ -28,9 +28,9 @@ use Rattle.eps_sec.specs.declared.Keys.{Keys}
 use Rattle.l2_node.specs.End.{End, fresh as fresh_end}
 use Rattle.l2_node.specs.Finding.{has}
 use Rattle.l2_types.specs.declared.side.Side.{Side}
-use Rattle.law_air.specs.AnyCalls.Ends.{begins_life}
+use Rattle.law_run.specs.AnyCalls.Ends.{begins_life}
 use Rattle.promises.specs.Records.{events_of, is_of_building}
-use Rattle.law_air.proofs.AnyCalls.Going.{run_on, given_on, over_on, told_both}
+use Rattle.law_run.proofs.AnyCalls.Going.{run_on, given_on, over_on, told_both}
 use Rattle.law_node.specs.Bearers.{keys_in, moves, adds, AddNone}
 use Rattle.promises.specs.Counts.{counts_on, counts_taken}
 use Rattle.law_node.specs.Calls.{Call, Add, Move, AreGiven, after, run_end, reached}

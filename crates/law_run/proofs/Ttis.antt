@@ -12,20 +12,20 @@ use Rattle.air_record.specs.declared.record.Record.TheVariants as records
 use Rattle.air_run.specs.Draining.{shown, Drained, at_once, behind, ttis, senders_unless, round, left_by, done_by}
 use Rattle.air_run.specs.Draining.{round_told, rounds, budget, drained}
 use Rattle.l2_types.specs.declared.side.Side.TheVariants.{Nb, Ue}
-use Rattle.law_air.specs.AnyCalls.Calls.{ReceiversExpire, SendersExpire}
-use Rattle.law_air.specs.AnyCalls.Counts.{ups, loopeds, Grows, is_fail, gives_up, AreMarked}
+use Rattle.law_run.specs.AnyCalls.Calls.{ReceiversExpire, SendersExpire}
+use Rattle.law_run.specs.AnyCalls.Counts.{ups, loopeds, Grows, is_fail, gives_up, AreMarked}
 use Rattle.promises.specs.Records.{is_up, is_looped, is_of_run, is_of_air}
 use Rattle.air_link.specs.Downlink.{down_order}
 use Rattle.harq.specs.Receiving.{grant_ndi}
 use Rattle.harq.specs.Sending.{ndi_of}
-use Rattle.law_air.specs.AnyCalls.Deeds.{TakesTurn, came_of, Answers, up_ordered, Entities, entities}
-use Rattle.law_air.specs.AnyCalls.Told.{Tells, Adds, AddsTti}
+use Rattle.law_run.specs.AnyCalls.Deeds.{TakesTurn, came_of, Answers, up_ordered, Entities, entities}
+use Rattle.law_run.specs.AnyCalls.Told.{Tells, Adds, AddsTti}
 use Rattle.promises.specs.Air.{sleeping, numbered, FliesIntact, InTurn}
-use Rattle.law_air.proofs.AnyCalls.Adding.{stays, tells_then, same_grows, grows_then, count_then, same_marked}
-use Rattle.law_air.proofs.AnyCalls.Adding.{marked_then, any_then}
-use Rattle.law_air.proofs.AnyCalls.Calling.{calls_adds}
-use Rattle.law_air.proofs.AnyCalls.Leaving.{calls_leave}
-use Rattle.law_air.proofs.AnyCalls.Passing.{drain_adds}
+use Rattle.law_run.proofs.AnyCalls.Adding.{stays, tells_then, same_grows, grows_then, count_then, same_marked}
+use Rattle.law_run.proofs.AnyCalls.Adding.{marked_then, any_then}
+use Rattle.law_run.proofs.AnyCalls.Calling.{calls_adds}
+use Rattle.law_run.proofs.AnyCalls.Leaving.{calls_leave}
+use Rattle.law_run.proofs.AnyCalls.Passing.{drain_adds}
 use Rattle.law_run.proofs.Records.{numbered_then}
 use Rattle.law_run.proofs.Carrying.{KeepsBoth, both_then, both_still, both_turn}
 

@@ -16,7 +16,7 @@ use Rattle.test_loop.specs.declared.Mode.{Mode}
 use Rattle.test_loop.specs.Items.{Item, item}
 use Rattle.test_loop.specs.Loops.{is_on}
 use Rattle.law_deliver.proofs.AmChannel.Ends.{all_more}
-use Rattle.law_air.proofs.TwoEnds.Stages.{unlooped_by}
+use Rattle.law_run.proofs.TwoEnds.Stages.{unlooped_by}
 use Rattle.promises.specs.Flows.{loops_in, looped_at}
 use Rattle.law_run.specs.Order.{KeepsOrder}
 use Rattle.law_run.proofs.Looping.{return_in_order}

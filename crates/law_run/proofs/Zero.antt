@@ -22,16 +22,16 @@ use Rattle.l2_node.specs.End.{End, fresh as fresh_end}
 use Rattle.l2_node.specs.Finding.{has, place}
 use Rattle.l2_types.specs.declared.side.Side.{Side}
 use Rattle.l2_types.specs.declared.side.Side.TheVariants.{Nb, Ue}
-use Rattle.law_air.specs.AnyCalls.Calls as calls
-use Rattle.law_air.specs.AnyCalls.Ends.{GoesOn}
-use Rattle.law_air.specs.AnyCalls.Zero.{HasCome, HaveCome, has_zero, Brings, none_forged}
+use Rattle.law_run.specs.AnyCalls.Calls as calls
+use Rattle.law_run.specs.AnyCalls.Ends.{GoesOn}
+use Rattle.law_run.specs.AnyCalls.Zero.{HasCome, HaveCome, has_zero, Brings, none_forged}
 use Rattle.promises.specs.Records.{ups_in}
 use Rattle.promises.specs.Zero.{arrived, brought, adds_zero, is_added, forged, IsBrought, BringInOrder}
-use Rattle.law_air.proofs.AnyCalls.Advancing.{call_goes_on, drain_goes}
-use Rattle.law_air.proofs.AnyCalls.Arriving.{Carries, carries_then, calls_bring, submissions_bring, ttis_bring}
-use Rattle.law_air.proofs.AnyCalls.Arriving.{drains_bring}
-use Rattle.law_air.proofs.AnyCalls.Bringing.{zero_stays, come_on}
-use Rattle.law_air.proofs.AnyCalls.Stilling.{none_brought, ups_both}
+use Rattle.law_run.proofs.AnyCalls.Advancing.{call_goes_on, drain_goes}
+use Rattle.law_run.proofs.AnyCalls.Arriving.{Carries, carries_then, calls_bring, submissions_bring, ttis_bring}
+use Rattle.law_run.proofs.AnyCalls.Arriving.{drains_bring}
+use Rattle.law_run.proofs.AnyCalls.Bringing.{zero_stays, come_on}
+use Rattle.law_run.proofs.AnyCalls.Stilling.{none_brought, ups_both}
 use Rattle.law_node.specs.Bearers.{AddNone}
 use Rattle.law_node.proofs.Steps.{insert_stands}
 use Rattle.test_loop.specs.declared.Mode.TheVariants.{Off, A, B}

@@ -11,8 +11,8 @@ use Rattle.bearer.specs.declared.flow.Flow.TheVariants.{Tm, Um, Am}
 use Rattle.l2_num.specs.Ascending.{IsAscending}
 use Rattle.law_node.specs.Holding.{flow}
 use Rattle.law_drain.specs.Left.{uncut_left}
-use Rattle.law_air.specs.DrainTtis.{Step, Tti, ReceiversExpire, SendersExpire, goes}
-use Rattle.law_air.specs.DrainRounds.{IsOfDrain, MayDrain}
+use Rattle.law_run.specs.DrainTtis.{Step, Tti, ReceiversExpire, SendersExpire, goes}
+use Rattle.law_run.specs.DrainRounds.{IsOfDrain, MayDrain}
 use Rattle.law_run.specs.DrainLinks.{AllMeasured, link_measure, IsChannelOn}
 
 -- TTIs alone, as a drain begins with eight

@@ -11,7 +11,7 @@ use Rattle.bearer.specs.Acknowledged.State.{State}
 use Rattle.bearer.specs.declared.flow.Flow.TheVariants.{Am}
 use Rattle.l2_node.specs.Finding.{has}
 use Rattle.l2_types.specs.declared.side.Side.{Side}
-use Rattle.law_air.specs.DrainRounds.{MayDrain}
+use Rattle.law_run.specs.DrainRounds.{MayDrain}
 use Rattle.law_bearer.specs.AmBearer.Calls.{IsOfSignalling}
 use Rattle.law_drain.specs.Signalling.{KeepsNone}
 use Rattle.law_node.specs.Holding.{flow}

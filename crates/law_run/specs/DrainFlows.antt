@@ -10,9 +10,9 @@ use Rattle.l2_types.specs.declared.side.Side.{Side}
 use Rattle.law_bearer.specs.AnyBearer.Rounds.{Round, nb_calls, ue_calls}
 use Rattle.law_node.specs.Holding.{flow}
 use Rattle.law_drain.specs.Ends.{Stands, measure_from, CostsFrom, nb_tti, ue_tti}
-use Rattle.law_air.specs.AnyCalls.Zero.{HasCome}
-use Rattle.law_air.specs.DrainTtis.{Step, Tti, goes, ttis, HaveChannel}
-use Rattle.law_air.specs.DrainRounds.{IsOfDrain, MayDrain, round_of}
+use Rattle.law_run.specs.AnyCalls.Zero.{HasCome}
+use Rattle.law_run.specs.DrainTtis.{Step, Tti, goes, ttis, HaveChannel}
+use Rattle.law_run.specs.DrainRounds.{IsOfDrain, MayDrain, round_of}
 
 -- ---- the flows of a channel
 

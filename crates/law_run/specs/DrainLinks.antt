@@ -5,9 +5,9 @@ use Rattle.std.specs.List.{AllByRecursion}
 use Rattle.air_link.specs.Link.{Link}
 use Rattle.law_node.specs.Holding.{flow}
 use Rattle.law_drain.specs.Channels.{Measured, channel_measure}
-use Rattle.law_air.specs.AnyCalls.Zero.{HaveCome}
-use Rattle.law_air.specs.DrainTtis.{Step, Tti, goes, ttis, HaveChannel}
-use Rattle.law_air.specs.DrainRounds.{IsOfDrain, MayDrain}
+use Rattle.law_run.specs.AnyCalls.Zero.{HaveCome}
+use Rattle.law_run.specs.DrainTtis.{Step, Tti, goes, ttis, HaveChannel}
+use Rattle.law_run.specs.DrainRounds.{IsOfDrain, MayDrain}
 use Rattle.law_run.specs.DrainFlows.{rounds_of}
 
 -- the channels of a list

@@ -4,7 +4,7 @@ use Rattle.std.specs.Prelude.{false, List}
 use Rattle.air_text.specs.Groups.{Group, history}
 use Rattle.l2_node.specs.End.{fresh}
 use Rattle.l2_types.specs.declared.side.Side.TheVariants.{Nb, Ue}
-use Rattle.law_air.specs.AnyCalls.Ends.{ByCalls}
+use Rattle.law_run.specs.AnyCalls.Ends.{ByCalls}
 use Rattle.law_run.specs.Order.{state_behind}
 
 -- each end has come by calls of its own from its beginning on, before the first line, to where it

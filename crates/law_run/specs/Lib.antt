@@ -1,3 +1,8 @@
+pub mod AnyCalls
+pub mod TwoEnds
+pub mod DrainTtis
+pub mod DrainRounds
+pub mod DrainShares
 pub mod Order
 pub mod DrainFlows
 pub mod DrainLinks

@@ -1,5 +1,0 @@
-use Rattle.law_air.proofs.AnyCalls.Passing.{drain_adds}
-use Rattle.law_air.proofs.any_calls.drains_are_told.Goals as goal
-
-pub returns : goal.returns
-returns c = drain_adds

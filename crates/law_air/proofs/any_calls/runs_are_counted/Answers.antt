@@ -1,5 +1,0 @@
-use Rattle.law_air.proofs.AnyCalls.Running.{runs_counted}
-use Rattle.law_air.proofs.any_calls.runs_are_counted.Goals as goal
-
-pub returns : goal.returns
-returns c = runs_counted

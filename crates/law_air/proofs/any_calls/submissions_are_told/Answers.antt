@@ -1,5 +1,0 @@
-use Rattle.law_air.proofs.AnyCalls.Calling.{submitting_adds}
-use Rattle.law_air.proofs.any_calls.submissions_are_told.Goals as goal
-
-pub returns : goal.returns
-returns c = submitting_adds

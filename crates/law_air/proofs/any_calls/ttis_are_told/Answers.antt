@@ -1,5 +1,0 @@
-use Rattle.law_air.proofs.AnyCalls.Passing.{tti_adds}
-use Rattle.law_air.proofs.any_calls.ttis_are_told.Goals as goal
-
-pub returns : goal.returns
-returns c = tti_adds

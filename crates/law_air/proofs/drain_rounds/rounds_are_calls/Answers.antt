@@ -1,5 +1,0 @@
-use Rattle.law_air.proofs.DrainRounds.Calling.{rounds_are_calls}
-use Rattle.law_air.proofs.drain_rounds.rounds_are_calls.Goals as goal
-
-pub returns : goal.returns
-returns c = rounds_are_calls

@@ -1,5 +1,0 @@
-use Rattle.law_air.proofs.DrainTtis.Clearing.{processes_clear}
-use Rattle.law_air.proofs.drain_ttis.processes_clear.Goals as goal
-
-pub returns : goal.returns
-returns c = processes_clear

@@ -1,8 +1,0 @@
-use Rattle.law_air.proofs.DrainTtis.Expiring.{loops_off, timers_expire}
-use Rattle.law_air.proofs.drain_ttis.timers_expire_once.Goals as goal
-
-pub returns-clause-loops : goal.returns-clause-loops
-returns-clause-loops c = loops_off
-
-pub returns-clause-timers : goal.returns-clause-timers
-returns-clause-timers c = timers_expire

@@ -1,5 +1,0 @@
-use Rattle.law_air.proofs.TwoEnds.Links.{links_flow}
-use Rattle.law_air.proofs.two_ends.links_are_flows.Goals as goal
-
-pub returns : goal.returns
-returns c = links_flow
