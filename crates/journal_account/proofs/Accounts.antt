@@ -15,7 +15,7 @@ use Rattle.journal_account.specs.FlowSdus.{FlowSdus}
 use Rattle.journal_account.specs.FlowAccount.{FlowAccount, arrivals_with, sdus_with, sending_with, account_with}
 use Rattle.journal_account.specs.FlowAccount.{account_of}
 use Rattle.journal_account.specs.Laws.{AreArrivals, AreSdus, IsSending, AccountsAreTrue}
-use Rattle.journal_account.specs.Acked.{is_acked}
+use Rattle.journal_account.specs.Acked.{is_acked, ignored_in}
 use Rattle.journal_account.specs.Waiting.{waits, namings, is_left, IsWithin, FailsAt}
 use Rattle.journal_account.specs.FlowAccount.{left_to_send}
 use Rattle.journal_account.proofs.Waits.{SayAll, acked_rests}
@@ -35,6 +35,7 @@ use Rattle.journal_account.specs.Laws.{AreWaiting}
 use Rattle.journal_account.proofs.Waits.{Says}
 use Rattle.journal_account.specs.FlowSending.{FlowSending}
 use Rattle.journal_account.proofs.Acking.{Acks, acks_step, acks_outset}
+use Rattle.journal_account.proofs.Ignored.{ignored_step}
 use Rattle.journal_account.proofs.Complete.{complete_each}
 use Rattle.journal_account.proofs.Statuses.{is_judged}
 use Rattle.journal_account.proofs.Wholes.{kept_place, are_whole}
@@ -92,6 +93,7 @@ record StandsAll (es : List FlowEvent) (a : FlowAccount) : Type 0 where
   says : SayAll es a.sending.base a.sending.numbers
   begins : Begins es a.sending
   confirmed : Ends (sdu_sizes es) a.sending.start a.confirmed
+  ignored : a.ignored ≡ ignored_in es
 
 sdus_step : (e : FlowEvent) (es : List FlowEvent) (place : ℕ) (s : FlowSdus) → Ends (sdu_sizes es) place s
     → Ends (sdu_sizes (e ∷ es)) place (sdus_with e s)
@@ -135,6 +137,7 @@ all_step e es a h past s =
       begins = begins_step e es a s.sending s.says s.begins;
       confirmed = ends_reached (sdu_sizes (e ∷ es)) a.sending.start (sending_with e a).start
           (sdus_with e a.confirmed) (start_grows e a) (sdus_step e es a.sending.start a.confirmed s.confirmed);
+      ignored = ignored_step e es a s.sending s.ignored;
     }
 
 all_stand : (most : ℕ) (es : List FlowEvent) → IsHistory es → StandsAll es (account_of most es)
@@ -156,6 +159,7 @@ all_stand most [] h = record {
     ends_are = λ j lt. absurd (omega arith);
     gone = λ k lt. absurd (omega arith);
   };
+  ignored = refl;
 }
 all_stand most (e ∷ es) h = all_step e es (account_of most es) h.0 h.1 (all_stand most es h.1)
 
@@ -288,4 +292,5 @@ accounts_are_true most es h =
           (gap_least es (account_of most es).arrivals s.arrivals);
       sending = is_sending most es (account_of most es).sending s.sending s.says (limits most es h).limit;
       confirmed = are_confirmed es (account_of most es) s.sending s.says s.begins s.confirmed;
+      ignored = s.ignored;
     }

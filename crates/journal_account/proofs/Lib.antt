@@ -7,6 +7,7 @@ pub mod Missing
 pub mod Statuses
 pub mod Wholes
 pub mod Confirms
+pub mod Walks
 pub mod ByPlace
 pub mod Telling
 pub mod Order
@@ -14,6 +15,7 @@ pub mod Along
 pub mod Sequenced
 pub mod Standing
 pub mod Acking
+pub mod Ignored
 pub mod Naming
 pub mod Waits
 pub mod Polling

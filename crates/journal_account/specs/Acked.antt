@@ -1,6 +1,7 @@
 -- Which numbers of an acknowledged flow are acknowledged in a life, by its history (TS 36.322
 -- 5.2.1, 7.1).
-use Rattle.std.specs.Prelude.{ℕ, ◌+◌, Bool, false, not, ◌||◌, ◌&&◌, nat_lt, List, [], ◌∷◌}
+use Rattle.std.specs.Prelude.{ℕ, ◌+◌, Bool, false, not, ◌||◌, ◌&&◌, nat_lt, if◌then◌else◌}
+use Rattle.std.specs.Prelude.{List, [], ◌∷◌}
 use Rattle.journal_account.specs.FlowEvents.{FlowEvent, StatusHeard}
 use Rattle.journal_account.specs.Entries.{names_number}
 use Rattle.journal_account.specs.Arrived.{all_below}
@@ -19,3 +20,13 @@ acks other acked n = false
 abbrev pub is_acked : List FlowEvent → ℕ → Bool
 is_acked [] n = false
 is_acked (e ∷ es) n = is_acked es n || acks e (is_acked es) n
+
+-- a STATUS that isn't applied is ignored
+abbrev pub is_ignored : FlowEvent → (ℕ → Bool) → Bool
+is_ignored (StatusHeard ack entries) acked = not (is_applied acked ack)
+is_ignored other acked = false
+
+-- how many STATUS were ignored as they came
+abbrev pub ignored_in : List FlowEvent → ℕ
+ignored_in [] = 0
+ignored_in (e ∷ es) = if is_ignored e (is_acked es) then ignored_in es + 1 else ignored_in es

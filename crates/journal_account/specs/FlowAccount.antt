@@ -1,5 +1,5 @@
 -- The account of an acknowledged flow in a life, event by event (docs/laws/ACCOUNT.md).
-use Rattle.std.specs.Prelude.{ℕ, Bool, ◌||◌, nat_lt, List, [], ◌∷◌}
+use Rattle.std.specs.Prelude.{ℕ, ◌+◌, Bool, ◌||◌, nat_lt, if◌then◌else◌, List, [], ◌∷◌}
 use Rattle.journal_account.specs.FlowEvents.{FlowEvent, SduTaken, NumberWritten, OctetsResent}
 use Rattle.journal_account.specs.FlowEvents.{OctetsArrived, ReorderStarted, ReorderExpired}
 use Rattle.journal_account.specs.FlowEvents.{StatusHeard, PollExpired}
@@ -10,12 +10,14 @@ use Rattle.journal_account.specs.FlowSending.{FlowSending, none_sent, with_sent,
 use Rattle.journal_account.specs.FlowSending.{with_status, with_poll_expired}
 use Rattle.journal_account.specs.FlowSdus.{FlowSdus, no_sdus, with_sdu, sequenced_to}
 
--- confirmed are the SDUs as the sender knows them: those are in sequence that end before VT(A)
+-- confirmed are the SDUs as the sender knows them: those are in sequence that end before VT(A);
+-- ignored is how many STATUS were ignored
 pub record FlowAccount : Type 0 where
   pub arrivals : FlowArrivals
   pub sdus : FlowSdus
   pub confirmed : FlowSdus
   pub sending : FlowSending
+  pub ignored : ℕ
 
 -- as a life begins, with maxRetxThreshold
 abbrev pub empty_account : ℕ → FlowAccount
@@ -24,6 +26,7 @@ empty_account most = record {
   sdus = no_sdus;
   confirmed = no_sdus;
   sending = none_sent most;
+  ignored = 0;
 }
 
 abbrev pub arrivals_with : FlowEvent → FlowArrivals → FlowArrivals
@@ -54,6 +57,12 @@ sending_with ReorderExpired a = a.sending
 sending_with (StatusHeard ack entries) a = with_status ack entries a.sending
 sending_with (PollExpired more) a = with_poll_expired (left_to_send more a) a.sending
 
+-- its ACK lies below VT(A)
+abbrev pub ignored_with : FlowEvent → FlowAccount → ℕ
+ignored_with (StatusHeard ack entries) a =
+    if nat_lt ack a.sending.base then a.ignored + 1 else a.ignored
+ignored_with other a = a.ignored
+
 abbrev pub sequenced : FlowAccount → FlowAccount
 sequenced a = record a {
   sdus = sequenced_to (stream_gap a.arrivals) a.sdus;
@@ -66,6 +75,7 @@ account_with e a = sequenced (record {
   sdus = sdus_with e a.sdus;
   confirmed = sdus_with e a.confirmed;
   sending = sending_with e a;
+  ignored = ignored_with e a;
 })
 
 -- the account of a history

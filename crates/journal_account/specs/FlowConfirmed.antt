@@ -1,7 +1,7 @@
 -- Which SDUs of an acknowledged flow are confirmed, by what is kept of it (docs/laws/ACCOUNT.md; TS
 -- 36.322 5.1.3.1.1).
-use Rattle.std.specs.Prelude.{ℕ, ◌-◌, Bool, ◌||◌, ◌&&◌, nat_le, nat_lt, min, List, [], ◌∷◌}
-use Rattle.std.specs.Prelude.{length, slice_index_or}
+use Rattle.std.specs.Prelude.{ℕ, ◌+◌, ◌-◌, Bool, false, ◌||◌, ◌&&◌, nat_le, nat_lt, min, List, []}
+use Rattle.std.specs.Prelude.{◌∷◌, if◌then◌else◌, length, slice_index_or}
 use Rattle.journal_account.specs.FlowAccount.{FlowAccount}
 use Rattle.journal_account.specs.FlowSending.{SentNumber, FlowSending}
 
@@ -28,3 +28,48 @@ is_confirmed_at s ends j = nat_lt j (length ends)
 abbrev pub is_confirmed_kept : ℕ → FlowAccount → Bool
 is_confirmed_kept k a = nat_lt k a.confirmed.sequenced
     || is_confirmed_at a.sending a.confirmed.ends (k - a.confirmed.sequenced)
+
+-- ---- all of them, in one walk
+
+-- of SDUs that stand one behind the other from a place of the stream on, by their ends
+abbrev pub are_acked : FlowSending → ℕ → List ℕ → List Bool
+are_acked s from [] = []
+are_acked s from (end ∷ ends) = stream_acked s from end ∷ are_acked s end ends
+
+-- numbers, and where the first of them begins
+pub record Rest : Type 0 where
+  pub numbers : List SentNumber
+  pub place : ℕ
+
+-- without those that end at a place or before it
+abbrev pub behind : ℕ → List SentNumber → ℕ → Rest
+behind limit [] place = record { numbers = []; place = place }
+behind limit (h ∷ hs) place = if nat_le (place + h.size) limit
+    then behind limit hs (place + h.size) else record { numbers = h ∷ hs; place = place }
+
+-- the numbers from one place on, by those from an earlier one on
+abbrev pub reached : FlowSending → Rest → ℕ → Rest
+reached s r from =
+    if nat_lt from r.place then behind from s.numbers s.start else behind from r.numbers r.place
+
+abbrev pub acked_in : Rest → ℕ → ℕ → Bool
+acked_in r from to = places_acked r.numbers (from - r.place) (to - r.place)
+
+abbrev pub walked : FlowSending → Rest → ℕ → List ℕ → List Bool
+walked s r from [] = []
+walked s r from (end ∷ ends) =
+    acked_in (reached s r from) from end ∷ walked s (reached s r from) end ends
+
+-- which SDUs are confirmed: those below a first one, and some from there on
+pub record ConfirmedSdus : Type 0 where
+  pub first : ℕ
+  pub flags : List Bool
+
+abbrev pub is_among : ℕ → ConfirmedSdus → Bool
+is_among k c = nat_lt k c.first || slice_index_or c.flags (k - c.first) false
+
+abbrev pub confirmed_sdus : FlowAccount → ConfirmedSdus
+confirmed_sdus a = record {
+  first = a.confirmed.sequenced;
+  flags = are_acked a.sending a.sending.start a.confirmed.ends;
+}

@@ -10,13 +10,13 @@ use Rattle.journal_account.specs.FlowArrivals.{FlowArrivals, next_in, field_at, 
 use Rattle.journal_account.specs.FlowSdus.{FlowSdus}
 use Rattle.journal_account.specs.FlowSending.{FlowSending, sent_in, number_at, octets_wait}
 use Rattle.journal_account.specs.FlowSending.{namings_of}
-use Rattle.journal_account.specs.Acked.{is_acked}
+use Rattle.journal_account.specs.Acked.{is_acked, ignored_in}
 use Rattle.journal_account.specs.Confirmed.{is_confirmed_sdu}
 use Rattle.journal_account.specs.Waiting.{waits, namings, IsWithin, FailsAt}
 use Rattle.journal_account.specs.FlowAccount.{FlowAccount, account_of}
 use Rattle.journal_account.specs.FlowStatus.{is_true_status}
 use Rattle.journal_account.specs.FlowWholes.{is_whole_kept}
-use Rattle.journal_account.specs.FlowConfirmed.{is_confirmed_kept}
+use Rattle.journal_account.specs.FlowConfirmed.{is_confirmed_kept, is_among, confirmed_sdus}
 use Rattle.journal_account.specs.TrueStatus.{IsTrueStatus}
 use Rattle.journal_account.specs.declared.entry.StatusEntry.{StatusEntry}
 
@@ -84,7 +84,13 @@ pub record IsAccount (most : ℕ) (es : List FlowEvent) (a : FlowAccount) : Type
   pub whole : AreWhole es a
   pub sending : IsSending most es a.sending
   pub confirmed : AreConfirmed es a
+  -- how many STATUS were ignored
+  pub ignored : a.ignored ≡ ignored_in es
 
 abbrev pub AccountsAreTrue : Type 0
 AccountsAreTrue =
     (most : ℕ) (es : List FlowEvent) → IsHistory es → IsAccount most es (account_of most es)
+
+-- all SDUs in one walk are as each is asked for itself
+abbrev pub ConfirmedAlike : Type 0
+ConfirmedAlike = (a : FlowAccount) (k : ℕ) → is_among k (confirmed_sdus a) ≡ is_confirmed_kept k a

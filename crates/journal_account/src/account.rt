@@ -1,4 +1,4 @@
-ghost use Rattle.std.specs.Prelude.{◌≡◌, ◌<◌, ◌≤◌, OnOk, OnErr};
+ghost use Rattle.std.specs.Prelude.{◌≡◌, ◌<◌, ◌≤◌, OnOk, OnErr, IfOk};
 ghost use Rattle.journal_account.specs.FlowEvents.{SduTaken, NumberWritten, OctetsArrived};
 ghost use Rattle.journal_account.specs.FlowEvents.{ReorderStarted, ReorderExpired, OctetsResent};
 ghost use Rattle.journal_account.specs.FlowEvents.{StatusHeard, PollExpired};
@@ -6,10 +6,11 @@ ghost use Rattle.journal_account.specs.FlowSending.{sent_in, octets_wait, naming
 ghost use Rattle.journal_account.specs.FlowArrivals.{next_in};
 ghost use Rattle.journal_account.specs.FlowStatus.{is_true_status};
 ghost use Rattle.journal_account.specs.FlowWholes.{is_whole_kept};
-ghost use Rattle.journal_account.specs.FlowConfirmed.{is_confirmed_kept};
+ghost use Rattle.journal_account.specs.FlowConfirmed.{is_confirmed_kept, confirmed_sdus};
 ghost use Rattle.journal_account.specs.FlowAccount.{empty_account, sequenced, account_with};
 
 use crate::arrivals::FlowArrivals;
+use crate::confirmed::ConfirmedSdus;
 use crate::entry::StatusEntry;
 use crate::sdus::FlowSdus;
 use crate::sending::FlowSending;
@@ -29,6 +30,7 @@ pub struct FlowAccount {
     sdus: FlowSdus,
     confirmed: FlowSdus,
     sending: FlowSending,
+    ignored: u64,
 }
 
 impl Model for FlowAccount {
@@ -41,6 +43,7 @@ impl Model for FlowAccount {
       sdus = a.sdus;
       confirmed = a.confirmed;
       sending = a.sending;
+      ignored = a.ignored;
     } };
 }
 
@@ -55,6 +58,7 @@ impl FlowAccount {
             sdus: FlowSdus::new(alloc),
             confirmed: FlowSdus::new(alloc),
             sending: FlowSending::new(alloc, most),
+            ignored: 0,
         }
     }
 
@@ -132,6 +136,15 @@ impl FlowAccount {
         }
     }
 
+    /// Which SDUs are confirmed, in one walk over the numbers from VT(A) on and the SDUs that don't
+    /// end before it.
+    pub fn confirmed(&self, alloc: Global) -> Result<ConfirmedSdus, NoMemory>
+        ensures { IfOk result (λ c. c ≡ confirmed_sdus self.now) }
+    {
+        let sdus = &self.confirmed;
+        ConfirmedSdus::of(alloc, sdus.sequenced(), &self.sending, sdus.ends())
+    }
+
     /// How many octets were taken.
     pub fn taken(&self) -> u64
         ensures { result ≡ self.now.sdus.taken }
@@ -172,6 +185,13 @@ impl FlowAccount {
         ensures { result ≡ self.now.sending.limit }
     {
         self.sending.limit()
+    }
+
+    /// How many STATUS were ignored: as each came, its ACK lay below VT(A) (TS 36.322 5.2.1).
+    pub fn ignored(&self) -> u64
+        ensures { result ≡ self.now.ignored }
+    {
+        self.ignored
     }
 
     /// RLC takes an SDU or a status report of PDCP, of so many octets. An `Err` changes nothing.
@@ -252,6 +272,9 @@ impl FlowAccount {
         requires { ack ≤ sent_in self.old.sending }
         ensures { OnOk result (self.new ≡ account_with (StatusHeard ack entries.now) self.old) }
     {
+        if ack < self.sending.base() {
+            self.ignored = self.ignored.checked_add(1).ok_or(NoMemory)?;
+        }
         self.sending.hear(ack, entries)?;
         self.sequence();
         Ok(())

@@ -9,6 +9,7 @@
 
 mod account;
 mod arrivals;
+mod confirmed;
 mod entry;
 mod field;
 mod fields;
@@ -20,5 +21,6 @@ mod sending;
 mod status;
 
 pub use account::FlowAccount;
+pub use confirmed::ConfirmedSdus;
 pub use entry::StatusEntry;
-pub use laws::accounts_are_true;
+pub use laws::{accounts_are_true, confirmed_alike};

@@ -128,13 +128,21 @@ pub(crate) fn advance(
 
 // Whether octets at places from one on below another, counted from where the numbers begin, are all
 // acknowledged.
-#[tactic(auto, using(crate::proofs::Confirms::numbers_walked))]
 pub(crate) fn places_acked(numbers: &Numbers, from: u64, to: u64) -> bool
     ensures { result ≡ places_acked numbers.now.items from to }
 {
+    places_acked_from(numbers, 0, from, to)
+}
+
+// The same of the numbers from a place on.
+#[tactic(auto, using(crate::proofs::Confirms::numbers_walked))]
+pub(crate) fn places_acked_from(numbers: &Numbers, first: usize, from: u64, to: u64) -> bool
+    requires { first ≤ length numbers.now.items }
+    ensures { result ≡ places_acked (drop first numbers.now.items) from to }
+{
     let mut from = from;
     let mut to = to;
-    let mut at = 0;
+    let mut at = first;
     while from < to {
         let Some(one) = numbers.get(at) else {
             return false;

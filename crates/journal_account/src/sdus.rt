@@ -50,6 +50,13 @@ impl FlowSdus {
         self.taken
     }
 
+    // Where the SDUs end that aren't in sequence.
+    pub(crate) fn ends(&self) -> &VecDeque<u64>
+        ensures { result.now.items ≡ self.now.ends }
+    {
+        &self.ends
+    }
+
     // Where an SDU stands in the stream, from one place on below another, counted from the first
     // that isn't in sequence, which is taken to begin at a place.
     pub(crate) fn place_of(&self, at: u64, gap: u64) -> Option<(u64, u64)>

@@ -77,6 +77,12 @@ impl FlowSending {
         numbers::places_acked(&self.numbers, from, to.saturating_sub(self.start))
     }
 
+    pub(crate) fn numbers(&self) -> &Numbers
+        ensures { result.now.items ≡ self.now.numbers }
+    {
+        &self.numbers
+    }
+
     pub(crate) fn limit(&self) -> Option<u64>
         ensures { result ≡ self.now.limit }
     {

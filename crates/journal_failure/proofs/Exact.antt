@@ -23,7 +23,7 @@ use Rattle.promises.specs.Silent.{told_since, is_data, is_failure, is_of_sender,
 use Rattle.journal_lives.specs.FlowLives.{lives_of}
 use Rattle.journal_lives.specs.LifeEvents.{LifeEvent, LifeEnded, running, AreLives}
 use Rattle.journal_flows.specs.Gathering.{Journal, MayTake, behind_line, behind_end, within, behind, is_handover}
-use Rattle.journal_flows.specs.FlowsTold.{Flows, histories, no_events, flows_told, flows_within}
+use Rattle.journal_flows.specs.FlowsTold.{Histories, histories, no_events, flows_told, flows_within}
 use Rattle.journal_flows.specs.Accounts.{Keeping, is_acked_kind, kept_within, all_kept}
 use Rattle.journal_flows.specs.Laws.{bearer_on, bearer_by, account_by}
 use Rattle.journal_flows.proofs.Groups.{flows_are_told, histories_are_lives}
@@ -114,8 +114,8 @@ lives_within may_take now past side l =
     by (is_handover now.line) (within histories may_take now past (behind histories no_events may_take past))
     (histories_are_lives may_take (now ∷ past) side l)
   where
-    by : (b : Bool) (j : Journal Flows) → AreLives ((behind_end histories b j).flows side l)
-        → AreLives (j.flows side l)
+    by : (b : Bool) (j : Journal Histories) → AreLives ((behind_end histories b j).flows.acked side l)
+        → AreLives (j.flows.acked side l)
     by true j h = h.1
     by false j h = h
 
@@ -140,11 +140,11 @@ limit_end may_take now past side l low =
     (within histories may_take now past (behind histories no_events may_take past))
     ∙ ap (λ (o : Option ℕ). not (ends_life now.line) && is_some o) (sym (limit_within may_take now past side l low))
   where
-    by : (line : Line) (bearer : Option BearerConfig) (j : Journal Flows)
-        → is_some (limit_by bearer ((behind_end histories (is_handover line) j).flows side l))
-        ≡ (not (ends_life line) && is_some (limit_by bearer (j.flows side l)))
+    by : (line : Line) (bearer : Option BearerConfig) (j : Journal Histories)
+        → is_some (limit_by bearer ((behind_end histories (is_handover line) j).flows.acked side l))
+        ≡ (not (ends_life line) && is_some (limit_by bearer (j.flows.acked side l)))
     by (lines.Handover user rrc integrity) bearer j =
-        ap (λ (o : Option ℕ). is_some o) (none_ended bearer (j.flows side l))
+        ap (λ (o : Option ℕ). is_some o) (none_ended bearer (j.flows.acked side l))
     by line bearer j = refl
 
 -- ---- a sender between groups
@@ -172,14 +172,14 @@ abbrev begins_on : ℕ → Line → Bool
 begins_on l (lines.Bearer config options) = config.channel.lcid == l
 begins_on l line = false
 
-line_limit : (line : Line) (bearer : Option BearerConfig) (j : Journal Flows) (side : Side) (l : ℕ)
+line_limit : (line : Line) (bearer : Option BearerConfig) (j : Journal Histories) (side : Side) (l : ℕ)
     → is_some (limit_by (bearer_by line l bearer)
-    ((behind_line histories line j).flows side l))
-    ≡ (if begins_on l line then false else is_some (limit_by bearer (j.flows side l)))
+    ((behind_line histories line j).flows.acked side l))
+    ≡ (if begins_on l line then false else is_some (limit_by bearer (j.flows.acked side l)))
 line_limit (lines.Bearer config options) bearer j side l = by (config.channel.lcid == l)
   where
-    by : (b : Bool) → is_some (limit_by (if b then Some config else bearer) (if b then [] else j.flows side l))
-        ≡ (if b then false else is_some (limit_by bearer (j.flows side l)))
+    by : (b : Bool) → is_some (limit_by (if b then Some config else bearer) (if b then [] else j.flows.acked side l))
+        ≡ (if b then false else is_some (limit_by bearer (j.flows.acked side l)))
     by true = ap (λ (o : Option ℕ). is_some o) (none_first (Some config))
     by false = refl
 line_limit line bearer j side l = refl

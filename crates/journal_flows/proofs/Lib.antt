@@ -1,7 +1,14 @@
 pub mod Numbers
+pub mod UmNumbers
 pub mod Lives
 pub mod Places
+pub mod Statuses
 pub mod Loads
+pub mod CopiedItems
+pub mod Settling
 pub mod Same
+pub mod Gathered
 pub mod Steps
 pub mod Groups
+pub mod Taking
+pub mod TakenUp

@@ -17,7 +17,7 @@ use Rattle.journal_lives.specs.LifeEvents.{LifeEvent, PduGiven, InLife, LifeEnde
 use Rattle.journal_lives.proofs.LivesTold.{lives_are_true}
 use Rattle.journal_flows.specs.Possible.{are_octets, is_possible, with_event, most_octets}
 use Rattle.journal_flows.specs.NumberedPdus.{front_in}
-use Rattle.journal_flows.specs.Accounts.{kept_with, IsOfHistory}
+use Rattle.journal_flows.specs.FlowKept.{kept_with, IsOfHistory}
 use Rattle.journal_flows.proofs.Numbers.{front_least}
 
 -- ---- events that can be

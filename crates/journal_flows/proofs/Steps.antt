@@ -1,38 +1,35 @@
--- Each record leaves the accounts of the histories that are told.
-use Rattle.std.proofs.Common.{◌≡◌, ℕ, ◌≤◌, Bool, true, false, List, [], ◌∷◌, ◌++◌, length, Option, Some, None, inl, inr}
-use Rattle.std.proofs.Common.{refl, ap, sym, ◌∙◌, arith, subst, if◌then◌else◌, slice_index_or}
+-- By the accounts that are kept PDUs are read as by the histories that are told.
+use Rattle.std.proofs.Common.{◌≡◌, ℕ, ◌^◌, ◌≤◌, true, List, length, Option, Some, None, inl, inr, refl, ap, sym, ◌∙◌}
+use Rattle.std.proofs.Common.{arith, slice_index_or}
 use Rattle.std.proofs.lemmas.Bool.{cases_lt, false≢true}
 use Rattle.std.proofs.lemmas.List.{get_or_past}
 use Rattle.l2_types.specs.declared.channel.Kind.{Kind}
 use Rattle.l2_types.specs.declared.channel.Kind.TheVariants as bearers
-use Rattle.l2_types.specs.declared.event.How.{How}
 use Rattle.l2_types.specs.declared.side.Side.{Side}
-use Rattle.l2_types.specs.declared.side.Side.TheVariants.{Nb, Ue}
-use Rattle.mac_pdu.specs.declared.builder.Sdu.{Sdu}
-use Rattle.mac_pdu.specs.declared.item.Direction.{Direction}
-use Rattle.mac_pdu.specs.Reading.{reading}
-use Rattle.rlc_pdu.specs.Reading.{am_at}
+use Rattle.rlc_pdu.specs.Reading.{am_at, umd_at}
 use Rattle.bearer_types.specs.declared.config.BearerConfig.{BearerConfig}
-use Rattle.bearer_types.specs.declared.event.Event.{Event}
-use Rattle.bearer_types.specs.declared.event.Event.TheVariants as events
-use Rattle.bearer_types.specs.Sides.{other, sender_of}
-use Rattle.air_record.specs.declared.record.Record.{Record}
-use Rattle.air_record.specs.declared.record.Record.TheVariants as records
-use Rattle.air_text.specs.Groups.{Group}
+use Rattle.bearer_types.specs.Sides.{other}
 use Rattle.pdu_show.specs.declared.kinds.Layout.{Layout}
 use Rattle.pdu_show.specs.Carried.{is_acknowledged}
 use Rattle.pdu_show.specs.Kinds.{layout_of}
-use Rattle.promises.specs.Records.{is_got}
-use Rattle.journal_flows.specs.declared.parcels.Parcel.{Parcel}
+use Rattle.journal_flows.specs.declared.account.Account.{Account}
+use Rattle.journal_flows.specs.declared.account.Account.TheVariants as account
 use Rattle.journal_flows.specs.declared.sending.Named.{Named}
-use Rattle.journal_flows.specs.NumberedPdus.{parcel_by, written_as, come_as}
-use Rattle.journal_flows.specs.Gathering.{Sending, Journal, Loaded, sending_of, with_sending, with_flows, all_told}
-use Rattle.journal_flows.specs.Gathering.{told_by, names, behind_event, parcel_of, loads_parcel, loads, sdus_read}
-use Rattle.journal_flows.specs.Gathering.{holds, with_loaded, behind_new, resends, behind_again, all_come, sent_last}
-use Rattle.journal_flows.specs.Gathering.{behind_landing, behind_record, behind_records, MayTake}
-use Rattle.journal_flows.specs.FlowsTold.{Flows, histories}
-use Rattle.journal_flows.specs.Accounts.{Accounts, accounts, is_acked_kind}
-use Rattle.journal_flows.proofs.Same.{Bearers, Same, is_acked, all_same, next_same, front_same}
+use Rattle.journal_account.specs.FlowEvents.{next_of}
+use Rattle.journal_lives.specs.FlowLives.{lives_of}
+use Rattle.journal_lives.specs.LifeEvents.{LifeEvent, running, AreLives}
+use Rattle.journal_um.specs.UmWindow.{width_of}
+use Rattle.journal_flows.specs.UmPdus.{UmFlowEvent, sent_in, place_next, um_parcel_by}
+use Rattle.journal_flows.specs.NumberedPdus.{front_in, parcel_by}
+use Rattle.journal_flows.specs.Gathering.{parcel_in, parcel_of}
+use Rattle.journal_flows.specs.FlowsTold.{Histories, histories}
+use Rattle.journal_flows.specs.Accounts.{Accounts, accounts, slot_at, next_kept, front_kept, um_next_kept}
+use Rattle.journal_flows.specs.Accounts.{um_place_kept, is_acked_kind}
+use Rattle.journal_flows.specs.UmKept.{ends_of}
+use Rattle.journal_flows.proofs.Lives.{next_is, front_is}
+use Rattle.journal_flows.proofs.UmNumbers.{um_next_is, um_place_is}
+use Rattle.journal_flows.proofs.Same.{Bearers, is_acked, Same, slot_as, slot_by, told_same}
+use Rattle.journal_flows.proofs.Gathered.{Agree}
 
 -- ---- the layouts are those of the bearers
 
@@ -55,11 +52,11 @@ kind_acked (Some config) = by config.kind
     by bearers.Am = refl
 
 -- where a PDU is of an acknowledged bearer, there is one on the channel
-record IsAcked (bearers : Bearers) (lcid : ℕ) : Type 0 where
-  low : lcid ≤ 10
-  acked : is_acked (bearers lcid) ≡ true
+pub record IsAcked (bearers : Bearers) (lcid : ℕ) : Type 0 where
+  pub low : lcid ≤ 10
+  pub acked : is_acked (bearers lcid) ≡ true
 
-found : (bearers : Bearers) (kinds : List (Option Layout)) (lcid : ℕ) → AreKinds bearers kinds
+pub found : (bearers : Bearers) (kinds : List (Option Layout)) (lcid : ℕ) → AreKinds bearers kinds
     → is_acknowledged (slice_index_or kinds lcid None) ≡ true → IsAcked bearers lcid
 found bearers kinds lcid k acked = elim (cases_lt 10 lcid) [
   | inl past ↦
@@ -71,180 +68,78 @@ found bearers kinds lcid k acked = elim (cases_lt 10 lcid) [
   }
 ]
 
--- ---- what is gathered
+-- ---- a PDU of a bearer
 
-pub record SameJournal (bearers : Bearers) (j : Journal Accounts) (h : Journal Flows) : Type 0 where
-  pub flows : Same bearers j.flows h.flows
-  pub nb : j.nb ≡ h.nb
-  pub ue : j.ue ≡ h.ue
+-- an acknowledged one, by what is kept of its flow and of the other one
+acked_reads : (config : BearerConfig) (lcid : ℕ) (one : Named) (octets : List ℕ) (own far : Option Account)
+    (es fs : List LifeEvent) → own ≡ Some (account.Am (lives_of config.tx.max_retx config.first es))
+    → far ≡ Some (account.Am (lives_of config.tx.max_retx config.first fs)) → AreLives es → AreLives fs
+    → parcel_by (next_kept own) (front_kept far) lcid one.how (am_at octets)
+    ≡ parcel_by (next_of (running es)) (front_in (running fs)) lcid one.how (am_at octets)
+acked_reads config lcid one octets own far es fs o f h i =
+    ap (λ (n : ℕ). parcel_by n (front_kept far) lcid one.how (am_at octets))
+    (ap next_kept o ∙ next_is config.tx.max_retx config.first es h)
+    ∙ ap (λ (n : ℕ). parcel_by (next_of (running es)) n lcid one.how (am_at octets))
+    (ap front_kept f ∙ front_is config.tx.max_retx config.first fs i)
 
-sending_same : (bearers : Bearers) (side : Side) (j : Journal Accounts) (h : Journal Flows)
-    → SameJournal bearers j h → sending_of side j ≡ sending_of side h
-sending_same bearers Nb j h s = s.nb
-sending_same bearers Ue j h s = s.ue
+-- an unacknowledged one
+unacked_reads : (config : BearerConfig) (lcid : ℕ) (one : Named) (octets : List ℕ) (own : Option Account)
+    (us : List UmFlowEvent)
+    → own ≡ Some (account.Um (ends_of (width_of config.rlc_bits) (2 ^ config.pdcp_bits) us))
+    → um_parcel_by (um_next_kept own) (um_place_kept own) lcid one.how (umd_at config.rlc_bits octets)
+    ≡ um_parcel_by (next_of (sent_in us)) (place_next (sent_in us)) lcid one.how (umd_at config.rlc_bits octets)
+unacked_reads config lcid one octets own us o =
+    ap (λ (n : ℕ). um_parcel_by n (um_place_kept own) lcid one.how (umd_at config.rlc_bits octets))
+    (ap um_next_kept o ∙ um_next_is (sent_in us))
+    ∙ ap (λ (n : ℕ). um_parcel_by (next_of (sent_in us)) n lcid one.how (umd_at config.rlc_bits octets))
+    (ap um_place_kept o ∙ um_place_is (sent_in us))
 
-flows_same : (bearers : Bearers) (a : Accounts) (f : Flows) (j : Journal Accounts) (h : Journal Flows)
-    → Same bearers a f → SameJournal bearers j h → SameJournal bearers (with_flows a j) (with_flows f h)
-flows_same bearers a f j h flows s = record { flows = flows; nb = s.nb; ue = s.ue }
-
-with_same : (bearers : Bearers) (side : Side) (x y : Sending) (j : Journal Accounts) (h : Journal Flows) → x ≡ y
-    → SameJournal bearers j h → SameJournal bearers (with_sending side x j) (with_sending side y h)
-with_same bearers Nb x y j h e s = record { flows = s.flows; nb = e; ue = s.ue }
-with_same bearers Ue x y j h e s = record { flows = s.flows; nb = s.nb; ue = e }
-
--- ---- an event of an end
-
-event_same : (bearers : Bearers) (kinds : List (Option Layout)) (more : Bool) (side : Side) (event : Event)
-    (j : Journal Accounts) (h : Journal Flows) → SameJournal bearers j h
-    → SameJournal bearers (behind_event accounts kinds more side event j)
-    (behind_event histories kinds more side event h)
-event_same bearers kinds more side (events.Send lcid how sn) j h s =
-    with_same bearers side (names (record { lcid = lcid; how = how }) (sending_of side j))
-    (names (record { lcid = lcid; how = how }) (sending_of side h)) j h
-    (ap (names (record { lcid = lcid; how = how })) (sending_same bearers side j h s)) s
-event_same bearers kinds more side event j h s =
-    record {
-      flows = all_same bearers (told_by kinds more side event) j.flows h.flows s.flows;
-      nb = s.nb;
-      ue = s.ue;
-    }
-
--- ---- a new block
-
-parcel_same : (bearers : Bearers) (kinds : List (Option Layout)) (a : Accounts) (f : Flows) (from : Side)
-    (one : Named) (octets : List ℕ) → AreKinds bearers kinds → Same bearers a f
-    → parcel_of accounts kinds a from one octets ≡ parcel_of histories kinds f from one octets
-parcel_same bearers kinds a f from one octets k s = by (is_acknowledged (slice_index_or kinds one.lcid None)) refl
+by_bearer : (bearer : Option BearerConfig) (a : Accounts) (h : Histories) (from : Side) (one : Named)
+    (octets : List ℕ)
+    → slot_at from one.lcid a ≡ slot_by bearer (h.acked from one.lcid) (h.unacked from one.lcid)
+    → slot_at (other from) one.lcid a
+    ≡ slot_by bearer (h.acked (other from) one.lcid) (h.unacked (other from) one.lcid)
+    → AreLives (h.acked from one.lcid) → AreLives (h.acked (other from) one.lcid)
+    → parcel_in accounts (layout_by bearer) a from one octets
+    ≡ parcel_in histories (layout_by bearer) h from one octets
+by_bearer None a h from one octets own far i j = refl
+by_bearer (Some config) a h from one octets own far i j = by config.kind own far
   where
-    by : (b : Bool) → is_acknowledged (slice_index_or kinds one.lcid None) ≡ b
-        → (if b then parcel_by (accounts.next from one.lcid a) (accounts.front (other from) one.lcid a) one.lcid
-        one.how (am_at octets) else None)
-        ≡ (if b then parcel_by (histories.next from one.lcid f) (histories.front (other from) one.lcid f) one.lcid
-        one.how (am_at octets) else None)
-    by true acked =
-        let there = found bearers kinds one.lcid k acked in
-        ap (λ (n : ℕ). parcel_by n (accounts.front (other from) one.lcid a) one.lcid one.how (am_at octets))
-        (next_same bearers a f from one.lcid s there.low there.acked)
-        ∙ ap (λ (n : ℕ). parcel_by (histories.next from one.lcid f) n one.lcid one.how (am_at octets))
-        (front_same bearers a f (other from) one.lcid s there.low there.acked)
-    by false acked = refl
+    by : (kind : Kind)
+        → slot_at from one.lcid a ≡ slot_as kind config (h.acked from one.lcid) (h.unacked from one.lcid)
+        → slot_at (other from) one.lcid a
+        ≡ slot_as kind config (h.acked (other from) one.lcid) (h.unacked (other from) one.lcid)
+        → parcel_in accounts (Some (layout_of kind config.rlc_bits config.pdcp_bits)) a from one octets
+        ≡ parcel_in histories (Some (layout_of kind config.rlc_bits config.pdcp_bits)) h from one octets
+    by bearers.Tm o f = refl
+    by bearers.Srb o f =
+        acked_reads config one.lcid one octets (slot_at from one.lcid a) (slot_at (other from) one.lcid a)
+        (h.acked from one.lcid) (h.acked (other from) one.lcid) o f i j
+    by bearers.Um o f =
+        unacked_reads config one.lcid one octets (slot_at from one.lcid a) (h.unacked from one.lcid) o
+    by bearers.Am o f =
+        acked_reads config one.lcid one octets (slot_at from one.lcid a) (slot_at (other from) one.lcid a)
+        (h.acked from one.lcid) (h.acked (other from) one.lcid) o f i j
 
-record SameLoaded (bearers : Bearers) (b : Loaded Accounts) (c : Loaded Flows) : Type 0 where
-  flows : Same bearers b.flows c.flows
-  parcels : b.parcels ≡ c.parcels
+reads_same : (bearers : Bearers) (kinds : List (Option Layout)) (a : Accounts) (h : Histories) (from : Side)
+    (one : Named) (octets : List ℕ) → AreKinds bearers kinds → Same bearers a h
+    → parcel_of accounts kinds a from one octets ≡ parcel_of histories kinds h from one octets
+reads_same bearers kinds a h from one octets k s = elim (cases_lt 10 one.lcid) [
+  | inl past ↦
+      let none : slice_index_or kinds one.lcid None ≡ None =
+      get_or_past kinds one.lcid None (omega (arith, k.size)) in
+      ap (λ (l : Option Layout). parcel_in accounts l a from one octets) none
+      ∙ sym (ap (λ (l : Option Layout). parcel_in histories l h from one octets) none)
+  | inr low ↦
+      ap (λ (l : Option Layout). parcel_in accounts l a from one octets) (k.is one.lcid low)
+      ∙ by_bearer (bearers one.lcid) a h from one octets (s.is from one.lcid low)
+      (s.is (other from) one.lcid low) (s.lives from one.lcid) (s.lives (other from) one.lcid)
+      ∙ sym (ap (λ (l : Option Layout). parcel_in histories l h from one octets) (k.is one.lcid low))
+]
 
-load_same : (bearers : Bearers) (from : Side) (how : How) (p : Option Parcel) (b : Loaded Accounts) (c : Loaded Flows)
-    → SameLoaded bearers b c
-    → SameLoaded bearers (loads_parcel accounts from how p b) (loads_parcel histories from how p c)
-load_same bearers from how None b c s = s
-load_same bearers from how (Some p) b c s = record {
-  flows = all_same bearers (written_as from how p) b.flows c.flows s.flows;
-  parcels = ap (λ (ps : List Parcel). ps ++ p ∷ []) s.parcels;
+pub accounts_agree : (bearers : Bearers) (kinds : List (Option Layout)) → AreKinds bearers kinds
+    → Agree Accounts Histories accounts histories kinds (Same bearers)
+accounts_agree bearers kinds k = record {
+  tells = λ t a h s. told_same bearers t a h s;
+  reads = λ a h from one octets s. reads_same bearers kinds a h from one octets k s;
 }
-
-loads_same : (bearers : Bearers) (kinds : List (Option Layout)) (from : Side) (named : List Named) (sdus : List Sdu)
-    (b : Loaded Accounts) (c : Loaded Flows) → AreKinds bearers kinds → SameLoaded bearers b c
-    → SameLoaded bearers (loads accounts kinds from named sdus b) (loads histories kinds from named sdus c)
-loads_same bearers kinds from (one ∷ named) (d ∷ sdus) b c k s =
-    let p = parcel_of histories kinds c.flows from one d.octets in
-    let q = parcel_of accounts kinds b.flows from one d.octets in
-    loads_same bearers kinds from named sdus (loads_parcel accounts from one.how q b)
-    (loads_parcel histories from one.how p c) k
-    (subst (λ (r : Option Parcel). SameLoaded bearers (loads_parcel accounts from one.how r b)
-    (loads_parcel histories from one.how p c))
-    (sym (parcel_same bearers kinds b.flows c.flows from one d.octets k s.flows))
-    (load_same bearers from one.how p b c s))
-loads_same bearers kinds from [] sdus b c k s = s
-loads_same bearers kinds from (one ∷ named) [] b c k s = s
-
-loaded_same : (bearers : Bearers) (from : Side) (process : ℕ) (b : Loaded Accounts) (c : Loaded Flows)
-    (j : Journal Accounts) (h : Journal Flows) → SameLoaded bearers b c → SameJournal bearers j h
-    → SameJournal bearers (with_loaded from process b j) (with_loaded from process c h)
-loaded_same bearers from process b c j h l s =
-    with_same bearers from (holds process b.parcels (sending_of from j)) (holds process c.parcels (sending_of from h))
-    (with_flows b.flows j) (with_flows c.flows h)
-    (ap (λ (ps : List Parcel). holds process ps (sending_of from j)) l.parcels
-    ∙ ap (holds process c.parcels) (sending_same bearers from j h s))
-    (flows_same bearers b.flows c.flows j h l.flows s)
-
-new_same : (bearers : Bearers) (kinds : List (Option Layout)) (direction : Direction) (process : ℕ) (octets : List ℕ)
-    (j : Journal Accounts) (h : Journal Flows) → AreKinds bearers kinds → SameJournal bearers j h
-    → SameJournal bearers (behind_new accounts kinds direction process octets j)
-    (behind_new histories kinds direction process octets h)
-new_same bearers kinds direction process octets j h k s =
-    let from = sender_of direction in
-    let sdus = sdus_read (reading direction octets) in
-    let b : Loaded Accounts = record { flows = j.flows; parcels = [] } in
-    let c : Loaded Flows = record { flows = h.flows; parcels = [] } in
-    loaded_same bearers (sender_of direction) process
-    (loads accounts kinds from (sending_of from j).named sdus b)
-    (loads histories kinds from (sending_of from h).named sdus c) j h
-    (subst (λ (x : Sending). SameLoaded bearers
-    (loads accounts kinds (sender_of direction) x.named (sdus_read (reading direction octets))
-    (record { flows = j.flows; parcels = [] }))
-    (loads histories kinds (sender_of direction) (sending_of (sender_of direction) h).named
-    (sdus_read (reading direction octets)) (record { flows = h.flows; parcels = [] })))
-    (sym (sending_same bearers (sender_of direction) j h s))
-    (loads_same bearers kinds from (sending_of from h).named sdus b c k (record { flows = s.flows; parcels = refl })))
-    s
-
--- ---- a block that is sent again, and one that is got
-
-again_same : (bearers : Bearers) (direction : Direction) (process : ℕ) (j : Journal Accounts) (h : Journal Flows)
-    → SameJournal bearers j h
-    → SameJournal bearers (behind_again direction process j) (behind_again direction process h)
-again_same bearers direction process j h s =
-    let from = sender_of direction in
-    with_same bearers (sender_of direction) (resends process (sending_of from j)) (resends process (sending_of from h))
-    j h (ap (resends process) (sending_same bearers from j h s)) s
-
-come_same : (bearers : Bearers) (from : Side) (ps : List Parcel) (a : Accounts) (f : Flows) → Same bearers a f
-    → Same bearers (all_come accounts from ps a) (all_come histories from ps f)
-come_same bearers from [] a f s = s
-come_same bearers from (p ∷ ps) a f s =
-    come_same bearers from ps (all_told accounts (come_as from p) a) (all_told histories (come_as from p) f)
-    (all_same bearers (come_as from p) a f s)
-
-landing_same : (bearers : Bearers) (direction : Direction) (j : Journal Accounts) (h : Journal Flows)
-    → SameJournal bearers j h
-    → SameJournal bearers (behind_landing accounts direction j) (behind_landing histories direction h)
-landing_same bearers direction j h s =
-    let from = sender_of direction in
-    record {
-      flows =
-          subst (λ (x : Sending). Same bearers (all_come accounts (sender_of direction) (sent_last x) j.flows)
-          (all_come histories (sender_of direction) (sent_last (sending_of (sender_of direction) h)) h.flows))
-          (sym (sending_same bearers (sender_of direction) j h s))
-          (come_same bearers from (sent_last (sending_of from h)) j.flows h.flows s.flows);
-      nb = s.nb;
-      ue = s.ue;
-    }
-
--- ---- a record
-
-pub record_same : (bearers : Bearers) (kinds : List (Option Layout)) (more : Bool) (one : Record)
-    (j : Journal Accounts) (h : Journal Flows) → AreKinds bearers kinds → SameJournal bearers j h
-    → SameJournal bearers (behind_record accounts kinds more one j) (behind_record histories kinds more one h)
-record_same bearers kinds more (records.Of side event) j h k s = event_same bearers kinds more side event j h s
-record_same bearers kinds more (records.Block direction process true version octets) j h k s =
-    new_same bearers kinds direction process octets j h k s
-record_same bearers kinds more (records.Block direction process false version octets) j h k s =
-    again_same bearers direction process j h s
-record_same bearers kinds more (records.Air direction what heard) j h k s = by (is_got what)
-  where
-    by : (b : Bool) → SameJournal bearers (if b then behind_landing accounts direction j else j)
-        (if b then behind_landing histories direction h else h)
-    by true = landing_same bearers direction j h s
-    by false = s
-record_same bearers kinds more one j h k s = s
-
-pub records_same : (bearers : Bearers) (may_take : MayTake) (past : List Group) (kinds : List (Option Layout))
-    (before told : List Record) (j : Journal Accounts) (h : Journal Flows) → AreKinds bearers kinds
-    → SameJournal bearers j h
-    → SameJournal bearers (behind_records accounts may_take past kinds before told j)
-    (behind_records histories may_take past kinds before told h)
-records_same bearers may_take past kinds before [] j h k s = s
-records_same bearers may_take past kinds before (one ∷ told) j h k s =
-    let more = may_take past before one in
-    records_same bearers may_take past kinds (one ∷ before) told (behind_record accounts kinds more one j)
-    (behind_record histories kinds more one h) k (record_same bearers kinds more one j h k s)

@@ -1,8 +1,8 @@
--- How the events of acknowledged flows are gathered from the records of a journal
--- (docs/formats/JOURNAL.md; TS 36.321 5.3.2, 5.4.2, TS 36.322 5.1.3, 5.2, 5.4). `send` records are
--- bound to the PDUs of the next new block of their side; a block that is got lands the PDUs of the
--- block that its process holds. What is gathered of flows is their histories, or the accounts that
--- a program keeps: the steps are the same.
+-- How the events of acknowledged and unacknowledged flows are gathered from the records of a
+-- journal (docs/formats/JOURNAL.md; TS 36.321 5.3.2, 5.4.2, TS 36.322 5.1.2, 5.1.3, 5.2, 5.4).
+-- `send` records are bound to the PDUs of the next new block of their side; a block that is got
+-- lands the PDUs of the block that its process holds. What is gathered of flows is their histories,
+-- or the accounts that a program keeps: the steps are the same.
 use Rattle.std.specs.Prelude.{ℕ, ◌+◌, ◌==◌, Bool, true, false, if◌then◌else◌, List, [], ◌∷◌}
 use Rattle.std.specs.Prelude.{◌++◌, length, replicate, Option, Some, None, Result, Ok, Err}
 use Rattle.std.specs.Prelude.{slice_index_or, slice_set, unwrap_or}
@@ -15,7 +15,7 @@ use Rattle.mac_pdu.specs.declared.fault.MacRefusal.{MacRefusal}
 use Rattle.mac_pdu.specs.declared.item.Direction.{Direction}
 use Rattle.mac_pdu.specs.Items.{MacItem}
 use Rattle.mac_pdu.specs.Reading.{reading}
-use Rattle.rlc_pdu.specs.Reading.{am_at}
+use Rattle.rlc_pdu.specs.Reading.{am_at, umd_at}
 use Rattle.pdcp_pdu.specs.declared.pdu.PdcpKind.TheVariants as pdcp
 use Rattle.bearer_types.specs.declared.config.BearerConfig.{BearerConfig}
 use Rattle.bearer_types.specs.declared.event.Event.{Event}
@@ -28,21 +28,29 @@ use Rattle.air_record.specs.declared.record.Record.TheVariants as records
 use Rattle.air_text.specs.Groups.{Group}
 use Rattle.pdu_show.specs.declared.kinds.Layout.{Layout}
 use Rattle.pdu_show.specs.declared.kinds.Layout.TheVariants as layouts
-use Rattle.pdu_show.specs.Carried.{is_acknowledged}
 use Rattle.promises.specs.Blocks.{kinds}
 use Rattle.promises.specs.Records.{is_got}
-use Rattle.journal_account.specs.FlowEvents.{ReorderStarted, ReorderExpired, PollExpired}
+use Rattle.journal_account.specs.FlowEvents.{FlowEvent, SduTaken, ReorderStarted, ReorderExpired}
+use Rattle.journal_account.specs.FlowEvents.{PollExpired}
 use Rattle.journal_lives.specs.LifeEvents.{PduGiven}
+use Rattle.journal_um.specs.UmEvents.{UmEvent}
+use Rattle.journal_um.specs.UmEvents as um
 use Rattle.promises.specs.RightForm.{sdus_in}
 use Rattle.journal_flows.specs.declared.parcels.Parcel.{Parcel}
 use Rattle.journal_flows.specs.declared.sending.Named.{Named}
-use Rattle.journal_flows.specs.NumberedPdus.{Told, told, told_in, parcel_by, written_as, come_as}
+use Rattle.journal_flows.specs.UmPdus.{AtSender, AtReceiver, um_parcel_by}
+use Rattle.journal_flows.specs.NumberedPdus.{Told, told, told_in, um_told, parcel_by, written_as}
+use Rattle.journal_flows.specs.NumberedPdus.{come_as}
 
--- what gathers the events of flows: by the side that sends and the channel VT(S) and VR(R) in the
--- life that runs, and what an event does, a bearer that begins, and the end of a life of each
+-- what gathers the events of flows: by the side that sends and the channel, in the life that runs,
+-- VT(S) and VR(R) of an acknowledged flow, and of an unacknowledged one the number that is written
+-- next and the place of its first SDU; and what an event does, a bearer that begins, and the end of
+-- a life of each
 pub record Gatherer (F : Type 0) : Type 0 where
   pub next : Side → ℕ → F → ℕ
   pub front : Side → ℕ → F → ℕ
+  pub um_next : Side → ℕ → F → ℕ
+  pub um_place : Side → ℕ → F → ℕ
   pub tells : Told → F → F
   pub begins : BearerConfig → F → F
   pub ends : F → F
@@ -81,13 +89,16 @@ with_sending Ue s j = record { flows = j.flows; nb = j.nb; ue = s }
 
 -- ---- an event of an end
 
--- the PDU of PDCP that RLC takes: its SDU with a header of 2 octets, or with one of 1 octet and a
--- MAC-I of 4 on a signalling bearer, whose COUNTs begin anew in each life (TS 36.323 6.2.2, 6.2.3)
+-- the PDU of PDCP that RLC takes: its SDU with a header of 2 octets, of 1 with numbers of 7 bits,
+-- or of 1 and a MAC-I of 4 on a signalling bearer, whose COUNTs begin anew in each life (TS 36.323
+-- 6.2.2, 6.2.3)
 abbrev pub taken_as : Option Layout → Side → ℕ → Option ℕ → ℕ → List Told
 taken_as (Some (layouts.Am pdcp.Srb)) side lcid count len =
     told side lcid (PduGiven None (len + 5))
 taken_as (Some (layouts.Am kind)) side lcid count len =
     told side lcid (PduGiven count (len + 2))
+taken_as (Some (layouts.Um rlc_bits (pdcp.Um bits))) side lcid count len =
+    um_told side lcid (AtSender (SduTaken (len + (if bits == 7 then 1 else 2))))
 taken_as layout side lcid count len = []
 
 -- a status report has a header of 2 octets, or of 3 where numbers have 15 bits (TS 36.323 6.2.6)
@@ -96,6 +107,11 @@ report_as (Some (layouts.Am (pdcp.Am bits))) side lcid len =
     told side lcid (PduGiven None ((if bits == 12 then 2 else 3) + len))
 report_as layout side lcid len = []
 
+-- what t-Reordering tells, by the kind of its bearer
+abbrev pub reorder_as : Option Layout → Side → ℕ → FlowEvent → UmEvent → List Told
+reorder_as (Some (layouts.Um rlc_bits kind)) side lcid e um = um_told side lcid (AtReceiver um)
+reorder_as layout side lcid e um = told_in side lcid e
+
 -- t-Reordering is of the flow that comes, t-PollRetransmit of the one that goes; `more`: an SDU may
 -- be taken as that expires
 abbrev pub told_by : List (Option Layout) → Bool → Side → Event → List Told
@@ -103,8 +119,10 @@ told_by kinds more side (events.Take lcid count len) =
     taken_as (slice_index_or kinds lcid None) side lcid count len
 told_by kinds more side (events.Report lcid fms bitmap) =
     report_as (slice_index_or kinds lcid None) side lcid (length bitmap)
-told_by kinds more side (events.Start lcid Reorder) = told_in (other side) lcid ReorderStarted
-told_by kinds more side (events.Expired lcid Reorder) = told_in (other side) lcid ReorderExpired
+told_by kinds more side (events.Start lcid Reorder) =
+    reorder_as (slice_index_or kinds lcid None) (other side) lcid ReorderStarted um.ReorderStarted
+told_by kinds more side (events.Expired lcid Reorder) =
+    reorder_as (slice_index_or kinds lcid None) (other side) lcid ReorderExpired um.ReorderExpired
 told_by kinds more side (events.Expired lcid Poll) = told_in side lcid (PollExpired more)
 told_by kinds more side event = []
 
@@ -124,13 +142,20 @@ pub record Loaded (F : Type 0) : Type 0 where
   pub flows : F
   pub parcels : List Parcel
 
+abbrev pub parcel_in : {F : Type 0} → Gatherer F → Option Layout → F → Side → Named → List ℕ
+    → Option Parcel
+parcel_in g (Some (layouts.Am kind)) flows from s octets =
+    parcel_by (g.next from s.lcid flows) (g.front (other from) s.lcid flows) s.lcid s.how
+    (am_at octets)
+parcel_in g (Some (layouts.Um rlc_bits kind)) flows from s octets =
+    um_parcel_by (g.um_next from s.lcid flows) (g.um_place from s.lcid flows) s.lcid s.how
+    (umd_at rlc_bits octets)
+parcel_in g layout flows from s octets = None
+
 abbrev pub parcel_of : {F : Type 0} → Gatherer F → List (Option Layout) → F → Side → Named
     → List ℕ → Option Parcel
 parcel_of g kinds flows from s octets =
-    if is_acknowledged (slice_index_or kinds s.lcid None)
-    then parcel_by (g.next from s.lcid flows) (g.front (other from) s.lcid flows) s.lcid s.how
-    (am_at octets)
-    else None
+    parcel_in g (slice_index_or kinds s.lcid None) flows from s octets
 
 abbrev pub loads_parcel : {F : Type 0} → Gatherer F → Side → How → Option Parcel → Loaded F
     → Loaded F

@@ -1,6 +1,9 @@
 pub mod Possible
+pub mod UmPdus
 pub mod NumberedPdus
 pub mod Gathering
 pub mod FlowsTold
+pub mod FlowKept
+pub mod UmKept
 pub mod Accounts
 pub mod Laws

@@ -1,6 +1,8 @@
--- What a PDU of an acknowledged bearer is, by true numbers, as it is written, and what it tells of
--- its flows as it is written and as it comes (TS 36.322 6.2.1.4 to 6.2.1.6, 7.1).
-use Rattle.std.specs.Prelude.{ℕ, ◌+◌, ◌%◌, List, [], ◌∷◌, map, Option, Some, None, Result, Ok}
+-- What a PDU of an acknowledged bearer is, by true numbers, as it is written (TS 36.322 6.2.1.4 to
+-- 6.2.1.6, 7.1), and what a PDU tells of its flows as it is written and as it comes.
+use Rattle.std.specs.Prelude.{ℕ, ◌+◌, ◌%◌, ◌==◌, Bool, false, List, [], ◌∷◌, map, Option, Some}
+use Rattle.std.specs.Prelude.{None, Result, Ok}
+use Rattle.std.specs.List.{list_any}
 use Rattle.l2_num.specs.Least.{past}
 use Rattle.l2_num.specs.Numbers.{ahead}
 use Rattle.l2_types.specs.declared.event.How.{How}
@@ -18,20 +20,30 @@ use Rattle.journal_account.specs.FlowEvents.{FlowEvent, NumberWritten, OctetsRes
 use Rattle.journal_account.specs.FlowEvents.{StatusHeard, next_of}
 use Rattle.journal_account.specs.Arrived.{is_complete_in}
 use Rattle.journal_lives.specs.LifeEvents.{LifeEvent, InLife}
+use Rattle.journal_um.specs.UmEvents.{PduArrived}
 use Rattle.journal_flows.specs.declared.parcels.Parcel.{Parcel}
-use Rattle.journal_flows.specs.declared.parcels.Parcel.TheVariants.{Octets, Report}
+use Rattle.journal_flows.specs.declared.parcels.Parcel.TheVariants.{Octets, Pieces, Report}
+use Rattle.journal_flows.specs.UmPdus.{UmFlowEvent, AtSender, AtReceiver}
+
+-- an event of a flow, by the kind of its bearer
+pub data AnyEvent : Type 0 where
+  Acked : LifeEvent → AnyEvent
+  Unacked : UmFlowEvent → AnyEvent
 
 -- an event of the flow of a side that sends, on a channel
 pub record Told : Type 0 where
   pub side : Side
   pub lcid : ℕ
-  pub event : LifeEvent
+  pub event : AnyEvent
 
 abbrev pub told : Side → ℕ → LifeEvent → List Told
-told side lcid event = record { side = side; lcid = lcid; event = event } ∷ []
+told side lcid event = record { side = side; lcid = lcid; event = Acked event } ∷ []
 
 abbrev pub told_in : Side → ℕ → FlowEvent → List Told
 told_in side lcid event = told side lcid (InLife event)
+
+abbrev pub um_told : Side → ℕ → UmFlowEvent → List Told
+um_told side lcid event = record { side = side; lcid = lcid; event = Unacked event } ∷ []
 
 -- ---- numbers
 
@@ -66,8 +78,20 @@ parcel_by next front lcid how read = None
 abbrev pub written_as : Side → How → Parcel → List Told
 written_as from hows.New (Octets lcid n start end) = told_in from lcid (NumberWritten end)
 written_as from hows.Re (Octets lcid n start end) = told_in from lcid (OctetsResent n start end)
+written_as from hows.New (Pieces lcid n size pieces) =
+    um_told from lcid (AtSender (NumberWritten size))
 written_as from how parcel = []
 
 abbrev pub come_as : Side → Parcel → List Told
 come_as from (Octets lcid n start end) = told_in from lcid (OctetsArrived n start end)
+come_as from (Pieces lcid n size pieces) = um_told from lcid (AtReceiver (PduArrived n pieces))
 come_as from (Report lcid ack entries) = told_in (other from) lcid (StatusHeard ack entries)
+
+-- ---- a STATUS among some PDUs
+
+abbrev pub is_status_on : ℕ → Parcel → Bool
+is_status_on lcid (Report own ack entries) = own == lcid
+is_status_on lcid parcel = false
+
+abbrev pub carries_status : ℕ → List Parcel → Bool
+carries_status lcid parcels = list_any (is_status_on lcid) parcels

@@ -1,11 +1,11 @@
-// The entries of a STATUS, by true numbers.
 use journal_account::StatusEntry;
 use l2_bits::NoMemory;
 use std::alloc::Global;
 use std::marker::Model;
 
+/// The entries of a STATUS, by true numbers, which contracts see as a list (TS 36.322 6.2.1.6).
 #[derive(Drop)]
-pub(crate) struct Entries {
+pub struct Entries {
     entries: Vec<StatusEntry>,
 }
 
@@ -39,7 +39,8 @@ impl Entries {
         Ok(())
     }
 
-    pub(crate) fn as_slice(&self) -> &[StatusEntry]
+    /// The entries in their order.
+    pub fn as_slice(&self) -> &[StatusEntry]
         ensures { result.now ≡ self.now }
     {
         self.entries.as_slice()

@@ -6,7 +6,7 @@ ghost use Rattle.journal_account.specs.FlowSending.{sent_in};
 ghost use Rattle.journal_lives.specs.FlowLives.{no_lives, lives_with};
 ghost use Rattle.journal_lives.specs.LifeEvents.{InLife};
 ghost use Rattle.journal_flows.specs.Possible.{is_possible, are_octets};
-ghost use Rattle.journal_flows.specs.Accounts.{event_of, kept_with};
+ghost use Rattle.journal_flows.specs.FlowKept.{event_of, kept_with};
 
 use journal_account::StatusEntry;
 use journal_lives::FlowLives;
@@ -77,7 +77,7 @@ pub(crate) struct Flow {
 
 impl Model for Flow {
     ghost use Rattle.journal_lives.specs.FlowLives.{FlowLives as Lives};
-    ghost use Rattle.journal_flows.specs.Accounts.{IsOfHistory};
+    ghost use Rattle.journal_flows.specs.FlowKept.{IsOfHistory};
 
     ghost Value = { Lives };
 

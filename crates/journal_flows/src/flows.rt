@@ -2,17 +2,20 @@
 ghost use Rattle.std.specs.Prelude.{◌≡◌, OnOk};
 ghost use Rattle.bearer_types.specs.Sides.{sender_of};
 ghost use Rattle.promises.specs.Records.{is_got};
+ghost use Rattle.journal_flows.specs.NumberedPdus.{carries_status};
 ghost use Rattle.journal_flows.specs.Gathering.{is_handover, all_come, sent_last};
 ghost use Rattle.journal_flows.specs.Accounts.{accounts};
 
 use crate::accounts::Accounts;
 use crate::events;
 use crate::loading::load_block;
+use crate::parcels::{self, Parcel};
 use crate::sending::{Named, Sending};
 use air_record::{Arrived, Line, Record};
 use bearer_types::Event;
 use journal_lives::FlowLives;
-use l2_bits::{NoMemory, OCTETS_LIMIT};
+use journal_um::{JoinedSdu, UmFlow};
+use l2_bits::{Items, NoMemory, OCTETS_LIMIT};
 use l2_types::Side;
 use mac_pdu::Direction;
 use pdu_show::Kinds;
@@ -46,22 +49,38 @@ fn is_handover(line: &Line) -> bool
     }
 }
 
+// Whether the block that a side sent last has a STATUS of a channel.
+fn carries_status(sending: &Sending, lcid: u8) -> bool
+    ensures { result ≡ carries_status lcid (sent_last sending.now) }
+{
+    match sending.sent_last() {
+        Some(all) => parcels::carry_status(all, lcid),
+        None => false,
+    }
+}
+
 // The PDUs of the block that a side sent last come.
-fn come_all(flows: &mut Accounts, from: Side, sending: &Sending) -> Result<(), NoMemory>
+fn come_all(
+    alloc: Global,
+    flows: &mut Accounts,
+    from: Side,
+    sending: &Sending,
+) -> Result<(), NoMemory>
     ensures { OnOk result (flows.new ≡ all_come accounts from (sent_last sending.now) flows.old) }
 {
     match sending.sent_last() {
-        Some(parcels) => flows.come_all(from, parcels),
+        Some(parcels) => flows.come_all(alloc, from, parcels),
         None => Ok(()),
     }
 }
 
-/// Gathers the events of the acknowledged flows of a journal, whose lines and records go in one by
-/// one, and keeps the account of each flow. `specs/FlowsTold.antt` says which events are told;
-/// contracts see what is kept (`specs/Accounts.antt`).
+/// Gathers the events of the acknowledged and unacknowledged flows of a journal, whose lines and
+/// records go in one by one, and keeps the account of each flow. `specs/FlowsTold.antt` says which
+/// events are told; contracts see what is kept (`specs/Accounts.antt`).
 ///
 /// What it keeps doesn't grow with the journal: the bearers, the accounts, the PDUs that are told
-/// of before the next block of each direction, and those that the HARQ processes hold.
+/// of before the next block of each direction, and those that the HARQ processes hold. It keeps the
+/// SDUs that go up of an unacknowledged flow until they are taken.
 #[derive(Drop)]
 pub struct JournalFlows {
     alloc: Global,
@@ -85,12 +104,13 @@ impl Model for JournalFlows {
 }
 
 impl JournalFlows {
-    ghost use Rattle.std.specs.Prelude.{option_copied};
+    ghost use Rattle.std.specs.Prelude.{None, option_copied, slice_index_or};
     ghost use Rattle.journal_form.specs.Lines.{HasLayout};
     ghost use Rattle.journal_flows.specs.Gathering.{behind_event, behind_new, behind_again};
-    ghost use Rattle.journal_flows.specs.Gathering.{behind_landing};
-    ghost use Rattle.journal_flows.specs.Accounts.{account_at, nothing_kept, after_line};
-    ghost use Rattle.journal_flows.specs.Accounts.{after_record, after_group, with_journal};
+    ghost use Rattle.journal_flows.specs.Gathering.{behind_landing, sending_of};
+    ghost use Rattle.journal_flows.specs.Accounts.{account_at, um_flow_at, first_joined};
+    ghost use Rattle.journal_flows.specs.Accounts.{nothing_kept, after_line, after_record};
+    ghost use Rattle.journal_flows.specs.Accounts.{after_group, after_taking, with_journal};
 
     /// Before the first line. It takes no memory.
     pub fn new(alloc: Global) -> JournalFlows
@@ -112,6 +132,47 @@ impl JournalFlows {
         ensures { option_copied result ≡ account_at side lcid self.now.journal.flows }
     {
         self.flows.flow(side, lcid)
+    }
+
+    /// The PDUs of acknowledged and unacknowledged bearers in the block that a side sent last, as
+    /// its HARQ process holds them; `None` where it holds no block.
+    pub fn sent_last(&self, side: Side) -> Option<&Items<Parcel>>
+        ensures { let sent = sending_of side self.now.journal in
+            option_copied result ≡ slice_index_or sent.held sent.process None }
+    {
+        match side {
+            Side::Nb => self.nb.sent_last(),
+            Side::Ue => self.ue.sent_last(),
+        }
+    }
+
+    /// The account of the flow that a side sends on a logical channel, 0 to 10; `None` where the
+    /// bearer isn't unacknowledged, or there is none.
+    pub fn um_flow(&self, side: Side, lcid: u8) -> Option<&UmFlow>
+        ensures { option_copied result ≡ um_flow_at side lcid self.now.journal.flows }
+    {
+        self.flows.um_flow(side, lcid)
+    }
+
+    /// Takes the next SDU that goes up of the unacknowledged flow that a side sends on a logical
+    /// channel, 0 to 10, for PDCP to read; `None` where there is none yet. SDUs may be taken at any
+    /// time (`laws::taking_is_free`).
+    pub fn next_joined(&mut self, side: Side, lcid: u8) -> Option<JoinedSdu>
+        ensures value { result ≡ first_joined (um_flow_at side lcid self.old.journal.flows) }
+        ensures rest { self.new ≡ after_taking side lcid self.old }
+    {
+        self.flows.next_joined(side, lcid)
+    }
+
+    /// Whether the block that a side sent last, which is the one that is got next, has a STATUS of
+    /// a logical channel.
+    pub fn carries_status(&self, from: Side, lcid: u8) -> bool
+        ensures { result ≡ carries_status lcid (sent_last (sending_of from self.now.journal)) }
+    {
+        match from {
+            Side::Nb => carries_status(&self.nb, lcid),
+            Side::Ue => carries_status(&self.ue, lcid),
+        }
     }
 
     /// The `line` record of an accepted line begins a group. `journal_form::has_layout` is true of
@@ -251,9 +312,10 @@ impl JournalFlows {
         ensures { OnOk result (self.new ≡ with_journal
             (behind_landing accounts direction self.old.journal) self.old) }
     {
+        let flows = &mut self.flows;
         match sender_of(direction) {
-            Side::Nb => come_all(&mut self.flows, Side::Nb, &self.nb),
-            Side::Ue => come_all(&mut self.flows, Side::Ue, &self.ue),
+            Side::Nb => come_all(self.alloc, flows, Side::Nb, &self.nb),
+            Side::Ue => come_all(self.alloc, flows, Side::Ue, &self.ue),
         }
     }
 }

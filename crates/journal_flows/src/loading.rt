@@ -1,7 +1,6 @@
 // New blocks: their PDUs, bound to what `send` records name.
 ghost use Rattle.std.specs.Prelude.{◌≡◌, ◌<◌, [], length, IfOk, OnOk};
 ghost use Rattle.l2_bits.specs.declared.limits.TheConstants.{OCTETS_LIMIT};
-ghost use Rattle.pdu_show.specs.Carried.{is_acknowledged};
 ghost use Rattle.mac_pdu.specs.Reading.{reading};
 ghost use Rattle.promises.specs.RightForm.{sdus_in};
 ghost use Rattle.journal_flows.specs.Gathering.{loads, loads_parcel, parcel_of, sdus_read};
@@ -10,20 +9,12 @@ ghost use Rattle.journal_flows.specs.Accounts.{accounts};
 use crate::accounts::{Accounts, other};
 use crate::parcels::{Parcel, numbered};
 use crate::sending::Named;
+use crate::um_pdus::um_numbered;
 use l2_bits::{Items, NoMemory};
 use l2_types::Side;
 use mac_pdu::{Direction, Item, MacReader};
 use pdu_show::{Kinds, Layout};
 use std::alloc::Global;
-
-fn is_acknowledged(layout: Option<Layout>) -> bool
-    ensures { result ≡ is_acknowledged layout }
-{
-    match layout {
-        Some(Layout::Am { .. }) => true,
-        _ => false,
-    }
-}
 
 // What a PDU is that is named so.
 fn parcel_of(
@@ -38,12 +29,19 @@ fn parcel_of(
     ensures { IfOk result
         (λ parcel. parcel ≡ parcel_of accounts kinds.now flows.now from one octets.now) }
 {
-    if !is_acknowledged(kinds.of(one.lcid)) {
-        return Ok(None);
+    match kinds.of(one.lcid) {
+        Some(Layout::Am { .. }) => {
+            let next = flows.next(from, one.lcid);
+            let front = flows.front(other(from), one.lcid);
+            numbered(alloc, next, front, one.lcid, one.how, octets)
+        }
+        Some(Layout::Um { rlc_bits, .. }) => {
+            let next = flows.um_next(from, one.lcid);
+            let place = flows.um_place(from, one.lcid);
+            um_numbered(alloc, rlc_bits, next, place, one.lcid, one.how, octets)
+        }
+        _ => Ok(None),
     }
-    let next = flows.next(from, one.lcid);
-    let front = flows.front(other(from), one.lcid);
-    numbered(alloc, next, front, one.lcid, one.how, octets)
 }
 
 // A PDU is written.

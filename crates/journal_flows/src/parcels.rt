@@ -1,5 +1,5 @@
-// PDUs of acknowledged bearers, by true numbers.
-ghost use Rattle.std.specs.Prelude.{◌≡◌, ◌<◌, length, map, IfOk, Ok};
+// PDUs by true numbers, and those of acknowledged bearers as they are read.
+ghost use Rattle.std.specs.Prelude.{◌≡◌, ◌<◌, ◌+◌, ◌||◌, length, drop, map, IfOk, Ok};
 ghost use Rattle.l2_bits.specs.declared.limits.TheConstants.{OCTETS_LIMIT};
 ghost use Rattle.rlc_pdu.specs.declared.constants.TheConstants.{AM_MODULUS};
 ghost use Rattle.rlc_pdu.specs.Pdus.{Payload, Status};
@@ -8,31 +8,79 @@ ghost use Rattle.rlc_pdu.specs.Views.{elements_of, nacks_of, amd_of, status_of};
 ghost use Rattle.rlc_am_rx_window.specs.Piece.{octets_in, so_of};
 ghost use Rattle.law_words.specs.Passing.{last_with};
 ghost use Rattle.journal_flows.specs.NumberedPdus.{with_sn_from, entry_from, parcel_by};
+ghost use Rattle.journal_flows.specs.NumberedPdus.{is_status_on, carries_status};
 
 use crate::entries::Entries;
 use journal_account::StatusEntry;
-use l2_bits::NoMemory;
+use journal_um::Pieces;
+use l2_bits::{Items, NoMemory};
 use l2_types::How;
 use rlc_pdu::{AM_MODULUS, AmPdu, Amd, Elements, NackReader, Segment, StatusRead, read_am};
 use std::alloc::Global;
 
-// What a PDU of an acknowledged bearer is to its flows, by true numbers. `lcid` is the channel.
+/// What a PDU is to its flows, by true numbers (TS 36.322 6.2.1.3 to 6.2.1.6). `lcid` is the
+/// channel.
 #[derive(Drop)]
-pub(crate) enum Parcel {
-    // Octets of a number of the flow of the side that sends it: those of its data field from a
-    // place on and below another.
+pub enum Parcel {
+    /// Octets of a number of the flow of the side that sends it: those of its data field from a
+    /// place on and below another.
     Octets {
         lcid: u8,
         number: u64,
         from: u32,
         to: u32,
     },
-    // A STATUS of the flow that goes the other way: its ACK and its entries.
+    /// A number of an unacknowledged flow of that side, with so many octets in its data field, and
+    /// its pieces.
+    Pieces {
+        lcid: u8,
+        number: u64,
+        size: u32,
+        pieces: Pieces,
+    },
+    /// A STATUS of the flow that goes the other way: its ACK and its entries.
     Report {
         lcid: u8,
         ack: u64,
         entries: Entries,
     },
+}
+
+fn is_status_on(parcel: &Parcel, lcid: u8) -> bool
+    ensures { result ≡ is_status_on lcid parcel.now }
+{
+    match parcel {
+        Parcel::Report { lcid: own, .. } => *own == lcid,
+        Parcel::Octets { .. } | Parcel::Pieces { .. } => false,
+    }
+}
+
+// Whether the one at a place is a STATUS of a channel.
+#[tactic(auto, using(crate::proofs::Statuses::is_first))]
+fn is_status_at(parcels: &Items<Parcel>, at: usize, lcid: u8) -> bool
+    requires { at < length parcels.now }
+    ensures { carries_status lcid (drop at parcels.now)
+        ≡ (result || carries_status lcid (drop (at + 1) parcels.now)) }
+{
+    match parcels.get(at) {
+        Some(parcel) => is_status_on(parcel, lcid),
+        None => unreachable!(),
+    }
+}
+
+// Whether one of some PDUs is a STATUS of a channel.
+#[tactic(auto, using(crate::proofs::Statuses::none_left))]
+pub(crate) fn carry_status(parcels: &Items<Parcel>, lcid: u8) -> bool
+    ensures { result ≡ carries_status lcid parcels.now }
+{
+    let mut at = 0;
+    while at < parcels.len() {
+        if is_status_at(parcels, at, lcid) {
+            return true;
+        }
+        at += 1;
+    }
+    false
 }
 
 // The first number from one on that has an SN.
@@ -57,7 +105,7 @@ fn last_with(sn: u32, count: u64) -> Result<u64, NoMemory>
 }
 
 // The octets of elements; 2^32 or more find no memory.
-fn octets_in(elements: Elements<'_>) -> Result<u32, NoMemory>
+pub(crate) fn octets_in(elements: Elements<'_>) -> Result<u32, NoMemory>
     ensures { IfOk result (λ n. n ≡ octets_in (elements_of elements.entry)) }
 {
     let mut elements = elements;

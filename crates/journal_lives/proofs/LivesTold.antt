@@ -151,7 +151,7 @@ few es n least = elim (cases_lt (length (sdu_sizes es)) n) [
 
 -- ---- lives
 
-histories : (es : List LifeEvent) → AreLives es → IsHistory (running es)
+pub histories : (es : List LifeEvent) → AreLives es → IsHistory (running es)
 histories [] h = tt
 histories (PduGiven count size ∷ es) h = (tt, histories es h.1)
 histories (InLife e ∷ es) h = (h.0.1, histories es h.1)
@@ -392,5 +392,11 @@ lives_are_true most first es h =
     let s = stand most first es h in
     record {
       account = s.account;
+      sequenced = λ k.
+          in_front (running es) (account_of most (running es)).sdus.sequenced
+          (accounts_are_true most (running es) (histories es h)).sdus.sequenced k
+          ∙ ap (λ (a : FlowAccount). nat_lt k a.sdus.sequenced) (sym s.account);
       next = tells_least (count_came es) first (lives_of most first es).come s.come;
+      ascend = s.come.ascend;
+      beyond = s.come.there;
     }

@@ -42,6 +42,13 @@ impl CountsCome {
         self.next
     }
 
+    // Those beyond it that have come.
+    pub(crate) fn beyond(&self) -> &BTreeSet<u32>
+        ensures { result.now.keys ≡ self.now.beyond }
+    {
+        &self.beyond
+    }
+
     // One comes. An `Err` changes nothing.
     pub(crate) fn add(&mut self, count: u32) -> Result<(), NoMemory>
         ensures ok { OnOk result (self.new ≡ with_count count self.old) }

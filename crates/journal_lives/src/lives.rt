@@ -16,7 +16,7 @@ use crate::counts::CountsCome;
 use journal_account::{FlowAccount, StatusEntry};
 use l2_bits::NoMemory;
 use std::alloc::Global;
-use std::collections::VecDeque;
+use std::collections::{BTreeSet, VecDeque};
 use std::marker::Model;
 
 type Counts = VecDeque<Option<u32>>;
@@ -75,6 +75,13 @@ impl FlowLives {
         ensures { result ≡ self.now.come.next }
     {
         self.come.next()
+    }
+
+    /// The COUNTs beyond it that have come.
+    pub fn beyond(&self) -> &BTreeSet<u32>
+        ensures { result.now.keys ≡ self.now.come.beyond }
+    {
+        self.come.beyond()
     }
 
     /// RLC takes a PDU of PDCP of so many octets: an SDU's with its COUNT, or a status report.

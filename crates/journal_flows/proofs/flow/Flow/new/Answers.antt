@@ -1,5 +1,5 @@
 use Rattle.std.proofs.Common.{sym, subst}
-use Rattle.journal_flows.specs.Accounts.{IsOfHistory}
+use Rattle.journal_flows.specs.FlowKept.{IsOfHistory}
 use Rattle.journal_flows.proofs.Lives.{outset}
 use Rattle.journal_flows.proofs.flow.Flow.new.Goals as goal
 

@@ -2,7 +2,7 @@ use Rattle.std.proofs.Common.{◌≡◌, true, sym, ap, ◌∙◌, subst}
 use Rattle.journal_account.specs.FlowArrivals.{next_in}
 use Rattle.journal_lives.specs.FlowLives.{FlowLives}
 use Rattle.journal_flows.specs.Possible.{is_possible}
-use Rattle.journal_flows.specs.Accounts.{IsOfHistory, event_of}
+use Rattle.journal_flows.specs.FlowKept.{IsOfHistory, event_of}
 use Rattle.journal_flows.proofs.Lives.{agrees, goes_on}
 use Rattle.journal_flows.proofs.flow.Flow.with.Goals as goal
 

@@ -4,7 +4,7 @@ use Rattle.journal_account.specs.FlowArrivals.{next_in}
 use Rattle.journal_account.specs.FlowEvents.{StatusHeard}
 use Rattle.journal_lives.specs.FlowLives.{FlowLives}
 use Rattle.journal_lives.specs.LifeEvents.{InLife}
-use Rattle.journal_flows.specs.Accounts.{IsOfHistory}
+use Rattle.journal_flows.specs.FlowKept.{IsOfHistory}
 use Rattle.journal_flows.proofs.Lives.{agrees, goes_on}
 use Rattle.journal_flows.proofs.flow.Flow.with_status.Goals as goal
 
