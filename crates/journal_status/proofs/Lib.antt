@@ -1,0 +1,6 @@
+pub mod StatusChannels
+pub mod StatusReports
+pub mod StatusRecords
+pub mod StatusGroups
+pub mod StatusExact
+pub mod StatusAcks

@@ -1,0 +1,3 @@
+pub mod RightStatus
+pub mod StatusChecking
+pub mod StatusLaws
