@@ -1,0 +1,10 @@
+pub mod Lists
+pub mod Filling
+pub mod Channels
+pub mod Awaiting
+pub mod Given
+pub mod Slots
+pub mod Ending
+pub mod Flow
+pub mod Exact
+pub mod InOrder

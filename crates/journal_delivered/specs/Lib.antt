@@ -1,0 +1,3 @@
+pub mod RightDelivery
+pub mod DeliveryChecking
+pub mod DeliveryLaws
