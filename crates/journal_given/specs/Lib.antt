@@ -1,0 +1,4 @@
+pub mod Supplies
+pub mod Giving
+pub mod RightTakes
+pub mod Laws

@@ -1,0 +1,304 @@
+// What a journal's lines and records tell, one by one.
+ghost use Rattle.std.specs.Prelude.{◌≡◌, OnOk, Some, option_copied};
+ghost use Rattle.bearer_types.specs.Sides.{sender_of};
+ghost use Rattle.promises.specs.Parts.{is_handover};
+ghost use Rattle.promises.specs.Records.{is_got};
+ghost use Rattle.journal_form.specs.Lines.{HasLayout};
+ghost use Rattle.journal_given.specs.Supplies.{accounts};
+ghost use Rattle.journal_given.specs.Giving.{bearer_at, waits_at, offers};
+
+use crate::bearer;
+use crate::bearers::{self, Bearers};
+use crate::waits::Waits;
+use air_record::{Arrived, Line, Record};
+use bearer_types::Event;
+use journal_flows::JournalFlows;
+use journal_takes::FlowTakes;
+use l2_bits::{Bytes, NoMemory};
+use l2_types::{Clock, Side};
+use mac_pdu::Direction;
+use std::alloc::Global;
+use std::marker::Model;
+
+fn sender_of(direction: Direction) -> Side
+    ensures { result ≡ sender_of direction }
+{
+    match direction {
+        Direction::Down => Side::Nb,
+        Direction::Up => Side::Ue,
+    }
+}
+
+fn is_got(what: Arrived) -> bool
+    ensures { result ≡ is_got what }
+{
+    match what {
+        Arrived::Got => true,
+        Arrived::Dup | Arrived::Bad | Arrived::Nothing => false,
+    }
+}
+
+fn is_handover(line: &Line) -> bool
+    ensures { result ≡ is_handover line.now }
+{
+    match line {
+        Line::Handover { .. } => true,
+        _ => false,
+    }
+}
+
+// Whether RLC may take anything of a side's channel.
+fn offers(bearers: &Bearers, waits: &Waits, side: Side, lcid: u8) -> bool
+    ensures { result ≡ offers accounts side (bearer_at lcid bearers.now.items)
+        (waits_at side lcid waits.now) }
+{
+    match bearers::get(bearers, lcid) {
+        Some(bearer) => bearer.side(side).takes().may_take(),
+        None => waits.at(side, lcid) > 0,
+    }
+}
+
+// The SDU that a line submits.
+#[derive(Drop)]
+pub(crate) struct Submission {
+    side: Side,
+    lcid: u8,
+    octets: Bytes,
+}
+
+/// Gathers what PDCP gives RLC of acknowledged data from the lines and records of a journal, which
+/// go in one by one, and judges its `take` and `report` records. It keeps the accounts of the
+/// journal's flows within it, since both stand on each other: RLC confirms what its flow says, and
+/// t-PollRetransmit recalls a number where nothing may be taken (TS 36.322 5.2.2.3). Contracts see
+/// what is gathered (`specs/Giving.antt`).
+///
+/// What it keeps doesn't grow with the journal: what `JournalFlows` keeps, what `FlowTakes` keeps
+/// of each side of a bearer of acknowledged data, the PDUs that RLC was given in the life that runs
+/// and that aren't confirmed, and the COUNTs that a status report marks.
+#[derive(Drop)]
+pub struct JournalGiven {
+    alloc: Global,
+    flows: JournalFlows,
+    bearers: Bearers,
+    waits: Waits,
+    submitted: Option<Submission>,
+    hands_over: bool,
+    right: bool,
+}
+
+impl Model for JournalGiven {
+    ghost use Rattle.journal_takes.specs.FlowTakes.{FlowTakes as Takes};
+    ghost use Rattle.journal_given.specs.Giving.{Giving};
+
+    ghost Value = { Giving Takes };
+
+    ghost view = { λ g. record {
+      kept = g.flows;
+      bearers = g.bearers.items;
+      waits = g.waits;
+      submitted = g.submitted;
+      hands_over = g.hands_over;
+      right = g.right;
+    } };
+}
+
+impl JournalGiven {
+    ghost use Rattle.journal_given.specs.Laws.{takes_at};
+    ghost use Rattle.journal_given.specs.Giving.{nothing_given, may_take, submits, happens, tells};
+    ghost use Rattle.journal_given.specs.Giving.{submits_last, hands_on, submitted_by};
+    ghost use Rattle.journal_given.specs.Giving.{none_submitted, at_rest};
+    ghost use Rattle.std.specs.Prelude.{IfOk};
+    ghost use Rattle.journal_given.specs.Giving.{after_line, after_record, after_group};
+
+    /// Before the first line. It takes no memory.
+    pub fn new(alloc: Global) -> JournalGiven
+        ensures { result ≡ nothing_given }
+    {
+        JournalGiven {
+            alloc,
+            flows: JournalFlows::new(alloc),
+            bearers: bearers::no_bearers(),
+            waits: Waits::none(),
+            submitted: None,
+            hands_over: false,
+            right: true,
+        }
+    }
+
+    /// The accounts of the journal's flows.
+    pub fn flows(&self) -> &JournalFlows
+        ensures { result.now ≡ self.now.kept }
+    {
+        &self.flows
+    }
+
+    /// What is told of the acknowledged data that a side sends on a logical channel, 0 to 10;
+    /// `None` where there is none.
+    pub fn takes(&self, side: Side, lcid: u8) -> Option<&FlowTakes>
+        ensures { option_copied result ≡ takes_at side lcid self.now }
+    {
+        match bearers::get(&self.bearers, lcid) {
+            Some(bearer) => Some(bearer.side(side).takes()),
+            None => None,
+        }
+    }
+
+    /// Whether each `take` and each `report` of acknowledged data so far is right: it is what is
+    /// takeable next, with the length of its SDU, or with the FMS and the bitmap of what had come
+    /// as the life began. One that isn't right tells PDCP nothing.
+    pub fn is_right(&self) -> bool
+        ensures { result ≡ self.now.right }
+    {
+        self.right
+    }
+
+    /// The `line` record of an accepted line begins a group. `journal_form::has_layout` is true of
+    /// it, as of every line that was read. Behind an `Err` nothing more is known.
+    pub fn begin_line(&mut self, line: &Line) -> Result<(), NoMemory>
+        requires { HasLayout line.now }
+        ensures { OnOk result (self.new ≡ after_line accounts line.now self.old) }
+    {
+        if let Line::Bearer { config, .. } = line {
+            let lcid = config.channel.lcid;
+            let begun = bearer::begun(self.alloc, config.kind, config.first, config.pdcp_bits);
+            bearers::set(&mut self.bearers, lcid, begun);
+            self.waits.clear(lcid);
+        }
+        self.submitted = self.submission(line)?;
+        self.hands_over = is_handover(line);
+        self.flows.begin_line(line);
+        Ok(())
+    }
+
+    fn submission(&self, line: &Line) -> Result<Option<Submission>, NoMemory>
+        ensures { IfOk result (λ s. s ≡ submitted_by line.now) }
+    {
+        match line {
+            Line::Submit { side, lcid, octets } => Ok(Some(Submission {
+                side: *side,
+                lcid: *lcid,
+                octets: Bytes::from_slice(self.alloc, octets.as_slice())?,
+            })),
+            _ => Ok(None),
+        }
+    }
+
+    /// A record of the group, which isn't its first.
+    ///
+    /// `NoMemory` where there is none, where `JournalFlows` says so, and where a counter ends.
+    /// Behind it nothing more is known.
+    pub fn see(&mut self, one: &Record) -> Result<(), NoMemory>
+        ensures { OnOk result (self.new ≡ after_record accounts one.now self.old) }
+    {
+        let more = self.may_take(one);
+        self.flows.see(one, more)?;
+        self.tell(one)
+    }
+
+    /// The group has ended: with the next `line` record, the first `sum`, or the journal. Behind an
+    /// `Err` nothing more is known.
+    pub fn end_line(&mut self) -> Result<(), NoMemory>
+        ensures { OnOk result (self.new ≡ after_group accounts self.old) }
+    {
+        self.flows.end_line()?;
+        self.submit_last()?;
+        self.hand_on()
+    }
+
+    fn may_take(&self, one: &Record) -> bool
+        ensures { result ≡ may_take accounts one.now self.now }
+    {
+        match one {
+            Record::Of {
+                side,
+                event: Event::Expired {
+                    lcid,
+                    clock: Clock::Poll,
+                },
+            } => offers(&self.bearers, &self.waits, *side, *lcid),
+            _ => false,
+        }
+    }
+
+    fn submit(&mut self, side: Side, lcid: u8, octets: Bytes) -> Result<(), NoMemory>
+        ensures { OnOk result (self.new ≡ submits accounts side lcid octets self.old) }
+    {
+        bearers::submit(&mut self.bearers, side, lcid, octets)?;
+        self.waits.add(side, lcid)
+    }
+
+    fn tell(&mut self, one: &Record) -> Result<(), NoMemory>
+        ensures { OnOk result (self.new ≡ tells accounts one.now self.old) }
+    {
+        match one {
+            Record::Of { side, event } => self.happen(*side, event),
+            Record::Looped { lcid, octets } => {
+                let octets = Bytes::from_slice(self.alloc, octets.as_slice())?;
+                self.submit(Side::Ue, *lcid, octets)
+            }
+            Record::Refused { .. } => {
+                self.submitted = None;
+                Ok(())
+            }
+            Record::Air {
+                direction,
+                what,
+                ..
+            } => {
+                if is_got(*what) {
+                    bearers::land(&mut self.bearers, sender_of(*direction), &self.flows)
+                } else {
+                    Ok(())
+                }
+            }
+            _ => Ok(()),
+        }
+    }
+
+    fn happen(&mut self, side: Side, event: &Event) -> Result<(), NoMemory>
+        ensures { OnOk result (self.new ≡ happens accounts side event.now self.old) }
+    {
+        match event {
+            Event::Take { lcid, count, len } => {
+                let is_right = bearers::take(&mut self.bearers, side, *lcid, *count, *len)?;
+                self.waits.remove(side, *lcid);
+                self.right = self.right && is_right;
+            }
+            Event::Report { lcid, fms, bitmap } => {
+                let bitmap = bitmap.as_slice();
+                let is_right = bearers::report(&mut self.bearers, side, *lcid, *fms, bitmap)?;
+                self.right = self.right && is_right;
+            }
+            Event::Discard { lcid, .. } => {
+                bearers::discard(&mut self.bearers, side, *lcid);
+                self.waits.remove(side, *lcid);
+            }
+            _ => {}
+        }
+        Ok(())
+    }
+
+    // The SDU of the group's line is submitted, where no record refused it.
+    fn submit_last(&mut self) -> Result<(), NoMemory>
+        ensures { OnOk result
+            (self.new ≡ none_submitted (submits_last accounts self.old.submitted self.old)) }
+    {
+        match self.submitted.take() {
+            Some(Submission { side, lcid, octets }) => self.submit(side, lcid, octets),
+            None => Ok(()),
+        }
+    }
+
+    // A handover's group ends.
+    fn hand_on(&mut self) -> Result<(), NoMemory>
+        ensures { OnOk result
+            (self.new ≡ at_rest (hands_on accounts self.old.hands_over self.old)) }
+    {
+        if self.hands_over {
+            bearers::end_lives(&mut self.bearers, &self.flows)?;
+            self.waits = Waits::none();
+        }
+        self.hands_over = false;
+        Ok(())
+    }
+}
