@@ -3,6 +3,7 @@
 
 mod boxed;
 mod events;
+mod keys;
 mod line;
 mod lines;
 mod naming;
@@ -12,6 +13,7 @@ mod shown;
 mod word;
 
 pub use boxed::BoxedLine;
+pub use keys::no_keys;
 pub use line::{Fate, Line, Outcome};
 pub use printing::{append_accepted, append_record, print, print_line};
 pub use record::{Arrived, Lens, NoPlace, Record, State};

@@ -404,16 +404,21 @@ fn drop_late(tx: &mut PdcpTx, lcid: u8, events: &mut Events) -> Result<(), NoMem
     Ok(())
 }
 
-fn bearer_of(lcid: u8) -> u32
-    requires low { 1 ≤ lcid }
-    requires high { lcid ≤ 10 }
+/// BEARER of a logical channel, 0 to 10 (TS 36.323 5.6).
+pub fn bearer_of(lcid: u8) -> u32
+    requires { lcid ≤ 10 }
     ensures value { result ≡ bearer_of lcid }
     ensures below { result < 32 }
 {
-    u32::from(if lcid < 3 { lcid - 1 } else { lcid - 3 })
+    u32::from(if lcid < 3 {
+        lcid.saturating_sub(1)
+    } else {
+        lcid - 3
+    })
 }
 
-fn sends(side: Side) -> u32
+/// DIRECTION of what an end sends (TS 33.401 B.1.1).
+pub fn sends(side: Side) -> u32
     ensures value { result ≡ sends side }
     ensures below { result < 2 }
 {

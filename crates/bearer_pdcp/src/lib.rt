@@ -10,7 +10,7 @@ mod stopped;
 mod telling;
 mod written;
 
-pub use ends::Pdcp;
+pub use ends::{Pdcp, bearer_of, sends};
 pub use stopped::StoppedPdcp;
 pub use telling::{tell_expired, tell_landed, tell_wait};
 pub use written::Written;

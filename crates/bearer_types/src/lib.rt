@@ -3,6 +3,8 @@
 
 mod config;
 mod event;
+mod sides;
 
 pub use config::BearerConfig;
 pub use event::{Event, Events};
+pub use sides::{other, sender_of};

@@ -66,6 +66,10 @@ octets_wait n from to s =
 abbrev pub namings_of : ℕ → FlowSending → ℕ
 namings_of n s = if nat_lt n s.base then 0 else (number_at s.numbers (n - s.base)).namings
 
+-- a number is acknowledged: all below VT(A) are
+abbrev pub acked_kept : ℕ → FlowSending → Bool
+acked_kept n s = nat_lt n s.base || (number_at s.numbers (n - s.base)).acked
+
 -- ---- a STATUS
 
 -- all octets that an entry names wait already

@@ -2,7 +2,7 @@ ghost use Rattle.std.specs.Prelude.{◌≡◌, ◌<◌, ◌≤◌, OnOk, OnErr, 
 ghost use Rattle.journal_account.specs.FlowEvents.{SduTaken, NumberWritten, OctetsArrived};
 ghost use Rattle.journal_account.specs.FlowEvents.{ReorderStarted, ReorderExpired, OctetsResent};
 ghost use Rattle.journal_account.specs.FlowEvents.{StatusHeard, PollExpired};
-ghost use Rattle.journal_account.specs.FlowSending.{sent_in, octets_wait, namings_of};
+ghost use Rattle.journal_account.specs.FlowSending.{sent_in, octets_wait, acked_kept, namings_of};
 ghost use Rattle.journal_account.specs.FlowArrivals.{next_in};
 ghost use Rattle.journal_account.specs.FlowStatus.{is_true_status};
 ghost use Rattle.journal_account.specs.FlowWholes.{is_whole_kept};
@@ -171,6 +171,13 @@ impl FlowAccount {
         ensures { result ≡ octets_wait number from to self.now.sending }
     {
         self.sending.octets_wait(number, from, to)
+    }
+
+    /// Whether a number is acknowledged (TS 36.322 5.2.1).
+    pub fn is_acked(&self, number: u64) -> bool
+        ensures { result ≡ acked_kept number self.now.sending }
+    {
+        self.sending.is_acked(number)
     }
 
     /// How often a number from VT(A) on was named so that it counts: RETX_COUNT is one less.

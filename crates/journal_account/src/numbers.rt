@@ -62,6 +62,16 @@ pub(crate) fn namings(numbers: &Numbers, at: usize) -> u32
     }
 }
 
+// Whether the number at a place is acknowledged.
+pub(crate) fn is_acked(numbers: &Numbers, at: usize) -> bool
+    ensures { result ≡ (number_at numbers.now.items at).acked }
+{
+    match numbers.get(at) {
+        Some(one) => one.is_acked(),
+        None => false,
+    }
+}
+
 fn hear_at(
     numbers: &mut Numbers,
     at: usize,

@@ -1,6 +1,6 @@
 // What the sender of a flow has heard, and where VT(A) stands.
 ghost use Rattle.std.specs.Prelude.{◌≡◌, ◌+◌, ◌<◌, ◌≤◌, length, OnOk, OnErr};
-ghost use Rattle.journal_account.specs.FlowSending.{octets_wait, namings_of};
+ghost use Rattle.journal_account.specs.FlowSending.{octets_wait, acked_kept, namings_of};
 ghost use Rattle.journal_account.specs.FlowSending.{none_sent, sent_in, with_sent, with_resent};
 ghost use Rattle.journal_account.specs.FlowSending.{or_over, limited, with_status};
 ghost use Rattle.journal_account.specs.FlowSending.{is_quiet, recalled_at, with_poll_expired};
@@ -105,6 +105,12 @@ impl FlowSending {
             return 0;
         }
         numbers::namings(&self.numbers, (number - self.base) as usize)
+    }
+
+    pub(crate) fn is_acked(&self, number: u64) -> bool
+        ensures { result ≡ acked_kept number self.now }
+    {
+        number < self.base || numbers::is_acked(&self.numbers, (number - self.base) as usize)
     }
 
     // The next number is written. An `Err` changes nothing.

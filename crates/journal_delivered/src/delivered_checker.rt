@@ -6,21 +6,12 @@ ghost use Rattle.journal_delivered.specs.DeliveryChecking.{begun};
 use crate::awaited_channels::{self, Channels};
 use crate::awaited_sdus::{AwaitedSdus, SduTold};
 use air_record::{Line, Record};
-use bearer_types::{BearerConfig, Event};
+use bearer_types::{BearerConfig, Event, other};
 use journal_flows::JournalFlows;
 use l2_bits::NoMemory;
 use l2_types::{Kind, Side};
 use std::alloc::Global;
 use std::marker::Model;
-
-fn other(side: Side) -> Side
-    ensures { result ≡ other side }
-{
-    match side {
-        Side::Nb => Side::Ue,
-        Side::Ue => Side::Nb,
-    }
-}
 
 // A bearer's SDUs in one direction, where it has acknowledged data.
 fn begun(alloc: Global, config: &BearerConfig) -> Option<AwaitedSdus>

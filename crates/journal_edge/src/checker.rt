@@ -9,69 +9,16 @@ ghost use Rattle.journal_edge.specs.EdgeChecking.{um_begun, is_state};
 
 use crate::channels::{self, Channels};
 use crate::flow::EdgeFlow;
-use air_record::{Line, Record, State};
-use bearer_types::{BearerConfig, Event};
-use eps_sec::{Cipher, Key, Keys};
+use air_record::{Line, Record, State, no_keys};
+use bearer_pdcp::{bearer_of, sends};
+use bearer_types::{BearerConfig, Event, other, sender_of};
+use eps_sec::Keys;
 use journal_flows::JournalFlows;
 use l2_bits::NoMemory;
 use l2_types::{Kind, Side};
 use mac_pdu::Direction;
 use std::alloc::Global;
 use std::marker::Model;
-
-fn other(side: Side) -> Side
-    ensures { result ≡ other side }
-{
-    match side {
-        Side::Nb => Side::Ue,
-        Side::Ue => Side::Nb,
-    }
-}
-
-fn sender_of(direction: Direction) -> Side
-    ensures { result ≡ sender_of direction }
-{
-    match direction {
-        Direction::Down => Side::Nb,
-        Direction::Up => Side::Ue,
-    }
-}
-
-// BEARER (TS 36.323 5.6).
-fn bearer_of(lcid: u8) -> u32
-    requires { lcid ≤ 10 }
-    ensures value { result ≡ bearer_of lcid }
-    ensures below { result < 32 }
-{
-    u32::from(if lcid < 3 {
-        lcid.saturating_sub(1)
-    } else {
-        lcid - 3
-    })
-}
-
-// DIRECTION of what a side sends (TS 33.401 B.1.1).
-fn sends(side: Side) -> u32
-    ensures value { result ≡ sends side }
-    ensures below { result < 2 }
-{
-    match side {
-        Side::Nb => 1,
-        Side::Ue => 0,
-    }
-}
-
-fn no_keys() -> Keys
-    ensures { result ≡ no_keys }
-{
-    let key = Key { octets: [0; 16] };
-    Keys {
-        alg: Cipher::Eea0,
-        user: key,
-        rrc: key,
-        integrity: key,
-    }
-}
 
 // A bearer's flow in one direction, where it is unacknowledged.
 fn begun(alloc: Global, from: Side, keys: &Keys, config: &BearerConfig) -> Option<EdgeFlow>

@@ -22,7 +22,7 @@ use crate::copies;
 use crate::flow::Happening;
 use crate::parcels::Parcel;
 use crate::um_ends::UmHappening;
-use bearer_types::BearerConfig;
+use bearer_types::{BearerConfig, other};
 use journal_account::StatusEntry;
 use journal_lives::FlowLives;
 use journal_um::{JoinedSdu, Pieces, UmFlow};
@@ -30,15 +30,6 @@ use l2_bits::{Items, NoMemory};
 use l2_types::{How, Side};
 use std::alloc::Global;
 use std::marker::Model;
-
-pub(crate) fn other(side: Side) -> Side
-    ensures { result ≡ other side }
-{
-    match side {
-        Side::Nb => Side::Ue,
-        Side::Ue => Side::Nb,
-    }
-}
 
 #[derive(Drop)]
 pub(crate) struct Accounts {

@@ -5,10 +5,10 @@ ghost use Rattle.journal_um.specs.UmEvents as um;
 ghost use Rattle.journal_flows.specs.Gathering.{all_told, taken_as, report_as, reorder_as, told_by};
 ghost use Rattle.journal_flows.specs.Accounts.{accounts};
 
-use crate::accounts::{Accounts, other};
+use crate::accounts::Accounts;
 use crate::flow::Happening;
 use crate::um_ends::UmHappening;
-use bearer_types::Event;
+use bearer_types::{Event, other};
 use l2_bits::NoMemory;
 use l2_types::{Clock, Side};
 use pdcp_pdu::PdcpKind;

@@ -12,7 +12,7 @@ use crate::loading::load_block;
 use crate::parcels::{self, Parcel};
 use crate::sending::{Named, Sending};
 use air_record::{Arrived, Line, Record};
-use bearer_types::Event;
+use bearer_types::{Event, sender_of};
 use journal_lives::FlowLives;
 use journal_um::{JoinedSdu, UmFlow};
 use l2_bits::{Items, NoMemory, OCTETS_LIMIT};
@@ -22,16 +22,8 @@ use pdu_show::Kinds;
 use std::alloc::Global;
 use std::marker::Model;
 
-fn sender_of(direction: Direction) -> Side
-    ensures { result ≡ sender_of direction }
-{
-    match direction {
-        Direction::Down => Side::Nb,
-        Direction::Up => Side::Ue,
-    }
-}
-
-fn is_got(what: Arrived) -> bool
+/// Whether a block came, and is the first of its kind that did (TS 36.321 5.3.2.2).
+pub fn is_got(what: Arrived) -> bool
     ensures { result ≡ is_got what }
 {
     match what {

@@ -22,5 +22,5 @@ mod um_pdus;
 mod um_sender;
 
 pub use entries::Entries;
-pub use flows::JournalFlows;
+pub use flows::{JournalFlows, is_got};
 pub use parcels::Parcel;

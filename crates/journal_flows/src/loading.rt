@@ -6,10 +6,11 @@ ghost use Rattle.promises.specs.RightForm.{sdus_in};
 ghost use Rattle.journal_flows.specs.Gathering.{loads, loads_parcel, parcel_of, sdus_read};
 ghost use Rattle.journal_flows.specs.Accounts.{accounts};
 
-use crate::accounts::{Accounts, other};
+use crate::accounts::Accounts;
 use crate::parcels::{Parcel, numbered};
 use crate::sending::Named;
 use crate::um_pdus::um_numbered;
+use bearer_types::other;
 use l2_bits::{Items, NoMemory};
 use l2_types::Side;
 use mac_pdu::{Direction, Item, MacReader};

@@ -3,18 +3,10 @@ ghost use Rattle.std.specs.Prelude.{◌≡◌, ◌+◌, ◌<◌, ◌&&◌, drop,
 ghost use Rattle.bearer_types.specs.Sides.{other};
 ghost use Rattle.journal_status.specs.StatusChecking.{is_true_report, all_true, are_true};
 
+use bearer_types::other;
 use journal_flows::{JournalFlows, Parcel};
 use l2_bits::Items;
 use l2_types::Side;
-
-fn other(side: Side) -> Side
-    ensures { result ≡ other side }
-{
-    match side {
-        Side::Nb => Side::Ue,
-        Side::Ue => Side::Nb,
-    }
-}
 
 // Whether a PDU of a side, where it is a STATUS, is true of the flow that the other side sends.
 fn is_true_report(flows: &JournalFlows, from: Side, parcel: &Parcel) -> bool

@@ -6,10 +6,9 @@ ghost use Rattle.journal_flows.specs.Gathering.{is_handover};
 use crate::reports;
 use crate::tolds::{self, Tolds};
 use air_record::{Line, Record};
-use bearer_types::Event;
+use bearer_types::{Event, sender_of};
 use journal_flows::JournalFlows;
 use l2_types::{Lost, Side};
-use mac_pdu::Direction;
 use std::marker::Model;
 
 fn is_handover(line: &Line) -> bool
@@ -18,15 +17,6 @@ fn is_handover(line: &Line) -> bool
     match line {
         Line::Handover { .. } => true,
         _ => false,
-    }
-}
-
-fn sender_of(direction: Direction) -> Side
-    ensures { result ≡ sender_of direction }
-{
-    match direction {
-        Direction::Down => Side::Nb,
-        Direction::Up => Side::Ue,
     }
 }
 

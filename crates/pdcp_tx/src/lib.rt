@@ -14,4 +14,5 @@ pub use l2_bits::SubmitRefusal;
 pub use laws::{takes_in_order, takes_the_head};
 pub use pdcp_pdu::PdcpKind;
 pub use pdcp_tx::{Kept, PdcpTx};
+pub use security::write_pdu;
 pub use sender::Next;

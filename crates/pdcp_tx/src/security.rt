@@ -13,26 +13,28 @@ use l2_bits::{Bytes, NoMemory};
 use l2_types::GREATEST_SDU;
 use pdcp_pdu::{PdcpKind, write_srb, write_user};
 use pdcp_sec::Security;
-use pdcp_tx_store::Sdu;
 use std::alloc::Global;
 
-/// Writes the PDU of an SDU with its COUNT.
+/// Writes the PDU of an SDU of 1 to 8188 octets with its COUNT: its header, and the SDU ciphered,
+/// with a MAC-I on a signalling bearer (TS 36.323 5.6, 5.7, 6.2.2 to 6.2.4).
 #[tactic(auto, unfolding(crate::specs::Pdus::pdu))]
-pub(crate) fn write_pdu(
+pub fn write_pdu(
     security: &Security,
     alloc: Global,
     kind: PdcpKind,
     count: u32,
-    sdu: &Sdu,
+    sdu: &[u8],
 ) -> Result<Bytes, NoMemory>
-    requires { IsKind kind }
+    requires kind { IsKind kind }
+    requires some { 1 ≤ length sdu.now }
+    requires few { length sdu.now ≤ GREATEST_SDU }
     ensures pdu { IfOk result (λ written. written ≡ pdu kind security.now count sdu.now) }
     ensures short { IfOk result IsShort }
 {
     match kind {
-        PdcpKind::Srb => write_signalling(security, alloc, count, sdu.as_slice()),
-        PdcpKind::Um { bits } => write_data(security, alloc, bits, count, sdu.as_slice()),
-        PdcpKind::Am { bits } => write_data(security, alloc, bits, count, sdu.as_slice()),
+        PdcpKind::Srb => write_signalling(security, alloc, count, sdu),
+        PdcpKind::Um { bits } => write_data(security, alloc, bits, count, sdu),
+        PdcpKind::Am { bits } => write_data(security, alloc, bits, count, sdu),
     }
 }
 

@@ -316,7 +316,7 @@ impl Sender {
         Ok(Next {
             count: Some(count),
             len: sdu.len(),
-            octets: write_pdu(&self.security, self.alloc, self.kind, count, sdu)?,
+            octets: write_pdu(&self.security, self.alloc, self.kind, count, sdu.as_slice())?,
         })
     }
 
